@@ -1,0 +1,77 @@
+-- The answers (document 01, "Answer numbers"): the number and the place of each case.
+--   Answer        == a number and a place
+--   answered n p  == the answer with number n and place p
+use Prim.Native.Nat.{ℕ}
+
+pub record Answer : Type 0 where
+  pub number : ℕ
+  pub place : ℕ
+
+abbrev pub answered : ℕ → ℕ → Answer
+answered n p = record { number = n; place = p }
+
+-- 0, "done", place "0; for the writer, the bytes written"
+abbrev pub done : Answer
+done = answered 0 0
+
+abbrev pub wrote : ℕ → Answer
+wrote n = answered 0 n
+
+-- 1, "D is odd, 0 or over 65,536"
+abbrev pub noDartCount : Answer
+noDartCount = answered 1 0
+
+-- 2, "a lent slice is too short", place "0; for the writer's output, the bytes needed"
+abbrev pub tooShort : Answer
+tooShort = answered 2 0
+
+abbrev pub needs : ℕ → Answer
+needs n = answered 2 n
+
+-- 3, "start: the table is no permutation", place "lowest dart whose successor is D or more, or repeats a lower dart's"
+abbrev pub noPermutation : ℕ → Answer
+noPermutation d = answered 3 d
+
+-- 4, "the state, or what a file holds, is no pyramid"
+abbrev pub noPyramid : Answer
+noPyramid = answered 4 0
+
+-- 5, "the kernel is empty"
+abbrev pub emptyKernel : Answer
+emptyKernel = answered 5 0
+
+-- 6, "64 levels are in use, or a file states more"
+abbrev pub tooManyLevels : Answer
+tooManyLevels = answered 6 0
+
+-- 7, "edge number is D/2 or more", place "place in the kernel, from 0"
+abbrev pub noEdge : ℕ → Answer
+noEdge i = answered 7 i
+
+-- 8, "the edge is gone already", place "the same"
+abbrev pub goneAlready : ℕ → Answer
+goneAlready i = answered 8 i
+
+-- 9, "contraction with one vertex at both ends", place "the same"
+abbrev pub oneVertex : ℕ → Answer
+oneVertex i = answered 9 i
+
+-- 10, "removal with one face on both sides", place "the same"
+abbrev pub oneFace : ℕ → Answer
+oneFace i = answered 10 i
+
+-- 11, "the edge is a whole piece", place "the same"
+abbrev pub wholePiece : ℕ → Answer
+wholePiece i = answered 11 i
+
+-- 12, "undo at the base, or k above the top", place "the top level"
+abbrev pub noLevel : ℕ → Answer
+noLevel top = answered 12 top
+
+-- 13, "the bytes leave the file's form", place "first wrong byte, from 0, or the length if it ends early"
+abbrev pub noFile : ℕ → Answer
+noFile at = answered 13 at
+
+-- 14, "byte nine is neither 0 nor 1", place 8
+abbrev pub noFlag : Answer
+noFlag = answered 14 8

@@ -1,0 +1,15 @@
+pub mod Choose
+pub mod Map
+pub mod Answers
+pub mod Operation
+pub mod Kernel
+pub mod State
+pub mod Levels
+pub mod Pyramid
+pub mod Counts
+pub mod Text
+pub mod File
+pub mod Scan
+pub mod Read
+pub mod Calls
+pub mod Worked

@@ -1,0 +1,170 @@
+-- K1 to K12 of document 01, "Worked by hand", as one table of calls under one claim.
+--   Step          == a call that a row makes on the way
+--   Row           == one worked example: what is called, and what it leaves
+--   right r       == the definitions give what the row says
+--   table         == the rows of K1 to K12
+--   worked        == all of them are right
+use mathlib.Core.Bool.{Bool, true, false, _&&_, Bool·beq}
+use mathlib.Core.List.{List, [], _∷_, _++_}
+use mathlib.Core.Path.{_≡_, refl}
+use Prim.Native.Nat.{ℕ, _/_, _*_}
+use Prim.Native.String.{String}
+use lib.Dec.{eqb}
+use lib.IntN.{ℤ, pos, negsuc}
+use lib.ListN.{length, take, replicate}
+use Rattle.permutations.specs.Partner.{partner}
+use Rattle.permutations.specs.Cycle.{meetsIn}
+use Rattle.darts.specs.Answers.{Answer, answered}
+use Rattle.darts.specs.Map.{successor, faceNext, sameVertex, sameFace, samePiece, gone, survives, beforeIn, before, repeats, firstBadFrom, firstBad}
+use Rattle.darts.specs.Operation.{Kind, contraction, removal, turned, lead, wholeEdge, remove, contract, operate, number, kindOf, leadOf, edgeOf, putBack, undoOne, undone}
+use Rattle.darts.specs.Kernel.{shared, judge, runFrom, run}
+use Rattle.darts.specs.State.{State, raised, levelled, reduce}
+use Rattle.darts.specs.Levels.{emptyLoop, takes, sweptFrom, swept, sweep, endBelow, lowered, undoLevel, undoLevels, unfoldTo}
+use Rattle.darts.specs.Pyramid.{dartCount, build, kernelOf, cut, kernelsOf, sameNumbers, sameState, isExactly, isPyramid}
+use Rattle.darts.specs.Counts.{Counts, neverBelow, lowest, cycles, surviving, countsOf}
+use Rattle.darts.specs.Text.{bytes, digits, decimal}
+use Rattle.darts.specs.File.{taken, survivors, fileOrder, placeIn, fileNumber, fileTable, kindWord, kernelLine, kernelLines, pairLines, fileOf}
+use Rattle.darts.specs.Scan.{byteAt, word, isDigit, numberOn, numberAt, field}
+use Rattle.darts.specs.Read.{flagAt, opening, kernelOfKind, kernelAt, kernelsAt, pairsAt, endAt, body, fromFlag, endsFrom, total, fileState, numbersFrom, historyFrom, fileHistory, closed, opened, readFile}
+use Rattle.darts.specs.Calls.{After, Counted, Written, room, fitting, tableOf, pastOf, over, cleared, workAfter, judged, start, handsBack, onState, reduceBy, sweepBy, undoBy, unfoldBy, counts, readInto, read, write}
+
+pub data Step : Type 0 where
+  byContracting byRemoving : List ℕ → Step
+  bySweep byUndo : Step
+  toLevel : ℕ → Step
+
+pub data Row : Type 0 where
+  -- start from a table: the answer's number and place
+  starts : List ℕ → ℕ → ℕ → Row
+  -- start, some steps: the last one's number and place, and the table and history left
+  leads : List ℕ → List Step → ℕ → ℕ → List ℕ → List ℕ → Row
+  -- start, some steps, counts: surviving darts, vertices, faces, the Euler number
+  counted : List ℕ → List Step → ℕ → ℕ → ℕ → ℤ → Row
+  -- start, some steps, write: the file
+  writes : List ℕ → List Step → String → Row
+  -- read a file, unfold to a level, counts
+  reads : String → ℕ → ℕ → ℕ → ℕ → ℤ → Row
+  -- two darts of a base, and whether they are in one piece
+  pieces : List ℕ → ℕ → ℕ → Bool → Row
+
+-- slices of the lengths that D darts want, rubbish in the work area
+abbrev started : List ℕ → After
+started t = start (length t) t (replicate (length t / 2) 0) (replicate (4 * length t) 9)
+
+abbrev stepped : Step → After → After
+stepped (byContracting es) a = reduceBy contraction es (a .state) (a .table) (a .history) (a .work)
+stepped (byRemoving es) a = reduceBy removal es (a .state) (a .table) (a .history) (a .work)
+stepped bySweep a = sweepBy (a .state) (a .table) (a .history) (a .work)
+stepped byUndo a = undoBy (a .state) (a .table) (a .history) (a .work)
+stepped (toLevel k) a = unfoldBy k (a .state) (a .table) (a .history) (a .work)
+
+abbrev steps : List Step → After → After
+steps [] a = a
+steps (s ∷ ss) a = steps ss (stepped s a)
+
+abbrev counting : After → Counted
+counting a = counts (a .state) (a .table) (a .history) (a .work)
+
+abbrev answers : ℕ → ℕ → Answer → Bool
+answers n p a = eqb (a .number) n && eqb (a .place) p
+
+abbrev sameℤ : ℤ → ℤ → Bool
+sameℤ (pos m) (pos n) = eqb m n
+sameℤ (pos m) (negsuc n) = false
+sameℤ (negsuc m) (pos n) = false
+sameℤ (negsuc m) (negsuc n) = eqb m n
+
+abbrev countsAre : ℕ → ℕ → ℕ → ℤ → Counted → Bool
+countsAre d v f x c =
+    answers 0 0 (c .answer) && (eqb (c .counts .darts) d && (eqb (c .counts .vertices) v
+    && (eqb (c .counts .faces) f && sameℤ (c .counts .euler) x)))
+
+-- the history numbers that count
+abbrev historyOf : After → List ℕ
+historyOf a = take (a .state .operations) (a .history)
+
+abbrev isWritten : String → After → Bool
+isWritten f a =
+    let w : Written = write (a .state) (a .table) (a .history) (a .work) (replicate 200 0) in
+    answers 0 (length (bytes f)) (w .answer) && sameNumbers (w .output) (over (bytes f) (replicate 200 0))
+
+abbrev reading : String → After
+reading f = read (bytes f) (replicate 8 9) (replicate 4 9) (replicate 32 9)
+
+abbrev right : Row → Bool
+right (starts t n p) = answers n p (started t .answer)
+right (leads t ss n p u h) =
+    let a : After = steps ss (started t) in
+    answers n p (a .answer) && (sameNumbers (a .table) u && sameNumbers (historyOf a) h)
+right (counted t ss d v f x) = countsAre d v f x (counting (steps ss (started t)))
+right (writes t ss f) = isWritten f (steps ss (started t))
+right (reads f k d v e x) = countsAre d v e x (counting (stepped (toLevel k) (reading f)))
+right (pieces t x y b) = Bool·beq (samePiece (length t) t x y) b
+
+abbrev allRight : List Row → Bool
+allRight [] = true
+allRight (r ∷ rs) = right r && allRight rs
+
+-- "Base T (D = 8): 5 2 1 4 6 0 3 7, a triangle with one pending edge."
+abbrev T : List ℕ
+T = 5 ∷ 2 ∷ 1 ∷ 4 ∷ 6 ∷ 0 ∷ 3 ∷ 7 ∷ []
+
+abbrev K5 : List Step
+K5 = byContracting (0 ∷ 1 ∷ []) ∷ []
+
+abbrev K7 : List Step
+K7 = K5 ++ (byRemoving (2 ∷ []) ∷ [])
+
+abbrev K12 : String
+K12 = "numbers=0\ndarts=8\nlevels=2\nkernel=contract 2\nkernel=remove 1\npair=4 2\npair=4 5\npair=5 6\npair=6 7\n"
+
+abbrev fromOne : String
+fromOne = "numbers=1\ndarts=8\nlevels=2\nkernel=contract 2\nkernel=remove 1\npair=5 3\npair=5 6\npair=6 7\npair=7 8\n"
+
+abbrev pub table : List Row
+table =
+    -- K1
+    counted T [] 8 4 2 (pos 2)
+    ∷ pieces T 0 7 true
+    -- K2
+    ∷ leads T (byRemoving (3 ∷ []) ∷ []) 10 0 T []
+    -- K3
+    ∷ leads T (byContracting (3 ∷ []) ∷ []) 0 0 (5 ∷ 2 ∷ 1 ∷ 4 ∷ 3 ∷ 0 ∷ 3 ∷ 7 ∷ []) (13 ∷ [])
+    -- K4
+    ∷ leads T (byRemoving (0 ∷ []) ∷ []) 0 0 (5 ∷ 2 ∷ 2 ∷ 4 ∷ 6 ∷ 5 ∷ 3 ∷ 7 ∷ []) (0 ∷ [])
+    ∷ leads T (byRemoving (0 ∷ []) ∷ byRemoving (1 ∷ []) ∷ []) 10 0 (5 ∷ 2 ∷ 2 ∷ 4 ∷ 6 ∷ 5 ∷ 3 ∷ 7 ∷ []) (0 ∷ [])
+    -- K5
+    ∷ leads T K5 0 0 (5 ∷ 2 ∷ 5 ∷ 4 ∷ 6 ∷ 4 ∷ 5 ∷ 7 ∷ []) (1 ∷ 5 ∷ [])
+    -- K6
+    ∷ leads T (byContracting (1 ∷ 0 ∷ []) ∷ []) 0 0 (5 ∷ 4 ∷ 1 ∷ 4 ∷ 6 ∷ 4 ∷ 5 ∷ 7 ∷ []) (5 ∷ 1 ∷ [])
+    -- K7
+    ∷ leads T (K5 ++ (byContracting (2 ∷ []) ∷ [])) 9 0 (5 ∷ 2 ∷ 5 ∷ 4 ∷ 6 ∷ 4 ∷ 5 ∷ 7 ∷ []) (1 ∷ 5 ∷ [])
+    ∷ leads T K7 0 0 (5 ∷ 2 ∷ 5 ∷ 4 ∷ 6 ∷ 4 ∷ 6 ∷ 7 ∷ []) (1 ∷ 5 ∷ 10 ∷ [])
+    -- K8
+    ∷ leads T (K7 ++ (byContracting (3 ∷ []) ∷ [])) 11 0 (5 ∷ 2 ∷ 5 ∷ 4 ∷ 6 ∷ 4 ∷ 6 ∷ 7 ∷ []) (1 ∷ 5 ∷ 10 ∷ [])
+    ∷ leads T (K7 ++ (byRemoving (3 ∷ []) ∷ [])) 10 0 (5 ∷ 2 ∷ 5 ∷ 4 ∷ 6 ∷ 4 ∷ 6 ∷ 7 ∷ []) (1 ∷ 5 ∷ 10 ∷ [])
+    -- K9
+    ∷ leads (2 ∷ 4 ∷ 1 ∷ 3 ∷ 0 ∷ 5 ∷ []) (byRemoving (0 ∷ []) ∷ []) 0 0 (2 ∷ 4 ∷ 4 ∷ 3 ∷ 2 ∷ 5 ∷ []) (0 ∷ [])
+    ∷ leads (2 ∷ 4 ∷ 0 ∷ 3 ∷ 1 ∷ 5 ∷ []) (byContracting (0 ∷ []) ∷ []) 0 0 (2 ∷ 4 ∷ 4 ∷ 3 ∷ 2 ∷ 5 ∷ []) (1 ∷ [])
+    ∷ leads (2 ∷ 4 ∷ 1 ∷ 3 ∷ 0 ∷ 5 ∷ []) (byRemoving (0 ∷ []) ∷ byUndo ∷ []) 0 0 (2 ∷ 4 ∷ 1 ∷ 3 ∷ 0 ∷ 5 ∷ []) []
+    ∷ leads (2 ∷ 4 ∷ 0 ∷ 3 ∷ 1 ∷ 5 ∷ []) (byContracting (0 ∷ []) ∷ byUndo ∷ []) 0 0 (2 ∷ 4 ∷ 0 ∷ 3 ∷ 1 ∷ 5 ∷ []) []
+    -- K10
+    ∷ starts (1 ∷ 1 ∷ []) 3 1
+    ∷ starts (1 ∷ 0 ∷ []) 0 0
+    ∷ pieces (1 ∷ 0 ∷ 2 ∷ 3 ∷ []) 0 3 false
+    ∷ leads (1 ∷ 0 ∷ []) (byRemoving (0 ∷ []) ∷ []) 11 0 (1 ∷ 0 ∷ []) []
+    -- K11
+    ∷ leads T (byRemoving (0 ∷ 0 ∷ []) ∷ []) 8 1 T []
+    -- K12
+    ∷ writes T K7 K12
+    ∷ reads K12 0 8 4 2 (pos 2)
+    ∷ reads K12 1 4 2 2 (pos 2)
+    ∷ reads K12 2 2 2 1 (pos 2)
+    ∷ reads fromOne 0 8 4 2 (pos 2)
+    ∷ reads fromOne 1 4 2 2 (pos 2)
+    ∷ reads fromOne 2 2 2 1 (pos 2)
+    ∷ []
+
+pub worked : allRight table ≡ true
+unfolding partner meetsIn successor faceNext sameVertex sameFace samePiece gone survives beforeIn before repeats firstBadFrom firstBad turned lead wholeEdge remove contract operate number kindOf leadOf edgeOf putBack undoOne undone shared judge runFrom run raised levelled reduce emptyLoop takes sweptFrom swept sweep endBelow lowered undoLevel undoLevels unfoldTo dartCount build kernelOf cut kernelsOf sameNumbers sameState isExactly isPyramid neverBelow lowest cycles surviving countsOf digits decimal taken survivors fileOrder placeIn fileNumber fileTable kindWord kernelLine kernelLines pairLines fileOf byteAt word isDigit numberOn numberAt field flagAt opening kernelOfKind kernelAt kernelsAt pairsAt endAt body fromFlag endsFrom total fileState numbersFrom historyFrom fileHistory closed opened readFile room fitting tableOf pastOf over cleared workAfter judged start handsBack onState reduceBy sweepBy undoBy unfoldBy counts readInto read write
+worked = refl

@@ -1,0 +1,2 @@
+-- Hanging == one number of a forest is hung under another
+pub mod Hanging

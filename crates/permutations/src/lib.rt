@@ -1,0 +1,1 @@
+// The mathematics of maps, in specs/: there is no code here.

@@ -1,0 +1,64 @@
+//! pyramid_of == the pyramid that a state, its table and its history come from, if there is one
+//!
+//! "A state with its table and history is a pyramid when some base and some kernels, accepted one after another, give
+//! exactly this state, this table (gone darts too) and these history numbers." Undo returns every entry, so only the
+//! base that undo gives can fit. It is judged by doing everything again.
+
+use crate::map::{partner, Map};
+use crate::operation::{dart_of, edge_of, kind_of, undo, Kind};
+use crate::pyramid::Pyramid;
+use crate::state::State;
+
+/// The table is lent with D numbers, the history with the operations' numbers or more: what is more is not looked at.
+pub fn pyramid_of(state: &State, table: &[u32], history: &[u32]) -> Option<Pyramid> {
+    // An edge goes at most once: more operations than edges are no pyramid, however long the history.
+    if state.operations > state.darts / 2 {
+        return None;
+    }
+    let history = &history[..state.operations as usize];
+    let mut pyramid = Pyramid::start(&undone(table, history)?).ok()?;
+    for (kind, edges) in kernels(state, history)? {
+        pyramid.reduce(kind, &edges).ok()?;
+    }
+    let given_back = pyramid.state() == *state && pyramid.map().table() == table && pyramid.history() == history;
+    given_back.then_some(pyramid)
+}
+
+/// The candidate for the base: the table with the whole history undone, operation by operation.
+fn undone(table: &[u32], history: &[u32]) -> Option<Vec<u32>> {
+    let darts = table.len() as u32;
+    let entries_are_darts = table.iter().all(|&entry| entry < darts);
+    let numbers_are_darts = history.iter().all(|&number| dart_of(number) < darts);
+    if !entries_are_darts || !numbers_are_darts {
+        return None;
+    }
+    let mut survives = vec![true; table.len()];
+    for &number in history {
+        survives[dart_of(number) as usize] = false;
+        survives[partner(dart_of(number)) as usize] = false;
+    }
+    let mut map = Map::new(table, survives);
+    for &number in history.iter().rev() {
+        undo(&mut map, number)?;
+    }
+    Some(map.table().to_vec())
+}
+
+/// The kernels that the level ends cut the history into.
+fn kernels(state: &State, history: &[u32]) -> Option<Vec<(Kind, Vec<u32>)>> {
+    let ends = state.ends.get(..state.levels as usize)?;
+    let mut kernels = Vec::new();
+    let mut from = 0;
+    for &end in ends {
+        kernels.push(kernel_of(history.get(from..end as usize)?)?);
+        from = end as usize;
+    }
+    Some(kernels)
+}
+
+/// "A kernel is a list of edges of one kind"
+fn kernel_of(numbers: &[u32]) -> Option<(Kind, Vec<u32>)> {
+    let kind = kind_of(*numbers.first()?);
+    let one_kind = numbers.iter().all(|&number| kind_of(number) == kind);
+    one_kind.then(|| (kind, numbers.iter().map(|&number| edge_of(number)).collect()))
+}

@@ -1,0 +1,41 @@
+//! Lent == the table, the history and the work area that a call is lent
+
+use crate::answer::Refusal;
+use crate::pyramid::Pyramid;
+use crate::state::MOST_DARTS;
+
+/// "The table and history are lent slices."
+pub struct Lent<'a> {
+    pub table: &'a mut [u32],
+    pub history: &'a mut [u32],
+    pub work: &'a mut [u32],
+}
+
+impl Lent<'_> {
+    /// Answers 1 and 2, from the numbers and lengths alone. "Each call on this page is lent the table with at least D
+    /// numbers, the history with D/2 and the work area with 4D; less is answer 2."
+    pub fn judge(&self, darts: u32) -> Result<(), Refusal> {
+        if !darts.is_multiple_of(2) || darts == 0 || darts > MOST_DARTS {
+            return Err(Refusal::BadDarts);
+        }
+        let darts = darts as usize;
+        if self.table.len() < darts || self.history.len() < darts / 2 || self.work.len() < 4 * darts {
+            return Err(Refusal::ShortSlice);
+        }
+        Ok(())
+    }
+
+    /// "After every call except those answered 1 or 2 the work area's first 4D numbers are zero"
+    pub fn clear_work(&mut self, darts: u32) {
+        self.work[..4 * darts as usize].fill(0);
+    }
+
+    /// What an accepted call leaves: D entries of the table and the numbers of the history up to the count. "Numbers
+    /// of a lent table past D are neither read nor written, nor those of a history past the larger of the operation
+    /// counts before and after the call."
+    pub fn store(&mut self, pyramid: &Pyramid) {
+        let (table, history) = (pyramid.map().table(), pyramid.history());
+        self.table[..table.len()].copy_from_slice(table);
+        self.history[..history.len()].copy_from_slice(history);
+    }
+}

@@ -1,0 +1,38 @@
+//! The second program: document 01's rules once more, plain and slow, with every level stored in full.
+//! It shares no line with the proved library; both read the same scripts and files and must print the same bytes.
+//!
+//! - [`answer`]     an answer: its number and its place; a refusal, case by case
+//! - [`state`]      D, operations, levels and the 64 level ends
+//! - [`map`]        the table with its surviving darts: partner, successor, face-next, the dart before, cycles
+//! - [`operation`]  one operation on one edge, and its undoing
+//! - [`kernel`]     an edge judged at its turn; a list of edges; the edges a sweep takes
+//! - [`pyramid`]    the levels, each stored in full, with the history
+//! - [`decide`]     is a state from outside, with its table and history, a pyramid?
+//! - [`counts`]     surviving darts, vertices, faces, Euler number
+//! - [`lent`]       the lent slices: lengths, what is written, what is zeroed
+//! - [`calls`]      the eight calls
+//! - [`scan`]       the bytes of a file from left to right
+//! - [`file_read`]  what a file means
+//! - [`file_write`] a pyramid's file
+//! - [`levels`]     the program `levels`
+//! - [`script`]     the lines of a script
+//! - [`rooms`]      what the program `zones` holds and lends
+//! - [`zones`]      the program `zones`
+
+pub mod answer;
+pub mod calls;
+pub mod counts;
+pub mod decide;
+pub mod file_read;
+pub mod file_write;
+pub mod kernel;
+pub mod lent;
+pub mod levels;
+pub mod map;
+pub mod operation;
+pub mod pyramid;
+pub mod rooms;
+pub mod scan;
+pub mod script;
+pub mod state;
+pub mod zones;

@@ -1,0 +1,126 @@
+//! Rooms == "four rooms, all zero at the start", and how much of them is lent
+//! None from a function below stands for an error line.
+
+use crate::lent::Lent;
+
+/// "so that a number written outside what was lent shows": what is summed up past the numbers lent.
+pub const AFTER: usize = 4;
+
+/// The rooms that a script can put numbers into.
+#[derive(Clone, Copy, Debug, PartialEq, Eq)]
+pub enum Room {
+    Table,
+    History,
+    Work,
+}
+
+/// "table (65,540 numbers), history (32,772), work (262,160), output (600,000 bytes)"
+pub struct Rooms {
+    table: Vec<u32>,
+    history: Vec<u32>,
+    work: Vec<u32>,
+    output: Vec<u8>,
+    /// "T, H and W are set by `lend` and start at 0."
+    lent: [usize; 3],
+}
+
+/// "A `lend` or `write` that does not leave four numbers (bytes) of the room after it is an error line"
+fn leaves_four(lent: usize, room: usize) -> Option<usize> {
+    (lent + AFTER <= room).then_some(lent)
+}
+
+impl Default for Rooms {
+    fn default() -> Rooms {
+        Rooms {
+            table: vec![0; 65_540],
+            history: vec![0; 32_772],
+            work: vec![0; 262_160],
+            output: vec![0; 600_000],
+            lent: [0; 3],
+        }
+    }
+}
+
+impl Rooms {
+    /// "how much of table, history and work later calls are lent"
+    pub fn set_lent(&mut self, table: usize, history: usize, work: usize) -> Option<()> {
+        self.lent = [
+            leaves_four(table, self.table.len())?,
+            leaves_four(history, self.history.len())?,
+            leaves_four(work, self.work.len())?,
+        ];
+        Some(())
+    }
+
+    /// Puts the numbers into a room. "without a number put nothing, and I is then not judged"
+    pub fn put(&mut self, room: Room, from: usize, numbers: &[u32]) -> Option<()> {
+        if numbers.is_empty() {
+            return Some(());
+        }
+        let room = match room {
+            Room::Table => &mut self.table,
+            Room::History => &mut self.history,
+            Room::Work => &mut self.work,
+        };
+        room.get_mut(from..from + numbers.len())?.copy_from_slice(numbers);
+        Some(())
+    }
+
+    /// "puts V into the work room's every number"
+    pub fn fill(&mut self, value: u32) {
+        self.work.fill(value);
+    }
+
+    /// What a call is lent, with no output.
+    pub fn lend(&mut self) -> Lent<'_> {
+        self.lend_all(0).0
+    }
+
+    /// What the writer is lent: N bytes of output too.
+    pub fn lend_output(&mut self, length: usize) -> Option<(Lent<'_>, &mut [u8])> {
+        leaves_four(length, self.output.len())?;
+        Some(self.lend_all(length))
+    }
+
+    fn lend_all(&mut self, output: usize) -> (Lent<'_>, &mut [u8]) {
+        let [table, history, work] = self.lent;
+        let lent = Lent {
+            table: &mut self.table[..table],
+            history: &mut self.history[..history],
+            work: &mut self.work[..work],
+        };
+        (lent, &mut self.output[..output])
+    }
+
+    /// The first so many numbers of the table, T at most.
+    pub fn table(&self, length: u32) -> &[u32] {
+        &self.table[..self.lent[0].min(length as usize)]
+    }
+
+    /// The first so many numbers of the history, H at most.
+    pub fn history(&self, length: u32) -> &[u32] {
+        &self.history[..self.lent[1].min(length as usize)]
+    }
+
+    /// The first so many bytes of the output.
+    pub fn output(&self, length: usize) -> &[u8] {
+        &self.output[..length]
+    }
+
+    /// " table=C history=C work=C output=C": each "a checksum of the numbers lent and the four after them"
+    pub fn checksums(&self, output: usize) -> String {
+        let [table, history, work] = self.lent;
+        format!(
+            "table={} history={} work={} output={}",
+            checksum(&self.table[..table + AFTER]),
+            checksum(&self.history[..history + AFTER]),
+            checksum(&self.work[..work + AFTER]),
+            checksum(&self.output[..output + AFTER]),
+        )
+    }
+}
+
+/// "start with 0, and for each number v: c := (c * 31 + v + 1) mod 4294967291"
+pub fn checksum<N: Copy + Into<u64>>(numbers: &[N]) -> u64 {
+    numbers.iter().fold(0, |c, &v| (c * 31 + v.into() + 1) % 4_294_967_291)
+}

@@ -1,0 +1,124 @@
+//! Command  == one line of a script, understood
+//! Commands == the commands of a script one after another; nothing in the place of one stands for an error line
+
+use crate::operation::Kind;
+use crate::rooms::Room;
+use crate::state::{State, MOST_LEVELS};
+
+/// "A kernel has at most 32,772 edges; a longer one is an error line."
+const MOST_EDGES: usize = 32_772;
+
+/// What a line asks for.
+pub enum Command<'a> {
+    Lend { table: usize, history: usize, work: usize },
+    Put { room: Room, from: usize, numbers: Vec<u32> },
+    Fill(u32),
+    State(Box<State>),
+    Start(u32),
+    Reduce(Kind, Vec<u32>),
+    Sweep,
+    Undo,
+    Unfold(u32),
+    Counts,
+    Read(&'a [u8]),
+    Write(usize),
+    Show,
+    Bytes,
+}
+
+/// The part of a script that was not looked at yet.
+pub struct Commands<'a> {
+    rest: &'a [u8],
+}
+
+impl<'a> Commands<'a> {
+    pub fn new(script: &'a [u8]) -> Commands<'a> {
+        Commands { rest: script }
+    }
+
+    /// "each line ended by one line feed": the line before the next line feed; none where there is no line feed.
+    fn line(&mut self) -> Option<&'a [u8]> {
+        let end = self.rest.iter().position(|&byte| byte == b'\n')?;
+        let (line, rest) = self.rest.split_at(end);
+        self.rest = &rest[1..];
+        Some(line)
+    }
+
+    /// "the N bytes that follow this line's line feed, and after them one more line feed"
+    fn file(&mut self, length: u32) -> Option<&'a [u8]> {
+        let (file, rest) = self.rest.split_at_checked(length as usize)?;
+        self.rest = rest.strip_prefix(b"\n")?;
+        Some(file)
+    }
+
+    /// "One command to a line, words separated by one space"
+    fn command(&mut self) -> Option<Command<'a>> {
+        let line = self.line()?;
+        let mut words = line.split(|&byte| byte == b' ');
+        let word = words.next()?;
+        let numbers: Vec<u32> = words.map(number).collect::<Option<_>>()?;
+        match (word, numbers.as_slice()) {
+            (b"lend", &[table, history, work]) => {
+                Some(Command::Lend { table: table as usize, history: history as usize, work: work as usize })
+            }
+            (b"table", numbers) => put(Room::Table, numbers),
+            (b"history", numbers) => put(Room::History, numbers),
+            (b"work", numbers) => put(Room::Work, numbers),
+            (b"fill", &[value]) => Some(Command::Fill(value)),
+            (b"state", numbers) => state(numbers).map(|state| Command::State(Box::new(state))),
+            (b"start", &[darts]) => Some(Command::Start(darts)),
+            (b"contract", edges) => reduce(Kind::Contract, edges),
+            (b"remove", edges) => reduce(Kind::Remove, edges),
+            (b"sweep", []) => Some(Command::Sweep),
+            (b"undo", []) => Some(Command::Undo),
+            (b"unfold", &[k]) => Some(Command::Unfold(k)),
+            (b"counts", []) => Some(Command::Counts),
+            (b"read", &[length]) => self.file(length).map(Command::Read),
+            (b"write", &[length]) => Some(Command::Write(length as usize)),
+            (b"show", []) => Some(Command::Show),
+            (b"bytes", []) => Some(Command::Bytes),
+            _ => None,
+        }
+    }
+}
+
+impl<'a> Iterator for Commands<'a> {
+    type Item = Option<Command<'a>>;
+
+    fn next(&mut self) -> Option<Option<Command<'a>>> {
+        if self.rest.is_empty() {
+            return None;
+        }
+        Some(self.command())
+    }
+}
+
+/// "A number is one or more digits; leading zeros are allowed; its value is at most 4294967295."
+fn number(word: &[u8]) -> Option<u32> {
+    if word.is_empty() {
+        return None;
+    }
+    word.iter().try_fold(0u32, |value, byte| {
+        let digit = byte.is_ascii_digit().then(|| u32::from(byte - b'0'))?;
+        value.checked_mul(10)?.checked_add(digit)
+    })
+}
+
+/// "`table I V V ...`: puts the numbers into the table's room from place I on"
+fn put<'a>(room: Room, numbers: &[u32]) -> Option<Command<'a>> {
+    let (&from, numbers) = numbers.split_first()?;
+    Some(Command::Put { room, from: from as usize, numbers: numbers.to_vec() })
+}
+
+/// "`state D N L E E ...`: darts, operations, levels, then level ends; ends that are not given are 0"
+fn state(numbers: &[u32]) -> Option<State> {
+    let (&[darts, operations, levels], given) = numbers.split_first_chunk()?;
+    let mut ends = [0; MOST_LEVELS];
+    ends.get_mut(..given.len())?.copy_from_slice(given);
+    Some(State { darts, operations, levels, ends })
+}
+
+/// "`contract E E ...`, `remove E E ...`: reduce by that kernel (no edge: the empty kernel)"
+fn reduce<'a>(kind: Kind, edges: &[u32]) -> Option<Command<'a>> {
+    (edges.len() <= MOST_EDGES).then(|| Command::Reduce(kind, edges.to_vec()))
+}

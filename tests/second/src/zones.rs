@@ -1,0 +1,123 @@
+//! The program `zones`: "runs a script of the library's calls from standard input and prints one line for each call".
+
+use crate::answer::Answer;
+use crate::calls;
+use crate::counts::Counts;
+use crate::lent::Lent;
+use crate::rooms::{checksum, Rooms};
+use crate::script::{Command, Commands};
+use crate::state::{State, MOST_LEVELS};
+
+/// "The script may be 2,000,000 bytes long."
+const MOST_BYTES: usize = 2_000_000;
+
+/// What a script prints. "A line that is none of these, or that puts a number outside a room, prints `error=` and its
+/// number, from 1, and ends the program."
+pub fn run(script: &[u8]) -> Vec<u8> {
+    // "A script of more than 2,000,000 bytes prints `error=0` and nothing else."
+    if script.len() > MOST_BYTES {
+        return b"error=0\n".to_vec();
+    }
+    let mut zones = Zones { state: State::ZERO, rooms: Rooms::default(), written: 0, printed: Vec::new() };
+    // "Lines are counted as commands"
+    for (line, command) in Commands::new(script).enumerate() {
+        if command.and_then(|command| zones.obey(command)).is_none() {
+            zones.print(&format!("error={}\n", line + 1));
+            break;
+        }
+    }
+    zones.printed
+}
+
+/// "The program holds a state and four rooms, all zero at the start".
+struct Zones {
+    state: State,
+    rooms: Rooms,
+    /// The length of the last accepted write.
+    written: usize,
+    printed: Vec<u8>,
+}
+
+impl Zones {
+    /// Does what a line asks for; None stands for an error line.
+    fn obey(&mut self, command: Command) -> Option<()> {
+        match command {
+            Command::Lend { table, history, work } => self.rooms.set_lent(table, history, work)?,
+            Command::Put { room, from, numbers } => self.rooms.put(room, from, &numbers)?,
+            Command::Fill(value) => self.rooms.fill(value),
+            Command::State(state) => self.state = *state,
+            Command::Start(darts) => self.call(|_, lent| calls::start(darts, lent)),
+            Command::Reduce(kind, edges) => self.call(|state, lent| calls::reduce(state, kind, &edges, lent)),
+            Command::Sweep => self.call(calls::sweep),
+            Command::Undo => self.call(calls::undo),
+            Command::Unfold(k) => self.call(|state, lent| calls::unfold(state, k, lent)),
+            Command::Counts => self.counts(),
+            Command::Read(file) => self.call(|_, lent| calls::read(file, lent)),
+            Command::Write(length) => self.write(length)?,
+            Command::Show => self.show(),
+            Command::Bytes => self.printed.extend_from_slice(self.rooms.output(self.written)),
+        }
+        Some(())
+    }
+
+    fn print(&mut self, text: &str) {
+        self.printed.extend_from_slice(text.as_bytes());
+    }
+
+    /// The line of a call, but for its line feed: "answer=A place=P state=D N L ends=C table=C history=C work=C
+    /// output=C"
+    fn print_answer(&mut self, answer: Answer, output: usize) {
+        let Answer { number, place } = answer;
+        let State { darts, operations, levels, ends } = self.state;
+        let (ends, rooms) = (checksum(&ends), self.rooms.checksums(output));
+        self.print(&format!("answer={number} place={place} state={darts} {operations} {levels} ends={ends} {rooms}"));
+    }
+
+    /// "The state is the one handed back, which the script then holds." "A call other than `write` is lent no output".
+    fn call(&mut self, call: impl FnOnce(&State, &mut Lent) -> (Answer, State)) {
+        let (answer, state) = call(&self.state, &mut self.rooms.lend());
+        self.state = state;
+        self.print_answer(answer, 0);
+        self.print("\n");
+    }
+
+    /// "`counts` puts ` darts=X vertices=X faces=X euler=X` at the end of it."
+    fn counts(&mut self) {
+        let (answer, counts) = calls::counts(&self.state, &mut self.rooms.lend());
+        let Counts { darts, vertices, faces, euler } = counts;
+        self.print_answer(answer, 0);
+        self.print(&format!(" darts={darts} vertices={vertices} faces={faces} euler={euler}\n"));
+    }
+
+    /// "write a file into N bytes of output"
+    fn write(&mut self, length: usize) -> Option<()> {
+        let (mut lent, output) = self.rooms.lend_output(length)?;
+        let answer = calls::write(&self.state, &mut lent, output);
+        if answer.number == 0 {
+            self.written = answer.place;
+        }
+        self.print_answer(answer, length);
+        self.print("\n");
+        Some(())
+    }
+
+    /// "`state=D N L E .. E` with the first L ends (64 at most), `table=` with the first D numbers of the table (T at
+    /// most) and `history=` with the first N (H at most), numbers separated by one space."
+    fn show(&mut self) {
+        let State { darts, operations, levels, ends } = self.state;
+        let mut state = vec![darts, operations, levels];
+        state.extend(&ends[..MOST_LEVELS.min(levels as usize)]);
+        let lines = format!(
+            "state={}\ntable={}\nhistory={}\n",
+            spaced(&state),
+            spaced(self.rooms.table(darts)),
+            spaced(self.rooms.history(operations)),
+        );
+        self.print(&lines);
+    }
+}
+
+/// "numbers separated by one space"; "an empty list in `show` leaves nothing"
+fn spaced(numbers: &[u32]) -> String {
+    numbers.iter().map(u32::to_string).collect::<Vec<_>>().join(" ")
+}

@@ -1,0 +1,30 @@
+//! The second program tried against document 01.
+//!
+//! - `support`     what a call is lent and what it leaves; maps; chance
+//! - `worked`      K1 to K12
+//! - `accepted`    what an accepted call leaves in every lent slice
+//! - `refusals`    each answer from each call, with its place and what is left; the order of answers
+//! - `no_pyramid`  answer 4: the table of seventeen tests, and faults of shape
+//! - `every_small` every table and history of up to 6 darts against the words of document 01
+//! - `undoing`, `any_order`, `files`, `cycles`  random pyramids over maps of up to 12 darts
+//! - `rubbish`     random numbers anywhere never stop the program
+//! - `reader`      the file's form, fault by fault
+//! - `levels`      the program `levels`
+//! - `scripts`     the program `zones`
+//! - `commands`    the two commands as they are started
+
+mod accepted;
+mod any_order;
+mod commands;
+mod cycles;
+mod every_small;
+mod files;
+mod levels;
+mod no_pyramid;
+mod reader;
+mod refusals;
+mod rubbish;
+mod scripts;
+mod support;
+mod undoing;
+mod worked;

@@ -1,0 +1,199 @@
+//! The program `zones`: what a script prints, and its error lines.
+
+use crate::worked::K12;
+use second::zones::run;
+
+/// T lent in full.
+const T_LENT: &str = "lend 8 4 32\ntable 0 5 2 1 4 6 0 3 7\n";
+
+fn printed(script: &str) -> String {
+    String::from_utf8(run(script.as_bytes())).expect("plain letters")
+}
+
+/// The checksum of the script language, once more.
+fn sum(numbers: &[u64]) -> u64 {
+    let mut c = 0;
+    for v in numbers {
+        c = (c * 31 + v + 1) % 4_294_967_291;
+    }
+    c
+}
+
+/// The numbers, and zeros after them up to this length.
+fn sum_to(length: usize, numbers: &[u64]) -> u64 {
+    let mut all = numbers.to_vec();
+    all.resize(length, 0);
+    sum(&all)
+}
+
+#[test]
+fn an_empty_script_prints_nothing() {
+    assert_eq!(printed(""), "");
+    assert_eq!(printed("lend 1 2 3\ntable 0 1\nhistory 0 1\nwork 0 1\nfill 1\nstate 1 2 3\nbytes\n"), "");
+}
+
+#[test]
+fn a_call_prints_its_line() {
+    let expected = format!(
+        "answer=0 place=0 state=8 0 0 ends={} table={} history={} work={} output=30784\n",
+        sum_to(64, &[]),
+        sum_to(12, &[5, 2, 1, 4, 6, 0, 3, 7]),
+        sum_to(8, &[]),
+        sum_to(36, &[]),
+    );
+    assert_eq!(printed(&format!("{T_LENT}start 8\n")), expected);
+}
+
+#[test]
+fn checksums_reach_four_past_what_is_lent() {
+    let script = "lend 2 1 8\ntable 0 1 0 6 7 8 9 10\nhistory 0 1 2 3 4 5 6\nfill 3\nstart 2\n";
+    let mut work = vec![0; 8];
+    work.resize(12, 3);
+    let expected = format!(
+        "answer=0 place=0 state=2 0 0 ends={} table={} history={} work={} output=30784\n",
+        sum_to(64, &[]),
+        sum(&[1, 0, 6, 7, 8, 9]),
+        sum(&[1, 2, 3, 4, 5]),
+        sum(&work),
+    );
+    assert_eq!(printed(script), expected);
+}
+
+#[test]
+fn large_numbers_are_summed_whole() {
+    let script = "lend 1 0 0\ntable 0 4294967295\nstart 4294967295\n";
+    let expected = format!(
+        "answer=1 place=0 state=0 0 0 ends={} table={} history=30784 work=30784 output=30784\n",
+        sum_to(64, &[]),
+        sum_to(5, &[4_294_967_295]),
+    );
+    assert_eq!(printed(script), expected);
+}
+
+#[test]
+fn counts_stand_at_the_end_and_the_state_stays() {
+    let line = printed(&format!("{T_LENT}start 8\ncounts\n")).lines().nth(1).expect("a second line").to_string();
+    assert!(line.starts_with("answer=0 place=0 state=8 0 0 ends="));
+    assert!(line.ends_with(" output=30784 darts=8 vertices=4 faces=2 euler=2"));
+    let line = printed("state 7 6 5 4\ncounts\n");
+    assert!(line.starts_with(&format!("answer=1 place=0 state=7 6 5 ends={} ", sum_to(64, &[4]))));
+    assert!(line.ends_with(" darts=0 vertices=0 faces=0 euler=0\n"));
+}
+
+/// The first three words of each line, and lines that are no call's in full.
+fn short(script: &str) -> Vec<String> {
+    let cut = |line: &str| match line.split_once(" ends=") {
+        Some((head, _)) => head.to_string(),
+        None => line.to_string(),
+    };
+    printed(script).lines().map(cut).collect()
+}
+
+#[test]
+fn calls_follow_one_another() {
+    let script = format!(
+        "{T_LENT}start 8\ncontract 0 1\nsweep\nshow\nundo\nshow\nremove\ncontract 2\nunfold 5\nunfold 0\nshow\nundo\n\
+         remove 0 0\nstart 6\nundo\nshow\n"
+    );
+    let expected = [
+        "answer=0 place=0 state=8 0 0", "answer=0 place=0 state=8 2 1", "answer=0 place=0 state=8 3 2",
+        "state=8 3 2 2 3", "table=5 2 5 4 6 4 6 7", "history=1 5 10", "answer=0 place=0 state=8 2 1", "state=8 2 1 2",
+        "table=5 2 5 4 6 4 5 7", "history=1 5", "answer=5 place=0 state=8 2 1", "answer=9 place=0 state=8 2 1",
+        "answer=12 place=1 state=8 2 1", "answer=0 place=0 state=8 0 0", "state=8 0 0", "table=5 2 1 4 6 0 3 7",
+        "history=", "answer=12 place=0 state=8 0 0", "answer=8 place=1 state=8 0 0", "answer=3 place=4 state=0 0 0",
+        "answer=1 place=0 state=0 0 0", "state=0 0 0", "table=", "history=",
+    ];
+    assert_eq!(short(&script), expected);
+}
+
+#[test]
+fn show_stops_at_what_is_lent_and_at_64_ends() {
+    let script = "lend 2 1 0\ntable 0 1 2 3\nhistory 0 4 5\nstate 4294967295 4294967295 4294967295 9\nshow\n";
+    let ends = "9".to_string() + &" 0".repeat(63);
+    let expected = format!("state=4294967295 4294967295 4294967295 {ends}\ntable=1 2\nhistory=4\n");
+    assert_eq!(printed(script), expected);
+}
+
+#[test]
+fn a_file_is_written_shown_and_read() {
+    let script = format!(
+        "{T_LENT}start 8\ncontract 0 1\nremove 2\nwrite 96\nbytes\nwrite 97\nbytes\nwrite 5\nbytes\nread {}\n{K12}\nshow\n",
+        K12.len()
+    );
+    let text = printed(&script);
+    assert!(text.contains("answer=2 place=97 state=8 3 2 "));
+    assert!(text.contains("answer=0 place=97 state=8 3 2 "));
+    assert_eq!(text.matches(K12).count(), 2, "the last accepted write, also after a refused one");
+    assert!(text.ends_with("state=8 3 2 2 3\ntable=4 2 4 5 5 6 6 7\nhistory=1 5 8\n"));
+    let output: Vec<u64> = K12.bytes().map(u64::from).collect();
+    assert!(text.contains(&format!(" output={}\n", sum_to(101, &output))), "write 97");
+    assert!(text.contains(&format!(" output={}\n", sum(&output[..9]))), "write 5");
+    assert!(text.contains(&format!(" output={}\n", sum(&output[..4]))), "read");
+}
+
+#[test]
+fn a_shorter_write_is_shown_alone() {
+    let two = "lend 8 4 32\ntable 0 1 0\nstart 2\nwrite 100\nbytes\n";
+    let text = printed(&format!("{T_LENT}start 8\nwrite 100\n{two}"));
+    assert!(text.ends_with("\nnumbers=0\ndarts=2\nlevels=0\npair=1 0\n"));
+}
+
+#[test]
+fn the_bytes_of_a_read_count_with_its_line() {
+    let script = format!("lend 8 4 32\nread {}\n{K12}\nnothing\n", K12.len());
+    let lines = short(&script);
+    assert_eq!(lines, ["answer=0 place=0 state=8 3 2", "error=3"]);
+    assert_eq!(short("read 0\n\nread 2\n\n\n\nshow 1\n")[..2], ["answer=13 place=0 state=0 0 0"; 2]);
+    assert_eq!(short("read 0\n\nread 2\n\n\n\nshow 1\n")[2], "error=3");
+}
+
+#[test]
+fn numbers_may_have_leading_zeros() {
+    assert_eq!(printed("state 00000000000000000001 02 0\nshow\n"), "state=1 2 0\ntable=\nhistory=\n");
+}
+
+#[test]
+fn the_ends_of_the_rooms_can_be_used() {
+    let script = "lend 65536 32768 262156\ntable 65539 1\nhistory 32770 1 2\nwork 262159 1\ntable 4294967295\n\
+                  history 4294967295\nwork 4294967295\nstate 1 2 3";
+    assert_eq!(printed(&format!("{script}{}\n", " 0".repeat(64))), "");
+    assert_eq!(short("write 599996\n"), ["answer=1 place=0 state=0 0 0"]);
+    assert_eq!(short(&format!("contract{}\n", " 1".repeat(32_772))), ["answer=1 place=0 state=0 0 0"]);
+}
+
+#[test]
+fn error_lines() {
+    let too_many_ends = format!("state 1 2 3{}\n", " 0".repeat(65));
+    let too_many_edges = format!("remove{}\n", " 1".repeat(32_773));
+    let errors = [
+        "\n", " \n", " show\n", "show \n", "show\r\n", "show\t\n", "show", "Show\n", "shows\n", "show 1\n",
+        "bytes 1\n", "lend\n", "lend 1 2\n", "lend 1 2 3 4\n", "lend 65537 0 0\n", "lend 0 32769 0\n",
+        "lend 0 0 262157\n", "lend 4294967295 0 0\n", "table\n", "table 65540 1\n", "table 65539 1 2\n",
+        "table 4294967295 1\n", "history\n", "history 32772 1\n", "work\n", "work 262160 1\n", "work 0 4294967296\n",
+        "work 0 -1\n", "work 0  1\n", "work 0 1 \n", "work 0\t1\n", "fill\n", "fill 1 2\n", "state\n", "state 1 2\n",
+        "start\n", "start 1 2\n", "start x\n", "start 8x\n", "start +8\n", "start 99999999999999999999\n", "start 8",
+        "contract \n", "contract 1,2\n", "contract 4294967296\n", "remove x\n", "sweep 1\n", "undo 1\n", "unfold\n",
+        "unfold 1 2\n", "counts 1\n", "read\n", "read 1\n", "read 1\n\n", "read 1\nab\n", "read 0\n",
+        "read 4294967295\nabc\n", "read 3\nabc", "write\n", "write 1 2\n", "write 599997\n", "write 4294967295\n",
+        "zones\n", "\u{e4}\n", &too_many_ends, &too_many_edges,
+    ];
+    for line in errors {
+        assert_eq!(printed(line), "error=1\n", "{line:?}");
+        assert_eq!(short(&format!("undo\n{line}")), ["answer=1 place=0 state=0 0 0", "error=2"], "{line:?}");
+    }
+}
+
+#[test]
+fn nothing_follows_an_error_line() {
+    assert_eq!(printed("fill 1\n\nshow\nundo\n"), "error=2\n");
+}
+
+#[test]
+fn a_script_may_have_two_million_bytes() {
+    let line = "fill 1\n";
+    let script = line.repeat(2_000_000 / line.len()) + "x";
+    let script = format!("{}{script}", "\n".repeat(2_000_000 - script.len()));
+    assert_eq!(script.len(), 2_000_000);
+    assert_eq!(printed(&script), "error=1\n");
+    assert_eq!(printed(&format!("{script}\n")), "error=0\n");
+}
