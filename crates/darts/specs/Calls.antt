@@ -1,7 +1,8 @@
 -- The eight public calls: for each, one function from what it is given to what it leaves (document 01, "Levels and calls", "Answer numbers").
 -- t, h, w and o are the lent table, history, work area and output, whole.
 --   After, Counted, Written == what a call leaves: its answer, what it hands back, every lent slice
---   room D t h w            == the slices are long enough for D darts
+--   room t h w D            == slices of these lengths are long enough for D darts
+--   fitting D t h w         == answers 1 and 2 over slices of these lengths, or done
 --   judged s t h w          == answers 1, 2 and 4 of a call on a state, or done
 --   start, reduceBy, sweepBy, undoBy, unfoldBy, counts, read, write == the calls
 use mathlib.Core.Bool.{Bool, not, _&&_}
@@ -45,11 +46,11 @@ abbrev pub leaves : Answer → State → List ℕ → List ℕ → List ℕ → 
 leaves a s t h w = record { answer = a; state = s; table = t; history = h; work = w }
 
 -- "Each call on this page is lent the table with at least D numbers, the history with D/2 and the work area with 4D; less is answer 2."
-unfoldable pub room : List ℕ → List ℕ → List ℕ → ℕ → Bool
-room t h w D = leb D (length t) && (leb (D / 2) (length h) && leb (4 * D) (length w))
+unfoldable pub room : ℕ → ℕ → ℕ → ℕ → Bool
+room t h w D = leb D t && (leb (D / 2) h && leb (4 * D) w)
 
 -- "Order: 1, 2, then 3 or 4"
-unfoldable pub fitting : ℕ → List ℕ → List ℕ → List ℕ → Answer
+unfoldable pub fitting : ℕ → ℕ → ℕ → ℕ → Answer
 fitting D t h w =
     if not (dartCount D) then noDartCount
     else if not (room t h w D) then tooShort
@@ -76,13 +77,13 @@ workAfter a D w = if eqb (a .number) 1 then w else if eqb (a .number) 2 then w e
 
 unfoldable pub judged : State → List ℕ → List ℕ → List ℕ → Answer
 judged s t h w =
-    let a : Answer = fitting (s .darts) t h w in
+    let a : Answer = fitting (s .darts) (length t) (length h) (length w) in
     if not (eqb (a .number) 0) then a else if isPyramid s (tableOf s t) (pastOf s h) then done else noPyramid
 
 -- "A refused start or read, which was given none, hands back a state of zeros."
 unfoldable pub start : ℕ → List ℕ → List ℕ → List ℕ → After
 start D t h w =
-    let a : Answer = fitting D t h w in
+    let a : Answer = fitting D (length t) (length h) (length w) in
     if not (eqb (a .number) 0) then leaves a (baseState 0) t h w
     else if ltb (firstBad D t) D then leaves (noPermutation (firstBad D t)) (baseState 0) t h (cleared D w)
     else leaves done (baseState D) t h (cleared D w)
@@ -131,7 +132,7 @@ readInto t h w (means s u past) = leaves done s (over u t) (over (reverse past) 
 readInto t h w (faulty D a) = leaves a (baseState 0) t h (cleared D w)
 
 unfoldable pub read : List ℕ → List ℕ → List ℕ → List ℕ → After
-read b t h w = readInto t h w (readFile (room t h w) b)
+read b t h w = readInto t h w (readFile (room (length t) (length h) (length w)) b)
 
 -- "The writer judges its output's length after 4." "1 and 2 write nothing at all, save that the writer's refusal of its output's length leaves those
 -- 4D numbers zero too." "an accepted write alters only its own bytes of the output"

@@ -6,12 +6,13 @@
 --   samePiece D t x y    == partner and successor steps join x and y
 --   gone past d          == an operation of the past took the edge of d
 --   survives past d      == none did
+--   live D past d        == d is a dart, and it survives
 --   before D t past x    == the dart before x
 --   firstBad D t         == the lowest dart that keeps t from being a permutation, or D
 use mathlib.Core.Bool.{Bool, true, false, _||_, _&&_, not}
 use mathlib.Core.List.{List, [], _∷_}
 use Prim.Native.Nat.{ℕ, zero, suc, _/_}
-use lib.Dec.{eqb, leb}
+use lib.Dec.{eqb, leb, ltb}
 use lib.ListN.{getD}
 use Rattle.permutations.specs.Partner.{partner}
 use Rattle.permutations.specs.Cycle.{meetsIn}
@@ -45,6 +46,9 @@ gone (h ∷ past) d = eqb (h / 4) (d / 2) || gone past d
 
 unfoldable pub survives : List ℕ → ℕ → Bool
 survives past d = not (gone past d)
+
+unfoldable pub live : ℕ → List ℕ → ℕ → Bool
+live D past d = ltb d D && survives past d
 
 -- the highest of the first n darts that survives and leads to x; 0 where none does
 unfoldable pub beforeIn : ℕ → List ℕ → List ℕ → ℕ → ℕ

@@ -1,0 +1,10 @@
+pub mod Standing
+pub mod Before
+pub mod Bases
+pub mod Judged
+pub mod Numbers
+pub mod AnyKind
+pub mod Relink
+pub mod Lead
+pub mod Operate
+pub mod Pieces
