@@ -8,3 +8,15 @@ pub mod Relink
 pub mod Lead
 pub mod Operate
 pub mod Pieces
+pub mod Operations
+pub mod Runs
+pub mod Ends
+pub mod Results
+pub mod Reduces
+pub mod Builds
+pub mod Sweeps
+pub mod Pyramids
+pub mod Undo
+pub mod Decided
+pub mod AnyOrder
+pub mod Instances

@@ -1,0 +1,118 @@
+-- The claims at the worked examples K5, K6 and K7 of document 01: what they ask for can be met, and what they say is what the definitions compute.
+--   triangle                    == the base T, "a triangle with one pending edge"
+--   contracting es              == the kernel that contracts es
+--   k5-state, k5-table, k5-past == what K5 ends with; k6 and k7 likewise
+use mathlib.Core.List.{List, [], _∷_, map, List·Permᴰ·swap}
+use mathlib.Core.Path.{_≡_, refl, sym, _∙_}
+use Prim.Native.Nat.{ℕ, _<_}
+use lib.Dec.{T, lit≤}
+use lib.ListN.{replicate}
+use Rattle.permutations.specs.Partner.{partner}
+use Rattle.permutations.specs.Cycle.{meetsIn}
+use Rattle.darts.specs.Map.{successor, faceNext, sameVertex, sameFace, gone, survives, beforeIn, before, repeats, firstBadFrom, firstBad}
+use Rattle.darts.specs.Operation.{contraction, removal, turned, lead, wholeEdge, remove, contract, operate, number, kindOf, leadOf, edgeOf, putBack, undoOne, undone}
+use Rattle.darts.specs.Kernel.{shared, judge, runFrom, run}
+use Rattle.darts.specs.State.{State, baseState, gives, raised, levelled, reduce}
+use Rattle.darts.specs.Levels.{endBelow, lowered, undoLevel}
+use Rattle.darts.specs.Pyramid.{Kernel, Pyramid, dartCount, build, kernelOf, cut, kernelsOf, sameNumbers, sameState, isExactly, isPyramid}
+use Rattle.darts.proofs.Results.{same-result}
+use Rattle.darts.proofs.Pyramids.{built-pyramid, reduce-pyramid}
+use Rattle.darts.proofs.Undo.{undo-returns}
+use Rattle.darts.proofs.Decided.{pyramid-decided}
+use Rattle.darts.proofs.AnyOrder.{Agrees, any-order}
+
+abbrev triangle : List ℕ
+triangle = 5 ∷ 2 ∷ 1 ∷ 4 ∷ 6 ∷ 0 ∷ 3 ∷ 7 ∷ []
+
+abbrev stateOf : ℕ → ℕ → List ℕ → State
+stateOf n l ends = record { darts = 8; operations = n; levels = l; ends = ends }
+
+abbrev contracting : List ℕ → Kernel
+contracting es = record { kind = contraction; edges = es }
+
+-- ---- K5 and K6: contract 0, 1 against contract 1, 0
+
+abbrev k5-table : List ℕ
+k5-table = 5 ∷ 2 ∷ 5 ∷ 4 ∷ 6 ∷ 4 ∷ 5 ∷ 7 ∷ []
+
+abbrev k5-state : State
+k5-state = stateOf 2 1 (2 ∷ replicate 63 0)
+
+abbrev k5-past : List ℕ
+k5-past = 5 ∷ 1 ∷ []
+
+abbrev k6-table : List ℕ
+k6-table = 5 ∷ 4 ∷ 1 ∷ 4 ∷ 6 ∷ 4 ∷ 5 ∷ 7 ∷ []
+
+triangle-base : firstBad 8 triangle ≡ 8
+unfolding successor repeats firstBadFrom firstBad
+triangle-base = refl
+
+eight-darts : T (dartCount 8)
+unfolding dartCount
+eight-darts = tt
+
+k5-built : build (baseState 8) triangle [] (contracting (0 ∷ 1 ∷ []) ∷ []) ≡ gives k5-state k5-table k5-past
+unfolding partner meetsIn successor sameVertex gone survives beforeIn before turned lead wholeEdge contract operate number shared judge runFrom run raised levelled reduce build
+k5-built = refl
+
+k6-built : build (baseState 8) triangle [] (contracting (1 ∷ 0 ∷ []) ∷ []) ≡ gives k5-state k6-table (1 ∷ 5 ∷ [])
+unfolding partner meetsIn successor sameVertex gone survives beforeIn before turned lead wholeEdge contract operate number shared judge runFrom run raised levelled reduce build
+k6-built = refl
+
+-- the claim, at K5's kernel in K6's order
+k6-agrees : Agrees 8 k5-table k5-past (build (baseState 8) triangle [] (contracting (1 ∷ 0 ∷ []) ∷ []))
+k6-agrees =
+    any-order 8 triangle eight-darts refl triangle-base (contracting (0 ∷ 1 ∷ []) ∷ []) (contracting (1 ∷ 0 ∷ []) ∷ []) k5-built
+    (List·Permᴰ·swap refl refl) (lit≤ tt, tt) (lit≤ tt)
+
+-- the claim, at K5's operations in two levels
+two-levels-agree : Agrees 8 k5-table k5-past (build (baseState 8) triangle [] (contracting (1 ∷ []) ∷ contracting (0 ∷ []) ∷ []))
+two-levels-agree =
+    any-order 8 triangle eight-darts refl triangle-base (contracting (0 ∷ 1 ∷ []) ∷ []) (contracting (1 ∷ []) ∷ contracting (0 ∷ []) ∷ []) k5-built
+    (List·Permᴰ·swap refl refl) (lit≤ tt, (lit≤ tt, tt)) (lit≤ tt)
+
+-- so every survivor of K5 has the same successor in K6
+k6-successors : (d : ℕ) → d < 8 → T (survives k5-past d) → successor k6-table d ≡ successor k5-table d
+k6-successors =
+    same-result (λ s u new. (d : ℕ) → d < 8 → T (survives k5-past d) → successor u d ≡ successor k5-table d) (sym (k6-agrees .accepted) ∙ k6-built)
+    (k6-agrees .successors)
+
+-- "Survivors 4 to 7 agree with K5."
+k6-computed : map (successor k6-table) (4 ∷ 5 ∷ 6 ∷ 7 ∷ []) ≡ map (successor k5-table) (4 ∷ 5 ∷ 6 ∷ 7 ∷ [])
+unfolding successor
+k6-computed = refl
+
+-- ---- K7: after K5, remove 2
+
+abbrev k7-table : List ℕ
+k7-table = 5 ∷ 2 ∷ 5 ∷ 4 ∷ 6 ∷ 4 ∷ 6 ∷ 7 ∷ []
+
+abbrev k7-state : State
+k7-state = stateOf 3 2 (2 ∷ 3 ∷ replicate 62 0)
+
+abbrev k7-past : List ℕ
+k7-past = 10 ∷ 5 ∷ 1 ∷ []
+
+k5-pyramid : Pyramid k5-state k5-table k5-past
+k5-pyramid = built-pyramid 8 triangle eight-darts refl triangle-base (contracting (0 ∷ 1 ∷ []) ∷ []) k5-built
+
+k7-reduced : reduce removal (2 ∷ []) k5-state k5-table k5-past ≡ gives k7-state k7-table k7-past
+unfolding partner meetsIn successor faceNext sameFace gone survives beforeIn before turned lead wholeEdge remove operate number shared judge runFrom run raised levelled reduce
+k7-reduced = refl
+
+-- the claim, and the same by computation
+k7-undone : undoLevel k7-state k7-table k7-past ≡ gives k5-state k5-table k5-past
+k7-undone = undo-returns k5-pyramid removal (2 ∷ []) k7-reduced
+
+k7-computed : undoLevel k7-state k7-table k7-past ≡ gives k5-state k5-table k5-past
+unfolding partner successor gone survives beforeIn before kindOf leadOf putBack undoOne undone endBelow lowered undoLevel
+k7-computed = refl
+
+-- the decision's yes and no: K7, and K7 with the history number of a removal of edge 3
+k7-decided : T (isPyramid k7-state k7-table k7-past)
+k7-decided = pyramid-decided k7-state k7-table k7-past .1 (reduce-pyramid k5-pyramid removal (2 ∷ []) k7-reduced)
+
+k7-damaged : ¬ Pyramid k7-state k7-table (12 ∷ 5 ∷ 1 ∷ [])
+unfolding partner meetsIn successor faceNext sameVertex sameFace gone survives beforeIn before repeats firstBadFrom firstBad turned lead wholeEdge remove contract operate number kindOf leadOf edgeOf putBack undoOne undone shared judge runFrom run raised levelled reduce dartCount build kernelOf cut kernelsOf sameNumbers sameState isExactly isPyramid
+k7-damaged = pyramid-decided k7-state k7-table (12 ∷ 5 ∷ 1 ∷ []) .1
