@@ -4,21 +4,18 @@
 use mathlib.Core.Bool.{Bool, _||_, _&&_}
 use mathlib.Core.List.{List, []}
 use mathlib.Core.Logic.{_≢_, _⊎_, _↔_, inl, inr}
-use mathlib.Core.Path.{_≡_, sym, ap, _∙_, subst}
+use mathlib.Core.Path.{_≡_, sym, ap, _∙_}
 use Prim.Native.Nat.{ℕ, zero, suc, _+_, _%_, _≤_, _<_}
 use native.Mathlib.Decide.{ℕ-discrete, decLt}
 use native.Mathlib.Nat.{not-suc-le-zero}
 use native.Mathlib.Omega.{arith}
 use lib.Dec.{T, eqb, leb, eqb→eq, nleb→lt, not-T}
 use lib.ListN.{length}
-use Rattle.permutations.specs.Choice.{pick, T?, T→true, nT→false, T-ext, eqb-same, eqb-other, eqb-iff, or-intro, and-left}
-use Rattle.permutations.specs.Partner.{partner, partner-below, partner-partner}
-use Rattle.permutations.specs.Pigeonhole.{Clash, pigeonhole}
-use Rattle.permutations.specs.Map.{Good}
-use Rattle.darts.specs.Map.{successor, gone, survives, before, repeats, firstBadFrom, firstBad}
+use Rattle.permutations.specs.Choice.{pick, T?, T→true, nT→false, eqb-iff, or-intro, and-left}
+use Rattle.darts.specs.Map.{successor, gone, survives, repeats, firstBadFrom, firstBad}
 use Rattle.darts.specs.Pyramid.{dartCount}
-use Rattle.darts.proofs.Standing.{live, mapOf, Standing, live-iff}
-use Rattle.darts.proofs.Before.{Leads, found, leads-live}
+use Rattle.darts.proofs.Standing.{live, Standing, live-iff}
+use Rattle.darts.proofs.StandsBy.{stands-by}
 
 record Fine (D : ℕ) (t : List ℕ) (x : ℕ) : Type 0 where
   below : successor t x < D
@@ -59,7 +56,7 @@ none-bad D t (suc n) d e x l h = go (T? (bad D t d)) (ℕ-discrete x d) e (λ k 
     go (no b) (yes i) e rest = rw i (not-bad D t d b)
     go (no b) (no i) e rest = let k = rw (nT→false (bad D t d) b) at e in rest (omega arith) (omega arith)
 
--- ---- D numbers below D that are all different are all the numbers below D
+-- ---- a base stands
 
 module _ {D : ℕ} {t : List ℕ} (fine : (x : ℕ) → x < D → Fine D t x) where
   one : (x y : ℕ) → x < D → y < D → successor t x ≡ successor t y → x ≡ y
@@ -70,83 +67,17 @@ module _ {D : ℕ} {t : List ℕ} (fine : (x : ℕ) → x < D → Fine D t x) wh
       go (no n) (yes l) = absurd (fine x h .new y l (sym e))
       go (no n) (no m) = omega arith
 
-  -- the D successors and x are too many to be all different, so that some dart leads to x
-  onto : (x : ℕ) → x < D → Leads D t [] x (before D t [] x)
-  unfolding survives gone
-  onto x h = meet (pigeonhole D all (λ i l. all-below i l (ℕ-discrete i D)))
-    where
-      all : ℕ → ℕ
-      all i = pick (eqb i D) x (successor t i)
-
-      all-below : (i : ℕ) → i ≤ D → Dec (i ≡ D) → all i < D
-      all-below i l (yes e) = rw (eqb-same e) h
-      all-below i l (no n) = rw (eqb-other n) (fine i (omega arith) .below)
-
-      meet : Clash all D → Leads D t [] x (before D t [] x)
-      meet c = go (ℕ-discrete (c .second) D)
-        where
-          first-below : c .first < D
-          first-below = omega (arith, c .order, c .last)
-
-          same : successor t (c .first) ≡ all (c .second)
-          same = let n : c .first ≢ D = omega (arith, first-below) in rw (eqb-other n) at (c .same)
-
-          go : Dec (c .second ≡ D) → Leads D t [] x (before D t [] x)
-          go (yes e) = found (record { small = first-below; survive = tt; leads = rw (eqb-same e) at same })
-          go (no n) =
-              let e = one (c .first) (c .second) first-below (omega (arith, c .last)) (rw (eqb-other n) at same) in
-              absurd (omega (arith, c .order))
-
--- ---- a base stands
-
--- where g undoes f on some darts, it does so when both leave the other darts where they are
-masked-undo : (on : ℕ → Bool) (f g : ℕ → ℕ) → ((x : ℕ) → T (on x) → T (on (f x)) × (g (f x) ≡ x))
-    → (x : ℕ) → (let y : ℕ = pick (on x) (f x) x in pick (on y) (g y) y) ≡ x
-masked-undo on f g h x = go (T? (on x))
-  where
-    go : Dec (T (on x)) → (let y : ℕ = pick (on x) (f x) x in pick (on y) (g y) y) ≡ x
-    go (yes s) = let a = h x s in rw (T→true (on x) s, T→true (on (f x)) (a .0)) (a .1)
-    go (no n) = rw (nT→false (on x) n, nT→false (on x) n)
-
-module _ (D : ℕ) (t : List ℕ) (even : D % 2 ≡ 0) (fine : (x : ℕ) → x < D → Fine D t x) where
-  -- in a base every dart survives
-  all-live : (x : ℕ) → T (live D [] x) ↔ (x < D)
-  unfolding survives gone
-  all-live x = (λ l. live-iff D [] x .0 l .0, λ h. live-iff D [] x .1 (h, tt))
-
-  ahead : (x : ℕ) → T (live D [] x) → T (live D [] (successor t x)) × (before D t [] (successor t x) ≡ x)
-  ahead x l =
-      let h = all-live x .0 l in
-      let k = fine x h .below in
-      let b = onto fine (successor t x) k in
-      (all-live (successor t x) .1 k, one fine (before D t [] (successor t x)) x (b .small) h (b .leads))
-
-  behind : (x : ℕ) → T (live D [] x) → T (live D [] (before D t [] x)) × (successor t (before D t [] x) ≡ x)
-  behind x l = let b = onto fine x (all-live x .0 l) in (leads-live b, b .leads)
-
-  pair-live : (x : ℕ) → T (live D [] x) → T (live D [] (partner x))
-  pair-live x l = all-live (partner x) .1 (partner-below D x (all-live x .0 l) even)
-
-  base-good : Good D (mapOf D t [])
-  base-good = record {
-    perm = record {
-      inv = λ x. pick (live D [] x) (before D t [] x) x;
-      back = masked-undo (live D []) (successor t) (before D t []) ahead;
-      forth = masked-undo (live D []) (before D t []) (successor t) behind;
-      still = λ x h. still x (λ l. let k = all-live x .0 l in omega arith);
-    };
-    gone = still;
-    pairs = λ x. T-ext (live D [] (partner x)) (live D [] x) (λ l. subst (λ y. T (live D [] y)) (partner-partner x) (pair-live (partner x) l)) (pair-live x);
-    small = λ x l. all-live x .0 l;
-  }
-    where
-      still : (x : ℕ) → ¬ T (live D [] x) → pick (live D [] x) (successor t x) x ≡ x
-      still x n = rw (nT→false (live D [] x) n)
+-- in a base every dart survives
+all-live : (D x : ℕ) → T (live D [] x) ↔ (x < D)
+unfolding survives gone
+all-live D x = (λ l. live-iff D [] x .0 l .0, λ h. live-iff D [] x .1 (h, tt))
 
 -- A BASE STANDS
 pub base-stands : (D : ℕ) (t : List ℕ) → T (dartCount D) → length t ≡ D → firstBad D t ≡ D → Standing D t []
 unfolding dartCount firstBad
-base-stands D t count size permutation = record { even = even; size = size; inside = λ x h. fine x h .below; good = base-good D t even fine }
+base-stands D t count size permutation =
+    stands-by D t [] even size (λ x h. fine x h .below) (λ x l. all-live D (successor t x) .1 (fine x (all-live D x .0 l) .below))
+    (λ x y l k e. one fine x y (all-live D x .0 l) (all-live D y .0 k) e)
   where
     even : D % 2 ≡ 0
     even = eqb→eq (D % 2) 0 (and-left (eqb (D % 2) 0) (leb 2 D && leb D 65536) count)

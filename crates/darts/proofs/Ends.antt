@@ -93,7 +93,7 @@ layered-base D = record {
 
 module _ {D : ℕ} {s : State} {past : List ℕ} (L : Layered D s past) (room : s .levels < 64) (new : List ℕ) (more : length past < length new) where
   -- the ends in use once a level is added
-  marks-raised : take (s .levels + 1) (set (s .ends) (s .levels) (length new)) ≡ take (s .levels) (s .ends) ++ (length new ∷ [])
+  pub marks-raised : take (s .levels + 1) (set (s .ends) (s .levels) (length new)) ≡ take (s .levels) (s .ends) ++ (length new ∷ [])
   marks-raised = rw add-one (take-suc-set (s .ends) (s .levels) (length new) (let h = L .sixty-four in omega arith))
 
   pub layered-raised : Layered D (raised s (length new)) new

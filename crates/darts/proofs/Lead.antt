@@ -26,7 +26,7 @@ pub record Leading (k : Kind) (D : ℕ) (t past : List ℕ) (p : ℕ) : Type 0 w
   pub q-not-p : entryOf k t (partner p) ≢ p
 
 -- "removal with s = p, contraction with r = p": the operation turns round where q's giver leads to p
-lead-pick : (k : Kind) (t : List ℕ) (e : ℕ) → (let p : ℕ = 2 * e in lead k t e ≡ pick (eqb (entryOf k t (partner p)) p) (partner p) p)
+pub lead-pick : (k : Kind) (t : List ℕ) (e : ℕ) → (let p : ℕ = 2 * e in lead k t e ≡ pick (eqb (entryOf k t (partner p)) p) (partner p) p)
 unfolding lead turned
 lead-pick removal t e = rw (partner-first e)
 lead-pick contraction t e = rw (partner-partner (2 * e), partner-first e)

@@ -1,5 +1,6 @@
 pub mod Standing
 pub mod Before
+pub mod StandsBy
 pub mod Bases
 pub mod Judged
 pub mod Numbers
@@ -20,3 +21,17 @@ pub mod Undo
 pub mod Decided
 pub mod AnyOrder
 pub mod Instances
+pub mod Links
+pub mod Fits
+pub mod Undone
+pub mod Back
+pub mod Forth
+pub mod Replays
+pub mod Shape
+pub mod Passes
+pub mod Rebuilt
+pub mod TestsDecide
+pub mod Walks
+pub mod TopLabels
+pub mod TestRows
+pub mod Room

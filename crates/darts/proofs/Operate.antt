@@ -55,7 +55,7 @@ module _ {D : ℕ} {t past : List ℕ} (S : Standing D t past) (k : Kind) (p : �
 
   -- ---- the edge, and the darts before p and q
 
-  end-live : {x : ℕ} → End p x → T (live D past x)
+  pub end-live : {x : ℕ} → End p x → T (live D past x)
   end-live (inl e) = subst (λ y. T (live D past y)) (sym e) (L .lives)
   end-live (inr e) = subst (λ y. T (live D past y)) (sym e) (partner-live (S .good) p (L .lives))
 
@@ -106,7 +106,7 @@ module _ {D : ℕ} {t past : List ℕ} (S : Standing D t past) (k : Kind) (p : �
   new-b n = relinked-b t a b q r s (live-below b b-live) n
 
   -- the entries of p and q are left as they stand
-  new-end : {x : ℕ} → End p x → successor new x ≡ successor t x
+  pub new-end : {x : ℕ} → End p x → successor new x ≡ successor t x
   new-end e = relinked-else t a b q r s _ (λ z. a-away (subst (End p) z e)) (λ n z. b-away n (subst (End p) z e))
 
   -- a survivor's new entry is where the mathematics' operation leads
@@ -147,7 +147,7 @@ module _ {D : ℕ} {t past : List ℕ} (S : Standing D t past) (k : Kind) (p : �
   new-live : (x : ℕ) → live D newPast x ≡ offEdge (live D past) p x
   new-live x = ap (λ l. l x) (live-after k D past p)
 
-  stay-live : (x : ℕ) → T (live D past x) → ¬ End p x → T (live D newPast x)
+  pub stay-live : (x : ℕ) → T (live D past x) → ¬ End p x → T (live D newPast x)
   stay-live x h away = subst T (sym (new-live x ∙ offEdge-other (live D past) away)) h
 
   new-next : (x : ℕ) → Dec (T (offEdge (live D past) p x)) → pick (live D newPast x) (successor new x) x ≡ after (opOf k p) f x

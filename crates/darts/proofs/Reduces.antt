@@ -60,7 +60,7 @@ module _ {s : State} {past : List ℕ} {z : State} {u new : List ℕ} where
       rw (below, R .stood, eqb-other (R .more), R .state)
 
 module _ (s : State) (t past : List ℕ) (k : Kind) (es : List ℕ) {z : State} {u new : List ℕ} where
-  reduce-raises : reduce k es s t past ≡ gives z u new → Raises s past (run k (s .darts) t past es) z u new
+  pub reduce-raises : reduce k es s t past ≡ gives z u new → Raises s past (run k (s .darts) t past es) z u new
   unfolding reduce
   reduce-raises = raises (run k (s .darts) t past es)
 

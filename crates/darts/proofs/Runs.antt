@@ -50,7 +50,7 @@ module _ (k : Kind) (D : ℕ) (t past : List ℕ) (i e : ℕ) (es : List ℕ) wh
   unfolding runFrom
   run-on fine = rw (eqb-same fine)
 
-  run-fine : {u new : List ℕ} → runFrom k D t past i (e ∷ es) ≡ stands u new → judge k D t past e ≡ 0
+  pub run-fine : {u new : List ℕ} → runFrom k D t past i (e ∷ es) ≡ stands u new → judge k D t past e ≡ 0
   unfolding runFrom
   run-fine {u} {new} r = go (ℕ-discrete (judge k D t past e) 0)
     where
@@ -85,7 +85,7 @@ kernel-told k es (h ∷ hs) e c some =
     λ i. record { kind = kind i; edges = e i }
 
 module _ {k : Kind} {D : ℕ} {t past es u new : List ℕ} (R : Ran k D t past es u new) where
-  ran-count : length (R .numbers) ≡ length es
+  pub ran-count : length (R .numbers) ≡ length es
   ran-count = sym (length-map (R .numbers) edgeOf) ∙ ap length (R .edges)
 
   pub ran-longer : length new ≡ length past + length es

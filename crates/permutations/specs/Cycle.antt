@@ -112,7 +112,7 @@ module _ {D : ℕ} {f : ℕ → ℕ} (π : Perm D f) where
   many-rounds x n (suc q) e = rw (suc-mul, walk-add, many-rounds x n q e) e
 
   -- to meet y at all is to meet it within D steps
-  soon : {x y : ℕ} → Meets f x y → (k : ℕ) × (k ≤ D) × (walk f k x ≡ y)
+  pub soon : {x y : ℕ} → Meets f x y → (k : ℕ) × (k ≤ D) × (walk f k x ≡ y)
   soon {x} {y} m =
       let r = round x in
       let k = m .steps in
