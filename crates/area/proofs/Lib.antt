@@ -1,0 +1,14 @@
+pub mod Bases
+pub mod Cleared
+pub mod Fitting
+pub mod Labels
+pub mod Laid
+pub mod Lent
+pub mod Marking
+pub mod Operation
+pub mod Outside
+pub mod Parts
+pub mod Replay
+pub mod Sound
+pub mod Steps
+pub mod Tried

@@ -1,0 +1,103 @@
+-- One operation keeps the length of the work area and the forest's part.
+--   Same D w w′      == as long as it was, with the same forest's part
+--   same-room        == then the four parts still fit
+--   bound-same       == where a dart leads to another
+--   led-same         == where the darts before p and q lead on
+--   noted-same       == where the edge is marked, and the history gets its number
+--   lead-cases       == the dart that plays p is the edge's first dart or its second
+--   lead-bounds      == what is in bounds of the edge is in bounds of that dart and its partner
+--   operated-same    == the whole operation
+use mathlib.Core.Bool.{Bool, true, false}
+use mathlib.Core.List.{List}
+use mathlib.Core.Logic.{_⊎_, inl, inr, ⊎-elim}
+use mathlib.Core.Path.{_≡_, refl, sym, _∙_, subst}
+use Prim.Native.Nat.{ℕ, _+_, _*_, _≤_, _<_}
+use native.Mathlib.Omega.{arith}
+use lib.Dec.{eqb}
+use lib.ListN.{length, set, length-set}
+use Rattle.permutations.specs.Partner.{partner, partner-first, partner-second}
+use Rattle.darts.specs.Choose.{if_then_else_}
+use Rattle.darts.specs.Map.{successor}
+use Rattle.area.specs.Area.{Room, prev, forestIn, bound}
+use Rattle.area.specs.Back.{first, second}
+use Rattle.area.specs.Operate.{leadIn, led, noted, operated}
+use Rattle.area.specs.Edge.{Bounds}
+use Rattle.area.proofs.Outside.{set-forest}
+
+pub record Same (D : ℕ) (w w′ : List ℕ) : Type 0 where
+  pub size : length w′ ≡ length w
+  pub forest : forestIn D w′ ≡ forestIn D w
+
+same-trans : {D : ℕ} {u v w : List ℕ} → Same D u v → Same D v w → Same D u w
+same-trans s t = record { size = t .size ∙ s .size; forest = t .forest ∙ s .forest }
+
+pub same-room : {D : ℕ} {w w′ : List ℕ} → Same D w w′ → Room D w → Room D w′
+same-room s r = record { even = r .even; some = r .some; small = r .small; fits = omega (arith, s .size, r .fits) }
+
+set-same : (D : ℕ) (w : List ℕ) (i v : ℕ) → 4 * D ≤ length w → (i < 2 * D) ⊎ (3 * D ≤ i) → Same D w (set w i v)
+set-same D w i v room away = record { size = length-set w i v; forest = set-forest D w i v room away }
+
+two-same : (D : ℕ) (w : List ℕ) (i v j u : ℕ) → 4 * D ≤ length w → i < 2 * D → j < 2 * D → Same D w (set (set w i v) j u)
+two-same D w i v j u room h l =
+    same-trans (set-same D w i v room (inl h)) (set-same D (set w i v) j u (simp length-set room) (inl l))
+
+pub bound-same : {D : ℕ} {w : List ℕ} → Room D w → (a x : ℕ) → a < D → x < D → Same D w (bound D w a x)
+unfolding bound
+bound-same {D} {w} room a x h l = two-same D w a x (D + x) a (room .fits) (omega arith) (omega arith)
+
+module _ {D : ℕ} {w : List ℕ} (room : Room D w) where
+  bypass-same : (b : Bool) (a c x y : ℕ) → a < D → c < D → x < D → y < D
+      → Same D w (if b then bound D w a y else bound D (bound D w a x) c y)
+  bypass-same true a c x y ha hc hx hy = bound-same room a y ha hy
+  bypass-same false a c x y ha hc hx hy =
+      let s = bound-same room a x ha hx in same-trans s (bound-same (same-room s room) c y hc hy)
+
+  chosen : (b : Bool) (x y : ℕ) → x < D → y < D → (if b then x else y) < D
+  chosen true x y h l = h
+  chosen false x y h l = l
+
+  pub led-same : (k p : ℕ) → Bounds D w p (partner p) → Same D w (led D w k p)
+  unfolding led first second successor prev
+  led-same k p b =
+      bypass-same (eqb (first k (successor w p) (successor w (partner p))) (partner p)) (prev D w p) (prev D w (partner p))
+      (first k (successor w p) (successor w (partner p))) (second k (successor w p) (successor w (partner p)))
+      (b .first-before) (b .second-before) (chosen (eqb k 0) _ _ (b .first-next) (b .second-next)) (chosen (eqb k 0) _ _ (b .second-next) (b .first-next))
+
+  pub noted-same : (n k p : ℕ) → p < D → partner p < D → Same D w (noted D n w k p)
+  unfolding noted
+  noted-same n k p h l =
+      let s = two-same D w (D + p) D (D + partner p) D (room .fits) (omega arith) (omega arith) in
+      same-trans s (set-same D (set (set w (D + p) D) (D + partner p) D) (3 * D + n) (2 * p + k) (same-room s room .fits) (inr (omega arith)))
+
+pub lead-cases : (k : ℕ) (w : List ℕ) (e : ℕ) → (leadIn k w e ≡ 2 * e) ⊎ (leadIn k w e ≡ 2 * e + 1)
+unfolding leadIn
+lead-cases k w e = go (eqb (second k (successor w (2 * e)) (successor w (2 * e + 1))) (2 * e))
+  where
+    go : (b : Bool) → ((if b then 2 * e + 1 else 2 * e) ≡ 2 * e) ⊎ ((if b then 2 * e + 1 else 2 * e) ≡ 2 * e + 1)
+    go true = inr refl
+    go false = inl refl
+
+turned : {D : ℕ} {w : List ℕ} {p q : ℕ} → Bounds D w p q → Bounds D w q p
+turned b =
+    record {
+      first = b .second;
+      second = b .first;
+      first-next = b .second-next;
+      second-next = b .first-next;
+      first-before = b .second-before;
+      second-before = b .first-before;
+    }
+
+pub lead-bounds : (D k : ℕ) (w : List ℕ) (e : ℕ) → Bounds D w (2 * e) (2 * e + 1) → Bounds D w (leadIn k w e) (partner (leadIn k w e))
+lead-bounds D k w e b =
+    ⊎-elim
+    (λ h. subst (λ p. Bounds D w p (partner p)) (sym h) (rw (partner-first e) b))
+    (λ h. subst (λ p. Bounds D w p (partner p)) (sym h) (rw (partner-second e) (turned b)))
+    (lead-cases k w e)
+
+pub operated-same : {D : ℕ} {w : List ℕ} → Room D w → (n k e : ℕ) → Bounds D w (2 * e) (2 * e + 1) → Same D w (operated D n w k e)
+unfolding operated
+operated-same {D} {w} room n k e b =
+    let l = lead-bounds D k w e b in
+    let s = led-same room k (leadIn k w e) l in
+    same-trans s (noted-same (same-room s room) n k (leadIn k w e) (l .first) (l .second))

@@ -1,0 +1,183 @@
+-- `engine::cycles::label_cycles` meets its contract: at each turn the classes of the first i darts have their lowest darts as parents.
+--
+--   Labelling D k w₀ w i == so far, from w₀ to w
+--   turn-gone            == a gone dart is alone on its cycle, and its own parent
+--   turn-child           == a survivor that a lower dart has reached
+--   turn-root            == a survivor that none has reached, and its cycle marked
+use mathlib.Core.List.{List}
+use mathlib.Core.Logic.{_≢_, inl, inr, by-cases}
+use mathlib.Core.Path.{_≡_, refl, sym, _∙_, subst}
+use Prim.Native.Nat.{ℕ, _+_, _-_, _*_, _≤_, _<_}
+use native.Mathlib.Decide.{ℕ-discrete}
+use native.Mathlib.Omega.{arith}
+use lib.ListN.{getD}
+use borrow.Author.Needs.{needs}
+use Rattle.permutations.specs.Perm.{Perm}
+use Rattle.permutations.specs.Cycle.{Meets, meets-refl, meets-sym, meets-ind}
+use Rattle.forest.specs.Forest.{Fresh}
+use Rattle.forest.specs.Lowest.{Lowest, Marked, lowest-fresh, lowest-passed, lowest-marked}
+use Rattle.area.specs.Area.{Room, forestIn}
+use Rattle.area.specs.Trees.{Outside}
+use Rattle.area.specs.Cycles.{stepIn, MarkedIn, Labelled}
+use Rattle.area.proofs.Outside.{outside-refl, outside-trans, outside-room, outside-front, forest-at}
+use Rattle.area.proofs.Steps.{step-stays, outside-step, cycle-classes}
+use Rattle.area.proofs.cycles.label_cycles.Statement.{statement}
+use Rattle.area.proofs.cycles.label_cycles.Tie as tie
+
+record Labelling (D k : ℕ) (w₀ w : List ℕ) (i : ℕ) : Type 0 where
+  low : i ≤ D
+  outside : Outside D w₀ w
+  lowest : Lowest (Meets (stepIn D k w₀)) D i (forestIn D w)
+
+begin : {D k : ℕ} {w : List ℕ} → Perm D (stepIn D k w) → Fresh D (forestIn D w) → Labelling D k w w 0
+begin {D} {k} {w} π fresh = record { low = omega arith; outside = outside-refl D w; lowest = lowest-fresh (cycle-classes π) fresh }
+
+ends : {D k : ℕ} {w₀ w : List ℕ} {i : ℕ} → Labelling D k w₀ w i → D ≤ i → Labelled D k w₀ w
+ends {D} {k} {w₀} {w} {i} now none =
+    let e : i ≡ D = omega (arith, now .low) in
+    record { outside = now .outside; lowest = subst (λ j. Lowest (Meets (stepIn D k w₀)) D j (forestIn D w)) e (now .lowest) }
+
+module _ {D k : ℕ} {w₀ w : List ℕ} {i : ℕ} (room : Room D w₀) (π : Perm D (stepIn D k w₀)) (now : Labelling D k w₀ w i) (more : i < D) where
+  same-perm : Perm D (stepIn D k w)
+  same-perm = subst (Perm D) (sym (outside-step (now .outside) room k)) π
+
+  turn-child : getD w (2 * D + i) 0 ≢ i → Labelling D k w₀ w (i + 1)
+  turn-child other =
+      record {
+        low = omega arith;
+        outside = now .outside;
+        lowest = lowest-passed (cycle-classes π) (now .lowest) more (λ e. other (sym (forest-at D w i more) ∙ e));
+      }
+
+  turn-root : getD w (2 * D + i) 0 ≡ i → {w′ : List ℕ} → MarkedIn D k i w w′ → Labelling D k w₀ w′ (i + 1)
+  turn-root own {w′} m =
+      record {
+        low = omega arith;
+        outside = outside-trans (now .outside) (m .outside);
+        lowest = lowest-marked (cycle-classes π) (now .lowest) more (forest-at D w i more ∙ own)
+            (subst (λ f. Marked (Meets f) D i (forestIn D w) (forestIn D w′)) (outside-step (now .outside) room k) (m .marked));
+      }
+
+  module _ (gone : D ≤ getD w (D + i) 0) where
+    stays : stepIn D k w₀ i ≡ i
+    stays = step-stays k w₀ more (omega (arith, outside-front (now .outside) (D + i) (omega arith)))
+
+    alone : {z : ℕ} → Meets (stepIn D k w₀) i z → z ≡ i
+    alone m = meets-ind (stepIn D k w₀) (λ z. z ≡ i) (λ z e. rw e stays) m refl
+
+    own-parent : getD (forestIn D w) i 0 ≡ i
+    own-parent = alone (now .lowest .member i more)
+
+    marked-alone : Marked (Meets (stepIn D k w₀)) D i (forestIn D w) (forestIn D w)
+    marked-alone =
+        record {
+          size = refl;
+          each = λ z l.
+              by-cases (ℕ-discrete z i)
+              (λ e. inl (rw e (meets-refl (stepIn D k w₀) i), rw e own-parent))
+              (λ n. inr (λ m. n (alone (meets-sym π m)), refl));
+        }
+
+    turn-gone : Labelling D k w₀ w (i + 1)
+    turn-gone =
+        record {
+          low = omega arith;
+          outside = now .outside;
+          lowest = lowest-marked (cycle-classes π) (now .lowest) more own-parent marked-alone;
+        }
+
+abbrev Inv-loop : tie.InvT-loop
+Inv-loop work₀ d k i₀ work i = Labelling d k work₀ work i
+
+abbrev μ-loop : tie.MeasureT-loop
+μ-loop work₀ d k i₀ work i = d - i
+
+loop-holds : tie.Need-loop-holds Inv-loop μ-loop
+loop-holds c = begin (c .before .pre .1 .0) (c .before .pre .1 .1)
+
+add-at : tie.Need-add-at Inv-loop μ-loop
+add-at c = search needs
+
+at-requires : tie.Need-at-requires Inv-loop μ-loop
+at-requires c κs = search needs
+
+mul-at : tie.Need-mul-at Inv-loop μ-loop
+mul-at c = search needs
+
+add-at-2 : tie.Need-add-at-2 Inv-loop μ-loop
+add-at-2 c = search needs
+
+at-requires-2 : tie.Need-at-requires-2 Inv-loop μ-loop
+at-requires-2 c κs = search needs
+
+label-cycle-requires : tie.Need-label-cycle-requires Inv-loop μ-loop
+label-cycle-requires c κs =
+    let s = c .before .before .before .before .before .before .before .before .before .before in
+    let l = c .before .before .before .before .before .before .before .before .loop .inv in (
+      outside-room (l .outside) (s .pre .0),
+      (same-perm (s .pre .0) (s .pre .1 .0) l (c .before .before .before .before .before .before .before .loop-test .taken), (c .before .before .before .before .before .before .before .loop-test .taken, omega arith, sym (c .before .before .at2 .ensures) ∙ c .before .if2 .taken)),
+    )
+
+add-i : tie.Need-add-i Inv-loop μ-loop
+add-i c = search needs
+
+loop-less : tie.Need-loop-less Inv-loop μ-loop
+loop-less c = search needs
+
+loop-again : tie.Need-loop-again Inv-loop μ-loop
+loop-again c =
+    let s = c .before .before .before .before .before .before .before .before .before .before .before .before .before in
+    turn-root (s .pre .0) (s .pre .1 .0) (c .before .before .before .before .before .before .before .before .before .before .before .loop .inv) (c .before .before .before .before .before .before .before .before .before .before .loop-test .taken) (sym (c .before .before .before .before .before .at2 .ensures) ∙ c .before .before .before .before .if2 .taken) (c .before .before .label-cycle .ensures)
+
+add-i-2 : tie.Need-add-i-2 Inv-loop μ-loop
+add-i-2 c = search needs
+
+loop-less-2 : tie.Need-loop-less-2 Inv-loop μ-loop
+loop-less-2 c = search needs
+
+loop-again-2 : tie.Need-loop-again-2 Inv-loop μ-loop
+loop-again-2 c =
+    let s = c .before .before .before .before .before .before .before .before .before in
+    turn-child (s .pre .0) (s .pre .1 .0) (c .before .before .before .before .before .before .before .loop .inv) (c .before .before .before .before .before .before .loop-test .taken) (λ e. c .if2 .left (c .before .at2 .ensures ∙ e))
+
+add-i-3 : tie.Need-add-i-3 Inv-loop μ-loop
+add-i-3 c = search needs
+
+loop-less-3 : tie.Need-loop-less-3 Inv-loop μ-loop
+loop-less-3 c = search needs
+
+loop-again-3 : tie.Need-loop-again-3 Inv-loop μ-loop
+loop-again-3 c =
+    let s = c .before .before .before .before .before .before in
+    turn-gone (s .pre .0) (s .pre .1 .0) (c .before .before .before .before .loop .inv) (c .before .before .before .loop-test .taken) (omega arith)
+
+same-length : tie.Need-same-length Inv-loop μ-loop
+same-length c = search needs
+
+returns : tie.Need-returns Inv-loop μ-loop
+returns c = ends (c .before .loop .inv) (c .loop-test .left)
+
+pub label-cycles-spec : {M : Type 1} → statement M
+label-cycles-spec =
+    tie.close
+    (tie.spec
+    Inv-loop
+    μ-loop
+    loop-holds
+    add-at
+    at-requires
+    mul-at
+    add-at-2
+    at-requires-2
+    label-cycle-requires
+    add-i
+    loop-less
+    loop-again
+    add-i-2
+    loop-less-2
+    loop-again-2
+    add-i-3
+    loop-less-3
+    loop-again-3
+    same-length
+    returns)

@@ -1,0 +1,35 @@
+-- The operation on an edge, judged and done step by step. p and q are the edge's darts.
+--   Judged D k e w w′ r     == r is the number of the answer for edge e, and the forest's roots are kept
+--   Bounds D w p q          == p and q are darts, and so are their successors and the darts before them
+--   bypassed D w a b q x y  == a leads on to x and b to y; where x is q, a leads on to y and that is all
+--   Did D n k e w w′        == the operation on edge e is done, and its two darts are joined in the forest's part
+use mathlib.Core.List.{List}
+use mathlib.Core.Path.{_≡_}
+use Prim.Native.Nat.{ℕ, _+_, _*_, _<_}
+use lib.Dec.{eqb}
+use lib.ListN.{getD}
+use Rattle.darts.specs.Choose.{if_then_else_}
+use Rattle.forest.specs.Forest.{Falls}
+use Rattle.area.specs.Area.{forestIn, bound}
+use Rattle.area.specs.Operate.{judged, operated}
+use Rattle.area.specs.Trees.{Outside, rooted, Kept, merged}
+
+pub record Judged (D k e : ℕ) (w w′ : List ℕ) (r : ℕ) : Type 0 where
+  pub kept : Kept D w w′
+  pub answer : r ≡ judged D w (rooted D w) k e
+
+pub record Bounds (D : ℕ) (w : List ℕ) (p q : ℕ) : Type 0 where
+  pub first : p < D
+  pub second : q < D
+  pub first-next : getD w p 0 < D
+  pub second-next : getD w q 0 < D
+  pub first-before : getD w (D + p) 0 < D
+  pub second-before : getD w (D + q) 0 < D
+
+unfoldable pub bypassed : ℕ → List ℕ → ℕ → ℕ → ℕ → ℕ → ℕ → List ℕ
+bypassed D w a b q x y = if eqb x q then bound D w a y else bound D (bound D w a x) b y
+
+pub record Did (D n k e : ℕ) (w w′ : List ℕ) : Type 0 where
+  pub outside : Outside D (operated D n w k e) w′
+  pub falls : Falls (forestIn D w′)
+  pub roots : rooted D w′ ≡ merged (rooted D w) (2 * e) (2 * e + 1)

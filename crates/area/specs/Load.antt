@@ -1,0 +1,46 @@
+-- The table and the history in the work area, with the dart before each survivor: tests 1 to 5 of a pyramid.
+--   laid w a xs        == the numbers xs in w from place a on
+--   marks D w i m      == the m history numbers from place i on: their edges are marked as gone (tests 1 and 2)
+--   links D w x m      == the m darts from x on: each survivor is noted before its successor (tests 3, 4 and 5)
+--   loads D n t h w    == table and history laid, then marks and links
+use mathlib.Core.Bool.{true, false, not}
+use mathlib.Core.List.{List, _++_}
+use Prim.Native.Nat.{ℕ, zero, suc, _+_, _*_, _/_}
+use lib.Dec.{eqb, leb}
+use lib.ListN.{length, set, take, drop, replicate}
+use Rattle.darts.specs.Choose.{if_then_else_}
+use Rattle.darts.specs.Map.{successor}
+use Rattle.area.specs.Area.{prev, stamp, Tried, tried}
+
+unfoldable pub laid : List ℕ → ℕ → List ℕ → List ℕ
+laid w a xs = take a w ++ (xs ++ drop (a + length xs) w)
+
+-- test 1: the number is below 2D; test 2: no edge twice
+unfoldable pub marks : ℕ → List ℕ → ℕ → ℕ → Tried
+marks D w i zero = tried true w
+marks D w i (suc m) =
+    let h : ℕ = stamp D w i in
+    let p : ℕ = 2 * (h / 4) in
+    if leb (2 * D) h then tried false w
+    else if not (eqb (prev D w p) (D + 1)) then tried false w
+    else marks D (set (set w (D + p) D) (D + (p + 1)) D) (suc i) m
+
+-- test 3: the entry is below D; tests 4 and 5: a survivor's entry survives, and no survivor was noted there
+unfoldable pub links : ℕ → List ℕ → ℕ → ℕ → Tried
+links D w x zero = tried true w
+links D w x (suc m) =
+    let y : ℕ = successor w x in
+    if leb D y then tried false w
+    else if eqb (prev D w x) D then links D w (suc x) m
+    else if not (eqb (prev D w y) (D + 1)) then tried false w
+    else links D (set w (D + y) x) (suc x) m
+
+-- nothing is known of the dart before
+unfoldable pub emptied : ℕ → ℕ → List ℕ → List ℕ → List ℕ → List ℕ
+emptied D n t h w = laid (laid (laid w 0 (take D t)) (3 * D) (take n h)) D (replicate D (D + 1))
+
+unfoldable pub linksAfter : ℕ → Tried → Tried
+linksAfter D a = if a .fine then links D (a .work) 0 D else a
+
+unfoldable pub loads : ℕ → ℕ → List ℕ → List ℕ → List ℕ → Tried
+loads D n t h w = linksAfter D (marks D (emptied D n t h w) 0 n)

@@ -1,0 +1,93 @@
+// Table and history in the work area, with the dart before each survivor: tests 1 to 5 of a pyramid.
+use crate::slices::at;
+use crate::slices::copy;
+use crate::slices::fill;
+ghost use mathlib.Core.Path.{_≡_};
+ghost use Prim.Native.Nat.{_≤_, _<_};
+ghost use lib.ListN.{length};
+ghost use Rattle.area.specs.Area.{Room, bound, tried};
+ghost use Rattle.area.specs.Load.{emptied, marks, links, loads};
+
+// Dart a leads to x, and a is the dart before x.
+pub fn bind(work: &mut [u32], d: usize, a: usize, x: usize)
+    requires { ⌜ Room d (now work) ⌝ }
+    requires { ⌜ (a < d) × (x < d) ⌝ }
+    ensures { λ _. ⌜ now (work .exit) ≡ bound d (now (work .entry)) a x ⌝ }
+{
+    work[a] = x as u32;
+    work[d + x] = a as u32;
+}
+
+// The darts of the history's edges are marked as gone. No where a number is no dart's or an edge comes twice.
+pub fn mark(work: &mut [u32], d: usize, n: usize) -> bool
+    requires { ⌜ Room d (now work) ⌝ }
+    requires { ⌜ n ≤ d ⌝ }
+    ensures { λ r. ⌜ tried r (now (work .exit)) ≡ marks d (now (work .entry)) 0 n ⌝ }
+{
+    let mut i = 0;
+    while i < n {
+        let h = at(work, 3 * d + i);
+        if 2 * d <= h {
+            return false;
+        }
+        let p = 2 * (h / 4);
+        if at(work, d + p) != d + 1 {
+            return false;
+        }
+        work[d + p] = d as u32;
+        work[d + (p + 1)] = d as u32;
+        i += 1;
+    }
+    true
+}
+
+// Each survivor is noted before its successor. No where an entry is no dart, a survivor leads to a gone dart, or two lead to one.
+pub fn link(work: &mut [u32], d: usize) -> bool
+    requires { ⌜ Room d (now work) ⌝ }
+    ensures { λ r. ⌜ tried r (now (work .exit)) ≡ links d (now (work .entry)) 0 d ⌝ }
+{
+    let mut x = 0;
+    while x < d {
+        let y = at(work, x);
+        if d <= y {
+            return false;
+        }
+        if at(work, d + x) == d {
+            x += 1;
+        } else {
+            if at(work, d + y) != d + 1 {
+                return false;
+            }
+            work[d + y] = x as u32;
+            x += 1;
+        }
+    }
+    true
+}
+
+// Table and history are copied into their parts, and nothing is known of the dart before each dart.
+pub fn lay(work: &mut [u32], d: usize, table: &[u32], history: &[u32], n: usize)
+    requires { ⌜ Room d (now work) ⌝ }
+    requires { ⌜ (d ≤ length (now table)) × (n ≤ length (now history)) × (n ≤ d) ⌝ }
+    ensures { λ _. ⌜ now (work .exit) ≡ emptied d n (now (table .entry)) (now (history .entry)) (now (work .entry)) ⌝ }
+{
+    copy(work, table, d);
+    let forest = 2 * d;
+    let past = 3 * d;
+    let end = 4 * d;
+    copy(&mut work[past..end], history, n);
+    fill(&mut work[d..forest], (d + 1) as u32);
+}
+
+// Table and history in the work area, with the dart before each survivor. No where they break one of tests 1 to 5.
+pub fn load(work: &mut [u32], d: usize, table: &[u32], history: &[u32], n: usize) -> bool
+    requires { ⌜ Room d (now work) ⌝ }
+    requires { ⌜ (d ≤ length (now table)) × (n ≤ length (now history)) × (n ≤ d) ⌝ }
+    ensures { λ r. ⌜ tried r (now (work .exit)) ≡ loads d n (now (table .entry)) (now (history .entry)) (now (work .entry)) ⌝ }
+{
+    lay(work, d, table, history, n);
+    if mark(work, d, n) {
+        return link(work, d);
+    }
+    false
+}

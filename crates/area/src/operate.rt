@@ -1,0 +1,142 @@
+// One operation in the work area: judged, and done.
+use crate::load::bind;
+use crate::slices::at;
+use crate::trees::join;
+use crate::trees::together;
+ghost use mathlib.Core.Path.{_≡_};
+ghost use Prim.Native.Nat.{_+_, _*_, _/_, _<_};
+ghost use lib.ListN.{length};
+ghost use Rattle.permutations.specs.Partner.{partner};
+ghost use Rattle.forest.specs.Forest.{Falls};
+ghost use Rattle.area.specs.Area.{Room, forestIn};
+ghost use Rattle.area.specs.Operate.{wholeIn, leadIn, led, noted, operated};
+ghost use Rattle.area.specs.Edge.{Judged, Bounds, bypassed, Did};
+
+// Whether edge e is a whole piece.
+fn whole(work: &[u32], e: usize) -> bool
+    requires { ⌜ 2 * e + 1 < length (now work) ⌝ }
+    ensures { λ r. ⌜ r ≡ wholeIn (now (work .entry)) e ⌝ }
+{
+    let p = 2 * e;
+    let q = 2 * e + 1;
+    let r = at(work, p);
+    let s = at(work, q);
+    if r == p {
+        return s == q;
+    }
+    if r == q {
+        return s == p;
+    }
+    false
+}
+
+// The number of the answer for edge e at its turn, 0 where the operation may be done: the forest tells vertices where k is 1, and faces where k is 0.
+pub fn judge(work: &mut [u32], d: usize, k: usize, e: usize) -> u32
+    requires { ⌜ Room d (now work) ⌝ }
+    requires { ⌜ Falls (forestIn d (now work)) ⌝ }
+    requires { ⌜ k < 2 ⌝ }
+    ensures { λ r. ⌜ Judged d k e (now (work .entry)) (now (work .exit)) r ⌝ }
+{
+    if d / 2 <= e {
+        return 7;
+    }
+    let p = 2 * e;
+    if d <= at(work, d + p) {
+        return 8;
+    }
+    if together(work, d, p, p + 1) {
+        return 10 - k as u32;
+    }
+    if whole(work, e) {
+        return 11;
+    }
+    0
+}
+
+// The dart that plays p: the edge's first dart, or its second where the operation turns round.
+fn lead(work: &[u32], k: usize, e: usize) -> usize
+    requires { ⌜ 2 * e + 1 < length (now work) ⌝ }
+    ensures { λ r. ⌜ r ≡ leadIn k (now (work .entry)) e ⌝ }
+{
+    let p = 2 * e;
+    let q = 2 * e + 1;
+    if k == 0 {
+        if at(work, q) == p {
+            return q;
+        }
+        return p;
+    }
+    if at(work, p) == p {
+        return q;
+    }
+    p
+}
+
+// Dart a leads on to x and b to y; where x is q itself, which goes too, a leads on to y and nothing else changes.
+fn bypass(work: &mut [u32], d: usize, a: usize, b: usize, q: usize, x: usize, y: usize)
+    requires { ⌜ Room d (now work) ⌝ }
+    requires { ⌜ (a < d) × (b < d) × (x < d) × (y < d) ⌝ }
+    ensures { λ r. ⌜ now (work .exit) ≡ bypassed d (now (work .entry)) a b q x y ⌝ }
+{
+    if x == q {
+        bind(work, d, a, y);
+    } else {
+        bind(work, d, a, x);
+        bind(work, d, b, y);
+    }
+}
+
+// The darts before p and q lead on: for a removal to the successors r of p and s of q, for a contraction to s and r.
+fn lead_on(work: &mut [u32], d: usize, k: usize, p: usize, q: usize)
+    requires { ⌜ Room d (now work) ⌝ }
+    requires { ⌜ Bounds d (now work) p q ⌝ }
+    requires { ⌜ q ≡ partner p ⌝ }
+    ensures { λ r. ⌜ now (work .exit) ≡ led d (now (work .entry)) k p ⌝ }
+{
+    let r = at(work, p);
+    let s = at(work, q);
+    let a = at(work, d + p);
+    let b = at(work, d + q);
+    if k == 0 {
+        bypass(work, d, a, b, q, r, s);
+    } else {
+        bypass(work, d, a, b, q, s, r);
+    }
+}
+
+// The edge's darts are marked as gone, and the history gets the operation's number.
+fn note(work: &mut [u32], d: usize, n: usize, k: usize, p: usize, q: usize)
+    requires { ⌜ Room d (now work) ⌝ }
+    requires { ⌜ (n < d) × (k < 2) × (p < d) × (q < d) ⌝ }
+    requires { ⌜ q ≡ partner p ⌝ }
+    ensures { λ r. ⌜ now (work .exit) ≡ noted d n (now (work .entry)) k p ⌝ }
+{
+    work[d + p] = d as u32;
+    work[d + q] = d as u32;
+    work[3 * d + n] = (2 * p + k) as u32;
+}
+
+// The operation on edge e, the one of count n: a removal where k is 0, a contraction where k is 1.
+pub fn operate(work: &mut [u32], d: usize, n: usize, k: usize, e: usize)
+    requires { ⌜ Room d (now work) ⌝ }
+    requires { ⌜ (n < d / 2) × (k < 2) ⌝ }
+    requires { ⌜ Bounds d (now work) (2 * e) (2 * e + 1) ⌝ }
+    ensures { λ r. ⌜ now (work .exit) ≡ operated d n (now (work .entry)) k e ⌝ }
+{
+    let p = lead(work, k, e);
+    let q = darts::partner(p);
+    lead_on(work, d, k, p, q);
+    note(work, d, n, k, p, q);
+}
+
+// The operation, and the edge's two darts joined in the forest, which tells vertices or faces apart as they are now.
+pub fn do_edge(work: &mut [u32], d: usize, n: usize, k: usize, e: usize)
+    requires { ⌜ Room d (now work) ⌝ }
+    requires { ⌜ Falls (forestIn d (now work)) ⌝ }
+    requires { ⌜ (n < d / 2) × (k < 2) ⌝ }
+    requires { ⌜ Bounds d (now work) (2 * e) (2 * e + 1) ⌝ }
+    ensures { λ r. ⌜ Did d n k e (now (work .entry)) (now (work .exit)) ⌝ }
+{
+    operate(work, d, n, k, e);
+    join(work, d, 2 * e, 2 * e + 1);
+}

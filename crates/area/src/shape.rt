@@ -1,0 +1,82 @@
+// The shape of a state: its levels, their ends, and one kind of operation inside each level.
+use crate::slices::at;
+ghost use mathlib.Core.Path.{_≡_};
+ghost use Prim.Native.Nat.{_≤_, _<_};
+ghost use lib.ListN.{length, take, drop};
+ghost use Rattle.darts.specs.Tests.{oneKind, rises, zeros, shaped};
+ghost use Rattle.forest.specs.Part.{part};
+ghost use Rattle.area.specs.Area.{Room};
+ghost use Rattle.area.specs.Shape.{stateOf, historyIn};
+
+// Whether the history numbers at the places from `from` to `to` are of one kind, the first one's.
+pub fn one_kind(work: &[u32], from: usize, to: usize) -> bool
+    requires { ⌜ (from < to) × (to ≤ length (now work)) ⌝ }
+    ensures { λ r. ⌜ r ≡ oneKind (part from to (now (work .entry))) ⌝ }
+{
+    let kind = at(work, from) % 2;
+    let mut i = from + 1;
+    while i < to {
+        if at(work, i) % 2 != kind {
+            return false;
+        }
+        i += 1;
+    }
+    true
+}
+
+// Whether the ends past the levels are 0.
+pub fn unused(levels: usize, ends: [u32; 64]) -> bool
+    requires { ⌜ levels ≤ 64 ⌝ }
+    ensures { λ r. ⌜ r ≡ zeros (drop levels ends) ⌝ }
+{
+    let mut i = levels;
+    while i < 64 {
+        if ends[i] != 0 {
+            return false;
+        }
+        i += 1;
+    }
+    true
+}
+
+// Whether the ends of the levels rise to the number of operations, with one kind inside each level.
+pub fn rise(work: &[u32], d: usize, operations: usize, levels: usize, ends: [u32; 64]) -> bool
+    requires { ⌜ Room d (now work) ⌝ }
+    requires { ⌜ (operations ≤ d) × (levels ≤ 64) ⌝ }
+    ensures { λ r. ⌜ r ≡ rises 0 (take levels ends) (historyIn d operations (now (work .entry))) ⌝ }
+{
+    let past = 3 * d;
+    let mut from = 0;
+    let mut i = 0;
+    while i < levels {
+        let end = ends[i] as usize;
+        if end <= from {
+            return false;
+        }
+        if operations < end {
+            return false;
+        }
+        if one_kind(work, past + from, past + end) {
+            from = end;
+            i += 1;
+        } else {
+            return false;
+        }
+    }
+    from == operations
+}
+
+// Whether the state fits the history in the work area.
+pub fn shape(work: &[u32], d: usize, operations: usize, levels: usize, ends: [u32; 64]) -> bool
+    requires { ⌜ Room d (now work) ⌝ }
+    requires { ⌜ operations ≤ d ⌝ }
+    ensures { λ r. ⌜ r ≡ shaped (stateOf d operations levels ends) (historyIn d operations (now (work .entry))) ⌝ }
+{
+    if 64 < levels {
+        return false;
+    }
+    if unused(levels, ends) {
+        return rise(work, d, operations, levels, ends);
+    }
+    false
+}
