@@ -35,3 +35,4 @@ pub mod Walks
 pub mod TopLabels
 pub mod TestRows
 pub mod Room
+pub mod Stops

@@ -1,0 +1,84 @@
+//! Parting == where two outputs part
+//! Others  == the programs that are compared with the second program
+
+use crate::input::{Input, Program};
+use std::ffi::OsString;
+use std::io::{self, Write};
+use std::process::{Command, ExitStatus, Stdio};
+use std::thread;
+
+/// The first line that is not the same, from 1, and the two lines.
+pub struct Parting {
+    pub line: usize,
+    pub theirs: String,
+    pub ours: String,
+}
+
+/// The programs to compare: `COMMAND NAME` runs the program NAME.
+pub struct Others {
+    pub command: OsString,
+}
+
+impl Others {
+    /// Runs a program on an input. A program may end before it has read all: the output tells.
+    fn run(&self, program: Program, bytes: &[u8]) -> io::Result<(Vec<u8>, ExitStatus)> {
+        let mut child = Command::new(&self.command)
+            .arg(program.name())
+            .stdin(Stdio::piped())
+            .stdout(Stdio::piped())
+            .stderr(Stdio::inherit())
+            .spawn()?;
+        let stdin = child.stdin.take();
+        let output = thread::scope(|scope| {
+            scope.spawn(move || stdin.map(|mut stdin| stdin.write_all(bytes)));
+            child.wait_with_output()
+        })?;
+        Ok((output.stdout, output.status))
+    }
+
+    /// Runs each program once on nothing, so that what has to be built is built by one run alone.
+    pub fn ready(&self) -> io::Result<()> {
+        for program in [Program::Zones, Program::Levels] {
+            let status = self.run(program, b"")?.1;
+            if !status.success() {
+                return Err(io::Error::other(format!("{} cannot be run: {status}", program.name())));
+            }
+        }
+        Ok(())
+    }
+
+    /// Compares every byte, and the exit status, which the second program has as 0. Gives what the second program
+    /// printed, and where the other one parts from it.
+    pub fn compare(&self, input: &Input) -> io::Result<(Vec<u8>, Option<Parting>)> {
+        let bytes = input.bytes();
+        let ours = input.program.second(&bytes);
+        let (mut theirs, status) = self.run(input.program, &bytes)?;
+        if !status.success() {
+            theirs.extend(format!("({status})\n").bytes());
+        }
+        let parting = parting(&theirs, &ours);
+        Ok((ours, parting))
+    }
+}
+
+fn parting(theirs: &[u8], ours: &[u8]) -> Option<Parting> {
+    if theirs == ours {
+        return None;
+    }
+    let same = theirs.iter().zip(ours).take_while(|(a, b)| a == b).count();
+    let line = 1 + ours[..same].iter().filter(|&&byte| byte == b'\n').count();
+    Some(Parting { line, theirs: around(theirs, same), ours: around(ours, same) })
+}
+
+/// The line in which this byte stands, its line feed included, as far as it is near the byte.
+fn around(printed: &[u8], byte: usize) -> String {
+    const NEAR: usize = 200;
+    let start = printed[..byte].iter().rposition(|&b| b == b'\n').map_or(0, |feed| feed + 1);
+    let end = printed[byte..].iter().position(|&b| b == b'\n').map_or(printed.len(), |feed| byte + feed + 1);
+    let (from, to) = (start.max(byte.saturating_sub(NEAR)), end.min(byte + NEAR));
+    let (before, after) = (if from > start { ".. " } else { "" }, if to < end { " .." } else { "" });
+    match printed[from..to].escape_ascii().to_string() {
+        line if line.is_empty() => "(nothing)".to_string(),
+        line => format!("{before}{line}{after}"),
+    }
+}

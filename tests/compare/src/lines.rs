@@ -1,0 +1,77 @@
+//! Group `lines`: the script language's own rules: error lines, the limits of the rooms, the longest script
+//!
+//! An error line ends the program, so each is a script of its own.
+
+use crate::input::{Input, Program};
+
+/// "The script may be 2,000,000 bytes long."
+const MOST_BYTES: usize = 2_000_000;
+
+/// What stands before the line in question, so that an error is not in line 1 and there is something to show.
+const BEFORE: &str = "lend 2 1 8\ntable 0 1 0\nstart 2\n";
+
+/// What stands after it, and is done only where that line was none in error.
+const AFTER: &str = "counts\nshow\n";
+
+pub const SCRIPTS: usize = LINES.len() + BARE.len() + LONG;
+
+pub fn input(script: usize) -> Input {
+    let bytes = if let Some(line) = LINES.get(script) {
+        format!("{BEFORE}{line}{AFTER}").into_bytes()
+    } else if let Some(text) = BARE.get(script - LINES.len()) {
+        text.as_bytes().to_vec()
+    } else {
+        long(script - LINES.len() - BARE.len())
+    };
+    Input::text(Program::Zones, &bytes)
+}
+
+const LINES: [&str; 68] = [
+    // Words.
+    "\n", " \n", "nothing\n", "Counts\n", "count\n", "countss\n", " counts\n", "counts \n", "counts\r\n", "counts\t\n",
+    "counts 0\n", "sweep 1\n", "undo 1\n", "show 1\n", "bytes 1\n", "counts\0\n", "counts\u{e9}\n",
+    // How many numbers a word takes.
+    "lend 2 1\n", "lend 2 1 8 0\n", "table\n", "history\n", "work\n", "fill\n", "fill 1 2\n", "state\n", "state 2 0\n",
+    "start\n", "start 2 2\n", "unfold\n", "unfold 0 0\n", "read\n", "write\n", "write 9 9\n",
+    // The form of a number.
+    "start  2\n", "start 2 \n", "start +2\n", "start -2\n", "start 2x\n", "start 0x2\n", "start 0000000000000000002\n",
+    "start 4294967295\n", "start 4294967296\n", "start 42949672950\n", "start 18446744073709551618\n",
+    // The limits of the rooms.
+    "lend 65536 32768 262156\n", "lend 65537 1 8\n", "lend 2 32769 8\n", "lend 2 1 262157\n", "lend 4294967295 1 8\n",
+    "table 65539 7\n", "table 65540 7\n", "table 65538 7 7 7\n", "table 65540\n", "table 4294967295\n",
+    "table 4294967295 1\n", "history 32771 7\n", "history 32772 7\n", "work 262159 7\n", "work 262160 7\n",
+    "write 599996\nbytes\n", "write 599997\n", "write 4294967295\n",
+    // A file's bytes and the line feed after them.
+    "read 0\n\n", "read 3\nabc\n", "read 3\nabcd\n", "read 4\nabc\n", "read 1000\nabc\n", "read 4294967295\nabc\n",
+];
+
+/// Scripts that are in error at their end, or that hold nothing to print.
+const BARE: [&str; 8] = [
+    "", "\n", "counts", "bytes\n", "show\nbytes\ncounts\n", "counts\nlend 1 2 3", "state 65 7 70 1 2 3\nshow\n",
+    "read 3\nabc",
+];
+
+/// Scripts that are too long to write down.
+const LONG: usize = 7;
+
+fn long(script: usize) -> Vec<u8> {
+    let line = match script {
+        // "A kernel has at most 32,772 edges; a longer one is an error line."
+        0 => format!("contract{}\n", " 0".repeat(32_772)),
+        1 => format!("contract{}\n", " 0".repeat(32_773)),
+        // "A script of more than 2,000,000 bytes prints `error=0` and nothing else."
+        2 => line_for(MOST_BYTES),
+        3 => line_for(MOST_BYTES + 1),
+        4 => line_for(2 * MOST_BYTES),
+        // "more than 64 ends"
+        5 => format!("state 2 0 0{}\n", " 0".repeat(64)),
+        _ => format!("state 2 0 0{}\n", " 0".repeat(65)),
+    };
+    format!("{BEFORE}{line}{AFTER}").into_bytes()
+}
+
+/// A line that makes the script so many bytes long: "leading zeros are allowed".
+fn line_for(length: usize) -> String {
+    let zeros = length - BEFORE.len() - "start 2\n".len() - AFTER.len();
+    format!("start {}2\n", "0".repeat(zeros))
+}

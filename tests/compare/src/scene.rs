@@ -1,0 +1,144 @@
+//! Scene == a script under way, and the pyramid that the program holds at this point
+//!
+//! The pyramid is the second program's own: it tells which edges are worth proposing next.
+
+use crate::chance::Chance;
+use crate::files;
+use crate::kernels;
+use crate::script::Script;
+use second::file_write::bytes_of;
+use second::operation::Kind;
+use second::pyramid::Pyramid;
+use second::state::MOST_DARTS;
+
+pub struct Scene<'a> {
+    pub script: &'a mut Script,
+    pub pyramid: Pyramid,
+    /// What is lent to the calls: at least what D asks for.
+    lent: [u32; 3],
+}
+
+impl<'a> Scene<'a> {
+    /// Puts a base into the table, lends what it needs and now and then some more, of which the rooms have none for the
+    /// largest map, and starts.
+    pub fn start(script: &'a mut Script, chance: &mut Chance, base: &[u32]) -> Scene<'a> {
+        let pyramid = Pyramid::start(base).expect("a base is a permutation");
+        let darts = base.len() as u32;
+        let more = if darts < MOST_DARTS { [0, 0, 1, 4] } else { [0; 4] };
+        let lent = needed(darts).map(|length| length + chance.pick(&more));
+        script.lend(lent);
+        script.put("table", 0, base);
+        script.numbers("start", &[darts]);
+        Scene { script, pyramid, lent }
+    }
+
+    /// Starts from the table as it stands; where that is refused, the state is put back.
+    pub fn start_again(&mut self) {
+        self.script.numbers("start", &[self.darts()]);
+        match Pyramid::start(self.pyramid.map().table()) {
+            Ok(pyramid) => self.pyramid = pyramid,
+            Err(_) => self.state_again(),
+        }
+    }
+
+    pub fn darts(&self) -> u32 {
+        self.pyramid.state().darts
+    }
+
+    pub fn top(&self) -> u32 {
+        self.pyramid.top() as u32
+    }
+
+    /// A kernel, accepted or not.
+    pub fn reduce(&mut self, kind: Kind, edges: &[u32]) {
+        self.script.reduce(kind, edges);
+        self.pyramid.reduce(kind, edges).ok();
+    }
+
+    pub fn sweep(&mut self) {
+        self.script.word("sweep");
+        self.pyramid.sweep().ok();
+    }
+
+    pub fn undo(&mut self) {
+        self.script.word("undo");
+        self.pyramid.undo().ok();
+    }
+
+    pub fn unfold(&mut self, k: u32) {
+        self.script.numbers("unfold", &[k]);
+        self.pyramid.unfold(k as usize).ok();
+    }
+
+    /// A file. What it holds goes on under the file's numbers; where it is refused, or holds another number of darts
+    /// than are lent, all is put back.
+    pub fn read(&mut self, file: &[u8]) {
+        self.script.read(file);
+        match files::held(file, self.darts()) {
+            Some(pyramid) if pyramid.state().darts == self.darts() => self.pyramid = pyramid,
+            _ => self.all_again(),
+        }
+    }
+
+    /// Writes into exactly the bytes needed, and shows them.
+    pub fn write_exactly(&mut self) {
+        self.script.numbers("write", &[bytes_of(&self.pyramid).len() as u32]);
+        self.script.word("bytes");
+    }
+
+    /// Lends one number too few of one of the slices, until `lend_again`.
+    pub fn lend_one_short(&mut self, chance: &mut Chance) {
+        let mut lent = needed(self.darts());
+        lent[chance.place(3)] -= 1;
+        self.script.lend(lent);
+    }
+
+    pub fn lend_again(&mut self) {
+        self.script.lend(self.lent);
+    }
+
+    /// Puts the state back, after a call that handed back zeros.
+    pub fn state_again(&mut self) {
+        self.script.state(&self.pyramid.state());
+    }
+
+    /// Puts state, table and history back, after the script changed them.
+    pub fn all_again(&mut self) {
+        self.state_again();
+        self.script.put("table", 0, self.pyramid.map().table());
+        self.script.put("history", 0, self.pyramid.history());
+    }
+
+    /// Numbers where no call may look: the work area, the table past D, the history past the count.
+    pub fn rubbish(&mut self, chance: &mut Chance) {
+        let (room, from, most) = match chance.below(4) {
+            0 => ("table", self.darts(), 4),
+            1 => ("history", self.pyramid.history().len() as u32, self.darts() / 2),
+            _ => ("work", chance.below(4 * self.darts()), 12),
+        };
+        let length = chance.between(1, most);
+        self.script.put(room, from, &chance.rubbish(length));
+    }
+
+    /// One of the calls on a state with any numbers, whatever it may answer. The script may hold a damaged state: the
+    /// pyramid is not moved along.
+    pub fn any_call(&mut self, chance: &mut Chance) {
+        match chance.below(7) {
+            0 | 1 => {
+                let length = chance.below(4);
+                let edges = kernels::anything(chance, self.pyramid.map(), length);
+                self.script.reduce(chance.kind(), &edges);
+            }
+            2 => self.script.word("sweep"),
+            3 => self.script.word("undo"),
+            4 => self.script.numbers("unfold", &[chance.below(self.top() + 2)]),
+            5 => self.script.word("counts"),
+            _ => self.script.numbers("write", &[chance.pick(&[0, 40, 2_000])]),
+        }
+    }
+}
+
+/// "the table with at least D numbers, the history with D/2 and the work area with 4D"
+pub fn needed(darts: u32) -> [u32; 3] {
+    [darts, darts / 2, 4 * darts]
+}

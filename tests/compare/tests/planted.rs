@@ -1,0 +1,121 @@
+//! The comparison itself: a copy of the second program with a fault planted in it must be found, and one without must
+//! not be.
+
+use std::fs;
+use std::path::{Path, PathBuf};
+use std::process::{Command, Output};
+
+/// A file of the second program, a text that stands in it exactly once, and what is to stand there instead.
+type Edit = (&'static str, &'static str, &'static str);
+
+/// "Turn round .. in two cases only: removal with s = p": left out, since on a map r and s differ.
+const NO_TURN: Edit = ("operation.rs", "Kind::Remove => s == p,", "Kind::Remove => s == p && r == s,");
+
+/// "Applying F to the counts."
+const FLAG_ON_COUNTS: Edit = (
+    "file_read.rs",
+    "    let kernels = read_kernels(scan)?;\n",
+    "    let mut kernels = read_kernels(scan)?;
+    kernels.iter_mut().for_each(|(_, count)| *count = count.saturating_sub(head.first));\n",
+);
+
+/// An edge that comes twice in a history is looked at only where it comes last; a level that held nothing else is
+/// passed over.
+const EDGE_TWICE: Edit = (
+    "decide.rs",
+    "    let history = &history[..state.operations as usize];\n",
+    "    let history = &history[..state.operations as usize];
+    let comes_again = |&t: &usize| history[t + 1..].iter().any(|&later| edge_of(later) == edge_of(history[t]));
+    if let Some(t) = (0..history.len()).find(comes_again) {
+        let fewer = [&history[..t], &history[t + 1..]].concat();
+        let mut state = State { operations: state.operations - 1, ..*state };
+        state.ends.iter_mut().filter(|end| **end as usize > t).for_each(|end| *end -= 1);
+        let empty = |&k: &usize| state.ends[k] == if k == 0 { 0 } else { state.ends[k - 1] };
+        if let Some(k) = (0..state.levels.min(64) as usize).find(empty) {
+            state.ends.copy_within(k + 1.., k);
+            state.ends[63] = 0;
+            state.levels -= 1;
+        }
+        return pyramid_of(&state, table, &fewer);
+    }\n",
+);
+
+/// Builds a copy of the second program with these edits.
+fn second_with(name: &str, edits: &[Edit]) -> PathBuf {
+    let second = Path::new(env!("CARGO_MANIFEST_DIR")).join("../second");
+    let copy = Path::new(env!("CARGO_TARGET_TMPDIR")).join(name);
+    fs::create_dir_all(copy.join("src")).expect("a folder for the copy");
+    for file in ["Cargo.toml", "Cargo.lock"] {
+        fs::copy(second.join(file), copy.join(file)).expect("a file of the second program");
+    }
+    for file in fs::read_dir(second.join("src")).expect("the second program's sources") {
+        let file = file.expect("a source file");
+        let mut text = fs::read_to_string(file.path()).expect("a text");
+        for (_, old, new) in edits.iter().filter(|(edited, ..)| file.file_name() == *edited) {
+            assert_eq!(text.matches(old).count(), 1, "{name}: the text to edit stands there exactly once");
+            text = text.replace(old, new);
+        }
+        fs::write(copy.join("src").join(file.file_name()), text).expect("a source file of the copy");
+    }
+    let built = Command::new(env!("CARGO"))
+        .args(["build", "--release", "--quiet", "--offline", "--target-dir", "target"])
+        .current_dir(&copy)
+        .status();
+    assert!(built.expect("cargo runs").success(), "{name} is built");
+    copy.join("target/release/second")
+}
+
+fn compare(through: &Path, words: &[&str]) -> Output {
+    let mut command = Command::new(env!("CARGO_BIN_EXE_compare"));
+    command.arg("--through").arg(through).args(words).output().expect("compare runs")
+}
+
+/// The group's inputs must show a difference, and the smallest must be no longer than this. Gives what is printed.
+fn found(copy: &Path, group: &str, program: &str, most_bytes: usize) -> String {
+    let output = compare(copy, &["--only", group]);
+    let text = String::from_utf8_lossy(&output.stdout);
+    println!("{text}");
+    assert_eq!(output.status.code(), Some(1), "exit status");
+    assert!(text.ends_with(&format!("compare: {program} and the second program differ\n")), "last line");
+    let (_, after) = text.split_once("The smallest input found, ").expect("the smallest input");
+    let (bytes, _) = after.split_once(" bytes:").expect("its length");
+    assert!(bytes.parse::<usize>().expect("a number") <= most_bytes, "the smallest input is small");
+    text.into_owned()
+}
+
+#[test]
+fn no_difference_from_the_second_program_itself() {
+    let copy = second_with("no-fault", &[]);
+    let output = compare(&copy, &[]);
+    let text = String::from_utf8_lossy(&output.stdout);
+    println!("{text}");
+    assert_eq!(output.status.code(), Some(0), "exit status");
+    let last = text.lines().last().expect("a last line");
+    assert!(last.starts_with("compare: ") && last.ends_with(" files: no difference"), "last line");
+    let numbers: Vec<u64> = last.split(' ').filter_map(|word| word.parse().ok()).collect();
+    let [_scripts, calls, files] = *numbers else { panic!("three numbers in the last line") };
+    assert!(calls >= 200_000 && files >= 20_300, "as many as promised");
+}
+
+#[test]
+fn a_removal_without_its_turn_is_found() {
+    let copy = second_with("no-turn", &[NO_TURN]);
+    found(&copy, "worked", "zones", 100);
+    found(&copy, "small", "zones", 300);
+}
+
+#[test]
+fn a_flag_applied_to_counts_is_found() {
+    let copy = second_with("flag-on-counts", &[FLAG_ON_COUNTS]);
+    found(&copy, "worked", "zones", 200);
+    found(&copy, "reads", "zones", 500);
+    found(&copy, "reports", "levels", 500);
+}
+
+#[test]
+fn an_edge_twice_in_a_history_is_found() {
+    let copy = second_with("edge-twice", &[EDGE_TWICE]);
+    let text = found(&copy, "worked", "zones", 100);
+    assert!(text.contains("\nhistory 0 11 14 5 4\n"), "the copy accepts the case that only this test refuses");
+    found(&copy, "small", "zones", 400);
+}

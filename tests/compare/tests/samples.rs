@@ -1,0 +1,48 @@
+//! The samples are what samples/README.md says of them.
+
+use second::{levels, zones};
+use std::collections::BTreeSet;
+use std::fs;
+use std::path::{Path, PathBuf};
+
+fn samples() -> PathBuf {
+    Path::new(env!("CARGO_MANIFEST_DIR")).join("../../samples")
+}
+
+/// The rows of its tables: a file's name and the line that goes with it.
+fn rows() -> Vec<(String, String)> {
+    let text = fs::read_to_string(samples().join("README.md")).expect("a text");
+    let code = |cell: &str| cell.trim().strip_prefix('`')?.strip_suffix('`').map(str::to_string);
+    let row = |line: &str| {
+        let cells: Vec<&str> = line.split('|').collect();
+        Some((code(cells.get(1)?)?, code(cells.get(3)?)?))
+    };
+    text.lines().filter_map(row).collect()
+}
+
+#[test]
+fn every_line_is_the_one_that_is_printed() {
+    for (name, line) in rows() {
+        let report = levels::report(&fs::read(samples().join(&name)).expect("a sample"));
+        let top = format!("{line}\nend=ok\n");
+        let refused = format!("{line}\n");
+        let expected = if line.starts_with("refusal=") { report == refused } else { report.ends_with(&top) };
+        assert!(expected, "{name}: {report}");
+    }
+}
+
+#[test]
+fn every_file_has_its_line() {
+    let told: BTreeSet<String> = rows().into_iter().map(|(name, _)| name).collect();
+    let files = fs::read_dir(samples()).expect("a folder").map(|file| file.expect("a file").file_name());
+    let files: BTreeSet<String> = files.filter_map(|name| name.into_string().ok()).collect();
+    let files: BTreeSet<String> = files.into_iter().filter(|name| name.ends_with(".txt")).collect();
+    assert_eq!(told, files);
+}
+
+#[test]
+fn the_script_of_the_brief_writes_its_file() {
+    let printed = zones::run(&fs::read(samples().join("brief.script")).expect("a script"));
+    let file = fs::read(samples().join("brief.txt")).expect("a file");
+    assert!(printed.ends_with(&file));
+}
