@@ -1,0 +1,35 @@
+-- A property of each of a list, and map beside take, drop and reverse.
+--   Each P xs == P holds of each of xs
+use mathlib.Core.List.{List, [], _∷_, map, reverse, reverseAux, reverse-reverse}
+use mathlib.Core.Path.{_≡_, refl, sym, ap, _∙_}
+use mathlib.Mathlib.Data.List.Basic.{map-reverseAux}
+use Prim.Native.Nat.{ℕ, zero, suc, _<_}
+use native.Mathlib.Omega.{arith}
+use lib.ListN.{length, getD, take, drop}
+
+abbrev pub Each : {A : Type 0} → (A → Type 0) → List A → Type 0
+Each P [] = Unit {0}
+Each P (x ∷ xs) = P x × Each P xs
+
+-- place by place
+pub each-at : (P : ℕ → Type 0) (l : List ℕ) → ((i : ℕ) → i < length l → P (getD l i 0)) → Each P l
+each-at P [] f = tt
+each-at P (x ∷ l) f = (f 0 (omega arith), each-at P l (λ i h. f (suc i) (omega arith)))
+
+pub each-reverse : (P : ℕ → Type 0) (l r : List ℕ) → Each P l → Each P r → Each P (reverseAux l r)
+each-reverse P [] r a b = b
+each-reverse P (x ∷ l) r a b = each-reverse P l (x ∷ r) (a .1) (a .0, b)
+
+module _ (f : ℕ → ℕ) where
+  pub take-map : (n : ℕ) (l : List ℕ) → take n (map f l) ≡ map f (take n l)
+  take-map zero l = refl
+  take-map (suc n) [] = refl
+  take-map (suc n) (x ∷ l) = ap (λ r. f x ∷ r) (take-map n l)
+
+  pub drop-map : (n : ℕ) (l : List ℕ) → drop n (map f l) ≡ map f (drop n l)
+  drop-map zero l = refl
+  drop-map (suc n) [] = refl
+  drop-map (suc n) (x ∷ l) = drop-map n l
+
+  pub reverse-map : (l : List ℕ) → reverse (map f (reverse l)) ≡ map f l
+  reverse-map l = sym (map-reverseAux f (reverse l) []) ∙ ap (map f) (reverse-reverse l)
