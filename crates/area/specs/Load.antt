@@ -2,7 +2,10 @@
 --   laid w a xs        == the numbers xs in w from place a on
 --   marks D w i m      == the m history numbers from place i on: their edges are marked as gone (tests 1 and 2)
 --   links D w x m      == the m darts from x on: each survivor is noted before its successor (tests 3, 4 and 5)
---   loads D n t h w    == table and history laid, then marks and links
+--   given D n t h w    == table and history laid
+--   blank D w          == nothing is known of the dart before each dart
+--   relinks D n w      == the dart before each survivor found anew: blank, then marks and links
+--   loads D n t h w    == table and history laid, and linked so
 use mathlib.Core.Bool.{true, false, not}
 use mathlib.Core.List.{List, _++_}
 use Prim.Native.Nat.{ℕ, zero, suc, _+_, _*_, _/_}
@@ -35,12 +38,17 @@ links D w x (suc m) =
     else if not (eqb (prev D w y) (D + 1)) then tried false w
     else links D (set w (D + y) x) (suc x) m
 
--- nothing is known of the dart before
-unfoldable pub emptied : ℕ → ℕ → List ℕ → List ℕ → List ℕ → List ℕ
-emptied D n t h w = laid (laid (laid w 0 (take D t)) (3 * D) (take n h)) D (replicate D (D + 1))
+unfoldable pub given : ℕ → ℕ → List ℕ → List ℕ → List ℕ → List ℕ
+given D n t h w = laid (laid w 0 (take D t)) (3 * D) (take n h)
+
+unfoldable pub blank : ℕ → List ℕ → List ℕ
+blank D w = laid w D (replicate D (D + 1))
 
 unfoldable pub linksAfter : ℕ → Tried → Tried
 linksAfter D a = if a .fine then links D (a .work) 0 D else a
 
+unfoldable pub relinks : ℕ → ℕ → List ℕ → Tried
+relinks D n w = linksAfter D (marks D (blank D w) 0 n)
+
 unfoldable pub loads : ℕ → ℕ → List ℕ → List ℕ → List ℕ → Tried
-loads D n t h w = linksAfter D (marks D (emptied D n t h w) 0 n)
+loads D n t h w = relinks D n (given D n t h w)

@@ -6,7 +6,7 @@ ghost use mathlib.Core.Path.{_≡_};
 ghost use Prim.Native.Nat.{_≤_, _<_};
 ghost use lib.ListN.{length};
 ghost use Rattle.area.specs.Area.{Room, bound, tried};
-ghost use Rattle.area.specs.Load.{emptied, marks, links, loads};
+ghost use Rattle.area.specs.Load.{marks, links, given, relinks, loads};
 
 // Dart a leads to x, and a is the dart before x.
 pub fn bind(work: &mut [u32], d: usize, a: usize, x: usize)
@@ -65,18 +65,30 @@ pub fn link(work: &mut [u32], d: usize) -> bool
     true
 }
 
-// Table and history are copied into their parts, and nothing is known of the dart before each dart.
+// Table and history are copied into their parts.
 pub fn lay(work: &mut [u32], d: usize, table: &[u32], history: &[u32], n: usize)
     requires { ⌜ Room d (now work) ⌝ }
     requires { ⌜ (d ≤ length (now table)) × (n ≤ length (now history)) × (n ≤ d) ⌝ }
-    ensures { λ _. ⌜ now (work .exit) ≡ emptied d n (now (table .entry)) (now (history .entry)) (now (work .entry)) ⌝ }
+    ensures { λ _. ⌜ now (work .exit) ≡ given d n (now (table .entry)) (now (history .entry)) (now (work .entry)) ⌝ }
 {
     copy(work, table, d);
-    let forest = 2 * d;
     let past = 3 * d;
     let end = 4 * d;
     copy(&mut work[past..end], history, n);
+}
+
+// Of a table and a history that stand in their parts, the dart before each survivor is found anew. No where they break one of tests 1 to 5.
+pub fn relink(work: &mut [u32], d: usize, n: usize) -> bool
+    requires { ⌜ Room d (now work) ⌝ }
+    requires { ⌜ n ≤ d ⌝ }
+    ensures { λ r. ⌜ tried r (now (work .exit)) ≡ relinks d n (now (work .entry)) ⌝ }
+{
+    let forest = 2 * d;
     fill(&mut work[d..forest], (d + 1) as u32);
+    if mark(work, d, n) {
+        return link(work, d);
+    }
+    false
 }
 
 // Table and history in the work area, with the dart before each survivor. No where they break one of tests 1 to 5.
@@ -86,8 +98,5 @@ pub fn load(work: &mut [u32], d: usize, table: &[u32], history: &[u32], n: usize
     ensures { λ r. ⌜ tried r (now (work .exit)) ≡ loads d n (now (table .entry)) (now (history .entry)) (now (work .entry)) ⌝ }
 {
     lay(work, d, table, history, n);
-    if mark(work, d, n) {
-        return link(work, d);
-    }
-    false
+    relink(work, d, n)
 }

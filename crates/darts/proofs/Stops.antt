@@ -1,7 +1,7 @@
 -- Where a run stops, it stops with the answer of an edge: 7 to 11.
 --   Edgy r     == the run r stands, or stops with an answer from 7 to 11
---   run-edgy   == a kernel's run
---   swept-edgy == the sweep's run
+--   run-edgy, from-edgy     == a kernel's run, from any place on
+--   swept-edgy, on-edgy     == the sweep's run, from any edge on
 use mathlib.Core.Bool.{Bool, true, false, not}
 use mathlib.Core.List.{List, [], _∷_}
 use mathlib.Core.Path.{_≡_, refl}
@@ -55,21 +55,29 @@ edgy-if m i r (some l u) h = go (eqb m 0)
     go true = h
     go false = (l, u)
 
-pub run-edgy : (k : Kind) (D : ℕ) (t past : List ℕ) (i : ℕ) (es : List ℕ) → Edgy (runFrom k D t past i es)
+from-edgy : (k : Kind) (D : ℕ) (t past : List ℕ) (i : ℕ) (es : List ℕ) → Edgy (runFrom k D t past i es)
 unfolding runFrom
-run-edgy k D t past i [] = tt
-run-edgy k D t past i (e ∷ es) =
+from-edgy k D t past i [] = tt
+from-edgy k D t past i (e ∷ es) =
     edgy-if (judge k D t past e) i _ (judge-number k D t past e)
-    (run-edgy k D (operate k D t past e) (number k (lead k t e) ∷ past) (suc i) es)
+    (from-edgy k D (operate k D t past e) (number k (lead k t e) ∷ past) (suc i) es)
 
-pub swept-edgy : (D n e i : ℕ) (t past : List ℕ) → Edgy (sweptFrom D n e i t past)
+pub run-edgy : (k : Kind) (D : ℕ) (t past es : List ℕ) → Edgy (run k D t past es)
+unfolding run
+run-edgy k D t past es = from-edgy k D t past 0 es
+
+on-edgy : (D n e i : ℕ) (t past : List ℕ) → Edgy (sweptFrom D n e i t past)
 unfolding sweptFrom
-swept-edgy D zero e i t past = tt
-swept-edgy D (suc n) e i t past =
-    go (not (takes t past e)) (sameFace D t (2 * e) (2 * e + 1)) _ _ (swept-edgy D n (suc e) i t past)
-    (swept-edgy D n (suc e) (suc i) (operate removal D t past e) (number removal (lead removal t e) ∷ past))
+on-edgy D zero e i t past = tt
+on-edgy D (suc n) e i t past =
+    go (not (takes t past e)) (sameFace D t (2 * e) (2 * e + 1)) _ _ (on-edgy D n (suc e) i t past)
+    (on-edgy D n (suc e) (suc i) (operate removal D t past e) (number removal (lead removal t e) ∷ past))
   where
     go : (b c : Bool) (x y : Run) → Edgy x → Edgy y → Edgy (if b then x else if c then stops 10 i else y)
     go true c x y h k = h
     go false true x y h k = (lit≤ tt, lit≤ tt)
     go false false x y h k = k
+
+pub swept-edgy : (D : ℕ) (t past : List ℕ) → Edgy (swept D t past)
+unfolding swept
+swept-edgy D t past = on-edgy D (D / 2) 0 0 t past

@@ -1,5 +1,6 @@
 -- The sweep is a removal kernel.
 --   Turn D n e i t past r == the sweep's turn at edge e: it passes over the edge, or takes it where it may be removed, and goes on to r
+--   takes-fine            == an edge that it takes, with two faces at its sides, may be removed
 --   swept-run             == the sweep's run is the run of a removal kernel
 --   sweep-reduces         == the sweep is that kernel, and what holds of every kernel holds of it
 use mathlib.Core.Bool.{Bool, true, false, not}
@@ -27,8 +28,7 @@ fails : (b : Bool) → T (not b) → b ≡ false
 fails b t = nT→false b (T-not b t)
 
 module _ (D : ℕ) (t past : List ℕ) (e : ℕ) (below : e < D / 2) where
-  -- an edge that the sweep takes, with two faces at its sides, may be removed
-  takes-fine : T (takes t past e) → sameFace D t (2 * e) (2 * e + 1) ≡ false → judge removal D t past e ≡ 0
+  pub takes-fine : T (takes t past e) → sameFace D t (2 * e) (2 * e + 1) ≡ false → judge removal D t past e ≡ 0
   unfolding takes survives judge shared
   takes-fine taken two =
       let edge : leb (D / 2) e ≡ false = nT→false (leb (D / 2) e) (λ h. omega (arith, leb→le (D / 2) e h)) in

@@ -1,0 +1,75 @@
+-- An edge that may be done.
+--   fine-live         == it survives
+--   lead-end          == the dart that plays p is one of the edge's two
+--   end-live          == with a dart its partner survives
+--   number-half       == the history number is of the edge
+--   numbers-one-more  == with its number the past passes tests 1 and 2
+--   room-for-one-more == fewer operations than edges are done
+use mathlib.Core.Bool.{Bool, true, false}
+use mathlib.Core.List.{List, _∷_}
+use mathlib.Core.Logic.{inl, inr}
+use mathlib.Core.Path.{_≡_, refl, sym}
+use Prim.Native.Nat.{ℕ, _+_, _*_, _/_, _<_}
+use native.Mathlib.Omega.{arith}
+use lib.Dec.{T, T-not}
+use Rattle.permutations.specs.Choice.{pick}
+use Rattle.permutations.specs.Partner.{partner-first, End}
+use Rattle.permutations.specs.Map.{partner-live}
+use Rattle.darts.specs.Map.{gone, survives, live}
+use Rattle.darts.specs.Operation.{Kind, contraction, removal, turned, lead, number}
+use Rattle.darts.specs.Kernel.{judge}
+use Rattle.darts.specs.Tests.{numbered}
+use Rattle.area.specs.Area.{tableIn, pastIn}
+use Rattle.darts.proofs.Standing.{Standing, live-iff}
+use Rattle.darts.proofs.Judged.{judge-legal}
+use Rattle.darts.proofs.Numbers.{number-lead}
+use Rattle.engine.specs.Held.{Area}
+use Rattle.engine.proofs.Edges.{numbered-cons, numbered-few}
+use Rattle.engine.proofs.Parts.{past-length}
+
+pub fine-live : {D : ℕ} {t past : List ℕ} → Standing D t past → (k : Kind) (e : ℕ) → judge k D t past e ≡ 0 → T (live D past (2 * e))
+fine-live S contraction e z = judge-legal S contraction e .0 z .lives
+fine-live S removal e z = judge-legal S removal e .0 z .lives
+
+pub lead-end : (k : Kind) (t : List ℕ) (e : ℕ) → End (2 * e) (lead k t e)
+unfolding lead
+lead-end k t e = go (turned k t e)
+  where
+    go : (b : Bool) → End (2 * e) (pick b (2 * e + 1) (2 * e))
+    go true = inr (sym (partner-first e))
+    go false = inl refl
+
+pub end-live : {D : ℕ} {t past : List ℕ} → Standing D t past → {p x : ℕ} → End p x → T (live D past p) → T (live D past x)
+end-live S (inl e) h = rw e h
+end-live S {p} (inr e) h = rw e (partner-live (S .good) p h)
+
+number-below : (k : Kind) (D p : ℕ) → p < D → number k p < 2 * D
+unfolding number
+number-below contraction D p h = omega arith
+number-below removal D p h = omega arith
+
+pub number-half : (k : Kind) (p : ℕ) → number k p / 4 ≡ p / 2
+unfolding number
+number-half contraction p = omega arith
+number-half removal p = omega arith
+
+module _ {D n : ℕ} {w : List ℕ} (A : Area D n w) (k : Kind) (e : ℕ) (fine : judge k D (tableIn D w) (pastIn D n w) e ≡ 0) where
+  abbrev past : List ℕ
+  past = pastIn D n w
+
+  abbrev p : ℕ
+  p = lead k (tableIn D w) e
+
+  pub lead-live : T (live D past p)
+  lead-live = end-live (A .stands) (lead-end k (tableIn D w) e) (fine-live (A .stands) k e fine)
+
+  pub numbers-one-more : T (numbered D (number k p ∷ past))
+  unfolding survives
+  numbers-one-more =
+      let i = live-iff D past p .0 lead-live in
+      numbered-cons D (number k p) past .1 (number-below k D p (i .0), (rw (number-lead k p) (T-not (gone past p) (i .1)), A .numbers))
+
+  -- FEWER OPERATIONS THAN EDGES
+  pub room-for-one-more : n < D / 2
+  room-for-one-more =
+      rw (past-length D n w (omega (arith, A .few, A .room .fits))) at (numbered-few D (number k p ∷ past) (A .room .even) numbers-one-more)

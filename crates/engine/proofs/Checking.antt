@@ -1,0 +1,120 @@
+-- The check: table and history are loaded, decided, and loaded again.
+--   checked-pyramid == where the check says yes, it is a pyramid
+--   beyond-trans    == what stands beyond the four parts is kept, by one step after another
+--   loaded-beyond   == loading keeps it
+--   decided-beyond  == and so does deciding
+--   too-many        == no where there are more than D/2 operations
+--   load-no         == no where tests 1 to 5 fail
+--   loaded-area     == loaded: the work area holds the map
+--   decide-no       == no where the decision says no
+--   decide-yes      == loaded again: the work area holds the map, and its forest judges the coming kernel
+use mathlib.Core.Bool.{Bool, true, false, false≢true}
+use mathlib.Core.List.{List, reverse}
+use mathlib.Core.Path.{_≡_, refl, sym, ap, _∙_}
+use Prim.Native.Nat.{ℕ, _+_, _*_, _/_, _≤_, _<_}
+use native.Mathlib.Omega.{arith}
+use lib.ListN.{length, take, drop}
+use lib.Seq.{drop-drop}
+use Rattle.permutations.specs.Choice.{true→T}
+use Rattle.darts.specs.Pyramid.{Pyramid, isPyramid}
+use Rattle.darts.specs.State.{State}
+use Rattle.darts.proofs.Decided.{pyramid-decided}
+use Rattle.area.specs.Area.{Room, tried}
+use Rattle.area.specs.Load.{loads}
+use Rattle.area.specs.Shape.{stateOf}
+use Rattle.engine.specs.Held.{Area, Beyond}
+use Rattle.engine.specs.Checks.{Decided, Checked}
+use Rattle.engine.proofs.Area.{room-kept}
+use Rattle.engine.proofs.Decides.{refuted, pyramid-loads, pyramid-few}
+use Rattle.engine.proofs.Given.{linked-stand}
+use Rattle.engine.proofs.Loaded.{Loaded, loads-right}
+
+-- WHERE THE CHECK SAYS YES, IT IS A PYRAMID
+pub checked-pyramid : {D n l : ℕ} {ends : List ℕ} {coming : ℕ} {t h w w′ : List ℕ} {r : Bool} → Checked D n l ends coming t h w w′ r → r ≡ true
+    → Pyramid (stateOf D n l ends) (take D t) (reverse (take n h))
+checked-pyramid {D} {n} {l} {ends} {t = t} {h = h} C e =
+    pyramid-decided (stateOf D n l ends) (take D t) (reverse (take n h)) .0 (true→T (sym (C .answer) ∙ e))
+
+-- ---- what stands beyond the four parts
+
+pub beyond-trans : {D : ℕ} {u v w : List ℕ} → Beyond D u v → Beyond D v w → Beyond D u w
+beyond-trans a b = record { size = b .size ∙ a .size; rest = b .rest ∙ a .rest }
+
+pub loaded-beyond : {D n : ℕ} {t h w v : List ℕ} {r : Bool} → Loaded D n t h w (tried r v) → Beyond D w v
+loaded-beyond L = record { size = L .size; rest = L .rest }
+
+pub decided-beyond : {D n l : ℕ} {ends : List ℕ} {coming : ℕ} {w v : List ℕ} {r : Bool} → Decided D n l ends coming w v r → Beyond D w v
+decided-beyond {D} {w = w} {v = v} δ =
+    let e : 4 * D ≡ 3 * D + D = omega arith in
+    record { size = δ .size; rest = rw e (sym (drop-drop D (3 * D) v) ∙ ap (drop D) (δ .rest) ∙ drop-drop D (3 * D) w) }
+
+-- ---- the check
+
+module _ (D n l : ℕ) (ends : List ℕ) (coming : ℕ) (t h : List ℕ) where
+  abbrev s : State
+  s = stateOf D n l ends
+
+  abbrev past : List ℕ
+  past = reverse (take n h)
+
+  refuses : {w w′ : List ℕ} → Beyond D w w′ → ¬ Pyramid s (take D t) past → Checked D n l ends coming t h w w′ false
+  refuses beyond none = record {
+    answer = refuted none;
+    beyond = beyond;
+    area = λ e. absurd (false≢true e);
+    table = λ e. absurd (false≢true e);
+    past = λ e. absurd (false≢true e);
+    ready = λ e. absurd (false≢true e);
+  }
+
+  pub too-many : (w : List ℕ) → D / 2 < n → Checked D n l ends coming t h w w false
+  too-many w many = refuses (record { size = refl; rest = refl }) (λ P. let few = pyramid-few P in omega arith)
+
+  module _ {w : List ℕ} (room : Room D w) (long : D ≤ length t) (enough : n ≤ length h) (few : n ≤ D / 2)
+      {m : Bool} {v : List ℕ} (loaded : tried m v ≡ loads D n t h w) where
+    L : Loaded D n t h w (tried m v)
+    L = rw loaded (loads-right linked-stand n t h w room long enough few)
+
+    pub load-no : m ≡ false → Checked D n l ends coming t h w v false
+    load-no e = refuses (loaded-beyond L) (λ P. rw (← (L .fine), e) at (pyramid-loads P))
+
+    module _ (fine : m ≡ true) where
+      pub loaded-area : Area D n v
+      loaded-area = L .area (true→T fine)
+
+      module _ {b : Bool} {u : List ℕ} (δ : Decided D n l ends coming v u b) where
+        decided : b ≡ isPyramid s (take D t) past
+        decided = rw (L .table, L .past) at (δ .answer)
+
+        u-beyond : Beyond D w u
+        u-beyond = beyond-trans (loaded-beyond L) (decided-beyond δ)
+
+        pub decide-no : b ≡ false → Checked D n l ends coming t h w u false
+        decide-no e =
+            refuses u-beyond (λ P. rw (← decided, e) at (pyramid-decided s (take D t) past .1 P))
+
+        module _ (yes-decided : b ≡ true) {r : Bool} {x : List ℕ} (again : tried r x ≡ loads D n t h u) where
+          M : Loaded D n t h u (tried r x)
+          M = rw again (loads-right linked-stand n t h u (room-kept w u (u-beyond .size) room) long enough few)
+
+          r-true : r ≡ true
+          r-true = M .fine ∙ sym (L .fine) ∙ fine
+
+          x-area : Area D n x
+          x-area = M .area (true→T r-true)
+
+          -- LOADED AGAIN, AND THE FOREST KEPT
+          pub decide-yes : Checked D n l ends coming t h w x r
+          decide-yes = record {
+            answer = r-true ∙ sym yes-decided ∙ decided;
+            beyond = beyond-trans u-beyond (loaded-beyond M);
+            area = λ _. x-area;
+            table = λ _. M .table;
+            past = λ _. M .past;
+            ready = λ _ k. record {
+              kind = k;
+              area = x-area;
+              falls = rw (M .forest) (δ .falls yes-decided k);
+              roots = rw (M .forest, M .table, M .past) (rw (L .table, L .past) at (δ .roots yes-decided k));
+            };
+          }

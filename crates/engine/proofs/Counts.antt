@@ -1,0 +1,140 @@
+-- Counts taken from the forest of the cycles: each cycle has one tree, whose root is its lowest dart.
+--   roots-cycles  == the roots are as many as the cycles: faces where k is 0, vertices where k is 1
+--   labelled-area == labelling keeps the map
+--   cycles-few    == there are at most as many cycles as darts
+--   counted       == so vertices and faces are counted, one after the other
+use mathlib.Core.Bool.{Bool, true, false, _&&_}
+use mathlib.Core.List.{List}
+use mathlib.Core.Logic.{_↔_, Iff·rfl, Iff·trans, Iff·symm}
+use mathlib.Core.Path.{_≡_, refl, _∙_}
+use Prim.Native.Nat.{ℕ, zero, suc, _+_, _*_, _≤_, _<_}
+use native.Mathlib.Decide.{decLt}
+use native.Mathlib.Omega.{arith}
+use lib.Dec.{T, eqb}
+use lib.ListN.{getD}
+use Rattle.permutations.specs.Choice.{T-ext, eqb-iff, and-iff, pick}
+use Rattle.permutations.specs.Cycle.{Meets}
+use Rattle.permutations.specs.Partner.{partner, partner-below}
+use Rattle.permutations.specs.Map.{next-live}
+use Rattle.darts.specs.Map.{successor, faceNext, survives, live}
+use Rattle.darts.specs.Operation.{kindOf}
+use Rattle.darts.specs.Counts.{lowest, cycles}
+use Rattle.darts.proofs.Standing.{live-iff}
+use Rattle.forest.specs.Forest.{parent}
+use Rattle.forest.specs.Lowest.{Lowest}
+use Rattle.area.specs.Area.{there, tableIn, pastIn, forestIn, around}
+use Rattle.area.specs.Count.{rootsIn}
+use Rattle.area.specs.Cycles.{stepIn, Labelled}
+use Rattle.area.proofs.Cleared.{drop-more}
+use Rattle.area.proofs.Outside.{outside-there, forest-at}
+use Rattle.engine.specs.Counted.{CountedIn}
+use Rattle.engine.specs.Held.{Area}
+use Rattle.engine.specs.declared.Cycles.{Cycles}
+use Rattle.engine.proofs.Area.{there-live}
+use Rattle.engine.proofs.Around.{ring-good, around-next, step-ring, step-perm}
+use Rattle.engine.proofs.Beside.{Beside, beside-table, beside-past, beside-area}
+use Rattle.engine.proofs.Least.{Least, lowest-least, lowest-same}
+use Rattle.engine.proofs.Parts.{successor-in}
+
+-- ---- the lowest of a class is its own parent
+
+own-least : {D : ℕ} {f : ℕ → ℕ} {t : List ℕ} → Lowest (Meets f) D D t → (x : ℕ) → x < D → (parent t x ≡ x) ↔ Least f x
+own-least {D} {f} {t} L x h = (
+  λ e y m. go y m e (decLt y D),
+  λ least. let l = least (parent t x) (L .member x h) in let d = L .down x h in omega arith,
+)
+  where
+    go : (y : ℕ) → Meets f x y → parent t x ≡ x → Dec (y < D) → x ≤ y
+    go y m e (yes l) = let i = L .low x y h l m in omega arith
+    go y m e (no n) = omega arith
+
+-- ---- one tree for each cycle
+
+module _ {D n k : ℕ} {w v : List ℕ} (A : Area D n w) (kind : k ≤ 1) (L : Labelled D k w v) where
+  abbrev past : List ℕ
+  past = pastIn D n w
+
+  abbrev next : ℕ → ℕ
+  next = around k (tableIn D w)
+
+  small : (x : ℕ) → T (live D past x) → x < D
+  small x h = live-iff D past x .0 h .0
+
+  next-step : (x : ℕ) → T (live D past x) → next x ≡ stepIn D k w x
+  unfolding around
+  next-step x h =
+      rw (step-ring A k kind, successor-in D w x (small x h), successor-in D w (partner x) (partner-below D x (small x h) (A .room .even)))
+      (around-next A k kind x h)
+
+  step-live : (x : ℕ) → T (live D past x) → T (live D past (stepIn D k w x))
+  step-live x h = rw (step-ring A k kind) (next-live (ring-good (A .stands .good) (kindOf k)) x h)
+
+  own-lowest : (x : ℕ) → T (live D past x) → T (eqb (getD v (2 * D + x) 0) x) ↔ T (lowest next D x)
+  own-lowest x h =
+      rw (← (forest-at D v x (small x h)), lowest-same (λ y. T (live D past y)) next (stepIn D k w) next-step step-live D x h)
+      (Iff·trans (eqb-iff (parent (forestIn D v) x) x)
+      (Iff·trans (own-least (L .lowest) x (small x h)) (Iff·symm (lowest-least (step-perm A k kind) x))))
+
+  root-lowest : (x : ℕ) → x < D → (there D v x && eqb (getD v (2 * D + x) 0) x) ≡ (survives past x && lowest next D x)
+  root-lowest x h =
+      rw (outside-there (L .outside) x h, there-live A x h)
+      (T-ext (live D past x && own) (survives past x && least) (λ t. lowers .1 (roots .0 t)) (λ t. roots .1 (lowers .0 t)))
+    where
+      own : Bool
+      own = eqb (getD v (2 * D + x) 0) x
+
+      least : Bool
+      least = lowest next D x
+
+      alive : T (survives past x) ↔ T (live D past x)
+      alive = (λ s. live-iff D past x .1 (h, s), λ l. live-iff D past x .0 l .1)
+
+      roots : T (live D past x && own) ↔ (T (live D past x) × T least)
+      roots = and-iff (live D past x) own Iff·rfl (own-lowest x)
+
+      lowers : T (survives past x && least) ↔ (T (live D past x) × T least)
+      lowers = and-iff (survives past x) least alive (λ l. Iff·rfl)
+
+  roots-below : (m : ℕ) → m ≤ D → rootsIn D v m ≡ cycles next D past m
+  unfolding rootsIn cycles
+  roots-below zero h = refl
+  roots-below (suc m) h = rw (root-lowest m (omega arith), roots-below m (omega arith))
+
+  -- THE ROOTS ARE AS MANY AS THE CYCLES
+  roots-cycles : rootsIn D v D ≡ cycles next D past D
+  roots-cycles = roots-below D (omega arith)
+
+  labelled-beside : Beside D w v
+  labelled-beside = record { size = L .outside .size; front = L .outside .front; rest = L .outside .rest }
+
+  -- LABELLING KEEPS THE MAP
+  pub labelled-area : Area D n v
+  labelled-area = beside-area labelled-beside A
+
+cycles-few : (f : ℕ → ℕ) (D : ℕ) (past : List ℕ) (m : ℕ) → cycles f D past m ≤ m
+unfolding cycles
+cycles-few f D past zero = omega arith
+cycles-few f D past (suc m) = go (survives past m && lowest f D m) (cycles-few f D past m)
+  where
+    go : (b : Bool) → cycles f D past m ≤ m → pick b (suc (cycles f D past m)) (cycles f D past m) ≤ suc m
+    go true h = omega arith
+    go false h = omega arith
+
+-- VERTICES AND FACES ARE COUNTED
+pub counted : {D n : ℕ} {w u v : List ℕ} → Area D n w → Labelled D 1 w u → Labelled D 0 u v → (r : Cycles) → r .vertices ≡ rootsIn D u D
+    → r .faces ≡ rootsIn D v D → CountedIn D n w v r
+unfolding around faceNext
+counted {D} {n} {w} {u} {v} A vertices faces r i j =
+    let kept = labelled-beside A (omega arith) vertices in
+    let area = labelled-area A (omega arith) vertices in
+    let also = labelled-beside area (omega arith) faces in
+    let first : r .vertices ≡ cycles (successor (tableIn D w)) D (pastIn D n w) D = i ∙ roots-cycles A (omega arith) vertices in
+    let second : r .faces ≡ cycles (faceNext (tableIn D w)) D (pastIn D n w) D =
+    rw (beside-table kept, beside-past kept n) at (j ∙ roots-cycles area (omega arith) faces) in
+    record {
+      vertices = first;
+      faces = second;
+      few-vertices = rw first (cycles-few (successor (tableIn D w)) D (pastIn D n w) D);
+      few-faces = rw second (cycles-few (faceNext (tableIn D w)) D (pastIn D n w) D);
+      beyond = record { size = also .size ∙ kept .size; rest = drop-more (3 * D) (4 * D) v w (omega arith) (also .rest ∙ kept .rest) };
+    }

@@ -1,0 +1,202 @@
+-- Whether the map in the work area, its history and a state are a pyramid: what each step of the decision says.
+--   refuted        == what is no pyramid is answered no
+--   pyramid-passed == a pyramid passes every test
+--   pyramid-loads  == tests 1 to 5 among them
+--   pyramid-few    == a pyramid has at most D/2 operations
+--   shape-no       == no where the state does not fit the history
+--   back-no        == no where an operation does not fit
+--   base-area      == all operations taken back: the work area holds the base
+--   base-numbered  == and the history's numbers still
+--   decided        == both kinds are replayed on the base
+use mathlib.Core.Bool.{Bool, true, false, _&&_, false≢true}
+use mathlib.Core.List.{List, [], reverse, reverse-reverse}
+use mathlib.Core.Logic.{_↔_, Iff·trans}
+use mathlib.Core.Path.{_≡_, refl, sym, ap, _∙_}
+use Prim.Native.Nat.{ℕ, zero, suc, _+_, _-_, _*_, _/_, _%_, _≤_}
+use native.Mathlib.Nat.{sub-self}
+use native.Mathlib.Omega.{arith}
+use lib.Dec.{T, eqb, leb, eqb→eq, le→leb}
+use lib.ListN.{length, getD, take, drop, length-reverse}
+use lib.Seq.{getD-drop}
+use Rattle.permutations.specs.Choice.{T-ext, true→T, nT→false, eqb-iff, and-intro, and-left}
+use Rattle.permutations.specs.Labels.{Labels}
+use Rattle.permutations.specs.Map.{Map}
+use Rattle.permutations.specs.Replay.{Labelled}
+use Rattle.darts.specs.Map.{live}
+use Rattle.darts.specs.Operation.{Kind, contraction, removal, kindOf, undone}
+use Rattle.darts.specs.Pyramid.{Pyramid, dartCount, isPyramid}
+use Rattle.darts.specs.State.{State}
+use Rattle.darts.specs.Tests.{numbered, linked, replays, shaped}
+use Rattle.darts.proofs.Decided.{pyramid-decided}
+use Rattle.darts.proofs.Links.{linked-stands}
+use Rattle.darts.proofs.Room.{pyramid-room}
+use Rattle.darts.proofs.Standing.{Standing, mapOf}
+use Rattle.darts.proofs.TestsDecide.{baseOf, Passed, passed-iff, tests-decide}
+use Rattle.darts.proofs.TopLabels.{cyclesOf, walked, walked-decide, labels-at-top}
+use Rattle.area.specs.Area.{Room, tableIn, pastIn, tried}
+use Rattle.area.specs.Back.{backs}
+use Rattle.area.specs.Replay.{replayed, Numbered}
+use Rattle.area.specs.Shape.{stateOf, historyIn}
+use Rattle.area.proofs.Replay.{Alike, replay-alike, rejoined-alike}
+use Rattle.engine.specs.Held.{Area, ring}
+use Rattle.engine.specs.Checks.{BothTried, Decided}
+use Rattle.engine.proofs.AllBack.{AllBack, backs-right, all-back}
+use Rattle.engine.proofs.Area.{area-sound}
+use Rattle.engine.proofs.Given.{fits-stand}
+use Rattle.engine.proofs.Parts.{rest-from, past-none, past-length}
+
+-- ---- a pyramid passes
+
+module _ {s : State} {t past : List ℕ} where
+  pub refuted : ¬ Pyramid s t past → false ≡ isPyramid s t past
+  refuted n = sym (nT→false (isPyramid s t past) (λ h. n (pyramid-decided s t past .0 h)))
+
+  decision : (r : Bool) → T r ↔ Pyramid s t past → r ≡ isPyramid s t past
+  decision r i = let d = pyramid-decided s t past in T-ext r (isPyramid s t past) (λ x. d .1 (i .0 x)) (λ x. i .1 (d .0 x))
+
+  pyramid-passed : Pyramid s t past → Passed (walked contraction s t past) (walked removal s t past) s t past
+  pyramid-passed P = passed-iff _ _ s t past .0 (walked-decide s t past .1 P)
+
+  pub pyramid-loads : Pyramid s t past → T (numbered (s .darts) past && linked (s .darts) t past (s .darts))
+  pyramid-loads P =
+      let Q = pyramid-passed P in
+      and-intro (numbered (s .darts) past) (linked (s .darts) t past (s .darts)) (Q .numbers) (Q .links)
+
+  pub pyramid-few : Pyramid s t past → s .operations ≤ s .darts / 2
+  unfolding shaped
+  pyramid-few P =
+      let e = eqb→eq (s .operations) (length (reverse past)) (and-left (eqb (s .operations) (length (reverse past))) _ (pyramid-passed P .shape)) in
+      omega (arith, e, length-reverse past, pyramid-room P)
+
+-- ---- labels
+
+alike-refl : (L : ℕ → ℕ) → Alike L L
+alike-refl L = record { says = λ x y. (λ e. e, λ e. e) }
+
+cycles-ring : (k : Kind) (m : Map) → cyclesOf k m ≡ ring k m
+cycles-ring contraction m = refl
+cycles-ring removal m = refl
+
+labels-alike : {live : ℕ → Bool} {f R L : ℕ → ℕ} → Alike R L → Labels live f L → Labels live f R
+labels-alike a Λ = record { says = λ x y i j. Iff·trans (a .says x y) (Λ .says x y i j) }
+
+dart-count : {D : ℕ} {w : List ℕ} → Room D w → T (dartCount D)
+unfolding dartCount
+dart-count {D} r =
+    and-intro (eqb (D % 2) 0) _ (eqb-iff (D % 2) 0 .1 (r .even))
+    (and-intro (leb 2 D) (leb D 65536) (le→leb 2 D (omega (arith, r .even, r .some))) (le→leb D 65536 (r .small)))
+
+-- ---- the decision
+
+module _ {D n : ℕ} (l : ℕ) (ends : List ℕ) {w : List ℕ} (A : Area D n w) where
+  abbrev s : State
+  s = stateOf D n l ends
+
+  abbrev t : List ℕ
+  t = tableIn D w
+
+  abbrev past : List ℕ
+  past = pastIn D n w
+
+  abbrev hs : List ℕ
+  hs = historyIn D n w
+
+  refuses : {w′ : List ℕ} → length w′ ≡ length w → drop (3 * D) w′ ≡ drop (3 * D) w → {coming : ℕ} → ¬ Pyramid s t past
+      → Decided D n l ends coming w w′ false
+  refuses size rest n = record {
+    answer = refuted n;
+    size = size;
+    rest = rest;
+    falls = λ e. absurd (false≢true e);
+    roots = λ e. absurd (false≢true e);
+  }
+
+  pub shape-no : {a : Bool} → a ≡ shaped s hs → a ≡ false → {coming : ℕ} → Decided D n l ends coming w w false
+  shape-no told e = refuses refl refl (λ P. rw (reverse-reverse hs, ← told, e) at (pyramid-passed P .shape))
+
+  module _ {b : Bool} {v : List ℕ} (back : tried b v ≡ backs D w n n) where
+    B : AllBack D n n t past w (tried b v)
+    B = rw back (backs-right fits-stand n n w (omega arith) A)
+
+    v-rest : drop (3 * D) v ≡ drop (3 * D) w
+    v-rest = rest-from D (3 * D) v w (B .rest) (omega arith)
+
+    pub back-no : b ≡ false → {coming : ℕ} → Decided D n l ends coming w v false
+    back-no e = refuses (B .size) v-rest (λ P. rw (all-back fits-stand n w A, ← back, e) at (pyramid-passed P .back))
+
+    module _ (fine : b ≡ true) where
+      pub base-area : Area D 0 v
+      base-area = rw (sub-self n) at (B .area (true→T fine))
+
+      pub base-numbered : Numbered D n v
+      base-numbered = record {
+        fits = omega (arith, A .few);
+        each = λ i h.
+            let e : getD v (3 * D + i) 0 ≡ getD w (3 * D + i) 0 =
+            sym (getD-drop (3 * D) v i 0) ∙ ap (λ m. getD m i 0) v-rest ∙ getD-drop (3 * D) w i 0 in
+            rw e (area-sound A .numbers i h);
+      }
+
+      module _ {a : Bool} (told : a ≡ shaped s hs) (shape : a ≡ true) {coming : ℕ} {w′ : List ℕ} {r : Bool} (M : BothTried D n coming v w′ r) where
+        abbrev Lv : ℕ → ℕ
+        Lv = M .label 1
+
+        abbrev Lf : ℕ → ℕ
+        Lf = M .label 0
+
+        base : tableIn D v ≡ baseOf s t past
+        base = B .table (true→T fine) ∙ ap (λ c. undone D c t past) (sym (past-length D n w (omega (arith, A .few, A .room .fits))))
+
+        history : historyIn D n v ≡ reverse past
+        history = ap (take (3 * D + n - 3 * D)) v-rest ∙ sym (reverse-reverse hs)
+
+        base-labels : (k : ℕ) → k ≤ 1 → Labels (live D []) (cyclesOf (kindOf k) (mapOf D (baseOf s t past) [])) (M .label k)
+        base-labels k b = rw cycles-ring (rw (past-none D v, base) at (M .right k b))
+
+        labelled : Standing D (baseOf s t past) [] → Labelled (mapOf D (baseOf s t past) []) Lv Lf
+        unfolding kindOf
+        labelled S = record { vertex = base-labels 1 (omega arith); side = base-labels 0 (omega arith) }
+
+        replay-test : (k : ℕ) → k ≤ 1 → replayed k (M .label k) (historyIn D n v) ≡ replays (kindOf k) (M .label k) (reverse past)
+        replay-test k b =
+            replay-alike k (omega arith) (alike-refl (M .label k)) (historyIn D n v) ∙ ap (replays (kindOf k) (M .label k)) history
+
+        passed : ((k : ℕ) → k ≤ 1 → T (replays (kindOf k) (M .label k) (reverse past))) → Passed Lv Lf s t past
+        unfolding kindOf
+        passed f = record {
+          count = dart-count (A .room);
+          size = A .stands .size;
+          shape = rw (reverse-reverse hs, ← told) (true→T shape);
+          numbers = A .numbers;
+          links = linked-stands D t past (A .room .even) (A .stands .size) .1 (A .stands);
+          back = rw (all-back fits-stand n w A, ← back) (true→T fine);
+          vertices = f 1 (omega arith);
+          faces = f 0 (omega arith);
+        }
+
+        replays-both : Passed Lv Lf s t past → (k : ℕ) → k ≤ 1 → T (replays (kindOf k) (M .label k) (reverse past))
+        unfolding kindOf
+        replays-both P zero b = P .faces
+        replays-both P (suc zero) b = P .vertices
+        replays-both P (suc (suc k)) b = absurd (omega arith)
+
+        passes : T r ↔ Pyramid s t past
+        passes =
+            let d = tests-decide Lv Lf s t past labelled in
+            let i = passed-iff Lv Lf s t past in (
+              λ x. d .0 (i .1 (passed (λ k b. rw (replay-test k b) at (M .answer .0 x k b)))),
+              λ P. M .answer .1 (λ k b. rw (replay-test k b) (replays-both (i .0 (d .1 P)) k b)),
+            )
+
+        -- BOTH KINDS REPLAYED DECIDE, AND THE FOREST JUDGES THE COMING KERNEL
+        pub decided : Decided D n l ends coming w w′ r
+        decided = record {
+          answer = decision r passes;
+          size = M .outside .size ∙ B .size;
+          rest = M .outside .rest ∙ v-rest;
+          falls = λ e b. M .grown e b .falls;
+          roots = λ e b.
+              labels-alike
+              (rw (M .grown e b .roots, ← history) (rejoined-alike coming (omega arith) (alike-refl (M .label coming)) (historyIn D n v)))
+              (rw cycles-ring at (labels-at-top s t past (passes .0 (true→T e)) (kindOf coming) (M .label coming) (base-labels coming b)));
+        }

@@ -1,0 +1,183 @@
+-- Each survivor noted before its successor: tests 3, 4 and 5.
+--   Linking D t past x w == the before part holds what the first x darts say
+--   Links D t past n w a == a is what noting the first n darts gives
+--   links-right          == the darts are tested as the table's are, and the dart before each survivor is noted
+use mathlib.Core.Bool.{Bool, true, false, not, _&&_, _||_}
+use mathlib.Core.List.{List}
+use mathlib.Core.Logic.{_≢_}
+use mathlib.Core.Path.{_≡_, refl, sym, ap, _∙_}
+use Prim.Native.Nat.{ℕ, zero, suc, _+_, _*_, _≤_, _<_}
+use native.Mathlib.Decide.{ℕ-discrete}
+use native.Mathlib.Nat.{zero-add, add-zero, add-suc}
+use native.Mathlib.Omega.{arith}
+use lib.Dec.{T, eqb, leb, ltb, leb→le, nleb→lt, ltb→lt, lt→ltb, T-not}
+use lib.ListN.{length, set, drop, length-set}
+use lib.Seq.{take-set-le, drop-set-lt, getD-set-same, getD-set-other}
+use Rattle.permutations.specs.Choice.{true→T, T→true, nT→false, eqb-same, eqb-other, and-intro, and-left, and-right}
+use Rattle.darts.specs.Choose.{if_then_else_}
+use Rattle.darts.specs.Map.{successor, gone, survives, beforeIn}
+use Rattle.darts.specs.Tests.{led, linked}
+use Rattle.darts.specs.Tests.{links as linksOf}
+use Rattle.area.specs.Area.{prev, tableIn, Tried, tried}
+use Rattle.area.specs.Load.{links}
+use Rattle.engine.proofs.Parts.{successor-in}
+use Rattle.engine.proofs.Marked.{Marked}
+
+pub record Linking (D : ℕ) (t past : List ℕ) (x : ℕ) (w : List ℕ) : Type 0 where
+  pub each : (y : ℕ) → y < D → prev D w y ≡ (if gone past y then D else if led t past x y then beforeIn x t past y else D + 1)
+
+pub record Links (D : ℕ) (t past : List ℕ) (n : ℕ) (w : List ℕ) (a : Tried) : Type 0 where
+  pub fine : a .fine ≡ linked D t past n
+  pub noted : T (a .fine) → Linking D t past n (a .work)
+  pub table : tableIn D (a .work) ≡ tableIn D w
+  pub rest : drop (2 * D) (a .work) ≡ drop (2 * D) w
+  pub size : length (a .work) ≡ length w
+
+-- ---- what is noted, read
+
+-- a dart that leads to y is below x
+before-below : (x : ℕ) (t past : List ℕ) (y : ℕ) → T (led t past x y) → beforeIn x t past y < x
+unfolding led beforeIn
+before-below zero t past y h = absurd h
+before-below (suc x) t past y h = go (survives past x && eqb (successor t x) y) h (before-below x t past y)
+  where
+    go : (b : Bool) → T (b || led t past x y) → (T (led t past x y) → beforeIn x t past y < x) → (if b then x else beforeIn x t past y) < suc x
+    go true h below = omega arith
+    go false h below = omega (arith, below h)
+
+module _ {D : ℕ} {t past : List ℕ} {x : ℕ} {w : List ℕ} (xD : x < D) (L : Linking D t past x w) where
+  -- gone is what is noted as D
+  gone-noted : eqb (prev D w x) D ≡ gone past x
+  gone-noted = rw (L .each x xD) (go (gone past x) (led t past x x) refl)
+    where
+      go : (g b : Bool) → led t past x x ≡ b → eqb (if g then D else if b then beforeIn x t past x else D + 1) D ≡ g
+      go true b e = eqb-same {m = D} refl
+      go false true e = let n : beforeIn x t past x ≢ D = omega (arith, before-below x t past x (true→T e)) in eqb-other n
+      go false false e = let n : D + 1 ≢ D = omega arith in eqb-other n
+
+  -- a survivor to which none leads yet is what is noted as D + 1
+  free-noted : (y : ℕ) → y < D → eqb (prev D w y) (D + 1) ≡ (survives past y && not (led t past x y))
+  unfolding survives
+  free-noted y yD = rw (L .each y yD) (go (gone past y) (led t past x y) refl)
+    where
+      go : (g b : Bool) → led t past x y ≡ b → eqb (if g then D else if b then beforeIn x t past y else D + 1) (D + 1) ≡ (not g && not b)
+      go true b e = let n : D ≢ D + 1 = omega arith in eqb-other n
+      go false true e = let n : beforeIn x t past y ≢ D + 1 = omega (arith, before-below x t past y (true→T e)) in eqb-other n
+      go false false e = eqb-same {m = D + 1} refl
+
+-- ---- one dart more
+
+module _ {D : ℕ} {t past : List ℕ} {x : ℕ} {w : List ℕ} (L : Linking D t past x w) where
+  pass : gone past x ≡ true → Linking D t past (suc x) w
+  unfolding led beforeIn survives
+  pass g = record { each = λ y yD. rw g (L .each y yD) }
+
+  note : gone past x ≡ false → gone past (successor t x) ≡ false → successor t x < D → 2 * D ≤ length w
+      → Linking D t past (suc x) (set w (D + successor t x) x)
+  unfolding led beforeIn survives prev
+  note g f sD fits = record { each = λ y yD. rw g (go y yD (ℕ-discrete (successor t x) y)) }
+    where
+      go : (y : ℕ) → y < D → Dec (successor t x ≡ y) → prev D (set w (D + successor t x) x) y ≡
+          (if gone past y then D else if eqb (successor t x) y || led t past x y then (if eqb (successor t x) y then x else beforeIn x t past y) else D + 1)
+      go y yD (yes e) = rw (← e, f, eqb-same {m = successor t x} refl) (getD-set-same w (D + successor t x) x 0 (omega arith))
+      go y yD (no e) = rw (eqb-other e) (getD-set-other w (D + successor t x) (D + y) x 0 (λ c. e (omega arith)) ∙ L .each y yD)
+
+-- ---- all of them
+
+-- a dart that does not stand keeps every later one from standing
+linked-later : (D : ℕ) (t past : List ℕ) (x m : ℕ) → ¬ T (linked D t past x) → ¬ T (linked D t past (x + m))
+unfolding linked
+linked-later D t past x zero n = rw (add-zero x) n
+linked-later D t past x (suc m) n = rw (add-suc x m) (λ h. linked-later D t past x m n (and-right (linksOf D t past (x + m)) (linked D t past (x + m)) h))
+
+refused : {D n : ℕ} {t past w : List ℕ} → ¬ T (linked D t past n) → Links D t past n w (tried false w)
+refused {D} {n} {t} {past} {w} f = record {
+  fine = sym (nT→false (linked D t past n) f);
+  noted = λ h. absurd h;
+  table = refl;
+  rest = refl;
+  size = refl;
+}
+
+all-linked : {D n : ℕ} {t past w : List ℕ} → Linking D t past n w → T (linked D t past n) → Links D t past n w (tried true w)
+all-linked {D} {n} {t} {past} {w} L h = record {
+  fine = sym (T→true (linked D t past n) h);
+  noted = λ h. L;
+  table = refl;
+  rest = refl;
+  size = refl;
+}
+
+-- y got the dart before it
+carried : {D n : ℕ} {t past : List ℕ} {a : Tried} (w : List ℕ) (x y : ℕ) → y < D → Links D t past n (set w (D + y) x) a → Links D t past n w a
+carried {D} {n} {t} {past} {a} w x y yD L = record {
+  fine = L .fine;
+  noted = L .noted;
+  table = L .table ∙ take-set-le D w (D + y) x (omega arith);
+  rest = L .rest ∙ drop-set-lt (2 * D) w (D + y) x (omega arith);
+  size = L .size ∙ length-set w (D + y) x;
+}
+
+module _ (D : ℕ) (t past : List ℕ) (x m : ℕ) (w : List ℕ) (held : tableIn D w ≡ t) (xD : x < D) (fits : 2 * D ≤ length w)
+    (L : Linking D t past x w) (stand : T (linked D t past x)) where
+  abbrev y : ℕ
+  y = successor t x
+
+  abbrev free : Bool
+  free = survives past y && not (led t past x y)
+
+  abbrev v : List ℕ
+  v = set w (D + y) x
+
+  -- x survives: it is noted before y, if y is free
+  abbrev noting : Tried
+  noting = if not (eqb (prev D w y) (D + 1)) then tried false w else links D v (suc x) m
+
+  here : successor w x ≡ y
+  here = sym (successor-in D w x xD) ∙ ap (λ l. successor l x) held
+
+  round : x + suc m ≡ suc x + m
+  round = omega arith
+
+  stops : ¬ T (linksOf D t past x) → Links D t past (x + suc m) w (tried false w)
+  unfolding linked
+  stops n = rw round (refused (linked-later D t past (suc x) m (λ h. n (and-left (linksOf D t past x) (linked D t past x) h))))
+
+  goes : y < D → T (gone past x || free) → T (linked D t past (suc x))
+  unfolding linked linksOf
+  goes yD h = and-intro (linksOf D t past x) (linked D t past x) (and-intro (ltb y D) (gone past x || free) (lt→ltb y D yD) h) stand
+
+  survivor : T free → gone past y ≡ false
+  unfolding survives
+  survivor h = nT→false (gone past y) (T-not (gone past y) (and-left (survives past y) (not (led t past x y)) h))
+
+  one-link : (Linking D t past (suc x) w → T (linked D t past (suc x)) → Links D t past (suc x + m) w (links D w (suc x) m))
+      → (Linking D t past (suc x) v → T (linked D t past (suc x)) → Links D t past (suc x + m) v (links D v (suc x) m))
+      → Links D t past (x + suc m) w (links D w x (suc m))
+  unfolding links linksOf
+  one-link passed noted = rw (here, gone-noted xD L) (low (leb D y) refl)
+    where
+      onto : y < D → gone past x ≡ false → (b : Bool) → free ≡ b → Links D t past (x + suc m) w (if not b then tried false w else links D v (suc x) m)
+      onto yD g true f = let h : T free = true→T f in rw round (carried w x y yD (noted (note L g (survivor h) yD fits) (goes yD (rw g h))))
+      onto yD g false f = stops (λ h. rw (g, f) at (and-right (ltb y D) (gone past x || free) h))
+
+      there : y < D → (b : Bool) → gone past x ≡ b → Links D t past (x + suc m) w (if b then links D w (suc x) m else noting)
+      there yD true g = rw round (passed (pass L g) (goes yD (rw g tt)))
+      there yD false g = rw (free-noted xD L y yD) (onto yD g free refl)
+
+      low : (b : Bool) → leb D y ≡ b → Links D t past (x + suc m) w (if b then tried false w else if gone past x then links D w (suc x) m else noting)
+      low true e = stops (λ h. omega (arith, ltb→lt y D (and-left (ltb y D) (gone past x || free) h), leb→le D y (true→T e)))
+      low false e = there (nleb→lt D y (rw e tt)) (gone past x) refl
+
+links-from : (m D : ℕ) (t past : List ℕ) (x : ℕ) (w : List ℕ) → tableIn D w ≡ t → x + m ≤ D → 2 * D ≤ length w → Linking D t past x w → T (linked D t past x)
+    → Links D t past (x + m) w (links D w x m)
+links-from zero D t past x w e below fits L s = unfold links in rw (add-zero x) (all-linked L s)
+links-from (suc m) D t past x w e below fits L s =
+    one-link D t past x m w e (omega arith) fits L s
+    (λ M h. links-from m D t past (suc x) w e (omega arith) fits M h)
+    (λ M h. links-from m D t past (suc x) (set w (D + successor t x) x) (take-set-le D w (D + successor t x) x (omega arith) ∙ e) (omega arith) (rw length-set fits) M h)
+
+-- THE DARTS ARE TESTED AS THE TABLE'S ARE
+pub links-right : (D : ℕ) (t past w : List ℕ) → tableIn D w ≡ t → 2 * D ≤ length w → Marked D past w → Links D t past D w (links D w 0 D)
+unfolding linked led
+links-right D t past w e fits M = rw (zero-add D) at (links-from D D t past 0 w e (omega arith) fits (record { each = M }) tt)

@@ -1,0 +1,6 @@
+pub mod Held
+pub mod Runs
+pub mod Back
+pub mod Counted
+pub mod Checks
+pub mod Sweep

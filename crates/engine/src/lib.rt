@@ -1,0 +1,20 @@
+// What a call does in the work area, in the words of the definitions: check, run, sweep, take back, count, store.
+pub mod check;
+pub mod counting;
+pub mod kernel;
+pub mod store;
+pub mod sweep;
+pub mod undo;
+
+// How a run of operations went: 0 and the operations there are then, or the number and the place of the answer that stopped it.
+pub struct Ran {
+    pub number: u32,
+    pub place: usize,
+    pub operations: usize,
+}
+
+// How many vertices and how many faces there are.
+pub struct Cycles {
+    pub vertices: usize,
+    pub faces: usize,
+}

@@ -1,0 +1,10 @@
+pub mod Fitting
+pub mod Started
+pub mod Signed
+pub mod OnState
+pub mod Tight
+pub mod Raising
+pub mod Lowering
+pub mod CountsEnd
+pub mod Inside
+pub mod BackInside

@@ -1,0 +1,76 @@
+-- The ways that a level more ends, once a run is over.
+--   level-stops  == the run stopped at an edge
+--   level-empty  == it took no edge
+--   level-raised == one level more
+use mathlib.Core.List.{List, reverse, reverse-reverse}
+use mathlib.Core.Logic.{_≢_}
+use mathlib.Core.Path.{_≡_, refl, sym, ap, _∙_}
+use Prim.Native.Nat.{ℕ, _+_, _*_, _/_, _≤_, _<_, min}
+use native.Mathlib.Omega.{arith}
+use borrow.Author.Tests.{eq-eqb, ne-eqb}
+use lib.ListN.{length, take, length-take, length-reverse}
+use Rattle.forest.specs.Part.{part}
+use Rattle.darts.specs.Answers.{Answer as Answered, answered, done, emptyKernel}
+use Rattle.darts.specs.State.{State as Stated, raised, levelled, gives, refuses}
+use Rattle.darts.specs.Calls.{leaves, handsBack, workAfter, pastOf, over, cleared}
+use Rattle.area.specs.Area.{tableIn, pastIn}
+use Rattle.engine.specs.Runs.{ranIn}
+use Rattle.engine.specs.declared.Ran.{Ran}
+use Rattle.engine.proofs.Parts.{past-length}
+use Rattle.pyramid.specs.Steps.{Halts}
+use Rattle.pyramid.specs.Values.{left, Hands}
+use Rattle.pyramid.proofs.Started.{hands}
+use Rattle.pyramid.specs.declared.Outcome.{Outcome}
+
+-- a refusal that is neither 1 nor 2 clears the work area
+pub refused-clears : (s : Stated) (t h w : List ℕ) (a : Answered) → a .number ≢ 1 → a .number ≢ 2
+    → handsBack s t h w (refuses a) ≡ leaves a s t h (cleared (s .darts) w)
+unfolding handsBack workAfter
+refused-clears s t h w a n1 n2 = rw (ne-eqb (a .number) 1 n1, ne-eqb (a .number) 2 n2)
+
+module _ (s : Stated) (r : Ran) (t h w : List ℕ) (H : Halts s r w (length t) (length h)) where
+  abbrev D : ℕ
+  D = s .darts
+
+  abbrev past : List ℕ
+  past = pastOf s h
+
+  past-count : length past ≡ s .operations
+  unfolding pastOf
+  past-count =
+      let b = H .before in
+      let l = H .history in
+      length-reverse (take (s .operations) h) ∙ length-take (s .operations) h ∙ omega arith
+
+  new-count : length (pastIn D (r .operations) w) ≡ r .operations
+  new-count = let a = H .after in let f = H .room .fits in past-length D (r .operations) w (omega arith)
+
+  pub level-stops : (o : Outcome) → r .number ≢ 0 → Hands o (answered (r .number) (r .place)) s
+      → left o t h (cleared D w) ≡ handsBack s t h w (levelled s past (ranIn D w r))
+  unfolding levelled ranIn
+  level-stops o n G =
+      let e = H .answer n in
+      hands o G t h (cleared D w)
+      ∙ sym (rw (ne-eqb (r .number) 0 n) (refused-clears s t h w (answered (r .number) (r .place)) (λ z. omega arith) (λ z. omega arith)))
+
+  module _ (fine : r .number ≡ 0) where
+    pub level-empty : (o : Outcome) → r .operations ≡ s .operations → Hands o emptyKernel s
+        → left o t h (cleared D w) ≡ handsBack s t h w (levelled s past (ranIn D w r))
+    unfolding levelled ranIn
+    level-empty o e G =
+        hands o G t h (cleared D w)
+        ∙ sym (rw (eq-eqb (r .number) 0 fine, eq-eqb (length (pastIn D (r .operations) w)) (length past) (new-count ∙ e ∙ sym past-count))
+        (refused-clears s t h w emptyKernel (λ z. omega arith) (λ z. omega arith)))
+
+    pub level-raised : (o : Outcome) → r .operations ≢ s .operations → Hands o done (raised s (r .operations))
+        → left o (over (tableIn D w) t) (over (part (3 * D) (3 * D + r .operations) w) h) (cleared D w)
+        ≡ handsBack s t h w (levelled s past (ranIn D w r))
+    unfolding levelled ranIn handsBack
+    level-raised o n G =
+        hands o G _ _ (cleared D w)
+        ∙ sym (rw (
+          eq-eqb (r .number) 0 fine,
+          ne-eqb (length (pastIn D (r .operations) w)) (length past) (λ e. n (sym new-count ∙ e ∙ past-count)),
+          new-count,
+          reverse-reverse (part (3 * D) (3 * D + r .operations) w),
+        ))

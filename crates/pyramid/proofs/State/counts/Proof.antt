@@ -1,0 +1,71 @@
+-- `pyramid::State::counts` meets its contract: 1 and 2, or the counts inside, and then the work area cleared.
+use mathlib.Core.Path.{_≡_, _∙_, ap, sym}
+use native.Mathlib.Omega.{arith}
+use Rattle.darts.specs.Answers.{Answer as Answered}
+use Rattle.pyramid.specs.Values.{stateOf, answerOf}
+use Rattle.pyramid.proofs.Fitting.{fits}
+use Rattle.pyramid.proofs.CountsEnd.{counts-first}
+use borrow.Author.Needs.{needs}
+use Rattle.pyramid.proofs.State.counts.Statement.{statement}
+use Rattle.pyramid.proofs.State.counts.Tie as tie
+
+fit-requires : tie.Need-fit-requires
+fit-requires c κs = search needs
+
+number-requires : tie.Need-number-requires
+number-requires c κs = search needs
+
+refused-requires : tie.Need-refused-requires
+refused-requires c κs = search needs
+
+returns : tie.Need-returns
+returns c =
+    let g = c .before .before .before .before .before .before .before .args in
+    let s = stateOf (g .self) in
+    let t = g .table .now in
+    let h = g .history .now in
+    let w = g .work .now in
+    let f = c .before .before .before .fit .ensures in
+    let r = c .refused .ensures in
+    rw (r .0, r .1, f) (sym (counts-first s t h w (λ z. c .before .if1 .taken (c .before .before .number .ensures ∙ ap (λ (a : Answered). a .number) f ∙ z))))
+
+cast-d : tie.Need-cast-d
+cast-d c = search needs
+
+counts-inside-requires : tie.Need-counts-inside-requires
+counts-inside-requires c κs = sym (ap (λ (a : Answered). a .number) (c .before .before .before .before .before .before .fit .ensures)) ∙ sym (c .before .before .before .before .before .number .ensures) ∙ c .before .before .before .before .if1 .left
+
+clear-requires : tie.Need-clear-requires
+clear-requires c κs =
+    let f = fits _ _ _ _ (sym (ap (λ (a : Answered). a .number) (c .before .before .before .before .before .before .before .before .before .before .fit .ensures)) ∙ sym (c .before .before .before .before .before .before .before .before .before .number .ensures) ∙ c .before .before .before .before .before .before .before .before .if1 .left) in
+    let k = f .count .some in
+    let l = f .lengths .work in
+    record { even = f .count .even; some = omega arith; small = f .count .small; fits = omega arith }
+
+same-length : tie.Need-same-length
+same-length c = search needs
+
+same-length-2 : tie.Need-same-length-2
+same-length-2 c = search needs
+
+same-length-3 : tie.Need-same-length-3
+same-length-3 c = search needs
+
+returns-2 : tie.Need-returns-2
+returns-2 c = rw (c .before .before .clear .ensures) (c .before .before .before .before .before .before .counts-inside .ensures)
+
+pub counts-spec : {M : Type 1} → statement M
+counts-spec =
+    tie.close
+    (tie.spec
+    fit-requires
+    number-requires
+    refused-requires
+    returns
+    cast-d
+    counts-inside-requires
+    clear-requires
+    same-length
+    same-length-2
+    same-length-3
+    returns-2)

@@ -1,0 +1,78 @@
+-- No two outcomes satisfy the statement of a call.
+--   answerBack, answer-one == each case of an answer has its own number and place
+--   state-one              == each state has its own record
+--   left-one               == what a call leaves tells what it handed back and every lent slice
+use mathlib.Core.List.{List}
+use mathlib.Core.Path.{_≡_, refl, sym, ap, _∙_}
+use Prim.Native.Nat.{ℕ}
+use lib.Dec.{eqb}
+use Rattle.darts.specs.Answers.{Answer as Answered}
+use Rattle.darts.specs.Choose.{if_then_else_}
+use Rattle.darts.specs.State.{State as Stated}
+use Rattle.darts.specs.Calls.{After}
+use Rattle.pyramid.specs.Values.{answerOf, stateOf, left}
+use Rattle.pyramid.specs.declared.State.{State}
+use Rattle.pyramid.specs.declared.Answer.{Answer}
+use Rattle.pyramid.specs.declared.Answer.the-variants.{Done, NoDartCount, TooShort, NoPermutation, NoPyramid, EmptyKernel, TooManyLevels, NoEdge, GoneAlready, OneVertex, OneFace, WholePiece, NoLevel, NoFile, NoFlag}
+use Rattle.pyramid.specs.declared.Outcome.{Outcome}
+
+answerBack : Answered → Answer
+answerBack a =
+    if eqb (a .number) 0 then Done (a .place)
+    else if eqb (a .number) 1 then NoDartCount
+    else if eqb (a .number) 2 then TooShort (a .place)
+    else if eqb (a .number) 3 then NoPermutation (a .place)
+    else if eqb (a .number) 4 then NoPyramid
+    else if eqb (a .number) 5 then EmptyKernel
+    else if eqb (a .number) 6 then TooManyLevels
+    else if eqb (a .number) 7 then NoEdge (a .place)
+    else if eqb (a .number) 8 then GoneAlready (a .place)
+    else if eqb (a .number) 9 then OneVertex (a .place)
+    else if eqb (a .number) 10 then OneFace (a .place)
+    else if eqb (a .number) 11 then WholePiece (a .place)
+    else if eqb (a .number) 12 then NoLevel (a .place)
+    else if eqb (a .number) 13 then NoFile (a .place)
+    else NoFlag
+
+answer-back : (a : Answer) → answerBack (answerOf a) ≡ a
+unfolding answerBack
+answer-back (Done n) = refl
+answer-back NoDartCount = refl
+answer-back (TooShort n) = refl
+answer-back (NoPermutation d) = refl
+answer-back NoPyramid = refl
+answer-back EmptyKernel = refl
+answer-back TooManyLevels = refl
+answer-back (NoEdge i) = refl
+answer-back (GoneAlready i) = refl
+answer-back (OneVertex i) = refl
+answer-back (OneFace i) = refl
+answer-back (WholePiece i) = refl
+answer-back (NoLevel top) = refl
+answer-back (NoFile at) = refl
+answer-back NoFlag = refl
+
+pub answer-one : (a b : Answer) → answerOf a ≡ answerOf b → a ≡ b
+answer-one a b e = sym (answer-back a) ∙ ap answerBack e ∙ answer-back b
+
+pub state-one : (s z : State) → stateOf s ≡ stateOf z → s ≡ z
+state-one s z e = λ i. record { darts = e i .darts; operations = e i .operations; levels = e i .levels; ends = e i .ends }
+
+pub record Same (o p : Outcome) (t u h g w v : List ℕ) : Type 0 where
+  pub outcome : o ≡ p
+  pub table : t ≡ u
+  pub history : h ≡ g
+  pub work : w ≡ v
+
+-- NO TWO OUTCOMES OF START, REDUCE, SWEEP, UNDO, UNFOLD OR READ SATISFY ITS STATEMENT
+pub left-one : (o p : Outcome) (t u h g w v : List ℕ) (a : After) → left o t h w ≡ a → left p u g v ≡ a → Same o p t u h g w v
+left-one o p t u h g w v a d e =
+    let c : left o t h w ≡ left p u g v = d ∙ sym e in
+    let x = answer-one (o .answer) (p .answer) (ap (λ (z : After). z .answer) c) in
+    let y = state-one (o .state) (p .state) (ap (λ (z : After). z .state) c) in
+    record {
+      outcome = λ i. record { state = y i; answer = x i };
+      table = ap (λ (z : After). z .table) c;
+      history = ap (λ (z : After). z .history) c;
+      work = ap (λ (z : After). z .work) c;
+    }

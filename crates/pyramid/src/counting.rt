@@ -1,0 +1,88 @@
+// Counts of the present level.
+use crate::Answer;
+use crate::Counted;
+use crate::Counts;
+use crate::State;
+use crate::answers::fit;
+use area::base::clear;
+use engine::check::check;
+use engine::counting::cycles;
+ghost use mathlib.Core.Path.{_≡_};
+ghost use Prim.Native.Nat.{_≤_};
+ghost use lib.ListN.{length};
+ghost use Rattle.darts.specs.Calls.{counts as countsOf, fitting, cleared};
+ghost use Rattle.darts.specs.Counts.{noCounts, countsFrom};
+ghost use Rattle.pyramid.specs.Values.{stateOf, tallyOf, countsLeft};
+
+// The counts of so many surviving darts, vertices and faces: the Euler number is vertices minus edges plus faces.
+fn tallied(darts: u32, vertices: u32, faces: u32) -> Counts
+    requires { ⌜ (darts ≤ 65536) × (vertices ≤ 65536) × (faces ≤ 65536) ⌝ }
+    ensures { λ r. ⌜ tallyOf r ≡ countsFrom darts vertices faces ⌝ }
+{
+    let v = vertices as i32;
+    let e = (darts / 2) as i32;
+    let f = faces as i32;
+    let euler = v - e + f;
+    Counts {
+        darts: darts,
+        vertices: vertices,
+        faces: faces,
+        euler: euler,
+    }
+}
+
+// Refused counts: four zeros.
+fn refused(answer: Answer) -> Counted
+    ensures { λ r. ⌜ (r .answer ≡ answer) × (tallyOf (r .counts) ≡ noCounts) ⌝ }
+{
+    Counted {
+        answer: answer,
+        counts: Counts {
+            darts: 0,
+            vertices: 0,
+            faces: 0,
+            euler: 0,
+        },
+    }
+}
+
+impl State {
+    // The counts, before the work area is cleared.
+    fn counts_inside(self, table: &[u32], history: &[u32], work: &mut [u32]) -> Counted
+        requires { ⌜ fitting (self .darts) (length (now table)) (length (now history)) (length (now work)) .number ≡ 0 ⌝ }
+        ensures { λ r. ⌜
+            countsLeft r (now (table .entry)) (now (history .entry)) (cleared (self .darts) (now (work .exit)))
+            ≡ countsOf (stateOf self) (now (table .entry)) (now (history .entry)) (now (work .entry)) ⌝ }
+    {
+        let d = self.darts as usize;
+        let n = self.operations as usize;
+        let l = self.levels as usize;
+        let ends = self.ends;
+        if !check(work, d, n, l, ends, 2, table, history) {
+            return refused(Answer::NoPyramid);
+        }
+        let c = cycles(work, d, n);
+        let darts = (d - 2 * n) as u32;
+        let counts = tallied(darts, c.vertices as u32, c.faces as u32);
+        Counted {
+            answer: Answer::Done(0),
+            counts: counts,
+        }
+    }
+
+    // Surviving darts, vertices, faces and the Euler number of the present level.
+    pub fn counts(self, table: &mut [u32], history: &mut [u32], work: &mut [u32]) -> Counted
+        ensures { λ r. ⌜
+            countsLeft r (now (table .exit)) (now (history .exit)) (now (work .exit))
+            ≡ countsOf (stateOf self) (now (table .entry)) (now (history .entry)) (now (work .entry)) ⌝ }
+    {
+        let judged = fit(self.darts, table.len(), history.len(), work.len());
+        if judged.number() != 0 {
+            return refused(judged);
+        }
+        let d = self.darts as usize;
+        let c = self.counts_inside(table, history, work);
+        clear(work, d);
+        c
+    }
+}

@@ -1,0 +1,82 @@
+// One level more, one level less: the state's own numbers.
+use crate::Answer;
+use crate::Outcome;
+use crate::State;
+ghost use mathlib.Core.Path.{_≡_};
+ghost use Prim.Native.Nat.{_≤_, _<_};
+ghost use Rattle.darts.specs.Answers.{answered};
+ghost use Rattle.darts.specs.State.{raised as raisedOf};
+ghost use Rattle.darts.specs.Levels.{endBelow, lowered as loweredOf};
+ghost use Rattle.pyramid.specs.Values.{answerOf, stateOf, Hands};
+
+// The state as it was given, with an answer.
+pub fn kept(state: State, answer: Answer) -> Outcome
+    ensures { λ r. ⌜ Hands r (answerOf answer) (stateOf state) ⌝ }
+{
+    Outcome {
+        state: state,
+        answer: answer,
+    }
+}
+
+// The answer of the edge that stopped a run.
+pub fn refusal(number: u32, place: usize) -> Answer
+    requires { ⌜ (7 ≤ number) × (number ≤ 11) ⌝ }
+    ensures { λ r. ⌜ answerOf r ≡ answered number place ⌝ }
+{
+    match number {
+        7 => Answer::NoEdge(place),
+        8 => Answer::GoneAlready(place),
+        9 => Answer::OneVertex(place),
+        10 => Answer::OneFace(place),
+        _ => Answer::WholePiece(place),
+    }
+}
+
+impl State {
+    // One level more, which ends after so many operations.
+    pub(crate) fn raised(self, operations: u32) -> State
+        requires { ⌜ self .levels < 64 ⌝ }
+        ensures { λ r. ⌜ stateOf r ≡ raisedOf (stateOf self) operations ⌝ }
+    {
+        let at = self.levels as usize;
+        let mut ends = self.ends;
+        ends[at] = operations;
+        State {
+            darts: self.darts,
+            operations: operations,
+            levels: self.levels + 1,
+            ends: ends,
+        }
+    }
+
+    // The operation count before the last kernel.
+    pub(crate) fn end_below(self) -> u32
+        requires { ⌜ self .levels ≤ 64 ⌝ }
+        ensures { λ r. ⌜ r ≡ endBelow (stateOf self) ⌝ }
+    {
+        let l = self.levels;
+        if l <= 1 {
+            return 0;
+        }
+        let at = (l - 2) as usize;
+        self.ends[at]
+    }
+
+    // One level less.
+    pub(crate) fn lowered(self) -> State
+        requires { ⌜ (0 < self .levels) × (self .levels ≤ 64) ⌝ }
+        ensures { λ r. ⌜ stateOf r ≡ loweredOf (stateOf self) ⌝ }
+    {
+        let below = self.end_below();
+        let at = (self.levels - 1) as usize;
+        let mut ends = self.ends;
+        ends[at] = 0;
+        State {
+            darts: self.darts,
+            operations: below,
+            levels: self.levels - 1,
+            ends: ends,
+        }
+    }
+}

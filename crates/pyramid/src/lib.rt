@@ -1,0 +1,63 @@
+// The calls on a state: start, reduce, sweep, undo, unfold, counts.
+pub mod answers;
+mod counting;
+mod levels;
+mod reducing;
+mod starting;
+mod undoing;
+
+pub use starting::start;
+
+// D, the number of operations, the number of levels, and the operation count after each kernel, zero past the last level.
+#[repr(C)]
+pub struct State {
+    pub darts: u32,
+    pub operations: u32,
+    pub levels: u32,
+    pub ends: [u32; 64],
+}
+
+// The kind of a kernel.
+pub enum Kind {
+    Contract,
+    Remove,
+}
+
+// A case for each refusal, with its place where it has one.
+pub enum Answer {
+    Done(usize),
+    NoDartCount,
+    TooShort(usize),
+    NoPermutation(usize),
+    NoPyramid,
+    EmptyKernel,
+    TooManyLevels,
+    NoEdge(usize),
+    GoneAlready(usize),
+    OneVertex(usize),
+    OneFace(usize),
+    WholePiece(usize),
+    NoLevel(usize),
+    NoFile(usize),
+    NoFlag,
+}
+
+// What a call on a state hands back.
+pub struct Outcome {
+    pub state: State,
+    pub answer: Answer,
+}
+
+// Surviving darts, vertices, faces, and vertices minus edges plus faces.
+pub struct Counts {
+    pub darts: u32,
+    pub vertices: u32,
+    pub faces: u32,
+    pub euler: i32,
+}
+
+// What counts hand back.
+pub struct Counted {
+    pub answer: Answer,
+    pub counts: Counts,
+}
