@@ -2,6 +2,7 @@
 --   answerBack, answer-one == each case of an answer has its own number and place
 --   state-one              == each state has its own record
 --   left-one               == what a call leaves tells what it handed back and every lent slice
+--   counts-one             == the same of counts
 use mathlib.Core.List.{List}
 use mathlib.Core.Path.{_≡_, refl, sym, ap, _∙_}
 use Prim.Native.Nat.{ℕ}
@@ -9,12 +10,13 @@ use lib.Dec.{eqb}
 use Rattle.darts.specs.Answers.{Answer as Answered}
 use Rattle.darts.specs.Choose.{if_then_else_}
 use Rattle.darts.specs.State.{State as Stated}
-use Rattle.darts.specs.Calls.{After}
-use Rattle.pyramid.specs.Values.{answerOf, stateOf, left}
+use Rattle.darts.specs.Calls.{After, Counted as CountsAfter}
+use Rattle.pyramid.specs.Values.{answerOf, stateOf, left, countsLeft}
 use Rattle.pyramid.specs.declared.State.{State}
 use Rattle.pyramid.specs.declared.Answer.{Answer}
 use Rattle.pyramid.specs.declared.Answer.the-variants.{Done, NoDartCount, TooShort, NoPermutation, NoPyramid, EmptyKernel, TooManyLevels, NoEdge, GoneAlready, OneVertex, OneFace, WholePiece, NoLevel, NoFile, NoFlag}
 use Rattle.pyramid.specs.declared.Outcome.{Outcome}
+use Rattle.pyramid.specs.declared.Counted.{Counted}
 
 answerBack : Answered → Answer
 answerBack a =
@@ -75,4 +77,25 @@ left-one o p t u h g w v a d e =
       table = ap (λ (z : After). z .table) c;
       history = ap (λ (z : After). z .history) c;
       work = ap (λ (z : After). z .work) c;
+    }
+
+pub record SameCounts (o p : Counted) (t u h g w v : List ℕ) : Type 0 where
+  pub counted : o ≡ p
+  pub table : t ≡ u
+  pub history : h ≡ g
+  pub work : w ≡ v
+
+-- NO TWO OUTCOMES OF COUNTS SATISFY ITS STATEMENT
+pub counts-one : (o p : Counted) (t u h g w v : List ℕ) (a : CountsAfter) → countsLeft o t h w ≡ a → countsLeft p u g v ≡ a → SameCounts o p t u h g w v
+counts-one o p t u h g w v a d e =
+    let c : countsLeft o t h w ≡ countsLeft p u g v = d ∙ sym e in
+    let x = answer-one (o .answer) (p .answer) (ap (λ (z : CountsAfter). z .answer) c) in
+    record {
+      counted = λ i. record {
+        answer = x i;
+        counts = record { darts = c i .counts .darts; vertices = c i .counts .vertices; faces = c i .counts .faces; euler = c i .counts .euler };
+      };
+      table = ap (λ (z : CountsAfter). z .table) c;
+      history = ap (λ (z : CountsAfter). z .history) c;
+      work = ap (λ (z : CountsAfter). z .work) c;
     }
