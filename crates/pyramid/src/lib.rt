@@ -3,7 +3,7 @@ pub mod answers;
 mod counting;
 mod levels;
 mod reducing;
-mod starting;
+pub mod starting;
 mod undoing;
 
 pub use starting::start;

@@ -1,0 +1,173 @@
+-- `zonefile::numbering::list_survivors` meets its contract: after x turns of the loop the survivors below x are listed.
+--   Gathering D n w₀ w place x == that, with the place after the last one
+use mathlib.Core.Bool.{true, false}
+use mathlib.Core.List.{List, []}
+use mathlib.Core.Path.{_≡_, refl, sym, ap, _∙_}
+use Prim.Native.Nat.{ℕ, _+_, _-_, _*_, _≤_, _<_}
+use native.Mathlib.Numerals.{add-one}
+use native.Mathlib.Omega.{arith}
+use lib.ListN.{length, getD, set, take}
+use lib.Seq.{getD-take}
+use borrow.Author.Needs.{needs}
+use borrow.Author.Tests.{lt-ltb, le-ltb}
+use Rattle.darts.specs.Map.{survives, live}
+use Rattle.darts.specs.File.{survivors}
+use Rattle.area.specs.Area.{prev, there, pastIn}
+use Rattle.engine.specs.Held.{Area}
+use Rattle.engine.proofs.Area.{there-live}
+use Rattle.zonefile.specs.Laid.{Fitted, laid}
+use Rattle.zonefile.proofs.Laid.{laid-front}
+use Rattle.zonefile.proofs.FileOrder.{survivors-yes, survivors-no}
+use Rattle.zonefile.proofs.Fitted.{toward-all, toward-end, fitted-on, fitted-one}
+use Rattle.zonefile.proofs.numbering.list_survivors.Statement.{statement}
+use Rattle.zonefile.proofs.numbering.list_survivors.Tie as tie
+
+record Gathering (D n : ℕ) (w₀ w : List ℕ) (place x : ℕ) : Type 0 where
+  size : length w ≡ length w₀
+  bound : x ≤ D
+  near : place ≤ 2 * D + 2 * n + x
+  fitted : Fitted w₀ w (2 * D + 2 * n) place (survivors (pastIn D n w₀) x)
+
+begin : (D n : ℕ) (w : List ℕ) → Gathering D n w w (2 * D + 2 * n) 0
+unfolding survivors
+begin D n w = record { size = refl; bound = omega arith; near = omega arith; fitted = toward-end (toward-all [] w (2 * D + 2 * n)) refl }
+
+module _ {D n : ℕ} {w₀ w : List ℕ} {place x : ℕ} (A : Area D n w₀) (g : Gathering D n w₀ w place x) where
+  fits : 4 * D ≤ length w₀
+  fits = A .room .fits
+
+  few : 2 * n ≤ D
+  few = omega (arith, A .few)
+
+  inside : place ≤ length w₀
+  inside = let a = g .near in let b = g .bound in let l = fits in let t = few in omega arith
+
+  -- who survives stands where it stood
+  read : x < D → getD w (D + x) 0 ≡ prev D w₀ x
+  unfolding prev
+  read more =
+      let front : take (2 * D) w ≡ take (2 * D) w₀ =
+      ap (take (2 * D)) (g .fitted .slice inside)
+      ∙ laid-front w₀ (2 * D + 2 * n) (survivors (pastIn D n w₀) x) (record { fits = omega (arith, g .fitted .next, inside) }) (2 * D) (omega arith) in
+      sym (getD-take (2 * D) w (D + x) 0 (omega arith)) ∙ ap (λ (z : List ℕ). getD z (D + x) 0) front ∙ getD-take (2 * D) w₀ (D + x) 0 (omega arith)
+
+  told : x < D → there D w₀ x ≡ survives (pastIn D n w₀) x
+  unfolding live
+  told more = there-live A x more ∙ rw (lt-ltb x D more)
+
+  module _ (more : x < D) {r : ℕ} (e : r ≡ getD w (D + x) 0) where
+    stays : r < D → survives (pastIn D n w₀) x ≡ true
+    unfolding there
+    stays l = sym (told more) ∙ rw (← read more, ← e, lt-ltb r D l)
+
+    is-gone : D ≤ r → survives (pastIn D n w₀) x ≡ false
+    unfolding there
+    is-gone l = sym (told more) ∙ rw (← read more, ← e, le-ltb r D l)
+
+    one-more : r < D → Gathering D n w₀ (set w place x) (place + 1) (x + 1)
+    one-more l =
+        let a = g .near in
+        let z = g .size in
+        let f = fits in
+        let t = few in
+        record {
+          size = fitted-one w place x (omega arith) .size ∙ g .size;
+          bound = omega arith;
+          near = omega arith;
+          fitted = rw (add-one x, survivors-yes (pastIn D n w₀) x (stays l)) (fitted-on (g .fitted) (fitted-one w place x (omega arith)));
+        }
+
+    none-more : D ≤ r → Gathering D n w₀ w place (x + 1)
+    none-more l =
+        let a = g .near in
+        record { size = g .size; bound = omega arith; near = omega arith; fitted = rw (add-one x, survivors-no (pastIn D n w₀) x (is-gone l)) (g .fitted) }
+
+  ended : D ≤ x → w ≡ laid w₀ (2 * D + 2 * n) (survivors (pastIn D n w₀) D)
+  ended all =
+      let e : x ≡ D = omega (arith, g .bound) in
+      g .fitted .slice inside ∙ ap (λ (m : ℕ). laid w₀ (2 * D + 2 * n) (survivors (pastIn D n w₀) m)) e
+
+abbrev Inv-loop : tie.InvT-loop
+Inv-loop work₀ d n place₀ x₀ work place x = Gathering d n work₀ work place x
+
+abbrev μ-loop : tie.MeasureT-loop
+μ-loop work₀ d n place₀ x₀ work place x = d - x
+
+mul-place : tie.Need-mul-place Inv-loop μ-loop
+mul-place c = search needs
+
+mul-place-2 : tie.Need-mul-place-2 Inv-loop μ-loop
+mul-place-2 c = search needs
+
+add-place : tie.Need-add-place Inv-loop μ-loop
+add-place c = search needs
+
+loop-holds : tie.Need-loop-holds Inv-loop μ-loop
+loop-holds c = begin _ _ _
+
+add-at : tie.Need-add-at Inv-loop μ-loop
+add-at c = search needs
+
+at-requires : tie.Need-at-requires Inv-loop μ-loop
+at-requires c κs = search needs
+
+cast-work : tie.Need-cast-work Inv-loop μ-loop
+cast-work c = search needs
+
+mul-work : tie.Need-mul-work Inv-loop μ-loop
+mul-work c = search needs
+
+slice-write-work : tie.Need-slice-write-work Inv-loop μ-loop
+slice-write-work c = search needs
+
+add-place-2 : tie.Need-add-place-2 Inv-loop μ-loop
+add-place-2 c = search needs
+
+add-x : tie.Need-add-x Inv-loop μ-loop
+add-x c = search needs
+
+loop-less : tie.Need-loop-less Inv-loop μ-loop
+loop-less c = search needs
+
+loop-again : tie.Need-loop-again Inv-loop μ-loop
+loop-again c = one-more (c .before .before .before .before .before .before .pre) (c .before .before .before .before .loop .inv) (c .before .before .before .loop-test .taken) (c .before .at .ensures) (c .if1 .taken)
+
+add-x-2 : tie.Need-add-x-2 Inv-loop μ-loop
+add-x-2 c = search needs
+
+loop-less-2 : tie.Need-loop-less-2 Inv-loop μ-loop
+loop-less-2 c = search needs
+
+loop-again-2 : tie.Need-loop-again-2 Inv-loop μ-loop
+loop-again-2 c = none-more (c .before .before .before .before .before .before .pre) (c .before .before .before .before .loop .inv) (c .before .before .before .loop-test .taken) (c .before .at .ensures) (c .if1 .left)
+
+same-length : tie.Need-same-length Inv-loop μ-loop
+same-length c = c .before .loop .inv .size
+
+returns : tie.Need-returns Inv-loop μ-loop
+returns c = ended (c .before .before .before .pre) (c .before .loop .inv) (c .loop-test .left)
+
+pub list-survivors-spec : {M : Type 1} → statement M
+list-survivors-spec =
+    tie.close
+    (tie.spec
+    Inv-loop
+    μ-loop
+    mul-place
+    mul-place-2
+    add-place
+    loop-holds
+    add-at
+    at-requires
+    cast-work
+    mul-work
+    slice-write-work
+    add-place-2
+    add-x
+    loop-less
+    loop-again
+    add-x-2
+    loop-less-2
+    loop-again-2
+    same-length
+    returns)

@@ -1,0 +1,10 @@
+-- What the writer leaves.
+--   filed a t h w o == the answer, and the lent slices
+use mathlib.Core.List.{List}
+use Prim.Native.Nat.{ℕ}
+use Rattle.darts.specs.Calls.{Written}
+use Rattle.pyramid.specs.Values.{answerOf}
+use Rattle.pyramid.specs.declared.Answer.{Answer}
+
+abbrev pub filed : Answer → List ℕ → List ℕ → List ℕ → List ℕ → Written
+filed a t h w o = record { answer = answerOf a; table = t; history = h; work = w; output = o }

@@ -1,0 +1,10 @@
+pub mod Found
+pub mod Kernels
+pub mod Laid
+pub mod Lines
+pub mod Numbering
+pub mod Pairs
+pub mod Parsed
+pub mod Settled
+pub mod Writing
+pub mod Filed
