@@ -1,0 +1,122 @@
+// The program `levels`: a line for each level of the file on standard input, base first, and `end=ok`; or one line that says
+// why the file is refused.
+use libc::STDIN_FILENO;
+use pyramid::Answer;
+use pyramid::Counts;
+use pyramid::State;
+ghost use Rattle.page.specs.Waits.{Waits};
+
+// The line of a refused file.
+fn refusal(answer: Answer, page: &mut [u8]) -> usize
+    requires { ⌜ Waits 0 (now page) ⌝ }
+    ensures { λ r. ⌜ Waits r (now (page .exit)) ⌝ }
+{
+    let number = page::field(page, 0, b"refusal=", answer.number() as u64);
+    let place = page::field(page, number, b" place=", answer.place() as u64);
+    page::text(page, place, b"\n")
+}
+
+// Level k of an accepted file. It is read anew for each level, since unfolding changes the tables.
+fn unfolded(
+    file: &[u8],
+    k: u32,
+    table: &mut [u32],
+    history: &mut [u32],
+    work: &mut [u32],
+) -> State {
+    let read = zonefile::read(file, table, history, work);
+    let top = read.state;
+    let outcome = top.unfold(k, table, history, work);
+    outcome.state
+}
+
+// The counts of level k.
+fn counts_at(
+    file: &[u8],
+    k: u32,
+    table: &mut [u32],
+    history: &mut [u32],
+    work: &mut [u32],
+) -> Counts {
+    let state = unfolded(file, k, table, history, work);
+    let counted = state.counts(table, history, work);
+    counted.counts
+}
+
+// The line of level k.
+fn level(k: u32, counts: Counts, page: &mut [u8], used: usize) -> usize
+    requires { ⌜ Waits used (now page) ⌝ }
+    ensures { λ r. ⌜ Waits r (now (page .exit)) ⌝ }
+{
+    let number = page::field(page, used, b"level=", k as u64);
+    let rest = page::counts(
+        page,
+        number,
+        counts.darts,
+        counts.vertices,
+        counts.faces,
+        counts.euler,
+    );
+    page::text(page, rest, b"\n")
+}
+
+// The lines of the levels from the base to the top.
+fn levels(
+    file: &[u8],
+    top: u32,
+    table: &mut [u32],
+    history: &mut [u32],
+    work: &mut [u32],
+    page: &mut [u8],
+) -> usize
+    requires { ⌜ Waits 0 (now page) ⌝ }
+    ensures { λ r. ⌜ Waits r (now (page .exit)) ⌝ }
+{
+    let mut used = 0;
+    for k in 0..=top {
+        let counts = counts_at(file, k, table, history, work);
+        used = level(k, counts, page, used);
+    }
+    used
+}
+
+// All lines of a file.
+fn report(
+    file: &[u8],
+    table: &mut [u32],
+    history: &mut [u32],
+    work: &mut [u32],
+    page: &mut [u8],
+) -> usize
+    requires { ⌜ Waits 0 (now page) ⌝ }
+    ensures { λ r. ⌜ Waits r (now (page .exit)) ⌝ }
+{
+    let read = zonefile::read(file, table, history, work);
+    let answer = read.answer;
+    if answer.number() != 0 {
+        return refusal(answer, page);
+    }
+    let state = read.state;
+    let used = levels(file, state.levels, table, history, work, page);
+    page::text(page, used, b"end=ok\n")
+}
+
+// The tables for 4,096 darts: "at least D numbers, the history with D/2 and the work area with 4D".
+fn print(file: &[u8]) {
+    let mut table = [0u32; 4096];
+    let mut history = [0u32; 2048];
+    let mut work = [0u32; 16384];
+    let mut page = [0u8; 4096];
+    let used = report(file, &mut table, &mut history, &mut work, &mut page);
+    page::flush(&page, used);
+}
+
+// A file in good form for at most 4,096 darts has at most 36,255 bytes: 10 + 11 + 10 in the first three lines, 64 lines
+// of at most 22 for the kernels and 2,048 of at most 17 for the pairs. A longer one has its first fault among its first
+// 36,256: a byte out of form, a value that its line's end refuses (more than 4,096 darts or 64 levels are such values),
+// or the byte after the last line. The answer and its place are those of the bytes up to there, so 65,536 of them are enough.
+fn main() {
+    let mut file = io::large_buffer();
+    let n = io::read_full(STDIN_FILENO, &mut file);
+    print(&file[..n]);
+}

@@ -1,0 +1,2 @@
+-- Waits == how much of a page waits to be written
+pub mod Waits
