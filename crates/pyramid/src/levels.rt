@@ -10,7 +10,7 @@ ghost use Rattle.darts.specs.Levels.{endBelow, lowered as loweredOf};
 ghost use Rattle.pyramid.specs.Values.{answerOf, stateOf, Hands};
 
 // The state as it was given, with an answer.
-pub fn kept(state: State, answer: Answer) -> Outcome
+pub(crate) fn kept(state: State, answer: Answer) -> Outcome
     ensures { λ r. ⌜ Hands r (answerOf answer) (stateOf state) ⌝ }
 {
     Outcome {
@@ -20,7 +20,7 @@ pub fn kept(state: State, answer: Answer) -> Outcome
 }
 
 // The answer of the edge that stopped a run.
-pub fn refusal(number: u32, place: usize) -> Answer
+pub(crate) fn refusal(number: u32, place: usize) -> Answer
     requires { ⌜ (7 ≤ number) × (number ≤ 11) ⌝ }
     ensures { λ r. ⌜ answerOf r ≡ answered number place ⌝ }
 {

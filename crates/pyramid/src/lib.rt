@@ -4,6 +4,7 @@ mod counting;
 mod levels;
 mod reducing;
 pub mod starting;
+mod sweeping;
 mod undoing;
 
 pub use starting::start;

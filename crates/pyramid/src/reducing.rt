@@ -1,4 +1,4 @@
-// Reduce by a kernel, and the sweep.
+// Reduce by a kernel.
 use crate::Answer;
 use crate::Kind;
 use crate::Outcome;
@@ -11,11 +11,10 @@ use engine::Ran;
 use engine::check::check;
 use engine::kernel::run;
 use engine::store::store;
-use engine::sweep::sweep;
 ghost use mathlib.Core.Path.{_≡_};
 ghost use Prim.Native.Nat.{ℕ, _+_, _≤_, _<_};
 ghost use lib.ListN.{length};
-ghost use Rattle.darts.specs.Calls.{reduceBy, sweepBy, fitting, pastOf, handsBack, cleared};
+ghost use Rattle.darts.specs.Calls.{reduceBy, fitting, pastOf, handsBack, cleared};
 ghost use Rattle.darts.specs.Operation.{kindOf as kindOfBit};
 ghost use Rattle.darts.specs.State.{levelled};
 ghost use Rattle.engine.specs.Runs.{ranIn};
@@ -34,7 +33,13 @@ fn bit(kind: Kind) -> usize
 
 impl State {
     // One level more by a run that has gone well, or the answer that stopped it. The work area holds the map after the run.
-    fn level(self, ran: Ran, table: &mut [u32], history: &mut [u32], work: &[u32]) -> Outcome
+    pub(crate) fn level(
+        self,
+        ran: Ran,
+        table: &mut [u32],
+        history: &mut [u32],
+        work: &[u32],
+    ) -> Outcome
         requires { ⌜ Halts (stateOf self) ran (now work) (length (now table)) (length (now history)) ⌝ }
         ensures { λ r. ⌜
             left r (now (table .exit)) (now (history .exit)) (cleared (self .darts) (now (work .entry)))
@@ -86,27 +91,6 @@ impl State {
         self.level(ran, table, history, work)
     }
 
-    // The sweep, before the work area is cleared.
-    fn sweep_inside(self, table: &mut [u32], history: &mut [u32], work: &mut [u32]) -> Outcome
-        requires { ⌜ fitting (self .darts) (length (now table)) (length (now history)) (length (now work)) .number ≡ 0 ⌝ }
-        ensures { λ r. ⌜
-            left r (now (table .exit)) (now (history .exit)) (cleared (self .darts) (now (work .exit)))
-            ≡ sweepBy (stateOf self) (now (table .entry)) (now (history .entry)) (now (work .entry)) ⌝ }
-    {
-        let d = self.darts as usize;
-        let n = self.operations as usize;
-        let l = self.levels as usize;
-        let ends = self.ends;
-        if !check(work, d, n, l, ends, 0, table, history) {
-            return kept(self, Answer::NoPyramid);
-        }
-        if 64 <= l {
-            return kept(self, Answer::TooManyLevels);
-        }
-        let ran = sweep(work, d, n);
-        self.level(ran, table, history, work)
-    }
-
     // One level more: the kernel's edges contracted, or removed, in the listed order.
     pub fn reduce(
         self,
@@ -126,22 +110,6 @@ impl State {
         }
         let d = self.darts as usize;
         let o = self.reduce_inside(bit(kind), kernel, table, history, work);
-        clear(work, d);
-        o
-    }
-
-    // One level more: each empty loop that is no whole piece removed, in one pass by rising edge.
-    pub fn sweep(self, table: &mut [u32], history: &mut [u32], work: &mut [u32]) -> Outcome
-        ensures { λ r. ⌜
-            left r (now (table .exit)) (now (history .exit)) (now (work .exit))
-            ≡ sweepBy (stateOf self) (now (table .entry)) (now (history .entry)) (now (work .entry)) ⌝ }
-    {
-        let judged = fit(self.darts, table.len(), history.len(), work.len());
-        if judged.number() != 0 {
-            return kept(self, judged);
-        }
-        let d = self.darts as usize;
-        let o = self.sweep_inside(table, history, work);
         clear(work, d);
         o
     }

@@ -33,14 +33,15 @@ fn list_survivors(work: &mut [u32], d: usize, n: usize)
     ensures { λ _. ⌜ now (work .exit) ≡ laid (now (work .entry)) (2 * d + 2 * n) (survivors (pastIn d n (now (work .entry))) d) ⌝ }
 {
     let mut place = 2 * d + 2 * n;
-    let mut x = 0;
-    while x < d {
+    let mut left = d;
+    while 0 < left {
+        let x = d - left;
         if at(work, d + x) < d {
             work[place] = x as u32;
             place += 1;
-            x += 1;
+            left -= 1;
         } else {
-            x += 1;
+            left -= 1;
         }
     }
 }

@@ -1,8 +1,9 @@
--- `zonefile::numbering::list_survivors` meets its contract: after x turns of the loop the survivors below x are listed.
+-- `zonefile::numbering::list_survivors` meets its contract: with x turns of the loop done the survivors below x are listed.
 --   Gathering D n w₀ w place x == that, with the place after the last one
+--   turned                     == one turn less is left
 use mathlib.Core.Bool.{true, false}
 use mathlib.Core.List.{List, []}
-use mathlib.Core.Path.{_≡_, refl, sym, ap, _∙_}
+use mathlib.Core.Path.{_≡_, refl, sym, ap, _∙_, subst}
 use Prim.Native.Nat.{ℕ, _+_, _-_, _*_, _≤_, _<_}
 use native.Mathlib.Numerals.{add-one}
 use native.Mathlib.Omega.{arith}
@@ -87,11 +88,16 @@ module _ {D n : ℕ} {w₀ w : List ℕ} {place x : ℕ} (A : Area D n w₀) (g 
       let e : x ≡ D = omega (arith, g .bound) in
       g .fitted .slice inside ∙ ap (λ (m : ℕ). laid w₀ (2 * D + 2 * n) (survivors (pastIn D n w₀) m)) e
 
+turned : {D n : ℕ} {w₀ w : List ℕ} {place left : ℕ} → 0 < left → left ≤ D → Gathering D n w₀ w place (D - left + 1)
+    → (left - 1 ≤ D) × Gathering D n w₀ w place (D - (left - 1))
+turned {D} {n} {w₀} {w} {place} {left} more l g =
+    let e : D - left + 1 ≡ D - (left - 1) = omega arith in (omega arith, subst (Gathering D n w₀ w place) e g)
+
 abbrev Inv-loop : tie.InvT-loop
-Inv-loop work₀ d n place₀ x₀ work place x = Gathering d n work₀ work place x
+Inv-loop work₀ d n place₀ left₀ work place left = (left ≤ d) × Gathering d n work₀ work place (d - left)
 
 abbrev μ-loop : tie.MeasureT-loop
-μ-loop work₀ d n place₀ x₀ work place x = d - x
+μ-loop work₀ d n place₀ left₀ work place left = left
 
 mul-place : tie.Need-mul-place Inv-loop μ-loop
 mul-place c = search needs
@@ -103,7 +109,13 @@ add-place : tie.Need-add-place Inv-loop μ-loop
 add-place c = search needs
 
 loop-holds : tie.Need-loop-holds Inv-loop μ-loop
-loop-holds c = begin _ _ _
+loop-holds c =
+    let g = c .before .args in
+    let e : 0 ≡ g .d - g .d = omega arith in
+    (omega arith, subst (Gathering (g .d) (g .n) (g .work .now) (g .work .now) (2 * g .d + 2 * g .n)) e (begin (g .d) (g .n) (g .work .now)))
+
+sub-x : tie.Need-sub-x Inv-loop μ-loop
+sub-x c = search needs
 
 add-at : tie.Need-add-at Inv-loop μ-loop
 add-at c = search needs
@@ -123,29 +135,35 @@ slice-write-work c = search needs
 add-place-2 : tie.Need-add-place-2 Inv-loop μ-loop
 add-place-2 c = search needs
 
-add-x : tie.Need-add-x Inv-loop μ-loop
-add-x c = search needs
+sub-left : tie.Need-sub-left Inv-loop μ-loop
+sub-left c = search needs
 
 loop-less : tie.Need-loop-less Inv-loop μ-loop
 loop-less c = search needs
 
 loop-again : tie.Need-loop-again Inv-loop μ-loop
-loop-again c = one-more (c .before .before .before .before .before .before .pre) (c .before .before .before .before .loop .inv) (c .before .before .before .loop-test .taken) (c .before .at .ensures) (c .if1 .taken)
+loop-again c =
+    let k = c .before .before .before .before .loop .inv in
+    let more = c .before .before .before .loop-test .taken in
+    turned more (k .0) (one-more (c .before .before .before .before .before .before .pre) (k .1) (omega (arith, more, k .0)) (c .before .at .ensures) (c .if1 .taken))
 
-add-x-2 : tie.Need-add-x-2 Inv-loop μ-loop
-add-x-2 c = search needs
+sub-left-2 : tie.Need-sub-left-2 Inv-loop μ-loop
+sub-left-2 c = search needs
 
 loop-less-2 : tie.Need-loop-less-2 Inv-loop μ-loop
 loop-less-2 c = search needs
 
 loop-again-2 : tie.Need-loop-again-2 Inv-loop μ-loop
-loop-again-2 c = none-more (c .before .before .before .before .before .before .pre) (c .before .before .before .before .loop .inv) (c .before .before .before .loop-test .taken) (c .before .at .ensures) (c .if1 .left)
+loop-again-2 c =
+    let k = c .before .before .before .before .loop .inv in
+    let more = c .before .before .before .loop-test .taken in
+    turned more (k .0) (none-more (c .before .before .before .before .before .before .pre) (k .1) (omega (arith, more, k .0)) (c .before .at .ensures) (c .if1 .left))
 
 same-length : tie.Need-same-length Inv-loop μ-loop
-same-length c = c .before .loop .inv .size
+same-length c = c .before .loop .inv .1 .size
 
 returns : tie.Need-returns Inv-loop μ-loop
-returns c = ended (c .before .before .before .pre) (c .before .loop .inv) (c .loop-test .left)
+returns c = ended (c .before .before .before .pre) (c .before .loop .inv .1) (omega (arith, c .loop-test .left, c .before .loop .inv .0))
 
 pub list-survivors-spec : {M : Type 1} → statement M
 list-survivors-spec =
@@ -157,16 +175,17 @@ list-survivors-spec =
     mul-place-2
     add-place
     loop-holds
+    sub-x
     add-at
     at-requires
     cast-work
     mul-work
     slice-write-work
     add-place-2
-    add-x
+    sub-left
     loop-less
     loop-again
-    add-x-2
+    sub-left-2
     loop-less-2
     loop-again-2
     same-length
