@@ -1,0 +1,21 @@
+-- `examples::two_darts`: K10, as computed.
+use Rattle.worked.proofs.Computed.{computed}
+use borrow.Author.Needs.{needs}
+use Rattle.worked.proofs.examples.two_darts.Statement.{statement}
+use Rattle.worked.proofs.examples.two_darts.Tie as tie
+
+example-requires : tie.Need-example-requires
+example-requires c κs = computed .9
+
+example-requires-2 : tie.Need-example-requires-2
+example-requires-2 c κs = computed .10
+
+example-requires-3 : tie.Need-example-requires-3
+example-requires-3 c κs = computed .11
+
+returns : tie.Need-returns
+returns c = search needs
+
+pub two-darts-spec : {M : Type 1} → statement M
+two-darts-spec =
+    tie.close (tie.spec example-requires example-requires-2 example-requires-3 returns)

@@ -1,0 +1,31 @@
+-- Calls one after another, and what a worked example says of the last.
+--   stepped s a         == the call of a step on what the call before it left
+--   rowIs a n p t u h v == answer number n and place p, table u and history v
+--   example ..          == the same of start and three steps, with rubbish in the work area
+use mathlib.Core.Bool.{Bool, _&&_}
+use mathlib.Core.List.{List, [], _∷_}
+use Prim.Native.Nat.{ℕ}
+use lib.Dec.{eqb}
+use lib.ListN.{replicate}
+use Rattle.darts.specs.Answers.{Answer}
+use Rattle.darts.specs.Calls.{After, start, reduceBy, sweepBy, undoBy}
+use Rattle.darts.specs.Pyramid.{sameNumbers}
+use Rattle.pyramid.specs.Values.{kindOf}
+use Rattle.worked.specs.declared.chain.Step.{Step}
+use Rattle.worked.specs.declared.chain.Step.the-variants.{Stay, One, Two, Sweep, Undo}
+
+abbrev pub stepped : Step → After → After
+stepped Stay a = a
+stepped (One k e) a = reduceBy (kindOf k) (e ∷ []) (a .state) (a .table) (a .history) (a .work)
+stepped (Two k e f) a = reduceBy (kindOf k) (e ∷ f ∷ []) (a .state) (a .table) (a .history) (a .work)
+stepped Sweep a = sweepBy (a .state) (a .table) (a .history) (a .work)
+stepped Undo a = undoBy (a .state) (a .table) (a .history) (a .work)
+
+unfoldable pub rowIs : Answer → ℕ → ℕ → List ℕ → List ℕ → List ℕ → List ℕ → Bool
+rowIs a n p t u h v = eqb (a .number) n && (eqb (a .place) p && (sameNumbers t u && sameNumbers h v))
+
+abbrev pub leftIs : After → ℕ → ℕ → List ℕ → List ℕ → Bool
+leftIs a n p u v = rowIs (a .answer) n p (a .table) u (a .history) v
+
+abbrev pub example : ℕ → List ℕ → Step → Step → Step → ℕ → ℕ → List ℕ → List ℕ → Bool
+example D base a b c n p u v = leftIs (stepped c (stepped b (stepped a (start D base (replicate 4 0) (replicate 32 9))))) n p u v

@@ -1,0 +1,199 @@
+// The worked examples, each from its own base.
+use crate::chain::Step;
+use crate::chain::chain;
+use crate::rows::is_row;
+use check::expect;
+use pyramid::Kind;
+ghost use mathlib.Core.Bool.{true};
+ghost use mathlib.Core.Path.{_≡_};
+ghost use Rattle.worked.specs.Chain.{example as exampleOf};
+
+// Start from a table of eight places, three calls, and what the last leaves: its answer's number and place, the table and the history. The work area starts
+// with rubbish in it.
+fn example(
+    darts: u32,
+    base: [u32; 8],
+    first: Step,
+    second: Step,
+    third: Step,
+    number: u32,
+    place: usize,
+    entries: [u32; 8],
+    past: [u32; 4],
+)
+    requires { ⌜ exampleOf darts base first second third number place entries past ≡ true ⌝ }
+{
+    let mut table = base;
+    let mut history = [0u32; 4];
+    let mut work = [9u32; 32];
+    let outcome = chain(
+        darts,
+        first,
+        second,
+        third,
+        &mut table,
+        &mut history,
+        &mut work,
+    );
+    expect(is_row(outcome, number, place, &table, &entries, &history, &past));
+}
+
+// K3, K5 and K11: one kernel on map T.
+pub fn kernels() {
+    let t = [5u32, 2, 1, 4, 6, 0, 3, 7];
+    let k3 = [5u32, 2, 1, 4, 3, 0, 3, 7];
+    let k5 = [5u32, 2, 5, 4, 6, 4, 5, 7];
+    example(
+        8,
+        t,
+        Step::One(Kind::Contract, 3),
+        Step::Stay,
+        Step::Stay,
+        0,
+        0,
+        k3,
+        [13, 0, 0, 0],
+    );
+    example(
+        8,
+        t,
+        Step::Two(Kind::Contract, 0, 1),
+        Step::Stay,
+        Step::Stay,
+        0,
+        0,
+        k5,
+        [1, 5, 0, 0],
+    );
+    example(
+        8,
+        t,
+        Step::Two(Kind::Remove, 0, 0),
+        Step::Stay,
+        Step::Stay,
+        8,
+        1,
+        t,
+        [0, 0, 0, 0],
+    );
+}
+
+// K7 after K5: edge 2 cannot be contracted; a removal turns round, and so does the sweep, which an undo takes back to K5.
+pub fn sweep_and_undo() {
+    let t = [5u32, 2, 1, 4, 6, 0, 3, 7];
+    let k5 = [5u32, 2, 5, 4, 6, 4, 5, 7];
+    let k7 = [5u32, 2, 5, 4, 6, 4, 6, 7];
+    let zones = Step::Two(Kind::Contract, 0, 1);
+    example(
+        8,
+        t,
+        zones,
+        Step::One(Kind::Contract, 2),
+        Step::Stay,
+        9,
+        0,
+        k5,
+        [1, 5, 0, 0],
+    );
+    example(
+        8,
+        t,
+        zones,
+        Step::One(Kind::Remove, 2),
+        Step::Stay,
+        0,
+        0,
+        k7,
+        [1, 5, 10, 0],
+    );
+    example(
+        8,
+        t,
+        zones,
+        Step::Sweep,
+        Step::Stay,
+        0,
+        0,
+        k7,
+        [1, 5, 10, 0],
+    );
+    example(
+        8,
+        t,
+        zones,
+        Step::Sweep,
+        Step::Undo,
+        0,
+        0,
+        k5,
+        [1, 5, 10, 0],
+    );
+}
+
+// K8 after K7: edge 3 is all that is left, so it is a whole piece to a contraction, and a removal finds one face on both sides.
+pub fn refused_at_the_top() {
+    let t = [5u32, 2, 1, 4, 6, 0, 3, 7];
+    let k7 = [5u32, 2, 5, 4, 6, 4, 6, 7];
+    let zones = Step::Two(Kind::Contract, 0, 1);
+    example(
+        8,
+        t,
+        zones,
+        Step::Sweep,
+        Step::One(Kind::Contract, 3),
+        11,
+        0,
+        k7,
+        [1, 5, 10, 0],
+    );
+    example(
+        8,
+        t,
+        zones,
+        Step::Sweep,
+        Step::One(Kind::Remove, 3),
+        10,
+        0,
+        k7,
+        [1, 5, 10, 0],
+    );
+}
+
+// K10: two darts, in a table that goes on behind them.
+pub fn two_darts() {
+    let repeats = [1u32, 1, 9, 9, 9, 9, 9, 9];
+    let loop_alone = [1u32, 0, 9, 9, 9, 9, 9, 9];
+    example(
+        2,
+        repeats,
+        Step::Stay,
+        Step::Stay,
+        Step::Stay,
+        3,
+        1,
+        repeats,
+        [0, 0, 0, 0],
+    );
+    example(
+        2,
+        loop_alone,
+        Step::Stay,
+        Step::Stay,
+        Step::Stay,
+        0,
+        0,
+        loop_alone,
+        [0, 0, 0, 0],
+    );
+    example(
+        2,
+        loop_alone,
+        Step::One(Kind::Remove, 0),
+        Step::Stay,
+        Step::Stay,
+        11,
+        0,
+        loop_alone,
+        [0, 0, 0, 0],
+    );
+}

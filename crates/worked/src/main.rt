@@ -1,0 +1,12 @@
+// The worked examples K3, K5, K7, K8, K10 and K11 of document 01, made by the calls one after another. `expect` asks a proof of each result, and stops the
+// run where one fails.
+mod chain;
+mod examples;
+mod rows;
+
+fn main() {
+    examples::kernels();
+    examples::sweep_and_undo();
+    examples::refused_at_the_top();
+    examples::two_darts();
+}

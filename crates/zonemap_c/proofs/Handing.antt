@@ -1,0 +1,30 @@
+-- What C finds is what the call leaves.
+--   answers         == the answer
+--   handed          == an outcome and the lent slices
+--   counted, written == the same of counts and of the writer
+use mathlib.Core.List.{List}
+use mathlib.Core.Path.{_≡_, _∙_}
+use Prim.Native.Nat.{ℕ}
+use Rattle.darts.specs.Answers.{answered}
+use Rattle.darts.specs.Calls.{After, Counted as CountsAfter, Written, leaves}
+use Rattle.darts.specs.Counts.{Counts as Tally}
+use Rattle.pyramid.specs.Values.{answerOf, tallyOf, left, countsLeft}
+use Rattle.pyramid.specs.declared.Answer.{Answer}
+use Rattle.pyramid.specs.declared.Counted.{Counted}
+use Rattle.pyramid.specs.declared.Outcome.{Outcome}
+use Rattle.zonefile.specs.Filed.{filed}
+use Rattle.zonemap_c.specs.Numbers.{Answered, Handed, leftIn, countedIn, filedIn}
+
+pub answers : {a : Answer} {n p : ℕ} → Answered a n p → answered n p ≡ answerOf a
+answers g = λ i. answered (g .number i) (g .place i)
+
+module _ {n p : ℕ} {t h w : List ℕ} where
+  pub handed : {o : Outcome} {a : List ℕ} {z : After} → Handed o n p a → left o t h w ≡ z → leftIn n p a t h w ≡ z
+  handed g e = (λ i. leaves (answers (g .answer) i) (g .state i) t h w) ∙ e
+
+  pub counted : {o : Counted} {y : Tally} {z : CountsAfter} → Answered (o .answer) n p → y ≡ tallyOf (o .counts) → countsLeft o t h w ≡ z
+      → countedIn n p y t h w ≡ z
+  counted g k e = (λ i. record { answer = answers g i; counts = k i; table = t; history = h; work = w }) ∙ e
+
+  pub written : {a : Answer} {o : List ℕ} {z : Written} → Answered a n p → filed a t h w o ≡ z → filedIn n p t h w o ≡ z
+  written {o = o} g e = (λ i. record { answer = answers g i; table = t; history = h; work = w; output = o }) ∙ e

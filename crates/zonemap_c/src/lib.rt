@@ -1,0 +1,4 @@
+// The calls for C (include/zonemap.h): each takes the state from its 67 numbers, makes the call, and puts back what it hands back.
+pub mod bytes;
+pub mod calls;
+mod state;

@@ -1,0 +1,92 @@
+// The lines of a script, one after another.
+use crate::calls::call;
+use crate::held::Held;
+use crate::held::nothing;
+use crate::prints;
+use crate::rooms;
+use crate::rooms::HistoryRoom;
+use crate::rooms::NumbersRoom;
+use crate::rooms::OutputRoom;
+use crate::rooms::TableRoom;
+use crate::rooms::WorkRoom;
+use crate::scan::Line;
+use crate::scan::next_line;
+use crate::settings::set;
+use crate::words::BYTES;
+use crate::words::SHOW;
+use crate::words::START;
+ghost use Rattle.zones.specs.Scanned.{Scanned};
+ghost use Rattle.zones.specs.Within.{Within};
+
+// Does what a line asks for, by its group: what is held after it.
+fn obey(
+    held: Held,
+    line: Line,
+    script: &[u8],
+    numbers: &NumbersRoom,
+    table: &mut TableRoom,
+    history: &mut HistoryRoom,
+    work: &mut WorkRoom,
+    output: &mut OutputRoom,
+) -> Held
+    requires { ⌜ Within held × Scanned (now script) line ⌝ }
+    ensures { λ r. ⌜ Within r ⌝ }
+{
+    if line.command == 0 {
+        return held.judged(true);
+    }
+    if line.command < START {
+        return set(held, line, numbers, table, history, work);
+    }
+    if line.command < SHOW {
+        return call(held, line, script, numbers, table, history, work, output);
+    }
+    if line.command == BYTES {
+        prints::bytes(output, held.written);
+        return held;
+    }
+    prints::show(held, table, history);
+    held
+}
+
+// Each line is done before the next is looked at. A line has a line feed at least, so there are no more lines than bytes.
+fn each(
+    script: &[u8],
+    numbers: &mut NumbersRoom,
+    table: &mut TableRoom,
+    history: &mut HistoryRoom,
+    work: &mut WorkRoom,
+    output: &mut OutputRoom,
+) {
+    let mut held = nothing();
+    let mut at = 0;
+    for k in 0..script.len() {
+        if at == script.len() {
+            return;
+        }
+        let next = next_line(script, at, numbers);
+        held = obey(held, next, script, numbers, table, history, work, output);
+        if held.wrong {
+            prints::error(k + 1);
+            return;
+        }
+        at = next.next;
+    }
+}
+
+// Runs a script over rooms of zeros.
+pub fn run(script: &[u8]) {
+    let mut numbers = rooms::numbers();
+    let mut table = rooms::table();
+    let mut history = rooms::history();
+    let mut work = rooms::work();
+    let mut output = rooms::output();
+    each(
+        script,
+        &mut numbers,
+        &mut table,
+        &mut history,
+        &mut work,
+        &mut output,
+    );
+}

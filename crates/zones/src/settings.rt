@@ -1,0 +1,121 @@
+// The commands that set the state, the rooms, and how much of them is lent.
+use crate::held::Held;
+use crate::rooms::HistoryRoom;
+use crate::rooms::NumbersRoom;
+use crate::rooms::TableRoom;
+use crate::rooms::WorkRoom;
+use crate::scan::Line;
+use crate::sizes::size;
+use crate::words::FILL;
+use crate::words::HISTORY;
+use crate::words::LEND;
+use crate::words::TABLE;
+use crate::words::WORK;
+use pyramid::State;
+ghost use Prim.Native.Nat.{_+_, _≤_};
+ghost use lib.ListN.{length};
+ghost use Rattle.zones.specs.Within.{Within};
+
+// "how much of table, history and work later calls are lent": each leaves four numbers of its room.
+fn lend(held: Held, table: usize, history: usize, work: usize) -> Held
+    requires { ⌜ Within held ⌝ }
+    ensures { λ r. ⌜ Within r ⌝ }
+{
+    if 65536 < table {
+        return held.judged(true);
+    }
+    if 32768 < history {
+        return held.judged(true);
+    }
+    if 262156 < work {
+        return held.judged(true);
+    }
+    let state = held.state;
+    Held {
+        state: state,
+        table: table,
+        history: history,
+        work: work,
+        written: held.written,
+        wrong: false,
+    }
+}
+
+// The numbers after the first go into a room, from a place on.
+fn lay(room: &mut [u32], place: usize, numbers: &NumbersRoom, count: usize)
+    requires { ⌜ (place + count ≤ length (now room) + 1) × (count ≤ 262161) ⌝ }
+{
+    let mut i = 1;
+    while i < count {
+        room[place + i - 1] = numbers[i];
+        i += 1;
+    }
+}
+
+// "puts the numbers into the room from place I on": answers whether one would lie outside it, where none is put.
+fn put(room: &mut [u32], numbers: &NumbersRoom, count: usize) -> bool
+    requires { ⌜ count ≤ 262161 ⌝ }
+{
+    if count <= 1 {
+        return false;
+    }
+    let place = size(numbers[0]);
+    if room.len() < place + (count - 1) {
+        return true;
+    }
+    lay(room, place, numbers, count);
+    false
+}
+
+// "puts V into the work room's every number"
+fn fill(work: &mut WorkRoom, value: u32) {
+    let mut i = 0;
+    while i < 262160 {
+        work[i] = value;
+        i += 1;
+    }
+}
+
+// "darts, operations, levels, then level ends; ends that are not given are 0"
+fn given(numbers: &NumbersRoom, count: usize) -> State {
+    let mut ends = [0u32; 64];
+    let mut i = 0;
+    while i < 64 {
+        if i + 3 < count {
+            ends[i] = numbers[i + 3];
+        }
+        i += 1;
+    }
+    State {
+        darts: numbers[0],
+        operations: numbers[1],
+        levels: numbers[2],
+        ends: ends,
+    }
+}
+
+// What is held after such a line: the state, or what is lent, or that it is an error line.
+pub fn set(
+    held: Held,
+    line: Line,
+    numbers: &NumbersRoom,
+    table: &mut TableRoom,
+    history: &mut HistoryRoom,
+    work: &mut WorkRoom,
+) -> Held
+    requires { ⌜ Within held × (line .count ≤ 262161) ⌝ }
+    ensures { λ r. ⌜ Within r ⌝ }
+{
+    let command = line.command;
+    match command {
+        LEND => lend(held, size(numbers[0]), size(numbers[1]), size(numbers[2])),
+        TABLE => held.judged(put(table, numbers, line.count)),
+        HISTORY => held.judged(put(history, numbers, line.count)),
+        WORK => held.judged(put(work, numbers, line.count)),
+        FILL => {
+            fill(work, numbers[0]);
+            held
+        }
+        _ => held.with_state(given(numbers, line.count)),
+    }
+}

@@ -1,0 +1,87 @@
+// The checksums of what a call was lent: "so that a number written outside what was lent shows".
+use crate::held::Held;
+use crate::rooms::HistoryRoom;
+use crate::rooms::OutputRoom;
+use crate::rooms::TableRoom;
+use crate::rooms::WorkRoom;
+ghost use Prim.Native.Nat.{_≤_, _<_};
+ghost use lib.ListN.{length};
+ghost use Rattle.zones.specs.Within.{Within};
+
+// The checksums of the ends, the table, the history, the work area and the output.
+pub struct Sums {
+    pub ends: u64,
+    pub table: u64,
+    pub history: u64,
+    pub work: u64,
+    pub output: u64,
+}
+
+// "for each number v: c := (c * 31 + v + 1) mod 4294967291"
+fn step(c: u64, v: u32) -> u64
+    requires { ⌜ c < 4294967291 ⌝ }
+    ensures { λ r. ⌜ r < 4294967291 ⌝ }
+{
+    (c * 31 + v as u64 + 1) % 4294967291
+}
+
+// The same for a byte.
+fn step_byte(c: u64, v: u8) -> u64
+    requires { ⌜ c < 4294967291 ⌝ }
+    ensures { λ r. ⌜ r < 4294967291 ⌝ }
+{
+    step(c, v as u32)
+}
+
+// The checksum of the first n numbers.
+fn sum(numbers: &[u32], n: usize) -> u64
+    requires { ⌜ n ≤ length (now numbers) ⌝ }
+{
+    let mut c = 0;
+    let mut i = 0;
+    while i < n {
+        c = step(c, numbers[i]);
+        i += 1;
+    }
+    c
+}
+
+// The checksum of all 64 ends.
+fn sum_ends(ends: &[u32; 64]) -> u64 {
+    sum(ends, 64)
+}
+
+// The checksum of the first n bytes.
+fn sum_bytes(bytes: &[u8], n: usize) -> u64
+    requires { ⌜ n ≤ length (now bytes) ⌝ }
+{
+    let mut c = 0;
+    let mut i = 0;
+    while i < n {
+        c = step_byte(c, bytes[i]);
+        i += 1;
+    }
+    c
+}
+
+// The checksums of all 64 ends, of T, H and W numbers and of n bytes, with the four after them.
+pub fn checksums(
+    held: Held,
+    n: usize,
+    table: &TableRoom,
+    history: &HistoryRoom,
+    work: &WorkRoom,
+    output: &OutputRoom,
+) -> Sums
+    requires { ⌜ Within held × (n ≤ 599996) ⌝ }
+{
+    let state = held.state;
+    let ends = state.ends;
+    Sums {
+        ends: sum_ends(&ends),
+        table: sum(table, held.table + 4),
+        history: sum(history, held.history + 4),
+        work: sum(work, held.work + 4),
+        output: sum_bytes(output, n + 4),
+    }
+}

@@ -1,0 +1,99 @@
+// The words of the commands, numbered from 1 in the order in which they stand in the list of `command`.
+ghost use Prim.Native.Nat.{_+_, _≤_};
+ghost use lib.ListN.{length};
+
+pub const LEND: u32 = 1;
+
+pub const TABLE: u32 = 2;
+
+pub const HISTORY: u32 = 3;
+
+pub const WORK: u32 = 4;
+
+pub const FILL: u32 = 5;
+
+pub const STATE: u32 = 6;
+
+pub const START: u32 = 7;
+
+pub const CONTRACT: u32 = 8;
+
+pub const REMOVE: u32 = 9;
+
+pub const SWEEP: u32 = 10;
+
+pub const UNDO: u32 = 11;
+
+pub const UNFOLD: u32 = 12;
+
+pub const READ: u32 = 13;
+
+pub const COUNTS: u32 = 14;
+
+pub const WRITE: u32 = 15;
+
+pub const SHOW: u32 = 16;
+
+pub const BYTES: u32 = 17;
+
+// A command's number, or 0 for none, and the place after its word.
+pub struct Word {
+    pub number: u32,
+    pub next: usize,
+}
+
+// How many letters the script has from a place on of a word of the list, which a space ends: all of them or none.
+fn letters(script: &[u8], at: usize, words: &[u8; 153], from: usize) -> usize
+    requires { ⌜ (at ≤ length (now script)) × (from ≤ 144) ⌝ }
+    ensures { λ r. ⌜ at + r ≤ length (now (script .entry)) ⌝ }
+{
+    let mut i = 0;
+    while i < 9 {
+        if words[from + i] == 32 {
+            return i;
+        }
+        if script.len() <= at + i {
+            return 0;
+        }
+        if script[at + i] != words[from + i] {
+            return 0;
+        }
+        i += 1;
+    }
+    0
+}
+
+// The command whose word stands at a place. In the list each word has nine bytes, with spaces after it.
+pub fn command(script: &[u8], at: usize) -> Word
+    requires { ⌜ at ≤ length (now script) ⌝ }
+    ensures { λ r. ⌜ r .next ≤ length (now (script .entry)) ⌝ }
+{
+    let words =
+        b"lend     table    history  work     fill     state    start    contract remove   sweep    undo     unfold   read     counts   write    show     bytes    ";
+    for k in 0..17 {
+        let n = letters(script, at, words, 9 * k);
+        if n != 0 {
+            return Word {
+                number: k as u32 + 1,
+                next: at + n,
+            };
+        }
+    }
+    Word {
+        number: 0,
+        next: at,
+    }
+}
+
+// Whether a command takes so many numbers. "A kernel has at most 32,772 edges"; there are at most 64 ends.
+pub fn takes(number: u32, count: usize) -> bool {
+    match number {
+        LEND => count == 3,
+        TABLE | HISTORY | WORK => 1 <= count,
+        STATE => 3 <= count && count <= 67,
+        CONTRACT | REMOVE => count <= 32772,
+        FILL | START | UNFOLD | READ | WRITE => count == 1,
+        SWEEP | UNDO | COUNTS | SHOW | BYTES => count == 0,
+        _ => false,
+    }
+}

@@ -1,0 +1,169 @@
+/* zonemap.h: the calls on pyramids of maps, for C and C++.
+ *
+ * Link with target/staticlib/libzonemap_c.a, which `rt staticlib zonemap_c` writes for x86-64 Linux; it asks nothing else but
+ * memcpy and memset. A Rust program links it too: it declares these functions in an `extern "C"` block, a slice as its
+ * pointer and its length. Each function is proved to be the call itself: what it leaves is one function of
+ * crates/darts/specs/Calls.antt, for every input, refusals too.
+ *
+ * What a caller lends
+ *
+ *   state    67 numbers: D (the number of darts), the number of operations, the number of levels, then the 64 level ends
+ *            (the operation count after each kernel, zero past the last level). Whatever they are, a call takes them.
+ *   table    at least D numbers: the successor of each dart. Entries of gone darts stay as they were.
+ *   history  at least D/2 numbers, one for each operation: 2p for a removal, 2p + 1 for a contraction.
+ *   work     at least 4D numbers of room to work in; any numbers may stand there.
+ *   place    one number, which every call writes.
+ *
+ * A slice is a pointer and then its length, in numbers or bytes. No pointer may be null, none of the lent memory may
+ * overlap, and each pointer must be aligned for its type: this alone is asked of the caller, and no function can test it.
+ * The functions keep nothing between calls, ask for no memory and end on every input.
+ *
+ * What a call leaves
+ *
+ *   It returns the answer's number and writes the answer's place through `place`.
+ *   Accepted: state, table and history are those after the call.
+ *   Refused: table and history stay as they were; so does the state, but zm_start and zm_read, which are given none, write 67 zeros.
+ *   The first 4D numbers of work are zero after the call, unless the answer is 1 or 2, which leave work alone; zm_write
+ *   zeroes them too where it answers 2 for its output.
+ *   Numbers of a table past D, of a history past the larger of the operation counts before and after the call, and of a
+ *   work area past 4D are never touched.
+ *
+ * Order of the answers: 1, 2, then 3 or 4, then 12, 6, 5, then the kernel's first failing edge, for which 7, 8, 9 or 10, 11.
+ * zm_write judges its output after 4. zm_read judges in the order of the file's bytes.
+ */
+#ifndef ZONEMAP_H
+#define ZONEMAP_H
+
+#include <stddef.h>
+#include <stdint.h>
+
+#ifdef __cplusplus
+extern "C" {
+#endif
+
+/* How many numbers a state has, and how many zm_counts writes beside the Euler number. */
+enum { ZM_STATE = 67, ZM_COUNTS = 3 };
+
+/* The answers. The place is 0 where nothing is said of it. */
+enum {
+    ZM_DONE = 0,             /* done. Place: for zm_write, the bytes written */
+    ZM_NO_DART_COUNT = 1,    /* D is odd, 0 or over 65,536 */
+    ZM_TOO_SHORT = 2,        /* a lent slice is too short. Place: for zm_write's output, the bytes needed */
+    ZM_NO_PERMUTATION = 3,   /* the table is no permutation. Place: the lowest dart whose successor is D or more, or repeats a lower dart's */
+    ZM_NO_PYRAMID = 4,       /* the state, or what a file holds, is no pyramid */
+    ZM_EMPTY_KERNEL = 5,     /* the kernel is empty, or the sweep takes no edge */
+    ZM_TOO_MANY_LEVELS = 6,  /* 64 levels are in use, or a file states more */
+    ZM_NO_EDGE = 7,          /* the edge number is D/2 or more. Place: where in the kernel, from 0; so too for 8 to 11 */
+    ZM_GONE_ALREADY = 8,     /* the edge is gone already */
+    ZM_ONE_VERTEX = 9,       /* contraction with one vertex at both ends */
+    ZM_ONE_FACE = 10,        /* removal with one face on both sides */
+    ZM_WHOLE_PIECE = 11,     /* the edge is a whole piece */
+    ZM_NO_LEVEL = 12,        /* undo at the base, or a level above the top. Place: the top level */
+    ZM_NO_FILE = 13,         /* the bytes leave the file's form. Place: the first wrong byte, or the length where the file ends early */
+    ZM_NO_FLAG = 14          /* byte nine is neither 0 nor 1. Place: 8 */
+};
+
+/* Starts from the table's first D numbers, D = darts: a base, where they are a permutation of all darts.
+ * Answers 0, 1, 2, 3.
+ * Writes state: a base of D darts with no level, or 67 zeros where it is refused. Table and history are not written.
+ * Lengths: table D, history D/2, work 4D. What stood in state is not read. */
+uint32_t zm_start(uint32_t darts, uint32_t state[ZM_STATE],
+                  uint32_t *table, size_t table_length,
+                  uint32_t *history, size_t history_length,
+                  uint32_t *work, size_t work_length,
+                  size_t *place);
+
+/* One level more: the kernel's edges are contracted in the listed order, each judged on the map as it stands at its turn.
+ * Answers 0, 1, 2, 4, 5, 6, 7, 8, 9, 11; for 7 to 11 the place is the edge's place in the kernel.
+ * Writes state, table and history where it is accepted.
+ * Lengths: table D, history D/2, work 4D, D = state[0]; the kernel may have any length, its edges are numbers from 0. */
+uint32_t zm_contract(uint32_t state[ZM_STATE],
+                     const uint32_t *kernel, size_t kernel_length,
+                     uint32_t *table, size_t table_length,
+                     uint32_t *history, size_t history_length,
+                     uint32_t *work, size_t work_length,
+                     size_t *place);
+
+/* One level more: the kernel's edges are removed in the listed order, each judged on the map as it stands at its turn.
+ * Answers 0, 1, 2, 4, 5, 6, 7, 8, 10, 11; for 7 to 11 the place is the edge's place in the kernel.
+ * Writes state, table and history where it is accepted.
+ * Lengths: table D, history D/2, work 4D, D = state[0]; the kernel may have any length, its edges are numbers from 0. */
+uint32_t zm_remove(uint32_t state[ZM_STATE],
+                   const uint32_t *kernel, size_t kernel_length,
+                   uint32_t *table, size_t table_length,
+                   uint32_t *history, size_t history_length,
+                   uint32_t *work, size_t work_length,
+                   size_t *place);
+
+/* One level more: a removal kernel of one pass over the edges by rising number, which takes each surviving edge that at its
+ * turn is an empty loop and no whole piece.
+ * Answers 0, 1, 2, 4, 5, 6, 10; for 10 the place counts the edges taken before.
+ * Writes state, table and history where it is accepted.
+ * Lengths: table D, history D/2, work 4D, D = state[0]. */
+uint32_t zm_sweep(uint32_t state[ZM_STATE],
+                  uint32_t *table, size_t table_length,
+                  uint32_t *history, size_t history_length,
+                  uint32_t *work, size_t work_length,
+                  size_t *place);
+
+/* The last level undone: the state and every entry of the table as they were before its kernel.
+ * Answers 0, 1, 2, 4, 12; for 12 the place is 0, the base's level.
+ * Writes state and table where it is accepted. The history's numbers stay, past the count.
+ * Lengths: table D, history D/2, work 4D, D = state[0]. */
+uint32_t zm_undo(uint32_t state[ZM_STATE],
+                 uint32_t *table, size_t table_length,
+                 uint32_t *history, size_t history_length,
+                 uint32_t *work, size_t work_length,
+                 size_t *place);
+
+/* Back to a level, at or below the top: as many undos. The top itself changes nothing.
+ * Answers 0, 1, 2, 4, 12; for 12 the place is the top level.
+ * Writes state and table where it is accepted. The history's numbers stay, past the count.
+ * Lengths: table D, history D/2, work 4D, D = state[0]. */
+uint32_t zm_unfold(uint32_t state[ZM_STATE], uint32_t level,
+                   uint32_t *table, size_t table_length,
+                   uint32_t *history, size_t history_length,
+                   uint32_t *work, size_t work_length,
+                   size_t *place);
+
+/* The counts of the present level.
+ * Answers 0, 1, 2, 4.
+ * Writes counts (surviving darts, vertices, faces) and euler (vertices minus edges plus faces, which may fall below zero):
+ * four zeros where it is refused. State, table and history are not written.
+ * Lengths: table D, history D/2, work 4D, D = state[0]. */
+uint32_t zm_counts(const uint32_t state[ZM_STATE],
+                   uint32_t *table, size_t table_length,
+                   uint32_t *history, size_t history_length,
+                   uint32_t *work, size_t work_length,
+                   uint32_t counts[ZM_COUNTS], int32_t *euler,
+                   size_t *place);
+
+/* Reads a file: the pyramid that its bytes hold, in the file's own numbers.
+ * Answers 0, 1, 2, 4, 5, 6, 13, 14, judged in the order of the bytes; for 13 the place is the first wrong byte, or the
+ * length where the file ends early, and for 14 it is 8.
+ * Writes state, table and history where it is accepted, and a state of 67 zeros where it is refused. The work area is left
+ * alone where the reader stops before it knows D.
+ * Lengths: table D, history D/2, work 4D, D as the file has it. What stood in state is not read. */
+uint32_t zm_read(const uint8_t *bytes, size_t length, uint32_t state[ZM_STATE],
+                 uint32_t *table, size_t table_length,
+                 uint32_t *history, size_t history_length,
+                 uint32_t *work, size_t work_length,
+                 size_t *place);
+
+/* Writes the file of the pyramid, with darts from zero, over the first bytes of the output.
+ * Answers 0 (place: the bytes written), 1, 2 (place: the bytes needed, where the output is too short; else 0), 4.
+ * Writes the file's own bytes of the output where it is accepted, and no other. State, table and history are not written.
+ * A call with an output that is too short, of length 0 say, asks how many bytes are needed.
+ * Lengths: table D, history D/2, work 4D, D = state[0]; output as many bytes as the file has. */
+uint32_t zm_write(const uint32_t state[ZM_STATE],
+                  uint32_t *table, size_t table_length,
+                  uint32_t *history, size_t history_length,
+                  uint32_t *work, size_t work_length,
+                  uint8_t *output, size_t output_length,
+                  size_t *place);
+
+#ifdef __cplusplus
+}
+#endif
+
+#endif
