@@ -2,6 +2,7 @@
 --   laid-one    == a number that is stored is laid
 --   laid-length == the slice keeps its length
 --   laid-on     == what is laid after what was laid is laid with it
+--   laid-before == a number that is stored just before what was laid is laid with it
 --   laid-rest   == what stands past it stays
 --   laid-front  == so does what stands before it
 --   laid-there  == and it is where it was laid
@@ -13,7 +14,7 @@
 --   room-first, room-then == where two lists have room, each has at its place
 use mathlib.Core.Path.{_≡_, refl, sym, ap, _∙_}
 use mathlib.Core.List.{List, [], _∷_, _++_, append-assoc}
-use Prim.Native.Nat.{ℕ, _+_, _-_, _≤_, _<_}
+use Prim.Native.Nat.{ℕ, suc, _+_, _-_, _≤_, _<_}
 use native.Mathlib.Nat.{add-assoc, add-zero, zero-add}
 use native.Mathlib.Numerals.{add-one}
 use native.Mathlib.Omega.{arith}
@@ -77,6 +78,23 @@ module _ (w : List ℕ) (at : ℕ) where
         let size : at + length xs - at ≡ length xs = omega arith in
         ap (take (at + length xs - at)) (drop-at (take at w) (xs ++ drop (at + length xs) w) at (length-take-le at w (omega arith)))
         ∙ rw size (take-append-seam xs (drop (at + length xs) w))
+
+-- what was laid, and what stands behind it
+laid-behind : (w : List ℕ) (p v : ℕ) (xs : List ℕ) → Room w (p + 1) xs → take p w ++ (v ∷ drop (suc p) (laid w (p + 1) xs)) ≡ laid w p (v ∷ xs)
+unfolding laid
+laid-behind w p v xs later =
+    let there : drop (p + 1) (take (p + 1) w ++ (xs ++ drop (p + 1 + length xs) w)) ≡ xs ++ drop (p + 1 + length xs) w =
+    drop-at (take (p + 1) w) (xs ++ drop (p + 1 + length xs) w) (p + 1) (length-take-le (p + 1) w (omega (arith, later .fits))) in
+    let one : suc p ≡ p + 1 = sym (add-one p) in
+    let far : p + 1 + length xs ≡ p + suc (length xs) = omega arith in
+    rw (one, there, far)
+
+pub laid-before : (w : List ℕ) (p v : ℕ) (xs : List ℕ) → Room w p (v ∷ xs) → set (laid w (p + 1) xs) p v ≡ laid w p (v ∷ xs)
+laid-before w p v xs room =
+    let later : Room w (p + 1) xs = record { fits = omega (arith, room .fits) } in
+    let size : length (laid w (p + 1) xs) ≡ length w = laid-length w (p + 1) xs later in
+    set-split (laid w (p + 1) xs) p v (omega (arith, room .fits))
+    ∙ rw (laid-front w (p + 1) xs later p (omega arith)) (laid-behind w p v xs later)
 
 pub laid-over : (w xs : List ℕ) → laid w 0 xs ≡ over xs w
 unfolding laid over

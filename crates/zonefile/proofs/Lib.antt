@@ -3,6 +3,7 @@ pub mod BodyLines
 pub mod Byte
 pub mod CutLines
 pub mod Decimal
+pub mod Backward
 pub mod FileBytes
 pub mod FileOrder
 pub mod Fitted

