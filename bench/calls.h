@@ -1,0 +1,36 @@
+/* The eight calls as the measured programs offer them: the library, (a) the plain version and (b) the walking version. */
+#ifndef BENCH_CALLS_H
+#define BENCH_CALLS_H
+
+#include <stddef.h>
+#include <stdint.h>
+
+enum { MOST_LEVELS = 64, MOST_DARTS = 65536 };
+
+/* D, the operations, the levels, and the operation count after each kernel, zero past the last level: 67 numbers. */
+struct state {
+    uint32_t darts, operations, levels, ends[MOST_LEVELS];
+};
+
+/* What a call is lent. */
+struct lent {
+    struct state state;
+    uint32_t *table, *history, *work;
+    size_t table_length, history_length, work_length;
+};
+
+/* Each call gives the answer's number and sets the answer's place. */
+struct calls {
+    uint32_t (*start)(struct lent *lent, uint32_t darts, size_t *place);
+    uint32_t (*contract)(struct lent *lent, const uint32_t *kernel, size_t length, size_t *place);
+    uint32_t (*sweep)(struct lent *lent, size_t *place);
+    uint32_t (*counts)(struct lent *lent, uint32_t counts[4], size_t *place);
+    uint32_t (*undo)(struct lent *lent, size_t *place);
+    uint32_t (*unfold)(struct lent *lent, uint32_t level, size_t *place);
+    uint32_t (*write)(struct lent *lent, uint8_t *output, size_t length, size_t *place);
+    uint32_t (*read)(struct lent *lent, const uint8_t *bytes, size_t length, size_t *place);
+};
+
+extern const struct calls library, plain, walking;
+
+#endif

@@ -1,0 +1,171 @@
+/* (a) The calls in plain C: the same steps and the same checks as the library, with no proof. */
+#include <string.h>
+
+#include "plain_area.h"
+#include "text.h"
+
+/* Answers 1 and 2, which every call judges first. */
+static uint32_t fit(const struct lent *lent, uint32_t darts) {
+    if (darts == 0 || darts % 2 != 0 || darts > MOST_DARTS) return 1;
+    if (lent->table_length < darts || lent->history_length < darts / 2) return 2;
+    return lent->work_length < 4 * (size_t)darts ? 2 : 0;
+}
+
+/* The map and so many history numbers, from the work area into what is lent. */
+static void store(struct area area, struct lent *lent, uint32_t operations) {
+    memcpy(lent->table, area.map, area.darts * sizeof *area.map);
+    memcpy(lent->history, area.history, operations * sizeof *area.history);
+    lent->state.operations = operations;
+}
+
+static uint32_t start(struct lent *lent, uint32_t darts, size_t *place) {
+    uint32_t number = fit(lent, darts), i = 0;
+    *place = 0;
+    memset(&lent->state, 0, sizeof lent->state);
+    if (number != 0) return number;
+    struct area area = area_over(lent, darts);
+    area_clear(area);
+    for (; i < darts; i++) {
+        uint32_t x = lent->table[i];
+        if (x >= darts || area.map[x] != 0) break;
+        area.map[x] = 1;
+    }
+    area_clear(area);
+    if (i < darts) {
+        *place = i;
+        return 3;
+    }
+    lent->state.darts = darts;
+    return 0;
+}
+
+/* One level more by a run that has gone well, or the answer that stopped it. */
+static uint32_t level(struct area area, struct lent *lent, struct ran ran, size_t *place) {
+    *place = ran.place;
+    if (ran.number != 0) return ran.number;
+    if (ran.operations == lent->state.operations) return 5;
+    store(area, lent, ran.operations);
+    lent->state.ends[lent->state.levels++] = ran.operations;
+    return 0;
+}
+
+static uint32_t contract_inside(struct area area, struct lent *lent, const uint32_t *kernel, size_t length, size_t *place) {
+    if (!area_check(area, lent, CONTRACT)) return 4;
+    if (lent->state.levels >= MOST_LEVELS) return 6;
+    return level(area, lent, area_run(area, lent->state.operations, kernel, length), place);
+}
+
+static uint32_t sweep_inside(struct area area, struct lent *lent, size_t *place) {
+    if (!area_check(area, lent, REMOVE)) return 4;
+    if (lent->state.levels >= MOST_LEVELS) return 6;
+    return level(area, lent, area_sweep(area, lent->state.operations), place);
+}
+
+static uint32_t counts_inside(struct area area, struct lent *lent, uint32_t counts[4]) {
+    if (!area_check(area, lent, NEITHER)) return 4;
+    counts[0] = area.darts - 2 * lent->state.operations;
+    counts[1] = area_count(area, CONTRACT);
+    counts[2] = area_count(area, REMOVE);
+    counts[3] = counts[1] - counts[0] / 2 + counts[2];
+    return 0;
+}
+
+/* Level after level undone, down to this one. */
+static void lower(struct area area, struct lent *lent, uint32_t to) {
+    struct state *state = &lent->state;
+    uint32_t operations = state->operations;
+    while (state->levels > to) {
+        uint32_t below = state->levels > 1 ? state->ends[state->levels - 2] : 0;
+        area_take_back(area, operations, operations - below);
+        state->ends[--state->levels] = 0;
+        operations = below;
+    }
+    store(area, lent, operations);
+}
+
+/* Unfold to a level; for undo, which has no level given, to the one below the top. */
+static uint32_t unfold_inside(struct area area, struct lent *lent, const uint32_t *given, size_t *place) {
+    uint32_t top = lent->state.levels;
+    if (!area_check(area, lent, NEITHER)) return 4;
+    if (given == NULL ? top == 0 : *given > top) {
+        *place = top;
+        return 12;
+    }
+    lower(area, lent, given == NULL ? top - 1 : *given);
+    return 0;
+}
+
+/* Each call: answers 1 and 2, what it does in the work area, and the work area cleared. */
+#define CALL(inside)                                       \
+    uint32_t number = fit(lent, lent->state.darts);        \
+    *place = 0;                                            \
+    if (number != 0) return number;                        \
+    struct area area = area_over(lent, lent->state.darts); \
+    number = (inside);                                     \
+    area_clear(area);                                     \
+    return number
+
+static uint32_t contract(struct lent *lent, const uint32_t *kernel, size_t length, size_t *place) {
+    CALL(contract_inside(area, lent, kernel, length, place));
+}
+
+static uint32_t sweep(struct lent *lent, size_t *place) {
+    CALL(sweep_inside(area, lent, place));
+}
+
+static uint32_t counts(struct lent *lent, uint32_t counts[4], size_t *place) {
+    memset(counts, 0, 4 * sizeof *counts);
+    CALL(counts_inside(area, lent, counts));
+}
+
+static uint32_t undo(struct lent *lent, size_t *place) {
+    CALL(unfold_inside(area, lent, NULL, place));
+}
+
+static uint32_t unfold(struct lent *lent, uint32_t level, size_t *place) {
+    CALL(unfold_inside(area, lent, &level, place));
+}
+
+/* The darts in the file's order stand in the forest's part, their numbers in the part of the dart before each dart. */
+static uint32_t write_inside(struct area area, struct lent *lent, uint8_t *output, size_t length, size_t *place) {
+    if (!area_check(area, lent, NEITHER)) return 4;
+    struct text text = {&lent->state, area.history, area.map, area.forest, area.before};
+    text_number(&text, area.before);
+    *place = text_length(&text);
+    if (length < *place) return 2;
+    text_write(&text, output);
+    return 0;
+}
+
+static uint32_t write(struct lent *lent, uint8_t *output, size_t length, size_t *place) {
+    CALL(write_inside(area, lent, output, length, place));
+}
+
+/* The pairs are read into the work area and, once it is found to be a pyramid, a second time into the table. */
+static uint32_t read_inside(struct reader *reader, struct area area, struct lent *lent, size_t *place) {
+    struct state state = {.darts = area.darts};
+    uint32_t number = text_kernels(reader, &state, area.history, place);
+    if (number != 0) return number;
+    struct reader pairs = *reader;
+    number = text_pairs(reader, area.darts, area.map, place);
+    if (number != 0) return number;
+    if (!area_check_laid(area, &state)) return 4;
+    text_pairs(&pairs, area.darts, lent->table, place);
+    memcpy(lent->history, area.history, state.operations * sizeof *area.history);
+    lent->state = state;
+    return 0;
+}
+
+static uint32_t read(struct lent *lent, const uint8_t *bytes, size_t length, size_t *place) {
+    struct reader reader = {bytes, length, 0, 0};
+    uint32_t darts = 0, number = text_opening(&reader, &darts, place);
+    memset(&lent->state, 0, sizeof lent->state);
+    if (number == 0) number = fit(lent, darts);
+    if (number != 0) return number;
+    struct area area = area_over(lent, darts);
+    number = read_inside(&reader, area, lent, place);
+    area_clear(area);
+    return number;
+}
+
+const struct calls plain = {start, contract, sweep, counts, undo, unfold, write, read};

@@ -1,0 +1,133 @@
+/* (a) Operations in the work area: loaded, taken back, judged and done. */
+#include <string.h>
+
+#include "plain_area.h"
+
+/* The four parts of the lent work area. */
+struct area area_over(const struct lent *lent, uint32_t darts) {
+    uint32_t *work = lent->work;
+    return (struct area){darts, work, work + darts, work + 2 * (size_t)darts, work + 3 * (size_t)darts};
+}
+
+/* The work area's first 4D numbers become zeros. */
+void area_clear(struct area area) {
+    memset(area.map, 0, 4 * (size_t)area.darts * sizeof *area.map);
+}
+
+/* Tests 1 and 2: the history's edges are marked as gone; no where a number is no dart's or an edge comes twice. */
+static bool mark(struct area area, uint32_t operations) {
+    for (uint32_t i = 0; i < operations; i++) {
+        uint32_t h = area.history[i], p = h / 4 * 2;
+        if (h >= 2 * area.darts) return false;
+        if (area.before[p] != area.darts + 1) return false;
+        area.before[p] = area.before[p + 1] = area.darts;
+    }
+    return true;
+}
+
+/* Tests 3, 4 and 5: entries are darts, survivors lead to survivors, and no two lead to one. */
+static bool link_survivors(struct area area) {
+    for (uint32_t x = 0; x < area.darts; x++) {
+        uint32_t y = area.map[x];
+        if (y >= area.darts) return false;
+        if (area.before[x] == area.darts) continue;
+        if (area.before[y] != area.darts + 1) return false;
+        area.before[y] = x;
+    }
+    return true;
+}
+
+/* The dart before each survivor, of a map and a history that stand in their parts: tests 1 to 5. */
+bool area_relink(struct area area, uint32_t operations) {
+    for (uint32_t x = 0; x < area.darts; x++) area.before[x] = area.darts + 1;
+    return mark(area, operations) && link_survivors(area);
+}
+
+static inline void bind(struct area area, uint32_t a, uint32_t x) {
+    area.map[a] = x;
+    area.before[x] = a;
+}
+
+/* Tests 6 to 15, and the operation h undone where it passes them. For a contraction r and s change places. */
+static bool take_back_one(struct area area, uint32_t h) {
+    uint32_t p = h / 2, q = partner(p), r = area.map[p], s = area.map[q];
+    uint32_t x = h % 2 == REMOVE ? r : s, y = h % 2 == REMOVE ? s : r;
+    if (!survives(area, y)) return false;
+    uint32_t a = area.before[x], b = area.before[y];
+    if (x == q) {
+        bind(area, b, p);
+    } else {
+        if (p % 2 != 0 || a >= area.darts || x == y) return false;
+        bind(area, a, p);
+        bind(area, b, q);
+    }
+    bind(area, p, r);
+    bind(area, q, s);
+    return true;
+}
+
+/* The last `count` operations undone, the last one first. */
+bool area_take_back(struct area area, uint32_t operations, uint32_t count) {
+    for (uint32_t left = operations; left > operations - count; left--)
+        if (!take_back_one(area, area.history[left - 1])) return false;
+    return true;
+}
+
+/* The answer's number for an edge at its turn; the forest tells vertices for contractions, faces for removals. */
+static uint32_t judge(struct area area, enum kind kind, uint32_t edge) {
+    if (edge >= area.darts / 2) return 7;
+    uint32_t p = 2 * edge, q = p + 1;
+    if (!survives(area, p)) return 8;
+    if (find(area.forest, p) == find(area.forest, q)) return kind == CONTRACT ? 9 : 10;
+    uint32_t r = area.map[p], s = area.map[q];
+    if ((r == p && s == q) || (r == q && s == p)) return 11;
+    return 0;
+}
+
+/* The operation on an edge, and its two darts joined in the forest. */
+static void operate(struct area area, uint32_t operations, enum kind kind, uint32_t edge) {
+    uint32_t p = 2 * edge, q = p + 1;
+    if (kind == REMOVE ? area.map[q] == p : area.map[p] == p) {
+        p = q;
+        q = partner(p);
+    }
+    uint32_t r = area.map[p], s = area.map[q], a = area.before[p], b = area.before[q];
+    uint32_t x = kind == REMOVE ? r : s, y = kind == REMOVE ? s : r;
+    if (x == q) {
+        bind(area, a, y);
+    } else {
+        bind(area, a, x);
+        bind(area, b, y);
+    }
+    area.before[p] = area.before[q] = area.darts;
+    area.history[operations] = 2 * p + kind;
+    join(area.forest, p, q);
+}
+
+/* A kernel of contractions after so many operations, each edge judged at its turn. */
+struct ran area_run(struct area area, uint32_t operations, const uint32_t *kernel, size_t length) {
+    for (size_t i = 0; i < length; i++) {
+        uint32_t number = judge(area, CONTRACT, kernel[i]);
+        if (number != 0) return (struct ran){number, operations, i};
+        operate(area, operations + (uint32_t)i, CONTRACT, kernel[i]);
+    }
+    return (struct ran){0, operations + (uint32_t)length, 0};
+}
+
+/* Whether the sweep takes an edge: a surviving empty loop that is no whole piece. */
+static bool takes(struct area area, uint32_t edge) {
+    uint32_t p = 2 * edge, q = p + 1;
+    return survives(area, p) && (area.map[p] == q) != (area.map[q] == p);
+}
+
+/* One pass over the edges by rising number. */
+struct ran area_sweep(struct area area, uint32_t operations) {
+    uint32_t m = operations;
+    for (uint32_t edge = 0; edge < area.darts / 2; edge++) {
+        if (!takes(area, edge)) continue;
+        if (find(area.forest, 2 * edge) == find(area.forest, 2 * edge + 1))
+            return (struct ran){10, operations, m - operations};
+        operate(area, m++, REMOVE, edge);
+    }
+    return (struct ran){0, m, 0};
+}
