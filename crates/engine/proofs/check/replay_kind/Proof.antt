@@ -1,4 +1,5 @@
 -- `engine::check::replay_kind` meets its contract: the trees are labels of the base, and the replay joins them.
+use native.Mathlib.Omega.{arith}
 use borrow.Author.Needs.{needs}
 use Rattle.area.proofs.Labels.{labelled-falls}
 use Rattle.area.proofs.Outside.{outside-room}
@@ -8,14 +9,14 @@ use Rattle.engine.proofs.check.replay_kind.Statement.{statement}
 use Rattle.engine.proofs.check.replay_kind.Tie as tie
 
 label-requires : tie.Need-label-requires
-label-requires c κs = let s = c .before .before in (s .pre .0 .room, step-perm (s .pre .0) (s .args .k) (s .pre .1 .1))
+label-requires c κs = let s = c .before .before in (s .pre .0 .room, step-perm (s .pre .0) _ (omega (arith, s .pre .1 .1)))
 
 replay-requires : tie.Need-replay-requires
 replay-requires c κs =
     let s = c .before .before .before .before .before .before in
     let L = c .before .before .before .label .ensures in (
       outside-room (L .outside) (s .pre .0 .room),
-      (labelled-falls (step-perm (s .pre .0) (s .args .k) (s .pre .1 .1)) L, outside-numbered (L .outside) (s .pre .1 .0)),
+      (labelled-falls (step-perm (s .pre .0) _ (omega (arith, s .pre .1 .1))) L, outside-numbered (L .outside) (s .pre .1 .0)),
     )
 
 same-length : tie.Need-same-length
