@@ -7,7 +7,7 @@
 --   drop-more     == more is dropped
 use mathlib.Core.List.{List, _++_}
 use mathlib.Core.Path.{_≡_, sym, ap, _∙_}
-use Prim.Native.Nat.{ℕ, _+_, _-_, _*_, _<_, _≤_, min}
+use Prim.Native.Nat.{ℕ, _+_, _-_, _*_, _<_, _≤_}
 use native.Mathlib.Omega.{arith}
 use borrow.Rule.Slice.PartMut.{midOf, postOf}
 use lib.ListN.{length, getD, take, drop, replicate, length-replicate, length-take, getD-replicate, List·getD-append}

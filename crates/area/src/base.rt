@@ -2,7 +2,7 @@
 use crate::slices::at;
 use crate::slices::fill;
 ghost use mathlib.Core.Path.{_≡_};
-ghost use Prim.Native.Nat.{ℕ, _*_, _≤_, _<_};
+ghost use Prim.Native.Nat.{ℕ, _≤_, _<_};
 ghost use lib.ListN.{length, getD, drop};
 ghost use Rattle.darts.specs.Calls.{cleared};
 ghost use Rattle.darts.specs.Map.{firstBad};

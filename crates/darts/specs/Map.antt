@@ -9,7 +9,7 @@
 --   live D past d        == d is a dart, and it survives
 --   before D t past x    == the dart before x
 --   firstBad D t         == the lowest dart that keeps t from being a permutation, or D
-use mathlib.Core.Bool.{Bool, true, false, _||_, _&&_, not}
+use mathlib.Core.Bool.{Bool, false, _||_, _&&_, not}
 use mathlib.Core.List.{List, [], _∷_}
 use Prim.Native.Nat.{ℕ, zero, suc, _/_}
 use lib.Dec.{eqb, leb, ltb}

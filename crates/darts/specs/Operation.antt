@@ -9,7 +9,7 @@
 --   number k p           == the operation's history number; kindOf, leadOf and edgeOf read it
 --   undoOne D t h past   == the table before the operation h, the last one; the past is without it
 --   undone D n t past    == the table before the last n operations
-use mathlib.Core.Bool.{Bool, true, false, _||_, _&&_}
+use mathlib.Core.Bool.{Bool, _||_, _&&_}
 use mathlib.Core.List.{List, [], _∷_}
 use Prim.Native.Nat.{ℕ, zero, suc, _+_, _*_, _/_, _%_}
 use lib.Dec.{eqb}

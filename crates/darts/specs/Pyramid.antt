@@ -5,7 +5,7 @@
 --   Pyramid s t past      == some base and some kernels give exactly this state, table and past
 --   kernelsOf s past      == the kernels that the level ends cut the past into
 --   isPyramid s t past    == the decision: undo everything, and build it up again
-use mathlib.Core.Bool.{Bool, true, false, _||_, _&&_, not}
+use mathlib.Core.Bool.{Bool, true, false, _&&_}
 use mathlib.Core.List.{List, [], _∷_, map, reverse}
 use mathlib.Core.Path.{_≡_}
 use Prim.Native.Nat.{ℕ, _-_, _%_}

@@ -13,12 +13,11 @@ use native.Mathlib.Omega.{arith}
 use lib.Dec.{T, ltb, ltb→lt, lt→ltb}
 use lib.ListN.{length}
 use Rattle.permutations.specs.Choice.{T?, T-ext}
-use Rattle.permutations.specs.Map.{Map}
 use Rattle.darts.specs.Map.{successor, live, before}
 use Rattle.darts.specs.Tests.{numbered}
 use Rattle.area.specs.Area.{prev, there, stamp, tableIn, pastIn, Room}
 use Rattle.area.specs.Back.{Sound}
-use Rattle.darts.proofs.Standing.{Standing, mapOf, live-iff, entry-live}
+use Rattle.darts.proofs.Standing.{Standing, live-iff, entry-live}
 use Rattle.darts.proofs.Before.{before-live, before-leads, before-only}
 use Rattle.engine.specs.Held.{Area}
 use Rattle.engine.proofs.Edges.{numbered-cons}

@@ -12,19 +12,19 @@ use lib.Dec.{T, ltb, ltb→lt, lt→ltb}
 use Rattle.permutations.specs.Choice.{pick, T?, T→true, nT→false, T-ext, and-intro, and-left, and-right}
 use Rattle.permutations.specs.Partner.{partner}
 use Rattle.permutations.specs.Perm.{Perm}
-use Rattle.permutations.specs.Map.{Map, Good, face, partner-live}
+use Rattle.permutations.specs.Map.{Map, Good, partner-live}
 use Rattle.permutations.specs.Dual.{face-at, good-dual}
-use Rattle.darts.specs.Choose.{if_then_else_}
 use Rattle.darts.specs.Map.{successor, live}
 use Rattle.darts.specs.Operation.{Kind, contraction, removal, kindOf}
 use Rattle.area.specs.Area.{there, pastIn, around}
 use Rattle.darts.proofs.Standing.{live-iff, next-entry}
 use Rattle.area.specs.Cycles.{stepIn}
-use Rattle.engine.specs.Held.{Area, mapIn, ring}
+use Rattle.darts.proofs.TopLabels.{cyclesOf}
+use Rattle.engine.specs.Held.{Area, mapIn}
 use Rattle.engine.proofs.Area.{there-live}
 use Rattle.engine.proofs.Parts.{successor-in}
 
-pub ring-good : {D : ℕ} {m : Map} → Good D m → (k : Kind) → Good D (record { live = m .live; next = ring k m })
+pub ring-good : {D : ℕ} {m : Map} → Good D m → (k : Kind) → Good D (record { live = m .live; next = cyclesOf k m })
 ring-good G contraction = G
 ring-good G removal = good-dual G
 
@@ -39,7 +39,7 @@ module _ {D n : ℕ} {w : List ℕ} (A : Area D n w) where
   map-next x h = next-entry (A .stands) x h ∙ successor-in D w x (small x h)
 
   -- THE DART AFTER A SURVIVOR IS THE MATHEMATICS' OWN
-  pub around-next : (k : ℕ) → k ≤ 1 → (x : ℕ) → T (live D past x) → around k w x ≡ ring (kindOf k) (mapIn D n w) x
+  pub around-next : (k : ℕ) → k ≤ 1 → (x : ℕ) → T (live D past x) → around k w x ≡ cyclesOf (kindOf k) (mapIn D n w) x
   unfolding around kindOf
   around-next zero l x h = sym (face-at (A .stands .good) x h ∙ map-next (partner x) (partner-live (A .stands .good) x h))
   around-next (suc zero) l x h = sym (map-next x h)
@@ -50,11 +50,11 @@ module _ {D n : ℕ} {w : List ℕ} (A : Area D n w) where
       (λ t. rw (there-live A x (ltb→lt x D (and-left (ltb x D) (there D w x) t))) at (and-right (ltb x D) (there D w x) t))
       (λ t. and-intro (ltb x D) (there D w x) (lt→ltb x D (small x t)) (rw (there-live A x (small x t)) t))
 
-  pub step-ring : (k : ℕ) → k ≤ 1 → stepIn D k w ≡ ring (kindOf k) (mapIn D n w)
+  pub step-ring : (k : ℕ) → k ≤ 1 → stepIn D k w ≡ cyclesOf (kindOf k) (mapIn D n w)
   unfolding stepIn
   step-ring k l = fun-ext (λ x. rw (step-test x) (go x (T? (live D past x))))
     where
-      go : (x : ℕ) → Dec (T (live D past x)) → pick (live D past x) (around k w x) x ≡ ring (kindOf k) (mapIn D n w) x
+      go : (x : ℕ) → Dec (T (live D past x)) → pick (live D past x) (around k w x) x ≡ cyclesOf (kindOf k) (mapIn D n w) x
       go x (yes h) = rw (T→true (live D past x) h) (around-next k l x h)
       go x (no h) = rw (nT→false (live D past x) h) (sym (ring-good (A .stands .good) (kindOf k) .gone x h))
 

@@ -1,5 +1,4 @@
 -- Work areas that differ in the forest's part only hold the same map.
---   Beside D w v  == v is w, but for the forest's part
 --   beside-table  == they hold one table
 --   beside-past   == and one past
 --   beside-area   == where w holds a map, so does v
@@ -8,19 +7,15 @@ use mathlib.Core.List.{List, reverse}
 use mathlib.Core.Path.{_≡_, sym, ap, _∙_}
 use Prim.Native.Nat.{ℕ, _+_, _-_, _*_, _<_}
 use native.Mathlib.Omega.{arith}
-use lib.ListN.{length, getD, take, drop}
+use lib.ListN.{getD, take}
 use lib.Seq.{take-take, getD-take}
 use Rattle.area.specs.Area.{prev, tableIn, pastIn}
+use Rattle.area.specs.Trees.{Outside}
 use Rattle.darts.proofs.Standing.{live-iff}
 use Rattle.engine.specs.Held.{Area, Rooted}
 use Rattle.engine.proofs.Area.{area-of, room-kept}
 
-pub record Beside (D : ℕ) (w v : List ℕ) : Type 0 where
-  pub size : length v ≡ length w
-  pub front : take (2 * D) v ≡ take (2 * D) w
-  pub rest : drop (3 * D) v ≡ drop (3 * D) w
-
-module _ {D : ℕ} {w v : List ℕ} (B : Beside D w v) where
+module _ {D : ℕ} {w v : List ℕ} (B : Outside D w v) where
   pub beside-table : tableIn D v ≡ tableIn D w
   beside-table = sym (take-take D (2 * D) v (omega arith)) ∙ ap (take D) (B .front) ∙ take-take D (2 * D) w (omega arith)
 

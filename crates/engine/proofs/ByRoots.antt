@@ -29,7 +29,8 @@ use Rattle.darts.proofs.Standing.{Standing, mapOf, opOf, live-iff}
 use Rattle.darts.proofs.Judged.{same-vertex, same-face, judge-legal}
 use Rattle.darts.proofs.Operate.{operate-acts}
 use Rattle.area.specs.Cycles.{stepIn}
-use Rattle.engine.specs.Held.{Area, mapIn, ring, Rooted}
+use Rattle.darts.proofs.TopLabels.{cyclesOf}
+use Rattle.engine.specs.Held.{Area, Rooted}
 use Rattle.engine.proofs.Edges.{not-gone-live}
 use Rattle.engine.proofs.BothKinds.{same, judge-in}
 use Rattle.engine.proofs.Parts.{successor-in}
@@ -46,7 +47,7 @@ rooted-start {D} {n} {w} A k l says =
     record { says = λ x y i j. rw (step-ring A k l) at (says x y (small x i) (small y j)) }
 
 same-ring : {D : ℕ} {t past : List ℕ} → Standing D t past → (k : Kind) (p q : ℕ) → T (live D past p)
-    → T (same k D t p q) ↔ Meets (ring k (mapOf D t past)) p q
+    → T (same k D t p q) ↔ Meets (cyclesOf k (mapOf D t past)) p q
 same-ring S contraction = same-vertex S
 same-ring S removal = same-face S
 
@@ -123,12 +124,12 @@ module _ {D : ℕ} {m : Map} (G : Good D m) {R M : ℕ → ℕ} (p : ℕ) (h : T
       kept : Kept (m .live) (offEdge (m .live) p) p (partner p)
       kept = record { was = λ x t. let n = offEdge-not-end (m .live) t in (offEdge-was (m .live) p x t, λ e. n (inl e), λ e. n (inr e)) }
 
-  labels-act : (k : Kind) → Labels (m .live) (ring k m) R → Labels (act m (opOf k p) .live) (ring k (act m (opOf k p))) M
+  labels-act : (k : Kind) → Labels (m .live) (cyclesOf k m) R → Labels (act m (opOf k p) .live) (cyclesOf k (act m (opOf k p))) M
   labels-act contraction Λ = spliced (G .perm) Λ
   labels-act removal Λ = rw (face-remove G p h) (spliced (face-perm G) Λ)
 
 two-cycles : {D : ℕ} {t past : List ℕ} → Standing D t past → (k : Kind) (e : ℕ) → judge k D t past e ≡ 0
-    → ¬ Meets (ring k (mapOf D t past)) (2 * e) (partner (2 * e))
+    → ¬ Meets (cyclesOf k (mapOf D t past)) (2 * e) (partner (2 * e))
 two-cycles S contraction e z = judge-legal S contraction e .0 z .two
 two-cycles S removal e z = judge-legal S removal e .0 z .two
 
@@ -140,7 +141,7 @@ module _ {D n : ℕ} {w : List ℕ} (A : Area D n w) (k : ℕ) (l : k ≤ 1) (e 
       let h = fine-live (A .stands) (kindOf k) e fine in
       let i = Λ .says (2 * e) (partner (2 * e)) h (partner-live (A .stands .good) (2 * e) h) in
       let n : R (2 * e) ≢ R (partner (2 * e)) = λ c. two-cycles (A .stands) (kindOf k) e fine (i .0 c) in
-      rw (o .table, o .past) (subst (λ m. Labels (m .live) (ring (kindOf k) m) M) (sym (operate-acts (A .stands) (kindOf k) e fine))
+      rw (o .table, o .past) (subst (λ m. Labels (m .live) (cyclesOf (kindOf k) m) M) (sym (operate-acts (A .stands) (kindOf k) e fine))
       (labels-act (A .stands .good) (2 * e) h n μ (kindOf k) Λ))
 
   -- JOINED ROOTS SAY WHO IS ON WHOSE CYCLE AFTER THE OPERATION

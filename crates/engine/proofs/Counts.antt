@@ -32,7 +32,7 @@ use Rattle.engine.specs.Held.{Area}
 use Rattle.engine.specs.declared.Cycles.{Cycles}
 use Rattle.engine.proofs.Area.{there-live}
 use Rattle.engine.proofs.Around.{ring-good, around-next, step-ring, step-perm}
-use Rattle.engine.proofs.Beside.{Beside, beside-table, beside-past, beside-area}
+use Rattle.engine.proofs.Beside.{beside-table, beside-past, beside-area}
 use Rattle.engine.proofs.Least.{Least, lowest-least, lowest-same}
 use Rattle.engine.proofs.Parts.{successor-in}
 
@@ -104,12 +104,9 @@ module _ {D n k : ℕ} {w v : List ℕ} (A : Area D n w) (kind : k ≤ 1) (L : L
   roots-cycles : rootsIn D v D ≡ cycles next D past D
   roots-cycles = roots-below D (omega arith)
 
-  labelled-beside : Beside D w v
-  labelled-beside = record { size = L .outside .size; front = L .outside .front; rest = L .outside .rest }
-
   -- LABELLING KEEPS THE MAP
   pub labelled-area : Area D n v
-  labelled-area = beside-area labelled-beside A
+  labelled-area = beside-area (L .outside) A
 
 cycles-few : (f : ℕ → ℕ) (D : ℕ) (past : List ℕ) (m : ℕ) → cycles f D past m ≤ m
 unfolding cycles
@@ -125,9 +122,9 @@ pub counted : {D n : ℕ} {w u v : List ℕ} → Area D n w → Labelled D 1 w u
     → r .faces ≡ rootsIn D v D → CountedIn D n w v r
 unfolding around faceNext
 counted {D} {n} {w} {u} {v} A vertices faces r i j =
-    let kept = labelled-beside A (omega arith) vertices in
+    let kept = vertices .outside in
     let area = labelled-area A (omega arith) vertices in
-    let also = labelled-beside area (omega arith) faces in
+    let also = faces .outside in
     let first : r .vertices ≡ cycles (successor (tableIn D w)) D (pastIn D n w) D = i ∙ roots-cycles A (omega arith) vertices in
     let second : r .faces ≡ cycles (faceNext (tableIn D w)) D (pastIn D n w) D =
     rw (beside-table kept, beside-past kept n) at (j ∙ roots-cycles area (omega arith) faces) in

@@ -20,10 +20,9 @@ use lib.ListN.{length, getD, take, drop, length-reverse}
 use lib.Seq.{getD-drop}
 use Rattle.permutations.specs.Choice.{T-ext, true→T, nT→false, eqb-iff, and-intro, and-left}
 use Rattle.permutations.specs.Labels.{Labels}
-use Rattle.permutations.specs.Map.{Map}
 use Rattle.permutations.specs.Replay.{Labelled}
 use Rattle.darts.specs.Map.{live}
-use Rattle.darts.specs.Operation.{Kind, contraction, removal, kindOf, undone}
+use Rattle.darts.specs.Operation.{contraction, removal, kindOf, undone}
 use Rattle.darts.specs.Pyramid.{Pyramid, dartCount, isPyramid}
 use Rattle.darts.specs.State.{State}
 use Rattle.darts.specs.Tests.{numbered, linked, replays, shaped}
@@ -38,7 +37,7 @@ use Rattle.area.specs.Back.{backs}
 use Rattle.area.specs.Replay.{replayed, Numbered}
 use Rattle.area.specs.Shape.{stateOf, historyIn}
 use Rattle.area.proofs.Replay.{Alike, replay-alike, rejoined-alike}
-use Rattle.engine.specs.Held.{Area, ring}
+use Rattle.engine.specs.Held.{Area}
 use Rattle.engine.specs.Checks.{BothTried, Decided}
 use Rattle.engine.proofs.AllBack.{AllBack, backs-right, all-back}
 use Rattle.engine.proofs.Area.{area-sound}
@@ -72,10 +71,6 @@ module _ {s : State} {t past : List ℕ} where
 
 alike-refl : (L : ℕ → ℕ) → Alike L L
 alike-refl L = record { says = λ x y. (λ e. e, λ e. e) }
-
-cycles-ring : (k : Kind) (m : Map) → cyclesOf k m ≡ ring k m
-cycles-ring contraction m = refl
-cycles-ring removal m = refl
 
 labels-alike : {live : ℕ → Bool} {f R L : ℕ → ℕ} → Alike R L → Labels live f L → Labels live f R
 labels-alike a Λ = record { says = λ x y i j. Iff·trans (a .says x y) (Λ .says x y i j) }
@@ -151,7 +146,7 @@ module _ {D n : ℕ} (l : ℕ) (ends : List ℕ) {w : List ℕ} (A : Area D n w)
         history = ap (take (3 * D + n - 3 * D)) v-rest ∙ sym (reverse-reverse hs)
 
         base-labels : (k : ℕ) → k ≤ 1 → Labels (live D []) (cyclesOf (kindOf k) (mapOf D (baseOf s t past) [])) (M .label k)
-        base-labels k b = rw cycles-ring (rw (past-none D v, base) at (M .right k b))
+        base-labels k b = rw (past-none D v, base) at (M .right k b)
 
         labelled : Standing D (baseOf s t past) [] → Labelled (mapOf D (baseOf s t past) []) Lv Lf
         unfolding kindOf
@@ -198,5 +193,5 @@ module _ {D n : ℕ} (l : ℕ) (ends : List ℕ) {w : List ℕ} (A : Area D n w)
           roots = λ e b.
               labels-alike
               (rw (M .grown e b .roots, ← history) (rejoined-alike coming (omega arith) (alike-refl (M .label coming)) (historyIn D n v)))
-              (rw cycles-ring at (labels-at-top s t past (passes .0 (true→T e)) (kindOf coming) (M .label coming) (base-labels coming b)));
+              (labels-at-top s t past (passes .0 (true→T e)) (kindOf coming) (M .label coming) (base-labels coming b));
         }

@@ -31,7 +31,7 @@ use Rattle.area.proofs.Replay.{merged-merges}
 use Rattle.engine.specs.Held.{Ready, Beyond}
 use Rattle.engine.proofs.Allowed.{fine-live, room-for-one-more}
 use Rattle.engine.proofs.Area.{prev-live, leads-live}
-use Rattle.engine.proofs.Beside.{Beside, beside-table, beside-past, beside-area, beside-rooted}
+use Rattle.engine.proofs.Beside.{beside-table, beside-past, beside-area, beside-rooted}
 use Rattle.engine.proofs.BothKinds.{same}
 use Rattle.engine.proofs.ByRoots.{same-root, judged-right, labels-step}
 use Rattle.engine.proofs.Operated.{operated-acts}
@@ -43,9 +43,6 @@ pub beyond-trans : {D : ℕ} {u v w : List ℕ} → Beyond D u v → Beyond D v 
 beyond-trans a b = record { size = b .size ∙ a .size; rest = b .rest ∙ a .rest }
 
 -- ---- where the forest's part alone has changed
-
-outside-beside : {D : ℕ} {w v : List ℕ} → Outside D w v → Beside D w v
-outside-beside o = record { size = o .size; front = o .front; rest = o .rest }
 
 outside-beyond : {D : ℕ} {w v : List ℕ} → Outside D w v → Beyond D w v
 outside-beyond {D} {w} {v} o =
@@ -70,7 +67,7 @@ module _ {D n k : ℕ} {w : List ℕ} (ρ : Ready D n k w) where
   -- THE ROOTS ARE KEPT: IT HOLDS WHAT IT HELD
   pub ready-stays : {v : List ℕ} → Kept D w v → Stays D n k w v
   ready-stays {v} κ =
-      let B = outside-beside (κ .outside) in
+      let B = κ .outside in
       record {
         ready = record { kind = ρ .kind; area = beside-area B (ρ .area); falls = κ .falls; roots = rw (κ .roots) (beside-rooted B n k (ρ .roots)) };
         table = beside-table B;
@@ -115,7 +112,7 @@ module _ {D n k : ℕ} {w : List ℕ} (ρ : Ready D n k w) where
     pub ready-did : {v : List ℕ} → Did D n k e w v → Goes D n k e w v
     ready-did {v} δ =
         let o = operated-acts (ρ .area) k (ρ .kind) e fine in
-        let B = outside-beside (δ .outside) in
+        let B = δ .outside in
         let joined = labels-step (ρ .area) k (ρ .kind) e fine (ρ .roots) (2 * e) (inl refl) merges in
         record {
           ready = record { kind = ρ .kind; area = beside-area B (o .area); falls = δ .falls; roots = rw (δ .roots) (beside-rooted B (n + 1) k joined) };

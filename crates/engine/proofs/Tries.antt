@@ -2,7 +2,6 @@
 --   has-here, has-on == whether an operation is of kind k, one by one
 --   none-replayed    == where none is of kind k, the replay has nothing to refuse
 --   walk-rooted      == the lowest dart of each cycle: labels of the base that are always right
---   outside-beside   == a change of the forest's part only keeps the map
 --   outside-history  == and the history,
 --   outside-numbered == whose numbers are still of darts
 --   kind-passed      == a kind of which there are none, and none are coming
@@ -29,10 +28,11 @@ use Rattle.area.specs.Trees.{Outside, rooted}
 use Rattle.area.proofs.Labels.{labelled-same}
 use Rattle.area.proofs.Outside.{outside-refl, outside-trans, outside-rest}
 use Rattle.area.proofs.Replay.{replay-other}
-use Rattle.engine.specs.Held.{Area, mapIn, ring, Rooted}
+use Rattle.darts.proofs.TopLabels.{cyclesOf}
+use Rattle.engine.specs.Held.{Area, mapIn, Rooted}
 use Rattle.engine.specs.Checks.{hasKind, Grown, KindTried, BothTried}
 use Rattle.engine.proofs.Around.{ring-good, step-perm}
-use Rattle.engine.proofs.Beside.{Beside, beside-rooted}
+use Rattle.engine.proofs.Beside.{beside-rooted}
 use Rattle.engine.proofs.ByRoots.{rooted-start}
 
 -- ---- is there an operation of kind k?
@@ -55,13 +55,10 @@ none-replayed k R (h ∷ hs) none =
 
 -- ---- one kind
 
-walk-rooted : {D : ℕ} {w : List ℕ} → Area D 0 w → (k : ℕ) → Rooted D 0 k w (lowestMet (ring (kindOf k) (mapIn D 0 w)) D)
+walk-rooted : {D : ℕ} {w : List ℕ} → Area D 0 w → (k : ℕ) → Rooted D 0 k w (lowestMet (cyclesOf (kindOf k) (mapIn D 0 w)) D)
 walk-rooted A k = lowest-labels (ring-good (A .stands .good) (kindOf k) .perm) _
 
-pub outside-beside : {D : ℕ} {w v : List ℕ} → Outside D w v → Beside D w v
-outside-beside o = record { size = o .size; front = o .front; rest = o .rest }
-
-outside-back : {D : ℕ} {w v : List ℕ} → Outside D w v → Beside D v w
+outside-back : {D : ℕ} {w v : List ℕ} → Outside D w v → Outside D v w
 outside-back o = record { size = sym (o .size); front = sym (o .front); rest = sym (o .rest) }
 
 outside-history : {D : ℕ} {w v : List ℕ} (n : ℕ) → Outside D w v → historyIn D n v ≡ historyIn D n w
@@ -74,7 +71,7 @@ module _ {D n k : ℕ} {w : List ℕ} (A : Area D 0 w) where
   pub kind-passed : {coming : ℕ} → k ≢ coming → hasKind k (historyIn D n w) ≡ false → KindTried D n k coming w w true
   kind-passed other none = record {
     outside = outside-refl D w;
-    label = lowestMet (ring (kindOf k) (mapIn D 0 w)) D;
+    label = lowestMet (cyclesOf (kindOf k) (mapIn D 0 w)) D;
     right = walk-rooted A k;
     answer = sym (none-replayed k _ (historyIn D n w) none);
     grown = λ _ e. absurd (other e);

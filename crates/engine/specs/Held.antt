@@ -1,7 +1,6 @@
 -- What the work area holds while a call goes on.
 --   Area D n w      == the table and the past of n operations stand in w, with the dart before each survivor
 --   mapIn D n w     == the map of its survivors
---   ring k m        == the permutation whose cycles an operation of kind k joins: the successor, or for removals the face-next
 --   Rooted D n k w R == the roots R say which survivors are on one vertex (k = 1) or one face (k = 0)
 --   Ready D n k w   == an area whose forest judges operations of kind k
 --   Beyond D w v    == v has w's length, and w's numbers from 4D on
@@ -10,12 +9,13 @@ use mathlib.Core.Path.{_≡_}
 use Prim.Native.Nat.{ℕ, _*_, _/_, _≤_, _<_}
 use lib.Dec.{T}
 use lib.ListN.{length, drop}
-use Rattle.permutations.specs.Map.{Map, face}
+use Rattle.permutations.specs.Map.{Map}
 use Rattle.permutations.specs.Labels.{Labels}
 use Rattle.darts.specs.Map.{live, before}
-use Rattle.darts.specs.Operation.{Kind, contraction, removal, kindOf}
+use Rattle.darts.specs.Operation.{kindOf}
 use Rattle.darts.specs.Tests.{numbered}
 use Rattle.darts.proofs.Standing.{Standing, mapOf}
+use Rattle.darts.proofs.TopLabels.{cyclesOf}
 use Rattle.forest.specs.Forest.{Falls}
 use Rattle.area.specs.Area.{prev, tableIn, pastIn, forestIn, Room}
 use Rattle.area.specs.Trees.{rooted}
@@ -31,12 +31,8 @@ pub record Area (D n : ℕ) (w : List ℕ) : Type 0 where
 abbrev pub mapIn : ℕ → ℕ → List ℕ → Map
 mapIn D n w = mapOf D (tableIn D w) (pastIn D n w)
 
-abbrev pub ring : Kind → Map → ℕ → ℕ
-ring contraction m = m .next
-ring removal m = face m
-
 abbrev pub Rooted : ℕ → ℕ → ℕ → List ℕ → (ℕ → ℕ) → Type 0
-Rooted D n k w R = Labels (live D (pastIn D n w)) (ring (kindOf k) (mapIn D n w)) R
+Rooted D n k w R = Labels (live D (pastIn D n w)) (cyclesOf (kindOf k) (mapIn D n w)) R
 
 pub record Ready (D n k : ℕ) (w : List ℕ) : Type 0 where
   pub kind : k ≤ 1

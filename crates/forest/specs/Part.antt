@@ -3,6 +3,7 @@
 --   part a e l    == the numbers of l from a on, up to and without e
 --   put a e l t   == l with t in the place of that part
 --   part-length   == the part has e - a numbers
+--   take-part     == all of it is taken
 --   part-at       == what stands at i in the part stands at a + i in l
 --   part-put      == the part that was put there is there
 --   put-length    == l has kept its length
@@ -14,7 +15,7 @@ use mathlib.Core.List.{List, _++_}
 use Prim.Native.Nat.{ℕ, _+_, _-_, _≤_, _<_}
 use native.Mathlib.Omega.{arith}
 use lib.ListN.{length, getD, take, drop, length-take, length-drop}
-use lib.Seq.{take-at, drop-at, length-take-le, getD-take, getD-drop, ext-getD}
+use lib.Seq.{take-all, take-at, drop-at, length-take-le, getD-take, getD-drop, ext-getD}
 use borrow.Rule.Slice.PartMut.{midOf, postOf, putMid, mid-len, same-len-mid, take-put, drop-put}
 
 abbrev pub part : ℕ → ℕ → List ℕ → List ℕ
@@ -25,6 +26,9 @@ put a e l t = putMid a (e - a) l t
 
 pub part-length : (a e : ℕ) (l : List ℕ) → e ≤ length l → length (part a e l) ≡ e - a
 part-length a e l inside = mid-len a e l inside
+
+pub take-part : (a m : ℕ) (w : List ℕ) → a + m ≤ length w → take m (part a (a + m) w) ≡ part a (a + m) w
+take-part a m w fits = take-all m (part a (a + m) w) (omega (arith, part-length a (a + m) w fits))
 
 pub part-at : (a e : ℕ) (l : List ℕ) (i : ℕ) → i < e - a → getD (part a e l) i 0 ≡ getD l (a + i) 0
 part-at a e l i h = getD-take (e - a) (drop a l) i 0 h ∙ getD-drop a l i 0

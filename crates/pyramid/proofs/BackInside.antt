@@ -6,12 +6,11 @@
 use mathlib.Core.Bool.{true}
 use mathlib.Core.List.{List}
 use mathlib.Core.Path.{_≡_, refl, sym, ap, ap₂, _∙_}
-use Prim.Native.Nat.{ℕ, _-_, _/_, _≤_, _<_}
+use Prim.Native.Nat.{ℕ, _-_, _≤_, _<_}
 use native.Mathlib.Omega.{arith}
 use borrow.Author.Tests.{eq-eqb, lt-ltb, le-ltb}
-use lib.ListN.{length}
 use Rattle.darts.specs.Answers.{noLevel}
-use Rattle.darts.specs.State.{State, Result, gives, refuses}
+use Rattle.darts.specs.State.{State, gives, refuses}
 use Rattle.darts.specs.Levels.{undoLevel, undoLevels, unfoldTo}
 use Rattle.darts.specs.Calls.{fitting, tableOf, pastOf}
 use Rattle.area.specs.Area.{Room, tableIn, pastIn}

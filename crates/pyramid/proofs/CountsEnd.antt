@@ -6,19 +6,17 @@
 use mathlib.Core.Bool.{true, false}
 use mathlib.Core.List.{List}
 use mathlib.Core.Logic.{_≢_}
-use mathlib.Core.Path.{_≡_, refl, sym, ap, ap₂, _∙_}
-use Prim.Native.Nat.{ℕ, _-_, _*_, _/_, _≤_}
+use mathlib.Core.Path.{_≡_, refl, ap, ap₂, _∙_}
+use Prim.Native.Nat.{ℕ, _-_, _*_}
 use native.Mathlib.Omega.{arith}
 use borrow.Author.Tests.{eq-eqb, ne-eqb}
-use lib.IntN.{ℤ, pos, _+ℤ_, _-ℤ_}
 use lib.ListN.{length}
 use Rattle.darts.specs.Answers.{done, noPyramid}
-use Rattle.darts.specs.Map.{successor, faceNext}
-use Rattle.darts.specs.Counts.{Counts as Tally, countsFrom, countsOf, noCounts, surviving, cycles}
+use Rattle.darts.specs.Counts.{countsFrom, countsOf, noCounts, surviving}
 use Rattle.darts.specs.Pyramid.{isPyramid}
 use Rattle.darts.specs.State.{State as Stated}
-use Rattle.darts.specs.Calls.{Counted as Left, counts, fitting, judged, tableOf, pastOf, cleared, workAfter}
-use Rattle.area.specs.Area.{tableIn, pastIn}
+use Rattle.darts.specs.Calls.{counts, fitting, judged, tableOf, pastOf, cleared, workAfter}
+use Rattle.area.specs.Area.{pastIn}
 use Rattle.engine.specs.Checks.{Checked}
 use Rattle.engine.specs.Counted.{CountedIn}
 use Rattle.engine.specs.Held.{Area}

@@ -7,16 +7,16 @@
 --   inside-level   == one level more by a run in the work area
 --   halts-of       == a run that ended: what one level more asks
 use mathlib.Core.Bool.{Bool, true, false, not, true≢false}
-use mathlib.Core.List.{List, reverse, reverse-reverse}
+use mathlib.Core.List.{List, reverse-reverse}
 use mathlib.Core.Logic.{_≢_}
-use mathlib.Core.Path.{_≡_, refl, sym, ap, subst, _∙_}
+use mathlib.Core.Path.{_≡_, sym, ap, subst, _∙_}
 use Prim.Native.Nat.{ℕ, _+_, _*_, _/_, _≤_, _<_}
 use native.Mathlib.Omega.{arith}
-use borrow.Author.Tests.{le-leb, lt-leb, ne-eqb}
+use borrow.Author.Tests.{lt-leb, ne-eqb}
 use lib.Dec.{eqb, leb}
 use lib.ListN.{length, drop}
 use Rattle.forest.specs.Part.{part}
-use Rattle.darts.specs.Answers.{Answer as Answered, done, noPyramid, tooManyLevels, answered, emptyKernel}
+use Rattle.darts.specs.Answers.{Answer as Answered, done, noPyramid, tooManyLevels, emptyKernel}
 use Rattle.darts.specs.Choose.{if_then_else_}
 use Rattle.darts.specs.Kernel.{Run, stands, stops}
 use Rattle.darts.specs.State.{State as Stated, Result, gives, refuses, levelled}
@@ -26,7 +26,6 @@ use Rattle.darts.proofs.Stops.{Edgy}
 use Rattle.area.specs.Area.{Room, tableIn, pastIn}
 use Rattle.area.proofs.Cleared.{cleared-kept}
 use Rattle.engine.specs.Checks.{Checked}
-use Rattle.engine.specs.Held.{Area, Beyond}
 use Rattle.engine.specs.Runs.{ranIn, Went}
 use Rattle.engine.specs.declared.Ran.{Ran}
 use Rattle.pyramid.specs.Steps.{Halts}

@@ -5,24 +5,21 @@
 --   Falling k s z w v == on the way from s down to level k: z and v are as far as it went
 --   falling-start, falling-more, falling-end == none yet, one level more, level k
 use mathlib.Core.List.{List, [], _∷_}
-use mathlib.Core.Path.{_≡_, refl, sym, ap, _∙_}
-use Prim.Native.Nat.{ℕ, zero, suc, _+_, _-_, _*_, _/_, _≤_, _<_}
+use mathlib.Core.Path.{_≡_, refl, ap, _∙_}
+use Prim.Native.Nat.{ℕ, zero, suc, _-_, _≤_, _<_}
 use native.Mathlib.Decide.{decLe}
 use native.Mathlib.Nat.{not-suc-le-zero, le-of-suc-le-suc}
 use native.Mathlib.Omega.{arith}
 use borrow.Author.Tests.{ne-eqb, le-leb, lt-leb}
-use lib.ListN.{length, getD, take, drop, length-take}
+use lib.ListN.{length, getD, take, length-take}
 use lib.Seq.{getD-take}
 use Rattle.darts.specs.State.{State, gives, andThen}
-use Rattle.darts.specs.Operation.{undone}
 use Rattle.darts.specs.Levels.{endBelow, lowered, undoLevel, undoLevels}
-use Rattle.darts.specs.Pyramid.{Pyramid}
 use Rattle.darts.proofs.Ends.{Rising, Layered}
-use Rattle.darts.proofs.Builds.{Built}
 use Rattle.darts.proofs.Pyramids.{pyramid-built}
 use Rattle.darts.proofs.Undo.{undo-pyramid}
 use Rattle.area.specs.Area.{tableIn, pastIn}
-use Rattle.engine.specs.Held.{Area, Beyond}
+use Rattle.engine.specs.Held.{Beyond}
 use Rattle.engine.specs.Back.{TookBack}
 use Rattle.pyramid.specs.Steps.{Stacked, Lowered, Unfolded}
 

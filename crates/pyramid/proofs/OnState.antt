@@ -6,14 +6,14 @@
 use mathlib.Core.Bool.{true, false}
 use mathlib.Core.List.{List, reverse}
 use mathlib.Core.Logic.{_≢_}
-use mathlib.Core.Path.{_≡_, refl, sym, ap, ap₂, _∙_}
-use Prim.Native.Nat.{ℕ, _*_}
+use mathlib.Core.Path.{_≡_, sym, ap, _∙_}
+use Prim.Native.Nat.{ℕ}
 use borrow.Author.Tests.{eq-eqb, ne-eqb}
-use lib.ListN.{length, drop}
+use lib.ListN.{length}
 use Rattle.darts.specs.Answers.{Answer as Answered, done, noPyramid}
 use Rattle.darts.specs.State.{State as Stated, Result, gives, refuses}
 use Rattle.darts.specs.Pyramid.{isPyramid}
-use Rattle.darts.specs.Calls.{After, leaves, fitting, judged, tableOf, pastOf, over, cleared, workAfter, handsBack, onState}
+use Rattle.darts.specs.Calls.{fitting, judged, tableOf, pastOf, over, cleared, workAfter, handsBack, onState}
 use Rattle.pyramid.specs.Values.{left, Hands}
 use Rattle.pyramid.proofs.Fitting.{first-keeps}
 use Rattle.pyramid.proofs.Started.{hands}

@@ -2,16 +2,16 @@
 --   level-stops  == the run stopped at an edge
 --   level-empty  == it took no edge
 --   level-raised == one level more
-use mathlib.Core.List.{List, reverse, reverse-reverse}
+use mathlib.Core.List.{List, reverse-reverse}
 use mathlib.Core.Logic.{_≢_}
-use mathlib.Core.Path.{_≡_, refl, sym, ap, _∙_}
-use Prim.Native.Nat.{ℕ, _+_, _*_, _/_, _≤_, _<_, min}
+use mathlib.Core.Path.{_≡_, sym, _∙_}
+use Prim.Native.Nat.{ℕ, _+_, _*_}
 use native.Mathlib.Omega.{arith}
 use borrow.Author.Tests.{eq-eqb, ne-eqb}
 use lib.ListN.{length, take, length-take, length-reverse}
 use Rattle.forest.specs.Part.{part}
 use Rattle.darts.specs.Answers.{Answer as Answered, answered, done, emptyKernel}
-use Rattle.darts.specs.State.{State as Stated, raised, levelled, gives, refuses}
+use Rattle.darts.specs.State.{State as Stated, raised, levelled, refuses}
 use Rattle.darts.specs.Calls.{leaves, handsBack, workAfter, pastOf, over, cleared}
 use Rattle.area.specs.Area.{tableIn, pastIn}
 use Rattle.engine.specs.Runs.{ranIn}

@@ -11,7 +11,7 @@ use lib.ListN.{length}
 use Rattle.darts.specs.Answers.{Answer as Answered, done, noPermutation}
 use Rattle.darts.specs.Map.{firstBad}
 use Rattle.darts.specs.State.{State as Stated, baseState}
-use Rattle.darts.specs.Calls.{After, leaves, start, fitting, cleared}
+use Rattle.darts.specs.Calls.{leaves, start, fitting, cleared}
 use Rattle.pyramid.specs.Values.{left, Hands}
 use Rattle.pyramid.specs.declared.Outcome.{Outcome}
 

@@ -9,7 +9,6 @@ use Prim.Native.Nat.{ℕ}
 use lib.Dec.{eqb}
 use Rattle.darts.specs.Answers.{Answer as Answered}
 use Rattle.darts.specs.Choose.{if_then_else_}
-use Rattle.darts.specs.State.{State as Stated}
 use Rattle.darts.specs.Calls.{After, Counted as CountsAfter}
 use Rattle.pyramid.specs.Values.{answerOf, stateOf, left, countsLeft}
 use Rattle.pyramid.specs.declared.State.{State}

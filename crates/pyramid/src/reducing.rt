@@ -12,7 +12,7 @@ use engine::check::check;
 use engine::kernel::run;
 use engine::store::store;
 ghost use mathlib.Core.Path.{_≡_};
-ghost use Prim.Native.Nat.{ℕ, _+_, _≤_, _<_};
+ghost use Prim.Native.Nat.{_≤_};
 ghost use lib.ListN.{length};
 ghost use Rattle.darts.specs.Calls.{reduceBy, fitting, pastOf, handsBack, cleared};
 ghost use Rattle.darts.specs.Operation.{kindOf as kindOfBit};

@@ -5,10 +5,9 @@ use crate::State;
 use crate::answers::fit;
 use area::base::first_bad;
 ghost use mathlib.Core.Path.{_≡_};
-ghost use Rattle.darts.specs.Answers.{Answer as Answered};
 ghost use Rattle.darts.specs.State.{baseState};
 ghost use Rattle.darts.specs.Calls.{start as startOf};
-ghost use Rattle.pyramid.specs.Values.{answerOf, stateOf, left};
+ghost use Rattle.pyramid.specs.Values.{stateOf, left};
 
 // A state of d darts with no level, and an answer.
 pub fn based(darts: u32, answer: Answer) -> Outcome

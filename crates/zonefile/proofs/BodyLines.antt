@@ -6,20 +6,20 @@
 --   level-wrong, level-right == what the line before them decides
 use mathlib.Core.Path.{_≡_, refl, sym, ap, _∙_}
 use mathlib.Core.Logic.{inr}
-use mathlib.Core.List.{List, [], _++_, map, append-nil}
+use mathlib.Core.List.{List, map, append-nil}
 use Prim.Native.Nat.{ℕ, _+_, _-_, _*_, _/_, _≤_}
 use native.Mathlib.Omega.{arith}
-use lib.ListN.{length, take, drop, length-map}
+use lib.ListN.{length, length-map}
 use lib.Seq.{take-at, drop-length}
 use borrow.Rule.Slice.PartMut.{postOf, drop-put}
 use Rattle.darts.specs.Answers.{answered}
 use Rattle.darts.specs.Scan.{Scan, found, fault, after}
-use Rattle.darts.specs.Read.{KernelLine, Body, kernelsAt, pairsAt, body, endAt, fromFlag, total, fileState, fileHistory}
+use Rattle.darts.specs.Read.{KernelLine, Body, kernelsAt, pairsAt, body, fromFlag, total, fileState, fileHistory}
 use Rattle.darts.specs.Calls.{over}
 use Rattle.darts.proofs.Ends.{state-path}
 use Rattle.forest.specs.Part.{part, put, part-length, part-put, put-length, put-elsewhere}
 use Rattle.area.specs.Area.{Room, tableIn}
-use Rattle.area.specs.Shape.{stateOf, historyIn}
+use Rattle.area.specs.Shape.{historyIn}
 use Rattle.area.proofs.Cleared.{drop-more}
 use Rattle.area.proofs.Parts.{part-inner}
 use Rattle.engine.specs.Held.{Beyond}

@@ -20,7 +20,7 @@ use Rattle.area.specs.Shape.{historyIn}
 use Rattle.area.proofs.Cleared.{drop-more}
 use Rattle.area.proofs.Outside.{forest-at}
 use Rattle.engine.specs.Held.{Area}
-use Rattle.engine.proofs.Beside.{Beside, beside-table, beside-past, beside-area}
+use Rattle.engine.proofs.Beside.{beside-table, beside-past, beside-area}
 use Rattle.engine.proofs.Parts.{rest-from, forest-rest}
 use Rattle.zonefile.specs.Laid.{laid}
 use Rattle.zonefile.specs.Numbering.{Dense, Placed, renamed, entriesIn, Numbered}
@@ -43,9 +43,6 @@ laid-forest {D} w xs room size =
     let fits = room .fits in
     let long : 3 * D - 2 * D ≡ 2 * D + length xs - 2 * D = omega arith in
     ap (λ (m : ℕ). take m (drop (2 * D) (laid w (2 * D) xs))) long ∙ laid-there w (2 * D) xs (record { fits = omega arith })
-
-outside-beside : {D : ℕ} {w v : List ℕ} → Outside D w v → Beside D w v
-outside-beside o = record { size = o .size; front = o .front; rest = o .rest }
 
 -- what stands at a place of a list is in it
 getD-in : (xs : List ℕ) (i : ℕ) → i < length xs → List·Memᴰ (getD xs i 0) xs
@@ -71,8 +68,8 @@ module _ {D n : ℕ} {w : List ℕ} (A : Area D n w) where
       let size : 3 * D + n - 3 * D ≡ n = omega arith in
       taken-length (historyIn D n w) ∙ ap (λ (m : ℕ). 2 * m) (part-length (3 * D) (3 * D + n) w (omega arith) ∙ size)
 
-  taken-beside : {v : List ℕ} → v ≡ laid w (2 * D) (taken (historyIn D n w)) → Beside D w v
-  taken-beside e = rw e (outside-beside (laid-outside w (taken (historyIn D n w)) (A .room) (let t = darts-taken in let few = A .few in omega arith)))
+  taken-beside : {v : List ℕ} → v ≡ laid w (2 * D) (taken (historyIn D n w)) → Outside D w v
+  taken-beside e = rw e (laid-outside w (taken (historyIn D n w)) (A .room) (let t = darts-taken in let few = A .few in omega arith))
 
   -- THE MAP IS HELD AS BEFORE
   pub listed-taken : {v : List ℕ} → v ≡ laid w (2 * D) (taken (historyIn D n w)) → Area D n v
@@ -116,7 +113,7 @@ module _ {D n : ℕ} {w : List ℕ} (A : Area D n w) where
       entry : (x : ℕ) → x < D → getD u x 0 ≡ successor (tableIn D w) x
       unfolding successor
       entry x h =
-          sym (getD-take D u x 0 h) ∙ ap (λ (l : List ℕ). getD l x 0) (p .table ∙ beside-table (outside-beside same-outside))
+          sym (getD-take D u x 0 h) ∙ ap (λ (l : List ℕ). getD l x 0) (p .table ∙ beside-table (same-outside))
 
       number : (x : ℕ) → x < D → (getD u (D + x) 0 ≡ fileNumber D past x) × (getD u (D + x) 0 < D)
       unfolding fileNumber

@@ -13,7 +13,6 @@ use mathlib.Core.Logic.{_≢_}
 use mathlib.Core.Path.{_≡_, refl, ap, _∙_}
 use Prim.Native.Nat.{ℕ, _/_, _≤_, _<_}
 use native.Mathlib.Omega.{arith}
-use lib.Dec.{T}
 use lib.ListN.{length, length-reverse}
 use Rattle.permutations.specs.Choice.{nT→false}
 use Rattle.darts.specs.Choose.{if_then_else_}
@@ -23,7 +22,7 @@ use Rattle.darts.specs.Pyramid.{dartCount, isPyramid}
 use Rattle.darts.specs.Text.{bytes}
 use Rattle.darts.specs.File.{lineFeed}
 use Rattle.darts.specs.Scan.{Scan, found, fault, word, field}
-use Rattle.darts.specs.Read.{Opening, Body, Read, means, faulty, flagAt, opening, body, fromFlag, total, fileState, fileHistory, closed, opened, readFile}
+use Rattle.darts.specs.Read.{Opening, Body, Read, faulty, flagAt, opening, body, fromFlag, total, fileState, fileHistory, closed, opened, readFile}
 use Rattle.darts.specs.Calls.{After, leaves, room, fitting, over, cleared, readInto, read}
 use Rattle.darts.proofs.Decided.{pyramid-decided}
 use Rattle.darts.proofs.Room.{pyramid-room}

@@ -6,7 +6,7 @@
 use mathlib.Core.Bool.{Bool, true, false}
 use mathlib.Core.List.{List}
 use mathlib.Core.Logic.{_≢_}
-use mathlib.Core.Path.{_≡_, refl, sym, ap, _∙_}
+use mathlib.Core.Path.{_≡_, refl}
 use Prim.Native.Nat.{ℕ}
 use native.Mathlib.Omega.{arith}
 use borrow.Author.Tests.{eq-eqb, ne-eqb}
@@ -19,7 +19,6 @@ use Rattle.darts.specs.State.{State}
 use Rattle.darts.specs.File.{fileOf}
 use Rattle.darts.specs.Calls.{Written as Left, write, fitting, judged, tableOf, pastOf, over, cleared, workAfter}
 use Rattle.pyramid.proofs.Fitting.{first-keeps}
-use Rattle.zonefile.specs.declared.writing.Written.{Written}
 use Rattle.zonefile.specs.declared.writing.Written.the-variants.{Short, Wrote}
 use Rattle.zonefile.specs.Writing.{FileWritten}
 

@@ -1,7 +1,7 @@
 -- `engine::check::try_both` meets its contract: replaying one kind changes the forest only, so that the other finds the same base.
 use borrow.Author.Needs.{needs}
 use Rattle.engine.proofs.Beside.{beside-area}
-use Rattle.engine.proofs.Tries.{outside-beside, outside-numbered, both-no, both-yes}
+use Rattle.engine.proofs.Tries.{outside-numbered, both-no, both-yes}
 use Rattle.engine.proofs.check.try_both.Statement.{statement}
 use Rattle.engine.proofs.check.try_both.Tie as tie
 
@@ -15,7 +15,7 @@ try-kind-requires-2 : tie.Need-try-kind-requires-2
 try-kind-requires-2 c κs =
     let s = c .before .before .before .before .before .before .before in
     let K = c .before .before .before .before .try-kind .ensures in
-    (beside-area (outside-beside (K .outside)) (s .pre .0), (outside-numbered (K .outside) (s .pre .1 .0), s .pre .1 .1 .0))
+    (beside-area (K .outside) (s .pre .0), (outside-numbered (K .outside) (s .pre .1 .0), s .pre .1 .1 .0))
 
 same-length : tie.Need-same-length
 same-length c = search needs

@@ -1,8 +1,8 @@
 -- `pyramid::State::counts` meets its contract: 1 and 2, or the counts inside, and then the work area cleared.
-use mathlib.Core.Path.{_≡_, _∙_, ap, sym}
+use mathlib.Core.Path.{_∙_, ap, sym}
 use native.Mathlib.Omega.{arith}
 use Rattle.darts.specs.Answers.{Answer as Answered}
-use Rattle.pyramid.specs.Values.{stateOf, answerOf}
+use Rattle.pyramid.specs.Values.{stateOf}
 use Rattle.pyramid.proofs.Fitting.{fits}
 use Rattle.pyramid.proofs.CountsEnd.{counts-first}
 use borrow.Author.Needs.{needs}

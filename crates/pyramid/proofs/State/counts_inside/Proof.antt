@@ -1,5 +1,5 @@
 -- `pyramid::State::counts_inside` meets its contract: the check, then the cycles counted in the work area.
-use mathlib.Core.Path.{_≡_, refl, ap, sym, _∙_}
+use mathlib.Core.Path.{refl, ap, sym, _∙_}
 use native.Mathlib.Omega.{arith}
 use Rattle.darts.specs.Answers.{done}
 use Rattle.darts.specs.Counts.{Counts as Tally}

@@ -1,6 +1,5 @@
 -- `pyramid::State::level` meets its contract: the ways that a level more ends.
 use mathlib.Core.Path.{_∙_, refl}
-use native.Mathlib.Omega.{arith}
 use Rattle.pyramid.specs.Values.{stateOf}
 use Rattle.pyramid.specs.declared.Answer.the-variants.{Done}
 use Rattle.pyramid.proofs.Raising.{level-stops, level-empty, level-raised}

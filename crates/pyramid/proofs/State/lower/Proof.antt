@@ -1,5 +1,4 @@
 -- `pyramid::State::lower` meets its contract: the operations since the kernel below are taken back.
-use mathlib.Core.Path.{_≡_, ap, sym}
 use native.Mathlib.Omega.{arith}
 use Rattle.engine.proofs.LastBack.{pyramid-backs}
 use Rattle.pyramid.specs.Values.{stateOf}

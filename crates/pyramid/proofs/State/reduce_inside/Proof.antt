@@ -1,5 +1,5 @@
 -- `pyramid::State::reduce_inside` meets its contract: the check, and then one level more.
-use mathlib.Core.Path.{_≡_, refl, ap₂, _∙_}
+use mathlib.Core.Path.{refl, ap₂, _∙_}
 use mathlib.Core.List.{List}
 use Prim.Native.Nat.{ℕ}
 use native.Mathlib.Omega.{arith}

@@ -1,5 +1,5 @@
 -- `pyramid::State::unfold` meets its contract: 1 and 2, or what is done inside, and then the work area cleared.
-use mathlib.Core.Path.{_≡_, _∙_, ap, sym}
+use mathlib.Core.Path.{_∙_, ap, sym}
 use native.Mathlib.Omega.{arith}
 use Rattle.darts.specs.Answers.{Answer as Answered}
 use Rattle.darts.specs.Calls.{unfoldBy}

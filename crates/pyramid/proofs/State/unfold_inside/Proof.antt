@@ -1,5 +1,5 @@
 -- `pyramid::State::unfold_inside` meets its contract: the check, levels taken back in the work area, and then stored.
-use mathlib.Core.Path.{_≡_, refl, _∙_}
+use mathlib.Core.Path.{_∙_}
 use native.Mathlib.Omega.{arith}
 use Rattle.darts.specs.Answers.{noLevel}
 use Rattle.darts.specs.Calls.{unfoldBy}

@@ -1,6 +1,6 @@
 -- `pyramid::State::unfolded` meets its contract. The invariant: what is left to undo from here is what was to be undone from the start.
-use mathlib.Core.Path.{_≡_, refl, sym, _∙_}
-use Prim.Native.Nat.{ℕ, _-_}
+use mathlib.Core.Path.{_≡_, refl}
+use Prim.Native.Nat.{_-_}
 use native.Mathlib.Omega.{arith}
 use borrow.Author.Needs.{needs}
 use Rattle.pyramid.specs.Values.{stateOf}

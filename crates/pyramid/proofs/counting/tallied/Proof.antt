@@ -8,7 +8,6 @@ use lib.IntN.{ℤ, pos, _+ℤ_, _-ℤ_}
 use mir.Facts.{toZ-pos, toZ-ofZ}
 use mir.Syntax.{w32}
 use mir.Val.{SFits, toZ, ofZ}
-use Rattle.darts.specs.Counts.{Counts as Tally}
 use Rattle.pyramid.proofs.Signed.{mag-sub, mag-add, fits-32}
 use Rattle.pyramid.proofs.counting.tallied.Statement.{statement}
 use Rattle.pyramid.proofs.counting.tallied.Tie as tie

@@ -1,6 +1,6 @@
 -- `pyramid::starting::start` meets its contract: the three ways that a start ends.
 use Prim.Native.Nat.{ℕ}
-use mathlib.Core.Path.{_≡_, _∙_, ap, sym}
+use mathlib.Core.Path.{_∙_, ap, sym}
 use native.Mathlib.Omega.{arith}
 use borrow.Author.Needs.{needs}
 use Rattle.darts.specs.Answers.{Answer as Answered, noPermutation}

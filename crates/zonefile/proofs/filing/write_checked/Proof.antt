@@ -1,5 +1,5 @@
 -- `zonefile::filing::write_checked` meets its contract: the check, then the file, or what it needs.
-use mathlib.Core.Path.{_≡_, refl, sym, _∙_}
+use mathlib.Core.Path.{refl, sym, _∙_}
 use native.Mathlib.Omega.{arith}
 use Rattle.darts.specs.Calls.{tableOf, pastOf}
 use Rattle.area.proofs.Cleared.{cleared-kept}

@@ -1,17 +1,10 @@
 -- `zonefile::reading::accept` meets its contract: all numbers of the history's lent part are copied.
-use mathlib.Core.List.{List}
-use mathlib.Core.Path.{_≡_}
-use Prim.Native.Nat.{ℕ, _+_, _*_, _≤_}
+use Prim.Native.Nat.{_*_}
 use native.Mathlib.Omega.{arith}
-use lib.ListN.{length, take}
-use lib.Seq.{take-all}
 use borrow.Author.Needs.{needs}
-use Rattle.forest.specs.Part.{part, part-length}
+use Rattle.forest.specs.Part.{take-part}
 use Rattle.zonefile.proofs.reading.accept.Statement.{statement}
 use Rattle.zonefile.proofs.reading.accept.Tie as tie
-
-take-part : (a m : ℕ) (w : List ℕ) → a + m ≤ length w → take m (part a (a + m) w) ≡ part a (a + m) w
-take-part a m w fits = take-all m (part a (a + m) w) (omega (arith, part-length a (a + m) w fits))
 
 pairs-requires : tie.Need-pairs-requires
 pairs-requires c κs = search needs
