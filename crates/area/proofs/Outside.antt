@@ -11,20 +11,17 @@
 --   forest-at       == the number at x in the forest's part
 --   set-forest      == a store outside of the forest's part does not change it
 --   set-outside     == a store in the forest's part changes nothing else
---   part-cons       == a part that is not empty: its first number, and the part after it
---   part-none       == an empty part
 use mathlib.Core.Logic.{_⊎_, inl, inr}
-use mathlib.Core.List.{List, [], _∷_}
+use mathlib.Core.List.{List}
 use mathlib.Core.Path.{_≡_, refl, sym, ap, _∙_}
-use Prim.Native.Nat.{ℕ, suc, _+_, _-_, _*_, _/_, _≤_, _<_}
-use native.Mathlib.Numerals.{add-one}
+use Prim.Native.Nat.{ℕ, _+_, _-_, _*_, _/_, _≤_, _<_}
 use native.Mathlib.Omega.{arith}
 use lib.Dec.{ltb}
 use lib.ListN.{length, getD, set, length-set}
-use lib.Seq.{getD-take, getD-drop, ext-getD, getD-set-other, take-set-le, drop-set-lt, drop-cons}
+use lib.Seq.{getD-take, getD-drop, ext-getD, getD-set-other, take-set-le, drop-set-lt}
 use Rattle.permutations.specs.Partner.{partner, partner-below}
 use Rattle.darts.specs.Map.{successor}
-use Rattle.forest.specs.Part.{part, part-length, part-at}
+use Rattle.forest.specs.Part.{part-length, part-at}
 use Rattle.area.specs.Area.{Room, prev, there, forestIn, around}
 use Rattle.area.specs.Operate.{wholeIn}
 use Rattle.area.specs.Trees.{Outside}
@@ -86,12 +83,3 @@ set-outside D w x v h =
       front = take-set-le (2 * D) w (2 * D + x) v (omega arith);
       rest = drop-set-lt (3 * D) w (2 * D + x) v (omega arith);
     }
-
-pub part-cons : (a e : ℕ) (l : List ℕ) → a < e → e ≤ length l → part a e l ≡ getD l a 0 ∷ part (a + 1) e l
-part-cons a e l h inside =
-    let m : e - a ≡ suc (e - (a + 1)) = omega arith in
-    let k : a < length l = omega arith in
-    rw (m, drop-cons l a 0 k, add-one a) refl
-
-pub part-none : (a e : ℕ) (l : List ℕ) → e ≤ a → part a e l ≡ []
-part-none a e l h = let z : e - a ≡ 0 = omega arith in rw z refl

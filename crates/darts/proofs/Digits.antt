@@ -2,6 +2,7 @@
 --   Decimal x w == the bytes w are the digits of x, with no leading zero but for 0 itself
 --   Fits n x    == n digits are enough for x
 --   First x w   == the digits w of x begin with a digit, which is 0 only where x is
+--   digits-before == digits are put before what stands there
 use mathlib.Core.List.{List, [], _∷_, _++_, append-assoc}
 use mathlib.Core.Path.{_≡_, refl, sym, ap, _∙_}
 use Prim.Native.Nat.{ℕ, zero, suc, _+_, _*_, _/_, _%_, _<_, _≤_}
@@ -30,7 +31,7 @@ digits-more : (n x : ℕ) (l : List ℕ) → ¬ (x < 10) → digits (suc n) x l 
 unfolding digits
 digits-more n x l h = rw (nT→false (ltb x 10) (λ t. h (ltb→lt x 10 t)))
 
-digits-before : (n x : ℕ) (l : List ℕ) → digits n x l ≡ digits n x [] ++ l
+pub digits-before : (n x : ℕ) (l : List ℕ) → digits n x l ≡ digits n x [] ++ l
 unfolding digits
 digits-before zero x l = refl
 digits-before (suc n) x l = go (decLt x 10) (digits-before n (x / 10))

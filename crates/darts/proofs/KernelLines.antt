@@ -116,7 +116,7 @@ module _ {s : State} {t past : List ℕ} (P : Pyramid s t past) where
 
 -- ---- the kernels that the lines of a file state
 
-numbers-length : (k : Kind) (i n : ℕ) → length (numbersFrom k i n) ≡ n
+pub numbers-length : (k : Kind) (i n : ℕ) → length (numbersFrom k i n) ≡ n
 unfolding numbersFrom
 numbers-length k i zero = refl
 numbers-length k i (suc n) = ap suc (numbers-length k (suc i) n)
@@ -138,7 +138,7 @@ cut-lines i (k ∷ ks) C =
     rw (take-at here (historyFrom end ks) (end - i) count, drop-at here (historyFrom end ks) (end - i) count)
     (ap₂ _∷_ (numbers-line (k .kind) i (k .count) (C .0 .some)) (cut-lines end ks (C .1)))
 
-ends-length : (i : ℕ) (ks : List KernelLine) → length (endsFrom i ks) ≡ length ks
+pub ends-length : (i : ℕ) (ks : List KernelLine) → length (endsFrom i ks) ≡ length ks
 unfolding endsFrom
 ends-length i [] = refl
 ends-length i (k ∷ ks) = ap suc (ends-length (i + k .count) ks)

@@ -8,7 +8,7 @@ use Prim.Native.Nat.{ℕ, _*_}
 use native.Mathlib.Decide.{ℕ-discrete}
 use lib.Dec.{T, eqb}
 use Rattle.permutations.specs.Choice.{pick, eqb-same, eqb-other}
-use Rattle.permutations.specs.Partner.{partner, partner-first, partner-partner}
+use Rattle.permutations.specs.Partner.{partner, partner-first, partner-partner, End}
 use Rattle.permutations.specs.Cycle.{Meets, meets-next, meets-sym}
 use Rattle.permutations.specs.Map.{partner-live}
 use Rattle.permutations.specs.Legal.{Separate, Legal, around, around-perm, Whole, act}
@@ -30,6 +30,14 @@ pub lead-pick : (k : Kind) (t : List ℕ) (e : ℕ) → (let p : ℕ = 2 * e in 
 unfolding lead turned
 lead-pick removal t e = rw (partner-first e)
 lead-pick contraction t e = rw (partner-partner (2 * e), partner-first e)
+
+-- the lead is a dart of the edge
+pub lead-end : (k : Kind) (t : List ℕ) (e : ℕ) → End (2 * e) (lead k t e)
+lead-end k t e = rw (lead-pick k t e) (go (eqb (entryOf k t (partner (2 * e))) (2 * e)))
+  where
+    go : (b : Bool) → End (2 * e) (pick b (partner (2 * e)) (2 * e))
+    go true = inr refl
+    go false = inl refl
 
 module _ {D : ℕ} {t past : List ℕ} (S : Standing D t past) where
   -- the permutation whose cycles the operation joins steps from a dart to what the dart before its partner takes over

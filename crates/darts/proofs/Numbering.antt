@@ -1,6 +1,7 @@
 -- The file's own numbers of the darts (document 01, "The file").
 --   Numbering D past == what `fileNumber` gives: a bijection of the darts, by "the p and q of operation t, t from 1, become 2t-2 and 2t-1; surviving edges
 --                       follow by rising number, each even dart staying even"
+--   order-length, order-small, number-below == the file's order has D places, each holds a dart, and each dart has one of them
 use mathlib.Core.List.{List, [], _∷_, _++_, reverse, List·Memᴰ, List·Memᴰ·not-nil, Memᴰ·append-left, Memᴰ·append-right, List·Memᴰ·append-cases, List·Memᴰ·eq-of-singleton}
 use mathlib.Core.Logic.{inl, inr, ⊎-elim}
 use mathlib.Core.Path.{_≡_, sym, ap, _∙_, subst}
@@ -74,7 +75,7 @@ module _ (D : ℕ) (past : List ℕ) (even : D % 2 ≡ 0) (L : T (numbered D pas
       once-append (taken (reverse past)) (survivors past D) (taken-once D even past L) (survivors-once past D)
       (λ x m n. gone-dies past x (taken-iff past x .1 m) (survivors-iff past D x .0 n .1))
 
-  order-small : (x : ℕ) → List·Memᴰ x (fileOrder D past) → x < D
+  pub order-small : (x : ℕ) → List·Memᴰ x (fileOrder D past) → x < D
   unfolding fileOrder
   order-small x m = ⊎-elim (taken-small D even past L x) (λ n. survivors-iff past D x .0 n .0) (List·Memᴰ·append-cases (taken (reverse past)) m)
 
@@ -86,7 +87,7 @@ module _ (D : ℕ) (past : List ℕ) (even : D % 2 ≡ 0) (L : T (numbered D pas
       go (yes g) = Memᴰ·append-left (survivors past D) (taken-iff past x .0 g)
       go (no n) = Memᴰ·append-right (taken (reverse past)) (survivors-iff past D x .1 (h, not-T (gone past x) n))
 
-  order-length : length (fileOrder D past) ≡ D
+  pub order-length : length (fileOrder D past) ≡ D
   order-length = all-places D (fileOrder D past) order-once order-small order-all
 
   order-parts : 2 * length past + length (survivors past D) ≡ D
@@ -123,7 +124,7 @@ module _ (D : ℕ) (past : List ℕ) (even : D % 2 ≡ 0) (L : T (numbered D pas
       let n : 2 * length past ≡ length (taken (reverse past)) = let n = length-reverse past in let m = taken-length (reverse past) in omega arith in
       rw n (getD-append-add (taken (reverse past)) (survivors past D) (surviving past d) 0 ∙ survivor-place past D d h s .1)
 
-  number-below : (d : ℕ) → d < D → fileNumber D past d < D
+  pub number-below : (d : ℕ) → d < D → fileNumber D past d < D
   unfolding fileNumber
   number-below d h = let e = order-length in omega (arith, placed (order-all d h) .inside)
 

@@ -25,7 +25,7 @@ number-lead removal p = omega arith
 number-lead contraction p = omega arith
 
 -- p is on edge p / 2
-number-half : (k : Kind) (p : ℕ) → number k p / 4 ≡ p / 2
+pub number-half : (k : Kind) (p : ℕ) → number k p / 4 ≡ p / 2
 unfolding number
 number-half removal p = omega arith
 number-half contraction p = omega arith

@@ -1,15 +1,14 @@
 -- An operation in a renamed table is the operation, renamed: where the new number of the lead is even, it does not turn round.
 --   t′, past′ == the table and the past in the new numbers
 --   p, e′     == the lead of the operation on edge e, and the edge of its new number
-use mathlib.Core.Bool.{Bool, true, false}
 use mathlib.Core.List.{List, map}
-use mathlib.Core.Logic.{_≢_, inl, inr}
-use mathlib.Core.Path.{_≡_, refl, sym, ap, _∙_, subst}
+use mathlib.Core.Logic.{_≢_}
+use mathlib.Core.Path.{_≡_, sym, ap, _∙_, subst}
 use Prim.Native.Nat.{ℕ, _*_, _/_, _%_, _<_}
 use native.Mathlib.Omega.{arith}
 use lib.Dec.{T, eqb}
 use Rattle.permutations.specs.Choice.{pick, eqb-other}
-use Rattle.permutations.specs.Partner.{partner, partner-below, End}
+use Rattle.permutations.specs.Partner.{partner, partner-below}
 use Rattle.permutations.specs.Map.{partner-live}
 use Rattle.permutations.specs.Legal.{Legal}
 use Rattle.darts.specs.Map.{before}
@@ -20,17 +19,9 @@ use Rattle.darts.proofs.Standing.{live, mapOf, Standing, opOf}
 use Rattle.darts.proofs.Before.{before-live, before-leads, before-only}
 use Rattle.darts.proofs.Judged.{judge-legal}
 use Rattle.darts.proofs.Relink.{entryOf, relinked, operate-relinks}
-use Rattle.darts.proofs.Lead.{Leading, lead-leads, lead-pick}
+use Rattle.darts.proofs.Lead.{Leading, lead-leads, lead-pick, lead-end}
 use Rattle.darts.proofs.Renamed.{Renaming, renamed, number-other, renamed-entry, renamed-relinked}
 use Rattle.darts.proofs.RenamedMap.{renumbered, lives′, renamed-stands, legal-renamed}
-
--- the lead is a dart of the edge
-lead-end : (k : Kind) (t : List ℕ) (e : ℕ) → End (2 * e) (lead k t e)
-lead-end k t e = rw (lead-pick k t e) (go (eqb (entryOf k t (partner (2 * e))) (2 * e)))
-  where
-    go : (b : Bool) → End (2 * e) (pick b (partner (2 * e)) (2 * e))
-    go true = inr refl
-    go false = inl refl
 
 module _ {D : ℕ} {order : List ℕ} {ν : ℕ → ℕ} (R : Renaming D order ν) {t past : List ℕ} (S : Standing D t past) (N : T (numbered D past)) where
   abbrev t′ : List ℕ

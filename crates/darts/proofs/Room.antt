@@ -20,7 +20,7 @@ use Rattle.darts.proofs.Fits.{numbered-iff}
 use Rattle.darts.proofs.Passes.{pyramid-shaped}
 
 -- the edge of each number in the past is gone
-gone-at : (past : List ℕ) (i x : ℕ) → i < length past → getD past i 0 / 4 ≡ x / 2 → T (gone past x)
+pub gone-at : (past : List ℕ) (i x : ℕ) → i < length past → getD past i 0 / 4 ≡ x / 2 → T (gone past x)
 unfolding gone
 gone-at [] i x b e = absurd (not-suc-le-zero b)
 gone-at (h ∷ past) zero x b e = or-intro (eqb (h / 4) (x / 2)) (gone past x) (inl (eqb-iff (h / 4) (x / 2) .1 e))

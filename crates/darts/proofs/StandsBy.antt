@@ -64,7 +64,7 @@ module _ {D : ℕ} {f : ℕ → ℕ} (one : (x y : ℕ) → f x ≡ f y → x �
 
 -- ---- the darts of an edge survive together
 
-gone-edge : (past : List ℕ) (x y : ℕ) → x / 2 ≡ y / 2 → gone past x ≡ gone past y
+pub gone-edge : (past : List ℕ) (x y : ℕ) → x / 2 ≡ y / 2 → gone past x ≡ gone past y
 unfolding gone
 gone-edge [] x y e = refl
 gone-edge (h ∷ past) x y e = rw (e, gone-edge past x y e)

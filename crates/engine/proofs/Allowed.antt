@@ -1,22 +1,18 @@
 -- An edge that may be done.
 --   fine-live         == it survives
---   lead-end          == the dart that plays p is one of the edge's two
 --   end-live          == with a dart its partner survives
---   number-half       == the history number is of the edge
 --   numbers-one-more  == with its number the past passes tests 1 and 2
 --   room-for-one-more == fewer operations than edges are done
-use mathlib.Core.Bool.{Bool, true, false}
 use mathlib.Core.List.{List, _∷_}
 use mathlib.Core.Logic.{inl, inr}
-use mathlib.Core.Path.{_≡_, refl, sym}
-use Prim.Native.Nat.{ℕ, _+_, _*_, _/_, _<_}
+use mathlib.Core.Path.{_≡_}
+use Prim.Native.Nat.{ℕ, _*_, _/_, _<_}
 use native.Mathlib.Omega.{arith}
 use lib.Dec.{T, T-not}
-use Rattle.permutations.specs.Choice.{pick}
-use Rattle.permutations.specs.Partner.{partner-first, End}
+use Rattle.permutations.specs.Partner.{End}
 use Rattle.permutations.specs.Map.{partner-live}
 use Rattle.darts.specs.Map.{gone, survives, live}
-use Rattle.darts.specs.Operation.{Kind, contraction, removal, turned, lead, number}
+use Rattle.darts.specs.Operation.{Kind, contraction, removal, lead, number}
 use Rattle.darts.specs.Kernel.{judge}
 use Rattle.darts.specs.Tests.{numbered}
 use Rattle.area.specs.Area.{tableIn, pastIn}
@@ -26,18 +22,11 @@ use Rattle.darts.proofs.Numbers.{number-lead}
 use Rattle.engine.specs.Held.{Area}
 use Rattle.engine.proofs.Edges.{numbered-cons, numbered-few}
 use Rattle.engine.proofs.Parts.{past-length}
+use Rattle.darts.proofs.Lead.{lead-end}
 
 pub fine-live : {D : ℕ} {t past : List ℕ} → Standing D t past → (k : Kind) (e : ℕ) → judge k D t past e ≡ 0 → T (live D past (2 * e))
 fine-live S contraction e z = judge-legal S contraction e .0 z .lives
 fine-live S removal e z = judge-legal S removal e .0 z .lives
-
-pub lead-end : (k : Kind) (t : List ℕ) (e : ℕ) → End (2 * e) (lead k t e)
-unfolding lead
-lead-end k t e = go (turned k t e)
-  where
-    go : (b : Bool) → End (2 * e) (pick b (2 * e + 1) (2 * e))
-    go true = inr (sym (partner-first e))
-    go false = inl refl
 
 pub end-live : {D : ℕ} {t past : List ℕ} → Standing D t past → {p x : ℕ} → End p x → T (live D past p) → T (live D past x)
 end-live S (inl e) h = rw e h
@@ -47,11 +36,6 @@ number-below : (k : Kind) (D p : ℕ) → p < D → number k p < 2 * D
 unfolding number
 number-below contraction D p h = omega arith
 number-below removal D p h = omega arith
-
-pub number-half : (k : Kind) (p : ℕ) → number k p / 4 ≡ p / 2
-unfolding number
-number-half contraction p = omega arith
-number-half removal p = omega arith
 
 module _ {D n : ℕ} {w : List ℕ} (A : Area D n w) (k : Kind) (e : ℕ) (fine : judge k D (tableIn D w) (pastIn D n w) e ≡ 0) where
   abbrev past : List ℕ

@@ -1,7 +1,6 @@
 -- The check: table and history are loaded, decided, and loaded again.
 --   checked-pyramid == where the check says yes, it is a pyramid
---   beyond-trans    == what stands beyond the four parts is kept, by one step after another
---   loaded-beyond   == loading keeps it
+--   loaded-beyond   == loading keeps what stands beyond the four parts
 --   decided-beyond  == and so does deciding
 --   too-many        == no where there are more than D/2 operations
 --   load-no         == no where tests 1 to 5 fail
@@ -28,6 +27,7 @@ use Rattle.engine.proofs.Area.{room-kept}
 use Rattle.engine.proofs.Decides.{refuted, pyramid-loads, pyramid-few}
 use Rattle.engine.proofs.Given.{linked-stand}
 use Rattle.engine.proofs.Loaded.{Loaded, loads-right}
+use Rattle.engine.proofs.Ready.{beyond-trans}
 
 -- WHERE THE CHECK SAYS YES, IT IS A PYRAMID
 pub checked-pyramid : {D n l : ℕ} {ends : List ℕ} {coming : ℕ} {t h w w′ : List ℕ} {r : Bool} → Checked D n l ends coming t h w w′ r → r ≡ true
@@ -36,9 +36,6 @@ checked-pyramid {D} {n} {l} {ends} {t = t} {h = h} C e =
     pyramid-decided (stateOf D n l ends) (take D t) (reverse (take n h)) .0 (true→T (sym (C .answer) ∙ e))
 
 -- ---- what stands beyond the four parts
-
-pub beyond-trans : {D : ℕ} {u v w : List ℕ} → Beyond D u v → Beyond D v w → Beyond D u w
-beyond-trans a b = record { size = b .size ∙ a .size; rest = b .rest ∙ a .rest }
 
 pub loaded-beyond : {D n : ℕ} {t h w v : List ℕ} {r : Bool} → Loaded D n t h w (tried r v) → Beyond D w v
 loaded-beyond L = record { size = L .size; rest = L .rest }

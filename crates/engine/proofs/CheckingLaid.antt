@@ -16,7 +16,8 @@ use Rattle.area.specs.Load.{relinks}
 use Rattle.area.specs.Shape.{stateOf, historyIn}
 use Rattle.engine.specs.Held.{Area}
 use Rattle.engine.specs.Checks.{Decided, CheckedLaid}
-use Rattle.engine.proofs.Checking.{beyond-trans, loaded-beyond, decided-beyond}
+use Rattle.engine.proofs.Checking.{loaded-beyond, decided-beyond}
+use Rattle.engine.proofs.Ready.{beyond-trans}
 use Rattle.engine.proofs.Decides.{refuted, pyramid-loads, pyramid-few}
 use Rattle.engine.proofs.Given.{linked-stand}
 use Rattle.engine.proofs.Loaded.{Loaded, relinks-right}

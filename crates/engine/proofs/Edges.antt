@@ -15,13 +15,14 @@ use native.Mathlib.Nat.{not-suc-le-zero}
 use native.Mathlib.Omega.{arith}
 use lib.Dec.{T, eqb, ltb, ltb→lt, lt→ltb}
 use lib.ListN.{length, getD}
-use Rattle.permutations.specs.Choice.{eqb-iff, or-intro, not-iff, and-iff}
+use Rattle.permutations.specs.Choice.{eqb-iff, not-iff, and-iff}
 use Rattle.permutations.specs.Partner.{partner-cases, partner-edge, End}
 use Rattle.permutations.specs.Pigeonhole.{Clash, pigeonhole}
 use Rattle.darts.specs.Map.{gone, survives, live}
 use Rattle.darts.specs.Operation.{leadOf}
 use Rattle.darts.specs.Tests.{numbered}
 use Rattle.darts.proofs.Standing.{live-iff}
+use Rattle.darts.proofs.Room.{gone-at}
 
 pub same-edge : (p x : ℕ) → x / 2 ≡ p / 2 → End p x
 same-edge p x e = go (ℕ-discrete x p)
@@ -59,13 +60,6 @@ not-gone-live D past x h e = live-iff D past x .1 (h, rw e tt)
 
 -- ---- no more operations than edges
 
--- the edge of the operation at place i is gone
-gone-at : (past : List ℕ) (d i : ℕ) → i < length past → getD past i 0 / 4 ≡ d / 2 → T (gone past d)
-unfolding gone
-gone-at [] d i l e = absurd (not-suc-le-zero l)
-gone-at (h ∷ past) d zero l e = or-intro (eqb (h / 4) (d / 2)) (gone past d) (inl (eqb-iff (h / 4) (d / 2) .1 e))
-gone-at (h ∷ past) d (suc i) l e = or-intro (eqb (h / 4) (d / 2)) (gone past d) (inr (gone-at past d i (omega arith) e))
-
 pub numbered-cons : (D h : ℕ) (past : List ℕ) → T (numbered D (h ∷ past)) ↔ ((h < 2 * D) × ((¬ T (gone past (leadOf h))) × T (numbered D past)))
 unfolding numbered
 numbered-cons D h past =
@@ -83,7 +77,7 @@ numbered-apart D [] t i j l m e = not-suc-le-zero m
 numbered-apart D (h ∷ past) t i zero l m e = not-suc-le-zero l
 numbered-apart D (h ∷ past) t zero (suc j) l m e =
     let k : getD past j 0 / 4 ≡ h / 2 / 2 = omega arith in
-    numbered-cons D h past .0 t .1 .0 (gone-at past (h / 2) j (omega arith) k)
+    numbered-cons D h past .0 t .1 .0 (gone-at past j (h / 2) (omega arith) k)
 numbered-apart D (h ∷ past) t (suc i) (suc j) l m e = numbered-apart D past (numbered-cons D h past .0 t .1 .1) i j (omega arith) (omega arith) e
 
 pub numbered-few : (D : ℕ) (past : List ℕ) → D % 2 ≡ 0 → T (numbered D past) → length past ≤ D / 2

@@ -9,11 +9,12 @@ use mathlib.Core.List.{List, _++_, reverse}
 use mathlib.Core.Path.{_≡_, refl, sym, ap, _∙_}
 use Prim.Native.Nat.{ℕ, _+_, _-_, _*_, _/_, _≤_, _<_}
 use native.Mathlib.Omega.{arith}
-use lib.ListN.{length, getD, take, drop, replicate, length-append, length-take, length-drop, length-replicate, getD-replicate, List·getD-append}
+use lib.ListN.{length, getD, take, drop, replicate, length-replicate, getD-replicate, List·getD-append}
 use lib.Seq.{length-take-le, take-append-le, take-take, take-add, take-append-seam, drop-append-seam, take-at, drop-at, drop-drop, getD-drop}
 use Rattle.forest.specs.Part.{part}
 use Rattle.area.specs.Area.{Room, prev, tableIn, pastIn, forestIn}
 use Rattle.area.specs.Load.{laid, given, blank}
+use Rattle.area.proofs.Laid.{laid-length}
 
 pub record Laid (D n : ℕ) (t h w e : List ℕ) : Type 0 where
   pub size : length e ≡ length w
@@ -29,17 +30,13 @@ part-front a e l h inside =
     ap (drop a) (ap (λ m. take m l) k ∙ take-add a (e - a) l) ∙ drop-at (take a l) (part a e l) a (length-take-le a l (omega arith))
 
 module _ (w : List ℕ) (a : ℕ) (xs : List ℕ) (inside : a + length xs ≤ length w) where
-  laid-length : length (laid w a xs) ≡ length w
-  unfolding laid
-  laid-length = simp (length-append, length-take, length-drop) (omega arith)
-
   laid-take : (m : ℕ) → m ≤ a → take m (laid w a xs) ≡ take m w
   unfolding laid
   laid-take m h = take-append-le m (take a w) (xs ++ drop (a + length xs) w) (rw (length-take-le a w (omega arith)) h) ∙ take-take m a w h
 
   laid-before : (m e : ℕ) → m ≤ e → e ≤ a → part m e (laid w a xs) ≡ part m e w
   laid-before m e h k =
-      sym (part-front m e (laid w a xs) h (rw laid-length (omega arith))) ∙ ap (drop m) (laid-take e k) ∙ part-front m e w h (omega arith)
+      sym (part-front m e (laid w a xs) h (rw (laid-length w a xs inside) (omega arith))) ∙ ap (drop m) (laid-take e k) ∙ part-front m e w h (omega arith)
 
   from-there : drop a (laid w a xs) ≡ xs ++ drop (a + length xs) w
   unfolding laid

@@ -23,11 +23,12 @@ use Rattle.darts.proofs.Standing.{Standing, live-iff, entry-live}
 use Rattle.darts.proofs.Operate.{operate-stands}
 use Rattle.engine.specs.Held.{Area}
 use Rattle.engine.proofs.Edges.{live-cons}
-use Rattle.engine.proofs.Allowed.{fine-live, lead-live, end-live, number-half, numbers-one-more, room-for-one-more}
+use Rattle.engine.proofs.Allowed.{fine-live, lead-live, end-live, numbers-one-more, room-for-one-more}
 use Rattle.engine.proofs.BothKinds.{of-both, apart-iff, lead-in, number-in, operate-in}
 use Rattle.engine.proofs.Parts.{Noted, successor-in, past-rest, forest-rest, rest-from, bound-length, bound-noted, bound-avoids, noted-length, noted-successor, noted-table, noted-forest, noted-rest, noted-past, noted-prev-end, noted-prev-else}
 use Rattle.engine.proofs.Area.{prev-live, leads-live, leads-one, live-noted, noted-known, area-of, room-kept}
 use Rattle.engine.proofs.Rebound.{Rebound, unbound, rebind}
+use Rattle.darts.proofs.Numbers.{number-half}
 
 pub record Operated (D n k e : ℕ) (w v : List ℕ) : Type 0 where
   pub table : tableIn D v ≡ operate (kindOf k) D (tableIn D w) (pastIn D n w) e

@@ -10,7 +10,8 @@ use Prim.Native.Nat.{ℕ, _+_, _-_, _/_, _%_, _≤_, _<_}
 use native.Mathlib.Omega.{arith}
 use lib.ListN.{length, set, length-append, length-set}
 use Rattle.darts.specs.Text.{decimal}
-use Rattle.zonefile.specs.Laid.{laid, Room, Put}
+use Rattle.area.specs.Load.{laid}
+use Rattle.zonefile.specs.Laid.{Room, Put}
 use Rattle.zonefile.proofs.Decimal.{decimal-one, decimal-more, one-length, more-length}
 use Rattle.zonefile.proofs.Laid.{laid-before, put-none}
 

@@ -5,7 +5,7 @@
 --   decimal-short           == at most five
 use mathlib.Core.Path.{_≡_, refl, sym, ap, _∙_}
 use mathlib.Core.Bool.{Bool, true, false}
-use mathlib.Core.List.{List, [], _∷_, _++_, append-assoc}
+use mathlib.Core.List.{List, [], _∷_, _++_}
 use Prim.Native.Nat.{ℕ, zero, suc, _+_, _*_, _/_, _%_, _^_, _≤_, _<_}
 use native.Mathlib.Nat.{pow-succ'}
 use native.Mathlib.Omega.{arith}
@@ -14,20 +14,7 @@ use lib.ListN.{length, length-append}
 use borrow.Author.Tests.{lt-ltb, le-ltb}
 use Rattle.darts.specs.Choose.{if_then_else_}
 use Rattle.darts.specs.Text.{digits, decimal}
-
--- digits are put before what stands there
-digits-before : (n x : ℕ) (b : List ℕ) → digits n x b ≡ digits n x [] ++ b
-unfolding digits
-digits-before zero x b = refl
-digits-before (suc n) x b = go (ltb x 10) (digits-before n (x / 10) (c ∷ b)) (digits-before n (x / 10) (c ∷ []))
-  where
-    c : ℕ
-    c = 48 + x % 10
-
-    go : (t : Bool) → digits n (x / 10) (c ∷ b) ≡ digits n (x / 10) [] ++ (c ∷ b) → digits n (x / 10) (c ∷ []) ≡ digits n (x / 10) [] ++ (c ∷ [])
-        → (if t then (48 + x) ∷ b else digits n (x / 10) (c ∷ b)) ≡ (if t then (48 + x) ∷ [] else digits n (x / 10) (c ∷ [])) ++ b
-    go true p q = refl
-    go false p q = p ∙ sym (append-assoc (digits n (x / 10) []) (c ∷ []) b) ∙ sym (ap (λ (l : List ℕ). l ++ b) q)
+use Rattle.darts.proofs.Digits.{digits-before}
 
 -- one digit more than enough changes nothing
 digits-enough : (n x : ℕ) (b : List ℕ) → x < 10 ^ suc n → digits (suc (suc n)) x b ≡ digits (suc n) x b

@@ -3,7 +3,7 @@
 --   kernels-count == n lines are n kernels
 --   kernel-small  == the count of a line is at most 99,999
 --   total-on, ends-on, history-on == what one line more adds
---   ends-length, history-length, numbers-length == how many numbers these are
+--   history-length == how many numbers these are
 --   ends-set      == the next level end is stored
 --   numbers-on    == one operation more
 --   number-kind   == the history number of an operation whose kind a number says
@@ -28,6 +28,7 @@ use Rattle.darts.specs.Scan.{byteAt, found, fault, after, word, field}
 use Rattle.darts.specs.Read.{KernelLine, kernelOfKind, kernelAt, kernelsAt, endsFrom, total, numbersFrom, historyFrom}
 use Rattle.zonefile.proofs.After.{after-after, through, field-small}
 use Rattle.zonefile.proofs.Rest.{Lines, lines-count}
+use Rattle.darts.proofs.KernelLines.{numbers-length}
 
 pub kernel-lines : (b : List ℕ) → Lines (λ at. after (kernelAt b at) (λ k next. found (k ∷ []) next)) (λ n at. kernelsAt n b at)
 unfolding kernelsAt
@@ -80,16 +81,6 @@ module _ (k : KernelLine) where
   history-on i (j ∷ ks) =
       rw (append-assoc, ← add-assoc i (j .count) (total ks))
       (ap (λ (l : List ℕ). numbersFrom (j .kind) i (j .count) ++ l) (history-on (i + j .count) ks))
-
-pub ends-length : (n : ℕ) (ks : List KernelLine) → length (endsFrom n ks) ≡ length ks
-unfolding endsFrom
-ends-length n [] = refl
-ends-length n (k ∷ ks) = ap suc (ends-length (n + k .count) ks)
-
-pub numbers-length : (k : Kind) (i n : ℕ) → length (numbersFrom k i n) ≡ n
-unfolding numbersFrom
-numbers-length k i zero = refl
-numbers-length k i (suc n) = ap suc (numbers-length k (suc i) n)
 
 pub history-length : (i : ℕ) (ks : List KernelLine) → length (historyFrom i ks) ≡ total ks
 unfolding historyFrom total

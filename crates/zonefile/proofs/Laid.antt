@@ -15,14 +15,16 @@
 use mathlib.Core.Path.{_≡_, refl, sym, ap, _∙_}
 use mathlib.Core.List.{List, [], _∷_, _++_, append-assoc}
 use Prim.Native.Nat.{ℕ, suc, _+_, _-_, _≤_, _<_}
-use native.Mathlib.Nat.{add-assoc, add-zero, zero-add}
+use native.Mathlib.Nat.{add-assoc, add-zero}
 use native.Mathlib.Numerals.{add-one}
 use native.Mathlib.Omega.{arith}
-use lib.ListN.{length, take, drop, set, length-append, length-take, length-drop, take-append-drop}
+use lib.ListN.{length, take, drop, set, length-append, length-take, take-append-drop}
 use lib.Seq.{set-split, take-at, drop-at, take-append-le, take-append-seam, take-take, length-take-le, drop-append-add, drop-drop}
 use Rattle.darts.specs.Calls.{over}
 use Rattle.forest.specs.Part.{part}
-use Rattle.zonefile.specs.Laid.{laid, Room, Put}
+use Rattle.area.specs.Load.{laid}
+use Rattle.area.proofs.Laid.{laid-length as laid-size, laid-front as over-laid}
+use Rattle.zonefile.specs.Laid.{Room, Put}
 
 module _ (w : List ℕ) (at : ℕ) where
   pub laid-one : (v : ℕ) → at < length w → set w at v ≡ laid w at (v ∷ [])
@@ -31,8 +33,7 @@ module _ (w : List ℕ) (at : ℕ) where
 
   module _ (xs : List ℕ) (room : Room w at xs) where
     pub laid-length : length (laid w at xs) ≡ length w
-    unfolding laid
-    laid-length = simp (length-append, length-take, length-drop) (omega arith)
+    laid-length = laid-size w at xs (room .fits)
 
     -- up to the end of what was laid
     abbrev front : List ℕ
@@ -97,8 +98,7 @@ laid-before w p v xs room =
     ∙ rw (laid-front w (p + 1) xs later p (omega arith)) (laid-behind w p v xs later)
 
 pub laid-over : (w xs : List ℕ) → laid w 0 xs ≡ over xs w
-unfolding laid over
-laid-over w xs = rw zero-add
+laid-over w xs = sym (over-laid w xs)
 
 pub put-none : (w : List ℕ) (at : ℕ) → Put w w at at []
 unfolding laid

@@ -5,7 +5,7 @@ pub mod CutLines
 pub mod Decimal
 pub mod Backward
 pub mod FileBytes
-pub mod FileOrder
+pub mod Survivors
 pub mod Fitted
 pub mod Found
 pub mod KernelLines

@@ -22,10 +22,11 @@ use Rattle.area.proofs.Outside.{forest-at}
 use Rattle.engine.specs.Held.{Area}
 use Rattle.engine.proofs.Beside.{beside-table, beside-past, beside-area}
 use Rattle.engine.proofs.Parts.{rest-from, forest-rest}
-use Rattle.zonefile.specs.Laid.{laid}
+use Rattle.area.specs.Load.{laid}
 use Rattle.zonefile.specs.Numbering.{Dense, Placed, renamed, entriesIn, Numbered}
 use Rattle.zonefile.proofs.Laid.{laid-length, laid-front, laid-rest, laid-there, laid-on}
-use Rattle.zonefile.proofs.FileOrder.{taken-length, order-length, order-below, order-place}
+use Rattle.darts.proofs.FileOrder.{taken-length}
+use Rattle.darts.proofs.Numbering.{order-length, order-small, number-below}
 
 -- what is laid into the forest's part changes nothing else
 laid-outside : {D : ℕ} (w xs : List ℕ) → Room D w → length xs ≤ D → Outside D w (laid w (2 * D) xs)
@@ -88,7 +89,7 @@ module _ {D n : ℕ} {w : List ℕ} (A : Area D n w) where
       f ∙ rw (same, e, hs, ← t) (laid-on w (2 * D) (taken (historyIn D n w)) (record { fits = omega arith }) (survivors past D))
 
   order-size : length order ≡ D
-  order-size = order-length D (A .room .even) past (A .numbers)
+  order-size = order-length D past (A .room .even) (A .numbers)
 
   module _ {v : List ℕ} (e : v ≡ laid w (2 * D) order) where
     same-outside : Outside D w v
@@ -106,19 +107,19 @@ module _ {D n : ℕ} {w : List ℕ} (A : Area D n w) where
     listed-below = (
       listed-room,
       λ i h.
-          rw (← forest-at D v i h, forest) (order-below D (A .room .even) past (A .numbers) (getD-in order i (let s = order-size in omega arith))),
+          rw (← forest-at D v i h, forest) (order-small D past (A .room .even) (A .numbers) _ (getD-in order i (let s = order-size in omega arith))),
     )
 
     module _ {u : List ℕ} (p : Placed D v u) where
       entry : (x : ℕ) → x < D → getD u x 0 ≡ successor (tableIn D w) x
       unfolding successor
       entry x h =
-          sym (getD-take D u x 0 h) ∙ ap (λ (l : List ℕ). getD l x 0) (p .table ∙ beside-table (same-outside))
+          sym (getD-take D u x 0 h) ∙ ap (λ (l : List ℕ). getD l x 0) (p .table ∙ beside-table same-outside)
 
       number : (x : ℕ) → x < D → (getD u (D + x) 0 ≡ fileNumber D past x) × (getD u (D + x) 0 < D)
       unfolding fileNumber
       number x h =
-          let place : placeIn order x < D = let l = order-place D past x h in let s = order-size in omega arith in
+          let place : placeIn order x < D = number-below D past (A .room .even) (A .numbers) x h in
           let same : getD u (D + x) 0 ≡ placeIn order x = rw forest at (p .places x (rw forest place)) in
           (same, rw same place)
 
@@ -150,7 +151,7 @@ module _ {D n : ℕ} {w : List ℕ} (A : Area D n w) where
             ap (map (renamed D u)) (forest-rest D u v (p .rest) ∙ forest)
             ∙ map-same (renamed D u) (λ d. fileNumber D past (successor (tableIn D w) d)) order
             (λ x m.
-            let h = order-below D (A .room .even) past (A .numbers) m in
+            let h = order-small D past (A .room .even) (A .numbers) x m in
             ap (λ (y : ℕ). getD u (D + y) 0) (entry x h) ∙ number (successor (tableIn D w) x) (A .stands .inside x h) .0);
         history = ap (take (3 * D + n - 3 * D)) (later (3 * D) (omega arith));
         beyond = record { size = p .size ∙ same-outside .size; rest = later (4 * D) (omega arith) };

@@ -13,7 +13,7 @@ use Rattle.darts.specs.Read.{KernelLine, kernelsAt, endsFrom, total, numbersFro
 use Rattle.darts.specs.Calls.{over}
 use Rattle.zonefile.specs.declared.kernels.Levels.{Levels}
 use Rattle.zonefile.specs.Found.{scanOf}
-use Rattle.zonefile.specs.Laid.{laid}
+use Rattle.area.specs.Load.{laid}
 
 unfoldable pub noted : ℕ → Kind → ℕ → ℕ → List ℕ → List ℕ
 noted room k i n h = if leb (i + n) room then laid h i (numbersFrom k i n) else h

@@ -1,5 +1,4 @@
 -- Numbers laid into a lent slice, and the bytes of lines.
---   laid w at xs        == w with the numbers xs from the place at on
 --   Room w at xs        == w has room for xs from the place at on
 --   Put w w′ at r xs    == w′ is w with xs laid at a place, and r is the place after them
 --   Fitted w w′ at r xs == r is the place after xs, and where that is within w, w′ is w with xs laid at a place
@@ -8,14 +7,12 @@
 use mathlib.Core.Path.{_≡_, refl}
 use mathlib.Core.List.{List, _++_}
 use Prim.Native.Nat.{ℕ, _+_, _≤_}
-use lib.ListN.{length, take, drop}
+use lib.ListN.{length}
 use Rattle.darts.specs.Operation.{Kind}
 use Rattle.darts.specs.Pyramid.{Kernel}
 use Rattle.darts.specs.Text.{bytes, decimal}
 use Rattle.darts.specs.File.{lineFeed, kindWord, kernelLine}
-
-unfoldable pub laid : List ℕ → ℕ → List ℕ → List ℕ
-laid w at xs = take at w ++ (xs ++ drop (at + length xs) w)
+use Rattle.area.specs.Load.{laid}
 
 pub record Room (w : List ℕ) (at : ℕ) (xs : List ℕ) : Type 0 where
   pub fits : at + length xs ≤ length w

@@ -9,7 +9,7 @@ ghost use Rattle.darts.specs.File.{taken, survivors};
 ghost use Rattle.area.specs.Area.{Room, pastIn};
 ghost use Rattle.area.specs.Shape.{historyIn};
 ghost use Rattle.engine.specs.Held.{Area};
-ghost use Rattle.zonefile.specs.Laid.{laid};
+ghost use Rattle.area.specs.Load.{laid};
 ghost use Rattle.zonefile.specs.Numbering.{Placed, Numbered};
 
 // The p and q of each operation, first to last, are the head of the list.

@@ -8,7 +8,8 @@ ghost use Prim.Native.Nat.{_≤_};
 ghost use lib.ListN.{length};
 ghost use Rattle.darts.specs.Read.{fromFlag};
 ghost use Rattle.zonefile.specs.Lines.{pairOf};
-ghost use Rattle.zonefile.specs.Laid.{laid, Room};
+ghost use Rattle.area.specs.Load.{laid};
+ghost use Rattle.zonefile.specs.Laid.{Room};
 ghost use Rattle.zonefile.specs.Pairs.{PairsRead};
 
 // A number of a pair as a dart. One that is no dart, 0 under F = 1, becomes D, which is none either.

@@ -21,7 +21,8 @@ use Rattle.forest.specs.Part.{part}
 use Rattle.area.specs.Area.{Room, forestIn}
 use Rattle.area.specs.Trees.{Outside, rooted, Joined}
 use Rattle.area.specs.Replay.{rejoined, replayed, Numbered, Replayed}
-use Rattle.area.proofs.Outside.{outside-refl, outside-trans, outside-room, outside-rest, part-cons, part-none}
+use Rattle.area.proofs.Outside.{outside-refl, outside-trans, outside-room, outside-rest}
+use Rattle.area.proofs.Parts.{part-cons, part-none}
 use Rattle.area.proofs.Replay.{replay-other, rejoin-other, replay-together, replay-apart, rejoin-apart}
 use Rattle.area.proofs.cycles.replay.Statement.{statement}
 use Rattle.area.proofs.cycles.replay.Tie as tie

@@ -13,6 +13,7 @@ use Rattle.darts.specs.Answers.{answered}
 use Rattle.darts.specs.Operation.{Kind}
 use Rattle.darts.specs.Scan.{found, fault, after}
 use Rattle.darts.specs.Read.{KernelLine, kernelAt, kernelsAt, endsFrom, total, numbersFrom, historyFrom, fileHistory}
+use Rattle.darts.proofs.KernelLines.{ends-length, numbers-length}
 use Rattle.zonefile.specs.declared.scan.Scanned.the-variants.{Found, Fault}
 use Rattle.zonefile.specs.Found.{lineOf}
 use Rattle.zonefile.specs.Lines.{kernelOf}
@@ -20,7 +21,7 @@ use Rattle.zonefile.specs.Laid.{Put}
 use Rattle.zonefile.specs.Kernels.{noted, KernelsRead}
 use Rattle.zonefile.proofs.Found.{told}
 use Rattle.zonefile.proofs.Rest.{Rest, rest-none, rest-on, rest-fault, rest-found}
-use Rattle.zonefile.proofs.KernelLines.{kernel-lines, kernel-small, total-on, ends-on, history-on, ends-length, history-length, numbers-length, ends-set}
+use Rattle.zonefile.proofs.KernelLines.{kernel-lines, kernel-small, total-on, ends-on, history-on, history-length, ends-set}
 use Rattle.zonefile.proofs.Laid.{put-none, put-on, laid-rest, laid-over}
 use Rattle.zonefile.proofs.kernels.kernels.Statement.{statement}
 use Rattle.zonefile.proofs.kernels.kernels.Tie as tie

@@ -15,7 +15,7 @@ use Rattle.area.specs.Shape.{historyIn}
 use Rattle.area.proofs.Parts.{part-cons, part-none}
 use Rattle.engine.specs.Held.{Area}
 use Rattle.engine.proofs.Area.{area-sound}
-use Rattle.zonefile.specs.Laid.{laid}
+use Rattle.area.specs.Load.{laid}
 use Rattle.zonefile.proofs.Laid.{laid-rest}
 use Rattle.zonefile.proofs.Fitted.{Toward, toward-all, toward-on, toward-end, fitted-two}
 use Rattle.zonefile.proofs.numbering.list_taken.Statement.{statement}

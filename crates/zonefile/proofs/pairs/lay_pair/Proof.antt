@@ -6,7 +6,8 @@ use native.Mathlib.Omega.{arith}
 use lib.ListN.{set, length-set}
 use borrow.Author.Needs.{needs}
 use Rattle.zonefile.specs.Lines.{pairOf}
-use Rattle.zonefile.specs.Laid.{laid, Room}
+use Rattle.area.specs.Load.{laid}
+use Rattle.zonefile.specs.Laid.{Room}
 use Rattle.zonefile.proofs.Laid.{put-none, put-one}
 use Rattle.zonefile.proofs.PairLines.{flag-small}
 use Rattle.zonefile.proofs.pairs.lay_pair.Statement.{statement}

@@ -12,7 +12,8 @@ use Rattle.darts.specs.Read.{pairsAt, fromFlag}
 use Rattle.zonefile.specs.declared.scan.Scanned.the-variants.{Found, Fault}
 use Rattle.zonefile.specs.Found.{lineOf}
 use Rattle.zonefile.specs.Lines.{pairAt, pairOf}
-use Rattle.zonefile.specs.Laid.{laid, Room, Put}
+use Rattle.area.specs.Load.{laid}
+use Rattle.zonefile.specs.Laid.{Room, Put}
 use Rattle.zonefile.specs.Pairs.{PairsRead}
 use Rattle.zonefile.proofs.Found.{told}
 use Rattle.zonefile.proofs.Rest.{Rest, rest-none, rest-on, rest-fault, rest-found}
