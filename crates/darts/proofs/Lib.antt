@@ -58,3 +58,6 @@ pub mod RenamedHistory
 pub mod RenamedPyramid
 pub mod WriteRead
 pub mod FileInstances
+pub mod Fitting
+pub mod Over
+pub mod Judging

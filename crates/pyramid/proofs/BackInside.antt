@@ -17,7 +17,7 @@ use Rattle.area.specs.Area.{Room, tableIn, pastIn}
 use Rattle.engine.specs.Checks.{Checked}
 use Rattle.engine.proofs.Checking.{checked-pyramid}
 use Rattle.pyramid.specs.Steps.{Stacked, Lowered, Unfolded}
-use Rattle.pyramid.proofs.Fitting.{fits}
+use Rattle.darts.proofs.Fitting.{fits}
 
 pub no-level-below : (s : State) (t past : List ℕ) → s .levels ≡ 0 → undoLevel s t past ≡ refuses (noLevel 0)
 unfolding undoLevel

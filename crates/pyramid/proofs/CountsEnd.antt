@@ -23,7 +23,7 @@ use Rattle.engine.specs.Held.{Area}
 use Rattle.engine.specs.declared.Cycles.{Cycles}
 use Rattle.engine.proofs.Parts.{past-length}
 use Rattle.engine.proofs.Survivors.{surviving-count}
-use Rattle.pyramid.proofs.Fitting.{first-keeps}
+use Rattle.darts.proofs.Fitting.{first-keeps}
 
 module _ (s : Stated) (t h w : List ℕ) where
   pub counts-first : fitting (s .darts) (length t) (length h) (length w) .number ≢ 0

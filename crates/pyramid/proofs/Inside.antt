@@ -24,13 +24,13 @@ use Rattle.darts.specs.Pyramid.{isPyramid}
 use Rattle.darts.specs.Calls.{fitting, tableOf, pastOf, over, cleared, workAfter, handsBack, onState}
 use Rattle.darts.proofs.Stops.{Edgy}
 use Rattle.area.specs.Area.{Room, tableIn, pastIn}
-use Rattle.area.proofs.Cleared.{cleared-kept}
+use Rattle.darts.proofs.Over.{cleared-kept}
 use Rattle.engine.specs.Checks.{Checked}
 use Rattle.engine.specs.Runs.{ranIn, Went}
 use Rattle.engine.specs.declared.Ran.{Ran}
 use Rattle.pyramid.specs.Steps.{Halts}
 use Rattle.pyramid.specs.Values.{left, Hands}
-use Rattle.pyramid.proofs.Fitting.{fits}
+use Rattle.darts.proofs.Fitting.{fits}
 use Rattle.pyramid.proofs.OnState.{no-pyramid, step-refused, step-given, taken}
 use Rattle.pyramid.specs.declared.Outcome.{Outcome}
 

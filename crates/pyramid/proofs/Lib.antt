@@ -1,4 +1,3 @@
-pub mod Fitting
 pub mod Started
 pub mod Signed
 pub mod OnState

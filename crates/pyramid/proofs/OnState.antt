@@ -15,14 +15,10 @@ use Rattle.darts.specs.State.{State as Stated, Result, gives, refuses}
 use Rattle.darts.specs.Pyramid.{isPyramid}
 use Rattle.darts.specs.Calls.{fitting, judged, tableOf, pastOf, over, cleared, workAfter, handsBack, onState}
 use Rattle.pyramid.specs.Values.{left, Hands}
-use Rattle.pyramid.proofs.Fitting.{first-keeps}
+use Rattle.darts.proofs.Fitting.{first-keeps}
+use Rattle.darts.proofs.Judging.{judged-unfit, judged-fit}
 use Rattle.pyramid.proofs.Started.{hands}
 use Rattle.pyramid.specs.declared.Outcome.{Outcome}
-
-judged-first : (s : Stated) (t h w : List ℕ) → fitting (s .darts) (length t) (length h) (length w) .number ≢ 0
-    → judged s t h w ≡ fitting (s .darts) (length t) (length h) (length w)
-unfolding judged
-judged-first s t h w n = rw (ne-eqb _ 0 n)
 
 pub first-refused : (step : Stated → List ℕ → List ℕ → Result) (s : Stated) (t h w : List ℕ) (o : Outcome)
     → fitting (s .darts) (length t) (length h) (length w) .number ≢ 0
@@ -30,25 +26,20 @@ pub first-refused : (step : Stated → List ℕ → List ℕ → Result) (s : St
 unfolding onState handsBack
 first-refused step s t h w o n H =
     hands o H t h w
-    ∙ sym (rw (judged-first s t h w n, ne-eqb _ 0 n, first-keeps (s .darts) (length t) (length h) (length w) n (s .darts) w))
+    ∙ sym (rw (judged-unfit s t h w n, ne-eqb _ 0 n, first-keeps (s .darts) (length t) (length h) (length w) n (s .darts) w))
 
 module _ (step : Stated → List ℕ → List ℕ → Result) (s : Stated) (t h w : List ℕ) (fits : fitting (s .darts) (length t) (length h) (length w) .number ≡ 0) where
   abbrev found : Result
   found = step s (tableOf s t) (pastOf s h)
 
   module _ (no : isPyramid s (tableOf s t) (pastOf s h) ≡ false) where
-    judged-no : judged s t h w ≡ noPyramid
-    unfolding judged
-    judged-no = rw (eq-eqb _ 0 fits, no)
-
     pub no-pyramid : (o : Outcome) → Hands o noPyramid s → left o t h (cleared (s .darts) w) ≡ onState step s t h w
     unfolding onState handsBack workAfter
-    no-pyramid o H = hands o H t h (cleared (s .darts) w) ∙ rw judged-no
+    no-pyramid o H = hands o H t h (cleared (s .darts) w) ∙ rw (judged-fit s t h w fits false no)
 
   module _ (yes : isPyramid s (tableOf s t) (pastOf s h) ≡ true) where
     judged-yes : judged s t h w .number ≡ 0
-    unfolding judged
-    judged-yes = rw (eq-eqb _ 0 fits, yes)
+    judged-yes = ap (λ (a : Answered). a .number) (judged-fit s t h w fits true yes)
 
     pub taken : onState step s t h w ≡ handsBack s t h w found
     unfolding onState

@@ -20,7 +20,7 @@ use Rattle.darts.proofs.Ends.{state-path}
 use Rattle.forest.specs.Part.{part, put, part-length, part-put, put-length, put-elsewhere}
 use Rattle.area.specs.Area.{Room, tableIn}
 use Rattle.area.specs.Shape.{historyIn}
-use Rattle.area.proofs.Cleared.{drop-more}
+use Rattle.darts.proofs.Over.{drop-more}
 use Rattle.area.proofs.Parts.{part-inner}
 use Rattle.engine.specs.Held.{Beyond}
 use Rattle.zonefile.specs.declared.scan.Scanned.{Scanned}

@@ -17,7 +17,7 @@ use Rattle.forest.specs.Part.{part-length}
 use Rattle.area.specs.Area.{Room, tableIn, pastIn, forestIn}
 use Rattle.area.specs.Trees.{Outside}
 use Rattle.area.specs.Shape.{historyIn}
-use Rattle.area.proofs.Cleared.{drop-more}
+use Rattle.darts.proofs.Over.{drop-more}
 use Rattle.area.proofs.Outside.{forest-at}
 use Rattle.engine.specs.Held.{Area}
 use Rattle.engine.proofs.Beside.{beside-table, beside-past, beside-area}

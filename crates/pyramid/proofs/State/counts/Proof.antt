@@ -3,7 +3,7 @@ use mathlib.Core.Path.{_∙_, ap, sym}
 use native.Mathlib.Omega.{arith}
 use Rattle.darts.specs.Answers.{Answer as Answered}
 use Rattle.pyramid.specs.Values.{stateOf}
-use Rattle.pyramid.proofs.Fitting.{fits}
+use Rattle.darts.proofs.Fitting.{fits}
 use Rattle.pyramid.proofs.CountsEnd.{counts-first}
 use borrow.Author.Needs.{needs}
 use Rattle.pyramid.proofs.State.counts.Statement.{statement}

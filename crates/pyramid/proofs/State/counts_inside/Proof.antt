@@ -4,10 +4,10 @@ use native.Mathlib.Omega.{arith}
 use Rattle.darts.specs.Answers.{done}
 use Rattle.darts.specs.Counts.{Counts as Tally}
 use Rattle.darts.specs.Calls.{cleared, tableOf, pastOf}
-use Rattle.area.proofs.Cleared.{cleared-kept}
+use Rattle.darts.proofs.Over.{cleared-kept}
 use Rattle.engine.specs.Checks.{Checked}
 use Rattle.pyramid.specs.Values.{stateOf}
-use Rattle.pyramid.proofs.Fitting.{fits}
+use Rattle.darts.proofs.Fitting.{fits}
 use Rattle.pyramid.proofs.Inside.{said-no, said-yes, room-of}
 use Rattle.pyramid.proofs.CountsEnd.{counts-no, counts-given, tallied}
 use borrow.Author.Needs.{needs}

@@ -5,7 +5,7 @@ use Rattle.darts.specs.Answers.{Answer as Answered}
 use Rattle.darts.specs.Calls.{reduceBy}
 use Rattle.darts.specs.State.{reduce}
 use Rattle.pyramid.specs.Values.{stateOf, kindOf}
-use Rattle.pyramid.proofs.Fitting.{fits}
+use Rattle.darts.proofs.Fitting.{fits}
 use Rattle.pyramid.proofs.OnState.{first-refused}
 use borrow.Author.Needs.{needs}
 use Rattle.pyramid.proofs.State.reduce.Statement.{statement}

@@ -11,7 +11,7 @@ use Rattle.area.specs.Area.{tableIn, pastIn}
 use Rattle.darts.proofs.Stops.{swept-edgy}
 use Rattle.engine.specs.Checks.{Checked}
 use Rattle.pyramid.specs.Values.{stateOf}
-use Rattle.pyramid.proofs.Fitting.{fits}
+use Rattle.darts.proofs.Fitting.{fits}
 use Rattle.pyramid.proofs.Inside.{said-no, said-yes, room-of, inside-no, inside-refused, inside-level, halts-of}
 use borrow.Author.Needs.{needs}
 use Rattle.pyramid.proofs.State.sweep_inside.Statement.{statement}

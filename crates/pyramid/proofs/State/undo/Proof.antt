@@ -5,7 +5,7 @@ use Rattle.darts.specs.Answers.{Answer as Answered}
 use Rattle.darts.specs.Calls.{undoBy}
 use Rattle.darts.specs.Levels.{undoLevel}
 use Rattle.pyramid.specs.Values.{stateOf}
-use Rattle.pyramid.proofs.Fitting.{fits}
+use Rattle.darts.proofs.Fitting.{fits}
 use Rattle.pyramid.proofs.OnState.{first-refused}
 use borrow.Author.Needs.{needs}
 use Rattle.pyramid.proofs.State.undo.Statement.{statement}

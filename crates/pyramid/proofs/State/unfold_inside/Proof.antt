@@ -6,7 +6,7 @@ use Rattle.darts.specs.Calls.{unfoldBy}
 use Rattle.darts.specs.Levels.{unfoldTo}
 use Rattle.engine.specs.Checks.{Checked}
 use Rattle.pyramid.specs.Values.{stateOf}
-use Rattle.pyramid.proofs.Fitting.{fits}
+use Rattle.darts.proofs.Fitting.{fits}
 use Rattle.pyramid.proofs.Inside.{said-no, said-yes, room-of, inside-no, inside-refused, inside-given}
 use Rattle.pyramid.proofs.BackInside.{stacked-of, unfold-stepped, no-level-above, store-fits}
 use borrow.Author.Needs.{needs}

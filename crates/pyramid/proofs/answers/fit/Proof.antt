@@ -1,7 +1,7 @@
 -- `pyramid::answers::fit` meets its contract: each comparison is one part of the two tests.
 use native.Mathlib.Omega.{arith}
 use borrow.Author.Needs.{needs}
-use Rattle.pyramid.proofs.Fitting.{no-count, short, fine}
+use Rattle.darts.proofs.Fitting.{no-count, short, fine}
 use Rattle.pyramid.proofs.answers.fit.Statement.{statement}
 use Rattle.pyramid.proofs.answers.fit.Tie as tie
 

@@ -5,7 +5,7 @@ use native.Mathlib.Omega.{arith}
 use borrow.Author.Needs.{needs}
 use Rattle.darts.specs.Answers.{Answer as Answered, noPermutation}
 use Rattle.pyramid.specs.Values.{answerOf}
-use Rattle.pyramid.proofs.Fitting.{fits}
+use Rattle.darts.proofs.Fitting.{fits}
 use Rattle.pyramid.proofs.Started.{start-refused, start-bad, start-done}
 use Rattle.pyramid.proofs.starting.start.Statement.{statement}
 use Rattle.pyramid.proofs.starting.start.Tie as tie

@@ -2,11 +2,11 @@
 use mathlib.Core.Path.{refl, sym, _∙_}
 use native.Mathlib.Omega.{arith}
 use Rattle.darts.specs.Calls.{tableOf, pastOf}
-use Rattle.area.proofs.Cleared.{cleared-kept}
+use Rattle.darts.proofs.Over.{cleared-kept}
 use Rattle.engine.specs.Checks.{Checked}
 use Rattle.engine.proofs.Checking.{checked-pyramid}
 use Rattle.pyramid.specs.Values.{stateOf}
-use Rattle.pyramid.proofs.Fitting.{fits}
+use Rattle.darts.proofs.Fitting.{fits}
 use Rattle.pyramid.proofs.Inside.{said-no, said-yes, room-of}
 use Rattle.zonefile.proofs.WriteEnds.{write-no, write-short, write-done}
 use borrow.Author.Needs.{needs}

@@ -7,10 +7,10 @@ use lib.ListN.{length}
 use borrow.Author.Needs.{needs}
 use Rattle.darts.specs.Answers.{Answer as Answered}
 use Rattle.area.specs.Area.{Room}
-use Rattle.area.proofs.Cleared.{cleared-kept}
+use Rattle.darts.proofs.Over.{cleared-kept}
 use Rattle.engine.proofs.Area.{room-kept}
 use Rattle.pyramid.specs.Values.{answerOf}
-use Rattle.pyramid.proofs.Fitting.{Fits, fits}
+use Rattle.darts.proofs.Fitting.{Fits, fits}
 use Rattle.pyramid.proofs.Started.{hands}
 use Rattle.zonefile.specs.Found.{lineOf}
 use Rattle.zonefile.specs.Lines.{startsWith}
