@@ -1,8 +1,8 @@
--- K1 to K12 of document 01, "Worked by hand", as one table of calls under one claim.
+-- K1 to K12 of document 01, "Worked by hand", and its expected slips, as one table of calls under one claim.
 --   Step          == a call that a row makes on the way
 --   Row           == one worked example: what is called, and what it leaves
 --   right r       == the definitions give what the row says
---   table         == the rows of K1 to K12
+--   table         == the rows of K1 to K12, and of the slips
 --   worked        == all of them are right
 use mathlib.Core.Bool.{Bool, true, false, _&&_, Bool·beq}
 use mathlib.Core.List.{List, [], _∷_, _++_}
@@ -44,6 +44,8 @@ pub data Row : Type 0 where
   writes : List ℕ → List Step → String → Row
   -- read a file, unfold to a level, counts
   reads : String → ℕ → ℕ → ℕ → ℕ → ℤ → Row
+  -- read a file: the answer's number and place
+  answersFile : String → ℕ → ℕ → Row
   -- two darts of a base, and whether they are in one piece
   pieces : List ℕ → ℕ → ℕ → Bool → Row
 
@@ -99,6 +101,7 @@ right (leads t ss n p u h) =
 right (counted t ss d v f x) = countsAre d v f x (counting (steps ss (started t)))
 right (writes t ss f) = isWritten f (steps ss (started t))
 right (reads f k d v e x) = countsAre d v e x (counting (stepped (toLevel k) (reading f)))
+right (answersFile f n p) = answers n p (reading f .answer)
 right (pieces t x y b) = Bool·beq (samePiece (length t) t x y) b
 
 abbrev allRight : List Row → Bool
@@ -163,6 +166,33 @@ table =
     ∷ reads fromOne 0 8 4 2 (pos 2)
     ∷ reads fromOne 1 4 2 2 (pos 2)
     ∷ reads fromOne 2 2 2 1 (pos 2)
+    -- "an empty loop (r = q or s = p)", from either side; the sweep of K5 takes edge 2, and no whole piece is taken
+    ∷ leads (1 ∷ 2 ∷ 0 ∷ 3 ∷ []) (bySweep ∷ []) 0 0 (1 ∷ 2 ∷ 2 ∷ 3 ∷ []) (0 ∷ [])
+    ∷ leads (2 ∷ 0 ∷ 1 ∷ 3 ∷ []) (bySweep ∷ []) 0 0 (2 ∷ 0 ∷ 2 ∷ 3 ∷ []) (2 ∷ [])
+    ∷ leads T (K5 ++ (bySweep ∷ [])) 0 0 (5 ∷ 2 ∷ 5 ∷ 4 ∷ 6 ∷ 4 ∷ 6 ∷ 7 ∷ []) (1 ∷ 5 ∷ 10 ∷ [])
+    ∷ leads (1 ∷ 0 ∷ []) (bySweep ∷ []) 5 0 (1 ∷ 0 ∷ []) []
+    -- "Testing for a pending edge from one side only": the even dart of edge 0 is alone at its vertex
+    ∷ leads (0 ∷ 2 ∷ 1 ∷ 3 ∷ []) (byContracting (0 ∷ []) ∷ []) 0 0 (0 ∷ 2 ∷ 2 ∷ 3 ∷ []) (3 ∷ [])
+    -- "two parallel edges can each be contracted, not both": judged at its turn, and nothing is left of the kernel
+    ∷ leads (2 ∷ 3 ∷ 0 ∷ 1 ∷ []) (byContracting (0 ∷ []) ∷ []) 0 0 (2 ∷ 3 ∷ 3 ∷ 2 ∷ []) (1 ∷ [])
+    ∷ leads (2 ∷ 3 ∷ 0 ∷ 1 ∷ []) (byContracting (1 ∷ []) ∷ []) 0 0 (1 ∷ 0 ∷ 0 ∷ 1 ∷ []) (5 ∷ [])
+    ∷ leads (2 ∷ 3 ∷ 0 ∷ 1 ∷ []) (byContracting (0 ∷ 1 ∷ []) ∷ []) 9 1 (2 ∷ 3 ∷ 0 ∷ 1 ∷ []) []
+    -- 12: "the top level"
+    ∷ leads T (byUndo ∷ []) 12 0 T []
+    ∷ leads T (K7 ++ (toLevel 3 ∷ [])) 12 2 (5 ∷ 2 ∷ 5 ∷ 4 ∷ 6 ∷ 4 ∷ 6 ∷ 7 ∷ []) (1 ∷ 5 ∷ 10 ∷ [])
+    ∷ leads T (K7 ++ (toLevel 0 ∷ [])) 0 0 T []
+    -- 13: "first wrong byte, from 0, or the length if it ends early"; 14: place 8
+    ∷ answersFile "numbers=2\n" 14 8
+    ∷ answersFile "numbers=" 13 8
+    ∷ answersFile "numbers=0\ndarts=08\n" 13 17
+    ∷ answersFile "numbers=0\ndarts=7\n" 1 0
+    ∷ answersFile "numbers=0\ndarts=10\nlevels=x" 2 0
+    ∷ answersFile "numbers=0\ndarts=8\nlevels=65\nkernel=" 6 0
+    ∷ answersFile "numbers=0\ndarts=8\nlevels=1\nkernel=remove 0\npair" 5 0
+    -- "0 under F = 1, D under F = 0"
+    ∷ answersFile "numbers=1\ndarts=2\nlevels=0\npair=0 2\n" 4 0
+    ∷ answersFile "numbers=0\ndarts=2\nlevels=0\npair=1 2\n" 4 0
+    ∷ answersFile "numbers=1\ndarts=2\nlevels=0\npair=1 2\n" 0 0
     ∷ []
 
 pub worked : allRight table ≡ true
