@@ -19,6 +19,7 @@ pub mod Sweeps
 pub mod Pyramids
 pub mod Undo
 pub mod Decided
+pub mod Cuts
 pub mod AnyOrder
 pub mod Instances
 pub mod Links
