@@ -23,7 +23,7 @@ use Rattle.darts.proofs.Undo.{undo-returns}
 use Rattle.darts.proofs.Decided.{base-undone, pyramid-decided}
 use Rattle.darts.proofs.AnyOrder.{Agrees, ListAgrees, other-order, any-order, any-cut, pyramid-order}
 
-abbrev triangle : List ℕ
+abbrev pub triangle : List ℕ
 triangle = 5 ∷ 2 ∷ 1 ∷ 4 ∷ 6 ∷ 0 ∷ 3 ∷ 7 ∷ []
 
 abbrev stateOf : ℕ → ℕ → List ℕ → State
@@ -37,23 +37,23 @@ removing es = record { kind = removal; edges = es }
 
 -- ---- K5 and K6: contract 0, 1 against contract 1, 0
 
-abbrev k5-table : List ℕ
+abbrev pub k5-table : List ℕ
 k5-table = 5 ∷ 2 ∷ 5 ∷ 4 ∷ 6 ∷ 4 ∷ 5 ∷ 7 ∷ []
 
-abbrev k5-state : State
+abbrev pub k5-state : State
 k5-state = stateOf 2 1 (2 ∷ replicate 63 0)
 
-abbrev k5-past : List ℕ
+abbrev pub k5-past : List ℕ
 k5-past = 5 ∷ 1 ∷ []
 
 abbrev k6-table : List ℕ
 k6-table = 5 ∷ 4 ∷ 1 ∷ 4 ∷ 6 ∷ 4 ∷ 5 ∷ 7 ∷ []
 
-triangle-base : firstBad 8 triangle ≡ 8
+pub triangle-base : firstBad 8 triangle ≡ 8
 unfolding successor repeats firstBadFrom firstBad
 triangle-base = refl
 
-eight-darts : T (dartCount 8)
+pub eight-darts : T (dartCount 8)
 unfolding dartCount
 eight-darts = tt
 
@@ -121,7 +121,7 @@ mixed-stops = refl
 
 -- ---- K7: after K5, remove 2
 
-abbrev k7-table : List ℕ
+abbrev pub k7-table : List ℕ
 k7-table = 5 ∷ 2 ∷ 5 ∷ 4 ∷ 6 ∷ 4 ∷ 6 ∷ 7 ∷ []
 
 abbrev k7-state : State
@@ -130,7 +130,7 @@ k7-state = stateOf 3 2 (2 ∷ 3 ∷ replicate 62 0)
 abbrev k7-past : List ℕ
 k7-past = 10 ∷ 5 ∷ 1 ∷ []
 
-k5-pyramid : Pyramid k5-state k5-table k5-past
+pub k5-pyramid : Pyramid k5-state k5-table k5-past
 k5-pyramid = built-pyramid 8 triangle eight-darts refl triangle-base (contracting (0 ∷ 1 ∷ []) ∷ []) k5-built
 
 k7-reduced : reduce removal (2 ∷ []) k5-state k5-table k5-past ≡ gives k7-state k7-table k7-past
