@@ -2,6 +2,7 @@
 --   after D t past o, pastAfter t past o == the table and the past once the operation o is done
 --   AllDone D t past os u new            == each of the operations os may be done at its turn, and they end at u and new
 --   stands-iff, run-iff                  == so a list stands, and so a kernel's run stands
+--   run-each                             == a kernel's run is that of its operations
 --   Parts D t past os ns v w             == the operations os, and from where they end the operations ns, which end at v and w
 --   Told past os new                     == the history numbers by which new goes on from past tell the operations os
 use mathlib.Core.List.{List, [], _∷_, _++_, map, reverse, reverse-cons, append-assoc, map-append, map-map}
@@ -67,7 +68,6 @@ pub stands-iff : {u new : List ℕ} (D : ℕ) (t past : List ℕ) (os : List Ope
 unfolding oneByOne
 stands-iff D t past os = (stands-from D t past 0 os, from-stands 0 os)
 
--- a kernel's run is that of its operations
 each-from : (k : Kind) (D : ℕ) (t past : List ℕ) (i : ℕ) (es : List ℕ) → runFrom k D t past i es ≡ oneByOneFrom D t past i (each k es)
 unfolding runFrom oneByOneFrom
 each-from k D t past i [] = refl
@@ -75,9 +75,13 @@ each-from k D t past i (e ∷ es) =
     let n = judge k D t past e in
     ap (λ r. if eqb n 0 then r else stops n i) (each-from k D (operate k D t past e) (number k (lead k t e) ∷ past) (suc i) es)
 
+-- A KERNEL IS ITS OPERATIONS ONE BY ONE, where it is refused too
+pub run-each : (k : Kind) (D : ℕ) (t past es : List ℕ) → run k D t past es ≡ oneByOne D t past (each k es)
+unfolding run oneByOne
+run-each k D t past = each-from k D t past 0
+
 pub run-iff : {u new : List ℕ} (k : Kind) (D : ℕ) (t past es : List ℕ) → (run k D t past es ≡ stands u new) ↔ AllDone D t past (each k es) u new
-unfolding run
-run-iff k D t past es = rw (each-from k D t past 0 es) (stands-from D t past 0 (each k es), from-stands 0 (each k es))
+run-iff k D t past es = rw (run-each k D t past es) (stands-iff D t past (each k es))
 
 -- ---- a list in two parts
 
