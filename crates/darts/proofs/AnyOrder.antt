@@ -5,7 +5,8 @@
 --   other-order           == whatever list holds the operations of an accepted list, in any order, it agrees with it
 --   any-order             == and so do whatever kernels hold them
 --   any-cut               == where the accepted list is one of kernels
---   pyramid-order         == where it is the one that a pyramid's history tells, whether kernels or sweeps made its levels
+--   pyramid-listed        == the operations that a pyramid's history tells are such a list on its base
+--   pyramid-order         == where it is that one, whether kernels or sweeps made the levels
 use mathlib.Core.Bool.{true}
 use mathlib.Core.List.{List, [], map, reverse, List·Permᴰ, Permᴰ·map}
 use mathlib.Core.Path.{_≡_, sym, _∙_, ap}
