@@ -1,39 +1,32 @@
 -- Kernels one after another.
 --   Built D s t past ks z u new == what holds once the kernels ks were accepted, one after another
 use mathlib.Core.List.{List, [], _∷_, _++_, append-assoc, append-nil}
-use mathlib.Core.Path.{_≡_, refl, sym, _∙_, ap, fun-ext, subst}
-use Prim.Native.Nat.{ℕ, _+_, _≤_}
+use mathlib.Core.Path.{_≡_, refl, sym, _∙_, ap, fun-ext}
+use Prim.Native.Nat.{ℕ, _+_}
 use native.Mathlib.Omega.{arith}
 use lib.ListN.{length}
-use Rattle.permutations.specs.Legal.{AllLegal, run}
 use Rattle.darts.specs.Operation.{undone}
 use Rattle.darts.specs.State.{State, gives, andThen, raised, reduce}
 use Rattle.darts.specs.Pyramid.{Kernel, build, kernelsOf}
-use Rattle.darts.proofs.Standing.{mapOf, Standing}
-use Rattle.darts.proofs.Operations.{operationsOf, NoneEmpty, acts, run-kernels, legal-kernels}
+use Rattle.darts.proofs.Standing.{Standing}
 use Rattle.darts.proofs.Ends.{Layered}
-use Rattle.darts.proofs.Results.{Given, then, then-gives, then-then, same-result}
-use Rattle.darts.proofs.Reduces.{Reduced, reduced, reduced-layered, reduced-kernels, reduced-base, legal-reduces}
+use Rattle.darts.proofs.Results.{then, then-gives, then-then, same-result}
+use Rattle.darts.proofs.Reduces.{Reduced, reduced, reduced-layered, reduced-kernels, reduced-base}
 
 pub record Built (D : ℕ) (s : State) (t past : List ℕ) (ks : List Kernel) (z : State) (u new : List ℕ) : Type 0 where
   pub standing : Standing D u new
   pub layered : Layered D z new
   pub height : z .levels ≡ s .levels + length ks
-  pub legal : AllLegal (mapOf D t past) (acts (operationsOf ks))
-  pub map-after : mapOf D u new ≡ run (mapOf D t past) (acts (operationsOf ks))
   -- the level ends cut the past into exactly these kernels
   pub kernels : kernelsOf z new ≡ kernelsOf s past ++ ks
   -- everything undone, the base is the same
   pub base : undone D (length new) u new ≡ undone D (length past) t past
 
 built-none : {D : ℕ} {s : State} {t past : List ℕ} → Standing D t past → Layered D s past → Built D s t past [] s t past
-unfolding run
 built-none {D} {s} {t} {past} S L = record {
   standing = S;
   layered = L;
   height = omega arith;
-  legal = tt;
-  map-after = refl;
   kernels = sym (append-nil (kernelsOf s past));
   base = refl;
 }
@@ -48,8 +41,6 @@ module _ {D : ℕ} {s : State} {t past : List ℕ} {k : Kernel} {s₁ : State} {
     standing = B .standing;
     layered = B .layered;
     height = let h = B .height in let one = one-level in omega arith;
-    legal = legal-kernels (mapOf D t past) k ks .1 (R .ran .legal, subst (λ m. AllLegal m (acts (operationsOf ks))) (R .ran .map-after) (B .legal));
-    map-after = B .map-after ∙ ap (λ m. run m (acts (operationsOf ks))) (R .ran .map-after) ∙ sym (run-kernels (mapOf D t past) k ks);
     kernels = B .kernels ∙ ap (λ l. l ++ ks) (reduced-kernels L R) ∙ append-assoc (kernelsOf s past) (k ∷ []) ks;
     base = B .base ∙ reduced-base L R;
   }
@@ -63,19 +54,6 @@ built {D} {s} {t} {past} S L (k ∷ ks) e =
     let first = then (reduce (k .kind) (k .edges) s t past) (λ s t past. build s t past ks) e in
     let R = reduced S L k (first .first) in
     built-more L R (built (R .ran .standing) (reduced-layered L R) ks (first .next))
-
--- KERNELS THAT THE MATHEMATICS ALLOWS ARE ACCEPTED
-pub legal-builds : {D : ℕ} {s : State} {t past : List ℕ} → Standing D t past → Layered D s past
-    → (ks : List Kernel) → NoneEmpty ks → s .levels + length ks ≤ 64 → AllLegal (mapOf D t past) (acts (operationsOf ks)) → Given (build s t past ks)
-unfolding build
-legal-builds {D} {s} {t} {past} S L [] some room l = record { state = s; table = t; past = past; given = refl }
-legal-builds {D} {s} {t} {past} S L (k ∷ ks) some room l =
-    let parts = legal-kernels (mapOf D t past) k ks .0 l in
-    let G = legal-reduces S L k (some .0) (omega arith) (parts .0) in
-    let R = reduced S L k (G .given) in
-    let legal = subst (λ m. AllLegal m (acts (operationsOf ks))) (sym (R .ran .map-after)) (parts .1) in
-    let fits : G .state .levels + length ks ≤ 64 = let one = one-level L R in omega arith in
-    rw (G .given) (legal-builds (R .ran .standing) (reduced-layered L R) ks (some .1) fits legal)
 
 -- ---- the last kernel
 

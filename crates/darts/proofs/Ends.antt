@@ -2,7 +2,7 @@
 --   Rising from marks to == the marks rise strictly, the first above `from`, the last at `to`
 --   Layered D s past     == the state s, of D darts, has the operation count and the level ends of this past
 use mathlib.Core.Bool.{false}
-use mathlib.Core.List.{List, [], _∷_, _++_, reverse, reverse-append, reverse-reverse}
+use mathlib.Core.List.{List, [], _∷_, _++_, reverse}
 use mathlib.Core.Path.{_≡_, refl, sym, _∙_, ap}
 use Prim.Native.Nat.{ℕ, zero, suc, _+_, _-_, _<_, _≤_}
 use native.Mathlib.Numerals.{add-one}
@@ -15,6 +15,7 @@ use Rattle.darts.specs.Choose.{if_then_else_}
 use Rattle.darts.specs.State.{State, baseState, raised}
 use Rattle.darts.specs.Levels.{endBelow, lowered}
 use Rattle.darts.specs.Pyramid.{kernelOf, cut, kernelsOf}
+use Rattle.darts.proofs.Lists.{reverse-onto}
 
 abbrev pub Rising : ℕ → List ℕ → ℕ → Type 0
 Rising from [] to = from ≡ to
@@ -56,10 +57,6 @@ cut-on from (m ∷ ms) history numbers to r e =
     let fits : m - from ≤ length history = let h = rising-order m ms to (r .1) in omega arith in
     let rest : to ≡ m + length (drop (m - from) history) = let h = rising-order m ms to (r .1) in simp length-drop (omega arith) in
     rw (take-append-le (m - from) history numbers, drop-append-le (m - from) history numbers, cut-on m ms (drop (m - from) history) numbers to (r .1) rest)
-
--- the past of a history that goes on
-reverse-onto : (numbers past : List ℕ) → reverse (reverse numbers ++ past) ≡ reverse past ++ numbers
-reverse-onto numbers past = reverse-append (reverse numbers) past ∙ ap (λ l. reverse past ++ l) (reverse-reverse numbers)
 
 -- ---- a base, and one level more
 

@@ -19,8 +19,13 @@ pub mod Sweeps
 pub mod Pyramids
 pub mod Undo
 pub mod Decided
+pub mod Cuts
 pub mod AnyOrder
+pub mod Turns
+pub mod Definitions
+pub mod Propositions
 pub mod Instances
+pub mod DefinitionInstances
 pub mod Links
 pub mod Fits
 pub mod Undone

@@ -1,6 +1,6 @@
 -- A property of each of a list, and map beside take, drop and reverse.
 --   Each P xs == P holds of each of xs
-use mathlib.Core.List.{List, [], _∷_, map, reverse, reverseAux, reverse-reverse}
+use mathlib.Core.List.{List, [], _∷_, _++_, map, reverse, reverseAux, reverse-append, reverse-reverse}
 use mathlib.Core.Path.{_≡_, refl, sym, ap, _∙_}
 use mathlib.Mathlib.Data.List.Basic.{map-reverseAux}
 use Prim.Native.Nat.{ℕ, zero, suc, _<_}
@@ -19,6 +19,10 @@ each-at P (x ∷ l) f = (f 0 (omega arith), each-at P l (λ i h. f (suc i) (omeg
 pub each-reverse : (P : ℕ → Type 0) (l r : List ℕ) → Each P l → Each P r → Each P (reverseAux l r)
 each-reverse P [] r a b = b
 each-reverse P (x ∷ l) r a b = each-reverse P l (x ∷ r) (a .1) (a .0, b)
+
+-- the history of a past that goes on
+pub reverse-onto : (numbers past : List ℕ) → reverse (reverse numbers ++ past) ≡ reverse past ++ numbers
+reverse-onto numbers past = reverse-append (reverse numbers) past ∙ ap (λ l. reverse past ++ l) (reverse-reverse numbers)
 
 module _ (f : ℕ → ℕ) where
   pub take-map : (n : ℕ) (l : List ℕ) → take n (map f l) ≡ map f (take n l)

@@ -88,10 +88,10 @@ module _ {D : ℕ} {t past : List ℕ} (S : Standing D t past) (k : Kind) (p : �
   end-leads e = ⊎-elim (λ g. inl (ap (successor t) (sym g))) (λ g. inr (ap (successor t) (sym g))) (end-giver k e)
 
   -- the darts that are written are not on the edge
-  a-away : ¬ End p a
+  pub a-away : ¬ End p a
   a-away e = ⊎-elim (λ z. L .p-not-p (z ∙ a-leads)) (λ z. L .q-not-p (z ∙ a-leads)) (end-leads e)
 
-  b-away : r ≢ q → ¬ End p b
+  pub b-away : r ≢ q → ¬ End p b
   b-away n e = ⊎-elim (λ z. n (z ∙ b-leads)) (λ z. L .q-not-q (z ∙ b-leads)) (end-leads e)
 
   b-end : r ≡ q → End p b
@@ -99,10 +99,10 @@ module _ {D : ℕ} {t past : List ℕ} (S : Standing D t past) (k : Kind) (p : �
 
   -- ---- the new entries
 
-  new-a : successor new a ≡ pick (eqb r q) s r
+  pub new-a : successor new a ≡ pick (eqb r q) s r
   new-a = relinked-a t a b q r s ab (live-below a a-live)
 
-  new-b : r ≢ q → successor new b ≡ s
+  pub new-b : r ≢ q → successor new b ≡ s
   new-b n = relinked-b t a b q r s (live-below b b-live) n
 
   -- the entries of p and q are left as they stand
@@ -199,7 +199,7 @@ module _ {D : ℕ} {t past : List ℕ} (S : Standing D t past) (k : Kind) (e : �
   legal : Legal (mapOf D t past) (opOf k (2 * e))
   legal = judge-legal S k e .0 fine
 
-  leads : Leading k D t past (lead k t e)
+  pub leads : Leading k D t past (lead k t e)
   leads = lead-leads S k e legal
 
   -- AN OPERATION ON THE TABLE IS THE MATHEMATICS' OPERATION ON THE MAP

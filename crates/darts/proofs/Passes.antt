@@ -1,28 +1,30 @@
 -- A pyramid passes the tests.
 --   Sound D t past    == the table stands, and its past passes tests 1, 2 and 6 to 15; each operation is legal at its turn
 --   Shaped D s t past == and the state has the shape of that past
-use mathlib.Core.List.{List, [], _∷_, _++_, reverse, reverse-append, reverse-reverse}
-use mathlib.Core.Path.{_≡_, sym, ap, _∙_, subst, subst₂}
-use Prim.Native.Nat.{ℕ, suc, _+_, _<_}
+use mathlib.Core.List.{List, [], _∷_, _++_, reverse}
+use mathlib.Core.Path.{_≡_, sym, ap, _∙_, subst}
+use Prim.Native.Nat.{ℕ, _+_, _<_}
 use native.Mathlib.Omega.{arith}
 use lib.Dec.{T}
 use lib.ListN.{length, take, length-reverse}
 use Rattle.permutations.specs.Choice.{and-intro}
 use Rattle.darts.specs.Operation.{Kind, lead, operate, number}
-use Rattle.darts.specs.Kernel.{stands, judge, runFrom, run}
+use Rattle.darts.specs.Kernel.{judge}
 use Rattle.darts.specs.State.{State, gives, raised, reduce}
 use Rattle.darts.specs.Pyramid.{Kernel, Pyramid, build}
+use Rattle.darts.specs.OneByOne.{Operation, each}
+use Rattle.darts.proofs.Lists.{reverse-onto}
 use Rattle.darts.proofs.Standing.{Standing}
 use Rattle.darts.proofs.Bases.{base-stands}
 use Rattle.darts.proofs.Judged.{judge-legal}
 use Rattle.darts.proofs.Numbers.{number-kind, number-lead, number-edge}
 use Rattle.darts.proofs.Lead.{lead-leads}
 use Rattle.darts.proofs.Operate.{operate-stands, undo-operate}
-use Rattle.darts.proofs.Runs.{run-on, run-fine, ran-count, ran-longer}
+use Rattle.darts.proofs.Operations.{AllDone, none, first, run-iff, told-count, told-longer, told-kinds}
 use Rattle.darts.proofs.Ends.{Layered, layered-base, marks-raised}
 use Rattle.darts.proofs.Results.{then, same-result}
 use Rattle.darts.proofs.Reduces.{Reduced, reduce-raises, reduced, reduced-layered}
-use Rattle.darts.specs.Tests.{numbered, fits, backs, rises}
+use Rattle.darts.specs.Tests.{numbered, fits, backs, oneKind, rises}
 use Rattle.darts.proofs.Fits.{numbered-iff}
 use Rattle.darts.proofs.Forth.{redo-fits}
 use Rattle.darts.proofs.Replays.{Allowed}
@@ -34,7 +36,7 @@ pub record Sound (D : ℕ) (t past : List ℕ) : Type 0 where
   pub fitting : T (backs D t past)
   pub legal : Allowed D t past
 
--- ---- one operation more, and a run
+-- ---- one operation more, and several
 
 sound-base : {D : ℕ} {t : List ℕ} → Standing D t [] → Sound D t []
 unfolding numbered backs
@@ -56,16 +58,9 @@ sound-more {D} {t} {past} Q k e fine =
       legal = rw (back, number-kind k (lead k t e), number-edge k t e) (legal, Q .legal);
     }
 
-sound-run : (k : Kind) {D : ℕ} {t past u new : List ℕ} → Sound D t past → (i : ℕ) (es : List ℕ)
-    → runFrom k D t past i es ≡ stands u new → Sound D u new
-unfolding runFrom
-sound-run k {D} {t} {past} {u} {new} Q i [] r =
-    let table : t ≡ u = cc in
-    let history : past ≡ new = cc in
-    subst₂ (Sound D) table history Q
-sound-run k {D} {t} {past} Q i (e ∷ es) r =
-    let fine = run-fine k D t past i e es r in
-    sound-run k (sound-more Q k e fine) (suc i) es (sym (run-on k D t past i e es fine) ∙ r)
+sound-all : {D : ℕ} {t past u new : List ℕ} → Sound D t past → (os : List Operation) → AllDone D t past os u new → Sound D u new
+sound-all Q [] none = Q
+sound-all Q (o ∷ os) (first fine rest) = sound-all (sound-more Q (o .kind) (o .edge) fine) os rest
 
 -- ---- one level more
 
@@ -82,24 +77,28 @@ module _ {D : ℕ} {s : State} {t past : List ℕ} {z : State} {u new : List ℕ
   rising-more : T (rises 0 (take (z .levels) (z .ends)) (reverse new))
   unfolding raised
   rising-more = rw (R .state, marks-raised (Q .layered) (R .room) new (R .grows), longer, history)
-      (rises-more 0 (take (s .levels) (s .ends)) (reverse past) numbers (Q .rising) (one-kind (k .kind) numbers (k .edges) (R .ran .kinds)) some)
+      (rises-more 0 (take (s .levels) (s .ends)) (reverse past) numbers (Q .rising) one some)
     where
       numbers : List ℕ
-      numbers = R .ran .numbers
+      numbers = R .ran .tells .numbers
 
       history : reverse new ≡ reverse past ++ numbers
-      history = ap reverse (R .ran .history) ∙ reverse-append (reverse numbers) past ∙ ap (λ l. reverse past ++ l) (reverse-reverse numbers)
+      history = ap reverse (R .ran .tells .history) ∙ reverse-onto numbers past
+
+      one : T (oneKind numbers)
+      one = one-kind (k .kind) numbers (k .edges) (told-kinds (k .kind) (k .edges) numbers (R .ran .tells .told))
 
       longer : length new ≡ 0 + length (reverse past) + length numbers
-      longer = let h = ran-longer (R .ran) in let c = ran-count (R .ran) in simp length-reverse (omega arith)
+      longer = let h = told-longer (R .ran .tells) in let c = told-count (R .ran .tells) in simp length-reverse (omega arith)
 
       some : 0 < length numbers
-      some = let h = ran-longer (R .ran) in let c = ran-count (R .ran) in let g = R .grows in omega arith
+      some = let h = told-longer (R .ran .tells) in let c = told-count (R .ran .tells) in let g = R .grows in omega arith
 
   shaped-more : Shaped D z u new
-  unfolding run
   shaped-more = record {
-    sound = sound-run (k .kind) (Q .sound) 0 (k .edges) (rw (Q .layered .size) at (reduce-raises s t past (k .kind) (k .edges) e .stood));
+    sound =
+        let stood = rw (Q .layered .size) at (reduce-raises s t past (k .kind) (k .edges) e .stood) in
+        sound-all (Q .sound) (each (k .kind) (k .edges)) (run-iff (k .kind) D t past (k .edges) .0 stood);
     layered = reduced-layered (Q .layered) R;
     rising = rising-more;
   }

@@ -2,7 +2,7 @@
 --   Raises s past r z u new      == the run r, begun at this past, adds one level to the state s: it gives z, u and new
 --   Reduced D s t past k z u new == what holds once the kernel k was accepted
 use mathlib.Core.Bool.{Bool, true, false}
-use mathlib.Core.List.{List, [], _∷_, _++_}
+use mathlib.Core.List.{List, [], _∷_, _++_, map, reverse}
 use mathlib.Core.Logic.{_≢_}
 use mathlib.Core.Path.{_≡_, refl, _∙_, ap, ap₂, subst}
 use Prim.Native.Nat.{ℕ, _+_, _<_}
@@ -11,18 +11,18 @@ use native.Mathlib.Omega.{arith}
 use lib.Dec.{leb, leb→le, nleb→lt}
 use lib.ListN.{length}
 use Rattle.permutations.specs.Choice.{eqb-same, eqb-other, nT→false}
-use Rattle.permutations.specs.Legal.{AllLegal}
 use Rattle.darts.specs.Choose.{if_then_else_}
 use Rattle.darts.specs.Answers.{tooManyLevels}
 use Rattle.darts.specs.Operation.{Kind, undone}
 use Rattle.darts.specs.Kernel.{Run, stands, stops, run}
 use Rattle.darts.specs.State.{State, gives, refuses, raised, levelled, reduce}
 use Rattle.darts.specs.Pyramid.{Kernel, kernelsOf}
-use Rattle.darts.proofs.Standing.{mapOf, Standing}
-use Rattle.darts.proofs.Operations.{each, acts}
-use Rattle.darts.proofs.Runs.{Ran, ran, ran-longer, ran-dropped, ran-kernel, undone-more, legal-runs}
+use Rattle.darts.specs.OneByOne.{operationOf, each}
+use Rattle.darts.proofs.Standing.{Standing}
+use Rattle.darts.proofs.Operations.{run-iff, done-told, told-history, told-count, told-longer, told-dropped, told-kernel}
+use Rattle.darts.proofs.Runs.{Ran, ran, undone-more}
 use Rattle.darts.proofs.Ends.{Layered, layered-raised, kernels-raised}
-use Rattle.darts.proofs.Results.{Given, refuses≢gives}
+use Rattle.darts.proofs.Results.{refuses≢gives}
 
 -- ---- one level more
 
@@ -68,11 +68,15 @@ module _ (s : State) (t past : List ℕ) (k : Kind) (es : List ℕ) {z : State} 
   unfolding reduce
   raises-reduce = raises-gives
 
+  -- the history gets the kernel's operations
+  pub reduce-told : reduce k es s t past ≡ gives z u new → map operationOf (reverse new) ≡ map operationOf (reverse past) ++ each k es
+  reduce-told e = told-history (done-told (each k es) (run-iff k (s .darts) t past es .0 (reduce-raises e .stood)))
+
 -- ---- what an accepted kernel has done
 
 pub record Reduced (D : ℕ) (s : State) (t past : List ℕ) (k : Kernel) (z : State) (u new : List ℕ) : Type 0 where
   pub room : s .levels < 64
-  pub ran : Ran (k .kind) D t past (k .edges) u new
+  pub ran : Ran D t past (each (k .kind) (k .edges)) u new
   pub grows : length past < length new
   pub state : z ≡ raised s (length new)
 
@@ -81,8 +85,8 @@ pub reduced : {D : ℕ} {s : State} {t past : List ℕ} {z : State} {u new : Lis
 reduced {D} {s} {t} {past} {z} {u} {new} S L k e =
     let R = reduce-raises s t past (k .kind) (k .edges) e in
     let stood : run (k .kind) D t past (k .edges) ≡ stands u new = rw (L .size) at (R .stood) in
-    let done = ran S (k .edges) stood in
-    record { room = R .room; ran = done; grows = (let h = ran-longer done in let n = R .more in omega arith); state = R .state }
+    let done = ran S (each (k .kind) (k .edges)) (run-iff (k .kind) D t past (k .edges) .0 stood) in
+    record { room = R .room; ran = done; grows = (let h = told-longer (done .tells) in let n = R .more in omega arith); state = R .state }
 
 module _ {D : ℕ} {s : State} {t past : List ℕ} {k : Kernel} {z : State} {u new : List ℕ} (L : Layered D s past) (R : Reduced D s t past k z u new) where
   pub reduced-layered : Layered D z new
@@ -91,25 +95,14 @@ module _ {D : ℕ} {s : State} {t past : List ℕ} {k : Kernel} {z : State} {u n
   -- the new level ends cut off this kernel
   pub reduced-kernels : kernelsOf z new ≡ kernelsOf s past ++ (k ∷ [])
   reduced-kernels =
-      let kernel = ran-kernel (R .ran) (let h = ran-longer (R .ran) in let g = R .grows in omega arith) in
-      rw (R .state) (kernels-raised L (R .room) new (R .grows) (R .ran .numbers) (R .ran .history) ∙ ap (λ c. kernelsOf s past ++ (c ∷ [])) kernel)
+      let N = R .ran .tells in
+      let some : 0 < length (N .numbers) = let c = told-count N in let h = told-longer N in let g = R .grows in omega arith in
+      let kernel = told-kernel (k .kind) (k .edges) (N .numbers) (N .told) some in
+      rw (R .state) (kernels-raised L (R .room) new (R .grows) (N .numbers) (N .history) ∙ ap (λ c. kernelsOf s past ++ (c ∷ [])) kernel)
 
   -- everything undone, the base is the same
   pub reduced-base : undone D (length new) u new ≡ undone D (length past) t past
   reduced-base =
-      let longer : length new ≡ length (k .edges) + length past = let h = ran-longer (R .ran) in omega arith in
-      rw longer (undone-more D (length (k .edges)) (length past) u new ∙ ap₂ (undone D (length past)) (R .ran .back) (ran-dropped (R .ran)))
-
--- A KERNEL THAT THE MATHEMATICS ALLOWS IS ACCEPTED
-pub legal-reduces : {D : ℕ} {s : State} {t past : List ℕ} → Standing D t past → Layered D s past
-    → (k : Kernel) → 0 < length (k .edges) → s .levels < 64 → AllLegal (mapOf D t past) (acts (each (k .kind) (k .edges)))
-    → Given (reduce (k .kind) (k .edges) s t past)
-legal-reduces {D} {s} {t} {past} S L k some room l =
-    let A = legal-runs (k .kind) S (k .edges) l in
-    let longer : length (A .past) ≢ length past = let h = ran-longer (ran S (k .edges) (A .accepted)) in omega arith in
-    record {
-      state = raised s (length (A .past));
-      table = A .table;
-      past = A .past;
-      given = raises-reduce s t past (k .kind) (k .edges) (record { room = room; stood = rw (L .size) (A .accepted); more = longer; state = refl });
-    }
+      let n : ℕ = length (each (k .kind) (k .edges)) in
+      let longer : length new ≡ n + length past = let h = told-longer (R .ran .tells) in omega arith in
+      rw longer (undone-more D n (length past) u new ∙ ap₂ (undone D (length past)) (R .ran .back) (told-dropped (R .ran .tells)))

@@ -3,8 +3,9 @@
 --   takes-fine            == an edge that it takes, with two faces at its sides, may be removed
 --   swept-run             == the sweep's run is the run of a removal kernel
 --   sweep-reduces         == the sweep is that kernel, and what holds of every kernel holds of it
+--   sweep-takes           == and its edges are the ones that the sweep takes
 use mathlib.Core.Bool.{Bool, true, false, not}
-use mathlib.Core.List.{List, [], _∷_}
+use mathlib.Core.List.{List, [], _∷_, _++_, map, reverse}
 use mathlib.Core.Logic.{_⊎_, inl, inr, ⊎-elim}
 use mathlib.Core.Path.{_≡_, refl, _∙_}
 use Prim.Native.Nat.{ℕ, zero, suc, _+_, _*_, _/_, _<_, _≤_}
@@ -16,8 +17,10 @@ use Rattle.darts.specs.Operation.{removal, lead, wholeEdge, operate, num
 use Rattle.darts.specs.Kernel.{Run, stands, judge, shared, runFrom, run}
 use Rattle.darts.specs.State.{State, gives, reduce}
 use Rattle.darts.specs.Levels.{emptyLoop, takes, sweptFrom, swept, sweep}
-use Rattle.darts.proofs.Runs.{stops≢stands, run-on}
-use Rattle.darts.proofs.Reduces.{raises, raises-reduce}
+use Rattle.darts.specs.OneByOne.{operationOf, each}
+use Rattle.darts.proofs.Operations.{stops≢stands}
+use Rattle.darts.proofs.Runs.{run-on}
+use Rattle.darts.proofs.Reduces.{raises, raises-reduce, reduce-told}
 
 abbrev Turn : ℕ → ℕ → ℕ → ℕ → List ℕ → List ℕ → Run → Type 0
 Turn D n e i t past r =
@@ -73,3 +76,8 @@ sweep-reduces s t past e =
     let R = raises (swept (s .darts) t past) e in
     let taken = swept-run (s .darts) t past (R .stood) in
     (taken .0, raises-reduce s t past removal (taken .0) (record { room = R .room; stood = taken .1; more = R .more; state = R .state }))
+
+-- and its edges es are the ones that it takes: their removals, in their order, are what the history gets
+pub sweep-takes : (s : State) (t past : List ℕ) {z : State} {u new : List ℕ} → sweep s t past ≡ gives z u new
+    → (es : List ℕ) × (reduce removal es s t past ≡ gives z u new) × (map operationOf (reverse new) ≡ map operationOf (reverse past) ++ each removal es)
+sweep-takes s t past e = let r = sweep-reduces s t past e in (r .0, r .1, reduce-told s t past removal (r .0) (r .1))

@@ -19,7 +19,8 @@ use Rattle.darts.specs.Operation.{Kind, removal}
 use Rattle.darts.specs.State.{State, gives, andThen, raised, reduce}
 use Rattle.darts.specs.Levels.{sweep, endBelow, undoLevel, undoLevels, unfoldTo}
 use Rattle.darts.specs.Pyramid.{Kernel, Pyramid, build}
-use Rattle.darts.proofs.Runs.{ran-longer, ran-dropped}
+use Rattle.darts.specs.OneByOne.{each}
+use Rattle.darts.proofs.Operations.{told-longer, told-dropped}
 use Rattle.darts.proofs.Ends.{Layered, below-raised, lowered-raised}
 use Rattle.darts.proofs.Results.{refuses≢gives, then, then-then, same-result}
 use Rattle.darts.proofs.Reduces.{Reduced, reduced}
@@ -31,14 +32,14 @@ use Rattle.darts.proofs.Pyramids.{pyramid-built, reduce-pyramid, Stacke
 
 module _ {D : ℕ} {s : State} {t past : List ℕ} {k : Kernel} {z : State} {u new : List ℕ} (L : Layered D s past) (R : Reduced D s t past k z u new) where
   -- the last level holds this kernel's operations
-  level-count : length new - endBelow (raised s (length new)) ≡ length (k .edges)
-  level-count = rw (below-raised L (R .room) new (R .grows)) (let n = L .count in let h = ran-longer (R .ran) in omega arith)
+  level-count : length new - endBelow (raised s (length new)) ≡ length (each (k .kind) (k .edges))
+  level-count = rw (below-raised L (R .room) new (R .grows)) (let n = L .count in let h = told-longer (R .ran .tells) in omega arith)
 
   undo-raised : undoLevel (raised s (length new)) u new ≡ gives s t past
   unfolding undoLevel raised
   undo-raised =
       let above : eqb (s .levels + 1) 0 ≡ false = eqb-other {m = s .levels + 1} {n = 0} (omega arith) in
-      rw (above, level-count, lowered-raised L (R .room) new (R .grows), L .size, R .ran .back, ran-dropped (R .ran))
+      rw (above, level-count, lowered-raised L (R .room) new (R .grows), L .size, R .ran .back, told-dropped (R .ran .tells))
 
 module _ {s : State} {t past : List ℕ} {z : State} {u new : List ℕ} (P : Pyramid s t past) where
   -- UNDO RETURNS THE STATE, EVERY ENTRY OF THE TABLE, AND THE HISTORY

@@ -6,6 +6,7 @@ pub mod Kernel
 pub mod State
 pub mod Levels
 pub mod Pyramid
+pub mod OneByOne
 pub mod Tests
 pub mod Counts
 pub mod Text
