@@ -1,3 +1,4 @@
 pub mod Steps
 pub mod Outcome
 pub mod Lengths
+pub mod NotWritten
