@@ -2,3 +2,5 @@ pub mod Steps
 pub mod Outcome
 pub mod Lengths
 pub mod NotWritten
+pub mod Agreeing
+pub mod NotRead
