@@ -4,3 +4,4 @@ pub mod Lengths
 pub mod NotWritten
 pub mod Agreeing
 pub mod NotRead
+pub mod LookedAt
