@@ -1,8 +1,9 @@
 -- Lent slices that agree wherever a call may look.
 --   Agree D n t h w t′ h′ w′ == two lendings, for D darts after n operations, that agree so far
+--   agree-behind             == whatever is put behind what a call may look at
 --   by-one-test              == two choices by one test agree, if the one and the other branch do
 --   take-over                == numbers laid over two slices that agree so far: they still do
---   room-same, fitting-same  == both have room, or neither
+--   room-same                == both have room, or neither
 --   bad-same                 == and start finds the same dart
 --   table-same, past-same, judged-same == a call on a state is lent the same table and past, and is judged alike
 use mathlib.Core.Bool.{Bool, true, false}
@@ -13,7 +14,7 @@ use Prim.Native.Nat.{ℕ, zero, suc, _+_, _-_, _*_, _/_, _≤_, _<_}
 use native.Mathlib.Decide.{decLt}
 use native.Mathlib.Nat.{zero-add, suc-add}
 use native.Mathlib.Omega.{arith}
-use lib.ListN.{length, getD, take, drop, length-take}
+use lib.ListN.{length, getD, take, drop, length-take, length-append}
 use lib.Seq.{take-nil, getD-take, take-append-le, take-append-add}
 use Rattle.permutations.specs.Choice.{T-ext}
 use Rattle.darts.specs.Choose.{if_then_else_}
@@ -29,6 +30,16 @@ pub record Agree (D n : ℕ) (t h w t′ h′ w′ : List ℕ) : Type 0 where
   pub history : take n h ≡ take n h′
   pub history-room : (D / 2 ≤ length h) ↔ (D / 2 ≤ length h′)
   pub work-room : (4 * D ≤ length w) ↔ (4 * D ≤ length w′)
+
+-- any numbers behind those that a call may look at, and any work area as long
+pub agree-behind : (D n : ℕ) (t x h y w w′ : List ℕ) → D ≤ length t → n ≤ length h → D / 2 ≤ length h → length w ≡ length w′
+    → Agree D n t h w (t ++ x) (h ++ y) w′
+agree-behind D n t x h y w w′ table count room work = record {
+  table = sym (take-append-le D t x table);
+  history = sym (take-append-le n h y count);
+  history-room = (λ l. simp length-append (omega arith), λ l. room);
+  work-room = (λ l. omega arith, λ l. omega arith);
+}
 
 pub by-one-test : {A : Type 0} (P : A → A → Type 0) (b : Bool) {x y x′ y′ : A} → P x x′ → P y y′ → P (if b then x else y) (if b then x′ else y′)
 by-one-test P true p q = p
@@ -107,7 +118,7 @@ module _ {D n : ℕ} {t h w t′ h′ w′ : List ℕ} (A : Agree D n t h w t′
       T-ext _ _ (λ r. room-test (length t′) (length h′) (length w′) D (lengths-same A (room-facts (length t) (length h) (length w) D r)))
       (λ r. room-test (length t) (length h) (length w) D (lengths-same (agree-back A) (room-facts (length t′) (length h′) (length w′) D r)))
 
-  pub fitting-same : fitting D (length t) (length h) (length w) ≡ fitting D (length t′) (length h′) (length w′)
+  fitting-same : fitting D (length t) (length h) (length w) ≡ fitting D (length t′) (length h′) (length w′)
   unfolding fitting
   fitting-same = rw room-same
 
