@@ -66,3 +66,4 @@ pub mod FileInstances
 pub mod Fitting
 pub mod Over
 pub mod Judging
+pub mod sentences
