@@ -51,7 +51,7 @@ module _ {s : State} {t past : List ℕ} {z : State} {u new : List ℕ} (P : Pyr
   reduce-onto k es e =
       let B = pyramid-built P in
       let R = reduced (B .standing) (B .layered) (record { kind = k; edges = es }) e in
-      record { darts = ap (λ (z : State). z .darts) (R .state); more = reverse (R .ran .numbers); history = R .ran .history }
+      record { darts = ap (λ (z : State). z .darts) (R .state); more = reverse (R .ran .tells .numbers); history = R .ran .tells .history }
 
   sweep-onto : sweep s t past ≡ gives z u new → Onto s past z new
   sweep-onto e = let r = sweep-reduces s t past e in reduce-onto removal (r .0) (r .1)
