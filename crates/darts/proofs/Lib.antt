@@ -61,3 +61,4 @@ pub mod FileInstances
 pub mod Fitting
 pub mod Over
 pub mod Judging
+pub mod chained
