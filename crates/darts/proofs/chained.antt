@@ -4,3 +4,6 @@ pub mod Faults
 pub mod Begins
 pub mod Kept
 pub mod Undo
+pub mod Unfold
+pub mod Chains
+pub mod AnyOrder

@@ -30,7 +30,7 @@ use Rattle.darts.proofs.chained.Faults.{Meant, file-told}
 -- ---- a base in the first D numbers of a table
 
 module _ (D : ℕ) (t : List ℕ) where
-  entry-front : (d : ℕ) → suc d ≤ D → successor (take D t) d ≡ successor t d
+  pub entry-front : (d : ℕ) → suc d ≤ D → successor (take D t) d ≡ successor t d
   unfolding successor
   entry-front d h = getD-take D t d 0 h
 
@@ -72,6 +72,7 @@ pub record Started (D : ℕ) (t h w : List ℕ) (a : After) : Type 0 where
   pub history : a .history ≡ h
   pub left : Left D t h w a
   pub count : T (dartCount D)
+  pub lengths : Lengths D (length t) (length h) (length w)
   pub permutation : firstBad D (take D t) ≡ D
 
 module _ (D : ℕ) (t h w : List ℕ) where
@@ -97,6 +98,7 @@ module _ (D : ℕ) (t h w : List ℕ) where
           work = cleared-rest D w;
         };
         count = count;
+        lengths = L;
         permutation = permutation;
       }
 

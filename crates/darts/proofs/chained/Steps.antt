@@ -96,7 +96,7 @@ undo-lowers s t past {z} {u} {new} e = go (ℕ-discrete (s .levels) 0)
         same-result (λ z u new. Lowered 1 s past z new) (rw (eqb-other n) at e)
         (record { darts = refl; levels = omega arith; forgotten = s .operations - endBelow s; history = refl })
 
-undo-levels-lower : (n : ℕ) (s : State) (t past : List ℕ) {z : State} {u new : List ℕ} → undoLevels n s t past ≡ gives z u new → Lowered n s past z new
+pub undo-levels-lower : (n : ℕ) (s : State) (t past : List ℕ) {z : State} {u new : List ℕ} → undoLevels n s t past ≡ gives z u new → Lowered n s past z new
 unfolding undoLevels
 undo-levels-lower zero s t past e =
     same-result (λ z u new. Lowered 0 s past z new) e (record { darts = refl; levels = omega arith; forgotten = 0; history = refl })
@@ -112,7 +112,7 @@ undo-levels-lower (suc n) s t past e =
     }
 
 module _ (k : ℕ) (s : State) (t past : List ℕ) {z : State} {u new : List ℕ} (e : unfoldTo k s t past ≡ gives z u new) where
-  unfold-undoes : (k ≤ s .levels) × (undoLevels (s .levels - k) s t past ≡ gives z u new)
+  pub unfold-undoes : (k ≤ s .levels) × (undoLevels (s .levels - k) s t past ≡ gives z u new)
   unfolding unfoldTo
   unfold-undoes = go (ltb (s .levels) k) refl
     where
