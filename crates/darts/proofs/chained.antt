@@ -7,3 +7,4 @@ pub mod Undo
 pub mod Unfold
 pub mod Chains
 pub mod AnyOrder
+pub mod File
