@@ -8,3 +8,5 @@ pub mod Unfold
 pub mod Chains
 pub mod AnyOrder
 pub mod File
+pub mod Instances
+pub mod FileInstances
