@@ -11,7 +11,7 @@ use lib.Dec.{T}
 use lib.ListN.{length, take}
 use lib.Seq.{length-take-le}
 use Rattle.darts.specs.Map.{successor, survives}
-use Rattle.darts.specs.State.{State, baseState, Result, gives, reduce}
+use Rattle.darts.specs.State.{State, baseState, Result, gives}
 use Rattle.darts.specs.Pyramid.{Kernel, build}
 use Rattle.darts.specs.Calls.{After, tableOf, pastOf, start}
 use Rattle.darts.proofs.Operations.{operationsOf, NoneEmpty}
@@ -19,7 +19,7 @@ use Rattle.darts.proofs.Results.{then}
 use Rattle.darts.proofs.AnyOrder.{Agrees, any-order}
 use Rattle.darts.proofs.Fitting.{Lengths}
 use Rattle.darts.proofs.Judging.{Lent}
-use Rattle.darts.proofs.chained.OnLent.{Call, byKernel, callOn, called-accepts, called-left}
+use Rattle.darts.proofs.chained.OnLent.{Call, byKernel, callOn, stepOf, called-accepts, called-left}
 use Rattle.darts.proofs.chained.Begins.{entry-front, start-left, start-accepts}
 use Rattle.darts.proofs.chained.Chains.{calls, AllDone, first-done, Above, above-start, above-calls}
 
@@ -59,7 +59,7 @@ build-calls : (ks : List Kernel) (a : After) → LentOn a → a .answer .number 
 unfolding build
 build-calls [] a L d e = d
 build-calls (k ∷ ks) a L d e =
-    let first = then (reduce (k .kind) (k .edges) (a .state) (tableOf (a .state) (a .table)) (pastOf (a .state) (a .history))) (λ s t past. build s t past ks) e in
+    let first = then (stepOf (byKernel k) (a .state) (tableOf (a .state) (a .table)) (pastOf (a .state) (a .history))) (λ s t past. build s t past ks) e in
     let zero = called-accepts (byKernel k) (a .state) (a .table) (a .history) (a .work) L (first .first) in
     let A = called-left (byKernel k) (a .state) (a .table) (a .history) (a .work) zero in
     (d, build-calls ks (callOn (byKernel k) a) (A .left .lent) zero (rw (A .gave) at e))

@@ -7,7 +7,7 @@ use mathlib.Core.List.{List, [], _∷_}
 use mathlib.Core.Path.{_≡_, _∙_, subst}
 use Prim.Native.Nat.{ℕ, _*_}
 use lib.ListN.{take, drop}
-use Rattle.darts.specs.Answers.{done}
+use Rattle.darts.specs.Answers.{answered}
 use Rattle.darts.specs.State.{baseState, gives}
 use Rattle.darts.specs.Levels.{unfoldTo}
 use Rattle.darts.specs.Calls.{After, tableOf, pastOf, start}
@@ -67,7 +67,7 @@ above-calls {a = a} O (c ∷ cs) d = above-calls (above-call O c (first-done cs 
 
 -- START, ANY ACCEPTED CALLS, UNFOLD TO LEVEL 0: THE WHOLE LENT TABLE IS AS IT WAS
 pub start-then-unfold : (D : ℕ) (t h w : List ℕ) (cs : List Call) → AllDone cs (start D t h w)
-    → Returned done (baseState D) t (calls cs (start D t h w) .history) w (callOn (toLevel 0) (calls cs (start D t h w)))
+    → Returned (answered 0 0) (baseState D) t (calls cs (start D t h w) .history) w (callOn (toLevel 0) (calls cs (start D t h w)))
 unfolding tableOf
 start-then-unfold D t h w cs d =
     let a = calls cs (start D t h w) in

@@ -17,7 +17,7 @@ use lib.Dec.{ltb, ltb→lt, lt→ltb}
 use lib.ListN.{length, take, drop, replicate}
 use lib.Seq.{take-append-seam}
 use Rattle.permutations.specs.Choice.{T→true, nT→false, eqb-other}
-use Rattle.darts.specs.Answers.{Answer, answered, done}
+use Rattle.darts.specs.Answers.{Answer, answered}
 use Rattle.darts.specs.Map.{successor}
 use Rattle.darts.specs.Operation.{number, kindOf, leadOf}
 use Rattle.darts.specs.State.{State, gives}
@@ -62,7 +62,7 @@ module _ (s : State) (t h w o : List ℕ) where
   write-refused n = rw (eqb-other n)
 
   -- WHERE WRITE ANSWERS 0, IT WAS GIVEN A PYRAMID LENT WITH ROOM, AND ROOM FOR ITS FILE
-  write-left : write s t h w o .answer .number ≡ 0 → Lent s t h w × (length file ≤ length o)
+  pub write-left : write s t h w o .answer .number ≡ 0 → Lent s t h w × (length file ≤ length o)
   write-left e = go (judging s t h w)
     where
       refused : {a : Answer} → judged s t h w ≡ a → a .number ≢ 0 → Lent s t h w × (length file ≤ length o)
@@ -90,8 +90,8 @@ abbrev pub renumberedIn : State → List ℕ → ℕ → ℕ
 renumberedIn s h x = number (kindOf x) (numberIn s h (leadOf x))
 
 pub record SameAt (k : ℕ) (s : State) (t h w : List ℕ) (a : After) : Type 0 where
-  pub here : unfoldBy k s t h w .answer ≡ done
-  pub there : callOn (toLevel k) a .answer ≡ done
+  pub here : unfoldBy k s t h w .answer ≡ answered 0 0
+  pub there : callOn (toLevel k) a .answer ≡ answered 0 0
   pub state : callOn (toLevel k) a .state ≡ unfoldBy k s t h w .state
   -- "Entries are renamed alike.", those of gone darts too
   pub entries : (d : ℕ) → d < s .darts → successor (callOn (toLevel k) a .table) (numberIn s h d) ≡ numberIn s h (successor (unfoldBy k s t h w .table) d)
@@ -100,7 +100,7 @@ pub record SameAt (k : ℕ) (s : State) (t h w : List ℕ) (a : After) : Type 0 
       ≡ map (renumberedIn s h) (take (unfoldBy k s t h w .state .operations) (unfoldBy k s t h w .history))
 
 pub record ReadAgain (s : State) (t h w : List ℕ) (a : After) : Type 0 where
-  pub answer : a .answer ≡ done
+  pub answer : a .answer ≡ answered 0 0
   pub state : a .state ≡ s
   -- "A file has its own numbers": what they are
   pub numbers : Numbering (s .darts) (reverse (take (s .operations) h))

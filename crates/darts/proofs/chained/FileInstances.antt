@@ -51,7 +51,8 @@ k12-written : (wrote .answer .number ≡ 0) × ((wrote .answer .place ≡ 97) ×
 unfolding partner meetsIn successor faceNext sameVertex sameFace gone survives beforeIn before repeats firstBadFrom firstBad turned lead wholeEdge remove contract operate number kindOf leadOf edgeOf putBack undoOne undone shared judge runFrom run raised levelled reduce dartCount build kernelOf cut kernelsOf sameNumbers sameState isExactly isPyramid room fitting tableOf pastOf over cleared workAfter judged digits decimal taken survivors fileOrder placeIn fileNumber fileTable kindWord kernelLine kernelLines pairLines fileOf write
 k12-written = (refl, (refl, refl))
 
-k12-read-again : ReadAgain k7-state k7-table k7-numbers area (read (take (wrote .answer .place) (wrote .output)) (replicate 8 9) (replicate 4 9) (replicate 32 9))
+k12-read-again : ReadAgain k7-state k7-table k7-numbers area
+    (read (take (wrote .answer .place) (wrote .output)) (replicate 8 9) (replicate 4 9) (replicate 32 9))
 k12-read-again =
     write-then-read k7-state k7-table k7-numbers area output (k12-written .0) (replicate 8 9) (replicate 4 9) (replicate 32 9)
     (record { table = lit≤ tt; history = lit≤ tt; work = lit≤ tt })

@@ -10,16 +10,16 @@ use lib.Dec.{lit≤}
 use lib.ListN.{take, replicate}
 use Rattle.permutations.specs.Partner.{partner}
 use Rattle.permutations.specs.Cycle.{meetsIn}
-use Rattle.darts.specs.Answers.{done}
+use Rattle.darts.specs.Answers.{answered, done}
 use Rattle.darts.specs.Map.{successor, faceNext, sameVertex, sameFace, gone, survives, beforeIn, before, repeats, firstBadFrom, firstBad}
 use Rattle.darts.specs.Operation.{contraction, removal, turned, lead, wholeEdge, remove, contract, operate, number, kindOf, leadOf, edgeOf, putBack, undoOne, undone}
 use Rattle.darts.specs.Kernel.{shared, judge, runFrom, run}
 use Rattle.darts.specs.State.{baseState, raised, levelled, reduce}
-use Rattle.darts.specs.Levels.{endBelow, lowered, undoLevel, undoLevels, unfoldTo}
+use Rattle.darts.specs.Levels.{emptyLoop, takes, sweptFrom, swept, sweep, endBelow, lowered, undoLevel, undoLevels, unfoldTo}
 use Rattle.darts.specs.Pyramid.{Kernel, dartCount, build, kernelOf, cut, kernelsOf, sameNumbers, sameState, isExactly, isPyramid}
-use Rattle.darts.specs.Calls.{After, leaves, room, fitting, tableOf, pastOf, over, cleared, workAfter, judged, start, handsBack, onState, reduceBy, undoBy, unfoldBy}
-use Rattle.darts.proofs.chained.OnLent.{toLevel, callOn}
-use Rattle.darts.proofs.chained.Undo.{Returned, undoing, reduce-then-undo}
+use Rattle.darts.specs.Calls.{After, leaves, room, fitting, tableOf, pastOf, over, cleared, workAfter, judged, start, handsBack, onState, reduceBy, sweepBy, undoBy, unfoldBy}
+use Rattle.darts.proofs.chained.OnLent.{bySweep, toLevel, callOn}
+use Rattle.darts.proofs.chained.Undo.{Returned, undoing, reduce-then-undo, sweep-then-undo}
 use Rattle.darts.proofs.chained.Unfold.{undosBy, unfold-undos}
 use Rattle.darts.proofs.chained.Chains.{calls, AllDone, start-then-unfold}
 use Rattle.darts.proofs.chained.AnyOrder.{kernels, EndsAlike, any-order-by-calls}
@@ -65,15 +65,23 @@ k7-accepted = ((refl, (refl, refl)), lit≤ tt)
 
 -- ---- K7 undone, and unfolded
 
-k7-undone : Returned done (k5 .state) (k5 .table) (k7 .history) (k5 .work) (undoing k7)
+k7-undone : Returned (answered 0 0) (k5 .state) (k5 .table) (k7 .history) (k5 .work) (undoing k7)
 k7-undone = reduce-then-undo (k5 .state) (k5 .table) (k5 .history) (k5 .work) removal (2 ∷ []) (k7-accepted .0 .1 .1)
 
 k7-unfolded : callOn (toLevel 0) k7 ≡ undosBy (k7 .state .levels - 0) (leaves done (k7 .state) (k7 .table) (k7 .history) (k7 .work))
 k7-unfolded = unfold-undos (k7 .state) (k7 .table) (k7 .history) (k7 .work) 0 (k7-accepted .1)
 
 -- back to the table that was started from
-k7-base : Returned done (baseState 8) triangle (k7 .history) area (callOn (toLevel 0) k7)
+k7-base : Returned (answered 0 0) (baseState 8) triangle (k7 .history) area (callOn (toLevel 0) k7)
 k7-base = start-then-unfold 8 triangle numbers area (kernels K7) (k7-accepted .0)
+
+-- "an empty loop (r = q or s = p)": the sweep of K5 takes edge 2, and leaves what K7 leaves
+k5-swept : callOn bySweep k5 ≡ k7
+unfolding partner meetsIn successor faceNext sameVertex sameFace gone survives beforeIn before repeats firstBadFrom firstBad turned lead wholeEdge remove contract operate number kindOf leadOf edgeOf putBack undoOne undone shared judge runFrom run raised levelled reduce emptyLoop takes sweptFrom swept sweep endBelow lowered undoLevel undoLevels unfoldTo dartCount build kernelOf cut kernelsOf sameNumbers sameState isExactly isPyramid room fitting tableOf pastOf over cleared workAfter judged start handsBack onState reduceBy sweepBy undoBy unfoldBy
+k5-swept = refl
+
+k5-sweep-undone : Returned (answered 0 0) (k5 .state) (k5 .table) (callOn bySweep k5 .history) (k5 .work) (undoing (callOn bySweep k5))
+k5-sweep-undone = sweep-then-undo (k5 .state) (k5 .table) (k5 .history) (k5 .work) (rw k5-swept (k7-accepted .0 .1 .1))
 
 -- by computation: undone once, it is the table of K5, and the history still has the number 10 of the removal; twice, it is T
 k7-computed : (undoing k7 .table ≡ 5 ∷ 2 ∷ 5 ∷ 4 ∷ 6 ∷ 4 ∷ 5 ∷ 7 ∷ 99 ∷ []) × ((undoing k7 .history ≡ 1 ∷ 5 ∷ 10 ∷ 94 ∷ 95 ∷ [])

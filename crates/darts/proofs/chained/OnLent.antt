@@ -11,7 +11,7 @@ use mathlib.Core.Path.{_≡_, refl, sym, ap, ap₂, _∙_, subst}
 use Prim.Native.Nat.{ℕ, _*_}
 use native.Mathlib.Omega.{arith}
 use lib.ListN.{length, take, drop, replicate, length-reverse}
-use Rattle.darts.specs.Answers.{Answer, done}
+use Rattle.darts.specs.Answers.{Answer, answered, done}
 use Rattle.darts.specs.State.{State, Result, gives, refuses, reduce}
 use Rattle.darts.specs.Levels.{sweep, undoLevel, unfoldTo}
 use Rattle.darts.specs.Pyramid.{Kernel, Pyramid}
@@ -24,7 +24,7 @@ use Rattle.darts.proofs.Judging.{Lent, Judging, uncounted, cramped, oth
 use Rattle.darts.proofs.chained.Steps.{Step, Told, Leads, reduce-leads, sweep-leads, undo-leads, unfold-leads}
 
 pub record Left (D : ℕ) (t h w : List ℕ) (a : After) : Type 0 where
-  pub answer : a .answer ≡ done
+  pub answer : a .answer ≡ answered 0 0
   pub darts : a .state .darts ≡ D
   pub lent : Lent (a .state) (a .table) (a .history) (a .work)
   -- "Numbers of a lent table past D are neither read nor written"

@@ -96,7 +96,7 @@ undo-lowers s t past {z} {u} {new} e = go (ℕ-discrete (s .levels) 0)
         same-result (λ z u new. Lowered 1 s past z new) (rw (eqb-other n) at e)
         (record { darts = refl; levels = omega arith; forgotten = s .operations - endBelow s; history = refl })
 
-pub undo-levels-lower : (n : ℕ) (s : State) (t past : List ℕ) {z : State} {u new : List ℕ} → undoLevels n s t past ≡ gives z u new → Lowered n s past z new
+undo-levels-lower : (n : ℕ) (s : State) (t past : List ℕ) {z : State} {u new : List ℕ} → undoLevels n s t past ≡ gives z u new → Lowered n s past z new
 unfolding undoLevels
 undo-levels-lower zero s t past e =
     same-result (λ z u new. Lowered 0 s past z new) e (record { darts = refl; levels = omega arith; forgotten = 0; history = refl })

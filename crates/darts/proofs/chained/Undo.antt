@@ -11,7 +11,7 @@ use Prim.Native.Nat.{ℕ, _*_, _<_}
 use lib.Dec.{ltb, lt→ltb}
 use lib.ListN.{take, drop, replicate}
 use Rattle.permutations.specs.Choice.{T→true}
-use Rattle.darts.specs.Answers.{Answer, answered, done}
+use Rattle.darts.specs.Answers.{Answer, answered}
 use Rattle.darts.specs.Operation.{Kind}
 use Rattle.darts.specs.State.{State, gives}
 use Rattle.darts.specs.Levels.{undoLevel, unfoldTo}
@@ -35,7 +35,7 @@ pub record Returned (r : Answer) (s : State) (t h w : List ℕ) (b : After) : Ty
 -- an accepted call whose step gives the state s and the D numbers of t, on slices that past D are as t, and past 4D as w
 pub returned : {f : Step} {z : State} {u v x : List ℕ} {b : After} → Accepted f z u v x b → (s : State) (t w : List ℕ) {past : List ℕ}
     → f z (tableOf z u) (pastOf z v) ≡ gives s (tableOf s t) past → z .darts ≡ s .darts
-    → drop (s .darts) u ≡ drop (s .darts) t → b .history ≡ v → drop (4 * s .darts) x ≡ drop (4 * s .darts) w → Returned done s t v w b
+    → drop (s .darts) u ≡ drop (s .darts) t → b .history ≡ v → drop (4 * s .darts) x ≡ drop (4 * s .darts) w → Returned (answered 0 0) s t v w b
 unfolding tableOf
 returned {f} {z} {u} {v} {x} {b} B s t w e darts table history work =
     let back : gives (b .state) (take (b .state .darts) (b .table)) (pastOf (b .state) (b .history)) ≡ gives s (take (s .darts) t) _ = sym (B .gave) ∙ e in
@@ -62,7 +62,7 @@ module _ (c : Call) (s : State) (t h w : List ℕ) where
 
   then-undo : ((z : State) (u new : List ℕ) → Pyramid s (tableOf s t) (pastOf s h) → stepOf c s (tableOf s t) (pastOf s h) ≡ gives z u new
       → undoLevel z u new ≡ gives s (tableOf s t) (pastOf s h))
-      → a .answer .number ≡ 0 → Returned done s t (a .history) w (undoing a)
+      → a .answer .number ≡ 0 → Returned (answered 0 0) s t (a .history) w (undoing a)
   then-undo back e =
       let A = called-left c s t h w e in
       let u = back _ _ _ (A .before .pyramid) (A .gave) in
@@ -73,15 +73,15 @@ module _ (s : State) (t h w : List ℕ) where
   -- "Calls on the state hand the state back, so that they can be chained: a kernel, then a sweep, then an undo." WHERE A KERNEL IS ACCEPTED, UNDO RETURNS
   -- THE STATE, EVERY NUMBER OF THE LENT TABLE, AND THE HISTORY AS THE KERNEL LEFT IT
   pub reduce-then-undo : (k : Kind) (es : List ℕ) → reduceBy k es s t h w .answer .number ≡ 0
-      → Returned done s t (reduceBy k es s t h w .history) w (undoing (reduceBy k es s t h w))
+      → Returned (answered 0 0) s t (reduceBy k es s t h w .history) w (undoing (reduceBy k es s t h w))
   reduce-then-undo k es = then-undo (byKernel (record { kind = k; edges = es })) s t h w (λ z u new P. undo-returns P k es)
 
-  pub sweep-then-undo : sweepBy s t h w .answer .number ≡ 0 → Returned done s t (sweepBy s t h w .history) w (undoing (sweepBy s t h w))
+  pub sweep-then-undo : sweepBy s t h w .answer .number ≡ 0 → Returned (answered 0 0) s t (sweepBy s t h w .history) w (undoing (sweepBy s t h w))
   sweep-then-undo = then-undo bySweep s t h w (λ z u new P. sweep-undo-returns P)
 
   -- ---- "unfold to level k (k at or below the top; .. the top itself changes nothing)"
 
-  pub unfold-to-top : Lent s t h w → Returned done s t h w (unfoldBy (s .levels) s t h w)
+  pub unfold-to-top : Lent s t h w → Returned (answered 0 0) s t h w (unfoldBy (s .levels) s t h w)
   unfold-to-top L =
       let top = unfold-top s (tableOf s t) (pastOf s h) in
       let B = called-left (toLevel (s .levels)) s t h w (called-accepts (toLevel (s .levels)) s t h w L top) in
