@@ -1,7 +1,7 @@
 -- "Any accepted list of operations is accepted in any other order and in any cut into levels, and every surviving dart ends with the same successor.", as
 -- calls of reduce on lent slices.
---   kernels ks       == the calls of reduce by the kernels ks, one after another
---   pastIn a         == the history that a leaves, the last operation first
+--   kernels ks         == the calls of reduce by the kernels ks
+--   pastIn a           == the history that a leaves, the last operation first
 --   EndsAlike D a cs x == the calls cs from x on are accepted, and they end as a: the same darts survive, with the same successors
 --   any-order-by-calls == whatever kernels hold the operations of accepted ones, in any order, on any slices with room that begin with the same base
 use mathlib.Core.List.{List, [], _∷_, map, reverse, List·Permᴰ}

@@ -1,8 +1,9 @@
 -- What an accepted start and an accepted read leave: a pyramid, lent with room, on which calls can be made.
---   Started D t h w a == a leaves the base of D darts that the table t holds
---   FromFile b t h w a == a leaves what the bytes b mean
---   start-left, read-left == where start and read answer 0, they leave this
---   start-accepts     == start answers 0 on a base that is lent with room
+--   Started D t h w a           == a leaves the base of D darts that the table t holds
+--   FromFile b t h w a          == a leaves what the bytes b mean
+--   start-left, read-left       == where start and read answer 0, they leave this
+--   start-accepts, read-accepts == they answer 0 on a base lent with room, and on bytes that mean something
+--   entry-front                 == the first D entries of a lent table
 use mathlib.Core.Bool.{Bool, true, false, _||_}
 use mathlib.Core.List.{List, []}
 use mathlib.Core.Path.{_≡_, refl, sym, ap, ap₂, _∙_, subst}

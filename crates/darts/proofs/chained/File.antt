@@ -1,10 +1,10 @@
 -- What is written and read again, and what is read and written again, as calls (document 01, "The file").
---   numberIn s h d      == the file's own number of dart d, for a state s with the history h
---   SameAt k s t h w a  == unfolded to level k, the pyramid s, t, h and what a leaves have one state, and each entry and each history number of the one is
---                          the other's, in the file's numbers
---   ReadAgain s t h w a == a, which reads what was written of s, t and h, leaves the same pyramid in the file's numbers, at every level
+--   numberIn s h d       == the file's own number of dart d, for a state s with the history h
+--   SameAt k s t h w a   == unfolded to level k, the pyramid s, t, h and what a leaves have one state, and each entry and each history number of the one is
+--                           the other's, in the file's numbers
+--   ReadAgain s t h w a  == a, which reads what was written of s, t and h, leaves the same pyramid in the file's numbers, at every level
 --   WrittenAgain b o a v == v, which writes what a leaves, has written the bytes b over the first of o, and changed nothing else but the work area
---   write-left          == where write answers 0, it was given a pyramid lent with room, and room for its file
+--   write-left           == where write answers 0, it was given a pyramid lent with room, and room for its file
 --   write-then-read, read-then-write == the two laws
 use mathlib.Core.Bool.{Bool, false}
 use mathlib.Core.List.{List, _++_, map, reverse, reverse-reverse}

@@ -18,8 +18,9 @@ use Rattle.darts.specs.State.{baseState, raised, levelled, reduce}
 use Rattle.darts.specs.Levels.{emptyLoop, takes, sweptFrom, swept, sweep, endBelow, lowered, undoLevel, undoLevels, unfoldTo}
 use Rattle.darts.specs.Pyramid.{Kernel, dartCount, build, kernelOf, cut, kernelsOf, sameNumbers, sameState, isExactly, isPyramid}
 use Rattle.darts.specs.Calls.{After, leaves, room, fitting, tableOf, pastOf, over, cleared, workAfter, judged, start, handsBack, onState, reduceBy, sweepBy, undoBy, unfoldBy}
-use Rattle.darts.proofs.chained.OnLent.{bySweep, toLevel, callOn}
-use Rattle.darts.proofs.chained.Undo.{Returned, undoing, reduce-then-undo, sweep-then-undo}
+use Rattle.darts.proofs.Judging.{Lent}
+use Rattle.darts.proofs.chained.OnLent.{byKernel, bySweep, toLevel, callOn, called-left}
+use Rattle.darts.proofs.chained.Undo.{Returned, undoing, reduce-then-undo, sweep-then-undo, unfold-to-top, unfold-above}
 use Rattle.darts.proofs.chained.Unfold.{undosBy, unfold-undos}
 use Rattle.darts.proofs.chained.Chains.{calls, AllDone, start-then-unfold}
 use Rattle.darts.proofs.chained.AnyOrder.{kernels, EndsAlike, any-order-by-calls}
@@ -58,10 +59,10 @@ k5 = calls (kernels K5) begun
 abbrev k7 : After
 k7 = calls (kernels K7) begun
 
--- K7 is accepted, from start on, and has two levels
-k7-accepted : AllDone (kernels K7) begun × (0 < k7 .state .levels)
+-- K7 is accepted, from start on, and its top is between 0 and 3
+k7-accepted : AllDone (kernels K7) begun × ((0 < k7 .state .levels) × (k7 .state .levels < 3))
 unfolding partner meetsIn successor faceNext sameVertex sameFace gone survives beforeIn before repeats firstBadFrom firstBad turned lead wholeEdge remove contract operate number kindOf leadOf edgeOf putBack undoOne undone shared judge runFrom run raised levelled reduce endBelow lowered undoLevel undoLevels unfoldTo dartCount build kernelOf cut kernelsOf sameNumbers sameState isExactly isPyramid room fitting tableOf pastOf over cleared workAfter judged start handsBack onState reduceBy undoBy unfoldBy
-k7-accepted = ((refl, (refl, refl)), lit≤ tt)
+k7-accepted = ((refl, (refl, refl)), (lit≤ tt, lit≤ tt))
 
 -- ---- K7 undone, and unfolded
 
@@ -69,7 +70,16 @@ k7-undone : Returned (answered 0 0) (k5 .state) (k5 .table) (k7 .history) (k5 .w
 k7-undone = reduce-then-undo (k5 .state) (k5 .table) (k5 .history) (k5 .work) removal (2 ∷ []) (k7-accepted .0 .1 .1)
 
 k7-unfolded : callOn (toLevel 0) k7 ≡ undosBy (k7 .state .levels - 0) (leaves done (k7 .state) (k7 .table) (k7 .history) (k7 .work))
-k7-unfolded = unfold-undos (k7 .state) (k7 .table) (k7 .history) (k7 .work) 0 (k7-accepted .1)
+k7-unfolded = unfold-undos (k7 .state) (k7 .table) (k7 .history) (k7 .work) 0 (k7-accepted .1 .0)
+
+k7-lent : Lent (k7 .state) (k7 .table) (k7 .history) (k7 .work)
+k7-lent = called-left (byKernel (removing (2 ∷ []))) (k5 .state) (k5 .table) (k5 .history) (k5 .work) (k7-accepted .0 .1 .1) .left .lent
+
+k7-top : Returned (answered 0 0) (k7 .state) (k7 .table) (k7 .history) (k7 .work) (callOn (toLevel (k7 .state .levels)) k7)
+k7-top = unfold-to-top (k7 .state) (k7 .table) (k7 .history) (k7 .work) k7-lent
+
+k7-above : Returned (answered 12 (k7 .state .levels)) (k7 .state) (k7 .table) (k7 .history) (k7 .work) (callOn (toLevel 3) k7)
+k7-above = unfold-above (k7 .state) (k7 .table) (k7 .history) (k7 .work) k7-lent 3 (k7-accepted .1 .1)
 
 -- back to the table that was started from
 k7-base : Returned (answered 0 0) (baseState 8) triangle (k7 .history) area (callOn (toLevel 0) k7)
