@@ -67,3 +67,4 @@ pub mod Fitting
 pub mod Over
 pub mod Judging
 pub mod sentences
+pub mod chained

@@ -1,13 +1,14 @@
 -- Numbers over the first ones of a lent slice, and the work area cleared.
 --   over-front, over-rest, over-length == the new numbers stand first, the others stay, and the slice keeps its length
 --   over-own     == a slice's own first numbers change nothing
+--   same-slice   == slices that are alike before n and from n on are the same
 --   drop-more    == slices that are alike from n on are alike from any later place on
 --   cleared-is   == 4D zeros, and the rest as it was
 --   cleared-zero, cleared-rest, cleared-length == its first 4D numbers are zero, the others stay, and it keeps its length
 --   cleared-at   == what stands there then
 --   cleared-kept == only what stands from 4D on matters
 use mathlib.Core.List.{List, _++_}
-use mathlib.Core.Path.{_≡_, sym, ap, _∙_}
+use mathlib.Core.Path.{_≡_, sym, ap, ap₂, _∙_}
 use Prim.Native.Nat.{ℕ, _+_, _-_, _*_, _<_, _≤_}
 use native.Mathlib.Omega.{arith}
 use lib.ListN.{length, getD, take, drop, replicate, length-append, length-drop, length-replicate, getD-replicate, List·getD-append, take-append-drop}
@@ -30,6 +31,10 @@ module _ (new old : List ℕ) where
 pub over-own : (n : ℕ) (l : List ℕ) → n ≤ length l → over (take n l) l ≡ l
 unfolding over
 over-own n l h = rw (length-take-le n l h) (take-append-drop n l)
+
+-- alike before n and alike from n on
+pub same-slice : (n : ℕ) (l k : List ℕ) → take n l ≡ take n k → drop n l ≡ drop n k → l ≡ k
+same-slice n l k e f = sym (take-append-drop n l) ∙ ap₂ _++_ e f ∙ take-append-drop n k
 
 pub drop-more : (n m : ℕ) (v w : List ℕ) → n ≤ m → drop n v ≡ drop n w → drop m v ≡ drop m w
 drop-more n m v w h e =

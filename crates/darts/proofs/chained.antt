@@ -1,0 +1,11 @@
+pub mod Steps
+pub mod OnLent
+pub mod Faults
+pub mod Begins
+pub mod Undo
+pub mod Unfold
+pub mod Chains
+pub mod AnyOrder
+pub mod File
+pub mod Instances
+pub mod FileInstances
