@@ -8,6 +8,7 @@
 --   on-refused      == a call that is judged 1, 2 or 4 refuses so
 --   on-judged       == its answer is then that one
 --   on-lent         == on a pyramid lent with room a call is what its step gives
+--   on-refuses, on-gives == its answer is then the step's, or done
 use mathlib.Core.Bool.{Bool, true, false}
 use mathlib.Core.List.{List}
 use mathlib.Core.Logic.{_≢_}
@@ -22,6 +23,7 @@ use Rattle.darts.specs.Answers.{Answer, done, noDartCount, tooShort, noP
 use Rattle.darts.specs.State.{State, Result, refuses}
 use Rattle.darts.specs.Pyramid.{Pyramid, dartCount, isPyramid}
 use Rattle.darts.specs.Calls.{After, room, fitting, tableOf, pastOf, judged, handsBack, onState}
+use Rattle.darts.proofs.Results.{Given}
 use Rattle.darts.proofs.Decided.{pyramid-decided}
 use Rattle.darts.proofs.Fitting.{Count, Lengths, count-facts, count-test, room-facts, room-test, no-count, short, fine}
 
@@ -93,3 +95,11 @@ module _ (s : State) (t h w : List ℕ) where
     pub on-lent : Lent s t h w → onState step s t h w ≡ handsBack s t h w (step s (tableOf s t) (pastOf s h))
     unfolding onState
     on-lent L = rw (judged-lent L)
+
+    pub on-refuses : Lent s t h w → {a : Answer} → step s (tableOf s t) (pastOf s h) ≡ refuses a → onState step s t h w .answer ≡ a
+    unfolding handsBack
+    on-refuses L e = ap (λ (r : After). r .answer) (on-lent L ∙ ap (handsBack s t h w) e)
+
+    pub on-gives : Lent s t h w → Given (step s (tableOf s t) (pastOf s h)) → onState step s t h w .answer ≡ done
+    unfolding handsBack
+    on-gives L G = ap (λ (r : After). r .answer) (on-lent L ∙ ap (handsBack s t h w) (G .given))
