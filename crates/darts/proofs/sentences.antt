@@ -5,4 +5,6 @@ pub mod Order
 pub mod Start
 pub mod Edges
 pub mod Kernels
+pub mod Shared
+pub mod Sweep
 pub mod Tops

@@ -54,7 +54,7 @@ gone-by (h ∷ past) e g =
     (λ k. let m = gone-by past e k in record { place = suc (m .place); inside = (let i = m .inside in omega arith); from = m .from; to = m .to })
     (or-cases (eqb (h / 4) (2 * e / 2)) (gone past (2 * e)) g)
 
-gone-iff : (past : List ℕ) (e : ℕ) → T (gone past (2 * e)) ↔ Gone past e
+pub gone-iff : (past : List ℕ) (e : ℕ) → T (gone past (2 * e)) ↔ Gone past e
 gone-iff past e = (gone-by past e, λ g. gone-at past (g .place) (2 * e) (g .inside) (let a = g .from in let b = g .to in omega arith))
 
 whole-iff : (t : List ℕ) (e : ℕ) → T (wholeEdge t e) ↔ Whole t e

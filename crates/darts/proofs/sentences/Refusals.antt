@@ -4,7 +4,7 @@
 --   refused-returns   == every refused call on a state does so; instances for reduce, sweep, undo, unfold
 --   start-...         == a refused start hands back a state of zeros, an accepted one a base; table and history stay
 --   Noughts c         == four zeros; what refused counts are
---   write-...         == the writer leaves table and history; where it refuses, the output too
+--   write-leaves      == the writer never changes table and history
 use mathlib.Core.List.{List}
 use mathlib.Core.Logic.{_≢_}
 use mathlib.Core.Path.{_≡_, refl}
@@ -121,12 +121,3 @@ module _ (s : State) (t h w o : List ℕ) where
       go (refused n e) = rw e (record { table = refl; history = refl })
       go (tight l b e) = rw e (record { table = refl; history = refl })
       go (written l b e) = rw e (record { table = refl; history = refl })
-
-  -- "A refusal changes nothing but the work area."
-  pub write-refused : write s t h w o .answer .number ≢ 0 → write s t h w o .output ≡ o
-  write-refused n = go (writing s t h w o)
-    where
-      go : Writing s t h w o → write s t h w o .output ≡ o
-      go (refused m e) = rw e
-      go (tight l b e) = rw e
-      go (written l b e) = absurd (n (rw e))
