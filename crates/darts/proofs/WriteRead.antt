@@ -66,7 +66,7 @@ undo-given (suc n) s t past h =
     let m = s .operations - endBelow s in
     rw (eqb-other up) (undo-given n (lowered s) (undone (s .darts) m t past) (drop m past) (omega arith))
 
-unfold-given : (k : ℕ) (s : State) (t past : List ℕ) → k ≤ s .levels → Given (unfoldTo k s t past)
+pub unfold-given : (k : ℕ) (s : State) (t past : List ℕ) → k ≤ s .levels → Given (unfoldTo k s t past)
 unfolding unfoldTo
 unfold-given k s t past h =
     let reached : ltb (s .levels) k ≡ false = nT→false (ltb (s .levels) k) (λ l. omega (arith, ltb→lt (s .levels) k l)) in

@@ -7,18 +7,19 @@
 --   Search D t d n b == b is the lowest faulty one of the n darts from d on, or d + n where none is faulty
 use mathlib.Core.Bool.{_||_}
 use mathlib.Core.List.{List}
-use mathlib.Core.Logic.{_⊎_, _↔_, ⊎-elim}
+use mathlib.Core.Logic.{_⊎_, _↔_}
 use mathlib.Core.Path.{_≡_, refl}
 use Prim.Native.Nat.{ℕ, zero, suc, _+_, _<_, _≤_}
 use native.Mathlib.Decide.{ℕ-discrete}
 use native.Mathlib.Omega.{arith}
-use lib.Dec.{T, eqb, leb, eqb→eq, leb→le, le→leb}
+use lib.Dec.{T, leb, leb→le, le→leb}
 use lib.ListN.{length, getD}
-use Rattle.permutations.specs.Choice.{T?, T→true, nT→false, or-cases, or-iff}
+use Rattle.permutations.specs.Choice.{T?, T→true, nT→false, or-iff}
 use Rattle.darts.specs.Answers.{Answer}
 use Rattle.darts.specs.Map.{successor, repeats, firstBadFrom, firstBad}
 use Rattle.darts.specs.Calls.{start}
 use Rattle.darts.proofs.Fitting.{Count, Lengths}
+use Rattle.darts.proofs.StandsBy.{repeats-some}
 use Rattle.darts.proofs.Bases.{repeated}
 use Rattle.darts.proofs.Outcomes.{Starting, noCount, noRoom, noBase, base, starting}
 use Rattle.darts.proofs.sentences.Order.{Answers, answers}
@@ -39,17 +40,12 @@ pub record Three (D : ℕ) (t : List ℕ) (a : Answer) : Type 0 where
 
 -- ---- the tests say what the words say
 
-lower-by : (t : List ℕ) (d x : ℕ) → T (repeats t d x) → Lower t d x
-unfolding repeats successor
-lower-by t zero x r = absurd r
-lower-by t (suc d) x r =
-    ⊎-elim (λ e. record { dart = d; below = omega arith; same = eqb→eq (getD t d 0) x e })
-    (λ k. let m = lower-by t d x k in record { dart = m .dart; below = (let b = m .below in omega arith); same = m .same })
-    (or-cases (eqb (getD t d 0) x) (repeats t d x) r)
-
 lower-iff : (t : List ℕ) (d x : ℕ) → T (repeats t d x) ↔ Lower t d x
 unfolding successor
-lower-iff t d x = (lower-by t d x, λ m. repeated t d x (m .dart) (m .below) (m .same))
+lower-iff t d x = (
+  λ r. let m = repeats-some t d x r in record { dart = m .0; below = m .1; same = m .2 },
+  λ m. repeated t d x (m .dart) (m .below) (m .same),
+)
 
 module _ (D : ℕ) (t : List ℕ) where
   faulty-iff : (d : ℕ) → T (leb D (getD t d 0) || repeats t d (getD t d 0)) ↔ Faulty D t d

@@ -5,32 +5,24 @@
 use mathlib.Core.List.{List}
 use mathlib.Core.Logic.{_≢_}
 use mathlib.Core.Path.{_≡_, refl}
-use Prim.Native.Nat.{ℕ, zero, suc, _-_, _<_, _≤_}
+use Prim.Native.Nat.{ℕ, _<_, _≤_}
 use native.Mathlib.Omega.{arith}
-use lib.Dec.{ltb, lt→ltb, ltb→lt}
+use lib.Dec.{ltb, lt→ltb}
 use lib.ListN.{length}
-use Rattle.permutations.specs.Choice.{T→true, nT→false, eqb-same, eqb-other}
+use Rattle.permutations.specs.Choice.{T→true, eqb-same, eqb-other}
 use Rattle.darts.specs.State.{State}
 use Rattle.darts.specs.File.{fileOf}
-use Rattle.darts.specs.Levels.{lowered, undoLevel, undoLevels, unfoldTo}
+use Rattle.darts.specs.Levels.{undoLevel, unfoldTo}
 use Rattle.darts.specs.Calls.{tableOf, pastOf, undoBy, unfoldBy, counts, write}
 use Rattle.darts.proofs.Results.{Given}
+use Rattle.darts.proofs.WriteRead.{unfold-given}
 use Rattle.darts.proofs.Judging.{Lent, judged-lent, on-refuses, on-gives}
 use Rattle.darts.proofs.Outcomes.{Writing, refused, tight, written, writing}
 use Rattle.darts.proofs.sentences.Order.{Answers, answers}
 
--- ---- levels are there to be undone
-
-undo-given : (s : State) (t past : List ℕ) → s .levels ≢ 0 → Given (undoLevel s t past)
+above-base : (s : State) (t past : List ℕ) → s .levels ≢ 0 → Given (undoLevel s t past)
 unfolding undoLevel
-undo-given s t past n = rw (eqb-other n) (record { state = _; table = _; past = _; given = refl })
-
-undos-given : (n : ℕ) (s : State) (t past : List ℕ) → n ≤ s .levels → Given (undoLevels n s t past)
-unfolding undoLevels undoLevel lowered
-undos-given zero s t past b = record { state = s; table = t; past = past; given = refl }
-undos-given (suc n) s t past b =
-    let above : s .levels ≢ 0 = omega arith in
-    rw (eqb-other above) (undos-given n (lowered s) _ _ (omega arith))
+above-base s t past n = rw (eqb-other n) (record { state = _; table = _; past = _; given = refl })
 
 module _ (s : State) (t h w : List ℕ) (L : Lent s t h w) where
   -- 12, "undo at the base"
@@ -40,7 +32,7 @@ module _ (s : State) (t h w : List ℕ) (L : Lent s t h w) where
 
   pub undo-zero : s .levels ≢ 0 → Answers (undoBy s t h w .answer) 0 0
   unfolding undoBy
-  undo-zero n = answers (on-gives s t h w undoLevel L (undo-given s (tableOf s t) (pastOf s h) n))
+  undo-zero n = answers (on-gives s t h w undoLevel L (above-base s (tableOf s t) (pastOf s h) n))
 
   -- 12, "k above the top", place "the top level"
   pub unfold-twelve : (k : ℕ) → s .levels < k → Answers (unfoldBy k s t h w .answer) 12 (s .levels)
@@ -49,10 +41,8 @@ module _ (s : State) (t h w : List ℕ) (L : Lent s t h w) where
 
   -- "k at or below the top"
   pub unfold-zero : (k : ℕ) → k ≤ s .levels → Answers (unfoldBy k s t h w .answer) 0 0
-  unfolding unfoldBy unfoldTo
-  unfold-zero k b =
-      answers (on-gives s t h w (unfoldTo k) L
-      (rw (nT→false (ltb (s .levels) k) (λ l. omega (arith, ltb→lt (s .levels) k l))) (undos-given (s .levels - k) s (tableOf s t) (pastOf s h) (omega arith))))
+  unfolding unfoldBy
+  unfold-zero k b = answers (on-gives s t h w (unfoldTo k) L (unfold-given k s (tableOf s t) (pastOf s h) b))
 
   pub counts-zero : Answers (counts s t h w .answer) 0 0
   unfolding counts
