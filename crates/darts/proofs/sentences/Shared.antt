@@ -50,7 +50,7 @@ module _ {D : ℕ} {m : Map} (G : Good D m) (f : ℕ → ℕ) (agree : (x : ℕ)
 -- ---- the tests say what the words say
 
 module _ {D : ℕ} {t past : List ℕ} (S : Standing D t past) (e : ℕ) (below : e < D / 2) (stays : ¬ (Gone past e)) where
-  edge-live : T (live D past (2 * e))
+  pub edge-live : T (live D past (2 * e))
   unfolding survives
   edge-live = live-iff D past (2 * e) .1 (omega arith, not-iff (gone past (2 * e)) (gone-iff past e) .1 stays)
 
