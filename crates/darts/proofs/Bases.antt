@@ -23,7 +23,7 @@ record Fine (D : ℕ) (t : List ℕ) (x : ℕ) : Type 0 where
 
 -- ---- the search for a bad dart
 
-repeated : (t : List ℕ) (d x y : ℕ) → y < d → successor t y ≡ x → T (repeats t d x)
+pub repeated : (t : List ℕ) (d x y : ℕ) → y < d → successor t y ≡ x → T (repeats t d x)
 unfolding repeats
 repeated t zero x y h e = absurd (not-suc-le-zero h)
 repeated t (suc d) x y h e = or-intro (eqb (successor t d) x) (repeats t d x) (go (ℕ-discrete y d) (λ l. repeated t d x y l e))

@@ -68,3 +68,4 @@ pub mod Over
 pub mod Judging
 pub mod sentences
 pub mod chained
+pub mod Outcomes

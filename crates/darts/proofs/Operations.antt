@@ -40,7 +40,7 @@ pub stops≢stands : {n i : ℕ} {u new : List ℕ} → stops n i ≢ stands u n
 stops≢stands e = let z : _≡_ {A = ℕ} 0 1 = cc in omega arith
 
 -- an answer of 0 lets the run go on, any other stops it
-answer-on : (n i : ℕ) (r : Run) {u new : List ℕ} → ((if eqb n 0 then r else stops n i) ≡ stands u new) ↔ ((n ≡ 0) × (r ≡ stands u new))
+pub answer-on : (n i : ℕ) (r : Run) {u new : List ℕ} → ((if eqb n 0 then r else stops n i) ≡ stands u new) ↔ ((n ≡ 0) × (r ≡ stands u new))
 answer-on n i r {u} {new} = (λ e. go (ℕ-discrete n 0) e, λ h. rw (eqb-same (h .0)) (h .1))
   where
     go : Dec (n ≡ 0) → (if eqb n 0 then r else stops n i) ≡ stands u new → (n ≡ 0) × (r ≡ stands u new)

@@ -11,12 +11,12 @@ use lib.ListN.{length, drop}
 use Rattle.permutations.specs.Choice.{eqb-same}
 use Rattle.permutations.specs.Legal.{Op, AllLegal, run as runMap}
 use Rattle.darts.specs.Operation.{Kind, lead, operate, number, undoOne, undone}
-use Rattle.darts.specs.Kernel.{judge, runFrom}
-use Rattle.darts.specs.OneByOne.{Operation}
+use Rattle.darts.specs.Kernel.{judge, stands, runFrom, run}
+use Rattle.darts.specs.OneByOne.{Operation, each}
 use Rattle.darts.proofs.Standing.{mapOf, Standing, opOf}
 use Rattle.darts.proofs.Judged.{judge-legal}
 use Rattle.darts.proofs.Operate.{operate-acts, operate-stands, undo-operate}
-use Rattle.darts.proofs.Operations.{after, pastAfter, AllDone, none, first, Told, done-told, told-dropped}
+use Rattle.darts.proofs.Operations.{after, pastAfter, AllDone, none, first, run-iff, Told, done-told, told-dropped}
 
 abbrev pub acts : List Operation → List Op
 acts = map (λ o. opOf (o .kind) (2 * o .edge))
@@ -78,6 +78,10 @@ module _ {D : ℕ} {t past u new : List ℕ} (S : Standing D t past) (o : Operat
 pub ran : {D : ℕ} {t past u new : List ℕ} → Standing D t past → (os : List Operation) → AllDone D t past os u new → Ran D t past os u new
 ran S [] none = ran-none S
 ran S (o ∷ os) (first fine rest) = ran-more S o os fine rest (ran (operate-stands S (o .kind) (o .edge) fine) os rest)
+
+-- where a kernel's run stands, its table does
+pub run-stands : {D : ℕ} {t past u new : List ℕ} → Standing D t past → (k : Kind) (es : List ℕ) → run k D t past es ≡ stands u new → Standing D u new
+run-stands {D} {t} {past} S k es r = ran S (each k es) (run-iff k D t past es .0 r) .standing
 
 -- ---- what is accepted
 

@@ -123,7 +123,7 @@ module _ (D : ℕ) (t past : List ℕ) (even : D % 2 ≡ 0) (size : length t ≡
 
 -- ---- a base
 
-repeats-some : (t : List ℕ) (d x : ℕ) → T (repeats t d x) → (y : ℕ) × (y < d) × (successor t y ≡ x)
+pub repeats-some : (t : List ℕ) (d x : ℕ) → T (repeats t d x) → (y : ℕ) × (y < d) × (successor t y ≡ x)
 unfolding repeats
 repeats-some t zero x r = absurd r
 repeats-some t (suc d) x r = ⊎-elim (λ e. (d, omega arith, eqb→eq (successor t d) x e))

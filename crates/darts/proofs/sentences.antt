@@ -5,3 +5,13 @@ pub mod NotWritten
 pub mod Agreeing
 pub mod NotRead
 pub mod LookedAt
+pub mod Refusals
+pub mod Done
+pub mod WorkArea
+pub mod Order
+pub mod Start
+pub mod Edges
+pub mod Kernels
+pub mod Shared
+pub mod Sweep
+pub mod Tops
