@@ -15,3 +15,4 @@ pub mod Scan
 pub mod Read
 pub mod Calls
 pub mod Worked
+pub mod WorkedLent

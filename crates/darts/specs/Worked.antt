@@ -53,7 +53,7 @@ pub data Row : Type 0 where
 abbrev started : List ℕ → After
 started t = start (length t) t (replicate (length t / 2) 0) (replicate (4 * length t) 9)
 
-abbrev stepped : Step → After → After
+abbrev pub stepped : Step → After → After
 stepped (byContracting es) a = reduceBy contraction es (a .state) (a .table) (a .history) (a .work)
 stepped (byRemoving es) a = reduceBy removal es (a .state) (a .table) (a .history) (a .work)
 stepped bySweep a = sweepBy (a .state) (a .table) (a .history) (a .work)
@@ -67,7 +67,7 @@ steps (s ∷ ss) a = steps ss (stepped s a)
 abbrev counting : After → Counted
 counting a = counts (a .state) (a .table) (a .history) (a .work)
 
-abbrev answers : ℕ → ℕ → Answer → Bool
+abbrev pub answers : ℕ → ℕ → Answer → Bool
 answers n p a = eqb (a .number) n && eqb (a .place) p
 
 abbrev sameℤ : ℤ → ℤ → Bool
@@ -76,9 +76,9 @@ sameℤ (pos m) (negsuc n) = false
 sameℤ (negsuc m) (pos n) = false
 sameℤ (negsuc m) (negsuc n) = eqb m n
 
-abbrev countsAre : ℕ → ℕ → ℕ → ℤ → Counted → Bool
-countsAre d v f x c =
-    answers 0 0 (c .answer) && (eqb (c .counts .darts) d && (eqb (c .counts .vertices) v
+abbrev pub countsAre : ℕ → ℕ → ℕ → ℕ → ℤ → Counted → Bool
+countsAre n d v f x c =
+    answers n 0 (c .answer) && (eqb (c .counts .darts) d && (eqb (c .counts .vertices) v
     && (eqb (c .counts .faces) f && sameℤ (c .counts .euler) x)))
 
 -- the history numbers that count
@@ -98,9 +98,9 @@ right (starts t n p) = answers n p (started t .answer)
 right (leads t ss n p u h) =
     let a : After = steps ss (started t) in
     answers n p (a .answer) && (sameNumbers (a .table) u && sameNumbers (historyOf a) h)
-right (counted t ss d v f x) = countsAre d v f x (counting (steps ss (started t)))
+right (counted t ss d v f x) = countsAre 0 d v f x (counting (steps ss (started t)))
 right (writes t ss f) = isWritten f (steps ss (started t))
-right (reads f k d v e x) = countsAre d v e x (counting (stepped (toLevel k) (reading f)))
+right (reads f k d v e x) = countsAre 0 d v e x (counting (stepped (toLevel k) (reading f)))
 right (answersFile f n p) = answers n p (reading f .answer)
 right (pieces t x y b) = Bool·beq (samePiece (length t) t x y) b
 
