@@ -40,6 +40,30 @@ const EDGE_TWICE: Edit = (
     }\n",
 );
 
+/// What unfold hands back is not the level that was stored: a fault in the levels kept.
+const WRONG_LEVEL: Edit = (
+    "pyramid.rs",
+    "        self.levels.truncate(k + 1);\n",
+    "        self.levels.truncate(k + 1);\n        self.levels[k].map = self.levels[0].map.clone();\n",
+);
+
+/// Numbers put into the state by hand do not drop the levels kept.
+const NOT_DROPPED: Edit = ("zones.rs", "        self.kept.drop_levels();\n", "");
+
+/// A contraction undone as if it were a removal: a fault in the levels derived, going down.
+const UNDONE_AS_REMOVAL: Edit = (
+    "operation.rs",
+    "            map.lead(before_r, q);\n            map.lead(before_s, p);\n",
+    "            map.lead(before_r, p);\n            map.lead(before_s, q);\n",
+);
+
+/// A kernel done again from its last edge to its first: a fault in the levels derived, going up.
+const LAST_EDGE_FIRST: Edit = (
+    "decide.rs",
+    "numbers.iter().map(|&number| edge_of(number))",
+    "numbers.iter().rev().map(|&number| edge_of(number))",
+);
+
 /// Builds a copy of the second program with these edits.
 fn second_with(name: &str, edits: &[Edit]) -> PathBuf {
     let second = Path::new(env!("CARGO_MANIFEST_DIR")).join("../second");
@@ -118,4 +142,32 @@ fn an_edge_twice_in_a_history_is_found() {
     let text = found(&copy, "worked", "zones", 100);
     assert!(text.contains("\nhistory 0 11 14 5 4\n"), "the copy accepts the case that only this test refuses");
     found(&copy, "small", "zones", 400);
+}
+
+/// The copy must stop on map T when these lines follow its start, and say this; and the comparison must find it.
+fn stops(name: &str, edit: Edit, lines: &str, call: &str, difference: &str) {
+    let copy = second_with(name, &[edit]);
+    let script = copy.with_file_name("script");
+    fs::write(&script, format!("lend 8 4 32\ntable 0 5 2 1 4 6 0 3 7\nstart 8\n{lines}")).expect("a script");
+    let script = fs::File::open(script).expect("the script");
+    let output = Command::new(&copy).arg("zones").stdin(script).output().expect("the copy runs");
+    let errors = String::from_utf8_lossy(&output.stderr);
+    assert_eq!(output.status.code(), Some(101), "exit status");
+    assert!(errors.contains(&format!("{call} the levels kept and the numbers differ: {difference}\n")), "{errors}");
+    assert!(found(&copy, "small", "zones", 300).contains("(exit status: 101)"), "the copy stops");
+}
+
+#[test]
+fn a_fault_in_the_levels_kept_stops_the_program() {
+    let survivors = "level 1 as it stands: the survivors, place 0: kept 0, by the numbers 4";
+    stops("wrong-level", WRONG_LEVEL, "contract 0 1\nremove 2\nundo\n", "after undo", survivors);
+    let operations = "the state, place 1: kept 2, by the numbers 0";
+    stops("not-dropped", NOT_DROPPED, "contract 0 1\nstate 8 0 0\ncounts\n", "before counts", operations);
+}
+
+#[test]
+fn a_fault_in_the_levels_derived_stops_the_program() {
+    let entry = "level 0 undone: the table, place 2: kept 1, by the numbers 0";
+    stops("undone-as-removal", UNDONE_AS_REMOVAL, "contract 0\n", "after reduce", entry);
+    stops("last-edge-first", LAST_EDGE_FIRST, "contract 0 1\n", "after reduce", "the numbers are no pyramid");
 }
