@@ -11,6 +11,12 @@ type Edit = (&'static str, &'static str, &'static str);
 /// "Turn round .. in two cases only: removal with s = p": left out, since on a map r and s differ.
 const NO_TURN: Edit = ("operation.rs", "Kind::Remove => s == p,", "Kind::Remove => s == p && r == s,");
 
+/// The levels are derived at each call and compared with nothing: a copy goes on where it would stop, so that what it
+/// prints is what shows the fault.
+const ALWAYS_DERIVED: Edit =
+    ("kept.rs", "        match &self.pyramid {\n", "        self.drop_levels();\n        match &self.pyramid {\n");
+const NO_STOP: Edit = ("two_ways.rs", "        panic!(", "        let _ = format!(");
+
 /// "Applying F to the counts."
 const FLAG_ON_COUNTS: Edit = (
     "file_read.rs",
@@ -123,9 +129,11 @@ fn no_difference_from_the_second_program_itself() {
 
 #[test]
 fn a_removal_without_its_turn_is_found() {
-    let copy = second_with("no-turn", &[NO_TURN]);
-    found(&copy, "worked", "zones", 100);
-    found(&copy, "small", "zones", 300);
+    let copy = second_with("no-turn", &[NO_TURN, ALWAYS_DERIVED, NO_STOP]);
+    for (group, most_bytes) in [("worked", 100), ("small", 300)] {
+        let text = found(&copy, group, "zones", most_bytes);
+        assert!(!text.contains("(exit status: "), "the printed bytes tell");
+    }
 }
 
 #[test]
