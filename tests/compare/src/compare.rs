@@ -4,6 +4,7 @@
 use crate::input::{Input, Program};
 use std::ffi::OsString;
 use std::io::{self, Write};
+use std::panic::{catch_unwind, UnwindSafe};
 use std::process::{Command, ExitStatus, Stdio};
 use std::thread;
 
@@ -51,7 +52,7 @@ impl Others {
     /// printed, and where the other one parts from it.
     pub fn compare(&self, input: &Input) -> io::Result<(Vec<u8>, Option<Parting>)> {
         let bytes = input.bytes();
-        let ours = input.program.second(&bytes);
+        let ours = printed_or_said(|| input.program.second(&bytes));
         let (mut theirs, status) = self.run(input.program, &bytes)?;
         if !status.success() {
             theirs.extend(format!("({status})\n").bytes());
@@ -59,6 +60,15 @@ impl Others {
         let parting = parting(&theirs, &ours);
         Ok((ours, parting))
     }
+}
+
+/// What the second program prints, or says where it stops: the levels that it kept and the numbers differ then, and that
+/// is a difference like any other.
+fn printed_or_said(second: impl FnOnce() -> Vec<u8> + UnwindSafe) -> Vec<u8> {
+    catch_unwind(second).unwrap_or_else(|said| {
+        let text = said.downcast_ref::<String>().map(String::as_str).or(said.downcast_ref::<&str>().copied());
+        format!("(stopped: {})\n", text.unwrap_or("no word")).into_bytes()
+    })
 }
 
 fn parting(theirs: &[u8], ours: &[u8]) -> Option<Parting> {
@@ -80,5 +90,18 @@ fn around(printed: &[u8], byte: usize) -> String {
     match printed[from..to].escape_ascii().to_string() {
         line if line.is_empty() => "(nothing)".to_string(),
         line => format!("{before}{line}{after}"),
+    }
+}
+
+#[cfg(test)]
+mod tests {
+    use super::*;
+
+    #[test]
+    fn a_second_program_that_stops_is_a_difference() {
+        assert_eq!(printed_or_said(|| b"answer".to_vec()), b"answer");
+        assert_eq!(printed_or_said(|| panic!("after undo")), b"(stopped: after undo)\n");
+        assert_eq!(printed_or_said(|| std::panic::panic_any("undo".to_string())), b"(stopped: undo)\n");
+        assert_eq!(printed_or_said(|| std::panic::panic_any(0)), b"(stopped: no word)\n");
     }
 }

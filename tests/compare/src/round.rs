@@ -21,7 +21,7 @@ pub fn round(others: &Others, group: &Group, inputs: usize) -> io::Result<Round>
     let workers = thread::available_parallelism().map_or(1, usize::from);
     let rounds: io::Result<Vec<Round>> = thread::scope(|scope| {
         let workers: Vec<_> = (0..workers).map(|_| scope.spawn(|| work(others, group, inputs, &next))).collect();
-        workers.into_iter().map(|worker| worker.join().expect("the second program does not panic")).collect()
+        workers.into_iter().map(|worker| worker.join().expect("a worker does not panic")).collect()
     });
     let mut all = Round::default();
     for round in rounds? {

@@ -11,6 +11,12 @@ type Edit = (&'static str, &'static str, &'static str);
 /// "Turn round .. in two cases only: removal with s = p": left out, since on a map r and s differ.
 const NO_TURN: Edit = ("operation.rs", "Kind::Remove => s == p,", "Kind::Remove => s == p && r == s,");
 
+/// The levels are derived at each call and compared with nothing: a copy goes on where it would stop, so that what it
+/// prints is what shows the fault.
+const ALWAYS_DERIVED: Edit =
+    ("kept.rs", "        match &self.pyramid {\n", "        self.drop_levels();\n        match &self.pyramid {\n");
+const NO_STOP: Edit = ("two_ways.rs", "        panic!(", "        let _ = format!(");
+
 /// "Applying F to the counts."
 const FLAG_ON_COUNTS: Edit = (
     "file_read.rs",
@@ -38,6 +44,30 @@ const EDGE_TWICE: Edit = (
         }
         return pyramid_of(&state, table, &fewer);
     }\n",
+);
+
+/// What unfold hands back is not the level that was stored: a fault in the levels kept.
+const WRONG_LEVEL: Edit = (
+    "pyramid.rs",
+    "        self.levels.truncate(k + 1);\n",
+    "        self.levels.truncate(k + 1);\n        self.levels[k].map = self.levels[0].map.clone();\n",
+);
+
+/// Numbers put into the state by hand do not drop the levels kept.
+const NOT_DROPPED: Edit = ("zones.rs", "        self.kept.drop_levels();\n", "");
+
+/// A contraction undone as if it were a removal: a fault in the levels derived, going down.
+const UNDONE_AS_REMOVAL: Edit = (
+    "operation.rs",
+    "            map.lead(before_r, q);\n            map.lead(before_s, p);\n",
+    "            map.lead(before_r, p);\n            map.lead(before_s, q);\n",
+);
+
+/// A kernel done again from its last edge to its first: a fault in the levels derived, going up.
+const LAST_EDGE_FIRST: Edit = (
+    "decide.rs",
+    "numbers.iter().map(|&number| edge_of(number))",
+    "numbers.iter().rev().map(|&number| edge_of(number))",
 );
 
 /// Builds a copy of the second program with these edits.
@@ -99,9 +129,11 @@ fn no_difference_from_the_second_program_itself() {
 
 #[test]
 fn a_removal_without_its_turn_is_found() {
-    let copy = second_with("no-turn", &[NO_TURN]);
-    found(&copy, "worked", "zones", 100);
-    found(&copy, "small", "zones", 300);
+    let copy = second_with("no-turn", &[NO_TURN, ALWAYS_DERIVED, NO_STOP]);
+    for (group, most_bytes) in [("worked", 100), ("small", 300)] {
+        let text = found(&copy, group, "zones", most_bytes);
+        assert!(!text.contains("(exit status: "), "the printed bytes tell");
+    }
 }
 
 #[test]
@@ -118,4 +150,32 @@ fn an_edge_twice_in_a_history_is_found() {
     let text = found(&copy, "worked", "zones", 100);
     assert!(text.contains("\nhistory 0 11 14 5 4\n"), "the copy accepts the case that only this test refuses");
     found(&copy, "small", "zones", 400);
+}
+
+/// The copy must stop on map T when these lines follow its start, and say this; and the comparison must find it.
+fn stops(name: &str, edit: Edit, lines: &str, call: &str, difference: &str) {
+    let copy = second_with(name, &[edit]);
+    let script = copy.with_file_name("script");
+    fs::write(&script, format!("lend 8 4 32\ntable 0 5 2 1 4 6 0 3 7\nstart 8\n{lines}")).expect("a script");
+    let script = fs::File::open(script).expect("the script");
+    let output = Command::new(&copy).arg("zones").stdin(script).output().expect("the copy runs");
+    let errors = String::from_utf8_lossy(&output.stderr);
+    assert_eq!(output.status.code(), Some(101), "exit status");
+    assert!(errors.contains(&format!("{call} the levels kept and the numbers differ: {difference}\n")), "{errors}");
+    assert!(found(&copy, "small", "zones", 300).contains("(exit status: 101)"), "the copy stops");
+}
+
+#[test]
+fn a_fault_in_the_levels_kept_stops_the_program() {
+    let survivors = "level 1 as it stands: the survivors, place 0: kept 0, by the numbers 4";
+    stops("wrong-level", WRONG_LEVEL, "contract 0 1\nremove 2\nundo\n", "after undo", survivors);
+    let operations = "the state, place 1: kept 2, by the numbers 0";
+    stops("not-dropped", NOT_DROPPED, "contract 0 1\nstate 8 0 0\ncounts\n", "before counts", operations);
+}
+
+#[test]
+fn a_fault_in_the_levels_derived_stops_the_program() {
+    let entry = "level 0 undone: the table, place 2: kept 1, by the numbers 0";
+    stops("undone-as-removal", UNDONE_AS_REMOVAL, "contract 0\n", "after reduce", entry);
+    stops("last-edge-first", LAST_EDGE_FIRST, "contract 0 1\n", "after reduce", "the numbers are no pyramid");
 }

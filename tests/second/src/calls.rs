@@ -3,17 +3,20 @@
 //!
 //! "Order: 1, 2, then 3 or 4, then 12, 6, 5, then the kernel's first failing edge". "A refusal changes nothing but
 //! the work area."
+//!
+//! The calls on a state answer from the levels that are kept beside it (`kept`).
 
 use crate::answer::{Answer, Refusal};
 use crate::counts::{counts as counts_of, Counts};
-use crate::decide::pyramid_of;
 use crate::file_read::{read_body, read_head};
 use crate::file_write::bytes_of;
+use crate::kept::Kept;
 use crate::lent::Lent;
 use crate::operation::Kind;
 use crate::pyramid::Pyramid;
 use crate::scan::Scan;
 use crate::state::State;
+use crate::two_ways::agree;
 
 /// The answer to an outcome, with what it hands back: its own value, or the one for a refusal.
 fn answered<T>(outcome: Result<T, Refusal>, refused: T) -> (Answer, T) {
@@ -25,12 +28,14 @@ fn answered<T>(outcome: Result<T, Refusal>, refused: T) -> (Answer, T) {
 
 /// What all calls on a state have in common: 1 and 2, then 4, then what the call itself does, then the work area.
 fn on_pyramid<T>(
+    call: &str,
     state: &State,
     lent: &mut Lent,
-    act: impl FnOnce(Pyramid, &mut Lent) -> Result<T, Refusal>,
+    kept: &mut Kept,
+    act: impl FnOnce(&mut Pyramid, &mut Lent) -> Result<T, Refusal>,
 ) -> Result<T, Refusal> {
     lent.judge(state.darts)?;
-    let outcome = match pyramid_of(state, &lent.table[..state.darts as usize], lent.history) {
+    let outcome = match kept.found(call, state, lent) {
         Some(pyramid) => act(pyramid, lent),
         None => Err(Refusal::NoPyramid),
     };
@@ -39,48 +44,71 @@ fn on_pyramid<T>(
 }
 
 /// A call that changes the pyramid. "A refused call hands back the state it was given."
-fn change(state: &State, lent: &mut Lent, act: impl FnOnce(&mut Pyramid) -> Result<(), Refusal>) -> (Answer, State) {
-    let outcome = on_pyramid(state, lent, |mut pyramid, lent| {
-        act(&mut pyramid)?;
-        lent.store(&pyramid);
+fn change(
+    call: &str,
+    state: &State,
+    lent: &mut Lent,
+    kept: &mut Kept,
+    act: impl FnOnce(&mut Pyramid) -> Result<(), Refusal>,
+) -> (Answer, State) {
+    let outcome = on_pyramid(call, state, lent, kept, |pyramid, lent| {
+        act(pyramid)?;
+        lent.store(pyramid);
+        agree("after", call, pyramid, &pyramid.state(), lent);
         Ok(pyramid.state())
     });
     answered(outcome, *state)
 }
 
-/// "start from a table", which stays as it is; the history is not read.
-pub fn start(darts: u32, lent: &mut Lent) -> (Answer, State) {
-    if let Err(refusal) = lent.judge(darts) {
-        return (refusal.answer(), State::ZERO);
-    }
-    let outcome = Pyramid::start(&lent.table[..darts as usize]).map(|pyramid| pyramid.state());
-    lent.clear_work(darts);
+/// A call that begins a pyramid. "A refused start or read, which was given none, hands back a state of zeros."
+fn begin(outcome: Result<Pyramid, Refusal>, kept: &mut Kept) -> (Answer, State) {
+    kept.drop_levels();
+    let outcome = outcome.map(|pyramid| {
+        let state = pyramid.state();
+        kept.keep(pyramid);
+        state
+    });
     answered(outcome, State::ZERO)
 }
 
+/// The base that a table is. It stays as it is; the history is not read.
+fn start_pyramid(darts: u32, lent: &mut Lent) -> Result<Pyramid, Refusal> {
+    lent.judge(darts)?;
+    let outcome = Pyramid::start(lent.entries(darts));
+    lent.clear_work(darts);
+    let pyramid = outcome?;
+    agree("after", "start", &pyramid, &pyramid.state(), lent);
+    Ok(pyramid)
+}
+
+/// "start from a table"
+pub fn start(darts: u32, lent: &mut Lent, kept: &mut Kept) -> (Answer, State) {
+    begin(start_pyramid(darts, lent), kept)
+}
+
 /// "reduce by a kernel"
-pub fn reduce(state: &State, kind: Kind, kernel: &[u32], lent: &mut Lent) -> (Answer, State) {
-    change(state, lent, |pyramid| pyramid.reduce(kind, kernel))
+pub fn reduce(state: &State, kind: Kind, kernel: &[u32], lent: &mut Lent, kept: &mut Kept) -> (Answer, State) {
+    change("reduce", state, lent, kept, |pyramid| pyramid.reduce(kind, kernel))
 }
 
 /// "sweep"
-pub fn sweep(state: &State, lent: &mut Lent) -> (Answer, State) {
-    change(state, lent, Pyramid::sweep)
+pub fn sweep(state: &State, lent: &mut Lent, kept: &mut Kept) -> (Answer, State) {
+    change("sweep", state, lent, kept, Pyramid::sweep)
 }
 
 /// "undo one level"
-pub fn undo(state: &State, lent: &mut Lent) -> (Answer, State) {
-    change(state, lent, Pyramid::undo)
+pub fn undo(state: &State, lent: &mut Lent, kept: &mut Kept) -> (Answer, State) {
+    change("undo", state, lent, kept, Pyramid::undo)
 }
 
 /// "unfold to level k"
-pub fn unfold(state: &State, k: u32, lent: &mut Lent) -> (Answer, State) {
-    change(state, lent, |pyramid| pyramid.unfold(k as usize))
+pub fn unfold(state: &State, k: u32, lent: &mut Lent, kept: &mut Kept) -> (Answer, State) {
+    change("unfold", state, lent, kept, |pyramid| pyramid.unfold(k as usize))
 }
 
 /// "counts of the present level". "Refused counts are four zeros."
-pub fn counts(state: &State, lent: &mut Lent) -> (Answer, Counts) {
-    let outcome = on_pyramid(state, lent, |pyramid, _| Ok(counts_of(pyramid.map())));
+pub fn counts(state: &State, lent: &mut Lent, kept: &mut Kept) -> (Answer, Counts) {
+    let outcome = on_pyramid("counts", state, lent, kept, |pyramid, _| Ok(counts_of(pyramid.map())));
     answered(outcome, Counts::default())
 }
 
@@ -94,20 +122,20 @@ pub fn read_pyramid(bytes: &[u8], lent: &mut Lent) -> Result<Pyramid, Refusal> {
     lent.clear_work(head.darts);
     let pyramid = outcome?;
     lent.store(&pyramid);
+    agree("after", "read", &pyramid, &pyramid.state(), lent);
     Ok(pyramid)
 }
 
 /// "read a file"
-pub fn read(bytes: &[u8], lent: &mut Lent) -> (Answer, State) {
-    let outcome = read_pyramid(bytes, lent).map(|pyramid| pyramid.state());
-    answered(outcome, State::ZERO)
+pub fn read(bytes: &[u8], lent: &mut Lent, kept: &mut Kept) -> (Answer, State) {
+    begin(read_pyramid(bytes, lent), kept)
 }
 
 /// "write a file". "The writer judges its output's length after 4." "an accepted write alters only its own bytes of
 /// the output"
-pub fn write(state: &State, lent: &mut Lent, output: &mut [u8]) -> Answer {
-    let outcome = on_pyramid(state, lent, |pyramid, _| {
-        let bytes = bytes_of(&pyramid);
+pub fn write(state: &State, lent: &mut Lent, output: &mut [u8], kept: &mut Kept) -> Answer {
+    let outcome = on_pyramid("write", state, lent, kept, |pyramid, _| {
+        let bytes = bytes_of(pyramid);
         let room = output.get_mut(..bytes.len()).ok_or(Refusal::ShortOutput { needed: bytes.len() })?;
         room.copy_from_slice(&bytes);
         Ok(bytes.len())

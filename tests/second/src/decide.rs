@@ -1,4 +1,5 @@
 //! pyramid_of == the pyramid that a state, its table and its history come from, if there is one
+//! map_of     == the map that a table and a history show, if their numbers are darts
 //!
 //! "A state with its table and history is a pyramid when some base and some kernels, accepted one after another, give
 //! exactly this state, this table (gone darts too) and these history numbers." Undo returns every entry, so only the
@@ -24,8 +25,8 @@ pub fn pyramid_of(state: &State, table: &[u32], history: &[u32]) -> Option<Pyram
     given_back.then_some(pyramid)
 }
 
-/// The candidate for the base: the table with the whole history undone, operation by operation.
-fn undone(table: &[u32], history: &[u32]) -> Option<Vec<u32>> {
+/// Every entry and every history number must be a dart's; the darts of the history's edges are gone.
+pub fn map_of(table: &[u32], history: &[u32]) -> Option<Map> {
     let darts = table.len() as u32;
     let entries_are_darts = table.iter().all(|&entry| entry < darts);
     let numbers_are_darts = history.iter().all(|&number| dart_of(number) < darts);
@@ -37,7 +38,12 @@ fn undone(table: &[u32], history: &[u32]) -> Option<Vec<u32>> {
         survives[dart_of(number) as usize] = false;
         survives[partner(dart_of(number)) as usize] = false;
     }
-    let mut map = Map::new(table, survives);
+    Some(Map::new(table, survives))
+}
+
+/// The candidate for the base: the table with the whole history undone, operation by operation.
+fn undone(table: &[u32], history: &[u32]) -> Option<Vec<u32>> {
+    let mut map = map_of(table, history)?;
     for &number in history.iter().rev() {
         undo(&mut map, number)?;
     }

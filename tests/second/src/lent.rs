@@ -25,6 +25,11 @@ impl Lent<'_> {
         Ok(())
     }
 
+    /// The first D entries of the table: no others are read.
+    pub fn entries(&self, darts: u32) -> &[u32] {
+        &self.table[..darts as usize]
+    }
+
     /// "After every call except those answered 1 or 2 the work area's first 4D numbers are zero"
     pub fn clear_work(&mut self, darts: u32) {
         self.work[..4 * darts as usize].fill(0);

@@ -8,6 +8,8 @@
 //! - [`kernel`]     an edge judged at its turn; a list of edges; the edges a sweep takes
 //! - [`pyramid`]    the levels, each stored in full, with the history
 //! - [`decide`]     is a state from outside, with its table and history, a pyramid?
+//! - [`kept`]       the levels kept from call to call, and when they are dropped
+//! - [`two_ways`]   the levels kept and the levels derived are the same, or the program stops
 //! - [`counts`]     surviving darts, vertices, faces, Euler number
 //! - [`lent`]       the lent slices: lengths, what is written, what is zeroed
 //! - [`calls`]      the eight calls
@@ -25,6 +27,7 @@ pub mod counts;
 pub mod decide;
 pub mod file_read;
 pub mod file_write;
+pub mod kept;
 pub mod kernel;
 pub mod lent;
 pub mod levels;
@@ -35,4 +38,5 @@ pub mod rooms;
 pub mod scan;
 pub mod script;
 pub mod state;
+pub mod two_ways;
 pub mod zones;

@@ -61,7 +61,7 @@ impl Pyramid {
     }
 
     /// The history numbers of each kernel, lowest first.
-    pub fn kernels(&self) -> impl Iterator<Item = &[u32]> {
+    pub fn kernels(&self) -> impl DoubleEndedIterator<Item = &[u32]> + ExactSizeIterator {
         self.levels.windows(2).map(|pair| &self.history[pair[0].operations..pair[1].operations])
     }
 

@@ -16,6 +16,13 @@ pub struct State {
     pub ends: [u32; MOST_LEVELS],
 }
 
+/// "all zero at the start"
+impl Default for State {
+    fn default() -> State {
+        State::ZERO
+    }
+}
+
 impl State {
     /// "A refused start or read, which was given none, hands back a state of zeros."
     pub const ZERO: State = State { darts: 0, operations: 0, levels: 0, ends: [0; MOST_LEVELS] };

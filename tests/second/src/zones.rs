@@ -3,61 +3,90 @@
 use crate::answer::Answer;
 use crate::calls;
 use crate::counts::Counts;
+use crate::kept::Kept;
 use crate::lent::Lent;
-use crate::rooms::{checksum, Rooms};
+use crate::rooms::{checksum, Room, Rooms};
 use crate::script::{Command, Commands};
 use crate::state::{State, MOST_LEVELS};
 
 /// "The script may be 2,000,000 bytes long."
 const MOST_BYTES: usize = 2_000_000;
 
-/// What a script prints. "A line that is none of these, or that puts a number outside a room, prints `error=` and its
-/// number, from 1, and ends the program."
+/// What a script prints.
 pub fn run(script: &[u8]) -> Vec<u8> {
-    // "A script of more than 2,000,000 bytes prints `error=0` and nothing else."
-    if script.len() > MOST_BYTES {
-        return b"error=0\n".to_vec();
-    }
-    let mut zones = Zones { state: State::ZERO, rooms: Rooms::default(), written: 0, printed: Vec::new() };
-    // "Lines are counted as commands"
-    for (line, command) in Commands::new(script).enumerate() {
-        if command.and_then(|command| zones.obey(command)).is_none() {
-            zones.print(&format!("error={}\n", line + 1));
-            break;
-        }
-    }
-    zones.printed
+    Zones::after(script).printed
 }
 
-/// "The program holds a state and four rooms, all zero at the start".
-struct Zones {
+/// "The program holds a state and four rooms, all zero at the start". Beside them it keeps the levels.
+#[derive(Default)]
+pub struct Zones {
     state: State,
     rooms: Rooms,
+    kept: Kept,
     /// The length of the last accepted write.
     written: usize,
     printed: Vec<u8>,
 }
 
 impl Zones {
+    /// The program at the end of a script. "A line that is none of these, or that puts a number outside a room, prints
+    /// `error=` and its number, from 1, and ends the program."
+    pub fn after(script: &[u8]) -> Zones {
+        let mut zones = Zones::default();
+        // "A script of more than 2,000,000 bytes prints `error=0` and nothing else."
+        if script.len() > MOST_BYTES {
+            zones.print("error=0\n");
+            return zones;
+        }
+        // "Lines are counted as commands"
+        for (line, command) in Commands::new(script).enumerate() {
+            if command.and_then(|command| zones.obey(command)).is_none() {
+                zones.print(&format!("error={}\n", line + 1));
+                break;
+            }
+        }
+        zones
+    }
+
+    /// The levels that are kept.
+    pub fn kept(&self) -> &Kept {
+        &self.kept
+    }
+
     /// Does what a line asks for; None stands for an error line.
     fn obey(&mut self, command: Command) -> Option<()> {
         match command {
             Command::Lend { table, history, work } => self.rooms.set_lent(table, history, work)?,
-            Command::Put { room, from, numbers } => self.rooms.put(room, from, &numbers)?,
+            Command::Put { room, from, numbers } => self.put(room, from, &numbers)?,
             Command::Fill(value) => self.rooms.fill(value),
-            Command::State(state) => self.state = *state,
-            Command::Start(darts) => self.call(|_, lent| calls::start(darts, lent)),
-            Command::Reduce(kind, edges) => self.call(|state, lent| calls::reduce(state, kind, &edges, lent)),
+            Command::State(state) => self.set_state(*state),
+            Command::Start(darts) => self.call(|_, lent, kept| calls::start(darts, lent, kept)),
+            Command::Reduce(kind, edges) => {
+                self.call(|state, lent, kept| calls::reduce(state, kind, &edges, lent, kept));
+            }
             Command::Sweep => self.call(calls::sweep),
             Command::Undo => self.call(calls::undo),
-            Command::Unfold(k) => self.call(|state, lent| calls::unfold(state, k, lent)),
+            Command::Unfold(k) => self.call(|state, lent, kept| calls::unfold(state, k, lent, kept)),
             Command::Counts => self.counts(),
-            Command::Read(file) => self.call(|_, lent| calls::read(file, lent)),
+            Command::Read(file) => self.call(|_, lent, kept| calls::read(file, lent, kept)),
             Command::Write(length) => self.write(length)?,
             Command::Show => self.show(),
             Command::Bytes => self.printed.extend_from_slice(self.rooms.output(self.written)),
         }
         Some(())
+    }
+
+    /// Numbers by hand.
+    fn put(&mut self, room: Room, from: usize, numbers: &[u32]) -> Option<()> {
+        self.rooms.put(room, from, numbers)?;
+        self.kept.put_by_hand(room, from, numbers.len());
+        Some(())
+    }
+
+    /// A state by hand.
+    fn set_state(&mut self, state: State) {
+        self.state = state;
+        self.kept.drop_levels();
     }
 
     fn print(&mut self, text: &str) {
@@ -74,8 +103,8 @@ impl Zones {
     }
 
     /// "The state is the one handed back, which the script then holds." "A call other than `write` is lent no output".
-    fn call(&mut self, call: impl FnOnce(&State, &mut Lent) -> (Answer, State)) {
-        let (answer, state) = call(&self.state, &mut self.rooms.lend());
+    fn call(&mut self, call: impl FnOnce(&State, &mut Lent, &mut Kept) -> (Answer, State)) {
+        let (answer, state) = call(&self.state, &mut self.rooms.lend(), &mut self.kept);
         self.state = state;
         self.print_answer(answer, 0);
         self.print("\n");
@@ -83,7 +112,7 @@ impl Zones {
 
     /// "`counts` puts ` darts=X vertices=X faces=X euler=X` at the end of it."
     fn counts(&mut self) {
-        let (answer, counts) = calls::counts(&self.state, &mut self.rooms.lend());
+        let (answer, counts) = calls::counts(&self.state, &mut self.rooms.lend(), &mut self.kept);
         let Counts { darts, vertices, faces, euler } = counts;
         self.print_answer(answer, 0);
         self.print(&format!(" darts={darts} vertices={vertices} faces={faces} euler={euler}\n"));
@@ -92,7 +121,7 @@ impl Zones {
     /// "write a file into N bytes of output"
     fn write(&mut self, length: usize) -> Option<()> {
         let (mut lent, output) = self.rooms.lend_output(length)?;
-        let answer = calls::write(&self.state, &mut lent, output);
+        let answer = calls::write(&self.state, &mut lent, output, &mut self.kept);
         if answer.number == 0 {
             self.written = answer.place;
         }

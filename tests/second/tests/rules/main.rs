@@ -7,6 +7,8 @@
 //! - `no_pyramid`  answer 4: the table of seventeen tests, and faults of shape
 //! - `every_small` every table and history of up to 6 darts against the words of document 01
 //! - `undoing`, `any_order`, `files`, `cycles`  random pyramids over maps of up to 12 darts
+//! - `kept`        the levels kept from call to call: after which call which, and what drops them
+//! - `two_ways`    the levels kept and the levels derived: they agree, and a difference stops the program
 //! - `rubbish`     random numbers anywhere never stop the program
 //! - `reader`      the file's form, fault by fault
 //! - `levels`      the program `levels`
@@ -19,6 +21,7 @@ mod commands;
 mod cycles;
 mod every_small;
 mod files;
+mod kept;
 mod levels;
 mod no_pyramid;
 mod reader;
@@ -26,5 +29,6 @@ mod refusals;
 mod rubbish;
 mod scripts;
 mod support;
+mod two_ways;
 mod undoing;
 mod worked;

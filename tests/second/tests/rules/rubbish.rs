@@ -3,6 +3,7 @@
 use crate::support::chance::Chance;
 use crate::support::lot::{Call, Lot, ON_A_STATE};
 use second::state::State;
+use second::zones::Zones;
 
 const TRIES: u64 = 20_000;
 
@@ -77,4 +78,32 @@ fn pyramids_with_one_number_altered_get_an_answer() {
             answers(&lot, &call);
         }
     }
+}
+
+/// A line of a script for K7's map: a call, or numbers put in by hand, most often those that stand there already.
+fn any_line(chance: &mut Chance) -> String {
+    let calls = ["contract 0 1", "remove 2", "contract 3", "sweep", "undo", "unfold 1", "counts", "write 97"];
+    let by_hand = [
+        "table 0 5 2 1 4 6 0 3 7", "table 2 5 4 6 4 6 7", "table 7 7", "table 8 1", "history 0 1 5", "history 2 10",
+        "history 3 9", "state 8 3 2 2 3", "state 8 2 1 2", "state 8 0 0", "lend 8 4 32", "fill 9", "start 8",
+    ];
+    match chance.below(8) {
+        0 => format!("table {} {}\n", chance.below(8), chance.below(9)),
+        1 => format!("history {} {}\n", chance.below(4), chance.below(17)),
+        2 | 3 => format!("{}\n", by_hand[chance.below(by_hand.len() as u32) as usize]),
+        _ => format!("{}\n", calls[chance.below(calls.len() as u32) as usize]),
+    }
+}
+
+#[test]
+fn numbers_by_hand_between_calls_never_stop_the_program() {
+    let mut left = [0; 3];
+    for seed in 0..TRIES / 10 {
+        let mut chance = Chance::new(seed);
+        let lines: String = (0..8).map(|_| any_line(&mut chance)).collect();
+        let script = format!("lend 8 4 32\ntable 0 5 2 1 4 6 0 3 7\nstart 8\ncontract 0 1\nremove 2\n{lines}");
+        let levels = Zones::after(script.as_bytes()).kept().pyramid().map_or(0, |pyramid| pyramid.levels().len());
+        left[levels.min(2)] += 1;
+    }
+    assert!(left.iter().all(|&scripts| scripts > 20), "{left:?} scripts left nothing, a base, and more levels");
 }

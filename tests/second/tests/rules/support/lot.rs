@@ -1,10 +1,13 @@
 //! Call == one of the eight calls with its own numbers
 //! Lot  == a state with everything a call is lent; past what document 01 asks for, and in the work area, stand marks
 //! Left == what a call gave back
+//!
+//! A call on a lot finds no levels kept, as after numbers put in by hand; `call_keeping` keeps them from call to call.
 
 use second::answer::Answer;
 use second::calls;
 use second::counts::Counts;
+use second::kept::Kept;
 use second::lent::Lent;
 use second::operation::Kind;
 use second::pyramid::Pyramid;
@@ -108,19 +111,24 @@ impl Lot {
 
     /// Makes the call and keeps the state that it hands back.
     pub fn call(&mut self, call: &Call) -> Left {
+        self.call_keeping(call, &mut Kept::default())
+    }
+
+    /// The same with the levels that were kept so far.
+    pub fn call_keeping(&mut self, call: &Call, kept: &mut Kept) -> Left {
         let given = self.state;
         let mut lent = Lent { table: &mut self.table, history: &mut self.history, work: &mut self.work };
         let mut counts = Counts::default();
         let (answer, state) = match *call {
-            Call::Start(darts) => calls::start(darts, &mut lent),
-            Call::Reduce(kind, edges) => calls::reduce(&given, kind, edges, &mut lent),
-            Call::Sweep => calls::sweep(&given, &mut lent),
-            Call::Undo => calls::undo(&given, &mut lent),
-            Call::Unfold(k) => calls::unfold(&given, k, &mut lent),
-            Call::Read(bytes) => calls::read(bytes, &mut lent),
-            Call::Write => (calls::write(&given, &mut lent, &mut self.output), given),
+            Call::Start(darts) => calls::start(darts, &mut lent, kept),
+            Call::Reduce(kind, edges) => calls::reduce(&given, kind, edges, &mut lent, kept),
+            Call::Sweep => calls::sweep(&given, &mut lent, kept),
+            Call::Undo => calls::undo(&given, &mut lent, kept),
+            Call::Unfold(k) => calls::unfold(&given, k, &mut lent, kept),
+            Call::Read(bytes) => calls::read(bytes, &mut lent, kept),
+            Call::Write => (calls::write(&given, &mut lent, &mut self.output, kept), given),
             Call::Counts => {
-                let (answer, given_counts) = calls::counts(&given, &mut lent);
+                let (answer, given_counts) = calls::counts(&given, &mut lent, kept);
                 counts = given_counts;
                 (answer, given)
             }
