@@ -61,3 +61,7 @@ pub mod FileInstances
 pub mod Fitting
 pub mod Over
 pub mod Judging
+pub mod Looks
+pub mod LooksLines
+pub mod Seen
+pub mod sentences

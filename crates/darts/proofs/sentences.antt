@@ -1,0 +1,4 @@
+pub mod FirstLines
+pub mod FirstFault
+pub mod Reading
+pub mod ReadWork
