@@ -25,11 +25,11 @@ digit-test c h =
     T→true (leb 48 (48 + c) && leb (48 + c) 57)
     (and-intro (leb 48 (48 + c)) (leb (48 + c) 57) (le→leb 48 (48 + c) (omega arith)) (le→leb (48 + c) 57 (omega arith)))
 
-digit-low : (c : ℕ) → T (isDigit c) → 48 ≤ c
+pub digit-low : (c : ℕ) → T (isDigit c) → 48 ≤ c
 unfolding isDigit
 digit-low c t = leb→le 48 c (and-left (leb 48 c) (leb c 57) t)
 
-digit-high : (c : ℕ) → T (isDigit c) → c ≤ 57
+pub digit-high : (c : ℕ) → T (isDigit c) → c ≤ 57
 unfolding isDigit
 digit-high c t = leb→le c 57 (and-right (leb 48 c) (leb c 57) t)
 
@@ -69,7 +69,7 @@ module _ {b : List ℕ} {x at end : ℕ} (h : x ≤ 99999) (B : Between b at (de
       let few = decimal-few x in
       number-passed d B (5 - length (decimal x)) 5 (omega arith) ∙ number-stop b (5 - length (decimal x)) end x ended
 
-  number-found : numberAt b at ≡ found x end
+  pub number-found : numberAt b at ≡ found x end
   unfolding numberAt
   number-found = go (decimal-first (decimal-right x h))
     where

@@ -57,7 +57,7 @@ kind-found x n C B =
     let some : n ≢ 0 = omega (arith, C .some) in
     rw (field-found (kindWord x) 10 [] no-digit-feed (record { there = B; bound = C .bound }), eqb-other some)
 
-kernel-found : {b : List ℕ} {at end : ℕ} (x : Kind) (n : ℕ) → Line b at (line x n) end → kernelAt b at ≡ found (line x n) end
+pub kernel-found : {b : List ℕ} {at end : ℕ} (x : Kind) (n : ℕ) → Line b at (line x n) end → kernelAt b at ≡ found (line x n) end
 unfolding kernelAt countLine kindWord
 kernel-found contraction n l =
     let S = between-split (bytes "kernel=") (l .there) in

@@ -58,7 +58,7 @@ pub record Scanned (b : List ℕ) (F D : ℕ) (ks : List KernelLine) (xs : List 
 
 -- ---- opening
 
-flag-found : {b : List ℕ} {at : ℕ} (F : ℕ) {end : ℕ} → F ≤ 1 → Between b at ((48 + F) ∷ []) end → flagAt b at ≡ found F end
+pub flag-found : {b : List ℕ} {at : ℕ} (F : ℕ) {end : ℕ} → F ≤ 1 → Between b at ((48 + F) ∷ []) end → flagAt b at ≡ found F end
 unfolding flagAt
 flag-found {b} {at} F {end} h B = go (ℕ-discrete F 0)
   where

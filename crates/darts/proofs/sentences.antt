@@ -1,4 +1,9 @@
 pub mod FirstLines
+pub mod BodyLines
 pub mod FirstFault
 pub mod Reading
 pub mod ReadWork
+pub mod ReadOrder
+pub mod LineEnds
+pub mod LastLine
+pub mod Writing

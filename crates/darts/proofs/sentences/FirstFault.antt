@@ -12,9 +12,10 @@ use lib.ListN.{length, take}
 use lib.Seq.{take-take}
 use Rattle.darts.specs.Answers.{Answer}
 use Rattle.darts.specs.Read.{Read, means, faulty, readFile}
-use Rattle.darts.specs.Calls.{room, readInto, read}
+use Rattle.darts.specs.Calls.{readInto, read}
 use Rattle.darts.proofs.Fitting.{room-facts}
 use Rattle.darts.proofs.Seen.{Cause, wrong-byte, wrong-flag, no-count, too-short, empty-kernel, many-levels, no-pyramid, Seen, seen, seen-cause}
+use Rattle.darts.proofs.sentences.FirstLines.{fits}
 
 -- The cause names the last of these bytes: the wrong byte (13, 14), or the line feed of a value's line (1, 2, 5, 6).
 pub record FirstFault (b t h w : List ℕ) : Type 0 where
@@ -32,8 +33,8 @@ cause-place (many-levels e l) n = let z = ap (λ a. a .number) e in absurd (omeg
 cause-place (no-pyramid e) n = let z = ap (λ a. a .number) e in absurd (omega arith)
 
 module _ (b t h w : List ℕ) where
-  abbrev S : Seen (room (length t) (length h) (length w)) b
-  S = seen (room (length t) (length h) (length w)) b
+  abbrev S : Seen (fits t h w) b
+  S = seen (fits t h w) b
 
   same-read : (c : List ℕ) → take (S .upto) c ≡ take (S .upto) b → read c t h w ≡ read b t h w
   unfolding read
@@ -41,12 +42,12 @@ module _ (b t h w : List ℕ) where
 
   fault-cause : read b t h w .answer .number ≢ 0 → Cause b (S .upto) (read b t h w .answer)
   unfolding read readInto
-  fault-cause n = go (readFile (room (length t) (length h) (length w)) b) refl n
+  fault-cause n = go (readFile (fits t h w) b) refl n
     where
-      go : (r : Read) → readFile (room (length t) (length h) (length w)) b ≡ r → readInto t h w r .answer .number ≢ 0
+      go : (r : Read) → readFile (fits t h w) b ≡ r → readInto t h w r .answer .number ≢ 0
           → Cause b (S .upto) (readInto t h w r .answer)
       go (means s u past) e n = absurd (n refl)
-      go (faulty D a) e n = seen-cause (room (length t) (length h) (length w)) b e
+      go (faulty D a) e n = seen-cause (fits t h w) b e
 
   -- "Bytes are judged from left to right, and the first fault decides."
   pub first-fault : read b t h w .answer .number ≢ 0 → FirstFault b t h w

@@ -2,7 +2,6 @@
 --   Zeroed D v w == v is the work area w with its first 4D numbers zero
 --   read-clears  == where D is known, its part of the work area is zero after any read
 --   read-keeps   == where it is not, or 1 or 2 is answered, the work area is as it was
-use mathlib.Core.Bool.{Bool}
 use mathlib.Core.List.{List, map, reverse}
 use mathlib.Core.Path.{_≡_, refl, ap, _∙_}
 use Prim.Native.Nat.{ℕ, _*_}
@@ -13,10 +12,10 @@ use Rattle.darts.specs.State.{State}
 use Rattle.darts.specs.Pyramid.{dartCount, isPyramid}
 use Rattle.darts.specs.Scan.{Scan, found, fault}
 use Rattle.darts.specs.Read.{Opening, Body, opening, body, fromFlag, fileState, fileHistory, closed, opened, readFile}
-use Rattle.darts.specs.Calls.{room, cleared, readInto, read}
+use Rattle.darts.specs.Calls.{cleared, readInto, read}
 use Rattle.darts.proofs.Fitting.{Count, Lengths, count-facts, count-test, room-facts, room-test}
 use Rattle.darts.proofs.Over.{cleared-is, cleared-zero, cleared-rest}
-use Rattle.darts.proofs.sentences.FirstLines.{FirstLines, told, lines-opening, opening-lines, lines-closed}
+use Rattle.darts.proofs.sentences.FirstLines.{FirstLines, fits, told, lines-opening, opening-lines, lines-closed}
 
 pub record Zeroed (D : ℕ) (v w : List ℕ) : Type 0 where
   pub zeros : take (4 * D) v ≡ replicate (4 * D) 0
@@ -42,14 +41,11 @@ closed-work t h w o (found c end) = go (T? (isPyramid s u past))
     go (no n) = rw (nT→false (isPyramid s u past) n)
 
 module _ (b t h w : List ℕ) where
-  abbrev fits : ℕ → Bool
-  fits = room (length t) (length h) (length w)
-
   -- accepted, and whatever fault is in the body
   pub read-clears : {F D : ℕ} → FirstLines b F D → Count D → Lengths D (length t) (length h) (length w) → Zeroed D (read b t h w .work) w
   unfolding read
   read-clears {F} {D} L c l =
-      let closes = lines-closed fits L (count-test D c) (room-test (length t) (length h) (length w) D l) in
+      let closes = lines-closed (fits t h w) L (count-test D c) (room-test (length t) (length h) (length w) D l) in
       let work : read b t h w .work ≡ cleared D w =
       ap (λ r. readInto t h w r .work) closes ∙ closed-work t h w (told F D) (body D b (lines-opening L .at)) in
       record { zeros = ap (take (4 * D)) work ∙ cleared-zero D w; rest = ap (drop (4 * D)) work ∙ cleared-rest D w }
@@ -61,12 +57,12 @@ module _ (b t h w : List ℕ) where
       none : cleared 0 w ≡ w
       none = cleared-is 0 w
 
-      go : (r : Scan Opening) → opening b ≡ r → readInto t h w (opened fits b r) .work ≡ w
+      go : (r : Scan Opening) → opening b ≡ r → readInto t h w (opened (fits t h w) b r) .work ≡ w
       go (fault a) e = none
-      go (found o at) e = tests (T? (dartCount (o .darts))) (T? (fits (o .darts)))
+      go (found o at) e = tests (T? (dartCount (o .darts))) (T? (fits t h w (o .darts)))
         where
-          tests : Dec (T (dartCount (o .darts))) → Dec (T (fits (o .darts))) → readInto t h w (opened fits b (found o at)) .work ≡ w
+          tests : Dec (T (dartCount (o .darts))) → Dec (T (fits t h w (o .darts))) → readInto t h w (opened (fits t h w) b (found o at)) .work ≡ w
           tests (no n) r = rw (nT→false (dartCount (o .darts)) n) none
-          tests (yes c) (no n) = rw (T→true (dartCount (o .darts)) c, nT→false (fits (o .darts)) n) none
+          tests (yes c) (no n) = rw (T→true (dartCount (o .darts)) c, nT→false (fits t h w (o .darts)) n) none
           tests (yes c) (yes r) =
               absurd (late (o .flag) (o .darts) (opening-lines e) (count-facts (o .darts) c) (room-facts (length t) (length h) (length w) (o .darts) r))

@@ -3,7 +3,6 @@
 --   ReadIn r t h w == a pyramid lent with room, and nothing past its numbers changed
 --   read-refused, read-accepted == a refused read leaves the one, an accepted one the other
 --   read-lengths   == of the lent slices a read looks at the lengths alone
-use mathlib.Core.Bool.{Bool}
 use mathlib.Core.List.{List, reverse, reverse-reverse}
 use mathlib.Core.Logic.{_≢_}
 use mathlib.Core.Path.{_≡_, refl, sym, ap, _∙_, subst, subst₂}
@@ -15,7 +14,7 @@ use Rattle.darts.specs.Answers.{Answer}
 use Rattle.darts.specs.State.{State}
 use Rattle.darts.specs.Pyramid.{Pyramid}
 use Rattle.darts.specs.Read.{fileState, Read, means, faulty, readFile}
-use Rattle.darts.specs.Calls.{After, room, tableOf, pastOf, over, cleared, readInto, read}
+use Rattle.darts.specs.Calls.{After, tableOf, pastOf, over, cleared, readInto, read}
 use Rattle.darts.proofs.Decided.{pyramid-decided}
 use Rattle.darts.proofs.Passes.{pyramid-shaped}
 use Rattle.darts.proofs.Room.{pyramid-room}
@@ -24,6 +23,7 @@ use Rattle.darts.proofs.Over.{over-front, over-rest, over-length, clear
 use Rattle.darts.proofs.Judging.{Lent}
 use Rattle.darts.proofs.Meanings.{meaning}
 use Rattle.darts.proofs.Seen.{Cause, wrong-byte, wrong-flag, no-count, too-short, empty-kernel, many-levels, no-pyramid, seen-cause}
+use Rattle.darts.proofs.sentences.FirstLines.{fits}
 
 pub record Unread (r : After) (t h : List ℕ) : Type 0 where
   pub state : r .state ≡ record { darts = 0; operations = 0; levels = 0; ends = replicate 64 0 }
@@ -94,13 +94,10 @@ cause-some (many-levels e l) z = omega (arith, ap (λ a. a .number) e)
 cause-some (no-pyramid e) z = omega (arith, ap (λ a. a .number) e)
 
 module _ (b t h w : List ℕ) where
-  abbrev fits : ℕ → Bool
-  fits = room (length t) (length h) (length w)
-
   -- "A refused start or read, which was given none, hands back a state of zeros." "The reader writes table and history only when it accepts"
   pub read-refused : read b t h w .answer .number ≢ 0 → Unread (read b t h w) t h
   unfolding read readInto
-  read-refused n = go (readFile fits b) n
+  read-refused n = go (readFile (fits t h w) b) n
     where
       go : (r : Read) → readInto t h w r .answer .number ≢ 0 → Unread (readInto t h w r) t h
       go (means s u past) n = absurd (n refl)
@@ -109,15 +106,15 @@ module _ (b t h w : List ℕ) where
   -- "Numbers of a lent table past D are neither read nor written, nor those of a history past the larger of the operation counts"
   pub read-accepted : read b t h w .answer .number ≡ 0 → ReadIn (read b t h w) t h w
   unfolding read readInto fileState
-  read-accepted z = go (readFile fits b) refl z
+  read-accepted z = go (readFile (fits t h w) b) refl z
     where
-      go : (r : Read) → readFile fits b ≡ r → readInto t h w r .answer .number ≡ 0 → ReadIn (readInto t h w r) t h w
+      go : (r : Read) → readFile (fits t h w) b ≡ r → readInto t h w r .answer .number ≡ 0 → ReadIn (readInto t h w r) t h w
       go (means s u past) e z =
-          let M = meaning fits b e in
+          let M = meaning (fits t h w) b e in
           let D : M .darts ≡ s .darts = sym (ap (λ s. s .darts) (M .state)) in
-          let L = room-facts (length t) (length h) (length w) (s .darts) (subst (λ n. T (fits n)) D (M .fits)) in
+          let L = room-facts (length t) (length h) (length w) (s .darts) (subst (λ n. T (fits t h w n)) D (M .fits)) in
           read-in (pyramid-decided s u past .0 (M .pyramid)) t h w L
-      go (faulty D a) e z = absurd (cause-some (seen-cause fits b e) z)
+      go (faulty D a) e z = absurd (cause-some (seen-cause (fits t h w) b e) z)
 
 -- ---- what is looked at
 
@@ -131,12 +128,12 @@ pub record SameRead (r r′ : After) : Type 0 where
 pub read-lengths : (b t h w t′ h′ w′ : List ℕ) → length t′ ≡ length t → length h′ ≡ length h → length w′ ≡ length w
     → SameRead (read b t h w) (read b t′ h′ w′)
 unfolding read readInto
-read-lengths b t h w t′ h′ w′ i j k = rw (i, j, k) (go (readFile (fits b t h w) b) refl)
+read-lengths b t h w t′ h′ w′ i j k = rw (i, j, k) (go (readFile (fits t h w) b) refl)
   where
-    go : (r : Read) → readFile (fits b t h w) b ≡ r → SameRead (readInto t h w r) (readInto t′ h′ w′ r)
+    go : (r : Read) → readFile (fits t h w) b ≡ r → SameRead (readInto t h w r) (readInto t′ h′ w′ r)
     go (means s u past) e =
-        let P = pyramid-decided s u past .0 (meaning (fits b t h w) b e .pyramid) in
+        let P = pyramid-decided s u past .0 (meaning (fits t h w) b e .pyramid) in
         record { answer = refl; state = refl; table = λ z. front P t ∙ sym (front P t′); history = λ z. new P h ∙ sym (new P h′) }
     go (faulty D a) e =
-        let n = cause-some (seen-cause (fits b t h w) b e) in
+        let n = cause-some (seen-cause (fits t h w) b e) in
         record { answer = refl; state = refl; table = λ z. absurd (n z); history = λ z. absurd (n z) }
