@@ -7,3 +7,4 @@ pub mod ReadOrder
 pub mod LineEnds
 pub mod LastLine
 pub mod Writing
+pub mod FileRows
