@@ -1,4 +1,4 @@
--- The sentences on reading and writing, met by computation: a map of one edge, whose two darts are two vertices, and files that are its file but for some bytes.
+-- The sentences on reading and writing, met by computation: a map of one edge, whose two darts are two vertices, and files like its own.
 --   lentTable, lentHistory, lentWork == slices one number longer than two darts need
 --   zeroed                           == the work area with its first eight numbers zero
 --   one-edge, output                 == the file, 36 bytes, and an output
@@ -55,6 +55,8 @@ record ReadRows : Type 0 where
   no-count-first : read (bytes "numbers=0\ndarts=3\n") [] [] [] ≡ leaves (answered 1 0) (baseState 0) [] [] []
   too-short : reading (bytes "numbers=0\ndarts=4\nlevels") ≡ early (answered 2 0)
   unended : reading (bytes "numbers=0\ndarts=3 ") ≡ early (answered 13 17)
+  levels-unended : reading (bytes "numbers=0\ndarts=2\nlevels=65,") ≡ late (answered 13 27)
+  count-unended : reading (bytes "numbers=0\ndarts=2\nlevels=1\nkernel=remove 0") ≡ late (answered 13 42)
   -- "L over 64 (6), N of 0 (5)"
   many-levels : reading (bytes "numbers=0\ndarts=2\nlevels=65\nk") ≡ late (answered 6 0)
   empty-kernel : reading (bytes "numbers=0\ndarts=2\nlevels=1\nkernel=remove 0\np") ≡ late (answered 5 0)
@@ -77,6 +79,8 @@ read-rows = record {
   no-count-first = refl;
   too-short = refl;
   unended = refl;
+  levels-unended = refl;
+  count-unended = refl;
   many-levels = refl;
   empty-kernel = refl;
   wrong-byte = refl;
@@ -95,6 +99,14 @@ abbrev filed : Answer → List ℕ → Written
 filed a o = record { answer = a; table = 0 ∷ 1 ∷ 9 ∷ []; history = lentHistory; work = zeroed; output = o }
 
 record WriteRows : Type 0 where
+  -- "The writer judges its output's length after 4."
+  no-pyramid : write (baseState 2) (1 ∷ 1 ∷ []) (8 ∷ []) (replicate 8 7) [] ≡ record {
+    answer = answered 4 0;
+    table = 1 ∷ 1 ∷ [];
+    history = 8 ∷ [];
+    work = replicate 8 0;
+    output = [];
+  }
   -- "2: .. for the writer's output, the bytes needed"
   short : writing (replicate 35 6) ≡ filed (answered 2 36) (replicate 35 6)
   -- "0: .. for the writer, the bytes written"
@@ -104,4 +116,4 @@ record WriteRows : Type 0 where
 
 write-rows : WriteRows
 unfolding successor gone survives repeats firstBadFrom firstBad undone dartCount build cut kernelsOf sameNumbers sameState isExactly isPyramid digits decimal taken survivors fileOrder placeIn fileNumber fileTable kernelLines pairLines fileOf room fitting tableOf pastOf over cleared workAfter judged write
-write-rows = record { short = refl; full = refl; long = refl }
+write-rows = record { no-pyramid = refl; short = refl; full = refl; long = refl }

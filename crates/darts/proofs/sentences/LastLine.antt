@@ -46,7 +46,8 @@ map-at f [] i h = absurd (omega arith)
 map-at f (x ∷ l) zero h = refl
 map-at f (x ∷ l) (suc i) h = map-at f l i (omega arith)
 
-module _ {F D : ℕ} {ks : List KernelLine} {xs : List ℕ} (G : GoodForm F D ks xs) (c : Count D) (t h w : List ℕ) (l : Lengths D (length t) (length h) (length w)) where
+module _ {F D : ℕ} {ks : List KernelLine} {xs : List ℕ} (G : GoodForm F D ks xs) (c : Count D) (t h w : List ℕ)
+    (l : Lengths D (length t) (length h) (length w)) where
   fit : T (fits t h w D)
   fit = room-test (length t) (length h) (length w) D l
 

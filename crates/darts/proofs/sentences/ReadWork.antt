@@ -4,7 +4,7 @@
 --   read-keeps   == where it is not, or 1 or 2 is answered, the work area is as it was
 use mathlib.Core.List.{List, map, reverse}
 use mathlib.Core.Path.{_≡_, refl, ap, _∙_}
-use Prim.Native.Nat.{ℕ, _*_}
+use Prim.Native.Nat.{ℕ, _*_, _≤_}
 use lib.Dec.{T}
 use lib.ListN.{length, take, drop, replicate}
 use Rattle.permutations.specs.Choice.{T?, T→true, nT→false}
@@ -14,12 +14,16 @@ use Rattle.darts.specs.Scan.{Scan, found, fault}
 use Rattle.darts.specs.Read.{Opening, Body, opening, body, fromFlag, fileState, fileHistory, closed, opened, readFile}
 use Rattle.darts.specs.Calls.{cleared, readInto, read}
 use Rattle.darts.proofs.Fitting.{Count, Lengths, count-facts, count-test, room-facts, room-test}
-use Rattle.darts.proofs.Over.{cleared-is, cleared-zero, cleared-rest}
+use Rattle.darts.proofs.Over.{cleared-is, cleared-zero, cleared-rest, cleared-length}
 use Rattle.darts.proofs.sentences.FirstLines.{FirstLines, fits, told, lines-opening, opening-lines, lines-closed}
 
 pub record Zeroed (D : ℕ) (v w : List ℕ) : Type 0 where
   pub zeros : take (4 * D) v ≡ replicate (4 * D) 0
   pub rest : drop (4 * D) v ≡ drop (4 * D) w
+  pub size : length v ≡ length w
+
+pub zeroed : (D : ℕ) (w : List ℕ) → 4 * D ≤ length w → Zeroed D (cleared D w) w
+zeroed D w h = record { zeros = cleared-zero D w; rest = cleared-rest D w; size = cleared-length D w h }
 
 -- whatever the body holds
 closed-work : (t h w : List ℕ) (o : Opening) (r : Scan Body) → readInto t h w (closed o r) .work ≡ cleared (o .darts) w
@@ -48,7 +52,7 @@ module _ (b t h w : List ℕ) where
       let closes = lines-closed (fits t h w) L (count-test D c) (room-test (length t) (length h) (length w) D l) in
       let work : read b t h w .work ≡ cleared D w =
       ap (λ r. readInto t h w r .work) closes ∙ closed-work t h w (told F D) (body D b (lines-opening L .at)) in
-      record { zeros = ap (take (4 * D)) work ∙ cleared-zero D w; rest = ap (drop (4 * D)) work ∙ cleared-rest D w }
+      rw work (zeroed D w (l .work))
 
   pub read-keeps : ((F D : ℕ) → FirstLines b F D → Count D → Lengths D (length t) (length h) (length w) → ⊥) → read b t h w .work ≡ w
   unfolding read readInto readFile opened

@@ -24,11 +24,11 @@ use Rattle.darts.specs.Answers.{answered}
 use Rattle.darts.specs.State.{State}
 use Rattle.darts.specs.Pyramid.{Pyramid}
 use Rattle.darts.specs.File.{fileOf}
-use Rattle.darts.specs.Calls.{Written, tableOf, pastOf, cleared, judged, write}
+use Rattle.darts.specs.Calls.{Written, tableOf, pastOf, judged, write}
 use Rattle.darts.proofs.Fitting.{Count, Lengths}
-use Rattle.darts.proofs.Over.{over-front, over-rest, over-length, cleared-zero, cleared-rest}
+use Rattle.darts.proofs.Over.{over-front, over-rest, over-length}
 use Rattle.darts.proofs.Judging.{Lent, Judging, uncounted, cramped, other, lent, judging, judged-lent}
-use Rattle.darts.proofs.sentences.ReadWork.{Zeroed}
+use Rattle.darts.proofs.sentences.ReadWork.{Zeroed, zeroed}
 
 -- "an accepted write alters only its own bytes of the output"
 pub record Filed (s : State) (t h o : List ℕ) (r : Written) : Type 0 where
@@ -75,12 +75,9 @@ module _ (s : State) (t h w o : List ℕ) where
     unfolding write
     write-zeros = go (decLt (length o) (length b))
       where
-        zeroed : Zeroed (s .darts) (cleared (s .darts) w) w
-        zeroed = record { zeros = cleared-zero (s .darts) w; rest = cleared-rest (s .darts) w }
-
         go : Dec (length o < length b) → Zeroed (s .darts) (write s t h w o .work) w
-        go (yes k) = rw (judged-lent s t h w L, T→true (ltb (length o) (length b)) (lt→ltb (length o) (length b) k)) zeroed
-        go (no n) = rw (judged-lent s t h w L, few n) zeroed
+        go (yes k) = rw (judged-lent s t h w L, T→true (ltb (length o) (length b)) (lt→ltb (length o) (length b) k)) (zeroed (s .darts) w (L .lengths .work))
+        go (no n) = rw (judged-lent s t h w L, few n) (zeroed (s .darts) w (L .lengths .work))
 
   pub writing : Writing s t h w o
   writing = go (judging s t h w)
