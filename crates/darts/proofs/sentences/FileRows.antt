@@ -61,7 +61,13 @@ record ReadRows : Type 0 where
   many-levels : reading (bytes "numbers=0\ndarts=2\nlevels=65\nk") ≡ late (answered 6 0)
   empty-kernel : reading (bytes "numbers=0\ndarts=2\nlevels=1\nkernel=remove 0\np") ≡ late (answered 5 0)
   -- "first wrong byte, from 0"
-  wrong-byte : reading (bytes "numbers=0\ndarts=2\nlevels=0\npair=0,1\n") ≡ late (answered 13 33)
+  wrong-letter : reading (bytes "numbers=0\ndarts=2\nlevels=0\npaid=0 1\n") ≡ late (answered 13 30)
+  wrong-kind : reading (bytes "numbers=0\ndarts=2\nlevels=1\nkernel=delete 1\n") ≡ late (answered 13 34)
+  no-number : reading (bytes "numbers=0\ndarts=2\nlevels=0\npair=0 \n") ≡ late (answered 13 34)
+  wrong-end : reading (bytes "numbers=0\ndarts=2\nlevels=0\npair=0,1\n") ≡ late (answered 13 33)
+  -- "one to five digits, no leading zero but for 0 itself"
+  six-digits : reading (bytes "numbers=0\ndarts=123456\n") ≡ early (answered 13 21)
+  leading-zero : reading (bytes "numbers=0\ndarts=02\n") ≡ early (answered 13 17)
   -- "nothing after the last"
   on : reading (one-edge ++ bytes "\n") ≡ late (answered 13 36)
   -- "After the last byte: 4, also where a pair holds a number that is no dart (0 under F = 1, D under F = 0)."
@@ -83,7 +89,12 @@ read-rows = record {
   count-unended = refl;
   many-levels = refl;
   empty-kernel = refl;
-  wrong-byte = refl;
+  wrong-letter = refl;
+  wrong-kind = refl;
+  no-number = refl;
+  wrong-end = refl;
+  six-digits = refl;
+  leading-zero = refl;
   on = refl;
   no-permutation = refl;
   no-dart = refl;
