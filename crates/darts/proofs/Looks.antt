@@ -1,7 +1,7 @@
 -- How many bytes a scan has looked at: what follows them does not matter to it.
---   Look f b from most slack == the scan f, on the bytes b, is told by their first `upto`, at least `from` and at most `most` and `slack`; what it finds
---                               ends at most at `most` and at most `slack` before the last byte looked at
---   Stop b upto a            == the fault a is told by the byte before `upto`: it is the wrong byte, or ends the line of a wrong value
+--   Look f b at from most slack == the scan f, on the bytes b from `at` on, is told by their first `upto`, at least `from` and at most `most` and `slack`;
+--                               what it finds ends at most at `most` and at most `slack` before the last byte looked at
+--   Stop b at upto a         == the fault a is told by the byte before `upto`: it is the wrong byte, or ends the line of a wrong value
 --   LineEnd b upto           == the byte before `upto` is a line feed
 --   look-after               == one scan after another
 --   look-word, look-number, look-field == a word, a number, a field
@@ -24,22 +24,22 @@ pub record LineEnd (b : List ℕ) (upto : ℕ) : Type 0 where
   pub next : upto ≡ suc last
   pub feed : byteAt b last ≡ 10
 
-pub data Stop (b : List ℕ) (upto : ℕ) (a : Answer) : Type 0 where
-  wrong : (p : ℕ) → a ≡ answered 13 p → upto ≡ suc p → Stop b upto a
-  flag : a ≡ answered 14 8 → upto ≡ 9 → Stop b upto a
-  empty : a ≡ answered 5 0 → LineEnd b upto → Stop b upto a
-  many : a ≡ answered 6 0 → LineEnd b upto → Stop b upto a
+pub data Stop (b : List ℕ) (at upto : ℕ) (a : Answer) : Type 0 where
+  wrong : (p : ℕ) → a ≡ answered 13 p → upto ≡ suc p → at ≤ p → Stop b at upto a
+  flag : a ≡ answered 14 8 → upto ≡ 9 → Stop b at upto a
+  empty : a ≡ answered 5 0 → LineEnd b upto → Stop b at upto a
+  many : a ≡ answered 6 0 → LineEnd b upto → Stop b at upto a
 
-abbrev pub Ended : {A : Type 0} → List ℕ → ℕ → ℕ → ℕ → Scan A → Type 0
-Ended b upto most slack (found x end) = (upto ≤ end + slack) × (end ≤ most)
-Ended b upto most slack (fault a) = Stop b upto a
+abbrev pub Ended : {A : Type 0} → List ℕ → ℕ → ℕ → ℕ → ℕ → Scan A → Type 0
+Ended b at upto most slack (found x end) = (upto ≤ end + slack) × ((end ≤ most) × (at ≤ end))
+Ended b at upto most slack (fault a) = Stop b at upto a
 
-pub record Look {A : Type 0} (f : List ℕ → Scan A) (b : List ℕ) (from most slack : ℕ) : Type 0 where
+pub record Look {A : Type 0} (f : List ℕ → Scan A) (b : List ℕ) (at from most slack : ℕ) : Type 0 where
   pub upto : ℕ
   pub begun : from ≤ upto
   pub few : upto ≤ most + slack
   pub same : (c : List ℕ) → take upto c ≡ take upto b → f c ≡ f b
-  pub ended : Ended b upto most slack (f b)
+  pub ended : Ended b at upto most slack (f b)
 
 -- ---- the same bytes
 
@@ -52,10 +52,16 @@ same-byte b c i n h e = sym (getD-take n c i 256 h) ∙ ap (λ l. getD l i 256) 
 
 -- ---- one scan after another
 
--- fewer bytes asked for, more allowed
-pub look-more : {A : Type 0} {f : List ℕ → Scan A} {b : List ℕ} {from from′ most most′ slack : ℕ} → Look f b from most slack → from′ ≤ from → most ≤ most′
-    → Look f b from′ most′ slack
-look-more {A} {f} {b} {most = most} {most′} {slack} L h k = record {
+stop-more : {b : List ℕ} {at at′ upto : ℕ} {a : Answer} → at′ ≤ at → Stop b at upto a → Stop b at′ upto a
+stop-more h (wrong p e k l) = wrong p e k (omega arith)
+stop-more h (flag e k) = flag e k
+stop-more h (empty e l) = empty e l
+stop-more h (many e l) = many e l
+
+-- an earlier start, fewer bytes asked for, more allowed
+pub look-more : {A : Type 0} {f : List ℕ → Scan A} {b : List ℕ} {at at′ from from′ most most′ slack : ℕ} → Look f b at from most slack → at′ ≤ at → from′ ≤ from
+    → most ≤ most′ → Look f b at′ from′ most′ slack
+look-more {A} {f} {b} {at} {at′} {most = most} {most′} {slack} L i h k = record {
   upto = L .upto;
   begun = omega (arith, L .begun);
   few = omega (arith, L .few);
@@ -63,26 +69,27 @@ look-more {A} {f} {b} {most = most} {most′} {slack} L h k = record {
   ended = more (f b) (L .ended);
 }
   where
-    more : (r : Scan A) → Ended b (L .upto) most slack r → Ended b (L .upto) most′ slack r
-    more (found x end) e = (e .0, omega (arith, e .1))
-    more (fault a) e = e
+    more : (r : Scan A) → Ended b at (L .upto) most slack r → Ended b at′ (L .upto) most′ slack r
+    more (found x end) e = (e .0, (omega (arith, e .1 .0), omega (arith, e .1 .1)))
+    more (fault a) e = stop-more i e
 
-pub look-found : {A : Type 0} {x : A} {b : List ℕ} {at from most slack : ℕ} → from ≤ at → at ≤ most → Look (λ _. found x at) b from most slack
-look-found {at = at} h k = record { upto = at; begun = h; few = omega arith; same = λ c e. refl; ended = (omega arith, k) }
+pub look-found : {A : Type 0} {x : A} {b : List ℕ} {at start from most slack : ℕ} → start ≤ at → from ≤ at → at ≤ most
+    → Look (λ _. found x at) b start from most slack
+look-found {at = at} i h k = record { upto = at; begun = h; few = omega arith; same = λ c e. refl; ended = (omega arith, (k, i)) }
 
-pub look-fault : {A : Type 0} {a : Answer} {b : List ℕ} {upto from most slack : ℕ} → from ≤ upto → upto ≤ most + slack → Stop b upto a
-    → Look {A = A} (λ _. fault a) b from most slack
+pub look-fault : {A : Type 0} {a : Answer} {b : List ℕ} {upto at from most slack : ℕ} → from ≤ upto → upto ≤ most + slack → Stop b at upto a
+    → Look {A = A} (λ _. fault a) b at from most slack
 look-fault {upto = upto} h k s = record { upto = upto; begun = h; few = k; same = λ c e. refl; ended = s }
 
-pub look-after : {A B : Type 0} {f : List ℕ → Scan A} {g : A → ℕ → List ℕ → Scan B} {b : List ℕ} {from mid slack most slack′ : ℕ}
-    → Look f b from mid slack → mid + slack ≤ most + slack′
-    → ((x : A) (end : ℕ) → f b ≡ found x end → end ≤ mid → Look (g x end) b (end + slack) most slack′)
-    → Look (λ l. after (f l) (λ x at. g x at l)) b from most slack′
-look-after {A} {B} {f} {g} {b} {from} {mid} {slack} {most} {slack′} L h rest = go (f b) refl (L .ended)
+pub look-after : {A B : Type 0} {f : List ℕ → Scan A} {g : A → ℕ → List ℕ → Scan B} {b : List ℕ} {at from mid slack most slack′ : ℕ}
+    → Look f b at from mid slack → mid + slack ≤ most + slack′
+    → ((x : A) (end : ℕ) → f b ≡ found x end → at ≤ end → end ≤ mid → Look (g x end) b end (end + slack) most slack′)
+    → Look (λ l. after (f l) (λ x at. g x at l)) b at from most slack′
+look-after {A} {B} {f} {g} {b} {at} {from} {mid} {slack} {most} {slack′} L h rest = go (f b) refl (L .ended)
   where
-    go : (r : Scan A) → f b ≡ r → Ended b (L .upto) mid slack r → Look (λ l. after (f l) (λ x at. g x at l)) b from most slack′
+    go : (r : Scan A) → f b ≡ r → Ended b at (L .upto) mid slack r → Look (λ l. after (f l) (λ x at. g x at l)) b at from most slack′
     go (found x end) k e =
-        let G = rest x end k (e .1) in
+        let G = look-more {at′ = at} {from′ = end + slack} {most′ = most} (rest x end k (e .1 .1) (e .1 .0)) (e .1 .1) (omega arith) (omega arith) in
         record {
           upto = G .upto;
           begun = omega (arith, L .begun, G .begun, e .0);
@@ -109,15 +116,15 @@ begin-on : (w : List ℕ) (at : ℕ) → at ≤ begin w at
 begin-on [] at = omega arith
 begin-on (c ∷ w) at = omega arith
 
-pub look-word : (w b : List ℕ) (at : ℕ) → Look (λ l. word w l at) b (begin w at) (at + length w) 0
+pub look-word : (w b : List ℕ) (at : ℕ) → Look (λ l. word w l at) b at (begin w at) (at + length w) 0
 unfolding word
-look-word [] b at = look-found (omega arith) (omega arith)
+look-word [] b at = look-found (omega arith) (omega arith) (omega arith)
 look-word (c ∷ w) b at = go (ℕ-discrete (byteAt b at) c) (look-word w b (suc at))
   where
-    go : Dec (byteAt b at ≡ c) → Look (λ l. word w l (suc at)) b (begin w (suc at)) (suc at + length w) 0
-        → Look (λ l. word (c ∷ w) l at) b (suc at) (at + suc (length w)) 0
+    go : Dec (byteAt b at ≡ c) → Look (λ l. word w l (suc at)) b (suc at) (begin w (suc at)) (suc at + length w) 0
+        → Look (λ l. word (c ∷ w) l at) b at (suc at) (at + suc (length w)) 0
     go (yes k) I =
-        let J = look-more {from′ = suc at} {most′ = at + suc (length w)} I (begin-on w (suc at)) (omega arith) in
+        let J = look-more {at′ = at} {from′ = suc at} {most′ = at + suc (length w)} I (omega arith) (begin-on w (suc at)) (omega arith) in
         record {
           upto = J .upto;
           begun = J .begun;
@@ -130,21 +137,21 @@ look-word (c ∷ w) b at = go (ℕ-discrete (byteAt b at) c) (look-word w b (suc
       begun = omega arith;
       few = omega arith;
       same = λ d s. rw (same-byte b d at (suc at) (omega arith) s, eqb-other n);
-      ended = rw (eqb-other n) (wrong at refl refl);
+      ended = rw (eqb-other n) (wrong at refl refl (omega arith));
     }
 
 -- ---- a number
 
-look-digits : (n : ℕ) (b : List ℕ) (at x : ℕ) → Look (λ l. numberOn n l at x) b (at + min 1 n) (at + n) 1
+look-digits : (n : ℕ) (b : List ℕ) (at x : ℕ) → Look (λ l. numberOn n l at x) b at (at + min 1 n) (at + n) 1
 unfolding numberOn
-look-digits zero b at x = look-found (omega arith) (omega arith)
+look-digits zero b at x = look-found (omega arith) (omega arith) (omega arith)
 look-digits (suc n) b at x = go (T? (isDigit (byteAt b at))) (look-digits n b (suc at) (10 * x + (byteAt b at - 48)))
   where
     go : Dec (T (isDigit (byteAt b at)))
-        → Look (λ l. numberOn n l (suc at) (10 * x + (byteAt b at - 48))) b (suc at + min 1 n) (suc at + n) 1
-        → Look (λ l. numberOn (suc n) l at x) b (at + min 1 (suc n)) (at + suc n) 1
+        → Look (λ l. numberOn n l (suc at) (10 * x + (byteAt b at - 48))) b (suc at) (suc at + min 1 n) (suc at + n) 1
+        → Look (λ l. numberOn (suc n) l at x) b at (at + min 1 (suc n)) (at + suc n) 1
     go (yes k) I =
-        let J = look-more {from′ = at + min 1 (suc n)} {most′ = at + suc n} I (omega arith) (omega arith) in
+        let J = look-more {at′ = at} {from′ = at + min 1 (suc n)} {most′ = at + suc n} I (omega arith) (omega arith) (omega arith) in
         record {
           upto = J .upto;
           begun = J .begun;
@@ -157,23 +164,23 @@ look-digits (suc n) b at x = go (T? (isDigit (byteAt b at))) (look-digits n b (s
       begun = omega arith;
       few = omega arith;
       same = λ d s. rw (same-byte b d at (suc at) (omega arith) s, nT→false (isDigit (byteAt b at)) k);
-      ended = rw (nT→false (isDigit (byteAt b at)) k) (omega arith, omega arith);
+      ended = rw (nT→false (isDigit (byteAt b at)) k) (omega arith, (omega arith, omega arith));
     }
 
-pub look-number : (b : List ℕ) (at : ℕ) → Look (λ l. numberAt l at) b (suc at) (at + 5) 1
+pub look-number : (b : List ℕ) (at : ℕ) → Look (λ l. numberAt l at) b at (suc at) (at + 5) 1
 unfolding numberAt
 look-number b at = go (ℕ-discrete (byteAt b at) 48) (T? (isDigit (byteAt b at)))
   where
     first : (d : List ℕ) (n : ℕ) → suc at ≤ n → take n d ≡ take n b → byteAt d at ≡ byteAt b at
     first d n h s = same-byte b d at n h s
 
-    go : Dec (byteAt b at ≡ 48) → Dec (T (isDigit (byteAt b at))) → Look (λ l. numberAt l at) b (suc at) (at + 5) 1
+    go : Dec (byteAt b at ≡ 48) → Dec (T (isDigit (byteAt b at))) → Look (λ l. numberAt l at) b at (suc at) (at + 5) 1
     go (yes z) t = record {
       upto = suc at;
       begun = omega arith;
       few = omega arith;
       same = λ d s. rw (first d (suc at) (omega arith) s, eqb-same z);
-      ended = rw (eqb-same z) (omega arith, omega arith);
+      ended = rw (eqb-same z) (omega arith, (omega arith, omega arith));
     }
     go (no z) (yes t) =
         let I = look-digits 5 b at 0 in
@@ -189,18 +196,24 @@ look-number b at = go (ℕ-discrete (byteAt b at) 48) (T? (isDigit (byteAt b at)
       begun = omega arith;
       few = omega arith;
       same = λ d s. rw (first d (suc at) (omega arith) s, eqb-other z, nT→false (isDigit (byteAt b at)) t);
-      ended = rw (eqb-other z, nT→false (isDigit (byteAt b at)) t) (wrong at refl refl);
+      ended = rw (eqb-other z, nT→false (isDigit (byteAt b at)) t) (wrong at refl refl (omega arith));
     }
 
 -- ---- a field
 
-pub look-field : (w : List ℕ) (c : ℕ) (e b : List ℕ) (at : ℕ) → Look (λ l. field w (c ∷ e) l at) b (begin w at) (at + length w + 5 + length (c ∷ e)) 0
+-- a number, and the word after it, which tells where the number ends
+pub look-tail : (c : ℕ) (e b : List ℕ) (at : ℕ) → Look (λ l. after (numberAt l at) (λ x at. after (word (c ∷ e) l at) (λ _ at. found x at))) b at (suc at)
+    (at + 5 + length (c ∷ e)) 0
+look-tail c e b at =
+    look-after (look-number b at) (omega arith) (λ x next _ i k.
+    look-after (look-more {most′ = next + length (c ∷ e)} (look-word (c ∷ e) b next) (omega arith) (omega arith) (omega arith)) (omega arith) (λ _ last _ j h.
+    look-found (omega arith) (omega arith) (omega arith)))
+
+pub look-field : (w : List ℕ) (c : ℕ) (e b : List ℕ) (at : ℕ)
+    → Look (λ l. field w (c ∷ e) l at) b at (begin w at) (at + length w + 5 + length (c ∷ e)) 0
 unfolding field
 look-field w c e b at =
-    look-after (look-word w b at) (omega arith) (λ _ mid _ m.
-    look-after (look-more {most′ = mid + 5} (look-number b mid) (omega arith) (omega arith)) (omega arith) (λ x next _ k.
-    look-after (look-more {most′ = next + length (c ∷ e)} (look-word (c ∷ e) b next) (omega arith) (omega arith)) (omega arith) (λ _ last _ h.
-    look-found (omega arith) (omega arith))))
+    look-after (look-word w b at) (omega arith) (λ _ mid _ i m. look-more (look-tail c e b mid) (omega arith) (omega arith) (omega arith))
 
 -- a field that was found before a line feed ends its line
 feed-end : (b : List ℕ) (at : ℕ) {x end : ℕ} → word (10 ∷ []) b at ≡ found x end → LineEnd b end

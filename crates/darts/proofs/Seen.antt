@@ -43,17 +43,17 @@ pub record Seen (room : ℕ → Bool) (b : List ℕ) : Type 0 where
 
 -- ---- a fault of the lines is one of the file
 
-stop-cause : {b : List ℕ} {upto : ℕ} {a : Answer} → Stop b upto a → Cause b upto a
-stop-cause (wrong p e k) = wrong-byte p e k
+stop-cause : {b : List ℕ} {at upto : ℕ} {a : Answer} → Stop b at upto a → Cause b upto a
+stop-cause (wrong p e k h) = wrong-byte p e k
 stop-cause (flag e k) = wrong-flag e k
 stop-cause (empty e l) = empty-kernel e l
 stop-cause (many e l) = many-levels e l
 
-closed-told : (o : Opening) {f : List ℕ → Scan Body} {b : List ℕ} {from most slack : ℕ} (L : Look f b from most slack) → Told b (L .upto) (closed o (f b))
+closed-told : (o : Opening) {f : List ℕ → Scan Body} {b : List ℕ} {at from most slack : ℕ} (L : Look f b at from most slack) → Told b (L .upto) (closed o (f b))
 unfolding closed
-closed-told o {f} {b} {most = most} {slack} L = go (f b) (L .ended)
+closed-told o {f} {b} {at} {most = most} {slack} L = go (f b) (L .ended)
   where
-    go : (r : Scan Body) → Ended b (L .upto) most slack r → Told b (L .upto) (closed o r)
+    go : (r : Scan Body) → Ended b at (L .upto) most slack r → Told b (L .upto) (closed o r)
     go (fault a) e = stop-cause e
     go (found c end) e = judged (T? (isPyramid s t past))
       where
@@ -87,10 +87,10 @@ module _ (room : ℕ → Bool) (b : List ℕ) where
   unfolding readFile opened
   seen = go (opening b) refl (look-opening b .ended)
     where
-      O : Look opening b 0 22 0
+      O : Look opening b 0 0 22 0
       O = look-opening b
 
-      go : (r : Scan Opening) → opening b ≡ r → Ended b (O .upto) 22 0 r → Seen room b
+      go : (r : Scan Opening) → opening b ≡ r → Ended b 0 (O .upto) 22 0 r → Seen room b
       go (fault a) k e = record {
         upto = O .upto;
         few = λ E h. omega (arith, O .few);
@@ -105,13 +105,13 @@ module _ (room : ℕ → Bool) (b : List ℕ) where
           tests : Dec (T (dartCount (o .darts))) → Dec (T (room (o .darts))) → Seen room b
           tests (no n) f = record {
             upto = at;
-            few = λ E h. omega (arith, e .1);
+            few = λ E h. omega (arith, e .1 .0);
             same = λ c s. rw (here at (omega arith) c s, k, nT→false (dartCount (o .darts)) n);
             told = rw (k, nT→false (dartCount (o .darts)) n) (no-count refl (opening-end k));
           }
           tests (yes d) (no n) = record {
             upto = at;
-            few = λ E h. omega (arith, e .1);
+            few = λ E h. omega (arith, e .1 .0);
             same = λ c s. rw (here at (omega arith) c s, k, T→true (dartCount (o .darts)) d, nT→false (room (o .darts)) n);
             told = rw (k, T→true (dartCount (o .darts)) d, nT→false (room (o .darts)) n) (too-short refl (opening-end k));
           }
@@ -119,7 +119,7 @@ module _ (room : ℕ → Bool) (b : List ℕ) where
               let B = look-body (o .darts) b at in
               record {
                 upto = B .upto;
-                few = λ E h. omega (arith, e .1, B .few, h (o .darts) f);
+                few = λ E h. omega (arith, e .1 .0, B .few, h (o .darts) f);
                 same = λ c s.
                     rw (here (B .upto) (B .begun) c s, k, T→true (dartCount (o .darts)) d, T→true (room (o .darts)) f) (ap (closed o) (B .same c s));
                 told = rw (k, T→true (dartCount (o .darts)) d, T→true (room (o .darts)) f) (closed-told o B);
