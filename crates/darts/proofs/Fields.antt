@@ -132,9 +132,9 @@ figures-on (suc n) {x} {w} {b} {at} {y} {end} d s h e = go (T? (isDigit (byteAt 
         figures-more c byte (rest c (omega arith) (byte-inside b at (omega arith)) (rw (T→true (isDigit (byteAt b at)) t) at e))
     go (no f) rest = figures-none (suc n) d h (rw (nT→false (isDigit (byteAt b at)) f) at e)
 
-record Number (b : List ℕ) (at x end : ℕ) : Type 0 where
-  there : Between b at (decimal x) end
-  bound : x ≤ 99999
+pub record Number (b : List ℕ) (at x end : ℕ) : Type 0 where
+  pub there : Between b at (decimal x) end
+  pub bound : x ≤ 99999
 
 number-there : {b : List ℕ} {at x end : ℕ} {w : List ℕ} → Decimal x w → length w ≤ 5 → Between b at w end → Number b at x end
 number-there d few B = record { there = rw (decimal-only d few) B; bound = decimal-bound d few }
@@ -142,7 +142,7 @@ number-there d few B = record { there = rw (decimal-only d few) B; bound = decim
 first-there : {b : List ℕ} {at x end : ℕ} (c : ℕ) → byteAt b at ≡ 48 + c → Figures ((48 + c) ∷ []) b (suc at) x end 4 → Number b at x end
 first-there c byte F = number-there (F .digits) (omega (arith, F .few)) (between-cons byte (F .there))
 
-found-number : {b : List ℕ} {at x end : ℕ} → at ≤ length b → numberAt b at ≡ found x end → Number b at x end
+pub found-number : {b : List ℕ} {at x end : ℕ} → at ≤ length b → numberAt b at ≡ found x end → Number b at x end
 unfolding numberAt
 found-number {b} {at} {x} {end} h e = go (ℕ-discrete (byteAt b at) 48) (T? (isDigit (byteAt b at)))
   where

@@ -64,4 +64,6 @@ pub mod Judging
 pub mod Looks
 pub mod LooksLines
 pub mod Seen
+pub mod Mends
+pub mod MendsLines
 pub mod sentences

@@ -84,7 +84,7 @@ found-kind {b} {at} x {k} {end} h e = after-found (field (kindWord x) lineFeed b
         same-found (λ k end. Between b at (kindWord (k .kind) ++ (decimal (k .count) ++ lineFeed)) end × Counted k) (rw (eqb-other some) at rest)
         (F .there, record { some = omega arith; bound = F .bound })
 
-found-kernel : {b : List ℕ} {at : ℕ} {k : KernelLine} {end : ℕ} → at ≤ length b → kernelAt b at ≡ found k end → Line b at k end
+pub found-kernel : {b : List ℕ} {at : ℕ} {k : KernelLine} {end : ℕ} → at ≤ length b → kernelAt b at ≡ found k end → Line b at k end
 unfolding kernelAt countLine
 found-kernel {b} {at} {k} {end} h e = after-found (word (bytes "kernel=") b at) _ e (λ _ mid first rest.
     let W = found-word (bytes "kernel=") tt h first in
@@ -140,7 +140,7 @@ pair-parts : (x y : ℕ) (xs : List ℕ) → pairLines (x ∷ y ∷ xs) ≡ (byt
 unfolding pairLines
 pair-parts x y xs = simp append-assoc
 
-no-digit-space : isDigit 32 ≡ false
+pub no-digit-space : isDigit 32 ≡ false
 unfolding isDigit
 no-digit-space = refl
 

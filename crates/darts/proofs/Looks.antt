@@ -142,7 +142,7 @@ look-word (c ∷ w) b at = go (ℕ-discrete (byteAt b at) c) (look-word w b (suc
 
 -- ---- a number
 
-look-digits : (n : ℕ) (b : List ℕ) (at x : ℕ) → Look (λ l. numberOn n l at x) b at (at + min 1 n) (at + n) 1
+pub look-digits : (n : ℕ) (b : List ℕ) (at x : ℕ) → Look (λ l. numberOn n l at x) b at (at + min 1 n) (at + n) 1
 unfolding numberOn
 look-digits zero b at x = look-found (omega arith) (omega arith) (omega arith)
 look-digits (suc n) b at x = go (T? (isDigit (byteAt b at))) (look-digits n b (suc at) (10 * x + (byteAt b at - 48)))

@@ -21,7 +21,7 @@ use Rattle.darts.proofs.Looks.{LineEnd, Look, Ended, wrong, flag, empty
 
 -- ---- the first two lines
 
-look-flag : (b : List ℕ) → Look (λ l. flagAt l 8) b 8 8 9 0
+pub look-flag : (b : List ℕ) → Look (λ l. flagAt l 8) b 8 8 9 0
 unfolding flagAt
 look-flag b = record {
   upto = 9;
@@ -52,7 +52,7 @@ look-opening b =
 -- ---- the kernel lines
 
 -- a count of 0 is told by the end of its line
-look-count : (k : Kind) (b : List ℕ) (n at most : ℕ) → LineEnd b at → at ≤ most
+pub look-count : (k : Kind) (b : List ℕ) (n at most : ℕ) → LineEnd b at → at ≤ most
     → Look {A = KernelLine} (λ _. if eqb n 0 then fault emptyKernel else found (record { kind = k; count = n }) at) b at (at + 0) most 0
 look-count k b n at most e h = go (ℕ-discrete n 0)
   where
@@ -60,7 +60,7 @@ look-count k b n at most e h = go (ℕ-discrete n 0)
     go (yes z) = rw (eqb-same z) (look-fault {upto = at} (omega arith) (omega arith) (empty refl e))
     go (no z) = rw (eqb-other z) (look-found (omega arith) (omega arith) (omega arith))
 
-look-kind : (k : Kind) (b : List ℕ) (at : ℕ) → Look (λ l. kernelOfKind k l at) b at (suc at) (at + 15) 0
+pub look-kind : (k : Kind) (b : List ℕ) (at : ℕ) → Look (λ l. kernelOfKind k l at) b at (suc at) (at + 15) 0
 unfolding kernelOfKind kindWord
 look-kind contraction b at =
     look-after (look-more {most′ = at + 15} (look-field (bytes "contract ") 10 [] b at) (omega arith) (omega arith) (omega arith)) (omega arith) (λ n end e _ h.
@@ -70,7 +70,7 @@ look-kind removal b at =
     look-count removal b n end (at + 15) (field-end (bytes "remove ") b at e) h)
 
 -- the letter that tells the kind is the first byte of its word
-look-letter : (b : List ℕ) (at : ℕ)
+pub look-letter : (b : List ℕ) (at : ℕ)
     → Look (λ l. if eqb (byteAt l at) 99 then kernelOfKind contraction l at else kernelOfKind removal l at) b at (suc at) (at + 15) 0
 look-letter b at = go (ℕ-discrete (byteAt b at) 99)
   where
@@ -95,13 +95,13 @@ look-letter b at = go (ℕ-discrete (byteAt b at) 99)
           ended = rw (eqb-other n) (K .ended);
         }
 
-look-kernel : (b : List ℕ) (at : ℕ) → Look (λ l. kernelAt l at) b at at (at + 22) 0
+pub look-kernel : (b : List ℕ) (at : ℕ) → Look (λ l. kernelAt l at) b at at (at + 22) 0
 unfolding kernelAt
 look-kernel b at =
     look-after (look-more {most′ = at + 7} (look-word (bytes "kernel=") b at) (omega arith) (omega arith) (omega arith)) (omega arith) (λ _ mid _ _ h.
     look-more (look-letter b mid) (omega arith) (omega arith) (omega arith))
 
-look-kernels : (n : ℕ) (b : List ℕ) (at : ℕ) → Look (λ l. kernelsAt n l at) b at at (at + 22 * n) 0
+pub look-kernels : (n : ℕ) (b : List ℕ) (at : ℕ) → Look (λ l. kernelsAt n l at) b at at (at + 22 * n) 0
 unfolding kernelsAt
 look-kernels zero b at = look-found (omega arith) (omega arith) (omega arith)
 look-kernels (suc n) b at =
@@ -111,7 +111,7 @@ look-kernels (suc n) b at =
 
 -- ---- the pair lines, and the end
 
-look-pairs : (n : ℕ) (b : List ℕ) (at : ℕ) → Look (λ l. pairsAt n l at) b at at (at + 17 * n) 0
+pub look-pairs : (n : ℕ) (b : List ℕ) (at : ℕ) → Look (λ l. pairsAt n l at) b at at (at + 17 * n) 0
 unfolding pairsAt
 look-pairs zero b at = look-found (omega arith) (omega arith) (omega arith)
 look-pairs (suc n) b at =
@@ -128,7 +128,7 @@ end-same b d at s =
     (λ t. let e = eqb→eq at (length d) t in eqb-iff at (length b) .1 (omega arith))
     (λ t. let e = eqb→eq at (length b) t in eqb-iff at (length d) .1 (omega arith))
 
-look-end : (c : Body) (b : List ℕ) (at : ℕ) → Look (λ l. endAt c l at) b at at at 1
+pub look-end : (c : Body) (b : List ℕ) (at : ℕ) → Look (λ l. endAt c l at) b at at at 1
 unfolding endAt
 look-end c b at = record {
   upto = suc at;
@@ -144,7 +144,7 @@ look-end c b at = record {
 
 -- ---- the body
 
-look-lines : (D L : ℕ) (b : List ℕ) (at : ℕ) → L ≤ 64
+pub look-lines : (D L : ℕ) (b : List ℕ) (at : ℕ) → L ≤ 64
     → Look (λ l. after (kernelsAt L l at) (λ ks at. after (pairsAt (D / 2) l at) (λ xs at. endAt (record { kernels = ks; numbers = xs }) l at)))
     b at at (at + 1408 + 17 * (D / 2)) 1
 look-lines D L b at h =

@@ -75,11 +75,11 @@ flag-found {b} {at} F {end} h B = go (ℕ-discrete F 0)
         let e : byteAt b at ≡ 49 = omega (arith, byte) in
         rw (e, z, last)
 
-record Flag (b : List ℕ) (at F end : ℕ) : Type 0 where
-  there : Between b at ((48 + F) ∷ []) end
-  bound : F ≤ 1
+pub record Flag (b : List ℕ) (at F end : ℕ) : Type 0 where
+  pub there : Between b at ((48 + F) ∷ []) end
+  pub bound : F ≤ 1
 
-found-flag : {b : List ℕ} {at F end : ℕ} → flagAt b at ≡ found F end → Flag b at F end
+pub found-flag : {b : List ℕ} {at F end : ℕ} → flagAt b at ≡ found F end → Flag b at F end
 unfolding flagAt
 found-flag {b} {at} {F} {end} e = go (ℕ-discrete (byteAt b at) 48) (ℕ-discrete (byteAt b at) 49) (ℕ-discrete (byteAt b at) 256)
   where

@@ -8,3 +8,4 @@ pub mod LineEnds
 pub mod LastLine
 pub mod Writing
 pub mod FileRows
+pub mod WrongByte
