@@ -5,20 +5,18 @@
 --   seen           == so it is
 --   seen-cause     == the cause of a faulty file's answer
 use mathlib.Core.Bool.{Bool}
-use mathlib.Core.List.{List, [], _∷_, map, reverse}
-use mathlib.Core.Path.{_≡_, refl, ap, _∙_, subst}
+use mathlib.Core.List.{List, [], _∷_}
+use mathlib.Core.Path.{_≡_, refl, sym, ap, _∙_, subst}
 use Prim.Native.Nat.{ℕ, suc, _+_, _*_, _/_, _≤_}
 use native.Mathlib.Omega.{arith}
 use lib.Dec.{T}
 use lib.ListN.{take}
-use Rattle.permutations.specs.Choice.{T?, T→true, nT→false}
 use Rattle.darts.specs.Answers.{Answer, answered}
-use Rattle.darts.specs.State.{State}
-use Rattle.darts.specs.Pyramid.{dartCount, isPyramid}
 use Rattle.darts.specs.Text.{bytes}
 use Rattle.darts.specs.Scan.{Scan, found, fault, word, field}
-use Rattle.darts.specs.Read.{Opening, Body, flagAt, opening, fromFlag, fileState, fileHistory, Read, means, faulty, closed, opened, readFile}
+use Rattle.darts.specs.Read.{Opening, Body, flagAt, opening, Read, means, faulty, closed, opened, readFile}
 use Rattle.darts.proofs.Words.{after-found, same-found}
+use Rattle.darts.proofs.Meanings.{Closing, stands, falls, closing, DartsJudged, uncounted, cramped, goes-on, opened-uncounted, opened-cramped, opened-on, darts-judged}
 use Rattle.darts.proofs.Looks.{LineEnd, Look, Ended, Stop, wrong, flag, empty, many, same-less, field-end}
 use Rattle.darts.proofs.LooksLines.{look-opening, look-body}
 
@@ -49,26 +47,18 @@ stop-cause (flag e k) = wrong-flag e k
 stop-cause (empty e l) = empty-kernel e l
 stop-cause (many e l) = many-levels e l
 
-closed-told : (o : Opening) {f : List ℕ → Scan Body} {b : List ℕ} {at from most slack : ℕ} (L : Look f b at from most slack) → Told b (L .upto) (closed o (f b))
+closed-told : (o : Opening) {f : List ℕ → Scan Body} {b : List ℕ} {at from most slack : ℕ} (L : Look f b at from most slack)
+    → Told b (L .upto) (closed o (f b))
 unfolding closed
 closed-told o {f} {b} {at} {most = most} {slack} L = go (f b) (L .ended)
   where
+    last : {c : Body} {end : ℕ} → Closing o c end → Told b (L .upto) (closed o (found c end))
+    last (stands (p, k)) = rw k tt
+    last (falls k) = rw k (no-pyramid refl)
+
     go : (r : Scan Body) → Ended b at (L .upto) most slack r → Told b (L .upto) (closed o r)
     go (fault a) e = stop-cause e
-    go (found c end) e = judged (T? (isPyramid s t past))
-      where
-        s : State
-        s = fileState (o .darts) (c .kernels)
-
-        t : List ℕ
-        t = map (fromFlag (o .flag) (o .darts)) (c .numbers)
-
-        past : List ℕ
-        past = reverse (fileHistory (c .kernels))
-
-        judged : Dec (T (isPyramid s t past)) → Told b (L .upto) (closed o (found c end))
-        judged (yes p) = rw (T→true (isPyramid s t past) p) tt
-        judged (no n) = rw (nT→false (isPyramid s t past) n) (no-pyramid refl)
+    go (found c end) e = last (closing o c end)
 
 -- "each ended by one line feed"
 opening-end : {b : List ℕ} {o : Opening} {at : ℕ} → opening b ≡ found o at → LineEnd b at
@@ -97,32 +87,31 @@ module _ (room : ℕ → Bool) (b : List ℕ) where
         same = λ c s. rw (O .same c s, k);
         told = rw k (stop-cause e);
       }
-      go (found o at) k e = tests (T? (dartCount (o .darts))) (T? (room (o .darts)))
+      go (found o at) k e = tests (darts-judged room b o at)
         where
           here : (n : ℕ) → at ≤ n → (c : List ℕ) → take n c ≡ take n b → opening c ≡ found o at
           here n h c s = O .same c (same-less b c (O .upto) n (omega (arith, e .0)) s) ∙ k
 
-          tests : Dec (T (dartCount (o .darts))) → Dec (T (room (o .darts))) → Seen room b
-          tests (no n) f = record {
+          tests : DartsJudged room b o at → Seen room b
+          tests (uncounted n i) = record {
             upto = at;
             few = λ E h. omega (arith, e .1 .0);
-            same = λ c s. rw (here at (omega arith) c s, k, nT→false (dartCount (o .darts)) n);
-            told = rw (k, nT→false (dartCount (o .darts)) n) (no-count refl (opening-end k));
+            same = λ c s. rw (here at (omega arith) c s, k) (opened-uncounted room c o at n ∙ sym i);
+            told = rw (k, i) (no-count refl (opening-end k));
           }
-          tests (yes d) (no n) = record {
+          tests (cramped d n i) = record {
             upto = at;
             few = λ E h. omega (arith, e .1 .0);
-            same = λ c s. rw (here at (omega arith) c s, k, T→true (dartCount (o .darts)) d, nT→false (room (o .darts)) n);
-            told = rw (k, T→true (dartCount (o .darts)) d, nT→false (room (o .darts)) n) (too-short refl (opening-end k));
+            same = λ c s. rw (here at (omega arith) c s, k) (opened-cramped room c o at d n ∙ sym i);
+            told = rw (k, i) (too-short refl (opening-end k));
           }
-          tests (yes d) (yes f) =
+          tests (goes-on d f i) =
               let B = look-body (o .darts) b at in
               record {
                 upto = B .upto;
                 few = λ E h. omega (arith, e .1 .0, B .few, h (o .darts) f);
-                same = λ c s.
-                    rw (here (B .upto) (B .begun) c s, k, T→true (dartCount (o .darts)) d, T→true (room (o .darts)) f) (ap (closed o) (B .same c s));
-                told = rw (k, T→true (dartCount (o .darts)) d, T→true (room (o .darts)) f) (closed-told o B);
+                same = λ c s. rw (here (B .upto) (B .begun) c s, k) (opened-on room c o at d f ∙ ap (closed o) (B .same c s) ∙ sym i);
+                told = rw (k, i) (closed-told o B);
               }
 
   pub seen-cause : {D : ℕ} {a : Answer} → readFile room b ≡ faulty D a → Cause b (seen .upto) a

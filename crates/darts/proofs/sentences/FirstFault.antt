@@ -2,27 +2,18 @@
 --   FirstFault b t h w == the first bytes of b, up to the fault, that tell what a refused read leaves
 --   first-fault        == a refused read is told by them
 --   wrong-byte-decides == where the bytes leave the file's form, those up to the wrong byte tell it
---   right-bytes-pass   == no byte is called wrong that a file in good form has there
 --   long-file          == with tables for 4,096 darts the first 65,536 bytes of a file tell it
-use mathlib.Core.List.{List, map, reverse}
+use mathlib.Core.List.{List}
 use mathlib.Core.Logic.{_≢_}
 use mathlib.Core.Path.{_≡_, refl, sym, ap, _∙_, subst}
-use Prim.Native.Nat.{ℕ, suc, _<_, _≤_}
-use native.Mathlib.Decide.{decLt}
+use Prim.Native.Nat.{ℕ, suc, _≤_}
 use native.Mathlib.Omega.{arith}
-use lib.Dec.{T}
 use lib.ListN.{length, take}
 use lib.Seq.{take-take}
-use Rattle.permutations.specs.Choice.{T?, T→true, nT→false}
 use Rattle.darts.specs.Answers.{Answer}
-use Rattle.darts.specs.State.{State}
-use Rattle.darts.specs.Pyramid.{dartCount, isPyramid}
-use Rattle.darts.specs.Read.{KernelLine, fromFlag, fileState, fileHistory, Read, means, faulty, readFile}
+use Rattle.darts.specs.Read.{Read, means, faulty, readFile}
 use Rattle.darts.specs.Calls.{readInto, read}
 use Rattle.darts.proofs.Fitting.{room-facts}
-use Rattle.darts.proofs.Texts.{GoodForm, textOf}
-use Rattle.darts.proofs.Meanings.{verdict, text-read}
-use Rattle.darts.proofs.Looks.{same-less}
 use Rattle.darts.proofs.Seen.{Cause, wrong-byte, wrong-flag, no-count, too-short, empty-kernel, many-levels, no-pyramid, Seen, seen, seen-cause}
 use Rattle.darts.proofs.sentences.FirstLines.{fits}
 
@@ -40,27 +31,6 @@ cause-place (too-short e l) n = let z = ap (λ a. a .number) e in absurd (omega 
 cause-place (empty-kernel e l) n = let z = ap (λ a. a .number) e in absurd (omega arith)
 cause-place (many-levels e l) n = let z = ap (λ a. a .number) e in absurd (omega arith)
 cause-place (no-pyramid e) n = let z = ap (λ a. a .number) e in absurd (omega arith)
-
--- a file in good form is answered 0, 1, 2 or 4
-text-formed : {F D : ℕ} {ks : List KernelLine} {xs : List ℕ} → GoodForm F D ks xs → (t h w : List ℕ) → read (textOf F D ks xs) t h w .answer .number ≢ 13
-unfolding read readInto verdict
-text-formed {F} {D} {ks} {xs} G t h w = rw (text-read (fits t h w) G) (go (T? (dartCount D)) (T? (fits t h w D)) (T? (isPyramid s u past)))
-  where
-    s : State
-    s = fileState D ks
-
-    u : List ℕ
-    u = map (fromFlag F D) xs
-
-    past : List ℕ
-    past = reverse (fileHistory ks)
-
-    go : Dec (T (dartCount D)) → Dec (T (fits t h w D)) → Dec (T (isPyramid s u past))
-        → readInto t h w (verdict (fits t h w) D s u past) .answer .number ≢ 13
-    go (no n) f p = rw (nT→false (dartCount D) n) (omega arith)
-    go (yes c) (no n) p = rw (T→true (dartCount D) c, nT→false (fits t h w D) n) (omega arith)
-    go (yes c) (yes f) (no n) = rw (T→true (dartCount D) c, T→true (fits t h w D) f, nT→false (isPyramid s u past) n) (omega arith)
-    go (yes c) (yes f) (yes p) = rw (T→true (dartCount D) c, T→true (fits t h w D) f, T→true (isPyramid s u past) p) (omega arith)
 
 module _ (b t h w : List ℕ) where
   abbrev S : Seen (fits t h w) b
@@ -89,23 +59,6 @@ module _ (b t h w : List ℕ) where
   wrong-byte-decides e c s =
       let F = first-fault (omega arith) in
       F .decides c (subst (λ n. take n c ≡ take n b) (sym (cause-place (F .cause) e)) s)
-
-  -- "first wrong byte": the bytes that a file in good form begins with are not wrong
-  pub right-bytes-pass : {F D : ℕ} {ks : List KernelLine} {xs : List ℕ} → GoodForm F D ks xs → read b t h w .answer .number ≡ 13 → (n : ℕ)
-      → take n b ≡ take n (textOf F D ks xs) → n ≤ read b t h w .answer .place
-  right-bytes-pass {F} {D} {ks} {xs} G e n s = go (decLt (read b t h w .answer .place) n)
-    where
-      p : ℕ
-      p = read b t h w .answer .place
-
-      text : List ℕ
-      text = textOf F D ks xs
-
-      go : Dec (p < n) → n ≤ p
-      go (yes k) =
-          let same = wrong-byte-decides e text (same-less b text (suc p) n k (sym s)) in
-          absurd (text-formed G t h w (ap (λ r. r .answer .number) same ∙ e))
-      go (no k) = omega arith
 
   -- "Program `levels` reads a file on standard input with tables for 4,096 darts.": 65,536 bytes of it are enough
   pub long-file : length t ≤ 4096 → read (take 65536 b) t h w ≡ read b t h w

@@ -14,7 +14,6 @@ use Prim.Native.Nat.{ℕ, _+_, _≤_}
 use native.Mathlib.Omega.{arith}
 use lib.Dec.{T}
 use lib.ListN.{length, length-append}
-use Rattle.permutations.specs.Choice.{T→true, nT→false}
 use Rattle.darts.specs.Answers.{answered, noDartCount, tooShort}
 use Rattle.darts.specs.Pyramid.{dartCount}
 use Rattle.darts.specs.Text.{bytes, decimal}
@@ -25,6 +24,7 @@ use Rattle.darts.specs.Calls.{room, readInto, read}
 use Rattle.darts.proofs.Fitting.{Count, Lengths, count-test, room-test}
 use Rattle.darts.proofs.Words.{Between, between-all, between-split}
 use Rattle.darts.proofs.Texts.{openingText, opening-found, found-opening}
+use Rattle.darts.proofs.Meanings.{opened-uncounted, opened-cramped, opened-on}
 
 -- "1. `numbers=F`." "2. `darts=D`." "each ended by one line feed"
 pub record FirstLines (b : List ℕ) (F D : ℕ) : Type 0 where
@@ -65,17 +65,20 @@ opening-lines {b} {o} {at} e =
 
 -- "D (1, then 2)"
 module _ (room : ℕ → Bool) {b : List ℕ} {F D : ℕ} (L : FirstLines b F D) where
+  abbrev O : Opened b F D (L .rest)
+  O = lines-opening L
+
   pub lines-uncounted : ¬ (T (dartCount D)) → readFile room b ≡ faulty 0 noDartCount
-  unfolding readFile opened
-  lines-uncounted n = rw (lines-opening L .opens, nT→false (dartCount D) n)
+  unfolding readFile
+  lines-uncounted n = ap (opened room b) (O .opens) ∙ opened-uncounted room b (told F D) (O .at) n
 
   pub lines-cramped : T (dartCount D) → ¬ (T (room D)) → readFile room b ≡ faulty 0 tooShort
-  unfolding readFile opened
-  lines-cramped c n = rw (lines-opening L .opens, T→true (dartCount D) c, nT→false (room D) n)
+  unfolding readFile
+  lines-cramped c n = ap (opened room b) (O .opens) ∙ opened-cramped room b (told F D) (O .at) c n
 
   pub lines-closed : T (dartCount D) → T (room D) → readFile room b ≡ closed (told F D) (body D b (lines-opening L .at))
-  unfolding readFile opened
-  lines-closed c r = rw (lines-opening L .opens, T→true (dartCount D) c, T→true (room D) r)
+  unfolding readFile
+  lines-closed c r = ap (opened room b) (O .opens) ∙ opened-on room b (told F D) (O .at) c r
 
 -- for how many darts the lent slices have room
 abbrev pub fits : List ℕ → List ℕ → List ℕ → ℕ → Bool

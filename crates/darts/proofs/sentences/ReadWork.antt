@@ -2,19 +2,16 @@
 --   Zeroed D v w == v is the work area w with its first 4D numbers zero
 --   read-clears  == where D is known, its part of the work area is zero after any read
 --   read-keeps   == where it is not, or 1 or 2 is answered, the work area is as it was
-use mathlib.Core.List.{List, map, reverse}
+use mathlib.Core.List.{List}
 use mathlib.Core.Path.{_≡_, refl, ap, _∙_}
 use Prim.Native.Nat.{ℕ, _*_, _≤_}
-use lib.Dec.{T}
 use lib.ListN.{length, take, drop, replicate}
-use Rattle.permutations.specs.Choice.{T?, T→true, nT→false}
-use Rattle.darts.specs.State.{State}
-use Rattle.darts.specs.Pyramid.{dartCount, isPyramid}
 use Rattle.darts.specs.Scan.{Scan, found, fault}
-use Rattle.darts.specs.Read.{Opening, Body, opening, body, fromFlag, fileState, fileHistory, closed, opened, readFile}
+use Rattle.darts.specs.Read.{Opening, Body, opening, body, fileState, closed, opened, readFile}
 use Rattle.darts.specs.Calls.{cleared, readInto, read}
 use Rattle.darts.proofs.Fitting.{Count, Lengths, count-facts, count-test, room-facts, room-test}
 use Rattle.darts.proofs.Over.{cleared-is, cleared-zero, cleared-rest, cleared-length}
+use Rattle.darts.proofs.Meanings.{Closing, stands, falls, closing, DartsJudged, uncounted, cramped, goes-on, darts-judged}
 use Rattle.darts.proofs.sentences.FirstLines.{FirstLines, fits, told, lines-opening, opening-lines, lines-closed}
 
 pub record Zeroed (D : ℕ) (v w : List ℕ) : Type 0 where
@@ -29,20 +26,11 @@ zeroed D w h = record { zeros = cleared-zero D w; rest = cleared-rest D w; size 
 closed-work : (t h w : List ℕ) (o : Opening) (r : Scan Body) → readInto t h w (closed o r) .work ≡ cleared (o .darts) w
 unfolding readInto closed fileState
 closed-work t h w o (fault a) = refl
-closed-work t h w o (found c end) = go (T? (isPyramid s u past))
+closed-work t h w o (found c end) = go (closing o c end)
   where
-    s : State
-    s = fileState (o .darts) (c .kernels)
-
-    u : List ℕ
-    u = map (fromFlag (o .flag) (o .darts)) (c .numbers)
-
-    past : List ℕ
-    past = reverse (fileHistory (c .kernels))
-
-    go : Dec (T (isPyramid s u past)) → readInto t h w (closed o (found c end)) .work ≡ cleared (o .darts) w
-    go (yes p) = rw (T→true (isPyramid s u past) p)
-    go (no n) = rw (nT→false (isPyramid s u past) n)
+    go : Closing o c end → readInto t h w (closed o (found c end)) .work ≡ cleared (o .darts) w
+    go (stands (p, k)) = ap (λ r. readInto t h w r .work) k
+    go (falls k) = ap (λ r. readInto t h w r .work) k
 
 module _ (b t h w : List ℕ) where
   -- accepted, and whatever fault is in the body
@@ -63,10 +51,10 @@ module _ (b t h w : List ℕ) where
 
       go : (r : Scan Opening) → opening b ≡ r → readInto t h w (opened (fits t h w) b r) .work ≡ w
       go (fault a) e = none
-      go (found o at) e = tests (T? (dartCount (o .darts))) (T? (fits t h w (o .darts)))
+      go (found o at) e = tests (darts-judged (fits t h w) b o at)
         where
-          tests : Dec (T (dartCount (o .darts))) → Dec (T (fits t h w (o .darts))) → readInto t h w (opened (fits t h w) b (found o at)) .work ≡ w
-          tests (no n) r = rw (nT→false (dartCount (o .darts)) n) none
-          tests (yes c) (no n) = rw (T→true (dartCount (o .darts)) c, nT→false (fits t h w (o .darts)) n) none
-          tests (yes c) (yes r) =
+          tests : DartsJudged (fits t h w) b o at → readInto t h w (opened (fits t h w) b (found o at)) .work ≡ w
+          tests (uncounted n k) = ap (λ r. readInto t h w r .work) k ∙ none
+          tests (cramped c n k) = ap (λ r. readInto t h w r .work) k ∙ none
+          tests (goes-on c r k) =
               absurd (late (o .flag) (o .darts) (opening-lines e) (count-facts (o .darts) c) (room-facts (length t) (length h) (length w) (o .darts) r))
