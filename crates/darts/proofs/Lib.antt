@@ -69,3 +69,8 @@ pub mod Judging
 pub mod sentences
 pub mod chained
 pub mod Outcomes
+pub mod Looks
+pub mod LooksLines
+pub mod Seen
+pub mod Mends
+pub mod MendsLines
