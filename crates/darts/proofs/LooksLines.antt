@@ -60,7 +60,7 @@ look-count k b n at most e h = go (ℕ-discrete n 0)
     go (yes z) = rw (eqb-same z) (look-fault {upto = at} (omega arith) (omega arith) (empty refl e))
     go (no z) = rw (eqb-other z) (look-found (omega arith) (omega arith) (omega arith))
 
-pub look-kind : (k : Kind) (b : List ℕ) (at : ℕ) → Look (λ l. kernelOfKind k l at) b at (suc at) (at + 15) 0
+look-kind : (k : Kind) (b : List ℕ) (at : ℕ) → Look (λ l. kernelOfKind k l at) b at (suc at) (at + 15) 0
 unfolding kernelOfKind kindWord
 look-kind contraction b at =
     look-after (look-more {most′ = at + 15} (look-field (bytes "contract ") 10 [] b at) (omega arith) (omega arith) (omega arith)) (omega arith) (λ n end e _ h.

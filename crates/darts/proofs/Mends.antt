@@ -235,7 +235,7 @@ module _ (c : ℕ) (e : List ℕ) (stop : isDigit c ≡ false) (small : T (allBy
             subst (Mend (tail at) b at 0) here
             (record { late = on; inside = i; byte = c ∷ []; few = omega arith; past = rw same (close-past c e x v end byte) })
 
-    pub mend-tail : Mends (tail at) b at 0
+    mend-tail : Mends (tail at) b at 0
     mend-tail p all = go (numberAt b at) refl all
       where
         go : (r : Scan ℕ) → numberAt b at ≡ r → after r (λ x at. after (word (c ∷ e) b at) (λ _ at. found x at)) ≡ fault (answered 13 p)

@@ -4,8 +4,10 @@
 --   Seen room b    == the first `upto` bytes tell what the file b means: at most 1,444, and 17 for each pair that the slices have room for
 --   seen           == so it is
 --   seen-cause     == the cause of a faulty file's answer
+--   seen-refused   == it is not answered 0
 use mathlib.Core.Bool.{Bool}
 use mathlib.Core.List.{List, [], _∷_}
+use mathlib.Core.Logic.{_≢_}
 use mathlib.Core.Path.{_≡_, refl, sym, ap, _∙_, subst}
 use Prim.Native.Nat.{ℕ, suc, _+_, _*_, _/_, _≤_}
 use native.Mathlib.Omega.{arith}
@@ -38,6 +40,16 @@ pub record Seen (room : ℕ → Bool) (b : List ℕ) : Type 0 where
   pub few : (E : ℕ) → ((D : ℕ) → T (room D) → D ≤ E) → upto ≤ 1444 + 17 * (E / 2)
   pub same : (c : List ℕ) → take upto c ≡ take upto b → readFile room c ≡ readFile room b
   pub told : Told b upto (readFile room b)
+
+-- no fault is answered 0
+cause-some : {b : List ℕ} {upto : ℕ} {a : Answer} → Cause b upto a → a .number ≢ 0
+cause-some (wrong-byte p e k) z = omega (arith, ap (λ a. a .number) e)
+cause-some (wrong-flag e k) z = omega (arith, ap (λ a. a .number) e)
+cause-some (no-count e l) z = omega (arith, ap (λ a. a .number) e)
+cause-some (too-short e l) z = omega (arith, ap (λ a. a .number) e)
+cause-some (empty-kernel e l) z = omega (arith, ap (λ a. a .number) e)
+cause-some (many-levels e l) z = omega (arith, ap (λ a. a .number) e)
+cause-some (no-pyramid e) z = omega (arith, ap (λ a. a .number) e)
 
 -- ---- a fault of the lines is one of the file
 
@@ -116,3 +128,6 @@ module _ (room : ℕ → Bool) (b : List ℕ) where
 
   pub seen-cause : {D : ℕ} {a : Answer} → readFile room b ≡ faulty D a → Cause b (seen .upto) a
   seen-cause e = subst (Told b (seen .upto)) e (seen .told)
+
+  pub seen-refused : {D : ℕ} {a : Answer} → readFile room b ≡ faulty D a → a .number ≢ 0
+  seen-refused e = cause-some (seen-cause e)

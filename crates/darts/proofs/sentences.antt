@@ -26,3 +26,4 @@ pub mod LastLine
 pub mod Writing
 pub mod FileRows
 pub mod WrongByte
+pub mod FileLength

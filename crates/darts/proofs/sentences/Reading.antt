@@ -10,7 +10,6 @@ use Prim.Native.Nat.{ℕ}
 use native.Mathlib.Omega.{arith}
 use lib.Dec.{T}
 use lib.ListN.{length, take, drop, replicate, length-reverse}
-use Rattle.darts.specs.Answers.{Answer}
 use Rattle.darts.specs.State.{State}
 use Rattle.darts.specs.Pyramid.{Pyramid}
 use Rattle.darts.specs.Read.{fileState, Read, means, faulty, readFile}
@@ -22,7 +21,7 @@ use Rattle.darts.proofs.Fitting.{Lengths, room-facts}
 use Rattle.darts.proofs.Over.{over-front, over-rest, over-length, cleared-length}
 use Rattle.darts.proofs.Judging.{Lent}
 use Rattle.darts.proofs.Meanings.{meaning}
-use Rattle.darts.proofs.Seen.{Cause, wrong-byte, wrong-flag, no-count, too-short, empty-kernel, many-levels, no-pyramid, seen-cause}
+use Rattle.darts.proofs.Seen.{seen-refused}
 use Rattle.darts.proofs.sentences.FirstLines.{fits}
 
 pub record Unread (r : After) (t h : List ℕ) : Type 0 where
@@ -39,7 +38,7 @@ pub record ReadIn (r : After) (t h w : List ℕ) : Type 0 where
   pub history-length : length (r .history) ≡ length h
   pub work-length : length (r .work) ≡ length w
 
--- ---- accepted
+-- ---- what an accepted read leaves
 
 module _ {s : State} {u past : List ℕ} (P : Pyramid s u past) where
   size : length u ≡ s .darts
@@ -81,17 +80,7 @@ module _ {s : State} {u past : List ℕ} (P : Pyramid s u past) where
       work-length = work-length;
     }
 
--- ---- refused
-
--- no fault is answered 0
-cause-some : {b : List ℕ} {upto : ℕ} {a : Answer} → Cause b upto a → a .number ≢ 0
-cause-some (wrong-byte p e k) z = omega (arith, ap (λ a. a .number) e)
-cause-some (wrong-flag e k) z = omega (arith, ap (λ a. a .number) e)
-cause-some (no-count e l) z = omega (arith, ap (λ a. a .number) e)
-cause-some (too-short e l) z = omega (arith, ap (λ a. a .number) e)
-cause-some (empty-kernel e l) z = omega (arith, ap (λ a. a .number) e)
-cause-some (many-levels e l) z = omega (arith, ap (λ a. a .number) e)
-cause-some (no-pyramid e) z = omega (arith, ap (λ a. a .number) e)
+-- ---- accepted or refused
 
 module _ (b t h w : List ℕ) where
   -- "A refused start or read, which was given none, hands back a state of zeros." "The reader writes table and history only when it accepts"
@@ -114,7 +103,7 @@ module _ (b t h w : List ℕ) where
           let D : M .darts ≡ s .darts = sym (ap (λ s. s .darts) (M .state)) in
           let L = room-facts (length t) (length h) (length w) (s .darts) (subst (λ n. T (fits t h w n)) D (M .fits)) in
           read-in (pyramid-decided s u past .0 (M .pyramid)) t h w L
-      go (faulty D a) e z = absurd (cause-some (seen-cause (fits t h w) b e) z)
+      go (faulty D a) e z = absurd (seen-refused (fits t h w) b e z)
 
 -- ---- what is looked at
 
@@ -135,5 +124,5 @@ read-lengths b t h w t′ h′ w′ i j k = rw (i, j, k) (go (readFile (fits t h
         let P = pyramid-decided s u past .0 (meaning (fits t h w) b e .pyramid) in
         record { answer = refl; state = refl; table = λ z. front P t ∙ sym (front P t′); history = λ z. new P h ∙ sym (new P h′) }
     go (faulty D a) e =
-        let n = cause-some (seen-cause (fits t h w) b e) in
+        let n = seen-refused (fits t h w) b e in
         record { answer = refl; state = refl; table = λ z. absurd (n z); history = λ z. absurd (n z) }
