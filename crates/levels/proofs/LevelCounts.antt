@@ -27,7 +27,7 @@ use Rattle.darts.proofs.Room.{pyramid-room}
 use Rattle.darts.proofs.Undo.{unfold-pyramid}
 use Rattle.darts.proofs.Meanings.{meaning}
 use Rattle.darts.proofs.WriteRead.{write-read}
-use Rattle.pyramid.proofs.Fitting.{Lengths, count-facts, room-facts, fine, fits}
+use Rattle.darts.proofs.Fitting.{Lengths, count-facts, room-facts, fine, fits}
 use Rattle.pyramid.proofs.OnState.{taken}
 use Rattle.pyramid.proofs.CountsEnd.{counts-given}
 use Rattle.levels.specs.Report.{levelAt, countsAt, unfolded, counted, Tables, meant, topOf, countsGiven, countsOfLevel}
