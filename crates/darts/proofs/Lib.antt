@@ -61,3 +61,5 @@ pub mod FileInstances
 pub mod Fitting
 pub mod Over
 pub mod Judging
+pub mod Least
+pub mod Counting

@@ -33,7 +33,7 @@ use Rattle.engine.specs.declared.Cycles.{Cycles}
 use Rattle.engine.proofs.Area.{there-live}
 use Rattle.engine.proofs.Around.{ring-good, around-next, step-ring, step-perm}
 use Rattle.engine.proofs.Beside.{beside-table, beside-past, beside-area}
-use Rattle.engine.proofs.Least.{Least, lowest-least, lowest-same}
+use Rattle.darts.proofs.Least.{Least, lowest-least, lowest-same}
 use Rattle.engine.proofs.Parts.{successor-in}
 
 -- ---- the lowest of a class is its own parent
