@@ -59,7 +59,7 @@ pub mod RenamedPyramid
 pub mod WriteRead
 pub mod FileInstances
 pub mod Fitting
-pub mod Over
+pub mod Cleared
 pub mod Judging
 pub mod Least
 pub mod Counting

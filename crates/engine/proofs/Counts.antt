@@ -25,7 +25,7 @@ use Rattle.forest.specs.Lowest.{Lowest}
 use Rattle.area.specs.Area.{there, tableIn, pastIn, forestIn, around}
 use Rattle.area.specs.Count.{rootsIn}
 use Rattle.area.specs.Cycles.{stepIn, Labelled}
-use Rattle.darts.proofs.Over.{drop-more}
+use Rattle.slices.proofs.Over.{drop-more}
 use Rattle.area.proofs.Outside.{outside-there, forest-at}
 use Rattle.engine.specs.Counted.{CountedIn}
 use Rattle.engine.specs.Held.{Area}
