@@ -1,7 +1,7 @@
 // Operations taken back in the work area, the last one first: tests 6 to 15 of a pyramid.
 use crate::load::bind;
-use crate::slices::at;
 use darts::partner;
+use slices::at;
 ghost use mathlib.Core.Path.{_≡_};
 ghost use mathlib.Core.Bool.{true};
 ghost use Prim.Native.Nat.{_≤_, _<_, _*_};

@@ -1,8 +1,8 @@
 // One operation in the work area: judged, and done.
 use crate::load::bind;
-use crate::slices::at;
 use crate::trees::join;
 use crate::trees::together;
+use slices::at;
 ghost use mathlib.Core.Path.{_≡_};
 ghost use Prim.Native.Nat.{_+_, _*_, _/_, _<_};
 ghost use lib.ListN.{length};

@@ -64,8 +64,10 @@ pub mod RenamedPyramid
 pub mod WriteRead
 pub mod FileInstances
 pub mod Fitting
-pub mod Over
+pub mod Cleared
 pub mod Judging
 pub mod sentences
 pub mod chained
 pub mod Outcomes
+pub mod Least
+pub mod Counting

@@ -16,7 +16,8 @@ use Rattle.darts.specs.Map.{firstBad}
 use Rattle.darts.specs.State.{State, baseState}
 use Rattle.darts.specs.Pyramid.{dartCount}
 use Rattle.darts.specs.File.{fileOf}
-use Rattle.darts.specs.Calls.{leaves, room, tableOf, pastOf, over, cleared, workAfter, judged, start, write}
+use Rattle.darts.specs.Calls.{leaves, room, tableOf, pastOf, cleared, workAfter, judged, start, write}
+use Rattle.slices.specs.Over.{over}
 use Rattle.darts.proofs.Fitting.{Count, Lengths, count-facts, count-test, room-facts, room-test, no-count, short, fine}
 use Rattle.darts.proofs.Judging.{Lent, Judging, uncounted, cramped, other, lent, judging}
 

@@ -14,7 +14,7 @@ unfoldable pub lowestMet : (ℕ → ℕ) → ℕ → ℕ → ℕ
 lowestMet f zero x = x
 lowestMet f (suc n) x = min x (lowestMet f n (f x))
 
-lowest-met : (f : ℕ → ℕ) (n x : ℕ) → Meets f x (lowestMet f n x)
+pub lowest-met : (f : ℕ → ℕ) (n x : ℕ) → Meets f x (lowestMet f n x)
 unfolding lowestMet
 lowest-met f zero x = meets-refl f x
 lowest-met f (suc n) x = go (decLe x (lowestMet f n (f x))) (meets-trans f (meets-next f x) (lowest-met f n (f x)))
@@ -31,10 +31,12 @@ lowest-least f (suc n) x zero h = omega arith
 lowest-least f (suc n) x (suc k) h = let l = lowest-least f n (f x) k (le-of-suc-le-suc h) in omega arith
 
 module _ {D : ℕ} {f : ℕ → ℕ} (π : Perm D f) where
+  -- D steps meet the lowest of all
+  pub lowest-all : {x y : ℕ} → Meets f x y → lowestMet f D x ≤ y
+  lowest-all {x} m = let (k, h, e) = soon π m in rw (← e) (lowest-least f D x k h)
+
   lowest-below : {x y : ℕ} → Meets f x y → lowestMet f D x ≤ lowestMet f D y
-  lowest-below {x} {y} m =
-      let (k, h, e) = soon π (meets-trans f m (lowest-met f D y)) in
-      rw (← e) (lowest-least f D x k h)
+  lowest-below {x} {y} m = lowest-all (meets-trans f m (lowest-met f D y))
 
   -- THE LOWEST DARTS ARE LABELS
   pub lowest-labels : (live : ℕ → Bool) → Labels live f (lowestMet f D)

@@ -13,11 +13,11 @@ use lib.IntN.{ℤ, pos, negsuc}
 use lib.ListN.{length, take, replicate}
 use Rattle.permutations.specs.Partner.{partner}
 use Rattle.permutations.specs.Cycle.{meetsIn}
-use Rattle.darts.specs.Answers.{Answer}
+use Rattle.darts.specs.Answers.{Answer, answered}
 use Rattle.darts.specs.Map.{successor, faceNext, sameVertex, sameFace, samePiece, gone, survives, beforeIn, before, repeats, firstBadFrom, firstBad}
 use Rattle.darts.specs.Operation.{contraction, removal, turned, lead, wholeEdge, remove, contract, operate, number, kindOf, leadOf, edgeOf, putBack, undoOne, undone}
 use Rattle.darts.specs.Kernel.{shared, judge, runFrom, run}
-use Rattle.darts.specs.State.{raised, levelled, reduce}
+use Rattle.darts.specs.State.{raised, levelled, reduce, State, baseState}
 use Rattle.darts.specs.Levels.{emptyLoop, takes, sweptFrom, swept, sweep, endBelow, lowered, undoLevel, undoLevels, unfoldTo}
 use Rattle.darts.specs.Pyramid.{dartCount, build, kernelOf, cut, kernelsOf, sameNumbers, sameState, isExactly, isPyramid}
 use Rattle.darts.specs.Counts.{neverBelow, lowest, cycles, surviving, countsOf}
@@ -25,9 +25,8 @@ use Rattle.darts.specs.Text.{bytes, digits, decimal}
 use Rattle.darts.specs.File.{taken, survivors, fileOrder, placeIn, fileNumber, fileTable, kindWord, kernelLine, kernelLines, pairLines, fileOf}
 use Rattle.darts.specs.Scan.{byteAt, word, isDigit, numberOn, numberAt, field}
 use Rattle.darts.specs.Read.{flagAt, opening, kernelOfKind, kernelAt, kernelsAt, pairsAt, endAt, body, fromFlag, endsFrom, total, fileState, numbersFrom, historyFrom, fileHistory, closed, opened, readFile}
-use Rattle.darts.specs.Calls.{After, Counted, Written, room, fitting, tableOf, pastOf, over, cleared, workAfter, judged, start, handsBack, onState, reduceBy, sweepBy, undoBy, unfoldBy, counts, readInto, read, write}
-use Rattle.darts.specs.Answers.{answered}
-use Rattle.darts.specs.State.{State, baseState}
+use Rattle.darts.specs.Calls.{After, Counted, Written, room, fitting, tableOf, pastOf, cleared, workAfter, judged, start, handsBack, onState, reduceBy, sweepBy, undoBy, unfoldBy, counts, readInto, read, write}
+use Rattle.slices.specs.Over.{over}
 use Rattle.darts.specs.Worked.{Step, byContracting, byRemoving, bySweep, byUndo, toLevel, stepped, answers, countsAre}
 
 pub data Row : Type 0 where

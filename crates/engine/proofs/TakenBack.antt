@@ -16,8 +16,7 @@ use Rattle.permutations.specs.Choice.{nT→false, eqb-same, eqb-other, and-left
 use Rattle.permutations.specs.Partner.{partner, partner-below, partner-ne, End}
 use Rattle.darts.specs.Map.{successor, gone, live}
 use Rattle.darts.specs.Operation.{leadOf, undoOne}
-use Rattle.darts.specs.Tests.{numbered}
-use Rattle.darts.specs.Tests.{fits as fitsOf}
+use Rattle.darts.specs.Tests.{numbered, fits as fitsOf}
 use Rattle.area.specs.Area.{prev, there, stamp, tableIn, pastIn}
 use Rattle.area.specs.Back.{first, second, single, fits, inserted, takenBack}
 use Rattle.darts.proofs.Standing.{Standing, live-iff}

@@ -2,7 +2,7 @@
 use crate::Ran;
 use area::operate::do_edge;
 use area::operate::judge;
-use area::slices::at;
+use slices::at;
 ghost use Rattle.darts.specs.Kernel.{run as runOf};
 ghost use Rattle.darts.specs.Operation.{kindOf};
 ghost use Rattle.area.specs.Area.{tableIn, pastIn};

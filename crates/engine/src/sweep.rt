@@ -1,8 +1,8 @@
 // The sweep: a removal kernel that chooses its own edges.
 use crate::Ran;
 use area::operate::do_edge;
-use area::slices::at;
 use area::trees::together;
+use slices::at;
 ghost use mathlib.Core.Path.{_≡_};
 ghost use Prim.Native.Nat.{_/_, _<_};
 ghost use Rattle.darts.specs.Levels.{swept};

@@ -15,16 +15,17 @@ use native.Mathlib.Omega.{arith}
 use borrow.Author.Tests.{lt-leb, ne-eqb}
 use lib.Dec.{eqb, leb}
 use lib.ListN.{length, drop}
-use Rattle.forest.specs.Part.{part}
+use Rattle.slices.specs.Part.{part}
 use Rattle.darts.specs.Answers.{Answer as Answered, done, noPyramid, tooManyLevels, emptyKernel}
 use Rattle.darts.specs.Choose.{if_then_else_}
 use Rattle.darts.specs.Kernel.{Run, stands, stops}
 use Rattle.darts.specs.State.{State as Stated, Result, gives, refuses, levelled}
 use Rattle.darts.specs.Pyramid.{isPyramid}
-use Rattle.darts.specs.Calls.{fitting, tableOf, pastOf, over, cleared, workAfter, handsBack, onState}
+use Rattle.darts.specs.Calls.{fitting, tableOf, pastOf, cleared, workAfter, handsBack, onState}
+use Rattle.slices.specs.Over.{over}
 use Rattle.darts.proofs.Stops.{Edgy}
 use Rattle.area.specs.Area.{Room, tableIn, pastIn}
-use Rattle.darts.proofs.Over.{cleared-kept}
+use Rattle.darts.proofs.Cleared.{cleared-kept}
 use Rattle.engine.specs.Checks.{Checked}
 use Rattle.engine.specs.Runs.{ranIn, Went}
 use Rattle.engine.specs.declared.Ran.{Ran}

@@ -13,7 +13,8 @@ use lib.ListN.{length}
 use Rattle.darts.specs.Answers.{Answer as Answered, done, noPyramid}
 use Rattle.darts.specs.State.{State as Stated, Result, gives, refuses}
 use Rattle.darts.specs.Pyramid.{isPyramid}
-use Rattle.darts.specs.Calls.{fitting, judged, tableOf, pastOf, over, cleared, workAfter, handsBack, onState}
+use Rattle.darts.specs.Calls.{fitting, judged, tableOf, pastOf, cleared, workAfter, handsBack, onState}
+use Rattle.slices.specs.Over.{over}
 use Rattle.pyramid.specs.Values.{left, Hands}
 use Rattle.darts.proofs.Fitting.{first-keeps}
 use Rattle.darts.proofs.Judging.{judged-unfit, judged-fit}

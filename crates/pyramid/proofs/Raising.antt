@@ -9,10 +9,11 @@ use Prim.Native.Nat.{ℕ, _+_, _*_}
 use native.Mathlib.Omega.{arith}
 use borrow.Author.Tests.{eq-eqb, ne-eqb}
 use lib.ListN.{length, take, length-take, length-reverse}
-use Rattle.forest.specs.Part.{part}
+use Rattle.slices.specs.Part.{part}
 use Rattle.darts.specs.Answers.{Answer as Answered, answered, done, emptyKernel}
 use Rattle.darts.specs.State.{State as Stated, raised, levelled, refuses}
-use Rattle.darts.specs.Calls.{leaves, handsBack, workAfter, pastOf, over, cleared}
+use Rattle.darts.specs.Calls.{leaves, handsBack, workAfter, pastOf, cleared}
+use Rattle.slices.specs.Over.{over}
 use Rattle.area.specs.Area.{tableIn, pastIn}
 use Rattle.engine.specs.Runs.{ranIn}
 use Rattle.engine.specs.declared.Ran.{Ran}

@@ -16,7 +16,8 @@ use Rattle.darts.specs.Kernel.{shared, judge, runFrom, run}
 use Rattle.darts.specs.State.{raised, levelled, reduce}
 use Rattle.darts.specs.Levels.{emptyLoop, takes, sweptFrom, swept, sweep, endBelow, lowered, undoLevel, undoLevels}
 use Rattle.darts.specs.Pyramid.{dartCount, build, kernelOf, cut, kernelsOf, sameNumbers, sameState, isExactly, isPyramid}
-use Rattle.darts.specs.Calls.{room, fitting, tableOf, pastOf, over, cleared, workAfter, judged, start, handsBack, onState, reduceBy, sweepBy, undoBy}
+use Rattle.darts.specs.Calls.{room, fitting, tableOf, pastOf, cleared, workAfter, judged, start, handsBack, onState, reduceBy, sweepBy, undoBy}
+use Rattle.slices.specs.Over.{over}
 use Rattle.pyramid.specs.declared.Kind.the-variants.{Contract, Remove}
 use Rattle.worked.specs.declared.chain.Step.{Step}
 use Rattle.worked.specs.declared.chain.Step.the-variants.{Stay, One, Two, Sweep, Undo}

@@ -15,12 +15,13 @@ use borrow.Rule.Slice.PartMut.{postOf, drop-put}
 use Rattle.darts.specs.Answers.{answered}
 use Rattle.darts.specs.Scan.{Scan, found, fault, after}
 use Rattle.darts.specs.Read.{KernelLine, Body, kernelsAt, pairsAt, body, fromFlag, total, fileState, fileHistory}
-use Rattle.darts.specs.Calls.{over}
+use Rattle.slices.specs.Over.{over}
 use Rattle.darts.proofs.Ends.{state-path}
-use Rattle.forest.specs.Part.{part, put, part-length, part-put, put-length, put-elsewhere}
+use Rattle.slices.specs.Part.{part, put}
+use Rattle.slices.proofs.Part.{part-length, part-put, put-length, put-elsewhere}
 use Rattle.area.specs.Area.{Room, tableIn}
 use Rattle.area.specs.Shape.{historyIn}
-use Rattle.darts.proofs.Over.{drop-more}
+use Rattle.slices.proofs.Over.{drop-more}
 use Rattle.area.proofs.Parts.{part-inner}
 use Rattle.engine.specs.Held.{Beyond}
 use Rattle.zonefile.specs.declared.scan.Scanned.{Scanned}

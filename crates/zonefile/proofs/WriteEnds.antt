@@ -17,7 +17,8 @@ use Rattle.darts.specs.Choose.{if_then_else_}
 use Rattle.darts.specs.Pyramid.{isPyramid}
 use Rattle.darts.specs.State.{State}
 use Rattle.darts.specs.File.{fileOf}
-use Rattle.darts.specs.Calls.{Written as Left, write, fitting, judged, tableOf, pastOf, over, cleared, workAfter}
+use Rattle.darts.specs.Calls.{Written as Left, write, fitting, judged, tableOf, pastOf, cleared, workAfter}
+use Rattle.slices.specs.Over.{over}
 use Rattle.darts.proofs.Fitting.{first-keeps}
 use Rattle.zonefile.specs.declared.writing.Written.the-variants.{Short, Wrote}
 use Rattle.zonefile.specs.Writing.{FileWritten}

@@ -14,7 +14,7 @@ use Rattle.darts.specs.Choose.{if_then_else_}
 use Rattle.darts.specs.Answers.{answered, noFile}
 use Rattle.darts.specs.Scan.{Scan, found, fault, after}
 use Rattle.darts.specs.Read.{KernelLine, Body, kernelsAt, pairsAt, endAt, fromFlag, fileState, fileHistory}
-use Rattle.darts.specs.Calls.{over}
+use Rattle.slices.specs.Over.{over}
 use Rattle.area.specs.Area.{tableIn}
 use Rattle.area.specs.Shape.{stateOf, historyIn}
 use Rattle.engine.specs.Held.{Beyond}

@@ -10,7 +10,8 @@ use lib.Dec.{T, eqb}
 use Rattle.darts.specs.Choose.{if_then_else_}
 use Rattle.darts.specs.Scan.{Scan, found}
 use Rattle.darts.specs.Read.{Body, pairsAt, fromFlag, closed}
-use Rattle.darts.specs.Calls.{over, cleared, readInto}
+use Rattle.darts.specs.Calls.{cleared, readInto}
+use Rattle.slices.specs.Over.{over}
 use Rattle.area.specs.Shape.{historyIn}
 use Rattle.engine.specs.Held.{Beyond}
 use Rattle.pyramid.specs.declared.Outcome.{Outcome}

@@ -24,7 +24,7 @@ use Rattle.darts.proofs.Pyramids.{built-pyramid}
 use Rattle.darts.proofs.Decided.{pyramid-decided}
 use Rattle.darts.proofs.Meanings.{meaning}
 use Rattle.darts.proofs.Fitting.{Count, Lengths, count-facts, count-test, room-facts, fine, fits}
-use Rattle.darts.proofs.Over.{cleared-zero, cleared-rest, cleared-length}
+use Rattle.darts.proofs.Cleared.{cleared-zero, cleared-rest, cleared-length}
 use Rattle.darts.proofs.chained.OnLent.{Left, laid-table, laid-past, laid-left}
 use Rattle.darts.proofs.chained.Faults.{Meant, file-told}
 

@@ -18,7 +18,8 @@ use Rattle.darts.specs.Text.{bytes, digits, decimal}
 use Rattle.darts.specs.File.{taken, survivors, fileOrder, placeIn, fileNumber, fileTable, kindWord, kernelLine, kernelLines, pairLines, fileOf}
 use Rattle.darts.specs.Scan.{byteAt, word, isDigit, numberOn, numberAt, field}
 use Rattle.darts.specs.Read.{flagAt, opening, kernelOfKind, kernelAt, kernelsAt, pairsAt, endAt, body, fromFlag, endsFrom, total, fileState, numbersFrom, historyFrom, fileHistory, closed, opened, readFile}
-use Rattle.darts.specs.Calls.{After, Written, room, fitting, tableOf, pastOf, over, cleared, workAfter, judged, readInto, read, write}
+use Rattle.darts.specs.Calls.{After, Written, room, fitting, tableOf, pastOf, cleared, workAfter, judged, readInto, read, write}
+use Rattle.slices.specs.Over.{over}
 use Rattle.darts.proofs.chained.File.{ReadAgain, WrittenAgain, write-then-read, read-then-write}
 
 abbrev k7-state : State

@@ -15,11 +15,13 @@ use Rattle.darts.specs.Answers.{Answer, answered, done}
 use Rattle.darts.specs.State.{State, Result, gives, refuses, reduce}
 use Rattle.darts.specs.Levels.{sweep, undoLevel, unfoldTo}
 use Rattle.darts.specs.Pyramid.{Kernel, Pyramid}
-use Rattle.darts.specs.Calls.{After, leaves, tableOf, pastOf, over, cleared, judged, handsBack, onState, reduceBy, sweepBy, undoBy, unfoldBy}
+use Rattle.darts.specs.Calls.{After, leaves, tableOf, pastOf, cleared, judged, handsBack, onState, reduceBy, sweepBy, undoBy, unfoldBy}
+use Rattle.slices.specs.Over.{over}
 use Rattle.darts.proofs.Passes.{pyramid-shaped}
 use Rattle.darts.proofs.Room.{pyramid-room}
 use Rattle.darts.proofs.Fitting.{Lengths}
-use Rattle.darts.proofs.Over.{over-front, over-rest, over-length, cleared-zero, cleared-rest, cleared-length}
+use Rattle.slices.proofs.Over.{over-front, over-rest, over-length}
+use Rattle.darts.proofs.Cleared.{cleared-zero, cleared-rest, cleared-length}
 use Rattle.darts.proofs.Judging.{Lent, Judging, uncounted, cramped, other, lent, judging, on-refused, on-lent}
 use Rattle.darts.proofs.chained.Steps.{Step, Told, Leads, reduce-leads, sweep-leads, undo-leads, unfold-leads}
 

@@ -16,7 +16,7 @@ use Rattle.darts.specs.State.{State, Result, gives, refuses, reduce}
 use Rattle.darts.specs.Levels.{sweep, undoLevel, unfoldTo}
 use Rattle.darts.specs.Calls.{cleared, workAfter, judged, handsBack, onState, start, reduceBy, sweepBy, undoBy, unfoldBy, counts, write}
 use Rattle.darts.proofs.Fitting.{Count, Lengths, count-facts}
-use Rattle.darts.proofs.Over.{cleared-zero, cleared-rest}
+use Rattle.darts.proofs.Cleared.{cleared-zero, cleared-rest}
 use Rattle.darts.proofs.Judging.{Lent, Judging, uncounted, cramped, other, lent, judging, on-judged}
 use Rattle.darts.proofs.Outcomes.{Starting, noCount, noRoom, noBase, base, starting, Writing, refused, tight, written, writing}
 

@@ -4,7 +4,7 @@ use native.Mathlib.Omega.{arith}
 use Rattle.darts.specs.Answers.{done}
 use Rattle.darts.specs.Counts.{Counts as Tally}
 use Rattle.darts.specs.Calls.{cleared, tableOf, pastOf}
-use Rattle.darts.proofs.Over.{cleared-kept}
+use Rattle.darts.proofs.Cleared.{cleared-kept}
 use Rattle.engine.specs.Checks.{Checked}
 use Rattle.pyramid.specs.Values.{stateOf}
 use Rattle.darts.proofs.Fitting.{fits}

@@ -2,7 +2,7 @@
 use mathlib.Core.Path.{refl, sym, _∙_}
 use native.Mathlib.Omega.{arith}
 use Rattle.darts.specs.Calls.{tableOf, pastOf}
-use Rattle.darts.proofs.Over.{cleared-kept}
+use Rattle.darts.proofs.Cleared.{cleared-kept}
 use Rattle.engine.specs.Checks.{Checked}
 use Rattle.engine.proofs.Checking.{checked-pyramid}
 use Rattle.pyramid.specs.Values.{stateOf}

@@ -22,7 +22,8 @@ use Rattle.zonefile.specs.Kernels.{noted, KernelsRead}
 use Rattle.zonefile.proofs.Found.{told}
 use Rattle.zonefile.proofs.Rest.{Rest, rest-none, rest-on, rest-fault, rest-found}
 use Rattle.zonefile.proofs.KernelLines.{kernel-lines, kernel-small, total-on, ends-on, history-on, history-length, ends-set}
-use Rattle.zonefile.proofs.Laid.{put-none, put-on, laid-rest, laid-over}
+use Rattle.zonefile.proofs.Laid.{put-none, put-on}
+use Rattle.slices.proofs.Laid.{laid-rest, laid-over}
 use Rattle.zonefile.proofs.kernels.kernels.Statement.{statement}
 use Rattle.zonefile.proofs.kernels.kernels.Tie as tie
 

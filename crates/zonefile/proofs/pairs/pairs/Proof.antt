@@ -12,13 +12,14 @@ use Rattle.darts.specs.Read.{pairsAt, fromFlag}
 use Rattle.zonefile.specs.declared.scan.Scanned.the-variants.{Found, Fault}
 use Rattle.zonefile.specs.Found.{lineOf}
 use Rattle.zonefile.specs.Lines.{pairAt, pairOf}
-use Rattle.area.specs.Load.{laid}
-use Rattle.zonefile.specs.Laid.{Room, Put}
+use Rattle.slices.specs.Laid.{laid, Space}
+use Rattle.zonefile.specs.Laid.{Put}
 use Rattle.zonefile.specs.Pairs.{PairsRead}
 use Rattle.zonefile.proofs.Found.{told}
 use Rattle.zonefile.proofs.Rest.{Rest, rest-none, rest-on, rest-fault, rest-found}
 use Rattle.zonefile.proofs.PairLines.{pair-lines, pair-small}
-use Rattle.zonefile.proofs.Laid.{put-none, put-on, put-length, laid-rest, laid-over}
+use Rattle.zonefile.proofs.Laid.{put-none, put-on, put-length}
+use Rattle.slices.proofs.Laid.{laid-rest, laid-over}
 use Rattle.zonefile.proofs.pairs.pairs.Statement.{statement}
 use Rattle.zonefile.proofs.pairs.pairs.Tie as tie
 
@@ -40,7 +41,7 @@ begin b D F t at =
     }
 
 module _ {b : List ℕ} {D F : ℕ} {t₀ t : List ℕ} {at₀ at i : ℕ} (pre : (D ≤ 65536) × (D ≤ length t₀)) (g : Reading b D F t₀ t at₀ at i) where
-  room : Room t₀ 0 (map (fromFlag F D) (g .done))
+  room : Space t₀ 0 (map (fromFlag F D) (g .done))
   room = record { fits = omega (arith, g .put .next) }
 
   go-on : {t′ : List ℕ} {x y next : ℕ} → i < D / 2 → pairAt b at ≡ found (pairOf x y) next

@@ -7,7 +7,7 @@ use lib.ListN.{length}
 use borrow.Author.Needs.{needs}
 use Rattle.darts.specs.Answers.{Answer as Answered}
 use Rattle.area.specs.Area.{Room}
-use Rattle.darts.proofs.Over.{cleared-kept}
+use Rattle.darts.proofs.Cleared.{cleared-kept}
 use Rattle.engine.proofs.Area.{room-kept}
 use Rattle.pyramid.specs.Values.{answerOf}
 use Rattle.darts.proofs.Fitting.{Fits, fits}

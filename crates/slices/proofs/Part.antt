@@ -1,7 +1,4 @@
--- A forest in a part of a longer list: the part is lent to a call, and stands in the list again as the call has left it.
---
---   part a e l    == the numbers of l from a on, up to and without e
---   put a e l t   == l with t in the place of that part
+-- A part of a longer list, lent and put back.
 --   part-length   == the part has e - a numbers
 --   take-part     == all of it is taken
 --   part-at       == what stands at i in the part stands at a + i in l
@@ -16,13 +13,8 @@ use Prim.Native.Nat.{ℕ, _+_, _-_, _≤_, _<_}
 use native.Mathlib.Omega.{arith}
 use lib.ListN.{length, getD, take, drop, length-take, length-drop}
 use lib.Seq.{take-all, take-at, drop-at, length-take-le, getD-take, getD-drop, ext-getD}
-use borrow.Rule.Slice.PartMut.{midOf, postOf, putMid, mid-len, same-len-mid, take-put, drop-put}
-
-abbrev pub part : ℕ → ℕ → List ℕ → List ℕ
-part a e l = midOf a (e - a) l
-
-abbrev pub put : ℕ → ℕ → List ℕ → List ℕ → List ℕ
-put a e l t = putMid a (e - a) l t
+use borrow.Rule.Slice.PartMut.{postOf, mid-len, same-len-mid, take-put, drop-put}
+use Rattle.slices.specs.Part.{part, put}
 
 pub part-length : (a e : ℕ) (l : List ℕ) → e ≤ length l → length (part a e l) ≡ e - a
 part-length a e l inside = mid-len a e l inside

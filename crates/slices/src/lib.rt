@@ -2,7 +2,7 @@
 ghost use mathlib.Core.Path.{_≡_};
 ghost use Prim.Native.Nat.{_≤_, _<_};
 ghost use lib.ListN.{length, getD, take, replicate};
-ghost use Rattle.darts.specs.Calls.{over};
+ghost use Rattle.slices.specs.Over.{over};
 
 // The number at i, as an index.
 pub fn at(s: &[u32], i: usize) -> usize

@@ -1,8 +1,8 @@
--- `engine::slices::at` meets its contract: a number of the slice fits an index.
+-- `slices::at` meets its contract: a number of the slice fits an index.
 use native.Mathlib.Omega.{arith}
 use borrow.Author.Needs.{needs}
-use Rattle.area.proofs.slices.at.Statement.{statement}
-use Rattle.area.proofs.slices.at.Tie as tie
+use Rattle.slices.proofs.at.Statement.{statement}
+use Rattle.slices.proofs.at.Tie as tie
 
 mul-result : tie.Need-mul-result
 mul-result c = search needs

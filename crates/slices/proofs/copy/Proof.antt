@@ -1,4 +1,4 @@
--- `engine::slices::copy` meets its contract: the first i numbers are those of the other slice, and each turn of the loop adds one.
+-- `slices::copy` meets its contract: the first i numbers are those of the other slice, and each turn of the loop adds one.
 --
 --   Copied to₀ from to i == to is to₀ with the first i numbers of `from` over its own
 --   copy-on              == one number more
@@ -12,9 +12,9 @@ use native.Mathlib.Omega.{arith}
 use lib.ListN.{length, getD, set, take, drop, length-set}
 use lib.Seq.{length-take-le, paste-suc}
 use borrow.Author.Needs.{needs}
-use Rattle.darts.specs.Calls.{over}
-use Rattle.area.proofs.slices.copy.Statement.{statement}
-use Rattle.area.proofs.slices.copy.Tie as tie
+use Rattle.slices.specs.Over.{over}
+use Rattle.slices.proofs.copy.Statement.{statement}
+use Rattle.slices.proofs.copy.Tie as tie
 
 record Copied (to₀ from : List ℕ) (n : ℕ) (to : List ℕ) (i : ℕ) : Type 0 where
   size : length to ≡ length to₀

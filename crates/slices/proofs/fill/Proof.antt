@@ -1,4 +1,4 @@
--- `engine::slices::fill` meets its contract: the first i numbers are v and the others as they were, and each turn of the loop adds one.
+-- `slices::fill` meets its contract: the first i numbers are v and the others as they were, and each turn of the loop adds one.
 --
 --   Filled s₀ v s i == s is s₀ with v at its first i places
 --   fill-on         == one place more
@@ -11,8 +11,8 @@ use lib.ListN.{length, set, drop, replicate, length-set}
 use lib.Seq.{drop-length}
 use borrow.Author.Fill.{fill-more}
 use borrow.Author.Needs.{needs}
-use Rattle.area.proofs.slices.fill.Statement.{statement}
-use Rattle.area.proofs.slices.fill.Tie as tie
+use Rattle.slices.proofs.fill.Statement.{statement}
+use Rattle.slices.proofs.fill.Tie as tie
 
 record Filled (s₀ : List ℕ) (v : ℕ) (s : List ℕ) (i : ℕ) : Type 0 where
   size : length s ≡ length s₀
