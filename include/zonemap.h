@@ -27,6 +27,9 @@
  *   zeroes them too where it answers 2 for its output.
  *   Numbers of a table past D, of a history past the larger of the operation counts before and after the call, and of a
  *   work area past 4D are never touched.
+ *   Numbers that stay the same are stored again, so no other thread may use what is lent during a call: where zm_contract,
+ *   zm_remove, zm_sweep, zm_undo or zm_unfold is accepted, the table's first D numbers and the history's first N, N the
+ *   operation count after the call; and at every call but zm_counts and zm_write, refused too, the state's 67.
  *
  * Order of the answers: 1, 2, then 3 or 4, then 12, 6, 5, then the kernel's first failing edge, for which 7, 8, 9 or 10, 11.
  * zm_write judges its output after 4. zm_read judges in the order of the file's bytes.
@@ -108,7 +111,8 @@ uint32_t zm_sweep(uint32_t state[ZM_STATE],
 
 /* The last level undone: the state and every entry of the table as they were before its kernel.
  * Answers 0, 1, 2, 4, 12; for 12 the place is 0, the base's level.
- * Writes state and table where it is accepted. The history's numbers stay, past the count.
+ * Writes state and table where it is accepted. Every number of the history stays: those up to the new count are stored as
+ * they were, those past it are not touched.
  * Lengths: table D, history D/2, work 4D, D = state[0]. */
 uint32_t zm_undo(uint32_t state[ZM_STATE],
                  uint32_t *table, size_t table_length,
@@ -118,7 +122,8 @@ uint32_t zm_undo(uint32_t state[ZM_STATE],
 
 /* Back to a level, at or below the top: as many undos. The top itself changes nothing.
  * Answers 0, 1, 2, 4, 12; for 12 the place is the top level.
- * Writes state and table where it is accepted. The history's numbers stay, past the count.
+ * Writes state and table where it is accepted. Every number of the history stays: those up to the new count are stored as
+ * they were, those past it are not touched.
  * Lengths: table D, history D/2, work 4D, D = state[0]. */
 uint32_t zm_unfold(uint32_t state[ZM_STATE], uint32_t level,
                    uint32_t *table, size_t table_length,

@@ -41,10 +41,32 @@ install_missing() {
         die "could not install$missing"
 }
 
-# Sets `archive`, the library for C, which is proved and built where a file of a crate is newer than it, or there is none.
+# Prints the folders of the crate $1 and of every crate of the repository that it stands on, and crates.txt itself.
+sources_of() {
+    echo "$root/crates.txt"
+    awk -v crate="$1" -v folder="$root/crates/" '
+        function visit(name, names, n, i) {
+            if (name in seen || !(name in on)) return
+            seen[name] = 1
+            print folder name
+            n = split(on[name], names, " ")
+            for (i = 1; i <= n; i++) visit(names[i])
+        }
+        { sub(/#.*/, "") }
+        /:/ { name = rest = $0; sub(/:.*/, "", name); sub(/[^:]*:/, "", rest); gsub(/[ \t]/, "", name); on[name] = rest }
+        END { visit(crate) }' "$root/crates.txt"
+}
+
+# Whether $1, built of the crate $2, is not there, or a source of it is newer: a file, or a folder that has lost one.
+is_stale() {
+    [ -f "$1" ] || return 0
+    [ -n "$(sources_of "$2" | while read -r source; do find "$source" -newer "$1"; done | head -n 1)" ]
+}
+
+# Sets `archive`, the library for C, which is proved and built where it is stale.
 build_archive() {
     archive=$root/target/staticlib/libzonemap_c.a
-    if [ ! -f "$archive" ] || [ -n "$(find "$root/crates" "$root/crates.txt" -newer "$archive" | head -n 1)" ]; then
+    if is_stale "$archive" zonemap_c; then
         (cd "$root" && "$home/bin/rt" staticlib zonemap_c) >&2 </dev/null || die 'the library is not proved or not built'
     fi
 }

@@ -5,7 +5,7 @@
 --   cleared-kept == only what stands from 4D on matters
 use mathlib.Core.List.{List, _++_}
 use mathlib.Core.Path.{_≡_, sym, ap, _∙_}
-use Prim.Native.Nat.{ℕ, _+_, _-_, _*_, _<_, _≤_}
+use Prim.Native.Nat.{ℕ, _*_, _<_, _≤_}
 use lib.ListN.{length, getD, take, drop, replicate, length-replicate, getD-replicate, List·getD-append}
 use lib.Seq.{drop-at, take-at}
 use Rattle.darts.specs.Calls.{cleared}

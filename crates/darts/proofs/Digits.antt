@@ -82,12 +82,31 @@ digits-few (suc n) x l = go (decLt x 10) (digits-few n (x / 10) ((48 + x % 10) �
     go (yes h) rest = rw (digits-last n x l h) (omega arith)
     go (no h) rest = rw (digits-more n x l h) (omega arith)
 
+-- no more digits than are enough
+digits-enough : (n m x : ℕ) (l : List ℕ) → Fits n x → length (digits m x l) ≤ n + length l
+unfolding digits
+digits-enough zero m x l f = absurd f
+digits-enough (suc n) zero x l f = omega arith
+digits-enough (suc n) (suc m) x l f = go (decLt x 10) (λ h. digits-enough n m (x / 10) ((48 + x % 10) ∷ l) (f h))
+  where
+    go : Dec (x < 10) → (¬ (x < 10) → length (digits m (x / 10) ((48 + x % 10) ∷ l)) ≤ n + suc (length l)) → length (digits (suc m) x l) ≤ suc n + length l
+    go (yes h) rest = rw (digits-last m x l h) (omega arith)
+    go (no h) rest = rw (digits-more m x l h) (omega (arith, rest h))
+
 -- ---- "one to five digits"
 
 module _ (x : ℕ) where
   pub decimal-few : length (decimal x) ≤ 5
   unfolding decimal
   decimal-few = digits-few 5 x []
+
+  pub decimal-two : x ≤ 99 → length (decimal x) ≤ 2
+  unfolding decimal
+  decimal-two h = digits-enough 2 5 x [] (λ a b. omega arith)
+
+  pub decimal-four : x ≤ 9999 → length (decimal x) ≤ 4
+  unfolding decimal
+  decimal-four h = digits-enough 4 5 x [] (λ a b c d. omega arith)
 
   pub decimal-right : x ≤ 99999 → Decimal x (decimal x)
   unfolding decimal

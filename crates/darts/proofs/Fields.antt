@@ -25,11 +25,11 @@ digit-test c h =
     T→true (leb 48 (48 + c) && leb (48 + c) 57)
     (and-intro (leb 48 (48 + c)) (leb (48 + c) 57) (le→leb 48 (48 + c) (omega arith)) (le→leb (48 + c) 57 (omega arith)))
 
-digit-low : (c : ℕ) → T (isDigit c) → 48 ≤ c
+pub digit-low : (c : ℕ) → T (isDigit c) → 48 ≤ c
 unfolding isDigit
 digit-low c t = leb→le 48 c (and-left (leb 48 c) (leb c 57) t)
 
-digit-high : (c : ℕ) → T (isDigit c) → c ≤ 57
+pub digit-high : (c : ℕ) → T (isDigit c) → c ≤ 57
 unfolding isDigit
 digit-high c t = leb→le c 57 (and-right (leb 48 c) (leb c 57) t)
 
@@ -69,7 +69,7 @@ module _ {b : List ℕ} {x at end : ℕ} (h : x ≤ 99999) (B : Between b at (de
       let few = decimal-few x in
       number-passed d B (5 - length (decimal x)) 5 (omega arith) ∙ number-stop b (5 - length (decimal x)) end x ended
 
-  number-found : numberAt b at ≡ found x end
+  pub number-found : numberAt b at ≡ found x end
   unfolding numberAt
   number-found = go (decimal-first (decimal-right x h))
     where
@@ -132,9 +132,9 @@ figures-on (suc n) {x} {w} {b} {at} {y} {end} d s h e = go (T? (isDigit (byteAt 
         figures-more c byte (rest c (omega arith) (byte-inside b at (omega arith)) (rw (T→true (isDigit (byteAt b at)) t) at e))
     go (no f) rest = figures-none (suc n) d h (rw (nT→false (isDigit (byteAt b at)) f) at e)
 
-record Number (b : List ℕ) (at x end : ℕ) : Type 0 where
-  there : Between b at (decimal x) end
-  bound : x ≤ 99999
+pub record Number (b : List ℕ) (at x end : ℕ) : Type 0 where
+  pub there : Between b at (decimal x) end
+  pub bound : x ≤ 99999
 
 number-there : {b : List ℕ} {at x end : ℕ} {w : List ℕ} → Decimal x w → length w ≤ 5 → Between b at w end → Number b at x end
 number-there d few B = record { there = rw (decimal-only d few) B; bound = decimal-bound d few }
@@ -142,7 +142,7 @@ number-there d few B = record { there = rw (decimal-only d few) B; bound = decim
 first-there : {b : List ℕ} {at x end : ℕ} (c : ℕ) → byteAt b at ≡ 48 + c → Figures ((48 + c) ∷ []) b (suc at) x end 4 → Number b at x end
 first-there c byte F = number-there (F .digits) (omega (arith, F .few)) (between-cons byte (F .there))
 
-found-number : {b : List ℕ} {at x end : ℕ} → at ≤ length b → numberAt b at ≡ found x end → Number b at x end
+pub found-number : {b : List ℕ} {at x end : ℕ} → at ≤ length b → numberAt b at ≡ found x end → Number b at x end
 unfolding numberAt
 found-number {b} {at} {x} {end} h e = go (ℕ-discrete (byteAt b at) 48) (T? (isDigit (byteAt b at)))
   where

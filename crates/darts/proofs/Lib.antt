@@ -71,3 +71,8 @@ pub mod chained
 pub mod Outcomes
 pub mod Least
 pub mod Counting
+pub mod Looks
+pub mod LooksLines
+pub mod Seen
+pub mod Mends
+pub mod MendsLines

@@ -57,7 +57,7 @@ kind-found x n C B =
     let some : n ≢ 0 = omega (arith, C .some) in
     rw (field-found (kindWord x) 10 [] no-digit-feed (record { there = B; bound = C .bound }), eqb-other some)
 
-kernel-found : {b : List ℕ} {at end : ℕ} (x : Kind) (n : ℕ) → Line b at (line x n) end → kernelAt b at ≡ found (line x n) end
+pub kernel-found : {b : List ℕ} {at end : ℕ} (x : Kind) (n : ℕ) → Line b at (line x n) end → kernelAt b at ≡ found (line x n) end
 unfolding kernelAt countLine kindWord
 kernel-found contraction n l =
     let S = between-split (bytes "kernel=") (l .there) in
@@ -84,7 +84,7 @@ found-kind {b} {at} x {k} {end} h e = after-found (field (kindWord x) lineFeed b
         same-found (λ k end. Between b at (kindWord (k .kind) ++ (decimal (k .count) ++ lineFeed)) end × Counted k) (rw (eqb-other some) at rest)
         (F .there, record { some = omega arith; bound = F .bound })
 
-found-kernel : {b : List ℕ} {at : ℕ} {k : KernelLine} {end : ℕ} → at ≤ length b → kernelAt b at ≡ found k end → Line b at k end
+pub found-kernel : {b : List ℕ} {at : ℕ} {k : KernelLine} {end : ℕ} → at ≤ length b → kernelAt b at ≡ found k end → Line b at k end
 unfolding kernelAt countLine
 found-kernel {b} {at} {k} {end} h e = after-found (word (bytes "kernel=") b at) _ e (λ _ mid first rest.
     let W = found-word (bytes "kernel=") tt h first in
@@ -140,7 +140,7 @@ pair-parts : (x y : ℕ) (xs : List ℕ) → pairLines (x ∷ y ∷ xs) ≡ (byt
 unfolding pairLines
 pair-parts x y xs = simp append-assoc
 
-no-digit-space : isDigit 32 ≡ false
+pub no-digit-space : isDigit 32 ≡ false
 unfolding isDigit
 no-digit-space = refl
 

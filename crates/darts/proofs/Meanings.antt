@@ -1,6 +1,9 @@
 -- What a file means (document 01, "The file").
 --   Meaning room b s t past          == the bytes b are the text of values in good form; these pass the tests for D, for the lent slices and for a pyramid; and
 --                                       they state s, t and past
+--   Closing o c end, closing         == what the body c, after the opening o, means: what it states where that is a pyramid, else 4
+--   DartsJudged room b o at, darts-judged == what a file means after its opening o: 1, 2, or what its body tells
+--   opened-uncounted, opened-cramped, opened-on == each of the three
 --   Closed o r s t past              == the body r, after the opening o, states s, t and past, a pyramid
 --   verdict room D s t past          == what a file means that states these, in the order of the tests
 --   SameMeaning s t past s′ t′ past′ == one state, one table, one past
@@ -48,26 +51,40 @@ record Closed (o : Opening) (r : Scan Body) (s : State) (t past : List ℕ) : Ty
   history : past ≡ reverse (fileHistory (stated .kernels))
   pyramid : T (isPyramid s t past)
 
+-- "After the last byte: 4"
+pub data Closing (o : Opening) (c : Body) (end : ℕ) : Type 0 where
+  stands : (let s : State = fileState (o .darts) (c .kernels) in let t : List ℕ = map (fromFlag (o .flag) (o .darts)) (c .numbers) in
+      let past : List ℕ = reverse (fileHistory (c .kernels)) in T (isPyramid s t past) × (closed o (found c end) ≡ means s t past)) → Closing o c end
+  falls : closed o (found c end) ≡ faulty (o .darts) noPyramid → Closing o c end
+
+pub closing : (o : Opening) (c : Body) (end : ℕ) → Closing o c end
+unfolding closed
+closing o c end = go (T? (isPyramid s t past))
+  where
+    s : State
+    s = fileState (o .darts) (c .kernels)
+
+    t : List ℕ
+    t = map (fromFlag (o .flag) (o .darts)) (c .numbers)
+
+    past : List ℕ
+    past = reverse (fileHistory (c .kernels))
+
+    go : Dec (T (isPyramid s t past)) → Closing o c end
+    go (yes p) = stands (p, rw (T→true (isPyramid s t past) p))
+    go (no n) = falls (rw (nT→false (isPyramid s t past) n))
+
 means-closed : (o : Opening) (r : Scan Body) {s : State} {t past : List ℕ} → closed o r ≡ means s t past → Closed o r s t past
 unfolding closed
 means-closed o (fault a) e = absurd (faulty≢means e)
-means-closed o (found c end) {s} {t} {past} e = go (T? (isPyramid s₀ t₀ past₀))
+means-closed o (found c end) {s} {t} {past} e = go (closing o c end)
   where
-    s₀ : State
-    s₀ = fileState (o .darts) (c .kernels)
-
-    t₀ : List ℕ
-    t₀ = map (fromFlag (o .flag) (o .darts)) (c .numbers)
-
-    past₀ : List ℕ
-    past₀ = reverse (fileHistory (c .kernels))
-
-    go : Dec (T (isPyramid s₀ t₀ past₀)) → Closed o (found c end) s t past
-    go (yes p) =
-        let given : means s₀ t₀ past₀ ≡ means s t past = rw (T→true (isPyramid s₀ t₀ past₀) p) at e in
-        let state : s₀ ≡ s = cc in
-        let table : t₀ ≡ t = cc in
-        let history : past₀ ≡ past = cc in
+    go : Closing o c end → Closed o (found c end) s t past
+    go (stands (p, k)) =
+        let given = sym k ∙ e in
+        let state : fileState (o .darts) (c .kernels) ≡ s = cc in
+        let table : map (fromFlag (o .flag) (o .darts)) (c .numbers) ≡ t = cc in
+        let history : reverse (fileHistory (c .kernels)) ≡ past = cc in
         record {
           stated = c;
           end = end;
@@ -77,7 +94,36 @@ means-closed o (found c end) {s} {t} {past} e = go (T? (isPyramid s₀ t₀ past
           history = sym history;
           pyramid = subst₃ (λ s t past. T (isPyramid s t past)) state table history p;
         }
-    go (no n) = absurd (faulty≢means (rw (nT→false (isPyramid s₀ t₀ past₀) n) at e))
+    go (falls k) = absurd (faulty≢means (sym k ∙ e))
+
+-- ---- D is judged when its line has ended
+
+-- "D (1, then 2)"
+pub data DartsJudged (room : ℕ → Bool) (b : List ℕ) (o : Opening) (at : ℕ) : Type 0 where
+  uncounted : ¬ (T (dartCount (o .darts))) → opened room b (found o at) ≡ faulty 0 noDartCount → DartsJudged room b o at
+  cramped : T (dartCount (o .darts)) → ¬ (T (room (o .darts))) → opened room b (found o at) ≡ faulty 0 tooShort → DartsJudged room b o at
+  goes-on : T (dartCount (o .darts)) → T (room (o .darts)) → opened room b (found o at) ≡ closed o (body (o .darts) b at) → DartsJudged room b o at
+
+module _ (room : ℕ → Bool) (b : List ℕ) (o : Opening) (at : ℕ) where
+  pub opened-uncounted : ¬ (T (dartCount (o .darts))) → opened room b (found o at) ≡ faulty 0 noDartCount
+  unfolding opened
+  opened-uncounted n = rw (nT→false (dartCount (o .darts)) n)
+
+  pub opened-cramped : T (dartCount (o .darts)) → ¬ (T (room (o .darts))) → opened room b (found o at) ≡ faulty 0 tooShort
+  unfolding opened
+  opened-cramped d n = rw (T→true (dartCount (o .darts)) d, nT→false (room (o .darts)) n)
+
+  pub opened-on : T (dartCount (o .darts)) → T (room (o .darts)) → opened room b (found o at) ≡ closed o (body (o .darts) b at)
+  unfolding opened
+  opened-on d f = rw (T→true (dartCount (o .darts)) d, T→true (room (o .darts)) f)
+
+  pub darts-judged : DartsJudged room b o at
+  darts-judged = go (T? (dartCount (o .darts))) (T? (room (o .darts)))
+    where
+      go : Dec (T (dartCount (o .darts))) → Dec (T (room (o .darts))) → DartsJudged room b o at
+      go (no n) f = uncounted n (opened-uncounted n)
+      go (yes d) (no n) = cramped d n (opened-cramped d n)
+      go (yes d) (yes f) = goes-on d f (opened-on d f)
 
 module _ (room : ℕ → Bool) (b : List ℕ) {s : State} {t past : List ℕ} where
   -- WHERE A FILE HAS A MEANING, IT STATES IT
@@ -87,13 +133,13 @@ module _ (room : ℕ → Bool) (b : List ℕ) {s : State} {t past : List ℕ} wh
     where
       go : (r : Scan Opening) → opening b ≡ r → opened room b r ≡ means s t past → Meaning room b s t past
       go (fault a) k e = absurd (faulty≢means e)
-      go (found o at) k e = tests (T? (dartCount (o .darts))) (T? (room (o .darts)))
+      go (found o at) k e = tests (darts-judged room b o at)
         where
-          tests : Dec (T (dartCount (o .darts))) → Dec (T (room (o .darts))) → Meaning room b s t past
-          tests (no n) f = absurd (faulty≢means (rw (nT→false (dartCount (o .darts)) n) at e))
-          tests (yes d) (no n) = absurd (faulty≢means (rw (T→true (dartCount (o .darts)) d, nT→false (room (o .darts)) n) at e))
-          tests (yes d) (yes f) =
-              let C = means-closed o (body (o .darts) b at) (rw (T→true (dartCount (o .darts)) d, T→true (room (o .darts)) f) at e) in
+          tests : DartsJudged room b o at → Meaning room b s t past
+          tests (uncounted n i) = absurd (faulty≢means (sym i ∙ e))
+          tests (cramped d n i) = absurd (faulty≢means (sym i ∙ e))
+          tests (goes-on d f i) =
+              let C = means-closed o (body (o .darts) b at) (sym i ∙ e) in
               let G = scanned-text k (C .holds) in
               record {
                 flag = o .flag;

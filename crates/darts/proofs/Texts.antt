@@ -7,7 +7,7 @@
 --   linesAt b D L at         == what stands after the level count L
 use mathlib.Core.Bool.{false}
 use mathlib.Core.List.{List, [], _∷_, _++_}
-use mathlib.Core.Path.{_≡_, refl, sym, subst}
+use mathlib.Core.Path.{_≡_, refl, sym, _∙_, subst}
 use Prim.Native.Nat.{ℕ, suc, _+_, _*_, _/_, _≤_}
 use native.Mathlib.Decide.{ℕ-discrete}
 use native.Mathlib.Omega.{arith}
@@ -26,11 +26,11 @@ use Rattle.darts.proofs.Lists.{Each}
 use Rattle.darts.proofs.Lines.{Counted, countLines, no-digit-feed, kernels-found, found-kernels, pairs-found, found-pairs}
 
 -- "1. `numbers=F`." "2. `darts=D`."
-unfoldable openingText : ℕ → ℕ → List ℕ
+unfoldable pub openingText : ℕ → ℕ → List ℕ
 openingText F D = bytes "numbers=" ++ ((48 + F) ∷ (lineFeed ++ (bytes "darts=" ++ (decimal D ++ lineFeed))))
 
 -- "3. `levels=L`." "4. L lines" "5. D/2 lines"
-unfoldable bodyText : List KernelLine → List ℕ → List ℕ
+unfoldable pub bodyText : List KernelLine → List ℕ → List ℕ
 bodyText ks xs = (bytes "levels=" ++ (decimal (length ks) ++ lineFeed)) ++ (countLines ks ++ pairLines xs)
 
 unfoldable pub textOf : ℕ → ℕ → List KernelLine → List ℕ → List ℕ
@@ -58,7 +58,7 @@ pub record Scanned (b : List ℕ) (F D : ℕ) (ks : List KernelLine) (xs : List 
 
 -- ---- opening
 
-flag-found : {b : List ℕ} {at : ℕ} (F : ℕ) {end : ℕ} → F ≤ 1 → Between b at ((48 + F) ∷ []) end → flagAt b at ≡ found F end
+pub flag-found : {b : List ℕ} {at : ℕ} (F : ℕ) {end : ℕ} → F ≤ 1 → Between b at ((48 + F) ∷ []) end → flagAt b at ≡ found F end
 unfolding flagAt
 flag-found {b} {at} F {end} h B = go (ℕ-discrete F 0)
   where
@@ -75,11 +75,11 @@ flag-found {b} {at} F {end} h B = go (ℕ-discrete F 0)
         let e : byteAt b at ≡ 49 = omega (arith, byte) in
         rw (e, z, last)
 
-record Flag (b : List ℕ) (at F end : ℕ) : Type 0 where
-  there : Between b at ((48 + F) ∷ []) end
-  bound : F ≤ 1
+pub record Flag (b : List ℕ) (at F end : ℕ) : Type 0 where
+  pub there : Between b at ((48 + F) ∷ []) end
+  pub bound : F ≤ 1
 
-found-flag : {b : List ℕ} {at F end : ℕ} → flagAt b at ≡ found F end → Flag b at F end
+pub found-flag : {b : List ℕ} {at F end : ℕ} → flagAt b at ≡ found F end → Flag b at F end
 unfolding flagAt
 found-flag {b} {at} {F} {end} e = go (ℕ-discrete (byteAt b at) 48) (ℕ-discrete (byteAt b at) 49) (ℕ-discrete (byteAt b at) 256)
   where
@@ -92,12 +92,12 @@ found-flag {b} {at} {F} {end} e = go (ℕ-discrete (byteAt b at) 48) (ℕ-discre
     go (no z) (no o) (yes n) = absurd (fault≢found (rw (eqb-other z, eqb-other o, eqb-same n) at e))
     go (no z) (no o) (no n) = absurd (fault≢found (rw (eqb-other z, eqb-other o, eqb-other n) at e))
 
-record Opens (b : List ℕ) (o : Opening) (end : ℕ) : Type 0 where
-  there : Between b 0 (openingText (o .flag) (o .darts)) end
-  flag : o .flag ≤ 1
-  darts : o .darts ≤ 99999
+pub record Opens (b : List ℕ) (o : Opening) (end : ℕ) : Type 0 where
+  pub there : Between b 0 (openingText (o .flag) (o .darts)) end
+  pub flag : o .flag ≤ 1
+  pub darts : o .darts ≤ 99999
 
-opening-found : {b : List ℕ} (o : Opening) {end : ℕ} → Opens b o end → opening b ≡ found o end
+pub opening-found : {b : List ℕ} (o : Opening) {end : ℕ} → Opens b o end → opening b ≡ found o end
 unfolding opening openingText
 opening-found o O =
     let N = between-split (bytes "numbers=") (O .there) in
@@ -110,7 +110,7 @@ opening-found o O =
       field-found (bytes "darts=") 10 [] no-digit-feed (record { there = L .second; bound = O .darts }),
     )
 
-found-opening : {b : List ℕ} {o : Opening} {end : ℕ} → opening b ≡ found o end → Opens b o end
+pub found-opening : {b : List ℕ} {o : Opening} {end : ℕ} → opening b ≡ found o end → Opens b o end
 unfolding opening openingText
 found-opening {b} e =
     after-found (word (bytes "numbers=") b 0) _ e (λ _ flag first rest.
@@ -134,19 +134,19 @@ record Holds (b : List ℕ) (D at : ℕ) (c : Body) (end : ℕ) : Type 0 where
   numbers : Each (λ x. x ≤ 99999) (c .numbers)
   pairs : length (c .numbers) ≡ 2 * (D / 2)
 
-body-found : {b : List ℕ} {D at : ℕ} (c : Body) {end : ℕ} → Holds b D at c end → body D b at ≡ found c end
-unfolding body bodyText endAt
-body-found {D = D} c H =
-    let L = between-split (bytes "levels=" ++ (decimal (length (c .kernels)) ++ lineFeed)) (H .there) in
-    let K = between-split (countLines (c .kernels)) (L .second) in
-    let L′ = length (c .kernels) in
-    let few : ltb 64 L′ ≡ false = nT→false (ltb 64 L′) (λ t. omega (arith, ltb→lt 64 L′ t, H .levels)) in
+-- the body is found up to the end of its last line
+pub body-at : {b : List ℕ} {F D : ℕ} {ks : List KernelLine} {xs : List ℕ} → GoodForm F D ks xs → {at end : ℕ} → Between b at (bodyText ks xs) end
+    → body D b at ≡ endAt (stated ks xs) b end
+unfolding body bodyText
+body-at {D = D} {ks = ks} {xs = xs} G B =
+    let L = between-split (bytes "levels=" ++ (decimal (length ks) ++ lineFeed)) B in
+    let K = between-split (countLines ks) (L .second) in
+    let few : ltb 64 (length ks) ≡ false = nT→false (ltb 64 (length ks)) (λ t. omega (arith, ltb→lt 64 (length ks) t, G .levels)) in
     rw (
-      field-found (bytes "levels=") 10 [] no-digit-feed (record { there = L .first; bound = omega (arith, H .levels) }),
+      field-found (bytes "levels=") 10 [] no-digit-feed (record { there = L .first; bound = omega (arith, G .levels) }),
       few,
-      kernels-found (record { there = K .first; counted = H .counts; many = refl }),
-      pairs-found (D / 2) (c .numbers) (record { there = K .second; bounds = H .numbers; many = H .pairs }),
-      eqb-same (H .last),
+      kernels-found (record { there = K .first; counted = G .counts; many = refl }),
+      pairs-found (D / 2) xs (record { there = K .second; bounds = G .numbers; many = G .pairs }),
     )
 
 -- "nothing after the last"
@@ -197,20 +197,14 @@ found-body {b} {D} {at} {c} {end} h e =
 
 -- A TEXT IN GOOD FORM IS READ AS WHAT IT STATES
 pub text-scanned : {F D : ℕ} {ks : List KernelLine} {xs : List ℕ} → GoodForm F D ks xs → Scanned (textOf F D ks xs) F D ks xs
-unfolding textOf
+unfolding textOf endAt
 text-scanned {F} {D} {ks} {xs} G =
-    let S = between-split (openingText F D) (between-all (textOf F D ks xs)) in
+    let b = textOf F D ks xs in
+    let S = between-split (openingText F D) (between-all b) in
     record {
       start = S .mid;
       opens = opening-found (opened F D) (record { there = S .first; flag = G .flag; darts = G .darts });
-      holds = body-found (stated ks xs) (record {
-        there = S .second;
-        last = refl;
-        levels = G .levels;
-        counts = G .counts;
-        numbers = G .numbers;
-        pairs = G .pairs;
-      });
+      holds = body-at G (S .second) ∙ rw (eqb-same {m = length b} refl);
     }
 
 -- WHAT IS READ IS A TEXT IN GOOD FORM

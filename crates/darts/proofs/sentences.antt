@@ -15,3 +15,15 @@ pub mod Kernels
 pub mod Shared
 pub mod Sweep
 pub mod Tops
+pub mod FirstLines
+pub mod BodyLines
+pub mod FirstFault
+pub mod Reading
+pub mod ReadWork
+pub mod ReadOrder
+pub mod LineEnds
+pub mod LastLine
+pub mod Writing
+pub mod FileRows
+pub mod WrongByte
+pub mod FileLength

@@ -190,6 +190,8 @@ table =
     ∷ answersFile "numbers=0\ndarts=10\nlevels=x" 2 0
     ∷ answersFile "numbers=0\ndarts=8\nlevels=65\nkernel=" 6 0
     ∷ answersFile "numbers=0\ndarts=8\nlevels=1\nkernel=remove 0\npair" 5 0
+    -- "nothing after the last"
+    ∷ answersFile "numbers=0\ndarts=2\nlevels=0\npair=0 1\n\n" 13 36
     -- "0 under F = 1, D under F = 0"
     ∷ answersFile "numbers=1\ndarts=2\nlevels=0\npair=0 2\n" 4 0
     ∷ answersFile "numbers=0\ndarts=2\nlevels=0\npair=1 2\n" 4 0

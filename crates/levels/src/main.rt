@@ -2,13 +2,17 @@
 // why the file is refused.
 use libc::STDIN_FILENO;
 use pyramid::Answer;
+use pyramid::Counted;
 use pyramid::Counts;
-use pyramid::State;
+use pyramid::Outcome;
+ghost use mathlib.Core.Path.{_≡_};
 ghost use Rattle.page.specs.Waits.{Waits};
+ghost use Rattle.pyramid.specs.Values.{answerOf, left, tallyOf, countsLeft};
+ghost use Rattle.levels.specs.Report.{levelAt, countsAt, Tables, Refused, Accepted, LineOf};
 
-// The line of a refused file.
-fn refusal(answer: Answer, page: &mut [u8]) -> usize
-    requires { ⌜ Waits 0 (now page) ⌝ }
+// The line of a refused file, which is lent for the contract alone: no other answer can stand in its line.
+fn refusal(file: &[u8], answer: Answer, page: &mut [u8]) -> usize
+    requires { ⌜ Refused (now file) (answerOf answer) × Waits 0 (now page) ⌝ }
     ensures { λ r. ⌜ Waits r (now (page .exit)) ⌝ }
 {
     let number = page::field(page, 0, b"refusal=", answer.number() as u64);
@@ -16,18 +20,21 @@ fn refusal(answer: Answer, page: &mut [u8]) -> usize
     page::text(page, place, b"\n")
 }
 
-// Level k of an accepted file. It is read anew for each level, since unfolding changes the tables.
+// Level k of a file. It is read anew for each level, since unfolding changes the tables.
 fn unfolded(
     file: &[u8],
     k: u32,
     table: &mut [u32],
     history: &mut [u32],
     work: &mut [u32],
-) -> State {
+) -> Outcome
+    ensures { λ r. ⌜
+        left r (now (table .exit)) (now (history .exit)) (now (work .exit))
+        ≡ levelAt k (now (file .entry)) (now (table .entry)) (now (history .entry)) (now (work .entry)) ⌝ }
+{
     let read = zonefile::read(file, table, history, work);
     let top = read.state;
-    let outcome = top.unfold(k, table, history, work);
-    outcome.state
+    top.unfold(k, table, history, work)
 }
 
 // The counts of level k.
@@ -37,15 +44,19 @@ fn counts_at(
     table: &mut [u32],
     history: &mut [u32],
     work: &mut [u32],
-) -> Counts {
-    let state = unfolded(file, k, table, history, work);
-    let counted = state.counts(table, history, work);
-    counted.counts
+) -> Counted
+    ensures { λ r. ⌜
+        countsLeft r (now (table .exit)) (now (history .exit)) (now (work .exit))
+        ≡ countsAt k (now (file .entry)) (now (table .entry)) (now (history .entry)) (now (work .entry)) ⌝ }
+{
+    let outcome = unfolded(file, k, table, history, work);
+    let state = outcome.state;
+    state.counts(table, history, work)
 }
 
-// The line of level k.
-fn level(k: u32, counts: Counts, page: &mut [u8], used: usize) -> usize
-    requires { ⌜ Waits used (now page) ⌝ }
+// The line of level k of the file, which is lent for the contract alone: no other level's counts can stand in its line.
+fn level(file: &[u8], k: u32, counts: Counts, page: &mut [u8], used: usize) -> usize
+    requires { ⌜ LineOf k (now file) (tallyOf counts) × Waits used (now page) ⌝ }
     ensures { λ r. ⌜ Waits r (now (page .exit)) ⌝ }
 {
     let number = page::field(page, used, b"level=", k as u64);
@@ -69,13 +80,14 @@ fn levels(
     work: &mut [u32],
     page: &mut [u8],
 ) -> usize
-    requires { ⌜ Waits 0 (now page) ⌝ }
+    requires { ⌜ Accepted (now file) top × Tables (now table) (now history) (now work) × Waits 0 (now page) ⌝ }
     ensures { λ r. ⌜ Waits r (now (page .exit)) ⌝ }
 {
     let mut used = 0;
     for k in 0..=top {
-        let counts = counts_at(file, k, table, history, work);
-        used = level(k, counts, page, used);
+        let counted = counts_at(file, k, table, history, work);
+        let counts = counted.counts;
+        used = level(file, k, counts, page, used);
     }
     used
 }
@@ -88,13 +100,13 @@ fn report(
     work: &mut [u32],
     page: &mut [u8],
 ) -> usize
-    requires { ⌜ Waits 0 (now page) ⌝ }
+    requires { ⌜ Tables (now table) (now history) (now work) × Waits 0 (now page) ⌝ }
     ensures { λ r. ⌜ Waits r (now (page .exit)) ⌝ }
 {
     let read = zonefile::read(file, table, history, work);
     let answer = read.answer;
     if answer.number() != 0 {
-        return refusal(answer, page);
+        return refusal(file, answer, page);
     }
     let state = read.state;
     let used = levels(file, state.levels, table, history, work, page);

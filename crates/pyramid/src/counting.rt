@@ -10,7 +10,7 @@ use engine::counting::cycles;
 ghost use mathlib.Core.Path.{_≡_};
 ghost use Prim.Native.Nat.{_≤_};
 ghost use lib.ListN.{length};
-ghost use Rattle.darts.specs.Calls.{counts as countsOf, fitting, cleared};
+ghost use Rattle.darts.specs.Calls.{counts as countsBy, fitting, cleared};
 ghost use Rattle.darts.specs.Counts.{noCounts, countsFrom};
 ghost use Rattle.pyramid.specs.Values.{stateOf, tallyOf, countsLeft};
 
@@ -52,7 +52,7 @@ impl State {
         requires { ⌜ fitting (self .darts) (length (now table)) (length (now history)) (length (now work)) .number ≡ 0 ⌝ }
         ensures { λ r. ⌜
             countsLeft r (now (table .entry)) (now (history .entry)) (cleared (self .darts) (now (work .exit)))
-            ≡ countsOf (stateOf self) (now (table .entry)) (now (history .entry)) (now (work .entry)) ⌝ }
+            ≡ countsBy (stateOf self) (now (table .entry)) (now (history .entry)) (now (work .entry)) ⌝ }
     {
         let d = self.darts as usize;
         let n = self.operations as usize;
@@ -74,7 +74,7 @@ impl State {
     pub fn counts(self, table: &mut [u32], history: &mut [u32], work: &mut [u32]) -> Counted
         ensures { λ r. ⌜
             countsLeft r (now (table .exit)) (now (history .exit)) (now (work .exit))
-            ≡ countsOf (stateOf self) (now (table .entry)) (now (history .entry)) (now (work .entry)) ⌝ }
+            ≡ countsBy (stateOf self) (now (table .entry)) (now (history .entry)) (now (work .entry)) ⌝ }
     {
         let judged = fit(self.darts, table.len(), history.len(), work.len());
         if judged.number() != 0 {

@@ -5,7 +5,7 @@ use crate::state::put_counts;
 use crate::state::state_of;
 use pyramid::Kind;
 ghost use mathlib.Core.Path.{_≡_};
-ghost use Rattle.darts.specs.Calls.{start, reduceBy, sweepBy, undoBy, unfoldBy, counts as countsOf};
+ghost use Rattle.darts.specs.Calls.{start, reduceBy, sweepBy, undoBy, unfoldBy, counts as countsBy};
 ghost use Rattle.darts.specs.Operation.{contraction, removal};
 ghost use Rattle.zonemap_c.specs.Numbers.{stateIn, tallyIn, leftIn, countedIn};
 
@@ -133,7 +133,7 @@ pub extern "C" fn zm_counts(
 ) -> u32
     ensures { λ r. ⌜
         countedIn r (now (place .exit)) (tallyIn (now (counts .exit)) (now (euler .exit))) (now (table .exit)) (now (history .exit)) (now (work .exit))
-        ≡ countsOf (stateIn (now (state .entry))) (now (table .entry)) (now (history .entry)) (now (work .entry)) ⌝ }
+        ≡ countsBy (stateIn (now (state .entry))) (now (table .entry)) (now (history .entry)) (now (work .entry)) ⌝ }
 {
     let given = state_of(state);
     let counted = given.counts(table, history, work);

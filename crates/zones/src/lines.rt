@@ -3,7 +3,6 @@ use crate::calls::call;
 use crate::held::Held;
 use crate::held::nothing;
 use crate::prints;
-use crate::rooms;
 use crate::rooms::HistoryRoom;
 use crate::rooms::NumbersRoom;
 use crate::rooms::OutputRoom;
@@ -74,13 +73,13 @@ fn each(
     }
 }
 
-// Runs a script over rooms of zeros.
+// Runs a script over rooms of zeros, each made here and lent whole, so that it stands on the stack once.
 pub fn run(script: &[u8]) {
-    let mut numbers = rooms::numbers();
-    let mut table = rooms::table();
-    let mut history = rooms::history();
-    let mut work = rooms::work();
-    let mut output = rooms::output();
+    let mut numbers = [0u32; 262161];
+    let mut table = [0u32; 65540];
+    let mut history = [0u32; 32772];
+    let mut work = [0u32; 262160];
+    let mut output = [0u8; 600000];
     each(
         script,
         &mut numbers,

@@ -12,14 +12,25 @@ mod words;
 
 use libc::STDIN_FILENO;
 use libc::STDOUT_FILENO;
+use rooms::ScriptRoom;
 
 // "The script may be 2,000,000 bytes long." One byte more says that it is longer.
-fn main() {
-    let mut script = rooms::script();
-    let n = io::read_full(STDIN_FILENO, &mut script);
+fn run(script: &mut [u8]) {
+    let n = io::read_full(STDIN_FILENO, script);
     if 2000000 < n {
         io::write_all(STDOUT_FILENO, b"error=0\n");
         return;
     }
     lines::run(&script[..n]);
+}
+
+// The script's room as a slice.
+fn read_and_run(script: &mut ScriptRoom) {
+    run(script);
+}
+
+// The room is made where it is lent, so that it stands on the stack once: what a function returns stands there twice.
+fn main() {
+    let mut script = [0u8; 2000001];
+    read_and_run(&mut script);
 }

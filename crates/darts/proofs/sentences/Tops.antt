@@ -1,7 +1,6 @@
--- Undo, unfold, counts and write on a pyramid lent with room.
+-- Undo, unfold and counts on a pyramid lent with room.
 --   undo-twelve, unfold-twelve == 12, "undo at the base, or k above the top", place "the top level"
 --   undo-zero, unfold-zero, counts-zero == done, in every other case
---   write-two, write-zero == the writer's output shorter than the file, or not
 use mathlib.Core.List.{List}
 use mathlib.Core.Logic.{_≢_}
 use mathlib.Core.Path.{_≡_, refl}
@@ -47,26 +46,3 @@ module _ (s : State) (t h w : List ℕ) (L : Lent s t h w) where
   pub counts-zero : Answers (counts s t h w .answer) 0 0
   unfolding counts
   counts-zero = answers (judged-lent s t h w L)
-
-  -- ---- write
-
-  module _ (o : List ℕ) where
-    -- 2, place "for the writer's output, the bytes needed"
-    pub write-two : length o < length (fileOf s (tableOf s t) (pastOf s h))
-        → Answers (write s t h w o .answer) 2 (length (fileOf s (tableOf s t) (pastOf s h)))
-    write-two b = go (writing s t h w o)
-      where
-        go : Writing s t h w o → Answers (write s t h w o .answer) 2 (length (fileOf s (tableOf s t) (pastOf s h)))
-        go (refused n e) = absurd (n (rw (judged-lent s t h w L)))
-        go (tight l c e) = answers (rw e)
-        go (written l c e) = absurd (omega arith)
-
-    -- 0, place "for the writer, the bytes written"
-    pub write-zero : length (fileOf s (tableOf s t) (pastOf s h)) ≤ length o
-        → Answers (write s t h w o .answer) 0 (length (fileOf s (tableOf s t) (pastOf s h)))
-    write-zero b = go (writing s t h w o)
-      where
-        go : Writing s t h w o → Answers (write s t h w o .answer) 0 (length (fileOf s (tableOf s t) (pastOf s h)))
-        go (refused n e) = absurd (n (rw (judged-lent s t h w L)))
-        go (tight l c e) = absurd (omega arith)
-        go (written l c e) = answers (rw e)

@@ -1,5 +1,6 @@
 -- The work area after a call (document 01, "Answer numbers").
 --   Zeroed D w v    == w has 4D numbers; in v the first 4D are zero, and the others are those of w
+--   cleared-zeroed  == a cleared work area is
 --   Area n D w v    == an answer of number n leaves v of the work area w: w itself where n is 1 or 2, zeroed otherwise
 --   state-area      == every call on a state leaves such a work area; instances for reduce, sweep, undo, unfold
 --   start-area, counts-area, write-area == the same for start and counts, and with its exception for the writer
@@ -30,7 +31,7 @@ pub record Area (n D : ℕ) (w v : List ℕ) : Type 0 where
   pub kept : (n ≡ 1) ⊎ (n ≡ 2) → v ≡ w
   pub zeroed : n ≢ 1 → n ≢ 2 → Zeroed D w v
 
-cleared-zeroed : (D : ℕ) (w : List ℕ) → 4 * D ≤ length w → Zeroed D w (cleared D w)
+pub cleared-zeroed : (D : ℕ) (w : List ℕ) → 4 * D ≤ length w → Zeroed D w (cleared D w)
 cleared-zeroed D w h = record { room = h; zero = cleared-zero D w; rest = cleared-rest D w }
 
 after-area : (a : Answer) (D : ℕ) (w : List ℕ) → (a .number ≢ 1 → a .number ≢ 2 → 4 * D ≤ length w) → Area (a .number) D w (workAfter a D w)

@@ -1,9 +1,11 @@
 -- `levels::levels`: every lent slice keeps its length, and what waits stays within the page. The measure is what is left of the levels.
-use mathlib.Core.Path.{_≡_}
+use mathlib.Core.Path.{_≡_, _∙_}
 use Prim.Native.Nat.{_+_, _-_, _≤_}
+use native.Mathlib.Omega.{arith}
 use borrow.Author.Needs.{needs}
 use lib.ListN.{length}
 use Rattle.page.specs.Waits.{Waits}
+use Rattle.levels.proofs.LevelCounts.{line-of}
 use Rattle.levels.proofs.levels.Statement.{statement}
 use Rattle.levels.proofs.levels.Tie as tie
 
@@ -21,7 +23,14 @@ counts-at-requires : tie.Need-counts-at-requires Inv-loop μ-loop
 counts-at-requires c κs = search needs
 
 level-requires : tie.Need-level-requires Inv-loop μ-loop
-level-requires c κs = search needs
+level-requires c κs =
+    let r = c .before .before .before .before .before .before .before .before .counts-at in
+    let given = c .before .before .before .before .before .before .before .before .before .before .before .before .before .before .before .before .before .before .before .pre in
+    let T = given .1 in
+    let kept = c .before .before .before .before .before .before .before .before .before .before .before .before .before .loop .inv in (
+      line-of _ record { table = kept .0 ∙ T .table; history = kept .1 ∙ T .history; work = kept .2 ∙ T .work } _ _ (r .result) (given .0) (omega arith) (r .ensures),
+      search needs,
+    )
 
 add-k : tie.Need-add-k Inv-loop μ-loop
 add-k c = search needs

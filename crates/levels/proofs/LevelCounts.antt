@@ -1,0 +1,190 @@
+-- The counts of a level of a file are the same whatever stood in the tables.
+--   Holds s u past t h w == the slices t, h and w hold the pyramid s, u, past
+--   stored               == what an accepted call writes over the first numbers of the slices, they hold
+--   unfold-held          == unfold to level k on what is held
+--   counts-held          == counts of what is held
+--   level-counts         == read, unfolded to level k and counted: the counts of level k of what the file means
+--   line-of, refused-read, accepted-read == what the program's calls leave is what its lines may say
+use mathlib.Core.Bool.{Bool, true, false}
+use mathlib.Core.List.{List, reverse, reverse-reverse}
+use mathlib.Core.Logic.{_≢_}
+use mathlib.Core.Path.{_≡_, refl, sym, ap, ap₂, _∙_, subst}
+use Prim.Native.Nat.{ℕ, zero, suc, _-_, _*_, _≤_}
+use native.Mathlib.Omega.{arith}
+use lib.Dec.{T, eqb, ltb}
+use lib.ListN.{length, take, replicate, length-append, length-drop, length-replicate, length-reverse}
+use lib.Seq.{take-at}
+use Rattle.permutations.specs.Choice.{T→true}
+use Rattle.darts.specs.Answers.{Answer, done}
+use Rattle.darts.specs.State.{State, gives}
+use Rattle.darts.specs.Levels.{lowered, undoLevel, undoLevels, unfoldTo}
+use Rattle.darts.specs.Pyramid.{Pyramid, dartCount, isPyramid}
+use Rattle.darts.specs.Counts.{countsOf, noCounts}
+use Rattle.darts.specs.Read.{Read, means, faulty, readFile, fileState}
+use Rattle.darts.specs.Calls.{leaves, room, fitting, judged, tableOf, pastOf, cleared, handsBack, onState, unfoldBy, counts, readInto, read}
+use Rattle.slices.specs.Over.{over}
+use Rattle.darts.proofs.Results.{refuses≢gives, then, same-result}
+use Rattle.darts.proofs.Pyramids.{pyramid-built}
+use Rattle.darts.proofs.Decided.{pyramid-decided}
+use Rattle.darts.proofs.Room.{pyramid-room}
+use Rattle.darts.proofs.Undo.{unfold-pyramid}
+use Rattle.darts.proofs.Meanings.{meaning}
+use Rattle.darts.proofs.WriteRead.{write-read}
+use Rattle.pyramid.specs.Values.{answerOf, left, tallyOf, countsLeft}
+use Rattle.pyramid.specs.declared.Outcome.{Outcome}
+use Rattle.pyramid.specs.declared.Counted.{Counted}
+use Rattle.pyramid.proofs.Fitting.{Lengths, count-facts, room-facts, fine, fits}
+use Rattle.pyramid.proofs.OnState.{taken}
+use Rattle.pyramid.proofs.CountsEnd.{counts-given}
+use Rattle.levels.specs.Report.{levelAt, countsAt, unfolded, counted, Tables, meant, answerTo, topOf, countsGiven, countsOfLevel, Refused, Accepted, LineOf}
+
+-- ---- numbers written over the first ones of a slice
+
+over-take : (new old : List ℕ) (n : ℕ) → length new ≡ n → take n (over new old) ≡ new
+unfolding over
+over-take new old n e = take-at new _ n e
+
+over-length : (new old : List ℕ) → length new ≤ length old → length (over new old) ≡ length old
+unfolding over
+over-length new old h = simp (length-append, length-drop) (omega arith)
+
+cleared-length : (D : ℕ) (w : List ℕ) → 4 * D ≤ length w → length (cleared D w) ≡ length w
+unfolding cleared
+cleared-length D w h = over-length (replicate (4 * D) 0) w (rw length-replicate h)
+
+-- ---- slices that hold a pyramid
+
+record Holds (s : State) (u past t h w : List ℕ) : Type 0 where
+  fits : fitting (s .darts) (length t) (length h) (length w) .number ≡ 0
+  table : tableOf s t ≡ u
+  history : pastOf s h ≡ past
+  pyramid : isPyramid s (tableOf s t) (pastOf s h) ≡ true
+
+module _ {s : State} {u past : List ℕ} (P : Pyramid s u past) where
+  stored : (t h w v : List ℕ) → Lengths (s .darts) (length t) (length h) (length w) → length v ≡ length w
+      → Holds s u past (over u t) (over (reverse past) h) v
+  unfolding tableOf pastOf
+  stored t h w v L e =
+      let B = pyramid-built P in
+      let size = B .standing .size in
+      let count = B .layered .count in
+      let some = pyramid-room P in
+      let back = length-reverse past in
+      let kept : length (over u t) ≡ length t = over-length u t (omega (arith, L .table)) in
+      let kept′ : length (over (reverse past) h) ≡ length h = over-length (reverse past) h (omega (arith, L .history)) in
+      let front : take (s .darts) (over u t) ≡ u = over-take u t (s .darts) size in
+      let front′ : reverse (take (s .operations) (over (reverse past) h)) ≡ past =
+      ap reverse (over-take (reverse past) h (s .operations) (omega arith)) ∙ reverse-reverse past in
+      record {
+        fits = rw (kept, kept′, e) (ap (λ a. a .number) (sym (fine (s .darts) (length t) (length h) (length w) (count-facts (s .darts) (P .count)) L)));
+        table = front;
+        history = front′;
+        pyramid = rw (front, front′) (T→true (isPyramid s u past) (pyramid-decided s u past .1 P));
+      }
+
+module _ {s : State} {u past t h w : List ℕ} (H : Holds s u past t h w) where
+  unfold-held : (k : ℕ) {z : State} {v new : List ℕ} → unfoldTo k s u past ≡ gives z v new
+      → unfoldBy k s t h w ≡ leaves done z (over v t) (over (reverse new) h) (cleared (s .darts) w)
+  unfolding unfoldBy handsBack
+  unfold-held k e =
+      taken (unfoldTo k) s t h w (H .fits) (H .pyramid) ∙ ap (handsBack s t h w) (ap₂ (unfoldTo k s) (H .table) (H .history) ∙ e)
+
+  counts-held : counts s t h w .counts ≡ countsOf (s .darts) u past
+  counts-held = ap (λ c. c .counts) (counts-given s t h w (H .fits) (H .pyramid)) ∙ ap₂ (countsOf (s .darts)) (H .table) (H .history)
+
+-- ---- unfold keeps the darts
+
+undo-darts : (s : State) (t past : List ℕ) {z : State} {u new : List ℕ} → undoLevel s t past ≡ gives z u new → z .darts ≡ s .darts
+unfolding undoLevel lowered
+undo-darts s t past {z} e = go (eqb (s .levels) 0) refl
+  where
+    go : (b : Bool) → eqb (s .levels) 0 ≡ b → z .darts ≡ s .darts
+    go true h = absurd (refuses≢gives (rw h at e))
+    go false h = same-result (λ z _ _. z .darts ≡ s .darts) (rw h at e) refl
+
+undo-levels-darts : (n : ℕ) (s : State) (t past : List ℕ) {z : State} {u new : List ℕ} → undoLevels n s t past ≡ gives z u new → z .darts ≡ s .darts
+unfolding undoLevels
+undo-levels-darts zero s t past e = same-result (λ z _ _. z .darts ≡ s .darts) e refl
+undo-levels-darts (suc n) s t past e =
+    let first = then (undoLevel s t past) (undoLevels n) e in
+    undo-levels-darts n (first .state) (first .table) (first .past) (first .next) ∙ undo-darts s t past (first .first)
+
+unfold-darts : (k : ℕ) (s : State) (t past : List ℕ) {z : State} {u new : List ℕ} → unfoldTo k s t past ≡ gives z u new → z .darts ≡ s .darts
+unfolding unfoldTo
+unfold-darts k s t past {z} e = go (ltb (s .levels) k) refl
+  where
+    go : (b : Bool) → ltb (s .levels) k ≡ b → z .darts ≡ s .darts
+    go true h = absurd (refuses≢gives (rw h at e))
+    go false h = undo-levels-darts (s .levels - k) s t past (rw h at e)
+
+-- ---- read, unfolded, counted
+
+module _ {s : State} {u past : List ℕ} (P : Pyramid s u past) (t h w : List ℕ) (L : Lengths (s .darts) (length t) (length h) (length w)) where
+  -- level k of a pyramid that was read
+  counts-below : (k : ℕ) → k ≤ s .levels → counted (unfolded k (readInto t h w (means s u past))) .counts ≡ countsGiven (unfoldTo k s u past)
+  unfolding readInto countsGiven
+  counts-below k l =
+      let S = write-read P (λ _. true) tt .levels k l in
+      let e = S .here in
+      let v = cleared (s .darts) w in
+      let size = cleared-length (s .darts) w (L .work) in
+      let H = stored P t h w v L size in
+      let L′ = fits _ _ _ _ (H .fits) .lengths in
+      let below : Lengths (S .state .darts) (length (over u t)) (length (over (reverse past) h)) (length v) = rw (unfold-darts k s u past e) L′ in
+      ap (λ a. counted a .counts) (unfold-held H k e)
+      ∙ counts-held (stored (unfold-pyramid P k e) (over u t) (over (reverse past) h) v (cleared (s .darts) v) below (cleared-length (s .darts) v (L′ .work)))
+      ∙ ap countsGiven (sym e)
+
+-- a refused file's state of zeros has no counts
+counts-refused : (k D : ℕ) (a : Answer) (t h w : List ℕ) → counted (unfolded k (readInto t h w (faulty D a))) .counts ≡ noCounts
+unfolding readInto unfoldBy onState judged fitting dartCount handsBack counts
+counts-refused k D a t h w = refl
+
+module _ (k : ℕ) (b t h w : List ℕ) where
+  counts-of-level : (r : Read) → readFile (room (length t) (length h) (length w)) b ≡ r → k ≤ topOf r → countsAt k b t h w .counts ≡ countsOfLevel k r
+  unfolding countsAt levelAt read topOf countsOfLevel fileState
+  counts-of-level (faulty D a) e l = ap (λ r. counted (unfolded k (readInto t h w r)) .counts) e ∙ counts-refused k D a t h w
+  counts-of-level (means s u past) e l =
+      let M = meaning (room (length t) (length h) (length w)) b e in
+      let darts : M .darts ≡ s .darts = ap (λ z. z .darts) (sym (M .state)) in
+      ap (λ r. counted (unfolded k (readInto t h w r)) .counts) e
+      ∙ counts-below (pyramid-decided s u past .0 (M .pyramid)) t h w (room-facts _ _ _ (s .darts) (subst (λ D. T (room (length t) (length h) (length w) D)) darts (M .fits))) k l
+
+  module _ (T : Tables t h w) where
+    -- THE COUNTS OF LEVEL k, WHATEVER STOOD IN THE TABLES
+    pub level-counts : k ≤ topOf (meant b) → countsAt k b t h w .counts ≡ countsOfLevel k (meant b)
+    unfolding meant
+    level-counts l = counts-of-level (meant b) (rw (T .table, T .history, T .work)) l
+
+-- ---- what the program hands on
+
+read-levels : (t h w : List ℕ) (r : Read) → readInto t h w r .state .levels ≡ topOf r
+unfolding readInto topOf
+read-levels t h w (means s u past) = refl
+read-levels t h w (faulty D a) = refl
+
+read-answer : (t h w : List ℕ) (r : Read) → readInto t h w r .answer ≡ answerTo r
+unfolding readInto answerTo
+read-answer t h w (means s u past) = refl
+read-answer t h w (faulty D a) = refl
+
+module _ (b : List ℕ) {t h w t′ h′ w′ : List ℕ} (T : Tables t h w) where
+  pub line-of : (k n : ℕ) (r : Counted) → Accepted b n → k ≤ n → countsLeft r t′ h′ w′ ≡ countsAt k b t h w → LineOf k b (tallyOf (r .counts))
+  line-of k n r A l e =
+      let top : k ≤ topOf (meant b) = omega (arith, A .top) in
+      record { accepted = A .accepted; level = top; counts = ap (λ c. c .counts) e ∙ level-counts k b t h w T top }
+
+  module _ (o : Outcome) (e : left o t′ h′ w′ ≡ read b t h w) where
+    answer-read : answerOf (o .answer) ≡ answerTo (meant b)
+    unfolding read meant
+    answer-read = ap (λ a. a .answer) e ∙ rw (T .table, T .history, T .work) (read-answer t h w _)
+
+    pub refused-read : answerOf (o .answer) .number ≢ 0 → Refused b (answerOf (o .answer))
+    refused-read n = record { refused = n; answer = answer-read }
+
+    pub accepted-read : answerOf (o .answer) .number ≡ 0 → Accepted b (o .state .levels)
+    unfolding read meant
+    accepted-read z = record {
+      accepted = ap (λ a. a .number) (sym answer-read) ∙ z;
+      top = ap (λ a. a .state .levels) e ∙ rw (T .table, T .history, T .work) (read-levels t h w _);
+    }

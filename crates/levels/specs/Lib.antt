@@ -1,0 +1,2 @@
+-- Report == what program `levels` reports of a file
+pub mod Report
