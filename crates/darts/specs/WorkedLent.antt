@@ -3,19 +3,18 @@
 --   right r     == the definitions give what the row says
 --   lentTable   == the rows
 --   lent-worked == all of them are right
-use mathlib.Core.Bool.{Bool, true, false, _&&_, Bool·beq}
+use mathlib.Core.Bool.{Bool, true, _&&_}
 use mathlib.Core.List.{List, [], _∷_, _++_}
 use mathlib.Core.Path.{_≡_, refl}
-use Prim.Native.Nat.{ℕ, _/_, _*_}
+use Prim.Native.Nat.{ℕ}
 use Prim.Native.String.{String}
 use lib.Dec.{eqb}
-use lib.IntN.{ℤ, pos, negsuc}
-use lib.ListN.{length, take, replicate}
+use lib.IntN.{ℤ, pos}
+use lib.ListN.{replicate}
 use Rattle.permutations.specs.Partner.{partner}
 use Rattle.permutations.specs.Cycle.{meetsIn}
-use Rattle.darts.specs.Answers.{Answer, answered}
 use Rattle.darts.specs.Map.{successor, faceNext, sameVertex, sameFace, samePiece, gone, survives, beforeIn, before, repeats, firstBadFrom, firstBad}
-use Rattle.darts.specs.Operation.{contraction, removal, turned, lead, wholeEdge, remove, contract, operate, number, kindOf, leadOf, edgeOf, putBack, undoOne, undone}
+use Rattle.darts.specs.Operation.{turned, lead, wholeEdge, remove, contract, operate, number, kindOf, leadOf, edgeOf, putBack, undoOne, undone}
 use Rattle.darts.specs.Kernel.{shared, judge, runFrom, run}
 use Rattle.darts.specs.State.{raised, levelled, reduce, State, baseState}
 use Rattle.darts.specs.Levels.{emptyLoop, takes, sweptFrom, swept, sweep, endBelow, lowered, undoLevel, undoLevels, unfoldTo}
@@ -27,7 +26,8 @@ use Rattle.darts.specs.Scan.{byteAt, word, isDigit, numberOn, numberAt, 
 use Rattle.darts.specs.Read.{flagAt, opening, kernelOfKind, kernelAt, kernelsAt, pairsAt, endAt, body, fromFlag, endsFrom, total, fileState, numbersFrom, historyFrom, fileHistory, closed, opened, readFile}
 use Rattle.darts.specs.Calls.{After, Counted, Written, room, fitting, tableOf, pastOf, cleared, workAfter, judged, start, handsBack, onState, reduceBy, sweepBy, undoBy, unfoldBy, counts, readInto, read, write}
 use Rattle.slices.specs.Over.{over}
-use Rattle.darts.specs.Worked.{Step, byContracting, byRemoving, bySweep, byUndo, toLevel, stepped, answers, countsAre}
+use Rattle.darts.specs.Answers.{answered}
+use Rattle.darts.specs.Worked.{Step, byContracting, bySweep, byUndo, toLevel, stepped, answers, countsAre}
 
 pub data Row : Type 0 where
   -- start from D and three slices: the number, the place, the state's darts, and the slices left

@@ -3,8 +3,8 @@
 --   read-keeps  == where it is not, or 1 or 2 is answered, the work area is as it was
 use mathlib.Core.List.{List}
 use mathlib.Core.Path.{_≡_, refl, ap, _∙_}
-use Prim.Native.Nat.{ℕ, _*_, _≤_}
-use lib.ListN.{length, take, drop, replicate}
+use Prim.Native.Nat.{ℕ}
+use lib.ListN.{length}
 use Rattle.darts.specs.Scan.{Scan, found, fault}
 use Rattle.darts.specs.Read.{Opening, Body, opening, body, fileState, closed, opened, readFile}
 use Rattle.darts.specs.Calls.{cleared, readInto, read}

@@ -5,18 +5,14 @@ use mathlib.Core.List.{List}
 use mathlib.Core.Logic.{_≢_}
 use mathlib.Core.Path.{_≡_, refl}
 use Prim.Native.Nat.{ℕ, _<_, _≤_}
-use native.Mathlib.Omega.{arith}
 use lib.Dec.{ltb, lt→ltb}
-use lib.ListN.{length}
 use Rattle.permutations.specs.Choice.{T→true, eqb-same, eqb-other}
 use Rattle.darts.specs.State.{State}
-use Rattle.darts.specs.File.{fileOf}
 use Rattle.darts.specs.Levels.{undoLevel, unfoldTo}
-use Rattle.darts.specs.Calls.{tableOf, pastOf, undoBy, unfoldBy, counts, write}
+use Rattle.darts.specs.Calls.{tableOf, pastOf, undoBy, unfoldBy, counts}
 use Rattle.darts.proofs.Results.{Given}
 use Rattle.darts.proofs.WriteRead.{unfold-given}
 use Rattle.darts.proofs.Judging.{Lent, judged-lent, on-refuses, on-gives}
-use Rattle.darts.proofs.Outcomes.{Writing, refused, tight, written, writing}
 use Rattle.darts.proofs.sentences.Order.{Answers, answers}
 
 above-base : (s : State) (t past : List ℕ) → s .levels ≢ 0 → Given (undoLevel s t past)
