@@ -4,10 +4,8 @@
 --   unfold-held          == unfold to level k on what is held
 --   counts-held          == counts of what is held
 --   level-counts         == read, unfolded to level k and counted: the counts of level k of what the file means
---   line-of, refused-read, accepted-read == what the program's calls leave is what its lines may say
 use mathlib.Core.Bool.{Bool, true, false}
 use mathlib.Core.List.{List, reverse, reverse-reverse}
-use mathlib.Core.Logic.{_≢_}
 use mathlib.Core.Path.{_≡_, refl, sym, ap, ap₂, _∙_, subst}
 use Prim.Native.Nat.{ℕ, zero, suc, _-_, _*_, _≤_}
 use native.Mathlib.Omega.{arith}
@@ -30,13 +28,10 @@ use Rattle.darts.proofs.Room.{pyramid-room}
 use Rattle.darts.proofs.Undo.{unfold-pyramid}
 use Rattle.darts.proofs.Meanings.{meaning}
 use Rattle.darts.proofs.WriteRead.{write-read}
-use Rattle.pyramid.specs.Values.{answerOf, left, tallyOf, countsLeft}
-use Rattle.pyramid.specs.declared.Outcome.{Outcome}
-use Rattle.pyramid.specs.declared.Counted.{Counted}
 use Rattle.pyramid.proofs.Fitting.{Lengths, count-facts, room-facts, fine, fits}
 use Rattle.pyramid.proofs.OnState.{taken}
 use Rattle.pyramid.proofs.CountsEnd.{counts-given}
-use Rattle.levels.specs.Report.{levelAt, countsAt, unfolded, counted, Tables, meant, answerTo, topOf, countsGiven, countsOfLevel, Refused, Accepted, LineOf}
+use Rattle.levels.specs.Report.{levelAt, countsAt, unfolded, counted, Tables, meant, topOf, countsGiven, countsOfLevel}
 
 -- ---- numbers written over the first ones of a slice
 
@@ -147,44 +142,11 @@ module _ (k : ℕ) (b t h w : List ℕ) where
   counts-of-level (means s u past) e l =
       let M = meaning (room (length t) (length h) (length w)) b e in
       let darts : M .darts ≡ s .darts = ap (λ z. z .darts) (sym (M .state)) in
-      ap (λ r. counted (unfolded k (readInto t h w r)) .counts) e
-      ∙ counts-below (pyramid-decided s u past .0 (M .pyramid)) t h w (room-facts _ _ _ (s .darts) (subst (λ D. T (room (length t) (length h) (length w) D)) darts (M .fits))) k l
+      let L = room-facts (length t) (length h) (length w) (s .darts) (subst (λ D. T (room (length t) (length h) (length w) D)) darts (M .fits)) in
+      ap (λ r. counted (unfolded k (readInto t h w r)) .counts) e ∙ counts-below (pyramid-decided s u past .0 (M .pyramid)) t h w L k l
 
   module _ (T : Tables t h w) where
     -- THE COUNTS OF LEVEL k, WHATEVER STOOD IN THE TABLES
     pub level-counts : k ≤ topOf (meant b) → countsAt k b t h w .counts ≡ countsOfLevel k (meant b)
     unfolding meant
     level-counts l = counts-of-level (meant b) (rw (T .table, T .history, T .work)) l
-
--- ---- what the program hands on
-
-read-levels : (t h w : List ℕ) (r : Read) → readInto t h w r .state .levels ≡ topOf r
-unfolding readInto topOf
-read-levels t h w (means s u past) = refl
-read-levels t h w (faulty D a) = refl
-
-read-answer : (t h w : List ℕ) (r : Read) → readInto t h w r .answer ≡ answerTo r
-unfolding readInto answerTo
-read-answer t h w (means s u past) = refl
-read-answer t h w (faulty D a) = refl
-
-module _ (b : List ℕ) {t h w t′ h′ w′ : List ℕ} (T : Tables t h w) where
-  pub line-of : (k n : ℕ) (r : Counted) → Accepted b n → k ≤ n → countsLeft r t′ h′ w′ ≡ countsAt k b t h w → LineOf k b (tallyOf (r .counts))
-  line-of k n r A l e =
-      let top : k ≤ topOf (meant b) = omega (arith, A .top) in
-      record { accepted = A .accepted; level = top; counts = ap (λ c. c .counts) e ∙ level-counts k b t h w T top }
-
-  module _ (o : Outcome) (e : left o t′ h′ w′ ≡ read b t h w) where
-    answer-read : answerOf (o .answer) ≡ answerTo (meant b)
-    unfolding read meant
-    answer-read = ap (λ a. a .answer) e ∙ rw (T .table, T .history, T .work) (read-answer t h w _)
-
-    pub refused-read : answerOf (o .answer) .number ≢ 0 → Refused b (answerOf (o .answer))
-    refused-read n = record { refused = n; answer = answer-read }
-
-    pub accepted-read : answerOf (o .answer) .number ≡ 0 → Accepted b (o .state .levels)
-    unfolding read meant
-    accepted-read z = record {
-      accepted = ap (λ a. a .number) (sym answer-read) ∙ z;
-      top = ap (λ a. a .state .levels) e ∙ rw (T .table, T .history, T .work) (read-levels t h w _);
-    }

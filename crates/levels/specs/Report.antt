@@ -10,10 +10,11 @@
 --   Refused b a        == the file b is refused with the answer a
 --   Accepted b n       == the file b is accepted, and its top level is n
 --   LineOf k b c       == level k of the file b gets a line, with the counts c
+--   AllLines n b       == n lines, from level 0 on, are a line for each level of the file b
 use mathlib.Core.List.{List}
 use mathlib.Core.Logic.{_≢_}
 use mathlib.Core.Path.{_≡_}
-use Prim.Native.Nat.{ℕ, _≤_}
+use Prim.Native.Nat.{ℕ, _+_, _≤_}
 use lib.ListN.{length}
 use Rattle.darts.specs.Answers.{Answer, done}
 use Rattle.darts.specs.State.{Result, gives, refuses}
@@ -77,3 +78,8 @@ pub record LineOf (k : ℕ) (b : List ℕ) (c : Counts) : Type 0 where
   pub accepted : answerTo (meant b) .number ≡ 0
   pub level : k ≤ topOf (meant b)
   pub counts : c ≡ countsOfLevel k (meant b)
+
+-- "then `end=ok`"
+pub record AllLines (n : ℕ) (b : List ℕ) : Type 0 where
+  pub accepted : answerTo (meant b) .number ≡ 0
+  pub lines : n ≡ topOf (meant b) + 1

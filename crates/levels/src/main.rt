@@ -6,9 +6,10 @@ use pyramid::Counted;
 use pyramid::Counts;
 use pyramid::Outcome;
 ghost use mathlib.Core.Path.{_≡_};
+ghost use Prim.Native.Nat.{_+_};
 ghost use Rattle.page.specs.Waits.{Waits};
 ghost use Rattle.pyramid.specs.Values.{answerOf, left, tallyOf, countsLeft};
-ghost use Rattle.levels.specs.Report.{levelAt, countsAt, Tables, Refused, Accepted, LineOf};
+ghost use Rattle.levels.specs.Report.{levelAt, countsAt, Tables, Refused, Accepted, LineOf, AllLines};
 
 // The line of a refused file, which is lent for the contract alone: no other answer can stand in its line.
 fn refusal(file: &[u8], answer: Answer, page: &mut [u8]) -> usize
@@ -54,12 +55,20 @@ fn counts_at(
     state.counts(table, history, work)
 }
 
-// The line of level k of the file, which is lent for the contract alone: no other level's counts can stand in its line.
-fn level(file: &[u8], k: u32, counts: Counts, page: &mut [u8], used: usize) -> usize
-    requires { ⌜ LineOf k (now file) (tallyOf counts) × Waits used (now page) ⌝ }
-    ensures { λ r. ⌜ Waits r (now (page .exit)) ⌝ }
+// How many levels have their line, and how many bytes of the page wait.
+struct Said {
+    levels: u32,
+    used: usize,
+}
+
+// The line of the next level, whose number is how many have theirs: so each level gets one, base first. The file is lent for
+// the contract alone: no other level's counts can stand in the line.
+fn level(file: &[u8], said: Said, counts: Counts, page: &mut [u8]) -> Said
+    requires { ⌜ LineOf (said .levels) (now file) (tallyOf counts) × Waits (said .used) (now page) ⌝ }
+    ensures { λ r. ⌜ (r .levels ≡ said .levels + 1) × Waits (r .used) (now (page .exit)) ⌝ }
 {
-    let number = page::field(page, used, b"level=", k as u64);
+    let k = said.levels;
+    let number = page::field(page, said.used, b"level=", k as u64);
     let rest = page::counts(
         page,
         number,
@@ -68,7 +77,11 @@ fn level(file: &[u8], k: u32, counts: Counts, page: &mut [u8], used: usize) -> u
         counts.faces,
         counts.euler,
     );
-    page::text(page, rest, b"\n")
+    let used = page::text(page, rest, b"\n");
+    Said {
+        levels: k + 1,
+        used: used,
+    }
 }
 
 // The lines of the levels from the base to the top.
@@ -79,17 +92,25 @@ fn levels(
     history: &mut [u32],
     work: &mut [u32],
     page: &mut [u8],
-) -> usize
+) -> Said
     requires { ⌜ Accepted (now file) top × Tables (now table) (now history) (now work) × Waits 0 (now page) ⌝ }
+    ensures { λ r. ⌜ AllLines (r .levels) (now (file .entry)) × Waits (r .used) (now (page .exit)) ⌝ }
+{
+    let mut said = Said { levels: 0, used: 0 };
+    while said.levels <= top {
+        let counted = counts_at(file, said.levels, table, history, work);
+        let counts = counted.counts;
+        said = level(file, said, counts, page);
+    }
+    said
+}
+
+// The last line, once every level has its own.
+fn end(file: &[u8], said: Said, page: &mut [u8]) -> usize
+    requires { ⌜ AllLines (said .levels) (now file) × Waits (said .used) (now page) ⌝ }
     ensures { λ r. ⌜ Waits r (now (page .exit)) ⌝ }
 {
-    let mut used = 0;
-    for k in 0..=top {
-        let counted = counts_at(file, k, table, history, work);
-        let counts = counted.counts;
-        used = level(file, k, counts, page, used);
-    }
-    used
+    page::text(page, said.used, b"end=ok\n")
 }
 
 // All lines of a file.
@@ -109,8 +130,8 @@ fn report(
         return refusal(file, answer, page);
     }
     let state = read.state;
-    let used = levels(file, state.levels, table, history, work, page);
-    page::text(page, used, b"end=ok\n")
+    let said = levels(file, state.levels, table, history, work, page);
+    end(file, said, page)
 }
 
 // The tables for 4,096 darts: "at least D numbers, the history with D/2 and the work area with 4D".

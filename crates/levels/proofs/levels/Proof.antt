@@ -5,16 +5,17 @@ use native.Mathlib.Omega.{arith}
 use borrow.Author.Needs.{needs}
 use lib.ListN.{length}
 use Rattle.page.specs.Waits.{Waits}
-use Rattle.levels.proofs.LevelCounts.{line-of}
+use Rattle.levels.proofs.ReportLines.{line-of, all-lines}
 use Rattle.levels.proofs.levels.Statement.{statement}
 use Rattle.levels.proofs.levels.Tie as tie
 
 abbrev Inv-loop : tie.InvT-loop
-Inv-loop file top table₀ history₀ work₀ page₀ used₀ k₀ table history work page used k =
-    (length table ≡ length table₀) × (length history ≡ length history₀) × (length work ≡ length work₀) × (length page ≡ length page₀) × (k ≤ top + 1) × Waits used page
+Inv-loop file top table₀ history₀ work₀ page₀ said₀ table history work page said =
+    (length table ≡ length table₀) × (length history ≡ length history₀) × (length work ≡ length work₀) × (length page ≡ length page₀)
+    × (said .levels ≤ top + 1) × Waits (said .used) page
 
 abbrev μ-loop : tie.MeasureT-loop
-μ-loop file top table₀ history₀ work₀ page₀ used₀ k₀ table history work page used k = top + 1 - k
+μ-loop file top table₀ history₀ work₀ page₀ said₀ table history work page said = top + 1 - said .levels
 
 loop-holds : tie.Need-loop-holds Inv-loop μ-loop
 loop-holds c = search needs
@@ -25,15 +26,12 @@ counts-at-requires c κs = search needs
 level-requires : tie.Need-level-requires Inv-loop μ-loop
 level-requires c κs =
     let r = c .before .before .before .before .before .before .before .before .counts-at in
-    let given = c .before .before .before .before .before .before .before .before .before .before .before .before .before .before .before .before .before .before .before .pre in
+    let given = c .before .before .before .before .before .before .before .before .before .before .before .before .before .before .before .before .before .before .before .before .pre in
     let T = given .1 in
-    let kept = c .before .before .before .before .before .before .before .before .before .before .before .before .before .loop .inv in (
+    let kept = c .before .before .before .before .before .before .before .before .before .before .before .before .before .before .loop .inv in (
       line-of _ record { table = kept .0 ∙ T .table; history = kept .1 ∙ T .history; work = kept .2 ∙ T .work } _ _ (r .result) (given .0) (omega arith) (r .ensures),
-      search needs,
+      kept .5,
     )
-
-add-k : tie.Need-add-k Inv-loop μ-loop
-add-k c = search needs
 
 loop-less : tie.Need-loop-less Inv-loop μ-loop
 loop-less c = search needs
@@ -54,22 +52,7 @@ same-length-4 : tie.Need-same-length-4 Inv-loop μ-loop
 same-length-4 c = search needs
 
 returns : tie.Need-returns Inv-loop μ-loop
-returns c = search needs
-
-same-length-5 : tie.Need-same-length-5 Inv-loop μ-loop
-same-length-5 c = search needs
-
-same-length-6 : tie.Need-same-length-6 Inv-loop μ-loop
-same-length-6 c = search needs
-
-same-length-7 : tie.Need-same-length-7 Inv-loop μ-loop
-same-length-7 c = search needs
-
-same-length-8 : tie.Need-same-length-8 Inv-loop μ-loop
-same-length-8 c = search needs
-
-returns-2 : tie.Need-returns-2 Inv-loop μ-loop
-returns-2 c = search needs
+returns c = (all-lines (c .before .before .before .before .before .before .before .before .pre .0) (omega arith) (omega arith), search needs)
 
 pub levels-spec : {M : Type 1} → statement M
 levels-spec =
@@ -80,16 +63,10 @@ levels-spec =
     loop-holds
     counts-at-requires
     level-requires
-    add-k
     loop-less
     loop-again
     same-length
     same-length-2
     same-length-3
     same-length-4
-    returns
-    same-length-5
-    same-length-6
-    same-length-7
-    same-length-8
-    returns-2)
+    returns)

@@ -1,7 +1,7 @@
 -- `levels::report`: the answer says whether the file is refused, and the state that was read which level is the top.
 use mathlib.Core.Path.{sym, _∙_}
 use borrow.Author.Needs.{needs}
-use Rattle.levels.proofs.LevelCounts.{refused-read, accepted-read}
+use Rattle.levels.proofs.ReportLines.{refused-read, accepted-read}
 use Rattle.levels.proofs.report.Statement.{statement}
 use Rattle.levels.proofs.report.Tie as tie
 
@@ -43,11 +43,8 @@ levels-requires c κs =
       given .1,
     )
 
-slice-aggregate-text : tie.Need-slice-aggregate-text
-slice-aggregate-text c = search needs
-
-text-requires : tie.Need-text-requires
-text-requires c κs = search needs
+end-requires : tie.Need-end-requires
+end-requires c κs = search needs
 
 same-length-5 : tie.Need-same-length-5
 same-length-5 c = search needs
@@ -77,8 +74,7 @@ report-spec =
     same-length-4
     returns
     levels-requires
-    slice-aggregate-text
-    text-requires
+    end-requires
     same-length-5
     same-length-6
     same-length-7
