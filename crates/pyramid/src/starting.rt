@@ -2,8 +2,8 @@
 use crate::Answer;
 use crate::Outcome;
 use crate::State;
-use crate::answers::fit;
 use area::base::first_bad;
+use darts::answers::fit;
 ghost use mathlib.Core.Path.{_≡_};
 ghost use Rattle.darts.specs.State.{baseState};
 ghost use Rattle.darts.specs.Calls.{start as startOf};

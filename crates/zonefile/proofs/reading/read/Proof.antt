@@ -9,7 +9,7 @@ use Rattle.darts.specs.Answers.{Answer as Answered}
 use Rattle.area.specs.Area.{Room}
 use Rattle.darts.proofs.Cleared.{cleared-kept}
 use Rattle.engine.proofs.Area.{room-kept}
-use Rattle.pyramid.specs.Values.{answerOf}
+use Rattle.darts.specs.Cases.{answerOf}
 use Rattle.darts.proofs.Fitting.{Fits, fits}
 use Rattle.pyramid.proofs.Started.{hands}
 use Rattle.zonefile.specs.Found.{lineOf}

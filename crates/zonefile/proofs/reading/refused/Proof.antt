@@ -1,7 +1,7 @@
 -- `zonefile::reading::refused` meets its contract: a state of zeros, and the answer.
 use mathlib.Core.Path.{ap, _∙_}
 use borrow.Author.Needs.{needs}
-use Rattle.pyramid.specs.Values.{answerOf}
+use Rattle.darts.specs.Cases.{answerOf}
 use Rattle.zonefile.proofs.reading.refused.Statement.{statement}
 use Rattle.zonefile.proofs.reading.refused.Tie as tie
 
