@@ -7,7 +7,8 @@ ghost use Prim.Native.Nat.{_≤_, _<_};
 ghost use Rattle.darts.specs.Answers.{answered};
 ghost use Rattle.darts.specs.State.{raised as raisedOf};
 ghost use Rattle.darts.specs.Levels.{endBelow, lowered as loweredOf};
-ghost use Rattle.pyramid.specs.Values.{answerOf, stateOf, Hands};
+ghost use Rattle.darts.specs.Cases.{answerOf};
+ghost use Rattle.pyramid.specs.Values.{stateOf, Hands};
 
 // The state as it was given, with an answer.
 pub(crate) fn kept(state: State, answer: Answer) -> Outcome

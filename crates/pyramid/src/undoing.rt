@@ -2,9 +2,9 @@
 use crate::Answer;
 use crate::Outcome;
 use crate::State;
-use crate::answers::fit;
 use crate::levels::kept;
 use area::base::clear;
+use darts::answers::fit;
 use engine::check::check;
 use engine::store::store;
 use engine::undo::take_back;

@@ -2,10 +2,10 @@
 use crate::writing::Written;
 use crate::writing::write_inside;
 use area::base::clear;
+use darts::answers::fit;
 use engine::check::check;
 use pyramid::Answer;
 use pyramid::State;
-use pyramid::answers::fit;
 ghost use mathlib.Core.Path.{_≡_};
 ghost use lib.ListN.{length};
 ghost use Rattle.darts.specs.Calls.{write as writeOf, fitting, cleared};

@@ -43,8 +43,8 @@ pub fn pairs(bytes: &[u8], at: usize, d: usize, flag: usize, table: &mut [u32]) 
     let mut i = 0;
     while i < d / 2 {
         match pair_line(bytes, place) {
-            Line::Fault(n, p) => {
-                return Scanned::Fault(n, p);
+            Line::Fault(answer) => {
+                return Scanned::Fault(answer);
             }
             Line::Found(a, b, next) => {
                 lay_pair(table, 2 * i, d, flag, a, b);

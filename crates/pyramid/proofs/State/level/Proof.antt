@@ -1,7 +1,7 @@
 -- `pyramid::State::level` meets its contract: the ways that a level more ends.
 use mathlib.Core.Path.{_∙_, refl}
 use Rattle.pyramid.specs.Values.{stateOf}
-use Rattle.pyramid.specs.declared.Answer.the-variants.{Done}
+use Rattle.darts.specs.declared.Answer.the-variants.{Done}
 use Rattle.pyramid.proofs.Raising.{level-stops, level-empty, level-raised}
 use borrow.Author.Needs.{needs}
 use Rattle.pyramid.proofs.State.level.Statement.{statement}

@@ -1,8 +1,8 @@
 // The rules' number and place of an answer, and what is judged before all else.
 use crate::Answer;
 ghost use mathlib.Core.Path.{_≡_};
 ghost use Rattle.darts.specs.Calls.{fitting};
-ghost use Rattle.pyramid.specs.Values.{answerOf};
+ghost use Rattle.darts.specs.Cases.{answerOf};
 
 impl Answer {
     // The number.
