@@ -67,6 +67,7 @@ pub mod FileInstances
 pub mod Fitting
 pub mod Cleared
 pub mod Judging
+pub mod Earnest
 pub mod sentences
 pub mod chained
 pub mod Outcomes
