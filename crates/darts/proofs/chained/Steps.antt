@@ -1,81 +1,39 @@
 -- The four steps of a pyramid, as the calls on a state make them.
 --   Step                   == from a state, a table and a past to a result
---   Told r                 == the result r is no refusal with the number 0
 --   Lowered n s past z new == n levels undone: as many levels fewer, the same D, and the last numbers of the past forgotten
---   Leads f                == the step f leads from pyramids to pyramids of the same D, over the same base, and its refusals are told
+--   Leads f                == the step f leads from pyramids to pyramids of the same D, over the same base, and its refusals do not say 0
 --   reduce-leads, sweep-leads, undo-leads, unfold-leads == each of the four does
 use mathlib.Core.Bool.{Bool, true, false}
 use mathlib.Core.List.{List}
-use mathlib.Core.Logic.{_≢_}
 use mathlib.Core.Path.{_≡_, refl, sym, ap, _∙_}
 use Prim.Native.Nat.{ℕ, zero, suc, _+_, _-_, _≤_}
 use native.Mathlib.Decide.{ℕ-discrete}
 use native.Mathlib.Numerals.{add-one}
 use native.Mathlib.Omega.{arith}
-use lib.Dec.{eqb, leb, ltb, ltb→lt, nltb→le}
-use lib.ListN.{length, drop}
+use lib.Dec.{ltb, ltb→lt, nltb→le}
+use lib.ListN.{drop}
 use lib.Seq.{drop-drop}
-use Rattle.permutations.specs.Choice.{pick, eqb-other, nT→false}
+use Rattle.permutations.specs.Choice.{eqb-other, nT→false}
 use Rattle.darts.specs.Operation.{Kind, removal}
-use Rattle.darts.specs.Kernel.{Run, stands, stops}
-use Rattle.darts.specs.State.{State, Result, gives, refuses, andThen, raised, levelled, reduce}
+use Rattle.darts.specs.State.{State, Result, gives, raised, reduce}
 use Rattle.darts.specs.Levels.{sweep, endBelow, lowered, undoLevel, undoLevels, unfoldTo}
 use Rattle.darts.specs.Pyramid.{Pyramid}
 use Rattle.darts.proofs.Results.{refuses≢gives, then, same-result}
 use Rattle.darts.proofs.Reduces.{reduce-raises}
 use Rattle.darts.proofs.Sweeps.{loops, sweep-reduces}
-use Rattle.darts.proofs.Stops.{Edgy, run-edgy}
 use Rattle.darts.proofs.Pyramids.{reduce-pyramid, sweep-pyramid}
+use Rattle.darts.proofs.sentences.Done.{Earnest, earnest-reduce, earnest-sweep, earnest-undo, earnest-unfold}
 use Rattle.darts.proofs.Undo.{undo-returns, undo-levels, undo-pyramid, unfold-pyramid}
 
 abbrev pub Step : Type 0
 Step = State → List ℕ → List ℕ → Result
-
-abbrev pub Told : Result → Type 0
-Told (gives s t past) = Unit {0}
-Told (refuses a) = a .number ≢ 0
 
 pub record Leads (f : Step) : Type 0 where
   pub pyramid : {s : State} {t past : List ℕ} {z : State} {u new : List ℕ} → Pyramid s t past → f s t past ≡ gives z u new → Pyramid z u new
   pub darts : {s : State} {t past : List ℕ} {z : State} {u new : List ℕ} → f s t past ≡ gives z u new → z .darts ≡ s .darts
   pub ground : {s : State} {t past : List ℕ} {z : State} {u new : List ℕ} → Pyramid s t past → f s t past ≡ gives z u new
       → unfoldTo 0 z u new ≡ unfoldTo 0 s t past
-  pub told : (s : State) (t past : List ℕ) → Told (f s t past)
-
--- ---- a refusal is told
-
-told-if : (b : Bool) (x y : Result) → Told x → Told y → Told (pick b x y)
-told-if true x y h k = h
-told-if false x y h k = k
-
-told-then : (r : Result) (f : Step) → Told r → ((s : State) (t past : List ℕ) → Told (f s t past)) → Told (andThen r f)
-told-then (gives s t past) f h k = k s t past
-told-then (refuses a) f h k = h
-
-level-told : (s : State) (past : List ℕ) (r : Run) → Edgy r → Told (levelled s past r)
-unfolding levelled
-level-told s past (stands t new) edgy = told-if (eqb (length new) (length past)) _ _ (λ z. omega arith) tt
-level-told s past (stops a) edgy = let some = edgy .0 in λ z. omega arith
-
-reduce-told : (k : Kind) (es : List ℕ) (s : State) (t past : List ℕ) → Told (reduce k es s t past)
-unfolding reduce
-reduce-told k es s t past = told-if (leb 64 (s .levels)) _ _ (λ z. omega arith) (level-told s past _ (run-edgy k (s .darts) t past es))
-
-sweep-told : (s : State) (t past : List ℕ) → Told (sweep s t past)
-sweep-told s t past = rw (sweep-reduces s t past) (reduce-told removal (loops s t past) s t past)
-
-undo-told : (s : State) (t past : List ℕ) → Told (undoLevel s t past)
-unfolding undoLevel
-undo-told s t past = told-if (eqb (s .levels) 0) _ _ (λ z. omega arith) tt
-
-undo-levels-told : (n : ℕ) (s : State) (t past : List ℕ) → Told (undoLevels n s t past)
-unfolding undoLevels
-undo-levels-told zero s t past = tt
-undo-levels-told (suc n) s t past = told-then (undoLevel s t past) (undoLevels n) (undo-told s t past) (undo-levels-told n)
-
-unfold-told : (k : ℕ) (s : State) (t past : List ℕ) → Told (unfoldTo k s t past)
-unfolding unfoldTo
-unfold-told k s t past = told-if (ltb (s .levels) k) _ _ (λ z. omega arith) (undo-levels-told (s .levels - k) s t past)
+  pub earnest : (s : State) (t past : List ℕ) → Earnest (f s t past)
 
 -- ---- levels less
 
@@ -157,7 +115,7 @@ reduce-leads k es = record {
   pyramid = λ P e. reduce-pyramid P k es e;
   darts = λ {s} {t} {past} e. one-up s t past k es e .0;
   ground = λ {s} {t} {past} P e. reduce-ground s t past P k es e;
-  told = reduce-told k es;
+  earnest = earnest-reduce k es;
 }
 
 pub sweep-leads : Leads sweep
@@ -165,7 +123,7 @@ sweep-leads = record {
   pyramid = sweep-pyramid;
   darts = λ {s} {t} {past} e. one-up s t past removal (loops s t past) (sym (sweep-reduces s t past) ∙ e) .0;
   ground = λ {s} {t} {past} P e. reduce-ground s t past P removal (loops s t past) (sym (sweep-reduces s t past) ∙ e);
-  told = sweep-told;
+  earnest = earnest-sweep;
 }
 
 pub undo-leads : Leads undoLevel
@@ -173,7 +131,7 @@ undo-leads = record {
   pyramid = undo-pyramid;
   darts = λ {s} {t} {past} e. undo-lowers s t past e .darts;
   ground = λ {s} {t} {past} P e. undo-ground s t past e;
-  told = undo-told;
+  earnest = earnest-undo;
 }
 
 pub unfold-leads : (k : ℕ) → Leads (unfoldTo k)
@@ -181,5 +139,5 @@ unfold-leads k = record {
   pyramid = λ P e. unfold-pyramid P k e;
   darts = λ {s} {t} {past} e. unfold-lowers k s t past e .darts;
   ground = λ {s} {t} {past} P e. undo-levels-ground s t past (s .levels - k) (unfold-undoes k s t past e .1);
-  told = unfold-told k;
+  earnest = earnest-unfold k;
 }

@@ -38,15 +38,15 @@ unfolding levelled
 earnest-levelled s past (stands t new) h = earnest-if (eqb (length new) (length past)) _ _ (λ e. omega arith) tt
 earnest-levelled s past (stops a) h = λ e. omega (arith, h .0)
 
-earnest-reduce : (k : Kind) (es : List ℕ) (s : State) (t past : List ℕ) → Earnest (reduce k es s t past)
+pub earnest-reduce : (k : Kind) (es : List ℕ) (s : State) (t past : List ℕ) → Earnest (reduce k es s t past)
 unfolding reduce
 earnest-reduce k es s t past =
     earnest-if (leb 64 (s .levels)) _ _ (λ e. omega arith) (earnest-levelled s past _ (run-edgy k (s .darts) t past es))
 
-earnest-sweep : (s : State) (t past : List ℕ) → Earnest (sweep s t past)
+pub earnest-sweep : (s : State) (t past : List ℕ) → Earnest (sweep s t past)
 earnest-sweep s t past = rw (sweep-reduces s t past) (earnest-reduce removal (loops s t past) s t past)
 
-earnest-undo : (s : State) (t past : List ℕ) → Earnest (undoLevel s t past)
+pub earnest-undo : (s : State) (t past : List ℕ) → Earnest (undoLevel s t past)
 unfolding undoLevel
 earnest-undo s t past = earnest-if (eqb (s .levels) 0) _ _ (λ e. omega arith) tt
 
@@ -60,7 +60,7 @@ unfolding undoLevels
 earnest-undos zero s t past = tt
 earnest-undos (suc n) s t past = earnest-then (undoLevel s t past) (undoLevels n) (earnest-undo s t past) (earnest-undos n)
 
-earnest-unfold : (k : ℕ) (s : State) (t past : List ℕ) → Earnest (unfoldTo k s t past)
+pub earnest-unfold : (k : ℕ) (s : State) (t past : List ℕ) → Earnest (unfoldTo k s t past)
 unfolding unfoldTo
 earnest-unfold k s t past = earnest-if (ltb (s .levels) k) _ _ (λ e. omega arith) (earnest-undos (s .levels - k) s t past)
 
