@@ -29,7 +29,7 @@ fn takes(work: &[u32], d: usize, e: usize) -> bool
     s == p
 }
 
-// The sweep's removals, after n operations: one pass over the edges by rising number.
+// The sweep's removals, after n operations: one pass over the edges by rising number. A refused edge stops it.
 pub fn sweep(work: &mut [u32], d: usize, n: usize) -> Ran
     requires { ⌜ Ready d n 0 (now work) ⌝ }
     ensures { λ r. ⌜
