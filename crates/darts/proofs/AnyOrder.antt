@@ -17,10 +17,10 @@ use lib.ListN.{length}
 use Rattle.permutations.specs.Choice.{T→true}
 use Rattle.permutations.specs.Order.{any-order as any-order-of-maps}
 use Rattle.darts.specs.Map.{successor, survives, firstBad}
-use Rattle.darts.specs.Kernel.{Run, stands}
+use Rattle.darts.specs.Kernel.{Operation, Run, stands}
 use Rattle.darts.specs.State.{State, baseState, Result, gives}
 use Rattle.darts.specs.Pyramid.{Kernel, Pyramid, dartCount, build}
-use Rattle.darts.specs.OneByOne.{Operation, oneByOne, operationOf, operationsOf, NoneEmpty}
+use Rattle.darts.specs.OneByOne.{oneByOne, operationOf, operationsOf, NoneEmpty}
 use Rattle.darts.proofs.Standing.{live, mapOf}
 use Rattle.darts.proofs.Bases.{base-stands}
 use Rattle.darts.proofs.Operations.{stands-iff, done-told, told-history}

@@ -7,10 +7,10 @@ use mathlib.Core.Path.{_≡_, refl, subst}
 use Prim.Native.Nat.{ℕ, _+_, _≤_}
 use native.Mathlib.Omega.{arith}
 use lib.ListN.{length, length-map}
-use Rattle.darts.specs.Kernel.{stands}
+use Rattle.darts.specs.Kernel.{each, stands}
 use Rattle.darts.specs.State.{State, gives, raised, reduce}
 use Rattle.darts.specs.Pyramid.{Kernel, build}
-use Rattle.darts.specs.OneByOne.{oneByOne, each, operationsOf, NoneEmpty}
+use Rattle.darts.specs.OneByOne.{oneByOne, operationsOf, NoneEmpty}
 use Rattle.darts.proofs.Operations.{AllDone, none, stands-iff, run-iff, done-join, done-parts, done-told, told-longer}
 use Rattle.darts.proofs.Results.{then, same-result}
 use Rattle.darts.proofs.Reduces.{reduce-raises, raises-reduce}

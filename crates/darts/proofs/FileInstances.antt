@@ -13,7 +13,7 @@ use Rattle.permutations.specs.Partner.{partner}
 use Rattle.permutations.specs.Cycle.{meetsIn}
 use Rattle.darts.specs.Map.{successor, faceNext, sameVertex, sameFace, gone, survives, beforeIn, before, repeats, firstBadFrom, firstBad}
 use Rattle.darts.specs.Operation.{contraction, removal, turned, lead, wholeEdge, remove, contract, operate, number, kindOf, leadOf, edgeOf, putBack, undoOne, undone}
-use Rattle.darts.specs.Kernel.{shared, judge, runFrom, run}
+use Rattle.darts.specs.Kernel.{shared, judge, passFrom, pass, run}
 use Rattle.darts.specs.State.{State, baseState, gives, raised, levelled, reduce}
 use Rattle.darts.specs.Levels.{endBelow, lowered, undoLevel, undoLevels, unfoldTo}
 use Rattle.darts.specs.Pyramid.{Pyramid, dartCount, build, kernelOf, cut, kernelsOf, sameNumbers, sameState, isExactly, isPyramid}
@@ -40,7 +40,7 @@ abbrev k7-past : List ℕ
 k7-past = 10 ∷ 5 ∷ 1 ∷ []
 
 k7-pyramid : Pyramid k7-state k7-table k7-past
-unfolding partner meetsIn successor faceNext sameVertex sameFace gone survives beforeIn before repeats firstBadFrom firstBad turned lead wholeEdge remove contract operate number kindOf leadOf edgeOf putBack undoOne undone shared judge runFrom run raised levelled reduce dartCount build kernelOf cut kernelsOf sameNumbers sameState isExactly isPyramid
+unfolding partner meetsIn successor faceNext sameVertex sameFace gone survives beforeIn before repeats firstBadFrom firstBad turned lead wholeEdge remove contract operate number kindOf leadOf edgeOf putBack undoOne undone shared judge passFrom pass run raised levelled reduce dartCount build kernelOf cut kernelsOf sameNumbers sameState isExactly isPyramid
 k7-pyramid = pyramid-decided k7-state k7-table k7-past .0 tt
 
 abbrev k12 : List ℕ

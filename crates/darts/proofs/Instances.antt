@@ -10,13 +10,14 @@ use lib.Dec.{T, lit≤}
 use lib.ListN.{replicate}
 use Rattle.permutations.specs.Partner.{partner}
 use Rattle.permutations.specs.Cycle.{meetsIn}
+use Rattle.darts.specs.Answers.{oneFace}
 use Rattle.darts.specs.Map.{successor, faceNext, sameVertex, sameFace, gone, survives, beforeIn, before, repeats, firstBadFrom, firstBad}
 use Rattle.darts.specs.Operation.{contraction, removal, turned, lead, wholeEdge, remove, contract, operate, number, kindOf, leadOf, edgeOf, putBack, undoOne, undone}
-use Rattle.darts.specs.Kernel.{stands, stops, shared, judge, runFrom, run}
+use Rattle.darts.specs.Kernel.{Operation, stands, stops, shared, judge, rising, passFrom, pass, run}
 use Rattle.darts.specs.State.{State, baseState, gives, raised, levelled, reduce}
-use Rattle.darts.specs.Levels.{emptyLoop, takes, sweptFrom, swept, sweep, endBelow, lowered, undoLevel}
+use Rattle.darts.specs.Levels.{emptyLoop, takes, swept, sweep, endBelow, lowered, undoLevel}
 use Rattle.darts.specs.Pyramid.{Kernel, Pyramid, dartCount, build, kernelOf, cut, kernelsOf, sameNumbers, sameState, isExactly, isPyramid}
-use Rattle.darts.specs.OneByOne.{Operation, oneByOneFrom, oneByOne}
+use Rattle.darts.specs.OneByOne.{oneByOne}
 use Rattle.darts.proofs.Results.{same-result}
 use Rattle.darts.proofs.Pyramids.{built-pyramid, reduce-pyramid, sweep-pyramid}
 use Rattle.darts.proofs.Undo.{undo-returns}
@@ -58,11 +59,11 @@ unfolding dartCount
 eight-darts = tt
 
 k5-built : build (baseState 8) triangle [] (contracting (0 ∷ 1 ∷ []) ∷ []) ≡ gives k5-state k5-table k5-past
-unfolding partner meetsIn successor sameVertex gone survives beforeIn before turned lead wholeEdge contract operate number shared judge runFrom run raised levelled reduce build
+unfolding partner meetsIn successor sameVertex gone survives beforeIn before turned lead wholeEdge contract operate number shared judge passFrom pass run raised levelled reduce build
 k5-built = refl
 
 k6-built : build (baseState 8) triangle [] (contracting (1 ∷ 0 ∷ []) ∷ []) ≡ gives k5-state k6-table (1 ∷ 5 ∷ [])
-unfolding partner meetsIn successor sameVertex gone survives beforeIn before turned lead wholeEdge contract operate number shared judge runFrom run raised levelled reduce build
+unfolding partner meetsIn successor sameVertex gone survives beforeIn before turned lead wholeEdge contract operate number shared judge passFrom pass run raised levelled reduce build
 k6-built = refl
 
 -- the claim, at K5's kernel in K6's order
@@ -101,7 +102,7 @@ abbrev mixed-table : List ℕ
 mixed-table = 5 ∷ 2 ∷ 2 ∷ 4 ∷ 3 ∷ 5 ∷ 3 ∷ 7 ∷ []
 
 mixed-stands : oneByOne 8 triangle [] (contracted 3 ∷ removed 0 ∷ []) ≡ stands mixed-table (0 ∷ 13 ∷ [])
-unfolding partner meetsIn successor faceNext sameVertex sameFace gone survives beforeIn before turned lead wholeEdge remove contract operate number shared judge oneByOneFrom oneByOne
+unfolding partner meetsIn successor faceNext sameVertex sameFace gone survives beforeIn before turned lead wholeEdge remove contract operate number shared judge passFrom pass oneByOne
 mixed-stands = refl
 
 -- the claim, at the other order, and the same by computation
@@ -111,12 +112,12 @@ mixed-agrees =
     (List·Permᴰ·swap refl refl)
 
 mixed-computed : oneByOne 8 triangle [] (removed 0 ∷ contracted 3 ∷ []) ≡ stands mixed-table (13 ∷ 0 ∷ [])
-unfolding partner meetsIn successor faceNext sameVertex sameFace gone survives beforeIn before turned lead wholeEdge remove contract operate number shared judge oneByOneFrom oneByOne
+unfolding partner meetsIn successor faceNext sameVertex sameFace gone survives beforeIn before turned lead wholeEdge remove contract operate number shared judge passFrom pass oneByOne
 mixed-computed = refl
 
 -- "each judged on the map as it stands at its turn": after K4's removal the next one is refused, at its place
-mixed-stops : oneByOne 8 triangle [] (contracted 3 ∷ removed 0 ∷ removed 1 ∷ []) ≡ stops 10 2
-unfolding partner meetsIn successor faceNext sameVertex sameFace gone survives beforeIn before turned lead wholeEdge remove contract operate number shared judge oneByOneFrom oneByOne
+mixed-stops : oneByOne 8 triangle [] (contracted 3 ∷ removed 0 ∷ removed 1 ∷ []) ≡ stops (oneFace 2)
+unfolding partner meetsIn successor faceNext sameVertex sameFace gone survives beforeIn before turned lead wholeEdge remove contract operate number shared judge passFrom pass oneByOne
 mixed-stops = refl
 
 -- ---- K7: after K5, remove 2
@@ -134,12 +135,12 @@ pub k5-pyramid : Pyramid k5-state k5-table k5-past
 k5-pyramid = built-pyramid 8 triangle eight-darts refl triangle-base (contracting (0 ∷ 1 ∷ []) ∷ []) k5-built
 
 k7-reduced : reduce removal (2 ∷ []) k5-state k5-table k5-past ≡ gives k7-state k7-table k7-past
-unfolding partner meetsIn successor faceNext sameFace gone survives beforeIn before turned lead wholeEdge remove operate number shared judge runFrom run raised levelled reduce
+unfolding partner meetsIn successor faceNext sameFace gone survives beforeIn before turned lead wholeEdge remove operate number shared judge passFrom pass run raised levelled reduce
 k7-reduced = refl
 
 -- the claim, at K7's operations one by one with the removal between the two contractions; here the last contraction turns round
 between-stands : oneByOne 8 triangle [] (contracted 0 ∷ removed 2 ∷ contracted 1 ∷ []) ≡ stands (5 ∷ 2 ∷ 2 ∷ 6 ∷ 6 ∷ 2 ∷ 6 ∷ 7 ∷ []) (7 ∷ 8 ∷ 1 ∷ [])
-unfolding partner meetsIn successor faceNext sameVertex sameFace gone survives beforeIn before turned lead wholeEdge remove contract operate number shared judge oneByOneFrom oneByOne
+unfolding partner meetsIn successor faceNext sameVertex sameFace gone survives beforeIn before turned lead wholeEdge remove contract operate number shared judge passFrom pass oneByOne
 between-stands = refl
 
 k7-agrees : Agrees 8 (5 ∷ 2 ∷ 2 ∷ 6 ∷ 6 ∷ 2 ∷ 6 ∷ 7 ∷ []) (7 ∷ 8 ∷ 1 ∷ []) (build (baseState 8) triangle [] (contracting (0 ∷ 1 ∷ []) ∷ removing (2 ∷ []) ∷ []))
@@ -149,7 +150,7 @@ k7-agrees =
 
 -- the claim, at K7's pyramid, whose top level the sweep makes too; its operations from the last to the first, in two levels
 k7-swept : sweep k5-state k5-table k5-past ≡ gives k7-state k7-table k7-past
-unfolding partner meetsIn successor faceNext sameFace gone survives beforeIn before turned lead wholeEdge remove operate number raised levelled emptyLoop takes sweptFrom swept sweep
+unfolding partner meetsIn successor faceNext sameFace gone survives beforeIn before turned lead wholeEdge remove operate number shared judge raised levelled emptyLoop takes rising passFrom pass swept sweep
 k7-swept = refl
 
 k7-pyramid : Pyramid k7-state k7-table k7-past
@@ -178,5 +179,5 @@ k7-decided : T (isPyramid k7-state k7-table k7-past)
 k7-decided = pyramid-decided k7-state k7-table k7-past .1 (reduce-pyramid k5-pyramid removal (2 ∷ []) k7-reduced)
 
 k7-damaged : ¬ Pyramid k7-state k7-table (12 ∷ 5 ∷ 1 ∷ [])
-unfolding partner meetsIn successor faceNext sameVertex sameFace gone survives beforeIn before repeats firstBadFrom firstBad turned lead wholeEdge remove contract operate number kindOf leadOf edgeOf putBack undoOne undone shared judge runFrom run raised levelled reduce dartCount build kernelOf cut kernelsOf sameNumbers sameState isExactly isPyramid
+unfolding partner meetsIn successor faceNext sameVertex sameFace gone survives beforeIn before repeats firstBadFrom firstBad turned lead wholeEdge remove contract operate number kindOf leadOf edgeOf putBack undoOne undone shared judge passFrom pass run raised levelled reduce dartCount build kernelOf cut kernelsOf sameNumbers sameState isExactly isPyramid
 k7-damaged = pyramid-decided k7-state k7-table (12 ∷ 5 ∷ 1 ∷ []) .1

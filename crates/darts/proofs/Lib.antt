@@ -15,6 +15,7 @@ pub mod Ends
 pub mod Results
 pub mod Reduces
 pub mod Builds
+pub mod Taking
 pub mod Sweeps
 pub mod Pyramids
 pub mod Undo

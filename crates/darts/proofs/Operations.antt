@@ -2,10 +2,10 @@
 --   after D t past o, pastAfter t past o == the table and the past once the operation o is done
 --   AllDone D t past os u new            == each of the operations os may be done at its turn, and they end at u and new
 --   stands-iff, run-iff                  == so a list stands, and so a kernel's run stands
---   run-each                             == a kernel's run is that of its operations
+--   done-on                              == what comes after them goes on from there
 --   Parts D t past os ns v w             == the operations os, and from where they end the operations ns, which end at v and w
 --   Told past os new                     == the history numbers by which new goes on from past tell the operations os
-use mathlib.Core.List.{List, [], _∷_, _++_, map, reverse, reverse-cons, append-assoc, map-append, map-map}
+use mathlib.Core.List.{List, [], _∷_, _++_, map, reverse, reverse-cons, append-nil, append-assoc, map-append, map-map}
 use mathlib.Core.Logic.{_≢_, _↔_}
 use mathlib.Core.Path.{_≡_, refl, sym, _∙_, ap, ap₂, subst₂}
 use Prim.Native.Nat.{ℕ, suc, _+_, _<_}
@@ -16,10 +16,11 @@ use lib.ListN.{length, drop, length-append, length-reverse, length-map}
 use lib.Seq.{drop-at}
 use Rattle.permutations.specs.Choice.{eqb-same, eqb-other}
 use Rattle.darts.specs.Choose.{if_then_else_}
+use Rattle.darts.specs.Answers.{Answer, answered}
 use Rattle.darts.specs.Operation.{Kind, lead, operate, number, kindOf, edgeOf}
-use Rattle.darts.specs.Kernel.{Run, stands, stops, judge, runFrom, run}
+use Rattle.darts.specs.Kernel.{judge, Operation, each, Run, stands, stops, always, passFrom, pass, run}
 use Rattle.darts.specs.Pyramid.{kernelOf}
-use Rattle.darts.specs.OneByOne.{Operation, oneByOneFrom, oneByOne, operationOf, each}
+use Rattle.darts.specs.OneByOne.{oneByOne, operationOf}
 use Rattle.darts.proofs.Lists.{reverse-onto}
 use Rattle.darts.proofs.Numbers.{number-kind, number-edge}
 
@@ -36,52 +37,45 @@ pub data AllDone (D : ℕ) : List ℕ → List ℕ → List Operation → List �
 
 -- ---- a list that stands
 
-pub stops≢stands : {n i : ℕ} {u new : List ℕ} → stops n i ≢ stands u new
+stops≢stands : {a : Answer} {u new : List ℕ} → stops a ≢ stands u new
 stops≢stands e = let z : _≡_ {A = ℕ} 0 1 = cc in omega arith
 
 -- an answer of 0 lets the run go on, any other stops it
-pub answer-on : (n i : ℕ) (r : Run) {u new : List ℕ} → ((if eqb n 0 then r else stops n i) ≡ stands u new) ↔ ((n ≡ 0) × (r ≡ stands u new))
-answer-on n i r {u} {new} = (λ e. go (ℕ-discrete n 0) e, λ h. rw (eqb-same (h .0)) (h .1))
+answer-on : (n i : ℕ) (r : Run) {u new : List ℕ} → (if eqb n 0 then r else stops (answered n i)) ≡ stands u new → (n ≡ 0) × (r ≡ stands u new)
+answer-on n i r {u} {new} e = go (ℕ-discrete n 0)
   where
-    go : Dec (n ≡ 0) → (if eqb n 0 then r else stops n i) ≡ stands u new → (n ≡ 0) × (r ≡ stands u new)
-    go (yes fine) e = (fine, rw (eqb-same fine) at e)
-    go (no n) e = absurd (stops≢stands (rw (eqb-other n) at e))
+    go : Dec (n ≡ 0) → (n ≡ 0) × (r ≡ stands u new)
+    go (yes fine) = (fine, rw (eqb-same fine) at e)
+    go (no n) = absurd (stops≢stands (rw (eqb-other n) at e))
 
 stands-from : {u new : List ℕ} (D : ℕ) (t past : List ℕ) (i : ℕ) (os : List Operation)
-    → oneByOneFrom D t past i os ≡ stands u new → AllDone D t past os u new
-unfolding oneByOneFrom
+    → passFrom always D t past i os ≡ stands u new → AllDone D t past os u new
+unfolding passFrom
 stands-from {u} {new} D t past i [] e =
     let table : t ≡ u = cc in
     let history : past ≡ new = cc in
     subst₂ (AllDone D t past []) table history none
 stands-from D t past i (o ∷ os) e =
-    let h = answer-on (judge (o .kind) D t past (o .edge)) i (oneByOneFrom D (after D t past o) (pastAfter t past o) (suc i) os) .0 e in
+    let h = answer-on (judge (o .kind) D t past (o .edge)) i (passFrom always D (after D t past o) (pastAfter t past o) (suc i) os) e in
     first (h .0) (stands-from D (after D t past o) (pastAfter t past o) (suc i) os (h .1))
 
-from-stands : {D : ℕ} {t past u new : List ℕ} (i : ℕ) (os : List Operation) → AllDone D t past os u new → oneByOneFrom D t past i os ≡ stands u new
-unfolding oneByOneFrom
-from-stands i [] none = refl
-from-stands {D} {t} {past} i (o ∷ os) (first fine rest) =
-    answer-on (judge (o .kind) D t past (o .edge)) i (oneByOneFrom D (after D t past o) (pastAfter t past o) (suc i) os) .1 (fine, from-stands (suc i) os rest)
+-- the operations ns after those that led to u and new
+pub done-on : {D : ℕ} {t past u new : List ℕ} (i : ℕ) (os ns : List Operation) → AllDone D t past os u new
+    → passFrom always D t past i (os ++ ns) ≡ passFrom always D u new (i + length os) ns
+unfolding passFrom
+done-on {D} {u = u} {new = new} i [] ns none = ap (λ n. passFrom always D u new n ns) (omega arith)
+done-on {D} {u = u} {new = new} i (o ∷ os) ns (first fine rest) =
+    rw (eqb-same fine) (done-on (suc i) os ns rest ∙ ap (λ n. passFrom always D u new n ns) (omega arith))
 
+-- A LIST STANDS WHERE EACH OPERATION MAY BE DONE AT ITS TURN
 pub stands-iff : {u new : List ℕ} (D : ℕ) (t past : List ℕ) (os : List Operation) → (oneByOne D t past os ≡ stands u new) ↔ AllDone D t past os u new
-unfolding oneByOne
-stands-iff D t past os = (stands-from D t past 0 os, from-stands 0 os)
+unfolding oneByOne pass passFrom
+stands-iff D t past os = (stands-from D t past 0 os, λ h. ap (oneByOne D t past) (sym (append-nil os)) ∙ done-on 0 os [] h)
 
-each-from : (k : Kind) (D : ℕ) (t past : List ℕ) (i : ℕ) (es : List ℕ) → runFrom k D t past i es ≡ oneByOneFrom D t past i (each k es)
-unfolding runFrom oneByOneFrom
-each-from k D t past i [] = refl
-each-from k D t past i (e ∷ es) =
-    let n = judge k D t past e in
-    ap (λ r. if eqb n 0 then r else stops n i) (each-from k D (operate k D t past e) (number k (lead k t e) ∷ past) (suc i) es)
-
--- A KERNEL IS ITS OPERATIONS ONE BY ONE, where it is refused too
-pub run-each : (k : Kind) (D : ℕ) (t past es : List ℕ) → run k D t past es ≡ oneByOne D t past (each k es)
-unfolding run oneByOne
-run-each k D t past = each-from k D t past 0
-
+-- and so does a kernel, which is its operations one by one
 pub run-iff : {u new : List ℕ} (k : Kind) (D : ℕ) (t past es : List ℕ) → (run k D t past es ≡ stands u new) ↔ AllDone D t past (each k es) u new
-run-iff k D t past es = rw (run-each k D t past es) (stands-iff D t past (each k es))
+unfolding run oneByOne
+run-iff k D t past es = stands-iff D t past (each k es)
 
 -- ---- a list in two parts
 

@@ -9,10 +9,9 @@ use lib.Dec.{T}
 use lib.ListN.{length, take, length-reverse}
 use Rattle.permutations.specs.Choice.{and-intro}
 use Rattle.darts.specs.Operation.{Kind, lead, operate, number}
-use Rattle.darts.specs.Kernel.{judge}
+use Rattle.darts.specs.Kernel.{judge, Operation, each}
 use Rattle.darts.specs.State.{State, gives, raised, reduce}
 use Rattle.darts.specs.Pyramid.{Kernel, Pyramid, build}
-use Rattle.darts.specs.OneByOne.{Operation, each}
 use Rattle.darts.proofs.Lists.{reverse-onto}
 use Rattle.darts.proofs.Standing.{Standing}
 use Rattle.darts.proofs.Bases.{base-stands}

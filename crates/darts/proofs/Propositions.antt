@@ -17,7 +17,7 @@ use Rattle.permutations.specs.Partner.{partner}
 use Rattle.permutations.specs.Map.{offEdge-not-end, offEdge-was, offEdge-other, partner-live}
 use Rattle.darts.specs.Map.{successor, live, before}
 use Rattle.darts.specs.Operation.{Kind, contraction, removal, lead, operate, number}
-use Rattle.darts.specs.Kernel.{stands, judge, runFrom, run}
+use Rattle.darts.specs.Kernel.{judge, stands, passFrom, pass, run}
 use Rattle.darts.specs.State.{State}
 use Rattle.darts.specs.Pyramid.{Pyramid}
 use Rattle.darts.proofs.Standing.{Standing, entry-live, entry-one}
@@ -72,10 +72,10 @@ module _ (D : ℕ) (t past : List ℕ) (e : ℕ) where
 
   -- "The history gets one number, 2p for a removal and 2p+1 for a contraction."
   pub removal-history : judge removal D t past e ≡ 0 → run removal D t past (e ∷ []) ≡ stands (operate removal D t past e) (2 * lead removal t e ∷ past)
-  unfolding run runFrom number
+  unfolding run pass passFrom number
   removal-history fine = rw (eqb-same fine)
 
   pub contraction-history : judge contraction D t past e ≡ 0
       → run contraction D t past (e ∷ []) ≡ stands (operate contraction D t past e) ((2 * lead contraction t e + 1) ∷ past)
-  unfolding run runFrom number
+  unfolding run pass passFrom number
   contraction-history fine = rw (eqb-same fine)

@@ -17,7 +17,7 @@ use Rattle.darts.proofs.Bases.{base-stands}
 use Rattle.darts.proofs.Ends.{layered-base}
 use Rattle.darts.proofs.Results.{then, same-result}
 use Rattle.darts.proofs.Builds.{Built, built, build-last}
-use Rattle.darts.proofs.Sweeps.{sweep-reduces}
+use Rattle.darts.proofs.Sweeps.{loops, sweep-reduces}
 
 -- WHAT HOLDS OF A PYRAMID
 pub pyramid-built : {s : State} {t past : List ℕ} (P : Pyramid s t past) → Built (s .darts) (baseState (s .darts)) (P .base) [] (P .kernels) s t past
@@ -47,7 +47,7 @@ module _ {s : State} {t past : List ℕ} {z : State} {u new : List ℕ} (P : Pyr
       (build-last (baseState (s .darts)) (P .base) [] (P .kernels) top ∙ rw (P .built) e)
 
   pub sweep-pyramid : sweep s t past ≡ gives z u new → Pyramid z u new
-  sweep-pyramid e = let r = sweep-reduces s t past e in reduce-pyramid removal (r .0) (r .1)
+  sweep-pyramid e = reduce-pyramid removal (loops s t past) (sym (sweep-reduces s t past) ∙ e)
 
 -- ---- one level down
 

@@ -1,6 +1,6 @@
 -- What passes the tests is built up again from its base, kernel by kernel.
 --   Goes D u past hs t             == the operations hs, first to last, may be done from u on, have these numbers, and lead to t
---   Stands k D u past i one two t  == the operations `one`, of kind k, run to a table from which the operations `two` lead to t
+--   Stands k D u past one two t    == the operations `one`, of kind k, lead to a table from which the operations `two` lead to t
 --   Reached D s u past one two t   == the kernel with the numbers `one` is accepted, and the operations `two` lead on to t
 use mathlib.Core.List.{List, [], _∷_, _++_, map, reverseAux}
 use mathlib.Core.Logic.{_≢_}
@@ -12,10 +12,10 @@ use lib.ListN.{length, take, drop, length-reverseAux, take-append-drop}
 use lib.Seq.{length-take-le}
 use Rattle.permutations.specs.Choice.{and-intro, and-left, and-right}
 use Rattle.darts.specs.Operation.{Kind, lead, operate, number, kindOf, edgeOf, undoOne, undone}
-use Rattle.darts.specs.Kernel.{stands, judge, runFrom, run}
+use Rattle.darts.specs.Kernel.{judge, each}
 use Rattle.darts.specs.State.{State, gives, raised, reduce}
 use Rattle.darts.specs.Pyramid.{build, kernelOf, cut}
-use Rattle.darts.proofs.Runs.{run-on}
+use Rattle.darts.proofs.Operations.{AllDone, none, first, run-iff}
 use Rattle.darts.proofs.Reduces.{raises-reduce}
 use Rattle.darts.specs.Tests.{sameKind, ofKind, oneKind, rises}
 use Rattle.darts.proofs.Replays.{Trail, Allowed, redo-fine}
@@ -40,27 +40,22 @@ goes-base D t (h ∷ past) hs top trail legal g =
 
 -- ---- the operations of one kernel
 
-record Stands (k : Kind) (D : ℕ) (u past : List ℕ) (i : ℕ) (one two t : List ℕ) : Type 0 where
+record Stands (k : Kind) (D : ℕ) (u past one two t : List ℕ) : Type 0 where
   table : List ℕ
-  runs : runFrom k D u past i (map edgeOf one) ≡ stands table (reverseAux one past)
+  done : AllDone D u past (each k (map edgeOf one)) table (reverseAux one past)
   on : Goes D table (reverseAux one past) two t
 
-goes-run : (k : Kind) (D : ℕ) (u past : List ℕ) (i : ℕ) (one two t : List ℕ)
-    → T (ofKind k one) → Goes D u past (one ++ two) t → Stands k D u past i one two t
-unfolding runFrom ofKind
-goes-run k D u past i [] two t same g = record { table = u; runs = refl; on = g }
-goes-run k D u past i (h ∷ hs) two t same g =
+goes-run : (k : Kind) (D : ℕ) (u past one two t : List ℕ) → T (ofKind k one) → Goes D u past (one ++ two) t → Stands k D u past one two t
+unfolding ofKind
+goes-run k D u past [] two t same g = record { table = u; done = none; on = g }
+goes-run k D u past (h ∷ hs) two t same g =
     let c = kindOf h in
-    let e = edgeOf h in
-    let u′ = operate c D u past e in
+    let u′ = operate c D u past (edgeOf h) in
     let kind : k ≡ c = same-kind k c .0 (and-left (sameKind k c) (ofKind k hs) same) in
     let others = subst (λ k. T (ofKind k hs)) kind (and-right (sameKind k c) (ofKind k hs) same) in
-    let rest = goes-run c D u′ (h ∷ past) (suc i) hs two t others (g .1 .1) in
-    subst (λ k. Stands k D u past i (h ∷ hs) two t) (sym kind) (record {
-      table = rest .table;
-      runs = run-on c D u past i e (map edgeOf hs) (g .0) ∙ ap (λ n. runFrom c D u′ (n ∷ past) (suc i) (map edgeOf hs)) (g .1 .0) ∙ rest .runs;
-      on = rest .on;
-    })
+    let rest = goes-run c D u′ (h ∷ past) hs two t others (g .1 .1) in
+    let on = subst (λ n. AllDone D u′ (n ∷ past) (each c (map edgeOf hs)) (rest .table) (reverseAux hs (h ∷ past))) (sym (g .1 .0)) (rest .done) in
+    subst (λ k. Stands k D u past (h ∷ hs) two t) (sym kind) (record { table = rest .table; done = first (g .0) on; on = rest .on })
 
 record Reached (D : ℕ) (s : State) (u past one two t : List ℕ) : Type 0 where
   table : List ℕ
@@ -69,17 +64,17 @@ record Reached (D : ℕ) (s : State) (u past one two t : List ℕ) : Type 0 wher
 
 goes-reduce : {D : ℕ} (s : State) → s .darts ≡ D → s .levels < 64 → (u past one two t : List ℕ)
     → T (oneKind one) → 0 < length one → Goes D u past (one ++ two) t → Reached D s u past one two t
-unfolding oneKind ofKind kernelOf run
+unfolding oneKind ofKind kernelOf
 goes-reduce s size room u past [] two t same some g = absurd (omega arith)
 goes-reduce {D} s size room u past (h ∷ hs) two t same some g =
     let k = kindOf h in
-    let r = goes-run k D u past 0 (h ∷ hs) two t (and-intro (sameKind k k) (ofKind k hs) (same-kind k k .1 refl) same) g in
+    let r = goes-run k D u past (h ∷ hs) two t (and-intro (sameKind k k) (ofKind k hs) (same-kind k k .1 refl) same) g in
     let longer : length (reverseAux hs (h ∷ past)) ≡ suc (length hs) + length past = length-reverseAux (h ∷ hs) past in
     record {
       table = r .table;
       reduces = raises-reduce s u past k (map edgeOf (h ∷ hs)) (record {
         room = room;
-        stood = rw size (r .runs);
+        stood = rw size (run-iff k D u past (map edgeOf (h ∷ hs)) .1 (r .done));
         more = (let n : length (reverseAux hs (h ∷ past)) ≢ length past = omega arith in n);
         state = ap (raised s) (sym longer);
       });

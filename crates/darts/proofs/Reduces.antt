@@ -14,10 +14,10 @@ use Rattle.permutations.specs.Choice.{eqb-same, eqb-other, nT→false}
 use Rattle.darts.specs.Choose.{if_then_else_}
 use Rattle.darts.specs.Answers.{tooManyLevels}
 use Rattle.darts.specs.Operation.{Kind, undone}
-use Rattle.darts.specs.Kernel.{Run, stands, stops, run}
+use Rattle.darts.specs.Kernel.{each, Run, stands, stops, run}
 use Rattle.darts.specs.State.{State, gives, refuses, raised, levelled, reduce}
 use Rattle.darts.specs.Pyramid.{Kernel, kernelsOf}
-use Rattle.darts.specs.OneByOne.{operationOf, each}
+use Rattle.darts.specs.OneByOne.{operationOf}
 use Rattle.darts.proofs.Standing.{Standing}
 use Rattle.darts.proofs.Operations.{run-iff, done-told, told-history, told-count, told-longer, told-dropped, told-kernel}
 use Rattle.darts.proofs.Runs.{Ran, ran, undone-more}
@@ -35,7 +35,7 @@ pub record Raises (s : State) (past : List ℕ) (r : Run) (z : State) (u new : L
 module _ {s : State} {past : List ℕ} {z : State} {u new : List ℕ} where
   raises-level : s .levels < 64 → (r : Run) → levelled s past r ≡ gives z u new → Raises s past r z u new
   unfolding levelled
-  raises-level room (stops n i) e = absurd (refuses≢gives e)
+  raises-level room (stops a) e = absurd (refuses≢gives e)
   raises-level room (stands t′ new′) e = go (ℕ-discrete (length new′) (length past))
     where
       go : Dec (length new′ ≡ length past) → Raises s past (stands t′ new′) z u new

@@ -8,11 +8,9 @@ use Prim.Native.Nat.{ℕ, zero, suc, _+_, _*_}
 use native.Mathlib.Nat.{zero-add, suc-add}
 use native.Mathlib.Numerals.{add-one}
 use lib.ListN.{length, drop}
-use Rattle.permutations.specs.Choice.{eqb-same}
 use Rattle.permutations.specs.Legal.{Op, AllLegal, run as runMap}
-use Rattle.darts.specs.Operation.{Kind, lead, operate, number, undoOne, undone}
-use Rattle.darts.specs.Kernel.{judge, stands, runFrom, run}
-use Rattle.darts.specs.OneByOne.{Operation, each}
+use Rattle.darts.specs.Operation.{Kind, undoOne, undone}
+use Rattle.darts.specs.Kernel.{judge, Operation, each, stands, run}
 use Rattle.darts.proofs.Standing.{mapOf, Standing, opOf}
 use Rattle.darts.proofs.Judged.{judge-legal}
 use Rattle.darts.proofs.Operate.{operate-acts, operate-stands, undo-operate}
@@ -33,12 +31,6 @@ pub record Accepted (D : ℕ) (t past : List ℕ) (os : List Operation) : Type 0
   pub table : List ℕ
   pub new : List ℕ
   pub accepted : AllDone D t past os table new
-
--- an edge that may be done is done, and the kernel's run goes on
-pub run-on : (k : Kind) (D : ℕ) (t past : List ℕ) (i e : ℕ) (es : List ℕ) → judge k D t past e ≡ 0
-    → runFrom k D t past i (e ∷ es) ≡ runFrom k D (operate k D t past e) (number k (lead k t e) ∷ past) (suc i) es
-unfolding runFrom
-run-on k D t past i e es fine = rw (eqb-same fine)
 
 -- ---- undo of several operations
 

@@ -1,21 +1,22 @@
--- Where a run stops, it stops with the answer of an edge: 7 to 11.
---   Edgy r     == the run r stands, or stops with an answer from 7 to 11
---   run-edgy, from-edgy     == a kernel's run, from any place on
---   swept-edgy, on-edgy     == the sweep's run, from any edge on
+-- Where a pass stops, it stops with the answer of an edge: 7 to 11.
+--   Edgy r               == the run r stands, or stops with an answer from 7 to 11
+--   pass-edgy            == so it is with every pass
+--   run-edgy, swept-edgy == a kernel's run, and the sweep's
 use mathlib.Core.Bool.{Bool, true, false, not}
 use mathlib.Core.List.{List, [], _∷_}
 use mathlib.Core.Path.{_≡_, refl}
-use Prim.Native.Nat.{ℕ, zero, suc, _*_, _+_, _/_, _≤_}
+use Prim.Native.Nat.{ℕ, suc, _*_, _+_, _/_, _≤_}
 use lib.Dec.{eqb, leb, lit≤}
 use Rattle.darts.specs.Choose.{if_then_else_}
+use Rattle.darts.specs.Answers.{answered}
 use Rattle.darts.specs.Map.{sameVertex, sameFace, gone}
-use Rattle.darts.specs.Operation.{Kind, contraction, removal, lead, wholeEdge, operate, number}
-use Rattle.darts.specs.Kernel.{Run, stands, stops, shared, judge, runFrom, run}
-use Rattle.darts.specs.Levels.{takes, sweptFrom, swept}
+use Rattle.darts.specs.Operation.{Kind, contraction, removal, wholeEdge}
+use Rattle.darts.specs.Kernel.{shared, judge, Operation, each, rising, Run, stands, stops, Test, always, passFrom, pass, run}
+use Rattle.darts.specs.Levels.{takes, swept}
 
 abbrev pub Edgy : Run → Type 0
 Edgy (stands t past) = Unit {0}
-Edgy (stops m i) = (7 ≤ m) × (m ≤ 11)
+Edgy (stops a) = (7 ≤ a .number) × (a .number ≤ 11)
 
 -- an answer of an edge, or none
 data Number (m : ℕ) : Type 0 where
@@ -46,37 +47,33 @@ judge-number k D t past e =
     either {m} (none z) = rw z whole
     either {m} (some l h) = number-if (leb 1 m) m rest l h whole
 
-edgy-if : (m i : ℕ) (r : Run) → Number m → Edgy r → Edgy (if eqb m 0 then r else stops m i)
-edgy-if m i r (none z) h = rw z h
-edgy-if m i r (some l u) h = go (eqb m 0)
+-- by the test's answer, and the judge's
+edgy-turn : (b : Bool) (m i : ℕ) (over on : Run) → Number m → Edgy over → Edgy on
+    → Edgy (if not b then over else if eqb m 0 then on else stops (answered m i))
+edgy-turn false m i over on n h k = h
+edgy-turn true m i over on (none z) h k = rw z k
+edgy-turn true m i over on (some l u) h k = go (eqb m 0)
   where
-    go : (b : Bool) → Edgy (if b then r else stops m i)
-    go true = h
+    go : (c : Bool) → Edgy (if c then on else stops (answered m i))
+    go true = k
     go false = (l, u)
 
-from-edgy : (k : Kind) (D : ℕ) (t past : List ℕ) (i : ℕ) (es : List ℕ) → Edgy (runFrom k D t past i es)
-unfolding runFrom
-from-edgy k D t past i [] = tt
-from-edgy k D t past i (e ∷ es) =
-    edgy-if (judge k D t past e) i _ (judge-number k D t past e)
-    (from-edgy k D (operate k D t past e) (number k (lead k t e) ∷ past) (suc i) es)
+from-edgy : (takes : Test) (D : ℕ) (t past : List ℕ) (i : ℕ) (os : List Operation) → Edgy (passFrom takes D t past i os)
+unfolding passFrom
+from-edgy takes D t past i [] = tt
+from-edgy takes D t past i (o ∷ os) =
+    edgy-turn (takes t past (o .edge)) (judge (o .kind) D t past (o .edge)) i _ _ (judge-number (o .kind) D t past (o .edge))
+    (from-edgy takes D t past i os) (from-edgy takes D _ _ (suc i) os)
+
+-- WHERE A PASS STOPS, IT STOPS WITH 7 TO 11
+pub pass-edgy : (takes : Test) (D : ℕ) (t past : List ℕ) (os : List Operation) → Edgy (pass takes D t past os)
+unfolding pass
+pass-edgy takes D t past os = from-edgy takes D t past 0 os
 
 pub run-edgy : (k : Kind) (D : ℕ) (t past es : List ℕ) → Edgy (run k D t past es)
 unfolding run
-run-edgy k D t past es = from-edgy k D t past 0 es
-
-on-edgy : (D n e i : ℕ) (t past : List ℕ) → Edgy (sweptFrom D n e i t past)
-unfolding sweptFrom
-on-edgy D zero e i t past = tt
-on-edgy D (suc n) e i t past =
-    go (not (takes t past e)) (sameFace D t (2 * e) (2 * e + 1)) _ _ (on-edgy D n (suc e) i t past)
-    (on-edgy D n (suc e) (suc i) (operate removal D t past e) (number removal (lead removal t e) ∷ past))
-  where
-    go : (b c : Bool) (x y : Run) → Edgy x → Edgy y → Edgy (if b then x else if c then stops 10 i else y)
-    go true c x y h k = h
-    go false true x y h k = (lit≤ tt, lit≤ tt)
-    go false false x y h k = k
+run-edgy k D t past es = pass-edgy always D t past (each k es)
 
 pub swept-edgy : (D : ℕ) (t past : List ℕ) → Edgy (swept D t past)
 unfolding swept
-swept-edgy D t past = on-edgy D (D / 2) 0 0 t past
+swept-edgy D t past = pass-edgy takes D t past (each removal (rising 0 (D / 2)))

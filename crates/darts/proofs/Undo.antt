@@ -19,13 +19,13 @@ use Rattle.darts.specs.Operation.{Kind, removal}
 use Rattle.darts.specs.State.{State, gives, andThen, raised, reduce}
 use Rattle.darts.specs.Levels.{sweep, endBelow, undoLevel, undoLevels, unfoldTo}
 use Rattle.darts.specs.Pyramid.{Kernel, Pyramid, build}
-use Rattle.darts.specs.OneByOne.{each}
+use Rattle.darts.specs.Kernel.{each}
 use Rattle.darts.proofs.Operations.{told-longer, told-dropped}
 use Rattle.darts.proofs.Ends.{Layered, below-raised, lowered-raised}
 use Rattle.darts.proofs.Results.{refuses≢gives, then, then-then, same-result}
 use Rattle.darts.proofs.Reduces.{Reduced, reduced}
 use Rattle.darts.proofs.Builds.{built}
-use Rattle.darts.proofs.Sweeps.{sweep-reduces}
+use Rattle.darts.proofs.Sweeps.{loops, sweep-reduces}
 use Rattle.darts.proofs.Pyramids.{pyramid-built, reduce-pyramid, Stacked, ground, over, stacked}
 
 -- ---- one level
@@ -50,7 +50,7 @@ module _ {s : State} {t past : List ℕ} {z : State} {u new : List ℕ} (P : Pyr
       rw (R .state) (undo-raised (B .layered) R)
 
   pub sweep-undo-returns : sweep s t past ≡ gives z u new → undoLevel z u new ≡ gives s t past
-  sweep-undo-returns e = let r = sweep-reduces s t past e in undo-returns removal (r .0) (r .1)
+  sweep-undo-returns e = undo-returns removal (loops s t past) (sym (sweep-reduces s t past) ∙ e)
 
 -- ---- several levels
 

@@ -58,7 +58,7 @@ module _ {D n : ℕ} {w : List ℕ} (A : Area D n w) (k : ℕ) (l : k ≤ 1) {R 
   abbrev past : List ℕ
   past = pastIn D n w
 
-  pub same-root : (e : ℕ) → T (live D past (2 * e)) → eqb (R (2 * e)) (R (2 * e + 1)) ≡ same (kindOf k) D t (2 * e) (2 * e + 1)
+  same-root : (e : ℕ) → T (live D past (2 * e)) → eqb (R (2 * e)) (R (2 * e + 1)) ≡ same (kindOf k) D t (2 * e) (2 * e + 1)
   same-root e h =
       let i = eqb-iff (R (2 * e)) (R (2 * e + 1)) in
       let j = Λ .says (2 * e) (2 * e + 1) h (rw (partner-first e) at (partner-live (A .stands .good) (2 * e) h)) in

@@ -1,7 +1,6 @@
 // The sweep: a removal kernel that chooses its own edges.
 use crate::Ran;
-use area::operate::do_edge;
-use area::trees::together;
+use crate::kernel::turn;
 use slices::at;
 ghost use mathlib.Core.Path.{_≡_};
 ghost use Prim.Native.Nat.{_/_, _<_};
@@ -30,7 +29,7 @@ fn takes(work: &[u32], d: usize, e: usize) -> bool
     s == p
 }
 
-// The sweep's removals, after n operations: one pass over the edges by rising number. An edge with one face on both sides stops it.
+// The sweep's removals, after n operations: one pass over the edges by rising number.
 pub fn sweep(work: &mut [u32], d: usize, n: usize) -> Ran
     requires { ⌜ Ready d n 0 (now work) ⌝ }
     ensures { λ r. ⌜
@@ -41,15 +40,15 @@ pub fn sweep(work: &mut [u32], d: usize, n: usize) -> Ran
     let mut m = n;
     while e < d / 2 {
         if takes(work, d, e) {
-            if together(work, d, 2 * e, 2 * e + 1) {
+            let number = turn(work, d, m, 0, e);
+            if number != 0 {
                 let taken = m - n;
                 return Ran {
-                    number: 10,
+                    number: number,
                     place: taken,
                     operations: n,
                 };
             }
-            do_edge(work, d, m, 0, e);
             m += 1;
             e += 1;
         } else {

@@ -61,7 +61,7 @@ plain-levelled : (s : Stated) (past : List ℕ) (r : Run) → Edgy r → Plain (
 unfolding levelled Plain
 plain-levelled s past (stands t new) e =
     plain-if (eqb (length new) (length past)) (refuses emptyKernel) _ (λ z. omega arith, λ z. omega arith) tt
-plain-levelled s past (stops n i) e = (λ z. omega (arith, e .0), λ z. omega (arith, e .0))
+plain-levelled s past (stops a) e = (λ z. omega (arith, e .0), λ z. omega (arith, e .0))
 
 hands-kept : (s : Stated) (t h w v : List ℕ) (x : Result) → Plain x → cleared (s .darts) v ≡ cleared (s .darts) w → handsBack s t h v x ≡ handsBack s t h w x
 unfolding handsBack workAfter Plain

@@ -23,8 +23,8 @@ use Rattle.darts.specs.Levels.{sweep, endBelow, lowered, undoLevel, undo
 use Rattle.darts.specs.Pyramid.{Pyramid}
 use Rattle.darts.proofs.Results.{refuses≢gives, then, same-result}
 use Rattle.darts.proofs.Reduces.{reduce-raises}
-use Rattle.darts.proofs.Sweeps.{sweep-reduces}
-use Rattle.darts.proofs.Stops.{Edgy, run-edgy, swept-edgy}
+use Rattle.darts.proofs.Sweeps.{loops, sweep-reduces}
+use Rattle.darts.proofs.Stops.{Edgy, run-edgy}
 use Rattle.darts.proofs.Pyramids.{reduce-pyramid, sweep-pyramid}
 use Rattle.darts.proofs.Undo.{undo-returns, undo-levels, undo-pyramid, unfold-pyramid}
 
@@ -55,15 +55,14 @@ told-then (refuses a) f h k = h
 level-told : (s : State) (past : List ℕ) (r : Run) → Edgy r → Told (levelled s past r)
 unfolding levelled
 level-told s past (stands t new) edgy = told-if (eqb (length new) (length past)) _ _ (λ z. omega arith) tt
-level-told s past (stops n i) edgy = let some = edgy .0 in λ z. omega arith
+level-told s past (stops a) edgy = let some = edgy .0 in λ z. omega arith
 
 reduce-told : (k : Kind) (es : List ℕ) (s : State) (t past : List ℕ) → Told (reduce k es s t past)
 unfolding reduce
 reduce-told k es s t past = told-if (leb 64 (s .levels)) _ _ (λ z. omega arith) (level-told s past _ (run-edgy k (s .darts) t past es))
 
 sweep-told : (s : State) (t past : List ℕ) → Told (sweep s t past)
-unfolding sweep
-sweep-told s t past = told-if (leb 64 (s .levels)) _ _ (λ z. omega arith) (level-told s past _ (swept-edgy (s .darts) t past))
+sweep-told s t past = rw (sweep-reduces s t past) (reduce-told removal (loops s t past) s t past)
 
 undo-told : (s : State) (t past : List ℕ) → Told (undoLevel s t past)
 unfolding undoLevel
@@ -164,8 +163,8 @@ reduce-leads k es = record {
 pub sweep-leads : Leads sweep
 sweep-leads = record {
   pyramid = sweep-pyramid;
-  darts = λ {s} {t} {past} e. let r = sweep-reduces s t past e in one-up s t past removal (r .0) (r .1) .0;
-  ground = λ {s} {t} {past} P e. let r = sweep-reduces s t past e in reduce-ground s t past P removal (r .0) (r .1);
+  darts = λ {s} {t} {past} e. one-up s t past removal (loops s t past) (sym (sweep-reduces s t past) ∙ e) .0;
+  ground = λ {s} {t} {past} P e. reduce-ground s t past P removal (loops s t past) (sym (sweep-reduces s t past) ∙ e);
   told = sweep-told;
 }
 

@@ -13,12 +13,13 @@ use lib.Dec.{eqb, leb, ltb}
 use lib.ListN.{length}
 use Rattle.permutations.specs.Choice.{eqb-same, eqb-other}
 use Rattle.darts.specs.Choose.{if_then_else_}
-use Rattle.darts.specs.Operation.{Kind}
+use Rattle.darts.specs.Operation.{Kind, removal}
 use Rattle.darts.specs.Kernel.{Run, stands, stops}
 use Rattle.darts.specs.State.{State, Result, gives, refuses, andThen, levelled, reduce}
 use Rattle.darts.specs.Levels.{sweep, undoLevel, undoLevels, unfoldTo}
 use Rattle.darts.specs.Calls.{tableOf, pastOf, judged, handsBack, onState, start, reduceBy, sweepBy, undoBy, unfoldBy, counts}
-use Rattle.darts.proofs.Stops.{Edgy, run-edgy, swept-edgy}
+use Rattle.darts.proofs.Stops.{Edgy, run-edgy}
+use Rattle.darts.proofs.Sweeps.{loops, sweep-reduces}
 use Rattle.darts.proofs.Judging.{Judging, uncounted, cramped, other, lent, judging}
 use Rattle.darts.proofs.Outcomes.{Starting, noCount, noRoom, noBase, base, starting}
 
@@ -35,7 +36,7 @@ earnest-if false x y h k = k
 earnest-levelled : (s : State) (past : List ℕ) (r : Run) → Edgy r → Earnest (levelled s past r)
 unfolding levelled
 earnest-levelled s past (stands t new) h = earnest-if (eqb (length new) (length past)) _ _ (λ e. omega arith) tt
-earnest-levelled s past (stops n i) h = λ e. omega (arith, h .0)
+earnest-levelled s past (stops a) h = λ e. omega (arith, h .0)
 
 earnest-reduce : (k : Kind) (es : List ℕ) (s : State) (t past : List ℕ) → Earnest (reduce k es s t past)
 unfolding reduce
@@ -43,8 +44,7 @@ earnest-reduce k es s t past =
     earnest-if (leb 64 (s .levels)) _ _ (λ e. omega arith) (earnest-levelled s past _ (run-edgy k (s .darts) t past es))
 
 earnest-sweep : (s : State) (t past : List ℕ) → Earnest (sweep s t past)
-unfolding sweep
-earnest-sweep s t past = earnest-if (leb 64 (s .levels)) _ _ (λ e. omega arith) (earnest-levelled s past _ (swept-edgy (s .darts) t past))
+earnest-sweep s t past = rw (sweep-reduces s t past) (earnest-reduce removal (loops s t past) s t past)
 
 earnest-undo : (s : State) (t past : List ℕ) → Earnest (undoLevel s t past)
 unfolding undoLevel
