@@ -2,6 +2,7 @@
 use crate::load::bind;
 use crate::trees::join;
 use crate::trees::together;
+use darts::Answer;
 use slices::at;
 ghost use mathlib.Core.Path.{_≡_};
 ghost use Prim.Native.Nat.{_+_, _*_, _/_, _<_};
@@ -30,27 +31,30 @@ fn whole(work: &[u32], e: usize) -> bool
     false
 }
 
-// The number of the answer for edge e at its turn, 0 where the operation may be done: the forest tells vertices where k is 1, and faces where k is 0.
-pub fn judge(work: &mut [u32], d: usize, k: usize, e: usize) -> u32
+// The answer for edge e at its turn, the one at place i of a kernel: the forest tells vertices where k is 1, and faces where k is 0.
+pub fn judge(work: &mut [u32], d: usize, k: usize, e: usize, i: usize) -> Answer
     requires { ⌜ Room d (now work) ⌝ }
     requires { ⌜ Falls (forestIn d (now work)) ⌝ }
     requires { ⌜ k < 2 ⌝ }
-    ensures { λ r. ⌜ Judged d k e (now (work .entry)) (now (work .exit)) r ⌝ }
+    ensures { λ r. ⌜ Judged d k e i (now (work .entry)) (now (work .exit)) r ⌝ }
 {
     if d / 2 <= e {
-        return 7;
+        return Answer::NoEdge(i);
     }
     let p = 2 * e;
     if d <= at(work, d + p) {
-        return 8;
+        return Answer::GoneAlready(i);
     }
     if together(work, d, p, p + 1) {
-        return 10 - k as u32;
+        if k == 0 {
+            return Answer::OneFace(i);
+        }
+        return Answer::OneVertex(i);
     }
     if whole(work, e) {
-        return 11;
+        return Answer::WholePiece(i);
     }
-    0
+    Answer::Done(0)
 }
 
 // The dart that plays p: the edge's first dart, or its second where the operation turns round.

@@ -2,7 +2,7 @@
 --   beyond-refl, beyond-trans == what stands beyond the four parts is kept
 --   Stays D n k w v           == v holds what w holds, and judges as w does
 --   ready-stays               == so it is where the forest's roots are kept
---   ready-judged              == the answer's number for an edge is document 01's
+--   ready-judged              == the answer for an edge is document 01's
 --   ready-for                 == what doing an edge asks of the work area, where it may be done
 --   ready-did                 == the operation is done and the edge's two darts are joined: the next one can be judged
 use mathlib.Core.List.{List}
@@ -19,10 +19,11 @@ use Rattle.permutations.specs.Labels.{Merges}
 use Rattle.darts.specs.Map.{successor, live}
 use Rattle.darts.specs.Operation.{kindOf}
 use Rattle.darts.specs.Kernel.{judge}
+use Rattle.darts.specs.declared.Answer.{Answer}
 use Rattle.darts.proofs.Standing.{live-iff}
 use Rattle.forest.specs.Forest.{Falls}
 use Rattle.area.specs.Area.{prev, tableIn, pastIn, forestIn, Room}
-use Rattle.area.specs.Edge.{Judged, Bounds, Did}
+use Rattle.area.specs.Edge.{Says, Judged, Bounds, Did}
 use Rattle.area.specs.Trees.{Outside, rooted, Kept, merged}
 use Rattle.area.proofs.Replay.{merged-merges}
 use Rattle.engine.specs.Held.{Ready, Beyond}
@@ -66,8 +67,8 @@ module _ {D n k : ℕ} {w : List ℕ} (ρ : Ready D n k w) where
         beyond = outside-beyond (κ .outside);
       }
 
-  pub ready-judged : {e r : ℕ} {v : List ℕ} → Judged D k e w v r → r ≡ judge (kindOf k) D (tableIn D w) (pastIn D n w) e
-  ready-judged {e} j = j .answer ∙ judged-right (ρ .area) k (ρ .kind) (ρ .roots) e
+  pub ready-judged : {e i : ℕ} {v : List ℕ} {r : Answer} → Judged D k e i w v r → Says (judge (kindOf k) D (tableIn D w) (pastIn D n w) e) i r
+  ready-judged {e} j = rw (← judged-right (ρ .area) k (ρ .kind) (ρ .roots) e) (j .answer)
 
   module _ (e : ℕ) (fine : judge (kindOf k) D (tableIn D w) (pastIn D n w) e ≡ 0) where
     few : n < D / 2

@@ -8,11 +8,15 @@
 use mathlib.Core.Bool.{true, false}
 use mathlib.Core.List.{List, [], _∷_}
 use mathlib.Core.Logic.{_≢_}
-use mathlib.Core.Path.{_≡_}
+use mathlib.Core.Path.{_≡_, sym, _∙_}
 use Prim.Native.Nat.{ℕ, suc, _+_, _/_, _≤_}
 use Rattle.permutations.specs.Choice.{eqb-other}
+use Rattle.darts.specs.Answers.{answered}
+use Rattle.darts.specs.Cases.{answerOf}
+use Rattle.darts.specs.declared.Answer.{Answer}
+use Rattle.darts.specs.declared.Answer.the-variants.{Done}
 use Rattle.darts.specs.Operation.{kindOf}
-use Rattle.darts.specs.Kernel.{each, Run, Test, passFrom}
+use Rattle.darts.specs.Kernel.{judge, each, Run, stops, Test, passFrom}
 use Rattle.area.specs.Area.{tableIn, pastIn}
 use Rattle.engine.specs.Held.{Ready, Beyond}
 use Rattle.engine.specs.Runs.{ranIn, Went, Turned}
@@ -29,20 +33,26 @@ module _ {D k : ℕ} {takes : Test} {whole : Run} {w₀ : List ℕ} {i m : ℕ} 
     unfolding passFrom
     underway-over over = record { same = rw over at (u .same); ready = u .ready; beyond = u .beyond }
 
-    module _ (chosen : takes (tableIn D w) (pastIn D m w) e ≡ true) {v : List ℕ} {r : ℕ} (τ : Turned D m k e w v r) where
-      pub underway-on : r ≡ 0 → Underway D k takes whole w₀ (suc i) es v (m + 1)
+    module _ (chosen : takes (tableIn D w) (pastIn D m w) e ≡ true) {v : List ℕ} {r : Answer} (τ : Turned D m k e i w v r) where
+      pub underway-on : answerOf r .number ≡ 0 → Underway D k takes whole w₀ (suc i) es v (m + 1)
       unfolding passFrom
       underway-on fine =
           let g = τ .done fine in
-          let turn = rw (chosen, ← τ .answer, fine) at (u .same) in
+          let turn = rw (chosen, sym (τ .answer .number) ∙ fine) at (u .same) in
           record { same = rw (g .table, g .past) turn; ready = g .ready; beyond = beyond-trans (u .beyond) (τ .beyond) }
 
-      pub underway-stops : r ≢ 0 → {n : ℕ} → n ≤ D / 2 → Went D whole w₀ v (record { number = r; place = i; operations = n })
+      pub underway-stops : answerOf r .number ≢ 0 → {n : ℕ} → n ≤ D / 2 → Went D whole w₀ v (record { answer = r; operations = n })
       unfolding passFrom ranIn
       underway-stops given few =
-          let stop = rw (chosen, ← τ .answer, eqb-other given) at (u .same) in
-          record { went = rw (eqb-other given) stop; few = few; beyond = beyond-trans (u .beyond) (τ .beyond) }
+          let said = τ .answer in
+          let refused : judge (kindOf k) D (tableIn D w) (pastIn D m w) e ≢ 0 = λ z. given (said .number ∙ z) in
+          let stop = rw (chosen, eqb-other refused) at (u .same) in
+          record {
+            went = rw (eqb-other given) ((λ j. stops (answered (said .number j) (said .place refused j))) ∙ stop);
+            few = few;
+            beyond = beyond-trans (u .beyond) (τ .beyond);
+          }
 
-  pub underway-ends : Underway D k takes whole w₀ i [] w m → Went D whole w₀ w (record { number = 0; place = 0; operations = m })
+  pub underway-ends : Underway D k takes whole w₀ i [] w m → Went D whole w₀ w (record { answer = Done 0; operations = m })
   unfolding passFrom ranIn
   underway-ends u = record { went = u .same; few = u .ready .area .few; beyond = u .beyond }

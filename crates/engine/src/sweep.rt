@@ -1,6 +1,7 @@
 // The sweep: a removal kernel that chooses its own edges.
 use crate::Ran;
 use crate::kernel::turn;
+use darts::Answer;
 use slices::at;
 ghost use mathlib.Core.Path.{_≡_};
 ghost use Prim.Native.Nat.{_/_, _<_};
@@ -40,12 +41,10 @@ pub fn sweep(work: &mut [u32], d: usize, n: usize) -> Ran
     let mut m = n;
     while e < d / 2 {
         if takes(work, d, e) {
-            let number = turn(work, d, m, 0, e);
-            if number != 0 {
-                let taken = m - n;
+            let answer = turn(work, d, m, 0, e, m - n);
+            if answer.number() != 0 {
                 return Ran {
-                    number: number,
-                    place: taken,
+                    answer: answer,
                     operations: n,
                 };
             }
@@ -56,8 +55,7 @@ pub fn sweep(work: &mut [u32], d: usize, n: usize) -> Ran
         }
     }
     Ran {
-        number: 0,
-        place: 0,
+        answer: Answer::Done(0),
         operations: m,
     }
 }

@@ -17,6 +17,7 @@ use lib.Dec.{eqb, leb}
 use lib.ListN.{length, drop}
 use Rattle.slices.specs.Part.{part}
 use Rattle.darts.specs.Answers.{Answer as Answered, done, noPyramid, tooManyLevels, emptyKernel}
+use Rattle.darts.specs.Cases.{answerOf}
 use Rattle.darts.specs.Choose.{if_then_else_}
 use Rattle.darts.specs.Kernel.{Run, stands, stops}
 use Rattle.darts.specs.State.{State as Stated, Result, gives, refuses, levelled}
@@ -107,9 +108,10 @@ module _ (s : Stated) (t h w : List ℕ) (fit : fitting (s .darts) (length t) (l
             ∙ sym (taken step s t h w fit accepted ∙ ap (handsBack s t h w) (e ∙ rw (lt-leb 64 (s .levels) free)))
 
 -- the answer that stopped a run is an edge's
-ran-edgy : (D : ℕ) (w : List ℕ) (r : Ran) (run : Run) → ranIn D w r ≡ run → Edgy run → r .number ≢ 0 → (7 ≤ r .number) × (r .number ≤ 11)
+ran-edgy : (D : ℕ) (w : List ℕ) (r : Ran) (run : Run) → ranIn D w r ≡ run → Edgy run → answerOf (r .answer) .number ≢ 0
+    → (7 ≤ answerOf (r .answer) .number) × (answerOf (r .answer) .number ≤ 11)
 unfolding ranIn
-ran-edgy D w r run e edgy n = rw (ne-eqb (r .number) 0 n) at (subst Edgy (sym e) edgy)
+ran-edgy D w r run e edgy n = rw (ne-eqb (answerOf (r .answer) .number) 0 n) at (subst Edgy (sym e) edgy)
 
 pub halts-of : (s : Stated) (r : Ran) (v u : List ℕ) (t h wl : ℕ) (run : Run) → fitting (s .darts) t h wl .number ≡ 0 → Room (s .darts) v
     → s .levels < 64 → s .operations ≤ s .darts / 2 → Edgy run → Went (s .darts) run v u r → Halts s r u t h

@@ -7,6 +7,7 @@ use mathlib.Core.List.{List}
 use mathlib.Core.Logic.{_≢_}
 use mathlib.Core.Path.{_≡_}
 use Prim.Native.Nat.{ℕ, _+_, _-_, _/_, _≤_, _<_}
+use Rattle.darts.specs.Cases.{answerOf}
 use Rattle.darts.specs.State.{State, gives}
 use Rattle.darts.specs.Levels.{undoLevel, undoLevels}
 use Rattle.darts.specs.Pyramid.{Pyramid}
@@ -21,7 +22,7 @@ pub record Halts (s : State) (r : Ran) (w : List ℕ) (t h : ℕ) : Type 0 where
   pub free : s .levels < 64
   pub before : s .operations ≤ s .darts / 2
   pub after : r .operations ≤ s .darts / 2
-  pub answer : r .number ≢ 0 → (7 ≤ r .number) × (r .number ≤ 11)
+  pub answer : answerOf (r .answer) .number ≢ 0 → (7 ≤ answerOf (r .answer) .number) × (answerOf (r .answer) .number ≤ 11)
 
 pub record Stacked (s : State) (w : List ℕ) : Type 0 where
   pub pyramid : Pyramid s (tableIn (s .darts) w) (pastIn (s .darts) (s .operations) w)

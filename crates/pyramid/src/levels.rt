@@ -4,7 +4,6 @@ use crate::Outcome;
 use crate::State;
 ghost use mathlib.Core.Path.{_≡_};
 ghost use Prim.Native.Nat.{_≤_, _<_};
-ghost use Rattle.darts.specs.Answers.{answered};
 ghost use Rattle.darts.specs.State.{raised as raisedOf};
 ghost use Rattle.darts.specs.Levels.{endBelow, lowered as loweredOf};
 ghost use Rattle.darts.specs.Cases.{answerOf};
@@ -17,20 +16,6 @@ pub(crate) fn kept(state: State, answer: Answer) -> Outcome
     Outcome {
         state: state,
         answer: answer,
-    }
-}
-
-// The answer of the edge that stopped a run.
-pub(crate) fn refusal(number: u32, place: usize) -> Answer
-    requires { ⌜ (7 ≤ number) × (number ≤ 11) ⌝ }
-    ensures { λ r. ⌜ answerOf r ≡ answered number place ⌝ }
-{
-    match number {
-        7 => Answer::NoEdge(place),
-        8 => Answer::GoneAlready(place),
-        9 => Answer::OneVertex(place),
-        10 => Answer::OneFace(place),
-        _ => Answer::WholePiece(place),
     }
 }
 

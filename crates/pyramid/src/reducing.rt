@@ -4,7 +4,6 @@ use crate::Kind;
 use crate::Outcome;
 use crate::State;
 use crate::levels::kept;
-use crate::levels::refusal;
 use area::base::clear;
 use darts::answers::fit;
 use engine::Ran;
@@ -48,8 +47,9 @@ impl State {
     {
         let d = self.darts as usize;
         let n = self.operations as usize;
-        if ran.number != 0 {
-            return kept(self, refusal(ran.number, ran.place));
+        let answer = ran.answer;
+        if answer.number() != 0 {
+            return kept(self, answer);
         }
         let m = ran.operations;
         if m == n {

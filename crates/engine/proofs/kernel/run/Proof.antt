@@ -3,13 +3,16 @@
 --   turn-on  == it was done
 --   run-ends == no edge is left
 use mathlib.Core.List.{List, _∷_}
-use mathlib.Core.Path.{_≡_, refl, _∙_}
+use mathlib.Core.Path.{_≡_, refl, sym, _∙_}
 use Prim.Native.Nat.{ℕ, suc, _+_, _-_, _≤_, _<_}
 use native.Mathlib.Numerals.{add-one}
 use native.Mathlib.Omega.{arith}
 use lib.ListN.{length, getD, drop, drop-of-length-le}
 use lib.Seq.{drop-cons}
 use borrow.Author.Needs.{needs}
+use Rattle.darts.specs.Cases.{answerOf}
+use Rattle.darts.specs.declared.Answer.{Answer}
+use Rattle.darts.specs.declared.Answer.the-variants.{Done}
 use Rattle.darts.specs.Operation.{kindOf}
 use Rattle.darts.specs.Kernel.{Run, always, pass, run}
 use Rattle.area.specs.Area.{tableIn, pastIn}
@@ -28,11 +31,11 @@ module _ {D k : ℕ} {whole : Run} {w₀ : List ℕ} {i : ℕ} (es : List ℕ) {
   at-turn : {e : ℕ} → i < length es → e ≡ getD es i 0 → Underway D k always whole w₀ i (e ∷ drop (suc i) es) w m
   at-turn more read = rw (read, ← drop-cons es i 0 more) u
 
-  turn-on : {e : ℕ} {v : List ℕ} {r : ℕ} → i < length es → e ≡ getD es i 0 → Turned D m k e w v r → r ≡ 0
+  turn-on : {e : ℕ} {v : List ℕ} {r : Answer} → i < length es → e ≡ getD es i 0 → Turned D m k e i w v r → answerOf r .number ≡ 0
       → Underway D k always whole w₀ (i + 1) (drop (i + 1) es) v (m + 1)
   turn-on more read τ fine = rw (add-one i) (underway-on (at-turn more read) refl τ fine)
 
-  run-ends : length es ≤ i → Went D whole w₀ w (record { number = 0; place = 0; operations = m })
+  run-ends : length es ≤ i → Went D whole w₀ w (record { answer = Done 0; operations = m })
   run-ends none = underway-ends (rw (drop-of-length-le es none) at u)
 
 abbrev Inv-loop : tie.InvT-loop
@@ -51,18 +54,22 @@ at-requires c κs = search needs
 turn-requires : tie.Need-turn-requires Inv-loop μ-loop
 turn-requires c κs = c .before .before .before .loop .inv .ready
 
+number-requires : tie.Need-number-requires Inv-loop μ-loop
+number-requires c κs = search needs
+
 same-length : tie.Need-same-length Inv-loop μ-loop
-same-length c = let j = c .before .before .before in j .turn .ensures .beyond .size ∙ j .before .before .before .before .loop .inv .beyond .size
+same-length c = let j = c .before .before .before .before in j .turn .ensures .beyond .size ∙ j .before .before .before .before .loop .inv .beyond .size
 
 returns : tie.Need-returns Inv-loop μ-loop
 returns c =
-    let j = c .before .before .before in
+    let j = c .before .before .before .before in
     let t = j .before .before in
-    underway-stops (at-turn _ (t .before .before .loop .inv) (t .before .loop-test .taken) (t .at .ensures)) refl (j .turn .ensures) (c .if1 .taken)
+    underway-stops (at-turn _ (t .before .before .loop .inv) (t .before .loop-test .taken) (t .at .ensures)) refl (j .turn .ensures)
+    (λ z. c .if1 .taken (c .before .number .ensures ∙ z))
     (t .before .before .before .before .before .pre .area .few)
 
 add-m : tie.Need-add-m Inv-loop μ-loop
-add-m c = let A = c .before .before .before .before .before .before .before .loop .inv .ready .area in omega (arith, A .few, A .room .small)
+add-m c = let A = c .before .before .before .before .before .before .before .before .loop .inv .ready .area in omega (arith, A .few, A .room .small)
 
 add-i : tie.Need-add-i Inv-loop μ-loop
 add-i c = search needs
@@ -72,9 +79,10 @@ loop-less c = search needs
 
 loop-again : tie.Need-loop-again Inv-loop μ-loop
 loop-again c =
-    let j = c .before .before .before in
+    let j = c .before .before .before .before in
     let t = j .before .before in
-    turn-on _ (t .before .before .loop .inv) (t .before .loop-test .taken) (t .at .ensures) (j .turn .ensures) (c .if1 .left)
+    turn-on _ (t .before .before .loop .inv) (t .before .loop-test .taken) (t .at .ensures) (j .turn .ensures)
+    (sym (c .before .number .ensures) ∙ c .if1 .left)
 
 same-length-2 : tie.Need-same-length-2 Inv-loop μ-loop
 same-length-2 c = c .before .loop .inv .beyond .size
@@ -91,6 +99,7 @@ run-spec =
     loop-holds
     at-requires
     turn-requires
+    number-requires
     same-length
     returns
     add-m

@@ -11,6 +11,9 @@ use Prim.Native.Nat.{ℕ, suc, _+_, _-_, _/_, _≤_, _<_}
 use native.Mathlib.Numerals.{add-one}
 use native.Mathlib.Omega.{arith}
 use borrow.Author.Needs.{needs}
+use Rattle.darts.specs.Cases.{answerOf}
+use Rattle.darts.specs.declared.Answer.{Answer}
+use Rattle.darts.specs.declared.Answer.the-variants.{Done}
 use Rattle.darts.specs.Operation.{kindOf}
 use Rattle.darts.specs.Kernel.{Run, rising, pass}
 use Rattle.darts.specs.Levels.{takes, swept}
@@ -51,13 +54,13 @@ module _ {D n : ℕ} {w₀ w : List ℕ} {e m : ℕ} (σ : Sweeping D n w₀ w e
       passed-over : b ≡ false → Sweeping D n w₀ w (e + 1) m
       passed-over over = record { low = σ .low; under = rw (add-one e) (underway-over at-turn (taking ∙ over)) }
 
-      taken-on : b ≡ true → {v : List ℕ} {r : ℕ} → Turned D m 0 e w v r → r ≡ 0 → Sweeping D n w₀ v (e + 1) (m + 1)
+      taken-on : b ≡ true → {v : List ℕ} {r : Answer} → Turned D m 0 e (m - n) w v r → answerOf r .number ≡ 0 → Sweeping D n w₀ v (e + 1) (m + 1)
       taken-on chosen τ fine =
           let low : n ≤ m = σ .low in
           let one : m + 1 - n ≡ suc (m - n) = omega arith in
           record { low = omega arith; under = rw (one, add-one e) (underway-on at-turn (taking ∙ chosen) τ fine) }
 
-  sweep-ends : D / 2 ≤ e → Went D (whole D n w₀) w₀ w (record { number = 0; place = 0; operations = m })
+  sweep-ends : D / 2 ≤ e → Went D (whole D n w₀) w₀ w (record { answer = Done 0; operations = m })
   unfolding rising
   sweep-ends none = let z : D / 2 - e ≡ 0 = omega arith in underway-ends (rw z at (σ .under))
 
@@ -73,29 +76,33 @@ loop-holds c = begin (c .before .pre)
 takes-requires : tie.Need-takes-requires Inv-loop μ-loop
 takes-requires c κs = (c .before .before .loop .inv .under .ready .area .room, c .before .loop-test .taken)
 
+sub-turn : tie.Need-sub-turn Inv-loop μ-loop
+sub-turn c = c .before .before .before .before .before .loop .inv .low
+
 turn-requires : tie.Need-turn-requires Inv-loop μ-loop
 turn-requires c κs = c .before .before .before .before .before .loop .inv .under .ready
 
-sub-taken : tie.Need-sub-taken Inv-loop μ-loop
-sub-taken c = c .before .before .before .before .before .before .before .before .before .loop .inv .low
+number-requires : tie.Need-number-requires Inv-loop μ-loop
+number-requires c κs = search needs
 
 same-length : tie.Need-same-length Inv-loop μ-loop
 same-length c =
-    let j = c .before .before .before in
+    let j = c .before .before .before .before in
     j .turn .ensures .beyond .size ∙ j .before .before .before .before .before .before .loop .inv .under .beyond .size
 
 returns : tie.Need-returns Inv-loop μ-loop
 returns c =
-    let j = c .before .before .before in
+    let j = c .before .before .before .before in
     let t = j .before .before .before in
     let σ = t .before .before .before .loop .inv in
     let more = t .before .before .loop-test .taken in
-    underway-stops (at-turn σ more) (taking σ more (t .takes .ensures) ∙ j .before .before .if1 .taken) (j .turn .ensures) (c .if2 .taken)
+    underway-stops (at-turn σ more) (taking σ more (t .takes .ensures) ∙ j .before .before .if1 .taken) (j .turn .ensures)
+    (λ z. c .if2 .taken (c .before .number .ensures ∙ z))
     (t .before .before .before .before .before .pre .area .few)
 
 add-m : tie.Need-add-m Inv-loop μ-loop
 add-m c =
-    let A = c .before .before .before .before .before .before .before .before .before .loop .inv .under .ready .area in
+    let A = c .before .before .before .before .before .before .before .before .before .before .loop .inv .under .ready .area in
     omega (arith, A .few, A .room .small)
 
 add-e : tie.Need-add-e Inv-loop μ-loop
@@ -106,9 +113,9 @@ loop-less c = search needs
 
 loop-again : tie.Need-loop-again Inv-loop μ-loop
 loop-again c =
-    let j = c .before .before .before in
+    let j = c .before .before .before .before in
     let t = j .before .before .before in
-    taken-on (t .before .before .before .loop .inv) (t .before .before .loop-test .taken) (t .takes .ensures) (j .before .before .if1 .taken) (j .turn .ensures) (c .if2 .left)
+    taken-on (t .before .before .before .loop .inv) (t .before .before .loop-test .taken) (t .takes .ensures) (j .before .before .if1 .taken) (j .turn .ensures) (sym (c .before .number .ensures) ∙ c .if2 .left)
 
 add-e-2 : tie.Need-add-e-2 Inv-loop μ-loop
 add-e-2 c = search needs
@@ -133,8 +140,9 @@ sweep-spec =
     μ-loop
     loop-holds
     takes-requires
+    sub-turn
     turn-requires
-    sub-taken
+    number-requires
     same-length
     returns
     add-m
