@@ -1,6 +1,7 @@
 // The calls on a state: start, reduce, sweep, undo, unfold, counts.
 pub mod answers;
 mod counting;
+mod judging;
 mod levels;
 mod reducing;
 pub mod starting;
