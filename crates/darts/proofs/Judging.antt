@@ -5,6 +5,7 @@
 --   judged-unfit    == where 1 or 2 is given, that is the answer
 --   judged-fit      == where they are not, the decision whether it is a pyramid tells
 --   judged-lent     == of which `judged` is done
+--   judged-done     == and where it is done, it is one
 --   on-refused      == a call that is judged 1, 2 or 4 refuses so
 --   on-judged       == its answer is then that one
 --   on-lent         == on a pyramid lent with room a call is what its step gives
@@ -82,6 +83,15 @@ module _ (s : State) (t h w : List ℕ) where
   judged-lent L =
       judged-fit (fits-zero (count-facts D (L .pyramid .count)) (L .lengths)) true
       (T→true _ (pyramid-decided s (tableOf s t) (pastOf s h) .1 (L .pyramid)))
+
+  pub judged-done : judged s t h w .number ≡ 0 → Lent s t h w
+  judged-done e = go judging
+    where
+      go : Judging s t h w → Lent s t h w
+      go (uncounted _ a) = absurd (let z : 1 ≡ 0 = rw a at e in omega arith)
+      go (cramped _ _ a) = absurd (let z : 2 ≡ 0 = rw a at e in omega arith)
+      go (other _ _ _ a) = absurd (let z : 4 ≡ 0 = rw a at e in omega arith)
+      go (lent L _) = L
 
   module _ (step : State → List ℕ → List ℕ → Result) where
     pub on-refused : judged s t h w .number ≢ 0 → onState step s t h w ≡ handsBack s t h w (refuses (judged s t h w))

@@ -4,17 +4,19 @@
 --   unfold-returns               == unfold returns what the kernels above were given
 --   undo-levels                  == undoing j + k levels is undoing j, then k
 --   unfold-top                   == unfold to the top changes nothing
+--   undo-is-unfold               == undo is unfold to the level below; at the base there is none, and level 1 is above the top
 --   undo-pyramid, unfold-pyramid == undo and unfold lead from pyramids to pyramids
 use mathlib.Core.Bool.{Bool, true, false}
 use mathlib.Core.List.{List, [], _∷_}
 use mathlib.Core.Path.{_≡_, refl, sym, _∙_, ap, fun-ext}
 use Prim.Native.Nat.{ℕ, zero, suc, _+_, _-_}
+use native.Mathlib.Decide.{ℕ-discrete}
 use native.Mathlib.Nat.{zero-add, suc-add}
 use native.Mathlib.Numerals.{add-one}
 use native.Mathlib.Omega.{arith}
 use lib.Dec.{eqb, ltb, ltb→lt}
 use lib.ListN.{length}
-use Rattle.permutations.specs.Choice.{eqb-other, nT→false}
+use Rattle.permutations.specs.Choice.{pick, eqb-other, nT→false}
 use Rattle.darts.specs.Operation.{Kind, removal}
 use Rattle.darts.specs.State.{State, gives, andThen, raised, reduce}
 use Rattle.darts.specs.Levels.{sweep, endBelow, undoLevel, undoLevels, unfoldTo}
@@ -90,6 +92,18 @@ unfold-top s t past =
     let top : ltb (s .levels) (s .levels) ≡ false = nT→false (ltb (s .levels) (s .levels)) (λ h. omega (arith, ltb→lt (s .levels) (s .levels) h)) in
     let none : s .levels - s .levels ≡ 0 = omega arith in
     rw (top, none)
+
+-- "undo one level; unfold to level k (.. it equals that many undos ..)", "undo at the base, or k above the top": UNDO IS UNFOLD TO THE LEVEL BELOW
+pub undo-is-unfold : (s : State) (t past : List ℕ) → undoLevel s t past ≡ unfoldTo (pick (eqb (s .levels) 0) 1 (s .levels - 1)) s t past
+unfolding unfoldTo undoLevels undoLevel
+undo-is-unfold s t past = go (ℕ-discrete (s .levels) 0)
+  where
+    go : Dec (s .levels ≡ 0) → undoLevel s t past ≡ unfoldTo (pick (eqb (s .levels) 0) 1 (s .levels - 1)) s t past
+    go (yes e) = rw e
+    go (no n) =
+        let below : ltb (s .levels) (s .levels - 1) ≡ false = nT→false _ (λ h. omega (arith, ltb→lt (s .levels) (s .levels - 1) h)) in
+        let one : s .levels - (s .levels - 1) ≡ suc zero = omega arith in
+        rw (eqb-other n, below, one, eqb-other n)
 
 -- ---- pyramids below
 

@@ -3,7 +3,9 @@ use crate::Answer;
 use crate::Outcome;
 use crate::State;
 ghost use mathlib.Core.Path.{_≡_};
-ghost use Prim.Native.Nat.{_≤_, _<_};
+ghost use Prim.Native.Nat.{_-_, _≤_, _<_};
+ghost use lib.Dec.{eqb};
+ghost use Rattle.permutations.specs.Choice.{pick};
 ghost use Rattle.darts.specs.State.{raised as raisedOf};
 ghost use Rattle.darts.specs.Levels.{endBelow, lowered as loweredOf};
 ghost use Rattle.darts.specs.Cases.{answerOf};
@@ -47,6 +49,16 @@ impl State {
         }
         let at = (l - 2) as usize;
         self.ends[at]
+    }
+
+    // The level below; at the base, where there is none, a level above the top.
+    pub(crate) fn level_below(self) -> u32
+        ensures { λ r. ⌜ r ≡ pick (eqb (self .levels) 0) 1 (self .levels - 1) ⌝ }
+    {
+        if self.levels == 0 {
+            return 1;
+        }
+        self.levels - 1
     }
 
     // One level less.

@@ -1,5 +1,6 @@
 // The calls on a state: start, reduce, sweep, undo, unfold, counts.
 mod counting;
+mod judging;
 mod levels;
 mod reducing;
 pub mod starting;
