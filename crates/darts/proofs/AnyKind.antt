@@ -1,6 +1,9 @@
--- Contraction and removal at once: they differ only in whose successor the dart before p takes over.
---   giver k x == the dart whose successor the dart before x takes over: x itself in a removal, its partner in a contraction
-use mathlib.Core.Logic.{_≢_, _⊎_, inl, inr, ⊎-elim}
+-- Contraction and removal at once: they differ only in which of two is near and which far.
+--   near-far, of-near-far == what holds of both holds of the near one and the far one, and the other way round
+--   apart-iff             == the near one and the far one differ where the two do
+--   near-of               == where the near one of two darts leads
+--   near-end, end-near    == of an edge's two darts one is near and one far
+use mathlib.Core.Logic.{_≢_, _↔_, Iff·rfl, _⊎_, inl, inr, ⊎-elim}
 use mathlib.Core.Path.{_≡_, refl, sym, ap, _∙_, fun-ext}
 use Prim.Native.Nat.{ℕ, _<_}
 use native.Mathlib.Decide.{ℕ-discrete}
@@ -14,21 +17,37 @@ use Rattle.permutations.specs.Map.{Map, Good, offEdge, map-path, good-remove, p
 use Rattle.permutations.specs.Dual.{good-contract}
 use Rattle.permutations.specs.Legal.{after, act, dart}
 use Rattle.darts.specs.Operation.{Kind, contraction, removal}
+use Rattle.darts.specs.Tests.{near, far}
 use Rattle.darts.proofs.Standing.{opOf}
 
-abbrev pub giver : Kind → ℕ → ℕ
-giver removal x = x
-giver contraction x = partner x
+pub near-far : (P : ℕ → Type 0) (k : Kind) {r s : ℕ} → P r → P s → P (near k r s) × P (far k r s)
+unfolding near
+near-far P removal i j = (i, j)
+near-far P contraction i j = (j, i)
 
-pub giver-end : (k : Kind) (p : ℕ) → End p (giver k p)
-giver-end removal p = inl refl
-giver-end contraction p = inr refl
+pub of-near-far : (P : ℕ → Type 0) (k : Kind) (r s : ℕ) → P (near k r s) → P (far k r s) → P r × P s
+unfolding near
+of-near-far P removal r s i j = (i, j)
+of-near-far P contraction r s i j = (j, i)
 
--- the two darts of an edge are the two givers
-pub end-giver : (k : Kind) {p x : ℕ} → End p x → (x ≡ giver k p) ⊎ (x ≡ giver k (partner p))
-end-giver removal e = e
-end-giver contraction {p} (inl e) = inr (e ∙ sym (partner-partner p))
-end-giver contraction (inr e) = inl e
+pub apart-iff : (k : Kind) (r s : ℕ) → (near k r s ≢ far k r s) ↔ (r ≢ s)
+unfolding near
+apart-iff removal r s = Iff·rfl
+apart-iff contraction r s = (λ n e. n (sym e), λ n e. n (sym e))
+
+pub near-of : (k : Kind) (f : ℕ → ℕ) (p q : ℕ) → near k (f p) (f q) ≡ f (near k p q)
+unfolding near
+near-of removal f p q = refl
+near-of contraction f p q = refl
+
+pub near-end : (k : Kind) (p : ℕ) → End p (near k p (partner p)) × End p (far k p (partner p))
+near-end k p = near-far (End p) k (inl refl) (inr refl)
+
+pub end-near : (k : Kind) {p x : ℕ} → End p x → (x ≡ near k p (partner p)) ⊎ (x ≡ far k p (partner p))
+unfolding near
+end-near removal e = e
+end-near contraction (inl e) = inr e
+end-near contraction (inr e) = inl e
 
 -- ---- where the darts lead after an operation
 
@@ -39,14 +58,23 @@ module _ {D : ℕ} {f : ℕ → ℕ} (π : Perm D f) {p x : ℕ} (pD : p < D) (q
   not-q : x ≢ partner p
   not-q e = away (inr e)
 
-  -- the dart before p now leads where p's giver led; if that was to q, then where q's giver led
-  pub after-before-p : (k : Kind) → f x ≡ p → after (opOf k p) f x ≡ pick (eqb (f (giver k p)) (partner p)) (f (giver k (partner p))) (f (giver k p))
-  after-before-p removal e = skip-before-p π (partner-ne p) not-p not-q e
-  after-before-p contraction e = rw (partner-partner p) (splice-before-p π pD qD (partner-ne p) not-p not-q e)
+  -- the near one and the far one of where p and q led
+  abbrev n : Kind → ℕ
+  n k = near k (f p) (f (partner p))
 
-  pub after-before-q : (k : Kind) → f x ≡ partner p → after (opOf k p) f x ≡ pick (eqb (f (giver k (partner p))) p) (f (giver k p)) (f (giver k (partner p)))
+  abbrev m : Kind → ℕ
+  m k = far k (f p) (f (partner p))
+
+  -- the dart before p now leads to the near one; if that is q, to the far one
+  pub after-before-p : (k : Kind) → f x ≡ p → after (opOf k p) f x ≡ pick (eqb (n k) (partner p)) (m k) (n k)
+  unfolding near
+  after-before-p removal e = skip-before-p π (partner-ne p) not-p not-q e
+  after-before-p contraction e = splice-before-p π pD qD (partner-ne p) not-p not-q e
+
+  pub after-before-q : (k : Kind) → f x ≡ partner p → after (opOf k p) f x ≡ pick (eqb (m k) p) (n k) (m k)
+  unfolding near
   after-before-q removal e = skip-before-q π (partner-ne p) not-p not-q e
-  after-before-q contraction e = rw (partner-partner p) (splice-before-q π pD qD (partner-ne p) not-p not-q e)
+  after-before-q contraction e = splice-before-q π pD qD (partner-ne p) not-p not-q e
 
   pub after-other : (k : Kind) → f x ≢ p → f x ≢ partner p → after (opOf k p) f x ≡ f x
   after-other removal m n = skip-other π (partner-ne p) not-p not-q m n
@@ -61,7 +89,7 @@ after-at f contraction {p} e = skip-at (crossed f p (partner p)) e
 -- ---- the map after an operation, and turning round
 
 -- an edge is the same from either of its darts
-end-over : {p x : ℕ} → End p x → End (partner p) x
+pub end-over : {p x : ℕ} → End p x → End (partner p) x
 end-over {p} = ⊎-elim (λ e. inr (e ∙ sym (partner-partner p))) inl
 
 pub over-end : {p x : ℕ} → End (partner p) x → End p x

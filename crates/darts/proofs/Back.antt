@@ -8,13 +8,12 @@ use native.Mathlib.Decide.{ℕ-discrete}
 use native.Mathlib.Omega.{arith}
 use lib.Dec.{T, eqb}
 use Rattle.permutations.specs.Choice.{pick, eqb-same, eqb-other}
-use Rattle.permutations.specs.Partner.{partner}
 use Rattle.permutations.specs.Map.{offEdge}
 use Rattle.permutations.specs.Legal.{Whole}
 use Rattle.darts.specs.Operation.{Kind, contraction, removal, lead, operate, number, kindOf, leadOf, edgeOf, undoOne}
 use Rattle.darts.proofs.Standing.{live, mapOf, Standing}
 use Rattle.darts.proofs.Numbers.{live-after}
-use Rattle.darts.proofs.Relink.{entryOf}
+use Rattle.darts.proofs.Relink.{nearEntry, farEntry}
 use Rattle.darts.specs.Tests.{numbered, fits}
 use Rattle.darts.proofs.Fits.{Fit, numbered-iff, fits-iff}
 use Rattle.darts.proofs.StandsBy.{live-edge}
@@ -62,5 +61,5 @@ fits-redo {D} {t} {h} {past} S N f = record {
     lives : T (live D past p)
     lives = numbered-iff D h past .0 N .0
 
-    F : Fit (live D (h ∷ past)) p (entryOf k t p) (entryOf k t (partner p))
+    F : Fit (live D (h ∷ past)) p (nearEntry k t p) (farEntry k t p)
     F = fits-iff D t h past .0 f

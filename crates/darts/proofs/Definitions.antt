@@ -5,21 +5,21 @@
 --   d                      == the dart that plays p
 --   Definition7 σ σ⁻¹ σ′ d == what Definition 7 says of a removal, equation by equation
 --   Definition8 σ σ⁻¹ σ′ d == what Definition 8 says of a contraction
---   Written g σ σ⁻¹ σ′ d   == both at once: the dart before x takes over the successor of g x
+--   Written n f σ σ⁻¹ σ′ d == both at once: n is the near one and f the far one of σ d and σ (α d)
 use mathlib.Core.List.{List}
 use mathlib.Core.Logic.{_≢_, inl, inr}
-use mathlib.Core.Path.{_≡_, refl, ap, _∙_}
+use mathlib.Core.Path.{_≡_, refl, _∙_}
 use Prim.Native.Nat.{ℕ}
 use Rattle.permutations.specs.Choice.{eqb-same, eqb-other}
-use Rattle.permutations.specs.Partner.{partner, partner-partner, End}
+use Rattle.permutations.specs.Partner.{partner, End}
 use Rattle.darts.specs.Map.{successor, before}
 use Rattle.darts.specs.Operation.{Kind, contraction, removal, lead, operate}
 use Rattle.darts.specs.Kernel.{judge}
+use Rattle.darts.specs.Tests.{near}
 use Rattle.darts.specs.State.{State}
 use Rattle.darts.specs.Pyramid.{Pyramid}
 use Rattle.darts.proofs.Standing.{Standing}
-use Rattle.darts.proofs.AnyKind.{giver}
-use Rattle.darts.proofs.Relink.{entryOf, operate-relinks, relinked-else}
+use Rattle.darts.proofs.Relink.{nearEntry, farEntry, operate-relinks, relinked-else}
 use Rattle.darts.proofs.Lead.{Leading}
 use Rattle.darts.proofs.Operate.{a-away, b-away, new-a, new-b, new-end, leads}
 use Rattle.darts.proofs.Pyramids.{pyramid-built}
@@ -69,23 +69,23 @@ pub record Definition8 (σ σ⁻¹ σ′ : ℕ → ℕ) (d : ℕ) : Type 0 where
 
 -- ---- both at once
 
-record Written (g σ σ⁻¹ σ′ : ℕ → ℕ) (d : ℕ) : Type 0 where
-  both-p : σ (g d) ≢ α d → σ′ (σ⁻¹ d) ≡ σ (g d)
-  both-q : σ (g d) ≢ α d → σ′ (σ⁻¹ (α d)) ≡ σ (g (α d))
-  single : σ (g d) ≡ α d → σ′ (σ⁻¹ d) ≡ σ (g (α d))
-  others : (x : ℕ) → x ≢ σ⁻¹ d → (σ (g d) ≢ α d → x ≢ σ⁻¹ (α d)) → σ′ x ≡ σ x
+record Written (n f : ℕ) (σ σ⁻¹ σ′ : ℕ → ℕ) (d : ℕ) : Type 0 where
+  both-p : n ≢ α d → σ′ (σ⁻¹ d) ≡ n
+  both-q : n ≢ α d → σ′ (σ⁻¹ (α d)) ≡ f
+  single : n ≡ α d → σ′ (σ⁻¹ d) ≡ f
+  others : (x : ℕ) → x ≢ σ⁻¹ d → (n ≢ α d → x ≢ σ⁻¹ (α d)) → σ′ x ≡ σ x
   keeps : {x : ℕ} → End d x → σ′ x ≡ σ x
   left-p : ¬ End d (σ⁻¹ d)
-  left-q : σ (g d) ≢ α d → ¬ End d (σ⁻¹ (α d))
-  may-lead : (σ (g d) ≢ d) × (σ (g (α d)) ≢ α d) × (σ (g (α d)) ≢ d)
+  left-q : n ≢ α d → ¬ End d (σ⁻¹ (α d))
+  may-lead : (n ≢ d) × (f ≢ α d) × (f ≢ d)
 
 written : {D : ℕ} {t past : List ℕ} → Standing D t past → (k : Kind) (e : ℕ) → judge k D t past e ≡ 0
-    → Written (giver k) (successor t) (before D t past) (successor (operate k D t past e)) (lead k t e)
+    → Written (nearEntry k t (lead k t e)) (farEntry k t (lead k t e)) (successor t) (before D t past) (successor (operate k D t past e)) (lead k t e)
 written {D} {t} {past} S k e fine = rw (operate-relinks k D t past e) (record {
   both-p = λ n. new-a S k p L ∙ rw (eqb-other n);
   both-q = new-b S k p L;
   single = λ z. new-a S k p L ∙ rw (eqb-same z);
-  others = relinked-else t (before D t past p) (before D t past (α p)) (α p) (entryOf k t p) (entryOf k t (α p));
+  others = relinked-else t (before D t past p) (before D t past (α p)) (α p) (nearEntry k t p) (farEntry k t p);
   keeps = new-end S k p L;
   left-p = a-away S k p L;
   left-q = b-away S k p L;
@@ -104,6 +104,7 @@ module _ {s : State} {t past : List ℕ} (P : Pyramid s t past) (e : ℕ) where
   -- A LEGAL REMOVAL IS DEFINITION 7's
   pub definition-7 : judge removal (s .darts) t past e ≡ 0
       → Definition7 (successor t) (before (s .darts) t past) (successor (operate removal (s .darts) t past e)) (lead removal t e)
+  unfolding near
   definition-7 fine =
       let W = written (pyramid-built P .standing) removal e fine in
       record {
@@ -123,16 +124,16 @@ module _ {s : State} {t past : List ℕ} (P : Pyramid s t past) (e : ℕ) where
   -- A LEGAL CONTRACTION IS DEFINITION 8's
   pub definition-8 : judge contraction (s .darts) t past e ≡ 0
       → Definition8 (successor t) (before (s .darts) t past) (successor (operate contraction (s .darts) t past e)) (lead contraction t e)
+  unfolding near
   definition-8 fine =
       let W = written (pyramid-built P .standing) contraction e fine in
-      let back : α (α (lead contraction t e)) ≡ lead contraction t e = partner-partner (lead contraction t e) in
       record {
         eq-7 = W .both-p;
-        eq-8 = λ n. W .both-q n ∙ ap (successor t) back;
-        no-loop = (rw back at (W .may-lead .1), W .may-lead .0);
-        eq-9 = λ z. W .single z ∙ ap (successor t) back;
+        eq-8 = W .both-q;
+        no-loop = (W .may-lead .1, W .may-lead .0);
+        eq-9 = W .single;
         alone = λ z x n. W .others x n (λ m. absurd (m z));
-        side = rw back at (W .may-lead .2);
+        side = W .may-lead .2;
         eq-10 = λ x n m. W .others x n (λ _. m);
         keeps-p = W .keeps (inl refl);
         keeps-q = W .keeps (inr refl);

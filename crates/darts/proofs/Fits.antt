@@ -9,12 +9,12 @@ use Prim.Native.Nat.{ℕ, _*_, _/_, _%_, _<_}
 use native.Mathlib.Omega.{arith}
 use native.Mathlib.Decide.{ℕ-discrete}
 use lib.Dec.{T, eqb, ltb, ltb→lt, lt→ltb}
-use Rattle.permutations.specs.Choice.{pick, eqb-same, eqb-other, eqb-iff, and-iff, not-iff}
-use Rattle.permutations.specs.Partner.{partner, partner-partner}
+use Rattle.permutations.specs.Choice.{pick, T-ext, eqb-same, eqb-other, eqb-iff, and-iff, not-iff}
+use Rattle.permutations.specs.Partner.{partner}
 use Rattle.darts.specs.Map.{successor, gone, survives}
 use Rattle.darts.specs.Operation.{Kind, contraction, removal, kindOf, leadOf}
 use Rattle.darts.proofs.Standing.{live}
-use Rattle.darts.proofs.Relink.{entryOf}
+use Rattle.darts.proofs.Relink.{nearEntry, farEntry}
 use Rattle.darts.specs.Tests.{numbered, near, far, fits}
 
 -- TESTS 1 AND 2 SAY THAT THE LEAD OF EACH OPERATION SURVIVES THE ONES BEFORE IT
@@ -33,31 +33,23 @@ pub data Fit (now : ℕ → Bool) (p near far : ℕ) : Type 0 where
   one : near ≡ partner p → T (now far) → Fit now p near far
   two : near ≢ partner p → p % 2 ≡ 0 → T (now near) → T (now far) → near ≢ far → Fit now p near far
 
-near-entry : (k : Kind) (t : List ℕ) (p : ℕ) → near k (successor t p) (successor t (partner p)) ≡ entryOf k t p
-unfolding near
-near-entry removal t p = refl
-near-entry contraction t p = refl
+module _ (now : ℕ → Bool) where
+  two-iff : (r s : ℕ) → T (now r && (now s && not (eqb r s))) ↔ (T (now r) × (T (now s) × (r ≢ s)))
+  two-iff r s = and-iff (now r) _ Iff·rfl (λ h. and-iff (now s) _ Iff·rfl (λ k. not-iff (eqb r s) (eqb-iff r s)))
 
-far-entry : (k : Kind) (t : List ℕ) (p : ℕ) → far k (successor t p) (successor t (partner p)) ≡ entryOf k t (partner p)
-unfolding far
-far-entry removal t p = refl
-far-entry contraction t p = rw (partner-partner p)
+  -- the tests of r and s do not depend on their order
+  pub any-order : (k : Kind) (r s : ℕ) → (let n : ℕ = near k r s in let f : ℕ = far k r s in
+      (now r && (now s && not (eqb r s))) ≡ (now n && (now f && not (eqb n f))))
+  unfolding near
+  any-order removal r s = refl
+  any-order contraction r s = T-ext _ _ (turn r s) (turn s r)
+    where
+      turn : (r s : ℕ) → T (now r && (now s && not (eqb r s))) → T (now s && (now r && not (eqb s r)))
+      turn r s h = let (a, b) = two-iff r s .0 h in two-iff s r .1 (b .0, (a, λ e. b .1 (sym e)))
 
-module _ (now : ℕ → Bool) (r s : ℕ) where
-  two-iff : T (now r && (now s && not (eqb r s))) ↔ (T (now r) × (T (now s) × (r ≢ s)))
-  two-iff = and-iff (now r) _ Iff·rfl (λ h. and-iff (now s) _ Iff·rfl (λ k. not-iff (eqb r s) (eqb-iff r s)))
-
-  either-way : (k : Kind) → T (now r && (now s && not (eqb r s))) ↔ (T (now (near k r s)) × (T (now (far k r s)) × (near k r s ≢ far k r s)))
-  unfolding near far
-  either-way removal = two-iff
-  either-way contraction = (
-    λ h. let (a, b) = two-iff .0 h in (b .0, (a, λ e. b .1 (sym e))),
-    λ h. two-iff .1 (h .1 .0, (h .0, λ e. h .1 .1 (sym e))),
-  )
-
-  fit-iff : (k : Kind) (p : ℕ) → (let n : ℕ = near k r s in let f : ℕ = far k r s in
+  fit-iff : (k : Kind) (p r s : ℕ) → (let n : ℕ = near k r s in let f : ℕ = far k r s in
       T (pick (eqb n (partner p)) (now f) (eqb (p % 2) 0 && (now r && (now s && not (eqb r s))))) ↔ Fit now p n f)
-  fit-iff k p = go (ℕ-discrete (near k r s) (partner p))
+  fit-iff k p r s = go (ℕ-discrete (near k r s) (partner p))
     where
       go : Dec (near k r s ≡ partner p)
           → T (pick (eqb (near k r s) (partner p)) (now (far k r s)) (eqb (p % 2) 0 && (now r && (now s && not (eqb r s))))) ↔ Fit now p (near k r s) (far k r s)
@@ -67,8 +59,8 @@ module _ (now : ℕ → Bool) (r s : ℕ) where
           single (one i h) = h
           single (two n i a b d) = b
       go (no n) =
-          let i = and-iff (eqb (p % 2) 0) _ (eqb-iff (p % 2) 0) (λ h. either-way k) in
-          rw (eqb-other n) (λ h. let (a, b) = i .0 h in two n a (b .0) (b .1 .0) (b .1 .1), λ f. i .1 (double f))
+          let i = and-iff (eqb (p % 2) 0) _ (eqb-iff (p % 2) 0) (λ h. two-iff (near k r s) (far k r s)) in
+          rw (eqb-other n, any-order k r s) (λ h. let (a, b) = i .0 h in two n a (b .0) (b .1 .0) (b .1 .1), λ f. i .1 (double f))
         where
           double : Fit now p (near k r s) (far k r s) → (p % 2 ≡ 0) × (T (now (near k r s)) × (T (now (far k r s)) × (near k r s ≢ far k r s)))
           double (one i h) = absurd (n i)
@@ -76,9 +68,9 @@ module _ (now : ℕ → Bool) (r s : ℕ) where
 
 -- THE TESTS OF AN OPERATION SAY THAT IT FITS
 pub fits-iff : (D : ℕ) (t : List ℕ) (h : ℕ) (past : List ℕ) → (let k : Kind = kindOf h in let p : ℕ = leadOf h in
-    T (fits D t h past) ↔ Fit (live D (h ∷ past)) p (entryOf k t p) (entryOf k t (partner p)))
+    T (fits D t h past) ↔ Fit (live D (h ∷ past)) p (nearEntry k t p) (farEntry k t p))
 unfolding fits
 fits-iff D t h past =
     let k = kindOf h in
     let p = leadOf h in
-    rw (← near-entry k t p, ← far-entry k t p) (fit-iff (live D (h ∷ past)) (successor t p) (successor t (partner p)) k p)
+    fit-iff (live D (h ∷ past)) k p (successor t p) (successor t (partner p))

@@ -1,7 +1,7 @@
 -- One step forth: an operation that may be done fits once it is done.
 use mathlib.Core.List.{List, _∷_}
-use mathlib.Core.Logic.{_≢_, ⊎-elim}
-use mathlib.Core.Path.{_≡_, sym, _∙_}
+use mathlib.Core.Logic.{_≢_, inl, inr, ⊎-elim}
+use mathlib.Core.Path.{_≡_, refl}
 use Prim.Native.Nat.{ℕ, _*_, _%_}
 use native.Mathlib.Decide.{ℕ-discrete}
 use native.Mathlib.Omega.{arith}
@@ -9,31 +9,27 @@ use lib.Dec.{T, eqb}
 use Rattle.permutations.specs.Choice.{pick, eqb-same, eqb-other}
 use Rattle.permutations.specs.Partner.{partner, End, partner-ne, partner-partner}
 use Rattle.darts.specs.Map.{successor, before}
-use Rattle.darts.specs.Operation.{Kind, contraction, removal, lead, operate, number}
+use Rattle.darts.specs.Operation.{Kind, lead, operate, number}
 use Rattle.darts.specs.Kernel.{judge}
 use Rattle.darts.proofs.Standing.{live, Standing, entry-live, entry-one}
 use Rattle.darts.proofs.Judged.{judge-legal}
 use Rattle.darts.proofs.Numbers.{number-kind, number-lead}
-use Rattle.darts.proofs.AnyKind.{giver, giver-end, over-end}
-use Rattle.darts.proofs.Relink.{entryOf, relinked, operate-relinks}
+use Rattle.darts.proofs.AnyKind.{near-far, apart-iff}
+use Rattle.darts.proofs.Relink.{nearEntry, farEntry, relinked, operate-relinks}
 use Rattle.darts.proofs.Lead.{Leading, lead-leads, lead-pick}
 use Rattle.darts.proofs.Operate.{new-end, stay-live, end-live}
 use Rattle.darts.specs.Tests.{fits}
 use Rattle.darts.proofs.Fits.{Fit, one, two, fits-iff}
 
-givers-two : (k : Kind) (p : ℕ) → giver k p ≢ giver k (partner p)
-givers-two removal p = partner-ne p
-givers-two contraction p = partner-ne (partner p)
-
--- a lead whose giver does not lead to its partner did not turn round
-lead-even : (k : Kind) (t : List ℕ) (e : ℕ) → entryOf k t (lead k t e) ≢ partner (lead k t e) → lead k t e % 2 ≡ 0
-lead-even k t e = rw (lead-pick k t e) (go (ℕ-discrete (entryOf k t (partner p)) p))
+-- a lead whose near one is not its partner did not turn round
+lead-even : (k : Kind) (t : List ℕ) (e : ℕ) → nearEntry k t (lead k t e) ≢ partner (lead k t e) → lead k t e % 2 ≡ 0
+lead-even k t e = rw (lead-pick k t e) (go (ℕ-discrete (farEntry k t p) p))
   where
     p : ℕ
     p = 2 * e
 
-    go : Dec (entryOf k t (partner p) ≡ p) → (let l : ℕ = pick (eqb (entryOf k t (partner p)) p) (partner p) p in entryOf k t l ≢ partner l → l % 2 ≡ 0)
-    go (yes z) = rw (eqb-same z) (λ n. absurd (n (z ∙ sym (partner-partner p))))
+    go : Dec (farEntry k t p ≡ p) → (let l : ℕ = pick (eqb (farEntry k t p) p) (partner p) p in nearEntry k t l ≢ partner l → l % 2 ≡ 0)
+    go (yes z) = rw (eqb-same z, partner-partner p) (λ n. absurd (n z))
     go (no m) = rw (eqb-other m) (λ n. omega arith)
 
 module _ {D : ℕ} {t past : List ℕ} (S : Standing D t past) (k : Kind) (e : ℕ) (fine : judge k D t past e ≡ 0) where
@@ -46,24 +42,28 @@ module _ {D : ℕ} {t past : List ℕ} (S : Standing D t past) (k : Kind) (e : �
   leading : Leading k D t past p
   leading = lead-leads S k e (judge-legal S k e .0 fine)
 
-  survives-it : {x : ℕ} → End p x → successor t x ≢ p → successor t x ≢ q → T (live D (number k p ∷ past) (successor t x))
-  survives-it {x} i m n = stay-live S k p leading (successor t x) (entry-live S x (end-live S k p leading i)) (⊎-elim m n)
+  q-live : T (live D past q)
+  q-live = end-live S k p leading (inr refl)
 
-  fit : Fit (live D (number k p ∷ past)) p (entryOf k t p) (entryOf k t q)
-  fit = go (ℕ-discrete (entryOf k t p) q)
+  was-live : T (live D past (nearEntry k t p)) × T (live D past (farEntry k t p))
+  was-live = near-far (λ x. T (live D past x)) k (entry-live S p (leading .lives)) (entry-live S q q-live)
+
+  fit : Fit (live D (number k p ∷ past)) p (nearEntry k t p) (farEntry k t p)
+  fit = go (ℕ-discrete (nearEntry k t p) q)
     where
-      far-live : T (live D (number k p ∷ past) (entryOf k t q))
-      far-live = survives-it (over-end (giver-end k q)) (leading .q-not-p) (leading .q-not-q)
+      far-live : T (live D (number k p ∷ past) (farEntry k t p))
+      far-live = stay-live S k p leading (farEntry k t p) (was-live .1) (⊎-elim (leading .q-not-p) (leading .q-not-q))
 
-      go : Dec (entryOf k t p ≡ q) → Fit (live D (number k p ∷ past)) p (entryOf k t p) (entryOf k t q)
+      go : Dec (nearEntry k t p ≡ q) → Fit (live D (number k p ∷ past)) p (nearEntry k t p) (farEntry k t p)
       go (yes z) = one z far-live
-      go (no n) = two n (lead-even k t e n) (survives-it (giver-end k p) (leading .p-not-p) n) far-live (λ z. givers-two k p
-          (entry-one S (giver k p) (end-live S k p leading (giver-end k p)) (giver k q) (end-live S k p leading (over-end (giver-end k q))) z))
+      go (no n) =
+          two n (lead-even k t e n) (stay-live S k p leading (nearEntry k t p) (was-live .0) (⊎-elim (leading .p-not-p) n)) far-live
+          (apart-iff k (successor t p) (successor t q) .1 (λ z. partner-ne p (entry-one S p (leading .lives) q q-live z)))
 
   -- AN OPERATION THAT MAY BE DONE FITS ONCE IT IS DONE
   pub redo-fits : T (fits D (operate k D t past e) (number k p) past)
   redo-fits = fits-iff D (operate k D t past e) (number k p) past .1
-      (rw (number-kind k p, number-lead k p, operate-relinks k D t past e, same (giver-end k p), same (over-end (giver-end k q))) fit)
+      (rw (number-kind k p, number-lead k p, operate-relinks k D t past e, same (inl refl), same (inr refl)) fit)
     where
-      same : {x : ℕ} → End p x → successor (relinked t (before D t past p) (before D t past q) q (entryOf k t p) (entryOf k t q)) x ≡ successor t x
+      same : {x : ℕ} → End p x → successor (relinked t (before D t past p) (before D t past q) q (nearEntry k t p) (farEntry k t p)) x ≡ successor t x
       same = new-end S k p leading

@@ -1,9 +1,9 @@
 -- The dart that plays p.
---   Leading k D t past p == p may lead an operation of kind k: it survives, p's giver does not lead to p, and q's giver leads to neither q nor p
+--   Leading k D t past p == p may lead an operation of kind k: it survives, the near one is not p, and the far one neither q nor p
 use mathlib.Core.Bool.{Bool, true, false}
 use mathlib.Core.List.{List}
 use mathlib.Core.Logic.{_≢_, inl, inr}
-use mathlib.Core.Path.{_≡_, refl, sym, ap, _∙_, subst}
+use mathlib.Core.Path.{_≡_, refl, sym, _∙_, subst}
 use Prim.Native.Nat.{ℕ, _*_}
 use native.Mathlib.Decide.{ℕ-discrete}
 use lib.Dec.{T, eqb}
@@ -14,57 +14,59 @@ use Rattle.permutations.specs.Map.{partner-live}
 use Rattle.permutations.specs.Legal.{Separate, Legal, around, around-perm, Whole, act}
 use Rattle.darts.specs.Map.{successor, faceNext}
 use Rattle.darts.specs.Operation.{Kind, contraction, removal, turned, lead}
+use Rattle.darts.specs.Tests.{near}
 use Rattle.darts.proofs.Standing.{live, mapOf, Standing, opOf, next-entry}
 use Rattle.darts.proofs.Judged.{face-entry}
 use Rattle.darts.proofs.AnyKind.{dart-op, act-partner}
-use Rattle.darts.proofs.Relink.{entryOf}
+use Rattle.darts.proofs.Relink.{nearEntry, farEntry}
 
 pub record Leading (k : Kind) (D : ℕ) (t past : List ℕ) (p : ℕ) : Type 0 where
   pub lives : T (live D past p)
-  pub p-not-p : entryOf k t p ≢ p
-  pub q-not-q : entryOf k t (partner p) ≢ partner p
-  pub q-not-p : entryOf k t (partner p) ≢ p
+  pub p-not-p : nearEntry k t p ≢ p
+  pub q-not-q : farEntry k t p ≢ partner p
+  pub q-not-p : farEntry k t p ≢ p
 
--- "removal with s = p, contraction with r = p": the operation turns round where q's giver leads to p
-pub lead-pick : (k : Kind) (t : List ℕ) (e : ℕ) → (let p : ℕ = 2 * e in lead k t e ≡ pick (eqb (entryOf k t (partner p)) p) (partner p) p)
-unfolding lead turned
+-- "removal with s = p, contraction with r = p": the operation turns round where the far one is p
+pub lead-pick : (k : Kind) (t : List ℕ) (e : ℕ) → (let p : ℕ = 2 * e in lead k t e ≡ pick (eqb (farEntry k t p) p) (partner p) p)
+unfolding lead turned near
 lead-pick removal t e = rw (partner-first e)
-lead-pick contraction t e = rw (partner-partner (2 * e), partner-first e)
+lead-pick contraction t e = rw (partner-first e)
 
 -- the lead is a dart of the edge
 pub lead-end : (k : Kind) (t : List ℕ) (e : ℕ) → End (2 * e) (lead k t e)
-lead-end k t e = rw (lead-pick k t e) (go (eqb (entryOf k t (partner (2 * e))) (2 * e)))
+lead-end k t e = rw (lead-pick k t e) (go (eqb (farEntry k t (2 * e)) (2 * e)))
   where
     go : (b : Bool) → End (2 * e) (pick b (partner (2 * e)) (2 * e))
     go true = inr refl
     go false = inl refl
 
 module _ {D : ℕ} {t past : List ℕ} (S : Standing D t past) where
-  -- the permutation whose cycles the operation joins steps from a dart to what the dart before its partner takes over
-  around-entry : (k : Kind) (p x : ℕ) → T (live D past x) → around (mapOf D t past) (opOf k p) x ≡ entryOf k t (partner x)
-  unfolding faceNext
+  -- the permutation whose cycles the operation joins steps from a dart to the far one
+  around-entry : (k : Kind) (p x : ℕ) → T (live D past x) → around (mapOf D t past) (opOf k p) x ≡ farEntry k t x
+  unfolding faceNext near
   around-entry removal p x h = sym (face-entry S x h)
-  around-entry contraction p x h = next-entry S x h ∙ ap (successor t) (sym (partner-partner x))
+  around-entry contraction p x h = next-entry S x h
 
   module _ (k : Kind) (p : ℕ) (L : Separate (around (mapOf D t past) (opOf k p)) (mapOf D t past) p) where
     partner-lives : T (live D past (partner p))
     partner-lives = partner-live (S .good) p (L .lives)
 
-    meets-entry : {y : ℕ} (x : ℕ) → T (live D past x) → entryOf k t (partner x) ≡ y → Meets (around (mapOf D t past) (opOf k p)) x y
+    meets-entry : {y : ℕ} (x : ℕ) → T (live D past x) → farEntry k t x ≡ y → Meets (around (mapOf D t past) (opOf k p)) x y
     meets-entry x h e =
         let f = around (mapOf D t past) (opOf k p) in
         subst (Meets f x) (around-entry k p x h ∙ e) (meets-next f x)
 
     -- p and q share no cycle
-    apart-q : entryOf k t (partner p) ≢ partner p
+    apart-q : farEntry k t p ≢ partner p
     apart-q e = L .two (meets-entry p (L .lives) e)
 
-    apart-p : entryOf k t p ≢ p
+    apart-p : nearEntry k t p ≢ p
     apart-p e =
-        L .two (meets-sym (around-perm (S .good) (opOf k p)) (meets-entry (partner p) partner-lives (ap (entryOf k t) (partner-partner p) ∙ e)))
+        L .two (meets-sym (around-perm (S .good) (opOf k p)) (meets-entry (partner p) partner-lives (rw (partner-partner p) e)))
 
   -- the edge is no whole piece
-  not-crossed : (k : Kind) (p : ℕ) → T (live D past p) → ¬ Whole (mapOf D t past) p → entryOf k t p ≡ partner p → entryOf k t (partner p) ≢ p
+  not-crossed : (k : Kind) (p : ℕ) → T (live D past p) → ¬ Whole (mapOf D t past) p → nearEntry k t p ≡ partner p → farEntry k t p ≢ p
+  unfolding near
   not-crossed k p h more e z = more (go k e z)
     where
       r : mapOf D t past .next p ≡ successor t p
@@ -73,13 +75,13 @@ module _ {D : ℕ} {t past : List ℕ} (S : Standing D t past) where
       s : mapOf D t past .next (partner p) ≡ successor t (partner p)
       s = next-entry S (partner p) (partner-live (S .good) p h)
 
-      go : (k : Kind) → entryOf k t p ≡ partner p → entryOf k t (partner p) ≡ p → Whole (mapOf D t past) p
+      go : (k : Kind) → nearEntry k t p ≡ partner p → farEntry k t p ≡ p → Whole (mapOf D t past) p
       go removal e z = inr (r ∙ e, s ∙ z)
-      go contraction e z = inl (r ∙ ap (successor t) (sym (partner-partner p)) ∙ z, s ∙ e)
+      go contraction e z = inl (r ∙ z, s ∙ e)
 
   -- IN A LEGAL OPERATION THE LEAD MAY LEAD
   pub lead-leads : (k : Kind) (e : ℕ) → Legal (mapOf D t past) (opOf k (2 * e)) → Leading k D t past (lead k t e)
-  lead-leads k e legal = rw (lead-pick k t e) (go (ℕ-discrete (entryOf k t (partner p)) p))
+  lead-leads k e legal = rw (lead-pick k t e) (go (ℕ-discrete (farEntry k t p) p))
     where
       p : ℕ
       p = 2 * e
@@ -87,10 +89,10 @@ module _ {D : ℕ} {t past : List ℕ} (S : Standing D t past) where
       L : Separate (around (mapOf D t past) (opOf k p)) (mapOf D t past) p
       L = subst (Separate (around (mapOf D t past) (opOf k p)) (mapOf D t past)) (dart-op k p) legal
 
-      go : Dec (entryOf k t (partner p) ≡ p) → Leading k D t past (pick (eqb (entryOf k t (partner p)) p) (partner p) p)
+      go : Dec (farEntry k t p ≡ p) → Leading k D t past (pick (eqb (farEntry k t p) p) (partner p) p)
       go (yes z) = rw (eqb-same z) (record {
         lives = partner-lives k p L;
-        p-not-p = apart-q k p L;
+        p-not-p = rw (partner-partner p) (apart-q k p L);
         q-not-q = rw (partner-partner p) (apart-p k p L);
         q-not-p = rw (partner-partner p) (λ e. not-crossed k p (L .lives) (L .more) e z);
       })
@@ -98,7 +100,7 @@ module _ {D : ℕ} {t past : List ℕ} (S : Standing D t past) where
 
   -- and turned round or not, the operation is the same
   pub act-lead : (k : Kind) (e : ℕ) → T (live D past (2 * e)) → act (mapOf D t past) (opOf k (lead k t e)) ≡ act (mapOf D t past) (opOf k (2 * e))
-  act-lead k e h = rw (lead-pick k t e) (go (eqb (entryOf k t (partner (2 * e))) (2 * e)))
+  act-lead k e h = rw (lead-pick k t e) (go (eqb (farEntry k t (2 * e)) (2 * e)))
     where
       go : (b : Bool) → act (mapOf D t past) (opOf k (pick b (partner (2 * e)) (2 * e))) ≡ act (mapOf D t past) (opOf k (2 * e))
       go true = act-partner (S .good) (2 * e) h k

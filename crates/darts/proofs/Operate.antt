@@ -1,6 +1,6 @@
 -- An operation on a table is the mathematics' operation on its map, and undo returns every entry. While p leads the operation,
 --   q       == its partner
---   r, s    == the entries of p's giver and of q's giver
+--   r, s    == the near one and the far one of the entries of p and q
 --   a, b    == the darts before p and before q
 --   f       == the successor in the map
 --   new     == the table after the operation
@@ -20,12 +20,13 @@ use Rattle.permutations.specs.Legal.{act, after, Legal}
 use Rattle.darts.specs.Map.{successor, before}
 use Rattle.darts.specs.Operation.{Kind, lead, operate, number, putBack, undoOne}
 use Rattle.darts.specs.Kernel.{judge}
+use Rattle.darts.specs.Tests.{near}
 use Rattle.darts.proofs.Standing.{live, mapOf, Standing, opOf, next-entry}
 use Rattle.darts.proofs.Before.{before-live, before-leads, before-only}
 use Rattle.darts.proofs.Judged.{judge-legal}
 use Rattle.darts.proofs.Numbers.{number-kind, number-lead, live-after}
-use Rattle.darts.proofs.AnyKind.{giver, giver-end, end-giver, over-end, after-before-p, after-before-q, after-other, dart-op, good-after}
-use Rattle.darts.proofs.Relink.{entryOf, relinked, operate-relinks, putBack-one, putBack-two, relinked-length, relinked-a, relinked-b, relinked-else, relinked-below, one-back, two-back}
+use Rattle.darts.proofs.AnyKind.{near-far, near-of, near-end, end-near, after-before-p, after-before-q, after-other, dart-op, good-after}
+use Rattle.darts.proofs.Relink.{nearEntry, farEntry, relinked, operate-relinks, putBack-one, putBack-two, relinked-length, relinked-a, relinked-b, relinked-else, relinked-below, one-back, two-back}
 use Rattle.darts.proofs.Lead.{Leading, lead-leads, act-lead}
 
 module _ {D : ℕ} {t past : List ℕ} (S : Standing D t past) (k : Kind) (p : ℕ) (L : Leading k D t past p) where
@@ -33,10 +34,10 @@ module _ {D : ℕ} {t past : List ℕ} (S : Standing D t past) (k : Kind) (p : �
   q = partner p
 
   abbrev r : ℕ
-  r = entryOf k t p
+  r = nearEntry k t p
 
   abbrev s : ℕ
-  s = entryOf k t q
+  s = farEntry k t p
 
   abbrev a : ℕ
   a = before D t past p
@@ -59,12 +60,6 @@ module _ {D : ℕ} {t past : List ℕ} (S : Standing D t past) (k : Kind) (p : �
   end-live (inl e) = subst (λ y. T (live D past y)) (sym e) (L .lives)
   end-live (inr e) = subst (λ y. T (live D past y)) (sym e) (partner-live (S .good) p (L .lives))
 
-  p-giver : End p (giver k p)
-  p-giver = giver-end k p
-
-  q-giver : End p (giver k q)
-  q-giver = over-end (giver-end k q)
-
   live-below : (x : ℕ) → T (live D past x) → x < length t
   live-below x h = rw (S .size) (S .good .small x h)
 
@@ -85,7 +80,9 @@ module _ {D : ℕ} {t past : List ℕ} (S : Standing D t past) (k : Kind) (p : �
 
   -- an end of the edge leads to r or to s
   end-leads : {x : ℕ} → End p x → (r ≡ successor t x) ⊎ (s ≡ successor t x)
-  end-leads e = ⊎-elim (λ g. inl (ap (successor t) (sym g))) (λ g. inr (ap (successor t) (sym g))) (end-giver k e)
+  end-leads e =
+      ⊎-elim (λ g. inl (near-of k (successor t) p q ∙ ap (successor t) (sym g)))
+      (λ g. inr (near-of k (successor t) q p ∙ ap (successor t) (sym g))) (end-near k e)
 
   -- the darts that are written are not on the edge
   pub a-away : ¬ End p a
@@ -95,7 +92,9 @@ module _ {D : ℕ} {t past : List ℕ} (S : Standing D t past) (k : Kind) (p : �
   b-away n e = ⊎-elim (λ z. n (z ∙ b-leads)) (λ z. L .q-not-q (z ∙ b-leads)) (end-leads e)
 
   b-end : r ≡ q → End p b
-  b-end e = subst (End p) (before-only S q (giver k p) (end-live p-giver) e) p-giver
+  b-end e =
+      let n = near-end k p .0 in
+      subst (End p) (before-only S q (near k p q) (end-live n) (sym (near-of k (successor t) p q) ∙ e)) n
 
   -- ---- the new entries
 
@@ -125,19 +124,19 @@ module _ {D : ℕ} {t past : List ℕ} (S : Standing D t past) (k : Kind) (p : �
       fx : f x ≡ successor t x
       fx = next-entry S x h
 
-      fr : f (giver k p) ≡ r
-      fr = next-entry S (giver k p) (end-live p-giver)
+      fp : f p ≡ successor t p
+      fp = next-entry S p (L .lives)
 
-      fs : f (giver k q) ≡ s
-      fs = next-entry S (giver k q) (end-live q-giver)
+      fq : f q ≡ successor t q
+      fq = next-entry S q (end-live (inr refl))
 
       go : Dec (successor t x ≡ p) → Dec (successor t x ≡ q) → successor new x ≡ after (opOf k p) f x
       go (yes e) d =
-          ap (successor new) (before-only S p x h e) ∙ new-a ∙ sym (after-before-p π pD qD away k (fx ∙ e) ∙ rw (fr, fs))
+          ap (successor new) (before-only S p x h e) ∙ new-a ∙ sym (after-before-p π pD qD away k (fx ∙ e) ∙ rw (fp, fq))
       go (no m) (yes e) =
           let xb = before-only S q x h e in
           ap (successor new) xb ∙ new-b (λ z. away (subst (End p) (sym xb) (b-end z)))
-          ∙ sym (after-before-q π pD qD away k (fx ∙ e) ∙ rw (fr, fs, eqb-other (L .q-not-p)))
+          ∙ sym (after-before-q π pD qD away k (fx ∙ e) ∙ rw (fp, fq, eqb-other (L .q-not-p)))
       go (no m) (no n) =
           relinked-else t a b q r s x (λ z. m (ap (successor t) z ∙ a-leads)) (λ u z. n (ap (successor t) z ∙ b-leads))
           ∙ sym (after-other π pD qD away k (λ z. m (sym fx ∙ z)) (λ z. n (sym fx ∙ z)) ∙ fx)
@@ -161,12 +160,12 @@ module _ {D : ℕ} {t past : List ℕ} (S : Standing D t past) (k : Kind) (p : �
   relinked-stands = record {
     even = S .even;
     size = relinked-length t a b q r s ∙ S .size;
-    inside = λ x h. relinked-below t a b q r s D x (rw (S .size) h) (reach p-giver) (reach q-giver) (S .inside x h);
+    inside = λ x h. relinked-below t a b q r s D x (rw (S .size) h) (reach .0) (reach .1) (S .inside x h);
     good = subst (Good D) (sym relinked-acts) (good-after (S .good) p (L .lives) k);
   }
     where
-      reach : {x : ℕ} → End p x → successor t x < D
-      reach {x} e = S .inside x (S .good .small x (end-live e))
+      reach : (r < D) × (s < D)
+      reach = near-far (λ x. x < D) k (S .inside p (S .good .small p (L .lives))) (S .inside q (partner-small (S .good) p (L .lives)))
 
   -- ---- undo
 
@@ -177,21 +176,21 @@ module _ {D : ℕ} {t past : List ℕ} (S : Standing D t past) (k : Kind) (p : �
   relinked-undone : putBack k D new newPast p ≡ t
   relinked-undone = go (ℕ-discrete r q)
     where
-      same-r : entryOf k new p ≡ r
-      same-r = new-end p-giver
+      same-r : nearEntry k new p ≡ r
+      same-r = ap₂ (near k) (new-end (inl refl)) (new-end (inr refl))
 
-      same-s : entryOf k new q ≡ s
-      same-s = new-end q-giver
+      same-s : farEntry k new p ≡ s
+      same-s = ap₂ (near k) (new-end (inr refl)) (new-end (inl refl))
 
       go : Dec (r ≡ q) → putBack k D new newPast p ≡ t
       go (yes e) =
-          let at : before D new newPast (entryOf k new q) ≡ a =
+          let at : before D new newPast (farEntry k new p) ≡ a =
           ap (before D new newPast) same-s ∙ before-new s a a-live a-away (new-a ∙ rw (eqb-same e)) in
           putBack-one D new newPast p k (same-r ∙ e) ∙ ap₂ (set new) at (sym a-leads) ∙ one-back t a b q r s e
       go (no n) =
-          let at-a : before D new newPast (entryOf k new p) ≡ a =
+          let at-a : before D new newPast (nearEntry k new p) ≡ a =
           ap (before D new newPast) same-r ∙ before-new r a a-live a-away (new-a ∙ rw (eqb-other n)) in
-          let at-b : before D new newPast (entryOf k new q) ≡ b = ap (before D new newPast) same-s ∙ before-new s b b-live (b-away n) (new-b n) in
+          let at-b : before D new newPast (farEntry k new p) ≡ b = ap (before D new newPast) same-s ∙ before-new s b b-live (b-away n) (new-b n) in
           putBack-two D new newPast p k (λ z. n (sym same-r ∙ z)) (λ z. ab (sym at-a ∙ z ∙ at-b))
           ∙ ap₂ (λ i j. set (set new i p) j q) at-a at-b ∙ ap₂ (λ u v. set (set new a u) b v) (sym a-leads) (sym b-leads) ∙ two-back t a b q r s ab n
 

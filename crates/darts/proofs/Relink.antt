@@ -1,5 +1,6 @@
 -- The entries that an operation and its undo write, for both kinds at once.
---   entryOf k t x        == the entry of x's giver, which the dart before x takes over
+--   nearEntry k t p      == the near one of the entries of p and of its partner, which the dart before p takes over
+--   farEntry k t p       == the far one, which the dart before the partner takes over
 --   relinked t a b q r s == the table with r at a and s at b; where r is q, only s at a
 use mathlib.Core.List.{List}
 use mathlib.Core.Logic.{_≢_}
@@ -10,13 +11,16 @@ use lib.Dec.{eqb}
 use lib.ListN.{length, set, length-set}
 use lib.Seq.{getD-set-same, getD-set-other, set-getD, set-set, set-comm}
 use Rattle.permutations.specs.Choice.{pick, eqb-same, eqb-other}
-use Rattle.permutations.specs.Partner.{partner, partner-partner}
+use Rattle.permutations.specs.Partner.{partner}
 use Rattle.darts.specs.Map.{successor, before}
 use Rattle.darts.specs.Operation.{Kind, contraction, removal, lead, remove, contract, operate, putBack}
-use Rattle.darts.proofs.AnyKind.{giver}
+use Rattle.darts.specs.Tests.{near, far}
 
-abbrev pub entryOf : Kind → List ℕ → ℕ → ℕ
-entryOf k t x = successor t (giver k x)
+abbrev pub nearEntry : Kind → List ℕ → ℕ → ℕ
+nearEntry k t p = near k (successor t p) (successor t (partner p))
+
+abbrev pub farEntry : Kind → List ℕ → ℕ → ℕ
+farEntry k t p = far k (successor t p) (successor t (partner p))
 
 unfoldable pub relinked : List ℕ → ℕ → ℕ → ℕ → ℕ → ℕ → List ℕ
 relinked t a b q r s = pick (eqb r q) (set t a s) (set (set t a r) b s)
@@ -24,27 +28,26 @@ relinked t a b q r s = pick (eqb r q) (set t a s) (set (set t a r) b s)
 -- ---- the document's operation and undo
 
 pub operate-relinks : (k : Kind) (D : ℕ) (t past : List ℕ) (e : ℕ) → (let p : ℕ = lead k t e in
-    operate k D t past e ≡ relinked t (before D t past p) (before D t past (partner p)) (partner p) (entryOf k t p) (entryOf k t (partner p)))
-unfolding operate remove contract relinked
+    operate k D t past e ≡ relinked t (before D t past p) (before D t past (partner p)) (partner p) (nearEntry k t p) (farEntry k t p))
+unfolding operate remove contract relinked near
 operate-relinks removal D t past e = refl
-operate-relinks contraction D t past e = rw (partner-partner (lead contraction t e))
+operate-relinks contraction D t past e = refl
 
 module _ (D : ℕ) (t past : List ℕ) (p : ℕ) where
-  -- where p's giver leads to q, p is written back before the other entry and nothing else changes
-  pub putBack-one : (k : Kind) → entryOf k t p ≡ partner p → putBack k D t past p ≡ set t (before D t past (entryOf k t (partner p))) p
-  unfolding putBack
+  -- where the near one is q, p is written back before the far one and nothing else changes
+  pub putBack-one : (k : Kind) → nearEntry k t p ≡ partner p → putBack k D t past p ≡ set t (before D t past (farEntry k t p)) p
+  unfolding putBack near
   putBack-one removal e = rw (eqb-same e)
-  putBack-one contraction e = rw (eqb-same e, partner-partner p)
+  putBack-one contraction e = rw (eqb-same e)
 
-  -- otherwise p is written back before the one entry, and q before the other
-  pub putBack-two : (k : Kind) → entryOf k t p ≢ partner p → before D t past (entryOf k t p) ≢ before D t past (entryOf k t (partner p))
-      → putBack k D t past p ≡ set (set t (before D t past (entryOf k t p)) p) (before D t past (entryOf k t (partner p))) (partner p)
-  unfolding putBack
+  -- otherwise p is written back before the near one, and q before the far one
+  pub putBack-two : (k : Kind) → nearEntry k t p ≢ partner p → before D t past (nearEntry k t p) ≢ before D t past (farEntry k t p)
+      → putBack k D t past p ≡ set (set t (before D t past (nearEntry k t p)) p) (before D t past (farEntry k t p)) (partner p)
+  unfolding putBack near
   putBack-two removal n ab = rw (eqb-other n)
   putBack-two contraction n ab =
-      let ba = rw (partner-partner p) at ab in
-      rw (eqb-other n, partner-partner p)
-      (set-comm t (before D t past (successor t p)) (before D t past (successor t (partner p))) (partner p) p (λ e. ba (sym e)))
+      rw (eqb-other n)
+      (set-comm t (before D t past (successor t p)) (before D t past (successor t (partner p))) (partner p) p (λ e. ab (sym e)))
 
 -- ---- the entries, once relinked
 

@@ -3,7 +3,7 @@
 --   p, e′     == the lead of the operation on edge e, and the edge of its new number
 use mathlib.Core.List.{List, map}
 use mathlib.Core.Logic.{_≢_}
-use mathlib.Core.Path.{_≡_, sym, ap, _∙_, subst}
+use mathlib.Core.Path.{_≡_, sym, ap, ap₂, _∙_, subst}
 use Prim.Native.Nat.{ℕ, _*_, _/_, _%_, _<_}
 use native.Mathlib.Omega.{arith}
 use lib.Dec.{T, eqb}
@@ -11,14 +11,15 @@ use Rattle.permutations.specs.Choice.{pick, eqb-other}
 use Rattle.permutations.specs.Partner.{partner, partner-below}
 use Rattle.permutations.specs.Map.{partner-live}
 use Rattle.permutations.specs.Legal.{Legal}
-use Rattle.darts.specs.Map.{before}
-use Rattle.darts.specs.Operation.{Kind, contraction, removal, lead, operate}
+use Rattle.darts.specs.Map.{successor, before}
+use Rattle.darts.specs.Operation.{Kind, lead, operate}
 use Rattle.darts.specs.Kernel.{judge}
-use Rattle.darts.specs.Tests.{numbered}
+use Rattle.darts.specs.Tests.{near, numbered}
 use Rattle.darts.proofs.Standing.{live, mapOf, Standing, opOf}
 use Rattle.darts.proofs.Before.{before-live, before-leads, before-only}
 use Rattle.darts.proofs.Judged.{judge-legal}
-use Rattle.darts.proofs.Relink.{entryOf, relinked, operate-relinks}
+use Rattle.darts.proofs.AnyKind.{near-far, near-of}
+use Rattle.darts.proofs.Relink.{nearEntry, farEntry, relinked, operate-relinks}
 use Rattle.darts.proofs.Lead.{Leading, lead-leads, lead-pick, lead-end}
 use Rattle.darts.proofs.Renamed.{Renaming, renamed, number-other, renamed-entry, renamed-relinked}
 use Rattle.darts.proofs.RenamedMap.{renumbered, lives′, renamed-stands, legal-renamed}
@@ -33,13 +34,14 @@ module _ {D : ℕ} {order : List ℕ} {ν : ℕ → ℕ} (R : Renaming D order �
   S′ : Standing D t′ past′
   S′ = renamed-stands R (S .even) S N
 
-  entry-below : (k : Kind) (x : ℕ) → x < D → entryOf k t x < D
-  entry-below removal x h = S .inside x h
-  entry-below contraction x h = S .inside (partner x) (partner-below D x h (S .even))
+  entry-below : (k : Kind) (p : ℕ) → p < D → (nearEntry k t p < D) × (farEntry k t p < D)
+  entry-below k p h = near-far (λ x. x < D) k (S .inside p h) (S .inside (partner p) (partner-below D p h (S .even)))
 
-  entry-renamed : (k : Kind) (x : ℕ) → x < D → entryOf k t′ (ν x) ≡ ν (entryOf k t x)
-  entry-renamed removal x h = renamed-entry R t x h
-  entry-renamed contraction x h = rw (← R .partners x h) (renamed-entry R t (partner x) (partner-below D x h (S .even)))
+  entry-renamed : (k : Kind) (p : ℕ) → p < D → (nearEntry k t′ (ν p) ≡ ν (nearEntry k t p)) × (farEntry k t′ (ν p) ≡ ν (farEntry k t p))
+  entry-renamed k p h =
+      let i = renamed-entry R t p h in
+      let j = rw (R .partners p h) at (renamed-entry R t (partner p) (partner-below D p h (S .even))) in
+      (ap₂ (near k) i j ∙ near-of k ν (successor t p) (successor t (partner p)), ap₂ (near k) j i ∙ near-of k ν (successor t (partner p)) (successor t p))
 
   before-renamed : (x : ℕ) → T (live D past x) → before D t′ past′ (ν x) ≡ ν (before D t past x)
   before-renamed x l =
@@ -74,20 +76,19 @@ module _ {D : ℕ} {order : List ℕ} {ν : ℕ → ℕ} (R : Renaming D order �
 
     -- ITS LEAD IS THE LEAD, RENAMED
     pub lead-renamed : lead k t′ e′ ≡ ν p
-    lead-renamed = lead-pick k t′ e′ ∙ subst (λ x. pick (eqb (entryOf k t′ (partner x)) x) (partner x) x ≡ ν p) double (rw (eqb-other stays))
+    lead-renamed = lead-pick k t′ e′ ∙ subst (λ x. pick (eqb (farEntry k t′ x) x) (partner x) x ≡ ν p) double (rw (eqb-other stays))
       where
-        stays : entryOf k t′ (partner (ν p)) ≢ ν p
-        stays = rw (← R .partners p p-below, entry-renamed k (partner p) q-below)
-            (number-other R (entryOf k t (partner p)) p (entry-below k (partner p) q-below) p-below (L .q-not-p))
+        stays : farEntry k t′ (ν p) ≢ ν p
+        stays = rw (entry-renamed k p p-below .1) (number-other R (farEntry k t p) p (entry-below k p p-below .1) p-below (L .q-not-p))
 
     -- AND SO IS THE TABLE THAT IT LEAVES
     pub operate-renamed : operate k D t′ past′ e′ ≡ renamed order ν (operate k D t past e)
     operate-renamed =
         operate-relinks k D t′ past′ e′
-        ∙ ap (λ x. relinked t′ (before D t′ past′ x) (before D t′ past′ (partner x)) (partner x) (entryOf k t′ x) (entryOf k t′ (partner x))) lead-renamed
-        ∙ rw (← R .partners p p-below, before-renamed p (L .lives), before-renamed q q-lives, entry-renamed k p p-below, entry-renamed k q q-below)
-        (renamed-relinked R t (before D t past p) (before D t past q) q (entryOf k t p) (entryOf k t q) (S .size)
-        (before-below p (L .lives)) (before-below q q-lives) q-below (entry-below k p p-below))
+        ∙ ap (λ x. relinked t′ (before D t′ past′ x) (before D t′ past′ (partner x)) (partner x) (nearEntry k t′ x) (farEntry k t′ x)) lead-renamed
+        ∙ rw (entry-renamed k p p-below .0, entry-renamed k p p-below .1, ← R .partners p p-below, before-renamed p (L .lives), before-renamed q q-lives)
+        (renamed-relinked R t (before D t past p) (before D t past q) q (nearEntry k t p) (farEntry k t p) (S .size)
+        (before-below p (L .lives)) (before-below q q-lives) q-below (entry-below k p p-below .0))
         ∙ ap (renamed order ν) (sym (operate-relinks k D t past e))
       where
         q : ℕ

@@ -19,7 +19,7 @@ use Rattle.darts.specs.Operation.{Kind, contraction, removal, kindOf, le
 use Rattle.darts.specs.State.{State}
 use Rattle.darts.specs.Pyramid.{dartCount, sameNumbers}
 use Rattle.darts.proofs.Standing.{live}
-use Rattle.darts.specs.Tests.{numbered, led, links, linked, near, far, fits, backs, sameKind, relabel, relabelled, parted, replays, ofKind, oneKind, rises, zeros, shaped, tested}
+use Rattle.darts.specs.Tests.{numbered, led, links, linked, near, fits, backs, sameKind, relabel, relabelled, parted, replays, ofKind, oneKind, rises, zeros, shaped, tested}
 use Rattle.darts.proofs.Walks.{lowestMet}
 use Rattle.darts.proofs.TestsDecide.{baseOf}
 use Rattle.darts.proofs.TopLabels.{walked}
@@ -131,5 +131,5 @@ rows =
     ∷ []
 
 pub rows-right : allRight rows ≡ true
-unfolding partner mate face merge successor gone survives beforeIn before repeats firstBadFrom firstBad kindOf leadOf putBack undoOne undone dartCount sameNumbers live numbered led links linked near far fits backs sameKind relabel relabelled parted replays ofKind oneKind rises zeros shaped tested lowestMet
+unfolding partner mate face merge successor gone survives beforeIn before repeats firstBadFrom firstBad kindOf leadOf putBack undoOne undone dartCount sameNumbers live numbered led links linked near fits backs sameKind relabel relabelled parted replays ofKind oneKind rises zeros shaped tested lowestMet
 rows-right = refl

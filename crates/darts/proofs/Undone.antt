@@ -9,7 +9,7 @@
 --   Back x    == x leads to a survivor of the past, and `source` leads back to x
 use mathlib.Core.List.{List}
 use mathlib.Core.Logic.{_≢_, _⊎_, inl, inr, ⊎-elim}
-use mathlib.Core.Path.{_≡_, refl, sym, ap, _∙_, subst}
+use mathlib.Core.Path.{_≡_, refl, sym, ap, ap₂, _∙_, subst}
 use Prim.Native.Nat.{ℕ, _+_, _-_, _*_, _/_, _%_, _<_}
 use native.Mathlib.Decide.{ℕ-discrete}
 use native.Mathlib.Omega.{arith}
@@ -22,10 +22,11 @@ use Rattle.permutations.specs.Map.{Map, offEdge, offEdge-was, offEdge-not-end, 
 use Rattle.permutations.specs.Legal.{Whole}
 use Rattle.darts.specs.Map.{successor, before}
 use Rattle.darts.specs.Operation.{Kind, lead, operate, putBack}
+use Rattle.darts.specs.Tests as tests
 use Rattle.darts.proofs.Standing.{live, mapOf, Standing, entry-live, next-entry, live-iff}
 use Rattle.darts.proofs.Before.{before-live, before-leads, before-only}
-use Rattle.darts.proofs.AnyKind.{giver, giver-end, end-giver, over-end}
-use Rattle.darts.proofs.Relink.{entryOf, relinked, operate-relinks, putBack-one, putBack-two}
+use Rattle.darts.proofs.AnyKind.{near-of, near-end, end-near, end-over, over-end}
+use Rattle.darts.proofs.Relink.{nearEntry, farEntry, relinked, operate-relinks, putBack-one, putBack-two}
 use Rattle.darts.proofs.Lead.{lead-pick}
 use Rattle.darts.proofs.Fits.{Fit, one, two}
 use Rattle.darts.proofs.StandsBy.{stands-by, live-partner}
@@ -38,15 +39,15 @@ whole-ends m (inr w) (inl e) = inr (ap (m .next) e ∙ w .0)
 whole-ends m (inr w) (inr e) = inl (ap (m .next) e ∙ w .1)
 
 module _ {D : ℕ} {t new : List ℕ} (past : List ℕ) (k : Kind) (p : ℕ) (taken : live D new ≡ offEdge (live D past) p)
-    (S : Standing D t new) (lives : T (live D past p)) (F : Fit (live D new) p (entryOf k t p) (entryOf k t (partner p))) where
+    (S : Standing D t new) (lives : T (live D past p)) (F : Fit (live D new) p (nearEntry k t p) (farEntry k t p)) where
   abbrev q : ℕ
   q = partner p
 
   abbrev near : ℕ
-  near = entryOf k t p
+  near = nearEntry k t p
 
   abbrev far : ℕ
-  far = entryOf k t q
+  far = farEntry k t p
 
   -- the darts that lead to the near one and to the far one
   abbrev a : ℕ
@@ -186,15 +187,15 @@ module _ {D : ℕ} {t new : List ℕ} (past : List ℕ) (k : Kind) (p : ℕ) (ta
   kept {x} e = ⊎-elim (λ h. absurd (now-was b-now .1 (subst (End p) (h .0) e))) (λ h. h .0)
       (W .others x (λ z. now-was (W .here) .1 (subst (End p) z e)))
 
-  same-near : entryOf k u p ≡ near
-  same-near = kept (giver-end k p)
+  same-near : nearEntry k u p ≡ near
+  same-near = ap₂ (tests.near k) (kept (inl refl)) (kept (inr refl))
 
-  same-far : entryOf k u q ≡ far
-  same-far = kept (over-end (giver-end k q))
+  same-far : farEntry k u p ≡ far
+  same-far = ap₂ (tests.near k) (kept (inr refl)) (kept (inl refl))
 
   -- the dart before y
   source : ℕ → ℕ
-  source y = pick (eqb y p) (W .dart) (pick (eqb y near) (giver k p) (pick (eqb y far) (giver k q) (pick (eqb y q) b (before D t new y))))
+  source y = pick (eqb y p) (W .dart) (pick (eqb y near) (tests.near k p q) (pick (eqb y far) (tests.far k p q) (pick (eqb y q) b (before D t new y))))
 
   Back : ℕ → Type 0
   Back x = T (live D past (successor u x)) × (source (successor u x) ≡ x)
@@ -203,14 +204,14 @@ module _ {D : ℕ} {t new : List ℕ} (past : List ℕ) (k : Kind) (p : ℕ) (ta
   unfolding source Back
   steps-back x h = go (end? p x) (ℕ-discrete x (W .dart))
     where
-      near-end : End p x → x ≡ giver k p → Back x
+      near-end : End p x → x ≡ tests.near k p q → Back x
       near-end e g =
-          let z : successor u x ≡ near = kept e ∙ ap (successor t) g in
+          let z : successor u x ≡ near = kept e ∙ ap (successor t) g ∙ sym (near-of k (successor t) p q) in
           rw (z, eqb-other (near-is .0), eqb-same {m = near} refl) (near-is .1, sym g)
 
-      far-end : End p x → x ≡ giver k q → Back x
+      far-end : End p x → x ≡ tests.far k p q → Back x
       far-end e g =
-          let z : successor u x ≡ far = kept e ∙ ap (successor t) g in
+          let z : successor u x ≡ far = kept e ∙ ap (successor t) g ∙ sym (near-of k (successor t) q p) in
           rw (z, eqb-other (λ i. far-away (inl i)), eqb-other (λ i. near-is .2 (sym i)), eqb-same {m = far} refl) (now-was far-now .0, sym g)
 
       to-q : ToQ x → Back x
@@ -225,7 +226,7 @@ module _ {D : ℕ} {t new : List ℕ} (past : List ℕ) (k : Kind) (p : ℕ) (ta
           (i, sym (before-only S (successor t x) x l refl))
 
       go : Dec (End p x) → Dec (x ≡ W .dart) → Back x
-      go (yes e) d = ⊎-elim (near-end e) (far-end e) (end-giver k e)
+      go (yes e) d = ⊎-elim (near-end e) (far-end e) (end-near k e)
       go (no away) (yes e) = rw (e, W .leads, eqb-same {m = p} refl) (lives, refl)
       go (no away) (no n) = ⊎-elim to-q (stays (was-now h away)) (W .others x n)
 
@@ -252,7 +253,7 @@ module _ {D : ℕ} {t new : List ℕ} (past : List ℕ) (k : Kind) (p : ℕ) (ta
     leads-again = lead-pick k u e ∙ go F (partner-cases p)
       where
         go : Fit (live D new) p near far → ((p % 2 ≡ 0) × (q ≡ p + 1)) ⊎ ((p % 2 ≡ 1) × (q ≡ p - 1))
-            → pick (eqb (entryOf k u (partner (2 * e))) (2 * e)) (partner (2 * e)) (2 * e) ≡ p
+            → pick (eqb (farEntry k u (2 * e)) (2 * e)) (partner (2 * e)) (2 * e) ≡ p
         go f (inl c) = let d : 2 * e ≡ p = omega arith in rw (d, same-far, eqb-other (λ z. far-away (inl z)))
         go (one m h) (inr c) = let d : 2 * e ≡ q = omega arith in rw (d, partner-partner p, same-near, eqb-same m)
         go (two n i g h d) (inr c) = absurd (omega arith)
@@ -266,9 +267,9 @@ module _ {D : ℕ} {t new : List ℕ} (past : List ℕ) (k : Kind) (p : ℕ) (ta
     pub no-whole : ¬ Whole (mapOf D u past) (2 * e)
     no-whole w = far-away (rw (← leads-far) (go (partner-cases p)))
       where
-        leads-far : mapOf D u past .next (giver k q) ≡ far
-        leads-far = next-entry undone-stands (giver k q) (end-was (over-end (giver-end k q))) ∙ same-far
+        leads-far : mapOf D u past .next (tests.far k p q) ≡ far
+        leads-far = next-entry undone-stands (tests.far k p q) (end-was (near-end k p .1)) ∙ sym (near-of k (successor u) q p) ∙ same-far
 
-        go : ((p % 2 ≡ 0) × (q ≡ p + 1)) ⊎ ((p % 2 ≡ 1) × (q ≡ p - 1)) → End p (mapOf D u past .next (giver k q))
-        go (inl c) = let d : 2 * e ≡ p = omega arith in whole-ends (mapOf D u past) (subst (Whole (mapOf D u past)) d w) (over-end (giver-end k q))
-        go (inr c) = let d : 2 * e ≡ q = omega arith in over-end (whole-ends (mapOf D u past) (subst (Whole (mapOf D u past)) d w) (giver-end k q))
+        go : ((p % 2 ≡ 0) × (q ≡ p + 1)) ⊎ ((p % 2 ≡ 1) × (q ≡ p - 1)) → End p (mapOf D u past .next (tests.far k p q))
+        go (inl c) = let d : 2 * e ≡ p = omega arith in whole-ends (mapOf D u past) (subst (Whole (mapOf D u past)) d w) (near-end k p .1)
+        go (inr c) = let d : 2 * e ≡ q = omega arith in over-end (whole-ends (mapOf D u past) (subst (Whole (mapOf D u past)) d w) (end-over (near-end k p .1)))
