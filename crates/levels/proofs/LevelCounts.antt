@@ -21,13 +21,13 @@ use Rattle.darts.specs.Counts.{countsOf, noCounts}
 use Rattle.darts.specs.Read.{Read, means, faulty, readFile, fileState}
 use Rattle.darts.specs.Calls.{leaves, room, fitting, judged, tableOf, pastOf, cleared, handsBack, onState, unfoldBy, counts, readInto, read}
 use Rattle.slices.specs.Over.{over}
-use Rattle.darts.proofs.Results.{refuses≢gives, then, same-result}
-use Rattle.darts.proofs.Pyramids.{pyramid-built}
-use Rattle.darts.proofs.Decided.{pyramid-decided}
-use Rattle.darts.proofs.Room.{pyramid-room}
-use Rattle.darts.proofs.Undo.{unfold-pyramid}
-use Rattle.darts.proofs.Meanings.{meaning}
-use Rattle.darts.proofs.WriteRead.{write-read}
+use Rattle.darts.proofs.runs.Results.{refuses≢gives, then, same-result}
+use Rattle.darts.proofs.runs.Pyramids.{pyramid-built}
+use Rattle.darts.proofs.claims.Decided.{pyramid-decided}
+use Rattle.darts.proofs.tests.Room.{pyramid-room}
+use Rattle.darts.proofs.runs.Undo.{unfold-pyramid}
+use Rattle.darts.proofs.file.Meanings.{meaning}
+use Rattle.darts.proofs.file.WriteRead.{write-read}
 use Rattle.pyramid.proofs.Fitting.{Lengths, count-facts, room-facts, fine, fits}
 use Rattle.pyramid.proofs.OnState.{taken}
 use Rattle.pyramid.proofs.CountsEnd.{counts-given}

@@ -17,7 +17,7 @@ use Rattle.darts.specs.declared.Answer.{Answer}
 use Rattle.darts.specs.Scan.{Scan, found, fault, after}
 use Rattle.darts.specs.Read.{KernelLine, Body, kernelsAt, pairsAt, body, fromFlag, total, fileState, fileHistory}
 use Rattle.slices.specs.Over.{over}
-use Rattle.darts.proofs.Ends.{state-path}
+use Rattle.darts.proofs.runs.Ends.{state-path}
 use Rattle.slices.specs.Part.{part, put}
 use Rattle.slices.proofs.Part.{part-length, part-put, put-length, put-elsewhere}
 use Rattle.area.specs.Area.{Room, tableIn}

@@ -25,8 +25,8 @@ use Rattle.engine.proofs.Parts.{rest-from, forest-rest}
 use Rattle.slices.specs.Laid.{laid}
 use Rattle.zonefile.specs.Numbering.{Dense, Placed, renamed, entriesIn, Numbered}
 use Rattle.slices.proofs.Laid.{laid-length, laid-front, laid-rest, laid-there, laid-on}
-use Rattle.darts.proofs.FileOrder.{taken-length}
-use Rattle.darts.proofs.Numbering.{order-length, order-small, number-below}
+use Rattle.darts.proofs.file.FileOrder.{taken-length}
+use Rattle.darts.proofs.file.Numbering.{order-length, order-small, number-below}
 
 -- what is laid into the forest's part changes nothing else
 laid-outside : {D : ℕ} (w xs : List ℕ) → Room D w → length xs ≤ D → Outside D w (laid w (2 * D) xs)

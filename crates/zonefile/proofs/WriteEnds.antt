@@ -19,8 +19,8 @@ use Rattle.darts.specs.State.{State}
 use Rattle.darts.specs.File.{fileOf}
 use Rattle.darts.specs.Calls.{Written as Left, write, tableOf, pastOf, cleared}
 use Rattle.slices.specs.Over.{over}
-use Rattle.darts.proofs.Cleared.{cleared-kept}
-use Rattle.darts.proofs.Judging.{judged-lent}
+use Rattle.darts.proofs.calls.Cleared.{cleared-kept}
+use Rattle.darts.proofs.calls.Judging.{judged-lent}
 use Rattle.area.specs.Area.{tableIn, pastIn}
 use Rattle.engine.specs.Held.{Area, Beyond}
 use Rattle.pyramid.specs.Steps.{Judged}

@@ -19,7 +19,7 @@ use Rattle.darts.specs.Levels.{emptyLoop, takes, swept, sweep, endBelow,
 use Rattle.darts.specs.Pyramid.{Kernel, dartCount, build, kernelOf, cut, kernelsOf, sameNumbers, sameState, isExactly, isPyramid}
 use Rattle.darts.specs.Calls.{After, leaves, room, fitting, tableOf, pastOf, cleared, workAfter, judged, start, handsBack, onState, reduceBy, sweepBy, undoBy, unfoldBy}
 use Rattle.slices.specs.Over.{over}
-use Rattle.darts.proofs.Judging.{Lent}
+use Rattle.darts.proofs.calls.Judging.{Lent}
 use Rattle.darts.proofs.chained.OnLent.{byKernel, bySweep, toLevel, callOn, called-left}
 use Rattle.darts.proofs.chained.Undo.{Returned, undoing, reduce-then-undo, sweep-then-undo, unfold-to-top, unfold-above}
 use Rattle.darts.proofs.chained.Unfold.{undosBy, unfold-undos}

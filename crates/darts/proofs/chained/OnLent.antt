@@ -17,14 +17,14 @@ use Rattle.darts.specs.Levels.{sweep, undoLevel, unfoldTo}
 use Rattle.darts.specs.Pyramid.{Kernel, Pyramid}
 use Rattle.darts.specs.Calls.{After, leaves, tableOf, pastOf, cleared, judged, handsBack, onState, reduceBy, sweepBy, undoBy, unfoldBy}
 use Rattle.slices.specs.Over.{over}
-use Rattle.darts.proofs.Passes.{pyramid-shaped}
-use Rattle.darts.proofs.Room.{pyramid-room}
-use Rattle.darts.proofs.Fitting.{Lengths}
+use Rattle.darts.proofs.tests.Passes.{pyramid-shaped}
+use Rattle.darts.proofs.tests.Room.{pyramid-room}
+use Rattle.darts.proofs.calls.Fitting.{Lengths}
 use Rattle.slices.proofs.Over.{over-front, over-rest, over-length}
-use Rattle.darts.proofs.Cleared.{cleared-zero, cleared-rest, cleared-length}
-use Rattle.darts.proofs.Judging.{Lent, Judging, uncounted, cramped, other, lent, judging, on-refused, on-lent}
+use Rattle.darts.proofs.calls.Cleared.{cleared-zero, cleared-rest, cleared-length}
+use Rattle.darts.proofs.calls.Judging.{Lent, Judging, uncounted, cramped, other, lent, judging, on-refused, on-lent}
 use Rattle.darts.proofs.chained.Steps.{Step, Leads, reduce-leads, sweep-leads, undo-leads, unfold-leads}
-use Rattle.darts.proofs.Earnest.{Earnest}
+use Rattle.darts.proofs.runs.Earnest.{Earnest}
 
 pub record Left (D : ℕ) (t h w : List ℕ) (a : After) : Type 0 where
   pub answer : a .answer ≡ answered 0 0

@@ -17,12 +17,12 @@ use Rattle.darts.specs.Operation.{Kind, removal}
 use Rattle.darts.specs.State.{State, Result, gives, raised, reduce}
 use Rattle.darts.specs.Levels.{sweep, lowered, undoLevel, undoLevels, unfoldTo}
 use Rattle.darts.specs.Pyramid.{Pyramid}
-use Rattle.darts.proofs.Results.{refuses≢gives, then, same-result}
-use Rattle.darts.proofs.Reduces.{reduce-raises}
-use Rattle.darts.proofs.Sweeps.{loops, sweep-reduces}
-use Rattle.darts.proofs.Pyramids.{reduce-pyramid, sweep-pyramid}
-use Rattle.darts.proofs.Undo.{undo-returns, undo-levels, undo-pyramid, unfold-pyramid}
-use Rattle.darts.proofs.Earnest.{Earnest, earnest-reduce, earnest-sweep, earnest-undo, earnest-unfold}
+use Rattle.darts.proofs.runs.Results.{refuses≢gives, then, same-result}
+use Rattle.darts.proofs.runs.Reduces.{reduce-raises}
+use Rattle.darts.proofs.runs.Sweeps.{loops, sweep-reduces}
+use Rattle.darts.proofs.runs.Pyramids.{reduce-pyramid, sweep-pyramid}
+use Rattle.darts.proofs.runs.Undo.{undo-returns, undo-levels, undo-pyramid, unfold-pyramid}
+use Rattle.darts.proofs.runs.Earnest.{Earnest, earnest-reduce, earnest-sweep, earnest-undo, earnest-unfold}
 
 abbrev pub Step : Type 0
 Step = State → List ℕ → List ℕ → Result

@@ -22,7 +22,7 @@ use Rattle.darts.specs.Map.{successor, repeats, firstBadFrom, firstBad}
 use Rattle.darts.specs.State.{State}
 use Rattle.darts.specs.Calls.{room, fitting, tableOf, pastOf, judged}
 use Rattle.slices.specs.Over.{over}
-use Rattle.darts.proofs.Fitting.{Lengths, room-facts, room-test}
+use Rattle.darts.proofs.calls.Fitting.{Lengths, room-facts, room-test}
 
 -- the first D numbers of the table, the first n of the history, no number of the work area; and both histories have D/2 numbers, or neither, and both
 -- work areas 4D, or neither

@@ -13,9 +13,9 @@ use Rattle.darts.specs.Operation.{Kind}
 use Rattle.darts.specs.State.{State, Result, gives, refuses, reduce}
 use Rattle.darts.specs.Levels.{sweep, undoLevel, unfoldTo}
 use Rattle.darts.specs.Calls.{tableOf, pastOf, judged, handsBack, onState, start, reduceBy, sweepBy, undoBy, unfoldBy, counts}
-use Rattle.darts.proofs.Judging.{Judging, uncounted, cramped, other, lent, judging}
-use Rattle.darts.proofs.Outcomes.{Starting, noCount, noRoom, noBase, base, starting}
-use Rattle.darts.proofs.Earnest.{Earnest, earnest-reduce, earnest-sweep, earnest-undo, earnest-unfold}
+use Rattle.darts.proofs.calls.Judging.{Judging, uncounted, cramped, other, lent, judging}
+use Rattle.darts.proofs.calls.Outcomes.{Starting, noCount, noRoom, noBase, base, starting}
+use Rattle.darts.proofs.runs.Earnest.{Earnest, earnest-reduce, earnest-sweep, earnest-undo, earnest-unfold}
 
 -- ---- calls on a state
 

@@ -19,7 +19,7 @@ use Rattle.darts.specs.Map.{successor, sameVertex, sameFace, gone, survi
 use Rattle.darts.specs.Operation.{Kind, contraction, removal, wholeEdge}
 use Rattle.darts.specs.Kernel.{shared, judge}
 use Rattle.darts.specs.Levels.{emptyLoop, takes}
-use Rattle.darts.proofs.Room.{gone-at}
+use Rattle.darts.proofs.tests.Room.{gone-at}
 
 -- "The history gets one number, 2p for a removal and 2p+1 for a contraction."
 pub record Gone (past : List ℕ) (e : ℕ) : Type 0 where

@@ -18,9 +18,9 @@ use Rattle.darts.specs.Operation.{Kind, lead, operate, number}
 use Rattle.darts.specs.Kernel.{judge, each, stands, stops, passFrom, pass, run}
 use Rattle.darts.specs.State.{State, raised, levelled, reduce}
 use Rattle.darts.specs.Calls.{tableOf, pastOf, reduceBy}
-use Rattle.darts.proofs.Operations.{none, first, done-on, run-iff, done-join, done-told, told-longer}
-use Rattle.darts.proofs.Reduces.{raises-reduce}
-use Rattle.darts.proofs.Judging.{Lent, on-refuses, on-gives}
+use Rattle.darts.proofs.runs.Operations.{none, first, done-on, run-iff, done-join, done-told, told-longer}
+use Rattle.darts.proofs.runs.Reduces.{raises-reduce}
+use Rattle.darts.proofs.calls.Judging.{Lent, on-refuses, on-gives}
 use Rattle.darts.proofs.sentences.Order.{Answers, answers}
 
 -- ---- a run, edge by edge

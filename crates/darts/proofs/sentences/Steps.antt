@@ -16,12 +16,12 @@ use Rattle.darts.specs.Operation.{Kind, removal}
 use Rattle.darts.specs.State.{State, Result, gives, raised, reduce}
 use Rattle.darts.specs.Levels.{sweep, endBelow, lowered, undoLevel, undoLevels, unfoldTo}
 use Rattle.darts.specs.Pyramid.{Pyramid}
-use Rattle.darts.proofs.Results.{refuses≢gives, then, same-result}
-use Rattle.darts.proofs.Reduces.{reduced}
-use Rattle.darts.proofs.Sweeps.{loops, sweep-reduces}
-use Rattle.darts.proofs.Pyramids.{pyramid-built, reduce-pyramid, sweep-pyramid}
-use Rattle.darts.proofs.Undo.{undo-pyramid, unfold-pyramid}
-use Rattle.darts.proofs.Room.{pyramid-room}
+use Rattle.darts.proofs.runs.Results.{refuses≢gives, then, same-result}
+use Rattle.darts.proofs.runs.Reduces.{reduced}
+use Rattle.darts.proofs.runs.Sweeps.{loops, sweep-reduces}
+use Rattle.darts.proofs.runs.Pyramids.{pyramid-built, reduce-pyramid, sweep-pyramid}
+use Rattle.darts.proofs.runs.Undo.{undo-pyramid, unfold-pyramid}
+use Rattle.darts.proofs.tests.Room.{pyramid-room}
 
 pub record Fitted (D : ℕ) (z : State) (u new : List ℕ) : Type 0 where
   pub table : length u ≡ D

@@ -26,13 +26,13 @@ use Rattle.darts.specs.State.{State, refuses, levelled, reduce}
 use Rattle.darts.specs.Levels.{takes, sweep}
 use Rattle.darts.specs.Pyramid.{Pyramid}
 use Rattle.darts.specs.Calls.{tableOf, pastOf, onState, reduceBy, sweepBy}
-use Rattle.darts.proofs.Standing.{live, mapOf, Standing}
-use Rattle.darts.proofs.Judged.{face-entry, same-face}
-use Rattle.darts.proofs.Runs.{run-stands}
-use Rattle.darts.proofs.Taking.{taken}
-use Rattle.darts.proofs.Sweeps.{sweep-reduces}
-use Rattle.darts.proofs.Pyramids.{pyramid-built}
-use Rattle.darts.proofs.Judging.{Lent, on-refuses}
+use Rattle.darts.proofs.bridge.Standing.{live, mapOf, Standing}
+use Rattle.darts.proofs.bridge.Judged.{face-entry, same-face}
+use Rattle.darts.proofs.runs.Runs.{run-stands}
+use Rattle.darts.proofs.runs.Taking.{taken}
+use Rattle.darts.proofs.runs.Sweeps.{sweep-reduces}
+use Rattle.darts.proofs.runs.Pyramids.{pyramid-built}
+use Rattle.darts.proofs.calls.Judging.{Lent, on-refuses}
 use Rattle.darts.proofs.sentences.Order.{Answers, answers}
 use Rattle.darts.proofs.sentences.Edges.{Shares, Taken, takes-iff, takes-judged}
 use Rattle.darts.proofs.sentences.Shared.{edge-live}

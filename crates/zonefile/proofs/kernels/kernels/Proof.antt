@@ -14,7 +14,7 @@ use Rattle.darts.specs.declared.Answer.{Answer}
 use Rattle.darts.specs.Operation.{Kind}
 use Rattle.darts.specs.Scan.{found, fault, after}
 use Rattle.darts.specs.Read.{KernelLine, kernelAt, kernelsAt, endsFrom, total, numbersFrom, historyFrom, fileHistory}
-use Rattle.darts.proofs.KernelLines.{ends-length, numbers-length}
+use Rattle.darts.proofs.file.KernelLines.{ends-length, numbers-length}
 use Rattle.zonefile.specs.declared.scan.Scanned.the-variants.{Found, Fault}
 use Rattle.zonefile.specs.Found.{lineOf}
 use Rattle.zonefile.specs.Lines.{kernelOf}

@@ -7,9 +7,9 @@ use lib.ListN.{length}
 use borrow.Author.Needs.{needs}
 use Rattle.darts.specs.Answers.{Answer as Answered}
 use Rattle.area.specs.Area.{Room}
-use Rattle.darts.proofs.Cleared.{cleared-kept}
+use Rattle.darts.proofs.calls.Cleared.{cleared-kept}
 use Rattle.engine.proofs.Area.{room-kept}
-use Rattle.darts.proofs.Fitting.{Fits, fits}
+use Rattle.darts.proofs.calls.Fitting.{Fits, fits}
 use Rattle.pyramid.proofs.Started.{hands}
 use Rattle.zonefile.specs.Found.{lineOf}
 use Rattle.zonefile.specs.Lines.{startsWith}
