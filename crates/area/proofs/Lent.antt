@@ -16,7 +16,8 @@ use lib.ListN.{length}
 use borrow.Rule.Slice.PartMut.{take-put, drop-put}
 use Rattle.forest.specs.Forest as forest
 use Rattle.forest.specs.Joins.{find-keeps}
-use Rattle.forest.specs.Part.{put, part-put, put-length}
+use Rattle.slices.specs.Part.{put}
+use Rattle.slices.proofs.Part.{part-put, put-length}
 use Rattle.area.specs.Area.{Room, forestIn}
 use Rattle.area.specs.Trees.{Outside, Kept, Found, Together, merged, Joined}
 use Rattle.area.proofs.Outside.{outside-trans, forest-length}

@@ -2,7 +2,6 @@ pub mod Bases
 pub mod Cleared
 pub mod Fitting
 pub mod Labels
-pub mod Laid
 pub mod Lent
 pub mod Marking
 pub mod Operation

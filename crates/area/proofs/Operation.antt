@@ -4,23 +4,25 @@
 --   bound-same       == where a dart leads to another
 --   led-same         == where the darts before p and q lead on
 --   noted-same       == where the edge is marked, and the history gets its number
---   lead-cases       == the dart that plays p is the edge's first dart or its second
---   lead-bounds      == what is in bounds of the edge is in bounds of that dart and its partner
+--   lead-bounds      == what is in bounds of the edge is in bounds of the dart that plays p and its partner
 --   operated-same    == the whole operation
 use mathlib.Core.Bool.{Bool, true, false}
 use mathlib.Core.List.{List}
 use mathlib.Core.Logic.{_⊎_, inl, inr, ⊎-elim}
-use mathlib.Core.Path.{_≡_, refl, sym, _∙_, subst}
+use mathlib.Core.Path.{_≡_, sym, _∙_, subst}
 use Prim.Native.Nat.{ℕ, _+_, _*_, _≤_, _<_}
 use native.Mathlib.Omega.{arith}
 use lib.Dec.{eqb}
 use lib.ListN.{length, set, length-set}
-use Rattle.permutations.specs.Partner.{partner, partner-first, partner-second}
+use Rattle.permutations.specs.Partner.{partner, partner-first, partner-partner}
 use Rattle.darts.specs.Choose.{if_then_else_}
 use Rattle.darts.specs.Map.{successor}
+use Rattle.darts.specs.Operation.{Kind, kindOf, lead}
+use Rattle.darts.specs.Tests.{near, far}
+use Rattle.darts.proofs.bridge.AnyKind.{near-far}
+use Rattle.darts.proofs.bridge.Lead.{lead-end}
 use Rattle.area.specs.Area.{Room, prev, forestIn, bound}
-use Rattle.area.specs.Back.{first, second}
-use Rattle.area.specs.Operate.{leadIn, led, noted, operated}
+use Rattle.area.specs.Operate.{led, noted, operated}
 use Rattle.area.specs.Edge.{Bounds}
 use Rattle.area.proofs.Outside.{set-forest}
 
@@ -52,30 +54,19 @@ module _ {D : ℕ} {w : List ℕ} (room : Room D w) where
   bypass-same false a c x y ha hc hx hy =
       let s = bound-same room a x ha hx in same-trans s (bound-same (same-room s room) c y hc hy)
 
-  chosen : (b : Bool) (x y : ℕ) → x < D → y < D → (if b then x else y) < D
-  chosen true x y h l = h
-  chosen false x y h l = l
-
-  pub led-same : (k p : ℕ) → Bounds D w p (partner p) → Same D w (led D w k p)
-  unfolding led first second successor prev
+  pub led-same : (k : Kind) (p : ℕ) → Bounds D w p (partner p) → Same D w (led D w k p)
+  unfolding led successor prev
   led-same k p b =
-      bypass-same (eqb (first k (successor w p) (successor w (partner p))) (partner p)) (prev D w p) (prev D w (partner p))
-      (first k (successor w p) (successor w (partner p))) (second k (successor w p) (successor w (partner p)))
-      (b .first-before) (b .second-before) (chosen (eqb k 0) _ _ (b .first-next) (b .second-next)) (chosen (eqb k 0) _ _ (b .second-next) (b .first-next))
+      let l = near-far (λ x. x < D) k (b .first-next) (b .second-next) in
+      bypass-same (eqb (near k (successor w p) (successor w (partner p))) (partner p)) (prev D w p) (prev D w (partner p))
+      (near k (successor w p) (successor w (partner p))) (far k (successor w p) (successor w (partner p)))
+      (b .first-before) (b .second-before) (l .0) (l .1)
 
   pub noted-same : (n k p : ℕ) → p < D → partner p < D → Same D w (noted D n w k p)
   unfolding noted
   noted-same n k p h l =
       let s = two-same D w (D + p) D (D + partner p) D (room .fits) (omega arith) (omega arith) in
       same-trans s (set-same D (set (set w (D + p) D) (D + partner p) D) (3 * D + n) (2 * p + k) (same-room s room .fits) (inr (omega arith)))
-
-pub lead-cases : (k : ℕ) (w : List ℕ) (e : ℕ) → (leadIn k w e ≡ 2 * e) ⊎ (leadIn k w e ≡ 2 * e + 1)
-unfolding leadIn
-lead-cases k w e = go (eqb (second k (successor w (2 * e)) (successor w (2 * e + 1))) (2 * e))
-  where
-    go : (b : Bool) → ((if b then 2 * e + 1 else 2 * e) ≡ 2 * e) ⊎ ((if b then 2 * e + 1 else 2 * e) ≡ 2 * e + 1)
-    go true = inr refl
-    go false = inl refl
 
 turned : {D : ℕ} {w : List ℕ} {p q : ℕ} → Bounds D w p q → Bounds D w q p
 turned b =
@@ -88,16 +79,17 @@ turned b =
       second-before = b .first-before;
     }
 
-pub lead-bounds : (D k : ℕ) (w : List ℕ) (e : ℕ) → Bounds D w (2 * e) (2 * e + 1) → Bounds D w (leadIn k w e) (partner (leadIn k w e))
+pub lead-bounds : (D : ℕ) (k : Kind) (w : List ℕ) (e : ℕ) → Bounds D w (2 * e) (2 * e + 1) → Bounds D w (lead k w e) (partner (lead k w e))
 lead-bounds D k w e b =
     ⊎-elim
     (λ h. subst (λ p. Bounds D w p (partner p)) (sym h) (rw (partner-first e) b))
-    (λ h. subst (λ p. Bounds D w p (partner p)) (sym h) (rw (partner-second e) (turned b)))
-    (lead-cases k w e)
+    (λ h. subst (λ p. Bounds D w p (partner p)) (sym h) (rw (partner-partner (2 * e), partner-first e) (turned b)))
+    (lead-end k w e)
 
 pub operated-same : {D : ℕ} {w : List ℕ} → Room D w → (n k e : ℕ) → Bounds D w (2 * e) (2 * e + 1) → Same D w (operated D n w k e)
 unfolding operated
 operated-same {D} {w} room n k e b =
-    let l = lead-bounds D k w e b in
-    let s = led-same room k (leadIn k w e) l in
-    same-trans s (noted-same (same-room s room) n k (leadIn k w e) (l .first) (l .second))
+    let p = lead (kindOf k) w e in
+    let l = lead-bounds D (kindOf k) w e b in
+    let s = led-same room (kindOf k) p l in
+    same-trans s (noted-same (same-room s room) n k p (l .first) (l .second))

@@ -21,7 +21,7 @@ use lib.ListN.{length, getD, set, length-set}
 use lib.Seq.{getD-take, getD-drop, ext-getD, getD-set-other, take-set-le, drop-set-lt}
 use Rattle.permutations.specs.Partner.{partner, partner-below}
 use Rattle.darts.specs.Map.{successor}
-use Rattle.forest.specs.Part.{part-length, part-at}
+use Rattle.slices.proofs.Part.{part-length, part-at}
 use Rattle.area.specs.Area.{Room, prev, there, forestIn, around}
 use Rattle.area.specs.Operate.{wholeIn}
 use Rattle.area.specs.Trees.{Outside}

@@ -10,7 +10,8 @@ use native.Mathlib.Numerals.{add-one}
 use native.Mathlib.Omega.{arith}
 use lib.ListN.{length, getD}
 use lib.Seq.{drop-cons, ext-getD}
-use Rattle.forest.specs.Part.{part, part-length, part-at}
+use Rattle.slices.specs.Part.{part}
+use Rattle.slices.proofs.Part.{part-length, part-at}
 
 pub part-cons : (i e : ℕ) (l : List ℕ) → i < e → e ≤ length l → part i e l ≡ getD l i 0 ∷ part (i + 1) e l
 part-cons i e l more inside =

@@ -9,7 +9,7 @@ use mathlib.Core.Bool.{true}
 use mathlib.Core.List.{List}
 use mathlib.Core.Logic.{by-cases}
 use mathlib.Core.Path.{_≡_, _∙_}
-use Prim.Native.Nat.{ℕ, _+_, _*_, _/_, _%_, _≤_, _<_}
+use Prim.Native.Nat.{ℕ, _+_, _*_, _/_, _≤_, _<_}
 use native.Mathlib.Decide.{ℕ-discrete}
 use native.Mathlib.Omega.{arith}
 use lib.ListN.{length, getD, set, length-set}
@@ -17,9 +17,12 @@ use lib.Seq.{getD-set-same, getD-set-other}
 use Rattle.permutations.specs.Choice.{eqb-same, eqb-other}
 use Rattle.permutations.specs.Partner.{partner, partner-below}
 use Rattle.darts.specs.Map.{successor}
+use Rattle.darts.specs.Operation.{Kind, kindOf}
+use Rattle.darts.specs.Tests.{near, far}
+use Rattle.darts.proofs.bridge.AnyKind.{near-far}
 use Rattle.area.specs.Area.{prev, Room, bound}
-use Rattle.area.specs.Back.{first, second, single, fitting, fits, inserted, placed, takenBack, Mapped, Sound}
-use Rattle.area.proofs.Fitting.{first-below, fitting-first, fitting-second}
+use Rattle.area.specs.Back.{fitting, fits, inserted, placed, takenBack, Mapped, Sound}
+use Rattle.area.proofs.Fitting.{fitting-near, fitting-far}
 
 pub bound-length : (D : ℕ) (w : List ℕ) (a x : ℕ) → length (bound D w a x) ≡ length w
 unfolding bound
@@ -56,21 +59,21 @@ module _ {D n : ℕ} {w : List ℕ} (sound : Sound D n w) where
       bound-sound D _ q s hq hs (bound-sound D _ p r hp hr (bound-sound D _ b q hb hq (bound-sound D _ a p ha hp sound)))
 
   -- p and q placed before x and y
-  placed-sound : (k p q r s x y : ℕ) → p < D → q < D → r < D → s < D → fitting D w p q x y ≡ true → Sound D n (placed D w k p q r s x y)
-  unfolding prev single
+  placed-sound : (k : Kind) (p q r s x y : ℕ) → p < D → q < D → r < D → s < D → fitting D w p q x y ≡ true → Sound D n (placed D w k p q r s x y)
+  unfolding prev
   placed-sound k p q r s x y hp hq hr hs fit =
       by-cases (ℕ-discrete x q)
       (λ e. rw (eqb-same e)
-      (inserted-sound p q r s (getD w (D + y) 0) (single k p q) hp hq hr hs (fitting-second D w p q x y fit) (unfold first in first-below D k p q hp hq)))
+      (inserted-sound p q r s (getD w (D + y) 0) (near k p q) hp hq hr hs (fitting-far D w p q x y fit) (near-far (λ z. z < D) k hp hq .0)))
       (λ m. rw (eqb-other m)
-      (inserted-sound p q r s (getD w (D + x) 0) (getD w (D + y) 0) hp hq hr hs (fitting-first D w p q x y fit m) (fitting-second D w p q x y fit)))
+      (inserted-sound p q r s (getD w (D + x) 0) (getD w (D + y) 0) hp hq hr hs (fitting-near D w p q x y fit m) (fitting-far D w p q x y fit)))
 
   pub takenBack-sound : (h : ℕ) → h < 2 * D → fits D w h ≡ true → Sound D n (takenBack D w h)
   unfolding takenBack fits successor
   takenBack-sound h l fit =
       let hp : h / 2 < D = omega arith in
       let hq : partner (h / 2) < D = partner-below D (h / 2) hp (sound .mapped .room .even) in
-      placed-sound (h % 2) (h / 2) (partner (h / 2)) (getD w (h / 2) 0) (getD w (partner (h / 2)) 0)
-      (first (h % 2) (getD w (h / 2) 0) (getD w (partner (h / 2)) 0))
-      (second (h % 2) (getD w (h / 2) 0) (getD w (partner (h / 2)) 0))
+      placed-sound (kindOf h) (h / 2) (partner (h / 2)) (getD w (h / 2) 0) (getD w (partner (h / 2)) 0)
+      (near (kindOf h) (getD w (h / 2) 0) (getD w (partner (h / 2)) 0))
+      (far (kindOf h) (getD w (h / 2) 0) (getD w (partner (h / 2)) 0))
       hp hq (sound .mapped .darts (h / 2) hp) (sound .mapped .darts (partner (h / 2)) hq) fit

@@ -24,7 +24,7 @@ use lib.ListN.{getD, length, set, take}
 use Rattle.permutations.specs.Partner.{partner}
 use Rattle.darts.specs.Choose.{if_then_else_}
 use Rattle.darts.specs.Map.{successor}
-use Rattle.forest.specs.Part.{part}
+use Rattle.slices.specs.Part.{part}
 
 unfoldable pub prev : ℕ → List ℕ → ℕ → ℕ
 prev D w x = getD w (D + x) 0

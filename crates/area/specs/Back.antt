@@ -1,7 +1,5 @@
 -- Operations taken back in the work area, the last one first: tests 6 to 15 of a pyramid.
--- Of the operation h: p, q its partner, r and s their successors. A removal looks at r first and a contraction at s: x is the one, y the other.
---   first k r s, second k r s == x and y
---   single k p q        == the dart before q where x is q: p after a removal, q itself after a contraction
+-- Of the operation h: p, q its partner, r and s their successors; x is the near one of r and s, y the far one.
 --   fitting D w p q x y == tests 6 to 15, of p, q, x and y
 --   fits D w h          == tests 6 to 15
 --   inserted ..         == a leads to p and b to q, p to r and q to s
@@ -19,16 +17,9 @@ use lib.ListN.{getD}
 use Rattle.permutations.specs.Partner.{partner}
 use Rattle.darts.specs.Choose.{if_then_else_}
 use Rattle.darts.specs.Map.{successor}
+use Rattle.darts.specs.Operation.{Kind, kindOf}
+use Rattle.darts.specs.Tests.{near, far}
 use Rattle.area.specs.Area.{prev, there, stamp, Room, bound, Tried, tried, triedIf}
-
-unfoldable pub first : ℕ → ℕ → ℕ → ℕ
-first k r s = if eqb k 0 then r else s
-
-unfoldable pub second : ℕ → ℕ → ℕ → ℕ
-second k r s = if eqb k 0 then s else r
-
-unfoldable pub single : ℕ → ℕ → ℕ → ℕ
-single k p q = if eqb k 0 then p else q
 
 abbrev pub fitting : ℕ → List ℕ → ℕ → ℕ → ℕ → ℕ → Bool
 fitting D w p q x y =
@@ -38,16 +29,17 @@ unfoldable pub fits : ℕ → List ℕ → ℕ → Bool
 fits D w h =
     let p : ℕ = h / 2 in
     let q : ℕ = partner p in
-    let x : ℕ = first (h % 2) (successor w p) (successor w q) in
-    let y : ℕ = second (h % 2) (successor w p) (successor w q) in
+    let x : ℕ = near (kindOf h) (successor w p) (successor w q) in
+    let y : ℕ = far (kindOf h) (successor w p) (successor w q) in
     fitting D w p q x y
 
 unfoldable pub inserted : ℕ → List ℕ → ℕ → ℕ → ℕ → ℕ → ℕ → ℕ → List ℕ
 inserted D w p q r s a b = bound D (bound D (bound D (bound D w a p) b q) p r) q s
 
-abbrev pub placed : ℕ → List ℕ → ℕ → ℕ → ℕ → ℕ → ℕ → ℕ → ℕ → List ℕ
+-- where x is q, the dart before q is the near one of p and q: p after a removal, q itself after a contraction
+abbrev pub placed : ℕ → List ℕ → Kind → ℕ → ℕ → ℕ → ℕ → ℕ → ℕ → List ℕ
 placed D w k p q r s x y =
-    if eqb x q then inserted D w p q r s (prev D w y) (single k p q) else inserted D w p q r s (prev D w x) (prev D w y)
+    if eqb x q then inserted D w p q r s (prev D w y) (near k p q) else inserted D w p q r s (prev D w x) (prev D w y)
 
 unfoldable pub takenBack : ℕ → List ℕ → ℕ → List ℕ
 takenBack D w h =
@@ -55,9 +47,9 @@ takenBack D w h =
     let q : ℕ = partner p in
     let r : ℕ = successor w p in
     let s : ℕ = successor w q in
-    let x : ℕ = first (h % 2) r s in
-    let y : ℕ = second (h % 2) r s in
-    placed D w (h % 2) p q r s x y
+    let x : ℕ = near (kindOf h) r s in
+    let y : ℕ = far (kindOf h) r s in
+    placed D w (kindOf h) p q r s x y
 
 unfoldable pub triedBack : ℕ → List ℕ → ℕ → Tried
 triedBack D w h = triedIf (fits D w h) w (takenBack D w h)

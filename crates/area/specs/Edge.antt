@@ -1,22 +1,30 @@
 -- The operation on an edge, judged and done step by step. p and q are the edge's darts.
---   Judged D k e w w′ r     == r is the number of the answer for edge e, and the forest's roots are kept
+--   Says n i a              == the answer a has the number n and, unless it is done, the place i
+--   Judged D k e i w w′ r   == r is the answer for edge e at place i, and the forest's roots are kept
 --   Bounds D w p q          == p and q are darts, and so are their successors and the darts before them
 --   bypassed D w a b q x y  == a leads on to x and b to y; where x is q, a leads on to y and that is all
 --   Did D n k e w w′        == the operation on edge e is done, and its two darts are joined in the forest's part
 use mathlib.Core.List.{List}
+use mathlib.Core.Logic.{_≢_}
 use mathlib.Core.Path.{_≡_}
 use Prim.Native.Nat.{ℕ, _+_, _*_, _<_}
 use lib.Dec.{eqb}
 use lib.ListN.{getD}
 use Rattle.darts.specs.Choose.{if_then_else_}
+use Rattle.darts.specs.Cases.{answerOf}
+use Rattle.darts.specs.declared.Answer.{Answer}
 use Rattle.forest.specs.Forest.{Falls}
 use Rattle.area.specs.Area.{forestIn, bound}
 use Rattle.area.specs.Operate.{judged, operated}
 use Rattle.area.specs.Trees.{Outside, rooted, Kept, merged}
 
-pub record Judged (D k e : ℕ) (w w′ : List ℕ) (r : ℕ) : Type 0 where
+pub record Says (n i : ℕ) (a : Answer) : Type 0 where
+  pub number : answerOf a .number ≡ n
+  pub place : n ≢ 0 → answerOf a .place ≡ i
+
+pub record Judged (D k e i : ℕ) (w w′ : List ℕ) (r : Answer) : Type 0 where
   pub kept : Kept D w w′
-  pub answer : r ≡ judged D w (rooted D w) k e
+  pub answer : Says (judged D w (rooted D w) k e) i r
 
 pub record Bounds (D : ℕ) (w : List ℕ) (p q : ℕ) : Type 0 where
   pub first : p < D

@@ -1,5 +1,4 @@
 -- The table and the history in the work area, with the dart before each survivor: tests 1 to 5 of a pyramid.
---   laid w a xs        == the numbers xs in w from place a on
 --   marks D w i m      == the m history numbers from place i on: their edges are marked as gone (tests 1 and 2)
 --   links D w x m      == the m darts from x on: each survivor is noted before its successor (tests 3, 4 and 5)
 --   given D n t h w    == table and history laid
@@ -7,16 +6,14 @@
 --   relinks D n w      == the dart before each survivor found anew: blank, then marks and links
 --   loads D n t h w    == table and history laid, and linked so
 use mathlib.Core.Bool.{true, false, not}
-use mathlib.Core.List.{List, _++_}
+use mathlib.Core.List.{List}
 use Prim.Native.Nat.{ℕ, zero, suc, _+_, _*_, _/_}
 use lib.Dec.{eqb, leb}
-use lib.ListN.{length, set, take, drop, replicate}
+use lib.ListN.{set, take, replicate}
+use Rattle.slices.specs.Laid.{laid}
 use Rattle.darts.specs.Choose.{if_then_else_}
 use Rattle.darts.specs.Map.{successor}
 use Rattle.area.specs.Area.{prev, stamp, Tried, tried}
-
-unfoldable pub laid : List ℕ → ℕ → List ℕ → List ℕ
-laid w a xs = take a w ++ (xs ++ drop (a + length xs) w)
 
 -- test 1: the number is below 2D; test 2: no edge twice
 unfoldable pub marks : ℕ → List ℕ → ℕ → ℕ → Tried

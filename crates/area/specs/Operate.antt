@@ -1,7 +1,6 @@
 -- One operation in the work area. k is 0 for a removal and 1 for a contraction, the last bit of the history number.
 --   wholeIn w e          == the edge is a whole piece
 --   judged D w R k e     == the answer's number for edge e, by the forest's roots R
---   leadIn k w e         == the dart that plays p
 --   led D w k p          == the darts before p and q lead on
 --   operated D n w k e   == the work area after the operation on edge e, the one of count n
 use mathlib.Core.Bool.{Bool, not, _&&_, _||_}
@@ -12,8 +11,9 @@ use lib.ListN.{set}
 use Rattle.permutations.specs.Partner.{partner}
 use Rattle.darts.specs.Choose.{if_then_else_}
 use Rattle.darts.specs.Map.{successor}
+use Rattle.darts.specs.Operation.{Kind, kindOf, lead}
+use Rattle.darts.specs.Tests.{near, far}
 use Rattle.area.specs.Area.{prev, there, bound}
-use Rattle.area.specs.Back.{first, second}
 
 unfoldable pub wholeIn : List ℕ → ℕ → Bool
 wholeIn w e =
@@ -28,15 +28,11 @@ judged D w R k e =
     else if wholeIn w e then 11
     else 0
 
--- turned round: a removal with s = p, a contraction with r = p
-unfoldable pub leadIn : ℕ → List ℕ → ℕ → ℕ
-leadIn k w e = if eqb (second k (successor w (2 * e)) (successor w (2 * e + 1))) (2 * e) then 2 * e + 1 else 2 * e
-
-unfoldable pub led : ℕ → List ℕ → ℕ → ℕ → List ℕ
+unfoldable pub led : ℕ → List ℕ → Kind → ℕ → List ℕ
 led D w k p =
     let q : ℕ = partner p in
-    let x : ℕ = first k (successor w p) (successor w q) in
-    let y : ℕ = second k (successor w p) (successor w q) in
+    let x : ℕ = near k (successor w p) (successor w q) in
+    let y : ℕ = far k (successor w p) (successor w q) in
     if eqb x q then bound D w (prev D w p) y else bound D (bound D w (prev D w p) x) (prev D w q) y
 
 -- the edge is marked as gone, and the history gets its number
@@ -44,4 +40,4 @@ unfoldable pub noted : ℕ → ℕ → List ℕ → ℕ → ℕ → List ℕ
 noted D n w k p = set (set (set w (D + p) D) (D + partner p) D) (3 * D + n) (2 * p + k)
 
 unfoldable pub operated : ℕ → ℕ → List ℕ → ℕ → ℕ → List ℕ
-operated D n w k e = noted D n (led D w k (leadIn k w e)) k (leadIn k w e)
+operated D n w k e = let p : ℕ = lead (kindOf k) w e in noted D n (led D w (kindOf k) p) k p

@@ -13,7 +13,7 @@ use lib.ListN.{getD}
 use Rattle.permutations.specs.Partner.{partner}
 use Rattle.darts.specs.Choose.{if_then_else_}
 use Rattle.forest.specs.Forest.{Falls}
-use Rattle.forest.specs.Part.{part}
+use Rattle.slices.specs.Part.{part}
 use Rattle.area.specs.Area.{forestIn}
 use Rattle.area.specs.Trees.{Outside, rooted, merged}
 

@@ -4,7 +4,7 @@
 use mathlib.Core.List.{List}
 use Prim.Native.Nat.{ℕ, _+_, _*_}
 use Rattle.darts.specs.State.{State}
-use Rattle.forest.specs.Part.{part}
+use Rattle.slices.specs.Part.{part}
 
 abbrev pub stateOf : ℕ → ℕ → ℕ → List ℕ → State
 stateOf D n l ends = record { darts = D; operations = n; levels = l; ends = ends }

@@ -1,18 +1,20 @@
 // Operations taken back in the work area, the last one first: tests 6 to 15 of a pyramid.
 use crate::load::bind;
-use crate::slices::at;
 use darts::partner;
+use slices::at;
 ghost use mathlib.Core.Path.{_≡_};
 ghost use mathlib.Core.Bool.{true};
 ghost use Prim.Native.Nat.{_≤_, _<_, _*_};
+ghost use Rattle.darts.specs.Operation.{kindOf};
+ghost use Rattle.darts.specs.Tests.{near as nearOf, far};
 ghost use Rattle.area.specs.Area.{Room, tried, triedIf};
-ghost use Rattle.area.specs.Back.{first, second, fitting, inserted, placed, triedBack, backs, Mapped, Sound};
+ghost use Rattle.area.specs.Back.{fitting, inserted, placed, triedBack, backs, Mapped, Sound};
 
-// Of two darts the one for the kind k: a for a removal, which is 0, and b for a contraction.
-pub fn choose(k: usize, a: usize, b: usize) -> usize
-    ensures { λ r. ⌜ r ≡ first k a b ⌝ }
+// Of two darts the near one for the kind that k tells: a for a removal, which is even, and b for a contraction.
+pub fn near(k: usize, a: usize, b: usize) -> usize
+    ensures { λ r. ⌜ r ≡ nearOf (kindOf k) a b ⌝ }
 {
-    if k == 0 {
+    if k % 2 == 0 {
         return a;
     }
     b
@@ -75,11 +77,11 @@ pub fn place(
     requires { ⌜ Room d (now work) ⌝ }
     requires { ⌜ (p < d) × (q < d) × (r < d) × (s < d) × (x < d) × (y < d) ⌝ }
     requires { ⌜ fitting d (now work) p q x y ≡ true ⌝ }
-    ensures { λ _. ⌜ now (work .exit) ≡ placed d (now (work .entry)) k p q r s x y ⌝ }
+    ensures { λ _. ⌜ now (work .exit) ≡ placed d (now (work .entry)) (kindOf k) p q r s x y ⌝ }
 {
     let b = at(work, d + y);
     if x == q {
-        let e = choose(k, p, q);
+        let e = near(k, p, q);
         insert(work, d, p, q, r, s, b, e);
     } else {
         let a = at(work, d + x);
@@ -101,11 +103,11 @@ pub fn take_back_edge(
     requires { ⌜ (p < d) × (q < d) × (r < d) × (s < d) ⌝ }
     ensures { λ b. ⌜
         tried b (now (work .exit))
-        ≡ triedIf (fitting d (now (work .entry)) p q (first k r s) (second k r s)) (now (work .entry))
-        (placed d (now (work .entry)) k p q r s (first k r s) (second k r s)) ⌝ }
+        ≡ triedIf (fitting d (now (work .entry)) p q (nearOf (kindOf k) r s) (far (kindOf k) r s)) (now (work .entry))
+        (placed d (now (work .entry)) (kindOf k) p q r s (nearOf (kindOf k) r s) (far (kindOf k) r s)) ⌝ }
 {
-    let x = choose(k, r, s);
-    let y = choose(k, s, r);
+    let x = near(k, r, s);
+    let y = near(k, s, r);
     if fit(work, d, p, q, x, y) {
         place(work, d, k, p, q, r, s, x, y);
         return true;
@@ -123,7 +125,7 @@ pub fn take_back(work: &mut [u32], d: usize, h: usize) -> bool
     let q = partner(p);
     let r = at(work, p);
     let s = at(work, q);
-    take_back_edge(work, d, h % 2, p, q, r, s)
+    take_back_edge(work, d, h, p, q, r, s)
 }
 
 // The last c of n operations are taken back, the last one first. No where one does not fit.

@@ -1,6 +1,6 @@
 // A table judged as a base, and the work area cleared.
-use crate::slices::at;
-use crate::slices::fill;
+use slices::at;
+use slices::fill;
 ghost use mathlib.Core.Path.{_≡_};
 ghost use Prim.Native.Nat.{ℕ, _≤_, _<_};
 ghost use lib.ListN.{length, getD, drop};

@@ -1,7 +1,7 @@
 // Vertices and faces: the cycles of the work area's survivors, told apart by the forest's part.
-use crate::slices::at;
 use crate::step::around;
 use crate::trees::join;
+use slices::at;
 ghost use mathlib.Core.Path.{_≡_};
 ghost use Prim.Native.Nat.{_+_, _*_, _<_};
 ghost use lib.ListN.{getD};

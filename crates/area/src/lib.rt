@@ -5,6 +5,5 @@ pub mod cycles;
 pub mod load;
 pub mod operate;
 pub mod shape;
-pub mod slices;
 pub mod step;
 pub mod trees;

@@ -1,7 +1,7 @@
 // Table and history in the work area, with the dart before each survivor: tests 1 to 5 of a pyramid.
-use crate::slices::at;
-use crate::slices::copy;
-use crate::slices::fill;
+use slices::at;
+use slices::copy;
+use slices::fill;
 ghost use mathlib.Core.Path.{_≡_};
 ghost use Prim.Native.Nat.{_≤_, _<_};
 ghost use lib.ListN.{length};

@@ -1,15 +1,18 @@
 // One operation in the work area: judged, and done.
+use crate::back::near;
 use crate::load::bind;
-use crate::slices::at;
 use crate::trees::join;
 use crate::trees::together;
+use darts::Answer;
+use slices::at;
 ghost use mathlib.Core.Path.{_≡_};
 ghost use Prim.Native.Nat.{_+_, _*_, _/_, _<_};
 ghost use lib.ListN.{length};
 ghost use Rattle.permutations.specs.Partner.{partner};
+ghost use Rattle.darts.specs.Operation.{kindOf, lead as leadDart};
 ghost use Rattle.forest.specs.Forest.{Falls};
 ghost use Rattle.area.specs.Area.{Room, forestIn};
-ghost use Rattle.area.specs.Operate.{wholeIn, leadIn, led, noted, operated};
+ghost use Rattle.area.specs.Operate.{wholeIn, led, noted, operated};
 ghost use Rattle.area.specs.Edge.{Judged, Bounds, bypassed, Did};
 
 // Whether edge e is a whole piece.
@@ -30,43 +33,42 @@ fn whole(work: &[u32], e: usize) -> bool
     false
 }
 
-// The number of the answer for edge e at its turn, 0 where the operation may be done: the forest tells vertices where k is 1, and faces where k is 0.
-pub fn judge(work: &mut [u32], d: usize, k: usize, e: usize) -> u32
+// The answer for edge e at its turn, the one at place i of a kernel: the forest tells vertices where k is 1, and faces where k is 0.
+pub fn judge(work: &mut [u32], d: usize, k: usize, e: usize, i: usize) -> Answer
     requires { ⌜ Room d (now work) ⌝ }
     requires { ⌜ Falls (forestIn d (now work)) ⌝ }
     requires { ⌜ k < 2 ⌝ }
-    ensures { λ r. ⌜ Judged d k e (now (work .entry)) (now (work .exit)) r ⌝ }
+    ensures { λ r. ⌜ Judged d k e i (now (work .entry)) (now (work .exit)) r ⌝ }
 {
     if d / 2 <= e {
-        return 7;
+        return Answer::NoEdge(i);
     }
     let p = 2 * e;
     if d <= at(work, d + p) {
-        return 8;
+        return Answer::GoneAlready(i);
     }
     if together(work, d, p, p + 1) {
-        return 10 - k as u32;
+        if k == 0 {
+            return Answer::OneFace(i);
+        }
+        return Answer::OneVertex(i);
     }
     if whole(work, e) {
-        return 11;
+        return Answer::WholePiece(i);
     }
-    0
+    Answer::Done(0)
 }
 
 // The dart that plays p: the edge's first dart, or its second where the operation turns round.
 fn lead(work: &[u32], k: usize, e: usize) -> usize
     requires { ⌜ 2 * e + 1 < length (now work) ⌝ }
-    ensures { λ r. ⌜ r ≡ leadIn k (now (work .entry)) e ⌝ }
+    ensures { λ r. ⌜ r ≡ leadDart (kindOf k) (now (work .entry)) e ⌝ }
 {
     let p = 2 * e;
     let q = 2 * e + 1;
-    if k == 0 {
-        if at(work, q) == p {
-            return q;
-        }
-        return p;
-    }
-    if at(work, p) == p {
+    let r = at(work, p);
+    let s = at(work, q);
+    if near(k, s, r) == p {
         return q;
     }
     p
@@ -86,22 +88,20 @@ fn bypass(work: &mut [u32], d: usize, a: usize, b: usize, q: usize, x: usize, y:
     }
 }
 
-// The darts before p and q lead on: for a removal to the successors r of p and s of q, for a contraction to s and r.
+// The darts before p and q lead on, to the near one and the far one of the successors r of p and s of q.
 fn lead_on(work: &mut [u32], d: usize, k: usize, p: usize, q: usize)
     requires { ⌜ Room d (now work) ⌝ }
     requires { ⌜ Bounds d (now work) p q ⌝ }
     requires { ⌜ q ≡ partner p ⌝ }
-    ensures { λ r. ⌜ now (work .exit) ≡ led d (now (work .entry)) k p ⌝ }
+    ensures { λ r. ⌜ now (work .exit) ≡ led d (now (work .entry)) (kindOf k) p ⌝ }
 {
     let r = at(work, p);
     let s = at(work, q);
     let a = at(work, d + p);
     let b = at(work, d + q);
-    if k == 0 {
-        bypass(work, d, a, b, q, r, s);
-    } else {
-        bypass(work, d, a, b, q, s, r);
-    }
+    let x = near(k, r, s);
+    let y = near(k, s, r);
+    bypass(work, d, a, b, q, x, y);
 }
 
 // The edge's darts are marked as gone, and the history gets the operation's number.

@@ -1,10 +1,10 @@
 // The shape of a state: its levels, their ends, and one kind of operation inside each level.
-use crate::slices::at;
+use slices::at;
 ghost use mathlib.Core.Path.{_≡_};
 ghost use Prim.Native.Nat.{_≤_, _<_};
 ghost use lib.ListN.{length, take, drop};
 ghost use Rattle.darts.specs.Tests.{oneKind, rises, zeros, shaped};
-ghost use Rattle.forest.specs.Part.{part};
+ghost use Rattle.slices.specs.Part.{part};
 ghost use Rattle.area.specs.Area.{Room};
 ghost use Rattle.area.specs.Shape.{stateOf, historyIn};
 

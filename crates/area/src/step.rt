@@ -1,5 +1,5 @@
 // Steps on the work area's map.
-use crate::slices::at;
+use slices::at;
 ghost use mathlib.Core.Path.{_≡_};
 ghost use Prim.Native.Nat.{_<_};
 ghost use Rattle.area.specs.Area.{Room, around as aroundOf};

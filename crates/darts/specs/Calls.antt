@@ -6,10 +6,11 @@
 --   judged s t h w          == answers 1, 2 and 4 of a call on a state, or done
 --   start, reduceBy, sweepBy, undoBy, unfoldBy, counts, read, write == the calls
 use mathlib.Core.Bool.{Bool, not, _&&_}
-use mathlib.Core.List.{List, _++_, reverse}
+use mathlib.Core.List.{List, reverse}
 use Prim.Native.Nat.{ℕ, _*_, _/_}
 use lib.Dec.{eqb, leb, ltb}
-use lib.ListN.{length, take, drop, replicate}
+use lib.ListN.{length, take, replicate}
+use Rattle.slices.specs.Over.{over}
 use Rattle.darts.specs.Choose.{if_then_else_}
 use Rattle.darts.specs.Answers.{Answer, done, wrote, noDartCount, tooShort, needs, noPermutation, noPyramid}
 use Rattle.darts.specs.Map.{firstBad}
@@ -63,10 +64,6 @@ tableOf s t = take (s .darts) t
 -- "History past the count is not looked at": the past of a lent history, the last operation first
 unfoldable pub pastOf : State → List ℕ → List ℕ
 pastOf s h = reverse (take (s .operations) h)
-
--- new numbers over the first ones of a lent slice
-unfoldable pub over : List ℕ → List ℕ → List ℕ
-over new old = new ++ drop (length new) old
 
 unfoldable pub cleared : ℕ → List ℕ → List ℕ
 cleared D w = over (replicate (4 * D) 0) w

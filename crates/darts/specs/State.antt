@@ -10,7 +10,7 @@ use Prim.Native.Nat.{ℕ, _+_}
 use lib.Dec.{eqb, leb}
 use lib.ListN.{length, replicate, set}
 use Rattle.darts.specs.Choose.{if_then_else_}
-use Rattle.darts.specs.Answers.{Answer, answered, emptyKernel, tooManyLevels}
+use Rattle.darts.specs.Answers.{Answer, emptyKernel, tooManyLevels}
 use Rattle.darts.specs.Operation.{Kind}
 use Rattle.darts.specs.Kernel.{Run, stands, stops, run}
 
@@ -41,7 +41,7 @@ raised s n = record { darts = s .darts; operations = n; levels = s .levels + 1; 
 unfoldable pub levelled : State → List ℕ → Run → Result
 levelled s past (stands t new) =
     if eqb (length new) (length past) then refuses emptyKernel else gives (raised s (length new)) t new
-levelled s past (stops n i) = refuses (answered n i)
+levelled s past (stops a) = refuses a
 
 -- "There are at most 64 kernels over the base.": 6, then 5, then the kernel's first failing edge
 unfoldable pub reduce : Kind → List ℕ → State → List ℕ → List ℕ → Result

@@ -57,9 +57,8 @@ near removal r s = r
 near contraction r s = s
 
 -- where the dart before q leads
-unfoldable pub far : Kind → ℕ → ℕ → ℕ
-far removal r s = s
-far contraction r s = r
+abbrev pub far : Kind → ℕ → ℕ → ℕ
+far k r s = near k s r
 
 -- a removal with r = q, or a contraction with s = q: 6, 11; any other: 7 to 10, 12 to 15
 unfoldable pub fits : ℕ → List ℕ → ℕ → List ℕ → Bool

@@ -1,7 +1,28 @@
-// The pairing of darts: edge e has darts 2e and 2e+1. The definitions of document 01 stand in specs/.
+// The pairing of darts, edge e having darts 2e and 2e+1, and the answers. The definitions of document 01 stand in specs/.
+pub mod answers;
+
 ghost use mathlib.Core.Path.{_≡_};
 ghost use Prim.Native.Nat.{_<_};
 ghost use Rattle.permutations.specs.Partner.{partner as partnerOf};
+
+// A case for each refusal, with its place where it has one.
+pub enum Answer {
+    Done(usize),
+    NoDartCount,
+    TooShort(usize),
+    NoPermutation(usize),
+    NoPyramid,
+    EmptyKernel,
+    TooManyLevels,
+    NoEdge(usize),
+    GoneAlready(usize),
+    OneVertex(usize),
+    OneFace(usize),
+    WholePiece(usize),
+    NoLevel(usize),
+    NoFile(usize),
+    NoFlag,
+}
 
 // The other dart of d's edge: one more for an even dart, one less for an odd one.
 pub fn partner(d: usize) -> usize

@@ -14,11 +14,10 @@ use lib.ListN.{length, drop, drop-of-length-le}
 use Rattle.permutations.specs.Choice.{T?, T→true, nT→false}
 use Rattle.darts.specs.Choose.{if_then_else_}
 use Rattle.darts.specs.Operation.{undoOne, undone}
-use Rattle.darts.specs.Tests.{numbered}
-use Rattle.darts.specs.Tests.{fits as fitsOf, backs as backsOf}
+use Rattle.darts.specs.Tests.{numbered, fits as fitsOf, backs as backsOf}
 use Rattle.area.specs.Area.{stamp, tableIn, pastIn, Tried, tried}
 use Rattle.area.specs.Back.{fits, takenBack, backs}
-use Rattle.darts.proofs.Standing.{Standing}
+use Rattle.darts.proofs.bridge.Standing.{Standing}
 use Rattle.engine.specs.Held.{Area}
 use Rattle.engine.proofs.Parts.{past-length}
 use Rattle.engine.proofs.Area.{past-last}

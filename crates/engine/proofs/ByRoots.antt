@@ -25,11 +25,11 @@ use Rattle.darts.specs.Operation.{Kind, contraction, removal, kindOf, wholeEdge
 use Rattle.darts.specs.Kernel.{judge}
 use Rattle.area.specs.Area.{there, tableIn, pastIn}
 use Rattle.area.specs.Operate.{wholeIn, judged, operated}
-use Rattle.darts.proofs.Standing.{Standing, mapOf, opOf, live-iff}
-use Rattle.darts.proofs.Judged.{same-vertex, same-face, judge-legal}
-use Rattle.darts.proofs.Operate.{operate-acts}
+use Rattle.darts.proofs.bridge.Standing.{Standing, mapOf, opOf, live-iff}
+use Rattle.darts.proofs.bridge.Judged.{same-vertex, same-face, judge-legal}
+use Rattle.darts.proofs.bridge.Operate.{operate-acts}
 use Rattle.area.specs.Cycles.{stepIn}
-use Rattle.darts.proofs.TopLabels.{cyclesOf}
+use Rattle.darts.proofs.tests.TopLabels.{cyclesOf}
 use Rattle.engine.specs.Held.{Area, Rooted}
 use Rattle.engine.proofs.Edges.{not-gone-live}
 use Rattle.engine.proofs.BothKinds.{same, judge-in}
@@ -58,7 +58,7 @@ module _ {D n : ℕ} {w : List ℕ} (A : Area D n w) (k : ℕ) (l : k ≤ 1) {R 
   abbrev past : List ℕ
   past = pastIn D n w
 
-  pub same-root : (e : ℕ) → T (live D past (2 * e)) → eqb (R (2 * e)) (R (2 * e + 1)) ≡ same (kindOf k) D t (2 * e) (2 * e + 1)
+  same-root : (e : ℕ) → T (live D past (2 * e)) → eqb (R (2 * e)) (R (2 * e + 1)) ≡ same (kindOf k) D t (2 * e) (2 * e + 1)
   same-root e h =
       let i = eqb-iff (R (2 * e)) (R (2 * e + 1)) in
       let j = Λ .says (2 * e) (2 * e + 1) h (rw (partner-first e) at (partner-live (A .stands .good) (2 * e) h)) in

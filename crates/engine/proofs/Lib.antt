@@ -14,7 +14,6 @@ pub mod Given
 pub mod Inserted
 pub mod Laid
 pub mod LastBack
-pub mod Least
 pub mod Linked
 pub mod Loaded
 pub mod Marked

@@ -16,8 +16,7 @@ use lib.Seq.{take-set-le, drop-set-lt, getD-set-same, getD-set-other}
 use Rattle.permutations.specs.Choice.{true→T, T→true, nT→false, eqb-same, eqb-other, and-intro, and-left, and-right}
 use Rattle.darts.specs.Choose.{if_then_else_}
 use Rattle.darts.specs.Map.{successor, gone, survives, beforeIn}
-use Rattle.darts.specs.Tests.{led, linked}
-use Rattle.darts.specs.Tests.{links as linksOf}
+use Rattle.darts.specs.Tests.{led, linked, links as linksOf}
 use Rattle.area.specs.Area.{prev, tableIn, Tried, tried}
 use Rattle.area.specs.Load.{links}
 use Rattle.engine.proofs.Parts.{successor-in}

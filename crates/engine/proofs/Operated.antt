@@ -5,30 +5,33 @@
 use mathlib.Core.Bool.{Bool, true, false}
 use mathlib.Core.List.{List, _∷_}
 use mathlib.Core.Logic.{_≢_, _↔_, inl, inr}
-use mathlib.Core.Path.{_≡_, refl, ap, _∙_}
+use mathlib.Core.Path.{_≡_, refl, sym, ap, _∙_}
 use Prim.Native.Nat.{ℕ, suc, _+_, _*_, _≤_, _<_}
 use native.Mathlib.Numerals.{add-one}
 use native.Mathlib.Omega.{arith}
 use lib.Dec.{T, eqb}
 use lib.ListN.{length, set, drop}
-use Rattle.permutations.specs.Partner.{partner, partner-ne, End, end?}
+use Rattle.permutations.specs.Partner.{partner, partner-ne, partner-below, End, end?}
 use Rattle.darts.specs.Choose.{if_then_else_}
 use Rattle.darts.specs.Map.{successor, gone, live}
 use Rattle.darts.specs.Operation.{Kind, lead, operate, number, kindOf}
 use Rattle.darts.specs.Kernel.{judge}
+use Rattle.darts.specs.Tests.{near, far}
 use Rattle.area.specs.Area.{prev, tableIn, pastIn, forestIn, bound}
-use Rattle.area.specs.Back.{first, second}
-use Rattle.area.specs.Operate.{leadIn, led, noted, operated}
-use Rattle.darts.proofs.Standing.{Standing, live-iff, entry-live}
-use Rattle.darts.proofs.Operate.{operate-stands}
+use Rattle.area.specs.Operate.{led, noted, operated}
+use Rattle.darts.proofs.bridge.Standing.{Standing, live-iff, entry-live}
+use Rattle.darts.proofs.bridge.AnyKind.{near-far, apart-iff}
+use Rattle.darts.proofs.bridge.Relink.{relinked, operate-relinks}
+use Rattle.darts.proofs.bridge.Lead.{lead-pick}
+use Rattle.darts.proofs.bridge.Operate.{operate-stands}
 use Rattle.engine.specs.Held.{Area}
 use Rattle.engine.proofs.Edges.{live-cons}
 use Rattle.engine.proofs.Allowed.{fine-live, lead-live, end-live, numbers-one-more, room-for-one-more}
-use Rattle.engine.proofs.BothKinds.{of-both, apart-iff, lead-in, number-in, operate-in}
+use Rattle.engine.proofs.BothKinds.{number-in}
 use Rattle.engine.proofs.Parts.{Noted, successor-in, past-rest, forest-rest, rest-from, bound-length, bound-noted, bound-avoids, noted-length, noted-successor, noted-table, noted-forest, noted-rest, noted-past, noted-prev-end, noted-prev-else}
 use Rattle.engine.proofs.Area.{prev-live, leads-live, leads-one, live-noted, noted-known, area-of, room-kept}
 use Rattle.engine.proofs.Rebound.{Rebound, unbound, rebind}
-use Rattle.darts.proofs.Numbers.{number-half}
+use Rattle.darts.proofs.bridge.Numbers.{number-half}
 
 pub record Operated (D n k e : ℕ) (w v : List ℕ) : Type 0 where
   pub table : tableIn D v ≡ operate (kindOf k) D (tableIn D w) (pastIn D n w) e
@@ -57,10 +60,10 @@ module _ {D n : ℕ} {w : List ℕ} (A : Area D n w) (k : ℕ) (l : k ≤ 1) (e 
   q = partner p
 
   abbrev x : ℕ
-  x = first k (successor w p) (successor w q)
+  x = near kind (successor w p) (successor w q)
 
   abbrev y : ℕ
-  y = second k (successor w p) (successor w q)
+  y = far kind (successor w p) (successor w q)
 
   small : (z : ℕ) → T (live D past z) → z < D
   small z h = live-iff D past z .0 h .0
@@ -87,30 +90,31 @@ module _ {D n : ℕ} {w : List ℕ} (A : Area D n w) (k : ℕ) (l : k ≤ 1) (e 
   fits = omega (arith, A .room .fits)
 
   -- the work area's lead is the table's
-  pub lead-here : leadIn k w e ≡ p
-  unfolding leadIn
+  pub lead-here : lead kind w e ≡ p
   lead-here =
-      let h : 2 * e + 1 < D = omega (arith, small (2 * e) (fine-live (A .stands) kind e fine), A .room .even) in
-      rw (← (successor-in D w (2 * e) (omega arith)), ← (successor-in D w (2 * e + 1) h)) (lead-in k l t e)
+      let h = small (2 * e) (fine-live (A .stands) kind e fine) in
+      lead-pick kind w e
+      ∙ rw (← (successor-in D w (2 * e) h), ← (successor-in D w (partner (2 * e)) (partner-below D (2 * e) h (A .room .even)))) (sym (lead-pick kind t e))
 
   lives : T (live D past x) × T (live D past y)
-  lives = of-both (λ c. T (live D past c)) k (successor w p) (successor w q) (leads-live A p p-live) (leads-live A q q-live)
+  lives = near-far (λ c. T (live D past c)) kind (leads-live A p p-live) (leads-live A q q-live)
 
   apart : x ≢ y
-  apart = apart-iff k (successor w p) (successor w q) .1 (λ c. partner-ne p (leads-one A p q p-live q-live c))
+  apart = apart-iff kind (successor w p) (successor w q) .1 (λ c. partner-ne p (leads-one A p q p-live q-live c))
 
   -- only p and q lead to x and y
   avoids : (z : ℕ) → T (live D past z) → ¬ End p z → (successor w z ≢ x) × (successor w z ≢ y)
   avoids z h m =
-      of-both (λ c. successor w z ≢ c) k (successor w p) (successor w q)
+      near-far (λ c. successor w z ≢ c) kind
       (λ c. m (inl (leads-one A z p h p-live c))) (λ c. m (inr (leads-one A z q h q-live c)))
 
   operate-here : operate kind D t past e ≡ (if eqb x q then set t (prev D w p) y else set (set t (prev D w p) x) (prev D w q) y)
+  unfolding relinked
   operate-here =
-      operate-in k l D t past e
+      operate-relinks kind D t past e
       ∙ rw (successor-in D w p pD, successor-in D w q qD, A .known p p-live, A .known q q-live)
 
-  led-rebound : Rebound D past w (led D w k p) (operate kind D t past e)
+  led-rebound : Rebound D past w (led D w kind p) (operate kind D t past e)
   unfolding led
   led-rebound = rw operate-here (go (eqb x q))
     where
@@ -119,7 +123,7 @@ module _ {D n : ℕ} {w : List ℕ} (A : Area D n w) (k : ℕ) (l : k ≤ 1) (e 
       go true = rebind (unbound D past w) (prev D w p) y aD (lives .1)
       go false = rebind (rebind (unbound D past w) (prev D w p) x aD (lives .0)) (prev D w q) y bD (lives .1)
 
-  led-noted : (z : ℕ) → T (live D past z) → ¬ End p z → Noted D (led D w k p) z
+  led-noted : (z : ℕ) → T (live D past z) → ¬ End p z → Noted D (led D w kind p) z
   unfolding led
   led-noted z h m = go (eqb x q)
     where
@@ -143,7 +147,7 @@ module _ {D n : ℕ} {w : List ℕ} (A : Area D n w) (k : ℕ) (l : k ≤ 1) (e 
   -- ---- the edge is marked as gone
 
   abbrev u : List ℕ
-  u = led D w k p
+  u = led D w kind p
 
   abbrev v : List ℕ
   v = noted D n u k p

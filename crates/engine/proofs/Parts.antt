@@ -19,7 +19,8 @@ use lib.ListN.{length, set, take, drop, length-set, length-drop, length-reverse}
 use lib.Seq.{getD-set-same, getD-set-other, take-set-le, take-set-lt, drop-set-lt, drop-drop, getD-take, getD-drop, take-suc, drop-set-add}
 use Rattle.darts.specs.Map.{successor}
 use Rattle.permutations.specs.Partner.{partner, partner-ne, End}
-use Rattle.forest.specs.Part.{part, part-length}
+use Rattle.slices.specs.Part.{part}
+use Rattle.slices.proofs.Part.{part-length}
 use Rattle.area.specs.Area.{prev, stamp, tableIn, pastIn, forestIn, bound}
 use Rattle.area.specs.Operate.{noted}
 

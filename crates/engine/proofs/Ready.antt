@@ -2,13 +2,10 @@
 --   beyond-refl, beyond-trans == what stands beyond the four parts is kept
 --   Stays D n k w v           == v holds what w holds, and judges as w does
 --   ready-stays               == so it is where the forest's roots are kept
---   ready-judged              == the answer's number for an edge is document 01's
---   ready-together            == whether an edge's two darts have one root: whether they share a vertex, or a face
+--   ready-judged              == the answer for an edge is document 01's
 --   ready-for                 == what doing an edge asks of the work area, where it may be done
---   Goes D n k e w v          == v holds the map once the operation on edge e is done, and judges the next one
---   ready-did                 == so it is where that operation is done and the edge's two darts are joined
-use mathlib.Core.Bool.{Bool}
-use mathlib.Core.List.{List, _∷_}
+--   ready-did                 == the operation is done and the edge's two darts are joined: the next one can be judged
+use mathlib.Core.List.{List}
 use mathlib.Core.Logic.{inl}
 use mathlib.Core.Path.{_≡_, refl, sym, ap, _∙_}
 use Prim.Native.Nat.{ℕ, _+_, _*_, _/_, _<_}
@@ -20,20 +17,21 @@ use Rattle.permutations.specs.Partner.{partner, partner-first}
 use Rattle.permutations.specs.Map.{partner-live}
 use Rattle.permutations.specs.Labels.{Merges}
 use Rattle.darts.specs.Map.{successor, live}
-use Rattle.darts.specs.Operation.{kindOf, lead, operate, number}
+use Rattle.darts.specs.Operation.{kindOf}
 use Rattle.darts.specs.Kernel.{judge}
-use Rattle.darts.proofs.Standing.{live-iff}
+use Rattle.darts.specs.declared.Answer.{Answer}
+use Rattle.darts.proofs.bridge.Standing.{live-iff}
 use Rattle.forest.specs.Forest.{Falls}
 use Rattle.area.specs.Area.{prev, tableIn, pastIn, forestIn, Room}
-use Rattle.area.specs.Edge.{Judged, Bounds, Did}
-use Rattle.area.specs.Trees.{Outside, rooted, Kept, Together, merged}
+use Rattle.area.specs.Edge.{Says, Judged, Bounds, Did}
+use Rattle.area.specs.Trees.{Outside, rooted, Kept, merged}
 use Rattle.area.proofs.Replay.{merged-merges}
 use Rattle.engine.specs.Held.{Ready, Beyond}
+use Rattle.engine.specs.Runs.{Goes}
 use Rattle.engine.proofs.Allowed.{fine-live, room-for-one-more}
 use Rattle.engine.proofs.Area.{prev-live, leads-live}
 use Rattle.engine.proofs.Beside.{beside-table, beside-past, beside-area, beside-rooted}
-use Rattle.engine.proofs.BothKinds.{same}
-use Rattle.engine.proofs.ByRoots.{same-root, judged-right, labels-step}
+use Rattle.engine.proofs.ByRoots.{judged-right, labels-step}
 use Rattle.engine.proofs.Operated.{operated-acts}
 
 pub beyond-refl : (D : ℕ) (w : List ℕ) → Beyond D w w
@@ -57,12 +55,6 @@ pub record Stays (D n k : ℕ) (w v : List ℕ) : Type 0 where
 
 -- ---- an operation judged, and done
 
-pub record Goes (D n k e : ℕ) (w v : List ℕ) : Type 0 where
-  pub ready : Ready D (n + 1) k v
-  pub table : tableIn D v ≡ operate (kindOf k) D (tableIn D w) (pastIn D n w) e
-  pub past : pastIn D (n + 1) v ≡ number (kindOf k) (lead (kindOf k) (tableIn D w) e) ∷ pastIn D n w
-  pub beyond : Beyond D w v
-
 module _ {D n k : ℕ} {w : List ℕ} (ρ : Ready D n k w) where
   -- THE ROOTS ARE KEPT: IT HOLDS WHAT IT HELD
   pub ready-stays : {v : List ℕ} → Kept D w v → Stays D n k w v
@@ -75,12 +67,8 @@ module _ {D n k : ℕ} {w : List ℕ} (ρ : Ready D n k w) where
         beyond = outside-beyond (κ .outside);
       }
 
-  pub ready-judged : {e r : ℕ} {v : List ℕ} → Judged D k e w v r → r ≡ judge (kindOf k) D (tableIn D w) (pastIn D n w) e
-  ready-judged {e} j = j .answer ∙ judged-right (ρ .area) k (ρ .kind) (ρ .roots) e
-
-  pub ready-together : (e : ℕ) {r : Bool} {v : List ℕ} → T (live D (pastIn D n w) (2 * e)) → Together D w v (2 * e) (2 * e + 1) r
-      → r ≡ same (kindOf k) D (tableIn D w) (2 * e) (2 * e + 1)
-  ready-together e h t = t .answer ∙ same-root (ρ .area) k (ρ .kind) (ρ .roots) e h
+  pub ready-judged : {e i : ℕ} {v : List ℕ} {r : Answer} → Judged D k e i w v r → Says (judge (kindOf k) D (tableIn D w) (pastIn D n w) e) i r
+  ready-judged {e} j = rw (← judged-right (ρ .area) k (ρ .kind) (ρ .roots) e) (j .answer)
 
   module _ (e : ℕ) (fine : judge (kindOf k) D (tableIn D w) (pastIn D n w) e ≡ 0) where
     few : n < D / 2
@@ -109,14 +97,15 @@ module _ {D n k : ℕ} {w : List ℕ} (ρ : Ready D n k w) where
     merges = rw (partner-first e) (merged-merges (rooted D w) (2 * e) (2 * e + 1))
 
     -- THE OPERATION IS DONE, AND THE NEXT ONE CAN BE JUDGED
-    pub ready-did : {v : List ℕ} → Did D n k e w v → Goes D n k e w v
+    pub ready-did : {v : List ℕ} → Did D n k e w v → Goes D n k e w v × Beyond D w v
     ready-did {v} δ =
         let o = operated-acts (ρ .area) k (ρ .kind) e fine in
         let B = δ .outside in
-        let joined = labels-step (ρ .area) k (ρ .kind) e fine (ρ .roots) (2 * e) (inl refl) merges in
-        record {
-          ready = record { kind = ρ .kind; area = beside-area B (o .area); falls = δ .falls; roots = rw (δ .roots) (beside-rooted B (n + 1) k joined) };
-          table = beside-table B ∙ o .table;
-          past = beside-past B (n + 1) ∙ o .past;
-          beyond = beyond-trans (record { size = o .size; rest = o .rest }) (outside-beyond (δ .outside));
-        }
+        let joined = labels-step (ρ .area) k (ρ .kind) e fine (ρ .roots) (2 * e) (inl refl) merges in (
+          record {
+            ready = record { kind = ρ .kind; area = beside-area B (o .area); falls = δ .falls; roots = rw (δ .roots) (beside-rooted B (n + 1) k joined) };
+            table = beside-table B ∙ o .table;
+            past = beside-past B (n + 1) ∙ o .past;
+          },
+          beyond-trans (record { size = o .size; rest = o .rest }) (outside-beyond (δ .outside)),
+        )

@@ -15,15 +15,16 @@ use lib.Seq.{set-getD, getD-set-other}
 use Rattle.permutations.specs.Choice.{nT→false, eqb-same, eqb-other, and-left, and-right, eqb-iff}
 use Rattle.permutations.specs.Partner.{partner, partner-below, partner-ne, End}
 use Rattle.darts.specs.Map.{successor, gone, live}
-use Rattle.darts.specs.Operation.{leadOf, undoOne}
-use Rattle.darts.specs.Tests.{numbered}
-use Rattle.darts.specs.Tests.{fits as fitsOf}
+use Rattle.darts.specs.Operation.{Kind, kindOf, leadOf, undoOne}
+use Rattle.darts.specs.Tests.{numbered, near, far, fits as fitsOf}
 use Rattle.area.specs.Area.{prev, there, stamp, tableIn, pastIn}
-use Rattle.area.specs.Back.{first, second, single, fits, inserted, takenBack}
-use Rattle.darts.proofs.Standing.{Standing, live-iff}
+use Rattle.area.specs.Back.{fits, inserted, takenBack}
+use Rattle.darts.proofs.bridge.Standing.{Standing, live-iff}
+use Rattle.darts.proofs.bridge.AnyKind.{near-far, of-near-far, apart-iff, near-of, near-end}
+use Rattle.darts.proofs.tests.Fits.{any-order}
+use Rattle.darts.proofs.bridge.Relink.{nearEntry, farEntry, putBack-one, putBack-two}
 use Rattle.engine.specs.Held.{Area}
 use Rattle.engine.proofs.Edges.{live-cons, gone-end, not-gone-live, numbered-cons}
-use Rattle.engine.proofs.BothKinds.{first-of, first-end, both-of, of-both, apart-iff, kind-bit, near-first, far-second, any-order, put-one, put-two}
 use Rattle.engine.proofs.Parts.{Noted, successor-in, past-rest}
 use Rattle.engine.proofs.Area.{there-live, prev-live, prev-leads, leads-live, live-noted, noted-known, area-of, room-kept, past-last}
 use Rattle.engine.proofs.Rebound.{Rebound}
@@ -51,8 +52,8 @@ module _ {D n : ℕ} {w : List ℕ} (A : Area D (suc n) w) where
   abbrev h : ℕ
   h = stamp D w n
 
-  abbrev k : ℕ
-  k = h % 2
+  abbrev k : Kind
+  k = kindOf h
 
   abbrev p : ℕ
   p = h / 2
@@ -70,13 +71,10 @@ module _ {D n : ℕ} {w : List ℕ} (A : Area D (suc n) w) where
   now = pastIn D (suc n) w
 
   abbrev x : ℕ
-  x = first k (successor w p) (successor w q)
+  x = near k (successor w p) (successor w q)
 
   abbrev y : ℕ
-  y = second k (successor w p) (successor w q)
-
-  bit : k ≤ 1
-  bit = omega arith
+  y = far k (successor w p) (successor w q)
 
   now-is : now ≡ h ∷ past
   now-is = past-last A
@@ -104,7 +102,7 @@ module _ {D n : ℕ} {w : List ℕ} (A : Area D (suc n) w) where
   reach z l = rw (← (successor-in D w z l)) (A .stands .inside z l)
 
   xy-small : (x < D) × (y < D)
-  xy-small = of-both (λ z. z < D) k (successor w p) (successor w q) (reach p pD) (reach q qD)
+  xy-small = near-far (λ z. z < D) k (reach p pD) (reach q qD)
 
   -- ---- the tests
 
@@ -118,9 +116,6 @@ module _ {D n : ℕ} {w : List ℕ} (A : Area D (suc n) w) where
       rw (
         successor-in D w p pD,
         successor-in D w q qD,
-        ← (kind-bit h),
-        near-first k bit (successor w p) (successor w q),
-        far-second k bit (successor w p) (successor w q),
         any-order (live D (h ∷ past)) k (successor w p) (successor w q),
         here x (xy-small .0),
         here y (xy-small .1),
@@ -168,7 +163,7 @@ module _ {D n : ℕ} {w : List ℕ} (A : Area D (suc n) w) where
 
   gap : (a b : ℕ) → a < D → b < D → x ≢ y → Onward D past w p a b x → Onward D past w p a b y → Gap D past w p (successor w p) (successor w q) a b
   gap a b aD bD n i j =
-      let o = both-of (Onward D past w p a b) k (successor w p) (successor w q) i j in
+      let o = of-near-far (Onward D past w p a b) k (successor w p) (successor w q) i j in
       record {
         p-lives = p-live;
         q-lives = q-live;
@@ -184,11 +179,10 @@ module _ {D n : ℕ} {w : List ℕ} (A : Area D (suc n) w) where
   prev-small : (z : ℕ) → T (live D now z) → prev D w z < D
   prev-small z l = live-iff D now (prev D w z) .0 (prev-live A z l) .0
 
-  gap-one : x ≡ q → T (live D now y) → Gap D past w p (successor w p) (successor w q) (prev D w y) (single k p q)
-  unfolding single first
+  gap-one : x ≡ q → T (live D now y) → Gap D past w p (successor w p) (successor w q) (prev D w y) (near k p q)
   gap-one c l =
-      gap (prev D w y) (single k p q) (prev-small y l) (of-both (λ z. z < D) k p q pD qD .0) (λ e. now-live y .0 l .1 (inr (sym e ∙ c)))
-      (over (prev D w y) (single k p q) c (first-end k p)) (onward (prev D w y) (single k p q) y l (inl refl))
+      gap (prev D w y) (near k p q) (prev-small y l) (near-far (λ z. z < D) k pD qD .0) (λ e. now-live y .0 l .1 (inr (sym e ∙ c)))
+      (over (prev D w y) (near k p q) c (near-end k p .0)) (onward (prev D w y) (near k p q) y l (inl refl))
 
   gap-two : T (live D now x) → T (live D now y) → x ≢ y → Gap D past w p (successor w p) (successor w q) (prev D w x) (prev D w y)
   gap-two i j n =
@@ -197,18 +191,18 @@ module _ {D n : ℕ} {w : List ℕ} (A : Area D (suc n) w) where
 
   -- ---- the table
 
-  in-t : (first k (successor t p) (successor t q) ≡ x) × (second k (successor t p) (successor t q) ≡ y)
+  in-t : (nearEntry k t p ≡ x) × (farEntry k t p ≡ y)
   in-t = (rw (successor-in D w p pD, successor-in D w q qD), rw (successor-in D w p pD, successor-in D w q qD))
 
   undo-one : x ≡ q → T (live D now y) → undoOne D t h past ≡ set t (prev D w y) p
   unfolding undoOne leadOf
-  undo-one c l = rw (← now-is, ← (kind-bit h), A .known y l) (rw (in-t .1) at (put-one D t now p k bit (in-t .0 ∙ c)))
+  undo-one c l = rw (← now-is, A .known y l) (rw (in-t .1) at (putBack-one D t now p k (in-t .0 ∙ c)))
 
   undo-two : x ≢ q → T (live D now x) → T (live D now y) → x ≢ y → undoOne D t h past ≡ set (set t (prev D w x) p) (prev D w y) q
   unfolding undoOne leadOf
   undo-two c i j n =
-      rw (← now-is, ← (kind-bit h), A .known x i, A .known y j)
-      (rw (in-t .0, in-t .1) at (put-two D t now p k bit (λ e. c (sym (in-t .0) ∙ e))
+      rw (← now-is, A .known x i, A .known y j)
+      (rw (in-t .0, in-t .1) at (putBack-two D t now p k (λ e. c (sym (in-t .0) ∙ e))
       (rw (in-t .0, in-t .1, ← (A .known x i), ← (A .known y j)) (λ e. n (sym (prev-leads A x i) ∙ ap (successor w) e ∙ prev-leads A y j)))))
 
   -- p and q lead where they did
@@ -219,23 +213,22 @@ module _ {D n : ℕ} {w : List ℕ} (A : Area D (suc n) w) where
   abbrev put : ℕ → ℕ → List ℕ
   put a b = inserted D w p q (successor w p) (successor w q) a b
 
-  back-one : x ≡ q → T (live D now y) → Rebound D past w (put (prev D w y) (single k p q)) (undoOne D t h past)
-  unfolding single first
+  back-one : x ≡ q → T (live D now y) → Rebound D past w (put (prev D w y) (near k p q)) (undoOne D t h past)
   back-one c l = subst (Rebound D past w (put a b)) same (inserted-rebound (gap-one c l))
     where
       a : ℕ
       a = prev D w y
 
       b : ℕ
-      b = first k p q
+      b = near k p q
 
       not-a : {z : ℕ} → End p z → z ≢ a
       not-a m e = now-live a .0 (prev-live A y l) .1 (rw e at m)
 
       same : set (set (set (set t a p) b q) p (successor w p)) q (successor w q) ≡ undoOne D t h past
       same =
-          let i : successor t b ≡ q = successor-in D w b (of-both (λ z. z < D) k p q pD qD .0) ∙ sym (first-of k (successor w) p q) ∙ c in
-          rw (set-back (set t a p) b q (set-else t a p b (not-a (first-end k p)) ∙ i))
+          let i : successor t b ≡ q = successor-in D w b (near-far (λ z. z < D) k pD qD .0) ∙ sym (near-of k (successor w) p q) ∙ c in
+          rw (set-back (set t a p) b q (set-else t a p b (not-a (near-end k p .0)) ∙ i))
           (written (set t a p) (set-else t a p p (not-a (inl refl))) (set-else t a p q (not-a (inr refl))) ∙ sym (undo-one c l))
 
   back-two : x ≢ q → T (live D now x) → T (live D now y) → x ≢ y → Rebound D past w (put (prev D w x) (prev D w y)) (undoOne D t h past)

@@ -1,16 +1,13 @@
--- An edge that the sweep takes.
---   takes-in   == the work area tells
---   taken-live == it survives
+-- The work area tells which edges the sweep takes.
 use mathlib.Core.List.{List}
 use mathlib.Core.Path.{_≡_}
 use Prim.Native.Nat.{ℕ, _+_, _*_, _/_, _<_}
 use native.Mathlib.Omega.{arith}
-use lib.Dec.{T, ltb, lt→ltb}
-use Rattle.permutations.specs.Choice.{T→true, and-left}
-use Rattle.darts.specs.Map.{survives, live}
+use lib.Dec.{ltb, lt→ltb}
+use Rattle.permutations.specs.Choice.{T→true}
+use Rattle.darts.specs.Map.{live}
 use Rattle.darts.specs.Operation.{wholeEdge}
 use Rattle.darts.specs.Levels.{emptyLoop, takes}
-use Rattle.darts.proofs.Standing.{live-iff}
 use Rattle.area.specs.Area.{tableIn, pastIn}
 use Rattle.engine.specs.Held.{Area}
 use Rattle.engine.specs.Sweep.{takesIn}
@@ -26,7 +23,3 @@ takes-in {D} {n} {w} A e h =
       successor-in D w (2 * e) (omega arith),
       successor-in D w (2 * e + 1) (omega arith),
     )
-
-pub taken-live : (D : ℕ) (t past : List ℕ) (e : ℕ) → e < D / 2 → T (takes t past e) → T (live D past (2 * e))
-unfolding takes
-taken-live D t past e h k = live-iff D past (2 * e) .1 (omega arith, and-left (survives past (2 * e)) _ k)

@@ -6,7 +6,7 @@ use area::cycles::replay;
 use area::load::load;
 use area::load::relink;
 use area::shape::shape;
-use area::slices::at;
+use slices::at;
 ghost use mathlib.Core.Path.{_≡_};
 ghost use Prim.Native.Nat.{_/_, _≤_};
 ghost use lib.ListN.{length};

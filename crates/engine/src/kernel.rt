@@ -1,13 +1,27 @@
-// A kernel's edges, each judged on the map as it stands at its turn.
+// A pass in the work area: one operation's turn, and a kernel, which takes every edge that it lists.
 use crate::Ran;
 use area::operate::do_edge;
 use area::operate::judge;
-use area::slices::at;
+use darts::Answer;
+use slices::at;
 ghost use Rattle.darts.specs.Kernel.{run as runOf};
 ghost use Rattle.darts.specs.Operation.{kindOf};
 ghost use Rattle.area.specs.Area.{tableIn, pastIn};
 ghost use Rattle.engine.specs.Held.{Ready};
-ghost use Rattle.engine.specs.Runs.{Went};
+ghost use Rattle.engine.specs.Runs.{Turned, Went};
+
+// The turn of edge e, the one at place i, after m operations: it is judged on the map as it stands, and done where it may be.
+pub(crate) fn turn(work: &mut [u32], d: usize, m: usize, k: usize, e: usize, i: usize) -> Answer
+    requires { ⌜ Ready d m k (now work) ⌝ }
+    ensures { λ r. ⌜ Turned d m k e i (now (work .entry)) (now (work .exit)) r ⌝ }
+{
+    let answer = judge(work, d, k, e, i);
+    if answer.number() != 0 {
+        return answer;
+    }
+    do_edge(work, d, m, k, e);
+    answer
+}
 
 // The kernel's operations, after n others: removals where k is 0, contractions where k is 1.
 pub fn run(work: &mut [u32], d: usize, n: usize, k: usize, kernel: &[u32]) -> Ran
@@ -20,21 +34,18 @@ pub fn run(work: &mut [u32], d: usize, n: usize, k: usize, kernel: &[u32]) -> Ra
     let mut m = n;
     while i < kernel.len() {
         let e = at(kernel, i);
-        let number = judge(work, d, k, e);
-        if number != 0 {
+        let answer = turn(work, d, m, k, e, i);
+        if answer.number() != 0 {
             return Ran {
-                number: number,
-                place: i,
+                answer: answer,
                 operations: n,
             };
         }
-        do_edge(work, d, m, k, e);
         m += 1;
         i += 1;
     }
     Ran {
-        number: 0,
-        place: 0,
+        answer: Answer::Done(0),
         operations: m,
     }
 }

@@ -6,10 +6,11 @@ pub mod store;
 pub mod sweep;
 pub mod undo;
 
-// How a run of operations went: 0 and the operations there are then, or the number and the place of the answer that stopped it.
+use darts::Answer;
+
+// How a run of operations went: done, and the operations there are then, or the answer that stopped it.
 pub struct Ran {
-    pub number: u32,
-    pub place: usize,
+    pub answer: Answer,
     pub operations: usize,
 }
 

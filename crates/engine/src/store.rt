@@ -1,10 +1,10 @@
 // From the work area back into the lent table and history.
-use area::slices::copy;
+use slices::copy;
 ghost use mathlib.Core.Path.{_≡_};
 ghost use Prim.Native.Nat.{_≤_, _+_, _*_};
 ghost use lib.ListN.{length};
-ghost use Rattle.darts.specs.Calls.{over};
-ghost use Rattle.forest.specs.Part.{part};
+ghost use Rattle.slices.specs.Over.{over};
+ghost use Rattle.slices.specs.Part.{part};
 ghost use Rattle.area.specs.Area.{Room, tableIn};
 
 // The table of d numbers and the m history numbers are written over the first ones of the lent slices.

@@ -1,8 +1,8 @@
 // The sweep: a removal kernel that chooses its own edges.
 use crate::Ran;
-use area::operate::do_edge;
-use area::slices::at;
-use area::trees::together;
+use crate::kernel::turn;
+use darts::Answer;
+use slices::at;
 ghost use mathlib.Core.Path.{_≡_};
 ghost use Prim.Native.Nat.{_/_, _<_};
 ghost use Rattle.darts.specs.Levels.{swept};
@@ -30,7 +30,7 @@ fn takes(work: &[u32], d: usize, e: usize) -> bool
     s == p
 }
 
-// The sweep's removals, after n operations: one pass over the edges by rising number. An edge with one face on both sides stops it.
+// The sweep's removals, after n operations: one pass over the edges by rising number. A refused edge stops it.
 pub fn sweep(work: &mut [u32], d: usize, n: usize) -> Ran
     requires { ⌜ Ready d n 0 (now work) ⌝ }
     ensures { λ r. ⌜
@@ -41,15 +41,13 @@ pub fn sweep(work: &mut [u32], d: usize, n: usize) -> Ran
     let mut m = n;
     while e < d / 2 {
         if takes(work, d, e) {
-            if together(work, d, 2 * e, 2 * e + 1) {
-                let taken = m - n;
+            let answer = turn(work, d, m, 0, e, m - n);
+            if answer.number() != 0 {
                 return Ran {
-                    number: 10,
-                    place: taken,
+                    answer: answer,
                     operations: n,
                 };
             }
-            do_edge(work, d, m, 0, e);
             m += 1;
             e += 1;
         } else {
@@ -57,8 +55,7 @@ pub fn sweep(work: &mut [u32], d: usize, n: usize) -> Ran
         }
     }
     Ran {
-        number: 0,
-        place: 0,
+        answer: Answer::Done(0),
         operations: m,
     }
 }

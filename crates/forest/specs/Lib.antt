@@ -7,4 +7,3 @@ pub mod Forest
 pub mod Roots
 pub mod Joins
 pub mod Lowest
-pub mod Part

@@ -4,55 +4,40 @@
 --   unfold-held          == unfold to level k on what is held
 --   counts-held          == counts of what is held
 --   level-counts         == read, unfolded to level k and counted: the counts of level k of what the file means
-use mathlib.Core.Bool.{Bool, true, false}
+use mathlib.Core.Bool.{true}
 use mathlib.Core.List.{List, reverse, reverse-reverse}
 use mathlib.Core.Path.{_≡_, refl, sym, ap, ap₂, _∙_, subst}
-use Prim.Native.Nat.{ℕ, zero, suc, _-_, _*_, _≤_}
+use Prim.Native.Nat.{ℕ, _-_, _≤_}
 use native.Mathlib.Omega.{arith}
-use lib.Dec.{T, eqb, ltb}
-use lib.ListN.{length, take, replicate, length-append, length-drop, length-replicate, length-reverse}
-use lib.Seq.{take-at}
-use Rattle.permutations.specs.Choice.{T→true}
+use lib.Dec.{T}
+use lib.ListN.{length, take, length-reverse}
 use Rattle.darts.specs.Answers.{Answer, done}
 use Rattle.darts.specs.State.{State, gives}
-use Rattle.darts.specs.Levels.{lowered, undoLevel, undoLevels, unfoldTo}
-use Rattle.darts.specs.Pyramid.{Pyramid, dartCount, isPyramid}
+use Rattle.darts.specs.Levels.{unfoldTo}
+use Rattle.darts.specs.Pyramid.{Pyramid, dartCount}
 use Rattle.darts.specs.Counts.{countsOf, noCounts}
 use Rattle.darts.specs.Read.{Read, means, faulty, readFile, fileState}
-use Rattle.darts.specs.Calls.{leaves, room, fitting, judged, tableOf, pastOf, over, cleared, handsBack, onState, unfoldBy, counts, readInto, read}
-use Rattle.darts.proofs.Results.{refuses≢gives, then, same-result}
-use Rattle.darts.proofs.Pyramids.{pyramid-built}
-use Rattle.darts.proofs.Decided.{pyramid-decided}
-use Rattle.darts.proofs.Room.{pyramid-room}
-use Rattle.darts.proofs.Undo.{unfold-pyramid}
-use Rattle.darts.proofs.Meanings.{meaning}
-use Rattle.darts.proofs.WriteRead.{write-read}
-use Rattle.darts.proofs.Fitting.{Lengths, count-facts, room-facts, fine, fits}
-use Rattle.pyramid.proofs.OnState.{taken}
-use Rattle.pyramid.proofs.CountsEnd.{counts-given}
+use Rattle.darts.specs.Calls.{leaves, room, fitting, judged, tableOf, pastOf, cleared, handsBack, onState, unfoldBy, counts, readInto, read}
+use Rattle.slices.specs.Over.{over}
+use Rattle.darts.proofs.runs.Pyramids.{pyramid-built}
+use Rattle.darts.proofs.claims.Decided.{pyramid-decided}
+use Rattle.darts.proofs.tests.Room.{pyramid-room}
+use Rattle.darts.proofs.runs.Undo.{unfold-pyramid}
+use Rattle.darts.proofs.file.Meanings.{meaning}
+use Rattle.darts.proofs.file.WriteRead.{write-read}
+use Rattle.darts.proofs.calls.Fitting.{Lengths, room-facts, fits}
+use Rattle.darts.proofs.calls.Judging.{Lent, judged-lent, on-lent}
+use Rattle.darts.proofs.calls.Cleared.{cleared-length}
+use Rattle.darts.proofs.chained.Steps.{unfold-leads}
+use Rattle.slices.proofs.Over.{over-front, over-length}
 use Rattle.levels.specs.Report.{levelAt, countsAt, unfolded, counted, Tables, meant, topOf, countsGiven, countsOfLevel}
-
--- ---- numbers written over the first ones of a slice
-
-over-take : (new old : List ℕ) (n : ℕ) → length new ≡ n → take n (over new old) ≡ new
-unfolding over
-over-take new old n e = take-at new _ n e
-
-over-length : (new old : List ℕ) → length new ≤ length old → length (over new old) ≡ length old
-unfolding over
-over-length new old h = simp (length-append, length-drop) (omega arith)
-
-cleared-length : (D : ℕ) (w : List ℕ) → 4 * D ≤ length w → length (cleared D w) ≡ length w
-unfolding cleared
-cleared-length D w h = over-length (replicate (4 * D) 0) w (rw length-replicate h)
 
 -- ---- slices that hold a pyramid
 
 record Holds (s : State) (u past t h w : List ℕ) : Type 0 where
-  fits : fitting (s .darts) (length t) (length h) (length w) .number ≡ 0
+  lent : Lent s t h w
   table : tableOf s t ≡ u
   history : pastOf s h ≡ past
-  pyramid : isPyramid s (tableOf s t) (pastOf s h) ≡ true
 
 module _ {s : State} {u past : List ℕ} (P : Pyramid s u past) where
   stored : (t h w v : List ℕ) → Lengths (s .darts) (length t) (length h) (length w) → length v ≡ length w
@@ -61,19 +46,18 @@ module _ {s : State} {u past : List ℕ} (P : Pyramid s u past) where
   stored t h w v L e =
       let B = pyramid-built P in
       let size = B .standing .size in
-      let count = B .layered .count in
+      let count : length (reverse past) ≡ s .operations = length-reverse past ∙ sym (B .layered .count) in
       let some = pyramid-room P in
       let back = length-reverse past in
       let kept : length (over u t) ≡ length t = over-length u t (omega (arith, L .table)) in
       let kept′ : length (over (reverse past) h) ≡ length h = over-length (reverse past) h (omega (arith, L .history)) in
-      let front : take (s .darts) (over u t) ≡ u = over-take u t (s .darts) size in
-      let front′ : reverse (take (s .operations) (over (reverse past) h)) ≡ past =
-      ap reverse (over-take (reverse past) h (s .operations) (omega arith)) ∙ reverse-reverse past in
+      let front : take (s .darts) (over u t) ≡ u = rw (← size) (over-front u t) in
+      let numbers : take (s .operations) (over (reverse past) h) ≡ reverse past = rw (← count) (over-front (reverse past) h) in
+      let front′ : reverse (take (s .operations) (over (reverse past) h)) ≡ past = ap reverse numbers ∙ reverse-reverse past in
       record {
-        fits = rw (kept, kept′, e) (ap (λ a. a .number) (sym (fine (s .darts) (length t) (length h) (length w) (count-facts (s .darts) (P .count)) L)));
+        lent = record { pyramid = rw (front, front′) P; lengths = rw (kept, kept′, e) L };
         table = front;
         history = front′;
-        pyramid = rw (front, front′) (T→true (isPyramid s u past) (pyramid-decided s u past .1 P));
       }
 
 module _ {s : State} {u past t h w : List ℕ} (H : Holds s u past t h w) where
@@ -81,35 +65,11 @@ module _ {s : State} {u past t h w : List ℕ} (H : Holds s u past t h w) where
       → unfoldBy k s t h w ≡ leaves done z (over v t) (over (reverse new) h) (cleared (s .darts) w)
   unfolding unfoldBy handsBack
   unfold-held k e =
-      taken (unfoldTo k) s t h w (H .fits) (H .pyramid) ∙ ap (handsBack s t h w) (ap₂ (unfoldTo k s) (H .table) (H .history) ∙ e)
+      on-lent s t h w (unfoldTo k) (H .lent) ∙ ap (handsBack s t h w) (ap₂ (unfoldTo k s) (H .table) (H .history) ∙ e)
 
   counts-held : counts s t h w .counts ≡ countsOf (s .darts) u past
-  counts-held = ap (λ c. c .counts) (counts-given s t h w (H .fits) (H .pyramid)) ∙ ap₂ (countsOf (s .darts)) (H .table) (H .history)
-
--- ---- unfold keeps the darts
-
-undo-darts : (s : State) (t past : List ℕ) {z : State} {u new : List ℕ} → undoLevel s t past ≡ gives z u new → z .darts ≡ s .darts
-unfolding undoLevel lowered
-undo-darts s t past {z} e = go (eqb (s .levels) 0) refl
-  where
-    go : (b : Bool) → eqb (s .levels) 0 ≡ b → z .darts ≡ s .darts
-    go true h = absurd (refuses≢gives (rw h at e))
-    go false h = same-result (λ z _ _. z .darts ≡ s .darts) (rw h at e) refl
-
-undo-levels-darts : (n : ℕ) (s : State) (t past : List ℕ) {z : State} {u new : List ℕ} → undoLevels n s t past ≡ gives z u new → z .darts ≡ s .darts
-unfolding undoLevels
-undo-levels-darts zero s t past e = same-result (λ z _ _. z .darts ≡ s .darts) e refl
-undo-levels-darts (suc n) s t past e =
-    let first = then (undoLevel s t past) (undoLevels n) e in
-    undo-levels-darts n (first .state) (first .table) (first .past) (first .next) ∙ undo-darts s t past (first .first)
-
-unfold-darts : (k : ℕ) (s : State) (t past : List ℕ) {z : State} {u new : List ℕ} → unfoldTo k s t past ≡ gives z u new → z .darts ≡ s .darts
-unfolding unfoldTo
-unfold-darts k s t past {z} e = go (ltb (s .levels) k) refl
-  where
-    go : (b : Bool) → ltb (s .levels) k ≡ b → z .darts ≡ s .darts
-    go true h = absurd (refuses≢gives (rw h at e))
-    go false h = undo-levels-darts (s .levels - k) s t past (rw h at e)
+  unfolding counts
+  counts-held = rw (judged-lent s t h w (H .lent)) (ap₂ (countsOf (s .darts)) (H .table) (H .history))
 
 -- ---- read, unfolded, counted
 
@@ -123,8 +83,8 @@ module _ {s : State} {u past : List ℕ} (P : Pyramid s u past) (t h w : List �
       let v = cleared (s .darts) w in
       let size = cleared-length (s .darts) w (L .work) in
       let H = stored P t h w v L size in
-      let L′ = fits _ _ _ _ (H .fits) .lengths in
-      let below : Lengths (S .state .darts) (length (over u t)) (length (over (reverse past) h)) (length v) = rw (unfold-darts k s u past e) L′ in
+      let L′ = H .lent .lengths in
+      let below : Lengths (S .state .darts) (length (over u t)) (length (over (reverse past) h)) (length v) = rw (unfold-leads k .darts e) L′ in
       ap (λ a. counted a .counts) (unfold-held H k e)
       ∙ counts-held (stored (unfold-pyramid P k e) (over u t) (over (reverse past) h) v (cleared (s .darts) v) below (cleared-length (s .darts) v (L′ .work)))
       ∙ ap countsGiven (sym e)

@@ -12,10 +12,11 @@ use native.Mathlib.Omega.{arith}
 use Rattle.darts.specs.Counts.{Counts}
 use Rattle.darts.specs.Read.{Read, means, faulty}
 use Rattle.darts.specs.Calls.{room, readInto, read}
-use Rattle.darts.proofs.Pyramids.{pyramid-built}
-use Rattle.darts.proofs.Decided.{pyramid-decided}
-use Rattle.darts.proofs.Meanings.{meaning}
-use Rattle.pyramid.specs.Values.{answerOf, left, tallyOf, countsLeft}
+use Rattle.darts.proofs.runs.Pyramids.{pyramid-built}
+use Rattle.darts.proofs.claims.Decided.{pyramid-decided}
+use Rattle.darts.proofs.file.Meanings.{meaning}
+use Rattle.darts.specs.Cases.{answerOf}
+use Rattle.pyramid.specs.Values.{left, tallyOf, countsLeft}
 use Rattle.pyramid.specs.declared.Outcome.{Outcome}
 use Rattle.pyramid.specs.declared.Counted.{Counted}
 use Rattle.levels.specs.Report.{countsAt, Tables, meant, answerTo, topOf, Refused, Accepted, LineOf, AllLines}

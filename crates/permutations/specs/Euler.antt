@@ -179,11 +179,11 @@ run-total count w step {m} G (a ∷ l) h =
     let k = run-total count w step (good-act G a (h .0)) l (h .1) in
     omega arith
 
-act-vertices : {D : ℕ} (m : Map) → Good D m → (a : Op) → Legal m a → vertices D m ≡ vertices D (act m a) + contracted a
+pub act-vertices : {D : ℕ} (m : Map) → Good D m → (a : Op) → Legal m a → vertices D m ≡ vertices D (act m a) + contracted a
 act-vertices m G (Contract p) l = let e = contract-vertices G p l in omega arith
 act-vertices m G (Remove p) l = let e = remove-vertices G p l in omega arith
 
-act-faces : {D : ℕ} (m : Map) → Good D m → (a : Op) → Legal m a → faces D m ≡ faces D (act m a) + removed a
+pub act-faces : {D : ℕ} (m : Map) → Good D m → (a : Op) → Legal m a → faces D m ≡ faces D (act m a) + removed a
 act-faces m G (Contract p) l = let e = contract-faces G p l in omega arith
 act-faces m G (Remove p) l = let e = remove-faces G p l in omega arith
 

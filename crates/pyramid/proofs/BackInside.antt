@@ -1,54 +1,53 @@
--- Undo and unfold between the check and the store.
+-- Unfold between the judging and the store, and undo as unfold.
+--   no-level-above  == there is no level k above the top
 --   stacked-of      == a work area that was checked holds the pyramid
---   undo-stepped    == one level less in the work area is undo's own step
 --   unfold-stepped  == down to level k in the work area is unfold's own step
 --   store-fits      == what is stored then fits the lent slices
-use mathlib.Core.Bool.{true}
+--   undo-by-unfold  == undo is unfold to the level below
 use mathlib.Core.List.{List}
 use mathlib.Core.Path.{_≡_, refl, sym, ap, ap₂, _∙_}
 use Prim.Native.Nat.{ℕ, _-_, _≤_, _<_}
 use native.Mathlib.Omega.{arith}
-use borrow.Author.Tests.{eq-eqb, lt-ltb, le-ltb}
-use Rattle.darts.specs.Answers.{noLevel}
+use borrow.Author.Tests.{lt-ltb, le-ltb}
+use lib.Dec.{eqb}
+use lib.ListN.{length}
+use Rattle.permutations.specs.Choice.{pick}
+use Rattle.darts.specs.Answers.{Answer, noLevel}
 use Rattle.darts.specs.State.{State, gives, refuses}
-use Rattle.darts.specs.Levels.{undoLevel, undoLevels, unfoldTo}
-use Rattle.darts.specs.Calls.{fitting, tableOf, pastOf}
+use Rattle.darts.specs.Levels.{undoLevels, unfoldTo}
+use Rattle.darts.specs.Calls.{tableOf, pastOf, onState, undoBy, unfoldBy}
+use Rattle.darts.proofs.runs.Undo.{undo-is-unfold}
 use Rattle.area.specs.Area.{Room, tableIn, pastIn}
-use Rattle.engine.specs.Checks.{Checked}
 use Rattle.engine.proofs.Checking.{checked-pyramid}
-use Rattle.pyramid.specs.Steps.{Stacked, Lowered, Unfolded}
-use Rattle.darts.proofs.Fitting.{fits}
-
-pub no-level-below : (s : State) (t past : List ℕ) → s .levels ≡ 0 → undoLevel s t past ≡ refuses (noLevel 0)
-unfolding undoLevel
-no-level-below s t past e = rw (eq-eqb (s .levels) 0 e)
+use Rattle.pyramid.specs.Steps.{Judged, Stacked, Unfolded}
+use Rattle.pyramid.proofs.Judges.{lent-of}
 
 pub no-level-above : (k : ℕ) (s : State) (t past : List ℕ) → s .levels < k → unfoldTo k s t past ≡ refuses (noLevel (s .levels))
 unfolding unfoldTo
 no-level-above k s t past h = rw (lt-ltb (s .levels) k h)
 
-module _ (s : State) (t h w v : List ℕ) (C : Checked (s .darts) (s .operations) (s .levels) (s .ends) 2 t h w v true) where
+module _ {s : State} {j : ℕ} {t h w v : List ℕ} {a : Answer} (J : Judged s j t h w v a) (fine : a .number ≡ 0) where
   pub stacked-of : Stacked s v
-  stacked-of = record { pyramid = rw (C .table refl, C .past refl) (checked-pyramid C refl); area = C .area refl }
-
-  pub undo-stepped : {z : State} {u : List ℕ} → Lowered s z v u
-      → undoLevel s (tableOf s t) (pastOf s h) ≡ gives z (tableIn (s .darts) u) (pastIn (s .darts) (z .operations) u)
-  unfolding tableOf pastOf
-  undo-stepped {z} {u} L =
-      ap₂ (undoLevel s) (sym (C .table refl)) (sym (C .past refl)) ∙ L .step
-      ∙ ap (λ (d : ℕ). gives z (tableIn d u) (pastIn d (z .operations) u)) (L .darts)
+  stacked-of =
+      let C = J .checked fine in
+      record { pyramid = rw (C .table refl, C .past refl) (checked-pyramid C refl); area = C .area refl }
 
   pub unfold-stepped : (k : ℕ) {z : State} {u : List ℕ} → k ≤ s .levels → Unfolded k s z v u
       → unfoldTo k s (tableOf s t) (pastOf s h) ≡ gives z (tableIn (s .darts) u) (pastIn (s .darts) (z .operations) u)
   unfolding unfoldTo tableOf pastOf
   unfold-stepped k {z} {u} l U =
+      let C = J .checked fine in
       rw (le-ltb (s .levels) k l)
       (ap₂ (undoLevels (s .levels - k) s) (sym (C .table refl)) (sym (C .past refl)) ∙ U .step
       ∙ ap (λ (d : ℕ). gives z (tableIn d u) (pastIn d (z .operations) u)) (U .darts))
 
-pub store-fits : (s z : State) (t h wl : ℕ) (u : List ℕ) → fitting (s .darts) t h wl .number ≡ 0 → Stacked z u → z .darts ≡ s .darts
-    → Room (s .darts) u × ((z .operations ≤ s .darts) × (s .darts ≤ t) × (z .operations ≤ h))
-store-fits s z t h wl u e S d =
-    let f = fits (s .darts) t h wl e in
-    let a = S .area .few in
-    (rw d at (S .area .room), (omega (arith, a, d), f .lengths .table, omega (arith, a, d, f .lengths .history)))
+  pub store-fits : {k : ℕ} {z : State} {u : List ℕ} → Unfolded k s z v u
+      → Room (s .darts) u × ((z .operations ≤ s .darts) × (s .darts ≤ length t) × (z .operations ≤ length h))
+  store-fits U =
+      let l = lent-of J fine .lengths in
+      let f = U .stacked .area .few in
+      (rw (U .darts) at (U .stacked .area .room), (omega (arith, f, U .darts), l .table, omega (arith, f, U .darts, l .history)))
+
+pub undo-by-unfold : {k : ℕ} (s : State) (t h w : List ℕ) → k ≡ pick (eqb (s .levels) 0) 1 (s .levels - 1) → unfoldBy k s t h w ≡ undoBy s t h w
+unfolding unfoldBy undoBy onState
+undo-by-unfold s t h w e = rw (e, ← (undo-is-unfold s (tableOf s t) (pastOf s h)))

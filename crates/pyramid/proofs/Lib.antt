@@ -1,9 +1,10 @@
 pub mod Started
 pub mod Signed
+pub mod Judges
 pub mod OnState
 pub mod Tight
 pub mod Raising
+pub mod ByRun
 pub mod Lowering
 pub mod CountsEnd
-pub mod Inside
 pub mod BackInside

@@ -1,58 +1,65 @@
--- The ways that a call on a state ends.
---   first-refused == 1 or 2: nothing is written
---   no-pyramid    == 4
---   step-refused  == the step refuses
---   step-given    == the step gives a state, a table and a past
-use mathlib.Core.Bool.{true, false}
-use mathlib.Core.List.{List, reverse}
+-- The ways that a call on a state ends: refused as it is judged, or by its act in the work area, which is cleared last, so that only its numbers from 4D on
+-- matter.
+--   Plain r      == the result r is no refusal by 1 or 2
+--   call-refused == 1, 2 or 4
+--   act-ends     == what the act leaves is what its step gives
+--   act-refused  == the step refuses
+--   act-given    == the step gives what the work area holds
+use mathlib.Core.List.{List, reverse-reverse}
 use mathlib.Core.Logic.{_≢_}
 use mathlib.Core.Path.{_≡_, sym, ap, _∙_}
-use Prim.Native.Nat.{ℕ}
-use borrow.Author.Tests.{eq-eqb, ne-eqb}
-use lib.ListN.{length}
-use Rattle.darts.specs.Answers.{Answer as Answered, done, noPyramid}
-use Rattle.darts.specs.State.{State as Stated, Result, gives, refuses}
-use Rattle.darts.specs.Pyramid.{isPyramid}
-use Rattle.darts.specs.Calls.{fitting, judged, tableOf, pastOf, over, cleared, workAfter, handsBack, onState}
+use Prim.Native.Nat.{ℕ, _+_, _*_}
+use borrow.Author.Tests.{ne-eqb}
+use Rattle.slices.specs.Over.{over}
+use Rattle.slices.specs.Part.{part}
+use Rattle.darts.specs.Answers.{Answer, done}
+use Rattle.darts.specs.State.{State, Result, gives, refuses}
+use Rattle.darts.specs.Calls.{After, tableOf, pastOf, cleared, workAfter, handsBack, onState}
+use Rattle.darts.proofs.calls.Cleared.{cleared-kept}
+use Rattle.darts.proofs.calls.Judging.{on-refused, on-lent}
+use Rattle.area.specs.Area.{tableIn, pastIn}
+use Rattle.engine.specs.Held.{Beyond}
+use Rattle.pyramid.specs.Steps.{Judged}
 use Rattle.pyramid.specs.Values.{left, Hands}
-use Rattle.darts.proofs.Fitting.{first-keeps}
-use Rattle.darts.proofs.Judging.{judged-unfit, judged-fit}
-use Rattle.pyramid.proofs.Started.{hands}
 use Rattle.pyramid.specs.declared.Outcome.{Outcome}
+use Rattle.pyramid.proofs.Judges.{lent-of}
+use Rattle.pyramid.proofs.Started.{hands}
 
-pub first-refused : (step : Stated → List ℕ → List ℕ → Result) (s : Stated) (t h w : List ℕ) (o : Outcome)
-    → fitting (s .darts) (length t) (length h) (length w) .number ≢ 0
-    → Hands o (fitting (s .darts) (length t) (length h) (length w)) s → left o t h w ≡ onState step s t h w
-unfolding onState handsBack
-first-refused step s t h w o n H =
-    hands o H t h w
-    ∙ sym (rw (judged-unfit s t h w n, ne-eqb _ 0 n, first-keeps (s .darts) (length t) (length h) (length w) n (s .darts) w))
+abbrev pub Plain : Result → Type 0
+Plain (gives s t past) = Unit {0}
+Plain (refuses a) = (a .number ≢ 1) × (a .number ≢ 2)
 
-module _ (step : Stated → List ℕ → List ℕ → Result) (s : Stated) (t h w : List ℕ) (fits : fitting (s .darts) (length t) (length h) (length w) .number ≡ 0) where
+hands-kept : (s : State) (t h w v : List ℕ) (x : Result) → Plain x → cleared (s .darts) v ≡ cleared (s .darts) w → handsBack s t h v x ≡ handsBack s t h w x
+unfolding handsBack workAfter
+hands-kept s t h w v (gives z u past) p e = rw e
+hands-kept s t h w v (refuses a) p e = rw (ne-eqb (a .number) 1 (p .0), ne-eqb (a .number) 2 (p .1), e)
+
+module _ (step : State → List ℕ → List ℕ → Result) {s : State} {k : ℕ} {t h w v : List ℕ} {a : Answer} (J : Judged s k t h w v a) where
+  abbrev D : ℕ
+  D = s .darts
+
   abbrev found : Result
   found = step s (tableOf s t) (pastOf s h)
 
-  module _ (no : isPyramid s (tableOf s t) (pastOf s h) ≡ false) where
-    pub no-pyramid : (o : Outcome) → Hands o noPyramid s → left o t h (cleared (s .darts) w) ≡ onState step s t h w
-    unfolding onState handsBack workAfter
-    no-pyramid o H = hands o H t h (cleared (s .darts) w) ∙ rw (judged-fit s t h w fits false no)
+  pub call-refused : a .number ≢ 0 → (o : Outcome) → Hands o a s → left o t h v ≡ onState step s t h w
+  unfolding handsBack
+  call-refused n o H =
+      hands o H t h v
+      ∙ rw (J .refused n, J .answer) (sym (on-refused s t h w step (λ e. n (ap (λ (b : Answer). b .number) (J .answer) ∙ e))))
 
-  module _ (yes : isPyramid s (tableOf s t) (pastOf s h) ≡ true) where
-    judged-yes : judged s t h w .number ≡ 0
-    judged-yes = ap (λ (a : Answered). a .number) (judged-fit s t h w fits true yes)
+  module _ (fine : a .number ≡ 0) {u : List ℕ} (B : Beyond D v u) where
+    pub act-ends : {x : After} {y : Result} → found ≡ y → Plain y → x ≡ handsBack s t h u y → x ≡ onState step s t h w
+    act-ends {y = y} e p L =
+        L ∙ hands-kept s t h w u y p (cleared-kept D w u (B .rest ∙ J .checked fine .beyond .rest))
+        ∙ sym (on-lent s t h w step (lent-of J fine) ∙ ap (handsBack s t h w) e)
 
-    pub taken : onState step s t h w ≡ handsBack s t h w found
-    unfolding onState
-    taken = rw (eq-eqb (judged s t h w .number) 0 judged-yes)
-
-    pub step-refused : (o : Outcome) (a : Answered) → found ≡ refuses a → a .number ≢ 1 → a .number ≢ 2 → Hands o a s
-        → left o t h (cleared (s .darts) w) ≡ onState step s t h w
+    pub act-refused : (o : Outcome) {b : Answer} → found ≡ refuses b → Plain (refuses b) → Hands o b s → left o t h (cleared D u) ≡ onState step s t h w
     unfolding handsBack workAfter
-    step-refused o a e n1 n2 H =
-        hands o H t h (cleared (s .darts) w) ∙ sym (taken ∙ ap (handsBack s t h w) e ∙ rw (ne-eqb (a .number) 1 n1, ne-eqb (a .number) 2 n2))
+    act-refused o {b} e p H =
+        act-ends e p (hands o H t h (cleared D u) ∙ sym (rw (ne-eqb (b .number) 1 (p .0), ne-eqb (b .number) 2 (p .1))))
 
-    pub step-given : (o : Outcome) {z : Stated} {u past : List ℕ} → found ≡ gives z u past → Hands o done z
-        → left o (over u t) (over (reverse past) h) (cleared (s .darts) w) ≡ onState step s t h w
+    pub act-given : (o : Outcome) {z : State} → found ≡ gives z (tableIn D u) (pastIn D (z .operations) u) → Hands o done z
+        → left o (over (tableIn D u) t) (over (part (3 * D) (3 * D + z .operations) u) h) (cleared D u) ≡ onState step s t h w
     unfolding handsBack
-    step-given o {z} {u} {past} e H =
-        hands o H (over u t) (over (reverse past) h) (cleared (s .darts) w) ∙ sym (taken ∙ ap (handsBack s t h w) e)
+    act-given o {z} e H =
+        rw (← (reverse-reverse (part (3 * D) (3 * D + z .operations) u))) (act-ends e tt (hands o H _ _ (cleared D u)))

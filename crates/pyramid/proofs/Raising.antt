@@ -9,10 +9,12 @@ use Prim.Native.Nat.{ℕ, _+_, _*_}
 use native.Mathlib.Omega.{arith}
 use borrow.Author.Tests.{eq-eqb, ne-eqb}
 use lib.ListN.{length, take, length-take, length-reverse}
-use Rattle.forest.specs.Part.{part}
-use Rattle.darts.specs.Answers.{Answer as Answered, answered, done, emptyKernel}
+use Rattle.slices.specs.Part.{part}
+use Rattle.darts.specs.Answers.{Answer as Answered, done, emptyKernel}
+use Rattle.darts.specs.Cases.{answerOf}
 use Rattle.darts.specs.State.{State as Stated, raised, levelled, refuses}
-use Rattle.darts.specs.Calls.{leaves, handsBack, workAfter, pastOf, over, cleared}
+use Rattle.darts.specs.Calls.{leaves, handsBack, workAfter, pastOf, cleared}
+use Rattle.slices.specs.Over.{over}
 use Rattle.area.specs.Area.{tableIn, pastIn}
 use Rattle.engine.specs.Runs.{ranIn}
 use Rattle.engine.specs.declared.Ran.{Ran}
@@ -32,6 +34,9 @@ module _ (s : Stated) (r : Ran) (t h w : List ℕ) (H : Halts s r w (length t) (
   abbrev D : ℕ
   D = s .darts
 
+  abbrev said : Answered
+  said = answerOf (r .answer)
+
   abbrev past : List ℕ
   past = pastOf s h
 
@@ -45,21 +50,21 @@ module _ (s : Stated) (r : Ran) (t h w : List ℕ) (H : Halts s r w (length t) (
   new-count : length (pastIn D (r .operations) w) ≡ r .operations
   new-count = let a = H .after in let f = H .room .fits in past-length D (r .operations) w (omega arith)
 
-  pub level-stops : (o : Outcome) → r .number ≢ 0 → Hands o (answered (r .number) (r .place)) s
+  pub level-stops : (o : Outcome) → said .number ≢ 0 → Hands o said s
       → left o t h (cleared D w) ≡ handsBack s t h w (levelled s past (ranIn D w r))
   unfolding levelled ranIn
   level-stops o n G =
       let e = H .answer n in
       hands o G t h (cleared D w)
-      ∙ sym (rw (ne-eqb (r .number) 0 n) (refused-clears s t h w (answered (r .number) (r .place)) (λ z. omega arith) (λ z. omega arith)))
+      ∙ sym (rw (ne-eqb (said .number) 0 n) (refused-clears s t h w said (λ z. omega arith) (λ z. omega arith)))
 
-  module _ (fine : r .number ≡ 0) where
+  module _ (fine : said .number ≡ 0) where
     pub level-empty : (o : Outcome) → r .operations ≡ s .operations → Hands o emptyKernel s
         → left o t h (cleared D w) ≡ handsBack s t h w (levelled s past (ranIn D w r))
     unfolding levelled ranIn
     level-empty o e G =
         hands o G t h (cleared D w)
-        ∙ sym (rw (eq-eqb (r .number) 0 fine, eq-eqb (length (pastIn D (r .operations) w)) (length past) (new-count ∙ e ∙ sym past-count))
+        ∙ sym (rw (eq-eqb (said .number) 0 fine, eq-eqb (length (pastIn D (r .operations) w)) (length past) (new-count ∙ e ∙ sym past-count))
         (refused-clears s t h w emptyKernel (λ z. omega arith) (λ z. omega arith)))
 
     pub level-raised : (o : Outcome) → r .operations ≢ s .operations → Hands o done (raised s (r .operations))
@@ -69,7 +74,7 @@ module _ (s : Stated) (r : Ran) (t h w : List ℕ) (H : Halts s r w (length t) (
     level-raised o n G =
         hands o G _ _ (cleared D w)
         ∙ sym (rw (
-          eq-eqb (r .number) 0 fine,
+          eq-eqb (said .number) 0 fine,
           ne-eqb (length (pastIn D (r .operations) w)) (length past) (λ e. n (sym new-count ∙ e ∙ past-count)),
           new-count,
           reverse-reverse (part (3 * D) (3 * D + r .operations) w),

@@ -10,10 +10,11 @@ use lib.Dec.{eqb}
 use Rattle.darts.specs.Answers.{Answer as Answered}
 use Rattle.darts.specs.Choose.{if_then_else_}
 use Rattle.darts.specs.Calls.{After, Counted as CountsAfter}
-use Rattle.pyramid.specs.Values.{answerOf, stateOf, left, countsLeft}
+use Rattle.darts.specs.Cases.{answerOf}
+use Rattle.pyramid.specs.Values.{stateOf, left, countsLeft}
 use Rattle.pyramid.specs.declared.State.{State}
-use Rattle.pyramid.specs.declared.Answer.{Answer}
-use Rattle.pyramid.specs.declared.Answer.the-variants.{Done, NoDartCount, TooShort, NoPermutation, NoPyramid, EmptyKernel, TooManyLevels, NoEdge, GoneAlready, OneVertex, OneFace, WholePiece, NoLevel, NoFile, NoFlag}
+use Rattle.darts.specs.declared.Answer.{Answer}
+use Rattle.darts.specs.declared.Answer.the-variants.{Done, NoDartCount, TooShort, NoPermutation, NoPyramid, EmptyKernel, TooManyLevels, NoEdge, GoneAlready, OneVertex, OneFace, WholePiece, NoLevel, NoFile, NoFlag}
 use Rattle.pyramid.specs.declared.Outcome.{Outcome}
 use Rattle.pyramid.specs.declared.Counted.{Counted}
 

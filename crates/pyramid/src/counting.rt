@@ -3,14 +3,11 @@ use crate::Answer;
 use crate::Counted;
 use crate::Counts;
 use crate::State;
-use crate::answers::fit;
 use area::base::clear;
-use engine::check::check;
 use engine::counting::cycles;
 ghost use mathlib.Core.Path.{_≡_};
 ghost use Prim.Native.Nat.{_≤_};
-ghost use lib.ListN.{length};
-ghost use Rattle.darts.specs.Calls.{counts as countsBy, fitting, cleared};
+ghost use Rattle.darts.specs.Calls.{counts as countsBy};
 ghost use Rattle.darts.specs.Counts.{noCounts, countsFrom};
 ghost use Rattle.pyramid.specs.Values.{stateOf, tallyOf, countsLeft};
 
@@ -47,42 +44,25 @@ fn refused(answer: Answer) -> Counted
 }
 
 impl State {
-    // The counts, before the work area is cleared.
-    fn counts_inside(self, table: &[u32], history: &[u32], work: &mut [u32]) -> Counted
-        requires { ⌜ fitting (self .darts) (length (now table)) (length (now history)) (length (now work)) .number ≡ 0 ⌝ }
-        ensures { λ r. ⌜
-            countsLeft r (now (table .entry)) (now (history .entry)) (cleared (self .darts) (now (work .exit)))
-            ≡ countsBy (stateOf self) (now (table .entry)) (now (history .entry)) (now (work .entry)) ⌝ }
-    {
-        let d = self.darts as usize;
-        let n = self.operations as usize;
-        let l = self.levels as usize;
-        let ends = self.ends;
-        if !check(work, d, n, l, ends, 2, table, history) {
-            return refused(Answer::NoPyramid);
-        }
-        let c = cycles(work, d, n);
-        let darts = (d - 2 * n) as u32;
-        let counts = tallied(darts, c.vertices as u32, c.faces as u32);
-        Counted {
-            answer: Answer::Done(0),
-            counts: counts,
-        }
-    }
-
     // Surviving darts, vertices, faces and the Euler number of the present level.
     pub fn counts(self, table: &mut [u32], history: &mut [u32], work: &mut [u32]) -> Counted
         ensures { λ r. ⌜
             countsLeft r (now (table .exit)) (now (history .exit)) (now (work .exit))
             ≡ countsBy (stateOf self) (now (table .entry)) (now (history .entry)) (now (work .entry)) ⌝ }
     {
-        let judged = fit(self.darts, table.len(), history.len(), work.len());
+        let judged = self.judged(2, table, history, work);
         if judged.number() != 0 {
             return refused(judged);
         }
         let d = self.darts as usize;
-        let c = self.counts_inside(table, history, work);
+        let n = self.operations as usize;
+        let c = cycles(work, d, n);
         clear(work, d);
-        c
+        let darts = (d - 2 * n) as u32;
+        let counts = tallied(darts, c.vertices as u32, c.faces as u32);
+        Counted {
+            answer: Answer::Done(0),
+            counts: counts,
+        }
     }
 }

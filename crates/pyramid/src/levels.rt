@@ -3,11 +3,13 @@ use crate::Answer;
 use crate::Outcome;
 use crate::State;
 ghost use mathlib.Core.Path.{_≡_};
-ghost use Prim.Native.Nat.{_≤_, _<_};
-ghost use Rattle.darts.specs.Answers.{answered};
+ghost use Prim.Native.Nat.{_-_, _≤_, _<_};
+ghost use lib.Dec.{eqb};
+ghost use Rattle.permutations.specs.Choice.{pick};
 ghost use Rattle.darts.specs.State.{raised as raisedOf};
 ghost use Rattle.darts.specs.Levels.{endBelow, lowered as loweredOf};
-ghost use Rattle.pyramid.specs.Values.{answerOf, stateOf, Hands};
+ghost use Rattle.darts.specs.Cases.{answerOf};
+ghost use Rattle.pyramid.specs.Values.{stateOf, Hands};
 
 // The state as it was given, with an answer.
 pub(crate) fn kept(state: State, answer: Answer) -> Outcome
@@ -16,20 +18,6 @@ pub(crate) fn kept(state: State, answer: Answer) -> Outcome
     Outcome {
         state: state,
         answer: answer,
-    }
-}
-
-// The answer of the edge that stopped a run.
-pub(crate) fn refusal(number: u32, place: usize) -> Answer
-    requires { ⌜ (7 ≤ number) × (number ≤ 11) ⌝ }
-    ensures { λ r. ⌜ answerOf r ≡ answered number place ⌝ }
-{
-    match number {
-        7 => Answer::NoEdge(place),
-        8 => Answer::GoneAlready(place),
-        9 => Answer::OneVertex(place),
-        10 => Answer::OneFace(place),
-        _ => Answer::WholePiece(place),
     }
 }
 
@@ -61,6 +49,16 @@ impl State {
         }
         let at = (l - 2) as usize;
         self.ends[at]
+    }
+
+    // The level below; at the base, where there is none, a level above the top.
+    pub(crate) fn level_below(self) -> u32
+        ensures { λ r. ⌜ r ≡ pick (eqb (self .levels) 0) 1 (self .levels - 1) ⌝ }
+    {
+        if self.levels == 0 {
+            return 1;
+        }
+        self.levels - 1
     }
 
     // One level less.

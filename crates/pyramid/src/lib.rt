@@ -1,12 +1,13 @@
 // The calls on a state: start, reduce, sweep, undo, unfold, counts.
-pub mod answers;
 mod counting;
+mod judging;
 mod levels;
 mod reducing;
 pub mod starting;
 mod sweeping;
 mod undoing;
 
+pub use darts::Answer;
 pub use starting::start;
 
 // D, the number of operations, the number of levels, and the operation count after each kernel, zero past the last level.
@@ -22,25 +23,6 @@ pub struct State {
 pub enum Kind {
     Contract,
     Remove,
-}
-
-// A case for each refusal, with its place where it has one.
-pub enum Answer {
-    Done(usize),
-    NoDartCount,
-    TooShort(usize),
-    NoPermutation(usize),
-    NoPyramid,
-    EmptyKernel,
-    TooManyLevels,
-    NoEdge(usize),
-    GoneAlready(usize),
-    OneVertex(usize),
-    OneFace(usize),
-    WholePiece(usize),
-    NoLevel(usize),
-    NoFile(usize),
-    NoFlag,
 }
 
 // What a call on a state hands back.

@@ -3,18 +3,15 @@ use crate::Answer;
 use crate::Kind;
 use crate::Outcome;
 use crate::State;
-use crate::answers::fit;
 use crate::levels::kept;
-use crate::levels::refusal;
 use area::base::clear;
 use engine::Ran;
-use engine::check::check;
 use engine::kernel::run;
 use engine::store::store;
 ghost use mathlib.Core.Path.{_≡_};
 ghost use Prim.Native.Nat.{_≤_};
 ghost use lib.ListN.{length};
-ghost use Rattle.darts.specs.Calls.{reduceBy, fitting, pastOf, handsBack, cleared};
+ghost use Rattle.darts.specs.Calls.{reduceBy, pastOf, handsBack, cleared};
 ghost use Rattle.darts.specs.Operation.{kindOf as kindOfBit};
 ghost use Rattle.darts.specs.State.{levelled};
 ghost use Rattle.engine.specs.Runs.{ranIn};
@@ -48,8 +45,9 @@ impl State {
     {
         let d = self.darts as usize;
         let n = self.operations as usize;
-        if ran.number != 0 {
-            return kept(self, refusal(ran.number, ran.place));
+        let answer = ran.answer;
+        if answer.number() != 0 {
+            return kept(self, answer);
         }
         let m = ran.operations;
         if m == n {
@@ -60,35 +58,6 @@ impl State {
             state: self.raised(m as u32),
             answer: Answer::Done(0),
         }
-    }
-
-    // A kernel of removals where k is 0, of contractions where k is 1, before the work area is cleared.
-    fn reduce_inside(
-        self,
-        k: usize,
-        kernel: &[u32],
-        table: &mut [u32],
-        history: &mut [u32],
-        work: &mut [u32],
-    ) -> Outcome
-        requires { ⌜ k ≤ 1 ⌝ }
-        requires { ⌜ fitting (self .darts) (length (now table)) (length (now history)) (length (now work)) .number ≡ 0 ⌝ }
-        ensures { λ r. ⌜
-            left r (now (table .exit)) (now (history .exit)) (cleared (self .darts) (now (work .exit)))
-            ≡ reduceBy (kindOfBit k) (now (kernel .entry)) (stateOf self) (now (table .entry)) (now (history .entry)) (now (work .entry)) ⌝ }
-    {
-        let d = self.darts as usize;
-        let n = self.operations as usize;
-        let l = self.levels as usize;
-        let ends = self.ends;
-        if !check(work, d, n, l, ends, k, table, history) {
-            return kept(self, Answer::NoPyramid);
-        }
-        if 64 <= l {
-            return kept(self, Answer::TooManyLevels);
-        }
-        let ran = run(work, d, n, k, kernel);
-        self.level(ran, table, history, work)
     }
 
     // One level more: the kernel's edges contracted, or removed, in the listed order.
@@ -104,12 +73,18 @@ impl State {
             left r (now (table .exit)) (now (history .exit)) (now (work .exit))
             ≡ reduceBy (kindOf kind) (now (kernel .entry)) (stateOf self) (now (table .entry)) (now (history .entry)) (now (work .entry)) ⌝ }
     {
-        let judged = fit(self.darts, table.len(), history.len(), work.len());
+        let k = bit(kind);
+        let judged = self.judged(k, table, history, work);
         if judged.number() != 0 {
             return kept(self, judged);
         }
         let d = self.darts as usize;
-        let o = self.reduce_inside(bit(kind), kernel, table, history, work);
+        if 64 <= self.levels {
+            clear(work, d);
+            return kept(self, Answer::TooManyLevels);
+        }
+        let ran = run(work, d, self.operations as usize, k, kernel);
+        let o = self.level(ran, table, history, work);
         clear(work, d);
         o
     }

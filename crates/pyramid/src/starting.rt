@@ -2,16 +2,17 @@
 use crate::Answer;
 use crate::Outcome;
 use crate::State;
-use crate::answers::fit;
 use area::base::first_bad;
+use darts::answers::fit;
 ghost use mathlib.Core.Path.{_≡_};
 ghost use Rattle.darts.specs.State.{baseState};
 ghost use Rattle.darts.specs.Calls.{start as startOf};
-ghost use Rattle.pyramid.specs.Values.{stateOf, left};
+ghost use Rattle.darts.specs.Cases.{answerOf};
+ghost use Rattle.pyramid.specs.Values.{left, Hands};
 
 // A state of d darts with no level, and an answer.
 pub fn based(darts: u32, answer: Answer) -> Outcome
-    ensures { λ r. ⌜ (stateOf (r .state) ≡ baseState darts) × (r .answer ≡ answer) ⌝ }
+    ensures { λ r. ⌜ Hands r (answerOf answer) (baseState darts) ⌝ }
 {
     let ends = [0u32; 64];
     Outcome {

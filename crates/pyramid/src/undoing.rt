@@ -2,16 +2,13 @@
 use crate::Answer;
 use crate::Outcome;
 use crate::State;
-use crate::answers::fit;
 use crate::levels::kept;
 use area::base::clear;
-use engine::check::check;
 use engine::store::store;
 use engine::undo::take_back;
 ghost use mathlib.Core.Path.{_≡_};
 ghost use Prim.Native.Nat.{_<_};
-ghost use lib.ListN.{length};
-ghost use Rattle.darts.specs.Calls.{undoBy, unfoldBy, fitting, cleared};
+ghost use Rattle.darts.specs.Calls.{undoBy, unfoldBy};
 ghost use Rattle.pyramid.specs.Steps.{Stacked, Lowered, Unfolded};
 ghost use Rattle.pyramid.specs.Values.{stateOf, left};
 
@@ -29,58 +26,6 @@ impl State {
         self.lowered()
     }
 
-    // Undo, before the work area is cleared.
-    fn undo_inside(self, table: &mut [u32], history: &mut [u32], work: &mut [u32]) -> Outcome
-        requires { ⌜ fitting (self .darts) (length (now table)) (length (now history)) (length (now work)) .number ≡ 0 ⌝ }
-        ensures { λ r. ⌜
-            left r (now (table .exit)) (now (history .exit)) (cleared (self .darts) (now (work .exit)))
-            ≡ undoBy (stateOf self) (now (table .entry)) (now (history .entry)) (now (work .entry)) ⌝ }
-    {
-        let d = self.darts as usize;
-        let n = self.operations as usize;
-        let l = self.levels as usize;
-        let ends = self.ends;
-        if !check(work, d, n, l, ends, 2, table, history) {
-            return kept(self, Answer::NoPyramid);
-        }
-        if l == 0 {
-            return kept(self, Answer::NoLevel(0));
-        }
-        let s = self.lower(work);
-        let m = s.operations as usize;
-        store(work, d, m, table, history);
-        kept(s, Answer::Done(0))
-    }
-
-    // Unfold, before the work area is cleared.
-    fn unfold_inside(
-        self,
-        level: u32,
-        table: &mut [u32],
-        history: &mut [u32],
-        work: &mut [u32],
-    ) -> Outcome
-        requires { ⌜ fitting (self .darts) (length (now table)) (length (now history)) (length (now work)) .number ≡ 0 ⌝ }
-        ensures { λ r. ⌜
-            left r (now (table .exit)) (now (history .exit)) (cleared (self .darts) (now (work .exit)))
-            ≡ unfoldBy level (stateOf self) (now (table .entry)) (now (history .entry)) (now (work .entry)) ⌝ }
-    {
-        let d = self.darts as usize;
-        let n = self.operations as usize;
-        let top = self.levels;
-        let ends = self.ends;
-        if !check(work, d, n, top as usize, ends, 2, table, history) {
-            return kept(self, Answer::NoPyramid);
-        }
-        if top < level {
-            return kept(self, Answer::NoLevel(top as usize));
-        }
-        let s = self.unfolded(level, work);
-        let m = s.operations as usize;
-        store(work, d, m, table, history);
-        kept(s, Answer::Done(0))
-    }
-
     // Level after level taken back in the work area, down to this one.
     fn unfolded(self, level: u32, work: &mut [u32]) -> State
         requires { ⌜ Stacked (stateOf self) (now work) ⌝ }
@@ -95,22 +40,6 @@ impl State {
         s
     }
 
-    // The last level undone: the state and every entry of the table as they were before its kernel.
-    pub fn undo(self, table: &mut [u32], history: &mut [u32], work: &mut [u32]) -> Outcome
-        ensures { λ r. ⌜
-            left r (now (table .exit)) (now (history .exit)) (now (work .exit))
-            ≡ undoBy (stateOf self) (now (table .entry)) (now (history .entry)) (now (work .entry)) ⌝ }
-    {
-        let judged = fit(self.darts, table.len(), history.len(), work.len());
-        if judged.number() != 0 {
-            return kept(self, judged);
-        }
-        let d = self.darts as usize;
-        let o = self.undo_inside(table, history, work);
-        clear(work, d);
-        o
-    }
-
     // Back to a level: as many undos.
     pub fn unfold(
         self,
@@ -123,13 +52,28 @@ impl State {
             left r (now (table .exit)) (now (history .exit)) (now (work .exit))
             ≡ unfoldBy level (stateOf self) (now (table .entry)) (now (history .entry)) (now (work .entry)) ⌝ }
     {
-        let judged = fit(self.darts, table.len(), history.len(), work.len());
+        let judged = self.judged(2, table, history, work);
         if judged.number() != 0 {
             return kept(self, judged);
         }
         let d = self.darts as usize;
-        let o = self.unfold_inside(level, table, history, work);
+        let top = self.levels;
+        if top < level {
+            clear(work, d);
+            return kept(self, Answer::NoLevel(top as usize));
+        }
+        let s = self.unfolded(level, work);
+        store(work, d, s.operations as usize, table, history);
         clear(work, d);
-        o
+        kept(s, Answer::Done(0))
+    }
+
+    // The last level undone: the state and every entry of the table as they were before its kernel.
+    pub fn undo(self, table: &mut [u32], history: &mut [u32], work: &mut [u32]) -> Outcome
+        ensures { λ r. ⌜
+            left r (now (table .exit)) (now (history .exit)) (now (work .exit))
+            ≡ undoBy (stateOf self) (now (table .entry)) (now (history .entry)) (now (work .entry)) ⌝ }
+    {
+        self.unfold(self.level_below(), table, history, work)
     }
 }

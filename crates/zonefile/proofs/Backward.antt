@@ -10,10 +10,11 @@ use Prim.Native.Nat.{ℕ, _+_, _-_, _/_, _%_, _≤_, _<_}
 use native.Mathlib.Omega.{arith}
 use lib.ListN.{length, set, length-append, length-set}
 use Rattle.darts.specs.Text.{decimal}
-use Rattle.area.specs.Load.{laid}
-use Rattle.zonefile.specs.Laid.{Room, Put}
+use Rattle.slices.specs.Laid.{laid, Space}
+use Rattle.zonefile.specs.Laid.{Put}
 use Rattle.zonefile.proofs.Decimal.{decimal-one, decimal-more, one-length, more-length}
-use Rattle.zonefile.proofs.Laid.{laid-before, put-none}
+use Rattle.zonefile.proofs.Laid.{put-none}
+use Rattle.slices.proofs.Laid.{laid-before}
 
 pub record Backward (o₀ o : List ℕ) (at x rest place : ℕ) : Type 0 where
   pub later : List ℕ
@@ -27,7 +28,7 @@ pub backward-begin : (o : List ℕ) (at x : ℕ) {end : ℕ} → x ≤ 99999 →
 backward-begin o at x {end} small e =
     record { later = []; size = refl; small = small; whole = sym (append-nil (decimal x)); next = e; slice = put-none o end .slice }
 
-module _ {o₀ o : List ℕ} {at x rest place : ℕ} (room : Room o₀ at (decimal x)) (b : Backward o₀ o at x rest place) where
+module _ {o₀ o : List ℕ} {at x rest place : ℕ} (room : Space o₀ at (decimal x)) (b : Backward o₀ o at x rest place) where
   all : length (decimal x) ≡ length (decimal rest) + length (b .later)
   all = ap length (b .whole) ∙ length-append (decimal rest) (b .later)
 

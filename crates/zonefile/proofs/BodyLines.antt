@@ -12,15 +12,17 @@ use native.Mathlib.Omega.{arith}
 use lib.ListN.{length, length-map}
 use lib.Seq.{take-at, drop-length}
 use borrow.Rule.Slice.PartMut.{postOf, drop-put}
-use Rattle.darts.specs.Answers.{answered}
+use Rattle.darts.specs.Cases.{answerOf}
+use Rattle.darts.specs.declared.Answer.{Answer}
 use Rattle.darts.specs.Scan.{Scan, found, fault, after}
 use Rattle.darts.specs.Read.{KernelLine, Body, kernelsAt, pairsAt, body, fromFlag, total, fileState, fileHistory}
-use Rattle.darts.specs.Calls.{over}
-use Rattle.darts.proofs.Ends.{state-path}
-use Rattle.forest.specs.Part.{part, put, part-length, part-put, put-length, put-elsewhere}
+use Rattle.slices.specs.Over.{over}
+use Rattle.darts.proofs.runs.Ends.{state-path}
+use Rattle.slices.specs.Part.{part, put}
+use Rattle.slices.proofs.Part.{part-length, part-put, put-length, put-elsewhere}
 use Rattle.area.specs.Area.{Room, tableIn}
 use Rattle.area.specs.Shape.{historyIn}
-use Rattle.darts.proofs.Over.{drop-more}
+use Rattle.slices.proofs.Over.{drop-more}
 use Rattle.area.proofs.Parts.{part-inner}
 use Rattle.engine.specs.Held.{Beyond}
 use Rattle.zonefile.specs.declared.scan.Scanned.{Scanned}
@@ -36,20 +38,17 @@ use Rattle.zonefile.proofs.PairLines.{pairs-count}
 use Rattle.zonefile.proofs.KernelLines.{kernels-count, history-length}
 use Rattle.zonefile.proofs.LastPairs.{last-end, last-found}
 
-module _ {s : Scan Body} {b : List ℕ} {D F : ℕ} {w w′ : List ℕ} (l : ℕ) (ends : List ℕ) (beyond : Beyond D w w′) {n p : ℕ} where
-  pub body-wrong : s ≡ fault (answered n p) → BodyRead s b D F w w′ (record { read = Fault n p; levels = l; ends = ends })
-  body-wrong e =
+module _ {s : Scan Body} {b : List ℕ} {D F : ℕ} {w w′ : List ℕ} (l : ℕ) (ends : List ℕ) (beyond : Beyond D w w′) where
+  pub body-wrong : {a : Answer} → s ≡ fault (answerOf a) → BodyRead s b D F w w′ (record { read = Fault a; levels = l; ends = ends })
+  body-wrong {a} e =
       record {
-        wrong = λ {n = m} {p = q} same.
-            let number : n ≡ m = cc same in
-            let place : p ≡ q = cc same in
-            rw (← number, ← place) e;
+        wrong = λ {a = x} same. let one : a ≡ x = cc same in rw (← one) e;
         right = λ same. let never : _≡_ {A = ℕ} 0 1 = cc same in absurd (omega arith);
         beyond = beyond;
       }
 
-  pub body-right : Holds s b D F n p l ends w′ → BodyRead s b D F w w′ (record { read = Found n p; levels = l; ends = ends })
-  body-right H =
+  pub body-right : {n p : ℕ} → Holds s b D F n p l ends w′ → BodyRead s b D F w w′ (record { read = Found n p; levels = l; ends = ends })
+  body-right {n} {p} H =
       record {
         wrong = λ same. let never : _≡_ {A = ℕ} 0 1 = cc same in absurd (omega arith);
         right = λ {n = m} {p = q} same.
@@ -80,10 +79,10 @@ module _ {b : List ℕ} {at L D : ℕ} (F : ℕ) {w : List ℕ} (room : Room D w
         rest = drop-put (3 * D) (4 * D) w h′ (omega arith) (room .fits) fits;
       }
 
-  pub kernels-wrong : {n p : ℕ} → k .read ≡ Fault n p → BodyRead (linesAt L D b at) b D F w w₁ (record { read = Fault n p; levels = L; ends = k .ends })
+  pub kernels-wrong : {a : Answer} → k .read ≡ Fault a → BodyRead (linesAt L D b at) b D F w w₁ (record { read = Fault a; levels = L; ends = k .ends })
   unfolding linesAt
-  kernels-wrong {n} {p} e =
-      let wrong : kernelsAt L b at ≡ fault (answered n p) = made-fault _ total (told scanOf (K .answer) e) in
+  kernels-wrong {a} e =
+      let wrong : kernelsAt L b at ≡ fault (answerOf a) = made-fault _ total (told scanOf (K .answer) e) in
       body-wrong L (k .ends) beyond₁ (rw wrong)
 
   module _ {n next : ℕ} (e : k .read ≡ Found n next) {t′ : List ℕ} (same : length t′ ≡ length (part 0 D w₁)) {r : Scanned}
@@ -109,10 +108,10 @@ module _ {b : List ℕ} {at L D : ℕ} (F : ℕ) {w : List ℕ} (room : Room D w
     unfolding linesAt
     lines-on ks whole = rw whole (last-end D b next ks)
 
-    pub pairs-wrong : {m p : ℕ} → r ≡ Fault m p → BodyRead (linesAt L D b at) b D F w w₂ (record { read = Fault m p; levels = L; ends = k .ends })
-    pairs-wrong {m} {p} f =
+    pub pairs-wrong : {a : Answer} → r ≡ Fault a → BodyRead (linesAt L D b at) b D F w w₂ (record { read = Fault a; levels = L; ends = k .ends })
+    pairs-wrong {a} f =
         let ks = made-found (kernelsAt L b at) total (told scanOf (K .answer) e) in
-        let wrong : lastAt D b next ≡ fault (answered m p) = made-fault _ (λ _. 0) (told scanOf (P .answer) f) in
+        let wrong : lastAt D b next ≡ fault (answerOf a) = made-fault _ (λ _. 0) (told scanOf (P .answer) f) in
         body-wrong L (k .ends) beyond₂ (lines-on (ks .value) (ks .whole) ∙ rw wrong)
 
     laid-table : {xs : List ℕ} {last : ℕ} → pairsAt (D / 2) b next ≡ found xs last → tableIn D w₂ ≡ map (fromFlag F D) xs
@@ -164,8 +163,8 @@ module _ {b : List ℕ} {at L D : ℕ} (F : ℕ) {w : List ℕ} (room : Room D w
         })
 
 module _ (D : ℕ) (b : List ℕ) (at : ℕ) where
-  pub level-wrong : {F : ℕ} {w : List ℕ} {n p : ℕ} (ends : List ℕ) → levelsAt b at ≡ fault (answered n p)
-      → BodyRead (body D b at) b D F w w (record { read = Fault n p; levels = 0; ends = ends })
+  pub level-wrong : {F : ℕ} {w : List ℕ} {a : Answer} (ends : List ℕ) → levelsAt b at ≡ fault (answerOf a)
+      → BodyRead (body D b at) b D F w w (record { read = Fault a; levels = 0; ends = ends })
   level-wrong ends e = body-wrong 0 ends (record { size = refl; rest = refl }) (body-levels D b at ∙ rw e)
 
   pub level-right : {L next : ℕ} → levelsAt b at ≡ found L next → body D b at ≡ linesAt L D b next

@@ -14,7 +14,7 @@ use lib.ListN.{length, length-append}
 use borrow.Author.Tests.{lt-ltb, le-ltb}
 use Rattle.darts.specs.Choose.{if_then_else_}
 use Rattle.darts.specs.Text.{digits, decimal}
-use Rattle.darts.proofs.Digits.{digits-before}
+use Rattle.darts.proofs.file.Digits.{digits-before}
 
 -- one digit more than enough changes nothing
 digits-enough : (n x : ℕ) (b : List ℕ) → x < 10 ^ suc n → digits (suc (suc n)) x b ≡ digits (suc n) x b

@@ -13,7 +13,7 @@ use Rattle.darts.specs.Tests.{rises}
 use Rattle.darts.specs.Pyramid.{Pyramid, cut, kernelsOf}
 use Rattle.darts.specs.Text.{bytes, decimal}
 use Rattle.darts.specs.File.{lineFeed, kernelLines, pairLines, fileTable, fileOf}
-use Rattle.darts.proofs.Passes.{pyramid-shaped}
+use Rattle.darts.proofs.tests.Passes.{pyramid-shaped}
 use Rattle.area.specs.Area.{tableIn, pastIn}
 use Rattle.area.specs.Shape.{stateOf, historyIn}
 use Rattle.engine.specs.Held.{Area}

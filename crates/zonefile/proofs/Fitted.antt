@@ -12,12 +12,14 @@ use mathlib.Core.List.{List, [], _∷_, _++_, append-assoc, append-nil}
 use Prim.Native.Nat.{ℕ, _+_, _≤_, _<_}
 use native.Mathlib.Omega.{arith}
 use lib.ListN.{length, set, length-append, length-set}
-use Rattle.darts.specs.Calls.{over}
-use Rattle.zonefile.specs.Laid.{Room, Put, Fitted}
-use Rattle.zonefile.proofs.Laid.{put-none, put-on, put-one, put-length, laid-over}
+use Rattle.slices.specs.Over.{over}
+use Rattle.zonefile.specs.Laid.{Put, Fitted}
+use Rattle.slices.specs.Laid.{Space}
+use Rattle.zonefile.proofs.Laid.{put-none, put-on, put-one, put-length}
+use Rattle.slices.proofs.Laid.{laid-over}
 
 -- what is laid where it has room
-fitted-put : {w v : List ℕ} {at r : ℕ} {xs : List ℕ} → Room w at xs → Put w v at r xs → Fitted w v at r xs
+fitted-put : {w v : List ℕ} {at r : ℕ} {xs : List ℕ} → Space w at xs → Put w v at r xs → Fitted w v at r xs
 fitted-put room p = record { size = put-length room p; next = p .next; slice = λ _. p .slice }
 
 pub fitted-not : (w : List ℕ) (at : ℕ) {r : ℕ} (xs : List ℕ) → r ≡ at + length xs → length w < r → Fitted w w at r xs

@@ -28,7 +28,7 @@ use Rattle.darts.specs.Scan.{byteAt, found, fault, after, word, field}
 use Rattle.darts.specs.Read.{KernelLine, kernelOfKind, kernelAt, kernelsAt, endsFrom, total, numbersFrom, historyFrom}
 use Rattle.zonefile.proofs.After.{after-after, through, field-small}
 use Rattle.zonefile.proofs.Rest.{Lines, lines-count}
-use Rattle.darts.proofs.KernelLines.{numbers-length}
+use Rattle.darts.proofs.file.KernelLines.{numbers-length}
 
 pub kernel-lines : (b : List ℕ) → Lines (λ at. after (kernelAt b at) (λ k next. found (k ∷ []) next)) (λ n at. kernelsAt n b at)
 unfolding kernelsAt

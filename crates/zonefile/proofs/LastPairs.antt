@@ -14,7 +14,10 @@ use lib.Dec.{eqb}
 use lib.ListN.{length}
 use borrow.Author.Tests.{eq-eqb, ne-eqb}
 use Rattle.darts.specs.Choose.{if_then_else_}
-use Rattle.darts.specs.Answers.{answered, noFile}
+use Rattle.darts.specs.Answers.{noFile}
+use Rattle.darts.specs.Cases.{answerOf}
+use Rattle.darts.specs.declared.Answer.{Answer}
+use Rattle.darts.specs.declared.Answer.the-variants.{NoFile}
 use Rattle.darts.specs.Scan.{Scan, found, fault, after}
 use Rattle.darts.specs.Read.{KernelLine, pairsAt, endAt}
 use Rattle.zonefile.specs.declared.scan.Scanned.{Scanned}
@@ -26,14 +29,14 @@ use Rattle.zonefile.proofs.Found.{told}
 use Rattle.zonefile.proofs.After.{through, made-fault, made-found}
 
 module _ {b : List ℕ} {at D F : ℕ} {t t′ : List ℕ} {r : Scanned} (P : PairsRead b at D F t t′ r) where
-  pub last-wrong : {n p : ℕ} → r ≡ Fault n p → LastRead b at D F t t′ (Fault n p)
+  pub last-wrong : {a : Answer} → r ≡ Fault a → LastRead b at D F t t′ (Fault a)
   unfolding lastAt
-  last-wrong {n} {p} e =
-      let wrong : pairsAt (D / 2) b at ≡ fault (answered n p) = made-fault _ (λ _. 0) (told scanOf (P .answer) e) in
+  last-wrong {a} e =
+      let wrong : pairsAt (D / 2) b at ≡ fault (answerOf a) = made-fault _ (λ _. 0) (told scanOf (P .answer) e) in
       record { answer = rw wrong; table = P .table }
 
   module _ {v next : ℕ} (e : r ≡ Found v next) where
-    pub last-more : next ≢ length b → LastRead b at D F t t′ (Fault 13 next)
+    pub last-more : next ≢ length b → LastRead b at D F t t′ (Fault (NoFile next))
     unfolding lastAt
     last-more n =
         let lines = made-found (pairsAt (D / 2) b at) (λ _. 0) (told scanOf (P .answer) e) in

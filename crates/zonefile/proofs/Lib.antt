@@ -17,7 +17,6 @@ pub mod Number
 pub mod PairLines
 pub mod Place
 pub mod ReadEnds
-pub mod Refusals
 pub mod Rest
 pub mod Settles
 pub mod Word

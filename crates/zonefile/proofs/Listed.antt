@@ -13,20 +13,20 @@ use lib.ListN.{length, getD, take, drop}
 use lib.Seq.{getD-take, getD-drop}
 use Rattle.darts.specs.Map.{successor}
 use Rattle.darts.specs.File.{taken, survivors, fileOrder, fileNumber, fileTable, placeIn}
-use Rattle.forest.specs.Part.{part-length}
+use Rattle.slices.proofs.Part.{part-length}
 use Rattle.area.specs.Area.{Room, tableIn, pastIn, forestIn}
 use Rattle.area.specs.Trees.{Outside}
 use Rattle.area.specs.Shape.{historyIn}
-use Rattle.darts.proofs.Over.{drop-more}
+use Rattle.slices.proofs.Over.{drop-more}
 use Rattle.area.proofs.Outside.{forest-at}
 use Rattle.engine.specs.Held.{Area}
 use Rattle.engine.proofs.Beside.{beside-table, beside-past, beside-area}
 use Rattle.engine.proofs.Parts.{rest-from, forest-rest}
-use Rattle.area.specs.Load.{laid}
+use Rattle.slices.specs.Laid.{laid}
 use Rattle.zonefile.specs.Numbering.{Dense, Placed, renamed, entriesIn, Numbered}
-use Rattle.zonefile.proofs.Laid.{laid-length, laid-front, laid-rest, laid-there, laid-on}
-use Rattle.darts.proofs.FileOrder.{taken-length}
-use Rattle.darts.proofs.Numbering.{order-length, order-small, number-below}
+use Rattle.slices.proofs.Laid.{laid-length, laid-front, laid-rest, laid-there, laid-on}
+use Rattle.darts.proofs.file.FileOrder.{taken-length}
+use Rattle.darts.proofs.file.Numbering.{order-length, order-small, number-below}
 
 -- what is laid into the forest's part changes nothing else
 laid-outside : {D : ℕ} (w xs : List ℕ) → Room D w → length xs ≤ D → Outside D w (laid w (2 * D) xs)

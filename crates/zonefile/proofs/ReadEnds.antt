@@ -23,9 +23,10 @@ use Rattle.darts.specs.Text.{bytes}
 use Rattle.darts.specs.File.{lineFeed}
 use Rattle.darts.specs.Scan.{Scan, found, fault, word, field}
 use Rattle.darts.specs.Read.{Opening, Body, Read, faulty, flagAt, opening, body, fromFlag, total, fileState, fileHistory, closed, opened, readFile}
-use Rattle.darts.specs.Calls.{After, leaves, room, fitting, over, cleared, readInto, read}
-use Rattle.darts.proofs.Decided.{pyramid-decided}
-use Rattle.darts.proofs.Room.{pyramid-room}
+use Rattle.darts.specs.Calls.{After, leaves, room, fitting, cleared, readInto, read}
+use Rattle.slices.specs.Over.{over}
+use Rattle.darts.proofs.claims.Decided.{pyramid-decided}
+use Rattle.darts.proofs.tests.Room.{pyramid-room}
 use Rattle.zonefile.specs.Lines.{startsWith}
 use Rattle.zonefile.proofs.After.{through, field-small}
 use Rattle.zonefile.proofs.KernelLines.{history-length}

@@ -12,7 +12,8 @@ use Rattle.darts.specs.State.{State, baseState}
 use Rattle.darts.specs.Pyramid.{isPyramid}
 use Rattle.darts.specs.Scan.{Scan}
 use Rattle.darts.specs.Read.{Body, total, fromFlag, fileState, fileHistory, closed}
-use Rattle.darts.specs.Calls.{After, leaves, over, cleared, readInto}
+use Rattle.darts.specs.Calls.{After, leaves, cleared, readInto}
+use Rattle.slices.specs.Over.{over}
 use Rattle.area.specs.Area.{tableIn, pastIn}
 use Rattle.area.specs.Shape.{stateOf}
 use Rattle.engine.specs.Checks.{CheckedLaid}

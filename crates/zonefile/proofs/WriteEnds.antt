@@ -1,24 +1,31 @@
 -- The ways that a write ends.
---   write-first == 1 or 2: nothing is written
---   write-no    == 4
---   write-short == the output is too short for the file
---   write-done  == the file is written
+--   write-refused == 1, 2 or 4
+--   write-ready   == what writing the file asks
+--   write-short   == the output is too short for the file
+--   write-done    == the file is written
 use mathlib.Core.Bool.{Bool, true, false}
 use mathlib.Core.List.{List}
 use mathlib.Core.Logic.{_≢_}
-use mathlib.Core.Path.{_≡_, refl}
+use mathlib.Core.Path.{_≡_, refl, sym, _∙_}
 use Prim.Native.Nat.{ℕ}
 use native.Mathlib.Omega.{arith}
-use borrow.Author.Tests.{eq-eqb, ne-eqb}
+use borrow.Author.Tests.{ne-eqb}
 use lib.Dec.{ltb}
 use lib.ListN.{length}
-use Rattle.darts.specs.Answers.{Answer, noPyramid, needs, wrote}
+use Rattle.darts.specs.Answers.{Answer, needs, wrote}
 use Rattle.darts.specs.Choose.{if_then_else_}
-use Rattle.darts.specs.Pyramid.{isPyramid}
+use Rattle.darts.specs.Pyramid.{Pyramid}
 use Rattle.darts.specs.State.{State}
 use Rattle.darts.specs.File.{fileOf}
-use Rattle.darts.specs.Calls.{Written as Left, write, fitting, judged, tableOf, pastOf, over, cleared, workAfter}
-use Rattle.darts.proofs.Fitting.{first-keeps}
+use Rattle.darts.specs.Calls.{Written as Left, write, tableOf, pastOf, cleared}
+use Rattle.slices.specs.Over.{over}
+use Rattle.darts.proofs.calls.Cleared.{cleared-kept}
+use Rattle.darts.proofs.calls.Judging.{judged-lent}
+use Rattle.area.specs.Area.{tableIn, pastIn}
+use Rattle.engine.specs.Held.{Area, Beyond}
+use Rattle.pyramid.specs.Steps.{Judged}
+use Rattle.pyramid.proofs.Judges.{lent-of}
+use Rattle.zonefile.specs.declared.writing.Written.{Written}
 use Rattle.zonefile.specs.declared.writing.Written.the-variants.{Short, Wrote}
 use Rattle.zonefile.specs.Writing.{FileWritten}
 
@@ -30,34 +37,43 @@ told-wrote : (b : Bool) (n L : ℕ) → Wrote n ≡ (if b then Short L else Wrot
 told-wrote true n L e = absurd (let z : _≡_ {A = ℕ} 0 1 = cc in omega arith)
 told-wrote false n L e = (refl, cc)
 
-module _ (s : State) (t h w o : List ℕ) where
+module _ {s : State} {k : ℕ} {t h w v : List ℕ} {a : Answer} (J : Judged s k t h w v a) (o : List ℕ) where
   abbrev leaves : Answer → List ℕ → List ℕ → Left
-  leaves a v x = record { answer = a; table = t; history = h; work = v; output = x }
+  leaves b y x = record { answer = b; table = t; history = h; work = y; output = x }
 
-  pub write-first : fitting (s .darts) (length t) (length h) (length w) .number ≢ 0
-      → write s t h w o ≡ leaves (fitting (s .darts) (length t) (length h) (length w)) w o
-  unfolding write judged
-  write-first n = rw (ne-eqb _ 0 n, ne-eqb _ 0 n, first-keeps (s .darts) (length t) (length h) (length w) n (s .darts) w)
+  pub write-refused : a .number ≢ 0 → leaves a v o ≡ write s t h w o
+  unfolding write
+  write-refused n = sym (rw (← (J .answer), ne-eqb (a .number) 0 n, J .refused n))
 
-  module _ (fits : fitting (s .darts) (length t) (length h) (length w) .number ≡ 0) where
-    pub write-no : isPyramid s (tableOf s t) (pastOf s h) ≡ false → write s t h w o ≡ leaves noPyramid (cleared (s .darts) w) o
-    unfolding write judged workAfter
-    write-no e = rw (eq-eqb _ 0 fits, e)
+  module _ (fine : a .number ≡ 0) where
+    abbrev file : List ℕ
+    file = fileOf s (tableOf s t) (pastOf s h)
 
-    module _ (fine : isPyramid s (tableOf s t) (pastOf s h) ≡ true) (x : List ℕ) (n : ℕ) where
-      abbrev file : List ℕ
-      file = fileOf s (tableOf s t) (pastOf s h)
+    pub write-ready : Area (s .darts) (s .operations) v × Pyramid s (tableIn (s .darts) v) (pastIn (s .darts) (s .operations) v)
+    unfolding tableOf pastOf
+    write-ready =
+        let C = J .checked fine in
+        (C .area refl, rw (C .table refl, C .past refl) (lent-of J fine .pyramid))
 
-      pub write-short : FileWritten s (tableOf s t) (pastOf s h) o x (Short n) → write s t h w o ≡ leaves (needs n) (cleared (s .darts) w) x
-      unfolding write judged
-      write-short F =
-          let e = told-short (ltb (length o) (length file)) n (length file) (F .answer) in
-          let k : x ≡ o = rw (e .0) at (F .output) in
-          rw (eq-eqb _ 0 fits, fine, e .0, e .1, k)
+    module _ {u x : List ℕ} {r : Written} (B : Beyond (s .darts) v u)
+        (F : FileWritten s (tableIn (s .darts) v) (pastIn (s .darts) (s .operations) v) o x r) where
+      kept : cleared (s .darts) u ≡ cleared (s .darts) w
+      kept = cleared-kept (s .darts) w u (B .rest ∙ J .checked fine .beyond .rest)
 
-      pub write-done : FileWritten s (tableOf s t) (pastOf s h) o x (Wrote n) → write s t h w o ≡ leaves (wrote n) (cleared (s .darts) w) x
-      unfolding write judged
-      write-done F =
-          let e = told-wrote (ltb (length o) (length file)) n (length file) (F .answer) in
-          let k : x ≡ over file o = rw (e .0) at (F .output) in
-          rw (eq-eqb _ 0 fits, fine, e .0, e .1, k)
+      written : FileWritten s (tableOf s t) (pastOf s h) o x r
+      unfolding tableOf pastOf
+      written = let C = J .checked fine in rw (C .table refl, C .past refl) at F
+
+      pub write-short : {n : ℕ} → r ≡ Short n → leaves (needs n) (cleared (s .darts) u) x ≡ write s t h w o
+      unfolding write
+      write-short {n} k =
+          let e = told-short (ltb (length o) (length file)) n (length file) (sym k ∙ written .answer) in
+          let y : x ≡ o = rw (e .0) at (written .output) in
+          sym (rw (judged-lent s t h w (lent-of J fine), e .0, e .1, kept, y))
+
+      pub write-done : {n : ℕ} → r ≡ Wrote n → leaves (wrote n) (cleared (s .darts) u) x ≡ write s t h w o
+      unfolding write
+      write-done {n} k =
+          let e = told-wrote (ltb (length o) (length file)) n (length file) (sym k ∙ written .answer) in
+          let y : x ≡ over file o = rw (e .0) at (written .output) in
+          sym (rw (judged-lent s t h w (lent-of J fine), e .0, e .1, kept, y))

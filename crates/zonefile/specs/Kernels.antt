@@ -10,10 +10,10 @@ use Rattle.darts.specs.Choose.{if_then_else_}
 use Rattle.darts.specs.Operation.{Kind}
 use Rattle.darts.specs.Scan.{found, after}
 use Rattle.darts.specs.Read.{KernelLine, kernelsAt, endsFrom, total, numbersFrom, fileHistory}
-use Rattle.darts.specs.Calls.{over}
+use Rattle.slices.specs.Over.{over}
 use Rattle.zonefile.specs.declared.kernels.Levels.{Levels}
 use Rattle.zonefile.specs.Found.{scanOf}
-use Rattle.area.specs.Load.{laid}
+use Rattle.slices.specs.Laid.{laid}
 
 unfoldable pub noted : ℕ → Kind → ℕ → ℕ → List ℕ → List ℕ
 noted room k i n h = if leb (i + n) room then laid h i (numbersFrom k i n) else h

@@ -1,5 +1,4 @@
 -- Numbers laid into a lent slice, and the bytes of lines.
---   Room w at xs        == w has room for xs from the place at on
 --   Put w w′ at r xs    == w′ is w with xs laid at a place, and r is the place after them
 --   Fitted w w′ at r xs == r is the place after xs, and where that is within w, w′ is w with xs laid at a place
 --   fieldLine w x end   == the bytes w, a number, and the bytes end
@@ -12,10 +11,7 @@ use Rattle.darts.specs.Operation.{Kind}
 use Rattle.darts.specs.Pyramid.{Kernel}
 use Rattle.darts.specs.Text.{bytes, decimal}
 use Rattle.darts.specs.File.{lineFeed, kindWord, kernelLine}
-use Rattle.area.specs.Load.{laid}
-
-pub record Room (w : List ℕ) (at : ℕ) (xs : List ℕ) : Type 0 where
-  pub fits : at + length xs ≤ length w
+use Rattle.slices.specs.Laid.{laid}
 
 pub record Put (w w′ : List ℕ) (at r : ℕ) (xs : List ℕ) : Type 0 where
   pub slice : w′ ≡ laid w at xs

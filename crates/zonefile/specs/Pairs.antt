@@ -6,7 +6,7 @@ use Prim.Native.Nat.{ℕ, _/_}
 use lib.ListN.{drop}
 use Rattle.darts.specs.Scan.{found, after}
 use Rattle.darts.specs.Read.{pairsAt, fromFlag}
-use Rattle.darts.specs.Calls.{over}
+use Rattle.slices.specs.Over.{over}
 use Rattle.zonefile.specs.declared.scan.Scanned.{Scanned}
 use Rattle.zonefile.specs.Found.{scanOf}
 

@@ -11,10 +11,12 @@ use Prim.Native.Nat.{ℕ, _/_, _≤_}
 use lib.Dec.{eqb}
 use lib.ListN.{length}
 use Rattle.darts.specs.Choose.{if_then_else_}
-use Rattle.darts.specs.Answers.{answered, noFile}
+use Rattle.darts.specs.Answers.{noFile}
+use Rattle.darts.specs.Cases.{answerOf}
+use Rattle.darts.specs.declared.Answer.{Answer}
 use Rattle.darts.specs.Scan.{Scan, found, fault, after}
 use Rattle.darts.specs.Read.{KernelLine, Body, kernelsAt, pairsAt, endAt, fromFlag, fileState, fileHistory}
-use Rattle.darts.specs.Calls.{over}
+use Rattle.slices.specs.Over.{over}
 use Rattle.area.specs.Area.{tableIn}
 use Rattle.area.specs.Shape.{stateOf, historyIn}
 use Rattle.engine.specs.Held.{Beyond}
@@ -49,6 +51,6 @@ pub record Holds (s : Scan Body) (b : List ℕ) (D F n p l : ℕ) (ends w : List
   pub history : n ≤ D / 2 → historyIn D n w ≡ fileHistory kernels
 
 pub record BodyRead (s : Scan Body) (b : List ℕ) (D F : ℕ) (w w′ : List ℕ) (r : Parsed) : Type 0 where
-  pub wrong : {n p : ℕ} → r .read ≡ Fault n p → s ≡ fault (answered n p)
+  pub wrong : {a : Answer} → r .read ≡ Fault a → s ≡ fault (answerOf a)
   pub right : {n p : ℕ} → r .read ≡ Found n p → Holds s b D F n p (r .levels) (r .ends) w′
   pub beyond : Beyond D w w′

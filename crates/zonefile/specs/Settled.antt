@@ -1,34 +1,19 @@
 -- What is left once the body of a file is judged.
---   Refuses n p == a file can be refused with the answer that has number n and place p
 --   Accepted b p D F n t t′ h h′ w == t′ is the table t with the pairs that begin at the place p, h′ the history h with the n numbers in the work area w
 --   Settled b D F n p l ends t t′ h h′ w w′ r == r, t′ and h′ are what a read leaves of any body that w holds
-use mathlib.Core.Bool.{Bool}
 use mathlib.Core.Path.{_≡_}
 use mathlib.Core.List.{List, map}
 use Prim.Native.Nat.{ℕ, _/_}
-use lib.Dec.{T, eqb}
-use Rattle.darts.specs.Choose.{if_then_else_}
 use Rattle.darts.specs.Scan.{Scan, found}
 use Rattle.darts.specs.Read.{Body, pairsAt, fromFlag, closed}
-use Rattle.darts.specs.Calls.{over, cleared, readInto}
+use Rattle.darts.specs.Calls.{cleared, readInto}
+use Rattle.slices.specs.Over.{over}
 use Rattle.area.specs.Shape.{historyIn}
 use Rattle.engine.specs.Held.{Beyond}
 use Rattle.pyramid.specs.declared.Outcome.{Outcome}
 use Rattle.pyramid.specs.Values.{left}
 use Rattle.zonefile.specs.Lines.{startsWith}
 use Rattle.zonefile.specs.Parsed.{Holds}
-
--- answers 4, 5, 6, 14 and 13, each with its place
-unfoldable pub isRefusal : ℕ → ℕ → Bool
-isRefusal n p =
-    if eqb n 4 then eqb p 0
-    else if eqb n 5 then eqb p 0
-    else if eqb n 6 then eqb p 0
-    else if eqb n 14 then eqb p 8
-    else eqb n 13
-
-abbrev pub Refuses : ℕ → ℕ → Type 0
-Refuses n p = T (isRefusal n p)
 
 pub record Accepted (b : List ℕ) (p D F n : ℕ) (t t′ h h′ w : List ℕ) : Type 0 where
   pub table : (xs : List ℕ) (next : ℕ) → pairsAt (D / 2) b p ≡ found xs next → t′ ≡ over (map (fromFlag F D) xs) t

@@ -12,7 +12,7 @@ use Rattle.darts.specs.State.{State}
 use Rattle.darts.specs.Pyramid.{cut}
 use Rattle.darts.specs.Text.{bytes}
 use Rattle.darts.specs.File.{lineFeed, kernelLines, pairLines, fileOf}
-use Rattle.darts.specs.Calls.{over}
+use Rattle.slices.specs.Over.{over}
 use Rattle.area.specs.Shape.{historyIn}
 use Rattle.zonefile.specs.declared.writing.Written.{Written}
 use Rattle.zonefile.specs.declared.writing.Written.the-variants.{Short, Wrote}

@@ -43,9 +43,9 @@ pub fn kernels(bytes: &[u8], at: usize, levels: usize, d: usize, history: &mut [
     let mut i = 0;
     while i < levels {
         match kernel_line(bytes, place) {
-            Line::Fault(n, p) => {
+            Line::Fault(answer) => {
                 return Levels {
-                    read: Scanned::Fault(n, p),
+                    read: Scanned::Fault(answer),
                     ends: ends,
                 };
             }

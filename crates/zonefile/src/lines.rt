@@ -3,6 +3,7 @@ use crate::scan::Scanned;
 use crate::scan::byte_at;
 use crate::scan::field;
 use crate::scan::word;
+use darts::Answer;
 ghost use mathlib.Core.Path.{_≡_};
 ghost use Rattle.darts.specs.Operation.{kindOf};
 ghost use Rattle.darts.specs.File.{kindWord};
@@ -10,10 +11,10 @@ ghost use Rattle.darts.specs.Read.{flagAt, opening as openingOf, kernelOfKind, 
 ghost use Rattle.zonefile.specs.Found.{scanOf, lineOf};
 ghost use Rattle.zonefile.specs.Lines.{numbersAt, startsWith, levelsAt, kernelOf, pairAt, pairOf};
 
-// Found: two values, and the place after the line. Fault: the answer's number and place.
+// Found: two values, and the place after the line. Fault: the answer to what is wrong.
 pub enum Line {
     Found(usize, usize, usize),
-    Fault(u32, usize),
+    Fault(Answer),
 }
 
 // Byte nine: 0 for darts from zero, 1 for darts from one.
@@ -28,9 +29,9 @@ fn flag(bytes: &[u8], at: usize) -> Scanned
         return Scanned::Found(1, at + 1);
     }
     if byte == 256 {
-        return Scanned::Fault(13, at);
+        return Scanned::Fault(Answer::NoFile(at));
     }
-    Scanned::Fault(14, 8)
+    Scanned::Fault(Answer::NoFlag)
 }
 
 // The line `numbers=F`: the flag.
@@ -38,11 +39,11 @@ fn numbers_line(bytes: &[u8]) -> Scanned
     ensures { λ r. ⌜ scanOf r ≡ numbersAt (now (bytes .entry)) ⌝ }
 {
     match word(bytes, 0, b"numbers=") {
-        Scanned::Fault(n, p) => Scanned::Fault(n, p),
+        Scanned::Fault(answer) => Scanned::Fault(answer),
         Scanned::Found(_, ninth) => match flag(bytes, ninth) {
-            Scanned::Fault(n, p) => Scanned::Fault(n, p),
+            Scanned::Fault(answer) => Scanned::Fault(answer),
             Scanned::Found(flag, end) => match word(bytes, end, b"\n") {
-                Scanned::Fault(n, p) => Scanned::Fault(n, p),
+                Scanned::Fault(answer) => Scanned::Fault(answer),
                 Scanned::Found(_, next) => Scanned::Found(flag, next),
             },
         },
@@ -54,9 +55,9 @@ pub fn opening(bytes: &[u8]) -> Line
     ensures { λ r. ⌜ lineOf startsWith r ≡ openingOf (now (bytes .entry)) ⌝ }
 {
     match numbers_line(bytes) {
-        Scanned::Fault(n, p) => Line::Fault(n, p),
+        Scanned::Fault(answer) => Line::Fault(answer),
         Scanned::Found(flag, at) => match field(bytes, at, b"darts=", b"\n") {
-            Scanned::Fault(n, p) => Line::Fault(n, p),
+            Scanned::Fault(answer) => Line::Fault(answer),
             Scanned::Found(darts, next) => Line::Found(flag, darts, next),
         },
     }
@@ -67,10 +68,10 @@ pub fn levels_line(bytes: &[u8], at: usize) -> Scanned
     ensures { λ r. ⌜ scanOf r ≡ levelsAt (now (bytes .entry)) at ⌝ }
 {
     match field(bytes, at, b"levels=", b"\n") {
-        Scanned::Fault(n, p) => Scanned::Fault(n, p),
+        Scanned::Fault(answer) => Scanned::Fault(answer),
         Scanned::Found(levels, next) => {
             if 64 < levels {
-                return Scanned::Fault(6, 0);
+                return Scanned::Fault(Answer::TooManyLevels);
             }
             Scanned::Found(levels, next)
         }
@@ -83,10 +84,10 @@ fn count_of_kind(bytes: &[u8], at: usize, kind: usize, w: &[u8]) -> Line
     ensures { λ r. ⌜ lineOf kernelOf r ≡ kernelOfKind (kindOf kind) (now (bytes .entry)) at ⌝ }
 {
     match field(bytes, at, w, b"\n") {
-        Scanned::Fault(n, p) => Line::Fault(n, p),
+        Scanned::Fault(answer) => Line::Fault(answer),
         Scanned::Found(count, next) => {
             if count == 0 {
-                return Line::Fault(5, 0);
+                return Line::Fault(Answer::EmptyKernel);
             }
             Line::Found(kind, count, next)
         }
@@ -98,7 +99,7 @@ pub fn kernel_line(bytes: &[u8], at: usize) -> Line
     ensures { λ r. ⌜ lineOf kernelOf r ≡ kernelAt (now (bytes .entry)) at ⌝ }
 {
     match word(bytes, at, b"kernel=") {
-        Scanned::Fault(n, p) => Line::Fault(n, p),
+        Scanned::Fault(answer) => Line::Fault(answer),
         Scanned::Found(_, kind) => {
             if byte_at(bytes, kind) == 99 {
                 return count_of_kind(bytes, kind, 1, b"contract ");
@@ -113,9 +114,9 @@ pub fn pair_line(bytes: &[u8], at: usize) -> Line
     ensures { λ r. ⌜ lineOf pairOf r ≡ pairAt (now (bytes .entry)) at ⌝ }
 {
     match field(bytes, at, b"pair=", b" ") {
-        Scanned::Fault(n, p) => Line::Fault(n, p),
+        Scanned::Fault(answer) => Line::Fault(answer),
         Scanned::Found(a, second) => match field(bytes, second, b"", b"\n") {
-            Scanned::Fault(n, p) => Line::Fault(n, p),
+            Scanned::Fault(answer) => Line::Fault(answer),
             Scanned::Found(b, next) => Line::Found(a, b, next),
         },
     }

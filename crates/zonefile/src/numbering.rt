@@ -1,7 +1,7 @@
 // Each dart's number in the file: the forest's part becomes the list of the darts in the file's order, and the part of the dart before each dart gives
 // way to the dart's place in that list.
-use area::slices::at;
 use darts::partner;
+use slices::at;
 ghost use mathlib.Core.Path.{_≡_};
 ghost use Prim.Native.Nat.{ℕ, _+_, _*_, _<_};
 ghost use lib.ListN.{getD};
@@ -9,7 +9,7 @@ ghost use Rattle.darts.specs.File.{taken, survivors};
 ghost use Rattle.area.specs.Area.{Room, pastIn};
 ghost use Rattle.area.specs.Shape.{historyIn};
 ghost use Rattle.engine.specs.Held.{Area};
-ghost use Rattle.area.specs.Load.{laid};
+ghost use Rattle.slices.specs.Laid.{laid};
 ghost use Rattle.zonefile.specs.Numbering.{Placed, Numbered};
 
 // The p and q of each operation, first to last, are the head of the list.

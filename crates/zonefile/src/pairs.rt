@@ -8,8 +8,7 @@ ghost use Prim.Native.Nat.{_≤_};
 ghost use lib.ListN.{length};
 ghost use Rattle.darts.specs.Read.{fromFlag};
 ghost use Rattle.zonefile.specs.Lines.{pairOf};
-ghost use Rattle.area.specs.Load.{laid};
-ghost use Rattle.zonefile.specs.Laid.{Room};
+ghost use Rattle.slices.specs.Laid.{laid, Space};
 ghost use Rattle.zonefile.specs.Pairs.{PairsRead};
 
 // A number of a pair as a dart. One that is no dart, 0 under F = 1, becomes D, which is none either.
@@ -27,7 +26,7 @@ fn from_flag(flag: usize, d: usize, x: usize) -> usize
 
 // The two numbers of a pair from a place of the table on, as darts.
 fn lay_pair(table: &mut [u32], at: usize, d: usize, flag: usize, a: usize, b: usize)
-    requires { ⌜ Room (now table) at (pairOf a b) ⌝ }
+    requires { ⌜ Space (now table) at (pairOf a b) ⌝ }
     requires { ⌜ (d ≤ 65536) × (a ≤ 99999) × (b ≤ 99999) ⌝ }
     ensures { λ _. ⌜ now (table .exit) ≡ laid (now (table .entry)) at (map (fromFlag flag d) (pairOf a b)) ⌝ }
 {
@@ -44,8 +43,8 @@ pub fn pairs(bytes: &[u8], at: usize, d: usize, flag: usize, table: &mut [u32]) 
     let mut i = 0;
     while i < d / 2 {
         match pair_line(bytes, place) {
-            Line::Fault(n, p) => {
-                return Scanned::Fault(n, p);
+            Line::Fault(answer) => {
+                return Scanned::Fault(answer);
             }
             Line::Found(a, b, next) => {
                 lay_pair(table, 2 * i, d, flag, a, b);

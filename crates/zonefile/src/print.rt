@@ -7,7 +7,8 @@ ghost use lib.ListN.{length};
 ghost use Rattle.darts.specs.Operation.{kindOf};
 ghost use Rattle.darts.specs.Text.{decimal};
 ghost use Rattle.darts.specs.File.{pairLines};
-ghost use Rattle.zonefile.specs.Laid.{Room, Put, Fitted, fieldLine, countLine};
+ghost use Rattle.zonefile.specs.Laid.{Put, Fitted, fieldLine, countLine};
+ghost use Rattle.slices.specs.Laid.{Space};
 
 // How many digits a number has.
 pub fn digits(x: usize) -> usize
@@ -31,7 +32,7 @@ pub fn digits(x: usize) -> usize
 
 // The bytes of w from a place on; the answer is the place after them.
 pub fn put_bytes(output: &mut [u8], at: usize, w: &[u8]) -> usize
-    requires { ⌜ Room (now output) at (now w) ⌝ }
+    requires { ⌜ Space (now output) at (now w) ⌝ }
     ensures { λ r. ⌜ Put (now (output .entry)) (now (output .exit)) at r (now (w .entry)) ⌝ }
 {
     let mut i = 0;
@@ -45,7 +46,7 @@ pub fn put_bytes(output: &mut [u8], at: usize, w: &[u8]) -> usize
 // The decimal digits of a number, from the last to the first.
 pub fn put_number(output: &mut [u8], at: usize, x: usize) -> usize
     requires { ⌜ x ≤ 99999 ⌝ }
-    requires { ⌜ Room (now output) at (decimal x) ⌝ }
+    requires { ⌜ Space (now output) at (decimal x) ⌝ }
     ensures { λ r. ⌜ Put (now (output .entry)) (now (output .exit)) at r (decimal x) ⌝ }
 {
     let end = at + digits(x);
@@ -63,7 +64,7 @@ pub fn put_number(output: &mut [u8], at: usize, x: usize) -> usize
 // The bytes of w, a number, and the bytes of end.
 pub fn put_field(output: &mut [u8], at: usize, w: &[u8], x: usize, end: &[u8]) -> usize
     requires { ⌜ x ≤ 99999 ⌝ }
-    requires { ⌜ Room (now output) at (fieldLine (now w) x (now end)) ⌝ }
+    requires { ⌜ Space (now output) at (fieldLine (now w) x (now end)) ⌝ }
     ensures { λ r. ⌜ Put (now (output .entry)) (now (output .exit)) at r (fieldLine (now (w .entry)) x (now (end .entry))) ⌝ }
 {
     let number = put_bytes(output, at, w);

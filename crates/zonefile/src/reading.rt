@@ -6,26 +6,24 @@ use crate::lines::opening;
 use crate::pairs::pairs;
 use crate::scan::Scanned;
 use area::base::clear;
-use area::slices::copy;
+use darts::Answer;
+use darts::answers::fit;
 use engine::check::check_laid;
-use pyramid::Answer;
 use pyramid::Outcome;
 use pyramid::State;
-use pyramid::answers::fit;
 use pyramid::starting::based;
+use slices::copy;
 ghost use mathlib.Core.Path.{_≡_};
 ghost use Prim.Native.Nat.{_/_, _≤_};
 ghost use lib.ListN.{length};
-ghost use Rattle.darts.specs.Answers.{answered};
-ghost use Rattle.darts.specs.State.{baseState};
 ghost use Rattle.darts.specs.Read.{body, closed};
 ghost use Rattle.darts.specs.Calls.{cleared, readInto, read as readOf};
 ghost use Rattle.area.specs.Area.{Room};
 ghost use Rattle.engine.specs.Held.{Beyond};
-ghost use Rattle.pyramid.specs.Values.{answerOf, left, Hands};
+ghost use Rattle.pyramid.specs.Values.{left};
 ghost use Rattle.zonefile.specs.Lines.{startsWith};
 ghost use Rattle.zonefile.specs.Parsed.{LastRead, linesAt, BodyRead};
-ghost use Rattle.zonefile.specs.Settled.{Refuses, Accepted, Settled};
+ghost use Rattle.zonefile.specs.Settled.{Accepted, Settled};
 
 // What the body of a file says: its operations in all with the place where the pairs begin, or the first fault; its levels, and their ends.
 struct Parsed {
@@ -40,10 +38,10 @@ fn last_pairs(bytes: &[u8], at: usize, d: usize, flag: usize, table: &mut [u32])
     ensures { λ r. ⌜ LastRead (now (bytes .entry)) at d flag (now (table .entry)) (now (table .exit)) r ⌝ }
 {
     match pairs(bytes, at, d, flag, table) {
-        Scanned::Fault(n, p) => Scanned::Fault(n, p),
+        Scanned::Fault(answer) => Scanned::Fault(answer),
         Scanned::Found(_, next) => {
             if next != bytes.len() {
-                return Scanned::Fault(13, next);
+                return Scanned::Fault(Answer::NoFile(next));
             }
             Scanned::Found(0, next)
         }
@@ -63,14 +61,14 @@ fn lines(bytes: &[u8], at: usize, levels: usize, d: usize, flag: usize, work: &m
     let read = said.read;
     let ends = said.ends;
     match read {
-        Scanned::Fault(n, p) => Parsed {
-            read: Scanned::Fault(n, p),
+        Scanned::Fault(answer) => Parsed {
+            read: Scanned::Fault(answer),
             levels: levels,
             ends: ends,
         },
         Scanned::Found(total, next) => match last_pairs(bytes, next, d, flag, &mut work[0..d]) {
-            Scanned::Fault(n, p) => Parsed {
-                read: Scanned::Fault(n, p),
+            Scanned::Fault(answer) => Parsed {
+                read: Scanned::Fault(answer),
                 levels: levels,
                 ends: ends,
             },
@@ -90,44 +88,16 @@ fn parse(bytes: &[u8], at: usize, d: usize, flag: usize, work: &mut [u32]) -> Pa
         BodyRead (body d (now (bytes .entry)) at) (now (bytes .entry)) d flag (now (work .entry)) (now (work .exit)) r ⌝ }
 {
     match levels_line(bytes, at) {
-        Scanned::Fault(n, p) => {
+        Scanned::Fault(answer) => {
             let ends = [0u32; 64];
             Parsed {
-                read: Scanned::Fault(n, p),
+                read: Scanned::Fault(answer),
                 levels: 0,
                 ends: ends,
             }
         }
         Scanned::Found(levels, next) => lines(bytes, next, levels, d, flag, work),
     }
-}
-
-// The answer that a file is refused with, by its number and place.
-fn answer(number: u32, place: usize) -> Answer
-    requires { ⌜ Refuses number place ⌝ }
-    ensures { λ r. ⌜ answerOf r ≡ answered number place ⌝ }
-{
-    if number == 4 {
-        return Answer::NoPyramid;
-    }
-    if number == 5 {
-        return Answer::EmptyKernel;
-    }
-    if number == 6 {
-        return Answer::TooManyLevels;
-    }
-    if number == 14 {
-        return Answer::NoFlag;
-    }
-    Answer::NoFile(place)
-}
-
-// A refused read, which was given no state, hands back a state of zeros.
-fn refused(number: u32, place: usize) -> Outcome
-    requires { ⌜ Refuses number place ⌝ }
-    ensures { λ r. ⌜ Hands r (answered number place) (baseState 0) ⌝ }
-{
-    based(0, answer(number, place))
 }
 
 // The pairs are read once more, now into the table, and the history gets the numbers that stand in the work area.
@@ -172,7 +142,7 @@ fn settle(
         (now (work .entry)) (now (work .exit)) r ⌝ }
 {
     if d / 2 < n {
-        return refused(4, 0);
+        return based(0, Answer::NoPyramid);
     }
     if check_laid(work, d, n, levels, ends) {
         accept(bytes, at, d, flag, n, table, history, work);
@@ -186,7 +156,7 @@ fn settle(
             answer: Answer::Done(0),
         };
     }
-    refused(4, 0)
+    based(0, Answer::NoPyramid)
 }
 
 // What follows the darts line, read into the work area and judged.
@@ -211,7 +181,7 @@ fn read_inside(
     let levels = said.levels;
     let ends = said.ends;
     match read {
-        Scanned::Fault(n, p) => refused(n, p),
+        Scanned::Fault(answer) => based(0, answer),
         Scanned::Found(n, first) => {
             settle(bytes, first, d, flag, n, levels, ends, table, history, work)
         }
@@ -225,7 +195,7 @@ pub fn read(bytes: &[u8], table: &mut [u32], history: &mut [u32], work: &mut [u3
         ≡ readOf (now (bytes .entry)) (now (table .entry)) (now (history .entry)) (now (work .entry)) ⌝ }
 {
     match opening(bytes) {
-        Line::Fault(n, p) => refused(n, p),
+        Line::Fault(answer) => based(0, answer),
         Line::Found(flag, d, at) => {
             let judged = fit(d as u32, table.len(), history.len(), work.len());
             if judged.number() != 0 {

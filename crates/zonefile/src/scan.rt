@@ -1,12 +1,13 @@
 // What stands at a place of a file: a word, or a number between two words. The first wrong byte decides.
+use darts::Answer;
 ghost use mathlib.Core.Path.{_≡_};
 ghost use Rattle.darts.specs.Scan.{byteAt, word as wordAt, isDigit, numberOn, numberAt, field as fieldAt};
 ghost use Rattle.zonefile.specs.Found.{scanOf};
 
-// Found: a value, and the place after it. Fault: the answer's number, and the place of the first wrong byte.
+// Found: a value, and the place after it. Fault: the answer to the first wrong byte.
 pub enum Scanned {
     Found(usize, usize),
-    Fault(u32, usize),
+    Fault(Answer),
 }
 
 // The byte at a place, 256 where the file has ended.
@@ -28,7 +29,7 @@ pub fn word(bytes: &[u8], at: usize, w: &[u8]) -> Scanned
     let mut i = 0;
     while i < w.len() {
         if byte_at(bytes, place) != byte_at(w, i) {
-            return Scanned::Fault(13, place);
+            return Scanned::Fault(Answer::NoFile(place));
         }
         place += 1;
         i += 1;
@@ -71,7 +72,7 @@ pub fn number(bytes: &[u8], at: usize) -> Scanned
         return Scanned::Found(0, at + 1);
     }
     if !is_digit(first) {
-        return Scanned::Fault(13, at);
+        return Scanned::Fault(Answer::NoFile(at));
     }
     digits(bytes, at)
 }
@@ -81,11 +82,11 @@ pub fn field(bytes: &[u8], at: usize, w: &[u8], end: &[u8]) -> Scanned
     ensures { λ r. ⌜ scanOf r ≡ fieldAt (now (w .entry)) (now (end .entry)) (now (bytes .entry)) at ⌝ }
 {
     match word(bytes, at, w) {
-        Scanned::Fault(n, p) => Scanned::Fault(n, p),
+        Scanned::Fault(answer) => Scanned::Fault(answer),
         Scanned::Found(_, from) => match number(bytes, from) {
-            Scanned::Fault(n, p) => Scanned::Fault(n, p),
+            Scanned::Fault(answer) => Scanned::Fault(answer),
             Scanned::Found(x, to) => match word(bytes, to, end) {
-                Scanned::Fault(n, p) => Scanned::Fault(n, p),
+                Scanned::Fault(answer) => Scanned::Fault(answer),
                 Scanned::Found(_, next) => Scanned::Found(x, next),
             },
         },

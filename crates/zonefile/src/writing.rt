@@ -3,7 +3,7 @@ use crate::numbering::number_darts;
 use crate::print::fit_field;
 use crate::print::put_kernel;
 use crate::print::put_pair;
-use area::slices::at;
+use slices::at;
 ghost use mathlib.Core.Path.{_≡_};
 ghost use Prim.Native.Nat.{_+_, _*_, _≤_, _<_};
 ghost use lib.Dec.{T};

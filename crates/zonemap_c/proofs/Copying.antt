@@ -7,7 +7,7 @@ use Prim.Native.Nat.{ℕ, _≤_}
 use native.Mathlib.Omega.{arith}
 use lib.ListN.{length, take, drop, drop-of-length-le, length-drop}
 use lib.Seq.{take-all}
-use Rattle.darts.specs.Calls.{over}
+use Rattle.slices.specs.Over.{over}
 
 pub copied-whole : (n : ℕ) (a o : List ℕ) → length a ≡ n → length o ≡ n → over (take n a) o ≡ a
 unfolding over

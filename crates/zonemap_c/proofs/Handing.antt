@@ -8,8 +8,9 @@ use Prim.Native.Nat.{ℕ}
 use Rattle.darts.specs.Answers.{answered}
 use Rattle.darts.specs.Calls.{After, Counted as CountsAfter, Written, leaves}
 use Rattle.darts.specs.Counts.{Counts as Tally}
-use Rattle.pyramid.specs.Values.{answerOf, tallyOf, left, countsLeft}
-use Rattle.pyramid.specs.declared.Answer.{Answer}
+use Rattle.darts.specs.Cases.{answerOf}
+use Rattle.pyramid.specs.Values.{tallyOf, left, countsLeft}
+use Rattle.darts.specs.declared.Answer.{Answer}
 use Rattle.pyramid.specs.declared.Counted.{Counted}
 use Rattle.pyramid.specs.declared.Outcome.{Outcome}
 use Rattle.zonefile.specs.Filed.{filed}

@@ -15,8 +15,9 @@ use Rattle.darts.specs.Answers.{answered}
 use Rattle.darts.specs.State.{State as Stated}
 use Rattle.darts.specs.Calls.{After, Counted, Written, leaves}
 use Rattle.darts.specs.Counts.{Counts as Tally}
-use Rattle.pyramid.specs.Values.{answerOf, stateOf}
-use Rattle.pyramid.specs.declared.Answer.{Answer}
+use Rattle.darts.specs.Cases.{answerOf}
+use Rattle.pyramid.specs.Values.{stateOf}
+use Rattle.darts.specs.declared.Answer.{Answer}
 use Rattle.pyramid.specs.declared.Outcome.{Outcome}
 
 abbrev pub stateIn : List ℕ → Stated

@@ -1,9 +1,9 @@
 // The state as 67 numbers (darts, operations, levels, the 64 level ends), and what a call hands back.
-use area::slices::copy;
 use pyramid::Answer;
 use pyramid::Counts;
 use pyramid::Outcome;
 use pyramid::State;
+use slices::copy;
 ghost use mathlib.Core.Path.{_≡_};
 ghost use Rattle.pyramid.specs.Values.{stateOf, tallyOf};
 ghost use Rattle.zonemap_c.specs.Numbers.{stateIn, tallyIn, Answered, Handed};

@@ -2,7 +2,7 @@
 //!
 //! any_order == the darts in any order, cut into vertices
 //! grown     == edge added to edge: pending edges, empty loops, edges across a face, edges anywhere, new pieces
-//! grid      == a stitch plan's cells, joined to their neighbours
+//! grid      == cells in wales and courses, joined to their neighbours
 //! chain     == a path
 //! renamed   == the same map under other edge numbers, with any dart of an edge as its even one
 
@@ -89,9 +89,9 @@ fn along_face(table: &[u32], a: u32, steps: u32) -> u32 {
     (0..steps).fold(a, |b, _| partner(table[b as usize]))
 }
 
-/// The plan of so many wales and courses: "an edge joins each cell to its neighbour in wale and in course, edges along
-/// the courses first, course by course, then the upright ones by their lower cells in the plan's order, the even dart
-/// at the left or lower cell. Round a cell the successor goes right, up, left, down, skipping what is missing."
+/// Cells in so many wales and courses, each joined to its neighbours, numbered as in samples/: the edges along the
+/// courses first, course by course, then the upright ones by their lower cells, with the even dart at the left or lower
+/// cell. Round a cell the successor goes right, up, left, down, as far as there are neighbours.
 pub fn grid(wales: u32, courses: u32) -> Vec<u32> {
     let along = (wales - 1) * courses;
     let mut table = vec![0; 2 * (along + wales * (courses - 1)) as usize];

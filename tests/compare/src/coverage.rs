@@ -54,7 +54,7 @@ const GIVEN_BY: [(&[Call], &str); ANSWERS] = [
     (&[Contract, Remove], "the others are given no edge numbers"),
     (&[Contract, Remove], "the others are given no edge numbers; a sweep takes surviving edges"),
     (&[Contract], "\"contraction with one vertex at both ends\"; the sweep is a removal"),
-    (&[Remove], "a sweep takes empty loops that are no whole piece, and these have two faces (request Seven)"),
+    (&[Remove], "a sweep takes empty loops that are no whole piece, and these have two faces"),
     (&[Contract, Remove], "a sweep takes no whole piece"),
     (&[Undo, Unfold], "the others go to no lower level"),
     (&[Read, Levels], "the others are given no bytes"),

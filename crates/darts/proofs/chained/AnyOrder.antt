@@ -15,10 +15,10 @@ use Rattle.darts.specs.State.{State, baseState, Result, gives}
 use Rattle.darts.specs.Pyramid.{Kernel, build}
 use Rattle.darts.specs.Calls.{After, tableOf, pastOf, start}
 use Rattle.darts.specs.OneByOne.{operationsOf, NoneEmpty}
-use Rattle.darts.proofs.Results.{then}
-use Rattle.darts.proofs.AnyOrder.{Agrees, any-cut}
-use Rattle.darts.proofs.Fitting.{Lengths}
-use Rattle.darts.proofs.Judging.{Lent}
+use Rattle.darts.proofs.runs.Results.{then}
+use Rattle.darts.proofs.claims.AnyOrder.{Agrees, any-cut}
+use Rattle.darts.proofs.calls.Fitting.{Lengths}
+use Rattle.darts.proofs.calls.Judging.{Lent}
 use Rattle.darts.proofs.chained.OnLent.{Call, byKernel, callOn, stepOf, called-accepts, called-left}
 use Rattle.darts.proofs.chained.Begins.{entry-front, start-left, start-accepts}
 use Rattle.darts.proofs.chained.Chains.{calls, AllDone, first-done, Above, above-start, above-calls}

@@ -20,11 +20,11 @@ use Rattle.darts.specs.State.{State, baseState}
 use Rattle.darts.specs.Pyramid.{dartCount, build}
 use Rattle.darts.specs.Read.{fileState, Read, means, faulty, readFile}
 use Rattle.darts.specs.Calls.{After, leaves, cleared, room, fitting, tableOf, pastOf, start, readInto, read}
-use Rattle.darts.proofs.Pyramids.{built-pyramid}
-use Rattle.darts.proofs.Decided.{pyramid-decided}
-use Rattle.darts.proofs.Meanings.{meaning}
-use Rattle.darts.proofs.Fitting.{Count, Lengths, count-facts, count-test, room-facts, fine, fits}
-use Rattle.darts.proofs.Over.{cleared-zero, cleared-rest, cleared-length}
+use Rattle.darts.proofs.runs.Pyramids.{built-pyramid}
+use Rattle.darts.proofs.claims.Decided.{pyramid-decided}
+use Rattle.darts.proofs.file.Meanings.{meaning}
+use Rattle.darts.proofs.calls.Fitting.{Count, Lengths, count-facts, count-test, room-facts, fine, fits}
+use Rattle.darts.proofs.calls.Cleared.{cleared-zero, cleared-rest, cleared-length}
 use Rattle.darts.proofs.chained.OnLent.{Left, laid-table, laid-past, laid-left}
 use Rattle.darts.proofs.chained.Faults.{Meant, file-told}
 

@@ -11,8 +11,8 @@ use Rattle.darts.specs.Answers.{answered}
 use Rattle.darts.specs.State.{baseState, gives}
 use Rattle.darts.specs.Levels.{unfoldTo}
 use Rattle.darts.specs.Calls.{After, tableOf, pastOf, start}
-use Rattle.darts.proofs.Judging.{Lent}
-use Rattle.darts.proofs.Undo.{unfold-top}
+use Rattle.darts.proofs.calls.Judging.{Lent}
+use Rattle.darts.proofs.runs.Undo.{unfold-top}
 use Rattle.darts.proofs.chained.OnLent.{Left, Call, toLevel, callOn, leads, called-accepts, called-left}
 use Rattle.darts.proofs.chained.Begins.{Started, start-left}
 use Rattle.darts.proofs.sentences.NotWritten.{unfold-history}

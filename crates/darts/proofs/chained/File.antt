@@ -25,16 +25,17 @@ use Rattle.darts.specs.Levels.{unfoldTo}
 use Rattle.darts.specs.File.{fileNumber, fileTable, fileOf}
 use Rattle.darts.specs.Scan.{byteAt}
 use Rattle.darts.specs.Read.{means}
-use Rattle.darts.specs.Calls.{After, Written, room, tableOf, pastOf, over, cleared, judged, unfoldBy, read, write}
+use Rattle.darts.specs.Calls.{After, Written, room, tableOf, pastOf, cleared, judged, unfoldBy, read, write}
+use Rattle.slices.specs.Over.{over}
 use Rattle.darts.proofs.Lists.{reverse-map}
-use Rattle.darts.proofs.History.{filePast}
-use Rattle.darts.proofs.RenamedMap.{renumbered}
-use Rattle.darts.proofs.Numbering.{Numbering}
-use Rattle.darts.proofs.ReadWrite.{read-write}
-use Rattle.darts.proofs.WriteRead.{SameLevel, write-read}
-use Rattle.darts.proofs.Fitting.{Lengths, room-test}
-use Rattle.darts.proofs.Over.{cleared-zero, cleared-rest}
-use Rattle.darts.proofs.Judging.{Lent, Judging, uncounted, cramped, other, lent, judging, judged-lent}
+use Rattle.darts.proofs.file.History.{filePast}
+use Rattle.darts.proofs.file.RenamedMap.{renumbered}
+use Rattle.darts.proofs.file.Numbering.{Numbering}
+use Rattle.darts.proofs.file.ReadWrite.{read-write}
+use Rattle.darts.proofs.file.WriteRead.{SameLevel, write-read}
+use Rattle.darts.proofs.calls.Fitting.{Lengths, room-test}
+use Rattle.darts.proofs.calls.Cleared.{cleared-zero, cleared-rest}
+use Rattle.darts.proofs.calls.Judging.{Lent, Judging, uncounted, cramped, other, lent, judging, judged-lent}
 use Rattle.darts.proofs.chained.OnLent.{toLevel, callOn, called-accepts, called-left}
 use Rattle.darts.proofs.chained.Begins.{entry-front, read-left, read-accepts}
 

@@ -15,13 +15,16 @@ use Rattle.darts.specs.Answers.{Answer, answered, done}
 use Rattle.darts.specs.State.{State, Result, gives, refuses, reduce}
 use Rattle.darts.specs.Levels.{sweep, undoLevel, unfoldTo}
 use Rattle.darts.specs.Pyramid.{Kernel, Pyramid}
-use Rattle.darts.specs.Calls.{After, leaves, tableOf, pastOf, over, cleared, judged, handsBack, onState, reduceBy, sweepBy, undoBy, unfoldBy}
-use Rattle.darts.proofs.Passes.{pyramid-shaped}
-use Rattle.darts.proofs.Room.{pyramid-room}
-use Rattle.darts.proofs.Fitting.{Lengths}
-use Rattle.darts.proofs.Over.{over-front, over-rest, over-length, cleared-zero, cleared-rest, cleared-length}
-use Rattle.darts.proofs.Judging.{Lent, Judging, uncounted, cramped, other, lent, judging, on-refused, on-lent}
-use Rattle.darts.proofs.chained.Steps.{Step, Told, Leads, reduce-leads, sweep-leads, undo-leads, unfold-leads}
+use Rattle.darts.specs.Calls.{After, leaves, tableOf, pastOf, cleared, judged, handsBack, onState, reduceBy, sweepBy, undoBy, unfoldBy}
+use Rattle.slices.specs.Over.{over}
+use Rattle.darts.proofs.tests.Passes.{pyramid-shaped}
+use Rattle.darts.proofs.tests.Room.{pyramid-room}
+use Rattle.darts.proofs.calls.Fitting.{Lengths}
+use Rattle.slices.proofs.Over.{over-front, over-rest, over-length}
+use Rattle.darts.proofs.calls.Cleared.{cleared-zero, cleared-rest, cleared-length}
+use Rattle.darts.proofs.calls.Judging.{Lent, Judging, uncounted, cramped, other, lent, judging, on-refused, on-lent}
+use Rattle.darts.proofs.chained.Steps.{Step, Leads, reduce-leads, sweep-leads, undo-leads, unfold-leads}
+use Rattle.darts.proofs.runs.Earnest.{Earnest}
 
 pub record Left (D : ℕ) (t h w : List ℕ) (a : After) : Type 0 where
   pub answer : a .answer ≡ answered 0 0
@@ -128,7 +131,7 @@ module _ (f : Step) (s : State) (t h w : List ℕ) where
             let k : judged s t h w .number ≢ 0 = λ z. n (ap (λ (x : Answer). x .number) (sym j) ∙ z) in
             absurd (k (sym (ap (λ (x : Answer). x .number) (judged-answer k)) ∙ e))
 
-        stepped : Lent s t h w → (r : Result) → Told r → f s (tableOf s t) (pastOf s h) ≡ r → Accepted f s t h w (onState f s t h w)
+        stepped : Lent s t h w → (r : Result) → Earnest r → f s (tableOf s t) (pastOf s h) ≡ r → Accepted f s t h w (onState f s t h w)
         stepped L (gives z u new) T g = given-accepted L g
         stepped L (refuses a) T g = absurd (T (sym (ap (λ (x : Answer). x .number) (on-refuses L g)) ∙ e))
 
@@ -136,7 +139,7 @@ module _ (f : Step) (s : State) (t h w : List ℕ) where
         go (uncounted n j) = unjudged j (λ z. omega arith)
         go (cramped C n j) = unjudged j (λ z. omega arith)
         go (other C L n j) = unjudged j (λ z. omega arith)
-        go (lent L j) = stepped L _ (A .told s (tableOf s t) (pastOf s h)) refl
+        go (lent L j) = stepped L _ (A .earnest s (tableOf s t) (pastOf s h)) refl
 
 -- ---- the four calls on a state
 

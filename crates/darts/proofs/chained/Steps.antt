@@ -1,8 +1,7 @@
 -- The four steps of a pyramid, as the calls on a state make them.
 --   Step                   == from a state, a table and a past to a result
---   Told r                 == the result r is no refusal with the number 0
---   Lowered n s past z new == n levels undone: as many levels fewer, the same D, and the last numbers of the past forgotten
---   Leads f                == the step f leads from pyramids to pyramids of the same D, over the same base, and its refusals are told
+--   Lowered n s z == n levels undone: as many levels fewer, and the same D
+--   Leads f                == the step f leads from pyramids to pyramids of the same D, over the same base, and its refusals do not say 0
 --   reduce-leads, sweep-leads, undo-leads, unfold-leads == each of the four does
 use mathlib.Core.Bool.{Bool, true, false}
 use mathlib.Core.List.{List}
@@ -12,94 +11,49 @@ use Prim.Native.Nat.{ℕ, zero, suc, _+_, _-_, _≤_}
 use native.Mathlib.Decide.{ℕ-discrete}
 use native.Mathlib.Numerals.{add-one}
 use native.Mathlib.Omega.{arith}
-use lib.Dec.{eqb, leb, ltb, ltb→lt, nltb→le}
-use lib.ListN.{length, drop}
-use lib.Seq.{drop-drop}
-use Rattle.permutations.specs.Choice.{pick, eqb-other, nT→false}
+use lib.Dec.{ltb, ltb→lt, nltb→le}
+use Rattle.permutations.specs.Choice.{eqb-other, nT→false}
 use Rattle.darts.specs.Operation.{Kind, removal}
-use Rattle.darts.specs.Kernel.{Run, stands, stops}
-use Rattle.darts.specs.State.{State, Result, gives, refuses, andThen, raised, levelled, reduce}
-use Rattle.darts.specs.Levels.{sweep, endBelow, lowered, undoLevel, undoLevels, unfoldTo}
+use Rattle.darts.specs.State.{State, Result, gives, raised, reduce}
+use Rattle.darts.specs.Levels.{sweep, lowered, undoLevel, undoLevels, unfoldTo}
 use Rattle.darts.specs.Pyramid.{Pyramid}
-use Rattle.darts.proofs.Results.{refuses≢gives, then, same-result}
-use Rattle.darts.proofs.Reduces.{reduce-raises}
-use Rattle.darts.proofs.Sweeps.{sweep-reduces}
-use Rattle.darts.proofs.Stops.{Edgy, run-edgy, swept-edgy}
-use Rattle.darts.proofs.Pyramids.{reduce-pyramid, sweep-pyramid}
-use Rattle.darts.proofs.Undo.{undo-returns, undo-levels, undo-pyramid, unfold-pyramid}
+use Rattle.darts.proofs.runs.Results.{refuses≢gives, then, same-result}
+use Rattle.darts.proofs.runs.Reduces.{reduce-raises}
+use Rattle.darts.proofs.runs.Sweeps.{loops, sweep-reduces}
+use Rattle.darts.proofs.runs.Pyramids.{reduce-pyramid, sweep-pyramid}
+use Rattle.darts.proofs.runs.Undo.{undo-returns, undo-levels, undo-pyramid, unfold-pyramid}
+use Rattle.darts.proofs.runs.Earnest.{Earnest, earnest-reduce, earnest-sweep, earnest-undo, earnest-unfold}
 
 abbrev pub Step : Type 0
 Step = State → List ℕ → List ℕ → Result
-
-abbrev pub Told : Result → Type 0
-Told (gives s t past) = Unit {0}
-Told (refuses a) = a .number ≢ 0
 
 pub record Leads (f : Step) : Type 0 where
   pub pyramid : {s : State} {t past : List ℕ} {z : State} {u new : List ℕ} → Pyramid s t past → f s t past ≡ gives z u new → Pyramid z u new
   pub darts : {s : State} {t past : List ℕ} {z : State} {u new : List ℕ} → f s t past ≡ gives z u new → z .darts ≡ s .darts
   pub ground : {s : State} {t past : List ℕ} {z : State} {u new : List ℕ} → Pyramid s t past → f s t past ≡ gives z u new
       → unfoldTo 0 z u new ≡ unfoldTo 0 s t past
-  pub told : (s : State) (t past : List ℕ) → Told (f s t past)
-
--- ---- a refusal is told
-
-told-if : (b : Bool) (x y : Result) → Told x → Told y → Told (pick b x y)
-told-if true x y h k = h
-told-if false x y h k = k
-
-told-then : (r : Result) (f : Step) → Told r → ((s : State) (t past : List ℕ) → Told (f s t past)) → Told (andThen r f)
-told-then (gives s t past) f h k = k s t past
-told-then (refuses a) f h k = h
-
-level-told : (s : State) (past : List ℕ) (r : Run) → Edgy r → Told (levelled s past r)
-unfolding levelled
-level-told s past (stands t new) edgy = told-if (eqb (length new) (length past)) _ _ (λ z. omega arith) tt
-level-told s past (stops n i) edgy = let some = edgy .0 in λ z. omega arith
-
-reduce-told : (k : Kind) (es : List ℕ) (s : State) (t past : List ℕ) → Told (reduce k es s t past)
-unfolding reduce
-reduce-told k es s t past = told-if (leb 64 (s .levels)) _ _ (λ z. omega arith) (level-told s past _ (run-edgy k (s .darts) t past es))
-
-sweep-told : (s : State) (t past : List ℕ) → Told (sweep s t past)
-unfolding sweep
-sweep-told s t past = told-if (leb 64 (s .levels)) _ _ (λ z. omega arith) (level-told s past _ (swept-edgy (s .darts) t past))
-
-undo-told : (s : State) (t past : List ℕ) → Told (undoLevel s t past)
-unfolding undoLevel
-undo-told s t past = told-if (eqb (s .levels) 0) _ _ (λ z. omega arith) tt
-
-undo-levels-told : (n : ℕ) (s : State) (t past : List ℕ) → Told (undoLevels n s t past)
-unfolding undoLevels
-undo-levels-told zero s t past = tt
-undo-levels-told (suc n) s t past = told-then (undoLevel s t past) (undoLevels n) (undo-told s t past) (undo-levels-told n)
-
-unfold-told : (k : ℕ) (s : State) (t past : List ℕ) → Told (unfoldTo k s t past)
-unfolding unfoldTo
-unfold-told k s t past = told-if (ltb (s .levels) k) _ _ (λ z. omega arith) (undo-levels-told (s .levels - k) s t past)
+  pub earnest : (s : State) (t past : List ℕ) → Earnest (f s t past)
 
 -- ---- levels less
 
-pub record Lowered (n : ℕ) (s : State) (past : List ℕ) (z : State) (new : List ℕ) : Type 0 where
+pub record Lowered (n : ℕ) (s z : State) : Type 0 where
   pub darts : z .darts ≡ s .darts
   pub levels : s .levels ≡ n + z .levels
-  pub forgotten : ℕ
-  pub history : new ≡ drop forgotten past
 
-pub undo-lowers : (s : State) (t past : List ℕ) {z : State} {u new : List ℕ} → undoLevel s t past ≡ gives z u new → Lowered 1 s past z new
+pub undo-lowers : (s : State) (t past : List ℕ) {z : State} {u new : List ℕ} → undoLevel s t past ≡ gives z u new → Lowered 1 s z
 unfolding undoLevel lowered
 undo-lowers s t past {z} {u} {new} e = go (ℕ-discrete (s .levels) 0)
   where
-    go : Dec (s .levels ≡ 0) → Lowered 1 s past z new
+    go : Dec (s .levels ≡ 0) → Lowered 1 s z
     go (yes h) = absurd (refuses≢gives (rw h at e))
     go (no n) =
-        same-result (λ z u new. Lowered 1 s past z new) (rw (eqb-other n) at e)
-        (record { darts = refl; levels = omega arith; forgotten = s .operations - endBelow s; history = refl })
+        same-result (λ z u new. Lowered 1 s z) (rw (eqb-other n) at e)
+        (record { darts = refl; levels = omega arith })
 
-undo-levels-lower : (n : ℕ) (s : State) (t past : List ℕ) {z : State} {u new : List ℕ} → undoLevels n s t past ≡ gives z u new → Lowered n s past z new
+undo-levels-lower : (n : ℕ) (s : State) (t past : List ℕ) {z : State} {u new : List ℕ} → undoLevels n s t past ≡ gives z u new → Lowered n s z
 unfolding undoLevels
 undo-levels-lower zero s t past e =
-    same-result (λ z u new. Lowered 0 s past z new) e (record { darts = refl; levels = omega arith; forgotten = 0; history = refl })
+    same-result (λ z u new. Lowered 0 s z) e (record { darts = refl; levels = omega arith })
 undo-levels-lower (suc n) s t past e =
     let first = then (undoLevel s t past) (undoLevels n) e in
     let one = undo-lowers s t past (first .first) in
@@ -107,8 +61,6 @@ undo-levels-lower (suc n) s t past e =
     record {
       darts = more .darts ∙ one .darts;
       levels = omega arith;
-      forgotten = one .forgotten + more .forgotten;
-      history = more .history ∙ ap (drop (more .forgotten)) (one .history) ∙ drop-drop (more .forgotten) (one .forgotten) past;
     }
 
 module _ (k : ℕ) (s : State) (t past : List ℕ) {z : State} {u new : List ℕ} (e : unfoldTo k s t past ≡ gives z u new) where
@@ -120,7 +72,7 @@ module _ (k : ℕ) (s : State) (t past : List ℕ) {z : State} {u new : List ℕ
       go true h = absurd (refuses≢gives (rw h at e))
       go false h = (nltb→le (s .levels) k (rw h tt), rw h at e)
 
-  pub unfold-lowers : Lowered (s .levels - k) s past z new
+  pub unfold-lowers : Lowered (s .levels - k) s z
   unfold-lowers = undo-levels-lower (s .levels - k) s t past (unfold-undoes .1)
 
 -- ---- what lies below all levels
@@ -158,15 +110,15 @@ reduce-leads k es = record {
   pyramid = λ P e. reduce-pyramid P k es e;
   darts = λ {s} {t} {past} e. one-up s t past k es e .0;
   ground = λ {s} {t} {past} P e. reduce-ground s t past P k es e;
-  told = reduce-told k es;
+  earnest = earnest-reduce k es;
 }
 
 pub sweep-leads : Leads sweep
 sweep-leads = record {
   pyramid = sweep-pyramid;
-  darts = λ {s} {t} {past} e. let r = sweep-reduces s t past e in one-up s t past removal (r .0) (r .1) .0;
-  ground = λ {s} {t} {past} P e. let r = sweep-reduces s t past e in reduce-ground s t past P removal (r .0) (r .1);
-  told = sweep-told;
+  darts = λ {s} {t} {past} e. one-up s t past removal (loops s t past) (sym (sweep-reduces s t past) ∙ e) .0;
+  ground = λ {s} {t} {past} P e. reduce-ground s t past P removal (loops s t past) (sym (sweep-reduces s t past) ∙ e);
+  earnest = earnest-sweep;
 }
 
 pub undo-leads : Leads undoLevel
@@ -174,7 +126,7 @@ undo-leads = record {
   pyramid = undo-pyramid;
   darts = λ {s} {t} {past} e. undo-lowers s t past e .darts;
   ground = λ {s} {t} {past} P e. undo-ground s t past e;
-  told = undo-told;
+  earnest = earnest-undo;
 }
 
 pub unfold-leads : (k : ℕ) → Leads (unfoldTo k)
@@ -182,5 +134,5 @@ unfold-leads k = record {
   pyramid = λ P e. unfold-pyramid P k e;
   darts = λ {s} {t} {past} e. unfold-lowers k s t past e .darts;
   ground = λ {s} {t} {past} P e. undo-levels-ground s t past (s .levels - k) (unfold-undoes k s t past e .1);
-  told = unfold-told k;
+  earnest = earnest-unfold k;
 }

@@ -17,12 +17,12 @@ use Rattle.darts.specs.State.{State, gives}
 use Rattle.darts.specs.Levels.{undoLevel, unfoldTo}
 use Rattle.darts.specs.Pyramid.{Pyramid}
 use Rattle.darts.specs.Calls.{After, tableOf, pastOf, workAfter, handsBack, reduceBy, sweepBy, undoBy, unfoldBy}
-use Rattle.darts.proofs.Judging.{Lent, on-lent}
-use Rattle.darts.proofs.Over.{cleared-zero, cleared-rest}
-use Rattle.darts.proofs.Undo.{undo-returns, sweep-undo-returns, unfold-top}
+use Rattle.darts.proofs.calls.Judging.{Lent, on-lent}
+use Rattle.darts.proofs.calls.Cleared.{cleared-zero, cleared-rest}
+use Rattle.darts.proofs.runs.Undo.{undo-returns, sweep-undo-returns, unfold-top}
 use Rattle.darts.proofs.chained.Steps.{Step}
 use Rattle.darts.proofs.chained.OnLent.{Left, Accepted, Call, byKernel, bySweep, byUndo, toLevel, called, stepOf, called-accepts, called-left}
-use Rattle.darts.proofs.Over.{same-slice}
+use Rattle.slices.proofs.Over.{same-slice}
 use Rattle.darts.proofs.sentences.NotWritten.{undo-history, unfold-history}
 
 pub record Returned (r : Answer) (s : State) (t h w : List ℕ) (b : After) : Type 0 where

@@ -12,13 +12,13 @@ use Rattle.darts.specs.Answers.{Answer, done}
 use Rattle.darts.specs.State.{State, gives}
 use Rattle.darts.specs.Levels.{undoLevel, undoLevels, unfoldTo}
 use Rattle.darts.specs.Calls.{After, leaves, tableOf, pastOf, judged, cleared, workAfter, handsBack, onState, undoBy, unfoldBy}
-use Rattle.darts.proofs.Over.{cleared-rest, cleared-length, cleared-kept}
-use Rattle.darts.proofs.Judging.{Lent, Judging, uncounted, cramped, other, lent, judging, on-refused}
-use Rattle.darts.proofs.Results.{then}
-use Rattle.darts.proofs.WriteRead.{undo-given, unfold-given}
+use Rattle.darts.proofs.calls.Cleared.{cleared-rest, cleared-length, cleared-kept}
+use Rattle.darts.proofs.calls.Judging.{Lent, Judging, uncounted, cramped, other, lent, judging, on-refused}
+use Rattle.darts.proofs.runs.Results.{then}
+use Rattle.darts.proofs.file.WriteRead.{undo-given, unfold-given}
 use Rattle.darts.proofs.chained.Steps.{Step, undo-lowers, unfold-undoes}
 use Rattle.darts.proofs.chained.OnLent.{Left, Accepted, byUndo, toLevel, called-accepts, called-left}
-use Rattle.darts.proofs.Over.{same-slice}
+use Rattle.slices.proofs.Over.{same-slice}
 use Rattle.darts.proofs.sentences.NotWritten.{undo-history}
 use Rattle.darts.proofs.chained.Undo.{undoing}
 

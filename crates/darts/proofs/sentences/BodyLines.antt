@@ -17,10 +17,10 @@ use Rattle.darts.specs.Text.{bytes, decimal}
 use Rattle.darts.specs.File.{lineFeed, kindWord}
 use Rattle.darts.specs.Scan.{found, fault, field}
 use Rattle.darts.specs.Read.{KernelLine, kernelOfKind, kernelAt, kernelsAt, body}
-use Rattle.darts.proofs.Words.{Between, between-byte, between-split, word-found}
-use Rattle.darts.proofs.Fields.{field-found}
+use Rattle.darts.proofs.file.Words.{Between, between-byte, between-split, word-found}
+use Rattle.darts.proofs.file.Fields.{field-found}
 use Rattle.darts.proofs.Lists.{Each}
-use Rattle.darts.proofs.Lines.{Counted, countLine, countLines, no-digit-feed, kernel-found}
+use Rattle.darts.proofs.file.Lines.{Counted, countLine, countLines, no-digit-feed, kernel-found}
 
 pub record LevelsLine (b : List ℕ) (at n : ℕ) (more : List ℕ) : Type 0 where
   pub mid : ℕ

@@ -1,68 +1,21 @@
 -- The place of a call that is done is 0 (document 01, "Answer numbers").
---   Earnest r  == the result r is no refusal with number 0
 --   done-place == a call on a state whose step is earnest has place 0 where it is done; instances for reduce, sweep, undo, unfold
 --   start-place, counts-place == the same for start and counts
-use mathlib.Core.Bool.{Bool, true, false}
 use mathlib.Core.List.{List}
-use mathlib.Core.Logic.{_≢_}
 use mathlib.Core.Path.{_≡_, refl}
-use Prim.Native.Nat.{ℕ, zero, suc, _-_}
+use Prim.Native.Nat.{ℕ, _-_}
 use native.Mathlib.Decide.{ℕ-discrete}
 use native.Mathlib.Omega.{arith}
-use lib.Dec.{eqb, leb, ltb}
-use lib.ListN.{length}
+use lib.Dec.{eqb}
 use Rattle.permutations.specs.Choice.{eqb-same, eqb-other}
 use Rattle.darts.specs.Choose.{if_then_else_}
 use Rattle.darts.specs.Operation.{Kind}
-use Rattle.darts.specs.Kernel.{Run, stands, stops}
-use Rattle.darts.specs.State.{State, Result, gives, refuses, andThen, levelled, reduce}
-use Rattle.darts.specs.Levels.{sweep, undoLevel, undoLevels, unfoldTo}
+use Rattle.darts.specs.State.{State, Result, gives, refuses, reduce}
+use Rattle.darts.specs.Levels.{sweep, undoLevel, unfoldTo}
 use Rattle.darts.specs.Calls.{tableOf, pastOf, judged, handsBack, onState, start, reduceBy, sweepBy, undoBy, unfoldBy, counts}
-use Rattle.darts.proofs.Stops.{Edgy, run-edgy, swept-edgy}
-use Rattle.darts.proofs.Judging.{Judging, uncounted, cramped, other, lent, judging}
-use Rattle.darts.proofs.Outcomes.{Starting, noCount, noRoom, noBase, base, starting}
-
--- ---- a result that refuses does not say 0
-
-abbrev pub Earnest : Result → Type 0
-Earnest (gives z u new) = Unit {0}
-Earnest (refuses a) = a .number ≢ 0
-
-earnest-if : (b : Bool) (x y : Result) → Earnest x → Earnest y → Earnest (if b then x else y)
-earnest-if true x y h k = h
-earnest-if false x y h k = k
-
-earnest-levelled : (s : State) (past : List ℕ) (r : Run) → Edgy r → Earnest (levelled s past r)
-unfolding levelled
-earnest-levelled s past (stands t new) h = earnest-if (eqb (length new) (length past)) _ _ (λ e. omega arith) tt
-earnest-levelled s past (stops n i) h = λ e. omega (arith, h .0)
-
-earnest-reduce : (k : Kind) (es : List ℕ) (s : State) (t past : List ℕ) → Earnest (reduce k es s t past)
-unfolding reduce
-earnest-reduce k es s t past =
-    earnest-if (leb 64 (s .levels)) _ _ (λ e. omega arith) (earnest-levelled s past _ (run-edgy k (s .darts) t past es))
-
-earnest-sweep : (s : State) (t past : List ℕ) → Earnest (sweep s t past)
-unfolding sweep
-earnest-sweep s t past = earnest-if (leb 64 (s .levels)) _ _ (λ e. omega arith) (earnest-levelled s past _ (swept-edgy (s .darts) t past))
-
-earnest-undo : (s : State) (t past : List ℕ) → Earnest (undoLevel s t past)
-unfolding undoLevel
-earnest-undo s t past = earnest-if (eqb (s .levels) 0) _ _ (λ e. omega arith) tt
-
-earnest-then : (r : Result) (f : State → List ℕ → List ℕ → Result) → Earnest r → ((s : State) (t past : List ℕ) → Earnest (f s t past))
-    → Earnest (andThen r f)
-earnest-then (gives s t past) f h k = k s t past
-earnest-then (refuses a) f h k = h
-
-earnest-undos : (n : ℕ) (s : State) (t past : List ℕ) → Earnest (undoLevels n s t past)
-unfolding undoLevels
-earnest-undos zero s t past = tt
-earnest-undos (suc n) s t past = earnest-then (undoLevel s t past) (undoLevels n) (earnest-undo s t past) (earnest-undos n)
-
-earnest-unfold : (k : ℕ) (s : State) (t past : List ℕ) → Earnest (unfoldTo k s t past)
-unfolding unfoldTo
-earnest-unfold k s t past = earnest-if (ltb (s .levels) k) _ _ (λ e. omega arith) (earnest-undos (s .levels - k) s t past)
+use Rattle.darts.proofs.calls.Judging.{Judging, uncounted, cramped, other, lent, judging}
+use Rattle.darts.proofs.calls.Outcomes.{Starting, noCount, noRoom, noBase, base, starting}
+use Rattle.darts.proofs.runs.Earnest.{Earnest, earnest-reduce, earnest-sweep, earnest-undo, earnest-unfold}
 
 -- ---- calls on a state
 

@@ -12,12 +12,12 @@ use Rattle.darts.specs.Text.{bytes, decimal}
 use Rattle.darts.specs.File.{lineFeed, kindWord, pairLines}
 use Rattle.darts.specs.Read.{KernelLine, Read, means, faulty, readFile}
 use Rattle.darts.specs.Calls.{readInto, read}
-use Rattle.darts.proofs.Fitting.{room-facts}
-use Rattle.darts.proofs.Digits.{decimal-few, decimal-two, decimal-four}
-use Rattle.darts.proofs.Lines.{countLine, countLines}
-use Rattle.darts.proofs.Texts.{GoodForm, textOf, openingText, bodyText}
-use Rattle.darts.proofs.Meanings.{meaning}
-use Rattle.darts.proofs.Seen.{seen-refused}
+use Rattle.darts.proofs.calls.Fitting.{room-facts}
+use Rattle.darts.proofs.file.Digits.{decimal-few, decimal-two, decimal-four}
+use Rattle.darts.proofs.file.Lines.{countLine, countLines}
+use Rattle.darts.proofs.file.Texts.{GoodForm, textOf, openingText, bodyText}
+use Rattle.darts.proofs.file.Meanings.{meaning}
+use Rattle.darts.proofs.file.Seen.{seen-refused}
 use Rattle.darts.proofs.sentences.FirstLines.{fits}
 
 kind-length : (k : Kind) → length (kindWord k) ≤ 9

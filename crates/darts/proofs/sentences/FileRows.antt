@@ -16,7 +16,8 @@ use Rattle.darts.specs.Text.{bytes, digits, decimal}
 use Rattle.darts.specs.File.{taken, survivors, fileOrder, placeIn, fileNumber, fileTable, kindWord, kernelLines, pairLines, fileOf}
 use Rattle.darts.specs.Scan.{byteAt, word, isDigit, numberOn, numberAt, field}
 use Rattle.darts.specs.Read.{flagAt, opening, kernelOfKind, kernelAt, kernelsAt, pairsAt, endAt, body, fromFlag, endsFrom, total, fileState, historyFrom, fileHistory, closed, opened, readFile}
-use Rattle.darts.specs.Calls.{After, Written, leaves, room, fitting, tableOf, pastOf, over, cleared, workAfter, judged, readInto, read, write}
+use Rattle.darts.specs.Calls.{After, Written, leaves, room, fitting, tableOf, pastOf, cleared, workAfter, judged, readInto, read, write}
+use Rattle.slices.specs.Over.{over}
 
 abbrev lentTable : List ℕ
 lentTable = 9 ∷ 9 ∷ 9 ∷ []

@@ -13,8 +13,8 @@ use lib.Seq.{take-take}
 use Rattle.darts.specs.Answers.{Answer}
 use Rattle.darts.specs.Read.{Read, means, faulty, readFile}
 use Rattle.darts.specs.Calls.{readInto, read}
-use Rattle.darts.proofs.Fitting.{room-facts}
-use Rattle.darts.proofs.Seen.{Cause, wrong-byte, wrong-flag, no-count, too-short, empty-kernel, many-levels, no-pyramid, Seen, seen, seen-cause}
+use Rattle.darts.proofs.calls.Fitting.{room-facts}
+use Rattle.darts.proofs.file.Seen.{Cause, wrong-byte, wrong-flag, no-count, too-short, empty-kernel, many-levels, no-pyramid, Seen, seen, seen-cause}
 use Rattle.darts.proofs.sentences.FirstLines.{fits}
 
 -- The cause names the last of these bytes: the wrong byte (13, 14), or the line feed of a value's line (1, 2, 5, 6).

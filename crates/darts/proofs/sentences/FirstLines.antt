@@ -21,10 +21,10 @@ use Rattle.darts.specs.File.{lineFeed}
 use Rattle.darts.specs.Scan.{found, fault}
 use Rattle.darts.specs.Read.{Opening, opening, body, faulty, closed, opened, readFile}
 use Rattle.darts.specs.Calls.{room, readInto, read}
-use Rattle.darts.proofs.Fitting.{Count, Lengths, count-test, room-test}
-use Rattle.darts.proofs.Words.{Between, between-all, between-split}
-use Rattle.darts.proofs.Texts.{openingText, opening-found, found-opening}
-use Rattle.darts.proofs.Meanings.{opened-uncounted, opened-cramped, opened-on}
+use Rattle.darts.proofs.calls.Fitting.{Count, Lengths, count-test, room-test}
+use Rattle.darts.proofs.file.Words.{Between, between-all, between-split}
+use Rattle.darts.proofs.file.Texts.{openingText, opening-found, found-opening}
+use Rattle.darts.proofs.file.Meanings.{opened-uncounted, opened-cramped, opened-on}
 
 -- "1. `numbers=F`." "2. `darts=D`." "each ended by one line feed"
 pub record FirstLines (b : List ℕ) (F D : ℕ) : Type 0 where

@@ -4,55 +4,45 @@
 --   Course             == every kernel's edges are all fine, or one of them is the first that fails
 --   reduce-six, reduce-five, reduce-fails, reduce-zero == the answers of reduce, each where no earlier one is given
 use mathlib.Core.Bool.{false}
-use mathlib.Core.List.{List, [], _∷_, _++_, append-nil, append-assoc}
+use mathlib.Core.List.{List, [], _∷_, _++_, append-nil, append-assoc, map-append}
 use mathlib.Core.Logic.{_≢_}
-use mathlib.Core.Path.{_≡_, refl, sym, ap, _∙_, subst}
-use Prim.Native.Nat.{ℕ, suc, _+_, _<_, _≤_}
+use mathlib.Core.Path.{_≡_, refl, ap, _∙_, subst}
+use Prim.Native.Nat.{ℕ, _+_, _<_, _≤_}
 use native.Mathlib.Decide.{ℕ-discrete}
 use native.Mathlib.Omega.{arith}
 use lib.Dec.{leb, leb→le, le→leb}
-use lib.ListN.{length}
+use lib.ListN.{length, length-map}
 use Rattle.permutations.specs.Choice.{T→true, nT→false, eqb-same, eqb-other}
+use Rattle.darts.specs.Answers.{answered}
 use Rattle.darts.specs.Operation.{Kind, lead, operate, number}
-use Rattle.darts.specs.Kernel.{stands, stops, judge, runFrom, run}
+use Rattle.darts.specs.Kernel.{judge, each, stands, stops, passFrom, pass, run}
 use Rattle.darts.specs.State.{State, raised, levelled, reduce}
 use Rattle.darts.specs.Calls.{tableOf, pastOf, reduceBy}
-use Rattle.darts.specs.OneByOne.{each}
-use Rattle.darts.proofs.Operations.{answer-on, run-iff, done-told, told-longer}
-use Rattle.darts.proofs.Runs.{run-on}
-use Rattle.darts.proofs.Reduces.{raises-reduce}
-use Rattle.darts.proofs.Judging.{Lent, on-refuses, on-gives}
+use Rattle.darts.proofs.runs.Operations.{none, first, done-on, run-iff, done-join, done-told, told-longer}
+use Rattle.darts.proofs.runs.Reduces.{raises-reduce}
+use Rattle.darts.proofs.calls.Judging.{Lent, on-refuses, on-gives}
 use Rattle.darts.proofs.sentences.Order.{Answers, answers}
 
 -- ---- a run, edge by edge
 
-module _ (k : Kind) (D : ℕ) {u new : List ℕ} where
-  -- the edges after those that led to u and new
-  from-on : (fine rest t past : List ℕ) (i : ℕ) → runFrom k D t past i fine ≡ stands u new
-      → runFrom k D t past i (fine ++ rest) ≡ runFrom k D u new (i + length fine) rest
-  unfolding runFrom
-  from-on [] rest t past i r =
-      let table : t ≡ u = cc in
-      let history : past ≡ new = cc in
-      rw (table, history) (ap (λ n. runFrom k D u new n rest) (omega arith))
-  from-on (d ∷ fine) rest t past i r =
-      let ok = answer-on (judge k D t past d) i (runFrom k D (operate k D t past d) (number k (lead k t d) ∷ past) (suc i) fine) .0 r .0 in
-      let on = from-on fine rest (operate k D t past d) (number k (lead k t d) ∷ past) (suc i) (sym (run-on k D t past i d fine ok) ∙ r) in
-      run-on k D t past i d (fine ++ rest) ok ∙ on ∙ ap (λ n. runFrom k D u new n rest) (omega arith)
+module _ (k : Kind) (D : ℕ) {u new : List ℕ} (fine t past : List ℕ) (stood : run k D t past fine ≡ stands u new) (e : ℕ) where
+  edges-before : (rest : List ℕ) → each k (fine ++ rest) ≡ each k fine ++ each k rest
+  edges-before rest = map-append _ fine rest
 
-  module _ (fine t past : List ℕ) (stood : run k D t past fine ≡ stands u new) (e : ℕ) where
-    -- "done in the listed order, each judged on the map as it stands at its turn"
-    pub run-done : judge k D u new e ≡ 0 → run k D t past (fine ++ (e ∷ [])) ≡ stands (operate k D u new e) (number k (lead k u e) ∷ new)
-    unfolding run runFrom
-    run-done ok = from-on fine (e ∷ []) t past 0 stood ∙ rw (eqb-same ok)
+  -- "done in the listed order, each judged on the map as it stands at its turn"
+  pub run-done : judge k D u new e ≡ 0 → run k D t past (fine ++ (e ∷ [])) ≡ stands (operate k D u new e) (number k (lead k u e) ∷ new)
+  run-done ok = run-iff k D t past (fine ++ (e ∷ [])) .1 (rw (edges-before (e ∷ [])) (done-join (run-iff k D t past fine .0 stood) (first ok none)))
 
-    -- "the kernel's first failing edge"
-    pub run-fails : judge k D u new e ≢ 0 → (rest : List ℕ) → run k D t past (fine ++ (e ∷ rest)) ≡ stops (judge k D u new e) (length fine)
-    unfolding run runFrom
-    run-fails bad rest = from-on fine (e ∷ rest) t past 0 stood ∙ rw (eqb-other bad) (ap (stops (judge k D u new e)) (omega arith))
+  -- "the kernel's first failing edge"
+  pub run-fails : judge k D u new e ≢ 0 → (rest : List ℕ) → run k D t past (fine ++ (e ∷ rest)) ≡ stops (answered (judge k D u new e) (length fine))
+  unfolding run pass passFrom
+  run-fails bad rest =
+      let count : length (each k fine) ≡ length fine = length-map fine _ in
+      let place : 0 + length (each k fine) ≡ length fine = omega arith in
+      rw (edges-before (e ∷ rest)) (done-on 0 (each k fine) (each k (e ∷ rest)) (run-iff k D t past fine .0 stood) ∙ rw (eqb-other bad, place))
 
 pub run-none : (k : Kind) (D : ℕ) (t past : List ℕ) → run k D t past [] ≡ stands t past
-unfolding run runFrom
+unfolding run pass passFrom
 run-none k D t past = refl
 
 -- ---- every kernel is one or the other
@@ -93,8 +83,8 @@ module _ (s : State) (t h w : List ℕ) (L : Lent s t h w) where
   module _ (room : s .levels < 64) where
     -- 5, "the kernel is empty"
     pub reduce-five : (k : Kind) → Answers (reduceBy k [] s t h w .answer) 5 0
-    unfolding reduceBy reduce run runFrom levelled
-    reduce-five k = answers (on-refuses s t h w (reduce k []) L (rw (level-free (s .levels) room, eqb-same {m = length (pastOf s h)} refl)))
+    unfolding reduceBy reduce levelled
+    reduce-five k = answers (on-refuses s t h w (reduce k []) L (rw (level-free (s .levels) room, run-none k (s .darts) (tableOf s t) (pastOf s h), eqb-same {m = length (pastOf s h)} refl)))
 
     -- "then the kernel's first failing edge": its answer, and "place in the kernel, from 0", whatever stands after it
     pub reduce-fails : (k : Kind) (fine : List ℕ) (e : ℕ) (rest : List ℕ) {u new : List ℕ} {n : ℕ}

@@ -19,12 +19,12 @@ use Rattle.darts.specs.File.{lineFeed}
 use Rattle.darts.specs.Scan.{fault}
 use Rattle.darts.specs.Read.{KernelLine, body, endAt, fromFlag, fileState, fileHistory, closed}
 use Rattle.darts.specs.Calls.{readInto, read}
-use Rattle.darts.proofs.Decided.{pyramid-decided}
-use Rattle.darts.proofs.Passes.{pyramid-shaped}
-use Rattle.darts.proofs.Fitting.{Count, Lengths, count-test, room-test}
-use Rattle.darts.proofs.Words.{between-split}
-use Rattle.darts.proofs.Texts.{GoodForm, textOf, openingText, bodyText, body-at}
-use Rattle.darts.proofs.Meanings.{verdict, text-read}
+use Rattle.darts.proofs.claims.Decided.{pyramid-decided}
+use Rattle.darts.proofs.tests.Passes.{pyramid-shaped}
+use Rattle.darts.proofs.calls.Fitting.{Count, Lengths, count-test, room-test}
+use Rattle.darts.proofs.file.Words.{between-split}
+use Rattle.darts.proofs.file.Texts.{GoodForm, textOf, openingText, bodyText, body-at}
+use Rattle.darts.proofs.file.Meanings.{verdict, text-read}
 use Rattle.darts.proofs.sentences.FirstLines.{FirstLines, fits, lines-text, lines-opening, lines-closed}
 
 -- "0 under F = 1, D under F = 0"

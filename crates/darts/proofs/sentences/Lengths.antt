@@ -11,9 +11,10 @@ use Rattle.darts.specs.Operation.{Kind}
 use Rattle.darts.specs.State.{State, Result, gives, refuses, reduce}
 use Rattle.darts.specs.Levels.{sweep, undoLevel, unfoldTo}
 use Rattle.darts.specs.Calls.{After, tableOf, pastOf, workAfter, handsBack, onState, start, reduceBy, sweepBy, undoBy, unfoldBy, counts}
-use Rattle.darts.proofs.Fitting.{Lengths}
-use Rattle.darts.proofs.Judging.{Lent}
-use Rattle.darts.proofs.Over.{over-length, cleared-length}
+use Rattle.darts.proofs.calls.Fitting.{Lengths}
+use Rattle.darts.proofs.calls.Judging.{Lent}
+use Rattle.slices.proofs.Over.{over-length}
+use Rattle.darts.proofs.calls.Cleared.{cleared-length}
 use Rattle.darts.proofs.sentences.Steps.{Keeps, reduce-keeps, sweep-keeps, undo-keeps, unfold-keeps}
 use Rattle.darts.proofs.sentences.Outcome.{work-by, start-by, judged-by, outcome-by}
 

@@ -19,13 +19,13 @@ use Rattle.darts.specs.File.{lineFeed, kindWord}
 use Rattle.darts.specs.Scan.{fault, byteAt, word, isDigit, field}
 use Rattle.darts.specs.Read.{KernelLine, opening, kernelOfKind, body, opened, readFile}
 use Rattle.darts.specs.Calls.{readInto, read}
-use Rattle.darts.proofs.Fitting.{Count, Lengths}
-use Rattle.darts.proofs.Over.{cleared-is}
-use Rattle.darts.proofs.Words.{Between, between-all, between-split, word-found}
-use Rattle.darts.proofs.Fields.{digit-low, digit-high, number-found}
+use Rattle.darts.proofs.calls.Fitting.{Count, Lengths}
+use Rattle.darts.proofs.calls.Cleared.{cleared-is}
+use Rattle.darts.proofs.file.Words.{Between, between-all, between-split, word-found}
+use Rattle.darts.proofs.file.Fields.{digit-low, digit-high, number-found}
 use Rattle.darts.proofs.Lists.{Each}
-use Rattle.darts.proofs.Lines.{Counted, countLines}
-use Rattle.darts.proofs.Texts.{flag-found}
+use Rattle.darts.proofs.file.Lines.{Counted, countLines}
+use Rattle.darts.proofs.file.Texts.{flag-found}
 use Rattle.darts.proofs.sentences.FirstLines.{FirstLines, lines-opening, body-answer}
 use Rattle.darts.proofs.sentences.BodyLines.{levels-line, body-stops, kernel-of, kernels-stop}
 

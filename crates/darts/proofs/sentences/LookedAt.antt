@@ -15,7 +15,7 @@ use Rattle.darts.specs.State.{State, Result, gives, refuses, reduce}
 use Rattle.darts.specs.Levels.{sweep, undoLevel, unfoldTo}
 use Rattle.darts.specs.Pyramid.{Pyramid}
 use Rattle.darts.specs.Calls.{After, tableOf, pastOf, handsBack, onState, reduceBy, sweepBy, undoBy, unfoldBy, counts}
-use Rattle.darts.proofs.Judging.{Lent, judged-lent, on-lent}
+use Rattle.darts.proofs.calls.Judging.{Lent, judged-lent, on-lent}
 
 -- "Each call on this page is lent the table with at least D numbers, the history with D/2 and the work area with 4D"
 pub record PyramidLent (s : State) (t h w : List ℕ) : Type 0 where

@@ -21,9 +21,9 @@ use Rattle.darts.specs.State.{State, baseState, Result, gives, refuses, 
 use Rattle.darts.specs.Levels.{sweep, undoLevel, unfoldTo}
 use Rattle.darts.specs.Pyramid.{dartCount}
 use Rattle.darts.specs.File.{fileOf}
-use Rattle.darts.specs.Calls.{After, Counted, Written, leaves, room, fitting, tableOf, pastOf, over, cleared, workAfter, judged, handsBack, onState}
-use Rattle.darts.specs.Calls.{start, reduceBy, sweepBy, undoBy, unfoldBy, counts, write}
-use Rattle.darts.proofs.Over.{cleared-zero}
+use Rattle.darts.specs.Calls.{After, Counted, Written, leaves, room, fitting, tableOf, pastOf, cleared, workAfter, judged, handsBack, onState, start, reduceBy, sweepBy, undoBy, unfoldBy, counts, write}
+use Rattle.slices.specs.Over.{over}
+use Rattle.darts.proofs.calls.Cleared.{cleared-zero}
 use Rattle.darts.proofs.sentences.Steps.{Keeps, reduce-keeps, sweep-keeps, undo-keeps, unfold-keeps}
 use Rattle.darts.proofs.sentences.Outcome.{outcome, outcome-by}
 use Rattle.darts.proofs.sentences.Agreeing.{Agree, by-one-test, take-new, take-over, room-same, bad-same, table-same, past-same, judged-same}

@@ -15,11 +15,12 @@ use Rattle.darts.specs.Answers.{Answer}
 use Rattle.darts.specs.Operation.{Kind}
 use Rattle.darts.specs.State.{State, Result, gives, refuses, reduce}
 use Rattle.darts.specs.Levels.{sweep, undoLevel, unfoldTo}
-use Rattle.darts.specs.Calls.{After, tableOf, pastOf, over, workAfter, judged, handsBack, onState, start, reduceBy, sweepBy, undoBy, unfoldBy, counts}
-use Rattle.darts.proofs.Judging.{Lent}
-use Rattle.darts.proofs.Over.{over-rest, over-own, drop-more, cleared-rest}
-use Rattle.darts.proofs.sentences.Steps.{Keeps, Adds, Lessens, pyramid-fitted, reduce-keeps, sweep-keeps, undo-keeps, unfold-keeps}
-use Rattle.darts.proofs.sentences.Steps.{reduce-adds, sweep-adds, undo-lessens, unfold-lessens}
+use Rattle.darts.specs.Calls.{After, tableOf, pastOf, workAfter, judged, handsBack, onState, start, reduceBy, sweepBy, undoBy, unfoldBy, counts}
+use Rattle.slices.specs.Over.{over}
+use Rattle.darts.proofs.calls.Judging.{Lent}
+use Rattle.slices.proofs.Over.{over-rest, over-own, drop-more}
+use Rattle.darts.proofs.calls.Cleared.{cleared-rest}
+use Rattle.darts.proofs.sentences.Steps.{Keeps, Adds, Lessens, pyramid-fitted, reduce-keeps, sweep-keeps, undo-keeps, unfold-keeps, reduce-adds, sweep-adds, undo-lessens, unfold-lessens}
 use Rattle.darts.proofs.sentences.Outcome.{work-by, start-by, outcome-by}
 
 -- "Numbers of a lent table past D are neither read nor written, nor those of a history past the larger of the operation counts before and after the

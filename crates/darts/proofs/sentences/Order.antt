@@ -17,9 +17,9 @@ use Rattle.darts.specs.State.{State, Result, reduce}
 use Rattle.darts.specs.Levels.{sweep, undoLevel, unfoldTo}
 use Rattle.darts.specs.Pyramid.{Pyramid}
 use Rattle.darts.specs.Calls.{tableOf, pastOf, judged, onState, start, reduceBy, sweepBy, undoBy, unfoldBy, counts, write}
-use Rattle.darts.proofs.Fitting.{Count, Lengths, count-facts}
-use Rattle.darts.proofs.Judging.{Lent, Judging, uncounted, cramped, other, lent, judging, judged-lent, on-judged}
-use Rattle.darts.proofs.Outcomes.{Starting, noCount, noRoom, noBase, base, starting, Writing, refused, tight, written, writing}
+use Rattle.darts.proofs.calls.Fitting.{Count, Lengths, count-facts}
+use Rattle.darts.proofs.calls.Judging.{Lent, Judging, uncounted, cramped, other, lent, judging, judged-lent, on-judged}
+use Rattle.darts.proofs.calls.Outcomes.{Starting, noCount, noRoom, noBase, base, starting, Writing, refused, tight, written, writing}
 
 pub record Answers (a : Answer) (n p : ℕ) : Type 0 where
   pub number : a .number ≡ n

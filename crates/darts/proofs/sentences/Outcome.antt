@@ -17,8 +17,8 @@ use Rattle.darts.specs.Answers.{Answer, done, noDartCount, tooShort, noP
 use Rattle.darts.specs.Map.{firstBad}
 use Rattle.darts.specs.State.{State, baseState, Result, gives, refuses}
 use Rattle.darts.specs.Calls.{After, leaves, fitting, tableOf, pastOf, cleared, workAfter, judged, start}
-use Rattle.darts.proofs.Fitting.{Lengths, fits}
-use Rattle.darts.proofs.Judging.{Judging, uncounted, cramped, other, lent, Lent, judging}
+use Rattle.darts.proofs.calls.Fitting.{Lengths, fits}
+use Rattle.darts.proofs.calls.Judging.{Judging, uncounted, cramped, other, lent, Lent, judging}
 
 pub work-by : (P : List ℕ → Type 0) (a : Answer) (D : ℕ) (w : List ℕ) → P w → P (cleared D w) → P (workAfter a D w)
 unfolding workAfter

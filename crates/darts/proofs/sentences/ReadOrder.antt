@@ -17,11 +17,11 @@ use Rattle.darts.specs.File.{kindWord}
 use Rattle.darts.specs.Scan.{fault, byteAt, word}
 use Rattle.darts.specs.Read.{KernelLine, flagAt, opening, kernelOfKind, opened, readFile}
 use Rattle.darts.specs.Calls.{readInto, read}
-use Rattle.darts.proofs.Fitting.{Count, Lengths, count-facts, count-test, room-facts}
-use Rattle.darts.proofs.Words.{Between, between-byte, between-all, between-split, word-found}
-use Rattle.darts.proofs.Fields.{field-found}
+use Rattle.darts.proofs.calls.Fitting.{Count, Lengths, count-facts, count-test, room-facts}
+use Rattle.darts.proofs.file.Words.{Between, between-byte, between-all, between-split, word-found}
+use Rattle.darts.proofs.file.Fields.{field-found}
 use Rattle.darts.proofs.Lists.{Each}
-use Rattle.darts.proofs.Lines.{Counted, countLines, no-digit-feed}
+use Rattle.darts.proofs.file.Lines.{Counted, countLines, no-digit-feed}
 use Rattle.darts.proofs.sentences.FirstLines.{FirstLines, fits, lines-opening, lines-uncounted, lines-cramped, answer-of, body-answer}
 use Rattle.darts.proofs.sentences.BodyLines.{LevelsLine, levels-line, body-many, body-stops, kernel-of, kernels-stop}
 

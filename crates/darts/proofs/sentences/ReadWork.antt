@@ -8,9 +8,9 @@ use lib.ListN.{length}
 use Rattle.darts.specs.Scan.{Scan, found, fault}
 use Rattle.darts.specs.Read.{Opening, Body, opening, body, fileState, closed, opened, readFile}
 use Rattle.darts.specs.Calls.{cleared, readInto, read}
-use Rattle.darts.proofs.Fitting.{Count, Lengths, count-facts, count-test, room-facts, room-test}
-use Rattle.darts.proofs.Over.{cleared-is}
-use Rattle.darts.proofs.Meanings.{Closing, stands, falls, closing, DartsJudged, uncounted, cramped, goes-on, darts-judged}
+use Rattle.darts.proofs.calls.Fitting.{Count, Lengths, count-facts, count-test, room-facts, room-test}
+use Rattle.darts.proofs.calls.Cleared.{cleared-is}
+use Rattle.darts.proofs.file.Meanings.{Closing, stands, falls, closing, DartsJudged, uncounted, cramped, goes-on, darts-judged}
 use Rattle.darts.proofs.sentences.WorkArea.{Zeroed, cleared-zeroed}
 use Rattle.darts.proofs.sentences.FirstLines.{FirstLines, fits, told, lines-opening, opening-lines, lines-closed}
 

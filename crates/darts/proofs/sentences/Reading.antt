@@ -13,15 +13,17 @@ use lib.ListN.{length, take, drop, replicate, length-reverse}
 use Rattle.darts.specs.State.{State}
 use Rattle.darts.specs.Pyramid.{Pyramid}
 use Rattle.darts.specs.Read.{fileState, Read, means, faulty, readFile}
-use Rattle.darts.specs.Calls.{After, tableOf, pastOf, over, cleared, readInto, read}
-use Rattle.darts.proofs.Decided.{pyramid-decided}
-use Rattle.darts.proofs.Passes.{pyramid-shaped}
-use Rattle.darts.proofs.Room.{pyramid-room}
-use Rattle.darts.proofs.Fitting.{Lengths, room-facts}
-use Rattle.darts.proofs.Over.{over-front, over-rest, over-length, cleared-length}
-use Rattle.darts.proofs.Judging.{Lent}
-use Rattle.darts.proofs.Meanings.{meaning}
-use Rattle.darts.proofs.Seen.{seen-refused}
+use Rattle.darts.specs.Calls.{After, tableOf, pastOf, cleared, readInto, read}
+use Rattle.slices.specs.Over.{over}
+use Rattle.darts.proofs.claims.Decided.{pyramid-decided}
+use Rattle.darts.proofs.tests.Passes.{pyramid-shaped}
+use Rattle.darts.proofs.tests.Room.{pyramid-room}
+use Rattle.darts.proofs.calls.Fitting.{Lengths, room-facts}
+use Rattle.slices.proofs.Over.{over-front, over-rest, over-length}
+use Rattle.darts.proofs.calls.Cleared.{cleared-length}
+use Rattle.darts.proofs.calls.Judging.{Lent}
+use Rattle.darts.proofs.file.Meanings.{meaning}
+use Rattle.darts.proofs.file.Seen.{seen-refused}
 use Rattle.darts.proofs.sentences.FirstLines.{fits}
 
 pub record Unread (r : After) (t h : List ℕ) : Type 0 where

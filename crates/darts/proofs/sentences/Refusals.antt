@@ -18,7 +18,7 @@ use Rattle.darts.specs.Operation.{Kind}
 use Rattle.darts.specs.State.{State, Result, gives, refuses, reduce}
 use Rattle.darts.specs.Levels.{sweep, undoLevel, unfoldTo}
 use Rattle.darts.specs.Calls.{After, handsBack, onState, start, reduceBy, sweepBy, undoBy, unfoldBy, counts, write}
-use Rattle.darts.proofs.Outcomes.{Starting, noCount, noRoom, noBase, base, starting, Writing, refused, tight, written, writing}
+use Rattle.darts.proofs.calls.Outcomes.{Starting, noCount, noRoom, noBase, base, starting, Writing, refused, tight, written, writing}
 
 pub record Untouched (t h u g : List ℕ) : Type 0 where
   pub table : u ≡ t

@@ -19,11 +19,11 @@ use Rattle.darts.specs.Operation.{Kind, contraction, removal}
 use Rattle.darts.specs.Kernel.{stands, run}
 use Rattle.darts.specs.State.{State}
 use Rattle.darts.specs.Calls.{tableOf, pastOf, reduceBy}
-use Rattle.darts.proofs.Standing.{live, Standing, live-iff, next-entry}
-use Rattle.darts.proofs.Judged.{face-entry, same-vertex, same-face}
-use Rattle.darts.proofs.Runs.{run-stands}
-use Rattle.darts.proofs.Pyramids.{pyramid-built}
-use Rattle.darts.proofs.Judging.{Lent}
+use Rattle.darts.proofs.bridge.Standing.{live, Standing, live-iff, next-entry}
+use Rattle.darts.proofs.bridge.Judged.{face-entry, same-vertex, same-face}
+use Rattle.darts.proofs.runs.Runs.{run-stands}
+use Rattle.darts.proofs.runs.Pyramids.{pyramid-built}
+use Rattle.darts.proofs.calls.Judging.{Lent}
 use Rattle.darts.proofs.sentences.Order.{Answers}
 use Rattle.darts.proofs.sentences.Edges.{Gone, Shares, gone-iff, judge-nine, judge-ten}
 use Rattle.darts.proofs.sentences.Kernels.{reduce-fails}

@@ -18,10 +18,10 @@ use Rattle.permutations.specs.Choice.{T?, T→true, nT→false, or-iff}
 use Rattle.darts.specs.Answers.{Answer}
 use Rattle.darts.specs.Map.{successor, repeats, firstBadFrom, firstBad}
 use Rattle.darts.specs.Calls.{start}
-use Rattle.darts.proofs.Fitting.{Count, Lengths}
-use Rattle.darts.proofs.StandsBy.{repeats-some}
-use Rattle.darts.proofs.Bases.{repeated}
-use Rattle.darts.proofs.Outcomes.{Starting, noCount, noRoom, noBase, base, starting}
+use Rattle.darts.proofs.calls.Fitting.{Count, Lengths}
+use Rattle.darts.proofs.bridge.StandsBy.{repeats-some}
+use Rattle.darts.proofs.bridge.Bases.{repeated}
+use Rattle.darts.proofs.calls.Outcomes.{Starting, noCount, noRoom, noBase, base, starting}
 use Rattle.darts.proofs.sentences.Order.{Answers, answers}
 
 pub record Lower (t : List ℕ) (d x : ℕ) : Type 0 where

@@ -16,12 +16,12 @@ use Rattle.darts.specs.Operation.{Kind, removal}
 use Rattle.darts.specs.State.{State, Result, gives, raised, reduce}
 use Rattle.darts.specs.Levels.{sweep, endBelow, lowered, undoLevel, undoLevels, unfoldTo}
 use Rattle.darts.specs.Pyramid.{Pyramid}
-use Rattle.darts.proofs.Results.{refuses≢gives, then, same-result}
-use Rattle.darts.proofs.Reduces.{reduced}
-use Rattle.darts.proofs.Sweeps.{sweep-reduces}
-use Rattle.darts.proofs.Pyramids.{pyramid-built, reduce-pyramid, sweep-pyramid}
-use Rattle.darts.proofs.Undo.{undo-pyramid, unfold-pyramid}
-use Rattle.darts.proofs.Room.{pyramid-room}
+use Rattle.darts.proofs.runs.Results.{refuses≢gives, then, same-result}
+use Rattle.darts.proofs.runs.Reduces.{reduced}
+use Rattle.darts.proofs.runs.Sweeps.{loops, sweep-reduces}
+use Rattle.darts.proofs.runs.Pyramids.{pyramid-built, reduce-pyramid, sweep-pyramid}
+use Rattle.darts.proofs.runs.Undo.{undo-pyramid, unfold-pyramid}
+use Rattle.darts.proofs.tests.Room.{pyramid-room}
 
 pub record Fitted (D : ℕ) (z : State) (u new : List ℕ) : Type 0 where
   pub table : length u ≡ D
@@ -54,7 +54,7 @@ module _ {s : State} {t past : List ℕ} {z : State} {u new : List ℕ} (P : Pyr
       record { darts = ap (λ (z : State). z .darts) (R .state); more = reverse (R .ran .tells .numbers); history = R .ran .tells .history }
 
   sweep-onto : sweep s t past ≡ gives z u new → Onto s past z new
-  sweep-onto e = let r = sweep-reduces s t past e in reduce-onto removal (r .0) (r .1)
+  sweep-onto e = reduce-onto removal (loops s t past) (sym (sweep-reduces s t past) ∙ e)
 
 pub reduce-adds : (k : Kind) (es : List ℕ) → Adds (reduce k es)
 reduce-adds k es = record { onto = λ P e. reduce-onto P k es e }

@@ -6,36 +6,37 @@
 --   sweep-kernel == the sweep is then the removal kernel of the edges that the pass takes
 --   sweep-six, sweep-five, sweep-zero, sweep-answers == its answers on a pyramid lent with room
 --   sweep-ten    == the answer 10, which a pyramid never has
-use mathlib.Core.Bool.{true}
-use mathlib.Core.List.{List, [], _∷_, _++_, cons≢nil}
+use mathlib.Core.List.{List, [], _∷_, _++_, append-nil, append-assoc, cons≢nil}
 use mathlib.Core.Logic.{_≢_, _⊎_, inl, inr, ⊎-elim}
 use mathlib.Core.Path.{_≡_, refl, sym, ap, _∙_, subst}
 use Prim.Native.Nat.{ℕ, zero, suc, _+_, _-_, _*_, _/_, _<_, _≤_}
 use native.Mathlib.Omega.{arith}
 use lib.Dec.{T, leb, le→leb}
-use lib.ListN.{length, getD, length-append}
+use lib.ListN.{length, getD}
 use Rattle.permutations.specs.Choice.{T?, T→true, nT→false}
 use Rattle.permutations.specs.Partner.{partner-first, partner-second}
 use Rattle.permutations.specs.Cycle.{Meets, meets-ind, meets-sym}
 use Rattle.permutations.specs.Map.{face, partner-live}
 use Rattle.permutations.specs.Dual.{good-dual}
 use Rattle.darts.specs.Answers.{answered}
-use Rattle.darts.specs.Map.{successor, faceNext, sameFace}
+use Rattle.darts.specs.Map.{successor, faceNext}
 use Rattle.darts.specs.Operation.{removal, lead, operate, number}
-use Rattle.darts.specs.Kernel.{stands, run}
+use Rattle.darts.specs.Kernel.{rising, stands, run}
 use Rattle.darts.specs.State.{State, refuses, levelled, reduce}
-use Rattle.darts.specs.Levels.{takes, sweptFrom, swept, sweep}
+use Rattle.darts.specs.Levels.{takes, sweep}
 use Rattle.darts.specs.Pyramid.{Pyramid}
 use Rattle.darts.specs.Calls.{tableOf, pastOf, onState, reduceBy, sweepBy}
-use Rattle.darts.proofs.Standing.{live, mapOf, Standing}
-use Rattle.darts.proofs.Judged.{face-entry, same-face}
-use Rattle.darts.proofs.Runs.{run-stands}
-use Rattle.darts.proofs.Pyramids.{pyramid-built}
-use Rattle.darts.proofs.Judging.{Lent, on-refuses}
+use Rattle.darts.proofs.bridge.Standing.{live, mapOf, Standing}
+use Rattle.darts.proofs.bridge.Judged.{face-entry, same-face}
+use Rattle.darts.proofs.runs.Runs.{run-stands}
+use Rattle.darts.proofs.runs.Taking.{taken}
+use Rattle.darts.proofs.runs.Sweeps.{sweep-reduces}
+use Rattle.darts.proofs.runs.Pyramids.{pyramid-built}
+use Rattle.darts.proofs.calls.Judging.{Lent, on-refuses}
 use Rattle.darts.proofs.sentences.Order.{Answers, answers}
-use Rattle.darts.proofs.sentences.Edges.{Shares, Taken, takes-iff, judge-zero}
+use Rattle.darts.proofs.sentences.Edges.{Shares, Taken, takes-iff, takes-judged}
 use Rattle.darts.proofs.sentences.Shared.{edge-live}
-use Rattle.darts.proofs.sentences.Kernels.{level-free, run-none, run-done, reduce-five, reduce-zero}
+use Rattle.darts.proofs.sentences.Kernels.{level-free, run-none, run-done, run-fails, reduce-five, reduce-zero}
 
 pub data Passed (D : ℕ) (t past : List ℕ) : ℕ → List ℕ → List ℕ → List ℕ → Type 0 where
   begins : Passed D t past 0 [] t past
@@ -43,29 +44,25 @@ pub data Passed (D : ℕ) (t past : List ℕ) : ℕ → List ℕ → List ℕ �
   adds : {m : ℕ} {es u new : List ℕ} → Passed D t past m es u new → Taken u new m → ¬ (Shares removal D u m)
       → Passed D t past (suc m) (es ++ (m ∷ [])) (operate removal D u new m) (number removal (lead removal u m) ∷ new)
 
--- ---- the sweep's run goes the same way
-
-taken-true : (u new : List ℕ) (m : ℕ) → Taken u new m → takes u new m ≡ true
-taken-true u new m k = T→true (takes u new m) (takes-iff u new m .1 k)
+-- ---- the sweep takes the same edges
 
 module _ (D : ℕ) (t past : List ℕ) where
-  swept-passed : {m : ℕ} {es u new : List ℕ} → Passed D t past m es u new → (n : ℕ) → m + n ≡ D / 2
-      → swept D t past ≡ sweptFrom D n m (length es) u new
-  unfolding swept sweptFrom
-  swept-passed begins n e = let all : D / 2 ≡ n = omega arith in ap (λ x. sweptFrom D x 0 0 t past) all
-  swept-passed (skips {m = m} {u = u} {new = new} P k) n e =
-      swept-passed P (suc n) (omega arith) ∙ rw (nT→false (takes u new m) (λ b. k (takes-iff u new m .0 b)))
-  swept-passed (adds {m = m} {es = es} {u = u} {new = new} P k two) n e =
-      let longer : suc (length es) ≡ length (es ++ (m ∷ [])) = simp length-append (omega arith) in
-      swept-passed P (suc n) (omega arith)
-      ∙ rw (taken-true u new m k, nT→false (sameFace D u (2 * m) (2 * m + 1)) two, longer)
+  -- of all edges it takes es, and what it takes of the n others from there on
+  taken-passed : {m : ℕ} {es u new : List ℕ} → Passed D t past m es u new → (n : ℕ) → m + n ≡ D / 2
+      → taken takes removal D t past (rising 0 (D / 2)) ≡ es ++ taken takes removal D u new (rising m n)
+  unfolding taken rising
+  taken-passed begins n e = let all : D / 2 ≡ n = omega arith in ap (λ x. taken takes removal D t past (rising 0 x)) all
+  taken-passed (skips {m = m} {u = u} {new = new} P k) n e =
+      taken-passed P (suc n) (omega arith) ∙ rw (nT→false (takes u new m) (λ b. k (takes-iff u new m .0 b)))
+  taken-passed (adds {m = m} {es = es} {u = u} {new = new} P k two) n e =
+      taken-passed P (suc n) (omega arith) ∙ rw (T→true (takes u new m) (takes-iff u new m .1 k)) (sym (append-assoc es (m ∷ []) _))
 
   -- each edge that the pass takes may be removed at its turn
   run-passed : {m : ℕ} {es u new : List ℕ} → Passed D t past m es u new → m ≤ D / 2 → run removal D t past es ≡ stands u new
   run-passed begins b = run-none removal D t past
   run-passed (skips P k) b = run-passed P (omega arith)
   run-passed (adds {m = m} {es = es} {u = u} {new = new} P k two) b =
-      run-done removal D es t past (run-passed P (omega arith)) m (judge-zero D u new m (omega arith) (k .stays) removal two (k .part))
+      run-done removal D es t past (run-passed P (omega arith)) m (takes-judged u new m D (omega arith) k .1 two)
 
   -- a pass that takes nothing
   none-passed : (m : ℕ) → ((e : ℕ) → e < m → ¬ (Taken t past e)) → Passed D t past m [] t past
@@ -132,11 +129,14 @@ sweep-through {s} P = through-on (pyramid-built P .standing) (s .darts / 2) 0 be
 -- "It answers 10 if such an edge has one face on both sides.": of a table with a past, pyramid or not
 pub sweep-ten : (s : State) (t past : List ℕ) → s .levels < 64 → {m : ℕ} {es u new : List ℕ} → Passed (s .darts) t past m es u new → m < s .darts / 2
     → Taken u new m → Shares removal (s .darts) u m → sweep s t past ≡ refuses (answered 10 (length es))
-unfolding sweep sweptFrom levelled
+unfolding taken rising reduce levelled
 sweep-ten s t past room {m} {es} {u} {new} P b k one =
     let D = s .darts in
-    let stopped = swept-passed D t past P (suc (D / 2 - m - 1)) (omega arith) in
-    rw (level-free (s .levels) room, stopped, taken-true u new m k, T→true (sameFace D u (2 * m) (2 * m + 1)) one)
+    let ten = takes-judged u new m D b k .0 one in
+    let edges = taken-passed D t past P (suc (D / 2 - suc m)) (omega arith) in
+    let stopped = run-fails removal D es t past (run-passed D t past P (omega arith)) m (λ z. omega arith) in
+    sweep-reduces s t past
+    ∙ rw (level-free (s .levels) room, edges, T→true (takes u new m) (takes-iff u new m .1 k), stopped, ten)
 
 -- ---- the call
 
@@ -144,10 +144,10 @@ module _ (s : State) (t h w : List ℕ) where
   -- "The sweep is a removal kernel": of exactly the edges that the pass takes
   pub sweep-kernel : {es u new : List ℕ} → Passed (s .darts) (tableOf s t) (pastOf s h) (s .darts / 2) es u new
       → sweepBy s t h w ≡ reduceBy removal es s t h w
-  unfolding sweepBy reduceBy onState sweep reduce sweptFrom
+  unfolding sweepBy reduceBy onState taken rising
   sweep-kernel {es} P =
-      let swept-there = swept-passed (s .darts) (tableOf s t) (pastOf s h) P 0 (omega arith) in
-      rw (swept-there, run-passed (s .darts) (tableOf s t) (pastOf s h) P (omega arith))
+      let edges = taken-passed (s .darts) (tableOf s t) (pastOf s h) P 0 (omega arith) ∙ append-nil es in
+      rw (sweep-reduces s (tableOf s t) (pastOf s h), edges)
 
   module _ (L : Lent s t h w) where
     -- 6, also where no edge would be taken

@@ -10,9 +10,9 @@ use Rattle.permutations.specs.Choice.{T→true, eqb-same, eqb-other}
 use Rattle.darts.specs.State.{State}
 use Rattle.darts.specs.Levels.{undoLevel, unfoldTo}
 use Rattle.darts.specs.Calls.{tableOf, pastOf, undoBy, unfoldBy, counts}
-use Rattle.darts.proofs.Results.{Given}
-use Rattle.darts.proofs.WriteRead.{unfold-given}
-use Rattle.darts.proofs.Judging.{Lent, judged-lent, on-refuses, on-gives}
+use Rattle.darts.proofs.runs.Results.{Given}
+use Rattle.darts.proofs.file.WriteRead.{unfold-given}
+use Rattle.darts.proofs.calls.Judging.{Lent, judged-lent, on-refuses, on-gives}
 use Rattle.darts.proofs.sentences.Order.{Answers, answers}
 
 above-base : (s : State) (t past : List ℕ) → s .levels ≢ 0 → Given (undoLevel s t past)

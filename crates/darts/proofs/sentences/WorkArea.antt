@@ -16,10 +16,10 @@ use Rattle.darts.specs.Operation.{Kind}
 use Rattle.darts.specs.State.{State, Result, gives, refuses, reduce}
 use Rattle.darts.specs.Levels.{sweep, undoLevel, unfoldTo}
 use Rattle.darts.specs.Calls.{cleared, workAfter, judged, handsBack, onState, start, reduceBy, sweepBy, undoBy, unfoldBy, counts, write}
-use Rattle.darts.proofs.Fitting.{Count, Lengths, count-facts}
-use Rattle.darts.proofs.Over.{cleared-zero, cleared-rest}
-use Rattle.darts.proofs.Judging.{Lent, Judging, uncounted, cramped, other, lent, judging, on-judged}
-use Rattle.darts.proofs.Outcomes.{Starting, noCount, noRoom, noBase, base, starting, Writing, refused, tight, written, writing}
+use Rattle.darts.proofs.calls.Fitting.{Count, Lengths, count-facts}
+use Rattle.darts.proofs.calls.Cleared.{cleared-zero, cleared-rest}
+use Rattle.darts.proofs.calls.Judging.{Lent, Judging, uncounted, cramped, other, lent, judging, on-judged}
+use Rattle.darts.proofs.calls.Outcomes.{Starting, noCount, noRoom, noBase, base, starting, Writing, refused, tight, written, writing}
 
 pub record Zeroed (D : ℕ) (w v : List ℕ) : Type 0 where
   pub room : 4 * D ≤ length w

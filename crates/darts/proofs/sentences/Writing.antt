@@ -15,9 +15,9 @@ use lib.Seq.{getD-take}
 use Rattle.darts.specs.State.{State}
 use Rattle.darts.specs.File.{fileOf}
 use Rattle.darts.specs.Calls.{Written, tableOf, pastOf, write}
-use Rattle.darts.proofs.Over.{over-front, over-rest, over-length}
-use Rattle.darts.proofs.Judging.{Lent, judged-lent}
-use Rattle.darts.proofs.Outcomes.{Writing, refused, tight, written, writing}
+use Rattle.slices.proofs.Over.{over-front, over-rest, over-length}
+use Rattle.darts.proofs.calls.Judging.{Lent, judged-lent}
+use Rattle.darts.proofs.calls.Outcomes.{Writing, refused, tight, written, writing}
 use Rattle.darts.proofs.sentences.Order.{Answers, answers}
 
 -- "an accepted write alters only its own bytes of the output"

@@ -13,12 +13,12 @@ use Rattle.darts.specs.Answers.{Answer, answered}
 use Rattle.darts.specs.Scan.{Scan, found, fault}
 use Rattle.darts.specs.Read.{Opening, KernelLine, Body, opening, body, Read, closed, opened, readFile}
 use Rattle.darts.specs.Calls.{readInto, read}
-use Rattle.darts.proofs.Texts.{GoodForm, textOf, found-opening, text-scanned}
-use Rattle.darts.proofs.Meanings.{Closing, stands, falls, closing, DartsJudged, uncounted, cramped, goes-on, darts-judged}
-use Rattle.darts.proofs.Looks.{Ended, same-less}
-use Rattle.darts.proofs.LooksLines.{look-opening, look-body}
-use Rattle.darts.proofs.Mends.{Past, mended-same, look-past}
-use Rattle.darts.proofs.MendsLines.{mend-opening, mend-body}
+use Rattle.darts.proofs.file.Texts.{GoodForm, textOf, found-opening, text-scanned}
+use Rattle.darts.proofs.file.Meanings.{Closing, stands, falls, closing, DartsJudged, uncounted, cramped, goes-on, darts-judged}
+use Rattle.darts.proofs.file.Looks.{Ended, same-less}
+use Rattle.darts.proofs.file.LooksLines.{look-opening, look-body}
+use Rattle.darts.proofs.file.Mends.{Past, mended-same, look-past}
+use Rattle.darts.proofs.file.MendsLines.{mend-opening, mend-body}
 use Rattle.darts.proofs.sentences.FirstLines.{fits}
 use Rattle.darts.proofs.sentences.FirstFault.{wrong-byte-decides}
 

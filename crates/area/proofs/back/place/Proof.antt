@@ -5,19 +5,22 @@
 use mathlib.Core.List.{List}
 use mathlib.Core.Logic.{_≢_}
 use mathlib.Core.Path.{_≡_, _∙_}
-use Prim.Native.Nat.{ℕ, _+_}
+use Prim.Native.Nat.{ℕ, _+_, _<_}
 use lib.ListN.{getD}
 use borrow.Author.Needs.{needs}
 use Rattle.permutations.specs.Choice.{eqb-same, eqb-other}
+use Rattle.darts.specs.Operation.{Kind, kindOf}
+use Rattle.darts.specs.Tests.{near}
+use Rattle.darts.proofs.bridge.AnyKind.{near-far}
 use Rattle.area.specs.Area.{prev}
-use Rattle.area.specs.Back.{first, single, inserted, placed}
-use Rattle.area.proofs.Fitting.{first-below, fitting-first, fitting-second}
+use Rattle.area.specs.Back.{inserted, placed}
+use Rattle.area.proofs.Fitting.{fitting-near, fitting-far}
 use Rattle.area.proofs.back.place.Statement.{statement}
 use Rattle.area.proofs.back.place.Tie as tie
 
-module _ (D : ℕ) (w : List ℕ) (k p q r s x y : ℕ) {v : List ℕ} {b : ℕ} (before-y : b ≡ getD w (D + y) 0) where
-  place-both : {e : ℕ} → x ≡ q → e ≡ first k p q → v ≡ inserted D w p q r s b e → v ≡ placed D w k p q r s x y
-  unfolding first single prev
+module _ (D : ℕ) (w : List ℕ) (k : Kind) (p q r s x y : ℕ) {v : List ℕ} {b : ℕ} (before-y : b ≡ getD w (D + y) 0) where
+  place-both : {e : ℕ} → x ≡ q → e ≡ near k p q → v ≡ inserted D w p q r s b e → v ≡ placed D w k p q r s x y
+  unfolding prev
   place-both is-q e put = put ∙ rw (eqb-same is-q, before-y, e)
 
   place-each : {a : ℕ} → x ≢ q → a ≡ getD w (D + x) 0 → v ≡ inserted D w p q r s a b → v ≡ placed D w k p q r s x y
@@ -30,16 +33,16 @@ add-at c = search needs
 at-requires : tie.Need-at-requires
 at-requires c κs = search needs
 
-choose-requires : tie.Need-choose-requires
-choose-requires c κs = search needs
+near-requires : tie.Need-near-requires
+near-requires c κs = search needs
 
 insert-requires : tie.Need-insert-requires
 insert-requires c κs =
     let start = c .before .before .before .before .before .before in
     let g = start .args in
     let l = start .pre .1 .0 in
-    let below-b = rw (← c .before .before .before .at .ensures) at (fitting-second (g .d) (g .work .now) (g .p) (g .q) (g .x) (g .y) (start .pre .1 .1)) in
-    let below-e = rw (← c .before .choose .ensures) at (first-below (g .d) (g .k) (g .p) (g .q) (l .0) (l .1)) in
+    let below-b = rw (← c .before .before .before .at .ensures) at (fitting-far (g .d) (g .work .now) (g .p) (g .q) (g .x) (g .y) (start .pre .1 .1)) in
+    let below-e = rw (← c .before .near .ensures) at (near-far (λ z. z < g .d) (kindOf (g .k)) (l .0) (l .1) .0) in
     (start .pre .0, (l .0, l .1, l .2, l .3, below-b, below-e))
 
 add-at-2 : tie.Need-add-at-2
@@ -53,21 +56,21 @@ insert-requires-2 c κs =
     let start = c .before .before .before .before .before .before .before in
     let g = start .args in
     let l = start .pre .1 .0 in
-    let below-a = rw (← c .before .at2 .ensures) at (fitting-first (g .d) (g .work .now) (g .p) (g .q) (g .x) (g .y) (start .pre .1 .1) (c .before .before .before .if1 .left)) in
-    let below-b = rw (← c .before .before .before .before .at .ensures) at (fitting-second (g .d) (g .work .now) (g .p) (g .q) (g .x) (g .y) (start .pre .1 .1)) in
+    let below-a = rw (← c .before .at2 .ensures) at (fitting-near (g .d) (g .work .now) (g .p) (g .q) (g .x) (g .y) (start .pre .1 .1) (c .before .before .before .if1 .left)) in
+    let below-b = rw (← c .before .before .before .before .at .ensures) at (fitting-far (g .d) (g .work .now) (g .p) (g .q) (g .x) (g .y) (start .pre .1 .1)) in
     (start .pre .0, (l .0, l .1, l .2, l .3, below-a, below-b))
 
 same-length : tie.Need-same-length
 same-length c = search needs
 
 returns : tie.Need-returns
-returns c = place-both _ _ _ _ _ _ _ _ _ (c .before .before .before .before .before .before .at .ensures) (c .before .before .before .before .before .if1 .taken) (c .before .before .before .before .choose .ensures) (c .before .before .insert .ensures)
+returns c = place-both _ _ _ _ _ _ _ _ _ (c .before .before .before .before .before .before .at .ensures) (c .before .before .before .before .before .if1 .taken) (c .before .before .before .before .near .ensures) (c .before .before .insert .ensures)
 
 same-length-2 : tie.Need-same-length-2
 same-length-2 c = search needs
 
 returns-2 : tie.Need-returns-2
-returns-2 c = place-each _ _ (c .before .before .before .before .before .before .before .before .before .before .args .k) _ _ _ _ _ _ (c .before .before .before .before .before .before .before .at .ensures) (c .before .before .before .before .before .before .if1 .left) (c .before .before .before .before .at2 .ensures) (c .before .before .insert2 .ensures)
+returns-2 c = place-each _ _ (kindOf (c .before .before .before .before .before .before .before .before .before .before .args .k)) _ _ _ _ _ _ (c .before .before .before .before .before .before .before .at .ensures) (c .before .before .before .before .before .before .if1 .left) (c .before .before .before .before .at2 .ensures) (c .before .before .insert2 .ensures)
 
 pub place-spec : {M : Type 1} → statement M
 place-spec =
@@ -75,7 +78,7 @@ place-spec =
     (tie.spec
     add-at
     at-requires
-    choose-requires
+    near-requires
     insert-requires
     add-at-2
     at-requires-2

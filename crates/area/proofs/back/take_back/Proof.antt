@@ -4,14 +4,16 @@
 --   spelt-out  == an edge that is tried is the operation that is tried
 use mathlib.Core.List.{List}
 use mathlib.Core.Path.{_≡_, _∙_}
-use Prim.Native.Nat.{ℕ, _/_, _%_, _*_, _<_}
+use Prim.Native.Nat.{ℕ, _/_, _*_, _<_}
 use native.Mathlib.Omega.{arith}
 use lib.ListN.{getD}
 use borrow.Author.Needs.{needs}
 use Rattle.permutations.specs.Partner.{partner, partner-below}
 use Rattle.darts.specs.Map.{successor}
+use Rattle.darts.specs.Operation.{kindOf}
+use Rattle.darts.specs.Tests.{near, far}
 use Rattle.area.specs.Area.{triedIf}
-use Rattle.area.specs.Back.{first, second, fitting, fits, placed, takenBack, triedBack, Mapped}
+use Rattle.area.specs.Back.{fitting, fits, placed, takenBack, triedBack, Mapped}
 use Rattle.area.proofs.back.take_back.Statement.{statement}
 use Rattle.area.proofs.back.take_back.Tie as tie
 
@@ -19,7 +21,7 @@ q-below : (D : ℕ) (w : List ℕ) (h : ℕ) {q : ℕ} → Mapped D w → h < 2 
 q-below D w h m l e = rw e (partner-below D (h / 2) (omega arith) (m .room .even))
 
 spelt-out : (D : ℕ) (w : List ℕ) (h : ℕ) {q r s : ℕ} → q ≡ partner (h / 2) → r ≡ getD w (h / 2) 0 → s ≡ getD w q 0
-    → triedIf (fitting D w (h / 2) q (first (h % 2) r s) (second (h % 2) r s)) w (placed D w (h % 2) (h / 2) q r s (first (h % 2) r s) (second (h % 2) r s))
+    → triedIf (fitting D w (h / 2) q (near (kindOf h) r s) (far (kindOf h) r s)) w (placed D w (kindOf h) (h / 2) q r s (near (kindOf h) r s) (far (kindOf h) r s))
     ≡ triedBack D w h
 unfolding triedBack fits takenBack successor
 spelt-out D w h q-is r-is s-is = rw (s-is, r-is, q-is)

@@ -17,7 +17,7 @@ use borrow.Author.Needs.{needs}
 use borrow.Author.Tests.{not-true, not-false}
 use Rattle.permutations.specs.Partner.{partner, partner-below}
 use Rattle.forest.specs.Forest.{Falls}
-use Rattle.forest.specs.Part.{part}
+use Rattle.slices.specs.Part.{part}
 use Rattle.area.specs.Area.{Room, forestIn}
 use Rattle.area.specs.Trees.{Outside, rooted, Joined}
 use Rattle.area.specs.Replay.{rejoined, replayed, Numbered, Replayed}

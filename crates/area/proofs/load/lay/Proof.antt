@@ -5,17 +5,18 @@
 --   lay-history == the second lays the history
 --   lay-both    == both
 use mathlib.Core.List.{List}
-use mathlib.Core.Path.{_≡_, _∙_}
+use mathlib.Core.Path.{_≡_, sym, _∙_}
 use Prim.Native.Nat.{ℕ, _*_, _≤_}
 use native.Mathlib.Omega.{arith}
 use lib.ListN.{length, take}
 use lib.Seq.{length-take-le}
 use borrow.Author.Needs.{needs}
-use Rattle.darts.specs.Calls.{over}
-use Rattle.forest.specs.Part.{part, put}
+use Rattle.slices.specs.Over.{over}
+use Rattle.slices.specs.Part.{part, put}
 use Rattle.area.specs.Area.{Room}
-use Rattle.area.specs.Load.{laid, given}
-use Rattle.area.proofs.Laid.{laid-length, laid-front, laid-part}
+use Rattle.area.specs.Load.{given}
+use Rattle.slices.specs.Laid.{laid}
+use Rattle.slices.proofs.Laid.{laid-length, laid-over, laid-part}
 use Rattle.area.proofs.load.lay.Statement.{statement}
 use Rattle.area.proofs.load.lay.Tie as tie
 
@@ -24,10 +25,10 @@ module _ (D n : ℕ) (t h w : List ℕ) (room : Room D w) (fit : (D ≤ length t
   withTable = laid w 0 (take D t)
 
   table-length : length withTable ≡ length w
-  table-length = let e = length-take-le D t (fit .0) in laid-length w 0 (take D t) (omega arith)
+  table-length = let e = length-take-le D t (fit .0) in laid-length w 0 (take D t) (record { fits = omega arith })
 
   lay-table : {u : List ℕ} → u ≡ over (take D t) w → u ≡ withTable
-  lay-table e = e ∙ laid-front w (take D t)
+  lay-table e = e ∙ sym (laid-over w (take D t))
 
   lay-history : {v : List ℕ} → v ≡ over (take n h) (part (3 * D) (4 * D) withTable) → put (3 * D) (4 * D) withTable v ≡ given D n t h w
   unfolding given

@@ -10,10 +10,11 @@ use Prim.Native.Nat.{ℕ, _+_, _-_, _*_}
 use native.Mathlib.Omega.{arith}
 use lib.ListN.{length, replicate}
 use borrow.Author.Needs.{needs}
-use Rattle.forest.specs.Part.{part, put}
+use Rattle.slices.specs.Part.{part, put}
 use Rattle.area.specs.Area.{Room, tried}
-use Rattle.area.specs.Load.{laid, blank, marks, links, linksAfter, relinks}
-use Rattle.area.proofs.Laid.{laid-filled}
+use Rattle.area.specs.Load.{blank, marks, links, linksAfter, relinks}
+use Rattle.slices.specs.Laid.{laid}
+use Rattle.slices.proofs.Laid.{laid-filled}
 use Rattle.area.proofs.load.relink.Statement.{statement}
 use Rattle.area.proofs.load.relink.Tie as tie
 

@@ -1,12 +1,27 @@
--- `engine::operate::lead` meets its contract: a removal turns round where the second dart leads to the first, a contraction where the first leads to itself.
-use mathlib.Core.Path.{refl, sym, _∙_}
+-- `engine::operate::lead` meets its contract: the operation turns round where the far one is p.
+use mathlib.Core.List.{List}
+use mathlib.Core.Logic.{_≢_}
+use mathlib.Core.Path.{_≡_, sym, _∙_}
+use Prim.Native.Nat.{ℕ, _+_, _*_}
+use lib.ListN.{getD}
 use borrow.Author.Needs.{needs}
-use borrow.Author.Tests.{eq-eqb, ne-eqb}
+use Rattle.permutations.specs.Choice.{eqb-same, eqb-other}
+use Rattle.permutations.specs.Partner.{partner-first}
 use Rattle.darts.specs.Map.{successor}
-use Rattle.area.specs.Back.{second}
-use Rattle.area.specs.Operate.{leadIn}
+use Rattle.darts.specs.Operation.{Kind, lead}
+use Rattle.darts.specs.Tests.{far}
+use Rattle.darts.proofs.bridge.Lead.{lead-pick}
 use Rattle.area.proofs.operate.lead.Statement.{statement}
 use Rattle.area.proofs.operate.lead.Tie as tie
+
+module _ (k : Kind) (w : List ℕ) (e : ℕ) {r s y : ℕ} (r-is : r ≡ getD w (2 * e) 0) (s-is : s ≡ getD w (2 * e + 1) 0) (y-is : y ≡ far k r s) where
+  turns : y ≡ 2 * e → 2 * e + 1 ≡ lead k w e
+  unfolding successor
+  turns h = sym (lead-pick k w e ∙ rw (partner-first e, ← r-is, ← s-is, ← y-is, eqb-same h))
+
+  stays : y ≢ 2 * e → 2 * e ≡ lead k w e
+  unfolding successor
+  stays n = sym (lead-pick k w e ∙ rw (partner-first e, ← r-is, ← s-is, ← y-is, eqb-other n))
 
 mul-p : tie.Need-mul-p
 mul-p c = search needs
@@ -20,26 +35,17 @@ add-q c = search needs
 at-requires : tie.Need-at-requires
 at-requires c κs = search needs
 
-returns : tie.Need-returns
-unfolding leadIn second successor
-returns c = rw (eq-eqb _ _ (c .before .before .if1 .taken), eq-eqb _ _ (sym (c .before .at .ensures) ∙ c .if2 .taken)) refl
-
-returns-2 : tie.Need-returns-2
-unfolding leadIn second successor
-returns-2 c = rw (eq-eqb _ _ (c .before .before .if1 .taken), ne-eqb _ _ (λ e. c .if2 .left (c .before .at .ensures ∙ e))) refl
-
 at-requires-2 : tie.Need-at-requires-2
 at-requires-2 c κs = search needs
 
-returns-3 : tie.Need-returns-3
-unfolding leadIn second successor
-returns-3 c = rw (ne-eqb _ _ (c .before .before .if1 .left), eq-eqb _ _ (sym (c .before .at2 .ensures) ∙ c .if3 .taken)) refl
+near-requires : tie.Need-near-requires
+near-requires c κs = search needs
 
-returns-4 : tie.Need-returns-4
-unfolding leadIn second successor
-returns-4 c = rw (ne-eqb _ _ (c .before .before .if1 .left), ne-eqb _ _ (λ e. c .if3 .left (c .before .at2 .ensures ∙ e))) refl
+returns : tie.Need-returns
+returns c = turns _ _ _ (c .before .before .before .at .ensures) (c .before .before .at2 .ensures) (c .before .near .ensures) (c .if1 .taken)
+
+returns-2 : tie.Need-returns-2
+returns-2 c = stays _ _ _ (c .before .before .before .at .ensures) (c .before .before .at2 .ensures) (c .before .near .ensures) (c .if1 .left)
 
 pub lead-spec : {M : Type 1} → statement M
-lead-spec =
-    tie.close
-    (tie.spec mul-p mul-q add-q at-requires returns returns-2 at-requires-2 returns-3 returns-4)
+lead-spec = tie.close (tie.spec mul-p mul-q add-q at-requires at-requires-2 near-requires returns returns-2)

@@ -1,28 +1,24 @@
--- `engine::operate::lead_on` meets its contract: r goes first in a removal, s in a contraction.
+-- `engine::operate::lead_on` meets its contract: the darts that are read are those that `led` names.
 use mathlib.Core.List.{List}
 use mathlib.Core.Path.{_≡_, refl, _∙_}
-use Prim.Native.Nat.{ℕ, _+_}
+use Prim.Native.Nat.{ℕ, _+_, _<_}
 use lib.ListN.{getD}
 use borrow.Author.Needs.{needs}
-use borrow.Author.Tests.{eq-eqb, ne-eqb}
 use Rattle.permutations.specs.Partner.{partner}
 use Rattle.darts.specs.Map.{successor}
+use Rattle.darts.specs.Operation.{Kind}
+use Rattle.darts.specs.Tests.{near, far}
+use Rattle.darts.proofs.bridge.AnyKind.{near-far}
 use Rattle.area.specs.Area.{prev}
-use Rattle.area.specs.Back.{first, second}
 use Rattle.area.specs.Operate.{led}
 use Rattle.area.specs.Edge.{bypassed}
 use Rattle.area.proofs.operate.lead_on.Statement.{statement}
 use Rattle.area.proofs.operate.lead_on.Tie as tie
 
-module _ (D k p : ℕ) (w : List ℕ) {q r s a b : ℕ} (other : q ≡ partner p)
-    (first-next : r ≡ getD w p 0) (second-next : s ≡ getD w q 0) (first-before : a ≡ getD w (D + p) 0) (second-before : b ≡ getD w (D + q) 0) where
-  removal-leads : k ≡ 0 → bypassed D w a b q r s ≡ led D w k p
-  unfolding led bypassed first second successor prev
-  removal-leads h = rw (eq-eqb k 0 h, first-next, second-next, first-before, second-before, other) refl
-
-  contraction-leads : (k ≡ 0 → ⊥) → bypassed D w a b q s r ≡ led D w k p
-  unfolding led bypassed first second successor prev
-  contraction-leads n = rw (ne-eqb k 0 n, first-next, second-next, first-before, second-before, other) refl
+leads-on : (D : ℕ) (k : Kind) (p : ℕ) (w : List ℕ) {q r s a b x y : ℕ} → q ≡ partner p → r ≡ getD w p 0 → s ≡ getD w q 0
+    → a ≡ getD w (D + p) 0 → b ≡ getD w (D + q) 0 → x ≡ near k r s → y ≡ far k r s → bypassed D w a b q x y ≡ led D w k p
+unfolding led bypassed successor prev
+leads-on D k p w q-is r-is s-is a-is b-is x-is y-is = rw (x-is, y-is, r-is, s-is, a-is, b-is, q-is) refl
 
 at-requires : tie.Need-at-requires
 at-requires c κs = search needs
@@ -42,11 +38,27 @@ add-at-2 c = search needs
 at-requires-4 : tie.Need-at-requires-4
 at-requires-4 c κs = search needs
 
-bypass-requires : tie.Need-bypass-requires
-bypass-requires c κs = search needs
+near-requires : tie.Need-near-requires
+near-requires c κs = search needs
 
-bypass-requires-2 : tie.Need-bypass-requires-2
-bypass-requires-2 c κs = search needs
+near-requires-2 : tie.Need-near-requires-2
+near-requires-2 c κs = search needs
+
+bypass-requires : tie.Need-bypass-requires
+bypass-requires c κs =
+    let start = c .before .before .before .before .before .before .before .before .before .before .before .before in
+    let g = start .args in
+    let b = start .pre .1 .0 in
+    let r : c .before .before .before .before .before .before .before .before .before .at .result < g .d = rw (c .before .before .before .before .before .before .before .before .before .at .ensures) (b .first-next) in
+    let s : c .before .before .before .before .before .before .before .at2 .result < g .d = rw (c .before .before .before .before .before .before .before .at2 .ensures) (b .second-next) in (
+      start .pre .0,
+      (
+        rw (c .before .before .before .before .before .at3 .ensures) (b .first-before),
+        rw (c .before .before .before .at4 .ensures) (b .second-before),
+        rw (c .before .before .near .ensures) (near-far (λ z. z < g .d) _ r s .0),
+        rw (c .before .near2 .ensures) (near-far (λ z. z < g .d) _ r s .1),
+      ),
+    )
 
 same-length : tie.Need-same-length
 same-length c = search needs
@@ -54,15 +66,7 @@ same-length c = search needs
 returns : tie.Need-returns
 returns c =
     c .before .before .bypass .ensures
-    ∙ removal-leads _ _ _ _ (c .before .before .before .before .before .before .before .before .before .before .before .before .before .before .pre .1 .1) (c .before .before .before .before .before .before .before .before .before .before .before .at .ensures) (c .before .before .before .before .before .before .before .before .before .at2 .ensures) (c .before .before .before .before .before .before .before .at3 .ensures) (c .before .before .before .before .before .at4 .ensures) (c .before .before .before .before .if1 .taken)
-
-same-length-2 : tie.Need-same-length-2
-same-length-2 c = search needs
-
-returns-2 : tie.Need-returns-2
-returns-2 c =
-    c .before .before .bypass2 .ensures
-    ∙ contraction-leads _ _ _ _ (c .before .before .before .before .before .before .before .before .before .before .before .before .before .before .pre .1 .1) (c .before .before .before .before .before .before .before .before .before .before .before .at .ensures) (c .before .before .before .before .before .before .before .before .before .at2 .ensures) (c .before .before .before .before .before .before .before .at3 .ensures) (c .before .before .before .before .before .at4 .ensures) (c .before .before .before .before .if1 .left)
+    ∙ leads-on _ _ _ _ (c .before .before .before .before .before .before .before .before .before .before .before .before .before .before .before .pre .1 .1) (c .before .before .before .before .before .before .before .before .before .before .before .before .at .ensures) (c .before .before .before .before .before .before .before .before .before .before .at2 .ensures) (c .before .before .before .before .before .before .before .before .at3 .ensures) (c .before .before .before .before .before .before .at4 .ensures) (c .before .before .before .before .before .near .ensures) (c .before .before .before .before .near2 .ensures)
 
 pub lead-on-spec : {M : Type 1} → statement M
 lead-on-spec =
@@ -74,9 +78,8 @@ lead-on-spec =
     at-requires-3
     add-at-2
     at-requires-4
+    near-requires
+    near-requires-2
     bypass-requires
-    bypass-requires-2
     same-length
-    returns
-    same-length-2
-    returns-2)
+    returns)

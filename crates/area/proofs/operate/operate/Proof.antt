@@ -6,7 +6,8 @@ use native.Mathlib.Omega.{arith}
 use denote.Ref.{now}
 use borrow.Author.Needs.{needs}
 use Rattle.permutations.specs.Partner.{partner}
-use Rattle.area.specs.Operate.{leadIn, led, noted, operated}
+use Rattle.darts.specs.Operation.{kindOf, lead}
+use Rattle.area.specs.Operate.{led, noted, operated}
 use Rattle.area.specs.Edge.{Bounds}
 use Rattle.area.proofs.Operation.{lead-bounds}
 use Rattle.area.proofs.operate.operate.Statement.{statement}
@@ -14,17 +15,17 @@ use Rattle.area.proofs.operate.operate.Tie as tie
 
 -- what is read of p and its partner is in bounds
 ready : (c : tie.After-lead) → Bounds (c .before .before .before .args .d) (now (c .before .before .before .args .work)) (c .lead .result) (partner (c .lead .result))
-ready c = let g = c .before .before .before .args in rw (c .lead .ensures) (lead-bounds (g .d) (g .k) (now (g .work)) (g .e) (c .before .before .before .pre .1 .1))
+ready c = let g = c .before .before .before .args in rw (c .lead .ensures) (lead-bounds (g .d) (kindOf (g .k)) (now (g .work)) (g .e) (c .before .before .before .pre .1 .1))
 
 lead-requires : tie.Need-lead-requires
 lead-requires c κs = search needs
 
-all-steps : (D n k e : ℕ) (w : List ℕ) {w₁ w₂ : List ℕ} {p : ℕ} → p ≡ leadIn k w e → w₁ ≡ led D w k p → w₂ ≡ noted D n w₁ k p → w₂ ≡ operated D n w k e
+all-steps : (D n k e : ℕ) (w : List ℕ) {w₁ w₂ : List ℕ} {p : ℕ} → p ≡ lead (kindOf k) w e → w₁ ≡ led D w (kindOf k) p → w₂ ≡ noted D n w₁ k p → w₂ ≡ operated D n w k e
 unfolding operated
-all-steps D n k e w {w₁} {w₂} {p} lead leads notes =
+all-steps D n k e w {w₁} {w₂} {p} lead-is leads notes =
     notes
     ∙ ap (λ (l : List ℕ). noted D n l k p) leads
-    ∙ ap (λ (x : ℕ). noted D n (led D w k x) k x) lead
+    ∙ ap (λ (x : ℕ). noted D n (led D w (kindOf k) x) k x) lead-is
 
 partner-requires : tie.Need-partner-requires
 partner-requires c κs = omega (arith, ready c .first)

@@ -18,7 +18,7 @@ use borrow.Author.Needs.{needs}
 use Rattle.permutations.specs.Choice.{eqb-same, eqb-other}
 use Rattle.darts.specs.Operation.{kindOf}
 use Rattle.darts.specs.Tests.{sameKind, ofKind, oneKind}
-use Rattle.forest.specs.Part.{part}
+use Rattle.slices.specs.Part.{part}
 use Rattle.area.proofs.Parts.{part-cons, part-none}
 use Rattle.area.proofs.shape.one_kind.Statement.{statement}
 use Rattle.area.proofs.shape.one_kind.Tie as tie

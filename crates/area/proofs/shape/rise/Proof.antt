@@ -20,7 +20,8 @@ use borrow.Author.Needs.{needs}
 use borrow.Author.Tests.{lt-ltb, le-ltb, le-leb, lt-leb}
 use Rattle.permutations.specs.Choice.{eqb-same, eqb-other}
 use Rattle.darts.specs.Tests.{oneKind, rises}
-use Rattle.forest.specs.Part.{part, part-length}
+use Rattle.slices.specs.Part.{part}
+use Rattle.slices.proofs.Part.{part-length}
 use Rattle.area.specs.Shape.{historyIn}
 use Rattle.area.proofs.Parts.{part-inner}
 use Rattle.area.proofs.shape.rise.Statement.{statement}

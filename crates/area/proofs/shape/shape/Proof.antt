@@ -13,7 +13,7 @@ use borrow.Author.Needs.{needs}
 use borrow.Author.Tests.{le-leb, lt-leb}
 use Rattle.permutations.specs.Choice.{eqb-same}
 use Rattle.darts.specs.Tests.{rises, zeros, shaped}
-use Rattle.forest.specs.Part.{part-length}
+use Rattle.slices.proofs.Part.{part-length}
 use Rattle.area.specs.Area.{Room}
 use Rattle.area.specs.Shape.{stateOf, historyIn}
 use Rattle.area.proofs.shape.shape.Statement.{statement}

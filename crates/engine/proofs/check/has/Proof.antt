@@ -13,7 +13,7 @@ use Prim.Native.Nat.{ℕ, _+_, _-_, _*_, _%_, _≤_, _<_}
 use native.Mathlib.Omega.{arith}
 use lib.ListN.{getD}
 use borrow.Author.Needs.{needs}
-use Rattle.forest.specs.Part.{part}
+use Rattle.slices.specs.Part.{part}
 use Rattle.area.specs.Area.{Room}
 use Rattle.area.specs.Shape.{historyIn}
 use Rattle.area.proofs.Parts.{part-cons, part-none}

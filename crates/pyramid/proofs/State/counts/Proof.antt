@@ -1,46 +1,20 @@
--- `pyramid::State::counts` meets its contract: 1 and 2, or the counts inside, and then the work area cleared.
-use mathlib.Core.Path.{_∙_, ap, sym}
+-- `pyramid::State::counts` meets its contract: what is judged first, or the cycles counted in the work area.
+use mathlib.Core.Path.{refl, sym, _∙_}
 use native.Mathlib.Omega.{arith}
-use Rattle.darts.specs.Answers.{Answer as Answered}
-use Rattle.pyramid.specs.Values.{stateOf}
-use Rattle.darts.proofs.Fitting.{fits}
-use Rattle.pyramid.proofs.CountsEnd.{counts-first}
+use Rattle.pyramid.proofs.Judges.{room-then}
+use Rattle.pyramid.proofs.CountsEnd.{counts-refused, counts-given}
 use borrow.Author.Needs.{needs}
 use Rattle.pyramid.proofs.State.counts.Statement.{statement}
 use Rattle.pyramid.proofs.State.counts.Tie as tie
 
-fit-requires : tie.Need-fit-requires
-fit-requires c κs = search needs
+judged-requires : tie.Need-judged-requires
+judged-requires c κs = search needs
 
 number-requires : tie.Need-number-requires
 number-requires c κs = search needs
 
 refused-requires : tie.Need-refused-requires
 refused-requires c κs = search needs
-
-returns : tie.Need-returns
-returns c =
-    let g = c .before .before .before .before .before .before .before .args in
-    let s = stateOf (g .self) in
-    let t = g .table .now in
-    let h = g .history .now in
-    let w = g .work .now in
-    let f = c .before .before .before .fit .ensures in
-    let r = c .refused .ensures in
-    rw (r .0, r .1, f) (sym (counts-first s t h w (λ z. c .before .if1 .taken (c .before .before .number .ensures ∙ ap (λ (a : Answered). a .number) f ∙ z))))
-
-cast-d : tie.Need-cast-d
-cast-d c = search needs
-
-counts-inside-requires : tie.Need-counts-inside-requires
-counts-inside-requires c κs = sym (ap (λ (a : Answered). a .number) (c .before .before .before .before .before .before .fit .ensures)) ∙ sym (c .before .before .before .before .before .number .ensures) ∙ c .before .before .before .before .if1 .left
-
-clear-requires : tie.Need-clear-requires
-clear-requires c κs =
-    let f = fits _ _ _ _ (sym (ap (λ (a : Answered). a .number) (c .before .before .before .before .before .before .before .before .before .before .fit .ensures)) ∙ sym (c .before .before .before .before .before .before .before .before .before .number .ensures) ∙ c .before .before .before .before .before .before .before .before .if1 .left) in
-    let k = f .count .some in
-    let l = f .lengths .work in
-    record { even = f .count .even; some = omega arith; small = f .count .small; fits = omega arith }
 
 same-length : tie.Need-same-length
 same-length c = search needs
@@ -51,21 +25,88 @@ same-length-2 c = search needs
 same-length-3 : tie.Need-same-length-3
 same-length-3 c = search needs
 
+returns : tie.Need-returns
+returns c =
+    let r = c .refused .ensures in
+    rw (r .0, r .1) (counts-refused (c .before .before .before .before .before .judged .ensures) (λ z. c .before .if1 .taken (c .before .before .number .ensures ∙ z)))
+
+cast-d : tie.Need-cast-d
+cast-d c = search needs
+
+cast-n : tie.Need-cast-n
+cast-n c = search needs
+
+cycles-requires : tie.Need-cycles-requires
+cycles-requires c κs =
+    c .before .before .before .before .before .before .before .judged .ensures .checked (sym (c .before .before .before .before .number .ensures) ∙ c .before .before .before .if1 .left) .area refl
+
+clear-requires : tie.Need-clear-requires
+clear-requires c κs =
+    room-then (c .before .before .before .before .before .before .before .before .before .before .before .judged .ensures) (sym (c .before .before .before .before .before .before .before .before .number .ensures) ∙ c .before .before .before .before .before .before .before .if1 .left) (c .before .before .before .cycles .ensures .beyond)
+
+mul-darts : tie.Need-mul-darts
+mul-darts c = search needs
+
+sub-darts : tie.Need-sub-darts
+sub-darts c =
+    let A = c .before .before .before .before .before .before .before .before .before .before .before .before .before .before .judged .ensures .checked (sym (c .before .before .before .before .before .before .before .before .before .before .before .number .ensures) ∙ c .before .before .before .before .before .before .before .before .before .before .if1 .left) .area refl in
+    let k = A .few in
+    let m = A .room .small in
+    omega arith
+
+cast-darts : tie.Need-cast-darts
+cast-darts c = search needs
+
+cast-tallied : tie.Need-cast-tallied
+cast-tallied c = search needs
+
+cast-tallied-2 : tie.Need-cast-tallied-2
+cast-tallied-2 c = search needs
+
+tallied-requires : tie.Need-tallied-requires
+tallied-requires c κs =
+    let m = c .before .before .before .before .before .before .before .before .before .before .before .before .before .before .before .before .judged .ensures .checked (sym (c .before .before .before .before .before .before .before .before .before .before .before .before .before .number .ensures) ∙ c .before .before .before .before .before .before .before .before .before .before .before .before .if1 .left) .area refl .room .small in
+    let K = c .before .before .before .before .before .before .before .before .cycles .ensures in
+    let a = K .few-vertices in
+    let d = K .few-faces in
+    (omega arith, omega arith, omega arith)
+
+same-length-4 : tie.Need-same-length-4
+same-length-4 c = search needs
+
+same-length-5 : tie.Need-same-length-5
+same-length-5 c = search needs
+
+same-length-6 : tie.Need-same-length-6
+same-length-6 c = search needs
+
 returns-2 : tie.Need-returns-2
-returns-2 c = rw (c .before .before .clear .ensures) (c .before .before .before .before .before .before .counts-inside .ensures)
+returns-2 c =
+    rw (c .tallied .ensures, c .before .before .before .before .before .clear .ensures)
+    (counts-given (c .before .before .before .before .before .before .before .before .before .before .before .before .before .before .before .before .before .judged .ensures) (sym (c .before .before .before .before .before .before .before .before .before .before .before .before .before .before .number .ensures) ∙ c .before .before .before .before .before .before .before .before .before .before .before .before .before .if1 .left) (c .before .before .before .before .before .before .before .before .before .cycles .ensures))
 
 pub counts-spec : {M : Type 1} → statement M
 counts-spec =
     tie.close
     (tie.spec
-    fit-requires
+    judged-requires
     number-requires
     refused-requires
-    returns
-    cast-d
-    counts-inside-requires
-    clear-requires
     same-length
     same-length-2
     same-length-3
+    returns
+    cast-d
+    cast-n
+    cycles-requires
+    clear-requires
+    mul-darts
+    sub-darts
+    cast-darts
+    cast-tallied
+    cast-tallied-2
+    tallied-requires
+    same-length-4
+    same-length-5
+    same-length-6
     returns-2)

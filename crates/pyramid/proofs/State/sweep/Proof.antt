@@ -1,50 +1,25 @@
--- `pyramid::State::sweep` meets its contract: 1 and 2, or what is done inside, and then the work area cleared.
-use mathlib.Core.Path.{_∙_, ap, sym}
+-- `pyramid::State::sweep` meets its contract: what is judged first, or one level more.
+use mathlib.Core.Path.{refl, _∙_, sym}
 use native.Mathlib.Omega.{arith}
-use Rattle.darts.specs.Answers.{Answer as Answered}
+use lib.Dec.{lit≤}
 use Rattle.darts.specs.Calls.{sweepBy}
 use Rattle.darts.specs.Levels.{sweep}
-use Rattle.pyramid.specs.Values.{stateOf}
-use Rattle.darts.proofs.Fitting.{fits}
-use Rattle.pyramid.proofs.OnState.{first-refused}
+use Rattle.engine.proofs.Ready.{beyond-refl}
+use Rattle.pyramid.proofs.Judges.{room-then}
+use Rattle.pyramid.proofs.OnState.{call-refused}
+use Rattle.pyramid.proofs.ByRun.{sweep-levels, level-full, level-halts, level-ends}
 use borrow.Author.Needs.{needs}
 use Rattle.pyramid.proofs.State.sweep.Statement.{statement}
 use Rattle.pyramid.proofs.State.sweep.Tie as tie
 
-fit-requires : tie.Need-fit-requires
-fit-requires c κs = search needs
+judged-requires : tie.Need-judged-requires
+judged-requires c κs = search needs
 
 number-requires : tie.Need-number-requires
 number-requires c κs = search needs
 
 kept-requires : tie.Need-kept-requires
 kept-requires c κs = search needs
-
-returns : tie.Need-returns
-unfolding sweepBy
-returns c =
-    let g = c .before .before .before .before .before .before .before .args in
-    let s = stateOf (g .self) in
-    let t = g .table .now in
-    let h = g .history .now in
-    let w = g .work .now in
-    let f = c .before .before .before .fit .ensures in
-    first-refused (sweep) s t h w (c .kept .result)
-    (λ z. c .before .if1 .taken (c .before .before .number .ensures ∙ ap (λ (a : Answered). a .number) f ∙ z))
-    (record { answer = c .kept .ensures .answer ∙ f; state = c .kept .ensures .state })
-
-cast-d : tie.Need-cast-d
-cast-d c = search needs
-
-sweep-inside-requires : tie.Need-sweep-inside-requires
-sweep-inside-requires c κs = sym (ap (λ (a : Answered). a .number) (c .before .before .before .before .before .before .fit .ensures)) ∙ sym (c .before .before .before .before .before .number .ensures) ∙ c .before .before .before .before .if1 .left
-
-clear-requires : tie.Need-clear-requires
-clear-requires c κs =
-    let f = fits _ _ _ _ (sym (ap (λ (a : Answered). a .number) (c .before .before .before .before .before .before .before .before .before .before .before .before .before .before .fit .ensures)) ∙ sym (c .before .before .before .before .before .before .before .before .before .before .before .before .before .number .ensures) ∙ c .before .before .before .before .before .before .before .before .before .before .before .before .if1 .left) in
-    let k = f .count .some in
-    let l = f .lengths .work in
-    record { even = f .count .even; some = omega arith; small = f .count .small; fits = omega arith }
 
 same-length : tie.Need-same-length
 same-length c = search needs
@@ -55,21 +30,89 @@ same-length-2 c = search needs
 same-length-3 : tie.Need-same-length-3
 same-length-3 c = search needs
 
+returns : tie.Need-returns
+unfolding sweepBy
+returns c =
+    call-refused sweep (c .before .before .before .before .before .judged .ensures) (λ z. c .before .if1 .taken (c .before .before .number .ensures ∙ z)) (c .kept .result) (c .kept .ensures)
+
+cast-d : tie.Need-cast-d
+cast-d c = search needs
+
+clear-requires : tie.Need-clear-requires
+clear-requires c κs =
+    room-then (c .before .before .before .before .before .before .before .before .judged .ensures) (sym (c .before .before .before .before .before .number .ensures) ∙ c .before .before .before .before .if1 .left) (beyond-refl _ _)
+
+kept-requires-2 : tie.Need-kept-requires-2
+kept-requires-2 c κs = search needs
+
+same-length-4 : tie.Need-same-length-4
+same-length-4 c = search needs
+
+same-length-5 : tie.Need-same-length-5
+same-length-5 c = search needs
+
+same-length-6 : tie.Need-same-length-6
+same-length-6 c = search needs
+
 returns-2 : tie.Need-returns-2
-returns-2 c = rw (c .before .before .clear .ensures) (c .before .before .before .before .before .before .before .before .before .before .sweep-inside .ensures)
+unfolding sweepBy
+returns-2 c =
+    rw (c .before .before .before .clear .ensures)
+    (level-full sweep-levels (c .before .before .before .before .before .before .before .before .before .before .before .before .judged .ensures) (sym (c .before .before .before .before .before .before .before .before .before .number .ensures) ∙ c .before .before .before .before .before .before .before .before .if1 .left) (c .before .before .before .before .before .if2 .taken) (c .kept2 .result) (c .kept2 .ensures))
+
+cast-sweep : tie.Need-cast-sweep
+cast-sweep c = search needs
+
+sweep-requires : tie.Need-sweep-requires
+sweep-requires c κs =
+    c .before .before .before .before .before .before .before .before .before .judged .ensures .checked (sym (c .before .before .before .before .before .before .number .ensures) ∙ c .before .before .before .before .before .if1 .left) .ready refl (lit≤ tt)
+
+level-requires : tie.Need-level-requires
+level-requires c κs =
+    level-halts sweep-levels (c .before .before .before .before .before .before .before .before .before .before .before .before .before .before .before .judged .ensures) (sym (c .before .before .before .before .before .before .before .before .before .before .before .before .number .ensures) ∙ c .before .before .before .before .before .before .before .before .before .before .before .if1 .left) (c .before .before .before .before .before .before .before .before .if2 .left) (c .before .before .before .before .before .sweep .ensures)
+
+clear-requires-2 : tie.Need-clear-requires-2
+clear-requires-2 c κs =
+    room-then (c .before .before .before .before .before .before .before .before .before .before .before .before .before .before .before .before .before .before .before .before .before .judged .ensures) (sym (c .before .before .before .before .before .before .before .before .before .before .before .before .before .before .before .before .before .before .number .ensures) ∙ c .before .before .before .before .before .before .before .before .before .before .before .before .before .before .before .before .before .if1 .left) (c .before .before .before .before .before .before .before .before .before .before .before .sweep .ensures .beyond)
+
+same-length-7 : tie.Need-same-length-7
+same-length-7 c = search needs
+
+same-length-8 : tie.Need-same-length-8
+same-length-8 c = search needs
+
+same-length-9 : tie.Need-same-length-9
+same-length-9 c = omega (arith, c .before .before .before .before .before .before .before .before .before .before .before .before .before .before)
+
+returns-3 : tie.Need-returns-3
+unfolding sweepBy
+returns-3 c =
+    rw (c .before .before .clear2 .ensures)
+    (level-ends sweep-levels (c .before .before .before .before .before .before .before .before .before .before .before .before .before .before .before .before .before .before .before .before .before .before .before .before .judged .ensures) (sym (c .before .before .before .before .before .before .before .before .before .before .before .before .before .before .before .before .before .before .before .before .before .number .ensures) ∙ c .before .before .before .before .before .before .before .before .before .before .before .before .before .before .before .before .before .before .before .before .if1 .left) (c .before .before .before .before .before .before .before .before .before .before .before .before .before .before .before .before .before .if2 .left) (c .before .before .before .before .before .before .before .before .before .before .before .before .before .before .sweep .ensures) (c .before .before .before .before .before .before .before .before .level .ensures))
 
 pub sweep-spec : {M : Type 1} → statement M
 sweep-spec =
     tie.close
     (tie.spec
-    fit-requires
+    judged-requires
     number-requires
     kept-requires
-    returns
-    cast-d
-    sweep-inside-requires
-    clear-requires
     same-length
     same-length-2
     same-length-3
-    returns-2)
+    returns
+    cast-d
+    clear-requires
+    kept-requires-2
+    same-length-4
+    same-length-5
+    same-length-6
+    returns-2
+    cast-sweep
+    sweep-requires
+    level-requires
+    clear-requires-2
+    same-length-7
+    same-length-8
+    same-length-9
+    returns-3)

@@ -4,8 +4,7 @@ use mathlib.Core.Path.{_∙_, ap, sym}
 use native.Mathlib.Omega.{arith}
 use borrow.Author.Needs.{needs}
 use Rattle.darts.specs.Answers.{Answer as Answered, noPermutation}
-use Rattle.pyramid.specs.Values.{answerOf}
-use Rattle.darts.proofs.Fitting.{fits}
+use Rattle.darts.proofs.calls.Fitting.{fits}
 use Rattle.pyramid.proofs.Started.{start-refused, start-bad, start-done}
 use Rattle.pyramid.proofs.starting.start.Statement.{statement}
 use Rattle.pyramid.proofs.starting.start.Tie as tie
@@ -27,7 +26,7 @@ returns c =
     let b = c .based .ensures in
     start-refused (g .darts) (g .table .now) (g .history .now) (g .work .now) (c .based .result)
     (λ z. c .before .if1 .taken (n ∙ ap (λ (a : Answered). a .number) f ∙ z))
-    (record { answer = ap answerOf (b .1) ∙ f; state = b .0 })
+    (record { answer = b .answer ∙ f; state = b .state })
 
 first-bad-requires : tie.Need-first-bad-requires
 first-bad-requires c κs =
@@ -58,7 +57,7 @@ returns-2 c =
     (start-bad (g .darts) (g .table .now) (g .history .now) (g .work .now)
     (sym (ap (λ (a : Answered). a .number) f) ∙ sym m ∙ c .before .before .before .before .before .before .before .if1 .left)
     (c .based2 .result) (omega arith)
-    (record { answer = ap answerOf (r .1) ∙ ap (λ (d : ℕ). noPermutation d) (b .0); state = r .0 }))
+    (record { answer = r .answer ∙ ap (λ (d : ℕ). noPermutation d) (b .0); state = r .state }))
 
 based-requires-3 : tie.Need-based-requires-3
 based-requires-3 c κs = search needs
@@ -75,12 +74,10 @@ returns-3 c =
     let f = c .before .before .before .before .before .before .before .before .before .fit .ensures in
     let m = c .before .before .before .before .before .before .before .before .number .ensures in
     let b = c .before .before .before .before .first-bad .ensures in
-    let r = c .based3 .ensures in
     rw (b .1)
     (start-done (g .darts) (g .table .now) (g .history .now) (g .work .now)
     (sym (ap (λ (a : Answered). a .number) f) ∙ sym m ∙ c .before .before .before .before .before .before .before .if1 .left)
-    (c .based3 .result) (omega arith)
-    (record { answer = ap answerOf (r .1); state = r .0 }))
+    (c .based3 .result) (omega arith) (c .based3 .ensures))
 
 pub start-spec : {M : Type 1} → statement M
 start-spec =

@@ -9,11 +9,12 @@ use native.Mathlib.Omega.{arith}
 use lib.ListN.{length, drop, set, replicate, length-append}
 use borrow.Author.Needs.{needs}
 use borrow.Author.Tests.{le-leb, lt-leb}
-use Rattle.darts.specs.Answers.{answered}
+use Rattle.darts.specs.Cases.{answerOf}
+use Rattle.darts.specs.declared.Answer.{Answer}
 use Rattle.darts.specs.Operation.{Kind}
 use Rattle.darts.specs.Scan.{found, fault, after}
 use Rattle.darts.specs.Read.{KernelLine, kernelAt, kernelsAt, endsFrom, total, numbersFrom, historyFrom, fileHistory}
-use Rattle.darts.proofs.KernelLines.{ends-length, numbers-length}
+use Rattle.darts.proofs.file.KernelLines.{ends-length, numbers-length}
 use Rattle.zonefile.specs.declared.scan.Scanned.the-variants.{Found, Fault}
 use Rattle.zonefile.specs.Found.{lineOf}
 use Rattle.zonefile.specs.Lines.{kernelOf}
@@ -22,7 +23,8 @@ use Rattle.zonefile.specs.Kernels.{noted, KernelsRead}
 use Rattle.zonefile.proofs.Found.{told}
 use Rattle.zonefile.proofs.Rest.{Rest, rest-none, rest-on, rest-fault, rest-found}
 use Rattle.zonefile.proofs.KernelLines.{kernel-lines, kernel-small, total-on, ends-on, history-on, history-length, ends-set}
-use Rattle.zonefile.proofs.Laid.{put-none, put-on, laid-rest, laid-over}
+use Rattle.zonefile.proofs.Laid.{put-none, put-on}
+use Rattle.slices.proofs.Laid.{laid-rest, laid-over}
 use Rattle.zonefile.proofs.kernels.kernels.Statement.{statement}
 use Rattle.zonefile.proofs.kernels.kernels.Tie as tie
 
@@ -99,9 +101,9 @@ module _ {b : List ℕ} {L D : ℕ} {h₀ h ends : List ℕ} {at₀ at sum i : �
         rest = ap (drop (D / 2)) e ∙ noted-rest (D / 2) (k .kind) sum (k .count) h (omega arith) ∙ g .rest;
       }
 
-  stopped : {n p : ℕ} → i < L → kernelAt b at ≡ fault (answered n p) → KernelsRead b at₀ L D h₀ h (record { read = Fault n p; ends = ends })
-  stopped {n} {p} more line =
-      let wrong : kernelsAt L b at₀ ≡ fault (answered n p) = rest-fault (kernel-lines b) (L - i) (omega arith) (g .lines) (rw line) in
+  stopped : {a : Answer} → i < L → kernelAt b at ≡ fault (answerOf a) → KernelsRead b at₀ L D h₀ h (record { read = Fault a; ends = ends })
+  stopped {a} more line =
+      let wrong : kernelsAt L b at₀ ≡ fault (answerOf a) = rest-fault (kernel-lines b) (L - i) (omega arith) (g .lines) (rw line) in
       let never : (ks : List KernelLine) (next : ℕ) → kernelsAt L b at₀ ≡ found ks next → ⊥ =
       λ ks next e. let z : _≡_ {A = ℕ} 0 1 = cc (wrong, e) in omega arith in
       record {
@@ -138,8 +140,8 @@ loop-holds c =
 kernel-line-requires : tie.Need-kernel-line-requires Inv-loop μ-loop
 kernel-line-requires c κs = search needs
 
-enum-known-n : tie.Need-enum-known-n Inv-loop μ-loop
-enum-known-n c = search needs
+enum-known-answer : tie.Need-enum-known-answer Inv-loop μ-loop
+enum-known-answer c = search needs
 
 same-length : tie.Need-same-length Inv-loop μ-loop
 same-length c = search needs
@@ -148,7 +150,7 @@ returns : tie.Need-returns Inv-loop μ-loop
 returns c =
     stopped (c .before .before .before .before .before .before .before .before .pre) (c .before .before .before .before .before .loop .inv)
     (c .before .before .before .before .loop-test .taken)
-    (told (lineOf kernelOf) (c .before .before .before .kernel-line .ensures) (c .before .n .given .1))
+    (told (lineOf kernelOf) (c .before .before .before .kernel-line .ensures) (c .before .answer .given .1))
 
 enum-known-kind : tie.Need-enum-known-kind Inv-loop μ-loop
 enum-known-kind c = search needs
@@ -205,7 +207,7 @@ kernels-spec =
     μ-loop
     loop-holds
     kernel-line-requires
-    enum-known-n
+    enum-known-answer
     same-length
     returns
     enum-known-kind

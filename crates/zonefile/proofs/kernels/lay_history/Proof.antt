@@ -9,7 +9,7 @@ use borrow.Author.Needs.{needs}
 use borrow.Author.Tests.{le-leb, lt-leb}
 use Rattle.darts.specs.Operation.{Kind, number, kindOf}
 use Rattle.darts.specs.Read.{numbersFrom}
-use Rattle.area.specs.Load.{laid}
+use Rattle.slices.specs.Laid.{laid}
 use Rattle.zonefile.specs.Laid.{Put}
 use Rattle.zonefile.specs.Kernels.{noted}
 use Rattle.zonefile.proofs.Laid.{put-none, put-one}

@@ -13,8 +13,8 @@ slice-aggregate-field c = search needs
 field-requires : tie.Need-field-requires
 field-requires c κs = search needs
 
-enum-known-n : tie.Need-enum-known-n
-enum-known-n c = search needs
+enum-known-answer : tie.Need-enum-known-answer
+enum-known-answer c = search needs
 
 enum-known-count : tie.Need-enum-known-count
 enum-known-count c = search needs
@@ -27,7 +27,7 @@ returns c =
 
 returns-2 : tie.Need-returns-2
 unfolding kernelOfKind
-returns-2 c = rw (← c .before .before .before .before .before .before .before .pre, told scanOf (c .before .before .before .field .ensures) (c .before .n .given .1))
+returns-2 c = rw (← c .before .before .before .before .before .before .before .pre, told scanOf (c .before .before .before .field .ensures) (c .before .answer .given .1))
 
 returns-3 : tie.Need-returns-3
 unfolding kernelOfKind
@@ -41,7 +41,7 @@ count-of-kind-spec =
     (tie.spec
     slice-aggregate-field
     field-requires
-    enum-known-n
+    enum-known-answer
     enum-known-count
     returns
     returns-2

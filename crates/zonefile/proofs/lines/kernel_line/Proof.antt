@@ -16,8 +16,8 @@ slice-aggregate-word c = search needs
 word-requires : tie.Need-word-requires
 word-requires c κs = search needs
 
-enum-known-n : tie.Need-enum-known-n
-enum-known-n c = search needs
+enum-known-answer : tie.Need-enum-known-answer
+enum-known-answer c = search needs
 
 enum-known-kind : tie.Need-enum-known-kind
 enum-known-kind c = search needs
@@ -52,7 +52,7 @@ count-of-kind-requires-2 c κs = refl
 
 returns-2 : tie.Need-returns-2
 unfolding kernelAt
-returns-2 c = rw (told scanOf (c .before .before .before .word .ensures) (c .before .n .given .1))
+returns-2 c = rw (told scanOf (c .before .before .before .word .ensures) (c .before .answer .given .1))
 
 returns-3 : tie.Need-returns-3
 unfolding kernelAt kindOf
@@ -71,7 +71,7 @@ kernel-line-spec =
     (tie.spec
     slice-aggregate-word
     word-requires
-    enum-known-n
+    enum-known-answer
     enum-known-kind
     byte-at-requires
     slice-aggregate-count-of-kind

@@ -16,8 +16,8 @@ slice-aggregate-field-2 c = search needs
 field-requires : tie.Need-field-requires
 field-requires c κs = search needs
 
-enum-known-n : tie.Need-enum-known-n
-enum-known-n c = search needs
+enum-known-answer : tie.Need-enum-known-answer
+enum-known-answer c = search needs
 
 enum-known-levels : tie.Need-enum-known-levels
 enum-known-levels c = search needs
@@ -28,7 +28,7 @@ returns c = rw (told scanOf (c .before .before .before .before .field .ensures) 
 
 returns-2 : tie.Need-returns-2
 unfolding levelsAt
-returns-2 c = rw (told scanOf (c .before .before .before .field .ensures) (c .before .n .given .1))
+returns-2 c = rw (told scanOf (c .before .before .before .field .ensures) (c .before .answer .given .1))
 
 returns-3 : tie.Need-returns-3
 unfolding levelsAt
@@ -41,7 +41,7 @@ levels-line-spec =
     slice-aggregate-field
     slice-aggregate-field-2
     field-requires
-    enum-known-n
+    enum-known-answer
     enum-known-levels
     returns
     returns-2

@@ -12,8 +12,8 @@ slice-aggregate-word c = search needs
 word-requires : tie.Need-word-requires
 word-requires c κs = search needs
 
-enum-known-n : tie.Need-enum-known-n
-enum-known-n c = search needs
+enum-known-answer : tie.Need-enum-known-answer
+enum-known-answer c = search needs
 
 enum-known-ninth : tie.Need-enum-known-ninth
 enum-known-ninth c = search needs
@@ -21,8 +21,8 @@ enum-known-ninth c = search needs
 flag-requires : tie.Need-flag-requires
 flag-requires c κs = search needs
 
-enum-known-n-2 : tie.Need-enum-known-n-2
-enum-known-n-2 c = search needs
+enum-known-answer-2 : tie.Need-enum-known-answer-2
+enum-known-answer-2 c = search needs
 
 enum-known-flag : tie.Need-enum-known-flag
 enum-known-flag c = search needs
@@ -33,21 +33,21 @@ slice-aggregate-word-2 c = search needs
 word-requires-2 : tie.Need-word-requires-2
 word-requires-2 c κs = search needs
 
-enum-known-n-3 : tie.Need-enum-known-n-3
-enum-known-n-3 c = search needs
+enum-known-answer-3 : tie.Need-enum-known-answer-3
+enum-known-answer-3 c = search needs
 
 enum-known-next : tie.Need-enum-known-next
 enum-known-next c = search needs
 
 returns : tie.Need-returns
 unfolding numbersAt
-returns c = rw (told scanOf (c .before .before .before .word .ensures) (c .before .n .given .1))
+returns c = rw (told scanOf (c .before .before .before .word .ensures) (c .before .answer .given .1))
 
 returns-2 : tie.Need-returns-2
 unfolding numbersAt
 returns-2 c =
     rw (told scanOf (c .before .before .before .before .before .before .before .word .ensures) (c .before .before .before .before .before .ninth .given .1))
-    (rw (told scanOf (c .before .before .before .flag .ensures) (c .before .n2 .given .1)))
+    (rw (told scanOf (c .before .before .before .flag .ensures) (c .before .answer2 .given .1)))
 
 returns-3 : tie.Need-returns-3
 unfolding numbersAt
@@ -56,7 +56,7 @@ returns-3 c =
     (c .before .before .before .before .before .before .before .before .before .before .ninth .given .1))
     (rw (told scanOf (c .before .before .before .before .before .before .before .before .flag .ensures)
     (c .before .before .before .before .before .before .flag2 .given .1))
-    (rw (told scanOf (c .before .before .before .word2 .ensures) (c .before .n3 .given .1))))
+    (rw (told scanOf (c .before .before .before .word2 .ensures) (c .before .answer3 .given .1))))
 
 returns-4 : tie.Need-returns-4
 unfolding numbersAt
@@ -73,14 +73,14 @@ numbers-line-spec =
     (tie.spec
     slice-aggregate-word
     word-requires
-    enum-known-n
+    enum-known-answer
     enum-known-ninth
     flag-requires
-    enum-known-n-2
+    enum-known-answer-2
     enum-known-flag
     slice-aggregate-word-2
     word-requires-2
-    enum-known-n-3
+    enum-known-answer-3
     enum-known-next
     returns
     returns-2

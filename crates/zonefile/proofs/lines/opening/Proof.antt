@@ -21,8 +21,8 @@ by-lines b = simp after-after
 numbers-line-requires : tie.Need-numbers-line-requires
 numbers-line-requires c κs = search needs
 
-enum-known-n : tie.Need-enum-known-n
-enum-known-n c = search needs
+enum-known-answer : tie.Need-enum-known-answer
+enum-known-answer c = search needs
 
 enum-known-flag : tie.Need-enum-known-flag
 enum-known-flag c = search needs
@@ -36,14 +36,14 @@ slice-aggregate-field-2 c = search needs
 field-requires : tie.Need-field-requires
 field-requires c κs = search needs
 
-enum-known-n-2 : tie.Need-enum-known-n-2
-enum-known-n-2 c = search needs
+enum-known-answer-2 : tie.Need-enum-known-answer-2
+enum-known-answer-2 c = search needs
 
 enum-known-darts : tie.Need-enum-known-darts
 enum-known-darts c = search needs
 
 returns : tie.Need-returns
-returns c = rw (by-lines _, told scanOf (c .before .before .before .numbers-line .ensures) (c .before .n .given .1))
+returns c = rw (by-lines _, told scanOf (c .before .before .before .numbers-line .ensures) (c .before .answer .given .1))
 
 returns-2 : tie.Need-returns-2
 returns-2 c =
@@ -52,7 +52,7 @@ returns-2 c =
       told scanOf (c .before .before .before .before .before .before .before .before .before .numbers-line .ensures)
           (c .before .before .before .before .before .before .before .flag .given .1),
     )
-    (rw (told scanOf (c .before .before .before .field .ensures) (c .before .n2 .given .1)))
+    (rw (told scanOf (c .before .before .before .field .ensures) (c .before .answer2 .given .1)))
 
 returns-3 : tie.Need-returns-3
 returns-3 c =
@@ -68,12 +68,12 @@ opening-spec =
     tie.close
     (tie.spec
     numbers-line-requires
-    enum-known-n
+    enum-known-answer
     enum-known-flag
     slice-aggregate-field
     slice-aggregate-field-2
     field-requires
-    enum-known-n-2
+    enum-known-answer-2
     enum-known-darts
     returns
     returns-2

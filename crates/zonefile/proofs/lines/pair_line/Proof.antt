@@ -15,8 +15,8 @@ slice-aggregate-field-2 c = search needs
 field-requires : tie.Need-field-requires
 field-requires c κs = search needs
 
-enum-known-n : tie.Need-enum-known-n
-enum-known-n c = search needs
+enum-known-answer : tie.Need-enum-known-answer
+enum-known-answer c = search needs
 
 enum-known-a : tie.Need-enum-known-a
 enum-known-a c = search needs
@@ -30,22 +30,22 @@ slice-aggregate-field-4 c = search needs
 field-requires-2 : tie.Need-field-requires-2
 field-requires-2 c κs = search needs
 
-enum-known-n-2 : tie.Need-enum-known-n-2
-enum-known-n-2 c = search needs
+enum-known-answer-2 : tie.Need-enum-known-answer-2
+enum-known-answer-2 c = search needs
 
 enum-known-b : tie.Need-enum-known-b
 enum-known-b c = search needs
 
 returns : tie.Need-returns
 unfolding pairAt
-returns c = rw (told scanOf (c .before .before .before .field .ensures) (c .before .n .given .1))
+returns c = rw (told scanOf (c .before .before .before .field .ensures) (c .before .answer .given .1))
 
 returns-2 : tie.Need-returns-2
 unfolding pairAt
 returns-2 c =
     rw (told scanOf (c .before .before .before .before .before .before .before .before .before .field .ensures)
     (c .before .before .before .before .before .before .before .a .given .1))
-    (rw (told scanOf (c .before .before .before .field2 .ensures) (c .before .n2 .given .1)))
+    (rw (told scanOf (c .before .before .before .field2 .ensures) (c .before .answer2 .given .1)))
 
 returns-3 : tie.Need-returns-3
 unfolding pairAt
@@ -61,12 +61,12 @@ pair-line-spec =
     slice-aggregate-field
     slice-aggregate-field-2
     field-requires
-    enum-known-n
+    enum-known-answer
     enum-known-a
     slice-aggregate-field-3
     slice-aggregate-field-4
     field-requires-2
-    enum-known-n-2
+    enum-known-answer-2
     enum-known-b
     returns
     returns-2

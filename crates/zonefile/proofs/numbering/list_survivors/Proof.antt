@@ -16,9 +16,9 @@ use Rattle.darts.specs.File.{survivors}
 use Rattle.area.specs.Area.{prev, there, pastIn}
 use Rattle.engine.specs.Held.{Area}
 use Rattle.engine.proofs.Area.{there-live}
-use Rattle.area.specs.Load.{laid}
+use Rattle.slices.specs.Laid.{laid}
 use Rattle.zonefile.specs.Laid.{Fitted}
-use Rattle.zonefile.proofs.Laid.{laid-front}
+use Rattle.slices.proofs.Laid.{laid-front}
 use Rattle.zonefile.proofs.Survivors.{survivors-yes, survivors-no}
 use Rattle.zonefile.proofs.Fitted.{toward-all, toward-end, fitted-on, fitted-one}
 use Rattle.zonefile.proofs.numbering.list_survivors.Statement.{statement}

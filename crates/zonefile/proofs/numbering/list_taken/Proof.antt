@@ -10,13 +10,13 @@ use borrow.Author.Needs.{needs}
 use Rattle.permutations.specs.Partner.{partner, partner-below}
 use Rattle.darts.specs.Operation.{leadOf}
 use Rattle.darts.specs.File.{taken}
-use Rattle.forest.specs.Part.{part}
+use Rattle.slices.specs.Part.{part}
 use Rattle.area.specs.Shape.{historyIn}
 use Rattle.area.proofs.Parts.{part-cons, part-none}
 use Rattle.engine.specs.Held.{Area}
 use Rattle.engine.proofs.Area.{area-sound}
-use Rattle.area.specs.Load.{laid}
-use Rattle.zonefile.proofs.Laid.{laid-rest}
+use Rattle.slices.specs.Laid.{laid}
+use Rattle.slices.proofs.Laid.{laid-rest}
 use Rattle.zonefile.proofs.Fitted.{Toward, toward-all, toward-on, toward-end, fitted-two}
 use Rattle.zonefile.proofs.numbering.list_taken.Statement.{statement}
 use Rattle.zonefile.proofs.numbering.list_taken.Tie as tie

@@ -10,7 +10,7 @@ use lib.Seq.{getD-drop, getD-set-same, getD-set-other, take-set-le, drop-set-lt}
 use borrow.Author.Needs.{needs}
 use Rattle.permutations.specs.Choice.{eqb-same, eqb-other}
 use Rattle.darts.specs.File.{placeIn}
-use Rattle.forest.specs.Part.{part}
+use Rattle.slices.specs.Part.{part}
 use Rattle.area.proofs.Parts.{part-cons}
 use Rattle.zonefile.specs.Numbering.{Placed}
 use Rattle.zonefile.proofs.numbering.number_listed.Statement.{statement}

@@ -6,14 +6,13 @@ use native.Mathlib.Omega.{arith}
 use lib.ListN.{set, length-set}
 use borrow.Author.Needs.{needs}
 use Rattle.zonefile.specs.Lines.{pairOf}
-use Rattle.area.specs.Load.{laid}
-use Rattle.zonefile.specs.Laid.{Room}
+use Rattle.slices.specs.Laid.{laid, Space}
 use Rattle.zonefile.proofs.Laid.{put-none, put-one}
 use Rattle.zonefile.proofs.PairLines.{flag-small}
 use Rattle.zonefile.proofs.pairs.lay_pair.Statement.{statement}
 use Rattle.zonefile.proofs.pairs.lay_pair.Tie as tie
 
-two-laid : (t : List ℕ) (at : ℕ) {a b x y u v : ℕ} → Room t at (pairOf a b) → x ≡ u → y ≡ v → set (set t at x) (at + 1) y ≡ laid t at (u ∷ v ∷ [])
+two-laid : (t : List ℕ) (at : ℕ) {a b x y u v : ℕ} → Space t at (pairOf a b) → x ≡ u → y ≡ v → set (set t at x) (at + 1) y ≡ laid t at (u ∷ v ∷ [])
 two-laid t at {a} {b} {x} {y} {u} {v} room e f = rw (← e, ← f) (put-one y (omega arith) (put-one x (omega arith) (put-none t at)) .slice)
 
 from-flag-requires : tie.Need-from-flag-requires

@@ -6,19 +6,21 @@ use Prim.Native.Nat.{ℕ, _+_, _-_, _*_, _/_, _≤_, _<_}
 use native.Mathlib.Omega.{arith}
 use lib.ListN.{length, drop}
 use borrow.Author.Needs.{needs}
-use Rattle.darts.specs.Answers.{answered}
+use Rattle.darts.specs.Cases.{answerOf}
+use Rattle.darts.specs.declared.Answer.{Answer}
 use Rattle.darts.specs.Scan.{found, fault}
 use Rattle.darts.specs.Read.{pairsAt, fromFlag}
 use Rattle.zonefile.specs.declared.scan.Scanned.the-variants.{Found, Fault}
 use Rattle.zonefile.specs.Found.{lineOf}
 use Rattle.zonefile.specs.Lines.{pairAt, pairOf}
-use Rattle.area.specs.Load.{laid}
-use Rattle.zonefile.specs.Laid.{Room, Put}
+use Rattle.slices.specs.Laid.{laid, Space}
+use Rattle.zonefile.specs.Laid.{Put}
 use Rattle.zonefile.specs.Pairs.{PairsRead}
 use Rattle.zonefile.proofs.Found.{told}
 use Rattle.zonefile.proofs.Rest.{Rest, rest-none, rest-on, rest-fault, rest-found}
 use Rattle.zonefile.proofs.PairLines.{pair-lines, pair-small}
-use Rattle.zonefile.proofs.Laid.{put-none, put-on, put-length, laid-rest, laid-over}
+use Rattle.zonefile.proofs.Laid.{put-none, put-on, put-length}
+use Rattle.slices.proofs.Laid.{laid-rest, laid-over}
 use Rattle.zonefile.proofs.pairs.pairs.Statement.{statement}
 use Rattle.zonefile.proofs.pairs.pairs.Tie as tie
 
@@ -40,7 +42,7 @@ begin b D F t at =
     }
 
 module _ {b : List ℕ} {D F : ℕ} {t₀ t : List ℕ} {at₀ at i : ℕ} (pre : (D ≤ 65536) × (D ≤ length t₀)) (g : Reading b D F t₀ t at₀ at i) where
-  room : Room t₀ 0 (map (fromFlag F D) (g .done))
+  room : Space t₀ 0 (map (fromFlag F D) (g .done))
   room = record { fits = omega (arith, g .put .next) }
 
   go-on : {t′ : List ℕ} {x y next : ℕ} → i < D / 2 → pairAt b at ≡ found (pairOf x y) next
@@ -62,9 +64,9 @@ module _ {b : List ℕ} {D F : ℕ} {t₀ t : List ℕ} {at₀ at i : ℕ} (pre 
   untouched : drop D t ≡ drop D t₀
   untouched = ap (drop D) (g .put .slice) ∙ laid-rest t₀ 0 (map (fromFlag F D) (g .done)) room D (omega (arith, g .put .next))
 
-  stopped : {n p : ℕ} → i < D / 2 → pairAt b at ≡ fault (answered n p) → PairsRead b at₀ D F t₀ t (Fault n p)
-  stopped {n} {p} more line =
-      let wrong : pairsAt (D / 2) b at₀ ≡ fault (answered n p) = rest-fault (pair-lines b) (D / 2 - i) (omega arith) (g .lines) line in
+  stopped : {a : Answer} → i < D / 2 → pairAt b at ≡ fault (answerOf a) → PairsRead b at₀ D F t₀ t (Fault a)
+  stopped {a} more line =
+      let wrong : pairsAt (D / 2) b at₀ ≡ fault (answerOf a) = rest-fault (pair-lines b) (D / 2 - i) (omega arith) (g .lines) line in
       record {
         answer = rw wrong;
         table = λ xs next e. let never : _≡_ {A = ℕ} 0 1 = cc (wrong, e) in absurd (omega arith);
@@ -94,8 +96,8 @@ loop-holds c =
 pair-line-requires : tie.Need-pair-line-requires Inv-loop μ-loop
 pair-line-requires c κs = search needs
 
-enum-known-n : tie.Need-enum-known-n Inv-loop μ-loop
-enum-known-n c = search needs
+enum-known-answer : tie.Need-enum-known-answer Inv-loop μ-loop
+enum-known-answer c = search needs
 
 same-length : tie.Need-same-length Inv-loop μ-loop
 same-length c = search needs
@@ -104,7 +106,7 @@ returns : tie.Need-returns Inv-loop μ-loop
 returns c =
     stopped (c .before .before .before .before .before .before .before .before .pre) (c .before .before .before .before .before .loop .inv)
     (c .before .before .before .before .loop-test .taken)
-    (told (lineOf pairOf) (c .before .before .before .pair-line .ensures) (c .before .n .given .1))
+    (told (lineOf pairOf) (c .before .before .before .pair-line .ensures) (c .before .answer .given .1))
 
 enum-known-a : tie.Need-enum-known-a Inv-loop μ-loop
 enum-known-a c = search needs
@@ -145,7 +147,7 @@ pairs-spec =
     μ-loop
     loop-holds
     pair-line-requires
-    enum-known-n
+    enum-known-answer
     same-length
     returns
     enum-known-a

@@ -8,7 +8,8 @@ use native.Mathlib.Omega.{arith}
 use lib.ListN.{length, getD, take, set, length-set}
 use lib.Seq.{take-suc, take-all, length-take-le}
 use borrow.Author.Needs.{needs}
-use Rattle.zonefile.specs.Laid.{Room, Put}
+use Rattle.zonefile.specs.Laid.{Put}
+use Rattle.slices.specs.Laid.{Space}
 use Rattle.zonefile.proofs.Laid.{put-none, put-one}
 use Rattle.zonefile.proofs.print.put_bytes.Statement.{statement}
 use Rattle.zonefile.proofs.print.put_bytes.Tie as tie
@@ -21,7 +22,7 @@ record Going (w₀ w v : List ℕ) (at i : ℕ) : Type 0 where
 begin : (w v : List ℕ) (at : ℕ) → Going w w v at 0
 begin w v at = record { bound = omega arith; size = refl; put = rw (add-zero at) (put-none w at) }
 
-go-on : (w₀ w v : List ℕ) (at i : ℕ) → Room w₀ at v → i < length v → Going w₀ w v at i → Going w₀ (set w (at + i) (getD v i 0)) v at (i + 1)
+go-on : (w₀ w v : List ℕ) (at i : ℕ) → Space w₀ at v → i < length v → Going w₀ w v at i → Going w₀ (set w (at + i) (getD v i 0)) v at (i + 1)
 go-on w₀ w v at i room h g =
     let taken : length (take i v) ≡ i = length-take-le i v (omega arith) in
     record {

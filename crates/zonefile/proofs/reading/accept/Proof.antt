@@ -2,7 +2,7 @@
 use Prim.Native.Nat.{_*_}
 use native.Mathlib.Omega.{arith}
 use borrow.Author.Needs.{needs}
-use Rattle.forest.specs.Part.{take-part}
+use Rattle.slices.proofs.Part.{take-part}
 use Rattle.zonefile.proofs.reading.accept.Statement.{statement}
 use Rattle.zonefile.proofs.reading.accept.Tie as tie
 

@@ -8,8 +8,8 @@ use Rattle.zonefile.proofs.reading.last_pairs.Tie as tie
 pairs-requires : tie.Need-pairs-requires
 pairs-requires c κs = search needs
 
-enum-known-n : tie.Need-enum-known-n
-enum-known-n c = search needs
+enum-known-answer : tie.Need-enum-known-answer
+enum-known-answer c = search needs
 
 enum-known-next : tie.Need-enum-known-next
 enum-known-next c = search needs
@@ -24,7 +24,7 @@ same-length-2 : tie.Need-same-length-2
 same-length-2 c = search needs
 
 returns-2 : tie.Need-returns-2
-returns-2 c = last-wrong (c .before .before .before .before .before .pairs .ensures) (c .before .n .given .1)
+returns-2 c = last-wrong (c .before .before .before .before .before .pairs .ensures) (c .before .answer .given .1)
 
 same-length-3 : tie.Need-same-length-3
 same-length-3 c = search needs
@@ -37,7 +37,7 @@ last-pairs-spec =
     tie.close
     (tie.spec
     pairs-requires
-    enum-known-n
+    enum-known-answer
     enum-known-next
     same-length
     returns

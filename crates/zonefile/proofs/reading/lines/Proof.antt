@@ -43,8 +43,8 @@ part-last-pairs-end c = search needs
 last-pairs-requires : tie.Need-last-pairs-requires
 last-pairs-requires c κs = search needs
 
-enum-known-n : tie.Need-enum-known-n
-enum-known-n c = search needs
+enum-known-answer : tie.Need-enum-known-answer
+enum-known-answer c = search needs
 
 enum-told : tie.Need-enum-told
 enum-told c = search needs
@@ -67,7 +67,7 @@ returns-2 c =
     let k = c .before .before .before .before .before .before .before .before .before .before .before .before .before .kernels in
     let l = c .before .before .before .before .before .last-pairs in
     pairs-wrong (s .args .flag) (s .pre .0) (k .kept .1 .1 .1 .1 .0) (k .ensures) (c .before .before .before .before .before .before .before .before .read2 .given .1) (l .kept .1 .1 .1 .1 .0) (l .ensures)
-    (c .before .n .given .1)
+    (c .before .answer .given .1)
 
 same-length-3 : tie.Need-same-length-3
 same-length-3 c = search needs
@@ -97,7 +97,7 @@ lines-spec =
     part-last-pairs-start
     part-last-pairs-end
     last-pairs-requires
-    enum-known-n
+    enum-known-answer
     enum-told
     same-length
     returns

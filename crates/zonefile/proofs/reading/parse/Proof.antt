@@ -11,8 +11,8 @@ use Rattle.zonefile.proofs.reading.parse.Tie as tie
 levels-line-requires : tie.Need-levels-line-requires
 levels-line-requires c κs = search needs
 
-enum-known-n : tie.Need-enum-known-n
-enum-known-n c = search needs
+enum-known-answer : tie.Need-enum-known-answer
+enum-known-answer c = search needs
 
 enum-known-levels : tie.Need-enum-known-levels
 enum-known-levels c = search needs
@@ -24,7 +24,7 @@ lines-requires c κs =
 returns : tie.Need-returns
 returns c =
     let g = c .before .before .before .before .before .before .args in
-    level-wrong (g .d) (g .bytes .now) (g .at) (replicate 64 0) (told scanOf (c .before .before .before .levels-line .ensures) (c .before .n .given .1))
+    level-wrong (g .d) (g .bytes .now) (g .at) (replicate 64 0) (told scanOf (c .before .before .before .levels-line .ensures) (c .before .answer .given .1))
 
 same-length : tie.Need-same-length
 same-length c = search needs
@@ -40,7 +40,7 @@ parse-spec =
     tie.close
     (tie.spec
     levels-line-requires
-    enum-known-n
+    enum-known-answer
     enum-known-levels
     lines-requires
     returns

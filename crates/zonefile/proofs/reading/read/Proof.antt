@@ -7,15 +7,13 @@ use lib.ListN.{length}
 use borrow.Author.Needs.{needs}
 use Rattle.darts.specs.Answers.{Answer as Answered}
 use Rattle.area.specs.Area.{Room}
-use Rattle.darts.proofs.Over.{cleared-kept}
+use Rattle.darts.proofs.calls.Cleared.{cleared-kept}
 use Rattle.engine.proofs.Area.{room-kept}
-use Rattle.pyramid.specs.Values.{answerOf}
-use Rattle.darts.proofs.Fitting.{Fits, fits}
+use Rattle.darts.proofs.calls.Fitting.{Fits, fits}
 use Rattle.pyramid.proofs.Started.{hands}
 use Rattle.zonefile.specs.Found.{lineOf}
 use Rattle.zonefile.specs.Lines.{startsWith}
 use Rattle.zonefile.proofs.Found.{told}
-use Rattle.zonefile.proofs.Refusals.{opening-refusing}
 use Rattle.zonefile.proofs.ReadEnds.{darts-small, read-unopened, read-unfit, read-on}
 use Rattle.zonefile.proofs.reading.read.Statement.{statement}
 use Rattle.zonefile.proofs.reading.read.Tie as tie
@@ -29,12 +27,11 @@ fits-room w k = let q = k .count in record { even = q .even; some = omega arith;
 opening-requires : tie.Need-opening-requires
 opening-requires c κs = search needs
 
-enum-known-n : tie.Need-enum-known-n
-enum-known-n c = search needs
+enum-known-answer : tie.Need-enum-known-answer
+enum-known-answer c = search needs
 
-refused-requires : tie.Need-refused-requires
-refused-requires c κs =
-    opening-refusing (c .before .before .before .before .before .before .before .before .args .bytes .now) .only (told (lineOf startsWith) (c .before .before .before .opening .ensures) (c .before .n .given .1))
+based-requires : tie.Need-based-requires
+based-requires c κs = search needs
 
 enum-known-flag : tie.Need-enum-known-flag
 enum-known-flag c = search needs
@@ -50,16 +47,16 @@ fit-requires c κs = search needs
 number-requires : tie.Need-number-requires
 number-requires c κs = search needs
 
-based-requires : tie.Need-based-requires
-based-requires c κs = search needs
+based-requires-2 : tie.Need-based-requires-2
+based-requires-2 c κs = search needs
 
 returns : tie.Need-returns
 returns c =
     let g = c .before .before .before .before .before .before .before .before .before .before .before .before .args in
     let f = c .before .before .before .fit .ensures in
     let n = c .before .before .number .ensures in
-    let b = c .based .ensures in
-    hands (c .based .result) (record { answer = ap answerOf (b .1) ∙ f; state = b .0 }) _ _ _
+    let b = c .based2 .ensures in
+    hands (c .based2 .result) (record { answer = b .answer ∙ f; state = b .state }) _ _ _
     ∙ read-unfit (g .bytes .now) (g .table .now) (g .history .now) (g .work .now)
     (told (lineOf startsWith) (c .before .before .before .before .before .before .before .opening .ensures) (c .before .before .before .before .before .flag .given .1))
     (λ z. c .before .if1 .taken (n ∙ ap (λ (a : Answered). a .number) f ∙ z))
@@ -79,9 +76,9 @@ clear-requires c κs =
 returns-2 : tie.Need-returns-2
 returns-2 c =
     let g = c .before .before .before .before .before .before .before .before .before .args in
-    hands (c .refused .result) (c .refused .ensures) _ _ _
+    hands (c .based .result) (c .based .ensures) _ _ _
     ∙ read-unopened (g .bytes .now) (g .table .now) (g .history .now) (g .work .now)
-    (told (lineOf startsWith) (c .before .before .before .before .opening .ensures) (c .before .before .n .given .1))
+    (told (lineOf startsWith) (c .before .before .before .before .opening .ensures) (c .before .before .answer .given .1))
 
 same-length : tie.Need-same-length
 same-length c = search needs
@@ -109,13 +106,13 @@ read-spec =
     tie.close
     (tie.spec
     opening-requires
-    enum-known-n
-    refused-requires
+    enum-known-answer
+    based-requires
     enum-known-flag
     cast-fit
     fit-requires
     number-requires
-    based-requires
+    based-requires-2
     returns
     read-inside-requires
     clear-requires

@@ -5,7 +5,6 @@ use Rattle.engine.proofs.Area.{room-kept}
 use Rattle.engine.proofs.Ready.{beyond-trans}
 use Rattle.pyramid.proofs.Started.{hands}
 use Rattle.zonefile.specs.Lines.{startsWith}
-use Rattle.zonefile.proofs.Refusals.{body-refusing}
 use Rattle.zonefile.proofs.ReadEnds.{closed-fault}
 use Rattle.zonefile.proofs.reading.read_inside.Statement.{statement}
 use Rattle.zonefile.proofs.reading.read_inside.Tie as tie
@@ -16,10 +15,8 @@ parse-requires c κs = search needs
 enum-known-read : tie.Need-enum-known-read
 enum-known-read c = search needs
 
-refused-requires : tie.Need-refused-requires
-refused-requires c κs =
-    let g = c .before .before .before .before .before .before .before .before .before .before .before .before .args in
-    body-refusing (g .d) (g .bytes .now) (g .at) .only (c .before .before .before .before .before .before .parse .ensures .wrong (c .before .read .given .1))
+based-requires : tie.Need-based-requires
+based-requires c κs = search needs
 
 enum-known-read-2 : tie.Need-enum-known-read-2
 enum-known-read-2 c = search needs
@@ -36,7 +33,7 @@ same-length c = search needs
 returns : tie.Need-returns
 returns c =
     let g = c .before .before .before .before .before .before .before .before .before .before .before .before .before .args in
-    let r = c .refused in
+    let r = c .based in
     let k = c .before .before .before .before .before .before .before .parse .ensures in
     (hands (r .result) (r .ensures) _ _ _ ∙ closed-fault _ _ _ (startsWith (g .flag) (g .d)) (k .wrong (c .before .before .read .given .1)), k .beyond)
 
@@ -61,7 +58,7 @@ read-inside-spec =
     (tie.spec
     parse-requires
     enum-known-read
-    refused-requires
+    based-requires
     enum-known-read-2
     settle-requires
     same-length

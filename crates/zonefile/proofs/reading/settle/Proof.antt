@@ -3,19 +3,17 @@ use mathlib.Core.Path.{_∙_}
 use borrow.Author.Needs.{needs}
 use Rattle.engine.proofs.Ready.{beyond-refl}
 use Rattle.pyramid.proofs.Started.{hands}
-use Rattle.zonefile.specs.Settled.{isRefusal}
 use Rattle.zonefile.proofs.Settles.{settle-many, settle-none, settle-all}
 use Rattle.zonefile.proofs.reading.settle.Statement.{statement}
 use Rattle.zonefile.proofs.reading.settle.Tie as tie
 
-refused-requires : tie.Need-refused-requires
-unfolding isRefusal
-refused-requires c κs = tt
+based-requires : tie.Need-based-requires
+based-requires c κs = search needs
 
 returns : tie.Need-returns
 returns c =
     let g = c .before .before .before .before .before .before .args in
-    let r = c .refused in
+    let r = c .based in
     record {
       whole = λ s H v. hands (r .result) (r .ensures) _ _ _ ∙ settle-many H (g .table .now) (g .history .now) v (c .before .if1 .taken);
       beyond = beyond-refl (g .d) (g .work .now);
@@ -27,14 +25,14 @@ check-laid-requires c κs = search needs
 accept-requires : tie.Need-accept-requires
 accept-requires c κs = search needs
 
-cast-t23 : tie.Need-cast-t23
-cast-t23 c = search needs
-
 cast-t24 : tie.Need-cast-t24
 cast-t24 c = search needs
 
 cast-t25 : tie.Need-cast-t25
 cast-t25 c = search needs
+
+cast-t26 : tie.Need-cast-t26
+cast-t26 c = search needs
 
 same-length : tie.Need-same-length
 same-length c = search needs
@@ -55,9 +53,8 @@ returns-2 c =
       beyond = k .beyond;
     }
 
-refused-requires-2 : tie.Need-refused-requires-2
-unfolding isRefusal
-refused-requires-2 c κs = tt
+based-requires-2 : tie.Need-based-requires-2
+based-requires-2 c κs = search needs
 
 same-length-4 : tie.Need-same-length-4
 same-length-4 c = search needs
@@ -65,7 +62,7 @@ same-length-4 c = search needs
 returns-3 : tie.Need-returns-3
 returns-3 c =
     let g = c .before .before .before .before .before .before .before .before .before .before .before .args in
-    let r = c .refused2 in
+    let r = c .based2 in
     let k = c .before .before .before .before .check-laid .ensures in
     record {
       whole = λ s H v.
@@ -78,17 +75,17 @@ pub settle-spec : {M : Type 1} → statement M
 settle-spec =
     tie.close
     (tie.spec
-    refused-requires
+    based-requires
     returns
     check-laid-requires
     accept-requires
-    cast-t23
     cast-t24
     cast-t25
+    cast-t26
     same-length
     same-length-2
     same-length-3
     returns-2
-    refused-requires-2
+    based-requires-2
     same-length-4
     returns-3)

@@ -9,8 +9,8 @@ use Rattle.zonefile.proofs.scan.field.Tie as tie
 word-requires : tie.Need-word-requires
 word-requires c κs = search needs
 
-enum-known-n : tie.Need-enum-known-n
-enum-known-n c = search needs
+enum-known-answer : tie.Need-enum-known-answer
+enum-known-answer c = search needs
 
 enum-known-from : tie.Need-enum-known-from
 enum-known-from c = search needs
@@ -18,8 +18,8 @@ enum-known-from c = search needs
 number-requires : tie.Need-number-requires
 number-requires c κs = search needs
 
-enum-known-n-2 : tie.Need-enum-known-n-2
-enum-known-n-2 c = search needs
+enum-known-answer-2 : tie.Need-enum-known-answer-2
+enum-known-answer-2 c = search needs
 
 enum-known-x : tie.Need-enum-known-x
 enum-known-x c = search needs
@@ -27,21 +27,21 @@ enum-known-x c = search needs
 word-requires-2 : tie.Need-word-requires-2
 word-requires-2 c κs = search needs
 
-enum-known-n-3 : tie.Need-enum-known-n-3
-enum-known-n-3 c = search needs
+enum-known-answer-3 : tie.Need-enum-known-answer-3
+enum-known-answer-3 c = search needs
 
 enum-known-next : tie.Need-enum-known-next
 enum-known-next c = search needs
 
 returns : tie.Need-returns
 unfolding field
-returns c = rw (told scanOf (c .before .before .before .word .ensures) (c .before .n .given .1))
+returns c = rw (told scanOf (c .before .before .before .word .ensures) (c .before .answer .given .1))
 
 returns-2 : tie.Need-returns-2
 unfolding field
 returns-2 c =
     rw (told scanOf (c .before .before .before .before .before .before .before .word .ensures) (c .before .before .before .before .before .from .given .1))
-    (rw (told scanOf (c .before .before .before .number .ensures) (c .before .n2 .given .1)))
+    (rw (told scanOf (c .before .before .before .number .ensures) (c .before .answer2 .given .1)))
 
 returns-3 : tie.Need-returns-3
 unfolding field
@@ -49,7 +49,7 @@ returns-3 c =
     rw (told scanOf (c .before .before .before .before .before .before .before .before .before .before .before .word .ensures)
     (c .before .before .before .before .before .before .before .before .before .from .given .1))
     (rw (told scanOf (c .before .before .before .before .before .before .before .number .ensures) (c .before .before .before .before .before .x .given .1))
-    (rw (told scanOf (c .before .before .before .word2 .ensures) (c .before .n3 .given .1))))
+    (rw (told scanOf (c .before .before .before .word2 .ensures) (c .before .answer3 .given .1))))
 
 returns-4 : tie.Need-returns-4
 unfolding field
@@ -64,13 +64,13 @@ field-spec =
     tie.close
     (tie.spec
     word-requires
-    enum-known-n
+    enum-known-answer
     enum-known-from
     number-requires
-    enum-known-n-2
+    enum-known-answer-2
     enum-known-x
     word-requires-2
-    enum-known-n-3
+    enum-known-answer-3
     enum-known-next
     returns
     returns-2

@@ -2,7 +2,7 @@
 use native.Mathlib.Omega.{arith}
 use Prim.Native.Nat.{_+_, _*_}
 use borrow.Author.Needs.{needs}
-use Rattle.forest.specs.Part.{part-length}
+use Rattle.slices.proofs.Part.{part-length}
 use Rattle.zonefile.specs.Writing.{fileIn}
 use Rattle.zonefile.proofs.Lengths.{head-short}
 use Rattle.zonefile.proofs.Fitted.{fitted-on}

@@ -14,7 +14,7 @@ use Rattle.darts.specs.Operation.{kindOf}
 use Rattle.darts.specs.Tests.{rises}
 use Rattle.darts.specs.Pyramid.{cut}
 use Rattle.darts.specs.File.{kernelLines}
-use Rattle.darts.proofs.Shape.{rises-iff}
+use Rattle.darts.proofs.tests.Shape.{rises-iff}
 use Rattle.zonefile.specs.Laid.{Fitted, countLine}
 use Rattle.zonefile.proofs.Lengths.{count-short}
 use Rattle.zonefile.proofs.Fitted.{Toward, toward-all, toward-on, toward-end}

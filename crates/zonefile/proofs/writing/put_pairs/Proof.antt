@@ -7,7 +7,7 @@ use native.Mathlib.Omega.{arith}
 use lib.ListN.{length, getD}
 use borrow.Author.Needs.{needs}
 use Rattle.darts.specs.File.{pairLines}
-use Rattle.forest.specs.Part.{part}
+use Rattle.slices.specs.Part.{part}
 use Rattle.area.proofs.Parts.{part-cons, part-none}
 use Rattle.zonefile.specs.Laid.{Fitted}
 use Rattle.zonefile.specs.Numbering.{Dense, renamed, entriesIn}

@@ -1,0 +1,4 @@
+pub mod Fitting
+pub mod Cleared
+pub mod Judging
+pub mod Outcomes

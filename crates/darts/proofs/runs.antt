@@ -1,0 +1,13 @@
+pub mod Operations
+pub mod Runs
+pub mod Ends
+pub mod Results
+pub mod Reduces
+pub mod Builds
+pub mod Taking
+pub mod Sweeps
+pub mod Pyramids
+pub mod Undo
+pub mod Cuts
+pub mod Stops
+pub mod Earnest

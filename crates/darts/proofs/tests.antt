@@ -1,0 +1,13 @@
+pub mod Links
+pub mod Fits
+pub mod Undone
+pub mod Back
+pub mod Forth
+pub mod Replays
+pub mod Shape
+pub mod Passes
+pub mod Rebuilt
+pub mod TestsDecide
+pub mod TopLabels
+pub mod TestRows
+pub mod Room

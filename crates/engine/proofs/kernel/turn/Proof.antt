@@ -1,0 +1,79 @@
+-- `engine::kernel::turn` meets its contract: judging keeps what the work area holds, so that the edge is done on the map on which it was judged.
+--   fine-there     == an edge that was judged 0 may be done in the work area as it is then
+--   turned-refused == any other answer leaves the map as it was
+--   turned-done    == the operation is done
+use mathlib.Core.List.{List, _∷_}
+use mathlib.Core.Logic.{_≢_}
+use mathlib.Core.Path.{_≡_, sym, ap₂, _∙_}
+use Prim.Native.Nat.{ℕ}
+use native.Mathlib.Omega.{arith}
+use borrow.Author.Needs.{needs}
+use Rattle.darts.specs.Operation.{kindOf, lead, operate, number}
+use Rattle.darts.specs.Kernel.{judge}
+use Rattle.darts.specs.Cases.{answerOf}
+use Rattle.darts.specs.declared.Answer.{Answer}
+use Rattle.area.specs.Area.{tableIn, pastIn}
+use Rattle.area.specs.Edge.{Judged, Did}
+use Rattle.engine.specs.Held.{Ready}
+use Rattle.engine.specs.Runs.{Turned}
+use Rattle.engine.proofs.Ready.{beyond-trans, ready-stays, ready-judged, ready-for, ready-did}
+use Rattle.engine.proofs.kernel.turn.Statement.{statement}
+use Rattle.engine.proofs.kernel.turn.Tie as tie
+
+module _ {D m k e i : ℕ} {w v : List ℕ} {r : Answer} (ρ : Ready D m k w) (j : Judged D k e i w v r) where
+  turned-refused : answerOf r .number ≢ 0 → Turned D m k e i w v r
+  turned-refused n = record { answer = ready-judged ρ j; beyond = ready-stays ρ (j .kept) .beyond; done = λ z. absurd (n z) }
+
+  module _ (none : answerOf r .number ≡ 0) where
+    fine-there : judge (kindOf k) D (tableIn D v) (pastIn D m v) e ≡ 0
+    fine-there = let s = ready-stays ρ (j .kept) in rw (s .table, s .past) (sym (ready-judged ρ j .number) ∙ none)
+
+    turned-done : {x : List ℕ} → Did D m k e v x → Turned D m k e i w x r
+    turned-done δ =
+        let s = ready-stays ρ (j .kept) in
+        let (g, beyond) = ready-did (s .ready) e fine-there δ in
+        record {
+          answer = ready-judged ρ j;
+          beyond = beyond-trans (s .beyond) beyond;
+          done = λ z. record {
+            ready = g .ready;
+            table = g .table ∙ ap₂ (λ t past. operate (kindOf k) D t past e) (s .table) (s .past);
+            past = g .past ∙ ap₂ (λ t past. number (kindOf k) (lead (kindOf k) t e) ∷ past) (s .table) (s .past);
+          };
+        }
+
+judge-requires : tie.Need-judge-requires
+judge-requires c κs = let ρ = c .before .before .pre in (ρ .area .room, (ρ .falls, omega (arith, ρ .kind)))
+
+number-requires : tie.Need-number-requires
+number-requires c κs = search needs
+
+same-length : tie.Need-same-length
+same-length c = search needs
+
+returns : tie.Need-returns
+returns c =
+    let j = c .before .before .before .before in
+    turned-refused (j .before .before .before .pre) (j .judge .ensures) (λ z. c .if1 .taken (c .before .number .ensures ∙ z))
+
+do-edge-requires : tie.Need-do-edge-requires
+do-edge-requires c κs =
+    let n = c .before .before in
+    let j = n .before .before .before in
+    let ρ = j .before .before .before .pre in
+    ready-for (ready-stays ρ (j .judge .ensures .kept) .ready) _ (fine-there ρ (j .judge .ensures) (sym (n .number .ensures) ∙ c .before .if1 .left))
+
+same-length-2 : tie.Need-same-length-2
+same-length-2 c = search needs
+
+returns-2 : tie.Need-returns-2
+returns-2 c =
+    let n = c .before .before .before .before .before in
+    let j = n .before .before .before in
+    turned-done (j .before .before .before .pre) (j .judge .ensures) (sym (n .number .ensures) ∙ c .before .before .before .before .if1 .left)
+    (c .before .before .do-edge .ensures)
+
+pub turn-spec : {M : Type 1} → statement M
+turn-spec =
+    tie.close
+    (tie.spec judge-requires number-requires same-length returns do-edge-requires same-length-2 returns-2)

@@ -1,0 +1,34 @@
+// What every call on a state judges first.
+use crate::Answer;
+use crate::State;
+use area::base::clear;
+use darts::answers::fit;
+use engine::check::check;
+ghost use Prim.Native.Nat.{_≤_};
+ghost use Rattle.pyramid.specs.Steps.{Judged};
+ghost use Rattle.darts.specs.Cases.{answerOf};
+ghost use Rattle.pyramid.specs.Values.{stateOf};
+
+impl State {
+    // 1 and 2, which write nothing, and 4, after which the work area is cleared. Where it is done, the work area holds the map, and its forest
+    // judges the coming kernel: 0 for removals, 1 for contractions, 2 for none.
+    pub fn judged(self, coming: usize, table: &[u32], history: &[u32], work: &mut [u32]) -> Answer
+        requires { ⌜ coming ≤ 2 ⌝ }
+        ensures { λ r. ⌜
+            Judged (stateOf self) coming (now (table .entry)) (now (history .entry)) (now (work .entry)) (now (work .exit)) (answerOf r) ⌝ }
+    {
+        let fits = fit(self.darts, table.len(), history.len(), work.len());
+        if fits.number() != 0 {
+            return fits;
+        }
+        let d = self.darts as usize;
+        let n = self.operations as usize;
+        let l = self.levels as usize;
+        let ends = self.ends;
+        if check(work, d, n, l, ends, coming, table, history) {
+            return Answer::Done(0);
+        }
+        clear(work, d);
+        Answer::NoPyramid
+    }
+}
