@@ -109,7 +109,7 @@ pub fn check(
     history: &[u32],
 ) -> bool
     requires { ⌜ Room d (now work) ⌝ }
-    requires { ⌜ (d ≤ length (now table)) × (d / 2 ≤ length (now history)) × (coming ≤ 2) ⌝ }
+    requires { ⌜ (d ≤ length (now table)) × (d / 2 ≤ length (now history)) ⌝ }
     ensures { λ r. ⌜
         Checked d n levels ends coming (now (table .entry)) (now (history .entry)) (now (work .entry)) (now (work .exit)) r ⌝ }
 {

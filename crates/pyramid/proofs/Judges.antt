@@ -38,12 +38,12 @@ module _ (s : State) (k : ℕ) (t h w : List ℕ) {a : Answer} (E : a ≡ fittin
     fit : fitting (s .darts) (length t) (length h) (length w) .number ≡ 0
     fit = sym (ap (λ (b : Answer). b .number) E) ∙ fine
 
-    pub check-fits : k ≤ 2 → Room (s .darts) w × ((s .darts ≤ length t) × (s .darts / 2 ≤ length h) × (k ≤ 2))
-    check-fits e =
+    pub check-fits : Room (s .darts) w × ((s .darts ≤ length t) × (s .darts / 2 ≤ length h))
+    check-fits =
         let f = fits (s .darts) (length t) (length h) (length w) fit in
         let m = f .count .some in (
           record { even = f .count .even; some = omega arith; small = f .count .small; fits = f .lengths .work },
-          (f .lengths .table, f .lengths .history, e),
+          (f .lengths .table, f .lengths .history),
         )
 
     module _ {v : List ℕ} {r : Bool} (C : Checked (s .darts) (s .operations) (s .levels) (s .ends) k t h w v r) where

@@ -4,16 +4,14 @@ use crate::State;
 use area::base::clear;
 use darts::answers::fit;
 use engine::check::check;
-ghost use Prim.Native.Nat.{_≤_};
 ghost use Rattle.pyramid.specs.Steps.{Judged};
 ghost use Rattle.darts.specs.Cases.{answerOf};
 ghost use Rattle.pyramid.specs.Values.{stateOf};
 
 impl State {
     // 1 and 2, which write nothing, and 4, after which the work area is cleared. Where it is done, the work area holds the map, and its forest
-    // judges the coming kernel: 0 for removals, 1 for contractions, 2 for none.
+    // judges the coming kernel: 0 for removals, 1 for contractions, any other number for none.
     pub fn judged(self, coming: usize, table: &[u32], history: &[u32], work: &mut [u32]) -> Answer
-        requires { ⌜ coming ≤ 2 ⌝ }
         ensures { λ r. ⌜
             Judged (stateOf self) coming (now (table .entry)) (now (history .entry)) (now (work .entry)) (now (work .exit)) (answerOf r) ⌝ }
     {

@@ -38,7 +38,7 @@ check-requires c κs =
     let t = g .table .now in
     let h = g .history .now in
     let w = g .work .now in
-    check-fits s (g .coming) t h w (c .before .before .before .before .before .before .before .fit .ensures) (sym (c .before .before .before .before .before .before .number .ensures) ∙ c .before .before .before .before .before .if1 .left) (c .before .before .before .before .before .before .before .before .before .before .before .pre)
+    check-fits s (g .coming) t h w (c .before .before .before .before .before .before .before .fit .ensures) (sym (c .before .before .before .before .before .before .number .ensures) ∙ c .before .before .before .before .before .if1 .left)
 
 same-length : tie.Need-same-length
 same-length c = search needs
@@ -59,7 +59,7 @@ clear-requires c κs =
     let t = g .table .now in
     let h = g .history .now in
     let w = g .work .now in
-    room-kept _ _ (c .before .before .before .before .check .ensures .beyond .size) (check-fits s (g .coming) t h w (c .before .before .before .before .before .before .before .before .before .before .before .before .fit .ensures) (sym (c .before .before .before .before .before .before .before .before .before .before .before .number .ensures) ∙ c .before .before .before .before .before .before .before .before .before .before .if1 .left) (c .before .before .before .before .before .before .before .before .before .before .before .before .before .before .before .before .pre) .0)
+    room-kept _ _ (c .before .before .before .before .check .ensures .beyond .size) (check-fits s (g .coming) t h w (c .before .before .before .before .before .before .before .before .before .before .before .before .fit .ensures) (sym (c .before .before .before .before .before .before .before .before .before .before .before .number .ensures) ∙ c .before .before .before .before .before .before .before .before .before .before .if1 .left) .0)
 
 same-length-2 : tie.Need-same-length-2
 same-length-2 c = search needs

@@ -16,7 +16,7 @@ bit-requires : tie.Need-bit-requires
 bit-requires c κs = search needs
 
 judged-requires : tie.Need-judged-requires
-judged-requires c κs = let b = c .before .before .before .bit .ensures .0 in omega arith
+judged-requires c κs = search needs
 
 number-requires : tie.Need-number-requires
 number-requires c κs = search needs
