@@ -7,7 +7,7 @@ use native.Mathlib.Omega.{arith}
 use borrow.Rule.Slice.PartMut.{midOf, postOf}
 use lib.ListN.{length, take, replicate, length-take}
 use Rattle.darts.specs.Calls.{cleared}
-use Rattle.darts.proofs.calls.Cleared.{cleared-is}
+use Rattle.laws.proofs.calls.Cleared.{cleared-is}
 
 pub cleared-part : (D : ℕ) (w part : List ℕ) → 4 * D ≤ length w → part ≡ replicate (length (midOf 0 (4 * D - 0) w)) 0
     → part ++ postOf 0 (4 * D - 0) w ≡ cleared D w

@@ -19,8 +19,8 @@ use Rattle.darts.specs.Choose.{if_then_else_}
 use Rattle.darts.specs.Map.{successor}
 use Rattle.darts.specs.Operation.{Kind, kindOf, lead}
 use Rattle.darts.specs.Tests.{near, far}
-use Rattle.darts.proofs.bridge.AnyKind.{near-far}
-use Rattle.darts.proofs.bridge.Lead.{lead-end}
+use Rattle.laws.proofs.bridge.AnyKind.{near-far}
+use Rattle.laws.proofs.bridge.Lead.{lead-end}
 use Rattle.area.specs.Area.{Room, prev, forestIn, bound}
 use Rattle.area.specs.Operate.{led, noted, operated}
 use Rattle.area.specs.Edge.{Bounds}

@@ -19,7 +19,7 @@ use Rattle.permutations.specs.Partner.{partner, partner-below}
 use Rattle.darts.specs.Map.{successor}
 use Rattle.darts.specs.Operation.{Kind, kindOf}
 use Rattle.darts.specs.Tests.{near, far}
-use Rattle.darts.proofs.bridge.AnyKind.{near-far}
+use Rattle.laws.proofs.bridge.AnyKind.{near-far}
 use Rattle.area.specs.Area.{prev, Room, bound}
 use Rattle.area.specs.Back.{fitting, fits, inserted, placed, takenBack, Mapped, Sound}
 use Rattle.area.proofs.Fitting.{fitting-near, fitting-far}

@@ -1,9 +1,1 @@
-pub mod bridge
-pub mod runs
-pub mod claims
-pub mod tests
-pub mod Lists
-pub mod file
-pub mod calls
-pub mod sentences
-pub mod chained
+pub mod Fitting

@@ -16,13 +16,13 @@ use Rattle.darts.specs.Operation.{Kind, contraction, removal, lead, number}
 use Rattle.darts.specs.Kernel.{judge}
 use Rattle.darts.specs.Tests.{numbered}
 use Rattle.area.specs.Area.{tableIn, pastIn}
-use Rattle.darts.proofs.bridge.Standing.{Standing, live-iff}
-use Rattle.darts.proofs.bridge.Judged.{judge-legal}
-use Rattle.darts.proofs.bridge.Numbers.{number-lead}
+use Rattle.laws.proofs.bridge.Standing.{Standing, live-iff}
+use Rattle.laws.proofs.bridge.Judged.{judge-legal}
+use Rattle.laws.proofs.bridge.Numbers.{number-lead}
 use Rattle.engine.specs.Held.{Area}
 use Rattle.engine.proofs.Edges.{numbered-cons, numbered-few}
 use Rattle.engine.proofs.Parts.{past-length}
-use Rattle.darts.proofs.bridge.Lead.{lead-end}
+use Rattle.laws.proofs.bridge.Lead.{lead-end}
 
 pub fine-live : {D : ℕ} {t past : List ℕ} → Standing D t past → (k : Kind) (e : ℕ) → judge k D t past e ≡ 0 → T (live D past (2 * e))
 fine-live S contraction e z = judge-legal S contraction e .0 z .lives

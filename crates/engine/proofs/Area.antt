@@ -17,8 +17,8 @@ use Rattle.darts.specs.Map.{successor, live, before}
 use Rattle.darts.specs.Tests.{numbered}
 use Rattle.area.specs.Area.{prev, there, stamp, tableIn, pastIn, Room}
 use Rattle.area.specs.Back.{Sound}
-use Rattle.darts.proofs.bridge.Standing.{Standing, live-iff, entry-live}
-use Rattle.darts.proofs.bridge.Before.{before-live, before-leads, before-only}
+use Rattle.laws.proofs.bridge.Standing.{Standing, live-iff, entry-live}
+use Rattle.laws.proofs.bridge.Before.{before-live, before-leads, before-only}
 use Rattle.engine.specs.Held.{Area}
 use Rattle.engine.proofs.Edges.{numbered-cons}
 use Rattle.engine.proofs.Parts.{Noted, successor-in, past-suc}

@@ -17,9 +17,9 @@ use Rattle.permutations.specs.Dual.{face-at, good-dual}
 use Rattle.darts.specs.Map.{successor, live}
 use Rattle.darts.specs.Operation.{Kind, contraction, removal, kindOf}
 use Rattle.area.specs.Area.{there, pastIn, around}
-use Rattle.darts.proofs.bridge.Standing.{live-iff, next-entry}
+use Rattle.laws.proofs.bridge.Standing.{live-iff, next-entry}
 use Rattle.area.specs.Cycles.{stepIn}
-use Rattle.darts.proofs.tests.TopLabels.{cyclesOf}
+use Rattle.laws.proofs.tests.TopLabels.{cyclesOf}
 use Rattle.engine.specs.Held.{Area, mapIn}
 use Rattle.engine.proofs.Area.{there-live}
 use Rattle.engine.proofs.Parts.{successor-in}

@@ -25,11 +25,11 @@ use Rattle.darts.specs.Operation.{Kind, contraction, removal, kindOf, wholeEdge
 use Rattle.darts.specs.Kernel.{judge}
 use Rattle.area.specs.Area.{there, tableIn, pastIn}
 use Rattle.area.specs.Operate.{wholeIn, judged, operated}
-use Rattle.darts.proofs.bridge.Standing.{Standing, mapOf, opOf, live-iff}
-use Rattle.darts.proofs.bridge.Judged.{same-vertex, same-face, judge-legal}
-use Rattle.darts.proofs.bridge.Operate.{operate-acts}
+use Rattle.laws.proofs.bridge.Standing.{Standing, mapOf, opOf, live-iff}
+use Rattle.laws.proofs.bridge.Judged.{same-vertex, same-face, judge-legal}
+use Rattle.laws.proofs.bridge.Operate.{operate-acts}
 use Rattle.area.specs.Cycles.{stepIn}
-use Rattle.darts.proofs.tests.TopLabels.{cyclesOf}
+use Rattle.laws.proofs.tests.TopLabels.{cyclesOf}
 use Rattle.engine.specs.Held.{Area, Rooted}
 use Rattle.engine.proofs.Edges.{not-gone-live}
 use Rattle.engine.proofs.BothKinds.{same, judge-in}

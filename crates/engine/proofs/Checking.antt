@@ -17,7 +17,7 @@ use lib.Seq.{drop-drop}
 use Rattle.permutations.specs.Choice.{true→T}
 use Rattle.darts.specs.Pyramid.{Pyramid, isPyramid}
 use Rattle.darts.specs.State.{State}
-use Rattle.darts.proofs.claims.Decided.{pyramid-decided}
+use Rattle.laws.proofs.claims.Decided.{pyramid-decided}
 use Rattle.area.specs.Area.{Room, tried}
 use Rattle.area.specs.Load.{loads}
 use Rattle.area.specs.Shape.{stateOf}

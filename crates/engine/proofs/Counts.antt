@@ -19,7 +19,7 @@ use Rattle.permutations.specs.Map.{next-live}
 use Rattle.darts.specs.Map.{successor, faceNext, survives, live}
 use Rattle.darts.specs.Operation.{kindOf}
 use Rattle.darts.specs.Counts.{lowest, cycles}
-use Rattle.darts.proofs.bridge.Standing.{live-iff}
+use Rattle.laws.proofs.bridge.Standing.{live-iff}
 use Rattle.forest.specs.Forest.{parent}
 use Rattle.forest.specs.Lowest.{Lowest}
 use Rattle.area.specs.Area.{there, tableIn, pastIn, forestIn, around}
@@ -33,7 +33,7 @@ use Rattle.engine.specs.declared.Cycles.{Cycles}
 use Rattle.engine.proofs.Area.{there-live}
 use Rattle.engine.proofs.Around.{ring-good, around-next, step-ring, step-perm}
 use Rattle.engine.proofs.Beside.{beside-table, beside-past, beside-area}
-use Rattle.darts.proofs.bridge.Least.{Least, lowest-least, lowest-same}
+use Rattle.laws.proofs.bridge.Least.{Least, lowest-least, lowest-same}
 use Rattle.engine.proofs.Parts.{successor-in}
 
 -- ---- the lowest of a class is its own parent

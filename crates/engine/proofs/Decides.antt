@@ -26,12 +26,12 @@ use Rattle.darts.specs.Operation.{contraction, removal, kindOf, undone}
 use Rattle.darts.specs.Pyramid.{Pyramid, dartCount, isPyramid}
 use Rattle.darts.specs.State.{State}
 use Rattle.darts.specs.Tests.{numbered, linked, replays, shaped}
-use Rattle.darts.proofs.claims.Decided.{pyramid-decided}
-use Rattle.darts.proofs.tests.Links.{linked-stands}
-use Rattle.darts.proofs.tests.Room.{pyramid-room}
-use Rattle.darts.proofs.bridge.Standing.{Standing, mapOf}
-use Rattle.darts.proofs.tests.TestsDecide.{baseOf, Passed, passed-iff, tests-decide}
-use Rattle.darts.proofs.tests.TopLabels.{cyclesOf, walked, walked-decide, labels-at-top}
+use Rattle.laws.proofs.claims.Decided.{pyramid-decided}
+use Rattle.laws.proofs.tests.Links.{linked-stands}
+use Rattle.laws.proofs.tests.Room.{pyramid-room}
+use Rattle.laws.proofs.bridge.Standing.{Standing, mapOf}
+use Rattle.laws.proofs.tests.TestsDecide.{baseOf, Passed, passed-iff, tests-decide}
+use Rattle.laws.proofs.tests.TopLabels.{cyclesOf, walked, walked-decide, labels-at-top}
 use Rattle.area.specs.Area.{Room, tableIn, pastIn, tried}
 use Rattle.area.specs.Back.{backs}
 use Rattle.area.specs.Replay.{replayed, Numbered}

@@ -21,8 +21,8 @@ use Rattle.permutations.specs.Pigeonhole.{Clash, pigeonhole}
 use Rattle.darts.specs.Map.{gone, survives, live}
 use Rattle.darts.specs.Operation.{leadOf}
 use Rattle.darts.specs.Tests.{numbered}
-use Rattle.darts.proofs.bridge.Standing.{live-iff}
-use Rattle.darts.proofs.tests.Room.{gone-at}
+use Rattle.laws.proofs.bridge.Standing.{live-iff}
+use Rattle.laws.proofs.tests.Room.{gone-at}
 
 pub same-edge : (p x : ℕ) → x / 2 ≡ p / 2 → End p x
 same-edge p x e = go (ℕ-discrete x p)

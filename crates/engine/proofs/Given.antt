@@ -2,8 +2,8 @@
 --   fits-stand   == an operation that fits leaves a map once it is undone
 --   linked-stand == a table that passes tests 3 to 5 holds a map
 use Prim.Native.Nat.{ℕ}
-use Rattle.darts.proofs.tests.Back.{fits-redo}
-use Rattle.darts.proofs.tests.Links.{linked-stands}
+use Rattle.laws.proofs.tests.Back.{fits-redo}
+use Rattle.laws.proofs.tests.Links.{linked-stands}
 use Rattle.engine.proofs.AllBack.{FitsStand}
 use Rattle.engine.proofs.Loaded.{LinkedStand}
 

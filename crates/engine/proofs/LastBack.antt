@@ -13,7 +13,7 @@ use Rattle.darts.specs.Operation.{undone}
 use Rattle.darts.specs.State.{State}
 use Rattle.darts.specs.Pyramid.{Pyramid}
 use Rattle.darts.specs.Tests.{backs as backsOf}
-use Rattle.darts.proofs.tests.Passes.{pyramid-shaped}
+use Rattle.laws.proofs.tests.Passes.{pyramid-shaped}
 use Rattle.area.specs.Area.{tableIn, pastIn, Tried, tried}
 use Rattle.area.specs.Back.{backs}
 use Rattle.engine.specs.Back.{TookBack}

@@ -19,11 +19,11 @@ use Rattle.darts.specs.Kernel.{judge}
 use Rattle.darts.specs.Tests.{near, far}
 use Rattle.area.specs.Area.{prev, tableIn, pastIn, forestIn, bound}
 use Rattle.area.specs.Operate.{led, noted, operated}
-use Rattle.darts.proofs.bridge.Standing.{Standing, live-iff, entry-live}
-use Rattle.darts.proofs.bridge.AnyKind.{near-far, apart-iff}
-use Rattle.darts.proofs.bridge.Relink.{relinked, operate-relinks}
-use Rattle.darts.proofs.bridge.Lead.{lead-pick}
-use Rattle.darts.proofs.bridge.Operate.{operate-stands}
+use Rattle.laws.proofs.bridge.Standing.{Standing, live-iff, entry-live}
+use Rattle.laws.proofs.bridge.AnyKind.{near-far, apart-iff}
+use Rattle.laws.proofs.bridge.Relink.{relinked, operate-relinks}
+use Rattle.laws.proofs.bridge.Lead.{lead-pick}
+use Rattle.laws.proofs.bridge.Operate.{operate-stands}
 use Rattle.engine.specs.Held.{Area}
 use Rattle.engine.proofs.Edges.{live-cons}
 use Rattle.engine.proofs.Allowed.{fine-live, lead-live, end-live, numbers-one-more, room-for-one-more}
@@ -31,7 +31,7 @@ use Rattle.engine.proofs.BothKinds.{number-in}
 use Rattle.engine.proofs.Parts.{Noted, successor-in, past-rest, forest-rest, rest-from, bound-length, bound-noted, bound-avoids, noted-length, noted-successor, noted-table, noted-forest, noted-rest, noted-past, noted-prev-end, noted-prev-else}
 use Rattle.engine.proofs.Area.{prev-live, leads-live, leads-one, live-noted, noted-known, area-of, room-kept}
 use Rattle.engine.proofs.Rebound.{Rebound, unbound, rebind}
-use Rattle.darts.proofs.bridge.Numbers.{number-half}
+use Rattle.laws.proofs.bridge.Numbers.{number-half}
 
 pub record Operated (D n k e : ℕ) (w v : List ℕ) : Type 0 where
   pub table : tableIn D v ≡ operate (kindOf k) D (tableIn D w) (pastIn D n w) e

@@ -10,7 +10,7 @@ use lib.Dec.{T}
 use lib.ListN.{length, set, drop}
 use Rattle.darts.specs.Map.{live}
 use Rattle.area.specs.Area.{prev, tableIn, bound}
-use Rattle.darts.proofs.bridge.Standing.{live-iff}
+use Rattle.laws.proofs.bridge.Standing.{live-iff}
 use Rattle.engine.proofs.Parts.{bound-length, bound-table, bound-rest, bound-prev-else}
 
 pub record Rebound (D : ℕ) (past w u table : List ℕ) : Type 0 where

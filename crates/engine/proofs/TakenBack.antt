@@ -19,10 +19,10 @@ use Rattle.darts.specs.Operation.{Kind, kindOf, leadOf, undoOne}
 use Rattle.darts.specs.Tests.{numbered, near, far, fits as fitsOf}
 use Rattle.area.specs.Area.{prev, there, stamp, tableIn, pastIn}
 use Rattle.area.specs.Back.{fits, inserted, takenBack}
-use Rattle.darts.proofs.bridge.Standing.{Standing, live-iff}
-use Rattle.darts.proofs.bridge.AnyKind.{near-far, of-near-far, apart-iff, near-of, near-end}
-use Rattle.darts.proofs.tests.Fits.{any-order}
-use Rattle.darts.proofs.bridge.Relink.{nearEntry, farEntry, putBack-one, putBack-two}
+use Rattle.laws.proofs.bridge.Standing.{Standing, live-iff}
+use Rattle.laws.proofs.bridge.AnyKind.{near-far, of-near-far, apart-iff, near-of, near-end}
+use Rattle.laws.proofs.tests.Fits.{any-order}
+use Rattle.laws.proofs.bridge.Relink.{nearEntry, farEntry, putBack-one, putBack-two}
 use Rattle.engine.specs.Held.{Area}
 use Rattle.engine.proofs.Edges.{live-cons, gone-end, not-gone-live, numbered-cons}
 use Rattle.engine.proofs.Parts.{Noted, successor-in, past-rest}

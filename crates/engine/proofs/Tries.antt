@@ -20,7 +20,7 @@ use lib.Dec.{T, eqb}
 use lib.ListN.{take}
 use Rattle.permutations.specs.Choice.{pick, true→T, eqb-same, eqb-other}
 use Rattle.darts.specs.Operation.{kindOf}
-use Rattle.darts.proofs.bridge.Walks.{lowestMet, lowest-labels}
+use Rattle.laws.proofs.bridge.Walks.{lowestMet, lowest-labels}
 use Rattle.area.specs.Cycles.{Labelled}
 use Rattle.area.specs.Replay.{rejoined, replayed, Numbered, Replayed}
 use Rattle.area.specs.Shape.{historyIn}
@@ -28,7 +28,7 @@ use Rattle.area.specs.Trees.{Outside, rooted}
 use Rattle.area.proofs.Labels.{labelled-same}
 use Rattle.area.proofs.Outside.{outside-refl, outside-trans, outside-rest}
 use Rattle.area.proofs.Replay.{replay-other}
-use Rattle.darts.proofs.tests.TopLabels.{cyclesOf}
+use Rattle.laws.proofs.tests.TopLabels.{cyclesOf}
 use Rattle.engine.specs.Held.{Area, mapIn, Rooted}
 use Rattle.engine.specs.Checks.{hasKind, Grown, KindTried, BothTried}
 use Rattle.engine.proofs.Around.{ring-good, step-perm}

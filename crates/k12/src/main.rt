@@ -27,7 +27,7 @@ fn written(
     ensures { λ r. ⌜ Waits r (now (page .exit)) ⌝ }
 {
     let mut output = [0u8; 97];
-    let answer = zonefile::write(state, table, history, work, &mut output);
+    let answer = writer::write(state, table, history, work, &mut output);
     let at = line(answer, page, used);
     page::text(page, at, &output)
 }
@@ -40,7 +40,7 @@ fn report(file: &[u8], page: &mut [u8], used: usize) -> usize
     let mut table = [0u32; 8];
     let mut history = [0u32; 4];
     let mut work = [9u32; 32];
-    let read = zonefile::read(file, &mut table, &mut history, &mut work);
+    let read = reader::read(file, &mut table, &mut history, &mut work);
     let answer = read.answer;
     let at = line(answer, page, used);
     if answer.number() != 0 {

@@ -19,16 +19,16 @@ use Rattle.darts.specs.Counts.{countsOf, noCounts}
 use Rattle.darts.specs.Read.{Read, means, faulty, readFile, fileState}
 use Rattle.darts.specs.Calls.{leaves, room, fitting, judged, tableOf, pastOf, cleared, handsBack, onState, unfoldBy, counts, readInto, read}
 use Rattle.slices.specs.Over.{over}
-use Rattle.darts.proofs.runs.Pyramids.{pyramid-built}
-use Rattle.darts.proofs.claims.Decided.{pyramid-decided}
-use Rattle.darts.proofs.tests.Room.{pyramid-room}
-use Rattle.darts.proofs.runs.Undo.{unfold-pyramid}
-use Rattle.darts.proofs.file.Meanings.{meaning}
-use Rattle.darts.proofs.file.WriteRead.{write-read}
-use Rattle.darts.proofs.calls.Fitting.{Lengths, room-facts, fits}
-use Rattle.darts.proofs.calls.Judging.{Lent, judged-lent, on-lent}
-use Rattle.darts.proofs.calls.Cleared.{cleared-length}
-use Rattle.darts.proofs.chained.Steps.{unfold-leads}
+use Rattle.laws.proofs.runs.Pyramids.{pyramid-built}
+use Rattle.laws.proofs.claims.Decided.{pyramid-decided}
+use Rattle.laws.proofs.tests.Room.{pyramid-room}
+use Rattle.laws.proofs.runs.Undo.{unfold-pyramid}
+use Rattle.laws.proofs.file.Meanings.{meaning}
+use Rattle.laws.proofs.file.WriteRead.{write-read}
+use Rattle.darts.proofs.Fitting.{Lengths, room-facts, fits}
+use Rattle.laws.proofs.calls.Judging.{Lent, judged-lent, on-lent}
+use Rattle.laws.proofs.calls.Cleared.{cleared-length}
+use Rattle.laws.proofs.chained.Steps.{unfold-leads}
 use Rattle.slices.proofs.Over.{over-front, over-length}
 use Rattle.levels.specs.Report.{levelAt, countsAt, unfolded, counted, Tables, meant, topOf, countsGiven, countsOfLevel}
 

@@ -12,9 +12,9 @@ use native.Mathlib.Omega.{arith}
 use Rattle.darts.specs.Counts.{Counts}
 use Rattle.darts.specs.Read.{Read, means, faulty}
 use Rattle.darts.specs.Calls.{room, readInto, read}
-use Rattle.darts.proofs.runs.Pyramids.{pyramid-built}
-use Rattle.darts.proofs.claims.Decided.{pyramid-decided}
-use Rattle.darts.proofs.file.Meanings.{meaning}
+use Rattle.laws.proofs.runs.Pyramids.{pyramid-built}
+use Rattle.laws.proofs.claims.Decided.{pyramid-decided}
+use Rattle.laws.proofs.file.Meanings.{meaning}
 use Rattle.darts.specs.Cases.{answerOf}
 use Rattle.pyramid.specs.Values.{left, tallyOf, countsLeft}
 use Rattle.pyramid.specs.declared.Outcome.{Outcome}

@@ -34,7 +34,7 @@ fn unfolded(
         left r (now (table .exit)) (now (history .exit)) (now (work .exit))
         ≡ levelAt k (now (file .entry)) (now (table .entry)) (now (history .entry)) (now (work .entry)) ⌝ }
 {
-    let read = zonefile::read(file, table, history, work);
+    let read = reader::read(file, table, history, work);
     let top = read.state;
     top.unfold(k, table, history, work)
 }
@@ -125,7 +125,7 @@ fn report(
     requires { ⌜ Tables (now table) (now history) (now work) × Waits 0 (now page) ⌝ }
     ensures { λ r. ⌜ Waits r (now (page .exit)) ⌝ }
 {
-    let read = zonefile::read(file, table, history, work);
+    let read = reader::read(file, table, history, work);
     let answer = read.answer;
     if answer.number() != 0 {
         return refusal(file, answer, page);

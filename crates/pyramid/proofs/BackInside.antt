@@ -16,7 +16,7 @@ use Rattle.darts.specs.Answers.{Answer, noLevel}
 use Rattle.darts.specs.State.{State, gives, refuses}
 use Rattle.darts.specs.Levels.{undoLevels, unfoldTo}
 use Rattle.darts.specs.Calls.{tableOf, pastOf, onState, undoBy, unfoldBy}
-use Rattle.darts.proofs.runs.Undo.{undo-is-unfold}
+use Rattle.laws.proofs.runs.Undo.{undo-is-unfold}
 use Rattle.area.specs.Area.{Room, tableIn, pastIn}
 use Rattle.engine.proofs.Checking.{checked-pyramid}
 use Rattle.pyramid.specs.Steps.{Judged, Stacked, Unfolded}

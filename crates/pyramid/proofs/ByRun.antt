@@ -21,7 +21,7 @@ use Rattle.darts.specs.Kernel.{Run, stands, stops, run}
 use Rattle.darts.specs.State.{State, Result, refuses, levelled, reduce}
 use Rattle.darts.specs.Levels.{swept, sweep}
 use Rattle.darts.specs.Calls.{After, tableOf, pastOf, cleared, handsBack, onState}
-use Rattle.darts.proofs.runs.Stops.{Edgy, run-edgy, swept-edgy}
+use Rattle.laws.proofs.runs.Stops.{Edgy, run-edgy, swept-edgy}
 use Rattle.area.specs.Area.{tableIn, pastIn}
 use Rattle.engine.specs.Runs.{ranIn, Went}
 use Rattle.engine.specs.declared.Ran.{Ran}

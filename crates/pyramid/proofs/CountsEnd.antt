@@ -11,8 +11,8 @@ use Rattle.darts.specs.Answers.{Answer, done}
 use Rattle.darts.specs.Counts.{Counts, countsFrom, countsOf, noCounts, surviving}
 use Rattle.darts.specs.State.{State}
 use Rattle.darts.specs.Calls.{Counted, counts, tableOf, pastOf, cleared, workAfter}
-use Rattle.darts.proofs.calls.Cleared.{cleared-kept}
-use Rattle.darts.proofs.calls.Judging.{judged-lent}
+use Rattle.laws.proofs.calls.Cleared.{cleared-kept}
+use Rattle.laws.proofs.calls.Judging.{judged-lent}
 use Rattle.area.specs.Area.{pastIn}
 use Rattle.engine.specs.Counted.{CountedIn}
 use Rattle.engine.specs.Held.{Area}

@@ -15,9 +15,9 @@ use lib.ListN.{length}
 use Rattle.darts.specs.Answers.{Answer, done, noPyramid}
 use Rattle.darts.specs.State.{State}
 use Rattle.darts.specs.Calls.{fitting, tableOf, pastOf, cleared, workAfter}
-use Rattle.darts.proofs.calls.Cleared.{cleared-kept}
-use Rattle.darts.proofs.calls.Fitting.{fits, first-keeps}
-use Rattle.darts.proofs.calls.Judging.{Lent, judged-unfit, judged-fit, judged-done}
+use Rattle.laws.proofs.calls.Cleared.{cleared-kept}
+use Rattle.darts.proofs.Fitting.{fits, first-keeps}
+use Rattle.laws.proofs.calls.Judging.{Lent, judged-unfit, judged-fit, judged-done}
 use Rattle.area.specs.Area.{Room}
 use Rattle.engine.specs.Checks.{Checked}
 use Rattle.engine.specs.Held.{Beyond}

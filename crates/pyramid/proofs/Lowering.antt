@@ -15,9 +15,9 @@ use lib.ListN.{length, getD, take, length-take}
 use lib.Seq.{getD-take}
 use Rattle.darts.specs.State.{State, gives, andThen}
 use Rattle.darts.specs.Levels.{endBelow, lowered, undoLevel, undoLevels}
-use Rattle.darts.proofs.runs.Ends.{Rising, Layered}
-use Rattle.darts.proofs.runs.Pyramids.{pyramid-built}
-use Rattle.darts.proofs.runs.Undo.{undo-pyramid}
+use Rattle.laws.proofs.runs.Ends.{Rising, Layered}
+use Rattle.laws.proofs.runs.Pyramids.{pyramid-built}
+use Rattle.laws.proofs.runs.Undo.{undo-pyramid}
 use Rattle.area.specs.Area.{tableIn, pastIn}
 use Rattle.engine.specs.Held.{Beyond}
 use Rattle.engine.specs.Back.{TookBack}

@@ -15,8 +15,8 @@ use Rattle.slices.specs.Part.{part}
 use Rattle.darts.specs.Answers.{Answer, done}
 use Rattle.darts.specs.State.{State, Result, gives, refuses}
 use Rattle.darts.specs.Calls.{After, tableOf, pastOf, cleared, workAfter, handsBack, onState}
-use Rattle.darts.proofs.calls.Cleared.{cleared-kept}
-use Rattle.darts.proofs.calls.Judging.{on-refused, on-lent}
+use Rattle.laws.proofs.calls.Cleared.{cleared-kept}
+use Rattle.laws.proofs.calls.Judging.{on-refused, on-lent}
 use Rattle.area.specs.Area.{tableIn, pastIn}
 use Rattle.engine.specs.Held.{Beyond}
 use Rattle.pyramid.specs.Steps.{Judged}

@@ -1,3 +1,4 @@
 pub mod Over
 pub mod Part
 pub mod Laid
+pub mod Put

@@ -13,7 +13,7 @@ use Rattle.pyramid.specs.Values.{tallyOf, left, countsLeft}
 use Rattle.darts.specs.declared.Answer.{Answer}
 use Rattle.pyramid.specs.declared.Counted.{Counted}
 use Rattle.pyramid.specs.declared.Outcome.{Outcome}
-use Rattle.zonefile.specs.Filed.{filed}
+use Rattle.writer.specs.Filed.{filed}
 use Rattle.zonemap_c.specs.Numbers.{Answered, Handed, leftIn, countedIn, filedIn}
 
 pub answers : {a : Answer} {n p : ℕ} → Answered a n p → answered n p ≡ answerOf a

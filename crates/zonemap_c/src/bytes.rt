@@ -20,7 +20,7 @@ pub extern "C" fn zm_read(
         leftIn r (now (place .exit)) (now (state .exit)) (now (table .exit)) (now (history .exit)) (now (work .exit))
         ≡ read (now (bytes .entry)) (now (table .entry)) (now (history .entry)) (now (work .entry)) ⌝ }
 {
-    let outcome = zonefile::read(bytes, table, history, work);
+    let outcome = reader::read(bytes, table, history, work);
     hand_back(outcome, state, place)
 }
 
@@ -39,6 +39,6 @@ pub extern "C" fn zm_write(
         ≡ write (stateIn (now (state .entry))) (now (table .entry)) (now (history .entry)) (now (work .entry)) (now (output .entry)) ⌝ }
 {
     let given = state_of(state);
-    let answer = zonefile::write(given, table, history, work, output);
+    let answer = writer::write(given, table, history, work, output);
     put_answer(answer, place)
 }

@@ -60,7 +60,7 @@ fn handed(
         START => pyramid::start(first, table, history, work),
         UNDO => state.undo(table, history, work),
         UNFOLD => state.unfold(first, table, history, work),
-        READ => zonefile::read(file, table, history, work),
+        READ => reader::read(file, table, history, work),
         _ => reduced(state, command, kernel, table, history, work),
     }
 }
@@ -122,7 +122,7 @@ fn filed(
     let t = held.table;
     let h = held.history;
     let w = held.work;
-    zonefile::write(
+    writer::write(
         state,
         &mut table[0..t],
         &mut history[0..h],

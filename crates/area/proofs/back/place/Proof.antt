@@ -11,7 +11,7 @@ use borrow.Author.Needs.{needs}
 use Rattle.permutations.specs.Choice.{eqb-same, eqb-other}
 use Rattle.darts.specs.Operation.{Kind, kindOf}
 use Rattle.darts.specs.Tests.{near}
-use Rattle.darts.proofs.bridge.AnyKind.{near-far}
+use Rattle.laws.proofs.bridge.AnyKind.{near-far}
 use Rattle.area.specs.Area.{prev}
 use Rattle.area.specs.Back.{inserted, placed}
 use Rattle.area.proofs.Fitting.{fitting-near, fitting-far}

@@ -10,7 +10,7 @@ use Prim.Native.Nat.{ℕ, _<_}
 use borrow.Author.Needs.{needs}
 use Rattle.darts.specs.Operation.{Kind, kindOf}
 use Rattle.darts.specs.Tests.{near, far}
-use Rattle.darts.proofs.bridge.AnyKind.{near-far}
+use Rattle.laws.proofs.bridge.AnyKind.{near-far}
 use Rattle.area.specs.Area.{tried, triedIf}
 use Rattle.area.specs.Back.{fitting, placed}
 use Rattle.area.proofs.back.take_back_edge.Statement.{statement}

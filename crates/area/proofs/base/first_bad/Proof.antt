@@ -4,7 +4,7 @@ use mathlib.Core.Path.{ap, _∙_}
 use native.Mathlib.Omega.{arith}
 use borrow.Author.Needs.{needs}
 use lib.ListN.{drop}
-use Rattle.darts.proofs.calls.Cleared.{cleared-at, cleared-kept, cleared-rest}
+use Rattle.laws.proofs.calls.Cleared.{cleared-at, cleared-kept, cleared-rest}
 use Rattle.slices.proofs.Over.{drop-more}
 use Rattle.area.proofs.base.first_bad.Statement.{statement}
 use Rattle.area.proofs.base.first_bad.Tie as tie

@@ -10,7 +10,7 @@ use Rattle.permutations.specs.Partner.{partner-first}
 use Rattle.darts.specs.Map.{successor}
 use Rattle.darts.specs.Operation.{Kind, lead}
 use Rattle.darts.specs.Tests.{far}
-use Rattle.darts.proofs.bridge.Lead.{lead-pick}
+use Rattle.laws.proofs.bridge.Lead.{lead-pick}
 use Rattle.area.proofs.operate.lead.Statement.{statement}
 use Rattle.area.proofs.operate.lead.Tie as tie
 

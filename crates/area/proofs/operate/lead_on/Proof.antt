@@ -8,7 +8,7 @@ use Rattle.permutations.specs.Partner.{partner}
 use Rattle.darts.specs.Map.{successor}
 use Rattle.darts.specs.Operation.{Kind}
 use Rattle.darts.specs.Tests.{near, far}
-use Rattle.darts.proofs.bridge.AnyKind.{near-far}
+use Rattle.laws.proofs.bridge.AnyKind.{near-far}
 use Rattle.area.specs.Area.{prev}
 use Rattle.area.specs.Operate.{led}
 use Rattle.area.specs.Edge.{bypassed}

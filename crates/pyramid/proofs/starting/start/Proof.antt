@@ -4,7 +4,7 @@ use mathlib.Core.Path.{_∙_, ap, sym}
 use native.Mathlib.Omega.{arith}
 use borrow.Author.Needs.{needs}
 use Rattle.darts.specs.Answers.{Answer as Answered, noPermutation}
-use Rattle.darts.proofs.calls.Fitting.{fits}
+use Rattle.darts.proofs.Fitting.{fits}
 use Rattle.pyramid.proofs.Started.{start-refused, start-bad, start-done}
 use Rattle.pyramid.proofs.starting.start.Statement.{statement}
 use Rattle.pyramid.proofs.starting.start.Tie as tie

@@ -1,4 +1,0 @@
-pub mod Fitting
-pub mod Cleared
-pub mod Judging
-pub mod Outcomes

@@ -1,0 +1,79 @@
+-- Where a pass stops, it stops with the answer of an edge: 7 to 11.
+--   Edgy r               == the run r stands, or stops with an answer from 7 to 11
+--   pass-edgy            == so it is with every pass
+--   run-edgy, swept-edgy == a kernel's run, and the sweep's
+use mathlib.Core.Bool.{Bool, true, false, not}
+use mathlib.Core.List.{List, [], _∷_}
+use mathlib.Core.Path.{_≡_, refl}
+use Prim.Native.Nat.{ℕ, suc, _*_, _+_, _/_, _≤_}
+use lib.Dec.{eqb, leb, lit≤}
+use Rattle.darts.specs.Choose.{if_then_else_}
+use Rattle.darts.specs.Answers.{answered}
+use Rattle.darts.specs.Map.{sameVertex, sameFace, gone}
+use Rattle.darts.specs.Operation.{Kind, contraction, removal, wholeEdge}
+use Rattle.darts.specs.Kernel.{shared, judge, Operation, each, rising, Run, stands, stops, Test, always, passFrom, pass, run}
+use Rattle.darts.specs.Levels.{takes, swept}
+
+abbrev pub Edgy : Run → Type 0
+Edgy (stands t past) = Unit {0}
+Edgy (stops a) = (7 ≤ a .number) × (a .number ≤ 11)
+
+-- an answer of an edge, or none
+data Number (m : ℕ) : Type 0 where
+  none : m ≡ 0 → Number m
+  some : 7 ≤ m → m ≤ 11 → Number m
+
+number-if : (b : Bool) (m n : ℕ) → 7 ≤ m → m ≤ 11 → Number n → Number (if b then m else n)
+number-if true m n l h k = some l h
+number-if false m n l h k = k
+
+shared-number : (k : Kind) (D : ℕ) (t : List ℕ) (e : ℕ) → Number (shared k D t e)
+unfolding shared
+shared-number contraction D t e = number-if (sameVertex D t (2 * e) (2 * e + 1)) 9 0 (lit≤ tt) (lit≤ tt) (none refl)
+shared-number removal D t e = number-if (sameFace D t (2 * e) (2 * e + 1)) 10 0 (lit≤ tt) (lit≤ tt) (none refl)
+
+judge-number : (k : Kind) (D : ℕ) (t past : List ℕ) (e : ℕ) → Number (judge k D t past e)
+unfolding judge
+judge-number k D t past e =
+    number-if (leb (D / 2) e) 7 _ (lit≤ tt) (lit≤ tt) (number-if (gone past (2 * e)) 8 _ (lit≤ tt) (lit≤ tt) (either (shared-number k D t e)))
+  where
+    rest : ℕ
+    rest = if wholeEdge t e then 11 else 0
+
+    whole : Number rest
+    whole = number-if (wholeEdge t e) 11 0 (lit≤ tt) (lit≤ tt) (none refl)
+
+    either : {m : ℕ} → Number m → Number (if leb 1 m then m else rest)
+    either {m} (none z) = rw z whole
+    either {m} (some l h) = number-if (leb 1 m) m rest l h whole
+
+-- by the test's answer, and the judge's
+edgy-turn : (b : Bool) (m i : ℕ) (over on : Run) → Number m → Edgy over → Edgy on
+    → Edgy (if not b then over else if eqb m 0 then on else stops (answered m i))
+edgy-turn false m i over on n h k = h
+edgy-turn true m i over on (none z) h k = rw z k
+edgy-turn true m i over on (some l u) h k = go (eqb m 0)
+  where
+    go : (c : Bool) → Edgy (if c then on else stops (answered m i))
+    go true = k
+    go false = (l, u)
+
+from-edgy : (takes : Test) (D : ℕ) (t past : List ℕ) (i : ℕ) (os : List Operation) → Edgy (passFrom takes D t past i os)
+unfolding passFrom
+from-edgy takes D t past i [] = tt
+from-edgy takes D t past i (o ∷ os) =
+    edgy-turn (takes t past (o .edge)) (judge (o .kind) D t past (o .edge)) i _ _ (judge-number (o .kind) D t past (o .edge))
+    (from-edgy takes D t past i os) (from-edgy takes D _ _ (suc i) os)
+
+-- WHERE A PASS STOPS, IT STOPS WITH 7 TO 11
+pub pass-edgy : (takes : Test) (D : ℕ) (t past : List ℕ) (os : List Operation) → Edgy (pass takes D t past os)
+unfolding pass
+pass-edgy takes D t past os = from-edgy takes D t past 0 os
+
+pub run-edgy : (k : Kind) (D : ℕ) (t past es : List ℕ) → Edgy (run k D t past es)
+unfolding run
+run-edgy k D t past es = pass-edgy always D t past (each k es)
+
+pub swept-edgy : (D : ℕ) (t past : List ℕ) → Edgy (swept D t past)
+unfolding swept
+swept-edgy D t past = pass-edgy takes D t past (each removal (rising 0 (D / 2)))

@@ -1,0 +1,13 @@
+pub mod After
+pub mod BodyLines
+pub mod Byte
+pub mod Found
+pub mod KernelLines
+pub mod LastPairs
+pub mod Number
+pub mod PairLines
+pub mod Place
+pub mod ReadEnds
+pub mod Rest
+pub mod Settles
+pub mod Word

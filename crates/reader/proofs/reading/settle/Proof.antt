@@ -1,0 +1,91 @@
+-- `reader::reading::settle` meets its contract: the three ways that a body which was read ends.
+use mathlib.Core.Path.{_∙_}
+use borrow.Author.Needs.{needs}
+use Rattle.engine.proofs.Ready.{beyond-refl}
+use Rattle.pyramid.proofs.Started.{hands}
+use Rattle.reader.proofs.Settles.{settle-many, settle-none, settle-all}
+use Rattle.reader.proofs.reading.settle.Statement.{statement}
+use Rattle.reader.proofs.reading.settle.Tie as tie
+
+based-requires : tie.Need-based-requires
+based-requires c κs = search needs
+
+returns : tie.Need-returns
+returns c =
+    let g = c .before .before .before .before .before .before .args in
+    let r = c .based in
+    record {
+      whole = λ s H v. hands (r .result) (r .ensures) _ _ _ ∙ settle-many H (g .table .now) (g .history .now) v (c .before .if1 .taken);
+      beyond = beyond-refl (g .d) (g .work .now);
+    }
+
+check-laid-requires : tie.Need-check-laid-requires
+check-laid-requires c κs = search needs
+
+accept-requires : tie.Need-accept-requires
+accept-requires c κs = search needs
+
+cast-t24 : tie.Need-cast-t24
+cast-t24 c = search needs
+
+cast-t25 : tie.Need-cast-t25
+cast-t25 c = search needs
+
+cast-t26 : tie.Need-cast-t26
+cast-t26 c = search needs
+
+same-length : tie.Need-same-length
+same-length c = search needs
+
+same-length-2 : tie.Need-same-length-2
+same-length-2 c = search needs
+
+same-length-3 : tie.Need-same-length-3
+same-length-3 c = search needs
+
+returns-2 : tie.Need-returns-2
+returns-2 c =
+    let g = c .before .before .before .before .before .before .before .before .before .before .before .before .before .before .before .before .before .before .args in
+    let k = c .before .before .before .before .before .before .before .before .before .before .before .check-laid .ensures in
+    record {
+      whole = λ s H v.
+          settle-all H (g .table .now) (g .history .now) v (c .before .before .before .before .before .before .before .before .before .before .before .before .before .if1 .left) k (c .before .before .before .before .before .before .before .before .if2 .taken) (c .before .before .before .before .accept .ensures);
+      beyond = k .beyond;
+    }
+
+based-requires-2 : tie.Need-based-requires-2
+based-requires-2 c κs = search needs
+
+same-length-4 : tie.Need-same-length-4
+same-length-4 c = search needs
+
+returns-3 : tie.Need-returns-3
+returns-3 c =
+    let g = c .before .before .before .before .before .before .before .before .before .before .before .args in
+    let r = c .based2 in
+    let k = c .before .before .before .before .check-laid .ensures in
+    record {
+      whole = λ s H v.
+          hands (r .result) (r .ensures) _ _ _
+          ∙ settle-none H (g .table .now) (g .history .now) v (c .before .before .before .before .before .before .if1 .left) k (c .before .if2 .left);
+      beyond = k .beyond;
+    }
+
+pub settle-spec : {M : Type 1} → statement M
+settle-spec =
+    tie.close
+    (tie.spec
+    based-requires
+    returns
+    check-laid-requires
+    accept-requires
+    cast-t24
+    cast-t25
+    cast-t26
+    same-length
+    same-length-2
+    same-length-3
+    returns-2
+    based-requires-2
+    same-length-4
+    returns-3)

@@ -1,0 +1,6 @@
+pub mod Found
+pub mod Kernels
+pub mod Lines
+pub mod Pairs
+pub mod Parsed
+pub mod Settled

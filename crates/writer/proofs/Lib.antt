@@ -1,0 +1,10 @@
+pub mod CutLines
+pub mod Decimal
+pub mod Backward
+pub mod FileBytes
+pub mod Survivors
+pub mod Fitted
+pub mod Lengths
+pub mod Listed
+pub mod WriteEnds
+pub mod TightWrite

@@ -1,0 +1,4 @@
+pub mod Fields
+pub mod Numbering
+pub mod Writing
+pub mod Filed
