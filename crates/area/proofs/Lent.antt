@@ -15,7 +15,7 @@ use lib.Dec.{eqb}
 use lib.ListN.{length}
 use borrow.Rule.Slice.PartMut.{take-put, drop-put}
 use Rattle.forest.specs.Forest as forest
-use Rattle.forest.specs.Joins.{find-keeps}
+use Rattle.forest.proofs.Joins.{find-keeps}
 use Rattle.slices.specs.Part.{put}
 use Rattle.slices.proofs.Part.{part-put, put-length}
 use Rattle.area.specs.Area.{Room, forestIn}

@@ -21,7 +21,7 @@ use Rattle.darts.specs.Choose.{if_then_else_}
 use Rattle.darts.specs.Operation.{kindOf, leadOf}
 use Rattle.darts.specs.Tests.{sameKind, relabel, relabelled, replays, parted}
 use Rattle.forest.specs.Forest.{linked}
-use Rattle.forest.specs.Joins.{linked-higher, linked-other}
+use Rattle.forest.proofs.Joins.{linked-higher, linked-other}
 use Rattle.area.specs.Trees.{merged}
 use Rattle.area.specs.Replay.{rejoin, rejoined, replayed}
 

@@ -16,7 +16,8 @@ use Rattle.darts.specs.Operation.{Kind, contraction, removal, lead, number}
 use Rattle.darts.specs.Kernel.{judge}
 use Rattle.darts.specs.Tests.{numbered}
 use Rattle.area.specs.Area.{tableIn, pastIn}
-use Rattle.laws.proofs.bridge.Standing.{Standing, live-iff}
+use Rattle.laws.specs.Standing.{Standing}
+use Rattle.laws.proofs.bridge.Standing.{live-iff}
 use Rattle.laws.proofs.bridge.Judged.{judge-legal}
 use Rattle.laws.proofs.bridge.Numbers.{number-lead}
 use Rattle.engine.specs.Held.{Area}

@@ -17,7 +17,8 @@ use Rattle.darts.specs.Map.{successor, live, before}
 use Rattle.darts.specs.Tests.{numbered}
 use Rattle.area.specs.Area.{prev, there, stamp, tableIn, pastIn, Room}
 use Rattle.area.specs.Back.{Sound}
-use Rattle.laws.proofs.bridge.Standing.{Standing, live-iff, entry-live}
+use Rattle.laws.specs.Standing.{Standing}
+use Rattle.laws.proofs.bridge.Standing.{live-iff, entry-live}
 use Rattle.laws.proofs.bridge.Before.{before-live, before-leads, before-only}
 use Rattle.engine.specs.Held.{Area}
 use Rattle.engine.proofs.Edges.{numbered-cons}

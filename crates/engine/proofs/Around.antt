@@ -13,13 +13,13 @@ use Rattle.permutations.specs.Choice.{pick, T?, T→true, nT→false, T-ext, an
 use Rattle.permutations.specs.Partner.{partner}
 use Rattle.permutations.specs.Perm.{Perm}
 use Rattle.permutations.specs.Map.{Map, Good, partner-live}
-use Rattle.permutations.specs.Dual.{face-at, good-dual}
+use Rattle.permutations.proofs.Dual.{face-at, good-dual}
 use Rattle.darts.specs.Map.{successor, live}
 use Rattle.darts.specs.Operation.{Kind, contraction, removal, kindOf}
 use Rattle.area.specs.Area.{there, pastIn, around}
 use Rattle.laws.proofs.bridge.Standing.{live-iff, next-entry}
 use Rattle.area.specs.Cycles.{stepIn}
-use Rattle.laws.proofs.tests.TopLabels.{cyclesOf}
+use Rattle.laws.specs.Standing.{cyclesOf}
 use Rattle.engine.specs.Held.{Area, mapIn}
 use Rattle.engine.proofs.Area.{there-live}
 use Rattle.engine.proofs.Parts.{successor-in}

@@ -16,8 +16,8 @@ use Rattle.permutations.specs.Perm.{Perm}
 use Rattle.permutations.specs.Splice.{splice}
 use Rattle.permutations.specs.Cycle.{Meets}
 use Rattle.permutations.specs.Map.{Map, Good, offEdge, offEdge-not-end, offEdge-was, partner-live, partner-small}
-use Rattle.permutations.specs.Dual.{face-perm, face-remove}
-use Rattle.permutations.specs.Legal.{act}
+use Rattle.permutations.proofs.Dual.{face-perm, face-remove}
+use Rattle.permutations.proofs.Legal.{act}
 use Rattle.permutations.specs.Labels.{Labels, Either, Merges, Kept, labels-splice}
 use Rattle.darts.specs.Choose.{if_then_else_}
 use Rattle.darts.specs.Map.{gone, survives, live}
@@ -25,11 +25,12 @@ use Rattle.darts.specs.Operation.{Kind, contraction, removal, kindOf, wholeEdge
 use Rattle.darts.specs.Kernel.{judge}
 use Rattle.area.specs.Area.{there, tableIn, pastIn}
 use Rattle.area.specs.Operate.{wholeIn, judged, operated}
-use Rattle.laws.proofs.bridge.Standing.{Standing, mapOf, opOf, live-iff}
+use Rattle.laws.specs.Standing.{Standing, mapOf}
+use Rattle.laws.proofs.bridge.Standing.{opOf, live-iff}
 use Rattle.laws.proofs.bridge.Judged.{same-vertex, same-face, judge-legal}
 use Rattle.laws.proofs.bridge.Operate.{operate-acts}
 use Rattle.area.specs.Cycles.{stepIn}
-use Rattle.laws.proofs.tests.TopLabels.{cyclesOf}
+use Rattle.laws.specs.Standing.{cyclesOf}
 use Rattle.engine.specs.Held.{Area, Rooted}
 use Rattle.engine.proofs.Edges.{not-gone-live}
 use Rattle.engine.proofs.BothKinds.{same, judge-in}

@@ -20,7 +20,7 @@ use lib.ListN.{length, getD, take, drop, length-reverse}
 use lib.Seq.{getD-drop}
 use Rattle.permutations.specs.Choice.{T-ext, true→T, nT→false, eqb-iff, and-intro, and-left}
 use Rattle.permutations.specs.Labels.{Labels}
-use Rattle.permutations.specs.Replay.{Labelled}
+use Rattle.permutations.proofs.Replay.{Labelled}
 use Rattle.darts.specs.Map.{live}
 use Rattle.darts.specs.Operation.{contraction, removal, kindOf, undone}
 use Rattle.darts.specs.Pyramid.{Pyramid, dartCount, isPyramid}
@@ -29,9 +29,10 @@ use Rattle.darts.specs.Tests.{numbered, linked, replays, shaped}
 use Rattle.laws.proofs.claims.Decided.{pyramid-decided}
 use Rattle.laws.proofs.tests.Links.{linked-stands}
 use Rattle.laws.proofs.tests.Room.{pyramid-room}
-use Rattle.laws.proofs.bridge.Standing.{Standing, mapOf}
+use Rattle.laws.specs.Standing.{Standing, mapOf}
 use Rattle.laws.proofs.tests.TestsDecide.{baseOf, Passed, passed-iff, tests-decide}
-use Rattle.laws.proofs.tests.TopLabels.{cyclesOf, walked, walked-decide, labels-at-top}
+use Rattle.laws.specs.Standing.{cyclesOf}
+use Rattle.laws.proofs.tests.TopLabels.{walked, walked-decide, labels-at-top}
 use Rattle.area.specs.Area.{Room, tableIn, pastIn, tried}
 use Rattle.area.specs.Back.{backs}
 use Rattle.area.specs.Replay.{replayed, Numbered}

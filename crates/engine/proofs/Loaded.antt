@@ -20,7 +20,8 @@ use Rattle.darts.specs.Map.{successor, gone, survives, live, before}
 use Rattle.darts.specs.Tests.{numbered, led, linked}
 use Rattle.area.specs.Area.{Room, prev, tableIn, pastIn, forestIn, Tried}
 use Rattle.area.specs.Load.{marks, links, linksAfter, relinks, loads}
-use Rattle.laws.proofs.bridge.Standing.{Standing, live-iff}
+use Rattle.laws.specs.Standing.{Standing}
+use Rattle.laws.proofs.bridge.Standing.{live-iff}
 use Rattle.laws.proofs.bridge.Before.{before-live, before-leads}
 use Rattle.engine.specs.Held.{Area}
 use Rattle.engine.proofs.Edges.{not-gone-live}

@@ -19,7 +19,8 @@ use Rattle.darts.specs.Kernel.{judge}
 use Rattle.darts.specs.Tests.{near, far}
 use Rattle.area.specs.Area.{prev, tableIn, pastIn, forestIn, bound}
 use Rattle.area.specs.Operate.{led, noted, operated}
-use Rattle.laws.proofs.bridge.Standing.{Standing, live-iff, entry-live}
+use Rattle.laws.specs.Standing.{Standing}
+use Rattle.laws.proofs.bridge.Standing.{live-iff, entry-live}
 use Rattle.laws.proofs.bridge.AnyKind.{near-far, apart-iff}
 use Rattle.laws.proofs.bridge.Relink.{relinked, operate-relinks}
 use Rattle.laws.proofs.bridge.Lead.{lead-pick}

@@ -19,7 +19,8 @@ use Rattle.darts.specs.Operation.{Kind, kindOf, leadOf, undoOne}
 use Rattle.darts.specs.Tests.{numbered, near, far, fits as fitsOf}
 use Rattle.area.specs.Area.{prev, there, stamp, tableIn, pastIn}
 use Rattle.area.specs.Back.{fits, inserted, takenBack}
-use Rattle.laws.proofs.bridge.Standing.{Standing, live-iff}
+use Rattle.laws.specs.Standing.{Standing}
+use Rattle.laws.proofs.bridge.Standing.{live-iff}
 use Rattle.laws.proofs.bridge.AnyKind.{near-far, of-near-far, apart-iff, near-of, near-end}
 use Rattle.laws.proofs.tests.Fits.{any-order}
 use Rattle.laws.proofs.bridge.Relink.{nearEntry, farEntry, putBack-one, putBack-two}

@@ -28,7 +28,7 @@ use Rattle.area.specs.Trees.{Outside, rooted}
 use Rattle.area.proofs.Labels.{labelled-same}
 use Rattle.area.proofs.Outside.{outside-refl, outside-trans, outside-rest}
 use Rattle.area.proofs.Replay.{replay-other}
-use Rattle.laws.proofs.tests.TopLabels.{cyclesOf}
+use Rattle.laws.specs.Standing.{cyclesOf}
 use Rattle.engine.specs.Held.{Area, mapIn, Rooted}
 use Rattle.engine.specs.Checks.{hasKind, Grown, KindTried, BothTried}
 use Rattle.engine.proofs.Around.{ring-good, step-perm}

@@ -14,8 +14,8 @@ use Rattle.permutations.specs.Labels.{Labels}
 use Rattle.darts.specs.Map.{live, before}
 use Rattle.darts.specs.Operation.{kindOf}
 use Rattle.darts.specs.Tests.{numbered}
-use Rattle.laws.proofs.bridge.Standing.{Standing, mapOf}
-use Rattle.laws.proofs.tests.TopLabels.{cyclesOf}
+use Rattle.laws.specs.Standing.{Standing, mapOf}
+use Rattle.laws.specs.Standing.{cyclesOf}
 use Rattle.forest.specs.Forest.{Falls}
 use Rattle.area.specs.Area.{prev, tableIn, pastIn, forestIn, Room}
 use Rattle.area.specs.Trees.{rooted}

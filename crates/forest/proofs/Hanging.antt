@@ -16,7 +16,7 @@ use lib.ListN.{length, set}
 use lib.Seq.{getD-set-same, getD-set-other}
 use Rattle.forest.specs.Forest.{parent, Falls, root, linked}
 use Rattle.forest.specs.Roots.{root-top, root-up, root-only}
-use Rattle.forest.specs.Joins.{linked-higher, linked-other}
+use Rattle.forest.proofs.Joins.{linked-higher, linked-other}
 
 module _ {t : List ℕ} (F : Falls t) (x v : ℕ) (inside : x < length t) (order : v ≤ x) where
   here : parent (set t x v) x ≡ v

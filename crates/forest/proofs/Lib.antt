@@ -1,2 +1,3 @@
 -- Hanging == one number of a forest is hung under another
 pub mod Hanging
+pub mod Joins

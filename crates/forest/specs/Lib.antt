@@ -5,5 +5,4 @@
 -- Part   == a forest in a part of a longer list
 pub mod Forest
 pub mod Roots
-pub mod Joins
 pub mod Lowest

@@ -5,17 +5,6 @@ pub mod Splice
 pub mod Pigeonhole
 pub mod Cycle
 pub mod Joined
-pub mod Apart
 pub mod Live
-pub mod Classes
-pub mod Cycles
 pub mod Map
-pub mod Dual
-pub mod Legal
-pub mod Tests
-pub mod Pieces
-pub mod Order
-pub mod Euler
 pub mod Labels
-pub mod Replay
-pub mod Examples

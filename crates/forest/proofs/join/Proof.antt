@@ -20,7 +20,7 @@ use borrow.Author.Needs.{needs}
 use borrow.Author.Tests.{eq-eqb, ne-eqb}
 use Rattle.forest.specs.Forest.{parent, Falls, root, apart, Found, Joined}
 use Rattle.forest.specs.Roots.{root-settled}
-use Rattle.forest.specs.Joins.{linked-self, join-turned}
+use Rattle.forest.proofs.Joins.{linked-self, join-turned}
 use Rattle.forest.proofs.Hanging.{link-falls, link-roots}
 use Rattle.forest.proofs.join.Statement.{statement}
 use Rattle.forest.proofs.join.Tie as tie

@@ -14,8 +14,8 @@ use Rattle.permutations.specs.Perm.{Perm}
 use Rattle.permutations.specs.Splice.{splice, crossed, skip-at, skip-before-p, skip-before-q, skip-other, splice-before-p, splice-before-q, splice-other}
 use Rattle.permutations.specs.Live.{off-comm, off}
 use Rattle.permutations.specs.Map.{Map, Good, offEdge, map-path, good-remove, partner-small}
-use Rattle.permutations.specs.Dual.{good-contract}
-use Rattle.permutations.specs.Legal.{after, act, dart}
+use Rattle.permutations.proofs.Dual.{good-contract}
+use Rattle.permutations.proofs.Legal.{after, act, dart}
 use Rattle.darts.specs.Operation.{Kind, contraction, removal}
 use Rattle.darts.specs.Tests.{near, far}
 use Rattle.laws.proofs.bridge.Standing.{opOf}

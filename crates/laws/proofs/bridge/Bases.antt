@@ -14,7 +14,8 @@ use lib.ListN.{length}
 use Rattle.permutations.specs.Choice.{pick, T?, T→true, nT→false, eqb-iff, or-intro, and-left}
 use Rattle.darts.specs.Map.{successor, gone, survives, repeats, firstBadFrom, firstBad}
 use Rattle.darts.specs.Pyramid.{dartCount}
-use Rattle.laws.proofs.bridge.Standing.{live, Standing, live-iff}
+use Rattle.laws.specs.Standing.{Standing}
+use Rattle.laws.proofs.bridge.Standing.{live, live-iff}
 use Rattle.laws.proofs.bridge.StandsBy.{stands-by}
 
 record Fine (D : ℕ) (t : List ℕ) (x : ℕ) : Type 0 where

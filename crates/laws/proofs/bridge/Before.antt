@@ -10,7 +10,8 @@ use native.Mathlib.Omega.{arith}
 use lib.Dec.{T, eqb}
 use Rattle.permutations.specs.Choice.{pick, T?, T→true, nT→false, eqb-iff, and-iff}
 use Rattle.darts.specs.Map.{successor, survives, beforeIn, before}
-use Rattle.laws.proofs.bridge.Standing.{live, Standing, live-iff, next-entry, entry-one}
+use Rattle.laws.specs.Standing.{Standing}
+use Rattle.laws.proofs.bridge.Standing.{live, live-iff, next-entry, entry-one}
 
 pub record Leads (n : ℕ) (t past : List ℕ) (x b : ℕ) : Type 0 where
   pub small : b < n

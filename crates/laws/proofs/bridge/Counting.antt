@@ -15,16 +15,17 @@ use lib.ListN.{length}
 use Rattle.permutations.specs.Choice.{pick, T→true, T-ext, or-cases}
 use Rattle.permutations.specs.Cycle.{meetsIn, meets-iff, meets-refl, meets-ind}
 use Rattle.permutations.specs.Live.{any, has, darts, any-has, has-head, has-tail, has-darts, darts-has}
-use Rattle.permutations.specs.Classes.{classes}
-use Rattle.permutations.specs.Cycles.{cycles as mathCycles}
+use Rattle.permutations.proofs.Classes.{classes}
+use Rattle.permutations.proofs.Cycles.{cycles as mathCycles}
 use Rattle.permutations.specs.Map.{Map, Good, next-live}
-use Rattle.permutations.specs.Dual.{good-dual}
-use Rattle.permutations.specs.Euler.{vertices, faces, survivors, contracted, removed, act-vertices, act-faces, act-survivors}
+use Rattle.permutations.proofs.Dual.{good-dual}
+use Rattle.permutations.proofs.Euler.{vertices, faces, survivors, contracted, removed, act-vertices, act-faces, act-survivors}
 use Rattle.darts.specs.Map.{successor, faceNext, survives}
 use Rattle.darts.specs.Operation.{Kind, lead, operate, number}
 use Rattle.darts.specs.Kernel.{judge}
 use Rattle.darts.specs.Counts.{Counts, lowest, cycles, surviving, countsOf}
-use Rattle.laws.proofs.bridge.Standing.{live, mapOf, Standing, opOf, next-entry}
+use Rattle.laws.specs.Standing.{mapOf, Standing}
+use Rattle.laws.proofs.bridge.Standing.{live, opOf, next-entry}
 use Rattle.laws.proofs.bridge.Judged.{face-entry, judge-legal}
 use Rattle.laws.proofs.bridge.Operate.{operate-acts, operate-stands}
 use Rattle.laws.proofs.bridge.Least.{lowest-least, lowest-same}

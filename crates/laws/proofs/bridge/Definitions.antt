@@ -18,7 +18,7 @@ use Rattle.darts.specs.Kernel.{judge}
 use Rattle.darts.specs.Tests.{near}
 use Rattle.darts.specs.State.{State}
 use Rattle.darts.specs.Pyramid.{Pyramid}
-use Rattle.laws.proofs.bridge.Standing.{Standing}
+use Rattle.laws.specs.Standing.{Standing}
 use Rattle.laws.proofs.bridge.Relink.{nearEntry, farEntry, operate-relinks, relinked-else}
 use Rattle.laws.proofs.bridge.Lead.{Leading}
 use Rattle.laws.proofs.bridge.Operate.{a-away, b-away, new-a, new-b, new-end, leads}

@@ -12,13 +12,14 @@ use Rattle.permutations.specs.Choice.{pick, T→true, and-iff, not-iff}
 use Rattle.permutations.specs.Partner.{partner, partner-first}
 use Rattle.permutations.specs.Cycle.{Meets, meetsIn, meets-iff}
 use Rattle.permutations.specs.Map.{Map, Good, face, next-live, partner-live}
-use Rattle.permutations.specs.Dual.{good-dual, face-at}
-use Rattle.permutations.specs.Legal.{Separate, Legal, Whole}
-use Rattle.permutations.specs.Tests.{whole-iff, wholeTest}
+use Rattle.permutations.proofs.Dual.{good-dual, face-at}
+use Rattle.permutations.proofs.Legal.{Separate, Legal, Whole}
+use Rattle.permutations.proofs.Tests.{whole-iff, wholeTest}
 use Rattle.darts.specs.Map.{successor, faceNext, sameVertex, sameFace, gone, survives}
 use Rattle.darts.specs.Operation.{Kind, contraction, removal, wholeEdge}
 use Rattle.darts.specs.Kernel.{judge, shared}
-use Rattle.laws.proofs.bridge.Standing.{live, mapOf, Standing, opOf, live-iff, next-entry}
+use Rattle.laws.specs.Standing.{mapOf, Standing}
+use Rattle.laws.proofs.bridge.Standing.{live, opOf, live-iff, next-entry}
 
 -- ---- walking along the entries
 

@@ -11,11 +11,12 @@ use Rattle.permutations.specs.Choice.{pick, eqb-same, eqb-other}
 use Rattle.permutations.specs.Partner.{partner, partner-first, partner-partner, End}
 use Rattle.permutations.specs.Cycle.{Meets, meets-next, meets-sym}
 use Rattle.permutations.specs.Map.{partner-live}
-use Rattle.permutations.specs.Legal.{Separate, Legal, around, around-perm, Whole, act}
+use Rattle.permutations.proofs.Legal.{Separate, Legal, around, around-perm, Whole, act}
 use Rattle.darts.specs.Map.{successor, faceNext}
 use Rattle.darts.specs.Operation.{Kind, contraction, removal, turned, lead}
 use Rattle.darts.specs.Tests.{near}
-use Rattle.laws.proofs.bridge.Standing.{live, mapOf, Standing, opOf, next-entry}
+use Rattle.laws.specs.Standing.{mapOf, Standing}
+use Rattle.laws.proofs.bridge.Standing.{live, opOf, next-entry}
 use Rattle.laws.proofs.bridge.Judged.{face-entry}
 use Rattle.laws.proofs.bridge.AnyKind.{dart-op, act-partner}
 use Rattle.laws.proofs.bridge.Relink.{nearEntry, farEntry}

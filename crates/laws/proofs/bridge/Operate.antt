@@ -16,12 +16,13 @@ use Rattle.permutations.specs.Choice.{pick, T?, T→true, nT→false, eqb-same,
 use Rattle.permutations.specs.Partner.{partner, partner-ne, End}
 use Rattle.permutations.specs.Perm.{Perm}
 use Rattle.permutations.specs.Map.{Good, offEdge, offEdge-not-end, offEdge-was, offEdge-other, map-path, partner-live, partner-small}
-use Rattle.permutations.specs.Legal.{act, after, Legal}
+use Rattle.permutations.proofs.Legal.{act, after, Legal}
 use Rattle.darts.specs.Map.{successor, before}
 use Rattle.darts.specs.Operation.{Kind, lead, operate, number, putBack, undoOne}
 use Rattle.darts.specs.Kernel.{judge}
 use Rattle.darts.specs.Tests.{near}
-use Rattle.laws.proofs.bridge.Standing.{live, mapOf, Standing, opOf, next-entry}
+use Rattle.laws.specs.Standing.{mapOf, Standing}
+use Rattle.laws.proofs.bridge.Standing.{live, opOf, next-entry}
 use Rattle.laws.proofs.bridge.Before.{before-live, before-leads, before-only}
 use Rattle.laws.proofs.bridge.Judged.{judge-legal}
 use Rattle.laws.proofs.bridge.Numbers.{number-kind, number-lead, live-after}

@@ -18,12 +18,13 @@ use Rattle.permutations.specs.Choice.{or-intro, or-cases}
 use Rattle.permutations.specs.Partner.{partner, partner-first, End}
 use Rattle.permutations.specs.Pigeonhole.{Clash, pigeonhole}
 use Rattle.permutations.specs.Map.{mate-live, partner-live, next-live, offEdge, offEdge-was, offEdge-not-end}
-use Rattle.permutations.specs.Legal.{Op, act, dart}
-use Rattle.permutations.specs.Pieces.{Linked, here, turn, over, linked-ind, mate-lives, whole-only, only-whole, act-pieces}
+use Rattle.permutations.proofs.Legal.{Op, act, dart}
+use Rattle.permutations.proofs.Pieces.{Linked, here, turn, over, linked-ind, mate-lives, whole-only, only-whole, act-pieces}
 use Rattle.darts.specs.Map.{successor, samePiece}
 use Rattle.darts.specs.Operation.{Kind, wholeEdge, lead, operate, number}
 use Rattle.darts.specs.Kernel.{judge}
-use Rattle.laws.proofs.bridge.Standing.{live, mapOf, Standing, opOf, next-entry, entry-live}
+use Rattle.laws.specs.Standing.{mapOf, Standing}
+use Rattle.laws.proofs.bridge.Standing.{live, opOf, next-entry, entry-live}
 use Rattle.laws.proofs.bridge.Judged.{whole-edge, judge-legal}
 use Rattle.laws.proofs.bridge.Operate.{operate-acts, operate-stands}
 

@@ -20,7 +20,8 @@ use Rattle.darts.specs.Operation.{Kind, contraction, removal, lead, operate, nu
 use Rattle.darts.specs.Kernel.{judge, stands, passFrom, pass, run}
 use Rattle.darts.specs.State.{State}
 use Rattle.darts.specs.Pyramid.{Pyramid}
-use Rattle.laws.proofs.bridge.Standing.{Standing, entry-live, entry-one}
+use Rattle.laws.specs.Standing.{Standing}
+use Rattle.laws.proofs.bridge.Standing.{entry-live, entry-one}
 use Rattle.laws.proofs.bridge.Before.{before-live, before-leads, before-only}
 use Rattle.laws.proofs.bridge.Numbers.{live-after}
 use Rattle.laws.proofs.bridge.Operate.{operate-stands}

@@ -1,29 +1,20 @@
--- The map that a table holds.
---   mapOf D t past    == the map of the survivors: where a dart is gone, nothing moves
---   Standing D t past == the table t of D numbers holds such a map; every entry is a dart, also those of gone darts
---   opOf k p          == the operation of kind k on the edge of p, as the mathematics has it
+-- The map that a table holds: its survivors, and where they lead.
+--   opOf k p    == the operation of kind k on the edge of p, as the mathematics has it
+--   live-iff    == live: a dart, and a survivor
+--   next-entry, entry-live, entry-one == a survivor leads where its entry says, to a survivor, and no other leads there
 use mathlib.Core.List.{List}
 use mathlib.Core.Path.{_≡_, sym, _∙_}
-use Prim.Native.Nat.{ℕ, _%_, _<_}
+use Prim.Native.Nat.{ℕ, _<_}
 use mathlib.Core.Logic.{_↔_, Iff·rfl}
 use lib.Dec.{T, ltb, ltb→lt, lt→ltb}
-use lib.ListN.{length}
-use Rattle.permutations.specs.Choice.{pick, T→true, and-iff}
+use Rattle.permutations.specs.Choice.{T→true, and-iff}
 use Rattle.permutations.specs.Perm.{inj}
-use Rattle.permutations.specs.Map.{Map, Good, next-live}
-use Rattle.permutations.specs.Legal.{Op, Contract, Remove}
+use Rattle.permutations.specs.Map.{next-live}
+use Rattle.permutations.proofs.Legal.{Op, Contract, Remove}
 unfoldable pub use Rattle.darts.specs.Map.{live}
 use Rattle.darts.specs.Map.{successor, survives}
 use Rattle.darts.specs.Operation.{Kind, contraction, removal}
-
-abbrev pub mapOf : ℕ → List ℕ → List ℕ → Map
-mapOf D t past = record { live = live D past; next = λ x. pick (live D past x) (successor t x) x }
-
-pub record Standing (D : ℕ) (t past : List ℕ) : Type 0 where
-  pub even : D % 2 ≡ 0
-  pub size : length t ≡ D
-  pub inside : (x : ℕ) → x < D → successor t x < D
-  pub good : Good D (mapOf D t past)
+use Rattle.laws.specs.Standing.{mapOf, Standing}
 
 abbrev pub opOf : Kind → ℕ → Op
 opOf contraction p = Contract p

@@ -14,7 +14,8 @@ use Rattle.permutations.specs.Partner.{partner, partner-below, partner-partner,
 use Rattle.permutations.specs.Pigeonhole.{Clash, pigeonhole}
 use Rattle.permutations.specs.Perm.{Perm}
 use Rattle.darts.specs.Map.{successor, gone, survives, repeats, firstBadFrom, firstBad}
-use Rattle.laws.proofs.bridge.Standing.{live, mapOf, Standing, live-iff, entry-one}
+use Rattle.laws.specs.Standing.{mapOf, Standing}
+use Rattle.laws.proofs.bridge.Standing.{live, live-iff, entry-one}
 
 -- ---- an injective function that leaves every number from D on where it is permutes the numbers below D
 

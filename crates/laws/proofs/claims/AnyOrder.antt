@@ -15,13 +15,14 @@ use native.Mathlib.Omega.{arith}
 use lib.Dec.{T, ltb, lt→ltb}
 use lib.ListN.{length}
 use Rattle.permutations.specs.Choice.{T→true}
-use Rattle.permutations.specs.Order.{any-order as any-order-of-maps}
+use Rattle.permutations.proofs.Order.{any-order as any-order-of-maps}
 use Rattle.darts.specs.Map.{successor, survives, firstBad}
 use Rattle.darts.specs.Kernel.{Operation, Run, stands}
 use Rattle.darts.specs.State.{State, baseState, Result, gives}
 use Rattle.darts.specs.Pyramid.{Kernel, Pyramid, dartCount, build}
 use Rattle.darts.specs.OneByOne.{oneByOne, operationOf, operationsOf, NoneEmpty}
-use Rattle.laws.proofs.bridge.Standing.{live, mapOf}
+use Rattle.laws.specs.Standing.{mapOf}
+use Rattle.laws.proofs.bridge.Standing.{live}
 use Rattle.laws.proofs.bridge.Bases.{base-stands}
 use Rattle.laws.proofs.runs.Operations.{stands-iff, done-told, told-history}
 use Rattle.laws.proofs.runs.Runs.{ran, legal-accepted}

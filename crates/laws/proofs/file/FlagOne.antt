@@ -11,7 +11,7 @@ use Rattle.darts.specs.Map.{successor}
 use Rattle.darts.specs.State.{State}
 use Rattle.darts.specs.Scan.{byteAt}
 use Rattle.darts.specs.Read.{KernelLine, fromFlag, fileState, fileHistory, means, readFile}
-use Rattle.laws.proofs.bridge.Standing.{Standing}
+use Rattle.laws.specs.Standing.{Standing}
 use Rattle.laws.proofs.claims.Decided.{pyramid-decided}
 use Rattle.laws.proofs.tests.Passes.{pyramid-shaped}
 use Rattle.laws.proofs.Lists.{Each}

@@ -10,7 +10,8 @@ use lib.ListN.{drop}
 use Rattle.darts.specs.Operation.{Kind, lead, operate, number, kindOf, leadOf, edgeOf, undoOne, undone}
 use Rattle.darts.specs.Kernel.{judge}
 use Rattle.darts.specs.Tests.{numbered}
-use Rattle.laws.proofs.bridge.Standing.{live, Standing}
+use Rattle.laws.specs.Standing.{Standing}
+use Rattle.laws.proofs.bridge.Standing.{live}
 use Rattle.laws.proofs.bridge.Judged.{judge-legal}
 use Rattle.laws.proofs.bridge.Numbers.{number-kind, number-lead, number-edge}
 use Rattle.laws.proofs.bridge.Lead.{lead-leads}

@@ -14,11 +14,12 @@ use Rattle.permutations.specs.Partner.{partner, partner-below, partner-partner,
 use Rattle.permutations.specs.Perm.{Perm, below}
 use Rattle.permutations.specs.Cycle.{walk, walk-ind, Meets, meets-sym}
 use Rattle.permutations.specs.Map.{Map, Good, mate-live, mate-gone, face, partner-live}
-use Rattle.permutations.specs.Legal.{Separate, Legal, Whole, around, around-perm}
+use Rattle.permutations.proofs.Legal.{Separate, Legal, Whole, around, around-perm}
 use Rattle.darts.specs.Map.{successor, gone, survives}
 use Rattle.darts.specs.Operation.{Kind, contraction, removal, number, kindOf, leadOf}
 use Rattle.darts.specs.Tests.{numbered}
-use Rattle.laws.proofs.bridge.Standing.{live, mapOf, Standing, opOf, live-iff, entry-live, entry-one}
+use Rattle.laws.specs.Standing.{mapOf, Standing}
+use Rattle.laws.proofs.bridge.Standing.{live, opOf, live-iff, entry-live, entry-one}
 use Rattle.laws.proofs.bridge.StandsBy.{stands-by}
 use Rattle.laws.proofs.bridge.Numbers.{number-lead}
 use Rattle.laws.proofs.bridge.AnyKind.{dart-op}

@@ -10,12 +10,13 @@ use lib.Dec.{T, eqb}
 use Rattle.permutations.specs.Choice.{pick, eqb-other}
 use Rattle.permutations.specs.Partner.{partner, partner-below}
 use Rattle.permutations.specs.Map.{partner-live}
-use Rattle.permutations.specs.Legal.{Legal}
+use Rattle.permutations.proofs.Legal.{Legal}
 use Rattle.darts.specs.Map.{successor, before}
 use Rattle.darts.specs.Operation.{Kind, lead, operate}
 use Rattle.darts.specs.Kernel.{judge}
 use Rattle.darts.specs.Tests.{near, numbered}
-use Rattle.laws.proofs.bridge.Standing.{live, mapOf, Standing, opOf}
+use Rattle.laws.specs.Standing.{mapOf, Standing}
+use Rattle.laws.proofs.bridge.Standing.{live, opOf}
 use Rattle.laws.proofs.bridge.Before.{before-live, before-leads, before-only}
 use Rattle.laws.proofs.bridge.Judged.{judge-legal}
 use Rattle.laws.proofs.bridge.AnyKind.{near-far, near-of}

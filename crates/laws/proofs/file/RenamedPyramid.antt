@@ -15,7 +15,7 @@ use Rattle.darts.specs.State.{State, baseState, Result, gives, refuses}
 use Rattle.darts.specs.Levels.{endBelow, lowered, undoLevel, undoLevels, unfoldTo}
 use Rattle.darts.specs.Pyramid.{Pyramid, build, cut}
 use Rattle.darts.specs.Tests.{sameKind, ofKind, oneKind, rises, numbered}
-use Rattle.laws.proofs.bridge.Standing.{Standing}
+use Rattle.laws.specs.Standing.{Standing}
 use Rattle.laws.proofs.bridge.StandsBy.{stands-base}
 use Rattle.laws.proofs.bridge.Bases.{base-stands}
 use Rattle.laws.proofs.claims.Decided.{base-undone}

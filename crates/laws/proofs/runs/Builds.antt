@@ -8,7 +8,7 @@ use lib.ListN.{length}
 use Rattle.darts.specs.Operation.{undone}
 use Rattle.darts.specs.State.{State, gives, andThen, raised, reduce}
 use Rattle.darts.specs.Pyramid.{Kernel, build, kernelsOf}
-use Rattle.laws.proofs.bridge.Standing.{Standing}
+use Rattle.laws.specs.Standing.{Standing}
 use Rattle.laws.proofs.runs.Ends.{Layered}
 use Rattle.laws.proofs.runs.Results.{then, then-gives, then-then, same-result}
 use Rattle.laws.proofs.runs.Reduces.{Reduced, reduced, reduced-layered, reduced-kernels, reduced-base}

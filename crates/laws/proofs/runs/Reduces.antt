@@ -18,7 +18,7 @@ use Rattle.darts.specs.Kernel.{each, Run, stands, stops, run}
 use Rattle.darts.specs.State.{State, gives, refuses, raised, levelled, reduce}
 use Rattle.darts.specs.Pyramid.{Kernel, kernelsOf}
 use Rattle.darts.specs.OneByOne.{operationOf}
-use Rattle.laws.proofs.bridge.Standing.{Standing}
+use Rattle.laws.specs.Standing.{Standing}
 use Rattle.laws.proofs.runs.Operations.{run-iff, done-told, told-history, told-count, told-longer, told-dropped, told-kernel}
 use Rattle.laws.proofs.runs.Runs.{Ran, ran, undone-more}
 use Rattle.laws.proofs.runs.Ends.{Layered, layered-raised, kernels-raised}

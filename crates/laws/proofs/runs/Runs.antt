@@ -8,10 +8,11 @@ use Prim.Native.Nat.{ℕ, zero, suc, _+_, _*_}
 use native.Mathlib.Nat.{zero-add, suc-add}
 use native.Mathlib.Numerals.{add-one}
 use lib.ListN.{length, drop}
-use Rattle.permutations.specs.Legal.{Op, AllLegal, run as runMap}
+use Rattle.permutations.proofs.Legal.{Op, AllLegal, run as runMap}
 use Rattle.darts.specs.Operation.{Kind, undoOne, undone}
 use Rattle.darts.specs.Kernel.{judge, Operation, each, stands, run}
-use Rattle.laws.proofs.bridge.Standing.{mapOf, Standing, opOf}
+use Rattle.laws.specs.Standing.{mapOf, Standing}
+use Rattle.laws.proofs.bridge.Standing.{opOf}
 use Rattle.laws.proofs.bridge.Judged.{judge-legal}
 use Rattle.laws.proofs.bridge.Operate.{operate-acts, operate-stands, undo-operate}
 use Rattle.laws.proofs.runs.Operations.{after, pastAfter, AllDone, none, first, run-iff, Told, done-told, told-dropped}

@@ -13,13 +13,14 @@ use Rattle.permutations.specs.Choice.{not-iff}
 use Rattle.permutations.specs.Partner.{partner}
 use Rattle.permutations.specs.Cycle.{walk, Meets}
 use Rattle.permutations.specs.Map.{Map, Good, next-live}
-use Rattle.permutations.specs.Dual.{good-dual}
+use Rattle.permutations.proofs.Dual.{good-dual}
 use Rattle.darts.specs.Map.{successor, faceNext, gone, survives}
 use Rattle.darts.specs.Operation.{Kind, contraction, removal}
 use Rattle.darts.specs.Kernel.{stands, run}
 use Rattle.darts.specs.State.{State}
 use Rattle.darts.specs.Calls.{tableOf, pastOf, reduceBy}
-use Rattle.laws.proofs.bridge.Standing.{live, Standing, live-iff, next-entry}
+use Rattle.laws.specs.Standing.{Standing}
+use Rattle.laws.proofs.bridge.Standing.{live, live-iff, next-entry}
 use Rattle.laws.proofs.bridge.Judged.{face-entry, same-vertex, same-face}
 use Rattle.laws.proofs.runs.Runs.{run-stands}
 use Rattle.laws.proofs.runs.Pyramids.{pyramid-built}

@@ -17,7 +17,7 @@ use Rattle.permutations.specs.Choice.{T?, T→true, nT→false}
 use Rattle.permutations.specs.Partner.{partner-first, partner-second}
 use Rattle.permutations.specs.Cycle.{Meets, meets-ind, meets-sym}
 use Rattle.permutations.specs.Map.{face, partner-live}
-use Rattle.permutations.specs.Dual.{good-dual}
+use Rattle.permutations.proofs.Dual.{good-dual}
 use Rattle.darts.specs.Answers.{answered}
 use Rattle.darts.specs.Map.{successor, faceNext}
 use Rattle.darts.specs.Operation.{removal, lead, operate, number}
@@ -26,7 +26,8 @@ use Rattle.darts.specs.State.{State, refuses, levelled, reduce}
 use Rattle.darts.specs.Levels.{takes, sweep}
 use Rattle.darts.specs.Pyramid.{Pyramid}
 use Rattle.darts.specs.Calls.{tableOf, pastOf, onState, reduceBy, sweepBy}
-use Rattle.laws.proofs.bridge.Standing.{live, mapOf, Standing}
+use Rattle.laws.specs.Standing.{mapOf, Standing}
+use Rattle.laws.proofs.bridge.Standing.{live}
 use Rattle.laws.proofs.bridge.Judged.{face-entry, same-face}
 use Rattle.laws.proofs.runs.Runs.{run-stands}
 use Rattle.laws.proofs.runs.Taking.{taken}

@@ -9,9 +9,10 @@ use native.Mathlib.Omega.{arith}
 use lib.Dec.{T, eqb}
 use Rattle.permutations.specs.Choice.{pick, eqb-same, eqb-other}
 use Rattle.permutations.specs.Map.{offEdge}
-use Rattle.permutations.specs.Legal.{Whole}
+use Rattle.permutations.proofs.Legal.{Whole}
 use Rattle.darts.specs.Operation.{Kind, contraction, removal, lead, operate, number, kindOf, leadOf, edgeOf, undoOne}
-use Rattle.laws.proofs.bridge.Standing.{live, mapOf, Standing}
+use Rattle.laws.specs.Standing.{mapOf, Standing}
+use Rattle.laws.proofs.bridge.Standing.{live}
 use Rattle.laws.proofs.bridge.Numbers.{live-after}
 use Rattle.laws.proofs.bridge.Relink.{nearEntry, farEntry}
 use Rattle.darts.specs.Tests.{numbered, fits}

@@ -11,7 +11,8 @@ use Rattle.permutations.specs.Partner.{partner, End, partner-ne, partner-partne
 use Rattle.darts.specs.Map.{successor, before}
 use Rattle.darts.specs.Operation.{Kind, lead, operate, number}
 use Rattle.darts.specs.Kernel.{judge}
-use Rattle.laws.proofs.bridge.Standing.{live, Standing, entry-live, entry-one}
+use Rattle.laws.specs.Standing.{Standing}
+use Rattle.laws.proofs.bridge.Standing.{live, entry-live, entry-one}
 use Rattle.laws.proofs.bridge.Judged.{judge-legal}
 use Rattle.laws.proofs.bridge.Numbers.{number-kind, number-lead}
 use Rattle.laws.proofs.bridge.AnyKind.{near-far, apart-iff}

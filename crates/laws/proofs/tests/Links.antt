@@ -13,7 +13,8 @@ use lib.Dec.{T, eqb, ltb, ltb→lt, lt→ltb}
 use lib.ListN.{length}
 use Rattle.permutations.specs.Choice.{eqb-iff, and-iff, or-iff, not-iff}
 use Rattle.darts.specs.Map.{successor, gone, survives}
-use Rattle.laws.proofs.bridge.Standing.{live, Standing, live-iff, entry-live, entry-one}
+use Rattle.laws.specs.Standing.{Standing}
+use Rattle.laws.proofs.bridge.Standing.{live, live-iff, entry-live, entry-one}
 use Rattle.laws.proofs.bridge.StandsBy.{stands-by}
 use Rattle.darts.specs.Tests.{led, links, linked}
 

@@ -13,7 +13,7 @@ use Rattle.darts.specs.Kernel.{judge, Operation, each}
 use Rattle.darts.specs.State.{State, gives, raised, reduce}
 use Rattle.darts.specs.Pyramid.{Kernel, Pyramid, build}
 use Rattle.laws.proofs.Lists.{reverse-onto}
-use Rattle.laws.proofs.bridge.Standing.{Standing}
+use Rattle.laws.specs.Standing.{Standing}
 use Rattle.laws.proofs.bridge.Bases.{base-stands}
 use Rattle.laws.proofs.bridge.Judged.{judge-legal}
 use Rattle.laws.proofs.bridge.Numbers.{number-kind, number-lead, number-edge}

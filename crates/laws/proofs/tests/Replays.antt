@@ -14,12 +14,13 @@ use Rattle.permutations.specs.Choice.{pick, eqb-iff, and-left, and-right, not-i
 use Rattle.permutations.specs.Partner.{partner, partner-cases, partner-partner}
 use Rattle.permutations.specs.Cycle.{Meets}
 use Rattle.permutations.specs.Map.{Map, Good, partner-live}
-use Rattle.permutations.specs.Legal.{Legal, Separate, act, Whole}
+use Rattle.permutations.proofs.Legal.{Legal, Separate, act, Whole}
 use Rattle.permutations.specs.Labels.{Labels, Merges, merge, merge-merges}
-use Rattle.permutations.specs.Replay.{Labelled, contract-labelled, remove-labelled}
+use Rattle.permutations.proofs.Replay.{Labelled, contract-labelled, remove-labelled}
 use Rattle.darts.specs.Operation.{Kind, contraction, removal, kindOf, leadOf, edgeOf, undoOne, undone}
 use Rattle.darts.specs.Kernel.{judge}
-use Rattle.laws.proofs.bridge.Standing.{live, mapOf, Standing, opOf}
+use Rattle.laws.specs.Standing.{mapOf, Standing}
+use Rattle.laws.proofs.bridge.Standing.{live, opOf}
 use Rattle.laws.proofs.bridge.Judged.{judge-legal}
 use Rattle.laws.proofs.bridge.Operate.{operate-acts}
 use Rattle.darts.specs.Tests.{numbered, fits, backs, sameKind, relabel, relabelled, parted, replays}

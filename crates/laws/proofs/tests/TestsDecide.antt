@@ -10,11 +10,11 @@ use lib.Dec.{T, eqb, eqb→eq}
 use lib.ListN.{length, take}
 use lib.Seq.{length-take-le}
 use Rattle.permutations.specs.Choice.{eqb-iff, and-iff, and-left}
-use Rattle.permutations.specs.Replay.{Labelled}
+use Rattle.permutations.proofs.Replay.{Labelled}
 use Rattle.darts.specs.Operation.{contraction, removal, undoOne, undone}
 use Rattle.darts.specs.State.{State, baseState, gives}
 use Rattle.darts.specs.Pyramid.{Pyramid, dartCount, build, kernelsOf}
-use Rattle.laws.proofs.bridge.Standing.{mapOf, Standing}
+use Rattle.laws.specs.Standing.{mapOf, Standing}
 use Rattle.laws.proofs.bridge.Bases.{base-stands}
 use Rattle.laws.proofs.claims.Decided.{base-undone}
 use Rattle.darts.specs.Tests.{numbered, linked, backs, relabelled, replays, shaped, tested}

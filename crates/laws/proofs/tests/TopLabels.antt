@@ -1,24 +1,20 @@
 -- Labels of one kind alone, and labels by walking.
---   cyclesOf k m      == the permutation whose cycles operations of kind k join: contractions join vertices, removals faces
 --   walked k s t past == the lowest dart of each cycle of the base: labels that are always right
 use mathlib.Core.List.{List, [], reverse}
 use mathlib.Core.Logic.{_↔_}
 use Prim.Native.Nat.{ℕ}
 use lib.Dec.{T}
-use Rattle.permutations.specs.Map.{Map, face}
-use Rattle.permutations.specs.Dual.{face-perm}
+use Rattle.permutations.specs.Map.{Map}
+use Rattle.permutations.proofs.Dual.{face-perm}
 use Rattle.permutations.specs.Labels.{Labels}
 use Rattle.darts.specs.Operation.{Kind, contraction, removal}
 use Rattle.darts.specs.State.{State}
 use Rattle.darts.specs.Pyramid.{Pyramid}
-use Rattle.laws.proofs.bridge.Standing.{live, mapOf, Standing}
+use Rattle.laws.specs.Standing.{mapOf, Standing, cyclesOf}
+use Rattle.laws.proofs.bridge.Standing.{live}
 use Rattle.darts.specs.Tests.{relabelled, tested}
 use Rattle.laws.proofs.bridge.Walks.{lowestMet, lowest-labels}
 use Rattle.laws.proofs.tests.TestsDecide.{baseOf, tests-decide, top-labelled}
-
-abbrev pub cyclesOf : Kind → Map → ℕ → ℕ
-cyclesOf contraction m = m .next
-cyclesOf removal m = face m
 
 abbrev pub walked : Kind → State → List ℕ → List ℕ → ℕ → ℕ
 walked k s t past = let D : ℕ = s .darts in lowestMet (cyclesOf k (mapOf D (baseOf s t past) [])) D

@@ -19,11 +19,12 @@ use lib.Seq.{getD-set-same, getD-set-other, set-getD, set-set, set-comm}
 use Rattle.permutations.specs.Choice.{pick, eqb-same, eqb-other}
 use Rattle.permutations.specs.Partner.{partner, End, end?, partner-partner, partner-ne, partner-cases}
 use Rattle.permutations.specs.Map.{Map, offEdge, offEdge-was, offEdge-not-end, offEdge-other}
-use Rattle.permutations.specs.Legal.{Whole}
+use Rattle.permutations.proofs.Legal.{Whole}
 use Rattle.darts.specs.Map.{successor, before}
 use Rattle.darts.specs.Operation.{Kind, lead, operate, putBack}
 use Rattle.darts.specs.Tests as tests
-use Rattle.laws.proofs.bridge.Standing.{live, mapOf, Standing, entry-live, next-entry, live-iff}
+use Rattle.laws.specs.Standing.{mapOf, Standing}
+use Rattle.laws.proofs.bridge.Standing.{live, entry-live, next-entry, live-iff}
 use Rattle.laws.proofs.bridge.Before.{before-live, before-leads, before-only}
 use Rattle.laws.proofs.bridge.AnyKind.{near-of, near-end, end-near, end-over, over-end}
 use Rattle.laws.proofs.bridge.Relink.{nearEntry, farEntry, relinked, operate-relinks, putBack-one, putBack-two}

@@ -19,10 +19,10 @@ use Rattle.permutations.specs.Partner.{partner, End, partner-ne}
 use Rattle.permutations.specs.Cycle.{Meets, meets-next, meets-sym, meets-trans}
 use Rattle.permutations.specs.Joined.{On}
 use Rattle.permutations.specs.Live.{darts, off, darts-out, off-other}
-use Rattle.permutations.specs.Cycles.{cycles, splice-cycles, skip-cycles}
+use Rattle.permutations.proofs.Cycles.{cycles, splice-cycles, skip-cycles}
 use Rattle.permutations.specs.Map.{Map, face, offEdge, Good, offEdge-other, next-live, partner-live, contract, remove, partner-small}
-use Rattle.permutations.specs.Dual.{face-at, face-partner, good-dual, dual-dual, face-contract, face-perm, remove-by-dual, face-remove}
-use Rattle.permutations.specs.Legal.{dart, Contractible, Contract, act, Removable, dual-contractible, Op, Remove, run, Legal, AllLegal, good-act}
+use Rattle.permutations.proofs.Dual.{face-at, face-partner, good-dual, dual-dual, face-contract, face-perm, remove-by-dual, face-remove}
+use Rattle.permutations.proofs.Legal.{dart, Contractible, Contract, act, Removable, dual-contractible, Op, Remove, run, Legal, AllLegal, good-act}
 
 unfoldable pub vertices : ℕ → Map → ℕ
 vertices D m = cycles D (m .live) (m .next)

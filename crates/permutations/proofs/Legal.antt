@@ -21,7 +21,7 @@ use Rattle.permutations.specs.Perm.{Perm}
 use Rattle.permutations.specs.Splice.{splice, skip}
 use Rattle.permutations.specs.Cycle.{Meets}
 use Rattle.permutations.specs.Map.{Map, face, offEdge, Good, good-remove}
-use Rattle.permutations.specs.Dual.{good-contract, face-perm, dual, face-at, face-partner}
+use Rattle.permutations.proofs.Dual.{good-contract, face-perm, dual, face-at, face-partner}
 
 -- "the edge is a whole piece: r = p and s = q, or r = q and s = p"
 abbrev pub Whole : Map → ℕ → Type 0

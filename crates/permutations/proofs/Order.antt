@@ -11,12 +11,12 @@ use lib.Dec.{T}
 use Rattle.permutations.specs.Partner.{partner, End, partner-end, end?, end-sym}
 use Rattle.permutations.specs.Splice.{splice, skip}
 use Rattle.permutations.specs.Cycle.{Meets}
-use Rattle.permutations.specs.Apart.{Apart, splice-splice, splice-skip, apart-sym, skip-skip, splice-two, skip-two}
+use Rattle.permutations.proofs.Apart.{Apart, splice-splice, splice-skip, apart-sym, skip-skip, splice-two, skip-two}
 use Rattle.permutations.specs.Live.{off, off-comm}
 use Rattle.permutations.specs.Map.{offEdge, Map, Good, partner-small, offEdge-not-end, offEdge-was, offEdge-other, map-path}
-use Rattle.permutations.specs.Dual.{face-contract, face-remove}
-use Rattle.permutations.specs.Legal.{Op, dart, act, Contract, Remove, around, Legal, around-perm, Whole, good-act, AllLegal, run}
-use Rattle.permutations.specs.Pieces.{Linked, linked-live, act-pieces, only-whole, whole-only, linked-trans, end-linked}
+use Rattle.permutations.proofs.Dual.{face-contract, face-remove}
+use Rattle.permutations.proofs.Legal.{Op, dart, act, Contract, Remove, around, Legal, around-perm, Whole, good-act, AllLegal, run}
+use Rattle.permutations.proofs.Pieces.{Linked, linked-live, act-pieces, only-whole, whole-only, linked-trans, end-linked}
 
 -- ---- the same is left
 

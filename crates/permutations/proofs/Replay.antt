@@ -10,9 +10,9 @@ use lib.Dec.{T, eqb}
 use Rattle.permutations.specs.Choice.{eqb-iff, and-iff}
 use Rattle.permutations.specs.Partner.{partner}
 use Rattle.permutations.specs.Map.{Map, face, Good, contract, partner-small, offEdge, partner-live, offEdge-not-end, offEdge-was, remove, good-remove}
-use Rattle.permutations.specs.Dual.{dual, dual-dual, face-contract, remove-by-dual, good-contract, good-dual}
-use Rattle.permutations.specs.Legal.{Contractible, Contract, Removable, dual-contractible, Whole, Separate, Op, Remove, AllLegal}
-use Rattle.permutations.specs.Tests.{separateTest, separate-iff}
+use Rattle.permutations.proofs.Dual.{dual, dual-dual, face-contract, remove-by-dual, good-contract, good-dual}
+use Rattle.permutations.proofs.Legal.{Contractible, Contract, Removable, dual-contractible, Whole, Separate, Op, Remove, AllLegal}
+use Rattle.permutations.proofs.Tests.{separateTest, separate-iff}
 use Rattle.permutations.specs.Labels.{Labels, Merges, labels-splice, labels-skip, Kept, merge, merge-merges}
 
 pub record Labelled (m : Map) (L F : ℕ → ℕ) : Type 0 where

@@ -11,8 +11,8 @@ use Rattle.permutations.specs.Cycle.{Meets, meets-ind, meets-back, meets
 use Rattle.permutations.specs.Joined.{without-meets, Joined, splice-meets, On}
 use Rattle.permutations.specs.Live.{off}
 use Rattle.permutations.specs.Map.{Map, mate, Good, mate-mate, mate-live, partner-live, next-live, face, offEdge, mate-off-end, mate-off-other, contract, partner-small, remove}
-use Rattle.permutations.specs.Dual.{dual, good-dual, dual-dual, remove-by-dual, good-contract}
-use Rattle.permutations.specs.Legal.{act, Contractible, Contract, Removable, dual-contractible, Whole, Op, Legal, dart, Remove}
+use Rattle.permutations.proofs.Dual.{dual, good-dual, dual-dual, remove-by-dual, good-contract}
+use Rattle.permutations.proofs.Legal.{act, Contractible, Contract, Removable, dual-contractible, Whole, Op, Legal, dart, Remove}
 
 -- "Two darts are in one piece when partner and successor steps join them."
 pub data Linked (m : Map) : ℕ → ℕ → Type 0 where

@@ -22,16 +22,16 @@ use Rattle.permutations.specs.Perm.{Perm, without}
 use Rattle.permutations.specs.Splice.{splice, skip, crossed, swap}
 use Rattle.permutations.specs.Cycle.{meetsIn, meets-iff}
 use Rattle.permutations.specs.Live.{darts, any, off}
-use Rattle.permutations.specs.Classes.{classes}
-use Rattle.permutations.specs.Cycles.{cycles}
+use Rattle.permutations.proofs.Classes.{classes}
+use Rattle.permutations.proofs.Cycles.{cycles}
 use Rattle.permutations.specs.Map.{Map, Good, face, mate, offEdge}
-use Rattle.permutations.specs.Dual.{face-perm}
-use Rattle.permutations.specs.Legal.{Removable, Op, Contract, Remove, AllLegal, run, Whole}
-use Rattle.permutations.specs.Tests.{removeTest, wholeTest, remove-iff}
-use Rattle.permutations.specs.Order.{Same, any-order}
-use Rattle.permutations.specs.Euler.{vertices, faces, survivors, total, vertices-run}
+use Rattle.permutations.proofs.Dual.{face-perm}
+use Rattle.permutations.proofs.Legal.{Removable, Op, Contract, Remove, AllLegal, run, Whole}
+use Rattle.permutations.proofs.Tests.{removeTest, wholeTest, remove-iff}
+use Rattle.permutations.proofs.Order.{Same, any-order}
+use Rattle.permutations.proofs.Euler.{vertices, faces, survivors, total, vertices-run}
 use Rattle.permutations.specs.Labels.{Labels, merge}
-use Rattle.permutations.specs.Replay.{Labelled, judge, judge-iff}
+use Rattle.permutations.proofs.Replay.{Labelled, judge, judge-iff}
 
 abbrev listed : List ℕ → ℕ → ℕ
 listed l x = getD l x x

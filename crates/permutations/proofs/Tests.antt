@@ -12,8 +12,8 @@ use Rattle.permutations.specs.Choice.{and-iff, eqb-iff, or-iff, not-iff}
 use Rattle.permutations.specs.Partner.{partner}
 use Rattle.permutations.specs.Cycle.{meetsIn, Meets, meets-iff}
 use Rattle.permutations.specs.Map.{Map, face, Good}
-use Rattle.permutations.specs.Dual.{face-perm}
-use Rattle.permutations.specs.Legal.{Whole, Separate, Contractible, Removable}
+use Rattle.permutations.proofs.Dual.{face-perm}
+use Rattle.permutations.proofs.Legal.{Whole, Separate, Contractible, Removable}
 
 unfoldable pub wholeTest : Map → ℕ → Bool
 wholeTest m p =

@@ -12,7 +12,7 @@ use Rattle.permutations.specs.Splice.{skip, skip-perm, splice, splice-pe
 use Rattle.permutations.specs.Cycle.{meetsIn, meets-iff, meets-refl, meets-sym, meets-trans, Meets}
 use Rattle.permutations.specs.Joined.{Joined, skip-meets, On, splice-meets}
 use Rattle.permutations.specs.Live.{darts, off, off-ne, off-was, has, darts-has, has-darts, darts-out, off-other, any-has, has-tail, has-head}
-use Rattle.permutations.specs.Classes.{classes, Equiv, joins, joins-iff, classes-drop, classes-ext, classes-perm, classes-join}
+use Rattle.permutations.proofs.Classes.{classes, Equiv, joins, joins-iff, classes-drop, classes-ext, classes-perm, classes-join}
 
 unfoldable pub cycles : ℕ → (ℕ → Bool) → (ℕ → ℕ) → ℕ
 cycles D live f = classes (meetsIn f D) (darts live D)

@@ -1,0 +1,11 @@
+pub mod Apart
+pub mod Classes
+pub mod Cycles
+pub mod Dual
+pub mod Legal
+pub mod Tests
+pub mod Pieces
+pub mod Order
+pub mod Euler
+pub mod Replay
+pub mod Examples
