@@ -75,3 +75,7 @@ noFile at = answered 13 at
 -- 14, "byte nine is neither 0 nor 1", place 8
 abbrev pub noFlag : Answer
 noFlag = answered 14 8
+
+-- 15, "plan size outside the limits, or one cell alone", "place 0" (document 02, request One)
+abbrev pub noPlanSize : Answer
+noPlanSize = answered 15 0

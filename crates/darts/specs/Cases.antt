@@ -1,8 +1,8 @@
 -- The cases of an answer, as the code has them, and the rules' number and place of each.
 --   answerOf a == the answer of the definitions that a case is
-use Rattle.darts.specs.Answers.{Answer as Answered, wrote, noDartCount, needs, noPermutation, noPyramid, emptyKernel, tooManyLevels, noEdge, goneAlready, oneVertex, oneFace, wholePiece, noLevel, noFile, noFlag}
+use Rattle.darts.specs.Answers.{Answer as Answered, wrote, noDartCount, needs, noPermutation, noPyramid, emptyKernel, tooManyLevels, noEdge, goneAlready, oneVertex, oneFace, wholePiece, noLevel, noFile, noFlag, noPlanSize}
 use Rattle.darts.specs.declared.Answer.{Answer}
-use Rattle.darts.specs.declared.Answer.the-variants.{Done, NoDartCount, TooShort, NoPermutation, NoPyramid, EmptyKernel, TooManyLevels, NoEdge, GoneAlready, OneVertex, OneFace, WholePiece, NoLevel, NoFile, NoFlag}
+use Rattle.darts.specs.declared.Answer.the-variants.{Done, NoDartCount, TooShort, NoPermutation, NoPyramid, EmptyKernel, TooManyLevels, NoEdge, GoneAlready, OneVertex, OneFace, WholePiece, NoLevel, NoFile, NoFlag, NoPlanSize}
 
 abbrev pub answerOf : Answer → Answered
 answerOf (Done n) = wrote n
@@ -20,3 +20,4 @@ answerOf (WholePiece i) = wholePiece i
 answerOf (NoLevel top) = noLevel top
 answerOf (NoFile at) = noFile at
 answerOf NoFlag = noFlag
+answerOf NoPlanSize = noPlanSize

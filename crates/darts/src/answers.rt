@@ -25,6 +25,7 @@ impl Answer {
             Answer::NoLevel(_) => 12,
             Answer::NoFile(_) => 13,
             Answer::NoFlag => 14,
+            Answer::NoPlanSize => 15,
         }
     }
 
@@ -48,6 +49,7 @@ impl Answer {
             Answer::NoLevel(top) => top,
             Answer::NoFile(at) => at,
             Answer::NoFlag => 8,
+            Answer::NoPlanSize => 0,
         }
     }
 }

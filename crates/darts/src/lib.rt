@@ -22,6 +22,7 @@ pub enum Answer {
     NoLevel(usize),
     NoFile(usize),
     NoFlag,
+    NoPlanSize,
 }
 
 // The other dart of d's edge: one more for an even dart, one less for an odd one.

@@ -14,7 +14,7 @@ use Rattle.darts.specs.Cases.{answerOf}
 use Rattle.pyramid.specs.Values.{stateOf, left, countsLeft}
 use Rattle.pyramid.specs.declared.State.{State}
 use Rattle.darts.specs.declared.Answer.{Answer}
-use Rattle.darts.specs.declared.Answer.the-variants.{Done, NoDartCount, TooShort, NoPermutation, NoPyramid, EmptyKernel, TooManyLevels, NoEdge, GoneAlready, OneVertex, OneFace, WholePiece, NoLevel, NoFile, NoFlag}
+use Rattle.darts.specs.declared.Answer.the-variants.{Done, NoDartCount, TooShort, NoPermutation, NoPyramid, EmptyKernel, TooManyLevels, NoEdge, GoneAlready, OneVertex, OneFace, WholePiece, NoLevel, NoFile, NoFlag, NoPlanSize}
 use Rattle.pyramid.specs.declared.Outcome.{Outcome}
 use Rattle.pyramid.specs.declared.Counted.{Counted}
 
@@ -34,7 +34,8 @@ answerBack a =
     else if eqb (a .number) 11 then WholePiece (a .place)
     else if eqb (a .number) 12 then NoLevel (a .place)
     else if eqb (a .number) 13 then NoFile (a .place)
-    else NoFlag
+    else if eqb (a .number) 14 then NoFlag
+    else NoPlanSize
 
 answer-back : (a : Answer) → answerBack (answerOf a) ≡ a
 unfolding answerBack
@@ -53,6 +54,7 @@ answer-back (WholePiece i) = refl
 answer-back (NoLevel top) = refl
 answer-back (NoFile at) = refl
 answer-back NoFlag = refl
+answer-back NoPlanSize = refl
 
 pub answer-one : (a b : Answer) → answerOf a ≡ answerOf b → a ≡ b
 answer-one a b e = sym (answer-back a) ∙ ap answerBack e ∙ answer-back b
