@@ -1,0 +1,4 @@
+pub mod Grid
+pub mod Base
+pub mod Plans
+pub mod Worked

@@ -1,0 +1,107 @@
+-- Plans worked by hand: what the two calls on a plan leave, refusals too, as one table under one claim.
+--   Row     == one call on a plan, and all that it leaves
+--   right r == the definitions give what the row says
+--   table   == the rows
+--   worked  == all of them are right
+use mathlib.Core.Bool.{Bool, true, _&&_}
+use mathlib.Core.List.{List, [], _∷_, _++_}
+use mathlib.Core.Path.{_≡_, refl}
+use Prim.Native.Nat.{ℕ, _+_, _*_, _/_}
+use lib.ListN.{replicate}
+use Rattle.slices.specs.Over.{over}
+use Rattle.permutations.specs.Partner.{partner}
+use Rattle.permutations.specs.Cycle.{meetsIn}
+use Rattle.darts.specs.Map.{successor, sameVertex, gone, survives, beforeIn, before}
+use Rattle.darts.specs.Operation.{turned, lead, wholeEdge, contract, operate, number}
+use Rattle.darts.specs.Kernel.{shared, judge, rising, passFrom, pass}
+use Rattle.darts.specs.State.{State, baseState, raised, levelled}
+use Rattle.darts.specs.Pyramid.{sameNumbers, sameState}
+use Rattle.darts.specs.Calls.{After, room, cleared}
+use Rattle.darts.specs.Worked.{answers}
+use Rattle.grids.specs.Grid.{flat, sized, cells, cell, along, rightEdge, upEdge, leftEdge, downEdge, edges}
+use Rattle.grids.specs.Base.{roundOf, rounds, has, nextOr, nextIn, placeOf, cellOf, successorOn, baseTable}
+use Rattle.grids.specs.Plans.{codeAt, oneCode, takesFirst, firstKernel, fittingPlan, begun, onPlan, planBase, planAreas}
+
+pub data Row : Type 0 where
+  -- W wales, C courses, the plan, and how many darts the slices are lent for; then the number, the state, the numbers that are written over the
+  -- first ones of table and history, and how many zeros over the first ones of the work area
+  base areas : ℕ → ℕ → List ℕ → ℕ → ℕ → State → List ℕ → List ℕ → ℕ → Row
+
+-- each slice is one number longer than D darts need
+abbrev nines : ℕ → List ℕ
+nines D = replicate (D + 1) 9
+
+abbrev eights : ℕ → List ℕ
+eights D = replicate (D / 2 + 1) 8
+
+abbrev sevens : ℕ → List ℕ
+sevens D = replicate (4 * D + 1) 7
+
+abbrev leaves : ℕ → ℕ → State → List ℕ → List ℕ → ℕ → After → Bool
+leaves D n s u g z a =
+    answers n 0 (a .answer)
+    && (sameState (a .state) s
+    && (sameNumbers (a .table) (over u (nines D))
+    && (sameNumbers (a .history) (over g (eights D)) && sameNumbers (a .work) (over (replicate z 0) (sevens D)))))
+
+abbrev right : Row → Bool
+right (base W C plan D n s u g z) = leaves D n s u g z (planBase (flat W C) plan (nines D) (eights D) (sevens D))
+right (areas W C plan D n s u g z) = leaves D n s u g z (planAreas (flat W C) plan (nines D) (eights D) (sevens D))
+
+abbrev allRight : List Row → Bool
+allRight [] = true
+allRight (r ∷ rs) = right r && allRight rs
+
+abbrev nothing : State
+nothing = baseState 0
+
+-- one level of so many operations
+abbrev one : ℕ → ℕ → State
+one D n = record { darts = D; operations = n; levels = 1; ends = n ∷ replicate 63 0 }
+
+-- 3 by 2 with two codes, drawn with the highest course first, and its base; the codes from the lowest course on
+--     a b b        4 . 6 .
+--     a a b        0 . 2 .
+abbrev twoCodes : List ℕ
+twoCodes = 97 ∷ 97 ∷ 98 ∷ 97 ∷ 98 ∷ 98 ∷ []
+
+abbrev threeByTwo : List ℕ
+threeByTwo = 8 ∷ 2 ∷ 10 ∷ 12 ∷ 9 ∷ 11 ∷ 5 ∷ 13 ∷ 0 ∷ 4 ∷ 1 ∷ 6 ∷ 3 ∷ 7 ∷ []
+
+abbrev codes : ℕ → List ℕ
+codes n = replicate n 97
+
+abbrev pub table : List Row
+table =
+    -- two cells, one edge: each dart alone at its cell
+    base 2 1 (97 ∷ 98 ∷ []) 2 0 (baseState 2) (0 ∷ 1 ∷ []) [] 8
+    -- three cells upright: the middle one has the dart that goes up, then the one that goes down
+    ∷ base 1 3 (97 ∷ 98 ∷ 99 ∷ []) 4 0 (baseState 4) (0 ∷ 2 ∷ 1 ∷ 3 ∷ []) [] 16
+    ∷ base 3 2 twoCodes 14 0 (baseState 14) threeByTwo [] 56
+    -- a longer plan is not looked at past its cells
+    ∷ base 2 1 (97 ∷ 98 ∷ 99 ∷ []) 2 0 (baseState 2) (0 ∷ 1 ∷ []) [] 8
+    -- 15: "one cell alone", "plan size outside the limits"; before 2
+    ∷ base 1 1 (97 ∷ []) 2 15 nothing [] [] 0
+    ∷ base 129 1 (codes 129) 2 15 nothing [] [] 0
+    ∷ base 1 129 [] 2 15 nothing [] [] 0
+    ∷ base 0 3 [] 2 15 nothing [] [] 0
+    ∷ base 3 0 [] 2 15 nothing [] [] 0
+    ∷ areas 1 1 (97 ∷ []) 2 15 nothing [] [] 0
+    ∷ areas 129 1 (codes 129) 2 15 nothing [] [] 0
+    -- 2: the plan, and the slices
+    ∷ base 2 1 (97 ∷ []) 2 2 nothing [] [] 0
+    ∷ base 1 3 (codes 3) 2 2 nothing [] [] 0
+    ∷ areas 2 1 (97 ∷ []) 2 2 nothing [] [] 0
+    -- 5: no edge of one code, or the one edge is a whole piece
+    ∷ areas 2 1 (97 ∷ 98 ∷ []) 2 5 nothing [] [] 8
+    ∷ areas 2 1 (codes 2) 2 5 nothing [] [] 8
+    ∷ areas 3 2 twoCodes 14 0 (one 14 4) (8 ∷ 2 ∷ 10 ∷ 5 ∷ 2 ∷ 11 ∷ 5 ∷ 13 ∷ 2 ∷ 4 ∷ 4 ∷ 3 ∷ 3 ∷ 5 ∷ []) (1 ∷ 13 ∷ 17 ∷ 25 ∷ []) 56
+    -- one code, 2 by 2: the last edge has one vertex at both ends
+    ∷ areas 2 2 (codes 4) 8 0 (one 8 3) (4 ∷ 6 ∷ 5 ∷ 7 ∷ 6 ∷ 7 ∷ 7 ∷ 6 ∷ []) (1 ∷ 5 ∷ 9 ∷ []) 32
+    -- one code, 1 by 3: the last edge is a whole piece and stays
+    ∷ areas 1 3 (codes 3) 4 0 (one 4 1) (0 ∷ 2 ∷ 2 ∷ 3 ∷ []) (3 ∷ []) 16
+    ∷ []
+
+pub worked : allRight table ≡ true
+unfolding partner meetsIn successor sameVertex gone survives beforeIn before turned lead wholeEdge contract operate number shared judge rising passFrom pass raised levelled sameNumbers sameState room cleared over sized cells cell along rightEdge upEdge leftEdge downEdge edges roundOf rounds has nextOr nextIn placeOf cellOf successorOn baseTable codeAt oneCode takesFirst firstKernel fittingPlan begun onPlan planBase planAreas
+worked = refl
