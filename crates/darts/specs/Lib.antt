@@ -17,3 +17,4 @@ pub mod Read
 pub mod Calls
 pub mod Worked
 pub mod WorkedLent
+pub mod WorkedPass
