@@ -1,4 +1,4 @@
--- Is it a pyramid? The tests of a table of D numbers, a past (the last operation first) and a state, in the order in which a program does them.
+-- Is it a pyramid? The tests of a table of D numbers, a past (the last operation first) and a state: 1 to 17, and the shape of the state.
 -- With h the last operation: p its lead, q p's partner, r and s where p and q lead.
 --   numbered D past       == tests 1 and 2: the history numbers are of darts, and no edge is taken twice
 --   links D t past x      == tests 3 to 5, of dart x: its entry is a dart; a survivor leads to a survivor, to which no lower one leads
