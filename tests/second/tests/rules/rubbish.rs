@@ -40,7 +40,7 @@ fn any_lot(chance: &mut Chance) -> Lot {
 fn answers(lot: &Lot, call: &Call) {
     let mut after = lot.clone();
     let number = after.call(call).answer.number;
-    assert!(number <= 14);
+    assert!(number <= 15);
     if number != 0 {
         assert_eq!((&after.table, &after.history, &after.output), (&lot.table, &lot.history, &lot.output));
     }
