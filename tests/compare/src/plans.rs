@@ -3,6 +3,7 @@
 use crate::chance::Chance;
 use crate::codes::{self, Cells};
 use crate::input::Input;
+use crate::kernels;
 use crate::scene::{needed, Scene};
 use crate::script::Script;
 use crate::small;
@@ -142,7 +143,7 @@ fn large_plan(script: &mut Script, chance: &mut Chance) {
     scene.write_exactly();
     scene.script.word("show");
     let kind = chance.kind();
-    let kernel = crate::kernels::fine(chance, scene.pyramid.map(), kind, 2_000);
+    let kernel = kernels::fine(chance, scene.pyramid.map(), kind, 2_000);
     scene.reduce(kind, &kernel);
     scene.script.word("counts");
     scene.unfold(0);
