@@ -2,7 +2,6 @@
 //!
 //! any_order == the darts in any order, cut into vertices
 //! grown     == edge added to edge: pending edges, empty loops, edges across a face, edges anywhere, new pieces
-//! grid      == cells in wales and courses, joined to their neighbours
 //! chain     == a path
 //! renamed   == the same map under other edge numbers, with any dart of an edge as its even one
 
@@ -87,26 +86,6 @@ pub fn put_after(table: &mut [u32], a: u32, x: u32) {
 /// The dart whose corner (the one between it and its successor) lies so many steps along the face of a's corner.
 fn along_face(table: &[u32], a: u32, steps: u32) -> u32 {
     (0..steps).fold(a, |b, _| partner(table[b as usize]))
-}
-
-/// Cells in so many wales and courses, each joined to its neighbours, numbered as in samples/: the edges along the
-/// courses first, course by course, then the upright ones by their lower cells, with the even dart at the left or lower
-/// cell. Round a cell the successor goes right, up, left, down, as far as there are neighbours.
-pub fn grid(wales: u32, courses: u32) -> Vec<u32> {
-    let along = (wales - 1) * courses;
-    let mut table = vec![0; 2 * (along + wales * (courses - 1)) as usize];
-    for cell in 0..wales * courses {
-        let (wale, course) = (cell % wales, cell / wales);
-        let right = (wale + 1 < wales).then(|| 2 * (cell - course));
-        let up = (course + 1 < courses).then(|| 2 * (along + cell));
-        let left = (wale > 0).then(|| 2 * (cell - course - 1) + 1);
-        let down = (course > 0).then(|| 2 * (along + cell - wales) + 1);
-        let round: Vec<u32> = [right, up, left, down].into_iter().flatten().collect();
-        for (i, &dart) in round.iter().enumerate() {
-            table[dart as usize] = round[(i + 1) % round.len()];
-        }
-    }
-    table
 }
 
 /// A path of so many edges.

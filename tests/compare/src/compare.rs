@@ -15,7 +15,7 @@ pub struct Parting {
     pub ours: String,
 }
 
-/// The programs to compare: `COMMAND NAME` runs the program NAME.
+/// The programs to compare: `COMMAND NAME` runs the program NAME, and `COMMAND plan base` runs `plan` with that word.
 pub struct Others {
     pub command: OsString,
 }
@@ -24,7 +24,7 @@ impl Others {
     /// Runs a program on an input. A program may end before it has read all: the output tells.
     fn run(&self, program: Program, bytes: &[u8]) -> io::Result<(Vec<u8>, ExitStatus)> {
         let mut child = Command::new(&self.command)
-            .arg(program.name())
+            .args(program.name().split(' '))
             .stdin(Stdio::piped())
             .stdout(Stdio::piped())
             .stderr(Stdio::inherit())
@@ -39,7 +39,7 @@ impl Others {
 
     /// Runs each program once on nothing, so that what has to be built is built by one run alone.
     pub fn ready(&self) -> io::Result<()> {
-        for program in [Program::Zones, Program::Levels] {
+        for program in Program::ALL {
             let status = self.run(program, b"")?.1;
             if !status.success() {
                 return Err(io::Error::other(format!("{} cannot be run: {status}", program.name())));

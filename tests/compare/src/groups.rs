@@ -1,7 +1,7 @@
 //! Group == inputs of one sort, each made from its number
 
 use crate::input::Input;
-use crate::{deep, large, lines, reads, reports, small, worked};
+use crate::{deep, drawings, large, lines, plans, reads, reports, small, worked};
 
 pub struct Group {
     pub name: &'static str,
@@ -33,10 +33,10 @@ impl Group {
     }
 }
 
-pub const GROUPS: [Group; 7] = [
+pub const GROUPS: [Group; 9] = [
     Group::new(
         "worked",
-        "document 01's examples, and what one test of a pyramid alone refuses",
+        "document 01's examples, what one test of a pyramid alone refuses, and small plans",
         worked::SCRIPTS,
         worked::SCRIPTS,
         worked::input,
@@ -46,5 +46,7 @@ pub const GROUPS: [Group; 7] = [
     Group::new("deep", "63, 64 and 65 levels", 6, 60, deep::input),
     Group::new("reads", "files for the call read", 12, 120, reads::input),
     Group::new("reports", "files for the program levels", 1_000, 6_000, reports::input),
+    Group::new("plans", "the calls on a plan", 30, 300, plans::input),
+    Group::new("drawings", "drawn plans for the program plan", 1_000, 6_000, drawings::input),
     Group::new("large", "maps of 4,096 to 65,536 darts", 30, 200, large::input),
 ];

@@ -11,6 +11,7 @@ use second::file_write::bytes_of;
 use second::kernel::judge;
 use second::map::Map;
 use second::operation::Kind;
+use second::plan::Grid;
 use second::state::MOST_DARTS;
 
 /// The group's seeds start here.
@@ -104,12 +105,12 @@ fn one_entry_changed(scene: &mut Scene, chance: &mut Chance) {
     scene.script.put("table", dart, &[entry]);
 }
 
-/// A grid of that many darts, or fewer by less than a course's, under its own numbers.
+/// A grid of that many darts, or fewer by less than a course's, under its own numbers. It may be higher than a plan.
 fn plan(chance: &mut Chance, darts: u32) -> Vec<u32> {
     let wales = chance.between(2, 128);
     // A course more adds the upright edges of its cells and the edges along it.
     let courses = 1 + (darts / 2 - (wales - 1)) / (2 * wales - 1);
-    bases::grid(wales, courses)
+    Grid { wales, courses }.table()
 }
 
 fn long_chain(chance: &mut Chance, darts: u32) -> Vec<u32> {

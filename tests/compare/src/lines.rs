@@ -4,8 +4,8 @@
 
 use crate::input::{Input, Program};
 
-/// "The script may be 2,000,000 bytes long."
-const MOST_BYTES: usize = 2_000_000;
+/// "A script is at most 4,000,000 bytes from request One on."
+const MOST_BYTES: usize = 4_000_000;
 
 /// What stands before the line in question, so that an error is not in line 1 and there is something to show.
 const BEFORE: &str = "lend 2 1 8\ntable 0 1 0\nstart 2\n";
@@ -26,7 +26,7 @@ pub fn input(script: usize) -> Input {
     Input::text(Program::Zones, &bytes)
 }
 
-const LINES: [&str; 68] = [
+const LINES: [&str; 97] = [
     // Words.
     "\n", " \n", "nothing\n", "Counts\n", "count\n", "countss\n", " counts\n", "counts \n", "counts\r\n", "counts\t\n",
     "counts 0\n", "sweep 1\n", "undo 1\n", "show 1\n", "bytes 1\n", "counts\0\n", "counts\u{e9}\n",
@@ -43,6 +43,13 @@ const LINES: [&str; 68] = [
     "write 599996\nbytes\n", "write 599997\n", "write 4294967295\n",
     // A file's bytes and the line feed after them.
     "read 0\n\n", "read 3\nabc\n", "read 3\nabcd\n", "read 4\nabc\n", "read 1000\nabc\n", "read 4294967295\nabc\n",
+    // The plan's room and its bytes.
+    "plan\n", "plan 0\n", "plan x\n", "plan 4294967295\n", "plan 4294967296\n", "plan 0 255 0\n", "plan 0 256\n",
+    "plan 0 0255\n", "plan 0 1 4294967295\n", "plan 0 1 4294967552\n", "plan 0 -1\n", "plan 0 1 \n", "plan 16387 7\n",
+    "plan 16388 7\n", "plan 16387 7 7\n", "plan 4294967295 1\n", "flat\n", "flat 2 1\n", "flat 2 1 2 2\n",
+    "flat 2 1 16384\n", "flat 2 1 16385\n", "flat 0 0 16385\n", "flat 4294967295 4294967295 0\n",
+    "flat 2 1 4294967298\n", "flatareas\n", "flatareas 2 1 16385\n", "flatarea 2 1 2\n", "flatareass 2 1 2\n",
+    "flat  2 1 2\n",
 ];
 
 /// Scripts that are in error at their end, or that hold nothing to print.
@@ -52,20 +59,23 @@ const BARE: [&str; 8] = [
 ];
 
 /// Scripts that are too long to write down.
-const LONG: usize = 7;
+const LONG: usize = 9;
 
 fn long(script: usize) -> Vec<u8> {
     let line = match script {
         // "A kernel has at most 32,772 edges; a longer one is an error line."
         0 => format!("contract{}\n", " 0".repeat(32_772)),
         1 => format!("contract{}\n", " 0".repeat(32_773)),
-        // "A script of more than 2,000,000 bytes prints `error=0` and nothing else."
+        // A longer one "prints `error=0` and nothing else."
         2 => line_for(MOST_BYTES),
         3 => line_for(MOST_BYTES + 1),
         4 => line_for(2 * MOST_BYTES),
         // "more than 64 ends"
         5 => format!("state 2 0 0{}\n", " 0".repeat(64)),
-        _ => format!("state 2 0 0{}\n", " 0".repeat(65)),
+        6 => format!("state 2 0 0{}\n", " 0".repeat(65)),
+        // "the plan's room, of 16,388 bytes"
+        7 => format!("plan 0{}\n", " 255".repeat(16_388)),
+        _ => format!("plan 0{}\n", " 255".repeat(16_389)),
     };
     format!("{BEFORE}{line}{AFTER}").into_bytes()
 }

@@ -1,7 +1,8 @@
-//! Runs the proved programs `zones` and `levels` and the second program on the same inputs and compares every byte.
+//! Runs the proved programs `zones`, `levels` and `plan` and the second program on the same inputs and compares every byte.
 //!
 //! - [`chance`]   numbers from a fixed seed
 //! - [`bases`]    maps to start from
+//! - [`codes`]    plans: grids and their codes
 //! - [`kernels`]  kernels proposed for a map
 //! - [`script`]   a script for `zones`
 //! - [`scene`]    a script under way, with the pyramid it has come to
@@ -11,7 +12,8 @@
 //! - [`files`]    good files
 //! - [`spoil`]    files with something wrong
 //! - [`input`]    what one run of a program reads
-//! - [`worked`], [`lines`], [`small`], [`deep`], [`reads`], [`reports`], [`large`]  the inputs, group by group
+//! - [`worked`], [`lines`], [`small`], [`deep`], [`reads`], [`reports`], [`plans`], [`drawings`], [`large`]  the inputs,
+//!   group by group
 //! - [`groups`]   the list of these
 //! - [`compare`]  both programs on one input
 //! - [`round`]    both programs on a group's inputs
@@ -20,16 +22,19 @@
 
 mod bases;
 mod chance;
+mod codes;
 mod compare;
 mod coverage;
 mod damage;
 mod deep;
+mod drawings;
 mod files;
 mod groups;
 mod input;
 mod kernels;
 mod large;
 mod lines;
+mod plans;
 mod reads;
 mod reports;
 mod round;
@@ -55,7 +60,8 @@ const HELP: &str = "\
 usage: compare --through COMMAND [--long] [--only GROUP]
        tests/compare/run [--long] [--only GROUP]             the same through tools/run
 
-Runs `COMMAND zones` and `COMMAND levels` and the second program on the same inputs and compares every byte.
+Runs `COMMAND zones`, `COMMAND levels`, `COMMAND plan` and `COMMAND plan base` and the second program on the same inputs
+and compares every byte.
 A difference is printed with the smallest input found that shows it.
 
   --long         many more inputs
@@ -147,8 +153,8 @@ fn print_difference(others: &Others, input: &Input) -> io::Result<()> {
     match parting {
         Some(parting) => {
             println!("Line {} of what the programs print:", parting.line);
-            println!("  {:7} {}", input.program.name(), parting.theirs);
-            println!("  {:7} {}", "second", parting.ours);
+            println!("  {:9} {}", input.program.name(), parting.theirs);
+            println!("  {:9} {}", "second", parting.ours);
         }
         None => println!("It shows the difference no longer: the program does not print the same each time."),
     }

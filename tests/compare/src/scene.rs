@@ -32,6 +32,11 @@ impl<'a> Scene<'a> {
         Scene { script, pyramid, lent }
     }
 
+    /// A scene that a call on a plan has begun.
+    pub fn held(script: &'a mut Script, pyramid: Pyramid, lent: [u32; 3]) -> Scene<'a> {
+        Scene { script, pyramid, lent }
+    }
+
     /// Starts from the table as it stands; where that is refused, the state is put back.
     pub fn start_again(&mut self) {
         self.script.numbers("start", &[self.darts()]);

@@ -1,7 +1,7 @@
 //! shrunk == the smallest input found that still shows a difference
 
 use crate::compare::Others;
-use crate::input::Input;
+use crate::input::{Input, Program};
 use std::io;
 use std::time::{Duration, Instant};
 
@@ -15,12 +15,19 @@ struct Shrinker<'a> {
     until: Instant,
 }
 
-/// Leaves out commands (of a file: lines), then words of the commands that are left.
+/// Leaves out commands (of a file or a drawing: lines), then words of the commands that are left; of a drawing wales, each
+/// in all its lines at once.
 pub fn shrunk(others: &Others, input: &Input) -> io::Result<Input> {
     let mut shrinker = Shrinker { others, tries: MOST_TRIES, until: Instant::now() + MOST_TIME };
     let mut input = input.clone();
     let whole = input.clone();
     input.pieces = shrinker.fewer(&whole.pieces, |pieces| Input { pieces: pieces.to_vec(), ..whole.clone() })?;
+    if matches!(input.program, Program::Plan | Program::PlanBase) {
+        let whole = input.clone();
+        let wales: Vec<usize> = (0..whole.pieces.iter().map(Vec::len).max().unwrap_or(0)).collect();
+        let wales = shrinker.fewer(&wales, |wales| with_wales(&whole, wales))?;
+        return Ok(with_wales(&whole, &wales));
+    }
     for place in 0..input.pieces.len() {
         let whole = input.clone();
         let words = words(&whole.pieces[place]);
@@ -43,6 +50,15 @@ fn words(piece: &[u8]) -> Vec<Vec<u8>> {
         }
     }
     words
+}
+
+/// The drawing with these wales alone. Line feeds stay.
+fn with_wales(input: &Input, wales: &[usize]) -> Input {
+    let kept = |line: &Vec<u8>| {
+        let bytes = line.iter().enumerate().filter(|(wale, &byte)| byte == b'\n' || wales.contains(wale));
+        bytes.map(|(_, &byte)| byte).collect()
+    };
+    Input { pieces: input.pieces.iter().map(kept).collect(), ..input.clone() }
 }
 
 fn with_piece(input: &Input, place: usize, piece: Vec<u8>) -> Input {

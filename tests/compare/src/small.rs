@@ -27,7 +27,8 @@ pub fn input(script: usize) -> Input {
     Input::script(script)
 }
 
-const STEPS: [(u32, Step); 17] = [
+/// What a map's life has, and how often.
+pub const STEPS: [(u32, Step); 17] = [
     (500, fine_kernel),
     (250, failing_kernel),
     (60, any_kernel),

@@ -1,4 +1,5 @@
-//! Group `worked`: what document 01 works out by hand, and the cases that only one test of a pyramid refuses
+//! Group `worked`: what document 01 works out by hand, the cases that only one test of a pyramid refuses, and plans that can
+//! be followed by eye
 //!
 //! These are fixed. Chance reaches them late or never.
 
@@ -9,12 +10,13 @@ use crate::script::Script;
 use second::operation::kind_of;
 use second::state::State;
 
-pub const SCRIPTS: usize = 2;
+pub const SCRIPTS: usize = 3;
 
 pub fn input(script: usize) -> Input {
     Input::script(match script {
         0 => worked(),
-        _ => no_pyramids(),
+        1 => no_pyramids(),
+        _ => plans(),
     })
 }
 
@@ -146,4 +148,50 @@ fn stated(darts: u32, history: &[u32]) -> State {
         }
     }
     state
+}
+
+/// Each as wales, courses and codes: two cells, rows with the one edge that stays, squares, the brief of samples/, a ring
+/// round a cell, and no two equal neighbours; then sizes that are 15.
+const PLANS: [(u32, u32, &[u8]); 20] = [
+    (2, 1, b"AB"),
+    (2, 1, b"AA"),
+    (1, 2, b"AA"),
+    (1, 3, b"AAA"),
+    (3, 1, b"AAA"),
+    (1, 3, b"AAB"),
+    (1, 3, b"ABB"),
+    (4, 1, b"ABBA"),
+    (2, 2, b"AAAA"),
+    (2, 2, b"ABBA"),
+    (2, 2, b"AAAB"),
+    (3, 2, b"AABACC"),
+    (2, 3, b"ABABAB"),
+    (3, 3, b"AAAABAAAA"),
+    (5, 4, b"LLBRRLBBBRBBBBBWWWWW"),
+    (1, 1, b"A"),
+    (0, 0, b""),
+    (129, 1, &[65; 129]),
+    (1, 129, &[65; 129]),
+    (0, u32::MAX, b"A"),
+];
+
+/// Each plan by both calls, with a level undone, swept, written and read back.
+fn plans() -> Script {
+    let mut script = Script::default();
+    script.lend(needed(62));
+    for (wales, courses, codes) in PLANS {
+        let length = codes.len() as u32;
+        script.put("plan", 0, &codes.iter().map(|&code| u32::from(code)).collect::<Vec<_>>());
+        for word in ["flat", "flatareas"] {
+            // What was left of the call before must not look like what this one leaves.
+            script.word("fill 7");
+            script.put("table", 0, &[8; 4]);
+            script.numbers(word, &[wales, courses, length]);
+            for line in ["show", "counts", "sweep", "write 900", "bytes", "undo", "undo", "show"] {
+                script.word(line);
+            }
+            script.numbers(word, &[wales, courses, length.saturating_sub(1)]);
+        }
+    }
+    script
 }

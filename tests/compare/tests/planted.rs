@@ -70,6 +70,63 @@ const LAST_EDGE_FIRST: Edit = (
     "numbers.iter().rev().map(|&number| edge_of(number))",
 );
 
+/// "Round a cell the successor goes right, up, left, down": left before up.
+const LEFT_BEFORE_UP: Edit = ("plan.rs", "    [right, up, left, down]\n", "    [right, left, up, down]\n");
+
+/// "then the upright ones by their lower cells in the plan's order": wale by wale instead.
+const UPRIGHT_BY_WALES: Edit = (
+    "plan.rs",
+    "        along.chain(upright).collect()\n",
+    "        let mut upright: Vec<_> = upright.collect();
+        upright.sort_unstable();
+        along.chain(upright).collect()\n",
+);
+
+/// "contracted where both ends have the same code": also where two codes are one apart.
+const TWO_CODES: Edit =
+    ("plan.rs", "self.code(one) == self.code(other)", "self.code(one).abs_diff(self.code(other)) < 2");
+
+/// "unless 9 or 11 would be given at its turn": 11 is not looked for, so that the last edge of a row of one code is taken.
+const LAST_EDGE_OF_A_ROW: Edit = (
+    "plan.rs",
+    "judge(&map, Kind::Contract, edge, 0).is_ok()",
+    "!matches!(judge(&map, Kind::Contract, edge, 0), Err(Refusal::OneVertex { .. }))",
+);
+
+/// "unless 9 or 11 would be given at its turn": edges are judged on the base, where no two of them meet twice.
+const JUDGED_ON_THE_BASE: Edit =
+    ("plan.rs", "judge(&map, Kind::Contract, edge, 0).is_ok()", "judge(base, Kind::Contract, edge, 0).is_ok()");
+
+/// "15 .. nothing is written": the work area is cleared.
+const SIZE_CLEARS: Edit =
+    ("calls.rs", "    grid.judge()?;\n", "    grid.judge().inspect_err(|_| lent.work.fill(0))?;\n");
+
+/// "a lent slice is too short": the first call does not need the codes and does not ask for them.
+const CODES_NOT_ASKED_FOR: Edit = (
+    "calls.rs",
+    "of_plan(\"flat\", grid, codes, lent,",
+    "of_plan(\"flat\", grid, &[codes, &[0; 16_384]].concat(), lent,",
+);
+
+/// "answers 5, as a refused start": the base is left in the table.
+const BASE_LEFT_BEHIND: Edit = (
+    "calls.rs",
+    "    let outcome = build(&Plan::lent(grid, codes)?);\n",
+    "    let outcome = build(&Plan::lent(grid, codes)?);
+    lent.table[..grid.darts() as usize].copy_from_slice(&grid.table());\n",
+);
+
+/// The first line drawn is the lowest course.
+const LOWEST_FIRST: Edit = ("drawing.rs", "courses.iter().rev().flat_map", "courses.iter().flat_map");
+
+/// The last line of a drawing needs no line feed.
+const NO_LAST_FEED: Edit =
+    ("drawing.rs", "line.strip_suffix(b\"\\n\").ok_or(number)?", "line.strip_suffix(b\"\\n\").unwrap_or(line)");
+
+/// A line of another length is looked for only where the plan's size is within its limits.
+const SIZE_BEFORE_FORM: Edit =
+    ("drawing.rs", "first.len() != course.len()", "first.len() != course.len() && first.len() < 129");
+
 /// Builds a copy of the second program with these edits.
 fn second_with(name: &str, edits: &[Edit]) -> PathBuf {
     let second = Path::new(env!("CARGO_MANIFEST_DIR")).join("../second");
@@ -100,13 +157,16 @@ fn compare(through: &Path, words: &[&str]) -> Output {
     command.arg("--through").arg(through).args(words).output().expect("compare runs")
 }
 
-/// The group's inputs must show a difference, and the smallest must be no longer than this. Gives what is printed.
+/// The group's inputs must show a difference in this program, with a word after its name or without, and the smallest must
+/// be no longer than this. Gives what is printed.
 fn found(copy: &Path, group: &str, program: &str, most_bytes: usize) -> String {
     let output = compare(copy, &["--only", group]);
     let text = String::from_utf8_lossy(&output.stdout);
     println!("{text}");
     assert_eq!(output.status.code(), Some(1), "exit status");
-    assert!(text.ends_with(&format!("compare: {program} and the second program differ\n")), "last line");
+    let last = text.lines().last().expect("a last line");
+    let differ = last.starts_with(&format!("compare: {program}")) && last.ends_with(" and the second program differ");
+    assert!(differ, "last line");
     let (_, after) = text.split_once("The smallest input found, ").expect("the smallest input");
     let (bytes, _) = after.split_once(" bytes:").expect("its length");
     assert!(bytes.parse::<usize>().expect("a number") <= most_bytes, "the smallest input is small");
@@ -121,10 +181,10 @@ fn no_difference_from_the_second_program_itself() {
     println!("{text}");
     assert_eq!(output.status.code(), Some(0), "exit status");
     let last = text.lines().last().expect("a last line");
-    assert!(last.starts_with("compare: ") && last.ends_with(" files: no difference"), "last line");
+    assert!(last.starts_with("compare: ") && last.ends_with(" drawings: no difference"), "last line");
     let numbers: Vec<u64> = last.split(' ').filter_map(|word| word.parse().ok()).collect();
-    let [_scripts, calls, files] = *numbers else { panic!("three numbers in the last line") };
-    assert!(calls >= 200_000 && files >= 20_300, "as many as promised");
+    let [_scripts, calls, files, drawings] = *numbers else { panic!("four numbers in the last line") };
+    assert!(calls >= 250_000 && files >= 20_300 && drawings >= 1_000, "as many as promised");
 }
 
 #[test]
@@ -150,6 +210,54 @@ fn an_edge_twice_in_a_history_is_found() {
     let text = found(&copy, "worked", "zones", 100);
     assert!(text.contains("\nhistory 0 11 14 5 4\n"), "the copy accepts the case that only this test refuses");
     found(&copy, "small", "zones", 400);
+}
+
+#[test]
+fn a_base_built_wrong_is_found() {
+    for (name, edit) in [("left-before-up", LEFT_BEFORE_UP), ("upright-by-wales", UPRIGHT_BY_WALES)] {
+        let copy = second_with(name, &[edit]);
+        found(&copy, "worked", "zones", 40);
+        found(&copy, "plans", "zones", 60);
+        found(&copy, "drawings", "plan", 12);
+    }
+}
+
+#[test]
+fn a_first_kernel_that_takes_other_edges_is_found() {
+    let copy = second_with("two-codes", &[TWO_CODES]);
+    found(&copy, "worked", "zones", 60);
+    found(&copy, "plans", "zones", 80);
+    found(&copy, "drawings", "plan", 12);
+    for (name, edit) in [("last-edge-of-a-row", LAST_EDGE_OF_A_ROW), ("judged-on-the-base", JUDGED_ON_THE_BASE)] {
+        let copy = second_with(name, &[edit]);
+        found(&copy, "worked", "zones", 40);
+        found(&copy, "plans", "zones", 60);
+        found(&copy, "drawings", "plan", 12);
+    }
+}
+
+#[test]
+fn a_refused_plan_that_leaves_something_is_found() {
+    let faults = [
+        ("size-clears", SIZE_CLEARS),
+        ("codes-not-asked-for", CODES_NOT_ASKED_FOR),
+        ("base-left-behind", BASE_LEFT_BEHIND),
+    ];
+    for (name, edit) in faults {
+        let copy = second_with(name, &[edit]);
+        found(&copy, "worked", "zones", 60);
+        found(&copy, "plans", "zones", 100);
+    }
+}
+
+#[test]
+fn a_drawing_misread_is_found() {
+    let faults =
+        [("lowest-first", LOWEST_FIRST), ("no-last-feed", NO_LAST_FEED), ("size-before-form", SIZE_BEFORE_FORM)];
+    for (name, edit) in faults {
+        let copy = second_with(name, &[edit]);
+        found(&copy, "drawings", "plan", 300);
+    }
 }
 
 /// The copy must stop on map T when these lines follow its start, and say this; and the comparison must find it.

@@ -1,6 +1,6 @@
 //! The samples are what samples/README.md says of them.
 
-use second::{levels, zones};
+use second::{drawing, levels, zones};
 use std::collections::BTreeSet;
 use std::fs;
 use std::path::{Path, PathBuf};
@@ -23,11 +23,17 @@ fn rows() -> Vec<(String, String)> {
 #[test]
 fn every_line_is_the_one_that_is_printed() {
     for (name, line) in rows() {
-        let report = levels::report(&fs::read(samples().join(&name)).expect("a sample"));
-        let top = format!("{line}\nend=ok\n");
-        let refused = format!("{line}\n");
-        let expected = if line.starts_with("refusal=") { report == refused } else { report.ends_with(&top) };
-        assert!(expected, "{name}: {report}");
+        let mut sample = fs::read(samples().join(&name)).expect("a sample");
+        if name.ends_with(".plan") {
+            sample = drawing::areas(&sample);
+        }
+        if !line.starts_with("level=") {
+            let printed = if name.ends_with(".plan") { sample } else { levels::report(&sample).into_bytes() };
+            assert_eq!(String::from_utf8_lossy(&printed), format!("{line}\n"), "{name}");
+            continue;
+        }
+        let report = levels::report(&sample);
+        assert!(report.ends_with(&format!("{line}\nend=ok\n")), "{name}: {report}");
     }
 }
 
@@ -36,7 +42,8 @@ fn every_file_has_its_line() {
     let told: BTreeSet<String> = rows().into_iter().map(|(name, _)| name).collect();
     let files = fs::read_dir(samples()).expect("a folder").map(|file| file.expect("a file").file_name());
     let files: BTreeSet<String> = files.filter_map(|name| name.into_string().ok()).collect();
-    let files: BTreeSet<String> = files.into_iter().filter(|name| name.ends_with(".txt")).collect();
+    let has_line = |name: &String| name.ends_with(".txt") || name.ends_with(".plan");
+    let files: BTreeSet<String> = files.into_iter().filter(has_line).collect();
     assert_eq!(told, files);
 }
 
@@ -45,4 +52,18 @@ fn the_script_of_the_brief_writes_its_file() {
     let printed = zones::run(&fs::read(samples().join("brief.script")).expect("a script"));
     let file = fs::read(samples().join("brief.txt")).expect("a file");
     assert!(printed.ends_with(&file));
+}
+
+#[test]
+fn the_drawing_of_the_brief_is_its_plan() {
+    let drawing = fs::read(samples().join("brief.plan")).expect("a drawing");
+    assert_eq!(drawing::base(&drawing), fs::read(samples().join("brief-plan.txt")).expect("a file"));
+}
+
+#[test]
+fn the_script_of_the_plan_prints_what_is_told() {
+    let printed = zones::run(&fs::read(samples().join("plan.script")).expect("a script"));
+    let text = fs::read_to_string(samples().join("README.md")).expect("a text");
+    let told: String = String::from_utf8_lossy(&printed).lines().map(|line| format!("    {line}\n")).collect();
+    assert!(text.ends_with(&format!("\n\n{told}")), "{told}");
 }

@@ -1,5 +1,5 @@
 //! Answer  == the number and the place that a call gives
-//! Refusal == the answers 1 to 14, case by case
+//! Refusal == the answers 1 to 15, case by case
 
 /// What a call answers.
 #[derive(Clone, Copy, Debug, PartialEq, Eq)]
@@ -48,6 +48,8 @@ pub enum Refusal {
     BadForm { byte: usize },
     /// 14: "byte nine is neither 0 nor 1"
     BadFlag,
+    /// 15: "plan size outside the limits, or one cell alone"
+    PlanSize,
 }
 
 impl Refusal {
@@ -69,7 +71,14 @@ impl Refusal {
             Refusal::NoSuchLevel { top } => (12, top),
             Refusal::BadForm { byte } => (13, byte),
             Refusal::BadFlag => (14, 8),
+            Refusal::PlanSize => (15, 0),
         };
         Answer { number, place }
+    }
+
+    /// What a program prints for a refusal: "one line, `refusal=N place=P`, and no other".
+    pub fn line(self) -> String {
+        let Answer { number, place } = self.answer();
+        format!("refusal={number} place={place}\n")
     }
 }

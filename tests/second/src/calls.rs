@@ -4,6 +4,9 @@
 //! "Order: 1, 2, then 3 or 4, then 12, 6, 5, then the kernel's first failing edge". "A refusal changes nothing but
 //! the work area."
 //!
+//! Request One of document 02 adds two: the base from a plan, and the base from a plan with its first kernel. "15 ..
+//! judged first, place 0, and nothing is written."
+//!
 //! The calls on a state answer from the levels that are kept beside it (`kept`).
 
 use crate::answer::{Answer, Refusal};
@@ -13,6 +16,7 @@ use crate::file_write::bytes_of;
 use crate::kept::Kept;
 use crate::lent::Lent;
 use crate::operation::Kind;
+use crate::plan::{Grid, Plan};
 use crate::pyramid::Pyramid;
 use crate::scan::Scan;
 use crate::state::State;
@@ -84,6 +88,46 @@ fn start_pyramid(darts: u32, lent: &mut Lent) -> Result<Pyramid, Refusal> {
 /// "start from a table"
 pub fn start(darts: u32, lent: &mut Lent, kept: &mut Kept) -> (Answer, State) {
     begin(start_pyramid(darts, lent), kept)
+}
+
+/// What both calls on a plan have in common: 15, then 2 for the slices and for the plan, then what the call itself
+/// builds. The work area is cleared after 5 too; table and history are written only where it is accepted.
+fn of_plan(
+    call: &str,
+    grid: Grid,
+    codes: &[u8],
+    lent: &mut Lent,
+    build: impl FnOnce(&Plan) -> Result<Pyramid, Refusal>,
+) -> Result<Pyramid, Refusal> {
+    grid.judge()?;
+    lent.judge(grid.darts())?;
+    let outcome = build(&Plan::lent(grid, codes)?);
+    lent.clear_work(grid.darts());
+    let pyramid = outcome?;
+    lent.store(&pyramid);
+    agree("after", call, &pyramid, &pyramid.state(), lent);
+    Ok(pyramid)
+}
+
+/// The base that a plan is.
+pub fn flat_pyramid(grid: Grid, codes: &[u8], lent: &mut Lent) -> Result<Pyramid, Refusal> {
+    of_plan("flat", grid, codes, lent, |plan| plan.base())
+}
+
+/// The base that a plan is, with one level over it.
+pub fn flat_areas_pyramid(grid: Grid, codes: &[u8], lent: &mut Lent) -> Result<Pyramid, Refusal> {
+    of_plan("flatareas", grid, codes, lent, |plan| plan.areas())
+}
+
+/// "Base from a stitch plan"
+pub fn flat(grid: Grid, codes: &[u8], lent: &mut Lent, kept: &mut Kept) -> (Answer, State) {
+    begin(flat_pyramid(grid, codes, lent), kept)
+}
+
+/// "A second call builds the base and at once takes a first kernel"; "answers 5, as a refused start, where its kernel
+/// would take no edge"
+pub fn flat_areas(grid: Grid, codes: &[u8], lent: &mut Lent, kept: &mut Kept) -> (Answer, State) {
+    begin(flat_areas_pyramid(grid, codes, lent), kept)
 }
 
 /// "reduce by a kernel"

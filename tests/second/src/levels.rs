@@ -14,10 +14,7 @@ pub fn report(file: &[u8]) -> String {
     let mut lent = Lent { table: &mut table, history: &mut history, work: &mut work };
     match read_pyramid(file, &mut lent) {
         Ok(pyramid) => level_lines(&pyramid),
-        Err(refusal) => {
-            let answer = refusal.answer();
-            format!("refusal={} place={}\n", answer.number, answer.place)
-        }
+        Err(refusal) => refusal.line(),
     }
 }
 

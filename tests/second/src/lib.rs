@@ -1,4 +1,4 @@
-//! The second program: document 01's rules once more, plain and slow, with every level stored in full.
+//! The second program: the rules of documents 01 and 02 once more, plain and slow, with every level stored in full.
 //! It shares no line with the proved library; both read the same scripts and files and must print the same bytes.
 //!
 //! - [`answer`]     an answer: its number and its place; a refusal, case by case
@@ -12,11 +12,13 @@
 //! - [`two_ways`]   the levels kept and the levels derived are the same, or the program stops
 //! - [`counts`]     surviving darts, vertices, faces, Euler number
 //! - [`lent`]       the lent slices: lengths, what is written, what is zeroed
-//! - [`calls`]      the eight calls
+//! - [`plan`]       the map of a plan, and its first kernel
+//! - [`calls`]      the ten calls
 //! - [`scan`]       the bytes of a file from left to right
 //! - [`file_read`]  what a file means
 //! - [`file_write`] a pyramid's file
 //! - [`levels`]     the program `levels`
+//! - [`drawing`]    the program `plan`
 //! - [`script`]     the lines of a script
 //! - [`rooms`]      what the program `zones` holds and lends
 //! - [`zones`]      the program `zones`
@@ -25,6 +27,7 @@ pub mod answer;
 pub mod calls;
 pub mod counts;
 pub mod decide;
+pub mod drawing;
 pub mod file_read;
 pub mod file_write;
 pub mod kept;
@@ -33,6 +36,7 @@ pub mod lent;
 pub mod levels;
 pub mod map;
 pub mod operation;
+pub mod plan;
 pub mod pyramid;
 pub mod rooms;
 pub mod scan;

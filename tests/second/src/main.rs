@@ -1,14 +1,17 @@
-//! The two commands: `second zones` runs a script, `second levels` reports on a file.
+//! The commands: `second zones` runs a script, `second levels` reports on a file, `second plan` makes the file of a drawn
+//! plan.
 
 use std::io::{self, Read, Write};
 use std::process::ExitCode;
 
-use second::{levels, zones};
+use second::{drawing, levels, zones};
 
 const HELP: &str = "\
-usage: second zones  < script    run a script of calls and print one line for each
-       second levels < file      print one line for each level of a file
-       second --help             print this text
+usage: second zones     < script    run a script of calls and print one line for each
+       second levels    < file      print one line for each level of a file
+       second plan      < drawing   print the file of a drawn plan, contracted to its areas of one code
+       second plan base < drawing   print the file of a drawn plan, stitch by stitch
+       second --help                print this text
 ";
 
 fn main() -> io::Result<ExitCode> {
@@ -17,6 +20,8 @@ fn main() -> io::Result<ExitCode> {
     match words.as_slice() {
         ["zones"] => print(&zones::run(&standard_input()?)),
         ["levels"] => print(levels::report(&standard_input()?).as_bytes()),
+        ["plan"] => print(&drawing::areas(&standard_input()?)),
+        ["plan", "base"] => print(&drawing::base(&standard_input()?)),
         ["--help"] => print(HELP.as_bytes()),
         _ => {
             io::stderr().write_all(HELP.as_bytes())?;

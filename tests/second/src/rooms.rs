@@ -1,4 +1,4 @@
-//! Rooms == "four rooms, all zero at the start", and how much of them is lent
+//! Rooms == the rooms of a script, "all zero at the start", and how much of them is lent
 //! None from a function below stands for an error line.
 
 use crate::lent::Lent;
@@ -14,17 +14,20 @@ pub enum Room {
     Work,
 }
 
-/// "table (65,540 numbers), history (32,772), work (262,160), output (600,000 bytes)"
+/// "table (65,540 numbers), history (32,772), work (262,160), output (600,000 bytes)", and "the plan's room, of 16,388
+/// bytes"
 pub struct Rooms {
     table: Vec<u32>,
     history: Vec<u32>,
     work: Vec<u32>,
     output: Vec<u8>,
+    plan: Vec<u8>,
     /// "T, H and W are set by `lend` and start at 0."
     lent: [usize; 3],
 }
 
-/// "A `lend` or `write` that does not leave four numbers (bytes) of the room after it is an error line"
+/// "A `lend` or `write` that does not leave four numbers (bytes) of the room after it is an error line"; the same of a
+/// plan, "N at most 16,384"
 fn leaves_four(lent: usize, room: usize) -> Option<usize> {
     (lent + AFTER <= room).then_some(lent)
 }
@@ -36,6 +39,7 @@ impl Default for Rooms {
             history: vec![0; 32_772],
             work: vec![0; 262_160],
             output: vec![0; 600_000],
+            plan: vec![0; 16_388],
             lent: [0; 3],
         }
     }
@@ -52,18 +56,19 @@ impl Rooms {
         Some(())
     }
 
-    /// Puts the numbers into a room. "without a number put nothing, and I is then not judged"
+    /// Puts the numbers into a room.
     pub fn put(&mut self, room: Room, from: usize, numbers: &[u32]) -> Option<()> {
-        if numbers.is_empty() {
-            return Some(());
-        }
         let room = match room {
             Room::Table => &mut self.table,
             Room::History => &mut self.history,
             Room::Work => &mut self.work,
         };
-        room.get_mut(from..from + numbers.len())?.copy_from_slice(numbers);
-        Some(())
+        put(room, from, numbers)
+    }
+
+    /// Puts the codes into the plan's room.
+    pub fn put_plan(&mut self, from: usize, codes: &[u8]) -> Option<()> {
+        put(&mut self.plan, from, codes)
     }
 
     /// "puts V into the work room's every number"
@@ -73,23 +78,31 @@ impl Rooms {
 
     /// What a call is lent, with no output.
     pub fn lend(&mut self) -> Lent<'_> {
-        self.lend_all(0).0
+        self.lend_all(0, 0).0
+    }
+
+    /// What a call on a plan is lent: the first N bytes of the plan's room too.
+    pub fn lend_plan(&mut self, length: usize) -> Option<(Lent<'_>, &[u8])> {
+        leaves_four(length, self.plan.len())?;
+        let (lent, _, plan) = self.lend_all(0, length);
+        Some((lent, plan))
     }
 
     /// What the writer is lent: N bytes of output too.
     pub fn lend_output(&mut self, length: usize) -> Option<(Lent<'_>, &mut [u8])> {
         leaves_four(length, self.output.len())?;
-        Some(self.lend_all(length))
+        let (lent, output, _) = self.lend_all(length, 0);
+        Some((lent, output))
     }
 
-    fn lend_all(&mut self, output: usize) -> (Lent<'_>, &mut [u8]) {
+    fn lend_all(&mut self, output: usize, plan: usize) -> (Lent<'_>, &mut [u8], &[u8]) {
         let [table, history, work] = self.lent;
         let lent = Lent {
             table: &mut self.table[..table],
             history: &mut self.history[..history],
             work: &mut self.work[..work],
         };
-        (lent, &mut self.output[..output])
+        (lent, &mut self.output[..output], &self.plan[..plan])
     }
 
     /// The first so many numbers of the table, T at most.
@@ -118,6 +131,15 @@ impl Rooms {
             checksum(&self.output[..output + AFTER]),
         )
     }
+}
+
+/// "without a number put nothing, and I is then not judged"
+fn put<N: Copy>(room: &mut [N], from: usize, numbers: &[N]) -> Option<()> {
+    if numbers.is_empty() {
+        return Some(());
+    }
+    room.get_mut(from..from + numbers.len())?.copy_from_slice(numbers);
+    Some(())
 }
 
 /// "start with 0, and for each number v: c := (c * 31 + v + 1) mod 4294967291"

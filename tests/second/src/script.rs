@@ -2,6 +2,7 @@
 //! Commands == the commands of a script one after another; nothing in the place of one stands for an error line
 
 use crate::operation::Kind;
+use crate::plan::Grid;
 use crate::rooms::Room;
 use crate::state::{State, MOST_LEVELS};
 
@@ -12,9 +13,12 @@ const MOST_EDGES: usize = 32_772;
 pub enum Command<'a> {
     Lend { table: usize, history: usize, work: usize },
     Put { room: Room, from: usize, numbers: Vec<u32> },
+    PutPlan { from: usize, codes: Vec<u8> },
     Fill(u32),
     State(Box<State>),
     Start(u32),
+    Flat { grid: Grid, length: usize },
+    FlatAreas { grid: Grid, length: usize },
     Reduce(Kind, Vec<u32>),
     Sweep,
     Undo,
@@ -64,9 +68,16 @@ impl<'a> Commands<'a> {
             (b"table", numbers) => put(Room::Table, numbers),
             (b"history", numbers) => put(Room::History, numbers),
             (b"work", numbers) => put(Room::Work, numbers),
+            (b"plan", numbers) => put_plan(numbers),
             (b"fill", &[value]) => Some(Command::Fill(value)),
             (b"state", numbers) => state(numbers).map(|state| Command::State(Box::new(state))),
             (b"start", &[darts]) => Some(Command::Start(darts)),
+            (b"flat", &[wales, courses, length]) => {
+                Some(Command::Flat { grid: Grid { wales, courses }, length: length as usize })
+            }
+            (b"flatareas", &[wales, courses, length]) => {
+                Some(Command::FlatAreas { grid: Grid { wales, courses }, length: length as usize })
+            }
             (b"contract", edges) => reduce(Kind::Contract, edges),
             (b"remove", edges) => reduce(Kind::Remove, edges),
             (b"sweep", []) => Some(Command::Sweep),
@@ -108,6 +119,13 @@ fn number(word: &[u8]) -> Option<u32> {
 fn put<'a>(room: Room, numbers: &[u32]) -> Option<Command<'a>> {
     let (&from, numbers) = numbers.split_first()?;
     Some(Command::Put { room, from: from as usize, numbers: numbers.to_vec() })
+}
+
+/// "`plan I V V ..`: puts the bytes (0 to 255) into the plan's room .. from place I on"
+fn put_plan<'a>(numbers: &[u32]) -> Option<Command<'a>> {
+    let (&from, numbers) = numbers.split_first()?;
+    let codes = numbers.iter().map(|&number| u8::try_from(number).ok()).collect::<Option<_>>()?;
+    Some(Command::PutPlan { from: from as usize, codes })
 }
 
 /// "`state D N L E E ...`: darts, operations, levels, then level ends; ends that are not given are 0"

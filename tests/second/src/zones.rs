@@ -9,15 +9,15 @@ use crate::rooms::{checksum, Room, Rooms};
 use crate::script::{Command, Commands};
 use crate::state::{State, MOST_LEVELS};
 
-/// "The script may be 2,000,000 bytes long."
-const MOST_BYTES: usize = 2_000_000;
+/// "A script is at most 4,000,000 bytes from request One on."
+const MOST_BYTES: usize = 4_000_000;
 
 /// What a script prints.
 pub fn run(script: &[u8]) -> Vec<u8> {
     Zones::after(script).printed
 }
 
-/// "The program holds a state and four rooms, all zero at the start". Beside them it keeps the levels.
+/// "The program holds a state and" the rooms, "all zero at the start". Beside them it keeps the levels.
 #[derive(Default)]
 pub struct Zones {
     state: State,
@@ -33,7 +33,7 @@ impl Zones {
     /// `error=` and its number, from 1, and ends the program."
     pub fn after(script: &[u8]) -> Zones {
         let mut zones = Zones::default();
-        // "A script of more than 2,000,000 bytes prints `error=0` and nothing else."
+        // A longer one "prints `error=0` and nothing else."
         if script.len() > MOST_BYTES {
             zones.print("error=0\n");
             return zones;
@@ -58,9 +58,16 @@ impl Zones {
         match command {
             Command::Lend { table, history, work } => self.rooms.set_lent(table, history, work)?,
             Command::Put { room, from, numbers } => self.put(room, from, &numbers)?,
+            Command::PutPlan { from, codes } => self.rooms.put_plan(from, &codes)?,
             Command::Fill(value) => self.rooms.fill(value),
             Command::State(state) => self.set_state(*state),
             Command::Start(darts) => self.call(|_, lent, kept| calls::start(darts, lent, kept)),
+            Command::Flat { grid, length } => {
+                self.on_plan(length, |codes, lent, kept| calls::flat(grid, codes, lent, kept))?;
+            }
+            Command::FlatAreas { grid, length } => {
+                self.on_plan(length, |codes, lent, kept| calls::flat_areas(grid, codes, lent, kept))?;
+            }
             Command::Reduce(kind, edges) => {
                 self.call(|state, lent, kept| calls::reduce(state, kind, &edges, lent, kept));
             }
@@ -103,11 +110,28 @@ impl Zones {
     }
 
     /// "The state is the one handed back, which the script then holds." "A call other than `write` is lent no output".
-    fn call(&mut self, call: impl FnOnce(&State, &mut Lent, &mut Kept) -> (Answer, State)) {
-        let (answer, state) = call(&self.state, &mut self.rooms.lend(), &mut self.kept);
+    fn handed(&mut self, answer: Answer, state: State) {
         self.state = state;
         self.print_answer(answer, 0);
         self.print("\n");
+    }
+
+    /// A call that hands back a state.
+    fn call(&mut self, call: impl FnOnce(&State, &mut Lent, &mut Kept) -> (Answer, State)) {
+        let (answer, state) = call(&self.state, &mut self.rooms.lend(), &mut self.kept);
+        self.handed(answer, state);
+    }
+
+    /// A call on a plan. "The plan that is lent is the room's first N bytes, N at most 16,384."
+    fn on_plan(
+        &mut self,
+        length: usize,
+        call: impl FnOnce(&[u8], &mut Lent, &mut Kept) -> (Answer, State),
+    ) -> Option<()> {
+        let (mut lent, codes) = self.rooms.lend_plan(length)?;
+        let (answer, state) = call(codes, &mut lent, &mut self.kept);
+        self.handed(answer, state);
+        Some(())
     }
 
     /// "`counts` puts ` darts=X vertices=X faces=X euler=X` at the end of it."

@@ -40,6 +40,16 @@ fn zones_reads_standard_input() {
 }
 
 #[test]
+fn plan_reads_standard_input() {
+    let base = "numbers=0\ndarts=4\nlevels=0\npair=0 2\npair=1 3\n";
+    prints(&["plan", "base"], "A\nA\nA\n", base);
+    prints(&["plan"], "A\nA\nA\n", "numbers=0\ndarts=4\nlevels=1\nkernel=contract 1\npair=2 1\npair=2 3\n");
+    prints(&["plan"], "", "refusal=15 place=0\n");
+    prints(&["plan"], "AB\nBA\n", "refusal=5 place=0\n");
+    prints(&["plan", "base"], "AB\nA\n", "error=2\n");
+}
+
+#[test]
 fn help_is_printed_when_asked_for() {
     let output = started(&["--help"], "");
     assert_eq!(output.status.code(), Some(0));
@@ -49,7 +59,18 @@ fn help_is_printed_when_asked_for() {
 
 #[test]
 fn an_unknown_word_gets_help_on_standard_error() {
-    let starts: [&[&str]; 6] = [&[], &["zone"], &["levels", "x"], &["zones", "levels"], &["--help", "x"], &[""]];
+    let starts: [&[&str]; 10] = [
+        &[],
+        &["zone"],
+        &["levels", "x"],
+        &["zones", "levels"],
+        &["plan", "areas"],
+        &["plan", ""],
+        &["plan", "base", "base"],
+        &["base"],
+        &["--help", "x"],
+        &[""],
+    ];
     for words in starts {
         let output = started(words, "");
         assert_eq!(output.status.code(), Some(2));

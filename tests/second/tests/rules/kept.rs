@@ -52,6 +52,16 @@ fn start_keeps_the_base() {
 }
 
 #[test]
+fn flat_keeps_the_base_and_flatareas_a_level_over_it() {
+    let plan = "lend 8 4 32\nplan 0 65 65 65 65\n";
+    let (base, top) = ([4, 6, 5, 7, 0, 2, 1, 3], [4, 6, 5, 7, 6, 7, 7, 6]);
+    keeps(&format!("{plan}flat 2 2 4\n"), &[base], &[0], &[]);
+    keeps(&format!("{K7}{plan}flat 2 2 4\n"), &[base], &[0], &[]);
+    keeps(&format!("{plan}flatareas 2 2 4\n"), &[base, top], &[0, 3], &[1, 5, 9]);
+    keeps(&format!("{plan}flatareas 2 2 4\nplan 0 66\nundo\n"), &[base], &[0], &[]);
+}
+
+#[test]
 fn reduce_and_sweep_put_a_level_on() {
     keeps(&format!("{BASE}contract 0 1\n"), &[T, ONE], &[0, 2], &[1, 5]);
     keeps_k7("");
@@ -100,8 +110,11 @@ fn a_refused_call_keeps_them() {
 }
 
 #[test]
-fn a_refused_start_or_read_hands_back_zeros_and_drops_them() {
+fn a_refused_start_read_or_plan_hands_back_zeros_and_drops_them() {
     for lines in ["start 8\n", "start 7\n", "read 0\n\n", "lend 7 4 32\nstart 8\n"] {
+        drops(lines);
+    }
+    for lines in ["flat 1 1 4\n", "flatareas 129 2 4\n", "flat 2 2 3\n", "plan 0 1 2\nflatareas 2 1 2\n"] {
         drops(lines);
     }
     drops(&format!("lend 7 4 32\nread {}\n{K12}\n", K12.len()));
@@ -126,6 +139,7 @@ fn numbers_that_no_call_looks_at_keep_them() {
         keeps_k7(lines);
     }
     keeps_k7("table 0\nhistory 0\nwork 0\ntable 4294967295\n");
+    keeps_k7("plan 0 1 2 3\n");
     // Past the count, though a level that is undone had it.
     keeps(&format!("{K7}undo\nhistory 2 9\n"), &[T, ONE], &[0, 2], &[1, 5]);
     keeps(&format!("{BASE}history 0 9\n"), &[T], &[0], &[]);

@@ -1,4 +1,4 @@
-//! The second program tried against document 01.
+//! The second program tried against documents 01 and 02.
 //!
 //! - `support`     what a call is lent and what it leaves; maps; chance
 //! - `worked`      K1 to K12
@@ -7,23 +7,27 @@
 //! - `no_pyramid`  answer 4: the table of seventeen tests, and faults of shape
 //! - `every_small` every table and history of up to 6 darts against the words of document 01
 //! - `undoing`, `any_order`, `files`, `cycles`  random pyramids over maps of up to 12 darts
+//! - `plans`       the calls on a plan: bases, first kernels against areas found by flooding, answers
+//! - `drawings`    the program `plan`
 //! - `kept`        the levels kept from call to call: after which call which, and what drops them
 //! - `two_ways`    the levels kept and the levels derived: they agree, and a difference stops the program
 //! - `rubbish`     random numbers anywhere never stop the program
 //! - `reader`      the file's form, fault by fault
 //! - `levels`      the program `levels`
 //! - `scripts`     the program `zones`
-//! - `commands`    the two commands as they are started
+//! - `commands`    the commands as they are started
 
 mod accepted;
 mod any_order;
 mod commands;
 mod cycles;
+mod drawings;
 mod every_small;
 mod files;
 mod kept;
 mod levels;
 mod no_pyramid;
+mod plans;
 mod reader;
 mod refusals;
 mod rubbish;

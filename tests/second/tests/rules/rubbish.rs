@@ -40,7 +40,7 @@ fn any_lot(chance: &mut Chance) -> Lot {
 fn answers(lot: &Lot, call: &Call) {
     let mut after = lot.clone();
     let number = after.call(call).answer.number;
-    assert!(number <= 14);
+    assert!(number <= 15);
     if number != 0 {
         assert_eq!((&after.table, &after.history, &after.output), (&lot.table, &lot.history, &lot.output));
     }
@@ -86,6 +86,7 @@ fn any_line(chance: &mut Chance) -> String {
     let by_hand = [
         "table 0 5 2 1 4 6 0 3 7", "table 2 5 4 6 4 6 7", "table 7 7", "table 8 1", "history 0 1 5", "history 2 10",
         "history 3 9", "state 8 3 2 2 3", "state 8 2 1 2", "state 8 0 0", "lend 8 4 32", "fill 9", "start 8",
+        "plan 0 1 1 1 1", "plan 1 2", "flat 2 2 4", "flatareas 2 2 4", "flatareas 1 4 4", "flat 1 1 4", "flat 2 3 6",
     ];
     match chance.below(8) {
         0 => format!("table {} {}\n", chance.below(8), chance.below(9)),

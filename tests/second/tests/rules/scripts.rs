@@ -132,6 +132,35 @@ fn a_file_is_written_shown_and_read() {
 }
 
 #[test]
+fn a_plan_is_built_and_goes_on() {
+    let script = "lend 8 4 32\nplan 0 1 1 2 255\nplan 2 1 1\nflat 2 2 4\nshow\nflatareas 2 2 16384\nshow\ncounts\nundo\n\
+                  show\nplan 1 2\nplan 2 2\nflatareas 2 2 4\nflat 1 1 4\nflat 2 2 3\nflat 2 2 4\nlend 7 4 32\nflatareas 2 2 4\n";
+    let lines = short(script);
+    let expected = [
+        "answer=0 place=0 state=8 0 0", "state=8 0 0", "table=4 6 5 7 0 2 1 3", "history=",
+        "answer=0 place=0 state=8 3 1", "state=8 3 1 3", "table=4 6 5 7 6 7 7 6", "history=1 5 9",
+        "answer=0 place=0 state=8 3 1", "answer=0 place=0 state=8 0 0", "state=8 0 0", "table=4 6 5 7 0 2 1 3",
+        "history=", "answer=5 place=0 state=0 0 0", "answer=15 place=0 state=0 0 0", "answer=2 place=0 state=0 0 0",
+        "answer=0 place=0 state=8 0 0", "answer=2 place=0 state=0 0 0",
+    ];
+    assert_eq!(lines, expected);
+}
+
+#[test]
+fn a_call_on_a_plan_prints_the_usual_line() {
+    let script = "lend 4 2 16\nfill 5\nplan 0 9 9 9\nflat 1 1 3\nflatareas 1 3 3\n";
+    let fives = sum(&[5; 20]);
+    let line = |answer: &str, table: &[u64], history: &[u64], ends: &[u64], work: u64| {
+        let (ends, table, history) = (sum_to(64, ends), sum_to(8, table), sum_to(6, history));
+        format!("{answer} ends={ends} table={table} history={history} work={work} output=30784\n")
+    };
+    let cleared = sum(&[[0; 16].as_slice(), &[5; 4]].concat());
+    let refused = line("answer=15 place=0 state=0 0 0", &[], &[], &[], fives);
+    let done = line("answer=0 place=0 state=4 1 1", &[0, 2, 2, 3], &[3], &[1], cleared);
+    assert_eq!(printed(script), refused + &done);
+}
+
+#[test]
 fn a_shorter_write_is_shown_alone() {
     let two = "lend 8 4 32\ntable 0 1 0\nstart 2\nwrite 100\nbytes\n";
     let text = printed(&format!("{T_LENT}start 8\nwrite 100\n{two}"));
@@ -155,9 +184,14 @@ fn numbers_may_have_leading_zeros() {
 #[test]
 fn the_ends_of_the_rooms_can_be_used() {
     let script = "lend 65536 32768 262156\ntable 65539 1\nhistory 32770 1 2\nwork 262159 1\ntable 4294967295\n\
-                  history 4294967295\nwork 4294967295\nstate 1 2 3";
+                  history 4294967295\nwork 4294967295\nplan 16387 255\nplan 4294967295\nstate 1 2 3";
     assert_eq!(printed(&format!("{script}{}\n", " 0".repeat(64))), "");
     assert_eq!(short("write 599996\n"), ["answer=1 place=0 state=0 0 0"]);
+    assert_eq!(
+        short("flat 4294967295 0 16384\nflatareas 1 2 0\n"),
+        ["answer=15 place=0 state=0 0 0", "answer=2 place=0 state=0 0 0"]
+    );
+    assert_eq!(printed(&format!("plan 0{}\n", " 255".repeat(16_388))), "");
     assert_eq!(short(&format!("contract{}\n", " 1".repeat(32_772))), ["answer=1 place=0 state=0 0 0"]);
 }
 
@@ -175,6 +209,10 @@ fn error_lines() {
         "contract \n", "contract 1,2\n", "contract 4294967296\n", "remove x\n", "sweep 1\n", "undo 1\n", "unfold\n",
         "unfold 1 2\n", "counts 1\n", "read\n", "read 1\n", "read 1\n\n", "read 1\nab\n", "read 0\n",
         "read 4294967295\nabc\n", "read 3\nabc", "write\n", "write 1 2\n", "write 599997\n", "write 4294967295\n",
+        "plan\n", "plan x\n", "plan 0 256\n", "plan 0 1 4294967295\n", "plan 16388 1\n", "plan 16387 1 2\n",
+        "plan 4294967295 1\n", "plan 4294967296\n", "plan 0 -1\n", "plan 0 1 \n", "plan 0 A\n", "flat\n", "flat 2 2\n",
+        "flat 2 2 4 4\n", "flat 2 2 16385\n", "flat 0 0 16385\n", "flatareas\n", "flatareas 2 2\n",
+        "flatareas 2 2 4294967295\n", "flatareas 2 2 4 4\n", "flatarea 2 2 4\n", "flat areas 2 2 4\n", "tube 2 2 4\n",
         "zones\n", "\u{e4}\n", &too_many_ends, &too_many_edges,
     ];
     for line in errors {
@@ -189,11 +227,11 @@ fn nothing_follows_an_error_line() {
 }
 
 #[test]
-fn a_script_may_have_two_million_bytes() {
+fn a_script_may_have_four_million_bytes() {
     let line = "fill 1\n";
-    let script = line.repeat(2_000_000 / line.len()) + "x";
-    let script = format!("{}{script}", "\n".repeat(2_000_000 - script.len()));
-    assert_eq!(script.len(), 2_000_000);
+    let script = line.repeat(4_000_000 / line.len() - 1) + "x";
+    let script = format!("{}{script}", "\n".repeat(4_000_000 - script.len()));
+    assert_eq!(script.len(), 4_000_000);
     assert_eq!(printed(&script), "error=1\n");
     assert_eq!(printed(&format!("{script}\n")), "error=0\n");
 }

@@ -1,4 +1,4 @@
-//! Call == one of the eight calls with its own numbers
+//! Call == one of the ten calls with its own numbers
 //! Lot  == a state with everything a call is lent; past what document 01 asks for, and in the work area, stand marks
 //! Left == what a call gave back
 //!
@@ -10,6 +10,7 @@ use second::counts::Counts;
 use second::kept::Kept;
 use second::lent::Lent;
 use second::operation::Kind;
+use second::plan::Grid;
 use second::pyramid::Pyramid;
 use second::state::State;
 
@@ -19,6 +20,8 @@ pub const MARK: u32 = 77;
 #[derive(Clone, Copy, Debug)]
 pub enum Call<'a> {
     Start(u32),
+    Flat(Grid, &'a [u8]),
+    FlatAreas(Grid, &'a [u8]),
     Reduce(Kind, &'a [u32]),
     Sweep,
     Undo,
@@ -121,6 +124,8 @@ impl Lot {
         let mut counts = Counts::default();
         let (answer, state) = match *call {
             Call::Start(darts) => calls::start(darts, &mut lent, kept),
+            Call::Flat(grid, codes) => calls::flat(grid, codes, &mut lent, kept),
+            Call::FlatAreas(grid, codes) => calls::flat_areas(grid, codes, &mut lent, kept),
             Call::Reduce(kind, edges) => calls::reduce(&given, kind, edges, &mut lent, kept),
             Call::Sweep => calls::sweep(&given, &mut lent, kept),
             Call::Undo => calls::undo(&given, &mut lent, kept),
@@ -153,7 +158,7 @@ impl Lot {
         assert_eq!(left.counts, Counts::default(), "{call:?}");
         let mut expected = self.clone();
         expected.work[..zeroed].fill(0);
-        if matches!(call, Call::Start(_) | Call::Read(_)) {
+        if matches!(call, Call::Start(_) | Call::Flat(..) | Call::FlatAreas(..) | Call::Read(_)) {
             expected.state = State::ZERO;
         }
         assert_eq!(after, expected, "{call:?}");
