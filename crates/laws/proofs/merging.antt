@@ -1,3 +1,7 @@
 pub mod Turns
 pub mod Taken
 pub mod Stands
+pub mod Joined
+pub mod Joins
+pub mod Closes
+pub mod Pieces

@@ -50,6 +50,10 @@ taken-rises takes k D t past e (suc n) =
     go true on over r s = (omega arith, r)
     go false on over r s = rises-from e (suc e) over (omega arith) s
 
+pub none-taken : (e : ℕ) → ¬ (Taken [] e)
+unfolding has any
+none-taken e k = k
+
 has-first : (x e : ℕ) (es : List ℕ) → Taken (x ∷ es) e ↔ ((e ≡ x) ⊎ Taken es e)
 unfolding has any
 has-first x e es = or-iff (eqb e x) (has es e) (eqb-iff e x) Iff·rfl
