@@ -5,3 +5,8 @@ pub mod Joined
 pub mod Joins
 pub mod Closes
 pub mod Pieces
+pub mod Counts
+pub mod Level
+pub mod OneStays
+pub mod Laws
+pub mod Areas

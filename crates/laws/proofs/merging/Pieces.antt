@@ -9,8 +9,8 @@ use mathlib.Core.Bool.{Bool, true}
 use mathlib.Core.List.{List, [], _∷_}
 use mathlib.Core.Logic.{_⊎_, _↔_, inl, inr, ⊎-elim, Iff·rfl, Iff·trans}
 use mathlib.Core.Path.{_≡_, refl, sym, ap, _∙_, subst, subst₃}
-use Prim.Native.Nat.{ℕ, zero, suc, _*_, _/_, _<_, _≤_}
-use native.Mathlib.Decide.{decLt}
+use Prim.Native.Nat.{ℕ, zero, suc, _+_, _*_, _/_, _<_, _≤_}
+use native.Mathlib.Decide.{ℕ-discrete, decLt}
 use native.Mathlib.Omega.{arith}
 use lib.Dec.{T}
 use lib.ListN.{length}
@@ -38,8 +38,11 @@ OnePiece D t = (x y : ℕ) → x < D → y < D → T (samePiece D t x y)
 pub record AllBut (D : ℕ) (es u past : List ℕ) (e : ℕ) : Type 0 where
   pub last : suc e ≡ D / 2
   pub others : es ≡ rising 0 e
+  pub taken : (d : ℕ) → d < D / 2 → (d ≡ e) ⊎ Taken es d
   pub count : length past ≡ e
   pub whole : judge contraction D u past e ≡ 11
+  pub lives : T (live D past (2 * e)) × T (live D past (2 * e + 1))
+  pub only : (x : ℕ) → T (live D past x) → (x ≡ 2 * e) ⊎ (x ≡ 2 * e + 1)
 
 live-was : (D : ℕ) (past : List ℕ) (p x : ℕ) → T (live D (number contraction p ∷ past) x) → T (live D past x)
 live-was D past p x l = offEdge-was (live D past) p x (subst (λ f. T (f x)) (live-after contraction D past p) l)
@@ -48,6 +51,14 @@ length-rising : (e n : ℕ) → length (rising e n) ≡ n
 unfolding rising
 length-rising e zero = refl
 length-rising e (suc n) = ap suc (length-rising (suc e) n)
+
+-- the darts of edge e
+pub halves : (x e : ℕ) → x / 2 ≡ e → (x ≡ 2 * e) ⊎ (x ≡ 2 * e + 1)
+halves x e k = go (ℕ-discrete x (2 * e))
+  where
+    go : Dec (x ≡ 2 * e) → (x ≡ 2 * e) ⊎ (x ≡ 2 * e + 1)
+    go (yes h) = inl h
+    go (no n) = inr (omega arith)
 
 -- the turns lead to one place
 turns-one : {D : ℕ} {same : ℕ → Bool} {t : List ℕ} {m : ℕ} {es u past fs v new : List ℕ} → Merged D same t m es u past → Merged D same t m fs v new → (es ≡ fs) × ((u ≡ v) × (past ≡ new))
@@ -95,7 +106,17 @@ module _ {D : ℕ} {same : ℕ → Bool} {t : List ℕ} (S : Standing D t []) wh
 
     -- IN ONE PIECE, WHERE AN EDGE IS A WHOLE PIECE AT ITS TURN, IT IS THE LAST, AND ALL THE OTHERS WERE TAKEN
     whole-all-but : AllBut D es u past e
-    whole-all-but = record { last = whole-last; others = whole-edges; count = turns-count P ∙ ap length whole-edges ∙ length-rising 0 e; whole = whole }
+    whole-all-but = record {
+      last = whole-last;
+      others = whole-edges;
+      taken = others-taken;
+      count = turns-count P ∙ ap length whole-edges ∙ length-rising 0 e;
+      whole = whole;
+      lives = until P e (omega arith) below;
+      only = λ x l.
+          let (h, stays) = turns-live P x .0 l in
+          ⊎-elim (λ k. halves x e k) (λ k. absurd (stays k)) (others-taken (x / 2) (omega (arith, S .even)));
+    }
 
   -- ---- survivors
 
