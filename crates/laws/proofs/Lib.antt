@@ -7,3 +7,4 @@ pub mod file
 pub mod calls
 pub mod sentences
 pub mod chained
+pub mod merging

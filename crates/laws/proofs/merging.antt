@@ -1,0 +1,12 @@
+pub mod Turns
+pub mod Taken
+pub mod Stands
+pub mod Joined
+pub mod Joins
+pub mod Closes
+pub mod Pieces
+pub mod Counts
+pub mod Level
+pub mod OneStays
+pub mod Laws
+pub mod Areas
