@@ -8,3 +8,4 @@ pub mod Cells
 pub mod Successors
 pub mod Limits
 pub mod PlanBase
+pub mod OnePiece
