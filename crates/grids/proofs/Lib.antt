@@ -4,6 +4,7 @@ pub mod Four
 pub mod Places
 pub mod Rounds
 pub mod Sides
+pub mod Edges
 pub mod Cells
 pub mod Successors
 pub mod Limits

@@ -15,7 +15,8 @@ use Rattle.darts.specs.Pyramid.{dartCount}
 use Rattle.darts.proofs.Fitting.{count-test}
 use Rattle.grids.specs.Grid.{Grid, sized, cells, along, edges, dartsOf}
 use Rattle.grids.proofs.Sides.{goesRight, goesUp, goesLeft, goesDown, Side, along-closed, along-flat}
-use Rattle.grids.proofs.Cells.{At, is-cell, at-below, side-at}
+use Rattle.grids.proofs.Edges.{is-cell}
+use Rattle.grids.proofs.Cells.{At, at-below, side-at}
 
 -- "1 to 128 wales by 1 to 128 courses"; where it closes, "2 to 128 wales round". "or one cell alone"
 pub record Limits (g : Grid) : Type 0 where
@@ -64,7 +65,7 @@ module _ (g : Grid) (s : T (sized g)) where
       go (no r) (no u) (yes t) w = (_, inr (inr (inl (t, refl))))
       go (no r) (no u) (no l) (yes t) = (_, inr (inr (inr (t, refl))))
       go (no r) (no u) (no l) (no w) =
-          let i = nleb→lt 1 x (not-T (leb 1 x) (λ t. l (or-intro (leb 1 x) (g .closes) (inl t)))) in
+          let i = nleb→lt 1 x (not-T (leb 1 x) (λ t. l (or-intro (g .closes) (leb 1 x) (inr t)))) in
           let j = nleb→lt 1 y (not-T (leb 1 y) w) in
           let a = nltb→le (x + 1) (g .wales) (not-T (ltb (x + 1) (g .wales)) (λ t. r (or-intro (g .closes) (ltb (x + 1) (g .wales)) (inr t)))) in
           let b = nltb→le (y + 1) (g .courses) (not-T (ltb (y + 1) (g .courses)) u) in

@@ -28,7 +28,8 @@ use Rattle.grids.specs.Grid.{Grid, sized, cells, edges, dartsOf, Beside,
 use Rattle.grids.specs.Base.{rounds, cellOf, successorOn, baseTable}
 use Rattle.grids.specs.Plans.{fittingPlan, begun, onPlan, planBase}
 use Rattle.grids.proofs.Rounds.{Rounds, roundTable, rounds-stand, rounds-vertices}
-use Rattle.grids.proofs.Cells.{Joins, onward, closing, upward, even, odd, roundAt, is-cell, joins-below, joined, at-one, at-below, at-round, round-at, cell-of, dart-at, cell-of-below, even-cell, odd-cell}
+use Rattle.grids.proofs.Edges.{Joins, onward, closing, upward, is-cell, joins-below, joined}
+use Rattle.grids.proofs.Cells.{even, odd, roundAt, at-one, at-below, at-round, round-at, cell-of, dart-at, cell-of-below, even-cell, odd-cell}
 use Rattle.grids.proofs.Successors.{round-distinct}
 use Rattle.grids.proofs.Limits.{limits, every-cell, cells-two, dart-count}
 
