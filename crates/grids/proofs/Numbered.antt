@@ -79,7 +79,8 @@ classes-hit : (r : ℕ → ℕ → Bool) (L : ℕ → ℕ) (n : ℕ) (l : List �
 unfolding classes any
 classes-hit r L n [] same small = sym (count-none n)
 classes-hit r L n (x ∷ l) same small =
-    ap₂ (λ b k. pick b k (suc k)) row (classes-hit r L n l (λ y z h k. same y z (has-tail x y l h) (has-tail x z l k)) (λ y h. small y (has-tail x y l h)))
+    ap₂ (λ b k. pick b k (suc k)) row
+    (classes-hit r L n l (λ y z h k. same y z (has-tail x y l h) (has-tail x z l k)) (λ y h. small y (has-tail x y l h)))
     ∙ sym (count-more (L x) (hits L l) n (small x (has-head x l)))
   where
     row : any (r x) l ≡ hits L l (L x)
