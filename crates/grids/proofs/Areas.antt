@@ -27,7 +27,7 @@ use Rattle.grids.specs.Grid.{Grid, sized, cells, cell, along, edges, dar
 use Rattle.grids.specs.Base.{cellOf, baseTable}
 use Rattle.grids.specs.Plans.{codeAt, oneCode, takesFirst, firstKernel, OneArea, itself, onward as onwards, back}
 use Rattle.grids.proofs.Sides.{along-closed, along-flat}
-use Rattle.grids.proofs.Cells.{is-cell}
+use Rattle.grids.proofs.Edges.{is-cell}
 use Rattle.grids.proofs.Limits.{limits}
 use Rattle.grids.proofs.PlanBase.{Edge, Dart, PlanBase, plan-base, base-stands}
 use Rattle.grids.proofs.OnePiece.{one-piece}

@@ -4,6 +4,7 @@ pub mod Four
 pub mod Places
 pub mod Rounds
 pub mod Sides
+pub mod Edges
 pub mod Cells
 pub mod Successors
 pub mod Limits
@@ -14,3 +15,4 @@ pub mod CellsCounted
 pub mod Areas
 pub mod Planning
 pub mod Sentences
+pub mod Instances

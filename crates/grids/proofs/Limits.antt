@@ -1,21 +1,23 @@
 -- The limits of a sized grid.
---   Limits g, limits == its numbers, one by one
+--   Limits g         == its numbers, one by one
+--   sized-limits     == the test says so
 --   some-side        == every cell has a dart
 --   dart-count       == its darts are a number of darts that a start takes
 use mathlib.Core.Bool.{Bool, true, false, _&&_, not}
-use mathlib.Core.Logic.{_≢_, inl, inr}
+use mathlib.Core.Logic.{_≢_, _↔_, inl, inr}
 use mathlib.Core.Path.{_≡_, refl, ap₂, subst}
 use Prim.Native.Nat.{ℕ, _+_, _-_, _*_, _/_, _%_, _≤_, _<_}
 use native.Mathlib.Nat.{mul-le-mul, one-le-mul}
 use native.Mathlib.Omega.{arith}
-use lib.Dec.{T, eqb, leb, ltb, leb→le, nleb→lt, nltb→le, not-T, T-not}
-use Rattle.permutations.specs.Choice.{T?, T→true, and-left, and-right, or-intro, eqb-iff}
+use lib.Dec.{T, eqb, leb, ltb, leb→le, le→leb, eqb→eq, nleb→lt, nltb→le, not-T, T-not}
+use Rattle.permutations.specs.Choice.{T?, or-intro, eqb-iff}
 use Rattle.darts.specs.Choose.{if_then_else_}
 use Rattle.darts.specs.Pyramid.{dartCount}
 use Rattle.darts.proofs.Fitting.{count-test}
 use Rattle.grids.specs.Grid.{Grid, sized, cells, along, edges, dartsOf}
 use Rattle.grids.proofs.Sides.{goesRight, goesUp, goesLeft, goesDown, Side, along-closed, along-flat}
-use Rattle.grids.proofs.Cells.{At, is-cell, at-below, side-at}
+use Rattle.grids.proofs.Edges.{is-cell}
+use Rattle.grids.proofs.Cells.{At, at-below, side-at}
 
 -- "1 to 128 wales by 1 to 128 courses"; where it closes, "2 to 128 wales round". "or one cell alone"
 pub record Limits (g : Grid) : Type 0 where
@@ -26,33 +28,63 @@ pub record Limits (g : Grid) : Type 0 where
   pub most-courses : g .courses ≤ 128
   pub two-cells : 2 ≤ g .wales * g .courses
 
+five : (a b c d e : Bool) → T (a && (b && (c && (d && e)))) ↔ (T a × T b × T c × T d × T e)
+five true true true true e = (λ h. (tt, tt, tt, tt, h), λ h. h .4)
+five false b c d e = (λ h. absurd h, λ h. h .0)
+five true false c d e = (λ h. absurd h, λ h. h .1)
+five true true false d e = (λ h. absurd h, λ h. h .2)
+five true true true false e = (λ h. absurd h, λ h. h .3)
+
+at-least : (b : Bool) (n : ℕ) → ((if b then 2 else 1) ≤ n) ↔ ((1 ≤ n) × (T b → 2 ≤ n))
+at-least true n = (λ h. (omega arith, λ t. h), λ h. h .1 tt)
+at-least false n = (λ h. (h, λ t. absurd t), λ h. h .0)
+
+-- THE TEST OF THE SIZE SAYS WHAT THE WORDS SAY
+pub sized-limits : (g : Grid) → T (sized g) ↔ Limits g
+unfolding sized
+sized-limits g = (forth, back)
+  where
+    W : ℕ
+    W = g .wales
+
+    C : ℕ
+    C = g .courses
+
+    least : ℕ
+    least = if g .closes then 2 else 1
+
+    parts : T (leb least W && (leb W 128 && (leb 1 C && (leb C 128 && not (eqb (W * C) 1)))))
+        ↔ (T (leb least W) × T (leb W 128) × T (leb 1 C) × T (leb C 128) × T (not (eqb (W * C) 1)))
+    parts = five (leb least W) (leb W 128) (leb 1 C) (leb C 128) (not (eqb (W * C) 1))
+
+    forth : T (sized g) → Limits g
+    forth s =
+        let (few, wide, some, high, several) = parts .0 s in
+        let l = at-least (g .closes) W .0 (leb→le least W few) in
+        let up = leb→le 1 C some in
+        let m = one-le-mul (l .0) up in
+        let n : W * C ≢ 1 = λ e. T-not (eqb (W * C) 1) several (eqb-iff (W * C) 1 .1 e) in
+        record {
+          some-wale = l .0;
+          two-round = l .1;
+          most-wales = leb→le W 128 wide;
+          some-course = up;
+          most-courses = leb→le C 128 high;
+          two-cells = omega arith;
+        }
+
+    back : Limits g → T (sized g)
+    back L = parts .1 (
+      le→leb least W (at-least (g .closes) W .1 (L .some-wale, L .two-round)),
+      le→leb W 128 (L .most-wales),
+      le→leb 1 C (L .some-course),
+      le→leb C 128 (L .most-courses),
+      not-T (eqb (W * C) 1) (λ t. let e = eqb→eq (W * C) 1 t in omega (arith, L .two-cells)),
+    )
+
 module _ (g : Grid) (s : T (sized g)) where
   pub limits : Limits g
-  unfolding sized
-  limits =
-      let few = leb (if g .closes then 2 else 1) (g .wales) in
-      let alone = eqb (g .wales * g .courses) 1 in
-      let a = and-right few (leb (g .wales) 128 && (leb 1 (g .courses) && (leb (g .courses) 128 && not alone))) s in
-      let b = and-right (leb (g .wales) 128) (leb 1 (g .courses) && (leb (g .courses) 128 && not alone)) a in
-      let c = and-right (leb 1 (g .courses)) (leb (g .courses) 128 && not alone) b in
-      let least : (if g .closes then 2 else 1) ≤ g .wales =
-      leb→le (if g .closes then 2 else 1) (g .wales) (and-left few (leb (g .wales) 128 && (leb 1 (g .courses) && (leb (g .courses) 128 && not alone))) s) in
-      let some : 1 ≤ g .wales = at-least (g .closes) least in
-      let up : 1 ≤ g .courses = leb→le 1 (g .courses) (and-left (leb 1 (g .courses)) (leb (g .courses) 128 && not alone) b) in
-      let n : g .wales * g .courses ≢ 1 = λ e. T-not alone (and-right (leb (g .courses) 128) (not alone) c) (eqb-iff (g .wales * g .courses) 1 .1 e) in
-      let m = one-le-mul some up in
-      record {
-        some-wale = some;
-        two-round = λ r. rw (T→true (g .closes) r) at least;
-        most-wales = leb→le (g .wales) 128 (and-left (leb (g .wales) 128) (leb 1 (g .courses) && (leb (g .courses) 128 && not alone)) a);
-        some-course = up;
-        most-courses = leb→le (g .courses) 128 (and-left (leb (g .courses) 128) (not alone) c);
-        two-cells = omega arith;
-      }
-    where
-      at-least : (b : Bool) → (if b then 2 else 1) ≤ g .wales → 1 ≤ g .wales
-      at-least true h = omega arith
-      at-least false h = h
+  limits = sized-limits g .0 s
 
   -- only one cell alone has no dart
   pub some-side : (x y : ℕ) → x < g .wales → y < g .courses → (d : ℕ) × Side g x y d
@@ -64,7 +96,7 @@ module _ (g : Grid) (s : T (sized g)) where
       go (no r) (no u) (yes t) w = (_, inr (inr (inl (t, refl))))
       go (no r) (no u) (no l) (yes t) = (_, inr (inr (inr (t, refl))))
       go (no r) (no u) (no l) (no w) =
-          let i = nleb→lt 1 x (not-T (leb 1 x) (λ t. l (or-intro (leb 1 x) (g .closes) (inl t)))) in
+          let i = nleb→lt 1 x (not-T (leb 1 x) (λ t. l (or-intro (g .closes) (leb 1 x) (inr t)))) in
           let j = nleb→lt 1 y (not-T (leb 1 y) w) in
           let a = nltb→le (x + 1) (g .wales) (not-T (ltb (x + 1) (g .wales)) (λ t. r (or-intro (g .closes) (ltb (x + 1) (g .wales)) (inr t)))) in
           let b = nltb→le (y + 1) (g .courses) (not-T (ltb (y + 1) (g .courses)) u) in

@@ -81,7 +81,9 @@ next-after d p s n = or-after (getD (p ++ (d ∷ s)) 0 0) d p s n ∙ turned p s
 pub has-index : (d : ℕ) (r : List ℕ) → T (has d r) → (i : ℕ) × (i < length r) × (getD r i 0 ≡ d)
 unfolding has
 has-index d [] h = absurd h
-has-index d (x ∷ r) h = ⊎-elim (λ e. (0, omega arith, eqb→eq x d e)) (λ t. let (i, l, e) = has-index d r t in (suc i, omega arith, e)) (or-cases (eqb x d) (has d r) h)
+has-index d (x ∷ r) h =
+    ⊎-elim (λ e. (0, omega arith, eqb→eq x d e)) (λ t. let (i, l, e) = has-index d r t in (suc i, omega arith, e))
+    (or-cases (eqb x d) (has d r) h)
 
 index-has : (r : List ℕ) (i : ℕ) → i < length r → T (has (getD r i 0) r)
 unfolding has

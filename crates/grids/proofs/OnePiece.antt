@@ -20,7 +20,8 @@ use Rattle.laws.proofs.bridge.Pieces.{same-piece}
 use Rattle.grids.specs.Grid.{Grid, sized, cell, edges, dartsOf, Beside, right, above}
 use Rattle.grids.specs.Base.{cellOf, baseTable}
 use Rattle.grids.proofs.Rounds.{all-live}
-use Rattle.grids.proofs.Cells.{is-cell, cell-of-below}
+use Rattle.grids.proofs.Edges.{is-cell}
+use Rattle.grids.proofs.Cells.{cell-of-below}
 use Rattle.grids.proofs.PlanBase.{PlanBase, plan-base, base-stands, base-vertices}
 
 abbrev baseMap : Grid → Map

@@ -1,5 +1,5 @@
 -- Lists over rising numbers: what stands at a place, and the first place whose list has a number.
---   at-rising, length-rising == the numbers from k on, each at its place
+--   over-rising, length-over == a table that is made by f, entry by entry
 --   place-is                 == where one list alone has d, its place is the first that has it
 use mathlib.Core.List.{List, map}
 use mathlib.Core.Path.{_≡_, refl, sym, ap, _∙_, subst}

@@ -1,8 +1,11 @@
 -- The base of a sized grid: a start takes it, its vertices are the cells, and its edges join the neighbours.
---   rounds-of     == the rounds of the cells share no dart and have all of them
---   base-stands   == so the table is a permutation of all darts
---   PlanBase g    == the laws of the base, one by one
---   plan-base     == they hold of every sized grid
+--   rounds-of        == the rounds of the cells share no dart and have all of them
+--   base-stands      == so the table is a permutation of all darts
+--   base-vertices    == whose vertices are the cells
+--   Edge g a b       == an edge from cell a to cell b; Dart g c is a dart of cell c
+--   PlanBase g       == the laws of the base, one by one
+--   plan-base        == they hold of every sized grid
+--   plan-fits        == a sized plan that is lent with room is not refused
 --   built-is-started == what the call builds is what a start with its table leaves
 use mathlib.Core.List.{List, []}
 use mathlib.Core.Logic.{_↔_}
@@ -28,7 +31,8 @@ use Rattle.grids.specs.Grid.{Grid, sized, cells, edges, dartsOf, Beside,
 use Rattle.grids.specs.Base.{rounds, cellOf, successorOn, baseTable}
 use Rattle.grids.specs.Plans.{fittingPlan, begun, onPlan, planBase}
 use Rattle.grids.proofs.Rounds.{Rounds, roundTable, rounds-stand, rounds-vertices}
-use Rattle.grids.proofs.Cells.{Joins, onward, closing, upward, even, odd, roundAt, is-cell, joins-below, joined, at-one, at-below, at-round, round-at, cell-of, dart-at, cell-of-below, even-cell, odd-cell}
+use Rattle.grids.proofs.Edges.{Joins, onward, closing, upward, is-cell, joins-below, joined}
+use Rattle.grids.proofs.Cells.{even, odd, roundAt, at-one, at-below, at-round, round-at, cell-of, dart-at, cell-of-below, even-cell, odd-cell}
 use Rattle.grids.proofs.Successors.{round-distinct}
 use Rattle.grids.proofs.Limits.{limits, every-cell, cells-two, dart-count}
 
@@ -113,10 +117,15 @@ module _ (g : Grid) (s : T (sized g)) where
     front = subst (λ n. firstBad (dartsOf g) (take n (over (baseTable g) t)) ≡ dartsOf g) table-size (rw (over-front (baseTable g) t) base-permutes)
 
     start-takes : start (dartsOf g) (over (baseTable g) t) h w ≡ leaves done (baseState (dartsOf g)) (over (baseTable g) t) h (cleared (dartsOf g) w)
-    start-takes = go (starting (dartsOf g) (over (baseTable g) t) h w) (start-accepts (dartsOf g) (over (baseTable g) t) h w (dart-count g s) lengths front)
+    start-takes = go (starting D u h w) (start-accepts D u h w (dart-count g s) lengths front)
       where
-        go : Starting (dartsOf g) (over (baseTable g) t) h w → start (dartsOf g) (over (baseTable g) t) h w .answer .number ≡ 0
-            → start (dartsOf g) (over (baseTable g) t) h w ≡ leaves done (baseState (dartsOf g)) (over (baseTable g) t) h (cleared (dartsOf g) w)
+        D : ℕ
+        D = dartsOf g
+
+        u : List ℕ
+        u = over (baseTable g) t
+
+        go : Starting D u h w → start D u h w .answer .number ≡ 0 → start D u h w ≡ leaves done (baseState D) u h (cleared D w)
         go (noCount c e) z = absurd (let k : 1 ≡ 0 = rw e at z in omega arith)
         go (noRoom c l e) z = absurd (let k : 2 ≡ 0 = rw e at z in omega arith)
         go (noBase c l m e) z = absurd (let k : 3 ≡ 0 = rw e at z in omega arith)

@@ -20,13 +20,14 @@ use Rattle.laws.proofs.sentences.WorkArea.{Zeroed, cleared-zeroed}
 use Rattle.grids.specs.Grid.{Grid, dartsOf}
 use Rattle.grids.specs.Base.{baseTable}
 use Rattle.grids.specs.Plans.{firstKernel, begun, onPlan, planBase, planAreas}
-use Rattle.grids.proofs.Planning.{Sized, Enough, Planning, outside, cramped, begins, planning}
+use Rattle.grids.proofs.Limits.{Limits}
+use Rattle.grids.proofs.Planning.{Enough, Planning, outside, cramped, begins, planning}
 
 -- "15, plan size outside the limits, or one cell alone; judged first"
 pub record Ordered (g : Grid) (p t h w n rest : ℕ) : Type 0 where
-  pub fifteen : ¬ (Sized g) → n ≡ 15
-  pub two : Sized g → ¬ (Enough g p t h w) → n ≡ 2
-  pub then : Sized g → Enough g p t h w → n ≡ rest
+  pub fifteen : ¬ (Limits g) → n ≡ 15
+  pub two : Limits g → ¬ (Enough g p t h w) → n ≡ 2
+  pub then : Limits g → Enough g p t h w → n ≡ rest
 
 -- "and nothing is written"; "After every call except those answered 1 or 2 the work area's first 4D numbers are zero"
 pub record KeptOrZeroed (n D : ℕ) (w v : List ℕ) : Type 0 where

@@ -28,7 +28,7 @@ abbrev pub goesUp : Grid → ℕ → Bool
 goesUp g y = ltb (y + 1) (g .courses)
 
 abbrev pub goesLeft : Grid → ℕ → Bool
-goesLeft g x = leb 1 x || g .closes
+goesLeft g x = g .closes || leb 1 x
 
 abbrev pub goesDown : ℕ → Bool
 goesDown y = leb 1 y
@@ -71,8 +71,9 @@ map-one f true e = refl
 map-one f false e = refl
 
 either-one : (a b : Bool) (f : ℕ → ℕ) {u v : ℕ} {l k : List ℕ} → (T a → l ≡ f u ∷ []) → (T b → k ≡ f v ∷ [])
-    → (if a then l else if b then k else []) ≡ one (a || b) (f (if a then u else v))
-either-one true b f h i = h tt
+    → (if a then l else if b then k else []) ≡ one (b || a) (f (if a then u else v))
+either-one true true f h i = h tt
+either-one true false f h i = h tt
 either-one false true f h i = i tt
 either-one false false f h i = refl
 
@@ -115,7 +116,7 @@ module _ (g : Grid) where
           let k = leb→le 1 x t in
           rw (T→true (leb 1 x) t) (right-along (x - 1) (omega arith) (goes-right (x - 1) (inr (omega arith))))
       go (no n) =
-          let c : T (g .closes) = ⊎-elim (λ t. absurd (n t)) (λ c. c) (or-cases (leb 1 x) (g .closes) l) in
+          let c : T (g .closes) = ⊎-elim (λ c. c) (λ t. absurd (n t)) (or-cases (g .closes) (leb 1 x) l) in
           rw (nT→false (leb 1 x) n) (right-along (g .wales - 1) (omega arith) (goes-right (g .wales - 1) (inl c)))
 
   -- ---- the darts round one

@@ -3,6 +3,7 @@
 --   next-dart      == it is the next in the round of the dart's cell
 --   after-right, after-up, after-left, after-down == what comes after the dart on that side: the dart on the next side that there is, round from it
 --   round-distinct == no dart stands twice round a cell
+use mathlib.Core.List.{List}
 use mathlib.Core.Logic.{inl, inr}
 use mathlib.Core.Path.{_≡_, refl, ap, _∙_}
 use Prim.Native.Nat.{ℕ, _<_}
@@ -33,8 +34,10 @@ module _ (g : Grid) (x y : ℕ) (hx : x < g .wales) (hy : y < g .courses) where
   pub round-distinct : Distinct (roundOf g x y)
   round-distinct = rw (round-is g x y hx hy) (sides .distinct)
 
-  next-side : {d : ℕ} → Side g x y d
-      → successorOn g d ≡ nextIn d (four (goesRight g x) (goesUp g y) (goesLeft g x) (goesDown y) (rightDart g x y) (upDart g x y) (leftDart g x y) (downDart g x y))
+  abbrev fourSides : List ℕ
+  fourSides = four (goesRight g x) (goesUp g y) (goesLeft g x) (goesDown y) (rightDart g x y) (upDart g x y) (leftDart g x y) (downDart g x y)
+
+  next-side : {d : ℕ} → Side g x y d → successorOn g d ≡ nextIn d fourSides
   next-side {d} s = next-dart (side-at g x y hx hy s) ∙ ap (nextIn d) (round-is g x y hx hy)
 
   pub after-right : T (goesRight g x) → successorOn g (rightDart g x y)
