@@ -14,5 +14,6 @@ pub mod Numbered
 pub mod CellsCounted
 pub mod Areas
 pub mod Planning
+pub mod Begun
 pub mod Sentences
 pub mod Instances

@@ -22,7 +22,7 @@ use Rattle.laws.proofs.runs.Pyramids.{built-pyramid, reduce-pyramid}
 use Rattle.laws.proofs.merging.Turns.{merging, merged}
 use Rattle.laws.proofs.merging.Stands.{merging-run}
 
-base-pyramid : (D : ℕ) (t : List ℕ) → T (dartCount D) → length t ≡ D → firstBad D t ≡ D → Pyramid (baseState D) t []
+pub base-pyramid : (D : ℕ) (t : List ℕ) → T (dartCount D) → length t ≡ D → firstBad D t ≡ D → Pyramid (baseState D) t []
 unfolding build
 base-pyramid D t count size permutation = built-pyramid D t count size permutation [] refl
 
