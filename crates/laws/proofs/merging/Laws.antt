@@ -18,7 +18,7 @@ use Rattle.darts.specs.Kernel.{stands}
 use Rattle.darts.specs.Counts.{countsOf}
 use Rattle.laws.specs.Standing.{Standing}
 use Rattle.laws.proofs.bridge.Standing.{live}
-use Rattle.laws.proofs.merging.Turns.{Merged, merging, merged}
+use Rattle.laws.proofs.merging.Turns.{Turns, merging, merged}
 use Rattle.laws.proofs.merging.Taken.{Taken}
 use Rattle.laws.proofs.merging.Stands.{merging-turns}
 use Rattle.laws.proofs.merging.Joined.{Joined}
@@ -29,7 +29,7 @@ use Rattle.laws.proofs.merging.Counts.{vertices-some, turns-vertices, a
 use Rattle.laws.proofs.merging.OneStays.{turns-one-stays}
 
 module _ (D : ℕ) (same : ℕ → Bool) (t : List ℕ) (S : Standing D t []) {u past : List ℕ} (stood : merging D same t ≡ stands u past) where
-  abbrev P : Merged D same t (D / 2) (merged D same t) u past
+  abbrev P : Turns D same t (D / 2) (merged D same t) u past
   P = merging-turns D same t stood
 
   pub merging-joins : (a b : ℕ) → T (live D past a) → T (live D past b) → T (sameVertex D u a b) ↔ Joined D t (Taken (merged D same t)) a b

@@ -24,7 +24,7 @@ use Rattle.darts.specs.Operation.{Kind, contraction, lead, operate, number, edg
 use Rattle.darts.specs.Kernel.{judge, rising, Test}
 use Rattle.laws.proofs.bridge.Numbers.{number-edge}
 use Rattle.laws.proofs.runs.Taking.{taken}
-use Rattle.laws.proofs.merging.Turns.{Merged, begins, other, nine, eleven, joins, judged-three}
+use Rattle.laws.proofs.merging.Turns.{Turns, begins, other, nine, eleven, joins, judged-three}
 
 abbrev pub Taken : List ℕ → ℕ → Type 0
 Taken es e = T (has es e)
@@ -54,7 +54,7 @@ pub none-taken : (e : ℕ) → ¬ (Taken [] e)
 unfolding has any
 none-taken e k = k
 
-has-first : (x e : ℕ) (es : List ℕ) → Taken (x ∷ es) e ↔ ((e ≡ x) ⊎ Taken es e)
+pub has-first : (x e : ℕ) (es : List ℕ) → Taken (x ∷ es) e ↔ ((e ≡ x) ⊎ Taken es e)
 unfolding has any
 has-first x e es = or-iff (eqb e x) (has es e) (eqb-iff e x) Iff·rfl
 
@@ -77,7 +77,7 @@ rising-end e (suc n) = ap (λ l. e ∷ l) (rising-end (suc e) n ∙ ap (λ x. ri
 -- ---- what was taken when m edges have had their turns
 
 module _ {D : ℕ} {same : ℕ → Bool} {t : List ℕ} where
-  pub turns-below : {m : ℕ} {es u past : List ℕ} → Merged D same t m es u past → (e : ℕ) → Taken es e → (e < m) × (same e ≡ true)
+  pub turns-below : {m : ℕ} {es u past : List ℕ} → Turns D same t m es u past → (e : ℕ) → Taken es e → (e < m) × (same e ≡ true)
   unfolding has any
   turns-below begins e k = absurd k
   turns-below (other P s) e k = let (l, a) = turns-below P e k in (omega arith, a)
@@ -87,11 +87,11 @@ module _ {D : ℕ} {same : ℕ → Bool} {t : List ℕ} where
       ⊎-elim (λ h. let (l, a) = turns-below P e h in (omega arith, a)) (λ (h : e ≡ m). (omega arith, rw h s)) (has-last es m e .0 k)
 
   -- an edge whose turn is yet to come was not taken
-  pub turns-ahead : {m : ℕ} {es u past : List ℕ} → Merged D same t m es u past → (e : ℕ) → m ≤ e → ¬ (Taken es e)
+  pub turns-ahead : {m : ℕ} {es u past : List ℕ} → Turns D same t m es u past → (e : ℕ) → m ≤ e → ¬ (Taken es e)
   turns-ahead P e h k = let (l, a) = turns-below P e k in omega arith
 
   -- A DART IS GONE EXACTLY WHERE ITS EDGE WAS TAKEN
-  pub turns-gone : {m : ℕ} {es u past : List ℕ} → Merged D same t m es u past → (d : ℕ) → T (gone past d) ↔ Taken es (d / 2)
+  pub turns-gone : {m : ℕ} {es u past : List ℕ} → Turns D same t m es u past → (d : ℕ) → T (gone past d) ↔ Taken es (d / 2)
   unfolding has any gone edgeOf
   turns-gone begins d = Iff·rfl
   turns-gone (other P s) d = turns-gone P d
@@ -103,14 +103,14 @@ module _ {D : ℕ} {same : ℕ → Bool} {t : List ℕ} where
       (Iff·trans (⊎-swap, ⊎-swap) (Iff·symm (has-last es m (d / 2))))
 
   -- one operation for each
-  pub turns-count : {m : ℕ} {es u past : List ℕ} → Merged D same t m es u past → length past ≡ length es
+  pub turns-count : {m : ℕ} {es u past : List ℕ} → Turns D same t m es u past → length past ≡ length es
   turns-count begins = refl
   turns-count (other P s) = turns-count P
   turns-count (nine P s j) = turns-count P
   turns-count (eleven P s j) = turns-count P
   turns-count (joins P s j) = let e = turns-count P in simp length-append (omega arith)
 
-  pub turns-most : {m : ℕ} {es u past : List ℕ} → Merged D same t m es u past → length es ≤ m
+  pub turns-most : {m : ℕ} {es u past : List ℕ} → Turns D same t m es u past → length es ≤ m
   turns-most begins = omega arith
   turns-most (other P s) = let h = turns-most P in omega arith
   turns-most (nine P s j) = let h = turns-most P in omega arith
@@ -118,7 +118,7 @@ module _ {D : ℕ} {same : ℕ → Bool} {t : List ℕ} where
   turns-most (joins P s j) = let h = turns-most P in simp length-append (omega arith)
 
   -- fewer than had their turns, where one of these was passed over
-  pub turns-fewer : {m : ℕ} {es u past : List ℕ} → Merged D same t m es u past → (e : ℕ) → e < m → ¬ (Taken es e) → length es < m
+  pub turns-fewer : {m : ℕ} {es u past : List ℕ} → Turns D same t m es u past → (e : ℕ) → e < m → ¬ (Taken es e) → length es < m
   turns-fewer begins e h n = absurd (omega arith)
   turns-fewer (other P s) e h n = let k = turns-most P in omega arith
   turns-fewer (nine P s j) e h n = let k = turns-most P in omega arith
@@ -129,7 +129,7 @@ module _ {D : ℕ} {same : ℕ → Bool} {t : List ℕ} where
       simp length-append (omega arith)
 
   -- all of them, where none was passed over
-  pub turns-all : {m : ℕ} {es u past : List ℕ} → Merged D same t m es u past → ((e : ℕ) → e < m → Taken es e) → es ≡ rising 0 m
+  pub turns-all : {m : ℕ} {es u past : List ℕ} → Turns D same t m es u past → ((e : ℕ) → e < m → Taken es e) → es ≡ rising 0 m
   unfolding rising
   turns-all begins all = refl
   turns-all (other {m} P s) all = absurd (turns-ahead P m (omega arith) (all m (omega arith)))
@@ -145,7 +145,7 @@ pub record Through (D : ℕ) (same : ℕ → Bool) (t : List ℕ) (m : ℕ) : Ty
   pub edges : List ℕ
   pub table : List ℕ
   pub past : List ℕ
-  pub turns : Merged D same t m edges table past
+  pub turns : Turns D same t m edges table past
 
 module _ (D : ℕ) (same : ℕ → Bool) (t : List ℕ) where
   -- an edge that is not gone is given 0, 9 or 11, and what is given 0 is taken
