@@ -1,5 +1,5 @@
--- Areas: the vertices that merging leaves (document 02, request One: "Its vertices are exactly the connected areas of one code, save in a plan one cell wide
--- or one cell high with a single code, where one edge stays").
+-- Areas: the vertices that merging leaves (document 02, request One: "Its vertices are exactly the connected areas of one code, save in a plan one
+-- cell wide or one cell high with a single code, where one edge stays").
 --   Excepted D same t == `same` takes every edge, and the base has one vertex more than edges
 --   merging-areas     == in one piece that is not excepted, survivors share a vertex exactly where edges that `same` takes join them
 --   areas             == that is, where their cells are in one area

@@ -56,7 +56,8 @@ module _ {r : ℕ → ℕ → Bool} (E : Equiv r) (L : ℕ → ℕ) (N : ℕ) (l
   unfolding classes
   one-more n y i e R = record {
     list = y ∷ R .list;
-    inside = λ x k. ⊎-elim (λ (z : x ≡ y). (rw z i, let w = ap L z in omega arith)) (λ z. let (j, b) = R .inside x z in (j, omega arith)) (has-first y x (R .list) .0 k);
+    inside = λ x k. ⊎-elim (λ (z : x ≡ y). (rw z i, let w = ap L z in omega arith)) (λ z. let (j, b) = R .inside x z in (j, omega arith))
+        (has-first y x (R .list) .0 k);
     each = λ c h. go c h (ℕ-discrete c n);
     count = rw (nT→false (any (r y) (R .list)) alone) (ap suc (R .count));
   }

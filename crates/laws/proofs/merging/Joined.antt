@@ -1,7 +1,8 @@
 -- Darts of a base that are joined by some of its edges: what contracting these edges makes one vertex.
 --   Joined D t P x y == the least equivalence in which the darts of a vertex are joined, and the two darts of each edge e for which P e
 --   Wanted D same e  == e is an edge that `same` takes
---   joined-least     == so it is in every equivalence that has these
+--   Equivalence R    == R is an equivalence
+--   joined-least     == what is joined is so in every equivalence that has these
 --   joined-label     == what is one and the same along a vertex and across each such edge is the same for joined darts
 --   joined-by        == where P's edges are joined by Q's, so is all that P's join
 --   joined-piece     == joined darts are in one piece

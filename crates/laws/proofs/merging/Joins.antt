@@ -25,7 +25,7 @@ use Rattle.laws.proofs.bridge.Judged.{same-vertex, judge-legal}
 use Rattle.laws.proofs.bridge.Operate.{operate-acts}
 use Rattle.laws.proofs.bridge.Walks.{lowestMet, lowest-labels}
 use Rattle.laws.proofs.runs.Runs.{run-stands}
-use Rattle.laws.proofs.merging.Turns.{Turns, begins, other, nine, eleven, joins, turns-run}
+use Rattle.laws.proofs.merging.Turns.{Turns, begins, passes, joins, turns-run}
 use Rattle.laws.proofs.merging.Taken.{Taken, none-taken, has-last}
 use Rattle.laws.proofs.merging.Joined.{Joined, itself, vertex, across, back, further, joined-label, joined-by, base-live}
 
@@ -111,7 +111,8 @@ module _ {D : ℕ} {u past : List ℕ} (S : Standing D u past) (m : ℕ) (fine :
         (λ e. further (still (Λ .joined x (partner p) h (partner-small (S .good) p (contractible .lives)) e)) (back newly))
 
     more-joined : (x y : ℕ) → x < D → y < D → M x ≡ M y → Joined D t (Taken (es ++ (m ∷ []))) x y
-    more-joined x y h k e = ⊎-elim (λ a. still (Λ .joined x y h k a)) (λ b. further (to-first x h (b .0)) (back (to-first y k (b .1)))) (when x y .0 e)
+    more-joined x y h k e =
+        ⊎-elim (λ a. still (Λ .joined x y h k a)) (λ b. further (to-first x h (b .0)) (back (to-first y k (b .1)))) (when x y .0 e)
 
     more-labelled : (x y : ℕ) → Joined D t (Taken (es ++ (m ∷ []))) x y → M x ≡ M y
     more-labelled x y = joined-label M (λ x y h s. when x y .1 (inl (Λ .labelled x y (vertex h s)))) edge
@@ -167,9 +168,7 @@ module _ {D : ℕ} {same : ℕ → Bool} {t : List ℕ} (S : Standing D t []) wh
 
   pub turns-labelled : {m : ℕ} {es u past : List ℕ} → Turns D same t m es u past → Labelled D t es u past
   turns-labelled begins = base-labelled S
-  turns-labelled (other P s) = turns-labelled P
-  turns-labelled (nine P s j) = turns-labelled P
-  turns-labelled (eleven P s j) = turns-labelled P
+  turns-labelled (passes P w) = turns-labelled P
   turns-labelled (joins {m} P s j) = more-labels (turns-standing P) m j (turns-labelled P)
 
   module _ {m : ℕ} {es u past : List ℕ} (P : Turns D same t m es u past) where
@@ -184,7 +183,5 @@ module _ {D : ℕ} {same : ℕ → Bool} {t : List ℕ} (S : Standing D t []) wh
   -- EVERY DART IS JOINED TO A SURVIVOR
   pub turns-left : {m : ℕ} {es u past : List ℕ} → Turns D same t m es u past → (x : ℕ) → x < D → Left D t es past x
   turns-left begins x h = record { dart = x; lives = base-live D x h; joined = itself }
-  turns-left (other P s) x h = turns-left P x h
-  turns-left (nine P s j) x h = turns-left P x h
-  turns-left (eleven P s j) x h = turns-left P x h
+  turns-left (passes P w) x h = turns-left P x h
   turns-left (joins {m} P s j) x h = left-more (turns-standing P) m j (turns-labelled P) x (turns-left P x h)

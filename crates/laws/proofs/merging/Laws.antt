@@ -2,8 +2,8 @@
 --   merging-joins    == survivors share a vertex exactly where the edges taken join them
 --   merging-closes   == an edge that `same` takes is joined in the end, or it was a whole piece at its turn (11)
 --   merging-whole    == in one piece, such an edge is the last, all the others were taken, and the base had one vertex more than edges
---   merging-survives == every dart is joined to a survivor; so every piece keeps one, and an edge survives
---   merging-counts   == each edge taken takes one vertex, and one at least is left
+--   merging-survives, merging-piece, merging-spare == every dart is joined to a survivor; so every piece keeps one, and an edge survives
+--   merging-counts, merging-vertex == each edge taken takes one vertex, and one at least is left
 --   one-stays        == where a base of one piece has one vertex more than edges, and `same` takes them all, exactly one edge survives
 use mathlib.Core.Bool.{Bool, true}
 use mathlib.Core.List.{List, []}
