@@ -1,6 +1,7 @@
 -- A base whose vertices are cells.
 --   Cells D t cell        == the vertices of the base t are the cells
 --   Area E cell same a b  == the least equivalence of cells in which the two ends of each of the E edges that `same` takes are in one area
+--   area-least            == cells of one area are so in every equivalence that has these
 --   cells-joined          == darts are joined by the edges that `same` takes exactly where their cells are in one area
 --   cells-piece           == the base is one piece, where all cells are in one area of all edges
 use mathlib.Core.Bool.{Bool, true}
@@ -28,6 +29,14 @@ pub data Area (E : ℕ) (cell : ℕ → ℕ) (same : ℕ → Bool) : ℕ → ℕ
   over : {e : ℕ} → e < E → same e ≡ true → Area E cell same (cell (2 * e)) (cell (2 * e + 1))
   turned : {a b : ℕ} → Area E cell same a b → Area E cell same b a
   onward : {a b c : ℕ} → Area E cell same a b → Area E cell same b c → Area E cell same a c
+
+-- IT IS THE LEAST
+pub area-least : {E : ℕ} {cell : ℕ → ℕ} {same : ℕ → Bool} (R : ℕ → ℕ → Type 0) → Equivalence R
+    → ((e : ℕ) → e < E → same e ≡ true → R (cell (2 * e)) (cell (2 * e + 1))) → {a b : ℕ} → Area E cell same a b → R a b
+area-least R Q step (alone {a}) = Q .self a
+area-least R Q step (over {e} h s) = step e h s
+area-least R Q step (turned {a} {b} f) = Q .flip a b (area-least R Q step f)
+area-least R Q step (onward {a} {b} {c} f g) = Q .chain a b c (area-least R Q step f) (area-least R Q step g)
 
 -- ---- who is joined
 
@@ -78,9 +87,8 @@ module _ {D : ℕ} {t : List ℕ} (S : Standing D t []) {cell : ℕ → ℕ} (C 
     joined = back (r .joined);
   }
 
-  area-reached : {a b : ℕ} → Area (D / 2) cell same a b → (a ≡ b) ⊎ Reached a b
-  area-reached alone = inl refl
-  area-reached (over {e} h s) = inr (record {
+  reached-edge : (e : ℕ) → e < D / 2 → same e ≡ true → Reached (cell (2 * e)) (cell (2 * e + 1))
+  reached-edge e h s = record {
     from = 2 * e;
     to = 2 * e + 1;
     from-dart = omega arith;
@@ -88,15 +96,19 @@ module _ {D : ℕ} {t : List ℕ} (S : Standing D t []) {cell : ℕ → ℕ} (C 
     from-cell = refl;
     to-cell = refl;
     joined = across (h, s);
-  })
-  area-reached (turned a) = ⊎-elim (λ e. inl (sym e)) (λ r. inr (reached-back r)) (area-reached a)
-  area-reached (onward {a} {b} {c} f g) = both (area-reached f) (area-reached g)
-    where
-      both : (a ≡ b) ⊎ Reached a b → (b ≡ c) ⊎ Reached b c → (a ≡ c) ⊎ Reached a c
-      both (inl d) (inl e) = inl (d ∙ e)
-      both (inl d) (inr r) = inr (subst (λ z. Reached z c) (sym d) r)
-      both (inr r) (inl e) = inr (subst (Reached a) e r)
-      both (inr r) (inr q) = inr (reached-on r q)
+  }
+
+  one-or-reached : Equivalence (λ a b. (a ≡ b) ⊎ Reached a b)
+  one-or-reached = record {
+    self = λ a. inl refl;
+    flip = λ a b. ⊎-elim (λ e. inl (sym e)) (λ r. inr (reached-back r));
+    chain = λ a b c. ⊎-elim
+        (λ d. ⊎-elim (λ e. inl (d ∙ e)) (λ r. inr (subst (λ z. Reached z c) (sym d) r)))
+        (λ r. ⊎-elim (λ e. inr (subst (Reached a) e r)) (λ q. inr (reached-on r q)));
+  }
+
+  area-reached : {a b : ℕ} → Area (D / 2) cell same a b → (a ≡ b) ⊎ Reached a b
+  area-reached = area-least (λ a b. (a ≡ b) ⊎ Reached a b) one-or-reached (λ e h s. inr (reached-edge e h s))
 
   -- DARTS ARE JOINED BY WANTED EDGES EXACTLY WHERE THEIR CELLS ARE IN ONE AREA
   pub cells-joined : (x y : ℕ) → x < D → y < D → Joined D t (Wanted D same) x y ↔ Area (D / 2) cell same (cell x) (cell y)
