@@ -9,4 +9,6 @@ pub mod Counts
 pub mod Level
 pub mod OneStays
 pub mod Laws
+pub mod Cells
+pub mod Counted
 pub mod Areas

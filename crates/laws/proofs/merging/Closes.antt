@@ -19,7 +19,7 @@ use Rattle.darts.specs.Operation.{contraction, wholeEdge}
 use Rattle.darts.specs.Kernel.{judge, shared}
 use Rattle.laws.specs.Standing.{Standing}
 use Rattle.laws.proofs.bridge.Standing.{live, live-iff}
-use Rattle.laws.proofs.merging.Turns.{Merged, begins, other, nine, eleven, joins}
+use Rattle.laws.proofs.merging.Turns.{other, nine, eleven, Turns, begins, passes, joins}
 use Rattle.laws.proofs.merging.Taken.{Taken, has-last, turns-ahead, turns-gone}
 use Rattle.laws.proofs.merging.Joined.{Joined, across, joined-by}
 use Rattle.laws.proofs.merging.Joins.{turns-joined}
@@ -28,7 +28,7 @@ pub record WholeAt (D : ℕ) (same : ℕ → Bool) (t : List ℕ) (e : ℕ) : Ty
   pub edges : List ℕ
   pub table : List ℕ
   pub past : List ℕ
-  pub turns : Merged D same t e edges table past
+  pub turns : Turns D same t e edges table past
   pub whole : judge contraction D table past e ≡ 11
 
 -- the darts of edge e are joined by the edges es, or it was a whole piece
@@ -69,7 +69,7 @@ module _ (D : ℕ) (t past : List ℕ) (e : ℕ) where
 -- ---- who survives
 
 module _ {D : ℕ} {same : ℕ → Bool} {t : List ℕ} where
-  pub turns-live : {m : ℕ} {es u past : List ℕ} → Merged D same t m es u past → (x : ℕ) → T (live D past x) ↔ ((x < D) × (¬ (Taken es (x / 2))))
+  pub turns-live : {m : ℕ} {es u past : List ℕ} → Turns D same t m es u past → (x : ℕ) → T (live D past x) ↔ ((x < D) × (¬ (Taken es (x / 2))))
   unfolding survives
   turns-live {past = past} P x =
       let i = live-iff D past x in
@@ -77,7 +77,8 @@ module _ {D : ℕ} {same : ℕ → Bool} {t : List ℕ} where
       (λ l. (i .0 l .0, g .0 (i .0 l .1)), λ h. i .1 (h .0, g .1 (h .1)))
 
   -- an edge survives until its turn
-  pub until : {m : ℕ} {es u past : List ℕ} → Merged D same t m es u past → (e : ℕ) → m ≤ e → e < D / 2 → T (live D past (2 * e)) × T (live D past (2 * e + 1))
+  pub until : {m : ℕ} {es u past : List ℕ} → Turns D same t m es u past → (e : ℕ) → m ≤ e → e < D / 2
+      → T (live D past (2 * e)) × T (live D past (2 * e + 1))
   until P e h k = (
     turns-live P (2 * e) .1 (omega arith, turns-ahead P (2 * e / 2) (omega arith)),
     turns-live P (2 * e + 1) .1 (omega arith, turns-ahead P ((2 * e + 1) / 2) (omega arith)),
@@ -95,24 +96,23 @@ still-closed : (D : ℕ) (same : ℕ → Bool) (t es : List ℕ) (m e : ℕ) →
 still-closed D same t es m e = ⊎-elim (λ j. inl (joined-by (λ d k. across (has-last es m d .1 (inl k))) j)) inr
 
 module _ {D : ℕ} {same : ℕ → Bool} {t : List ℕ} (S : Standing D t []) where
-
   -- given 9, its darts were joined already
-  nine-joined : {m : ℕ} {es u past : List ℕ} → Merged D same t m es u past → m < D / 2 → judge contraction D u past m ≡ 9
+  nine-joined : {m : ℕ} {es u past : List ℕ} → Turns D same t m es u past → m < D / 2 → judge contraction D u past m ≡ 9
       → Joined D t (Taken es) (2 * m) (2 * m + 1)
   nine-joined {m} {u = u} {past} P below j =
       let (p, q) = until P m (omega arith) below in
       turns-joined S P (2 * m) (2 * m + 1) p q .0 (nine-shares D u past m j)
 
   -- AN EDGE THAT `same` TAKES IS JOINED WHEN ITS TURN IS OVER, OR IT WAS A WHOLE PIECE
-  pub turns-closes : {m : ℕ} {es u past : List ℕ} → Merged D same t m es u past → m ≤ D / 2 → (e : ℕ) → e < m → same e ≡ true → Closed D same t es e
+  pub turns-closes : {m : ℕ} {es u past : List ℕ} → Turns D same t m es u past → m ≤ D / 2 → (e : ℕ) → e < m → same e ≡ true → Closed D same t es e
   turns-closes begins b e h a = absurd (omega arith)
-  turns-closes (other {m} P s) b e h a =
+  turns-closes (passes {m} P (other s)) b e h a =
       by-turn e m h (λ k. turns-closes P (omega arith) e k a) (λ k. absurd (subst T (sym a ∙ ap same k ∙ s) tt))
-  turns-closes (nine {m} P s j) b e h a =
+  turns-closes (passes {m} P (nine s j)) b e h a =
       by-turn e m h (λ k. turns-closes P (omega arith) e k a) (λ k. inl (rw k (nine-joined P (omega arith) j)))
-  turns-closes (eleven {m} {es = es} {u = u} {past = past} P s j) b e h a =
+  turns-closes (passes {m} {es = es} {u = u} {past = past} P (eleven s j)) b e h a =
       by-turn e m h (λ k. turns-closes P (omega arith) e k a)
       (λ k. inr (rw k (record { edges = es; table = u; past = past; turns = P; whole = j })))
   turns-closes (joins {m} {es = es} P s j) b e h a =
-      by-turn e m h (λ k. still-closed D same t es m e (turns-closes P (omega arith) e k a)) (λ k. inl (rw k (across (has-last es m m .1 (inr refl)))))
-
+      by-turn e m h (λ k. still-closed D same t es m e (turns-closes P (omega arith) e k a))
+      (λ k. inl (rw k (across (has-last es m m .1 (inr refl)))))

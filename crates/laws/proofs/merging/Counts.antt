@@ -1,5 +1,7 @@
 -- How many vertices are left.
---   vertices-some, vertices-one, vertices-two == a map with a survivor has a vertex; one where all survivors share it; two where the two survivors do not
+--   vertices-classes == the vertices are the classes of survivors that meet
+--   vertices-some, vertices-one, vertices-two == a map with a survivor has a vertex; one, where all survivors share it; two, where there are two
+--                                                survivors and they do not
 --   turns-vertices  == each contraction has taken one vertex
 --   all-but-tree    == where all edges but a whole piece were taken, the base had one vertex more than edges
 use mathlib.Core.Bool.{Bool, true, false, _||_}
@@ -23,7 +25,7 @@ use Rattle.laws.specs.Standing.{mapOf, Standing}
 use Rattle.laws.proofs.bridge.Standing.{live}
 use Rattle.laws.proofs.bridge.Judged.{same-vertex}
 use Rattle.laws.proofs.bridge.Counting.{counts-numbers, counts-operate}
-use Rattle.laws.proofs.merging.Turns.{Merged, begins, other, nine, eleven, joins}
+use Rattle.laws.proofs.merging.Turns.{Turns, begins, passes, joins}
 use Rattle.laws.proofs.merging.Joins.{turns-standing}
 use Rattle.laws.proofs.merging.Closes.{eleven-whole}
 use Rattle.laws.proofs.merging.Pieces.{AllBut}
@@ -46,7 +48,8 @@ module _ (r : ℕ → ℕ → Bool) where
   classes-one [] all = omega arith
   classes-one (x ∷ []) all = omega arith
   classes-one (x ∷ y ∷ l) all =
-      let met : T (r x y || any (r x) l) = or-intro (r x y) (any (r x) l) (inl (all x y (has-head x (y ∷ l)) (has-tail x y (y ∷ l) (has-head y l)))) in
+      let first : T (r x y) = all x y (has-head x (y ∷ l)) (has-tail x y (y ∷ l) (has-head y l)) in
+      let met : T (r x y || any (r x) l) = or-intro (r x y) (any (r x) l) (inl first) in
       rw (T→true (r x y || any (r x) l) met) (classes-one (y ∷ l) (λ a b h k. all a b (has-tail x a (y ∷ l) h) (has-tail x b (y ∷ l) k)))
 
   -- two that are not
@@ -66,16 +69,16 @@ module _ {D : ℕ} {u past : List ℕ} (S : Standing D u past) where
   abbrev r : ℕ → ℕ → Bool
   r = meetsIn (mapOf D u past .next) D
 
-  shares : (x y : ℕ) → T (live D past x) → T (sameVertex D u x y) ↔ T (r x y)
+  pub shares : (x y : ℕ) → T (live D past x) → T (sameVertex D u x y) ↔ T (r x y)
   shares x y l = Iff·trans (same-vertex S x y l) (meets-iff (S .good .perm) x y)
 
-  counted : countsOf D u past .vertices ≡ classes r (darts (live D past) D)
+  pub vertices-classes : countsOf D u past .vertices ≡ classes r (darts (live D past) D)
   unfolding vertices cycles
-  counted = counts-numbers S .vertices-are
+  vertices-classes = counts-numbers S .vertices-are
 
   pub vertices-some : (x : ℕ) → T (live D past x) → 1 ≤ countsOf D u past .vertices
   vertices-some x l =
-      rw (counted, classes-perm (meets-equiv (S .good .perm)) (darts-out (live D past) x D (S .good .small x l) l))
+      rw (vertices-classes, classes-perm (meets-equiv (S .good .perm)) (darts-out (live D past) x D (S .good .small x l) l))
       (classes-some r x (darts (off (live D past) x) D))
 
   pub vertices-one : (x : ℕ) → T (live D past x) → ((a b : ℕ) → T (live D past a) → T (live D past b) → T (sameVertex D u a b))
@@ -83,15 +86,15 @@ module _ {D : ℕ} {u past : List ℕ} (S : Standing D u past) where
   vertices-one x l all =
       let some = vertices-some x l in
       let most = classes-one r (darts (live D past) D) (λ a b h k.
-          let la = has-darts (live D past) D a h .1 in
-          shares a b la .0 (all a b la (has-darts (live D past) D b k .1))) in
-      let same = counted in
+      let la = has-darts (live D past) D a h .1 in
+      shares a b la .0 (all a b la (has-darts (live D past) D b k .1))) in
+      let same = vertices-classes in
       omega arith
 
-  pub vertices-two : (p q : ℕ) → p ≢ q → T (live D past p) → T (live D past q) → ((x : ℕ) → T (live D past x) → (x ≡ p) ⊎ (x ≡ q)) → ¬ T (sameVertex D u p q)
-      → countsOf D u past .vertices ≡ 2
+  pub vertices-two : (p q : ℕ) → p ≢ q → T (live D past p) → T (live D past q) → ((x : ℕ) → T (live D past x) → (x ≡ p) ⊎ (x ≡ q))
+      → ¬ T (sameVertex D u p q) → countsOf D u past .vertices ≡ 2
   vertices-two p q pq lp lq only apart =
-      counted ∙ classes-perm (meets-equiv (S .good .perm)) both ∙ ap (λ l. classes r (p ∷ q ∷ l)) none
+      vertices-classes ∙ classes-perm (meets-equiv (S .good .perm)) both ∙ ap (λ l. classes r (p ∷ q ∷ l)) none
       ∙ classes-two r p q (λ t. apart (shares p q lp .1 t))
     where
       left : ℕ → Bool
@@ -110,19 +113,20 @@ module _ {D : ℕ} {u past : List ℕ} (S : Standing D u past) where
 
 module _ {D : ℕ} {same : ℕ → Bool} {t : List ℕ} (S : Standing D t []) where
   -- EACH CONTRACTION TAKES ONE VERTEX
-  pub turns-vertices : {m : ℕ} {es u past : List ℕ} → Merged D same t m es u past → countsOf D t [] .vertices ≡ countsOf D u past .vertices + length past
+  pub turns-vertices : {m : ℕ} {es u past : List ℕ} → Turns D same t m es u past
+      → countsOf D t [] .vertices ≡ countsOf D u past .vertices + length past
   turns-vertices begins = omega arith
-  turns-vertices (other P s) = turns-vertices P
-  turns-vertices (nine P s j) = turns-vertices P
-  turns-vertices (eleven P s j) = turns-vertices P
+  turns-vertices (passes P w) = turns-vertices P
   turns-vertices (joins {m} P s j) =
       let before = turns-vertices P in
       let one = counts-operate (turns-standing S P) contraction m j .a-vertex in
       omega arith
 
   -- E - 1 operations leave the two vertices of the whole piece
-  pub all-but-tree : {m : ℕ} {es u past : List ℕ} → Merged D same t m es u past → (e : ℕ) → AllBut D es u past e → countsOf D t [] .vertices ≡ D / 2 + 1
+  pub all-but-tree : {m : ℕ} {es u past : List ℕ} → Turns D same t m es u past → (e : ℕ) → AllBut D es u past e
+      → countsOf D t [] .vertices ≡ D / 2 + 1
   all-but-tree {u = u} {past} P e A =
-      let two = vertices-two (turns-standing S P) (2 * e) (2 * e + 1) (λ k. omega arith) (A .lives .0) (A .lives .1) (A .only) (eleven-whole D u past e (A .whole) .0) in
+      let apart = eleven-whole D u past e (A .whole) .0 in
+      let two = vertices-two (turns-standing S P) (2 * e) (2 * e + 1) (λ k. omega arith) (A .lives .0) (A .lives .1) (A .only) apart in
       let all = turns-vertices P in
       omega (arith, A .last, A .count)

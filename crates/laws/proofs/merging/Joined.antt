@@ -1,9 +1,12 @@
 -- Darts of a base that are joined by some of its edges: what contracting these edges makes one vertex.
 --   Joined D t P x y == the least equivalence in which the darts of a vertex are joined, and the two darts of each edge e for which P e
---   joined-least     == so it is in every equivalence that has these
+--   Wanted D same e  == e is an edge that `same` takes
+--   Equivalence R    == R is an equivalence
+--   joined-least     == what is joined is so in every equivalence that has these
 --   joined-label     == what is one and the same along a vertex and across each such edge is the same for joined darts
 --   joined-by        == where P's edges are joined by Q's, so is all that P's join
 --   joined-piece     == joined darts are in one piece
+use mathlib.Core.Bool.{Bool, true}
 use mathlib.Core.List.{List, []}
 use mathlib.Core.Path.{_≡_, refl, sym, _∙_}
 use Prim.Native.Nat.{ℕ, _+_, _*_, _/_, _<_}
@@ -24,6 +27,10 @@ pub data Joined (D : ℕ) (t : List ℕ) (P : ℕ → Type 0) : ℕ → ℕ → 
   across : {e : ℕ} → P e → Joined D t P (2 * e) (2 * e + 1)
   back : {x y : ℕ} → Joined D t P x y → Joined D t P y x
   further : {x y z : ℕ} → Joined D t P x y → Joined D t P y z → Joined D t P x z
+
+-- an edge that `same` takes
+abbrev pub Wanted : ℕ → (ℕ → Bool) → ℕ → Type 0
+Wanted D same e = (e < D / 2) × (same e ≡ true)
 
 pub record Equivalence (R : ℕ → ℕ → Type 0) : Type 0 where
   pub self : (x : ℕ) → R x x

@@ -25,7 +25,7 @@ use Rattle.laws.proofs.bridge.Judged.{same-vertex, judge-legal}
 use Rattle.laws.proofs.bridge.Operate.{operate-acts}
 use Rattle.laws.proofs.bridge.Walks.{lowestMet, lowest-labels}
 use Rattle.laws.proofs.runs.Runs.{run-stands}
-use Rattle.laws.proofs.merging.Turns.{Merged, begins, other, nine, eleven, joins, turns-run}
+use Rattle.laws.proofs.merging.Turns.{Turns, begins, passes, joins, turns-run}
 use Rattle.laws.proofs.merging.Taken.{Taken, none-taken, has-last}
 use Rattle.laws.proofs.merging.Joined.{Joined, itself, vertex, across, back, further, joined-label, joined-by, base-live}
 
@@ -111,7 +111,8 @@ module _ {D : ℕ} {u past : List ℕ} (S : Standing D u past) (m : ℕ) (fine :
         (λ e. further (still (Λ .joined x (partner p) h (partner-small (S .good) p (contractible .lives)) e)) (back newly))
 
     more-joined : (x y : ℕ) → x < D → y < D → M x ≡ M y → Joined D t (Taken (es ++ (m ∷ []))) x y
-    more-joined x y h k e = ⊎-elim (λ a. still (Λ .joined x y h k a)) (λ b. further (to-first x h (b .0)) (back (to-first y k (b .1)))) (when x y .0 e)
+    more-joined x y h k e =
+        ⊎-elim (λ a. still (Λ .joined x y h k a)) (λ b. further (to-first x h (b .0)) (back (to-first y k (b .1)))) (when x y .0 e)
 
     more-labelled : (x y : ℕ) → Joined D t (Taken (es ++ (m ∷ []))) x y → M x ≡ M y
     more-labelled x y = joined-label M (λ x y h s. when x y .1 (inl (Λ .labelled x y (vertex h s)))) edge
@@ -162,17 +163,15 @@ module _ {D : ℕ} {u past : List ℕ} (S : Standing D u past) (m : ℕ) (fine :
 -- ---- along the turns
 
 module _ {D : ℕ} {same : ℕ → Bool} {t : List ℕ} (S : Standing D t []) where
-  pub turns-standing : {m : ℕ} {es u past : List ℕ} → Merged D same t m es u past → Standing D u past
+  pub turns-standing : {m : ℕ} {es u past : List ℕ} → Turns D same t m es u past → Standing D u past
   turns-standing {es = es} P = run-stands S contraction es (turns-run P)
 
-  pub turns-labelled : {m : ℕ} {es u past : List ℕ} → Merged D same t m es u past → Labelled D t es u past
+  pub turns-labelled : {m : ℕ} {es u past : List ℕ} → Turns D same t m es u past → Labelled D t es u past
   turns-labelled begins = base-labelled S
-  turns-labelled (other P s) = turns-labelled P
-  turns-labelled (nine P s j) = turns-labelled P
-  turns-labelled (eleven P s j) = turns-labelled P
+  turns-labelled (passes P w) = turns-labelled P
   turns-labelled (joins {m} P s j) = more-labels (turns-standing P) m j (turns-labelled P)
 
-  module _ {m : ℕ} {es u past : List ℕ} (P : Merged D same t m es u past) where
+  module _ {m : ℕ} {es u past : List ℕ} (P : Turns D same t m es u past) where
     -- SURVIVORS SHARE A VERTEX EXACTLY WHERE THE EDGES TAKEN JOIN THEM
     pub turns-joined : (a b : ℕ) → T (live D past a) → T (live D past b) → T (sameVertex D u a b) ↔ Joined D t (Taken es) a b
     turns-joined a b la lb =
@@ -182,9 +181,7 @@ module _ {D : ℕ} {same : ℕ → Bool} {t : List ℕ} (S : Standing D t []) wh
         (Iff·trans (Iff·symm (Λ .top .says a b la lb)) (Λ .joined a b (small a la) (small b lb), Λ .labelled a b))
 
   -- EVERY DART IS JOINED TO A SURVIVOR
-  pub turns-left : {m : ℕ} {es u past : List ℕ} → Merged D same t m es u past → (x : ℕ) → x < D → Left D t es past x
+  pub turns-left : {m : ℕ} {es u past : List ℕ} → Turns D same t m es u past → (x : ℕ) → x < D → Left D t es past x
   turns-left begins x h = record { dart = x; lives = base-live D x h; joined = itself }
-  turns-left (other P s) x h = turns-left P x h
-  turns-left (nine P s j) x h = turns-left P x h
-  turns-left (eleven P s j) x h = turns-left P x h
+  turns-left (passes P w) x h = turns-left P x h
   turns-left (joins {m} P s j) x h = left-more (turns-standing P) m j (turns-labelled P) x (turns-left P x h)

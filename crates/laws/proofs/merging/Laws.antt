@@ -2,8 +2,8 @@
 --   merging-joins    == survivors share a vertex exactly where the edges taken join them
 --   merging-closes   == an edge that `same` takes is joined in the end, or it was a whole piece at its turn (11)
 --   merging-whole    == in one piece, such an edge is the last, all the others were taken, and the base had one vertex more than edges
---   merging-survives == every dart is joined to a survivor; so every piece keeps one, and an edge survives
---   merging-counts   == each edge taken takes one vertex, and one at least is left
+--   merging-survives, merging-piece, merging-spare == every dart is joined to a survivor; so every piece keeps one, and an edge survives
+--   merging-counts, merging-vertex == each edge taken takes one vertex, and one at least is left
 --   one-stays        == where a base of one piece has one vertex more than edges, and `same` takes them all, exactly one edge survives
 use mathlib.Core.Bool.{Bool, true}
 use mathlib.Core.List.{List, []}
@@ -18,7 +18,7 @@ use Rattle.darts.specs.Kernel.{stands}
 use Rattle.darts.specs.Counts.{countsOf}
 use Rattle.laws.specs.Standing.{Standing}
 use Rattle.laws.proofs.bridge.Standing.{live}
-use Rattle.laws.proofs.merging.Turns.{Merged, merging, merged}
+use Rattle.laws.proofs.merging.Turns.{Turns, merging, merged}
 use Rattle.laws.proofs.merging.Taken.{Taken}
 use Rattle.laws.proofs.merging.Stands.{merging-turns}
 use Rattle.laws.proofs.merging.Joined.{Joined}
@@ -29,7 +29,7 @@ use Rattle.laws.proofs.merging.Counts.{vertices-some, turns-vertices, a
 use Rattle.laws.proofs.merging.OneStays.{turns-one-stays}
 
 module _ (D : ℕ) (same : ℕ → Bool) (t : List ℕ) (S : Standing D t []) {u past : List ℕ} (stood : merging D same t ≡ stands u past) where
-  abbrev P : Merged D same t (D / 2) (merged D same t) u past
+  abbrev P : Turns D same t (D / 2) (merged D same t) u past
   P = merging-turns D same t stood
 
   pub merging-joins : (a b : ℕ) → T (live D past a) → T (live D past b) → T (sameVertex D u a b) ↔ Joined D t (Taken (merged D same t)) a b

@@ -20,7 +20,7 @@ use Rattle.laws.specs.Standing.{mapOf, Standing}
 use Rattle.laws.proofs.bridge.Standing.{live}
 use Rattle.laws.proofs.bridge.Judged.{same-vertex}
 use Rattle.laws.proofs.bridge.Pieces.{same-piece}
-use Rattle.laws.proofs.merging.Turns.{Merged}
+use Rattle.laws.proofs.merging.Turns.{Turns}
 use Rattle.laws.proofs.merging.Taken.{Taken}
 use Rattle.laws.proofs.merging.Joined.{Joined, itself, vertex, back, further, base-live}
 use Rattle.laws.proofs.merging.Joins.{turns-standing, turns-joined, turns-left}
@@ -64,7 +64,7 @@ module _ {D : ℕ} {t : List ℕ} (S : Standing D t []) (one : OnePiece D t) {P 
       over z (l, j) = (mate-lives (S .good) z l, rw (mate-live (live D []) z l) (further j (partner-joined z (z / 2) refl (S .good .small z l))))
 
 -- OF A TREE EXACTLY ONE EDGE SURVIVES
-pub turns-one-stays : {D : ℕ} {same : ℕ → Bool} {t es u past : List ℕ} → Standing D t [] → Merged D same t (D / 2) es u past → 0 < D → OnePiece D t
+pub turns-one-stays : {D : ℕ} {same : ℕ → Bool} {t es u past : List ℕ} → Standing D t [] → Turns D same t (D / 2) es u past → 0 < D → OnePiece D t
     → ((e : ℕ) → e < D / 2 → same e ≡ true) → countsOf D t [] .vertices ≡ D / 2 + 1 → suc (length past) ≡ D / 2
 turns-one-stays {D} {same} {t} {es} {u} {past} S P some one all tree =
     go (all-or-one (D / 2) (λ e h. turns-closes S P (omega arith) e h (all e h)))
@@ -75,7 +75,7 @@ turns-one-stays {D} {same} {t} {es} {u} {past} S P some one all tree =
         let l = turns-left S P 0 some in
         let small = turns-standing S P .good .small in
         let single = vertices-one (turns-standing S P) (l .dart) (l .lives)
-            (λ a b la lb. turns-joined S P a b la lb .1 (all-joined S one each a b (small a la) (small b lb))) in
+        (λ a b la lb. turns-joined S P a b la lb .1 (all-joined S one each a b (small a la) (small b lb))) in
         let count = turns-vertices S P in
         let spare = turns-spare S P refl some in
         omega arith

@@ -2,7 +2,7 @@
 --   OnePiece D t         == the base is one piece
 --   turns-pieces         == survivors share a piece exactly where they did in the base
 --   AllBut D es u past e == e is the last edge, all the others were taken, and it is a whole piece
---   whole-all-but        == so it is in one piece, where an edge is a whole piece at its turn
+--   whole-all-but, all-but-end == so it is in one piece, where an edge is a whole piece at its turn; and at the end
 --   turns-piece          == every piece keeps a survivor
 --   turns-spare          == an edge survives
 use mathlib.Core.Bool.{Bool, true}
@@ -24,7 +24,7 @@ use Rattle.laws.specs.Standing.{Standing}
 use Rattle.laws.proofs.bridge.Standing.{live}
 use Rattle.laws.proofs.bridge.Numbers.{live-after}
 use Rattle.laws.proofs.bridge.Pieces.{whole-piece, pieces-kept}
-use Rattle.laws.proofs.merging.Turns.{Merged, begins, other, nine, eleven, joins, turns-taken, turns-stand}
+use Rattle.laws.proofs.merging.Turns.{eleven, Turns, begins, passes, joins, turns-taken, turns-stand}
 use Rattle.laws.proofs.merging.Taken.{Taken, turns-below, turns-ahead, turns-count, turns-fewer, turns-all}
 use Rattle.laws.proofs.merging.Joined.{joined-piece}
 use Rattle.laws.proofs.merging.Closes.{WholeAt, eleven-whole, turns-live, until}
@@ -61,25 +61,24 @@ halves x e k = go (ℕ-discrete x (2 * e))
     go (no n) = inr (omega arith)
 
 -- the turns lead to one place
-turns-one : {D : ℕ} {same : ℕ → Bool} {t : List ℕ} {m : ℕ} {es u past fs v new : List ℕ} → Merged D same t m es u past → Merged D same t m fs v new → (es ≡ fs) × ((u ≡ v) × (past ≡ new))
+turns-one : {D : ℕ} {same : ℕ → Bool} {t : List ℕ} {m : ℕ} {es u past fs v new : List ℕ}
+    → Turns D same t m es u past → Turns D same t m fs v new → (es ≡ fs) × ((u ≡ v) × (past ≡ new))
 turns-one {u = u} {past} {v = v} {new} P Q =
     let there : stands u past ≡ stands v new = sym (turns-stand P) ∙ turns-stand Q in
     (sym (turns-taken P) ∙ turns-taken Q, (cc, cc))
 
 module _ {D : ℕ} {same : ℕ → Bool} {t : List ℕ} (S : Standing D t []) where
   -- survivors share a piece exactly where they did in the base
-  pub turns-pieces : {m : ℕ} {es u past : List ℕ} → Merged D same t m es u past → (x y : ℕ) → T (live D past x) → T (live D past y)
+  pub turns-pieces : {m : ℕ} {es u past : List ℕ} → Turns D same t m es u past → (x y : ℕ) → T (live D past x) → T (live D past y)
       → T (samePiece D u x y) ↔ T (samePiece D t x y)
   turns-pieces begins x y lx ly = Iff·rfl
-  turns-pieces (other P s) x y lx ly = turns-pieces P x y lx ly
-  turns-pieces (nine P s j) x y lx ly = turns-pieces P x y lx ly
-  turns-pieces (eleven P s j) x y lx ly = turns-pieces P x y lx ly
+  turns-pieces (passes P w) x y lx ly = turns-pieces P x y lx ly
   turns-pieces (joins {m} {u = u} {past = past} P s j) x y lx ly =
       let p = lead contraction u m in
       Iff·trans (pieces-kept (turns-standing S P) contraction m j x y lx ly) (turns-pieces P x y (live-was D past p x lx) (live-was D past p y ly))
 
   -- in one piece, all edges but a whole piece have been taken
-  module _ (one : OnePiece D t) {e : ℕ} {es u past : List ℕ} (P : Merged D same t e es u past) (below : e < D / 2)
+  module _ (one : OnePiece D t) {e : ℕ} {es u past : List ℕ} (P : Turns D same t e es u past) (below : e < D / 2)
       (whole : judge contraction D u past e ≡ 11) where
     others-taken : (d : ℕ) → d < D / 2 → (d ≡ e) ⊎ Taken es d
     others-taken d h = go (T? (has es d))
@@ -120,7 +119,7 @@ module _ {D : ℕ} {same : ℕ → Bool} {t : List ℕ} (S : Standing D t []) wh
 
   -- ---- survivors
 
-  module _ {m : ℕ} {es u past : List ℕ} (P : Merged D same t m es u past) where
+  module _ {m : ℕ} {es u past : List ℕ} (P : Turns D same t m es u past) where
     -- EVERY PIECE KEEPS A SURVIVOR
     pub turns-piece : m ≤ D / 2 → (x : ℕ) → x < D → (b : ℕ) × T (live D past b) × T (samePiece D t x b)
     turns-piece h x k =
@@ -137,10 +136,10 @@ module _ {D : ℕ} {same : ℕ → Bool} {t : List ℕ} (S : Standing D t []) wh
         omega arith
 
   -- at the end, too
-  pub all-but-end : OnePiece D t → {es u past : List ℕ} → Merged D same t (D / 2) es u past → (e : ℕ) → e < D / 2 → same e ≡ true → WholeAt D same t e
+  pub all-but-end : OnePiece D t → {es u past : List ℕ} → Turns D same t (D / 2) es u past → (e : ℕ) → e < D / 2 → same e ≡ true → WholeAt D same t e
       → AllBut D es u past e
   all-but-end one {es} {u} {past} P e below s W =
       let A = whole-all-but one (W .turns) below (W .whole) in
-      let Q = subst (λ n. Merged D same t n (W .edges) (W .table) (W .past)) (A .last) (eleven (W .turns) s (W .whole)) in
+      let Q = subst (λ n. Turns D same t n (W .edges) (W .table) (W .past)) (A .last) (passes (W .turns) (eleven s (W .whole))) in
       let (edges, (table, history)) = turns-one Q P in
       subst₃ (λ f v h. AllBut D f v h e) edges table history A

@@ -20,7 +20,7 @@ use Rattle.darts.specs.Kernel.{each, rising, stands, run}
 use Rattle.darts.specs.OneByOne.{operationOf}
 use Rattle.laws.proofs.runs.Operations.{run-iff, done-told, told-history}
 use Rattle.laws.proofs.runs.Taking.{pass-taken}
-use Rattle.laws.proofs.merging.Turns.{unlessShared, merging, merged, Merged, turns-taken, turns-stand}
+use Rattle.laws.proofs.merging.Turns.{unlessShared, merging, merged, Turns, turns-taken, turns-stand}
 use Rattle.laws.proofs.merging.Taken.{Taken, Rises, Through, merging-through, taken-rises, turns-below, turns-gone, turns-count}
 
 module _ (D : ℕ) (same : ℕ → Bool) (t : List ℕ) where
@@ -43,12 +43,12 @@ module _ (D : ℕ) (same : ℕ → Bool) (t : List ℕ) where
 
   module _ {u past : List ℕ} (stood : merging D same t ≡ stands u past) where
     -- every edge has had its turn
-    pub merging-turns : Merged D same t (D / 2) (merged D same t) u past
+    pub merging-turns : Turns D same t (D / 2) (merged D same t) u past
     merging-turns =
         let there : stands (all .table) (all .past) ≡ stands u past = sym merging-stands ∙ stood in
         let table : all .table ≡ u = cc in
         let history : all .past ≡ past = cc in
-        subst₃ (Merged D same t (D / 2)) (sym (turns-taken (all .turns))) table history (all .turns)
+        subst₃ (Turns D same t (D / 2)) (sym (turns-taken (all .turns))) table history (all .turns)
 
     -- EACH EDGE TAKEN IS ONE THAT `same` TAKES
     pub merging-takes : (e : ℕ) → Taken (merged D same t) e → (e < D / 2) × (same e ≡ true)

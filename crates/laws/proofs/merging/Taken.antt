@@ -24,7 +24,7 @@ use Rattle.darts.specs.Operation.{Kind, contraction, lead, operate, number, edg
 use Rattle.darts.specs.Kernel.{judge, rising, Test}
 use Rattle.laws.proofs.bridge.Numbers.{number-edge}
 use Rattle.laws.proofs.runs.Taking.{taken}
-use Rattle.laws.proofs.merging.Turns.{Merged, begins, other, nine, eleven, joins, judged-three}
+use Rattle.laws.proofs.merging.Turns.{other, nine, eleven, Turns, begins, passes, joins, judged-three}
 
 abbrev pub Taken : List ℕ → ℕ → Type 0
 Taken es e = T (has es e)
@@ -44,7 +44,8 @@ pub taken-rises : (takes : Test) (k : Kind) (D : ℕ) (t past : List ℕ) (e n :
 unfolding taken rising
 taken-rises takes k D t past e zero = tt
 taken-rises takes k D t past e (suc n) =
-    go (takes t past e) _ _ (taken-rises takes k D (operate k D t past e) (number k (lead k t e) ∷ past) (suc e) n) (taken-rises takes k D t past (suc e) n)
+    go (takes t past e) _ _ (taken-rises takes k D (operate k D t past e) (number k (lead k t e) ∷ past) (suc e) n)
+    (taken-rises takes k D t past (suc e) n)
   where
     go : (b : Bool) (on over : List ℕ) → Rises (suc e) on → Rises (suc e) over → Rises e (if b then e ∷ on else over)
     go true on over r s = (omega arith, r)
@@ -54,7 +55,7 @@ pub none-taken : (e : ℕ) → ¬ (Taken [] e)
 unfolding has any
 none-taken e k = k
 
-has-first : (x e : ℕ) (es : List ℕ) → Taken (x ∷ es) e ↔ ((e ≡ x) ⊎ Taken es e)
+pub has-first : (x e : ℕ) (es : List ℕ) → Taken (x ∷ es) e ↔ ((e ≡ x) ⊎ Taken es e)
 unfolding has any
 has-first x e es = or-iff (eqb e x) (has es e) (eqb-iff e x) Iff·rfl
 
@@ -77,64 +78,51 @@ rising-end e (suc n) = ap (λ l. e ∷ l) (rising-end (suc e) n ∙ ap (λ x. ri
 -- ---- what was taken when m edges have had their turns
 
 module _ {D : ℕ} {same : ℕ → Bool} {t : List ℕ} where
-  pub turns-below : {m : ℕ} {es u past : List ℕ} → Merged D same t m es u past → (e : ℕ) → Taken es e → (e < m) × (same e ≡ true)
-  unfolding has any
-  turns-below begins e k = absurd k
-  turns-below (other P s) e k = let (l, a) = turns-below P e k in (omega arith, a)
-  turns-below (nine P s j) e k = let (l, a) = turns-below P e k in (omega arith, a)
-  turns-below (eleven P s j) e k = let (l, a) = turns-below P e k in (omega arith, a)
+  pub turns-below : {m : ℕ} {es u past : List ℕ} → Turns D same t m es u past → (e : ℕ) → Taken es e → (e < m) × (same e ≡ true)
+  turns-below begins e k = absurd (none-taken e k)
+  turns-below (passes P w) e k = let (l, a) = turns-below P e k in (omega arith, a)
   turns-below (joins {m} {es = es} P s j) e k =
       ⊎-elim (λ h. let (l, a) = turns-below P e h in (omega arith, a)) (λ (h : e ≡ m). (omega arith, rw h s)) (has-last es m e .0 k)
 
   -- an edge whose turn is yet to come was not taken
-  pub turns-ahead : {m : ℕ} {es u past : List ℕ} → Merged D same t m es u past → (e : ℕ) → m ≤ e → ¬ (Taken es e)
+  pub turns-ahead : {m : ℕ} {es u past : List ℕ} → Turns D same t m es u past → (e : ℕ) → m ≤ e → ¬ (Taken es e)
   turns-ahead P e h k = let (l, a) = turns-below P e k in omega arith
 
   -- A DART IS GONE EXACTLY WHERE ITS EDGE WAS TAKEN
-  pub turns-gone : {m : ℕ} {es u past : List ℕ} → Merged D same t m es u past → (d : ℕ) → T (gone past d) ↔ Taken es (d / 2)
+  pub turns-gone : {m : ℕ} {es u past : List ℕ} → Turns D same t m es u past → (d : ℕ) → T (gone past d) ↔ Taken es (d / 2)
   unfolding has any gone edgeOf
   turns-gone begins d = Iff·rfl
-  turns-gone (other P s) d = turns-gone P d
-  turns-gone (nine P s j) d = turns-gone P d
-  turns-gone (eleven P s j) d = turns-gone P d
+  turns-gone (passes P w) d = turns-gone P d
   turns-gone (joins {m} {es = es} {u = u} {past = past} P s j) d =
       Iff·trans (or-iff (eqb (number contraction (lead contraction u m) / 4) (d / 2)) (gone past d)
       (Iff·trans (eqb-iff (number contraction (lead contraction u m) / 4) (d / 2)) (rw (number-edge contraction u m) (sym, sym))) (turns-gone P d))
       (Iff·trans (⊎-swap, ⊎-swap) (Iff·symm (has-last es m (d / 2))))
 
   -- one operation for each
-  pub turns-count : {m : ℕ} {es u past : List ℕ} → Merged D same t m es u past → length past ≡ length es
+  pub turns-count : {m : ℕ} {es u past : List ℕ} → Turns D same t m es u past → length past ≡ length es
   turns-count begins = refl
-  turns-count (other P s) = turns-count P
-  turns-count (nine P s j) = turns-count P
-  turns-count (eleven P s j) = turns-count P
+  turns-count (passes P w) = turns-count P
   turns-count (joins P s j) = let e = turns-count P in simp length-append (omega arith)
 
-  pub turns-most : {m : ℕ} {es u past : List ℕ} → Merged D same t m es u past → length es ≤ m
+  pub turns-most : {m : ℕ} {es u past : List ℕ} → Turns D same t m es u past → length es ≤ m
   turns-most begins = omega arith
-  turns-most (other P s) = let h = turns-most P in omega arith
-  turns-most (nine P s j) = let h = turns-most P in omega arith
-  turns-most (eleven P s j) = let h = turns-most P in omega arith
+  turns-most (passes P w) = let h = turns-most P in omega arith
   turns-most (joins P s j) = let h = turns-most P in simp length-append (omega arith)
 
   -- fewer than had their turns, where one of these was passed over
-  pub turns-fewer : {m : ℕ} {es u past : List ℕ} → Merged D same t m es u past → (e : ℕ) → e < m → ¬ (Taken es e) → length es < m
+  pub turns-fewer : {m : ℕ} {es u past : List ℕ} → Turns D same t m es u past → (e : ℕ) → e < m → ¬ (Taken es e) → length es < m
   turns-fewer begins e h n = absurd (omega arith)
-  turns-fewer (other P s) e h n = let k = turns-most P in omega arith
-  turns-fewer (nine P s j) e h n = let k = turns-most P in omega arith
-  turns-fewer (eleven P s j) e h n = let k = turns-most P in omega arith
+  turns-fewer (passes P w) e h n = let k = turns-most P in omega arith
   turns-fewer (joins {m} {es = es} P s j) e h n =
       let not-last : e ≢ m = λ k. n (has-last es m e .1 (inr k)) in
       let k = turns-fewer P e (omega arith) (λ a. n (has-last es m e .1 (inl a))) in
       simp length-append (omega arith)
 
   -- all of them, where none was passed over
-  pub turns-all : {m : ℕ} {es u past : List ℕ} → Merged D same t m es u past → ((e : ℕ) → e < m → Taken es e) → es ≡ rising 0 m
+  pub turns-all : {m : ℕ} {es u past : List ℕ} → Turns D same t m es u past → ((e : ℕ) → e < m → Taken es e) → es ≡ rising 0 m
   unfolding rising
   turns-all begins all = refl
-  turns-all (other {m} P s) all = absurd (turns-ahead P m (omega arith) (all m (omega arith)))
-  turns-all (nine {m} P s j) all = absurd (turns-ahead P m (omega arith) (all m (omega arith)))
-  turns-all (eleven {m} P s j) all = absurd (turns-ahead P m (omega arith) (all m (omega arith)))
+  turns-all (passes {m} P w) all = absurd (turns-ahead P m (omega arith) (all m (omega arith)))
   turns-all (joins {m} {es = es} P s j) all =
       let before = turns-all P (λ e h. ⊎-elim (λ a. a) (λ k. absurd (omega arith)) (has-last es m e .0 (all e (omega arith)))) in
       ap (λ l. l ++ (m ∷ [])) before ∙ sym (rising-end 0 m ∙ ap (λ x. rising 0 m ++ (x ∷ [])) (omega arith))
@@ -145,7 +133,7 @@ pub record Through (D : ℕ) (same : ℕ → Bool) (t : List ℕ) (m : ℕ) : Ty
   pub edges : List ℕ
   pub table : List ℕ
   pub past : List ℕ
-  pub turns : Merged D same t m edges table past
+  pub turns : Turns D same t m edges table past
 
 module _ (D : ℕ) (same : ℕ → Bool) (t : List ℕ) where
   -- an edge that is not gone is given 0, 9 or 11, and what is given 0 is taken
@@ -158,10 +146,10 @@ module _ (D : ℕ) (same : ℕ → Bool) (t : List ℕ) where
       go : (b : Bool) → same m ≡ b
           → (judge contraction D (R .table) (R .past) m ≡ 0)
           ⊎ ((judge contraction D (R .table) (R .past) m ≡ 9) ⊎ (judge contraction D (R .table) (R .past) m ≡ 11)) → Through D same t (suc m)
-      go false s j = record { edges = R .edges; table = R .table; past = R .past; turns = other (R .turns) s }
+      go false s j = record { edges = R .edges; table = R .table; past = R .past; turns = passes (R .turns) (other s) }
       go true s (inl j) = record { edges = _; table = _; past = _; turns = joins (R .turns) s j }
-      go true s (inr (inl j)) = record { edges = R .edges; table = R .table; past = R .past; turns = nine (R .turns) s j }
-      go true s (inr (inr j)) = record { edges = R .edges; table = R .table; past = R .past; turns = eleven (R .turns) s j }
+      go true s (inr (inl j)) = record { edges = R .edges; table = R .table; past = R .past; turns = passes (R .turns) (nine s j) }
+      go true s (inr (inr j)) = record { edges = R .edges; table = R .table; past = R .past; turns = passes (R .turns) (eleven s j) }
 
   all-turns : (m : ℕ) → m ≤ D / 2 → Through D same t m
   all-turns zero h = record { edges = []; table = t; past = []; turns = begins }

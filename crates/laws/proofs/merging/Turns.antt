@@ -1,12 +1,13 @@
--- Merging: one pass over the edges by rising number, which contracts those that a test takes, unless 9 or 11 would be given (document 02, request One: the
--- first kernel of a plan, where the test is that both ends have the same code).
+-- Merging: one pass over the edges by rising number, which contracts those that a test takes, unless 9 or 11 would be given (document 02, request
+-- One: the first kernel of a plan, where the test is that both ends have the same code).
 --   unlessShared D same == an edge is taken: `same` takes it, and it is given neither 9 nor 11 at its turn
 --   merging D same t    == the run of the pass on the base t
 --   merged D same t     == the edges that the pass takes
---   Merged D same t m es u past == the first m edges have had their turns: es were taken, and the map stands at u and past
+--   Passed D same u past m == edge m is passed over: `same` does not take it, or it is given 9 or 11
+--   Turns D same t m es u past == the first m edges have had their turns: es were taken, and the map stands at u and past
 --   judged-three        == an edge that is not gone is given 0, 9 or 11
 --   turns-taken, turns-run, turns-stand == the pass over the first m edges takes these, they may be contracted at their turns, and it stands there
-use mathlib.Core.Bool.{Bool, true, false, _&&_, _||_, not}
+use mathlib.Core.Bool.{Bool, true, false, _&&_, _||_, not, and-false}
 use mathlib.Core.List.{List, [], _∷_, _++_, append-nil, append-assoc}
 use mathlib.Core.Logic.{_⊎_, inl, inr}
 use mathlib.Core.Path.{_≡_, refl, sym, ap, _∙_}
@@ -34,14 +35,17 @@ merging D same t = pass (unlessShared D same) D t [] (each contraction (rising 0
 abbrev pub merged : ℕ → (ℕ → Bool) → List ℕ → List ℕ
 merged D same t = taken (unlessShared D same) contraction D t [] (rising 0 (D / 2))
 
--- edge by edge: not one of those, or given 9, or given 11, or taken
-pub data Merged (D : ℕ) (same : ℕ → Bool) (t : List ℕ) : ℕ → List ℕ → List ℕ → List ℕ → Type 0 where
-  begins : Merged D same t 0 [] t []
-  other : {m : ℕ} {es u past : List ℕ} → Merged D same t m es u past → same m ≡ false → Merged D same t (suc m) es u past
-  nine : {m : ℕ} {es u past : List ℕ} → Merged D same t m es u past → same m ≡ true → judge contraction D u past m ≡ 9 → Merged D same t (suc m) es u past
-  eleven : {m : ℕ} {es u past : List ℕ} → Merged D same t m es u past → same m ≡ true → judge contraction D u past m ≡ 11 → Merged D same t (suc m) es u past
-  joins : {m : ℕ} {es u past : List ℕ} → Merged D same t m es u past → same m ≡ true → judge contraction D u past m ≡ 0
-      → Merged D same t (suc m) (es ++ (m ∷ [])) (operate contraction D u past m) (number contraction (lead contraction u m) ∷ past)
+-- why an edge is passed over
+pub data Passed (D : ℕ) (same : ℕ → Bool) (u past : List ℕ) (m : ℕ) : Type 0 where
+  other : same m ≡ false → Passed D same u past m
+  nine : same m ≡ true → judge contraction D u past m ≡ 9 → Passed D same u past m
+  eleven : same m ≡ true → judge contraction D u past m ≡ 11 → Passed D same u past m
+
+pub data Turns (D : ℕ) (same : ℕ → Bool) (t : List ℕ) : ℕ → List ℕ → List ℕ → List ℕ → Type 0 where
+  begins : Turns D same t 0 [] t []
+  passes : {m : ℕ} {es u past : List ℕ} → Turns D same t m es u past → Passed D same u past m → Turns D same t (suc m) es u past
+  joins : {m : ℕ} {es u past : List ℕ} → Turns D same t m es u past → same m ≡ true → judge contraction D u past m ≡ 0
+      → Turns D same t (suc m) (es ++ (m ∷ [])) (operate contraction D u past m) (number contraction (lead contraction u m) ∷ past)
 
 -- ---- an edge at its turn
 
@@ -59,25 +63,11 @@ judged-three D t past e below stays =
     rw (edge, stays) (three (sameVertex D t (2 * e) (2 * e + 1)) (wholeEdge t e))
 
 module _ (D : ℕ) (same : ℕ → Bool) (t past : List ℕ) (e : ℕ) where
-  passes-other : same e ≡ false → unlessShared D same t past e ≡ false
+  passed-over : Passed D same t past e → unlessShared D same t past e ≡ false
   unfolding unlessShared
-  passes-other s = rw s
-
-  passes-nine : judge contraction D t past e ≡ 9 → unlessShared D same t past e ≡ false
-  unfolding unlessShared
-  passes-nine j = rw j (go (same e))
-    where
-      go : (b : Bool) → (b && false) ≡ false
-      go true = refl
-      go false = refl
-
-  passes-eleven : judge contraction D t past e ≡ 11 → unlessShared D same t past e ≡ false
-  unfolding unlessShared
-  passes-eleven j = rw j (go (same e))
-    where
-      go : (b : Bool) → (b && false) ≡ false
-      go true = refl
-      go false = refl
+  passed-over (other s) = rw s
+  passed-over (nine s j) = rw j (and-false (same e))
+  passed-over (eleven s j) = rw j (and-false (same e))
 
   takes-free : same e ≡ true → judge contraction D t past e ≡ 0 → unlessShared D same t past e ≡ true
   unfolding unlessShared
@@ -87,30 +77,26 @@ module _ (D : ℕ) (same : ℕ → Bool) (t past : List ℕ) (e : ℕ) where
 
 module _ {D : ℕ} {same : ℕ → Bool} {t : List ℕ} where
   -- of m and n more edges it takes es, and what it takes of the n others from there on
-  taken-on : {m : ℕ} {es u past : List ℕ} → Merged D same t m es u past → (n k : ℕ) → m + n ≡ k
+  taken-on : {m : ℕ} {es u past : List ℕ} → Turns D same t m es u past → (n k : ℕ) → m + n ≡ k
       → taken (unlessShared D same) contraction D t [] (rising 0 k) ≡ es ++ taken (unlessShared D same) contraction D u past (rising m n)
   unfolding taken rising
   taken-on begins n k e = let all : k ≡ n = omega arith in ap (λ x. taken (unlessShared D same) contraction D t [] (rising 0 x)) all
-  taken-on (other {m} {u = u} {past = past} P s) n k e = taken-on P (suc n) k (omega arith) ∙ rw (passes-other D same u past m s)
-  taken-on (nine {m} {u = u} {past = past} P s j) n k e = taken-on P (suc n) k (omega arith) ∙ rw (passes-nine D same u past m j)
-  taken-on (eleven {m} {u = u} {past = past} P s j) n k e = taken-on P (suc n) k (omega arith) ∙ rw (passes-eleven D same u past m j)
+  taken-on (passes {m} {u = u} {past = past} P w) n k e = taken-on P (suc n) k (omega arith) ∙ rw (passed-over D same u past m w)
   taken-on (joins {m} {es = es} {u = u} {past = past} P s j) n k e =
       taken-on P (suc n) k (omega arith) ∙ rw (takes-free D same u past m s j) (sym (append-assoc es (m ∷ []) _))
 
-  pub turns-taken : {m : ℕ} {es u past : List ℕ} → Merged D same t m es u past → taken (unlessShared D same) contraction D t [] (rising 0 m) ≡ es
+  pub turns-taken : {m : ℕ} {es u past : List ℕ} → Turns D same t m es u past → taken (unlessShared D same) contraction D t [] (rising 0 m) ≡ es
   unfolding taken rising
   turns-taken {m} {es} P = taken-on P 0 m (omega arith) ∙ append-nil es
 
   -- what is taken may be contracted at its turn
-  pub turns-run : {m : ℕ} {es u past : List ℕ} → Merged D same t m es u past → run contraction D t [] es ≡ stands u past
+  pub turns-run : {m : ℕ} {es u past : List ℕ} → Turns D same t m es u past → run contraction D t [] es ≡ stands u past
   turns-run begins = run-none contraction D t []
-  turns-run (other P s) = turns-run P
-  turns-run (nine P s j) = turns-run P
-  turns-run (eleven P s j) = turns-run P
+  turns-run (passes P w) = turns-run P
   turns-run (joins {m} {es = es} P s j) = run-done contraction D es t [] (turns-run P) m j
 
   -- THE PASS OVER THE FIRST EDGES STANDS WHERE THEIR TURNS LEAD
-  pub turns-stand : {m : ℕ} {es u past : List ℕ} → Merged D same t m es u past
+  pub turns-stand : {m : ℕ} {es u past : List ℕ} → Turns D same t m es u past
       → pass (unlessShared D same) D t [] (each contraction (rising 0 m)) ≡ stands u past
   turns-stand {m} P =
       pass-taken (unlessShared D same) contraction D t [] (rising 0 m) ∙ ap (run contraction D t []) (turns-taken P) ∙ turns-run P
