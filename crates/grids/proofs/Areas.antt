@@ -10,7 +10,7 @@ use mathlib.Core.List.{List, []}
 use mathlib.Core.Logic.{_⊎_, _↔_, inl, inr, ⊎-elim, Iff·trans}
 use mathlib.Core.Path.{_≡_, refl, sym, ap, _∙_, subst}
 use Prim.Native.Nat.{ℕ, zero, suc, _+_, _-_, _*_, _/_, _%_, _<_, _≤_}
-use native.Mathlib.Numerals.{add-one, unary-clauses}
+use native.Mathlib.Numerals.{unary-clauses}
 use native.Mathlib.Omega.{arith}
 use lib.Dec.{T, eqb, eqb→eq}
 use lib.ListN.{length}
@@ -22,15 +22,15 @@ use Rattle.darts.specs.Counts.{countsOf}
 use Rattle.laws.proofs.bridge.Standing.{live}
 use Rattle.laws.proofs.merging.Turns.{unlessShared, merging}
 use Rattle.laws.proofs.merging.Laws.{one-stays}
-use Rattle.laws.proofs.merging.Areas.{Excepted as Tree, Cells, Area, alone, over, turned, onward, areas as merged-areas, area-survives}
-use Rattle.grids.specs.Grid.{Grid, sized, cells, cell, along, edges, dartsOf, Beside, right, above}
+use Rattle.laws.proofs.merging.Cells.{Area, alone, over, turned, onward, area-least}
+use Rattle.laws.proofs.merging.Areas.{Excepted as Tree, areas as merged-areas, area-survives}
+use Rattle.grids.specs.Grid.{Grid, sized, cells, along, edges, dartsOf, Beside}
 use Rattle.grids.specs.Base.{cellOf, baseTable}
 use Rattle.grids.specs.Plans.{codeAt, oneCode, takesFirst, firstKernel, OneArea, itself, onward as onwards, back}
 use Rattle.grids.proofs.Sides.{along-closed, along-flat}
-use Rattle.grids.proofs.Edges.{is-cell}
 use Rattle.grids.proofs.Limits.{limits}
 use Rattle.grids.proofs.PlanBase.{Edge, Dart, PlanBase, plan-base, base-stands}
-use Rattle.grids.proofs.OnePiece.{one-piece}
+use Rattle.grids.proofs.OnePiece.{base-cells, every-cell-reached, one-piece}
 use Rattle.grids.proofs.CellsCounted.{cells-counted}
 
 -- ---- the first kernel is a merging
@@ -121,29 +121,11 @@ module _ (g : Grid) (s : T (sized g)) where
 
 -- ---- one code on all edges is one code on all cells
 
-module _ (g : Grid) (s : T (sized g)) (plan : List ℕ) where
-  edge-code : ((e : ℕ) → e < edges g → oneCode g plan e ≡ true) → {a b : ℕ} → Beside g a b → codeAt plan a ≡ codeAt plan b
-  edge-code all {a} {b} n =
-      let j = plan-base g s .joining a b n in
-      rw (j .even-at, j .odd-at) at (codes-same g plan (j .edge) (all (j .edge) (j .below)))
-
-  module _ (all : (e : ℕ) → e < edges g → oneCode g plan e ≡ true) where
-    course-code : (x y : ℕ) → x < g .wales → y < g .courses → codeAt plan (cell g x y) ≡ codeAt plan (cell g 0 y)
-    course-code zero y h k = refl
-    course-code (suc x) y h k =
-        let step = edge-code all (right x y (omega arith) k) in
-        sym (rw (add-one x) at step) ∙ course-code x y (omega arith) k
-
-    wale-code : (y : ℕ) → y < g .courses → codeAt plan (cell g 0 y) ≡ codeAt plan (cell g 0 0)
-    wale-code zero k = refl
-    wale-code (suc y) k =
-        let step = edge-code all (above 0 y (limits g s .some-wale) (omega arith)) in
-        sym (rw (add-one y) at step) ∙ wale-code y (omega arith)
-
-    pub single-code : (c : ℕ) → c < cells g → codeAt plan c ≡ codeAt plan (cell g 0 0)
-    single-code c h =
-        let i = is-cell g c h in
-        rw (i .number) at (course-code (c % g .wales) (c / g .wales) (i .wale) (i .course) ∙ wale-code (c / g .wales) (i .course))
+pub single-code : (g : Grid) → T (sized g) → (plan : List ℕ) → ((e : ℕ) → e < edges g → oneCode g plan e ≡ true)
+    → (a b : ℕ) → a < cells g → b < cells g → codeAt plan a ≡ codeAt plan b
+single-code g s plan all a b h k =
+    area-least (λ x y. codeAt plan x ≡ codeAt plan y) (record { self = λ x. refl; flip = λ x y e. sym e; chain = λ x y z d e. d ∙ e })
+    (λ e l o. codes-same g plan e (all e (omega arith))) (every-cell-reached g s a b h k)
 
 -- ---- what the first kernel leaves
 
@@ -168,15 +150,12 @@ module _ (g : Grid) (s : T (sized g)) (plan : List ℕ) {u past : List ℕ} (sto
   abbrev merges : merging D (oneCode g plan) (baseTable g) ≡ stands u past
   merges = sym (first-merges g plan) ∙ stood
 
-  abbrev base-cells : Cells D (baseTable g) (cellOf g)
-  base-cells = record { says = plan-base g s .vertices }
-
   tree-excepted : Tree D (oneCode g plan) (baseTable g) → Excepted g plan
   tree-excepted (count, all) =
       let c = cells-counted g s in
       let thin = tree-thin g s (omega arith) in
       let each : (e : ℕ) → e < edges g → oneCode g plan e ≡ true = λ e h. all e (omega arith) in
-      record { flat = thin .0; thin = thin .1; single = λ a b h k. single-code g s plan each a h ∙ sym (single-code g s plan each b k) }
+      record { flat = thin .0; thin = thin .1; single = single-code g s plan each }
 
   single-edges : Excepted g plan → (e : ℕ) → e < D / 2 → oneCode g plan e ≡ true
   unfolding oneCode
@@ -194,11 +173,11 @@ module _ (g : Grid) (s : T (sized g)) (plan : List ℕ) {u past : List ℕ} (sto
   pub areas : Areas g plan u past
   areas = record {
     shares = λ plain a b la lb.
-        Iff·trans (merged-areas D (oneCode g plan) (baseTable g) (base-stands g) base-cells merges (one-piece g s) (λ z. plain (tree-excepted z)) a b la lb)
+        Iff·trans (merged-areas D (oneCode g plan) (baseTable g) (base-stands g) (base-cells g s) merges (one-piece g s) (λ z. plain (tree-excepted z)) a b la lb)
         (area-to g s plan, area-from g s plan);
     survives = λ c h.
         let d = plan-base g s .every c h in
-        let (b, l, r) = area-survives D (oneCode g plan) (baseTable g) (base-stands g) base-cells merges (d .dart) (d .below) in
+        let (b, l, r) = area-survives D (oneCode g plan) (baseTable g) (base-stands g) (base-cells g s) merges (d .dart) (d .below) in
         record { dart = b; lives = l; area = area-to g s plan (rw (d .stands) at r) };
     stays = one-edge-stays;
   }

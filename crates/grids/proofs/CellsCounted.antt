@@ -10,12 +10,12 @@ use Rattle.permutations.proofs.Euler.{vertices}
 use Rattle.darts.specs.Map.{live}
 use Rattle.darts.specs.Counts.{countsOf}
 use Rattle.laws.specs.Standing.{mapOf}
+use Rattle.laws.proofs.bridge.Bases.{all-live}
 use Rattle.laws.proofs.bridge.Judged.{same-vertex}
 use Rattle.laws.proofs.bridge.Counting.{counts-numbers}
 use Rattle.grids.specs.Grid.{Grid, sized, cells, dartsOf}
 use Rattle.grids.specs.Base.{cellOf, baseTable}
-use Rattle.grids.proofs.Rounds.{all-live}
-use Rattle.grids.proofs.Numbered.{cycles-numbered}
+use Rattle.permutations.proofs.Numbered.{cycles-numbered}
 use Rattle.grids.proofs.PlanBase.{plan-base, base-stands, base-vertices}
 
 pub cells-label : (g : Grid) → Labels (live (dartsOf g) []) (mapOf (dartsOf g) (baseTable g) [] .next) (cellOf g)

@@ -10,7 +10,6 @@ pub mod Successors
 pub mod Limits
 pub mod PlanBase
 pub mod OnePiece
-pub mod Numbered
 pub mod CellsCounted
 pub mod Areas
 pub mod Planning

@@ -15,6 +15,7 @@ use Rattle.darts.specs.Map.{successor, sameVertex, gone, survives, live}
 use Rattle.darts.specs.Kernel.{rising}
 use Rattle.laws.specs.Standing.{mapOf, Standing}
 use Rattle.laws.proofs.bridge.Standing.{live-iff, next-entry}
+use Rattle.laws.proofs.bridge.Bases.{all-live}
 use Rattle.laws.proofs.bridge.StandsBy.{stands-by}
 use Rattle.laws.proofs.bridge.Judged.{same-vertex}
 use Rattle.grids.specs.Base.{has, nextIn, placeOf}
@@ -32,11 +33,6 @@ placeIn n R d = placeOf d (map R (rising 0 n))
 
 abbrev pub roundTable : ℕ → ℕ → (ℕ → List ℕ) → List ℕ
 roundTable D n R = map (λ d. nextIn d (R (placeIn n R d))) (rising 0 D)
-
--- where no dart is gone, every dart is live
-pub all-live : (D x : ℕ) → T (live D [] x) ↔ (x < D)
-unfolding survives gone
-all-live D x = (λ l. live-iff D [] x .0 l .0, λ h. live-iff D [] x .1 (h, tt))
 
 module _ {D n : ℕ} {R : ℕ → List ℕ} (ρ : Rounds D n R) where
   pub place-round : (c d : ℕ) → c < n → T (has d (R c)) → placeIn n R d ≡ c

@@ -10,5 +10,4 @@ pub mod Level
 pub mod OneStays
 pub mod Laws
 pub mod Cells
-pub mod Counted
 pub mod Areas

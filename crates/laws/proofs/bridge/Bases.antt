@@ -69,7 +69,7 @@ module _ {D : ℕ} {t : List ℕ} (fine : (x : ℕ) → x < D → Fine D t x) wh
       go (no n) (no m) = omega arith
 
 -- in a base every dart survives
-all-live : (D x : ℕ) → T (live D [] x) ↔ (x < D)
+pub all-live : (D x : ℕ) → T (live D [] x) ↔ (x < D)
 unfolding survives gone
 all-live D x = (λ l. live-iff D [] x .0 l .0, λ h. live-iff D [] x .1 (h, tt))
 
