@@ -8,7 +8,7 @@
 --   areas-five    == 5 is given exactly where there are none
 --   areas-areas   == its vertices are the areas
 use mathlib.Core.Bool.{Bool}
-use mathlib.Core.List.{List, [], _∷_, reverse}
+use mathlib.Core.List.{List, [], _∷_, _++_, reverse}
 use mathlib.Core.Logic.{_↔_, _≢_}
 use mathlib.Core.Path.{_≡_, refl, sym, ap, _∙_}
 use Prim.Native.Nat.{ℕ}
@@ -16,13 +16,16 @@ use native.Mathlib.Omega.{arith}
 use lib.Dec.{T}
 use lib.ListN.{length}
 use Rattle.slices.specs.Over.{over}
-use Rattle.slices.proofs.Over.{over-front, over-length}
+use Rattle.slices.proofs.Over.{over-rest}
 use Rattle.darts.specs.Answers.{done, emptyKernel}
 use Rattle.darts.specs.Operation.{contraction}
 use Rattle.darts.specs.Kernel.{stands}
 use Rattle.darts.specs.State.{State, baseState, gives, refuses, raised, levelled, reduce}
 use Rattle.darts.specs.Pyramid.{Pyramid}
 use Rattle.darts.specs.Calls.{After, leaves, cleared, tableOf, pastOf, reduceBy}
+use Rattle.laws.proofs.tests.Passes.{pyramid-shaped}
+use Rattle.laws.proofs.calls.Cleared.{cleared-rest, cleared-kept}
+use Rattle.laws.proofs.calls.Judging.{Lent}
 use Rattle.laws.proofs.chained.OnLent.{Left, laid-table, laid-past, laid-left, on-gives}
 use Rattle.laws.proofs.merging.Turns.{merging, merged}
 use Rattle.laws.proofs.merging.Taken.{merging-through}
@@ -32,7 +35,7 @@ use Rattle.grids.specs.Grid.{Grid, sized, dartsOf}
 use Rattle.grids.specs.Base.{baseTable}
 use Rattle.grids.specs.Plans.{oneCode, firstKernel, begun, onPlan, planBase, planAreas}
 use Rattle.grids.proofs.Limits.{Limits, sized-limits}
-use Rattle.grids.proofs.PlanBase.{PlanBase, plan-base}
+use Rattle.grids.proofs.PlanBase.{PlanBase, plan-base, base-stands}
 use Rattle.grids.proofs.Planning.{Enough, Planning, outside, cramped, begins, planning}
 use Rattle.grids.proofs.Areas.{Areas, areas, first-merges}
 
@@ -108,3 +111,94 @@ module _ (g : Grid) (plan t h w : List ℕ) where
       go (outside n e) = absurd (n l)
       go (cramped m n e) = absurd (n k)
       go (begins m n e) = by-past _ refl e
+
+  -- the ways of an accepted call
+  abbrev Accepts : Type 0
+  Accepts = planAreas g plan t h w .answer .number ≡ 0
+
+  pub record Built : Type 0 where
+    pub within : Limits g
+    pub enough : Enough g (length plan) (length t) (length h) (length w)
+    pub ends : Ends
+
+  pub areas-built : Accepts → Built
+  unfolding planAreas
+  areas-built z = go (planning g (levelled (baseState D) [] (firstKernel g plan)) plan t h w)
+    where
+      go : Planning g (levelled (baseState D) [] (firstKernel g plan)) plan t h w → Built
+      go (outside n e) = absurd (let k : 15 ≡ 0 = rw e at z in omega arith)
+      go (cramped l n e) = absurd (let k : 2 ≡ 0 = rw e at z in omega arith)
+      go (begins l k e) = record { within = l; enough = k; ends = areas-ends l k }
+
+  pub areas-left : Accepts → Left D t h w (planAreas g plan t h w)
+  unfolding raised
+  areas-left z = let b = areas-built z in go (b .enough) (b .ends)
+    where
+      go : Enough g (length plan) (length t) (length h) (length w) → Ends → Left D t h w (planAreas g plan t h w)
+      go k (none n e) = absurd (let q : 5 ≡ 0 = rw e at z in omega arith)
+      go k (level s some P e) = rw e (laid-left P t h w (k .lengths))
+
+  -- THE VERTICES OF LEVEL 1 ARE THE AREAS
+  pub areas-areas : Accepts → Areas g plan (tableOf (planAreas g plan t h w .state) (planAreas g plan t h w .table))
+      (pastOf (planAreas g plan t h w .state) (planAreas g plan t h w .history))
+  unfolding raised
+  areas-areas z = let b = areas-built z in go (b .within) (b .enough) (b .ends)
+    where
+      go : Limits g → Enough g (length plan) (length t) (length h) (length w) → Ends
+          → Areas g plan (tableOf (planAreas g plan t h w .state) (planAreas g plan t h w .table))
+          (pastOf (planAreas g plan t h w .state) (planAreas g plan t h w .history))
+      go l k (none n e) = absurd (let q : 5 ≡ 0 = rw e at z in omega arith)
+      go l k (level {u} {past} s some P e) =
+          rw (e, laid-table P t h w (k .lengths), laid-past P t h w (k .lengths)) (areas g (sized-limits g .1 l) plan s)
+
+  -- "The second call answers 5, as a refused start, where its kernel would take no edge."
+  pub areas-five : Limits g → Enough g (length plan) (length t) (length h) (length w)
+      → (planAreas g plan t h w .answer .number ≡ 5) ↔ (firstEdges g plan ≡ [])
+  areas-five l k = go (areas-ends l k)
+    where
+      go : Ends → (planAreas g plan t h w .answer .number ≡ 5) ↔ (firstEdges g plan ≡ [])
+      go (none n e) = (λ _. n, λ _. rw e)
+      go (level {u} {past} s some P e) = (
+        λ z. absurd (let q : 0 ≡ 5 = rw e at z in omega arith),
+        λ n. absurd (some (empty-list past (merging-count D same (baseTable g) (sym (first-merges g plan) ∙ s) ∙ ap length n))),
+      )
+
+  -- ---- an ordinary kernel
+
+  base-leaves : Limits g → Enough g (length plan) (length t) (length h) (length w)
+      → planBase g plan t h w ≡ leaves done (baseState D) (over (baseTable g) t) h (cleared D w)
+  unfolding planBase begun over
+  base-leaves l k = go (planning g (gives (baseState D) (baseTable g) []) plan t h w)
+    where
+      go : Planning g (gives (baseState D) (baseTable g) []) plan t h w
+          → planBase g plan t h w ≡ leaves done (baseState D) (over (baseTable g) t) h (cleared D w)
+      go (outside n e) = absurd (n l)
+      go (cramped m n e) = absurd (n k)
+      go (begins m n e) = e
+
+  -- what stood over the base's own numbers stands there no more
+  over-base : {z : State} {u past : List ℕ} → Pyramid z u past → z .darts ≡ D → over u (over (baseTable g) t) ≡ over u t
+  unfolding over
+  over-base {z} {u} P d =
+      let size : length u ≡ length (baseTable g) = pyramid-shaped P .sound .standing .size ∙ d ∙ sym (base-stands g .size) in
+      rw size (ap (λ l. u ++ l) (over-rest (baseTable g) t))
+
+  -- THE SECOND CALL IS THE FIRST, AND THEN THE CONTRACTION KERNEL OF THE EDGES THAT IT TAKES
+  pub areas-reduces : Accepts → planAreas g plan t h w
+      ≡ reduceBy contraction (firstEdges g plan) (planBase g plan t h w .state) (planBase g plan t h w .table)
+      (planBase g plan t h w .history) (planBase g plan t h w .work)
+  unfolding reduceBy pastOf raised
+  areas-reduces z = let b = areas-built z in go (b .within) (b .enough) (b .ends)
+    where
+      go : Limits g → Enough g (length plan) (length t) (length h) (length w) → Ends → planAreas g plan t h w
+          ≡ reduceBy contraction (firstEdges g plan) (planBase g plan t h w .state) (planBase g plan t h w .table)
+          (planBase g plan t h w .history) (planBase g plan t h w .work)
+      go l k (none n e) = absurd (let q : 5 ≡ 0 = rw e at z in omega arith)
+      go l k (level {u} {past} s some P e) =
+          let base = base-leaves l k in
+          let lent : Lent (baseState D) (over (baseTable g) t) h (cleared D w) = rw base at (plan-left (rw base refl) .lent) in
+          let stood = sym (first-merges g plan) ∙ s in
+          let step : reduce contraction (firstEdges g plan) (baseState D) (tableOf (baseState D) (over (baseTable g) t)) [] ≡ gives (raised (baseState D) (length past)) u past
+              = rw (laid-table (plan-pyramid g l) t h w (k .lengths)) (sym (merging-reduces D same (baseTable g)) ∙ merging-gives D same (baseTable g) stood some) in
+          let call = on-gives (reduce contraction (firstEdges g plan)) (baseState D) (over (baseTable g) t) h (cleared D w) lent step in
+          rw base (e ∙ sym (rw (over-base P refl, cleared-kept D w (cleared D w) (cleared-rest D w)) at call))
