@@ -165,7 +165,7 @@ module _ (g : Grid) (plan t h w : List ℕ) where
 
   -- ---- an ordinary kernel
 
-  base-leaves : Limits g → Enough g (length plan) (length t) (length h) (length w)
+  pub base-leaves : Limits g → Enough g (length plan) (length t) (length h) (length w)
       → planBase g plan t h w ≡ leaves done (baseState D) (over (baseTable g) t) h (cleared D w)
   unfolding planBase begun over
   base-leaves l k = go (planning g (gives (baseState D) (baseTable g) []) plan t h w)
@@ -199,6 +199,6 @@ module _ (g : Grid) (plan t h w : List ℕ) where
           let lent : Lent (baseState D) (over (baseTable g) t) h (cleared D w) = rw base at (plan-left (rw base refl) .lent) in
           let stood = sym (first-merges g plan) ∙ s in
           let step : reduce contraction (firstEdges g plan) (baseState D) (tableOf (baseState D) (over (baseTable g) t)) [] ≡ gives (raised (baseState D) (length past)) u past
-              = rw (laid-table (plan-pyramid g l) t h w (k .lengths)) (sym (merging-reduces D same (baseTable g)) ∙ merging-gives D same (baseTable g) stood some) in
+          = rw (laid-table (plan-pyramid g l) t h w (k .lengths)) (sym (merging-reduces D same (baseTable g)) ∙ merging-gives D same (baseTable g) stood some) in
           let call = on-gives (reduce contraction (firstEdges g plan)) (baseState D) (over (baseTable g) t) h (cleared D w) lent step in
           rw base (e ∙ sym (rw (over-base P refl, cleared-kept D w (cleared D w) (cleared-rest D w)) at call))

@@ -15,4 +15,5 @@ pub mod Areas
 pub mod Planning
 pub mod Begun
 pub mod Sentences
+pub mod Alike
 pub mod Instances
