@@ -5,31 +5,29 @@
 --   Excepted g plan  == "a plan one cell wide or one cell high with a single code"; excepted-iff ties it to the merging's words
 --   Areas g plan u past == the areas, one law a field
 --   areas            == what the first kernel of every sized plan leaves
-use mathlib.Core.Bool.{Bool, true, false}
-use mathlib.Core.List.{List, []}
-use mathlib.Core.Logic.{_⊎_, _↔_, inl, inr, ⊎-elim, Iff·trans}
-use mathlib.Core.Path.{_≡_, refl, sym, ap, _∙_, subst}
-use Prim.Native.Nat.{ℕ, zero, suc, _+_, _-_, _*_, _/_, _%_, _<_, _≤_}
+use mathlib.Core.Bool.{true}
+use mathlib.Core.List.{List}
+use mathlib.Core.Logic.{_⊎_, _↔_, inl, inr, Iff·trans}
+use mathlib.Core.Path.{_≡_, refl, sym, _∙_}
+use Prim.Native.Nat.{ℕ, zero, suc, _+_, _-_, _*_, _/_, _<_, _≤_}
 use native.Mathlib.Numerals.{unary-clauses}
 use native.Mathlib.Omega.{arith}
-use lib.Dec.{T, eqb, eqb→eq}
+use lib.Dec.{T, eqb→eq}
 use lib.ListN.{length}
 use Rattle.permutations.specs.Choice.{T?, eqb-same, true→T}
 use Rattle.darts.specs.Map.{sameVertex}
-use Rattle.darts.specs.Operation.{contraction}
-use Rattle.darts.specs.Kernel.{each, rising, stands, pass}
-use Rattle.darts.specs.Counts.{countsOf}
+use Rattle.darts.specs.Kernel.{each, stands}
 use Rattle.laws.proofs.bridge.Standing.{live}
 use Rattle.laws.proofs.merging.Turns.{unlessShared, merging}
 use Rattle.laws.proofs.merging.Laws.{one-stays}
 use Rattle.laws.proofs.merging.Cells.{Area, alone, over, turned, onward, area-least}
 use Rattle.laws.proofs.merging.Areas.{Excepted as Tree, areas as merged-areas, area-survives}
-use Rattle.grids.specs.Grid.{Grid, sized, cells, along, edges, dartsOf, Beside}
+use Rattle.grids.specs.Grid.{Grid, sized, cells, edges, dartsOf, Beside}
 use Rattle.grids.specs.Base.{cellOf, baseTable}
 use Rattle.grids.specs.Plans.{codeAt, oneCode, takesFirst, firstKernel, OneArea, itself, onward as onwards, back}
 use Rattle.grids.proofs.Sides.{along-closed, along-flat}
 use Rattle.grids.proofs.Limits.{limits}
-use Rattle.grids.proofs.PlanBase.{Edge, Dart, PlanBase, plan-base, base-stands}
+use Rattle.grids.proofs.PlanBase.{Edge, PlanBase, plan-base, base-stands}
 use Rattle.grids.proofs.OnePiece.{base-cells, every-cell-reached, one-piece}
 use Rattle.grids.proofs.CellsCounted.{cells-counted}
 

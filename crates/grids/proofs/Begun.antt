@@ -13,16 +13,15 @@ use mathlib.Core.Logic.{_↔_, _≢_}
 use mathlib.Core.Path.{_≡_, refl, sym, ap, _∙_}
 use Prim.Native.Nat.{ℕ}
 use native.Mathlib.Omega.{arith}
-use lib.Dec.{T}
 use lib.ListN.{length}
 use Rattle.slices.specs.Over.{over}
 use Rattle.slices.proofs.Over.{over-rest}
 use Rattle.darts.specs.Answers.{done, emptyKernel}
 use Rattle.darts.specs.Operation.{contraction}
 use Rattle.darts.specs.Kernel.{stands}
-use Rattle.darts.specs.State.{State, baseState, gives, refuses, raised, levelled, reduce}
+use Rattle.darts.specs.State.{State, baseState, gives, raised, levelled, reduce}
 use Rattle.darts.specs.Pyramid.{Pyramid}
-use Rattle.darts.specs.Calls.{After, leaves, cleared, tableOf, pastOf, reduceBy}
+use Rattle.darts.specs.Calls.{leaves, cleared, tableOf, pastOf, reduceBy}
 use Rattle.laws.proofs.tests.Passes.{pyramid-shaped}
 use Rattle.laws.proofs.calls.Cleared.{cleared-rest, cleared-kept}
 use Rattle.laws.proofs.calls.Judging.{Lent}
@@ -31,9 +30,9 @@ use Rattle.laws.proofs.merging.Turns.{merging, merged}
 use Rattle.laws.proofs.merging.Taken.{merging-through}
 use Rattle.laws.proofs.merging.Stands.{merging-stands, merging-count}
 use Rattle.laws.proofs.merging.Level.{base-pyramid, merging-reduces, merging-gives, merging-refuses, merging-pyramid}
-use Rattle.grids.specs.Grid.{Grid, sized, dartsOf}
+use Rattle.grids.specs.Grid.{Grid, dartsOf}
 use Rattle.grids.specs.Base.{baseTable}
-use Rattle.grids.specs.Plans.{oneCode, firstKernel, begun, onPlan, planBase, planAreas}
+use Rattle.grids.specs.Plans.{oneCode, firstKernel, begun, planBase, planAreas}
 use Rattle.grids.proofs.Limits.{Limits, sized-limits}
 use Rattle.grids.proofs.PlanBase.{PlanBase, plan-base, base-stands}
 use Rattle.grids.proofs.Planning.{Enough, Planning, outside, cramped, begins, planning}

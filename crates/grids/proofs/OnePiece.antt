@@ -3,7 +3,7 @@
 --   every-cell-reached == steps over edges lead from each cell to each
 --   one-piece   == so all darts are in one piece
 use mathlib.Core.Bool.{true}
-use mathlib.Core.Path.{_≡_, refl, subst}
+use mathlib.Core.Path.{refl, subst}
 use Prim.Native.Nat.{ℕ, zero, suc, _+_, _*_, _/_, _%_, _<_}
 use native.Mathlib.Numerals.{add-one}
 use native.Mathlib.Omega.{arith}

@@ -11,10 +11,10 @@ use Prim.Native.Nat.{ℕ, _%_, _<_}
 use lib.Dec.{T}
 use lib.ListN.{getD}
 use Rattle.permutations.specs.Cycle.{Meets, meets-ind, meets-sym, meets-trans}
-use Rattle.darts.specs.Map.{successor, sameVertex, gone, survives, live}
+use Rattle.darts.specs.Map.{successor, sameVertex}
 use Rattle.darts.specs.Kernel.{rising}
 use Rattle.laws.specs.Standing.{mapOf, Standing}
-use Rattle.laws.proofs.bridge.Standing.{live-iff, next-entry}
+use Rattle.laws.proofs.bridge.Standing.{next-entry}
 use Rattle.laws.proofs.bridge.Bases.{all-live}
 use Rattle.laws.proofs.bridge.StandsBy.{stands-by}
 use Rattle.laws.proofs.bridge.Judged.{same-vertex}

@@ -9,7 +9,6 @@
 --   Beside g a b   == cell b is the right or the upper neighbour of cell a
 use mathlib.Core.Bool.{Bool, false, _&&_, _||_, not}
 use mathlib.Core.List.{List, [], _∷_}
-use mathlib.Core.Path.{_≡_}
 use Prim.Native.Nat.{ℕ, _+_, _-_, _*_, _<_}
 use lib.Dec.{T, eqb, leb, ltb}
 use Rattle.darts.specs.Choose.{if_then_else_}
