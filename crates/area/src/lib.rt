@@ -7,3 +7,11 @@ pub mod operate;
 pub mod shape;
 pub mod step;
 pub mod trees;
+
+// The numbers of a state, in the width of the work area: D, the operations, the levels, and the operation count after each level.
+pub struct Figures {
+    pub darts: usize,
+    pub operations: usize,
+    pub levels: usize,
+    pub ends: [u32; 64],
+}

@@ -1,4 +1,5 @@
 // The shape of a state: its levels, their ends, and one kind of operation inside each level.
+use crate::Figures;
 use slices::at;
 ghost use mathlib.Core.Path.{_≡_};
 ghost use Prim.Native.Nat.{_≤_, _<_};
@@ -6,7 +7,7 @@ ghost use lib.ListN.{length, take, drop};
 ghost use Rattle.darts.specs.Tests.{oneKind, rises, zeros, shaped};
 ghost use Rattle.slices.specs.Part.{part};
 ghost use Rattle.area.specs.Area.{Room};
-ghost use Rattle.area.specs.Shape.{stateOf, historyIn};
+ghost use Rattle.area.specs.Shape.{stateWith, historyIn};
 
 // Whether the history numbers at the places from `from` to `to` are of one kind, the first one's.
 pub fn one_kind(work: &[u32], from: usize, to: usize) -> bool
@@ -67,16 +68,17 @@ pub fn rise(work: &[u32], d: usize, operations: usize, levels: usize, ends: [u32
 }
 
 // Whether the state fits the history in the work area.
-pub fn shape(work: &[u32], d: usize, operations: usize, levels: usize, ends: [u32; 64]) -> bool
-    requires { ⌜ Room d (now work) ⌝ }
-    requires { ⌜ operations ≤ d ⌝ }
-    ensures { λ r. ⌜ r ≡ shaped (stateOf d operations levels ends) (historyIn d operations (now (work .entry))) ⌝ }
+pub fn shape(work: &[u32], state: Figures) -> bool
+    requires { ⌜ Room (state .darts) (now work) ⌝ }
+    requires { ⌜ state .operations ≤ state .darts ⌝ }
+    ensures { λ r. ⌜ r ≡ shaped (stateWith state) (historyIn (state .darts) (state .operations) (now (work .entry))) ⌝ }
 {
-    if 64 < levels {
+    if 64 < state.levels {
         return false;
     }
-    if unused(levels, ends) {
-        return rise(work, d, operations, levels, ends);
+    let ends = state.ends;
+    if unused(state.levels, ends) {
+        return rise(work, state.darts, state.operations, state.levels, ends);
     }
     false
 }

@@ -8,19 +8,19 @@
 --   decide-no       == no where the decision says no
 --   decide-yes      == loaded again: the work area holds the map, and its forest judges the coming kernel
 use mathlib.Core.Bool.{Bool, true, false, false≢true}
-use mathlib.Core.List.{List, reverse}
+use mathlib.Core.List.{List}
 use mathlib.Core.Path.{_≡_, refl, sym, ap, _∙_}
 use Prim.Native.Nat.{ℕ, _+_, _*_, _/_, _≤_, _<_}
 use native.Mathlib.Omega.{arith}
-use lib.ListN.{length, take, drop}
+use lib.ListN.{length, drop}
 use lib.Seq.{drop-drop}
 use Rattle.permutations.specs.Choice.{true→T}
+use Rattle.darts.specs.Calls.{tableOf, pastOf}
 use Rattle.darts.specs.Pyramid.{Pyramid, isPyramid}
 use Rattle.darts.specs.State.{State}
 use Rattle.laws.proofs.claims.Decided.{pyramid-decided}
 use Rattle.area.specs.Area.{Room, tried}
 use Rattle.area.specs.Load.{loads}
-use Rattle.area.specs.Shape.{stateOf}
 use Rattle.engine.specs.Held.{Area, Beyond}
 use Rattle.engine.specs.Checks.{Decided, Checked}
 use Rattle.engine.proofs.Area.{room-kept}
@@ -30,31 +30,31 @@ use Rattle.engine.proofs.Loaded.{Loaded, loads-right}
 use Rattle.engine.proofs.Ready.{beyond-trans}
 
 -- WHERE THE CHECK SAYS YES, IT IS A PYRAMID
-pub checked-pyramid : {D n l : ℕ} {ends : List ℕ} {coming : ℕ} {t h w w′ : List ℕ} {r : Bool} → Checked D n l ends coming t h w w′ r → r ≡ true
-    → Pyramid (stateOf D n l ends) (take D t) (reverse (take n h))
-checked-pyramid {D} {n} {l} {ends} {t = t} {h = h} C e =
-    pyramid-decided (stateOf D n l ends) (take D t) (reverse (take n h)) .0 (true→T (sym (C .answer) ∙ e))
+pub checked-pyramid : {s : State} {coming : ℕ} {t h w w′ : List ℕ} {r : Bool} → Checked s coming t h w w′ r → r ≡ true
+    → Pyramid s (tableOf s t) (pastOf s h)
+checked-pyramid {s} {t = t} {h = h} C e = pyramid-decided s (tableOf s t) (pastOf s h) .0 (true→T (sym (C .answer) ∙ e))
 
 -- ---- what stands beyond the four parts
 
 pub loaded-beyond : {D n : ℕ} {t h w v : List ℕ} {r : Bool} → Loaded D n t h w (tried r v) → Beyond D w v
 loaded-beyond L = record { size = L .size; rest = L .rest }
 
-pub decided-beyond : {D n l : ℕ} {ends : List ℕ} {coming : ℕ} {w v : List ℕ} {r : Bool} → Decided D n l ends coming w v r → Beyond D w v
-decided-beyond {D} {w = w} {v = v} δ =
+pub decided-beyond : {s : State} {coming : ℕ} {w v : List ℕ} {r : Bool} → Decided s coming w v r → Beyond (s .darts) w v
+decided-beyond {s} {w = w} {v = v} δ =
+    let D = s .darts in
     let e : 4 * D ≡ 3 * D + D = omega arith in
     record { size = δ .size; rest = rw e (sym (drop-drop D (3 * D) v) ∙ ap (drop D) (δ .rest) ∙ drop-drop D (3 * D) w) }
 
 -- ---- the check
 
-module _ (D n l : ℕ) (ends : List ℕ) (coming : ℕ) (t h : List ℕ) where
-  abbrev s : State
-  s = stateOf D n l ends
+module _ (s : State) (coming : ℕ) (t h : List ℕ) where
+  abbrev D : ℕ
+  D = s .darts
 
-  abbrev past : List ℕ
-  past = reverse (take n h)
+  abbrev n : ℕ
+  n = s .operations
 
-  refuses : {w w′ : List ℕ} → Beyond D w w′ → ¬ Pyramid s (take D t) past → Checked D n l ends coming t h w w′ false
+  refuses : {w w′ : List ℕ} → Beyond D w w′ → ¬ Pyramid s (tableOf s t) (pastOf s h) → Checked s coming t h w w′ false
   refuses beyond none = record {
     answer = refuted none;
     beyond = beyond;
@@ -64,7 +64,7 @@ module _ (D n l : ℕ) (ends : List ℕ) (coming : ℕ) (t h : List ℕ) where
     ready = λ e. absurd (false≢true e);
   }
 
-  pub too-many : (w : List ℕ) → D / 2 < n → Checked D n l ends coming t h w w false
+  pub too-many : (w : List ℕ) → D / 2 < n → Checked s coming t h w w false
   too-many w many = refuses (record { size = refl; rest = refl }) (λ P. let few = pyramid-few P in omega arith)
 
   module _ {w : List ℕ} (room : Room D w) (long : D ≤ length t) (enough : n ≤ length h) (few : n ≤ D / 2)
@@ -72,23 +72,25 @@ module _ (D n l : ℕ) (ends : List ℕ) (coming : ℕ) (t h : List ℕ) where
     L : Loaded D n t h w (tried m v)
     L = rw loaded (loads-right linked-stand n t h w room long enough few)
 
-    pub load-no : m ≡ false → Checked D n l ends coming t h w v false
+    pub load-no : m ≡ false → Checked s coming t h w v false
+    unfolding tableOf pastOf
     load-no e = refuses (loaded-beyond L) (λ P. rw (← (L .fine), e) at (pyramid-loads P))
 
     module _ (fine : m ≡ true) where
       pub loaded-area : Area D n v
       loaded-area = L .area (true→T fine)
 
-      module _ {b : Bool} {u : List ℕ} (δ : Decided D n l ends coming v u b) where
-        decided : b ≡ isPyramid s (take D t) past
+      module _ {b : Bool} {u : List ℕ} (δ : Decided s coming v u b) where
+        decided : b ≡ isPyramid s (tableOf s t) (pastOf s h)
+        unfolding tableOf pastOf
         decided = rw (L .table, L .past) at (δ .answer)
 
         u-beyond : Beyond D w u
         u-beyond = beyond-trans (loaded-beyond L) (decided-beyond δ)
 
-        pub decide-no : b ≡ false → Checked D n l ends coming t h w u false
+        pub decide-no : b ≡ false → Checked s coming t h w u false
         decide-no e =
-            refuses u-beyond (λ P. rw (← decided, e) at (pyramid-decided s (take D t) past .1 P))
+            refuses u-beyond (λ P. rw (← decided, e) at (pyramid-decided s (tableOf s t) (pastOf s h) .1 P))
 
         module _ (yes-decided : b ≡ true) {r : Bool} {x : List ℕ} (again : tried r x ≡ loads D n t h u) where
           M : Loaded D n t h u (tried r x)
@@ -101,7 +103,8 @@ module _ (D n l : ℕ) (ends : List ℕ) (coming : ℕ) (t h : List ℕ) where
           x-area = M .area (true→T r-true)
 
           -- LOADED AGAIN, AND THE FOREST KEPT
-          pub decide-yes : Checked D n l ends coming t h w x r
+          pub decide-yes : Checked s coming t h w x r
+          unfolding tableOf pastOf
           decide-yes = record {
             answer = r-true ∙ sym yes-decided ∙ decided;
             beyond = beyond-trans u-beyond (loaded-beyond M);

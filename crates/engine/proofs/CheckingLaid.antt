@@ -13,7 +13,7 @@ use Rattle.permutations.specs.Choice.{true→T}
 use Rattle.darts.specs.State.{State}
 use Rattle.area.specs.Area.{Room, pastIn, tried}
 use Rattle.area.specs.Load.{relinks}
-use Rattle.area.specs.Shape.{stateOf, historyIn}
+use Rattle.area.specs.Shape.{historyIn}
 use Rattle.engine.specs.Held.{Area}
 use Rattle.engine.specs.Checks.{Decided, CheckedLaid}
 use Rattle.engine.proofs.Checking.{loaded-beyond, decided-beyond}
@@ -22,11 +22,14 @@ use Rattle.engine.proofs.Decides.{refuted, pyramid-loads, pyramid-few}
 use Rattle.engine.proofs.Given.{linked-stand}
 use Rattle.engine.proofs.Loaded.{Loaded, relinks-right}
 
-module _ (D n l : ℕ) (ends : List ℕ) where
-  abbrev s : State
-  s = stateOf D n l ends
+module _ (s : State) where
+  abbrev D : ℕ
+  D = s .darts
 
-  pub laid-too-many : (w : List ℕ) → D / 2 < n → CheckedLaid D n l ends w w false
+  abbrev n : ℕ
+  n = s .operations
+
+  pub laid-too-many : (w : List ℕ) → D / 2 < n → CheckedLaid s w w false
   laid-too-many w many = record {
     answer = refuted (λ P. let few = pyramid-few P in omega arith);
     beyond = record { size = refl; rest = refl };
@@ -46,7 +49,7 @@ module _ (D n l : ℕ) (ends : List ℕ) where
     v-history : historyIn D n v ≡ historyIn D n w
     v-history = sym (reverse-reverse (historyIn D n v)) ∙ ap reverse v-past ∙ reverse-reverse (historyIn D n w)
 
-    pub relink-no : m ≡ false → CheckedLaid D n l ends w v false
+    pub relink-no : m ≡ false → CheckedLaid s w v false
     relink-no e = record {
       answer = refuted (λ P. rw (← stands, ← (L .fine), e) at (pyramid-loads P));
       beyond = loaded-beyond L;
@@ -56,7 +59,7 @@ module _ (D n l : ℕ) (ends : List ℕ) where
     pub relinked-area : m ≡ true → Area D n v
     relinked-area fine = L .area (true→T fine)
 
-    pub laid-decided : {coming : ℕ} {u : List ℕ} {r : Bool} → Decided D n l ends coming v u r → CheckedLaid D n l ends w u r
+    pub laid-decided : {coming : ℕ} {u : List ℕ} {r : Bool} → Decided s coming v u r → CheckedLaid s w u r
     laid-decided δ = record {
       answer = rw (L .table, v-past) at (δ .answer);
       beyond = beyond-trans (loaded-beyond L) (decided-beyond δ);

@@ -5,8 +5,7 @@
 --   pyramid-few    == a pyramid has at most D/2 operations
 --   shape-no       == no where the state does not fit the history
 --   back-no        == no where an operation does not fit
---   base-area      == all operations taken back: the work area holds the base
---   base-numbered  == and the history's numbers still
+--   all-taken      == all operations taken back: the work area holds the base, and the history's numbers still
 --   decided        == both kinds are replayed on the base
 use mathlib.Core.Bool.{Bool, true, false, _&&_, false≢true}
 use mathlib.Core.List.{List, [], reverse, reverse-reverse}
@@ -36,7 +35,7 @@ use Rattle.laws.proofs.tests.TopLabels.{walked, walked-decide, labels-at-top}
 use Rattle.area.specs.Area.{Room, tableIn, pastIn, tried}
 use Rattle.area.specs.Back.{backs}
 use Rattle.area.specs.Replay.{replayed, Numbered}
-use Rattle.area.specs.Shape.{stateOf, historyIn}
+use Rattle.area.specs.Shape.{historyIn}
 use Rattle.area.proofs.Replay.{Alike, replay-alike, rejoined-alike}
 use Rattle.engine.specs.Held.{Area}
 use Rattle.engine.specs.Checks.{BothTried, Decided}
@@ -84,9 +83,12 @@ dart-count {D} r =
 
 -- ---- the decision
 
-module _ {D n : ℕ} (l : ℕ) (ends : List ℕ) {w : List ℕ} (A : Area D n w) where
-  abbrev s : State
-  s = stateOf D n l ends
+module _ (s : State) {w : List ℕ} (A : Area (s .darts) (s .operations) w) where
+  abbrev D : ℕ
+  D = s .darts
+
+  abbrev n : ℕ
+  n = s .operations
 
   abbrev t : List ℕ
   t = tableIn D w
@@ -98,16 +100,16 @@ module _ {D n : ℕ} (l : ℕ) (ends : List ℕ) {w : List ℕ} (A : Area D n w)
   hs = historyIn D n w
 
   refuses : {w′ : List ℕ} → length w′ ≡ length w → drop (3 * D) w′ ≡ drop (3 * D) w → {coming : ℕ} → ¬ Pyramid s t past
-      → Decided D n l ends coming w w′ false
-  refuses size rest n = record {
-    answer = refuted n;
+      → Decided s coming w w′ false
+  refuses size rest none = record {
+    answer = refuted none;
     size = size;
     rest = rest;
     falls = λ e. absurd (false≢true e);
     roots = λ e. absurd (false≢true e);
   }
 
-  pub shape-no : {a : Bool} → a ≡ shaped s hs → a ≡ false → {coming : ℕ} → Decided D n l ends coming w w false
+  pub shape-no : {a : Bool} → a ≡ shaped s hs → a ≡ false → {coming : ℕ} → Decided s coming w w false
   shape-no told e = refuses refl refl (λ P. rw (reverse-reverse hs, ← told, e) at (pyramid-passed P .shape))
 
   module _ {b : Bool} {v : List ℕ} (back : tried b v ≡ backs D w n n) where
@@ -117,21 +119,21 @@ module _ {D n : ℕ} (l : ℕ) (ends : List ℕ) {w : List ℕ} (A : Area D n w)
     v-rest : drop (3 * D) v ≡ drop (3 * D) w
     v-rest = rest-from D (3 * D) v w (B .rest) (omega arith)
 
-    pub back-no : b ≡ false → {coming : ℕ} → Decided D n l ends coming w v false
+    pub back-no : b ≡ false → {coming : ℕ} → Decided s coming w v false
     back-no e = refuses (B .size) v-rest (λ P. rw (all-back fits-stand n w A, ← back, e) at (pyramid-passed P .back))
 
     module _ (fine : b ≡ true) where
-      pub base-area : Area D 0 v
-      base-area = rw (sub-self n) at (B .area (true→T fine))
-
-      pub base-numbered : Numbered D n v
-      base-numbered = record {
-        fits = omega (arith, A .few);
-        each = λ i h.
-            let e : getD v (3 * D + i) 0 ≡ getD w (3 * D + i) 0 =
-            sym (getD-drop (3 * D) v i 0) ∙ ap (λ m. getD m i 0) v-rest ∙ getD-drop (3 * D) w i 0 in
-            rw e (area-sound A .numbers i h);
-      }
+      pub all-taken : Area D 0 v × Numbered D n v
+      all-taken = (
+        rw (sub-self n) at (B .area (true→T fine)),
+        record {
+          fits = omega (arith, A .few);
+          each = λ i h.
+              let e : getD v (3 * D + i) 0 ≡ getD w (3 * D + i) 0 =
+              sym (getD-drop (3 * D) v i 0) ∙ ap (λ m. getD m i 0) v-rest ∙ getD-drop (3 * D) w i 0 in
+              rw e (area-sound A .numbers i h);
+        },
+      )
 
       module _ {a : Bool} (told : a ≡ shaped s hs) (shape : a ≡ true) {coming : ℕ} {w′ : List ℕ} {r : Bool} (M : BothTried D n coming v w′ r) where
         abbrev Lv : ℕ → ℕ
@@ -185,7 +187,7 @@ module _ {D n : ℕ} (l : ℕ) (ends : List ℕ) {w : List ℕ} (A : Area D n w)
             )
 
         -- BOTH KINDS REPLAYED DECIDE, AND THE FOREST JUDGES THE COMING KERNEL
-        pub decided : Decided D n l ends coming w w′ r
+        pub decided : Decided s coming w w′ r
         decided = record {
           answer = decision r passes;
           size = M .outside .size ∙ B .size;

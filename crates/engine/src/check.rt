@@ -1,5 +1,6 @@
 // Is it a pyramid? Decided in the work area, in almost linear time. A forest is built only where it is needed, and the kind that the coming
 // kernel needs comes last, so that its forest then judges the kernel's edges.
+use area::Figures;
 use area::back::take_back_last;
 use area::cycles::label;
 use area::cycles::replay;
@@ -12,7 +13,7 @@ ghost use Prim.Native.Nat.{_/_, _≤_};
 ghost use lib.ListN.{length};
 ghost use Rattle.area.specs.Area.{Room};
 ghost use Rattle.area.specs.Replay.{Numbered};
-ghost use Rattle.area.specs.Shape.{historyIn};
+ghost use Rattle.area.specs.Shape.{stateWith, historyIn};
 ghost use Rattle.engine.specs.Held.{Area};
 ghost use Rattle.engine.specs.Checks.{hasKind, KindTried, BothTried, Decided, Checked, CheckedLaid};
 
@@ -73,18 +74,13 @@ fn try_both(work: &mut [u32], d: usize, n: usize, k: usize, coming: usize) -> bo
 }
 
 // Whether the map in the work area, its history and the state are a pyramid: the shape, then tests 6 to 15 down to the base, then 16 and 17.
-fn decide(
-    work: &mut [u32],
-    d: usize,
-    n: usize,
-    levels: usize,
-    ends: [u32; 64],
-    coming: usize,
-) -> bool
-    requires { ⌜ Area d n (now work) ⌝ }
-    ensures { λ r. ⌜ Decided d n levels ends coming (now (work .entry)) (now (work .exit)) r ⌝ }
+fn decide(work: &mut [u32], state: Figures, coming: usize) -> bool
+    requires { ⌜ Area (state .darts) (state .operations) (now work) ⌝ }
+    ensures { λ r. ⌜ Decided (stateWith state) coming (now (work .entry)) (now (work .exit)) r ⌝ }
 {
-    if !shape(work, d, n, levels, ends) {
+    let d = state.darts;
+    let n = state.operations;
+    if !shape(work, state) {
         return false;
     }
     if !take_back_last(work, d, n, n) {
@@ -96,45 +92,44 @@ fn decide(
     try_both(work, d, n, 1, coming)
 }
 
-// Whether the state, the table's first d numbers and the history's first n are a pyramid. Where they are, the work area holds its map, and its
+// Whether the state, the table's first D numbers and the history's first ones are a pyramid. Where they are, the work area holds its map, and its
 // forest judges the coming kernel.
 pub fn check(
     work: &mut [u32],
-    d: usize,
-    n: usize,
-    levels: usize,
-    ends: [u32; 64],
+    state: Figures,
     coming: usize,
     table: &[u32],
     history: &[u32],
 ) -> bool
-    requires { ⌜ Room d (now work) ⌝ }
-    requires { ⌜ (d ≤ length (now table)) × (d / 2 ≤ length (now history)) ⌝ }
+    requires { ⌜ Room (state .darts) (now work) ⌝ }
+    requires { ⌜ (state .darts ≤ length (now table)) × (state .darts / 2 ≤ length (now history)) ⌝ }
     ensures { λ r. ⌜
-        Checked d n levels ends coming (now (table .entry)) (now (history .entry)) (now (work .entry)) (now (work .exit)) r ⌝ }
+        Checked (stateWith state) coming (now (table .entry)) (now (history .entry)) (now (work .entry)) (now (work .exit)) r ⌝ }
 {
+    let d = state.darts;
+    let n = state.operations;
     if d / 2 < n {
         return false;
     }
     if !load(work, d, table, history, n) {
         return false;
     }
-    if decide(work, d, n, levels, ends, coming) {
+    if decide(work, state, coming) {
         return load(work, d, table, history, n);
     }
     false
 }
 
 // The same of a table and a history that stand in their parts of the work area, as the reader leaves them. The history stays there.
-pub fn check_laid(work: &mut [u32], d: usize, n: usize, levels: usize, ends: [u32; 64]) -> bool
-    requires { ⌜ Room d (now work) ⌝ }
-    ensures { λ r. ⌜ CheckedLaid d n levels ends (now (work .entry)) (now (work .exit)) r ⌝ }
+pub fn check_laid(work: &mut [u32], state: Figures) -> bool
+    requires { ⌜ Room (state .darts) (now work) ⌝ }
+    ensures { λ r. ⌜ CheckedLaid (stateWith state) (now (work .entry)) (now (work .exit)) r ⌝ }
 {
-    if d / 2 < n {
+    if state.darts / 2 < state.operations {
         return false;
     }
-    if relink(work, d, n) {
-        return decide(work, d, n, levels, ends, 2);
+    if relink(work, state.darts, state.operations) {
+        return decide(work, state, 2);
     }
     false
 }

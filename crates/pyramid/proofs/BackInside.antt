@@ -1,6 +1,5 @@
 -- Unfold between the judging and the store, and undo as unfold.
 --   no-level-above  == there is no level k above the top
---   stacked-of      == a work area that was checked holds the pyramid
 --   unfold-stepped  == down to level k in the work area is unfold's own step
 --   store-fits      == what is stored then fits the lent slices
 --   undo-by-unfold  == undo is unfold to the level below
@@ -18,8 +17,7 @@ use Rattle.darts.specs.Levels.{undoLevels, unfoldTo}
 use Rattle.darts.specs.Calls.{tableOf, pastOf, onState, undoBy, unfoldBy}
 use Rattle.laws.proofs.runs.Undo.{undo-is-unfold}
 use Rattle.area.specs.Area.{Room, tableIn, pastIn}
-use Rattle.engine.proofs.Checking.{checked-pyramid}
-use Rattle.pyramid.specs.Steps.{Judged, Stacked, Unfolded}
+use Rattle.pyramid.specs.Steps.{Judged, Unfolded}
 use Rattle.pyramid.proofs.Judges.{lent-of}
 
 pub no-level-above : (k : ℕ) (s : State) (t past : List ℕ) → s .levels < k → unfoldTo k s t past ≡ refuses (noLevel (s .levels))
@@ -27,14 +25,9 @@ unfolding unfoldTo
 no-level-above k s t past h = rw (lt-ltb (s .levels) k h)
 
 module _ {s : State} {j : ℕ} {t h w v : List ℕ} {a : Answer} (J : Judged s j t h w v a) (fine : a .number ≡ 0) where
-  pub stacked-of : Stacked s v
-  stacked-of =
-      let C = J .checked fine in
-      record { pyramid = rw (C .table refl, C .past refl) (checked-pyramid C refl); area = C .area refl }
-
   pub unfold-stepped : (k : ℕ) {z : State} {u : List ℕ} → k ≤ s .levels → Unfolded k s z v u
       → unfoldTo k s (tableOf s t) (pastOf s h) ≡ gives z (tableIn (s .darts) u) (pastIn (s .darts) (z .operations) u)
-  unfolding unfoldTo tableOf pastOf
+  unfolding unfoldTo
   unfold-stepped k {z} {u} l U =
       let C = J .checked fine in
       rw (le-ltb (s .levels) k l)

@@ -85,7 +85,6 @@ module _ {step : State → List ℕ → List ℕ → Result} {runner : ℕ → L
     }
 
     pub level-ends : {x : After} → x ≡ handsBack s t h u (levelled s (pastOf s h) (ranIn D u r)) → x ≡ onState step s t h w
-    unfolding tableOf pastOf
     level-ends L =
         let C = J .checked fine in
         let ran : ranIn D u r ≡ runner D (tableOf s t) (pastOf s h) = W .went ∙ ap₂ (runner D) (C .table refl) (C .past refl) in

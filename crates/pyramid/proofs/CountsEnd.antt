@@ -39,7 +39,7 @@ module _ {s : State} {k : ℕ} {t h w v : List ℕ} {a : Answer} (J : Judged s k
 
   module _ (fine : a .number ≡ 0) {u : List ℕ} {r : Cycles} (K : CountedIn (s .darts) (s .operations) v u r) where
     tallied : countsFrom (s .darts - 2 * s .operations) (r .vertices) (r .faces) ≡ countsOf (s .darts) (tableOf s t) (pastOf s h)
-    unfolding countsOf tableOf pastOf
+    unfolding countsOf
     tallied =
         let C = J .checked fine in
         rw (K .vertices, K .faces, ← (survivors-left (C .area refl)))

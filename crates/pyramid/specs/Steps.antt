@@ -23,7 +23,7 @@ use Rattle.engine.specs.declared.Ran.{Ran}
 pub record Judged (s : State) (k : ℕ) (t h w v : List ℕ) (a : Answer) : Type 0 where
   pub answer : a ≡ judged s t h w
   pub refused : a .number ≢ 0 → v ≡ workAfter a (s .darts) w
-  pub checked : a .number ≡ 0 → Checked (s .darts) (s .operations) (s .levels) (s .ends) k t h w v true
+  pub checked : a .number ≡ 0 → Checked s k t h w v true
 
 pub record Halts (s : State) (r : Ran) (w : List ℕ) (t h : ℕ) : Type 0 where
   pub room : Room (s .darts) w

@@ -1,6 +1,7 @@
 // What every call on a state judges first.
 use crate::Answer;
 use crate::State;
+use area::Figures;
 use area::base::clear;
 use darts::answers::fit;
 use engine::check::check;
@@ -19,14 +20,17 @@ impl State {
         if fits.number() != 0 {
             return fits;
         }
-        let d = self.darts as usize;
-        let n = self.operations as usize;
-        let l = self.levels as usize;
         let ends = self.ends;
-        if check(work, d, n, l, ends, coming, table, history) {
+        let figures = Figures {
+            darts: self.darts as usize,
+            operations: self.operations as usize,
+            levels: self.levels as usize,
+            ends: ends,
+        };
+        if check(work, figures, coming, table, history) {
             return Answer::Done(0);
         }
-        clear(work, d);
+        clear(work, self.darts as usize);
         Answer::NoPyramid
     }
 }

@@ -38,8 +38,8 @@ use Rattle.reader.proofs.PairLines.{pairs-count}
 use Rattle.reader.proofs.KernelLines.{kernels-count, history-length}
 use Rattle.reader.proofs.LastPairs.{last-end, last-found}
 
-module _ {s : Scan Body} {b : List ℕ} {D F : ℕ} {w w′ : List ℕ} (l : ℕ) (ends : List ℕ) (beyond : Beyond D w w′) where
-  pub body-wrong : {a : Answer} → s ≡ fault (answerOf a) → BodyRead s b D F w w′ (record { read = Fault a; levels = l; ends = ends })
+module _ {z : Scan Body} {b : List ℕ} {D F : ℕ} {w w′ : List ℕ} (l : ℕ) (ends : List ℕ) (beyond : Beyond D w w′) where
+  pub body-wrong : {a : Answer} → z ≡ fault (answerOf a) → BodyRead z b D F w w′ (record { read = Fault a; levels = l; ends = ends })
   body-wrong {a} e =
       record {
         wrong = λ {a = x} same. let one : a ≡ x = cc same in rw (← one) e;
@@ -47,7 +47,8 @@ module _ {s : Scan Body} {b : List ℕ} {D F : ℕ} {w w′ : List ℕ} (l : ℕ
         beyond = beyond;
       }
 
-  pub body-right : {n p : ℕ} → Holds s b D F n p l ends w′ → BodyRead s b D F w w′ (record { read = Found n p; levels = l; ends = ends })
+  pub body-right : {n p : ℕ} → Holds (record { darts = D; operations = n; levels = l; ends = ends }) b F p z w′
+      → BodyRead z b D F w w′ (record { read = Found n p; levels = l; ends = ends })
   body-right {n} {p} H =
       record {
         wrong = λ same. let never : _≡_ {A = ℕ} 0 1 = cc same in absurd (omega arith);

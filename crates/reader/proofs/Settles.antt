@@ -15,35 +15,38 @@ use Rattle.darts.specs.Read.{Body, total, fromFlag, fileState, fileHistory, clo
 use Rattle.darts.specs.Calls.{After, leaves, cleared, readInto}
 use Rattle.slices.specs.Over.{over}
 use Rattle.area.specs.Area.{tableIn, pastIn}
-use Rattle.area.specs.Shape.{stateOf}
 use Rattle.engine.specs.Checks.{CheckedLaid}
 use Rattle.reader.specs.Lines.{startsWith}
 use Rattle.reader.specs.Parsed.{Holds}
 use Rattle.reader.specs.Settled.{Accepted}
 use Rattle.reader.proofs.ReadEnds.{closed-none, closed-many, closed-all}
 
-module _ {s : Scan Body} {b : List ℕ} {D F n p l : ℕ} {ends w : List ℕ} (H : Holds s b D F n p l ends w) (t h v : List ℕ) where
+module _ {s : State} {b : List ℕ} {F p : ℕ} {z : Scan Body} {w : List ℕ} (H : Holds s b F p z w) (t h v : List ℕ) where
+  abbrev D : ℕ
+  D = s .darts
+
   -- what the read leaves
   abbrev whole : After
-  whole = readInto t h v (closed (startsWith F D) s)
+  whole = readInto t h v (closed (startsWith F D) z)
 
-  pub settle-many : D / 2 < n → leaves noPyramid (baseState 0) t h (cleared D v) ≡ whole
+  pub settle-many : D / 2 < s .operations → leaves noPyramid (baseState 0) t h (cleared D v) ≡ whole
   unfolding fileState
   settle-many many =
-      let count : n ≡ total (H .kernels) = ap (λ (z : State). z .operations) (H .state) in
+      let count : s .operations ≡ total (H .kernels) = ap (λ (z : State). z .operations) (H .state) in
       closed-many t h v (startsWith F D) (H .body) (omega arith)
 
-  module _ (few : n ≤ D / 2) {w′ : List ℕ} {r : Bool} (C : CheckedLaid D n l ends w w′ r) where
+  module _ (few : s .operations ≤ D / 2) {w′ : List ℕ} {r : Bool} (C : CheckedLaid s w w′ r) where
     judged : r ≡ isPyramid (fileState D (H .kernels)) (map (fromFlag F D) (H .numbers)) (reverse (fileHistory (H .kernels)))
     judged =
         C .answer
-        ∙ ap (λ (z : State). isPyramid z (tableIn D w) (pastIn D n w)) (H .state)
+        ∙ ap (λ (z : State). isPyramid z (tableIn D w) (pastIn D (s .operations) w)) (H .state)
         ∙ ap₂ (λ (u past : List ℕ). isPyramid (fileState D (H .kernels)) u past) (H .table) (ap reverse (H .history few))
 
     pub settle-none : r ≡ false → leaves noPyramid (baseState 0) t h (cleared D v) ≡ whole
     settle-none fails = closed-none t h v (startsWith F D) (H .body) (sym judged ∙ fails)
 
-    pub settle-all : r ≡ true → {t′ h′ : List ℕ} → Accepted b p D F n t t′ h h′ w′ → leaves done (stateOf D n l ends) t′ h′ (cleared D v) ≡ whole
+    pub settle-all : r ≡ true → {t′ h′ : List ℕ} → Accepted b p D F (s .operations) t t′ h h′ w′ → leaves done s t′ h′ (cleared D v) ≡ whole
     settle-all passes {t′} {h′} A =
         let history : h′ ≡ over (fileHistory (H .kernels)) h = A .history ∙ ap (λ (z : List ℕ). over z h) (C .history ∙ H .history few) in
-        rw (H .state, A .table (H .numbers) (H .next) (H .pairs), history) (closed-all t h v (startsWith F D) (H .body) (sym judged ∙ passes))
+        ap (λ (y : State). leaves done y t′ h′ (cleared D v)) (H .state)
+        ∙ rw (A .table (H .numbers) (H .next) (H .pairs), history) (closed-all t h v (startsWith F D) (H .body) (sym judged ∙ passes))

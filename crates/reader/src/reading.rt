@@ -5,6 +5,7 @@ use crate::lines::levels_line;
 use crate::lines::opening;
 use crate::pairs::pairs;
 use crate::scan::Scanned;
+use area::Figures;
 use area::base::clear;
 use darts::Answer;
 use darts::answers::fit;
@@ -19,6 +20,7 @@ ghost use lib.ListN.{length};
 ghost use Rattle.darts.specs.Read.{body, closed};
 ghost use Rattle.darts.specs.Calls.{cleared, readInto, read as readOf};
 ghost use Rattle.area.specs.Area.{Room};
+ghost use Rattle.area.specs.Shape.{stateWith};
 ghost use Rattle.engine.specs.Held.{Beyond};
 ghost use Rattle.pyramid.specs.Values.{left};
 ghost use Rattle.reader.specs.Lines.{startsWith};
@@ -126,31 +128,31 @@ fn accept(
 fn settle(
     bytes: &[u8],
     at: usize,
-    d: usize,
     flag: usize,
-    n: usize,
-    levels: usize,
-    ends: [u32; 64],
+    state: Figures,
     table: &mut [u32],
     history: &mut [u32],
     work: &mut [u32],
 ) -> Outcome
-    requires { ⌜ Room d (now work) ⌝ }
-    requires { ⌜ (d ≤ length (now table)) × (d / 2 ≤ length (now history)) × (levels ≤ 64) ⌝ }
+    requires { ⌜ Room (state .darts) (now work) ⌝ }
+    requires { ⌜ (state .darts ≤ length (now table)) × (state .darts / 2 ≤ length (now history)) × (state .levels ≤ 64) ⌝ }
     ensures { λ r. ⌜
-        Settled (now (bytes .entry)) d flag n at levels ends (now (table .entry)) (now (table .exit)) (now (history .entry)) (now (history .exit))
+        Settled (stateWith state) (now (bytes .entry)) flag at (now (table .entry)) (now (table .exit)) (now (history .entry)) (now (history .exit))
         (now (work .entry)) (now (work .exit)) r ⌝ }
 {
+    let d = state.darts;
+    let n = state.operations;
     if d / 2 < n {
         return based(0, Answer::NoPyramid);
     }
-    if check_laid(work, d, n, levels, ends) {
+    if check_laid(work, state) {
         accept(bytes, at, d, flag, n, table, history, work);
+        let ends = state.ends;
         return Outcome {
             state: State {
                 darts: d as u32,
                 operations: n as u32,
-                levels: levels as u32,
+                levels: state.levels as u32,
                 ends: ends,
             },
             answer: Answer::Done(0),
@@ -183,7 +185,13 @@ fn read_inside(
     match read {
         Scanned::Fault(answer) => based(0, answer),
         Scanned::Found(n, first) => {
-            settle(bytes, first, d, flag, n, levels, ends, table, history, work)
+            let state = Figures {
+                darts: d,
+                operations: n,
+                levels: levels,
+                ends: ends,
+            };
+            settle(bytes, first, flag, state, table, history, work)
         }
     }
 }

@@ -1,6 +1,5 @@
 -- The ways that a write ends.
 --   write-refused == 1, 2 or 4
---   write-ready   == what writing the file asks
 --   write-short   == the output is too short for the file
 --   write-done    == the file is written
 use mathlib.Core.Bool.{Bool, true, false}
@@ -14,7 +13,6 @@ use lib.Dec.{ltb}
 use lib.ListN.{length}
 use Rattle.darts.specs.Answers.{Answer, needs, wrote}
 use Rattle.darts.specs.Choose.{if_then_else_}
-use Rattle.darts.specs.Pyramid.{Pyramid}
 use Rattle.darts.specs.State.{State}
 use Rattle.darts.specs.File.{fileOf}
 use Rattle.darts.specs.Calls.{Written as Left, write, tableOf, pastOf, cleared}
@@ -22,7 +20,7 @@ use Rattle.slices.specs.Over.{over}
 use Rattle.laws.proofs.calls.Cleared.{cleared-kept}
 use Rattle.laws.proofs.calls.Judging.{judged-lent}
 use Rattle.area.specs.Area.{tableIn, pastIn}
-use Rattle.engine.specs.Held.{Area, Beyond}
+use Rattle.engine.specs.Held.{Beyond}
 use Rattle.pyramid.specs.Steps.{Judged}
 use Rattle.pyramid.proofs.Judges.{lent-of}
 use Rattle.writer.specs.declared.file.Written.{Written}
@@ -49,19 +47,12 @@ module _ {s : State} {k : ℕ} {t h w v : List ℕ} {a : Answer} (J : Judged s k
     abbrev file : List ℕ
     file = fileOf s (tableOf s t) (pastOf s h)
 
-    pub write-ready : Area (s .darts) (s .operations) v × Pyramid s (tableIn (s .darts) v) (pastIn (s .darts) (s .operations) v)
-    unfolding tableOf pastOf
-    write-ready =
-        let C = J .checked fine in
-        (C .area refl, rw (C .table refl, C .past refl) (lent-of J fine .pyramid))
-
     module _ {u x : List ℕ} {r : Written} (B : Beyond (s .darts) v u)
         (F : FileWritten s (tableIn (s .darts) v) (pastIn (s .darts) (s .operations) v) o x r) where
       kept : cleared (s .darts) u ≡ cleared (s .darts) w
       kept = cleared-kept (s .darts) w u (B .rest ∙ J .checked fine .beyond .rest)
 
       written : FileWritten s (tableOf s t) (pastOf s h) o x r
-      unfolding tableOf pastOf
       written = let C = J .checked fine in rw (C .table refl, C .past refl) at F
 
       pub write-short : {n : ℕ} → r ≡ Short n → leaves (needs n) (cleared (s .darts) u) x ≡ write s t h w o

@@ -1,6 +1,6 @@
 -- What writing a file leaves.
---   headLines D L         == the first three lines
---   fileIn D n L ends w   == the file of the pyramid whose darts are numbered in the work area w
+--   headLines D L == the first three lines
+--   fileIn s w    == the file of the pyramid of the state s whose darts are numbered in the work area w
 --   FileWritten s t past o o′ r == r answers for the file of this pyramid, and o′ is the output o with the file over it where that fits
 use mathlib.Core.List.{List, _++_}
 use mathlib.Core.Path.{_≡_}
@@ -22,9 +22,10 @@ use Rattle.writer.specs.Numbering.{entriesIn}
 unfoldable pub headLines : ℕ → ℕ → List ℕ
 headLines D L = fieldLine (bytes "numbers=0\ndarts=") D lineFeed ++ fieldLine (bytes "levels=") L lineFeed
 
-unfoldable pub fileIn : ℕ → ℕ → ℕ → List ℕ → List ℕ → List ℕ
-fileIn D n L ends w =
-    headLines D L ++ (kernelLines (cut 0 (take L ends) (historyIn D n w)) ++ pairLines (entriesIn D w))
+unfoldable pub fileIn : State → List ℕ → List ℕ
+fileIn s w =
+    headLines (s .darts) (s .levels)
+    ++ (kernelLines (cut 0 (take (s .levels) (s .ends)) (historyIn (s .darts) (s .operations) w)) ++ pairLines (entriesIn (s .darts) w))
 
 pub record FileWritten (s : State) (t past o o′ : List ℕ) (r : Written) : Type 0 where
   pub answer :

@@ -3,17 +3,20 @@ use crate::numbering::number_darts;
 use crate::print::fit_field;
 use crate::print::put_kernel;
 use crate::print::put_pair;
+use pyramid::State;
 use slices::at;
 ghost use mathlib.Core.Path.{_≡_};
 ghost use Prim.Native.Nat.{_+_, _*_, _≤_, _<_};
 ghost use lib.Dec.{T};
 ghost use lib.ListN.{length, getD, take};
 ghost use Rattle.darts.specs.Tests.{rises};
-ghost use Rattle.darts.specs.Pyramid.{Pyramid, cut};
+ghost use Rattle.darts.specs.Pyramid.{cut};
 ghost use Rattle.darts.specs.File.{pairLines, kernelLines};
 ghost use Rattle.area.specs.Area.{tableIn, pastIn};
-ghost use Rattle.area.specs.Shape.{stateOf, historyIn};
-ghost use Rattle.engine.specs.Held.{Area, Beyond};
+ghost use Rattle.area.specs.Shape.{historyIn};
+ghost use Rattle.engine.specs.Held.{Beyond};
+ghost use Rattle.pyramid.specs.Steps.{Stacked};
+ghost use Rattle.pyramid.specs.Values.{stateOf};
 ghost use Rattle.writer.specs.Fields.{Fitted};
 ghost use Rattle.writer.specs.Numbering.{Dense, renamed, entriesIn};
 ghost use Rattle.writer.specs.Writing.{headLines, fileIn, FileWritten};
@@ -82,22 +85,18 @@ fn put_pairs(work: &[u32], d: usize, output: &mut [u8], start: usize) -> usize
 }
 
 // The whole file, each line where there is room for it. The answer is the file's length in any case.
-fn put_file(
-    work: &[u32],
-    d: usize,
-    n: usize,
-    levels: usize,
-    ends: [u32; 64],
-    output: &mut [u8],
-) -> usize
-    requires { ⌜ Dense d (now work) ⌝ }
-    requires { ⌜ (n ≤ d) × (levels ≤ 64) ⌝ }
-    requires { ⌜ T (rises 0 (take levels ends) (historyIn d n (now work))) ⌝ }
-    ensures { λ r. ⌜ Fitted (now (output .entry)) (now (output .exit)) 0 r (fileIn d n levels ends (now (work .entry))) ⌝ }
+fn put_file(work: &[u32], state: State, output: &mut [u8]) -> usize
+    requires { ⌜ Dense (state .darts) (now work) ⌝ }
+    requires { ⌜ (state .operations ≤ state .darts) × (state .levels ≤ 64) ⌝ }
+    requires { ⌜ T (rises 0 (take (state .levels) (state .ends)) (historyIn (state .darts) (state .operations) (now work))) ⌝ }
+    ensures { λ r. ⌜ Fitted (now (output .entry)) (now (output .exit)) 0 r (fileIn (stateOf state) (now (work .entry))) ⌝ }
 {
+    let d = state.darts as usize;
+    let levels = state.levels as usize;
+    let ends = state.ends;
     let kernels = put_head(d, levels, output);
     let a = 3 * d;
-    let e = a + n;
+    let e = a + state.operations as usize;
     let pairs = put_kernels(&work[a..e], levels, ends, output, kernels);
     put_pairs(work, d, output, pairs)
 }
@@ -109,27 +108,19 @@ pub enum Written {
 }
 
 // The file of the pyramid that the work area holds. A first walk, over an output of one byte, finds out its length.
-pub fn write_inside(
-    work: &mut [u32],
-    d: usize,
-    n: usize,
-    levels: usize,
-    ends: [u32; 64],
-    output: &mut [u8],
-) -> Written
-    requires { ⌜ Area d n (now work) ⌝ }
-    requires { ⌜ Pyramid (stateOf d n levels ends) (tableIn d (now work)) (pastIn d n (now work)) ⌝ }
+pub fn write_inside(work: &mut [u32], state: State, output: &mut [u8]) -> Written
+    requires { ⌜ Stacked (stateOf state) (now work) ⌝ }
     ensures { λ r. ⌜
-        FileWritten (stateOf d n levels ends) (tableIn d (now (work .entry))) (pastIn d n (now (work .entry)))
+        FileWritten (stateOf state) (tableIn (state .darts) (now (work .entry))) (pastIn (state .darts) (state .operations) (now (work .entry)))
         (now (output .entry)) (now (output .exit)) r ⌝ }
-    ensures { λ _. ⌜ Beyond d (now (work .entry)) (now (work .exit)) ⌝ }
+    ensures { λ _. ⌜ Beyond (state .darts) (now (work .entry)) (now (work .exit)) ⌝ }
 {
-    number_darts(work, d, n);
+    number_darts(work, state.darts as usize, state.operations as usize);
     let mut none = [0u8; 1];
-    let needed = put_file(work, d, n, levels, ends, &mut none);
+    let needed = put_file(work, state, &mut none);
     if output.len() < needed {
         return Written::Short(needed);
     }
-    let written = put_file(work, d, n, levels, ends, output);
+    let written = put_file(work, state, output);
     Written::Wrote(written)
 }

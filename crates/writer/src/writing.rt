@@ -25,12 +25,8 @@ pub fn write(
     if judged.number() != 0 {
         return judged;
     }
-    let d = state.darts as usize;
-    let n = state.operations as usize;
-    let l = state.levels as usize;
-    let ends = state.ends;
-    let written = write_inside(work, d, n, l, ends, output);
-    clear(work, d);
+    let written = write_inside(work, state, output);
+    clear(work, state.darts as usize);
     match written {
         Written::Short(needed) => Answer::TooShort(needed),
         Written::Wrote(bytes) => Answer::Done(bytes),

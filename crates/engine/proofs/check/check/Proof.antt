@@ -1,7 +1,8 @@
--- `engine::check::check` meets its contract: what is loaded is decided, and loaded once more it stands beside the forest that judges the coming kernel.
+-- `engine::check::check` meets its contract: what is loaded is decided, and loaded again it stands beside the forest.
 use native.Mathlib.Omega.{arith}
 use borrow.Author.Needs.{needs}
 use borrow.Author.Tests.{not-true, not-false}
+use Rattle.area.specs.Shape.{stateWith}
 use Rattle.engine.proofs.Checking.{too-many, load-no, loaded-area, decide-no, decide-yes}
 use Rattle.engine.proofs.check.check.Statement.{statement}
 use Rattle.engine.proofs.check.check.Tie as tie
@@ -9,7 +10,7 @@ use Rattle.engine.proofs.check.check.Tie as tie
 returns : tie.Need-returns
 returns c =
     let s = c .before .before .before .before in
-    too-many (s .args .d) (s .args .n) (s .args .levels) (s .args .ends) (s .args .coming) _ _ _ (c .if1 .taken)
+    too-many (stateWith (s .args .state)) (s .args .coming) _ _ _ (c .if1 .taken)
 
 load-requires : tie.Need-load-requires
 load-requires c κs = search needs
@@ -19,17 +20,17 @@ same-length c = search needs
 
 returns-2 : tie.Need-returns-2
 returns-2 c =
-    let s = c .before .before .before .before .before .before .before .before .before in
-    load-no (s .args .d) (s .args .n) (s .args .levels) (s .args .ends) (s .args .coming) _ _
-    (s .pre .0) (s .pre .1 .0) (omega arith) (omega arith)
-    (c .before .before .before .load .ensures) (not-true _ (c .if2 .taken))
+    let l = c .before .before .before in
+    let s = l .before .before .before .before .before .before in
+    load-no (stateWith (s .args .state)) (s .args .coming) _ _ (s .pre .0) (s .pre .1 .0) (omega arith) (omega arith)
+    (l .load .ensures) (not-true _ (c .if2 .taken))
 
 decide-requires : tie.Need-decide-requires
 decide-requires c κs =
-    let s = c .before .before .before .before .before .before .before .before .before .before in
-    loaded-area (s .args .d) (s .args .n) (s .args .levels) (s .args .ends) (s .args .coming) _ _
-    (s .pre .0) (s .pre .1 .0) (omega arith) (omega arith)
-    (c .before .before .before .before .load .ensures) (not-false _ (c .before .if2 .left))
+    let l = c .before .before .before .before in
+    let s = l .before .before .before .before .before .before in
+    loaded-area (stateWith (s .args .state)) (s .args .coming) _ _ (s .pre .0) (s .pre .1 .0) (omega arith) (omega arith)
+    (l .load .ensures) (not-false _ (c .before .if2 .left))
 
 load-requires-2 : tie.Need-load-requires-2
 load-requires-2 c κs = search needs
@@ -39,22 +40,24 @@ same-length-2 c = search needs
 
 returns-3 : tie.Need-returns-3
 returns-3 c =
-    let s = c .before .before .before .before .before .before .before .before .before .before .before .before .before .before .before .before .before .before in
-    decide-yes (s .args .d) (s .args .n) (s .args .levels) (s .args .ends) (s .args .coming) _ _
-    (s .pre .0) (s .pre .1 .0) (omega arith) (omega arith)
-    (c .before .before .before .before .before .before .before .before .before .before .before .before .load .ensures) (not-false _ (c .before .before .before .before .before .before .before .before .before .if2 .left))
-    (c .before .before .before .before .before .before .before .decide .ensures) (c .before .before .before .before .if3 .taken) (c .before .before .load2 .ensures)
+    let d = c .before .before .before .before .before .before .before in
+    let e = d .before .before in
+    let l = e .before .before .before in
+    let s = l .before .before .before .before .before .before in
+    decide-yes (stateWith (s .args .state)) (s .args .coming) _ _ (s .pre .0) (s .pre .1 .0) (omega arith) (omega arith)
+    (l .load .ensures) (not-false _ (e .if2 .left)) (d .decide .ensures) (c .before .before .before .before .if3 .taken) (c .before .before .load2 .ensures)
 
 same-length-3 : tie.Need-same-length-3
 same-length-3 c = search needs
 
 returns-4 : tie.Need-returns-4
 returns-4 c =
-    let s = c .before .before .before .before .before .before .before .before .before .before .before .before .before .before in
-    decide-no (s .args .d) (s .args .n) (s .args .levels) (s .args .ends) (s .args .coming) _ _
-    (s .pre .0) (s .pre .1 .0) (omega arith) (omega arith)
-    (c .before .before .before .before .before .before .before .before .load .ensures) (not-false _ (c .before .before .before .before .before .if2 .left))
-    (c .before .before .before .decide .ensures) (c .if3 .left)
+    let d = c .before .before .before in
+    let e = d .before .before in
+    let l = e .before .before .before in
+    let s = l .before .before .before .before .before .before in
+    decide-no (stateWith (s .args .state)) (s .args .coming) _ _ (s .pre .0) (s .pre .1 .0) (omega arith) (omega arith)
+    (l .load .ensures) (not-false _ (e .if2 .left)) (d .decide .ensures) (c .if3 .left)
 
 pub check-spec : {M : Type 1} → statement M
 check-spec =

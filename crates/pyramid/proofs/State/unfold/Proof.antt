@@ -5,9 +5,9 @@ use Rattle.darts.specs.Calls.{unfoldBy}
 use Rattle.darts.specs.Levels.{unfoldTo}
 use Rattle.engine.proofs.Ready.{beyond-refl}
 use Rattle.pyramid.specs.Values.{stateOf}
-use Rattle.pyramid.proofs.Judges.{room-then}
+use Rattle.pyramid.proofs.Judges.{stacked-of, room-then}
 use Rattle.pyramid.proofs.OnState.{call-refused, act-refused, act-given}
-use Rattle.pyramid.proofs.BackInside.{no-level-above, stacked-of, unfold-stepped, store-fits}
+use Rattle.pyramid.proofs.BackInside.{no-level-above, unfold-stepped, store-fits}
 use borrow.Author.Needs.{needs}
 use Rattle.pyramid.proofs.State.unfold.Statement.{statement}
 use Rattle.pyramid.proofs.State.unfold.Tie as tie

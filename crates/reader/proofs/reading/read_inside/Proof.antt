@@ -23,18 +23,21 @@ enum-known-read-2 c = search needs
 
 settle-requires : tie.Need-settle-requires
 settle-requires c κs =
-    let s = c .before .before .before .before .before .before .before .before .before .before .before .before .before .before .before in
-    let k = c .before .before .before .before .before .before .before .before .before .parse .ensures in
-    (room-kept _ _ (k .beyond .size) (s .pre .0), (s .pre .1 .0, s .pre .1 .1, k .right (c .before .before .before .before .read2 .given .1) .few))
+    let e = c .before .before .before .before in
+    let p = e .before .before .before .before .before in
+    let s = p .before .before .before .before .before .before in
+    let k = p .parse .ensures in
+    (room-kept _ _ (k .beyond .size) (s .pre .0), (s .pre .1 .0, s .pre .1 .1, k .right (e .read2 .given .1) .few))
 
 same-length : tie.Need-same-length
 same-length c = search needs
 
 returns : tie.Need-returns
 returns c =
-    let g = c .before .before .before .before .before .before .before .before .before .before .before .before .before .args in
+    let p = c .before .before .before .before .before .before .before in
+    let g = p .before .before .before .before .before .before .args in
     let r = c .based in
-    let k = c .before .before .before .before .before .before .before .parse .ensures in
+    let k = p .parse .ensures in
     (hands (r .result) (r .ensures) _ _ _ ∙ closed-fault _ _ _ (startsWith (g .flag) (g .d)) (k .wrong (c .before .before .read .given .1)), k .beyond)
 
 same-length-2 : tie.Need-same-length-2
@@ -48,9 +51,11 @@ same-length-4 c = search needs
 
 returns-2 : tie.Need-returns-2
 returns-2 c =
-    let k = c .before .before .before .before .before .before .before .before .before .before .before .before .before .before .before .before .parse .ensures in
-    let z = c .before .before .before .before .before .before .settle .ensures in
-    (z .whole _ (k .right (c .before .before .before .before .before .before .before .before .before .before .before .read2 .given .1)) _, beyond-trans (k .beyond) (z .beyond))
+    let d = c .before .before .before .before .before .before in
+    let e = d .before .before .before .before .before in
+    let k = e .before .before .before .before .before .parse .ensures in
+    let z = d .settle .ensures in
+    (z .whole _ (k .right (e .read2 .given .1)) _, beyond-trans (k .beyond) (z .beyond))
 
 pub read-inside-spec : {M : Type 1} → statement M
 read-inside-spec =

@@ -15,8 +15,8 @@ returns c =
     let g = c .before .before .before .before .before .before .args in
     let r = c .based in
     record {
-      whole = λ s H v. hands (r .result) (r .ensures) _ _ _ ∙ settle-many H (g .table .now) (g .history .now) v (c .before .if1 .taken);
-      beyond = beyond-refl (g .d) (g .work .now);
+      whole = λ z H v. hands (r .result) (r .ensures) _ _ _ ∙ settle-many H (g .table .now) (g .history .now) v (c .before .if1 .taken);
+      beyond = beyond-refl (g .state .darts) (g .work .now);
     }
 
 check-laid-requires : tie.Need-check-laid-requires
@@ -45,11 +45,12 @@ same-length-3 c = search needs
 
 returns-2 : tie.Need-returns-2
 returns-2 c =
-    let g = c .before .before .before .before .before .before .before .before .before .before .before .before .before .before .before .before .before .before .args in
-    let k = c .before .before .before .before .before .before .before .before .before .before .before .check-laid .ensures in
+    let e = c .before .before .before .before .before .before in
+    let d = e .before .before .before .before .before .before .before in
+    let g = d .before .before .before .before .before .before .before .args in
+    let k = d .check-laid .ensures in
     record {
-      whole = λ s H v.
-          settle-all H (g .table .now) (g .history .now) v (c .before .before .before .before .before .before .before .before .before .before .before .before .before .if1 .left) k (c .before .before .before .before .before .before .before .before .if2 .taken) (c .before .before .before .before .accept .ensures);
+      whole = λ z H v. settle-all H (g .table .now) (g .history .now) v (d .before .before .if1 .left) k (e .before .before .before .before .if2 .taken) (e .accept .ensures);
       beyond = k .beyond;
     }
 
@@ -61,13 +62,14 @@ same-length-4 c = search needs
 
 returns-3 : tie.Need-returns-3
 returns-3 c =
-    let g = c .before .before .before .before .before .before .before .before .before .before .before .args in
+    let d = c .before .before .before .before in
+    let g = d .before .before .before .before .before .before .before .args in
     let r = c .based2 in
-    let k = c .before .before .before .before .check-laid .ensures in
+    let k = d .check-laid .ensures in
     record {
-      whole = λ s H v.
+      whole = λ z H v.
           hands (r .result) (r .ensures) _ _ _
-          ∙ settle-none H (g .table .now) (g .history .now) v (c .before .before .before .before .before .before .if1 .left) k (c .before .if2 .left);
+          ∙ settle-none H (g .table .now) (g .history .now) v (d .before .before .if1 .left) k (c .before .if2 .left);
       beyond = k .beyond;
     }
 
