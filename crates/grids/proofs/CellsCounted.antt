@@ -15,7 +15,7 @@ use Rattle.laws.proofs.bridge.Judged.{same-vertex}
 use Rattle.laws.proofs.bridge.Counting.{counts-numbers}
 use Rattle.grids.specs.Grid.{Grid, sized, cells, dartsOf}
 use Rattle.grids.specs.Base.{cellOf, baseTable}
-use Rattle.permutations.proofs.Numbered.{cycles-numbered}
+use Rattle.permutations.proofs.CyclesCounted.{cycles-numbered}
 use Rattle.grids.proofs.PlanBase.{plan-base, base-stands, base-vertices}
 
 pub cells-label : (g : Grid) → Labels (live (dartsOf g) []) (mapOf (dartsOf g) (baseTable g) [] .next) (cellOf g)

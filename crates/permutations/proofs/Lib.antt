@@ -9,4 +9,4 @@ pub mod Order
 pub mod Euler
 pub mod Replay
 pub mod Examples
-pub mod Numbered
+pub mod CyclesCounted
