@@ -59,14 +59,36 @@ nothing = baseState 0
 abbrev one : ℕ → ℕ → State
 one D n = record { darts = D; operations = n; levels = 1; ends = n ∷ replicate 63 0 }
 
--- 3 by 2 with two codes, drawn with the highest course first, and its base; the codes from the lowest course on
---     a b b        4 . 6 .
---     a a b        0 . 2 .
+-- 3 by 2 with two codes, drawn with the highest course first, as in docs/CALLS.md, and its base
+--     a b b
+--     a a b
 abbrev twoCodes : List ℕ
 twoCodes = 97 ∷ 97 ∷ 98 ∷ 97 ∷ 98 ∷ 98 ∷ []
 
 abbrev threeByTwo : List ℕ
 threeByTwo = 8 ∷ 2 ∷ 10 ∷ 12 ∷ 9 ∷ 11 ∷ 5 ∷ 13 ∷ 0 ∷ 4 ∷ 1 ∷ 6 ∷ 3 ∷ 7 ∷ []
+
+-- the brief of samples/brief.plan, and its base
+--     W W W W W
+--     B B B B B
+--     L B B B R
+--     L L B R R
+abbrev brief : List ℕ
+brief =
+    76 ∷ 76 ∷ 66 ∷ 82 ∷ 82 ∷ 76 ∷ 66 ∷ 66 ∷ 66 ∷ 82 ∷ 66 ∷ 66 ∷ 66 ∷ 66 ∷ 66 ∷ 87 ∷ 87 ∷ 87 ∷ 87 ∷ 87 ∷ []
+
+abbrev briefBase : List ℕ
+briefBase =
+    32 ∷ 2 ∷ 34 ∷ 4 ∷ 36 ∷ 6 ∷ 38 ∷ 40 ∷ 42 ∷ 35 ∷ 44 ∷ 37 ∷ 46 ∷ 39 ∷ 48 ∷ 41 ∷ 52 ∷ 45 ∷ 54 ∷ 47 ∷ 56 ∷ 49 ∷ 58 ∷ 51 ∷ 53 ∷ 55 ∷ 25 ∷ 57
+    ∷ 27 ∷ 59 ∷ 29 ∷ 61 ∷ 0 ∷ 8 ∷ 1 ∷ 10 ∷ 3 ∷ 12 ∷ 5 ∷ 14 ∷ 7 ∷ 50 ∷ 33 ∷ 16 ∷ 9 ∷ 18 ∷ 11 ∷ 20 ∷ 13 ∷ 22 ∷ 15 ∷ 60 ∷ 43 ∷ 24 ∷ 17 ∷ 26
+    ∷ 19 ∷ 28 ∷ 21 ∷ 30 ∷ 23 ∷ 31 ∷ []
+
+-- its table after the first kernel, which takes edges 0 3 5 6 8 9 10 11 12 13 14 15 16 18 20 22
+abbrev briefAreas : List ℕ
+briefAreas =
+    32 ∷ 2 ∷ 34 ∷ 4 ∷ 39 ∷ 50 ∷ 38 ∷ 40 ∷ 42 ∷ 35 ∷ 44 ∷ 37 ∷ 46 ∷ 39 ∷ 48 ∷ 38 ∷ 52 ∷ 45 ∷ 54 ∷ 47 ∷ 56 ∷ 49 ∷ 58 ∷ 51 ∷ 53 ∷ 55 ∷ 53 ∷ 57
+    ∷ 53 ∷ 59 ∷ 53 ∷ 61 ∷ 2 ∷ 8 ∷ 8 ∷ 3 ∷ 3 ∷ 39 ∷ 5 ∷ 14 ∷ 38 ∷ 50 ∷ 2 ∷ 9 ∷ 9 ∷ 47 ∷ 47 ∷ 49 ∷ 46 ∷ 51 ∷ 15 ∷ 60 ∷ 43 ∷ 55 ∷ 52 ∷ 57
+    ∷ 54 ∷ 59 ∷ 56 ∷ 61 ∷ 58 ∷ 53 ∷ []
 
 abbrev codes : ℕ → List ℕ
 codes n = replicate n 97
@@ -98,6 +120,8 @@ table =
     ∷ areas 3 2 twoCodes 14 0 (one 14 4) (8 ∷ 2 ∷ 10 ∷ 5 ∷ 2 ∷ 11 ∷ 5 ∷ 13 ∷ 2 ∷ 4 ∷ 4 ∷ 3 ∷ 3 ∷ 5 ∷ []) (1 ∷ 13 ∷ 17 ∷ 25 ∷ []) 56
     -- one code, 2 by 2: the last edge has one vertex at both ends
     ∷ areas 2 2 (codes 4) 8 0 (one 8 3) (4 ∷ 6 ∷ 5 ∷ 7 ∷ 6 ∷ 7 ∷ 7 ∷ 6 ∷ []) (1 ∷ 5 ∷ 9 ∷ []) 32
+    ∷ base 5 4 brief 62 0 (baseState 62) briefBase [] 248
+    ∷ areas 5 4 brief 62 0 (one 62 16) briefAreas (1 ∷ 13 ∷ 21 ∷ 25 ∷ 33 ∷ 37 ∷ 41 ∷ 45 ∷ 49 ∷ 53 ∷ 57 ∷ 61 ∷ 65 ∷ 73 ∷ 81 ∷ 89 ∷ []) 248
     -- one code, 1 by 3: the last edge is a whole piece and stays
     ∷ areas 1 3 (codes 3) 4 0 (one 4 1) (0 ∷ 2 ∷ 2 ∷ 3 ∷ []) (3 ∷ []) 16
     ∷ []
