@@ -23,7 +23,7 @@ use Rattle.permutations.specs.Partner.{partner, partner-below}
 use Rattle.darts.specs.Map.{successor}
 use Rattle.slices.proofs.Part.{part-length, part-at}
 use Rattle.area.specs.Area.{Room, prev, there, forestIn, around}
-use Rattle.area.specs.Operate.{wholeIn}
+use Rattle.darts.specs.Operation.{wholeEdge}
 use Rattle.area.specs.Trees.{Outside}
 
 pub outside-refl : (D : ℕ) (w : List ℕ) → Outside D w w
@@ -54,8 +54,8 @@ module _ {D : ℕ} {w w′ : List ℕ} (o : Outside D w w′) where
   outside-around r k x h =
       rw (outside-front x (omega arith), outside-front (partner x) (omega (arith, partner-below D x h (r .even))))
 
-  pub outside-whole : (e : ℕ) → e < D / 2 → wholeIn w′ e ≡ wholeIn w e
-  unfolding wholeIn successor
+  pub outside-whole : (e : ℕ) → e < D / 2 → wholeEdge w′ e ≡ wholeEdge w e
+  unfolding wholeEdge successor
   outside-whole e h = rw (outside-front (2 * e) (omega arith), outside-front (2 * e + 1) (omega arith))
 
 pub forest-length : (D : ℕ) (w : List ℕ) → 4 * D ≤ length w → length (forestIn D w) ≡ D

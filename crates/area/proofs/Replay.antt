@@ -2,11 +2,13 @@
 --   replay-other, rejoin-other       == an operation of the other kind changes nothing
 --   replay-together                  == one root already: the replay fails
 --   replay-apart, rejoin-apart       == two roots: they are joined, and the replay goes on
+--   has-here, has-on                 == whether an operation is of kind k, one by one
+--   none-replayed                    == where none is of kind k, the replay has nothing to refuse
 --   merged-merges                    == joined roots give one root where they did, and where both belonged to p or q
 --   Alike R L                        == R and L give one root, or label, to the same numbers
 --   replay-alike                     == the replay on labels answers the same
 --   rejoined-alike                   == and what is joined is what is relabelled
-use mathlib.Core.Bool.{Bool, true, false, not}
+use mathlib.Core.Bool.{Bool, true, false, not, true≢false}
 use mathlib.Core.List.{List, [], _∷_}
 use mathlib.Core.Logic.{_≢_, _⊎_, inl, inr, ⊎-elim, _↔_, by-cases}
 use mathlib.Core.Path.{_≡_, refl, sym, ap, _∙_}
@@ -23,6 +25,7 @@ use Rattle.darts.specs.Tests.{sameKind, relabel, relabelled, replays, parted}
 use Rattle.forest.specs.Forest.{linked}
 use Rattle.forest.proofs.Joins.{linked-higher, linked-other}
 use Rattle.area.specs.Trees.{merged}
+use Rattle.area.specs.Shape.{hasKind}
 use Rattle.area.specs.Replay.{rejoin, rejoined, replayed}
 
 -- ---- one operation more
@@ -49,6 +52,24 @@ module _ (k : ℕ) (R : ℕ → ℕ) (h : ℕ) (hs : List ℕ) where
     pub rejoin-apart : rejoined k R (h ∷ hs) ≡ rejoined k (merged R (h / 2) (partner (h / 2))) hs
     unfolding rejoined rejoin
     rejoin-apart = rw (eq-eqb (h % 2) k same) refl
+
+-- ---- is there an operation of kind k?
+
+module _ (k h : ℕ) (hs : List ℕ) where
+  pub has-here : h % 2 ≡ k → hasKind k (h ∷ hs) ≡ true
+  unfolding hasKind
+  has-here e = rw (eq-eqb (h % 2) k e)
+
+  pub has-on : h % 2 ≢ k → hasKind k (h ∷ hs) ≡ hasKind k hs
+  unfolding hasKind
+  has-on n = rw (ne-eqb (h % 2) k n)
+
+pub none-replayed : (k : ℕ) (R : ℕ → ℕ) (hs : List ℕ) → hasKind k hs ≡ false → replayed k R hs ≡ true
+none-replayed k R [] none = unfold replayed in refl
+none-replayed k R (h ∷ hs) none =
+    by-cases (ℕ-discrete (h % 2) k)
+    (λ e. absurd (true≢false (sym (has-here k h hs e) ∙ none)))
+    (λ n. replay-other k R h hs n ∙ none-replayed k R hs (sym (has-on k h hs n) ∙ none))
 
 -- ---- joined roots
 

@@ -11,7 +11,7 @@ ghost use Rattle.area.specs.Area.{Room, tried, triedIf};
 ghost use Rattle.area.specs.Back.{fitting, inserted, placed, triedBack, backs, Mapped, Sound};
 
 // Of two darts the near one for the kind that k tells: a for a removal, which is even, and b for a contraction.
-pub fn near(k: usize, a: usize, b: usize) -> usize
+pub(crate) fn near(k: usize, a: usize, b: usize) -> usize
     ensures { λ r. ⌜ r ≡ nearOf (kindOf k) a b ⌝ }
 {
     if k % 2 == 0 {
@@ -21,7 +21,7 @@ pub fn near(k: usize, a: usize, b: usize) -> usize
 }
 
 // Tests 6 to 15: whether p and q can come back before x and y, or both before y where x is q.
-pub fn fit(work: &[u32], d: usize, p: usize, q: usize, x: usize, y: usize) -> bool
+fn fit(work: &[u32], d: usize, p: usize, q: usize, x: usize, y: usize) -> bool
     requires { ⌜ Room d (now work) ⌝ }
     requires { ⌜ (x < d) × (y < d) ⌝ }
     ensures { λ r. ⌜ r ≡ fitting d (now (work .entry)) p q x y ⌝ }
@@ -42,16 +42,7 @@ pub fn fit(work: &[u32], d: usize, p: usize, q: usize, x: usize, y: usize) -> bo
 }
 
 // Dart a leads to p and b to q, p leads to r and q to s.
-pub fn insert(
-    work: &mut [u32],
-    d: usize,
-    p: usize,
-    q: usize,
-    r: usize,
-    s: usize,
-    a: usize,
-    b: usize,
-)
+fn insert(work: &mut [u32], d: usize, p: usize, q: usize, r: usize, s: usize, a: usize, b: usize)
     requires { ⌜ Room d (now work) ⌝ }
     requires { ⌜ (p < d) × (q < d) × (r < d) × (s < d) × (a < d) × (b < d) ⌝ }
     ensures { λ _. ⌜ now (work .exit) ≡ inserted d (now (work .entry)) p q r s a b ⌝ }
@@ -63,7 +54,7 @@ pub fn insert(
 }
 
 // Darts p and q, which lead to r and s, come back before x and y, or both before y where x is q.
-pub fn place(
+fn place(
     work: &mut [u32],
     d: usize,
     k: usize,
@@ -90,7 +81,7 @@ pub fn place(
 }
 
 // Darts p and q, which lead to r and s, come back where they fit.
-pub fn take_back_edge(
+fn take_back_edge(
     work: &mut [u32],
     d: usize,
     k: usize,
@@ -116,7 +107,7 @@ pub fn take_back_edge(
 }
 
 // The operation h is taken back where it passes tests 6 to 15.
-pub fn take_back(work: &mut [u32], d: usize, h: usize) -> bool
+fn take_back(work: &mut [u32], d: usize, h: usize) -> bool
     requires { ⌜ Mapped d (now work) ⌝ }
     requires { ⌜ h < 2 * d ⌝ }
     ensures { λ r. ⌜ tried r (now (work .exit)) ≡ triedBack d (now (work .entry)) h ⌝ }

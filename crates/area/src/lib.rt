@@ -5,8 +5,8 @@ pub mod cycles;
 pub mod load;
 pub mod operate;
 pub mod shape;
-pub mod step;
-pub mod trees;
+mod step;
+mod trees;
 
 // The numbers of a state, in the width of the work area: D, the operations, the levels, and the operation count after each level.
 pub struct Figures {

@@ -9,7 +9,7 @@ ghost use Rattle.area.specs.Area.{Room, bound, tried};
 ghost use Rattle.area.specs.Load.{marks, links, given, relinks, loads};
 
 // Dart a leads to x, and a is the dart before x.
-pub fn bind(work: &mut [u32], d: usize, a: usize, x: usize)
+pub(crate) fn bind(work: &mut [u32], d: usize, a: usize, x: usize)
     requires { ⌜ Room d (now work) ⌝ }
     requires { ⌜ (a < d) × (x < d) ⌝ }
     ensures { λ _. ⌜ now (work .exit) ≡ bound d (now (work .entry)) a x ⌝ }
@@ -19,7 +19,7 @@ pub fn bind(work: &mut [u32], d: usize, a: usize, x: usize)
 }
 
 // The darts of the history's edges are marked as gone. No where a number is no dart's or an edge comes twice.
-pub fn mark(work: &mut [u32], d: usize, n: usize) -> bool
+fn mark(work: &mut [u32], d: usize, n: usize) -> bool
     requires { ⌜ Room d (now work) ⌝ }
     requires { ⌜ n ≤ d ⌝ }
     ensures { λ r. ⌜ tried r (now (work .exit)) ≡ marks d (now (work .entry)) 0 n ⌝ }
@@ -42,7 +42,7 @@ pub fn mark(work: &mut [u32], d: usize, n: usize) -> bool
 }
 
 // Each survivor is noted before its successor. No where an entry is no dart, a survivor leads to a gone dart, or two lead to one.
-pub fn link(work: &mut [u32], d: usize) -> bool
+fn link(work: &mut [u32], d: usize) -> bool
     requires { ⌜ Room d (now work) ⌝ }
     ensures { λ r. ⌜ tried r (now (work .exit)) ≡ links d (now (work .entry)) 0 d ⌝ }
 {
@@ -66,7 +66,7 @@ pub fn link(work: &mut [u32], d: usize) -> bool
 }
 
 // Table and history are copied into their parts.
-pub fn lay(work: &mut [u32], d: usize, table: &[u32], history: &[u32], n: usize)
+fn lay(work: &mut [u32], d: usize, table: &[u32], history: &[u32], n: usize)
     requires { ⌜ Room d (now work) ⌝ }
     requires { ⌜ (d ≤ length (now table)) × (n ≤ length (now history)) × (n ≤ d) ⌝ }
     ensures { λ _. ⌜ now (work .exit) ≡ given d n (now (table .entry)) (now (history .entry)) (now (work .entry)) ⌝ }

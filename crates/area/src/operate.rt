@@ -9,16 +9,16 @@ ghost use mathlib.Core.Path.{_≡_};
 ghost use Prim.Native.Nat.{_+_, _*_, _/_, _<_};
 ghost use lib.ListN.{length};
 ghost use Rattle.permutations.specs.Partner.{partner};
-ghost use Rattle.darts.specs.Operation.{kindOf, lead as leadDart};
+ghost use Rattle.darts.specs.Operation.{kindOf, wholeEdge, lead as leadDart};
 ghost use Rattle.forest.specs.Forest.{Falls};
 ghost use Rattle.area.specs.Area.{Room, forestIn};
-ghost use Rattle.area.specs.Operate.{wholeIn, led, noted, operated};
+ghost use Rattle.area.specs.Operate.{takesIn, led, noted, operated};
 ghost use Rattle.area.specs.Edge.{Judged, Bounds, bypassed, Did};
 
 // Whether edge e is a whole piece.
 fn whole(work: &[u32], e: usize) -> bool
     requires { ⌜ 2 * e + 1 < length (now work) ⌝ }
-    ensures { λ r. ⌜ r ≡ wholeIn (now (work .entry)) e ⌝ }
+    ensures { λ r. ⌜ r ≡ wholeEdge (now (work .entry)) e ⌝ }
 {
     let p = 2 * e;
     let q = 2 * e + 1;
@@ -31,6 +31,25 @@ fn whole(work: &[u32], e: usize) -> bool
         return s == p;
     }
     false
+}
+
+// Whether the sweep takes edge e: it survives, and is an empty loop and no whole piece, so that r = q or s = p, but not both.
+pub fn takes(work: &[u32], d: usize, e: usize) -> bool
+    requires { ⌜ Room d (now work) ⌝ }
+    requires { ⌜ e < d / 2 ⌝ }
+    ensures { λ r. ⌜ r ≡ takesIn d (now (work .entry)) e ⌝ }
+{
+    let p = 2 * e;
+    let q = 2 * e + 1;
+    if d <= at(work, d + p) {
+        return false;
+    }
+    let r = at(work, p);
+    let s = at(work, q);
+    if r == q {
+        return s != p;
+    }
+    s == p
 }
 
 // The answer for edge e at its turn, the one at place i of a kernel: the forest tells vertices where k is 1, and faces where k is 0.
@@ -117,7 +136,7 @@ fn note(work: &mut [u32], d: usize, n: usize, k: usize, p: usize, q: usize)
 }
 
 // The operation on edge e, the one of count n: a removal where k is 0, a contraction where k is 1.
-pub fn operate(work: &mut [u32], d: usize, n: usize, k: usize, e: usize)
+fn operate(work: &mut [u32], d: usize, n: usize, k: usize, e: usize)
     requires { ⌜ Room d (now work) ⌝ }
     requires { ⌜ (n < d / 2) × (k < 2) ⌝ }
     requires { ⌜ Bounds d (now work) (2 * e) (2 * e + 1) ⌝ }

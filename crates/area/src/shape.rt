@@ -7,10 +7,10 @@ ghost use lib.ListN.{length, take, drop};
 ghost use Rattle.darts.specs.Tests.{oneKind, rises, zeros, shaped};
 ghost use Rattle.slices.specs.Part.{part};
 ghost use Rattle.area.specs.Area.{Room};
-ghost use Rattle.area.specs.Shape.{stateWith, historyIn};
+ghost use Rattle.area.specs.Shape.{stateWith, historyIn, hasKind};
 
 // Whether the history numbers at the places from `from` to `to` are of one kind, the first one's.
-pub fn one_kind(work: &[u32], from: usize, to: usize) -> bool
+fn one_kind(work: &[u32], from: usize, to: usize) -> bool
     requires { ⌜ (from < to) × (to ≤ length (now work)) ⌝ }
     ensures { λ r. ⌜ r ≡ oneKind (part from to (now (work .entry))) ⌝ }
 {
@@ -25,8 +25,24 @@ pub fn one_kind(work: &[u32], from: usize, to: usize) -> bool
     true
 }
 
+// Whether one of the first n operations is of kind k.
+pub fn has_kind(work: &[u32], d: usize, n: usize, k: usize) -> bool
+    requires { ⌜ Room d (now work) ⌝ }
+    requires { ⌜ n ≤ d ⌝ }
+    ensures { λ r. ⌜ r ≡ hasKind k (historyIn d n (now (work .entry))) ⌝ }
+{
+    let mut i = 0;
+    while i < n {
+        if at(work, 3 * d + i) % 2 == k {
+            return true;
+        }
+        i += 1;
+    }
+    false
+}
+
 // Whether the ends past the levels are 0.
-pub fn unused(levels: usize, ends: [u32; 64]) -> bool
+fn unused(levels: usize, ends: [u32; 64]) -> bool
     requires { ⌜ levels ≤ 64 ⌝ }
     ensures { λ r. ⌜ r ≡ zeros (drop levels ends) ⌝ }
 {
@@ -41,7 +57,7 @@ pub fn unused(levels: usize, ends: [u32; 64]) -> bool
 }
 
 // Whether the ends of the levels rise to the number of operations, with one kind inside each level.
-pub fn rise(work: &[u32], d: usize, operations: usize, levels: usize, ends: [u32; 64]) -> bool
+fn rise(work: &[u32], d: usize, operations: usize, levels: usize, ends: [u32; 64]) -> bool
     requires { ⌜ Room d (now work) ⌝ }
     requires { ⌜ (operations ≤ d) × (levels ≤ 64) ⌝ }
     ensures { λ r. ⌜ r ≡ rises 0 (take levels ends) (historyIn d operations (now (work .entry))) ⌝ }

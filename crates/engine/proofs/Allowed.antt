@@ -15,13 +15,14 @@ use Rattle.darts.specs.Map.{gone, survives, live}
 use Rattle.darts.specs.Operation.{Kind, contraction, removal, lead, number}
 use Rattle.darts.specs.Kernel.{judge}
 use Rattle.darts.specs.Tests.{numbered}
+use Rattle.laws.proofs.tests.Room.{numbered-room}
 use Rattle.area.specs.Area.{tableIn, pastIn}
 use Rattle.laws.specs.Standing.{Standing}
 use Rattle.laws.proofs.bridge.Standing.{live-iff}
 use Rattle.laws.proofs.bridge.Judged.{judge-legal}
 use Rattle.laws.proofs.bridge.Numbers.{number-lead}
 use Rattle.engine.specs.Held.{Area}
-use Rattle.engine.proofs.Edges.{numbered-cons, numbered-few}
+use Rattle.engine.proofs.Edges.{numbered-cons}
 use Rattle.engine.proofs.Parts.{past-length}
 use Rattle.laws.proofs.bridge.Lead.{lead-end}
 
@@ -57,4 +58,4 @@ module _ {D n : ℕ} {w : List ℕ} (A : Area D n w) (k : Kind) (e : ℕ) (fine 
   -- FEWER OPERATIONS THAN EDGES
   pub room-for-one-more : n < D / 2
   room-for-one-more =
-      rw (past-length D n w (omega (arith, A .few, A .room .fits))) at (numbered-few D (number k p ∷ past) (A .room .even) numbers-one-more)
+      rw (past-length D n w (omega (arith, A .few, A .room .fits))) at (numbered-room D (A .room .even) (number k p ∷ past) numbers-one-more)

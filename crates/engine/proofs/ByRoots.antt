@@ -24,7 +24,7 @@ use Rattle.darts.specs.Map.{gone, survives, live}
 use Rattle.darts.specs.Operation.{Kind, contraction, removal, kindOf, wholeEdge}
 use Rattle.darts.specs.Kernel.{judge}
 use Rattle.area.specs.Area.{there, tableIn, pastIn}
-use Rattle.area.specs.Operate.{wholeIn, judged, operated}
+use Rattle.area.specs.Operate.{judged, operated}
 use Rattle.laws.specs.Standing.{Standing, mapOf}
 use Rattle.laws.proofs.bridge.Standing.{opOf, live-iff}
 use Rattle.laws.proofs.bridge.Judged.{same-vertex, same-face, judge-legal}
@@ -66,8 +66,8 @@ module _ {D n : ℕ} {w : List ℕ} (A : Area D n w) (k : ℕ) (l : k ≤ 1) {R 
       let m = same-ring (A .stands) (kindOf k) (2 * e) (2 * e + 1) h in
       T-ext (eqb (R (2 * e)) (R (2 * e + 1))) (same (kindOf k) D t (2 * e) (2 * e + 1)) (λ b. m .1 (j .0 (i .0 b))) (λ b. i .1 (j .1 (m .0 b)))
 
-  whole-in : (e : ℕ) → 2 * e + 1 < D → wholeIn w e ≡ wholeEdge t e
-  unfolding wholeIn wholeEdge
+  whole-in : (e : ℕ) → 2 * e + 1 < D → wholeEdge w e ≡ wholeEdge t e
+  unfolding wholeEdge
   whole-in e h = rw (successor-in D w (2 * e) (omega arith), successor-in D w (2 * e + 1) h)
 
   not-there : (e : ℕ) → 2 * e < D → not (there D w (2 * e)) ≡ gone past (2 * e)
@@ -88,7 +88,7 @@ module _ {D n : ℕ} {w : List ℕ} (A : Area D n w) (k : ℕ) (l : k ≤ 1) {R 
   judged-right e = rw (judge-in k l D t past e) (number (leb (D / 2) e) refl)
     where
       byRoots : ℕ
-      byRoots = answer (eqb (R (2 * e)) (R (2 * e + 1))) (wholeIn w e)
+      byRoots = answer (eqb (R (2 * e)) (R (2 * e + 1))) (wholeEdge w e)
 
       byTable : ℕ
       byTable = answer (same (kindOf k) D t (2 * e) (2 * e + 1)) (wholeEdge t e)

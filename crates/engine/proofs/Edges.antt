@@ -4,25 +4,20 @@
 --   gone-end      == an edge is gone with both its darts
 --   not-gone-live == a dart that is not gone survives
 --   numbered-cons == tests 1 and 2 of one operation more
---   numbered-few  == where tests 1 and 2 are passed, there are no more operations than edges
 use mathlib.Core.Bool.{Bool, true, false, _||_, _&&_, not}
 use mathlib.Core.List.{List, [], _∷_}
-use mathlib.Core.Logic.{_↔_, _≢_, inl, inr, ⊎-elim, Iff·rfl}
+use mathlib.Core.Logic.{_↔_, inl, inr, ⊎-elim, Iff·rfl}
 use mathlib.Core.Path.{_≡_, refl, sym, _∙_}
-use Prim.Native.Nat.{ℕ, zero, suc, _*_, _/_, _%_, _≤_, _<_}
-use native.Mathlib.Decide.{ℕ-discrete, decLt}
-use native.Mathlib.Nat.{not-suc-le-zero}
+use Prim.Native.Nat.{ℕ, _*_, _/_, _<_}
+use native.Mathlib.Decide.{ℕ-discrete}
 use native.Mathlib.Omega.{arith}
 use lib.Dec.{T, eqb, ltb, ltb→lt, lt→ltb}
-use lib.ListN.{length, getD}
 use Rattle.permutations.specs.Choice.{eqb-iff, not-iff, and-iff}
 use Rattle.permutations.specs.Partner.{partner-cases, partner-edge, End}
-use Rattle.permutations.specs.Pigeonhole.{Clash, pigeonhole}
 use Rattle.darts.specs.Map.{gone, survives, live}
 use Rattle.darts.specs.Operation.{leadOf}
 use Rattle.darts.specs.Tests.{numbered}
 use Rattle.laws.proofs.bridge.Standing.{live-iff}
-use Rattle.laws.proofs.tests.Room.{gone-at}
 
 pub same-edge : (p x : ℕ) → x / 2 ≡ p / 2 → End p x
 same-edge p x e = go (ℕ-discrete x p)
@@ -58,36 +53,8 @@ pub not-gone-live : (D : ℕ) (past : List ℕ) (x : ℕ) → x < D → gone pas
 unfolding survives
 not-gone-live D past x h e = live-iff D past x .1 (h, rw e tt)
 
--- ---- no more operations than edges
-
 pub numbered-cons : (D h : ℕ) (past : List ℕ) → T (numbered D (h ∷ past)) ↔ ((h < 2 * D) × ((¬ T (gone past (leadOf h))) × T (numbered D past)))
 unfolding numbered
 numbered-cons D h past =
     and-iff (ltb h (2 * D)) (not (gone past (leadOf h)) && numbered D past) (ltb→lt h (2 * D), lt→ltb h (2 * D)) (λ l.
     and-iff (not (gone past (leadOf h))) (numbered D past) (not-iff (gone past (leadOf h)) Iff·rfl) (λ n. Iff·rfl))
-
-numbered-below : (D : ℕ) (past : List ℕ) → T (numbered D past) → (i : ℕ) → i < length past → getD past i 0 < 2 * D
-numbered-below D [] t i l = absurd (not-suc-le-zero l)
-numbered-below D (h ∷ past) t zero l = numbered-cons D h past .0 t .0
-numbered-below D (h ∷ past) t (suc i) l = numbered-below D past (numbered-cons D h past .0 t .1 .1) i (omega arith)
-
-numbered-apart : (D : ℕ) (past : List ℕ) → T (numbered D past) → (i j : ℕ) → i < j → j < length past → getD past i 0 / 4 ≢ getD past j 0 / 4
-unfolding leadOf
-numbered-apart D [] t i j l m e = not-suc-le-zero m
-numbered-apart D (h ∷ past) t i zero l m e = not-suc-le-zero l
-numbered-apart D (h ∷ past) t zero (suc j) l m e =
-    let k : getD past j 0 / 4 ≡ h / 2 / 2 = omega arith in
-    numbered-cons D h past .0 t .1 .0 (gone-at past j (h / 2) (omega arith) k)
-numbered-apart D (h ∷ past) t (suc i) (suc j) l m e = numbered-apart D past (numbered-cons D h past .0 t .1 .1) i j (omega arith) (omega arith) e
-
-pub numbered-few : (D : ℕ) (past : List ℕ) → D % 2 ≡ 0 → T (numbered D past) → length past ≤ D / 2
-numbered-few D past even t = go (decLt (D / 2) (length past))
-  where
-    edge : ℕ → ℕ
-    edge i = getD past i 0 / 4
-
-    go : Dec (D / 2 < length past) → length past ≤ D / 2
-    go (no n) = omega arith
-    go (yes l) =
-        let c : Clash edge (D / 2) = pigeonhole (D / 2) edge (λ i k. let b = numbered-below D past t i (omega arith) in omega arith) in
-        absurd (numbered-apart D past t (c .first) (c .second) (c .order) (omega arith) (c .same))

@@ -1,6 +1,4 @@
 -- The operations of one kind replayed on the base, and then those of the other.
---   has-here, has-on == whether an operation is of kind k, one by one
---   none-replayed    == where none is of kind k, the replay has nothing to refuse
 --   walk-rooted      == the lowest dart of each cycle: labels of the base that are always right
 --   outside-history  == and the history,
 --   outside-numbered == whose numbers are still of darts
@@ -9,11 +7,11 @@
 --   kind-grown       == its forest is there, whatever is coming
 --   both-no          == the first kind is refused
 --   both-yes         == the first kind passes, and the second answers
-use mathlib.Core.Bool.{Bool, true, false, true≢false, false≢true}
-use mathlib.Core.List.{List, [], _∷_}
+use mathlib.Core.Bool.{Bool, true, false, false≢true}
+use mathlib.Core.List.{List}
 use mathlib.Core.Logic.{_≢_, _↔_, by-cases}
 use mathlib.Core.Path.{_≡_, refl, sym, ap, _∙_}
-use Prim.Native.Nat.{ℕ, _+_, _-_, _*_, _%_, _≤_}
+use Prim.Native.Nat.{ℕ, _+_, _-_, _*_, _≤_}
 use native.Mathlib.Decide.{ℕ-discrete}
 use native.Mathlib.Omega.{arith}
 use lib.Dec.{T, eqb}
@@ -23,35 +21,17 @@ use Rattle.darts.specs.Operation.{kindOf}
 use Rattle.laws.proofs.bridge.Walks.{lowestMet, lowest-labels}
 use Rattle.area.specs.Cycles.{Labelled}
 use Rattle.area.specs.Replay.{rejoined, replayed, Numbered, Replayed}
-use Rattle.area.specs.Shape.{historyIn}
+use Rattle.area.specs.Shape.{hasKind, historyIn}
 use Rattle.area.specs.Trees.{Outside, rooted}
 use Rattle.area.proofs.Labels.{labelled-same}
 use Rattle.area.proofs.Outside.{outside-refl, outside-trans, outside-rest}
-use Rattle.area.proofs.Replay.{replay-other}
+use Rattle.area.proofs.Replay.{none-replayed}
 use Rattle.laws.specs.Standing.{cyclesOf}
 use Rattle.engine.specs.Held.{Area, mapIn, Rooted}
-use Rattle.engine.specs.Checks.{hasKind, Grown, KindTried, BothTried}
+use Rattle.engine.specs.Checks.{Grown, KindTried, BothTried}
 use Rattle.engine.proofs.Around.{ring-good, step-perm}
 use Rattle.engine.proofs.Beside.{beside-rooted}
 use Rattle.engine.proofs.ByRoots.{rooted-start}
-
--- ---- is there an operation of kind k?
-
-module _ (k h : ℕ) (hs : List ℕ) where
-  pub has-here : h % 2 ≡ k → hasKind k (h ∷ hs) ≡ true
-  unfolding hasKind
-  has-here e = rw (eqb-same e)
-
-  pub has-on : h % 2 ≢ k → hasKind k (h ∷ hs) ≡ hasKind k hs
-  unfolding hasKind
-  has-on n = rw (eqb-other n)
-
-none-replayed : (k : ℕ) (R : ℕ → ℕ) (hs : List ℕ) → hasKind k hs ≡ false → replayed k R hs ≡ true
-none-replayed k R [] none = unfold replayed in refl
-none-replayed k R (h ∷ hs) none =
-    by-cases (ℕ-discrete (h % 2) k)
-    (λ e. absurd (true≢false (sym (has-here k h hs e) ∙ none)))
-    (λ n. replay-other k R h hs n ∙ none-replayed k R hs (sym (has-on k h hs n) ∙ none))
 
 -- ---- one kind
 

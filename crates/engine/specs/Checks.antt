@@ -1,6 +1,5 @@
 -- Is it a pyramid? What the check answers, and what it leaves in the work area. A kind k is 0 for removals and 1 for contractions; `coming` is the
 -- kind of the kernel that is coming, 2 where none is.
---   hasKind k hs                  == one of the operations hs is of kind k
 --   Grown D n k L w w′            == the forest of w′ has the labels L, merged along the n operations of kind k in w
 --   KindTried D n k coming w w′ r == w holds a base; r says whether each operation of kind k has two labels of the base at its turn
 --   BothTried D n coming w w′ r   == r says so of both kinds, and the forest has the labels of the coming kind
@@ -8,12 +7,12 @@
 --                                    the coming kernel on that map
 --   Checked s coming t h w w′ r   == the same of the table t and the history h, and then w′ holds their map
 --   CheckedLaid s w w′ r          == the same of a table and a history that stand in w; the history still stands in w′, the table need not
-use mathlib.Core.Bool.{Bool, true, false, _||_}
-use mathlib.Core.List.{List, [], _∷_}
+use mathlib.Core.Bool.{Bool, true}
+use mathlib.Core.List.{List}
 use mathlib.Core.Logic.{_↔_}
 use mathlib.Core.Path.{_≡_}
-use Prim.Native.Nat.{ℕ, _*_, _%_, _≤_}
-use lib.Dec.{T, eqb}
+use Prim.Native.Nat.{ℕ, _*_, _≤_}
+use lib.Dec.{T}
 use lib.ListN.{length, drop}
 use Rattle.darts.specs.Calls.{tableOf, pastOf}
 use Rattle.darts.specs.Pyramid.{isPyramid}
@@ -24,10 +23,6 @@ use Rattle.area.specs.Replay.{rejoined, replayed}
 use Rattle.area.specs.Shape.{historyIn}
 use Rattle.area.specs.Trees.{Outside, rooted}
 use Rattle.engine.specs.Held.{Area, Rooted, Ready, Beyond}
-
-unfoldable pub hasKind : ℕ → List ℕ → Bool
-hasKind k [] = false
-hasKind k (h ∷ hs) = eqb (h % 2) k || hasKind k hs
 
 pub record Grown (D n k : ℕ) (L : ℕ → ℕ) (w w′ : List ℕ) : Type 0 where
   pub falls : Falls (forestIn D w′)

@@ -3,4 +3,3 @@ pub mod Runs
 pub mod Back
 pub mod Counted
 pub mod Checks
-pub mod Sweep

@@ -6,32 +6,16 @@ use area::cycles::label;
 use area::cycles::replay;
 use area::load::load;
 use area::load::relink;
+use area::shape::has_kind;
 use area::shape::shape;
-use slices::at;
 ghost use mathlib.Core.Path.{_≡_};
 ghost use Prim.Native.Nat.{_/_, _≤_};
 ghost use lib.ListN.{length};
 ghost use Rattle.area.specs.Area.{Room};
 ghost use Rattle.area.specs.Replay.{Numbered};
-ghost use Rattle.area.specs.Shape.{stateWith, historyIn};
+ghost use Rattle.area.specs.Shape.{stateWith};
 ghost use Rattle.engine.specs.Held.{Area};
-ghost use Rattle.engine.specs.Checks.{hasKind, KindTried, BothTried, Decided, Checked, CheckedLaid};
-
-// Whether one of the first n operations is of kind k.
-fn has(work: &[u32], d: usize, n: usize, k: usize) -> bool
-    requires { ⌜ Room d (now work) ⌝ }
-    requires { ⌜ n ≤ d ⌝ }
-    ensures { λ r. ⌜ r ≡ hasKind k (historyIn d n (now (work .entry))) ⌝ }
-{
-    let mut i = 0;
-    while i < n {
-        if at(work, 3 * d + i) % 2 == k {
-            return true;
-        }
-        i += 1;
-    }
-    false
-}
+ghost use Rattle.engine.specs.Checks.{KindTried, BothTried, Decided, Checked, CheckedLaid};
 
 // On the base: one tree for each face (k is 0) or vertex (k is 1), and then the operations of kind k once more. No where one has the same on both sides.
 fn replay_kind(work: &mut [u32], d: usize, n: usize, k: usize) -> bool
@@ -54,7 +38,7 @@ fn try_kind(work: &mut [u32], d: usize, n: usize, k: usize, coming: usize) -> bo
     if k == coming {
         return replay_kind(work, d, n, k);
     }
-    if has(work, d, n, k) {
+    if has_kind(work, d, n, k) {
         return replay_kind(work, d, n, k);
     }
     true

@@ -25,10 +25,10 @@ unfolding unfoldTo
 no-level-above k s t past h = rw (lt-ltb (s .levels) k h)
 
 module _ {s : State} {j : ℕ} {t h w v : List ℕ} {a : Answer} (J : Judged s j t h w v a) (fine : a .number ≡ 0) where
-  pub unfold-stepped : (k : ℕ) {z : State} {u : List ℕ} → k ≤ s .levels → Unfolded k s z v u
+  pub unfold-stepped : {k : ℕ} {z : State} {u : List ℕ} → k ≤ s .levels → Unfolded k s z v u
       → unfoldTo k s (tableOf s t) (pastOf s h) ≡ gives z (tableIn (s .darts) u) (pastIn (s .darts) (z .operations) u)
   unfolding unfoldTo
-  unfold-stepped k {z} {u} l U =
+  unfold-stepped {k} {z} {u} l U =
       let C = J .checked fine in
       rw (le-ltb (s .levels) k l)
       (ap₂ (undoLevels (s .levels - k) s) (sym (C .table refl)) (sym (C .past refl)) ∙ U .step

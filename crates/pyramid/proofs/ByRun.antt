@@ -37,9 +37,9 @@ pub record Levels (step : State → List ℕ → List ℕ → Result) (runner : 
   pub steps : (s : State) (t past : List ℕ)
       → step s t past ≡ (if leb 64 (s .levels) then refuses tooManyLevels else levelled s past (runner (s .darts) t past))
 
-pub reduce-levels : (k : Kind) (es : List ℕ) → Levels (reduce k es) (λ D t past. run k D t past es)
+pub reduce-levels : {x k : Kind} → x ≡ k → (es : List ℕ) → Levels (reduce k es) (λ D t past. run x D t past es)
 unfolding reduce
-reduce-levels k es = record { edgy = λ D t past. run-edgy k D t past es; steps = λ s t past. refl }
+reduce-levels {x} e es = rw (← e) (record { edgy = λ D t past. run-edgy x D t past es; steps = λ s t past. refl })
 
 pub sweep-levels : Levels sweep swept
 unfolding sweep
@@ -67,9 +67,9 @@ module _ {step : State → List ℕ → List ℕ → Result} {runner : ℕ → L
   abbrev D : ℕ
   D = s .darts
 
-  pub level-full : 64 ≤ s .levels → (o : Outcome) → Hands o tooManyLevels s → left o t h (cleared D v) ≡ onState step s t h w
-  level-full full o H =
-      act-refused step J fine (beyond-refl D v) o (S .steps s (tableOf s t) (pastOf s h) ∙ rw (le-leb 64 (s .levels) full))
+  pub level-full : 64 ≤ s .levels → {o : Outcome} → Hands o tooManyLevels s → left o t h (cleared D v) ≡ onState step s t h w
+  level-full full H =
+      act-refused step J fine (beyond-refl D v) (S .steps s (tableOf s t) (pastOf s h) ∙ rw (le-leb 64 (s .levels) full))
       (λ z. omega arith, λ z. omega arith) H
 
   module _ (free : s .levels < 64) {u : List ℕ} {r : Ran} (W : Went D (runner D (tableIn D v) (pastIn D (s .operations) v)) v u r) where

@@ -41,9 +41,9 @@ module _ (step : State → List ℕ → List ℕ → Result) {s : State} {k : �
   abbrev found : Result
   found = step s (tableOf s t) (pastOf s h)
 
-  pub call-refused : a .number ≢ 0 → (o : Outcome) → Hands o a s → left o t h v ≡ onState step s t h w
+  pub call-refused : a .number ≢ 0 → {o : Outcome} → Hands o a s → left o t h v ≡ onState step s t h w
   unfolding handsBack
-  call-refused n o H =
+  call-refused n {o} H =
       hands o H t h v
       ∙ rw (J .refused n, J .answer) (sym (on-refused s t h w step (λ e. n (ap (λ (b : Answer). b .number) (J .answer) ∙ e))))
 
@@ -53,13 +53,13 @@ module _ (step : State → List ℕ → List ℕ → Result) {s : State} {k : �
         L ∙ hands-kept s t h w u y p (cleared-kept D w u (B .rest ∙ J .checked fine .beyond .rest))
         ∙ sym (on-lent s t h w step (lent-of J fine) ∙ ap (handsBack s t h w) e)
 
-    pub act-refused : (o : Outcome) {b : Answer} → found ≡ refuses b → Plain (refuses b) → Hands o b s → left o t h (cleared D u) ≡ onState step s t h w
+    pub act-refused : {o : Outcome} {b : Answer} → found ≡ refuses b → Plain (refuses b) → Hands o b s → left o t h (cleared D u) ≡ onState step s t h w
     unfolding handsBack workAfter
-    act-refused o {b} e p H =
+    act-refused {o} {b} e p H =
         act-ends e p (hands o H t h (cleared D u) ∙ sym (rw (ne-eqb (b .number) 1 (p .0), ne-eqb (b .number) 2 (p .1))))
 
-    pub act-given : (o : Outcome) {z : State} → found ≡ gives z (tableIn D u) (pastIn D (z .operations) u) → Hands o done z
+    pub act-given : {o : Outcome} {z : State} → found ≡ gives z (tableIn D u) (pastIn D (z .operations) u) → Hands o done z
         → left o (over (tableIn D u) t) (over (part (3 * D) (3 * D + z .operations) u) h) (cleared D u) ≡ onState step s t h w
     unfolding handsBack
-    act-given o {z} e H =
+    act-given {o} {z} e H =
         rw (← (reverse-reverse (part (3 * D) (3 * D + z .operations) u))) (act-ends e tt (hands o H _ _ (cleared D u)))

@@ -1,7 +1,7 @@
 // The calls on a state: start, reduce, sweep, undo, unfold, counts.
 mod counting;
 mod judging;
-mod levels;
+mod numbers;
 mod reducing;
 pub mod starting;
 mod sweeping;

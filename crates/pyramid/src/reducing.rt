@@ -3,7 +3,7 @@ use crate::Answer;
 use crate::Kind;
 use crate::Outcome;
 use crate::State;
-use crate::levels::kept;
+use crate::numbers::kept;
 use area::base::clear;
 use engine::Ran;
 use engine::kernel::run;

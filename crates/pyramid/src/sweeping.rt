@@ -2,7 +2,7 @@
 use crate::Answer;
 use crate::Outcome;
 use crate::State;
-use crate::levels::kept;
+use crate::numbers::kept;
 use area::base::clear;
 use engine::sweep::sweep;
 ghost use mathlib.Core.Path.{_≡_};

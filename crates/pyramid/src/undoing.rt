@@ -2,7 +2,7 @@
 use crate::Answer;
 use crate::Outcome;
 use crate::State;
-use crate::levels::kept;
+use crate::numbers::kept;
 use area::base::clear;
 use engine::store::store;
 use engine::undo::take_back;

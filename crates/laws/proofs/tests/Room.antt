@@ -43,7 +43,7 @@ module _ (D : ℕ) (even : D % 2 ≡ 0) where
   edges-differ (h ∷ past) N (suc i) (suc j) l b e =
       edges-differ past (numbered-iff D h past .0 N .1) i j (le-of-suc-le-suc l) (le-of-suc-le-suc b) e
 
-  numbered-room : (past : List ℕ) → T (numbered D past) → length past ≤ D / 2
+  pub numbered-room : (past : List ℕ) → T (numbered D past) → length past ≤ D / 2
   numbered-room past N = go (decLt (D / 2) (length past))
     where
       go : Dec (D / 2 < length past) → length past ≤ D / 2

@@ -22,7 +22,11 @@ same-length-3 c = search needs
 
 returns : tie.Need-returns
 unfolding levelAt
-returns c = c .before .before .before .before .before .before .«unfold» .ensures ∙ ap (unfolded (c .before .before .before .before .before .before .before .before .before .before .before .before .before .before .before .before .before .before .before .before .before .before .before .before .before .args .k)) (c .before .before .before .before .before .before .before .before .before .before .before .before .before .before .before .before .before .read .ensures)
+returns c =
+    let at-unfold = c .before .before .before .before .before .before in
+    let at-read = at-unfold .before .before .before .before .before .before .before .before .before .before .before in
+    at-unfold .«unfold» .ensures ∙ ap (unfolded (at-read .before .before .before .before .before .before .before .before .args .k))
+    (at-read .read .ensures)
 
 pub unfolded-spec : {M : Type 1} → statement M
 unfolded-spec =

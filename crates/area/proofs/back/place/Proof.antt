@@ -70,7 +70,10 @@ same-length-2 : tie.Need-same-length-2
 same-length-2 c = search needs
 
 returns-2 : tie.Need-returns-2
-returns-2 c = place-each _ _ (kindOf (c .before .before .before .before .before .before .before .before .before .before .args .k)) _ _ _ _ _ _ (c .before .before .before .before .before .before .before .at .ensures) (c .before .before .before .before .before .before .if1 .left) (c .before .before .before .before .at2 .ensures) (c .before .before .insert2 .ensures)
+returns-2 c =
+    let at-if1 = c .before .before .before .before .before .before in
+    place-each _ _ (kindOf (at-if1 .before .before .before .before .args .k)) _ _ _ _ _ _ (at-if1 .before .at .ensures) (at-if1 .if1 .left)
+    (c .before .before .before .before .at2 .ensures) (c .before .before .insert2 .ensures)
 
 pub place-spec : {M : Type 1} → statement M
 place-spec =

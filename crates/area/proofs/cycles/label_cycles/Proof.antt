@@ -126,8 +126,11 @@ loop-less c = search needs
 
 loop-again : tie.Need-loop-again Inv-loop μ-loop
 loop-again c =
-    let s = c .before .before .before .before .before .before .before .before .before .before .before .before .before in
-    turn-root (s .pre .0) (s .pre .1 .0) (c .before .before .before .before .before .before .before .before .before .before .before .loop .inv) (c .before .before .before .before .before .before .before .before .before .before .loop-test .taken) (sym (c .before .before .before .before .before .at2 .ensures) ∙ c .before .before .before .before .if2 .taken) (c .before .before .label-cycle .ensures)
+    let at-loop-test = c .before .before .before .before .before .before .before .before .before .before in
+    let s = at-loop-test .before .before .before in
+    turn-root (s .pre .0) (s .pre .1 .0) (at-loop-test .before .loop .inv) (at-loop-test .loop-test .taken)
+    (sym (c .before .before .before .before .before .at2 .ensures) ∙ c .before .before .before .before .if2 .taken)
+    (c .before .before .label-cycle .ensures)
 
 add-i-2 : tie.Need-add-i-2 Inv-loop μ-loop
 add-i-2 c = search needs

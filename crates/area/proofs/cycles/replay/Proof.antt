@@ -152,7 +152,10 @@ same-length c = search needs
 
 returns : tie.Need-returns Inv-loop μ-loop
 returns c =
-    turn-together (c .before .before .before .before .before .before .before .before .before .before .before .before .pre .0) (c .before .before .before .before .before .before .before .before .before .before .before .before .pre .1 .1) (c .before .before .before .before .before .before .before .before .before .before .loop .inv) (c .before .before .before .before .before .before .before .before .before .loop-test .taken) (c .before .before .before .before .before .before .before .at .ensures) (c .before .before .before .before .before .before .if1 .taken)
+    let at-if1 = c .before .before .before .before .before .before in
+    let start = at-if1 .before .before .before .before .before .before in
+    turn-together (start .pre .0) (start .pre .1 .1) (at-if1 .before .before .before .before .loop .inv)
+    (at-if1 .before .before .before .loop-test .taken) (at-if1 .before .at .ensures) (at-if1 .if1 .taken)
     (rw (c .before .before .before .before .before .partner .ensures) at (c .before .before .before .join .ensures)) (not-true _ (c .if2 .taken))
 
 add-i : tie.Need-add-i Inv-loop μ-loop
@@ -163,7 +166,10 @@ loop-less c = search needs
 
 loop-again : tie.Need-loop-again Inv-loop μ-loop
 loop-again c =
-    turn-apart (c .before .before .before .before .before .before .before .before .before .before .before .before .pre .0) (c .before .before .before .before .before .before .before .before .before .before .before .before .pre .1 .1) (c .before .before .before .before .before .before .before .before .before .before .loop .inv) (c .before .before .before .before .before .before .before .before .before .loop-test .taken) (c .before .before .before .before .before .before .before .at .ensures) (c .before .before .before .before .before .before .if1 .taken)
+    let at-if1 = c .before .before .before .before .before .before in
+    let start = at-if1 .before .before .before .before .before .before in
+    turn-apart (start .pre .0) (start .pre .1 .1) (at-if1 .before .before .before .before .loop .inv)
+    (at-if1 .before .before .before .loop-test .taken) (at-if1 .before .at .ensures) (at-if1 .if1 .taken)
     (rw (c .before .before .before .before .before .partner .ensures) at (c .before .before .before .join .ensures)) (not-false _ (c .if2 .left))
 
 add-i-2 : tie.Need-add-i-2 Inv-loop μ-loop
@@ -173,7 +179,10 @@ loop-less-2 : tie.Need-loop-less-2 Inv-loop μ-loop
 loop-less-2 c = search needs
 
 loop-again-2 : tie.Need-loop-again-2 Inv-loop μ-loop
-loop-again-2 c = turn-other (c .before .before .before .before .before .before .pre .0) (c .before .before .before .before .before .before .pre .1 .1) (c .before .before .before .before .loop .inv) (c .before .before .before .loop-test .taken) (c .before .at .ensures) (c .if1 .left)
+loop-again-2 c =
+    let start = c .before .before .before .before .before .before in
+    turn-other (start .pre .0) (start .pre .1 .1) (c .before .before .before .before .loop .inv) (c .before .before .before .loop-test .taken)
+    (c .before .at .ensures) (c .if1 .left)
 
 same-length-2 : tie.Need-same-length-2 Inv-loop μ-loop
 same-length-2 c = search needs

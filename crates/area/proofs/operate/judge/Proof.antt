@@ -8,12 +8,13 @@ use lib.Dec.{eqb}
 use lib.ListN.{getD}
 use borrow.Author.Needs.{needs}
 use borrow.Author.Tests.{le-leb, lt-leb, lt-ltb, le-ltb}
+use Rattle.darts.specs.Operation.{wholeEdge}
 use Rattle.darts.specs.Cases.{answerOf}
 use Rattle.darts.specs.declared.Answer.{Answer}
 use Rattle.darts.specs.declared.Answer.the-variants.{Done, NoEdge, GoneAlready, WholePiece}
 use Rattle.area.specs.Area.{prev, there}
 use Rattle.area.specs.Edge.{Says}
-use Rattle.area.specs.Operate.{wholeIn, judged}
+use Rattle.area.specs.Operate.{judged}
 use Rattle.area.specs.Trees.{Outside}
 use Rattle.area.proofs.Outside.{outside-refl, outside-whole}
 use Rattle.area.proofs.operate.judge.Statement.{statement}
@@ -41,8 +42,8 @@ module _ (D : ℕ) (w : List ℕ) (R : ℕ → ℕ) (k e i : ℕ) where
       unfolding judged there prev
       one-root h known said = rw (lt-leb (D / 2) e edge, lt-ltb (getD w (D + 2 * e) 0) D here, ← together, h, known) said
 
-      module _ (two : t ≡ false) {w′ : List ℕ} (outside : Outside D w w′) {r : Bool} (whole : r ≡ wholeIn w′ e) where
-        same : wholeIn w e ≡ r
+      module _ (two : t ≡ false) {w′ : List ℕ} (outside : Outside D w w′) {r : Bool} (whole : r ≡ wholeEdge w′ e) where
+        same : wholeEdge w e ≡ r
         same = sym (outside-whole outside e edge) ∙ sym whole
 
         whole-piece : r ≡ true → Verdict (WholePiece i)

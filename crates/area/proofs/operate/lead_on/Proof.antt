@@ -46,11 +46,12 @@ near-requires-2 c κs = search needs
 
 bypass-requires : tie.Need-bypass-requires
 bypass-requires c κs =
-    let start = c .before .before .before .before .before .before .before .before .before .before .before .before in
+    let at-second = c .before .before .before .before .before .before .before in
+    let start = at-second .before .before .before .before .before in
     let g = start .args in
     let b = start .pre .1 .0 in
-    let r : c .before .before .before .before .before .before .before .before .before .at .result < g .d = rw (c .before .before .before .before .before .before .before .before .before .at .ensures) (b .first-next) in
-    let s : c .before .before .before .before .before .before .before .at2 .result < g .d = rw (c .before .before .before .before .before .before .before .at2 .ensures) (b .second-next) in (
+    let r : at-second .before .before .at .result < g .d = rw (at-second .before .before .at .ensures) (b .first-next) in
+    let s : at-second .at2 .result < g .d = rw (at-second .at2 .ensures) (b .second-next) in (
       start .pre .0,
       (
         rw (c .before .before .before .before .before .at3 .ensures) (b .first-before),
@@ -65,8 +66,12 @@ same-length c = search needs
 
 returns : tie.Need-returns
 returns c =
+    let at-last = c .before .before .before .before .before .before in
+    let at-first = at-last .before .before .before .before .before .before in
     c .before .before .bypass .ensures
-    ∙ leads-on _ _ _ _ (c .before .before .before .before .before .before .before .before .before .before .before .before .before .before .before .pre .1 .1) (c .before .before .before .before .before .before .before .before .before .before .before .before .at .ensures) (c .before .before .before .before .before .before .before .before .before .before .at2 .ensures) (c .before .before .before .before .before .before .before .before .at3 .ensures) (c .before .before .before .before .before .before .at4 .ensures) (c .before .before .before .before .before .near .ensures) (c .before .before .before .before .near2 .ensures)
+    ∙ leads-on _ _ _ _ (at-first .before .before .before .pre .1 .1) (at-first .at .ensures) (at-last .before .before .before .before .at2 .ensures)
+    (at-last .before .before .at3 .ensures) (at-last .at4 .ensures) (c .before .before .before .before .before .near .ensures)
+    (c .before .before .before .before .near2 .ensures)
 
 pub lead-on-spec : {M : Type 1} → statement M
 lead-on-spec =

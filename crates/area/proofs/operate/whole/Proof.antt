@@ -1,4 +1,4 @@
--- `engine::operate::whole` meets its contract: a dart that leads to itself does not lead to its partner.
+-- `area::operate::whole` meets its contract: a dart that leads to itself does not lead to its partner.
 use mathlib.Core.Bool.{Bool, true, false, _||_}
 use mathlib.Core.List.{List}
 use mathlib.Core.Path.{_≡_, refl}
@@ -9,7 +9,7 @@ use lib.ListN.{getD}
 use borrow.Author.Needs.{needs}
 use borrow.Author.Tests.{eq-eqb, ne-eqb}
 use Rattle.darts.specs.Map.{successor}
-use Rattle.area.specs.Operate.{wholeIn}
+use Rattle.darts.specs.Operation.{wholeEdge}
 use Rattle.area.proofs.operate.whole.Statement.{statement}
 use Rattle.area.proofs.operate.whole.Tie as tie
 
@@ -18,16 +18,16 @@ or-false true = refl
 or-false false = refl
 
 module _ (w : List ℕ) (e : ℕ) {r s : ℕ} (first : r ≡ getD w (2 * e) 0) (second : s ≡ getD w (2 * e + 1) 0) where
-  to-itself : r ≡ 2 * e → eqb s (2 * e + 1) ≡ wholeIn w e
-  unfolding wholeIn successor
+  to-itself : r ≡ 2 * e → eqb s (2 * e + 1) ≡ wholeEdge w e
+  unfolding wholeEdge successor
   to-itself h = rw (← first, ← second, eq-eqb r (2 * e) h, ne-eqb r (2 * e + 1) (λ k. omega arith)) (or-false (eqb s (2 * e + 1)))
 
-  to-partner : (r ≡ 2 * e → ⊥) → r ≡ 2 * e + 1 → eqb s (2 * e) ≡ wholeIn w e
-  unfolding wholeIn successor
+  to-partner : (r ≡ 2 * e → ⊥) → r ≡ 2 * e + 1 → eqb s (2 * e) ≡ wholeEdge w e
+  unfolding wholeEdge successor
   to-partner n h = rw (← first, ← second, ne-eqb r (2 * e) n, eq-eqb r (2 * e + 1) h)
 
-  to-neither : (r ≡ 2 * e → ⊥) → (r ≡ 2 * e + 1 → ⊥) → false ≡ wholeIn w e
-  unfolding wholeIn successor
+  to-neither : (r ≡ 2 * e → ⊥) → (r ≡ 2 * e + 1 → ⊥) → false ≡ wholeEdge w e
+  unfolding wholeEdge successor
   to-neither n m = rw (← first, ← second, ne-eqb r (2 * e) n, ne-eqb r (2 * e + 1) m)
 
 mul-p : tie.Need-mul-p

@@ -14,8 +14,8 @@ same-length c = search needs
 returns : tie.Need-returns
 returns c = kind-grown _ (c .before .before .replay-kind .ensures)
 
-has-requires : tie.Need-has-requires
-has-requires c κs = search needs
+has-kind-requires : tie.Need-has-kind-requires
+has-kind-requires c κs = search needs
 
 replay-kind-requires-2 : tie.Need-replay-kind-requires-2
 replay-kind-requires-2 c κs = search needs
@@ -30,7 +30,7 @@ same-length-3 : tie.Need-same-length-3
 same-length-3 c = search needs
 
 returns-3 : tie.Need-returns-3
-returns-3 c = let s = c .before .before .before .before .before in kind-passed (s .pre .0) (c .before .before .before .if1 .left) (sym (c .before .has .ensures) ∙ c .if2 .left)
+returns-3 c = let s = c .before .before .before .before .before in kind-passed (s .pre .0) (c .before .before .before .if1 .left) (sym (c .before .has-kind .ensures) ∙ c .if2 .left)
 
 pub try-kind-spec : {M : Type 1} → statement M
 try-kind-spec =
@@ -39,7 +39,7 @@ try-kind-spec =
     replay-kind-requires
     same-length
     returns
-    has-requires
+    has-kind-requires
     replay-kind-requires-2
     same-length-2
     returns-2

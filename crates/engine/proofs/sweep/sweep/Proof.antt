@@ -20,7 +20,7 @@ use Rattle.darts.specs.Levels.{takes, swept}
 use Rattle.area.specs.Area.{tableIn, pastIn}
 use Rattle.engine.specs.Held.{Ready}
 use Rattle.engine.specs.Runs.{Went, Turned}
-use Rattle.engine.specs.Sweep.{takesIn}
+use Rattle.area.specs.Operate.{takesIn}
 use Rattle.engine.proofs.Ready.{beyond-refl}
 use Rattle.engine.proofs.Taking.{takes-in}
 use Rattle.engine.proofs.Underway.{Underway, underway-over, underway-on, underway-stops, underway-ends}

@@ -1,6 +1,7 @@
 -- `pyramid::State::counts` meets its contract: what is judged first, or the cycles counted in the work area.
-use mathlib.Core.Path.{refl, sym, _∙_}
+use mathlib.Core.Path.{_≡_, refl, sym, _∙_}
 use native.Mathlib.Omega.{arith}
+use Rattle.darts.specs.Cases.{answerOf}
 use Rattle.pyramid.proofs.Judges.{room-then}
 use Rattle.pyramid.proofs.CountsEnd.{counts-refused, counts-given}
 use borrow.Author.Needs.{needs}
@@ -28,7 +29,12 @@ same-length-3 c = search needs
 returns : tie.Need-returns
 returns c =
     let r = c .refused .ensures in
-    rw (r .0, r .1) (counts-refused (c .before .before .before .before .before .judged .ensures) (λ z. c .before .if1 .taken (c .before .before .number .ensures ∙ z)))
+    rw (r .0, r .1)
+    (counts-refused (c .before .before .before .before .before .judged .ensures) (λ z. c .before .if1 .taken (c .before .before .number .ensures ∙ z)))
+
+-- judged, and done
+fine : (c : tie.Else1) → answerOf (c .before .before .before .before .judged .result) .number ≡ 0
+fine c = sym (c .before .number .ensures) ∙ c .if1 .left
 
 cast-d : tie.Need-cast-d
 cast-d c = search needs
@@ -38,18 +44,21 @@ cast-n c = search needs
 
 cycles-requires : tie.Need-cycles-requires
 cycles-requires c κs =
-    c .before .before .before .before .before .before .before .judged .ensures .checked (sym (c .before .before .before .before .number .ensures) ∙ c .before .before .before .if1 .left) .area refl
+    let e = c .before .before .before in
+    e .before .before .before .before .judged .ensures .checked (fine e) .area refl
 
 clear-requires : tie.Need-clear-requires
 clear-requires c κs =
-    room-then (c .before .before .before .before .before .before .before .before .before .before .before .judged .ensures) (sym (c .before .before .before .before .before .before .before .before .number .ensures) ∙ c .before .before .before .before .before .before .before .if1 .left) (c .before .before .before .cycles .ensures .beyond)
+    let e = c .before .before .before .before .before .before .before in
+    room-then (e .before .before .before .before .judged .ensures) (fine e) (c .before .before .before .cycles .ensures .beyond)
 
 mul-darts : tie.Need-mul-darts
 mul-darts c = search needs
 
 sub-darts : tie.Need-sub-darts
 sub-darts c =
-    let A = c .before .before .before .before .before .before .before .before .before .before .before .before .before .before .judged .ensures .checked (sym (c .before .before .before .before .before .before .before .before .before .before .before .number .ensures) ∙ c .before .before .before .before .before .before .before .before .before .before .if1 .left) .area refl in
+    let e = c .before .before .before .before .before .before .before .before .before .before in
+    let A = e .before .before .before .before .judged .ensures .checked (fine e) .area refl in
     let k = A .few in
     let m = A .room .small in
     omega arith
@@ -65,8 +74,10 @@ cast-tallied-2 c = search needs
 
 tallied-requires : tie.Need-tallied-requires
 tallied-requires c κs =
-    let m = c .before .before .before .before .before .before .before .before .before .before .before .before .before .before .before .before .judged .ensures .checked (sym (c .before .before .before .before .before .before .before .before .before .before .before .before .before .number .ensures) ∙ c .before .before .before .before .before .before .before .before .before .before .before .before .if1 .left) .area refl .room .small in
-    let K = c .before .before .before .before .before .before .before .before .cycles .ensures in
+    let k = c .before .before .before .before .before .before .before .before in
+    let e = k .before .before .before .before in
+    let m = e .before .before .before .before .judged .ensures .checked (fine e) .area refl .room .small in
+    let K = k .cycles .ensures in
     let a = K .few-vertices in
     let d = K .few-faces in
     (omega arith, omega arith, omega arith)
@@ -82,8 +93,9 @@ same-length-6 c = search needs
 
 returns-2 : tie.Need-returns-2
 returns-2 c =
-    rw (c .tallied .ensures, c .before .before .before .before .before .clear .ensures)
-    (counts-given (c .before .before .before .before .before .before .before .before .before .before .before .before .before .before .before .before .before .judged .ensures) (sym (c .before .before .before .before .before .before .before .before .before .before .before .before .before .before .number .ensures) ∙ c .before .before .before .before .before .before .before .before .before .before .before .before .before .if1 .left) (c .before .before .before .before .before .before .before .before .before .cycles .ensures))
+    let k = c .before .before .before .before .before .before .before .before .before in
+    let e = k .before .before .before .before in
+    rw (c .tallied .ensures, c .before .before .before .before .before .clear .ensures) (counts-given (e .before .before .before .before .judged .ensures) (fine e) (k .cycles .ensures))
 
 pub counts-spec : {M : Type 1} → statement M
 counts-spec =

@@ -1,9 +1,8 @@
 -- `pyramid::State::reduce` meets its contract: what is judged first, or one level more.
-use mathlib.Core.Path.{refl, _∙_, sym}
+use mathlib.Core.Path.{_≡_, refl, _∙_, sym}
 use native.Mathlib.Omega.{arith}
+use Rattle.darts.specs.Cases.{answerOf}
 use Rattle.darts.specs.Calls.{reduceBy}
-use Rattle.darts.specs.Operation.{kindOf}
-use Rattle.darts.specs.State.{reduce}
 use Rattle.engine.proofs.Ready.{beyond-refl}
 use Rattle.pyramid.proofs.Judges.{room-then}
 use Rattle.pyramid.proofs.OnState.{call-refused}
@@ -36,16 +35,19 @@ same-length-3 c = search needs
 returns : tie.Need-returns
 unfolding reduceBy
 returns c =
-    let g = c .before .before .before .before .before .before .before .before .before .before .before .before .before .before .args in
-    rw (← (c .before .before .before .before .before .before .before .before .before .bit .ensures .1))
-    (call-refused (reduce (kindOf (c .before .before .before .before .before .before .before .before .before .bit .result)) (g .kernel .now)) (c .before .before .before .before .before .judged .ensures) (λ z. c .before .if1 .taken (c .before .before .number .ensures ∙ z)) (c .kept .result) (c .kept .ensures))
+    call-refused _ (c .before .before .before .before .before .judged .ensures) (λ z. c .before .if1 .taken (c .before .before .number .ensures ∙ z)) (c .kept .ensures)
+
+-- judged, and done
+fine : (c : tie.Else1) → answerOf (c .before .before .before .before .judged .result) .number ≡ 0
+fine c = sym (c .before .number .ensures) ∙ c .if1 .left
 
 cast-d : tie.Need-cast-d
 cast-d c = search needs
 
 clear-requires : tie.Need-clear-requires
 clear-requires c κs =
-    room-then (c .before .before .before .before .before .before .before .before .judged .ensures) (sym (c .before .before .before .before .before .number .ensures) ∙ c .before .before .before .before .if1 .left) (beyond-refl _ _)
+    let e = c .before .before .before .before in
+    room-then (e .before .before .before .before .judged .ensures) (fine e) (beyond-refl _ _)
 
 kept-requires-2 : tie.Need-kept-requires-2
 kept-requires-2 c κs = search needs
@@ -62,24 +64,30 @@ same-length-6 c = search needs
 returns-2 : tie.Need-returns-2
 unfolding reduceBy
 returns-2 c =
-    let g = c .before .before .before .before .before .before .before .before .before .before .before .before .before .before .before .before .before .before .before .before .before .args in
-    rw (c .before .before .before .clear .ensures, ← (c .before .before .before .before .before .before .before .before .before .before .before .before .before .before .before .before .bit .ensures .1))
-    (level-full (reduce-levels (kindOf (c .before .before .before .before .before .before .before .before .before .before .before .before .before .before .before .before .bit .result)) (g .kernel .now)) (c .before .before .before .before .before .before .before .before .before .before .before .before .judged .ensures) (sym (c .before .before .before .before .before .before .before .before .before .number .ensures) ∙ c .before .before .before .before .before .before .before .before .if1 .left) (c .before .before .before .before .before .if2 .taken) (c .kept2 .result) (c .kept2 .ensures))
+    let e = c .before .before .before .before .before .before .before .before in
+    let j = e .before .before .before .before in
+    rw (c .before .before .before .clear .ensures) (level-full (reduce-levels (j .before .before .before .before .bit .ensures .1) _) (j .judged .ensures) (fine e) (c .before .before .before .before .before .if2 .taken) (c .kept2 .ensures))
 
 cast-run : tie.Need-cast-run
 cast-run c = search needs
 
 run-requires : tie.Need-run-requires
 run-requires c κs =
-    c .before .before .before .before .before .before .before .before .before .judged .ensures .checked (sym (c .before .before .before .before .before .before .number .ensures) ∙ c .before .before .before .before .before .if1 .left) .ready refl (c .before .before .before .before .before .before .before .before .before .before .before .before .before .bit .ensures .0)
+    let e = c .before .before .before .before .before in
+    let j = e .before .before .before .before in
+    j .judged .ensures .checked (fine e) .ready refl (j .before .before .before .before .bit .ensures .0)
 
 level-requires : tie.Need-level-requires
 level-requires c κs =
-    level-halts (reduce-levels (kindOf (c .before .before .before .before .before .before .before .before .before .before .before .before .before .before .before .before .before .before .before .bit .result)) (c .before .before .before .before .before .before .before .before .before .before .before .before .before .before .before .before .before .before .before .before .before .before .before .before .args .kernel .now)) (c .before .before .before .before .before .before .before .before .before .before .before .before .before .before .before .judged .ensures) (sym (c .before .before .before .before .before .before .before .before .before .before .before .before .number .ensures) ∙ c .before .before .before .before .before .before .before .before .before .before .before .if1 .left) (c .before .before .before .before .before .before .before .before .if2 .left) (c .before .before .before .before .before .run .ensures)
+    let e = c .before .before .before .before .before .before .before .before .before .before .before in
+    let j = e .before .before .before .before in
+    level-halts (reduce-levels (j .before .before .before .before .bit .ensures .1) _) (j .judged .ensures) (fine e) (c .before .before .before .before .before .before .before .before .if2 .left) (c .before .before .before .before .before .run .ensures)
 
 clear-requires-2 : tie.Need-clear-requires-2
 clear-requires-2 c κs =
-    room-then (c .before .before .before .before .before .before .before .before .before .before .before .before .before .before .before .before .before .before .before .before .before .judged .ensures) (sym (c .before .before .before .before .before .before .before .before .before .before .before .before .before .before .before .before .before .before .number .ensures) ∙ c .before .before .before .before .before .before .before .before .before .before .before .before .before .before .before .before .before .if1 .left) (c .before .before .before .before .before .before .before .before .before .before .before .run .ensures .beyond)
+    let r = c .before .before .before .before .before .before .before .before .before .before .before in
+    let e = r .before .before .before .before .before .before in
+    room-then (e .before .before .before .before .judged .ensures) (fine e) (r .run .ensures .beyond)
 
 same-length-7 : tie.Need-same-length-7
 same-length-7 c = search needs
@@ -93,9 +101,11 @@ same-length-9 c = omega (arith, c .before .before .before .before .before .befor
 returns-3 : tie.Need-returns-3
 unfolding reduceBy
 returns-3 c =
-    let g = c .before .before .before .before .before .before .before .before .before .before .before .before .before .before .before .before .before .before .before .before .before .before .before .before .before .before .before .before .before .before .before .before .before .args in
-    rw (c .before .before .clear2 .ensures, ← (c .before .before .before .before .before .before .before .before .before .before .before .before .before .before .before .before .before .before .before .before .before .before .before .before .before .before .before .before .bit .ensures .1))
-    (level-ends (reduce-levels (kindOf (c .before .before .before .before .before .before .before .before .before .before .before .before .before .before .before .before .before .before .before .before .before .before .before .before .before .before .before .before .bit .result)) (g .kernel .now)) (c .before .before .before .before .before .before .before .before .before .before .before .before .before .before .before .before .before .before .before .before .before .before .before .before .judged .ensures) (sym (c .before .before .before .before .before .before .before .before .before .before .before .before .before .before .before .before .before .before .before .before .before .number .ensures) ∙ c .before .before .before .before .before .before .before .before .before .before .before .before .before .before .before .before .before .before .before .before .if1 .left) (c .before .before .before .before .before .before .before .before .before .before .before .before .before .before .before .before .before .if2 .left) (c .before .before .before .before .before .before .before .before .before .before .before .before .before .before .run .ensures) (c .before .before .before .before .before .before .before .before .level .ensures))
+    let r = c .before .before .before .before .before .before .before .before .before .before .before .before .before .before in
+    let e = r .before .before .before .before .before .before in
+    let j = e .before .before .before .before in
+    rw (c .before .before .clear2 .ensures)
+    (level-ends (reduce-levels (j .before .before .before .before .bit .ensures .1) _) (j .judged .ensures) (fine e) (r .before .before .before .if2 .left) (r .run .ensures) (c .before .before .before .before .before .before .before .before .level .ensures))
 
 pub reduce-spec : {M : Type 1} → statement M
 reduce-spec =

@@ -1,6 +1,5 @@
 -- `pyramid::State::undo` meets its contract: it is unfold to the level below.
 use mathlib.Core.Path.{_∙_}
-use Rattle.pyramid.specs.Values.{stateOf}
 use Rattle.pyramid.proofs.BackInside.{undo-by-unfold}
 use borrow.Author.Needs.{needs}
 use Rattle.pyramid.proofs.State.undo.Statement.{statement}
@@ -23,8 +22,8 @@ same-length-3 c = search needs
 
 returns : tie.Need-returns
 returns c =
-    let g = c .before .before .before .before .before .before .before .before .before .before .before .before .before .before .args in
-    c .before .before .before .before .before .before .«unfold» .ensures ∙ undo-by-unfold (stateOf (g .self)) (g .table .now) (g .history .now) (g .work .now) (c .before .before .before .before .before .before .before .before .before .before .level-below .ensures)
+    let u = c .before .before .before .before .before .before in
+    u .«unfold» .ensures ∙ undo-by-unfold _ _ _ _ (u .before .before .before .before .level-below .ensures)
 
 pub undo-spec : {M : Type 1} → statement M
 undo-spec =

@@ -1,10 +1,9 @@
 -- `pyramid::State::unfold` meets its contract: what is judged first, or levels taken back in the work area, and then stored.
-use mathlib.Core.Path.{_∙_, sym}
+use mathlib.Core.Path.{_≡_, _∙_, sym}
 use native.Mathlib.Omega.{arith}
+use Rattle.darts.specs.Cases.{answerOf}
 use Rattle.darts.specs.Calls.{unfoldBy}
-use Rattle.darts.specs.Levels.{unfoldTo}
 use Rattle.engine.proofs.Ready.{beyond-refl}
-use Rattle.pyramid.specs.Values.{stateOf}
 use Rattle.pyramid.proofs.Judges.{stacked-of, room-then}
 use Rattle.pyramid.proofs.OnState.{call-refused, act-refused, act-given}
 use Rattle.pyramid.proofs.BackInside.{no-level-above, unfold-stepped, store-fits}
@@ -33,14 +32,19 @@ same-length-3 c = search needs
 returns : tie.Need-returns
 unfolding unfoldBy
 returns c =
-    call-refused (unfoldTo (c .before .before .before .before .before .before .before .before .before .before .before .before .args .level)) (c .before .before .before .before .before .judged .ensures) (λ z. c .before .if1 .taken (c .before .before .number .ensures ∙ z)) (c .kept .result) (c .kept .ensures)
+    call-refused _ (c .before .before .before .before .before .judged .ensures) (λ z. c .before .if1 .taken (c .before .before .number .ensures ∙ z)) (c .kept .ensures)
+
+-- judged, and done
+fine : (c : tie.Else1) → answerOf (c .before .before .before .before .judged .result) .number ≡ 0
+fine c = sym (c .before .number .ensures) ∙ c .if1 .left
 
 cast-d : tie.Need-cast-d
 cast-d c = search needs
 
 clear-requires : tie.Need-clear-requires
 clear-requires c κs =
-    room-then (c .before .before .before .before .before .before .before .judged .ensures) (sym (c .before .before .before .before .number .ensures) ∙ c .before .before .before .if1 .left) (beyond-refl _ _)
+    let e = c .before .before .before in
+    room-then (e .before .before .before .before .judged .ensures) (fine e) (beyond-refl _ _)
 
 cast-t21 : tie.Need-cast-t21
 cast-t21 c = search needs
@@ -60,25 +64,31 @@ same-length-6 c = search needs
 returns-2 : tie.Need-returns-2
 unfolding unfoldBy
 returns-2 c =
-    let g = c .before .before .before .before .before .before .before .before .before .before .before .before .before .before .before .before .before .before .args in
+    let e = c .before .before .before .before .before .before .before in
+    let j = e .before .before .before .before in
     rw (c .before .before .before .clear .ensures)
-    (act-refused (unfoldTo (g .level)) (c .before .before .before .before .before .before .before .before .before .before .before .judged .ensures) (sym (c .before .before .before .before .before .before .before .before .number .ensures) ∙ c .before .before .before .before .before .before .before .if1 .left) (beyond-refl _ _) (c .kept2 .result)
-    (no-level-above (g .level) (stateOf (g .self)) _ _ (c .before .before .before .before .before .if2 .taken)) (λ z. omega arith, λ z. omega arith) (c .kept2 .ensures))
+    (act-refused _ (j .judged .ensures) (fine e) (beyond-refl _ _) (no-level-above _ _ _ _ (c .before .before .before .before .before .if2 .taken)) (λ z. omega arith, λ z. omega arith)
+    (c .kept2 .ensures))
 
 unfolded-requires : tie.Need-unfolded-requires
 unfolded-requires c κs =
-    stacked-of (c .before .before .before .before .before .before .before .judged .ensures) (sym (c .before .before .before .before .number .ensures) ∙ c .before .before .before .if1 .left)
+    let e = c .before .before .before in
+    stacked-of (e .before .before .before .before .judged .ensures) (fine e)
 
 cast-store : tie.Need-cast-store
 cast-store c = search needs
 
 store-requires : tie.Need-store-requires
 store-requires c κs =
-    store-fits (c .before .before .before .before .before .before .before .before .before .before .before .before .before .before .judged .ensures) (sym (c .before .before .before .before .before .before .before .before .before .before .before .number .ensures) ∙ c .before .before .before .before .before .before .before .before .before .before .if1 .left) (c .before .before .before .before .before .before .unfolded .ensures)
+    let u = c .before .before .before .before .before .before in
+    let e = u .before .before .before .before in
+    store-fits (e .before .before .before .before .judged .ensures) (fine e) (u .unfolded .ensures)
 
 clear-requires-2 : tie.Need-clear-requires-2
 clear-requires-2 c κs =
-    room-then (c .before .before .before .before .before .before .before .before .before .before .before .before .before .before .before .before .before .before .before .before .judged .ensures) (sym (c .before .before .before .before .before .before .before .before .before .before .before .before .before .before .before .before .before .number .ensures) ∙ c .before .before .before .before .before .before .before .before .before .before .before .before .before .before .before .before .if1 .left) (c .before .before .before .before .before .before .before .before .before .before .before .before .unfolded .ensures .beyond)
+    let u = c .before .before .before .before .before .before .before .before .before .before .before .before in
+    let e = u .before .before .before .before in
+    room-then (e .before .before .before .before .judged .ensures) (fine e) (u .unfolded .ensures .beyond)
 
 kept-requires-3 : tie.Need-kept-requires-3
 kept-requires-3 c κs = search needs
@@ -95,13 +105,13 @@ same-length-9 c = omega (arith, c .before .before .before .before .before .befor
 returns-3 : tie.Need-returns-3
 unfolding unfoldBy
 returns-3 c =
-    let J = c .before .before .before .before .before .before .before .before .before .before .before .before .before .before .before .before .before .before .before .before .before .before .before .before .judged .ensures in
-    let fine = sym (c .before .before .before .before .before .before .before .before .before .before .before .before .before .before .before .before .before .before .before .before .before .number .ensures) ∙ c .before .before .before .before .before .before .before .before .before .before .before .before .before .before .before .before .before .before .before .before .if1 .left in
-    let U = c .before .before .before .before .before .before .before .before .before .before .before .before .before .before .before .before .unfolded .ensures in
-    let e = c .before .before .before .before .before .before .before .before .before .store .ensures in
-    rw (e .0, e .1, c .before .before .before .clear2 .ensures)
-    (act-given (unfoldTo (c .before .before .before .before .before .before .before .before .before .before .before .before .before .before .before .before .before .before .before .before .before .before .before .before .before .before .before .before .before .before .before .args .level)) J fine (U .beyond) (c .kept3 .result)
-    (unfold-stepped J fine (c .before .before .before .before .before .before .before .before .before .before .before .before .before .before .before .before .before .before .before .before .before .before .before .before .before .before .before .before .before .before .before .args .level) (c .before .before .before .before .before .before .before .before .before .before .before .before .before .before .before .before .before .before .if2 .left) U) (c .kept3 .ensures))
+    let d = c .before .before .before .before .before .before .before .before .before .store .ensures in
+    let u = c .before .before .before .before .before .before .before .before .before .before .before .before .before .before .before .before in
+    let e = u .before .before .before .before in
+    let J = e .before .before .before .before .judged .ensures in
+    let U = u .unfolded .ensures in
+    rw (d .0, d .1, c .before .before .before .clear2 .ensures)
+    (act-given _ J (fine e) (U .beyond) (unfold-stepped J (fine e) (u .before .before .if2 .left) U) (c .kept3 .ensures))
 
 pub unfold-spec : {M : Type 1} → statement M
 unfold-spec =

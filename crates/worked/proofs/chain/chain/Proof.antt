@@ -17,20 +17,33 @@ call-requires-2 c κs = search needs
 call-requires-3 : tie.Need-call-requires-3
 call-requires-3 c κs = search needs
 
+-- where each call has ended, seen from the end
+abbrev third : tie.After-slice-known15 → tie.After-call3
+third c = c .before .before .before .before .before .before
+
+abbrev second : tie.After-slice-known15 → tie.After-call2
+second c = third c .before .before .before .before .before .before .before .before .before .before
+
+abbrev first : tie.After-slice-known15 → tie.After-call
+first c = second c .before .before .before .before .before .before .before .before .before .before
+
+abbrev begun : tie.After-slice-known15 → tie.After-start
+begun c = first c .before .before .before .before .before .before .before .before .before .before
+
 same-length : tie.Need-same-length
-same-length c = c .before .before .before .before .before .before .call3 .kept .1 .1 .0 ∙ c .before .before .before .before .before .before .before .before .before .before .before .before .before .before .before .before .call2 .kept .1 .1 .0 ∙ c .before .before .before .before .before .before .before .before .before .before .before .before .before .before .before .before .before .before .before .before .before .before .before .before .before .before .call .kept .1 .1 .0 ∙ c .before .before .before .before .before .before .before .before .before .before .before .before .before .before .before .before .before .before .before .before .before .before .before .before .before .before .before .before .before .before .before .before .before .before .before .before .start .kept .1 .0
+same-length c = third c .call3 .kept .1 .1 .0 ∙ second c .call2 .kept .1 .1 .0 ∙ first c .call .kept .1 .1 .0 ∙ begun c .start .kept .1 .0
 
 same-length-2 : tie.Need-same-length-2
-same-length-2 c = c .before .before .before .before .before .before .call3 .kept .1 .1 .1 .0 ∙ c .before .before .before .before .before .before .before .before .before .before .before .before .before .before .before .before .call2 .kept .1 .1 .1 .0 ∙ c .before .before .before .before .before .before .before .before .before .before .before .before .before .before .before .before .before .before .before .before .before .before .before .before .before .before .call .kept .1 .1 .1 .0 ∙ c .before .before .before .before .before .before .before .before .before .before .before .before .before .before .before .before .before .before .before .before .before .before .before .before .before .before .before .before .before .before .before .before .before .before .before .before .start .kept .1 .1 .0
+same-length-2 c = third c .call3 .kept .1 .1 .1 .0 ∙ second c .call2 .kept .1 .1 .1 .0 ∙ first c .call .kept .1 .1 .1 .0 ∙ begun c .start .kept .1 .1 .0
 
 same-length-3 : tie.Need-same-length-3
-same-length-3 c = c .before .before .before .before .before .before .call3 .kept .1 .1 .1 .1 .0 ∙ c .before .before .before .before .before .before .before .before .before .before .before .before .before .before .before .before .call2 .kept .1 .1 .1 .1 .0 ∙ c .before .before .before .before .before .before .before .before .before .before .before .before .before .before .before .before .before .before .before .before .before .before .before .before .before .before .call .kept .1 .1 .1 .1 .0 ∙ c .before .before .before .before .before .before .before .before .before .before .before .before .before .before .before .before .before .before .before .before .before .before .before .before .before .before .before .before .before .before .before .before .before .before .before .before .start .kept .1 .1 .1 .0
+same-length-3 c = third c .call3 .kept .1 .1 .1 .1 .0 ∙ second c .call2 .kept .1 .1 .1 .1 .0 ∙ first c .call .kept .1 .1 .1 .1 .0 ∙ begun c .start .kept .1 .1 .1 .0
 
 returns : tie.Need-returns
 returns c =
-    let g = c .before .before .before .before .before .before .before .before .before .before .before .before .before .before .before .before .before .before .before .before .before .before .before .before .before .before .before .before .before .before .before .before .before .before .before .before .before .before .before .before .before .before .before .args in
-    c .before .before .before .before .before .before .call3 .ensures
-    ∙ ap (stepped (g .third)) (c .before .before .before .before .before .before .before .before .before .before .before .before .before .before .before .before .call2 .ensures ∙ ap (stepped (g .second)) (c .before .before .before .before .before .before .before .before .before .before .before .before .before .before .before .before .before .before .before .before .before .before .before .before .before .before .call .ensures ∙ ap (stepped (g .first)) (c .before .before .before .before .before .before .before .before .before .before .before .before .before .before .before .before .before .before .before .before .before .before .before .before .before .before .before .before .before .before .before .before .before .before .before .before .start .ensures)))
+    let g = begun c .before .before .before .before .before .before .before .args in
+    third c .call3 .ensures
+    ∙ ap (stepped (g .third)) (second c .call2 .ensures ∙ ap (stepped (g .second)) (first c .call .ensures ∙ ap (stepped (g .first)) (begun c .start .ensures)))
 
 pub chain-spec : {M : Type 1} → statement M
 chain-spec =

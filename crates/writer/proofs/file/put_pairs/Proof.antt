@@ -89,7 +89,11 @@ loop-less : tie.Need-loop-less Inv-loop μ-loop
 loop-less c = search needs
 
 loop-again : tie.Need-loop-again Inv-loop μ-loop
-loop-again c = go-on (c .before .before .before .before .before .before .before .before .before .before .pre .0) (c .before .before .before .before .before .before .before .loop .inv) (c .before .before .before .before .before .before .loop-test .taken) (c .before .before .before .before .before .entry .ensures .0) (c .before .before .before .before .entry2 .ensures .0) (c .before .before .put-pair .ensures)
+loop-again c =
+    let at-loop-test = c .before .before .before .before .before .before in
+    go-on (at-loop-test .before .before .before .before .pre .0) (at-loop-test .before .loop .inv) (at-loop-test .loop-test .taken)
+    (c .before .before .before .before .before .entry .ensures .0) (c .before .before .before .before .entry2 .ensures .0)
+    (c .before .before .put-pair .ensures)
 
 same-length : tie.Need-same-length Inv-loop μ-loop
 same-length c = c .before .loop .inv .size

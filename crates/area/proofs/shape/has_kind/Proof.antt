@@ -1,4 +1,4 @@
--- `engine::check::has` meets its contract: whether all have one of kind k is whether those from i on have.
+-- `area::shape::has_kind` meets its contract: whether all have one of kind k is whether those from i on have.
 --
 --   Looking D n k w i == none of the first i operations is of kind k
 --   look-begin        == none is passed yet
@@ -14,13 +14,12 @@ use native.Mathlib.Omega.{arith}
 use lib.ListN.{getD}
 use borrow.Author.Needs.{needs}
 use Rattle.slices.specs.Part.{part}
 use Rattle.area.specs.Area.{Room}
-use Rattle.area.specs.Shape.{historyIn}
+use Rattle.area.specs.Shape.{historyIn, hasKind}
 use Rattle.area.proofs.Parts.{part-cons, part-none}
-use Rattle.engine.specs.Checks.{hasKind}
-use Rattle.engine.proofs.Tries.{has-here, has-on}
-use Rattle.engine.proofs.check.has.Statement.{statement}
-use Rattle.engine.proofs.check.has.Tie as tie
+use Rattle.area.proofs.Replay.{has-here, has-on}
+use Rattle.area.proofs.shape.has_kind.Statement.{statement}
+use Rattle.area.proofs.shape.has_kind.Tie as tie
 
 record Looking (D n k : ℕ) (w : List ℕ) (i : ℕ) : Type 0 where
   low : i ≤ n
@@ -83,8 +82,8 @@ loop-again c =
 returns-2 : tie.Need-returns-2 Inv-loop μ-loop
 returns-2 c = look-end (c .before .loop .inv) (c .loop-test .left)
 
-pub has-spec : {M : Type 1} → statement M
-has-spec =
+pub has-kind-spec : {M : Type 1} → statement M
+has-kind-spec =
     tie.close
     (tie.spec
     Inv-loop

@@ -1,4 +1,4 @@
--- `engine::sweep::takes` meets its contract: an empty loop with r = q is a whole piece where s = p, and one with another r is none.
+-- `area::operate::takes` meets its contract: an empty loop with r = q is a whole piece where s = p, and one with another r is none.
 use mathlib.Core.Bool.{Bool, true, false, not, _&&_, _||_}
 use mathlib.Core.List.{List}
 use mathlib.Core.Logic.{_≢_}
@@ -13,10 +13,10 @@ use borrow.Author.Tests.{eq-eqb, ne-eqb, lt-ltb, le-ltb}
 use Rattle.darts.specs.Map.{successor}
 use Rattle.darts.specs.Operation.{wholeEdge}
 use Rattle.darts.specs.Levels.{emptyLoop}
 use Rattle.area.specs.Area.{prev, there}
-use Rattle.engine.specs.Sweep.{takesIn}
-use Rattle.engine.proofs.sweep.takes.Statement.{statement}
-use Rattle.engine.proofs.sweep.takes.Tie as tie
+use Rattle.area.specs.Operate.{takesIn}
+use Rattle.area.proofs.operate.takes.Statement.{statement}
+use Rattle.area.proofs.operate.takes.Tie as tie
 
 module _ (D : ℕ) (w : List ℕ) (e : ℕ) where
   gone : D ≤ getD w (D + 2 * e) 0 → false ≡ takesIn D w e
