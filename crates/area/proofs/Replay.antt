@@ -6,6 +6,7 @@
 --   none-replayed                    == where none is of kind k, the replay has nothing to refuse
 --   merged-merges                    == joined roots give one root where they did, and where both belonged to p or q
 --   Alike R L                        == R and L give one root, or label, to the same numbers
+--   kind-same                        == two kinds are the same where the last bits are
 --   replay-alike                     == the replay on labels answers the same
 --   rejoined-alike                   == and what is joined is what is relabelled
 use mathlib.Core.Bool.{Bool, true, false, not, true≢false}
@@ -134,7 +135,7 @@ module _ {R L : ℕ → ℕ} (a : Alike R L) where
       (λ n. ne-eqb (R x) (R y) n ∙ sym (ne-eqb (L x) (L y) (λ e. n (a .says x y .1 e))))
 
 module _ (k : ℕ) (kind : k < 2) where
-  kind-same : (h : ℕ) → sameKind (kindOf k) (kindOf h) ≡ eqb (h % 2) k
+  pub kind-same : (h : ℕ) → sameKind (kindOf k) (kindOf h) ≡ eqb (h % 2) k
   unfolding sameKind kindOf
   kind-same h = go (ℕ-discrete k 0) (ℕ-discrete (h % 2) 0)
     where

@@ -9,36 +9,28 @@ ghost use Rattle.slices.specs.Part.{part};
 ghost use Rattle.area.specs.Area.{Room};
 ghost use Rattle.area.specs.Shape.{stateWith, historyIn, hasKind};
 
-// Whether the history numbers at the places from `from` to `to` are of one kind, the first one's.
-fn one_kind(work: &[u32], from: usize, to: usize) -> bool
-    requires { ⌜ (from < to) × (to ≤ length (now work)) ⌝ }
-    ensures { λ r. ⌜ r ≡ oneKind (part from to (now (work .entry))) ⌝ }
+// Whether one of the history numbers at the places from `from` to `to` is of kind k.
+pub fn has_kind(work: &[u32], from: usize, to: usize, k: usize) -> bool
+    requires { ⌜ to ≤ length (now work) ⌝ }
+    ensures { λ r. ⌜ r ≡ hasKind k (part from to (now (work .entry))) ⌝ }
 {
-    let kind = at(work, from) % 2;
-    let mut i = from + 1;
+    let mut i = from;
     while i < to {
-        if at(work, i) % 2 != kind {
-            return false;
-        }
-        i += 1;
-    }
-    true
-}
-
-// Whether one of the first n operations is of kind k.
-pub fn has_kind(work: &[u32], d: usize, n: usize, k: usize) -> bool
-    requires { ⌜ Room d (now work) ⌝ }
-    requires { ⌜ n ≤ d ⌝ }
-    ensures { λ r. ⌜ r ≡ hasKind k (historyIn d n (now (work .entry))) ⌝ }
-{
-    let mut i = 0;
-    while i < n {
-        if at(work, 3 * d + i) % 2 == k {
+        if at(work, i) % 2 == k {
             return true;
         }
         i += 1;
     }
     false
+}
+
+// Whether they are of one kind, the first one's: none is of the other.
+fn one_kind(work: &[u32], from: usize, to: usize) -> bool
+    requires { ⌜ (from < to) × (to ≤ length (now work)) ⌝ }
+    ensures { λ r. ⌜ r ≡ oneKind (part from to (now (work .entry))) ⌝ }
+{
+    let other = 1 - at(work, from) % 2;
+    !has_kind(work, from + 1, to, other)
 }
 
 // Whether the ends past the levels are 0.

@@ -38,7 +38,8 @@ fn try_kind(work: &mut [u32], d: usize, n: usize, k: usize, coming: usize) -> bo
     if k == coming {
         return replay_kind(work, d, n, k);
     }
-    if has_kind(work, d, n, k) {
+    let from = 3 * d;
+    if has_kind(work, from, from + n, k) {
         return replay_kind(work, d, n, k);
     }
     true

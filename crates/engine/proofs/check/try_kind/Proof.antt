@@ -14,6 +14,12 @@ same-length c = search needs
 returns : tie.Need-returns
 returns c = kind-grown _ (c .before .before .replay-kind .ensures)
 
+mul-from : tie.Need-mul-from
+mul-from c = search needs
+
+add-has-kind : tie.Need-add-has-kind
+add-has-kind c = search needs
+
 has-kind-requires : tie.Need-has-kind-requires
 has-kind-requires c κs = search needs
 
@@ -39,6 +45,8 @@ try-kind-spec =
     replay-kind-requires
     same-length
     returns
+    mul-from
+    add-has-kind
     has-kind-requires
     replay-kind-requires-2
     same-length-2
