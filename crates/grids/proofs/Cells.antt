@@ -20,7 +20,7 @@ use Rattle.grids.specs.Grid.{Grid, cells, cell, along, edges, dartsOf}
 use Rattle.grids.specs.Base.{roundOf, rounds, has, cellOf}
 use Rattle.grids.proofs.Rows.{row-below, row-number, row-place, in-row}
 use Rattle.grids.proofs.Places.{place-is}
-use Rattle.grids.proofs.Sides.{goesRight, rightDart, leftDart, downDart, Side, along-closed, right-along, along-right, goes-right, round-sides}
+use Rattle.grids.proofs.Sides.{goesRight, rightDart, leftDart, downDart, Side, along-closed, right-along, along-right, goes-right, round-sides, left-dart, first-left-dart, down-dart}
 
 -- "an edge joins each cell to its neighbour in wale and in course"
 pub data Joins (g : Grid) : ℕ → ℕ → ℕ → Type 0 where
@@ -245,13 +245,9 @@ module _ (g : Grid) where
   at-round (even (closing y c h k)) = at-side (g .wales - 1) y (omega arith) k (inl (goes-right g (g .wales - 1) (inl c), refl))
   at-round (even (upward x y h k)) = at-side x y h (omega arith) (inr (inl (lt→ltb (y + 1) (g .courses) k, refl)))
   at-round (odd (onward x y h k)) =
-      let l : T (leb 1 (x + 1)) = le→leb 1 (x + 1) (omega arith) in
-      let i : x + 1 - 1 ≡ x = omega arith in
-      at-side (x + 1) y h k (inr (inr (inl (or-intro (leb 1 (x + 1)) (g .closes) (inl l), rw (T→true (leb 1 (x + 1)) l, i)))))
-  at-round (odd (closing y c h k)) = at-side 0 y h k (inr (inr (inl (or-intro (leb 1 0) (g .closes) (inr c), refl))))
-  at-round (odd (upward x y h k)) =
-      let i : y + 1 - 1 ≡ y = omega arith in
-      at-side x (y + 1) h k (inr (inr (inr (le→leb 1 (y + 1) (omega arith), rw i))))
+      at-side (x + 1) y h k (inr (inr (inl (or-intro (leb 1 (x + 1)) (g .closes) (inl (le→leb 1 (x + 1) (omega arith))), left-dart g x y))))
+  at-round (odd (closing y c h k)) = at-side 0 y h k (inr (inr (inl (or-intro (leb 1 0) (g .closes) (inr c), first-left-dart g y))))
+  at-round (odd (upward x y h k)) = at-side x (y + 1) h k (inr (inr (inr (le→leb 1 (y + 1) (omega arith), down-dart g x y))))
 
   pub round-at : {d c : ℕ} → c < cells g → T (has d (roundAt g c)) → At g d c
   round-at {d} {c} h t =

@@ -1,22 +1,25 @@
 -- The darts round a cell, side by side.
 --   goesRight, goesUp, goesLeft, goesDown == whether the cell in wale x of course y has an edge on that side
 --   rightDart, upDart, leftDart, downDart == the dart of that edge at this cell
+--   left-dart, down-dart                  == the left and the lower dart, seen from the neighbour
 --   right-along, along-right              == the wales with an edge on their right are the first ones, as many as a course has edges
 --   round-is                              == the darts round a cell
 --   Side g x y d, round-sides             == they are the darts on its sides
 use mathlib.Core.Bool.{Bool, true, false, _||_}
-use mathlib.Core.List.{List, [], _∷_, _++_, map}
-use mathlib.Core.Logic.{_↔_, _⊎_, inl, inr, ⊎-elim, Iff·trans}
+use mathlib.Core.List.{List, [], _∷_, map}
+use mathlib.Core.Logic.{_≢_, _↔_, _⊎_, inl, inr, ⊎-elim}
 use mathlib.Core.Path.{_≡_, refl}
 use Prim.Native.Nat.{ℕ, _+_, _-_, _*_, _<_}
 use native.Mathlib.Decide.{decLt}
 use native.Mathlib.Omega.{arith}
-use lib.Dec.{T, leb, ltb, ltb→lt, lt→ltb, leb→le}
-use Rattle.permutations.specs.Choice.{T?, T→true, nT→false, or-intro, or-cases, ⊎-iff}
+use lib.Dec.{T, leb, ltb, ltb→lt, lt→ltb, leb→le, le→leb}
+use Rattle.permutations.specs.Choice.{T?, T→true, nT→false, or-intro, or-cases}
 use Rattle.darts.specs.Choose.{if_then_else_}
 use Rattle.grids.specs.Grid.{Grid, cell, along, rightEdge, upEdge, leftEdge, downEdge}
 use Rattle.grids.specs.Base.{roundOf, has}
-use Rattle.grids.proofs.Next.{one, has-append, has-one}
+use Rattle.grids.proofs.Rows.{row-below}
+use Rattle.grids.proofs.Next.{one}
+use Rattle.grids.proofs.Four.{four, four-has}
 
 abbrev pub goesRight : Grid → ℕ → Bool
 goesRight g x = g .closes || ltb (x + 1) (g .wales)
@@ -42,6 +45,18 @@ leftDart g x y = 2 * (y * along g + (if leb 1 x then x - 1 else g .wales - 1)) +
 
 abbrev pub downDart : Grid → ℕ → ℕ → ℕ
 downDart g x y = 2 * (along g * g .courses + cell g x (y - 1)) + 1
+
+-- the left and the lower dart, seen from the neighbour
+pub left-dart : (g : Grid) (x y : ℕ) → leftDart g (x + 1) y ≡ 2 * (y * along g + x) + 1
+left-dart g x y =
+    let i : x + 1 - 1 ≡ x = omega arith in
+    rw (T→true (leb 1 (x + 1)) (le→leb 1 (x + 1) (omega arith)), i)
+
+pub first-left-dart : (g : Grid) (y : ℕ) → leftDart g 0 y ≡ 2 * (y * along g + (g .wales - 1)) + 1
+first-left-dart g y = refl
+
+pub down-dart : (g : Grid) (x y : ℕ) → downDart g x (y + 1) ≡ 2 * (along g * g .courses + cell g x y) + 1
+down-dart g x y = let i : y + 1 - 1 ≡ y = omega arith in rw i
 
 -- d is the dart on one of the four sides
 abbrev pub Side : Grid → ℕ → ℕ → ℕ → Type 0
@@ -127,15 +142,18 @@ module _ (g : Grid) where
             rw (T→true (leb 1 y) l, T→true (ltb (y - 1 + 1) (g .courses)) (lt→ltb (y - 1 + 1) (g .courses) m))
         go (no n) = rw (nT→false (leb 1 y) n)
 
+    -- the darts on its sides, one after another
     pub round-is : roundOf g x y
-        ≡ one (goesRight g x) (rightDart g x y)
-        ++ (one (goesUp g y) (upDart g x y) ++ (one (goesLeft g x) (leftDart g x y) ++ one (goesDown y) (downDart g x y)))
+        ≡ four (goesRight g x) (goesUp g y) (goesLeft g x) (goesDown y) (rightDart g x y) (upDart g x y) (leftDart g x y) (downDart g x y)
     unfolding roundOf rightEdge upEdge
     round-is = simp (left-is, down-is, map-one)
 
     pub round-sides : (d : ℕ) → T (has d (roundOf g x y)) ↔ Side g x y d
-    round-sides d = rw round-is (
-        Iff·trans (has-append d (one (goesRight g x) (rightDart g x y)) _) (⊎-iff (has-one d (goesRight g x) (rightDart g x y))
-        (Iff·trans (has-append d (one (goesUp g y) (upDart g x y)) _) (⊎-iff (has-one d (goesUp g y) (upDart g x y))
-        (Iff·trans (has-append d (one (goesLeft g x) (leftDart g x y)) _) (⊎-iff (has-one d (goesLeft g x) (leftDart g x y))
-        (has-one d (goesDown y) (downDart g x y))))))))
+    round-sides d = rw round-is
+        (four-has (goesRight g x) (goesUp g y) (goesLeft g x) (goesDown y) (rightDart g x y) (upDart g x y) (leftDart g x y) (downDart g x y) d)
+
+    pub right-not-up : T (goesRight g x) → rightDart g x y ≢ upDart g x y
+    right-not-up r = let l = row-below (along g) (g .courses) x y (right-along x hx r) hy in omega arith
+
+    pub left-not-down : T (goesLeft g x) → leftDart g x y ≢ downDart g x y
+    left-not-down r = let l = row-below (along g) (g .courses) _ y (left-along x hx r) hy in omega arith
