@@ -6,3 +6,5 @@ pub mod Rounds
 pub mod Sides
 pub mod Cells
 pub mod Successors
+pub mod Limits
+pub mod PlanBase
