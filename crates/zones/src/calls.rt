@@ -5,6 +5,7 @@ use crate::prints::print_counts;
 use crate::rooms::HistoryRoom;
 use crate::rooms::NumbersRoom;
 use crate::rooms::OutputRoom;
+use crate::rooms::PlanRoom;
 use crate::rooms::TableRoom;
 use crate::rooms::WorkRoom;
 use crate::scan::Line;
@@ -12,6 +13,8 @@ use crate::sizes::least;
 use crate::sizes::size;
 use crate::words::CONTRACT;
 use crate::words::COUNTS;
+use crate::words::FLAT;
+use crate::words::FLATAREAS;
 use crate::words::READ;
 use crate::words::REMOVE;
 use crate::words::START;
@@ -96,6 +99,43 @@ fn lent(
     )
 }
 
+// A call that begins from a plan, lent its first n bytes: `flat`, or `flatareas`.
+fn planned(
+    held: Held,
+    command: u32,
+    wales: u32,
+    courses: u32,
+    plan: &[u8],
+    n: usize,
+    table: &mut [u32],
+    history: &mut [u32],
+    work: &mut [u32],
+) -> Outcome
+    requires { ⌜ Lent held (now table) (now history) (now work) × (n ≤ length (now plan)) ⌝ }
+{
+    let t = held.table;
+    let h = held.history;
+    let w = held.work;
+    if command == FLAT {
+        return plans::plan(
+            wales,
+            courses,
+            &plan[0..n],
+            &mut table[0..t],
+            &mut history[0..h],
+            &mut work[0..w],
+        );
+    }
+    plans::plan_areas(
+        wales,
+        courses,
+        &plan[0..n],
+        &mut table[0..t],
+        &mut history[0..h],
+        &mut work[0..w],
+    )
+}
+
 // The counts of the state that the script holds.
 fn counted(held: Held, table: &mut [u32], history: &mut [u32], work: &mut [u32]) -> Counted
     requires { ⌜ Lent held (now table) (now history) (now work) ⌝ }
@@ -154,12 +194,64 @@ fn write(
     held.with_written(least(answer.place(), n))
 }
 
-// What is held after such a line. The state printed is the one that is held then.
+// The state that a call handed back is held from then on, and is the one printed.
+fn hold(
+    held: Held,
+    outcome: Outcome,
+    table: &TableRoom,
+    history: &HistoryRoom,
+    work: &WorkRoom,
+    output: &OutputRoom,
+) -> Held
+    requires { ⌜ Within held ⌝ }
+    ensures { λ r. ⌜ Within r ⌝ }
+{
+    let state = outcome.state;
+    let answer = outcome.answer;
+    let after = held.with_state(state);
+    print_call(after, answer, 0, table, history, work, output);
+    after
+}
+
+// "The plan that is lent is the room's first N bytes, N at most 16,384."
+fn flat(
+    held: Held,
+    line: Line,
+    numbers: &NumbersRoom,
+    plan: &PlanRoom,
+    table: &mut TableRoom,
+    history: &mut HistoryRoom,
+    work: &mut WorkRoom,
+    output: &OutputRoom,
+) -> Held
+    requires { ⌜ Within held ⌝ }
+    ensures { λ r. ⌜ Within r ⌝ }
+{
+    let n = size(numbers[2]);
+    if 16384 < n {
+        return held.judged(true);
+    }
+    let outcome = planned(
+        held,
+        line.command,
+        numbers[0],
+        numbers[1],
+        plan,
+        n,
+        table,
+        history,
+        work,
+    );
+    hold(held, outcome, table, history, work, output)
+}
+
+// What is held after such a line.
 pub fn call(
     held: Held,
     line: Line,
     script: &[u8],
     numbers: &NumbersRoom,
+    plan: &PlanRoom,
     table: &mut TableRoom,
     history: &mut HistoryRoom,
     work: &mut WorkRoom,
@@ -176,10 +268,9 @@ pub fn call(
         print_counts(held, counted, table, history, work, output);
         return held;
     }
+    if line.command == FLAT || line.command == FLATAREAS {
+        return flat(held, line, numbers, plan, table, history, work, output);
+    }
     let outcome = lent(held, line, script, numbers, table, history, work);
-    let state = outcome.state;
-    let answer = outcome.answer;
-    let after = held.with_state(state);
-    print_call(after, answer, 0, table, history, work, output);
-    after
+    hold(held, outcome, table, history, work, output)
 }

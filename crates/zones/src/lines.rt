@@ -6,6 +6,7 @@ use crate::prints;
 use crate::rooms::HistoryRoom;
 use crate::rooms::NumbersRoom;
 use crate::rooms::OutputRoom;
+use crate::rooms::PlanRoom;
 use crate::rooms::TableRoom;
 use crate::rooms::WorkRoom;
 use crate::scan::Line;
@@ -23,6 +24,7 @@ fn obey(
     line: Line,
     script: &[u8],
     numbers: &NumbersRoom,
+    plan: &mut PlanRoom,
     table: &mut TableRoom,
     history: &mut HistoryRoom,
     work: &mut WorkRoom,
@@ -35,10 +37,20 @@ fn obey(
         return held.judged(true);
     }
     if line.command < START {
-        return set(held, line, numbers, table, history, work);
+        return set(held, line, numbers, plan, table, history, work);
     }
     if line.command < SHOW {
-        return call(held, line, script, numbers, table, history, work, output);
+        return call(
+            held,
+            line,
+            script,
+            numbers,
+            plan,
+            table,
+            history,
+            work,
+            output,
+        );
     }
     if line.command == BYTES {
         prints::bytes(output, held.written);
@@ -52,6 +64,7 @@ fn obey(
 fn each(
     script: &[u8],
     numbers: &mut NumbersRoom,
+    plan: &mut PlanRoom,
     table: &mut TableRoom,
     history: &mut HistoryRoom,
     work: &mut WorkRoom,
@@ -64,7 +77,17 @@ fn each(
             return;
         }
         let next = next_line(script, at, numbers);
-        held = obey(held, next, script, numbers, table, history, work, output);
+        held = obey(
+            held,
+            next,
+            script,
+            numbers,
+            plan,
+            table,
+            history,
+            work,
+            output,
+        );
         if held.wrong {
             prints::error(k + 1);
             return;
@@ -80,9 +103,11 @@ pub fn run(script: &[u8]) {
     let mut history = [0u32; 32772];
     let mut work = [0u32; 262160];
     let mut output = [0u8; 600000];
+    let mut plan = [0u8; 16388];
     each(
         script,
         &mut numbers,
+        &mut plan,
         &mut table,
         &mut history,
         &mut work,

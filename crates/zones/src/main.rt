@@ -14,10 +14,10 @@ use libc::STDIN_FILENO;
 use libc::STDOUT_FILENO;
 use rooms::ScriptRoom;
 
-// "The script may be 2,000,000 bytes long." One byte more says that it is longer.
+// "A script is at most 4,000,000 bytes". One byte more says that it is longer.
 fn run(script: &mut [u8]) {
     let n = io::read_full(STDIN_FILENO, script);
-    if 2000000 < n {
+    if 4000000 < n {
         io::write_all(STDOUT_FILENO, b"error=0\n");
         return;
     }
@@ -31,6 +31,6 @@ fn read_and_run(script: &mut ScriptRoom) {
 
 // The room is made where it is lent, so that it stands on the stack once: what a function returns stands there twice.
 fn main() {
-    let mut script = [0u8; 2000001];
+    let mut script = [0u8; 4000001];
     read_and_run(&mut script);
 }

@@ -2,6 +2,7 @@
 use crate::held::Held;
 use crate::rooms::HistoryRoom;
 use crate::rooms::NumbersRoom;
+use crate::rooms::PlanRoom;
 use crate::rooms::TableRoom;
 use crate::rooms::WorkRoom;
 use crate::scan::Line;
@@ -9,6 +10,7 @@ use crate::sizes::size;
 use crate::words::FILL;
 use crate::words::HISTORY;
 use crate::words::LEND;
+use crate::words::PLAN;
 use crate::words::TABLE;
 use crate::words::WORK;
 use pyramid::State;
@@ -67,6 +69,36 @@ fn put(room: &mut [u32], numbers: &NumbersRoom, count: usize) -> bool
     false
 }
 
+// The bytes after the first number go into the plan's room, from a place on, up to a number that is no byte: answers whether there is one.
+fn lay_bytes(room: &mut [u8], place: usize, numbers: &NumbersRoom, count: usize) -> bool
+    requires { ⌜ (place + count ≤ length (now room) + 1) × (count ≤ 262161) ⌝ }
+{
+    let mut i = 1;
+    while i < count {
+        let value = numbers[i];
+        if 255 < value {
+            return true;
+        }
+        room[place + i - 1] = value as u8;
+        i += 1;
+    }
+    false
+}
+
+// "puts the bytes (0 to 255) into the plan's room from place I on": answers whether one would lie outside it, or is no byte.
+fn put_bytes(room: &mut [u8], numbers: &NumbersRoom, count: usize) -> bool
+    requires { ⌜ count ≤ 262161 ⌝ }
+{
+    if count <= 1 {
+        return false;
+    }
+    let place = size(numbers[0]);
+    if room.len() < place + (count - 1) {
+        return true;
+    }
+    lay_bytes(room, place, numbers, count)
+}
+
 // "puts V into the work room's every number"
 fn fill(work: &mut WorkRoom, value: u32) {
     let mut i = 0;
@@ -99,6 +131,7 @@ pub fn set(
     held: Held,
     line: Line,
     numbers: &NumbersRoom,
+    plan: &mut PlanRoom,
     table: &mut TableRoom,
     history: &mut HistoryRoom,
     work: &mut WorkRoom,
@@ -112,6 +145,7 @@ pub fn set(
         TABLE => held.judged(put(table, numbers, line.count)),
         HISTORY => held.judged(put(history, numbers, line.count)),
         WORK => held.judged(put(work, numbers, line.count)),
+        PLAN => held.judged(put_bytes(plan, numbers, line.count)),
         FILL => {
             fill(work, numbers[0]);
             held

@@ -10,31 +10,37 @@ pub const HISTORY: u32 = 3;
 
 pub const WORK: u32 = 4;
 
-pub const FILL: u32 = 5;
+pub const PLAN: u32 = 5;
 
-pub const STATE: u32 = 6;
+pub const FILL: u32 = 6;
 
-pub const START: u32 = 7;
+pub const STATE: u32 = 7;
 
-pub const CONTRACT: u32 = 8;
+pub const START: u32 = 8;
 
-pub const REMOVE: u32 = 9;
+pub const CONTRACT: u32 = 9;
 
-pub const SWEEP: u32 = 10;
+pub const REMOVE: u32 = 10;
 
-pub const UNDO: u32 = 11;
+pub const SWEEP: u32 = 11;
 
-pub const UNFOLD: u32 = 12;
+pub const UNDO: u32 = 12;
 
-pub const READ: u32 = 13;
+pub const UNFOLD: u32 = 13;
 
-pub const COUNTS: u32 = 14;
+pub const READ: u32 = 14;
 
-pub const WRITE: u32 = 15;
+pub const FLATAREAS: u32 = 15;
 
-pub const SHOW: u32 = 16;
+pub const FLAT: u32 = 16;
 
-pub const BYTES: u32 = 17;
+pub const COUNTS: u32 = 17;
+
+pub const WRITE: u32 = 18;
+
+pub const SHOW: u32 = 19;
+
+pub const BYTES: u32 = 20;
 
 // A command's number, or 0 for none, and the place after its word.
 pub struct Word {
@@ -43,12 +49,12 @@ pub struct Word {
 }
 
 // How many letters the script has from a place on of a word of the list, which a space ends: all of them or none.
-fn letters(script: &[u8], at: usize, words: &[u8; 153], from: usize) -> usize
-    requires { ⌜ (at ≤ length (now script)) × (from ≤ 144) ⌝ }
+fn letters(script: &[u8], at: usize, words: &[u8; 200], from: usize) -> usize
+    requires { ⌜ (at ≤ length (now script)) × (from ≤ 190) ⌝ }
     ensures { λ r. ⌜ at + r ≤ length (now (script .entry)) ⌝ }
 {
     let mut i = 0;
-    while i < 9 {
+    while i < 10 {
         if words[from + i] == 32 {
             return i;
         }
@@ -63,15 +69,17 @@ fn letters(script: &[u8], at: usize, words: &[u8; 153], from: usize) -> usize
     0
 }
 
-// The command whose word stands at a place. In the list each word has nine bytes, with spaces after it.
+// The command whose word stands at a place. In the list each word has ten bytes, with spaces after it; a word that begins with another stands
+// before it.
 pub fn command(script: &[u8], at: usize) -> Word
     requires { ⌜ at ≤ length (now script) ⌝ }
     ensures { λ r. ⌜ r .next ≤ length (now (script .entry)) ⌝ }
 {
     let words =
-        b"lend     table    history  work     fill     state    start    contract remove   sweep    undo     unfold   read     counts   write    show     bytes    ";
-    for k in 0..17 {
-        let n = letters(script, at, words, 9 * k);
+        b"lend      table     history   work      plan      fill      state     start     contract  remove    sweep     undo      unfold    \
+        read      flatareas flat      counts    write     show      bytes     ";
+    for k in 0..20 {
+        let n = letters(script, at, words, 10 * k);
         if n != 0 {
             return Word {
                 number: k as u32 + 1,
@@ -88,8 +96,8 @@ pub fn command(script: &[u8], at: usize) -> Word
 // Whether a command takes so many numbers. "A kernel has at most 32,772 edges"; there are at most 64 ends.
 pub fn takes(number: u32, count: usize) -> bool {
     match number {
-        LEND => count == 3,
-        TABLE | HISTORY | WORK => 1 <= count,
+        LEND | FLATAREAS | FLAT => count == 3,
+        TABLE | HISTORY | WORK | PLAN => 1 <= count,
         STATE => 3 <= count && count <= 67,
         CONTRACT | REMOVE => count <= 32772,
         FILL | START | UNFOLD | READ | WRITE => count == 1,
