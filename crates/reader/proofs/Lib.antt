@@ -6,7 +6,6 @@ pub mod KernelLines
 pub mod LastPairs
 pub mod Number
 pub mod PairLines
-pub mod Place
 pub mod ReadEnds
 pub mod Rest
 pub mod Settles
