@@ -10,6 +10,9 @@ use Rattle.slices.specs.Over.{over}
 use Rattle.grids.specs.Base.{successorOn, baseTable}
 use Rattle.grids.specs.Grid.{flat}
 use Rattle.plans.specs.Limits.{At, Lent}
+use Rattle.plans.specs.Rounds.{Round, firstOf, upDart, downDart}
+use Rattle.plans.specs.declared.laying.Sides.{Sides}
+use Rattle.plans.proofs.Around.{next-up, next-down}
 use Rattle.plans.proofs.Base.{table-length, table-at, lent-long}
 use Rattle.plans.proofs.Entries.{Laying, laying-begins, laying-inside, laying-on, laying-over, laying-ends}
 use Rattle.plans.proofs.laying.lay_upright.Statement.{statement}
@@ -26,30 +29,40 @@ module _ {W C a : ℕ} {to₀ : List ℕ} (p : Lent W C a (length to₀)) {to : 
   fits = rw all (omega arith)
 
   module _ (more : e < a + W * (C - 1)) where
-    stands : At W C x y × (y + 1 < C)
+    course : y + 1 < C
+    course = let (i, j) = laying-inside fits (lent-long p) l more in omega arith
+
+    stands : At W C x y
     stands =
         let (i, j) = laying-inside fits (lent-long p) l more in
         let s = p .sized in
-        (record { wale = i; narrow = s .narrow; course = omega arith; low = s .low }, omega arith)
+        record { wale = i; narrow = s .narrow; course = omega arith; low = s .low }
 
-    above : At W C x (y + 1) × (0 < y + 1)
-    above = let (s, h) = stands in (record { wale = s .wale; narrow = s .narrow; course = h; low = s .low }, omega arith)
+    above : At W C x (y + 1)
+    above = record { wale = stands .wale; narrow = stands .narrow; course = course; low = stands .low }
 
-    module _ {r s : ℕ} (even : r ≡ successorOn (flat W C) (2 * ((W - 1) * C + (y * W + x))))
-        (odd : s ≡ successorOn (flat W C) (2 * ((W - 1) * C + ((y + 1 - 1) * W + x)) + 1)) where
+    module _ {s : Sides} (S : Round W C x y s) {r : ℕ} (found : r ≡ firstOf (s .left) (s .down) (s .right) (s .up)) where
+      even : (r ≡ successorOn (flat W C) (upDart W C x y)) × (r < 65536)
+      even = next-up stands S course found
+
       first : r ≡ getD (baseTable (flat W C)) (2 * e) 0
-      first = table-at W C _ (2 * e) even (omega (arith, l .place, p .along)) (omega (arith, p .along))
+      first = table-at W C _ (2 * e) (even .0) (omega (arith, l .place, p .along)) (omega (arith, p .along))
 
-      second : s ≡ getD (baseTable (flat W C)) (2 * e + 1) 0
+    module _ {t : Sides} (S : Round W C x (y + 1) t) {r : ℕ} (found : r ≡ firstOf (t .right) (t .up) (t .left) (t .down)) where
+      odd : (r ≡ successorOn (flat W C) (downDart W C x (y + 1))) × (r < 65536)
+      odd = next-down above S (omega arith) found
+
+      second : r ≡ getD (baseTable (flat W C)) (2 * e + 1) 0
       second =
           let i : y + 1 - 1 ≡ y = omega arith in
-          table-at W C _ (2 * e + 1) (rw i at odd) (omega (arith, l .place, p .along)) (omega (arith, p .along))
+          table-at W C _ (2 * e + 1) (rw i at (odd .0)) (omega (arith, l .place, p .along)) (omega (arith, p .along))
 
+    module _ {r s : ℕ} (i : r ≡ getD (baseTable (flat W C)) (2 * e) 0) (j : s ≡ getD (baseTable (flat W C)) (2 * e + 1) 0) where
       upright-on : x + 1 < W → Upright W C a to₀ (set (set to (2 * e) r) (2 * e + 1) s) (e + 1) (x + 1) y
-      upright-on h = laying-on fits (lent-long p) l more first second h
+      upright-on h = laying-on fits (lent-long p) l more i j h
 
       upright-over : W ≤ x + 1 → Upright W C a to₀ (set (set to (2 * e) r) (2 * e + 1) s) (e + 1) 0 (y + 1)
-      upright-over h = let (z, k) = stands in laying-over fits (lent-long p) l more first second (omega (arith, z .wale))
+      upright-over h = laying-over fits (lent-long p) l more i j (omega (arith, stands .wale))
 
   upright-ends : a + W * (C - 1) ≤ e → to ≡ over (baseTable (flat W C)) to₀
   upright-ends none =
@@ -73,11 +86,24 @@ add-end c = search needs
 loop-holds : tie.Need-loop-holds Inv-loop μ-loop
 loop-holds c = laying-begins (c .before .pre .1)
 
-after-up-requires : tie.Need-after-up-requires Inv-loop μ-loop
-after-up-requires c κs = stands (c .before .before .before .pre .0) (c .before .loop .inv) (c .loop-test .taken)
+sides-of-requires : tie.Need-sides-of-requires Inv-loop μ-loop
+sides-of-requires c κs = stands (c .before .before .before .pre .0) (c .before .loop .inv) (c .loop-test .taken)
+
+add-sides-of : tie.Need-add-sides-of Inv-loop μ-loop
+add-sides-of c = search needs
+
+sides-of-requires-2 : tie.Need-sides-of-requires-2 Inv-loop μ-loop
+sides-of-requires-2 c κs = above (c .before .before .before .before .pre .0) (c .before .before .loop .inv) (c .before .loop-test .taken)
+
+first-requires : tie.Need-first-requires Inv-loop μ-loop
+first-requires c κs = search needs
 
 cast-to : tie.Need-cast-to Inv-loop μ-loop
-cast-to c = search needs
+cast-to c =
+    let t = c .before .before .before in
+    let s = even (t .before .before .before .pre .0) (t .before .loop .inv) (t .loop-test .taken)
+    (c .before .before .sides-of .ensures) (c .first .ensures) .1 in
+    search needs
 
 mul-to : tie.Need-mul-to Inv-loop μ-loop
 mul-to c = search needs
@@ -88,14 +114,15 @@ mul-to-2 c = search needs
 slice-write-to : tie.Need-slice-write-to Inv-loop μ-loop
 slice-write-to c = search needs
 
-add-after-down : tie.Need-add-after-down Inv-loop μ-loop
-add-after-down c = search needs
-
-after-down-requires : tie.Need-after-down-requires Inv-loop μ-loop
-after-down-requires c κs = above (c .before .before .before .before .pre .0) (c .before .before .loop .inv) (c .before .loop-test .taken)
+first-requires-2 : tie.Need-first-requires-2 Inv-loop μ-loop
+first-requires-2 c κs = search needs
 
 cast-to-2 : tie.Need-cast-to-2 Inv-loop μ-loop
-cast-to-2 c = search needs
+cast-to-2 c =
+    let t = c .before .before .before .before in
+    let s = odd (t .before .before .before .pre .0) (t .before .loop .inv) (t .loop-test .taken)
+    (c .before .before .sides-of2 .ensures) (c .first2 .ensures) .1 in
+    search needs
 
 mul-to-3 : tie.Need-mul-to-3 Inv-loop μ-loop
 mul-to-3 c = search needs
@@ -123,9 +150,14 @@ loop-less c = search needs
 
 loop-again : tie.Need-loop-again Inv-loop μ-loop
 loop-again c =
-    let t = c .before .before .before in
-    upright-on (t .before .before .before .pre .0) (t .before .loop .inv) (t .loop-test .taken)
-    (c .before .before .after-up .ensures .0) (c .before .after-down .ensures .0) (c .if1 .taken)
+    let t = c .before .before .before .before .before in
+    let p = t .before .before .before .pre .0 in
+    let l = t .before .loop .inv in
+    let m = t .loop-test .taken in
+    upright-on p l m
+    (first p l m (c .before .before .before .before .sides-of .ensures) (c .before .before .first .ensures))
+    (second p l m (c .before .before .before .sides-of2 .ensures) (c .before .first2 .ensures))
+    (c .if1 .taken)
 
 add-y : tie.Need-add-y Inv-loop μ-loop
 add-y c = search needs
@@ -138,9 +170,14 @@ loop-less-2 c = search needs
 
 loop-again-2 : tie.Need-loop-again-2 Inv-loop μ-loop
 loop-again-2 c =
-    let t = c .before .before .before in
-    upright-over (t .before .before .before .pre .0) (t .before .loop .inv) (t .loop-test .taken)
-    (c .before .before .after-up .ensures .0) (c .before .after-down .ensures .0) (c .if1 .left)
+    let t = c .before .before .before .before .before in
+    let p = t .before .before .before .pre .0 in
+    let l = t .before .loop .inv in
+    let m = t .loop-test .taken in
+    upright-over p l m
+    (first p l m (c .before .before .before .before .sides-of .ensures) (c .before .before .first .ensures))
+    (second p l m (c .before .before .before .sides-of2 .ensures) (c .before .first2 .ensures))
+    (c .if1 .left)
 
 same-length : tie.Need-same-length Inv-loop μ-loop
 same-length c = search needs
@@ -158,13 +195,15 @@ lay-upright-spec =
     mul-end
     add-end
     loop-holds
-    after-up-requires
+    sides-of-requires
+    add-sides-of
+    sides-of-requires-2
+    first-requires
     cast-to
     mul-to
     mul-to-2
     slice-write-to
-    add-after-down
-    after-down-requires
+    first-requires-2
     cast-to-2
     mul-to-3
     add-to
