@@ -2,7 +2,7 @@
 --   after-right, after-up, after-left, after-down == the grid's laws in the code's words
 --   chosen == the first of four, each there or not
 --   next-right, next-up, next-left, next-down == so it is the successor, and a small number
-use mathlib.Core.Bool.{Bool, true, false, _||_}
+use mathlib.Core.Bool.{Bool, true, false}
 use mathlib.Core.Path.{_≡_, refl, sym, _∙_}
 use Prim.Native.Nat.{ℕ, _+_, _-_, _*_, _<_}
 use native.Mathlib.Omega.{arith}
@@ -19,7 +19,7 @@ use Rattle.plans.specs.declared.laying.Sides.{Sides}
 use Rattle.plans.proofs.Limits.{product-few}
 
 -- where nothing closes, the first wale has nothing on its left
-left-choice : (b : Bool) (f : ℕ → ℕ) (i j other : ℕ) → (if b || false then f (if b then i else j) else other) ≡ (if b then f i else other)
+left-choice : (b : Bool) (f : ℕ → ℕ) (i j other : ℕ) → (if b then f (if b then i else j) else other) ≡ (if b then f i else other)
 left-choice true f i j other = refl
 left-choice false f i j other = refl
 
