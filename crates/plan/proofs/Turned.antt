@@ -107,29 +107,32 @@ lent-line w j d =
 
 module _ {w C : ℕ} {d p₀ p : List ℕ} {y : ℕ} (F : Fits w C d p₀) (t : Turning w C d p₀ p y) where
   module _ (h : y < C) where
-    line : length (lineAt w (C - 1 - y) d) ≡ w
-    line = line-length w (C - 1 - y) d (omega (arith, turn-bounds F h))
+    module _ (j : ℕ) (k : j < C) where
+      line : length (lineAt w j d) ≡ w
+      line = line-length w j d (omega (arith, up-to (w + 1) k, F .lines))
 
-    space : Space p (y * w) (lineAt w (C - 1 - y) d)
-    space = record { fits = omega (arith, turn-bounds F h, F .room, t .size, line) }
+      space : Space p (y * w) (lineAt w j d)
+      space = record { fits = omega (arith, up-to w h, F .room, t .size, line) }
 
-    pub line-space : Space p (y * w) (lent w (C - 1 - y) d)
-    line-space = rw (lent-line w (C - 1 - y) d) space
+      pub line-space : Space p (y * w) (lent w j d)
+      line-space = rw (lent-line w j d) space
 
     pub turn-on : {p′ : List ℕ} → p′ ≡ laid p (y * w) (lent w (C - 1 - y) d) → Turning w C d p₀ p′ (y + 1)
     unfolding upsideDown
     turn-on {p′} e =
         let now : p′ ≡ laid p (y * w) (lineAt w (C - 1 - y) d) = e ∙ rw (lent-line w (C - 1 - y) d) in
+        let here : C - 1 - y < C = omega arith in
+        let room = space (C - 1 - y) here in
         let left : C - y ≡ suc (C - 1 - y) = omega arith in
         let fewer : C - (y + 1) ≡ C - 1 - y = omega arith in
-        let place : (y + 1) * w ≡ y * w + length (lineAt w (C - 1 - y) d) = omega (arith, line) in
+        let place : (y + 1) * w ≡ y * w + length (lineAt w (C - 1 - y) d) = omega (arith, line (C - 1 - y) here) in
         record {
           bound = omega arith;
-          size = ap length now ∙ laid-length p (y * w) (lineAt w (C - 1 - y) d) space ∙ t .size;
+          size = ap length now ∙ laid-length p (y * w) (lineAt w (C - 1 - y) d) room ∙ t .size;
           same =
               t .same
               ∙ rw (left, fewer, place, now)
-              (sym (laid-on p (y * w) (lineAt w (C - 1 - y) d) space (upsideDown w d (C - 1 - y))));
+              (sym (laid-on p (y * w) (lineAt w (C - 1 - y) d) room (upsideDown w d (C - 1 - y))));
         }
 
   pub turn-end : C ≤ y → p ≡ over (upsideDown w d C) p₀

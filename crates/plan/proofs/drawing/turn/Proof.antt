@@ -45,7 +45,8 @@ part-put-line-end c = omega (arith, turn-bounds (c .before .before .before .befo
 put-line-requires : tie.Need-put-line-requires Inv-loop μ-loop
 put-line-requires c κs =
     let inside = c .before .before in
-    line-space (inside .before .before .before .before .pre) (inside .before .loop .inv) (inside .loop-test .taken)
+    let more = inside .loop-test .taken in
+    line-space (inside .before .before .before .before .pre) (inside .before .loop .inv) more _ (omega (arith, more))
 
 add-y : tie.Need-add-y Inv-loop μ-loop
 add-y c = search needs
