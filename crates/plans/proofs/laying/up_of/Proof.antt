@@ -1,5 +1,4 @@
 -- `plans::laying::up_of` meets its contract: an upright edge has a small number.
-use mathlib.Core.Path.{refl}
 use native.Mathlib.Omega.{arith}
 use borrow.Author.Needs.{needs}
 use Prim.Native.Nat.{_-_}
@@ -35,7 +34,7 @@ returns : tie.Need-returns
 returns c =
     let a = product-few (c .args .w - 1) (c .args .c) (omega arith) (omega arith) in
     let m = product-few (c .args .y) (c .args .w) (omega arith) (omega arith) in
-    (refl, omega arith)
+    (omega arith, omega arith)
 
 pub up-of-spec : {M : Type 1} → statement M
 up-of-spec =
