@@ -100,6 +100,8 @@ table =
     -- three cells upright: the middle one has the dart that goes up, then the one that goes down
     ∷ base 1 3 (97 ∷ 98 ∷ 99 ∷ []) 4 0 (baseState 4) (0 ∷ 2 ∷ 1 ∷ 3 ∷ []) [] 16
     ∷ base 3 2 twoCodes 14 0 (baseState 14) threeByTwo [] 56
+    -- three courses: the upright edges of the lowest come first
+    ∷ base 2 3 (codes 6) 14 0 (baseState 14) (6 ∷ 8 ∷ 10 ∷ 9 ∷ 11 ∷ 13 ∷ 0 ∷ 2 ∷ 1 ∷ 12 ∷ 7 ∷ 4 ∷ 3 ∷ 5 ∷ []) [] 56
     -- a longer plan is not looked at past its cells
     ∷ base 2 1 (97 ∷ 98 ∷ 99 ∷ []) 2 0 (baseState 2) (0 ∷ 1 ∷ []) [] 8
     -- 15: "one cell alone", "plan size outside the limits"; before 2

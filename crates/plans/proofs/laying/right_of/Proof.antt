@@ -1,34 +1,25 @@
--- `plans::laying::right_of` meets its contract: the numbers are small.
-use Prim.Native.Nat.{_+_, _-_}
+-- `plans::laying::right_of` meets its contract: an edge along the courses has a small number.
+use Prim.Native.Nat.{_-_}
 use native.Mathlib.Omega.{arith}
 use borrow.Author.Needs.{needs}
-use borrow.Author.Tests.{lt-ltb, le-ltb}
 use Rattle.plans.proofs.Limits.{product-few}
 use Rattle.plans.proofs.laying.right_of.Statement.{statement}
 use Rattle.plans.proofs.laying.right_of.Tie as tie
-
-add-if1 : tie.Need-add-if1
-add-if1 c = search needs
 
 sub-result : tie.Need-sub-result
 sub-result c = search needs
 
 mul-result : tie.Need-mul-result
-mul-result c = let a = c .before .args in let m = product-few (a .y) (a .w - 1) (omega arith) (omega arith) in search needs
+mul-result c = let m = product-few (c .args .y) (c .args .w - 1) (omega arith) (omega arith) in search needs
 
 add-result : tie.Need-add-result
-add-result c = let a = c .before .args in let m = product-few (a .y) (a .w - 1) (omega arith) (omega arith) in search needs
+add-result c = let m = product-few (c .args .y) (c .args .w - 1) (omega arith) (omega arith) in search needs
 
 mul-result-2 : tie.Need-mul-result-2
-mul-result-2 c = let a = c .before .args in let m = product-few (a .y) (a .w - 1) (omega arith) (omega arith) in search needs
+mul-result-2 c = let m = product-few (c .args .y) (c .args .w - 1) (omega arith) (omega arith) in search needs
 
 returns : tie.Need-returns
-returns c = let a = c .before .args in rw (lt-ltb (a .x + 1) (a .w) (c .if1 .taken)) (omega arith)
-
-returns-2 : tie.Need-returns-2
-returns-2 c = let a = c .before .args in rw (le-ltb (a .x + 1) (a .w) (c .if1 .left))
+returns c = let m = product-few (c .args .y) (c .args .w - 1) (omega arith) (omega arith) in (omega arith, omega arith)
 
 pub right-of-spec : {M : Type 1} → statement M
-right-of-spec =
-    tie.close
-    (tie.spec add-if1 sub-result mul-result add-result mul-result-2 returns returns-2)
+right-of-spec = tie.close (tie.spec sub-result mul-result add-result mul-result-2 returns)

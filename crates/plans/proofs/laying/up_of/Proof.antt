@@ -1,57 +1,42 @@
--- `plans::laying::up_of` meets its contract: the numbers are small.
-use Prim.Native.Nat.{_+_, _-_}
+-- `plans::laying::up_of` meets its contract: an upright edge has a small number.
 use native.Mathlib.Omega.{arith}
 use borrow.Author.Needs.{needs}
-use borrow.Author.Tests.{lt-ltb, le-ltb}
+use Prim.Native.Nat.{_-_}
 use Rattle.plans.proofs.Limits.{product-few}
 use Rattle.plans.proofs.laying.up_of.Statement.{statement}
 use Rattle.plans.proofs.laying.up_of.Tie as tie
-
-add-if1 : tie.Need-add-if1
-add-if1 c = search needs
 
 sub-result : tie.Need-sub-result
 sub-result c = search needs
 
 mul-result : tie.Need-mul-result
-mul-result c =
-    let a = c .before .args in
-    let m = product-few (a .w - 1) (a .c) (omega arith) (omega arith) in
-    search needs
+mul-result c = let a = product-few (c .args .w - 1) (c .args .c) (omega arith) (omega arith) in search needs
 
 mul-result-2 : tie.Need-mul-result-2
-mul-result-2 c =
-    let a = c .before .args in
-    let n = product-few (a .y) (a .w) (omega arith) (omega arith) in
-    search needs
+mul-result-2 c = let m = product-few (c .args .y) (c .args .w) (omega arith) (omega arith) in search needs
 
 add-result : tie.Need-add-result
-add-result c =
-    let a = c .before .args in
-    let n = product-few (a .y) (a .w) (omega arith) (omega arith) in
-    search needs
+add-result c = let m = product-few (c .args .y) (c .args .w) (omega arith) (omega arith) in search needs
 
 add-result-2 : tie.Need-add-result-2
 add-result-2 c =
-    let a = c .before .args in
-    let m = product-few (a .w - 1) (a .c) (omega arith) (omega arith) in
-    let n = product-few (a .y) (a .w) (omega arith) (omega arith) in
+    let a = product-few (c .args .w - 1) (c .args .c) (omega arith) (omega arith) in
+    let m = product-few (c .args .y) (c .args .w) (omega arith) (omega arith) in
     search needs
 
 mul-result-3 : tie.Need-mul-result-3
 mul-result-3 c =
-    let a = c .before .args in
-    let m = product-few (a .w - 1) (a .c) (omega arith) (omega arith) in
-    let n = product-few (a .y) (a .w) (omega arith) (omega arith) in
+    let a = product-few (c .args .w - 1) (c .args .c) (omega arith) (omega arith) in
+    let m = product-few (c .args .y) (c .args .w) (omega arith) (omega arith) in
     search needs
 
 returns : tie.Need-returns
-returns c = let a = c .before .args in rw (lt-ltb (a .y + 1) (a .c) (c .if1 .taken)) (omega arith)
-
-returns-2 : tie.Need-returns-2
-returns-2 c = let a = c .before .args in rw (le-ltb (a .y + 1) (a .c) (c .if1 .left))
+returns c =
+    let a = product-few (c .args .w - 1) (c .args .c) (omega arith) (omega arith) in
+    let m = product-few (c .args .y) (c .args .w) (omega arith) (omega arith) in
+    (omega arith, omega arith)
 
 pub up-of-spec : {M : Type 1} → statement M
 up-of-spec =
     tie.close
-    (tie.spec add-if1 sub-result mul-result mul-result-2 add-result add-result-2 mul-result-3 returns returns-2)
+    (tie.spec sub-result mul-result mul-result-2 add-result add-result-2 mul-result-3 returns)
