@@ -1,3 +1,3 @@
 pub mod Limits
-pub mod Rounds
 pub mod Prepared
+pub mod Rising
