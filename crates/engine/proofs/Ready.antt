@@ -1,7 +1,6 @@
 -- A work area whose forest judges operations, while a run of them goes on.
 --   beyond-refl, beyond-trans == what stands beyond the four parts is kept
---   Stays D n k w v           == v holds what w holds, and judges as w does
---   ready-stays               == so it is where the forest's roots are kept
+--   ready-stays               == where the forest's roots are kept, it holds what it held, and judges so
 --   ready-judged              == the answer for an edge is document 01's
 --   ready-for                 == what doing an edge asks of the work area, where it may be done
 --   ready-did                 == the operation is done and the edge's two darts are joined: the next one can be judged
@@ -27,7 +26,7 @@ use Rattle.area.specs.Edge.{Says, Judged, Bounds, Did}
 use Rattle.area.specs.Trees.{Outside, rooted, Kept, merged}
 use Rattle.area.proofs.Replay.{merged-merges}
 use Rattle.engine.specs.Held.{Ready, Beyond}
-use Rattle.engine.specs.Runs.{Goes}
+use Rattle.engine.specs.Runs.{Goes, Stays}
 use Rattle.engine.proofs.Allowed.{fine-live, room-for-one-more}
 use Rattle.engine.proofs.Area.{prev-live, leads-live}
 use Rattle.engine.proofs.Beside.{beside-table, beside-past, beside-area, beside-rooted}
@@ -46,12 +45,6 @@ outside-beyond : {D : ℕ} {w v : List ℕ} → Outside D w v → Beyond D w v
 outside-beyond {D} {w} {v} o =
     let e : 4 * D ≡ 3 * D + D = omega arith in
     record { size = o .size; rest = rw e (sym (drop-drop D (3 * D) v) ∙ ap (drop D) (o .rest) ∙ drop-drop D (3 * D) w) }
-
-pub record Stays (D n k : ℕ) (w v : List ℕ) : Type 0 where
-  pub ready : Ready D n k v
-  pub table : tableIn D v ≡ tableIn D w
-  pub past : pastIn D n v ≡ pastIn D n w
-  pub beyond : Beyond D w v
 
 -- ---- an operation judged, and done
 

@@ -2,6 +2,7 @@
 --   Underway D k takes whole w₀ i es w m == w is w₀ after some of a pass's turns, i of them taken, and there are m operations then: the pass over the edges
 --                                           es that are left, from the table and the past that w holds, goes where the whole pass goes
 --   underway-over                        == an edge is passed over
+--   underway-kept                        == the work area may have changed where nothing is held
 --   underway-on                          == it is taken, and done
 --   underway-stops                       == it is taken, and refused: so is the pass
 --   underway-ends                        == no edge is left
@@ -19,7 +20,7 @@ use Rattle.darts.specs.Operation.{kindOf}
 use Rattle.darts.specs.Kernel.{judge, each, Run, stops, Test, passFrom}
 use Rattle.area.specs.Area.{tableIn, pastIn}
 use Rattle.engine.specs.Held.{Ready, Beyond}
-use Rattle.engine.specs.Runs.{ranIn, Went, Turned}
+use Rattle.engine.specs.Runs.{ranIn, Went, Stays, Turned}
 use Rattle.engine.proofs.Ready.{beyond-trans}
 
 pub record Underway (D k : ℕ) (takes : Test) (whole : Run) (w₀ : List ℕ) (i : ℕ) (es w : List ℕ) (m : ℕ) : Type 0 where
@@ -52,6 +53,9 @@ module _ {D k : ℕ} {takes : Test} {whole : Run} {w₀ : List ℕ} {i m : ℕ} 
             few = few;
             beyond = beyond-trans (u .beyond) (τ .beyond);
           }
+
+  pub underway-kept : {es v : List ℕ} → Stays D m k w v → Underway D k takes whole w₀ i es w m → Underway D k takes whole w₀ i es v m
+  underway-kept s u = record { same = rw (s .table, s .past) (u .same); ready = s .ready; beyond = beyond-trans (u .beyond) (s .beyond) }
 
   pub underway-ends : Underway D k takes whole w₀ i [] w m → Went D whole w₀ w (record { answer = Done 0; operations = m })
   unfolding passFrom ranIn

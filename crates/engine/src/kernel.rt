@@ -11,7 +11,7 @@ ghost use Rattle.engine.specs.Held.{Ready};
 ghost use Rattle.engine.specs.Runs.{Turned, Went};
 
 // The turn of edge e, the one at place i, after m operations: it is judged on the map as it stands, and done where it may be.
-pub(crate) fn turn(work: &mut [u32], d: usize, m: usize, k: usize, e: usize, i: usize) -> Answer
+pub fn turn(work: &mut [u32], d: usize, m: usize, k: usize, e: usize, i: usize) -> Answer
     requires { ⌜ Ready d m k (now work) ⌝ }
     ensures { λ r. ⌜ Turned d m k e i (now (work .entry)) (now (work .exit)) r ⌝ }
 {

@@ -30,13 +30,7 @@ fn bit(kind: Kind) -> usize
 
 impl State {
     // One level more by a run that has gone well, or the answer that stopped it. The work area holds the map after the run.
-    pub(crate) fn level(
-        self,
-        ran: Ran,
-        table: &mut [u32],
-        history: &mut [u32],
-        work: &[u32],
-    ) -> Outcome
+    pub fn level(self, ran: Ran, table: &mut [u32], history: &mut [u32], work: &[u32]) -> Outcome
         requires { ⌜ Halts (stateOf self) ran (now work) (length (now table)) (length (now history)) ⌝ }
         ensures { λ r. ⌜
             left r (now (table .exit)) (now (history .exit)) (cleared (self .darts) (now (work .entry)))

@@ -22,7 +22,9 @@ use Rattle.engine.proofs.kernel.turn.Tie as tie
 
 module _ {D m k e i : ℕ} {w v : List ℕ} {r : Answer} (ρ : Ready D m k w) (j : Judged D k e i w v r) where
   turned-refused : answerOf r .number ≢ 0 → Turned D m k e i w v r
-  turned-refused n = record { answer = ready-judged ρ j; beyond = ready-stays ρ (j .kept) .beyond; done = λ z. absurd (n z) }
+  turned-refused n =
+      let s = ready-stays ρ (j .kept) in
+      record { answer = ready-judged ρ j; beyond = s .beyond; done = λ z. absurd (n z); refused = λ _. s }
 
   module _ (none : answerOf r .number ≡ 0) where
     fine-there : judge (kindOf k) D (tableIn D v) (pastIn D m v) e ≡ 0
@@ -40,6 +42,7 @@ module _ {D m k e i : ℕ} {w v : List ℕ} {r : Answer} (ρ : Ready D m k w) (j
             table = g .table ∙ ap₂ (λ t past. operate (kindOf k) D t past e) (s .table) (s .past);
             past = g .past ∙ ap₂ (λ t past. number (kindOf k) (lead (kindOf k) t e) ∷ past) (s .table) (s .past);
           };
+          refused = λ n. absurd (n none);
         }
 
 judge-requires : tie.Need-judge-requires

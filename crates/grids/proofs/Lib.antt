@@ -1,0 +1,10 @@
+pub mod Rows
+pub mod Next
+pub mod Four
+pub mod Places
+pub mod Rounds
+pub mod Sides
+pub mod Cells
+pub mod Successors
+pub mod Limits
+pub mod PlanBase

@@ -1,0 +1,86 @@
+-- The ways that the second call on a plan ends, once its kernel has run in the work area.
+--   areas-room  == the work area keeps its room
+--   areas-halts == what one level more asks
+--   areas-none  == the kernel took no edge: 5
+--   areas-level == what one level more leaves is what the call leaves
+use mathlib.Core.List.{List, []}
+use mathlib.Core.Logic.{_≢_}
+use mathlib.Core.Path.{_≡_, refl, sym, ap, subst, _∙_}
+use Prim.Native.Nat.{ℕ}
+use native.Mathlib.Omega.{arith}
+use borrow.Author.Tests.{eq-eqb, ne-eqb}
+use lib.ListN.{length}
+use Rattle.darts.specs.Answers.{emptyKernel}
+use Rattle.darts.specs.declared.Answer.the-variants.{Done}
+use Rattle.darts.specs.State.{State as Stated, baseState, levelled}
+use Rattle.darts.specs.Kernel.{Run, stands}
+use Rattle.darts.specs.Calls.{After, cleared, pastOf, handsBack}
+use Rattle.laws.proofs.calls.Cleared.{cleared-kept}
+use Rattle.area.specs.Area.{Room, tableIn, pastIn}
+use Rattle.engine.specs.Runs.{ranIn, Went}
+use Rattle.engine.specs.declared.Ran.{Ran}
+use Rattle.engine.proofs.Area.{room-kept}
+use Rattle.engine.proofs.Parts.{past-length}
+use Rattle.grids.specs.Grid.{Grid, dartsOf}
+use Rattle.grids.specs.Plans.{fittingPlan, begun, planAreas, firstKernel}
+use Rattle.pyramid.specs.Steps.{Halts}
+use Rattle.pyramid.specs.Values.{left, Hands}
+use Rattle.pyramid.specs.declared.Outcome.{Outcome}
+use Rattle.pyramid.proofs.Started.{hands}
+use Rattle.plans.proofs.Fits.{fitted, fitted-room}
+use Rattle.plans.proofs.Planned.{plan-begun}
+
+module _ (g : Grid) (plan t h w : List ℕ) (fits : fittingPlan g (length plan) (length t) (length h) (length w) .number ≡ 0) {v : List ℕ} {m : ℕ}
+    (W : Went (dartsOf g) (firstKernel g plan) w v (record { answer = Done 0; operations = m })) where
+  abbrev D : ℕ
+  D = dartsOf g
+
+  abbrev ran : Ran
+  ran = record { answer = Done 0; operations = m }
+
+  pub areas-room : Room D v
+  areas-room = room-kept w v (W .beyond .size) (fitted-room g (length plan) (length t) (length h) w (fitted g _ _ _ _ fits))
+
+  pub areas-halts : (s : Stated) → s ≡ baseState D → Halts s ran v (length t) (length h)
+  areas-halts s base =
+      let l = fitted g _ _ _ _ fits .lengths in
+      rw base (record {
+        room = areas-room;
+        table = l .table;
+        history = l .history;
+        free = omega arith;
+        before = omega arith;
+        after = W .few;
+        answer = λ n. absurd (n refl);
+      })
+
+  new-count : length (pastIn D m v) ≡ m
+  new-count = past-length D m v (omega (arith, W .few, areas-room .fits))
+
+  same-clear : cleared D v ≡ cleared D w
+  same-clear = cleared-kept D w v (W .beyond .rest)
+
+  went : stands (tableIn D v) (pastIn D m v) ≡ firstKernel g plan
+  unfolding ranIn
+  went = W .went
+
+  ends : begun D t h w (levelled (baseState D) [] (stands (tableIn D v) (pastIn D m v))) ≡ planAreas g plan t h w
+  unfolding planAreas
+  ends = ap (λ (r : Run). begun D t h w (levelled (baseState D) [] r)) went ∙ plan-begun g plan t h w fits _
+
+  pub areas-none : (o : Outcome) → m ≡ 0 → Hands o emptyKernel (baseState 0) → left o t h (cleared D v) ≡ planAreas g plan t h w
+  unfolding levelled begun
+  areas-none o z H = rw same-clear (hands o H t h (cleared D w) ∙ (rw (eq-eqb (length (pastIn D m v)) 0 (new-count ∙ z)) at ends))
+
+  by-level : {x : After} → m ≢ 0 → x ≡ handsBack (baseState D) t h v (levelled (baseState D) (pastOf (baseState D) h) (ranIn D v ran))
+      → x ≡ planAreas g plan t h w
+  unfolding levelled begun handsBack pastOf ranIn
+  by-level n L =
+      let some = ne-eqb (length (pastIn D m v)) 0 (λ e. n (sym new-count ∙ e)) in
+      (rw (some, same-clear) at L) ∙ (rw some at ends)
+
+  pub areas-level : (s : Stated) → s ≡ baseState D → (o : Outcome) {u k : List ℕ} → m ≢ 0
+      → left o u k (cleared (s .darts) v) ≡ handsBack s t h v (levelled s (pastOf s h) (ranIn (s .darts) v ran))
+      → left o u k (cleared D v) ≡ planAreas g plan t h w
+  areas-level s base o {u} {k} n L =
+      by-level n (subst (λ (z : Stated). left o u k (cleared (z .darts) v) ≡ handsBack z t h v (levelled z (pastOf z h) (ranIn (z .darts) v ran))) base L)

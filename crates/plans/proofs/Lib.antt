@@ -1,0 +1,11 @@
+pub mod Limits
+pub mod Entries
+pub mod Around
+pub mod Base
+pub mod Fits
+pub mod Planned
+pub mod Ends
+pub mod Preparing
+pub mod Taken
+pub mod Areas
+pub mod Tight
