@@ -12,16 +12,16 @@ use Rattle.grids.specs.Base.{successorOn}
 use Rattle.grids.proofs.Successors as grid
 use Rattle.plans.specs.Limits.{At}
 
-abbrev rightOf : ℕ → ℕ → ℕ → ℕ
+abbrev pub rightOf : ℕ → ℕ → ℕ → ℕ
 rightOf W x y = 2 * (y * (W - 1) + x)
 
-abbrev upOf : ℕ → ℕ → ℕ → ℕ → ℕ
+abbrev pub upOf : ℕ → ℕ → ℕ → ℕ → ℕ
 upOf W C x y = 2 * ((W - 1) * C + (y * W + x))
 
-abbrev leftOf : ℕ → ℕ → ℕ → ℕ
+abbrev pub leftOf : ℕ → ℕ → ℕ → ℕ
 leftOf W x y = 2 * (y * (W - 1) + (x - 1)) + 1
 
-abbrev downOf : ℕ → ℕ → ℕ → ℕ → ℕ
+abbrev pub downOf : ℕ → ℕ → ℕ → ℕ → ℕ
 downOf W C x y = 2 * ((W - 1) * C + ((y - 1) * W + x)) + 1
 
 -- where nothing closes, the first wale has nothing on its left

@@ -39,7 +39,7 @@ laying-begins {first = first} {row = row} {to = to} e = record {
 }
 
 -- one entry more
-one-more : (T to₀ : List ℕ) {to : List ℕ} (i : ℕ) {v : ℕ} → i < length T → length T ≤ length to₀ → to ≡ take i T ++ drop i to₀
+pub one-more : (T to₀ : List ℕ) {to : List ℕ} (i : ℕ) {v : ℕ} → i < length T → length T ≤ length to₀ → to ≡ take i T ++ drop i to₀
     → v ≡ getD T i 0 → set to i v ≡ take (i + 1) T ++ drop (i + 1) to₀
 one-more T to₀ i h k s e = rw (s, e, add-one) (simp zero-add at (paste-suc to₀ 0 T i 0 (omega arith) h))
 

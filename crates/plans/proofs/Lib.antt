@@ -2,6 +2,8 @@ pub mod Limits
 pub mod Entries
 pub mod Around
 pub mod Base
+pub mod Rising
+pub mod Runs
 pub mod Fits
 pub mod Planned
 pub mod Ends

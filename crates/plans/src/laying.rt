@@ -6,6 +6,7 @@ ghost use Rattle.slices.specs.Over.{over};
 ghost use Rattle.grids.specs.Grid.{flat, dartsOf};
 ghost use Rattle.grids.specs.Base.{successorOn, baseTable};
 ghost use Rattle.plans.specs.Limits.{Sized, At, Lent};
+ghost use Rattle.plans.specs.Rising.{risen, Ran};
 
 // The dart that goes right from the cell: the even one of its edge in the course.
 fn right_of(w: usize, x: usize, y: usize) -> usize
@@ -112,6 +113,53 @@ fn after_down(w: usize, c: usize, x: usize, y: usize) -> usize
     down_of(w, c, x, y)
 }
 
+// The entries of n edges from e on: the even ones rise by two from r, the odd ones from l.
+fn rise(to: &mut [u32], e: usize, n: usize, r: u32, l: u32)
+    requires { ⌜ (2 * (e + n) ≤ length (now to)) × (e + n < 65536) ⌝ }
+    requires { ⌜ (r + 2 * n < 131072) × (l + 2 * n < 131072) ⌝ }
+    ensures { λ _. ⌜ now (to .exit) ≡ risen e n r l (now (to .entry)) ⌝ }
+{
+    let mut i = 0;
+    while i < n {
+        to[2 * (e + i)] = r + 2 * (i as u32);
+        to[2 * (e + i) + 1] = l + 2 * (i as u32);
+        i += 1;
+    }
+}
+
+// The entries of the edges along course y from wale x on, all but the last, where there are courses above and below: up and down, one cell further each
+// time. How many were laid.
+fn run_along(to: &mut [u32], w: usize, c: usize, e: usize, x: usize, y: usize) -> usize
+    requires { ⌜ At w c x y × (x + 1 < w) ⌝ }
+    requires { ⌜ (e ≡ y * (w - 1) + x) × (2 * ((w - 1) * c + w * (c - 1)) ≤ length (now to)) ⌝ }
+    ensures { λ r. ⌜ (x + r + 1 < w) × Ran (baseTable (flat w c)) e r (now (to .entry)) (now (to .exit)) ⌝ }
+{
+    if y == 0 {
+        return 0;
+    }
+    if c <= y + 1 {
+        return 0;
+    }
+    let n = w - 2 - x;
+    let r = up_of(w, c, x, y) as u32;
+    let l = down_of(w, c, x + 1, y) as u32;
+    rise(to, e, n, r, l);
+    n
+}
+
+// The entries of the edges up from course y from wale x on, all but the last: left below and right above, one cell further each time. How many were laid.
+fn run_upright(to: &mut [u32], w: usize, c: usize, e: usize, x: usize, y: usize) -> usize
+    requires { ⌜ At w c x y × ((0 < x) × (y + 1 < c)) ⌝ }
+    requires { ⌜ (e ≡ (w - 1) * c + (y * w + x)) × (2 * ((w - 1) * c + w * (c - 1)) ≤ length (now to)) ⌝ }
+    ensures { λ r. ⌜ (x + r < w) × Ran (baseTable (flat w c)) e r (now (to .entry)) (now (to .exit)) ⌝ }
+{
+    let n = w - 1 - x;
+    let l = left_of(w, x, y) as u32;
+    let r = right_of(w, x, y + 1) as u32;
+    rise(to, e, n, l, r);
+    n
+}
+
 // The entries of the a edges along the courses, course by course.
 fn lay_along(to: &mut [u32], w: usize, c: usize, a: usize)
     requires { ⌜ Lent w c a (length (now to)) ⌝ }
@@ -124,8 +172,9 @@ fn lay_along(to: &mut [u32], w: usize, c: usize, a: usize)
         to[2 * e] = after_right(w, c, x, y) as u32;
         to[2 * e + 1] = after_left(w, c, x + 1, y) as u32;
         if x + 2 < w {
-            x += 1;
-            e += 1;
+            let n = 1 + run_along(to, w, c, e + 1, x + 1, y);
+            x += n;
+            e += n;
         } else {
             x = 0;
             y += 1;
@@ -148,8 +197,9 @@ fn lay_upright(to: &mut [u32], w: usize, c: usize, a: usize)
         to[2 * e] = after_up(w, c, x, y) as u32;
         to[2 * e + 1] = after_down(w, c, x, y + 1) as u32;
         if x + 1 < w {
-            x += 1;
-            e += 1;
+            let n = 1 + run_upright(to, w, c, e + 1, x + 1, y);
+            x += n;
+            e += n;
         } else {
             x = 0;
             y += 1;

@@ -9,8 +9,10 @@ use Rattle.slices.specs.Over.{over}
 use Rattle.grids.specs.Base.{successorOn, baseTable}
 use Rattle.grids.specs.Grid.{flat}
 use Rattle.plans.specs.Limits.{At, Lent}
+use Rattle.plans.specs.Rising.{Ran}
 use Rattle.plans.proofs.Base.{table-length, table-at, lent-long}
 use Rattle.plans.proofs.Entries.{Laying, laying-begins, laying-inside, laying-on, laying-over, laying-ends}
+use Rattle.plans.proofs.Rising.{laying-run}
 use Rattle.plans.proofs.laying.lay_along.Statement.{statement}
 use Rattle.plans.proofs.laying.lay_along.Tie as tie
 
@@ -34,6 +36,12 @@ module _ {W C a : ℕ} {to₀ : List ℕ} (p : Lent W C a (length to₀)) {to : 
     beside : At W C (x + 1) y × (0 < x + 1)
     beside = let (s, h) = stands in (record { wale = h; narrow = s .narrow; course = s .course; low = s .low }, omega arith)
 
+    run-ready : (r s : ℕ) → x + 2 < W
+        → (At W C (x + 1) y × (x + 1 + 1 < W)) × ((e + 1 ≡ y * (W - 1) + (x + 1)) × (2 * ((W - 1) * C + W * (C - 1)) ≤ length (set (set to (2 * e) r) (2 * e + 1) s)))
+    run-ready r s h =
+        let (b, k) = beside in
+        ((b, omega arith), (omega (arith, l .place), simp length-set (omega (arith, l .size, p .room, p .along))))
+
     module _ {r s : ℕ} (even : r ≡ successorOn (flat W C) (2 * (y * (W - 1) + x)))
         (odd : s ≡ successorOn (flat W C) (2 * (y * (W - 1) + (x + 1 - 1)) + 1)) where
       first : r ≡ getD (baseTable (flat W C)) (2 * e) 0
@@ -44,6 +52,14 @@ module _ {W C a : ℕ} {to₀ : List ℕ} (p : Lent W C a (length to₀)) {to : 
 
       along-on : x + 2 < W → Along W C to₀ (set (set to (2 * e) r) (2 * e + 1) s) (e + 1) (x + 1) y
       along-on h = laying-on fits (lent-long p) l left first second (omega arith)
+
+      along-run : {u : List ℕ} {n : ℕ} → x + 2 < W → x + 1 + n + 1 < W → Ran (baseTable (flat W C)) (e + 1) n (set (set to (2 * e) r) (2 * e + 1) s) u
+          → Along W C to₀ u (e + (1 + n)) (x + (1 + n)) y
+      along-run {u} {n} h k ran =
+          let (z, g) = stands in
+          let i : e + (1 + n) ≡ e + 1 + n = omega arith in
+          let j : x + (1 + n) ≡ x + 1 + n = omega arith in
+          rw (i, j) (laying-run fits (lent-long p) (along-on h) (z .course) (omega arith) ran)
 
       along-over : W ≤ x + 2 → Along W C to₀ (set (set to (2 * e) r) (2 * e + 1) s) (e + 1) 0 (y + 1)
       along-over h = let (z, k) = stands in laying-over fits (lent-long p) l left first second (omega arith)
@@ -101,6 +117,21 @@ slice-write-to-2 c = simp length-set (omega arith)
 add-if1 : tie.Need-add-if1 Inv-loop μ-loop
 add-if1 c = search needs
 
+add-run-along : tie.Need-add-run-along Inv-loop μ-loop
+add-run-along c = search needs
+
+add-run-along-2 : tie.Need-add-run-along-2 Inv-loop μ-loop
+add-run-along-2 c = search needs
+
+run-along-requires : tie.Need-run-along-requires Inv-loop μ-loop
+run-along-requires c κs =
+    let q = c .before in
+    let t = q .before .before .before in
+    run-ready (t .before .before .before .pre) (t .before .loop .inv) (t .loop-test .taken) (q .before .before .after-right .result) (q .before .after-left .result) (q .if1 .taken)
+
+add-n : tie.Need-add-n Inv-loop μ-loop
+add-n c = search needs
+
 add-x : tie.Need-add-x Inv-loop μ-loop
 add-x c = search needs
 
@@ -112,9 +143,10 @@ loop-less c = search needs
 
 loop-again : tie.Need-loop-again Inv-loop μ-loop
 loop-again c =
-    let t = c .before .before .before in
-    along-on (t .before .before .before .pre) (t .before .loop .inv) (t .loop-test .taken)
-    (c .before .before .after-right .ensures .0) (c .before .after-left .ensures .0) (c .if1 .taken)
+    let q = c .before .before .before .before in
+    let t = q .before .before .before in
+    let ran = c .before .before .run-along .ensures in
+    along-run (t .before .before .before .pre) (t .before .loop .inv) (t .loop-test .taken) (q .before .before .after-right .ensures .0) (q .before .after-left .ensures .0) (q .if1 .taken) (ran .0) (ran .1)
 
 add-y : tie.Need-add-y Inv-loop μ-loop
 add-y c = search needs
@@ -157,6 +189,10 @@ lay-along-spec =
     mul-to-4
     slice-write-to-2
     add-if1
+    add-run-along
+    add-run-along-2
+    run-along-requires
+    add-n
     add-x
     add-e
     loop-less

@@ -10,8 +10,10 @@ use Rattle.slices.specs.Over.{over}
 use Rattle.grids.specs.Base.{successorOn, baseTable}
 use Rattle.grids.specs.Grid.{flat}
 use Rattle.plans.specs.Limits.{At, Lent}
+use Rattle.plans.specs.Rising.{Ran}
 use Rattle.plans.proofs.Base.{table-length, table-at, lent-long}
 use Rattle.plans.proofs.Entries.{Laying, laying-begins, laying-inside, laying-on, laying-over, laying-ends}
+use Rattle.plans.proofs.Rising.{laying-run}
 use Rattle.plans.proofs.laying.lay_upright.Statement.{statement}
 use Rattle.plans.proofs.laying.lay_upright.Tie as tie
 
@@ -35,6 +37,15 @@ module _ {W C a : ℕ} {to₀ : List ℕ} (p : Lent W C a (length to₀)) {to : 
     above : At W C x (y + 1) × (0 < y + 1)
     above = let (s, h) = stands in (record { wale = s .wale; narrow = s .narrow; course = h; low = s .low }, omega arith)
 
+    run-ready : (r s : ℕ) → x + 1 < W
+        → (At W C (x + 1) y × ((0 < x + 1) × (y + 1 < C)))
+        × ((e + 1 ≡ (W - 1) * C + (y * W + (x + 1))) × (2 * ((W - 1) * C + W * (C - 1)) ≤ length (set (set to (2 * e) r) (2 * e + 1) s)))
+    run-ready r s h =
+        let (b, k) = stands in (
+          (record { wale = h; narrow = b .narrow; course = b .course; low = b .low }, (omega arith, k)),
+          (omega (arith, l .place, p .along), simp length-set (omega (arith, l .size, p .room, p .along))),
+        )
+
     module _ {r s : ℕ} (even : r ≡ successorOn (flat W C) (2 * ((W - 1) * C + (y * W + x))))
         (odd : s ≡ successorOn (flat W C) (2 * ((W - 1) * C + ((y + 1 - 1) * W + x)) + 1)) where
       first : r ≡ getD (baseTable (flat W C)) (2 * e) 0
@@ -47,6 +58,14 @@ module _ {W C a : ℕ} {to₀ : List ℕ} (p : Lent W C a (length to₀)) {to : 
 
       upright-on : x + 1 < W → Upright W C a to₀ (set (set to (2 * e) r) (2 * e + 1) s) (e + 1) (x + 1) y
       upright-on h = laying-on fits (lent-long p) l more first second h
+
+      upright-run : {u : List ℕ} {n : ℕ} → x + 1 < W → x + 1 + n < W → Ran (baseTable (flat W C)) (e + 1) n (set (set to (2 * e) r) (2 * e + 1) s) u
+          → Upright W C a to₀ u (e + (1 + n)) (x + (1 + n)) y
+      upright-run {u} {n} h k ran =
+          let (z, g) = stands in
+          let i : e + (1 + n) ≡ e + 1 + n = omega arith in
+          let j : x + (1 + n) ≡ x + 1 + n = omega arith in
+          rw (i, j) (laying-run fits (lent-long p) (upright-on h) (omega arith) k ran)
 
       upright-over : W ≤ x + 1 → Upright W C a to₀ (set (set to (2 * e) r) (2 * e + 1) s) (e + 1) 0 (y + 1)
       upright-over h = let (z, k) = stands in laying-over fits (lent-long p) l more first second (omega (arith, z .wale))
@@ -112,6 +131,21 @@ slice-write-to-2 c = simp length-set (omega arith)
 add-if1 : tie.Need-add-if1 Inv-loop μ-loop
 add-if1 c = search needs
 
+add-run-upright : tie.Need-add-run-upright Inv-loop μ-loop
+add-run-upright c = search needs
+
+add-run-upright-2 : tie.Need-add-run-upright-2 Inv-loop μ-loop
+add-run-upright-2 c = search needs
+
+run-upright-requires : tie.Need-run-upright-requires Inv-loop μ-loop
+run-upright-requires c κs =
+    let q = c .before in
+    let t = q .before .before .before in
+    run-ready (t .before .before .before .pre .0) (t .before .loop .inv) (t .loop-test .taken) (q .before .before .after-up .result) (q .before .after-down .result) (q .if1 .taken)
+
+add-n : tie.Need-add-n Inv-loop μ-loop
+add-n c = search needs
+
 add-x : tie.Need-add-x Inv-loop μ-loop
 add-x c = search needs
 
@@ -123,9 +157,10 @@ loop-less c = search needs
 
 loop-again : tie.Need-loop-again Inv-loop μ-loop
 loop-again c =
-    let t = c .before .before .before in
-    upright-on (t .before .before .before .pre .0) (t .before .loop .inv) (t .loop-test .taken)
-    (c .before .before .after-up .ensures .0) (c .before .after-down .ensures .0) (c .if1 .taken)
+    let q = c .before .before .before .before in
+    let t = q .before .before .before in
+    let ran = c .before .before .run-upright .ensures in
+    upright-run (t .before .before .before .pre .0) (t .before .loop .inv) (t .loop-test .taken) (q .before .before .after-up .ensures .0) (q .before .after-down .ensures .0) (q .if1 .taken) (ran .0) (ran .1)
 
 add-y : tie.Need-add-y Inv-loop μ-loop
 add-y c = search needs
@@ -171,6 +206,10 @@ lay-upright-spec =
     mul-to-4
     slice-write-to-2
     add-if1
+    add-run-upright
+    add-run-upright-2
+    run-upright-requires
+    add-n
     add-x
     add-e
     loop-less
