@@ -1,9 +1,11 @@
-/* Measures the library beside (a) plain C, (b) the walking version and (c) CGAL: first whether they agree, then the times of each phase. */
+/* Measures the library beside (a) plain C, (b) the walking version and (c) CGAL: first whether they agree, then the times of each phase. The calls
+ * that begin from a plan have a table of their own (building.h). */
 #include <stdio.h>
 #include <stdlib.h>
 #include <string.h>
 
 #include "agree.h"
+#include "building.h"
 #include "cgal.h"
 #include "table.h"
 
@@ -130,17 +132,26 @@ static void measure_sizes(enum picture picture, bool random, int sides, struct f
 /* usage: bench COUNT, how many of the sizes 16, 32, 64 and 128 are measured. */
 int main(int words, char **word) {
     static struct figures figures[PICTURES * 2 * SIDES];
+    static struct built built[ALL_PICTURES * SIDES];
     int sides = words == 2 ? atoi(word[1]) : 0, count = 0;
     if (sides < 2 || sides > SIDES) {
         fputs("usage: bench COUNT, from 2 to 4 of the sizes 16, 32, 64, 128\n", stderr);
         return 2;
     }
     agree_refusals(versions, names, ROOMS);
+    building_agree();
+    for (int picture = 0; picture < ALL_PICTURES; picture++) building_measure(picture, sides, &built[picture * sides]);
     for (int picture = 0; picture < PICTURES; picture++)
         for (int random = 0; random < 2; random++, count += sides) measure_sizes(picture, random != 0, sides, &figures[count]);
-    puts("All agree: the library, (a) and (b) on states, tables, histories, counts, files and refusals, CGAL on darts, vertices, faces and successors.");
+    puts("All agree: the library, (a) and (b) on states, tables, histories, counts, files and refusals, CGAL on darts, vertices, faces and successors;");
+    puts("the library and (a) on what is built from a plan, which is the plan's table, and with areas what start and contract leave.");
     table_print(figures, count);
-    if (sides == SIDES) table_judge(figures, count);
-    else puts("What the table must show is judged at 128 cells square.");
+    building_print(built, sides);
+    if (sides == SIDES) {
+        table_judge(figures, count);
+        building_judge(built, sides);
+    } else {
+        puts("What the tables must show is judged at 128 cells square.");
+    }
     return 0;
 }

@@ -1,4 +1,5 @@
-/* The eight calls as the measured programs offer them: the library, (a) the plain version and (b) the walking version. */
+/* The calls as the measured programs offer them: the eight of the library, (a) the plain version and (b) the walking version; and the two that
+ * begin from a plan, of the library and (a). */
 #ifndef BENCH_CALLS_H
 #define BENCH_CALLS_H
 
@@ -32,5 +33,13 @@ struct calls {
 };
 
 extern const struct calls library, plain, walking;
+
+/* A call on a plan of so many wales and courses, one code a cell, and so many codes lent. */
+typedef uint32_t plan_call(struct lent *lent, uint32_t wales, uint32_t courses, const uint8_t *codes, size_t length, size_t *place);
+
+/* The base of a plan, and the base with its first kernel. */
+enum building { BASE, AREAS, BUILDINGS };
+
+extern plan_call *const library_builds[BUILDINGS], *const plain_builds[BUILDINGS];
 
 #endif

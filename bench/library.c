@@ -40,3 +40,13 @@ static uint32_t read(struct lent *lent, const uint8_t *bytes, size_t length, siz
 }
 
 const struct calls library = {start, contract, sweep, counts, undo, unfold, write, read};
+
+static uint32_t base(struct lent *lent, uint32_t wales, uint32_t courses, const uint8_t *codes, size_t length, size_t *place) {
+    return zm_plan(wales, courses, codes, length, STATE(lent), SLICES(lent), place);
+}
+
+static uint32_t areas(struct lent *lent, uint32_t wales, uint32_t courses, const uint8_t *codes, size_t length, size_t *place) {
+    return zm_plan_areas(wales, courses, codes, length, STATE(lent), SLICES(lent), place);
+}
+
+plan_call *const library_builds[BUILDINGS] = {base, areas};

@@ -4,22 +4,8 @@
 #include "plain_area.h"
 #include "text.h"
 
-/* Answers 1 and 2, which every call judges first. */
-static uint32_t fit(const struct lent *lent, uint32_t darts) {
-    if (darts == 0 || darts % 2 != 0 || darts > MOST_DARTS) return 1;
-    if (lent->table_length < darts || lent->history_length < darts / 2) return 2;
-    return lent->work_length < 4 * (size_t)darts ? 2 : 0;
-}
-
-/* The map and so many history numbers, from the work area into what is lent. */
-static void store(struct area area, struct lent *lent, uint32_t operations) {
-    memcpy(lent->table, area.map, area.darts * sizeof *area.map);
-    memcpy(lent->history, area.history, operations * sizeof *area.history);
-    lent->state.operations = operations;
-}
-
 static uint32_t start(struct lent *lent, uint32_t darts, size_t *place) {
-    uint32_t number = fit(lent, darts), i = 0;
+    uint32_t number = area_fit(lent, darts), i = 0;
     *place = 0;
     memset(&lent->state, 0, sizeof lent->state);
     if (number != 0) return number;
@@ -39,26 +25,16 @@ static uint32_t start(struct lent *lent, uint32_t darts, size_t *place) {
     return 0;
 }
 
-/* One level more by a run that has gone well, or the answer that stopped it. */
-static uint32_t level(struct area area, struct lent *lent, struct ran ran, size_t *place) {
-    *place = ran.place;
-    if (ran.number != 0) return ran.number;
-    if (ran.operations == lent->state.operations) return 5;
-    store(area, lent, ran.operations);
-    lent->state.ends[lent->state.levels++] = ran.operations;
-    return 0;
-}
-
 static uint32_t contract_inside(struct area area, struct lent *lent, const uint32_t *kernel, size_t length, size_t *place) {
     if (!area_check(area, lent, CONTRACT)) return 4;
     if (lent->state.levels >= MOST_LEVELS) return 6;
-    return level(area, lent, area_run(area, lent->state.operations, kernel, length), place);
+    return area_level(area, lent, area_run(area, lent->state.operations, kernel, length), place);
 }
 
 static uint32_t sweep_inside(struct area area, struct lent *lent, size_t *place) {
     if (!area_check(area, lent, REMOVE)) return 4;
     if (lent->state.levels >= MOST_LEVELS) return 6;
-    return level(area, lent, area_sweep(area, lent->state.operations), place);
+    return area_level(area, lent, area_sweep(area, lent->state.operations), place);
 }
 
 static uint32_t counts_inside(struct area area, struct lent *lent, uint32_t counts[4]) {
@@ -80,7 +56,7 @@ static void lower(struct area area, struct lent *lent, uint32_t to) {
         state->ends[--state->levels] = 0;
         operations = below;
     }
-    store(area, lent, operations);
+    area_store(area, lent, operations);
 }
 
 /* Unfold to a level; for undo, which has no level given, to the one below the top. */
@@ -97,7 +73,7 @@ static uint32_t unfold_inside(struct area area, struct lent *lent, const uint32_
 
 /* Each call: answers 1 and 2, what it does in the work area, and the work area cleared. */
 #define CALL(inside)                                       \
-    uint32_t number = fit(lent, lent->state.darts);        \
+    uint32_t number = area_fit(lent, lent->state.darts);   \
     *place = 0;                                            \
     if (number != 0) return number;                        \
     struct area area = area_over(lent, lent->state.darts); \
@@ -160,7 +136,7 @@ static uint32_t read(struct lent *lent, const uint8_t *bytes, size_t length, siz
     struct reader reader = {bytes, length, 0, 0};
     uint32_t darts = 0, number = text_opening(&reader, &darts, place);
     memset(&lent->state, 0, sizeof lent->state);
-    if (number == 0) number = fit(lent, darts);
+    if (number == 0) number = area_fit(lent, darts);
     if (number != 0) return number;
     struct area area = area_over(lent, darts);
     number = read_inside(&reader, area, lent, place);

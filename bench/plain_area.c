@@ -3,6 +3,13 @@
 
 #include "plain_area.h"
 
+/* Answers 1 and 2, which every call judges first. */
+uint32_t area_fit(const struct lent *lent, uint32_t darts) {
+    if (darts == 0 || darts % 2 != 0 || darts > MOST_DARTS) return 1;
+    if (lent->table_length < darts || lent->history_length < darts / 2) return 2;
+    return lent->work_length < 4 * (size_t)darts ? 2 : 0;
+}
+
 /* The four parts of the lent work area. */
 struct area area_over(const struct lent *lent, uint32_t darts) {
     uint32_t *work = lent->work;
@@ -74,7 +81,7 @@ bool area_take_back(struct area area, uint32_t operations, uint32_t count) {
 }
 
 /* The answer's number for an edge at its turn; the forest tells vertices for contractions, faces for removals. */
-static uint32_t judge(struct area area, enum kind kind, uint32_t edge) {
+static inline uint32_t judge(struct area area, enum kind kind, uint32_t edge) {
     if (edge >= area.darts / 2) return 7;
     uint32_t p = 2 * edge, q = p + 1;
     if (!survives(area, p)) return 8;
@@ -85,7 +92,7 @@ static uint32_t judge(struct area area, enum kind kind, uint32_t edge) {
 }
 
 /* The operation on an edge, and its two darts joined in the forest. */
-static void operate(struct area area, uint32_t operations, enum kind kind, uint32_t edge) {
+static inline void operate(struct area area, uint32_t operations, enum kind kind, uint32_t edge) {
     uint32_t p = 2 * edge, q = p + 1;
     if (kind == REMOVE ? area.map[q] == p : area.map[p] == p) {
         p = q;
@@ -114,6 +121,13 @@ struct ran area_run(struct area area, uint32_t operations, const uint32_t *kerne
     return (struct ran){0, operations + (uint32_t)length, 0};
 }
 
+/* The edge contracted after so many operations, unless it is refused at its turn; whether it was contracted. */
+bool area_contract(struct area area, uint32_t operations, uint32_t edge) {
+    if (judge(area, CONTRACT, edge) != 0) return false;
+    operate(area, operations, CONTRACT, edge);
+    return true;
+}
+
 /* Whether the sweep takes an edge: a surviving empty loop that is no whole piece. */
 static bool takes(struct area area, uint32_t edge) {
     uint32_t p = 2 * edge, q = p + 1;
@@ -130,4 +144,21 @@ struct ran area_sweep(struct area area, uint32_t operations) {
         operate(area, m++, REMOVE, edge);
     }
     return (struct ran){0, m, 0};
+}
+
+/* The map and so many history numbers, from the work area into what is lent. */
+void area_store(struct area area, struct lent *lent, uint32_t operations) {
+    memcpy(lent->table, area.map, area.darts * sizeof *area.map);
+    memcpy(lent->history, area.history, operations * sizeof *area.history);
+    lent->state.operations = operations;
+}
+
+/* One level more by a run that has gone well, or the answer that stopped it. */
+uint32_t area_level(struct area area, struct lent *lent, struct ran ran, size_t *place) {
+    *place = ran.place;
+    if (ran.number != 0) return ran.number;
+    if (ran.operations == lent->state.operations) return 5;
+    area_store(area, lent, ran.operations);
+    lent->state.ends[lent->state.levels++] = ran.operations;
+    return 0;
 }

@@ -4,7 +4,7 @@
 #include "plain_area.h"
 
 /* One tree for each face or vertex of the survivors, with the lowest dart as root. */
-static void label(struct area area, enum kind kind) {
+void area_label(struct area area, enum kind kind) {
     uint32_t flip = kind == REMOVE;
     for (uint32_t x = 0; x < area.darts; x++) area.forest[x] = x;
     for (uint32_t i = 0; i < area.darts; i++) {
@@ -16,14 +16,14 @@ static void label(struct area area, enum kind kind) {
 /* The number of faces or vertices. */
 uint32_t area_count(struct area area, enum kind kind) {
     uint32_t count = 0;
-    label(area, kind);
+    area_label(area, kind);
     for (uint32_t i = 0; i < area.darts; i++) count += survives(area, i) && area.forest[i] == i;
     return count;
 }
 
 /* Tests 16 and 17: the darts of each operation of a kind are joined, first to last; no where they were together. */
 static bool replay(struct area area, uint32_t operations, enum kind kind) {
-    label(area, kind);
+    area_label(area, kind);
     for (uint32_t i = 0; i < operations; i++) {
         uint32_t h = area.history[i];
         if (h % 2 == kind && !join(area.forest, h / 2, partner(h / 2))) return false;

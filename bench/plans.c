@@ -3,14 +3,16 @@
 
 #include <stdlib.h>
 
-const char *const picture_names[PICTURES] = {"three codes", "one code"};
+const char *const picture_names[ALL_PICTURES] = {"three codes", "one code", "two codes"};
 
 enum direction { RIGHT, UP, LEFT, DOWN, DIRECTIONS };
 
-/* The code of a cell: a brief with seat 0, waist band 1 above, and leg bands 2 in the lower corners. */
+/* The code of a cell. Three codes: a brief with seat 0, waist band 1 above, and leg bands 2 in the lower corners. Two codes: either at random. */
 static uint32_t code(enum picture picture, uint32_t side, uint32_t x, uint32_t y) {
     uint32_t leg = 3 * side / 8, nearer = x < side - 1 - x ? x : side - 1 - x;
+    uint64_t seed = y * side + x;
     if (picture == ONE_CODE) return 0;
+    if (picture == TWO_CODES) return plan_random(&seed, 2);
     if (y >= side - side / 8) return 1;
     return nearer + y < leg ? 2 : 0;
 }
@@ -101,4 +103,8 @@ struct plan plan_make(enum picture picture, bool random, uint32_t side) {
 void plan_free(struct plan *plan) {
     free(plan->table);
     free(plan->kernel);
+}
+
+void plan_codes(enum picture picture, uint32_t side, uint8_t *codes) {
+    for (uint32_t c = 0; c < side * side; c++) codes[c] = (uint8_t)code(picture, side, c % side, c / side);
 }

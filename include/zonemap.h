@@ -3,7 +3,7 @@
  * Link with target/staticlib/libzonemap_c.a, which `rt staticlib zonemap_c` writes for x86-64 Linux; it asks nothing else but
  * memcpy and memset. A Rust program links it too: it declares these functions in an `extern "C"` block, a slice as its
  * pointer and its length. Each function is proved to be the call itself: what it leaves is one function of
- * crates/darts/specs/Calls.antt, for every input, refusals too.
+ * crates/darts/specs/Calls.antt, or of crates/grids/specs/Plans.antt for the two on a plan, for every input, refusals too.
  *
  * What a caller lends
  *
@@ -22,8 +22,9 @@
  *
  *   It returns the answer's number and writes the answer's place through `place`.
  *   Accepted: state, table and history are those after the call.
- *   Refused: table and history stay as they were; so does the state, but zm_start and zm_read, which are given none, write 67 zeros.
- *   The first 4D numbers of work are zero after the call, unless the answer is 1 or 2, which leave work alone; zm_write
+ *   Refused: table and history stay as they were; so does the state, but zm_start, zm_plan, zm_plan_areas and zm_read, which
+ *   are given none, write 67 zeros.
+ *   The first 4D numbers of work are zero after the call, unless the answer is 1, 2 or 15, which leave work alone; zm_write
  *   zeroes them too where it answers 2 for its output.
  *   Numbers of a table past D, of a history past the larger of the operation counts before and after the call, and of a
  *   work area past 4D are never touched.
@@ -32,7 +33,7 @@
  *   operation count after the call; and at every call but zm_counts and zm_write, refused too, the state's 67.
  *
  * Order of the answers: 1, 2, then 3 or 4, then 12, 6, 5, then the kernel's first failing edge, for which 7, 8, 9 or 10, 11.
- * zm_write judges its output after 4. zm_read judges in the order of the file's bytes.
+ * zm_plan and zm_plan_areas judge 15 first. zm_write judges its output after 4. zm_read judges in the order of the file's bytes.
  */
 #ifndef ZONEMAP_H
 #define ZONEMAP_H
@@ -54,7 +55,7 @@ enum {
     ZM_TOO_SHORT = 2,        /* a lent slice is too short. Place: for zm_write's output, the bytes needed */
     ZM_NO_PERMUTATION = 3,   /* the table is no permutation. Place: the lowest dart whose successor is D or more, or repeats a lower dart's */
     ZM_NO_PYRAMID = 4,       /* the state, or what a file holds, is no pyramid */
-    ZM_EMPTY_KERNEL = 5,     /* the kernel is empty, or the sweep takes no edge */
+    ZM_EMPTY_KERNEL = 5,     /* the kernel is empty, or the sweep or a plan's first kernel takes no edge */
     ZM_TOO_MANY_LEVELS = 6,  /* 64 levels are in use, or a file states more */
     ZM_NO_EDGE = 7,          /* the edge number is D/2 or more. Place: where in the kernel, from 0; so too for 8 to 11 */
     ZM_GONE_ALREADY = 8,     /* the edge is gone already */
@@ -63,7 +64,8 @@ enum {
     ZM_WHOLE_PIECE = 11,     /* the edge is a whole piece */
     ZM_NO_LEVEL = 12,        /* undo at the base, or a level above the top. Place: the top level */
     ZM_NO_FILE = 13,         /* the bytes leave the file's form. Place: the first wrong byte, or the length where the file ends early */
-    ZM_NO_FLAG = 14          /* byte nine is neither 0 nor 1. Place: 8 */
+    ZM_NO_FLAG = 14,         /* byte nine is neither 0 nor 1. Place: 8 */
+    ZM_NO_PLAN_SIZE = 15     /* the plan is outside 1 to 128 wales by 1 to 128 courses, or one cell alone */
 };
 
 /* Starts from the table's first D numbers, D = darts: a base, where they are a permutation of all darts.
@@ -75,6 +77,54 @@ uint32_t zm_start(uint32_t darts, uint32_t state[ZM_STATE],
                   uint32_t *history, size_t history_length,
                   uint32_t *work, size_t work_length,
                   size_t *place);
+
+/* The base of a stitch plan of so many wales (cells side by side) and courses (cells one above the other), 1 to 128 each.
+ *
+ * The plan has one code a cell, a byte, lowest course first and each course from the left: the cell in wale x of course y,
+ * both from 0, is plan[y * wales + x]. An edge joins each cell to its right and to its upper neighbour. Edges along the
+ * courses come first, course by course, then the upright ones by their lower cells, in the plan's order; the even dart is at
+ * the left or lower cell. Round a cell the successor goes right, up, left, down, skipping what is missing.
+ * With W wales and C courses there are D = 2((W - 1)C + W(C - 1)) darts, at most 65,024.
+ *
+ * Three wales by two courses, plan "aab" "abb", lowest course first; the edges' numbers stand between the cells:
+ *
+ *     a -2- b -3- b      course 1      round the lower left cell    dart 0 (right), 8 (up)
+ *     |     |     |                    round the lower middle cell  dart 2 (right), 10 (up), 1 (left)
+ *     4     5     6
+ *     |     |     |                    table  8 2 10 12 9 11 5 13 0 4 1 6 3 7
+ *     a -0- a -1- b      course 0
+ *
+ * Answers 0, 2, 15. The codes are not looked at, yet the plan must have one for each cell.
+ * Writes state, a base of D darts with no level, and the table's first D numbers where it is accepted; a state of 67 zeros
+ * where it is refused. The history is not written.
+ * Lengths: plan W * C bytes, table D, history D/2, work 4D; a longer plan is not looked at past its cells. What stood in state
+ * and table is not read. */
+uint32_t zm_plan(uint32_t wales, uint32_t courses,
+                 const uint8_t *plan, size_t plan_length, uint32_t state[ZM_STATE],
+                 uint32_t *table, size_t table_length,
+                 uint32_t *history, size_t history_length,
+                 uint32_t *work, size_t work_length,
+                 size_t *place);
+
+/* The same base, and at once a first kernel, which contracts the areas of one code: the edges by rising number, each whose two
+ * cells have the same code, unless it would be refused at its turn with 9 or 11. The vertices are then exactly the connected
+ * areas of one code, save in a plan one cell wide or one cell high with a single code, where one edge stays.
+ * zm_undo leaves the base.
+ *
+ * Of the plan above it contracts the edges 0, 3, 4 and 6, so that two vertices are left, joined by 1, 2 and 5:
+ *
+ *     table  8 2 10 5 2 11 5 13 2 4 4 3 3 5      history  1 13 17 25      state  14 4 1, ends 4 0 0 ..
+ *
+ * Answers 0, 2, 5, 15; 5 where no edge is taken: no two neighbours have one code, or two cells with one code are the whole plan.
+ * Writes state, of one level, the table's first D numbers and one number of the history for each contraction where it is
+ * accepted; a state of 67 zeros where it is refused.
+ * Lengths: as for zm_plan. What stood in state, table and history is not read. */
+uint32_t zm_plan_areas(uint32_t wales, uint32_t courses,
+                       const uint8_t *plan, size_t plan_length, uint32_t state[ZM_STATE],
+                       uint32_t *table, size_t table_length,
+                       uint32_t *history, size_t history_length,
+                       uint32_t *work, size_t work_length,
+                       size_t *place);
 
 /* One level more: the kernel's edges are contracted in the listed order, each judged on the map as it stands at its turn.
  * Answers 0, 1, 2, 4, 5, 6, 7, 8, 9, 11; for 7 to 11 the place is the edge's place in the kernel.

@@ -47,7 +47,7 @@ module _ (n m p q : ℕ) (t u h g w v : List ℕ) where
   same : answered n p ≡ answered m q → t ≡ u → h ≡ g → w ≡ v → Same
   same a x y z = record { number = ap (λ (b : Answer). b .number) a; place = ap (λ (b : Answer). b .place) a; table = x; history = y; work = z }
 
-  -- NO TWO OUTCOMES OF START, CONTRACT, REMOVE, SWEEP, UNDO, UNFOLD OR READ SATISFY ITS STATEMENT
+  -- NO TWO OUTCOMES OF START, PLAN, PLAN_AREAS, CONTRACT, REMOVE, SWEEP, UNDO, UNFOLD OR READ SATISFY ITS STATEMENT
   pub left-one : (a b : List ℕ) → length a ≡ 67 → length b ≡ 67 → (z : After) → leftIn n p a t h w ≡ z → leftIn m q b u g v ≡ z → Same × (a ≡ b)
   left-one a b k l z d e =
       let c : leftIn n p a t h w ≡ leftIn m q b u g v = d ∙ sym e in (
