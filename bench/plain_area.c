@@ -80,18 +80,18 @@ bool area_take_back(struct area area, uint32_t operations, uint32_t count) {
     return true;
 }
 
-/* The answer's number for an edge at its turn; the forest tells vertices for contractions, faces for removals. */
+/* The answer's number for an edge at its turn; the forest tells vertices for contractions, faces for removals. Where it is 0, the edge's two darts are
+ * joined. */
 static inline uint32_t judge(struct area area, enum kind kind, uint32_t edge) {
     if (edge >= area.darts / 2) return 7;
-    uint32_t p = 2 * edge, q = p + 1;
+    uint32_t p = 2 * edge, q = p + 1, shared = kind == CONTRACT ? 9 : 10;
     if (!survives(area, p)) return 8;
-    if (find(area.forest, p) == find(area.forest, q)) return kind == CONTRACT ? 9 : 10;
     uint32_t r = area.map[p], s = area.map[q];
-    if ((r == p && s == q) || (r == q && s == p)) return 11;
-    return 0;
+    if ((r == p && s == q) || (r == q && s == p)) return find(area.forest, p) == find(area.forest, q) ? shared : 11;
+    return join(area.forest, p, q) ? 0 : shared;
 }
 
-/* The operation on an edge, and its two darts joined in the forest. */
+/* The operation on an edge. */
 static inline void operate(struct area area, uint32_t operations, enum kind kind, uint32_t edge) {
     uint32_t p = 2 * edge, q = p + 1;
     if (kind == REMOVE ? area.map[q] == p : area.map[p] == p) {
@@ -108,7 +108,6 @@ static inline void operate(struct area area, uint32_t operations, enum kind kind
     }
     area.before[p] = area.before[q] = area.darts;
     area.history[operations] = 2 * p + kind;
-    join(area.forest, p, q);
 }
 
 /* A kernel of contractions after so many operations, each edge judged at its turn. */
@@ -139,8 +138,7 @@ struct ran area_sweep(struct area area, uint32_t operations) {
     uint32_t m = operations;
     for (uint32_t edge = 0; edge < area.darts / 2; edge++) {
         if (!takes(area, edge)) continue;
-        if (find(area.forest, 2 * edge) == find(area.forest, 2 * edge + 1))
-            return (struct ran){10, operations, m - operations};
+        if (!join(area.forest, 2 * edge, 2 * edge + 1)) return (struct ran){10, operations, m - operations};
         operate(area, m++, REMOVE, edge);
     }
     return (struct ran){0, m, 0};

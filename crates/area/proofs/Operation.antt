@@ -6,10 +6,11 @@
 --   noted-same       == where the edge is marked, and the history gets its number
 --   lead-bounds      == what is in bounds of the edge is in bounds of the dart that plays p and its partner
 --   operated-same    == the whole operation
+--   outside-bounds, operated-outside == where only the forest's part differs, the same is in bounds, and the same operation leaves the same
 use mathlib.Core.Bool.{Bool, true, false}
 use mathlib.Core.List.{List}
 use mathlib.Core.Logic.{_⊎_, inl, inr, ⊎-elim}
-use mathlib.Core.Path.{_≡_, sym, _∙_, subst}
+use mathlib.Core.Path.{_≡_, refl, sym, _∙_, subst}
 use Prim.Native.Nat.{ℕ, _+_, _*_, _≤_, _<_}
 use native.Mathlib.Omega.{arith}
 use lib.Dec.{eqb}
@@ -17,14 +18,15 @@ use lib.ListN.{length, set, length-set}
 use Rattle.permutations.specs.Partner.{partner, partner-first, partner-partner}
 use Rattle.darts.specs.Choose.{if_then_else_}
 use Rattle.darts.specs.Map.{successor}
-use Rattle.darts.specs.Operation.{Kind, kindOf, lead}
+use Rattle.darts.specs.Operation.{Kind, contraction, removal, kindOf, turned as turnsRound, lead}
 use Rattle.darts.specs.Tests.{near, far}
 use Rattle.laws.proofs.bridge.AnyKind.{near-far}
 use Rattle.laws.proofs.bridge.Lead.{lead-end}
 use Rattle.area.specs.Area.{Room, prev, forestIn, bound}
 use Rattle.area.specs.Operate.{led, noted, operated}
 use Rattle.area.specs.Edge.{Bounds}
-use Rattle.area.proofs.Outside.{set-forest}
+use Rattle.area.specs.Trees.{Outside}
+use Rattle.area.proofs.Outside.{set-forest, outside-front, set-front, set-rest}
 
 pub record Same (D : ℕ) (w w′ : List ℕ) : Type 0 where
   pub size : length w′ ≡ length w
@@ -93,3 +95,59 @@ operated-same {D} {w} room n k e b =
     let l = lead-bounds D (kindOf k) w e b in
     let s = led-same room (kindOf k) p l in
     same-trans s (noted-same (same-room s room) n k p (l .first) (l .second))
+
+-- ---- the same operation where only the forest's part differs
+
+module _ {D : ℕ} {w w′ : List ℕ} (o : Outside D w w′) where
+  pub outside-bounds : {p q : ℕ} → Bounds D w p q → Bounds D w′ p q
+  outside-bounds {p} {q} b =
+      record {
+        first = b .first;
+        second = b .second;
+        first-next = rw (outside-front o p (omega (arith, b .first))) (b .first-next);
+        second-next = rw (outside-front o q (omega (arith, b .second))) (b .second-next);
+        first-before = rw (outside-front o (D + p) (omega (arith, b .first))) (b .first-before);
+        second-before = rw (outside-front o (D + q) (omega (arith, b .second))) (b .second-before);
+      }
+
+  bound-outside : (a x : ℕ) → a < D → x < D → Outside D (bound D w a x) (bound D w′ a x)
+  unfolding bound
+  bound-outside a x h l = set-front (set-front o a x (omega arith)) (D + x) a (omega arith)
+
+bypass-outside : {D : ℕ} {w w′ : List ℕ} → Outside D w w′ → (b : Bool) (a c x y : ℕ) → a < D → c < D → x < D → y < D
+    → Outside D (if b then bound D w a y else bound D (bound D w a x) c y) (if b then bound D w′ a y else bound D (bound D w′ a x) c y)
+bypass-outside o true a c x y ha hc hx hy = bound-outside o a y ha hy
+bypass-outside o false a c x y ha hc hx hy = bound-outside (bound-outside o a x ha hx) c y hc hy
+
+module _ {D : ℕ} {w w′ : List ℕ} (o : Outside D w w′) where
+  led-outside : (k : Kind) (p : ℕ) → Bounds D w p (partner p) → Outside D (led D w k p) (led D w′ k p)
+  unfolding led successor prev
+  led-outside k p b =
+      let l = near-far (λ x. x < D) k (b .first-next) (b .second-next) in
+      rw (
+        outside-front o p (omega (arith, b .first)),
+        outside-front o (partner p) (omega (arith, b .second)),
+        outside-front o (D + p) (omega (arith, b .first)),
+        outside-front o (D + partner p) (omega (arith, b .second)),
+      )
+      (bypass-outside o (eqb (near k (successor w p) (successor w (partner p))) (partner p)) (prev D w p) (prev D w (partner p))
+      (near k (successor w p) (successor w (partner p))) (far k (successor w p) (successor w (partner p)))
+      (b .first-before) (b .second-before) (l .0) (l .1))
+
+  noted-outside : (n k p : ℕ) → p < D → partner p < D → Outside D (noted D n w k p) (noted D n w′ k p)
+  unfolding noted
+  noted-outside n k p h l = set-rest (set-front (set-front o (D + p) D (omega arith)) (D + partner p) D (omega arith)) n (2 * p + k)
+
+  lead-outside : (k : Kind) (e : ℕ) → Bounds D w (2 * e) (2 * e + 1) → lead k w′ e ≡ lead k w e
+  unfolding lead turnsRound successor
+  lead-outside contraction e b = rw (outside-front o (2 * e) (omega (arith, b .first))) refl
+  lead-outside removal e b = rw (outside-front o (2 * e + 1) (omega (arith, b .second))) refl
+
+-- THE SAME OPERATION ON BOTH LEAVES THEM ALIKE BUT FOR THE FOREST'S PART
+pub operated-outside : {D : ℕ} {w w′ : List ℕ} → Outside D w w′ → (n k e : ℕ) → Bounds D w (2 * e) (2 * e + 1)
+    → Outside D (operated D n w k e) (operated D n w′ k e)
+unfolding operated
+operated-outside {D} {w} {w′} o n k e b =
+    let p = lead (kindOf k) w e in
+    let l = lead-bounds D (kindOf k) w e b in
+    rw (lead-outside o (kindOf k) e b) (noted-outside (led-outside o (kindOf k) p l) n k p (l .first) (l .second))

@@ -11,13 +11,15 @@
 --   forest-at       == the number at x in the forest's part
 --   set-forest      == a store outside of the forest's part does not change it
 --   set-outside     == a store in the forest's part changes nothing else
+--   set-front, set-rest == the same store before the forest's part, or after it, in both
 use mathlib.Core.Logic.{_⊎_, inl, inr}
-use mathlib.Core.List.{List}
+use mathlib.Core.List.{List, [], _∷_}
 use mathlib.Core.Path.{_≡_, refl, sym, ap, _∙_}
-use Prim.Native.Nat.{ℕ, _+_, _-_, _*_, _/_, _≤_, _<_}
+use Prim.Native.Nat.{ℕ, zero, suc, _+_, _-_, _*_, _/_, _≤_, _<_}
+use native.Mathlib.Nat.{zero-add, suc-add}
 use native.Mathlib.Omega.{arith}
 use lib.Dec.{ltb}
-use lib.ListN.{length, getD, set, length-set}
+use lib.ListN.{length, getD, set, take, drop, length-set}
 use lib.Seq.{getD-take, getD-drop, ext-getD, getD-set-other, take-set-le, drop-set-lt}
 use Rattle.permutations.specs.Partner.{partner, partner-below}
 use Rattle.darts.specs.Map.{successor}
@@ -83,3 +85,31 @@ set-outside D w x v h =
       front = take-set-le (2 * D) w (2 * D + x) v (omega arith);
       rest = drop-set-lt (3 * D) w (2 * D + x) v (omega arith);
     }
+
+take-set-lt : (n : ℕ) (l : List ℕ) (i v : ℕ) → i < n → take n (set l i v) ≡ set (take n l) i v
+take-set-lt zero l i v h = absurd (omega arith)
+take-set-lt (suc n) [] i v h = refl
+take-set-lt (suc n) (x ∷ l) zero v h = refl
+take-set-lt (suc n) (x ∷ l) (suc i) v h = ap (λ r. x ∷ r) (take-set-lt n l i v (omega arith))
+
+drop-set-le : (n : ℕ) (l : List ℕ) (i v : ℕ) → drop n (set l (n + i) v) ≡ set (drop n l) i v
+drop-set-le zero l i v = rw (zero-add i) refl
+drop-set-le (suc n) [] i v = refl
+drop-set-le (suc n) (x ∷ l) i v = rw (suc-add n i) (drop-set-le n l i v)
+
+module _ {D : ℕ} {w w′ : List ℕ} (o : Outside D w w′) where
+  pub set-front : (i v : ℕ) → i < 2 * D → Outside D (set w i v) (set w′ i v)
+  set-front i v h =
+      record {
+        size = length-set w′ i v ∙ o .size ∙ sym (length-set w i v);
+        front = take-set-lt (2 * D) w′ i v h ∙ ap (λ l. set l i v) (o .front) ∙ sym (take-set-lt (2 * D) w i v h);
+        rest = drop-set-lt (3 * D) w′ i v (omega arith) ∙ o .rest ∙ sym (drop-set-lt (3 * D) w i v (omega arith));
+      }
+
+  pub set-rest : (i v : ℕ) → Outside D (set w (3 * D + i) v) (set w′ (3 * D + i) v)
+  set-rest i v =
+      record {
+        size = length-set w′ (3 * D + i) v ∙ o .size ∙ sym (length-set w (3 * D + i) v);
+        front = take-set-le (2 * D) w′ (3 * D + i) v (omega arith) ∙ o .front ∙ sym (take-set-le (2 * D) w (3 * D + i) v (omega arith));
+        rest = drop-set-le (3 * D) w′ i v ∙ ap (λ l. set l i v) (o .rest) ∙ sym (drop-set-le (3 * D) w i v);
+      }

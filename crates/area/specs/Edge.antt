@@ -1,9 +1,9 @@
 -- The operation on an edge, judged and done step by step. p and q are the edge's darts.
 --   Says n i a              == the answer a has the number n and, unless it is done, the place i
---   Judged D k e i w w′ r   == r is the answer for edge e at place i, and the forest's roots are kept
+--   Judged D k e i w w′ r   == r is the answer for edge e at place i; where it is done the edge's two darts are joined, and else the roots are kept
 --   Bounds D w p q          == p and q are darts, and so are their successors and the darts before them
 --   bypassed D w a b q x y  == a leads on to x and b to y; where x is q, a leads on to y and that is all
---   Did D n k e w w′        == the operation on edge e is done, and its two darts are joined in the forest's part
+use mathlib.Core.Bool.{true}
 use mathlib.Core.List.{List}
 use mathlib.Core.Logic.{_≢_}
 use mathlib.Core.Path.{_≡_}
@@ -13,18 +13,18 @@ use lib.ListN.{getD}
 use Rattle.darts.specs.Choose.{if_then_else_}
 use Rattle.darts.specs.Cases.{answerOf}
 use Rattle.darts.specs.declared.Answer.{Answer}
-use Rattle.forest.specs.Forest.{Falls}
-use Rattle.area.specs.Area.{forestIn, bound}
-use Rattle.area.specs.Operate.{judged, operated}
-use Rattle.area.specs.Trees.{Outside, rooted, Kept, merged}
+use Rattle.area.specs.Area.{bound}
+use Rattle.area.specs.Operate.{judged}
+use Rattle.area.specs.Trees.{rooted, Kept, Joined}
 
 pub record Says (n i : ℕ) (a : Answer) : Type 0 where
   pub number : answerOf a .number ≡ n
   pub place : n ≢ 0 → answerOf a .place ≡ i
 
 pub record Judged (D k e i : ℕ) (w w′ : List ℕ) (r : Answer) : Type 0 where
-  pub kept : Kept D w w′
   pub answer : Says (judged D w (rooted D w) k e) i r
+  pub refused : answerOf r .number ≢ 0 → Kept D w w′
+  pub done : answerOf r .number ≡ 0 → Joined D w w′ (2 * e) (2 * e + 1) true
 
 pub record Bounds (D : ℕ) (w : List ℕ) (p q : ℕ) : Type 0 where
   pub first : p < D
@@ -36,8 +36,3 @@ pub record Bounds (D : ℕ) (w : List ℕ) (p q : ℕ) : Type 0 where
 
 unfoldable pub bypassed : ℕ → List ℕ → ℕ → ℕ → ℕ → ℕ → ℕ → List ℕ
 bypassed D w a b q x y = if eqb x q then bound D w a y else bound D (bound D w a x) b y
-
-pub record Did (D n k e : ℕ) (w w′ : List ℕ) : Type 0 where
-  pub outside : Outside D (operated D n w k e) w′
-  pub falls : Falls (forestIn D w′)
-  pub roots : rooted D w′ ≡ merged (rooted D w) (2 * e) (2 * e + 1)

@@ -6,14 +6,14 @@ use crate::trees::together;
 use darts::Answer;
 use slices::at;
 ghost use mathlib.Core.Path.{_≡_};
-ghost use Prim.Native.Nat.{_+_, _*_, _/_, _<_};
+ghost use Prim.Native.Nat.{_+_, _-_, _*_, _/_, _<_};
 ghost use lib.ListN.{length};
 ghost use Rattle.permutations.specs.Partner.{partner};
 ghost use Rattle.darts.specs.Operation.{kindOf, wholeEdge, lead as leadDart};
 ghost use Rattle.forest.specs.Forest.{Falls};
 ghost use Rattle.area.specs.Area.{Room, forestIn};
 ghost use Rattle.area.specs.Operate.{takesIn, led, noted, operated};
-ghost use Rattle.area.specs.Edge.{Judged, Bounds, bypassed, Did};
+ghost use Rattle.area.specs.Edge.{Says, Judged, Bounds, bypassed};
 
 // Whether edge e is a whole piece.
 fn whole(work: &[u32], e: usize) -> bool
@@ -52,7 +52,19 @@ pub fn takes(work: &[u32], d: usize, e: usize) -> bool
     s == p
 }
 
-// The answer for edge e at its turn, the one at place i of a kernel: the forest tells vertices where k is 1, and faces where k is 0.
+// The answer for an edge at place i with one vertex at both ends, or one face on both sides.
+fn shared(k: usize, i: usize) -> Answer
+    requires { ⌜ k < 2 ⌝ }
+    ensures { λ r. ⌜ Says (10 - k) i r ⌝ }
+{
+    if k == 0 {
+        return Answer::OneFace(i);
+    }
+    Answer::OneVertex(i)
+}
+
+// The answer for edge e at its turn, the one at place i of a kernel: the forest tells vertices where k is 1, and faces where k is 0. Where it is
+// done, the edge's two darts are joined, so that the forest tells vertices or faces as they are once the edge is gone.
 pub fn judge(work: &mut [u32], d: usize, k: usize, e: usize, i: usize) -> Answer
     requires { ⌜ Room d (now work) ⌝ }
     requires { ⌜ Falls (forestIn d (now work)) ⌝ }
@@ -66,16 +78,16 @@ pub fn judge(work: &mut [u32], d: usize, k: usize, e: usize, i: usize) -> Answer
     if d <= at(work, d + p) {
         return Answer::GoneAlready(i);
     }
-    if together(work, d, p, p + 1) {
-        if k == 0 {
-            return Answer::OneFace(i);
-        }
-        return Answer::OneVertex(i);
-    }
     if whole(work, e) {
+        if together(work, d, p, p + 1) {
+            return shared(k, i);
+        }
         return Answer::WholePiece(i);
     }
-    Answer::Done(0)
+    if join(work, d, p, p + 1) {
+        return Answer::Done(0);
+    }
+    shared(k, i)
 }
 
 // The dart that plays p: the edge's first dart, or its second where the operation turns round.
@@ -136,7 +148,7 @@ fn note(work: &mut [u32], d: usize, n: usize, k: usize, p: usize, q: usize)
 }
 
 // The operation on edge e, the one of count n: a removal where k is 0, a contraction where k is 1.
-fn operate(work: &mut [u32], d: usize, n: usize, k: usize, e: usize)
+pub fn operate(work: &mut [u32], d: usize, n: usize, k: usize, e: usize)
     requires { ⌜ Room d (now work) ⌝ }
     requires { ⌜ (n < d / 2) × (k < 2) ⌝ }
     requires { ⌜ Bounds d (now work) (2 * e) (2 * e + 1) ⌝ }
@@ -146,16 +158,4 @@ fn operate(work: &mut [u32], d: usize, n: usize, k: usize, e: usize)
     let q = darts::partner(p);
     lead_on(work, d, k, p, q);
     note(work, d, n, k, p, q);
-}
-
-// The operation, and the edge's two darts joined in the forest, which tells vertices or faces apart as they are now.
-pub fn do_edge(work: &mut [u32], d: usize, n: usize, k: usize, e: usize)
-    requires { ⌜ Room d (now work) ⌝ }
-    requires { ⌜ Falls (forestIn d (now work)) ⌝ }
-    requires { ⌜ (n < d / 2) × (k < 2) ⌝ }
-    requires { ⌜ Bounds d (now work) (2 * e) (2 * e + 1) ⌝ }
-    ensures { λ r. ⌜ Did d n k e (now (work .entry)) (now (work .exit)) ⌝ }
-{
-    operate(work, d, n, k, e);
-    join(work, d, 2 * e, 2 * e + 1);
 }

@@ -3,10 +3,11 @@
 --   ready-stays               == where the forest's roots are kept, it holds what it held, and judges so
 --   ready-judged              == the answer for an edge is document 01's
 --   ready-for                 == what doing an edge asks of the work area, where it may be done
---   ready-did                 == the operation is done and the edge's two darts are joined: the next one can be judged
+--   ready-did                 == the edge's two darts are joined and the operation is done: the next one can be judged
+use mathlib.Core.Bool.{true}
 use mathlib.Core.List.{List}
 use mathlib.Core.Logic.{inl}
-use mathlib.Core.Path.{_≡_, refl, sym, ap, _∙_}
+use mathlib.Core.Path.{_≡_, refl, sym, ap, _∙_, subst}
 use Prim.Native.Nat.{ℕ, _+_, _*_, _/_, _<_}
 use native.Mathlib.Omega.{arith}
 use lib.Dec.{T}
@@ -20,10 +21,13 @@ use Rattle.darts.specs.Operation.{kindOf}
 use Rattle.darts.specs.Kernel.{judge}
 use Rattle.darts.specs.declared.Answer.{Answer}
 use Rattle.laws.proofs.bridge.Standing.{live-iff}
-use Rattle.forest.specs.Forest.{Falls}
+use Rattle.forest.specs.Forest.{Falls, root}
 use Rattle.area.specs.Area.{prev, tableIn, pastIn, forestIn, Room}
-use Rattle.area.specs.Edge.{Says, Judged, Bounds, Did}
-use Rattle.area.specs.Trees.{Outside, rooted, Kept, merged}
+use Rattle.area.specs.Edge.{Says, Judged, Bounds}
+use Rattle.area.specs.Operate.{operated}
+use Rattle.area.specs.Trees.{Outside, rooted, Kept, merged, Joined}
+use Rattle.area.proofs.Outside.{outside-room}
+use Rattle.area.proofs.Operation.{operated-same, outside-bounds, operated-outside}
 use Rattle.area.proofs.Replay.{merged-merges}
 use Rattle.engine.specs.Held.{Ready, Beyond}
 use Rattle.engine.specs.Runs.{Goes, Stays}
@@ -83,22 +87,26 @@ module _ {D n k : ℕ} {w : List ℕ} (ρ : Ready D n k w) where
           second-before = small (prev D w (2 * e + 1)) (prev-live A (2 * e + 1) q);
         }
 
-    pub ready-for : Room D w × (Falls (forestIn D w) × (((n < D / 2) × (k < 2)) × Bounds D w (2 * e) (2 * e + 1)))
-    ready-for = (ρ .area .room, (ρ .falls, ((few, omega (arith, ρ .kind)), bounds)))
+    -- it may be done where the edge's two darts are joined already
+    pub ready-for : {v : List ℕ} → Joined D w v (2 * e) (2 * e + 1) true → Room D v × (((n < D / 2) × (k < 2)) × Bounds D v (2 * e) (2 * e + 1))
+    ready-for j = (outside-room (j .outside) (ρ .area .room), ((few, omega (arith, ρ .kind)), outside-bounds (j .outside) bounds))
 
     merges : Merges (rooted D w) (merged (rooted D w) (2 * e) (2 * e + 1)) (2 * e) (partner (2 * e))
     merges = rw (partner-first e) (merged-merges (rooted D w) (2 * e) (2 * e + 1))
 
     -- THE OPERATION IS DONE, AND THE NEXT ONE CAN BE JUDGED
-    pub ready-did : {v : List ℕ} → Did D n k e w v → Goes D n k e w v × Beyond D w v
-    ready-did {v} δ =
+    pub ready-did : {v x : List ℕ} → Joined D w v (2 * e) (2 * e + 1) true → x ≡ operated D n v k e → Goes D n k e w x × Beyond D w x
+    ready-did {v} {x} j is =
         let o = operated-acts (ρ .area) k (ρ .kind) e fine in
-        let B = δ .outside in
+        let forest : forestIn D x ≡ forestIn D v =
+        ap (forestIn D) is ∙ operated-same (outside-room (j .outside) (ρ .area .room)) n k e (outside-bounds (j .outside) bounds) .forest in
+        let B : Outside D (operated D n w k e) x = rw is (operated-outside (j .outside) n k e bounds) in
+        let roots : rooted D x ≡ merged (rooted D w) (2 * e) (2 * e + 1) = ap root forest ∙ j .roots in
         let joined = labels-step (ρ .area) k (ρ .kind) e fine (ρ .roots) (2 * e) (inl refl) merges in (
           record {
-            ready = record { kind = ρ .kind; area = beside-area B (o .area); falls = δ .falls; roots = rw (δ .roots) (beside-rooted B (n + 1) k joined) };
+            ready = record { kind = ρ .kind; area = beside-area B (o .area); falls = subst Falls (sym forest) (j .falls); roots = rw roots (beside-rooted B (n + 1) k joined) };
             table = beside-table B ∙ o .table;
             past = beside-past B (n + 1) ∙ o .past;
           },
-          beyond-trans (record { size = o .size; rest = o .rest }) (outside-beyond (δ .outside)),
+          beyond-trans (record { size = o .size; rest = o .rest }) (outside-beyond B),
         )

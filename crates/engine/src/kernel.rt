@@ -1,7 +1,7 @@
 // A pass in the work area: one operation's turn, and a kernel, which takes every edge that it lists.
 use crate::Ran;
-use area::operate::do_edge;
 use area::operate::judge;
+use area::operate::operate;
 use darts::Answer;
 use slices::at;
 ghost use Rattle.darts.specs.Kernel.{run as runOf};
@@ -19,7 +19,7 @@ pub fn turn(work: &mut [u32], d: usize, m: usize, k: usize, e: usize, i: usize) 
     if answer.number() != 0 {
         return answer;
     }
-    do_edge(work, d, m, k, e);
+    operate(work, d, m, k, e);
     answer
 }
 

@@ -1,13 +1,15 @@
--- `area::operate::judge` meets its contract: one test for each answer, in order; the two finds keep what the last test reads.
-use mathlib.Core.Bool.{Bool, true, false}
+-- `area::operate::judge` meets its contract: one test for each answer; a join that finds one root changes no root.
+use mathlib.Core.Bool.{Bool, true, false, not}
 use mathlib.Core.List.{List}
-use mathlib.Core.Path.{_≡_, refl, sym, _∙_}
+use mathlib.Core.Path.{_≡_, refl, sym, _∙_, fun-ext}
 use Prim.Native.Nat.{ℕ, _+_, _-_, _*_, _/_, _≤_, _<_}
 use native.Mathlib.Omega.{arith}
-use lib.Dec.{eqb}
+use lib.Dec.{eqb, eqb→eq}
 use lib.ListN.{getD}
 use borrow.Author.Needs.{needs}
 use borrow.Author.Tests.{le-leb, lt-leb, lt-ltb, le-ltb}
+use Rattle.permutations.specs.Choice.{true→T}
+use Rattle.forest.proofs.Joins.{linked-self}
 use Rattle.darts.specs.Operation.{wholeEdge}
 use Rattle.darts.specs.Cases.{answerOf}
 use Rattle.darts.specs.declared.Answer.{Answer}
@@ -15,14 +17,29 @@ use Rattle.darts.specs.declared.Answer.the-variants.{Done, NoEdge, GoneAlready,
 use Rattle.area.specs.Area.{prev, there}
 use Rattle.area.specs.Edge.{Says}
 use Rattle.area.specs.Operate.{judged}
-use Rattle.area.specs.Trees.{Outside}
-use Rattle.area.proofs.Outside.{outside-refl, outside-whole}
+use Rattle.area.specs.Trees.{rooted, Kept, merged, Joined}
+use Rattle.area.proofs.Outside.{outside-refl}
 use Rattle.area.proofs.operate.judge.Statement.{statement}
 use Rattle.area.proofs.operate.judge.Tie as tie
 
 -- an answer says its own number and place
 exact : {a : Answer} → Says (answerOf a .number) (answerOf a .place) a
 exact = record { number = refl; place = λ _. refl }
+
+not-true : (b : Bool) → true ≡ not b → b ≡ false
+not-true true e = e
+not-true false e = refl
+
+not-false : (b : Bool) → false ≡ not b → b ≡ true
+not-false true e = refl
+not-false false e = e
+
+-- what has one root already keeps it
+joined-kept : {D p q : ℕ} {w w′ : List ℕ} → Joined D w w′ p q false → Kept D w w′
+unfolding merged
+joined-kept {D} {p} {q} {w} j =
+    let one = eqb→eq (rooted D w p) (rooted D w q) (true→T (not-false (eqb (rooted D w p) (rooted D w q)) (j .answer))) in
+    record { outside = j .outside; falls = j .falls; roots = j .roots ∙ fun-ext (λ x. rw one (linked-self (rooted D w q) (rooted D w x))) }
 
 module _ (D : ℕ) (w : List ℕ) (R : ℕ → ℕ) (k e i : ℕ) where
   abbrev Verdict : Answer → Type 0
@@ -37,26 +54,26 @@ module _ (D : ℕ) (w : List ℕ) (R : ℕ → ℕ) (k e i : ℕ) where
     unfolding judged there prev
     gone h = rw (lt-leb (D / 2) e edge, le-ltb (getD w (D + 2 * e) 0) D h) exact
 
-    module _ (here : getD w (D + 2 * e) 0 < D) {t : Bool} (together : t ≡ eqb (R (2 * e)) (R (2 * e + 1))) where
-      one-root : t ≡ true → {n : ℕ} → 10 - k ≡ n → {a : Answer} → Says n i a → Verdict a
+    module _ (here : getD w (D + 2 * e) 0 < D) where
+      one-root : eqb (R (2 * e)) (R (2 * e + 1)) ≡ true → {a : Answer} → Says (10 - k) i a → Verdict a
       unfolding judged there prev
-      one-root h known said = rw (lt-leb (D / 2) e edge, lt-ltb (getD w (D + 2 * e) 0) D here, ← together, h, known) said
+      one-root h said = rw (lt-leb (D / 2) e edge, lt-ltb (getD w (D + 2 * e) 0) D here, h) said
 
-      module _ (two : t ≡ false) {w′ : List ℕ} (outside : Outside D w w′) {r : Bool} (whole : r ≡ wholeEdge w′ e) where
-        same : wholeEdge w e ≡ r
-        same = sym (outside-whole outside e edge) ∙ sym whole
-
-        whole-piece : r ≡ true → Verdict (WholePiece i)
+      module _ (two : eqb (R (2 * e)) (R (2 * e + 1)) ≡ false) where
+        whole-piece : wholeEdge w e ≡ true → Verdict (WholePiece i)
         unfolding judged there prev
-        whole-piece h = rw (lt-leb (D / 2) e edge, lt-ltb (getD w (D + 2 * e) 0) D here, ← together, two, same, h) exact
+        whole-piece h = rw (lt-leb (D / 2) e edge, lt-ltb (getD w (D + 2 * e) 0) D here, two, h) exact
 
-        fine : r ≡ false → Verdict (Done 0)
+        fine : wholeEdge w e ≡ false → Verdict (Done 0)
         unfolding judged there prev
-        fine h =
-            rw (lt-leb (D / 2) e edge, lt-ltb (getD w (D + 2 * e) 0) D here, ← together, two, same, h) (record { number = refl; place = λ n. absurd (n refl) })
+        fine h = rw (lt-leb (D / 2) e edge, lt-ltb (getD w (D + 2 * e) 0) D here, two, h) (record { number = refl; place = λ n. absurd (n refl) })
 
 returns : tie.Need-returns
-returns c = record { kept = record { outside = outside-refl _ _; falls = c .before .before .pre .1 .0; roots = refl }; answer = no-edge _ _ _ _ _ _ (c .if1 .taken) }
+returns c = record {
+  answer = no-edge _ _ _ _ _ _ (c .if1 .taken);
+  refused = λ _. record { outside = outside-refl _ _; falls = c .before .before .pre .1 .0; roots = refl };
+  done = λ z. absurd (omega arith);
+}
 
 mul-p : tie.Need-mul-p
 mul-p c = search needs
@@ -71,57 +88,87 @@ same-length : tie.Need-same-length
 same-length c = search needs
 
 returns-2 : tie.Need-returns-2
-returns-2 c =
-    record {
-      kept = record { outside = outside-refl _ _; falls = c .before .before .before .before .before .pre .1 .0; roots = refl };
-      answer = gone _ _ _ _ _ _ (c .before .before .before .if1 .left) (omega arith);
-    }
+returns-2 c = record {
+  answer = gone _ _ _ _ _ _ (c .before .before .before .if1 .left) (omega arith);
+  refused = λ _. record { outside = outside-refl _ _; falls = c .before .before .before .before .before .pre .1 .0; roots = refl };
+  done = λ z. absurd (omega arith);
+}
+
+whole-requires : tie.Need-whole-requires
+whole-requires c κs = search needs
 
 add-together : tie.Need-add-together
 add-together c = search needs
 
 together-requires : tie.Need-together-requires
-together-requires c κs = (c .before .before .before .before .before .before .pre .0, (c .before .before .before .before .before .before .pre .1 .0, (omega arith, omega arith)))
+together-requires c κs = let s = c .before .before .before .before .before .before .before .before .before in (s .pre .0, (s .pre .1 .0, (omega arith, omega arith)))
+
+shared-requires : tie.Need-shared-requires
+shared-requires c κs = search needs
 
 same-length-2 : tie.Need-same-length-2
 same-length-2 c = search needs
 
 returns-3 : tie.Need-returns-3
 returns-3 c =
-    let t = c .before .before .before .before .together .ensures in
-    record { kept = t .kept; answer = one-root _ _ _ _ _ _ (c .before .before .before .before .before .before .before .before .before .if1 .left) (omega arith) (t .answer) (c .before .if3 .taken) (omega arith) exact }
+    let t = c .before .before .before .before in
+    let f = t .before .before .before .before .before .before .before .before in
+    record {
+      answer = one-root _ _ _ _ _ _ (f .if1 .left) (omega arith) (sym (t .together .ensures .answer) ∙ c .before .if4 .taken) (c .shared .ensures);
+      refused = λ _. t .together .ensures .kept;
+      done = λ z. absurd (omega (arith, c .shared .ensures .number));
+    }
 
 same-length-3 : tie.Need-same-length-3
 same-length-3 c = search needs
 
 returns-4 : tie.Need-returns-4
 returns-4 c =
-    let t = c .before .before .before .before .together .ensures in
-    record { kept = t .kept; answer = one-root _ _ _ _ _ _ (c .before .before .before .before .before .before .before .before .before .if1 .left) (omega arith) (t .answer) (c .before .if3 .taken) (omega arith) exact }
+    let t = c .before .before .before in
+    let w = t .before .before .before in
+    let f = t .before .before .before .before .before .before .before .before in
+    record {
+      answer = whole-piece _ _ _ _ _ _ (f .if1 .left) (omega arith) (sym (t .together .ensures .answer) ∙ c .if4 .left) (sym (w .whole .ensures) ∙ t .before .before .if3 .taken);
+      refused = λ _. t .together .ensures .kept;
+      done = λ z. absurd (omega arith);
+    }
 
-whole-requires : tie.Need-whole-requires
-whole-requires c κs = search needs
+add-join : tie.Need-add-join
+add-join c = search needs
+
+join-requires : tie.Need-join-requires
+join-requires c κs = let s = c .before .before .before .before .before .before .before .before .before in (s .pre .0, (s .pre .1 .0, (omega arith, omega arith)))
 
 same-length-4 : tie.Need-same-length-4
 same-length-4 c = search needs
 
 returns-5 : tie.Need-returns-5
 returns-5 c =
-    let t = c .before .before .before .before .before .before .together .ensures in
+    let j = c .before .before .before in
+    let w = j .before .before .before in
+    let f = j .before .before .before .before .before .before .before .before in
+    let joined = rw (c .if5 .taken) at (j .join .ensures) in
     record {
-      kept = t .kept;
-      answer = whole-piece _ _ _ _ _ _ (c .before .before .before .before .before .before .before .before .before .before .before .if1 .left) (omega arith) (t .answer) (c .before .before .before .if3 .left) (t .kept .outside) (c .before .whole .ensures) (c .if5 .taken);
+      answer = fine _ _ _ _ _ _ (f .if1 .left) (omega arith) (not-true _ (joined .answer)) (sym (w .whole .ensures) ∙ j .before .before .if3 .left);
+      refused = λ n. absurd (n refl);
+      done = λ _. joined;
     }
+
+shared-requires-2 : tie.Need-shared-requires-2
+shared-requires-2 c κs = search needs
 
 same-length-5 : tie.Need-same-length-5
 same-length-5 c = search needs
 
 returns-6 : tie.Need-returns-6
 returns-6 c =
-    let t = c .before .before .before .before .before .before .together .ensures in
+    let j = c .before .before .before .before in
+    let f = j .before .before .before .before .before .before .before .before in
+    let joined = rw (c .before .if5 .left) at (j .join .ensures) in
     record {
-      kept = t .kept;
-      answer = fine _ _ _ _ _ _ (c .before .before .before .before .before .before .before .before .before .before .before .if1 .left) (omega arith) (t .answer) (c .before .before .before .if3 .left) (t .kept .outside) (c .before .whole .ensures) (c .if5 .left);
+      answer = one-root _ _ _ _ _ _ (f .if1 .left) (omega arith) (not-false _ (joined .answer)) (c .shared2 .ensures);
+      refused = λ _. joined-kept joined;
+      done = λ z. absurd (omega (arith, c .shared2 .ensures .number));
     }
 
 pub judge-spec : {M : Type 1} → statement M
@@ -134,14 +181,18 @@ judge-spec =
     at-requires
     same-length
     returns-2
+    whole-requires
     add-together
     together-requires
+    shared-requires
     same-length-2
     returns-3
     same-length-3
     returns-4
-    whole-requires
+    add-join
+    join-requires
     same-length-4
     returns-5
+    shared-requires-2
     same-length-5
     returns-6)

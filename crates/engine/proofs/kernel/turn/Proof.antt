@@ -1,49 +1,40 @@
--- `engine::kernel::turn` meets its contract: judging keeps what the work area holds, so that the edge is done on the map on which it was judged.
---   fine-there     == an edge that was judged 0 may be done in the work area as it is then
+-- `engine::kernel::turn` meets its contract: judging changes the forest's part alone, so that the edge is done on the map on which it was judged.
+--   fine           == an edge whose answer is done may be done
 --   turned-refused == any other answer leaves the map as it was
 --   turned-done    == the operation is done
-use mathlib.Core.List.{List, _∷_}
+use mathlib.Core.List.{List}
 use mathlib.Core.Logic.{_≢_}
-use mathlib.Core.Path.{_≡_, sym, ap₂, _∙_}
+use mathlib.Core.Path.{_≡_, sym, _∙_}
 use Prim.Native.Nat.{ℕ}
 use native.Mathlib.Omega.{arith}
 use borrow.Author.Needs.{needs}
-use Rattle.darts.specs.Operation.{kindOf, lead, operate, number}
+use Rattle.darts.specs.Operation.{kindOf}
 use Rattle.darts.specs.Kernel.{judge}
 use Rattle.darts.specs.Cases.{answerOf}
 use Rattle.darts.specs.declared.Answer.{Answer}
 use Rattle.area.specs.Area.{tableIn, pastIn}
-use Rattle.area.specs.Edge.{Judged, Did}
+use Rattle.area.specs.Edge.{Judged}
+use Rattle.area.specs.Operate.{operated}
 use Rattle.engine.specs.Held.{Ready}
 use Rattle.engine.specs.Runs.{Turned}
-use Rattle.engine.proofs.Ready.{beyond-trans, ready-stays, ready-judged, ready-for, ready-did}
+use Rattle.engine.proofs.Ready.{ready-stays, ready-judged, ready-for, ready-did}
 use Rattle.engine.proofs.kernel.turn.Statement.{statement}
 use Rattle.engine.proofs.kernel.turn.Tie as tie
 
 module _ {D m k e i : ℕ} {w v : List ℕ} {r : Answer} (ρ : Ready D m k w) (j : Judged D k e i w v r) where
   turned-refused : answerOf r .number ≢ 0 → Turned D m k e i w v r
   turned-refused n =
-      let s = ready-stays ρ (j .kept) in
+      let s = ready-stays ρ (j .refused n) in
       record { answer = ready-judged ρ j; beyond = s .beyond; done = λ z. absurd (n z); refused = λ _. s }
 
   module _ (none : answerOf r .number ≡ 0) where
-    fine-there : judge (kindOf k) D (tableIn D v) (pastIn D m v) e ≡ 0
-    fine-there = let s = ready-stays ρ (j .kept) in rw (s .table, s .past) (sym (ready-judged ρ j .number) ∙ none)
+    fine : judge (kindOf k) D (tableIn D w) (pastIn D m w) e ≡ 0
+    fine = sym (ready-judged ρ j .number) ∙ none
 
-    turned-done : {x : List ℕ} → Did D m k e v x → Turned D m k e i w x r
-    turned-done δ =
-        let s = ready-stays ρ (j .kept) in
-        let (g, beyond) = ready-did (s .ready) e fine-there δ in
-        record {
-          answer = ready-judged ρ j;
-          beyond = beyond-trans (s .beyond) beyond;
-          done = λ z. record {
-            ready = g .ready;
-            table = g .table ∙ ap₂ (λ t past. operate (kindOf k) D t past e) (s .table) (s .past);
-            past = g .past ∙ ap₂ (λ t past. number (kindOf k) (lead (kindOf k) t e) ∷ past) (s .table) (s .past);
-          };
-          refused = λ n. absurd (n none);
-        }
+    turned-done : {x : List ℕ} → x ≡ operated D m v k e → Turned D m k e i w x r
+    turned-done is =
+        let (goes, beyond) = ready-did ρ e fine (j .done none) is in
+        record { answer = ready-judged ρ j; beyond = beyond; done = λ _. goes; refused = λ n. absurd (n none) }
 
 judge-requires : tie.Need-judge-requires
 judge-requires c κs = let ρ = c .before .before .pre in (ρ .area .room, (ρ .falls, omega (arith, ρ .kind)))
@@ -59,12 +50,13 @@ returns c =
     let j = c .before .before .before .before in
     turned-refused (j .before .before .before .pre) (j .judge .ensures) (λ z. c .if1 .taken (c .before .number .ensures ∙ z))
 
-do-edge-requires : tie.Need-do-edge-requires
-do-edge-requires c κs =
+operate-requires : tie.Need-operate-requires
+operate-requires c κs =
     let n = c .before .before in
     let j = n .before .before .before in
     let ρ = j .before .before .before .pre in
-    ready-for (ready-stays ρ (j .judge .ensures .kept) .ready) _ (fine-there ρ (j .judge .ensures) (sym (n .number .ensures) ∙ c .before .if1 .left))
+    let none = sym (n .number .ensures) ∙ c .before .if1 .left in
+    ready-for ρ _ (fine ρ (j .judge .ensures) none) (j .judge .ensures .done none)
 
 same-length-2 : tie.Need-same-length-2
 same-length-2 c = search needs
@@ -74,9 +66,9 @@ returns-2 c =
     let n = c .before .before .before .before .before in
     let j = n .before .before .before in
     turned-done (j .before .before .before .pre) (j .judge .ensures) (sym (n .number .ensures) ∙ c .before .before .before .before .if1 .left)
-    (c .before .before .do-edge .ensures)
+    (c .before .before .operate .ensures)
 
 pub turn-spec : {M : Type 1} → statement M
 turn-spec =
     tie.close
-    (tie.spec judge-requires number-requires same-length returns do-edge-requires same-length-2 returns-2)
+    (tie.spec judge-requires number-requires same-length returns operate-requires same-length-2 returns-2)
