@@ -7,6 +7,7 @@ pub mod Runs
 pub mod Fits
 pub mod Planned
 pub mod Ends
+pub mod Binding
 pub mod Preparing
 pub mod Taken
 pub mod Areas

@@ -1,37 +1,31 @@
 -- The base in the work area, ready for contractions.
---   laid-room    == it is laid there, and the area keeps its room
---   Based, based == the dart before each dart is found: the area holds the base
---   prepared     == with a tree for each vertex it judges contractions
-use mathlib.Core.Bool.{Bool, true}
+--   laid-room, laid-stands == it is laid there: the area keeps its room, and the table holds a map
+--   Based, based           == each dart is noted before its successor: the area holds the base
+--   prepared               == with a tree for each vertex it judges contractions
 use mathlib.Core.List.{List, []}
 use mathlib.Core.Path.{_≡_, _∙_}
 use Prim.Native.Nat.{ℕ, _*_, _≤_}
 use native.Mathlib.Omega.{arith}
-use lib.Dec.{T}
-use lib.ListN.{length, drop}
-use Rattle.permutations.specs.Choice.{T→true, true→T}
+use lib.ListN.{length}
 use Rattle.slices.specs.Over.{over}
 use Rattle.slices.proofs.Over.{over-front, over-rest, over-length, drop-more}
-use Rattle.darts.specs.Tests.{numbered, linked}
+use Rattle.darts.specs.Tests.{numbered}
 use Rattle.laws.specs.Standing.{Standing}
-use Rattle.laws.proofs.tests.Links.{linked-stands}
-use Rattle.area.specs.Area.{Room, tableIn, tried}
+use Rattle.laws.proofs.bridge.Bases.{all-live}
+use Rattle.area.specs.Area.{Room, tableIn}
 use Rattle.area.specs.Cycles.{Labelled}
-use Rattle.area.specs.Load.{relinks}
 use Rattle.area.proofs.Labels.{labelled-falls, labelled-same}
 use Rattle.engine.specs.Held.{Area, Beyond}
-use Rattle.engine.proofs.Area.{room-kept}
+use Rattle.engine.proofs.Area.{room-kept, area-of, noted-known}
 use Rattle.engine.proofs.Around.{step-perm}
 use Rattle.engine.proofs.Beside.{beside-table, beside-area, beside-rooted}
 use Rattle.engine.proofs.ByRoots.{rooted-start}
-use Rattle.engine.proofs.Checking.{loaded-beyond}
-use Rattle.engine.proofs.Given.{linked-stand}
-use Rattle.engine.proofs.Loaded.{Loaded, relinks-right}
+use Rattle.engine.proofs.Parts.{past-none}
 use Rattle.engine.proofs.Ready.{beyond-trans}
 use Rattle.grids.specs.Grid.{Grid, dartsOf}
 use Rattle.grids.specs.Base.{baseTable}
 use Rattle.grids.proofs.PlanBase.{base-stands}
-use Rattle.plans.specs.Prepared.{Prepared}
+use Rattle.plans.specs.Prepared.{Bound, Prepared}
 
 pub record Based (g : Grid) (D : ℕ) (w v : List ℕ) : Type 0 where
   pub area : Area D 0 v
@@ -57,18 +51,22 @@ module _ (g : Grid) {D : ℕ} (count : D ≡ dartsOf g) (w : List ℕ) (room : R
   laid-table : tableIn D laid ≡ baseTable g
   laid-table = rw (stands .size) at (over-front (baseTable g) w)
 
-  laid-room : Room D laid
+  pub laid-room : Room D laid
   laid-room = room-kept w laid (laid-beyond .size) room
 
-  linked-base : T (linked D (tableIn D laid) [] D)
-  linked-base = rw laid-table (linked-stands D (baseTable g) [] (room .even) (stands .size) .1 stands)
+  pub laid-stands : Standing D (tableIn D laid) []
+  laid-stands = rw laid-table stands
 
-  pub based : {r : Bool} {v : List ℕ} → tried r v ≡ relinks D 0 laid → Based g D w v
+  pub based : {v : List ℕ} → Bound D D laid v → Based g D w v
   unfolding numbered
-  based {r} {v} e =
-      let L : Loaded D 0 laid (drop (3 * D) laid) laid (tried r v) = rw e (relinks-right linked-stand 0 laid laid-room (omega arith)) in
-      let yes : T r = true→T (L .fine ∙ T→true (linked D (tableIn D laid) [] D) linked-base) in
-      record { area = L .area yes; table = L .table ∙ laid-table; beyond = beyond-trans laid-beyond (loaded-beyond L) }
+  based {v} b =
+      let S : Standing D (tableIn D v) [] = rw (b .table) laid-stands in
+      record {
+        area = area-of 0 v (past-none D v) (room-kept laid v (b .size) laid-room) (omega arith) tt S
+            (noted-known v S (λ z l. b .notes z (all-live D z .0 l))) (λ x h n. absurd (n (all-live D x .1 h)));
+        table = b .table ∙ laid-table;
+        beyond = beyond-trans laid-beyond (record { size = b .size; rest = b .rest });
+      }
 
 pub prepared : {g : Grid} {D : ℕ} {w v u : List ℕ} → Based g D w v → Labelled D 1 v u → Prepared g D w u
 prepared {D = D} {v = v} {u = u} b L =

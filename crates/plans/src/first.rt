@@ -1,12 +1,14 @@
 // The first kernel, in the work area.
 use crate::laying::lay_base;
 use area::cycles::label;
-use area::load::relink;
 use engine::kernel::turn;
+use slices::at;
+ghost use mathlib.Core.List.{[]};
 ghost use mathlib.Core.Path.{_≡_};
 ghost use Prim.Native.Nat.{_≤_, _<_};
 ghost use lib.ListN.{length};
 ghost use Rattle.darts.specs.declared.Answer.the-variants.{Done};
+ghost use Rattle.laws.specs.Standing.{Standing};
 ghost use Rattle.area.specs.Area.{Room, tableIn};
 ghost use Rattle.engine.specs.Held.{Ready};
 ghost use Rattle.engine.specs.Runs.{Went};
@@ -14,7 +16,7 @@ ghost use Rattle.grids.specs.Grid.{flat, cells, edges, dartsOf};
 ghost use Rattle.grids.specs.Base.{baseTable};
 ghost use Rattle.grids.specs.Plans.{oneCode, firstKernel};
 ghost use Rattle.plans.specs.Limits.{Sized};
-ghost use Rattle.plans.specs.Prepared.{Prepared};
+ghost use Rattle.plans.specs.Prepared.{Bound, Prepared};
 
 // Whether both ends of edge e have the same code: the cells of one along a course are neighbours, an upright one's stand a course apart.
 fn one_code(plan: &[u8], w: usize, c: usize, e: usize) -> bool
@@ -32,6 +34,20 @@ fn one_code(plan: &[u8], w: usize, c: usize, e: usize) -> bool
     plan[k] == plan[k + w]
 }
 
+// Each dart of a base is noted before its successor. A base needs no test: no two darts lead to one, and every dart is led to.
+fn bind_base(work: &mut [u32], d: usize)
+    requires { ⌜ Room d (now work) ⌝ }
+    requires { ⌜ Standing d (tableIn d (now work)) [] ⌝ }
+    ensures { λ _. ⌜ Bound d d (now (work .entry)) (now (work .exit)) ⌝ }
+{
+    let mut x = 0;
+    while x < d {
+        let y = at(work, x);
+        work[d + y] = x as u32;
+        x += 1;
+    }
+}
+
 // The base in the work area, with the dart before each dart and a tree for each vertex.
 fn prepare(work: &mut [u32], w: usize, c: usize, d: usize)
     requires { ⌜ Sized w c ⌝ }
@@ -40,7 +56,7 @@ fn prepare(work: &mut [u32], w: usize, c: usize, d: usize)
     ensures { λ _. ⌜ Prepared (flat w c) d (now (work .entry)) (now (work .exit)) ⌝ }
 {
     lay_base(work, w, c);
-    relink(work, d, 0);
+    bind_base(work, d);
     label(work, d, 1);
 }
 
