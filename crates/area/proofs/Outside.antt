@@ -6,7 +6,6 @@
 --   outside-rest    == so is each number from the history's part on
 --   outside-there   == so is who survives
 --   outside-around  == so is the dart after x round its vertex or face
---   outside-whole   == so is whether an edge is a whole piece
 --   forest-length   == the forest's part has D numbers
 --   forest-at       == the number at x in the forest's part
 --   set-forest      == a store outside of the forest's part does not change it
@@ -15,7 +14,7 @@
 use mathlib.Core.Logic.{_⊎_, inl, inr}
 use mathlib.Core.List.{List, [], _∷_}
 use mathlib.Core.Path.{_≡_, refl, sym, ap, _∙_}
-use Prim.Native.Nat.{ℕ, zero, suc, _+_, _-_, _*_, _/_, _≤_, _<_}
+use Prim.Native.Nat.{ℕ, zero, suc, _+_, _*_, _≤_, _<_}
 use native.Mathlib.Nat.{zero-add, suc-add}
 use native.Mathlib.Omega.{arith}
 use lib.Dec.{ltb}
@@ -25,7 +24,6 @@ use Rattle.permutations.specs.Partner.{partner, partner-below}
 use Rattle.darts.specs.Map.{successor}
 use Rattle.slices.proofs.Part.{part-length, part-at}
 use Rattle.area.specs.Area.{Room, prev, there, forestIn, around}
-use Rattle.darts.specs.Operation.{wholeEdge}
 use Rattle.area.specs.Trees.{Outside}
 
 pub outside-refl : (D : ℕ) (w : List ℕ) → Outside D w w
@@ -55,10 +53,6 @@ module _ {D : ℕ} {w w′ : List ℕ} (o : Outside D w w′) where
   unfolding around successor
   outside-around r k x h =
       rw (outside-front x (omega arith), outside-front (partner x) (omega (arith, partner-below D x h (r .even))))
-
-  pub outside-whole : (e : ℕ) → e < D / 2 → wholeEdge w′ e ≡ wholeEdge w e
-  unfolding wholeEdge successor
-  outside-whole e h = rw (outside-front (2 * e) (omega arith), outside-front (2 * e + 1) (omega arith))
 
 pub forest-length : (D : ℕ) (w : List ℕ) → 4 * D ≤ length w → length (forestIn D w) ≡ D
 forest-length D w room = part-length (2 * D) (3 * D) w (omega arith) ∙ omega arith

@@ -1,8 +1,10 @@
 -- What the first kernel of a plan leaves: the areas (document 02, request One).
 --   first-merges     == the first kernel is the merging of the edges of one code
---   area-one         == cells in one area: the words of the plan and the words of the merging say the same
---   Single g plan    == every cell has the same code
---   Excepted g plan  == "a plan one cell wide or one cell high with a single code"; excepted-iff ties it to the merging's words
+--   area-to, area-from == cells in one area: the words of the plan and the words of the merging say the same
+--   Excepted g plan  == "a plan one cell wide or one cell high with a single code"
+--   tree-thin, thin-tree == the cells are one more than the edges in a grid that does not close and is one cell wide or high, and in no other
+--   single-code      == one code on all edges is one code on all cells
+--   Survivor g plan past c == a survivor in the area of cell c
 --   Areas g plan u past == the areas, one law a field
 --   areas            == what the first kernel of every sized plan leaves
 use mathlib.Core.Bool.{true}

@@ -16,4 +16,5 @@ pub mod Planning
 pub mod Begun
 pub mod Sentences
 pub mod Alike
+pub mod Lengths
 pub mod Instances

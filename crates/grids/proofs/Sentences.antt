@@ -4,16 +4,18 @@
 --   numberOf r               == the number of the answer of a step's result
 --   plan-order, areas-order  == the order of the answers
 --   plan-refused, areas-refused == what a refusal leaves: "as a refused start"
+--   plan-place, areas-place  == the place is 0, whatever the answer
 --   plan-area, areas-area    == the work area
 --   plan-gives               == an accepted base: the state of a base, the table, the history as it was
 --   plan-alike               == the base does not depend on the codes
 --   first-rises, first-takes == the edges that the first kernel takes
+--   first-turns              == edge by edge, why it is taken or passed over
 --   two-codes-stay, one-code-closes == those that it passes over
 use mathlib.Core.Bool.{Bool, true, false}
 use mathlib.Core.List.{List, []}
 use mathlib.Core.Logic.{_⊎_, _≢_, inl, inr, ⊎-elim}
 use mathlib.Core.Path.{_≡_, refl, sym, _∙_}
-use Prim.Native.Nat.{ℕ, _*_, _<_}
+use Prim.Native.Nat.{ℕ, _*_, _/_, _<_}
 use native.Mathlib.Omega.{arith}
 use lib.Dec.{eqb}
 use lib.ListN.{length}
@@ -26,9 +28,9 @@ use Rattle.darts.specs.State.{State, baseState, Result, gives, refuses, raised,
 use Rattle.darts.specs.Calls.{leaves, cleared}
 use Rattle.laws.proofs.sentences.Refusals.{Returned}
 use Rattle.laws.proofs.sentences.WorkArea.{Zeroed, cleared-zeroed}
-use Rattle.laws.proofs.merging.Turns.{merging}
+use Rattle.laws.proofs.merging.Turns.{Turns, merging}
 use Rattle.laws.proofs.merging.Taken.{Taken, Rises, merging-through}
-use Rattle.laws.proofs.merging.Stands.{merging-stands, merging-rises, merging-takes, merging-keeps}
+use Rattle.laws.proofs.merging.Stands.{merging-stands, merging-turns, merging-rises, merging-takes, merging-keeps}
 use Rattle.laws.proofs.merging.Closes.{Closed}
 use Rattle.laws.proofs.merging.Laws.{merging-closes}
 use Rattle.grids.specs.Grid.{Grid, edges, dartsOf}
@@ -55,6 +57,10 @@ abbrev pub numberOf : Result → ℕ
 numberOf (gives s u past) = 0
 numberOf (refuses a) = a .number
 
+abbrev pub placeOf : Result → ℕ
+placeOf (gives s u past) = 0
+placeOf (refuses a) = a .place
+
 -- ---- any step on a plan
 
 module _ (g : Grid) (r : Result) (plan t h w : List ℕ) where
@@ -65,6 +71,11 @@ module _ (g : Grid) (r : Result) (plan t h w : List ℕ) where
   unfolding begun
   begun-number (gives s u past) = refl
   begun-number (refuses a) = refl
+
+  begun-place : (z : Result) → begun D t h w z .answer .place ≡ placeOf z
+  unfolding begun
+  begun-place (gives s u past) = refl
+  begun-place (refuses a) = refl
 
   begun-work : (z : Result) → begun D t h w z .work ≡ cleared D w
   unfolding begun
@@ -83,6 +94,14 @@ module _ (g : Grid) (r : Result) (plan t h w : List ℕ) where
       go (outside n e) = record { fifteen = λ _. rw e; two = λ s _. absurd (n s); after = λ s _. absurd (n s) }
       go (cramped s n e) = record { fifteen = λ m. absurd (m s); two = λ _ _. rw e; after = λ _ k. absurd (n k) }
       go (begins s k e) = record { fifteen = λ m. absurd (m s); two = λ _ m. absurd (m k); after = λ _ _. rw e (begun-number r) }
+
+  pub on-place : placeOf r ≡ 0 → onPlan g r plan t h w .answer .place ≡ 0
+  on-place zero = go (planning g r plan t h w)
+    where
+      go : Planning g r plan t h w → onPlan g r plan t h w .answer .place ≡ 0
+      go (outside n e) = rw e
+      go (cramped s n e) = rw e
+      go (begins s k e) = rw e (begun-place r ∙ zero)
 
   pub on-refused : onPlan g r plan t h w .answer .number ≢ 0 → Returned (baseState 0) t h (onPlan g r plan t h w)
   on-refused = go (planning g r plan t h w)
@@ -112,6 +131,11 @@ module _ (g : Grid) (plan t h w : List ℕ) where
   pub plan-order : Ordered g (length plan) (length t) (length h) (length w) (planBase g plan t h w .answer .number) 0
   unfolding planBase
   plan-order = on-order g _ plan t h w
+
+  -- "place 0"
+  pub plan-place : planBase g plan t h w .answer .place ≡ 0
+  unfolding planBase
+  plan-place = on-place g _ plan t h w refl
 
   pub plan-refused : planBase g plan t h w .answer .number ≢ 0 → Returned (baseState 0) t h (planBase g plan t h w)
   unfolding planBase
@@ -148,6 +172,14 @@ stood-number s u past = go (eqb (length past) 0)
     go true = inr refl
     go false = inl refl
 
+stood-place : (s : State) (u past : List ℕ) → placeOf (levelled s [] (stands u past)) ≡ 0
+unfolding levelled
+stood-place s u past = go (eqb (length past) 0)
+  where
+    go : (b : Bool) → placeOf (if b then refuses emptyKernel else gives (raised s (length past)) u past) ≡ 0
+    go true = refl
+    go false = refl
+
 module _ (g : Grid) (plan t h w : List ℕ) where
   abbrev first : Result
   first = levelled (baseState (dartsOf g)) [] (firstKernel g plan)
@@ -157,9 +189,18 @@ module _ (g : Grid) (plan t h w : List ℕ) where
       let through = merging-through (dartsOf g) (oneCode g plan) (baseTable g) in
       rw (first-merges g plan, merging-stands (dartsOf g) (oneCode g plan) (baseTable g)) (stood-number (baseState (dartsOf g)) (through .table) (through .past))
 
+  first-place : placeOf first ≡ 0
+  first-place =
+      let through = merging-through (dartsOf g) (oneCode g plan) (baseTable g) in
+      rw (first-merges g plan, merging-stands (dartsOf g) (oneCode g plan) (baseTable g)) (stood-place (baseState (dartsOf g)) (through .table) (through .past))
+
   pub areas-order : Ordered g (length plan) (length t) (length h) (length w) (planAreas g plan t h w .answer .number) (numberOf first)
   unfolding planAreas
   areas-order = on-order g first plan t h w
+
+  pub areas-place : planAreas g plan t h w .answer .place ≡ 0
+  unfolding planAreas
+  areas-place = on-place g first plan t h w first-place
 
   pub areas-refused : planAreas g plan t h w .answer .number ≢ 0 → Returned (baseState 0) t h (planAreas g plan t h w)
   unfolding planAreas
@@ -177,6 +218,10 @@ first-rises g plan = merging-rises (dartsOf g) (oneCode g plan) (baseTable g)
 module _ (g : Grid) (plan : List ℕ) {u past : List ℕ} (stood : firstKernel g plan ≡ stands u past) where
   abbrev merges : merging (dartsOf g) (oneCode g plan) (baseTable g) ≡ stands u past
   merges = sym (first-merges g plan) ∙ stood
+
+  -- "contracted where both ends have the same code, unless 9 or 11 would be given at its turn"
+  pub first-turns : Turns (dartsOf g) (oneCode g plan) (baseTable g) (dartsOf g / 2) (firstEdges g plan) u past
+  first-turns = merging-turns (dartsOf g) (oneCode g plan) (baseTable g) merges
 
   pub first-takes : (e : ℕ) → Taken (firstEdges g plan) e → (e < edges g) × (oneCode g plan e ≡ true)
   first-takes e k = let (h, o) = merging-takes (dartsOf g) (oneCode g plan) (baseTable g) merges e k in (omega arith, o)

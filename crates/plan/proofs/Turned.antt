@@ -9,7 +9,7 @@
 --   lent, line-space              == a line as it is lent; its room in the plan
 --   turn-begin, turn-on, turn-end == before the first course; one more; all of them
 --   course-at                     == course y of a plan of c courses is line c - 1 - y of the drawing
-use mathlib.Core.List.{List, _++_, append-assoc}
+use mathlib.Core.List.{List, append-assoc}
 use mathlib.Core.Path.{_≡_, refl, sym, ap, _∙_}
 use Prim.Native.Nat.{ℕ, zero, suc, _+_, _-_, _*_, _≤_, _<_}
 use native.Mathlib.Nat.{zero-mul, mul-le-mul-right}

@@ -4,8 +4,6 @@ use crate::drawing::wales;
 use pyramid::Answer;
 use pyramid::Outcome;
 ghost use mathlib.Core.Path.{_≡_};
-ghost use Prim.Native.Nat.{_≤_};
-ghost use lib.ListN.{length};
 ghost use Rattle.grids.specs.Grid.{flat};
 ghost use Rattle.pyramid.specs.Values.{left};
 ghost use Rattle.writer.specs.Filed.{filed};

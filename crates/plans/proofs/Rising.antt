@@ -4,7 +4,7 @@
 --   stays        == no edge is laid
 --   laying-run   == so many edges more of a row
 use mathlib.Core.List.{List, _++_}
-use mathlib.Core.Path.{_≡_, refl, sym, ap, _∙_}
+use mathlib.Core.Path.{_≡_, refl, _∙_}
 use Prim.Native.Nat.{ℕ, zero, suc, _+_, _*_, _≤_, _<_}
 use native.Mathlib.Nat.{add-zero, suc-mul, mul-comm, mul-le-mul-right}
 use native.Mathlib.Omega.{arith}

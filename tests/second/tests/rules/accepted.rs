@@ -9,7 +9,7 @@ use second::state::State;
 
 /// The call must be accepted and leave exactly this state, these entries and these history numbers from place 0 on;
 /// the rest of both, the output and the work area past 4D must stay.
-fn leaves(before: &Lot, call: &Call, state: State, entries: &[u32], numbers: &[u32]) -> Left {
+pub fn leaves(before: &Lot, call: &Call, state: State, entries: &[u32], numbers: &[u32]) -> Left {
     let mut expected = before.clone();
     expected.state = state;
     expected.table[..entries.len()].copy_from_slice(entries);

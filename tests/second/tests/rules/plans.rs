@@ -2,6 +2,7 @@
 
 use std::collections::BTreeSet;
 
+use crate::accepted::leaves;
 use crate::support::chance::Chance;
 use crate::support::lot::{state, Call, Lot};
 use crate::support::maps::k7;
@@ -213,18 +214,6 @@ fn the_first_kernel_is_a_contraction_kernel_on_the_base() {
             assert_eq!(at_once, in_turn);
         }
     });
-}
-
-/// The call must be accepted and leave exactly this, with all else as it was.
-fn leaves(before: &Lot, call: &Call, state: State, entries: &[u32], numbers: &[u32]) {
-    let mut expected = before.clone();
-    expected.state = state;
-    expected.table[..entries.len()].copy_from_slice(entries);
-    expected.history[..numbers.len()].copy_from_slice(numbers);
-    expected.work[..4 * entries.len()].fill(0);
-    let mut after = before.clone();
-    after.accept(call);
-    assert_eq!(after, expected);
 }
 
 #[test]
