@@ -25,10 +25,13 @@ pub enum Answer {
     NoPlanSize,
 }
 
-// The other dart of d's edge: one more for an even dart, one less for an odd one.
+// The other dart of d's edge, by equation 13 of paper 001 moved to zero: one more for an even dart, one less for an odd one.
 pub fn partner(d: usize) -> usize
     requires { ⌜ d < 65536 ⌝ }
     ensures { λ r. ⌜ r ≡ partnerOf d ⌝ }
 {
-    d + 1 - d % 2 * 2
+    match d % 2 {
+        0 => d + 1,
+        _ => d - 1,
+    }
 }

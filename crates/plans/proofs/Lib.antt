@@ -1,4 +1,5 @@
 pub mod Limits
+pub mod OddDart
 pub mod Entries
 pub mod Around
 pub mod Base

@@ -1,4 +1,5 @@
 // The base of a plan's grid, entry by entry: w wales and c courses, and the cell in wale x of course y.
+use darts::partner;
 ghost use mathlib.Core.Path.{_≡_};
 ghost use Prim.Native.Nat.{_+_, _-_, _*_, _≤_, _<_};
 ghost use lib.ListN.{length, take};
@@ -29,7 +30,7 @@ fn left_of(w: usize, x: usize, y: usize) -> usize
     requires { ⌜ (0 < x) × (x < w) × (w ≤ 128) × (y < 128) ⌝ }
     ensures { λ r. ⌜ (r ≡ 2 * (y * (w - 1) + (x - 1)) + 1) × (r < 65536) ⌝ }
 {
-    right_of(w, x - 1, y) + 1
+    partner(right_of(w, x - 1, y))
 }
 
 // The dart that goes down from it: the partner of the one that goes up from its lower neighbour.
@@ -38,7 +39,7 @@ fn down_of(w: usize, c: usize, x: usize, y: usize) -> usize
     requires { ⌜ 0 < y ⌝ }
     ensures { λ r. ⌜ (r ≡ 2 * ((w - 1) * c + ((y - 1) * w + x)) + 1) × (r < 65536) ⌝ }
 {
-    up_of(w, c, x, y - 1) + 1
+    partner(up_of(w, c, x, y - 1))
 }
 
 // The dart after the one that goes right: up, left, down, skipping what is missing.
