@@ -78,13 +78,14 @@ pub fn judge(work: &mut [u32], d: usize, k: usize, e: usize, i: usize) -> Answer
     if d <= at(work, d + p) {
         return Answer::GoneAlready(i);
     }
+    let q = darts::partner(p);
     if whole(work, e) {
-        if together(work, d, p, p + 1) {
+        if together(work, d, p, q) {
             return shared(k, i);
         }
         return Answer::WholePiece(i);
     }
-    if join(work, d, p, p + 1) {
+    if join(work, d, p, q) {
         return Answer::Done(0);
     }
     shared(k, i)

@@ -16,6 +16,7 @@ use native.Mathlib.Omega.{arith}
 use lib.ListN.{length, getD, set, length-set}
 use borrow.Author.Needs.{needs}
 use borrow.Author.Tests.{eq-eqb, ne-eqb, le-leb, lt-leb}
+use Rattle.permutations.specs.Partner.{partner-first}
 use Rattle.area.specs.Area.{prev, stamp, tried}
 use Rattle.area.specs.Load.{marks}
 use Rattle.area.proofs.load.mark.Statement.{statement}
@@ -42,14 +43,14 @@ module _ {D n : ℕ} {w₀ w : List ℕ} {i : ℕ} (m : Marking D n w₀ w i) wh
     unfolding marks stamp prev
     mark-twice l o = sym (m .same ∙ rw (left, ← here, lt-leb (2 * D) h l, ne-eqb (getD w (D + 2 * (h / 4)) 0) (D + 1) o))
 
-    mark-on : h < 2 * D → getD w (D + 2 * (h / 4)) 0 ≡ D + 1
-        → Marking D n w₀ (set (set w (D + 2 * (h / 4)) D) (D + (2 * (h / 4) + 1)) D) (i + 1)
+    mark-on : h < 2 * D → getD w (D + 2 * (h / 4)) 0 ≡ D + 1 → {q : ℕ} → q ≡ 2 * (h / 4) + 1
+        → Marking D n w₀ (set (set w (D + 2 * (h / 4)) D) (D + q) D) (i + 1)
     unfolding marks stamp prev
-    mark-on l o =
+    mark-on l o odd =
         record {
           size = simp length-set (m .size);
           bound = omega arith;
-          same = m .same ∙ rw (left, ← here, lt-leb (2 * D) h l, eq-eqb (getD w (D + 2 * (h / 4)) 0) (D + 1) o, add-one i);
+          same = m .same ∙ rw (left, ← here, lt-leb (2 * D) h l, eq-eqb (getD w (D + 2 * (h / 4)) 0) (D + 1) o, odd, add-one i);
         }
 
   mark-end : n ≤ i → tried true w ≡ marks D w₀ 0 n
@@ -104,6 +105,13 @@ returns-2 c =
     let h = c .before .before .before .before .at .ensures in
     mark-twice m (c .before .before .before .before .before .before .loop-test .taken) h (c .before .before .before .if1 .left) (λ e. c .if2 .taken (c .before .at2 .ensures ∙ e))
 
+partner-requires : tie.Need-partner-requires Inv-loop μ-loop
+partner-requires c κs = search needs
+
+-- the partner of the edge's even dart is its odd one
+odd : (c : tie.After-partner Inv-loop μ-loop) → c .partner .result ≡ 2 * (c .before .before .before .before .before .at .result / 4) + 1
+odd c = c .partner .ensures ∙ partner-first _
+
 cast-work : tie.Need-cast-work Inv-loop μ-loop
 cast-work c = search needs
 
@@ -120,16 +128,13 @@ cast-work-2 : tie.Need-cast-work-2 Inv-loop μ-loop
 cast-work-2 c = search needs
 
 add-work-2 : tie.Need-add-work-2 Inv-loop μ-loop
-add-work-2 c = search needs
-
-add-work-3 : tie.Need-add-work-3 Inv-loop μ-loop
-add-work-3 c = search needs
+add-work-2 c = let q = odd c in search needs
 
 mul-work-2 : tie.Need-mul-work-2 Inv-loop μ-loop
-mul-work-2 c = search needs
+mul-work-2 c = let q = odd c in search needs
 
 slice-write-work-2 : tie.Need-slice-write-work-2 Inv-loop μ-loop
-slice-write-work-2 c = simp length-set (omega arith)
+slice-write-work-2 c = simp length-set (omega (arith, odd c))
 
 add-i : tie.Need-add-i Inv-loop μ-loop
 add-i c = search needs
@@ -139,9 +144,9 @@ loop-less c = search needs
 
 loop-again : tie.Need-loop-again Inv-loop μ-loop
 loop-again c =
-    let m = c .before .before .before .before .before .before .before .loop .inv in
-    let h = c .before .before .before .before .at .ensures in
-    mark-on m (c .before .before .before .before .before .before .loop-test .taken) h (c .before .before .before .if1 .left) (sym (c .before .at2 .ensures) ∙ c .if2 .left)
+    let m = c .before .before .before .before .before .before .before .before .loop .inv in
+    let h = c .before .before .before .before .before .at .ensures in
+    mark-on m (c .before .before .before .before .before .before .before .loop-test .taken) h (c .before .before .before .before .if1 .left) (sym (c .before .before .at2 .ensures) ∙ c .before .if2 .left) (odd c)
 
 same-length-3 : tie.Need-same-length-3 Inv-loop μ-loop
 same-length-3 c = search needs
@@ -168,13 +173,13 @@ mark-spec =
     add-if2
     same-length-2
     returns-2
+    partner-requires
     cast-work
     add-work
     mul-work
     slice-write-work
     cast-work-2
     add-work-2
-    add-work-3
     mul-work-2
     slice-write-work-2
     add-i

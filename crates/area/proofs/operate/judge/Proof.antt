@@ -9,6 +9,7 @@ use lib.ListN.{getD}
 use borrow.Author.Needs.{needs}
 use borrow.Author.Tests.{le-leb, lt-leb, lt-ltb, le-ltb}
 use Rattle.permutations.specs.Choice.{true→T}
+use Rattle.permutations.specs.Partner.{partner-first}
 use Rattle.forest.proofs.Joins.{linked-self}
 use Rattle.darts.specs.Operation.{wholeEdge}
 use Rattle.darts.specs.Cases.{answerOf}
@@ -68,6 +69,10 @@ module _ (D : ℕ) (w : List ℕ) (R : ℕ → ℕ) (k e i : ℕ) where
         unfolding judged there prev
         fine h = rw (lt-leb (D / 2) e edge, lt-ltb (getD w (D + 2 * e) 0) D here, two, h) (record { number = refl; place = λ n. absurd (n refl) })
 
+-- the partner of the edge's even dart is its odd one
+odd : (c : tie.After-partner) → c .partner .result ≡ 2 * (c .before .before .before .before .before .before .args .e) + 1
+odd c = c .partner .ensures ∙ partner-first _
+
 returns : tie.Need-returns
 returns c = record {
   answer = no-edge _ _ _ _ _ _ (c .if1 .taken);
@@ -94,14 +99,17 @@ returns-2 c = record {
   done = λ z. absurd (omega arith);
 }
 
+partner-requires : tie.Need-partner-requires
+partner-requires c κs = search needs
+
 whole-requires : tie.Need-whole-requires
 whole-requires c κs = search needs
 
-add-together : tie.Need-add-together
-add-together c = search needs
-
 together-requires : tie.Need-together-requires
-together-requires c κs = let s = c .before .before .before .before .before .before .before .before .before in (s .pre .0, (s .pre .1 .0, (omega arith, omega arith)))
+together-requires c κs =
+    let q = c .before .before .before .before in
+    let s = q .before .before .before .before .before .before in
+    (s .pre .0, (s .pre .1 .0, (omega arith, omega (arith, odd q))))
 
 shared-requires : tie.Need-shared-requires
 shared-requires c κs = search needs
@@ -112,10 +120,11 @@ same-length-2 c = search needs
 returns-3 : tie.Need-returns-3
 returns-3 c =
     let t = c .before .before .before .before in
-    let f = t .before .before .before .before .before .before .before .before in
+    let q = t .before .before .before .before .before in
+    let asked = rw (odd q) at (t .together .ensures) in
     record {
-      answer = one-root _ _ _ _ _ _ (f .if1 .left) (omega arith) (sym (t .together .ensures .answer) ∙ c .before .if4 .taken) (c .shared .ensures);
-      refused = λ _. t .together .ensures .kept;
+      answer = one-root _ _ _ _ _ _ (q .before .before .before .before .if1 .left) (omega arith) (sym (asked .answer) ∙ c .before .if4 .taken) (c .shared .ensures);
+      refused = λ _. asked .kept;
       done = λ z. absurd (omega (arith, c .shared .ensures .number));
     }
 
@@ -126,18 +135,19 @@ returns-4 : tie.Need-returns-4
 returns-4 c =
     let t = c .before .before .before in
     let w = t .before .before .before in
-    let f = t .before .before .before .before .before .before .before .before in
+    let q = w .before .before in
+    let asked = rw (odd q) at (t .together .ensures) in
     record {
-      answer = whole-piece _ _ _ _ _ _ (f .if1 .left) (omega arith) (sym (t .together .ensures .answer) ∙ c .if4 .left) (sym (w .whole .ensures) ∙ t .before .before .if3 .taken);
-      refused = λ _. t .together .ensures .kept;
+      answer = whole-piece _ _ _ _ _ _ (q .before .before .before .before .if1 .left) (omega arith) (sym (asked .answer) ∙ c .if4 .left) (sym (w .whole .ensures) ∙ t .before .before .if3 .taken);
+      refused = λ _. asked .kept;
       done = λ z. absurd (omega arith);
     }
 
-add-join : tie.Need-add-join
-add-join c = search needs
-
 join-requires : tie.Need-join-requires
-join-requires c κs = let s = c .before .before .before .before .before .before .before .before .before in (s .pre .0, (s .pre .1 .0, (omega arith, omega arith)))
+join-requires c κs =
+    let q = c .before .before .before .before in
+    let s = q .before .before .before .before .before .before in
+    (s .pre .0, (s .pre .1 .0, (omega arith, omega (arith, odd q))))
 
 same-length-4 : tie.Need-same-length-4
 same-length-4 c = search needs
@@ -146,10 +156,10 @@ returns-5 : tie.Need-returns-5
 returns-5 c =
     let j = c .before .before .before in
     let w = j .before .before .before in
-    let f = j .before .before .before .before .before .before .before .before in
-    let joined = rw (c .if5 .taken) at (j .join .ensures) in
+    let q = w .before .before in
+    let joined = rw (odd q, c .if5 .taken) at (j .join .ensures) in
     record {
-      answer = fine _ _ _ _ _ _ (f .if1 .left) (omega arith) (not-true _ (joined .answer)) (sym (w .whole .ensures) ∙ j .before .before .if3 .left);
+      answer = fine _ _ _ _ _ _ (q .before .before .before .before .if1 .left) (omega arith) (not-true _ (joined .answer)) (sym (w .whole .ensures) ∙ j .before .before .if3 .left);
       refused = λ n. absurd (n refl);
       done = λ _. joined;
     }
@@ -163,10 +173,10 @@ same-length-5 c = search needs
 returns-6 : tie.Need-returns-6
 returns-6 c =
     let j = c .before .before .before .before in
-    let f = j .before .before .before .before .before .before .before .before in
-    let joined = rw (c .before .if5 .left) at (j .join .ensures) in
+    let q = j .before .before .before .before .before in
+    let joined = rw (odd q, c .before .if5 .left) at (j .join .ensures) in
     record {
-      answer = one-root _ _ _ _ _ _ (f .if1 .left) (omega arith) (not-false _ (joined .answer)) (c .shared2 .ensures);
+      answer = one-root _ _ _ _ _ _ (q .before .before .before .before .if1 .left) (omega arith) (not-false _ (joined .answer)) (c .shared2 .ensures);
       refused = λ _. joined-kept joined;
       done = λ z. absurd (omega (arith, c .shared2 .ensures .number));
     }
@@ -181,15 +191,14 @@ judge-spec =
     at-requires
     same-length
     returns-2
+    partner-requires
     whole-requires
-    add-together
     together-requires
     shared-requires
     same-length-2
     returns-3
     same-length-3
     returns-4
-    add-join
     join-requires
     same-length-4
     returns-5
