@@ -1,4 +1,4 @@
--- `engine::back::fit` meets its contract: each answer is the case of `fitting` that its tests pick.
+-- `area::back::fit` meets its contract: each answer is the case of `fitting` that its tests pick.
 --
 --   fit-single == x is q: y alone is asked
 --   fit-odd    == p is odd: no

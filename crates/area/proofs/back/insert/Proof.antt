@@ -1,4 +1,4 @@
--- `engine::back::insert` meets its contract: four darts bound, one after another.
+-- `area::back::insert` meets its contract: four darts bound, one after another.
 use mathlib.Core.List.{List}
 use mathlib.Core.Path.{_≡_, _∙_}
 use Prim.Native.Nat.{ℕ}

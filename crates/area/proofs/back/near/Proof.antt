@@ -1,4 +1,4 @@
--- `engine::back::near` meets its contract, by the test of the last bit.
+-- `area::back::near` meets its contract, by the test of the last bit.
 use borrow.Author.Tests.{eq-eqb, ne-eqb}
 use Rattle.darts.specs.Operation.{kindOf}
 use Rattle.darts.specs.Tests.{near}

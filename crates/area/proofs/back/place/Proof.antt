@@ -1,4 +1,4 @@
--- `engine::back::place` meets its contract: that the tests pass says that the darts before x and y are darts.
+-- `area::back::place` meets its contract: that the tests pass says that the darts before x and y are darts.
 --
 --   place-both == x is q: both come before y
 --   place-each == each comes before its own

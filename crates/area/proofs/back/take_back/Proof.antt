@@ -1,4 +1,4 @@
--- `engine::back::take_back` meets its contract: the names p, q, r and s, spelt out, make the operation h of its edge.
+-- `area::back::take_back` meets its contract: the names p, q, r and s, spelt out, make the operation h of its edge.
 --
 --   q-below    == the partner is a dart
 --   spelt-out  == an edge that is tried is the operation that is tried

@@ -1,4 +1,4 @@
--- `engine::back::take_back_edge` meets its contract: x is the near one and y the far one, and p and q are placed where the tests pass.
+-- `area::back::take_back_edge` meets its contract: x is the near one and y the far one, and p and q are placed where the tests pass.
 --
 --   edge-fits == the tests pass
 --   edge-not  == one of them fails

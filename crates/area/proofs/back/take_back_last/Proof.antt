@@ -1,4 +1,4 @@
--- `engine::back::take_back_last` meets its contract: what is left to take back, in the work area as it is, is what was to be taken back from the start.
+-- `area::back::take_back_last` meets its contract: what is left to take back, in the work area as it is, is what was to be taken back from the start.
 --
 --   Backing D n c w₀ w left == that, with the bounds
 --   back-begin              == before the first operation

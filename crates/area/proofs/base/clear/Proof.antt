@@ -1,4 +1,4 @@
--- `engine::base::clear` meets its contract: the part that is filled is the first 4d numbers.
+-- `area::base::clear` meets its contract: the part that is filled is the first 4d numbers.
 use native.Mathlib.Omega.{arith}
 use borrow.Author.Needs.{needs}
 use Rattle.area.proofs.Cleared.{cleared-part}

@@ -1,4 +1,4 @@
--- `engine::base::first_bad` meets its contract: what is marked lies below d, and is cleared again.
+-- `area::base::first_bad` meets its contract: what is marked lies below d, and is cleared again.
 use Prim.Native.Nat.{_*_}
 use mathlib.Core.Path.{ap, _∙_}
 use native.Mathlib.Omega.{arith}

@@ -1,4 +1,4 @@
--- `engine::base::scan` meets its contract. The invariant: a number of the work area below d is 1 where a dart below i has it as successor, else 0; the
+-- `area::base::scan` meets its contract. The invariant: a number of the work area below d is 1 where a dart below i has it as successor, else 0; the
 -- rest of the work area stands; and what is looked for is found from i on.
 use Prim.Native.Nat.{ℕ, _≤_, _<_, _-_}
 use mathlib.Core.Path.{_≡_, _∙_, ap, refl, sym}

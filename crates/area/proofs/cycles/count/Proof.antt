@@ -1,4 +1,4 @@
--- `engine::cycles::count` meets its contract: n counts the roots among the first i darts.
+-- `area::cycles::count` meets its contract: n counts the roots among the first i darts.
 use mathlib.Core.List.{List}
 use mathlib.Core.Logic.{_≢_}
 use mathlib.Core.Path.{_≡_, refl, sym, ap, _∙_}

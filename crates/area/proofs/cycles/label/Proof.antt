@@ -1,4 +1,4 @@
--- `engine::cycles::label` meets its contract: a fresh forest is a start, and making it changes no step.
+-- `area::cycles::label` meets its contract: a fresh forest is a start, and making it changes no step.
 use mathlib.Core.List.{List}
 use mathlib.Core.Path.{_≡_, sym, subst}
 use Prim.Native.Nat.{ℕ}

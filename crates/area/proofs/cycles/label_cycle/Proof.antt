@@ -1,4 +1,4 @@
--- `engine::cycles::label_cycle` meets its contract: the walk from i marks a dart at each step, and each step leaves one fewer back to i.
+-- `area::cycles::label_cycle` meets its contract: the walk from i marks a dart at each step, and each step leaves one fewer back to i.
 use borrow.Author.Needs.{needs}
 use Rattle.area.specs.Cycles.{stepIn}
 use Rattle.area.proofs.Steps.{left}

@@ -1,4 +1,4 @@
--- `engine::cycles::label_cycles` meets its contract: at each turn the classes of the first i darts have their lowest darts as parents.
+-- `area::cycles::label_cycles` meets its contract: at each turn the classes of the first i darts have their lowest darts as parents.
 --
 --   Labelling D k w₀ w i == so far, from w₀ to w
 --   turn-gone            == a gone dart is alone on its cycle, and its own parent

@@ -1,4 +1,4 @@
--- `engine::cycles::replay` meets its contract: what is left of the replay at each turn answers the same, and joins the same, as the whole.
+-- `area::cycles::replay` meets its contract: what is left of the replay at each turn answers the same, and joins the same, as the whole.
 --
 --   Replaying D n k w₀ w i == w is w₀ after the first i operations: the replay from here is the replay from the start
 --   turn-head              == the operations that are left: this one, h, and those after it

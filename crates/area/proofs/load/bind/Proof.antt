@@ -1,4 +1,4 @@
--- `engine::load::bind` meets its contract: two stores, both in the work area.
+-- `area::load::bind` meets its contract: two stores, both in the work area.
 use native.Mathlib.Omega.{arith}
 use lib.ListN.{length-set}
 use borrow.Author.Needs.{needs}

@@ -1,4 +1,4 @@
--- `engine::load::link` meets its contract: what is to be linked from dart x on, in the work area as it is, is what was to be linked from the start.
+-- `area::load::link` meets its contract: what is to be linked from dart x on, in the work area as it is, is what was to be linked from the start.
 --
 --   Linking D w₀ w x == that, with the bounds
 --   link-large       == an entry that is no dart: no

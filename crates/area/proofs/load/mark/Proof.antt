@@ -1,4 +1,4 @@
--- `engine::load::mark` meets its contract: what is to be marked from place i on, in the work area as it is, is what was to be marked from the start.
+-- `area::load::mark` meets its contract: what is to be marked from place i on, in the work area as it is, is what was to be marked from the start.
 --
 --   Marking D n w₀ w i == that, with the bounds
 --   mark-large         == a number of no dart: no

@@ -1,4 +1,4 @@
--- `engine::operate::bypass` meets its contract: one store of a dart and its dart before, or two.
+-- `area::operate::bypass` meets its contract: one store of a dart and its dart before, or two.
 use mathlib.Core.List.{List}
 use mathlib.Core.Path.{ap, _∙_}
 use Prim.Native.Nat.{ℕ}

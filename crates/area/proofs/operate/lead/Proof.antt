@@ -1,4 +1,4 @@
--- `engine::operate::lead` meets its contract: the operation turns round where the far one is p.
+-- `area::operate::lead` meets its contract: the operation turns round where the far one is p.
 use mathlib.Core.List.{List}
 use mathlib.Core.Logic.{_≢_}
 use mathlib.Core.Path.{_≡_, sym, _∙_}

@@ -1,4 +1,4 @@
--- `engine::operate::lead_on` meets its contract: the darts that are read are those that `led` names.
+-- `area::operate::lead_on` meets its contract: the darts that are read are those that `led` names.
 use mathlib.Core.List.{List}
 use mathlib.Core.Path.{_≡_, refl, _∙_}
 use Prim.Native.Nat.{ℕ, _+_, _<_}

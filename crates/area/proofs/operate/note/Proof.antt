@@ -1,4 +1,4 @@
--- `engine::operate::note` meets its contract: its three stores.
+-- `area::operate::note` meets its contract: its three stores.
 use mathlib.Core.Path.{refl}
 use native.Mathlib.Omega.{arith}
 use lib.ListN.{length-set}

@@ -1,4 +1,4 @@
--- `engine::operate::operate` meets its contract: its three steps one after another, at the dart that plays p.
+-- `area::operate::operate` meets its contract: its three steps one after another, at the dart that plays p.
 use mathlib.Core.List.{List}
 use mathlib.Core.Path.{_≡_, ap, _∙_}
 use Prim.Native.Nat.{ℕ}

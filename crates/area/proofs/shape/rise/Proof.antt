@@ -1,4 +1,4 @@
--- `engine::shape::rise` meets its contract: whether the ends rise is whether those from the i-th on rise from the last end that was passed.
+-- `area::shape::rise` meets its contract: whether the ends rise is whether those from the i-th on rise from the last end that was passed.
 --
 --   Rising D n l w ends from i == that, with the bounds
 --   rise-low, rise-high        == an end that is not above the last one, or is past the operations: no

@@ -1,4 +1,4 @@
--- `engine::shape::unused` meets its contract: whether the ends past the levels are 0 is whether those from i on are.
+-- `area::shape::unused` meets its contract: whether the ends past the levels are 0 is whether those from i on are.
 --
 --   Zeros ends levels i == there are 64 ends, and those from the levels to i are 0
 --   zeros-on            == one end more

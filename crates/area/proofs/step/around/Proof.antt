@@ -1,4 +1,4 @@
--- `engine::area::around` meets its contract: for a face the partner is taken first.
+-- `area::step::around` meets its contract: for a face the partner is taken first.
 use native.Mathlib.Omega.{arith}
 use borrow.Author.Needs.{needs}
 use borrow.Author.Tests.{eq-eqb, ne-eqb}

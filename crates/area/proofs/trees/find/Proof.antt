@@ -1,4 +1,4 @@
--- `engine::trees::find` meets its contract: what is found in the lent part.
+-- `area::trees::find` meets its contract: what is found in the lent part.
 use borrow.Author.Needs.{needs}
 use Rattle.area.proofs.Lent.{found}
 use Rattle.area.proofs.trees.find.Statement.{statement}

@@ -1,4 +1,4 @@
--- `engine::trees::join` meets its contract: what is joined in the lent part.
+-- `area::trees::join` meets its contract: what is joined in the lent part.
 use borrow.Author.Needs.{needs}
 use Rattle.area.proofs.Lent.{joined}
 use Rattle.area.proofs.trees.join.Statement.{statement}

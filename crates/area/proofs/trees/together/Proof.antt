@@ -1,4 +1,4 @@
--- `engine::trees::together` meets its contract: both roots are found, and the first find has kept the second root.
+-- `area::trees::together` meets its contract: both roots are found, and the first find has kept the second root.
 use borrow.Author.Needs.{needs}
 use Rattle.area.proofs.Lent.{kept-together}
 use Rattle.area.proofs.trees.together.Statement.{statement}

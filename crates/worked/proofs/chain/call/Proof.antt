@@ -1,4 +1,4 @@
--- `chain::call`: each step is the call that it names.
+-- `worked::chain::call`: each step is the call that it names.
 use mathlib.Core.Path.{refl}
 use borrow.Author.Needs.{needs}
 use Rattle.worked.proofs.chain.call.Statement.{statement}

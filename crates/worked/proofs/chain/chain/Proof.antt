@@ -1,4 +1,4 @@
--- `chain::chain`: each call goes on from what the one before it left.
+-- `worked::chain::chain`: each call goes on from what the one before it left.
 use mathlib.Core.Path.{ap, _∙_}
 use Rattle.worked.specs.Chain.{stepped}
 use borrow.Author.Needs.{needs}

@@ -1,4 +1,4 @@
--- `examples::example`: what the definitions leave, the calls leave.
+-- `worked::examples::example`: what the definitions leave, the calls leave.
 use mathlib.Core.Path.{_∙_}
 use Rattle.worked.proofs.Parts.{row-of}
 use borrow.Author.Needs.{needs}

@@ -1,4 +1,4 @@
--- `examples::kernels`: K3, K5 and K11, as computed.
+-- `worked::examples::kernels`: K3, K5 and K11, as computed.
 use Rattle.worked.proofs.Computed.{computed}
 use borrow.Author.Needs.{needs}
 use Rattle.worked.proofs.examples.kernels.Statement.{statement}

@@ -1,4 +1,4 @@
--- `examples::refused_at_the_top`: K8, as computed.
+-- `worked::examples::refused_at_the_top`: K8, as computed.
 use Rattle.worked.proofs.Computed.{computed}
 use borrow.Author.Needs.{needs}
 use Rattle.worked.proofs.examples.refused_at_the_top.Statement.{statement}

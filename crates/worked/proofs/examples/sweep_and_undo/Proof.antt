@@ -1,4 +1,4 @@
--- `examples::sweep_and_undo`: K7, and back, as computed.
+-- `worked::examples::sweep_and_undo`: K7, and back, as computed.
 use Rattle.worked.proofs.Computed.{computed}
 use borrow.Author.Needs.{needs}
 use Rattle.worked.proofs.examples.sweep_and_undo.Statement.{statement}

@@ -1,4 +1,4 @@
--- `examples::two_darts`: K10, as computed.
+-- `worked::examples::two_darts`: K10, as computed.
 use Rattle.worked.proofs.Computed.{computed}
 use borrow.Author.Needs.{needs}
 use Rattle.worked.proofs.examples.two_darts.Statement.{statement}

@@ -1,4 +1,4 @@
--- `rows::is_row`: the first part that differs decides, and the history where none of the others does.
+-- `worked::rows::is_row`: the first part that differs decides, and the history where none of the others does.
 use mathlib.Core.Path.{sym, _∙_}
 use borrow.Author.Needs.{needs}
 use Rattle.worked.proofs.Parts.{not-number, not-place, not-table, all-but-history, is-false, is-true}

@@ -1,4 +1,4 @@
--- `rows::same`: whether the lists are the same is whether what is left of them from i on is.
+-- `worked::rows::same`: whether the lists are the same is whether what is left of them from i on is.
 use mathlib.Core.Path.{refl}
 use Prim.Native.Nat.{_-_}
 use lib.ListN.{length}
