@@ -1,14 +1,16 @@
--- The answers (document 01, "Answer numbers"): the number and the place of each case.
---   Answer        == a number and a place
---   answered n p  == the answer with number n and place p
+-- The answers (document 01, "Answer numbers"; document 02, request Three): the number and the two places of each case.
+--   Answer        == a number, a place and a second place
+--   answered n p  == the answer with number n and place p, the second place 0
 use Prim.Native.Nat.{ℕ}
 
 pub record Answer : Type 0 where
   pub number : ℕ
   pub place : ℕ
+  pub second : ℕ
 
+-- "every other answer has 0 there": every one but 3
 abbrev pub answered : ℕ → ℕ → Answer
-answered n p = record { number = n; place = p }
+answered n p = record { number = n; place = p; second = 0 }
 
 -- 0, "done", place "0; for the writer, the bytes written"
 abbrev pub done : Answer
@@ -28,9 +30,10 @@ tooShort = answered 2 0
 abbrev pub needs : ℕ → Answer
 needs n = answered 2 n
 
--- 3, "start: the table is no permutation", place "lowest dart whose successor is D or more, or repeats a lower dart's"
-abbrev pub noPermutation : ℕ → Answer
-noPermutation d = answered 3 d
+-- 3, "start: the table is no permutation", place "lowest dart whose successor is D or more, or repeats a lower dart's".
+-- "3 carries a second place, D where the value was out of range", else the "lower dart" that "already has that successor"
+abbrev pub noPermutation : ℕ → ℕ → Answer
+noPermutation d c = record { number = 3; place = d; second = c }
 
 -- 4, "the state, or what a file holds, is no pyramid"
 abbrev pub noPyramid : Answer

@@ -13,7 +13,7 @@ use lib.ListN.{length, take, replicate}
 use Rattle.slices.specs.Over.{over}
 use Rattle.darts.specs.Choose.{if_then_else_}
 use Rattle.darts.specs.Answers.{Answer, done, wrote, noDartCount, tooShort, needs, noPermutation, noPyramid}
-use Rattle.darts.specs.Map.{firstBad}
+use Rattle.darts.specs.Map.{Verdict, permutes, culprits, permutationTest}
 use Rattle.darts.specs.Operation.{Kind}
 use Rattle.darts.specs.State.{State, baseState, Result, gives, refuses, reduce}
 use Rattle.darts.specs.Levels.{sweep, undoLevel, unfoldTo}
@@ -77,13 +77,15 @@ judged s t h w =
     let a : Answer = fitting (s .darts) (length t) (length h) (length w) in
     if not (eqb (a .number) 0) then a else if isPyramid s (tableOf s t) (pastOf s h) then done else noPyramid
 
--- "A refused start or read, which was given none, hands back a state of zeros."
+-- "A refused start or read, which was given none, hands back a state of zeros." The start call passes both culprits on.
+unfoldable pub begins : ℕ → List ℕ → List ℕ → List ℕ → Verdict → After
+begins D t h w permutes = leaves done (baseState D) t h (cleared D w)
+begins D t h w (culprits d c) = leaves (noPermutation d c) (baseState 0) t h (cleared D w)
+
 unfoldable pub start : ℕ → List ℕ → List ℕ → List ℕ → After
 start D t h w =
     let a : Answer = fitting D (length t) (length h) (length w) in
-    if not (eqb (a .number) 0) then leaves a (baseState 0) t h w
-    else if ltb (firstBad D t) D then leaves (noPermutation (firstBad D t)) (baseState 0) t h (cleared D w)
-    else leaves done (baseState D) t h (cleared D w)
+    if not (eqb (a .number) 0) then leaves a (baseState 0) t h w else begins D t h w (permutationTest D t)
 
 -- "A refused call hands back the state it was given." "A refusal changes nothing but the work area."
 unfoldable pub handsBack : State → List ℕ → List ℕ → List ℕ → Result → After

@@ -1,4 +1,4 @@
--- The cases of an answer, as the code has them, and the rules' number and place of each.
+-- The cases of an answer, as the code has them, and the rules' number and places of each.
 --   answerOf a == the answer of the definitions that a case is
 use Rattle.darts.specs.Answers.{Answer as Answered, wrote, noDartCount, needs, noPermutation, noPyramid, emptyKernel, tooManyLevels, noEdge, goneAlready, oneVertex, oneFace, wholePiece, noLevel, noFile, noFlag, noPlanSize}
 use Rattle.darts.specs.declared.Answer.{Answer}
@@ -8,7 +8,7 @@ abbrev pub answerOf : Answer → Answered
 answerOf (Done n) = wrote n
 answerOf NoDartCount = noDartCount
 answerOf (TooShort n) = needs n
-answerOf (NoPermutation d) = noPermutation d
+answerOf (NoPermutation d c) = noPermutation d c
 answerOf NoPyramid = noPyramid
 answerOf EmptyKernel = emptyKernel
 answerOf TooManyLevels = tooManyLevels

@@ -8,8 +8,10 @@
 --   survives past d      == none did
 --   live D past d        == d is a dart, and it survives
 --   before D t past x    == the dart before x
---   firstBad D t         == the lowest dart that keeps t from being a permutation, or D
-use mathlib.Core.Bool.{Bool, false, _||_, _&&_, not}
+--   Verdict              == what the permutation test says: the table permutes the darts, or two culprits
+--   permutationTest D t  == the permutation test of t
+--   passed v             == no culprits
+use mathlib.Core.Bool.{Bool, true, false, _||_, _&&_, not}
 use mathlib.Core.List.{List, [], _∷_}
 use Prim.Native.Nat.{ℕ, zero, suc, _/_}
 use lib.Dec.{eqb, leb, ltb}
@@ -64,12 +66,26 @@ unfoldable pub repeats : List ℕ → ℕ → ℕ → Bool
 repeats t zero x = false
 repeats t (suc d) x = eqb (successor t d) x || repeats t d x
 
--- the lowest of the n darts from d on "whose successor is D or more, or repeats a lower dart's", or d + n
-unfoldable pub firstBadFrom : ℕ → List ℕ → ℕ → ℕ → ℕ
-firstBadFrom D t zero d = d
-firstBadFrom D t (suc n) d =
-    if leb D (successor t d) || repeats t d (successor t d) then d else firstBadFrom D t n (suc d)
+-- "The permutation test shall also say which lower dart already has that successor, or that the successor is out of range": the second culprit
+-- beside d, "D where the value was out of range". No dart of a base is gone.
+unfoldable pub culprit : ℕ → List ℕ → ℕ → ℕ
+culprit D t d = if leb D (successor t d) then D else beforeIn d t [] (successor t d)
 
--- "In a base the table is a permutation of all darts.": no dart is bad, and this is D
-unfoldable pub firstBad : ℕ → List ℕ → ℕ
-firstBad D t = firstBadFrom D t D 0
+-- the table permutes the darts; or a dart keeps it from that, and the second culprit
+pub data Verdict : Type 0 where
+  permutes : Verdict
+  culprits : ℕ → ℕ → Verdict
+
+-- of the n darts from d on, the "lowest dart whose successor is D or more, or repeats a lower dart's" decides
+unfoldable pub testFrom : ℕ → List ℕ → ℕ → ℕ → Verdict
+testFrom D t zero d = permutes
+testFrom D t (suc n) d =
+    if leb D (successor t d) || repeats t d (successor t d) then culprits d (culprit D t d) else testFrom D t n (suc d)
+
+-- "In a base the table is a permutation of all darts."
+unfoldable pub permutationTest : ℕ → List ℕ → Verdict
+permutationTest D t = testFrom D t D 0
+
+unfoldable pub passed : Verdict → Bool
+passed permutes = true
+passed (culprits d c) = false

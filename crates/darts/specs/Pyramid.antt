@@ -11,7 +11,7 @@ use mathlib.Core.Path.{_≡_}
 use Prim.Native.Nat.{ℕ, _-_, _%_}
 use lib.Dec.{T, eqb, leb}
 use lib.ListN.{length, take, drop}
-use Rattle.darts.specs.Map.{firstBad}
+use Rattle.darts.specs.Map.{permutes, permutationTest, passed}
 use Rattle.darts.specs.Operation.{Kind, contraction, kindOf, edgeOf, undone}
 use Rattle.darts.specs.State.{State, baseState, Result, gives, refuses, andThen, reduce}
 
@@ -35,7 +35,7 @@ pub record Pyramid (s : State) (t past : List ℕ) : Type 0 where
   pub count : T (dartCount (s .darts))
   pub base : List ℕ
   pub size : length base ≡ s .darts
-  pub permutation : firstBad (s .darts) base ≡ s .darts
+  pub permutation : permutationTest (s .darts) base ≡ permutes
   pub kernels : List Kernel
   pub built : build (baseState (s .darts)) base [] kernels ≡ gives s t past
 
@@ -73,5 +73,5 @@ unfoldable pub isPyramid : State → List ℕ → List ℕ → Bool
 isPyramid s t past =
     let D : ℕ = s .darts in
     let base : List ℕ = undone D (length past) t past in
-    dartCount D && (eqb (length base) D && (eqb (firstBad D base) D
+    dartCount D && (eqb (length base) D && (passed (permutationTest D base)
     && isExactly s t past (build (baseState D) base [] (kernelsOf s past))))

@@ -2,7 +2,8 @@
 -- With h the last operation: p its lead, q p's partner, r and s where p and q lead.
 --   numbered D past       == tests 1 and 2: the history numbers are of darts, and no edge is taken twice
 --   links D t past x      == tests 3 to 5, of dart x: its entry is a dart; a survivor leads to a survivor, to which no lower one leads
---   linked D t past n     == tests 3 to 5, of the first n darts
+--   survivorsTest D t past == tests 3 to 5 of all darts, with the culprits: the permutation test of the survivors
+--   linked D t past       == it is passed
 --   near k r s, far k r s == where the darts before p and before q lead once an operation of kind k is done
 --   fits D t h past       == tests 6 to 15, of the last operation h; past are the ones before it
 --   backs D t past        == tests 6 to 15, of each operation once the later ones are undone
@@ -21,7 +22,7 @@ use lib.ListN.{length, take, drop}
 use Rattle.permutations.specs.Partner.{partner}
 use Rattle.permutations.specs.Labels.{merge}
 use Rattle.darts.specs.Choose.{if_then_else_}
-use Rattle.darts.specs.Map.{successor, gone, survives, live}
+use Rattle.darts.specs.Map.{successor, gone, survives, live, beforeIn, Verdict, permutes, culprits, passed}
 use Rattle.darts.specs.Operation.{Kind, contraction, removal, kindOf, leadOf, undoOne}
 use Rattle.darts.specs.State.{State}
 use Rattle.darts.specs.Pyramid.{dartCount}
@@ -47,9 +48,20 @@ links D t past x =
     || (survives past (successor t x)  -- 4
     && not (led t past x (successor t x))))  -- 5
 
-unfoldable pub linked : ℕ → List ℕ → List ℕ → ℕ → Bool
-linked D t past zero = true
-linked D t past (suc x) = links D t past x && linked D t past x
+-- the second culprit beside x: D where its successor is no dart or is gone, else the lower survivor that leads there
+unfoldable pub blamed : ℕ → List ℕ → List ℕ → ℕ → ℕ
+blamed D t past x = if leb D (successor t x) || gone past (successor t x) then D else beforeIn x t past (successor t x)
+
+-- of the n darts from x on, the lowest that breaks one of tests 3 to 5 decides
+unfoldable pub linksFrom : ℕ → List ℕ → List ℕ → ℕ → ℕ → Verdict
+linksFrom D t past zero x = permutes
+linksFrom D t past (suc n) x = if links D t past x then linksFrom D t past n (suc x) else culprits x (blamed D t past x)
+
+unfoldable pub survivorsTest : ℕ → List ℕ → List ℕ → Verdict
+survivorsTest D t past = linksFrom D t past D 0
+
+abbrev pub linked : ℕ → List ℕ → List ℕ → Bool
+linked D t past = passed (survivorsTest D t past)
 
 -- where the dart before p leads once the operation is done; if that is q itself, the dart before p leads to the far one
 unfoldable pub near : Kind → ℕ → ℕ → ℕ
@@ -146,7 +158,7 @@ tested Lv Lf s t past =
     dartCount D && (eqb (length t) D
     && (shaped s hs
     && (numbered D past
-    && (linked D t past D
+    && (linked D t past
     && (backs D t past
     && (replays contraction Lv hs
     && replays removal Lf hs))))))

@@ -15,7 +15,7 @@ use lib.ListN.{length, take, replicate}
 use Rattle.permutations.specs.Partner.{partner}
 use Rattle.permutations.specs.Cycle.{meetsIn}
 use Rattle.darts.specs.Answers.{Answer}
-use Rattle.darts.specs.Map.{successor, faceNext, sameVertex, sameFace, samePiece, gone, survives, beforeIn, before, repeats, firstBadFrom, firstBad}
+use Rattle.darts.specs.Map.{successor, faceNext, sameVertex, sameFace, samePiece, gone, survives, beforeIn, before, repeats, culprit, testFrom, permutationTest, passed}
 use Rattle.darts.specs.Operation.{contraction, removal, turned, lead, wholeEdge, remove, contract, operate, number, kindOf, leadOf, edgeOf, putBack, undoOne, undone}
 use Rattle.darts.specs.Kernel.{shared, judge, rising, passFrom, pass, run}
 use Rattle.darts.specs.State.{raised, levelled, reduce}
@@ -26,7 +26,7 @@ use Rattle.darts.specs.Text.{bytes, digits, decimal}
 use Rattle.darts.specs.File.{taken, survivors, fileOrder, placeIn, fileNumber, fileTable, kindWord, kernelLine, kernelLines, pairLines, fileOf}
 use Rattle.darts.specs.Scan.{byteAt, word, isDigit, numberOn, numberAt, field}
 use Rattle.darts.specs.Read.{flagAt, opening, kernelOfKind, kernelAt, kernelsAt, pairsAt, endAt, body, fromFlag, endsFrom, total, fileState, numbersFrom, historyFrom, fileHistory, closed, opened, readFile}
-use Rattle.darts.specs.Calls.{After, Counted, Written, room, fitting, tableOf, pastOf, cleared, workAfter, judged, start, handsBack, onState, reduceBy, sweepBy, undoBy, unfoldBy, counts, readInto, read, write}
+use Rattle.darts.specs.Calls.{After, Counted, Written, room, fitting, tableOf, pastOf, cleared, workAfter, judged, begins, start, handsBack, onState, reduceBy, sweepBy, undoBy, unfoldBy, counts, readInto, read, write}
 use Rattle.slices.specs.Over.{over}
 
 pub data Step : Type 0 where
@@ -35,8 +35,8 @@ pub data Step : Type 0 where
   toLevel : ℕ → Step
 
 pub data Row : Type 0 where
-  -- start from a table: the answer's number and place
-  starts : List ℕ → ℕ → ℕ → Row
+  -- start from a table: the answer's number, place and second place
+  starts : List ℕ → ℕ → ℕ → ℕ → Row
   -- start, some steps: the last one's number and place, and the table and history left
   leads : List ℕ → List Step → ℕ → ℕ → List ℕ → List ℕ → Row
   -- start, some steps, counts: surviving darts, vertices, faces, the Euler number
@@ -68,8 +68,12 @@ steps (s ∷ ss) a = steps ss (stepped s a)
 abbrev counting : After → Counted
 counting a = counts (a .state) (a .table) (a .history) (a .work)
 
+abbrev pub answersBoth : ℕ → ℕ → ℕ → Answer → Bool
+answersBoth n p s a = eqb (a .number) n && (eqb (a .place) p && eqb (a .second) s)
+
+-- "every other answer has 0 there"
 abbrev pub answers : ℕ → ℕ → Answer → Bool
-answers n p a = eqb (a .number) n && eqb (a .place) p
+answers n p = answersBoth n p 0
 
 abbrev sameℤ : ℤ → ℤ → Bool
 sameℤ (pos m) (pos n) = eqb m n
@@ -95,7 +99,7 @@ abbrev reading : String → After
 reading f = read (bytes f) (replicate 8 9) (replicate 4 9) (replicate 32 9)
 
 abbrev right : Row → Bool
-right (starts t n p) = answers n p (started t .answer)
+right (starts t n p s) = answersBoth n p s (started t .answer)
 right (leads t ss n p u h) =
     let a : After = steps ss (started t) in
     answers n p (a .answer) && (sameNumbers (a .table) u && sameNumbers (historyOf a) h)
@@ -153,8 +157,8 @@ table =
     ∷ leads (2 ∷ 4 ∷ 1 ∷ 3 ∷ 0 ∷ 5 ∷ []) (byRemoving (0 ∷ []) ∷ byUndo ∷ []) 0 0 (2 ∷ 4 ∷ 1 ∷ 3 ∷ 0 ∷ 5 ∷ []) []
     ∷ leads (2 ∷ 4 ∷ 0 ∷ 3 ∷ 1 ∷ 5 ∷ []) (byContracting (0 ∷ []) ∷ byUndo ∷ []) 0 0 (2 ∷ 4 ∷ 0 ∷ 3 ∷ 1 ∷ 5 ∷ []) []
     -- K10
-    ∷ starts (1 ∷ 1 ∷ []) 3 1
-    ∷ starts (1 ∷ 0 ∷ []) 0 0
+    ∷ starts (1 ∷ 1 ∷ []) 3 1 0
+    ∷ starts (1 ∷ 0 ∷ []) 0 0 0
     ∷ pieces (1 ∷ 0 ∷ 2 ∷ 3 ∷ []) 0 3 false
     ∷ leads (1 ∷ 0 ∷ []) (byRemoving (0 ∷ []) ∷ []) 11 0 (1 ∷ 0 ∷ []) []
     -- K11
@@ -178,6 +182,12 @@ table =
     ∷ leads (2 ∷ 3 ∷ 0 ∷ 1 ∷ []) (byContracting (0 ∷ []) ∷ []) 0 0 (2 ∷ 3 ∷ 3 ∷ 2 ∷ []) (1 ∷ [])
     ∷ leads (2 ∷ 3 ∷ 0 ∷ 1 ∷ []) (byContracting (1 ∷ []) ∷ []) 0 0 (1 ∷ 0 ∷ 0 ∷ 1 ∷ []) (5 ∷ [])
     ∷ leads (2 ∷ 3 ∷ 0 ∷ 1 ∷ []) (byContracting (0 ∷ 1 ∷ []) ∷ []) 9 1 (2 ∷ 3 ∷ 0 ∷ 1 ∷ []) []
+    -- 3: "which lower dart already has that successor", "D where the value was out of range"; of two faults the lowest dart's decides
+    ∷ starts (0 ∷ 2 ∷ []) 3 1 2
+    ∷ starts (2 ∷ 1 ∷ []) 3 0 2
+    ∷ starts (2 ∷ 0 ∷ 0 ∷ 9 ∷ []) 3 2 1
+    ∷ starts (2 ∷ 9 ∷ 2 ∷ 0 ∷ []) 3 1 4
+    ∷ starts (3 ∷ 1 ∷ 3 ∷ 3 ∷ []) 3 2 0
     -- 12: "the top level"
     ∷ leads T (byUndo ∷ []) 12 0 T []
     ∷ leads T (K7 ++ (toLevel 3 ∷ [])) 12 2 (5 ∷ 2 ∷ 5 ∷ 4 ∷ 6 ∷ 4 ∷ 6 ∷ 7 ∷ []) (1 ∷ 5 ∷ 10 ∷ [])
@@ -199,5 +209,5 @@ table =
     ∷ []
 
 pub worked : allRight table ≡ true
-unfolding partner meetsIn successor faceNext sameVertex sameFace samePiece gone survives beforeIn before repeats firstBadFrom firstBad turned lead wholeEdge remove contract operate number kindOf leadOf edgeOf putBack undoOne undone shared judge passFrom pass run raised levelled reduce emptyLoop takes rising swept sweep endBelow lowered undoLevel undoLevels unfoldTo dartCount build kernelOf cut kernelsOf sameNumbers sameState isExactly isPyramid neverBelow lowest cycles surviving countsOf digits decimal taken survivors fileOrder placeIn fileNumber fileTable kindWord kernelLine kernelLines pairLines fileOf byteAt word isDigit numberOn numberAt field flagAt opening kernelOfKind kernelAt kernelsAt pairsAt endAt body fromFlag endsFrom total fileState numbersFrom historyFrom fileHistory closed opened readFile room fitting tableOf pastOf over cleared workAfter judged start handsBack onState reduceBy sweepBy undoBy unfoldBy counts readInto read write
+unfolding partner meetsIn successor faceNext sameVertex sameFace samePiece gone survives beforeIn before repeats culprit testFrom permutationTest passed turned lead wholeEdge remove contract operate number kindOf leadOf edgeOf putBack undoOne undone shared judge passFrom pass run raised levelled reduce emptyLoop takes rising swept sweep endBelow lowered undoLevel undoLevels unfoldTo dartCount build kernelOf cut kernelsOf sameNumbers sameState isExactly isPyramid neverBelow lowest cycles surviving countsOf digits decimal taken survivors fileOrder placeIn fileNumber fileTable kindWord kernelLine kernelLines pairLines fileOf byteAt word isDigit numberOn numberAt field flagAt opening kernelOfKind kernelAt kernelsAt pairsAt endAt body fromFlag endsFrom total fileState numbersFrom historyFrom fileHistory closed opened readFile room fitting tableOf pastOf over cleared workAfter judged begins start handsBack onState reduceBy sweepBy undoBy unfoldBy counts readInto read write
 worked = refl

@@ -14,7 +14,7 @@ use lib.ListN.{replicate}
 use Rattle.permutations.specs.Partner.{partner}
 use Rattle.permutations.specs.Cycle.{meetsIn}
 use Rattle.darts.specs.Answers.{answered}
-use Rattle.darts.specs.Map.{successor, faceNext, sameVertex, sameFace, samePiece, gone, survives, beforeIn, before, repeats, firstBadFrom, firstBad}
+use Rattle.darts.specs.Map.{successor, faceNext, sameVertex, sameFace, samePiece, gone, survives, beforeIn, before, repeats, culprit, testFrom, permutationTest, passed}
 use Rattle.darts.specs.Operation.{turned, lead, wholeEdge, remove, contract, operate, number, kindOf, leadOf, edgeOf, putBack, undoOne, undone}
 use Rattle.darts.specs.Kernel.{shared, judge, rising, passFrom, pass, run}
 use Rattle.darts.specs.State.{raised, levelled, reduce, State, baseState}
@@ -25,13 +25,13 @@ use Rattle.darts.specs.Text.{bytes, digits, decimal}
 use Rattle.darts.specs.File.{taken, survivors, fileOrder, placeIn, fileNumber, fileTable, kindWord, kernelLine, kernelLines, pairLines, fileOf}
 use Rattle.darts.specs.Scan.{byteAt, word, isDigit, numberOn, numberAt, field}
 use Rattle.darts.specs.Read.{flagAt, opening, kernelOfKind, kernelAt, kernelsAt, pairsAt, endAt, body, fromFlag, endsFrom, total, fileState, numbersFrom, historyFrom, fileHistory, closed, opened, readFile}
-use Rattle.darts.specs.Calls.{After, Counted, Written, room, fitting, tableOf, pastOf, cleared, workAfter, judged, start, handsBack, onState, reduceBy, sweepBy, undoBy, unfoldBy, counts, readInto, read, write}
+use Rattle.darts.specs.Calls.{After, Counted, Written, room, fitting, tableOf, pastOf, cleared, workAfter, judged, begins, start, handsBack, onState, reduceBy, sweepBy, undoBy, unfoldBy, counts, readInto, read, write}
 use Rattle.slices.specs.Over.{over}
-use Rattle.darts.specs.Worked.{Step, byContracting, bySweep, byUndo, toLevel, stepped, answers, countsAre}
+use Rattle.darts.specs.Worked.{Step, byContracting, bySweep, byUndo, toLevel, stepped, answers, answersBoth, countsAre}
 
 pub data Row : Type 0 where
-  -- start from D and three slices: the number, the place, the state's darts, and the slices left
-  starts : ℕ → List ℕ → List ℕ → List ℕ → ℕ → ℕ → ℕ → List ℕ → List ℕ → List ℕ → Row
+  -- start from D and three slices: the number, the place, the second place, the state's darts, and the slices left
+  starts : ℕ → List ℕ → List ℕ → List ℕ → ℕ → ℕ → ℕ → ℕ → List ℕ → List ℕ → List ℕ → Row
   -- a call on a state and three slices: the number, the place, the state and the slices left
   calls : State → List ℕ → List ℕ → List ℕ → Step → ℕ → ℕ → State → List ℕ → List ℕ → List ℕ → Row
   -- counts: the number, the four counts, and the work area left
@@ -45,9 +45,9 @@ abbrev slicesAre : List ℕ → List ℕ → List ℕ → After → Bool
 slicesAre t h w a = sameNumbers (a .table) t && (sameNumbers (a .history) h && sameNumbers (a .work) w)
 
 abbrev right : Row → Bool
-right (starts D t h w n p d u g v) =
+right (starts D t h w n p s d u g v) =
     let a : After = start D t h w in
-    answers n p (a .answer) && (sameState (a .state) (baseState d) && slicesAre u g v a)
+    answersBoth n p s (a .answer) && (sameState (a .state) (baseState d) && slicesAre u g v a)
 right (calls s t h w step n p z u g v) =
     let a : After = stepped step (record { answer = answered 0 0; state = s; table = t; history = h; work = w }) in
     answers n p (a .answer) && (sameState (a .state) z && slicesAre u g v a)
@@ -91,16 +91,18 @@ swept-file = "numbers=0\ndarts=4\nlevels=1\nkernel=remove 1\npair=1 2\npair=2 3\
 abbrev pub lentTable : List Row
 lentTable =
     -- "the table with at least D numbers, the history with D/2 and the work area with 4D"; "the work area's first 4D numbers are zero"
-    starts 4 (behind L) (8 ∷ 8 ∷ 8 ∷ []) (sevens 17) 0 0 4 (behind L) (8 ∷ 8 ∷ 8 ∷ []) zeroed
+    starts 4 (behind L) (8 ∷ 8 ∷ 8 ∷ []) (sevens 17) 0 0 0 4 (behind L) (8 ∷ 8 ∷ 8 ∷ []) zeroed
     -- 3 clears the work area, 1 and 2 "write nothing at all"; a refused start "hands back a state of zeros"
-    ∷ starts 4 (behind (1 ∷ 1 ∷ 0 ∷ 3 ∷ [])) (8 ∷ 8 ∷ 8 ∷ []) (sevens 17) 3 1 0 (behind (1 ∷ 1 ∷ 0 ∷ 3 ∷ [])) (8 ∷ 8 ∷ 8 ∷ []) zeroed
-    ∷ starts 3 (behind L) (8 ∷ 8 ∷ 8 ∷ []) (sevens 17) 1 0 0 (behind L) (8 ∷ 8 ∷ 8 ∷ []) (sevens 17)
-    ∷ starts 4 (1 ∷ 2 ∷ 0 ∷ []) (8 ∷ 8 ∷ []) (sevens 16) 2 0 0 (1 ∷ 2 ∷ 0 ∷ []) (8 ∷ 8 ∷ []) (sevens 16)
-    ∷ starts 4 L (8 ∷ []) (sevens 16) 2 0 0 L (8 ∷ []) (sevens 16)
-    ∷ starts 4 L (8 ∷ 8 ∷ []) (sevens 15) 2 0 0 L (8 ∷ 8 ∷ []) (sevens 15)
+    ∷ starts 4 (behind (1 ∷ 1 ∷ 0 ∷ 3 ∷ [])) (8 ∷ 8 ∷ 8 ∷ []) (sevens 17) 3 1 0 0 (behind (1 ∷ 1 ∷ 0 ∷ 3 ∷ [])) (8 ∷ 8 ∷ 8 ∷ []) zeroed
+    -- a number past D is not looked at: 4 is out of range, though it is less than the table's length
+    ∷ starts 4 (behind (1 ∷ 4 ∷ 0 ∷ 3 ∷ [])) (8 ∷ 8 ∷ 8 ∷ []) (sevens 17) 3 1 4 0 (behind (1 ∷ 4 ∷ 0 ∷ 3 ∷ [])) (8 ∷ 8 ∷ 8 ∷ []) zeroed
+    ∷ starts 3 (behind L) (8 ∷ 8 ∷ 8 ∷ []) (sevens 17) 1 0 0 0 (behind L) (8 ∷ 8 ∷ 8 ∷ []) (sevens 17)
+    ∷ starts 4 (1 ∷ 2 ∷ 0 ∷ []) (8 ∷ 8 ∷ []) (sevens 16) 2 0 0 0 (1 ∷ 2 ∷ 0 ∷ []) (8 ∷ 8 ∷ []) (sevens 16)
+    ∷ starts 4 L (8 ∷ []) (sevens 16) 2 0 0 0 L (8 ∷ []) (sevens 16)
+    ∷ starts 4 L (8 ∷ 8 ∷ []) (sevens 15) 2 0 0 0 L (8 ∷ 8 ∷ []) (sevens 15)
     -- "Order: 1, 2, then 3"
-    ∷ starts 3 (1 ∷ 1 ∷ []) [] [] 1 0 0 (1 ∷ 1 ∷ []) [] []
-    ∷ starts 4 (1 ∷ 1 ∷ 1 ∷ 1 ∷ []) (8 ∷ []) (sevens 16) 2 0 0 (1 ∷ 1 ∷ 1 ∷ 1 ∷ []) (8 ∷ []) (sevens 16)
+    ∷ starts 3 (1 ∷ 1 ∷ []) [] [] 1 0 0 0 (1 ∷ 1 ∷ []) [] []
+    ∷ starts 4 (1 ∷ 1 ∷ 1 ∷ 1 ∷ []) (8 ∷ []) (sevens 16) 2 0 0 0 (1 ∷ 1 ∷ 1 ∷ 1 ∷ []) (8 ∷ []) (sevens 16)
     -- a new operation alters the history at its own place, and nothing past D
     ∷ calls (baseState 4) (behind L) (8 ∷ 8 ∷ 8 ∷ []) (sevens 17) bySweep 0 0 one (behind (1 ∷ 2 ∷ 2 ∷ 3 ∷ [])) (0 ∷ 8 ∷ 8 ∷ []) zeroed
     -- undo alters none of it: "History past the count is not looked at and never altered except by a new operation."
@@ -133,5 +135,5 @@ lentTable =
     ∷ []
 
 pub lent-worked : allRight lentTable ≡ true
-unfolding partner meetsIn successor faceNext sameVertex sameFace samePiece gone survives beforeIn before repeats firstBadFrom firstBad turned lead wholeEdge remove contract operate number kindOf leadOf edgeOf putBack undoOne undone shared judge passFrom pass run raised levelled reduce emptyLoop takes rising swept sweep endBelow lowered undoLevel undoLevels unfoldTo dartCount build kernelOf cut kernelsOf sameNumbers sameState isExactly isPyramid neverBelow lowest cycles surviving countsOf digits decimal taken survivors fileOrder placeIn fileNumber fileTable kindWord kernelLine kernelLines pairLines fileOf byteAt word isDigit numberOn numberAt field flagAt opening kernelOfKind kernelAt kernelsAt pairsAt endAt body fromFlag endsFrom total fileState numbersFrom historyFrom fileHistory closed opened readFile room fitting tableOf pastOf over cleared workAfter judged start handsBack onState reduceBy sweepBy undoBy unfoldBy counts readInto read write
+unfolding partner meetsIn successor faceNext sameVertex sameFace samePiece gone survives beforeIn before repeats culprit testFrom permutationTest passed turned lead wholeEdge remove contract operate number kindOf leadOf edgeOf putBack undoOne undone shared judge passFrom pass run raised levelled reduce emptyLoop takes rising swept sweep endBelow lowered undoLevel undoLevels unfoldTo dartCount build kernelOf cut kernelsOf sameNumbers sameState isExactly isPyramid neverBelow lowest cycles surviving countsOf digits decimal taken survivors fileOrder placeIn fileNumber fileTable kindWord kernelLine kernelLines pairLines fileOf byteAt word isDigit numberOn numberAt field flagAt opening kernelOfKind kernelAt kernelsAt pairsAt endAt body fromFlag endsFrom total fileState numbersFrom historyFrom fileHistory closed opened readFile room fitting tableOf pastOf over cleared workAfter judged begins start handsBack onState reduceBy sweepBy undoBy unfoldBy counts readInto read write
 lent-worked = refl

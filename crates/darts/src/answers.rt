@@ -1,4 +1,4 @@
-// The rules' number and place of an answer, and what is judged before all else.
+// The rules' number and places of an answer, and what is judged before all else.
 use crate::Answer;
 ghost use mathlib.Core.Path.{_≡_};
 ghost use Rattle.darts.specs.Calls.{fitting};
@@ -13,7 +13,7 @@ impl Answer {
             Answer::Done(_) => 0,
             Answer::NoDartCount => 1,
             Answer::TooShort(_) => 2,
-            Answer::NoPermutation(_) => 3,
+            Answer::NoPermutation(_, _) => 3,
             Answer::NoPyramid => 4,
             Answer::EmptyKernel => 5,
             Answer::TooManyLevels => 6,
@@ -37,7 +37,7 @@ impl Answer {
             Answer::Done(n) => n,
             Answer::NoDartCount => 0,
             Answer::TooShort(n) => n,
-            Answer::NoPermutation(d) => d,
+            Answer::NoPermutation(d, _) => d,
             Answer::NoPyramid => 0,
             Answer::EmptyKernel => 0,
             Answer::TooManyLevels => 0,
@@ -49,6 +49,30 @@ impl Answer {
             Answer::NoLevel(top) => top,
             Answer::NoFile(at) => at,
             Answer::NoFlag => 8,
+            Answer::NoPlanSize => 0,
+        }
+    }
+
+    // The second place.
+    pub fn second(self) -> usize
+        ensures { λ r. ⌜ r ≡ answerOf self .second ⌝ }
+    {
+        match self {
+            Answer::Done(_) => 0,
+            Answer::NoDartCount => 0,
+            Answer::TooShort(_) => 0,
+            Answer::NoPermutation(_, c) => c,
+            Answer::NoPyramid => 0,
+            Answer::EmptyKernel => 0,
+            Answer::TooManyLevels => 0,
+            Answer::NoEdge(_) => 0,
+            Answer::GoneAlready(_) => 0,
+            Answer::OneVertex(_) => 0,
+            Answer::OneFace(_) => 0,
+            Answer::WholePiece(_) => 0,
+            Answer::NoLevel(_) => 0,
+            Answer::NoFile(_) => 0,
+            Answer::NoFlag => 0,
             Answer::NoPlanSize => 0,
         }
     }

@@ -5,12 +5,12 @@ ghost use mathlib.Core.Path.{_≡_};
 ghost use Prim.Native.Nat.{_<_};
 ghost use Rattle.permutations.specs.Partner.{partner as partnerOf};
 
-// A case for each refusal, with its place where it has one.
+// A case for each refusal, with its place where it has one, and a second place where it has two.
 pub enum Answer {
     Done(usize),
     NoDartCount,
     TooShort(usize),
-    NoPermutation(usize),
+    NoPermutation(usize, usize),
     NoPyramid,
     EmptyKernel,
     TooManyLevels,

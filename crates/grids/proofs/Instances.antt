@@ -9,7 +9,7 @@ use Prim.Native.Nat.{ℕ}
 use lib.Dec.{eqb}
 use lib.ListN.{length}
 use Rattle.permutations.specs.Partner.{partner}
-use Rattle.darts.specs.Map.{successor, faceNext, gone, survives, repeats, firstBadFrom, firstBad}
+use Rattle.darts.specs.Map.{successor, faceNext, gone, survives, repeats, culprit, testFrom, permutationTest, passed}
 use Rattle.darts.specs.Kernel.{rising}
 use Rattle.darts.specs.Counts.{Counts, neverBelow, lowest, cycles, surviving, countsOf}
 use Rattle.darts.specs.Pyramid.{dartCount, sameNumbers}
@@ -60,5 +60,5 @@ table =
     ∷ []
 
 pub agreed : allRight table ≡ true
-unfolding partner successor faceNext gone survives repeats firstBadFrom firstBad rising neverBelow lowest cycles surviving countsOf dartCount sameNumbers sized cells cell along rightEdge upEdge leftEdge downEdge edges roundOf rounds has nextOr nextIn placeOf cellOf successorOn baseTable
+unfolding partner successor faceNext gone survives repeats culprit testFrom permutationTest passed rising neverBelow lowest cycles surviving countsOf dartCount sameNumbers sized cells cell along rightEdge upEdge leftEdge downEdge edges roundOf rounds has nextOr nextIn placeOf cellOf successorOn baseTable
 agreed = refl

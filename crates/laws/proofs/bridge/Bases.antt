@@ -12,7 +12,7 @@ use native.Mathlib.Omega.{arith}
 use lib.Dec.{T, eqb, leb, eqb→eq, nleb→lt, not-T}
 use lib.ListN.{length}
 use Rattle.permutations.specs.Choice.{pick, T?, T→true, nT→false, eqb-iff, or-intro, and-left}
-use Rattle.darts.specs.Map.{successor, gone, survives, repeats, firstBadFrom, firstBad}
+use Rattle.darts.specs.Map.{successor, gone, survives, repeats, culprit, testFrom, permutationTest, passed}
 use Rattle.darts.specs.Pyramid.{dartCount}
 use Rattle.laws.specs.Standing.{Standing}
 use Rattle.laws.proofs.bridge.Standing.{live, live-iff}

@@ -13,7 +13,7 @@ use Rattle.permutations.specs.Choice.{or-cases, pick, T?, T→true, nT→false,
 use Rattle.permutations.specs.Partner.{partner, partner-below, partner-partner, partner-edge, partner-cases}
 use Rattle.permutations.specs.Pigeonhole.{Clash, pigeonhole}
 use Rattle.permutations.specs.Perm.{Perm}
-use Rattle.darts.specs.Map.{successor, gone, survives, repeats, firstBadFrom, firstBad}
+use Rattle.darts.specs.Map.{successor, gone, survives, repeats, culprit, testFrom, permutationTest, passed}
 use Rattle.laws.specs.Standing.{mapOf, Standing}
 use Rattle.laws.proofs.bridge.Standing.{live, live-iff, entry-one}
 

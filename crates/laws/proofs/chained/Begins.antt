@@ -15,7 +15,7 @@ use lib.ListN.{length, take}
 use lib.Seq.{getD-take, length-take-le}
 use Rattle.permutations.specs.Choice.{pick, eqb-same, eqb-other, nT→false}
 use Rattle.darts.specs.Answers.{done}
-use Rattle.darts.specs.Map.{successor, repeats, firstBadFrom, firstBad}
+use Rattle.darts.specs.Map.{successor, repeats, culprit, testFrom, permutationTest, passed}
 use Rattle.darts.specs.State.{State, baseState}
 use Rattle.darts.specs.Pyramid.{dartCount, build}
 use Rattle.darts.specs.Read.{fileState, Read, means, faulty, readFile}

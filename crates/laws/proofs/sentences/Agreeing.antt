@@ -18,7 +18,7 @@ use lib.ListN.{length, getD, take, drop, length-take, length-append}
 use lib.Seq.{take-nil, getD-take, take-append-le, take-append-add}
 use Rattle.permutations.specs.Choice.{T-ext}
 use Rattle.darts.specs.Choose.{if_then_else_}
-use Rattle.darts.specs.Map.{successor, repeats, firstBadFrom, firstBad}
+use Rattle.darts.specs.Map.{successor, repeats, culprit, testFrom, permutationTest, passed}
 use Rattle.darts.specs.State.{State}
 use Rattle.darts.specs.Calls.{room, fitting, tableOf, pastOf, judged}
 use Rattle.slices.specs.Over.{over}

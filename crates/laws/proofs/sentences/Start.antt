@@ -16,7 +16,7 @@ use lib.Dec.{T, leb, leb→le, le→leb}
 use lib.ListN.{length, getD}
 use Rattle.permutations.specs.Choice.{T?, T→true, nT→false, or-iff}
 use Rattle.darts.specs.Answers.{Answer}
-use Rattle.darts.specs.Map.{successor, repeats, firstBadFrom, firstBad}
+use Rattle.darts.specs.Map.{successor, repeats, culprit, testFrom, permutationTest, passed}
 use Rattle.darts.specs.Calls.{start}
 use Rattle.darts.proofs.Fitting.{Count, Lengths}
 use Rattle.laws.proofs.bridge.StandsBy.{repeats-some}

@@ -14,7 +14,7 @@ use Rattle.permutations.specs.Partner.{partner}
 use Rattle.permutations.specs.Map.{mate, face}
 use Rattle.permutations.specs.Labels.{merge}
 use Rattle.darts.specs.Choose.{if_then_else_}
-use Rattle.darts.specs.Map.{successor, gone, survives, beforeIn, before, repeats, firstBadFrom, firstBad}
+use Rattle.darts.specs.Map.{successor, gone, survives, beforeIn, before, repeats, culprit, testFrom, permutationTest, passed}
 use Rattle.darts.specs.Operation.{Kind, contraction, removal, kindOf, leadOf, putBack, undoOne, undone}
 use Rattle.darts.specs.State.{State}
 use Rattle.darts.specs.Pyramid.{dartCount, sameNumbers}
@@ -131,5 +131,5 @@ rows =
     ∷ []
 
 pub rows-right : allRight rows ≡ true
-unfolding partner mate face merge successor gone survives beforeIn before repeats firstBadFrom firstBad kindOf leadOf putBack undoOne undone dartCount sameNumbers live numbered led links linked near fits backs sameKind relabel relabelled parted replays ofKind oneKind rises zeros shaped tested lowestMet
+unfolding partner mate face merge successor gone survives beforeIn before repeats culprit testFrom permutationTest passed kindOf leadOf putBack undoOne undone dartCount sameNumbers live numbered led links linked near fits backs sameKind relabel relabelled parted replays ofKind oneKind rises zeros shaped tested lowestMet
 rows-right = refl
