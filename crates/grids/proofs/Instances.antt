@@ -29,7 +29,7 @@ right r =
     let D : ℕ = length (r .table) in
     let c : Counts = countsOf D (r .table) [] in
     sized g && (eqb (dartsOf g) D && (dartCount D && (sameNumbers (baseTable g) (r .table) && (sameNumbers (map (cellOf g) (rising 0 D)) (r .cells-of)
-    && (eqb (firstBad D (r .table)) D && (eqb (c .vertices) (r .vertices) && (eqb (r .vertices) (cells g) && eqb (c .faces) (r .faces))))))))
+    && (passed (permutationTest D (r .table)) && (eqb (c .vertices) (r .vertices) && (eqb (r .vertices) (cells g) && eqb (c .faces) (r .faces))))))))
 
 abbrev allRight : List Row → Bool
 allRight [] = true

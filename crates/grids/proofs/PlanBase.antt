@@ -18,7 +18,7 @@ use Rattle.permutations.specs.Choice.{T→true}
 use Rattle.slices.specs.Over.{over}
 use Rattle.slices.proofs.Over.{over-front, over-length}
 use Rattle.darts.specs.Answers.{done}
-use Rattle.darts.specs.Map.{sameVertex, firstBad}
+use Rattle.darts.specs.Map.{sameVertex, permutes, permutationTest}
 use Rattle.darts.specs.State.{baseState}
 use Rattle.darts.specs.Pyramid.{dartCount}
 use Rattle.darts.specs.Calls.{leaves, room, cleared, start}
@@ -86,7 +86,7 @@ pub record PlanBase (g : Grid) : Type 0 where
   -- "Demands 2 and 3 read the built base like any other."
   pub count : T (dartCount (dartsOf g))
   pub size : length (baseTable g) ≡ dartsOf g
-  pub permutation : firstBad (dartsOf g) (baseTable g) ≡ dartsOf g
+  pub permutation : permutationTest (dartsOf g) (baseTable g) ≡ permutes
   pub standing : Standing (dartsOf g) (baseTable g) []
   pub accepted : (t h w : List ℕ) → Lengths (dartsOf g) (length t) (length h) (length w)
       → start (dartsOf g) (over (baseTable g) t) h w ≡ leaves done (baseState (dartsOf g)) (over (baseTable g) t) h (cleared (dartsOf g) w)
@@ -100,7 +100,7 @@ pub record PlanBase (g : Grid) : Type 0 where
   pub joining : (a b : ℕ) → Beside g a b → Edge g a b
 
 module _ (g : Grid) (s : T (sized g)) where
-  base-permutes : firstBad (dartsOf g) (baseTable g) ≡ dartsOf g
+  base-permutes : permutationTest (dartsOf g) (baseTable g) ≡ permutes
   base-permutes = stands-base (base-stands g)
 
   table-size : length (baseTable g) ≡ dartsOf g
@@ -113,8 +113,8 @@ module _ (g : Grid) (s : T (sized g)) where
     lengths : Lengths (dartsOf g) (length (over (baseTable g) t)) (length h) (length w)
     lengths = record { table = rw fits (L .table); history = L .history; work = L .work }
 
-    front : firstBad (dartsOf g) (take (dartsOf g) (over (baseTable g) t)) ≡ dartsOf g
-    front = subst (λ n. firstBad (dartsOf g) (take n (over (baseTable g) t)) ≡ dartsOf g) table-size (rw (over-front (baseTable g) t) base-permutes)
+    front : permutationTest (dartsOf g) (take (dartsOf g) (over (baseTable g) t)) ≡ permutes
+    front = subst (λ n. permutationTest (dartsOf g) (take n (over (baseTable g) t)) ≡ permutes) table-size (rw (over-front (baseTable g) t) base-permutes)
 
     start-takes : start (dartsOf g) (over (baseTable g) t) h w ≡ leaves done (baseState (dartsOf g)) (over (baseTable g) t) h (cleared (dartsOf g) w)
     start-takes = go (starting D u h w) (start-accepts D u h w (dart-count g s) lengths front)

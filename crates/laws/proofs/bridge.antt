@@ -1,6 +1,7 @@
 pub mod Standing
 pub mod Before
 pub mod StandsBy
+pub mod Verdicts
 pub mod Bases
 pub mod Judged
 pub mod Numbers

@@ -9,6 +9,7 @@ pub mod Refusals
 pub mod Done
 pub mod WorkArea
 pub mod Order
+pub mod Culprits
 pub mod Start
 pub mod Edges
 pub mod Kernels

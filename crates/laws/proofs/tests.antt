@@ -1,4 +1,5 @@
 pub mod Links
+pub mod NothingGone
 pub mod Fits
 pub mod Undone
 pub mod Back

@@ -11,12 +11,14 @@ use native.Mathlib.Nat.{not-suc-le-zero}
 use native.Mathlib.Omega.{arith}
 use lib.Dec.{T, eqb, leb, eqb→eq, nleb→lt, not-T}
 use lib.ListN.{length}
-use Rattle.permutations.specs.Choice.{pick, T?, T→true, nT→false, eqb-iff, or-intro, and-left}
-use Rattle.darts.specs.Map.{successor, gone, survives, repeats, culprit, testFrom, permutationTest, passed}
+use Rattle.permutations.specs.Choice.{T?, T→true, nT→false, eqb-iff, or-intro, and-left}
+use Rattle.darts.specs.Choose.{if_then_else_}
+use Rattle.darts.specs.Map.{successor, gone, survives, repeats, culprit, permutes, culprits, testFrom, permutationTest}
 use Rattle.darts.specs.Pyramid.{dartCount}
 use Rattle.laws.specs.Standing.{Standing}
 use Rattle.laws.proofs.bridge.Standing.{live, live-iff}
 use Rattle.laws.proofs.bridge.StandsBy.{stands-by}
+use Rattle.laws.proofs.bridge.Verdicts.{not-permutes}
 
 record Fine (D : ℕ) (t : List ℕ) (x : ℕ) : Type 0 where
   below : successor t x < D
@@ -46,16 +48,16 @@ not-bad D t d n = record {
     intro : T (leb D (successor t d)) ⊎ T (repeats t d (successor t d)) → T (bad D t d)
     intro = or-intro (leb D (successor t d)) (repeats t d (successor t d))
 
-none-bad : (D : ℕ) (t : List ℕ) (n d : ℕ) → firstBadFrom D t n d ≡ d + n → (x : ℕ) → d ≤ x → x < d + n → Fine D t x
-unfolding firstBadFrom bad
+none-bad : (D : ℕ) (t : List ℕ) (n d : ℕ) → testFrom D t n d ≡ permutes → (x : ℕ) → d ≤ x → x < d + n → Fine D t x
+unfolding testFrom bad
 none-bad D t zero d e x l h = absurd (omega arith)
 none-bad D t (suc n) d e x l h = go (T? (bad D t d)) (ℕ-discrete x d) e (λ k m. none-bad D t n (suc d) k x m (omega arith))
   where
-    go : Dec (T (bad D t d)) → Dec (x ≡ d) → pick (bad D t d) d (firstBadFrom D t n (suc d)) ≡ d + suc n
-        → (firstBadFrom D t n (suc d) ≡ suc d + n → suc d ≤ x → Fine D t x) → Fine D t x
-    go (yes b) i e rest = let k : d ≡ d + suc n = rw (T→true (bad D t d) b) at e in absurd (omega arith)
+    go : Dec (T (bad D t d)) → Dec (x ≡ d) → (if bad D t d then culprits d (culprit D t d) else testFrom D t n (suc d)) ≡ permutes
+        → (testFrom D t n (suc d) ≡ permutes → suc d ≤ x → Fine D t x) → Fine D t x
+    go (yes b) i e rest = absurd (not-permutes (rw (T→true (bad D t d) b) at e))
     go (no b) (yes i) e rest = rw i (not-bad D t d b)
-    go (no b) (no i) e rest = let k = rw (nT→false (bad D t d) b) at e in rest (omega arith) (omega arith)
+    go (no b) (no i) e rest = rest (rw (nT→false (bad D t d) b) at e) (omega arith)
 
 -- ---- a base stands
 
@@ -74,8 +76,8 @@ unfolding survives gone
 all-live D x = (λ l. live-iff D [] x .0 l .0, λ h. live-iff D [] x .1 (h, tt))
 
 -- A BASE STANDS
-pub base-stands : (D : ℕ) (t : List ℕ) → T (dartCount D) → length t ≡ D → firstBad D t ≡ D → Standing D t []
-unfolding dartCount firstBad
+pub base-stands : (D : ℕ) (t : List ℕ) → T (dartCount D) → length t ≡ D → permutationTest D t ≡ permutes → Standing D t []
+unfolding dartCount permutationTest
 base-stands D t count size permutation =
     stands-by D t [] even size (λ x h. fine x h .below) (λ x l. all-live D (successor t x) .1 (fine x (all-live D x .0 l) .below))
     (λ x y l k e. one fine x y (all-live D x .0 l) (all-live D y .0 k) e)
@@ -84,4 +86,4 @@ base-stands D t count size permutation =
     even = eqb→eq (D % 2) 0 (and-left (eqb (D % 2) 0) (leb 2 D && leb D 65536) count)
 
     fine : (x : ℕ) → x < D → Fine D t x
-    fine x h = none-bad D t D 0 (permutation ∙ omega arith) x (omega arith) (omega arith)
+    fine x h = none-bad D t D 0 permutation x (omega arith) (omega arith)

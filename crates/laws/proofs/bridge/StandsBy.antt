@@ -13,7 +13,7 @@ use Rattle.permutations.specs.Choice.{or-cases, pick, T?, T→true, nT→false,
 use Rattle.permutations.specs.Partner.{partner, partner-below, partner-partner, partner-edge, partner-cases}
 use Rattle.permutations.specs.Pigeonhole.{Clash, pigeonhole}
 use Rattle.permutations.specs.Perm.{Perm}
-use Rattle.darts.specs.Map.{successor, gone, survives, repeats, culprit, testFrom, permutationTest, passed}
+use Rattle.darts.specs.Map.{successor, gone, survives, repeats, permutes, testFrom, permutationTest}
 use Rattle.laws.specs.Standing.{mapOf, Standing}
 use Rattle.laws.proofs.bridge.Standing.{live, live-iff, entry-one}
 
@@ -145,12 +145,12 @@ module _ {D : ℕ} {t : List ℕ} (S : Standing D t []) where
       omega arith)
       (or-cases (leb D (successor t d)) (repeats t d (successor t d)) b))
 
-  first-bad-from : (n d : ℕ) → d + n ≡ D → firstBadFrom D t n d ≡ D
-  unfolding firstBadFrom
-  first-bad-from zero d e = omega arith
-  first-bad-from (suc n) d e = rw (none-bad d (omega arith)) (first-bad-from n (suc d) (omega arith))
+  test-from : (n d : ℕ) → d + n ≡ D → testFrom D t n d ≡ permutes
+  unfolding testFrom
+  test-from zero d e = refl
+  test-from (suc n) d e = rw (none-bad d (omega arith)) (test-from n (suc d) (omega arith))
 
   -- a table of all darts that stands is a base
-  pub stands-base : firstBad D t ≡ D
-  unfolding firstBad
-  stands-base = first-bad-from D 0 (zero-add D)
+  pub stands-base : permutationTest D t ≡ permutes
+  unfolding permutationTest
+  stands-base = test-from D 0 (zero-add D)

@@ -1,9 +1,9 @@
 -- The ways that a start ends, and that a write ends.
---   Starting D t h w  == 1; 2; 3, where a dart is bad; or done, a base
+--   Starting D t h w  == 1; 2; 3, with both culprits; or done, a base
 --   Writing s t h w o == 1, 2 or 4; 2 with the bytes needed; or the file over the output
 --   starting, writing == one of them it is
 use mathlib.Core.List.{List}
-use mathlib.Core.Path.{_≡_}
+use mathlib.Core.Path.{_≡_, refl}
 use mathlib.Core.Logic.{_≢_}
 use Prim.Native.Nat.{ℕ, _<_, _≤_}
 use native.Mathlib.Decide.{decLt}
@@ -12,11 +12,11 @@ use lib.Dec.{T, ltb, lt→ltb, ltb→lt}
 use lib.ListN.{length}
 use Rattle.permutations.specs.Choice.{T?, T→true, nT→false, eqb-other}
 use Rattle.darts.specs.Answers.{done, wrote, noDartCount, tooShort, needs, noPermutation}
-use Rattle.darts.specs.Map.{firstBad}
+use Rattle.darts.specs.Map.{Verdict, permutes, culprits, permutationTest}
 use Rattle.darts.specs.State.{State, baseState}
 use Rattle.darts.specs.Pyramid.{dartCount}
 use Rattle.darts.specs.File.{fileOf}
-use Rattle.darts.specs.Calls.{leaves, room, tableOf, pastOf, cleared, workAfter, judged, start, write}
+use Rattle.darts.specs.Calls.{leaves, room, tableOf, pastOf, cleared, workAfter, judged, begins, start, write}
 use Rattle.slices.specs.Over.{over}
 use Rattle.darts.proofs.Fitting.{Count, Lengths, count-facts, count-test, room-facts, room-test, no-count, short, fine}
 use Rattle.laws.proofs.calls.Judging.{Lent, Judging, uncounted, cramped, other, lent, judging}
@@ -26,32 +26,31 @@ use Rattle.laws.proofs.calls.Judging.{Lent, Judging, uncounted, cramped
 pub data Starting (D : ℕ) (t h w : List ℕ) : Type 0 where
   noCount : ¬ (Count D) → start D t h w ≡ leaves noDartCount (baseState 0) t h w → Starting D t h w
   noRoom : Count D → ¬ (Lengths D (length t) (length h) (length w)) → start D t h w ≡ leaves tooShort (baseState 0) t h w → Starting D t h w
-  noBase : Count D → Lengths D (length t) (length h) (length w) → firstBad D t < D
-      → start D t h w ≡ leaves (noPermutation (firstBad D t)) (baseState 0) t h (cleared D w) → Starting D t h w
-  base : Count D → Lengths D (length t) (length h) (length w) → D ≤ firstBad D t
+  noBase : Count D → Lengths D (length t) (length h) (length w) → {d c : ℕ} → permutationTest D t ≡ culprits d c
+      → start D t h w ≡ leaves (noPermutation d c) (baseState 0) t h (cleared D w) → Starting D t h w
+  base : Count D → Lengths D (length t) (length h) (length w) → permutationTest D t ≡ permutes
       → start D t h w ≡ leaves done (baseState D) t h (cleared D w) → Starting D t h w
 
 pub starting : (D : ℕ) (t h w : List ℕ) → Starting D t h w
-unfolding start
-starting D t h w = go (T? (dartCount D)) (T? (room (length t) (length h) (length w) D)) (decLt (firstBad D t) D)
+unfolding start begins
+starting D t h w = go (T? (dartCount D)) (T? (room (length t) (length h) (length w) D)) (permutationTest D t) refl
   where
-    go : Dec (T (dartCount D)) → Dec (T (room (length t) (length h) (length w) D)) → Dec (firstBad D t < D) → Starting D t h w
-    go (no n) r b =
+    go : Dec (T (dartCount D)) → Dec (T (room (length t) (length h) (length w) D)) → (v : Verdict) → permutationTest D t ≡ v → Starting D t h w
+    go (no n) r v k =
         let c : ¬ (Count D) = λ k. n (count-test D k) in
         noCount c (rw (← no-count D (length t) (length h) (length w) c))
-    go (yes c) (no n) b =
+    go (yes c) (no n) v k =
         let C = count-facts D c in
         let l : ¬ (Lengths D (length t) (length h) (length w)) = λ k. n (room-test (length t) (length h) (length w) D k) in
         noRoom C l (rw (← short D (length t) (length h) (length w) C l))
-    go (yes c) (yes r) (yes b) =
+    go (yes c) (yes r) (culprits d l) k =
         let C = count-facts D c in
         let L = room-facts (length t) (length h) (length w) D r in
-        noBase C L b (rw (← fine D (length t) (length h) (length w) C L, T→true (ltb (firstBad D t) D) (lt→ltb (firstBad D t) D b)))
-    go (yes c) (yes r) (no n) =
+        noBase C L k (rw (← fine D (length t) (length h) (length w) C L, k))
+    go (yes c) (yes r) permutes k =
         let C = count-facts D c in
         let L = room-facts (length t) (length h) (length w) D r in
-        base C L (omega arith)
-        (rw (← fine D (length t) (length h) (length w) C L, nT→false (ltb (firstBad D t) D) (λ l. n (ltb→lt (firstBad D t) D l))))
+        base C L k (rw (← fine D (length t) (length h) (length w) C L, k))
 
 -- ---- write
 

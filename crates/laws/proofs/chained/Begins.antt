@@ -4,26 +4,27 @@
 --   start-left, read-left       == where start and read answer 0, they leave this
 --   start-accepts, read-accepts == they answer 0 on a base lent with room, and on bytes that mean something
 --   entry-front                 == the first D entries of a lent table
-use mathlib.Core.Bool.{Bool, true, false, _||_}
+use mathlib.Core.Bool.{Bool}
 use mathlib.Core.List.{List, []}
 use mathlib.Core.Path.{_≡_, refl, sym, ap, ap₂, _∙_, subst}
-use Prim.Native.Nat.{ℕ, zero, suc, _+_, _≤_}
+use Prim.Native.Nat.{ℕ, suc, _≤_}
 use native.Mathlib.Decide.{ℕ-discrete}
 use native.Mathlib.Omega.{arith}
-use lib.Dec.{T, eqb, leb, ltb, ltb→lt, nltb→le}
+use lib.Dec.{T}
 use lib.ListN.{length, take}
-use lib.Seq.{getD-take, length-take-le}
-use Rattle.permutations.specs.Choice.{pick, eqb-same, eqb-other, nT→false}
+use lib.Seq.{getD-take, length-take-le, take-take}
+use Rattle.permutations.specs.Choice.{eqb-same, eqb-other}
 use Rattle.darts.specs.Answers.{done}
-use Rattle.darts.specs.Map.{successor, repeats, culprit, testFrom, permutationTest, passed}
+use Rattle.darts.specs.Map.{successor, Verdict, permutes, culprits, permutationTest}
 use Rattle.darts.specs.State.{State, baseState}
 use Rattle.darts.specs.Pyramid.{dartCount, build}
 use Rattle.darts.specs.Read.{fileState, Read, means, faulty, readFile}
-use Rattle.darts.specs.Calls.{After, leaves, cleared, room, fitting, tableOf, pastOf, start, readInto, read}
+use Rattle.darts.specs.Calls.{After, leaves, cleared, room, fitting, tableOf, pastOf, begins, start, readInto, read}
 use Rattle.laws.proofs.runs.Pyramids.{built-pyramid}
 use Rattle.laws.proofs.claims.Decided.{pyramid-decided}
 use Rattle.laws.proofs.file.Meanings.{meaning}
 use Rattle.darts.proofs.Fitting.{Count, Lengths, count-facts, count-test, room-facts, fine, fits}
+use Rattle.laws.proofs.bridge.Verdicts.{test-same}
 use Rattle.laws.proofs.calls.Cleared.{cleared-zero, cleared-rest, cleared-length}
 use Rattle.laws.proofs.chained.OnLent.{Left, laid-table, laid-past, laid-left}
 use Rattle.laws.proofs.chained.Faults.{Meant, file-told}
@@ -35,35 +36,8 @@ module _ (D : ℕ) (t : List ℕ) where
   unfolding successor
   entry-front d h = getD-take D t d 0 h
 
-  repeats-front : (d x : ℕ) → d ≤ D → repeats (take D t) d x ≡ repeats t d x
-  unfolding repeats
-  repeats-front zero x h = refl
-  repeats-front (suc d) x h = ap₂ (λ (y : ℕ) (b : Bool). eqb y x || b) (entry-front d h) (repeats-front d x (omega arith))
-
-  first-bad-front : (n d : ℕ) → d + n ≤ D → firstBadFrom D (take D t) n d ≡ firstBadFrom D t n d
-  unfolding firstBadFrom
-  first-bad-front zero d h = refl
-  first-bad-front (suc n) d h =
-      let rest = first-bad-front n (suc d) (omega arith) in
-      let here = entry-front d (omega arith) in
-      rw (here, repeats-front d (successor t d) (omega arith), rest)
-
-  first-bad-most : (n d : ℕ) → firstBadFrom D t n d ≤ d + n
-  unfolding firstBadFrom
-  first-bad-most zero d = omega arith
-  first-bad-most (suc n) d = go (leb D (successor t d) || repeats t d (successor t d)) (first-bad-most n (suc d))
-    where
-      go : (b : Bool) → firstBadFrom D t n (suc d) ≤ suc d + n → pick b d (firstBadFrom D t n (suc d)) ≤ d + suc n
-      go true h = omega arith
-      go false h = omega arith
-
-  base-front : firstBad D (take D t) ≡ firstBad D t
-  unfolding firstBad
-  base-front = first-bad-front D 0 (omega arith)
-
-  bad-most : firstBad D t ≤ D
-  unfolding firstBad
-  bad-most = let h = first-bad-most D 0 in omega arith
+  base-front : permutationTest D (take D t) ≡ permutationTest D t
+  base-front = test-same D (take D t) t (take-take D D t (omega arith))
 
 -- ---- start
 
@@ -74,10 +48,10 @@ pub record Started (D : ℕ) (t h w : List ℕ) (a : After) : Type 0 where
   pub left : Left D t h w a
   pub count : T (dartCount D)
   pub lengths : Lengths D (length t) (length h) (length w)
-  pub permutation : firstBad D (take D t) ≡ D
+  pub permutation : permutationTest D (take D t) ≡ permutes
 
 module _ (D : ℕ) (t h w : List ℕ) where
-  begun : Count D → Lengths D (length t) (length h) (length w) → firstBad D t ≡ D → Started D t h w (leaves done (baseState D) t h (cleared D w))
+  begun : Count D → Lengths D (length t) (length h) (length w) → permutationTest D t ≡ permutes → Started D t h w (leaves done (baseState D) t h (cleared D w))
   unfolding build tableOf pastOf
   begun C L b =
       let count = count-test D C in
@@ -105,27 +79,25 @@ module _ (D : ℕ) (t h w : List ℕ) where
 
   -- WHERE START ANSWERS 0, IT LEAVES THE BASE IN THE TABLE, A PYRAMID LENT WITH ROOM
   pub start-left : start D t h w .answer .number ≡ 0 → Started D t h w (start D t h w)
-  unfolding start
+  unfolding start begins
   start-left e = go (ℕ-discrete (fitting D (length t) (length h) (length w) .number) 0)
     where
       go : Dec (fitting D (length t) (length h) (length w) .number ≡ 0) → Started D t h w (start D t h w)
       go (no n) = absurd (n (rw (eqb-other n) at e))
-      go (yes f) = bad (ltb (firstBad D t) D) refl
+      go (yes f) = said (permutationTest D t) refl
         where
-          bad : (b : Bool) → ltb (firstBad D t) D ≡ b → Started D t h w (start D t h w)
-          bad true k = absurd (let z : 3 ≡ 0 = rw (eqb-same f, k) at e in omega arith)
-          bad false k =
+          said : (v : Verdict) → permutationTest D t ≡ v → Started D t h w (start D t h w)
+          said (culprits d c) k = absurd (let z : 3 ≡ 0 = rw (eqb-same f, k) at e in omega arith)
+          said permutes k =
               let F = fits D (length t) (length h) (length w) f in
-              let all : firstBad D t ≡ D = omega (arith, nltb→le (firstBad D t) D (rw k tt), bad-most D t) in
-              rw (eqb-same f, k) (begun (F .count) (F .lengths) all)
+              rw (eqb-same f, k) (begun (F .count) (F .lengths) k)
 
   -- START ANSWERS 0 ON A BASE LENT WITH ROOM
-  pub start-accepts : T (dartCount D) → Lengths D (length t) (length h) (length w) → firstBad D (take D t) ≡ D → start D t h w .answer .number ≡ 0
-  unfolding start
+  pub start-accepts : T (dartCount D) → Lengths D (length t) (length h) (length w) → permutationTest D (take D t) ≡ permutes → start D t h w .answer .number ≡ 0
+  unfolding start begins
   start-accepts C L b =
-      let all : firstBad D t ≡ D = sym (base-front D t) ∙ b in
-      let good : ltb (firstBad D t) D ≡ false = nT→false (ltb (firstBad D t) D) (λ h. omega (arith, ltb→lt (firstBad D t) D h)) in
-      rw (← fine D (length t) (length h) (length w) (count-facts D C) L, good)
+      let all : permutationTest D t ≡ permutes = sym (base-front D t) ∙ b in
+      rw (← fine D (length t) (length h) (length w) (count-facts D C) L, all)
 
 -- ---- read
 

@@ -16,7 +16,7 @@ use lib.Dec.{T, ltb, lt→ltb}
 use lib.ListN.{length}
 use Rattle.permutations.specs.Choice.{T→true}
 use Rattle.permutations.proofs.Order.{any-order as any-order-of-maps}
-use Rattle.darts.specs.Map.{successor, survives, firstBad}
+use Rattle.darts.specs.Map.{successor, survives, permutes, permutationTest}
 use Rattle.darts.specs.Kernel.{Operation, Run, stands}
 use Rattle.darts.specs.State.{State, baseState, Result, gives}
 use Rattle.darts.specs.Pyramid.{Kernel, Pyramid, dartCount, build}
@@ -66,7 +66,7 @@ same-map D t past u new same = record {
 
 -- b is a base of D darts, and the operations os are accepted on it one by one, kinds mixed as they come
 
-module _ (D : ℕ) (b : List ℕ) (count : T (dartCount D)) (size : length b ≡ D) (permutation : firstBad D b ≡ D)
+module _ (D : ℕ) (b : List ℕ) (count : T (dartCount D)) (size : length b ≡ D) (permutation : permutationTest D b ≡ permutes)
     (os : List Operation) {t past : List ℕ} (accepted : oneByOne D b [] os ≡ stands t past) where
   -- ANY OTHER ORDER
   pub other-order : (ns : List Operation) → List·Permᴰ os ns → ListAgrees D t past (oneByOne D b [] ns)
@@ -91,7 +91,7 @@ module _ (D : ℕ) (b : List ℕ) (count : T (dartCount D)) (size : length b ≡
       record { state = C .0; table = L .table; new = L .new; accepted = C .1; alike = L .alike }
 
 -- THE SAME WHERE THE ACCEPTED LIST IS CUT INTO KERNELS ALREADY
-pub any-cut : (D : ℕ) (b : List ℕ) → T (dartCount D) → length b ≡ D → firstBad D b ≡ D
+pub any-cut : (D : ℕ) (b : List ℕ) → T (dartCount D) → length b ≡ D → permutationTest D b ≡ permutes
     → (ks ls : List Kernel) {s : State} {t past : List ℕ} → build (baseState D) b [] ks ≡ gives s t past
     → List·Permᴰ (operationsOf ks) (operationsOf ls) → NoneEmpty ls → length ls ≤ 64
     → Agrees D t past (build (baseState D) b [] ls)

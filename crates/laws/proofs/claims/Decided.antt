@@ -11,10 +11,11 @@ use Prim.Native.Nat.{ℕ}
 use lib.Dec.{T, eqb}
 use lib.ListN.{length}
 use Rattle.permutations.specs.Choice.{eqb-iff, and-iff}
-use Rattle.darts.specs.Map.{firstBad}
+use Rattle.darts.specs.Map.{permutes, permutationTest, passed}
 use Rattle.darts.specs.Operation.{undone}
 use Rattle.darts.specs.State.{State, baseState, Result, gives, refuses}
 use Rattle.darts.specs.Pyramid.{Kernel, Pyramid, dartCount, build, cut, kernelsOf, sameNumbers, sameState, isExactly, isPyramid}
+use Rattle.laws.proofs.bridge.Verdicts.{passed-iff}
 use Rattle.laws.proofs.runs.Ends.{state-path}
 use Rattle.laws.proofs.runs.Results.{refuses≢gives}
 use Rattle.laws.proofs.runs.Pyramids.{pyramid-built}
@@ -65,7 +66,7 @@ module _ {s : State} {t past : List ℕ} (P : Pyramid s t past) where
 
 abbrev Fits : State → List ℕ → List ℕ → List ℕ → List Kernel → Type 0
 Fits s t past b ks =
-    T (dartCount (s .darts)) × ((length b ≡ s .darts) × ((firstBad (s .darts) b ≡ s .darts) × (build (baseState (s .darts)) b [] ks ≡ gives s t past)))
+    T (dartCount (s .darts)) × ((length b ≡ s .darts) × ((permutationTest (s .darts) b ≡ permutes) × (build (baseState (s .darts)) b [] ks ≡ gives s t past)))
 
 -- the base that undo gives and the kernels that the level ends give are tried
 tried : (s : State) (t past b : List ℕ) (ks : List Kernel) → undone (s .darts) (length past) t past ≡ b → kernelsOf s past ≡ ks
@@ -74,7 +75,7 @@ unfolding isPyramid
 tried s t past b ks e f =
     let D = s .darts in
     let built = exactly s t past (build (baseState D) b [] ks) in
-    rw (e, f) (and-iff (dartCount D) _ (λ h. h, λ h. h) (λ _. equal-and (length b) D _ (equal-and (firstBad D b) D _ built)))
+    rw (e, f) (and-iff (dartCount D) _ (λ h. h, λ h. h) (λ _. equal-and (length b) D _ (and-iff (passed (permutationTest D b)) _ (passed-iff (permutationTest D b)) (λ _. built))))
 
 fits-pyramid : {s : State} {t past : List ℕ} (b : List ℕ) (ks : List Kernel) → Fits s t past b ks → Pyramid s t past
 fits-pyramid b ks f = record { count = f .0; base = b; size = f .1 .0; permutation = f .1 .1 .0; kernels = ks; built = f .1 .1 .1 }

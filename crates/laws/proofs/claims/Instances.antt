@@ -11,7 +11,7 @@ use lib.ListN.{replicate}
 use Rattle.permutations.specs.Partner.{partner}
 use Rattle.permutations.specs.Cycle.{meetsIn}
 use Rattle.darts.specs.Answers.{oneFace}
-use Rattle.darts.specs.Map.{successor, faceNext, sameVertex, sameFace, gone, survives, beforeIn, before, repeats, culprit, testFrom, permutationTest, passed}
+use Rattle.darts.specs.Map.{successor, faceNext, sameVertex, sameFace, gone, survives, beforeIn, before, repeats, culprit, permutes, testFrom, permutationTest, passed}
 use Rattle.darts.specs.Operation.{contraction, removal, turned, lead, wholeEdge, remove, contract, operate, number, kindOf, leadOf, edgeOf, putBack, undoOne, undone}
 use Rattle.darts.specs.Kernel.{Operation, stands, stops, shared, judge, rising, passFrom, pass, run}
 use Rattle.darts.specs.State.{State, baseState, gives, raised, levelled, reduce}
@@ -50,7 +50,7 @@ k5-past = 5 ∷ 1 ∷ []
 abbrev k6-table : List ℕ
 k6-table = 5 ∷ 4 ∷ 1 ∷ 4 ∷ 6 ∷ 4 ∷ 5 ∷ 7 ∷ []
 
-pub triangle-base : firstBad 8 triangle ≡ 8
+pub triangle-base : permutationTest 8 triangle ≡ permutes
 unfolding successor repeats culprit testFrom permutationTest passed
 triangle-base = refl
 

@@ -13,7 +13,7 @@ use lib.Dec.{T}
 use lib.ListN.{length}
 use Rattle.permutations.specs.Choice.{eqb-other}
 use Rattle.darts.specs.Answers.{emptyKernel}
-use Rattle.darts.specs.Map.{firstBad}
+use Rattle.darts.specs.Map.{permutes, permutationTest}
 use Rattle.darts.specs.Operation.{contraction}
 use Rattle.darts.specs.Kernel.{stands}
 use Rattle.darts.specs.State.{baseState, gives, refuses, raised, levelled, reduce}
@@ -22,7 +22,7 @@ use Rattle.laws.proofs.runs.Pyramids.{built-pyramid, reduce-pyramid}
 use Rattle.laws.proofs.merging.Turns.{merging, merged}
 use Rattle.laws.proofs.merging.Stands.{merging-run}
 
-pub base-pyramid : (D : ℕ) (t : List ℕ) → T (dartCount D) → length t ≡ D → firstBad D t ≡ D → Pyramid (baseState D) t []
+pub base-pyramid : (D : ℕ) (t : List ℕ) → T (dartCount D) → length t ≡ D → permutationTest D t ≡ permutes → Pyramid (baseState D) t []
 unfolding build
 base-pyramid D t count size permutation = built-pyramid D t count size permutation [] refl
 
@@ -47,6 +47,6 @@ module _ (D : ℕ) (same : ℕ → Bool) (t : List ℕ) where
     merging-refuses none = rw (stood, none)
 
     -- WHAT MERGING GIVES IS A PYRAMID
-    pub merging-pyramid : T (dartCount D) → length t ≡ D → firstBad D t ≡ D → past ≢ [] → Pyramid (raised (baseState D) (length past)) u past
+    pub merging-pyramid : T (dartCount D) → length t ≡ D → permutationTest D t ≡ permutes → past ≢ [] → Pyramid (raised (baseState D) (length past)) u past
     merging-pyramid count size permutation some =
         reduce-pyramid (base-pyramid D t count size permutation) contraction (merged D same t) (sym merging-reduces ∙ merging-gives some)

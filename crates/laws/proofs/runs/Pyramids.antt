@@ -8,7 +8,7 @@ use mathlib.Core.Path.{_≡_, refl, sym, _∙_, ap, subst}
 use Prim.Native.Nat.{ℕ}
 use lib.Dec.{T}
 use lib.ListN.{length}
-use Rattle.darts.specs.Map.{firstBad}
+use Rattle.darts.specs.Map.{permutes, permutationTest}
 use Rattle.darts.specs.Operation.{Kind, removal}
 use Rattle.darts.specs.State.{State, baseState, gives, andThen, reduce}
 use Rattle.darts.specs.Levels.{sweep}
@@ -24,7 +24,7 @@ pub pyramid-built : {s : State} {t past : List ℕ} (P : Pyramid s t past) → B
 pyramid-built {s} P = built (base-stands (s .darts) (P .base) (P .count) (P .size) (P .permutation)) (layered-base (s .darts)) (P .kernels) (P .built)
 
 -- WHAT IS BUILT FROM A BASE IS A PYRAMID
-pub built-pyramid : (D : ℕ) (b : List ℕ) → T (dartCount D) → length b ≡ D → firstBad D b ≡ D
+pub built-pyramid : (D : ℕ) (b : List ℕ) → T (dartCount D) → length b ≡ D → permutationTest D b ≡ permutes
     → (ks : List Kernel) {s : State} {t past : List ℕ} → build (baseState D) b [] ks ≡ gives s t past → Pyramid s t past
 built-pyramid D b count size permutation ks {s} {t} {past} e =
     let darts : s .darts ≡ D = built (base-stands D b count size permutation) (layered-base D) ks e .layered .size in

@@ -4,7 +4,6 @@
 --   by-one-test              == two choices by one test agree, if the one and the other branch do
 --   take-over                == numbers laid over two slices that agree so far: they still do
 --   room-same                == both have room, or neither
---   bad-same                 == and start finds the same dart
 --   table-same, past-same, judged-same == a call on a state is lent the same table and past, and is judged alike
 use mathlib.Core.Bool.{Bool, true, false}
 use mathlib.Core.List.{List, [], _∷_, _++_, reverse}
@@ -18,7 +17,6 @@ use lib.ListN.{length, getD, take, drop, length-take, length-append}
 use lib.Seq.{take-nil, getD-take, take-append-le, take-append-add}
 use Rattle.permutations.specs.Choice.{T-ext}
 use Rattle.darts.specs.Choose.{if_then_else_}
-use Rattle.darts.specs.Map.{successor, repeats, culprit, testFrom, permutationTest, passed}
 use Rattle.darts.specs.State.{State}
 use Rattle.darts.specs.Calls.{room, fitting, tableOf, pastOf, judged}
 use Rattle.slices.specs.Over.{over}
@@ -72,28 +70,6 @@ module _ (new old old′ : List ℕ) where
       go : Dec (n < length new) → take n (over new old) ≡ take n (over new old′)
       go (yes l) = take-new n (omega arith)
       go (no l) = let s : n ≡ length new + (n - length new) = omega arith in rw s (take-beyond (n - length new) (rw s at e))
-
--- ---- the first D numbers of a table
-
-module _ (D : ℕ) (t t′ : List ℕ) (e : take D t ≡ take D t′) where
-  entry-same : (x : ℕ) → x < D → successor t x ≡ successor t′ x
-  unfolding successor
-  entry-same x l = sym (getD-take D t x 0 l) ∙ ap (λ (u : List ℕ). getD u x 0) e ∙ getD-take D t′ x 0 l
-
-  repeats-same : (d x : ℕ) → d ≤ D → repeats t d x ≡ repeats t′ d x
-  unfolding repeats
-  repeats-same zero x l = refl
-  repeats-same (suc d) x l = rw (entry-same d (omega arith), repeats-same d x (omega arith))
-
-  bad-from-same : (n d : ℕ) → d + n ≤ D → firstBadFrom D t n d ≡ firstBadFrom D t′ n d
-  unfolding firstBadFrom
-  bad-from-same zero d l = refl
-  bad-from-same (suc n) d l =
-      rw (entry-same d (omega arith), repeats-same d (successor t′ d) (omega arith), bad-from-same n (suc d) (omega arith))
-
-  pub bad-same : firstBad D t ≡ firstBad D t′
-  unfolding firstBad
-  bad-same = bad-from-same D 0 (omega arith)
 
 -- ---- how a call is judged
 

@@ -15,18 +15,19 @@ use lib.Dec.{T, eqb, ltb}
 use lib.ListN.{length, take, length-reverse}
 use Rattle.permutations.specs.Choice.{T?, T→true, nT→false, eqb-other}
 use Rattle.darts.specs.Answers.{Answer, noPermutation, done}
-use Rattle.darts.specs.Map.{firstBad}
+use Rattle.darts.specs.Map.{Verdict, permutes, culprits, permutationTest}
 use Rattle.darts.specs.Operation.{Kind}
 use Rattle.darts.specs.State.{State, baseState, Result, gives, refuses, reduce}
 use Rattle.darts.specs.Levels.{sweep, undoLevel, unfoldTo}
 use Rattle.darts.specs.Pyramid.{dartCount}
 use Rattle.darts.specs.File.{fileOf}
-use Rattle.darts.specs.Calls.{After, Counted, Written, leaves, room, fitting, tableOf, pastOf, cleared, workAfter, judged, handsBack, onState, start, reduceBy, sweepBy, undoBy, unfoldBy, counts, write}
+use Rattle.darts.specs.Calls.{After, Counted, Written, leaves, room, fitting, tableOf, pastOf, cleared, workAfter, judged, handsBack, onState, begins, start, reduceBy, sweepBy, undoBy, unfoldBy, counts, write}
 use Rattle.slices.specs.Over.{over}
+use Rattle.laws.proofs.bridge.Verdicts.{test-same}
 use Rattle.laws.proofs.calls.Cleared.{cleared-zero}
 use Rattle.laws.proofs.sentences.Steps.{Keeps, reduce-keeps, sweep-keeps, undo-keeps, unfold-keeps}
 use Rattle.laws.proofs.sentences.Outcome.{outcome, outcome-by}
-use Rattle.laws.proofs.sentences.Agreeing.{Agree, by-one-test, take-new, take-over, room-same, bad-same, table-same, past-same, judged-same}
+use Rattle.laws.proofs.sentences.Agreeing.{Agree, by-one-test, take-new, take-over, room-same, table-same, past-same, judged-same}
 
 -- "Numbers of a lent table past D are neither read nor written, nor those of a history past the larger of the operation counts before and after the
 -- call." "History past the count is not looked at". "After every call except those answered 1 or 2 the work area's first 4D numbers are zero", whatever
@@ -68,16 +69,20 @@ module _ {D : ℕ} {t h w t′ h′ w′ : List ℕ} (A : Agree D 0 t h w t′ h
   cleared-alike a E = record { answer = refl; state = refl; table = A .table; history = refl; work = λ one two. zeros-alike D w w′ }
 
   pub start-alike : Alike D 0 (start D t h w) (start D t′ h′ w′)
-  unfolding start fitting
+  unfolding start begins fitting
   start-alike = go (T? (dartCount D)) (T? (room (length t) (length h) (length w) D))
     where
+      said : (v : Verdict) → Alike D 0 (begins D t h w v) (begins D t′ h′ w′ v)
+      said permutes = cleared-alike done D
+      said (culprits d c) = cleared-alike (noPermutation d c) 0
+
       go : Dec (T (dartCount D)) → Dec (T (room (length t) (length h) (length w) D)) → Alike D 0 (start D t h w) (start D t′ h′ w′)
       go (no n) r = rw (nT→false (dartCount D) n) (unwritten-alike _ (λ one two. one refl))
       go (yes c) (no n) =
           rw (T→true (dartCount D) c, ← (room-same A), nT→false (room (length t) (length h) (length w) D) n) (unwritten-alike _ (λ one two. two refl))
       go (yes c) (yes r) =
-          rw (T→true (dartCount D) c, ← (room-same A), T→true (room (length t) (length h) (length w) D) r, ← (bad-same D t t′ (A .table)))
-          (by-one-test (Alike D 0) (ltb (firstBad D t) D) (cleared-alike (noPermutation (firstBad D t)) 0) (cleared-alike done D))
+          rw (T→true (dartCount D) c, ← (room-same A), T→true (room (length t) (length h) (length w) D) r, ← (test-same D t t′ (A .table)))
+          (said (permutationTest D t))
 
 -- ---- the calls on a state
 

@@ -14,9 +14,9 @@ use lib.ListN.{length}
 use Rattle.permutations.specs.Choice.{eqb-same, eqb-other}
 use Rattle.darts.specs.Choose.{if_then_else_}
 use Rattle.darts.specs.Answers.{Answer, done, noDartCount, tooShort, noPermutation, noPyramid}
-use Rattle.darts.specs.Map.{firstBad}
+use Rattle.darts.specs.Map.{Verdict, permutes, culprits, permutationTest}
 use Rattle.darts.specs.State.{State, baseState, Result, gives, refuses}
-use Rattle.darts.specs.Calls.{After, leaves, fitting, tableOf, pastOf, cleared, workAfter, judged, start}
+use Rattle.darts.specs.Calls.{After, leaves, fitting, tableOf, pastOf, cleared, workAfter, judged, begins, start}
 use Rattle.darts.proofs.Fitting.{Lengths, fits}
 use Rattle.laws.proofs.calls.Judging.{Judging, uncounted, cramped, other, lent, Lent, judging}
 
@@ -31,20 +31,19 @@ work-by P a D w kept wiped = go (eqb (a .number) 1) (eqb (a .number) 2)
 
 pub start-by : (P : After → Type 0) (D : ℕ) (t h w : List ℕ) → ((a : Answer) → P (leaves a (baseState 0) t h w))
     → (Lengths D (length t) (length h) (length w) → (a : Answer) (z : State) → P (leaves a z t h (cleared D w))) → P (start D t h w)
-unfolding start
+unfolding start begins
 start-by P D t h w none wiped = go (ℕ-discrete (a .number) 0)
   where
     a : Answer
     a = fitting D (length t) (length h) (length w)
 
-    pick-by : Lengths D (length t) (length h) (length w) → (bad : Bool)
-        → P (if bad then leaves (noPermutation (firstBad D t)) (baseState 0) t h (cleared D w) else leaves done (baseState D) t h (cleared D w))
-    pick-by l true = wiped l (noPermutation (firstBad D t)) (baseState 0)
-    pick-by l false = wiped l done (baseState D)
+    said-by : Lengths D (length t) (length h) (length w) → (v : Verdict) → P (begins D t h w v)
+    said-by l permutes = wiped l done (baseState D)
+    said-by l (culprits d c) = wiped l (noPermutation d c) (baseState 0)
 
     go : Dec (a .number ≡ 0) → P (start D t h w)
     go (no n) = rw (eqb-other n) (none a)
-    go (yes e) = rw (eqb-same e) (pick-by (fits D (length t) (length h) (length w) e .lengths) (ltb (firstBad D t) D))
+    go (yes e) = rw (eqb-same e) (said-by (fits D (length t) (length h) (length w) e .lengths) (permutationTest D t))
 
 -- ---- a call on a state
 

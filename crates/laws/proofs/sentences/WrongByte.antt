@@ -15,7 +15,7 @@ use Rattle.darts.specs.Read.{Opening, KernelLine, Body, opening, body, Read, cl
 use Rattle.darts.specs.Calls.{readInto, read}
 use Rattle.laws.proofs.file.Texts.{GoodForm, textOf, found-opening, text-scanned}
 use Rattle.laws.proofs.file.Meanings.{Closing, stands, falls, closing, DartsJudged, uncounted, cramped, goes-on, darts-judged}
-use Rattle.laws.proofs.file.Looks.{Ended, same-less}
+use Rattle.laws.proofs.file.Looks.{Stop, wrong, flag, empty, many, Ended, same-less}
 use Rattle.laws.proofs.file.LooksLines.{look-opening, look-body}
 use Rattle.laws.proofs.file.Mends.{Past, mended-same, look-past}
 use Rattle.laws.proofs.file.MendsLines.{mend-opening, mend-body}
@@ -28,8 +28,11 @@ pub record Mended (b t h w : List ℕ) (p : ℕ) : Type 0 where
   pub few : length byte ≤ 1
   pub past : read (take p b ++ byte) t h w .answer .number ≡ 13 → p < read (take p b ++ byte) t h w .answer .place
 
-thirteen : (a : Answer) → a .number ≡ 13 → a ≡ answered 13 (a .place)
-thirteen a e = λ i. record { number = e i; place = a .place }
+thirteen : {b : List ℕ} {at upto : ℕ} {a : Answer} → Stop b at upto a → a .number ≡ 13 → a ≡ answered 13 (a .place)
+thirteen (wrong p e k l) n = e ∙ ap (answered 13) (sym (ap (λ a. a .place) e))
+thirteen (flag e k) n = absurd (omega (arith, ap (λ a. a .number) e))
+thirteen (empty e l) n = absurd (omega (arith, ap (λ a. a .number) e))
+thirteen (many e l) n = absurd (omega (arith, ap (λ a. a .number) e))
 
 module _ (t h w : List ℕ) where
   answer : Read → Answer
@@ -83,7 +86,8 @@ module _ (t h w : List ℕ) where
     body-first o at k (found c end) i n = absurd (stated-formed o c end n)
     body-first o at k (fault a) i n =
         let p = a .place in
-        let J = mend-body (o .darts) b at (found-opening k .there .inside) p (i ∙ ap fault (thirteen a n)) in
+        let stop = subst (Ended b at (look-body (o .darts) b at .upto) _ 1) i (look-body (o .darts) b at .ended) in
+        let J = mend-body (o .darts) b at (found-opening k .there .inside) p (i ∙ ap fault (thirteen stop n)) in
         let c = take p b ++ J .byte in
         let O = look-opening b in
         let few = subst (Ended b 0 (O .upto) 22 0) k (O .ended) .0 in
@@ -95,7 +99,8 @@ module _ (t h w : List ℕ) where
     unfolding answer readInto opened read readFile
     byte-first (fault a) k n =
         let p = a .place in
-        let M = mend-opening b p (k ∙ ap fault (thirteen a n)) in
+        let stop = subst (Ended b 0 (look-opening b .upto) 22 0) k (look-opening b .ended) in
+        let M = mend-opening b p (k ∙ ap fault (thirteen stop n)) in
         let c = take p b ++ M .byte in
         record { inside = M .inside; byte = M .byte; few = M .few; past = opened-past p c (opening c) (M .past) }
     byte-first (found o at) k n =

@@ -5,18 +5,19 @@ use mathlib.Core.Bool.{Bool, true, false, _||_, _&&_, not}
 use mathlib.Core.List.{List}
 use mathlib.Core.Logic.{_≢_, _↔_, _⊎_, inl, inr, ⊎-elim, Iff·rfl}
 use mathlib.Core.Path.{_≡_, sym}
-use Prim.Native.Nat.{ℕ, zero, suc, _%_, _<_}
+use Prim.Native.Nat.{ℕ, zero, suc, _+_, _%_, _<_, _≤_}
 use native.Mathlib.Decide.{ℕ-discrete, decLt}
 use native.Mathlib.Nat.{not-suc-le-zero}
 use native.Mathlib.Omega.{arith}
 use lib.Dec.{T, eqb, ltb, ltb→lt, lt→ltb}
 use lib.ListN.{length}
-use Rattle.permutations.specs.Choice.{eqb-iff, and-iff, or-iff, not-iff}
-use Rattle.darts.specs.Map.{successor, gone, survives}
+use Rattle.permutations.specs.Choice.{T?, T→true, nT→false, eqb-iff, and-iff, or-iff, not-iff}
+use Rattle.darts.specs.Choose.{if_then_else_}
+use Rattle.darts.specs.Map.{successor, gone, survives, culprits, passed}
 use Rattle.laws.specs.Standing.{Standing}
 use Rattle.laws.proofs.bridge.Standing.{live, live-iff, entry-live, entry-one}
 use Rattle.laws.proofs.bridge.StandsBy.{stands-by}
-use Rattle.darts.specs.Tests.{led, links, linked}
+use Rattle.darts.specs.Tests.{led, links, blamed, linksFrom, survivorsTest, linked}
 
 record Led (t past : List ℕ) (d x : ℕ) : Type 0 where
   dart : ℕ
@@ -73,20 +74,30 @@ module _ (D : ℕ) (t past : List ℕ) where
       tests = and-iff (ltb y D) _ (ltb→lt y D, lt→ltb y D) (λ i. unless-iff (gone past x) _
           (and-iff (survives past y) (not (led t past x y)) Iff·rfl (λ s. not-iff (led t past x y) (led-iff t past x y))))
 
-  linked-iff : (n : ℕ) → T (linked D t past n) ↔ ((x : ℕ) → x < n → Link D t past x)
-  unfolding linked
-  linked-iff zero = (λ h x l. absurd (not-suc-le-zero l), λ h. tt)
-  linked-iff (suc n) =
-      let i = and-iff (links D t past n) (linked D t past n) (link-iff n) (λ l. linked-iff n) in
-      (λ h x b. last (i .0 h) x b (ℕ-discrete x n), λ f. i .1 (f n (omega arith), λ x b. f x (omega arith)))
+  -- the test is passed where each of the n darts from y on is linked
+  from-iff : (n y : ℕ) → T (passed (linksFrom D t past n y)) ↔ ((x : ℕ) → y ≤ x → x < y + n → Link D t past x)
+  unfolding linksFrom passed
+  from-iff zero y = (λ h x l b. absurd (omega arith), λ h. tt)
+  from-iff (suc n) y = go (T? (links D t past y)) (from-iff n (suc y))
     where
-      last : Link D t past n × ((x : ℕ) → x < n → Link D t past x) → (x : ℕ) → x < suc n → Dec (x ≡ n) → Link D t past x
-      last l x b (yes e) = rw e (l .0)
-      last l x b (no m) = l .1 x (omega arith)
+      go : Dec (T (links D t past y)) → T (passed (linksFrom D t past n (suc y))) ↔ ((x : ℕ) → suc y ≤ x → x < suc y + n → Link D t past x)
+          → T (passed (if links D t past y then linksFrom D t past n (suc y) else culprits y (blamed D t past y)))
+          ↔ ((x : ℕ) → y ≤ x → x < y + suc n → Link D t past x)
+      go (yes k) i = rw (T→true (links D t past y) k)
+          (λ h x l b. first x l b (ℕ-discrete x y) (i .0 h), λ f. i .1 (λ x l b. f x (omega arith) (omega arith)))
+        where
+          first : (x : ℕ) → y ≤ x → x < y + suc n → Dec (x ≡ y) → ((x : ℕ) → suc y ≤ x → x < suc y + n → Link D t past x) → Link D t past x
+          first x l b (yes e) f = rw e (link-iff y .0 k)
+          first x l b (no m) f = f x (omega arith) (omega arith)
+      go (no k) i = rw (nT→false (links D t past y) k) (λ h. absurd h, λ f. k (link-iff y .1 (f y (omega arith) (omega arith))))
+
+  linked-iff : T (linked D t past) ↔ ((x : ℕ) → x < D → Link D t past x)
+  unfolding survivorsTest
+  linked-iff = (λ h x b. from-iff D 0 .0 h x (omega arith) (omega arith), λ f. from-iff D 0 .1 (λ x l b. f x (omega arith)))
 
   -- TESTS 3 TO 5 HOLD EXACTLY OF A TABLE THAT STANDS
-  pub linked-stands : D % 2 ≡ 0 → length t ≡ D → T (linked D t past D) ↔ Standing D t past
-  linked-stands even size = (λ h. stand (linked-iff D .0 h), λ S. linked-iff D .1 (link S))
+  pub linked-stands : D % 2 ≡ 0 → length t ≡ D → T (linked D t past) ↔ Standing D t past
+  linked-stands even size = (λ h. stand (linked-iff .0 h), λ S. linked-iff .1 (link S))
     where
       stand : ((x : ℕ) → x < D → Link D t past x) → Standing D t past
       stand f = stands-by D t past even size (λ x h. f x h .inside) onward alone

@@ -19,7 +19,7 @@ use Rattle.darts.specs.Operation.{Kind, contraction, removal, kindOf, leadOf, p
 use Rattle.darts.specs.State.{State}
 use Rattle.darts.specs.Pyramid.{dartCount, sameNumbers}
 use Rattle.laws.proofs.bridge.Standing.{live}
-use Rattle.darts.specs.Tests.{numbered, led, links, linked, near, fits, backs, sameKind, relabel, relabelled, parted, replays, ofKind, oneKind, rises, zeros, shaped, tested}
+use Rattle.darts.specs.Tests.{numbered, led, links, blamed, linksFrom, survivorsTest, near, fits, backs, sameKind, relabel, relabelled, parted, replays, ofKind, oneKind, rises, zeros, shaped, tested}
 use Rattle.laws.proofs.bridge.Walks.{lowestMet}
 use Rattle.laws.proofs.tests.TestsDecide.{baseOf}
 use Rattle.laws.proofs.tests.TopLabels.{walked}
@@ -47,7 +47,7 @@ eachBack k single f D t (h ∷ past) =
 -- labels have to be right only for a base; where the undone table is none, each dart has its own
 abbrev labels : Kind → State → List ℕ → List ℕ → ℕ → ℕ
 labels k s t past =
-    if eqb (firstBad (s .darts) (baseOf s t past)) (s .darts) then walked k s t past else (λ x. x)
+    if passed (permutationTest (s .darts) (baseOf s t past)) then walked k s t past else (λ x. x)
 
 abbrev numbersOf : ℕ → List Bool → List ℕ
 numbersOf n [] = []
@@ -131,5 +131,5 @@ rows =
     ∷ []
 
 pub rows-right : allRight rows ≡ true
-unfolding partner mate face merge successor gone survives beforeIn before repeats culprit testFrom permutationTest passed kindOf leadOf putBack undoOne undone dartCount sameNumbers live numbered led links linked near fits backs sameKind relabel relabelled parted replays ofKind oneKind rises zeros shaped tested lowestMet
+unfolding partner mate face merge successor gone survives beforeIn before repeats culprit testFrom permutationTest passed kindOf leadOf putBack undoOne undone dartCount sameNumbers live numbered led links blamed linksFrom survivorsTest near fits backs sameKind relabel relabelled parted replays ofKind oneKind rises zeros shaped tested lowestMet
 rows-right = refl

@@ -41,7 +41,7 @@ pub record Passed (Lv Lf : ℕ → ℕ) (s : State) (t past : List ℕ) : Type 0
   pub size : length t ≡ s .darts
   pub shape : T (shaped s (reverse past))
   pub numbers : T (numbered (s .darts) past)
-  pub links : T (linked (s .darts) t past (s .darts))
+  pub links : T (linked (s .darts) t past)
   pub back : T (backs (s .darts) t past)
   pub vertices : T (replays contraction Lv (reverse past))
   pub faces : T (replays removal Lf (reverse past))
@@ -52,7 +52,7 @@ passed-iff Lv Lf s t past =
     let D = s .darts in
     let hs = reverse past in
     let i = and-iff (dartCount D) _ Iff·rfl (λ _. and-iff (eqb (length t) D) _ (eqb-iff (length t) D) (λ _. and-iff (shaped s hs) _ Iff·rfl
-    (λ _. and-iff (numbered D past) _ Iff·rfl (λ _. and-iff (linked D t past D) _ Iff·rfl (λ _. and-iff (backs D t past) _ Iff·rfl
+    (λ _. and-iff (numbered D past) _ Iff·rfl (λ _. and-iff (linked D t past) _ Iff·rfl (λ _. and-iff (backs D t past) _ Iff·rfl
     (λ _. and-iff (replays contraction Lv hs) (replays removal Lf hs) Iff·rfl (λ _. Iff·rfl))))))) in (
       λ h.
           let (a, (b, (c, (d, (e, (f, (g, j))))))) = i .0 h in
