@@ -1,4 +1,3 @@
-pub mod Bases
 pub mod Cleared
 pub mod Fitting
 pub mod Labels

@@ -8,3 +8,4 @@ pub mod Operate
 pub mod Replay
 pub mod Shape
 pub mod Trees
+pub mod Verdicts

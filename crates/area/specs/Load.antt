@@ -1,19 +1,21 @@
 -- The table and the history in the work area, with the dart before each survivor: tests 1 to 5 of a pyramid.
 --   marks D w i m      == the m history numbers from place i on: their edges are marked as gone (tests 1 and 2)
---   links D w x m      == the m darts from x on: each survivor is noted before its successor (tests 3, 4 and 5)
+--   links D w x m      == the m darts from x on: each survivor is noted before its successor (tests 3, 4 and 5), or who keeps it from that
 --   given D n t h w    == table and history laid
 --   blank D w          == nothing is known of the dart before each dart
 --   relinks D n w      == the dart before each survivor found anew: blank, then marks and links
 --   loads D n t h w    == table and history laid, and linked so
+--   loadsBase D t w    == a table laid alone, and linked: no dart is gone
 use mathlib.Core.Bool.{true, false, not}
-use mathlib.Core.List.{List}
+use mathlib.Core.List.{List, []}
 use Prim.Native.Nat.{ℕ, zero, suc, _+_, _*_, _/_}
 use lib.Dec.{eqb, leb}
 use lib.ListN.{set, take, replicate}
 use Rattle.slices.specs.Laid.{laid}
 use Rattle.darts.specs.Choose.{if_then_else_}
-use Rattle.darts.specs.Map.{successor}
+use Rattle.darts.specs.Map.{successor, permutes, culprits}
 use Rattle.area.specs.Area.{prev, stamp, Tried, tried}
+use Rattle.area.specs.Verdicts.{Said, said, passing}
 
 -- test 1: the number is below 2D; test 2: no edge twice
 unfoldable pub marks : ℕ → List ℕ → ℕ → ℕ → Tried
@@ -26,13 +28,13 @@ marks D w i (suc m) =
     else marks D (set (set w (D + p) D) (D + (p + 1)) D) (suc i) m
 
 -- test 3: the entry is below D; tests 4 and 5: a survivor's entry survives, and no survivor was noted there
-unfoldable pub links : ℕ → List ℕ → ℕ → ℕ → Tried
-links D w x zero = tried true w
+unfoldable pub links : ℕ → List ℕ → ℕ → ℕ → Said
+links D w x zero = said permutes w
 links D w x (suc m) =
     let y : ℕ = successor w x in
-    if leb D y then tried false w
+    if leb D y then said (culprits x D) w
     else if eqb (prev D w x) D then links D w (suc x) m
-    else if not (eqb (prev D w y) (D + 1)) then tried false w
+    else if not (eqb (prev D w y) (D + 1)) then said (culprits x (prev D w y)) w
     else links D (set w (D + y) x) (suc x) m
 
 unfoldable pub given : ℕ → ℕ → List ℕ → List ℕ → List ℕ → List ℕ
@@ -42,10 +44,13 @@ unfoldable pub blank : ℕ → List ℕ → List ℕ
 blank D w = laid w D (replicate D (D + 1))
 
 unfoldable pub linksAfter : ℕ → Tried → Tried
-linksAfter D a = if a .fine then links D (a .work) 0 D else a
+linksAfter D a = if a .fine then passing (links D (a .work) 0 D) else a
 
 unfoldable pub relinks : ℕ → ℕ → List ℕ → Tried
 relinks D n w = linksAfter D (marks D (blank D w) 0 n)
 
 unfoldable pub loads : ℕ → ℕ → List ℕ → List ℕ → List ℕ → Tried
 loads D n t h w = relinks D n (given D n t h w)
+
+unfoldable pub loadsBase : ℕ → List ℕ → List ℕ → Said
+loadsBase D t w = links D (blank D (given D 0 t [] w)) 0 D

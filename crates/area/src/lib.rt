@@ -1,6 +1,6 @@
 // The work area, function by function: each contract is the same computation on lists.
 pub mod back;
-pub mod base;
+pub mod clear;
 pub mod cycles;
 pub mod load;
 pub mod operate;
@@ -14,4 +14,10 @@ pub struct Figures {
     pub operations: usize,
     pub levels: usize,
     pub ends: [u32; 64],
+}
+
+// What the permutation test says: the darts are permuted, or the lowest bad dart and the second culprit beside it.
+pub enum Verdict {
+    Permutes,
+    Culprits(usize, usize),
 }

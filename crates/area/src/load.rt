@@ -1,12 +1,27 @@
-// Table and history in the work area, with the dart before each survivor: tests 1 to 5 of a pyramid.
+// Table and history in the work area, with the dart before each survivor: tests 1 to 5 of a pyramid, and the permutation test of a base.
+use crate::Verdict;
 use slices::at;
 use slices::copy;
 use slices::fill;
 ghost use mathlib.Core.Path.{_≡_};
 ghost use Prim.Native.Nat.{_≤_, _<_};
 ghost use lib.ListN.{length};
+ghost use Rattle.darts.specs.Map.{passed};
 ghost use Rattle.area.specs.Area.{Room, bound, tried};
-ghost use Rattle.area.specs.Load.{marks, links, given, relinks, loads};
+ghost use Rattle.area.specs.Load.{marks, links, given, blank, relinks, loads, loadsBase};
+ghost use Rattle.area.specs.Verdicts.{verdictOf, said};
+
+impl Verdict {
+    // There are no culprits.
+    fn passes(self) -> bool
+        ensures { λ r. ⌜ r ≡ passed (verdictOf self) ⌝ }
+    {
+        match self {
+            Verdict::Permutes => true,
+            Verdict::Culprits(_, _) => false,
+        }
+    }
+}
 
 // Dart a leads to x, and a is the dart before x.
 pub(crate) fn bind(work: &mut [u32], d: usize, a: usize, x: usize)
@@ -42,28 +57,39 @@ fn mark(work: &mut [u32], d: usize, n: usize) -> bool
     true
 }
 
-// Each survivor is noted before its successor. No where an entry is no dart, a survivor leads to a gone dart, or two lead to one.
-fn link(work: &mut [u32], d: usize) -> bool
+// The permutation test of the survivors: each is noted before its successor. The lowest dart whose entry is no dart, or that survives and leads to a
+// gone dart or to one where a lower survivor is noted, decides; beside it stands what is noted there, d for a gone dart or none.
+fn link(work: &mut [u32], d: usize) -> Verdict
     requires { ⌜ Room d (now work) ⌝ }
-    ensures { λ r. ⌜ tried r (now (work .exit)) ≡ links d (now (work .entry)) 0 d ⌝ }
+    ensures { λ r. ⌜ said (verdictOf r) (now (work .exit)) ≡ links d (now (work .entry)) 0 d ⌝ }
 {
     let mut x = 0;
     while x < d {
         let y = at(work, x);
         if d <= y {
-            return false;
+            return Verdict::Culprits(x, d);
         }
         if at(work, d + x) == d {
             x += 1;
         } else {
-            if at(work, d + y) != d + 1 {
-                return false;
+            let noted = at(work, d + y);
+            if noted != d + 1 {
+                return Verdict::Culprits(x, noted);
             }
             work[d + y] = x as u32;
             x += 1;
         }
     }
-    true
+    Verdict::Permutes
+}
+
+// Nothing is known of the dart before each dart.
+fn forget(work: &mut [u32], d: usize)
+    requires { ⌜ Room d (now work) ⌝ }
+    ensures { λ _. ⌜ now (work .exit) ≡ blank d (now (work .entry)) ⌝ }
+{
+    let forest = 2 * d;
+    fill(&mut work[d..forest], (d + 1) as u32);
 }
 
 // Table and history are copied into their parts.
@@ -84,10 +110,10 @@ pub fn relink(work: &mut [u32], d: usize, n: usize) -> bool
     requires { ⌜ n ≤ d ⌝ }
     ensures { λ r. ⌜ tried r (now (work .exit)) ≡ relinks d n (now (work .entry)) ⌝ }
 {
-    let forest = 2 * d;
-    fill(&mut work[d..forest], (d + 1) as u32);
+    forget(work, d);
     if mark(work, d, n) {
-        return link(work, d);
+        let verdict = link(work, d);
+        return verdict.passes();
     }
     false
 }
@@ -100,4 +126,15 @@ pub fn load(work: &mut [u32], d: usize, table: &[u32], history: &[u32], n: usize
 {
     lay(work, d, table, history, n);
     relink(work, d, n)
+}
+
+// A table in the work area, no dart of which is gone, with the dart before each: the permutation test.
+pub fn load_base(work: &mut [u32], d: usize, table: &[u32]) -> Verdict
+    requires { ⌜ Room d (now work) ⌝ }
+    requires { ⌜ d ≤ length (now table) ⌝ }
+    ensures { λ r. ⌜ said (verdictOf r) (now (work .exit)) ≡ loadsBase d (now (table .entry)) (now (work .entry)) ⌝ }
+{
+    copy(work, table, d);
+    forget(work, d);
+    link(work, d)
 }

@@ -86,6 +86,6 @@ testFrom D t (suc n) d =
 unfoldable pub permutationTest : ℕ → List ℕ → Verdict
 permutationTest D t = testFrom D t D 0
 
-unfoldable pub passed : Verdict → Bool
+abbrev pub passed : Verdict → Bool
 passed permutes = true
 passed (culprits d c) = false

@@ -60,5 +60,5 @@ table =
     ∷ []
 
 pub agreed : allRight table ≡ true
-unfolding partner successor faceNext gone survives repeats culprit testFrom permutationTest passed rising neverBelow lowest cycles surviving countsOf dartCount sameNumbers sized cells cell along rightEdge upEdge leftEdge downEdge edges roundOf rounds has nextOr nextIn placeOf cellOf successorOn baseTable
+unfolding partner successor faceNext gone survives repeats culprit testFrom permutationTest rising neverBelow lowest cycles surviving countsOf dartCount sameNumbers sized cells cell along rightEdge upEdge leftEdge downEdge edges roundOf rounds has nextOr nextIn placeOf cellOf successorOn baseTable
 agreed = refl

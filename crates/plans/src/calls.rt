@@ -3,7 +3,7 @@ use crate::first::first_kernel;
 use crate::laying::lay_base;
 use crate::sizes::darts_of;
 use crate::sizes::fit_plan;
-use area::base::clear;
+use area::clear::clear;
 use darts::Answer;
 use engine::Ran;
 use pyramid::Outcome;

@@ -3,7 +3,7 @@ use crate::Answer;
 use crate::Counted;
 use crate::Counts;
 use crate::State;
-use area::base::clear;
+use area::clear::clear;
 use engine::counting::cycles;
 ghost use mathlib.Core.Path.{_≡_};
 ghost use Prim.Native.Nat.{_≤_};

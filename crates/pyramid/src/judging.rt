@@ -2,7 +2,7 @@
 use crate::Answer;
 use crate::State;
 use area::Figures;
-use area::base::clear;
+use area::clear::clear;
 use darts::answers::fit;
 use engine::check::check;
 ghost use Rattle.pyramid.specs.Steps.{Judged};

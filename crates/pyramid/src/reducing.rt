@@ -4,7 +4,7 @@ use crate::Kind;
 use crate::Outcome;
 use crate::State;
 use crate::numbers::kept;
-use area::base::clear;
+use area::clear::clear;
 use engine::Ran;
 use engine::kernel::run;
 use engine::store::store;

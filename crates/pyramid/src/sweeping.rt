@@ -3,7 +3,7 @@ use crate::Answer;
 use crate::Outcome;
 use crate::State;
 use crate::numbers::kept;
-use area::base::clear;
+use area::clear::clear;
 use engine::sweep::sweep;
 ghost use mathlib.Core.Path.{_≡_};
 ghost use Rattle.darts.specs.Calls.{sweepBy};

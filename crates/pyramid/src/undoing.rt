@@ -3,7 +3,7 @@ use crate::Answer;
 use crate::Outcome;
 use crate::State;
 use crate::numbers::kept;
-use area::base::clear;
+use area::clear::clear;
 use engine::store::store;
 use engine::undo::take_back;
 ghost use mathlib.Core.Path.{_≡_};

@@ -6,7 +6,7 @@ use crate::lines::opening;
 use crate::pairs::pairs;
 use crate::scan::Scanned;
 use area::Figures;
-use area::base::clear;
+use area::clear::clear;
 use darts::Answer;
 use darts::answers::fit;
 use engine::check::check_laid;

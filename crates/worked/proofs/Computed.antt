@@ -10,7 +10,7 @@ use mathlib.Core.Path.{_≡_, refl}
 use Prim.Native.Nat.{ℕ}
 use Rattle.permutations.specs.Partner.{partner}
 use Rattle.permutations.specs.Cycle.{meetsIn}
-use Rattle.darts.specs.Map.{successor, faceNext, sameVertex, sameFace, gone, survives, beforeIn, before, repeats, culprit, testFrom, permutationTest, passed}
+use Rattle.darts.specs.Map.{successor, faceNext, sameVertex, sameFace, gone, survives, beforeIn, before, repeats, culprit, testFrom, permutationTest}
 use Rattle.darts.specs.Operation.{turned, lead, wholeEdge, remove, contract, operate, number, kindOf, leadOf, edgeOf, putBack, undoOne, undone}
 use Rattle.darts.specs.Kernel.{shared, judge, rising, passFrom, pass, run}
 use Rattle.darts.specs.State.{raised, levelled, reduce}
@@ -69,5 +69,5 @@ pub computed :
     × (example 2 repeats-one Stay Stay Stay 3 1 repeats-one nothing ≡ true)
     × (example 2 alone Stay Stay Stay 0 0 alone nothing ≡ true)
     × (example 2 alone (One Remove 0) Stay Stay 11 0 alone nothing ≡ true)
-unfolding partner meetsIn successor faceNext sameVertex sameFace gone survives beforeIn before repeats culprit testFrom permutationTest passed turned lead wholeEdge remove contract operate number kindOf leadOf edgeOf putBack undoOne undone shared judge passFrom pass run raised levelled reduce emptyLoop takes rising swept sweep endBelow lowered undoLevel undoLevels dartCount build kernelOf cut kernelsOf sameNumbers sameState isExactly isPyramid room fitting tableOf pastOf over cleared workAfter judged begins start handsBack onState reduceBy sweepBy undoBy rowIs
+unfolding partner meetsIn successor faceNext sameVertex sameFace gone survives beforeIn before repeats culprit testFrom permutationTest turned lead wholeEdge remove contract operate number kindOf leadOf edgeOf putBack undoOne undone shared judge passFrom pass run raised levelled reduce emptyLoop takes rising swept sweep endBelow lowered undoLevel undoLevels dartCount build kernelOf cut kernelsOf sameNumbers sameState isExactly isPyramid room fitting tableOf pastOf over cleared workAfter judged begins start handsBack onState reduceBy sweepBy undoBy rowIs
 computed = (refl, refl, refl, refl, refl, refl, refl, refl, refl, refl, refl, refl)

@@ -1,7 +1,7 @@
 // The call that writes a file.
 use crate::file::Written;
 use crate::file::write_inside;
-use area::base::clear;
+use area::clear::clear;
 use pyramid::Answer;
 use pyramid::State;
 ghost use mathlib.Core.Path.{_≡_};

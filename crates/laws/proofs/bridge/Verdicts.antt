@@ -15,14 +15,12 @@ use lib.Seq.{getD-take}
 use Rattle.darts.specs.Map.{successor, beforeIn, repeats, culprit, Verdict, permutes, culprits, testFrom, permutationTest, passed}
 
 pub not-permutes : {d c : ℕ} → culprits d c ≡ permutes → ⊥
-unfolding passed
 not-permutes e = subst (λ v. T (not (passed v))) e tt
 
 pub same-culprits : {d e b c : ℕ} → culprits d b ≡ culprits e c → (d ≡ e) × (b ≡ c)
 same-culprits e = (cc, cc)
 
 pub passed-iff : (v : Verdict) → T (passed v) ↔ (v ≡ permutes)
-unfolding passed
 passed-iff permutes = (λ h. refl, λ e. tt)
 passed-iff (culprits d c) = (λ h. absurd h, λ e. not-permutes e)
 

@@ -11,7 +11,7 @@ use lib.ListN.{take, replicate}
 use Rattle.permutations.specs.Partner.{partner}
 use Rattle.permutations.specs.Cycle.{meetsIn}
 use Rattle.darts.specs.Answers.{answered, done}
-use Rattle.darts.specs.Map.{successor, faceNext, sameVertex, sameFace, gone, survives, beforeIn, before, repeats, culprit, testFrom, permutationTest, passed}
+use Rattle.darts.specs.Map.{successor, faceNext, sameVertex, sameFace, gone, survives, beforeIn, before, repeats, culprit, testFrom, permutationTest}
 use Rattle.darts.specs.Operation.{contraction, removal, turned, lead, wholeEdge, remove, contract, operate, number, kindOf, leadOf, edgeOf, putBack, undoOne, undone}
 use Rattle.darts.specs.Kernel.{shared, judge, rising, passFrom, pass, run}
 use Rattle.darts.specs.State.{baseState, raised, levelled, reduce}
@@ -62,7 +62,7 @@ k7 = calls (kernels K7) begun
 
 -- K7 is accepted, from start on, and its top is between 0 and 3
 k7-accepted : AllDone (kernels K7) begun × ((0 < k7 .state .levels) × (k7 .state .levels < 3))
-unfolding partner meetsIn successor faceNext sameVertex sameFace gone survives beforeIn before repeats culprit testFrom permutationTest passed turned lead wholeEdge remove contract operate number kindOf leadOf edgeOf putBack undoOne undone shared judge passFrom pass run raised levelled reduce endBelow lowered undoLevel undoLevels unfoldTo dartCount build kernelOf cut kernelsOf sameNumbers sameState isExactly isPyramid room fitting tableOf pastOf over cleared workAfter judged begins start handsBack onState reduceBy undoBy unfoldBy
+unfolding partner meetsIn successor faceNext sameVertex sameFace gone survives beforeIn before repeats culprit testFrom permutationTest turned lead wholeEdge remove contract operate number kindOf leadOf edgeOf putBack undoOne undone shared judge passFrom pass run raised levelled reduce endBelow lowered undoLevel undoLevels unfoldTo dartCount build kernelOf cut kernelsOf sameNumbers sameState isExactly isPyramid room fitting tableOf pastOf over cleared workAfter judged begins start handsBack onState reduceBy undoBy unfoldBy
 k7-accepted = ((refl, (refl, refl)), (lit≤ tt, lit≤ tt))
 
 -- ---- K7 undone, and unfolded
@@ -88,7 +88,7 @@ k7-base = start-then-unfold 8 triangle numbers area (kernels K7) (k7-accepted .0
 
 -- "an empty loop (r = q or s = p)": the sweep of K5 takes edge 2, and leaves what K7 leaves
 k5-swept : callOn bySweep k5 ≡ k7
-unfolding partner meetsIn successor faceNext sameVertex sameFace gone survives beforeIn before repeats culprit testFrom permutationTest passed turned lead wholeEdge remove contract operate number kindOf leadOf edgeOf putBack undoOne undone shared judge passFrom pass run raised levelled reduce emptyLoop takes rising swept sweep endBelow lowered undoLevel undoLevels unfoldTo dartCount build kernelOf cut kernelsOf sameNumbers sameState isExactly isPyramid room fitting tableOf pastOf over cleared workAfter judged begins start handsBack onState reduceBy sweepBy undoBy unfoldBy
+unfolding partner meetsIn successor faceNext sameVertex sameFace gone survives beforeIn before repeats culprit testFrom permutationTest turned lead wholeEdge remove contract operate number kindOf leadOf edgeOf putBack undoOne undone shared judge passFrom pass run raised levelled reduce emptyLoop takes rising swept sweep endBelow lowered undoLevel undoLevels unfoldTo dartCount build kernelOf cut kernelsOf sameNumbers sameState isExactly isPyramid room fitting tableOf pastOf over cleared workAfter judged begins start handsBack onState reduceBy sweepBy undoBy unfoldBy
 k5-swept = refl
 
 k5-sweep-undone : Returned (answered 0 0) (k5 .state) (k5 .table) (callOn bySweep k5 .history) (k5 .work) (undoing (callOn bySweep k5))
@@ -97,7 +97,7 @@ k5-sweep-undone = sweep-then-undo (k5 .state) (k5 .table) (k5 .history) (k5 .wor
 -- by computation: undone once, it is the table of K5, and the history still has the number 10 of the removal; twice, it is T
 k7-computed : (undoing k7 .table ≡ 5 ∷ 2 ∷ 5 ∷ 4 ∷ 6 ∷ 4 ∷ 5 ∷ 7 ∷ 99 ∷ []) × ((undoing k7 .history ≡ 1 ∷ 5 ∷ 10 ∷ 94 ∷ 95 ∷ [])
     × (undosBy 2 k7 ≡ leaves done (baseState 8) triangle (1 ∷ 5 ∷ 10 ∷ 94 ∷ 95 ∷ []) (replicate 32 0 ++ (9 ∷ []))))
-unfolding partner meetsIn successor faceNext sameVertex sameFace gone survives beforeIn before repeats culprit testFrom permutationTest passed turned lead wholeEdge remove contract operate number kindOf leadOf edgeOf putBack undoOne undone shared judge passFrom pass run raised levelled reduce endBelow lowered undoLevel undoLevels unfoldTo dartCount build kernelOf cut kernelsOf sameNumbers sameState isExactly isPyramid room fitting tableOf pastOf over cleared workAfter judged begins start handsBack onState reduceBy undoBy unfoldBy
+unfolding partner meetsIn successor faceNext sameVertex sameFace gone survives beforeIn before repeats culprit testFrom permutationTest turned lead wholeEdge remove contract operate number kindOf leadOf edgeOf putBack undoOne undone shared judge passFrom pass run raised levelled reduce endBelow lowered undoLevel undoLevels unfoldTo dartCount build kernelOf cut kernelsOf sameNumbers sameState isExactly isPyramid room fitting tableOf pastOf over cleared workAfter judged begins start handsBack onState reduceBy undoBy unfoldBy
 k7-computed = (refl, (refl, refl))
 
 -- ---- K5 and K6: "Survivors 4 to 7 agree with K5."
@@ -111,5 +111,5 @@ k6-alike =
     (lit≤ tt) (take 8 triangle) (replicate 4 0) (replicate 32 7) refl (record { table = lit≤ tt; history = lit≤ tt; work = lit≤ tt })
 
 k6-computed : (calls (kernels K6) elsewhere .table ≡ 5 ∷ 4 ∷ 1 ∷ 4 ∷ 6 ∷ 4 ∷ 5 ∷ 7 ∷ []) × (k5 .table ≡ 5 ∷ 2 ∷ 5 ∷ 4 ∷ 6 ∷ 4 ∷ 5 ∷ 7 ∷ 99 ∷ [])
-unfolding partner meetsIn successor faceNext sameVertex sameFace gone survives beforeIn before repeats culprit testFrom permutationTest passed turned lead wholeEdge remove contract operate number kindOf leadOf edgeOf putBack undoOne undone shared judge passFrom pass run raised levelled reduce endBelow lowered undoLevel undoLevels unfoldTo dartCount build kernelOf cut kernelsOf sameNumbers sameState isExactly isPyramid room fitting tableOf pastOf over cleared workAfter judged begins start handsBack onState reduceBy undoBy unfoldBy
+unfolding partner meetsIn successor faceNext sameVertex sameFace gone survives beforeIn before repeats culprit testFrom permutationTest turned lead wholeEdge remove contract operate number kindOf leadOf edgeOf putBack undoOne undone shared judge passFrom pass run raised levelled reduce endBelow lowered undoLevel undoLevels unfoldTo dartCount build kernelOf cut kernelsOf sameNumbers sameState isExactly isPyramid room fitting tableOf pastOf over cleared workAfter judged begins start handsBack onState reduceBy undoBy unfoldBy
 k6-computed = (refl, refl)

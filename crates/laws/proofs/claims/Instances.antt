@@ -11,7 +11,7 @@ use lib.ListN.{replicate}
 use Rattle.permutations.specs.Partner.{partner}
 use Rattle.permutations.specs.Cycle.{meetsIn}
 use Rattle.darts.specs.Answers.{oneFace}
-use Rattle.darts.specs.Map.{successor, faceNext, sameVertex, sameFace, gone, survives, beforeIn, before, repeats, culprit, permutes, testFrom, permutationTest, passed}
+use Rattle.darts.specs.Map.{successor, faceNext, sameVertex, sameFace, gone, survives, beforeIn, before, repeats, culprit, permutes, testFrom, permutationTest}
 use Rattle.darts.specs.Operation.{contraction, removal, turned, lead, wholeEdge, remove, contract, operate, number, kindOf, leadOf, edgeOf, putBack, undoOne, undone}
 use Rattle.darts.specs.Kernel.{Operation, stands, stops, shared, judge, rising, passFrom, pass, run}
 use Rattle.darts.specs.State.{State, baseState, gives, raised, levelled, reduce}
@@ -51,7 +51,7 @@ abbrev k6-table : List ℕ
 k6-table = 5 ∷ 4 ∷ 1 ∷ 4 ∷ 6 ∷ 4 ∷ 5 ∷ 7 ∷ []
 
 pub triangle-base : permutationTest 8 triangle ≡ permutes
-unfolding successor repeats culprit testFrom permutationTest passed
+unfolding successor repeats culprit testFrom permutationTest
 triangle-base = refl
 
 pub eight-darts : T (dartCount 8)
@@ -179,5 +179,5 @@ k7-decided : T (isPyramid k7-state k7-table k7-past)
 k7-decided = pyramid-decided k7-state k7-table k7-past .1 (reduce-pyramid k5-pyramid removal (2 ∷ []) k7-reduced)
 
 k7-damaged : ¬ Pyramid k7-state k7-table (12 ∷ 5 ∷ 1 ∷ [])
-unfolding partner meetsIn successor faceNext sameVertex sameFace gone survives beforeIn before repeats culprit testFrom permutationTest passed turned lead wholeEdge remove contract operate number kindOf leadOf edgeOf putBack undoOne undone shared judge passFrom pass run raised levelled reduce dartCount build kernelOf cut kernelsOf sameNumbers sameState isExactly isPyramid
+unfolding partner meetsIn successor faceNext sameVertex sameFace gone survives beforeIn before repeats culprit testFrom permutationTest turned lead wholeEdge remove contract operate number kindOf leadOf edgeOf putBack undoOne undone shared judge passFrom pass run raised levelled reduce dartCount build kernelOf cut kernelsOf sameNumbers sameState isExactly isPyramid
 k7-damaged = pyramid-decided k7-state k7-table (12 ∷ 5 ∷ 1 ∷ []) .1

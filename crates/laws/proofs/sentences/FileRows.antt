@@ -8,7 +8,7 @@ use mathlib.Core.Path.{_≡_, refl}
 use Prim.Native.Nat.{ℕ}
 use lib.ListN.{replicate}
 use Rattle.darts.specs.Answers.{Answer, answered}
-use Rattle.darts.specs.Map.{successor, gone, survives, repeats, culprit, testFrom, permutationTest, passed}
+use Rattle.darts.specs.Map.{successor, gone, survives, repeats, culprit, testFrom, permutationTest}
 use Rattle.darts.specs.Operation.{undone}
 use Rattle.darts.specs.State.{baseState}
 use Rattle.darts.specs.Pyramid.{dartCount, build, cut, kernelsOf, sameNumbers, sameState, isExactly, isPyramid}
@@ -77,7 +77,7 @@ record ReadRows : Type 0 where
   no-dart-from-one : reading (bytes "numbers=1\ndarts=2\nlevels=0\npair=0 1\n") ≡ late (answered 4 0)
 
 read-rows : ReadRows
-unfolding successor gone survives repeats culprit testFrom permutationTest passed undone dartCount build cut kernelsOf sameNumbers sameState isExactly isPyramid kindWord byteAt word isDigit numberOn numberAt field flagAt opening kernelOfKind kernelAt kernelsAt pairsAt endAt body fromFlag endsFrom total fileState historyFrom fileHistory closed opened readFile room over cleared readInto read
+unfolding successor gone survives repeats culprit testFrom permutationTest undone dartCount build cut kernelsOf sameNumbers sameState isExactly isPyramid kindWord byteAt word isDigit numberOn numberAt field flagAt opening kernelOfKind kernelAt kernelsAt pairsAt endAt body fromFlag endsFrom total fileState historyFrom fileHistory closed opened readFile room over cleared readInto read
 read-rows = record {
   accepted = refl;
   flag = refl;
@@ -127,5 +127,5 @@ record WriteRows : Type 0 where
   long : writing (replicate 38 6) ≡ filed (answered 0 36) (one-edge ++ (6 ∷ 6 ∷ []))
 
 write-rows : WriteRows
-unfolding successor gone survives repeats culprit testFrom permutationTest passed undone dartCount build cut kernelsOf sameNumbers sameState isExactly isPyramid digits decimal taken survivors fileOrder placeIn fileNumber fileTable kernelLines pairLines fileOf room fitting tableOf pastOf over cleared workAfter judged write
+unfolding successor gone survives repeats culprit testFrom permutationTest undone dartCount build cut kernelsOf sameNumbers sameState isExactly isPyramid digits decimal taken survivors fileOrder placeIn fileNumber fileTable kernelLines pairLines fileOf room fitting tableOf pastOf over cleared workAfter judged write
 write-rows = record { no-pyramid = refl; short = refl; full = refl; long = refl }

@@ -76,7 +76,7 @@ module _ (D : ℕ) (t past : List ℕ) where
 
   -- the test is passed where each of the n darts from y on is linked
   from-iff : (n y : ℕ) → T (passed (linksFrom D t past n y)) ↔ ((x : ℕ) → y ≤ x → x < y + n → Link D t past x)
-  unfolding linksFrom passed
+  unfolding linksFrom
   from-iff zero y = (λ h x l b. absurd (omega arith), λ h. tt)
   from-iff (suc n) y = go (T? (links D t past y)) (from-iff n (suc y))
     where

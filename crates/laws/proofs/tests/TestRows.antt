@@ -131,5 +131,5 @@ rows =
     ∷ []
 
 pub rows-right : allRight rows ≡ true
-unfolding partner mate face merge successor gone survives beforeIn before repeats culprit testFrom permutationTest passed kindOf leadOf putBack undoOne undone dartCount sameNumbers live numbered led links blamed linksFrom survivorsTest near fits backs sameKind relabel relabelled parted replays ofKind oneKind rises zeros shaped tested lowestMet
+unfolding partner mate face merge successor gone survives beforeIn before repeats culprit testFrom permutationTest kindOf leadOf putBack undoOne undone dartCount sameNumbers live numbered led links blamed linksFrom survivorsTest near fits backs sameKind relabel relabelled parted replays ofKind oneKind rises zeros shaped tested lowestMet
 rows-right = refl

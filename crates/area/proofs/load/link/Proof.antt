@@ -1,12 +1,11 @@
 -- `area::load::link` meets its contract: what is to be linked from dart x on, in the work area as it is, is what was to be linked from the start.
 --
 --   Linking D w₀ w x == that, with the bounds
---   link-large       == an entry that is no dart: no
+--   link-large       == an entry that is no dart: d beside it
 --   link-gone        == x is gone: nothing is noted
---   link-taken       == x leads to a gone dart, or to one that another survivor leads to: no
+--   link-taken       == x leads to a gone dart, or to one that another survivor leads to: what is noted there beside it
 --   link-on          == x is noted before its successor
---   link-end         == all are linked: yes
-use mathlib.Core.Bool.{true, false}
+--   link-end         == all are linked
 use mathlib.Core.List.{List}
 use mathlib.Core.Logic.{_≢_}
 use mathlib.Core.Path.{_≡_, refl, sym, ap, _∙_}
@@ -17,8 +16,9 @@ use native.Mathlib.Omega.{arith}
 use lib.ListN.{length, getD, set, length-set}
 use borrow.Author.Needs.{needs}
 use borrow.Author.Tests.{eq-eqb, ne-eqb, le-leb, lt-leb}
-use Rattle.darts.specs.Map.{successor}
-use Rattle.area.specs.Area.{prev, tried}
+use Rattle.darts.specs.Map.{successor, permutes, culprits}
+use Rattle.area.specs.Area.{prev}
+use Rattle.area.specs.Verdicts.{said}
 use Rattle.area.specs.Load.{links}
 use Rattle.area.proofs.load.link.Statement.{statement}
 use Rattle.area.proofs.load.link.Tie as tie
@@ -36,7 +36,7 @@ module _ {D : ℕ} {w₀ w : List ℕ} {x : ℕ} (k : Linking D w₀ w x) where
     left : D - x ≡ suc (D - (x + 1))
     left = omega arith
 
-    link-large : D ≤ y → tried false w ≡ links D w₀ 0 D
+    link-large : D ≤ y → said (culprits x D) w ≡ links D w₀ 0 D
     unfolding links successor
     link-large l = sym (k .same ∙ rw (left, ← here, le-leb D y l))
 
@@ -49,10 +49,9 @@ module _ {D : ℕ} {w₀ w : List ℕ} {x : ℕ} (k : Linking D w₀ w x) where
           same = k .same ∙ rw (left, ← here, lt-leb D y l, eq-eqb (getD w (D + x) 0) D g, add-one x);
         }
 
-    link-taken : y < D → getD w (D + x) 0 ≢ D → getD w (D + y) 0 ≢ D + 1 → tried false w ≡ links D w₀ 0 D
+    link-taken : y < D → getD w (D + x) 0 ≢ D → {b : ℕ} → b ≡ getD w (D + y) 0 → b ≢ D + 1 → said (culprits x b) w ≡ links D w₀ 0 D
     unfolding links successor prev
-    link-taken l s o =
-        sym (k .same ∙ rw (left, ← here, lt-leb D y l, ne-eqb (getD w (D + x) 0) D s, ne-eqb (getD w (D + y) 0) (D + 1) o))
+    link-taken l s {b} e o = sym (k .same ∙ rw (left, ← here, lt-leb D y l, ne-eqb (getD w (D + x) 0) D s, ← e, ne-eqb b (D + 1) o))
 
     link-on : y < D → getD w (D + x) 0 ≢ D → getD w (D + y) 0 ≡ D + 1 → Linking D w₀ (set w (D + y) x) (x + 1)
     unfolding links successor prev
@@ -63,7 +62,7 @@ module _ {D : ℕ} {w₀ w : List ℕ} {x : ℕ} (k : Linking D w₀ w x) where
           same = k .same ∙ rw (left, ← here, lt-leb D y l, ne-eqb (getD w (D + x) 0) D s, eq-eqb (getD w (D + y) 0) (D + 1) o, add-one x);
         }
 
-  link-end : D ≤ x → tried true w ≡ links D w₀ 0 D
+  link-end : D ≤ x → said permutes w ≡ links D w₀ 0 D
   unfolding links
   link-end l = let e : D - x ≡ 0 = omega arith in sym (k .same ∙ rw e)
 
@@ -120,7 +119,7 @@ returns-2 c =
     let k = c .before .before .before .before .before .before .before .before .before .before .loop .inv in
     let more = c .before .before .before .before .before .before .before .before .before .loop-test .taken in
     let y = c .before .before .before .before .before .before .before .at .ensures in
-    link-taken k more y (c .before .before .before .before .before .before .if1 .left) (λ e. c .before .before .before .if2 .left (c .before .before .before .before .at2 .ensures ∙ e)) (λ e. c .if3 .taken (c .before .at3 .ensures ∙ e))
+    link-taken k more y (c .before .before .before .before .before .before .if1 .left) (λ e. c .before .before .before .if2 .left (c .before .before .before .before .at2 .ensures ∙ e)) (c .before .at3 .ensures) (c .if3 .taken)
 
 cast-work : tie.Need-cast-work Inv-loop μ-loop
 cast-work c = search needs

@@ -1,9 +1,9 @@
--- `area::base::clear` meets its contract: the part that is filled is the first 4d numbers.
+-- `area::clear::clear` meets its contract: the part that is filled is the first 4d numbers.
 use native.Mathlib.Omega.{arith}
 use borrow.Author.Needs.{needs}
 use Rattle.area.proofs.Cleared.{cleared-part}
-use Rattle.area.proofs.base.clear.Statement.{statement}
-use Rattle.area.proofs.base.clear.Tie as tie
+use Rattle.area.proofs.clear.clear.Statement.{statement}
+use Rattle.area.proofs.clear.clear.Tie as tie
 
 mul-end : tie.Need-mul-end
 mul-end c = search needs
