@@ -15,6 +15,7 @@ pub mod Areas
 pub mod Planning
 pub mod Begun
 pub mod Sentences
+pub mod SecondPlace
 pub mod Alike
 pub mod Lengths
 pub mod Instances

@@ -28,3 +28,4 @@ pub mod Writing
 pub mod FileRows
 pub mod WrongByte
 pub mod FileLength
+pub mod SecondPlace

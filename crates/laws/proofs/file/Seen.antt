@@ -4,6 +4,7 @@
 --   Seen room b    == the first `upto` bytes tell what the file b means: at most 1,444, and 17 for each pair that the slices have room for
 --   seen           == so it is
 --   seen-cause     == the cause of a faulty file's answer
+--   seen-some      == what holds of every answer but 0, its second place 0, holds of it
 --   seen-refused   == it is not answered 0
 use mathlib.Core.Bool.{Bool}
 use mathlib.Core.List.{List, [], _∷_}
@@ -41,15 +42,15 @@ pub record Seen (room : ℕ → Bool) (b : List ℕ) : Type 0 where
   pub same : (c : List ℕ) → take upto c ≡ take upto b → readFile room c ≡ readFile room b
   pub told : Told b upto (readFile room b)
 
--- no fault is answered 0
-cause-some : {b : List ℕ} {upto : ℕ} {a : Answer} → Cause b upto a → a .number ≢ 0
-cause-some (wrong-byte p e k) z = omega (arith, ap (λ a. a .number) e)
-cause-some (wrong-flag e k) z = omega (arith, ap (λ a. a .number) e)
-cause-some (no-count e l) z = omega (arith, ap (λ a. a .number) e)
-cause-some (too-short e l) z = omega (arith, ap (λ a. a .number) e)
-cause-some (empty-kernel e l) z = omega (arith, ap (λ a. a .number) e)
-cause-some (many-levels e l) z = omega (arith, ap (λ a. a .number) e)
-cause-some (no-pyramid e) z = omega (arith, ap (λ a. a .number) e)
+-- what holds of every answer but 0, its second place 0, holds of a fault's
+cause-some : (P : Answer → Type 0) → ((n p : ℕ) → n ≢ 0 → P (answered n p)) → {b : List ℕ} {upto : ℕ} {a : Answer} → Cause b upto a → P a
+cause-some P some (wrong-byte p e k) = rw e (some 13 p (λ z. omega arith))
+cause-some P some (wrong-flag e k) = rw e (some 14 8 (λ z. omega arith))
+cause-some P some (no-count e l) = rw e (some 1 0 (λ z. omega arith))
+cause-some P some (too-short e l) = rw e (some 2 0 (λ z. omega arith))
+cause-some P some (empty-kernel e l) = rw e (some 5 0 (λ z. omega arith))
+cause-some P some (many-levels e l) = rw e (some 6 0 (λ z. omega arith))
+cause-some P some (no-pyramid e) = rw e (some 4 0 (λ z. omega arith))
 
 -- ---- a fault of the lines is one of the file
 
@@ -129,5 +130,8 @@ module _ (room : ℕ → Bool) (b : List ℕ) where
   pub seen-cause : {D : ℕ} {a : Answer} → readFile room b ≡ faulty D a → Cause b (seen .upto) a
   seen-cause e = subst (Told b (seen .upto)) e (seen .told)
 
+  pub seen-some : (P : Answer → Type 0) → ((n p : ℕ) → n ≢ 0 → P (answered n p)) → {D : ℕ} {a : Answer} → readFile room b ≡ faulty D a → P a
+  seen-some P some e = cause-some P some (seen-cause e)
+
   pub seen-refused : {D : ℕ} {a : Answer} → readFile room b ≡ faulty D a → a .number ≢ 0
-  seen-refused e = cause-some (seen-cause e)
+  seen-refused = seen-some (λ a. a .number ≢ 0) (λ n p h. h)

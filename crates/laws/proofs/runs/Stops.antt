@@ -1,22 +1,29 @@
 -- Where a pass stops, it stops with the answer of an edge: 7 to 11.
---   Edgy r               == the run r stands, or stops with an answer from 7 to 11
---   pass-edgy            == so it is with every pass
---   run-edgy, swept-edgy == a kernel's run, and the sweep's
+--   Stopping P r          == the run r stands, or stops with an answer of which P holds
+--   Edgy r                == the run r stands, or stops with an answer from 7 to 11
+--   pass-stops, run-stops == so it is with a pass, and a kernel's run, for every P that holds of the answers 7 to 11
+--   run-edgy, swept-edgy  == a kernel's run, and the sweep's, are edgy
 use mathlib.Core.Bool.{Bool, true, false, not}
 use mathlib.Core.List.{List, [], _∷_}
 use mathlib.Core.Path.{_≡_, refl}
 use Prim.Native.Nat.{ℕ, suc, _*_, _+_, _/_, _≤_}
 use lib.Dec.{eqb, leb, lit≤}
 use Rattle.darts.specs.Choose.{if_then_else_}
-use Rattle.darts.specs.Answers.{answered}
+use Rattle.darts.specs.Answers.{Answer, answered}
 use Rattle.darts.specs.Map.{sameVertex, sameFace, gone}
 use Rattle.darts.specs.Operation.{Kind, contraction, removal, wholeEdge}
 use Rattle.darts.specs.Kernel.{shared, judge, Operation, each, rising, Run, stands, stops, Test, always, passFrom, pass, run}
 use Rattle.darts.specs.Levels.{takes, swept}
 
+abbrev pub Stopping : (Answer → Type 0) → Run → Type 0
+Stopping P (stands t past) = Unit {0}
+Stopping P (stops a) = P a
+
+abbrev OfEdge : Answer → Type 0
+OfEdge a = (7 ≤ a .number) × (a .number ≤ 11)
+
 abbrev pub Edgy : Run → Type 0
-Edgy (stands t past) = Unit {0}
-Edgy (stops a) = (7 ≤ a .number) × (a .number ≤ 11)
+Edgy = Stopping OfEdge
 
 -- an answer of an edge, or none
 data Number (m : ℕ) : Type 0 where
@@ -47,33 +54,39 @@ judge-number k D t past e =
     either {m} (none z) = rw z whole
     either {m} (some l h) = number-if (leb 1 m) m rest l h whole
 
--- by the test's answer, and the judge's
-edgy-turn : (b : Bool) (m i : ℕ) (over on : Run) → Number m → Edgy over → Edgy on
-    → Edgy (if not b then over else if eqb m 0 then on else stops (answered m i))
-edgy-turn false m i over on n h k = h
-edgy-turn true m i over on (none z) h k = rw z k
-edgy-turn true m i over on (some l u) h k = go (eqb m 0)
-  where
-    go : (c : Bool) → Edgy (if c then on else stops (answered m i))
-    go true = k
-    go false = (l, u)
+-- ---- a pass
 
-from-edgy : (takes : Test) (D : ℕ) (t past : List ℕ) (i : ℕ) (os : List Operation) → Edgy (passFrom takes D t past i os)
-unfolding passFrom
-from-edgy takes D t past i [] = tt
-from-edgy takes D t past i (o ∷ os) =
-    edgy-turn (takes t past (o .edge)) (judge (o .kind) D t past (o .edge)) i _ _ (judge-number (o .kind) D t past (o .edge))
-    (from-edgy takes D t past i os) (from-edgy takes D _ _ (suc i) os)
+module _ (P : Answer → Type 0) (edge : (m i : ℕ) → 7 ≤ m → m ≤ 11 → P (answered m i)) where
+  -- by the test's answer, and the judge's
+  turn-stops : (b : Bool) (m i : ℕ) (over on : Run) → Number m → Stopping P over → Stopping P on
+      → Stopping P (if not b then over else if eqb m 0 then on else stops (answered m i))
+  turn-stops false m i over on n h k = h
+  turn-stops true m i over on (none z) h k = rw z k
+  turn-stops true m i over on (some l u) h k = go (eqb m 0)
+    where
+      go : (c : Bool) → Stopping P (if c then on else stops (answered m i))
+      go true = k
+      go false = edge m i l u
 
--- WHERE A PASS STOPS, IT STOPS WITH 7 TO 11
-pub pass-edgy : (takes : Test) (D : ℕ) (t past : List ℕ) (os : List Operation) → Edgy (pass takes D t past os)
-unfolding pass
-pass-edgy takes D t past os = from-edgy takes D t past 0 os
+  from-stops : (takes : Test) (D : ℕ) (t past : List ℕ) (i : ℕ) (os : List Operation) → Stopping P (passFrom takes D t past i os)
+  unfolding passFrom
+  from-stops takes D t past i [] = tt
+  from-stops takes D t past i (o ∷ os) =
+      turn-stops (takes t past (o .edge)) (judge (o .kind) D t past (o .edge)) i _ _ (judge-number (o .kind) D t past (o .edge))
+      (from-stops takes D t past i os) (from-stops takes D _ _ (suc i) os)
+
+  -- WHERE A PASS STOPS, IT STOPS WITH 7 TO 11
+  pub pass-stops : (takes : Test) (D : ℕ) (t past : List ℕ) (os : List Operation) → Stopping P (pass takes D t past os)
+  unfolding pass
+  pass-stops takes D t past os = from-stops takes D t past 0 os
+
+  pub run-stops : (k : Kind) (D : ℕ) (t past es : List ℕ) → Stopping P (run k D t past es)
+  unfolding run
+  run-stops k D t past es = pass-stops always D t past (each k es)
 
 pub run-edgy : (k : Kind) (D : ℕ) (t past es : List ℕ) → Edgy (run k D t past es)
-unfolding run
-run-edgy k D t past es = pass-edgy always D t past (each k es)
+run-edgy = run-stops OfEdge (λ m i l h. (l, h))
 
 pub swept-edgy : (D : ℕ) (t past : List ℕ) → Edgy (swept D t past)
 unfolding swept
-swept-edgy D t past = pass-edgy takes D t past (each removal (rising 0 (D / 2)))
+swept-edgy D t past = pass-stops OfEdge (λ m i l h. (l, h)) takes D t past (each removal (rising 0 (D / 2)))
