@@ -1,5 +1,5 @@
 -- The operation on an edge, judged and done step by step. p and q are the edge's darts.
---   Says n i a              == the answer a has the number n and, unless it is done, the place i
+--   Says n i a              == the answer a has the number n and, unless it is done, the place i; its second place is 0
 --   Judged D k e i w w′ r   == r is the answer for edge e at place i; where it is done the edge's two darts are joined, and else the roots are kept
 --   Bounds D w p q          == p and q are darts, and so are their successors and the darts before them
 --   bypassed D w a b q x y  == a leads on to x and b to y; where x is q, a leads on to y and that is all
@@ -20,6 +20,7 @@ use Rattle.area.specs.Trees.{rooted, Kept, Joined}
 pub record Says (n i : ℕ) (a : Answer) : Type 0 where
   pub number : answerOf a .number ≡ n
   pub place : n ≢ 0 → answerOf a .place ≡ i
+  pub second : answerOf a .second ≡ 0
 
 pub record Judged (D k e i : ℕ) (w w′ : List ℕ) (r : Answer) : Type 0 where
   pub answer : Says (judged D w (rooted D w) k e) i r

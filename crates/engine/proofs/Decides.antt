@@ -56,10 +56,10 @@ module _ {s : State} {t past : List ℕ} where
   pyramid-passed : Pyramid s t past → Passed (walked contraction s t past) (walked removal s t past) s t past
   pyramid-passed P = passed-iff _ _ s t past .0 (walked-decide s t past .1 P)
 
-  pub pyramid-loads : Pyramid s t past → T (numbered (s .darts) past && linked (s .darts) t past (s .darts))
+  pub pyramid-loads : Pyramid s t past → T (numbered (s .darts) past && linked (s .darts) t past)
   pyramid-loads P =
       let Q = pyramid-passed P in
-      and-intro (numbered (s .darts) past) (linked (s .darts) t past (s .darts)) (Q .numbers) (Q .links)
+      and-intro (numbered (s .darts) past) (linked (s .darts) t past) (Q .numbers) (Q .links)
 
   pub pyramid-few : Pyramid s t past → s .operations ≤ s .darts / 2
   unfolding shaped

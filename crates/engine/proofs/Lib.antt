@@ -2,6 +2,7 @@ pub mod AllBack
 pub mod Allowed
 pub mod Area
 pub mod Around
+pub mod Based
 pub mod Beside
 pub mod BothKinds
 pub mod ByRoots

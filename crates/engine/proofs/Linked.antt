@@ -1,23 +1,24 @@
 -- Each survivor noted before its successor: tests 3, 4 and 5.
 --   Linking D t past x w == the before part holds what the first x darts say
---   Links D t past n w a == a is what noting the first n darts gives
+--   Links D t past m x w a == a is what noting the last m darts, from x on, gives
 --   links-right          == the darts are tested as the table's are, and the dart before each survivor is noted
 use mathlib.Core.Bool.{Bool, true, false, not, _&&_, _||_}
 use mathlib.Core.List.{List}
 use mathlib.Core.Logic.{_≢_}
-use mathlib.Core.Path.{_≡_, refl, sym, ap, _∙_}
+use mathlib.Core.Path.{_≡_, refl, sym, ap, _∙_, subst}
 use Prim.Native.Nat.{ℕ, zero, suc, _+_, _*_, _≤_, _<_}
 use native.Mathlib.Decide.{ℕ-discrete}
-use native.Mathlib.Nat.{zero-add, add-zero, add-suc}
+use native.Mathlib.Nat.{zero-add}
 use native.Mathlib.Omega.{arith}
-use lib.Dec.{T, eqb, leb, ltb, leb→le, nleb→lt, ltb→lt, lt→ltb, T-not}
+use lib.Dec.{T, eqb, leb, ltb, leb→le, le→leb, nleb→lt, ltb→lt, lt→ltb, T-not}
 use lib.ListN.{length, set, drop, length-set}
 use lib.Seq.{take-set-le, drop-set-lt, getD-set-same, getD-set-other}
 use Rattle.permutations.specs.Choice.{true→T, T→true, nT→false, eqb-same, eqb-other, and-intro, and-left, and-right}
 use Rattle.darts.specs.Choose.{if_then_else_}
-use Rattle.darts.specs.Map.{successor, gone, survives, beforeIn}
-use Rattle.darts.specs.Tests.{led, linked, links as linksOf}
-use Rattle.area.specs.Area.{prev, tableIn, Tried, tried}
+use Rattle.darts.specs.Map.{successor, gone, survives, beforeIn, permutes, culprits, passed}
+use Rattle.darts.specs.Tests.{led, links as linksOf, blamed, linksFrom}
+use Rattle.area.specs.Area.{prev, tableIn}
+use Rattle.area.specs.Verdicts.{Said, said}
 use Rattle.area.specs.Load.{links}
 use Rattle.engine.proofs.Parts.{successor-in}
 use Rattle.engine.proofs.Marked.{Marked}
@@ -25,9 +26,9 @@ use Rattle.engine.proofs.Marked.{Marked}
 pub record Linking (D : ℕ) (t past : List ℕ) (x : ℕ) (w : List ℕ) : Type 0 where
   pub each : (y : ℕ) → y < D → prev D w y ≡ (if gone past y then D else if led t past x y then beforeIn x t past y else D + 1)
 
-pub record Links (D : ℕ) (t past : List ℕ) (n : ℕ) (w : List ℕ) (a : Tried) : Type 0 where
-  pub fine : a .fine ≡ linked D t past n
-  pub noted : T (a .fine) → Linking D t past n (a .work)
+pub record Links (D : ℕ) (t past : List ℕ) (m x : ℕ) (w : List ℕ) (a : Said) : Type 0 where
+  pub verdict : a .verdict ≡ linksFrom D t past m x
+  pub noted : T (passed (a .verdict)) → Linking D t past D (a .work)
   pub table : tableIn D (a .work) ≡ tableIn D w
   pub rest : drop (2 * D) (a .work) ≡ drop (2 * D) w
   pub size : length (a .work) ≡ length w
@@ -64,6 +65,20 @@ module _ {D : ℕ} {t past : List ℕ} {x : ℕ} {w : List ℕ} (xD : x < D) (L 
       go false true e = let n : beforeIn x t past y ≢ D + 1 = omega (arith, before-below x t past y (true→T e)) in eqb-other n
       go false false e = eqb-same {m = D + 1} refl
 
+  -- what is noted at a dart that is not free is the second culprit
+  blamed-noted : successor t x < D → (survives past (successor t x) && not (led t past x (successor t x))) ≡ false
+      → prev D w (successor t x) ≡ blamed D t past x
+  unfolding blamed survives
+  blamed-noted yD f =
+      rw (L .each (successor t x) yD, nT→false (leb D (successor t x)) (λ l. omega (arith, leb→le D (successor t x) l)))
+      (go (gone past (successor t x)) (led t past x (successor t x)) f)
+    where
+      go : (g b : Bool) → (not g && not b) ≡ false
+          → (if g then D else if b then beforeIn x t past (successor t x) else D + 1) ≡ (if g then D else beforeIn x t past (successor t x))
+      go true b e = refl
+      go false true e = refl
+      go false false e = absurd (subst T e tt)
+
 -- ---- one dart more
 
 module _ {D : ℕ} {t past : List ℕ} {x : ℕ} {w : List ℕ} (L : Linking D t past x w) where
@@ -83,34 +98,15 @@ module _ {D : ℕ} {t past : List ℕ} {x : ℕ} {w : List ℕ} (L : Linking D t
 
 -- ---- all of them
 
--- a dart that does not stand keeps every later one from standing
-linked-later : (D : ℕ) (t past : List ℕ) (x m : ℕ) → ¬ T (linked D t past x) → ¬ T (linked D t past (x + m))
-unfolding linked
-linked-later D t past x zero n = rw (add-zero x) n
-linked-later D t past x (suc m) n = rw (add-suc x m) (λ h. linked-later D t past x m n (and-right (linksOf D t past (x + m)) (linked D t past (x + m)) h))
-
-refused : {D n : ℕ} {t past w : List ℕ} → ¬ T (linked D t past n) → Links D t past n w (tried false w)
-refused {D} {n} {t} {past} {w} f = record {
-  fine = sym (nT→false (linked D t past n) f);
-  noted = λ h. absurd h;
-  table = refl;
-  rest = refl;
-  size = refl;
-}
-
-all-linked : {D n : ℕ} {t past w : List ℕ} → Linking D t past n w → T (linked D t past n) → Links D t past n w (tried true w)
-all-linked {D} {n} {t} {past} {w} L h = record {
-  fine = sym (T→true (linked D t past n) h);
-  noted = λ h. L;
-  table = refl;
-  rest = refl;
-  size = refl;
-}
+-- a verdict that changes nothing of the work area
+told : {D m x : ℕ} {t past w : List ℕ} {a : Said} → a .verdict ≡ linksFrom D t past m x → a .work ≡ w → (T (passed (a .verdict)) → Linking D t past D w)
+    → Links D t past m x w a
+told e k noted = record { verdict = e; noted = λ h. rw k (noted h); table = rw k; rest = rw k; size = rw k }
 
 -- y got the dart before it
-carried : {D n : ℕ} {t past : List ℕ} {a : Tried} (w : List ℕ) (x y : ℕ) → y < D → Links D t past n (set w (D + y) x) a → Links D t past n w a
-carried {D} {n} {t} {past} {a} w x y yD L = record {
-  fine = L .fine;
+carried : {D m z : ℕ} {t past : List ℕ} {a : Said} (w : List ℕ) (x y : ℕ) → y < D → Links D t past m z (set w (D + y) x) a → Links D t past m z w a
+carried {D} {m} {z} {t} {past} {a} w x y yD L = record {
+  verdict = L .verdict;
   noted = L .noted;
   table = L .table ∙ take-set-le D w (D + y) x (omega arith);
   rest = L .rest ∙ drop-set-lt (2 * D) w (D + y) x (omega arith);
@@ -118,7 +114,7 @@ carried {D} {n} {t} {past} {a} w x y yD L = record {
 }
 
 module _ (D : ℕ) (t past : List ℕ) (x m : ℕ) (w : List ℕ) (held : tableIn D w ≡ t) (xD : x < D) (fits : 2 * D ≤ length w)
-    (L : Linking D t past x w) (stand : T (linked D t past x)) where
+    (L : Linking D t past x w) where
   abbrev y : ℕ
   y = successor t x
 
@@ -129,54 +125,63 @@ module _ (D : ℕ) (t past : List ℕ) (x m : ℕ) (w : List ℕ) (held : tableI
   v = set w (D + y) x
 
   -- x survives: it is noted before y, if y is free
-  abbrev noting : Tried
-  noting = if not (eqb (prev D w y) (D + 1)) then tried false w else links D v (suc x) m
+  abbrev noting : Said
+  noting = if not (eqb (prev D w y) (D + 1)) then said (culprits x (prev D w y)) w else links D v (suc x) m
 
   here : successor w x ≡ y
   here = sym (successor-in D w x xD) ∙ ap (λ l. successor l x) held
 
-  round : x + suc m ≡ suc x + m
-  round = omega arith
+  stops : (c : ℕ) → ¬ T (linksOf D t past x) → c ≡ blamed D t past x → Links D t past (suc m) x w (said (culprits x c) w)
+  unfolding linksFrom
+  stops c n e = told (rw (nT→false (linksOf D t past x) n, e)) refl (λ h. absurd h)
 
-  stops : ¬ T (linksOf D t past x) → Links D t past (x + suc m) w (tried false w)
-  unfolding linked
-  stops n = rw round (refused (linked-later D t past (suc x) m (λ h. n (and-left (linksOf D t past x) (linked D t past x) h))))
+  goes : {a : Said} → T (linksOf D t past x) → Links D t past m (suc x) w a → Links D t past (suc m) x w a
+  unfolding linksFrom
+  goes h K = record { verdict = rw (T→true (linksOf D t past x) h) (K .verdict); noted = K .noted; table = K .table; rest = K .rest; size = K .size }
 
-  goes : y < D → T (gone past x || free) → T (linked D t past (suc x))
-  unfolding linked linksOf
-  goes yD h = and-intro (linksOf D t past x) (linked D t past x) (and-intro (ltb y D) (gone past x || free) (lt→ltb y D yD) h) stand
+  -- out of range: D is beside x
+  far : D ≤ y → D ≡ blamed D t past x
+  unfolding blamed
+  far l = rw (T→true (leb D y) (le→leb D y l))
 
   survivor : T free → gone past y ≡ false
   unfolding survives
   survivor h = nT→false (gone past y) (T-not (gone past y) (and-left (survives past y) (not (led t past x y)) h))
 
-  one-link : (Linking D t past (suc x) w → T (linked D t past (suc x)) → Links D t past (suc x + m) w (links D w (suc x) m))
-      → (Linking D t past (suc x) v → T (linked D t past (suc x)) → Links D t past (suc x + m) v (links D v (suc x) m))
-      → Links D t past (x + suc m) w (links D w x (suc m))
+  one-link : (Linking D t past (suc x) w → Links D t past m (suc x) w (links D w (suc x) m))
+      → (Linking D t past (suc x) v → Links D t past m (suc x) v (links D v (suc x) m))
+      → Links D t past (suc m) x w (links D w x (suc m))
   unfolding links linksOf
   one-link passed noted = rw (here, gone-noted xD L) (low (leb D y) refl)
     where
-      onto : y < D → gone past x ≡ false → (b : Bool) → free ≡ b → Links D t past (x + suc m) w (if not b then tried false w else links D v (suc x) m)
-      onto yD g true f = let h : T free = true→T f in rw round (carried w x y yD (noted (note L g (survivor h) yD fits) (goes yD (rw g h))))
-      onto yD g false f = stops (λ h. rw (g, f) at (and-right (ltb y D) (gone past x || free) h))
+      stand : y < D → T (gone past x || free) → T (ltb y D && (gone past x || free))
+      stand yD h = and-intro (ltb y D) (gone past x || free) (lt→ltb y D yD) h
 
-      there : y < D → (b : Bool) → gone past x ≡ b → Links D t past (x + suc m) w (if b then links D w (suc x) m else noting)
-      there yD true g = rw round (passed (pass L g) (goes yD (rw g tt)))
+      onto : y < D → gone past x ≡ false → (b : Bool) → free ≡ b
+          → Links D t past (suc m) x w (if not b then said (culprits x (prev D w y)) w else links D v (suc x) m)
+      onto yD g true f = let h : T free = true→T f in goes (stand yD (rw g h)) (carried w x y yD (noted (note L g (survivor h) yD fits)))
+      onto yD g false f = stops (prev D w y) (λ h. rw (g, f) at (and-right (ltb y D) (gone past x || free) h)) (blamed-noted xD L yD f)
+
+      there : y < D → (b : Bool) → gone past x ≡ b → Links D t past (suc m) x w (if b then links D w (suc x) m else noting)
+      there yD true g = goes (stand yD (rw g tt)) (passed (pass L g))
       there yD false g = rw (free-noted xD L y yD) (onto yD g free refl)
 
-      low : (b : Bool) → leb D y ≡ b → Links D t past (x + suc m) w (if b then tried false w else if gone past x then links D w (suc x) m else noting)
-      low true e = stops (λ h. omega (arith, ltb→lt y D (and-left (ltb y D) (gone past x || free) h), leb→le D y (true→T e)))
+      low : (b : Bool) → leb D y ≡ b
+          → Links D t past (suc m) x w (if b then said (culprits x D) w else if gone past x then links D w (suc x) m else noting)
+      low true e =
+          let l = leb→le D y (true→T e) in
+          stops D (λ h. omega (arith, ltb→lt y D (and-left (ltb y D) (gone past x || free) h))) (far l)
       low false e = there (nleb→lt D y (rw e tt)) (gone past x) refl
 
-links-from : (m D : ℕ) (t past : List ℕ) (x : ℕ) (w : List ℕ) → tableIn D w ≡ t → x + m ≤ D → 2 * D ≤ length w → Linking D t past x w → T (linked D t past x)
-    → Links D t past (x + m) w (links D w x m)
-links-from zero D t past x w e below fits L s = unfold links in rw (add-zero x) (all-linked L s)
-links-from (suc m) D t past x w e below fits L s =
-    one-link D t past x m w e (omega arith) fits L s
-    (λ M h. links-from m D t past (suc x) w e (omega arith) fits M h)
-    (λ M h. links-from m D t past (suc x) (set w (D + successor t x) x) (take-set-le D w (D + successor t x) x (omega arith) ∙ e) (omega arith) (rw length-set fits) M h)
+links-from : (m D : ℕ) (t past : List ℕ) (x : ℕ) (w : List ℕ) → tableIn D w ≡ t → x + m ≡ D → 2 * D ≤ length w → Linking D t past x w
+    → Links D t past m x w (links D w x m)
+links-from zero D t past x w e all fits L = unfold links linksFrom in let k : x ≡ D = omega arith in told refl refl (λ h. rw k at L)
+links-from (suc m) D t past x w e all fits L =
+    one-link D t past x m w e (omega arith) fits L
+    (λ M. links-from m D t past (suc x) w e (omega arith) fits M)
+    (λ M. links-from m D t past (suc x) (set w (D + successor t x) x) (take-set-le D w (D + successor t x) x (omega arith) ∙ e) (omega arith) (rw length-set fits) M)
 
 -- THE DARTS ARE TESTED AS THE TABLE'S ARE
-pub links-right : (D : ℕ) (t past w : List ℕ) → tableIn D w ≡ t → 2 * D ≤ length w → Marked D past w → Links D t past D w (links D w 0 D)
-unfolding linked led
-links-right D t past w e fits M = rw (zero-add D) at (links-from D D t past 0 w e (omega arith) fits (record { each = M }) tt)
+pub links-right : (D : ℕ) (t past w : List ℕ) → tableIn D w ≡ t → 2 * D ≤ length w → Marked D past w → Links D t past D 0 w (links D w 0 D)
+unfolding led
+links-right D t past w e fits M = links-from D D t past 0 w e (zero-add D) fits (record { each = M })

@@ -16,9 +16,10 @@ use lib.ListN.{length, take, drop}
 use lib.Seq.{length-take-le}
 use Rattle.permutations.specs.Choice.{true→T, T→true, nT→false, eqb-iff, or-intro, and-intro}
 use Rattle.darts.specs.Choose.{if_then_else_}
-use Rattle.darts.specs.Map.{successor, gone, survives, live, before}
-use Rattle.darts.specs.Tests.{numbered, led, linked}
+use Rattle.darts.specs.Map.{successor, gone, survives, live, before, passed}
+use Rattle.darts.specs.Tests.{numbered, led, survivorsTest, linked}
 use Rattle.area.specs.Area.{Room, prev, tableIn, pastIn, forestIn, Tried}
+use Rattle.area.specs.Verdicts.{passing}
 use Rattle.area.specs.Load.{marks, links, linksAfter, relinks, loads}
 use Rattle.laws.specs.Standing.{Standing}
 use Rattle.laws.proofs.bridge.Standing.{live-iff}
@@ -32,10 +33,10 @@ use Rattle.engine.proofs.Marked.{Marks, marks-right}
 use Rattle.engine.proofs.Linked.{Linking, Links, links-right}
 
 abbrev pub LinkedStand : ℕ → Type 0
-LinkedStand D = (t past : List ℕ) → D % 2 ≡ 0 → length t ≡ D → T (linked D t past D) → Standing D t past
+LinkedStand D = (t past : List ℕ) → D % 2 ≡ 0 → length t ≡ D → T (linked D t past) → Standing D t past
 
 pub record Loaded (D n : ℕ) (t h w : List ℕ) (a : Tried) : Type 0 where
-  pub fine : a .fine ≡ (numbered D (reverse (take n h)) && linked D (take D t) (reverse (take n h)) D)
+  pub fine : a .fine ≡ (numbered D (reverse (take n h)) && linked D (take D t) (reverse (take n h)))
   pub table : tableIn D (a .work) ≡ take D t
   pub past : pastIn D n (a .work) ≡ reverse (take n h)
   pub area : T (a .fine) → Area D n (a .work)
@@ -95,7 +96,7 @@ module _ {D : ℕ} (stands : LinkedStand D) (n : ℕ) (t h w : List ℕ) (room :
   -- a test of the history failed
   refused : a .fine ≡ false → Loaded D n t h w a
   refused f = record {
-    fine = f ∙ ap (λ b. b && linked D (take D t) past D) (sym f ∙ a-fine);
+    fine = f ∙ ap (λ b. b && linked D (take D t) past) (sym f ∙ a-fine);
     table = M .table ∙ E .table;
     past = a-past;
     area = λ k. absurd (rw f at k);
@@ -106,9 +107,9 @@ module _ {D : ℕ} (stands : LinkedStand D) (n : ℕ) (t h w : List ℕ) (room :
 
   module _ (f : T (a .fine)) where
     abbrev v : Tried
-    v = links D (a .work) 0 D
+    v = passing (links D (a .work) 0 D)
 
-    L : Links D (take D t) past D (a .work) v
+    L : Links D (take D t) past D 0 (a .work) (links D (a .work) 0 D)
     L = links-right D (take D t) past (a .work) (M .table ∙ E .table) (omega (arith, M .size, E .size, room .fits)) (rw (E .past) at (M .marked f))
 
     v-table : tableIn D (v .work) ≡ take D t
@@ -123,15 +124,19 @@ module _ {D : ℕ} (stands : LinkedStand D) (n : ℕ) (t h w : List ℕ) (room :
     numbers : T (numbered D past)
     numbers = rw a-fine at f
 
+    v-fine : v .fine ≡ linked D (take D t) past
+    unfolding survivorsTest
+    v-fine = ap passed (L .verdict)
+
     v-area : T (v .fine) → Area D n (v .work)
     v-area k =
-        let S : Standing D (take D t) past = stands (take D t) past (room .even) (length-take-le D t long) (rw (L .fine) at k) in
+        let S : Standing D (take D t) past = stands (take D t) past (room .even) (length-take-le D t long) (rw v-fine at k) in
         area-of n (v .work) v-past (room-kept w (v .work) v-size room) few numbers
         (rw v-table S) (rw v-table (all-known S (L .noted k))) (all-gones S (L .noted k))
 
     accepted : Loaded D n t h w v
     accepted = record {
-      fine = rw (T→true (numbered D past) numbers) (L .fine);
+      fine = rw (T→true (numbered D past) numbers) v-fine;
       table = v-table;
       past = v-past;
       area = v-area;
@@ -144,7 +149,7 @@ module _ {D : ℕ} (stands : LinkedStand D) (n : ℕ) (t h w : List ℕ) (room :
   unfolding linksAfter
   laid-right = go (a .fine) refl
     where
-      go : (b : Bool) → a .fine ≡ b → Loaded D n t h w (if b then links D (a .work) 0 D else a)
+      go : (b : Bool) → a .fine ≡ b → Loaded D n t h w (if b then passing (links D (a .work) 0 D) else a)
       go true f = accepted (true→T f)
       go false f = refused f
 

@@ -49,7 +49,7 @@ module _ {D k : ℕ} {takes : Test} {whole : Run} {w₀ : List ℕ} {i m : ℕ} 
           let refused : judge (kindOf k) D (tableIn D w) (pastIn D m w) e ≢ 0 = λ z. given (said .number ∙ z) in
           let stop = rw (chosen, eqb-other refused) at (u .same) in
           record {
-            went = rw (eqb-other given) ((λ j. stops (answered (said .number j) (said .place refused j))) ∙ stop);
+            went = rw (eqb-other given) ((λ j. stops (record { number = said .number j; place = said .place refused j; second = said .second j })) ∙ stop);
             few = few;
             beyond = beyond-trans (u .beyond) (τ .beyond);
           }

@@ -1,4 +1,5 @@
 // What a call does in the work area, in the words of the definitions: check, run, sweep, take back, count, store.
+pub mod base;
 pub mod check;
 pub mod counting;
 pub mod kernel;

@@ -24,8 +24,8 @@ use Rattle.area.proofs.operate.judge.Statement.{statement}
 use Rattle.area.proofs.operate.judge.Tie as tie
 
 -- an answer says its own number and place
-exact : {a : Answer} → Says (answerOf a .number) (answerOf a .place) a
-exact = record { number = refl; place = λ _. refl }
+exact : {a : Answer} → answerOf a .second ≡ 0 → Says (answerOf a .number) (answerOf a .place) a
+exact none = record { number = refl; place = λ _. refl; second = none }
 
 not-true : (b : Bool) → true ≡ not b → b ≡ false
 not-true true e = e
@@ -48,12 +48,12 @@ module _ (D : ℕ) (w : List ℕ) (R : ℕ → ℕ) (k e i : ℕ) where
 
   no-edge : D / 2 ≤ e → Verdict (NoEdge i)
   unfolding judged
-  no-edge h = rw (le-leb (D / 2) e h) exact
+  no-edge h = rw (le-leb (D / 2) e h) (exact refl)
 
   module _ (edge : e < D / 2) where
     gone : D ≤ getD w (D + 2 * e) 0 → Verdict (GoneAlready i)
     unfolding judged there prev
-    gone h = rw (lt-leb (D / 2) e edge, le-ltb (getD w (D + 2 * e) 0) D h) exact
+    gone h = rw (lt-leb (D / 2) e edge, le-ltb (getD w (D + 2 * e) 0) D h) (exact refl)
 
     module _ (here : getD w (D + 2 * e) 0 < D) where
       one-root : eqb (R (2 * e)) (R (2 * e + 1)) ≡ true → {a : Answer} → Says (10 - k) i a → Verdict a
@@ -63,11 +63,11 @@ module _ (D : ℕ) (w : List ℕ) (R : ℕ → ℕ) (k e i : ℕ) where
       module _ (two : eqb (R (2 * e)) (R (2 * e + 1)) ≡ false) where
         whole-piece : wholeEdge w e ≡ true → Verdict (WholePiece i)
         unfolding judged there prev
-        whole-piece h = rw (lt-leb (D / 2) e edge, lt-ltb (getD w (D + 2 * e) 0) D here, two, h) exact
+        whole-piece h = rw (lt-leb (D / 2) e edge, lt-ltb (getD w (D + 2 * e) 0) D here, two, h) (exact refl)
 
         fine : wholeEdge w e ≡ false → Verdict (Done 0)
         unfolding judged there prev
-        fine h = rw (lt-leb (D / 2) e edge, lt-ltb (getD w (D + 2 * e) 0) D here, two, h) (record { number = refl; place = λ n. absurd (n refl) })
+        fine h = rw (lt-leb (D / 2) e edge, lt-ltb (getD w (D + 2 * e) 0) D here, two, h) (record { number = refl; place = λ n. absurd (n refl); second = refl })
 
 -- the partner of the edge's even dart is its odd one
 odd : (c : tie.After-partner) → c .partner .result ≡ 2 * (c .before .before .before .before .before .before .args .e) + 1

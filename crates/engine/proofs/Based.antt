@@ -1,0 +1,46 @@
+-- A table loaded alone: the permutation test, and a work area that is as it was from 4D on.
+--   Tested D t w v u == v is what the test says of t, and u is as w was from 4D on
+--   base-tested      == so it is
+use mathlib.Core.List.{List, []}
+use mathlib.Core.Path.{_≡_, sym, ap, _∙_}
+use Prim.Native.Nat.{ℕ, _*_, _≤_}
+use native.Mathlib.Omega.{arith}
+use lib.ListN.{length, take, drop}
+use lib.Seq.{take-take}
+use Rattle.darts.specs.Map.{gone, Verdict, permutationTest}
+use Rattle.darts.specs.Tests.{survivorsTest}
+use Rattle.area.specs.Area.{Room}
+use Rattle.area.specs.Verdicts.{Said, said}
+use Rattle.area.specs.Load.{given, blank, links, loadsBase}
+use Rattle.laws.proofs.bridge.Verdicts.{test-same}
+use Rattle.laws.proofs.tests.NothingGone.{nothing-gone}
+use Rattle.engine.proofs.Parts.{rest-from}
+use Rattle.engine.proofs.Laid.{Laid, given-laid}
+use Rattle.engine.proofs.Marked.{Marked}
+use Rattle.engine.proofs.Linked.{Links, links-right}
+
+pub record Tested (D : ℕ) (t w : List ℕ) (v : Verdict) (u : List ℕ) : Type 0 where
+  pub verdict : v ≡ permutationTest D t
+  pub rest : drop (4 * D) u ≡ drop (4 * D) w
+
+module _ (D : ℕ) (t w : List ℕ) (room : Room D w) (long : D ≤ length t) where
+  abbrev e : List ℕ
+  e = blank D (given D 0 t [] w)
+
+  E : Laid D 0 t [] w e
+  E = given-laid D 0 t [] w room long (omega arith) (omega arith)
+
+  none-gone : Marked D [] e
+  unfolding gone
+  none-gone = E .unknown
+
+  L : Links D (take D t) [] D 0 e (links D e 0 D)
+  L = links-right D (take D t) [] e (E .table) (omega (arith, E .size, room .fits)) none-gone
+
+  -- THE PERMUTATION TEST, AND NOTHING PAST 4D
+  pub base-tested : {v : Verdict} {u : List ℕ} → said v u ≡ loadsBase D t w → Tested D t w v u
+  unfolding loadsBase survivorsTest
+  base-tested f = record {
+    verdict = ap (λ (s : Said). s .verdict) f ∙ L .verdict ∙ nothing-gone D (take D t) ∙ test-same D (take D t) t (take-take D D t (omega arith));
+    rest = ap (λ (s : Said). drop (4 * D) (s .work)) f ∙ rest-from D (4 * D) _ e (L .rest) (omega arith) ∙ E .rest;
+  }
