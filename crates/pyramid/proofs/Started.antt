@@ -5,13 +5,13 @@
 use mathlib.Core.List.{List}
 use mathlib.Core.Logic.{_≢_}
 use mathlib.Core.Path.{_≡_, ap₂}
-use Prim.Native.Nat.{ℕ, _<_, _≤_}
-use borrow.Author.Tests.{lt-ltb, le-ltb, eq-eqb, ne-eqb}
+use Prim.Native.Nat.{ℕ}
+use borrow.Author.Tests.{eq-eqb, ne-eqb}
 use lib.ListN.{length}
 use Rattle.darts.specs.Answers.{Answer as Answered, done, noPermutation}
-use Rattle.darts.specs.Map.{firstBad}
+use Rattle.darts.specs.Map.{permutes, culprits, permutationTest}
 use Rattle.darts.specs.State.{State as Stated, baseState}
-use Rattle.darts.specs.Calls.{leaves, start, fitting, cleared}
+use Rattle.darts.specs.Calls.{leaves, begins, start, fitting, cleared}
 use Rattle.pyramid.specs.Values.{left, Hands}
 use Rattle.pyramid.specs.declared.Outcome.{Outcome}
 
@@ -27,11 +27,11 @@ module _ (D : ℕ) (t h w : List ℕ) where
   start-refused o n H = rw (ne-eqb (first .number) 0 n) (hands o H t h w)
 
   module _ (fits : first .number ≡ 0) where
-    pub start-bad : (o : Outcome) → firstBad D t < D → Hands o (noPermutation (firstBad D t)) (baseState 0)
+    pub start-bad : (o : Outcome) {d c : ℕ} → culprits d c ≡ permutationTest D t → Hands o (noPermutation d c) (baseState 0)
         → left o t h (cleared D w) ≡ start D t h w
-    unfolding start
-    start-bad o b H = rw (eq-eqb (first .number) 0 fits, lt-ltb (firstBad D t) D b) (hands o H t h (cleared D w))
+    unfolding start begins
+    start-bad o b H = rw (eq-eqb (first .number) 0 fits, ← b) (hands o H t h (cleared D w))
 
-    pub start-done : (o : Outcome) → D ≤ firstBad D t → Hands o done (baseState D) → left o t h (cleared D w) ≡ start D t h w
-    unfolding start
-    start-done o b H = rw (eq-eqb (first .number) 0 fits, le-ltb (firstBad D t) D b) (hands o H t h (cleared D w))
+    pub start-done : (o : Outcome) → permutes ≡ permutationTest D t → Hands o done (baseState D) → left o t h (cleared D w) ≡ start D t h w
+    unfolding start begins
+    start-done o b H = rw (eq-eqb (first .number) 0 fits, ← b) (hands o H t h (cleared D w))

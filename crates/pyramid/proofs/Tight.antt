@@ -1,5 +1,5 @@
 -- No two outcomes satisfy the statement of a call.
---   answerBack, answer-one == each case of an answer has its own number and place
+--   answerBack, answer-one == each case of an answer has its own number and places
 --   state-one              == each state has its own record
 --   left-one               == what a call leaves tells what it handed back and every lent slice
 --   counts-one             == the same of counts
@@ -23,7 +23,7 @@ answerBack a =
     if eqb (a .number) 0 then Done (a .place)
     else if eqb (a .number) 1 then NoDartCount
     else if eqb (a .number) 2 then TooShort (a .place)
-    else if eqb (a .number) 3 then NoPermutation (a .place)
+    else if eqb (a .number) 3 then NoPermutation (a .place) (a .second)
     else if eqb (a .number) 4 then NoPyramid
     else if eqb (a .number) 5 then EmptyKernel
     else if eqb (a .number) 6 then TooManyLevels
@@ -42,7 +42,7 @@ unfolding answerBack
 answer-back (Done n) = refl
 answer-back NoDartCount = refl
 answer-back (TooShort n) = refl
-answer-back (NoPermutation d) = refl
+answer-back (NoPermutation d c) = refl
 answer-back NoPyramid = refl
 answer-back EmptyKernel = refl
 answer-back TooManyLevels = refl

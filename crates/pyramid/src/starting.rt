@@ -2,8 +2,9 @@
 use crate::Answer;
 use crate::Outcome;
 use crate::State;
-use area::base::first_bad;
+use area::Verdict;
 use darts::answers::fit;
+use engine::base::test_base;
 ghost use mathlib.Core.Path.{_≡_};
 ghost use Rattle.darts.specs.State.{baseState};
 ghost use Rattle.darts.specs.Calls.{start as startOf};
@@ -26,7 +27,7 @@ pub fn based(darts: u32, answer: Answer) -> Outcome
     }
 }
 
-// Starts from the table's first D numbers: a base, where they are a permutation of all darts.
+// Starts from the table's first D numbers: a base, where they are a permutation of all darts; else both culprits.
 pub fn start(darts: u32, table: &mut [u32], history: &mut [u32], work: &mut [u32]) -> Outcome
     ensures { λ r. ⌜
         left r (now (table .exit)) (now (history .exit)) (now (work .exit))
@@ -37,9 +38,9 @@ pub fn start(darts: u32, table: &mut [u32], history: &mut [u32], work: &mut [u32
         return based(0, judged);
     }
     let d = darts as usize;
-    let bad = first_bad(work, d, table);
-    if bad < d {
-        return based(0, Answer::NoPermutation(bad));
+    let verdict = test_base(work, d, table);
+    match verdict {
+        Verdict::Permutes => based(darts, Answer::Done(0)),
+        Verdict::Culprits(dart, beside) => based(0, Answer::NoPermutation(dart, beside)),
     }
-    based(darts, Answer::Done(0))
 }

@@ -1,10 +1,10 @@
 -- `pyramid::starting::start` meets its contract: the three ways that a start ends.
-use Prim.Native.Nat.{ℕ}
 use mathlib.Core.Path.{_∙_, ap, sym}
 use native.Mathlib.Omega.{arith}
 use borrow.Author.Needs.{needs}
-use Rattle.darts.specs.Answers.{Answer as Answered, noPermutation}
+use Rattle.darts.specs.Answers.{Answer as Answered}
 use Rattle.darts.proofs.Fitting.{fits}
+use Rattle.area.specs.Verdicts.{verdictOf}
 use Rattle.pyramid.proofs.Started.{start-refused, start-bad, start-done}
 use Rattle.pyramid.proofs.starting.start.Statement.{statement}
 use Rattle.pyramid.proofs.starting.start.Tie as tie
@@ -28,8 +28,8 @@ returns c =
     (λ z. c .before .if1 .taken (n ∙ ap (λ (a : Answered). a .number) f ∙ z))
     (record { answer = b .answer ∙ f; state = b .state })
 
-first-bad-requires : tie.Need-first-bad-requires
-first-bad-requires c κs =
+test-base-requires : tie.Need-test-base-requires
+test-base-requires c κs =
     let f = c .before .before .before .before .fit .ensures in
     let n = c .before .before .before .number .ensures in
     let k = fits _ _ _ _ (sym (ap (λ (a : Answered). a .number) f) ∙ sym n ∙ c .before .before .if1 .left) in
@@ -37,8 +37,17 @@ first-bad-requires c κs =
     let l = k .lengths in
     (record { even = q .even; some = omega arith; small = q .small; fits = l .work }, l .table)
 
+enum-told : tie.Need-enum-told
+enum-told c = search needs
+
 based-requires-2 : tie.Need-based-requires-2
 based-requires-2 c κs = search needs
+
+enum-known-verdict : tie.Need-enum-known-verdict
+enum-known-verdict c = search needs
+
+based-requires-3 : tie.Need-based-requires-3
+based-requires-3 c κs = search needs
 
 same-length : tie.Need-same-length
 same-length c = search needs
@@ -48,19 +57,15 @@ same-length-2 c = search needs
 
 returns-2 : tie.Need-returns-2
 returns-2 c =
-    let g = c .before .before .before .before .before .before .before .before .before .before .before .before .before .args in
-    let f = c .before .before .before .before .before .before .before .before .before .fit .ensures in
-    let m = c .before .before .before .before .before .before .before .before .number .ensures in
-    let b = c .before .before .before .before .first-bad .ensures in
-    let r = c .based2 .ensures in
+    let said = c .before .before .before .before .before in
+    let judged = c .before .before .before .before .before .before .before .before in
+    let g = c .before .before .before .before .before .before .before .before .before .before .before .before .before .before .args in
+    let f = judged .before .before .fit .ensures in
+    let b = said .test-base .ensures in
     rw (b .1)
-    (start-bad (g .darts) (g .table .now) (g .history .now) (g .work .now)
-    (sym (ap (λ (a : Answered). a .number) f) ∙ sym m ∙ c .before .before .before .before .before .before .before .if1 .left)
-    (c .based2 .result) (omega arith)
-    (record { answer = r .answer ∙ ap (λ (d : ℕ). noPermutation d) (b .0); state = r .state }))
-
-based-requires-3 : tie.Need-based-requires-3
-based-requires-3 c κs = search needs
+    (start-done (g .darts) (g .table .now) (g .history .now) (g .work .now)
+    (sym (ap (λ (a : Answered). a .number) f) ∙ sym (judged .before .number .ensures) ∙ judged .if1 .left)
+    (c .based2 .result) (ap verdictOf (sym (c .before .enum-told .given .1)) ∙ b .0) (c .based2 .ensures))
 
 same-length-3 : tie.Need-same-length-3
 same-length-3 c = search needs
@@ -70,14 +75,15 @@ same-length-4 c = search needs
 
 returns-3 : tie.Need-returns-3
 returns-3 c =
-    let g = c .before .before .before .before .before .before .before .before .before .before .before .before .before .args in
-    let f = c .before .before .before .before .before .before .before .before .before .fit .ensures in
-    let m = c .before .before .before .before .before .before .before .before .number .ensures in
-    let b = c .before .before .before .before .first-bad .ensures in
+    let said = c .before .before .before .before .before .before in
+    let judged = c .before .before .before .before .before .before .before .before .before in
+    let g = c .before .before .before .before .before .before .before .before .before .before .before .before .before .before .before .args in
+    let f = judged .before .before .fit .ensures in
+    let b = said .test-base .ensures in
     rw (b .1)
-    (start-done (g .darts) (g .table .now) (g .history .now) (g .work .now)
-    (sym (ap (λ (a : Answered). a .number) f) ∙ sym m ∙ c .before .before .before .before .before .before .before .if1 .left)
-    (c .based3 .result) (omega arith) (c .based3 .ensures))
+    (start-bad (g .darts) (g .table .now) (g .history .now) (g .work .now)
+    (sym (ap (λ (a : Answered). a .number) f) ∙ sym (judged .before .number .ensures) ∙ judged .if1 .left)
+    (c .based3 .result) (ap verdictOf (sym (c .before .before .verdict .given .1)) ∙ b .0) (c .based3 .ensures))
 
 pub start-spec : {M : Type 1} → statement M
 start-spec =
@@ -87,12 +93,14 @@ start-spec =
     number-requires
     based-requires
     returns
-    first-bad-requires
+    test-base-requires
+    enum-told
     based-requires-2
+    enum-known-verdict
+    based-requires-3
     same-length
     same-length-2
     returns-2
-    based-requires-3
     same-length-3
     same-length-4
     returns-3)
