@@ -72,11 +72,11 @@ void agree_refusals(const struct calls *const *versions, const char *const *name
         for (int v = 0; v < count; v++) {
             uint32_t n = refused[i].operations, table[8], history[4], work[32] = {0}, counts[4];
             struct lent lent = {{refused[i].darts, n, n, {0}}, table, history, work, 8, 4, 32};
-            size_t place;
+            size_t place[2];
             for (uint32_t level = 0; level < n; level++) lent.state.ends[level] = level + 1;
             memcpy(table, refused[i].table, sizeof table);
             memcpy(history, refused[i].history, sizeof history);
-            uint32_t number = versions[v]->counts(&lent, counts, &place);
+            uint32_t number = versions[v]->counts(&lent, counts, place);
             if (number != 4) fail(NULL, "%s answers %u where test %zu alone refuses", names[v], number, i + 1);
         }
 }
@@ -91,7 +91,7 @@ static void damage(struct lent *lent, uint64_t *seed) {
 }
 
 /* The call of this trial. A damaged file is read, any other call works on the damaged state. */
-static uint32_t call(struct room *room, const struct plan *plan, uint32_t trial, size_t *place, uint32_t counts[4]) {
+static uint32_t call(struct room *room, const struct plan *plan, uint32_t trial, size_t place[2], uint32_t counts[4]) {
     const struct calls *calls = room->calls;
     switch (trial % PHASES) {
     case START: return calls->start(&room->lent, plan->darts, place);
@@ -106,33 +106,34 @@ static uint32_t call(struct room *room, const struct plan *plan, uint32_t trial,
 }
 
 /* One version's answer to one trial, and what it leaves. The same trial damages the same number in each version. */
-static void try_damaged(struct room *room, const struct plan *plan, uint32_t trial, uint64_t left[2], uint32_t counts[4]) {
+static void try_damaged(struct room *room, const struct plan *plan, uint32_t trial, uint64_t left[3], uint32_t counts[4]) {
     uint64_t seed = trial;
-    size_t place = 0;
+    size_t place[2] = {0};
     room_restore(room, &room->moments[trial % 3 == 0 ? CONTRACTED : SWEPT], plan->darts);
     if (trial % PHASES == READ) {
         uint8_t *byte = &room->file[plan_random(&seed, (uint32_t)room->file_length)], old = *byte;
         *byte = (uint8_t)("0123456789 \n"[plan_random(&seed, 12)]);
-        left[0] = call(room, plan, trial, &place, counts);
+        left[0] = call(room, plan, trial, place, counts);
         *byte = old;
     } else {
         damage(&room->lent, &seed);
-        left[0] = call(room, plan, trial, &place, counts);
+        left[0] = call(room, plan, trial, place, counts);
     }
-    left[1] = place;
+    left[1] = place[0];
+    left[2] = place[1];
 }
 
 void agree_damaged(const struct plan *plan, struct room *rooms, int count) {
     for (uint32_t trial = 0; trial < 400; trial++) {
-        uint64_t left[2], first[2];
+        uint64_t left[3], first[3];
         uint32_t counts[4] = {0}, first_counts[4] = {0};
         try_damaged(&rooms[0], plan, trial, first, first_counts);
         for (int i = 1; i < count; i++) {
             const struct lent *a = &rooms[0].lent, *b = &rooms[i].lent;
             try_damaged(&rooms[i], plan, trial, left, counts);
-            if (left[0] != first[0] || left[1] != first[1])
-                fail(plan, "damaged, trial %u: %s answers %u at %u, %s %u at %u", trial, rooms[0].name, (unsigned)first[0], (unsigned)first[1],
-                     rooms[i].name, (unsigned)left[0], (unsigned)left[1]);
+            if (left[0] != first[0] || left[1] != first[1] || left[2] != first[2])
+                fail(plan, "damaged, trial %u: %s answers %u at %u and %u, %s %u at %u and %u", trial, rooms[0].name, (unsigned)first[0],
+                     (unsigned)first[1], (unsigned)first[2], rooms[i].name, (unsigned)left[0], (unsigned)left[1], (unsigned)left[2]);
             if (memcmp(&a->state, &b->state, sizeof a->state) != 0 || !same(a->table, b->table, plan->darts) ||
                 !same(a->history, b->history, plan->darts / 2) || !same(a->work, b->work, 4 * (size_t)plan->darts) || !same(counts, first_counts, 4))
                 fail(plan, "damaged, trial %u: %s and %s leave different numbers", trial, rooms[0].name, rooms[i].name);

@@ -40,22 +40,22 @@ static bool same(const uint32_t *one, const uint32_t *other, size_t count) {
     return memcmp(one, other, count * sizeof *one) == 0;
 }
 
-/* A call of each version on slices full of other numbers: answer, place, state and every number are the same. The answer's number. */
+/* A call of each version on slices full of other numbers: answer, places, state and every number are the same. The answer's number. */
 static uint32_t agree_call(struct site *site, enum building building, uint32_t wales, uint32_t courses, const uint8_t *codes, size_t length) {
     uint32_t number[VERSIONS];
-    size_t place[VERSIONS];
+    size_t place[VERSIONS][2];
     for (int v = 0; v < VERSIONS; v++) {
         struct lent *lent = &site->rooms[v].lent;
         memset(&lent->state, 7, sizeof lent->state);
         fill(lent->table, site->table);
         fill(lent->history, site->history);
         fill(lent->work, site->work);
-        number[v] = builds[v][building](lent, wales, courses, codes, length, &place[v]);
+        number[v] = builds[v][building](lent, wales, courses, codes, length, place[v]);
     }
     const struct lent *a = &site->rooms[0].lent, *b = &site->rooms[1].lent;
-    if (number[0] != number[1] || place[0] != place[1])
-        fail(NULL, "%s of %u by %u: the library answers %u at %zu, (a) %u at %zu", building_names[building], wales, courses, number[0], place[0],
-             number[1], place[1]);
+    if (number[0] != number[1] || memcmp(place[0], place[1], sizeof place[0]) != 0)
+        fail(NULL, "%s of %u by %u: the library answers %u at %zu and %zu, (a) %u at %zu and %zu", building_names[building], wales, courses, number[0],
+             place[0][0], place[0][1], number[1], place[1][0], place[1][1]);
     if (memcmp(&a->state, &b->state, sizeof a->state) != 0 || !same(a->table, b->table, site->table) || !same(a->history, b->history, site->history) ||
         !same(a->work, b->work, site->work))
         fail(NULL, "%s of %u by %u: the library and (a) leave different numbers", building_names[building], wales, courses);
@@ -99,12 +99,12 @@ static void agree_plan(const struct plan *plan, const uint8_t *codes, struct sit
     struct room after = room_make("the library", &library, plan->darts);
     struct lent *lent = &after.lent;
     const struct lent *built = &site->rooms[0].lent;
-    size_t place;
+    size_t place[2];
     if (agree_call(site, BASE, side, side, codes, (size_t)side * side) != 0 || !same(built->table, plan->table, plan->darts))
         fail(plan, "the base differs from the plan's table");
     memcpy(lent->table, plan->table, plan->darts * sizeof *lent->table);
     fill(lent->history, site->history);
-    if (library.start(lent, plan->darts, &place) != 0 || library.contract(lent, plan->kernel, plan->kernel_length, &place) != 0)
+    if (library.start(lent, plan->darts, place) != 0 || library.contract(lent, plan->kernel, plan->kernel_length, place) != 0)
         fail(plan, "start or contract is refused");
     if (agree_call(site, AREAS, side, side, codes, (size_t)side * side) != 0 || memcmp(&built->state, &lent->state, sizeof lent->state) != 0 ||
         !same(built->table, lent->table, site->table) || !same(built->history, lent->history, site->history))
@@ -115,9 +115,9 @@ static void agree_plan(const struct plan *plan, const uint8_t *codes, struct sit
 /* The seconds of one call, over as many as go through enough darts. */
 static double sample(struct room *room, plan_call *call, const struct plan *plan, const uint8_t *codes) {
     uint32_t side = plan->side, times = ENOUGH / plan->darts, number = 0;
-    size_t place;
+    size_t place[2];
     double from = used_seconds();
-    for (uint32_t i = 0; i < times; i++) number |= call(&room->lent, side, side, codes, (size_t)side * side, &place);
+    for (uint32_t i = 0; i < times; i++) number |= call(&room->lent, side, side, codes, (size_t)side * side, place);
     double seconds = used_seconds() - from;
     if (number != 0) fail(plan, "%s refuses a plan", room->name);
     return seconds / times;

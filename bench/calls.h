@@ -20,22 +20,22 @@ struct lent {
     size_t table_length, history_length, work_length;
 };
 
-/* Each call gives the answer's number and sets the answer's place. */
+/* Each call gives the answer's number and sets the answer's two places. */
 struct calls {
-    uint32_t (*start)(struct lent *lent, uint32_t darts, size_t *place);
-    uint32_t (*contract)(struct lent *lent, const uint32_t *kernel, size_t length, size_t *place);
-    uint32_t (*sweep)(struct lent *lent, size_t *place);
-    uint32_t (*counts)(struct lent *lent, uint32_t counts[4], size_t *place);
-    uint32_t (*undo)(struct lent *lent, size_t *place);
-    uint32_t (*unfold)(struct lent *lent, uint32_t level, size_t *place);
-    uint32_t (*write)(struct lent *lent, uint8_t *output, size_t length, size_t *place);
-    uint32_t (*read)(struct lent *lent, const uint8_t *bytes, size_t length, size_t *place);
+    uint32_t (*start)(struct lent *lent, uint32_t darts, size_t place[2]);
+    uint32_t (*contract)(struct lent *lent, const uint32_t *kernel, size_t length, size_t place[2]);
+    uint32_t (*sweep)(struct lent *lent, size_t place[2]);
+    uint32_t (*counts)(struct lent *lent, uint32_t counts[4], size_t place[2]);
+    uint32_t (*undo)(struct lent *lent, size_t place[2]);
+    uint32_t (*unfold)(struct lent *lent, uint32_t level, size_t place[2]);
+    uint32_t (*write)(struct lent *lent, uint8_t *output, size_t length, size_t place[2]);
+    uint32_t (*read)(struct lent *lent, const uint8_t *bytes, size_t length, size_t place[2]);
 };
 
 extern const struct calls library, plain, walking;
 
 /* A call on a plan of so many wales and courses, one code a cell, and so many codes lent. */
-typedef uint32_t plan_call(struct lent *lent, uint32_t wales, uint32_t courses, const uint8_t *codes, size_t length, size_t *place);
+typedef uint32_t plan_call(struct lent *lent, uint32_t wales, uint32_t courses, const uint8_t *codes, size_t length, size_t place[2]);
 
 /* The base of a plan, and the base with its first kernel. */
 enum building { BASE, AREAS, BUILDINGS };

@@ -74,30 +74,30 @@ void room_restore(struct room *room, const struct snapshot *snapshot, uint32_t d
         double from = used_seconds();                                                                           \
         uint32_t number = (call);                                                                               \
         seconds[phase] = used_seconds() - from;                                                                 \
-        if (number != 0) fail(plan, "%s answers %u in %s, place %zu", room->name, number, phase_names[phase], place); \
+        if (number != 0) fail(plan, "%s answers %u in %s, place %zu", room->name, number, phase_names[phase], place[0]); \
     } while (0)
 
 void room_pass(struct room *room, const struct plan *plan, double seconds[PHASES]) {
     const struct calls *calls = room->calls;
     struct lent *lent = &room->lent;
     uint32_t darts = plan->darts;
-    size_t place;
+    size_t place[2];
     memcpy(lent->table, plan->table, darts * sizeof *lent->table);
     memset(lent->history, 0, darts / 2 * sizeof *lent->history);
-    TIMED(START, calls->start(lent, darts, &place));
-    TIMED(CONTRACT, calls->contract(lent, plan->kernel, plan->kernel_length, &place));
+    TIMED(START, calls->start(lent, darts, place));
+    TIMED(CONTRACT, calls->contract(lent, plan->kernel, plan->kernel_length, place));
     keep(room, CONTRACTED, darts);
-    TIMED(COUNTS, calls->counts(lent, room->counts[CONTRACTED], &place));
-    TIMED(SWEEP, calls->sweep(lent, &place));
+    TIMED(COUNTS, calls->counts(lent, room->counts[CONTRACTED], place));
+    TIMED(SWEEP, calls->sweep(lent, place));
     keep(room, SWEPT, darts);
-    TIMED(COUNTS, calls->counts(lent, room->counts[SWEPT], &place));
-    TIMED(WRITE, calls->write(lent, room->file, room->room_for_file, &place));
-    room->file_length = place;
-    TIMED(UNDO, calls->undo(lent, &place));
+    TIMED(COUNTS, calls->counts(lent, room->counts[SWEPT], place));
+    TIMED(WRITE, calls->write(lent, room->file, room->room_for_file, place));
+    room->file_length = place[0];
+    TIMED(UNDO, calls->undo(lent, place));
     keep(room, UNDONE, darts);
     room_restore(room, &room->moments[SWEPT], darts);
-    TIMED(UNFOLD, calls->unfold(lent, 0, &place));
+    TIMED(UNFOLD, calls->unfold(lent, 0, place));
     keep(room, UNFOLDED, darts);
-    TIMED(READ, calls->read(lent, room->file, room->file_length, &place));
+    TIMED(READ, calls->read(lent, room->file, room->file_length, place));
     keep(room, READ_BACK, darts);
 }

@@ -4,34 +4,30 @@
 #include "plain_area.h"
 #include "text.h"
 
-static uint32_t start(struct lent *lent, uint32_t darts, size_t *place) {
-    uint32_t number = area_fit(lent, darts), i = 0;
-    *place = 0;
+static uint32_t start(struct lent *lent, uint32_t darts, size_t place[2]) {
+    uint32_t number = area_fit(lent, darts);
+    place[0] = place[1] = 0;
     memset(&lent->state, 0, sizeof lent->state);
     if (number != 0) return number;
     struct area area = area_over(lent, darts);
+    uint32_t beside, bad = area_test_base(area, lent->table, &beside);
     area_clear(area);
-    for (; i < darts; i++) {
-        uint32_t x = lent->table[i];
-        if (x >= darts || area.map[x] != 0) break;
-        area.map[x] = 1;
-    }
-    area_clear(area);
-    if (i < darts) {
-        *place = i;
+    if (bad < darts) {
+        place[0] = bad;
+        place[1] = beside;
         return 3;
     }
     lent->state.darts = darts;
     return 0;
 }
 
-static uint32_t contract_inside(struct area area, struct lent *lent, const uint32_t *kernel, size_t length, size_t *place) {
+static uint32_t contract_inside(struct area area, struct lent *lent, const uint32_t *kernel, size_t length, size_t place[2]) {
     if (!area_check(area, lent, CONTRACT)) return 4;
     if (lent->state.levels >= MOST_LEVELS) return 6;
     return area_level(area, lent, area_run(area, lent->state.operations, kernel, length), place);
 }
 
-static uint32_t sweep_inside(struct area area, struct lent *lent, size_t *place) {
+static uint32_t sweep_inside(struct area area, struct lent *lent, size_t place[2]) {
     if (!area_check(area, lent, REMOVE)) return 4;
     if (lent->state.levels >= MOST_LEVELS) return 6;
     return area_level(area, lent, area_sweep(area, lent->state.operations), place);
@@ -60,11 +56,11 @@ static void lower(struct area area, struct lent *lent, uint32_t to) {
 }
 
 /* Unfold to a level; for undo, which has no level given, to the one below the top. */
-static uint32_t unfold_inside(struct area area, struct lent *lent, const uint32_t *given, size_t *place) {
+static uint32_t unfold_inside(struct area area, struct lent *lent, const uint32_t *given, size_t place[2]) {
     uint32_t top = lent->state.levels;
     if (!area_check(area, lent, NEITHER)) return 4;
     if (given == NULL ? top == 0 : *given > top) {
-        *place = top;
+        place[0] = top;
         return 12;
     }
     lower(area, lent, given == NULL ? top - 1 : *given);
@@ -74,51 +70,51 @@ static uint32_t unfold_inside(struct area area, struct lent *lent, const uint32_
 /* Each call: answers 1 and 2, what it does in the work area, and the work area cleared. */
 #define CALL(inside)                                       \
     uint32_t number = area_fit(lent, lent->state.darts);   \
-    *place = 0;                                            \
+    place[0] = place[1] = 0;                               \
     if (number != 0) return number;                        \
     struct area area = area_over(lent, lent->state.darts); \
     number = (inside);                                     \
     area_clear(area);                                     \
     return number
 
-static uint32_t contract(struct lent *lent, const uint32_t *kernel, size_t length, size_t *place) {
+static uint32_t contract(struct lent *lent, const uint32_t *kernel, size_t length, size_t place[2]) {
     CALL(contract_inside(area, lent, kernel, length, place));
 }
 
-static uint32_t sweep(struct lent *lent, size_t *place) {
+static uint32_t sweep(struct lent *lent, size_t place[2]) {
     CALL(sweep_inside(area, lent, place));
 }
 
-static uint32_t counts(struct lent *lent, uint32_t counts[4], size_t *place) {
+static uint32_t counts(struct lent *lent, uint32_t counts[4], size_t place[2]) {
     memset(counts, 0, 4 * sizeof *counts);
     CALL(counts_inside(area, lent, counts));
 }
 
-static uint32_t undo(struct lent *lent, size_t *place) {
+static uint32_t undo(struct lent *lent, size_t place[2]) {
     CALL(unfold_inside(area, lent, NULL, place));
 }
 
-static uint32_t unfold(struct lent *lent, uint32_t level, size_t *place) {
+static uint32_t unfold(struct lent *lent, uint32_t level, size_t place[2]) {
     CALL(unfold_inside(area, lent, &level, place));
 }
 
 /* The darts in the file's order stand in the forest's part, their numbers in the part of the dart before each dart. */
-static uint32_t write_inside(struct area area, struct lent *lent, uint8_t *output, size_t length, size_t *place) {
+static uint32_t write_inside(struct area area, struct lent *lent, uint8_t *output, size_t length, size_t place[2]) {
     if (!area_check(area, lent, NEITHER)) return 4;
     struct text text = {&lent->state, area.history, area.map, area.forest, area.before};
     text_number(&text, area.before);
-    *place = text_length(&text);
-    if (length < *place) return 2;
+    place[0] = text_length(&text);
+    if (length < place[0]) return 2;
     text_write(&text, output);
     return 0;
 }
 
-static uint32_t write(struct lent *lent, uint8_t *output, size_t length, size_t *place) {
+static uint32_t write(struct lent *lent, uint8_t *output, size_t length, size_t place[2]) {
     CALL(write_inside(area, lent, output, length, place));
 }
 
 /* The pairs are read into the work area and, once it is found to be a pyramid, a second time into the table. */
-static uint32_t read_inside(struct reader *reader, struct area area, struct lent *lent, size_t *place) {
+static uint32_t read_inside(struct reader *reader, struct area area, struct lent *lent, size_t place[2]) {
     struct state state = {.darts = area.darts};
     uint32_t number = text_kernels(reader, &state, area.history, place);
     if (number != 0) return number;
@@ -132,9 +128,10 @@ static uint32_t read_inside(struct reader *reader, struct area area, struct lent
     return 0;
 }
 
-static uint32_t read(struct lent *lent, const uint8_t *bytes, size_t length, size_t *place) {
+static uint32_t read(struct lent *lent, const uint8_t *bytes, size_t length, size_t place[2]) {
     struct reader reader = {bytes, length, 0, 0};
     uint32_t darts = 0, number = text_opening(&reader, &darts, place);
+    place[1] = 0;
     memset(&lent->state, 0, sizeof lent->state);
     if (number == 0) number = area_fit(lent, darts);
     if (number != 0) return number;

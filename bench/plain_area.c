@@ -32,22 +32,38 @@ static bool mark(struct area area, uint32_t operations) {
     return true;
 }
 
-/* Tests 3, 4 and 5: entries are darts, survivors lead to survivors, and no two lead to one. */
-static bool link_survivors(struct area area) {
+/* Nothing is known of the dart before each dart. */
+static void forget(struct area area) {
+    for (uint32_t x = 0; x < area.darts; x++) area.before[x] = area.darts + 1;
+}
+
+/* Tests 3, 4 and 5: entries are darts, survivors lead to survivors, and no two lead to one. The lowest dart that breaks one of them, or D, and
+ * beside it the dart noted at its successor, or D. */
+static uint32_t link_survivors(struct area area, uint32_t *beside) {
     for (uint32_t x = 0; x < area.darts; x++) {
         uint32_t y = area.map[x];
-        if (y >= area.darts) return false;
+        *beside = area.darts;
+        if (y >= area.darts) return x;
         if (area.before[x] == area.darts) continue;
-        if (area.before[y] != area.darts + 1) return false;
+        *beside = area.before[y];
+        if (*beside != area.darts + 1) return x;
         area.before[y] = x;
     }
-    return true;
+    return area.darts;
 }
 
 /* The dart before each survivor, of a map and a history that stand in their parts: tests 1 to 5. */
 bool area_relink(struct area area, uint32_t operations) {
-    for (uint32_t x = 0; x < area.darts; x++) area.before[x] = area.darts + 1;
-    return mark(area, operations) && link_survivors(area);
+    uint32_t beside;
+    forget(area);
+    return mark(area, operations) && link_survivors(area, &beside) == area.darts;
+}
+
+/* The permutation test of a table: no dart is gone. */
+uint32_t area_test_base(struct area area, const uint32_t *table, uint32_t *beside) {
+    memcpy(area.map, table, area.darts * sizeof *table);
+    forget(area);
+    return link_survivors(area, beside);
 }
 
 static inline void bind(struct area area, uint32_t a, uint32_t x) {
@@ -152,8 +168,8 @@ void area_store(struct area area, struct lent *lent, uint32_t operations) {
 }
 
 /* One level more by a run that has gone well, or the answer that stopped it. */
-uint32_t area_level(struct area area, struct lent *lent, struct ran ran, size_t *place) {
-    *place = ran.place;
+uint32_t area_level(struct area area, struct lent *lent, struct ran ran, size_t place[2]) {
+    place[0] = ran.place;
     if (ran.number != 0) return ran.number;
     if (ran.operations == lent->state.operations) return 5;
     area_store(area, lent, ran.operations);

@@ -51,12 +51,13 @@ uint32_t area_fit(const struct lent *lent, uint32_t darts);
 struct area area_over(const struct lent *lent, uint32_t darts);
 void area_clear(struct area area);
 bool area_relink(struct area area, uint32_t operations);
+uint32_t area_test_base(struct area area, const uint32_t *table, uint32_t *beside);
 bool area_take_back(struct area area, uint32_t operations, uint32_t count);
 struct ran area_run(struct area area, uint32_t operations, const uint32_t *kernel, size_t length);
 bool area_contract(struct area area, uint32_t operations, uint32_t edge);
 struct ran area_sweep(struct area area, uint32_t operations);
 void area_store(struct area area, struct lent *lent, uint32_t operations);
-uint32_t area_level(struct area area, struct lent *lent, struct ran ran, size_t *place);
+uint32_t area_level(struct area area, struct lent *lent, struct ran ran, size_t place[2]);
 
 void area_label(struct area area, enum kind kind);
 uint32_t area_count(struct area area, enum kind kind);

@@ -90,11 +90,11 @@ static uint32_t fit_plan(struct lent *lent, uint32_t wales, uint32_t courses, si
     return length < wales * courses ? 2 : area_fit(lent, *darts);
 }
 
-static uint32_t base(struct lent *lent, uint32_t wales, uint32_t courses, const uint8_t *codes, size_t length, size_t *place) {
+static uint32_t base(struct lent *lent, uint32_t wales, uint32_t courses, const uint8_t *codes, size_t length, size_t place[2]) {
     struct grid grid;
     uint32_t darts, number = fit_plan(lent, wales, courses, length, &grid, &darts);
     (void)codes;
-    *place = 0;
+    place[0] = place[1] = 0;
     memset(&lent->state, 0, sizeof lent->state);
     if (number != 0) return number;
     lay_base(lent->table, grid);
@@ -104,10 +104,10 @@ static uint32_t base(struct lent *lent, uint32_t wales, uint32_t courses, const 
 }
 
 /* The base is laid in the work area, and its first kernel taken there. */
-static uint32_t areas(struct lent *lent, uint32_t wales, uint32_t courses, const uint8_t *codes, size_t length, size_t *place) {
+static uint32_t areas(struct lent *lent, uint32_t wales, uint32_t courses, const uint8_t *codes, size_t length, size_t place[2]) {
     struct grid grid;
     uint32_t darts, number = fit_plan(lent, wales, courses, length, &grid, &darts);
-    *place = 0;
+    place[0] = place[1] = 0;
     memset(&lent->state, 0, sizeof lent->state);
     if (number != 0) return number;
     struct area area = area_over(lent, darts);

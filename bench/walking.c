@@ -136,32 +136,32 @@ static uint32_t level(struct walk walk, struct lent *lent, uint32_t operations) 
     return 0;
 }
 
-static uint32_t contract_inside(struct walk walk, struct lent *lent, const uint32_t *kernel, size_t length, size_t *place) {
+static uint32_t contract_inside(struct walk walk, struct lent *lent, const uint32_t *kernel, size_t length, size_t place[2]) {
     uint32_t m = lent->state.operations;
     if (!check(walk, lent)) return 4;
     if (lent->state.levels >= MOST_LEVELS) return 6;
     for (size_t i = 0; i < length; i++) {
         uint32_t number = judge(walk, CONTRACT, kernel[i]);
-        *place = i;
+        place[0] = i;
         if (number != 0) return number;
         walk.history[m++] = operate(walk, CONTRACT, kernel[i]);
     }
-    *place = 0;
+    place[0] = 0;
     return level(walk, lent, m);
 }
 
-static uint32_t sweep_inside(struct walk walk, struct lent *lent, size_t *place) {
+static uint32_t sweep_inside(struct walk walk, struct lent *lent, size_t place[2]) {
     uint32_t m = lent->state.operations;
     if (!check(walk, lent)) return 4;
     if (lent->state.levels >= MOST_LEVELS) return 6;
     for (uint32_t edge = 0; edge < walk.darts / 2; edge++) {
         uint32_t p = 2 * edge, q = p + 1;
         if (walk.gone[p] != 0 || (walk.map[p] == q) == (walk.map[q] == p)) continue;
-        *place = m - lent->state.operations;
+        place[0] = m - lent->state.operations;
         if (meets(walk, REMOVE, p, q)) return 10;
         walk.history[m++] = operate(walk, REMOVE, edge);
     }
-    *place = 0;
+    place[0] = 0;
     return level(walk, lent, m);
 }
 
@@ -187,12 +187,12 @@ static uint32_t counts_inside(struct walk walk, struct lent *lent, uint32_t coun
 }
 
 /* Unfold to a level; for undo, which has no level given, to the one below the top. */
-static uint32_t unfold_inside(struct walk walk, struct lent *lent, const uint32_t *given, size_t *place) {
+static uint32_t unfold_inside(struct walk walk, struct lent *lent, const uint32_t *given, size_t place[2]) {
     struct state *state = &lent->state;
     if (!check(walk, lent)) return 4;
-    *place = state->levels;
+    place[0] = state->levels;
     if (given == NULL ? state->levels == 0 : *given > state->levels) return 12;
-    *place = 0;
+    place[0] = 0;
     uint32_t to = given == NULL ? state->levels - 1 : *given, end = to > 0 ? state->ends[to - 1] : 0;
     for (uint32_t i = state->operations; i > end; i--) undo_one(walk, walk.history[i - 1]);
     while (state->levels > to) state->ends[--state->levels] = 0;
@@ -200,17 +200,17 @@ static uint32_t unfold_inside(struct walk walk, struct lent *lent, const uint32_
     return 0;
 }
 
-static uint32_t write_inside(struct walk walk, struct lent *lent, uint8_t *output, size_t length, size_t *place) {
+static uint32_t write_inside(struct walk walk, struct lent *lent, uint8_t *output, size_t length, size_t place[2]) {
     if (!check(walk, lent)) return 4;
     struct text text = {&lent->state, walk.history, walk.map, walk.given, walk.gone};
     text_number(&text, walk.gone);
-    *place = text_length(&text);
-    if (length < *place) return 2;
+    place[0] = text_length(&text);
+    if (length < place[0]) return 2;
     text_write(&text, output);
     return 0;
 }
 
-static uint32_t read_inside(struct reader *reader, struct walk walk, struct lent *lent, size_t *place) {
+static uint32_t read_inside(struct reader *reader, struct walk walk, struct lent *lent, size_t place[2]) {
     struct state state = {.darts = walk.darts};
     uint32_t number = text_kernels(reader, &state, walk.history, place);
     if (number == 0) number = text_pairs(reader, walk.darts, walk.map, place);
@@ -224,60 +224,63 @@ static uint32_t read_inside(struct reader *reader, struct walk walk, struct lent
 /* Each call: answers 1 and 2, what it does in the work area, and the work area cleared. */
 #define CALL(darts, inside)                   \
     uint32_t number = fit(lent, darts);       \
-    *place = 0;                               \
+    place[0] = place[1] = 0;                  \
     if (number != 0) return number;           \
     struct walk walk = walk_over(lent, darts); \
     number = (inside);                        \
     clear(walk);                             \
     return number
 
-static uint32_t start_inside(struct walk walk, struct lent *lent, size_t *place) {
+static uint32_t start_inside(struct walk walk, struct lent *lent, size_t place[2]) {
     memset(walk.map, 0, walk.darts * sizeof *walk.map);
     for (uint32_t i = 0; i < walk.darts; i++) {
         uint32_t x = lent->table[i];
-        *place = i;
-        if (x >= walk.darts || walk.map[x] != 0) return 3;
-        walk.map[x] = 1;
+        if (x >= walk.darts || walk.map[x] != 0) {
+            place[0] = i;
+            place[1] = x >= walk.darts ? walk.darts : walk.map[x] - 1;
+            return 3;
+        }
+        walk.map[x] = i + 1;
     }
-    *place = 0;
     lent->state.darts = walk.darts;
     return 0;
 }
 
-static uint32_t start(struct lent *lent, uint32_t darts, size_t *place) {
+static uint32_t start(struct lent *lent, uint32_t darts, size_t place[2]) {
     memset(&lent->state, 0, sizeof lent->state);
     CALL(darts, start_inside(walk, lent, place));
 }
 
-static uint32_t contract(struct lent *lent, const uint32_t *kernel, size_t length, size_t *place) {
+static uint32_t contract(struct lent *lent, const uint32_t *kernel, size_t length, size_t place[2]) {
     CALL(lent->state.darts, contract_inside(walk, lent, kernel, length, place));
 }
 
-static uint32_t sweep(struct lent *lent, size_t *place) {
+static uint32_t sweep(struct lent *lent, size_t place[2]) {
     CALL(lent->state.darts, sweep_inside(walk, lent, place));
 }
 
-static uint32_t counts(struct lent *lent, uint32_t counts[4], size_t *place) {
+static uint32_t counts(struct lent *lent, uint32_t counts[4], size_t place[2]) {
     memset(counts, 0, 4 * sizeof *counts);
     CALL(lent->state.darts, counts_inside(walk, lent, counts));
 }
 
-static uint32_t undo(struct lent *lent, size_t *place) {
+static uint32_t undo(struct lent *lent, size_t place[2]) {
     CALL(lent->state.darts, unfold_inside(walk, lent, NULL, place));
 }
 
-static uint32_t unfold(struct lent *lent, uint32_t level, size_t *place) {
+static uint32_t unfold(struct lent *lent, uint32_t level, size_t place[2]) {
     CALL(lent->state.darts, unfold_inside(walk, lent, &level, place));
 }
 
-static uint32_t write(struct lent *lent, uint8_t *output, size_t length, size_t *place) {
+static uint32_t write(struct lent *lent, uint8_t *output, size_t length, size_t place[2]) {
     CALL(lent->state.darts, write_inside(walk, lent, output, length, place));
 }
 
-static uint32_t read(struct lent *lent, const uint8_t *bytes, size_t length, size_t *place) {
+static uint32_t read(struct lent *lent, const uint8_t *bytes, size_t length, size_t place[2]) {
     struct reader reader = {bytes, length, 0, 0};
     uint32_t darts = 0, opened = text_opening(&reader, &darts, place);
     memset(&lent->state, 0, sizeof lent->state);
+    place[1] = 0;
     if (opened != 0) return opened;
     CALL(darts, read_inside(&reader, walk, lent, place));
 }

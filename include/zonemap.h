@@ -13,6 +13,7 @@
  *   history  at least D/2 numbers, one for each operation: 2p for a removal, 2p + 1 for a contraction.
  *   work     at least 4D numbers of room to work in; any numbers may stand there.
  *   place    one number, which every call writes.
+ *   second   one number more, which every call writes.
  *
  * A slice is a pointer and then its length, in numbers or bytes. No pointer may be null, none of the lent memory may
  * overlap, and each pointer must be aligned for its type: this alone is asked of the caller, and no function can test it.
@@ -20,7 +21,8 @@
  *
  * What a call leaves
  *
- *   It returns the answer's number and writes the answer's place through `place`.
+ *   It returns the answer's number and writes the answer's place through `place` and its second place through `second`. The
+ *   second place is 0 whatever the call and the answer, but for answer 3 of zm_start, which names both culprits.
  *   Accepted: state, table and history are those after the call.
  *   Refused: table and history stay as they were; so does the state, but zm_start, zm_plan, zm_plan_areas and zm_read, which
  *   are given none, write 67 zeros.
@@ -48,12 +50,13 @@ extern "C" {
 /* How many numbers a state has, and how many zm_counts writes beside the Euler number. */
 enum { ZM_STATE = 67, ZM_COUNTS = 3 };
 
-/* The answers. The place is 0 where nothing is said of it. */
+/* The answers. The place is 0 where nothing is said of it, and so is the second place. */
 enum {
     ZM_DONE = 0,             /* done. Place: for zm_write, the bytes written */
     ZM_NO_DART_COUNT = 1,    /* D is odd, 0 or over 65,536 */
     ZM_TOO_SHORT = 2,        /* a lent slice is too short. Place: for zm_write's output, the bytes needed */
-    ZM_NO_PERMUTATION = 3,   /* the table is no permutation. Place: the lowest dart whose successor is D or more, or repeats a lower dart's */
+    ZM_NO_PERMUTATION = 3,   /* the table is no permutation. Place: the lowest dart whose successor is D or more, or repeats a lower dart's.
+                              * Second place: that lower dart, or D where the successor is D or more */
     ZM_NO_PYRAMID = 4,       /* the state, or what a file holds, is no pyramid */
     ZM_EMPTY_KERNEL = 5,     /* the kernel is empty, or the sweep or a plan's first kernel takes no edge */
     ZM_TOO_MANY_LEVELS = 6,  /* 64 levels are in use, or a file states more */
@@ -69,14 +72,16 @@ enum {
 };
 
 /* Starts from the table's first D numbers, D = darts: a base, where they are a permutation of all darts.
- * Answers 0, 1, 2, 3.
+ * Answers 0, 1, 2, 3; for 3 the place is the lowest bad dart, and the second place says who else is to blame: the one lower dart
+ * that already has its successor, or D where its successor is out of range. D = 4, table 2 0 0 9: answer 3, place 2, second 1
+ * (dart 1 leads to 0 already); table 2 9 2 0: answer 3, place 1, second 4 (9 is out of range).
  * Writes state: a base of D darts with no level, or 67 zeros where it is refused. Table and history are not written.
  * Lengths: table D, history D/2, work 4D. What stood in state is not read. */
 uint32_t zm_start(uint32_t darts, uint32_t state[ZM_STATE],
                   uint32_t *table, size_t table_length,
                   uint32_t *history, size_t history_length,
                   uint32_t *work, size_t work_length,
-                  size_t *place);
+                  size_t *place, size_t *second);
 
 /* The base of a stitch plan of so many wales (cells side by side) and courses (cells one above the other), 1 to 128 each.
  *
@@ -104,7 +109,7 @@ uint32_t zm_plan(uint32_t wales, uint32_t courses,
                  uint32_t *table, size_t table_length,
                  uint32_t *history, size_t history_length,
                  uint32_t *work, size_t work_length,
-                 size_t *place);
+                 size_t *place, size_t *second);
 
 /* The same base, and at once a first kernel, which contracts the areas of one code: the edges by rising number, each whose two
  * cells have the same code, unless it would be refused at its turn with 9 or 11. The vertices are then exactly the connected
@@ -124,7 +129,7 @@ uint32_t zm_plan_areas(uint32_t wales, uint32_t courses,
                        uint32_t *table, size_t table_length,
                        uint32_t *history, size_t history_length,
                        uint32_t *work, size_t work_length,
-                       size_t *place);
+                       size_t *place, size_t *second);
 
 /* One level more: the kernel's edges are contracted in the listed order, each judged on the map as it stands at its turn.
  * Answers 0, 1, 2, 4, 5, 6, 7, 8, 9, 11; for 7 to 11 the place is the edge's place in the kernel.
@@ -135,7 +140,7 @@ uint32_t zm_contract(uint32_t state[ZM_STATE],
                      uint32_t *table, size_t table_length,
                      uint32_t *history, size_t history_length,
                      uint32_t *work, size_t work_length,
-                     size_t *place);
+                     size_t *place, size_t *second);
 
 /* One level more: the kernel's edges are removed in the listed order, each judged on the map as it stands at its turn.
  * Answers 0, 1, 2, 4, 5, 6, 7, 8, 10, 11; for 7 to 11 the place is the edge's place in the kernel.
@@ -146,7 +151,7 @@ uint32_t zm_remove(uint32_t state[ZM_STATE],
                    uint32_t *table, size_t table_length,
                    uint32_t *history, size_t history_length,
                    uint32_t *work, size_t work_length,
-                   size_t *place);
+                   size_t *place, size_t *second);
 
 /* One level more: a removal kernel of one pass over the edges by rising number, which takes each surviving edge that at its
  * turn is an empty loop and no whole piece.
@@ -157,7 +162,7 @@ uint32_t zm_sweep(uint32_t state[ZM_STATE],
                   uint32_t *table, size_t table_length,
                   uint32_t *history, size_t history_length,
                   uint32_t *work, size_t work_length,
-                  size_t *place);
+                  size_t *place, size_t *second);
 
 /* The last level undone: the state and every entry of the table as they were before its kernel.
  * Answers 0, 1, 2, 4, 12; for 12 the place is 0, the base's level.
@@ -168,7 +173,7 @@ uint32_t zm_undo(uint32_t state[ZM_STATE],
                  uint32_t *table, size_t table_length,
                  uint32_t *history, size_t history_length,
                  uint32_t *work, size_t work_length,
-                 size_t *place);
+                 size_t *place, size_t *second);
 
 /* Back to a level, at or below the top: as many undos. The top itself changes nothing.
  * Answers 0, 1, 2, 4, 12; for 12 the place is the top level.
@@ -179,7 +184,7 @@ uint32_t zm_unfold(uint32_t state[ZM_STATE], uint32_t level,
                    uint32_t *table, size_t table_length,
                    uint32_t *history, size_t history_length,
                    uint32_t *work, size_t work_length,
-                   size_t *place);
+                   size_t *place, size_t *second);
 
 /* The counts of the present level.
  * Answers 0, 1, 2, 4.
@@ -191,7 +196,7 @@ uint32_t zm_counts(const uint32_t state[ZM_STATE],
                    uint32_t *history, size_t history_length,
                    uint32_t *work, size_t work_length,
                    uint32_t counts[ZM_COUNTS], int32_t *euler,
-                   size_t *place);
+                   size_t *place, size_t *second);
 
 /* Reads a file: the pyramid that its bytes hold, in the file's own numbers.
  * Answers 0, 1, 2, 4, 5, 6, 13, 14, judged in the order of the bytes; for 13 the place is the first wrong byte, or the
@@ -203,7 +208,7 @@ uint32_t zm_read(const uint8_t *bytes, size_t length, uint32_t state[ZM_STATE],
                  uint32_t *table, size_t table_length,
                  uint32_t *history, size_t history_length,
                  uint32_t *work, size_t work_length,
-                 size_t *place);
+                 size_t *place, size_t *second);
 
 /* Writes the file of the pyramid, with darts from zero, over the first bytes of the output.
  * Answers 0 (place: the bytes written), 1, 2 (place: the bytes needed, where the output is too short; else 0), 4.
@@ -215,7 +220,7 @@ uint32_t zm_write(const uint32_t state[ZM_STATE],
                   uint32_t *history, size_t history_length,
                   uint32_t *work, size_t work_length,
                   uint8_t *output, size_t output_length,
-                  size_t *place);
+                  size_t *place, size_t *second);
 
 #ifdef __cplusplus
 }

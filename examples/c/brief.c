@@ -33,10 +33,10 @@ static int refused(const char *call, uint32_t answer, size_t place)
 /* Writes the counts of the present level; whether they were refused. */
 static int counts_refused(void)
 {
-    size_t place = 0;
+    size_t place = 0, second = 0;
     uint32_t counts[ZM_COUNTS];
     int32_t euler = 0;
-    uint32_t answer = zm_counts(state, table, DARTS, history, DARTS / 2, work, 4 * DARTS, counts, &euler, &place);
+    uint32_t answer = zm_counts(state, table, DARTS, history, DARTS / 2, work, 4 * DARTS, counts, &euler, &place, &second);
     if (refused("zm_counts", answer, place)) {
         return 1;
     }
@@ -47,19 +47,19 @@ static int counts_refused(void)
 
 int main(void)
 {
-    size_t place = 0;
-    uint32_t answer = zm_plan(WALES, COURSES, plan, sizeof plan, state, table, DARTS, history, DARTS / 2, work, 4 * DARTS, &place);
+    size_t place = 0, second = 0;
+    uint32_t answer = zm_plan(WALES, COURSES, plan, sizeof plan, state, table, DARTS, history, DARTS / 2, work, 4 * DARTS, &place, &second);
     if (refused("zm_plan", answer, place) || counts_refused()) {
         return 1;
     }
 
     /* The base once more, and over it a level with one vertex for each area. */
-    answer = zm_plan_areas(WALES, COURSES, plan, sizeof plan, state, table, DARTS, history, DARTS / 2, work, 4 * DARTS, &place);
+    answer = zm_plan_areas(WALES, COURSES, plan, sizeof plan, state, table, DARTS, history, DARTS / 2, work, 4 * DARTS, &place, &second);
     if (refused("zm_plan_areas", answer, place) || counts_refused()) {
         return 1;
     }
 
-    answer = zm_sweep(state, table, DARTS, history, DARTS / 2, work, 4 * DARTS, &place);
+    answer = zm_sweep(state, table, DARTS, history, DARTS / 2, work, 4 * DARTS, &place, &second);
     if (refused("zm_sweep", answer, place) || counts_refused()) {
         return 1;
     }

@@ -25,28 +25,28 @@ static int refused(const char *call, uint32_t answer, size_t place)
 
 int main(void)
 {
-    size_t place = 0;
+    size_t place = 0, second = 0;
     size_t length = fread(file, 1, BYTES, stdin);
-    uint32_t answer = zm_read(file, length, state, table, DARTS, history, DARTS / 2, work, 4 * DARTS, &place);
+    uint32_t answer = zm_read(file, length, state, table, DARTS, history, DARTS / 2, work, 4 * DARTS, &place, &second);
     if (refused("zm_read", answer, place)) {
         return 1;
     }
 
-    answer = zm_undo(state, table, DARTS, history, DARTS / 2, work, 4 * DARTS, &place);
+    answer = zm_undo(state, table, DARTS, history, DARTS / 2, work, 4 * DARTS, &place, &second);
     if (refused("zm_undo", answer, place)) {
         return 1;
     }
 
     uint32_t counts[ZM_COUNTS];
     int32_t euler = 0;
-    answer = zm_counts(state, table, DARTS, history, DARTS / 2, work, 4 * DARTS, counts, &euler, &place);
+    answer = zm_counts(state, table, DARTS, history, DARTS / 2, work, 4 * DARTS, counts, &euler, &place, &second);
     if (refused("zm_counts", answer, place)) {
         return 1;
     }
     printf("level=%u darts=%u vertices=%u faces=%u euler=%d\n", (unsigned)state[2], (unsigned)counts[0], (unsigned)counts[1],
            (unsigned)counts[2], (int)euler);
 
-    answer = zm_write(state, table, DARTS, history, DARTS / 2, work, 4 * DARTS, file, BYTES, &place);
+    answer = zm_write(state, table, DARTS, history, DARTS / 2, work, 4 * DARTS, file, BYTES, &place, &second);
     if (refused("zm_write", answer, place)) {
         return 1;
     }

@@ -5,7 +5,6 @@
 use mathlib.Core.List.{List}
 use mathlib.Core.Path.{_≡_, _∙_}
 use Prim.Native.Nat.{ℕ}
-use Rattle.darts.specs.Answers.{answered}
 use Rattle.darts.specs.Calls.{After, Counted as CountsAfter, Written, leaves}
 use Rattle.darts.specs.Counts.{Counts as Tally}
 use Rattle.darts.specs.Cases.{answerOf}
@@ -14,18 +13,18 @@ use Rattle.darts.specs.declared.Answer.{Answer}
 use Rattle.pyramid.specs.declared.Counted.{Counted}
 use Rattle.pyramid.specs.declared.Outcome.{Outcome}
 use Rattle.writer.specs.Filed.{filed}
-use Rattle.zonemap_c.specs.Numbers.{Answered, Handed, leftIn, countedIn, filedIn}
+use Rattle.zonemap_c.specs.Numbers.{answerIn, Answered, Handed, leftIn, countedIn, filedIn}
 
-pub answers : {a : Answer} {n p : ℕ} → Answered a n p → answered n p ≡ answerOf a
-answers g = λ i. answered (g .number i) (g .place i)
+pub answers : {a : Answer} {n p s : ℕ} → Answered a n p s → answerIn n p s ≡ answerOf a
+answers g = λ i. answerIn (g .number i) (g .place i) (g .second i)
 
-module _ {n p : ℕ} {t h w : List ℕ} where
-  pub handed : {o : Outcome} {a : List ℕ} {z : After} → Handed o n p a → left o t h w ≡ z → leftIn n p a t h w ≡ z
+module _ {n p s : ℕ} {t h w : List ℕ} where
+  pub handed : {o : Outcome} {a : List ℕ} {z : After} → Handed o n p s a → left o t h w ≡ z → leftIn n p s a t h w ≡ z
   handed g e = (λ i. leaves (answers (g .answer) i) (g .state i) t h w) ∙ e
 
-  pub counted : {o : Counted} {y : Tally} {z : CountsAfter} → Answered (o .answer) n p → y ≡ tallyOf (o .counts) → countsLeft o t h w ≡ z
-      → countedIn n p y t h w ≡ z
+  pub counted : {o : Counted} {y : Tally} {z : CountsAfter} → Answered (o .answer) n p s → y ≡ tallyOf (o .counts) → countsLeft o t h w ≡ z
+      → countedIn n p s y t h w ≡ z
   counted g k e = (λ i. record { answer = answers g i; counts = k i; table = t; history = h; work = w }) ∙ e
 
-  pub written : {a : Answer} {o : List ℕ} {z : Written} → Answered a n p → filed a t h w o ≡ z → filedIn n p t h w o ≡ z
+  pub written : {a : Answer} {o : List ℕ} {z : Written} → Answered a n p s → filed a t h w o ≡ z → filedIn n p s t h w o ≡ z
   written {o = o} g e = (λ i. record { answer = answers g i; table = t; history = h; work = w; output = o }) ∙ e

@@ -2,7 +2,7 @@
 --   three      == a list of three numbers or more, taken apart
 --   state-one  == each state has its own 67 numbers
 --   tally-one  == each counts have their own three numbers, and the Euler number
---   left-one   == what a call leaves tells the number, the place, the state's numbers and every lent slice
+--   left-one   == what a call leaves tells the number, the places, the state's numbers and every lent slice
 --   counts-one, filed-one == the same of counts and of the writer
 use mathlib.Core.List.{List, [], _∷_}
 use mathlib.Core.Path.{_≡_, refl, sym, ap, _∙_}
@@ -10,11 +10,11 @@ use Prim.Native.Nat.{ℕ, _≤_}
 use native.Mathlib.Omega.{arith}
 use lib.IntN.{ℤ}
 use lib.ListN.{length, getD, drop, drop-of-length-le}
-use Rattle.darts.specs.Answers.{Answer, answered}
+use Rattle.darts.specs.Answers.{Answer}
 use Rattle.darts.specs.Calls.{After, Counted, Written}
 use Rattle.darts.specs.Counts.{Counts as Tally}
 use Rattle.darts.specs.State.{State as Stated}
-use Rattle.zonemap_c.specs.Numbers.{stateIn, tallyIn, leftIn, countedIn, filedIn}
+use Rattle.zonemap_c.specs.Numbers.{stateIn, tallyIn, answerIn, leftIn, countedIn, filedIn}
 
 three : (a : List ℕ) → 3 ≤ length a → getD a 0 0 ∷ getD a 1 0 ∷ getD a 2 0 ∷ drop 3 a ≡ a
 three [] l = absurd (omega arith)
@@ -36,38 +36,39 @@ tally-one a b d e k l q = (
         let few : length c ≤ 3 = omega arith in
         ap (λ (r : List ℕ). getD c 0 0 ∷ getD c 1 0 ∷ getD c 2 0 ∷ r) (sym (drop-of-length-le c few)) ∙ three c (omega arith)
 
-module _ (n m p q : ℕ) (t u h g w v : List ℕ) where
+module _ (n m p q i j : ℕ) (t u h g w v : List ℕ) where
   pub record Same : Type 0 where
     pub number : n ≡ m
     pub place : p ≡ q
+    pub second : i ≡ j
     pub table : t ≡ u
     pub history : h ≡ g
     pub work : w ≡ v
 
-  same : answered n p ≡ answered m q → t ≡ u → h ≡ g → w ≡ v → Same
-  same a x y z = record { number = ap (λ (b : Answer). b .number) a; place = ap (λ (b : Answer). b .place) a; table = x; history = y; work = z }
+  same : answerIn n p i ≡ answerIn m q j → t ≡ u → h ≡ g → w ≡ v → Same
+  same a x y z = record { number = ap (λ (b : Answer). b .number) a; place = ap (λ (b : Answer). b .place) a; second = ap (λ (b : Answer). b .second) a; table = x; history = y; work = z }
 
   -- NO TWO OUTCOMES OF START, PLAN, PLAN_AREAS, CONTRACT, REMOVE, SWEEP, UNDO, UNFOLD OR READ SATISFY ITS STATEMENT
-  pub left-one : (a b : List ℕ) → length a ≡ 67 → length b ≡ 67 → (z : After) → leftIn n p a t h w ≡ z → leftIn m q b u g v ≡ z → Same × (a ≡ b)
+  pub left-one : (a b : List ℕ) → length a ≡ 67 → length b ≡ 67 → (z : After) → leftIn n p i a t h w ≡ z → leftIn m q j b u g v ≡ z → Same × (a ≡ b)
   left-one a b k l z d e =
-      let c : leftIn n p a t h w ≡ leftIn m q b u g v = d ∙ sym e in (
+      let c : leftIn n p i a t h w ≡ leftIn m q j b u g v = d ∙ sym e in (
         same (ap (λ (x : After). x .answer) c) (ap (λ (x : After). x .table) c) (ap (λ (x : After). x .history) c) (ap (λ (x : After). x .work) c),
         state-one a b k l (ap (λ (x : After). x .state) c),
       )
 
   -- NO TWO OUTCOMES OF COUNTS SATISFY ITS STATEMENT
-  pub counts-one : (a b : List ℕ) (i j : ℤ) → length a ≡ 3 → length b ≡ 3 → (z : Counted) → countedIn n p (tallyIn a i) t h w ≡ z → countedIn m q (tallyIn b j) u g v ≡ z
-      → Same × ((a ≡ b) × (i ≡ j))
-  counts-one a b i j k l z d e =
-      let c : countedIn n p (tallyIn a i) t h w ≡ countedIn m q (tallyIn b j) u g v = d ∙ sym e in (
+  pub counts-one : (a b : List ℕ) (x y : ℤ) → length a ≡ 3 → length b ≡ 3 → (z : Counted) → countedIn n p i (tallyIn a x) t h w ≡ z → countedIn m q j (tallyIn b y) u g v ≡ z
+      → Same × ((a ≡ b) × (x ≡ y))
+  counts-one a b x y k l z d e =
+      let c : countedIn n p i (tallyIn a x) t h w ≡ countedIn m q j (tallyIn b y) u g v = d ∙ sym e in (
         same (ap (λ (x : Counted). x .answer) c) (ap (λ (x : Counted). x .table) c) (ap (λ (x : Counted). x .history) c) (ap (λ (x : Counted). x .work) c),
-        tally-one a b i j k l (ap (λ (x : Counted). x .counts) c),
+        tally-one a b x y k l (ap (λ (r : Counted). r .counts) c),
       )
 
   -- NO TWO OUTCOMES OF WRITE SATISFY ITS STATEMENT
-  pub filed-one : (o r : List ℕ) (z : Written) → filedIn n p t h w o ≡ z → filedIn m q u g v r ≡ z → Same × (o ≡ r)
+  pub filed-one : (o r : List ℕ) (z : Written) → filedIn n p i t h w o ≡ z → filedIn m q j u g v r ≡ z → Same × (o ≡ r)
   filed-one o r z d e =
-      let c : filedIn n p t h w o ≡ filedIn m q u g v r = d ∙ sym e in (
+      let c : filedIn n p i t h w o ≡ filedIn m q j u g v r = d ∙ sym e in (
         same (ap (λ (x : Written). x .answer) c) (ap (λ (x : Written). x .table) c) (ap (λ (x : Written). x .history) c) (ap (λ (x : Written). x .work) c),
         ap (λ (x : Written). x .output) c,
       )

@@ -15,13 +15,14 @@ pub extern "C" fn zm_read(
     history: &mut [u32],
     work: &mut [u32],
     place: &mut usize,
+    second: &mut usize,
 ) -> u32
     ensures { λ r. ⌜
-        leftIn r (now (place .exit)) (now (state .exit)) (now (table .exit)) (now (history .exit)) (now (work .exit))
+        leftIn r (now (place .exit)) (now (second .exit)) (now (state .exit)) (now (table .exit)) (now (history .exit)) (now (work .exit))
         ≡ read (now (bytes .entry)) (now (table .entry)) (now (history .entry)) (now (work .entry)) ⌝ }
 {
     let outcome = reader::read(bytes, table, history, work);
-    hand_back(outcome, state, place)
+    hand_back(outcome, state, place, second)
 }
 
 // Writes the file of a pyramid over the first bytes of the output.
@@ -33,12 +34,13 @@ pub extern "C" fn zm_write(
     work: &mut [u32],
     output: &mut [u8],
     place: &mut usize,
+    second: &mut usize,
 ) -> u32
     ensures { λ r. ⌜
-        filedIn r (now (place .exit)) (now (table .exit)) (now (history .exit)) (now (work .exit)) (now (output .exit))
+        filedIn r (now (place .exit)) (now (second .exit)) (now (table .exit)) (now (history .exit)) (now (work .exit)) (now (output .exit))
         ≡ write (stateIn (now (state .entry))) (now (table .entry)) (now (history .entry)) (now (work .entry)) (now (output .entry)) ⌝ }
 {
     let given = state_of(state);
     let answer = writer::write(given, table, history, work, output);
-    put_answer(answer, place)
+    put_answer(answer, place, second)
 }

@@ -18,13 +18,14 @@ pub extern "C" fn zm_start(
     history: &mut [u32],
     work: &mut [u32],
     place: &mut usize,
+    second: &mut usize,
 ) -> u32
     ensures { λ r. ⌜
-        leftIn r (now (place .exit)) (now (state .exit)) (now (table .exit)) (now (history .exit)) (now (work .exit))
+        leftIn r (now (place .exit)) (now (second .exit)) (now (state .exit)) (now (table .exit)) (now (history .exit)) (now (work .exit))
         ≡ start darts (now (table .entry)) (now (history .entry)) (now (work .entry)) ⌝ }
 {
     let outcome = pyramid::start(darts, table, history, work);
-    hand_back(outcome, state, place)
+    hand_back(outcome, state, place, second)
 }
 
 // One level more: the kernel's edges contracted in the listed order.
@@ -36,14 +37,15 @@ pub extern "C" fn zm_contract(
     history: &mut [u32],
     work: &mut [u32],
     place: &mut usize,
+    second: &mut usize,
 ) -> u32
     ensures { λ r. ⌜
-        leftIn r (now (place .exit)) (now (state .exit)) (now (table .exit)) (now (history .exit)) (now (work .exit))
+        leftIn r (now (place .exit)) (now (second .exit)) (now (state .exit)) (now (table .exit)) (now (history .exit)) (now (work .exit))
         ≡ reduceBy contraction (now (kernel .entry)) (stateIn (now (state .entry))) (now (table .entry)) (now (history .entry)) (now (work .entry)) ⌝ }
 {
     let given = state_of(state);
     let outcome = given.reduce(Kind::Contract, kernel, table, history, work);
-    hand_back(outcome, state, place)
+    hand_back(outcome, state, place, second)
 }
 
 // One level more: the kernel's edges removed in the listed order.
@@ -55,14 +57,15 @@ pub extern "C" fn zm_remove(
     history: &mut [u32],
     work: &mut [u32],
     place: &mut usize,
+    second: &mut usize,
 ) -> u32
     ensures { λ r. ⌜
-        leftIn r (now (place .exit)) (now (state .exit)) (now (table .exit)) (now (history .exit)) (now (work .exit))
+        leftIn r (now (place .exit)) (now (second .exit)) (now (state .exit)) (now (table .exit)) (now (history .exit)) (now (work .exit))
         ≡ reduceBy removal (now (kernel .entry)) (stateIn (now (state .entry))) (now (table .entry)) (now (history .entry)) (now (work .entry)) ⌝ }
 {
     let given = state_of(state);
     let outcome = given.reduce(Kind::Remove, kernel, table, history, work);
-    hand_back(outcome, state, place)
+    hand_back(outcome, state, place, second)
 }
 
 // One level more: the sweep.
@@ -73,14 +76,15 @@ pub extern "C" fn zm_sweep(
     history: &mut [u32],
     work: &mut [u32],
     place: &mut usize,
+    second: &mut usize,
 ) -> u32
     ensures { λ r. ⌜
-        leftIn r (now (place .exit)) (now (state .exit)) (now (table .exit)) (now (history .exit)) (now (work .exit))
+        leftIn r (now (place .exit)) (now (second .exit)) (now (state .exit)) (now (table .exit)) (now (history .exit)) (now (work .exit))
         ≡ sweepBy (stateIn (now (state .entry))) (now (table .entry)) (now (history .entry)) (now (work .entry)) ⌝ }
 {
     let given = state_of(state);
     let outcome = given.sweep(table, history, work);
-    hand_back(outcome, state, place)
+    hand_back(outcome, state, place, second)
 }
 
 // The last level undone.
@@ -91,14 +95,15 @@ pub extern "C" fn zm_undo(
     history: &mut [u32],
     work: &mut [u32],
     place: &mut usize,
+    second: &mut usize,
 ) -> u32
     ensures { λ r. ⌜
-        leftIn r (now (place .exit)) (now (state .exit)) (now (table .exit)) (now (history .exit)) (now (work .exit))
+        leftIn r (now (place .exit)) (now (second .exit)) (now (state .exit)) (now (table .exit)) (now (history .exit)) (now (work .exit))
         ≡ undoBy (stateIn (now (state .entry))) (now (table .entry)) (now (history .entry)) (now (work .entry)) ⌝ }
 {
     let given = state_of(state);
     let outcome = given.undo(table, history, work);
-    hand_back(outcome, state, place)
+    hand_back(outcome, state, place, second)
 }
 
 // Back to a level.
@@ -110,14 +115,15 @@ pub extern "C" fn zm_unfold(
     history: &mut [u32],
     work: &mut [u32],
     place: &mut usize,
+    second: &mut usize,
 ) -> u32
     ensures { λ r. ⌜
-        leftIn r (now (place .exit)) (now (state .exit)) (now (table .exit)) (now (history .exit)) (now (work .exit))
+        leftIn r (now (place .exit)) (now (second .exit)) (now (state .exit)) (now (table .exit)) (now (history .exit)) (now (work .exit))
         ≡ unfoldBy level (stateIn (now (state .entry))) (now (table .entry)) (now (history .entry)) (now (work .entry)) ⌝ }
 {
     let given = state_of(state);
     let outcome = given.unfold(level, table, history, work);
-    hand_back(outcome, state, place)
+    hand_back(outcome, state, place, second)
 }
 
 // Surviving darts, vertices and faces of the present level, and its Euler number.
@@ -130,14 +136,15 @@ pub extern "C" fn zm_counts(
     counts: &mut [u32; 3],
     euler: &mut i32,
     place: &mut usize,
+    second: &mut usize,
 ) -> u32
     ensures { λ r. ⌜
-        countedIn r (now (place .exit)) (tallyIn (now (counts .exit)) (now (euler .exit))) (now (table .exit)) (now (history .exit)) (now (work .exit))
+        countedIn r (now (place .exit)) (now (second .exit)) (tallyIn (now (counts .exit)) (now (euler .exit))) (now (table .exit)) (now (history .exit)) (now (work .exit))
         ≡ countsBy (stateIn (now (state .entry))) (now (table .entry)) (now (history .entry)) (now (work .entry)) ⌝ }
 {
     let given = state_of(state);
     let counted = given.counts(table, history, work);
     put_counts(counted.counts, counts, euler);
     let answer = counted.answer;
-    put_answer(answer, place)
+    put_answer(answer, place, second)
 }

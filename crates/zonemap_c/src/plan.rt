@@ -16,13 +16,14 @@ pub extern "C" fn zm_plan(
     history: &mut [u32],
     work: &mut [u32],
     place: &mut usize,
+    second: &mut usize,
 ) -> u32
     ensures { λ r. ⌜
-        leftIn r (now (place .exit)) (now (state .exit)) (now (table .exit)) (now (history .exit)) (now (work .exit))
+        leftIn r (now (place .exit)) (now (second .exit)) (now (state .exit)) (now (table .exit)) (now (history .exit)) (now (work .exit))
         ≡ planBase (flat wales courses) (now (plan .entry)) (now (table .entry)) (now (history .entry)) (now (work .entry)) ⌝ }
 {
     let outcome = plans::plan(wales, courses, plan, table, history, work);
-    hand_back(outcome, state, place)
+    hand_back(outcome, state, place, second)
 }
 
 // The base of a plan, and at once a first kernel, which contracts the areas of one code.
@@ -36,11 +37,12 @@ pub extern "C" fn zm_plan_areas(
     history: &mut [u32],
     work: &mut [u32],
     place: &mut usize,
+    second: &mut usize,
 ) -> u32
     ensures { λ r. ⌜
-        leftIn r (now (place .exit)) (now (state .exit)) (now (table .exit)) (now (history .exit)) (now (work .exit))
+        leftIn r (now (place .exit)) (now (second .exit)) (now (state .exit)) (now (table .exit)) (now (history .exit)) (now (work .exit))
         ≡ planAreas (flat wales courses) (now (plan .entry)) (now (table .entry)) (now (history .entry)) (now (work .entry)) ⌝ }
 {
     let outcome = plans::plan_areas(wales, courses, plan, table, history, work);
-    hand_back(outcome, state, place)
+    hand_back(outcome, state, place, second)
 }

@@ -36,22 +36,28 @@ fn numbers_of(state: State) -> [u32; 67]
     numbers
 }
 
-// An answer, put where C finds it: its place is written, its number returned.
-pub(crate) fn put_answer(answer: Answer, place: &mut usize) -> u32
-    ensures { λ r. ⌜ Answered answer r (now (place .exit)) ⌝ }
+// An answer, put where C finds it: its two places are written, its number returned.
+pub(crate) fn put_answer(answer: Answer, place: &mut usize, second: &mut usize) -> u32
+    ensures { λ r. ⌜ Answered answer r (now (place .exit)) (now (second .exit)) ⌝ }
 {
     *place = answer.place();
+    *second = answer.second();
     answer.number()
 }
 
 // What a call hands back, put where C finds it: the state's numbers and the answer.
-pub(crate) fn hand_back(outcome: Outcome, state: &mut [u32; 67], place: &mut usize) -> u32
-    ensures { λ r. ⌜ Handed outcome r (now (place .exit)) (now (state .exit)) ⌝ }
+pub(crate) fn hand_back(
+    outcome: Outcome,
+    state: &mut [u32; 67],
+    place: &mut usize,
+    second: &mut usize,
+) -> u32
+    ensures { λ r. ⌜ Handed outcome r (now (place .exit)) (now (second .exit)) (now (state .exit)) ⌝ }
 {
     let numbers = numbers_of(outcome.state);
     *state = numbers;
     let answer = outcome.answer;
-    put_answer(answer, place)
+    put_answer(answer, place, second)
 }
 
 // The counts, put where C finds them: three numbers, and the Euler number, which has a sign.
