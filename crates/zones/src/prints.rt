@@ -48,14 +48,15 @@ fn sums_line(page: &mut [u8], used: usize, sums: Sums) -> usize
     page::field(page, work, b" output=", sums.output)
 }
 
-// "answer=A place=P state=D N L ends=C table=C history=C work=C output=C"
+// "answer=A place=P second=S state=D N L ends=C table=C history=C work=C output=C"
 fn call_line(page: &mut [u8], answer: Answer, state: State, sums: Sums) -> usize
     requires { ⌜ Waits 0 (now page) ⌝ }
     ensures { λ r. ⌜ Waits r (now (page .exit)) ⌝ }
 {
     let number = page::field(page, 0, b"answer=", answer.number() as u64);
     let place = page::field(page, number, b" place=", answer.place() as u64);
-    let held = state_line(page, place, b" state=", state);
+    let second = page::field(page, place, b" second=", answer.second() as u64);
+    let held = state_line(page, second, b" state=", state);
     sums_line(page, held, sums)
 }
 

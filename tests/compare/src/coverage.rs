@@ -1,4 +1,5 @@
 //! Coverage == how often each call gave each answer
+//! Column   == an answer in the table of these; answer 3 has two, by its second place: a lower dart, or D
 //!
 //! Which call can give which answer follows from documents 01 and 02. It is written down here and nowhere else: `GIVEN_BY`
 //! has the calls that can, and why the others cannot. A pair that can occur and did not, or cannot and did, is a failure.
@@ -50,54 +51,69 @@ const CALLS: [(Call, &str); 14] = [
 /// The programs that are no scripts of calls.
 const PROGRAMS: [Call; 3] = [Levels, Plan, PlanBase];
 
-/// The answers 0 to 15, and the error line of a drawing.
-const ANSWERS: usize = 17;
-const ERROR: usize = 16;
+/// The answers 0 to 15, of which 3 has two columns, and the error line of a drawing.
+const COLUMNS: usize = 18;
+const OUT_OF_RANGE: usize = 4;
+const ERROR: usize = 17;
 
-/// For each answer the calls that can give it, and why no other can. For the reader one reason holds from 7 to 12: a
-/// file is judged as a whole, and whatever is wrong with what it holds is 4.
-const GIVEN_BY: [(&[Call], &str); ANSWERS] = [
+/// For each column its name, the calls that can give this answer, and why no other can. For the reader one reason holds from
+/// 7 to 12: a file is judged as a whole, and whatever is wrong with what it holds is 4.
+const GIVEN_BY: [(&str, &[Call], &str); COLUMNS] = [
     (
+        "0",
         &[Start, Contract, Remove, Sweep, Undo, Unfold, Counts, Read, Write, Flat, FlatAreas, Levels, Plan, PlanBase],
         "every call can be done",
     ),
     (
+        "1",
         &[Start, Contract, Remove, Sweep, Undo, Unfold, Counts, Read, Write, Levels],
         "a plan within its limits has 2 to 65,024 darts",
     ),
     (
+        "2",
         &[Start, Contract, Remove, Sweep, Undo, Unfold, Counts, Read, Write, Flat, FlatAreas, Levels],
         "the program plan has room for every plan",
     ),
-    (&[Start], "\"start: the table is no permutation\"; a plan's is one, and to every other call that is 4"),
+    ("3:lower", &[Start], NO_PERMUTATION),
+    ("3:D", &[Start], NO_PERMUTATION),
     (
+        "4",
         &[Contract, Remove, Sweep, Undo, Unfold, Counts, Read, Write, Levels],
         "a start or a plan is given neither state nor file",
     ),
     (
+        "5",
         &[Contract, Remove, Sweep, Read, FlatAreas, Levels, Plan],
         "the others have no kernel; the reader's is a line with an N of 0",
     ),
-    (&[Contract, Remove, Sweep, Read, Levels], "the others add no level over others, and state no number of levels"),
-    (&[Contract, Remove], "the others are given no edge numbers"),
-    (&[Contract, Remove], "the others are given no edge numbers; a sweep takes surviving edges"),
     (
+        "6",
+        &[Contract, Remove, Sweep, Read, Levels],
+        "the others add no level over others, and state no number of levels",
+    ),
+    ("7", &[Contract, Remove], "the others are given no edge numbers"),
+    ("8", &[Contract, Remove], "the others are given no edge numbers; a sweep takes surviving edges"),
+    (
+        "9",
         &[Contract],
         "\"contraction with one vertex at both ends\"; the sweep is a removal, a first kernel leaves such edges",
     ),
-    (&[Remove], "a sweep takes empty loops that are no whole piece, and these have two faces"),
-    (&[Contract, Remove], "a sweep or a first kernel takes no whole piece"),
-    (&[Undo, Unfold], "the others go to no lower level"),
-    (&[Read, Levels], "the others are given no file"),
-    (&[Read, Levels], "the others are given no file"),
-    (&[Flat, FlatAreas, Plan, PlanBase], "the others are given no plan"),
-    (&[Plan, PlanBase], "the others are given no drawing; an error line of a script is no answer of a call"),
+    ("10", &[Remove], "a sweep takes empty loops that are no whole piece, and these have two faces"),
+    ("11", &[Contract, Remove], "a sweep or a first kernel takes no whole piece"),
+    ("12", &[Undo, Unfold], "the others go to no lower level"),
+    ("13", &[Read, Levels], "the others are given no file"),
+    ("14", &[Read, Levels], "the others are given no file"),
+    ("15", &[Flat, FlatAreas, Plan, PlanBase], "the others are given no plan"),
+    ("error", &[Plan, PlanBase], "the others are given no drawing; an error line of a script is no answer of a call"),
 ];
+
+const NO_PERMUTATION: &str =
+    "\"start: the table is no permutation\"; a plan's is one, and to every other call that is 4";
 
 #[derive(Default)]
 pub struct Coverage {
     scripts: u64,
-    times: [[u64; ANSWERS]; CALLS.len()],
+    times: [[u64; COLUMNS]; CALLS.len()],
 }
 
 impl Coverage {
@@ -108,8 +124,8 @@ impl Coverage {
             Program::Zones => {
                 coverage.scripts = 1;
                 let calls = Commands::new(bytes).map_while(|command| command).filter_map(|command| call_of(&command));
-                for (call, answer) in calls.zip(answers(printed, b"answer=")) {
-                    coverage.times[call as usize][answer] += 1;
+                for ((call, darts), line) in calls.zip(lines(printed, b"answer=")) {
+                    coverage.times[call as usize][column(line, darts)] += 1;
                 }
             }
             Program::Levels => coverage.count_program(Levels, printed),
@@ -121,11 +137,11 @@ impl Coverage {
 
     /// A program gives one answer: a refusal, an error line, or what it was asked for.
     fn count_program(&mut self, program: Call, printed: &[u8]) {
-        let answer = match printed.starts_with(b"error=") {
+        let column = match printed.starts_with(b"error=") {
             true => ERROR,
-            false => answers(printed, b"refusal=").next().unwrap_or(0),
+            false => lines(printed, b"refusal=").next().map_or(0, |line| column(line, None)),
         };
-        self.times[program as usize][answer] += 1;
+        self.times[program as usize][column] += 1;
     }
 
     pub fn add(&mut self, other: &Coverage) {
@@ -143,10 +159,10 @@ impl Coverage {
 
     /// A row for each call, a column for each answer; a dash where the pair cannot occur.
     pub fn table(&self) -> String {
-        let head: String = (0..ANSWERS).map(|answer| format!("{:>8}", name(answer))).collect();
+        let head: String = GIVEN_BY.iter().map(|(name, ..)| format!("{name:>8}")).collect();
         let row = |(call, name): (Call, &str)| {
-            let times = self.times[call as usize].iter().enumerate();
-            let cells = times.map(|(answer, &times)| match (can_occur(call, answer), times) {
+            let times = self.times[call as usize].iter().zip(GIVEN_BY);
+            let cells = times.map(|(&times, (_, calls, _))| match (calls.contains(&call), times) {
                 (false, 0) => format!("{:>8}", "-"),
                 _ => format!("{times:>8}"),
             });
@@ -159,10 +175,10 @@ impl Coverage {
     pub fn faults(&self) -> Vec<String> {
         let mut faults = Vec::new();
         for (call, who) in CALLS {
-            for (answer, &times) in self.times[call as usize].iter().enumerate() {
-                match (can_occur(call, answer), times) {
-                    (true, 0) => faults.push(format!("{who} never gave {}", name(answer))),
-                    (false, 1..) => faults.push(format!("{who} gave {}, but: {}", name(answer), GIVEN_BY[answer].1)),
+            for (&times, (name, calls, why)) in self.times[call as usize].iter().zip(GIVEN_BY) {
+                match (calls.contains(&call), times) {
+                    (true, 0) => faults.push(format!("{who} never gave {name}")),
+                    (false, 1..) => faults.push(format!("{who} gave {name}, but: {why}")),
                     _ => (),
                 }
             }
@@ -182,51 +198,59 @@ impl Display for Coverage {
     }
 }
 
-/// An answer's number, or the word for an error line.
-fn name(answer: usize) -> String {
+/// The call that a command makes, a start with its D; none for a command that is no call.
+fn call_of(command: &Command) -> Option<(Call, Option<u32>)> {
+    let call = match command {
+        Command::Start(darts) => return Some((Start, Some(*darts))),
+        Command::Reduce(Kind::Contract, _) => Contract,
+        Command::Reduce(Kind::Remove, _) => Remove,
+        Command::Sweep => Sweep,
+        Command::Undo => Undo,
+        Command::Unfold(_) => Unfold,
+        Command::Counts => Counts,
+        Command::Read(_) => Read,
+        Command::Write(_) => Write,
+        Command::Flat { .. } => Flat,
+        Command::FlatAreas { .. } => FlatAreas,
+        _ => return None,
+    };
+    Some((call, None))
+}
+
+/// The lines that begin with this key, in their order.
+fn lines<'a>(printed: &'a [u8], key: &'a [u8]) -> impl Iterator<Item = &'a [u8]> {
+    printed.split(|&byte| byte == b'\n').filter(move |line| line.starts_with(key))
+}
+
+/// The column of the answer in a line: "3 carries a second place, D where the value was out of range".
+fn column(line: &[u8], darts: Option<u32>) -> usize {
+    let answer = number_after(line, b"=").unwrap_or(0) as usize;
     match answer {
-        ERROR => "error".to_string(),
-        number => number.to_string(),
+        3 if darts.is_some() && number_after(line, b" second=") == darts => OUT_OF_RANGE,
+        0..=3 => answer,
+        _ => answer + 1,
     }
 }
 
-fn can_occur(call: Call, answer: usize) -> bool {
-    GIVEN_BY[answer].0.contains(&call)
-}
-
-/// The call that a command makes; none for a command that is no call.
-fn call_of(command: &Command) -> Option<Call> {
-    match command {
-        Command::Start(_) => Some(Start),
-        Command::Reduce(Kind::Contract, _) => Some(Contract),
-        Command::Reduce(Kind::Remove, _) => Some(Remove),
-        Command::Sweep => Some(Sweep),
-        Command::Undo => Some(Undo),
-        Command::Unfold(_) => Some(Unfold),
-        Command::Counts => Some(Counts),
-        Command::Read(_) => Some(Read),
-        Command::Write(_) => Some(Write),
-        Command::Flat { .. } => Some(Flat),
-        Command::FlatAreas { .. } => Some(FlatAreas),
-        _ => None,
-    }
-}
-
-/// The numbers after this key at the start of a line, in their order.
-fn answers<'a>(printed: &'a [u8], key: &'a [u8]) -> impl Iterator<Item = usize> + 'a {
-    printed.split(|&byte| byte == b'\n').filter_map(move |line| {
-        let digits = line.strip_prefix(key)?.iter().take_while(|byte| byte.is_ascii_digit());
-        Some(digits.fold(0, |value, digit| 10 * value + usize::from(digit - b'0')))
-    })
+/// The number after the first such key in a line.
+fn number_after(line: &[u8], key: &[u8]) -> Option<u32> {
+    let from = key.len() + line.windows(key.len()).position(|bytes| bytes == key)?;
+    let digits = line[from..].iter().take_while(|byte| byte.is_ascii_digit());
+    Some(digits.fold(0, |value, digit| 10 * value + u32::from(digit - b'0')))
 }
 
 #[cfg(test)]
 mod tests {
     use super::*;
 
+    /// What is covered by a start of two darts that prints this line.
+    fn start(line: &str) -> Coverage {
+        Coverage::of(Program::Zones, b"start 2\n", format!("{line}\n").as_bytes())
+    }
+
     #[test]
     fn a_pair_that_did_not_occur_is_a_fault() {
-        let pairs: usize = GIVEN_BY.iter().map(|(calls, _)| calls.len()).sum();
+        let pairs: usize = GIVEN_BY.iter().map(|(_, calls, _)| calls.len()).sum();
         assert_eq!(Coverage::default().faults().len(), pairs);
         let one = Coverage::of(Program::Levels, b"", b"refusal=13 place=0\n");
         assert_eq!(one.faults().len(), pairs - 1);
@@ -236,9 +260,22 @@ mod tests {
 
     #[test]
     fn a_pair_that_cannot_occur_is_a_fault() {
-        let one = Coverage::of(Program::Zones, b"sweep\n", b"answer=10 place=0 state=2 0 0\n");
+        let one = Coverage::of(Program::Zones, b"sweep\n", b"answer=10 place=0 second=0 state=2 0 0\n");
         assert!(one.faults().iter().any(|fault| fault.starts_with("sweep gave 10, but: ")));
-        let one = Coverage::of(Program::Zones, b"flat 1 1 1\n", b"answer=5 place=0 state=0 0 0\n");
+        let one = Coverage::of(Program::Zones, b"flat 1 1 1\n", b"answer=5 place=0 second=0 state=0 0 0\n");
         assert!(one.faults().iter().any(|fault| fault.starts_with("flat gave 5, but: ")));
+    }
+
+    #[test]
+    fn answer_3_needs_both_kinds_of_culprit() {
+        let never = ["start never gave 3:lower", "start never gave 3:D"];
+        let misses = |coverage: &Coverage| never.map(|fault| coverage.faults().iter().any(|said| said == fault));
+        let mut both = start("answer=3 place=1 second=0 state=0 0 0");
+        assert_eq!(misses(&both), [false, true]);
+        let out_of_range = start("answer=3 place=1 second=2 state=0 0 0");
+        assert_eq!(misses(&out_of_range), [true, false]);
+        both.add(&out_of_range);
+        assert_eq!(misses(&both), [false, false]);
+        assert_eq!(misses(&start("answer=2 place=0 second=2 state=0 0 0")), [true, true]);
     }
 }

@@ -1,7 +1,7 @@
 //! Group == inputs of one sort, each made from its number
 
 use crate::input::Input;
-use crate::{deep, drawings, large, lines, plans, reads, reports, small, worked};
+use crate::{deep, drawings, large, lines, plans, reads, reports, small, starts, worked};
 
 pub struct Group {
     pub name: &'static str,
@@ -33,15 +33,16 @@ impl Group {
     }
 }
 
-pub const GROUPS: [Group; 9] = [
+pub const GROUPS: [Group; 10] = [
     Group::new(
         "worked",
-        "document 01's examples, what one test of a pyramid alone refuses, and small plans",
+        "document 01's examples, what one test of a pyramid alone refuses, both culprits, and small plans",
         worked::SCRIPTS,
         worked::SCRIPTS,
         worked::input,
     ),
     Group::new("lines", "the script language's own rules", lines::SCRIPTS, lines::SCRIPTS, lines::input),
+    Group::new("starts", "tables that are no permutation", 12, 120, starts::input),
     Group::new("small", "maps of 2 to 40 darts", 12, 240, small::input),
     Group::new("deep", "63, 64 and 65 levels", 6, 60, deep::input),
     Group::new("reads", "files for the call read", 12, 120, reads::input),

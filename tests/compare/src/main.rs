@@ -12,8 +12,8 @@
 //! - [`files`]    good files
 //! - [`spoil`]    files with something wrong
 //! - [`input`]    what one run of a program reads
-//! - [`worked`], [`lines`], [`small`], [`deep`], [`reads`], [`reports`], [`plans`], [`drawings`], [`large`]  the inputs,
-//!   group by group
+//! - [`worked`], [`lines`], [`starts`], [`small`], [`deep`], [`reads`], [`reports`], [`plans`], [`drawings`], [`large`]  the
+//!   inputs, group by group
 //! - [`groups`]   the list of these
 //! - [`compare`]  both programs on one input
 //! - [`round`]    both programs on a group's inputs
@@ -43,6 +43,7 @@ mod script;
 mod shrink;
 mod small;
 mod spoil;
+mod starts;
 mod steps;
 mod twice;
 mod worked;

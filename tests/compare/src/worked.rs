@@ -1,5 +1,5 @@
-//! Group `worked`: what document 01 works out by hand, the cases that only one test of a pyramid refuses, and plans that can
-//! be followed by eye
+//! Group `worked`: what document 01 works out by hand, the cases that only one test of a pyramid refuses, and tables that are
+//! no permutation and plans that can be followed by eye
 //!
 //! These are fixed. Chance reaches them late or never.
 
@@ -10,12 +10,13 @@ use crate::script::Script;
 use second::operation::kind_of;
 use second::state::State;
 
-pub const SCRIPTS: usize = 3;
+pub const SCRIPTS: usize = 4;
 
 pub fn input(script: usize) -> Input {
     Input::script(match script {
         0 => worked(),
         1 => no_pyramids(),
+        2 => culprits(),
         _ => plans(),
     })
 }
@@ -148,6 +149,49 @@ fn stated(darts: u32, history: &[u32]) -> State {
         }
     }
     state
+}
+
+/// Tables that are no permutation: a successor that repeats a lower dart's, one that is out of range, both in one table, and
+/// three darts with one successor.
+const TABLES: [&[u32]; 18] = [
+    &[1, 1],
+    &[0, 0],
+    &[0, 1, 2, 0],
+    &[0, 1, 2, 2],
+    &[2, 3, 0, 3, 5, 4],
+    &[0, 2],
+    &[2, 0],
+    &[3, 2, 1, 4],
+    &[3, 2, 1, 5],
+    &[3, 2, 1, 65_536],
+    &[3, 2, 1, u32::MAX],
+    &[9, 9],
+    &[2, 0, 0, 9],
+    &[2, 9, 2, 0],
+    &[0, 0, 4, 4],
+    &[3, 2, 4, 3],
+    &[3, 1, 3, 3],
+    &[5, 2, 5, 4, 6, 4, 6, 7],
+];
+
+/// A start from each, and every call on a state and a file of each, which are 4.
+fn culprits() -> Script {
+    let mut script = Script::default();
+    for table in TABLES {
+        let darts = table.len() as u32;
+        script.lend(needed(darts));
+        script.word("fill 7");
+        script.put("table", 0, table);
+        script.numbers("start", &[darts]);
+        for call in CALLS {
+            script.state(&stated(darts, &[]));
+            script.word(call);
+        }
+        let pairs: String = table.chunks(2).map(|pair| format!("pair={} {}\n", pair[0], pair[1])).collect();
+        script.read(format!("numbers=0\ndarts={darts}\nlevels=0\n{pairs}").as_bytes());
+        script.word("show");
+    }
+    script
 }
 
 /// Each as wales, courses and codes: two cells, rows with the one edge that stays, squares, the brief of samples/, a ring

@@ -46,6 +46,14 @@ const EDGE_TWICE: Edit = (
     }\n",
 );
 
+/// "which lower dart already has that successor": the later dart itself is named.
+const CULPRIT_ITSELF: Edit =
+    ("pyramid.rs", "    has_it_already.unwrap_or(table.len())\n", "    has_it_already.map_or(table.len(), |_| dart)\n");
+
+/// "D where the value was out of range": 0 instead.
+const OUT_OF_RANGE_IS_0: Edit =
+    ("pyramid.rs", "    has_it_already.unwrap_or(table.len())\n", "    has_it_already.unwrap_or(0)\n");
+
 /// What unfold hands back is not the level that was stored: a fault in the levels kept.
 const WRONG_LEVEL: Edit = (
     "pyramid.rs",
@@ -210,6 +218,16 @@ fn an_edge_twice_in_a_history_is_found() {
     let text = found(&copy, "worked", "zones", 100);
     assert!(text.contains("\nhistory 0 11 14 5 4\n"), "the copy accepts the case that only this test refuses");
     found(&copy, "small", "zones", 400);
+}
+
+#[test]
+fn a_wrong_second_culprit_is_found() {
+    for (name, edit) in [("culprit-itself", CULPRIT_ITSELF), ("out-of-range-is-0", OUT_OF_RANGE_IS_0)] {
+        let copy = second_with(name, &[edit]);
+        found(&copy, "worked", "zones", 40);
+        found(&copy, "starts", "zones", 300);
+        found(&copy, "small", "zones", 300);
+    }
 }
 
 #[test]

@@ -61,9 +61,11 @@ fn the_drawing_of_the_brief_is_its_plan() {
 }
 
 #[test]
-fn the_script_of_the_plan_prints_what_is_told() {
-    let printed = zones::run(&fs::read(samples().join("plan.script")).expect("a script"));
+fn the_scripts_print_what_is_told() {
     let text = fs::read_to_string(samples().join("README.md")).expect("a text");
-    let told: String = String::from_utf8_lossy(&printed).lines().map(|line| format!("    {line}\n")).collect();
-    assert!(text.ends_with(&format!("\n\n{told}")), "{told}");
+    for name in ["plan.script", "no-permutation.script"] {
+        let printed = zones::run(&fs::read(samples().join(name)).expect("a script"));
+        let told: String = String::from_utf8_lossy(&printed).lines().map(|line| format!("    {line}\n")).collect();
+        assert!(format!("{text}\n").contains(&format!("\n\n{told}\n")), "{name}: {told}");
+    }
 }

@@ -1,4 +1,4 @@
-//! Answer  == the number and the place that a call gives
+//! Answer  == the number and the two places that a call gives
 //! Refusal == the answers 1 to 15, case by case
 
 /// What a call answers.
@@ -6,12 +6,14 @@
 pub struct Answer {
     pub number: u32,
     pub place: usize,
+    /// Request Three of document 02: "3 carries a second place ..; every other answer has 0 there".
+    pub second: usize,
 }
 
 impl Answer {
     /// "0 | done | 0; for the writer, the bytes written"
     pub fn done(place: usize) -> Answer {
-        Answer { number: 0, place }
+        Answer { number: 0, place, second: 0 }
     }
 }
 
@@ -24,8 +26,9 @@ pub enum Refusal {
     ShortSlice,
     /// 2: the same, "for the writer's output, the bytes needed"
     ShortOutput { needed: usize },
-    /// 3: "start: the table is no permutation"
-    NoPermutation { dart: usize },
+    /// 3: "start: the table is no permutation"; the second place is "which lower dart already has that successor", or "D
+    /// where the value was out of range"
+    NoPermutation { dart: usize, second: usize },
     /// 4: "the state, or what a file holds, is no pyramid"
     NoPyramid,
     /// 5: "the kernel is empty"
@@ -53,13 +56,13 @@ pub enum Refusal {
 }
 
 impl Refusal {
-    /// The number and the place of the table of answers.
+    /// The number and the places of the table of answers.
     pub fn answer(self) -> Answer {
         let (number, place) = match self {
             Refusal::BadDarts => (1, 0),
             Refusal::ShortSlice => (2, 0),
             Refusal::ShortOutput { needed } => (2, needed),
-            Refusal::NoPermutation { dart } => (3, dart),
+            Refusal::NoPermutation { dart, .. } => (3, dart),
             Refusal::NoPyramid => (4, 0),
             Refusal::EmptyKernel => (5, 0),
             Refusal::TooManyLevels => (6, 0),
@@ -73,12 +76,20 @@ impl Refusal {
             Refusal::BadFlag => (14, 8),
             Refusal::PlanSize => (15, 0),
         };
-        Answer { number, place }
+        Answer { number, place, second: self.second() }
+    }
+
+    /// "3 carries a second place ..; every other answer has 0 there"
+    fn second(self) -> usize {
+        match self {
+            Refusal::NoPermutation { second, .. } => second,
+            _ => 0,
+        }
     }
 
     /// What a program prints for a refusal: "one line, `refusal=N place=P`, and no other".
     pub fn line(self) -> String {
-        let Answer { number, place } = self.answer();
+        let Answer { number, place, .. } = self.answer();
         format!("refusal={number} place={place}\n")
     }
 }

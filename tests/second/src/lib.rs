@@ -1,7 +1,7 @@
 //! The second program: the rules of documents 01 and 02 once more, plain and slow, with every level stored in full.
 //! It shares no line with the proved library; both read the same scripts and files and must print the same bytes.
 //!
-//! - [`answer`]     an answer: its number and its place; a refusal, case by case
+//! - [`answer`]     an answer: its number and its two places; a refusal, case by case
 //! - [`state`]      D, operations, levels and the 64 level ends
 //! - [`map`]        the table with its surviving darts: partner, successor, face-next, the dart before, cycles
 //! - [`operation`]  one operation on one edge, and its undoing

@@ -31,11 +31,19 @@ fn no_permutation(table: &[u32]) -> Option<usize> {
     })
 }
 
+/// "which lower dart already has that successor, or that the successor is out of range": "D where the value was out of
+/// range". Below the lowest such dart all successors are darts, so that none of them is one that is out of range.
+fn second_culprit(table: &[u32], dart: usize) -> usize {
+    let has_it_already = table[..dart].iter().position(|&successor| successor == table[dart]);
+    has_it_already.unwrap_or(table.len())
+}
+
 impl Pyramid {
-    /// "In a base the table is a permutation of all darts."
+    /// "In a base the table is a permutation of all darts." The refusal has both culprits: "The start call passes it on;
+    /// the reader and the pyramid check use the new test inside and still answer 4."
     pub fn start(table: &[Dart]) -> Result<Pyramid, Refusal> {
         if let Some(dart) = no_permutation(table) {
-            return Err(Refusal::NoPermutation { dart });
+            return Err(Refusal::NoPermutation { dart, second: second_culprit(table, dart) });
         }
         let map = Map::new(table, vec![true; table.len()]);
         Ok(Pyramid { levels: vec![Level { map, operations: 0 }], history: Vec::new() })

@@ -100,13 +100,14 @@ impl Zones {
         self.printed.extend_from_slice(text.as_bytes());
     }
 
-    /// The line of a call, but for its line feed: "answer=A place=P state=D N L ends=C table=C history=C work=C
-    /// output=C"
+    /// The line of a call, but for its line feed: "answer=A place=P second=S state=D N L ends=C table=C history=C work=C
+    /// output=C". From request Three on "every call's line has ` second=S` after its place".
     fn print_answer(&mut self, answer: Answer, output: usize) {
-        let Answer { number, place } = answer;
+        let Answer { number, place, second } = answer;
         let State { darts, operations, levels, ends } = self.state;
         let (ends, rooms) = (checksum(&ends), self.rooms.checksums(output));
-        self.print(&format!("answer={number} place={place} state={darts} {operations} {levels} ends={ends} {rooms}"));
+        let answered = format!("answer={number} place={place} second={second}");
+        self.print(&format!("{answered} state={darts} {operations} {levels} ends={ends} {rooms}"));
     }
 
     /// "The state is the one handed back, which the script then holds." "A call other than `write` is lent no output".

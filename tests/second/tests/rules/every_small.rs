@@ -13,7 +13,7 @@ use second::pyramid::Pyramid;
 type Shown = (Vec<u32>, Vec<u32>);
 
 /// All lists of so many numbers below the bound.
-fn lists(length: usize, bound: u32) -> Vec<Vec<u32>> {
+pub fn lists(length: usize, bound: u32) -> Vec<Vec<u32>> {
     let mut lists = vec![vec![]];
     for _ in 0..length {
         lists = lists.iter().flat_map(|list| (0..bound).map(|v| [list.as_slice(), &[v]].concat())).collect();

@@ -4,6 +4,7 @@
 //! - `worked`      K1 to K12
 //! - `accepted`    what an accepted call leaves in every lent slice
 //! - `refusals`    each answer from each call, with its place and what is left; the order of answers
+//! - `culprits`    answer 3 with both its places; tables that are no permutation, from every call
 //! - `no_pyramid`  answer 4: the table of seventeen tests, and faults of shape
 //! - `every_small` every table and history of up to 6 darts against the words of document 01
 //! - `undoing`, `any_order`, `files`, `cycles`  random pyramids over maps of up to 12 darts
@@ -20,6 +21,7 @@
 mod accepted;
 mod any_order;
 mod commands;
+mod culprits;
 mod cycles;
 mod drawings;
 mod every_small;

@@ -10,7 +10,6 @@ use second::counts::counts;
 use second::decide::map_of;
 use second::operation::{edge_of, Kind};
 use second::plan::{Cell, Grid};
-use second::state::State;
 
 /// How many random plans each property is tried on.
 const TRIES: u64 = 20_000;

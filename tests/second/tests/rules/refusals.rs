@@ -1,4 +1,5 @@
-//! Each answer from each call that can give it, with its place and what is left; then the order of the answers.
+//! Each answer from each call that can give it, with its place and what is left; then the order of the answers. Answer 3
+//! is in `culprits`.
 
 use crate::support::lot::{state, Call, Lot, ON_A_STATE};
 use crate::support::maps::{full_star, k7, triangle, T};
@@ -75,16 +76,6 @@ fn answer_4_comes_before_the_output_length() {
     let mut lot = altered();
     lot.output.clear();
     lot.refuse(&Call::Write, 4, 0, 32);
-}
-
-#[test]
-fn answer_3_at_the_lowest_faulty_dart() {
-    let rows: [(&[u32], usize); 6] =
-        [(&[2, 0], 0), (&[0, 2], 1), (&[1, 1], 1), (&[0, 0, 4, 4], 1), (&[3, 2, 1, u32::MAX], 3), (&[3, 2, 4, 3], 2)];
-    for (table, place) in rows {
-        let lot = Lot::new(k7().state, table, &[]);
-        lot.refuse(&Call::Start(table.len() as u32), 3, place, 4 * table.len());
-    }
 }
 
 #[test]

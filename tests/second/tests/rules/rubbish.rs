@@ -2,6 +2,7 @@
 
 use crate::support::chance::Chance;
 use crate::support::lot::{Call, Lot, ON_A_STATE};
+use second::answer::Answer;
 use second::state::State;
 use second::zones::Zones;
 
@@ -39,8 +40,9 @@ fn any_lot(chance: &mut Chance) -> Lot {
 /// Makes the call; where it is refused, everything but the work area must stay.
 fn answers(lot: &Lot, call: &Call) {
     let mut after = lot.clone();
-    let number = after.call(call).answer.number;
+    let Answer { number, second, .. } = after.call(call).answer;
     assert!(number <= 15);
+    assert!(second == 0 || matches!(call, Call::Start(_)) && number == 3, "{call:?}");
     if number != 0 {
         assert_eq!((&after.table, &after.history, &after.output), (&lot.table, &lot.history, &lot.output));
     }

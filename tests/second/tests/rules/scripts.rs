@@ -35,7 +35,7 @@ fn an_empty_script_prints_nothing() {
 #[test]
 fn a_call_prints_its_line() {
     let expected = format!(
-        "answer=0 place=0 state=8 0 0 ends={} table={} history={} work={} output=30784\n",
+        "answer=0 place=0 second=0 state=8 0 0 ends={} table={} history={} work={} output=30784\n",
         sum_to(64, &[]),
         sum_to(12, &[5, 2, 1, 4, 6, 0, 3, 7]),
         sum_to(8, &[]),
@@ -50,7 +50,7 @@ fn checksums_reach_four_past_what_is_lent() {
     let mut work = vec![0; 8];
     work.resize(12, 3);
     let expected = format!(
-        "answer=0 place=0 state=2 0 0 ends={} table={} history={} work={} output=30784\n",
+        "answer=0 place=0 second=0 state=2 0 0 ends={} table={} history={} work={} output=30784\n",
         sum_to(64, &[]),
         sum(&[1, 0, 6, 7, 8, 9]),
         sum(&[1, 2, 3, 4, 5]),
@@ -63,7 +63,7 @@ fn checksums_reach_four_past_what_is_lent() {
 fn large_numbers_are_summed_whole() {
     let script = "lend 1 0 0\ntable 0 4294967295\nstart 4294967295\n";
     let expected = format!(
-        "answer=1 place=0 state=0 0 0 ends={} table={} history=30784 work=30784 output=30784\n",
+        "answer=1 place=0 second=0 state=0 0 0 ends={} table={} history=30784 work=30784 output=30784\n",
         sum_to(64, &[]),
         sum_to(5, &[4_294_967_295]),
     );
@@ -73,14 +73,14 @@ fn large_numbers_are_summed_whole() {
 #[test]
 fn counts_stand_at_the_end_and_the_state_stays() {
     let line = printed(&format!("{T_LENT}start 8\ncounts\n")).lines().nth(1).expect("a second line").to_string();
-    assert!(line.starts_with("answer=0 place=0 state=8 0 0 ends="));
+    assert!(line.starts_with("answer=0 place=0 second=0 state=8 0 0 ends="));
     assert!(line.ends_with(" output=30784 darts=8 vertices=4 faces=2 euler=2"));
     let line = printed("state 7 6 5 4\ncounts\n");
-    assert!(line.starts_with(&format!("answer=1 place=0 state=7 6 5 ends={} ", sum_to(64, &[4]))));
+    assert!(line.starts_with(&format!("answer=1 place=0 second=0 state=7 6 5 ends={} ", sum_to(64, &[4]))));
     assert!(line.ends_with(" darts=0 vertices=0 faces=0 euler=0\n"));
 }
 
-/// The first three words of each line, and lines that are no call's in full.
+/// What stands before the ends of each line, and lines that are no call's in full.
 fn short(script: &str) -> Vec<String> {
     let cut = |line: &str| match line.split_once(" ends=") {
         Some((head, _)) => head.to_string(),
@@ -96,12 +96,14 @@ fn calls_follow_one_another() {
          remove 0 0\nstart 6\nundo\nshow\n"
     );
     let expected = [
-        "answer=0 place=0 state=8 0 0", "answer=0 place=0 state=8 2 1", "answer=0 place=0 state=8 3 2",
-        "state=8 3 2 2 3", "table=5 2 5 4 6 4 6 7", "history=1 5 10", "answer=0 place=0 state=8 2 1", "state=8 2 1 2",
-        "table=5 2 5 4 6 4 5 7", "history=1 5", "answer=5 place=0 state=8 2 1", "answer=9 place=0 state=8 2 1",
-        "answer=12 place=1 state=8 2 1", "answer=0 place=0 state=8 0 0", "state=8 0 0", "table=5 2 1 4 6 0 3 7",
-        "history=", "answer=12 place=0 state=8 0 0", "answer=8 place=1 state=8 0 0", "answer=3 place=4 state=0 0 0",
-        "answer=1 place=0 state=0 0 0", "state=0 0 0", "table=", "history=",
+        "answer=0 place=0 second=0 state=8 0 0", "answer=0 place=0 second=0 state=8 2 1",
+        "answer=0 place=0 second=0 state=8 3 2", "state=8 3 2 2 3", "table=5 2 5 4 6 4 6 7", "history=1 5 10",
+        "answer=0 place=0 second=0 state=8 2 1", "state=8 2 1 2", "table=5 2 5 4 6 4 5 7", "history=1 5",
+        "answer=5 place=0 second=0 state=8 2 1", "answer=9 place=0 second=0 state=8 2 1",
+        "answer=12 place=1 second=0 state=8 2 1", "answer=0 place=0 second=0 state=8 0 0", "state=8 0 0",
+        "table=5 2 1 4 6 0 3 7", "history=", "answer=12 place=0 second=0 state=8 0 0",
+        "answer=8 place=1 second=0 state=8 0 0", "answer=3 place=4 second=6 state=0 0 0",
+        "answer=1 place=0 second=0 state=0 0 0", "state=0 0 0", "table=", "history=",
     ];
     assert_eq!(short(&script), expected);
 }
@@ -121,8 +123,8 @@ fn a_file_is_written_shown_and_read() {
         K12.len()
     );
     let text = printed(&script);
-    assert!(text.contains("answer=2 place=97 state=8 3 2 "));
-    assert!(text.contains("answer=0 place=97 state=8 3 2 "));
+    assert!(text.contains("answer=2 place=97 second=0 state=8 3 2 "));
+    assert!(text.contains("answer=0 place=97 second=0 state=8 3 2 "));
     assert_eq!(text.matches(K12).count(), 2, "the last accepted write, also after a refused one");
     assert!(text.ends_with("state=8 3 2 2 3\ntable=4 2 4 5 5 6 6 7\nhistory=1 5 8\n"));
     let output: Vec<u64> = K12.bytes().map(u64::from).collect();
@@ -137,11 +139,12 @@ fn a_plan_is_built_and_goes_on() {
                   show\nplan 1 2\nplan 2 2\nflatareas 2 2 4\nflat 1 1 4\nflat 2 2 3\nflat 2 2 4\nlend 7 4 32\nflatareas 2 2 4\n";
     let lines = short(script);
     let expected = [
-        "answer=0 place=0 state=8 0 0", "state=8 0 0", "table=4 6 5 7 0 2 1 3", "history=",
-        "answer=0 place=0 state=8 3 1", "state=8 3 1 3", "table=4 6 5 7 6 7 7 6", "history=1 5 9",
-        "answer=0 place=0 state=8 3 1", "answer=0 place=0 state=8 0 0", "state=8 0 0", "table=4 6 5 7 0 2 1 3",
-        "history=", "answer=5 place=0 state=0 0 0", "answer=15 place=0 state=0 0 0", "answer=2 place=0 state=0 0 0",
-        "answer=0 place=0 state=8 0 0", "answer=2 place=0 state=0 0 0",
+        "answer=0 place=0 second=0 state=8 0 0", "state=8 0 0", "table=4 6 5 7 0 2 1 3", "history=",
+        "answer=0 place=0 second=0 state=8 3 1", "state=8 3 1 3", "table=4 6 5 7 6 7 7 6", "history=1 5 9",
+        "answer=0 place=0 second=0 state=8 3 1", "answer=0 place=0 second=0 state=8 0 0", "state=8 0 0",
+        "table=4 6 5 7 0 2 1 3", "history=", "answer=5 place=0 second=0 state=0 0 0",
+        "answer=15 place=0 second=0 state=0 0 0", "answer=2 place=0 second=0 state=0 0 0",
+        "answer=0 place=0 second=0 state=8 0 0", "answer=2 place=0 second=0 state=0 0 0",
     ];
     assert_eq!(lines, expected);
 }
@@ -155,8 +158,8 @@ fn a_call_on_a_plan_prints_the_usual_line() {
         format!("{answer} ends={ends} table={table} history={history} work={work} output=30784\n")
     };
     let cleared = sum(&[[0; 16].as_slice(), &[5; 4]].concat());
-    let refused = line("answer=15 place=0 state=0 0 0", &[], &[], &[], fives);
-    let done = line("answer=0 place=0 state=4 1 1", &[0, 2, 2, 3], &[3], &[1], cleared);
+    let refused = line("answer=15 place=0 second=0 state=0 0 0", &[], &[], &[], fives);
+    let done = line("answer=0 place=0 second=0 state=4 1 1", &[0, 2, 2, 3], &[3], &[1], cleared);
     assert_eq!(printed(script), refused + &done);
 }
 
@@ -171,8 +174,8 @@ fn a_shorter_write_is_shown_alone() {
 fn the_bytes_of_a_read_count_with_its_line() {
     let script = format!("lend 8 4 32\nread {}\n{K12}\nnothing\n", K12.len());
     let lines = short(&script);
-    assert_eq!(lines, ["answer=0 place=0 state=8 3 2", "error=3"]);
-    assert_eq!(short("read 0\n\nread 2\n\n\n\nshow 1\n")[..2], ["answer=13 place=0 state=0 0 0"; 2]);
+    assert_eq!(lines, ["answer=0 place=0 second=0 state=8 3 2", "error=3"]);
+    assert_eq!(short("read 0\n\nread 2\n\n\n\nshow 1\n")[..2], ["answer=13 place=0 second=0 state=0 0 0"; 2]);
     assert_eq!(short("read 0\n\nread 2\n\n\n\nshow 1\n")[2], "error=3");
 }
 
@@ -186,13 +189,13 @@ fn the_ends_of_the_rooms_can_be_used() {
     let script = "lend 65536 32768 262156\ntable 65539 1\nhistory 32770 1 2\nwork 262159 1\ntable 4294967295\n\
                   history 4294967295\nwork 4294967295\nplan 16387 255\nplan 4294967295\nstate 1 2 3";
     assert_eq!(printed(&format!("{script}{}\n", " 0".repeat(64))), "");
-    assert_eq!(short("write 599996\n"), ["answer=1 place=0 state=0 0 0"]);
+    assert_eq!(short("write 599996\n"), ["answer=1 place=0 second=0 state=0 0 0"]);
     assert_eq!(
         short("flat 4294967295 0 16384\nflatareas 1 2 0\n"),
-        ["answer=15 place=0 state=0 0 0", "answer=2 place=0 state=0 0 0"]
+        ["answer=15 place=0 second=0 state=0 0 0", "answer=2 place=0 second=0 state=0 0 0"]
     );
     assert_eq!(printed(&format!("plan 0{}\n", " 255".repeat(16_388))), "");
-    assert_eq!(short(&format!("contract{}\n", " 1".repeat(32_772))), ["answer=1 place=0 state=0 0 0"]);
+    assert_eq!(short(&format!("contract{}\n", " 1".repeat(32_772))), ["answer=1 place=0 second=0 state=0 0 0"]);
 }
 
 #[test]
@@ -217,7 +220,7 @@ fn error_lines() {
     ];
     for line in errors {
         assert_eq!(printed(line), "error=1\n", "{line:?}");
-        assert_eq!(short(&format!("undo\n{line}")), ["answer=1 place=0 state=0 0 0", "error=2"], "{line:?}");
+        assert_eq!(short(&format!("undo\n{line}")), ["answer=1 place=0 second=0 state=0 0 0", "error=2"], "{line:?}");
     }
 }
 

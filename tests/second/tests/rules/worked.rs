@@ -86,7 +86,7 @@ fn k10_two_darts() {
     lot.refuse(&Call::Reduce(Remove, &[0]), 11, 0, 8);
     lot.refuse(&Call::Reduce(Contract, &[0]), 9, 0, 8);
     lot.table[1] = 1;
-    lot.refuse(&Call::Start(2), 3, 1, 8);
+    lot.refuse_start(2, 1, 0);
 }
 
 #[test]

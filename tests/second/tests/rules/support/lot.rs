@@ -142,19 +142,29 @@ impl Lot {
         Left { answer, state, counts }
     }
 
-    /// Makes a call that must be accepted.
+    /// Makes a call that must be accepted. "every other answer has 0 there": it has no second place.
     pub fn accept(&mut self, call: &Call) -> Left {
         let left = self.call(call);
-        assert_eq!(left.answer.number, 0, "{call:?}");
+        assert_eq!((left.answer.number, left.answer.second), (0, 0), "{call:?}");
         left
     }
 
-    /// The call must be refused with this number and place, must leave the first `zeroed` numbers of the work area
-    /// zero, and must leave all else as it was. "A refusal changes nothing but the work area."
+    /// The call must be refused with this number and place, and with no second place.
     pub fn refuse(&self, call: &Call, number: u32, place: usize, zeroed: usize) {
+        self.refuse_with(call, Answer { number, place, second: 0 }, zeroed);
+    }
+
+    /// A start must be refused with 3 and both these places.
+    pub fn refuse_start(&self, darts: u32, place: usize, second: usize) {
+        self.refuse_with(&Call::Start(darts), Answer { number: 3, place, second }, 4 * darts as usize);
+    }
+
+    /// The call must be refused with this answer, must leave the first `zeroed` numbers of the work area zero, and must
+    /// leave all else as it was. "A refusal changes nothing but the work area."
+    fn refuse_with(&self, call: &Call, answer: Answer, zeroed: usize) {
         let mut after = self.clone();
         let left = after.call(call);
-        assert_eq!(left.answer, Answer { number, place }, "{call:?}");
+        assert_eq!(left.answer, answer, "{call:?}");
         assert_eq!(left.counts, Counts::default(), "{call:?}");
         let mut expected = self.clone();
         expected.work[..zeroed].fill(0);
