@@ -6,7 +6,7 @@ use Rattle.zonemap_c.proofs.bytes.zm_write.Tie as tie
 
 returns : tie.Need-returns
 returns c =
-    let called = c .before .before .before .before .before .before .before .before .before .before in
+    let called = c .before .before .before .before .before .before .before .before .before .before .before in
     rw (← called .before .before .before .before .before .state-of .ensures) (written (c .put-answer .ensures) (called .write .ensures))
 
 pub zm-write-spec : {M : Type 1} → statement M

@@ -6,7 +6,7 @@ use Rattle.zonemap_c.proofs.calls.zm_contract.Tie as tie
 
 returns : tie.Need-returns
 returns c =
-    let called = c .before .before .before .before .before .before .before .before .before in
+    let called = c .before .before .before .before .before .before .before .before .before .before in
     rw (← called .before .before .before .before .state-of .ensures) (handed (c .hand-back .ensures) (called .reduce .ensures))
 
 pub zm-contract-spec : {M : Type 1} → statement M

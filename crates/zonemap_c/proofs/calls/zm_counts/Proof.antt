@@ -6,7 +6,7 @@ use Rattle.zonemap_c.proofs.calls.zm_counts.Tie as tie
 
 returns : tie.Need-returns
 returns c =
-    let put = c .before .before in
+    let put = c .before .before .before in
     let called = put .before .before .before .before .before .before .before .before .before in
     rw (← called .before .before .before .before .state-of .ensures) (counted (c .put-answer .ensures) (put .put-counts .ensures) (called .counts .ensures))
 
