@@ -1,7 +1,7 @@
 -- Calls one after another, and what a worked example says of the last.
---   stepped s a         == the call of a step on what the call before it left
---   rowIs a n p t u h v == answer number n and place p, table u and history v
---   example ..          == the same of start and three steps, with rubbish in the work area
+--   stepped s a           == the call of a step on what the call before it left
+--   rowIs a n p s t u h v == answer number n, place p and second place s, table u and history v
+--   example ..            == the same of start and three steps, with rubbish in the work area
 use mathlib.Core.Bool.{Bool, _&&_}
 use mathlib.Core.List.{List, [], _∷_}
 use Prim.Native.Nat.{ℕ}
@@ -21,11 +21,11 @@ stepped (Two k e f) a = reduceBy (kindOf k) (e ∷ f ∷ []) (a .state) (a .tabl
 stepped Sweep a = sweepBy (a .state) (a .table) (a .history) (a .work)
 stepped Undo a = undoBy (a .state) (a .table) (a .history) (a .work)
 
-unfoldable pub rowIs : Answer → ℕ → ℕ → List ℕ → List ℕ → List ℕ → List ℕ → Bool
-rowIs a n p t u h v = eqb (a .number) n && (eqb (a .place) p && (sameNumbers t u && sameNumbers h v))
+unfoldable pub rowIs : Answer → ℕ → ℕ → ℕ → List ℕ → List ℕ → List ℕ → List ℕ → Bool
+rowIs a n p s t u h v = eqb (a .number) n && (eqb (a .place) p && (eqb (a .second) s && (sameNumbers t u && sameNumbers h v)))
 
-abbrev pub leftIs : After → ℕ → ℕ → List ℕ → List ℕ → Bool
-leftIs a n p u v = rowIs (a .answer) n p (a .table) u (a .history) v
+abbrev pub leftIs : After → ℕ → ℕ → ℕ → List ℕ → List ℕ → Bool
+leftIs a n p s u v = rowIs (a .answer) n p s (a .table) u (a .history) v
 
-abbrev pub example : ℕ → List ℕ → Step → Step → Step → ℕ → ℕ → List ℕ → List ℕ → Bool
-example D base a b c n p u v = leftIs (stepped c (stepped b (stepped a (start D base (replicate 4 0) (replicate 32 9))))) n p u v
+abbrev pub example : ℕ → List ℕ → Step → Step → Step → ℕ → ℕ → ℕ → List ℕ → List ℕ → Bool
+example D base a b c n p s u v = leftIs (stepped c (stepped b (stepped a (start D base (replicate 4 0) (replicate 32 9))))) n p s u v

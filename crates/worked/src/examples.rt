@@ -8,8 +8,8 @@ ghost use mathlib.Core.Bool.{true};
 ghost use mathlib.Core.Path.{_≡_};
 ghost use Rattle.worked.specs.Chain.{example as exampleOf};
 
-// Start from a table of eight places, three calls, and what the last leaves: its answer's number and place, the table and the history. The work area starts
-// with rubbish in it.
+// Start from a table of eight places, three calls, and what the last leaves: its answer's number and two places, the table and the history. The work area
+// starts with rubbish in it.
 fn example(
     darts: u32,
     base: [u32; 8],
@@ -18,10 +18,11 @@ fn example(
     third: Step,
     number: u32,
     place: usize,
+    beside: usize,
     entries: [u32; 8],
     past: [u32; 4],
 )
-    requires { ⌜ exampleOf darts base first second third number place entries past ≡ true ⌝ }
+    requires { ⌜ exampleOf darts base first second third number place beside entries past ≡ true ⌝ }
 {
     let mut table = base;
     let mut history = [0u32; 4];
@@ -35,7 +36,16 @@ fn example(
         &mut history,
         &mut work,
     );
-    expect(is_row(outcome, number, place, &table, &entries, &history, &past));
+    expect(is_row(
+        outcome,
+        number,
+        place,
+        beside,
+        &table,
+        &entries,
+        &history,
+        &past,
+    ));
 }
 
 // K3, K5 and K11: one kernel on map T.
@@ -51,6 +61,7 @@ pub fn kernels() {
         Step::Stay,
         0,
         0,
+        0,
         k3,
         [13, 0, 0, 0],
     );
@@ -60,6 +71,7 @@ pub fn kernels() {
         Step::Two(Kind::Contract, 0, 1),
         Step::Stay,
         Step::Stay,
+        0,
         0,
         0,
         k5,
@@ -73,6 +85,7 @@ pub fn kernels() {
         Step::Stay,
         8,
         1,
+        0,
         t,
         [0, 0, 0, 0],
     );
@@ -92,6 +105,7 @@ pub fn sweep_and_undo() {
         Step::Stay,
         9,
         0,
+        0,
         k5,
         [1, 5, 0, 0],
     );
@@ -103,6 +117,7 @@ pub fn sweep_and_undo() {
         Step::Stay,
         0,
         0,
+        0,
         k7,
         [1, 5, 10, 0],
     );
@@ -114,6 +129,7 @@ pub fn sweep_and_undo() {
         Step::Stay,
         0,
         0,
+        0,
         k7,
         [1, 5, 10, 0],
     );
@@ -123,6 +139,7 @@ pub fn sweep_and_undo() {
         zones,
         Step::Sweep,
         Step::Undo,
+        0,
         0,
         0,
         k5,
@@ -143,6 +160,7 @@ pub fn refused_at_the_top() {
         Step::One(Kind::Contract, 3),
         11,
         0,
+        0,
         k7,
         [1, 5, 10, 0],
     );
@@ -154,14 +172,16 @@ pub fn refused_at_the_top() {
         Step::One(Kind::Remove, 3),
         10,
         0,
+        0,
         k7,
         [1, 5, 10, 0],
     );
 }
 
-// K10: two darts, in a table that goes on behind them.
+// K10, and beside it a successor out of range: two darts, in a table that goes on behind them.
 pub fn two_darts() {
     let repeats = [1u32, 1, 9, 9, 9, 9, 9, 9];
+    let out_of_range = [0u32, 2, 9, 9, 9, 9, 9, 9];
     let loop_alone = [1u32, 0, 9, 9, 9, 9, 9, 9];
     example(
         2,
@@ -171,7 +191,20 @@ pub fn two_darts() {
         Step::Stay,
         3,
         1,
+        0,
         repeats,
+        [0, 0, 0, 0],
+    );
+    example(
+        2,
+        out_of_range,
+        Step::Stay,
+        Step::Stay,
+        Step::Stay,
+        3,
+        1,
+        2,
+        out_of_range,
         [0, 0, 0, 0],
     );
     example(
@@ -180,6 +213,7 @@ pub fn two_darts() {
         Step::Stay,
         Step::Stay,
         Step::Stay,
+        0,
         0,
         0,
         loop_alone,
@@ -193,7 +227,39 @@ pub fn two_darts() {
         Step::Stay,
         11,
         0,
+        0,
         loop_alone,
+        [0, 0, 0, 0],
+    );
+}
+
+// Both culprits: in each table one successor repeats a lower dart's and another is out of range. The lowest such dart decides, and the second place is the
+// lower dart, or D.
+pub fn both_culprits() {
+    let repeats_first = [2u32, 0, 0, 9, 9, 9, 9, 9];
+    let out_of_range_first = [2u32, 9, 2, 0, 9, 9, 9, 9];
+    example(
+        4,
+        repeats_first,
+        Step::Stay,
+        Step::Stay,
+        Step::Stay,
+        3,
+        2,
+        1,
+        repeats_first,
+        [0, 0, 0, 0],
+    );
+    example(
+        4,
+        out_of_range_first,
+        Step::Stay,
+        Step::Stay,
+        Step::Stay,
+        3,
+        1,
+        4,
+        out_of_range_first,
         [0, 0, 0, 0],
     );
 }

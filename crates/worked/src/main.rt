@@ -1,5 +1,5 @@
-// The worked examples K3, K5, K7, K8, K10 and K11 of document 01, made by the calls one after another. `expect` asks a proof of each result, and stops the
-// run where one fails.
+// The worked examples K3, K5, K7, K8, K10 and K11 of document 01 and both culprits of document 02, made by the calls one after another. `expect` asks a
+// proof of each result, and stops the run where one fails.
 mod chain;
 mod examples;
 mod rows;
@@ -9,4 +9,5 @@ fn main() {
     examples::sweep_and_undo();
     examples::refused_at_the_top();
     examples::two_darts();
+    examples::both_culprits();
 }

@@ -22,24 +22,28 @@ fn same(a: &[u32], b: &[u32]) -> bool
     true
 }
 
-// Whether the answer has this number and place, the table these entries and the history this past.
+// Whether the answer has this number, place and second place, the table these entries and the history this past.
 pub fn is_row(
     outcome: Outcome,
     number: u32,
     place: usize,
+    beside: usize,
     table: &[u32],
     entries: &[u32],
     history: &[u32],
     past: &[u32],
 ) -> bool
     ensures { λ r. ⌜
-        r ≡ rowIs (answerOf (outcome .answer)) number place (now (table .entry)) (now (entries .entry)) (now (history .entry)) (now (past .entry)) ⌝ }
+        r ≡ rowIs (answerOf (outcome .answer)) number place beside (now (table .entry)) (now (entries .entry)) (now (history .entry)) (now (past .entry)) ⌝ }
 {
     let answer = outcome.answer;
     if answer.number() != number {
         return false;
     }
     if answer.place() != place {
+        return false;
+    }
+    if answer.second() != beside {
         return false;
     }
     if !same(table, entries) {

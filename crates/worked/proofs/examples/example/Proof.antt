@@ -34,7 +34,7 @@ is-row-requires : tie.Need-is-row-requires
 is-row-requires c κs = search needs
 
 expect-requires : tie.Need-expect-requires
-expect-requires c κs = c .is-row .ensures ∙ row-of _ _ _ _ (c .before .before .before .before .before .before .before .before .chain .ensures) (c .before .before .before .before .before .before .before .before .before .before .before .before .pre)
+expect-requires c κs = c .is-row .ensures ∙ row-of _ _ _ _ _ (c .before .before .before .before .before .before .before .before .chain .ensures) (c .before .before .before .before .before .before .before .before .before .before .before .before .pre)
 
 returns : tie.Need-returns
 returns c = search needs
