@@ -37,14 +37,14 @@ static void forget(struct area area) {
     for (uint32_t x = 0; x < area.darts; x++) area.before[x] = area.darts + 1;
 }
 
-/* Tests 3, 4 and 5: entries are darts, survivors lead to survivors, and no two lead to one. The lowest dart that breaks one of them, or D, and
- * beside it the dart noted at its successor, or D. */
-static uint32_t link_survivors(struct area area, uint32_t *beside) {
+/* Tests 3, 4 and 5: entries are darts, survivors lead to survivors, and no two lead to one. After no operation no dart is gone. The lowest dart
+ * that breaks one of them, or D, and beside it the dart noted at its successor, or D. */
+static inline uint32_t link_survivors(struct area area, uint32_t operations, uint32_t *beside) {
     for (uint32_t x = 0; x < area.darts; x++) {
         uint32_t y = area.map[x];
         *beside = area.darts;
         if (y >= area.darts) return x;
-        if (area.before[x] == area.darts) continue;
+        if (operations > 0 && area.before[x] == area.darts) continue;
         *beside = area.before[y];
         if (*beside != area.darts + 1) return x;
         area.before[y] = x;
@@ -56,14 +56,14 @@ static uint32_t link_survivors(struct area area, uint32_t *beside) {
 bool area_relink(struct area area, uint32_t operations) {
     uint32_t beside;
     forget(area);
-    return mark(area, operations) && link_survivors(area, &beside) == area.darts;
+    return mark(area, operations) && link_survivors(area, operations, &beside) == area.darts;
 }
 
 /* The permutation test of a table: no dart is gone. */
 uint32_t area_test_base(struct area area, const uint32_t *table, uint32_t *beside) {
     memcpy(area.map, table, area.darts * sizeof *table);
     forget(area);
-    return link_survivors(area, beside);
+    return link_survivors(area, 0, beside);
 }
 
 static inline void bind(struct area area, uint32_t a, uint32_t x) {

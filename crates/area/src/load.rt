@@ -8,7 +8,7 @@ ghost use Prim.Native.Nat.{_≤_, _<_};
 ghost use lib.ListN.{length};
 ghost use Rattle.darts.specs.Map.{passed};
 ghost use Rattle.area.specs.Area.{Room, bound, tried};
-ghost use Rattle.area.specs.Load.{marks, links, given, blank, relinks, loads, loadsBase};
+ghost use Rattle.area.specs.Load.{marks, goneIn, links, given, blank, relinks, loads, loadsBase};
 ghost use Rattle.area.specs.Verdicts.{verdictOf, said};
 
 impl Verdict {
@@ -57,11 +57,23 @@ fn mark(work: &mut [u32], d: usize, n: usize) -> bool
     true
 }
 
+// Whether dart x is marked as gone, by one of n operations. After none, as in a base, there is nothing to look at.
+fn gone(work: &[u32], d: usize, n: usize, x: usize) -> bool
+    requires { ⌜ Room d (now work) ⌝ }
+    requires { ⌜ x < d ⌝ }
+    ensures { λ r. ⌜ r ≡ goneIn d n (now (work .entry)) x ⌝ }
+{
+    if n == 0 {
+        return false;
+    }
+    at(work, d + x) == d
+}
+
 // The permutation test of the survivors: each is noted before its successor. The lowest dart whose entry is no dart, or that survives and leads to a
 // gone dart or to one where a lower survivor is noted, decides; beside it stands what is noted there, d for a gone dart or none.
-fn link(work: &mut [u32], d: usize) -> Verdict
+fn link(work: &mut [u32], d: usize, n: usize) -> Verdict
     requires { ⌜ Room d (now work) ⌝ }
-    ensures { λ r. ⌜ said (verdictOf r) (now (work .exit)) ≡ links d (now (work .entry)) 0 d ⌝ }
+    ensures { λ r. ⌜ said (verdictOf r) (now (work .exit)) ≡ links d n (now (work .entry)) 0 d ⌝ }
 {
     let mut x = 0;
     while x < d {
@@ -69,7 +81,7 @@ fn link(work: &mut [u32], d: usize) -> Verdict
         if d <= y {
             return Verdict::Culprits(x, d);
         }
-        if at(work, d + x) == d {
+        if gone(work, d, n, x) {
             x += 1;
         } else {
             let noted = at(work, d + y);
@@ -112,7 +124,7 @@ pub fn relink(work: &mut [u32], d: usize, n: usize) -> bool
 {
     forget(work, d);
     if mark(work, d, n) {
-        let verdict = link(work, d);
+        let verdict = link(work, d, n);
         return verdict.passes();
     }
     false
@@ -136,5 +148,5 @@ pub fn load_base(work: &mut [u32], d: usize, table: &[u32]) -> Verdict
 {
     copy(work, table, d);
     forget(work, d);
-    link(work, d)
+    link(work, d, 0)
 }

@@ -2,7 +2,7 @@
 --   Tested D t w v u == v is what the test says of t, and u is as w was from 4D on
 --   base-tested      == so it is
 use mathlib.Core.List.{List, []}
-use mathlib.Core.Path.{_≡_, sym, ap, _∙_}
+use mathlib.Core.Path.{_≡_, refl, ap, _∙_}
 use Prim.Native.Nat.{ℕ, _*_, _≤_}
 use native.Mathlib.Omega.{arith}
 use lib.ListN.{length, take, drop}
@@ -34,8 +34,8 @@ module _ (D : ℕ) (t w : List ℕ) (room : Room D w) (long : D ≤ length t) wh
   unfolding gone
   none-gone = E .unknown
 
-  L : Links D (take D t) [] D 0 e (links D e 0 D)
-  L = links-right D (take D t) [] e (E .table) (omega (arith, E .size, room .fits)) none-gone
+  L : Links D (take D t) [] D 0 e (links D 0 e 0 D)
+  L = links-right D 0 (take D t) [] e (λ _. refl) (E .table) (omega (arith, E .size, room .fits)) none-gone
 
   -- THE PERMUTATION TEST, AND NOTHING PAST 4D
   pub base-tested : {v : Verdict} {u : List ℕ} → said v u ≡ loadsBase D t w → Tested D t w v u

@@ -1,13 +1,14 @@
 -- Each survivor noted before its successor: tests 3, 4 and 5.
 --   Linking D t past x w == the before part holds what the first x darts say
 --   Links D t past m x w a == a is what noting the last m darts, from x on, gives
+--   Many n past          == n operations have gone: where n is 0, there is no past
 --   links-right          == the darts are tested as the table's are, and the dart before each survivor is noted
 use mathlib.Core.Bool.{Bool, true, false, not, _&&_, _||_}
-use mathlib.Core.List.{List}
+use mathlib.Core.List.{List, []}
 use mathlib.Core.Logic.{_≢_}
 use mathlib.Core.Path.{_≡_, refl, sym, ap, _∙_, subst}
 use Prim.Native.Nat.{ℕ, zero, suc, _+_, _*_, _≤_, _<_}
-use native.Mathlib.Decide.{ℕ-discrete}
+use native.Mathlib.Decide.{ℕ-discrete, decLt}
 use native.Mathlib.Nat.{zero-add}
 use native.Mathlib.Omega.{arith}
 use lib.Dec.{T, eqb, leb, ltb, leb→le, le→leb, nleb→lt, ltb→lt, lt→ltb, T-not}
@@ -19,7 +20,7 @@ use Rattle.darts.specs.Map.{successor, gone, survives, beforeIn, permutes, culp
 use Rattle.darts.specs.Tests.{led, links as linksOf, blamed, linksFrom}
 use Rattle.area.specs.Area.{prev, tableIn}
 use Rattle.area.specs.Verdicts.{Said, said}
-use Rattle.area.specs.Load.{links}
+use Rattle.area.specs.Load.{goneIn, links}
 use Rattle.engine.proofs.Parts.{successor-in}
 use Rattle.engine.proofs.Marked.{Marked}
 
@@ -45,15 +46,27 @@ before-below (suc x) t past y h = go (survives past x && eqb (successor t x) y) 
     go true h below = omega arith
     go false h below = omega (arith, below h)
 
+-- no operation leaves no past
+abbrev pub Many : ℕ → List ℕ → Type 0
+Many n past = n ≡ 0 → past ≡ []
+
 module _ {D : ℕ} {t past : List ℕ} {x : ℕ} {w : List ℕ} (xD : x < D) (L : Linking D t past x w) where
   -- gone is what is noted as D
-  gone-noted : eqb (prev D w x) D ≡ gone past x
-  gone-noted = rw (L .each x xD) (go (gone past x) (led t past x x) refl)
+  noted-gone : eqb (prev D w x) D ≡ gone past x
+  noted-gone = rw (L .each x xD) (go (gone past x) (led t past x x) refl)
     where
       go : (g b : Bool) → led t past x x ≡ b → eqb (if g then D else if b then beforeIn x t past x else D + 1) D ≡ g
       go true b e = eqb-same {m = D} refl
       go false true e = let n : beforeIn x t past x ≢ D = omega (arith, before-below x t past x (true→T e)) in eqb-other n
       go false false e = let n : D + 1 ≢ D = omega arith in eqb-other n
+
+  gone-noted : {n : ℕ} → Many n past → goneIn D n w x ≡ gone past x
+  unfolding goneIn gone
+  gone-noted {n} many = go (decLt 0 n)
+    where
+      go : Dec (0 < n) → (ltb 0 n && eqb (prev D w x) D) ≡ gone past x
+      go (yes l) = rw (T→true (ltb 0 n) (lt→ltb 0 n l)) noted-gone
+      go (no l) = rw (nT→false (ltb 0 n) (λ k. l (ltb→lt 0 n k)), many (omega arith))
 
   -- a survivor to which none leads yet is what is noted as D + 1
   free-noted : (y : ℕ) → y < D → eqb (prev D w y) (D + 1) ≡ (survives past y && not (led t past x y))
@@ -113,7 +126,7 @@ carried {D} {m} {z} {t} {past} {a} w x y yD L = record {
   size = L .size ∙ length-set w (D + y) x;
 }
 
-module _ (D : ℕ) (t past : List ℕ) (x m : ℕ) (w : List ℕ) (held : tableIn D w ≡ t) (xD : x < D) (fits : 2 * D ≤ length w)
+module _ (D n : ℕ) (t past : List ℕ) (many : Many n past) (x m : ℕ) (w : List ℕ) (held : tableIn D w ≡ t) (xD : x < D) (fits : 2 * D ≤ length w)
     (L : Linking D t past x w) where
   abbrev y : ℕ
   y = successor t x
@@ -126,7 +139,7 @@ module _ (D : ℕ) (t past : List ℕ) (x m : ℕ) (w : List ℕ) (held : tableI
 
   -- x survives: it is noted before y, if y is free
   abbrev noting : Said
-  noting = if not (eqb (prev D w y) (D + 1)) then said (culprits x (prev D w y)) w else links D v (suc x) m
+  noting = if not (eqb (prev D w y) (D + 1)) then said (culprits x (prev D w y)) w else links D n v (suc x) m
 
   here : successor w x ≡ y
   here = sym (successor-in D w x xD) ∙ ap (λ l. successor l x) held
@@ -148,40 +161,40 @@ module _ (D : ℕ) (t past : List ℕ) (x m : ℕ) (w : List ℕ) (held : tableI
   unfolding survives
   survivor h = nT→false (gone past y) (T-not (gone past y) (and-left (survives past y) (not (led t past x y)) h))
 
-  one-link : (Linking D t past (suc x) w → Links D t past m (suc x) w (links D w (suc x) m))
-      → (Linking D t past (suc x) v → Links D t past m (suc x) v (links D v (suc x) m))
-      → Links D t past (suc m) x w (links D w x (suc m))
+  one-link : (Linking D t past (suc x) w → Links D t past m (suc x) w (links D n w (suc x) m))
+      → (Linking D t past (suc x) v → Links D t past m (suc x) v (links D n v (suc x) m))
+      → Links D t past (suc m) x w (links D n w x (suc m))
   unfolding links linksOf
-  one-link passed noted = rw (here, gone-noted xD L) (low (leb D y) refl)
+  one-link passed noted = rw (here, gone-noted xD L many) (low (leb D y) refl)
     where
       stand : y < D → T (gone past x || free) → T (ltb y D && (gone past x || free))
       stand yD h = and-intro (ltb y D) (gone past x || free) (lt→ltb y D yD) h
 
       onto : y < D → gone past x ≡ false → (b : Bool) → free ≡ b
-          → Links D t past (suc m) x w (if not b then said (culprits x (prev D w y)) w else links D v (suc x) m)
+          → Links D t past (suc m) x w (if not b then said (culprits x (prev D w y)) w else links D n v (suc x) m)
       onto yD g true f = let h : T free = true→T f in goes (stand yD (rw g h)) (carried w x y yD (noted (note L g (survivor h) yD fits)))
       onto yD g false f = stops (prev D w y) (λ h. rw (g, f) at (and-right (ltb y D) (gone past x || free) h)) (blamed-noted xD L yD f)
 
-      there : y < D → (b : Bool) → gone past x ≡ b → Links D t past (suc m) x w (if b then links D w (suc x) m else noting)
+      there : y < D → (b : Bool) → gone past x ≡ b → Links D t past (suc m) x w (if b then links D n w (suc x) m else noting)
       there yD true g = goes (stand yD (rw g tt)) (passed (pass L g))
       there yD false g = rw (free-noted xD L y yD) (onto yD g free refl)
 
       low : (b : Bool) → leb D y ≡ b
-          → Links D t past (suc m) x w (if b then said (culprits x D) w else if gone past x then links D w (suc x) m else noting)
+          → Links D t past (suc m) x w (if b then said (culprits x D) w else if gone past x then links D n w (suc x) m else noting)
       low true e =
           let l = leb→le D y (true→T e) in
           stops D (λ h. omega (arith, ltb→lt y D (and-left (ltb y D) (gone past x || free) h))) (far l)
       low false e = there (nleb→lt D y (rw e tt)) (gone past x) refl
 
-links-from : (m D : ℕ) (t past : List ℕ) (x : ℕ) (w : List ℕ) → tableIn D w ≡ t → x + m ≡ D → 2 * D ≤ length w → Linking D t past x w
-    → Links D t past m x w (links D w x m)
-links-from zero D t past x w e all fits L = unfold links linksFrom in let k : x ≡ D = omega arith in told refl refl (λ h. rw k at L)
-links-from (suc m) D t past x w e all fits L =
-    one-link D t past x m w e (omega arith) fits L
-    (λ M. links-from m D t past (suc x) w e (omega arith) fits M)
-    (λ M. links-from m D t past (suc x) (set w (D + successor t x) x) (take-set-le D w (D + successor t x) x (omega arith) ∙ e) (omega arith) (rw length-set fits) M)
+links-from : (m D n : ℕ) (t past : List ℕ) → Many n past → (x : ℕ) (w : List ℕ) → tableIn D w ≡ t → x + m ≡ D → 2 * D ≤ length w → Linking D t past x w
+    → Links D t past m x w (links D n w x m)
+links-from zero D n t past many x w e all fits L = unfold links linksFrom in let k : x ≡ D = omega arith in told refl refl (λ h. rw k at L)
+links-from (suc m) D n t past many x w e all fits L =
+    one-link D n t past many x m w e (omega arith) fits L
+    (λ M. links-from m D n t past many (suc x) w e (omega arith) fits M)
+    (λ M. links-from m D n t past many (suc x) (set w (D + successor t x) x) (take-set-le D w (D + successor t x) x (omega arith) ∙ e) (omega arith) (rw length-set fits) M)
 
 -- THE DARTS ARE TESTED AS THE TABLE'S ARE
-pub links-right : (D : ℕ) (t past w : List ℕ) → tableIn D w ≡ t → 2 * D ≤ length w → Marked D past w → Links D t past D 0 w (links D w 0 D)
+pub links-right : (D n : ℕ) (t past w : List ℕ) → Many n past → tableIn D w ≡ t → 2 * D ≤ length w → Marked D past w → Links D t past D 0 w (links D n w 0 D)
 unfolding led
-links-right D t past w e fits M = links-from D D t past 0 w e (zero-add D) fits (record { each = M })
+links-right D n t past w many e fits M = links-from D D n t past many 0 w e (zero-add D) fits (record { each = M })

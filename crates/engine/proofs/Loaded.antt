@@ -107,10 +107,10 @@ module _ {D : ℕ} (stands : LinkedStand D) (n : ℕ) (t h w : List ℕ) (room :
 
   module _ (f : T (a .fine)) where
     abbrev v : Tried
-    v = passing (links D (a .work) 0 D)
+    v = passing (links D n (a .work) 0 D)
 
-    L : Links D (take D t) past D 0 (a .work) (links D (a .work) 0 D)
-    L = links-right D (take D t) past (a .work) (M .table ∙ E .table) (omega (arith, M .size, E .size, room .fits)) (rw (E .past) at (M .marked f))
+    L : Links D (take D t) past D 0 (a .work) (links D n (a .work) 0 D)
+    L = links-right D n (take D t) past (a .work) (λ e. rw e refl) (M .table ∙ E .table) (omega (arith, M .size, E .size, room .fits)) (rw (E .past) at (M .marked f))
 
     v-table : tableIn D (v .work) ≡ take D t
     v-table = L .table ∙ M .table ∙ E .table
@@ -145,11 +145,11 @@ module _ {D : ℕ} (stands : LinkedStand D) (n : ℕ) (t h w : List ℕ) (room :
       size = v-size;
     }
 
-  laid-right : Loaded D n t h w (linksAfter D (marks D e 0 n))
+  laid-right : Loaded D n t h w (linksAfter D n (marks D e 0 n))
   unfolding linksAfter
   laid-right = go (a .fine) refl
     where
-      go : (b : Bool) → a .fine ≡ b → Loaded D n t h w (if b then passing (links D (a .work) 0 D) else a)
+      go : (b : Bool) → a .fine ≡ b → Loaded D n t h w (if b then passing (links D n (a .work) 0 D) else a)
       go true f = accepted (true→T f)
       go false f = refused f
 

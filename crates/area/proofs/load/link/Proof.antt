@@ -1,11 +1,12 @@
 -- `area::load::link` meets its contract: what is to be linked from dart x on, in the work area as it is, is what was to be linked from the start.
 --
---   Linking D w₀ w x == that, with the bounds
+--   Linking D n w₀ w x == that, with the bounds
 --   link-large       == an entry that is no dart: d beside it
 --   link-gone        == x is gone: nothing is noted
 --   link-taken       == x leads to a gone dart, or to one that another survivor leads to: what is noted there beside it
 --   link-on          == x is noted before its successor
 --   link-end         == all are linked
+use mathlib.Core.Bool.{true, false}
 use mathlib.Core.List.{List}
 use mathlib.Core.Logic.{_≢_}
 use mathlib.Core.Path.{_≡_, refl, sym, ap, _∙_}
@@ -19,61 +20,61 @@ use borrow.Author.Tests.{eq-eqb, ne-eqb, le-leb, lt-leb}
 use Rattle.darts.specs.Map.{successor, permutes, culprits}
 use Rattle.area.specs.Area.{prev}
 use Rattle.area.specs.Verdicts.{said}
-use Rattle.area.specs.Load.{links}
+use Rattle.area.specs.Load.{goneIn, links}
 use Rattle.area.proofs.load.link.Statement.{statement}
 use Rattle.area.proofs.load.link.Tie as tie
 
-record Linking (D : ℕ) (w₀ w : List ℕ) (x : ℕ) : Type 0 where
+record Linking (D n : ℕ) (w₀ w : List ℕ) (x : ℕ) : Type 0 where
   size : length w ≡ length w₀
   bound : x ≤ D
-  same : links D w₀ 0 D ≡ links D w x (D - x)
+  same : links D n w₀ 0 D ≡ links D n w x (D - x)
 
-link-begin : (D : ℕ) (w : List ℕ) → Linking D w w 0
-link-begin D w = record { size = refl; bound = omega arith; same = ap (links D w 0) (sym (sub-zero D)) }
+link-begin : (D n : ℕ) (w : List ℕ) → Linking D n w w 0
+link-begin D n w = record { size = refl; bound = omega arith; same = ap (links D n w 0) (sym (sub-zero D)) }
 
-module _ {D : ℕ} {w₀ w : List ℕ} {x : ℕ} (k : Linking D w₀ w x) where
+module _ {D n : ℕ} {w₀ w : List ℕ} {x : ℕ} (k : Linking D n w₀ w x) where
   module _ {y : ℕ} (more : x < D) (here : y ≡ getD w x 0) where
     left : D - x ≡ suc (D - (x + 1))
     left = omega arith
 
-    link-large : D ≤ y → said (culprits x D) w ≡ links D w₀ 0 D
+    link-large : D ≤ y → said (culprits x D) w ≡ links D n w₀ 0 D
     unfolding links successor
     link-large l = sym (k .same ∙ rw (left, ← here, le-leb D y l))
 
-    link-gone : y < D → getD w (D + x) 0 ≡ D → Linking D w₀ w (x + 1)
+    link-gone : y < D → goneIn D n w x ≡ true → Linking D n w₀ w (x + 1)
     unfolding links successor prev
     link-gone l g =
         record {
           size = k .size;
           bound = omega arith;
-          same = k .same ∙ rw (left, ← here, lt-leb D y l, eq-eqb (getD w (D + x) 0) D g, add-one x);
+          same = k .same ∙ rw (left, ← here, lt-leb D y l, g, add-one x);
         }
 
-    link-taken : y < D → getD w (D + x) 0 ≢ D → {b : ℕ} → b ≡ getD w (D + y) 0 → b ≢ D + 1 → said (culprits x b) w ≡ links D w₀ 0 D
+    link-taken : y < D → goneIn D n w x ≡ false → {b : ℕ} → b ≡ getD w (D + y) 0 → b ≢ D + 1 → said (culprits x b) w ≡ links D n w₀ 0 D
     unfolding links successor prev
-    link-taken l s {b} e o = sym (k .same ∙ rw (left, ← here, lt-leb D y l, ne-eqb (getD w (D + x) 0) D s, ← e, ne-eqb b (D + 1) o))
+    link-taken l s {b} e o = sym (k .same ∙ rw (left, ← here, lt-leb D y l, s, ← e, ne-eqb b (D + 1) o))
 
-    link-on : y < D → getD w (D + x) 0 ≢ D → getD w (D + y) 0 ≡ D + 1 → Linking D w₀ (set w (D + y) x) (x + 1)
+    link-on : y < D → goneIn D n w x ≡ false → getD w (D + y) 0 ≡ D + 1 → Linking D n w₀ (set w (D + y) x) (x + 1)
     unfolding links successor prev
     link-on l s o =
         record {
           size = length-set w (D + y) x ∙ k .size;
           bound = omega arith;
-          same = k .same ∙ rw (left, ← here, lt-leb D y l, ne-eqb (getD w (D + x) 0) D s, eq-eqb (getD w (D + y) 0) (D + 1) o, add-one x);
+          same = k .same ∙ rw (left, ← here, lt-leb D y l, s, eq-eqb (getD w (D + y) 0) (D + 1) o, add-one x);
         }
 
-  link-end : D ≤ x → said permutes w ≡ links D w₀ 0 D
+  link-end : D ≤ x → said permutes w ≡ links D n w₀ 0 D
   unfolding links
   link-end l = let e : D - x ≡ 0 = omega arith in sym (k .same ∙ rw e)
 
 abbrev Inv-loop : tie.InvT-loop
-Inv-loop work₀ d x₀ work x = Linking d work₀ work x
+Inv-loop work₀ d n x₀ work x = Linking d n work₀ work x
 
 abbrev μ-loop : tie.MeasureT-loop
-μ-loop work₀ d x₀ work x = d - x
+μ-loop work₀ d n x₀ work x = d - x
 
 loop-holds : tie.Need-loop-holds Inv-loop μ-loop
-loop-holds c = link-begin _ _
+loop-holds c = link-begin _ _ _
 
 at-requires : tie.Need-at-requires Inv-loop μ-loop
 at-requires c κs = search needs
@@ -84,11 +85,8 @@ same-length c = search needs
 returns : tie.Need-returns Inv-loop μ-loop
 returns c = link-large (c .before .before .before .before .loop .inv) (c .before .before .before .loop-test .taken) (c .before .at .ensures) (c .if1 .taken)
 
-add-at : tie.Need-add-at Inv-loop μ-loop
-add-at c = search needs
-
-at-requires-2 : tie.Need-at-requires-2 Inv-loop μ-loop
-at-requires-2 c κs = search needs
+gone-requires : tie.Need-gone-requires Inv-loop μ-loop
+gone-requires c κs = search needs
 
 add-x : tie.Need-add-x Inv-loop μ-loop
 add-x c = search needs
@@ -98,15 +96,15 @@ loop-less c = search needs
 
 loop-again : tie.Need-loop-again Inv-loop μ-loop
 loop-again c =
-    let k = c .before .before .before .before .before .before .before .loop .inv in
-    let y = c .before .before .before .before .at .ensures in
-    link-gone k (c .before .before .before .before .before .before .loop-test .taken) y (c .before .before .before .if1 .left) (sym (c .before .at2 .ensures) ∙ c .if2 .taken)
+    let looked = c .before .before .before .before in
+    link-gone (looked .before .before .before .loop .inv) (looked .before .before .loop-test .taken) (looked .at .ensures) (c .before .before .before .if1 .left)
+    (sym (c .before .gone .ensures) ∙ c .if2 .taken)
 
-add-at-2 : tie.Need-add-at-2 Inv-loop μ-loop
-add-at-2 c = search needs
+add-at : tie.Need-add-at Inv-loop μ-loop
+add-at c = search needs
 
-at-requires-3 : tie.Need-at-requires-3 Inv-loop μ-loop
-at-requires-3 c κs = search needs
+at-requires-2 : tie.Need-at-requires-2 Inv-loop μ-loop
+at-requires-2 c κs = search needs
 
 add-if3 : tie.Need-add-if3 Inv-loop μ-loop
 add-if3 c = search needs
@@ -116,10 +114,9 @@ same-length-2 c = search needs
 
 returns-2 : tie.Need-returns-2 Inv-loop μ-loop
 returns-2 c =
-    let k = c .before .before .before .before .before .before .before .before .before .before .loop .inv in
-    let more = c .before .before .before .before .before .before .before .before .before .loop-test .taken in
-    let y = c .before .before .before .before .before .before .before .at .ensures in
-    link-taken k more y (c .before .before .before .before .before .before .if1 .left) (λ e. c .before .before .before .if2 .left (c .before .before .before .before .at2 .ensures ∙ e)) (c .before .at3 .ensures) (c .if3 .taken)
+    let looked = c .before .before .before .before .before .before .before in
+    link-taken (looked .before .before .before .loop .inv) (looked .before .before .loop-test .taken) (looked .at .ensures) (c .before .before .before .before .before .before .if1 .left)
+    (sym (c .before .before .before .before .gone .ensures) ∙ c .before .before .before .if2 .left) (c .before .at2 .ensures) (c .if3 .taken)
 
 cast-work : tie.Need-cast-work Inv-loop μ-loop
 cast-work c = search needs
@@ -141,10 +138,9 @@ loop-less-2 c = search needs
 
 loop-again-2 : tie.Need-loop-again-2 Inv-loop μ-loop
 loop-again-2 c =
-    let k = c .before .before .before .before .before .before .before .before .before .before .loop .inv in
-    let more = c .before .before .before .before .before .before .before .before .before .loop-test .taken in
-    let y = c .before .before .before .before .before .before .before .at .ensures in
-    link-on k more y (c .before .before .before .before .before .before .if1 .left) (λ e. c .before .before .before .if2 .left (c .before .before .before .before .at2 .ensures ∙ e)) (sym (c .before .at3 .ensures) ∙ c .if3 .left)
+    let looked = c .before .before .before .before .before .before .before in
+    link-on (looked .before .before .before .loop .inv) (looked .before .before .loop-test .taken) (looked .at .ensures) (c .before .before .before .before .before .before .if1 .left)
+    (sym (c .before .before .before .before .gone .ensures) ∙ c .before .before .before .if2 .left) (sym (c .before .at2 .ensures) ∙ c .if3 .left)
 
 same-length-3 : tie.Need-same-length-3 Inv-loop μ-loop
 same-length-3 c = search needs
@@ -162,13 +158,12 @@ link-spec =
     at-requires
     same-length
     returns
-    add-at
-    at-requires-2
+    gone-requires
     add-x
     loop-less
     loop-again
-    add-at-2
-    at-requires-3
+    add-at
+    at-requires-2
     add-if3
     same-length-2
     returns-2

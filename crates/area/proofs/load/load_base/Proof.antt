@@ -23,9 +23,9 @@ module _ (D : ℕ) (t w : List ℕ) where
       let v = laid w 0 (take D t) in
       e ∙ sym (laid-over w (take D t)) ∙ sym (rw (add-zero (3 * D)) (take-append-drop (3 * D) v))
 
-  base-linked : {u f : List ℕ} → u ≡ over (take D t) w → f ≡ blank D u → {a : Said} → a ≡ links D f 0 D → a ≡ loadsBase D t w
+  base-linked : {u f : List ℕ} → u ≡ over (take D t) w → f ≡ blank D u → {a : Said} → a ≡ links D 0 f 0 D → a ≡ loadsBase D t w
   unfolding loadsBase
-  base-linked e blanked linked = linked ∙ ap (λ l. links D l 0 D) (blanked ∙ ap (blank D) (given-table e))
+  base-linked e blanked linked = linked ∙ ap (λ l. links D 0 l 0 D) (blanked ∙ ap (blank D) (given-table e))
 
 copy-requires : tie.Need-copy-requires
 copy-requires c κs = search needs

@@ -15,11 +15,11 @@ use Rattle.area.proofs.load.relink.Statement.{statement}
 use Rattle.area.proofs.load.relink.Tie as tie
 
 module _ (D n : ℕ) (w : List ℕ) {f v : List ℕ} {m : Bool} (blanked : f ≡ blank D w) (marked : tried m v ≡ marks D f 0 n) where
-  after : linksAfter D (tried m v) ≡ relinks D n w
+  after : linksAfter D n (tried m v) ≡ relinks D n w
   unfolding relinks
-  after = ap (linksAfter D) (rw blanked at marked)
+  after = ap (linksAfter D n) (rw blanked at marked)
 
-  relink-linked : m ≡ true → {u : Verdict} {x : List ℕ} → said u x ≡ links D v 0 D → {r : Bool} → r ≡ passed u → tried r x ≡ relinks D n w
+  relink-linked : m ≡ true → {u : Verdict} {x : List ℕ} → said u x ≡ links D n v 0 D → {r : Bool} → r ≡ passed u → tried r x ≡ relinks D n w
   unfolding linksAfter
   relink-linked fine {u} {x} linked passes = ap (λ b. tried b x) passes ∙ ap passing linked ∙ (rw fine at after)
 
