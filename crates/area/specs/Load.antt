@@ -2,6 +2,8 @@
 --   marks D w i m      == the m history numbers from place i on: their edges are marked as gone (tests 1 and 2)
 --   links D n w x m    == the m darts from x on, n operations having gone before: each survivor is noted before its successor (tests 3, 4 and 5), or who keeps it from that
 --   goneIn D n w x     == x is marked as gone, by one of n operations
+--   besideIn D w x     == the second culprit beside x
+--   verdictAt D w x    == what the test says where it stopped at x
 --   given D n t h w    == table and history laid
 --   blank D w          == nothing is known of the dart before each dart
 --   relinks D n w      == the dart before each survivor found anew: blank, then marks and links
@@ -14,7 +16,7 @@ use lib.Dec.{eqb, leb, ltb}
 use lib.ListN.{set, take, replicate}
 use Rattle.slices.specs.Laid.{laid}
 use Rattle.darts.specs.Choose.{if_then_else_}
-use Rattle.darts.specs.Map.{successor, permutes, culprits}
+use Rattle.darts.specs.Map.{successor, Verdict, permutes, culprits}
 use Rattle.area.specs.Area.{prev, stamp, Tried, tried}
 use Rattle.area.specs.Verdicts.{Said, said, passing}
 
@@ -31,6 +33,14 @@ marks D w i (suc m) =
 -- x is marked as gone; after no operation none is
 unfoldable pub goneIn : ℕ → ℕ → List ℕ → ℕ → Bool
 goneIn D n w x = ltb 0 n && eqb (prev D w x) D
+
+-- what is noted at the successor of x, D where that is no dart
+unfoldable pub besideIn : ℕ → List ℕ → ℕ → ℕ
+besideIn D w x = if leb D (successor w x) then D else prev D w (successor w x)
+
+-- the darts below x are linked, and x is not, or all are
+unfoldable pub verdictAt : ℕ → List ℕ → ℕ → Verdict
+verdictAt D w x = if ltb x D then culprits x (besideIn D w x) else permutes
 
 -- test 3: the entry is below D; tests 4 and 5: a survivor's entry survives, and no survivor was noted there
 unfoldable pub links : ℕ → ℕ → List ℕ → ℕ → ℕ → Said

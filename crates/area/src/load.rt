@@ -8,7 +8,7 @@ ghost use Prim.Native.Nat.{_≤_, _<_};
 ghost use lib.ListN.{length};
 ghost use Rattle.darts.specs.Map.{passed};
 ghost use Rattle.area.specs.Area.{Room, bound, tried};
-ghost use Rattle.area.specs.Load.{marks, goneIn, links, given, blank, relinks, loads, loadsBase};
+ghost use Rattle.area.specs.Load.{marks, goneIn, besideIn, verdictAt, links, given, blank, relinks, loads, loadsBase};
 ghost use Rattle.area.specs.Verdicts.{verdictOf, said};
 
 impl Verdict {
@@ -69,28 +69,52 @@ fn gone(work: &[u32], d: usize, n: usize, x: usize) -> bool
     at(work, d + x) == d
 }
 
-// The permutation test of the survivors: each is noted before its successor. The lowest dart whose entry is no dart, or that survives and leads to a
-// gone dart or to one where a lower survivor is noted, decides; beside it stands what is noted there, d for a gone dart or none.
-fn link(work: &mut [u32], d: usize, n: usize) -> Verdict
+// Each survivor is noted before its successor, up to the lowest dart whose entry is no dart, or that survives and leads to a gone dart or to one where
+// a lower survivor is noted. That dart, or d.
+fn link(work: &mut [u32], d: usize, n: usize) -> usize
     requires { ⌜ Room d (now work) ⌝ }
-    ensures { λ r. ⌜ said (verdictOf r) (now (work .exit)) ≡ links d n (now (work .entry)) 0 d ⌝ }
+    ensures { λ r. ⌜ said (verdictAt d (now (work .exit)) r) (now (work .exit)) ≡ links d n (now (work .entry)) 0 d ⌝ }
 {
     let mut x = 0;
     while x < d {
         let y = at(work, x);
         if d <= y {
-            return Verdict::Culprits(x, d);
+            return x;
         }
         if gone(work, d, n, x) {
             x += 1;
         } else {
-            let noted = at(work, d + y);
-            if noted != d + 1 {
-                return Verdict::Culprits(x, noted);
+            if at(work, d + y) != d + 1 {
+                return x;
             }
             work[d + y] = x as u32;
             x += 1;
         }
+    }
+    x
+}
+
+// The second culprit beside x: what is noted at its successor, which is d for a gone dart, or d where that is no dart.
+fn beside(work: &[u32], d: usize, x: usize) -> usize
+    requires { ⌜ Room d (now work) ⌝ }
+    requires { ⌜ x < d ⌝ }
+    ensures { λ r. ⌜ r ≡ besideIn d (now (work .entry)) x ⌝ }
+{
+    let y = at(work, x);
+    if d <= y {
+        return d;
+    }
+    at(work, d + y)
+}
+
+// The permutation test of the survivors of n operations.
+fn test(work: &mut [u32], d: usize, n: usize) -> Verdict
+    requires { ⌜ Room d (now work) ⌝ }
+    ensures { λ r. ⌜ said (verdictOf r) (now (work .exit)) ≡ links d n (now (work .entry)) 0 d ⌝ }
+{
+    let x = link(work, d, n);
+    if x < d {
+        return Verdict::Culprits(x, beside(work, d, x));
     }
     Verdict::Permutes
 }
@@ -124,7 +148,7 @@ pub fn relink(work: &mut [u32], d: usize, n: usize) -> bool
 {
     forget(work, d);
     if mark(work, d, n) {
-        let verdict = link(work, d, n);
+        let verdict = test(work, d, n);
         return verdict.passes();
     }
     false
@@ -148,5 +172,5 @@ pub fn load_base(work: &mut [u32], d: usize, table: &[u32]) -> Verdict
 {
     copy(work, table, d);
     forget(work, d);
-    link(work, d, 0)
+    test(work, d, 0)
 }

@@ -16,11 +16,11 @@ use native.Mathlib.Numerals.{add-one}
 use native.Mathlib.Omega.{arith}
 use lib.ListN.{length, getD, set, length-set}
 use borrow.Author.Needs.{needs}
-use borrow.Author.Tests.{eq-eqb, ne-eqb, le-leb, lt-leb}
-use Rattle.darts.specs.Map.{successor, permutes, culprits}
+use borrow.Author.Tests.{eq-eqb, ne-eqb, le-leb, lt-leb, lt-ltb, le-ltb}
+use Rattle.darts.specs.Map.{successor}
 use Rattle.area.specs.Area.{prev}
 use Rattle.area.specs.Verdicts.{said}
-use Rattle.area.specs.Load.{goneIn, links}
+use Rattle.area.specs.Load.{goneIn, besideIn, verdictAt, links}
 use Rattle.area.proofs.load.link.Statement.{statement}
 use Rattle.area.proofs.load.link.Tie as tie
 
@@ -37,9 +37,9 @@ module _ {D n : ℕ} {w₀ w : List ℕ} {x : ℕ} (k : Linking D n w₀ w x) wh
     left : D - x ≡ suc (D - (x + 1))
     left = omega arith
 
-    link-large : D ≤ y → said (culprits x D) w ≡ links D n w₀ 0 D
-    unfolding links successor
-    link-large l = sym (k .same ∙ rw (left, ← here, le-leb D y l))
+    link-large : D ≤ y → said (verdictAt D w x) w ≡ links D n w₀ 0 D
+    unfolding links verdictAt besideIn successor
+    link-large l = sym (k .same ∙ rw (left, ← here, le-leb D y l, lt-ltb x D more))
 
     link-gone : y < D → goneIn D n w x ≡ true → Linking D n w₀ w (x + 1)
     unfolding links successor prev
@@ -50,9 +50,9 @@ module _ {D n : ℕ} {w₀ w : List ℕ} {x : ℕ} (k : Linking D n w₀ w x) wh
           same = k .same ∙ rw (left, ← here, lt-leb D y l, g, add-one x);
         }
 
-    link-taken : y < D → goneIn D n w x ≡ false → {b : ℕ} → b ≡ getD w (D + y) 0 → b ≢ D + 1 → said (culprits x b) w ≡ links D n w₀ 0 D
-    unfolding links successor prev
-    link-taken l s {b} e o = sym (k .same ∙ rw (left, ← here, lt-leb D y l, s, ← e, ne-eqb b (D + 1) o))
+    link-taken : y < D → goneIn D n w x ≡ false → getD w (D + y) 0 ≢ D + 1 → said (verdictAt D w x) w ≡ links D n w₀ 0 D
+    unfolding links verdictAt besideIn successor prev
+    link-taken l s o = sym (k .same ∙ rw (left, ← here, lt-leb D y l, s, ne-eqb (getD w (D + y) 0) (D + 1) o, lt-ltb x D more))
 
     link-on : y < D → goneIn D n w x ≡ false → getD w (D + y) 0 ≡ D + 1 → Linking D n w₀ (set w (D + y) x) (x + 1)
     unfolding links successor prev
@@ -63,9 +63,9 @@ module _ {D n : ℕ} {w₀ w : List ℕ} {x : ℕ} (k : Linking D n w₀ w x) wh
           same = k .same ∙ rw (left, ← here, lt-leb D y l, s, eq-eqb (getD w (D + y) 0) (D + 1) o, add-one x);
         }
 
-  link-end : D ≤ x → said permutes w ≡ links D n w₀ 0 D
-  unfolding links
-  link-end l = let e : D - x ≡ 0 = omega arith in sym (k .same ∙ rw e)
+  link-end : D ≤ x → said (verdictAt D w x) w ≡ links D n w₀ 0 D
+  unfolding links verdictAt
+  link-end l = let e : D - x ≡ 0 = omega arith in sym (k .same ∙ rw (e, le-ltb x D l))
 
 abbrev Inv-loop : tie.InvT-loop
 Inv-loop work₀ d n x₀ work x = Linking d n work₀ work x
@@ -116,7 +116,7 @@ returns-2 : tie.Need-returns-2 Inv-loop μ-loop
 returns-2 c =
     let looked = c .before .before .before .before .before .before .before in
     link-taken (looked .before .before .before .loop .inv) (looked .before .before .loop-test .taken) (looked .at .ensures) (c .before .before .before .before .before .before .if1 .left)
-    (sym (c .before .before .before .before .gone .ensures) ∙ c .before .before .before .if2 .left) (c .before .at2 .ensures) (c .if3 .taken)
+    (sym (c .before .before .before .before .gone .ensures) ∙ c .before .before .before .if2 .left) (λ e. c .if3 .taken (c .before .at2 .ensures ∙ e))
 
 cast-work : tie.Need-cast-work Inv-loop μ-loop
 cast-work c = search needs

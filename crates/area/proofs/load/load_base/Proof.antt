@@ -33,15 +33,15 @@ copy-requires c κs = search needs
 forget-requires : tie.Need-forget-requires
 forget-requires c κs = search needs
 
-link-requires : tie.Need-link-requires
-link-requires c κs = search needs
+test-requires : tie.Need-test-requires
+test-requires c κs = search needs
 
 same-length : tie.Need-same-length
 same-length c = search needs
 
 returns : tie.Need-returns
-returns c = base-linked _ _ _ (c .before .before .before .before .before .before .before .before .before .before .copy .ensures) (c .before .before .before .before .before .before .forget .ensures) (c .before .before .link .ensures)
+returns c = base-linked _ _ _ (c .before .before .before .before .before .before .before .before .before .before .copy .ensures) (c .before .before .before .before .before .before .forget .ensures) (c .before .before .test .ensures)
 
 pub load-base-spec : {M : Type 1} → statement M
 load-base-spec =
-    tie.close (tie.spec copy-requires forget-requires link-requires same-length returns)
+    tie.close (tie.spec copy-requires forget-requires test-requires same-length returns)

@@ -1,6 +1,6 @@
 -- `area::load::relink` meets its contract: what is blank is marked, and where that answers yes it is linked.
 --
---   relink-linked == mark answered yes, and link tells
+--   relink-linked == mark answered yes, and the test tells
 --   relink-no     == mark answered no
 use mathlib.Core.Bool.{Bool, true, false}
 use mathlib.Core.List.{List}
@@ -33,8 +33,8 @@ forget-requires c κs = search needs
 mark-requires : tie.Need-mark-requires
 mark-requires c κs = search needs
 
-link-requires : tie.Need-link-requires
-link-requires c κs = search needs
+test-requires : tie.Need-test-requires
+test-requires c κs = search needs
 
 passes-requires : tie.Need-passes-requires
 passes-requires c κs = search needs
@@ -44,7 +44,7 @@ same-length c = search needs
 
 returns : tie.Need-returns
 returns c =
-    relink-linked _ _ _ (c .before .before .before .before .before .before .before .before .before .before .before .before .forget .ensures) (c .before .before .before .before .before .before .before .before .mark .ensures) (c .before .before .before .before .before .if1 .taken) (c .before .before .before .link .ensures) (c .passes .ensures)
+    relink-linked _ _ _ (c .before .before .before .before .before .before .before .before .before .before .before .before .forget .ensures) (c .before .before .before .before .before .before .before .before .mark .ensures) (c .before .before .before .before .before .if1 .taken) (c .before .before .before .test .ensures) (c .passes .ensures)
 
 same-length-2 : tie.Need-same-length-2
 same-length-2 c = search needs
@@ -58,7 +58,7 @@ relink-spec =
     (tie.spec
     forget-requires
     mark-requires
-    link-requires
+    test-requires
     passes-requires
     same-length
     returns
