@@ -10,7 +10,7 @@ static uint32_t start(struct lent *lent, uint32_t darts, size_t place[2]) {
     memset(&lent->state, 0, sizeof lent->state);
     if (number != 0) return number;
     struct area area = area_over(lent, darts);
-    uint32_t beside, bad = area_test_base(area, lent->table, &beside);
+    uint32_t beside = 0, bad = area_test_base(area, lent->table, &beside);
     area_clear(area);
     if (bad < darts) {
         place[0] = bad;

@@ -38,32 +38,33 @@ static void forget(struct area area) {
 }
 
 /* Tests 3, 4 and 5: entries are darts, survivors lead to survivors, and no two lead to one. After no operation no dart is gone. The lowest dart
- * that breaks one of them, or D, and beside it the dart noted at its successor, or D. */
-static inline uint32_t link_survivors(struct area area, uint32_t operations, uint32_t *beside) {
-    for (uint32_t x = 0; x < area.darts; x++) {
+ * that breaks one of them, or D. */
+static inline uint32_t link_survivors(struct area area, uint32_t operations) {
+    uint32_t x = 0;
+    for (; x < area.darts; x++) {
         uint32_t y = area.map[x];
-        *beside = area.darts;
-        if (y >= area.darts) return x;
+        if (y >= area.darts) break;
         if (operations > 0 && area.before[x] == area.darts) continue;
-        *beside = area.before[y];
-        if (*beside != area.darts + 1) return x;
+        if (area.before[y] != area.darts + 1) break;
         area.before[y] = x;
     }
-    return area.darts;
+    return x;
 }
 
 /* The dart before each survivor, of a map and a history that stand in their parts: tests 1 to 5. */
 bool area_relink(struct area area, uint32_t operations) {
-    uint32_t beside;
     forget(area);
-    return mark(area, operations) && link_survivors(area, operations, &beside) == area.darts;
+    return mark(area, operations) && link_survivors(area, operations) == area.darts;
 }
 
-/* The permutation test of a table: no dart is gone. */
+/* The permutation test of a table, no dart of which is gone: the lowest bad dart, or D, and beside it the dart noted at its successor, or D where
+ * that is out of range. */
 uint32_t area_test_base(struct area area, const uint32_t *table, uint32_t *beside) {
     memcpy(area.map, table, area.darts * sizeof *table);
     forget(area);
-    return link_survivors(area, 0, beside);
+    uint32_t bad = link_survivors(area, 0);
+    if (bad < area.darts) *beside = area.map[bad] < area.darts ? area.before[area.map[bad]] : area.darts;
+    return bad;
 }
 
 static inline void bind(struct area area, uint32_t a, uint32_t x) {

@@ -3,6 +3,7 @@ pub mod Fitting
 pub mod Labels
 pub mod Lent
 pub mod Marking
+pub mod Noting
 pub mod Operation
 pub mod Outside
 pub mod Parts

@@ -2,7 +2,8 @@
 --
 --   tried-yes == the answer is yes: the test passed, and the work area is the one for yes
 --   tried-no  == the answer is no: the test failed, and the work area is the one for no
-use mathlib.Core.Bool.{Bool, true, false}
+--   not-true, not-false == an answer by its denial
+use mathlib.Core.Bool.{Bool, true, false, not}
 use mathlib.Core.List.{List}
 use mathlib.Core.Path.{_≡_, refl, ap}
 use Prim.Native.Nat.{ℕ}
@@ -22,3 +23,11 @@ tried-no true w v e =
     let f : false ≡ true = ap (λ (t : Tried). t .fine) e in
     let z : _≡_ {A = ℕ} 0 1 = cc in
     absurd (omega arith)
+
+pub not-true : (b : Bool) → true ≡ not b → b ≡ false
+not-true true e = e
+not-true false e = refl
+
+pub not-false : (b : Bool) → false ≡ not b → b ≡ true
+not-false true e = refl
+not-false false e = e

@@ -2,6 +2,8 @@
 --   marks D w i m      == the m history numbers from place i on: their edges are marked as gone (tests 1 and 2)
 --   links D n w x m    == the m darts from x on, n operations having gone before: each survivor is noted before its successor (tests 3, 4 and 5), or who keeps it from that
 --   goneIn D n w x     == x is marked as gone, by one of n operations
+--   taken b free y x   == x noted at y, where `free` stands
+--   notes D n w x      == dart x noted before its successor, if it survives
 --   besideIn D w x     == the second culprit beside x
 --   verdictAt D w x    == what the test says where it stopped at x
 --   given D n t h w    == table and history laid
@@ -13,11 +15,11 @@ use mathlib.Core.Bool.{Bool, true, false, not, _&&_}
 use mathlib.Core.List.{List, []}
 use Prim.Native.Nat.{ℕ, zero, suc, _+_, _*_, _/_}
 use lib.Dec.{eqb, leb, ltb}
-use lib.ListN.{set, take, replicate}
+use lib.ListN.{getD, set, take, replicate}
 use Rattle.slices.specs.Laid.{laid}
 use Rattle.darts.specs.Choose.{if_then_else_}
 use Rattle.darts.specs.Map.{successor, Verdict, permutes, culprits}
-use Rattle.area.specs.Area.{prev, stamp, Tried, tried}
+use Rattle.area.specs.Area.{prev, stamp, Tried, tried, triedIf}
 use Rattle.area.specs.Verdicts.{Said, said, passing}
 
 -- test 1: the number is below 2D; test 2: no edge twice
@@ -33,6 +35,18 @@ marks D w i (suc m) =
 -- x is marked as gone; after no operation none is
 unfoldable pub goneIn : ℕ → ℕ → List ℕ → ℕ → Bool
 goneIn D n w x = ltb 0 n && eqb (prev D w x) D
+
+-- x at the place y of the darts before, where `free` stands
+unfoldable pub taken : List ℕ → ℕ → ℕ → ℕ → Tried
+taken b free y x = triedIf (eqb (getD b y 0) free) b (set b y x)
+
+-- one dart of `links`
+unfoldable pub notes : ℕ → ℕ → List ℕ → ℕ → Tried
+notes D n w x =
+    let y : ℕ = successor w x in
+    if leb D y then tried false w
+    else if goneIn D n w x then tried true w
+    else triedIf (eqb (prev D w y) (D + 1)) w (set w (D + y) x)
 
 -- what is noted at the successor of x, D where that is no dart
 unfoldable pub besideIn : ℕ → List ℕ → ℕ → ℕ

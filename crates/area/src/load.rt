@@ -8,7 +8,7 @@ ghost use Prim.Native.Nat.{_≤_, _<_};
 ghost use lib.ListN.{length};
 ghost use Rattle.darts.specs.Map.{passed};
 ghost use Rattle.area.specs.Area.{Room, bound, tried};
-ghost use Rattle.area.specs.Load.{marks, goneIn, besideIn, verdictAt, links, given, blank, relinks, loads, loadsBase};
+ghost use Rattle.area.specs.Load.{marks, taken, goneIn, notes, besideIn, verdictAt, links, given, blank, relinks, loads, loadsBase};
 ghost use Rattle.area.specs.Verdicts.{verdictOf, said};
 
 impl Verdict {
@@ -69,27 +69,51 @@ fn gone(work: &[u32], d: usize, n: usize, x: usize) -> bool
     at(work, d + x) == d
 }
 
-// Each survivor is noted before its successor, up to the lowest dart whose entry is no dart, or that survives and leads to a gone dart or to one where
-// a lower survivor is noted. That dart, or d.
+// Dart x is noted at y, where `free` stands. No where another number does.
+fn take(before: &mut [u32], free: usize, y: usize, x: usize) -> bool
+    requires { ⌜ y < length (now before) ⌝ }
+    requires { ⌜ x < 65536 ⌝ }
+    ensures { λ r. ⌜ tried r (now (before .exit)) ≡ taken (now (before .entry)) free y x ⌝ }
+{
+    if at(before, y) != free {
+        return false;
+    }
+    before[y] = x as u32;
+    true
+}
+
+// Dart x is noted before its successor, if it survives. No where its entry is no dart, or it survives and leads to a gone dart or to one where a
+// lower survivor is noted.
+fn note(work: &mut [u32], d: usize, n: usize, x: usize) -> bool
+    requires { ⌜ Room d (now work) ⌝ }
+    requires { ⌜ x < d ⌝ }
+    ensures { λ r. ⌜ tried r (now (work .exit)) ≡ notes d n (now (work .entry)) x ⌝ }
+{
+    let y = at(work, x);
+    if d <= y {
+        return false;
+    }
+    if gone(work, d, n, x) {
+        return true;
+    }
+    let forest = 2 * d;
+    take(&mut work[d..forest], d + 1, y, x)
+}
+
+// Edge by edge both darts are noted, up to the lowest dart where that cannot be. That dart, or d.
 fn link(work: &mut [u32], d: usize, n: usize) -> usize
     requires { ⌜ Room d (now work) ⌝ }
     ensures { λ r. ⌜ said (verdictAt d (now (work .exit)) r) (now (work .exit)) ≡ links d n (now (work .entry)) 0 d ⌝ }
 {
     let mut x = 0;
     while x < d {
-        let y = at(work, x);
-        if d <= y {
+        if !note(work, d, n, x) {
             return x;
         }
-        if gone(work, d, n, x) {
-            x += 1;
-        } else {
-            if at(work, d + y) != d + 1 {
-                return x;
-            }
-            work[d + y] = x as u32;
-            x += 1;
+        if !note(work, d, n, x + 1) {
+            return x + 1;
         }
+        x += 2;
     }
     x
 }

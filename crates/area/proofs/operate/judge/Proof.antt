@@ -20,20 +20,13 @@ use Rattle.area.specs.Edge.{Says}
 use Rattle.area.specs.Operate.{judged}
 use Rattle.area.specs.Trees.{rooted, Kept, merged, Joined}
 use Rattle.area.proofs.Outside.{outside-refl}
+use Rattle.area.proofs.Tried.{not-true, not-false}
 use Rattle.area.proofs.operate.judge.Statement.{statement}
 use Rattle.area.proofs.operate.judge.Tie as tie
 
 -- an answer says its own number and place
 exact : {a : Answer} → answerOf a .second ≡ 0 → Says (answerOf a .number) (answerOf a .place) a
 exact none = record { number = refl; place = λ _. refl; second = none }
-
-not-true : (b : Bool) → true ≡ not b → b ≡ false
-not-true true e = e
-not-true false e = refl
-
-not-false : (b : Bool) → false ≡ not b → b ≡ true
-not-false true e = refl
-not-false false e = e
 
 -- what has one root already keeps it
 joined-kept : {D p q : ℕ} {w w′ : List ℕ} → Joined D w w′ p q false → Kept D w w′
