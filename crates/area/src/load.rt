@@ -3,6 +3,7 @@ use crate::Verdict;
 use slices::at;
 use slices::copy;
 use slices::fill;
+ghost use mathlib.Core.List.{[]};
 ghost use mathlib.Core.Path.{_≡_};
 ghost use Prim.Native.Nat.{_≤_, _<_};
 ghost use lib.ListN.{length};
@@ -188,13 +189,26 @@ pub fn load(work: &mut [u32], d: usize, table: &[u32], history: &[u32], n: usize
     relink(work, d, n)
 }
 
+// A table is copied into its part, and nothing is known of the dart before each dart: both in one pass.
+fn lay_base(work: &mut [u32], d: usize, table: &[u32])
+    requires { ⌜ Room d (now work) ⌝ }
+    requires { ⌜ d ≤ length (now table) ⌝ }
+    ensures { λ _. ⌜ now (work .exit) ≡ blank d (given d 0 (now (table .entry)) [] (now (work .entry))) ⌝ }
+{
+    let mut x = 0;
+    while x < d {
+        work[x] = table[x];
+        work[d + x] = (d + 1) as u32;
+        x += 1;
+    }
+}
+
 // A table in the work area, no dart of which is gone, with the dart before each: the permutation test.
 pub fn load_base(work: &mut [u32], d: usize, table: &[u32]) -> Verdict
     requires { ⌜ Room d (now work) ⌝ }
     requires { ⌜ d ≤ length (now table) ⌝ }
     ensures { λ r. ⌜ said (verdictOf r) (now (work .exit)) ≡ loadsBase d (now (table .entry)) (now (work .entry)) ⌝ }
 {
-    copy(work, table, d);
-    forget(work, d);
+    lay_base(work, d, table);
     test(work, d, 0)
 }
