@@ -60,8 +60,10 @@ bool area_relink(struct area area, uint32_t operations) {
 /* The permutation test of a table, no dart of which is gone: the lowest bad dart, or D, and beside it the dart noted at its successor, or D where
  * that is out of range. */
 uint32_t area_test_base(struct area area, const uint32_t *table, uint32_t *beside) {
-    memcpy(area.map, table, area.darts * sizeof *table);
-    forget(area);
+    for (uint32_t x = 0; x < area.darts; x++) {
+        area.map[x] = table[x];
+        area.before[x] = area.darts + 1;
+    }
     uint32_t bad = link_survivors(area, 0);
     if (bad < area.darts) *beside = area.map[bad] < area.darts ? area.before[area.map[bad]] : area.darts;
     return bad;

@@ -16,7 +16,7 @@ use lib.ListN.{length, set, drop, length-set}
 use lib.Seq.{take-set-le, drop-set-lt, getD-set-same, getD-set-other}
 use Rattle.permutations.specs.Choice.{true→T, T→true, nT→false, eqb-same, eqb-other, and-intro, and-left, and-right}
 use Rattle.darts.specs.Choose.{if_then_else_}
-use Rattle.darts.specs.Map.{successor, gone, survives, beforeIn, permutes, culprits, passed}
+use Rattle.darts.specs.Map.{successor, gone, survives, beforeIn, culprits, passed}
 use Rattle.darts.specs.Tests.{led, links as linksOf, blamed, linksFrom}
 use Rattle.area.specs.Area.{prev, tableIn}
 use Rattle.area.specs.Verdicts.{Said, said}

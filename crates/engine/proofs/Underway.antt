@@ -12,7 +12,6 @@ use mathlib.Core.Logic.{_≢_}
 use mathlib.Core.Path.{_≡_, sym, _∙_}
 use Prim.Native.Nat.{ℕ, suc, _+_, _/_, _≤_}
 use Rattle.permutations.specs.Choice.{eqb-other}
-use Rattle.darts.specs.Answers.{answered}
 use Rattle.darts.specs.Cases.{answerOf}
 use Rattle.darts.specs.declared.Answer.{Answer}
 use Rattle.darts.specs.declared.Answer.the-variants.{Done}

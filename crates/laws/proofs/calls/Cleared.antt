@@ -1,12 +1,11 @@
 -- The work area cleared.
 --   cleared-is   == 4D zeros, and the rest as it was
 --   cleared-zero, cleared-rest, cleared-length == its first 4D numbers are zero, the others stay, and it keeps its length
---   cleared-at   == what stands there then
 --   cleared-kept == only what stands from 4D on matters
 use mathlib.Core.List.{List, _++_}
 use mathlib.Core.Path.{_≡_, sym, ap, _∙_}
-use Prim.Native.Nat.{ℕ, _*_, _<_, _≤_}
-use lib.ListN.{length, getD, take, drop, replicate, length-replicate, getD-replicate, List·getD-append}
+use Prim.Native.Nat.{ℕ, _*_, _≤_}
+use lib.ListN.{length, take, drop, replicate, length-replicate}
 use lib.Seq.{drop-at, take-at}
 use Rattle.darts.specs.Calls.{cleared}
 use Rattle.slices.proofs.Over.{over-length}
@@ -27,12 +26,6 @@ cleared-rest D w =
 pub cleared-length : (D : ℕ) (w : List ℕ) → 4 * D ≤ length w → length (cleared D w) ≡ length w
 unfolding cleared
 cleared-length D w h = over-length (replicate (4 * D) 0) w (simp length-replicate h)
-
-pub cleared-at : (D : ℕ) (w : List ℕ) (x : ℕ) → x < 4 * D → getD (cleared D w) x 0 ≡ 0
-cleared-at D w x h =
-    ap (λ (l : List ℕ). getD l x 0) (cleared-is D w)
-    ∙ List·getD-append (replicate (4 * D) 0) (drop (4 * D) w) 0 x (simp length-replicate h)
-    ∙ getD-replicate (4 * D) x 0 0 h
 
 pub cleared-kept : (D : ℕ) (w v : List ℕ) → drop (4 * D) v ≡ drop (4 * D) w → cleared D v ≡ cleared D w
 cleared-kept D w v e =

@@ -8,13 +8,13 @@
 use mathlib.Core.Bool.{Bool, true, false}
 use mathlib.Core.List.{List, [], _∷_, _++_, reverse}
 use mathlib.Core.Logic.{_↔_}
-use mathlib.Core.Path.{_≡_, refl, sym, ap, _∙_}
+use mathlib.Core.Path.{_≡_, sym, ap, _∙_}
 use Prim.Native.Nat.{ℕ, zero, suc, _+_, _-_, _*_, _/_, _≤_, _<_}
 use native.Mathlib.Decide.{decLt}
 use native.Mathlib.Nat.{zero-add, suc-add}
 use native.Mathlib.Omega.{arith}
-use lib.ListN.{length, getD, take, drop, length-take, length-append}
-use lib.Seq.{take-nil, getD-take, take-append-le, take-append-add}
+use lib.ListN.{length, take, drop, length-take, length-append}
+use lib.Seq.{take-nil, take-append-le, take-append-add}
 use Rattle.permutations.specs.Choice.{T-ext}
 use Rattle.darts.specs.Choose.{if_then_else_}
 use Rattle.darts.specs.State.{State}

@@ -9,7 +9,7 @@ use mathlib.Core.List.{List}
 use mathlib.Core.Path.{_≡_, refl}
 use Prim.Native.Nat.{ℕ}
 use native.Mathlib.Decide.{ℕ-discrete}
-use lib.Dec.{eqb, ltb}
+use lib.Dec.{eqb}
 use lib.ListN.{length}
 use Rattle.permutations.specs.Choice.{eqb-same, eqb-other}
 use Rattle.darts.specs.Choose.{if_then_else_}

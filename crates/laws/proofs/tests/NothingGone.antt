@@ -8,7 +8,7 @@ use native.Mathlib.Decide.{decLt}
 use native.Mathlib.Omega.{arith}
 use lib.Dec.{eqb, leb, ltb, ltb→lt, lt→ltb, leb→le, le→leb}
 use Rattle.permutations.specs.Choice.{T→true, nT→false}
-use Rattle.darts.specs.Map.{successor, gone, survives, beforeIn, repeats, culprit, testFrom, permutationTest}
+use Rattle.darts.specs.Map.{successor, gone, survives, repeats, culprit, testFrom, permutationTest}
 use Rattle.darts.specs.Tests.{led, links, blamed, linksFrom, survivorsTest}
 
 led-repeats : (t : List ℕ) (d x : ℕ) → led t [] d x ≡ repeats t d x

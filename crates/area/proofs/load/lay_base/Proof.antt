@@ -11,7 +11,7 @@ use Prim.Native.Nat.{ℕ, _+_, _-_, _*_, _≤_, _<_}
 use native.Mathlib.Decide.{ℕ-discrete, decLt}
 use native.Mathlib.Nat.{add-zero, zero-add}
 use native.Mathlib.Omega.{arith}
-use lib.ListN.{length, getD, set, take, drop, replicate, length-set, length-replicate, getD-replicate, take-append-drop}
+use lib.ListN.{length, getD, set, take, replicate, length-set, length-replicate, getD-replicate, take-append-drop}
 use lib.Seq.{getD-set-same, getD-set-other, getD-take, getD-drop, length-take-le, ext-getD}
 use borrow.Author.Needs.{needs}
 use Rattle.slices.specs.Laid.{laid, Space}

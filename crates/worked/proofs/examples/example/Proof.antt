@@ -4,7 +4,6 @@ use Rattle.worked.proofs.Parts.{row-of}
 use borrow.Author.Needs.{needs}
 use Rattle.worked.proofs.examples.example.Statement.{statement}
 use Rattle.worked.proofs.examples.example.Tie as tie
-use Rattle.worked.proofs.rows.is_row.Reads as is-row-reads
 
 slice-aggregate-chain : tie.Need-slice-aggregate-chain
 slice-aggregate-chain c = search needs
