@@ -1,0 +1,5 @@
+pub mod Ends
+pub mod Walk
+pub mod Comes
+pub mod Lookup
+pub mod Worked
