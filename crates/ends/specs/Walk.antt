@@ -3,8 +3,11 @@
 --   onward t ends d       == where the walk goes on from the gone dart d
 --   walkFrom n k t ends y i == the walk from y on, at most n steps, once i gone darts were passed
 --   walk D k t ends x     == the walk from x to its successor at level k
+--   Walks D k t ends x    == that walk stays on darts, and ends at one that is not gone
+use mathlib.Core.Bool.{not}
 use mathlib.Core.List.{List}
-use Prim.Native.Nat.{ℕ, zero, suc}
+use Prim.Native.Nat.{ℕ, zero, suc, _<_}
+use lib.Dec.{T}
 use Rattle.permutations.specs.Partner.{partner}
 use Rattle.darts.specs.Choose.{if_then_else_}
 use Rattle.darts.specs.Map.{successor}
@@ -36,3 +39,8 @@ walkFrom (suc n) k t ends y i =
 -- "start at the base successor": D steps are enough, for no dart is passed twice
 unfoldable pub walk : ℕ → ℕ → List ℕ → List ℕ → ℕ → Found
 walk D k t ends x = walkFrom D k t ends (successor t x) 0
+
+-- what a table and ends that come from a pyramid have, and code needs to know: the walk need not count its steps to end
+pub record Walks (D k : ℕ) (t ends : List ℕ) (x : ℕ) : Type 0 where
+  pub inside : (y : ℕ) → y < D → successor t y < D
+  pub arrives : T (not (goneBy k ends (walk D k t ends x .dart)))
