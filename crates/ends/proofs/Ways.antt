@@ -3,7 +3,7 @@
 --   way-one        == there is only one
 --   way-soon       == where a walk of j steps leads to a number that is not gone, there is a way over at most j
 --   way-over       == each number on the way is gone
---   Left f g x     == a way from x's next number
+--   way-same       == below D, the same steps over the same gone numbers
 --   leave-out      == f with p left out goes as f does with p gone, too
 --   way-few        == a way from the next number of one that is not gone passes no number twice
 use mathlib.Core.Bool.{Bool, true, false, _||_}
@@ -49,6 +49,12 @@ module _ {f : ℕ → ℕ} {g : ℕ → Bool} where
   way-over (there h) i l = absurd (not-suc-le-zero l)
   way-over (over h w) zero l = h
   way-over (over h w) (suc i) l = way-over w i (omega arith)
+
+-- numbers below D stay below it, and there g and h say the same
+pub way-same : {D : ℕ} {f : ℕ → ℕ} {g h : ℕ → Bool} → ((y : ℕ) → y < D → f y < D) → ((y : ℕ) → y < D → g y ≡ h y)
+    → {y z n : ℕ} → y < D → Way f g y z n → Way f h y z n
+way-same stays same {y} l (there n) = there (subst (λ b. ¬ T b) (same y l) n)
+way-same stays same {y} l (over n w) = over (subst T (same y l) n) (way-same stays same (stays y l) w)
 
 pub record Soon (f : ℕ → ℕ) (g : ℕ → Bool) (y j : ℕ) : Type 0 where
   pub to : ℕ

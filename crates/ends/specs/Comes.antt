@@ -1,11 +1,12 @@
 -- "4 if the table and ends come from no pyramid" (document 02, request Four): what it is to come from a pyramid, and its decision.
 --   endIn L ks e     == the end of edge e where the kernels ks make the levels from L on; 0 where none has it
+--   endsIn s past    == the ends of a pyramid's edges
 --   endsSo v w       == the end v is the end w; an edge that survives may have either number
 --   Comes D t ends   == some kernels, accepted one after another on the base t, end each edge as the ends say
 --   operations ends  == the contractions that the ends tell, and then the removals, by rising number
 --   comes D t ends   == the decision: the base, the levels, and these operations one by one
 use mathlib.Core.Bool.{Bool, true, false, _&&_, _||_}
-use mathlib.Core.List.{List, [], _∷_, _++_}
+use mathlib.Core.List.{List, [], _∷_, _++_, map}
 use mathlib.Core.Path.{_≡_}
 use Prim.Native.Nat.{ℕ, zero, suc, _/_, _<_}
 use lib.Dec.{T, eqb}
@@ -14,9 +15,9 @@ use Rattle.permutations.specs.Live.{has}
 use Rattle.darts.specs.Choose.{if_then_else_}
 use Rattle.darts.specs.Map.{permutes, permutationTest, passed}
 use Rattle.darts.specs.Operation.{contraction, removal, number}
-use Rattle.darts.specs.Kernel.{Operation, each, Run, stands, stops}
+use Rattle.darts.specs.Kernel.{Operation, each, rising, Run, stands, stops}
 use Rattle.darts.specs.State.{State, baseState, gives}
-use Rattle.darts.specs.Pyramid.{Kernel, dartCount, build}
+use Rattle.darts.specs.Pyramid.{Kernel, dartCount, build, kernelsOf}
 use Rattle.darts.specs.OneByOne.{oneByOne}
 use Rattle.ends.specs.Ends.{levelOf, shaped, ending}
 
@@ -24,6 +25,9 @@ use Rattle.ends.specs.Ends.{levelOf, shaped, ending}
 unfoldable pub endIn : ℕ → List Kernel → ℕ → ℕ
 endIn L [] e = 0
 endIn L (k ∷ ks) e = if has (k .edges) e then number (k .kind) L else endIn (suc L) ks e
+
+unfoldable pub endsIn : State → List ℕ → List ℕ
+endsIn s past = map (endIn 1 (kernelsOf s past)) (rising 0 (s .darts / 2))
 
 -- "level 0 meaning that the edge survives (its kind is not looked at)"
 unfoldable pub endsSo : ℕ → ℕ → Bool
