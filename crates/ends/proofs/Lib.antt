@@ -1,1 +1,3 @@
 pub mod Members
+pub mod Picked
+pub mod Levels

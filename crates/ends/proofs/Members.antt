@@ -48,8 +48,7 @@ distinct-append (x ∷ l) m a b apart = (
 pub append-distinct : (l m : List ℕ) → Distinct (l ++ m) → Distinct m × ((y : ℕ) → T (has l y) → ¬ T (has m y))
 append-distinct [] m d = (d, λ y h. absurd (has-none y h))
 append-distinct (x ∷ l) m d =
-    let rest = append-distinct l m (d .1) in
-    (
+    let rest = append-distinct l m (d .1) in (
       rest .0,
       λ y h k. ⊎-elim (λ (e : y ≡ x). d .0 (has-append l m x .1 (inr (subst (λ z. T (has m z)) e k)))) (λ a. rest .1 y a k) (has-cons x l y .0 h),
     )
