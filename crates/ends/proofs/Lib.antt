@@ -1,3 +1,5 @@
 pub mod Members
 pub mod Picked
 pub mod Levels
+pub mod Tells
+pub mod Ended
