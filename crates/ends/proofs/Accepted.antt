@@ -2,6 +2,7 @@
 --   judged-fine   == an operation that may be done is on an edge, and one that survives
 --   done-distinct == operations accepted one by one are on edges that survive, none of them twice
 --   built-some    == none of the kernels accepted one after another is empty
+--   so-iff        == what it is that one end is another
 --   comes-ended   == the kernels of a pyramid end each edge as the ends say that come from it
 use mathlib.Core.Bool.{Bool, true, false, _||_, _&&_}
 use mathlib.Core.List.{List, [], _∷_, _++_, map, map-append}
@@ -97,7 +98,7 @@ built-some s t past (k ∷ ks) e =
 -- ---- ends that come from a pyramid
 
 -- an end of level 1 or more is the end itself; where an edge survives, so it does in the other
-so-iff : (v w : ℕ) → T (endsSo v w) ↔ ((v ≡ w) ⊎ ((levelOf v ≡ 0) × (levelOf w ≡ 0)))
+pub so-iff : (v w : ℕ) → T (endsSo v w) ↔ ((v ≡ w) ⊎ ((levelOf v ≡ 0) × (levelOf w ≡ 0)))
 unfolding endsSo
 so-iff v w = (
   λ h. ⊎-elim (λ a. inl (eqb→eq v w a)) (λ b. inr (eqb→eq (levelOf v) 0 (and-left (eqb (levelOf v) 0) (eqb (levelOf w) 0) b), eqb→eq (levelOf w) 0 (and-right (eqb (levelOf v) 0) (eqb (levelOf w) 0) b)))

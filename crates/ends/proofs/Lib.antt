@@ -5,3 +5,5 @@ pub mod Tells
 pub mod Ended
 pub mod Accepted
 pub mod Form
+pub mod ByLevels
+pub mod Decided
