@@ -4,16 +4,16 @@
 --   built-some    == none of the kernels accepted one after another is empty
 --   so-iff        == what it is that one end is another
 --   comes-ended   == the kernels of a pyramid end each edge as the ends say that come from it
-use mathlib.Core.Bool.{Bool, true, false, _||_, _&&_}
+use mathlib.Core.Bool.{Bool, true, false, _&&_}
 use mathlib.Core.List.{List, [], _∷_, _++_, map, map-append}
 use mathlib.Core.Logic.{_≢_, _↔_, _⊎_, inl, inr, ⊎-elim}
 use mathlib.Core.Path.{_≡_, refl, sym, ap, ap₂, _∙_, subst}
-use Prim.Native.Nat.{ℕ, suc, _+_, _*_, _/_, _≤_, _<_}
+use Prim.Native.Nat.{ℕ, _*_, _/_, _<_}
 use native.Mathlib.Decide.{decLt}
 use native.Mathlib.Omega.{arith}
-use lib.Dec.{T, eqb, leb, nleb→lt, eqb→eq}
+use lib.Dec.{T, eqb, leb, nleb→lt}
 use lib.ListN.{length, length-map, List·getD-eq-default}
-use Rattle.permutations.specs.Choice.{T?, eqb-iff, or-intro, or-cases, and-left, and-right}
+use Rattle.permutations.specs.Choice.{eqb-iff, or-intro, or-iff, and-iff}
 use Rattle.permutations.specs.Live.{has}
 use Rattle.darts.specs.Choose.{if_then_else_}
 use Rattle.darts.specs.Map.{gone}
@@ -62,7 +62,7 @@ still o t past e n =
 abbrev Fresh : ℕ → List ℕ → List Operation → Type 0
 Fresh D past os = Distinct (edges os) × ((e : ℕ) → T (has (edges os) e) → (e < D / 2) × ¬ T (gone past (2 * e)))
 
-pub done-distinct : {D : ℕ} {t past u new : List ℕ} (os : List Operation) → AllDone D t past os u new → Fresh D past os
+done-distinct : {D : ℕ} {t past u new : List ℕ} (os : List Operation) → AllDone D t past os u new → Fresh D past os
 done-distinct [] none = (tt, λ e h. absurd (has-none e h))
 done-distinct {D} {t} {past} (o ∷ os) (first fine rest) =
     let R = done-distinct os rest in
@@ -81,7 +81,9 @@ each-edges k (e ∷ es) = ap (λ l. e ∷ l) (each-edges k es)
 
 kernels-edges : (ks : List Kernel) → edges (operationsOf ks) ≡ edgesOf ks
 kernels-edges [] = refl
-kernels-edges (k ∷ ks) = map-append (λ o. o .edge) (each (k .kind) (k .edges)) (operationsOf ks) ∙ ap₂ _++_ (each-edges (k .kind) (k .edges)) (kernels-edges ks)
+kernels-edges (k ∷ ks) =
+    map-append (λ o. o .edge) (each (k .kind) (k .edges)) (operationsOf ks)
+    ∙ ap₂ _++_ (each-edges (k .kind) (k .edges)) (kernels-edges ks)
 
 -- NONE OF THE KERNELS IS EMPTY
 pub built-some : {z : State} {u new : List ℕ} (s : State) (t past : List ℕ) (ks : List Kernel) → build s t past ks ≡ gives z u new → NoneEmpty ks
@@ -97,14 +99,12 @@ built-some s t past (k ∷ ks) e =
 
 -- ---- ends that come from a pyramid
 
--- an end of level 1 or more is the end itself; where an edge survives, so it does in the other
+-- the same end, or an edge that survives in both
 pub so-iff : (v w : ℕ) → T (endsSo v w) ↔ ((v ≡ w) ⊎ ((levelOf v ≡ 0) × (levelOf w ≡ 0)))
 unfolding endsSo
-so-iff v w = (
-  λ h. ⊎-elim (λ a. inl (eqb→eq v w a)) (λ b. inr (eqb→eq (levelOf v) 0 (and-left (eqb (levelOf v) 0) (eqb (levelOf w) 0) b), eqb→eq (levelOf w) 0 (and-right (eqb (levelOf v) 0) (eqb (levelOf w) 0) b)))
-      (or-cases (eqb v w) (eqb (levelOf v) 0 && eqb (levelOf w) 0) h),
-  λ h. or-intro (eqb v w) (eqb (levelOf v) 0 && eqb (levelOf w) 0) (⊎-elim (λ a. inl (eqb-iff v w .1 a)) (λ b. inr (rw (b .0, b .1) tt)) h),
-)
+so-iff v w =
+    or-iff (eqb v w) (eqb (levelOf v) 0 && eqb (levelOf w) 0) (eqb-iff v w)
+    (and-iff (eqb (levelOf v) 0) (eqb (levelOf w) 0) (eqb-iff (levelOf v) 0) (λ h. eqb-iff (levelOf w) 0))
 
 -- THE KERNELS OF A PYRAMID END EACH EDGE AS THE ENDS SAY THAT COME FROM IT
 pub comes-ended : {D : ℕ} {t ends : List ℕ} → length ends ≡ D / 2 → (C : Comes D t ends) → Ended ends (C .kernels)

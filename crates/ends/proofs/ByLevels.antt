@@ -7,7 +7,7 @@
 use mathlib.Core.Bool.{Bool}
 use mathlib.Core.List.{List, [], _∷_}
 use mathlib.Core.Logic.{_≢_, _↔_, _⊎_, inl, inr, ⊎-elim}
-use mathlib.Core.Path.{_≡_, refl, sym, ap, ap₂, _∙_, subst}
+use mathlib.Core.Path.{_≡_, refl, sym, ap, ap₂, _∙_}
 use Prim.Native.Nat.{ℕ, zero, suc, _+_, _%_, _≤_, _<_}
 use native.Mathlib.Decide.{ℕ-discrete, decLt}
 use native.Mathlib.Omega.{arith}
@@ -66,7 +66,8 @@ module _ (ends : List ℕ) where
   has-levels L (suc n) e l =
       let rest = has-levels (suc L) n e (omega arith) in
       let both = has-append (kernelAt ends L .edges) (edgesOf (kernelsFrom ends (suc L) n)) e in (
-        λ h. ⊎-elim (λ t. let q = has-level L e l .0 t in (omega arith, omega arith)) (λ t. let (a, b) = rest .0 t in (omega arith, omega arith)) (both .0 h),
+        λ h. ⊎-elim (λ t. let q = has-level L e l .0 t in (omega arith, omega arith))
+            (λ t. let (a, b) = rest .0 t in (omega arith, omega arith)) (both .0 h),
         λ h. both .1 (go (h .0) (h .1) (rest .1) (ℕ-discrete (levelOf (at ends e)) L)),
       )
     where
@@ -79,7 +80,8 @@ module _ (ends : List ℕ) where
   distinct-levels : (L n : ℕ) → 1 ≤ L → Distinct (edgesOf (kernelsFrom ends L n))
   distinct-levels L zero l = tt
   distinct-levels L (suc n) l =
-      distinct-append (kernelAt ends L .edges) (edgesOf (kernelsFrom ends (suc L) n)) (distinct-picked (isAt L) 0 ends) (distinct-levels (suc L) n (omega arith))
+      distinct-append (kernelAt ends L .edges) (edgesOf (kernelsFrom ends (suc L) n)) (distinct-picked (isAt L) 0 ends)
+      (distinct-levels (suc L) n (omega arith))
       (λ e h k. let q = has-level L e l .0 h in let m = has-levels (suc L) n e (omega arith) .0 k .0 in omega arith)
 
   pub kernels-some : (L n : ℕ) → 1 ≤ L → ((M : ℕ) → L ≤ M → M < L + n → First M ends) → NoneEmpty (kernelsFrom ends L n)

@@ -4,15 +4,15 @@
 use mathlib.Core.Bool.{_&&_}
 use mathlib.Core.List.{List, []}
 use mathlib.Core.Logic.{_↔_, _⊎_, inl, inr}
-use mathlib.Core.Path.{_≡_, refl, sym, ap, subst}
-use Prim.Native.Nat.{ℕ, _/_, _≤_, _<_}
+use mathlib.Core.Path.{_≡_, refl, ap}
+use Prim.Native.Nat.{ℕ, _/_, _≤_}
 use native.Mathlib.Omega.{arith}
 use lib.Dec.{T, leb, leb→le}
 use lib.ListN.{length}
 use Rattle.permutations.specs.Choice.{T?, and-intro, and-left, and-right}
 use Rattle.permutations.specs.Live.{has}
 use Rattle.darts.specs.Map.{permutes, permutationTest, passed}
-use Rattle.darts.specs.Kernel.{Operation, Run, stands, stops}
+use Rattle.darts.specs.Kernel.{Run, stands, stops}
 use Rattle.darts.specs.State.{baseState}
 use Rattle.darts.specs.Pyramid.{Kernel, dartCount}
 use Rattle.darts.specs.OneByOne.{oneByOne, operationsOf, NoneEmpty}

@@ -4,25 +4,24 @@
 --   end-level         == an edge that is in a kernel ends at the level of one of them
 --   end-same          == two edges that end at one level have the same end
 --   Ended ends ks     == no edge is in the kernels twice, and they end each edge as the ends say
+--   ended-level, ended-member == the edges in them are those that do not survive, and end at the level of one of them
 --   ended-told        == their operations are those that the ends tell
 use mathlib.Core.List.{List, [], _∷_, _++_, map, map-append}
-use mathlib.Core.Logic.{_≢_, _↔_, _⊎_, inl, inr, ⊎-elim}
-use mathlib.Core.Path.{_≡_, refl, sym, ap, ap₂, _∙_, subst}
-use Prim.Native.Nat.{ℕ, zero, suc, _+_, _≤_, _<_}
+use mathlib.Core.Logic.{_≢_, _⊎_, inl, inr, ⊎-elim}
+use mathlib.Core.Path.{_≡_, refl, sym, ap, ap₂, _∙_}
+use Prim.Native.Nat.{ℕ, suc, _+_, _≤_, _<_}
 use native.Mathlib.Omega.{arith}
 use lib.Dec.{T}
 use lib.ListN.{length}
 use Rattle.permutations.specs.Choice.{T?, T→true, nT→false}
 use Rattle.permutations.specs.Live.{has}
-use Rattle.darts.specs.Choose.{if_then_else_}
 use Rattle.darts.specs.Operation.{Kind, kindOf, leadOf, number}
-use Rattle.darts.specs.Kernel.{Operation, each}
 use Rattle.darts.specs.Pyramid.{Kernel}
-use Rattle.darts.specs.OneByOne.{operationsOf, NoneEmpty}
+use Rattle.darts.specs.OneByOne.{operationsOf}
 use Rattle.laws.proofs.bridge.Numbers.{number-kind, number-lead}
 use Rattle.ends.specs.Ends.{levelOf}
 use Rattle.ends.specs.Comes.{endIn}
-use Rattle.ends.proofs.Members.{Distinct, has-none, has-cons, has-append, append-distinct}
+use Rattle.ends.proofs.Members.{Distinct, has-none, has-append, append-distinct}
 use Rattle.ends.proofs.Levels.{at}
 use Rattle.ends.proofs.Tells.{toldBy, Tells, each-told}
 
@@ -60,7 +59,8 @@ pub end-level : (L : ℕ) (ks : List Kernel) (e : ℕ) → T (has (edgesOf ks) e
 end-level L [] e h = absurd (has-none e h)
 end-level L (k ∷ ks) e h = go (T? (has (k .edges) e)) (end-level (suc L) ks e)
   where
-    go : Dec (T (has (k .edges) e)) → (T (has (edgesOf ks) e) → (suc L ≤ levelOf (endIn (suc L) ks e)) × (levelOf (endIn (suc L) ks e) < suc L + length ks))
+    go : Dec (T (has (k .edges) e))
+        → (T (has (edgesOf ks) e) → (suc L ≤ levelOf (endIn (suc L) ks e)) × (levelOf (endIn (suc L) ks e) < suc L + length ks))
         → (L ≤ levelOf (endIn L (k ∷ ks) e)) × (levelOf (endIn L (k ∷ ks) e) < L + suc (length ks))
     go (yes t) rest = rw (end-here L k ks e t, number-level (k .kind) L) (omega arith, omega arith)
     go (no n) rest = let (a, b) = rest (in-later L k ks e h n) in rw (end-later L k ks e n) (omega arith, omega arith)
@@ -70,7 +70,8 @@ pub end-same : (L : ℕ) (ks : List Kernel) (e d : ℕ) → T (has (edgesOf ks) 
 end-same L [] e d h k q = absurd (has-none e h)
 end-same L (k ∷ ks) e d h j q = go (T? (has (k .edges) e)) (T? (has (k .edges) d)) (end-same (suc L) ks e d)
   where
-    other : (x y : ℕ) → T (has (k .edges) x) → T (has (edgesOf (k ∷ ks)) y) → ¬ T (has (k .edges) y) → levelOf (endIn L (k ∷ ks) x) ≢ levelOf (endIn L (k ∷ ks) y)
+    other : (x y : ℕ) → T (has (k .edges) x) → T (has (edgesOf (k ∷ ks)) y) → ¬ T (has (k .edges) y)
+        → levelOf (endIn L (k ∷ ks) x) ≢ levelOf (endIn L (k ∷ ks) y)
     other x y t i n s =
         let here : levelOf (endIn L (k ∷ ks) x) ≡ L = ap levelOf (end-here L k ks x t) ∙ number-level (k .kind) L in
         let there : levelOf (endIn L (k ∷ ks) y) ≡ levelOf (endIn (suc L) ks y) = ap levelOf (end-later L k ks y n) in
@@ -78,7 +79,8 @@ end-same L (k ∷ ks) e d h j q = go (T? (has (k .edges) e)) (T? (has (k .edges)
         omega arith
 
     go : Dec (T (has (k .edges) e)) → Dec (T (has (k .edges) d))
-        → (T (has (edgesOf ks) e) → T (has (edgesOf ks) d) → levelOf (endIn (suc L) ks e) ≡ levelOf (endIn (suc L) ks d) → endIn (suc L) ks e ≡ endIn (suc L) ks d)
+        → (T (has (edgesOf ks) e) → T (has (edgesOf ks) d) → levelOf (endIn (suc L) ks e) ≡ levelOf (endIn (suc L) ks d)
+        → endIn (suc L) ks e ≡ endIn (suc L) ks d)
         → endIn L (k ∷ ks) e ≡ endIn L (k ∷ ks) d
     go (yes t) (yes u) rest = end-here L k ks e t ∙ sym (end-here L k ks d u)
     go (yes t) (no n) rest = absurd (other e d t j n q)
@@ -95,7 +97,8 @@ kernels-told : (ends : List ℕ) (L : ℕ) (ks : List Kernel) → Distinct (edge
 kernels-told ends L [] d taken = refl
 kernels-told ends L (k ∷ ks) d taken =
     let apart = append-distinct (k .edges) (edgesOf ks) d in
-    let inside : (e : ℕ) → T (has (k .edges) e) ⊎ T (has (edgesOf ks) e) → T (has (edgesOf (k ∷ ks)) e) = λ e. has-append (k .edges) (edgesOf ks) e .1 in
+    let inside : (e : ℕ) → T (has (k .edges) e) ⊎ T (has (edgesOf ks) e) → T (has (edgesOf (k ∷ ks)) e) =
+    λ e. has-append (k .edges) (edgesOf ks) e .1 in
     ap₂ _++_
     (each-told ends (k .kind) (k .edges) (λ e h. ap kindOf (taken e (inside e (inl h)) ∙ end-here L k ks e h) ∙ number-kind (k .kind) L))
     (kernels-told ends (suc L) ks (apart .0) (λ e h. taken e (inside e (inr h)) ∙ end-later L k ks e (λ a. apart .1 e a h)))

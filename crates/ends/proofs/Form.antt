@@ -15,7 +15,7 @@ use Rattle.permutations.specs.Choice.{T?, and-intro}
 use Rattle.permutations.specs.Live.{has}
 use Rattle.darts.specs.Pyramid.{Kernel}
 use Rattle.darts.specs.OneByOne.{NoneEmpty}
-use Rattle.ends.specs.Ends.{levelOf, top, firstAt, inUse, oneKind, shaped}
+use Rattle.ends.specs.Ends.{levelOf, top, inUse, oneKind, shaped}
 use Rattle.ends.specs.Comes.{endIn}
 use Rattle.ends.proofs.Members.{Distinct, has-cons, has-append, append-distinct}
 use Rattle.ends.proofs.Levels.{at, at-inside, level-top, top-least, First, first, in-use-iff, OneKind, one-kind-iff}

@@ -2,19 +2,20 @@
 --   at ends e       == the end of edge e; past the last edge it is 0, so that such an edge survives
 --   at-inside       == an edge that ends is one of the edges
 --   level-top       == no end is above the top
---   top-least       == nor is the top above all ends
---   first-level     == the first end of a level is of that level, where there is one
+--   top-least       == the top is no higher than what no end is above
 --   First L ends    == an edge whose end is the first of level L
---   in-use          == levels 1 to n are in use where each has an end
---   one-kind        == the ends have one kind in each level
-use mathlib.Core.Bool.{Bool, true, false, _&&_, _||_}
+--   first           == there is one where some edge ends at level L
+--   in-use-iff      == levels 1 to n are in use where each has an end
+--   OneKind ends vs == the ends vs have the kind of the first end of their level
+--   one-kind-iff    == so the test says
+use mathlib.Core.Bool.{Bool, true, false, _||_}
 use mathlib.Core.List.{List, [], _∷_}
-use mathlib.Core.Logic.{_≢_, _↔_, _⊎_, inl, inr, ⊎-elim}
-use mathlib.Core.Path.{_≡_, refl, sym, ap, _∙_, subst}
-use Prim.Native.Nat.{ℕ, zero, suc, _+_, _/_, _≤_, _<_}
+use mathlib.Core.Logic.{_↔_, _⊎_, inl, inr, ⊎-elim}
+use mathlib.Core.Path.{_≡_, refl, sym, subst}
+use Prim.Native.Nat.{ℕ, zero, suc, _≤_, _<_}
 use native.Mathlib.Decide.{ℕ-discrete, decLt}
 use native.Mathlib.Omega.{arith}
-use lib.Dec.{T, eqb, leb, ltb, eqb→eq, leb→le, le→leb, ltb→lt, nltb→le, not-T}
+use lib.Dec.{T, eqb, leb, ltb, eqb→eq, leb→le, le→leb, ltb→lt, nltb→le}
 use lib.ListN.{getD, length, List·getD-eq-default}
 use Rattle.permutations.specs.Choice.{eqb-same, eqb-other, eqb-iff, or-intro, or-cases, and-intro, and-left, and-right}
 use Rattle.darts.specs.Choose.{if_then_else_}
@@ -111,7 +112,8 @@ OneKind ends vs = (i : ℕ) → 1 ≤ levelOf (at vs i) → at vs i ≡ firstAt 
 
 kind-iff : (ends : List ℕ) (v : ℕ) → T (eqb (levelOf v) 0 || eqb v (firstAt (levelOf v) ends)) ↔ (1 ≤ levelOf v → v ≡ firstAt (levelOf v) ends)
 kind-iff ends v = (
-  λ t l. ⊎-elim (λ z. let k = eqb→eq (levelOf v) 0 z in absurd (omega arith)) (eqb→eq v (firstAt (levelOf v) ends)) (or-cases (eqb (levelOf v) 0) (eqb v (firstAt (levelOf v) ends)) t),
+  λ t l. ⊎-elim (λ z. let k = eqb→eq (levelOf v) 0 z in absurd (omega arith)) (eqb→eq v (firstAt (levelOf v) ends))
+      (or-cases (eqb (levelOf v) 0) (eqb v (firstAt (levelOf v) ends)) t),
   λ f. or-intro (eqb (levelOf v) 0) (eqb v (firstAt (levelOf v) ends)) (go f (ℕ-discrete (levelOf v) 0)),
 )
   where

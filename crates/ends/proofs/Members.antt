@@ -30,7 +30,8 @@ has-cons x l y = or-iff (eqb y x) (any (eqb y) l) (eqb-iff y x) (λ h. h, λ h. 
 pub has-append : (l m : List ℕ) (y : ℕ) → T (has (l ++ m) y) ↔ (T (has l y) ⊎ T (has m y))
 has-append [] m y = (inr, ⊎-elim (λ h. absurd (has-none y h)) (λ h. h))
 has-append (x ∷ l) m y = (
-  λ h. ⊎-elim (λ e. inl (has-cons x l y .1 (inl e))) (λ k. ⊎-elim (λ a. inl (has-cons x l y .1 (inr a))) inr (has-append l m y .0 k)) (has-cons x (l ++ m) y .0 h),
+  λ h. ⊎-elim (λ e. inl (has-cons x l y .1 (inl e)))
+      (λ k. ⊎-elim (λ a. inl (has-cons x l y .1 (inr a))) inr (has-append l m y .0 k)) (has-cons x (l ++ m) y .0 h),
   λ h. has-cons x (l ++ m) y .1 (⊎-elim
       (λ a. ⊎-elim inl (λ k. inr (has-append l m y .1 (inl k))) (has-cons x l y .0 a))
       (λ b. inr (has-append l m y .1 (inr b))) h),

@@ -2,14 +2,13 @@
 --   picked p a ends == the edges whose end passes the test p, by rising number; the first end is that of edge a
 --   has-picked      == which they are
 --   distinct-picked == none of them stands there twice
+--   endsAs k v      == the end v is one by kind k
 --   ending-picked   == the edges that end by a kind are such
---   has-ending      == and which they are
 use mathlib.Core.Bool.{Bool, true, false, _&&_}
 use mathlib.Core.List.{List, [], _∷_}
-use mathlib.Core.Logic.{_↔_, _⊎_, inl, inr, ⊎-elim}
+use mathlib.Core.Logic.{_↔_, inl, inr, ⊎-elim}
 use mathlib.Core.Path.{_≡_, refl, sym, ap, subst}
 use Prim.Native.Nat.{ℕ, zero, suc, _+_, _<_}
-use native.Mathlib.Decide.{ℕ-discrete}
 use native.Mathlib.Omega.{arith}
 use lib.Dec.{T, leb}
 use lib.ListN.{getD, length}

@@ -4,14 +4,11 @@
 --   same-operations == any two such lists are each other rearranged
 --   each-told       == a kernel's operations are so told where its edges end by its kind
 --   operations-told == the contractions, and then the removals, are such a list
-use mathlib.Core.Bool.{_&&_}
 use mathlib.Core.List.{List, _++_, map, map-append, [], _∷_, List·Permᴰ, Permᴰ·map}
 use mathlib.Core.Logic.{_↔_, _⊎_, inl, inr, ⊎-elim, Iff·trans, Iff·symm}
-use mathlib.Core.Path.{_≡_, refl, sym, ap, ap₂, _∙_, subst, subst₂}
-use Prim.Native.Nat.{ℕ, _≤_, _<_}
-use native.Mathlib.Omega.{arith}
+use mathlib.Core.Path.{_≡_, refl, sym, ap₂, _∙_, subst, subst₂}
+use Prim.Native.Nat.{ℕ, _≤_}
 use lib.Dec.{T, leb, leb→le, le→leb}
-use lib.ListN.{length}
 use Rattle.permutations.specs.Choice.{and-left, and-right, and-intro}
 use Rattle.permutations.specs.Live.{has}
 use Rattle.darts.specs.Operation.{Kind, contraction, removal, kindOf}
@@ -21,7 +18,7 @@ use Rattle.laws.proofs.tests.Shape.{same-kind}
 use Rattle.ends.specs.Ends.{levelOf, ending}
 use Rattle.ends.specs.Comes.{operations}
 use Rattle.ends.proofs.Members.{Distinct, has-cons, has-append, distinct-append, same-members}
-use Rattle.ends.proofs.Picked.{picked, has-picked, distinct-picked, endsAs, ending-picked}
+use Rattle.ends.proofs.Picked.{has-picked, distinct-picked, endsAs, ending-picked}
 use Rattle.ends.proofs.Levels.{at, at-inside}
 
 abbrev pub toldBy : List ℕ → ℕ → Operation
@@ -39,7 +36,8 @@ module _ (ends : List ℕ) where
   pub same-operations : {os ns : List Operation} → Tells ends os → Tells ends ns → List·Permᴰ os ns
   same-operations A B =
       subst₂ List·Permᴰ (sym (A .told)) (sym (B .told))
-      (Permᴰ·map (toldBy ends) (same-members (A .edges) (B .edges) (A .distinct) (B .distinct) (λ e. Iff·trans (A .members e) (Iff·symm (B .members e)))))
+      (Permᴰ·map (toldBy ends) (same-members (A .edges) (B .edges) (A .distinct) (B .distinct)
+      (λ e. Iff·trans (A .members e) (Iff·symm (B .members e)))))
 
   pub each-told : (k : Kind) (es : List ℕ) → ((e : ℕ) → T (has es e) → kindOf (at ends e) ≡ k) → each k es ≡ map (toldBy ends) es
   each-told k [] kinds = refl
@@ -82,11 +80,13 @@ module _ (ends : List ℕ) where
     distinct = distinct-append (ending contraction ends) (ending removal ends) (distinct-ending contraction) (distinct-ending removal)
         (λ e h k. two-kinds (sym (has-ending contraction e .0 h .1) ∙ has-ending removal e .0 k .1));
     members = λ e. (
-      λ h. ⊎-elim (λ a. has-ending contraction e .0 a .0) (λ b. has-ending removal e .0 b .0) (has-append (ending contraction ends) (ending removal ends) e .0 h),
+      λ h. ⊎-elim (λ a. has-ending contraction e .0 a .0) (λ b. has-ending removal e .0 b .0)
+          (has-append (ending contraction ends) (ending removal ends) e .0 h),
       λ l. has-append (ending contraction ends) (ending removal ends) e .1 (go e l (kindOf (at ends e)) refl),
     );
   }
     where
-      go : (e : ℕ) → 1 ≤ levelOf (at ends e) → (k : Kind) → kindOf (at ends e) ≡ k → T (has (ending contraction ends) e) ⊎ T (has (ending removal ends) e)
+      go : (e : ℕ) → 1 ≤ levelOf (at ends e) → (k : Kind) → kindOf (at ends e) ≡ k
+          → T (has (ending contraction ends) e) ⊎ T (has (ending removal ends) e)
       go e l contraction q = inl (has-ending contraction e .1 (l, q))
       go e l removal q = inr (has-ending removal e .1 (l, q))
