@@ -4,3 +4,12 @@ pub mod Arrives
 pub mod Told
 pub mod Unfolds
 pub mod Claims
+pub mod Members
+pub mod Picked
+pub mod Levels
+pub mod Tells
+pub mod Ended
+pub mod Accepted
+pub mod Form
+pub mod ByLevels
+pub mod Decided
