@@ -22,23 +22,21 @@ use Rattle.permutations.specs.Live.{any, has}
 use Rattle.permutations.specs.Map.{Map, Good, offEdge-not-end}
 use Rattle.permutations.proofs.Legal.{Op, Contract, Remove, dart, act, AllLegal, good-act}
 use Rattle.darts.specs.Choose.{if_then_else_}
-use Rattle.darts.specs.Operation.{Kind, contraction, removal, number, kindOf, leadOf}
+use Rattle.darts.specs.Operation.{Kind, contraction, removal, number, kindOf}
 use Rattle.darts.specs.Kernel.{Operation, each}
 use Rattle.darts.specs.Pyramid.{Kernel}
 use Rattle.darts.specs.OneByOne.{operationsOf}
 use Rattle.laws.proofs.bridge.Standing.{opOf}
 use Rattle.laws.proofs.bridge.AnyKind.{dart-op}
-use Rattle.laws.proofs.bridge.Numbers.{number-kind, number-lead}
+use Rattle.laws.proofs.bridge.Numbers.{number-kind}
 use Rattle.laws.proofs.runs.Runs.{acts}
 use Rattle.ends.specs.Ends.{levelOf, endsBy}
 use Rattle.ends.specs.Comes.{endIn, endsSo}
+use Rattle.ends.proofs.Ended.{number-level}
+use Rattle.ends.proofs.Accepted.{so-iff}
 use Rattle.ends.proofs.Returns.{taken, exchange, cross, cross-not-taken, not-taken}
 
 -- ---- an end
-
-pub number-level : (κ : Kind) (L : ℕ) → levelOf (number κ L) ≡ L
-unfolding levelOf leadOf
-number-level κ L = number-lead κ L
 
 by-iff : (k v : ℕ) → T (endsBy k v) → (1 ≤ levelOf v) × (levelOf v ≤ k)
 unfolding endsBy
@@ -49,18 +47,12 @@ by-level : (k v : ℕ) → 1 ≤ levelOf v → levelOf v ≤ k → T (endsBy k v
 unfolding endsBy
 by-level k v h l = and-intro (leb 1 (levelOf v)) (leb (levelOf v) k) (le→leb 1 (levelOf v) h) (le→leb (levelOf v) k l)
 
-so-cases : (v w : ℕ) → T (endsSo v w) → (v ≡ w) ⊎ ((levelOf v ≡ 0) × (levelOf w ≡ 0))
-unfolding endsSo
-so-cases v w h = ⊎-elim (λ e. inl (eqb→eq v w e))
-    (λ b. inr (eqb→eq (levelOf v) 0 (and-left (eqb (levelOf v) 0) (eqb (levelOf w) 0) b), eqb→eq (levelOf w) 0 (and-right (eqb (levelOf v) 0) (eqb (levelOf w) 0) b)))
-    (or-cases (eqb v w) (eqb (levelOf v) 0 && eqb (levelOf w) 0) h)
-
 pub so-by : (k v w : ℕ) → T (endsSo v w) → endsBy k v ≡ endsBy k w
 so-by k v w h = ⊎-elim (ap (endsBy k)) (λ b. T-ext (endsBy k v) (endsBy k w)
-    (λ a. let c = by-iff k v a in absurd (let z = b .0 in omega arith)) (λ a. let c = by-iff k w a in absurd (let z = b .1 in omega arith))) (so-cases v w h)
+    (λ a. let c = by-iff k v a in absurd (let z = b .0 in omega arith)) (λ a. let c = by-iff k w a in absurd (let z = b .1 in omega arith))) (so-iff v w .0 h)
 
 pub so-same : (k v w : ℕ) → T (endsSo v w) → T (endsBy k w) → v ≡ w
-so-same k v w h g = ⊎-elim (λ e. e) (λ b. let c = by-iff k w g in absurd (let z = b .1 in omega arith)) (so-cases v w h)
+so-same k v w h g = ⊎-elim (λ e. e) (λ b. let c = by-iff k w g in absurd (let z = b .1 in omega arith)) (so-iff v w .0 h)
 
 -- ---- the edges of operations
 
