@@ -19,9 +19,9 @@ const SEEDS: u64 = 5 << 32;
 
 /// A sort of map, and how many edges are proposed for a kernel: fewer where the second program, which walks vertices
 /// and faces dart by dart, has long ones to walk.
-type Sort = (fn(&mut Chance, u32) -> Vec<u32>, usize);
+pub type Sort = (fn(&mut Chance, u32) -> Vec<u32>, usize);
 
-const SORTS: [Sort; 7] = [
+pub const SORTS: [Sort; 7] = [
     (plan, 20_000),
     (long_chain, 20_000),
     (plane, 20_000),
@@ -70,7 +70,7 @@ fn life(script: &mut Script, chance: &mut Chance, base: &[u32], proposals: usize
 }
 
 /// The edges among so many proposals that are accepted, one after another.
-fn fine(chance: &mut Chance, map: &Map, kind: Kind, proposals: usize) -> Vec<u32> {
+pub fn fine(chance: &mut Chance, map: &Map, kind: Kind, proposals: usize) -> Vec<u32> {
     let mut proposed = kernels::all(chance, map);
     proposed.truncate(proposals);
     kernels::fine_among(proposed, &mut map.clone(), kind, proposals)
