@@ -36,7 +36,7 @@ impl Group {
 pub const GROUPS: [Group; 11] = [
     Group::new(
         "worked",
-        "document 01's examples, what one test of a pyramid alone refuses, both culprits, and small plans",
+        "document 01's examples, what one test of a pyramid alone refuses, both culprits, small plans and lookups",
         worked::SCRIPTS,
         worked::SCRIPTS,
         worked::input,
@@ -49,6 +49,6 @@ pub const GROUPS: [Group; 11] = [
     Group::new("reports", "files for the program levels", 1_000, 6_000, reports::input),
     Group::new("plans", "the calls on a plan", 30, 300, plans::input),
     Group::new("drawings", "drawn plans for the program plan", 1_000, 6_000, drawings::input),
-    Group::new("lookups", "a dart's successor at each level", 14, 140, lookups::input),
+    Group::new("lookups", "a dart's successor at each level", 16, 160, lookups::input),
     Group::new("large", "maps of 4,096 to 65,536 darts", 30, 200, large::input),
 ];

@@ -14,6 +14,7 @@ use crate::large;
 use crate::scene::{needed, Scene};
 use crate::script::Script;
 use crate::small;
+use second::operation::Kind;
 use second::pyramid::Pyramid;
 use second::state::{MOST_DARTS, MOST_LEVELS};
 
@@ -26,7 +27,7 @@ const LENGTH: usize = 300_000;
 /// What a script holds.
 type Sort = fn(&mut Script, &mut Chance);
 
-const SORTS: [Sort; 7] = [every_dart, every_dart, every_dart, lives, sixty_four_levels, middling, largest];
+const SORTS: [Sort; 8] = [every_dart, every_dart, every_dart, lives, sixty_four_levels, middling, largest, few_left];
 
 pub fn input(script: usize) -> Input {
     let mut chance = Chance::new(SEEDS + script as u64);
@@ -226,7 +227,8 @@ fn lives(script: &mut Script, chance: &mut Chance) {
 fn looked_up(scene: &mut Scene, chance: &mut Chance) {
     let pyramid = scene.pyramid.clone();
     let mut asked = Asked::put(scene.script, chance, pyramid);
-    for _ in 0..8 {
+    asked.some_darts(chance, 2);
+    for _ in 0..4 {
         asked.any(chance);
     }
     scene.lend_again();
@@ -255,10 +257,10 @@ fn sixty_four_levels(script: &mut Script, chance: &mut Chance) {
     }
 }
 
-/// Maps of 42 to 4,094 darts.
+/// Maps of 256 to 4,094 darts, or a few less.
 fn middling(script: &mut Script, chance: &mut Chance) {
     for _ in 0..20 {
-        let darts = 2 * chance.between(21, 2_047);
+        let darts = 2 * chance.between(128, 2_047);
         let (sort, proposals) = chance.pick(&large::SORTS);
         let base = sort(chance, darts);
         let (tries, most) = (chance.below(7), chance.pick(&[3, 60, proposals]));
@@ -282,6 +284,25 @@ fn largest(script: &mut Script, chance: &mut Chance) {
         pyramid.reduce(kind, &kernel).ok();
         pyramid.sweep().ok();
     }
+    asked_largest(script, chance, pyramid);
+}
+
+/// The same, contracted and removed until hardly a dart is left: the longest walks.
+fn few_left(script: &mut Script, chance: &mut Chance) {
+    let sort = chance.pick(&[large::plan, large::long_chain, large::loops_in_loops]);
+    let base = sort(chance, MOST_DARTS);
+    let mut pyramid = Pyramid::start(&base).expect("a base is a permutation");
+    let mut kinds = [Kind::Contract, Kind::Remove];
+    chance.shuffle(&mut kinds);
+    for kind in kinds {
+        let kernel = kernels::fine(chance, pyramid.map(), kind, usize::MAX);
+        pyramid.reduce(kind, &kernel).ok();
+    }
+    asked_largest(script, chance, pyramid);
+}
+
+/// Some darts at each level, and a refusal of each sort.
+fn asked_largest(script: &mut Script, chance: &mut Chance, pyramid: Pyramid) {
     script.numbers("fill", &[chance.below(9)]);
     let mut asked = Asked::put(script, chance, pyramid);
     asked.some_darts(chance, 4);
