@@ -124,8 +124,9 @@ fn answer_4_before_12_before_7_before_8() {
     k12().refuse(8, 2, 0, 8, 0, 32);
 }
 
-/// The walk of document 003 and its count, once more: backwards from the list of all darts it passes.
-fn passed(base: &Map, gone: &[Option<bool>], dart: u32) -> Vec<u32> {
+/// The darts that document 003's walk comes to, once more: the gone ones that it passes, and the one where it ends. Of each
+/// edge is given whether it is gone, and then whether it was contracted.
+fn walk(base: &Map, gone: &[Option<bool>], dart: u32) -> Vec<u32> {
     let step = |&at: &u32| match gone[at as usize / 2] {
         None => None,
         Some(true) => Some(base.successor(partner(at))),
@@ -147,7 +148,7 @@ fn every_dart_at_every_level_of_random_pyramids() {
                     ended.refuse(darts, k, dart, 8, 0, 4 * darts as usize);
                     continue;
                 }
-                let walk = passed(&pyramid.levels()[0].map, &gone, dart);
+                let walk = walk(&pyramid.levels()[0].map, &gone, dart);
                 let (last, before) = walk.split_last().expect("a first step");
                 assert_eq!(*last, level.map.successor(dart), "it agrees with unfolding");
                 assert!(before.len() <= 2 * level.operations, "\"never above twice the operations\"");
