@@ -274,6 +274,8 @@ mod tests {
         assert!(one.faults().iter().any(|fault| fault.starts_with("sweep gave 10, but: ")));
         let one = Coverage::of(Program::Zones, b"flat 1 1 1\n", b"answer=5 place=0 second=0 state=0 0 0\n");
         assert!(one.faults().iter().any(|fault| fault.starts_with("flat gave 5, but: ")));
+        let one = Coverage::of(Program::Zones, b"successor 2 0 0\n", b"answer=9 place=0 second=0 dart=0 passed=0\n");
+        assert!(one.faults().iter().any(|fault| fault.starts_with("successor gave 9, but: ")));
     }
 
     #[test]

@@ -134,7 +134,10 @@ fn one_refused_edge_more(chance: &mut Chance, pyramid: &Pyramid, ends: &mut [u32
     if refused.is_empty() {
         return;
     }
-    let (number, _) = chance.pick(&refused);
+    let mut numbers: Vec<u32> = refused.iter().map(|&(number, _)| number).collect();
+    numbers.sort_unstable();
+    numbers.dedup();
+    let number = chance.pick(&numbers);
     let as_this: Vec<u32> = refused.into_iter().filter(|(other, _)| *other == number).map(|(_, edge)| edge).collect();
     ends[chance.pick(&as_this) as usize] = end(with, kind);
 }

@@ -11,7 +11,7 @@ use crate::ended::{ends_of, Wrong, WRONG_ENDS, WRONG_TABLES};
 use crate::input::Input;
 use crate::kernels;
 use crate::large;
-use crate::scene::{needed, Scene};
+use crate::scene::{enough, needed, Scene};
 use crate::script::Script;
 use crate::small;
 use second::operation::Kind;
@@ -46,13 +46,12 @@ struct Asked<'a> {
 }
 
 impl<'a> Asked<'a> {
-    /// Puts base and ends into the rooms, lends what is needed and now and then some more, of which the rooms have none for
-    /// the largest map, and leaves rubbish where no lookup may look.
+    /// Puts base and ends into the rooms, lends what is needed and now and then some more, and leaves rubbish where no lookup
+    /// may look.
     fn put(script: &'a mut Script, chance: &mut Chance, pyramid: Pyramid) -> Asked<'a> {
         let darts = 2 * pyramid.map().edges();
         let ends = ends_of(chance, &pyramid);
-        let more = if darts < MOST_DARTS { [0, 0, 1, 4] } else { [0; 4] };
-        let lent = needed(darts).map(|length| length + chance.pick(&more));
+        let lent = enough(chance, darts);
         script.lend(lent);
         script.put("table", 0, pyramid.levels()[0].map.table());
         script.put("ends", 0, &ends);
