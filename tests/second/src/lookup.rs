@@ -18,8 +18,8 @@ pub struct Found {
     pub passed: usize,
 }
 
-/// The pyramid is the one that the ends were built to. "then 12 for k, then 7 for a dart of D or more, then 8 for a dart
-/// gone by then; 7 and 8 have place 0"
+/// The pyramid is the one that the ends come from. "then 12 for k, then 7 for a dart of D or more, then 8 for a dart gone by
+/// then; 7 and 8 have place 0"
 pub fn lookup(pyramid: &Pyramid, ends: &[u32], k: u32, dart: Dart) -> Result<Found, Refusal> {
     let k = k as usize;
     let level = pyramid.levels().get(k).ok_or(Refusal::NoSuchLevel { top: pyramid.top() })?;

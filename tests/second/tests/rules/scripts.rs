@@ -226,7 +226,8 @@ fn numbers_may_have_leading_zeros() {
 #[test]
 fn the_ends_of_the_rooms_can_be_used() {
     let script = "lend 65536 32768 262156\ntable 65539 1\nhistory 32770 1 2\nwork 262159 1\ntable 4294967295\n\
-                  history 4294967295\nwork 4294967295\nends 32770 1 4294967295\nends 4294967295\nplan 16387 255\nplan 4294967295\nstate 1 2 3";
+                  history 4294967295\nwork 4294967295\nends 32770 1 4294967295\nends 4294967295\n\
+                  plan 16387 255\nplan 4294967295\nstate 1 2 3";
     assert_eq!(printed(&format!("{script}{}\n", " 0".repeat(64))), "");
     assert_eq!(short("write 599996\n"), ["answer=1 place=0 second=0 state=0 0 0"]);
     assert_eq!(
