@@ -13,3 +13,5 @@ pub mod Accepted
 pub mod Form
 pub mod ByLevels
 pub mod Decided
+pub mod Judged
+pub mod Sentences
