@@ -15,3 +15,6 @@ pub mod ByLevels
 pub mod Decided
 pub mod Judged
 pub mod Sentences
+pub mod Alike
+pub mod LookedAt
+pub mod Highest
