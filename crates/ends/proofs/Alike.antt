@@ -3,24 +3,21 @@
 --   alike-ends    == so they are where it is so place by place
 --   alike-top, alike-gone, alike-walk, alike-comes == then nothing tells them apart: neither the top, nor what is gone by a level, nor the walk, nor
 --                    whether they come from a pyramid
-use mathlib.Core.Bool.{Bool, true, false, _&&_, _||_}
+use mathlib.Core.Bool.{_&&_, _||_}
 use mathlib.Core.List.{List, [], _∷_, _++_}
 use mathlib.Core.Logic.{_⊎_, inl, inr, ⊎-elim}
-use mathlib.Core.Path.{_≡_, refl, sym, _∙_, ap, ap₂, subst}
+use mathlib.Core.Path.{_≡_, refl, sym, _∙_, ap, ap₂}
 use Prim.Native.Nat.{ℕ, zero, suc, _/_, _≤_, _<_}
-use native.Mathlib.Nat.{not-suc-le-zero}
 use native.Mathlib.Omega.{arith}
 use lib.Dec.{T, eqb, leb, leb→le, le→leb}
 use lib.ListN.{length, getD}
 use Rattle.permutations.specs.Choice.{T?, T→true, nT→false, eqb-other}
-use Rattle.darts.specs.Choose.{if_then_else_}
 use Rattle.darts.specs.Map.{successor, permutationTest, passed}
 use Rattle.darts.specs.Operation.{Kind, contraction, removal, kindOf}
 use Rattle.darts.specs.Kernel.{each}
-use Rattle.darts.specs.Tests.{sameKind}
 use Rattle.darts.specs.OneByOne.{oneByOne}
-use Rattle.ends.specs.Ends.{levelOf, endOf, endsBy, goneBy, top, firstAt, inUse, oneKind, shaped, endingFrom, ending}
-use Rattle.ends.specs.Walk.{Found, onwardBy, onward, walkFrom, walk}
+use Rattle.ends.specs.Ends.{levelOf, endOf, goneBy, top, firstAt, inUse, oneKind, shaped, endingFrom, ending}
+use Rattle.ends.specs.Walk.{onwardBy, onward, walkFrom, walk}
 use Rattle.ends.specs.Comes.{endsSo, operations, accepted, comes}
 use Rattle.ends.proofs.Accepted.{so-iff}
 use Rattle.ends.proofs.Told.{so-by, so-same}

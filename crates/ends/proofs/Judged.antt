@@ -6,19 +6,18 @@
 --   judged-1 to judged-12 == what the answer is where one of them fails, and judged-0 where none does
 --   Why D k x t h w n     == the reason of an answer of number n
 --   why                   == every answer has its own
-use mathlib.Core.Bool.{Bool, true, false, not}
+use mathlib.Core.Bool.{false, not}
 use mathlib.Core.List.{List}
-use mathlib.Core.Logic.{_≢_}
-use mathlib.Core.Path.{_≡_, refl, sym, _∙_, ap, subst}
-use Prim.Native.Nat.{ℕ, _*_, _/_, _≤_, _<_}
+use mathlib.Core.Path.{_≡_, sym, _∙_, subst}
+use Prim.Native.Nat.{ℕ, _/_, _≤_, _<_}
 use native.Mathlib.Omega.{arith}
-use lib.Dec.{T, eqb, leb, ltb, leb→le, le→leb, ltb→lt, lt→ltb, nltb→le}
+use lib.Dec.{T, eqb, leb, ltb, leb→le, le→leb, ltb→lt, lt→ltb}
 use lib.ListN.{length, take}
 use Rattle.permutations.specs.Choice.{pick, T?, T→true, nT→false}
 use Rattle.darts.specs.Choose.{if_then_else_}
 use Rattle.darts.specs.Answers.{Answer, done, noDartCount, tooShort, noPyramid, noLevel, noEdge, goneAlready}
 use Rattle.darts.specs.Pyramid.{dartCount}
-use Rattle.darts.specs.Calls.{room, fitting}
+use Rattle.darts.specs.Calls.{room}
 use Rattle.darts.proofs.Fitting.{Count, Lengths, count-facts, count-test, room-facts, room-test, no-count, short, fine}
 use Rattle.ends.specs.Ends.{goneBy, top}
 use Rattle.ends.specs.Comes.{comes}

@@ -18,3 +18,4 @@ pub mod Sentences
 pub mod Alike
 pub mod LookedAt
 pub mod Highest
+pub mod Call

@@ -4,24 +4,21 @@
 --   AlikeLooked D l m         == two calls that answered and found the same, and left the same in the work area's first 4D numbers
 --   successor-looks           == the call does not tell such lendings apart
 --   successor-alike           == so it is with lendings of the same numbers: what stands behind them and what the work area held does not matter
-use mathlib.Core.Bool.{Bool, true, false, not}
+use mathlib.Core.Bool.{false}
 use mathlib.Core.List.{List}
 use mathlib.Core.Logic.{_≢_, _↔_, inl}
-use mathlib.Core.Path.{_≡_, refl, sym, _∙_, ap, subst}
+use mathlib.Core.Path.{_≡_, refl, sym, _∙_, ap}
 use Prim.Native.Nat.{ℕ, _*_, _/_, _≤_, _<_}
 use native.Mathlib.Omega.{arith}
 use lib.Dec.{T, eqb, eqb→eq}
 use lib.ListN.{length, take, getD, length-take}
 use lib.Seq.{length-take-le, getD-take}
-use Rattle.permutations.specs.Choice.{T?, T→true, nT→false, T-ext, eqb-other}
+use Rattle.permutations.specs.Choice.{T?, nT→false, T-ext, eqb-other}
 use Rattle.darts.specs.Answers.{Answer}
-use Rattle.darts.specs.Pyramid.{dartCount}
-use Rattle.darts.specs.Calls.{room, fitting, cleared, workAfter}
+use Rattle.darts.specs.Calls.{room, fitting, workAfter}
 use Rattle.darts.proofs.Fitting.{Lengths, room-facts, room-test, fits}
 use Rattle.laws.proofs.calls.Cleared.{cleared-zero}
-use Rattle.ends.specs.Ends.{goneBy, top}
-use Rattle.ends.specs.Walk.{Found, walk}
-use Rattle.ends.specs.Comes.{endsSo, comes}
+use Rattle.ends.specs.Comes.{endsSo}
 use Rattle.ends.specs.Lookup.{Looked, judged, successorAt}
 use Rattle.ends.proofs.Accepted.{so-iff}
 use Rattle.ends.proofs.Alike.{AlikeEnds, alike-ends, alike-top, alike-gone, alike-walk, alike-comes}

@@ -10,17 +10,17 @@
 --   successor-kept, successor-long, successor-area == the lent slices
 use mathlib.Core.List.{List}
 use mathlib.Core.Logic.{_≢_, _↔_, _⊎_, inl, inr}
-use mathlib.Core.Path.{_≡_, refl, sym, _∙_, ap, subst}
+use mathlib.Core.Path.{_≡_, refl, ap, subst}
 use Prim.Native.Nat.{ℕ, _*_, _/_, _≤_, _<_}
 use native.Mathlib.Omega.{arith}
-use lib.Dec.{T, eqb}
+use lib.Dec.{T}
 use lib.ListN.{length, take}
 use Rattle.permutations.specs.Choice.{eqb-same, eqb-other}
 use Rattle.darts.specs.Answers.{Answer}
 use Rattle.darts.specs.Calls.{workAfter, cleared}
 use Rattle.darts.proofs.Fitting.{Count, Lengths}
 use Rattle.laws.proofs.calls.Cleared.{cleared-length}
-use Rattle.laws.proofs.sentences.WorkArea.{Zeroed, Area, cleared-zeroed}
+use Rattle.laws.proofs.sentences.WorkArea.{Area, cleared-zeroed}
 use Rattle.ends.specs.Ends.{goneBy, top}
 use Rattle.ends.specs.Walk.{Found, walk}
 use Rattle.ends.specs.Comes.{comes}
