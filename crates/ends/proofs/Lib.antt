@@ -19,3 +19,4 @@ pub mod Alike
 pub mod LookedAt
 pub mod Highest
 pub mod Call
+pub mod Instances
