@@ -3,6 +3,7 @@
 --   Ordered D k x t h w n == n is answered exactly when it is the first one that is due
 --   Placed a top          == the place of the answer a
 --   Kept t h l            == table and ends are as they were
+--   Nothing f             == dart 0 and count 0
 --   successor-order       == the order of the answers
 --   successor-place, successor-second == 12 has the top as its place, every other place is 0
 --   successor-refused     == "a refusal gives dart 0 and count 0"
