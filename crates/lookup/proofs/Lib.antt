@@ -1,2 +1,3 @@
+pub mod Passing
 pub mod Shapes
 pub mod Walks
