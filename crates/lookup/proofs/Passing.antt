@@ -27,11 +27,11 @@ use Rattle.darts.specs.Kernel.{Run, always, pass, run}
 use Rattle.darts.specs.Tests.{sameKind}
 use Rattle.area.specs.Area.{tableIn, pastIn}
 use Rattle.engine.specs.Held.{Ready}
-use Rattle.engine.specs.Runs.{Went, Turned}
+use Rattle.engine.specs.Runs.{Turned}
 use Rattle.engine.proofs.Ready.{beyond-refl}
 use Rattle.engine.proofs.Underway.{Underway, underway-on, underway-stops, underway-ends}
 use Rattle.ends.specs.Ends.{levelOf, endingFrom, ending}
-use Rattle.lookup.specs.Told.{tells}
+use Rattle.lookup.specs.Told.{tells, Passed}
 
 -- ---- by its number
 
@@ -103,8 +103,8 @@ module _ {D n k : ℕ} {ends w₀ w : List ℕ} {e m : ℕ} (σ : Passing D n k 
           let one : m + 1 - n ≡ suc (m - n) = omega arith in
           record { low = omega arith; under = rw (one, add-one e) (underway-on (at-turn chosen) refl τ fine) }
 
-      pub passing-stops : answerOf r .number ≢ 0 → n ≤ D / 2 → Went D (whole D n k ends w₀) w₀ v (record { answer = r; operations = n })
-      passing-stops given few = underway-stops (at-turn chosen) refl τ given few
+      pub passing-stops : answerOf r .number ≢ 0 → n ≤ D / 2 → Passed D (whole D n k ends w₀) w₀ v (record { answer = r; operations = n })
+      passing-stops given few = record { ran = underway-stops (at-turn chosen) refl τ given few; area = λ z. absurd (given z) }
 
-  pub passing-ends : length ends ≤ e → Went D (whole D n k ends w₀) w₀ w (record { answer = Done 0; operations = m })
-  passing-ends none = underway-ends (rw (ending-none k ends e none) at (σ .under))
+  pub passing-ends : length ends ≤ e → Passed D (whole D n k ends w₀) w₀ w (record { answer = Done 0; operations = m })
+  passing-ends none = record { ran = underway-ends (rw (ending-none k ends e none) at (σ .under)); area = λ _. σ .under .ready .area }
