@@ -1,43 +1,47 @@
+-- `lookup::deciding::decide` meets its contract: no by the levels, no by the base, or what the operations say.
 use borrow.Author.Needs.{needs}
+use borrow.Author.Tests.{not-true, not-false}
+use Rattle.lookup.proofs.Accepting.{came-shape, came-base, came-area, came-operated}
 use Rattle.lookup.proofs.deciding.decide.Statement.{statement}
 use Rattle.lookup.proofs.deciding.decide.Tie as tie
-use Rattle.lookup.proofs.deciding.decide.Reads as reads
-use Rattle.lookup.proofs.deciding.decide.Lts as lts
-use Rattle.area.proofs.load.load.Reads as load-reads
-use Rattle.lookup.proofs.deciding.operate.Reads as operate-reads
-use Rattle.lookup.proofs.levels.shape.Reads as shape-reads
 
--- src/deciding.rt:33:9
 shape-requires : tie.Need-shape-requires
 shape-requires c κs = search needs
 
--- src/deciding.rt:34:9
 returns : tie.Need-returns
-returns c = ?
+returns c = came-shape _ _ _ (c .before .shape .ensures) (not-true _ (c .if1 .taken))
 
--- src/deciding.rt:36:8
 load-requires : tie.Need-load-requires
 load-requires c κs = search needs
 
--- src/deciding.rt:37:9
 operate-requires : tie.Need-operate-requires
-operate-requires c κs = ?
+operate-requires c κs =
+    let i = c .before in
+    let l = i .before .before .before in
+    let s = l .before .before .before .before .before .before .before in
+    came-area _ _ (s .pre .1) (s .pre .0) (l .load .ensures) (i .if2 .taken)
 
--- src/deciding.rt:37:9
 same-length : tie.Need-same-length
 same-length c = search needs
 
--- src/deciding.rt:37:9
 returns-2 : tie.Need-returns-2
-returns-2 c = ?
+returns-2 c =
+    let o = c .before .before in
+    let i = o .before .before in
+    let l = i .before .before .before in
+    let h = l .before .before in
+    let s = h .before .before .before .before .before in
+    came-operated _ _ (s .pre .1) (s .pre .0) (l .load .ensures) (h .before .shape .ensures) (not-false _ (h .if1 .left)) (i .if2 .taken)
+    (o .operate .ensures)
 
--- src/deciding.rt:28:1
 same-length-2 : tie.Need-same-length-2
 same-length-2 c = search needs
 
--- src/deciding.rt:28:1
 returns-3 : tie.Need-returns-3
-returns-3 c = ?
+returns-3 c =
+    let l = c .before .before .before in
+    let s = l .before .before .before .before .before .before .before in
+    came-base _ _ (s .pre .1) (s .pre .0) (l .load .ensures) (c .if2 .left)
 
 pub decide-spec : {M : Type 1} → statement M
 decide-spec =
