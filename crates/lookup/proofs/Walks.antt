@@ -7,7 +7,6 @@
 --   walking-more          == where y is gone, not all D steps are done
 --   walking-on            == it goes on from a gone dart
 --   walking-ends          == it ends at one that is not gone
---   passed-few            == it passes at most D darts
 use mathlib.Core.Bool.{Bool, true, false}
 use mathlib.Core.List.{List}
 use mathlib.Core.Logic.{_≢_}
@@ -98,19 +97,3 @@ module _ {D k : ℕ} {t ends : List ℕ} {x y i : ℕ} (σ : Walking D k t ends 
 
   pub walking-ends : goneBy k ends y ≡ false → record { dart = y; passed = i } ≡ walk D k t ends x
   walking-ends f = sym (stop-here (D - i) k t ends y i f) ∙ σ .same
-
--- ---- its count
-
-passed-from : (n k : ℕ) (t ends : List ℕ) (y i : ℕ) → walkFrom n k t ends y i .passed ≤ n + i
-unfolding walkFrom
-passed-from zero k t ends y i = omega arith
-passed-from (suc n) k t ends y i = go (goneBy k ends y) refl (passed-from n k t ends (onward t ends y) (suc i))
-  where
-    go : (b : Bool) → goneBy k ends y ≡ b → walkFrom n k t ends (onward t ends y) (suc i) .passed ≤ n + suc i
-        → walkFrom (suc n) k t ends y i .passed ≤ suc n + i
-    go true g l = rw g (omega arith)
-    go false g l = rw g (omega arith)
-
-pub passed-few : (D k : ℕ) (t ends : List ℕ) (x : ℕ) → walk D k t ends x .passed ≤ D
-unfolding walk
-passed-few D k t ends x = let l = passed-from D k t ends (successor t x) 0 in omega arith

@@ -25,7 +25,7 @@ fn operate(work: &mut [u32], d: usize, ends: &[u32]) -> bool
 }
 
 // Whether the table of d numbers and the ends come from a pyramid: the form of the levels, the base, and then the operations.
-pub fn decide(work: &mut [u32], d: usize, table: &[u32], ends: &[u32]) -> bool
+pub(crate) fn decide(work: &mut [u32], d: usize, table: &[u32], ends: &[u32]) -> bool
     requires { ⌜ Room d (now work) ⌝ }
     requires { ⌜ length (now table) ≡ d ⌝ }
     ensures { λ r. ⌜ Came d (now (table .entry)) (now (ends .entry)) (now (work .entry)) (now (work .exit)) r ⌝ }

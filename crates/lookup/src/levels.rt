@@ -7,7 +7,7 @@ ghost use Rattle.ends.specs.Ends.{top as topOf, oneKind, shaped};
 ghost use Rattle.lookup.specs.Firsts.{Unset, Firsts, usedIn};
 
 // The highest level among the ends.
-pub fn top(ends: &[u32]) -> usize
+pub(crate) fn top(ends: &[u32]) -> usize
     ensures { λ r. ⌜ r ≡ topOf (now (ends .entry)) ⌝ }
 {
     let mut i = ends.len();
@@ -76,7 +76,7 @@ fn one_kind(first: &[u32], ends: &[u32]) -> bool
 }
 
 // Whether the levels are in the form of a pyramid's: at most 64, each in use, one kind in each.
-pub fn shape(ends: &[u32]) -> bool
+pub(crate) fn shape(ends: &[u32]) -> bool
     ensures { λ r. ⌜ r ≡ shaped (now (ends .entry)) ⌝ }
 {
     let high = top(ends);

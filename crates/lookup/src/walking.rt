@@ -10,7 +10,7 @@ ghost use Rattle.ends.specs.Walk.{onward as onwardOf, walk as walkOf, Walks};
 ghost use Rattle.lookup.specs.Values.{foundOf};
 
 // Whether dart y is gone by level k.
-pub fn gone_by(ends: &[u32], k: usize, y: usize) -> bool
+pub(crate) fn gone_by(ends: &[u32], k: usize, y: usize) -> bool
     requires { ⌜ y / 2 < length (now ends) ⌝ }
     ensures { λ r. ⌜ r ≡ goneBy k (now (ends .entry)) y ⌝ }
 {
@@ -33,10 +33,11 @@ fn onward(table: &[u32], ends: &[u32], y: usize) -> usize
 }
 
 // The walk from x to its successor at level k, on d darts. Each gone dart passed is counted.
-pub fn walk(table: &[u32], ends: &[u32], d: usize, k: usize, x: usize) -> Found
+pub(crate) fn walk(table: &[u32], ends: &[u32], d: usize, k: usize, x: usize) -> Found
     requires { ⌜ (length (now table) ≡ d) × (length (now ends) ≡ d / 2) × (d % 2 ≡ 0) × (d ≤ 65536) × (x < d) ⌝ }
     requires { ⌜ Walks d k (now table) (now ends) x ⌝ }
     ensures { λ r. ⌜ foundOf r ≡ walkOf d k (now (table .entry)) (now (ends .entry)) x ⌝ }
+    ensures { λ r. ⌜ (r .dart < d) × (r .passed ≤ d) ⌝ }
 {
     let mut y = at(table, x);
     let mut passed = 0;

@@ -50,7 +50,9 @@ loop-again c =
     walking-on (l .loop .inv) (p .0 .2) (p .1) (sym (c .before .before .gone-by .ensures) ∙ c .before .if1 .taken) (c .onward .ensures)
 
 returns : tie.Need-returns Inv-loop μ-loop
-returns c = walking-ends (c .before .before .loop .inv) (sym (c .before .gone-by .ensures) ∙ c .if1 .left)
+returns c =
+    let σ = c .before .before .loop .inv in
+    (walking-ends σ (sym (c .before .gone-by .ensures) ∙ c .if1 .left), (σ .below, σ .few))
 
 pub walk-spec : {M : Type 1} → statement M
 walk-spec =
