@@ -5,6 +5,7 @@
 --   refused-so, found-so == an answer without a walk, and with one
 --   room-count   == what has room in a work area is a number of darts
 --   no-pyramid, a-pyramid == 4, or what is said over table and ends that come from a pyramid
+--   CallFits D t h w, call-fits == neither 1 nor 2: what the call asks of the lent slices
 --   first-refused == the call gives 1 or 2
 --   looked-up    == or any other answer
 use mathlib.Core.Bool.{Bool, true, false, not}
@@ -22,7 +23,7 @@ use Rattle.darts.specs.Cases.{answerOf}
 use Rattle.darts.specs.Choose.{if_then_else_}
 use Rattle.darts.specs.Calls.{fitting, cleared, workAfter}
 use Rattle.darts.specs.Pyramid.{dartCount}
-use Rattle.darts.proofs.Fitting.{count-test, first-keeps}
+use Rattle.darts.proofs.Fitting.{fits, count-test, first-keeps}
 use Rattle.area.specs.Area.{Room}
 use Rattle.ends.specs.Ends.{goneBy, top}
 use Rattle.ends.specs.Walk.{nothing, walk, Walks}
@@ -99,6 +100,21 @@ module _ (D k x : ℕ) (t h : List ℕ) (l : Looked) {r : Bool} (came : r ≡ co
   a-pyramid y L = rw (← came, y) L
 
 -- ---- the call
+
+pub record CallFits (D : ℕ) (t h w : List ℕ) : Type 0 where
+  pub room : Room D w
+  pub table : D ≤ length t
+  pub ends : D / 2 ≤ length h
+
+pub call-fits : (D : ℕ) (t h w : List ℕ) → fitting D (length t) (length h) (length w) .number ≡ 0 → CallFits D t h w
+call-fits D t h w fine =
+    let f = fits D (length t) (length h) (length w) fine in
+    let m = f .count .some in
+    record {
+      room = record { even = f .count .even; some = omega arith; small = f .count .small; fits = f .lengths .work };
+      table = f .lengths .table;
+      ends = f .lengths .history;
+    }
 
 -- every answer but 1 and 2 clears the work area
 clears : (n : ℕ) (p a b c : Bool) (D : ℕ) (w : List ℕ) → workAfter (if p then noPyramid else chosen n a b c) D w ≡ cleared D w
