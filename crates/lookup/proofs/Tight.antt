@@ -29,6 +29,6 @@ module _ (l m : Looked) (t u h g w v : List ℕ) where
       }
 
   -- NO TWO OUTCOMES OF THE LOOKUP SATISFY ITS STATEMENT
-  pub lookup-one : (D k x : ℕ) (t₀ h₀ w₀ : List ℕ) → looked l t h w ≡ successorAt D k x t₀ h₀ w₀ → looked m u g v ≡ successorAt D k x t₀ h₀ w₀
-      → SameLooked l m t u h g w v
+  pub lookup-one : (D k x : ℕ) (t₀ h₀ w₀ : List ℕ) → looked l t h w ≡ successorAt D k x t₀ h₀ w₀
+      → looked m u g v ≡ successorAt D k x t₀ h₀ w₀ → SameLooked l m t u h g w v
   lookup-one D k x t₀ h₀ w₀ = looked-one (successorAt D k x t₀ h₀ w₀)
