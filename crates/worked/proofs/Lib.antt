@@ -4,3 +4,5 @@ pub mod Numbers
 pub mod Parts
 -- Computed == the rows, by computation
 pub mod Computed
+-- Found == the worked lookups, part by part, and by computation
+pub mod Found
