@@ -49,7 +49,7 @@ unfolding rising
 rising-length e zero = refl
 rising-length e (suc n) = ap suc (rising-length (suc e) n)
 
-rising-at : (f : ℕ → ℕ) (n e i : ℕ) → i < n → getD (map f (rising e n)) i 0 ≡ f (e + i)
+pub rising-at : (f : ℕ → ℕ) (n e i : ℕ) → i < n → getD (map f (rising e n)) i 0 ≡ f (e + i)
 unfolding rising
 rising-at f zero e i h = absurd (not-suc-le-zero h)
 rising-at f (suc n) e zero h = ap f (omega arith)

@@ -13,3 +13,10 @@ pub mod Accepted
 pub mod Form
 pub mod ByLevels
 pub mod Decided
+pub mod Judged
+pub mod Sentences
+pub mod Alike
+pub mod LookedAt
+pub mod Highest
+pub mod Call
+pub mod Instances

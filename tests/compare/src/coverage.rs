@@ -24,6 +24,7 @@ pub enum Call {
     Write,
     Flat,
     FlatAreas,
+    Successor,
     Levels,
     Plan,
     PlanBase,
@@ -31,7 +32,7 @@ pub enum Call {
 
 use Call::*;
 
-const CALLS: [(Call, &str); 14] = [
+const CALLS: [(Call, &str); 15] = [
     (Start, "start"),
     (Contract, "contract"),
     (Remove, "remove"),
@@ -43,6 +44,7 @@ const CALLS: [(Call, &str); 14] = [
     (Write, "write"),
     (Flat, "flat"),
     (FlatAreas, "flatareas"),
+    (Successor, "successor"),
     (Levels, "levels"),
     (Plan, "plan"),
     (PlanBase, "plan base"),
@@ -61,25 +63,28 @@ const ERROR: usize = 17;
 const GIVEN_BY: [(&str, &[Call], &str); COLUMNS] = [
     (
         "0",
-        &[Start, Contract, Remove, Sweep, Undo, Unfold, Counts, Read, Write, Flat, FlatAreas, Levels, Plan, PlanBase],
+        &[
+            Start, Contract, Remove, Sweep, Undo, Unfold, Counts, Read, Write, Flat, FlatAreas, Successor, Levels,
+            Plan, PlanBase,
+        ],
         "every call can be done",
     ),
     (
         "1",
-        &[Start, Contract, Remove, Sweep, Undo, Unfold, Counts, Read, Write, Levels],
+        &[Start, Contract, Remove, Sweep, Undo, Unfold, Counts, Read, Write, Successor, Levels],
         "a plan within its limits has 2 to 65,024 darts",
     ),
     (
         "2",
-        &[Start, Contract, Remove, Sweep, Undo, Unfold, Counts, Read, Write, Flat, FlatAreas, Levels],
+        &[Start, Contract, Remove, Sweep, Undo, Unfold, Counts, Read, Write, Flat, FlatAreas, Successor, Levels],
         "the program plan has room for every plan",
     ),
     ("3:lower", &[Start], NO_PERMUTATION),
     ("3:D", &[Start], NO_PERMUTATION),
     (
         "4",
-        &[Contract, Remove, Sweep, Undo, Unfold, Counts, Read, Write, Levels],
-        "a start or a plan is given neither state nor file",
+        &[Contract, Remove, Sweep, Undo, Unfold, Counts, Read, Write, Successor, Levels],
+        "a start or a plan is given neither state nor file nor ends",
     ),
     (
         "5",
@@ -91,8 +96,12 @@ const GIVEN_BY: [(&str, &[Call], &str); COLUMNS] = [
         &[Contract, Remove, Sweep, Read, Levels],
         "the others add no level over others, and state no number of levels",
     ),
-    ("7", &[Contract, Remove], "the others are given no edge numbers"),
-    ("8", &[Contract, Remove], "the others are given no edge numbers; a sweep takes surviving edges"),
+    ("7", &[Contract, Remove, Successor], "the others are given neither edge numbers nor a dart"),
+    (
+        "8",
+        &[Contract, Remove, Successor],
+        "the others are given neither edge numbers nor a dart; a sweep takes surviving edges",
+    ),
     (
         "9",
         &[Contract],
@@ -100,7 +109,7 @@ const GIVEN_BY: [(&str, &[Call], &str); COLUMNS] = [
     ),
     ("10", &[Remove], "a sweep takes empty loops that are no whole piece, and these have two faces"),
     ("11", &[Contract, Remove], "a sweep or a first kernel takes no whole piece"),
-    ("12", &[Undo, Unfold], "the others go to no lower level"),
+    ("12", &[Undo, Unfold, Successor], "the others go to no lower level and look at none"),
     ("13", &[Read, Levels], "the others are given no file"),
     ("14", &[Read, Levels], "the others are given no file"),
     ("15", &[Flat, FlatAreas, Plan, PlanBase], "the others are given no plan"),
@@ -212,6 +221,7 @@ fn call_of(command: &Command) -> Option<(Call, Option<u32>)> {
         Command::Write(_) => Write,
         Command::Flat { .. } => Flat,
         Command::FlatAreas { .. } => FlatAreas,
+        Command::Successor { .. } => Successor,
         _ => return None,
     };
     Some((call, None))
@@ -264,6 +274,8 @@ mod tests {
         assert!(one.faults().iter().any(|fault| fault.starts_with("sweep gave 10, but: ")));
         let one = Coverage::of(Program::Zones, b"flat 1 1 1\n", b"answer=5 place=0 second=0 state=0 0 0\n");
         assert!(one.faults().iter().any(|fault| fault.starts_with("flat gave 5, but: ")));
+        let one = Coverage::of(Program::Zones, b"successor 2 0 0\n", b"answer=9 place=0 second=0 dart=0 passed=0\n");
+        assert!(one.faults().iter().any(|fault| fault.starts_with("successor gave 9, but: ")));
     }
 
     #[test]

@@ -42,10 +42,15 @@ const STEPS: [(u32, Step); 13] = [
     (8, damaged),
 ];
 
+/// A map with edges enough for all levels.
+pub fn base(chance: &mut Chance) -> Vec<u32> {
+    let darts = 2 * chance.between(70, 90);
+    bases::grown(chance, darts, &WAYS)
+}
+
 /// Straight up to the last level but two, then a while about the limit.
 fn case(script: &mut Script, chance: &mut Chance) {
-    let darts = 2 * chance.between(70, 90);
-    let base = bases::grown(chance, darts, &WAYS);
+    let base = base(chance);
     let mut scene = Scene::start(script, chance, &base);
     while scene.pyramid.top() < MOST_LEVELS - 2 {
         one_edge(&mut scene, chance);

@@ -19,9 +19,9 @@ const SEEDS: u64 = 5 << 32;
 
 /// A sort of map, and how many edges are proposed for a kernel: fewer where the second program, which walks vertices
 /// and faces dart by dart, has long ones to walk.
-type Sort = (fn(&mut Chance, u32) -> Vec<u32>, usize);
+pub type Sort = (fn(&mut Chance, u32) -> Vec<u32>, usize);
 
-const SORTS: [Sort; 7] = [
+pub const SORTS: [Sort; 7] = [
     (plan, 20_000),
     (long_chain, 20_000),
     (plane, 20_000),
@@ -70,7 +70,7 @@ fn life(script: &mut Script, chance: &mut Chance, base: &[u32], proposals: usize
 }
 
 /// The edges among so many proposals that are accepted, one after another.
-fn fine(chance: &mut Chance, map: &Map, kind: Kind, proposals: usize) -> Vec<u32> {
+pub fn fine(chance: &mut Chance, map: &Map, kind: Kind, proposals: usize) -> Vec<u32> {
     let mut proposed = kernels::all(chance, map);
     proposed.truncate(proposals);
     kernels::fine_among(proposed, &mut map.clone(), kind, proposals)
@@ -106,14 +106,14 @@ fn one_entry_changed(scene: &mut Scene, chance: &mut Chance) {
 }
 
 /// A grid of that many darts, or fewer by less than a course's, under its own numbers. It may be higher than a plan.
-fn plan(chance: &mut Chance, darts: u32) -> Vec<u32> {
+pub fn plan(chance: &mut Chance, darts: u32) -> Vec<u32> {
     let wales = chance.between(2, 128);
     // A course more adds the upright edges of its cells and the edges along it.
     let courses = 1 + (darts / 2 - (wales - 1)) / (2 * wales - 1);
     Grid { wales, courses }.table()
 }
 
-fn long_chain(chance: &mut Chance, darts: u32) -> Vec<u32> {
+pub fn long_chain(chance: &mut Chance, darts: u32) -> Vec<u32> {
     let chain = bases::chain(darts / 2);
     if chance.one_in(2) {
         bases::renamed(chance, &chain)
@@ -139,6 +139,6 @@ fn single_vertex(chance: &mut Chance, darts: u32) -> Vec<u32> {
     bases::any_order(chance, darts, u32::MAX)
 }
 
-fn loops_in_loops(chance: &mut Chance, darts: u32) -> Vec<u32> {
+pub fn loops_in_loops(chance: &mut Chance, darts: u32) -> Vec<u32> {
     bases::grown(chance, darts, &[(1, Added::EmptyLoop), (1, Added::AcrossFace)])
 }

@@ -11,7 +11,7 @@ const MOST_BYTES: usize = 4_000_000;
 const BEFORE: &str = "lend 2 1 8\ntable 0 1 0\nstart 2\n";
 
 /// What stands after it, and is done only where that line was none in error.
-const AFTER: &str = "counts\nshow\n";
+const AFTER: &str = "counts\nsuccessor 2 0 0\nshow\n";
 
 pub const SCRIPTS: usize = LINES.len() + BARE.len() + LONG;
 
@@ -26,7 +26,7 @@ pub fn input(script: usize) -> Input {
     Input::text(Program::Zones, &bytes)
 }
 
-const LINES: [&str; 97] = [
+const LINES: [&str; 132] = [
     // Words.
     "\n", " \n", "nothing\n", "Counts\n", "count\n", "countss\n", " counts\n", "counts \n", "counts\r\n", "counts\t\n",
     "counts 0\n", "sweep 1\n", "undo 1\n", "show 1\n", "bytes 1\n", "counts\0\n", "counts\u{e9}\n",
@@ -49,7 +49,15 @@ const LINES: [&str; 97] = [
     "plan 16388 7\n", "plan 16387 7 7\n", "plan 4294967295 1\n", "flat\n", "flat 2 1\n", "flat 2 1 2 2\n",
     "flat 2 1 16384\n", "flat 2 1 16385\n", "flat 0 0 16385\n", "flat 4294967295 4294967295 0\n",
     "flat 2 1 4294967298\n", "flatareas\n", "flatareas 2 1 16385\n", "flatarea 2 1 2\n", "flatareass 2 1 2\n",
-    "flat  2 1 2\n",
+    "flat  2 1 2\n", // The room of edges' ends, and the lookup's numbers.
+    "ends\n", "ends 0\n", "ends x\n", "ends 4294967295\n", "ends 4294967296\n", "ends 0 0 4294967295\n",
+    "ends 0 4294967296\n", "ends 0 -1\n", "ends 0 1 \n", "ends  0 1\n", "ends 32771 7\n", "ends 32772 7\n",
+    "ends 32771 7 7\n", "ends 4294967295 1\n", "end 0 1\n", "Ends 0 1\n", "endss 0 1\n", "successor\n",
+    "successor 2\n", "successor 2 0\n", "successor 2 0 1\n", "successor 2 0 1 0\n", "successor 02 00 01\n",
+    "successor 2  0 1\n", "successor 2 0 1 \n", "successor 2 0 x\n", "successor 2 -1 0\n",
+    "successor 4294967295 0 0\n", "successor 2 4294967295 0\n", "successor 2 0 4294967295\n",
+    "successor 4294967296 0 0\n", "successor 2 4294967296 0\n", "successor 2 0 4294967296\n", "successors 2 0 1\n",
+    "Successor 2 0 1\n",
 ];
 
 /// Scripts that are in error at their end, or that hold nothing to print.
@@ -59,7 +67,7 @@ const BARE: [&str; 8] = [
 ];
 
 /// Scripts that are too long to write down.
-const LONG: usize = 9;
+const LONG: usize = 11;
 
 fn long(script: usize) -> Vec<u8> {
     let line = match script {
@@ -75,7 +83,10 @@ fn long(script: usize) -> Vec<u8> {
         6 => format!("state 2 0 0{}\n", " 0".repeat(65)),
         // "the plan's room, of 16,388 bytes"
         7 => format!("plan 0{}\n", " 255".repeat(16_388)),
-        _ => format!("plan 0{}\n", " 255".repeat(16_389)),
+        8 => format!("plan 0{}\n", " 255".repeat(16_389)),
+        // "the room of edges' ends, of 32,772 numbers"
+        9 => format!("ends 0{}\n", " 3".repeat(32_772)),
+        _ => format!("ends 0{}\n", " 3".repeat(32_773)),
     };
     format!("{BEFORE}{line}{AFTER}").into_bytes()
 }

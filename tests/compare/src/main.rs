@@ -9,11 +9,12 @@
 //! - [`steps`]    what can happen next in a scene
 //! - [`damage`]   states that are no pyramid any more
 //! - [`twice`]    histories with an edge twice, which look right everywhere else
+//! - [`ended`]    edges' ends, and tables and ends that come from no pyramid
 //! - [`files`]    good files
 //! - [`spoil`]    files with something wrong
 //! - [`input`]    what one run of a program reads
-//! - [`worked`], [`lines`], [`starts`], [`small`], [`deep`], [`reads`], [`reports`], [`plans`], [`drawings`], [`large`]  the
-//!   inputs, group by group
+//! - [`worked`], [`lines`], [`starts`], [`small`], [`deep`], [`reads`], [`reports`], [`plans`], [`drawings`], [`lookups`],
+//!   [`large`]  the inputs, group by group
 //! - [`groups`]   the list of these
 //! - [`compare`]  both programs on one input
 //! - [`round`]    both programs on a group's inputs
@@ -28,12 +29,14 @@ mod coverage;
 mod damage;
 mod deep;
 mod drawings;
+mod ended;
 mod files;
 mod groups;
 mod input;
 mod kernels;
 mod large;
 mod lines;
+mod lookups;
 mod plans;
 mod reads;
 mod reports;

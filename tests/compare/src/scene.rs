@@ -19,13 +19,11 @@ pub struct Scene<'a> {
 }
 
 impl<'a> Scene<'a> {
-    /// Puts a base into the table, lends what it needs and now and then some more, of which the rooms have none for the
-    /// largest map, and starts.
+    /// Puts a base into the table, lends what it needs and now and then some more, and starts.
     pub fn start(script: &'a mut Script, chance: &mut Chance, base: &[u32]) -> Scene<'a> {
         let pyramid = Pyramid::start(base).expect("a base is a permutation");
         let darts = base.len() as u32;
-        let more = if darts < MOST_DARTS { [0, 0, 1, 4] } else { [0; 4] };
-        let lent = needed(darts).map(|length| length + chance.pick(&more));
+        let lent = enough(chance, darts);
         script.lend(lent);
         script.put("table", 0, base);
         script.numbers("start", &[darts]);
@@ -146,4 +144,10 @@ impl<'a> Scene<'a> {
 /// "the table with at least D numbers, the history with D/2 and the work area with 4D"
 pub fn needed(darts: u32) -> [u32; 3] {
     [darts, darts / 2, 4 * darts]
+}
+
+/// What is needed, and now and then up to four more of each, of which the rooms have none for the largest maps.
+pub fn enough(chance: &mut Chance, darts: u32) -> [u32; 3] {
+    let more = if darts + 8 <= MOST_DARTS { [0, 0, 1, 4] } else { [0; 4] };
+    needed(darts).map(|length| length + chance.pick(&more))
 }

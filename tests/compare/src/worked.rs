@@ -1,5 +1,5 @@
 //! Group `worked`: what document 01 works out by hand, the cases that only one test of a pyramid refuses, and tables that are
-//! no permutation and plans that can be followed by eye
+//! no permutation, plans and lookups that can be followed by eye
 //!
 //! These are fixed. Chance reaches them late or never.
 
@@ -10,14 +10,15 @@ use crate::script::Script;
 use second::operation::kind_of;
 use second::state::State;
 
-pub const SCRIPTS: usize = 4;
+pub const SCRIPTS: usize = 5;
 
 pub fn input(script: usize) -> Input {
     Input::script(match script {
         0 => worked(),
         1 => no_pyramids(),
         2 => culprits(),
-        _ => plans(),
+        3 => plans(),
+        _ => lookups(),
     })
 }
 
@@ -235,6 +236,88 @@ fn plans() -> Script {
                 script.word(line);
             }
             script.numbers(word, &[wales, courses, length.saturating_sub(1)]);
+        }
+    }
+    script
+}
+
+/// Base tables with their edges' ends. Map T: with no level over it, K12, the same with other numbers for survivors, its
+/// levels exchanged, and 64 for a level; a gap, two kinds in one level, levels over 64; the triangle's three edges
+/// contracted, the last edge of a piece, a pending edge removed; K12's top in the place of its base. Then parallel edges, of
+/// which one can be contracted, an edge that is a whole piece, K9's two bases, and tables that are no permutation.
+const ENDS: [(&[u32], &[u32]); 42] = [
+    (&T, &[0, 0, 0, 0]),
+    (&T, &[1, 1, 0, 1]),
+    (&T, &[3, 3, 4, 0]),
+    (&T, &[3, 3, 4, 1]),
+    (&T, &[5, 5, 2, 0]),
+    (&T, &[3, 5, 6, 1]),
+    (&T, &[7, 3, 4, 0]),
+    (&T, &[0, 0, 0, 3]),
+    (&T, &[2, 0, 0, 5]),
+    (&T, &[3, 3, 6, 0]),
+    (&T, &[5, 5, 6, 0]),
+    (&T, &[0, 0, 4, 0]),
+    (&T, &[3, 3, 128, 0]),
+    (&T, &[3, 2, 4, 0]),
+    (&T, &[2, 3, 0, 0]),
+    (&T, &[3, 3, 2, 0]),
+    (&T, &[3, 3, 130, 0]),
+    (&T, &[3, 3, 131, 0]),
+    (&T, &[3, 3, 4, 65_536]),
+    (&T, &[3, 3, 4, 1 << 31]),
+    (&T, &[3, 3, 4, u32::MAX]),
+    (&T, &[3, 3, u32::MAX - 1, 0]),
+    (&T, &[3, 3, 3, 0]),
+    (&T, &[3, 3, 5, 0]),
+    (&T, &[3, 3, 4, 7]),
+    (&T, &[3, 3, 4, 6]),
+    (&T, &[0, 0, 0, 2]),
+    (&T, &[2, 2, 0, 0]),
+    (&[5, 2, 5, 4, 6, 4, 6, 7], &[3, 3, 4, 0]),
+    (&[2, 3, 0, 1], &[3, 0]),
+    (&[2, 3, 0, 1], &[0, 2]),
+    (&[2, 3, 0, 1], &[3, 3]),
+    (&[2, 3, 0, 1], &[3, 5]),
+    (&[0, 1], &[0]),
+    (&[0, 1], &[3]),
+    (&[1, 0], &[2]),
+    (&[1, 0], &[3]),
+    (&[2, 4, 1, 3, 0, 5], &[2, 0, 0]),
+    (&[2, 4, 0, 3, 1, 5], &[3, 0, 0]),
+    (&[2, 4, 1, 3, 0, 5], &[3, 0, 0]),
+    (&[1, 1], &[0]),
+    (&[3, 2, 1, 4], &[0, 0]),
+];
+
+/// Base T of document 01.
+const T: [u32; 8] = [5, 2, 1, 4, 6, 0, 3, 7];
+
+/// Every dart and one that is none, at the levels 0 to 4 and at 64 and 65; then with something lent one too short, and for
+/// other numbers of darts.
+fn lookups() -> Script {
+    let mut script = Script::default();
+    for (table, ends) in ENDS {
+        let darts = table.len() as u32;
+        script.lend(needed(darts));
+        script.word("fill 7");
+        script.put("table", 0, table);
+        script.put("ends", 0, ends);
+        for k in [0, 1, 2, 3, 4, 64, 65] {
+            for dart in 0..=darts {
+                script.numbers("successor", &[darts, k, dart]);
+            }
+        }
+        script.word("fill 7");
+        for short in 0..3 {
+            let mut lent = needed(darts);
+            lent[short] -= 1;
+            script.lend(lent);
+            script.numbers("successor", &[darts, 0, 0]);
+        }
+        script.lend(needed(8));
+        for other in [0, 1, 2, darts - 1, darts + 2, 65_536, 65_538, u32::MAX] {
+            script.numbers("successor", &[other, 0, 0]);
         }
     }
     script

@@ -37,8 +37,12 @@ pub enum Refusal {
     TooManyLevels,
     /// 7: "edge number is D/2 or more"
     NoSuchEdge { place: usize },
+    /// 7: "for a dart of D or more"
+    NoSuchDart,
     /// 8: "the edge is gone already"
     EdgeGone { place: usize },
+    /// 8: "for a dart gone by then"
+    DartGone,
     /// 9: "contraction with one vertex at both ends"
     OneVertex { place: usize },
     /// 10: "removal with one face on both sides"
@@ -67,7 +71,9 @@ impl Refusal {
             Refusal::EmptyKernel => (5, 0),
             Refusal::TooManyLevels => (6, 0),
             Refusal::NoSuchEdge { place } => (7, place),
+            Refusal::NoSuchDart => (7, 0),
             Refusal::EdgeGone { place } => (8, place),
+            Refusal::DartGone => (8, 0),
             Refusal::OneVertex { place } => (9, place),
             Refusal::OneFace { place } => (10, place),
             Refusal::WholePiece { place } => (11, place),

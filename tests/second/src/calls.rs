@@ -7,14 +7,19 @@
 //! Request One of document 02 adds two: the base from a plan, and the base from a plan with its first kernel. "15 ..
 //! judged first, place 0, and nothing is written."
 //!
+//! Request Four adds one: "Successor at a level without unfolding." It is given no state and hands back none.
+//!
 //! The calls on a state answer from the levels that are kept beside it (`kept`).
 
 use crate::answer::{Answer, Refusal};
 use crate::counts::{counts as counts_of, Counts};
+use crate::ends::Built;
 use crate::file_read::{read_body, read_head};
 use crate::file_write::bytes_of;
 use crate::kept::Kept;
-use crate::lent::Lent;
+use crate::lent::{Lent, LentEnds};
+use crate::lookup::{lookup, Found};
+use crate::map::Dart;
 use crate::operation::Kind;
 use crate::plan::{Grid, Plan};
 use crate::pyramid::Pyramid;
@@ -188,4 +193,21 @@ pub fn write(state: &State, lent: &mut Lent, output: &mut [u8], kept: &mut Kept)
         Ok(written) => Answer::done(written),
         Err(refusal) => refusal.answer(),
     }
+}
+
+/// The order: "after 1 and 2, 4 if the table and ends come from no pyramid, then 12 for k, then 7 .., then 8".
+fn looked_up(darts: u32, k: u32, dart: Dart, lent: &mut LentEnds, built: &mut Built) -> Result<Found, Refusal> {
+    lent.judge(darts)?;
+    let ends = lent.ends(darts);
+    let outcome = match built.pyramid(lent.entries(darts), ends) {
+        Some(pyramid) => lookup(pyramid, ends, k, dart),
+        None => Err(Refusal::NoPyramid),
+    };
+    lent.clear_work(darts);
+    outcome
+}
+
+/// "find a surviving dart's successor at level k"; "a refusal gives dart 0 and count 0"
+pub fn successor(darts: u32, k: u32, dart: Dart, lent: &mut LentEnds, built: &mut Built) -> (Answer, Found) {
+    answered(looked_up(darts, k, dart, lent, built), Found::default())
 }

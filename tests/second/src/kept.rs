@@ -44,7 +44,7 @@ impl Kept {
         let looked_at = match room {
             Room::Table => pyramid.map().table().len(),
             Room::History => pyramid.history().len(),
-            Room::Work => 0,
+            Room::Work | Room::Ends => 0,
         };
         if count > 0 && from < looked_at {
             self.drop_levels();

@@ -13,7 +13,9 @@
 //! - [`counts`]     surviving darts, vertices, faces, Euler number
 //! - [`lent`]       the lent slices: lengths, what is written, what is zeroed
 //! - [`plan`]       the map of a plan, and its first kernel
-//! - [`calls`]      the ten calls
+//! - [`ends`]       is a base table, with its edges' ends, that of a pyramid?
+//! - [`lookup`]     a dart's successor at a level: from the level as it is stored, and by a walk
+//! - [`calls`]      the eleven calls
 //! - [`scan`]       the bytes of a file from left to right
 //! - [`file_read`]  what a file means
 //! - [`file_write`] a pyramid's file
@@ -28,12 +30,14 @@ pub mod calls;
 pub mod counts;
 pub mod decide;
 pub mod drawing;
+pub mod ends;
 pub mod file_read;
 pub mod file_write;
 pub mod kept;
 pub mod kernel;
 pub mod lent;
 pub mod levels;
+pub mod lookup;
 pub mod map;
 pub mod operation;
 pub mod plan;

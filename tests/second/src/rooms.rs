@@ -1,7 +1,7 @@
 //! Rooms == the rooms of a script, "all zero at the start", and how much of them is lent
 //! None from a function below stands for an error line.
 
-use crate::lent::Lent;
+use crate::lent::{Lent, LentEnds};
 
 /// "so that a number written outside what was lent shows": what is summed up past the numbers lent.
 pub const AFTER: usize = 4;
@@ -12,16 +12,18 @@ pub enum Room {
     Table,
     History,
     Work,
+    Ends,
 }
 
-/// "table (65,540 numbers), history (32,772), work (262,160), output (600,000 bytes)", and "the plan's room, of 16,388
-/// bytes"
+/// "table (65,540 numbers), history (32,772), work (262,160), output (600,000 bytes)", "the plan's room, of 16,388 bytes",
+/// and "the room of edges' ends, of 32,772 numbers"
 pub struct Rooms {
     table: Vec<u32>,
     history: Vec<u32>,
     work: Vec<u32>,
     output: Vec<u8>,
     plan: Vec<u8>,
+    ends: Vec<u32>,
     /// "T, H and W are set by `lend` and start at 0."
     lent: [usize; 3],
 }
@@ -40,6 +42,7 @@ impl Default for Rooms {
             work: vec![0; 262_160],
             output: vec![0; 600_000],
             plan: vec![0; 16_388],
+            ends: vec![0; 32_772],
             lent: [0; 3],
         }
     }
@@ -62,6 +65,7 @@ impl Rooms {
             Room::Table => &mut self.table,
             Room::History => &mut self.history,
             Room::Work => &mut self.work,
+            Room::Ends => &mut self.ends,
         };
         put(room, from, numbers)
     }
@@ -105,6 +109,13 @@ impl Rooms {
         (lent, &mut self.output[..output], &self.plan[..plan])
     }
 
+    /// What a lookup is lent: "the table's first T numbers, the ends' first H and the work area's first W". "H counts the
+    /// ends; no history is lent".
+    pub fn lend_ends(&mut self) -> LentEnds<'_> {
+        let [table, ends, work] = self.lent;
+        LentEnds { table: &self.table[..table], ends: &self.ends[..ends], work: &mut self.work[..work] }
+    }
+
     /// The first so many numbers of the table, T at most.
     pub fn table(&self, length: u32) -> &[u32] {
         &self.table[..self.lent[0].min(length as usize)]
@@ -129,6 +140,17 @@ impl Rooms {
             checksum(&self.history[..history + AFTER]),
             checksum(&self.work[..work + AFTER]),
             checksum(&self.output[..output + AFTER]),
+        )
+    }
+
+    /// "table=C ends=C work=C": "here `ends=` is of the numbers lent and the four after them"
+    pub fn checksums_with_ends(&self) -> String {
+        let [table, ends, work] = self.lent;
+        format!(
+            "table={} ends={} work={}",
+            checksum(&self.table[..table + AFTER]),
+            checksum(&self.ends[..ends + AFTER]),
+            checksum(&self.work[..work + AFTER]),
         )
     }
 }

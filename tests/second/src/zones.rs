@@ -3,8 +3,10 @@
 use crate::answer::Answer;
 use crate::calls;
 use crate::counts::Counts;
+use crate::ends::Built;
 use crate::kept::Kept;
 use crate::lent::Lent;
+use crate::lookup::Found;
 use crate::rooms::{checksum, Room, Rooms};
 use crate::script::{Command, Commands};
 use crate::state::{State, MOST_LEVELS};
@@ -23,6 +25,7 @@ pub struct Zones {
     state: State,
     rooms: Rooms,
     kept: Kept,
+    built: Built,
     /// The length of the last accepted write.
     written: usize,
     printed: Vec<u8>,
@@ -75,6 +78,7 @@ impl Zones {
             Command::Undo => self.call(calls::undo),
             Command::Unfold(k) => self.call(|state, lent, kept| calls::unfold(state, k, lent, kept)),
             Command::Counts => self.counts(),
+            Command::Successor { darts, k, dart } => self.successor(darts, k, dart),
             Command::Read(file) => self.call(|_, lent, kept| calls::read(file, lent, kept)),
             Command::Write(length) => self.write(length)?,
             Command::Show => self.show(),
@@ -141,6 +145,15 @@ impl Zones {
         let Counts { darts, vertices, faces, euler } = counts;
         self.print_answer(answer, 0);
         self.print(&format!(" darts={darts} vertices={vertices} faces={faces} euler={euler}\n"));
+    }
+
+    /// "prints `answer=A place=P second=S dart=X passed=X table=C ends=C work=C`". "The script's state stays".
+    fn successor(&mut self, darts: u32, k: u32, dart: u32) {
+        let (answer, found) = calls::successor(darts, k, dart, &mut self.rooms.lend_ends(), &mut self.built);
+        let Answer { number, place, second } = answer;
+        let Found { dart, passed } = found;
+        let rooms = self.rooms.checksums_with_ends();
+        self.print(&format!("answer={number} place={place} second={second} dart={dart} passed={passed} {rooms}\n"));
     }
 
     /// "write a file into N bytes of output"

@@ -93,6 +93,12 @@ fn counts_and_write_change_nothing_that_is_kept() {
 }
 
 #[test]
+fn a_lookup_changes_nothing_that_is_kept() {
+    keeps_k7("successor 8 0 0\nends 0 3 3 4 0\nsuccessor 8 0 0\nsuccessor 7 0 0\n");
+    keeps(&format!("{BASE}ends 0 3 3 4 0\nsuccessor 8 2 6\nsuccessor 8 2 0\n"), &[T], &[0], &[]);
+}
+
+#[test]
 fn a_refused_call_keeps_them() {
     let refused = [
         "contract\n", "contract 4\n", "contract 3 0\n", "remove 2\n", "remove 3\n", "contract 3\n", "sweep\n",
@@ -140,6 +146,7 @@ fn numbers_that_no_call_looks_at_keep_them() {
     }
     keeps_k7("table 0\nhistory 0\nwork 0\ntable 4294967295\n");
     keeps_k7("plan 0 1 2 3\n");
+    keeps_k7("ends 0 3 3 4 0\n");
     // Past the count, though a level that is undone had it.
     keeps(&format!("{K7}undo\nhistory 2 9\n"), &[T, ONE], &[0, 2], &[1, 5]);
     keeps(&format!("{BASE}history 0 9\n"), &[T], &[0], &[]);

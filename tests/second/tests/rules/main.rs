@@ -8,6 +8,8 @@
 //! - `no_pyramid`  answer 4: the table of seventeen tests, and faults of shape
 //! - `every_small` every table and history of up to 6 darts against the words of document 01
 //! - `undoing`, `any_order`, `files`, `cycles`  random pyramids over maps of up to 12 darts
+//! - `lookups`     the successor at a level: what is found, each refusal, and their order
+//! - `ends`        tables and edges' ends that come from no pyramid; every one of up to 6 darts
 //! - `plans`       the calls on a plan: bases, first kernels against areas found by flooding, answers
 //! - `drawings`    the program `plan`
 //! - `kept`        the levels kept from call to call: after which call which, and what drops them
@@ -24,10 +26,12 @@ mod commands;
 mod culprits;
 mod cycles;
 mod drawings;
+mod ends;
 mod every_small;
 mod files;
 mod kept;
 mod levels;
+mod lookups;
 mod no_pyramid;
 mod plans;
 mod reader;

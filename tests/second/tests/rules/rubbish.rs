@@ -1,8 +1,10 @@
 //! Any numbers anywhere: the calls answer, and a refusal leaves what was there.
 
 use crate::support::chance::Chance;
+use crate::support::ended::Ended;
 use crate::support::lot::{Call, Lot, ON_A_STATE};
 use second::answer::Answer;
+use second::lookup::Found;
 use second::state::State;
 use second::zones::Zones;
 
@@ -82,13 +84,46 @@ fn pyramids_with_one_number_altered_get_an_answer() {
     }
 }
 
+#[test]
+fn rubbish_for_ends_gets_an_answer() {
+    let mut times = [0; 13];
+    for seed in 0..TRIES {
+        let mut chance = Chance::new(seed);
+        let pyramid = chance.pyramid();
+        let mut ended = Ended::of(&pyramid);
+        let darts = 2 * pyramid.map().edges();
+        for _ in 0..chance.below(3) {
+            let place = chance.below(darts) as usize;
+            match chance.below(3) {
+                0 => ended.table[place] = any_number(&mut chance, darts),
+                _ => ended.ends[place / 2] = any_number(&mut chance, 8),
+            }
+        }
+        let (stated, k, dart) = match chance.below(20) {
+            0 => (any_number(&mut chance, 12), 0, 0),
+            _ => (darts, any_number(&mut chance, 4), any_number(&mut chance, darts)),
+        };
+        let mut after = ended.clone();
+        let (answer, found) = after.call(stated, k, dart);
+        assert_eq!((&after.table, &after.ends), (&ended.table, &ended.ends));
+        assert!(answer.number == 0 || found == Found::default());
+        assert!(answer.second == 0 && (answer.place == 0 || answer.number == 12));
+        times[answer.number as usize] += 1;
+    }
+    let given: Vec<usize> = (0..times.len()).filter(|&number| times[number] > 0).collect();
+    assert_eq!(given, [0, 1, 2, 4, 7, 8, 12]);
+}
+
 /// A line of a script for K7's map: a call, or numbers put in by hand, most often those that stand there already.
 fn any_line(chance: &mut Chance) -> String {
-    let calls = ["contract 0 1", "remove 2", "contract 3", "sweep", "undo", "unfold 1", "counts", "write 97"];
+    let calls = [
+        "contract 0 1", "remove 2", "contract 3", "sweep", "undo", "unfold 1", "counts", "write 97", "successor 8 1 6",
+    ];
     let by_hand = [
         "table 0 5 2 1 4 6 0 3 7", "table 2 5 4 6 4 6 7", "table 7 7", "table 8 1", "history 0 1 5", "history 2 10",
         "history 3 9", "state 8 3 2 2 3", "state 8 2 1 2", "state 8 0 0", "lend 8 4 32", "fill 9", "start 8",
         "plan 0 1 1 1 1", "plan 1 2", "flat 2 2 4", "flatareas 2 2 4", "flatareas 1 4 4", "flat 1 1 4", "flat 2 3 6",
+        "ends 0 3 3 4 0", "ends 1 2 0 9",
     ];
     match chance.below(8) {
         0 => format!("table {} {}\n", chance.below(8), chance.below(9)),

@@ -164,6 +164,45 @@ fn a_call_on_a_plan_prints_the_usual_line() {
 }
 
 #[test]
+fn a_lookup_prints_its_own_line() {
+    let script =
+        format!("{T_LENT}ends 0 3 3 4 0 6 7 8 9 10\nhistory 0 1 2 3\nfill 5\nsuccessor 8 2 6\nsuccessor 7 2 6\n");
+    let (table, ends) = (sum_to(12, &[5, 2, 1, 4, 6, 0, 3, 7]), sum(&[3, 3, 4, 0, 6, 7, 8, 9]));
+    let work = sum(&[[0; 32].as_slice(), &[5; 4]].concat());
+    let line = |head: &str| format!("{head} table={table} ends={ends} work={work}\n");
+    let found = line("answer=0 place=0 second=0 dart=6 passed=6");
+    assert_eq!(printed(&script), found + &line("answer=1 place=0 second=0 dart=0 passed=0"));
+}
+
+#[test]
+fn a_lookup_leaves_the_state_and_the_history() {
+    let k12 = "ends 0 3 3 4 0\n";
+    let script =
+        format!("{T_LENT}{k12}start 8\ncontract 0 1\nsuccessor 8 1 6\ncounts\n{T_LENT}successor 8 1 6\nshow\n");
+    let lines = short(&script);
+    assert!(
+        lines[2].starts_with("answer=4 place=0 second=0 dart=0 passed=0 table="),
+        "the table of level 1 is no base"
+    );
+    assert_eq!(lines[3], "answer=0 place=0 second=0 state=8 2 1", "counts");
+    assert!(lines[4].starts_with("answer=0 place=0 second=0 dart=5 passed=2 table="));
+    assert_eq!(lines[5..], ["state=8 2 1 2", "table=5 2 1 4 6 0 3 7", "history=1 5"]);
+}
+
+#[test]
+fn a_lookup_is_lent_ends_in_the_place_of_the_history() {
+    let heads = |lend: &str| {
+        let text = printed(&format!("lend {lend}\ntable 0 5 2 1 4 6 0 3 7\nends 0 3 3 4 0\nsuccessor 8 1 6\n"));
+        text.split_once(" table=").expect("a line").0.to_string()
+    };
+    assert_eq!(heads("8 4 32"), "answer=0 place=0 second=0 dart=5 passed=2");
+    assert_eq!(heads("65536 32768 262156"), "answer=0 place=0 second=0 dart=5 passed=2");
+    for short in ["7 4 32", "8 3 32", "8 4 31", "0 0 0"] {
+        assert_eq!(heads(short), "answer=2 place=0 second=0 dart=0 passed=0");
+    }
+}
+
+#[test]
 fn a_shorter_write_is_shown_alone() {
     let two = "lend 8 4 32\ntable 0 1 0\nstart 2\nwrite 100\nbytes\n";
     let text = printed(&format!("{T_LENT}start 8\nwrite 100\n{two}"));
@@ -187,7 +226,8 @@ fn numbers_may_have_leading_zeros() {
 #[test]
 fn the_ends_of_the_rooms_can_be_used() {
     let script = "lend 65536 32768 262156\ntable 65539 1\nhistory 32770 1 2\nwork 262159 1\ntable 4294967295\n\
-                  history 4294967295\nwork 4294967295\nplan 16387 255\nplan 4294967295\nstate 1 2 3";
+                  history 4294967295\nwork 4294967295\nends 32770 1 4294967295\nends 4294967295\n\
+                  plan 16387 255\nplan 4294967295\nstate 1 2 3";
     assert_eq!(printed(&format!("{script}{}\n", " 0".repeat(64))), "");
     assert_eq!(short("write 599996\n"), ["answer=1 place=0 second=0 state=0 0 0"]);
     assert_eq!(
@@ -195,6 +235,7 @@ fn the_ends_of_the_rooms_can_be_used() {
         ["answer=15 place=0 second=0 state=0 0 0", "answer=2 place=0 second=0 state=0 0 0"]
     );
     assert_eq!(printed(&format!("plan 0{}\n", " 255".repeat(16_388))), "");
+    assert_eq!(printed(&format!("ends 0{}\n", " 255".repeat(32_772))), "");
     assert_eq!(short(&format!("contract{}\n", " 1".repeat(32_772))), ["answer=1 place=0 second=0 state=0 0 0"]);
 }
 
@@ -216,7 +257,11 @@ fn error_lines() {
         "plan 4294967295 1\n", "plan 4294967296\n", "plan 0 -1\n", "plan 0 1 \n", "plan 0 A\n", "flat\n", "flat 2 2\n",
         "flat 2 2 4 4\n", "flat 2 2 16385\n", "flat 0 0 16385\n", "flatareas\n", "flatareas 2 2\n",
         "flatareas 2 2 4294967295\n", "flatareas 2 2 4 4\n", "flatarea 2 2 4\n", "flat areas 2 2 4\n", "tube 2 2 4\n",
-        "zones\n", "\u{e4}\n", &too_many_ends, &too_many_edges,
+        "ends\n", "ends x\n", "ends 32772 1\n", "ends 32771 1 2\n", "ends 4294967295 1\n", "ends 4294967296\n",
+        "ends 0 4294967296\n", "ends 0 -1\n", "ends 0 1 \n", "ends 0  1\n", "end 0 1\n", "Ends 0 1\n", "successor\n",
+        "successor 8\n", "successor 8 1\n", "successor 8 1 6 0\n", "successor 8 1 \n", "successor 8  1 6\n",
+        "successor 8 1 x\n", "successor 8 1 4294967296\n", "successors 8 1 6\n", "sheet 0 0:0\n", "zones\n",
+        "\u{e4}\n", &too_many_ends, &too_many_edges,
     ];
     for line in errors {
         assert_eq!(printed(line), "error=1\n", "{line:?}");

@@ -1,4 +1,4 @@
-//! Call == one of the ten calls with its own numbers
+//! Call == one of the calls with its own numbers, but for the lookup, which is lent no history (`ended`)
 //! Lot  == a state with everything a call is lent; past what document 01 asks for, and in the work area, stand marks
 //! Left == what a call gave back
 //!

@@ -1,5 +1,6 @@
 //! What several tests use.
 
 pub mod chance;
+pub mod ended;
 pub mod lot;
 pub mod maps;
