@@ -72,9 +72,10 @@ alike-onward k t a b s d g = ap (λ v. onwardBy (kindOf v) t d) (so-same k (getD
 alike-from : (n k : ℕ) (t a b : List ℕ) → AlikeEnds a b → (y i : ℕ) → walkFrom n k t a y i ≡ walkFrom n k t b y i
 unfolding walkFrom
 alike-from zero k t a b s y i = refl
-alike-from (suc n) k t a b s y i = go (T? (goneBy k b y)) (λ y′. alike-from n k t a b s y′ (suc i))
+alike-from (suc n) k t a b s y i = go (T? (goneBy k b y)) (λ z. alike-from n k t a b s z (suc i))
   where
-    go : Dec (T (goneBy k b y)) → ((y′ : ℕ) → walkFrom n k t a y′ (suc i) ≡ walkFrom n k t b y′ (suc i)) → walkFrom (suc n) k t a y i ≡ walkFrom (suc n) k t b y i
+    go : Dec (T (goneBy k b y)) → ((z : ℕ) → walkFrom n k t a z (suc i) ≡ walkFrom n k t b z (suc i))
+        → walkFrom (suc n) k t a y i ≡ walkFrom (suc n) k t b y i
     go (yes g) on = rw (alike-gone k a b s y, T→true (goneBy k b y) g, alike-onward k t a b s y g) (on (onward t b y))
     go (no m) on = rw (alike-gone k a b s y, nT→false (goneBy k b y) m) refl
 
@@ -134,7 +135,8 @@ alike-ending κ e [] (w ∷ b) s = absurd s
 alike-ending κ e (v ∷ a) [] s = absurd s
 alike-ending κ e (v ∷ a) (w ∷ b) s = go (so-iff v w .0 (s .0)) (alike-ending κ (suc e) a b (s .1))
   where
-    go : (v ≡ w) ⊎ ((levelOf v ≡ 0) × (levelOf w ≡ 0)) → endingFrom κ (suc e) a ≡ endingFrom κ (suc e) b → endingFrom κ e (v ∷ a) ≡ endingFrom κ e (w ∷ b)
+    go : (v ≡ w) ⊎ ((levelOf v ≡ 0) × (levelOf w ≡ 0)) → endingFrom κ (suc e) a ≡ endingFrom κ (suc e) b
+        → endingFrom κ e (v ∷ a) ≡ endingFrom κ e (w ∷ b)
     go (inl i) r = rw (i, r) refl
     go (inr z) r = rw (z .0, z .1) r
 

@@ -141,7 +141,9 @@ module _ (D : ℕ) (t h w : List ℕ) (C : Comes D (take D t) (take (D / 2) h)) 
         let f = successor-found D k x t h w (a .number) in
         let W = comes-unfolds C k e x l s in
         let n = counted in
-        record { accepted = a; dart = ap (λ (f : Found). f .dart) f ∙ W .dart; passed = (let m = W .count in let p = ap (λ (f : Found). f .passed) f in omega arith) }
+        let m = W .count in
+        let p = ap (λ (f : Found). f .passed) f in
+        record { accepted = a; dart = ap (λ (f : Found). f .dart) f ∙ W .dart; passed = omega arith }
 
   -- ---- every accepted call
 
@@ -167,7 +169,8 @@ pub record Lends {s : State} {t past : List ℕ} (P : Pyramid s t past) (b h w :
 
 module _ {s : State} {t past : List ℕ} (P : Pyramid s t past) (b h w : List ℕ) where
   -- the numbers of its ends
-  pub own-ends : take (s .darts) b ≡ P .base → take (s .darts / 2) h ≡ endsIn s past → Lengths (s .darts) (length b) (length h) (length w) → Lends P b h w
+  pub own-ends : take (s .darts) b ≡ P .base → take (s .darts / 2) h ≡ endsIn s past → Lengths (s .darts) (length b) (length h) (length w)
+      → Lends P b h w
   unfolding endsIn
   own-ends base ends L = record { base = base; ends = told; lengths = L }
     where

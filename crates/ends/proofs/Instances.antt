@@ -7,6 +7,7 @@
 --   other, other-kind == the other number for the edge that survives
 --   no-pyramid       == ends of two parallel edges, both contracted, come from no pyramid
 use mathlib.Core.List.{List, [], _∷_}
+use mathlib.Core.Logic.{_↔_}
 use mathlib.Core.Path.{_≡_, refl}
 use Prim.Native.Nat.{ℕ, zero, suc, _≤_, _<_}
 use native.Mathlib.Omega.{arith}
@@ -134,7 +135,10 @@ told (suc (suc (suc zero))) l = tt
 told (suc (suc (suc (suc e)))) l = absurd (omega arith)
 
 other-kind : AlikeLooked 8 (successorAt 8 2 6 base ends work) (successorAt 8 2 6 triangle other (replicate 32 5))
-other-kind = successor-looks (record { table = refl; ends = told; ends-room = (λ l. lit≤ tt, λ l. lit≤ tt); work-room = (λ l. lit≤ tt, λ l. lit≤ tt) }) 2 6
+other-kind = successor-looks (record { table = refl; ends = told; ends-room = here; work-room = (λ l. lit≤ tt, λ l. lit≤ tt) }) 2 6
+  where
+    here : (4 ≤ 5) ↔ (4 ≤ 4)
+    here = (λ l. lit≤ tt, λ l. lit≤ tt)
 
 -- the decision's no, and what it means
 abbrev parallel : List ℕ

@@ -4,6 +4,7 @@
 --   Reaching D k t h w    == and k is at or below the top: nor 12
 --   Asking D k x t h w    == and x is a dart: nor 7
 --   judged-1 to judged-12 == what the answer is where one of them fails, and judged-0 where none does
+--   Looking D k x t h w   == the answer with its reason; looking says that there is one
 --   Why D k x t h w n     == the reason of an answer of number n
 --   why                   == every answer has its own
 use mathlib.Core.Bool.{false, not}
@@ -96,17 +97,6 @@ module _ (D k x : ℕ) (t h w : List ℕ) where
   pub judged-0 : Asking D k x t h w → ¬ (T (goneBy k ends x)) → judged D k x t h w ≡ done
   judged-0 A n = judged-asked A ∙ rw (nT→false (goneBy k ends x) n)
 
-  -- the reason of an answer; there is no other number
-  abbrev pub Why : ℕ → Type 0
-  Why n =
-      pick (eqb n 1) (¬ (Count D))
-      (pick (eqb n 2) (Count D × (¬ (Lengths D (length t) (length h) (length w))))
-      (pick (eqb n 4) (Fitting D t h w × (¬ (T (comes D table ends))))
-      (pick (eqb n 12) (Pyramidal D t h w × (top ends < k))
-      (pick (eqb n 7) (Reaching D k t h w × (D ≤ x))
-      (pick (eqb n 8) (Asking D k x t h w × T (goneBy k ends x))
-      (pick (eqb n 0) (Asking D k x t h w × (¬ (T (goneBy k ends x)))) ⊥))))))
-
   -- ONE OF THE SEVEN
   pub data Looking : Type 0 where
     is-1 : ¬ (Count D) → judged D k x t h w ≡ noDartCount → Looking
@@ -117,29 +107,49 @@ module _ (D k x : ℕ) (t h w : List ℕ) where
     is-8 : Asking D k x t h w → T (goneBy k ends x) → judged D k x t h w ≡ goneAlready 0 → Looking
     is-0 : Asking D k x t h w → ¬ (T (goneBy k ends x)) → judged D k x t h w ≡ done → Looking
 
-  pub looking : Looking
-  looking = go (T? (dartCount D)) (T? (room (length t) (length h) (length w) D)) (T? (comes D table ends)) (T? (ltb (top ends) k)) (T? (leb D x)) (T? (goneBy k ends x))
-    where
-      go : Dec (T (dartCount D)) → Dec (T (room (length t) (length h) (length w) D)) → Dec (T (comes D table ends)) → Dec (T (ltb (top ends) k))
-          → Dec (T (leb D x)) → Dec (T (goneBy k ends x)) → Looking
-      go (no n) b c d e f = let m : ¬ (Count D) = λ i. n (count-test D i) in is-1 m (judged-1 m)
-      go (yes a) (no n) c d e f =
-          let m : ¬ (Lengths D (length t) (length h) (length w)) = λ i. n (room-test (length t) (length h) (length w) D i) in
-          is-2 (count-facts D a) m (judged-2 (count-facts D a) m)
-      go (yes a) (yes b) c d e f = fit (record { count = count-facts D a; lengths = room-facts (length t) (length h) (length w) D b }) c d e f
-        where
-          ask : Reaching D k t h w → Dec (T (leb D x)) → Dec (T (goneBy k ends x)) → Looking
-          ask R (yes l) f = is-7 R (leb→le D x l) (judged-7 R (leb→le D x l))
-          ask R (no n) f = say (record { reaching = R; inside = (let m : ¬ (D ≤ x) = λ l. n (le→leb D x l) in omega arith) }) f
-            where
-              say : Asking D k x t h w → Dec (T (goneBy k ends x)) → Looking
-              say A (yes g) = is-8 A g (judged-8 A g)
-              say A (no g) = is-0 A g (judged-0 A g)
+  asked : Asking D k x t h w → Dec (T (goneBy k ends x)) → Looking
+  asked A (yes g) = is-8 A g (judged-8 A g)
+  asked A (no n) = is-0 A n (judged-0 A n)
 
-          fit : Fitting D t h w → Dec (T (comes D table ends)) → Dec (T (ltb (top ends) k)) → Dec (T (leb D x)) → Dec (T (goneBy k ends x)) → Looking
-          fit F (no n) d e f = is-4 F n (judged-4 F n)
-          fit F (yes c) (yes l) e f = let P : Pyramidal D t h w = record { fits = F; comes-so = c } in is-12 P (ltb→lt (top ends) k l) (judged-12 P (ltb→lt (top ends) k l))
-          fit F (yes c) (no n) e f = ask (record { pyramid = record { fits = F; comes-so = c }; reached = (let m : ¬ (top ends < k) = λ l. n (lt→ltb (top ends) k l) in omega arith) }) e f
+  reached : Reaching D k t h w → Dec (T (leb D x)) → Looking
+  reached R (yes l) = let m = leb→le D x l in is-7 R m (judged-7 R m)
+  reached R (no n) =
+      let m : ¬ (D ≤ x) = λ l. n (le→leb D x l) in
+      asked (record { reaching = R; inside = omega arith }) (T? (goneBy k ends x))
+
+  came : Pyramidal D t h w → Dec (T (ltb (top ends) k)) → Looking
+  came P (yes l) = let m = ltb→lt (top ends) k l in is-12 P m (judged-12 P m)
+  came P (no n) =
+      let m : ¬ (top ends < k) = λ l. n (lt→ltb (top ends) k l) in
+      reached (record { pyramid = P; reached = omega arith }) (T? (leb D x))
+
+  fitted : Fitting D t h w → Dec (T (comes D table ends)) → Looking
+  fitted F (yes c) = came (record { fits = F; comes-so = c }) (T? (ltb (top ends) k))
+  fitted F (no n) = is-4 F n (judged-4 F n)
+
+  counted : Count D → Dec (T (room (length t) (length h) (length w) D)) → Looking
+  counted c (yes r) = fitted (record { count = c; lengths = room-facts (length t) (length h) (length w) D r }) (T? (comes D table ends))
+  counted c (no n) =
+      let m : ¬ (Lengths D (length t) (length h) (length w)) = λ l. n (room-test (length t) (length h) (length w) D l) in
+      is-2 c m (judged-2 c m)
+
+  pub looking : Looking
+  looking = go (T? (dartCount D))
+    where
+      go : Dec (T (dartCount D)) → Looking
+      go (yes c) = counted (count-facts D c) (T? (room (length t) (length h) (length w) D))
+      go (no n) = let m : ¬ (Count D) = λ c. n (count-test D c) in is-1 m (judged-1 m)
+
+  -- the reason of an answer; there is no other number
+  abbrev pub Why : ℕ → Type 0
+  Why n =
+      pick (eqb n 1) (¬ (Count D))
+      (pick (eqb n 2) (Count D × (¬ (Lengths D (length t) (length h) (length w))))
+      (pick (eqb n 4) (Fitting D t h w × (¬ (T (comes D table ends))))
+      (pick (eqb n 12) (Pyramidal D t h w × (top ends < k))
+      (pick (eqb n 7) (Reaching D k t h w × (D ≤ x))
+      (pick (eqb n 8) (Asking D k x t h w × T (goneBy k ends x))
+      (pick (eqb n 0) (Asking D k x t h w × (¬ (T (goneBy k ends x)))) ⊥))))))
 
   -- EVERY ANSWER HAS ITS OWN REASON
   pub why : Why (judged D k x t h w .number)

@@ -18,5 +18,6 @@ pub mod Sentences
 pub mod Alike
 pub mod LookedAt
 pub mod Highest
+pub mod Passed
 pub mod Call
 pub mod Instances

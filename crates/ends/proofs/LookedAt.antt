@@ -68,7 +68,8 @@ module _ {D : ℕ} {t h w t′ h′ w′ : List ℕ} (A : Agreeing D t h w t′ 
   both-ends r =
       let a : length (take (D / 2) h) ≡ D / 2 = length-take-le (D / 2) h r in
       let b : length (take (D / 2) h′) ≡ D / 2 = length-take-le (D / 2) h′ (A .ends-room .0 r) in
-      alike-ends (take (D / 2) h) (take (D / 2) h′) (a ∙ sym b) (λ e l. rw (getD-take (D / 2) h e 0 (omega arith), getD-take (D / 2) h′ e 0 (omega arith)) (A .ends e (omega arith)))
+      alike-ends (take (D / 2) h) (take (D / 2) h′) (a ∙ sym b)
+      (λ e l. let m : e < D / 2 = omega arith in rw (getD-take (D / 2) h e 0 m, getD-take (D / 2) h′ e 0 m) (A .ends e m))
 
   work-alike : (a : Answer) → a .number ≢ 1 → a .number ≢ 2 → take (4 * D) (workAfter a D w) ≡ take (4 * D) (workAfter a D w′)
   unfolding workAfter
@@ -90,7 +91,9 @@ module _ {D : ℕ} {t h w t′ h′ w′ : List ℕ} (A : Agreeing D t h w t′ 
           alike-top (take (D / 2) h) (take (D / 2) h′) E,
           alike-gone k (take (D / 2) h) (take (D / 2) h′) E x,
         ) refl
-    judged-same (no n) = let m : eqb (fitting D (length t′) (length h′) (length w′) .number) 0 ≡ false = rw (← fitting-same) (nT→false (eqb (first .number) 0) n) in rw (fitting-same, m) refl
+    judged-same (no n) =
+        let m : eqb (fitting D (length t′) (length h′) (length w′) .number) 0 ≡ false = rw (← fitting-same) (nT→false (eqb (first .number) 0) n) in
+        rw (fitting-same, m) refl
 
     unfit : ¬ (T (eqb (first .number) 0)) → eqb (judged D k x t h w .number) 0 ≡ false
     unfolding judged
@@ -120,10 +123,13 @@ successor-alike D k x t h w t′ h′ w′ table ends work = successor-looks agr
     lengths : length (take (D / 2) h) ≡ length (take (D / 2) h′)
     lengths = ap length ends
 
+    same : (e : ℕ) → e < D / 2 → getD h e 0 ≡ getD h′ e 0
+    same e l = sym (getD-take (D / 2) h e 0 l) ∙ ap (λ (a : List ℕ). getD a e 0) ends ∙ getD-take (D / 2) h′ e 0 l
+
     agreeing : Agreeing D t h w t′ h′ w′
     agreeing = record {
       table = table;
-      ends = λ e l. let s : getD h e 0 ≡ getD h′ e 0 = sym (getD-take (D / 2) h e 0 l) ∙ ap (λ (a : List ℕ). getD a e 0) ends ∙ getD-take (D / 2) h′ e 0 l in so-iff (getD h e 0) (getD h′ e 0) .1 (inl s);
+      ends = λ e l. so-iff (getD h e 0) (getD h′ e 0) .1 (inl (same e l));
       ends-room = (λ l. (let s = simp length-take at lengths in omega arith), λ l. (let s = simp length-take at lengths in omega arith));
       work-room = (λ l. omega arith, λ l. omega arith);
     }

@@ -3,7 +3,9 @@
 --   Ordered D k x t h w n == n is answered exactly when it is the first one that is due
 --   Placed a top          == the place of the answer a
 --   Kept t h l            == table and ends are as they were
+--   Nothing f             == dart 0 and count 0
 --   successor-order       == the order of the answers
+--   successor-first       == 1 and 2 as every call has them
 --   successor-place, successor-second == 12 has the top as its place, every other place is 0
 --   successor-refused     == "a refusal gives dart 0 and count 0"
 --   successor-found       == an accepted call gives the walk's dart, and the walk's own count
@@ -20,6 +22,7 @@ use Rattle.darts.specs.Answers.{Answer}
 use Rattle.darts.specs.Calls.{workAfter, cleared}
 use Rattle.darts.proofs.Fitting.{Count, Lengths}
 use Rattle.laws.proofs.calls.Cleared.{cleared-length}
+use Rattle.laws.proofs.sentences.Order.{Answers, answers, First}
 use Rattle.laws.proofs.sentences.WorkArea.{Area, cleared-zeroed}
 use Rattle.ends.specs.Ends.{goneBy, top}
 use Rattle.ends.specs.Walk.{Found, walk}
@@ -94,6 +97,20 @@ module _ (D k x : ℕ) (t h w : List ℕ) where
     zero = (because 0, λ c. numbered (judged-0 D k x t h w (c .0) (c .1)));
     no-other = no-other;
   }
+
+  -- 1 and 2 as every call has them: each slice that is too short is a fault by itself
+  pub successor-first : First D (length t) (length h) (length w) (successorAt D k x t h w .answer)
+  unfolding successorAt
+  successor-first = record {
+    one = λ n. answers (judged-1 D k x t h w n);
+    two = two;
+    short-table = λ c l. two c (λ L. omega (arith, L .table));
+    short-history = λ c l. two c (λ L. omega (arith, L .history));
+    short-work = λ c l. two c (λ L. omega (arith, L .work));
+  }
+    where
+      two : Count D → ¬ (Lengths D (length t) (length h) (length w)) → Answers (judged D k x t h w) 2 0
+      two c n = answers (judged-2 D k x t h w c n)
 
   pub successor-place : Placed (successorAt D k x t h w .answer) (top (take (D / 2) h))
   unfolding successorAt

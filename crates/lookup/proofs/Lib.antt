@@ -1,0 +1,6 @@
+pub mod Accepting
+pub mod Labelling
+pub mod Looking
+pub mod Passing
+pub mod Shapes
+pub mod Walks
