@@ -1,7 +1,8 @@
-// The worked examples K3, K5, K7, K8, K10 and K11 of document 01 and both culprits of document 02, made by the calls one after another. `expect` asks a
-// proof of each result, and stops the run where one fails.
+// The worked examples K3, K5, K7, K8, K10 and K11 of document 01, and both culprits and the lookups of K12 of document 02, made by the calls one after
+// another. `expect` asks a proof of each result, and stops the run where one fails.
 mod chain;
 mod examples;
+mod lookups;
 mod rows;
 
 fn main() {
@@ -10,4 +11,5 @@ fn main() {
     examples::refused_at_the_top();
     examples::two_darts();
     examples::both_culprits();
+    lookups::lookups();
 }

@@ -1,7 +1,7 @@
 -- What C finds is what the call leaves.
 --   answers         == the answer
 --   handed          == an outcome and the lent slices
---   counted, written == the same of counts and of the writer
+--   counted, written, looking == the same of counts, of the writer and of a lookup
 use mathlib.Core.List.{List}
 use mathlib.Core.Path.{_≡_, _∙_}
 use Prim.Native.Nat.{ℕ}
@@ -13,7 +13,10 @@ use Rattle.darts.specs.declared.Answer.{Answer}
 use Rattle.pyramid.specs.declared.Counted.{Counted}
 use Rattle.pyramid.specs.declared.Outcome.{Outcome}
 use Rattle.writer.specs.Filed.{filed}
-use Rattle.zonemap_c.specs.Numbers.{answerIn, Answered, Handed, leftIn, countedIn, filedIn}
+use Rattle.ends.specs.Lookup.{Looked as LookedAfter}
+use Rattle.lookup.specs.Values.{looked}
+use Rattle.lookup.specs.declared.Looked.{Looked}
+use Rattle.zonemap_c.specs.Numbers.{answerIn, Answered, Handed, leftIn, countedIn, filedIn, lookedIn}
 
 pub answers : {a : Answer} {n p s : ℕ} → Answered a n p s → answerIn n p s ≡ answerOf a
 answers g = λ i. answerIn (g .number i) (g .place i) (g .second i)
@@ -28,3 +31,7 @@ module _ {n p s : ℕ} {t h w : List ℕ} where
 
   pub written : {a : Answer} {o : List ℕ} {z : Written} → Answered a n p s → filed a t h w o ≡ z → filedIn n p s t h w o ≡ z
   written {o = o} g e = (λ i. record { answer = answers g i; table = t; history = h; work = w; output = o }) ∙ e
+
+  pub looking : {o : Looked} {d c : ℕ} {z : LookedAfter} → Answered (o .answer) n p s → d ≡ o .dart → c ≡ o .passed → looked o t h w ≡ z
+      → lookedIn n p s d c t h w ≡ z
+  looking g d c e = (λ i. record { answer = answers g i; found = record { dart = d i; passed = c i }; table = t; ends = h; work = w }) ∙ e

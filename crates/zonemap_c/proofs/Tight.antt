@@ -3,7 +3,7 @@
 --   state-one  == each state has its own 67 numbers
 --   tally-one  == each counts have their own three numbers, and the Euler number
 --   left-one   == what a call leaves tells the number, the places, the state's numbers and every lent slice
---   counts-one, filed-one == the same of counts and of the writer
+--   counts-one, filed-one, looked-one == the same of counts, of the writer and of a lookup
 use mathlib.Core.List.{List, [], _∷_}
 use mathlib.Core.Path.{_≡_, refl, sym, ap, _∙_}
 use Prim.Native.Nat.{ℕ, _≤_}
@@ -14,7 +14,8 @@ use Rattle.darts.specs.Answers.{Answer}
 use Rattle.darts.specs.Calls.{After, Counted, Written}
 use Rattle.darts.specs.Counts.{Counts as Tally}
 use Rattle.darts.specs.State.{State as Stated}
-use Rattle.zonemap_c.specs.Numbers.{stateIn, tallyIn, answerIn, leftIn, countedIn, filedIn}
+use Rattle.ends.specs.Lookup.{Looked}
+use Rattle.zonemap_c.specs.Numbers.{stateIn, tallyIn, answerIn, leftIn, countedIn, filedIn, lookedIn}
 
 three : (a : List ℕ) → 3 ≤ length a → getD a 0 0 ∷ getD a 1 0 ∷ getD a 2 0 ∷ drop 3 a ≡ a
 three [] l = absurd (omega arith)
@@ -71,4 +72,12 @@ module _ (n m p q i j : ℕ) (t u h g w v : List ℕ) where
       let c : filedIn n p i t h w o ≡ filedIn m q j u g v r = d ∙ sym e in (
         same (ap (λ (x : Written). x .answer) c) (ap (λ (x : Written). x .table) c) (ap (λ (x : Written). x .history) c) (ap (λ (x : Written). x .work) c),
         ap (λ (x : Written). x .output) c,
+      )
+
+  -- NO TWO OUTCOMES OF SUCCESSOR SATISFY ITS STATEMENT
+  pub looked-one : (d e a b : ℕ) (z : Looked) → lookedIn n p i d a t h w ≡ z → lookedIn m q j e b u g v ≡ z → Same × ((d ≡ e) × (a ≡ b))
+  looked-one d e a b z k l =
+      let c : lookedIn n p i d a t h w ≡ lookedIn m q j e b u g v = k ∙ sym l in (
+        same (ap (λ (x : Looked). x .answer) c) (ap (λ (x : Looked). x .table) c) (ap (λ (x : Looked). x .ends) c) (ap (λ (x : Looked). x .work) c),
+        (ap (λ (x : Looked). x .found .dart) c, ap (λ (x : Looked). x .found .passed) c),
       )

@@ -7,6 +7,7 @@
 --   leftIn n p s a t h w    == what a call leaves: the number, the places, the state's numbers, and the lent slices
 --   countedIn n p s y t h w == what counts leave
 --   filedIn n p s t h w o   == what the writer leaves
+--   lookedIn n p s d c t h w == what a lookup leaves: the number, the places, the dart, the count, and the lent slices
 use mathlib.Core.List.{List}
 use mathlib.Core.Path.{_≡_}
 use Prim.Native.Nat.{ℕ}
@@ -17,6 +18,7 @@ use Rattle.darts.specs.State.{State as Stated}
 use Rattle.darts.specs.Calls.{After, Counted, Written, leaves}
 use Rattle.darts.specs.Counts.{Counts as Tally}
 use Rattle.darts.specs.Cases.{answerOf}
+use Rattle.ends.specs.Lookup.{Looked}
 use Rattle.pyramid.specs.Values.{stateOf}
 use Rattle.darts.specs.declared.Answer.{Answer}
 use Rattle.pyramid.specs.declared.Outcome.{Outcome}
@@ -47,3 +49,6 @@ countedIn n p s y t h w = record { answer = answerIn n p s; counts = y; table = 
 
 abbrev pub filedIn : ℕ → ℕ → ℕ → List ℕ → List ℕ → List ℕ → List ℕ → Written
 filedIn n p s t h w o = record { answer = answerIn n p s; table = t; history = h; work = w; output = o }
+
+abbrev pub lookedIn : ℕ → ℕ → ℕ → ℕ → ℕ → List ℕ → List ℕ → List ℕ → Looked
+lookedIn n p s d c t h w = record { answer = answerIn n p s; found = record { dart = d; passed = c }; table = t; ends = h; work = w }

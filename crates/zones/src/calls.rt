@@ -2,6 +2,8 @@
 use crate::held::Held;
 use crate::prints::print_call;
 use crate::prints::print_counts;
+use crate::prints::print_found;
+use crate::rooms::EndsRoom;
 use crate::rooms::HistoryRoom;
 use crate::rooms::NumbersRoom;
 use crate::rooms::OutputRoom;
@@ -18,9 +20,11 @@ use crate::words::FLATAREAS;
 use crate::words::READ;
 use crate::words::REMOVE;
 use crate::words::START;
+use crate::words::SUCCESSOR;
 use crate::words::UNDO;
 use crate::words::UNFOLD;
 use crate::words::WRITE;
+use lookup::Looked;
 use pyramid::Answer;
 use pyramid::Counted;
 use pyramid::Kind;
@@ -147,6 +151,31 @@ fn counted(held: Held, table: &mut [u32], history: &mut [u32], work: &mut [u32])
     state.counts(&mut table[0..t], &mut history[0..h], &mut work[0..w])
 }
 
+// The dart that follows another at a level: lent T numbers of the table, H of the ends and W of the work area.
+fn followed(
+    held: Held,
+    darts: u32,
+    level: u32,
+    dart: u32,
+    table: &[u32],
+    ends: &[u32],
+    work: &mut [u32],
+) -> Looked
+    requires { ⌜ Lent held (now table) (now ends) (now work) ⌝ }
+{
+    let t = held.table;
+    let h = held.history;
+    let w = held.work;
+    lookup::successor_at(
+        darts,
+        level,
+        dart,
+        &table[0..t],
+        &ends[0..h],
+        &mut work[0..w],
+    )
+}
+
 // The file of the state that the script holds, into n bytes of output.
 fn filed(
     held: Held,
@@ -254,6 +283,7 @@ pub fn call(
     plan: &PlanRoom,
     table: &mut TableRoom,
     history: &mut HistoryRoom,
+    ends: &EndsRoom,
     work: &mut WorkRoom,
     output: &mut OutputRoom,
 ) -> Held
@@ -266,6 +296,11 @@ pub fn call(
     if line.command == COUNTS {
         let counted = counted(held, table, history, work);
         print_counts(held, counted, table, history, work, output);
+        return held;
+    }
+    if line.command == SUCCESSOR {
+        let looked = followed(held, numbers[0], numbers[1], numbers[2], table, ends, work);
+        print_found(held, looked, table, ends, work);
         return held;
     }
     if line.command == FLAT || line.command == FLATAREAS {

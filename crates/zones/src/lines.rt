@@ -3,6 +3,7 @@ use crate::calls::call;
 use crate::held::Held;
 use crate::held::nothing;
 use crate::prints;
+use crate::rooms::EndsRoom;
 use crate::rooms::HistoryRoom;
 use crate::rooms::NumbersRoom;
 use crate::rooms::OutputRoom;
@@ -27,6 +28,7 @@ fn obey(
     plan: &mut PlanRoom,
     table: &mut TableRoom,
     history: &mut HistoryRoom,
+    ends: &mut EndsRoom,
     work: &mut WorkRoom,
     output: &mut OutputRoom,
 ) -> Held
@@ -37,7 +39,7 @@ fn obey(
         return held.judged(true);
     }
     if line.command < START {
-        return set(held, line, numbers, plan, table, history, work);
+        return set(held, line, numbers, plan, table, history, ends, work);
     }
     if line.command < SHOW {
         return call(
@@ -48,6 +50,7 @@ fn obey(
             plan,
             table,
             history,
+            ends,
             work,
             output,
         );
@@ -67,6 +70,7 @@ fn each(
     plan: &mut PlanRoom,
     table: &mut TableRoom,
     history: &mut HistoryRoom,
+    ends: &mut EndsRoom,
     work: &mut WorkRoom,
     output: &mut OutputRoom,
 ) {
@@ -85,6 +89,7 @@ fn each(
             plan,
             table,
             history,
+            ends,
             work,
             output,
         );
@@ -101,6 +106,7 @@ pub fn run(script: &[u8]) {
     let mut numbers = [0u32; 262161];
     let mut table = [0u32; 65540];
     let mut history = [0u32; 32772];
+    let mut ends = [0u32; 32772];
     let mut work = [0u32; 262160];
     let mut output = [0u8; 600000];
     let mut plan = [0u8; 16388];
@@ -110,6 +116,7 @@ pub fn run(script: &[u8]) {
         &mut plan,
         &mut table,
         &mut history,
+        &mut ends,
         &mut work,
         &mut output,
     );

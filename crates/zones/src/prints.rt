@@ -1,6 +1,7 @@
 // What is printed: the line of a call, the lines of `show`, the bytes of `bytes`, an error line. Each is written out at once, so
 // that a script shows how far it came.
 use crate::held::Held;
+use crate::rooms::EndsRoom;
 use crate::rooms::HistoryRoom;
 use crate::rooms::OutputRoom;
 use crate::rooms::TableRoom;
@@ -9,7 +10,9 @@ use crate::sizes::least;
 use crate::sizes::size;
 use crate::sums::Sums;
 use crate::sums::checksums;
+use crate::sums::sum;
 use libc::STDOUT_FILENO;
+use lookup::Looked;
 use pyramid::Answer;
 use pyramid::Counted;
 use pyramid::State;
@@ -48,14 +51,22 @@ fn sums_line(page: &mut [u8], used: usize, sums: Sums) -> usize
     page::field(page, work, b" output=", sums.output)
 }
 
-// "answer=A place=P second=S state=D N L ends=C table=C history=C work=C output=C"
-fn call_line(page: &mut [u8], answer: Answer, state: State, sums: Sums) -> usize
+// "answer=A place=P second=S"
+fn answer_line(page: &mut [u8], answer: Answer) -> usize
     requires { ⌜ Waits 0 (now page) ⌝ }
     ensures { λ r. ⌜ Waits r (now (page .exit)) ⌝ }
 {
     let number = page::field(page, 0, b"answer=", answer.number() as u64);
     let place = page::field(page, number, b" place=", answer.place() as u64);
-    let second = page::field(page, place, b" second=", answer.second() as u64);
+    page::field(page, place, b" second=", answer.second() as u64)
+}
+
+// "answer=A place=P second=S state=D N L ends=C table=C history=C work=C output=C"
+fn call_line(page: &mut [u8], answer: Answer, state: State, sums: Sums) -> usize
+    requires { ⌜ Waits 0 (now page) ⌝ }
+    ensures { λ r. ⌜ Waits r (now (page .exit)) ⌝ }
+{
+    let second = answer_line(page, answer);
     let held = state_line(page, second, b" state=", state);
     sums_line(page, held, sums)
 }
@@ -106,6 +117,28 @@ pub fn print_counts(
         counts.euler,
     );
     let end = page::text(&mut page, rest, b"\n");
+    page::flush(&page, end);
+}
+
+// Prints the line of `successor`: "answer=A place=P second=S dart=X passed=X table=C ends=C work=C".
+pub fn print_found(
+    held: Held,
+    looked: Looked,
+    table: &TableRoom,
+    ends: &EndsRoom,
+    work: &WorkRoom,
+)
+    requires { ⌜ Within held ⌝ }
+{
+    let mut page = [0u8; 512];
+    let answer = looked.answer;
+    let used = answer_line(&mut page, answer);
+    let dart = keyed(&mut page, used, b" dart=", looked.dart);
+    let passed = keyed(&mut page, dart, b" passed=", looked.passed);
+    let first = page::field(&mut page, passed, b" table=", sum(table, held.table + 4));
+    let second = page::field(&mut page, first, b" ends=", sum(ends, held.history + 4));
+    let third = page::field(&mut page, second, b" work=", sum(work, held.work + 4));
+    let end = page::text(&mut page, third, b"\n");
     page::flush(&page, end);
 }
 

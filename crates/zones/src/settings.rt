@@ -1,5 +1,6 @@
 // The commands that set the state, the rooms, and how much of them is lent.
 use crate::held::Held;
+use crate::rooms::EndsRoom;
 use crate::rooms::HistoryRoom;
 use crate::rooms::NumbersRoom;
 use crate::rooms::PlanRoom;
@@ -7,6 +8,7 @@ use crate::rooms::TableRoom;
 use crate::rooms::WorkRoom;
 use crate::scan::Line;
 use crate::sizes::size;
+use crate::words::ENDS;
 use crate::words::FILL;
 use crate::words::HISTORY;
 use crate::words::LEND;
@@ -134,6 +136,7 @@ pub fn set(
     plan: &mut PlanRoom,
     table: &mut TableRoom,
     history: &mut HistoryRoom,
+    ends: &mut EndsRoom,
     work: &mut WorkRoom,
 ) -> Held
     requires { ⌜ Within held × (line .count ≤ 262161) ⌝ }
@@ -144,6 +147,7 @@ pub fn set(
         LEND => lend(held, size(numbers[0]), size(numbers[1]), size(numbers[2])),
         TABLE => held.judged(put(table, numbers, line.count)),
         HISTORY => held.judged(put(history, numbers, line.count)),
+        ENDS => held.judged(put(ends, numbers, line.count)),
         WORK => held.judged(put(work, numbers, line.count)),
         PLAN => held.judged(put_bytes(plan, numbers, line.count)),
         FILL => {

@@ -34,7 +34,7 @@ fn step_byte(c: u64, v: u8) -> u64
 }
 
 // The checksum of the first n numbers.
-fn sum(numbers: &[u32], n: usize) -> u64
+pub fn sum(numbers: &[u32], n: usize) -> u64
     requires { ⌜ n ≤ length (now numbers) ⌝ }
 {
     let mut c = 0;

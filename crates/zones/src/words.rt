@@ -12,35 +12,39 @@ pub const WORK: u32 = 4;
 
 pub const PLAN: u32 = 5;
 
-pub const FILL: u32 = 6;
+pub const ENDS: u32 = 6;
 
-pub const STATE: u32 = 7;
+pub const FILL: u32 = 7;
 
-pub const START: u32 = 8;
+pub const STATE: u32 = 8;
 
-pub const CONTRACT: u32 = 9;
+pub const START: u32 = 9;
 
-pub const REMOVE: u32 = 10;
+pub const CONTRACT: u32 = 10;
 
-pub const SWEEP: u32 = 11;
+pub const REMOVE: u32 = 11;
 
-pub const UNDO: u32 = 12;
+pub const SWEEP: u32 = 12;
 
-pub const UNFOLD: u32 = 13;
+pub const UNDO: u32 = 13;
 
-pub const READ: u32 = 14;
+pub const UNFOLD: u32 = 14;
 
-pub const FLATAREAS: u32 = 15;
+pub const READ: u32 = 15;
 
-pub const FLAT: u32 = 16;
+pub const FLATAREAS: u32 = 16;
 
-pub const COUNTS: u32 = 17;
+pub const FLAT: u32 = 17;
 
-pub const WRITE: u32 = 18;
+pub const COUNTS: u32 = 18;
 
-pub const SHOW: u32 = 19;
+pub const SUCCESSOR: u32 = 19;
 
-pub const BYTES: u32 = 20;
+pub const WRITE: u32 = 20;
+
+pub const SHOW: u32 = 21;
+
+pub const BYTES: u32 = 22;
 
 // A command's number, or 0 for none, and the place after its word.
 pub struct Word {
@@ -49,8 +53,8 @@ pub struct Word {
 }
 
 // How many letters the script has from a place on of a word of the list, which a space ends: all of them or none.
-fn letters(script: &[u8], at: usize, words: &[u8; 200], from: usize) -> usize
-    requires { ⌜ (at ≤ length (now script)) × (from ≤ 190) ⌝ }
+fn letters(script: &[u8], at: usize, words: &[u8; 220], from: usize) -> usize
+    requires { ⌜ (at ≤ length (now script)) × (from ≤ 210) ⌝ }
     ensures { λ r. ⌜ at + r ≤ length (now (script .entry)) ⌝ }
 {
     let mut i = 0;
@@ -76,9 +80,9 @@ pub fn command(script: &[u8], at: usize) -> Word
     ensures { λ r. ⌜ r .next ≤ length (now (script .entry)) ⌝ }
 {
     let words =
-        b"lend      table     history   work      plan      fill      state     start     contract  remove    sweep     undo      unfold    \
-        read      flatareas flat      counts    write     show      bytes     ";
-    for k in 0..20 {
+        b"lend      table     history   work      plan      ends      fill      state     start     contract  remove    sweep     undo      \
+        unfold    read      flatareas flat      counts    successor write     show      bytes     ";
+    for k in 0..22 {
         let n = letters(script, at, words, 10 * k);
         if n != 0 {
             return Word {
@@ -96,8 +100,8 @@ pub fn command(script: &[u8], at: usize) -> Word
 // Whether a command takes so many numbers. "A kernel has at most 32,772 edges"; there are at most 64 ends.
 pub fn takes(number: u32, count: usize) -> bool {
     match number {
-        LEND | FLATAREAS | FLAT => count == 3,
-        TABLE | HISTORY | WORK | PLAN => 1 <= count,
+        LEND | FLATAREAS | FLAT | SUCCESSOR => count == 3,
+        TABLE | HISTORY | WORK | PLAN | ENDS => 1 <= count,
         STATE => 3 <= count && count <= 67,
         CONTRACT | REMOVE => count <= 32772,
         FILL | START | UNFOLD | READ | WRITE => count == 1,

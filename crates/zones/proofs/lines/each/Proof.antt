@@ -9,11 +9,11 @@ use Rattle.zones.proofs.lines.each.Statement.{statement}
 use Rattle.zones.proofs.lines.each.Tie as tie
 
 abbrev Inv-loop : tie.InvT-loop
-Inv-loop script numbers₀ plan₀ table₀ history₀ work₀ output₀ held₀ at₀ k₀ k-end numbers plan table history work output held at k =
+Inv-loop script numbers₀ plan₀ table₀ history₀ ends₀ work₀ output₀ held₀ at₀ k₀ k-end numbers plan table history ends work output held at k =
     (k ≤ k-end) × (k-end < 2 ^ 64) × (k-end ≡ length script) × (at ≤ length script) × Within held
 
 abbrev μ-loop : tie.MeasureT-loop
-μ-loop script numbers₀ plan₀ table₀ history₀ work₀ output₀ held₀ at₀ k₀ k-end numbers plan table history work output held at k =
+μ-loop script numbers₀ plan₀ table₀ history₀ ends₀ work₀ output₀ held₀ at₀ k₀ k-end numbers plan table history ends work output held at k =
     k-end - k
 
 nothing-requires : tie.Need-nothing-requires Inv-loop μ-loop
