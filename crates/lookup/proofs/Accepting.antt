@@ -9,7 +9,7 @@ use mathlib.Core.Bool.{Bool, true, false, _&&_}
 use mathlib.Core.List.{List, [], _∷_, _++_}
 use mathlib.Core.Logic.{_≢_}
 use mathlib.Core.Path.{_≡_, refl, sym, ap, _∙_}
-use Prim.Native.Nat.{ℕ, suc, _*_, _/_, _≤_}
+use Prim.Native.Nat.{ℕ, suc}
 use native.Mathlib.Omega.{arith}
 use lib.Dec.{eqb}
 use lib.ListN.{length, take}
@@ -18,15 +18,15 @@ use Rattle.permutations.specs.Choice.{eqb-same, eqb-other, true→T}
 use Rattle.darts.specs.Choose.{if_then_else_}
 use Rattle.darts.specs.Cases.{answerOf}
 use Rattle.darts.specs.Map.{permutationTest, passed}
-use Rattle.darts.specs.Operation.{Kind, contraction, removal, kindOf, lead, operate, number}
+use Rattle.darts.specs.Operation.{contraction, removal, kindOf, lead, operate, number}
 use Rattle.darts.specs.Kernel.{judge, Operation, each, Run, stands, stops, always, passFrom, pass, run}
 use Rattle.darts.specs.OneByOne.{oneByOne}
 use Rattle.darts.specs.Tests.{numbered}
 use Rattle.laws.proofs.tests.NothingGone.{nothing-gone}
 use Rattle.area.specs.Area.{Room, tableIn, pastIn, tried}
 use Rattle.area.specs.Load.{loads}
-use Rattle.engine.specs.Held.{Area, Beyond}
-use Rattle.engine.specs.Runs.{ranIn, Went}
+use Rattle.engine.specs.Held.{Area}
+use Rattle.engine.specs.Runs.{ranIn}
 use Rattle.engine.specs.declared.Ran.{Ran}
 use Rattle.engine.proofs.Checking.{loaded-beyond}
 use Rattle.engine.proofs.Given.{linked-stand}
@@ -77,7 +77,8 @@ accepted-join D t past i (o ∷ os) ns =
 -- ---- the contractions, and then the removals
 
 module _ (D : ℕ) (t ends : List ℕ) where
-  in-two : accepted (oneByOne D t [] (operations ends)) ≡ acceptedThen D (run contraction D t [] (ending contraction ends)) (each removal (ending removal ends))
+  in-two : accepted (oneByOne D t [] (operations ends))
+      ≡ acceptedThen D (run contraction D t [] (ending contraction ends)) (each removal (ending removal ends))
   unfolding oneByOne operations run pass
   in-two = accepted-join D t [] 0 (each contraction (ending contraction ends)) (each removal (ending removal ends))
 
@@ -91,7 +92,8 @@ module _ (D : ℕ) (t ends : List ℕ) where
         → eqb (answerOf (q .answer) .number) 0 ≡ accepted (oneByOne D t [] (operations ends))
     unfolding ranIn run accepted
     say z u q second =
-        sym (in-two ∙ ap (λ z. acceptedThen D z (each removal (ending removal ends))) (sym first) ∙ rw (eqb-same z) (ap accepted (sym second) ∙ told (eqb (answerOf (q .answer) .number) 0)))
+        sym (in-two ∙ ap (λ z. acceptedThen D z (each removal (ending removal ends))) (sym first)
+        ∙ rw (eqb-same z) (ap accepted (sym second) ∙ told (eqb (answerOf (q .answer) .number) 0)))
       where
         told : (b : Bool) → accepted (if b then stands (tableIn D u) (pastIn D (q .operations) u) else stops (answerOf (q .answer))) ≡ b
         told true = refl
@@ -152,7 +154,8 @@ module _ {D : ℕ} (t ends : List ℕ) where
     came-area y = L .area (true→T y)
 
     -- WHAT THE OPERATIONS SAY
-    pub came-operated : {s : Bool} → s ≡ shaped ends → s ≡ true → r ≡ true → {u : List ℕ} {b : Bool} → Operated D (tableIn D v) ends v u b → Came D t ends w u b
+    pub came-operated : {s : Bool} → s ≡ shaped ends → s ≡ true → r ≡ true → {u : List ℕ} {b : Bool} → Operated D (tableIn D v) ends v u b
+        → Came D t ends w u b
     unfolding comes
     came-operated e y f O = record {
       answer = rw (← based, f, ← e, y) (O .answer ∙ ap (λ l. accepted (oneByOne D l [] (operations ends))) (L .table ∙ whole));

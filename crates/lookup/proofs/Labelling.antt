@@ -2,7 +2,6 @@
 --   labelled-ready  == it judges operations of that kind
 --   labelled-passed == what they do from there they do from the map that was held before
 use mathlib.Core.List.{List}
-use mathlib.Core.Path.{_≡_, refl}
 use Prim.Native.Nat.{ℕ, _*_, _≤_}
 use native.Mathlib.Omega.{arith}
 use Rattle.slices.proofs.Over.{drop-more}

@@ -11,18 +11,16 @@ use mathlib.Core.List.{List, [], _∷_}
 use mathlib.Core.Logic.{_≢_}
 use mathlib.Core.Path.{_≡_, refl, sym, ap, _∙_}
 use Prim.Native.Nat.{ℕ, zero, suc, _+_, _-_, _/_, _%_, _≤_, _<_}
-use native.Mathlib.Decide.{ℕ-discrete}
 use native.Mathlib.Numerals.{add-one}
 use native.Mathlib.Omega.{arith}
 use borrow.Author.Tests.{le-leb}
 use lib.Dec.{eqb}
 use lib.ListN.{length, getD, drop, drop-of-length-le}
 use lib.Seq.{drop-cons}
-use Rattle.permutations.specs.Choice.{eqb-same, eqb-other}
 use Rattle.darts.specs.Cases.{answerOf}
 use Rattle.darts.specs.declared.Answer.{Answer}
 use Rattle.darts.specs.declared.Answer.the-variants.{Done}
-use Rattle.darts.specs.Operation.{Kind, contraction, removal, kindOf}
+use Rattle.darts.specs.Operation.{kindOf}
 use Rattle.darts.specs.Kernel.{Run, always, pass, run}
 use Rattle.darts.specs.Tests.{sameKind}
 use Rattle.area.specs.Area.{tableIn, pastIn}

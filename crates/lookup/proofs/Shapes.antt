@@ -7,7 +7,7 @@
 --   used-same                 == a level is in use where an end is noted for it
 --   Alike ends i              == the ends before i have the kind of the first one of their level; alike-begins, alike-over, alike-on, alike-not, alike-all
 --   too-high, unused, kinds   == the ways that the test ends
-use mathlib.Core.Bool.{Bool, true, false, _&&_}
+use mathlib.Core.Bool.{Bool, true, false}
 use mathlib.Core.List.{List, [], _∷_}
 use mathlib.Core.Logic.{_≢_}
 use mathlib.Core.Path.{_≡_, refl, sym, ap, _∙_}
@@ -98,7 +98,8 @@ noting-begins ends U =
     let l : length ends ≤ length ends = omega arith in
     record { bound = l; size = refl; each = λ L _. rw (drop-of-length-le ends l) (U .zeros L) }
 
-module _ {ends w first : List ℕ} {i : ℕ} (σ : Noting ends w first i) (some : 0 < i) (room : top ends < length w) {v : ℕ} (read : v ≡ getD ends (i - 1) 0) where
+module _ {ends w first : List ℕ} {i : ℕ} (σ : Noting ends w first i) (some : 0 < i) (room : top ends < length w)
+    {v : ℕ} (read : v ≡ getD ends (i - 1) 0) where
   pub noting-inside : v / 2 < length first
   noting-inside =
       let b = σ .bound in

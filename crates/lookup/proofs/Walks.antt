@@ -7,7 +7,7 @@
 --   walking-more          == where y is gone, not all D steps are done
 --   walking-on            == it goes on from a gone dart
 --   walking-ends          == it ends at one that is not gone
-use mathlib.Core.Bool.{Bool, true, false}
+use mathlib.Core.Bool.{true, false}
 use mathlib.Core.List.{List}
 use mathlib.Core.Logic.{_≢_}
 use mathlib.Core.Path.{_≡_, refl, sym, ap, _∙_}
@@ -40,9 +40,9 @@ module _ (ends : List ℕ) (y : ℕ) {v : ℕ} (read : v ≡ getD ends (y / 2) 0
     unfolding onward onwardBy endOf kindOf successor
     after-removal z e = rw (← read, eqb-same z) e
 
-    pub after-contraction : v % 2 ≢ 0 → r ≡ getD t (partner y) 0 → r ≡ onward t ends y
+    pub after-contraction : v % 2 ≢ 0 → {q : ℕ} → q ≡ partner y → r ≡ getD t q 0 → r ≡ onward t ends y
     unfolding onward onwardBy endOf kindOf successor
-    after-contraction n e = rw (← read, eqb-other n) e
+    after-contraction n p e = rw (← read, eqb-other n, ← p) e
 
 -- ---- the walk
 
@@ -89,11 +89,16 @@ module _ {D k : ℕ} {t ends : List ℕ} {x y i : ℕ} (σ : Walking D k t ends 
       go zero z = absurd (T-not (goneBy k ends y) (rw (last z) at (W .arrives)) (true→T g))
       go (suc n) z = omega arith
 
-  pub walking-on : D % 2 ≡ 0 → Walks D k t ends x → goneBy k ends y ≡ true → {z : ℕ} → z ≡ onward t ends y → Walking D k t ends x z (i + 1)
-  walking-on even W g {z} e =
+  pub walking-on : D % 2 ≡ 0 → Walks D k t ends x → goneBy k ends y ≡ true → {z j : ℕ} → z ≡ onward t ends y → j ≡ i + 1
+      → Walking D k t ends x z j
+  walking-on even W g e c =
       let more = walking-more W g in
       let one : D - i ≡ suc (D - suc i) = omega arith in
-      record { below = rw e (onward-below even W y (σ .below)); few = omega arith; same = rw (e, add-one i) (sym (go-on (D - suc i) k t ends y i g) ∙ rw one at (σ .same)) }
+      record {
+        below = rw e (onward-below even W y (σ .below));
+        few = omega arith;
+        same = rw (e, c, add-one i) (sym (go-on (D - suc i) k t ends y i g) ∙ rw one at (σ .same));
+      }
 
   pub walking-ends : goneBy k ends y ≡ false → record { dart = y; passed = i } ≡ walk D k t ends x
   walking-ends f = sym (stop-here (D - i) k t ends y i f) ∙ σ .same

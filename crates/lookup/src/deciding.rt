@@ -3,7 +3,6 @@ use crate::levels::shape;
 use crate::passes::take_kind;
 use area::load::load;
 ghost use mathlib.Core.Path.{_≡_};
-ghost use Prim.Native.Nat.{_≤_};
 ghost use lib.ListN.{length};
 ghost use Rattle.area.specs.Area.{Room, tableIn};
 ghost use Rattle.engine.specs.Held.{Area};

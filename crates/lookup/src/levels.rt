@@ -1,7 +1,7 @@
 // The levels that the ends tell: the top, and whether they are in the form of a pyramid's.
 use slices::at;
 ghost use mathlib.Core.Path.{_≡_};
-ghost use Prim.Native.Nat.{_≤_, _<_};
+ghost use Prim.Native.Nat.{_<_};
 ghost use lib.ListN.{length};
 ghost use Rattle.ends.specs.Ends.{top as topOf, oneKind, shaped};
 ghost use Rattle.lookup.specs.Firsts.{Unset, Firsts, usedIn};

@@ -9,9 +9,9 @@ pub use calls::successor_at;
 pub use darts::Answer;
 
 // A dart, and how many gone darts were passed on the way to it.
-pub struct Found {
-    pub dart: usize,
-    pub passed: usize,
+pub(crate) struct Found {
+    dart: usize,
+    passed: usize,
 }
 
 // What the lookup hands back. A refusal has dart 0 and count 0.

@@ -29,7 +29,8 @@ fn onward(table: &[u32], ends: &[u32], y: usize) -> usize
     if at(ends, y / 2) % 2 == 0 {
         return at(table, y);
     }
-    at(table, partner(y))
+    let other = partner(y);
+    at(table, other)
 }
 
 // The walk from x to its successor at level k, on d darts. Each gone dart passed is counted.
@@ -42,8 +43,8 @@ pub(crate) fn walk(table: &[u32], ends: &[u32], d: usize, k: usize, x: usize) ->
     let mut y = at(table, x);
     let mut passed = 0;
     while gone_by(ends, k, y) {
-        y = onward(table, ends, y);
         passed += 1;
+        y = onward(table, ends, y);
     }
     Found {
         dart: y,

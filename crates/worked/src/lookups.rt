@@ -25,15 +25,7 @@ fn is_found(looked: Looked, number: u32, place: usize, dart: u32, passed: u32) -
 }
 
 // The successor of a dart of map T at a level, with these ends, and what it leaves. The work area starts with rubbish in it.
-fn lookup(
-    ends: [u32; 4],
-    level: u32,
-    dart: u32,
-    number: u32,
-    place: usize,
-    found: u32,
-    passed: u32,
-)
+fn lookup(ends: [u32; 4], level: u32, dart: u32, number: u32, place: usize, found: u32, passed: u32)
     requires { ⌜ lookupIs ends level dart number place found passed ≡ true ⌝ }
 {
     let table = [5u32, 2, 1, 4, 6, 0, 3, 7];

@@ -274,6 +274,38 @@ fn flat(
     hold(held, outcome, table, history, work, output)
 }
 
+// A call that hands back a state, which is held from then on.
+fn step(
+    held: Held,
+    line: Line,
+    script: &[u8],
+    numbers: &NumbersRoom,
+    table: &mut TableRoom,
+    history: &mut HistoryRoom,
+    work: &mut WorkRoom,
+    output: &OutputRoom,
+) -> Held
+    requires { ⌜ Within held × Scanned (now script) line ⌝ }
+    ensures { λ r. ⌜ Within r ⌝ }
+{
+    let outcome = lent(held, line, script, numbers, table, history, work);
+    hold(held, outcome, table, history, work, output)
+}
+
+// "the dart that follows X at level K". The script's state stays.
+fn successor(
+    held: Held,
+    numbers: &NumbersRoom,
+    table: &TableRoom,
+    ends: &EndsRoom,
+    work: &mut WorkRoom,
+)
+    requires { ⌜ Within held ⌝ }
+{
+    let looked = followed(held, numbers[0], numbers[1], numbers[2], table, ends, work);
+    print_found(held, looked, table, ends, work);
+}
+
 // What is held after such a line.
 pub fn call(
     held: Held,
@@ -299,13 +331,11 @@ pub fn call(
         return held;
     }
     if line.command == SUCCESSOR {
-        let looked = followed(held, numbers[0], numbers[1], numbers[2], table, ends, work);
-        print_found(held, looked, table, ends, work);
+        successor(held, numbers, table, ends, work);
         return held;
     }
     if line.command == FLAT || line.command == FLATAREAS {
         return flat(held, line, numbers, plan, table, history, work, output);
     }
-    let outcome = lent(held, line, script, numbers, table, history, work);
-    hold(held, outcome, table, history, work, output)
+    step(held, line, script, numbers, table, history, work, output)
 }

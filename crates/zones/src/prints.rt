@@ -8,9 +8,10 @@ use crate::rooms::TableRoom;
 use crate::rooms::WorkRoom;
 use crate::sizes::least;
 use crate::sizes::size;
+use crate::sums::FoundSums;
 use crate::sums::Sums;
 use crate::sums::checksums;
-use crate::sums::sum;
+use crate::sums::found_checksums;
 use libc::STDOUT_FILENO;
 use lookup::Looked;
 use pyramid::Answer;
@@ -120,25 +121,28 @@ pub fn print_counts(
     page::flush(&page, end);
 }
 
-// Prints the line of `successor`: "answer=A place=P second=S dart=X passed=X table=C ends=C work=C".
-pub fn print_found(
-    held: Held,
-    looked: Looked,
-    table: &TableRoom,
-    ends: &EndsRoom,
-    work: &WorkRoom,
-)
+// "answer=A place=P second=S dart=X passed=X table=C ends=C work=C"
+fn found_line(page: &mut [u8], looked: Looked, sums: FoundSums) -> usize
+    requires { ⌜ Waits 0 (now page) ⌝ }
+    ensures { λ r. ⌜ Waits r (now (page .exit)) ⌝ }
+{
+    let answer = looked.answer;
+    let used = answer_line(page, answer);
+    let dart = keyed(page, used, b" dart=", looked.dart);
+    let passed = keyed(page, dart, b" passed=", looked.passed);
+    let table = page::field(page, passed, b" table=", sums.table);
+    let ends = page::field(page, table, b" ends=", sums.ends);
+    page::field(page, ends, b" work=", sums.work)
+}
+
+// Prints the line of `successor`.
+pub fn print_found(held: Held, looked: Looked, table: &TableRoom, ends: &EndsRoom, work: &WorkRoom)
     requires { ⌜ Within held ⌝ }
 {
     let mut page = [0u8; 512];
-    let answer = looked.answer;
-    let used = answer_line(&mut page, answer);
-    let dart = keyed(&mut page, used, b" dart=", looked.dart);
-    let passed = keyed(&mut page, dart, b" passed=", looked.passed);
-    let first = page::field(&mut page, passed, b" table=", sum(table, held.table + 4));
-    let second = page::field(&mut page, first, b" ends=", sum(ends, held.history + 4));
-    let third = page::field(&mut page, second, b" work=", sum(work, held.work + 4));
-    let end = page::text(&mut page, third, b"\n");
+    let checks = found_checksums(held, table, ends, work);
+    let used = found_line(&mut page, looked, checks);
+    let end = page::text(&mut page, used, b"\n");
     page::flush(&page, end);
 }
 

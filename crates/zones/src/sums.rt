@@ -1,5 +1,6 @@
 // The checksums of what a call was lent: "so that a number written outside what was lent shows".
 use crate::held::Held;
+use crate::rooms::EndsRoom;
 use crate::rooms::HistoryRoom;
 use crate::rooms::OutputRoom;
 use crate::rooms::TableRoom;
@@ -15,6 +16,13 @@ pub struct Sums {
     pub history: u64,
     pub work: u64,
     pub output: u64,
+}
+
+// The checksums of what `successor` was lent: the table, the edges' ends and the work area.
+pub struct FoundSums {
+    pub table: u64,
+    pub ends: u64,
+    pub work: u64,
 }
 
 // "for each number v: c := (c * 31 + v + 1) mod 4294967291"
@@ -34,7 +42,7 @@ fn step_byte(c: u64, v: u8) -> u64
 }
 
 // The checksum of the first n numbers.
-pub fn sum(numbers: &[u32], n: usize) -> u64
+fn sum(numbers: &[u32], n: usize) -> u64
     requires { ⌜ n ≤ length (now numbers) ⌝ }
 {
     let mut c = 0;
@@ -83,5 +91,16 @@ pub fn checksums(
         history: sum(history, held.history + 4),
         work: sum(work, held.work + 4),
         output: sum_bytes(output, n + 4),
+    }
+}
+
+// The checksums of T numbers of the table, H of the edges' ends and W of the work area, with the four after them.
+pub fn found_checksums(held: Held, table: &TableRoom, ends: &EndsRoom, work: &WorkRoom) -> FoundSums
+    requires { ⌜ Within held ⌝ }
+{
+    FoundSums {
+        table: sum(table, held.table + 4),
+        ends: sum(ends, held.history + 4),
+        work: sum(work, held.work + 4),
     }
 }

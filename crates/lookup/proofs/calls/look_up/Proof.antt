@@ -1,5 +1,5 @@
 -- `lookup::calls::look_up` meets its contract: 4, or what is said over table and ends that come from a pyramid.
-use mathlib.Core.Path.{refl, sym, ap, _∙_}
+use mathlib.Core.Path.{sym, ap, _∙_}
 use borrow.Author.Needs.{needs}
 use Rattle.permutations.specs.Choice.{true→T}
 use Rattle.darts.specs.Cases.{answerOf}

@@ -1,4 +1,5 @@
 -- `lookup::levels::in_use` meets its contract: from level n down, each level has its end.
+use native.Mathlib.Omega.{arith}
 use borrow.Author.Needs.{needs}
 use Rattle.lookup.proofs.Shapes.{Using, using-begins, using-on, using-not, using-all}
 use Rattle.lookup.proofs.levels.in_use.Statement.{statement}
@@ -18,8 +19,8 @@ at-requires c κs = search needs
 
 returns : tie.Need-returns Inv-loop μ-loop
 returns c =
-    let l = c .before .before .before in
-    using-not (l .loop .inv) (c .before .before .loop-test .taken) (c .before .at .ensures) (c .if1 .taken)
+    let some = c .before .before .loop-test .taken in
+    using-not (c .before .before .before .loop .inv) (omega arith) (c .before .at .ensures) (c .if1 .taken)
 
 sub-level : tie.Need-sub-level Inv-loop μ-loop
 sub-level c = search needs
@@ -29,11 +30,11 @@ loop-less c = search needs
 
 loop-again : tie.Need-loop-again Inv-loop μ-loop
 loop-again c =
-    let l = c .before .before .before in
-    using-on (l .loop .inv) (c .before .before .loop-test .taken) (c .before .at .ensures) (c .if1 .left)
+    let some = c .before .before .loop-test .taken in
+    using-on (c .before .before .before .loop .inv) (omega arith) (c .before .at .ensures) (c .if1 .left)
 
 returns-2 : tie.Need-returns-2 Inv-loop μ-loop
-returns-2 c = using-all (c .before .loop .inv) (c .loop-test .left)
+returns-2 c = let none = c .loop-test .left in using-all (c .before .loop .inv) (omega arith)
 
 pub in-use-spec : {M : Type 1} → statement M
 in-use-spec =

@@ -20,12 +20,13 @@ partner-requires c κs = search needs
 at-requires-3 : tie.Need-at-requires-3
 at-requires-3 c κs =
     let s = c .before .before .before .before .before in
-    rw (c .partner .ensures) (partner-below _ _ (s .pre .0) (s .pre .2))
+    let below = partner-below _ _ (s .pre .0) (s .pre .2) in
+    search needs
 
 returns-2 : tie.Need-returns-2
 returns-2 c =
     let p = c .before in
-    after-contraction _ _ (p .before .before .at .ensures) _ (p .before .if1 .left) (rw (p .partner .ensures) at (c .at3 .ensures))
+    after-contraction _ _ (p .before .before .at .ensures) _ (p .before .if1 .left) (p .partner .ensures) (c .at3 .ensures)
 
 pub onward-spec : {M : Type 1} → statement M
 onward-spec =

@@ -24,6 +24,12 @@ gone-by-requires c κs =
     let p = c .before .before .before .before .pre .0 in
     omega (arith, p .1, p .2, c .loop .inv .below)
 
+add-passed : tie.Need-add-passed Inv-loop μ-loop
+add-passed c =
+    let l = c .before .before in
+    let p = l .before .before .before .before .pre .0 in
+    omega (arith, l .loop .inv .few, p .3)
+
 onward-requires : tie.Need-onward-requires Inv-loop μ-loop
 onward-requires c κs =
     let l = c .before .before in
@@ -31,23 +37,17 @@ onward-requires c κs =
     let b = l .loop .inv .below in
     rw (p .0, p .1) (omega arith, omega (arith, p .2), p .2, p .3)
 
-add-passed : tie.Need-add-passed Inv-loop μ-loop
-add-passed c =
+loop-again : tie.Need-loop-again Inv-loop μ-loop
+loop-again c =
     let l = c .before .before .before in
-    let p = l .before .before .before .before .pre .0 in
-    omega (arith, l .loop .inv .few, p .3)
+    let p = l .before .before .before .before .pre in
+    walking-on (l .loop .inv) (p .0 .2) (p .1) (sym (c .before .before .gone-by .ensures) ∙ c .before .if1 .taken) (c .onward .ensures) (omega arith)
 
 loop-less : tie.Need-loop-less Inv-loop μ-loop
 loop-less c =
     let l = c .before .before .before in
     let p = l .before .before .before .before .pre in
     omega (arith, walking-more (l .loop .inv) (p .1) (sym (c .before .before .gone-by .ensures) ∙ c .before .if1 .taken))
-
-loop-again : tie.Need-loop-again Inv-loop μ-loop
-loop-again c =
-    let l = c .before .before .before in
-    let p = l .before .before .before .before .pre in
-    walking-on (l .loop .inv) (p .0 .2) (p .1) (sym (c .before .before .gone-by .ensures) ∙ c .before .if1 .taken) (c .onward .ensures)
 
 returns : tie.Need-returns Inv-loop μ-loop
 returns c =
@@ -63,8 +63,8 @@ walk-spec =
     at-requires
     loop-holds
     gone-by-requires
-    onward-requires
     add-passed
+    onward-requires
     loop-less
     loop-again
     returns)
