@@ -1,12 +1,9 @@
 /* Whether the versions agree. */
 #include "agree.h"
 
-#include <stdlib.h>
 #include <string.h>
 
-static bool same(const uint32_t *one, const uint32_t *other, size_t count) {
-    return memcmp(one, other, count * sizeof *one) == 0;
-}
+#include "numbers.h"
 
 static void agree_snapshots(const struct plan *plan, const struct room *one, const struct room *other, enum moment moment) {
     const struct snapshot *a = &one->moments[moment], *b = &other->moments[moment];

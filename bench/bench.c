@@ -1,5 +1,5 @@
 /* Measures the library beside (a) plain C, (b) the walking version and (c) CGAL: first whether they agree, then the times of each phase. The calls
- * that begin from a plan have a table of their own (building.h). */
+ * that begin from a plan have a table of their own (building.h), and so has the successor at a level (looking.h). */
 #include <stdio.h>
 #include <stdlib.h>
 #include <string.h>
@@ -7,6 +7,8 @@
 #include "agree.h"
 #include "building.h"
 #include "cgal.h"
+#include "looking.h"
+#include "numbers.h"
 #include "table.h"
 
 /* PATIENCE is how many seconds a pass of (b) may take. */
@@ -21,17 +23,11 @@ struct samples {
     double seconds[MOST_PASSES][PHASES];
 };
 
-static int compare(const void *one, const void *other) {
-    double a = *(const double *)one, b = *(const double *)other;
-    return (a > b) - (a < b);
-}
-
 static void medians(const struct samples *samples, double seconds[PHASES]) {
     for (int phase = 0; phase < PHASES; phase++) {
         double all[MOST_PASSES];
         for (int i = 0; i < samples->count; i++) all[i] = samples->seconds[i][phase];
-        qsort(all, (size_t)samples->count, sizeof *all, compare);
-        seconds[phase] = samples->count == 0 ? -1 : all[samples->count / 2];
+        seconds[phase] = samples->count == 0 ? -1 : median(all, samples->count);
     }
 }
 
@@ -133,6 +129,7 @@ static void measure_sizes(enum picture picture, bool random, int sides, struct f
 int main(int words, char **word) {
     static struct figures figures[PICTURES * 2 * SIDES];
     static struct built built[ALL_PICTURES * SIDES];
+    static struct looked looked[PICTURES * 2 * SIDES * LOOKED_LEVELS];
     int sides = words == 2 ? atoi(word[1]) : 0, count = 0;
     if (sides < 2 || sides > SIDES) {
         fputs("usage: bench COUNT, from 2 to 4 of the sizes 16, 32, 64, 128\n", stderr);
@@ -140,16 +137,23 @@ int main(int words, char **word) {
     }
     agree_refusals(versions, names, ROOMS);
     building_agree();
+    looking_agree();
     for (int picture = 0; picture < ALL_PICTURES; picture++) building_measure(picture, sides, &built[picture * sides]);
     for (int picture = 0; picture < PICTURES; picture++)
-        for (int random = 0; random < 2; random++, count += sides) measure_sizes(picture, random != 0, sides, &figures[count]);
+        for (int random = 0; random < 2; random++, count += sides) {
+            looking_measure(picture, random != 0, sides, &looked[count * LOOKED_LEVELS]);
+            measure_sizes(picture, random != 0, sides, &figures[count]);
+        }
     puts("All agree: the library, (a) and (b) on states, tables, histories, counts, files and refusals, CGAL on darts, vertices, faces and successors;");
-    puts("the library and (a) on what is built from a plan, which is the plan's table, and with areas what start and contract leave.");
+    puts("the library and (a) on what is built from a plan, which is the plan's table, and with areas what start and contract leave; and on the successor");
+    puts("at a level, which is the one that unfolding gives.");
     table_print(figures, count);
     building_print(built, sides);
+    looking_print(looked, count * LOOKED_LEVELS);
     if (sides == SIDES) {
         table_judge(figures, count);
         building_judge(built, sides);
+        looking_judge(looked, count * LOOKED_LEVELS);
     } else {
         puts("What the tables must show is judged at 128 cells square.");
     }

@@ -5,6 +5,7 @@
 #include <stdlib.h>
 #include <string.h>
 
+#include "numbers.h"
 #include "pass.h"
 
 /* SMALL bounds the plans of every shape, and SMALL_DARTS their darts. ENOUGH is how many darts a sample goes through, so that a small plan is built
@@ -30,14 +31,6 @@ static struct site site_make(uint32_t darts) {
 
 static void site_free(struct site *site) {
     for (int v = 0; v < VERSIONS; v++) room_free(&site->rooms[v]);
-}
-
-static void fill(uint32_t *numbers, size_t count) {
-    for (size_t i = 0; i < count; i++) numbers[i] = (uint32_t)i + 7;
-}
-
-static bool same(const uint32_t *one, const uint32_t *other, size_t count) {
-    return memcmp(one, other, count * sizeof *one) == 0;
 }
 
 /* A call of each version on slices full of other numbers: answer, places, state and every number are the same. The answer's number. */
@@ -123,11 +116,6 @@ static double sample(struct room *room, plan_call *call, const struct plan *plan
     return seconds / times;
 }
 
-static int compare(const void *one, const void *other) {
-    double a = *(const double *)one, b = *(const double *)other;
-    return (a > b) - (a < b);
-}
-
 /* The library and (a) take turns, so that whatever else the machine does meets both. */
 static void measure_call(const struct plan *plan, const uint8_t *codes, struct site *site, enum building building, struct built *built) {
     double all[VERSIONS][MOST_SAMPLES], spent = 0;
@@ -138,10 +126,7 @@ static void measure_call(const struct plan *plan, const uint8_t *codes, struct s
             all[v][count] = sample(&site->rooms[v], builds[v][building], plan, codes);
             spent += all[v][count] * (ENOUGH / plan->darts);
         }
-    for (int v = 0; v < VERSIONS; v++) {
-        qsort(all[v], (size_t)count, sizeof *all[v], compare);
-        built->seconds[v][building] = all[v][count / 2];
-    }
+    for (int v = 0; v < VERSIONS; v++) built->seconds[v][building] = median(all[v], count);
 }
 
 void building_measure(enum picture picture, int sides, struct built *built) {

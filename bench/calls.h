@@ -1,5 +1,5 @@
-/* The calls as the measured programs offer them: the eight of the library, (a) the plain version and (b) the walking version; and the two that
- * begin from a plan, of the library and (a). */
+/* The calls as the measured programs offer them: the eight of the library, (a) the plain version and (b) the walking version; the two that
+ * begin from a plan and the successor at a level, of the library and (a). */
 #ifndef BENCH_CALLS_H
 #define BENCH_CALLS_H
 
@@ -41,5 +41,21 @@ typedef uint32_t plan_call(struct lent *lent, uint32_t wales, uint32_t courses, 
 enum building { BASE, AREAS, BUILDINGS };
 
 extern plan_call *const library_builds[BUILDINGS], *const plain_builds[BUILDINGS];
+
+/* Which dart's successor is asked for, at which level, and what is lent: a base's table, and where each edge ends, 2L by a removal at level L and
+ * 2L + 1 by a contraction, 0 or 1 where it survives. */
+struct lookup {
+    uint32_t darts, level, dart, *table, *ends, *work;
+    size_t table_length, ends_length, work_length;
+};
+
+/* The dart, and how many gone darts were passed on the way to it. */
+struct found {
+    uint32_t dart, passed;
+};
+
+typedef uint32_t lookup_call(const struct lookup *lookup, struct found *found, size_t place[2]);
+
+extern lookup_call library_successor, plain_successor;
 
 #endif

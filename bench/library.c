@@ -50,3 +50,8 @@ static uint32_t areas(struct lent *lent, uint32_t wales, uint32_t courses, const
 }
 
 plan_call *const library_builds[BUILDINGS] = {base, areas};
+
+uint32_t library_successor(const struct lookup *l, struct found *found, size_t place[2]) {
+    return zm_successor(l->darts, l->level, l->dart, l->table, l->table_length, l->ends, l->ends_length, l->work, l->work_length, &found->dart,
+                        &found->passed, &place[0], &place[1]);
+}

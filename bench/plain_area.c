@@ -146,6 +146,13 @@ bool area_contract(struct area area, uint32_t operations, uint32_t edge) {
     return true;
 }
 
+/* The same for a removal. */
+bool area_remove(struct area area, uint32_t operations, uint32_t edge) {
+    if (judge(area, REMOVE, edge) != 0) return false;
+    operate(area, operations, REMOVE, edge);
+    return true;
+}
+
 /* Whether the sweep takes an edge: a surviving empty loop that is no whole piece. */
 static bool takes(struct area area, uint32_t edge) {
     uint32_t p = 2 * edge, q = p + 1;

@@ -55,6 +55,7 @@ uint32_t area_test_base(struct area area, const uint32_t *table, uint32_t *besid
 bool area_take_back(struct area area, uint32_t operations, uint32_t count);
 struct ran area_run(struct area area, uint32_t operations, const uint32_t *kernel, size_t length);
 bool area_contract(struct area area, uint32_t operations, uint32_t edge);
+bool area_remove(struct area area, uint32_t operations, uint32_t edge);
 struct ran area_sweep(struct area area, uint32_t operations);
 void area_store(struct area area, struct lent *lent, uint32_t operations);
 uint32_t area_level(struct area area, struct lent *lent, struct ran ran, size_t place[2]);

@@ -3,7 +3,8 @@
  * Link with target/staticlib/libzonemap_c.a, which `rt staticlib zonemap_c` writes for x86-64 Linux; it asks nothing else but
  * memcpy and memset. A Rust program links it too: it declares these functions in an `extern "C"` block, a slice as its
  * pointer and its length. Each function is proved to be the call itself: what it leaves is one function of
- * crates/darts/specs/Calls.antt, or of crates/grids/specs/Plans.antt for the two on a plan, for every input, refusals too.
+ * crates/darts/specs/Calls.antt, of crates/grids/specs/Plans.antt for the two on a plan, or of crates/ends/specs/Lookup.antt
+ * for zm_successor, for every input, refusals too.
  *
  * What a caller lends
  *
@@ -11,6 +12,8 @@
  *            (the operation count after each kernel, zero past the last level). Whatever they are, a call takes them.
  *   table    at least D numbers: the successor of each dart. Entries of gone darts stay as they were.
  *   history  at least D/2 numbers, one for each operation: 2p for a removal, 2p + 1 for a contraction.
+ *   ends     at least D/2 numbers, one for each edge: 2L for an edge removed at level L, 2L + 1 for one contracted there, 0 or
+ *            1 for one that survives. zm_successor alone takes them; it takes no state and no history.
  *   work     at least 4D numbers of room to work in; any numbers may stand there.
  *   place    one number, which every call writes.
  *   second   one number more, which every call writes.
@@ -23,19 +26,21 @@
  *
  *   It returns the answer's number and writes the answer's place through `place` and its second place through `second`. The
  *   second place is 0 whatever the call and the answer, but for answer 3 of zm_start, which names both culprits.
- *   Accepted: state, table and history are those after the call.
+ *   Accepted: state, table and history are those after the call; zm_successor only reads table and ends.
  *   Refused: table and history stay as they were; so does the state, but zm_start, zm_plan, zm_plan_areas and zm_read, which
  *   are given none, write 67 zeros.
  *   The first 4D numbers of work are zero after the call, unless the answer is 1, 2 or 15, which leave work alone; zm_write
  *   zeroes them too where it answers 2 for its output.
- *   Numbers of a table past D, of a history past the larger of the operation counts before and after the call, and of a
- *   work area past 4D are never touched.
+ *   Numbers of a table past D, of a history past the larger of the operation counts before and after the call, of ends past
+ *   D/2, and of a work area past 4D are never touched.
  *   Numbers that stay the same are stored again, so no other thread may use what is lent during a call: where zm_contract,
  *   zm_remove, zm_sweep, zm_undo or zm_unfold is accepted, the table's first D numbers and the history's first N, N the
- *   operation count after the call; and at every call but zm_counts and zm_write, refused too, the state's 67.
+ *   operation count after the call; and at every call but zm_counts and zm_write, refused too, the state's 67. Of zm_successor
+ *   other threads may read table and ends meanwhile: each that calls it needs a work area of its own.
  *
  * Order of the answers: 1, 2, then 3 or 4, then 12, 6, 5, then the kernel's first failing edge, for which 7, 8, 9 or 10, 11.
  * zm_plan and zm_plan_areas judge 15 first. zm_write judges its output after 4. zm_read judges in the order of the file's bytes.
+ * zm_successor judges 1, 2, 4, 12, 7, 8.
  */
 #ifndef ZONEMAP_H
 #define ZONEMAP_H
@@ -57,11 +62,12 @@ enum {
     ZM_TOO_SHORT = 2,        /* a lent slice is too short. Place: for zm_write's output, the bytes needed */
     ZM_NO_PERMUTATION = 3,   /* the table is no permutation. Place: the lowest dart whose successor is D or more, or repeats a lower dart's.
                               * Second place: that lower dart, or D where the successor is D or more */
-    ZM_NO_PYRAMID = 4,       /* the state, or what a file holds, is no pyramid */
+    ZM_NO_PYRAMID = 4,       /* the state, or what a file holds, is no pyramid; for zm_successor, table and ends come from none */
     ZM_EMPTY_KERNEL = 5,     /* the kernel is empty, or the sweep or a plan's first kernel takes no edge */
     ZM_TOO_MANY_LEVELS = 6,  /* 64 levels are in use, or a file states more */
-    ZM_NO_EDGE = 7,          /* the edge number is D/2 or more. Place: where in the kernel, from 0; so too for 8 to 11 */
-    ZM_GONE_ALREADY = 8,     /* the edge is gone already */
+    ZM_NO_EDGE = 7,          /* the edge number is D/2 or more. Place: where in the kernel, from 0; so too for 8 to 11.
+                              * For zm_successor, the dart is D or more; place 0 */
+    ZM_GONE_ALREADY = 8,     /* the edge is gone already; for zm_successor, the dart is gone by the level, place 0 */
     ZM_ONE_VERTEX = 9,       /* contraction with one vertex at both ends */
     ZM_ONE_FACE = 10,        /* removal with one face on both sides */
     ZM_WHOLE_PIECE = 11,     /* the edge is a whole piece */
@@ -185,6 +191,32 @@ uint32_t zm_unfold(uint32_t state[ZM_STATE], uint32_t level,
                    uint32_t *history, size_t history_length,
                    uint32_t *work, size_t work_length,
                    size_t *place, size_t *second);
+
+/* The successor of a dart at a level, found without unfolding: from the table of a base and the ends of its edges.
+ *
+ * The walk starts at the dart's base successor. While the dart there is gone by the level, its edge ending at a level from 1 to
+ * this one, it goes on: to that dart's base successor if its edge was removed, to its partner's base successor if contracted.
+ * The top is the highest level among the ends.
+ *
+ * Table 5 2 1 4 6 0 3 7 with the ends 3 3 4 0: the edges 0 and 1 are contracted at level 1, edge 2 is removed at level 2, and
+ * edge 3 survives. From dart 6:
+ *
+ *     level 0   no gone dart                     found 3, passed 0
+ *     level 1   over the darts 3 1               found 5, passed 2
+ *     level 2   over the darts 3 1 5 0 2 4       found 6, passed 6
+ *
+ * Answers 0, 1, 2, 4, 12, 7, 8, judged in this order; for 12 the place is the top, else it is 0. Answer 4: table and ends come
+ * from no pyramid. The table is no permutation, a level from 1 to the top is not in use or has two kinds, the top is over 64,
+ * or an operation would be refused.
+ * Writes found, the successor, and passed, the number of gone darts passed on the way: never more than twice the operations done
+ * by the level. A refusal writes 0 and 0. Table and ends are only read.
+ * Lengths: table D, ends D/2, work 4D, D = darts. What stood in found and passed is not read. */
+uint32_t zm_successor(uint32_t darts, uint32_t level, uint32_t dart,
+                      const uint32_t *table, size_t table_length,
+                      const uint32_t *ends, size_t ends_length,
+                      uint32_t *work, size_t work_length,
+                      uint32_t *found, uint32_t *passed,
+                      size_t *place, size_t *second);
 
 /* The counts of the present level.
  * Answers 0, 1, 2, 4.
