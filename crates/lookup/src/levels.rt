@@ -6,14 +6,14 @@ ghost use lib.ListN.{length};
 ghost use Rattle.ends.specs.Ends.{top as topOf, oneKind, shaped};
 ghost use Rattle.lookup.specs.Firsts.{Unset, Firsts, usedIn};
 
-// The highest level among the ends.
+// The highest level among the ends. It stays in 32 bits, of which a processor compares several at a time.
 pub(crate) fn top(ends: &[u32]) -> usize
     ensures { λ r. ⌜ r ≡ topOf (now (ends .entry)) ⌝ }
 {
     let mut i = ends.len();
-    let mut high = 0;
+    let mut high = 0u32;
     while 0 < i {
-        let level = at(ends, i - 1) / 2;
+        let level = ends[i - 1] / 2;
         if high < level {
             high = level;
             i -= 1;
@@ -21,7 +21,7 @@ pub(crate) fn top(ends: &[u32]) -> usize
             i -= 1;
         }
     }
-    high
+    high as usize
 }
 
 // The first end of each level is noted at its level: from the last edge on, so that the first one stays.
