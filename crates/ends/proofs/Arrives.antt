@@ -64,10 +64,11 @@ exchanged D k ends y = ltb y D && (goneBy k ends y && isContraction (kindOf (end
 turned : ℕ → ℕ → List ℕ → ℕ → ℕ
 turned D k ends y = pick (exchanged D k ends y) (partner y) y
 
-module _ (D k : ℕ) (t ends : List ℕ) (S : Standing D t []) where
-  base-next : (y : ℕ) → y < D → mapOf D t [] .next y ≡ successor t y
-  base-next y h = next-entry S y (all-live D y .1 h)
+-- every dart of a base leads where its entry says
+pub base-next : {D : ℕ} {t : List ℕ} → Standing D t [] → (y : ℕ) → y < D → mapOf D t [] .next y ≡ successor t y
+base-next {D} S y h = next-entry S y (all-live D y .1 h)
 
+module _ (D k : ℕ) (t ends : List ℕ) (S : Standing D t []) where
   -- partners are exchanged together
   both : (y : ℕ) → T (exchanged D k ends y) → T (exchanged D k ends (partner y))
   unfolding exchanged goneBy endOf
@@ -104,15 +105,15 @@ module _ (D k : ℕ) (t ends : List ℕ) (S : Standing D t []) where
   -- from a dart that is not gone the first step is to its successor
   step-first : (y : ℕ) → y < D → ¬ T (goneBy k ends y) → steps y ≡ successor t y
   unfolding turned exchanged
-  step-first y h n = rw (T→true (ltb y D) (lt→ltb y D h), nT→false (goneBy k ends y) n) (base-next y h)
+  step-first y h n = rw (T→true (ltb y D) (lt→ltb y D h), nT→false (goneBy k ends y) n) (base-next S y h)
 
   step-on : (y : ℕ) → y < D → T (goneBy k ends y) → steps y ≡ onward t ends y
   unfolding turned exchanged onward onwardBy isContraction
   step-on y h g = rw (T→true (ltb y D) (lt→ltb y D h), T→true (goneBy k ends y) g) (go (kindOf (endOf ends y)))
     where
       go : (κ : Kind) → mapOf D t [] .next (pick (isContraction κ) (partner y) y) ≡ onwardBy κ t y
-      go contraction = base-next (partner y) (partner-below D y h (S .even))
-      go removal = base-next y h
+      go contraction = base-next S (partner y) (partner-below D y h (S .even))
+      go removal = base-next S y h
 
   steps-go : Goes D k t ends steps
   steps-go = record { on = step-on; stays = λ y h. below steps-perm h }

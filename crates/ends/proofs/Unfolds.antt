@@ -43,7 +43,7 @@ use Rattle.ends.specs.Walk.{onwardBy, onward, walkFrom, walk}
 use Rattle.ends.specs.Comes.{endIn, endsSo}
 use Rattle.ends.proofs.Ways.{way-same, way-few}
 use Rattle.ends.proofs.Returns.{taken, cross, cross-not-taken, turns, turns-perm, run-live, live-run, returns}
-use Rattle.ends.proofs.Arrives.{Goes, way-walks}
+use Rattle.ends.proofs.Arrives.{Goes, way-walks, base-next}
 use Rattle.ends.proofs.Told.{so-by, so-same, hasEdge, byKind, told-edges, told-kinds, taken-edge, legal-cross}
 
 pub record AtLevel (D k : ℕ) (t ends u new : List ℕ) (x : ℕ) : Type 0 where
@@ -127,9 +127,6 @@ module _ (D : ℕ) (t ends : List ℕ) (count : T (dartCount D)) (size : length 
   unfolding steps
   steps-perm = turns-perm (S .good) (acts os) (R .legal)
 
-  base-next : (y : ℕ) → y < D → base .next y ≡ successor t y
-  base-next y h = next-entry S y (all-live D y .1 h)
-
   -- from a gone dart the walk goes on by its kind
   step-on : (y : ℕ) → y < D → T (goneBy k ends y) → steps y ≡ onward t ends y
   unfolding steps onward onwardBy goneBy endOf
@@ -142,8 +139,8 @@ module _ (D : ℕ) (t ends : List ℕ) (count : T (dartCount D)) (size : length 
       ap (base .next) (legal-cross (S .good) os (R .legal) y ∙ told-kinds high 0 low y has-it) ∙ rw (← same) (go (kindOf (getD ends (y / 2) 0)))
     where
       go : (κ : Kind) → base .next (byKind κ y) ≡ onwardBy κ t y
-      go contraction = base-next (partner y) (partner-below D y h (S .even))
-      go removal = base-next y h
+      go contraction = base-next S (partner y) (partner-below D y h (S .even))
+      go removal = base-next S y h
 
   steps-go : Goes D k t ends steps
   steps-go = record { on = step-on; stays = λ y h. below steps-perm h }
@@ -163,7 +160,7 @@ module _ (D : ℕ) (t ends : List ℕ) (count : T (dartCount D)) (size : length 
       let lives : T (live D new x) = live-iff D new x .1 (h, stays) in
       let left : T (run base (acts os) .live x) = subst T (ap (λ m. m .live x) (R .map-after)) lives in
       let not-gone = run-live base (acts os) x left .1 in
-      let first : steps x ≡ successor t x = ap (base .next) (cross-not-taken (acts os) x not-gone) ∙ base-next x h in
+      let first : steps x ≡ successor t x = ap (base .next) (cross-not-taken (acts os) x not-gone) ∙ base-next S x h in
       let r = returns (S .good) (acts os) (R .legal) x left in
       let end : run base (acts os) .next x ≡ successor u x = sym (ap (λ m. m .next x) (R .map-after)) ∙ next-entry (R .standing) x lives in
       let bound = way-few steps-perm (taken (acts os)) (darts (acts os)) (λ y. subst T (taken-listed (acts os) y)) x (run base (acts os) .next x) (r .count) not-gone (r .way) in

@@ -1,8 +1,8 @@
 // The commands that are calls. Each is lent the first T, H and W numbers of the rooms, and prints its line.
 use crate::held::Held;
+use crate::lookups::successor;
 use crate::prints::print_call;
 use crate::prints::print_counts;
-use crate::prints::print_found;
 use crate::rooms::EndsRoom;
 use crate::rooms::HistoryRoom;
 use crate::rooms::NumbersRoom;
@@ -24,7 +24,6 @@ use crate::words::SUCCESSOR;
 use crate::words::UNDO;
 use crate::words::UNFOLD;
 use crate::words::WRITE;
-use lookup::Looked;
 use pyramid::Answer;
 use pyramid::Counted;
 use pyramid::Kind;
@@ -151,31 +150,6 @@ fn counted(held: Held, table: &mut [u32], history: &mut [u32], work: &mut [u32])
     state.counts(&mut table[0..t], &mut history[0..h], &mut work[0..w])
 }
 
-// The dart that follows another at a level: lent T numbers of the table, H of the ends and W of the work area.
-fn followed(
-    held: Held,
-    darts: u32,
-    level: u32,
-    dart: u32,
-    table: &[u32],
-    ends: &[u32],
-    work: &mut [u32],
-) -> Looked
-    requires { ⌜ Lent held (now table) (now ends) (now work) ⌝ }
-{
-    let t = held.table;
-    let h = held.history;
-    let w = held.work;
-    lookup::successor_at(
-        darts,
-        level,
-        dart,
-        &table[0..t],
-        &ends[0..h],
-        &mut work[0..w],
-    )
-}
-
 // The file of the state that the script holds, into n bytes of output.
 fn filed(
     held: Held,
@@ -290,20 +264,6 @@ fn step(
 {
     let outcome = lent(held, line, script, numbers, table, history, work);
     hold(held, outcome, table, history, work, output)
-}
-
-// "the dart that follows X at level K". The script's state stays.
-fn successor(
-    held: Held,
-    numbers: &NumbersRoom,
-    table: &TableRoom,
-    ends: &EndsRoom,
-    work: &mut WorkRoom,
-)
-    requires { ⌜ Within held ⌝ }
-{
-    let looked = followed(held, numbers[0], numbers[1], numbers[2], table, ends, work);
-    print_found(held, looked, table, ends, work);
 }
 
 // What is held after such a line.

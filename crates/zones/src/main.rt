@@ -2,6 +2,7 @@
 mod calls;
 mod held;
 mod lines;
+mod lookups;
 mod prints;
 mod rooms;
 mod scan;
