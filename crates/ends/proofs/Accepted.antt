@@ -33,7 +33,7 @@ use Rattle.ends.proofs.Members.{Distinct, has-none, has-cons}
 use Rattle.ends.proofs.Levels.{at}
 use Rattle.ends.proofs.Ended.{edgesOf, end-none, end-level, Ended}
 
-abbrev edges : List Operation → List ℕ
+abbrev pub edges : List Operation → List ℕ
 edges = map (λ o. o .edge)
 
 -- ---- no edge is taken twice
@@ -59,10 +59,10 @@ still o t past e n =
       λ g. n (or-intro (eqb (h / 4) (2 * e / 2)) (gone past (2 * e)) (inr g)),
     )
 
-abbrev Fresh : ℕ → List ℕ → List Operation → Type 0
+abbrev pub Fresh : ℕ → List ℕ → List Operation → Type 0
 Fresh D past os = Distinct (edges os) × ((e : ℕ) → T (has (edges os) e) → (e < D / 2) × ¬ T (gone past (2 * e)))
 
-done-distinct : {D : ℕ} {t past u new : List ℕ} (os : List Operation) → AllDone D t past os u new → Fresh D past os
+pub done-distinct : {D : ℕ} {t past u new : List ℕ} (os : List Operation) → AllDone D t past os u new → Fresh D past os
 done-distinct [] none = (tt, λ e h. absurd (has-none e h))
 done-distinct {D} {t} {past} (o ∷ os) (first fine rest) =
     let R = done-distinct os rest in

@@ -5,11 +5,10 @@
 --   steps D k t ends     == the permutation by which the walk goes
 --   base-walks           == over any base, with any ends, the walk from a dart that is not gone arrives
 --   comes-walks          == so it does over table and ends that come from a pyramid
-use mathlib.Core.Bool.{Bool, true, false, _&&_, not}
+use mathlib.Core.Bool.{Bool, true, false, _&&_}
 use mathlib.Core.List.{List, []}
-use mathlib.Core.Path.{_≡_, refl, sym, _∙_, ap, subst}
+use mathlib.Core.Path.{_≡_, sym, ap, subst}
 use Prim.Native.Nat.{ℕ, zero, suc, _+_, _/_, _≤_, _<_}
-use native.Mathlib.Decide.{decLt}
 use native.Mathlib.Nat.{not-suc-le-zero}
 use native.Mathlib.Omega.{arith}
 use lib.Dec.{T, ltb, ltb→lt, lt→ltb, not-T}
@@ -17,7 +16,7 @@ use lib.ListN.{length}
 use Rattle.permutations.specs.Choice.{pick, T?, T→true, nT→false, and-left, and-right, and-intro}
 use Rattle.permutations.specs.Partner.{partner, partner-edge, partner-partner, partner-below}
 use Rattle.permutations.specs.Perm.{Perm, below}
-use Rattle.permutations.specs.Cycle.{Meets, walk as walkBy, meets-back, soon}
+use Rattle.permutations.specs.Cycle.{meets-back, soon}
 use Rattle.darts.specs.Choose.{if_then_else_}
 use Rattle.darts.specs.Map.{successor, permutes, permutationTest, passed}
 use Rattle.darts.specs.Operation.{Kind, contraction, removal, kindOf}
@@ -26,10 +25,11 @@ use Rattle.laws.specs.Standing.{Standing, mapOf}
 use Rattle.laws.proofs.bridge.Standing.{next-entry}
 use Rattle.laws.proofs.bridge.Bases.{base-stands, all-live}
 use Rattle.laws.proofs.bridge.Verdicts.{passed-iff}
-use Rattle.ends.specs.Ends.{endOf, goneBy, shaped}
-use Rattle.ends.specs.Walk.{Found, onwardBy, onward, walkFrom, walk, Walks}
-use Rattle.ends.specs.Comes.{operations, accepted, comes}
-use Rattle.ends.proofs.Ways.{Way, there, over, way-none, way-first, way-end, Soon, way-soon}
+use Rattle.ends.specs.Ends.{endOf, goneBy}
+use Rattle.ends.specs.Walk.{onwardBy, onward, walkFrom, walk, Walks}
+use Rattle.ends.specs.Comes.{comes}
+use Rattle.ends.proofs.Ways.{Way, way-none, way-first, way-end, way-soon, way-few}
+use Rattle.ends.proofs.GoneDarts.{goneDarts, gone-count, gone-listed}
 
 -- ---- a way is the walk
 
@@ -127,8 +127,11 @@ module _ (D k : ℕ) (t ends : List ℕ) (S : Standing D t []) where
       let s = way-soon steps (goneBy k ends) (m .0) (steps x) (subst (λ y. ¬ T (goneBy k ends y)) (sym (m .2)) n) in
       let w = way-walks steps-go (s .count) D (steps x) (s .to) 0 (below steps-perm h) (let a = s .soon in let b = m .1 in omega arith) (s .way) in
       let ends-at : walkFrom D k t ends (successor t x) 0 ≡ record { dart = s .to; passed = 0 + s .count } = rw (← first) w in
+      let bound = way-few steps-perm (goneBy k ends) (goneDarts k 0 ends) (gone-listed k ends) x (s .to) (s .count) n (s .way) in
+      let twice = gone-count k 0 ends in
       record {
         inside = S .inside;
+        few = rw ends-at (omega arith);
         arrives = rw ends-at (not-T (goneBy k ends (s .to)) (way-end (s .way)));
       }
 

@@ -3,10 +3,9 @@
 --   pyramid-comes    == base and ends of every pyramid come from a pyramid
 --   pyramid-unfolds  == for every pyramid, every level up to its top and every dart that survives there, the walk over its base and its ends gives
 --                       the successor that unfolding gives, and passes at most two darts for each operation done by then
-use mathlib.Core.Bool.{true}
-use mathlib.Core.List.{List, [], map}
+use mathlib.Core.List.{List, map}
 use mathlib.Core.Path.{_≡_, refl, sym, _∙_, ap, subst}
-use Prim.Native.Nat.{ℕ, zero, suc, _+_, _*_, _/_, _≤_, _<_}
+use Prim.Native.Nat.{ℕ, zero, suc, _+_, _/_, _<_}
 use native.Mathlib.Nat.{not-suc-le-zero}
 use native.Mathlib.Omega.{arith}
 use lib.Dec.{T, eqb, eqb-refl}
@@ -15,14 +14,13 @@ use Rattle.permutations.specs.Choice.{or-intro}
 use mathlib.Core.Logic.{inl}
 use Rattle.darts.specs.Map.{gone, survives}
 use Rattle.darts.specs.Kernel.{rising}
-use Rattle.darts.specs.State.{State, baseState, gives}
+use Rattle.darts.specs.State.{State, gives}
 use Rattle.darts.specs.Levels.{unfoldTo}
-use Rattle.darts.specs.Pyramid.{Kernel, Pyramid, kernelsOf}
+use Rattle.darts.specs.Pyramid.{Pyramid, kernelsOf}
 use Rattle.laws.proofs.claims.Decided.{kernels-cut}
-use Rattle.ends.specs.Ends.{levelOf, goneBy}
-use Rattle.ends.specs.Walk.{walk}
+use Rattle.ends.specs.Ends.{goneBy}
 use Rattle.ends.specs.Comes.{endIn, endsIn, endsSo, Comes}
-use Rattle.ends.proofs.Unfolds.{AtLevel, gone-level, walk-level, Cut, unfold-cut}
+use Rattle.ends.proofs.Unfolds.{AtLevel, gone-level, walk-level, unfold-cut}
 
 -- WHATEVER PYRAMID TABLE AND ENDS COME FROM
 pub comes-unfolds : {D : ℕ} {t ends : List ℕ} (C : Comes D t ends) (k : ℕ) {z : State} {u new : List ℕ}

@@ -1,10 +1,11 @@
+pub mod Members
+pub mod GoneDarts
 pub mod Ways
 pub mod Returns
 pub mod Arrives
 pub mod Told
 pub mod Unfolds
 pub mod Claims
-pub mod Members
 pub mod Picked
 pub mod Levels
 pub mod Tells
@@ -19,5 +20,6 @@ pub mod Alike
 pub mod LookedAt
 pub mod Highest
 pub mod Passed
+pub mod DoneBy
 pub mod Call
 pub mod Instances

@@ -5,18 +5,18 @@
 --   taken-live     == the survivors are the live darts that are not taken
 --   not-taken      == legal operations take no dart that is gone already
 --   returns        == a survivor leads to the first survivor on the walk
-use mathlib.Core.Bool.{Bool, true, false, _||_, _&&_, not}
+use mathlib.Core.Bool.{Bool, true, false, _||_}
 use mathlib.Core.List.{List, [], _∷_}
 use mathlib.Core.Logic.{_≢_, _⊎_, inl, inr, ⊎-elim}
-use mathlib.Core.Path.{_≡_, refl, sym, _∙_, ap, subst, subst₂}
+use mathlib.Core.Path.{_≡_, refl, sym, _∙_, ap, subst}
 use Prim.Native.Nat.{ℕ, _<_}
 use lib.Dec.{T, eqb, eqb→eq}
-use Rattle.permutations.specs.Choice.{T→true, nT→false, eqb-same, eqb-other, or-cases}
-use Rattle.permutations.specs.Partner.{partner, End, partner-ne}
+use Rattle.permutations.specs.Choice.{eqb-same, or-cases}
+use Rattle.permutations.specs.Partner.{partner, End}
 use Rattle.permutations.specs.Perm.{Perm, without, without-perm}
-use Rattle.permutations.specs.Splice.{skip, swap, swap-other, swap-inj, crossed, crossed-perm, crossed-other, splice, skip-after}
-use Rattle.permutations.specs.Map.{Map, Good, offEdge, offEdge-end, offEdge-other, offEdge-not-end, offEdge-was, partner-small}
-use Rattle.permutations.proofs.Legal.{Op, Contract, Remove, dart, act, run, Legal, AllLegal, good-act}
+use Rattle.permutations.specs.Splice.{skip, swap, swap-other, swap-inj, crossed, crossed-perm, splice, skip-after}
+use Rattle.permutations.specs.Map.{Map, Good, offEdge-other, offEdge-not-end, offEdge-was, partner-small}
+use Rattle.permutations.proofs.Legal.{Op, Contract, Remove, dart, act, run, AllLegal, good-act}
 use Rattle.ends.proofs.Ways.{Way, Reaches, there, leave-out}
 
 abbrev pub taken : List Op → ℕ → Bool

@@ -6,21 +6,21 @@
 --   told-edges    == the edges of `low` are those that end by level k
 --   told-kinds    == with the kind of their end
 --   legal-cross   == legal operations take an edge once, so that the first one decides
-use mathlib.Core.Bool.{Bool, true, false, _||_, _&&_, or-assoc}
+use mathlib.Core.Bool.{Bool, true, false, _||_, or-assoc}
 use mathlib.Core.List.{List, [], _∷_, _++_}
 use mathlib.Core.Logic.{_≢_, _⊎_, inl, inr, ⊎-elim}
-use mathlib.Core.Path.{_≡_, refl, sym, _∙_, ap, ap₂, subst}
-use Prim.Native.Nat.{ℕ, zero, suc, _+_, _*_, _/_, _≤_, _<_}
+use mathlib.Core.Path.{_≡_, refl, sym, _∙_, ap}
+use Prim.Native.Nat.{ℕ, suc, _+_, _*_, _/_, _≤_}
 use native.Mathlib.Decide.{ℕ-discrete}
 use native.Mathlib.Omega.{arith}
-use lib.Dec.{T, eqb, leb, eqb→eq, leb→le, le→leb}
+use lib.Dec.{T, eqb, leb, leb→le, le→leb}
 use lib.ListN.{length}
-use Rattle.permutations.specs.Choice.{pick, T?, T→true, nT→false, T-ext, eqb-same, eqb-other, eqb-iff, or-cases, or-intro, and-left, and-right, and-intro}
-use Rattle.permutations.specs.Partner.{partner, partner-first, partner-second, partner-edge, partner-cases, End}
+use Rattle.permutations.specs.Choice.{pick, T→true, nT→false, T-ext, eqb-same, eqb-other, and-left, and-right, and-intro}
+use Rattle.permutations.specs.Partner.{partner, partner-first, partner-second, partner-edge, End}
 use Rattle.permutations.specs.Splice.{swap, swap-left, swap-right, swap-other}
 use Rattle.permutations.specs.Live.{any, has}
 use Rattle.permutations.specs.Map.{Map, Good, offEdge-not-end}
-use Rattle.permutations.proofs.Legal.{Op, Contract, Remove, dart, act, AllLegal, good-act}
+use Rattle.permutations.proofs.Legal.{Op, dart, AllLegal, good-act}
 use Rattle.darts.specs.Choose.{if_then_else_}
 use Rattle.darts.specs.Operation.{Kind, contraction, removal, number, kindOf}
 use Rattle.darts.specs.Kernel.{Operation, each}

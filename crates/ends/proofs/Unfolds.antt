@@ -8,17 +8,17 @@
 use mathlib.Core.Bool.{Bool, true, false, _||_}
 use mathlib.Core.List.{List, [], _∷_, _++_}
 use mathlib.Core.Path.{_≡_, refl, sym, _∙_, ap, subst, fun-ext}
-use Prim.Native.Nat.{ℕ, zero, suc, _+_, _*_, _/_, _≤_, _<_}
+use Prim.Native.Nat.{ℕ, _+_, _*_, _/_, _≤_, _<_}
 use native.Mathlib.Omega.{arith}
 use lib.Dec.{T, eqb, ltb, T-not, not-T, nltb→le}
 use lib.ListN.{length, getD, take, drop, take-append-drop}
 use lib.Seq.{length-take-le}
-use Rattle.permutations.specs.Choice.{T?, T→true, T-ext}
+use Rattle.permutations.specs.Choice.{T?, T-ext}
 use Rattle.permutations.specs.Partner.{partner, partner-below}
 use Rattle.permutations.specs.Perm.{Perm, below}
 use Rattle.permutations.specs.Live.{any, has}
 use Rattle.permutations.specs.Map.{Map}
-use Rattle.permutations.proofs.Legal.{Op, dart, AllLegal, run}
+use Rattle.permutations.proofs.Legal.{Op, dart, run}
 use Rattle.darts.specs.Map.{successor, gone, survives, permutes, permutationTest}
 use Rattle.darts.specs.Operation.{Kind, contraction, removal, kindOf}
 use Rattle.darts.specs.Kernel.{Operation}
@@ -42,7 +42,7 @@ use Rattle.ends.specs.Ends.{endOf, endsBy, goneBy}
 use Rattle.ends.specs.Walk.{onwardBy, onward, walkFrom, walk}
 use Rattle.ends.specs.Comes.{endIn, endsSo}
 use Rattle.ends.proofs.Ways.{way-same, way-few}
-use Rattle.ends.proofs.Returns.{taken, cross, cross-not-taken, turns, turns-perm, run-live, live-run, returns}
+use Rattle.ends.proofs.Returns.{taken, cross-not-taken, turns, turns-perm, run-live, live-run, returns}
 use Rattle.ends.proofs.Arrives.{Goes, way-walks, base-next}
 use Rattle.ends.proofs.Told.{so-by, so-same, hasEdge, byKind, told-edges, told-kinds, taken-edge, legal-cross}
 

@@ -3,12 +3,13 @@
 --   levelOf v          == the level of the end v; its kind is kindOf v, as a history number's
 --   endOf ends d       == the end of the edge of dart d
 --   goneBy k ends d    == d is gone by level k
+--   doneBy k ends      == the operations done by level k: as many as edges are gone by then
 --   top ends           == the highest level among the ends
 --   firstAt L ends     == the first end of level L; 0 where there is none
 --   shaped ends        == the levels are in the form of a pyramid's
 --   endingFrom k e ends == the edges that end by kind k, by rising number; the first end is that of edge e
 --   ending k ends      == the same from edge 0 on
-use mathlib.Core.Bool.{Bool, true, false, _&&_, _||_}
+use mathlib.Core.Bool.{Bool, true, _&&_, _||_}
 use mathlib.Core.List.{List, [], _∷_}
 use Prim.Native.Nat.{ℕ, zero, suc, _/_}
 use lib.Dec.{eqb, leb, ltb}
@@ -31,6 +32,11 @@ endsBy k v = leb 1 (levelOf v) && leb (levelOf v) k
 -- "gone by level k"
 unfoldable pub goneBy : ℕ → List ℕ → ℕ → Bool
 goneBy k ends d = endsBy k (endOf ends d)
+
+-- "the operations done by level k": each takes one edge
+unfoldable pub doneBy : ℕ → List ℕ → ℕ
+doneBy k [] = 0
+doneBy k (v ∷ ends) = if endsBy k v then suc (doneBy k ends) else doneBy k ends
 
 -- "the top is the highest level there"
 unfoldable pub top : List ℕ → ℕ

@@ -3,7 +3,7 @@
 --   tableOf D t         == the table that is looked at; endsOf D h the ends
 --   judged D k x t h w  == the answer
 --   successorAt         == the call
-use mathlib.Core.Bool.{Bool, not}
+use mathlib.Core.Bool.{not}
 use mathlib.Core.List.{List}
 use Prim.Native.Nat.{ℕ, _/_}
 use lib.Dec.{eqb, leb, ltb}

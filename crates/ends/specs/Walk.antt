@@ -3,16 +3,16 @@
 --   onward t ends d       == where the walk goes on from the gone dart d
 --   walkFrom n k t ends y i == the walk from y on, at most n steps, once i gone darts were passed
 --   walk D k t ends x     == the walk from x to its successor at level k
---   Walks D k t ends x    == that walk stays on darts, and ends at one that is not gone
+--   Walks D k t ends x    == that walk stays on darts, ends at one that is not gone, and passes at most two darts for each operation
 use mathlib.Core.Bool.{not}
 use mathlib.Core.List.{List}
-use Prim.Native.Nat.{ℕ, zero, suc, _<_}
+use Prim.Native.Nat.{ℕ, zero, suc, _*_, _≤_, _<_}
 use lib.Dec.{T}
 use Rattle.permutations.specs.Partner.{partner}
 use Rattle.darts.specs.Choose.{if_then_else_}
 use Rattle.darts.specs.Map.{successor}
 use Rattle.darts.specs.Operation.{Kind, contraction, removal, kindOf}
-use Rattle.ends.specs.Ends.{endOf, goneBy}
+use Rattle.ends.specs.Ends.{endOf, goneBy, doneBy}
 
 pub record Found : Type 0 where
   pub dart : ℕ
@@ -44,3 +44,5 @@ walk D k t ends x = walkFrom D k t ends (successor t x) 0
 pub record Walks (D k : ℕ) (t ends : List ℕ) (x : ℕ) : Type 0 where
   pub inside : (y : ℕ) → y < D → successor t y < D
   pub arrives : T (not (goneBy k ends (walk D k t ends x .dart)))
+  -- "never above twice the operations done by level k"
+  pub few : walk D k t ends x .passed ≤ 2 * doneBy k ends

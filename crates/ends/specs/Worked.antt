@@ -3,6 +3,7 @@
 --   right r  == the definitions give what the row says
 --   table    == the rows
 --   worked   == all of them are right
+--   done     == the operations that K12's ends tell by each level
 --   levels   == up to 64 levels, and no more; none left out; one kind each
 use mathlib.Core.Bool.{Bool, true, _&&_, not}
 use mathlib.Core.List.{List, [], _∷_, map}
@@ -19,10 +20,10 @@ use Rattle.darts.specs.Operation.{contraction, removal, turned, lead, wholeEdge
 use Rattle.darts.specs.Kernel.{shared, judge, rising, passFrom, pass}
 use Rattle.darts.specs.Tests.{sameKind}
 use Rattle.darts.specs.OneByOne.{oneByOne}
-use Rattle.darts.specs.Pyramid.{Kernel, dartCount, sameNumbers}
+use Rattle.darts.specs.Pyramid.{dartCount, sameNumbers}
 use Rattle.darts.specs.Calls.{room, fitting, cleared, workAfter}
 use Rattle.darts.specs.Worked.{answers}
-use Rattle.ends.specs.Ends.{levelOf, endOf, endsBy, goneBy, top, firstAt, inUse, oneKind, shaped, endingFrom, ending}
+use Rattle.ends.specs.Ends.{levelOf, endOf, endsBy, goneBy, doneBy, top, firstAt, inUse, oneKind, shaped, endingFrom, ending}
 use Rattle.ends.specs.Walk.{onwardBy, onward, walkFrom, walk}
 use Rattle.ends.specs.Comes.{endIn, endsSo, operations, accepted, comes}
 use Rattle.ends.specs.Lookup.{Looked, judged, successorAt}
@@ -135,3 +136,8 @@ k12-ends = refl
 pub either : (endsSo 0 1 && (endsSo 1 0 && (endsSo 4 4 && (not (endsSo 2 3) && (not (endsSo 2 0) && not (endsSo 1 4)))))) ≡ true
 unfolding endsSo levelOf
 either = refl
+
+-- "the operations done by level k", level by level up to one above the top
+pub done : map (λ k. doneBy k (3 ∷ 3 ∷ 4 ∷ 1 ∷ [])) (rising 0 4) ≡ (0 ∷ 2 ∷ 3 ∷ 3 ∷ [])
+unfolding rising doneBy endsBy levelOf
+done = refl

@@ -8,11 +8,12 @@
 --   CallFits D t h w, call-fits == neither 1 nor 2: what the call asks of the lent slices
 --   first-refused == the call gives 1 or 2
 --   looked-up    == or any other answer
+--   both         == what is left, and so the count's bound
 use mathlib.Core.Bool.{Bool, true, false, not}
 use mathlib.Core.List.{List}
 use mathlib.Core.Logic.{_≢_}
-use mathlib.Core.Path.{_≡_, refl, sym, ap, _∙_}
-use Prim.Native.Nat.{ℕ, _/_, _≤_, _<_}
+use mathlib.Core.Path.{_≡_, refl, sym, ap, _∙_, subst}
+use Prim.Native.Nat.{ℕ, _*_, _/_, _≤_, _<_}
 use native.Mathlib.Omega.{arith}
 use borrow.Author.Tests.{lt-ltb, le-ltb, le-leb, lt-leb, leb-false}
 use lib.Dec.{T, leb, ltb}
@@ -25,11 +26,12 @@ use Rattle.darts.specs.Calls.{fitting, cleared, workAfter}
 use Rattle.darts.specs.Pyramid.{dartCount}
 use Rattle.darts.proofs.Fitting.{fits, count-test, first-keeps}
 use Rattle.area.specs.Area.{Room}
-use Rattle.ends.specs.Ends.{goneBy, top}
+use Rattle.ends.specs.Ends.{goneBy, doneBy, top}
 use Rattle.ends.specs.Walk.{nothing, walk, Walks}
 use Rattle.ends.specs.Comes.{comes}
-use Rattle.ends.specs.Lookup.{judged, successorAt}
+use Rattle.ends.specs.Lookup.{Looked as Leaves, judged, successorAt}
 use Rattle.ends.proofs.Arrives.{comes-walks}
+use Rattle.ends.proofs.Passed.{successor-few}
 use Rattle.lookup.specs.Values.{walked, looked, inside, answerFor, LooksUp}
 use Rattle.lookup.specs.declared.Looked.{Looked}
 
@@ -159,3 +161,7 @@ module _ (D k x : ℕ) (t h w : List ℕ) (l : Looked) where
       let J : judged D k x t h w ≡ a = judged-then fine ∙ sym (L .answer) in
       let c : v ≡ workAfter a D w = z ∙ sym (ap (λ b. workAfter b D w) (L .answer) ∙ cleared-then) in
       rw J (λ i. record { answer = a; found = L .found i; table = t; ends = h; work = c i })
+
+pub both : (D k x : ℕ) (t h w : List ℕ) (l : Looked) {v : List ℕ} → looked l t h v ≡ successorAt D k x t h w
+    → (looked l t h v ≡ successorAt D k x t h w) × (l .passed ≤ 2 * doneBy k (take (D / 2) h))
+both D k x t h w l e = (e, subst (λ (r : Leaves). r .found .passed ≤ 2 * doneBy k (take (D / 2) h)) (sym e) (successor-few D k x t h w))

@@ -7,21 +7,22 @@
 --   walking-more          == where y is gone, not all D steps are done
 --   walking-on            == it goes on from a gone dart
 --   walking-ends          == it ends at one that is not gone
+--   walked-few            == its count is at most twice the operations done by level k
 use mathlib.Core.Bool.{true, false}
 use mathlib.Core.List.{List}
 use mathlib.Core.Logic.{_≢_}
-use mathlib.Core.Path.{_≡_, refl, sym, ap, _∙_}
-use Prim.Native.Nat.{ℕ, zero, suc, _+_, _-_, _/_, _%_, _≤_, _<_}
+use mathlib.Core.Path.{_≡_, refl, sym, ap, _∙_, subst}
+use Prim.Native.Nat.{ℕ, zero, suc, _+_, _-_, _*_, _/_, _%_, _≤_, _<_}
 use native.Mathlib.Numerals.{add-one}
 use native.Mathlib.Omega.{arith}
 use borrow.Author.Tests.{le-leb}
-use lib.Dec.{T, leb, T-not}
+use lib.Dec.{leb, T-not}
 use lib.ListN.{getD}
 use Rattle.permutations.specs.Choice.{true→T, eqb-same, eqb-other}
 use Rattle.permutations.specs.Partner.{partner, partner-below}
 use Rattle.darts.specs.Map.{successor}
 use Rattle.darts.specs.Operation.{Kind, contraction, removal, kindOf}
-use Rattle.ends.specs.Ends.{levelOf, endOf, endsBy, goneBy}
+use Rattle.ends.specs.Ends.{levelOf, endOf, endsBy, goneBy, doneBy}
 use Rattle.ends.specs.Walk.{Found, onwardBy, onward, walkFrom, walk, Walks}
 
 -- ---- by the number of the end
@@ -102,3 +103,6 @@ module _ {D k : ℕ} {t ends : List ℕ} {x y i : ℕ} (σ : Walking D k t ends 
 
   pub walking-ends : goneBy k ends y ≡ false → record { dart = y; passed = i } ≡ walk D k t ends x
   walking-ends f = sym (stop-here (D - i) k t ends y i f) ∙ σ .same
+
+pub walked-few : {D k : ℕ} {t ends : List ℕ} {x : ℕ} {f : Found} → Walks D k t ends x → f ≡ walk D k t ends x → f .passed ≤ 2 * doneBy k ends
+walked-few {k = k} {ends = ends} W e = subst (λ (g : Found). g .passed ≤ 2 * doneBy k ends) (sym e) (W .few)

@@ -8,7 +8,7 @@ use crate::walking::walk;
 use area::clear::clear;
 use darts::answers::fit;
 ghost use mathlib.Core.Path.{_≡_};
-ghost use Prim.Native.Nat.{_/_, _%_};
+ghost use Prim.Native.Nat.{_*_, _/_, _%_, _≤_};
 ghost use lib.Dec.{T};
 ghost use lib.ListN.{length};
 ghost use Rattle.darts.specs.Calls.{cleared};
@@ -17,7 +17,8 @@ ghost use Rattle.darts.specs.Pyramid.{dartCount};
 ghost use Rattle.area.specs.Area.{Room};
 ghost use Rattle.ends.specs.Comes.{comes};
 ghost use Rattle.ends.specs.Walk.{nothing};
-ghost use Rattle.ends.specs.Lookup.{successorAt};
+ghost use Rattle.ends.specs.Ends.{doneBy};
+ghost use Rattle.ends.specs.Lookup.{endsOf, successorAt};
 ghost use Rattle.lookup.specs.Values.{walked, looked, inside, answerFor, LooksUp};
 
 // Answers 12, 7 and 8 on d darts and ends that come from a pyramid: the level, the dart, and whether it is gone by then.
@@ -83,7 +84,7 @@ fn look_up(work: &mut [u32], table: &[u32], ends: &[u32], d: usize, k: usize, x:
 }
 
 // The dart that follows a dart at a level of the pyramid that the table's first D numbers and the first D/2 ends come from, and how many gone darts
-// were passed on the way to it.
+// were passed on the way to it: at most two for each operation done by then.
 pub fn successor_at(
     darts: u32,
     level: u32,
@@ -95,6 +96,7 @@ pub fn successor_at(
     ensures { λ r. ⌜
         looked r (now (table .exit)) (now (ends .exit)) (now (work .exit))
         ≡ successorAt darts level dart (now (table .entry)) (now (ends .entry)) (now (work .entry)) ⌝ }
+    ensures { λ r. ⌜ r .passed ≤ 2 * doneBy level (endsOf darts (now (ends .entry))) ⌝ }
 {
     let judged = fit(darts, table.len(), ends.len(), work.len());
     if judged.number() != 0 {

@@ -3,9 +3,9 @@ use crate::Found;
 use darts::partner;
 use slices::at;
 ghost use mathlib.Core.Path.{_≡_};
-ghost use Prim.Native.Nat.{_/_, _%_, _≤_, _<_};
+ghost use Prim.Native.Nat.{_*_, _/_, _%_, _≤_, _<_};
 ghost use lib.ListN.{length};
-ghost use Rattle.ends.specs.Ends.{goneBy};
+ghost use Rattle.ends.specs.Ends.{goneBy, doneBy};
 ghost use Rattle.ends.specs.Walk.{onward as onwardOf, walk as walkOf, Walks};
 ghost use Rattle.lookup.specs.Values.{foundOf};
 
@@ -33,11 +33,12 @@ fn onward(table: &[u32], ends: &[u32], y: usize) -> usize
     at(table, other)
 }
 
-// The walk from x to its successor at level k, on d darts. Each gone dart passed is counted.
+// The walk from x to its successor at level k, on d darts. Each gone dart passed is counted: at most two for each operation done by then.
 pub(crate) fn walk(table: &[u32], ends: &[u32], d: usize, k: usize, x: usize) -> Found
     requires { ⌜ (length (now table) ≡ d) × (length (now ends) ≡ d / 2) × (d % 2 ≡ 0) × (d ≤ 65536) × (x < d) ⌝ }
     requires { ⌜ Walks d k (now table) (now ends) x ⌝ }
     ensures { λ r. ⌜ foundOf r ≡ walkOf d k (now (table .entry)) (now (ends .entry)) x ⌝ }
+    ensures { λ r. ⌜ r .passed ≤ 2 * doneBy k (now (ends .entry)) ⌝ }
     ensures { λ r. ⌜ (r .dart < d) × (r .passed ≤ d) ⌝ }
 {
     let mut y = at(table, x);

@@ -8,7 +8,7 @@ use borrow.Author.Needs.{needs}
 use Rattle.darts.specs.Answers.{Answer as Answered}
 use Rattle.darts.specs.Calls.{fitting}
 use Rattle.darts.specs.Cases.{answerOf}
-use Rattle.lookup.proofs.Looking.{CallFits, call-fits, first-refused, looked-up}
+use Rattle.lookup.proofs.Looking.{CallFits, call-fits, first-refused, looked-up, both}
 use Rattle.lookup.proofs.calls.successor_at.Statement.{statement}
 use Rattle.lookup.proofs.calls.successor_at.Tie as tie
 
@@ -27,8 +27,9 @@ returns c =
     let f = n .before .fit .ensures in
     let g = n .before .before .before .before .before .args in
     let r = c .refused .ensures in
-    first-refused (g .darts) (g .level) (g .dart) (g .table .now) (g .ends .now) (g .work .now) (c .refused .result) (ap answerOf (r .0) ∙ f)
-    (λ z. c .before .if1 .taken (n .number .ensures ∙ sym (ap (λ a. answerOf a .number) (r .0)) ∙ z)) (r .1)
+    both (g .darts) (g .level) (g .dart) (g .table .now) (g .ends .now) (g .work .now) (c .refused .result)
+    (first-refused (g .darts) (g .level) (g .dart) (g .table .now) (g .ends .now) (g .work .now) (c .refused .result) (ap answerOf (r .0) ∙ f)
+    (λ z. c .before .if1 .taken (n .number .ensures ∙ sym (ap (λ a. answerOf a .number) (r .0)) ∙ z)) (r .1))
 
 -- 1 and 2 are past
 fine : (c : tie.Else1) → (let g = c .before .before .before .before .before .before .args in
@@ -75,7 +76,8 @@ returns-2 c =
     let d : g .darts - 0 ≡ g .darts = omega arith in
     let h : g .darts / 2 - 0 ≡ g .darts / 2 = omega arith in
     let q = rw (d, h) at (l .look-up .ensures) in
-    looked-up (g .darts) (g .level) (g .dart) (g .table .now) (g .ends .now) (g .work .now) (l .look-up .result) (fine e) (q .0) (q .1)
+    both (g .darts) (g .level) (g .dart) (g .table .now) (g .ends .now) (g .work .now) (l .look-up .result)
+    (looked-up (g .darts) (g .level) (g .dart) (g .table .now) (g .ends .now) (g .work .now) (l .look-up .result) (fine e) (q .0) (q .1))
 
 pub successor-at-spec : {M : Type 1} → statement M
 successor-at-spec =

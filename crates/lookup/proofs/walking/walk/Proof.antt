@@ -3,7 +3,7 @@
 use mathlib.Core.Path.{sym, _∙_}
 use Prim.Native.Nat.{_-_}
 use native.Mathlib.Omega.{arith}
-use Rattle.lookup.proofs.Walks.{Walking, walking-begins, walking-more, walking-on, walking-ends}
+use Rattle.lookup.proofs.Walks.{Walking, walking-begins, walking-more, walking-on, walking-ends, walked-few}
 use Rattle.lookup.proofs.walking.walk.Statement.{statement}
 use Rattle.lookup.proofs.walking.walk.Tie as tie
 
@@ -52,7 +52,9 @@ loop-less c =
 returns : tie.Need-returns Inv-loop μ-loop
 returns c =
     let σ = c .before .before .loop .inv in
-    (walking-ends σ (sym (c .before .gone-by .ensures) ∙ c .if1 .left), (σ .below, σ .few))
+    let W = c .before .before .before .before .before .before .pre .1 in
+    let ends = walking-ends σ (sym (c .before .gone-by .ensures) ∙ c .if1 .left) in
+    (ends, (walked-few W ends, (σ .below, σ .few)))
 
 pub walk-spec : {M : Type 1} → statement M
 walk-spec =

@@ -8,7 +8,7 @@ use Rattle.worked.proofs.lookups.lookup.Tie as tie
 expect-requires : tie.Need-expect-requires
 expect-requires c κs =
     let called = c .before .before in
-    c .is-found .ensures ∙ found-of _ _ _ _ (called .successor-at .ensures) (called .before .before .before .before .pre)
+    c .is-found .ensures ∙ found-of _ _ _ _ (called .successor-at .ensures .0) (called .before .before .before .before .pre)
 
 pub lookup-spec : {M : Type 1} → statement M
 lookup-spec =

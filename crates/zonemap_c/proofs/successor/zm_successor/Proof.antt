@@ -6,7 +6,7 @@ use Rattle.zonemap_c.proofs.successor.zm_successor.Statement.{statement
 use Rattle.zonemap_c.proofs.successor.zm_successor.Tie as tie
 
 returns : tie.Need-returns
-returns c = looking (c .put-answer .ensures) refl refl (c .before .before .before .before .before .successor-at .ensures)
+returns c = looking (c .put-answer .ensures) refl refl (c .before .before .before .before .before .successor-at .ensures .0)
 
 pub zm-successor-spec : {M : Type 1} → statement M
 zm-successor-spec = tie.close (tie.spec (λ c κs. search needs) (λ c κs. search needs) (λ c. search needs) returns)
