@@ -4,14 +4,14 @@
 --   pyramid-unfolds  == for every pyramid, every level up to its top and every dart that survives there, the walk over its base and its ends gives
 --                       the successor that unfolding gives, and passes at most two darts for each operation done by then
 use mathlib.Core.List.{List, map}
-use mathlib.Core.Path.{_≡_, refl, sym, _∙_, ap, subst}
+use mathlib.Core.Logic.{inl}
+use mathlib.Core.Path.{_≡_, sym, _∙_, ap, subst}
 use Prim.Native.Nat.{ℕ, zero, suc, _+_, _/_, _<_}
 use native.Mathlib.Nat.{not-suc-le-zero}
 use native.Mathlib.Omega.{arith}
 use lib.Dec.{T, eqb, eqb-refl}
-use lib.ListN.{length, getD}
+use lib.ListN.{getD}
 use Rattle.permutations.specs.Choice.{or-intro}
-use mathlib.Core.Logic.{inl}
 use Rattle.darts.specs.Map.{gone, survives}
 use Rattle.darts.specs.Kernel.{rising}
 use Rattle.darts.specs.State.{State, gives}
@@ -41,11 +41,6 @@ comes-gone {D} {t} {ends} C k {z} {u} {new} e x h =
     (gone-level D t ends (C .count) (C .size) (C .permutation) (c .low) (c .high) told (c .built) x h)
 
 -- ---- the ends of a pyramid
-
-pub rising-length : (e n : ℕ) → length (rising e n) ≡ n
-unfolding rising
-rising-length e zero = refl
-rising-length e (suc n) = ap suc (rising-length (suc e) n)
 
 pub rising-at : (f : ℕ → ℕ) (n e i : ℕ) → i < n → getD (map f (rising e n)) i 0 ≡ f (e + i)
 unfolding rising

@@ -2,12 +2,12 @@
 --   taken os y     == one of the operations os takes the edge of y
 --   cross os y     == y's partner where its edge is contracted, y itself otherwise
 --   turns m os y   == where the walk goes on from y: the successor of y, or of its partner
---   taken-live     == the survivors are the live darts that are not taken
+--   run-live, live-run == the survivors are the live darts that are not taken
 --   not-taken      == legal operations take no dart that is gone already
 --   returns        == a survivor leads to the first survivor on the walk
 use mathlib.Core.Bool.{Bool, true, false, _||_}
 use mathlib.Core.List.{List, [], _∷_}
-use mathlib.Core.Logic.{_≢_, _⊎_, inl, inr, ⊎-elim}
+use mathlib.Core.Logic.{_≢_, inl, inr, ⊎-elim}
 use mathlib.Core.Path.{_≡_, refl, sym, _∙_, ap, subst}
 use Prim.Native.Nat.{ℕ, _<_}
 use lib.Dec.{T, eqb, eqb→eq}

@@ -1,6 +1,6 @@
 -- Ways over gone numbers: go on by f while g says that the number is gone.
 --   Way f g y z n  == from y, over n numbers that are gone, to z, which is not
---   way-one        == there is only one
+--   Reaches f g y z == so does some way
 --   way-soon       == where a walk of j steps leads to a number that is not gone, there is a way over at most j
 --   way-over       == each number on the way is gone
 --   way-same       == below D, the same steps over the same gone numbers
@@ -30,12 +30,6 @@ module _ {f : ℕ → ℕ} {g : ℕ → Bool} where
   pub way-end : {y z n : ℕ} → Way f g y z n → ¬ T (g z)
   way-end (there h) = h
   way-end (over h w) = way-end w
-
-  pub way-one : {y z n z′ n′ : ℕ} → Way f g y z n → Way f g y z′ n′ → (z ≡ z′) × (n ≡ n′)
-  way-one (there h) (there k) = (refl, refl)
-  way-one (there h) (over k v) = absurd (h k)
-  way-one (over h w) (there k) = absurd (k h)
-  way-one (over h w) (over k v) = let e = way-one w v in (e .0, ap suc (e .1))
 
   pub way-none : {y z : ℕ} → Way f g y z 0 → (y ≡ z) × (¬ T (g y))
   way-none (there h) = (refl, h)

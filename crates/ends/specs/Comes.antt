@@ -4,6 +4,7 @@
 --   endsSo v w       == the end v is the end w; an edge that survives may have either number
 --   Comes D t ends   == some kernels, accepted one after another on the base t, end each edge as the ends say
 --   operations ends  == the contractions that the ends tell, and then the removals, by rising number
+--   accepted r       == the run r is accepted
 --   comes D t ends   == the decision: the base, the levels, and these operations one by one
 use mathlib.Core.Bool.{Bool, true, false, _&&_, _||_}
 use mathlib.Core.List.{List, [], _∷_, _++_, map}

@@ -2,10 +2,13 @@
 -- level L, 2L+1 for one contracted there, as history numbers are 2p and 2p+1; 0 and 1 mean that the edge survives.
 --   levelOf v          == the level of the end v; its kind is kindOf v, as a history number's
 --   endOf ends d       == the end of the edge of dart d
+--   endsBy k v         == an edge whose end is v is gone by level k
 --   goneBy k ends d    == d is gone by level k
 --   doneBy k ends      == the operations done by level k: as many as edges are gone by then
 --   top ends           == the highest level among the ends
 --   firstAt L ends     == the first end of level L; 0 where there is none
+--   inUse ends n       == levels 1 to n are all in use
+--   oneKind ends vs    == each of the ends vs that has a level has the kind of its level
 --   shaped ends        == the levels are in the form of a pyramid's
 --   endingFrom k e ends == the edges that end by kind k, by rising number; the first end is that of edge e
 --   ending k ends      == the same from edge 0 on
@@ -25,7 +28,7 @@ levelOf v = v / 2
 unfoldable pub endOf : List ℕ → ℕ → ℕ
 endOf ends d = getD ends (d / 2) 0
 
--- an edge that ends at level v does so; "level 0 meaning that the edge survives (its kind is not looked at)"
+-- "level 0 meaning that the edge survives (its kind is not looked at)"
 unfoldable pub endsBy : ℕ → ℕ → Bool
 endsBy k v = leb 1 (levelOf v) && leb (levelOf v) k
 
@@ -47,7 +50,7 @@ unfoldable pub firstAt : ℕ → List ℕ → ℕ
 firstAt L [] = 0
 firstAt L (v ∷ ends) = if eqb (levelOf v) L then v else firstAt L ends
 
--- levels 1 to n are all in use: a kernel adds a level, and an empty one adds none
+-- "It adds one level.": a kernel does, and an empty one is refused, so that no level lacks an edge
 unfoldable pub inUse : List ℕ → ℕ → Bool
 inUse ends zero = true
 inUse ends (suc n) = leb 1 (firstAt (suc n) ends) && inUse ends n
