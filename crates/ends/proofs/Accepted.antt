@@ -75,7 +75,7 @@ done-distinct {D} {t} {past} (o ∷ os) (first fine rest) =
 
 -- ---- the edges of kernels
 
-each-edges : (k : Kind) (es : List ℕ) → edges (each k es) ≡ es
+pub each-edges : (k : Kind) (es : List ℕ) → edges (each k es) ≡ es
 each-edges k [] = refl
 each-edges k (e ∷ es) = ap (λ l. e ∷ l) (each-edges k es)
 

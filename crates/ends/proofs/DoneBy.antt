@@ -9,7 +9,7 @@ use Prim.Native.Nat.{ℕ, suc, _+_, _/_, _<_}
 use native.Mathlib.Omega.{arith}
 use lib.Dec.{T}
 use lib.ListN.{length, getD, length-map}
-use Rattle.permutations.specs.Live.{any, has}
+use Rattle.permutations.specs.Live.{has}
 use Rattle.darts.specs.Choose.{if_then_else_}
 use Rattle.darts.specs.Kernel.{Operation}
 use Rattle.darts.specs.State.{State, baseState, gives}
@@ -25,7 +25,7 @@ use Rattle.ends.specs.Comes.{endIn, endsSo, Comes}
 use Rattle.ends.proofs.Members.{same-members}
 use Rattle.ends.proofs.Picked.{picked, distinct-picked, has-picked}
 use Rattle.ends.proofs.Accepted.{edges, Fresh, done-distinct}
-use Rattle.ends.proofs.Told.{hasEdge, so-by, told-edges}
+use Rattle.ends.proofs.Told.{so-by, told-edges}
 use Rattle.ends.proofs.Unfolds.{unfold-cut}
 
 done-picked : (k a : ℕ) (ends : List ℕ) → length (picked (endsBy k) a ends) ≡ doneBy k ends
@@ -37,11 +37,6 @@ done-picked k a (v ∷ ends) = go (endsBy k v) (done-picked k (suc a) ends)
         → length (if b then a ∷ picked (endsBy k) (suc a) ends else picked (endsBy k) (suc a) ends) ≡ (if b then suc (doneBy k ends) else doneBy k ends)
     go true r = ap suc r
     go false r = r
-
-edge-listed : (os : List Operation) (e : ℕ) → has (edges os) e ≡ hasEdge os e
-unfolding has any
-edge-listed [] e = refl
-edge-listed (o ∷ os) e = rw (edge-listed os e) refl
 
 perm-length : {l m : List ℕ} → List·Permᴰ l m → length l ≡ length m
 perm-length List·Permᴰ·nil = refl
@@ -61,7 +56,7 @@ module _ (D : ℕ) (t ends : List ℕ) (size : length ends ≡ D / 2) (low high 
   -- an edge of these operations is one that ends by their level
   edge-by : (e : ℕ) → e < D / 2 → has (edges os) e ≡ endsBy (length low) (getD ends e 0)
   edge-by e l =
-      edge-listed os e ∙ told-edges high 0 low e ∙ ap (λ n. endsBy n (endIn 1 (low ++ high) e)) (let h : 0 + length low ≡ length low = omega arith in h)
+      told-edges high 0 low e ∙ ap (λ n. endsBy n (endIn 1 (low ++ high) e)) (let h : 0 + length low ≡ length low = omega arith in h)
       ∙ sym (so-by (length low) (getD ends e 0) (endIn 1 (low ++ high) e) (told e l))
 
   same-edges : (e : ℕ) → T (has (edges os) e) ↔ T (has (picked (endsBy (length low)) 0 ends) e)

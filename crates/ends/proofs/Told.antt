@@ -15,7 +15,7 @@ use native.Mathlib.Decide.{ℕ-discrete}
 use native.Mathlib.Omega.{arith}
 use lib.Dec.{T, eqb, leb, leb→le, le→leb}
 use lib.ListN.{length}
-use Rattle.permutations.specs.Choice.{pick, T→true, nT→false, T-ext, eqb-same, eqb-other, and-left, and-right, and-intro}
+use Rattle.permutations.specs.Choice.{pick, T?, T→true, nT→false, T-ext, eqb-same, eqb-other, and-left, and-right, and-intro}
 use Rattle.permutations.specs.Partner.{partner, partner-first, partner-second, partner-edge, End}
 use Rattle.permutations.specs.Splice.{swap, swap-left, swap-right, swap-other}
 use Rattle.permutations.specs.Live.{any, has}
@@ -32,8 +32,8 @@ use Rattle.laws.proofs.bridge.Numbers.{number-kind}
 use Rattle.laws.proofs.runs.Runs.{acts}
 use Rattle.ends.specs.Ends.{levelOf, endsBy}
 use Rattle.ends.specs.Comes.{endIn, endsSo}
-use Rattle.ends.proofs.Ended.{number-level}
-use Rattle.ends.proofs.Accepted.{so-iff}
+use Rattle.ends.proofs.Ended.{edgesOf, number-level, end-none, end-level}
+use Rattle.ends.proofs.Accepted.{edges, each-edges, so-iff}
 use Rattle.ends.proofs.Returns.{taken, exchange, cross, cross-not-taken, not-taken}
 
 -- ---- an end
@@ -57,8 +57,7 @@ so-same k v w h g = ⊎-elim (λ e. e) (λ b. let c = by-iff k w g in absurd (le
 -- ---- the edges of operations
 
 abbrev pub hasEdge : List Operation → ℕ → Bool
-hasEdge [] e = false
-hasEdge (o ∷ os) e = eqb e (o .edge) || hasEdge os e
+hasEdge os e = has (edges os) e
 
 abbrev pub byKind : Kind → ℕ → ℕ
 byKind contraction d = partner d
@@ -69,13 +68,9 @@ crossBy [] d = d
 crossBy (o ∷ os) d = pick (eqb (d / 2) (o .edge)) (byKind (o .kind) d) (crossBy os d)
 
 edge-append : (os ns : List Operation) (e : ℕ) → hasEdge (os ++ ns) e ≡ (hasEdge os e || hasEdge ns e)
+unfolding has any
 edge-append [] ns e = refl
 edge-append (o ∷ os) ns e = rw (edge-append os ns e) (sym (or-assoc (eqb e (o .edge)) (hasEdge os e) (hasEdge ns e)))
-
-edge-each : (κ : Kind) (es : List ℕ) (e : ℕ) → hasEdge (each κ es) e ≡ has es e
-unfolding has any
-edge-each κ [] e = refl
-edge-each κ (x ∷ es) e = ap (λ b. eqb e x || b) (edge-each κ es e)
 
 cross-each : (κ : Kind) (es : List ℕ) (ns : List Operation) (d : ℕ) → crossBy (each κ es ++ ns) d ≡ pick (has es (d / 2)) (byKind κ d) (crossBy ns d)
 unfolding has any
@@ -91,25 +86,22 @@ cross-each κ (x ∷ es) ns d = go (eqb (d / 2) x) (cross-each κ es ns d)
 
 -- an edge that ends does so at one of the levels
 end-above : (L : ℕ) (ks : List Kernel) (e : ℕ) → (levelOf (endIn L ks e) ≡ 0) ⊎ (L ≤ levelOf (endIn L ks e))
-unfolding endIn levelOf
-end-above L [] e = inl refl
-end-above L (k ∷ ks) e = go (has (k .edges) e) (end-above (suc L) ks e)
+unfolding levelOf
+end-above L ks e = go (T? (has (edgesOf ks) e))
   where
-    go : (b : Bool) → (levelOf (endIn (suc L) ks e) ≡ 0) ⊎ (suc L ≤ levelOf (endIn (suc L) ks e))
-        → (levelOf (if b then number (k .kind) L else endIn (suc L) ks e) ≡ 0) ⊎ (L ≤ levelOf (if b then number (k .kind) L else endIn (suc L) ks e))
-    go true r = inr (let l = number-level (k .kind) L in omega arith)
-    go false (inl z) = inl z
-    go false (inr m) = inr (omega arith)
+    go : Dec (T (has (edgesOf ks) e)) → (levelOf (endIn L ks e) ≡ 0) ⊎ (L ≤ levelOf (endIn L ks e))
+    go (yes h) = inr (end-level L ks e h .0)
+    go (no n) = inl (ap levelOf (end-none L ks e n))
 
 module _ (high : List Kernel) where
   -- THE EDGES OF THE KERNELS BELOW ARE THOSE THAT END BY THAT LEVEL
   pub told-edges : (L : ℕ) (low : List Kernel) (e : ℕ) → hasEdge (operationsOf low) e ≡ endsBy (L + length low) (endIn (suc L) (low ++ high) e)
-  unfolding endIn
+  unfolding endIn has any
   told-edges L [] e = sym (nT→false (endsBy (L + 0) (endIn (suc L) high e)) (λ t.
       let h = by-iff (L + 0) (endIn (suc L) high e) t in
       ⊎-elim (λ z. omega arith) (λ z. omega arith) (end-above (suc L) high e)))
   told-edges L (k ∷ low) e =
-      edge-append (each (k .kind) (k .edges)) (operationsOf low) e ∙ ap (λ b. b || hasEdge (operationsOf low) e) (edge-each (k .kind) (k .edges) e)
+      edge-append (each (k .kind) (k .edges)) (operationsOf low) e ∙ ap (λ b. b || hasEdge (operationsOf low) e) (ap (λ l. has l e) (each-edges (k .kind) (k .edges)))
       ∙ go (has (k .edges) e) (told-edges (suc L) low e)
     where
       more : suc L + length low ≡ L + suc (length low)
@@ -125,11 +117,11 @@ module _ (high : List Kernel) where
   -- WITH THE KIND OF THEIR END
   pub told-kinds : (L : ℕ) (low : List Kernel) (d : ℕ) → T (hasEdge (operationsOf low) (d / 2))
       → crossBy (operationsOf low) d ≡ byKind (kindOf (endIn (suc L) (low ++ high) (d / 2))) d
-  unfolding endIn
+  unfolding endIn has any
   told-kinds L [] d h = absurd h
   told-kinds L (k ∷ low) d h =
       cross-each (k .kind) (k .edges) (operationsOf low) d
-      ∙ go (has (k .edges) (d / 2)) (rw (edge-append (each (k .kind) (k .edges)) (operationsOf low) (d / 2), edge-each (k .kind) (k .edges) (d / 2)) at h)
+      ∙ go (has (k .edges) (d / 2)) (rw (edge-append (each (k .kind) (k .edges)) (operationsOf low) (d / 2), each-edges (k .kind) (k .edges)) at h)
       (told-kinds (suc L) low d)
     where
       go : (b : Bool) → T (b || hasEdge (operationsOf low) (d / 2))
@@ -154,6 +146,7 @@ ends-half e d b = go (ℕ-discrete (d / 2) e) (ℕ-discrete d (2 * e)) (ℕ-disc
     go (no n) (no a) (no c) = rw (eqb-other n, eqb-other a, partner-first e, eqb-other c)
 
 pub taken-edge : (os : List Operation) (d : ℕ) → taken (acts os) d ≡ hasEdge os (d / 2)
+unfolding has any
 taken-edge [] d = refl
 taken-edge (o ∷ os) d = rw (dart-op (o .kind) (2 * o .edge)) (ends-half (o .edge) d (taken (acts os) d) ∙ ap (λ b. eqb (d / 2) (o .edge) || b) (taken-edge os d))
 
