@@ -82,3 +82,7 @@ noFlag = answered 14 8
 -- 15, "plan size outside the limits, or one cell alone", "place 0" (document 02, request One)
 abbrev pub noPlanSize : Answer
 noPlanSize = answered 15 0
+
+-- 16, "by the start after 3, for metres not from 0 to 100,000 (a NaN is not) or stitches too many, place the first such record" (document 02, request Five)
+abbrev pub unfitRecord : ℕ → Answer
+unfitRecord x = answered 16 x

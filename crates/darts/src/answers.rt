@@ -26,6 +26,7 @@ impl Answer {
             Answer::NoFile(_) => 13,
             Answer::NoFlag => 14,
             Answer::NoPlanSize => 15,
+            Answer::UnfitRecord(_) => 16,
         }
     }
 
@@ -50,6 +51,7 @@ impl Answer {
             Answer::NoFile(at) => at,
             Answer::NoFlag => 8,
             Answer::NoPlanSize => 0,
+            Answer::UnfitRecord(x) => x,
         }
     }
 
@@ -74,6 +76,7 @@ impl Answer {
             Answer::NoFile(_) => 0,
             Answer::NoFlag => 0,
             Answer::NoPlanSize => 0,
+            Answer::UnfitRecord(_) => 0,
         }
     }
 }

@@ -23,6 +23,7 @@ pub enum Answer {
     NoFile(usize),
     NoFlag,
     NoPlanSize,
+    UnfitRecord(usize),
 }
 
 // The other dart of d's edge, by equation 13 of paper 001 moved to zero: one more for an even dart, one less for an odd one.
