@@ -1,0 +1,17 @@
+pub mod Lengths
+pub mod Judging
+pub mod Plain
+pub mod Order
+pub mod Due
+pub mod Refused
+pub mod Unfit
+pub mod Start
+pub mod Merged
+pub mod Carried
+pub mod Removals
+pub mod Agreeing
+pub mod Leaving
+pub mod Carrying
+pub mod Moves
+pub mod NotLooked
+pub mod Kept
