@@ -6,7 +6,7 @@ pub mod load;
 pub mod operate;
 pub mod shape;
 mod step;
-mod trees;
+pub mod trees;
 
 // The numbers of a state, in the width of the work area: D, the operations, the levels, and the operation count after each level.
 pub struct Figures {

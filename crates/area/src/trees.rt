@@ -5,7 +5,7 @@ ghost use Rattle.area.specs.Area.{Room, forestIn};
 ghost use Rattle.area.specs.Trees.{Found, Together, Joined};
 
 // The root of x.
-fn find(work: &mut [u32], d: usize, x: usize) -> usize
+pub fn find(work: &mut [u32], d: usize, x: usize) -> usize
     requires { ⌜ Room d (now work) ⌝ }
     requires { ⌜ Falls (forestIn d (now work)) ⌝ }
     requires { ⌜ x < d ⌝ }
@@ -29,7 +29,7 @@ pub(crate) fn together(work: &mut [u32], d: usize, x: usize, y: usize) -> bool
 }
 
 // Joins what belongs to p with what belongs to q. Answers whether they were apart.
-pub(crate) fn join(work: &mut [u32], d: usize, p: usize, q: usize) -> bool
+pub fn join(work: &mut [u32], d: usize, p: usize, q: usize) -> bool
     requires { ⌜ Room d (now work) ⌝ }
     requires { ⌜ Falls (forestIn d (now work)) ⌝ }
     requires { ⌜ (p < d) × (q < d) ⌝ }

@@ -27,3 +27,4 @@ pub mod TakenBack
 pub mod Taking
 pub mod Tries
 pub mod Underway
+pub mod Labelled

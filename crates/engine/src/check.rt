@@ -29,7 +29,7 @@ fn replay_kind(work: &mut [u32], d: usize, n: usize, k: usize) -> bool
 }
 
 // The same, where the coming kernel is of kind k or the history has such an operation; else there is nothing to do.
-fn try_kind(work: &mut [u32], d: usize, n: usize, k: usize, coming: usize) -> bool
+pub fn try_kind(work: &mut [u32], d: usize, n: usize, k: usize, coming: usize) -> bool
     requires { ⌜ Area d 0 (now work) ⌝ }
     requires { ⌜ Numbered d n (now work) ⌝ }
     requires { ⌜ k ≤ 1 ⌝ }

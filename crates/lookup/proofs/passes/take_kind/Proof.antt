@@ -1,7 +1,8 @@
 -- `lookup::passes::take_kind` meets its contract: the trees change nothing that is held.
 use borrow.Author.Needs.{needs}
 use Rattle.engine.proofs.Around.{step-perm}
-use Rattle.lookup.proofs.Labelling.{labelled-ready, labelled-passed}
+use Rattle.engine.proofs.Labelled.{labelled-ready}
+use Rattle.lookup.proofs.Labelling.{labelled-passed}
 use Rattle.lookup.proofs.passes.take_kind.Statement.{statement}
 use Rattle.lookup.proofs.passes.take_kind.Tie as tie
 

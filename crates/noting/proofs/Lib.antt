@@ -1,0 +1,13 @@
+pub mod Deciding
+pub mod Lowest
+pub mod OnBase
+pub mod Places
+pub mod Recorded
+pub mod Reloading
+pub mod Replaying
+pub mod Right
+pub mod Stepping
+pub mod Late
+pub mod TurnNoted
+pub mod Running
+pub mod Placed

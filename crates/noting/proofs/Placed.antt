@@ -1,0 +1,113 @@
+-- The places of a base's records, found.
+--   lowest-taken  == where the first D numbers of a table are darts, the vertices and their lowest darts are read off those alone
+--   by-case       == what the test says, by the case of its verdict
+--   placed-no     == the table does not permute the darts
+--   placed-held   == where it does, the work area holds it
+--   placed-yes    == and is labelled
+--   unfit-found   == the first place whose record is not fit
+use mathlib.Core.Bool.{_||_}
+use mathlib.Core.List.{List, []}
+use mathlib.Core.Path.{_≡_, refl, sym, ap, _∙_, subst}
+use Prim.Native.Nat.{ℕ, zero, suc, _+_, _*_, _≤_, _<_}
+use native.Mathlib.Omega.{arith}
+use lib.Dec.{eqb}
+use lib.ListN.{length, take, drop}
+use lib.Seq.{drop-drop, getD-take}
+use Rattle.permutations.specs.Cycle.{meetsIn}
+use Rattle.darts.specs.Map.{successor, sameVertex, permutes}
+use Rattle.area.specs.Area.{Room}
+use Rattle.area.specs.Cycles.{Labelled}
+use Rattle.area.specs.Load.{marks, linksAfter, relinks, loads, loadsBase}
+use Rattle.area.specs.Trees.{Outside}
+use Rattle.area.specs.Verdicts.{Said, said, passing, verdictOf}
+use Rattle.area.specs.declared.Verdict.{Verdict}
+use Rattle.engine.specs.Held.{Area, Beyond}
+use Rattle.engine.proofs.Based.{base-tested}
+use Rattle.engine.proofs.Given.{linked-stand}
+use Rattle.engine.proofs.Loaded.{Loaded, loads-right}
+use Rattle.engine.proofs.Ready.{beyond-trans}
+use Rattle.sheets.specs.Sheets.{Sheets}
+use Rattle.sheets.specs.Notes.{unfitIn}
+use Rattle.yarn.specs.Places.{lowestFrom, lowest, isPlace}
+use Rattle.yarn.specs.Calls.{unfitFrom, firstUnfit}
+use Rattle.noting.specs.Running.{Placed}
+use Rattle.noting.proofs.Lowest.{label-lowest}
+
+-- ---- the first D numbers of a table
+
+module _ (D : ℕ) (t : List ℕ) (inside : (x : ℕ) → x < D → successor (take D t) x < D) where
+  entry-taken : (x : ℕ) → x < D → successor (take D t) x ≡ successor t x
+  unfolding successor
+  entry-taken x l = getD-take D t x 0 l
+
+  meets-taken : (n x y : ℕ) → x < D → meetsIn (successor (take D t)) n x y ≡ meetsIn (successor t) n x y
+  unfolding meetsIn
+  meets-taken zero x y l = refl
+  meets-taken (suc n) x y l =
+      ap (λ b. eqb x y || b) (meets-taken n (successor (take D t) x) y (inside x l) ∙ ap (λ z. meetsIn (successor t) n z y) (entry-taken x l))
+
+  lowest-from : (x n y : ℕ) → y + n ≤ D → lowestFrom D (take D t) x n y ≡ lowestFrom D t x n y
+  unfolding lowestFrom sameVertex
+  lowest-from x zero y l = refl
+  lowest-from x (suc n) y l = rw (meets-taken D y x (omega arith), lowest-from x n (suc y) (omega arith)) refl
+
+  pub lowest-taken : (x : ℕ) → lowest D (take D t) x ≡ lowest D t x
+  unfolding lowest
+  lowest-taken x = lowest-from x D 0 (omega arith)
+
+-- ---- the table loaded, and labelled
+
+labels-beyond : {D : ℕ} {w v : List ℕ} → Outside D w v → Beyond D w v
+labels-beyond {D} {w} {v} o =
+    let e : 4 * D ≡ 3 * D + D = omega arith in
+    record { size = o .size; rest = rw e (sym (drop-drop D (3 * D) v) ∙ ap (drop D) (o .rest) ∙ drop-drop D (3 * D) w) }
+
+-- the verdict by its case
+pub by-case : {r r′ : Verdict} {u : List ℕ} {s : Said} → r ≡ r′ → said (verdictOf r) u ≡ s → said (verdictOf r′) u ≡ s
+by-case {u = u} {s = s} e f = subst (λ r. said (verdictOf r) u ≡ s) e f
+
+module _ (D : ℕ) (t w : List ℕ) (room : Room D w) (long : D ≤ length t) where
+  base-loaded : Loaded D 0 t [] w (passing (loadsBase D t w))
+  unfolding loads relinks linksAfter marks loadsBase
+  base-loaded = loads-right linked-stand 0 t [] w room long (omega arith) (omega arith)
+
+  module _ (r : Verdict) {u : List ℕ} (f : said (verdictOf r) u ≡ loadsBase D t w) where
+    loaded : Loaded D 0 t [] w (passing (said (verdictOf r) u))
+    loaded = subst (λ s. Loaded D 0 t [] w (passing s)) (sym f) base-loaded
+
+    loaded-beyond : Beyond D w u
+    loaded-beyond = record { size = loaded .size; rest = loaded .rest }
+
+    pub placed-no : (verdictOf r ≡ permutes → ⊥) → Placed D t w u r
+    placed-no fails = record {
+      verdict = base-tested D t w room long f .verdict;
+      beyond = loaded-beyond;
+      labels = λ e. absurd (fails e);
+    }
+
+    module _ (passes : verdictOf r ≡ permutes) where
+      pub placed-held : Area D 0 u
+      placed-held = loaded .area (rw passes tt)
+
+      pub placed-yes : {v : List ℕ} → Labelled D 1 u v → Placed D t w v r
+      placed-yes {v} L = record {
+        verdict = base-tested D t w room long f .verdict;
+        beyond = beyond-trans loaded-beyond (labels-beyond (L .outside));
+        labels = λ _ x l.
+            label-lowest placed-held L x l
+            ∙ ap (λ b. lowest D b x) (loaded .table)
+            ∙ lowest-taken D t (λ y m. subst (λ b. successor b y < D) (loaded .table) (placed-held .stands .inside y m)) x;
+      }
+
+-- ---- the first place whose record is not fit
+
+module _ {D : ℕ} {t w v : List ℕ} {r : Verdict} (P : Placed D t w v r) (passes : verdictOf r ≡ permutes) (S : Sheets) where
+  unfit-from : (n x : ℕ) → x + n ≤ D → unfitIn D v S n x ≡ unfitFrom D t S n x
+  unfolding unfitIn unfitFrom isPlace
+  unfit-from zero x l = refl
+  unfit-from (suc n) x l = rw (P .labels passes x (omega arith), unfit-from n (suc x) (omega arith)) refl
+
+  -- "place the first such record"
+  pub unfit-found : unfitIn D v S D 0 ≡ firstUnfit D t S
+  unfolding firstUnfit
+  unfit-found = unfit-from D 0 (omega arith)

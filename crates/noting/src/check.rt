@@ -1,0 +1,75 @@
+// Is it a pyramid? The check of a call that is lent yarn sheets: as the plain check, and what each operation merges is noted on the way.
+use crate::note::mark;
+use crate::replay::replay;
+use area::Figures;
+use area::back::take_back_last;
+use area::cycles::label;
+use area::load::load;
+use area::shape::shape;
+use engine::check::try_kind;
+ghost use Prim.Native.Nat.{_/_, _≤_};
+ghost use lib.ListN.{length};
+ghost use Rattle.area.specs.Area.{Room};
+ghost use Rattle.area.specs.Replay.{Numbered};
+ghost use Rattle.area.specs.Shape.{stateWith};
+ghost use Rattle.engine.specs.Held.{Area};
+ghost use Rattle.noting.specs.Checks.{BaseReplayed, NoteDecided, NoteChecked, Reloads, Reloaded};
+
+// On the base: the removals on its faces, and then all operations on its vertices, with notes and links.
+fn replay_base(work: &mut [u32], d: usize, n: usize) -> bool
+    requires { ⌜ Area d 0 (now work) ⌝ }
+    requires { ⌜ Numbered d n (now work) ⌝ }
+    requires { ⌜ n ≤ d / 2 ⌝ }
+    ensures { λ r. ⌜ BaseReplayed d n (now (work .entry)) (now (work .exit)) r ⌝ }
+{
+    if try_kind(work, d, n, 0, 1) {
+        label(work, d, 1);
+        mark(work, d);
+        return replay(work, d, n);
+    }
+    false
+}
+
+// Whether the map in the work area, its history and the state are a pyramid: the shape, then tests 6 to 15 down to the base, then 16 and 17.
+fn decide(work: &mut [u32], state: Figures) -> bool
+    requires { ⌜ Area (state .darts) (state .operations) (now work) ⌝ }
+    ensures { λ r. ⌜ NoteDecided (stateWith state) (now (work .entry)) (now (work .exit)) r ⌝ }
+{
+    let d = state.darts;
+    let n = state.operations;
+    if !shape(work, state) {
+        return false;
+    }
+    if !take_back_last(work, d, n, n) {
+        return false;
+    }
+    replay_base(work, d, n)
+}
+
+// Whether the state, the table's first D numbers and the history's first ones are a pyramid. Where they are, the work area holds notes and links, and its
+// forest judges a coming contraction kernel.
+pub fn note_check(work: &mut [u32], state: Figures, table: &[u32], history: &[u32]) -> bool
+    requires { ⌜ Room (state .darts) (now work) ⌝ }
+    requires { ⌜ (state .darts ≤ length (now table)) × (state .darts / 2 ≤ length (now history)) ⌝ }
+    ensures { λ r. ⌜
+        NoteChecked (stateWith state) (now (table .entry)) (now (history .entry)) (now (work .entry)) (now (work .exit)) r ⌝ }
+{
+    let d = state.darts;
+    let n = state.operations;
+    if d / 2 < n {
+        return false;
+    }
+    if load(work, d, table, history, n) {
+        return decide(work, state);
+    }
+    false
+}
+
+// Table and history of a pyramid that was checked so, loaded again: the work area holds its map. Notes and forest are kept.
+pub fn reload(work: &mut [u32], state: Figures, table: &[u32], history: &[u32])
+    requires { ⌜ Reloads (stateWith state) (now table) (now history) (now work) ⌝ }
+    ensures { λ _. ⌜
+        Reloaded (stateWith state) (now (table .entry)) (now (history .entry)) (now (work .entry)) (now (work .exit)) ⌝ }
+{
+    load(work, state.darts, table, history, state.operations);
+}

@@ -1,0 +1,24 @@
+// The places of the records that a base has: one for each vertex, at its lowest dart.
+use area::Verdict;
+use area::cycles::label;
+use area::load::load_base;
+ghost use Prim.Native.Nat.{_≤_};
+ghost use lib.ListN.{length};
+ghost use Rattle.area.specs.Area.{Room};
+ghost use Rattle.noting.specs.Running.{Placed};
+
+// The permutation test of the table's first d numbers. Where it is passed, the forest's part labels each dart with the lowest dart of its vertex.
+pub fn places(work: &mut [u32], d: usize, table: &[u32]) -> Verdict
+    requires { ⌜ Room d (now work) ⌝ }
+    requires { ⌜ d ≤ length (now table) ⌝ }
+    ensures { λ r. ⌜ Placed d (now (table .entry)) (now (work .entry)) (now (work .exit)) r ⌝ }
+{
+    let verdict = load_base(work, d, table);
+    match verdict {
+        Verdict::Permutes => {
+            label(work, d, 1);
+            Verdict::Permutes
+        }
+        Verdict::Culprits(dart, beside) => Verdict::Culprits(dart, beside),
+    }
+}
