@@ -1,6 +1,7 @@
 -- One level more by a run in the work area: what a kernel and the sweep share.
 --   Levels step runner           == the step is one level more, by the run of this runner
 --   reduce-levels, sweep-levels  == a kernel, and the sweep
+--   plain-reduce, plain-sweep    == neither is refused by 1 or 2
 --   level-full                   == 64 levels are in use: 6
 --   level-halts                  == a run that ended: what one level more asks
 --   level-ends                   == what one level more leaves is what the call leaves
@@ -55,6 +56,17 @@ unfolding levelled
 plain-levelled s past (stands t new) e =
     plain-if (eqb (length new) (length past)) (refuses emptyKernel) _ (λ z. omega arith, λ z. omega arith) tt
 plain-levelled s past (stops a) e = (λ z. omega (arith, e .0), λ z. omega (arith, e .0))
+
+plain-step : {step : State → List ℕ → List ℕ → Result} {runner : ℕ → List ℕ → List ℕ → Run} → Levels step runner → (s : State) (t past : List ℕ) → Plain (step s t past)
+plain-step {runner = runner} S s t past =
+    rw (S .steps s t past)
+    (plain-if (leb 64 (s .levels)) (refuses tooManyLevels) _ (λ z. omega arith, λ z. omega arith) (plain-levelled s past _ (S .edgy (s .darts) t past)))
+
+pub plain-reduce : (k : Kind) (es : List ℕ) (s : State) (t past : List ℕ) → Plain (reduce k es s t past)
+plain-reduce k es = plain-step (reduce-levels refl es)
+
+pub plain-sweep : (s : State) (t past : List ℕ) → Plain (sweep s t past)
+plain-sweep = plain-step sweep-levels
 
 -- the answer that stopped a run is an edge's
 ran-edgy : (D : ℕ) (w : List ℕ) (r : Ran) (run : Run) → ranIn D w r ≡ run → Edgy run → answerOf (r .answer) .number ≢ 0

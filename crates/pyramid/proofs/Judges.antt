@@ -5,6 +5,8 @@
 --   judged-yes   == the check says yes
 --   lent-of      == done: a pyramid is lent, with room
 --   stacked-of   == the work area holds it
+--   stood-of     == so that what comes next stands on it
+--   relabelled   == the forest of another kind, made on the map as it stands
 --   room-then    == and what comes next in the work area has its room
 use mathlib.Core.Bool.{Bool, true, false}
 use mathlib.Core.List.{List}
@@ -18,14 +20,18 @@ use Rattle.darts.specs.Choose.{if_then_else_}
 use Rattle.darts.specs.State.{State}
 use Rattle.darts.specs.Calls.{fitting, judged, cleared, workAfter}
 use Rattle.laws.proofs.calls.Cleared.{cleared-kept}
-use Rattle.darts.proofs.Fitting.{fits, first-keeps}
-use Rattle.laws.proofs.calls.Judging.{Lent, judged-unfit, judged-fit, judged-done}
+use Rattle.darts.proofs.Fitting.{Lengths, fits, first-keeps}
+use Rattle.laws.proofs.calls.Judging.{Lent, judged-unfit, judged-fit, judged-lent, judged-done}
 use Rattle.area.specs.Area.{Room}
 use Rattle.engine.specs.Checks.{Checked}
 use Rattle.engine.specs.Held.{Beyond}
 use Rattle.engine.proofs.Area.{room-kept}
 use Rattle.engine.proofs.Checking.{checked-pyramid}
-use Rattle.pyramid.specs.Steps.{Judged, Stacked}
+use Rattle.area.specs.Cycles.{Labelled}
+use Rattle.engine.proofs.Beside.{beside-table, beside-past}
+use Rattle.engine.proofs.Labelled.{labelled-ready, labelled-beyond}
+use Rattle.engine.proofs.Ready.{beyond-refl}
+use Rattle.pyramid.specs.Steps.{Judged, Stood, Stacked}
 
 pub check-fits : {D t h : ℕ} {w : List ℕ} {a : Answer} → a ≡ fitting D t h (length w) → a .number ≡ 0 → Room D w × ((D ≤ t) × (D / 2 ≤ h))
 check-fits {D} {t} {h} {w} E fine =
@@ -75,3 +81,46 @@ module _ {s : State} {k : ℕ} {t h w v : List ℕ} {a : Answer} (J : Judged s k
 
   pub room-then : {u : List ℕ} → Beyond (s .darts) v u → Room (s .darts) u
   room-then {u} B = room-kept v u (B .size) (J .checked fine .area refl .room)
+
+  -- the work area has its length still
+  lent-still : Lent s t h v
+  lent-still =
+      let L = lent-of in
+      record {
+        pyramid = L .pyramid;
+        lengths = subst (λ n. Lengths (s .darts) (length t) (length h) n) (sym (J .checked fine .beyond .size)) (L .lengths);
+      }
+
+  pub stood-of : Stood s k t h v
+  stood-of =
+      let C = J .checked fine in
+      record {
+        answer = sym (judged-lent s t h v lent-still);
+        refused = λ n. absurd (n refl);
+        checked = λ _. record {
+          answer = C .answer;
+          beyond = beyond-refl (s .darts) v;
+          area = C .area;
+          table = C .table;
+          past = C .past;
+          ready = C .ready;
+        };
+      }
+
+pub relabelled : {s : State} {k j : ℕ} {t h w v : List ℕ} → Stood s k t h w → j ≤ 1 → Labelled (s .darts) j w v → Judged s j t h w v done
+relabelled {s} Z few L =
+    let C = Z .checked refl in
+    let o = L .outside in
+    let R = labelled-ready (C .area refl) few L in
+    record {
+      answer = Z .answer;
+      refused = λ n. absurd (n refl);
+      checked = λ _. record {
+        answer = C .answer;
+        beyond = labelled-beyond (C .area refl) few L;
+        area = λ _. R .area;
+        table = λ _. beside-table o ∙ C .table refl;
+        past = λ _. beside-past o (s .operations) ∙ C .past refl;
+        ready = λ _ _. R;
+      };
+    }

@@ -8,3 +8,11 @@ pub mod ByRun
 pub mod Lowering
 pub mod CountsEnd
 pub mod BackInside
+pub mod Sized
+pub mod Making
+pub mod JudgesWith
+pub mod OnSheets
+pub mod UnfoldedWith
+pub mod Sheets
+pub mod ChecksWith
+pub mod StartsWith

@@ -5,9 +5,10 @@
 --   act-ends     == what the act leaves is what its step gives
 --   act-refused  == the step refuses
 --   act-given    == the step gives what the work area holds
+--   stood-ends   == what comes once the call is judged leaves what the call leaves
 use mathlib.Core.List.{List, reverse-reverse}
 use mathlib.Core.Logic.{_≢_}
-use mathlib.Core.Path.{_≡_, sym, ap, _∙_}
+use mathlib.Core.Path.{_≡_, refl, sym, ap, _∙_}
 use Prim.Native.Nat.{ℕ, _+_, _*_}
 use borrow.Author.Tests.{ne-eqb}
 use Rattle.slices.specs.Over.{over}
@@ -19,10 +20,11 @@ use Rattle.laws.proofs.calls.Cleared.{cleared-kept}
 use Rattle.laws.proofs.calls.Judging.{on-refused, on-lent}
 use Rattle.area.specs.Area.{tableIn, pastIn}
 use Rattle.engine.specs.Held.{Beyond}
+use Rattle.engine.proofs.Ready.{beyond-refl}
 use Rattle.pyramid.specs.Steps.{Judged}
 use Rattle.pyramid.specs.Values.{left, Hands}
 use Rattle.pyramid.specs.declared.Outcome.{Outcome}
-use Rattle.pyramid.proofs.Judges.{lent-of}
+use Rattle.pyramid.proofs.Judges.{lent-of, stood-of}
 use Rattle.pyramid.proofs.Started.{hands}
 
 abbrev pub Plain : Result → Type 0
@@ -63,3 +65,6 @@ module _ (step : State → List ℕ → List ℕ → Result) {s : State} {k : �
     unfolding handsBack
     act-given {o} {z} e H =
         rw (← (reverse-reverse (part (3 * D) (3 * D + z .operations) u))) (act-ends e tt (hands o H _ _ (cleared D u)))
+
+  pub stood-ends : (fine : a .number ≡ 0) {x : After} → Plain found → x ≡ onState step s t h v → x ≡ onState step s t h w
+  stood-ends fine p e = act-ends fine (beyond-refl D v) refl p (e ∙ on-lent s t h v step (lent-of (stood-of J fine) refl))

@@ -1,5 +1,6 @@
 -- What the inner steps of a call ask and leave, from the judging to the work area cleared.
 --   Judged s k t h w v a == a judges the state s and what is lent; v is the work area then: as the answer leaves it, or holding the map that was checked
+--   Stood s k t h w   == it was judged and done: w holds the map, and its forest judges a coming kernel of kind k
 --   Halts s r w t h   == a run r has ended in the work area w of a state s that may have one level more, lent a table and a history of these lengths
 --   Stacked s w       == the work area holds the pyramid of the state s
 --   Lowered s z w v   == v holds the level below, with the state z
@@ -10,7 +11,7 @@ use mathlib.Core.Logic.{_≢_}
 use mathlib.Core.Path.{_≡_}
 use Prim.Native.Nat.{ℕ, _+_, _-_, _/_, _≤_, _<_}
 use Rattle.darts.specs.Cases.{answerOf}
-use Rattle.darts.specs.Answers.{Answer}
+use Rattle.darts.specs.Answers.{Answer, done}
 use Rattle.darts.specs.Calls.{judged, workAfter}
 use Rattle.darts.specs.State.{State, gives}
 use Rattle.darts.specs.Levels.{undoLevel, undoLevels}
@@ -24,6 +25,9 @@ pub record Judged (s : State) (k : ℕ) (t h w v : List ℕ) (a : Answer) : Type
   pub answer : a ≡ judged s t h w
   pub refused : a .number ≢ 0 → v ≡ workAfter a (s .darts) w
   pub checked : a .number ≡ 0 → Checked s k t h w v true
+
+abbrev pub Stood : State → ℕ → List ℕ → List ℕ → List ℕ → Type 0
+Stood s k t h w = Judged s k t h w w done
 
 pub record Halts (s : State) (r : Ran) (w : List ℕ) (t h : ℕ) : Type 0 where
   pub room : Room (s .darts) w

@@ -1,14 +1,21 @@
 // The calls on a state: start, reduce, sweep, undo, unfold, counts.
+mod checking;
 mod counting;
 mod judging;
+mod judging_with;
 mod numbers;
 mod reducing;
+mod sizes;
 pub mod starting;
+pub mod starting_with;
+mod steps;
 mod sweeping;
 mod undoing;
+mod with_sheets;
 
 pub use darts::Answer;
 pub use starting::start;
+pub use starting_with::start_with;
 
 // D, the number of operations, the number of levels, and the operation count after each kernel, zero past the last level.
 #[repr(C)]
@@ -29,6 +36,12 @@ pub enum Kind {
 pub struct Outcome {
     pub state: State,
     pub answer: Answer,
+}
+
+// What a kernel of contractions leaves beside the sheets: what the call hands back, and how many operations there are then.
+pub(crate) struct Made {
+    pub outcome: Outcome,
+    pub operations: usize,
 }
 
 // Surviving darts, vertices, faces, and vertices minus edges plus faces.

@@ -15,7 +15,7 @@ ghost use Rattle.darts.specs.Calls.{reduceBy, pastOf, handsBack, cleared};
 ghost use Rattle.darts.specs.Operation.{kindOf as kindOfBit};
 ghost use Rattle.darts.specs.State.{levelled};
 ghost use Rattle.engine.specs.Runs.{ranIn};
-ghost use Rattle.pyramid.specs.Steps.{Halts};
+ghost use Rattle.pyramid.specs.Steps.{Halts, Stood};
 ghost use Rattle.pyramid.specs.Values.{stateOf, kindOf, left};
 
 // The last bit of a history number of this kind.
@@ -54,6 +54,32 @@ impl State {
         }
     }
 
+    // The same call once it is judged: removals where k is 0, contractions where k is 1. The work area is cleared.
+    pub fn reduce_judged(
+        self,
+        k: usize,
+        kernel: &[u32],
+        table: &mut [u32],
+        history: &mut [u32],
+        work: &mut [u32],
+    ) -> Outcome
+        requires { ⌜ k ≤ 1 ⌝ }
+        requires { ⌜ Stood (stateOf self) k (now table) (now history) (now work) ⌝ }
+        ensures { λ r. ⌜
+            left r (now (table .exit)) (now (history .exit)) (now (work .exit))
+            ≡ reduceBy (kindOfBit k) (now (kernel .entry)) (stateOf self) (now (table .entry)) (now (history .entry)) (now (work .entry)) ⌝ }
+    {
+        let d = self.darts as usize;
+        if 64 <= self.levels {
+            clear(work, d);
+            return kept(self, Answer::TooManyLevels);
+        }
+        let ran = run(work, d, self.operations as usize, k, kernel);
+        let o = self.level(ran, table, history, work);
+        clear(work, d);
+        o
+    }
+
     // One level more: the kernel's edges contracted, or removed, in the listed order.
     pub fn reduce(
         self,
@@ -72,14 +98,6 @@ impl State {
         if judged.number() != 0 {
             return kept(self, judged);
         }
-        let d = self.darts as usize;
-        if 64 <= self.levels {
-            clear(work, d);
-            return kept(self, Answer::TooManyLevels);
-        }
-        let ran = run(work, d, self.operations as usize, k, kernel);
-        let o = self.level(ran, table, history, work);
-        clear(work, d);
-        o
+        self.reduce_judged(k, kernel, table, history, work)
     }
 }

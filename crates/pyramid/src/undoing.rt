@@ -9,7 +9,7 @@ use engine::undo::take_back;
 ghost use mathlib.Core.Path.{_≡_};
 ghost use Prim.Native.Nat.{_<_};
 ghost use Rattle.darts.specs.Calls.{undoBy, unfoldBy};
-ghost use Rattle.pyramid.specs.Steps.{Stacked, Lowered, Unfolded};
+ghost use Rattle.pyramid.specs.Steps.{Stood, Stacked, Lowered, Unfolded};
 ghost use Rattle.pyramid.specs.Values.{stateOf, left};
 
 impl State {
@@ -40,6 +40,31 @@ impl State {
         s
     }
 
+    // Unfold once it is judged. The work area is cleared.
+    pub fn unfold_judged(
+        self,
+        level: u32,
+        table: &mut [u32],
+        history: &mut [u32],
+        work: &mut [u32],
+    ) -> Outcome
+        requires { ⌜ Stood (stateOf self) 2 (now table) (now history) (now work) ⌝ }
+        ensures { λ r. ⌜
+            left r (now (table .exit)) (now (history .exit)) (now (work .exit))
+            ≡ unfoldBy level (stateOf self) (now (table .entry)) (now (history .entry)) (now (work .entry)) ⌝ }
+    {
+        let d = self.darts as usize;
+        let top = self.levels;
+        if top < level {
+            clear(work, d);
+            return kept(self, Answer::NoLevel(top as usize));
+        }
+        let s = self.unfolded(level, work);
+        store(work, d, s.operations as usize, table, history);
+        clear(work, d);
+        kept(s, Answer::Done(0))
+    }
+
     // Back to a level: as many undos.
     pub fn unfold(
         self,
@@ -56,16 +81,7 @@ impl State {
         if judged.number() != 0 {
             return kept(self, judged);
         }
-        let d = self.darts as usize;
-        let top = self.levels;
-        if top < level {
-            clear(work, d);
-            return kept(self, Answer::NoLevel(top as usize));
-        }
-        let s = self.unfolded(level, work);
-        store(work, d, s.operations as usize, table, history);
-        clear(work, d);
-        kept(s, Answer::Done(0))
+        self.unfold_judged(level, table, history, work)
     }
 
     // The last level undone: the state and every entry of the table as they were before its kernel.

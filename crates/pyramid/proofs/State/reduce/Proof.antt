@@ -1,12 +1,10 @@
--- `pyramid::State::reduce` meets its contract: what is judged first, or one level more.
-use mathlib.Core.Path.{_≡_, refl, _∙_, sym}
-use native.Mathlib.Omega.{arith}
+-- `pyramid::State::reduce` meets its contract: what is judged first, or what comes once it is judged.
+use mathlib.Core.Path.{_≡_, _∙_, sym}
 use Rattle.darts.specs.Cases.{answerOf}
 use Rattle.darts.specs.Calls.{reduceBy}
-use Rattle.engine.proofs.Ready.{beyond-refl}
-use Rattle.pyramid.proofs.Judges.{room-then}
-use Rattle.pyramid.proofs.OnState.{call-refused}
-use Rattle.pyramid.proofs.ByRun.{reduce-levels, level-full, level-halts, level-ends}
+use Rattle.pyramid.proofs.Judges.{stood-of}
+use Rattle.pyramid.proofs.OnState.{call-refused, stood-ends}
+use Rattle.pyramid.proofs.ByRun.{plain-reduce}
 use borrow.Author.Needs.{needs}
 use Rattle.pyramid.proofs.State.reduce.Statement.{statement}
 use Rattle.pyramid.proofs.State.reduce.Tie as tie
@@ -41,16 +39,11 @@ returns c =
 fine : (c : tie.Else1) → answerOf (c .before .before .before .before .judged .result) .number ≡ 0
 fine c = sym (c .before .number .ensures) ∙ c .if1 .left
 
-cast-d : tie.Need-cast-d
-cast-d c = search needs
-
-clear-requires : tie.Need-clear-requires
-clear-requires c κs =
-    let e = c .before .before .before .before in
-    room-then (e .before .before .before .before .judged .ensures) (fine e) (beyond-refl _ _)
-
-kept-requires-2 : tie.Need-kept-requires-2
-kept-requires-2 c κs = search needs
+reduce-judged-requires : tie.Need-reduce-judged-requires
+reduce-judged-requires c κs =
+    let e = c .before .before .before in
+    let j = e .before .before .before .before in
+    (j .before .before .before .before .bit .ensures .0, stood-of (j .judged .ensures) (fine e))
 
 same-length-4 : tie.Need-same-length-4
 same-length-4 c = search needs
@@ -64,48 +57,9 @@ same-length-6 c = search needs
 returns-2 : tie.Need-returns-2
 unfolding reduceBy
 returns-2 c =
-    let e = c .before .before .before .before .before .before .before .before in
+    let e = c .before .before .before .before .before .before .before .before .before .before in
     let j = e .before .before .before .before in
-    rw (c .before .before .before .clear .ensures) (level-full (reduce-levels (j .before .before .before .before .bit .ensures .1) _) (j .judged .ensures) (fine e) (c .before .before .before .before .before .if2 .taken) (c .kept2 .ensures))
-
-cast-run : tie.Need-cast-run
-cast-run c = search needs
-
-run-requires : tie.Need-run-requires
-run-requires c κs =
-    let e = c .before .before .before .before .before in
-    let j = e .before .before .before .before in
-    j .judged .ensures .checked (fine e) .ready refl (j .before .before .before .before .bit .ensures .0)
-
-level-requires : tie.Need-level-requires
-level-requires c κs =
-    let e = c .before .before .before .before .before .before .before .before .before .before .before in
-    let j = e .before .before .before .before in
-    level-halts (reduce-levels (j .before .before .before .before .bit .ensures .1) _) (j .judged .ensures) (fine e) (c .before .before .before .before .before .before .before .before .if2 .left) (c .before .before .before .before .before .run .ensures)
-
-clear-requires-2 : tie.Need-clear-requires-2
-clear-requires-2 c κs =
-    let r = c .before .before .before .before .before .before .before .before .before .before .before in
-    let e = r .before .before .before .before .before .before in
-    room-then (e .before .before .before .before .judged .ensures) (fine e) (r .run .ensures .beyond)
-
-same-length-7 : tie.Need-same-length-7
-same-length-7 c = search needs
-
-same-length-8 : tie.Need-same-length-8
-same-length-8 c = search needs
-
-same-length-9 : tie.Need-same-length-9
-same-length-9 c = omega (arith, c .before .before .before .before .before .before .before .before .before .before .before .before .before .before)
-
-returns-3 : tie.Need-returns-3
-unfolding reduceBy
-returns-3 c =
-    let r = c .before .before .before .before .before .before .before .before .before .before .before .before .before .before in
-    let e = r .before .before .before .before .before .before in
-    let j = e .before .before .before .before in
-    rw (c .before .before .clear2 .ensures)
-    (level-ends (reduce-levels (j .before .before .before .before .bit .ensures .1) _) (j .judged .ensures) (fine e) (r .before .before .before .if2 .left) (r .run .ensures) (c .before .before .before .before .before .before .before .before .level .ensures))
+    stood-ends _ (j .judged .ensures) (fine e) (plain-reduce _ _ _ _ _) (rw (j .before .before .before .before .bit .ensures .1) at (c .before .before .before .before .before .before .reduce-judged .ensures))
 
 pub reduce-spec : {M : Type 1} → statement M
 reduce-spec =
@@ -119,18 +73,8 @@ reduce-spec =
     same-length-2
     same-length-3
     returns
-    cast-d
-    clear-requires
-    kept-requires-2
+    reduce-judged-requires
     same-length-4
     same-length-5
     same-length-6
-    returns-2
-    cast-run
-    run-requires
-    level-requires
-    clear-requires-2
-    same-length-7
-    same-length-8
-    same-length-9
-    returns-3)
+    returns-2)

@@ -1,0 +1,74 @@
+-- `pyramid::State::sweep_with` meets its contract: what is judged first, or the sweep, which leaves both sheets. `Lts` and `Tie` are copies (tools/twin.py).
+mod Lts
+mod Tie
+use mathlib.Core.Path.{_≡_, sym, _∙_}
+use Rattle.darts.specs.Calls.{sweepBy}
+use Rattle.darts.specs.Levels.{sweep}
+use Rattle.yarn.specs.Calls.{sweepWith}
+use Rattle.yarn.proofs.sentences.Removals.{sweep-sheets}
+use Rattle.pyramid.proofs.ByRun.{plain-sweep}
+use Rattle.pyramid.proofs.OnSheets.{with-refused, with-left}
+use borrow.Author.Needs.{needs}
+use Rattle.pyramid.proofs.State.sweep_with.Statement.{statement}
+use Rattle.pyramid.proofs.State.sweep_with.Proof.Tie as tie
+
+judged-with-requires : tie.Need-judged-with-requires
+judged-with-requires c = search needs
+
+number-requires : tie.Need-number-requires
+number-requires c = search needs
+
+kept-requires : tie.Need-kept-requires
+kept-requires c = search needs
+
+same-length : tie.Need-same-length
+same-length c = search needs
+
+same-length-2 : tie.Need-same-length-2
+same-length-2 c = search needs
+
+same-length-3 : tie.Need-same-length-3
+same-length-3 c = search needs
+
+same-length-4 : tie.Need-same-length-4
+same-length-4 c = search needs
+
+same-length-5 : tie.Need-same-length-5
+same-length-5 c = search needs
+
+returns : tie.Need-returns
+unfolding sweepWith
+returns c = with-refused sweep (c .before .before .before .before .before .judged-with .ensures) (λ z. c .before .if1 .taken (c .before .before .number .ensures ∙ z)) (c .kept .ensures)
+
+sweep-stood-requires : tie.Need-sweep-stood-requires
+sweep-stood-requires c κs =
+    let e = c .before .before .before in
+    let j = e .before .before .before .before .judged-with .ensures in
+    let fine = sym (e .before .number .ensures) ∙ e .if1 .left in
+    j .stood fine .stood
+
+same-length-6 : tie.Need-same-length-6
+same-length-6 c = search needs
+
+same-length-7 : tie.Need-same-length-7
+same-length-7 c = search needs
+
+same-length-8 : tie.Need-same-length-8
+same-length-8 c = search needs
+
+same-length-9 : tie.Need-same-length-9
+same-length-9 c = search needs
+
+same-length-10 : tie.Need-same-length-10
+same-length-10 c = search needs
+
+returns-2 : tie.Need-returns-2
+unfolding sweepWith sweepBy
+returns-2 c =
+    let e = c .before .before .before .before .before .before .before .before .before .before in
+    let j = e .before .before .before .before .judged-with .ensures in
+    let fine = sym (e .before .number .ensures) ∙ e .if1 .left in
+    with-left sweep j fine (plain-sweep _ _ _) (c .before .before .before .before .before .before .sweep-stood .ensures) (sweep-sheets _ _ _ _ _)
+
+pub sweep-with-spec : {M : Type 1} → statement M
+sweep-with-spec = tie.close (tie.spec judged-with-requires number-requires kept-requires same-length same-length-2 same-length-3 same-length-4 same-length-5 returns sweep-stood-requires same-length-6 same-length-7 same-length-8 same-length-9 same-length-10 returns-2)
