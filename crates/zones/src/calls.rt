@@ -71,7 +71,7 @@ fn handed(
     }
 }
 
-// That call, lent T, H and W numbers of the rooms. The line's numbers are its kernel; its first number is D or K.
+// That call, lent T, H and W numbers of the rooms. The line's numbers are its kernel, of 32,772 edges at most; its first number is D or K.
 fn lent(
     held: Held,
     line: Line,
@@ -81,15 +81,15 @@ fn lent(
     history: &mut [u32],
     work: &mut [u32],
 ) -> Outcome
-    requires { ⌜ Scanned (now script) line × Lent held (now table) (now history) (now work) × (262161 ≤ length (now numbers)) ⌝ }
+    requires { ⌜ Scanned (now script) line × Lent held (now table) (now history) (now work) × (32772 ≤ length (now numbers)) ⌝ }
 {
     let state = held.state;
     let t = held.table;
     let h = held.history;
     let w = held.work;
-    let count = line.count;
-    let file = line.file;
-    let end = line.file + line.size;
+    let count = least(line.count, 32772);
+    let file = line.from;
+    let end = line.from + line.size;
     handed(
         state,
         line.command,

@@ -3,12 +3,15 @@ use pyramid::State;
 ghost use Prim.Native.Nat.{_≤_};
 ghost use Rattle.zones.specs.Within.{Within};
 
-// The state; T, H and W; the bytes of the last accepted write; and whether the line was an error line.
+// The state; T, H and W, and how many records are lent of the sheet and of the kept ones; the bytes of the last accepted write; and whether
+// the line was an error line.
 pub struct Held {
     pub state: State,
     pub table: usize,
     pub history: usize,
     pub work: usize,
+    pub sheet: usize,
+    pub kept: usize,
     pub written: usize,
     pub wrong: bool,
 }
@@ -28,6 +31,8 @@ pub fn nothing() -> Held
         table: 0,
         history: 0,
         work: 0,
+        sheet: 0,
+        kept: 0,
         written: 0,
         wrong: false,
     }
@@ -44,9 +49,21 @@ impl Held {
             table: self.table,
             history: self.history,
             work: self.work,
+            sheet: self.sheet,
+            kept: self.kept,
             written: self.written,
             wrong: self.wrong,
         }
+    }
+
+    // The same with so many records lent.
+    pub fn with_sheets(mut self, sheet: usize, kept: usize) -> Held
+        requires { ⌜ Within self × (sheet ≤ 65536) × (kept ≤ 32768) ⌝ }
+        ensures { λ r. ⌜ Within r ⌝ }
+    {
+        self.sheet = sheet;
+        self.kept = kept;
+        self
     }
 
     // The same with so many bytes written.

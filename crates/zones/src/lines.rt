@@ -3,24 +3,31 @@ use crate::calls::call;
 use crate::held::Held;
 use crate::held::nothing;
 use crate::prints;
+use crate::records::no_yarn;
 use crate::rooms::EndsRoom;
 use crate::rooms::HistoryRoom;
+use crate::rooms::KeptRoom;
 use crate::rooms::NumbersRoom;
 use crate::rooms::OutputRoom;
 use crate::rooms::PlanRoom;
+use crate::rooms::SheetRoom;
 use crate::rooms::TableRoom;
 use crate::rooms::WorkRoom;
 use crate::scan::Line;
 use crate::scan::next_line;
 use crate::settings::set;
+use crate::sheet_calls::put_records;
+use crate::sheet_calls::step_with;
 use crate::words::BYTES;
+use crate::words::KEPT;
+use crate::words::SHEET;
 use crate::words::SHOW;
 use crate::words::START;
 ghost use Rattle.zones.specs.Scanned.{Scanned};
 ghost use Rattle.zones.specs.Within.{Within};
 
-// Does what a line asks for, by its group: what is held after it.
-fn obey(
+// Does what a line without sheets asks for, by its group: what is held after it.
+fn plain(
     held: Held,
     line: Line,
     script: &[u8],
@@ -39,7 +46,17 @@ fn obey(
         return held.judged(true);
     }
     if line.command < START {
-        return set(held, line, numbers, plan, table, history, ends, work);
+        return set(
+            held,
+            line,
+            script,
+            numbers,
+            plan,
+            table,
+            history,
+            ends,
+            work,
+        );
     }
     if line.command < SHOW {
         return call(
@@ -63,8 +80,61 @@ fn obey(
     held
 }
 
+// Does what a line asks for: what is held after it.
+pub fn obey(
+    held: Held,
+    line: Line,
+    script: &[u8],
+    numbers: &NumbersRoom,
+    plan: &mut PlanRoom,
+    table: &mut TableRoom,
+    history: &mut HistoryRoom,
+    ends: &mut EndsRoom,
+    work: &mut WorkRoom,
+    output: &mut OutputRoom,
+    sheet: &mut SheetRoom,
+    kept: &mut KeptRoom,
+) -> Held
+    requires { ⌜ Within held × Scanned (now script) line ⌝ }
+    ensures { λ r. ⌜ Within r ⌝ }
+{
+    if line.command < SHEET {
+        return plain(
+            held,
+            line,
+            script,
+            numbers,
+            plan,
+            table,
+            history,
+            ends,
+            work,
+            output,
+        );
+    }
+    if line.command == SHEET {
+        let outside = put_records(sheet, script, line);
+        return held.judged(outside);
+    }
+    if line.command == KEPT {
+        let outside = put_records(kept, script, line);
+        return held.judged(outside);
+    }
+    step_with(
+        held,
+        line,
+        numbers,
+        table,
+        history,
+        work,
+        output,
+        sheet,
+        kept,
+    )
+}
+
 // Each line is done before the next is looked at. A line has a line feed at least, so there are no more lines than bytes.
-fn each(
+pub fn each(
     script: &[u8],
     numbers: &mut NumbersRoom,
     plan: &mut PlanRoom,
@@ -73,6 +143,8 @@ fn each(
     ends: &mut EndsRoom,
     work: &mut WorkRoom,
     output: &mut OutputRoom,
+    sheet: &mut SheetRoom,
+    kept: &mut KeptRoom,
 ) {
     let mut held = nothing();
     let mut at = 0;
@@ -92,6 +164,8 @@ fn each(
             ends,
             work,
             output,
+            sheet,
+            kept,
         );
         if held.wrong {
             prints::error(k + 1);
@@ -102,14 +176,17 @@ fn each(
 }
 
 // Runs a script over rooms of zeros, each made here and lent whole, so that it stands on the stack once.
-pub fn run(script: &[u8]) {
-    let mut numbers = [0u32; 262161];
+pub fn with_rooms(script: &[u8]) {
+    let mut numbers = [0u32; 32772];
     let mut table = [0u32; 65540];
     let mut history = [0u32; 32772];
     let mut ends = [0u32; 32772];
     let mut work = [0u32; 262160];
     let mut output = [0u8; 600000];
     let mut plan = [0u8; 16388];
+    let none = no_yarn();
+    let mut sheet = [none; 65540];
+    let mut kept = [none; 32772];
     each(
         script,
         &mut numbers,
@@ -119,5 +196,7 @@ pub fn run(script: &[u8]) {
         &mut ends,
         &mut work,
         &mut output,
+        &mut sheet,
+        &mut kept,
     );
 }

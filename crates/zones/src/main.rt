@@ -3,10 +3,13 @@ mod calls;
 mod held;
 mod lines;
 mod lookups;
+mod numbers;
 mod prints;
+mod records;
 mod rooms;
 mod scan;
 mod settings;
+mod sheet_calls;
 mod sizes;
 mod sums;
 mod words;
@@ -15,14 +18,14 @@ use libc::STDIN_FILENO;
 use libc::STDOUT_FILENO;
 use rooms::ScriptRoom;
 
-// "A script is at most 4,000,000 bytes". One byte more says that it is longer.
+// "A script is at most 3,000,000 bytes". One byte more says that it is longer.
 fn run(script: &mut [u8]) {
     let n = io::read_full(STDIN_FILENO, script);
-    if 4000000 < n {
+    if 3000000 < n {
         io::write_all(STDOUT_FILENO, b"error=0\n");
         return;
     }
-    lines::run(&script[..n]);
+    lines::with_rooms(&script[..n]);
 }
 
 // The script's room as a slice.
@@ -32,6 +35,6 @@ fn read_and_run(script: &mut ScriptRoom) {
 
 // The room is made where it is lent, so that it stands on the stack once: what a function returns stands there twice.
 fn main() {
-    let mut script = [0u8; 4000001];
+    let mut script = [0u8; 3000001];
     read_and_run(&mut script);
 }

@@ -16,6 +16,7 @@ use libc::STDOUT_FILENO;
 use lookup::Looked;
 use pyramid::Answer;
 use pyramid::Counted;
+use pyramid::Outcome;
 use pyramid::State;
 ghost use Prim.Native.Nat.{_≤_};
 ghost use lib.ListN.{length};
@@ -119,6 +120,33 @@ pub fn print_counts(
     );
     let end = page::text(&mut page, rest, b"\n");
     page::flush(&page, end);
+}
+
+// Prints the line of a call with sheets, which puts their checksums at its end, and answers what is held then: the state that was handed back.
+pub fn print_yarn(
+    held: Held,
+    outcome: Outcome,
+    sheet: u64,
+    kept: u64,
+    table: &TableRoom,
+    history: &HistoryRoom,
+    work: &WorkRoom,
+    output: &OutputRoom,
+) -> Held
+    requires { ⌜ Within held ⌝ }
+    ensures { λ r. ⌜ Within r ⌝ }
+{
+    let mut page = [0u8; 512];
+    let state = outcome.state;
+    let answer = outcome.answer;
+    let after = held.with_state(state);
+    let checks = checksums(after, 0, table, history, work, output);
+    let used = call_line(&mut page, answer, state, checks);
+    let first = page::field(&mut page, used, b" sheet=", sheet);
+    let second = page::field(&mut page, first, b" kept=", kept);
+    let end = page::text(&mut page, second, b"\n");
+    page::flush(&page, end);
+    after
 }
 
 // "answer=A place=P second=S dart=X passed=X table=C ends=C work=C"

@@ -1,11 +1,12 @@
-// The rooms: table, history, ends, work, output and the plan, "all zero at the start", with the script and the numbers of a line. Together
-// they have 7,238,009 bytes, less than the 8,388,608 of stack that a program is given as a rule.
+// The rooms: table, history, ends, work, output and the plan, "all zero at the start", with the sheet, the kept records, the script and the numbers of
+// a line. Together they have 7,679,941 bytes, less than the 8,388,608 of stack that a program is given as a rule.
+use sheets::Zone;
 
 // The script's bytes, and one more, which says that it is too long.
-pub type ScriptRoom = [u8; 4000001];
+pub type ScriptRoom = [u8; 3000001];
 
-// The numbers of one line. No line has more than a place and the whole of the work room.
-pub type NumbersRoom = [u32; 262161];
+// The first numbers of one line: those of a kernel, or of a call. What a line puts into a room is read from the script.
+pub type NumbersRoom = [u32; 32772];
 
 pub type TableRoom = [u32; 65540];
 
@@ -15,6 +16,12 @@ pub type HistoryRoom = [u32; 32772];
 pub type EndsRoom = [u32; 32772];
 
 pub type WorkRoom = [u32; 262160];
+
+// The records of the zones.
+pub type SheetRoom = [Zone; 65540];
+
+// The records that were kept.
+pub type KeptRoom = [Zone; 32772];
 
 pub type OutputRoom = [u8; 600000];
 

@@ -1,7 +1,12 @@
-// A line of the script: a word, its numbers, and for `read` the bytes after it.
+// A line of the script: a word, its numbers or its records, and for `read` the bytes after it.
+use crate::numbers::next_number;
+use crate::records::next_record;
 use crate::rooms::NumbersRoom;
 use crate::sizes::size;
+use crate::words::KEPT;
 use crate::words::READ;
+use crate::words::SHEET;
+use crate::words::Word;
 use crate::words::command;
 use crate::words::takes;
 ghost use Prim.Native.Nat.{_≤_};
@@ -9,69 +14,24 @@ ghost use mathlib.Core.List.{[]};
 ghost use lib.ListN.{length};
 ghost use Rattle.zones.specs.Scanned.{Scanned};
 
-// A number and the place after it; where there is none, the place itself.
-pub struct Found {
-    pub value: u32,
-    pub next: usize,
-}
-
-// How many numbers a line has, and the place after its line feed; 0 where it leaves the form.
+// How many numbers and records a line has, and the place after its line feed; 0 where it leaves the form.
 pub struct Listed {
     pub count: usize,
     pub next: usize,
 }
 
-// A command by its number, 0 for an error line; how many numbers it has; where the bytes of its file start and how many
-// they are; and the place of the next line.
+// A command by its number, 0 for an error line; how many numbers and records it has; where they start, or of `read` the bytes of its file,
+// and how many bytes those are; and the place of the next line.
 pub struct Line {
     pub command: u32,
     pub count: usize,
-    pub file: usize,
+    pub from: usize,
     pub size: usize,
     pub next: usize,
 }
 
-// The value of a digit, and 10 of any other byte.
-fn digit(b: u8) -> u64
-    ensures { λ r. ⌜ r ≤ 10 ⌝ }
-{
-    if b < 48 {
-        return 10;
-    }
-    if 57 < b {
-        return 10;
-    }
-    (b - 48) as u64
-}
-
-// "A number is one or more digits; leading zeros are allowed; its value is at most 4294967295."
-fn number(script: &[u8], from: usize) -> Found
-    requires { ⌜ from ≤ length (now script) ⌝ }
-    ensures { λ r. ⌜ r .next ≤ length (now (script .entry)) ⌝ }
-{
-    let mut value = 0;
-    let mut at = from;
-    while at < script.len() {
-        let d = digit(script[at]);
-        if d == 10 {
-            break;
-        }
-        value = 10 * value + d;
-        if 4294967295 < value {
-            return Found {
-                value: 0,
-                next: from,
-            };
-        }
-        at += 1;
-    }
-    Found {
-        value: value as u32,
-        next: at,
-    }
-}
-
-// The numbers up to the line feed, each after one space.
+// The numbers up to the line feed, each after one space. As many as fit are put into their room; no line has more of them than a place
+// and the whole of the work room.
 fn list(script: &[u8], from: usize, numbers: &mut NumbersRoom) -> Listed
     requires { ⌜ from ≤ length (now script) ⌝ }
     ensures { λ r. ⌜ (r .count ≤ 262161) × (r .next ≤ length (now (script .entry))) ⌝ }
@@ -85,21 +45,62 @@ fn list(script: &[u8], from: usize, numbers: &mut NumbersRoom) -> Listed
                 next: at + 1,
             };
         }
-        if script[at] != 32 {
-            break;
-        }
         if count == 262161 {
             break;
         }
-        let found = number(script, at + 1);
-        if found.next <= at + 1 {
+        let found = next_number(script, at);
+        if found.next <= at {
             break;
         }
-        numbers[count] = found.value;
+        if count < 32772 {
+            numbers[count] = found.value;
+        }
         count += 1;
         at = found.next;
     }
     Listed { count: 0, next: 0 }
+}
+
+// A place, and the records up to the line feed, each after one space. No line has more of them than `list` takes numbers.
+fn record_list(script: &[u8], from: usize) -> Listed
+    requires { ⌜ from ≤ length (now script) ⌝ }
+    ensures { λ r. ⌜ (r .count ≤ 262161) × (r .next ≤ length (now (script .entry))) ⌝ }
+{
+    let place = next_number(script, from);
+    if place.next <= from {
+        return Listed { count: 0, next: 0 };
+    }
+    let mut at = place.next;
+    let mut count = 1;
+    while at < script.len() {
+        if script[at] == 10 {
+            return Listed {
+                count: count,
+                next: at + 1,
+            };
+        }
+        if count == 262161 {
+            break;
+        }
+        let record = next_record(script, at);
+        if record.next <= at {
+            break;
+        }
+        count += 1;
+        at = record.next;
+    }
+    Listed { count: 0, next: 0 }
+}
+
+// What stands after a word.
+fn rest(script: &[u8], word: Word, numbers: &mut NumbersRoom) -> Listed
+    requires { ⌜ word .next ≤ length (now script) ⌝ }
+    ensures { λ r. ⌜ (r .count ≤ 262161) × (r .next ≤ length (now (script .entry))) ⌝ }
+{
+    if word.number == SHEET || word.number == KEPT {
+        return record_list(script, word.next);
+    }
+    list(script, word.next, numbers)
 }
 
 // An error line.
@@ -109,7 +110,7 @@ fn no_line() -> Line
     Line {
         command: 0,
         count: 0,
-        file: 0,
+        from: 0,
         size: 0,
         next: 0,
     }
@@ -130,19 +131,19 @@ fn file_line(script: &[u8], from: usize, size: usize) -> Line
     Line {
         command: READ,
         count: 1,
-        file: from,
+        from: from,
         size: size,
         next: end + 1,
     }
 }
 
-// The line that starts at a place. Its numbers are put at the start of their room.
+// The line that starts at a place. Its first numbers are put at the start of their room.
 pub fn next_line(script: &[u8], at: usize, numbers: &mut NumbersRoom) -> Line
     requires { ⌜ at ≤ length (now script) ⌝ }
     ensures { λ r. ⌜ Scanned (now (script .entry)) r ⌝ }
 {
     let word = command(script, at);
-    let listed = list(script, word.next, numbers);
+    let listed = rest(script, word, numbers);
     if listed.next == 0 {
         return no_line();
     }
@@ -155,7 +156,7 @@ pub fn next_line(script: &[u8], at: usize, numbers: &mut NumbersRoom) -> Line
     Line {
         command: word.number,
         count: listed.count,
-        file: listed.next,
+        from: word.next,
         size: 0,
         next: listed.next,
     }

@@ -1,5 +1,6 @@
 // The commands that set the state, the rooms, and how much of them is lent.
 use crate::held::Held;
+use crate::numbers::next_number;
 use crate::rooms::EndsRoom;
 use crate::rooms::HistoryRoom;
 use crate::rooms::NumbersRoom;
@@ -13,11 +14,13 @@ use crate::words::FILL;
 use crate::words::HISTORY;
 use crate::words::LEND;
 use crate::words::PLAN;
+use crate::words::SHEETS;
 use crate::words::TABLE;
 use crate::words::WORK;
 use pyramid::State;
 ghost use Prim.Native.Nat.{_+_, _≤_};
 ghost use lib.ListN.{length};
+ghost use Rattle.zones.specs.Scanned.{Scanned};
 ghost use Rattle.zones.specs.Within.{Within};
 
 // "how much of table, history and work later calls are lent": each leaves four numbers of its room.
@@ -40,65 +43,90 @@ fn lend(held: Held, table: usize, history: usize, work: usize) -> Held
         table: table,
         history: history,
         work: work,
+        sheet: held.sheet,
+        kept: held.kept,
         written: held.written,
         wrong: false,
     }
 }
 
-// The numbers after the first go into a room, from a place on.
-fn lay(room: &mut [u32], place: usize, numbers: &NumbersRoom, count: usize)
-    requires { ⌜ (place + count ≤ length (now room) + 1) × (count ≤ 262161) ⌝ }
+// "how many records of the two later calls are lent": each leaves four records of its room.
+fn lend_sheets(held: Held, sheet: usize, kept: usize) -> Held
+    requires { ⌜ Within held ⌝ }
+    ensures { λ r. ⌜ Within r ⌝ }
 {
-    let mut i = 1;
-    while i < count {
-        room[place + i - 1] = numbers[i];
+    if 65536 < sheet {
+        return held.judged(true);
+    }
+    if 32768 < kept {
+        return held.judged(true);
+    }
+    held.with_sheets(sheet, kept)
+}
+
+// The next n numbers of a line go into a room, from a place on.
+fn lay(room: &mut [u32], place: usize, script: &[u8], from: usize, n: usize)
+    requires { ⌜ (place + n ≤ length (now room)) × (from ≤ length (now script)) ⌝ }
+{
+    let mut at = from;
+    let mut i = 0;
+    while i < n {
+        let found = next_number(script, at);
+        room[place + i] = found.value;
+        at = found.next;
         i += 1;
     }
 }
 
 // "puts the numbers into the room from place I on": answers whether one would lie outside it, where none is put.
-fn put(room: &mut [u32], numbers: &NumbersRoom, count: usize) -> bool
-    requires { ⌜ count ≤ 262161 ⌝ }
+fn put(room: &mut [u32], script: &[u8], line: Line) -> bool
+    requires { ⌜ Scanned (now script) line ⌝ }
 {
-    if count <= 1 {
+    if line.count <= 1 {
         return false;
     }
-    let place = size(numbers[0]);
-    if room.len() < place + (count - 1) {
+    let first = next_number(script, line.from);
+    let place = size(first.value);
+    let n = line.count - 1;
+    if room.len() < place + n {
         return true;
     }
-    lay(room, place, numbers, count);
+    lay(room, place, script, first.next, n);
     false
 }
 
-// The bytes after the first number go into the plan's room, from a place on, up to a number that is no byte: answers whether there is one.
-fn lay_bytes(room: &mut [u8], place: usize, numbers: &NumbersRoom, count: usize) -> bool
-    requires { ⌜ (place + count ≤ length (now room) + 1) × (count ≤ 262161) ⌝ }
+// The next n bytes of a line go into the plan's room, from a place on, up to a number that is no byte: answers whether there is one.
+fn lay_bytes(room: &mut [u8], place: usize, script: &[u8], from: usize, n: usize) -> bool
+    requires { ⌜ (place + n ≤ length (now room)) × (from ≤ length (now script)) ⌝ }
 {
-    let mut i = 1;
-    while i < count {
-        let value = numbers[i];
-        if 255 < value {
+    let mut at = from;
+    let mut i = 0;
+    while i < n {
+        let found = next_number(script, at);
+        if 255 < found.value {
             return true;
         }
-        room[place + i - 1] = value as u8;
+        room[place + i] = found.value as u8;
+        at = found.next;
         i += 1;
     }
     false
 }
 
 // "puts the bytes (0 to 255) into the plan's room from place I on": answers whether one would lie outside it, or is no byte.
-fn put_bytes(room: &mut [u8], numbers: &NumbersRoom, count: usize) -> bool
-    requires { ⌜ count ≤ 262161 ⌝ }
+fn put_bytes(room: &mut [u8], script: &[u8], line: Line) -> bool
+    requires { ⌜ Scanned (now script) line ⌝ }
 {
-    if count <= 1 {
+    if line.count <= 1 {
         return false;
     }
-    let place = size(numbers[0]);
-    if room.len() < place + (count - 1) {
+    let first = next_number(script, line.from);
+    let place = size(first.value);
+    let n = line.count - 1;
+    if room.len() < place + n {
         return true;
     }
-    lay_bytes(room, place, numbers, count)
+    lay_bytes(room, place, script, first.next, n)
 }
 
 // "puts V into the work room's every number"
@@ -132,6 +160,7 @@ fn given(numbers: &NumbersRoom, count: usize) -> State {
 pub fn set(
     held: Held,
     line: Line,
+    script: &[u8],
     numbers: &NumbersRoom,
     plan: &mut PlanRoom,
     table: &mut TableRoom,
@@ -139,17 +168,18 @@ pub fn set(
     ends: &mut EndsRoom,
     work: &mut WorkRoom,
 ) -> Held
-    requires { ⌜ Within held × (line .count ≤ 262161) ⌝ }
+    requires { ⌜ Within held × Scanned (now script) line ⌝ }
     ensures { λ r. ⌜ Within r ⌝ }
 {
     let command = line.command;
     match command {
         LEND => lend(held, size(numbers[0]), size(numbers[1]), size(numbers[2])),
-        TABLE => held.judged(put(table, numbers, line.count)),
-        HISTORY => held.judged(put(history, numbers, line.count)),
-        ENDS => held.judged(put(ends, numbers, line.count)),
-        WORK => held.judged(put(work, numbers, line.count)),
-        PLAN => held.judged(put_bytes(plan, numbers, line.count)),
+        SHEETS => lend_sheets(held, size(numbers[0]), size(numbers[1])),
+        TABLE => held.judged(put(table, script, line)),
+        HISTORY => held.judged(put(history, script, line)),
+        ENDS => held.judged(put(ends, script, line)),
+        WORK => held.judged(put(work, script, line)),
+        PLAN => held.judged(put_bytes(plan, script, line)),
         FILL => {
             fill(work, numbers[0]);
             held

@@ -5,6 +5,8 @@ use crate::rooms::HistoryRoom;
 use crate::rooms::OutputRoom;
 use crate::rooms::TableRoom;
 use crate::rooms::WorkRoom;
+use sheets::Yarn;
+use sheets::Zone;
 ghost use Prim.Native.Nat.{_≤_, _<_};
 ghost use lib.ListN.{length};
 ghost use Rattle.zones.specs.Within.{Within};
@@ -39,6 +41,48 @@ fn step_byte(c: u64, v: u8) -> u64
     ensures { λ r. ⌜ r < 4294967291 ⌝ }
 {
     step(c, v as u32)
+}
+
+// Three numbers, one after another.
+fn step_figure(c: u64, kind: u32, high: u32, low: u32) -> u64
+    requires { ⌜ c < 4294967291 ⌝ }
+    ensures { λ r. ⌜ r < 4294967291 ⌝ }
+{
+    let first = step(c, kind);
+    let second = step(first, high);
+    step(second, low)
+}
+
+// "1, the high 32 bits and the low 32 bits"
+fn step_bits(c: u64, bits: u64) -> u64
+    requires { ⌜ c < 4294967291 ⌝ }
+    ensures { λ r. ⌜ r < 4294967291 ⌝ }
+{
+    step_figure(c, 1, (bits / 4294967296) as u32, (bits % 4294967296) as u32)
+}
+
+// Metres by their bits, or "2 0 0 for a NaN".
+fn step_metres(c: u64, metres: f64) -> u64
+    requires { ⌜ c < 4294967291 ⌝ }
+    ensures { λ r. ⌜ r < 4294967291 ⌝ }
+{
+    if metres != metres {
+        return step_figure(c, 2, 0, 0);
+    }
+    step_bits(c, f64::to_bits(metres))
+}
+
+// The same for a record, which "counts as four numbers, its stitches, then 0 0 0 for not measured", or what its metres are.
+pub fn step_zone(c: u64, zone: Zone) -> u64
+    requires { ⌜ c < 4294967291 ⌝ }
+    ensures { λ r. ⌜ r < 4294967291 ⌝ }
+{
+    let after = step(c, zone.stitches);
+    let yarn = zone.yarn;
+    match yarn {
+        Yarn::Metres(m) => step_metres(after, m),
+        Yarn::NotMeasured => step_figure(after, 0, 0, 0),
+    }
 }
 
 // The checksum of the first n numbers.

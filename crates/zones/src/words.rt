@@ -4,47 +4,65 @@ ghost use lib.ListN.{length};
 
 pub const LEND: u32 = 1;
 
-pub const TABLE: u32 = 2;
+pub const SHEETS: u32 = 2;
 
-pub const HISTORY: u32 = 3;
+pub const TABLE: u32 = 3;
 
-pub const WORK: u32 = 4;
+pub const HISTORY: u32 = 4;
 
-pub const PLAN: u32 = 5;
+pub const WORK: u32 = 5;
 
-pub const ENDS: u32 = 6;
+pub const PLAN: u32 = 6;
 
-pub const FILL: u32 = 7;
+pub const ENDS: u32 = 7;
 
-pub const STATE: u32 = 8;
+pub const FILL: u32 = 8;
 
-pub const START: u32 = 9;
+pub const STATE: u32 = 9;
 
-pub const CONTRACT: u32 = 10;
+pub const START: u32 = 10;
 
-pub const REMOVE: u32 = 11;
+pub const CONTRACT: u32 = 11;
 
-pub const SWEEP: u32 = 12;
+pub const REMOVE: u32 = 12;
 
-pub const UNDO: u32 = 13;
+pub const SWEEP: u32 = 13;
 
-pub const UNFOLD: u32 = 14;
+pub const UNDO: u32 = 14;
 
-pub const READ: u32 = 15;
+pub const UNFOLD: u32 = 15;
 
-pub const FLATAREAS: u32 = 16;
+pub const READ: u32 = 16;
 
-pub const FLAT: u32 = 17;
+pub const FLATAREAS: u32 = 17;
 
-pub const COUNTS: u32 = 18;
+pub const FLAT: u32 = 18;
 
-pub const SUCCESSOR: u32 = 19;
+pub const COUNTS: u32 = 19;
 
-pub const WRITE: u32 = 20;
+pub const SUCCESSOR: u32 = 20;
 
-pub const SHOW: u32 = 21;
+pub const WRITE: u32 = 21;
 
-pub const BYTES: u32 = 22;
+pub const SHOW: u32 = 22;
+
+pub const BYTES: u32 = 23;
+
+pub const SHEET: u32 = 24;
+
+pub const KEPT: u32 = 25;
+
+pub const YARNSTART: u32 = 26;
+
+pub const YARNCONTRACT: u32 = 27;
+
+pub const YARNREMOVE: u32 = 28;
+
+pub const YARNSWEEP: u32 = 29;
+
+pub const YARNUNDO: u32 = 30;
+
+pub const YARNUNFOLD: u32 = 31;
 
 // A command's number, or 0 for none, and the place after its word.
 pub struct Word {
@@ -53,12 +71,12 @@ pub struct Word {
 }
 
 // How many letters the script has from a place on of a word of the list, which a space ends: all of them or none.
-fn letters(script: &[u8], at: usize, words: &[u8; 220], from: usize) -> usize
-    requires { ⌜ (at ≤ length (now script)) × (from ≤ 210) ⌝ }
+fn letters(script: &[u8], at: usize, words: &[u8; 403], from: usize) -> usize
+    requires { ⌜ (at ≤ length (now script)) × (from ≤ 390) ⌝ }
     ensures { λ r. ⌜ at + r ≤ length (now (script .entry)) ⌝ }
 {
     let mut i = 0;
-    while i < 10 {
+    while i < 13 {
         if words[from + i] == 32 {
             return i;
         }
@@ -73,17 +91,19 @@ fn letters(script: &[u8], at: usize, words: &[u8; 220], from: usize) -> usize
     0
 }
 
-// The command whose word stands at a place. In the list each word has ten bytes, with spaces after it; a word that begins with another stands
+// The command whose word stands at a place. In the list each word has thirteen bytes, with spaces after it; a word that begins with another stands
 // before it.
 pub fn command(script: &[u8], at: usize) -> Word
     requires { ⌜ at ≤ length (now script) ⌝ }
     ensures { λ r. ⌜ r .next ≤ length (now (script .entry)) ⌝ }
 {
     let words =
-        b"lend      table     history   work      plan      ends      fill      state     start     contract  remove    sweep     undo      \
-        unfold    read      flatareas flat      counts    successor write     show      bytes     ";
-    for k in 0..22 {
-        let n = letters(script, at, words, 10 * k);
+        b"lend         sheets       table        history      work         plan         ends         fill         state        \
+        start        contract     remove       sweep        undo         unfold       read         flatareas    flat         \
+        counts       successor    write        show         bytes        sheet        kept         yarnstart    yarncontract \
+        yarnremove   yarnsweep    yarnundo     yarnunfold   ";
+    for k in 0..31 {
+        let n = letters(script, at, words, 13 * k);
         if n != 0 {
             return Word {
                 number: k as u32 + 1,
@@ -97,15 +117,16 @@ pub fn command(script: &[u8], at: usize) -> Word
     }
 }
 
-// Whether a command takes so many numbers. "A kernel has at most 32,772 edges"; there are at most 64 ends.
+// Whether a command takes so many numbers, or a number and so many records less one. "A kernel has at most 32,772 edges"; there are at most 64 ends.
 pub fn takes(number: u32, count: usize) -> bool {
     match number {
         LEND | FLATAREAS | FLAT | SUCCESSOR => count == 3,
-        TABLE | HISTORY | WORK | PLAN | ENDS => 1 <= count,
+        SHEETS => count == 2,
+        TABLE | HISTORY | WORK | PLAN | ENDS | SHEET | KEPT => 1 <= count,
         STATE => 3 <= count && count <= 67,
-        CONTRACT | REMOVE => count <= 32772,
-        FILL | START | UNFOLD | READ | WRITE => count == 1,
-        SWEEP | UNDO | COUNTS | SHOW | BYTES => count == 0,
+        CONTRACT | REMOVE | YARNCONTRACT | YARNREMOVE => count <= 32772,
+        FILL | START | UNFOLD | READ | WRITE | YARNSTART | YARNUNFOLD => count == 1,
+        SWEEP | UNDO | COUNTS | SHOW | BYTES | YARNSWEEP | YARNUNDO => count == 0,
         _ => false,
     }
 }

@@ -24,17 +24,8 @@ add-t11 c = search needs
 returns : tie.Need-returns Inv-loop μ-loop
 returns c = search needs
 
-shared-slice-read-if2 : tie.Need-shared-slice-read-if2 Inv-loop μ-loop
-shared-slice-read-if2 c = search needs
-
-add-number : tie.Need-add-number Inv-loop μ-loop
-add-number c = search needs
-
-number-requires : tie.Need-number-requires Inv-loop μ-loop
-number-requires c κs = search needs
-
-add-if4 : tie.Need-add-if4 Inv-loop μ-loop
-add-if4 c = search needs
+next-number-requires : tie.Need-next-number-requires Inv-loop μ-loop
+next-number-requires c κs = search needs
 
 mul-numbers : tie.Need-mul-numbers Inv-loop μ-loop
 mul-numbers c = search needs
@@ -60,9 +51,6 @@ returns-3 c = search needs
 returns-4 : tie.Need-returns-4 Inv-loop μ-loop
 returns-4 c = search needs
 
-returns-5 : tie.Need-returns-5 Inv-loop μ-loop
-returns-5 c = search needs
-
 pub list-spec : {M : Type 1} → statement M
 list-spec =
     tie.close
@@ -73,10 +61,7 @@ list-spec =
     shared-slice-read-if1
     add-t11
     returns
-    shared-slice-read-if2
-    add-number
-    number-requires
-    add-if4
+    next-number-requires
     mul-numbers
     element-write-numbers
     add-count
@@ -84,5 +69,4 @@ list-spec =
     loop-again
     returns-2
     returns-3
-    returns-4
-    returns-5)
+    returns-4)

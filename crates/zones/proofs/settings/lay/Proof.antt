@@ -1,4 +1,4 @@
--- `zones::settings::lay`: the room keeps its length, and each place lies within it. The measure is what is left of the numbers.
+-- `zones::settings::lay`: the room keeps its length, and each place lies within it; so does each place of the script. The measure is what is left of the numbers.
 use mathlib.Core.Path.{_≡_}
 use Prim.Native.Nat.{_-_, _≤_}
 use borrow.Author.Needs.{needs}
@@ -7,28 +7,22 @@ use Rattle.zones.proofs.settings.lay.Statement.{statement}
 use Rattle.zones.proofs.settings.lay.Tie as tie
 
 abbrev Inv-loop : tie.InvT-loop
-Inv-loop room₀ place numbers count i₀ room i = (1 ≤ i) × (length room ≡ length room₀)
+Inv-loop room₀ place script from n at₀ i₀ room at i = (at ≤ length script) × (length room ≡ length room₀)
 
 abbrev μ-loop : tie.MeasureT-loop
-μ-loop room₀ place numbers count i₀ room i = count - i
+μ-loop room₀ place script from n at₀ i₀ room at i = n - i
 
 loop-holds : tie.Need-loop-holds Inv-loop μ-loop
 loop-holds c = search needs
 
-mul-room : tie.Need-mul-room Inv-loop μ-loop
-mul-room c = search needs
-
-element-copy-out-room : tie.Need-element-copy-out-room Inv-loop μ-loop
-element-copy-out-room c = search needs
+next-number-requires : tie.Need-next-number-requires Inv-loop μ-loop
+next-number-requires c κs = search needs
 
 add-room : tie.Need-add-room Inv-loop μ-loop
 add-room c = search needs
 
-sub-room : tie.Need-sub-room Inv-loop μ-loop
-sub-room c = search needs
-
-mul-room-2 : tie.Need-mul-room-2 Inv-loop μ-loop
-mul-room-2 c = search needs
+mul-room : tie.Need-mul-room Inv-loop μ-loop
+mul-room c = search needs
 
 slice-write-room : tie.Need-slice-write-room Inv-loop μ-loop
 slice-write-room c = search needs
@@ -55,11 +49,9 @@ lay-spec =
     Inv-loop
     μ-loop
     loop-holds
-    mul-room
-    element-copy-out-room
+    next-number-requires
     add-room
-    sub-room
-    mul-room-2
+    mul-room
     slice-write-room
     add-i
     loop-less

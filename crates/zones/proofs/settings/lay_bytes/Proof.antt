@@ -1,4 +1,4 @@
--- `zones::settings::lay_bytes`: the room keeps its length, and each place lies within it. The measure is what is left of the numbers.
+-- `zones::settings::lay_bytes`: the room keeps its length, and each place lies within it; so does each place of the script. The measure is what is left of the numbers.
 use mathlib.Core.Path.{_≡_}
 use Prim.Native.Nat.{_-_, _≤_}
 use borrow.Author.Needs.{needs}
@@ -7,19 +7,16 @@ use Rattle.zones.proofs.settings.lay_bytes.Statement.{statement}
 use Rattle.zones.proofs.settings.lay_bytes.Tie as tie
 
 abbrev Inv-loop : tie.InvT-loop
-Inv-loop room₀ place numbers count i₀ room i = (1 ≤ i) × (length room ≡ length room₀)
+Inv-loop room₀ place script from n at₀ i₀ room at i = (at ≤ length script) × (length room ≡ length room₀)
 
 abbrev μ-loop : tie.MeasureT-loop
-μ-loop room₀ place numbers count i₀ room i = count - i
+μ-loop room₀ place script from n at₀ i₀ room at i = n - i
 
 loop-holds : tie.Need-loop-holds Inv-loop μ-loop
 loop-holds c = search needs
 
-mul-value : tie.Need-mul-value Inv-loop μ-loop
-mul-value c = search needs
-
-element-copy-out-value : tie.Need-element-copy-out-value Inv-loop μ-loop
-element-copy-out-value c = search needs
+next-number-requires : tie.Need-next-number-requires Inv-loop μ-loop
+next-number-requires c κs = search needs
 
 same-length : tie.Need-same-length Inv-loop μ-loop
 same-length c = search needs
@@ -32,9 +29,6 @@ cast-room c = search needs
 
 add-room : tie.Need-add-room Inv-loop μ-loop
 add-room c = search needs
-
-sub-room : tie.Need-sub-room Inv-loop μ-loop
-sub-room c = search needs
 
 slice-write-room : tie.Need-slice-write-room Inv-loop μ-loop
 slice-write-room c = search needs
@@ -61,13 +55,11 @@ lay-bytes-spec =
     Inv-loop
     μ-loop
     loop-holds
-    mul-value
-    element-copy-out-value
+    next-number-requires
     same-length
     returns
     cast-room
     add-room
-    sub-room
     slice-write-room
     add-i
     loop-less

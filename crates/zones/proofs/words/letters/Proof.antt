@@ -6,10 +6,10 @@ use Rattle.zones.proofs.words.letters.Statement.{statement}
 use Rattle.zones.proofs.words.letters.Tie as tie
 
 abbrev Inv-loop : tie.InvT-loop
-Inv-loop script at words from i₀ i = (i ≤ 10) × (at + i ≤ length script)
+Inv-loop script at words from i₀ i = (i ≤ 13) × (at + i ≤ length script)
 
 abbrev μ-loop : tie.MeasureT-loop
-μ-loop script at words from i₀ i = 10 - i
+μ-loop script at words from i₀ i = 13 - i
 
 loop-holds : tie.Need-loop-holds Inv-loop μ-loop
 loop-holds c = search needs

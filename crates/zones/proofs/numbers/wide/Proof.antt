@@ -1,12 +1,12 @@
--- `zones::scan::number`: the value stays below 2 ^ 32 and the place within the script, of which what is left is the measure.
+-- `zones::numbers::wide`: the value stays below 2 ^ 64 and the place within the script, of which what is left is the measure.
 use Prim.Native.Nat.{_-_, _≤_}
 use borrow.Author.Needs.{needs}
 use lib.ListN.{length}
-use Rattle.zones.proofs.scan.number.Statement.{statement}
-use Rattle.zones.proofs.scan.number.Tie as tie
+use Rattle.zones.proofs.numbers.wide.Statement.{statement}
+use Rattle.zones.proofs.numbers.wide.Tie as tie
 
 abbrev Inv-loop : tie.InvT-loop
-Inv-loop script from value₀ at₀ value at = (value ≤ 4294967295) × (at ≤ length script)
+Inv-loop script from value₀ at₀ value at = at ≤ length script
 
 abbrev μ-loop : tie.MeasureT-loop
 μ-loop script from value₀ at₀ value at = length script - at
@@ -20,14 +20,17 @@ shared-slice-read-digit c = search needs
 digit-requires : tie.Need-digit-requires Inv-loop μ-loop
 digit-requires c κs = search needs
 
+sub-if2 : tie.Need-sub-if2 Inv-loop μ-loop
+sub-if2 c = search needs
+
+returns : tie.Need-returns Inv-loop μ-loop
+returns c = search needs
+
 mul-value : tie.Need-mul-value Inv-loop μ-loop
 mul-value c = search needs
 
 add-value : tie.Need-add-value Inv-loop μ-loop
 add-value c = search needs
-
-returns : tie.Need-returns Inv-loop μ-loop
-returns c = search needs
 
 add-at : tie.Need-add-at Inv-loop μ-loop
 add-at c = search needs
@@ -38,14 +41,14 @@ loop-less c = search needs
 loop-again : tie.Need-loop-again Inv-loop μ-loop
 loop-again c = search needs
 
-cast-t11 : tie.Need-cast-t11 Inv-loop μ-loop
-cast-t11 c = search needs
-
 returns-2 : tie.Need-returns-2 Inv-loop μ-loop
 returns-2 c = search needs
 
-pub number-spec : {M : Type 1} → statement M
-number-spec =
+returns-3 : tie.Need-returns-3 Inv-loop μ-loop
+returns-3 c = search needs
+
+pub wide-spec : {M : Type 1} → statement M
+wide-spec =
     tie.close
     (tie.spec
     Inv-loop
@@ -53,11 +56,12 @@ number-spec =
     loop-holds
     shared-slice-read-digit
     digit-requires
+    sub-if2
+    returns
     mul-value
     add-value
-    returns
     add-at
     loop-less
     loop-again
-    cast-t11
-    returns-2)
+    returns-2
+    returns-3)

@@ -1,0 +1,43 @@
+-- `zones::sheet_calls::sum_records`: the checksum stays below its modulus. The measure is what is left of the records. `Lts` and `Tie` are copies
+-- (tools/twin.py).
+mod Lts
+mod Tie
+use Prim.Native.Nat.{_-_, _≤_, _<_}
+use borrow.Author.Needs.{needs}
+use Rattle.zones.proofs.sheet_calls.sum_records.Statement.{statement}
+use Rattle.zones.proofs.sheet_calls.sum_records.Proof.Tie as tie
+
+abbrev Inv-loop : tie.InvT-loop
+Inv-loop sheet n c₀ i₀ c i =
+    (i ≤ n) × (c < 4294967291)
+
+abbrev μ-loop : tie.MeasureT-loop
+μ-loop sheet n c₀ i₀ c i =
+    n - i
+
+loop-holds : tie.Need-loop-holds Inv-loop μ-loop
+loop-holds c = search needs
+
+mul-record : tie.Need-mul-record Inv-loop μ-loop
+mul-record c = search needs
+
+shared-slice-copy-out-record : tie.Need-shared-slice-copy-out-record Inv-loop μ-loop
+shared-slice-copy-out-record c = search needs
+
+step-zone-requires : tie.Need-step-zone-requires Inv-loop μ-loop
+step-zone-requires c = search needs
+
+add-i : tie.Need-add-i Inv-loop μ-loop
+add-i c = search needs
+
+loop-less : tie.Need-loop-less Inv-loop μ-loop
+loop-less c = search needs
+
+loop-again : tie.Need-loop-again Inv-loop μ-loop
+loop-again c = search needs
+
+returns : tie.Need-returns Inv-loop μ-loop
+returns c = search needs
+
+pub sum-records-spec : {M : Type 1} → statement M
+sum-records-spec = tie.close (tie.spec Inv-loop μ-loop loop-holds mul-record shared-slice-copy-out-record step-zone-requires add-i loop-less loop-again returns)
