@@ -25,6 +25,12 @@ pub enum Call {
     Flat,
     FlatAreas,
     Successor,
+    YarnStart,
+    YarnContract,
+    YarnRemove,
+    YarnSweep,
+    YarnUndo,
+    YarnUnfold,
     Levels,
     Plan,
     PlanBase,
@@ -32,7 +38,7 @@ pub enum Call {
 
 use Call::*;
 
-const CALLS: [(Call, &str); 15] = [
+const CALLS: [(Call, &str); 21] = [
     (Start, "start"),
     (Contract, "contract"),
     (Remove, "remove"),
@@ -45,6 +51,12 @@ const CALLS: [(Call, &str); 15] = [
     (Flat, "flat"),
     (FlatAreas, "flatareas"),
     (Successor, "successor"),
+    (YarnStart, "yarnstart"),
+    (YarnContract, "yarncontract"),
+    (YarnRemove, "yarnremove"),
+    (YarnSweep, "yarnsweep"),
+    (YarnUndo, "yarnundo"),
+    (YarnUnfold, "yarnunfold"),
     (Levels, "levels"),
     (Plan, "plan"),
     (PlanBase, "plan base"),
@@ -53,10 +65,10 @@ const CALLS: [(Call, &str); 15] = [
 /// The programs that are no scripts of calls.
 const PROGRAMS: [Call; 3] = [Levels, Plan, PlanBase];
 
-/// The answers 0 to 15, of which 3 has two columns, and the error line of a drawing.
-const COLUMNS: usize = 18;
+/// The answers 0 to 16, of which 3 has two columns, and the error line of a drawing.
+const COLUMNS: usize = 19;
 const OUT_OF_RANGE: usize = 4;
-const ERROR: usize = 17;
+const ERROR: usize = 18;
 
 /// For each column its name, the calls that can give this answer, and why no other can. For the reader one reason holds from
 /// 7 to 12: a file is judged as a whole, and whatever is wrong with what it holds is 4.
@@ -64,55 +76,73 @@ const GIVEN_BY: [(&str, &[Call], &str); COLUMNS] = [
     (
         "0",
         &[
-            Start, Contract, Remove, Sweep, Undo, Unfold, Counts, Read, Write, Flat, FlatAreas, Successor, Levels,
-            Plan, PlanBase,
+            Start, Contract, Remove, Sweep, Undo, Unfold, Counts, Read, Write, Flat, FlatAreas, Successor, YarnStart,
+            YarnContract, YarnRemove, YarnSweep, YarnUndo, YarnUnfold, Levels, Plan, PlanBase,
         ],
         "every call can be done",
     ),
     (
         "1",
-        &[Start, Contract, Remove, Sweep, Undo, Unfold, Counts, Read, Write, Successor, Levels],
+        &[
+            Start, Contract, Remove, Sweep, Undo, Unfold, Counts, Read, Write, Successor, YarnStart, YarnContract,
+            YarnRemove, YarnSweep, YarnUndo, YarnUnfold, Levels,
+        ],
         "a plan within its limits has 2 to 65,024 darts",
     ),
     (
         "2",
-        &[Start, Contract, Remove, Sweep, Undo, Unfold, Counts, Read, Write, Flat, FlatAreas, Successor, Levels],
+        &[
+            Start, Contract, Remove, Sweep, Undo, Unfold, Counts, Read, Write, Flat, FlatAreas, Successor, YarnStart,
+            YarnContract, YarnRemove, YarnSweep, YarnUndo, YarnUnfold, Levels,
+        ],
         "the program plan has room for every plan",
     ),
-    ("3:lower", &[Start], NO_PERMUTATION),
-    ("3:D", &[Start], NO_PERMUTATION),
+    ("3:lower", &[Start, YarnStart], NO_PERMUTATION),
+    ("3:D", &[Start, YarnStart], NO_PERMUTATION),
     (
         "4",
-        &[Contract, Remove, Sweep, Undo, Unfold, Counts, Read, Write, Successor, Levels],
+        &[
+            Contract, Remove, Sweep, Undo, Unfold, Counts, Read, Write, Successor, YarnContract, YarnRemove, YarnSweep,
+            YarnUndo, YarnUnfold, Levels,
+        ],
         "a start or a plan is given neither state nor file nor ends",
     ),
     (
         "5",
-        &[Contract, Remove, Sweep, Read, FlatAreas, Levels, Plan],
+        &[Contract, Remove, Sweep, Read, FlatAreas, YarnContract, YarnRemove, YarnSweep, Levels, Plan],
         "the others have no kernel; the reader's is a line with an N of 0",
     ),
     (
         "6",
-        &[Contract, Remove, Sweep, Read, Levels],
+        &[Contract, Remove, Sweep, Read, YarnContract, YarnRemove, YarnSweep, Levels],
         "the others add no level over others, and state no number of levels",
     ),
-    ("7", &[Contract, Remove, Successor], "the others are given neither edge numbers nor a dart"),
+    (
+        "7",
+        &[Contract, Remove, Successor, YarnContract, YarnRemove],
+        "the others are given neither edge numbers nor a dart",
+    ),
     (
         "8",
-        &[Contract, Remove, Successor],
+        &[Contract, Remove, Successor, YarnContract, YarnRemove],
         "the others are given neither edge numbers nor a dart; a sweep takes surviving edges",
     ),
     (
         "9",
-        &[Contract],
+        &[Contract, YarnContract],
         "\"contraction with one vertex at both ends\"; the sweep is a removal, a first kernel leaves such edges",
     ),
-    ("10", &[Remove], "a sweep takes empty loops that are no whole piece, and these have two faces"),
-    ("11", &[Contract, Remove], "a sweep or a first kernel takes no whole piece"),
-    ("12", &[Undo, Unfold, Successor], "the others go to no lower level and look at none"),
+    ("10", &[Remove, YarnRemove], "a sweep takes empty loops that are no whole piece, and these have two faces"),
+    ("11", &[Contract, Remove, YarnContract, YarnRemove], "a sweep or a first kernel takes no whole piece"),
+    ("12", &[Undo, Unfold, Successor, YarnUndo, YarnUnfold], "the others go to no lower level and look at none"),
     ("13", &[Read, Levels], "the others are given no file"),
     ("14", &[Read, Levels], "the others are given no file"),
     ("15", &[Flat, FlatAreas, Plan, PlanBase], "the others are given no plan"),
+    (
+        "16",
+        &[YarnStart],
+        "\"16, by the start after 3\"; \"afterwards 4 also covers sheets\", and the other calls are lent none",
+    ),
     ("error", &[Plan, PlanBase], "the others are given no drawing; an error line of a script is no answer of a call"),
 ];
 
@@ -175,9 +205,9 @@ impl Coverage {
                 (false, 0) => format!("{:>8}", "-"),
                 _ => format!("{times:>8}"),
             });
-            format!("\n{name:9}{}", cells.collect::<String>())
+            format!("\n{name:12}{}", cells.collect::<String>())
         };
-        format!("{:9}{head}{}", "", CALLS.map(row).concat())
+        format!("{:12}{head}{}", "", CALLS.map(row).concat())
     }
 
     /// A line for each pair that can occur and did not, or cannot and did.
@@ -211,6 +241,7 @@ impl Display for Coverage {
 fn call_of(command: &Command) -> Option<(Call, Option<u32>)> {
     let call = match command {
         Command::Start(darts) => return Some((Start, Some(*darts))),
+        Command::YarnStart(darts) => return Some((YarnStart, Some(*darts))),
         Command::Reduce(Kind::Contract, _) => Contract,
         Command::Reduce(Kind::Remove, _) => Remove,
         Command::Sweep => Sweep,
@@ -222,6 +253,11 @@ fn call_of(command: &Command) -> Option<(Call, Option<u32>)> {
         Command::Flat { .. } => Flat,
         Command::FlatAreas { .. } => FlatAreas,
         Command::Successor { .. } => Successor,
+        Command::YarnReduce(Kind::Contract, _) => YarnContract,
+        Command::YarnReduce(Kind::Remove, _) => YarnRemove,
+        Command::YarnSweep => YarnSweep,
+        Command::YarnUndo => YarnUndo,
+        Command::YarnUnfold(_) => YarnUnfold,
         _ => return None,
     };
     Some((call, None))

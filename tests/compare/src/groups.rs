@@ -1,7 +1,7 @@
 //! Group == inputs of one sort, each made from its number
 
 use crate::input::Input;
-use crate::{deep, drawings, large, lines, lookups, plans, reads, reports, small, starts, worked};
+use crate::{deep, drawings, large, lines, lookups, plans, reads, reports, small, starts, worked, yarn};
 
 pub struct Group {
     pub name: &'static str,
@@ -33,7 +33,7 @@ impl Group {
     }
 }
 
-pub const GROUPS: [Group; 11] = [
+pub const GROUPS: [Group; 12] = [
     Group::new(
         "worked",
         "document 01's examples, what one test of a pyramid alone refuses, both culprits, small plans and lookups",
@@ -50,5 +50,6 @@ pub const GROUPS: [Group; 11] = [
     Group::new("plans", "the calls on a plan", 30, 300, plans::input),
     Group::new("drawings", "drawn plans for the program plan", 1_000, 6_000, drawings::input),
     Group::new("lookups", "a dart's successor at each level", 16, 160, lookups::input),
+    Group::new("yarn", "the calls with sheets", 18, 180, yarn::input),
     Group::new("large", "maps of 4,096 to 65,536 darts", 30, 200, large::input),
 ];

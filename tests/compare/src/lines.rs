@@ -4,8 +4,8 @@
 
 use crate::input::{Input, Program};
 
-/// "A script is at most 4,000,000 bytes from request One on."
-const MOST_BYTES: usize = 4_000_000;
+/// "A script has at most 3,000,000 bytes."
+const MOST_BYTES: usize = 3_000_000;
 
 /// What stands before the line in question, so that an error is not in line 1 and there is something to show.
 const BEFORE: &str = "lend 2 1 8\ntable 0 1 0\nstart 2\n";
@@ -26,7 +26,7 @@ pub fn input(script: usize) -> Input {
     Input::text(Program::Zones, &bytes)
 }
 
-const LINES: [&str; 132] = [
+const LINES: [&str; 193] = [
     // Words.
     "\n", " \n", "nothing\n", "Counts\n", "count\n", "countss\n", " counts\n", "counts \n", "counts\r\n", "counts\t\n",
     "counts 0\n", "sweep 1\n", "undo 1\n", "show 1\n", "bytes 1\n", "counts\0\n", "counts\u{e9}\n",
@@ -57,7 +57,19 @@ const LINES: [&str; 132] = [
     "successor 2  0 1\n", "successor 2 0 1 \n", "successor 2 0 x\n", "successor 2 -1 0\n",
     "successor 4294967295 0 0\n", "successor 2 4294967295 0\n", "successor 2 0 4294967295\n",
     "successor 4294967296 0 0\n", "successor 2 4294967296 0\n", "successor 2 0 4294967296\n", "successors 2 0 1\n",
-    "Successor 2 0 1\n",
+    "Successor 2 0 1\n", // The rooms of the sheets, the form of a record, and the calls with sheets.
+    "sheet\n", "sheet 0\n", "sheet x\n", "sheet 4294967295\n", "sheet 4294967296\n", "sheet 0 7:0 65535:-\n",
+    "sheet 0 0007:00 007:-\n", "sheet 0 1:18446744073709551615\n", "sheet 0 4294967295:0\n", "sheet 0 4294967296:0\n",
+    "sheet 0 0:18446744073709551616\n", "sheet 0 0:184467440737095516150\n", "sheet 0 7\n", "sheet 0 7:\n",
+    "sheet 0 :7\n", "sheet 0 :-\n", "sheet 0 -\n", "sheet 0 -:7\n", "sheet 0 7:--\n", "sheet 0 7:-0\n",
+    "sheet 0 7:0:0\n", "sheet 0 7:+1\n", "sheet 0 7:0.5\n", "sheet 0 7 :0\n", "sheet 0 7: 0\n", "sheet 0 7:0 \n",
+    "sheet  0 7:0\n", "sheet 0 7:0 7\n", "sheet 0 7;0\n", "sheet 0 7:x\n", "sheet 65539 7:0\n", "sheet 65540 7:0\n",
+    "sheet 65539 7:0 7:0\n", "sheet 4294967295 7:0\n", "kept\n", "kept 0 1:-\n", "kept 0 1\n", "kept 32771 7:0\n",
+    "kept 32772 7:0\n", "kept 4294967295\n", "sheets\n", "sheets 2\n", "sheets 2 1\nyarnundo\n", "sheets 2 1 0\n",
+    "sheets 65536 32768\nyarnundo\n", "sheets 65537 0\n", "sheets 0 32769\n", "sheets 0 4294967297\n", "sheets x 0\n",
+    "yarnstart\n", "yarnstart 2\n", "yarnstart 2 2\n", "sheets 2 1\nyarnstart 02\n", "yarncontract\n",
+    "yarncontract \n", "yarnremove 4294967296\n", "yarnsweep 1\n", "yarnundo 1\n", "yarnunfold\n", "yarnunfold 0 0\n",
+    "yarncounts\n",
 ];
 
 /// Scripts that are in error at their end, or that hold nothing to print.
@@ -67,7 +79,7 @@ const BARE: [&str; 8] = [
 ];
 
 /// Scripts that are too long to write down.
-const LONG: usize = 11;
+const LONG: usize = 16;
 
 fn long(script: usize) -> Vec<u8> {
     let line = match script {
@@ -86,7 +98,13 @@ fn long(script: usize) -> Vec<u8> {
         8 => format!("plan 0{}\n", " 255".repeat(16_389)),
         // "the room of edges' ends, of 32,772 numbers"
         9 => format!("ends 0{}\n", " 3".repeat(32_772)),
-        _ => format!("ends 0{}\n", " 3".repeat(32_773)),
+        10 => format!("ends 0{}\n", " 3".repeat(32_773)),
+        // "the sheet's room (65,540)", "that of the kept records (32,772)"
+        11 => format!("sheet 0{}\n", " 7:-".repeat(65_540)),
+        12 => format!("sheet 0{}\n", " 7:-".repeat(65_541)),
+        13 => format!("kept 0{}\n", " 7:-".repeat(32_773)),
+        14 => format!("yarncontract{}\n", " 0".repeat(32_772)),
+        _ => format!("yarnremove{}\n", " 0".repeat(32_773)),
     };
     format!("{BEFORE}{line}{AFTER}").into_bytes()
 }

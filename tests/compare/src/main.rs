@@ -10,11 +10,14 @@
 //! - [`damage`]   states that are no pyramid any more
 //! - [`twice`]    histories with an edge twice, which look right everywhere else
 //! - [`ended`]    edges' ends, and tables and ends that come from no pyramid
+//! - [`records`]  records of a sheet: fit, unfit, and others
+//! - [`sheets`]   both sheets as a script has them, and damage to them
 //! - [`files`]    good files
 //! - [`spoil`]    files with something wrong
 //! - [`input`]    what one run of a program reads
 //! - [`worked`], [`lines`], [`starts`], [`small`], [`deep`], [`reads`], [`reports`], [`plans`], [`drawings`], [`lookups`],
-//!   [`large`]  the inputs, group by group
+//!   [`yarn`], [`large`]  the inputs, group by group
+//! - [`worked_yarn`] the worked script of the calls with sheets
 //! - [`groups`]   the list of these
 //! - [`compare`]  both programs on one input
 //! - [`round`]    both programs on a group's inputs
@@ -39,10 +42,12 @@ mod lines;
 mod lookups;
 mod plans;
 mod reads;
+mod records;
 mod reports;
 mod round;
 mod scene;
 mod script;
+mod sheets;
 mod shrink;
 mod small;
 mod spoil;
@@ -50,6 +55,8 @@ mod starts;
 mod steps;
 mod twice;
 mod worked;
+mod worked_yarn;
+mod yarn;
 
 use compare::Others;
 use coverage::Coverage;

@@ -1,11 +1,14 @@
 //! Scene == a script under way, and the pyramid that the program holds at this point
 //!
-//! The pyramid is the second program's own: it tells which edges are worth proposing next.
+//! The pyramid is the second program's own: it tells which edges are worth proposing next. A scene with sheets makes the calls
+//! that have such a form with them.
 
 use crate::chance::Chance;
 use crate::files;
 use crate::kernels;
-use crate::script::Script;
+use crate::script::{word_of, Script};
+use crate::sheets::{needed_sheets, Sheets};
+use second::answer::Refusal;
 use second::file_write::bytes_of;
 use second::operation::Kind;
 use second::pyramid::Pyramid;
@@ -16,6 +19,7 @@ pub struct Scene<'a> {
     pub pyramid: Pyramid,
     /// What is lent to the calls: at least what D asks for.
     lent: [u32; 3],
+    pub sheets: Option<Sheets>,
 }
 
 impl<'a> Scene<'a> {
@@ -27,21 +31,68 @@ impl<'a> Scene<'a> {
         script.lend(lent);
         script.put("table", 0, base);
         script.numbers("start", &[darts]);
-        Scene { script, pyramid, lent }
+        Scene { script, pyramid, lent, sheets: None }
+    }
+
+    /// The same with sheets, which a start accepts.
+    pub fn start_with(script: &'a mut Script, chance: &mut Chance, base: &[u32], sheets: Sheets) -> Scene<'a> {
+        let pyramid = Pyramid::start(base).expect("a base is a permutation");
+        let lent = enough(chance, base.len() as u32);
+        script.lend(lent);
+        script.numbers("sheets", &sheets.lent);
+        script.put("table", 0, base);
+        script.records("sheet", 0, &sheets.sheet);
+        script.numbers("yarnstart", &[base.len() as u32]);
+        Scene { script, pyramid, lent, sheets: Some(sheets) }
     }
 
     /// A scene that a call on a plan has begun.
     pub fn held(script: &'a mut Script, pyramid: Pyramid, lent: [u32; 3]) -> Scene<'a> {
-        Scene { script, pyramid, lent }
+        Scene { script, pyramid, lent, sheets: None }
+    }
+
+    /// The line of a call that has a form with sheets.
+    fn line(&mut self, word: &str, numbers: &[u32]) {
+        let form = if self.sheets.is_some() { "yarn" } else { "" };
+        self.script.numbers(&format!("{form}{word}"), numbers);
+    }
+
+    /// Moves pyramid and sheets along. With sheets that nothing gives a call is refused, whatever it is.
+    fn change(&mut self, act: impl FnOnce(&mut Pyramid) -> Result<(), Refusal>) {
+        let Some(sheets) = &mut self.sheets else {
+            act(&mut self.pyramid).ok();
+            return;
+        };
+        let Some(first) = sheets.first(&self.pyramid) else { return };
+        if act(&mut self.pyramid).is_ok() {
+            sheets.store(&first, &self.pyramid);
+        }
+    }
+
+    /// Are the sheets, where there are any, such that an accepted start and the operations give them?
+    pub fn given(&mut self) -> bool {
+        self.sheets.as_mut().is_none_or(|sheets| sheets.first(&self.pyramid).is_some())
     }
 
     /// Starts from the table as it stands; where that is refused, the state is put back.
     pub fn start_again(&mut self) {
-        self.script.numbers("start", &[self.darts()]);
+        self.line("start", &[self.darts()]);
         match Pyramid::start(self.pyramid.map().table()) {
-            Ok(pyramid) => self.pyramid = pyramid,
-            Err(_) => self.state_again(),
+            Ok(pyramid) if self.sheets.as_mut().is_none_or(|sheets| sheets.fit(pyramid.map())) => {
+                self.pyramid = pyramid
+            }
+            _ => self.state_again(),
         }
+    }
+
+    /// A start that is refused, or one of another number of darts: what it hands back is not followed.
+    pub fn start_refused(&mut self, darts: u32) {
+        self.line("start", &[darts]);
+    }
+
+    /// An undo that is refused.
+    pub fn undo_refused(&mut self) {
+        self.line("undo", &[]);
     }
 
     pub fn darts(&self) -> u32 {
@@ -54,23 +105,23 @@ impl<'a> Scene<'a> {
 
     /// A kernel, accepted or not.
     pub fn reduce(&mut self, kind: Kind, edges: &[u32]) {
-        self.script.reduce(kind, edges);
-        self.pyramid.reduce(kind, edges).ok();
+        self.line(word_of(kind), edges);
+        self.change(|pyramid| pyramid.reduce(kind, edges));
     }
 
     pub fn sweep(&mut self) {
-        self.script.word("sweep");
-        self.pyramid.sweep().ok();
+        self.line("sweep", &[]);
+        self.change(Pyramid::sweep);
     }
 
     pub fn undo(&mut self) {
-        self.script.word("undo");
-        self.pyramid.undo().ok();
+        self.line("undo", &[]);
+        self.change(Pyramid::undo);
     }
 
     pub fn unfold(&mut self, k: u32) {
-        self.script.numbers("unfold", &[k]);
-        self.pyramid.unfold(k as usize).ok();
+        self.line("unfold", &[k]);
+        self.change(|pyramid| pyramid.unfold(k as usize));
     }
 
     /// A file. What it holds goes on under the file's numbers; where it is refused, or holds another number of darts
@@ -89,8 +140,14 @@ impl<'a> Scene<'a> {
         self.script.word("bytes");
     }
 
-    /// Lends one number too few of one of the slices, until `lend_again`.
+    /// Lends one number too few of one of the slices, or one record too few, until `lend_again`.
     pub fn lend_one_short(&mut self, chance: &mut Chance) {
+        if self.sheets.is_some() && chance.one_in(2) {
+            let mut lent = needed_sheets(self.darts());
+            lent[chance.place(2)] -= 1;
+            self.script.numbers("sheets", &lent);
+            return;
+        }
         let mut lent = needed(self.darts());
         lent[chance.place(3)] -= 1;
         self.script.lend(lent);
@@ -98,6 +155,9 @@ impl<'a> Scene<'a> {
 
     pub fn lend_again(&mut self) {
         self.script.lend(self.lent);
+        if let Some(sheets) = &self.sheets {
+            self.script.numbers("sheets", &sheets.lent);
+        }
     }
 
     /// Puts the state back, after a call that handed back zeros.
@@ -105,11 +165,14 @@ impl<'a> Scene<'a> {
         self.script.state(&self.pyramid.state());
     }
 
-    /// Puts state, table and history back, after the script changed them.
+    /// Puts state, table and history back, after the script changed them, and the sheets, which a call may have changed since.
     pub fn all_again(&mut self) {
         self.state_again();
         self.script.put("table", 0, self.pyramid.map().table());
         self.script.put("history", 0, self.pyramid.history());
+        if let Some(sheets) = &self.sheets {
+            sheets.put(self.script);
+        }
     }
 
     /// Numbers where no call may look: the work area, the table past D, the history past the count.
@@ -130,11 +193,11 @@ impl<'a> Scene<'a> {
             0 | 1 => {
                 let length = chance.below(4);
                 let edges = kernels::anything(chance, self.pyramid.map(), length);
-                self.script.reduce(chance.kind(), &edges);
+                self.line(word_of(chance.kind()), &edges);
             }
-            2 => self.script.word("sweep"),
-            3 => self.script.word("undo"),
-            4 => self.script.numbers("unfold", &[chance.below(self.top() + 2)]),
+            2 => self.line("sweep", &[]),
+            3 => self.line("undo", &[]),
+            4 => self.line("unfold", &[chance.below(self.top() + 2)]),
             5 => self.script.word("counts"),
             _ => self.script.numbers("write", &[chance.pick(&[0, 40, 2_000])]),
         }

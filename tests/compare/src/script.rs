@@ -1,6 +1,7 @@
 //! Script == commands for the program `zones`, one after another
 
 use second::operation::Kind;
+use second::record::{Record, Yarn};
 use second::state::State;
 
 #[derive(Default)]
@@ -46,6 +47,19 @@ impl Script {
         self.numbers(room, &[&[from], numbers].concat());
     }
 
+    /// `sheet I R R ..`, or the same for the kept records. "A record is `S:M`", or `S:-`.
+    pub fn records(&mut self, room: &str, from: u32, records: &[Record]) {
+        let mut line = format!("{room} {from}");
+        for Record { stitches, yarn } in records {
+            line.push_str(&match yarn {
+                Yarn::Metres(metres) => format!(" {stitches}:{}", metres.to_bits()),
+                Yarn::NotMeasured => format!(" {stitches}:-"),
+            });
+        }
+        line.push('\n');
+        self.push(line.into_bytes());
+    }
+
     pub fn lend(&mut self, [table, history, work]: [u32; 3]) {
         self.numbers("lend", &[table, history, work]);
     }
@@ -57,14 +71,18 @@ impl Script {
     }
 
     pub fn reduce(&mut self, kind: Kind, edges: &[u32]) {
-        let word = match kind {
-            Kind::Contract => "contract",
-            Kind::Remove => "remove",
-        };
-        self.numbers(word, edges);
+        self.numbers(word_of(kind), edges);
     }
 
     pub fn read(&mut self, file: &[u8]) {
         self.push([format!("read {}\n", file.len()).as_bytes(), file, b"\n"].concat());
+    }
+}
+
+/// The word of a kernel's line.
+pub fn word_of(kind: Kind) -> &'static str {
+    match kind {
+        Kind::Contract => "contract",
+        Kind::Remove => "remove",
     }
 }

@@ -117,8 +117,9 @@ pub fn write(scene: &mut Scene, chance: &mut Chance) {
 pub fn one_short(scene: &mut Scene, chance: &mut Chance) {
     scene.lend_one_short(chance);
     match chance.below(4) {
-        0 => scene.script.numbers("start", &[scene.darts()]),
-        1 => scene.script.read(&bytes_of(&scene.pyramid)),
+        0 => scene.start_refused(scene.darts()),
+        // A reader is lent no sheets.
+        1 if scene.sheets.is_none() => scene.script.read(&bytes_of(&scene.pyramid)),
         _ => scene.any_call(chance),
     }
     scene.state_again();

@@ -1,5 +1,5 @@
 //! Group `worked`: what document 01 works out by hand, the cases that only one test of a pyramid refuses, and tables that are
-//! no permutation, plans and lookups that can be followed by eye
+//! no permutation, plans, lookups and sheets that can be followed by eye
 //!
 //! These are fixed. Chance reaches them late or never.
 
@@ -7,10 +7,11 @@ use crate::files::from_one;
 use crate::input::Input;
 use crate::scene::needed;
 use crate::script::Script;
+use crate::worked_yarn;
 use second::operation::kind_of;
 use second::state::State;
 
-pub const SCRIPTS: usize = 5;
+pub const SCRIPTS: usize = 6;
 
 pub fn input(script: usize) -> Input {
     Input::script(match script {
@@ -18,7 +19,8 @@ pub fn input(script: usize) -> Input {
         1 => no_pyramids(),
         2 => culprits(),
         3 => plans(),
-        _ => lookups(),
+        4 => lookups(),
+        _ => worked_yarn::script(),
     })
 }
 

@@ -1,5 +1,5 @@
 //! Answer  == the number and the two places that a call gives
-//! Refusal == the answers 1 to 15, case by case
+//! Refusal == the answers 1 to 16, case by case
 
 /// What a call answers.
 #[derive(Clone, Copy, Debug, PartialEq, Eq)]
@@ -57,6 +57,8 @@ pub enum Refusal {
     BadFlag,
     /// 15: "plan size outside the limits, or one cell alone"
     PlanSize,
+    /// 16: "metres not from 0 to 100,000 (a NaN is not) or stitches too many, place the first such record"
+    UnfitRecord { place: usize },
 }
 
 impl Refusal {
@@ -81,6 +83,7 @@ impl Refusal {
             Refusal::BadForm { byte } => (13, byte),
             Refusal::BadFlag => (14, 8),
             Refusal::PlanSize => (15, 0),
+            Refusal::UnfitRecord { place } => (16, place),
         };
         Answer { number, place, second: self.second() }
     }

@@ -9,6 +9,8 @@
 //!
 //! Request Four adds one: "Successor at a level without unfolding." It is given no state and hands back none.
 //!
+//! Request Five gives five of them a second form, which is lent the two sheets (`yarn`).
+//!
 //! The calls on a state answer from the levels that are kept beside it (`kept`).
 
 use crate::answer::{Answer, Refusal};
@@ -28,7 +30,7 @@ use crate::state::State;
 use crate::two_ways::agree;
 
 /// The answer to an outcome, with what it hands back: its own value, or the one for a refusal.
-fn answered<T>(outcome: Result<T, Refusal>, refused: T) -> (Answer, T) {
+pub(crate) fn answered<T>(outcome: Result<T, Refusal>, refused: T) -> (Answer, T) {
     match outcome {
         Ok(value) => (Answer::done(0), value),
         Err(refusal) => (refusal.answer(), refused),
@@ -36,7 +38,7 @@ fn answered<T>(outcome: Result<T, Refusal>, refused: T) -> (Answer, T) {
 }
 
 /// What all calls on a state have in common: 1 and 2, then 4, then what the call itself does, then the work area.
-fn on_pyramid<T>(
+pub(crate) fn on_pyramid<T>(
     call: &str,
     state: &State,
     lent: &mut Lent,
@@ -70,7 +72,7 @@ fn change(
 }
 
 /// A call that begins a pyramid. "A refused start or read, which was given none, hands back a state of zeros."
-fn begin(outcome: Result<Pyramid, Refusal>, kept: &mut Kept) -> (Answer, State) {
+pub(crate) fn begin(outcome: Result<Pyramid, Refusal>, kept: &mut Kept) -> (Answer, State) {
     kept.drop_levels();
     let outcome = outcome.map(|pyramid| {
         let state = pyramid.state();
@@ -81,7 +83,7 @@ fn begin(outcome: Result<Pyramid, Refusal>, kept: &mut Kept) -> (Answer, State) 
 }
 
 /// The base that a table is. It stays as it is; the history is not read.
-fn start_pyramid(darts: u32, lent: &mut Lent) -> Result<Pyramid, Refusal> {
+pub(crate) fn start_pyramid(darts: u32, lent: &mut Lent) -> Result<Pyramid, Refusal> {
     lent.judge(darts)?;
     let outcome = Pyramid::start(lent.entries(darts));
     lent.clear_work(darts);

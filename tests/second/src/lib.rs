@@ -15,7 +15,11 @@
 //! - [`plan`]       the map of a plan, and its first kernel
 //! - [`ends`]       is a base table, with its edges' ends, that of a pyramid?
 //! - [`lookup`]     a dart's successor at a level: from the level as it is stored, and by a walk
+//! - [`record`]     the stitches and the yarn of one zone
+//! - [`merges`]     which two records each operation merges: zones as sets of base vertices
+//! - [`sheets`]     the lent sheets: do an accepted start and these operations give them?
 //! - [`calls`]      the eleven calls
+//! - [`yarn`]       five of them with the sheets
 //! - [`scan`]       the bytes of a file from left to right
 //! - [`file_read`]  what a file means
 //! - [`file_write`] a pyramid's file
@@ -39,12 +43,16 @@ pub mod lent;
 pub mod levels;
 pub mod lookup;
 pub mod map;
+pub mod merges;
 pub mod operation;
 pub mod plan;
 pub mod pyramid;
+pub mod record;
 pub mod rooms;
 pub mod scan;
 pub mod script;
+pub mod sheets;
 pub mod state;
 pub mod two_ways;
+pub mod yarn;
 pub mod zones;

@@ -3,7 +3,8 @@
 
 use crate::operation::Kind;
 use crate::plan::Grid;
-use crate::rooms::Room;
+use crate::record::{Record, Yarn};
+use crate::rooms::{Room, SheetRoom};
 use crate::state::{State, MOST_LEVELS};
 
 /// "A kernel has at most 32,772 edges; a longer one is an error line."
@@ -14,6 +15,8 @@ pub enum Command<'a> {
     Lend { table: usize, history: usize, work: usize },
     Put { room: Room, from: usize, numbers: Vec<u32> },
     PutPlan { from: usize, codes: Vec<u8> },
+    PutRecords { room: SheetRoom, from: usize, records: Vec<Record> },
+    Sheets { sheet: usize, kept: usize },
     Fill(u32),
     State(Box<State>),
     Start(u32),
@@ -25,6 +28,11 @@ pub enum Command<'a> {
     Unfold(u32),
     Counts,
     Successor { darts: u32, k: u32, dart: u32 },
+    YarnStart(u32),
+    YarnReduce(Kind, Vec<u32>),
+    YarnSweep,
+    YarnUndo,
+    YarnUnfold(u32),
     Read(&'a [u8]),
     Write(usize),
     Show,
@@ -61,6 +69,11 @@ impl<'a> Commands<'a> {
         let line = self.line()?;
         let mut words = line.split(|&byte| byte == b' ');
         let word = words.next()?;
+        match word {
+            b"sheet" => return put_records(SheetRoom::Sheet, words),
+            b"kept" => return put_records(SheetRoom::Kept, words),
+            _ => (),
+        }
         let numbers: Vec<u32> = words.map(number).collect::<Option<_>>()?;
         match (word, numbers.as_slice()) {
             (b"lend", &[table, history, work]) => {
@@ -71,6 +84,7 @@ impl<'a> Commands<'a> {
             (b"work", numbers) => put(Room::Work, numbers),
             (b"ends", numbers) => put(Room::Ends, numbers),
             (b"plan", numbers) => put_plan(numbers),
+            (b"sheets", &[sheet, kept]) => Some(Command::Sheets { sheet: sheet as usize, kept: kept as usize }),
             (b"fill", &[value]) => Some(Command::Fill(value)),
             (b"state", numbers) => state(numbers).map(|state| Command::State(Box::new(state))),
             (b"start", &[darts]) => Some(Command::Start(darts)),
@@ -80,13 +94,19 @@ impl<'a> Commands<'a> {
             (b"flatareas", &[wales, courses, length]) => {
                 Some(Command::FlatAreas { grid: Grid { wales, courses }, length: length as usize })
             }
-            (b"contract", edges) => reduce(Kind::Contract, edges),
-            (b"remove", edges) => reduce(Kind::Remove, edges),
+            (b"contract", edges) => kernel(edges).map(|edges| Command::Reduce(Kind::Contract, edges)),
+            (b"remove", edges) => kernel(edges).map(|edges| Command::Reduce(Kind::Remove, edges)),
             (b"sweep", []) => Some(Command::Sweep),
             (b"undo", []) => Some(Command::Undo),
             (b"unfold", &[k]) => Some(Command::Unfold(k)),
             (b"counts", []) => Some(Command::Counts),
             (b"successor", &[darts, k, dart]) => Some(Command::Successor { darts, k, dart }),
+            (b"yarnstart", &[darts]) => Some(Command::YarnStart(darts)),
+            (b"yarncontract", edges) => kernel(edges).map(|edges| Command::YarnReduce(Kind::Contract, edges)),
+            (b"yarnremove", edges) => kernel(edges).map(|edges| Command::YarnReduce(Kind::Remove, edges)),
+            (b"yarnsweep", []) => Some(Command::YarnSweep),
+            (b"yarnundo", []) => Some(Command::YarnUndo),
+            (b"yarnunfold", &[k]) => Some(Command::YarnUnfold(k)),
             (b"read", &[length]) => self.file(length).map(Command::Read),
             (b"write", &[length]) => Some(Command::Write(length as usize)),
             (b"show", []) => Some(Command::Show),
@@ -109,13 +129,35 @@ impl<'a> Iterator for Commands<'a> {
 
 /// "A number is one or more digits; leading zeros are allowed; its value is at most 4294967295."
 fn number(word: &[u8]) -> Option<u32> {
+    u32::try_from(long_number(word)?).ok()
+}
+
+/// The same up to 18446744073709551615, the most that 64 bits hold.
+fn long_number(word: &[u8]) -> Option<u64> {
     if word.is_empty() {
         return None;
     }
-    word.iter().try_fold(0u32, |value, byte| {
-        let digit = byte.is_ascii_digit().then(|| u32::from(byte - b'0'))?;
+    word.iter().try_fold(0u64, |value, byte| {
+        let digit = byte.is_ascii_digit().then(|| u64::from(byte - b'0'))?;
         value.checked_mul(10)?.checked_add(digit)
     })
+}
+
+/// "A record is `S:M`: S its stitches, M its metres as the number of their 64 bits .., or `-` for not measured."
+fn record(word: &[u8]) -> Option<Record> {
+    let colon = word.iter().position(|&byte| byte == b':')?;
+    let yarn = match &word[colon + 1..] {
+        b"-" => Yarn::NotMeasured,
+        bits => Yarn::Metres(f64::from_bits(long_number(bits)?)),
+    };
+    Some(Record { stitches: number(&word[..colon])?, yarn })
+}
+
+/// "`sheet I R R ..`, `kept I R R ..`: puts records into the sheet's room .. or that of the kept records"
+fn put_records<'a>(room: SheetRoom, mut words: impl Iterator<Item = &'a [u8]>) -> Option<Command<'a>> {
+    let from = number(words.next()?)? as usize;
+    let records = words.map(record).collect::<Option<_>>()?;
+    Some(Command::PutRecords { room, from, records })
 }
 
 /// "`table I V V ...`: puts the numbers into the table's room from place I on"
@@ -140,6 +182,6 @@ fn state(numbers: &[u32]) -> Option<State> {
 }
 
 /// "`contract E E ...`, `remove E E ...`: reduce by that kernel (no edge: the empty kernel)"
-fn reduce<'a>(kind: Kind, edges: &[u32]) -> Option<Command<'a>> {
-    (edges.len() <= MOST_EDGES).then(|| Command::Reduce(kind, edges.to_vec()))
+fn kernel(edges: &[u32]) -> Option<Vec<u32>> {
+    (edges.len() <= MOST_EDGES).then(|| edges.to_vec())
 }

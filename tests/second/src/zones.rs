@@ -9,10 +9,12 @@ use crate::lent::Lent;
 use crate::lookup::Found;
 use crate::rooms::{checksum, Room, Rooms};
 use crate::script::{Command, Commands};
+use crate::sheets::LentSheets;
 use crate::state::{State, MOST_LEVELS};
+use crate::yarn;
 
-/// "A script is at most 4,000,000 bytes from request One on."
-const MOST_BYTES: usize = 4_000_000;
+/// "A script has at most 3,000,000 bytes."
+const MOST_BYTES: usize = 3_000_000;
 
 /// What a script prints.
 pub fn run(script: &[u8]) -> Vec<u8> {
@@ -62,6 +64,8 @@ impl Zones {
             Command::Lend { table, history, work } => self.rooms.set_lent(table, history, work)?,
             Command::Put { room, from, numbers } => self.put(room, from, &numbers)?,
             Command::PutPlan { from, codes } => self.rooms.put_plan(from, &codes)?,
+            Command::PutRecords { room, from, records } => self.rooms.put_records(room, from, &records)?,
+            Command::Sheets { sheet, kept } => self.rooms.set_lent_sheets(sheet, kept)?,
             Command::Fill(value) => self.rooms.fill(value),
             Command::State(state) => self.set_state(*state),
             Command::Start(darts) => self.call(|_, lent, kept| calls::start(darts, lent, kept)),
@@ -79,6 +83,20 @@ impl Zones {
             Command::Unfold(k) => self.call(|state, lent, kept| calls::unfold(state, k, lent, kept)),
             Command::Counts => self.counts(),
             Command::Successor { darts, k, dart } => self.successor(darts, k, dart),
+            Command::YarnStart(darts) => {
+                self.call_with_sheets(|_, lent, sheets, kept| yarn::start(darts, lent, sheets, kept));
+            }
+            Command::YarnReduce(kind, edges) => {
+                let reduce = |state: &State, lent: &mut Lent, sheets: &mut LentSheets, kept: &mut Kept| {
+                    yarn::reduce(state, kind, &edges, lent, sheets, kept)
+                };
+                self.call_with_sheets(reduce);
+            }
+            Command::YarnSweep => self.call_with_sheets(yarn::sweep),
+            Command::YarnUndo => self.call_with_sheets(yarn::undo),
+            Command::YarnUnfold(k) => {
+                self.call_with_sheets(|state, lent, sheets, kept| yarn::unfold(state, k, lent, sheets, kept));
+            }
             Command::Read(file) => self.call(|_, lent, kept| calls::read(file, lent, kept)),
             Command::Write(length) => self.write(length)?,
             Command::Show => self.show(),
@@ -125,6 +143,19 @@ impl Zones {
     fn call(&mut self, call: impl FnOnce(&State, &mut Lent, &mut Kept) -> (Answer, State)) {
         let (answer, state) = call(&self.state, &mut self.rooms.lend(), &mut self.kept);
         self.handed(answer, state);
+    }
+
+    /// A call with sheets: "Their line ends with ` sheet=C kept=C`".
+    fn call_with_sheets(
+        &mut self,
+        call: impl FnOnce(&State, &mut Lent, &mut LentSheets, &mut Kept) -> (Answer, State),
+    ) {
+        let (mut lent, mut sheets) = self.rooms.lend_sheets();
+        let (answer, state) = call(&self.state, &mut lent, &mut sheets, &mut self.kept);
+        self.state = state;
+        self.print_answer(answer, 0);
+        let sheets = self.rooms.checksums_of_sheets();
+        self.print(&format!(" {sheets}\n"));
     }
 
     /// A call on a plan. "The plan that is lent is the room's first N bytes, N at most 16,384."

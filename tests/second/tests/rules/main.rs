@@ -10,6 +10,9 @@
 //! - `undoing`, `any_order`, `files`, `cycles`  random pyramids over maps of up to 12 darts
 //! - `lookups`     the successor at a level: what is found, each refusal, and their order
 //! - `ends`        tables and edges' ends that come from no pyramid; every one of up to 6 darts
+//! - `yarn`        the calls with sheets: merges, undo, each answer and their order
+//! - `merging`     the same on random pyramids: zones and places, stitches of every level, undo, any order, damage
+//! - `closed_form` sheets judged a second way, without undoing
 //! - `plans`       the calls on a plan: bases, first kernels against areas found by flooding, answers
 //! - `drawings`    the program `plan`
 //! - `kept`        the levels kept from call to call: after which call which, and what drops them
@@ -22,6 +25,7 @@
 
 mod accepted;
 mod any_order;
+mod closed_form;
 mod commands;
 mod culprits;
 mod cycles;
@@ -32,6 +36,7 @@ mod files;
 mod kept;
 mod levels;
 mod lookups;
+mod merging;
 mod no_pyramid;
 mod plans;
 mod reader;
@@ -42,3 +47,4 @@ mod support;
 mod two_ways;
 mod undoing;
 mod worked;
+mod yarn;

@@ -118,12 +118,14 @@ fn rubbish_for_ends_gets_an_answer() {
 fn any_line(chance: &mut Chance) -> String {
     let calls = [
         "contract 0 1", "remove 2", "contract 3", "sweep", "undo", "unfold 1", "counts", "write 97", "successor 8 1 6",
+        "yarncontract 0 1", "yarnremove 2", "yarnsweep", "yarnundo", "yarnunfold 1",
     ];
     let by_hand = [
         "table 0 5 2 1 4 6 0 3 7", "table 2 5 4 6 4 6 7", "table 7 7", "table 8 1", "history 0 1 5", "history 2 10",
         "history 3 9", "state 8 3 2 2 3", "state 8 2 1 2", "state 8 0 0", "lend 8 4 32", "fill 9", "start 8",
         "plan 0 1 1 1 1", "plan 1 2", "flat 2 2 4", "flatareas 2 2 4", "flatareas 1 4 4", "flat 1 1 4", "flat 2 3 6",
-        "ends 0 3 3 4 0", "ends 1 2 0 9",
+        "ends 0 3 3 4 0", "ends 1 2 0 9", "sheets 8 4", "sheet 0 1:0 1:- 1:0 1:-", "sheet 0 65536:0", "kept 0 1:0 2:-",
+        "yarnstart 8",
     ];
     match chance.below(8) {
         0 => format!("table {} {}\n", chance.below(8), chance.below(9)),

@@ -202,6 +202,50 @@ fn a_lookup_is_lent_ends_in_the_place_of_the_history() {
     }
 }
 
+/// What records count as: stitches, then the yarn.
+const UNTOUCHED: [u64; 4] = [0, 1, 0, 0];
+
+#[test]
+fn a_call_with_sheets_prints_their_checksums_too() {
+    let records = "sheet 0 7:- 9:4602678819172646913\nkept 0 3:9221120237041090561\n";
+    let script = format!("lend 2 1 8\ntable 0 0 1\nsheets 2 1\n{records}yarnstart 2\n");
+    let sheet = [[7, 0, 0, 0], [9, 1, 1_071_644_672, 1], UNTOUCHED, UNTOUCHED, UNTOUCHED, UNTOUCHED].concat();
+    let kept = [[3, 2, 0, 0], UNTOUCHED, UNTOUCHED, UNTOUCHED, UNTOUCHED].concat();
+    let expected = format!(
+        "answer=0 place=0 second=0 state=2 0 0 ends={} table={} history={} work={} output=30784 sheet={} kept={}\n",
+        sum_to(64, &[]),
+        sum(&[0, 1, 0, 0, 0, 0]),
+        sum_to(5, &[]),
+        sum_to(12, &[]),
+        sum(&sheet),
+        sum(&kept),
+    );
+    assert_eq!(printed(&script), expected);
+    let nothing_lent = sum(&[UNTOUCHED; 4].concat());
+    assert!(printed("yarnundo\n").ends_with(&format!(" output=30784 sheet={nothing_lent} kept={nothing_lent}\n")));
+}
+
+#[test]
+fn calls_with_sheets_follow_one_another_and_plain_ones() {
+    let sheet = "sheets 8 4\nsheet 0 1:- 2:0\nsheet 3 3:0\nsheet 7 4:4607182418800017408\n";
+    let script = format!(
+        "{T_LENT}{sheet}yarnstart 8\nyarncontract 0 1\ncounts\nsheet 2 9:-\nyarnsweep\nyarnundo\nsheet 1 9:0\n\
+         yarnundo\nsheet 1 2:0\nyarnunfold 0\nyarnundo\nyarnremove 1\nundo\ncontract 1\nyarnundo\nsheets 8 3\n\
+         yarnundo\nsheets 8 4\nsheet 7 4:4690000000000000000\nyarnstart 8\ntable 0 5 2 1 4 6 0 3 7\nyarnstart 8\n"
+    );
+    let expected = [
+        "answer=0 place=0 second=0 state=8 0 0", "answer=0 place=0 second=0 state=8 2 1",
+        "answer=0 place=0 second=0 state=8 2 1", "answer=0 place=0 second=0 state=8 3 2",
+        "answer=0 place=0 second=0 state=8 2 1", "answer=4 place=0 second=0 state=8 2 1",
+        "answer=0 place=0 second=0 state=8 0 0", "answer=12 place=0 second=0 state=8 0 0",
+        "answer=0 place=0 second=0 state=8 1 1", "answer=0 place=0 second=0 state=8 0 0",
+        "answer=0 place=0 second=0 state=8 1 1", "answer=4 place=0 second=0 state=8 1 1",
+        "answer=2 place=0 second=0 state=8 1 1", "answer=3 place=3 second=1 state=0 0 0",
+        "answer=16 place=7 second=0 state=0 0 0",
+    ];
+    assert_eq!(short(&script), expected);
+}
+
 #[test]
 fn a_shorter_write_is_shown_alone() {
     let two = "lend 8 4 32\ntable 0 1 0\nstart 2\nwrite 100\nbytes\n";
@@ -236,13 +280,19 @@ fn the_ends_of_the_rooms_can_be_used() {
     );
     assert_eq!(printed(&format!("plan 0{}\n", " 255".repeat(16_388))), "");
     assert_eq!(printed(&format!("ends 0{}\n", " 255".repeat(32_772))), "");
-    assert_eq!(short(&format!("contract{}\n", " 1".repeat(32_772))), ["answer=1 place=0 second=0 state=0 0 0"]);
+    for word in ["contract", "yarnremove"] {
+        assert_eq!(short(&format!("{word}{}\n", " 1".repeat(32_772))), ["answer=1 place=0 second=0 state=0 0 0"]);
+    }
+    assert_eq!(printed("sheets 65536 32768\nsheet 65539 1:-\nkept 32771 1:0\nsheet 4294967295\nkept 4294967295\n"), "");
+    let most = "sheet 0 4294967295:18446744073709551615 0004294967295:000018446744073709551615 00:00 00:-\n";
+    assert_eq!(printed(most), "");
 }
 
 #[test]
 fn error_lines() {
     let too_many_ends = format!("state 1 2 3{}\n", " 0".repeat(65));
     let too_many_edges = format!("remove{}\n", " 1".repeat(32_773));
+    let too_many_for_yarn = format!("yarncontract{}\n", " 1".repeat(32_773));
     let errors = [
         "\n", " \n", " show\n", "show \n", "show\r\n", "show\t\n", "show", "Show\n", "shows\n", "show 1\n",
         "bytes 1\n", "lend\n", "lend 1 2\n", "lend 1 2 3 4\n", "lend 65537 0 0\n", "lend 0 32769 0\n",
@@ -260,8 +310,16 @@ fn error_lines() {
         "ends\n", "ends x\n", "ends 32772 1\n", "ends 32771 1 2\n", "ends 4294967295 1\n", "ends 4294967296\n",
         "ends 0 4294967296\n", "ends 0 -1\n", "ends 0 1 \n", "ends 0  1\n", "end 0 1\n", "Ends 0 1\n", "successor\n",
         "successor 8\n", "successor 8 1\n", "successor 8 1 6 0\n", "successor 8 1 \n", "successor 8  1 6\n",
-        "successor 8 1 x\n", "successor 8 1 4294967296\n", "successors 8 1 6\n", "sheet 0 0:0\n", "zones\n",
-        "\u{e4}\n", &too_many_ends, &too_many_edges,
+        "successor 8 1 x\n", "successor 8 1 4294967296\n", "successors 8 1 6\n", "zones\n", "sheet\n", "sheet x\n",
+        "sheet 4294967296\n", "sheet 0 0\n", "sheet 0 0:\n", "sheet 0 :0\n", "sheet 0 :\n", "sheet 0 0:0:0\n",
+        "sheet 0 0:-1\n", "sheet 0 0:--\n", "sheet 0 -:0\n", "sheet 0 0:0 \n", "sheet 0  0:0\n", "sheet 0 0: 0\n",
+        "sheet 0 4294967296:0\n", "sheet 0 0:18446744073709551616\n", "sheet 0 0:0.5\n", "sheet 0:0\n",
+        "sheet 65540 0:0\n", "sheet 65539 0:0 0:0\n", "sheet 4294967295 0:0\n", "sheet 0 0:0 1\n", "Sheet 0 0:0\n",
+        "kept\n", "kept 0 0\n", "kept 32772 0:-\n", "kept 32771 0:- 0:-\n", "kept 0 x:0\n", "sheets\n", "sheets 8\n",
+        "sheets 8 4 0\n", "sheets 65537 0\n", "sheets 0 32769\n", "sheets 0 4294967295\n", "sheets x 0\n", "yarn\n",
+        "yarnstart\n", "yarnstart 8 8\n", "yarncontract \n", "yarncontract x\n", "yarnremove 4294967296\n",
+        "yarnsweep 1\n", "yarnundo 1\n", "yarnunfold\n", "yarnunfold 1 2\n", "yarncounts\n", "yarn start 8\n",
+        "\u{e4}\n", &too_many_ends, &too_many_edges, &too_many_for_yarn,
     ];
     for line in errors {
         assert_eq!(printed(line), "error=1\n", "{line:?}");
@@ -275,11 +333,11 @@ fn nothing_follows_an_error_line() {
 }
 
 #[test]
-fn a_script_may_have_four_million_bytes() {
+fn a_script_may_have_three_million_bytes() {
     let line = "fill 1\n";
-    let script = line.repeat(4_000_000 / line.len() - 1) + "x";
-    let script = format!("{}{script}", "\n".repeat(4_000_000 - script.len()));
-    assert_eq!(script.len(), 4_000_000);
+    let script = line.repeat(3_000_000 / line.len() - 1) + "x";
+    let script = format!("{}{script}", "\n".repeat(3_000_000 - script.len()));
+    assert_eq!(script.len(), 3_000_000);
     assert_eq!(printed(&script), "error=1\n");
     assert_eq!(printed(&format!("{script}\n")), "error=0\n");
 }

@@ -1,6 +1,7 @@
 //! What several tests use.
 
 pub mod chance;
+pub mod costed;
 pub mod ended;
 pub mod lot;
 pub mod maps;
