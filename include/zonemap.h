@@ -6,6 +6,10 @@
  * crates/darts/specs/Calls.antt, of crates/grids/specs/Plans.antt for the two on a plan, or of crates/ends/specs/Lookup.antt
  * for zm_successor, for every input, refusals too.
  *
+ * The five calls with sheets of yarn records (docs/CALLS.md) have no function here yet: a function for C takes no enum, nor a
+ * slice of structs that hold one, and one over plain numbers would copy both sheets at each call. So answer 16, which the start
+ * with sheets alone gives, is not in the list below.
+ *
  * What a caller lends
  *
  *   state    67 numbers: D (the number of darts), the number of operations, the number of levels, then the 64 level ends
