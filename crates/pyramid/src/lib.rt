@@ -1,4 +1,4 @@
-// The calls on a state: start, reduce, sweep, undo, unfold, counts.
+// The calls on a state: start, reduce, sweep, undo, unfold, counts; all but the last once more with sheets of records.
 mod checking;
 mod counting;
 mod judging;
