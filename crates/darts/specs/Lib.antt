@@ -15,6 +15,9 @@ pub mod File
 pub mod Scan
 pub mod Read
 pub mod Calls
+pub mod Stored
+pub mod Moves
 pub mod Worked
 pub mod WorkedLent
 pub mod WorkedPass
+pub mod WorkedStored

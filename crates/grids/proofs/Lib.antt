@@ -9,8 +9,12 @@ pub mod Cells
 pub mod Successors
 pub mod Limits
 pub mod PlanBase
+pub mod Turns
+pub mod Faces
+pub mod Border
 pub mod OnePiece
 pub mod CellsCounted
+pub mod FacesCounted
 pub mod Areas
 pub mod Planning
 pub mod Begun

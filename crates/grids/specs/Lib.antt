@@ -1,4 +1,5 @@
 pub mod Grid
 pub mod Base
 pub mod Plans
+pub mod Stored
 pub mod Worked

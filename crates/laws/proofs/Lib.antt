@@ -8,3 +8,5 @@ pub mod calls
 pub mod sentences
 pub mod chained
 pub mod merging
+pub mod moves
+pub mod stored

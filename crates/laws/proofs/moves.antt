@@ -1,0 +1,6 @@
+pub mod Contractions
+pub mod Kept
+pub mod Steps
+pub mod Numbers
+pub mod Stored
+pub mod Called
