@@ -50,50 +50,20 @@ fn label_cycle(work: &mut [u32], d: usize, k: usize, i: usize)
     }
 }
 
-// From a fresh forest: each survivor that no lower dart has reached writes itself at its whole cycle.
-fn label_cycles(work: &mut [u32], d: usize, k: usize)
+// From a fresh forest: each survivor that no lower dart has reached writes itself at its whole cycle, and is counted.
+fn label_cycles(work: &mut [u32], d: usize, k: usize) -> usize
     requires { ⌜ Room d (now work) ⌝ }
     requires { ⌜ Perm d (stepIn d k (now work)) ⌝ }
     requires { ⌜ Fresh d (forestIn d (now work)) ⌝ }
-    ensures { λ r. ⌜ Labelled d k (now (work .entry)) (now (work .exit)) ⌝ }
-{
-    let mut i = 0;
-    while i < d {
-        if at(work, d + i) < d {
-            if at(work, 2 * d + i) == i {
-                label_cycle(work, d, k, i);
-                i += 1;
-            } else {
-                i += 1;
-            }
-        } else {
-            i += 1;
-        }
-    }
-}
-
-// The forest becomes one tree for each cycle, with the lowest dart as root: faces where k is 0, vertices where k is 1.
-pub fn label(work: &mut [u32], d: usize, k: usize)
-    requires { ⌜ Room d (now work) ⌝ }
-    requires { ⌜ Perm d (stepIn d k (now work)) ⌝ }
-    ensures { λ r. ⌜ Labelled d k (now (work .entry)) (now (work .exit)) ⌝ }
-{
-    let a = 2 * d;
-    let e = 3 * d;
-    forest::fresh(&mut work[a..e]);
-    label_cycles(work, d, k);
-}
-
-// How many survivors are their own parents: after `label` the number of faces or vertices.
-pub fn count(work: &[u32], d: usize) -> usize
-    requires { ⌜ Room d (now work) ⌝ }
-    ensures { λ r. ⌜ r ≡ rootsIn d (now (work .entry)) d ⌝ }
+    ensures { λ _. ⌜ Labelled d k (now (work .entry)) (now (work .exit)) ⌝ }
+    ensures { λ r. ⌜ r ≡ rootsIn d (now (work .exit)) d ⌝ }
 {
     let mut n = 0;
     let mut i = 0;
     while i < d {
         if at(work, d + i) < d {
             if at(work, 2 * d + i) == i {
+                label_cycle(work, d, k, i);
                 n += 1;
                 i += 1;
             } else {
@@ -104,4 +74,17 @@ pub fn count(work: &[u32], d: usize) -> usize
         }
     }
     n
+}
+
+// The forest becomes one tree for each cycle, with the lowest dart as root: faces where k is 0, vertices where k is 1. How many there are.
+pub fn label(work: &mut [u32], d: usize, k: usize) -> usize
+    requires { ⌜ Room d (now work) ⌝ }
+    requires { ⌜ Perm d (stepIn d k (now work)) ⌝ }
+    ensures { λ _. ⌜ Labelled d k (now (work .entry)) (now (work .exit)) ⌝ }
+    ensures { λ r. ⌜ r ≡ rootsIn d (now (work .exit)) d ⌝ }
+{
+    let a = 2 * d;
+    let e = 3 * d;
+    forest::fresh(&mut work[a..e]);
+    label_cycles(work, d, k)
 }

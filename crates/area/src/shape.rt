@@ -4,13 +4,14 @@ use slices::at;
 ghost use mathlib.Core.Path.{_≡_};
 ghost use Prim.Native.Nat.{_≤_, _<_};
 ghost use lib.ListN.{length, take, drop};
+ghost use Rattle.darts.specs.Moves.{contractionsIn};
 ghost use Rattle.darts.specs.Tests.{oneKind, rises, zeros, shaped};
 ghost use Rattle.slices.specs.Part.{part};
 ghost use Rattle.area.specs.Area.{Room};
 ghost use Rattle.area.specs.Shape.{stateWith, historyIn, hasKind};
 
 // Whether one of the history numbers at the places from `from` to `to` is of kind k.
-pub fn has_kind(work: &[u32], from: usize, to: usize, k: usize) -> bool
+fn has_kind(work: &[u32], from: usize, to: usize, k: usize) -> bool
     requires { ⌜ to ≤ length (now work) ⌝ }
     ensures { λ r. ⌜ r ≡ hasKind k (part from to (now (work .entry))) ⌝ }
 {
@@ -22,6 +23,20 @@ pub fn has_kind(work: &[u32], from: usize, to: usize, k: usize) -> bool
         i += 1;
     }
     false
+}
+
+// How many of the history numbers at the places from `from` to `to` are contractions'.
+pub fn contractions(numbers: &[u32], from: usize, to: usize) -> usize
+    requires { ⌜ (from ≤ to) × (to ≤ length (now numbers)) ⌝ }
+    ensures { λ r. ⌜ r ≡ contractionsIn (part from to (now (numbers .entry))) ⌝ }
+{
+    let mut n = 0;
+    let mut i = from;
+    while i < to {
+        n += at(numbers, i) % 2;
+        i += 1;
+    }
+    n
 }
 
 // Whether they are of one kind, the first one's: none is of the other.

@@ -5,7 +5,9 @@
 --   too-many        == no where there are more than D/2 operations
 --   load-no         == no where tests 1 to 5 fail
 --   loaded-area     == loaded: the work area holds the map
+--   check-finds     == its numbers are those of the table and the history
 --   decide-no       == no where the decision says no
+--   decide-base     == a base stands there still, and its forest judges the coming kernel
 --   decide-yes      == loaded again: the work area holds the map, and its forest judges the coming kernel
 use mathlib.Core.Bool.{Bool, true, false, false≢true}
 use mathlib.Core.List.{List}
@@ -19,11 +21,14 @@ use Rattle.darts.specs.Calls.{tableOf, pastOf}
 use Rattle.darts.specs.Pyramid.{Pyramid, isPyramid}
 use Rattle.darts.specs.State.{State}
 use Rattle.laws.proofs.claims.Decided.{pyramid-decided}
-use Rattle.area.specs.Area.{Room, tried}
+use Rattle.area.specs.Area.{Room, tableIn, pastIn, tried}
 use Rattle.area.specs.Load.{loads}
 use Rattle.engine.specs.Held.{Area, Beyond}
 use Rattle.engine.specs.Checks.{Decided, Checked}
+use Rattle.engine.specs.Counted.{FindsCycles}
+use Rattle.engine.specs.declared.Found.{Found}
 use Rattle.engine.proofs.Area.{room-kept}
+use Rattle.engine.proofs.Beside.{beside-table, beside-past, beside-area, beside-rooted}
 use Rattle.engine.proofs.Decides.{refuted, pyramid-loads, pyramid-few}
 use Rattle.engine.proofs.Given.{linked-stand}
 use Rattle.engine.proofs.Loaded.{Loaded, loads-right}
@@ -76,6 +81,11 @@ module _ (s : State) (coming : ℕ) (t h : List ℕ) where
     unfolding tableOf pastOf
     load-no e = refuses (loaded-beyond L) (λ P. rw (← (L .fine), e) at (pyramid-loads P))
 
+    -- what is found of the loaded map is found of the table and the history
+    pub check-finds : {f : Found} → FindsCycles D (tableIn D v) (pastIn D n v) f → FindsCycles D (tableOf s t) (pastOf s h) f
+    unfolding tableOf pastOf
+    check-finds F = rw (L .table, L .past) at F
+
     module _ (fine : m ≡ true) where
       pub loaded-area : Area D n v
       loaded-area = L .area (true→T fine)
@@ -88,9 +98,24 @@ module _ (s : State) (coming : ℕ) (t h : List ℕ) where
         u-beyond : Beyond D w u
         u-beyond = beyond-trans (loaded-beyond L) (decided-beyond δ)
 
-        pub decide-no : b ≡ false → Checked s coming t h w u false
+        pub decide-no : b ≡ false → Checked s coming t h w u b
         decide-no e =
-            refuses u-beyond (λ P. rw (← decided, e) at (pyramid-decided s (tableOf s t) (pastOf s h) .1 P))
+            rw e (refuses u-beyond (λ P. rw (← decided, e) at (pyramid-decided s (tableOf s t) (pastOf s h) .1 P)))
+
+        -- A BASE STANDS THERE STILL
+        pub decide-base : b ≡ true → n ≡ 0 → Checked s coming t h w u b
+        unfolding tableOf pastOf
+        decide-base e none =
+            let o = δ .kept e none in
+            let A = beside-area o loaded-area in
+            record {
+              answer = decided;
+              beyond = u-beyond;
+              area = λ _. A;
+              table = λ _. beside-table o ∙ L .table;
+              past = λ _. beside-past o n ∙ L .past;
+              ready = λ _ k. record { kind = k; area = A; falls = δ .falls e k; roots = beside-rooted o n coming (δ .roots e k) };
+            }
 
         module _ (yes-decided : b ≡ true) {r : Bool} {x : List ℕ} (again : tried r x ≡ loads D n t h u) where
           M : Loaded D n t h u (tried r x)
@@ -103,10 +128,10 @@ module _ (s : State) (coming : ℕ) (t h : List ℕ) where
           x-area = M .area (true→T r-true)
 
           -- LOADED AGAIN, AND THE FOREST KEPT
-          pub decide-yes : Checked s coming t h w x r
+          pub decide-yes : Checked s coming t h w x b
           unfolding tableOf pastOf
           decide-yes = record {
-            answer = r-true ∙ sym yes-decided ∙ decided;
+            answer = decided;
             beyond = beyond-trans u-beyond (loaded-beyond M);
             area = λ _. x-area;
             table = λ _. M .table;

@@ -3,6 +3,7 @@
 --   relink-no     == no where tests 1 to 5 fail
 --   relinked-area == linked: the work area holds the map
 --   laid-decided  == the decision answers
+--   laid-finds    == and its numbers are those of what stands there
 use mathlib.Core.Bool.{Bool, true, false}
 use mathlib.Core.List.{List, reverse, reverse-reverse}
 use mathlib.Core.Path.{_≡_, refl, sym, ap, _∙_}
@@ -11,11 +12,13 @@ use native.Mathlib.Omega.{arith}
 use lib.ListN.{take, drop}
 use Rattle.permutations.specs.Choice.{true→T}
 use Rattle.darts.specs.State.{State}
-use Rattle.area.specs.Area.{Room, pastIn, tried}
+use Rattle.area.specs.Area.{Room, tableIn, pastIn, tried}
 use Rattle.area.specs.Load.{relinks}
 use Rattle.area.specs.Shape.{historyIn}
 use Rattle.engine.specs.Held.{Area}
 use Rattle.engine.specs.Checks.{Decided, CheckedLaid}
+use Rattle.engine.specs.Counted.{FindsCycles}
+use Rattle.engine.specs.declared.Found.{Found}
 use Rattle.engine.proofs.Checking.{loaded-beyond, decided-beyond}
 use Rattle.engine.proofs.Ready.{beyond-trans}
 use Rattle.engine.proofs.Decides.{refuted, pyramid-loads, pyramid-few}
@@ -65,3 +68,6 @@ module _ (s : State) where
       beyond = beyond-trans (loaded-beyond L) (decided-beyond δ);
       history = ap (take (3 * D + n - 3 * D)) (δ .rest) ∙ v-history;
     }
+
+    pub laid-finds : {f : Found} → FindsCycles D (tableIn D v) (pastIn D n v) f → FindsCycles D (tableIn D w) (pastIn D n w) f
+    laid-finds F = rw (L .table, v-past) at F

@@ -2,12 +2,14 @@
 --   roots-cycles  == the roots are as many as the cycles: faces where k is 0, vertices where k is 1
 --   labelled-area == labelling keeps the map
 --   cycles-few    == there are at most as many cycles as darts
---   counted       == so vertices and faces are counted, one after the other
+--   kind-counted  == so the cycles of one kind are counted at the base
+--   base-counted  == and both kinds are
+--   both-counted, both-counted-back == one after the other
 use mathlib.Core.Bool.{Bool, true, false, _&&_}
-use mathlib.Core.List.{List}
-use mathlib.Core.Logic.{_↔_, Iff·rfl, Iff·trans, Iff·symm}
-use mathlib.Core.Path.{_≡_, refl, _∙_}
-use Prim.Native.Nat.{ℕ, zero, suc, _+_, _*_, _≤_, _<_}
+use mathlib.Core.List.{List, []}
+use mathlib.Core.Logic.{_≢_, _↔_, Iff·rfl, Iff·trans, Iff·symm}
+use mathlib.Core.Path.{_≡_, refl, ap, _∙_}
+use Prim.Native.Nat.{ℕ, zero, suc, _+_, _-_, _*_, _≤_, _<_}
 use native.Mathlib.Decide.{decLt}
 use native.Mathlib.Omega.{arith}
 use lib.Dec.{T, eqb}
@@ -18,23 +20,22 @@ use Rattle.permutations.specs.Partner.{partner, partner-below}
 use Rattle.permutations.specs.Map.{next-live}
 use Rattle.darts.specs.Map.{successor, faceNext, survives, live}
 use Rattle.darts.specs.Operation.{kindOf}
-use Rattle.darts.specs.Counts.{lowest, cycles}
+use Rattle.darts.specs.Counts.{lowest, cycles, countsOf}
 use Rattle.laws.proofs.bridge.Standing.{live-iff}
 use Rattle.forest.specs.Forest.{parent}
 use Rattle.forest.specs.Lowest.{Lowest}
 use Rattle.area.specs.Area.{there, tableIn, pastIn, forestIn, around}
 use Rattle.area.specs.Count.{rootsIn}
 use Rattle.area.specs.Cycles.{stepIn, Labelled}
-use Rattle.slices.proofs.Over.{drop-more}
+use Rattle.area.specs.Trees.{Outside}
 use Rattle.area.proofs.Outside.{outside-there, forest-at}
-use Rattle.engine.specs.Counted.{CountedIn}
+use Rattle.engine.specs.Counted.{CyclesAre}
 use Rattle.engine.specs.Held.{Area}
-use Rattle.engine.specs.declared.Cycles.{Cycles}
 use Rattle.engine.proofs.Area.{there-live}
 use Rattle.engine.proofs.Around.{ring-good, around-next, step-ring, step-perm}
-use Rattle.engine.proofs.Beside.{beside-table, beside-past, beside-area}
+use Rattle.engine.proofs.Beside.{beside-area, beside-table}
 use Rattle.laws.proofs.bridge.Least.{Least, lowest-least, lowest-same}
-use Rattle.engine.proofs.Parts.{successor-in}
+use Rattle.engine.proofs.Parts.{successor-in, past-none}
 
 -- ---- the lowest of a class is its own parent
 
@@ -117,21 +118,32 @@ cycles-few f D past (suc m) = go (survives past m && lowest f D m) (cycles-few f
     go true h = omega arith
     go false h = omega arith
 
+-- ---- at the base
+
+-- THE CYCLES OF ONE KIND ARE COUNTED WHILE THEY ARE LABELLED
+pub kind-counted : {D k : ℕ} {w v : List ℕ} → Area D 0 w → k ≤ 1 → Labelled D k w v → {r : ℕ} → r ≡ rootsIn D v D
+    → r ≡ cycles (around k (tableIn D w)) D [] D
+kind-counted {D} {k} {w} A kind L e = rw (past-none D w) at (e ∙ roots-cycles A kind L)
+
 -- VERTICES AND FACES ARE COUNTED
-pub counted : {D n : ℕ} {w u v : List ℕ} → Area D n w → Labelled D 1 w u → Labelled D 0 u v → (r : Cycles) → r .vertices ≡ rootsIn D u D
-    → r .faces ≡ rootsIn D v D → CountedIn D n w v r
-unfolding around faceNext
-counted {D} {n} {w} {u} {v} A vertices faces r i j =
-    let kept = vertices .outside in
-    let area = labelled-area A (omega arith) vertices in
-    let also = faces .outside in
-    let first : r .vertices ≡ cycles (successor (tableIn D w)) D (pastIn D n w) D = i ∙ roots-cycles A (omega arith) vertices in
-    let second : r .faces ≡ cycles (faceNext (tableIn D w)) D (pastIn D n w) D =
-    rw (beside-table kept, beside-past kept n) at (j ∙ roots-cycles area (omega arith) faces) in
-    record {
-      vertices = first;
-      faces = second;
-      few-vertices = rw first (cycles-few (successor (tableIn D w)) D (pastIn D n w) D);
-      few-faces = rw second (cycles-few (faceNext (tableIn D w)) D (pastIn D n w) D);
-      beyond = record { size = also .size ∙ kept .size; rest = drop-more (3 * D) (4 * D) v w (omega arith) (also .rest ∙ kept .rest) };
-    }
+pub base-counted : {D v f : ℕ} (t : List ℕ) → v ≡ cycles (around 1 t) D [] D → f ≡ cycles (around 0 t) D [] D → CyclesAre D t [] v f
+unfolding around faceNext countsOf
+base-counted {D} t i j = record {
+  vertices = i;
+  faces = j;
+  few-vertices = rw i (cycles-few (successor t) D [] D);
+  few-faces = rw j (cycles-few (faceNext t) D [] D);
+}
+
+-- one kind after the other, of which the second finds the same base
+module _ {D x y : ℕ} (k : ℕ) {w v : List ℕ} (o : Outside D w v) (i : y ≡ cycles (around (1 - k) (tableIn D w)) D [] D)
+    (j : x ≡ cycles (around k (tableIn D v)) D [] D) where
+  second : x ≡ cycles (around k (tableIn D w)) D [] D
+  second = j ∙ ap (λ t. cycles (around k t) D [] D) (beside-table o)
+
+  pub both-counted : k ≡ 1 → CyclesAre D (tableIn D w) [] x y
+  both-counted e = let z : 1 - k ≡ 0 = omega arith in base-counted (tableIn D w) (rw e at second) (rw z at i)
+
+  pub both-counted-back : k ≤ 1 → k ≢ 1 → CyclesAre D (tableIn D w) [] y x
+  both-counted-back l n =
+      let e : k ≡ 0 = omega arith in let z : 1 - k ≡ 1 = omega arith in base-counted (tableIn D w) (rw z at i) (rw e at second)

@@ -7,10 +7,12 @@
 --   back-no        == no where an operation does not fit
 --   all-taken      == all operations taken back: the work area holds the base, and the history's numbers still
 --   decided        == both kinds are replayed on the base
+--   decided-takes  == the base has the numbers that the operations took away
+--   decided-are    == and what is left are those of the present level
 use mathlib.Core.Bool.{Bool, true, false, _&&_, false≢true}
 use mathlib.Core.List.{List, [], reverse, reverse-reverse}
 use mathlib.Core.Logic.{_↔_, Iff·trans}
-use mathlib.Core.Path.{_≡_, refl, sym, ap, _∙_}
+use mathlib.Core.Path.{_≡_, refl, sym, ap, subst, _∙_}
 use Prim.Native.Nat.{ℕ, zero, suc, _+_, _-_, _*_, _/_, _%_, _≤_}
 use native.Mathlib.Nat.{sub-self}
 use native.Mathlib.Omega.{arith}
@@ -23,26 +25,32 @@ use Rattle.permutations.proofs.Replay.{Labelled}
 use Rattle.darts.specs.Map.{live}
 use Rattle.darts.specs.Operation.{contraction, removal, kindOf, undone}
 use Rattle.darts.specs.Pyramid.{Pyramid, dartCount, isPyramid}
+use Rattle.darts.specs.Moves.{contractionsIn}
 use Rattle.darts.specs.State.{State}
 use Rattle.darts.specs.Tests.{numbered, linked, replays, shaped}
 use Rattle.laws.proofs.claims.Decided.{pyramid-decided}
+use Rattle.laws.proofs.moves.Contractions.{contractions-reverse}
 use Rattle.laws.proofs.tests.Links.{linked-stands}
 use Rattle.laws.proofs.tests.Room.{pyramid-room}
 use Rattle.laws.specs.Standing.{Standing, mapOf}
 use Rattle.laws.proofs.tests.TestsDecide.{baseOf, Passed, passed-iff, tests-decide}
 use Rattle.laws.specs.Standing.{cyclesOf}
 use Rattle.laws.proofs.tests.TopLabels.{walked, walked-decide, labels-at-top}
-use Rattle.area.specs.Area.{Room, tableIn, pastIn, tried}
+use Rattle.area.specs.Area.{Room, tableIn, pastIn, Tried, tried}
 use Rattle.area.specs.Back.{backs}
 use Rattle.area.specs.Replay.{replayed, Numbered}
 use Rattle.area.specs.Shape.{historyIn}
+use Rattle.area.specs.Trees.{Outside}
 use Rattle.area.proofs.Replay.{Alike, replay-alike, rejoined-alike}
 use Rattle.engine.specs.Held.{Area}
 use Rattle.engine.specs.Checks.{BothTried, Decided}
+use Rattle.engine.specs.Counted.{CyclesAre, Takes, Taken}
+use Rattle.engine.specs.declared.Found.{Found}
 use Rattle.engine.proofs.AllBack.{AllBack, backs-right, all-back}
 use Rattle.engine.proofs.Area.{area-sound}
 use Rattle.engine.proofs.Given.{fits-stand}
 use Rattle.engine.proofs.Parts.{rest-from, past-none, past-length}
+use Rattle.engine.proofs.Present.{takes-of, taken-are}
 
 -- ---- a pyramid passes
 
@@ -107,6 +115,7 @@ module _ (s : State) {w : List ℕ} (A : Area (s .darts) (s .operations) w) wher
     rest = rest;
     falls = λ e. absurd (false≢true e);
     roots = λ e. absurd (false≢true e);
+    kept = λ e. absurd (false≢true e);
   }
 
   pub shape-no : {a : Bool} → a ≡ shaped s hs → a ≡ false → {coming : ℕ} → Decided s coming w w false
@@ -115,6 +124,10 @@ module _ (s : State) {w : List ℕ} (A : Area (s .darts) (s .operations) w) wher
   module _ {b : Bool} {v : List ℕ} (back : tried b v ≡ backs D w n n) where
     B : AllBack D n n t past w (tried b v)
     B = rw back (backs-right fits-stand n n w (omega arith) A)
+
+    v-same : n ≡ 0 → v ≡ w
+    unfolding backs
+    v-same none = ap (λ (a : Tried). a .work) back ∙ ap (λ (c : ℕ). backs D w c c .work) none
 
     v-rest : drop (3 * D) v ≡ drop (3 * D) w
     v-rest = rest-from D (3 * D) v w (B .rest) (omega arith)
@@ -197,4 +210,32 @@ module _ (s : State) {w : List ℕ} (A : Area (s .darts) (s .operations) w) wher
               labels-alike
               (rw (M .grown e b .roots, ← history) (rejoined-alike coming (omega arith) (alike-refl (M .label coming)) (historyIn D n v)))
               (labels-at-top s t past (passes .0 (true→T e)) (kindOf coming) (M .label coming) (base-labels coming b));
+          kept = λ _ none. subst (λ (u : List ℕ). Outside D u w′) (v-same none) (M .outside);
         }
+
+        -- ---- the numbers of the present level
+
+        count : length past ≡ n
+        count = past-length D n w (omega (arith, A .few, A .room .fits))
+
+        left-contractions : contractionsIn (historyIn D (length past) w′) ≡ contractionsIn past
+        left-contractions =
+            ap contractionsIn (rw count (ap (take (3 * D + n - 3 * D)) (M .outside .rest) ∙ history)) ∙ contractions-reverse past
+
+        left-fits : 3 * D + length past ≤ length w′
+        left-fits = rw count (omega (arith, A .few, A .room .fits, B .size, M .outside .size))
+
+        module _ (yes-decided : r ≡ true) (f : Found) (C : CyclesAre D (tableIn D v) [] (f .vertices) (f .faces)) where
+          base-cycles : CyclesAre D (baseOf s t past) [] (f .vertices) (f .faces)
+          base-cycles = subst (λ (l : List ℕ). CyclesAre D l [] (f .vertices) (f .faces)) base C
+
+          pub decided-takes : Takes (3 * D) n w′ (f .vertices) (f .faces)
+          decided-takes =
+              subst (λ (c : ℕ). Takes (3 * D) c w′ (f .vertices) (f .faces)) count
+              (takes-of (passes .0 (true→T yes-decided)) (3 * D) w′ left-contractions left-fits base-cycles)
+
+          -- THE BASE'S NUMBERS, LESS ONE FOR EACH OPERATION OF THEIR KIND
+          pub decided-are : {g : Found} → Taken (3 * D) n w′ f g → CyclesAre D t past (g .vertices) (g .faces)
+          decided-are {g} T =
+              taken-are (passes .0 (true→T yes-decided)) (3 * D) w′ left-contractions left-fits base-cycles refl refl
+              (subst (λ (c : ℕ). Taken (3 * D) c w′ f g) (sym count) T)

@@ -20,6 +20,7 @@ pub mod Loaded
 pub mod Marked
 pub mod Operated
 pub mod Parts
+pub mod Present
 pub mod Ready
 pub mod Rebound
 pub mod Survivors

@@ -48,6 +48,8 @@ pub record Decided (s : State) (coming : ℕ) (w w′ : List ℕ) (r : Bool) : T
   pub rest : drop (3 * s .darts) w′ ≡ drop (3 * s .darts) w
   pub falls : r ≡ true → coming ≤ 1 → Falls (forestIn (s .darts) w′)
   pub roots : r ≡ true → coming ≤ 1 → Rooted (s .darts) (s .operations) coming w (rooted (s .darts) w′)
+  -- of a base nothing is taken back
+  pub kept : r ≡ true → s .operations ≡ 0 → Outside (s .darts) w w′
 
 pub record Checked (s : State) (coming : ℕ) (t h w w′ : List ℕ) (r : Bool) : Type 0 where
   pub answer : r ≡ isPyramid s (tableOf s t) (pastOf s h)

@@ -1,20 +1,28 @@
 -- Whether it is a pyramid, with notes of what its operations merge: the decision on the map in the work area, and the check of a table and a history.
 --   decide-no  == what the plain decision refuses
 --   decide-yes == the base replayed decides
+--   decide-finds == and the numbers are those of the base
 --   check-no   == what the plain check refuses
 --   check-yes  == what was loaded is decided
+--   check-takes, check-are == from the base's numbers to those of the present level
 --   given-told == the sheets judged by notes and links, as the definition judges them
 use mathlib.Core.Bool.{Bool, true, false, false≢true}
-use mathlib.Core.List.{List, reverse, reverse-reverse}
+use mathlib.Core.List.{List, [], reverse, reverse-reverse}
 use mathlib.Core.Path.{_≡_, refl, sym, ap, _∙_, subst}
 use Prim.Native.Nat.{ℕ, _+_, _-_, _*_, _/_, _≤_}
 use native.Mathlib.Omega.{arith}
-use lib.ListN.{length, take}
+use lib.ListN.{length, take, length-reverse}
+use lib.Seq.{length-take-le}
 use Rattle.permutations.specs.Choice.{true→T}
 use Rattle.darts.specs.Calls.{tableOf, pastOf}
+use Rattle.slices.specs.Part.{part}
+use Rattle.darts.specs.Moves.{contractionsIn}
 use Rattle.darts.specs.Operation.{kindOf, undone}
+use Rattle.darts.specs.Pyramid.{Pyramid}
 use Rattle.darts.specs.State.{State}
 use Rattle.darts.specs.Tests.{shaped}
+use Rattle.laws.proofs.claims.Decided.{pyramid-decided}
+use Rattle.laws.proofs.moves.Contractions.{contractions-reverse}
 use Rattle.forest.specs.Forest.{Falls, root}
 use Rattle.area.specs.Area.{Room, tableIn, pastIn, tried}
 use Rattle.area.specs.Back.{backs}
@@ -22,12 +30,15 @@ use Rattle.area.specs.Load.{loads}
 use Rattle.area.specs.Shape.{historyIn}
 use Rattle.engine.specs.Held.{Area, Beyond, Rooted}
 use Rattle.engine.specs.Checks.{Decided, Checked}
+use Rattle.engine.specs.Counted.{CyclesAre, FindsCycles, Takes, Taken}
+use Rattle.engine.specs.declared.Found.{Found}
 use Rattle.engine.proofs.AllBack.{AllBack, backs-right}
 use Rattle.engine.proofs.Checking.{loaded-beyond, decided-beyond}
 use Rattle.engine.proofs.Decides.{decided}
 use Rattle.engine.proofs.Given.{fits-stand, linked-stand}
 use Rattle.engine.proofs.Loaded.{Loaded, loads-right}
 use Rattle.engine.proofs.Parts.{rest-from, past-length}
+use Rattle.engine.proofs.Present.{takes-of, taken-are}
 use Rattle.engine.proofs.Ready.{beyond-trans}
 use Rattle.sheets.specs.Sheets.{Sheets, right}
 use Rattle.sheets.specs.Notes.{rightIn}
@@ -81,6 +92,9 @@ module _ (s : State) {w : List ℕ} (A : Area (s .darts) (s .operations) w) {b :
         holds = λ e. rw (base, history) at (M .holds e);
       }
 
+  pub decide-finds : {f : Found} → FindsCycles D (tableIn D v) [] f → FindsCycles D (baseOf s (tableIn D w) past) [] f
+  decide-finds F = rw base at F
+
 -- ---- the check
 
 pub check-no : {s : State} {t h w w′ : List ℕ} → Checked s 1 t h w w′ false → NoteChecked s t h w w′ false
@@ -107,6 +121,38 @@ module _ (s : State) (t h : List ℕ) {w : List ℕ} (room : Room (s .darts) w) 
     roots = λ e. rw (L .table, L .past) at (δ .roots e);
     holds = λ e. rw (L .table, L .past) at (δ .holds e);
   }
+
+  -- what was found is of a pyramid with this past
+  module _ {u : List ℕ} (f : Found) (δ : NoteDecided s v u (f .pyramid)) (yes-decided : f .pyramid ≡ true)
+      (F : FindsCycles (s .darts) (baseOf s (tableIn (s .darts) v) (pastIn (s .darts) (s .operations) v)) [] f) where
+    pyramid : Pyramid s (tableOf s t) (pastOf s h)
+    unfolding tableOf pastOf
+    pyramid = pyramid-decided s (tableOf s t) (pastOf s h) .0 (true→T (sym (rw (L .table, L .past) at (δ .answer)) ∙ yes-decided))
+
+    base-cycles : CyclesAre (s .darts) (baseOf s (tableOf s t) (pastOf s h)) [] (f .vertices) (f .faces)
+    unfolding tableOf pastOf
+    base-cycles = rw (L .table, L .past) at (F yes-decided)
+
+    count : length (pastOf s h) ≡ s .operations
+    unfolding pastOf
+    count = length-reverse (take (s .operations) h) ∙ length-take-le (s .operations) h enough
+
+    contractions : contractionsIn (part 0 (0 + length (pastOf s h)) h) ≡ contractionsIn (pastOf s h)
+    unfolding pastOf
+    contractions =
+        let e : 0 + length (pastOf s h) - 0 ≡ s .operations = omega (arith, count) in
+        ap (λ (c : ℕ). contractionsIn (take c h)) e ∙ sym (contractions-reverse (take (s .operations) h))
+
+    fits : 0 + length (pastOf s h) ≤ length h
+    fits = rw count (omega (arith, enough))
+
+    pub check-takes : Takes 0 (s .operations) h (f .vertices) (f .faces)
+    unfolding baseOf
+    check-takes = subst (λ (c : ℕ). Takes 0 c h (f .vertices) (f .faces)) count (takes-of pyramid 0 h contractions fits base-cycles)
+
+    pub check-are : {g : Found} → Taken 0 (s .operations) h f g → FindsCycles (s .darts) (tableOf s t) (pastOf s h) g
+    unfolding baseOf
+    check-are {g} T _ = taken-are pyramid 0 h contractions fits base-cycles refl refl (subst (λ (c : ℕ). Taken 0 c h f g) (sym count) T)
 
 -- ---- the sheets
 

@@ -1,9 +1,7 @@
 -- The places of a base's records, found.
 --   lowest-taken  == where the first D numbers of a table are darts, the vertices and their lowest darts are read off those alone
---   by-case       == what the test says, by the case of its verdict
 --   placed-no     == the table does not permute the darts
---   placed-held   == where it does, the work area holds it
---   placed-yes    == and is labelled
+--   placed-yes    == where it does, it is labelled
 --   unfit-found   == the first place whose record is not fit
 use mathlib.Core.Bool.{_||_}
 use mathlib.Core.List.{List, []}
@@ -17,14 +15,15 @@ use Rattle.permutations.specs.Cycle.{meetsIn}
 use Rattle.darts.specs.Map.{successor, sameVertex, permutes}
 use Rattle.area.specs.Area.{Room}
 use Rattle.area.specs.Cycles.{Labelled}
-use Rattle.area.specs.Load.{marks, linksAfter, relinks, loads, loadsBase}
+use Rattle.area.specs.Load.{loadsBase}
 use Rattle.area.specs.Trees.{Outside}
-use Rattle.area.specs.Verdicts.{Said, said, passing, verdictOf}
+use Rattle.area.specs.Verdicts.{said, passing, verdictOf}
 use Rattle.area.specs.declared.Verdict.{Verdict}
 use Rattle.engine.specs.Held.{Area, Beyond}
-use Rattle.engine.proofs.Based.{base-tested}
-use Rattle.engine.proofs.Given.{linked-stand}
-use Rattle.engine.proofs.Loaded.{Loaded, loads-right}
+use Rattle.engine.proofs.Based.{base-tested, loaded, base-held}
+use Rattle.engine.proofs.Beside.{beside-table}
+use Rattle.engine.proofs.Counts.{labelled-area}
+use Rattle.engine.proofs.Loaded.{Loaded}
 use Rattle.engine.proofs.Ready.{beyond-trans}
 use Rattle.sheets.specs.Sheets.{Sheets}
 use Rattle.sheets.specs.Notes.{unfitIn}
@@ -62,21 +61,13 @@ labels-beyond {D} {w} {v} o =
     let e : 4 * D ≡ 3 * D + D = omega arith in
     record { size = o .size; rest = rw e (sym (drop-drop D (3 * D) v) ∙ ap (drop D) (o .rest) ∙ drop-drop D (3 * D) w) }
 
--- the verdict by its case
-pub by-case : {r r′ : Verdict} {u : List ℕ} {s : Said} → r ≡ r′ → said (verdictOf r) u ≡ s → said (verdictOf r′) u ≡ s
-by-case {u = u} {s = s} e f = subst (λ r. said (verdictOf r) u ≡ s) e f
-
 module _ (D : ℕ) (t w : List ℕ) (room : Room D w) (long : D ≤ length t) where
-  base-loaded : Loaded D 0 t [] w (passing (loadsBase D t w))
-  unfolding loads relinks linksAfter marks loadsBase
-  base-loaded = loads-right linked-stand 0 t [] w room long (omega arith) (omega arith)
-
   module _ (r : Verdict) {u : List ℕ} (f : said (verdictOf r) u ≡ loadsBase D t w) where
-    loaded : Loaded D 0 t [] w (passing (said (verdictOf r) u))
-    loaded = subst (λ s. Loaded D 0 t [] w (passing s)) (sym f) base-loaded
+    abbrev L : Loaded D 0 t [] w (passing (said (verdictOf r) u))
+    L = loaded D t w room long r f
 
     loaded-beyond : Beyond D w u
-    loaded-beyond = record { size = loaded .size; rest = loaded .rest }
+    loaded-beyond = record { size = L .size; rest = L .rest }
 
     pub placed-no : (verdictOf r ≡ permutes → ⊥) → Placed D t w u r
     placed-no fails = record {
@@ -86,18 +77,21 @@ module _ (D : ℕ) (t w : List ℕ) (room : Room D w) (long : D ≤ length t) wh
     }
 
     module _ (passes : verdictOf r ≡ permutes) where
-      pub placed-held : Area D 0 u
-      placed-held = loaded .area (rw passes tt)
+      abbrev held : Area D 0 u
+      held = base-held D t w room long r f passes
 
-      pub placed-yes : {v : List ℕ} → Labelled D 1 u v → Placed D t w v r
-      placed-yes {v} L = record {
-        verdict = base-tested D t w room long f .verdict;
-        beyond = beyond-trans loaded-beyond (labels-beyond (L .outside));
-        labels = λ _ x l.
-            label-lowest placed-held L x l
-            ∙ ap (λ b. lowest D b x) (loaded .table)
-            ∙ lowest-taken D t (λ y m. subst (λ b. successor b y < D) (loaded .table) (placed-held .stands .inside y m)) x;
-      }
+      -- the faces are counted first, and then each dart is labelled
+      pub placed-yes : {x v : List ℕ} → Labelled D 0 u x → Labelled D 1 x v → Placed D t w v r
+      placed-yes {x} {v} K M =
+          let A = labelled-area held (omega arith) K in
+          record {
+            verdict = base-tested D t w room long f .verdict;
+            beyond = beyond-trans loaded-beyond (beyond-trans (labels-beyond (K .outside)) (labels-beyond (M .outside)));
+            labels = λ _ y l.
+                label-lowest A M y l
+                ∙ ap (λ b. lowest D b y) (beside-table (K .outside) ∙ L .table)
+                ∙ lowest-taken D t (λ z m. subst (λ b. successor b z < D) (L .table) (held .stands .inside z m)) y;
+          }
 
 -- ---- the first place whose record is not fit
 

@@ -72,7 +72,10 @@ same-length : tie.Need-same-length
 same-length c = search needs
 
 returns : tie.Need-returns
-returns c = labelled _ (c .before .before .before .before .before .before .before .before .before .pre .0) (c .before .before .before .before .before .before .fresh .ensures) (c .before .before .label-cycles .ensures)
+returns c =
+    let l = c .before .before .label-cycles .ensures in
+    let s = c .before .before .before .before .before .before .before .before .before in
+    (labelled _ (s .pre .0) (c .before .before .before .before .before .before .fresh .ensures) (l .0), l .1)
 
 pub label-spec : {M : Type 1} → statement M
 label-spec =

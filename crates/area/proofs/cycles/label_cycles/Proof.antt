@@ -1,58 +1,101 @@
--- `area::cycles::label_cycles` meets its contract: at each turn the classes of the first i darts have their lowest darts as parents.
+-- `area::cycles::label_cycles` meets its contract: at each turn the classes of the first i darts have their lowest darts as parents, and n counts the roots among these
+-- darts.
 --
---   Labelling D k w₀ w i == so far, from w₀ to w
+--   Labelling D k w₀ w n i == so far, from w₀ to w
+--   roots-same           == the roots among the first darts, where their parents stay
 --   turn-gone            == a gone dart is alone on its cycle, and its own parent
 --   turn-child           == a survivor that a lower dart has reached
 --   turn-root            == a survivor that none has reached, and its cycle marked
 use mathlib.Core.List.{List}
-use mathlib.Core.Logic.{_≢_, inl, inr, by-cases}
-use mathlib.Core.Path.{_≡_, refl, sym, _∙_, subst}
-use Prim.Native.Nat.{ℕ, _+_, _-_, _*_, _≤_, _<_}
+use mathlib.Core.Bool.{Bool, true, false, _&&_}
+use mathlib.Core.Logic.{_≢_, inl, inr, ⊎-elim, by-cases}
+use mathlib.Core.Path.{_≡_, refl, sym, ap, _∙_, subst}
+use Prim.Native.Nat.{ℕ, zero, suc, _+_, _-_, _*_, _≤_, _<_}
 use native.Mathlib.Decide.{ℕ-discrete}
+use native.Mathlib.Numerals.{add-one}
 use native.Mathlib.Omega.{arith}
 use lib.ListN.{getD}
 use borrow.Author.Needs.{needs}
+use borrow.Author.Tests.{lt-ltb, le-ltb, eq-eqb, ne-eqb}
 use Rattle.permutations.specs.Perm.{Perm}
 use Rattle.permutations.specs.Cycle.{Meets, meets-refl, meets-sym, meets-ind}
 use Rattle.forest.specs.Forest.{Fresh}
 use Rattle.forest.specs.Lowest.{Lowest, Marked, lowest-fresh, lowest-passed, lowest-marked}
-use Rattle.area.specs.Area.{Room, forestIn}
+use Rattle.area.specs.Area.{prev, there, Room, forestIn}
 use Rattle.area.specs.Trees.{Outside}
+use Rattle.area.specs.Count.{rootsIn}
 use Rattle.area.specs.Cycles.{stepIn, MarkedIn, Labelled}
-use Rattle.area.proofs.Outside.{outside-refl, outside-trans, outside-room, outside-front, forest-at}
+use Rattle.area.proofs.Outside.{outside-refl, outside-trans, outside-room, outside-front, outside-there, forest-at}
 use Rattle.area.proofs.Steps.{step-stays, outside-step, cycle-classes}
 use Rattle.area.proofs.cycles.label_cycles.Statement.{statement}
 use Rattle.area.proofs.cycles.label_cycles.Tie as tie
 
-record Labelling (D k : ℕ) (w₀ w : List ℕ) (i : ℕ) : Type 0 where
+record Labelling (D k : ℕ) (w₀ w : List ℕ) (n i : ℕ) : Type 0 where
   low : i ≤ D
+  few : n ≤ i
+  sum : n ≡ rootsIn D w i
   outside : Outside D w₀ w
   lowest : Lowest (Meets (stepIn D k w₀)) D i (forestIn D w)
 
-begin : {D k : ℕ} {w : List ℕ} → Perm D (stepIn D k w) → Fresh D (forestIn D w) → Labelling D k w w 0
-begin {D} {k} {w} π fresh = record { low = omega arith; outside = outside-refl D w; lowest = lowest-fresh (cycle-classes π) fresh }
+and-none : (b : Bool) → (b && false) ≡ false
+and-none true = refl
+and-none false = refl
 
-ends : {D k : ℕ} {w₀ w : List ℕ} {i : ℕ} → Labelling D k w₀ w i → D ≤ i → Labelled D k w₀ w
-ends {D} {k} {w₀} {w} {i} now none =
-    let e : i ≡ D = omega (arith, now .low) in
-    record { outside = now .outside; lowest = subst (λ j. Lowest (Meets (stepIn D k w₀)) D j (forestIn D w)) e (now .lowest) }
+begin : {D k : ℕ} {w : List ℕ} → Perm D (stepIn D k w) → Fresh D (forestIn D w) → Labelling D k w w 0 0
+unfolding rootsIn
+begin {D} {k} {w} π fresh =
+    record { low = omega arith; few = omega arith; sum = refl; outside = outside-refl D w; lowest = lowest-fresh (cycle-classes π) fresh }
 
-module _ {D k : ℕ} {w₀ w : List ℕ} {i : ℕ} (room : Room D w₀) (π : Perm D (stepIn D k w₀)) (now : Labelling D k w₀ w i) (more : i < D) where
+ends : {D k : ℕ} {w₀ w : List ℕ} {n i : ℕ} → Labelling D k w₀ w n i → D ≤ i → Labelled D k w₀ w × (n ≡ rootsIn D w D)
+ends {D} {k} {w₀} {w} {n} {i} now none =
+    let e : i ≡ D = omega (arith, now .low) in (
+      record { outside = now .outside; lowest = subst (λ j. Lowest (Meets (stepIn D k w₀)) D j (forestIn D w)) e (now .lowest) },
+      now .sum ∙ ap (rootsIn D w) e,
+    )
+
+roots-same : {D : ℕ} {w w′ : List ℕ} → (m : ℕ) → m ≤ D → Outside D w w′ → ((x : ℕ) → x < m → getD w′ (2 * D + x) 0 ≡ getD w (2 * D + x) 0)
+    → rootsIn D w′ m ≡ rootsIn D w m
+unfolding rootsIn
+roots-same zero h o same = refl
+roots-same {D} {w} {w′} (suc m) h o same =
+    rw (outside-there o m (omega arith), same m (omega arith), roots-same m (omega arith) o (λ x l. same x (omega arith))) refl
+
+module _ {D k : ℕ} {w₀ w : List ℕ} {n i : ℕ} (room : Room D w₀) (π : Perm D (stepIn D k w₀)) (now : Labelling D k w₀ w n i) (more : i < D) where
   same-perm : Perm D (stepIn D k w)
   same-perm = subst (Perm D) (sym (outside-step (now .outside) room k)) π
 
-  turn-child : getD w (2 * D + i) 0 ≢ i → Labelling D k w₀ w (i + 1)
+  turn-child : getD w (2 * D + i) 0 ≢ i → Labelling D k w₀ w n (i + 1)
+  unfolding rootsIn
   turn-child other =
       record {
         low = omega arith;
+        few = omega (arith, now .few);
+        sum = rw (add-one i, ne-eqb (getD w (2 * D + i) 0) i other, and-none (there D w i)) (now .sum);
         outside = now .outside;
         lowest = lowest-passed (cycle-classes π) (now .lowest) more (λ e. other (sym (forest-at D w i more) ∙ e));
       }
 
-  turn-root : getD w (2 * D + i) 0 ≡ i → {w′ : List ℕ} → MarkedIn D k i w w′ → Labelling D k w₀ w′ (i + 1)
-  turn-root own {w′} m =
+  -- the darts below i are on other cycles
+  below-kept : getD w (2 * D + i) 0 ≡ i → {w′ : List ℕ} → MarkedIn D k i w w′ → (x : ℕ) → x < i → getD w′ (2 * D + x) 0 ≡ getD w (2 * D + x) 0
+  below-kept own {w′} m x l =
+      let M = subst (λ f. Marked (Meets f) D i (forestIn D w) (forestIn D w′)) (outside-step (now .outside) room k) (m .marked) in
+      let inside : x < D = omega arith in
+      ⊎-elim
+      (λ s. let q = now .lowest .low i x more l (meets-sym π (s .0)) in absurd (omega (arith, forest-at D w i more, own)))
+      (λ s. sym (forest-at D w′ x inside) ∙ s .1 ∙ forest-at D w x inside)
+      (M .each x inside)
+
+  still-own : {w′ : List ℕ} → MarkedIn D k i w w′ → getD w′ (2 * D + i) 0 ≡ i
+  still-own {w′} m = sym (forest-at D w′ i more) ∙ ⊎-elim (λ s. s .1) (λ s. absurd (s .0 (meets-refl (stepIn D k w) i))) (m .marked .each i more)
+
+  turn-root : getD w (D + i) 0 < D → getD w (2 * D + i) 0 ≡ i → {w′ : List ℕ} → MarkedIn D k i w w′ → Labelling D k w₀ w′ (n + 1) (i + 1)
+  unfolding rootsIn there prev
+  turn-root here own {w′} m =
       record {
         low = omega arith;
+        few = omega (arith, now .few);
+        sum = rw (add-one i, outside-front (m .outside) (D + i) (omega arith), lt-ltb (getD w (D + i) 0) D here, eq-eqb (getD w′ (2 * D + i) 0) i (still-own m), add-one n)
+            (ap suc (now .sum ∙ sym (roots-same i (omega arith) (m .outside) (below-kept own m))));
         outside = outside-trans (now .outside) (m .outside);
         lowest = lowest-marked (cycle-classes π) (now .lowest) more (forest-at D w i more ∙ own)
             (subst (λ f. Marked (Meets f) D i (forestIn D w) (forestIn D w′)) (outside-step (now .outside) room k) (m .marked));
@@ -78,19 +121,22 @@ module _ {D k : ℕ} {w₀ w : List ℕ} {i : ℕ} (room : Room D w₀) (π : Pe
               (λ n. inr (λ m. n (alone (meets-sym π m)), refl));
         }
 
-    turn-gone : Labelling D k w₀ w (i + 1)
+    turn-gone : Labelling D k w₀ w n (i + 1)
+    unfolding rootsIn there prev
     turn-gone =
         record {
           low = omega arith;
+          few = omega (arith, now .few);
+          sum = rw (add-one i, le-ltb (getD w (D + i) 0) D gone) (now .sum);
           outside = now .outside;
           lowest = lowest-marked (cycle-classes π) (now .lowest) more own-parent marked-alone;
         }
 
 abbrev Inv-loop : tie.InvT-loop
-Inv-loop work₀ d k i₀ work i = Labelling d k work₀ work i
+Inv-loop work₀ d k n₀ i₀ work n i = Labelling d k work₀ work n i
 
 abbrev μ-loop : tie.MeasureT-loop
-μ-loop work₀ d k i₀ work i = d - i
+μ-loop work₀ d k n₀ i₀ work n i = d - i
 
 loop-holds : tie.Need-loop-holds Inv-loop μ-loop
 loop-holds c = begin (c .before .pre .1 .0) (c .before .pre .1 .1)
@@ -118,6 +164,9 @@ label-cycle-requires c κs =
       (same-perm (s .pre .0) (s .pre .1 .0) l (c .before .before .before .before .before .before .before .loop-test .taken), (c .before .before .before .before .before .before .before .loop-test .taken, omega arith, sym (c .before .before .at2 .ensures) ∙ c .before .if2 .taken)),
     )
 
+add-n : tie.Need-add-n Inv-loop μ-loop
+add-n c = search needs
+
 add-i : tie.Need-add-i Inv-loop μ-loop
 add-i c = search needs
 
@@ -128,7 +177,7 @@ loop-again : tie.Need-loop-again Inv-loop μ-loop
 loop-again c =
     let at-loop-test = c .before .before .before .before .before .before .before .before .before .before in
     let s = at-loop-test .before .before .before in
-    turn-root (s .pre .0) (s .pre .1 .0) (at-loop-test .before .loop .inv) (at-loop-test .loop-test .taken)
+    turn-root (s .pre .0) (s .pre .1 .0) (at-loop-test .before .loop .inv) (at-loop-test .loop-test .taken) (omega arith)
     (sym (c .before .before .before .before .before .at2 .ensures) ∙ c .before .before .before .before .if2 .taken)
     (c .before .before .label-cycle .ensures)
 
@@ -173,6 +222,7 @@ label-cycles-spec =
     add-at-2
     at-requires-2
     label-cycle-requires
+    add-n
     add-i
     loop-less
     loop-again

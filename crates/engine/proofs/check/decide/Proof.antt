@@ -1,36 +1,50 @@
 -- `engine::check::decide` meets its contract: each no refutes one test, and the yes is that of the last.
-use mathlib.Core.Path.{sym}
 use native.Mathlib.Omega.{arith}
 use borrow.Author.Needs.{needs}
 use borrow.Author.Tests.{not-true, not-false}
 use Rattle.area.specs.Shape.{stateWith}
 use Rattle.engine.proofs.Area.{area-sound}
-use Rattle.engine.proofs.Decides.{shape-no, back-no, all-taken, decided}
+use Rattle.engine.proofs.Decides.{shape-no, back-no, all-taken, decided, decided-takes, decided-are}
+use Rattle.engine.proofs.Present.{none-found}
+use Rattle.engine.proofs.Tries.{both-coming}
 use Rattle.engine.proofs.check.decide.Statement.{statement}
 use Rattle.engine.proofs.check.decide.Tie as tie
 
 shape-requires : tie.Need-shape-requires
 shape-requires c κs = search needs
 
+nothing-requires : tie.Need-nothing-requires
+nothing-requires c κs = search needs
+
 same-length : tie.Need-same-length
 same-length c = search needs
 
 returns : tie.Need-returns
 returns c =
-    let s = c .before .before .before .before in
-    shape-no (stateWith (s .args .state)) (s .pre) (c .before .shape .ensures) (not-true _ (c .if1 .taken))
+    let s = c .before .before .before .before .before in (
+      rw (c .nothing .ensures) (shape-no (stateWith (s .args .state)) (s .pre) (c .before .before .shape .ensures) (not-true _ (c .before .if1 .taken))),
+      none-found (c .nothing .ensures),
+    )
 
 take-back-last-requires : tie.Need-take-back-last-requires
 take-back-last-requires c κs = let s = c .before .before .before .before .before in (area-sound (s .pre), omega arith)
+
+nothing-requires-2 : tie.Need-nothing-requires-2
+nothing-requires-2 c κs = search needs
 
 same-length-2 : tie.Need-same-length-2
 same-length-2 c = search needs
 
 returns-2 : tie.Need-returns-2
 returns-2 c =
-    let t = c .before .before .before in
-    let s = t .before .before .before .before .before .before in
-    back-no (stateWith (s .args .state)) (s .pre) (t .take-back-last .ensures) (not-true _ (c .if2 .taken))
+    let t = c .before .before .before .before in
+    let s = t .before .before .before .before .before .before in (
+      rw (c .nothing2 .ensures) (back-no (stateWith (s .args .state)) (s .pre) (t .take-back-last .ensures) (not-true _ (c .before .if2 .taken))),
+      none-found (c .nothing2 .ensures),
+    )
+
+last-kind-requires : tie.Need-last-kind-requires
+last-kind-requires c κs = search needs
 
 try-both-requires : tie.Need-try-both-requires
 try-both-requires c κs =
@@ -38,53 +52,81 @@ try-both-requires c κs =
     let t = e .before .before .before in
     let s = t .before .before .before .before .before .before in
     let base = all-taken (stateWith (s .args .state)) (s .pre) (t .take-back-last .ensures) (not-false _ (e .if2 .left)) in
-    (base .0, (base .1, (omega arith, λ _. sym (c .before .if3 .taken))))
+    (base .0, (base .1, c .before .last-kind .ensures .0))
+
+mul-present : tie.Need-mul-present
+mul-present c = search needs
+
+present-requires : tie.Need-present-requires
+present-requires c κs =
+    let b = c .before .before .before .before in
+    let l = b .before .before in
+    let e = l .before in
+    let t = e .before .before .before in
+    let i = t .before .before in
+    let s = i .before .before .before .before in
+    decided-takes (stateWith (s .args .state)) (s .pre) (t .take-back-last .ensures) (not-false _ (e .if2 .left)) (i .before .shape .ensures)
+    (not-false _ (i .if1 .left)) (both-coming (l .last-kind .ensures .1) (b .try-both .ensures .0)) (c .before .if3 .taken) (b .try-both .result)
+    (b .try-both .ensures .1 (c .before .if3 .taken))
 
 same-length-3 : tie.Need-same-length-3
 same-length-3 c = search needs
 
 returns-3 : tie.Need-returns-3
 returns-3 c =
-    let e = c .before .before .before .before .before in
+    let b = c .before .before .before .before .before in
+    let l = b .before .before in
+    let e = l .before in
     let t = e .before .before .before in
     let i = t .before .before in
     let s = i .before .before .before .before in
-    decided (stateWith (s .args .state)) (s .pre) (t .take-back-last .ensures) (not-false _ (e .if2 .left)) (i .before .shape .ensures)
-    (not-false _ (i .if1 .left)) (c .before .before .try-both .ensures)
+    let yes = c .before .before .if3 .taken in
+    let M = both-coming (l .last-kind .ensures .1) (b .try-both .ensures .0) in (
+      rw (c .present .ensures .pyramid)
+          (decided (stateWith (s .args .state)) (s .pre) (t .take-back-last .ensures) (not-false _ (e .if2 .left)) (i .before .shape .ensures)
+          (not-false _ (i .if1 .left)) M),
+      λ _. decided-are (stateWith (s .args .state)) (s .pre) (t .take-back-last .ensures) (not-false _ (e .if2 .left)) (i .before .shape .ensures)
+          (not-false _ (i .if1 .left)) M yes _ (b .try-both .ensures .1 yes) (c .present .ensures),
+    )
 
-try-both-requires-2 : tie.Need-try-both-requires-2
-try-both-requires-2 c κs =
-    let e = c .before .before in
-    let t = e .before .before .before in
-    let s = t .before .before .before .before .before .before in
-    let base = all-taken (stateWith (s .args .state)) (s .pre) (t .take-back-last .ensures) (not-false _ (e .if2 .left)) in
-    (base .0, (base .1, (omega arith, λ k. omega (arith, c .before .if3 .left))))
+nothing-requires-3 : tie.Need-nothing-requires-3
+nothing-requires-3 c κs = search needs
 
 same-length-4 : tie.Need-same-length-4
 same-length-4 c = search needs
 
 returns-4 : tie.Need-returns-4
 returns-4 c =
-    let e = c .before .before .before .before .before in
+    let b = c .before .before .before .before in
+    let l = b .before .before in
+    let e = l .before in
     let t = e .before .before .before in
     let i = t .before .before in
-    let s = i .before .before .before .before in
-    decided (stateWith (s .args .state)) (s .pre) (t .take-back-last .ensures) (not-false _ (e .if2 .left)) (i .before .shape .ensures)
-    (not-false _ (i .if1 .left)) (c .before .before .try-both2 .ensures)
+    let s = i .before .before .before .before in (
+      rw (c .nothing3 .ensures, ← (c .before .if3 .left))
+          (decided (stateWith (s .args .state)) (s .pre) (t .take-back-last .ensures) (not-false _ (e .if2 .left)) (i .before .shape .ensures)
+          (not-false _ (i .if1 .left)) (both-coming (l .last-kind .ensures .1) (b .try-both .ensures .0))),
+      none-found (c .nothing3 .ensures),
+    )
 
 pub decide-spec : {M : Type 1} → statement M
 decide-spec =
     tie.close
     (tie.spec
     shape-requires
+    nothing-requires
     same-length
     returns
     take-back-last-requires
+    nothing-requires-2
     same-length-2
     returns-2
+    last-kind-requires
     try-both-requires
+    mul-present
+    present-requires
     same-length-3
     returns-3
-    try-both-requires-2
+    nothing-requires-3
     same-length-4
     returns-4)

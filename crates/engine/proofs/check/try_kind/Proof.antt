@@ -1,55 +1,35 @@
--- `engine::check::try_kind` meets its contract: where the history has no operation of the kind, any labels are fine, and so are those by walking.
-use mathlib.Core.Path.{sym, _∙_}
+-- `engine::check::try_kind` meets its contract: the trees are labels of the base, and the replay joins them.
 use borrow.Author.Needs.{needs}
-use Rattle.engine.proofs.Tries.{kind-passed, kind-grown}
+use Rattle.area.proofs.Labels.{labelled-falls}
+use Rattle.area.proofs.Outside.{outside-room}
+use Rattle.engine.proofs.Around.{step-perm}
+use Rattle.engine.proofs.Counts.{kind-counted}
+use Rattle.engine.proofs.Tries.{outside-numbered, kind-replayed}
 use Rattle.engine.proofs.check.try_kind.Statement.{statement}
 use Rattle.engine.proofs.check.try_kind.Tie as tie
 
-replay-kind-requires : tie.Need-replay-kind-requires
-replay-kind-requires c κs = search needs
+label-requires : tie.Need-label-requires
+label-requires c κs = let s = c .before .before in (s .pre .0 .room, step-perm (s .pre .0) _ (s .pre .1 .1))
+
+replay-requires : tie.Need-replay-requires
+replay-requires c κs =
+    let l = c .before .before .before in
+    let s = l .before .before .before in
+    let L = l .label .ensures .0 in (
+      outside-room (L .outside) (s .pre .0 .room),
+      (labelled-falls (step-perm (s .pre .0) _ (s .pre .1 .1)) L, outside-numbered (L .outside) (s .pre .1 .0)),
+    )
 
 same-length : tie.Need-same-length
 same-length c = search needs
 
 returns : tie.Need-returns
-returns c = kind-grown _ (c .before .before .replay-kind .ensures)
-
-mul-from : tie.Need-mul-from
-mul-from c = search needs
-
-add-has-kind : tie.Need-add-has-kind
-add-has-kind c = search needs
-
-has-kind-requires : tie.Need-has-kind-requires
-has-kind-requires c κs = search needs
-
-replay-kind-requires-2 : tie.Need-replay-kind-requires-2
-replay-kind-requires-2 c κs = search needs
-
-same-length-2 : tie.Need-same-length-2
-same-length-2 c = search needs
-
-returns-2 : tie.Need-returns-2
-returns-2 c = kind-grown _ (c .before .before .replay-kind2 .ensures)
-
-same-length-3 : tie.Need-same-length-3
-same-length-3 c = search needs
-
-returns-3 : tie.Need-returns-3
-returns-3 c = let s = c .before .before .before .before .before in kind-passed (s .pre .0) (c .before .before .before .if1 .left) (sym (c .before .has-kind .ensures) ∙ c .if2 .left)
+returns c =
+    let r = c .before .before in
+    let l = r .before .before .before .before in
+    let s = l .before .before .before in
+    let L = l .label .ensures in
+    (kind-replayed (s .pre .0) (s .pre .1 .1) (L .0) (r .replay .ensures), kind-counted (s .pre .0) (s .pre .1 .1) (L .0) (L .1))
 
 pub try-kind-spec : {M : Type 1} → statement M
-try-kind-spec =
-    tie.close
-    (tie.spec
-    replay-kind-requires
-    same-length
-    returns
-    mul-from
-    add-has-kind
-    has-kind-requires
-    replay-kind-requires-2
-    same-length-2
-    returns-2
-    same-length-3
-    returns-3)
+try-kind-spec = tie.close (tie.spec label-requires replay-requires same-length returns)
