@@ -2,7 +2,8 @@
 --   areas-room  == the work area keeps its room
 --   areas-halts == what one level more asks
 --   areas-none  == the kernel took no edge: 5
---   areas-level == what one level more leaves is what the call leaves
+--   areas-level == what one level more leaves is what the call leaves, but for the stored numbers
+--   areas-settles, areas-settled == the numbers of the base can be moved to that level, and then it is what the call leaves
 use mathlib.Core.List.{List, []}
 use mathlib.Core.Logic.{_≢_}
 use mathlib.Core.Path.{_≡_, refl, sym, ap, subst, _∙_}
@@ -12,23 +13,33 @@ use borrow.Author.Tests.{eq-eqb, ne-eqb}
 use lib.ListN.{length}
 use Rattle.darts.specs.Answers.{emptyKernel}
 use Rattle.darts.specs.declared.Answer.the-variants.{Done}
+use Rattle.darts.specs.Operation.{contraction}
 use Rattle.darts.specs.State.{State as Stated, baseState, levelled}
 use Rattle.darts.specs.Kernel.{Run, stands}
-use Rattle.darts.specs.Calls.{After, cleared, pastOf, handsBack}
+use Rattle.darts.specs.Calls.{After, leaves, cleared, pastOf, handsBack}
+use Rattle.darts.specs.Stored.{Stored, storing, zeros, numbered}
 use Rattle.laws.proofs.calls.Cleared.{cleared-kept}
+use Rattle.laws.proofs.chained.OnLent.{Call, byKernel, called}
+use Rattle.laws.proofs.stored.Judging.{LentStored}
+use Rattle.laws.proofs.stored.Calls.{numbersOf, numbered-done, numbered-refused, on-lent, calledStored, called-stored}
+use Rattle.laws.proofs.stored.Always.{storing-lent}
 use Rattle.area.specs.Area.{Room, tableIn, pastIn}
 use Rattle.engine.specs.Runs.{ranIn, Went}
 use Rattle.engine.specs.declared.Ran.{Ran}
 use Rattle.engine.proofs.Area.{room-kept}
 use Rattle.engine.proofs.Parts.{past-length}
 use Rattle.grids.specs.Grid.{Grid, dartsOf}
-use Rattle.grids.specs.Plans.{fittingPlan, begun, planAreas, firstKernel}
+use Rattle.grids.specs.Plans.{fittingPlan, begun, planBase, planAreas, firstKernel}
+use Rattle.grids.specs.Stored.{areasStored}
+use Rattle.grids.proofs.Begun.{firstEdges, plan-left, areas-reduces}
+use Rattle.pyramid.specs.Settling.{Settles, Settled}
 use Rattle.pyramid.specs.Steps.{Halts}
-use Rattle.pyramid.specs.Values.{left, Hands}
+use Rattle.pyramid.specs.Values.{stateOf, left, leftStored, Hands}
 use Rattle.pyramid.specs.declared.Outcome.{Outcome}
 use Rattle.pyramid.proofs.Started.{hands}
+use Rattle.pyramid.proofs.Settles.{settles, settled}
 use Rattle.plans.proofs.Fits.{fitted, fitted-room}
-use Rattle.plans.proofs.Planned.{plan-begun}
+use Rattle.plans.proofs.Planned.{based, plan-begun, base-left, base-laid}
 
 module _ (g : Grid) (plan t h w : List ℕ) (fits : fittingPlan g (length plan) (length t) (length h) (length w) .number ≡ 0) {v : List ℕ} {m : ℕ}
     (W : Went (dartsOf g) (firstKernel g plan) w v (record { answer = Done 0; operations = m })) where
@@ -68,9 +79,15 @@ module _ (g : Grid) (plan t h w : List ℕ) (fits : fittingPlan g (length plan) 
   unfolding planAreas
   ends = ap (λ (r : Run). begun D t h w (levelled (baseState D) [] r)) went ∙ plan-begun g plan t h w fits _
 
-  pub areas-none : (o : Outcome) → m ≡ 0 → Hands o emptyKernel (baseState 0) → left o t h (cleared D v) ≡ planAreas g plan t h w
+  none-left : m ≡ 0 → planAreas g plan t h w ≡ leaves emptyKernel (baseState 0) t h (cleared D w)
   unfolding levelled begun
-  areas-none o z H = rw same-clear (hands o H t h (cleared D w) ∙ (rw (eq-eqb (length (pastIn D m v)) 0 (new-count ∙ z)) at ends))
+  none-left z = sym (rw (eq-eqb (length (pastIn D m v)) 0 (new-count ∙ z)) at ends)
+
+  pub areas-none : (o : Outcome) → m ≡ 0 → Hands o emptyKernel zeros → leftStored o t h (cleared D v) ≡ areasStored g plan t h w
+  unfolding areasStored
+  areas-none o z H =
+      let a : After = leaves emptyKernel (baseState 0) t h (cleared D w) in
+      rw same-clear (hands o H t h (cleared D w) ∙ sym (ap (numbered zeros) (none-left z) ∙ numbered-refused zeros a (λ e. omega arith)))
 
   by-level : {x : After} → m ≢ 0 → x ≡ handsBack (baseState D) t h v (levelled (baseState D) (pastOf (baseState D) h) (ranIn D v ran))
       → x ≡ planAreas g plan t h w
@@ -84,3 +101,49 @@ module _ (g : Grid) (plan t h w : List ℕ) (fits : fittingPlan g (length plan) 
       → left o u k (cleared D v) ≡ planAreas g plan t h w
   areas-level s base o {u} {k} n L =
       by-level n (subst (λ (z : Stated). left o u k (cleared (z .darts) v) ≡ handsBack z t h v (levelled z (pastOf z h) (ranIn (z .darts) v ran))) base L)
+
+  -- ---- the numbers
+
+  module _ (n : m ≢ 0) where
+    accepts : planAreas g plan t h w .answer .number ≡ 0
+    unfolding levelled begun
+    accepts =
+        let some = ne-eqb (length (pastIn D m v)) 0 (λ e. n (sym new-count ∙ e)) in
+        sym (ap (λ (a : After). a .answer .number) (rw some at ends))
+
+    -- the base, as the first call leaves it
+    abbrev base : After
+    base = planBase g plan t h w
+
+    -- the first kernel, as a call on it
+    abbrev kernel : Call
+    kernel = byKernel (record { kind = contraction; edges = firstEdges g plan })
+
+    base-done : base .answer .number ≡ 0
+    base-done = sym (ap (λ (a : After). a .answer .number) (base-left g plan t h w fits))
+
+    base-lent : LentStored (numbersOf base) (base .table) (base .history) (base .work)
+    base-lent = storing-lent base (plan-left g plan t h w base-done .lent)
+
+    by-kernel : planAreas g plan t h w ≡ called kernel (numbersOf base .state) (base .table) (base .history) (base .work)
+    unfolding storing
+    by-kernel = areas-reduces g plan t h w accepts
+
+    same-base : based g ≡ numbersOf base
+    same-base = sym (base-laid g plan t h w fits) ∙ ap numbersOf (base-left g plan t h w fits)
+
+    module _ (o : Outcome) {u k x : List ℕ} (E : left o u k x ≡ planAreas g plan t h w) where
+      -- THE NUMBERS OF THE BASE CAN BE MOVED TO THE FIRST LEVEL
+      pub areas-settles : {S : Stored} → S ≡ based g → Settles S (stateOf (o .state)) k
+      areas-settles e = rw (e ∙ same-base) (settles kernel base-lent o (E ∙ by-kernel))
+
+      -- AND THEN THEY ARE WHAT THE CALL HANDS BACK
+      pub areas-settled : {S : Stored} → S ≡ based g → {r : Outcome} → Settled S o k r → leftStored r u k x ≡ areasStored g plan t h w
+      unfolding areasStored
+      areas-settled {S} e {r} R =
+          let N : Stored = numbersOf base in
+          let moved : Settled N o k r = rw (e ∙ same-base) at R in
+          let whole : calledStored kernel N (base .table) (base .history) (base .work) ≡ numbered N (planAreas g plan t h w) =
+          rw (called-stored kernel) (on-lent (called kernel) N (base .table) (base .history) (base .work) base-lent ∙ ap (numbered N) (sym by-kernel)) in
+          settled kernel base-lent o (E ∙ by-kernel) moved ∙ whole ∙ numbered-done N (planAreas g plan t h w) accepts
+          ∙ sym (numbered-done zeros (planAreas g plan t h w) accepts)

@@ -6,6 +6,7 @@ pub mod Base
 pub mod Rising
 pub mod Runs
 pub mod Fits
+pub mod Numbers
 pub mod Planned
 pub mod Ends
 pub mod Binding

@@ -1,17 +1,18 @@
 // The calls that begin from a plan.
 use crate::first::first_kernel;
 use crate::laying::lay_base;
+use crate::sizes::base_of;
 use crate::sizes::darts_of;
 use crate::sizes::fit_plan;
 use area::clear::clear;
 use darts::Answer;
 use engine::Ran;
 use pyramid::Outcome;
-use pyramid::starting::based;
+use pyramid::starting::unbased;
 ghost use mathlib.Core.Path.{_≡_};
 ghost use Rattle.grids.specs.Grid.{flat};
-ghost use Rattle.grids.specs.Plans.{planBase, planAreas};
-ghost use Rattle.pyramid.specs.Values.{left};
+ghost use Rattle.grids.specs.Stored.{planStored, areasStored};
+ghost use Rattle.pyramid.specs.Values.{leftStored};
 
 // The base of a plan: so many wales, so many courses, one code a cell.
 pub fn plan(
@@ -23,8 +24,8 @@ pub fn plan(
     work: &mut [u32],
 ) -> Outcome
     ensures { λ r. ⌜
-        left r (now (table .exit)) (now (history .exit)) (now (work .exit))
-        ≡ planBase (flat wales courses) (now (plan .entry)) (now (table .entry)) (now (history .entry)) (now (work .entry)) ⌝ }
+        leftStored r (now (table .exit)) (now (history .exit)) (now (work .exit))
+        ≡ planStored (flat wales courses) (now (plan .entry)) (now (table .entry)) (now (history .entry)) (now (work .entry)) ⌝ }
 {
     let judged = fit_plan(
         wales,
@@ -35,12 +36,11 @@ pub fn plan(
         work.len(),
     );
     if judged.number() != 0 {
-        return based(0, judged);
+        return unbased(judged);
     }
-    let darts = darts_of(wales, courses);
     lay_base(table, wales as usize, courses as usize);
-    clear(work, darts as usize);
-    based(darts, judged)
+    clear(work, darts_of(wales, courses) as usize);
+    base_of(wales, courses)
 }
 
 // The base of a plan, and at once a first kernel, which contracts the areas of one code.
@@ -53,8 +53,8 @@ pub fn plan_areas(
     work: &mut [u32],
 ) -> Outcome
     ensures { λ r. ⌜
-        left r (now (table .exit)) (now (history .exit)) (now (work .exit))
-        ≡ planAreas (flat wales courses) (now (plan .entry)) (now (table .entry)) (now (history .entry)) (now (work .entry)) ⌝ }
+        leftStored r (now (table .exit)) (now (history .exit)) (now (work .exit))
+        ≡ areasStored (flat wales courses) (now (plan .entry)) (now (table .entry)) (now (history .entry)) (now (work .entry)) ⌝ }
 {
     let judged = fit_plan(
         wales,
@@ -65,21 +65,20 @@ pub fn plan_areas(
         work.len(),
     );
     if judged.number() != 0 {
-        return based(0, judged);
+        return unbased(judged);
     }
-    let darts = darts_of(wales, courses);
-    let d = darts as usize;
+    let d = darts_of(wales, courses) as usize;
     let m = first_kernel(work, wales as usize, courses as usize, d, plan);
     if m == 0 {
         clear(work, d);
-        return based(0, Answer::EmptyKernel);
+        return unbased(Answer::EmptyKernel);
     }
-    let base = based(darts, Answer::Done(0)).state;
+    let base = base_of(wales, courses).state;
     let ran = Ran {
         answer: Answer::Done(0),
         operations: m,
     };
     let o = base.level(ran, table, history, work);
     clear(work, d);
-    o
+    base.settle(o, history)
 }

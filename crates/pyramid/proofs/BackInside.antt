@@ -18,6 +18,7 @@ use Rattle.darts.specs.Choose.{if_then_else_}
 use Rattle.darts.specs.State.{State, Result, gives, refuses, andThen}
 use Rattle.darts.specs.Levels.{undoLevel, undoLevels, unfoldTo}
 use Rattle.darts.specs.Calls.{tableOf, pastOf, onState, undoBy, unfoldBy}
+use Rattle.darts.specs.Stored.{Stored, onStored, undoStored, unfoldStored}
 use Rattle.laws.proofs.runs.Undo.{undo-is-unfold}
 use Rattle.area.specs.Area.{Room, tableIn, pastIn}
 use Rattle.pyramid.specs.Steps.{Judged, Unfolded}
@@ -63,6 +64,11 @@ module _ {s : State} {j : ℕ} {t h w v : List ℕ} {a : Answer} (J : Judged s j
       let f = U .stacked .area .few in
       (rw (U .darts) at (U .stacked .area .room), (omega (arith, f, U .darts), l .table, omega (arith, f, U .darts, l .history)))
 
-pub undo-by-unfold : {k : ℕ} (s : State) (t h w : List ℕ) → k ≡ pick (eqb (s .levels) 0) 1 (s .levels - 1) → unfoldBy k s t h w ≡ undoBy s t h w
+undo-is : {k : ℕ} (s : State) (t h w : List ℕ) → k ≡ pick (eqb (s .levels) 0) 1 (s .levels - 1) → unfoldBy k s t h w ≡ undoBy s t h w
 unfolding unfoldBy undoBy onState
-undo-by-unfold s t h w e = rw (e, ← (undo-is-unfold s (tableOf s t) (pastOf s h)))
+undo-is s t h w e = rw (e, ← (undo-is-unfold s (tableOf s t) (pastOf s h)))
+
+pub undo-by-unfold : {k : ℕ} (S : Stored) (t h w : List ℕ) → k ≡ pick (eqb (S .state .levels) 0) 1 (S .state .levels - 1)
+    → unfoldStored k S t h w ≡ undoStored S t h w
+unfolding unfoldStored undoStored onStored
+undo-by-unfold S t h w e = rw (undo-is (S .state) t h w e)

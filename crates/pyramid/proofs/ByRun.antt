@@ -28,9 +28,10 @@ use Rattle.engine.specs.Runs.{ranIn, Went}
 use Rattle.engine.specs.declared.Ran.{Ran}
 use Rattle.engine.proofs.Ready.{beyond-refl}
 use Rattle.pyramid.specs.Steps.{Judged, Halts}
-use Rattle.pyramid.specs.Values.{left, Hands}
+use Rattle.pyramid.specs.Values.{left}
 use Rattle.pyramid.specs.declared.Outcome.{Outcome}
 use Rattle.pyramid.proofs.Judges.{lent-of, room-then}
+use Rattle.pyramid.proofs.Started.{HandsBare}
 use Rattle.pyramid.proofs.OnState.{Plain, act-ends, act-refused}
 
 pub record Levels (step : State → List ℕ → List ℕ → Result) (runner : ℕ → List ℕ → List ℕ → Run) : Type 0 where
@@ -79,7 +80,7 @@ module _ {step : State → List ℕ → List ℕ → Result} {runner : ℕ → L
   abbrev D : ℕ
   D = s .darts
 
-  pub level-full : 64 ≤ s .levels → {o : Outcome} → Hands o tooManyLevels s → left o t h (cleared D v) ≡ onState step s t h w
+  pub level-full : 64 ≤ s .levels → {o : Outcome} → HandsBare o tooManyLevels s → left o t h (cleared D v) ≡ onState step s t h w
   level-full full H =
       act-refused step J fine (beyond-refl D v) (S .steps s (tableOf s t) (pastOf s h) ∙ rw (le-leb 64 (s .levels) full))
       (λ z. omega arith, λ z. omega arith) H

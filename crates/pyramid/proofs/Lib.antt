@@ -2,6 +2,7 @@ pub mod Started
 pub mod Signed
 pub mod Judges
 pub mod OnState
+pub mod Settles
 pub mod Tight
 pub mod Raising
 pub mod ByRun

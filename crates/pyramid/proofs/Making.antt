@@ -51,9 +51,10 @@ use Rattle.noting.specs.Running.{RanNoted}
 use Rattle.noting.proofs.Places.{Numbers, merges-alike}
 use Rattle.pyramid.specs.declared.Made.{Made}
 use Rattle.pyramid.specs.Costs.{StoodWith, MadeBy}
-use Rattle.pyramid.specs.Values.{left, Hands}
+use Rattle.pyramid.specs.Values.{left}
 use Rattle.pyramid.proofs.Judges.{lent-of, room-then}
 use Rattle.pyramid.proofs.ByRun.{reduce-levels, level-full}
+use Rattle.pyramid.proofs.Started.{HandsBare}
 
 -- the operations of a list that goes on are on edges
 inside-then : (D : ℕ) (hs new : List ℕ) → Inside D (hs ++ new) → Inside D new
@@ -212,7 +213,7 @@ module _ {s : State} {t h w : List ℕ} (Z : StoodWith s t h w) (es : List ℕ) 
                 (merges-fit D b (lowest-settled (base-standing P)) (room .small) hs fresh (record { inside = inside; apart = apart }) G l)
 
 module _ {s : State} {t h w : List ℕ} (Z : StoodWith s t h w) (es : List ℕ) where
-  pub made-full : 64 ≤ s .levels → (m : Made) → Hands (m .outcome) tooManyLevels s → m .operations ≡ s .operations → MadeBy s es t h w t h w m
+  pub made-full : 64 ≤ s .levels → (m : Made) → HandsBare (m .outcome) tooManyLevels s → m .operations ≡ s .operations → MadeBy s es t h w t h w m
   unfolding reduceBy reduce
   made-full full m H same =
       made-same Z es m (level-full (reduce-levels refl es) (Z .stood) refl full H) (room-then (Z .stood) refl (beyond-refl (s .darts) w))

@@ -20,8 +20,8 @@ use Rattle.engine.specs.Runs.{ranIn}
 use Rattle.engine.specs.declared.Ran.{Ran}
 use Rattle.engine.proofs.Parts.{past-length}
 use Rattle.pyramid.specs.Steps.{Halts}
-use Rattle.pyramid.specs.Values.{left, Hands}
-use Rattle.pyramid.proofs.Started.{hands}
+use Rattle.pyramid.specs.Values.{left}
+use Rattle.pyramid.proofs.Started.{HandsBare, hands-bare}
 use Rattle.pyramid.specs.declared.Outcome.{Outcome}
 
 -- a refusal that is neither 1 nor 2 clears the work area
@@ -50,29 +50,29 @@ module _ (s : Stated) (r : Ran) (t h w : List ℕ) (H : Halts s r w (length t) (
   new-count : length (pastIn D (r .operations) w) ≡ r .operations
   new-count = let a = H .after in let f = H .room .fits in past-length D (r .operations) w (omega arith)
 
-  pub level-stops : (o : Outcome) → said .number ≢ 0 → Hands o said s
+  pub level-stops : (o : Outcome) → said .number ≢ 0 → HandsBare o said s
       → left o t h (cleared D w) ≡ handsBack s t h w (levelled s past (ranIn D w r))
   unfolding levelled ranIn
   level-stops o n G =
       let e = H .answer n in
-      hands o G t h (cleared D w)
+      hands-bare o G t h (cleared D w)
       ∙ sym (rw (ne-eqb (said .number) 0 n) (refused-clears s t h w said (λ z. omega arith) (λ z. omega arith)))
 
   module _ (fine : said .number ≡ 0) where
-    pub level-empty : (o : Outcome) → r .operations ≡ s .operations → Hands o emptyKernel s
+    pub level-empty : (o : Outcome) → r .operations ≡ s .operations → HandsBare o emptyKernel s
         → left o t h (cleared D w) ≡ handsBack s t h w (levelled s past (ranIn D w r))
     unfolding levelled ranIn
     level-empty o e G =
-        hands o G t h (cleared D w)
+        hands-bare o G t h (cleared D w)
         ∙ sym (rw (eq-eqb (said .number) 0 fine, eq-eqb (length (pastIn D (r .operations) w)) (length past) (new-count ∙ e ∙ sym past-count))
         (refused-clears s t h w emptyKernel (λ z. omega arith) (λ z. omega arith)))
 
-    pub level-raised : (o : Outcome) → r .operations ≢ s .operations → Hands o done (raised s (r .operations))
+    pub level-raised : (o : Outcome) → r .operations ≢ s .operations → HandsBare o done (raised s (r .operations))
         → left o (over (tableIn D w) t) (over (part (3 * D) (3 * D + r .operations) w) h) (cleared D w)
         ≡ handsBack s t h w (levelled s past (ranIn D w r))
     unfolding levelled ranIn handsBack
     level-raised o n G =
-        hands o G _ _ (cleared D w)
+        hands-bare o G _ _ (cleared D w)
         ∙ sym (rw (
           eq-eqb (said .number) 0 fine,
           ne-eqb (length (pastIn D (r .operations) w)) (length past) (λ e. n (sym new-count ∙ e ∙ past-count)),

@@ -21,6 +21,7 @@ use Rattle.darts.specs.State.{State, Result, gives, refuses}
 use Rattle.darts.specs.Levels.{endBelow, lowered, undoLevel, undoLevels, unfoldTo}
 use Rattle.darts.specs.Pyramid.{Pyramid}
 use Rattle.darts.specs.Calls.{tableOf, pastOf}
+use Rattle.darts.specs.Stored.{Stored}
 use Rattle.laws.proofs.runs.Pyramids.{pyramid-built}
 use Rattle.laws.proofs.runs.Results.{refuses≢gives, then, same-result}
 use Rattle.laws.proofs.runs.Undo.{unfold-pyramid, undo-is-unfold}
@@ -29,6 +30,7 @@ use Rattle.sheets.specs.Sheets.{Sheets, Merge, returnedBy}
 use Rattle.sheets.specs.Notes.{notesIn, Noted}
 use Rattle.yarn.specs.Places.{merges}
 use Rattle.yarn.specs.Calls.{baseOf, carriedTo, sheetsAfter, onSheets, undoWith, unfoldWith}
+use Rattle.yarn.specs.Stored.{onStoredWith, undoStoredWith, unfoldStoredWith}
 use Rattle.yarn.proofs.Agree.{First, returned-same}
 use Rattle.yarn.proofs.Apart.{base-apart, base-standing, pyramid-inside}
 use Rattle.yarn.proofs.Moved.{Grown, undos-grown, carried-shrunk}
@@ -195,6 +197,11 @@ any-kind Z =
       checked = λ _. record { answer = C .answer; beyond = C .beyond; area = C .area; table = C .table; past = C .past; ready = λ _ l. absurd (omega arith) };
     }
 
-pub undo-with : {k : ℕ} (s : State) (t h w : List ℕ) (S : Sheets) → k ≡ pick (eqb (s .levels) 0) 1 (s .levels - 1) → unfoldWith k s t h w S ≡ undoWith s t h w S
+undo-is : {k : ℕ} (s : State) (t h w : List ℕ) (S : Sheets) → k ≡ pick (eqb (s .levels) 0) 1 (s .levels - 1) → unfoldWith k s t h w S ≡ undoWith s t h w S
 unfolding unfoldWith undoWith onSheets
-undo-with s t h w S e = rw (e, ← (undo-is-unfold s (tableOf s t) (pastOf s h)))
+undo-is s t h w S e = rw (e, ← (undo-is-unfold s (tableOf s t) (pastOf s h)))
+
+pub undo-with : {k : ℕ} (S : Stored) (t h w : List ℕ) (C : Sheets) → k ≡ pick (eqb (S .state .levels) 0) 1 (S .state .levels - 1)
+    → unfoldStoredWith k S t h w C ≡ undoStoredWith S t h w C
+unfolding unfoldStoredWith undoStoredWith onStoredWith
+undo-with S t h w C e = rw (undo-is (S .state) t h w C e)

@@ -1,8 +1,10 @@
 -- The values of the calls, as the definitions have them.
---   stateOf s       == the record that a State is
+--   stateOf s       == the record that a State is, without the numbers that it stores
+--   storedOf s      == the same with them
 --   kindOf k        == the kind that a Kind is
---   Hands o a s     == an outcome is this answer and this state
---   left o t h w    == what a call leaves: what it hands back, and the lent slices
+--   Hands o a S     == an outcome is this answer and this state
+--   left o t h w    == what a call leaves, but for the stored numbers: what it hands back, and the lent slices
+--   leftStored o t h w == the same with them
 --   tallyOf n       == the four numbers that counts hand back
 --   countsLeft c t h w == what counts leave
 use mathlib.Core.List.{List}
@@ -13,6 +15,7 @@ use Rattle.darts.specs.Cases.{answerOf}
 use Rattle.darts.specs.Operation.{Kind as OfKind, contraction, removal}
 use Rattle.darts.specs.State.{State as Stated}
 use Rattle.darts.specs.Calls.{After, Counted as CountsAfter, leaves}
+use Rattle.darts.specs.Stored.{Stored, AfterStored, leavesStored}
 use Rattle.darts.specs.Counts.{Counts as Tally}
 use Rattle.pyramid.specs.declared.State.{State}
 use Rattle.pyramid.specs.declared.Kind.{Kind}
@@ -24,16 +27,22 @@ use Rattle.pyramid.specs.declared.Counted.{Counted}
 abbrev pub stateOf : State → Stated
 stateOf s = record { darts = s .darts; operations = s .operations; levels = s .levels; ends = s .ends }
 
+abbrev pub storedOf : State → Stored
+storedOf s = record { state = stateOf s; vertices = s .vertices; faces = s .faces }
+
 abbrev pub kindOf : Kind → OfKind
 kindOf Contract = contraction
 kindOf Remove = removal
 
-pub record Hands (o : Outcome) (a : Answered) (s : Stated) : Type 0 where
+pub record Hands (o : Outcome) (a : Answered) (S : Stored) : Type 0 where
   pub answer : answerOf (o .answer) ≡ a
-  pub state : stateOf (o .state) ≡ s
+  pub state : storedOf (o .state) ≡ S
 
 abbrev pub left : Outcome → List ℕ → List ℕ → List ℕ → After
 left o t h w = leaves (answerOf (o .answer)) (stateOf (o .state)) t h w
+
+abbrev pub leftStored : Outcome → List ℕ → List ℕ → List ℕ → AfterStored
+leftStored o t h w = leavesStored (answerOf (o .answer)) (storedOf (o .state)) t h w
 
 abbrev pub tallyOf : Counts → Tally
 tallyOf n = record { darts = n .darts; vertices = n .vertices; faces = n .faces; euler = n .euler }

@@ -1,5 +1,6 @@
 // What the calls with sheets judge beside the records: lengths, and the check that notes what each operation merges.
 use crate::Answer;
+use crate::Begin;
 use crate::Outcome;
 use crate::State;
 use crate::sizes::begun;
@@ -16,8 +17,8 @@ ghost use Rattle.darts.specs.Cases.{answerOf};
 ghost use Rattle.area.specs.Area.{Room};
 ghost use Rattle.noting.specs.Checks.{Reloads, Reloaded};
 ghost use Rattle.pyramid.specs.Costs.{Begun};
-ghost use Rattle.pyramid.specs.Checking.{CheckedWith, BeganWith};
-ghost use Rattle.pyramid.specs.Values.{stateOf};
+ghost use Rattle.pyramid.specs.Checking.{CheckedWith, BeganWith, BeginsCycles};
+ghost use Rattle.pyramid.specs.Values.{stateOf, storedOf};
 
 // 1, 2 and 3 of a start, which is lent a history and sheets of these lengths. Where it is none of them, the work area labels each dart with the place of its
 // vertex's record.
@@ -28,31 +29,45 @@ pub(crate) fn begin_with(
     work: &mut [u32],
     sheet: usize,
     keeps: usize,
-) -> Answer
-    ensures { λ r. ⌜ BeganWith darts (now (table .entry)) history (now (work .entry)) sheet keeps (now (work .exit)) (answerOf r) ⌝ }
+) -> Begin
+    ensures { λ r. ⌜ BeganWith darts (now (table .entry)) history (now (work .entry)) sheet keeps (now (work .exit)) (answerOf (r .answer)) ⌝ }
+    ensures { λ r. ⌜ BeginsCycles darts (now (table .entry)) r ⌝ }
 {
     let fits = fit_with(darts, table.len(), history, work.len(), sheet, keeps);
     if fits.number() != 0 {
-        return fits;
+        return Begin {
+            answer: fits,
+            vertices: 0,
+            faces: 0,
+        };
     }
     let d = darts as usize;
-    let verdict = places(work, d, table);
+    let base = places(work, d, table);
+    let verdict = base.verdict;
     match verdict {
-        Verdict::Permutes => Answer::Done(0),
+        Verdict::Permutes => Begin {
+            answer: Answer::Done(0),
+            vertices: base.vertices,
+            faces: base.faces,
+        },
         Verdict::Culprits(dart, beside) => {
             clear(work, d);
-            Answer::NoPermutation(dart, beside)
+            Begin {
+                answer: Answer::NoPermutation(dart, beside),
+                vertices: 0,
+                faces: 0,
+            }
         }
     }
 }
 
 // What a start hands back, by the first place whose record is not fit. The work area is cleared.
-pub(crate) fn finish(darts: u32, x: usize, work: &mut [u32]) -> Outcome
+pub(crate) fn finish(darts: u32, vertices: u32, faces: u32, x: usize, work: &mut [u32]) -> Outcome
     requires { ⌜ Room darts (now work) ⌝ }
-    ensures { λ r. ⌜ Begun darts x r × (now (work .exit) ≡ cleared darts (now (work .entry))) ⌝ }
+    ensures { λ r. ⌜ Begun darts vertices faces x r × (now (work .exit) ≡ cleared darts (now (work .entry))) ⌝ }
 {
     clear(work, darts as usize);
-    begun(darts, x)
+    begun(darts, vertices, faces, x)
 }
 
 impl State {
@@ -66,7 +81,7 @@ impl State {
         keeps: usize,
     ) -> Answer
         ensures { λ r. ⌜
-            CheckedWith (stateOf self) (now (table .entry)) (now (history .entry)) (now (work .entry)) sheet keeps (now (work .exit)) (answerOf r) ⌝ }
+            CheckedWith (storedOf self) (now (table .entry)) (now (history .entry)) (now (work .entry)) sheet keeps (now (work .exit)) (answerOf r) ⌝ }
     {
         let fits = fit_with(
             self.darts,
@@ -79,7 +94,8 @@ impl State {
         if fits.number() != 0 {
             return fits;
         }
-        if note_check(work, self.figures(), table, history) {
+        let found = note_check(work, self.figures(), table, history);
+        if self.stores(found) {
             return Answer::Done(0);
         }
         clear(work, self.darts as usize);

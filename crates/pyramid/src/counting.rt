@@ -4,12 +4,11 @@ use crate::Counted;
 use crate::Counts;
 use crate::State;
 use area::clear::clear;
-use engine::counting::cycles;
 ghost use mathlib.Core.Path.{_≡_};
 ghost use Prim.Native.Nat.{_≤_};
-ghost use Rattle.darts.specs.Calls.{counts as countsBy};
 ghost use Rattle.darts.specs.Counts.{noCounts, countsFrom};
-ghost use Rattle.pyramid.specs.Values.{stateOf, tallyOf, countsLeft};
+ghost use Rattle.darts.specs.Stored.{countsStored};
+ghost use Rattle.pyramid.specs.Values.{storedOf, tallyOf, countsLeft};
 
 // The counts of so many surviving darts, vertices and faces: the Euler number is vertices minus edges plus faces.
 fn tallied(darts: u32, vertices: u32, faces: u32) -> Counts
@@ -44,11 +43,11 @@ fn refused(answer: Answer) -> Counted
 }
 
 impl State {
-    // Surviving darts, vertices, faces and the Euler number of the present level.
+    // Surviving darts, vertices, faces and the Euler number of the present level, read off the state once it is judged.
     pub fn counts(self, table: &mut [u32], history: &mut [u32], work: &mut [u32]) -> Counted
         ensures { λ r. ⌜
             countsLeft r (now (table .exit)) (now (history .exit)) (now (work .exit))
-            ≡ countsBy (stateOf self) (now (table .entry)) (now (history .entry)) (now (work .entry)) ⌝ }
+            ≡ countsStored (storedOf self) (now (table .entry)) (now (history .entry)) (now (work .entry)) ⌝ }
     {
         let judged = self.judged(2, table, history, work);
         if judged.number() != 0 {
@@ -56,10 +55,9 @@ impl State {
         }
         let d = self.darts as usize;
         let n = self.operations as usize;
-        let c = cycles(work, d, n);
         clear(work, d);
         let darts = (d - 2 * n) as u32;
-        let counts = tallied(darts, c.vertices as u32, c.faces as u32);
+        let counts = tallied(darts, self.vertices, self.faces);
         Counted {
             answer: Answer::Done(0),
             counts: counts,

@@ -5,8 +5,8 @@ use sheets::Zone;
 use sheets::loops::all_right;
 use sheets::thin::records;
 ghost use Rattle.darts.specs.Cases.{answerOf};
-ghost use Rattle.pyramid.specs.Costs.{JudgedWith};
-ghost use Rattle.pyramid.specs.Values.{stateOf};
+ghost use Rattle.pyramid.specs.Costs.{JudgedStoredWith};
+ghost use Rattle.pyramid.specs.Values.{storedOf};
 
 impl State {
     // 1 and 2, which write nothing, and 4, after which the work area is cleared. Where it is done, the work area holds the map, its forest of vertices judges
@@ -20,7 +20,7 @@ impl State {
         keeps: &[Zone],
     ) -> Answer
         ensures { λ r. ⌜
-            JudgedWith (stateOf self) (now (table .entry)) (now (history .entry)) (now (work .entry)) (now (work .exit))
+            JudgedStoredWith (storedOf self) (now (table .entry)) (now (history .entry)) (now (work .entry)) (now (work .exit))
             (record { sheet = now (sheet .entry); kept = now (keeps .entry) }) (answerOf r) ⌝ }
     {
         let k = records(sheet);

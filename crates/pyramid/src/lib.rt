@@ -5,6 +5,7 @@ mod judging;
 mod judging_with;
 mod numbers;
 mod reducing;
+mod settling;
 mod sizes;
 pub mod starting;
 pub mod starting_with;
@@ -17,12 +18,15 @@ pub use darts::Answer;
 pub use starting::start;
 pub use starting_with::start_with;
 
-// D, the number of operations, the number of levels, and the operation count after each kernel, zero past the last level.
+// D, the number of operations, the number of levels, the numbers of vertices and faces of the present level, and the operation count after each kernel, zero past the
+// last level.
 #[repr(C)]
 pub struct State {
     pub darts: u32,
     pub operations: u32,
     pub levels: u32,
+    pub vertices: u32,
+    pub faces: u32,
     pub ends: [u32; 64],
 }
 
@@ -42,6 +46,13 @@ pub struct Outcome {
 pub(crate) struct Made {
     pub outcome: Outcome,
     pub operations: usize,
+}
+
+// What a start with sheets judges before their records: the answer, and where it is done how many vertices and how many faces there are.
+pub(crate) struct Begin {
+    pub answer: Answer,
+    pub vertices: usize,
+    pub faces: usize,
 }
 
 // Surviving darts, vertices, faces, and vertices minus edges plus faces.

@@ -1,4 +1,4 @@
-// One level more, one level less: the state's own numbers.
+// One level more, one level less: the state's own numbers. Those of vertices and faces are put right once the call's work is done.
 use crate::Answer;
 use crate::Outcome;
 use crate::State;
@@ -9,11 +9,11 @@ ghost use Rattle.permutations.specs.Choice.{pick};
 ghost use Rattle.darts.specs.State.{raised as raisedOf};
 ghost use Rattle.darts.specs.Levels.{endBelow, lowered as loweredOf};
 ghost use Rattle.darts.specs.Cases.{answerOf};
-ghost use Rattle.pyramid.specs.Values.{stateOf, Hands};
+ghost use Rattle.pyramid.specs.Values.{stateOf, storedOf, Hands};
 
 // The state as it was given, with an answer.
 pub(crate) fn kept(state: State, answer: Answer) -> Outcome
-    ensures { λ r. ⌜ Hands r (answerOf answer) (stateOf state) ⌝ }
+    ensures { λ r. ⌜ Hands r (answerOf answer) (storedOf state) ⌝ }
 {
     Outcome {
         state: state,
@@ -34,6 +34,8 @@ impl State {
             darts: self.darts,
             operations: operations,
             levels: self.levels + 1,
+            vertices: self.vertices,
+            faces: self.faces,
             ends: ends,
         }
     }
@@ -74,6 +76,8 @@ impl State {
             darts: self.darts,
             operations: below,
             levels: self.levels - 1,
+            vertices: self.vertices,
+            faces: self.faces,
             ends: ends,
         }
     }

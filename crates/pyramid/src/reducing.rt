@@ -14,9 +14,10 @@ ghost use lib.ListN.{length};
 ghost use Rattle.darts.specs.Calls.{reduceBy, pastOf, handsBack, cleared};
 ghost use Rattle.darts.specs.Operation.{kindOf as kindOfBit};
 ghost use Rattle.darts.specs.State.{levelled};
+ghost use Rattle.darts.specs.Stored.{reduceStored};
 ghost use Rattle.engine.specs.Runs.{ranIn};
 ghost use Rattle.pyramid.specs.Steps.{Halts, Stood};
-ghost use Rattle.pyramid.specs.Values.{stateOf, kindOf, left};
+ghost use Rattle.pyramid.specs.Values.{stateOf, storedOf, kindOf, left, leftStored};
 
 // The last bit of a history number of this kind.
 fn bit(kind: Kind) -> usize
@@ -90,14 +91,15 @@ impl State {
         work: &mut [u32],
     ) -> Outcome
         ensures { λ r. ⌜
-            left r (now (table .exit)) (now (history .exit)) (now (work .exit))
-            ≡ reduceBy (kindOf kind) (now (kernel .entry)) (stateOf self) (now (table .entry)) (now (history .entry)) (now (work .entry)) ⌝ }
+            leftStored r (now (table .exit)) (now (history .exit)) (now (work .exit))
+            ≡ reduceStored (kindOf kind) (now (kernel .entry)) (storedOf self) (now (table .entry)) (now (history .entry)) (now (work .entry)) ⌝ }
     {
         let k = bit(kind);
         let judged = self.judged(k, table, history, work);
         if judged.number() != 0 {
             return kept(self, judged);
         }
-        self.reduce_judged(k, kernel, table, history, work)
+        let o = self.reduce_judged(k, kernel, table, history, work);
+        self.settle(o, history)
     }
 }

@@ -3,6 +3,7 @@ use crate::Answer;
 use crate::Outcome;
 use crate::State;
 use crate::starting::based;
+use crate::starting::unbased;
 use area::Figures;
 use darts::answers::fit;
 use engine::Ran;
@@ -42,13 +43,13 @@ pub(crate) fn fit_with(
 }
 
 // What a start hands back, by the first place whose record is not fit: D where there is none.
-pub(crate) fn begun(darts: u32, x: usize) -> Outcome
-    ensures { λ r. ⌜ Begun darts x r ⌝ }
+pub(crate) fn begun(darts: u32, vertices: u32, faces: u32, x: usize) -> Outcome
+    ensures { λ r. ⌜ Begun darts vertices faces x r ⌝ }
 {
     if x < darts as usize {
-        return based(0, Answer::UnfitRecord(x));
+        return unbased(Answer::UnfitRecord(x));
     }
-    based(darts, Answer::Done(0))
+    based(darts, vertices, faces, Answer::Done(0))
 }
 
 // How many operations there are after a run that began at n: a refused one has done none.

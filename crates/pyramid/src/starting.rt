@@ -7,13 +7,13 @@ use darts::answers::fit;
 use engine::base::test_base;
 ghost use mathlib.Core.Path.{_≡_};
 ghost use Rattle.darts.specs.State.{baseState};
-ghost use Rattle.darts.specs.Calls.{start as startOf};
+ghost use Rattle.darts.specs.Stored.{zeros, startStored};
 ghost use Rattle.darts.specs.Cases.{answerOf};
-ghost use Rattle.pyramid.specs.Values.{left, Hands};
+ghost use Rattle.pyramid.specs.Values.{leftStored, Hands};
 
-// A state of d darts with no level, and an answer.
-pub fn based(darts: u32, answer: Answer) -> Outcome
-    ensures { λ r. ⌜ Hands r (answerOf answer) (baseState darts) ⌝ }
+// A base of d darts, with so many vertices and faces, and an answer.
+pub fn based(darts: u32, vertices: u32, faces: u32, answer: Answer) -> Outcome
+    ensures { λ r. ⌜ Hands r (answerOf answer) (record { state = baseState darts; vertices = vertices; faces = faces }) ⌝ }
 {
     let ends = [0u32; 64];
     Outcome {
@@ -21,26 +21,41 @@ pub fn based(darts: u32, answer: Answer) -> Outcome
             darts: darts,
             operations: 0,
             levels: 0,
+            vertices: vertices,
+            faces: faces,
             ends: ends,
         },
         answer: answer,
     }
 }
 
+// A refused start: a state of zeros.
+pub fn unbased(answer: Answer) -> Outcome
+    ensures { λ r. ⌜ Hands r (answerOf answer) zeros ⌝ }
+{
+    based(0, 0, 0, answer)
+}
+
 // Starts from the table's first D numbers: a base, where they are a permutation of all darts; else both culprits.
 pub fn start(darts: u32, table: &mut [u32], history: &mut [u32], work: &mut [u32]) -> Outcome
     ensures { λ r. ⌜
-        left r (now (table .exit)) (now (history .exit)) (now (work .exit))
-        ≡ startOf darts (now (table .entry)) (now (history .entry)) (now (work .entry)) ⌝ }
+        leftStored r (now (table .exit)) (now (history .exit)) (now (work .exit))
+        ≡ startStored darts (now (table .entry)) (now (history .entry)) (now (work .entry)) ⌝ }
 {
     let judged = fit(darts, table.len(), history.len(), work.len());
     if judged.number() != 0 {
-        return based(0, judged);
+        return unbased(judged);
     }
     let d = darts as usize;
-    let verdict = test_base(work, d, table);
+    let base = test_base(work, d, table);
+    let verdict = base.verdict;
     match verdict {
-        Verdict::Permutes => based(darts, Answer::Done(0)),
-        Verdict::Culprits(dart, beside) => based(0, Answer::NoPermutation(dart, beside)),
+        Verdict::Permutes => based(
+            darts,
+            base.vertices as u32,
+            base.faces as u32,
+            Answer::Done(0),
+        ),
+        Verdict::Culprits(dart, beside) => unbased(Answer::NoPermutation(dart, beside)),
     }
 }

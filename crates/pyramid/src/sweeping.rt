@@ -7,8 +7,9 @@ use area::clear::clear;
 use engine::sweep::sweep;
 ghost use mathlib.Core.Path.{_≡_};
 ghost use Rattle.darts.specs.Calls.{sweepBy};
+ghost use Rattle.darts.specs.Stored.{sweepStored};
 ghost use Rattle.pyramid.specs.Steps.{Stood};
-ghost use Rattle.pyramid.specs.Values.{stateOf, left};
+ghost use Rattle.pyramid.specs.Values.{stateOf, storedOf, left, leftStored};
 
 impl State {
     // The sweep once it is judged. The work area is cleared.
@@ -32,13 +33,14 @@ impl State {
     // One level more: each empty loop that is no whole piece removed, in one pass by rising edge.
     pub fn sweep(self, table: &mut [u32], history: &mut [u32], work: &mut [u32]) -> Outcome
         ensures { λ r. ⌜
-            left r (now (table .exit)) (now (history .exit)) (now (work .exit))
-            ≡ sweepBy (stateOf self) (now (table .entry)) (now (history .entry)) (now (work .entry)) ⌝ }
+            leftStored r (now (table .exit)) (now (history .exit)) (now (work .exit))
+            ≡ sweepStored (storedOf self) (now (table .entry)) (now (history .entry)) (now (work .entry)) ⌝ }
     {
         let judged = self.judged(0, table, history, work);
         if judged.number() != 0 {
             return kept(self, judged);
         }
-        self.sweep_judged(table, history, work)
+        let o = self.sweep_judged(table, history, work);
+        self.settle(o, history)
     }
 }

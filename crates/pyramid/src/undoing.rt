@@ -8,9 +8,10 @@ use engine::store::store;
 use engine::undo::take_back;
 ghost use mathlib.Core.Path.{_≡_};
 ghost use Prim.Native.Nat.{_<_};
-ghost use Rattle.darts.specs.Calls.{undoBy, unfoldBy};
+ghost use Rattle.darts.specs.Calls.{unfoldBy};
+ghost use Rattle.darts.specs.Stored.{undoStored, unfoldStored};
 ghost use Rattle.pyramid.specs.Steps.{Stood, Stacked, Lowered, Unfolded};
-ghost use Rattle.pyramid.specs.Values.{stateOf, left};
+ghost use Rattle.pyramid.specs.Values.{stateOf, storedOf, left, leftStored};
 
 impl State {
     // The last level taken back in the work area.
@@ -74,21 +75,22 @@ impl State {
         work: &mut [u32],
     ) -> Outcome
         ensures { λ r. ⌜
-            left r (now (table .exit)) (now (history .exit)) (now (work .exit))
-            ≡ unfoldBy level (stateOf self) (now (table .entry)) (now (history .entry)) (now (work .entry)) ⌝ }
+            leftStored r (now (table .exit)) (now (history .exit)) (now (work .exit))
+            ≡ unfoldStored level (storedOf self) (now (table .entry)) (now (history .entry)) (now (work .entry)) ⌝ }
     {
         let judged = self.judged(2, table, history, work);
         if judged.number() != 0 {
             return kept(self, judged);
         }
-        self.unfold_judged(level, table, history, work)
+        let o = self.unfold_judged(level, table, history, work);
+        self.settle(o, history)
     }
 
     // The last level undone: the state and every entry of the table as they were before its kernel.
     pub fn undo(self, table: &mut [u32], history: &mut [u32], work: &mut [u32]) -> Outcome
         ensures { λ r. ⌜
-            left r (now (table .exit)) (now (history .exit)) (now (work .exit))
-            ≡ undoBy (stateOf self) (now (table .entry)) (now (history .entry)) (now (work .entry)) ⌝ }
+            leftStored r (now (table .exit)) (now (history .exit)) (now (work .exit))
+            ≡ undoStored (storedOf self) (now (table .entry)) (now (history .entry)) (now (work .entry)) ⌝ }
     {
         self.unfold(self.level_below(), table, history, work)
     }

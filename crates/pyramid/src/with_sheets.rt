@@ -9,9 +9,9 @@ use sheets::Zone;
 use sheets::loops::merge_all;
 use sheets::loops::put_all_back;
 ghost use mathlib.Core.Path.{_≡_};
-ghost use Rattle.yarn.specs.Calls.{reduceWith, sweepWith, undoWith, unfoldWith};
-ghost use Rattle.pyramid.specs.Costs.{StoodWith, Righted, costsLeft, contractsWith};
-ghost use Rattle.pyramid.specs.Values.{stateOf, kindOf};
+ghost use Rattle.yarn.specs.Stored.{reduceStoredWith, sweepStoredWith, undoStoredWith, unfoldStoredWith};
+ghost use Rattle.pyramid.specs.Costs.{StoodWith, Righted, costsLeft, costsStored, contractsWith};
+ghost use Rattle.pyramid.specs.Values.{stateOf, storedOf, kindOf};
 
 impl State {
     // A kernel of contractions once it is judged: the merges are made when the whole kernel is accepted. The work area is cleared.
@@ -51,8 +51,8 @@ impl State {
         keeps: &mut [Zone],
     ) -> Outcome
         ensures { λ r. ⌜
-            costsLeft r (now (table .exit)) (now (history .exit)) (now (work .exit)) (now (sheet .exit)) (now (keeps .exit))
-            ≡ reduceWith (kindOf kind) (now (kernel .entry)) (stateOf self) (now (table .entry)) (now (history .entry)) (now (work .entry))
+            costsStored r (now (table .exit)) (now (history .exit)) (now (work .exit)) (now (sheet .exit)) (now (keeps .exit))
+            ≡ reduceStoredWith (kindOf kind) (now (kernel .entry)) (storedOf self) (now (table .entry)) (now (history .entry)) (now (work .entry))
             (record { sheet = now (sheet .entry); kept = now (keeps .entry) }) ⌝ }
     {
         let judged = self.judged_with(table, history, work, sheet, keeps);
@@ -60,8 +60,14 @@ impl State {
             return kept(self, judged);
         }
         match kind {
-            Kind::Contract => self.contract_with(kernel, table, history, work, sheet, keeps),
-            Kind::Remove => self.remove_stood(kernel, table, history, work),
+            Kind::Contract => {
+                let o = self.contract_with(kernel, table, history, work, sheet, keeps);
+                self.settle(o, history)
+            }
+            Kind::Remove => {
+                let o = self.remove_stood(kernel, table, history, work);
+                self.settle(o, history)
+            }
         }
     }
 
@@ -75,15 +81,16 @@ impl State {
         keeps: &mut [Zone],
     ) -> Outcome
         ensures { λ r. ⌜
-            costsLeft r (now (table .exit)) (now (history .exit)) (now (work .exit)) (now (sheet .exit)) (now (keeps .exit))
-            ≡ sweepWith (stateOf self) (now (table .entry)) (now (history .entry)) (now (work .entry))
+            costsStored r (now (table .exit)) (now (history .exit)) (now (work .exit)) (now (sheet .exit)) (now (keeps .exit))
+            ≡ sweepStoredWith (storedOf self) (now (table .entry)) (now (history .entry)) (now (work .entry))
             (record { sheet = now (sheet .entry); kept = now (keeps .entry) }) ⌝ }
     {
         let judged = self.judged_with(table, history, work, sheet, keeps);
         if judged.number() != 0 {
             return kept(self, judged);
         }
-        self.sweep_stood(table, history, work)
+        let o = self.sweep_stood(table, history, work);
+        self.settle(o, history)
     }
 
     // Back to a level: what the contractions above it kept is put back, the last one first.
@@ -97,8 +104,8 @@ impl State {
         keeps: &mut [Zone],
     ) -> Outcome
         ensures { λ r. ⌜
-            costsLeft r (now (table .exit)) (now (history .exit)) (now (work .exit)) (now (sheet .exit)) (now (keeps .exit))
-            ≡ unfoldWith level (stateOf self) (now (table .entry)) (now (history .entry)) (now (work .entry))
+            costsStored r (now (table .exit)) (now (history .exit)) (now (work .exit)) (now (sheet .exit)) (now (keeps .exit))
+            ≡ unfoldStoredWith level (storedOf self) (now (table .entry)) (now (history .entry)) (now (work .entry))
             (record { sheet = now (sheet .entry); kept = now (keeps .entry) }) ⌝ }
     {
         let judged = self.judged_with(table, history, work, sheet, keeps);
@@ -109,7 +116,8 @@ impl State {
         let n = self.operations as usize;
         let m = self.operations_at(level) as usize;
         put_all_back(work, d, m, n, sheet, keeps);
-        self.unfold_judged(level, table, history, work)
+        let o = self.unfold_judged(level, table, history, work);
+        self.settle(o, history)
     }
 
     // The last level undone.
@@ -122,8 +130,8 @@ impl State {
         keeps: &mut [Zone],
     ) -> Outcome
         ensures { λ r. ⌜
-            costsLeft r (now (table .exit)) (now (history .exit)) (now (work .exit)) (now (sheet .exit)) (now (keeps .exit))
-            ≡ undoWith (stateOf self) (now (table .entry)) (now (history .entry)) (now (work .entry))
+            costsStored r (now (table .exit)) (now (history .exit)) (now (work .exit)) (now (sheet .exit)) (now (keeps .exit))
+            ≡ undoStoredWith (storedOf self) (now (table .entry)) (now (history .entry)) (now (work .entry))
             (record { sheet = now (sheet .entry); kept = now (keeps .entry) }) ⌝ }
     {
         self.unfold_with(self.level_below(), table, history, work, sheet, keeps)

@@ -12,17 +12,18 @@ use darts::answers::fit;
 use engine::check::check_laid;
 use pyramid::Outcome;
 use pyramid::State;
-use pyramid::starting::based;
+use pyramid::starting::unbased;
 use slices::copy;
 ghost use mathlib.Core.Path.{_≡_};
 ghost use Prim.Native.Nat.{_/_, _≤_};
 ghost use lib.ListN.{length};
 ghost use Rattle.darts.specs.Read.{body, closed};
-ghost use Rattle.darts.specs.Calls.{cleared, readInto, read as readOf};
+ghost use Rattle.darts.specs.Calls.{cleared, readInto};
+ghost use Rattle.darts.specs.Stored.{zeros, numbered, readStored};
 ghost use Rattle.area.specs.Area.{Room};
 ghost use Rattle.area.specs.Shape.{stateWith};
 ghost use Rattle.engine.specs.Held.{Beyond};
-ghost use Rattle.pyramid.specs.Values.{left};
+ghost use Rattle.pyramid.specs.Values.{leftStored};
 ghost use Rattle.reader.specs.Lines.{startsWith};
 ghost use Rattle.reader.specs.Parsed.{LastRead, linesAt, BodyRead};
 ghost use Rattle.reader.specs.Settled.{Accepted, Settled};
@@ -124,7 +125,7 @@ fn accept(
     copy(history, &work[from..to], n);
 }
 
-// What stands in the work area, judged: table and history are written only where it is a pyramid.
+// What stands in the work area, judged: table and history are written only where it is a pyramid. The state stores the numbers that the check found.
 fn settle(
     bytes: &[u8],
     at: usize,
@@ -143,9 +144,10 @@ fn settle(
     let d = state.darts;
     let n = state.operations;
     if d / 2 < n {
-        return based(0, Answer::NoPyramid);
+        return unbased(Answer::NoPyramid);
     }
-    if check_laid(work, state) {
+    let found = check_laid(work, state);
+    if found.pyramid {
         accept(bytes, at, d, flag, n, table, history, work);
         let ends = state.ends;
         return Outcome {
@@ -153,12 +155,14 @@ fn settle(
                 darts: d as u32,
                 operations: n as u32,
                 levels: state.levels as u32,
+                vertices: found.vertices as u32,
+                faces: found.faces as u32,
                 ends: ends,
             },
             answer: Answer::Done(0),
         };
     }
-    based(0, Answer::NoPyramid)
+    unbased(Answer::NoPyramid)
 }
 
 // What follows the darts line, read into the work area and judged.
@@ -174,8 +178,9 @@ fn read_inside(
     requires { ⌜ Room d (now work) ⌝ }
     requires { ⌜ (d ≤ length (now table)) × (d / 2 ≤ length (now history)) ⌝ }
     ensures { λ r. ⌜
-        left r (now (table .exit)) (now (history .exit)) (cleared d (now (work .entry)))
-        ≡ readInto (now (table .entry)) (now (history .entry)) (now (work .entry)) (closed (startsWith flag d) (body d (now (bytes .entry)) at)) ⌝ }
+        leftStored r (now (table .exit)) (now (history .exit)) (cleared d (now (work .entry)))
+        ≡ numbered zeros
+        (readInto (now (table .entry)) (now (history .entry)) (now (work .entry)) (closed (startsWith flag d) (body d (now (bytes .entry)) at))) ⌝ }
     ensures { λ _. ⌜ Beyond d (now (work .entry)) (now (work .exit)) ⌝ }
 {
     let said = parse(bytes, at, d, flag, work);
@@ -183,7 +188,7 @@ fn read_inside(
     let levels = said.levels;
     let ends = said.ends;
     match read {
-        Scanned::Fault(answer) => based(0, answer),
+        Scanned::Fault(answer) => unbased(answer),
         Scanned::Found(n, first) => {
             let state = Figures {
                 darts: d,
@@ -199,15 +204,15 @@ fn read_inside(
 // Reads a file: D, then its levels and their kernels, then the table. Table and history are written only when it is accepted.
 pub fn read(bytes: &[u8], table: &mut [u32], history: &mut [u32], work: &mut [u32]) -> Outcome
     ensures { λ r. ⌜
-        left r (now (table .exit)) (now (history .exit)) (now (work .exit))
-        ≡ readOf (now (bytes .entry)) (now (table .entry)) (now (history .entry)) (now (work .entry)) ⌝ }
+        leftStored r (now (table .exit)) (now (history .exit)) (now (work .exit))
+        ≡ readStored (now (bytes .entry)) (now (table .entry)) (now (history .entry)) (now (work .entry)) ⌝ }
 {
     match opening(bytes) {
-        Line::Fault(answer) => based(0, answer),
+        Line::Fault(answer) => unbased(answer),
         Line::Found(flag, d, at) => {
             let judged = fit(d as u32, table.len(), history.len(), work.len());
             if judged.number() != 0 {
-                return based(0, judged);
+                return unbased(judged);
             }
             let outcome = read_inside(bytes, at, d, flag, table, history, work);
             clear(work, d);

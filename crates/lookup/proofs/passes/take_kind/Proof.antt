@@ -13,7 +13,7 @@ pass-requires : tie.Need-pass-requires
 pass-requires c κs =
     let l = c .before .before .before in
     let s = l .before .before .before .before in
-    labelled-ready (s .pre .0) (s .pre .1) (l .label .ensures)
+    labelled-ready (s .pre .0) (s .pre .1) (l .label .ensures .0)
 
 same-length : tie.Need-same-length
 same-length c = search needs
@@ -23,7 +23,7 @@ returns c =
     let p = c .before .before in
     let l = p .before .before .before .before in
     let s = l .before .before .before .before in
-    labelled-passed (s .pre .0) (s .pre .1) (l .label .ensures) _ (p .pass .ensures)
+    labelled-passed (s .pre .0) (s .pre .1) (l .label .ensures .0) _ (p .pass .ensures)
 
 pub take-kind-spec : {M : Type 1} → statement M
 take-kind-spec = tie.close (tie.spec label-requires pass-requires same-length returns)

@@ -1,18 +1,18 @@
--- `plans::calls::plan_areas` meets its contract: refused, or the first kernel run in the work area, and then no edge taken or one level more.
+-- `plans::calls::plan_areas` meets its contract: refused, or the first kernel run in the work area, and then no edge taken or one level more, with
+-- the numbers of the base moved to it.
 use mathlib.Core.Path.{_≡_, sym, ap, _∙_}
-use Prim.Native.Nat.{ℕ}
 use borrow.Author.Needs.{needs}
 use lib.ListN.{length}
 use Rattle.darts.specs.Answers.{Answer}
-use Rattle.darts.specs.State.{baseState}
 use Rattle.darts.specs.declared.Answer.the-variants.{Done}
 use Rattle.engine.specs.Runs.{Went}
 use Rattle.grids.specs.Grid.{flat, dartsOf}
 use Rattle.grids.specs.Plans.{fittingPlan, firstKernel, planAreas}
+use Rattle.grids.specs.Stored.{areasStored}
 use Rattle.plans.proofs.Fits.{fitted, fitted-room}
 use Rattle.plans.proofs.Limits.{sized-facts}
-use Rattle.plans.proofs.Planned.{plan-refused}
-use Rattle.plans.proofs.Areas.{areas-room, areas-halts, areas-none, areas-level}
+use Rattle.plans.proofs.Planned.{plan-refused, base-state}
+use Rattle.plans.proofs.Areas.{areas-room, areas-halts, areas-none, areas-level, areas-settles, areas-settled}
 use Rattle.plans.proofs.calls.plan_areas.Statement.{statement}
 use Rattle.plans.proofs.calls.plan_areas.Tie as tie
 
@@ -22,16 +22,16 @@ fit-plan-requires c κs = search needs
 number-requires : tie.Need-number-requires
 number-requires c κs = search needs
 
-based-requires : tie.Need-based-requires
-based-requires c κs = search needs
+unbased-requires : tie.Need-unbased-requires
+unbased-requires c κs = search needs
 
 returns : tie.Need-returns
-unfolding planAreas
+unfolding areasStored planAreas
 returns c =
     let g = c .before .before .before .before .before .before .before .before .args in
     let f = c .before .before .before .fit-plan .ensures in
-    let b = c .based .ensures in
-    plan-refused (flat (g .wales) (g .courses)) (g .plan .now) (g .table .now) (g .history .now) (g .work .now) _ (c .based .result)
+    let b = c .unbased .ensures in
+    plan-refused (flat (g .wales) (g .courses)) (g .plan .now) (g .table .now) (g .history .now) (g .work .now) _ (c .unbased .result)
     (λ z. c .before .if1 .taken (c .before .before .number .ensures ∙ ap (λ (a : Answer). a .number) f ∙ z))
     (record { answer = b .answer ∙ f; state = b .state })
 
@@ -67,8 +67,8 @@ clear-requires c κs =
     rw (k .before .before .darts-of .ensures) (areas-room (flat (g .wales) (g .courses)) (g .plan .now) (g .table .now) (g .history .now) (g .work .now)
     (fits e) (went k))
 
-based-requires-2 : tie.Need-based-requires-2
-based-requires-2 c κs = search needs
+unbased-requires-2 : tie.Need-unbased-requires-2
+unbased-requires-2 c κs = search needs
 
 same-length : tie.Need-same-length
 same-length c = search needs
@@ -81,19 +81,19 @@ returns-2 c =
     rw (c .before .before .before .clear .ensures, k .before .before .darts-of .ensures)
     (areas-none (flat (g .wales) (g .courses)) (g .plan .now) (g .table .now) (g .history .now) (g .work .now)
     (fits e) (went k)
-    (c .based2 .result) (c .before .before .before .before .before .if2 .taken) (c .based2 .ensures))
+    (c .unbased2 .result) (c .before .before .before .before .before .if2 .taken) (c .unbased2 .ensures))
 
-based-requires-3 : tie.Need-based-requires-3
-based-requires-3 c κs = search needs
+base-of-requires : tie.Need-base-of-requires
+base-of-requires c κs = fitted _ _ _ _ _ (fits (c .before .before .before .before .before .before)) .sizes
 
 level-requires : tie.Need-level-requires
 level-requires c κs =
-    let k = c .before .before .before .before .before .before .before .before in
+    let b = c .before .before .before .before in
+    let k = b .before .before .before .before in
     let e = k .before .before .before in
     let g = e .before .before .before .before .before .before .before .args in
-    areas-halts (flat (g .wales) (g .courses)) (g .plan .now) (g .table .now) (g .history .now) (g .work .now)
-    (fits e) (went k) _
-    (c .before .before .before .before .based3 .ensures .state ∙ ap (λ (D : ℕ). baseState D) (k .before .before .darts-of .ensures))
+    let G = flat (g .wales) (g .courses) in
+    areas-halts G (g .plan .now) (g .table .now) (g .history .now) (g .work .now) (fits e) (went k) _ (base-state G (b .base-of .result) (b .base-of .ensures))
 
 clear-requires-2 : tie.Need-clear-requires-2
 clear-requires-2 c κs =
@@ -102,6 +102,22 @@ clear-requires-2 c κs =
     let g = e .before .before .before .before .before .before .before .args in
     rw (k .before .before .darts-of .ensures) (areas-room (flat (g .wales) (g .courses)) (g .plan .now) (g .table .now) (g .history .now) (g .work .now)
     (fits e) (went k))
+
+settle-requires : tie.Need-settle-requires
+settle-requires c κs =
+    let l = c .before .before .before .before .before .before .before .before .before in
+    let b = l .before .before .before .before .before in
+    let k = b .before .before .before .before in
+    let e = k .before .before .before in
+    let g = e .before .before .before .before .before .before .before .args in
+    let G = flat (g .wales) (g .courses) in
+    let some = b .before .if2 .left in
+    let H = b .base-of .ensures in
+    let o = l .level .result in
+    areas-settles G (g .plan .now) (g .table .now) (g .history .now) (g .work .now) (fits e) (went k) some o
+    (areas-level G (g .plan .now) (g .table .now) (g .history .now) (g .work .now) (fits e) (went k) _ (base-state G (b .base-of .result) H) o some
+    (l .level .ensures))
+    (H .state)
 
 same-length-2 : tie.Need-same-length-2
 same-length-2 c = search needs
@@ -114,16 +130,20 @@ same-length-4 c = search needs
 
 returns-3 : tie.Need-returns-3
 returns-3 c =
-    let k = c .before .before .before .before .before .before .before .before .before .before .before .before .before .before .before .before .before in
+    let l = c .before .before .before .before .before .before .before .before .before .before in
+    let b = l .before .before .before .before .before in
+    let k = b .before .before .before .before in
     let e = k .before .before .before in
     let g = e .before .before .before .before .before .before .before .args in
-    let d = k .before .before .darts-of .ensures in
-    let l = c .before .before .before .before .before .before .before .before .level in
-    rw (c .before .before .clear2 .ensures, d)
-    (areas-level (flat (g .wales) (g .courses)) (g .plan .now) (g .table .now) (g .history .now) (g .work .now)
-    (fits e) (went k) _
-    (c .before .before .before .before .before .before .before .before .before .before .before .before .before .based3 .ensures .state ∙ ap (λ (D : ℕ). baseState D) d)
-    (l .result) (c .before .before .before .before .before .before .before .before .before .before .before .before .before .before .if2 .left) (l .ensures))
+    let G = flat (g .wales) (g .courses) in
+    let some = b .before .if2 .left in
+    let H = b .base-of .ensures in
+    let o = l .level .result in
+    rw (c .before .before .before .before .clear2 .ensures, k .before .before .darts-of .ensures)
+    (areas-settled G (g .plan .now) (g .table .now) (g .history .now) (g .work .now) (fits e) (went k) some o
+    (areas-level G (g .plan .now) (g .table .now) (g .history .now) (g .work .now) (fits e) (went k) _ (base-state G (b .base-of .result) H) o some
+    (l .level .ensures))
+    (H .state) (c .settle .ensures))
 
 pub plan-areas-spec : {M : Type 1} → statement M
 plan-areas-spec =
@@ -131,18 +151,19 @@ plan-areas-spec =
     (tie.spec
     fit-plan-requires
     number-requires
-    based-requires
+    unbased-requires
     returns
     darts-of-requires
     cast-d
     first-kernel-requires
     clear-requires
-    based-requires-2
+    unbased-requires-2
     same-length
     returns-2
-    based-requires-3
+    base-of-requires
     level-requires
     clear-requires-2
+    settle-requires
     same-length-2
     same-length-3
     same-length-4

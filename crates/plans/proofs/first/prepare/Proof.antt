@@ -34,7 +34,7 @@ returns c =
     prepared
     (based (flat (s .args .w) (s .args .c)) (s .pre .1 .0) (s .args .work .now) (s .pre .1 .1)
     (rw (l .lay-base .ensures) at (c .before .before .before .before .before .before .bind-base .ensures)))
-    (c .before .before .label .ensures)
+    (c .before .before .label .ensures .0)
 
 pub prepare-spec : {M : Type 1} → statement M
 prepare-spec = tie.close (tie.spec lay-base-requires bind-base-requires label-requires same-length returns)

@@ -4,6 +4,7 @@ use lib.Dec.{lit≤}
 use Rattle.darts.specs.Calls.{reduceBy}
 use Rattle.pyramid.proofs.ByRun.{reduce-levels, level-halts, level-ends}
 use Rattle.pyramid.proofs.Making.{made-full, made-ran}
+use Rattle.pyramid.proofs.Started.{bare}
 use borrow.Author.Needs.{needs}
 use Rattle.pyramid.proofs.State.contract_stood.Statement.{statement}
 use Rattle.pyramid.proofs.State.contract_stood.Tie as tie
@@ -18,7 +19,7 @@ kept-requires : tie.Need-kept-requires
 kept-requires c κs = search needs
 
 returns : tie.Need-returns
-returns c = made-full (c .before .before .before .before .before .before .before .before .before .pre) _ (c .before .if1 .taken) _ (c .kept .ensures) refl
+returns c = made-full (c .before .before .before .before .before .before .before .before .before .pre) _ (c .before .if1 .taken) _ (bare (c .kept .ensures)) refl
 
 run-noted-requires : tie.Need-run-noted-requires
 run-noted-requires c κs = c .before .before .before .before .before .before .before .before .before .pre .stood .checked refl .ready refl (lit≤ tt)

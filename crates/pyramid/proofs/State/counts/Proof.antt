@@ -1,8 +1,8 @@
--- `pyramid::State::counts` meets its contract: what is judged first, or the cycles counted in the work area.
-use mathlib.Core.Path.{_≡_, refl, sym, _∙_}
+-- `pyramid::State::counts` meets its contract: refused, or the numbers that the state stores.
+use mathlib.Core.Path.{_≡_, _∙_, sym, refl}
 use native.Mathlib.Omega.{arith}
 use Rattle.darts.specs.Cases.{answerOf}
-use Rattle.pyramid.proofs.Judges.{room-then}
+use Rattle.laws.proofs.moves.Stored.{stored-most}
 use Rattle.pyramid.proofs.CountsEnd.{counts-refused, counts-given}
 use borrow.Author.Needs.{needs}
 use Rattle.pyramid.proofs.State.counts.Statement.{statement}
@@ -42,23 +42,18 @@ cast-d c = search needs
 cast-n : tie.Need-cast-n
 cast-n c = search needs
 
-cycles-requires : tie.Need-cycles-requires
-cycles-requires c κs =
-    let e = c .before .before .before in
-    e .before .before .before .before .judged .ensures .checked (fine e) .area refl
-
 clear-requires : tie.Need-clear-requires
 clear-requires c κs =
-    let e = c .before .before .before .before .before .before .before in
-    room-then (e .before .before .before .before .judged .ensures) (fine e) (c .before .before .before .cycles .ensures .beyond)
+    let e = c .before .before .before in
+    e .before .before .before .before .judged .ensures .judged (fine e) .checked refl .area refl .room
 
 mul-darts : tie.Need-mul-darts
 mul-darts c = search needs
 
 sub-darts : tie.Need-sub-darts
 sub-darts c =
-    let e = c .before .before .before .before .before .before .before .before .before .before in
-    let A = e .before .before .before .before .judged .ensures .checked (fine e) .area refl in
+    let e = c .before .before .before .before .before .before in
+    let A = e .before .before .before .before .judged .ensures .judged (fine e) .checked refl .area refl in
     let k = A .few in
     let m = A .room .small in
     omega arith
@@ -66,20 +61,14 @@ sub-darts c =
 cast-darts : tie.Need-cast-darts
 cast-darts c = search needs
 
-cast-tallied : tie.Need-cast-tallied
-cast-tallied c = search needs
-
-cast-tallied-2 : tie.Need-cast-tallied-2
-cast-tallied-2 c = search needs
-
 tallied-requires : tie.Need-tallied-requires
 tallied-requires c κs =
-    let k = c .before .before .before .before .before .before .before .before in
-    let e = k .before .before .before .before in
-    let m = e .before .before .before .before .judged .ensures .checked (fine e) .area refl .room .small in
-    let K = k .cycles .ensures in
-    let a = K .few-vertices in
-    let d = K .few-faces in
+    let e = c .before .before .before .before .before .before in
+    let J = e .before .before .before .before .judged .ensures in
+    let m = J .judged (fine e) .checked refl .area refl .room .small in
+    let M = stored-most (J .stores (fine e)) in
+    let x = M .vertices in
+    let y = M .faces in
     (omega arith, omega arith, omega arith)
 
 same-length-4 : tie.Need-same-length-4
@@ -93,9 +82,8 @@ same-length-6 c = search needs
 
 returns-2 : tie.Need-returns-2
 returns-2 c =
-    let k = c .before .before .before .before .before .before .before .before .before in
-    let e = k .before .before .before .before in
-    rw (c .tallied .ensures, c .before .before .before .before .before .clear .ensures) (counts-given (e .before .before .before .before .judged .ensures) (fine e) (k .cycles .ensures))
+    let e = c .before .before .before .before .before .before .before in
+    rw (c .tallied .ensures, c .before .before .before .clear .ensures) (counts-given (e .before .before .before .before .judged .ensures) (fine e))
 
 pub counts-spec : {M : Type 1} → statement M
 counts-spec =
@@ -110,13 +98,10 @@ counts-spec =
     returns
     cast-d
     cast-n
-    cycles-requires
     clear-requires
     mul-darts
     sub-darts
     cast-darts
-    cast-tallied
-    cast-tallied-2
     tallied-requires
     same-length-4
     same-length-5

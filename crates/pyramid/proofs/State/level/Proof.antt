@@ -2,6 +2,7 @@
 use mathlib.Core.Path.{refl, sym, _∙_}
 use Rattle.darts.specs.declared.Answer.the-variants.{Done}
 use Rattle.pyramid.proofs.Raising.{level-stops, level-empty, level-raised}
+use Rattle.pyramid.proofs.Started.{bare}
 use borrow.Author.Needs.{needs}
 use Rattle.pyramid.proofs.State.level.Statement.{statement}
 use Rattle.pyramid.proofs.State.level.Tie as tie
@@ -20,7 +21,7 @@ kept-requires c κs = search needs
 
 returns : tie.Need-returns
 returns c =
-    level-stops _ _ _ _ _ (c .before .before .before .before .before .before .before .before .pre) _ (λ z. c .before .if1 .taken (c .before .before .number .ensures ∙ z)) (c .kept .ensures)
+    level-stops _ _ _ _ _ (c .before .before .before .before .before .before .before .before .pre) _ (λ z. c .before .if1 .taken (c .before .before .number .ensures ∙ z)) (bare (c .kept .ensures))
 
 kept-requires-2 : tie.Need-kept-requires-2
 kept-requires-2 c κs = search needs
@@ -28,7 +29,7 @@ kept-requires-2 c κs = search needs
 returns-2 : tie.Need-returns-2
 returns-2 c =
     let e = c .before .before in
-    level-empty _ _ _ _ _ (e .before .before .before .before .before .before .before .pre) (sym (e .before .number .ensures) ∙ e .if1 .left) _ (c .before .if2 .taken) (c .kept2 .ensures)
+    level-empty _ _ _ _ _ (e .before .before .before .before .before .before .before .pre) (sym (e .before .number .ensures) ∙ e .if1 .left) _ (c .before .if2 .taken) (bare (c .kept2 .ensures))
 
 store-requires : tie.Need-store-requires
 store-requires c κs = search needs

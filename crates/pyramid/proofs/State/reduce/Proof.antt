@@ -1,10 +1,13 @@
--- `pyramid::State::reduce` meets its contract: what is judged first, or what comes once it is judged.
-use mathlib.Core.Path.{_≡_, _∙_, sym}
+-- `pyramid::State::reduce` meets its contract: what is judged first, or what comes once it is judged, its numbers put right.
+use mathlib.Core.Path.{_≡_, _∙_, sym, refl}
 use Rattle.darts.specs.Cases.{answerOf}
-use Rattle.darts.specs.Calls.{reduceBy}
+use Rattle.darts.specs.Stored.{reduceStored}
+use Rattle.laws.proofs.chained.OnLent.{byKernel}
+use Rattle.pyramid.specs.Values.{kindOf}
 use Rattle.pyramid.proofs.Judges.{stood-of}
-use Rattle.pyramid.proofs.OnState.{call-refused, stood-ends}
+use Rattle.pyramid.proofs.OnState.{call-refused}
 use Rattle.pyramid.proofs.ByRun.{plain-reduce}
+use Rattle.pyramid.proofs.Settles.{judged-settles, judged-settled}
 use borrow.Author.Needs.{needs}
 use Rattle.pyramid.proofs.State.reduce.Statement.{statement}
 use Rattle.pyramid.proofs.State.reduce.Tie as tie
@@ -31,7 +34,7 @@ same-length-3 : tie.Need-same-length-3
 same-length-3 c = search needs
 
 returns : tie.Need-returns
-unfolding reduceBy
+unfolding reduceStored
 returns c =
     call-refused _ (c .before .before .before .before .before .judged .ensures) (λ z. c .before .if1 .taken (c .before .before .number .ensures ∙ z)) (c .kept .ensures)
 
@@ -42,8 +45,15 @@ fine c = sym (c .before .number .ensures) ∙ c .if1 .left
 reduce-judged-requires : tie.Need-reduce-judged-requires
 reduce-judged-requires c κs =
     let e = c .before .before .before in
+    (e .before .before .before .before .before .before .before .before .bit .ensures .0, stood-of (e .before .before .before .before .judged .ensures .judged (fine e)) refl)
+
+settle-requires : tie.Need-settle-requires
+settle-requires c κs =
+    let g = c .before .before .before .before .before .before .before .before .before .before .before .before .before .before .before .before .before .before .before .before .before .before .before .before .args in
+    let e = c .before .before .before .before .before .before .before .before .before .before .before in
     let j = e .before .before .before .before in
-    (j .before .before .before .before .bit .ensures .0, stood-of (j .judged .ensures) (fine e))
+    let o = c .before .before .before .before .before .before .before .reduce-judged in
+    judged-settles (byKernel (record { kind = kindOf (g .kind); edges = g .kernel .now })) (j .judged .ensures) (fine e) (plain-reduce _ _ _ _ _) (o .result) (rw (j .before .before .before .before .bit .ensures .1) at (o .ensures))
 
 same-length-4 : tie.Need-same-length-4
 same-length-4 c = search needs
@@ -55,11 +65,12 @@ same-length-6 : tie.Need-same-length-6
 same-length-6 c = search needs
 
 returns-2 : tie.Need-returns-2
-unfolding reduceBy
 returns-2 c =
-    let e = c .before .before .before .before .before .before .before .before .before .before in
+    let g = c .before .before .before .before .before .before .before .before .before .before .before .before .before .before .before .before .before .before .before .before .before .before .before .before .before .args in
+    let e = c .before .before .before .before .before .before .before .before .before .before .before .before in
     let j = e .before .before .before .before in
-    stood-ends _ (j .judged .ensures) (fine e) (plain-reduce _ _ _ _ _) (rw (j .before .before .before .before .bit .ensures .1) at (c .before .before .before .before .before .before .reduce-judged .ensures))
+    let o = c .before .before .before .before .before .before .before .before .reduce-judged in
+    judged-settled (byKernel (record { kind = kindOf (g .kind); edges = g .kernel .now })) (j .judged .ensures) (fine e) (plain-reduce _ _ _ _ _) (o .result) (rw (j .before .before .before .before .bit .ensures .1) at (o .ensures)) (c .settle .ensures)
 
 pub reduce-spec : {M : Type 1} → statement M
 reduce-spec =
@@ -74,6 +85,7 @@ reduce-spec =
     same-length-3
     returns
     reduce-judged-requires
+    settle-requires
     same-length-4
     same-length-5
     same-length-6

@@ -5,6 +5,7 @@ use Rattle.darts.specs.Calls.{reduceBy}
 use Rattle.engine.proofs.Ready.{beyond-refl}
 use Rattle.pyramid.proofs.Judges.{room-then}
 use Rattle.pyramid.proofs.ByRun.{reduce-levels, level-full, level-halts, level-ends}
+use Rattle.pyramid.proofs.Started.{bare}
 use borrow.Author.Needs.{needs}
 use Rattle.pyramid.proofs.State.reduce_judged.Statement.{statement}
 use Rattle.pyramid.proofs.State.reduce_judged.Tie as tie
@@ -24,7 +25,7 @@ same-length c = search needs
 returns : tie.Need-returns
 unfolding reduceBy
 returns c =
-    rw (c .before .before .before .clear .ensures) (level-full (reduce-levels refl _) (c .before .before .before .before .before .before .before .before .before .before .before .before .pre .1) refl (c .before .before .before .before .before .if1 .taken) (c .kept .ensures))
+    rw (c .before .before .before .clear .ensures) (level-full (reduce-levels refl _) (c .before .before .before .before .before .before .before .before .before .before .before .before .pre .1) refl (c .before .before .before .before .before .if1 .taken) (bare (c .kept .ensures)))
 
 cast-run : tie.Need-cast-run
 cast-run c = search needs

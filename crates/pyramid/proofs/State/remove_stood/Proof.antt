@@ -22,7 +22,7 @@ label-requires c κs =
 reduce-judged-requires : tie.Need-reduce-judged-requires
 reduce-judged-requires c κs =
     let l = c .before .before .before .before .before in
-    let j = relabelled (l .before .before .before .before .before .before .before .pre) (omega arith) (l .label .ensures) in
+    let j = relabelled (l .before .before .before .before .before .before .before .pre) (omega arith) (l .label .ensures .0) in
     (omega arith, stood-of j refl)
 
 same-length : tie.Need-same-length
@@ -38,7 +38,7 @@ returns : tie.Need-returns
 unfolding reduceBy kindOf
 returns c =
     let l = c .before .before .before .before .before .before .before .before .before .before .before .before in
-    let j = relabelled (l .before .before .before .before .before .before .before .pre) (omega arith) (l .label .ensures) in
+    let j = relabelled (l .before .before .before .before .before .before .before .pre) (omega arith) (l .label .ensures .0) in
     stood-ends _ j refl (plain-reduce _ _ _ _ _) (c .before .before .before .before .before .before .reduce-judged .ensures)
 
 pub remove-stood-spec : {M : Type 1} → statement M

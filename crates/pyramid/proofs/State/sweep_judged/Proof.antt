@@ -6,6 +6,7 @@ use Rattle.darts.specs.Calls.{sweepBy}
 use Rattle.engine.proofs.Ready.{beyond-refl}
 use Rattle.pyramid.proofs.Judges.{room-then}
 use Rattle.pyramid.proofs.ByRun.{sweep-levels, level-full, level-halts, level-ends}
+use Rattle.pyramid.proofs.Started.{bare}
 use borrow.Author.Needs.{needs}
 use Rattle.pyramid.proofs.State.sweep_judged.Statement.{statement}
 use Rattle.pyramid.proofs.State.sweep_judged.Tie as tie
@@ -25,7 +26,7 @@ same-length c = search needs
 returns : tie.Need-returns
 unfolding sweepBy
 returns c =
-    rw (c .before .before .before .clear .ensures) (level-full sweep-levels (c .before .before .before .before .before .before .before .before .before .before .before .pre) refl (c .before .before .before .before .before .if1 .taken) (c .kept .ensures))
+    rw (c .before .before .before .clear .ensures) (level-full sweep-levels (c .before .before .before .before .before .before .before .before .before .before .before .pre) refl (c .before .before .before .before .before .if1 .taken) (bare (c .kept .ensures)))
 
 cast-sweep : tie.Need-cast-sweep
 cast-sweep c = search needs

@@ -21,7 +21,7 @@ label-requires c κs =
 sweep-judged-requires : tie.Need-sweep-judged-requires
 sweep-judged-requires c κs =
     let l = c .before .before .before .before .before in
-    let j = relabelled (l .before .before .before .before .before .before .pre) (omega arith) (l .label .ensures) in
+    let j = relabelled (l .before .before .before .before .before .before .pre) (omega arith) (l .label .ensures .0) in
     stood-of j refl
 
 same-length : tie.Need-same-length
@@ -37,7 +37,7 @@ returns : tie.Need-returns
 unfolding sweepBy
 returns c =
     let l = c .before .before .before .before .before .before .before .before .before .before .before .before in
-    let j = relabelled (l .before .before .before .before .before .before .pre) (omega arith) (l .label .ensures) in
+    let j = relabelled (l .before .before .before .before .before .before .pre) (omega arith) (l .label .ensures .0) in
     stood-ends _ j refl (plain-sweep _ _ _) (c .before .before .before .before .before .before .sweep-judged .ensures)
 
 pub sweep-stood-spec : {M : Type 1} → statement M

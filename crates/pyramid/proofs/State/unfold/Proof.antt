@@ -1,10 +1,12 @@
--- `pyramid::State::unfold` meets its contract: what is judged first, or what comes once it is judged.
-use mathlib.Core.Path.{_≡_, _∙_, sym}
+-- `pyramid::State::unfold` meets its contract: what is judged first, or what comes once it is judged, its numbers put right.
+use mathlib.Core.Path.{_≡_, _∙_, sym, refl}
 use Rattle.darts.specs.Cases.{answerOf}
-use Rattle.darts.specs.Calls.{unfoldBy}
+use Rattle.darts.specs.Stored.{unfoldStored}
+use Rattle.laws.proofs.chained.OnLent.{toLevel}
 use Rattle.pyramid.proofs.Judges.{stood-of}
-use Rattle.pyramid.proofs.OnState.{call-refused, stood-ends}
+use Rattle.pyramid.proofs.OnState.{call-refused}
 use Rattle.pyramid.proofs.BackInside.{plain-unfold}
+use Rattle.pyramid.proofs.Settles.{judged-settles, judged-settled}
 use borrow.Author.Needs.{needs}
 use Rattle.pyramid.proofs.State.unfold.Statement.{statement}
 use Rattle.pyramid.proofs.State.unfold.Tie as tie
@@ -28,7 +30,7 @@ same-length-3 : tie.Need-same-length-3
 same-length-3 c = search needs
 
 returns : tie.Need-returns
-unfolding unfoldBy
+unfolding unfoldStored
 returns c =
     call-refused _ (c .before .before .before .before .before .judged .ensures) (λ z. c .before .if1 .taken (c .before .before .number .ensures ∙ z)) (c .kept .ensures)
 
@@ -39,7 +41,15 @@ fine c = sym (c .before .number .ensures) ∙ c .if1 .left
 unfold-judged-requires : tie.Need-unfold-judged-requires
 unfold-judged-requires c κs =
     let e = c .before .before .before in
-    stood-of (e .before .before .before .before .judged .ensures) (fine e)
+    stood-of (e .before .before .before .before .judged .ensures .judged (fine e)) refl
+
+settle-requires : tie.Need-settle-requires
+settle-requires c κs =
+    let g = c .before .before .before .before .before .before .before .before .before .before .before .before .before .before .before .before .before .before .before .before .before .before .args in
+    let e = c .before .before .before .before .before .before .before .before .before .before .before in
+    let j = e .before .before .before .before in
+    let o = c .before .before .before .before .before .before .before .unfold-judged in
+    judged-settles (toLevel (g .level)) (j .judged .ensures) (fine e) (plain-unfold _ _ _ _) (o .result) (o .ensures)
 
 same-length-4 : tie.Need-same-length-4
 same-length-4 c = search needs
@@ -51,11 +61,12 @@ same-length-6 : tie.Need-same-length-6
 same-length-6 c = search needs
 
 returns-2 : tie.Need-returns-2
-unfolding unfoldBy
 returns-2 c =
-    let e = c .before .before .before .before .before .before .before .before .before .before in
+    let g = c .before .before .before .before .before .before .before .before .before .before .before .before .before .before .before .before .before .before .before .before .before .before .before .args in
+    let e = c .before .before .before .before .before .before .before .before .before .before .before .before in
     let j = e .before .before .before .before in
-    stood-ends _ (j .judged .ensures) (fine e) (plain-unfold _ _ _ _) (c .before .before .before .before .before .before .unfold-judged .ensures)
+    let o = c .before .before .before .before .before .before .before .before .unfold-judged in
+    judged-settled (toLevel (g .level)) (j .judged .ensures) (fine e) (plain-unfold _ _ _ _) (o .result) (o .ensures) (c .settle .ensures)
 
 pub unfold-spec : {M : Type 1} → statement M
 unfold-spec =
@@ -69,6 +80,7 @@ unfold-spec =
     same-length-3
     returns
     unfold-judged-requires
+    settle-requires
     same-length-4
     same-length-5
     same-length-6

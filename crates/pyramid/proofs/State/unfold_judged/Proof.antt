@@ -6,6 +6,7 @@ use Rattle.engine.proofs.Ready.{beyond-refl}
 use Rattle.pyramid.proofs.Judges.{stacked-of, room-then}
 use Rattle.pyramid.proofs.OnState.{act-refused, act-given}
 use Rattle.pyramid.proofs.BackInside.{no-level-above, unfold-stepped, store-fits}
+use Rattle.pyramid.proofs.Started.{bare}
 use borrow.Author.Needs.{needs}
 use Rattle.pyramid.proofs.State.unfold_judged.Statement.{statement}
 use Rattle.pyramid.proofs.State.unfold_judged.Tie as tie
@@ -29,7 +30,7 @@ returns : tie.Need-returns
 unfolding unfoldBy
 returns c =
     rw (c .before .before .before .clear .ensures)
-    (act-refused _ (c .before .before .before .before .before .before .before .before .before .before .pre) refl (beyond-refl _ _) (no-level-above _ _ _ _ (c .before .before .before .before .before .if1 .taken)) (λ z. omega arith, λ z. omega arith) (c .kept .ensures))
+    (act-refused _ (c .before .before .before .before .before .before .before .before .before .before .pre) refl (beyond-refl _ _) (no-level-above _ _ _ _ (c .before .before .before .before .before .if1 .taken)) (λ z. omega arith, λ z. omega arith) (bare (c .kept .ensures)))
 
 unfolded-requires : tie.Need-unfolded-requires
 unfolded-requires c κs = stacked-of (c .before .before .before .before .before .before .pre) refl
@@ -67,7 +68,7 @@ returns-2 c =
     let j = u .before .before .before .before .before .before .before .pre in
     let U = u .unfolded .ensures in
     rw (d .0, d .1, c .before .before .before .clear2 .ensures)
-    (act-given _ j refl (U .beyond) (unfold-stepped j refl (u .before .before .if1 .left) U) (c .kept2 .ensures))
+    (act-given _ j refl (U .beyond) (unfold-stepped j refl (u .before .before .if1 .left) U) (bare (c .kept2 .ensures)))
 
 pub unfold-judged-spec : {M : Type 1} → statement M
 unfold-judged-spec =

@@ -1,15 +1,17 @@
--- `pyramid::State::unfold_with` meets its contract: what is judged first, or what was kept put back, and then the plain call. `Lts` and `Tie` are copies (tools/twin.py).
+-- `pyramid::State::unfold_with` meets its contract: what is judged first, or what was kept put back, then the plain call, and the numbers put right. `Lts` and `Tie` are copies (tools/twin.py).
 mod Lts
 mod Tie
 use mathlib.Core.Path.{_≡_, refl, sym, _∙_}
 use native.Mathlib.Omega.{arith}
 use Rattle.darts.specs.Calls.{unfoldBy}
+use Rattle.darts.specs.Cases.{answerOf}
 use Rattle.darts.specs.Levels.{unfoldTo}
 use Rattle.laws.proofs.runs.Pyramids.{pyramid-built}
+use Rattle.laws.proofs.chained.OnLent.{toLevel}
 use Rattle.yarn.specs.Calls.{unfoldWith}
 use Rattle.pyramid.proofs.BackInside.{plain-unfold}
 use Rattle.pyramid.proofs.JudgesWith.{costed-of}
-use Rattle.pyramid.proofs.OnSheets.{with-refused, with-done}
+use Rattle.pyramid.proofs.OnSheets.{with-done, stored-refused, stored-settles, stored-settled}
 use Rattle.pyramid.proofs.UnfoldedWith.{unfold-noted, unfolded-sheets, any-kind}
 use borrow.Author.Needs.{needs}
 use Rattle.pyramid.proofs.State.unfold_with.Statement.{statement}
@@ -40,8 +42,13 @@ same-length-5 : tie.Need-same-length-5
 same-length-5 c = search needs
 
 returns : tie.Need-returns
-unfolding unfoldWith
-returns c = with-refused (unfoldTo _) (c .before .before .before .before .before .judged-with .ensures) (λ z. c .before .if1 .taken (c .before .before .number .ensures ∙ z)) (c .kept .ensures)
+returns c =
+    let g = c .before .before .before .before .before .before .before .before .before .before .before .before .before .before .args in
+    stored-refused (toLevel (g .level)) (c .before .before .before .before .before .judged-with .ensures) (λ z. c .before .if1 .taken (c .before .before .number .ensures ∙ z)) (c .kept .ensures)
+
+-- judged, and done
+fine : (c : tie.Else1) → answerOf (c .before .before .before .before .judged-with .result) .number ≡ 0
+fine c = sym (c .before .number .ensures) ∙ c .if1 .left
 
 cast-d : tie.Need-cast-d
 cast-d c = search needs
@@ -52,9 +59,7 @@ cast-n c = search needs
 operations-at-requires : tie.Need-operations-at-requires
 operations-at-requires c κs =
     let e = c .before .before in
-    let j = e .before .before .before .before .judged-with .ensures in
-    let fine = sym (e .before .number .ensures) ∙ e .if1 .left in
-    pyramid-built (costed-of j fine .lent .pyramid) .layered .most
+    pyramid-built (e .before .before .before .before .judged-with .ensures .stores (fine e) .pyramid) .layered .most
 
 cast-m : tie.Need-cast-m
 cast-m c = search needs
@@ -62,18 +67,27 @@ cast-m c = search needs
 put-all-back-requires : tie.Need-put-all-back-requires
 put-all-back-requires c κs =
     let e = c .before .before .before .before .before .before in
-    let j = e .before .before .before .before .judged-with .ensures in
-    let fine = sym (e .before .number .ensures) ∙ e .if1 .left in
-    let room = costed-of j fine .room in
-    let area = j .stood fine .stood .checked refl .area refl in
-    (rw (c .before .before .before .operations-at .ensures) (unfold-noted (j .stood fine) _), room .sheet, omega (arith, room .kept, area .few))
+    let j = e .before .before .before .before .judged-with .ensures .judged (fine e) in
+    let room = costed-of j refl .room in
+    let area = j .stood refl .stood .checked refl .area refl in
+    (rw (c .before .before .before .operations-at .ensures) (unfold-noted (j .stood refl) _), room .sheet, omega (arith, room .kept, area .few))
 
 unfold-judged-requires : tie.Need-unfold-judged-requires
 unfold-judged-requires c κs =
     let e = c .before .before .before .before .before .before .before .before .before .before .before in
+    any-kind (e .before .before .before .before .judged-with .ensures .judged (fine e) .stood refl .stood)
+
+settle-requires : tie.Need-settle-requires
+unfolding unfoldWith unfoldBy
+settle-requires c κs =
+    let e = c .before .before .before .before .before .before .before .before .before .before .before .before .before .before .before .before .before .before .before in
+    let g = e .before .before .before .before .before .before .before .before .before .before .before .before .before .args in
     let j = e .before .before .before .before .judged-with .ensures in
-    let fine = sym (e .before .number .ensures) ∙ e .if1 .left in
-    any-kind (j .stood fine .stood)
+    let o = c .before .before .before .before .before .before .before .unfold-judged in
+    let back = c .before .before .before .before .before .before .before .before .before .before .before .before .put-all-back .ensures in
+    let at = c .before .before .before .before .before .before .before .before .before .before .before .before .before .before .before .before .operations-at .ensures in
+    stored-settles (toLevel (g .level)) j (fine e) (o .result)
+    (with-done (unfoldTo (g .level)) (j .judged (fine e)) refl (plain-unfold _ _ _ _) (o .ensures) (sym back ∙ rw at (unfolded-sheets (j .judged (fine e) .stood refl) _ _)))
 
 same-length-6 : tie.Need-same-length-6
 same-length-6 c = search needs
@@ -82,7 +96,7 @@ same-length-7 : tie.Need-same-length-7
 same-length-7 c = search needs
 
 same-length-8 : tie.Need-same-length-8
-same-length-8 c = search needs
+same-length-8 c = search (needs, c .before .before .before .work2 .given, c .before .before .before .before .before .before .before .before .before .before .before .before .before .before .before .before .before .before .before .before .before .before .before .work .given)
 
 same-length-9 : tie.Need-same-length-9
 same-length-9 c = search needs
@@ -93,12 +107,15 @@ same-length-10 c = search needs
 returns-2 : tie.Need-returns-2
 unfolding unfoldWith unfoldBy
 returns-2 c =
-    let e = c .before .before .before .before .before .before .before .before .before .before .before .before .before .before .before .before .before .before in
+    let e = c .before .before .before .before .before .before .before .before .before .before .before .before .before .before .before .before .before .before .before .before in
+    let g = e .before .before .before .before .before .before .before .before .before .before .before .before .before .args in
     let j = e .before .before .before .before .judged-with .ensures in
-    let fine = sym (e .before .number .ensures) ∙ e .if1 .left in
-    let back = c .before .before .before .before .before .before .before .before .before .before .before .put-all-back .ensures in
-    with-done (unfoldTo _) j fine (plain-unfold _ _ _ _) (c .before .before .before .before .before .before .unfold-judged .ensures)
-    (sym back ∙ rw (c .before .before .before .before .before .before .before .before .before .before .before .before .before .before .before .operations-at .ensures) (unfolded-sheets (j .stood fine) _ _))
+    let o = c .before .before .before .before .before .before .before .before .unfold-judged in
+    let back = c .before .before .before .before .before .before .before .before .before .before .before .before .before .put-all-back .ensures in
+    let at = c .before .before .before .before .before .before .before .before .before .before .before .before .before .before .before .before .before .operations-at .ensures in
+    stored-settled (toLevel (g .level)) j (fine e) (o .result)
+    (with-done (unfoldTo (g .level)) (j .judged (fine e)) refl (plain-unfold _ _ _ _) (o .ensures) (sym back ∙ rw at (unfolded-sheets (j .judged (fine e) .stood refl) _ _)))
+    (c .settle .ensures)
 
 pub unfold-with-spec : {M : Type 1} → statement M
-unfold-with-spec = tie.close (tie.spec judged-with-requires number-requires kept-requires same-length same-length-2 same-length-3 same-length-4 same-length-5 returns cast-d cast-n operations-at-requires cast-m put-all-back-requires unfold-judged-requires same-length-6 same-length-7 same-length-8 same-length-9 same-length-10 returns-2)
+unfold-with-spec = tie.close (tie.spec judged-with-requires number-requires kept-requires same-length same-length-2 same-length-3 same-length-4 same-length-5 returns cast-d cast-n operations-at-requires cast-m put-all-back-requires unfold-judged-requires settle-requires same-length-6 same-length-7 same-length-8 same-length-9 same-length-10 returns-2)

@@ -30,8 +30,8 @@ opening-requires c κs = search needs
 enum-known-answer : tie.Need-enum-known-answer
 enum-known-answer c = search needs
 
-based-requires : tie.Need-based-requires
-based-requires c κs = search needs
+unbased-requires : tie.Need-unbased-requires
+unbased-requires c κs = search needs
 
 enum-known-flag : tie.Need-enum-known-flag
 enum-known-flag c = search needs
@@ -47,16 +47,16 @@ fit-requires c κs = search needs
 number-requires : tie.Need-number-requires
 number-requires c κs = search needs
 
-based-requires-2 : tie.Need-based-requires-2
-based-requires-2 c κs = search needs
+unbased-requires-2 : tie.Need-unbased-requires-2
+unbased-requires-2 c κs = search needs
 
 returns : tie.Need-returns
 returns c =
     let g = c .before .before .before .before .before .before .before .before .before .before .before .before .args in
     let f = c .before .before .before .fit .ensures in
     let n = c .before .before .number .ensures in
-    let b = c .based2 .ensures in
-    hands (c .based2 .result) (record { answer = b .answer ∙ f; state = b .state }) _ _ _
+    let b = c .unbased2 .ensures in
+    hands (c .unbased2 .result) (record { answer = b .answer ∙ f; state = b .state }) _ _ _
     ∙ read-unfit (g .bytes .now) (g .table .now) (g .history .now) (g .work .now)
     (told (lineOf startsWith) (c .before .before .before .before .before .before .before .opening .ensures) (c .before .before .before .before .before .flag .given .1))
     (λ z. c .before .if1 .taken (n ∙ ap (λ (a : Answered). a .number) f ∙ z))
@@ -76,7 +76,7 @@ clear-requires c κs =
 returns-2 : tie.Need-returns-2
 returns-2 c =
     let g = c .before .before .before .before .before .before .before .before .before .args in
-    hands (c .based .result) (c .based .ensures) _ _ _
+    hands (c .unbased .result) (c .unbased .ensures) _ _ _
     ∙ read-unopened (g .bytes .now) (g .table .now) (g .history .now) (g .work .now)
     (told (lineOf startsWith) (c .before .before .before .before .opening .ensures) (c .before .before .answer .given .1))
 
@@ -107,12 +107,12 @@ read-spec =
     (tie.spec
     opening-requires
     enum-known-answer
-    based-requires
+    unbased-requires
     enum-known-flag
     cast-fit
     fit-requires
     number-requires
-    based-requires-2
+    unbased-requires-2
     returns
     read-inside-requires
     clear-requires

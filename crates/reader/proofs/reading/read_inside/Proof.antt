@@ -15,8 +15,8 @@ parse-requires c κs = search needs
 enum-known-read : tie.Need-enum-known-read
 enum-known-read c = search needs
 
-based-requires : tie.Need-based-requires
-based-requires c κs = search needs
+unbased-requires : tie.Need-unbased-requires
+unbased-requires c κs = search needs
 
 enum-known-read-2 : tie.Need-enum-known-read-2
 enum-known-read-2 c = search needs
@@ -36,7 +36,7 @@ returns : tie.Need-returns
 returns c =
     let p = c .before .before .before .before .before .before .before in
     let g = p .before .before .before .before .before .before .args in
-    let r = c .based in
+    let r = c .unbased in
     let k = p .parse .ensures in
     (hands (r .result) (r .ensures) _ _ _ ∙ closed-fault _ _ _ (startsWith (g .flag) (g .d)) (k .wrong (c .before .before .read .given .1)), k .beyond)
 
@@ -63,7 +63,7 @@ read-inside-spec =
     (tie.spec
     parse-requires
     enum-known-read
-    based-requires
+    unbased-requires
     enum-known-read-2
     settle-requires
     same-length

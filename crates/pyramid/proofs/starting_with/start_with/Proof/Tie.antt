@@ -8,9 +8,9 @@ use Rattle.pyramid.proofs.checking.begin_with.Symbol as Symbol'
 use Rattle.pyramid.proofs.checking.finish.Met as Met''
 use Rattle.pyramid.proofs.checking.finish.Reads as Reads''
 use Rattle.pyramid.proofs.checking.finish.Symbol as Symbol''
-use Rattle.pyramid.proofs.starting.based.Met as Met'3
-use Rattle.pyramid.proofs.starting.based.Reads as Reads'3
-use Rattle.pyramid.proofs.starting.based.Symbol as Symbol'3
+use Rattle.pyramid.proofs.starting.unbased.Met as Met'3
+use Rattle.pyramid.proofs.starting.unbased.Reads as Reads'3
+use Rattle.pyramid.proofs.starting.unbased.Symbol as Symbol'3
 use Rattle.pyramid.proofs.starting_with.start_with.Code
 use Rattle.pyramid.proofs.starting_with.start_with.Key
 use Rattle.pyramid.proofs.Sheets.starting_with.start_with.Kinds
@@ -72,8 +72,8 @@ After-number = Lts.After-number (Reads'6.Asked, Reads'6.Learnt, Reads'.Asked, Re
 abbrev pub Then1 : Type 0
 Then1 = Lts.Then1 (Reads'6.Asked, Reads'6.Learnt, Reads'.Asked, Reads'.Learnt, Reads.Asked, Reads.Learnt, Reads'3.Asked, Reads'3.Learnt, Reads'5.Asked, Reads'5.Learnt, Reads''.Asked, Reads''.Learnt) Reads'4.Pre Reads'4.Post
 
-abbrev pub After-based : Type 0
-After-based = Lts.After-based (Reads'6.Asked, Reads'6.Learnt, Reads'.Asked, Reads'.Learnt, Reads.Asked, Reads.Learnt, Reads'3.Asked, Reads'3.Learnt, Reads'5.Asked, Reads'5.Learnt, Reads''.Asked, Reads''.Learnt) Reads'4.Pre Reads'4.Post
+abbrev pub After-unbased : Type 0
+After-unbased = Lts.After-unbased (Reads'6.Asked, Reads'6.Learnt, Reads'.Asked, Reads'.Learnt, Reads.Asked, Reads.Learnt, Reads'3.Asked, Reads'3.Learnt, Reads'5.Asked, Reads'5.Learnt, Reads''.Asked, Reads''.Learnt) Reads'4.Pre Reads'4.Post
 
 abbrev pub Else1 : Type 0
 Else1 = Lts.Else1 (Reads'6.Asked, Reads'6.Learnt, Reads'.Asked, Reads'.Learnt, Reads.Asked, Reads.Learnt, Reads'3.Asked, Reads'3.Learnt, Reads'5.Asked, Reads'5.Learnt, Reads''.Asked, Reads''.Learnt) Reads'4.Pre Reads'4.Post
@@ -86,6 +86,12 @@ After-first-unfit-arg2 = Lts.After-first-unfit-arg2 (Reads'6.Asked, Reads'6.Lear
 
 abbrev pub After-first-unfit : Type 0
 After-first-unfit = Lts.After-first-unfit (Reads'6.Asked, Reads'6.Learnt, Reads'.Asked, Reads'.Learnt, Reads.Asked, Reads.Learnt, Reads'3.Asked, Reads'3.Learnt, Reads'5.Asked, Reads'5.Learnt, Reads''.Asked, Reads''.Learnt) Reads'4.Pre Reads'4.Post
+
+abbrev pub After-struct-known : Type 0
+After-struct-known = Lts.After-struct-known (Reads'6.Asked, Reads'6.Learnt, Reads'.Asked, Reads'.Learnt, Reads.Asked, Reads.Learnt, Reads'3.Asked, Reads'3.Learnt, Reads'5.Asked, Reads'5.Learnt, Reads''.Asked, Reads''.Learnt) Reads'4.Pre Reads'4.Post
+
+abbrev pub After-struct-known2 : Type 0
+After-struct-known2 = Lts.After-struct-known2 (Reads'6.Asked, Reads'6.Learnt, Reads'.Asked, Reads'.Learnt, Reads.Asked, Reads.Learnt, Reads'3.Asked, Reads'3.Learnt, Reads'5.Asked, Reads'5.Learnt, Reads''.Asked, Reads''.Learnt) Reads'4.Pre Reads'4.Post
 
 abbrev pub After-finish-arg : Type 0
 After-finish-arg = Lts.After-finish-arg (Reads'6.Asked, Reads'6.Learnt, Reads'.Asked, Reads'.Learnt, Reads.Asked, Reads.Learnt, Reads'3.Asked, Reads'3.Learnt, Reads'5.Asked, Reads'5.Learnt, Reads''.Asked, Reads''.Learnt) Reads'4.Pre Reads'4.Post
@@ -111,8 +117,8 @@ Need-begin-with-requires = Lts.Need-begin-with-requires (Reads'6.Asked, Reads'6.
 abbrev pub Need-number-requires : Type 0
 Need-number-requires = Lts.Need-number-requires (Reads'6.Asked, Reads'6.Learnt, Reads'.Asked, Reads'.Learnt, Reads.Asked, Reads.Learnt, Reads'3.Asked, Reads'3.Learnt, Reads'5.Asked, Reads'5.Learnt, Reads''.Asked, Reads''.Learnt) Reads'4.Pre Reads'4.Post
 
-abbrev pub Need-based-requires : Type 0
-Need-based-requires = Lts.Need-based-requires (Reads'6.Asked, Reads'6.Learnt, Reads'.Asked, Reads'.Learnt, Reads.Asked, Reads.Learnt, Reads'3.Asked, Reads'3.Learnt, Reads'5.Asked, Reads'5.Learnt, Reads''.Asked, Reads''.Learnt) Reads'4.Pre Reads'4.Post
+abbrev pub Need-unbased-requires : Type 0
+Need-unbased-requires = Lts.Need-unbased-requires (Reads'6.Asked, Reads'6.Learnt, Reads'.Asked, Reads'.Learnt, Reads.Asked, Reads.Learnt, Reads'3.Asked, Reads'3.Learnt, Reads'5.Asked, Reads'5.Learnt, Reads''.Asked, Reads''.Learnt) Reads'4.Pre Reads'4.Post
 
 abbrev pub Need-same-length : Type 0
 Need-same-length = Lts.Need-same-length (Reads'6.Asked, Reads'6.Learnt, Reads'.Asked, Reads'.Learnt, Reads.Asked, Reads.Learnt, Reads'3.Asked, Reads'3.Learnt, Reads'5.Asked, Reads'5.Learnt, Reads''.Asked, Reads''.Learnt) Reads'4.Pre Reads'4.Post
@@ -131,6 +137,12 @@ Need-returns = Lts.Need-returns (Reads'6.Asked, Reads'6.Learnt, Reads'.Asked, Re
 
 abbrev pub Need-first-unfit-requires : Type 0
 Need-first-unfit-requires = Lts.Need-first-unfit-requires (Reads'6.Asked, Reads'6.Learnt, Reads'.Asked, Reads'.Learnt, Reads.Asked, Reads.Learnt, Reads'3.Asked, Reads'3.Learnt, Reads'5.Asked, Reads'5.Learnt, Reads''.Asked, Reads''.Learnt) Reads'4.Pre Reads'4.Post
+
+abbrev pub Need-cast-finish : Type 0
+Need-cast-finish = Lts.Need-cast-finish (Reads'6.Asked, Reads'6.Learnt, Reads'.Asked, Reads'.Learnt, Reads.Asked, Reads.Learnt, Reads'3.Asked, Reads'3.Learnt, Reads'5.Asked, Reads'5.Learnt, Reads''.Asked, Reads''.Learnt) Reads'4.Pre Reads'4.Post
+
+abbrev pub Need-cast-finish-2 : Type 0
+Need-cast-finish-2 = Lts.Need-cast-finish-2 (Reads'6.Asked, Reads'6.Learnt, Reads'.Asked, Reads'.Learnt, Reads.Asked, Reads.Learnt, Reads'3.Asked, Reads'3.Learnt, Reads'5.Asked, Reads'5.Learnt, Reads''.Asked, Reads''.Learnt) Reads'4.Pre Reads'4.Post
 
 abbrev pub Need-finish-requires : Type 0
 Need-finish-requires = Lts.Need-finish-requires (Reads'6.Asked, Reads'6.Learnt, Reads'.Asked, Reads'.Learnt, Reads.Asked, Reads.Learnt, Reads'3.Asked, Reads'3.Learnt, Reads'5.Asked, Reads'5.Learnt, Reads''.Asked, Reads''.Learnt) Reads'4.Pre Reads'4.Post
@@ -151,9 +163,9 @@ abbrev pub Need-returns-2 : Type 0
 Need-returns-2 = Lts.Need-returns-2 (Reads'6.Asked, Reads'6.Learnt, Reads'.Asked, Reads'.Learnt, Reads.Asked, Reads.Learnt, Reads'3.Asked, Reads'3.Learnt, Reads'5.Asked, Reads'5.Learnt, Reads''.Asked, Reads''.Learnt) Reads'4.Pre Reads'4.Post
 
 module _ {M : Type 1} where
-  pub spec : (answer : Need-records-requires) → (answer : Need-records-requires-2) → (answer : Need-begin-with-requires) → (answer : Need-number-requires) → (answer : Need-based-requires) → (answer : Need-same-length) → (answer : Need-same-length-2) → (answer : Need-same-length-3) → (answer : Need-same-length-4) → (answer : Need-returns) → (answer : Need-first-unfit-requires) → (answer : Need-finish-requires) → (answer : Need-same-length-5) → (answer : Need-same-length-6) → (answer : Need-same-length-7) → (answer : Need-same-length-8) → (answer : Need-returns-2) → Lts.Closed (Reads'6.Asked, Reads'6.Learnt, Reads'.Asked, Reads'.Learnt, Reads.Asked, Reads.Learnt, Reads'3.Asked, Reads'3.Learnt, Reads'5.Asked, Reads'5.Learnt, Reads''.Asked, Reads''.Learnt) Reads'4.Pre Reads'4.Post M
-  spec = λ answer answer' answer'' answer'3 answer'4 answer'5 answer'6 answer'7 answer'8 answer'9 answer'10 answer'11 answer'12 answer'13 answer'14 answer'15 answer'16. Lts.spec (Reads'6.Asked, Reads'6.Learnt, Reads'.Asked, Reads'.Learnt, Reads.Asked, Reads.Learnt, Reads'3.Asked, Reads'3.Learnt, Reads'5.Asked, Reads'5.Learnt, Reads''.Asked, Reads''.Learnt) Reads'4.Pre Reads'4.Post answer answer' answer'' answer'3 answer'4 answer'5 answer'6 answer'7 answer'8 answer'9 answer'10 answer'11 answer'12 answer'13 answer'14 answer'15 answer'16
+  pub spec : (answer : Need-records-requires) → (answer : Need-records-requires-2) → (answer : Need-begin-with-requires) → (answer : Need-number-requires) → (answer : Need-unbased-requires) → (answer : Need-same-length) → (answer : Need-same-length-2) → (answer : Need-same-length-3) → (answer : Need-same-length-4) → (answer : Need-returns) → (answer : Need-first-unfit-requires) → (answer : Need-cast-finish) → (answer : Need-cast-finish-2) → (answer : Need-finish-requires) → (answer : Need-same-length-5) → (answer : Need-same-length-6) → (answer : Need-same-length-7) → (answer : Need-same-length-8) → (answer : Need-returns-2) → Lts.Closed (Reads'6.Asked, Reads'6.Learnt, Reads'.Asked, Reads'.Learnt, Reads.Asked, Reads.Learnt, Reads'3.Asked, Reads'3.Learnt, Reads'5.Asked, Reads'5.Learnt, Reads''.Asked, Reads''.Learnt) Reads'4.Pre Reads'4.Post M
+  spec = λ answer answer' answer'' answer'3 answer'4 answer'5 answer'6 answer'7 answer'8 answer'9 answer'10 answer'11 answer'12 answer'13 answer'14 answer'15 answer'16 answer'17 answer'18. Lts.spec (Reads'6.Asked, Reads'6.Learnt, Reads'.Asked, Reads'.Learnt, Reads.Asked, Reads.Learnt, Reads'3.Asked, Reads'3.Learnt, Reads'5.Asked, Reads'5.Learnt, Reads''.Asked, Reads''.Learnt) Reads'4.Pre Reads'4.Post answer answer' answer'' answer'3 answer'4 answer'5 answer'6 answer'7 answer'8 answer'9 answer'10 answer'11 answer'12 answer'13 answer'14 answer'15 answer'16 answer'17 answer'18
 
   pub close : Lts.Closed (Reads'6.Asked, Reads'6.Learnt, Reads'.Asked, Reads'.Learnt, Reads.Asked, Reads.Learnt, Reads'3.Asked, Reads'3.Learnt, Reads'5.Asked, Reads'5.Learnt, Reads''.Asked, Reads''.Learnt) Reads'4.Pre Reads'4.Post M → Statement.statement M
   unfolding Code.routine Running.tablesOf
-  close = λ closed 𝓤 H 𝓜 𝓖 𝓡. Written.close 5 Kinds.ps Kinds.r Reads'4.Ghost Reads'4.requires Reads'4.ensures Reads'4.pre-read Reads'4.Pinned Reads'4.Owned Reads'4.post-read record { M = M; 𝓤 = 𝓤; H = H; 𝓜 = 𝓜; 𝓖 = 𝓖; 𝓡 = 𝓡 } Code.env Key.name Code.function (Code.unfolded 𝓤 H 𝓜 𝓡) (λ κs a g. tt) (λ κs. Reads'4.owns κs record { M = M; 𝓤 = 𝓤; H = H; 𝓜 = 𝓜; 𝓖 = 𝓖; 𝓡 = 𝓡 }) (Reads'4.passes record { M = M; 𝓤 = 𝓤; H = H; 𝓜 = 𝓜; 𝓖 = 𝓖; 𝓡 = 𝓡 }) λ g. closed 𝓤 H (𝓖 .A) (Running.givenOf 𝓤 H 𝓜 𝓖) (Run.Over 𝓤 H 𝓜 𝓖 𝓡 Code.env) (Reads'6.known record { M = M; 𝓤 = 𝓤; H = H; 𝓜 = 𝓜; 𝓖 = 𝓖; 𝓡 = 𝓡 } Code.env Symbol'5.name Symbol'5.routine Code.calls-sheets·thin·records (Met'5.met 𝓤 H 𝓜 𝓖 𝓡)) (Reads'.known record { M = M; 𝓤 = 𝓤; H = H; 𝓜 = 𝓜; 𝓖 = 𝓖; 𝓡 = 𝓡 } Code.env Symbol'.name Symbol'.routine Code.calls-pyramid·checking·begin-with (Met'.met 𝓤 H 𝓜 𝓖 𝓡)) (Reads.known record { M = M; 𝓤 = 𝓤; H = H; 𝓜 = 𝓜; 𝓖 = 𝓖; 𝓡 = 𝓡 } Code.env Symbol.name Symbol.routine Code.calls-darts·Answer·number (Met.met 𝓤 H 𝓜 𝓖 𝓡)) (Reads'3.known record { M = M; 𝓤 = 𝓤; H = H; 𝓜 = 𝓜; 𝓖 = 𝓖; 𝓡 = 𝓡 } Code.env Symbol'3.name Symbol'3.routine Code.calls-pyramid·starting·based (Met'3.met 𝓤 H 𝓜 𝓖 𝓡)) (Reads'5.known record { M = M; 𝓤 = 𝓤; H = H; 𝓜 = 𝓜; 𝓖 = 𝓖; 𝓡 = 𝓡 } Code.env Symbol'4.name Symbol'4.routine Code.calls-sheets·loops·first-unfit (Met'4.met 𝓤 H 𝓜 𝓖 𝓡)) (Reads''.known record { M = M; 𝓤 = 𝓤; H = H; 𝓜 = 𝓜; 𝓖 = 𝓖; 𝓡 = 𝓡 } Code.env Symbol''.name Symbol''.routine Code.calls-pyramid·checking·finish (Met''.met 𝓤 H 𝓜 𝓖 𝓡))
+  close = λ closed 𝓤 H 𝓜 𝓖 𝓡. Written.close 5 Kinds.ps Kinds.r Reads'4.Ghost Reads'4.requires Reads'4.ensures Reads'4.pre-read Reads'4.Pinned Reads'4.Owned Reads'4.post-read record { M = M; 𝓤 = 𝓤; H = H; 𝓜 = 𝓜; 𝓖 = 𝓖; 𝓡 = 𝓡 } Code.env Key.name Code.function (Code.unfolded 𝓤 H 𝓜 𝓡) (λ κs a g. tt) (λ κs. Reads'4.owns κs record { M = M; 𝓤 = 𝓤; H = H; 𝓜 = 𝓜; 𝓖 = 𝓖; 𝓡 = 𝓡 }) (Reads'4.passes record { M = M; 𝓤 = 𝓤; H = H; 𝓜 = 𝓜; 𝓖 = 𝓖; 𝓡 = 𝓡 }) λ g. closed 𝓤 H (𝓖 .A) (Running.givenOf 𝓤 H 𝓜 𝓖) (Run.Over 𝓤 H 𝓜 𝓖 𝓡 Code.env) (Reads'6.known record { M = M; 𝓤 = 𝓤; H = H; 𝓜 = 𝓜; 𝓖 = 𝓖; 𝓡 = 𝓡 } Code.env Symbol'5.name Symbol'5.routine Code.calls-sheets·thin·records (Met'5.met 𝓤 H 𝓜 𝓖 𝓡)) (Reads'.known record { M = M; 𝓤 = 𝓤; H = H; 𝓜 = 𝓜; 𝓖 = 𝓖; 𝓡 = 𝓡 } Code.env Symbol'.name Symbol'.routine Code.calls-pyramid·checking·begin-with (Met'.met 𝓤 H 𝓜 𝓖 𝓡)) (Reads.known record { M = M; 𝓤 = 𝓤; H = H; 𝓜 = 𝓜; 𝓖 = 𝓖; 𝓡 = 𝓡 } Code.env Symbol.name Symbol.routine Code.calls-darts·Answer·number (Met.met 𝓤 H 𝓜 𝓖 𝓡)) (Reads'3.known record { M = M; 𝓤 = 𝓤; H = H; 𝓜 = 𝓜; 𝓖 = 𝓖; 𝓡 = 𝓡 } Code.env Symbol'3.name Symbol'3.routine Code.calls-pyramid·starting·unbased (Met'3.met 𝓤 H 𝓜 𝓖 𝓡)) (Reads'5.known record { M = M; 𝓤 = 𝓤; H = H; 𝓜 = 𝓜; 𝓖 = 𝓖; 𝓡 = 𝓡 } Code.env Symbol'4.name Symbol'4.routine Code.calls-sheets·loops·first-unfit (Met'4.met 𝓤 H 𝓜 𝓖 𝓡)) (Reads''.known record { M = M; 𝓤 = 𝓤; H = H; 𝓜 = 𝓜; 𝓖 = 𝓖; 𝓡 = 𝓡 } Code.env Symbol''.name Symbol''.routine Code.calls-pyramid·checking·finish (Met''.met 𝓤 H 𝓜 𝓖 𝓡))
