@@ -3,7 +3,7 @@
  * Link with target/staticlib/libzonemap_c.a, which `rt staticlib zonemap_c` writes for x86-64 Linux; it asks nothing else but
  * memcpy and memset. A Rust program links it too: it declares these functions in an `extern "C"` block, a slice as its
  * pointer and its length. Each function is proved to be the call itself: what it leaves is one function of
- * crates/darts/specs/Calls.antt, of crates/grids/specs/Plans.antt for the two on a plan, or of crates/ends/specs/Lookup.antt
+ * crates/darts/specs/Stored.antt, of crates/grids/specs/Stored.antt for the two on a plan, or of crates/ends/specs/Lookup.antt
  * for zm_successor, for every input, refusals too.
  *
  * The five calls with sheets of yarn records (docs/CALLS.md) have no function here yet: a function for C takes no enum, nor a
@@ -12,8 +12,9 @@
  *
  * What a caller lends
  *
- *   state    67 numbers: D (the number of darts), the number of operations, the number of levels, then the 64 level ends
- *            (the operation count after each kernel, zero past the last level). Whatever they are, a call takes them.
+ *   state    69 numbers: D (the number of darts), the number of operations, the number of levels, the numbers of vertices and
+ *            of faces of the present level, then the 64 level ends (the operation count after each kernel, zero past the last
+ *            level). Whatever they are, a call takes them.
  *   table    at least D numbers: the successor of each dart. Entries of gone darts stay as they were.
  *   history  at least D/2 numbers, one for each operation: 2p for a removal, 2p + 1 for a contraction.
  *   ends     at least D/2 numbers, one for each edge: 2L for an edge removed at level L, 2L + 1 for one contracted there, 0 or
@@ -21,6 +22,12 @@
  *   work     at least 4D numbers of room to work in; any numbers may stand there.
  *   place    one number, which every call writes.
  *   second   one number more, which every call writes.
+ *
+ * Vertices and faces. A vertex is a cycle of successors among the surviving darts, a face one of the steps from a dart to its
+ * partner's successor. Every accepted call on a state, and every start, plan and read, leaves both numbers right, so that a
+ * status line takes them off the state, state[ZM_VERTICES] and state[ZM_FACES], and needs no call: a contraction takes one
+ * vertex away, a removal one face, and undoing gives them back. They are judged as all else is: a state whose numbers are not
+ * those of its cycles is no pyramid, and every call on it answers 4.
  *
  * A slice is a pointer and then its length, in numbers or bytes. No pointer may be null, none of the lent memory may
  * overlap, and each pointer must be aligned for its type: this alone is asked of the caller, and no function can test it.
@@ -31,15 +38,15 @@
  *   It returns the answer's number and writes the answer's place through `place` and its second place through `second`. The
  *   second place is 0 whatever the call and the answer, but for answer 3 of zm_start, which names both culprits.
  *   Accepted: state, table and history are those after the call; zm_successor only reads table and ends.
- *   Refused: table and history stay as they were; so does the state, but zm_start, zm_plan, zm_plan_areas and zm_read, which
- *   are given none, write 67 zeros.
+ *   Refused: table and history stay as they were; so does the state, also its numbers of vertices and faces where they are
+ *   wrong, but zm_start, zm_plan, zm_plan_areas and zm_read, which are given none, write 69 zeros.
  *   The first 4D numbers of work are zero after the call, unless the answer is 1, 2 or 15, which leave work alone; zm_write
  *   zeroes them too where it answers 2 for its output.
  *   Numbers of a table past D, of a history past the larger of the operation counts before and after the call, of ends past
  *   D/2, and of a work area past 4D are never touched.
  *   Numbers that stay the same are stored again, so no other thread may use what is lent during a call: where zm_contract,
  *   zm_remove, zm_sweep, zm_undo or zm_unfold is accepted, the table's first D numbers and the history's first N, N the
- *   operation count after the call; and at every call but zm_counts and zm_write, refused too, the state's 67. Of zm_successor
+ *   operation count after the call; and at every call but zm_counts and zm_write, refused too, the state's 69. Of zm_successor
  *   other threads may read table and ends meanwhile: each that calls it needs a work area of its own.
  *
  * Order of the answers: 1, 2, then 3 or 4, then 12, 6, 5, then the kernel's first failing edge, for which 7, 8, 9 or 10, 11.
@@ -57,7 +64,10 @@ extern "C" {
 #endif
 
 /* How many numbers a state has, and how many zm_counts writes beside the Euler number. */
-enum { ZM_STATE = 67, ZM_COUNTS = 3 };
+enum { ZM_STATE = 69, ZM_COUNTS = 3 };
+
+/* Where a state has its numbers; the 64 level ends from ZM_ENDS on. */
+enum { ZM_DARTS = 0, ZM_OPERATIONS = 1, ZM_LEVELS = 2, ZM_VERTICES = 3, ZM_FACES = 4, ZM_ENDS = 5 };
 
 /* The answers. The place is 0 where nothing is said of it, and so is the second place. */
 enum {
@@ -66,7 +76,8 @@ enum {
     ZM_TOO_SHORT = 2,        /* a lent slice is too short. Place: for zm_write's output, the bytes needed */
     ZM_NO_PERMUTATION = 3,   /* the table is no permutation. Place: the lowest dart whose successor is D or more, or repeats a lower dart's.
                               * Second place: that lower dart, or D where the successor is D or more */
-    ZM_NO_PYRAMID = 4,       /* the state, or what a file holds, is no pyramid; for zm_successor, table and ends come from none */
+    ZM_NO_PYRAMID = 4,       /* the state, or what a file holds, is no pyramid, also where its vertices or faces are other numbers than it stores;
+                              * for zm_successor, table and ends come from none */
     ZM_EMPTY_KERNEL = 5,     /* the kernel is empty, or the sweep or a plan's first kernel takes no edge */
     ZM_TOO_MANY_LEVELS = 6,  /* 64 levels are in use, or a file states more */
     ZM_NO_EDGE = 7,          /* the edge number is D/2 or more. Place: where in the kernel, from 0; so too for 8 to 11.
@@ -85,7 +96,8 @@ enum {
  * Answers 0, 1, 2, 3; for 3 the place is the lowest bad dart, and the second place says who else is to blame: the one lower dart
  * that already has its successor, or D where its successor is out of range. D = 4, table 2 0 0 9: answer 3, place 2, second 1
  * (dart 1 leads to 0 already); table 2 9 2 0: answer 3, place 1, second 4 (9 is out of range).
- * Writes state: a base of D darts with no level, or 67 zeros where it is refused. Table and history are not written.
+ * Writes state: a base of D darts with no level, its vertices and faces counted, or 69 zeros where it is refused. Table and
+ * history are not written.
  * Lengths: table D, history D/2, work 4D. What stood in state is not read. */
 uint32_t zm_start(uint32_t darts, uint32_t state[ZM_STATE],
                   uint32_t *table, size_t table_length,
@@ -99,7 +111,7 @@ uint32_t zm_start(uint32_t darts, uint32_t state[ZM_STATE],
  * both from 0, is plan[y * wales + x]. An edge joins each cell to its right and to its upper neighbour. Edges along the
  * courses come first, course by course, then the upright ones by their lower cells, in the plan's order; the even dart is at
  * the left or lower cell. Round a cell the successor goes right, up, left, down, skipping what is missing.
- * With W wales and C courses there are D = 2((W - 1)C + W(C - 1)) darts, at most 65,024.
+ * With W wales and C courses there are D = 2((W - 1)C + W(C - 1)) darts, at most 65,024, WC vertices and (W - 1)(C - 1) + 1 faces.
  *
  * Three wales by two courses, plan "aab" "abb", lowest course first; the edges' numbers stand between the cells:
  *
@@ -110,7 +122,7 @@ uint32_t zm_start(uint32_t darts, uint32_t state[ZM_STATE],
  *     a -0- a -1- b      course 0
  *
  * Answers 0, 2, 15. The codes are not looked at, yet the plan must have one for each cell.
- * Writes state, a base of D darts with no level, and the table's first D numbers where it is accepted; a state of 67 zeros
+ * Writes state, a base of D darts with no level, and the table's first D numbers where it is accepted; a state of 69 zeros
  * where it is refused. The history is not written.
  * Lengths: plan W * C bytes, table D, history D/2, work 4D; a longer plan is not looked at past its cells. What stood in state
  * and table is not read. */
@@ -128,11 +140,11 @@ uint32_t zm_plan(uint32_t wales, uint32_t courses,
  *
  * Of the plan above it contracts the edges 0, 3, 4 and 6, so that two vertices are left, joined by 1, 2 and 5:
  *
- *     table  8 2 10 5 2 11 5 13 2 4 4 3 3 5      history  1 13 17 25      state  14 4 1, ends 4 0 0 ..
+ *     table  8 2 10 5 2 11 5 13 2 4 4 3 3 5      history  1 13 17 25      state  14 4 1 2 3, ends 4 0 0 ..
  *
  * Answers 0, 2, 5, 15; 5 where no edge is taken: no two neighbours have one code, or two cells with one code are the whole plan.
  * Writes state, of one level, the table's first D numbers and one number of the history for each contraction where it is
- * accepted; a state of 67 zeros where it is refused.
+ * accepted; a state of 69 zeros where it is refused.
  * Lengths: as for zm_plan. What stood in state, table and history is not read. */
 uint32_t zm_plan_areas(uint32_t wales, uint32_t courses,
                        const uint8_t *plan, size_t plan_length, uint32_t state[ZM_STATE],
@@ -222,7 +234,7 @@ uint32_t zm_successor(uint32_t darts, uint32_t level, uint32_t dart,
                       uint32_t *found, uint32_t *passed,
                       size_t *place, size_t *second);
 
-/* The counts of the present level.
+/* The counts of the present level. Vertices and faces are the numbers that the state stores, once it is found to be a pyramid.
  * Answers 0, 1, 2, 4.
  * Writes counts (surviving darts, vertices, faces) and euler (vertices minus edges plus faces, which may fall below zero):
  * four zeros where it is refused. State, table and history are not written.
@@ -237,8 +249,8 @@ uint32_t zm_counts(const uint32_t state[ZM_STATE],
 /* Reads a file: the pyramid that its bytes hold, in the file's own numbers.
  * Answers 0, 1, 2, 4, 5, 6, 13, 14, judged in the order of the bytes; for 13 the place is the first wrong byte, or the
  * length where the file ends early, and for 14 it is 8.
- * Writes state, table and history where it is accepted, and a state of 67 zeros where it is refused. The work area is left
- * alone where the reader stops before it knows D.
+ * Writes state, table and history where it is accepted, and a state of 69 zeros where it is refused. A file states no vertices
+ * and no faces: they are counted. The work area is left alone where the reader stops before it knows D.
  * Lengths: table D, history D/2, work 4D, D as the file has it. What stood in state is not read. */
 uint32_t zm_read(const uint8_t *bytes, size_t length, uint32_t state[ZM_STATE],
                  uint32_t *table, size_t table_length,

@@ -1,5 +1,6 @@
 /* Builds the brief of samples/README.md from its stitch codes, takes its areas and sweeps them, and writes the counts of each level
- * to standard output. A refused call is named on standard error with its answer and place; the status is then 1. */
+ * to standard output; then what a status line shows after the sweep and after its undo. A refused call is named on standard error
+ * with its answer and place; the status is then 1. */
 #include <stdio.h>
 
 #include "zonemap.h"
@@ -40,9 +41,15 @@ static int counts_refused(void)
     if (refused("zm_counts", answer, place)) {
         return 1;
     }
-    printf("level=%u darts=%u vertices=%u faces=%u euler=%d\n", (unsigned)state[2], (unsigned)counts[0], (unsigned)counts[1],
+    printf("level=%u darts=%u vertices=%u faces=%u euler=%d\n", (unsigned)state[ZM_LEVELS], (unsigned)counts[0], (unsigned)counts[1],
            (unsigned)counts[2], (int)euler);
     return 0;
+}
+
+/* What a status line shows, off the state alone: no call is needed. */
+static void status(const char *after)
+{
+    printf("%s: vertices=%u faces=%u\n", after, (unsigned)state[ZM_VERTICES], (unsigned)state[ZM_FACES]);
 }
 
 int main(void)
@@ -63,6 +70,19 @@ int main(void)
     if (refused("zm_sweep", answer, place) || counts_refused()) {
         return 1;
     }
+    status("after the sweep");
+
+    /* A vertex too many is no pyramid, whatever is asked of it; the refusal leaves what it was given. */
+    state[ZM_VERTICES]++;
+    answer = zm_undo(state, table, DARTS, history, DARTS / 2, work, 4 * DARTS, &place, &second);
+    printf("with a vertex too many: answer=%u vertices=%u\n", (unsigned)answer, (unsigned)state[ZM_VERTICES]);
+    state[ZM_VERTICES]--;
+
+    answer = zm_undo(state, table, DARTS, history, DARTS / 2, work, 4 * DARTS, &place, &second);
+    if (refused("zm_undo", answer, place)) {
+        return 1;
+    }
+    status("undone");
     if (fflush(stdout) != 0) {
         perror("standard output");
         return 1;

@@ -43,7 +43,7 @@ int main(void)
     if (refused("zm_counts", answer, place)) {
         return 1;
     }
-    printf("level=%u darts=%u vertices=%u faces=%u euler=%d\n", (unsigned)state[2], (unsigned)counts[0], (unsigned)counts[1],
+    printf("level=%u darts=%u vertices=%u faces=%u euler=%d\n", (unsigned)state[ZM_LEVELS], (unsigned)counts[0], (unsigned)counts[1],
            (unsigned)counts[2], (int)euler);
 
     answer = zm_write(state, table, DARTS, history, DARTS / 2, work, 4 * DARTS, file, BYTES, &place, &second);

@@ -1,19 +1,43 @@
 // Calls one after another, each on the state that the one before it handed back.
 use pyramid::Kind;
 use pyramid::Outcome;
+use pyramid::State;
 use pyramid::start;
 ghost use mathlib.Core.Path.{_≡_};
-ghost use Rattle.darts.specs.Calls.{start as startOf};
-ghost use Rattle.pyramid.specs.Values.{left};
+ghost use Rattle.darts.specs.Cases.{answerOf};
+ghost use Rattle.darts.specs.Stored.{startStored};
+ghost use Rattle.pyramid.specs.Values.{Hands, stateOf, leftStored};
 ghost use Rattle.worked.specs.Chain.{stepped};
 
-// A call on a state: none, a kernel of one edge or of two, the sweep, an undo.
+// A call on a state: none, a kernel of one edge or of two, the sweep, an undo, back to a level; or no call, and other numbers of vertices and faces in the state.
 pub enum Step {
     Stay,
     One(Kind, u32),
     Two(Kind, u32, u32),
     Sweep,
     Undo,
+    Unfold(u32),
+    Store(u32, u32),
+}
+
+// The same outcome, with these numbers of vertices and faces in its state.
+fn stored(outcome: Outcome, vertices: u32, faces: u32) -> Outcome
+    ensures { λ r. ⌜ Hands r (answerOf (outcome .answer)) (record { state = stateOf (outcome .state); vertices = vertices; faces = faces }) ⌝ }
+{
+    let state = outcome.state;
+    let ends = state.ends;
+    let answer = outcome.answer;
+    Outcome {
+        state: State {
+            darts: state.darts,
+            operations: state.operations,
+            levels: state.levels,
+            vertices: vertices,
+            faces: faces,
+            ends: ends,
+        },
+        answer: answer,
+    }
 }
 
 // The call on what the one before it left.
@@ -25,8 +49,8 @@ fn call(
     work: &mut [u32],
 ) -> Outcome
     ensures { λ r. ⌜
-        left r (now (table .exit)) (now (history .exit)) (now (work .exit))
-        ≡ stepped step (left before (now (table .entry)) (now (history .entry)) (now (work .entry))) ⌝ }
+        leftStored r (now (table .exit)) (now (history .exit)) (now (work .exit))
+        ≡ stepped step (leftStored before (now (table .entry)) (now (history .entry)) (now (work .entry))) ⌝ }
 {
     let state = before.state;
     match step {
@@ -41,6 +65,8 @@ fn call(
         }
         Step::Sweep => state.sweep(table, history, work),
         Step::Undo => state.undo(table, history, work),
+        Step::Unfold(level) => state.unfold(level, table, history, work),
+        Step::Store(vertices, faces) => stored(before, vertices, faces),
     }
 }
 
@@ -55,8 +81,8 @@ pub fn chain(
     work: &mut [u32],
 ) -> Outcome
     ensures { λ r. ⌜
-        left r (now (table .exit)) (now (history .exit)) (now (work .exit))
-        ≡ stepped third (stepped second (stepped first (startOf darts (now (table .entry)) (now (history .entry)) (now (work .entry))))) ⌝ }
+        leftStored r (now (table .exit)) (now (history .exit)) (now (work .exit))
+        ≡ stepped third (stepped second (stepped first (startStored darts (now (table .entry)) (now (history .entry)) (now (work .entry))))) ⌝ }
 {
     let base = start(darts, table, history, work);
     let one = call(first, base, table, history, work);

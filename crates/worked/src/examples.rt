@@ -2,14 +2,15 @@
 use crate::chain::Step;
 use crate::chain::chain;
 use crate::rows::is_row;
+use crate::rows::is_stored;
 use check::expect;
 use pyramid::Kind;
 ghost use mathlib.Core.Bool.{true};
 ghost use mathlib.Core.Path.{_≡_};
 ghost use Rattle.worked.specs.Chain.{example as exampleOf};
 
-// Start from a table of eight places, three calls, and what the last leaves: its answer's number and two places, the table and the history. The work area
-// starts with rubbish in it.
+// Start from a table of eight places, three calls, and what the last leaves: its answer's number and two places, the table and the history, and the numbers
+// of vertices and faces that its state stores. The work area starts with rubbish in it.
 fn example(
     darts: u32,
     base: [u32; 8],
@@ -21,8 +22,10 @@ fn example(
     beside: usize,
     entries: [u32; 8],
     past: [u32; 4],
+    vertices: u32,
+    faces: u32,
 )
-    requires { ⌜ exampleOf darts base first second third number place beside entries past ≡ true ⌝ }
+    requires { ⌜ exampleOf darts base first second third number place beside entries past vertices faces ≡ true ⌝ }
 {
     let mut table = base;
     let mut history = [0u32; 4];
@@ -46,13 +49,28 @@ fn example(
         &history,
         &past,
     ));
+    expect(is_stored(outcome, vertices, faces));
 }
 
-// K3, K5 and K11: one kernel on map T.
+// K1, K3, K5 and K11: map T, and one kernel on it.
 pub fn kernels() {
     let t = [5u32, 2, 1, 4, 6, 0, 3, 7];
     let k3 = [5u32, 2, 1, 4, 3, 0, 3, 7];
     let k5 = [5u32, 2, 5, 4, 6, 4, 5, 7];
+    example(
+        8,
+        t,
+        Step::Stay,
+        Step::Stay,
+        Step::Stay,
+        0,
+        0,
+        0,
+        t,
+        [0, 0, 0, 0],
+        4,
+        2,
+    );
     example(
         8,
         t,
@@ -64,6 +82,8 @@ pub fn kernels() {
         0,
         k3,
         [13, 0, 0, 0],
+        3,
+        2,
     );
     example(
         8,
@@ -76,6 +96,8 @@ pub fn kernels() {
         0,
         k5,
         [1, 5, 0, 0],
+        2,
+        2,
     );
     example(
         8,
@@ -88,6 +110,8 @@ pub fn kernels() {
         0,
         t,
         [0, 0, 0, 0],
+        4,
+        2,
     );
 }
 
@@ -108,6 +132,8 @@ pub fn sweep_and_undo() {
         0,
         k5,
         [1, 5, 0, 0],
+        2,
+        2,
     );
     example(
         8,
@@ -120,6 +146,8 @@ pub fn sweep_and_undo() {
         0,
         k7,
         [1, 5, 10, 0],
+        2,
+        1,
     );
     example(
         8,
@@ -132,6 +160,8 @@ pub fn sweep_and_undo() {
         0,
         k7,
         [1, 5, 10, 0],
+        2,
+        1,
     );
     example(
         8,
@@ -144,6 +174,8 @@ pub fn sweep_and_undo() {
         0,
         k5,
         [1, 5, 10, 0],
+        2,
+        2,
     );
 }
 
@@ -163,6 +195,8 @@ pub fn refused_at_the_top() {
         0,
         k7,
         [1, 5, 10, 0],
+        2,
+        1,
     );
     example(
         8,
@@ -175,6 +209,8 @@ pub fn refused_at_the_top() {
         0,
         k7,
         [1, 5, 10, 0],
+        2,
+        1,
     );
 }
 
@@ -194,6 +230,8 @@ pub fn two_darts() {
         0,
         repeats,
         [0, 0, 0, 0],
+        0,
+        0,
     );
     example(
         2,
@@ -206,6 +244,8 @@ pub fn two_darts() {
         2,
         out_of_range,
         [0, 0, 0, 0],
+        0,
+        0,
     );
     example(
         2,
@@ -218,6 +258,8 @@ pub fn two_darts() {
         0,
         loop_alone,
         [0, 0, 0, 0],
+        1,
+        2,
     );
     example(
         2,
@@ -230,6 +272,8 @@ pub fn two_darts() {
         0,
         loop_alone,
         [0, 0, 0, 0],
+        1,
+        2,
     );
 }
 
@@ -249,6 +293,8 @@ pub fn both_culprits() {
         1,
         repeats_first,
         [0, 0, 0, 0],
+        0,
+        0,
     );
     example(
         4,
@@ -261,5 +307,107 @@ pub fn both_culprits() {
         4,
         out_of_range_first,
         [0, 0, 0, 0],
+        0,
+        0,
+    );
+}
+
+// The numbers given back: K7 unfolded to the base has the base's. Numbers put in a state that are those of its cycles are right, and the sweep keeps them so.
+pub fn right_numbers() {
+    let t = [5u32, 2, 1, 4, 6, 0, 3, 7];
+    let k7 = [5u32, 2, 5, 4, 6, 4, 6, 7];
+    let zones = Step::Two(Kind::Contract, 0, 1);
+    example(
+        8,
+        t,
+        zones,
+        Step::Sweep,
+        Step::Unfold(0),
+        0,
+        0,
+        0,
+        t,
+        [1, 5, 10, 0],
+        4,
+        2,
+    );
+    example(
+        8,
+        t,
+        zones,
+        Step::Store(2, 2),
+        Step::Sweep,
+        0,
+        0,
+        0,
+        k7,
+        [1, 5, 10, 0],
+        2,
+        1,
+    );
+}
+
+// A state with one vertex too many, and one with a vertex for a face: no pyramid, to a kernel, the sweep, undo and unfold.
+pub fn wrong_numbers() {
+    let t = [5u32, 2, 1, 4, 6, 0, 3, 7];
+    let k5 = [5u32, 2, 5, 4, 6, 4, 5, 7];
+    let zones = Step::Two(Kind::Contract, 0, 1);
+    let vertex_more = Step::Store(5, 2);
+    let vertex_for_face = Step::Store(3, 1);
+    example(
+        8,
+        t,
+        vertex_more,
+        Step::One(Kind::Contract, 3),
+        Step::Stay,
+        4,
+        0,
+        0,
+        t,
+        [0, 0, 0, 0],
+        5,
+        2,
+    );
+    example(
+        8,
+        t,
+        vertex_more,
+        Step::Sweep,
+        Step::Stay,
+        4,
+        0,
+        0,
+        t,
+        [0, 0, 0, 0],
+        5,
+        2,
+    );
+    example(
+        8,
+        t,
+        zones,
+        vertex_for_face,
+        Step::Undo,
+        4,
+        0,
+        0,
+        k5,
+        [1, 5, 0, 0],
+        3,
+        1,
+    );
+    example(
+        8,
+        t,
+        zones,
+        vertex_for_face,
+        Step::Unfold(0),
+        4,
+        0,
+        0,
+        k5,
+        [1, 5, 0, 0],
+        3,
+        1,
     );
 }

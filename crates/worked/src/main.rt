@@ -1,5 +1,5 @@
-// The worked examples K3, K5, K7, K8, K10 and K11 of document 01, and both culprits and the lookups of K12 of document 02, made by the calls one after
-// another. `expect` asks a proof of each result, and stops the run where one fails.
+// The worked examples K1, K3, K5, K7, K8, K10 and K11 of document 01, and both culprits, the lookups of K12 and the stored numbers of document 02, made by
+// the calls one after another. `expect` asks a proof of each result, and stops the run where one fails.
 mod chain;
 mod examples;
 mod lookups;
@@ -11,5 +11,7 @@ fn main() {
     examples::refused_at_the_top();
     examples::two_darts();
     examples::both_culprits();
+    examples::right_numbers();
+    examples::wrong_numbers();
     lookups::lookups();
 }

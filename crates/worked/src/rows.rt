@@ -1,9 +1,10 @@
-// What a worked example says of a call: its answer, the table and the history that it leaves.
+// What a worked example says of a call: its answer, the table and the history that it leaves, and the numbers that its state stores.
 use pyramid::Outcome;
 ghost use mathlib.Core.Path.{_≡_};
 ghost use Rattle.darts.specs.Pyramid.{sameNumbers};
 ghost use Rattle.darts.specs.Cases.{answerOf};
-ghost use Rattle.worked.specs.Chain.{rowIs};
+ghost use Rattle.pyramid.specs.Values.{storedOf};
+ghost use Rattle.worked.specs.Chain.{rowIs, numbersAre};
 
 // Whether two slices hold the same numbers.
 fn same(a: &[u32], b: &[u32]) -> bool
@@ -50,4 +51,15 @@ pub fn is_row(
         return false;
     }
     same(history, past)
+}
+
+// Whether the state stores these numbers of vertices and faces.
+pub fn is_stored(outcome: Outcome, vertices: u32, faces: u32) -> bool
+    ensures { λ r. ⌜ r ≡ numbersAre (storedOf (outcome .state)) vertices faces ⌝ }
+{
+    let state = outcome.state;
+    if state.vertices != vertices {
+        return false;
+    }
+    state.faces == faces
 }

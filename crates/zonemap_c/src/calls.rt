@@ -5,15 +5,15 @@ use crate::state::put_counts;
 use crate::state::state_of;
 use pyramid::Kind;
 ghost use mathlib.Core.Path.{_≡_};
-ghost use Rattle.darts.specs.Calls.{start, reduceBy, sweepBy, undoBy, unfoldBy, counts as countsBy};
 ghost use Rattle.darts.specs.Operation.{contraction, removal};
+ghost use Rattle.darts.specs.Stored.{startStored, reduceStored, sweepStored, undoStored, unfoldStored, countsStored};
 ghost use Rattle.zonemap_c.specs.Numbers.{stateIn, tallyIn, leftIn, countedIn};
 
 // Starts from the table's first D numbers.
 #[no_mangle]
 pub extern "C" fn zm_start(
     darts: u32,
-    state: &mut [u32; 67],
+    state: &mut [u32; 69],
     table: &mut [u32],
     history: &mut [u32],
     work: &mut [u32],
@@ -22,7 +22,7 @@ pub extern "C" fn zm_start(
 ) -> u32
     ensures { λ r. ⌜
         leftIn r (now (place .exit)) (now (second .exit)) (now (state .exit)) (now (table .exit)) (now (history .exit)) (now (work .exit))
-        ≡ start darts (now (table .entry)) (now (history .entry)) (now (work .entry)) ⌝ }
+        ≡ startStored darts (now (table .entry)) (now (history .entry)) (now (work .entry)) ⌝ }
 {
     let outcome = pyramid::start(darts, table, history, work);
     hand_back(outcome, state, place, second)
@@ -31,7 +31,7 @@ pub extern "C" fn zm_start(
 // One level more: the kernel's edges contracted in the listed order.
 #[no_mangle]
 pub extern "C" fn zm_contract(
-    state: &mut [u32; 67],
+    state: &mut [u32; 69],
     kernel: &[u32],
     table: &mut [u32],
     history: &mut [u32],
@@ -41,7 +41,7 @@ pub extern "C" fn zm_contract(
 ) -> u32
     ensures { λ r. ⌜
         leftIn r (now (place .exit)) (now (second .exit)) (now (state .exit)) (now (table .exit)) (now (history .exit)) (now (work .exit))
-        ≡ reduceBy contraction (now (kernel .entry)) (stateIn (now (state .entry))) (now (table .entry)) (now (history .entry)) (now (work .entry)) ⌝ }
+        ≡ reduceStored contraction (now (kernel .entry)) (stateIn (now (state .entry))) (now (table .entry)) (now (history .entry)) (now (work .entry)) ⌝ }
 {
     let given = state_of(state);
     let outcome = given.reduce(Kind::Contract, kernel, table, history, work);
@@ -51,7 +51,7 @@ pub extern "C" fn zm_contract(
 // One level more: the kernel's edges removed in the listed order.
 #[no_mangle]
 pub extern "C" fn zm_remove(
-    state: &mut [u32; 67],
+    state: &mut [u32; 69],
     kernel: &[u32],
     table: &mut [u32],
     history: &mut [u32],
@@ -61,7 +61,7 @@ pub extern "C" fn zm_remove(
 ) -> u32
     ensures { λ r. ⌜
         leftIn r (now (place .exit)) (now (second .exit)) (now (state .exit)) (now (table .exit)) (now (history .exit)) (now (work .exit))
-        ≡ reduceBy removal (now (kernel .entry)) (stateIn (now (state .entry))) (now (table .entry)) (now (history .entry)) (now (work .entry)) ⌝ }
+        ≡ reduceStored removal (now (kernel .entry)) (stateIn (now (state .entry))) (now (table .entry)) (now (history .entry)) (now (work .entry)) ⌝ }
 {
     let given = state_of(state);
     let outcome = given.reduce(Kind::Remove, kernel, table, history, work);
@@ -71,7 +71,7 @@ pub extern "C" fn zm_remove(
 // One level more: the sweep.
 #[no_mangle]
 pub extern "C" fn zm_sweep(
-    state: &mut [u32; 67],
+    state: &mut [u32; 69],
     table: &mut [u32],
     history: &mut [u32],
     work: &mut [u32],
@@ -80,7 +80,7 @@ pub extern "C" fn zm_sweep(
 ) -> u32
     ensures { λ r. ⌜
         leftIn r (now (place .exit)) (now (second .exit)) (now (state .exit)) (now (table .exit)) (now (history .exit)) (now (work .exit))
-        ≡ sweepBy (stateIn (now (state .entry))) (now (table .entry)) (now (history .entry)) (now (work .entry)) ⌝ }
+        ≡ sweepStored (stateIn (now (state .entry))) (now (table .entry)) (now (history .entry)) (now (work .entry)) ⌝ }
 {
     let given = state_of(state);
     let outcome = given.sweep(table, history, work);
@@ -90,7 +90,7 @@ pub extern "C" fn zm_sweep(
 // The last level undone.
 #[no_mangle]
 pub extern "C" fn zm_undo(
-    state: &mut [u32; 67],
+    state: &mut [u32; 69],
     table: &mut [u32],
     history: &mut [u32],
     work: &mut [u32],
@@ -99,7 +99,7 @@ pub extern "C" fn zm_undo(
 ) -> u32
     ensures { λ r. ⌜
         leftIn r (now (place .exit)) (now (second .exit)) (now (state .exit)) (now (table .exit)) (now (history .exit)) (now (work .exit))
-        ≡ undoBy (stateIn (now (state .entry))) (now (table .entry)) (now (history .entry)) (now (work .entry)) ⌝ }
+        ≡ undoStored (stateIn (now (state .entry))) (now (table .entry)) (now (history .entry)) (now (work .entry)) ⌝ }
 {
     let given = state_of(state);
     let outcome = given.undo(table, history, work);
@@ -109,7 +109,7 @@ pub extern "C" fn zm_undo(
 // Back to a level.
 #[no_mangle]
 pub extern "C" fn zm_unfold(
-    state: &mut [u32; 67],
+    state: &mut [u32; 69],
     level: u32,
     table: &mut [u32],
     history: &mut [u32],
@@ -119,7 +119,7 @@ pub extern "C" fn zm_unfold(
 ) -> u32
     ensures { λ r. ⌜
         leftIn r (now (place .exit)) (now (second .exit)) (now (state .exit)) (now (table .exit)) (now (history .exit)) (now (work .exit))
-        ≡ unfoldBy level (stateIn (now (state .entry))) (now (table .entry)) (now (history .entry)) (now (work .entry)) ⌝ }
+        ≡ unfoldStored level (stateIn (now (state .entry))) (now (table .entry)) (now (history .entry)) (now (work .entry)) ⌝ }
 {
     let given = state_of(state);
     let outcome = given.unfold(level, table, history, work);
@@ -129,7 +129,7 @@ pub extern "C" fn zm_unfold(
 // Surviving darts, vertices and faces of the present level, and its Euler number.
 #[no_mangle]
 pub extern "C" fn zm_counts(
-    state: &[u32; 67],
+    state: &[u32; 69],
     table: &mut [u32],
     history: &mut [u32],
     work: &mut [u32],
@@ -140,7 +140,7 @@ pub extern "C" fn zm_counts(
 ) -> u32
     ensures { λ r. ⌜
         countedIn r (now (place .exit)) (now (second .exit)) (tallyIn (now (counts .exit)) (now (euler .exit))) (now (table .exit)) (now (history .exit)) (now (work .exit))
-        ≡ countsBy (stateIn (now (state .entry))) (now (table .entry)) (now (history .entry)) (now (work .entry)) ⌝ }
+        ≡ countsStored (stateIn (now (state .entry))) (now (table .entry)) (now (history .entry)) (now (work .entry)) ⌝ }
 {
     let given = state_of(state);
     let counted = given.counts(table, history, work);

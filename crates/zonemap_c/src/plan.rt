@@ -2,7 +2,7 @@
 use crate::state::hand_back;
 ghost use mathlib.Core.Path.{_≡_};
 ghost use Rattle.grids.specs.Grid.{flat};
-ghost use Rattle.grids.specs.Plans.{planBase, planAreas};
+ghost use Rattle.grids.specs.Stored.{planStored, areasStored};
 ghost use Rattle.zonemap_c.specs.Numbers.{leftIn};
 
 // The base of a plan.
@@ -11,7 +11,7 @@ pub extern "C" fn zm_plan(
     wales: u32,
     courses: u32,
     plan: &[u8],
-    state: &mut [u32; 67],
+    state: &mut [u32; 69],
     table: &mut [u32],
     history: &mut [u32],
     work: &mut [u32],
@@ -20,7 +20,7 @@ pub extern "C" fn zm_plan(
 ) -> u32
     ensures { λ r. ⌜
         leftIn r (now (place .exit)) (now (second .exit)) (now (state .exit)) (now (table .exit)) (now (history .exit)) (now (work .exit))
-        ≡ planBase (flat wales courses) (now (plan .entry)) (now (table .entry)) (now (history .entry)) (now (work .entry)) ⌝ }
+        ≡ planStored (flat wales courses) (now (plan .entry)) (now (table .entry)) (now (history .entry)) (now (work .entry)) ⌝ }
 {
     let outcome = plans::plan(wales, courses, plan, table, history, work);
     hand_back(outcome, state, place, second)
@@ -32,7 +32,7 @@ pub extern "C" fn zm_plan_areas(
     wales: u32,
     courses: u32,
     plan: &[u8],
-    state: &mut [u32; 67],
+    state: &mut [u32; 69],
     table: &mut [u32],
     history: &mut [u32],
     work: &mut [u32],
@@ -41,7 +41,7 @@ pub extern "C" fn zm_plan_areas(
 ) -> u32
     ensures { λ r. ⌜
         leftIn r (now (place .exit)) (now (second .exit)) (now (state .exit)) (now (table .exit)) (now (history .exit)) (now (work .exit))
-        ≡ planAreas (flat wales courses) (now (plan .entry)) (now (table .entry)) (now (history .entry)) (now (work .entry)) ⌝ }
+        ≡ areasStored (flat wales courses) (now (plan .entry)) (now (table .entry)) (now (history .entry)) (now (work .entry)) ⌝ }
 {
     let outcome = plans::plan_areas(wales, courses, plan, table, history, work);
     hand_back(outcome, state, place, second)

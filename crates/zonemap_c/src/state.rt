@@ -1,38 +1,42 @@
-// The state as 67 numbers (darts, operations, levels, the 64 level ends), and what a call hands back.
+// The state as 69 numbers (darts, operations, levels, vertices, faces, the 64 level ends), and what a call hands back.
 use pyramid::Answer;
 use pyramid::Counts;
 use pyramid::Outcome;
 use pyramid::State;
 use slices::copy;
 ghost use mathlib.Core.Path.{_≡_};
-ghost use Rattle.pyramid.specs.Values.{stateOf, tallyOf};
+ghost use Rattle.pyramid.specs.Values.{storedOf, tallyOf};
 ghost use Rattle.zonemap_c.specs.Numbers.{stateIn, tallyIn, Answered, Handed};
 
 // The state that the numbers are.
-pub(crate) fn state_of(numbers: &[u32; 67]) -> State
-    ensures { λ r. ⌜ stateOf r ≡ stateIn (now (numbers .entry)) ⌝ }
+pub(crate) fn state_of(numbers: &[u32; 69]) -> State
+    ensures { λ r. ⌜ storedOf r ≡ stateIn (now (numbers .entry)) ⌝ }
 {
     let all: &[u32] = numbers;
     let mut ends = [0u32; 64];
-    copy(&mut ends, &all[3..67], 64);
+    copy(&mut ends, &all[5..69], 64);
     State {
         darts: numbers[0],
         operations: numbers[1],
         levels: numbers[2],
+        vertices: numbers[3],
+        faces: numbers[4],
         ends: ends,
     }
 }
 
-// The numbers that the state is, all 67.
-fn numbers_of(state: State) -> [u32; 67]
-    ensures { λ r. ⌜ stateIn r ≡ stateOf state ⌝ }
+// The numbers that the state is, all 69.
+fn numbers_of(state: State) -> [u32; 69]
+    ensures { λ r. ⌜ stateIn r ≡ storedOf state ⌝ }
 {
     let ends = state.ends;
-    let mut numbers = [0u32; 67];
-    copy(&mut numbers[3..67], &ends, 64);
+    let mut numbers = [0u32; 69];
+    copy(&mut numbers[5..69], &ends, 64);
     numbers[0] = state.darts;
     numbers[1] = state.operations;
     numbers[2] = state.levels;
+    numbers[3] = state.vertices;
+    numbers[4] = state.faces;
     numbers
 }
 
@@ -48,7 +52,7 @@ pub(crate) fn put_answer(answer: Answer, place: &mut usize, second: &mut usize) 
 // What a call hands back, put where C finds it: the state's numbers and the answer.
 pub(crate) fn hand_back(
     outcome: Outcome,
-    state: &mut [u32; 67],
+    state: &mut [u32; 69],
     place: &mut usize,
     second: &mut usize,
 ) -> u32

@@ -26,6 +26,8 @@ pub fn nothing() -> Held
             darts: 0,
             operations: 0,
             levels: 0,
+            vertices: 0,
+            faces: 0,
             ends: ends,
         },
         table: 0,

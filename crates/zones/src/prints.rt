@@ -31,14 +31,16 @@ fn keyed(page: &mut [u8], used: usize, key: &[u8], number: u32) -> usize
     page::field(page, used, key, number as u64)
 }
 
-// "state=D N L"; the key has what stands before D.
+// "state=D N L V F"; the key has what stands before D.
 fn state_line(page: &mut [u8], used: usize, key: &[u8], state: State) -> usize
     requires { ⌜ Waits used (now page) ⌝ }
     ensures { λ r. ⌜ Waits r (now (page .exit)) ⌝ }
 {
     let darts = keyed(page, used, key, state.darts);
     let operations = keyed(page, darts, b" ", state.operations);
-    keyed(page, operations, b" ", state.levels)
+    let levels = keyed(page, operations, b" ", state.levels);
+    let vertices = keyed(page, levels, b" ", state.vertices);
+    keyed(page, vertices, b" ", state.faces)
 }
 
 // "ends=C table=C history=C work=C output=C"
@@ -63,7 +65,7 @@ fn answer_line(page: &mut [u8], answer: Answer) -> usize
     page::field(page, place, b" second=", answer.second() as u64)
 }
 
-// "answer=A place=P second=S state=D N L ends=C table=C history=C work=C output=C"
+// "answer=A place=P second=S state=D N L V F ends=C table=C history=C work=C output=C"
 fn call_line(page: &mut [u8], answer: Answer, state: State, sums: Sums) -> usize
     requires { ⌜ Waits 0 (now page) ⌝ }
     ensures { λ r. ⌜ Waits r (now (page .exit)) ⌝ }

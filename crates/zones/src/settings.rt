@@ -15,11 +15,14 @@ use crate::words::HISTORY;
 use crate::words::LEND;
 use crate::words::PLAN;
 use crate::words::SHEETS;
+use crate::words::STATE;
 use crate::words::TABLE;
 use crate::words::WORK;
 use pyramid::State;
+ghost use mathlib.Core.Path.{_≡_};
 ghost use Prim.Native.Nat.{_+_, _≤_};
 ghost use lib.ListN.{length};
+ghost use Rattle.pyramid.specs.Values.{stateOf, storedOf};
 ghost use Rattle.zones.specs.Scanned.{Scanned};
 ghost use Rattle.zones.specs.Within.{Within};
 
@@ -138,7 +141,7 @@ fn fill(work: &mut WorkRoom, value: u32) {
     }
 }
 
-// "darts, operations, levels, then level ends; ends that are not given are 0"
+// "darts, operations, levels, then level ends; ends that are not given are 0", and so are the numbers of vertices and faces.
 fn given(numbers: &NumbersRoom, count: usize) -> State {
     let mut ends = [0u32; 64];
     let mut i = 0;
@@ -152,6 +155,23 @@ fn given(numbers: &NumbersRoom, count: usize) -> State {
         darts: numbers[0],
         operations: numbers[1],
         levels: numbers[2],
+        vertices: 0,
+        faces: 0,
+        ends: ends,
+    }
+}
+
+// "sets the two numbers that the state stores, vertices and faces"
+fn stored(state: State, vertices: u32, faces: u32) -> State
+    ensures { λ r. ⌜ storedOf r ≡ record { state = stateOf state; vertices = vertices; faces = faces } ⌝ }
+{
+    let ends = state.ends;
+    State {
+        darts: state.darts,
+        operations: state.operations,
+        levels: state.levels,
+        vertices: vertices,
+        faces: faces,
         ends: ends,
     }
 }
@@ -184,6 +204,7 @@ pub fn set(
             fill(work, numbers[0]);
             held
         }
-        _ => held.with_state(given(numbers, line.count)),
+        STATE => held.with_state(given(numbers, line.count)),
+        _ => held.with_state(stored(held.state, numbers[0], numbers[1])),
     }
 }

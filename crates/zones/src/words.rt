@@ -20,49 +20,51 @@ pub const FILL: u32 = 8;
 
 pub const STATE: u32 = 9;
 
-pub const START: u32 = 10;
+pub const STORED: u32 = 10;
 
-pub const CONTRACT: u32 = 11;
+pub const START: u32 = 11;
 
-pub const REMOVE: u32 = 12;
+pub const CONTRACT: u32 = 12;
 
-pub const SWEEP: u32 = 13;
+pub const REMOVE: u32 = 13;
 
-pub const UNDO: u32 = 14;
+pub const SWEEP: u32 = 14;
 
-pub const UNFOLD: u32 = 15;
+pub const UNDO: u32 = 15;
 
-pub const READ: u32 = 16;
+pub const UNFOLD: u32 = 16;
 
-pub const FLATAREAS: u32 = 17;
+pub const READ: u32 = 17;
 
-pub const FLAT: u32 = 18;
+pub const FLATAREAS: u32 = 18;
 
-pub const COUNTS: u32 = 19;
+pub const FLAT: u32 = 19;
 
-pub const SUCCESSOR: u32 = 20;
+pub const COUNTS: u32 = 20;
 
-pub const WRITE: u32 = 21;
+pub const SUCCESSOR: u32 = 21;
 
-pub const SHOW: u32 = 22;
+pub const WRITE: u32 = 22;
 
-pub const BYTES: u32 = 23;
+pub const SHOW: u32 = 23;
 
-pub const SHEET: u32 = 24;
+pub const BYTES: u32 = 24;
 
-pub const KEPT: u32 = 25;
+pub const SHEET: u32 = 25;
 
-pub const YARNSTART: u32 = 26;
+pub const KEPT: u32 = 26;
 
-pub const YARNCONTRACT: u32 = 27;
+pub const YARNSTART: u32 = 27;
 
-pub const YARNREMOVE: u32 = 28;
+pub const YARNCONTRACT: u32 = 28;
 
-pub const YARNSWEEP: u32 = 29;
+pub const YARNREMOVE: u32 = 29;
 
-pub const YARNUNDO: u32 = 30;
+pub const YARNSWEEP: u32 = 30;
 
-pub const YARNUNFOLD: u32 = 31;
+pub const YARNUNDO: u32 = 31;
+
+pub const YARNUNFOLD: u32 = 32;
 
 // A command's number, or 0 for none, and the place after its word.
 pub struct Word {
@@ -71,8 +73,8 @@ pub struct Word {
 }
 
 // How many letters the script has from a place on of a word of the list, which a space ends: all of them or none.
-fn letters(script: &[u8], at: usize, words: &[u8; 403], from: usize) -> usize
-    requires { ⌜ (at ≤ length (now script)) × (from ≤ 390) ⌝ }
+fn letters(script: &[u8], at: usize, words: &[u8; 416], from: usize) -> usize
+    requires { ⌜ (at ≤ length (now script)) × (from ≤ 403) ⌝ }
     ensures { λ r. ⌜ at + r ≤ length (now (script .entry)) ⌝ }
 {
     let mut i = 0;
@@ -98,11 +100,11 @@ pub fn command(script: &[u8], at: usize) -> Word
     ensures { λ r. ⌜ r .next ≤ length (now (script .entry)) ⌝ }
 {
     let words =
-        b"lend         sheets       table        history      work         plan         ends         fill         state        \
+        b"lend         sheets       table        history      work         plan         ends         fill         state        stored       \
         start        contract     remove       sweep        undo         unfold       read         flatareas    flat         \
         counts       successor    write        show         bytes        sheet        kept         yarnstart    yarncontract \
         yarnremove   yarnsweep    yarnundo     yarnunfold   ";
-    for k in 0..31 {
+    for k in 0..32 {
         let n = letters(script, at, words, 13 * k);
         if n != 0 {
             return Word {
@@ -121,7 +123,7 @@ pub fn command(script: &[u8], at: usize) -> Word
 pub fn takes(number: u32, count: usize) -> bool {
     match number {
         LEND | FLATAREAS | FLAT | SUCCESSOR => count == 3,
-        SHEETS => count == 2,
+        SHEETS | STORED => count == 2,
         TABLE | HISTORY | WORK | PLAN | ENDS | SHEET | KEPT => 1 <= count,
         STATE => 3 <= count && count <= 67,
         CONTRACT | REMOVE | YARNCONTRACT | YARNREMOVE => count <= 32772,

@@ -5,10 +5,10 @@ use Rattle.worked.proofs.examples.both_culprits.Statement.{statement}
 use Rattle.worked.proofs.examples.both_culprits.Tie as tie
 
 example-requires : tie.Need-example-requires
-example-requires c κs = computed .13
+example-requires c κs = computed .14
 
 example-requires-2 : tie.Need-example-requires-2
-example-requires-2 c κs = computed .14
+example-requires-2 c κs = computed .15
 
 returns : tie.Need-returns
 returns c = search needs

@@ -1,6 +1,6 @@
 -- `worked::examples::example`: what the definitions leave, the calls leave.
 use mathlib.Core.Path.{_∙_}
-use Rattle.worked.proofs.Parts.{row-of}
+use Rattle.worked.proofs.Parts.{row-of, numbers-of}
 use borrow.Author.Needs.{needs}
 use Rattle.worked.proofs.examples.example.Statement.{statement}
 use Rattle.worked.proofs.examples.example.Tie as tie
@@ -33,7 +33,17 @@ is-row-requires : tie.Need-is-row-requires
 is-row-requires c κs = search needs
 
 expect-requires : tie.Need-expect-requires
-expect-requires c κs = c .is-row .ensures ∙ row-of _ _ _ _ _ (c .before .before .before .before .before .before .before .before .chain .ensures) (c .before .before .before .before .before .before .before .before .before .before .before .before .pre)
+expect-requires c κs =
+    let called = c .before .before .before .before .before .before .before .before in
+    c .is-row .ensures ∙ row-of _ _ _ _ _ _ _ (called .chain .ensures) (called .before .before .before .before .pre)
+
+is-stored-requires : tie.Need-is-stored-requires
+is-stored-requires c κs = search needs
+
+expect-requires-2 : tie.Need-expect-requires-2
+expect-requires-2 c κs =
+    let called = c .before .before .before .before .before .before .before .before .before .before in
+    c .is-stored .ensures ∙ numbers-of _ _ _ _ _ _ _ (called .chain .ensures) (called .before .before .before .before .pre)
 
 returns : tie.Need-returns
 returns c = search needs
@@ -52,4 +62,6 @@ example-spec =
     slice-aggregate-is-row-4
     is-row-requires
     expect-requires
+    is-stored-requires
+    expect-requires-2
     returns)

@@ -1,4 +1,4 @@
--- `worked::examples::kernels`: K3, K5 and K11, as computed.
+-- `worked::examples::kernels`: K1, K3, K5 and K11, as computed.
 use Rattle.worked.proofs.Computed.{computed}
 use borrow.Author.Needs.{needs}
 use Rattle.worked.proofs.examples.kernels.Statement.{statement}
@@ -13,8 +13,11 @@ example-requires-2 c κs = computed .1
 example-requires-3 : tie.Need-example-requires-3
 example-requires-3 c κs = computed .2
 
+example-requires-4 : tie.Need-example-requires-4
+example-requires-4 c κs = computed .3
+
 returns : tie.Need-returns
 returns c = search needs
 
 pub kernels-spec : {M : Type 1} → statement M
-kernels-spec = tie.close (tie.spec example-requires example-requires-2 example-requires-3 returns)
+kernels-spec = tie.close (tie.spec example-requires example-requires-2 example-requires-3 example-requires-4 returns)

@@ -5,10 +5,10 @@ use Rattle.worked.proofs.examples.refused_at_the_top.Statement.{stateme
 use Rattle.worked.proofs.examples.refused_at_the_top.Tie as tie
 
 example-requires : tie.Need-example-requires
-example-requires c κs = computed .7
+example-requires c κs = computed .8
 
 example-requires-2 : tie.Need-example-requires-2
-example-requires-2 c κs = computed .8
+example-requires-2 c κs = computed .9
 
 returns : tie.Need-returns
 returns c = search needs

@@ -5,16 +5,16 @@ use Rattle.worked.proofs.examples.two_darts.Statement.{statement}
 use Rattle.worked.proofs.examples.two_darts.Tie as tie
 
 example-requires : tie.Need-example-requires
-example-requires c κs = computed .9
+example-requires c κs = computed .10
 
 example-requires-2 : tie.Need-example-requires-2
-example-requires-2 c κs = computed .10
+example-requires-2 c κs = computed .11
 
 example-requires-3 : tie.Need-example-requires-3
-example-requires-3 c κs = computed .11
+example-requires-3 c κs = computed .12
 
 example-requires-4 : tie.Need-example-requires-4
-example-requires-4 c κs = computed .12
+example-requires-4 c κs = computed .13
 
 returns : tie.Need-returns
 returns c = search needs

@@ -5,10 +5,10 @@ use Rattle.zones.proofs.words.command.Statement.{statement}
 use Rattle.zones.proofs.words.command.Tie as tie
 
 abbrev Inv-loop : tie.InvT-loop
-Inv-loop script at words k₀ k = k ≤ 31
+Inv-loop script at words k₀ k = k ≤ 32
 
 abbrev μ-loop : tie.MeasureT-loop
-μ-loop script at words k₀ k = 31 - k
+μ-loop script at words k₀ k = 32 - k
 
 loop-holds : tie.Need-loop-holds Inv-loop μ-loop
 loop-holds c = search needs

@@ -59,7 +59,7 @@ abbrev pub r : Kinds.RK 10
 r = Unit'.rUnit
 
 abbrev pub xs : List.List Syntax.Ty
-xs = List._∷_ (Syntax.tyStruct (List._∷_ 122 (List._∷_ 111 (List._∷_ 110 (List._∷_ 101 (List._∷_ 115 (List._∷_ 58 (List._∷_ 58 (List._∷_ 104 (List._∷_ 101 (List._∷_ 108 (List._∷_ 100 (List._∷_ 58 (List._∷_ 58 (List._∷_ 72 (List._∷_ 101 (List._∷_ 108 (List._∷_ 100 List.[]))))))))))))))))) (Syntax.tcons (Syntax.tyStruct (List._∷_ 112 (List._∷_ 121 (List._∷_ 114 (List._∷_ 97 (List._∷_ 109 (List._∷_ 105 (List._∷_ 100 (List._∷_ 58 (List._∷_ 58 (List._∷_ 83 (List._∷_ 116 (List._∷_ 97 (List._∷_ 116 (List._∷_ 101 List.[])))))))))))))) (Syntax.tcons (Syntax.tyInt Syntax.w32) (Syntax.tcons (Syntax.tyInt Syntax.w32) (Syntax.tcons (Syntax.tyInt Syntax.w32) (Syntax.tcons (Syntax.tyArray (Syntax.tyInt Syntax.w32) 64) Syntax.tnil))))) (Syntax.tcons (Syntax.tyInt Syntax.w64) (Syntax.tcons (Syntax.tyInt Syntax.w64) (Syntax.tcons (Syntax.tyInt Syntax.w64) (Syntax.tcons (Syntax.tyInt Syntax.w64) (Syntax.tcons (Syntax.tyInt Syntax.w64) (Syntax.tcons (Syntax.tyInt Syntax.w64) (Syntax.tcons Syntax.tyBool Syntax.tnil))))))))) (List._∷_ (Syntax.tyInt Syntax.w64) (List._∷_ (Syntax.tyInt Syntax.w64) (List._∷_ (Syntax.tyStruct (List._∷_ 122 (List._∷_ 111 (List._∷_ 110 (List._∷_ 101 (List._∷_ 115 (List._∷_ 58 (List._∷_ 58 (List._∷_ 115 (List._∷_ 99 (List._∷_ 97 (List._∷_ 110 (List._∷_ 58 (List._∷_ 58 (List._∷_ 76 (List._∷_ 105 (List._∷_ 110 (List._∷_ 101 List.[]))))))))))))))))) (Syntax.tcons (Syntax.tyInt Syntax.w32) (Syntax.tcons (Syntax.tyInt Syntax.w64) (Syntax.tcons (Syntax.tyInt Syntax.w64) (Syntax.tcons (Syntax.tyInt Syntax.w64) (Syntax.tcons (Syntax.tyInt Syntax.w64) Syntax.tnil)))))) (List._∷_ (Syntax.tyInt Syntax.w64) (List._∷_ Syntax.tyBool (List._∷_ (Syntax.tyInt Syntax.w64) (List._∷_ (Syntax.tyRef Syntax.erased Syntax.mut (Syntax.tyArray (Syntax.tyInt Syntax.w32) 32772)) (List._∷_ (Syntax.tyRef Syntax.erased Syntax.imm (Syntax.tyArray (Syntax.tyInt Syntax.w32) 32772)) (List._∷_ (Syntax.tyRef Syntax.erased Syntax.mut (Syntax.tyArray (Syntax.tyInt Syntax.w8) 16388)) (List._∷_ (Syntax.tyRef Syntax.erased Syntax.mut (Syntax.tyArray (Syntax.tyInt Syntax.w32) 65540)) (List._∷_ (Syntax.tyRef Syntax.erased Syntax.mut (Syntax.tyArray (Syntax.tyInt Syntax.w32) 32772)) (List._∷_ (Syntax.tyRef Syntax.erased Syntax.mut (Syntax.tyArray (Syntax.tyInt Syntax.w32) 32772)) (List._∷_ (Syntax.tyRef Syntax.erased Syntax.mut (Syntax.tyArray (Syntax.tyInt Syntax.w32) 262160)) (List._∷_ (Syntax.tyRef Syntax.erased Syntax.mut (Syntax.tyArray (Syntax.tyInt Syntax.w8) 600000)) (List._∷_ (Syntax.tyRef Syntax.erased Syntax.mut (Syntax.tyArray Cell.behind 65540)) (List._∷_ (Syntax.tyRef Syntax.erased Syntax.mut (Syntax.tyArray Cell.behind 32772)) (List._∷_ Syntax.tyUnit (List._∷_ (Syntax.tyInt Syntax.w64) List.[]))))))))))))))))))
+xs = List._∷_ (Syntax.tyStruct (List._∷_ 122 (List._∷_ 111 (List._∷_ 110 (List._∷_ 101 (List._∷_ 115 (List._∷_ 58 (List._∷_ 58 (List._∷_ 104 (List._∷_ 101 (List._∷_ 108 (List._∷_ 100 (List._∷_ 58 (List._∷_ 58 (List._∷_ 72 (List._∷_ 101 (List._∷_ 108 (List._∷_ 100 List.[]))))))))))))))))) (Syntax.tcons (Syntax.tyStruct (List._∷_ 112 (List._∷_ 121 (List._∷_ 114 (List._∷_ 97 (List._∷_ 109 (List._∷_ 105 (List._∷_ 100 (List._∷_ 58 (List._∷_ 58 (List._∷_ 83 (List._∷_ 116 (List._∷_ 97 (List._∷_ 116 (List._∷_ 101 List.[])))))))))))))) (Syntax.tcons (Syntax.tyInt Syntax.w32) (Syntax.tcons (Syntax.tyInt Syntax.w32) (Syntax.tcons (Syntax.tyInt Syntax.w32) (Syntax.tcons (Syntax.tyInt Syntax.w32) (Syntax.tcons (Syntax.tyInt Syntax.w32) (Syntax.tcons (Syntax.tyArray (Syntax.tyInt Syntax.w32) 64) Syntax.tnil))))))) (Syntax.tcons (Syntax.tyInt Syntax.w64) (Syntax.tcons (Syntax.tyInt Syntax.w64) (Syntax.tcons (Syntax.tyInt Syntax.w64) (Syntax.tcons (Syntax.tyInt Syntax.w64) (Syntax.tcons (Syntax.tyInt Syntax.w64) (Syntax.tcons (Syntax.tyInt Syntax.w64) (Syntax.tcons Syntax.tyBool Syntax.tnil))))))))) (List._∷_ (Syntax.tyInt Syntax.w64) (List._∷_ (Syntax.tyInt Syntax.w64) (List._∷_ (Syntax.tyStruct (List._∷_ 122 (List._∷_ 111 (List._∷_ 110 (List._∷_ 101 (List._∷_ 115 (List._∷_ 58 (List._∷_ 58 (List._∷_ 115 (List._∷_ 99 (List._∷_ 97 (List._∷_ 110 (List._∷_ 58 (List._∷_ 58 (List._∷_ 76 (List._∷_ 105 (List._∷_ 110 (List._∷_ 101 List.[]))))))))))))))))) (Syntax.tcons (Syntax.tyInt Syntax.w32) (Syntax.tcons (Syntax.tyInt Syntax.w64) (Syntax.tcons (Syntax.tyInt Syntax.w64) (Syntax.tcons (Syntax.tyInt Syntax.w64) (Syntax.tcons (Syntax.tyInt Syntax.w64) Syntax.tnil)))))) (List._∷_ (Syntax.tyInt Syntax.w64) (List._∷_ Syntax.tyBool (List._∷_ (Syntax.tyInt Syntax.w64) (List._∷_ (Syntax.tyRef Syntax.erased Syntax.mut (Syntax.tyArray (Syntax.tyInt Syntax.w32) 32772)) (List._∷_ (Syntax.tyRef Syntax.erased Syntax.imm (Syntax.tyArray (Syntax.tyInt Syntax.w32) 32772)) (List._∷_ (Syntax.tyRef Syntax.erased Syntax.mut (Syntax.tyArray (Syntax.tyInt Syntax.w8) 16388)) (List._∷_ (Syntax.tyRef Syntax.erased Syntax.mut (Syntax.tyArray (Syntax.tyInt Syntax.w32) 65540)) (List._∷_ (Syntax.tyRef Syntax.erased Syntax.mut (Syntax.tyArray (Syntax.tyInt Syntax.w32) 32772)) (List._∷_ (Syntax.tyRef Syntax.erased Syntax.mut (Syntax.tyArray (Syntax.tyInt Syntax.w32) 32772)) (List._∷_ (Syntax.tyRef Syntax.erased Syntax.mut (Syntax.tyArray (Syntax.tyInt Syntax.w32) 262160)) (List._∷_ (Syntax.tyRef Syntax.erased Syntax.mut (Syntax.tyArray (Syntax.tyInt Syntax.w8) 600000)) (List._∷_ (Syntax.tyRef Syntax.erased Syntax.mut (Syntax.tyArray Cell.behind 65540)) (List._∷_ (Syntax.tyRef Syntax.erased Syntax.mut (Syntax.tyArray Cell.behind 32772)) (List._∷_ Syntax.tyUnit (List._∷_ (Syntax.tyInt Syntax.w64) List.[]))))))))))))))))))
 
 abbrev pub m : Nat.ℕ
 m = 10
@@ -305,13 +305,13 @@ abbrev pub Claims : Type 1
 Claims = Kinds.In 0 ps·0 × Kinds.Out 0 ps·0 r·0 × Kinds.In 2 ps·1 × Kinds.Out 2 ps·1 r·1 × Kinds.In 10 ps·2 × Kinds.Out 10 ps·2 r·2 × Kinds.In 0 ps·3 × Kinds.Out 0 ps·3 r·3
 
 abbrev pub t0 : List.List Row.Entry
-t0 = List._∷_ (0, Rows.any-gone Syntax.tyUnit) (List._∷_ (1, Rows.sslice (Referent.rtF (Referent.fInt Syntax.w8)) (Syntax.tyRef (Syntax.named 0) Syntax.imm (Syntax.tyInt Syntax.w8)) 0) (List._∷_ (2, Rows.mref (Array.Array (Referent.rtF (Referent.fInt Syntax.w32)) 32772) (Syntax.tyRef (Syntax.named 1) Syntax.mut (Syntax.tyArray (Syntax.tyInt Syntax.w32) 32772)) 1) (List._∷_ (3, Rows.mref (Array.Array (Referent.rtF (Referent.fInt Syntax.w8)) 16388) (Syntax.tyRef (Syntax.named 2) Syntax.mut (Syntax.tyArray (Syntax.tyInt Syntax.w8) 16388)) 2) (List._∷_ (4, Rows.mref (Array.Array (Referent.rtF (Referent.fInt Syntax.w32)) 65540) (Syntax.tyRef (Syntax.named 3) Syntax.mut (Syntax.tyArray (Syntax.tyInt Syntax.w32) 65540)) 3) (List._∷_ (5, Rows.mref (Array.Array (Referent.rtF (Referent.fInt Syntax.w32)) 32772) (Syntax.tyRef (Syntax.named 4) Syntax.mut (Syntax.tyArray (Syntax.tyInt Syntax.w32) 32772)) 4) (List._∷_ (6, Rows.mref (Array.Array (Referent.rtF (Referent.fInt Syntax.w32)) 32772) (Syntax.tyRef (Syntax.named 5) Syntax.mut (Syntax.tyArray (Syntax.tyInt Syntax.w32) 32772)) 5) (List._∷_ (7, Rows.mref (Array.Array (Referent.rtF (Referent.fInt Syntax.w32)) 262160) (Syntax.tyRef (Syntax.named 6) Syntax.mut (Syntax.tyArray (Syntax.tyInt Syntax.w32) 262160)) 6) (List._∷_ (8, Rows.mref (Array.Array (Referent.rtF (Referent.fInt Syntax.w8)) 600000) (Syntax.tyRef (Syntax.named 7) Syntax.mut (Syntax.tyArray (Syntax.tyInt Syntax.w8) 600000)) 7) (List._∷_ (9, Rows.mref (Array.Array Cell.R 65540) (Syntax.tyRef (Syntax.named 8) Syntax.mut (Syntax.tyArray Cell.behind 65540)) 8) (List._∷_ (10, Rows.mref (Array.Array Cell.R 32772) (Syntax.tyRef (Syntax.named 9) Syntax.mut (Syntax.tyArray Cell.behind 32772)) 9) (List._∷_ (11, Rows.any-gone (Syntax.tyStruct (List._∷_ 122 (List._∷_ 111 (List._∷_ 110 (List._∷_ 101 (List._∷_ 115 (List._∷_ 58 (List._∷_ 58 (List._∷_ 104 (List._∷_ 101 (List._∷_ 108 (List._∷_ 100 (List._∷_ 58 (List._∷_ 58 (List._∷_ 72 (List._∷_ 101 (List._∷_ 108 (List._∷_ 100 List.[]))))))))))))))))) (Syntax.tcons (Syntax.tyStruct (List._∷_ 112 (List._∷_ 121 (List._∷_ 114 (List._∷_ 97 (List._∷_ 109 (List._∷_ 105 (List._∷_ 100 (List._∷_ 58 (List._∷_ 58 (List._∷_ 83 (List._∷_ 116 (List._∷_ 97 (List._∷_ 116 (List._∷_ 101 List.[])))))))))))))) (Syntax.tcons (Syntax.tyInt Syntax.w32) (Syntax.tcons (Syntax.tyInt Syntax.w32) (Syntax.tcons (Syntax.tyInt Syntax.w32) (Syntax.tcons (Syntax.tyArray (Syntax.tyInt Syntax.w32) 64) Syntax.tnil))))) (Syntax.tcons (Syntax.tyInt Syntax.w64) (Syntax.tcons (Syntax.tyInt Syntax.w64) (Syntax.tcons (Syntax.tyInt Syntax.w64) (Syntax.tcons (Syntax.tyInt Syntax.w64) (Syntax.tcons (Syntax.tyInt Syntax.w64) (Syntax.tcons (Syntax.tyInt Syntax.w64) (Syntax.tcons Syntax.tyBool Syntax.tnil)))))))))) (List._∷_ (12, Rows.any-gone (Syntax.tyInt Syntax.w64)) (List._∷_ (13, Rows.any-gone (Syntax.tyInt Syntax.w64)) (List._∷_ (14, Rows.any-gone (Syntax.tyStruct (List._∷_ 122 (List._∷_ 111 (List._∷_ 110 (List._∷_ 101 (List._∷_ 115 (List._∷_ 58 (List._∷_ 58 (List._∷_ 115 (List._∷_ 99 (List._∷_ 97 (List._∷_ 110 (List._∷_ 58 (List._∷_ 58 (List._∷_ 76 (List._∷_ 105 (List._∷_ 110 (List._∷_ 101 List.[]))))))))))))))))) (Syntax.tcons (Syntax.tyInt Syntax.w32) (Syntax.tcons (Syntax.tyInt Syntax.w64) (Syntax.tcons (Syntax.tyInt Syntax.w64) (Syntax.tcons (Syntax.tyInt Syntax.w64) (Syntax.tcons (Syntax.tyInt Syntax.w64) Syntax.tnil))))))) (List._∷_ (15, Rows.any-gone (Syntax.tyInt Syntax.w64)) List.[])))))))))))))))
+t0 = List._∷_ (0, Rows.any-gone Syntax.tyUnit) (List._∷_ (1, Rows.sslice (Referent.rtF (Referent.fInt Syntax.w8)) (Syntax.tyRef (Syntax.named 0) Syntax.imm (Syntax.tyInt Syntax.w8)) 0) (List._∷_ (2, Rows.mref (Array.Array (Referent.rtF (Referent.fInt Syntax.w32)) 32772) (Syntax.tyRef (Syntax.named 1) Syntax.mut (Syntax.tyArray (Syntax.tyInt Syntax.w32) 32772)) 1) (List._∷_ (3, Rows.mref (Array.Array (Referent.rtF (Referent.fInt Syntax.w8)) 16388) (Syntax.tyRef (Syntax.named 2) Syntax.mut (Syntax.tyArray (Syntax.tyInt Syntax.w8) 16388)) 2) (List._∷_ (4, Rows.mref (Array.Array (Referent.rtF (Referent.fInt Syntax.w32)) 65540) (Syntax.tyRef (Syntax.named 3) Syntax.mut (Syntax.tyArray (Syntax.tyInt Syntax.w32) 65540)) 3) (List._∷_ (5, Rows.mref (Array.Array (Referent.rtF (Referent.fInt Syntax.w32)) 32772) (Syntax.tyRef (Syntax.named 4) Syntax.mut (Syntax.tyArray (Syntax.tyInt Syntax.w32) 32772)) 4) (List._∷_ (6, Rows.mref (Array.Array (Referent.rtF (Referent.fInt Syntax.w32)) 32772) (Syntax.tyRef (Syntax.named 5) Syntax.mut (Syntax.tyArray (Syntax.tyInt Syntax.w32) 32772)) 5) (List._∷_ (7, Rows.mref (Array.Array (Referent.rtF (Referent.fInt Syntax.w32)) 262160) (Syntax.tyRef (Syntax.named 6) Syntax.mut (Syntax.tyArray (Syntax.tyInt Syntax.w32) 262160)) 6) (List._∷_ (8, Rows.mref (Array.Array (Referent.rtF (Referent.fInt Syntax.w8)) 600000) (Syntax.tyRef (Syntax.named 7) Syntax.mut (Syntax.tyArray (Syntax.tyInt Syntax.w8) 600000)) 7) (List._∷_ (9, Rows.mref (Array.Array Cell.R 65540) (Syntax.tyRef (Syntax.named 8) Syntax.mut (Syntax.tyArray Cell.behind 65540)) 8) (List._∷_ (10, Rows.mref (Array.Array Cell.R 32772) (Syntax.tyRef (Syntax.named 9) Syntax.mut (Syntax.tyArray Cell.behind 32772)) 9) (List._∷_ (11, Rows.any-gone (Syntax.tyStruct (List._∷_ 122 (List._∷_ 111 (List._∷_ 110 (List._∷_ 101 (List._∷_ 115 (List._∷_ 58 (List._∷_ 58 (List._∷_ 104 (List._∷_ 101 (List._∷_ 108 (List._∷_ 100 (List._∷_ 58 (List._∷_ 58 (List._∷_ 72 (List._∷_ 101 (List._∷_ 108 (List._∷_ 100 List.[]))))))))))))))))) (Syntax.tcons (Syntax.tyStruct (List._∷_ 112 (List._∷_ 121 (List._∷_ 114 (List._∷_ 97 (List._∷_ 109 (List._∷_ 105 (List._∷_ 100 (List._∷_ 58 (List._∷_ 58 (List._∷_ 83 (List._∷_ 116 (List._∷_ 97 (List._∷_ 116 (List._∷_ 101 List.[])))))))))))))) (Syntax.tcons (Syntax.tyInt Syntax.w32) (Syntax.tcons (Syntax.tyInt Syntax.w32) (Syntax.tcons (Syntax.tyInt Syntax.w32) (Syntax.tcons (Syntax.tyInt Syntax.w32) (Syntax.tcons (Syntax.tyInt Syntax.w32) (Syntax.tcons (Syntax.tyArray (Syntax.tyInt Syntax.w32) 64) Syntax.tnil))))))) (Syntax.tcons (Syntax.tyInt Syntax.w64) (Syntax.tcons (Syntax.tyInt Syntax.w64) (Syntax.tcons (Syntax.tyInt Syntax.w64) (Syntax.tcons (Syntax.tyInt Syntax.w64) (Syntax.tcons (Syntax.tyInt Syntax.w64) (Syntax.tcons (Syntax.tyInt Syntax.w64) (Syntax.tcons Syntax.tyBool Syntax.tnil)))))))))) (List._∷_ (12, Rows.any-gone (Syntax.tyInt Syntax.w64)) (List._∷_ (13, Rows.any-gone (Syntax.tyInt Syntax.w64)) (List._∷_ (14, Rows.any-gone (Syntax.tyStruct (List._∷_ 122 (List._∷_ 111 (List._∷_ 110 (List._∷_ 101 (List._∷_ 115 (List._∷_ 58 (List._∷_ 58 (List._∷_ 115 (List._∷_ 99 (List._∷_ 97 (List._∷_ 110 (List._∷_ 58 (List._∷_ 58 (List._∷_ 76 (List._∷_ 105 (List._∷_ 110 (List._∷_ 101 List.[]))))))))))))))))) (Syntax.tcons (Syntax.tyInt Syntax.w32) (Syntax.tcons (Syntax.tyInt Syntax.w64) (Syntax.tcons (Syntax.tyInt Syntax.w64) (Syntax.tcons (Syntax.tyInt Syntax.w64) (Syntax.tcons (Syntax.tyInt Syntax.w64) Syntax.tnil))))))) (List._∷_ (15, Rows.any-gone (Syntax.tyInt Syntax.w64)) List.[])))))))))))))))
 
 abbrev pub t1 : List.List Row.Entry
 t1 = List._∷_ (16, Rows.any-gone Syntax.tyBool) (List._∷_ (17, Rows.any-gone (Syntax.tyInt Syntax.w64)) (List._∷_ (18, Rows.any-gone (Syntax.tyRef Syntax.erased Syntax.mut (Syntax.tyArray (Syntax.tyInt Syntax.w32) 32772))) (List._∷_ (19, Rows.any-gone (Syntax.tyRef Syntax.erased Syntax.imm (Syntax.tyArray (Syntax.tyInt Syntax.w32) 32772))) (List._∷_ (20, Rows.any-gone (Syntax.tyRef Syntax.erased Syntax.mut (Syntax.tyArray (Syntax.tyInt Syntax.w8) 16388))) (List._∷_ (21, Rows.any-gone (Syntax.tyRef Syntax.erased Syntax.mut (Syntax.tyArray (Syntax.tyInt Syntax.w32) 65540))) (List._∷_ (22, Rows.any-gone (Syntax.tyRef Syntax.erased Syntax.mut (Syntax.tyArray (Syntax.tyInt Syntax.w32) 32772))) (List._∷_ (23, Rows.any-gone (Syntax.tyRef Syntax.erased Syntax.mut (Syntax.tyArray (Syntax.tyInt Syntax.w32) 32772))) (List._∷_ (24, Rows.any-gone (Syntax.tyRef Syntax.erased Syntax.mut (Syntax.tyArray (Syntax.tyInt Syntax.w32) 262160))) (List._∷_ (25, Rows.any-gone (Syntax.tyRef Syntax.erased Syntax.mut (Syntax.tyArray (Syntax.tyInt Syntax.w8) 600000))) (List._∷_ (26, Rows.any-gone (Syntax.tyRef Syntax.erased Syntax.mut (Syntax.tyArray Cell.behind 65540))) (List._∷_ (27, Rows.any-gone (Syntax.tyRef Syntax.erased Syntax.mut (Syntax.tyArray Cell.behind 32772))) (List._∷_ (28, Rows.any-gone Syntax.tyUnit) (List._∷_ (29, Rows.any-gone (Syntax.tyInt Syntax.w64)) List.[])))))))))))))
 
 abbrev pub t2 : List.List Row.Entry
-t2 = List._∷_ (0, Rows.sc-here Row.sUnit) (List._∷_ (1, Rows.sslice (Referent.rtF (Referent.fInt Syntax.w8)) (Syntax.tyRef (Syntax.named 0) Syntax.imm (Syntax.tyInt Syntax.w8)) 0) (List._∷_ (2, Rows.mref (Array.Array (Referent.rtF (Referent.fInt Syntax.w32)) 32772) (Syntax.tyRef (Syntax.named 1) Syntax.mut (Syntax.tyArray (Syntax.tyInt Syntax.w32) 32772)) 1) (List._∷_ (3, Rows.mref (Array.Array (Referent.rtF (Referent.fInt Syntax.w8)) 16388) (Syntax.tyRef (Syntax.named 2) Syntax.mut (Syntax.tyArray (Syntax.tyInt Syntax.w8) 16388)) 2) (List._∷_ (4, Rows.mref (Array.Array (Referent.rtF (Referent.fInt Syntax.w32)) 65540) (Syntax.tyRef (Syntax.named 3) Syntax.mut (Syntax.tyArray (Syntax.tyInt Syntax.w32) 65540)) 3) (List._∷_ (5, Rows.mref (Array.Array (Referent.rtF (Referent.fInt Syntax.w32)) 32772) (Syntax.tyRef (Syntax.named 4) Syntax.mut (Syntax.tyArray (Syntax.tyInt Syntax.w32) 32772)) 4) (List._∷_ (6, Rows.mref (Array.Array (Referent.rtF (Referent.fInt Syntax.w32)) 32772) (Syntax.tyRef (Syntax.named 5) Syntax.mut (Syntax.tyArray (Syntax.tyInt Syntax.w32) 32772)) 5) (List._∷_ (7, Rows.mref (Array.Array (Referent.rtF (Referent.fInt Syntax.w32)) 262160) (Syntax.tyRef (Syntax.named 6) Syntax.mut (Syntax.tyArray (Syntax.tyInt Syntax.w32) 262160)) 6) (List._∷_ (8, Rows.mref (Array.Array (Referent.rtF (Referent.fInt Syntax.w8)) 600000) (Syntax.tyRef (Syntax.named 7) Syntax.mut (Syntax.tyArray (Syntax.tyInt Syntax.w8) 600000)) 7) (List._∷_ (9, Rows.mref (Array.Array Cell.R 65540) (Syntax.tyRef (Syntax.named 8) Syntax.mut (Syntax.tyArray Cell.behind 65540)) 8) (List._∷_ (10, Rows.mref (Array.Array Cell.R 32772) (Syntax.tyRef (Syntax.named 9) Syntax.mut (Syntax.tyArray Cell.behind 32772)) 9) (List._∷_ (11, Rows.any-gone (Syntax.tyStruct (List._∷_ 122 (List._∷_ 111 (List._∷_ 110 (List._∷_ 101 (List._∷_ 115 (List._∷_ 58 (List._∷_ 58 (List._∷_ 104 (List._∷_ 101 (List._∷_ 108 (List._∷_ 100 (List._∷_ 58 (List._∷_ 58 (List._∷_ 72 (List._∷_ 101 (List._∷_ 108 (List._∷_ 100 List.[]))))))))))))))))) (Syntax.tcons (Syntax.tyStruct (List._∷_ 112 (List._∷_ 121 (List._∷_ 114 (List._∷_ 97 (List._∷_ 109 (List._∷_ 105 (List._∷_ 100 (List._∷_ 58 (List._∷_ 58 (List._∷_ 83 (List._∷_ 116 (List._∷_ 97 (List._∷_ 116 (List._∷_ 101 List.[])))))))))))))) (Syntax.tcons (Syntax.tyInt Syntax.w32) (Syntax.tcons (Syntax.tyInt Syntax.w32) (Syntax.tcons (Syntax.tyInt Syntax.w32) (Syntax.tcons (Syntax.tyArray (Syntax.tyInt Syntax.w32) 64) Syntax.tnil))))) (Syntax.tcons (Syntax.tyInt Syntax.w64) (Syntax.tcons (Syntax.tyInt Syntax.w64) (Syntax.tcons (Syntax.tyInt Syntax.w64) (Syntax.tcons (Syntax.tyInt Syntax.w64) (Syntax.tcons (Syntax.tyInt Syntax.w64) (Syntax.tcons (Syntax.tyInt Syntax.w64) (Syntax.tcons Syntax.tyBool Syntax.tnil)))))))))) (List._∷_ (12, Rows.any-gone (Syntax.tyInt Syntax.w64)) (List._∷_ (13, Rows.any-gone (Syntax.tyInt Syntax.w64)) (List._∷_ (14, Rows.any-gone (Syntax.tyStruct (List._∷_ 122 (List._∷_ 111 (List._∷_ 110 (List._∷_ 101 (List._∷_ 115 (List._∷_ 58 (List._∷_ 58 (List._∷_ 115 (List._∷_ 99 (List._∷_ 97 (List._∷_ 110 (List._∷_ 58 (List._∷_ 58 (List._∷_ 76 (List._∷_ 105 (List._∷_ 110 (List._∷_ 101 List.[]))))))))))))))))) (Syntax.tcons (Syntax.tyInt Syntax.w32) (Syntax.tcons (Syntax.tyInt Syntax.w64) (Syntax.tcons (Syntax.tyInt Syntax.w64) (Syntax.tcons (Syntax.tyInt Syntax.w64) (Syntax.tcons (Syntax.tyInt Syntax.w64) Syntax.tnil))))))) (List._∷_ (15, Rows.any-gone (Syntax.tyInt Syntax.w64)) List.[])))))))))))))))
+t2 = List._∷_ (0, Rows.sc-here Row.sUnit) (List._∷_ (1, Rows.sslice (Referent.rtF (Referent.fInt Syntax.w8)) (Syntax.tyRef (Syntax.named 0) Syntax.imm (Syntax.tyInt Syntax.w8)) 0) (List._∷_ (2, Rows.mref (Array.Array (Referent.rtF (Referent.fInt Syntax.w32)) 32772) (Syntax.tyRef (Syntax.named 1) Syntax.mut (Syntax.tyArray (Syntax.tyInt Syntax.w32) 32772)) 1) (List._∷_ (3, Rows.mref (Array.Array (Referent.rtF (Referent.fInt Syntax.w8)) 16388) (Syntax.tyRef (Syntax.named 2) Syntax.mut (Syntax.tyArray (Syntax.tyInt Syntax.w8) 16388)) 2) (List._∷_ (4, Rows.mref (Array.Array (Referent.rtF (Referent.fInt Syntax.w32)) 65540) (Syntax.tyRef (Syntax.named 3) Syntax.mut (Syntax.tyArray (Syntax.tyInt Syntax.w32) 65540)) 3) (List._∷_ (5, Rows.mref (Array.Array (Referent.rtF (Referent.fInt Syntax.w32)) 32772) (Syntax.tyRef (Syntax.named 4) Syntax.mut (Syntax.tyArray (Syntax.tyInt Syntax.w32) 32772)) 4) (List._∷_ (6, Rows.mref (Array.Array (Referent.rtF (Referent.fInt Syntax.w32)) 32772) (Syntax.tyRef (Syntax.named 5) Syntax.mut (Syntax.tyArray (Syntax.tyInt Syntax.w32) 32772)) 5) (List._∷_ (7, Rows.mref (Array.Array (Referent.rtF (Referent.fInt Syntax.w32)) 262160) (Syntax.tyRef (Syntax.named 6) Syntax.mut (Syntax.tyArray (Syntax.tyInt Syntax.w32) 262160)) 6) (List._∷_ (8, Rows.mref (Array.Array (Referent.rtF (Referent.fInt Syntax.w8)) 600000) (Syntax.tyRef (Syntax.named 7) Syntax.mut (Syntax.tyArray (Syntax.tyInt Syntax.w8) 600000)) 7) (List._∷_ (9, Rows.mref (Array.Array Cell.R 65540) (Syntax.tyRef (Syntax.named 8) Syntax.mut (Syntax.tyArray Cell.behind 65540)) 8) (List._∷_ (10, Rows.mref (Array.Array Cell.R 32772) (Syntax.tyRef (Syntax.named 9) Syntax.mut (Syntax.tyArray Cell.behind 32772)) 9) (List._∷_ (11, Rows.any-gone (Syntax.tyStruct (List._∷_ 122 (List._∷_ 111 (List._∷_ 110 (List._∷_ 101 (List._∷_ 115 (List._∷_ 58 (List._∷_ 58 (List._∷_ 104 (List._∷_ 101 (List._∷_ 108 (List._∷_ 100 (List._∷_ 58 (List._∷_ 58 (List._∷_ 72 (List._∷_ 101 (List._∷_ 108 (List._∷_ 100 List.[]))))))))))))))))) (Syntax.tcons (Syntax.tyStruct (List._∷_ 112 (List._∷_ 121 (List._∷_ 114 (List._∷_ 97 (List._∷_ 109 (List._∷_ 105 (List._∷_ 100 (List._∷_ 58 (List._∷_ 58 (List._∷_ 83 (List._∷_ 116 (List._∷_ 97 (List._∷_ 116 (List._∷_ 101 List.[])))))))))))))) (Syntax.tcons (Syntax.tyInt Syntax.w32) (Syntax.tcons (Syntax.tyInt Syntax.w32) (Syntax.tcons (Syntax.tyInt Syntax.w32) (Syntax.tcons (Syntax.tyInt Syntax.w32) (Syntax.tcons (Syntax.tyInt Syntax.w32) (Syntax.tcons (Syntax.tyArray (Syntax.tyInt Syntax.w32) 64) Syntax.tnil))))))) (Syntax.tcons (Syntax.tyInt Syntax.w64) (Syntax.tcons (Syntax.tyInt Syntax.w64) (Syntax.tcons (Syntax.tyInt Syntax.w64) (Syntax.tcons (Syntax.tyInt Syntax.w64) (Syntax.tcons (Syntax.tyInt Syntax.w64) (Syntax.tcons (Syntax.tyInt Syntax.w64) (Syntax.tcons Syntax.tyBool Syntax.tnil)))))))))) (List._∷_ (12, Rows.any-gone (Syntax.tyInt Syntax.w64)) (List._∷_ (13, Rows.any-gone (Syntax.tyInt Syntax.w64)) (List._∷_ (14, Rows.any-gone (Syntax.tyStruct (List._∷_ 122 (List._∷_ 111 (List._∷_ 110 (List._∷_ 101 (List._∷_ 115 (List._∷_ 58 (List._∷_ 58 (List._∷_ 115 (List._∷_ 99 (List._∷_ 97 (List._∷_ 110 (List._∷_ 58 (List._∷_ 58 (List._∷_ 76 (List._∷_ 105 (List._∷_ 110 (List._∷_ 101 List.[]))))))))))))))))) (Syntax.tcons (Syntax.tyInt Syntax.w32) (Syntax.tcons (Syntax.tyInt Syntax.w64) (Syntax.tcons (Syntax.tyInt Syntax.w64) (Syntax.tcons (Syntax.tyInt Syntax.w64) (Syntax.tcons (Syntax.tyInt Syntax.w64) Syntax.tnil))))))) (List._∷_ (15, Rows.any-gone (Syntax.tyInt Syntax.w64)) List.[])))))))))))))))
 
 abbrev pub t3 : List.List Row.Entry
 t3 = List._∷_ (0, Rows.any-gone Syntax.tyUnit) (List._∷_ (1, Rows.sslice (Referent.rtF (Referent.fInt Syntax.w8)) (Syntax.tyRef (Syntax.named 0) Syntax.imm (Syntax.tyInt Syntax.w8)) 0) (List._∷_ (2, Rows.mref (Array.Array (Referent.rtF (Referent.fInt Syntax.w32)) 32772) (Syntax.tyRef (Syntax.named 1) Syntax.mut (Syntax.tyArray (Syntax.tyInt Syntax.w32) 32772)) 1) (List._∷_ (3, Rows.mref (Array.Array (Referent.rtF (Referent.fInt Syntax.w8)) 16388) (Syntax.tyRef (Syntax.named 2) Syntax.mut (Syntax.tyArray (Syntax.tyInt Syntax.w8) 16388)) 2) (List._∷_ (4, Rows.mref (Array.Array (Referent.rtF (Referent.fInt Syntax.w32)) 65540) (Syntax.tyRef (Syntax.named 3) Syntax.mut (Syntax.tyArray (Syntax.tyInt Syntax.w32) 65540)) 3) (List._∷_ (5, Rows.mref (Array.Array (Referent.rtF (Referent.fInt Syntax.w32)) 32772) (Syntax.tyRef (Syntax.named 4) Syntax.mut (Syntax.tyArray (Syntax.tyInt Syntax.w32) 32772)) 4) (List._∷_ (6, Rows.mref (Array.Array (Referent.rtF (Referent.fInt Syntax.w32)) 32772) (Syntax.tyRef (Syntax.named 5) Syntax.mut (Syntax.tyArray (Syntax.tyInt Syntax.w32) 32772)) 5) (List._∷_ (7, Rows.mref (Array.Array (Referent.rtF (Referent.fInt Syntax.w32)) 262160) (Syntax.tyRef (Syntax.named 6) Syntax.mut (Syntax.tyArray (Syntax.tyInt Syntax.w32) 262160)) 6) (List._∷_ (8, Rows.mref (Array.Array (Referent.rtF (Referent.fInt Syntax.w8)) 600000) (Syntax.tyRef (Syntax.named 7) Syntax.mut (Syntax.tyArray (Syntax.tyInt Syntax.w8) 600000)) 7) (List._∷_ (9, Rows.mref (Array.Array Cell.R 65540) (Syntax.tyRef (Syntax.named 8) Syntax.mut (Syntax.tyArray Cell.behind 65540)) 8) (List._∷_ (10, Rows.mref (Array.Array Cell.R 32772) (Syntax.tyRef (Syntax.named 9) Syntax.mut (Syntax.tyArray Cell.behind 32772)) 9) (List._∷_ (11, Rows.whole (Declared.row Held.the-type)) (List._∷_ (12, Rows.any-gone (Syntax.tyInt Syntax.w64)) (List._∷_ (13, Rows.any-gone (Syntax.tyInt Syntax.w64)) (List._∷_ (14, Rows.any-gone (Syntax.tyStruct (List._∷_ 122 (List._∷_ 111 (List._∷_ 110 (List._∷_ 101 (List._∷_ 115 (List._∷_ 58 (List._∷_ 58 (List._∷_ 115 (List._∷_ 99 (List._∷_ 97 (List._∷_ 110 (List._∷_ 58 (List._∷_ 58 (List._∷_ 76 (List._∷_ 105 (List._∷_ 110 (List._∷_ 101 List.[]))))))))))))))))) (Syntax.tcons (Syntax.tyInt Syntax.w32) (Syntax.tcons (Syntax.tyInt Syntax.w64) (Syntax.tcons (Syntax.tyInt Syntax.w64) (Syntax.tcons (Syntax.tyInt Syntax.w64) (Syntax.tcons (Syntax.tyInt Syntax.w64) Syntax.tnil))))))) (List._∷_ (15, Rows.any-gone (Syntax.tyInt Syntax.w64)) List.[])))))))))))))))
@@ -326,16 +326,16 @@ abbrev pub t6 : List.List Row.Entry
 t6 = List._∷_ (0, Rows.any-gone Syntax.tyUnit) (List._∷_ (1, Rows.sslice (Referent.rtF (Referent.fInt Syntax.w8)) (Syntax.tyRef (Syntax.named 0) Syntax.imm (Syntax.tyInt Syntax.w8)) 0) (List._∷_ (2, Rows.mref (Array.Array (Referent.rtF (Referent.fInt Syntax.w32)) 32772) (Syntax.tyRef (Syntax.named 1) Syntax.mut (Syntax.tyArray (Syntax.tyInt Syntax.w32) 32772)) 1) (List._∷_ (3, Rows.mref (Array.Array (Referent.rtF (Referent.fInt Syntax.w8)) 16388) (Syntax.tyRef (Syntax.named 2) Syntax.mut (Syntax.tyArray (Syntax.tyInt Syntax.w8) 16388)) 2) (List._∷_ (4, Rows.mref (Array.Array (Referent.rtF (Referent.fInt Syntax.w32)) 65540) (Syntax.tyRef (Syntax.named 3) Syntax.mut (Syntax.tyArray (Syntax.tyInt Syntax.w32) 65540)) 3) (List._∷_ (5, Rows.mref (Array.Array (Referent.rtF (Referent.fInt Syntax.w32)) 32772) (Syntax.tyRef (Syntax.named 4) Syntax.mut (Syntax.tyArray (Syntax.tyInt Syntax.w32) 32772)) 4) (List._∷_ (6, Rows.mref (Array.Array (Referent.rtF (Referent.fInt Syntax.w32)) 32772) (Syntax.tyRef (Syntax.named 5) Syntax.mut (Syntax.tyArray (Syntax.tyInt Syntax.w32) 32772)) 5) (List._∷_ (7, Rows.mref (Array.Array (Referent.rtF (Referent.fInt Syntax.w32)) 262160) (Syntax.tyRef (Syntax.named 6) Syntax.mut (Syntax.tyArray (Syntax.tyInt Syntax.w32) 262160)) 6) (List._∷_ (8, Rows.mref (Array.Array (Referent.rtF (Referent.fInt Syntax.w8)) 600000) (Syntax.tyRef (Syntax.named 7) Syntax.mut (Syntax.tyArray (Syntax.tyInt Syntax.w8) 600000)) 7) (List._∷_ (9, Rows.mref (Array.Array Cell.R 65540) (Syntax.tyRef (Syntax.named 8) Syntax.mut (Syntax.tyArray Cell.behind 65540)) 8) (List._∷_ (10, Rows.mref (Array.Array Cell.R 32772) (Syntax.tyRef (Syntax.named 9) Syntax.mut (Syntax.tyArray Cell.behind 32772)) 9) (List._∷_ (11, Rows.whole (Declared.row Held.the-type)) (List._∷_ (12, Rows.sc-here (Row.sInt Syntax.w64)) (List._∷_ (13, Rows.sc-here (Row.sInt Syntax.w64)) (List._∷_ (14, Rows.any-gone (Syntax.tyStruct (List._∷_ 122 (List._∷_ 111 (List._∷_ 110 (List._∷_ 101 (List._∷_ 115 (List._∷_ 58 (List._∷_ 58 (List._∷_ 115 (List._∷_ 99 (List._∷_ 97 (List._∷_ 110 (List._∷_ 58 (List._∷_ 58 (List._∷_ 76 (List._∷_ 105 (List._∷_ 110 (List._∷_ 101 List.[]))))))))))))))))) (Syntax.tcons (Syntax.tyInt Syntax.w32) (Syntax.tcons (Syntax.tyInt Syntax.w64) (Syntax.tcons (Syntax.tyInt Syntax.w64) (Syntax.tcons (Syntax.tyInt Syntax.w64) (Syntax.tcons (Syntax.tyInt Syntax.w64) Syntax.tnil))))))) (List._∷_ (15, Rows.sc-here (Row.sInt Syntax.w64)) List.[])))))))))))))))
 
 abbrev pub t7 : List.List Row.Entry
-t7 = List._∷_ (0, Rows.any-gone Syntax.tyUnit) (List._∷_ (1, Rows.sslice (Referent.rtF (Referent.fInt Syntax.w8)) (Syntax.tyRef (Syntax.named 0) Syntax.imm (Syntax.tyInt Syntax.w8)) 0) (List._∷_ (2, Rows.mref (Array.Array (Referent.rtF (Referent.fInt Syntax.w32)) 32772) (Syntax.tyRef (Syntax.named 1) Syntax.mut (Syntax.tyArray (Syntax.tyInt Syntax.w32) 32772)) 1) (List._∷_ (3, Rows.mref (Array.Array (Referent.rtF (Referent.fInt Syntax.w8)) 16388) (Syntax.tyRef (Syntax.named 2) Syntax.mut (Syntax.tyArray (Syntax.tyInt Syntax.w8) 16388)) 2) (List._∷_ (4, Rows.mref (Array.Array (Referent.rtF (Referent.fInt Syntax.w32)) 65540) (Syntax.tyRef (Syntax.named 3) Syntax.mut (Syntax.tyArray (Syntax.tyInt Syntax.w32) 65540)) 3) (List._∷_ (5, Rows.mref (Array.Array (Referent.rtF (Referent.fInt Syntax.w32)) 32772) (Syntax.tyRef (Syntax.named 4) Syntax.mut (Syntax.tyArray (Syntax.tyInt Syntax.w32) 32772)) 4) (List._∷_ (6, Rows.mref (Array.Array (Referent.rtF (Referent.fInt Syntax.w32)) 32772) (Syntax.tyRef (Syntax.named 5) Syntax.mut (Syntax.tyArray (Syntax.tyInt Syntax.w32) 32772)) 5) (List._∷_ (7, Rows.mref (Array.Array (Referent.rtF (Referent.fInt Syntax.w32)) 262160) (Syntax.tyRef (Syntax.named 6) Syntax.mut (Syntax.tyArray (Syntax.tyInt Syntax.w32) 262160)) 6) (List._∷_ (8, Rows.mref (Array.Array (Referent.rtF (Referent.fInt Syntax.w8)) 600000) (Syntax.tyRef (Syntax.named 7) Syntax.mut (Syntax.tyArray (Syntax.tyInt Syntax.w8) 600000)) 7) (List._∷_ (9, Rows.mref (Array.Array Cell.R 65540) (Syntax.tyRef (Syntax.named 8) Syntax.mut (Syntax.tyArray Cell.behind 65540)) 8) (List._∷_ (10, Rows.mref (Array.Array Cell.R 32772) (Syntax.tyRef (Syntax.named 9) Syntax.mut (Syntax.tyArray Cell.behind 32772)) 9) (List._∷_ (11, Rows.any-gone (Syntax.tyStruct (List._∷_ 122 (List._∷_ 111 (List._∷_ 110 (List._∷_ 101 (List._∷_ 115 (List._∷_ 58 (List._∷_ 58 (List._∷_ 104 (List._∷_ 101 (List._∷_ 108 (List._∷_ 100 (List._∷_ 58 (List._∷_ 58 (List._∷_ 72 (List._∷_ 101 (List._∷_ 108 (List._∷_ 100 List.[]))))))))))))))))) (Syntax.tcons (Syntax.tyStruct (List._∷_ 112 (List._∷_ 121 (List._∷_ 114 (List._∷_ 97 (List._∷_ 109 (List._∷_ 105 (List._∷_ 100 (List._∷_ 58 (List._∷_ 58 (List._∷_ 83 (List._∷_ 116 (List._∷_ 97 (List._∷_ 116 (List._∷_ 101 List.[])))))))))))))) (Syntax.tcons (Syntax.tyInt Syntax.w32) (Syntax.tcons (Syntax.tyInt Syntax.w32) (Syntax.tcons (Syntax.tyInt Syntax.w32) (Syntax.tcons (Syntax.tyArray (Syntax.tyInt Syntax.w32) 64) Syntax.tnil))))) (Syntax.tcons (Syntax.tyInt Syntax.w64) (Syntax.tcons (Syntax.tyInt Syntax.w64) (Syntax.tcons (Syntax.tyInt Syntax.w64) (Syntax.tcons (Syntax.tyInt Syntax.w64) (Syntax.tcons (Syntax.tyInt Syntax.w64) (Syntax.tcons (Syntax.tyInt Syntax.w64) (Syntax.tcons Syntax.tyBool Syntax.tnil)))))))))) (List._∷_ (12, Rows.sc-here (Row.sInt Syntax.w64)) (List._∷_ (13, Rows.any-gone (Syntax.tyInt Syntax.w64)) (List._∷_ (14, Rows.any-gone (Syntax.tyStruct (List._∷_ 122 (List._∷_ 111 (List._∷_ 110 (List._∷_ 101 (List._∷_ 115 (List._∷_ 58 (List._∷_ 58 (List._∷_ 115 (List._∷_ 99 (List._∷_ 97 (List._∷_ 110 (List._∷_ 58 (List._∷_ 58 (List._∷_ 76 (List._∷_ 105 (List._∷_ 110 (List._∷_ 101 List.[]))))))))))))))))) (Syntax.tcons (Syntax.tyInt Syntax.w32) (Syntax.tcons (Syntax.tyInt Syntax.w64) (Syntax.tcons (Syntax.tyInt Syntax.w64) (Syntax.tcons (Syntax.tyInt Syntax.w64) (Syntax.tcons (Syntax.tyInt Syntax.w64) Syntax.tnil))))))) (List._∷_ (15, Rows.any-gone (Syntax.tyInt Syntax.w64)) List.[])))))))))))))))
+t7 = List._∷_ (0, Rows.any-gone Syntax.tyUnit) (List._∷_ (1, Rows.sslice (Referent.rtF (Referent.fInt Syntax.w8)) (Syntax.tyRef (Syntax.named 0) Syntax.imm (Syntax.tyInt Syntax.w8)) 0) (List._∷_ (2, Rows.mref (Array.Array (Referent.rtF (Referent.fInt Syntax.w32)) 32772) (Syntax.tyRef (Syntax.named 1) Syntax.mut (Syntax.tyArray (Syntax.tyInt Syntax.w32) 32772)) 1) (List._∷_ (3, Rows.mref (Array.Array (Referent.rtF (Referent.fInt Syntax.w8)) 16388) (Syntax.tyRef (Syntax.named 2) Syntax.mut (Syntax.tyArray (Syntax.tyInt Syntax.w8) 16388)) 2) (List._∷_ (4, Rows.mref (Array.Array (Referent.rtF (Referent.fInt Syntax.w32)) 65540) (Syntax.tyRef (Syntax.named 3) Syntax.mut (Syntax.tyArray (Syntax.tyInt Syntax.w32) 65540)) 3) (List._∷_ (5, Rows.mref (Array.Array (Referent.rtF (Referent.fInt Syntax.w32)) 32772) (Syntax.tyRef (Syntax.named 4) Syntax.mut (Syntax.tyArray (Syntax.tyInt Syntax.w32) 32772)) 4) (List._∷_ (6, Rows.mref (Array.Array (Referent.rtF (Referent.fInt Syntax.w32)) 32772) (Syntax.tyRef (Syntax.named 5) Syntax.mut (Syntax.tyArray (Syntax.tyInt Syntax.w32) 32772)) 5) (List._∷_ (7, Rows.mref (Array.Array (Referent.rtF (Referent.fInt Syntax.w32)) 262160) (Syntax.tyRef (Syntax.named 6) Syntax.mut (Syntax.tyArray (Syntax.tyInt Syntax.w32) 262160)) 6) (List._∷_ (8, Rows.mref (Array.Array (Referent.rtF (Referent.fInt Syntax.w8)) 600000) (Syntax.tyRef (Syntax.named 7) Syntax.mut (Syntax.tyArray (Syntax.tyInt Syntax.w8) 600000)) 7) (List._∷_ (9, Rows.mref (Array.Array Cell.R 65540) (Syntax.tyRef (Syntax.named 8) Syntax.mut (Syntax.tyArray Cell.behind 65540)) 8) (List._∷_ (10, Rows.mref (Array.Array Cell.R 32772) (Syntax.tyRef (Syntax.named 9) Syntax.mut (Syntax.tyArray Cell.behind 32772)) 9) (List._∷_ (11, Rows.any-gone (Syntax.tyStruct (List._∷_ 122 (List._∷_ 111 (List._∷_ 110 (List._∷_ 101 (List._∷_ 115 (List._∷_ 58 (List._∷_ 58 (List._∷_ 104 (List._∷_ 101 (List._∷_ 108 (List._∷_ 100 (List._∷_ 58 (List._∷_ 58 (List._∷_ 72 (List._∷_ 101 (List._∷_ 108 (List._∷_ 100 List.[]))))))))))))))))) (Syntax.tcons (Syntax.tyStruct (List._∷_ 112 (List._∷_ 121 (List._∷_ 114 (List._∷_ 97 (List._∷_ 109 (List._∷_ 105 (List._∷_ 100 (List._∷_ 58 (List._∷_ 58 (List._∷_ 83 (List._∷_ 116 (List._∷_ 97 (List._∷_ 116 (List._∷_ 101 List.[])))))))))))))) (Syntax.tcons (Syntax.tyInt Syntax.w32) (Syntax.tcons (Syntax.tyInt Syntax.w32) (Syntax.tcons (Syntax.tyInt Syntax.w32) (Syntax.tcons (Syntax.tyInt Syntax.w32) (Syntax.tcons (Syntax.tyInt Syntax.w32) (Syntax.tcons (Syntax.tyArray (Syntax.tyInt Syntax.w32) 64) Syntax.tnil))))))) (Syntax.tcons (Syntax.tyInt Syntax.w64) (Syntax.tcons (Syntax.tyInt Syntax.w64) (Syntax.tcons (Syntax.tyInt Syntax.w64) (Syntax.tcons (Syntax.tyInt Syntax.w64) (Syntax.tcons (Syntax.tyInt Syntax.w64) (Syntax.tcons (Syntax.tyInt Syntax.w64) (Syntax.tcons Syntax.tyBool Syntax.tnil)))))))))) (List._∷_ (12, Rows.sc-here (Row.sInt Syntax.w64)) (List._∷_ (13, Rows.any-gone (Syntax.tyInt Syntax.w64)) (List._∷_ (14, Rows.any-gone (Syntax.tyStruct (List._∷_ 122 (List._∷_ 111 (List._∷_ 110 (List._∷_ 101 (List._∷_ 115 (List._∷_ 58 (List._∷_ 58 (List._∷_ 115 (List._∷_ 99 (List._∷_ 97 (List._∷_ 110 (List._∷_ 58 (List._∷_ 58 (List._∷_ 76 (List._∷_ 105 (List._∷_ 110 (List._∷_ 101 List.[]))))))))))))))))) (Syntax.tcons (Syntax.tyInt Syntax.w32) (Syntax.tcons (Syntax.tyInt Syntax.w64) (Syntax.tcons (Syntax.tyInt Syntax.w64) (Syntax.tcons (Syntax.tyInt Syntax.w64) (Syntax.tcons (Syntax.tyInt Syntax.w64) Syntax.tnil))))))) (List._∷_ (15, Rows.any-gone (Syntax.tyInt Syntax.w64)) List.[])))))))))))))))
 
 abbrev pub t8 : List.List Row.Entry
 t8 = List._∷_ (16, Rows.sc-here Row.sBool) (List._∷_ (17, Rows.any-gone (Syntax.tyInt Syntax.w64)) (List._∷_ (18, Rows.any-gone (Syntax.tyRef Syntax.erased Syntax.mut (Syntax.tyArray (Syntax.tyInt Syntax.w32) 32772))) (List._∷_ (19, Rows.any-gone (Syntax.tyRef Syntax.erased Syntax.imm (Syntax.tyArray (Syntax.tyInt Syntax.w32) 32772))) (List._∷_ (20, Rows.any-gone (Syntax.tyRef Syntax.erased Syntax.mut (Syntax.tyArray (Syntax.tyInt Syntax.w8) 16388))) (List._∷_ (21, Rows.any-gone (Syntax.tyRef Syntax.erased Syntax.mut (Syntax.tyArray (Syntax.tyInt Syntax.w32) 65540))) (List._∷_ (22, Rows.any-gone (Syntax.tyRef Syntax.erased Syntax.mut (Syntax.tyArray (Syntax.tyInt Syntax.w32) 32772))) (List._∷_ (23, Rows.any-gone (Syntax.tyRef Syntax.erased Syntax.mut (Syntax.tyArray (Syntax.tyInt Syntax.w32) 32772))) (List._∷_ (24, Rows.any-gone (Syntax.tyRef Syntax.erased Syntax.mut (Syntax.tyArray (Syntax.tyInt Syntax.w32) 262160))) (List._∷_ (25, Rows.any-gone (Syntax.tyRef Syntax.erased Syntax.mut (Syntax.tyArray (Syntax.tyInt Syntax.w8) 600000))) (List._∷_ (26, Rows.any-gone (Syntax.tyRef Syntax.erased Syntax.mut (Syntax.tyArray Cell.behind 65540))) (List._∷_ (27, Rows.any-gone (Syntax.tyRef Syntax.erased Syntax.mut (Syntax.tyArray Cell.behind 32772))) (List._∷_ (28, Rows.any-gone Syntax.tyUnit) (List._∷_ (29, Rows.any-gone (Syntax.tyInt Syntax.w64)) List.[])))))))))))))
 
 abbrev pub t9 : List.List Row.Entry
-t9 = List._∷_ (0, Rows.any-gone Syntax.tyUnit) (List._∷_ (1, Rows.sslice (Referent.rtF (Referent.fInt Syntax.w8)) (Syntax.tyRef (Syntax.named 0) Syntax.imm (Syntax.tyInt Syntax.w8)) 0) (List._∷_ (2, Rows.mref (Array.Array (Referent.rtF (Referent.fInt Syntax.w32)) 32772) (Syntax.tyRef (Syntax.named 1) Syntax.mut (Syntax.tyArray (Syntax.tyInt Syntax.w32) 32772)) 1) (List._∷_ (3, Rows.mref (Array.Array (Referent.rtF (Referent.fInt Syntax.w8)) 16388) (Syntax.tyRef (Syntax.named 2) Syntax.mut (Syntax.tyArray (Syntax.tyInt Syntax.w8) 16388)) 2) (List._∷_ (4, Rows.mref (Array.Array (Referent.rtF (Referent.fInt Syntax.w32)) 65540) (Syntax.tyRef (Syntax.named 3) Syntax.mut (Syntax.tyArray (Syntax.tyInt Syntax.w32) 65540)) 3) (List._∷_ (5, Rows.mref (Array.Array (Referent.rtF (Referent.fInt Syntax.w32)) 32772) (Syntax.tyRef (Syntax.named 4) Syntax.mut (Syntax.tyArray (Syntax.tyInt Syntax.w32) 32772)) 4) (List._∷_ (6, Rows.mref (Array.Array (Referent.rtF (Referent.fInt Syntax.w32)) 32772) (Syntax.tyRef (Syntax.named 5) Syntax.mut (Syntax.tyArray (Syntax.tyInt Syntax.w32) 32772)) 5) (List._∷_ (7, Rows.mref (Array.Array (Referent.rtF (Referent.fInt Syntax.w32)) 262160) (Syntax.tyRef (Syntax.named 6) Syntax.mut (Syntax.tyArray (Syntax.tyInt Syntax.w32) 262160)) 6) (List._∷_ (8, Rows.mref (Array.Array (Referent.rtF (Referent.fInt Syntax.w8)) 600000) (Syntax.tyRef (Syntax.named 7) Syntax.mut (Syntax.tyArray (Syntax.tyInt Syntax.w8) 600000)) 7) (List._∷_ (9, Rows.mref (Array.Array Cell.R 65540) (Syntax.tyRef (Syntax.named 8) Syntax.mut (Syntax.tyArray Cell.behind 65540)) 8) (List._∷_ (10, Rows.mref (Array.Array Cell.R 32772) (Syntax.tyRef (Syntax.named 9) Syntax.mut (Syntax.tyArray Cell.behind 32772)) 9) (List._∷_ (11, Rows.any-gone (Syntax.tyStruct (List._∷_ 122 (List._∷_ 111 (List._∷_ 110 (List._∷_ 101 (List._∷_ 115 (List._∷_ 58 (List._∷_ 58 (List._∷_ 104 (List._∷_ 101 (List._∷_ 108 (List._∷_ 100 (List._∷_ 58 (List._∷_ 58 (List._∷_ 72 (List._∷_ 101 (List._∷_ 108 (List._∷_ 100 List.[]))))))))))))))))) (Syntax.tcons (Syntax.tyStruct (List._∷_ 112 (List._∷_ 121 (List._∷_ 114 (List._∷_ 97 (List._∷_ 109 (List._∷_ 105 (List._∷_ 100 (List._∷_ 58 (List._∷_ 58 (List._∷_ 83 (List._∷_ 116 (List._∷_ 97 (List._∷_ 116 (List._∷_ 101 List.[])))))))))))))) (Syntax.tcons (Syntax.tyInt Syntax.w32) (Syntax.tcons (Syntax.tyInt Syntax.w32) (Syntax.tcons (Syntax.tyInt Syntax.w32) (Syntax.tcons (Syntax.tyArray (Syntax.tyInt Syntax.w32) 64) Syntax.tnil))))) (Syntax.tcons (Syntax.tyInt Syntax.w64) (Syntax.tcons (Syntax.tyInt Syntax.w64) (Syntax.tcons (Syntax.tyInt Syntax.w64) (Syntax.tcons (Syntax.tyInt Syntax.w64) (Syntax.tcons (Syntax.tyInt Syntax.w64) (Syntax.tcons (Syntax.tyInt Syntax.w64) (Syntax.tcons Syntax.tyBool Syntax.tnil)))))))))) (List._∷_ (12, Rows.sc-here (Row.sInt Syntax.w64)) (List._∷_ (13, Rows.sc-here (Row.sInt Syntax.w64)) (List._∷_ (14, Rows.any-gone (Syntax.tyStruct (List._∷_ 122 (List._∷_ 111 (List._∷_ 110 (List._∷_ 101 (List._∷_ 115 (List._∷_ 58 (List._∷_ 58 (List._∷_ 115 (List._∷_ 99 (List._∷_ 97 (List._∷_ 110 (List._∷_ 58 (List._∷_ 58 (List._∷_ 76 (List._∷_ 105 (List._∷_ 110 (List._∷_ 101 List.[]))))))))))))))))) (Syntax.tcons (Syntax.tyInt Syntax.w32) (Syntax.tcons (Syntax.tyInt Syntax.w64) (Syntax.tcons (Syntax.tyInt Syntax.w64) (Syntax.tcons (Syntax.tyInt Syntax.w64) (Syntax.tcons (Syntax.tyInt Syntax.w64) Syntax.tnil))))))) (List._∷_ (15, Rows.sc-here (Row.sInt Syntax.w64)) List.[])))))))))))))))
+t9 = List._∷_ (0, Rows.any-gone Syntax.tyUnit) (List._∷_ (1, Rows.sslice (Referent.rtF (Referent.fInt Syntax.w8)) (Syntax.tyRef (Syntax.named 0) Syntax.imm (Syntax.tyInt Syntax.w8)) 0) (List._∷_ (2, Rows.mref (Array.Array (Referent.rtF (Referent.fInt Syntax.w32)) 32772) (Syntax.tyRef (Syntax.named 1) Syntax.mut (Syntax.tyArray (Syntax.tyInt Syntax.w32) 32772)) 1) (List._∷_ (3, Rows.mref (Array.Array (Referent.rtF (Referent.fInt Syntax.w8)) 16388) (Syntax.tyRef (Syntax.named 2) Syntax.mut (Syntax.tyArray (Syntax.tyInt Syntax.w8) 16388)) 2) (List._∷_ (4, Rows.mref (Array.Array (Referent.rtF (Referent.fInt Syntax.w32)) 65540) (Syntax.tyRef (Syntax.named 3) Syntax.mut (Syntax.tyArray (Syntax.tyInt Syntax.w32) 65540)) 3) (List._∷_ (5, Rows.mref (Array.Array (Referent.rtF (Referent.fInt Syntax.w32)) 32772) (Syntax.tyRef (Syntax.named 4) Syntax.mut (Syntax.tyArray (Syntax.tyInt Syntax.w32) 32772)) 4) (List._∷_ (6, Rows.mref (Array.Array (Referent.rtF (Referent.fInt Syntax.w32)) 32772) (Syntax.tyRef (Syntax.named 5) Syntax.mut (Syntax.tyArray (Syntax.tyInt Syntax.w32) 32772)) 5) (List._∷_ (7, Rows.mref (Array.Array (Referent.rtF (Referent.fInt Syntax.w32)) 262160) (Syntax.tyRef (Syntax.named 6) Syntax.mut (Syntax.tyArray (Syntax.tyInt Syntax.w32) 262160)) 6) (List._∷_ (8, Rows.mref (Array.Array (Referent.rtF (Referent.fInt Syntax.w8)) 600000) (Syntax.tyRef (Syntax.named 7) Syntax.mut (Syntax.tyArray (Syntax.tyInt Syntax.w8) 600000)) 7) (List._∷_ (9, Rows.mref (Array.Array Cell.R 65540) (Syntax.tyRef (Syntax.named 8) Syntax.mut (Syntax.tyArray Cell.behind 65540)) 8) (List._∷_ (10, Rows.mref (Array.Array Cell.R 32772) (Syntax.tyRef (Syntax.named 9) Syntax.mut (Syntax.tyArray Cell.behind 32772)) 9) (List._∷_ (11, Rows.any-gone (Syntax.tyStruct (List._∷_ 122 (List._∷_ 111 (List._∷_ 110 (List._∷_ 101 (List._∷_ 115 (List._∷_ 58 (List._∷_ 58 (List._∷_ 104 (List._∷_ 101 (List._∷_ 108 (List._∷_ 100 (List._∷_ 58 (List._∷_ 58 (List._∷_ 72 (List._∷_ 101 (List._∷_ 108 (List._∷_ 100 List.[]))))))))))))))))) (Syntax.tcons (Syntax.tyStruct (List._∷_ 112 (List._∷_ 121 (List._∷_ 114 (List._∷_ 97 (List._∷_ 109 (List._∷_ 105 (List._∷_ 100 (List._∷_ 58 (List._∷_ 58 (List._∷_ 83 (List._∷_ 116 (List._∷_ 97 (List._∷_ 116 (List._∷_ 101 List.[])))))))))))))) (Syntax.tcons (Syntax.tyInt Syntax.w32) (Syntax.tcons (Syntax.tyInt Syntax.w32) (Syntax.tcons (Syntax.tyInt Syntax.w32) (Syntax.tcons (Syntax.tyInt Syntax.w32) (Syntax.tcons (Syntax.tyInt Syntax.w32) (Syntax.tcons (Syntax.tyArray (Syntax.tyInt Syntax.w32) 64) Syntax.tnil))))))) (Syntax.tcons (Syntax.tyInt Syntax.w64) (Syntax.tcons (Syntax.tyInt Syntax.w64) (Syntax.tcons (Syntax.tyInt Syntax.w64) (Syntax.tcons (Syntax.tyInt Syntax.w64) (Syntax.tcons (Syntax.tyInt Syntax.w64) (Syntax.tcons (Syntax.tyInt Syntax.w64) (Syntax.tcons Syntax.tyBool Syntax.tnil)))))))))) (List._∷_ (12, Rows.sc-here (Row.sInt Syntax.w64)) (List._∷_ (13, Rows.sc-here (Row.sInt Syntax.w64)) (List._∷_ (14, Rows.any-gone (Syntax.tyStruct (List._∷_ 122 (List._∷_ 111 (List._∷_ 110 (List._∷_ 101 (List._∷_ 115 (List._∷_ 58 (List._∷_ 58 (List._∷_ 115 (List._∷_ 99 (List._∷_ 97 (List._∷_ 110 (List._∷_ 58 (List._∷_ 58 (List._∷_ 76 (List._∷_ 105 (List._∷_ 110 (List._∷_ 101 List.[]))))))))))))))))) (Syntax.tcons (Syntax.tyInt Syntax.w32) (Syntax.tcons (Syntax.tyInt Syntax.w64) (Syntax.tcons (Syntax.tyInt Syntax.w64) (Syntax.tcons (Syntax.tyInt Syntax.w64) (Syntax.tcons (Syntax.tyInt Syntax.w64) Syntax.tnil))))))) (List._∷_ (15, Rows.sc-here (Row.sInt Syntax.w64)) List.[])))))))))))))))
 
 abbrev pub t10 : List.List Row.Entry
-t10 = List._∷_ (0, Rows.any-gone Syntax.tyUnit) (List._∷_ (1, Rows.sslice (Referent.rtF (Referent.fInt Syntax.w8)) (Syntax.tyRef (Syntax.named 0) Syntax.imm (Syntax.tyInt Syntax.w8)) 0) (List._∷_ (2, Rows.mref (Array.Array (Referent.rtF (Referent.fInt Syntax.w32)) 32772) (Syntax.tyRef (Syntax.named 1) Syntax.mut (Syntax.tyArray (Syntax.tyInt Syntax.w32) 32772)) 1) (List._∷_ (3, Rows.mref (Array.Array (Referent.rtF (Referent.fInt Syntax.w8)) 16388) (Syntax.tyRef (Syntax.named 2) Syntax.mut (Syntax.tyArray (Syntax.tyInt Syntax.w8) 16388)) 2) (List._∷_ (4, Rows.mref (Array.Array (Referent.rtF (Referent.fInt Syntax.w32)) 65540) (Syntax.tyRef (Syntax.named 3) Syntax.mut (Syntax.tyArray (Syntax.tyInt Syntax.w32) 65540)) 3) (List._∷_ (5, Rows.mref (Array.Array (Referent.rtF (Referent.fInt Syntax.w32)) 32772) (Syntax.tyRef (Syntax.named 4) Syntax.mut (Syntax.tyArray (Syntax.tyInt Syntax.w32) 32772)) 4) (List._∷_ (6, Rows.mref (Array.Array (Referent.rtF (Referent.fInt Syntax.w32)) 32772) (Syntax.tyRef (Syntax.named 5) Syntax.mut (Syntax.tyArray (Syntax.tyInt Syntax.w32) 32772)) 5) (List._∷_ (7, Rows.mref (Array.Array (Referent.rtF (Referent.fInt Syntax.w32)) 262160) (Syntax.tyRef (Syntax.named 6) Syntax.mut (Syntax.tyArray (Syntax.tyInt Syntax.w32) 262160)) 6) (List._∷_ (8, Rows.mref (Array.Array (Referent.rtF (Referent.fInt Syntax.w8)) 600000) (Syntax.tyRef (Syntax.named 7) Syntax.mut (Syntax.tyArray (Syntax.tyInt Syntax.w8) 600000)) 7) (List._∷_ (9, Rows.mref (Array.Array Cell.R 65540) (Syntax.tyRef (Syntax.named 8) Syntax.mut (Syntax.tyArray Cell.behind 65540)) 8) (List._∷_ (10, Rows.mref (Array.Array Cell.R 32772) (Syntax.tyRef (Syntax.named 9) Syntax.mut (Syntax.tyArray Cell.behind 32772)) 9) (List._∷_ (11, Rows.any-gone (Syntax.tyStruct (List._∷_ 122 (List._∷_ 111 (List._∷_ 110 (List._∷_ 101 (List._∷_ 115 (List._∷_ 58 (List._∷_ 58 (List._∷_ 104 (List._∷_ 101 (List._∷_ 108 (List._∷_ 100 (List._∷_ 58 (List._∷_ 58 (List._∷_ 72 (List._∷_ 101 (List._∷_ 108 (List._∷_ 100 List.[]))))))))))))))))) (Syntax.tcons (Syntax.tyStruct (List._∷_ 112 (List._∷_ 121 (List._∷_ 114 (List._∷_ 97 (List._∷_ 109 (List._∷_ 105 (List._∷_ 100 (List._∷_ 58 (List._∷_ 58 (List._∷_ 83 (List._∷_ 116 (List._∷_ 97 (List._∷_ 116 (List._∷_ 101 List.[])))))))))))))) (Syntax.tcons (Syntax.tyInt Syntax.w32) (Syntax.tcons (Syntax.tyInt Syntax.w32) (Syntax.tcons (Syntax.tyInt Syntax.w32) (Syntax.tcons (Syntax.tyArray (Syntax.tyInt Syntax.w32) 64) Syntax.tnil))))) (Syntax.tcons (Syntax.tyInt Syntax.w64) (Syntax.tcons (Syntax.tyInt Syntax.w64) (Syntax.tcons (Syntax.tyInt Syntax.w64) (Syntax.tcons (Syntax.tyInt Syntax.w64) (Syntax.tcons (Syntax.tyInt Syntax.w64) (Syntax.tcons (Syntax.tyInt Syntax.w64) (Syntax.tcons Syntax.tyBool Syntax.tnil)))))))))) (List._∷_ (12, Rows.sc-here (Row.sInt Syntax.w64)) (List._∷_ (13, Rows.sc-here (Row.sInt Syntax.w64)) (List._∷_ (14, Rows.any-gone (Syntax.tyStruct (List._∷_ 122 (List._∷_ 111 (List._∷_ 110 (List._∷_ 101 (List._∷_ 115 (List._∷_ 58 (List._∷_ 58 (List._∷_ 115 (List._∷_ 99 (List._∷_ 97 (List._∷_ 110 (List._∷_ 58 (List._∷_ 58 (List._∷_ 76 (List._∷_ 105 (List._∷_ 110 (List._∷_ 101 List.[]))))))))))))))))) (Syntax.tcons (Syntax.tyInt Syntax.w32) (Syntax.tcons (Syntax.tyInt Syntax.w64) (Syntax.tcons (Syntax.tyInt Syntax.w64) (Syntax.tcons (Syntax.tyInt Syntax.w64) (Syntax.tcons (Syntax.tyInt Syntax.w64) Syntax.tnil))))))) (List._∷_ (15, Rows.any-gone (Syntax.tyInt Syntax.w64)) List.[])))))))))))))))
+t10 = List._∷_ (0, Rows.any-gone Syntax.tyUnit) (List._∷_ (1, Rows.sslice (Referent.rtF (Referent.fInt Syntax.w8)) (Syntax.tyRef (Syntax.named 0) Syntax.imm (Syntax.tyInt Syntax.w8)) 0) (List._∷_ (2, Rows.mref (Array.Array (Referent.rtF (Referent.fInt Syntax.w32)) 32772) (Syntax.tyRef (Syntax.named 1) Syntax.mut (Syntax.tyArray (Syntax.tyInt Syntax.w32) 32772)) 1) (List._∷_ (3, Rows.mref (Array.Array (Referent.rtF (Referent.fInt Syntax.w8)) 16388) (Syntax.tyRef (Syntax.named 2) Syntax.mut (Syntax.tyArray (Syntax.tyInt Syntax.w8) 16388)) 2) (List._∷_ (4, Rows.mref (Array.Array (Referent.rtF (Referent.fInt Syntax.w32)) 65540) (Syntax.tyRef (Syntax.named 3) Syntax.mut (Syntax.tyArray (Syntax.tyInt Syntax.w32) 65540)) 3) (List._∷_ (5, Rows.mref (Array.Array (Referent.rtF (Referent.fInt Syntax.w32)) 32772) (Syntax.tyRef (Syntax.named 4) Syntax.mut (Syntax.tyArray (Syntax.tyInt Syntax.w32) 32772)) 4) (List._∷_ (6, Rows.mref (Array.Array (Referent.rtF (Referent.fInt Syntax.w32)) 32772) (Syntax.tyRef (Syntax.named 5) Syntax.mut (Syntax.tyArray (Syntax.tyInt Syntax.w32) 32772)) 5) (List._∷_ (7, Rows.mref (Array.Array (Referent.rtF (Referent.fInt Syntax.w32)) 262160) (Syntax.tyRef (Syntax.named 6) Syntax.mut (Syntax.tyArray (Syntax.tyInt Syntax.w32) 262160)) 6) (List._∷_ (8, Rows.mref (Array.Array (Referent.rtF (Referent.fInt Syntax.w8)) 600000) (Syntax.tyRef (Syntax.named 7) Syntax.mut (Syntax.tyArray (Syntax.tyInt Syntax.w8) 600000)) 7) (List._∷_ (9, Rows.mref (Array.Array Cell.R 65540) (Syntax.tyRef (Syntax.named 8) Syntax.mut (Syntax.tyArray Cell.behind 65540)) 8) (List._∷_ (10, Rows.mref (Array.Array Cell.R 32772) (Syntax.tyRef (Syntax.named 9) Syntax.mut (Syntax.tyArray Cell.behind 32772)) 9) (List._∷_ (11, Rows.any-gone (Syntax.tyStruct (List._∷_ 122 (List._∷_ 111 (List._∷_ 110 (List._∷_ 101 (List._∷_ 115 (List._∷_ 58 (List._∷_ 58 (List._∷_ 104 (List._∷_ 101 (List._∷_ 108 (List._∷_ 100 (List._∷_ 58 (List._∷_ 58 (List._∷_ 72 (List._∷_ 101 (List._∷_ 108 (List._∷_ 100 List.[]))))))))))))))))) (Syntax.tcons (Syntax.tyStruct (List._∷_ 112 (List._∷_ 121 (List._∷_ 114 (List._∷_ 97 (List._∷_ 109 (List._∷_ 105 (List._∷_ 100 (List._∷_ 58 (List._∷_ 58 (List._∷_ 83 (List._∷_ 116 (List._∷_ 97 (List._∷_ 116 (List._∷_ 101 List.[])))))))))))))) (Syntax.tcons (Syntax.tyInt Syntax.w32) (Syntax.tcons (Syntax.tyInt Syntax.w32) (Syntax.tcons (Syntax.tyInt Syntax.w32) (Syntax.tcons (Syntax.tyInt Syntax.w32) (Syntax.tcons (Syntax.tyInt Syntax.w32) (Syntax.tcons (Syntax.tyArray (Syntax.tyInt Syntax.w32) 64) Syntax.tnil))))))) (Syntax.tcons (Syntax.tyInt Syntax.w64) (Syntax.tcons (Syntax.tyInt Syntax.w64) (Syntax.tcons (Syntax.tyInt Syntax.w64) (Syntax.tcons (Syntax.tyInt Syntax.w64) (Syntax.tcons (Syntax.tyInt Syntax.w64) (Syntax.tcons (Syntax.tyInt Syntax.w64) (Syntax.tcons Syntax.tyBool Syntax.tnil)))))))))) (List._∷_ (12, Rows.sc-here (Row.sInt Syntax.w64)) (List._∷_ (13, Rows.sc-here (Row.sInt Syntax.w64)) (List._∷_ (14, Rows.any-gone (Syntax.tyStruct (List._∷_ 122 (List._∷_ 111 (List._∷_ 110 (List._∷_ 101 (List._∷_ 115 (List._∷_ 58 (List._∷_ 58 (List._∷_ 115 (List._∷_ 99 (List._∷_ 97 (List._∷_ 110 (List._∷_ 58 (List._∷_ 58 (List._∷_ 76 (List._∷_ 105 (List._∷_ 110 (List._∷_ 101 List.[]))))))))))))))))) (Syntax.tcons (Syntax.tyInt Syntax.w32) (Syntax.tcons (Syntax.tyInt Syntax.w64) (Syntax.tcons (Syntax.tyInt Syntax.w64) (Syntax.tcons (Syntax.tyInt Syntax.w64) (Syntax.tcons (Syntax.tyInt Syntax.w64) Syntax.tnil))))))) (List._∷_ (15, Rows.any-gone (Syntax.tyInt Syntax.w64)) List.[])))))))))))))))
 
 abbrev pub t11 : List.List Row.Entry
 t11 = List._∷_ (16, Rows.any-gone Syntax.tyBool) (List._∷_ (17, Rows.sc-here (Row.sInt Syntax.w64)) (List._∷_ (18, Rows.any-gone (Syntax.tyRef Syntax.erased Syntax.mut (Syntax.tyArray (Syntax.tyInt Syntax.w32) 32772))) (List._∷_ (19, Rows.any-gone (Syntax.tyRef Syntax.erased Syntax.imm (Syntax.tyArray (Syntax.tyInt Syntax.w32) 32772))) (List._∷_ (20, Rows.any-gone (Syntax.tyRef Syntax.erased Syntax.mut (Syntax.tyArray (Syntax.tyInt Syntax.w8) 16388))) (List._∷_ (21, Rows.any-gone (Syntax.tyRef Syntax.erased Syntax.mut (Syntax.tyArray (Syntax.tyInt Syntax.w32) 65540))) (List._∷_ (22, Rows.any-gone (Syntax.tyRef Syntax.erased Syntax.mut (Syntax.tyArray (Syntax.tyInt Syntax.w32) 32772))) (List._∷_ (23, Rows.any-gone (Syntax.tyRef Syntax.erased Syntax.mut (Syntax.tyArray (Syntax.tyInt Syntax.w32) 32772))) (List._∷_ (24, Rows.any-gone (Syntax.tyRef Syntax.erased Syntax.mut (Syntax.tyArray (Syntax.tyInt Syntax.w32) 262160))) (List._∷_ (25, Rows.any-gone (Syntax.tyRef Syntax.erased Syntax.mut (Syntax.tyArray (Syntax.tyInt Syntax.w8) 600000))) (List._∷_ (26, Rows.any-gone (Syntax.tyRef Syntax.erased Syntax.mut (Syntax.tyArray Cell.behind 65540))) (List._∷_ (27, Rows.any-gone (Syntax.tyRef Syntax.erased Syntax.mut (Syntax.tyArray Cell.behind 32772))) (List._∷_ (28, Rows.any-gone Syntax.tyUnit) (List._∷_ (29, Rows.any-gone (Syntax.tyInt Syntax.w64)) List.[])))))))))))))
@@ -344,10 +344,10 @@ abbrev pub t12 : List.List Row.Entry
 t12 = List._∷_ (16, Rows.sc-here Row.sBool) (List._∷_ (17, Rows.sc-here (Row.sInt Syntax.w64)) (List._∷_ (18, Rows.any-gone (Syntax.tyRef Syntax.erased Syntax.mut (Syntax.tyArray (Syntax.tyInt Syntax.w32) 32772))) (List._∷_ (19, Rows.any-gone (Syntax.tyRef Syntax.erased Syntax.imm (Syntax.tyArray (Syntax.tyInt Syntax.w32) 32772))) (List._∷_ (20, Rows.any-gone (Syntax.tyRef Syntax.erased Syntax.mut (Syntax.tyArray (Syntax.tyInt Syntax.w8) 16388))) (List._∷_ (21, Rows.any-gone (Syntax.tyRef Syntax.erased Syntax.mut (Syntax.tyArray (Syntax.tyInt Syntax.w32) 65540))) (List._∷_ (22, Rows.any-gone (Syntax.tyRef Syntax.erased Syntax.mut (Syntax.tyArray (Syntax.tyInt Syntax.w32) 32772))) (List._∷_ (23, Rows.any-gone (Syntax.tyRef Syntax.erased Syntax.mut (Syntax.tyArray (Syntax.tyInt Syntax.w32) 32772))) (List._∷_ (24, Rows.any-gone (Syntax.tyRef Syntax.erased Syntax.mut (Syntax.tyArray (Syntax.tyInt Syntax.w32) 262160))) (List._∷_ (25, Rows.any-gone (Syntax.tyRef Syntax.erased Syntax.mut (Syntax.tyArray (Syntax.tyInt Syntax.w8) 600000))) (List._∷_ (26, Rows.any-gone (Syntax.tyRef Syntax.erased Syntax.mut (Syntax.tyArray Cell.behind 65540))) (List._∷_ (27, Rows.any-gone (Syntax.tyRef Syntax.erased Syntax.mut (Syntax.tyArray Cell.behind 32772))) (List._∷_ (28, Rows.any-gone Syntax.tyUnit) (List._∷_ (29, Rows.any-gone (Syntax.tyInt Syntax.w64)) List.[])))))))))))))
 
 abbrev pub t13 : List.List Row.Entry
-t13 = List._∷_ (0, Rows.sc-here Row.sUnit) (List._∷_ (1, Rows.sslice (Referent.rtF (Referent.fInt Syntax.w8)) (Syntax.tyRef (Syntax.named 0) Syntax.imm (Syntax.tyInt Syntax.w8)) 0) (List._∷_ (2, Rows.mref (Array.Array (Referent.rtF (Referent.fInt Syntax.w32)) 32772) (Syntax.tyRef (Syntax.named 1) Syntax.mut (Syntax.tyArray (Syntax.tyInt Syntax.w32) 32772)) 1) (List._∷_ (3, Rows.mref (Array.Array (Referent.rtF (Referent.fInt Syntax.w8)) 16388) (Syntax.tyRef (Syntax.named 2) Syntax.mut (Syntax.tyArray (Syntax.tyInt Syntax.w8) 16388)) 2) (List._∷_ (4, Rows.mref (Array.Array (Referent.rtF (Referent.fInt Syntax.w32)) 65540) (Syntax.tyRef (Syntax.named 3) Syntax.mut (Syntax.tyArray (Syntax.tyInt Syntax.w32) 65540)) 3) (List._∷_ (5, Rows.mref (Array.Array (Referent.rtF (Referent.fInt Syntax.w32)) 32772) (Syntax.tyRef (Syntax.named 4) Syntax.mut (Syntax.tyArray (Syntax.tyInt Syntax.w32) 32772)) 4) (List._∷_ (6, Rows.mref (Array.Array (Referent.rtF (Referent.fInt Syntax.w32)) 32772) (Syntax.tyRef (Syntax.named 5) Syntax.mut (Syntax.tyArray (Syntax.tyInt Syntax.w32) 32772)) 5) (List._∷_ (7, Rows.mref (Array.Array (Referent.rtF (Referent.fInt Syntax.w32)) 262160) (Syntax.tyRef (Syntax.named 6) Syntax.mut (Syntax.tyArray (Syntax.tyInt Syntax.w32) 262160)) 6) (List._∷_ (8, Rows.mref (Array.Array (Referent.rtF (Referent.fInt Syntax.w8)) 600000) (Syntax.tyRef (Syntax.named 7) Syntax.mut (Syntax.tyArray (Syntax.tyInt Syntax.w8) 600000)) 7) (List._∷_ (9, Rows.mref (Array.Array Cell.R 65540) (Syntax.tyRef (Syntax.named 8) Syntax.mut (Syntax.tyArray Cell.behind 65540)) 8) (List._∷_ (10, Rows.mref (Array.Array Cell.R 32772) (Syntax.tyRef (Syntax.named 9) Syntax.mut (Syntax.tyArray Cell.behind 32772)) 9) (List._∷_ (11, Rows.any-gone (Syntax.tyStruct (List._∷_ 122 (List._∷_ 111 (List._∷_ 110 (List._∷_ 101 (List._∷_ 115 (List._∷_ 58 (List._∷_ 58 (List._∷_ 104 (List._∷_ 101 (List._∷_ 108 (List._∷_ 100 (List._∷_ 58 (List._∷_ 58 (List._∷_ 72 (List._∷_ 101 (List._∷_ 108 (List._∷_ 100 List.[]))))))))))))))))) (Syntax.tcons (Syntax.tyStruct (List._∷_ 112 (List._∷_ 121 (List._∷_ 114 (List._∷_ 97 (List._∷_ 109 (List._∷_ 105 (List._∷_ 100 (List._∷_ 58 (List._∷_ 58 (List._∷_ 83 (List._∷_ 116 (List._∷_ 97 (List._∷_ 116 (List._∷_ 101 List.[])))))))))))))) (Syntax.tcons (Syntax.tyInt Syntax.w32) (Syntax.tcons (Syntax.tyInt Syntax.w32) (Syntax.tcons (Syntax.tyInt Syntax.w32) (Syntax.tcons (Syntax.tyArray (Syntax.tyInt Syntax.w32) 64) Syntax.tnil))))) (Syntax.tcons (Syntax.tyInt Syntax.w64) (Syntax.tcons (Syntax.tyInt Syntax.w64) (Syntax.tcons (Syntax.tyInt Syntax.w64) (Syntax.tcons (Syntax.tyInt Syntax.w64) (Syntax.tcons (Syntax.tyInt Syntax.w64) (Syntax.tcons (Syntax.tyInt Syntax.w64) (Syntax.tcons Syntax.tyBool Syntax.tnil)))))))))) (List._∷_ (12, Rows.sc-here (Row.sInt Syntax.w64)) (List._∷_ (13, Rows.sc-here (Row.sInt Syntax.w64)) (List._∷_ (14, Rows.any-gone (Syntax.tyStruct (List._∷_ 122 (List._∷_ 111 (List._∷_ 110 (List._∷_ 101 (List._∷_ 115 (List._∷_ 58 (List._∷_ 58 (List._∷_ 115 (List._∷_ 99 (List._∷_ 97 (List._∷_ 110 (List._∷_ 58 (List._∷_ 58 (List._∷_ 76 (List._∷_ 105 (List._∷_ 110 (List._∷_ 101 List.[]))))))))))))))))) (Syntax.tcons (Syntax.tyInt Syntax.w32) (Syntax.tcons (Syntax.tyInt Syntax.w64) (Syntax.tcons (Syntax.tyInt Syntax.w64) (Syntax.tcons (Syntax.tyInt Syntax.w64) (Syntax.tcons (Syntax.tyInt Syntax.w64) Syntax.tnil))))))) (List._∷_ (15, Rows.any-gone (Syntax.tyInt Syntax.w64)) List.[])))))))))))))))
+t13 = List._∷_ (0, Rows.sc-here Row.sUnit) (List._∷_ (1, Rows.sslice (Referent.rtF (Referent.fInt Syntax.w8)) (Syntax.tyRef (Syntax.named 0) Syntax.imm (Syntax.tyInt Syntax.w8)) 0) (List._∷_ (2, Rows.mref (Array.Array (Referent.rtF (Referent.fInt Syntax.w32)) 32772) (Syntax.tyRef (Syntax.named 1) Syntax.mut (Syntax.tyArray (Syntax.tyInt Syntax.w32) 32772)) 1) (List._∷_ (3, Rows.mref (Array.Array (Referent.rtF (Referent.fInt Syntax.w8)) 16388) (Syntax.tyRef (Syntax.named 2) Syntax.mut (Syntax.tyArray (Syntax.tyInt Syntax.w8) 16388)) 2) (List._∷_ (4, Rows.mref (Array.Array (Referent.rtF (Referent.fInt Syntax.w32)) 65540) (Syntax.tyRef (Syntax.named 3) Syntax.mut (Syntax.tyArray (Syntax.tyInt Syntax.w32) 65540)) 3) (List._∷_ (5, Rows.mref (Array.Array (Referent.rtF (Referent.fInt Syntax.w32)) 32772) (Syntax.tyRef (Syntax.named 4) Syntax.mut (Syntax.tyArray (Syntax.tyInt Syntax.w32) 32772)) 4) (List._∷_ (6, Rows.mref (Array.Array (Referent.rtF (Referent.fInt Syntax.w32)) 32772) (Syntax.tyRef (Syntax.named 5) Syntax.mut (Syntax.tyArray (Syntax.tyInt Syntax.w32) 32772)) 5) (List._∷_ (7, Rows.mref (Array.Array (Referent.rtF (Referent.fInt Syntax.w32)) 262160) (Syntax.tyRef (Syntax.named 6) Syntax.mut (Syntax.tyArray (Syntax.tyInt Syntax.w32) 262160)) 6) (List._∷_ (8, Rows.mref (Array.Array (Referent.rtF (Referent.fInt Syntax.w8)) 600000) (Syntax.tyRef (Syntax.named 7) Syntax.mut (Syntax.tyArray (Syntax.tyInt Syntax.w8) 600000)) 7) (List._∷_ (9, Rows.mref (Array.Array Cell.R 65540) (Syntax.tyRef (Syntax.named 8) Syntax.mut (Syntax.tyArray Cell.behind 65540)) 8) (List._∷_ (10, Rows.mref (Array.Array Cell.R 32772) (Syntax.tyRef (Syntax.named 9) Syntax.mut (Syntax.tyArray Cell.behind 32772)) 9) (List._∷_ (11, Rows.any-gone (Syntax.tyStruct (List._∷_ 122 (List._∷_ 111 (List._∷_ 110 (List._∷_ 101 (List._∷_ 115 (List._∷_ 58 (List._∷_ 58 (List._∷_ 104 (List._∷_ 101 (List._∷_ 108 (List._∷_ 100 (List._∷_ 58 (List._∷_ 58 (List._∷_ 72 (List._∷_ 101 (List._∷_ 108 (List._∷_ 100 List.[]))))))))))))))))) (Syntax.tcons (Syntax.tyStruct (List._∷_ 112 (List._∷_ 121 (List._∷_ 114 (List._∷_ 97 (List._∷_ 109 (List._∷_ 105 (List._∷_ 100 (List._∷_ 58 (List._∷_ 58 (List._∷_ 83 (List._∷_ 116 (List._∷_ 97 (List._∷_ 116 (List._∷_ 101 List.[])))))))))))))) (Syntax.tcons (Syntax.tyInt Syntax.w32) (Syntax.tcons (Syntax.tyInt Syntax.w32) (Syntax.tcons (Syntax.tyInt Syntax.w32) (Syntax.tcons (Syntax.tyInt Syntax.w32) (Syntax.tcons (Syntax.tyInt Syntax.w32) (Syntax.tcons (Syntax.tyArray (Syntax.tyInt Syntax.w32) 64) Syntax.tnil))))))) (Syntax.tcons (Syntax.tyInt Syntax.w64) (Syntax.tcons (Syntax.tyInt Syntax.w64) (Syntax.tcons (Syntax.tyInt Syntax.w64) (Syntax.tcons (Syntax.tyInt Syntax.w64) (Syntax.tcons (Syntax.tyInt Syntax.w64) (Syntax.tcons (Syntax.tyInt Syntax.w64) (Syntax.tcons Syntax.tyBool Syntax.tnil)))))))))) (List._∷_ (12, Rows.sc-here (Row.sInt Syntax.w64)) (List._∷_ (13, Rows.sc-here (Row.sInt Syntax.w64)) (List._∷_ (14, Rows.any-gone (Syntax.tyStruct (List._∷_ 122 (List._∷_ 111 (List._∷_ 110 (List._∷_ 101 (List._∷_ 115 (List._∷_ 58 (List._∷_ 58 (List._∷_ 115 (List._∷_ 99 (List._∷_ 97 (List._∷_ 110 (List._∷_ 58 (List._∷_ 58 (List._∷_ 76 (List._∷_ 105 (List._∷_ 110 (List._∷_ 101 List.[]))))))))))))))))) (Syntax.tcons (Syntax.tyInt Syntax.w32) (Syntax.tcons (Syntax.tyInt Syntax.w64) (Syntax.tcons (Syntax.tyInt Syntax.w64) (Syntax.tcons (Syntax.tyInt Syntax.w64) (Syntax.tcons (Syntax.tyInt Syntax.w64) Syntax.tnil))))))) (List._∷_ (15, Rows.any-gone (Syntax.tyInt Syntax.w64)) List.[])))))))))))))))
 
 abbrev pub t14 : List.List Row.Entry
-t14 = List._∷_ (0, Rows.sc-here Row.sUnit) (List._∷_ (1, Rows.sslice (Referent.rtF (Referent.fInt Syntax.w8)) (Syntax.tyRef (Syntax.named 0) Syntax.imm (Syntax.tyInt Syntax.w8)) 0) (List._∷_ (2, Rows.mref (Array.Array (Referent.rtF (Referent.fInt Syntax.w32)) 32772) (Syntax.tyRef (Syntax.named 1) Syntax.mut (Syntax.tyArray (Syntax.tyInt Syntax.w32) 32772)) 1) (List._∷_ (3, Rows.mref (Array.Array (Referent.rtF (Referent.fInt Syntax.w8)) 16388) (Syntax.tyRef (Syntax.named 2) Syntax.mut (Syntax.tyArray (Syntax.tyInt Syntax.w8) 16388)) 2) (List._∷_ (4, Rows.mref (Array.Array (Referent.rtF (Referent.fInt Syntax.w32)) 65540) (Syntax.tyRef (Syntax.named 3) Syntax.mut (Syntax.tyArray (Syntax.tyInt Syntax.w32) 65540)) 3) (List._∷_ (5, Rows.mref (Array.Array (Referent.rtF (Referent.fInt Syntax.w32)) 32772) (Syntax.tyRef (Syntax.named 4) Syntax.mut (Syntax.tyArray (Syntax.tyInt Syntax.w32) 32772)) 4) (List._∷_ (6, Rows.mref (Array.Array (Referent.rtF (Referent.fInt Syntax.w32)) 32772) (Syntax.tyRef (Syntax.named 5) Syntax.mut (Syntax.tyArray (Syntax.tyInt Syntax.w32) 32772)) 5) (List._∷_ (7, Rows.mref (Array.Array (Referent.rtF (Referent.fInt Syntax.w32)) 262160) (Syntax.tyRef (Syntax.named 6) Syntax.mut (Syntax.tyArray (Syntax.tyInt Syntax.w32) 262160)) 6) (List._∷_ (8, Rows.mref (Array.Array (Referent.rtF (Referent.fInt Syntax.w8)) 600000) (Syntax.tyRef (Syntax.named 7) Syntax.mut (Syntax.tyArray (Syntax.tyInt Syntax.w8) 600000)) 7) (List._∷_ (9, Rows.mref (Array.Array Cell.R 65540) (Syntax.tyRef (Syntax.named 8) Syntax.mut (Syntax.tyArray Cell.behind 65540)) 8) (List._∷_ (10, Rows.mref (Array.Array Cell.R 32772) (Syntax.tyRef (Syntax.named 9) Syntax.mut (Syntax.tyArray Cell.behind 32772)) 9) (List._∷_ (11, Rows.any-gone (Syntax.tyStruct (List._∷_ 122 (List._∷_ 111 (List._∷_ 110 (List._∷_ 101 (List._∷_ 115 (List._∷_ 58 (List._∷_ 58 (List._∷_ 104 (List._∷_ 101 (List._∷_ 108 (List._∷_ 100 (List._∷_ 58 (List._∷_ 58 (List._∷_ 72 (List._∷_ 101 (List._∷_ 108 (List._∷_ 100 List.[]))))))))))))))))) (Syntax.tcons (Syntax.tyStruct (List._∷_ 112 (List._∷_ 121 (List._∷_ 114 (List._∷_ 97 (List._∷_ 109 (List._∷_ 105 (List._∷_ 100 (List._∷_ 58 (List._∷_ 58 (List._∷_ 83 (List._∷_ 116 (List._∷_ 97 (List._∷_ 116 (List._∷_ 101 List.[])))))))))))))) (Syntax.tcons (Syntax.tyInt Syntax.w32) (Syntax.tcons (Syntax.tyInt Syntax.w32) (Syntax.tcons (Syntax.tyInt Syntax.w32) (Syntax.tcons (Syntax.tyArray (Syntax.tyInt Syntax.w32) 64) Syntax.tnil))))) (Syntax.tcons (Syntax.tyInt Syntax.w64) (Syntax.tcons (Syntax.tyInt Syntax.w64) (Syntax.tcons (Syntax.tyInt Syntax.w64) (Syntax.tcons (Syntax.tyInt Syntax.w64) (Syntax.tcons (Syntax.tyInt Syntax.w64) (Syntax.tcons (Syntax.tyInt Syntax.w64) (Syntax.tcons Syntax.tyBool Syntax.tnil)))))))))) (List._∷_ (12, Rows.any-gone (Syntax.tyInt Syntax.w64)) (List._∷_ (13, Rows.sc-here (Row.sInt Syntax.w64)) (List._∷_ (14, Rows.any-gone (Syntax.tyStruct (List._∷_ 122 (List._∷_ 111 (List._∷_ 110 (List._∷_ 101 (List._∷_ 115 (List._∷_ 58 (List._∷_ 58 (List._∷_ 115 (List._∷_ 99 (List._∷_ 97 (List._∷_ 110 (List._∷_ 58 (List._∷_ 58 (List._∷_ 76 (List._∷_ 105 (List._∷_ 110 (List._∷_ 101 List.[]))))))))))))))))) (Syntax.tcons (Syntax.tyInt Syntax.w32) (Syntax.tcons (Syntax.tyInt Syntax.w64) (Syntax.tcons (Syntax.tyInt Syntax.w64) (Syntax.tcons (Syntax.tyInt Syntax.w64) (Syntax.tcons (Syntax.tyInt Syntax.w64) Syntax.tnil))))))) (List._∷_ (15, Rows.any-gone (Syntax.tyInt Syntax.w64)) List.[])))))))))))))))
+t14 = List._∷_ (0, Rows.sc-here Row.sUnit) (List._∷_ (1, Rows.sslice (Referent.rtF (Referent.fInt Syntax.w8)) (Syntax.tyRef (Syntax.named 0) Syntax.imm (Syntax.tyInt Syntax.w8)) 0) (List._∷_ (2, Rows.mref (Array.Array (Referent.rtF (Referent.fInt Syntax.w32)) 32772) (Syntax.tyRef (Syntax.named 1) Syntax.mut (Syntax.tyArray (Syntax.tyInt Syntax.w32) 32772)) 1) (List._∷_ (3, Rows.mref (Array.Array (Referent.rtF (Referent.fInt Syntax.w8)) 16388) (Syntax.tyRef (Syntax.named 2) Syntax.mut (Syntax.tyArray (Syntax.tyInt Syntax.w8) 16388)) 2) (List._∷_ (4, Rows.mref (Array.Array (Referent.rtF (Referent.fInt Syntax.w32)) 65540) (Syntax.tyRef (Syntax.named 3) Syntax.mut (Syntax.tyArray (Syntax.tyInt Syntax.w32) 65540)) 3) (List._∷_ (5, Rows.mref (Array.Array (Referent.rtF (Referent.fInt Syntax.w32)) 32772) (Syntax.tyRef (Syntax.named 4) Syntax.mut (Syntax.tyArray (Syntax.tyInt Syntax.w32) 32772)) 4) (List._∷_ (6, Rows.mref (Array.Array (Referent.rtF (Referent.fInt Syntax.w32)) 32772) (Syntax.tyRef (Syntax.named 5) Syntax.mut (Syntax.tyArray (Syntax.tyInt Syntax.w32) 32772)) 5) (List._∷_ (7, Rows.mref (Array.Array (Referent.rtF (Referent.fInt Syntax.w32)) 262160) (Syntax.tyRef (Syntax.named 6) Syntax.mut (Syntax.tyArray (Syntax.tyInt Syntax.w32) 262160)) 6) (List._∷_ (8, Rows.mref (Array.Array (Referent.rtF (Referent.fInt Syntax.w8)) 600000) (Syntax.tyRef (Syntax.named 7) Syntax.mut (Syntax.tyArray (Syntax.tyInt Syntax.w8) 600000)) 7) (List._∷_ (9, Rows.mref (Array.Array Cell.R 65540) (Syntax.tyRef (Syntax.named 8) Syntax.mut (Syntax.tyArray Cell.behind 65540)) 8) (List._∷_ (10, Rows.mref (Array.Array Cell.R 32772) (Syntax.tyRef (Syntax.named 9) Syntax.mut (Syntax.tyArray Cell.behind 32772)) 9) (List._∷_ (11, Rows.any-gone (Syntax.tyStruct (List._∷_ 122 (List._∷_ 111 (List._∷_ 110 (List._∷_ 101 (List._∷_ 115 (List._∷_ 58 (List._∷_ 58 (List._∷_ 104 (List._∷_ 101 (List._∷_ 108 (List._∷_ 100 (List._∷_ 58 (List._∷_ 58 (List._∷_ 72 (List._∷_ 101 (List._∷_ 108 (List._∷_ 100 List.[]))))))))))))))))) (Syntax.tcons (Syntax.tyStruct (List._∷_ 112 (List._∷_ 121 (List._∷_ 114 (List._∷_ 97 (List._∷_ 109 (List._∷_ 105 (List._∷_ 100 (List._∷_ 58 (List._∷_ 58 (List._∷_ 83 (List._∷_ 116 (List._∷_ 97 (List._∷_ 116 (List._∷_ 101 List.[])))))))))))))) (Syntax.tcons (Syntax.tyInt Syntax.w32) (Syntax.tcons (Syntax.tyInt Syntax.w32) (Syntax.tcons (Syntax.tyInt Syntax.w32) (Syntax.tcons (Syntax.tyInt Syntax.w32) (Syntax.tcons (Syntax.tyInt Syntax.w32) (Syntax.tcons (Syntax.tyArray (Syntax.tyInt Syntax.w32) 64) Syntax.tnil))))))) (Syntax.tcons (Syntax.tyInt Syntax.w64) (Syntax.tcons (Syntax.tyInt Syntax.w64) (Syntax.tcons (Syntax.tyInt Syntax.w64) (Syntax.tcons (Syntax.tyInt Syntax.w64) (Syntax.tcons (Syntax.tyInt Syntax.w64) (Syntax.tcons (Syntax.tyInt Syntax.w64) (Syntax.tcons Syntax.tyBool Syntax.tnil)))))))))) (List._∷_ (12, Rows.any-gone (Syntax.tyInt Syntax.w64)) (List._∷_ (13, Rows.sc-here (Row.sInt Syntax.w64)) (List._∷_ (14, Rows.any-gone (Syntax.tyStruct (List._∷_ 122 (List._∷_ 111 (List._∷_ 110 (List._∷_ 101 (List._∷_ 115 (List._∷_ 58 (List._∷_ 58 (List._∷_ 115 (List._∷_ 99 (List._∷_ 97 (List._∷_ 110 (List._∷_ 58 (List._∷_ 58 (List._∷_ 76 (List._∷_ 105 (List._∷_ 110 (List._∷_ 101 List.[]))))))))))))))))) (Syntax.tcons (Syntax.tyInt Syntax.w32) (Syntax.tcons (Syntax.tyInt Syntax.w64) (Syntax.tcons (Syntax.tyInt Syntax.w64) (Syntax.tcons (Syntax.tyInt Syntax.w64) (Syntax.tcons (Syntax.tyInt Syntax.w64) Syntax.tnil))))))) (List._∷_ (15, Rows.any-gone (Syntax.tyInt Syntax.w64)) List.[])))))))))))))))
 
 abbrev pub t15 : List.List Row.Entry
 t15 = List._∷_ (0, Rows.any-gone Syntax.tyUnit) (List._∷_ (1, Rows.sslice (Referent.rtF (Referent.fInt Syntax.w8)) (Syntax.tyRef (Syntax.named 0) Syntax.imm (Syntax.tyInt Syntax.w8)) 0) (List._∷_ (2, Rows.mref-owed (Array.Array (Referent.rtF (Referent.fInt Syntax.w32)) 32772) (Syntax.tyRef (Syntax.named 1) Syntax.mut (Syntax.tyArray (Syntax.tyInt Syntax.w32) 32772)) 1 10 Row.off) (List._∷_ (3, Rows.mref (Array.Array (Referent.rtF (Referent.fInt Syntax.w8)) 16388) (Syntax.tyRef (Syntax.named 2) Syntax.mut (Syntax.tyArray (Syntax.tyInt Syntax.w8) 16388)) 2) (List._∷_ (4, Rows.mref (Array.Array (Referent.rtF (Referent.fInt Syntax.w32)) 65540) (Syntax.tyRef (Syntax.named 3) Syntax.mut (Syntax.tyArray (Syntax.tyInt Syntax.w32) 65540)) 3) (List._∷_ (5, Rows.mref (Array.Array (Referent.rtF (Referent.fInt Syntax.w32)) 32772) (Syntax.tyRef (Syntax.named 4) Syntax.mut (Syntax.tyArray (Syntax.tyInt Syntax.w32) 32772)) 4) (List._∷_ (6, Rows.mref (Array.Array (Referent.rtF (Referent.fInt Syntax.w32)) 32772) (Syntax.tyRef (Syntax.named 5) Syntax.mut (Syntax.tyArray (Syntax.tyInt Syntax.w32) 32772)) 5) (List._∷_ (7, Rows.mref (Array.Array (Referent.rtF (Referent.fInt Syntax.w32)) 262160) (Syntax.tyRef (Syntax.named 6) Syntax.mut (Syntax.tyArray (Syntax.tyInt Syntax.w32) 262160)) 6) (List._∷_ (8, Rows.mref (Array.Array (Referent.rtF (Referent.fInt Syntax.w8)) 600000) (Syntax.tyRef (Syntax.named 7) Syntax.mut (Syntax.tyArray (Syntax.tyInt Syntax.w8) 600000)) 7) (List._∷_ (9, Rows.mref (Array.Array Cell.R 65540) (Syntax.tyRef (Syntax.named 8) Syntax.mut (Syntax.tyArray Cell.behind 65540)) 8) (List._∷_ (10, Rows.mref (Array.Array Cell.R 32772) (Syntax.tyRef (Syntax.named 9) Syntax.mut (Syntax.tyArray Cell.behind 32772)) 9) (List._∷_ (11, Rows.whole (Declared.row Held.the-type)) (List._∷_ (12, Rows.sc-here (Row.sInt Syntax.w64)) (List._∷_ (13, Rows.sc-here (Row.sInt Syntax.w64)) (List._∷_ (14, Rows.any-gone (Syntax.tyStruct (List._∷_ 122 (List._∷_ 111 (List._∷_ 110 (List._∷_ 101 (List._∷_ 115 (List._∷_ 58 (List._∷_ 58 (List._∷_ 115 (List._∷_ 99 (List._∷_ 97 (List._∷_ 110 (List._∷_ 58 (List._∷_ 58 (List._∷_ 76 (List._∷_ 105 (List._∷_ 110 (List._∷_ 101 List.[]))))))))))))))))) (Syntax.tcons (Syntax.tyInt Syntax.w32) (Syntax.tcons (Syntax.tyInt Syntax.w64) (Syntax.tcons (Syntax.tyInt Syntax.w64) (Syntax.tcons (Syntax.tyInt Syntax.w64) (Syntax.tcons (Syntax.tyInt Syntax.w64) Syntax.tnil))))))) (List._∷_ (15, Rows.sc-here (Row.sInt Syntax.w64)) List.[])))))))))))))))
@@ -473,7 +473,7 @@ abbrev pub t55 : List.List Row.Entry
 t55 = List._∷_ (0, Rows.any-gone Syntax.tyUnit) (List._∷_ (1, Rows.sslice (Referent.rtF (Referent.fInt Syntax.w8)) (Syntax.tyRef (Syntax.named 0) Syntax.imm (Syntax.tyInt Syntax.w8)) 0) (List._∷_ (2, Rows.mref (Array.Array (Referent.rtF (Referent.fInt Syntax.w32)) 32772) (Syntax.tyRef (Syntax.named 1) Syntax.mut (Syntax.tyArray (Syntax.tyInt Syntax.w32) 32772)) 1) (List._∷_ (3, Rows.mref (Array.Array (Referent.rtF (Referent.fInt Syntax.w8)) 16388) (Syntax.tyRef (Syntax.named 2) Syntax.mut (Syntax.tyArray (Syntax.tyInt Syntax.w8) 16388)) 2) (List._∷_ (4, Rows.mref (Array.Array (Referent.rtF (Referent.fInt Syntax.w32)) 65540) (Syntax.tyRef (Syntax.named 3) Syntax.mut (Syntax.tyArray (Syntax.tyInt Syntax.w32) 65540)) 3) (List._∷_ (5, Rows.mref (Array.Array (Referent.rtF (Referent.fInt Syntax.w32)) 32772) (Syntax.tyRef (Syntax.named 4) Syntax.mut (Syntax.tyArray (Syntax.tyInt Syntax.w32) 32772)) 4) (List._∷_ (6, Rows.mref (Array.Array (Referent.rtF (Referent.fInt Syntax.w32)) 32772) (Syntax.tyRef (Syntax.named 5) Syntax.mut (Syntax.tyArray (Syntax.tyInt Syntax.w32) 32772)) 5) (List._∷_ (7, Rows.mref (Array.Array (Referent.rtF (Referent.fInt Syntax.w32)) 262160) (Syntax.tyRef (Syntax.named 6) Syntax.mut (Syntax.tyArray (Syntax.tyInt Syntax.w32) 262160)) 6) (List._∷_ (8, Rows.mref (Array.Array (Referent.rtF (Referent.fInt Syntax.w8)) 600000) (Syntax.tyRef (Syntax.named 7) Syntax.mut (Syntax.tyArray (Syntax.tyInt Syntax.w8) 600000)) 7) (List._∷_ (9, Rows.mref (Array.Array Cell.R 65540) (Syntax.tyRef (Syntax.named 8) Syntax.mut (Syntax.tyArray Cell.behind 65540)) 8) (List._∷_ (10, Rows.mref (Array.Array Cell.R 32772) (Syntax.tyRef (Syntax.named 9) Syntax.mut (Syntax.tyArray Cell.behind 32772)) 9) (List._∷_ (11, Rows.whole (Declared.row Held.the-type)) (List._∷_ (12, Rows.any-gone (Syntax.tyInt Syntax.w64)) (List._∷_ (13, Rows.sc-here (Row.sInt Syntax.w64)) (List._∷_ (14, Rows.whole (Declared.row Line.the-type)) (List._∷_ (15, Rows.sc-here (Row.sInt Syntax.w64)) List.[])))))))))))))))
 
 abbrev pub t56 : List.List Row.Entry
-t56 = List._∷_ (0, Rows.any-gone Syntax.tyUnit) (List._∷_ (1, Rows.sslice (Referent.rtF (Referent.fInt Syntax.w8)) (Syntax.tyRef (Syntax.named 0) Syntax.imm (Syntax.tyInt Syntax.w8)) 0) (List._∷_ (2, Rows.mref (Array.Array (Referent.rtF (Referent.fInt Syntax.w32)) 32772) (Syntax.tyRef (Syntax.named 1) Syntax.mut (Syntax.tyArray (Syntax.tyInt Syntax.w32) 32772)) 1) (List._∷_ (3, Rows.mref (Array.Array (Referent.rtF (Referent.fInt Syntax.w8)) 16388) (Syntax.tyRef (Syntax.named 2) Syntax.mut (Syntax.tyArray (Syntax.tyInt Syntax.w8) 16388)) 2) (List._∷_ (4, Rows.mref (Array.Array (Referent.rtF (Referent.fInt Syntax.w32)) 65540) (Syntax.tyRef (Syntax.named 3) Syntax.mut (Syntax.tyArray (Syntax.tyInt Syntax.w32) 65540)) 3) (List._∷_ (5, Rows.mref (Array.Array (Referent.rtF (Referent.fInt Syntax.w32)) 32772) (Syntax.tyRef (Syntax.named 4) Syntax.mut (Syntax.tyArray (Syntax.tyInt Syntax.w32) 32772)) 4) (List._∷_ (6, Rows.mref (Array.Array (Referent.rtF (Referent.fInt Syntax.w32)) 32772) (Syntax.tyRef (Syntax.named 5) Syntax.mut (Syntax.tyArray (Syntax.tyInt Syntax.w32) 32772)) 5) (List._∷_ (7, Rows.mref (Array.Array (Referent.rtF (Referent.fInt Syntax.w32)) 262160) (Syntax.tyRef (Syntax.named 6) Syntax.mut (Syntax.tyArray (Syntax.tyInt Syntax.w32) 262160)) 6) (List._∷_ (8, Rows.mref (Array.Array (Referent.rtF (Referent.fInt Syntax.w8)) 600000) (Syntax.tyRef (Syntax.named 7) Syntax.mut (Syntax.tyArray (Syntax.tyInt Syntax.w8) 600000)) 7) (List._∷_ (9, Rows.mref (Array.Array Cell.R 65540) (Syntax.tyRef (Syntax.named 8) Syntax.mut (Syntax.tyArray Cell.behind 65540)) 8) (List._∷_ (10, Rows.mref (Array.Array Cell.R 32772) (Syntax.tyRef (Syntax.named 9) Syntax.mut (Syntax.tyArray Cell.behind 32772)) 9) (List._∷_ (11, Rows.any-gone (Syntax.tyStruct (List._∷_ 122 (List._∷_ 111 (List._∷_ 110 (List._∷_ 101 (List._∷_ 115 (List._∷_ 58 (List._∷_ 58 (List._∷_ 104 (List._∷_ 101 (List._∷_ 108 (List._∷_ 100 (List._∷_ 58 (List._∷_ 58 (List._∷_ 72 (List._∷_ 101 (List._∷_ 108 (List._∷_ 100 List.[]))))))))))))))))) (Syntax.tcons (Syntax.tyStruct (List._∷_ 112 (List._∷_ 121 (List._∷_ 114 (List._∷_ 97 (List._∷_ 109 (List._∷_ 105 (List._∷_ 100 (List._∷_ 58 (List._∷_ 58 (List._∷_ 83 (List._∷_ 116 (List._∷_ 97 (List._∷_ 116 (List._∷_ 101 List.[])))))))))))))) (Syntax.tcons (Syntax.tyInt Syntax.w32) (Syntax.tcons (Syntax.tyInt Syntax.w32) (Syntax.tcons (Syntax.tyInt Syntax.w32) (Syntax.tcons (Syntax.tyArray (Syntax.tyInt Syntax.w32) 64) Syntax.tnil))))) (Syntax.tcons (Syntax.tyInt Syntax.w64) (Syntax.tcons (Syntax.tyInt Syntax.w64) (Syntax.tcons (Syntax.tyInt Syntax.w64) (Syntax.tcons (Syntax.tyInt Syntax.w64) (Syntax.tcons (Syntax.tyInt Syntax.w64) (Syntax.tcons (Syntax.tyInt Syntax.w64) (Syntax.tcons Syntax.tyBool Syntax.tnil)))))))))) (List._∷_ (12, Rows.sc-here (Row.sInt Syntax.w64)) (List._∷_ (13, Rows.sc-here (Row.sInt Syntax.w64)) (List._∷_ (14, Rows.whole (Declared.row Line.the-type)) (List._∷_ (15, Rows.sc-here (Row.sInt Syntax.w64)) List.[])))))))))))))))
+t56 = List._∷_ (0, Rows.any-gone Syntax.tyUnit) (List._∷_ (1, Rows.sslice (Referent.rtF (Referent.fInt Syntax.w8)) (Syntax.tyRef (Syntax.named 0) Syntax.imm (Syntax.tyInt Syntax.w8)) 0) (List._∷_ (2, Rows.mref (Array.Array (Referent.rtF (Referent.fInt Syntax.w32)) 32772) (Syntax.tyRef (Syntax.named 1) Syntax.mut (Syntax.tyArray (Syntax.tyInt Syntax.w32) 32772)) 1) (List._∷_ (3, Rows.mref (Array.Array (Referent.rtF (Referent.fInt Syntax.w8)) 16388) (Syntax.tyRef (Syntax.named 2) Syntax.mut (Syntax.tyArray (Syntax.tyInt Syntax.w8) 16388)) 2) (List._∷_ (4, Rows.mref (Array.Array (Referent.rtF (Referent.fInt Syntax.w32)) 65540) (Syntax.tyRef (Syntax.named 3) Syntax.mut (Syntax.tyArray (Syntax.tyInt Syntax.w32) 65540)) 3) (List._∷_ (5, Rows.mref (Array.Array (Referent.rtF (Referent.fInt Syntax.w32)) 32772) (Syntax.tyRef (Syntax.named 4) Syntax.mut (Syntax.tyArray (Syntax.tyInt Syntax.w32) 32772)) 4) (List._∷_ (6, Rows.mref (Array.Array (Referent.rtF (Referent.fInt Syntax.w32)) 32772) (Syntax.tyRef (Syntax.named 5) Syntax.mut (Syntax.tyArray (Syntax.tyInt Syntax.w32) 32772)) 5) (List._∷_ (7, Rows.mref (Array.Array (Referent.rtF (Referent.fInt Syntax.w32)) 262160) (Syntax.tyRef (Syntax.named 6) Syntax.mut (Syntax.tyArray (Syntax.tyInt Syntax.w32) 262160)) 6) (List._∷_ (8, Rows.mref (Array.Array (Referent.rtF (Referent.fInt Syntax.w8)) 600000) (Syntax.tyRef (Syntax.named 7) Syntax.mut (Syntax.tyArray (Syntax.tyInt Syntax.w8) 600000)) 7) (List._∷_ (9, Rows.mref (Array.Array Cell.R 65540) (Syntax.tyRef (Syntax.named 8) Syntax.mut (Syntax.tyArray Cell.behind 65540)) 8) (List._∷_ (10, Rows.mref (Array.Array Cell.R 32772) (Syntax.tyRef (Syntax.named 9) Syntax.mut (Syntax.tyArray Cell.behind 32772)) 9) (List._∷_ (11, Rows.any-gone (Syntax.tyStruct (List._∷_ 122 (List._∷_ 111 (List._∷_ 110 (List._∷_ 101 (List._∷_ 115 (List._∷_ 58 (List._∷_ 58 (List._∷_ 104 (List._∷_ 101 (List._∷_ 108 (List._∷_ 100 (List._∷_ 58 (List._∷_ 58 (List._∷_ 72 (List._∷_ 101 (List._∷_ 108 (List._∷_ 100 List.[]))))))))))))))))) (Syntax.tcons (Syntax.tyStruct (List._∷_ 112 (List._∷_ 121 (List._∷_ 114 (List._∷_ 97 (List._∷_ 109 (List._∷_ 105 (List._∷_ 100 (List._∷_ 58 (List._∷_ 58 (List._∷_ 83 (List._∷_ 116 (List._∷_ 97 (List._∷_ 116 (List._∷_ 101 List.[])))))))))))))) (Syntax.tcons (Syntax.tyInt Syntax.w32) (Syntax.tcons (Syntax.tyInt Syntax.w32) (Syntax.tcons (Syntax.tyInt Syntax.w32) (Syntax.tcons (Syntax.tyInt Syntax.w32) (Syntax.tcons (Syntax.tyInt Syntax.w32) (Syntax.tcons (Syntax.tyArray (Syntax.tyInt Syntax.w32) 64) Syntax.tnil))))))) (Syntax.tcons (Syntax.tyInt Syntax.w64) (Syntax.tcons (Syntax.tyInt Syntax.w64) (Syntax.tcons (Syntax.tyInt Syntax.w64) (Syntax.tcons (Syntax.tyInt Syntax.w64) (Syntax.tcons (Syntax.tyInt Syntax.w64) (Syntax.tcons (Syntax.tyInt Syntax.w64) (Syntax.tcons Syntax.tyBool Syntax.tnil)))))))))) (List._∷_ (12, Rows.sc-here (Row.sInt Syntax.w64)) (List._∷_ (13, Rows.sc-here (Row.sInt Syntax.w64)) (List._∷_ (14, Rows.whole (Declared.row Line.the-type)) (List._∷_ (15, Rows.sc-here (Row.sInt Syntax.w64)) List.[])))))))))))))))
 
 abbrev pub t57 : List.List Row.Entry
 t57 = List._∷_ (16, Rows.any-gone Syntax.tyBool) (List._∷_ (17, Rows.any-gone (Syntax.tyInt Syntax.w64)) (List._∷_ (18, Rows.any-gone (Syntax.tyRef Syntax.erased Syntax.mut (Syntax.tyArray (Syntax.tyInt Syntax.w32) 32772))) (List._∷_ (19, Rows.any-gone (Syntax.tyRef Syntax.erased Syntax.imm (Syntax.tyArray (Syntax.tyInt Syntax.w32) 32772))) (List._∷_ (20, Rows.any-gone (Syntax.tyRef Syntax.erased Syntax.mut (Syntax.tyArray (Syntax.tyInt Syntax.w8) 16388))) (List._∷_ (21, Rows.any-gone (Syntax.tyRef Syntax.erased Syntax.mut (Syntax.tyArray (Syntax.tyInt Syntax.w32) 65540))) (List._∷_ (22, Rows.any-gone (Syntax.tyRef Syntax.erased Syntax.mut (Syntax.tyArray (Syntax.tyInt Syntax.w32) 32772))) (List._∷_ (23, Rows.any-gone (Syntax.tyRef Syntax.erased Syntax.mut (Syntax.tyArray (Syntax.tyInt Syntax.w32) 32772))) (List._∷_ (24, Rows.any-gone (Syntax.tyRef Syntax.erased Syntax.mut (Syntax.tyArray (Syntax.tyInt Syntax.w32) 262160))) (List._∷_ (25, Rows.any-gone (Syntax.tyRef Syntax.erased Syntax.mut (Syntax.tyArray (Syntax.tyInt Syntax.w8) 600000))) (List._∷_ (26, Rows.any-gone (Syntax.tyRef Syntax.erased Syntax.mut (Syntax.tyArray Cell.behind 65540))) (List._∷_ (27, Rows.any-gone (Syntax.tyRef Syntax.erased Syntax.mut (Syntax.tyArray Cell.behind 32772))) (List._∷_ (28, Rows.any-gone Syntax.tyUnit) (List._∷_ (29, Rows.sc-here (Row.sInt Syntax.w64)) List.[])))))))))))))
@@ -482,7 +482,7 @@ abbrev pub t58 : List.List Row.Entry
 t58 = List._∷_ (16, Rows.any-gone Syntax.tyBool) (List._∷_ (17, Rows.any-gone (Syntax.tyInt Syntax.w64)) (List._∷_ (18, Rows.any-gone (Syntax.tyRef Syntax.erased Syntax.mut (Syntax.tyArray (Syntax.tyInt Syntax.w32) 32772))) (List._∷_ (19, Rows.any-gone (Syntax.tyRef Syntax.erased Syntax.imm (Syntax.tyArray (Syntax.tyInt Syntax.w32) 32772))) (List._∷_ (20, Rows.any-gone (Syntax.tyRef Syntax.erased Syntax.mut (Syntax.tyArray (Syntax.tyInt Syntax.w8) 16388))) (List._∷_ (21, Rows.any-gone (Syntax.tyRef Syntax.erased Syntax.mut (Syntax.tyArray (Syntax.tyInt Syntax.w32) 65540))) (List._∷_ (22, Rows.any-gone (Syntax.tyRef Syntax.erased Syntax.mut (Syntax.tyArray (Syntax.tyInt Syntax.w32) 32772))) (List._∷_ (23, Rows.any-gone (Syntax.tyRef Syntax.erased Syntax.mut (Syntax.tyArray (Syntax.tyInt Syntax.w32) 32772))) (List._∷_ (24, Rows.any-gone (Syntax.tyRef Syntax.erased Syntax.mut (Syntax.tyArray (Syntax.tyInt Syntax.w32) 262160))) (List._∷_ (25, Rows.any-gone (Syntax.tyRef Syntax.erased Syntax.mut (Syntax.tyArray (Syntax.tyInt Syntax.w8) 600000))) (List._∷_ (26, Rows.any-gone (Syntax.tyRef Syntax.erased Syntax.mut (Syntax.tyArray Cell.behind 65540))) (List._∷_ (27, Rows.any-gone (Syntax.tyRef Syntax.erased Syntax.mut (Syntax.tyArray Cell.behind 32772))) (List._∷_ (28, Rows.sc-here Row.sUnit) (List._∷_ (29, Rows.sc-here (Row.sInt Syntax.w64)) List.[])))))))))))))
 
 abbrev pub t59 : List.List Row.Entry
-t59 = List._∷_ (0, Rows.sc-here Row.sUnit) (List._∷_ (1, Rows.sslice (Referent.rtF (Referent.fInt Syntax.w8)) (Syntax.tyRef (Syntax.named 0) Syntax.imm (Syntax.tyInt Syntax.w8)) 0) (List._∷_ (2, Rows.mref (Array.Array (Referent.rtF (Referent.fInt Syntax.w32)) 32772) (Syntax.tyRef (Syntax.named 1) Syntax.mut (Syntax.tyArray (Syntax.tyInt Syntax.w32) 32772)) 1) (List._∷_ (3, Rows.mref (Array.Array (Referent.rtF (Referent.fInt Syntax.w8)) 16388) (Syntax.tyRef (Syntax.named 2) Syntax.mut (Syntax.tyArray (Syntax.tyInt Syntax.w8) 16388)) 2) (List._∷_ (4, Rows.mref (Array.Array (Referent.rtF (Referent.fInt Syntax.w32)) 65540) (Syntax.tyRef (Syntax.named 3) Syntax.mut (Syntax.tyArray (Syntax.tyInt Syntax.w32) 65540)) 3) (List._∷_ (5, Rows.mref (Array.Array (Referent.rtF (Referent.fInt Syntax.w32)) 32772) (Syntax.tyRef (Syntax.named 4) Syntax.mut (Syntax.tyArray (Syntax.tyInt Syntax.w32) 32772)) 4) (List._∷_ (6, Rows.mref (Array.Array (Referent.rtF (Referent.fInt Syntax.w32)) 32772) (Syntax.tyRef (Syntax.named 5) Syntax.mut (Syntax.tyArray (Syntax.tyInt Syntax.w32) 32772)) 5) (List._∷_ (7, Rows.mref (Array.Array (Referent.rtF (Referent.fInt Syntax.w32)) 262160) (Syntax.tyRef (Syntax.named 6) Syntax.mut (Syntax.tyArray (Syntax.tyInt Syntax.w32) 262160)) 6) (List._∷_ (8, Rows.mref (Array.Array (Referent.rtF (Referent.fInt Syntax.w8)) 600000) (Syntax.tyRef (Syntax.named 7) Syntax.mut (Syntax.tyArray (Syntax.tyInt Syntax.w8) 600000)) 7) (List._∷_ (9, Rows.mref (Array.Array Cell.R 65540) (Syntax.tyRef (Syntax.named 8) Syntax.mut (Syntax.tyArray Cell.behind 65540)) 8) (List._∷_ (10, Rows.mref (Array.Array Cell.R 32772) (Syntax.tyRef (Syntax.named 9) Syntax.mut (Syntax.tyArray Cell.behind 32772)) 9) (List._∷_ (11, Rows.any-gone (Syntax.tyStruct (List._∷_ 122 (List._∷_ 111 (List._∷_ 110 (List._∷_ 101 (List._∷_ 115 (List._∷_ 58 (List._∷_ 58 (List._∷_ 104 (List._∷_ 101 (List._∷_ 108 (List._∷_ 100 (List._∷_ 58 (List._∷_ 58 (List._∷_ 72 (List._∷_ 101 (List._∷_ 108 (List._∷_ 100 List.[]))))))))))))))))) (Syntax.tcons (Syntax.tyStruct (List._∷_ 112 (List._∷_ 121 (List._∷_ 114 (List._∷_ 97 (List._∷_ 109 (List._∷_ 105 (List._∷_ 100 (List._∷_ 58 (List._∷_ 58 (List._∷_ 83 (List._∷_ 116 (List._∷_ 97 (List._∷_ 116 (List._∷_ 101 List.[])))))))))))))) (Syntax.tcons (Syntax.tyInt Syntax.w32) (Syntax.tcons (Syntax.tyInt Syntax.w32) (Syntax.tcons (Syntax.tyInt Syntax.w32) (Syntax.tcons (Syntax.tyArray (Syntax.tyInt Syntax.w32) 64) Syntax.tnil))))) (Syntax.tcons (Syntax.tyInt Syntax.w64) (Syntax.tcons (Syntax.tyInt Syntax.w64) (Syntax.tcons (Syntax.tyInt Syntax.w64) (Syntax.tcons (Syntax.tyInt Syntax.w64) (Syntax.tcons (Syntax.tyInt Syntax.w64) (Syntax.tcons (Syntax.tyInt Syntax.w64) (Syntax.tcons Syntax.tyBool Syntax.tnil)))))))))) (List._∷_ (12, Rows.sc-here (Row.sInt Syntax.w64)) (List._∷_ (13, Rows.any-gone (Syntax.tyInt Syntax.w64)) (List._∷_ (14, Rows.any-gone (Syntax.tyStruct (List._∷_ 122 (List._∷_ 111 (List._∷_ 110 (List._∷_ 101 (List._∷_ 115 (List._∷_ 58 (List._∷_ 58 (List._∷_ 115 (List._∷_ 99 (List._∷_ 97 (List._∷_ 110 (List._∷_ 58 (List._∷_ 58 (List._∷_ 76 (List._∷_ 105 (List._∷_ 110 (List._∷_ 101 List.[]))))))))))))))))) (Syntax.tcons (Syntax.tyInt Syntax.w32) (Syntax.tcons (Syntax.tyInt Syntax.w64) (Syntax.tcons (Syntax.tyInt Syntax.w64) (Syntax.tcons (Syntax.tyInt Syntax.w64) (Syntax.tcons (Syntax.tyInt Syntax.w64) Syntax.tnil))))))) (List._∷_ (15, Rows.any-gone (Syntax.tyInt Syntax.w64)) List.[])))))))))))))))
+t59 = List._∷_ (0, Rows.sc-here Row.sUnit) (List._∷_ (1, Rows.sslice (Referent.rtF (Referent.fInt Syntax.w8)) (Syntax.tyRef (Syntax.named 0) Syntax.imm (Syntax.tyInt Syntax.w8)) 0) (List._∷_ (2, Rows.mref (Array.Array (Referent.rtF (Referent.fInt Syntax.w32)) 32772) (Syntax.tyRef (Syntax.named 1) Syntax.mut (Syntax.tyArray (Syntax.tyInt Syntax.w32) 32772)) 1) (List._∷_ (3, Rows.mref (Array.Array (Referent.rtF (Referent.fInt Syntax.w8)) 16388) (Syntax.tyRef (Syntax.named 2) Syntax.mut (Syntax.tyArray (Syntax.tyInt Syntax.w8) 16388)) 2) (List._∷_ (4, Rows.mref (Array.Array (Referent.rtF (Referent.fInt Syntax.w32)) 65540) (Syntax.tyRef (Syntax.named 3) Syntax.mut (Syntax.tyArray (Syntax.tyInt Syntax.w32) 65540)) 3) (List._∷_ (5, Rows.mref (Array.Array (Referent.rtF (Referent.fInt Syntax.w32)) 32772) (Syntax.tyRef (Syntax.named 4) Syntax.mut (Syntax.tyArray (Syntax.tyInt Syntax.w32) 32772)) 4) (List._∷_ (6, Rows.mref (Array.Array (Referent.rtF (Referent.fInt Syntax.w32)) 32772) (Syntax.tyRef (Syntax.named 5) Syntax.mut (Syntax.tyArray (Syntax.tyInt Syntax.w32) 32772)) 5) (List._∷_ (7, Rows.mref (Array.Array (Referent.rtF (Referent.fInt Syntax.w32)) 262160) (Syntax.tyRef (Syntax.named 6) Syntax.mut (Syntax.tyArray (Syntax.tyInt Syntax.w32) 262160)) 6) (List._∷_ (8, Rows.mref (Array.Array (Referent.rtF (Referent.fInt Syntax.w8)) 600000) (Syntax.tyRef (Syntax.named 7) Syntax.mut (Syntax.tyArray (Syntax.tyInt Syntax.w8) 600000)) 7) (List._∷_ (9, Rows.mref (Array.Array Cell.R 65540) (Syntax.tyRef (Syntax.named 8) Syntax.mut (Syntax.tyArray Cell.behind 65540)) 8) (List._∷_ (10, Rows.mref (Array.Array Cell.R 32772) (Syntax.tyRef (Syntax.named 9) Syntax.mut (Syntax.tyArray Cell.behind 32772)) 9) (List._∷_ (11, Rows.any-gone (Syntax.tyStruct (List._∷_ 122 (List._∷_ 111 (List._∷_ 110 (List._∷_ 101 (List._∷_ 115 (List._∷_ 58 (List._∷_ 58 (List._∷_ 104 (List._∷_ 101 (List._∷_ 108 (List._∷_ 100 (List._∷_ 58 (List._∷_ 58 (List._∷_ 72 (List._∷_ 101 (List._∷_ 108 (List._∷_ 100 List.[]))))))))))))))))) (Syntax.tcons (Syntax.tyStruct (List._∷_ 112 (List._∷_ 121 (List._∷_ 114 (List._∷_ 97 (List._∷_ 109 (List._∷_ 105 (List._∷_ 100 (List._∷_ 58 (List._∷_ 58 (List._∷_ 83 (List._∷_ 116 (List._∷_ 97 (List._∷_ 116 (List._∷_ 101 List.[])))))))))))))) (Syntax.tcons (Syntax.tyInt Syntax.w32) (Syntax.tcons (Syntax.tyInt Syntax.w32) (Syntax.tcons (Syntax.tyInt Syntax.w32) (Syntax.tcons (Syntax.tyInt Syntax.w32) (Syntax.tcons (Syntax.tyInt Syntax.w32) (Syntax.tcons (Syntax.tyArray (Syntax.tyInt Syntax.w32) 64) Syntax.tnil))))))) (Syntax.tcons (Syntax.tyInt Syntax.w64) (Syntax.tcons (Syntax.tyInt Syntax.w64) (Syntax.tcons (Syntax.tyInt Syntax.w64) (Syntax.tcons (Syntax.tyInt Syntax.w64) (Syntax.tcons (Syntax.tyInt Syntax.w64) (Syntax.tcons (Syntax.tyInt Syntax.w64) (Syntax.tcons Syntax.tyBool Syntax.tnil)))))))))) (List._∷_ (12, Rows.sc-here (Row.sInt Syntax.w64)) (List._∷_ (13, Rows.any-gone (Syntax.tyInt Syntax.w64)) (List._∷_ (14, Rows.any-gone (Syntax.tyStruct (List._∷_ 122 (List._∷_ 111 (List._∷_ 110 (List._∷_ 101 (List._∷_ 115 (List._∷_ 58 (List._∷_ 58 (List._∷_ 115 (List._∷_ 99 (List._∷_ 97 (List._∷_ 110 (List._∷_ 58 (List._∷_ 58 (List._∷_ 76 (List._∷_ 105 (List._∷_ 110 (List._∷_ 101 List.[]))))))))))))))))) (Syntax.tcons (Syntax.tyInt Syntax.w32) (Syntax.tcons (Syntax.tyInt Syntax.w64) (Syntax.tcons (Syntax.tyInt Syntax.w64) (Syntax.tcons (Syntax.tyInt Syntax.w64) (Syntax.tcons (Syntax.tyInt Syntax.w64) Syntax.tnil))))))) (List._∷_ (15, Rows.any-gone (Syntax.tyInt Syntax.w64)) List.[])))))))))))))))
 
 abbrev pub T0 : Row.Cx
 T0 = record { locals = List._++_ t0 t1; slots = List.[] }
@@ -723,7 +723,7 @@ module _ (claims· : Claims) where
   s0 = Know.k-shs-known (Referent.fInt Syntax.w8) T0 1 0 (Syntax.tyRef (Syntax.named 0) Syntax.imm (Syntax.tyInt Syntax.w8)) Row.off 0 λ x. x
 
   abbrev s1 : Typed.Both T2 T3
-  s1 = Call.callB ps·0 r·0 (claims· .0) (claims· .1) T2 tt 11 List.[] (Syntax.tyStruct (List._∷_ 122 (List._∷_ 111 (List._∷_ 110 (List._∷_ 101 (List._∷_ 115 (List._∷_ 58 (List._∷_ 58 (List._∷_ 104 (List._∷_ 101 (List._∷_ 108 (List._∷_ 100 (List._∷_ 58 (List._∷_ 58 (List._∷_ 72 (List._∷_ 101 (List._∷_ 108 (List._∷_ 100 List.[]))))))))))))))))) (Syntax.tcons (Syntax.tyStruct (List._∷_ 112 (List._∷_ 121 (List._∷_ 114 (List._∷_ 97 (List._∷_ 109 (List._∷_ 105 (List._∷_ 100 (List._∷_ 58 (List._∷_ 58 (List._∷_ 83 (List._∷_ 116 (List._∷_ 97 (List._∷_ 116 (List._∷_ 101 List.[])))))))))))))) (Syntax.tcons (Syntax.tyInt Syntax.w32) (Syntax.tcons (Syntax.tyInt Syntax.w32) (Syntax.tcons (Syntax.tyInt Syntax.w32) (Syntax.tcons (Syntax.tyArray (Syntax.tyInt Syntax.w32) 64) Syntax.tnil))))) (Syntax.tcons (Syntax.tyInt Syntax.w64) (Syntax.tcons (Syntax.tyInt Syntax.w64) (Syntax.tcons (Syntax.tyInt Syntax.w64) (Syntax.tcons (Syntax.tyInt Syntax.w64) (Syntax.tcons (Syntax.tyInt Syntax.w64) (Syntax.tcons (Syntax.tyInt Syntax.w64) (Syntax.tcons Syntax.tyBool Syntax.tnil)))))))))
+  s1 = Call.callB ps·0 r·0 (claims· .0) (claims· .1) T2 tt 11 List.[] (Syntax.tyStruct (List._∷_ 122 (List._∷_ 111 (List._∷_ 110 (List._∷_ 101 (List._∷_ 115 (List._∷_ 58 (List._∷_ 58 (List._∷_ 104 (List._∷_ 101 (List._∷_ 108 (List._∷_ 100 (List._∷_ 58 (List._∷_ 58 (List._∷_ 72 (List._∷_ 101 (List._∷_ 108 (List._∷_ 100 List.[]))))))))))))))))) (Syntax.tcons (Syntax.tyStruct (List._∷_ 112 (List._∷_ 121 (List._∷_ 114 (List._∷_ 97 (List._∷_ 109 (List._∷_ 105 (List._∷_ 100 (List._∷_ 58 (List._∷_ 58 (List._∷_ 83 (List._∷_ 116 (List._∷_ 97 (List._∷_ 116 (List._∷_ 101 List.[])))))))))))))) (Syntax.tcons (Syntax.tyInt Syntax.w32) (Syntax.tcons (Syntax.tyInt Syntax.w32) (Syntax.tcons (Syntax.tyInt Syntax.w32) (Syntax.tcons (Syntax.tyInt Syntax.w32) (Syntax.tcons (Syntax.tyInt Syntax.w32) (Syntax.tcons (Syntax.tyArray (Syntax.tyInt Syntax.w32) 64) Syntax.tnil))))))) (Syntax.tcons (Syntax.tyInt Syntax.w64) (Syntax.tcons (Syntax.tyInt Syntax.w64) (Syntax.tcons (Syntax.tyInt Syntax.w64) (Syntax.tcons (Syntax.tyInt Syntax.w64) (Syntax.tcons (Syntax.tyInt Syntax.w64) (Syntax.tcons (Syntax.tyInt Syntax.w64) (Syntax.tcons Syntax.tyBool Syntax.tnil)))))))))
 
   abbrev s2 : Typed.Mo T3 → Typed.Mo T4
   s2 = Scalar.n-use T3 (Scalar.oInt Syntax.w64 0) 12 (Rows.sc-here (Row.sInt Syntax.w64)) (Row.sInt Syntax.w64 .of)
@@ -741,7 +741,7 @@ module _ (claims· : Claims) where
   s6 = Scalar.n-room T8 16 Syntax.tyBool
 
   abbrev s7 : Typed.Mo T8 → Typed.Mo T11
-  s7 = Scalar.n-room T8 11 (Syntax.tyStruct (List._∷_ 122 (List._∷_ 111 (List._∷_ 110 (List._∷_ 101 (List._∷_ 115 (List._∷_ 58 (List._∷_ 58 (List._∷_ 104 (List._∷_ 101 (List._∷_ 108 (List._∷_ 100 (List._∷_ 58 (List._∷_ 58 (List._∷_ 72 (List._∷_ 101 (List._∷_ 108 (List._∷_ 100 List.[]))))))))))))))))) (Syntax.tcons (Syntax.tyStruct (List._∷_ 112 (List._∷_ 121 (List._∷_ 114 (List._∷_ 97 (List._∷_ 109 (List._∷_ 105 (List._∷_ 100 (List._∷_ 58 (List._∷_ 58 (List._∷_ 83 (List._∷_ 116 (List._∷_ 97 (List._∷_ 116 (List._∷_ 101 List.[])))))))))))))) (Syntax.tcons (Syntax.tyInt Syntax.w32) (Syntax.tcons (Syntax.tyInt Syntax.w32) (Syntax.tcons (Syntax.tyInt Syntax.w32) (Syntax.tcons (Syntax.tyArray (Syntax.tyInt Syntax.w32) 64) Syntax.tnil))))) (Syntax.tcons (Syntax.tyInt Syntax.w64) (Syntax.tcons (Syntax.tyInt Syntax.w64) (Syntax.tcons (Syntax.tyInt Syntax.w64) (Syntax.tcons (Syntax.tyInt Syntax.w64) (Syntax.tcons (Syntax.tyInt Syntax.w64) (Syntax.tcons (Syntax.tyInt Syntax.w64) (Syntax.tcons Syntax.tyBool Syntax.tnil)))))))))
+  s7 = Scalar.n-room T8 11 (Syntax.tyStruct (List._∷_ 122 (List._∷_ 111 (List._∷_ 110 (List._∷_ 101 (List._∷_ 115 (List._∷_ 58 (List._∷_ 58 (List._∷_ 104 (List._∷_ 101 (List._∷_ 108 (List._∷_ 100 (List._∷_ 58 (List._∷_ 58 (List._∷_ 72 (List._∷_ 101 (List._∷_ 108 (List._∷_ 100 List.[]))))))))))))))))) (Syntax.tcons (Syntax.tyStruct (List._∷_ 112 (List._∷_ 121 (List._∷_ 114 (List._∷_ 97 (List._∷_ 109 (List._∷_ 105 (List._∷_ 100 (List._∷_ 58 (List._∷_ 58 (List._∷_ 83 (List._∷_ 116 (List._∷_ 97 (List._∷_ 116 (List._∷_ 101 List.[])))))))))))))) (Syntax.tcons (Syntax.tyInt Syntax.w32) (Syntax.tcons (Syntax.tyInt Syntax.w32) (Syntax.tcons (Syntax.tyInt Syntax.w32) (Syntax.tcons (Syntax.tyInt Syntax.w32) (Syntax.tcons (Syntax.tyInt Syntax.w32) (Syntax.tcons (Syntax.tyArray (Syntax.tyInt Syntax.w32) 64) Syntax.tnil))))))) (Syntax.tcons (Syntax.tyInt Syntax.w64) (Syntax.tcons (Syntax.tyInt Syntax.w64) (Syntax.tcons (Syntax.tyInt Syntax.w64) (Syntax.tcons (Syntax.tyInt Syntax.w64) (Syntax.tcons (Syntax.tyInt Syntax.w64) (Syntax.tcons (Syntax.tyInt Syntax.w64) (Syntax.tcons Syntax.tyBool Syntax.tnil)))))))))
 
   abbrev s8 : Typed.Mo T11 → Typed.Mo T12
   s8 = Scalar.n-room T11 15 (Syntax.tyInt Syntax.w64)
@@ -762,7 +762,7 @@ module _ (claims· : Claims) where
   s13 = Scalar.n-room T16 17 (Syntax.tyInt Syntax.w64)
 
   abbrev s14 : Typed.Mo T18 → Typed.Mo T19
-  s14 = Scalar.n-room T18 11 (Syntax.tyStruct (List._∷_ 122 (List._∷_ 111 (List._∷_ 110 (List._∷_ 101 (List._∷_ 115 (List._∷_ 58 (List._∷_ 58 (List._∷_ 104 (List._∷_ 101 (List._∷_ 108 (List._∷_ 100 (List._∷_ 58 (List._∷_ 58 (List._∷_ 72 (List._∷_ 101 (List._∷_ 108 (List._∷_ 100 List.[]))))))))))))))))) (Syntax.tcons (Syntax.tyStruct (List._∷_ 112 (List._∷_ 121 (List._∷_ 114 (List._∷_ 97 (List._∷_ 109 (List._∷_ 105 (List._∷_ 100 (List._∷_ 58 (List._∷_ 58 (List._∷_ 83 (List._∷_ 116 (List._∷_ 97 (List._∷_ 116 (List._∷_ 101 List.[])))))))))))))) (Syntax.tcons (Syntax.tyInt Syntax.w32) (Syntax.tcons (Syntax.tyInt Syntax.w32) (Syntax.tcons (Syntax.tyInt Syntax.w32) (Syntax.tcons (Syntax.tyArray (Syntax.tyInt Syntax.w32) 64) Syntax.tnil))))) (Syntax.tcons (Syntax.tyInt Syntax.w64) (Syntax.tcons (Syntax.tyInt Syntax.w64) (Syntax.tcons (Syntax.tyInt Syntax.w64) (Syntax.tcons (Syntax.tyInt Syntax.w64) (Syntax.tcons (Syntax.tyInt Syntax.w64) (Syntax.tcons (Syntax.tyInt Syntax.w64) (Syntax.tcons Syntax.tyBool Syntax.tnil)))))))))
+  s14 = Scalar.n-room T18 11 (Syntax.tyStruct (List._∷_ 122 (List._∷_ 111 (List._∷_ 110 (List._∷_ 101 (List._∷_ 115 (List._∷_ 58 (List._∷_ 58 (List._∷_ 104 (List._∷_ 101 (List._∷_ 108 (List._∷_ 100 (List._∷_ 58 (List._∷_ 58 (List._∷_ 72 (List._∷_ 101 (List._∷_ 108 (List._∷_ 100 List.[]))))))))))))))))) (Syntax.tcons (Syntax.tyStruct (List._∷_ 112 (List._∷_ 121 (List._∷_ 114 (List._∷_ 97 (List._∷_ 109 (List._∷_ 105 (List._∷_ 100 (List._∷_ 58 (List._∷_ 58 (List._∷_ 83 (List._∷_ 116 (List._∷_ 97 (List._∷_ 116 (List._∷_ 101 List.[])))))))))))))) (Syntax.tcons (Syntax.tyInt Syntax.w32) (Syntax.tcons (Syntax.tyInt Syntax.w32) (Syntax.tcons (Syntax.tyInt Syntax.w32) (Syntax.tcons (Syntax.tyInt Syntax.w32) (Syntax.tcons (Syntax.tyInt Syntax.w32) (Syntax.tcons (Syntax.tyArray (Syntax.tyInt Syntax.w32) 64) Syntax.tnil))))))) (Syntax.tcons (Syntax.tyInt Syntax.w64) (Syntax.tcons (Syntax.tyInt Syntax.w64) (Syntax.tcons (Syntax.tyInt Syntax.w64) (Syntax.tcons (Syntax.tyInt Syntax.w64) (Syntax.tcons (Syntax.tyInt Syntax.w64) (Syntax.tcons (Syntax.tyInt Syntax.w64) (Syntax.tcons Syntax.tyBool Syntax.tnil)))))))))
 
   abbrev s15 : Typed.Mo T19 → Typed.Mo T20
   s15 = Scalar.n-room T19 15 (Syntax.tyInt Syntax.w64)
@@ -819,7 +819,7 @@ module _ (claims· : Claims) where
   s44 = Reborrow.k-mref-relend T47 10 27 9 19 (Array.Array Cell.R 32772) (Syntax.tyRef (Syntax.named 9) Syntax.mut (Syntax.tyArray Cell.behind 32772)) (Syntax.tyRef Syntax.erased Syntax.mut (Syntax.tyArray Cell.behind 32772)) Row.off List.[] λ x. x
 
   abbrev s45 : Typed.Both T49 T50
-  s45 = Call.callB ps·2 r·2 (claims· .4) (claims· .5) T49 (record { pos = 11; st = List.[]; d = 0; at = λ x. x }, (record { pos = 14; st = List.[]; d = 0; at = λ x. x }, (record { pos = 1; ty = Syntax.tyRef (Syntax.named 0) Syntax.imm (Syntax.tyInt Syntax.w8); ref = λ x. x }, (record { pos = 19; ty = Syntax.tyRef Syntax.erased Syntax.imm (Syntax.tyArray (Syntax.tyInt Syntax.w32) 32772); ref = λ x. x }, (record { pos = 20; ty = Syntax.tyRef Syntax.erased Syntax.mut (Syntax.tyArray (Syntax.tyInt Syntax.w8) 16388); ref = λ x. x }, (record { pos = 21; ty = Syntax.tyRef Syntax.erased Syntax.mut (Syntax.tyArray (Syntax.tyInt Syntax.w32) 65540); ref = λ x. x }, (record { pos = 22; ty = Syntax.tyRef Syntax.erased Syntax.mut (Syntax.tyArray (Syntax.tyInt Syntax.w32) 32772); ref = λ x. x }, (record { pos = 23; ty = Syntax.tyRef Syntax.erased Syntax.mut (Syntax.tyArray (Syntax.tyInt Syntax.w32) 32772); ref = λ x. x }, (record { pos = 24; ty = Syntax.tyRef Syntax.erased Syntax.mut (Syntax.tyArray (Syntax.tyInt Syntax.w32) 262160); ref = λ x. x }, (record { pos = 25; ty = Syntax.tyRef Syntax.erased Syntax.mut (Syntax.tyArray (Syntax.tyInt Syntax.w8) 600000); ref = λ x. x }, (record { pos = 26; ty = Syntax.tyRef Syntax.erased Syntax.mut (Syntax.tyArray Cell.behind 65540); ref = λ x. x }, (record { pos = 27; ty = Syntax.tyRef Syntax.erased Syntax.mut (Syntax.tyArray Cell.behind 32772); ref = λ x. x }, tt)))))))))))) 11 (List._∷_ 0 (List._∷_ 11 (List._∷_ 12 (List._∷_ 13 (List._∷_ 14 (List._∷_ 15 (List._∷_ 16 (List._∷_ 17 (List._∷_ 18 (List._∷_ 19 List.[])))))))))) (Syntax.tyStruct (List._∷_ 122 (List._∷_ 111 (List._∷_ 110 (List._∷_ 101 (List._∷_ 115 (List._∷_ 58 (List._∷_ 58 (List._∷_ 104 (List._∷_ 101 (List._∷_ 108 (List._∷_ 100 (List._∷_ 58 (List._∷_ 58 (List._∷_ 72 (List._∷_ 101 (List._∷_ 108 (List._∷_ 100 List.[]))))))))))))))))) (Syntax.tcons (Syntax.tyStruct (List._∷_ 112 (List._∷_ 121 (List._∷_ 114 (List._∷_ 97 (List._∷_ 109 (List._∷_ 105 (List._∷_ 100 (List._∷_ 58 (List._∷_ 58 (List._∷_ 83 (List._∷_ 116 (List._∷_ 97 (List._∷_ 116 (List._∷_ 101 List.[])))))))))))))) (Syntax.tcons (Syntax.tyInt Syntax.w32) (Syntax.tcons (Syntax.tyInt Syntax.w32) (Syntax.tcons (Syntax.tyInt Syntax.w32) (Syntax.tcons (Syntax.tyArray (Syntax.tyInt Syntax.w32) 64) Syntax.tnil))))) (Syntax.tcons (Syntax.tyInt Syntax.w64) (Syntax.tcons (Syntax.tyInt Syntax.w64) (Syntax.tcons (Syntax.tyInt Syntax.w64) (Syntax.tcons (Syntax.tyInt Syntax.w64) (Syntax.tcons (Syntax.tyInt Syntax.w64) (Syntax.tcons (Syntax.tyInt Syntax.w64) (Syntax.tcons Syntax.tyBool Syntax.tnil)))))))))
+  s45 = Call.callB ps·2 r·2 (claims· .4) (claims· .5) T49 (record { pos = 11; st = List.[]; d = 0; at = λ x. x }, (record { pos = 14; st = List.[]; d = 0; at = λ x. x }, (record { pos = 1; ty = Syntax.tyRef (Syntax.named 0) Syntax.imm (Syntax.tyInt Syntax.w8); ref = λ x. x }, (record { pos = 19; ty = Syntax.tyRef Syntax.erased Syntax.imm (Syntax.tyArray (Syntax.tyInt Syntax.w32) 32772); ref = λ x. x }, (record { pos = 20; ty = Syntax.tyRef Syntax.erased Syntax.mut (Syntax.tyArray (Syntax.tyInt Syntax.w8) 16388); ref = λ x. x }, (record { pos = 21; ty = Syntax.tyRef Syntax.erased Syntax.mut (Syntax.tyArray (Syntax.tyInt Syntax.w32) 65540); ref = λ x. x }, (record { pos = 22; ty = Syntax.tyRef Syntax.erased Syntax.mut (Syntax.tyArray (Syntax.tyInt Syntax.w32) 32772); ref = λ x. x }, (record { pos = 23; ty = Syntax.tyRef Syntax.erased Syntax.mut (Syntax.tyArray (Syntax.tyInt Syntax.w32) 32772); ref = λ x. x }, (record { pos = 24; ty = Syntax.tyRef Syntax.erased Syntax.mut (Syntax.tyArray (Syntax.tyInt Syntax.w32) 262160); ref = λ x. x }, (record { pos = 25; ty = Syntax.tyRef Syntax.erased Syntax.mut (Syntax.tyArray (Syntax.tyInt Syntax.w8) 600000); ref = λ x. x }, (record { pos = 26; ty = Syntax.tyRef Syntax.erased Syntax.mut (Syntax.tyArray Cell.behind 65540); ref = λ x. x }, (record { pos = 27; ty = Syntax.tyRef Syntax.erased Syntax.mut (Syntax.tyArray Cell.behind 32772); ref = λ x. x }, tt)))))))))))) 11 (List._∷_ 0 (List._∷_ 11 (List._∷_ 12 (List._∷_ 13 (List._∷_ 14 (List._∷_ 15 (List._∷_ 16 (List._∷_ 17 (List._∷_ 18 (List._∷_ 19 List.[])))))))))) (Syntax.tyStruct (List._∷_ 122 (List._∷_ 111 (List._∷_ 110 (List._∷_ 101 (List._∷_ 115 (List._∷_ 58 (List._∷_ 58 (List._∷_ 104 (List._∷_ 101 (List._∷_ 108 (List._∷_ 100 (List._∷_ 58 (List._∷_ 58 (List._∷_ 72 (List._∷_ 101 (List._∷_ 108 (List._∷_ 100 List.[]))))))))))))))))) (Syntax.tcons (Syntax.tyStruct (List._∷_ 112 (List._∷_ 121 (List._∷_ 114 (List._∷_ 97 (List._∷_ 109 (List._∷_ 105 (List._∷_ 100 (List._∷_ 58 (List._∷_ 58 (List._∷_ 83 (List._∷_ 116 (List._∷_ 97 (List._∷_ 116 (List._∷_ 101 List.[])))))))))))))) (Syntax.tcons (Syntax.tyInt Syntax.w32) (Syntax.tcons (Syntax.tyInt Syntax.w32) (Syntax.tcons (Syntax.tyInt Syntax.w32) (Syntax.tcons (Syntax.tyInt Syntax.w32) (Syntax.tcons (Syntax.tyInt Syntax.w32) (Syntax.tcons (Syntax.tyArray (Syntax.tyInt Syntax.w32) 64) Syntax.tnil))))))) (Syntax.tcons (Syntax.tyInt Syntax.w64) (Syntax.tcons (Syntax.tyInt Syntax.w64) (Syntax.tcons (Syntax.tyInt Syntax.w64) (Syntax.tcons (Syntax.tyInt Syntax.w64) (Syntax.tcons (Syntax.tyInt Syntax.w64) (Syntax.tcons (Syntax.tyInt Syntax.w64) (Syntax.tcons Syntax.tyBool Syntax.tnil)))))))))
 
   abbrev s46 : Typed.Mo T50 → Typed.Mo T51
   s46 = Scalar.n-room T50 19 (Syntax.tyRef Syntax.erased Syntax.imm (Syntax.tyArray (Syntax.tyInt Syntax.w32) 32772))
@@ -852,10 +852,10 @@ module _ (claims· : Claims) where
   s72 = Reborrow.k-back-mref T74 27 10 9 (Array.Array Cell.R 32772) (Syntax.tyRef (Syntax.named 9) Syntax.mut (Syntax.tyArray Cell.behind 32772)) (Syntax.tyRef Syntax.erased Syntax.mut (Syntax.tyArray Cell.behind 32772)) List.[] (λ x. x) λ x. x
 
   abbrev s74 : Typed.Mo T77 → Typed.Mo T79
-  s74 = Scalar.n-use T77 (Scalar.oFld 11 (List._∷_ (Syntax.field 7) List.[]) Syntax.tyBool 320 (Reads.fieldV Held.the-type Laws.the-laws 7)) 16 (Rows.sc-here Row.sBool) (Row.sBool .of)
+  s74 = Scalar.n-use T77 (Scalar.oFld 11 (List._∷_ (Syntax.field 7) List.[]) Syntax.tyBool 328 (Reads.fieldV Held.the-type Laws.the-laws 7)) 16 (Rows.sc-here Row.sBool) (Row.sBool .of)
 
   abbrev s75 : Typed.Mo T79 → Typed.Mo T81
-  s75 = Scalar.n-room T79 11 (Syntax.tyStruct (List._∷_ 122 (List._∷_ 111 (List._∷_ 110 (List._∷_ 101 (List._∷_ 115 (List._∷_ 58 (List._∷_ 58 (List._∷_ 104 (List._∷_ 101 (List._∷_ 108 (List._∷_ 100 (List._∷_ 58 (List._∷_ 58 (List._∷_ 72 (List._∷_ 101 (List._∷_ 108 (List._∷_ 100 List.[]))))))))))))))))) (Syntax.tcons (Syntax.tyStruct (List._∷_ 112 (List._∷_ 121 (List._∷_ 114 (List._∷_ 97 (List._∷_ 109 (List._∷_ 105 (List._∷_ 100 (List._∷_ 58 (List._∷_ 58 (List._∷_ 83 (List._∷_ 116 (List._∷_ 97 (List._∷_ 116 (List._∷_ 101 List.[])))))))))))))) (Syntax.tcons (Syntax.tyInt Syntax.w32) (Syntax.tcons (Syntax.tyInt Syntax.w32) (Syntax.tcons (Syntax.tyInt Syntax.w32) (Syntax.tcons (Syntax.tyArray (Syntax.tyInt Syntax.w32) 64) Syntax.tnil))))) (Syntax.tcons (Syntax.tyInt Syntax.w64) (Syntax.tcons (Syntax.tyInt Syntax.w64) (Syntax.tcons (Syntax.tyInt Syntax.w64) (Syntax.tcons (Syntax.tyInt Syntax.w64) (Syntax.tcons (Syntax.tyInt Syntax.w64) (Syntax.tcons (Syntax.tyInt Syntax.w64) (Syntax.tcons Syntax.tyBool Syntax.tnil)))))))))
+  s75 = Scalar.n-room T79 11 (Syntax.tyStruct (List._∷_ 122 (List._∷_ 111 (List._∷_ 110 (List._∷_ 101 (List._∷_ 115 (List._∷_ 58 (List._∷_ 58 (List._∷_ 104 (List._∷_ 101 (List._∷_ 108 (List._∷_ 100 (List._∷_ 58 (List._∷_ 58 (List._∷_ 72 (List._∷_ 101 (List._∷_ 108 (List._∷_ 100 List.[]))))))))))))))))) (Syntax.tcons (Syntax.tyStruct (List._∷_ 112 (List._∷_ 121 (List._∷_ 114 (List._∷_ 97 (List._∷_ 109 (List._∷_ 105 (List._∷_ 100 (List._∷_ 58 (List._∷_ 58 (List._∷_ 83 (List._∷_ 116 (List._∷_ 97 (List._∷_ 116 (List._∷_ 101 List.[])))))))))))))) (Syntax.tcons (Syntax.tyInt Syntax.w32) (Syntax.tcons (Syntax.tyInt Syntax.w32) (Syntax.tcons (Syntax.tyInt Syntax.w32) (Syntax.tcons (Syntax.tyInt Syntax.w32) (Syntax.tcons (Syntax.tyInt Syntax.w32) (Syntax.tcons (Syntax.tyArray (Syntax.tyInt Syntax.w32) 64) Syntax.tnil))))))) (Syntax.tcons (Syntax.tyInt Syntax.w64) (Syntax.tcons (Syntax.tyInt Syntax.w64) (Syntax.tcons (Syntax.tyInt Syntax.w64) (Syntax.tcons (Syntax.tyInt Syntax.w64) (Syntax.tcons (Syntax.tyInt Syntax.w64) (Syntax.tcons (Syntax.tyInt Syntax.w64) (Syntax.tcons Syntax.tyBool Syntax.tnil)))))))))
 
   abbrev s76 : Typed.Mo T81 → Typed.Mo T82
   s76 = Scalar.n-room T81 14 (Syntax.tyStruct (List._∷_ 122 (List._∷_ 111 (List._∷_ 110 (List._∷_ 101 (List._∷_ 115 (List._∷_ 58 (List._∷_ 58 (List._∷_ 115 (List._∷_ 99 (List._∷_ 97 (List._∷_ 110 (List._∷_ 58 (List._∷_ 58 (List._∷_ 76 (List._∷_ 105 (List._∷_ 110 (List._∷_ 101 List.[]))))))))))))))))) (Syntax.tcons (Syntax.tyInt Syntax.w32) (Syntax.tcons (Syntax.tyInt Syntax.w64) (Syntax.tcons (Syntax.tyInt Syntax.w64) (Syntax.tcons (Syntax.tyInt Syntax.w64) (Syntax.tcons (Syntax.tyInt Syntax.w64) Syntax.tnil))))))
@@ -1650,7 +1650,7 @@ module _ (claims· : Claims) where
           d5 = Typed.g-pre 𝓤 H A W 𝓣 E G11 G12 b6 Δ4 (Typed.pass T11 T12 s8) at4 (Scalar.g-room 𝓤 H A W E G11 15 (Syntax.tyInt Syntax.w64) (Scalar.room-sc 𝓤 H A W (Row.sInt Syntax.w64))) d4
 
           d6 : Typed.Typed 𝓤 H A 𝓣 E G8 b6 Δ4 at6
-          d6 = Typed.g-pre 𝓤 H A W 𝓣 E G8 G11 b6 Δ4 (Typed.pass T8 T11 s7) at5 (Scalar.g-room 𝓤 H A W E G8 11 (Syntax.tyStruct (List._∷_ 122 (List._∷_ 111 (List._∷_ 110 (List._∷_ 101 (List._∷_ 115 (List._∷_ 58 (List._∷_ 58 (List._∷_ 104 (List._∷_ 101 (List._∷_ 108 (List._∷_ 100 (List._∷_ 58 (List._∷_ 58 (List._∷_ 72 (List._∷_ 101 (List._∷_ 108 (List._∷_ 100 List.[]))))))))))))))))) (Syntax.tcons (Syntax.tyStruct (List._∷_ 112 (List._∷_ 121 (List._∷_ 114 (List._∷_ 97 (List._∷_ 109 (List._∷_ 105 (List._∷_ 100 (List._∷_ 58 (List._∷_ 58 (List._∷_ 83 (List._∷_ 116 (List._∷_ 97 (List._∷_ 116 (List._∷_ 101 List.[])))))))))))))) (Syntax.tcons (Syntax.tyInt Syntax.w32) (Syntax.tcons (Syntax.tyInt Syntax.w32) (Syntax.tcons (Syntax.tyInt Syntax.w32) (Syntax.tcons (Syntax.tyArray (Syntax.tyInt Syntax.w32) 64) Syntax.tnil))))) (Syntax.tcons (Syntax.tyInt Syntax.w64) (Syntax.tcons (Syntax.tyInt Syntax.w64) (Syntax.tcons (Syntax.tyInt Syntax.w64) (Syntax.tcons (Syntax.tyInt Syntax.w64) (Syntax.tcons (Syntax.tyInt Syntax.w64) (Syntax.tcons (Syntax.tyInt Syntax.w64) (Syntax.tcons Syntax.tyBool Syntax.tnil))))))))) (Local.room-whole 𝓤 H A W (Declared.row Held.the-type) (Syntax.tyStruct (List._∷_ 122 (List._∷_ 111 (List._∷_ 110 (List._∷_ 101 (List._∷_ 115 (List._∷_ 58 (List._∷_ 58 (List._∷_ 104 (List._∷_ 101 (List._∷_ 108 (List._∷_ 100 (List._∷_ 58 (List._∷_ 58 (List._∷_ 72 (List._∷_ 101 (List._∷_ 108 (List._∷_ 100 List.[]))))))))))))))))) (Syntax.tcons (Syntax.tyStruct (List._∷_ 112 (List._∷_ 121 (List._∷_ 114 (List._∷_ 97 (List._∷_ 109 (List._∷_ 105 (List._∷_ 100 (List._∷_ 58 (List._∷_ 58 (List._∷_ 83 (List._∷_ 116 (List._∷_ 97 (List._∷_ 116 (List._∷_ 101 List.[])))))))))))))) (Syntax.tcons (Syntax.tyInt Syntax.w32) (Syntax.tcons (Syntax.tyInt Syntax.w32) (Syntax.tcons (Syntax.tyInt Syntax.w32) (Syntax.tcons (Syntax.tyArray (Syntax.tyInt Syntax.w32) 64) Syntax.tnil))))) (Syntax.tcons (Syntax.tyInt Syntax.w64) (Syntax.tcons (Syntax.tyInt Syntax.w64) (Syntax.tcons (Syntax.tyInt Syntax.w64) (Syntax.tcons (Syntax.tyInt Syntax.w64) (Syntax.tcons (Syntax.tyInt Syntax.w64) (Syntax.tcons (Syntax.tyInt Syntax.w64) (Syntax.tcons Syntax.tyBool Syntax.tnil))))))))) Path'.refl)) d5
+          d6 = Typed.g-pre 𝓤 H A W 𝓣 E G8 G11 b6 Δ4 (Typed.pass T8 T11 s7) at5 (Scalar.g-room 𝓤 H A W E G8 11 (Syntax.tyStruct (List._∷_ 122 (List._∷_ 111 (List._∷_ 110 (List._∷_ 101 (List._∷_ 115 (List._∷_ 58 (List._∷_ 58 (List._∷_ 104 (List._∷_ 101 (List._∷_ 108 (List._∷_ 100 (List._∷_ 58 (List._∷_ 58 (List._∷_ 72 (List._∷_ 101 (List._∷_ 108 (List._∷_ 100 List.[]))))))))))))))))) (Syntax.tcons (Syntax.tyStruct (List._∷_ 112 (List._∷_ 121 (List._∷_ 114 (List._∷_ 97 (List._∷_ 109 (List._∷_ 105 (List._∷_ 100 (List._∷_ 58 (List._∷_ 58 (List._∷_ 83 (List._∷_ 116 (List._∷_ 97 (List._∷_ 116 (List._∷_ 101 List.[])))))))))))))) (Syntax.tcons (Syntax.tyInt Syntax.w32) (Syntax.tcons (Syntax.tyInt Syntax.w32) (Syntax.tcons (Syntax.tyInt Syntax.w32) (Syntax.tcons (Syntax.tyInt Syntax.w32) (Syntax.tcons (Syntax.tyInt Syntax.w32) (Syntax.tcons (Syntax.tyArray (Syntax.tyInt Syntax.w32) 64) Syntax.tnil))))))) (Syntax.tcons (Syntax.tyInt Syntax.w64) (Syntax.tcons (Syntax.tyInt Syntax.w64) (Syntax.tcons (Syntax.tyInt Syntax.w64) (Syntax.tcons (Syntax.tyInt Syntax.w64) (Syntax.tcons (Syntax.tyInt Syntax.w64) (Syntax.tcons (Syntax.tyInt Syntax.w64) (Syntax.tcons Syntax.tyBool Syntax.tnil))))))))) (Local.room-whole 𝓤 H A W (Declared.row Held.the-type) (Syntax.tyStruct (List._∷_ 122 (List._∷_ 111 (List._∷_ 110 (List._∷_ 101 (List._∷_ 115 (List._∷_ 58 (List._∷_ 58 (List._∷_ 104 (List._∷_ 101 (List._∷_ 108 (List._∷_ 100 (List._∷_ 58 (List._∷_ 58 (List._∷_ 72 (List._∷_ 101 (List._∷_ 108 (List._∷_ 100 List.[]))))))))))))))))) (Syntax.tcons (Syntax.tyStruct (List._∷_ 112 (List._∷_ 121 (List._∷_ 114 (List._∷_ 97 (List._∷_ 109 (List._∷_ 105 (List._∷_ 100 (List._∷_ 58 (List._∷_ 58 (List._∷_ 83 (List._∷_ 116 (List._∷_ 97 (List._∷_ 116 (List._∷_ 101 List.[])))))))))))))) (Syntax.tcons (Syntax.tyInt Syntax.w32) (Syntax.tcons (Syntax.tyInt Syntax.w32) (Syntax.tcons (Syntax.tyInt Syntax.w32) (Syntax.tcons (Syntax.tyInt Syntax.w32) (Syntax.tcons (Syntax.tyInt Syntax.w32) (Syntax.tcons (Syntax.tyArray (Syntax.tyInt Syntax.w32) 64) Syntax.tnil))))))) (Syntax.tcons (Syntax.tyInt Syntax.w64) (Syntax.tcons (Syntax.tyInt Syntax.w64) (Syntax.tcons (Syntax.tyInt Syntax.w64) (Syntax.tcons (Syntax.tyInt Syntax.w64) (Syntax.tcons (Syntax.tyInt Syntax.w64) (Syntax.tcons (Syntax.tyInt Syntax.w64) (Syntax.tcons Syntax.tyBool Syntax.tnil))))))))) Path'.refl)) d5
 
           d7 : Typed.Typed 𝓤 H A 𝓣 E G8 b7 Δ4 at7
           d7 = Scalar.t-cond 𝓤 H A W E 𝓣 G8 16 (λ x. x) b5 b6 Δ4 at1 at6 (Scalar.reads-sc 𝓤 H A W Row.sBool) Path'.refl d1 d6
@@ -1674,7 +1674,7 @@ module _ (claims· : Claims) where
           d13 = Typed.g-pre 𝓤 H A W 𝓣 E G19 G20 b12 Δ5 (Typed.pass T19 T20 s15) at12 (Scalar.g-room 𝓤 H A W E G19 15 (Syntax.tyInt Syntax.w64) (Scalar.room-sc 𝓤 H A W (Row.sInt Syntax.w64))) d12
 
           d14 : Typed.Typed 𝓤 H A 𝓣 E G18 b12 Δ5 at14
-          d14 = Typed.g-pre 𝓤 H A W 𝓣 E G18 G19 b12 Δ5 (Typed.pass T18 T19 s14) at13 (Scalar.g-room 𝓤 H A W E G18 11 (Syntax.tyStruct (List._∷_ 122 (List._∷_ 111 (List._∷_ 110 (List._∷_ 101 (List._∷_ 115 (List._∷_ 58 (List._∷_ 58 (List._∷_ 104 (List._∷_ 101 (List._∷_ 108 (List._∷_ 100 (List._∷_ 58 (List._∷_ 58 (List._∷_ 72 (List._∷_ 101 (List._∷_ 108 (List._∷_ 100 List.[]))))))))))))))))) (Syntax.tcons (Syntax.tyStruct (List._∷_ 112 (List._∷_ 121 (List._∷_ 114 (List._∷_ 97 (List._∷_ 109 (List._∷_ 105 (List._∷_ 100 (List._∷_ 58 (List._∷_ 58 (List._∷_ 83 (List._∷_ 116 (List._∷_ 97 (List._∷_ 116 (List._∷_ 101 List.[])))))))))))))) (Syntax.tcons (Syntax.tyInt Syntax.w32) (Syntax.tcons (Syntax.tyInt Syntax.w32) (Syntax.tcons (Syntax.tyInt Syntax.w32) (Syntax.tcons (Syntax.tyArray (Syntax.tyInt Syntax.w32) 64) Syntax.tnil))))) (Syntax.tcons (Syntax.tyInt Syntax.w64) (Syntax.tcons (Syntax.tyInt Syntax.w64) (Syntax.tcons (Syntax.tyInt Syntax.w64) (Syntax.tcons (Syntax.tyInt Syntax.w64) (Syntax.tcons (Syntax.tyInt Syntax.w64) (Syntax.tcons (Syntax.tyInt Syntax.w64) (Syntax.tcons Syntax.tyBool Syntax.tnil))))))))) (Local.room-whole 𝓤 H A W (Declared.row Held.the-type) (Syntax.tyStruct (List._∷_ 122 (List._∷_ 111 (List._∷_ 110 (List._∷_ 101 (List._∷_ 115 (List._∷_ 58 (List._∷_ 58 (List._∷_ 104 (List._∷_ 101 (List._∷_ 108 (List._∷_ 100 (List._∷_ 58 (List._∷_ 58 (List._∷_ 72 (List._∷_ 101 (List._∷_ 108 (List._∷_ 100 List.[]))))))))))))))))) (Syntax.tcons (Syntax.tyStruct (List._∷_ 112 (List._∷_ 121 (List._∷_ 114 (List._∷_ 97 (List._∷_ 109 (List._∷_ 105 (List._∷_ 100 (List._∷_ 58 (List._∷_ 58 (List._∷_ 83 (List._∷_ 116 (List._∷_ 97 (List._∷_ 116 (List._∷_ 101 List.[])))))))))))))) (Syntax.tcons (Syntax.tyInt Syntax.w32) (Syntax.tcons (Syntax.tyInt Syntax.w32) (Syntax.tcons (Syntax.tyInt Syntax.w32) (Syntax.tcons (Syntax.tyArray (Syntax.tyInt Syntax.w32) 64) Syntax.tnil))))) (Syntax.tcons (Syntax.tyInt Syntax.w64) (Syntax.tcons (Syntax.tyInt Syntax.w64) (Syntax.tcons (Syntax.tyInt Syntax.w64) (Syntax.tcons (Syntax.tyInt Syntax.w64) (Syntax.tcons (Syntax.tyInt Syntax.w64) (Syntax.tcons (Syntax.tyInt Syntax.w64) (Syntax.tcons Syntax.tyBool Syntax.tnil))))))))) Path'.refl)) d13
+          d14 = Typed.g-pre 𝓤 H A W 𝓣 E G18 G19 b12 Δ5 (Typed.pass T18 T19 s14) at13 (Scalar.g-room 𝓤 H A W E G18 11 (Syntax.tyStruct (List._∷_ 122 (List._∷_ 111 (List._∷_ 110 (List._∷_ 101 (List._∷_ 115 (List._∷_ 58 (List._∷_ 58 (List._∷_ 104 (List._∷_ 101 (List._∷_ 108 (List._∷_ 100 (List._∷_ 58 (List._∷_ 58 (List._∷_ 72 (List._∷_ 101 (List._∷_ 108 (List._∷_ 100 List.[]))))))))))))))))) (Syntax.tcons (Syntax.tyStruct (List._∷_ 112 (List._∷_ 121 (List._∷_ 114 (List._∷_ 97 (List._∷_ 109 (List._∷_ 105 (List._∷_ 100 (List._∷_ 58 (List._∷_ 58 (List._∷_ 83 (List._∷_ 116 (List._∷_ 97 (List._∷_ 116 (List._∷_ 101 List.[])))))))))))))) (Syntax.tcons (Syntax.tyInt Syntax.w32) (Syntax.tcons (Syntax.tyInt Syntax.w32) (Syntax.tcons (Syntax.tyInt Syntax.w32) (Syntax.tcons (Syntax.tyInt Syntax.w32) (Syntax.tcons (Syntax.tyInt Syntax.w32) (Syntax.tcons (Syntax.tyArray (Syntax.tyInt Syntax.w32) 64) Syntax.tnil))))))) (Syntax.tcons (Syntax.tyInt Syntax.w64) (Syntax.tcons (Syntax.tyInt Syntax.w64) (Syntax.tcons (Syntax.tyInt Syntax.w64) (Syntax.tcons (Syntax.tyInt Syntax.w64) (Syntax.tcons (Syntax.tyInt Syntax.w64) (Syntax.tcons (Syntax.tyInt Syntax.w64) (Syntax.tcons Syntax.tyBool Syntax.tnil))))))))) (Local.room-whole 𝓤 H A W (Declared.row Held.the-type) (Syntax.tyStruct (List._∷_ 122 (List._∷_ 111 (List._∷_ 110 (List._∷_ 101 (List._∷_ 115 (List._∷_ 58 (List._∷_ 58 (List._∷_ 104 (List._∷_ 101 (List._∷_ 108 (List._∷_ 100 (List._∷_ 58 (List._∷_ 58 (List._∷_ 72 (List._∷_ 101 (List._∷_ 108 (List._∷_ 100 List.[]))))))))))))))))) (Syntax.tcons (Syntax.tyStruct (List._∷_ 112 (List._∷_ 121 (List._∷_ 114 (List._∷_ 97 (List._∷_ 109 (List._∷_ 105 (List._∷_ 100 (List._∷_ 58 (List._∷_ 58 (List._∷_ 83 (List._∷_ 116 (List._∷_ 97 (List._∷_ 116 (List._∷_ 101 List.[])))))))))))))) (Syntax.tcons (Syntax.tyInt Syntax.w32) (Syntax.tcons (Syntax.tyInt Syntax.w32) (Syntax.tcons (Syntax.tyInt Syntax.w32) (Syntax.tcons (Syntax.tyInt Syntax.w32) (Syntax.tcons (Syntax.tyInt Syntax.w32) (Syntax.tcons (Syntax.tyArray (Syntax.tyInt Syntax.w32) 64) Syntax.tnil))))))) (Syntax.tcons (Syntax.tyInt Syntax.w64) (Syntax.tcons (Syntax.tyInt Syntax.w64) (Syntax.tcons (Syntax.tyInt Syntax.w64) (Syntax.tcons (Syntax.tyInt Syntax.w64) (Syntax.tcons (Syntax.tyInt Syntax.w64) (Syntax.tcons (Syntax.tyInt Syntax.w64) (Syntax.tcons Syntax.tyBool Syntax.tnil))))))))) Path'.refl)) d13
 
           d15 : Typed.Typed 𝓤 H A 𝓣 E G25 b13 Δ5 at15
           d15 = Typed.t-skip 𝓤 H A W 𝓣 E Δ5 tt
@@ -1722,7 +1722,7 @@ module _ (claims· : Claims) where
           d29 = Typed.g-pre 𝓤 H A W 𝓣 E G81 G82 b34 Δ6 (Typed.pass T81 T82 s76) at28 (Scalar.g-room 𝓤 H A W E G81 14 (Syntax.tyStruct (List._∷_ 122 (List._∷_ 111 (List._∷_ 110 (List._∷_ 101 (List._∷_ 115 (List._∷_ 58 (List._∷_ 58 (List._∷_ 115 (List._∷_ 99 (List._∷_ 97 (List._∷_ 110 (List._∷_ 58 (List._∷_ 58 (List._∷_ 76 (List._∷_ 105 (List._∷_ 110 (List._∷_ 101 List.[]))))))))))))))))) (Syntax.tcons (Syntax.tyInt Syntax.w32) (Syntax.tcons (Syntax.tyInt Syntax.w64) (Syntax.tcons (Syntax.tyInt Syntax.w64) (Syntax.tcons (Syntax.tyInt Syntax.w64) (Syntax.tcons (Syntax.tyInt Syntax.w64) Syntax.tnil)))))) (Local.room-whole 𝓤 H A W (Declared.row Line.the-type) (Syntax.tyStruct (List._∷_ 122 (List._∷_ 111 (List._∷_ 110 (List._∷_ 101 (List._∷_ 115 (List._∷_ 58 (List._∷_ 58 (List._∷_ 115 (List._∷_ 99 (List._∷_ 97 (List._∷_ 110 (List._∷_ 58 (List._∷_ 58 (List._∷_ 76 (List._∷_ 105 (List._∷_ 110 (List._∷_ 101 List.[]))))))))))))))))) (Syntax.tcons (Syntax.tyInt Syntax.w32) (Syntax.tcons (Syntax.tyInt Syntax.w64) (Syntax.tcons (Syntax.tyInt Syntax.w64) (Syntax.tcons (Syntax.tyInt Syntax.w64) (Syntax.tcons (Syntax.tyInt Syntax.w64) Syntax.tnil)))))) Path'.refl)) d28
 
           d30 : Typed.Typed 𝓤 H A 𝓣 E G79 b34 Δ6 at30
-          d30 = Typed.g-pre 𝓤 H A W 𝓣 E G79 G81 b34 Δ6 (Typed.pass T79 T81 s75) at29 (Scalar.g-room 𝓤 H A W E G79 11 (Syntax.tyStruct (List._∷_ 122 (List._∷_ 111 (List._∷_ 110 (List._∷_ 101 (List._∷_ 115 (List._∷_ 58 (List._∷_ 58 (List._∷_ 104 (List._∷_ 101 (List._∷_ 108 (List._∷_ 100 (List._∷_ 58 (List._∷_ 58 (List._∷_ 72 (List._∷_ 101 (List._∷_ 108 (List._∷_ 100 List.[]))))))))))))))))) (Syntax.tcons (Syntax.tyStruct (List._∷_ 112 (List._∷_ 121 (List._∷_ 114 (List._∷_ 97 (List._∷_ 109 (List._∷_ 105 (List._∷_ 100 (List._∷_ 58 (List._∷_ 58 (List._∷_ 83 (List._∷_ 116 (List._∷_ 97 (List._∷_ 116 (List._∷_ 101 List.[])))))))))))))) (Syntax.tcons (Syntax.tyInt Syntax.w32) (Syntax.tcons (Syntax.tyInt Syntax.w32) (Syntax.tcons (Syntax.tyInt Syntax.w32) (Syntax.tcons (Syntax.tyArray (Syntax.tyInt Syntax.w32) 64) Syntax.tnil))))) (Syntax.tcons (Syntax.tyInt Syntax.w64) (Syntax.tcons (Syntax.tyInt Syntax.w64) (Syntax.tcons (Syntax.tyInt Syntax.w64) (Syntax.tcons (Syntax.tyInt Syntax.w64) (Syntax.tcons (Syntax.tyInt Syntax.w64) (Syntax.tcons (Syntax.tyInt Syntax.w64) (Syntax.tcons Syntax.tyBool Syntax.tnil))))))))) (Local.room-whole 𝓤 H A W (Declared.row Held.the-type) (Syntax.tyStruct (List._∷_ 122 (List._∷_ 111 (List._∷_ 110 (List._∷_ 101 (List._∷_ 115 (List._∷_ 58 (List._∷_ 58 (List._∷_ 104 (List._∷_ 101 (List._∷_ 108 (List._∷_ 100 (List._∷_ 58 (List._∷_ 58 (List._∷_ 72 (List._∷_ 101 (List._∷_ 108 (List._∷_ 100 List.[]))))))))))))))))) (Syntax.tcons (Syntax.tyStruct (List._∷_ 112 (List._∷_ 121 (List._∷_ 114 (List._∷_ 97 (List._∷_ 109 (List._∷_ 105 (List._∷_ 100 (List._∷_ 58 (List._∷_ 58 (List._∷_ 83 (List._∷_ 116 (List._∷_ 97 (List._∷_ 116 (List._∷_ 101 List.[])))))))))))))) (Syntax.tcons (Syntax.tyInt Syntax.w32) (Syntax.tcons (Syntax.tyInt Syntax.w32) (Syntax.tcons (Syntax.tyInt Syntax.w32) (Syntax.tcons (Syntax.tyArray (Syntax.tyInt Syntax.w32) 64) Syntax.tnil))))) (Syntax.tcons (Syntax.tyInt Syntax.w64) (Syntax.tcons (Syntax.tyInt Syntax.w64) (Syntax.tcons (Syntax.tyInt Syntax.w64) (Syntax.tcons (Syntax.tyInt Syntax.w64) (Syntax.tcons (Syntax.tyInt Syntax.w64) (Syntax.tcons (Syntax.tyInt Syntax.w64) (Syntax.tcons Syntax.tyBool Syntax.tnil))))))))) Path'.refl)) d29
+          d30 = Typed.g-pre 𝓤 H A W 𝓣 E G79 G81 b34 Δ6 (Typed.pass T79 T81 s75) at29 (Scalar.g-room 𝓤 H A W E G79 11 (Syntax.tyStruct (List._∷_ 122 (List._∷_ 111 (List._∷_ 110 (List._∷_ 101 (List._∷_ 115 (List._∷_ 58 (List._∷_ 58 (List._∷_ 104 (List._∷_ 101 (List._∷_ 108 (List._∷_ 100 (List._∷_ 58 (List._∷_ 58 (List._∷_ 72 (List._∷_ 101 (List._∷_ 108 (List._∷_ 100 List.[]))))))))))))))))) (Syntax.tcons (Syntax.tyStruct (List._∷_ 112 (List._∷_ 121 (List._∷_ 114 (List._∷_ 97 (List._∷_ 109 (List._∷_ 105 (List._∷_ 100 (List._∷_ 58 (List._∷_ 58 (List._∷_ 83 (List._∷_ 116 (List._∷_ 97 (List._∷_ 116 (List._∷_ 101 List.[])))))))))))))) (Syntax.tcons (Syntax.tyInt Syntax.w32) (Syntax.tcons (Syntax.tyInt Syntax.w32) (Syntax.tcons (Syntax.tyInt Syntax.w32) (Syntax.tcons (Syntax.tyInt Syntax.w32) (Syntax.tcons (Syntax.tyInt Syntax.w32) (Syntax.tcons (Syntax.tyArray (Syntax.tyInt Syntax.w32) 64) Syntax.tnil))))))) (Syntax.tcons (Syntax.tyInt Syntax.w64) (Syntax.tcons (Syntax.tyInt Syntax.w64) (Syntax.tcons (Syntax.tyInt Syntax.w64) (Syntax.tcons (Syntax.tyInt Syntax.w64) (Syntax.tcons (Syntax.tyInt Syntax.w64) (Syntax.tcons (Syntax.tyInt Syntax.w64) (Syntax.tcons Syntax.tyBool Syntax.tnil))))))))) (Local.room-whole 𝓤 H A W (Declared.row Held.the-type) (Syntax.tyStruct (List._∷_ 122 (List._∷_ 111 (List._∷_ 110 (List._∷_ 101 (List._∷_ 115 (List._∷_ 58 (List._∷_ 58 (List._∷_ 104 (List._∷_ 101 (List._∷_ 108 (List._∷_ 100 (List._∷_ 58 (List._∷_ 58 (List._∷_ 72 (List._∷_ 101 (List._∷_ 108 (List._∷_ 100 List.[]))))))))))))))))) (Syntax.tcons (Syntax.tyStruct (List._∷_ 112 (List._∷_ 121 (List._∷_ 114 (List._∷_ 97 (List._∷_ 109 (List._∷_ 105 (List._∷_ 100 (List._∷_ 58 (List._∷_ 58 (List._∷_ 83 (List._∷_ 116 (List._∷_ 97 (List._∷_ 116 (List._∷_ 101 List.[])))))))))))))) (Syntax.tcons (Syntax.tyInt Syntax.w32) (Syntax.tcons (Syntax.tyInt Syntax.w32) (Syntax.tcons (Syntax.tyInt Syntax.w32) (Syntax.tcons (Syntax.tyInt Syntax.w32) (Syntax.tcons (Syntax.tyInt Syntax.w32) (Syntax.tcons (Syntax.tyArray (Syntax.tyInt Syntax.w32) 64) Syntax.tnil))))))) (Syntax.tcons (Syntax.tyInt Syntax.w64) (Syntax.tcons (Syntax.tyInt Syntax.w64) (Syntax.tcons (Syntax.tyInt Syntax.w64) (Syntax.tcons (Syntax.tyInt Syntax.w64) (Syntax.tcons (Syntax.tyInt Syntax.w64) (Syntax.tcons (Syntax.tyInt Syntax.w64) (Syntax.tcons Syntax.tyBool Syntax.tnil))))))))) Path'.refl)) d29
 
           d31 : Typed.Typed 𝓤 H A 𝓣 E G93 b35 Δ6 at31
           d31 = Typed.t-skip 𝓤 H A W 𝓣 E Δ6 tt
@@ -1749,7 +1749,7 @@ module _ (claims· : Claims) where
           d38 = Typed.t-seq 𝓤 H A W 𝓣 E G79 G80 b36 b39 Δ3 at34 at37 d34 d37
 
           d39 : Typed.Typed 𝓤 H A 𝓣 E G78 b41 Δ3 at39
-          d39 = Typed.s-seq 𝓤 H A W 𝓣 E G78 G79 b27 b40 Δ3 (Typed.pass T77 T79 s74) at38 (Scalar.t-use 𝓤 H A W E 𝓣 G78 (Scalar.oFld 11 (List._∷_ (Syntax.field 7) List.[]) Syntax.tyBool 320 (Reads.fieldV Held.the-type Laws.the-laws 7)) 16 (Rows.sc-here Row.sBool) Syntax.tyBool (Row.valS Row.sBool) (Row.sBool .of) (Reads.reads-field 𝓤 H A W Held.the-type Laws.the-laws 7 Syntax.tyBool 320 Path'.refl, Path'.refl) (Reads'.room-gone 𝓤 H A Syntax.tyBool) (Scalar.holds-sc 𝓤 H A W Row.sBool) Path'.refl (λ u. Path'.refl) λ u. tt) d38
+          d39 = Typed.s-seq 𝓤 H A W 𝓣 E G78 G79 b27 b40 Δ3 (Typed.pass T77 T79 s74) at38 (Scalar.t-use 𝓤 H A W E 𝓣 G78 (Scalar.oFld 11 (List._∷_ (Syntax.field 7) List.[]) Syntax.tyBool 328 (Reads.fieldV Held.the-type Laws.the-laws 7)) 16 (Rows.sc-here Row.sBool) Syntax.tyBool (Row.valS Row.sBool) (Row.sBool .of) (Reads.reads-field 𝓤 H A W Held.the-type Laws.the-laws 7 Syntax.tyBool 328 Path'.refl, Path'.refl) (Reads'.room-gone 𝓤 H A Syntax.tyBool) (Scalar.holds-sc 𝓤 H A W Row.sBool) Path'.refl (λ u. Path'.refl) λ u. tt) d38
 
           d40 : Typed.Typed 𝓤 H A 𝓣 E G77 b41 Δ3 at40
           d40 = Typed.g-pre 𝓤 H A W 𝓣 E G77 G78 b41 Δ3 (λ Ψ. Ψ) at39 (Lifetime.g-forget 𝓤 H A W E G77 19 Row.dead Path'.refl) d39
@@ -1836,7 +1836,7 @@ module _ (claims· : Claims) where
           d67 = Typed.g-pre 𝓤 H A W 𝓣 E G50 G51 b41 Δ3 (Typed.pass T50 T51 s46) at66 (Local.g-drop-sref 𝓤 H A W E G50 19 11 (Array.Array (Referent.rtF (Referent.fInt Syntax.w32)) 32772) (Syntax.tyRef Syntax.erased Syntax.imm (Syntax.tyArray (Syntax.tyInt Syntax.w32) 32772)) (λ x. x) (Reads'.as-is 𝓤 H A (Rows.sref (Array.Array (Referent.rtF (Referent.fInt Syntax.w32)) 32772) (Syntax.tyRef Syntax.erased Syntax.imm (Syntax.tyArray (Syntax.tyInt Syntax.w32) 32772)) 11))) d66
 
           d68 : Typed.Typed 𝓤 H A 𝓣 E G49 b42 Δ3 at68
-          d68 = Typed.s-seq 𝓤 H A W 𝓣 E G49 G50 b26 b41 Δ3 (Typed.both s45) at67 (Plain.t-call-plain 𝓤 H A W 𝓣 10 ps·2 r·2 (claims· .4) (claims· .5) "zones::lines::obey" (known .2) E (λ pos β. β) G49 (record { pos = 11; st = List.[]; d = 0; at = λ x. x }, (record { pos = 14; st = List.[]; d = 0; at = λ x. x }, (record { pos = 1; ty = Syntax.tyRef (Syntax.named 0) Syntax.imm (Syntax.tyInt Syntax.w8); ref = λ x. x }, (record { pos = 19; ty = Syntax.tyRef Syntax.erased Syntax.imm (Syntax.tyArray (Syntax.tyInt Syntax.w32) 32772); ref = λ x. x }, (record { pos = 20; ty = Syntax.tyRef Syntax.erased Syntax.mut (Syntax.tyArray (Syntax.tyInt Syntax.w8) 16388); ref = λ x. x }, (record { pos = 21; ty = Syntax.tyRef Syntax.erased Syntax.mut (Syntax.tyArray (Syntax.tyInt Syntax.w32) 65540); ref = λ x. x }, (record { pos = 22; ty = Syntax.tyRef Syntax.erased Syntax.mut (Syntax.tyArray (Syntax.tyInt Syntax.w32) 32772); ref = λ x. x }, (record { pos = 23; ty = Syntax.tyRef Syntax.erased Syntax.mut (Syntax.tyArray (Syntax.tyInt Syntax.w32) 32772); ref = λ x. x }, (record { pos = 24; ty = Syntax.tyRef Syntax.erased Syntax.mut (Syntax.tyArray (Syntax.tyInt Syntax.w32) 262160); ref = λ x. x }, (record { pos = 25; ty = Syntax.tyRef Syntax.erased Syntax.mut (Syntax.tyArray (Syntax.tyInt Syntax.w8) 600000); ref = λ x. x }, (record { pos = 26; ty = Syntax.tyRef Syntax.erased Syntax.mut (Syntax.tyArray Cell.behind 65540); ref = λ x. x }, (record { pos = 27; ty = Syntax.tyRef Syntax.erased Syntax.mut (Syntax.tyArray Cell.behind 32772); ref = λ x. x }, tt)))))))))))) 11 (List._∷_ 0 (List._∷_ 11 (List._∷_ 12 (List._∷_ 13 (List._∷_ 14 (List._∷_ 15 (List._∷_ 16 (List._∷_ 17 (List._∷_ 18 (List._∷_ 19 List.[])))))))))) (Call.sub-id 𝓤 H A W (G49 .slots)) ((Yields.yields-copy 𝓤 H A W (λ ρ. Unit) (Declared.row Held.the-type) Path'.refl (Copies.cStruct Held.the-type Laws.the-laws Laws.the-copy .copy 𝓤 H A W) (Rows.whole (Declared.row Held.the-type)) (λ x. x) (λ x. x) (λ ρ told. Local.mem-whole 𝓤 H A W (Declared.row Held.the-type) ρ) λ ρ told. Local.whole-mem 𝓤 H A W (Declared.row Held.the-type) ρ, Path'.refl), ((Yields.yields-copy 𝓤 H A W (λ ρ. Unit) (Declared.row Line.the-type) Path'.refl (Copies.cStruct Line.the-type Laws'.the-laws Laws'.the-copy .copy 𝓤 H A W) (Rows.whole (Declared.row Line.the-type)) (λ x. x) (λ x. x) (λ ρ told. Local.mem-whole 𝓤 H A W (Declared.row Line.the-type) ρ) λ ρ told. Local.whole-mem 𝓤 H A W (Declared.row Line.the-type) ρ, Path'.refl), (ShrSlice.spares-sslice 𝓤 H A W (Referent.rtF (Referent.fInt Syntax.w8)) (Syntax.tyRef (Syntax.named 0) Syntax.imm (Syntax.tyInt Syntax.w8)) 0, Shared.reads-sslice 𝓤 H A W (Referent.rtF (Referent.fInt Syntax.w8)) (Syntax.tyRef (Syntax.named 0) Syntax.imm (Syntax.tyInt Syntax.w8)) 0, Path'.refl, (ShrRef.spares-sref 𝓤 H A W (Array.Array (Referent.rtF (Referent.fInt Syntax.w32)) 32772) (Syntax.tyRef Syntax.erased Syntax.imm (Syntax.tyArray (Syntax.tyInt Syntax.w32) 32772)) 11, Reads'.reads-sref 𝓤 H A W (Array.Array (Referent.rtF (Referent.fInt Syntax.w32)) 32772) (Syntax.tyRef Syntax.erased Syntax.imm (Syntax.tyArray (Syntax.tyInt Syntax.w32) 32772)) 11, Path'.refl, (Reads'.as-is 𝓤 H A (Rows.mref (Array.Array (Referent.rtF (Referent.fInt Syntax.w8)) 16388) (Syntax.tyRef Syntax.erased Syntax.mut (Syntax.tyArray (Syntax.tyInt Syntax.w8) 16388)) 12), Reads'.reads-mref 𝓤 H A W (Array.Array (Referent.rtF (Referent.fInt Syntax.w8)) 16388) (Syntax.tyRef Syntax.erased Syntax.mut (Syntax.tyArray (Syntax.tyInt Syntax.w8) 16388)) 12, Path'.refl, (Reads'.as-is 𝓤 H A (Rows.mref (Array.Array (Referent.rtF (Referent.fInt Syntax.w32)) 65540) (Syntax.tyRef Syntax.erased Syntax.mut (Syntax.tyArray (Syntax.tyInt Syntax.w32) 65540)) 13), Reads'.reads-mref 𝓤 H A W (Array.Array (Referent.rtF (Referent.fInt Syntax.w32)) 65540) (Syntax.tyRef Syntax.erased Syntax.mut (Syntax.tyArray (Syntax.tyInt Syntax.w32) 65540)) 13, Path'.refl, (Reads'.as-is 𝓤 H A (Rows.mref (Array.Array (Referent.rtF (Referent.fInt Syntax.w32)) 32772) (Syntax.tyRef Syntax.erased Syntax.mut (Syntax.tyArray (Syntax.tyInt Syntax.w32) 32772)) 14), Reads'.reads-mref 𝓤 H A W (Array.Array (Referent.rtF (Referent.fInt Syntax.w32)) 32772) (Syntax.tyRef Syntax.erased Syntax.mut (Syntax.tyArray (Syntax.tyInt Syntax.w32) 32772)) 14, Path'.refl, (Reads'.as-is 𝓤 H A (Rows.mref (Array.Array (Referent.rtF (Referent.fInt Syntax.w32)) 32772) (Syntax.tyRef Syntax.erased Syntax.mut (Syntax.tyArray (Syntax.tyInt Syntax.w32) 32772)) 15), Reads'.reads-mref 𝓤 H A W (Array.Array (Referent.rtF (Referent.fInt Syntax.w32)) 32772) (Syntax.tyRef Syntax.erased Syntax.mut (Syntax.tyArray (Syntax.tyInt Syntax.w32) 32772)) 15, Path'.refl, (Reads'.as-is 𝓤 H A (Rows.mref (Array.Array (Referent.rtF (Referent.fInt Syntax.w32)) 262160) (Syntax.tyRef Syntax.erased Syntax.mut (Syntax.tyArray (Syntax.tyInt Syntax.w32) 262160)) 16), Reads'.reads-mref 𝓤 H A W (Array.Array (Referent.rtF (Referent.fInt Syntax.w32)) 262160) (Syntax.tyRef Syntax.erased Syntax.mut (Syntax.tyArray (Syntax.tyInt Syntax.w32) 262160)) 16, Path'.refl, (Reads'.as-is 𝓤 H A (Rows.mref (Array.Array (Referent.rtF (Referent.fInt Syntax.w8)) 600000) (Syntax.tyRef Syntax.erased Syntax.mut (Syntax.tyArray (Syntax.tyInt Syntax.w8) 600000)) 17), Reads'.reads-mref 𝓤 H A W (Array.Array (Referent.rtF (Referent.fInt Syntax.w8)) 600000) (Syntax.tyRef Syntax.erased Syntax.mut (Syntax.tyArray (Syntax.tyInt Syntax.w8) 600000)) 17, Path'.refl, (Reads'.as-is 𝓤 H A (Rows.mref (Array.Array Cell.R 65540) (Syntax.tyRef Syntax.erased Syntax.mut (Syntax.tyArray Cell.behind 65540)) 18), Reads'.reads-mref 𝓤 H A W (Array.Array Cell.R 65540) (Syntax.tyRef Syntax.erased Syntax.mut (Syntax.tyArray Cell.behind 65540)) 18, Path'.refl, (Reads'.as-is 𝓤 H A (Rows.mref (Array.Array Cell.R 32772) (Syntax.tyRef Syntax.erased Syntax.mut (Syntax.tyArray Cell.behind 32772)) 19), Reads'.reads-mref 𝓤 H A W (Array.Array Cell.R 32772) (Syntax.tyRef Syntax.erased Syntax.mut (Syntax.tyArray Cell.behind 32772)) 19, Path'.refl, tt)))))))))))) (Local.room-whole 𝓤 H A W (Declared.row Held.the-type) (Syntax.tyStruct (List._∷_ 122 (List._∷_ 111 (List._∷_ 110 (List._∷_ 101 (List._∷_ 115 (List._∷_ 58 (List._∷_ 58 (List._∷_ 104 (List._∷_ 101 (List._∷_ 108 (List._∷_ 100 (List._∷_ 58 (List._∷_ 58 (List._∷_ 72 (List._∷_ 101 (List._∷_ 108 (List._∷_ 100 List.[]))))))))))))))))) (Syntax.tcons (Syntax.tyStruct (List._∷_ 112 (List._∷_ 121 (List._∷_ 114 (List._∷_ 97 (List._∷_ 109 (List._∷_ 105 (List._∷_ 100 (List._∷_ 58 (List._∷_ 58 (List._∷_ 83 (List._∷_ 116 (List._∷_ 97 (List._∷_ 116 (List._∷_ 101 List.[])))))))))))))) (Syntax.tcons (Syntax.tyInt Syntax.w32) (Syntax.tcons (Syntax.tyInt Syntax.w32) (Syntax.tcons (Syntax.tyInt Syntax.w32) (Syntax.tcons (Syntax.tyArray (Syntax.tyInt Syntax.w32) 64) Syntax.tnil))))) (Syntax.tcons (Syntax.tyInt Syntax.w64) (Syntax.tcons (Syntax.tyInt Syntax.w64) (Syntax.tcons (Syntax.tyInt Syntax.w64) (Syntax.tcons (Syntax.tyInt Syntax.w64) (Syntax.tcons (Syntax.tyInt Syntax.w64) (Syntax.tcons (Syntax.tyInt Syntax.w64) (Syntax.tcons Syntax.tyBool Syntax.tnil))))))))) Path'.refl) (tt, (tt, (tt, (tt, (tt, (tt, (tt, (tt, (tt, (tt, tt)))))))))) Path'.refl) d67
+          d68 = Typed.s-seq 𝓤 H A W 𝓣 E G49 G50 b26 b41 Δ3 (Typed.both s45) at67 (Plain.t-call-plain 𝓤 H A W 𝓣 10 ps·2 r·2 (claims· .4) (claims· .5) "zones::lines::obey" (known .2) E (λ pos β. β) G49 (record { pos = 11; st = List.[]; d = 0; at = λ x. x }, (record { pos = 14; st = List.[]; d = 0; at = λ x. x }, (record { pos = 1; ty = Syntax.tyRef (Syntax.named 0) Syntax.imm (Syntax.tyInt Syntax.w8); ref = λ x. x }, (record { pos = 19; ty = Syntax.tyRef Syntax.erased Syntax.imm (Syntax.tyArray (Syntax.tyInt Syntax.w32) 32772); ref = λ x. x }, (record { pos = 20; ty = Syntax.tyRef Syntax.erased Syntax.mut (Syntax.tyArray (Syntax.tyInt Syntax.w8) 16388); ref = λ x. x }, (record { pos = 21; ty = Syntax.tyRef Syntax.erased Syntax.mut (Syntax.tyArray (Syntax.tyInt Syntax.w32) 65540); ref = λ x. x }, (record { pos = 22; ty = Syntax.tyRef Syntax.erased Syntax.mut (Syntax.tyArray (Syntax.tyInt Syntax.w32) 32772); ref = λ x. x }, (record { pos = 23; ty = Syntax.tyRef Syntax.erased Syntax.mut (Syntax.tyArray (Syntax.tyInt Syntax.w32) 32772); ref = λ x. x }, (record { pos = 24; ty = Syntax.tyRef Syntax.erased Syntax.mut (Syntax.tyArray (Syntax.tyInt Syntax.w32) 262160); ref = λ x. x }, (record { pos = 25; ty = Syntax.tyRef Syntax.erased Syntax.mut (Syntax.tyArray (Syntax.tyInt Syntax.w8) 600000); ref = λ x. x }, (record { pos = 26; ty = Syntax.tyRef Syntax.erased Syntax.mut (Syntax.tyArray Cell.behind 65540); ref = λ x. x }, (record { pos = 27; ty = Syntax.tyRef Syntax.erased Syntax.mut (Syntax.tyArray Cell.behind 32772); ref = λ x. x }, tt)))))))))))) 11 (List._∷_ 0 (List._∷_ 11 (List._∷_ 12 (List._∷_ 13 (List._∷_ 14 (List._∷_ 15 (List._∷_ 16 (List._∷_ 17 (List._∷_ 18 (List._∷_ 19 List.[])))))))))) (Call.sub-id 𝓤 H A W (G49 .slots)) ((Yields.yields-copy 𝓤 H A W (λ ρ. Unit) (Declared.row Held.the-type) Path'.refl (Copies.cStruct Held.the-type Laws.the-laws Laws.the-copy .copy 𝓤 H A W) (Rows.whole (Declared.row Held.the-type)) (λ x. x) (λ x. x) (λ ρ told. Local.mem-whole 𝓤 H A W (Declared.row Held.the-type) ρ) λ ρ told. Local.whole-mem 𝓤 H A W (Declared.row Held.the-type) ρ, Path'.refl), ((Yields.yields-copy 𝓤 H A W (λ ρ. Unit) (Declared.row Line.the-type) Path'.refl (Copies.cStruct Line.the-type Laws'.the-laws Laws'.the-copy .copy 𝓤 H A W) (Rows.whole (Declared.row Line.the-type)) (λ x. x) (λ x. x) (λ ρ told. Local.mem-whole 𝓤 H A W (Declared.row Line.the-type) ρ) λ ρ told. Local.whole-mem 𝓤 H A W (Declared.row Line.the-type) ρ, Path'.refl), (ShrSlice.spares-sslice 𝓤 H A W (Referent.rtF (Referent.fInt Syntax.w8)) (Syntax.tyRef (Syntax.named 0) Syntax.imm (Syntax.tyInt Syntax.w8)) 0, Shared.reads-sslice 𝓤 H A W (Referent.rtF (Referent.fInt Syntax.w8)) (Syntax.tyRef (Syntax.named 0) Syntax.imm (Syntax.tyInt Syntax.w8)) 0, Path'.refl, (ShrRef.spares-sref 𝓤 H A W (Array.Array (Referent.rtF (Referent.fInt Syntax.w32)) 32772) (Syntax.tyRef Syntax.erased Syntax.imm (Syntax.tyArray (Syntax.tyInt Syntax.w32) 32772)) 11, Reads'.reads-sref 𝓤 H A W (Array.Array (Referent.rtF (Referent.fInt Syntax.w32)) 32772) (Syntax.tyRef Syntax.erased Syntax.imm (Syntax.tyArray (Syntax.tyInt Syntax.w32) 32772)) 11, Path'.refl, (Reads'.as-is 𝓤 H A (Rows.mref (Array.Array (Referent.rtF (Referent.fInt Syntax.w8)) 16388) (Syntax.tyRef Syntax.erased Syntax.mut (Syntax.tyArray (Syntax.tyInt Syntax.w8) 16388)) 12), Reads'.reads-mref 𝓤 H A W (Array.Array (Referent.rtF (Referent.fInt Syntax.w8)) 16388) (Syntax.tyRef Syntax.erased Syntax.mut (Syntax.tyArray (Syntax.tyInt Syntax.w8) 16388)) 12, Path'.refl, (Reads'.as-is 𝓤 H A (Rows.mref (Array.Array (Referent.rtF (Referent.fInt Syntax.w32)) 65540) (Syntax.tyRef Syntax.erased Syntax.mut (Syntax.tyArray (Syntax.tyInt Syntax.w32) 65540)) 13), Reads'.reads-mref 𝓤 H A W (Array.Array (Referent.rtF (Referent.fInt Syntax.w32)) 65540) (Syntax.tyRef Syntax.erased Syntax.mut (Syntax.tyArray (Syntax.tyInt Syntax.w32) 65540)) 13, Path'.refl, (Reads'.as-is 𝓤 H A (Rows.mref (Array.Array (Referent.rtF (Referent.fInt Syntax.w32)) 32772) (Syntax.tyRef Syntax.erased Syntax.mut (Syntax.tyArray (Syntax.tyInt Syntax.w32) 32772)) 14), Reads'.reads-mref 𝓤 H A W (Array.Array (Referent.rtF (Referent.fInt Syntax.w32)) 32772) (Syntax.tyRef Syntax.erased Syntax.mut (Syntax.tyArray (Syntax.tyInt Syntax.w32) 32772)) 14, Path'.refl, (Reads'.as-is 𝓤 H A (Rows.mref (Array.Array (Referent.rtF (Referent.fInt Syntax.w32)) 32772) (Syntax.tyRef Syntax.erased Syntax.mut (Syntax.tyArray (Syntax.tyInt Syntax.w32) 32772)) 15), Reads'.reads-mref 𝓤 H A W (Array.Array (Referent.rtF (Referent.fInt Syntax.w32)) 32772) (Syntax.tyRef Syntax.erased Syntax.mut (Syntax.tyArray (Syntax.tyInt Syntax.w32) 32772)) 15, Path'.refl, (Reads'.as-is 𝓤 H A (Rows.mref (Array.Array (Referent.rtF (Referent.fInt Syntax.w32)) 262160) (Syntax.tyRef Syntax.erased Syntax.mut (Syntax.tyArray (Syntax.tyInt Syntax.w32) 262160)) 16), Reads'.reads-mref 𝓤 H A W (Array.Array (Referent.rtF (Referent.fInt Syntax.w32)) 262160) (Syntax.tyRef Syntax.erased Syntax.mut (Syntax.tyArray (Syntax.tyInt Syntax.w32) 262160)) 16, Path'.refl, (Reads'.as-is 𝓤 H A (Rows.mref (Array.Array (Referent.rtF (Referent.fInt Syntax.w8)) 600000) (Syntax.tyRef Syntax.erased Syntax.mut (Syntax.tyArray (Syntax.tyInt Syntax.w8) 600000)) 17), Reads'.reads-mref 𝓤 H A W (Array.Array (Referent.rtF (Referent.fInt Syntax.w8)) 600000) (Syntax.tyRef Syntax.erased Syntax.mut (Syntax.tyArray (Syntax.tyInt Syntax.w8) 600000)) 17, Path'.refl, (Reads'.as-is 𝓤 H A (Rows.mref (Array.Array Cell.R 65540) (Syntax.tyRef Syntax.erased Syntax.mut (Syntax.tyArray Cell.behind 65540)) 18), Reads'.reads-mref 𝓤 H A W (Array.Array Cell.R 65540) (Syntax.tyRef Syntax.erased Syntax.mut (Syntax.tyArray Cell.behind 65540)) 18, Path'.refl, (Reads'.as-is 𝓤 H A (Rows.mref (Array.Array Cell.R 32772) (Syntax.tyRef Syntax.erased Syntax.mut (Syntax.tyArray Cell.behind 32772)) 19), Reads'.reads-mref 𝓤 H A W (Array.Array Cell.R 32772) (Syntax.tyRef Syntax.erased Syntax.mut (Syntax.tyArray Cell.behind 32772)) 19, Path'.refl, tt)))))))))))) (Local.room-whole 𝓤 H A W (Declared.row Held.the-type) (Syntax.tyStruct (List._∷_ 122 (List._∷_ 111 (List._∷_ 110 (List._∷_ 101 (List._∷_ 115 (List._∷_ 58 (List._∷_ 58 (List._∷_ 104 (List._∷_ 101 (List._∷_ 108 (List._∷_ 100 (List._∷_ 58 (List._∷_ 58 (List._∷_ 72 (List._∷_ 101 (List._∷_ 108 (List._∷_ 100 List.[]))))))))))))))))) (Syntax.tcons (Syntax.tyStruct (List._∷_ 112 (List._∷_ 121 (List._∷_ 114 (List._∷_ 97 (List._∷_ 109 (List._∷_ 105 (List._∷_ 100 (List._∷_ 58 (List._∷_ 58 (List._∷_ 83 (List._∷_ 116 (List._∷_ 97 (List._∷_ 116 (List._∷_ 101 List.[])))))))))))))) (Syntax.tcons (Syntax.tyInt Syntax.w32) (Syntax.tcons (Syntax.tyInt Syntax.w32) (Syntax.tcons (Syntax.tyInt Syntax.w32) (Syntax.tcons (Syntax.tyInt Syntax.w32) (Syntax.tcons (Syntax.tyInt Syntax.w32) (Syntax.tcons (Syntax.tyArray (Syntax.tyInt Syntax.w32) 64) Syntax.tnil))))))) (Syntax.tcons (Syntax.tyInt Syntax.w64) (Syntax.tcons (Syntax.tyInt Syntax.w64) (Syntax.tcons (Syntax.tyInt Syntax.w64) (Syntax.tcons (Syntax.tyInt Syntax.w64) (Syntax.tcons (Syntax.tyInt Syntax.w64) (Syntax.tcons (Syntax.tyInt Syntax.w64) (Syntax.tcons Syntax.tyBool Syntax.tnil))))))))) Path'.refl) (tt, (tt, (tt, (tt, (tt, (tt, (tt, (tt, (tt, (tt, tt)))))))))) Path'.refl) d67
 
           d69 : Typed.Typed 𝓤 H A 𝓣 E G48 b43 Δ3 at69
           d69 = Typed.s-seq 𝓤 H A W 𝓣 E G48 G49 b25 b42 Δ3 (Typed.give s44) at68 (Reborrow.t-mref-relend 𝓤 H A W E 𝓣 G48 10 27 9 19 (Array.Array Cell.R 32772) (Syntax.tyArray Cell.held 32772) (Syntax.tyRef (Syntax.named 9) Syntax.mut (Syntax.tyArray Cell.behind 32772)) (Syntax.tyRef Syntax.erased Syntax.mut (Syntax.tyArray Cell.behind 32772)) (Row.lease (κs .1 .1 .1 .1 .1 .1 .1 .1 .1 .0) (qs .1 .1 .1 .1 .1 .1 .1 .1 .1 .0)) (λ x. x) (Reads'.as-is 𝓤 H A (Rows.mref (Array.Array Cell.R 32772) (Syntax.tyRef (Syntax.named 9) Syntax.mut (Syntax.tyArray Cell.behind 32772)) 9)) (Reads'.room-gone 𝓤 H A (Syntax.tyRef Syntax.erased Syntax.mut (Syntax.tyArray Cell.behind 32772))) Path'.refl tt Path'.refl Path'.refl λ b o. tt) d68
@@ -1953,7 +1953,7 @@ module _ (claims· : Claims) where
           d106 = Typed.s-seq 𝓤 H A W 𝓣 E G3 G4 b1 b66 Δ0 (Typed.pass T3 T4 s2) at105 (Scalar.t-use 𝓤 H A W E 𝓣 G3 (Scalar.oInt Syntax.w64 0) 12 (Rows.sc-here (Row.sInt Syntax.w64)) (Syntax.tyInt Syntax.w64) (Row.valS (Row.sInt Syntax.w64)) (Row.sInt Syntax.w64 .of) tt (Reads'.room-gone 𝓤 H A (Syntax.tyInt Syntax.w64)) (Scalar.holds-sc 𝓤 H A W (Row.sInt Syntax.w64)) Path'.refl (λ u. Path'.refl) λ u. tt) d105
 
           d107 : Typed.Typed 𝓤 H A 𝓣 E G2 b68 Δ0 at107
-          d107 = Typed.s-seq 𝓤 H A W 𝓣 E G2 G3 b0 b67 Δ0 (Typed.both s1) at106 (Plain.t-call-plain 𝓤 H A W 𝓣 0 ps·0 r·0 (claims· .0) (claims· .1) "zones::held::nothing" (known .0) E (λ pos β. β) G2 tt 11 List.[] (Call.sub-id 𝓤 H A W (G2 .slots)) tt (Reads'.room-gone 𝓤 H A (Syntax.tyStruct (List._∷_ 122 (List._∷_ 111 (List._∷_ 110 (List._∷_ 101 (List._∷_ 115 (List._∷_ 58 (List._∷_ 58 (List._∷_ 104 (List._∷_ 101 (List._∷_ 108 (List._∷_ 100 (List._∷_ 58 (List._∷_ 58 (List._∷_ 72 (List._∷_ 101 (List._∷_ 108 (List._∷_ 100 List.[]))))))))))))))))) (Syntax.tcons (Syntax.tyStruct (List._∷_ 112 (List._∷_ 121 (List._∷_ 114 (List._∷_ 97 (List._∷_ 109 (List._∷_ 105 (List._∷_ 100 (List._∷_ 58 (List._∷_ 58 (List._∷_ 83 (List._∷_ 116 (List._∷_ 97 (List._∷_ 116 (List._∷_ 101 List.[])))))))))))))) (Syntax.tcons (Syntax.tyInt Syntax.w32) (Syntax.tcons (Syntax.tyInt Syntax.w32) (Syntax.tcons (Syntax.tyInt Syntax.w32) (Syntax.tcons (Syntax.tyArray (Syntax.tyInt Syntax.w32) 64) Syntax.tnil))))) (Syntax.tcons (Syntax.tyInt Syntax.w64) (Syntax.tcons (Syntax.tyInt Syntax.w64) (Syntax.tcons (Syntax.tyInt Syntax.w64) (Syntax.tcons (Syntax.tyInt Syntax.w64) (Syntax.tcons (Syntax.tyInt Syntax.w64) (Syntax.tcons (Syntax.tyInt Syntax.w64) (Syntax.tcons Syntax.tyBool Syntax.tnil)))))))))) tt Path'.refl) d106
+          d107 = Typed.s-seq 𝓤 H A W 𝓣 E G2 G3 b0 b67 Δ0 (Typed.both s1) at106 (Plain.t-call-plain 𝓤 H A W 𝓣 0 ps·0 r·0 (claims· .0) (claims· .1) "zones::held::nothing" (known .0) E (λ pos β. β) G2 tt 11 List.[] (Call.sub-id 𝓤 H A W (G2 .slots)) tt (Reads'.room-gone 𝓤 H A (Syntax.tyStruct (List._∷_ 122 (List._∷_ 111 (List._∷_ 110 (List._∷_ 101 (List._∷_ 115 (List._∷_ 58 (List._∷_ 58 (List._∷_ 104 (List._∷_ 101 (List._∷_ 108 (List._∷_ 100 (List._∷_ 58 (List._∷_ 58 (List._∷_ 72 (List._∷_ 101 (List._∷_ 108 (List._∷_ 100 List.[]))))))))))))))))) (Syntax.tcons (Syntax.tyStruct (List._∷_ 112 (List._∷_ 121 (List._∷_ 114 (List._∷_ 97 (List._∷_ 109 (List._∷_ 105 (List._∷_ 100 (List._∷_ 58 (List._∷_ 58 (List._∷_ 83 (List._∷_ 116 (List._∷_ 97 (List._∷_ 116 (List._∷_ 101 List.[])))))))))))))) (Syntax.tcons (Syntax.tyInt Syntax.w32) (Syntax.tcons (Syntax.tyInt Syntax.w32) (Syntax.tcons (Syntax.tyInt Syntax.w32) (Syntax.tcons (Syntax.tyInt Syntax.w32) (Syntax.tcons (Syntax.tyInt Syntax.w32) (Syntax.tcons (Syntax.tyArray (Syntax.tyInt Syntax.w32) 64) Syntax.tnil))))))) (Syntax.tcons (Syntax.tyInt Syntax.w64) (Syntax.tcons (Syntax.tyInt Syntax.w64) (Syntax.tcons (Syntax.tyInt Syntax.w64) (Syntax.tcons (Syntax.tyInt Syntax.w64) (Syntax.tcons (Syntax.tyInt Syntax.w64) (Syntax.tcons (Syntax.tyInt Syntax.w64) (Syntax.tcons Syntax.tyBool Syntax.tnil)))))))))) tt Path'.refl) d106
 
           d108 : Typed.Typed 𝓤 H A 𝓣 E G0 b68 Δ0 at108
           d108 = Typed.g-pre 𝓤 H A W 𝓣 E G0 G2 b68 Δ0 (Typed.give s0) at107 (Know.g-shs-known 𝓤 H A W (Referent.fInt Syntax.w8) E G0 1 0 (Syntax.tyRef (Syntax.named 0) Syntax.imm (Syntax.tyInt Syntax.w8)) (Row.lease (κs .0) (qs .0)) 0 (λ x. x) record { fits = Dec'.lit< tt } (Reads'.as-is 𝓤 H A (Rows.sslice (Referent.rtF (Referent.fInt Syntax.w8)) (Syntax.tyRef (Syntax.named 0) Syntax.imm (Syntax.tyInt Syntax.w8)) 0)) Path'.refl tt) d107

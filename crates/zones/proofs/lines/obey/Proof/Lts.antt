@@ -98,7 +98,7 @@ abbrev pub hs : List.List Syntax.Home
 hs = List._∷_ Syntax.valueLocal (List._∷_ Syntax.valueLocal (List._∷_ Syntax.valueLocal (List._∷_ Syntax.valueLocal (List._∷_ Syntax.valueLocal (List._∷_ Syntax.valueLocal (List._∷_ Syntax.valueLocal (List._∷_ Syntax.valueLocal (List._∷_ Syntax.valueLocal (List._∷_ Syntax.valueLocal (List._∷_ Syntax.valueLocal (List._∷_ Syntax.valueLocal (List._∷_ Syntax.valueLocal (List._∷_ Syntax.valueLocal (List._∷_ Syntax.valueLocal (List._∷_ Syntax.valueLocal (List._∷_ Syntax.valueLocal (List._∷_ Syntax.valueLocal (List._∷_ Syntax.valueLocal (List._∷_ Syntax.valueLocal (List._∷_ Syntax.valueLocal (List._∷_ Syntax.valueLocal (List._∷_ Syntax.valueLocal (List._∷_ Syntax.valueLocal (List._∷_ Syntax.valueLocal (List._∷_ Syntax.valueLocal (List._∷_ Syntax.valueLocal (List._∷_ Syntax.valueLocal (List._∷_ Syntax.valueLocal (List._∷_ Syntax.valueLocal (List._∷_ Syntax.valueLocal (List._∷_ Syntax.valueLocal List.[])))))))))))))))))))))))))))))))
 
 abbrev b0 : Syntax.Body
-b0 = Syntax.assign (Syntax.place 15 List.[]) (Syntax.op2 (Syntax.lt Syntax.unsigned) (Syntax.copy (Syntax.place 2 (List._∷_ (Syntax.field 0) List.[]))) (Syntax.int Syntax.w32 24))
+b0 = Syntax.assign (Syntax.place 15 List.[]) (Syntax.op2 (Syntax.lt Syntax.unsigned) (Syntax.copy (Syntax.place 2 (List._∷_ (Syntax.field 0) List.[]))) (Syntax.int Syntax.w32 25))
 
 abbrev b1 : Syntax.Body
 b1 = Syntax.assign (Syntax.place 16 List.[]) (Syntax.addrOf (Syntax.place 5 (List._∷_ (Syntax.deref (Syntax.tyArray (Syntax.tyInt Syntax.w8) 16388)) List.[])))
@@ -152,7 +152,7 @@ abbrev b17 : Syntax.Body
 b17 = Syntax.cond (Syntax.copy (Syntax.place 15 List.[])) b15 b16
 
 abbrev b18 : Syntax.Body
-b18 = Syntax.assign (Syntax.place 15 List.[]) (Syntax.op2 Syntax.eq (Syntax.copy (Syntax.place 2 (List._∷_ (Syntax.field 0) List.[]))) (Syntax.int Syntax.w32 24))
+b18 = Syntax.assign (Syntax.place 15 List.[]) (Syntax.op2 Syntax.eq (Syntax.copy (Syntax.place 2 (List._∷_ (Syntax.field 0) List.[]))) (Syntax.int Syntax.w32 25))
 
 abbrev b19 : Syntax.Body
 b19 = Syntax.assign (Syntax.place 22 List.[]) (Syntax.addrOf (Syntax.place 11 (List._∷_ (Syntax.deref Cell.held) List.[])))
@@ -188,7 +188,7 @@ abbrev b29 : Syntax.Body
 b29 = Syntax.cond (Syntax.copy (Syntax.place 15 List.[])) b27 b28
 
 abbrev b30 : Syntax.Body
-b30 = Syntax.assign (Syntax.place 15 List.[]) (Syntax.op2 Syntax.eq (Syntax.copy (Syntax.place 2 (List._∷_ (Syntax.field 0) List.[]))) (Syntax.int Syntax.w32 25))
+b30 = Syntax.assign (Syntax.place 15 List.[]) (Syntax.op2 Syntax.eq (Syntax.copy (Syntax.place 2 (List._∷_ (Syntax.field 0) List.[]))) (Syntax.int Syntax.w32 26))
 
 abbrev b31 : Syntax.Body
 b31 = Syntax.assign (Syntax.place 24 List.[]) (Syntax.addrOf (Syntax.place 12 (List._∷_ (Syntax.deref Cell.held) List.[])))
@@ -293,49 +293,49 @@ abbrev pub Claims : Type 1
 Claims = Kinds.In 8 ps·0 × Kinds.Out 8 ps·0 r·0 × Kinds.In 2 ps·1 × Kinds.Out 2 ps·1 r·1 × Kinds.In 0 ps·2 × Kinds.Out 0 ps·2 r·2 × Kinds.In 7 ps·3 × Kinds.Out 7 ps·3 r·3
 
 abbrev pub t0 : List.List Row.Entry
-t0 = List._∷_ (0, Rows.any-gone (Syntax.tyStruct (List._∷_ 122 (List._∷_ 111 (List._∷_ 110 (List._∷_ 101 (List._∷_ 115 (List._∷_ 58 (List._∷_ 58 (List._∷_ 104 (List._∷_ 101 (List._∷_ 108 (List._∷_ 100 (List._∷_ 58 (List._∷_ 58 (List._∷_ 72 (List._∷_ 101 (List._∷_ 108 (List._∷_ 100 List.[]))))))))))))))))) (Syntax.tcons (Syntax.tyStruct (List._∷_ 112 (List._∷_ 121 (List._∷_ 114 (List._∷_ 97 (List._∷_ 109 (List._∷_ 105 (List._∷_ 100 (List._∷_ 58 (List._∷_ 58 (List._∷_ 83 (List._∷_ 116 (List._∷_ 97 (List._∷_ 116 (List._∷_ 101 List.[])))))))))))))) (Syntax.tcons (Syntax.tyInt Syntax.w32) (Syntax.tcons (Syntax.tyInt Syntax.w32) (Syntax.tcons (Syntax.tyInt Syntax.w32) (Syntax.tcons (Syntax.tyArray (Syntax.tyInt Syntax.w32) 64) Syntax.tnil))))) (Syntax.tcons (Syntax.tyInt Syntax.w64) (Syntax.tcons (Syntax.tyInt Syntax.w64) (Syntax.tcons (Syntax.tyInt Syntax.w64) (Syntax.tcons (Syntax.tyInt Syntax.w64) (Syntax.tcons (Syntax.tyInt Syntax.w64) (Syntax.tcons (Syntax.tyInt Syntax.w64) (Syntax.tcons Syntax.tyBool Syntax.tnil)))))))))) (List._∷_ (1, Rows.whole (Declared.row Held.the-type)) (List._∷_ (2, Rows.whole (Declared.row Line.the-type)) (List._∷_ (3, Rows.sslice (Referent.rtF (Referent.fInt Syntax.w8)) (Syntax.tyRef (Syntax.named 0) Syntax.imm (Syntax.tyInt Syntax.w8)) 0) (List._∷_ (4, Rows.sref (Array.Array (Referent.rtF (Referent.fInt Syntax.w32)) 32772) (Syntax.tyRef (Syntax.named 1) Syntax.imm (Syntax.tyArray (Syntax.tyInt Syntax.w32) 32772)) 1) (List._∷_ (5, Rows.mref (Array.Array (Referent.rtF (Referent.fInt Syntax.w8)) 16388) (Syntax.tyRef (Syntax.named 2) Syntax.mut (Syntax.tyArray (Syntax.tyInt Syntax.w8) 16388)) 2) (List._∷_ (6, Rows.mref (Array.Array (Referent.rtF (Referent.fInt Syntax.w32)) 65540) (Syntax.tyRef (Syntax.named 3) Syntax.mut (Syntax.tyArray (Syntax.tyInt Syntax.w32) 65540)) 3) (List._∷_ (7, Rows.mref (Array.Array (Referent.rtF (Referent.fInt Syntax.w32)) 32772) (Syntax.tyRef (Syntax.named 4) Syntax.mut (Syntax.tyArray (Syntax.tyInt Syntax.w32) 32772)) 4) (List._∷_ (8, Rows.mref (Array.Array (Referent.rtF (Referent.fInt Syntax.w32)) 32772) (Syntax.tyRef (Syntax.named 5) Syntax.mut (Syntax.tyArray (Syntax.tyInt Syntax.w32) 32772)) 5) (List._∷_ (9, Rows.mref (Array.Array (Referent.rtF (Referent.fInt Syntax.w32)) 262160) (Syntax.tyRef (Syntax.named 6) Syntax.mut (Syntax.tyArray (Syntax.tyInt Syntax.w32) 262160)) 6) (List._∷_ (10, Rows.mref (Array.Array (Referent.rtF (Referent.fInt Syntax.w8)) 600000) (Syntax.tyRef (Syntax.named 7) Syntax.mut (Syntax.tyArray (Syntax.tyInt Syntax.w8) 600000)) 7) (List._∷_ (11, Rows.mref (Array.Array Cell.R 65540) (Syntax.tyRef (Syntax.named 8) Syntax.mut (Syntax.tyArray Cell.behind 65540)) 8) (List._∷_ (12, Rows.mref (Array.Array Cell.R 32772) (Syntax.tyRef (Syntax.named 9) Syntax.mut (Syntax.tyArray Cell.behind 32772)) 9) (List._∷_ (13, Rows.any-gone Syntax.tyBool) (List._∷_ (14, Rows.any-gone Syntax.tyBool) (List._∷_ (15, Rows.any-gone Syntax.tyBool) List.[])))))))))))))))
+t0 = List._∷_ (0, Rows.any-gone (Syntax.tyStruct (List._∷_ 122 (List._∷_ 111 (List._∷_ 110 (List._∷_ 101 (List._∷_ 115 (List._∷_ 58 (List._∷_ 58 (List._∷_ 104 (List._∷_ 101 (List._∷_ 108 (List._∷_ 100 (List._∷_ 58 (List._∷_ 58 (List._∷_ 72 (List._∷_ 101 (List._∷_ 108 (List._∷_ 100 List.[]))))))))))))))))) (Syntax.tcons (Syntax.tyStruct (List._∷_ 112 (List._∷_ 121 (List._∷_ 114 (List._∷_ 97 (List._∷_ 109 (List._∷_ 105 (List._∷_ 100 (List._∷_ 58 (List._∷_ 58 (List._∷_ 83 (List._∷_ 116 (List._∷_ 97 (List._∷_ 116 (List._∷_ 101 List.[])))))))))))))) (Syntax.tcons (Syntax.tyInt Syntax.w32) (Syntax.tcons (Syntax.tyInt Syntax.w32) (Syntax.tcons (Syntax.tyInt Syntax.w32) (Syntax.tcons (Syntax.tyInt Syntax.w32) (Syntax.tcons (Syntax.tyInt Syntax.w32) (Syntax.tcons (Syntax.tyArray (Syntax.tyInt Syntax.w32) 64) Syntax.tnil))))))) (Syntax.tcons (Syntax.tyInt Syntax.w64) (Syntax.tcons (Syntax.tyInt Syntax.w64) (Syntax.tcons (Syntax.tyInt Syntax.w64) (Syntax.tcons (Syntax.tyInt Syntax.w64) (Syntax.tcons (Syntax.tyInt Syntax.w64) (Syntax.tcons (Syntax.tyInt Syntax.w64) (Syntax.tcons Syntax.tyBool Syntax.tnil)))))))))) (List._∷_ (1, Rows.whole (Declared.row Held.the-type)) (List._∷_ (2, Rows.whole (Declared.row Line.the-type)) (List._∷_ (3, Rows.sslice (Referent.rtF (Referent.fInt Syntax.w8)) (Syntax.tyRef (Syntax.named 0) Syntax.imm (Syntax.tyInt Syntax.w8)) 0) (List._∷_ (4, Rows.sref (Array.Array (Referent.rtF (Referent.fInt Syntax.w32)) 32772) (Syntax.tyRef (Syntax.named 1) Syntax.imm (Syntax.tyArray (Syntax.tyInt Syntax.w32) 32772)) 1) (List._∷_ (5, Rows.mref (Array.Array (Referent.rtF (Referent.fInt Syntax.w8)) 16388) (Syntax.tyRef (Syntax.named 2) Syntax.mut (Syntax.tyArray (Syntax.tyInt Syntax.w8) 16388)) 2) (List._∷_ (6, Rows.mref (Array.Array (Referent.rtF (Referent.fInt Syntax.w32)) 65540) (Syntax.tyRef (Syntax.named 3) Syntax.mut (Syntax.tyArray (Syntax.tyInt Syntax.w32) 65540)) 3) (List._∷_ (7, Rows.mref (Array.Array (Referent.rtF (Referent.fInt Syntax.w32)) 32772) (Syntax.tyRef (Syntax.named 4) Syntax.mut (Syntax.tyArray (Syntax.tyInt Syntax.w32) 32772)) 4) (List._∷_ (8, Rows.mref (Array.Array (Referent.rtF (Referent.fInt Syntax.w32)) 32772) (Syntax.tyRef (Syntax.named 5) Syntax.mut (Syntax.tyArray (Syntax.tyInt Syntax.w32) 32772)) 5) (List._∷_ (9, Rows.mref (Array.Array (Referent.rtF (Referent.fInt Syntax.w32)) 262160) (Syntax.tyRef (Syntax.named 6) Syntax.mut (Syntax.tyArray (Syntax.tyInt Syntax.w32) 262160)) 6) (List._∷_ (10, Rows.mref (Array.Array (Referent.rtF (Referent.fInt Syntax.w8)) 600000) (Syntax.tyRef (Syntax.named 7) Syntax.mut (Syntax.tyArray (Syntax.tyInt Syntax.w8) 600000)) 7) (List._∷_ (11, Rows.mref (Array.Array Cell.R 65540) (Syntax.tyRef (Syntax.named 8) Syntax.mut (Syntax.tyArray Cell.behind 65540)) 8) (List._∷_ (12, Rows.mref (Array.Array Cell.R 32772) (Syntax.tyRef (Syntax.named 9) Syntax.mut (Syntax.tyArray Cell.behind 32772)) 9) (List._∷_ (13, Rows.any-gone Syntax.tyBool) (List._∷_ (14, Rows.any-gone Syntax.tyBool) (List._∷_ (15, Rows.any-gone Syntax.tyBool) List.[])))))))))))))))
 
 abbrev pub t1 : List.List Row.Entry
 t1 = List._∷_ (16, Rows.any-gone (Syntax.tyRef Syntax.erased Syntax.mut (Syntax.tyArray (Syntax.tyInt Syntax.w8) 16388))) (List._∷_ (17, Rows.any-gone (Syntax.tyRef Syntax.erased Syntax.mut (Syntax.tyArray (Syntax.tyInt Syntax.w32) 65540))) (List._∷_ (18, Rows.any-gone (Syntax.tyRef Syntax.erased Syntax.mut (Syntax.tyArray (Syntax.tyInt Syntax.w32) 32772))) (List._∷_ (19, Rows.any-gone (Syntax.tyRef Syntax.erased Syntax.mut (Syntax.tyArray (Syntax.tyInt Syntax.w32) 32772))) (List._∷_ (20, Rows.any-gone (Syntax.tyRef Syntax.erased Syntax.mut (Syntax.tyArray (Syntax.tyInt Syntax.w32) 262160))) (List._∷_ (21, Rows.any-gone (Syntax.tyRef Syntax.erased Syntax.mut (Syntax.tyArray (Syntax.tyInt Syntax.w8) 600000))) (List._∷_ (22, Rows.any-gone (Syntax.tyRef Syntax.erased Syntax.mut Cell.behind)) (List._∷_ (23, Rows.any-gone (Syntax.tyStruct (List._∷_ 38 (List._∷_ 91 (List._∷_ 93 List.[]))) (Syntax.tcons (Syntax.tyRef Syntax.erased Syntax.mut Cell.behind) (Syntax.tcons (Syntax.tyInt Syntax.w64) Syntax.tnil)))) (List._∷_ (24, Rows.any-gone (Syntax.tyRef Syntax.erased Syntax.mut Cell.behind)) (List._∷_ (25, Rows.any-gone (Syntax.tyStruct (List._∷_ 38 (List._∷_ 91 (List._∷_ 93 List.[]))) (Syntax.tcons (Syntax.tyRef Syntax.erased Syntax.mut Cell.behind) (Syntax.tcons (Syntax.tyInt Syntax.w64) Syntax.tnil)))) (List._∷_ (26, Rows.any-gone (Syntax.tyRef Syntax.erased Syntax.mut (Syntax.tyArray (Syntax.tyInt Syntax.w32) 65540))) (List._∷_ (27, Rows.any-gone (Syntax.tyRef Syntax.erased Syntax.mut (Syntax.tyArray (Syntax.tyInt Syntax.w32) 32772))) (List._∷_ (28, Rows.any-gone (Syntax.tyRef Syntax.erased Syntax.mut (Syntax.tyArray (Syntax.tyInt Syntax.w32) 262160))) (List._∷_ (29, Rows.any-gone (Syntax.tyRef Syntax.erased Syntax.imm (Syntax.tyArray (Syntax.tyInt Syntax.w8) 600000))) (List._∷_ (30, Rows.any-gone (Syntax.tyRef Syntax.erased Syntax.mut (Syntax.tyArray Cell.behind 65540))) (List._∷_ (31, Rows.any-gone (Syntax.tyRef Syntax.erased Syntax.mut (Syntax.tyArray Cell.behind 32772))) List.[])))))))))))))))
 
 abbrev pub t2 : List.List Row.Entry
-t2 = List._∷_ (0, Rows.whole (Declared.row Held.the-type)) (List._∷_ (1, Rows.any-gone (Syntax.tyStruct (List._∷_ 122 (List._∷_ 111 (List._∷_ 110 (List._∷_ 101 (List._∷_ 115 (List._∷_ 58 (List._∷_ 58 (List._∷_ 104 (List._∷_ 101 (List._∷_ 108 (List._∷_ 100 (List._∷_ 58 (List._∷_ 58 (List._∷_ 72 (List._∷_ 101 (List._∷_ 108 (List._∷_ 100 List.[]))))))))))))))))) (Syntax.tcons (Syntax.tyStruct (List._∷_ 112 (List._∷_ 121 (List._∷_ 114 (List._∷_ 97 (List._∷_ 109 (List._∷_ 105 (List._∷_ 100 (List._∷_ 58 (List._∷_ 58 (List._∷_ 83 (List._∷_ 116 (List._∷_ 97 (List._∷_ 116 (List._∷_ 101 List.[])))))))))))))) (Syntax.tcons (Syntax.tyInt Syntax.w32) (Syntax.tcons (Syntax.tyInt Syntax.w32) (Syntax.tcons (Syntax.tyInt Syntax.w32) (Syntax.tcons (Syntax.tyArray (Syntax.tyInt Syntax.w32) 64) Syntax.tnil))))) (Syntax.tcons (Syntax.tyInt Syntax.w64) (Syntax.tcons (Syntax.tyInt Syntax.w64) (Syntax.tcons (Syntax.tyInt Syntax.w64) (Syntax.tcons (Syntax.tyInt Syntax.w64) (Syntax.tcons (Syntax.tyInt Syntax.w64) (Syntax.tcons (Syntax.tyInt Syntax.w64) (Syntax.tcons Syntax.tyBool Syntax.tnil)))))))))) (List._∷_ (2, Rows.any-gone (Syntax.tyStruct (List._∷_ 122 (List._∷_ 111 (List._∷_ 110 (List._∷_ 101 (List._∷_ 115 (List._∷_ 58 (List._∷_ 58 (List._∷_ 115 (List._∷_ 99 (List._∷_ 97 (List._∷_ 110 (List._∷_ 58 (List._∷_ 58 (List._∷_ 76 (List._∷_ 105 (List._∷_ 110 (List._∷_ 101 List.[]))))))))))))))))) (Syntax.tcons (Syntax.tyInt Syntax.w32) (Syntax.tcons (Syntax.tyInt Syntax.w64) (Syntax.tcons (Syntax.tyInt Syntax.w64) (Syntax.tcons (Syntax.tyInt Syntax.w64) (Syntax.tcons (Syntax.tyInt Syntax.w64) Syntax.tnil))))))) (List._∷_ (3, Rows.sslice (Referent.rtF (Referent.fInt Syntax.w8)) (Syntax.tyRef (Syntax.named 0) Syntax.imm (Syntax.tyInt Syntax.w8)) 0) (List._∷_ (4, Rows.sref (Array.Array (Referent.rtF (Referent.fInt Syntax.w32)) 32772) (Syntax.tyRef (Syntax.named 1) Syntax.imm (Syntax.tyArray (Syntax.tyInt Syntax.w32) 32772)) 1) (List._∷_ (5, Rows.mref (Array.Array (Referent.rtF (Referent.fInt Syntax.w8)) 16388) (Syntax.tyRef (Syntax.named 2) Syntax.mut (Syntax.tyArray (Syntax.tyInt Syntax.w8) 16388)) 2) (List._∷_ (6, Rows.mref (Array.Array (Referent.rtF (Referent.fInt Syntax.w32)) 65540) (Syntax.tyRef (Syntax.named 3) Syntax.mut (Syntax.tyArray (Syntax.tyInt Syntax.w32) 65540)) 3) (List._∷_ (7, Rows.mref (Array.Array (Referent.rtF (Referent.fInt Syntax.w32)) 32772) (Syntax.tyRef (Syntax.named 4) Syntax.mut (Syntax.tyArray (Syntax.tyInt Syntax.w32) 32772)) 4) (List._∷_ (8, Rows.mref (Array.Array (Referent.rtF (Referent.fInt Syntax.w32)) 32772) (Syntax.tyRef (Syntax.named 5) Syntax.mut (Syntax.tyArray (Syntax.tyInt Syntax.w32) 32772)) 5) (List._∷_ (9, Rows.mref (Array.Array (Referent.rtF (Referent.fInt Syntax.w32)) 262160) (Syntax.tyRef (Syntax.named 6) Syntax.mut (Syntax.tyArray (Syntax.tyInt Syntax.w32) 262160)) 6) (List._∷_ (10, Rows.mref (Array.Array (Referent.rtF (Referent.fInt Syntax.w8)) 600000) (Syntax.tyRef (Syntax.named 7) Syntax.mut (Syntax.tyArray (Syntax.tyInt Syntax.w8) 600000)) 7) (List._∷_ (11, Rows.mref (Array.Array Cell.R 65540) (Syntax.tyRef (Syntax.named 8) Syntax.mut (Syntax.tyArray Cell.behind 65540)) 8) (List._∷_ (12, Rows.mref (Array.Array Cell.R 32772) (Syntax.tyRef (Syntax.named 9) Syntax.mut (Syntax.tyArray Cell.behind 32772)) 9) (List._∷_ (13, Rows.any-gone Syntax.tyBool) (List._∷_ (14, Rows.any-gone Syntax.tyBool) (List._∷_ (15, Rows.any-gone Syntax.tyBool) List.[])))))))))))))))
+t2 = List._∷_ (0, Rows.whole (Declared.row Held.the-type)) (List._∷_ (1, Rows.any-gone (Syntax.tyStruct (List._∷_ 122 (List._∷_ 111 (List._∷_ 110 (List._∷_ 101 (List._∷_ 115 (List._∷_ 58 (List._∷_ 58 (List._∷_ 104 (List._∷_ 101 (List._∷_ 108 (List._∷_ 100 (List._∷_ 58 (List._∷_ 58 (List._∷_ 72 (List._∷_ 101 (List._∷_ 108 (List._∷_ 100 List.[]))))))))))))))))) (Syntax.tcons (Syntax.tyStruct (List._∷_ 112 (List._∷_ 121 (List._∷_ 114 (List._∷_ 97 (List._∷_ 109 (List._∷_ 105 (List._∷_ 100 (List._∷_ 58 (List._∷_ 58 (List._∷_ 83 (List._∷_ 116 (List._∷_ 97 (List._∷_ 116 (List._∷_ 101 List.[])))))))))))))) (Syntax.tcons (Syntax.tyInt Syntax.w32) (Syntax.tcons (Syntax.tyInt Syntax.w32) (Syntax.tcons (Syntax.tyInt Syntax.w32) (Syntax.tcons (Syntax.tyInt Syntax.w32) (Syntax.tcons (Syntax.tyInt Syntax.w32) (Syntax.tcons (Syntax.tyArray (Syntax.tyInt Syntax.w32) 64) Syntax.tnil))))))) (Syntax.tcons (Syntax.tyInt Syntax.w64) (Syntax.tcons (Syntax.tyInt Syntax.w64) (Syntax.tcons (Syntax.tyInt Syntax.w64) (Syntax.tcons (Syntax.tyInt Syntax.w64) (Syntax.tcons (Syntax.tyInt Syntax.w64) (Syntax.tcons (Syntax.tyInt Syntax.w64) (Syntax.tcons Syntax.tyBool Syntax.tnil)))))))))) (List._∷_ (2, Rows.any-gone (Syntax.tyStruct (List._∷_ 122 (List._∷_ 111 (List._∷_ 110 (List._∷_ 101 (List._∷_ 115 (List._∷_ 58 (List._∷_ 58 (List._∷_ 115 (List._∷_ 99 (List._∷_ 97 (List._∷_ 110 (List._∷_ 58 (List._∷_ 58 (List._∷_ 76 (List._∷_ 105 (List._∷_ 110 (List._∷_ 101 List.[]))))))))))))))))) (Syntax.tcons (Syntax.tyInt Syntax.w32) (Syntax.tcons (Syntax.tyInt Syntax.w64) (Syntax.tcons (Syntax.tyInt Syntax.w64) (Syntax.tcons (Syntax.tyInt Syntax.w64) (Syntax.tcons (Syntax.tyInt Syntax.w64) Syntax.tnil))))))) (List._∷_ (3, Rows.sslice (Referent.rtF (Referent.fInt Syntax.w8)) (Syntax.tyRef (Syntax.named 0) Syntax.imm (Syntax.tyInt Syntax.w8)) 0) (List._∷_ (4, Rows.sref (Array.Array (Referent.rtF (Referent.fInt Syntax.w32)) 32772) (Syntax.tyRef (Syntax.named 1) Syntax.imm (Syntax.tyArray (Syntax.tyInt Syntax.w32) 32772)) 1) (List._∷_ (5, Rows.mref (Array.Array (Referent.rtF (Referent.fInt Syntax.w8)) 16388) (Syntax.tyRef (Syntax.named 2) Syntax.mut (Syntax.tyArray (Syntax.tyInt Syntax.w8) 16388)) 2) (List._∷_ (6, Rows.mref (Array.Array (Referent.rtF (Referent.fInt Syntax.w32)) 65540) (Syntax.tyRef (Syntax.named 3) Syntax.mut (Syntax.tyArray (Syntax.tyInt Syntax.w32) 65540)) 3) (List._∷_ (7, Rows.mref (Array.Array (Referent.rtF (Referent.fInt Syntax.w32)) 32772) (Syntax.tyRef (Syntax.named 4) Syntax.mut (Syntax.tyArray (Syntax.tyInt Syntax.w32) 32772)) 4) (List._∷_ (8, Rows.mref (Array.Array (Referent.rtF (Referent.fInt Syntax.w32)) 32772) (Syntax.tyRef (Syntax.named 5) Syntax.mut (Syntax.tyArray (Syntax.tyInt Syntax.w32) 32772)) 5) (List._∷_ (9, Rows.mref (Array.Array (Referent.rtF (Referent.fInt Syntax.w32)) 262160) (Syntax.tyRef (Syntax.named 6) Syntax.mut (Syntax.tyArray (Syntax.tyInt Syntax.w32) 262160)) 6) (List._∷_ (10, Rows.mref (Array.Array (Referent.rtF (Referent.fInt Syntax.w8)) 600000) (Syntax.tyRef (Syntax.named 7) Syntax.mut (Syntax.tyArray (Syntax.tyInt Syntax.w8) 600000)) 7) (List._∷_ (11, Rows.mref (Array.Array Cell.R 65540) (Syntax.tyRef (Syntax.named 8) Syntax.mut (Syntax.tyArray Cell.behind 65540)) 8) (List._∷_ (12, Rows.mref (Array.Array Cell.R 32772) (Syntax.tyRef (Syntax.named 9) Syntax.mut (Syntax.tyArray Cell.behind 32772)) 9) (List._∷_ (13, Rows.any-gone Syntax.tyBool) (List._∷_ (14, Rows.any-gone Syntax.tyBool) (List._∷_ (15, Rows.any-gone Syntax.tyBool) List.[])))))))))))))))
 
 abbrev pub t3 : List.List Row.Entry
-t3 = List._∷_ (0, Rows.any-gone (Syntax.tyStruct (List._∷_ 122 (List._∷_ 111 (List._∷_ 110 (List._∷_ 101 (List._∷_ 115 (List._∷_ 58 (List._∷_ 58 (List._∷_ 104 (List._∷_ 101 (List._∷_ 108 (List._∷_ 100 (List._∷_ 58 (List._∷_ 58 (List._∷_ 72 (List._∷_ 101 (List._∷_ 108 (List._∷_ 100 List.[]))))))))))))))))) (Syntax.tcons (Syntax.tyStruct (List._∷_ 112 (List._∷_ 121 (List._∷_ 114 (List._∷_ 97 (List._∷_ 109 (List._∷_ 105 (List._∷_ 100 (List._∷_ 58 (List._∷_ 58 (List._∷_ 83 (List._∷_ 116 (List._∷_ 97 (List._∷_ 116 (List._∷_ 101 List.[])))))))))))))) (Syntax.tcons (Syntax.tyInt Syntax.w32) (Syntax.tcons (Syntax.tyInt Syntax.w32) (Syntax.tcons (Syntax.tyInt Syntax.w32) (Syntax.tcons (Syntax.tyArray (Syntax.tyInt Syntax.w32) 64) Syntax.tnil))))) (Syntax.tcons (Syntax.tyInt Syntax.w64) (Syntax.tcons (Syntax.tyInt Syntax.w64) (Syntax.tcons (Syntax.tyInt Syntax.w64) (Syntax.tcons (Syntax.tyInt Syntax.w64) (Syntax.tcons (Syntax.tyInt Syntax.w64) (Syntax.tcons (Syntax.tyInt Syntax.w64) (Syntax.tcons Syntax.tyBool Syntax.tnil)))))))))) (List._∷_ (1, Rows.whole (Declared.row Held.the-type)) (List._∷_ (2, Rows.whole (Declared.row Line.the-type)) (List._∷_ (3, Rows.sslice (Referent.rtF (Referent.fInt Syntax.w8)) (Syntax.tyRef (Syntax.named 0) Syntax.imm (Syntax.tyInt Syntax.w8)) 0) (List._∷_ (4, Rows.sref (Array.Array (Referent.rtF (Referent.fInt Syntax.w32)) 32772) (Syntax.tyRef (Syntax.named 1) Syntax.imm (Syntax.tyArray (Syntax.tyInt Syntax.w32) 32772)) 1) (List._∷_ (5, Rows.mref (Array.Array (Referent.rtF (Referent.fInt Syntax.w8)) 16388) (Syntax.tyRef (Syntax.named 2) Syntax.mut (Syntax.tyArray (Syntax.tyInt Syntax.w8) 16388)) 2) (List._∷_ (6, Rows.mref (Array.Array (Referent.rtF (Referent.fInt Syntax.w32)) 65540) (Syntax.tyRef (Syntax.named 3) Syntax.mut (Syntax.tyArray (Syntax.tyInt Syntax.w32) 65540)) 3) (List._∷_ (7, Rows.mref (Array.Array (Referent.rtF (Referent.fInt Syntax.w32)) 32772) (Syntax.tyRef (Syntax.named 4) Syntax.mut (Syntax.tyArray (Syntax.tyInt Syntax.w32) 32772)) 4) (List._∷_ (8, Rows.mref (Array.Array (Referent.rtF (Referent.fInt Syntax.w32)) 32772) (Syntax.tyRef (Syntax.named 5) Syntax.mut (Syntax.tyArray (Syntax.tyInt Syntax.w32) 32772)) 5) (List._∷_ (9, Rows.mref (Array.Array (Referent.rtF (Referent.fInt Syntax.w32)) 262160) (Syntax.tyRef (Syntax.named 6) Syntax.mut (Syntax.tyArray (Syntax.tyInt Syntax.w32) 262160)) 6) (List._∷_ (10, Rows.mref (Array.Array (Referent.rtF (Referent.fInt Syntax.w8)) 600000) (Syntax.tyRef (Syntax.named 7) Syntax.mut (Syntax.tyArray (Syntax.tyInt Syntax.w8) 600000)) 7) (List._∷_ (11, Rows.mref (Array.Array Cell.R 65540) (Syntax.tyRef (Syntax.named 8) Syntax.mut (Syntax.tyArray Cell.behind 65540)) 8) (List._∷_ (12, Rows.mref (Array.Array Cell.R 32772) (Syntax.tyRef (Syntax.named 9) Syntax.mut (Syntax.tyArray Cell.behind 32772)) 9) (List._∷_ (13, Rows.any-gone Syntax.tyBool) (List._∷_ (14, Rows.any-gone Syntax.tyBool) (List._∷_ (15, Rows.sc-here Row.sBool) List.[])))))))))))))))
+t3 = List._∷_ (0, Rows.any-gone (Syntax.tyStruct (List._∷_ 122 (List._∷_ 111 (List._∷_ 110 (List._∷_ 101 (List._∷_ 115 (List._∷_ 58 (List._∷_ 58 (List._∷_ 104 (List._∷_ 101 (List._∷_ 108 (List._∷_ 100 (List._∷_ 58 (List._∷_ 58 (List._∷_ 72 (List._∷_ 101 (List._∷_ 108 (List._∷_ 100 List.[]))))))))))))))))) (Syntax.tcons (Syntax.tyStruct (List._∷_ 112 (List._∷_ 121 (List._∷_ 114 (List._∷_ 97 (List._∷_ 109 (List._∷_ 105 (List._∷_ 100 (List._∷_ 58 (List._∷_ 58 (List._∷_ 83 (List._∷_ 116 (List._∷_ 97 (List._∷_ 116 (List._∷_ 101 List.[])))))))))))))) (Syntax.tcons (Syntax.tyInt Syntax.w32) (Syntax.tcons (Syntax.tyInt Syntax.w32) (Syntax.tcons (Syntax.tyInt Syntax.w32) (Syntax.tcons (Syntax.tyInt Syntax.w32) (Syntax.tcons (Syntax.tyInt Syntax.w32) (Syntax.tcons (Syntax.tyArray (Syntax.tyInt Syntax.w32) 64) Syntax.tnil))))))) (Syntax.tcons (Syntax.tyInt Syntax.w64) (Syntax.tcons (Syntax.tyInt Syntax.w64) (Syntax.tcons (Syntax.tyInt Syntax.w64) (Syntax.tcons (Syntax.tyInt Syntax.w64) (Syntax.tcons (Syntax.tyInt Syntax.w64) (Syntax.tcons (Syntax.tyInt Syntax.w64) (Syntax.tcons Syntax.tyBool Syntax.tnil)))))))))) (List._∷_ (1, Rows.whole (Declared.row Held.the-type)) (List._∷_ (2, Rows.whole (Declared.row Line.the-type)) (List._∷_ (3, Rows.sslice (Referent.rtF (Referent.fInt Syntax.w8)) (Syntax.tyRef (Syntax.named 0) Syntax.imm (Syntax.tyInt Syntax.w8)) 0) (List._∷_ (4, Rows.sref (Array.Array (Referent.rtF (Referent.fInt Syntax.w32)) 32772) (Syntax.tyRef (Syntax.named 1) Syntax.imm (Syntax.tyArray (Syntax.tyInt Syntax.w32) 32772)) 1) (List._∷_ (5, Rows.mref (Array.Array (Referent.rtF (Referent.fInt Syntax.w8)) 16388) (Syntax.tyRef (Syntax.named 2) Syntax.mut (Syntax.tyArray (Syntax.tyInt Syntax.w8) 16388)) 2) (List._∷_ (6, Rows.mref (Array.Array (Referent.rtF (Referent.fInt Syntax.w32)) 65540) (Syntax.tyRef (Syntax.named 3) Syntax.mut (Syntax.tyArray (Syntax.tyInt Syntax.w32) 65540)) 3) (List._∷_ (7, Rows.mref (Array.Array (Referent.rtF (Referent.fInt Syntax.w32)) 32772) (Syntax.tyRef (Syntax.named 4) Syntax.mut (Syntax.tyArray (Syntax.tyInt Syntax.w32) 32772)) 4) (List._∷_ (8, Rows.mref (Array.Array (Referent.rtF (Referent.fInt Syntax.w32)) 32772) (Syntax.tyRef (Syntax.named 5) Syntax.mut (Syntax.tyArray (Syntax.tyInt Syntax.w32) 32772)) 5) (List._∷_ (9, Rows.mref (Array.Array (Referent.rtF (Referent.fInt Syntax.w32)) 262160) (Syntax.tyRef (Syntax.named 6) Syntax.mut (Syntax.tyArray (Syntax.tyInt Syntax.w32) 262160)) 6) (List._∷_ (10, Rows.mref (Array.Array (Referent.rtF (Referent.fInt Syntax.w8)) 600000) (Syntax.tyRef (Syntax.named 7) Syntax.mut (Syntax.tyArray (Syntax.tyInt Syntax.w8) 600000)) 7) (List._∷_ (11, Rows.mref (Array.Array Cell.R 65540) (Syntax.tyRef (Syntax.named 8) Syntax.mut (Syntax.tyArray Cell.behind 65540)) 8) (List._∷_ (12, Rows.mref (Array.Array Cell.R 32772) (Syntax.tyRef (Syntax.named 9) Syntax.mut (Syntax.tyArray Cell.behind 32772)) 9) (List._∷_ (13, Rows.any-gone Syntax.tyBool) (List._∷_ (14, Rows.any-gone Syntax.tyBool) (List._∷_ (15, Rows.sc-here Row.sBool) List.[])))))))))))))))
 
 abbrev pub t4 : List.List Row.Entry
-t4 = List._∷_ (0, Rows.any-gone (Syntax.tyStruct (List._∷_ 122 (List._∷_ 111 (List._∷_ 110 (List._∷_ 101 (List._∷_ 115 (List._∷_ 58 (List._∷_ 58 (List._∷_ 104 (List._∷_ 101 (List._∷_ 108 (List._∷_ 100 (List._∷_ 58 (List._∷_ 58 (List._∷_ 72 (List._∷_ 101 (List._∷_ 108 (List._∷_ 100 List.[]))))))))))))))))) (Syntax.tcons (Syntax.tyStruct (List._∷_ 112 (List._∷_ 121 (List._∷_ 114 (List._∷_ 97 (List._∷_ 109 (List._∷_ 105 (List._∷_ 100 (List._∷_ 58 (List._∷_ 58 (List._∷_ 83 (List._∷_ 116 (List._∷_ 97 (List._∷_ 116 (List._∷_ 101 List.[])))))))))))))) (Syntax.tcons (Syntax.tyInt Syntax.w32) (Syntax.tcons (Syntax.tyInt Syntax.w32) (Syntax.tcons (Syntax.tyInt Syntax.w32) (Syntax.tcons (Syntax.tyArray (Syntax.tyInt Syntax.w32) 64) Syntax.tnil))))) (Syntax.tcons (Syntax.tyInt Syntax.w64) (Syntax.tcons (Syntax.tyInt Syntax.w64) (Syntax.tcons (Syntax.tyInt Syntax.w64) (Syntax.tcons (Syntax.tyInt Syntax.w64) (Syntax.tcons (Syntax.tyInt Syntax.w64) (Syntax.tcons (Syntax.tyInt Syntax.w64) (Syntax.tcons Syntax.tyBool Syntax.tnil)))))))))) (List._∷_ (1, Rows.whole (Declared.row Held.the-type)) (List._∷_ (2, Rows.whole (Declared.row Line.the-type)) (List._∷_ (3, Rows.sslice (Referent.rtF (Referent.fInt Syntax.w8)) (Syntax.tyRef (Syntax.named 0) Syntax.imm (Syntax.tyInt Syntax.w8)) 0) (List._∷_ (4, Rows.sref (Array.Array (Referent.rtF (Referent.fInt Syntax.w32)) 32772) (Syntax.tyRef (Syntax.named 1) Syntax.imm (Syntax.tyArray (Syntax.tyInt Syntax.w32) 32772)) 1) (List._∷_ (5, Rows.mref-owed (Array.Array (Referent.rtF (Referent.fInt Syntax.w8)) 16388) (Syntax.tyRef (Syntax.named 2) Syntax.mut (Syntax.tyArray (Syntax.tyInt Syntax.w8) 16388)) 2 10 Row.off) (List._∷_ (6, Rows.mref (Array.Array (Referent.rtF (Referent.fInt Syntax.w32)) 65540) (Syntax.tyRef (Syntax.named 3) Syntax.mut (Syntax.tyArray (Syntax.tyInt Syntax.w32) 65540)) 3) (List._∷_ (7, Rows.mref (Array.Array (Referent.rtF (Referent.fInt Syntax.w32)) 32772) (Syntax.tyRef (Syntax.named 4) Syntax.mut (Syntax.tyArray (Syntax.tyInt Syntax.w32) 32772)) 4) (List._∷_ (8, Rows.mref (Array.Array (Referent.rtF (Referent.fInt Syntax.w32)) 32772) (Syntax.tyRef (Syntax.named 5) Syntax.mut (Syntax.tyArray (Syntax.tyInt Syntax.w32) 32772)) 5) (List._∷_ (9, Rows.mref (Array.Array (Referent.rtF (Referent.fInt Syntax.w32)) 262160) (Syntax.tyRef (Syntax.named 6) Syntax.mut (Syntax.tyArray (Syntax.tyInt Syntax.w32) 262160)) 6) (List._∷_ (10, Rows.mref (Array.Array (Referent.rtF (Referent.fInt Syntax.w8)) 600000) (Syntax.tyRef (Syntax.named 7) Syntax.mut (Syntax.tyArray (Syntax.tyInt Syntax.w8) 600000)) 7) (List._∷_ (11, Rows.mref (Array.Array Cell.R 65540) (Syntax.tyRef (Syntax.named 8) Syntax.mut (Syntax.tyArray Cell.behind 65540)) 8) (List._∷_ (12, Rows.mref (Array.Array Cell.R 32772) (Syntax.tyRef (Syntax.named 9) Syntax.mut (Syntax.tyArray Cell.behind 32772)) 9) (List._∷_ (13, Rows.any-gone Syntax.tyBool) (List._∷_ (14, Rows.any-gone Syntax.tyBool) (List._∷_ (15, Rows.any-gone Syntax.tyBool) List.[])))))))))))))))
+t4 = List._∷_ (0, Rows.any-gone (Syntax.tyStruct (List._∷_ 122 (List._∷_ 111 (List._∷_ 110 (List._∷_ 101 (List._∷_ 115 (List._∷_ 58 (List._∷_ 58 (List._∷_ 104 (List._∷_ 101 (List._∷_ 108 (List._∷_ 100 (List._∷_ 58 (List._∷_ 58 (List._∷_ 72 (List._∷_ 101 (List._∷_ 108 (List._∷_ 100 List.[]))))))))))))))))) (Syntax.tcons (Syntax.tyStruct (List._∷_ 112 (List._∷_ 121 (List._∷_ 114 (List._∷_ 97 (List._∷_ 109 (List._∷_ 105 (List._∷_ 100 (List._∷_ 58 (List._∷_ 58 (List._∷_ 83 (List._∷_ 116 (List._∷_ 97 (List._∷_ 116 (List._∷_ 101 List.[])))))))))))))) (Syntax.tcons (Syntax.tyInt Syntax.w32) (Syntax.tcons (Syntax.tyInt Syntax.w32) (Syntax.tcons (Syntax.tyInt Syntax.w32) (Syntax.tcons (Syntax.tyInt Syntax.w32) (Syntax.tcons (Syntax.tyInt Syntax.w32) (Syntax.tcons (Syntax.tyArray (Syntax.tyInt Syntax.w32) 64) Syntax.tnil))))))) (Syntax.tcons (Syntax.tyInt Syntax.w64) (Syntax.tcons (Syntax.tyInt Syntax.w64) (Syntax.tcons (Syntax.tyInt Syntax.w64) (Syntax.tcons (Syntax.tyInt Syntax.w64) (Syntax.tcons (Syntax.tyInt Syntax.w64) (Syntax.tcons (Syntax.tyInt Syntax.w64) (Syntax.tcons Syntax.tyBool Syntax.tnil)))))))))) (List._∷_ (1, Rows.whole (Declared.row Held.the-type)) (List._∷_ (2, Rows.whole (Declared.row Line.the-type)) (List._∷_ (3, Rows.sslice (Referent.rtF (Referent.fInt Syntax.w8)) (Syntax.tyRef (Syntax.named 0) Syntax.imm (Syntax.tyInt Syntax.w8)) 0) (List._∷_ (4, Rows.sref (Array.Array (Referent.rtF (Referent.fInt Syntax.w32)) 32772) (Syntax.tyRef (Syntax.named 1) Syntax.imm (Syntax.tyArray (Syntax.tyInt Syntax.w32) 32772)) 1) (List._∷_ (5, Rows.mref-owed (Array.Array (Referent.rtF (Referent.fInt Syntax.w8)) 16388) (Syntax.tyRef (Syntax.named 2) Syntax.mut (Syntax.tyArray (Syntax.tyInt Syntax.w8) 16388)) 2 10 Row.off) (List._∷_ (6, Rows.mref (Array.Array (Referent.rtF (Referent.fInt Syntax.w32)) 65540) (Syntax.tyRef (Syntax.named 3) Syntax.mut (Syntax.tyArray (Syntax.tyInt Syntax.w32) 65540)) 3) (List._∷_ (7, Rows.mref (Array.Array (Referent.rtF (Referent.fInt Syntax.w32)) 32772) (Syntax.tyRef (Syntax.named 4) Syntax.mut (Syntax.tyArray (Syntax.tyInt Syntax.w32) 32772)) 4) (List._∷_ (8, Rows.mref (Array.Array (Referent.rtF (Referent.fInt Syntax.w32)) 32772) (Syntax.tyRef (Syntax.named 5) Syntax.mut (Syntax.tyArray (Syntax.tyInt Syntax.w32) 32772)) 5) (List._∷_ (9, Rows.mref (Array.Array (Referent.rtF (Referent.fInt Syntax.w32)) 262160) (Syntax.tyRef (Syntax.named 6) Syntax.mut (Syntax.tyArray (Syntax.tyInt Syntax.w32) 262160)) 6) (List._∷_ (10, Rows.mref (Array.Array (Referent.rtF (Referent.fInt Syntax.w8)) 600000) (Syntax.tyRef (Syntax.named 7) Syntax.mut (Syntax.tyArray (Syntax.tyInt Syntax.w8) 600000)) 7) (List._∷_ (11, Rows.mref (Array.Array Cell.R 65540) (Syntax.tyRef (Syntax.named 8) Syntax.mut (Syntax.tyArray Cell.behind 65540)) 8) (List._∷_ (12, Rows.mref (Array.Array Cell.R 32772) (Syntax.tyRef (Syntax.named 9) Syntax.mut (Syntax.tyArray Cell.behind 32772)) 9) (List._∷_ (13, Rows.any-gone Syntax.tyBool) (List._∷_ (14, Rows.any-gone Syntax.tyBool) (List._∷_ (15, Rows.any-gone Syntax.tyBool) List.[])))))))))))))))
 
 abbrev pub t5 : List.List Row.Entry
 t5 = List._∷_ (16, Rows.mref (Array.Array (Referent.rtF (Referent.fInt Syntax.w8)) 16388) (Syntax.tyRef Syntax.erased Syntax.mut (Syntax.tyArray (Syntax.tyInt Syntax.w8) 16388)) 10) (List._∷_ (17, Rows.any-gone (Syntax.tyRef Syntax.erased Syntax.mut (Syntax.tyArray (Syntax.tyInt Syntax.w32) 65540))) (List._∷_ (18, Rows.any-gone (Syntax.tyRef Syntax.erased Syntax.mut (Syntax.tyArray (Syntax.tyInt Syntax.w32) 32772))) (List._∷_ (19, Rows.any-gone (Syntax.tyRef Syntax.erased Syntax.mut (Syntax.tyArray (Syntax.tyInt Syntax.w32) 32772))) (List._∷_ (20, Rows.any-gone (Syntax.tyRef Syntax.erased Syntax.mut (Syntax.tyArray (Syntax.tyInt Syntax.w32) 262160))) (List._∷_ (21, Rows.any-gone (Syntax.tyRef Syntax.erased Syntax.mut (Syntax.tyArray (Syntax.tyInt Syntax.w8) 600000))) (List._∷_ (22, Rows.any-gone (Syntax.tyRef Syntax.erased Syntax.mut Cell.behind)) (List._∷_ (23, Rows.any-gone (Syntax.tyStruct (List._∷_ 38 (List._∷_ 91 (List._∷_ 93 List.[]))) (Syntax.tcons (Syntax.tyRef Syntax.erased Syntax.mut Cell.behind) (Syntax.tcons (Syntax.tyInt Syntax.w64) Syntax.tnil)))) (List._∷_ (24, Rows.any-gone (Syntax.tyRef Syntax.erased Syntax.mut Cell.behind)) (List._∷_ (25, Rows.any-gone (Syntax.tyStruct (List._∷_ 38 (List._∷_ 91 (List._∷_ 93 List.[]))) (Syntax.tcons (Syntax.tyRef Syntax.erased Syntax.mut Cell.behind) (Syntax.tcons (Syntax.tyInt Syntax.w64) Syntax.tnil)))) (List._∷_ (26, Rows.any-gone (Syntax.tyRef Syntax.erased Syntax.mut (Syntax.tyArray (Syntax.tyInt Syntax.w32) 65540))) (List._∷_ (27, Rows.any-gone (Syntax.tyRef Syntax.erased Syntax.mut (Syntax.tyArray (Syntax.tyInt Syntax.w32) 32772))) (List._∷_ (28, Rows.any-gone (Syntax.tyRef Syntax.erased Syntax.mut (Syntax.tyArray (Syntax.tyInt Syntax.w32) 262160))) (List._∷_ (29, Rows.any-gone (Syntax.tyRef Syntax.erased Syntax.imm (Syntax.tyArray (Syntax.tyInt Syntax.w8) 600000))) (List._∷_ (30, Rows.any-gone (Syntax.tyRef Syntax.erased Syntax.mut (Syntax.tyArray Cell.behind 65540))) (List._∷_ (31, Rows.any-gone (Syntax.tyRef Syntax.erased Syntax.mut (Syntax.tyArray Cell.behind 32772))) List.[])))))))))))))))
 
 abbrev pub t6 : List.List Row.Entry
-t6 = List._∷_ (0, Rows.any-gone (Syntax.tyStruct (List._∷_ 122 (List._∷_ 111 (List._∷_ 110 (List._∷_ 101 (List._∷_ 115 (List._∷_ 58 (List._∷_ 58 (List._∷_ 104 (List._∷_ 101 (List._∷_ 108 (List._∷_ 100 (List._∷_ 58 (List._∷_ 58 (List._∷_ 72 (List._∷_ 101 (List._∷_ 108 (List._∷_ 100 List.[]))))))))))))))))) (Syntax.tcons (Syntax.tyStruct (List._∷_ 112 (List._∷_ 121 (List._∷_ 114 (List._∷_ 97 (List._∷_ 109 (List._∷_ 105 (List._∷_ 100 (List._∷_ 58 (List._∷_ 58 (List._∷_ 83 (List._∷_ 116 (List._∷_ 97 (List._∷_ 116 (List._∷_ 101 List.[])))))))))))))) (Syntax.tcons (Syntax.tyInt Syntax.w32) (Syntax.tcons (Syntax.tyInt Syntax.w32) (Syntax.tcons (Syntax.tyInt Syntax.w32) (Syntax.tcons (Syntax.tyArray (Syntax.tyInt Syntax.w32) 64) Syntax.tnil))))) (Syntax.tcons (Syntax.tyInt Syntax.w64) (Syntax.tcons (Syntax.tyInt Syntax.w64) (Syntax.tcons (Syntax.tyInt Syntax.w64) (Syntax.tcons (Syntax.tyInt Syntax.w64) (Syntax.tcons (Syntax.tyInt Syntax.w64) (Syntax.tcons (Syntax.tyInt Syntax.w64) (Syntax.tcons Syntax.tyBool Syntax.tnil)))))))))) (List._∷_ (1, Rows.whole (Declared.row Held.the-type)) (List._∷_ (2, Rows.whole (Declared.row Line.the-type)) (List._∷_ (3, Rows.sslice (Referent.rtF (Referent.fInt Syntax.w8)) (Syntax.tyRef (Syntax.named 0) Syntax.imm (Syntax.tyInt Syntax.w8)) 0) (List._∷_ (4, Rows.sref (Array.Array (Referent.rtF (Referent.fInt Syntax.w32)) 32772) (Syntax.tyRef (Syntax.named 1) Syntax.imm (Syntax.tyArray (Syntax.tyInt Syntax.w32) 32772)) 1) (List._∷_ (5, Rows.mref-owed (Array.Array (Referent.rtF (Referent.fInt Syntax.w8)) 16388) (Syntax.tyRef (Syntax.named 2) Syntax.mut (Syntax.tyArray (Syntax.tyInt Syntax.w8) 16388)) 2 10 Row.off) (List._∷_ (6, Rows.mref-owed (Array.Array (Referent.rtF (Referent.fInt Syntax.w32)) 65540) (Syntax.tyRef (Syntax.named 3) Syntax.mut (Syntax.tyArray (Syntax.tyInt Syntax.w32) 65540)) 3 11 Row.off) (List._∷_ (7, Rows.mref (Array.Array (Referent.rtF (Referent.fInt Syntax.w32)) 32772) (Syntax.tyRef (Syntax.named 4) Syntax.mut (Syntax.tyArray (Syntax.tyInt Syntax.w32) 32772)) 4) (List._∷_ (8, Rows.mref (Array.Array (Referent.rtF (Referent.fInt Syntax.w32)) 32772) (Syntax.tyRef (Syntax.named 5) Syntax.mut (Syntax.tyArray (Syntax.tyInt Syntax.w32) 32772)) 5) (List._∷_ (9, Rows.mref (Array.Array (Referent.rtF (Referent.fInt Syntax.w32)) 262160) (Syntax.tyRef (Syntax.named 6) Syntax.mut (Syntax.tyArray (Syntax.tyInt Syntax.w32) 262160)) 6) (List._∷_ (10, Rows.mref (Array.Array (Referent.rtF (Referent.fInt Syntax.w8)) 600000) (Syntax.tyRef (Syntax.named 7) Syntax.mut (Syntax.tyArray (Syntax.tyInt Syntax.w8) 600000)) 7) (List._∷_ (11, Rows.mref (Array.Array Cell.R 65540) (Syntax.tyRef (Syntax.named 8) Syntax.mut (Syntax.tyArray Cell.behind 65540)) 8) (List._∷_ (12, Rows.mref (Array.Array Cell.R 32772) (Syntax.tyRef (Syntax.named 9) Syntax.mut (Syntax.tyArray Cell.behind 32772)) 9) (List._∷_ (13, Rows.any-gone Syntax.tyBool) (List._∷_ (14, Rows.any-gone Syntax.tyBool) (List._∷_ (15, Rows.any-gone Syntax.tyBool) List.[])))))))))))))))
+t6 = List._∷_ (0, Rows.any-gone (Syntax.tyStruct (List._∷_ 122 (List._∷_ 111 (List._∷_ 110 (List._∷_ 101 (List._∷_ 115 (List._∷_ 58 (List._∷_ 58 (List._∷_ 104 (List._∷_ 101 (List._∷_ 108 (List._∷_ 100 (List._∷_ 58 (List._∷_ 58 (List._∷_ 72 (List._∷_ 101 (List._∷_ 108 (List._∷_ 100 List.[]))))))))))))))))) (Syntax.tcons (Syntax.tyStruct (List._∷_ 112 (List._∷_ 121 (List._∷_ 114 (List._∷_ 97 (List._∷_ 109 (List._∷_ 105 (List._∷_ 100 (List._∷_ 58 (List._∷_ 58 (List._∷_ 83 (List._∷_ 116 (List._∷_ 97 (List._∷_ 116 (List._∷_ 101 List.[])))))))))))))) (Syntax.tcons (Syntax.tyInt Syntax.w32) (Syntax.tcons (Syntax.tyInt Syntax.w32) (Syntax.tcons (Syntax.tyInt Syntax.w32) (Syntax.tcons (Syntax.tyInt Syntax.w32) (Syntax.tcons (Syntax.tyInt Syntax.w32) (Syntax.tcons (Syntax.tyArray (Syntax.tyInt Syntax.w32) 64) Syntax.tnil))))))) (Syntax.tcons (Syntax.tyInt Syntax.w64) (Syntax.tcons (Syntax.tyInt Syntax.w64) (Syntax.tcons (Syntax.tyInt Syntax.w64) (Syntax.tcons (Syntax.tyInt Syntax.w64) (Syntax.tcons (Syntax.tyInt Syntax.w64) (Syntax.tcons (Syntax.tyInt Syntax.w64) (Syntax.tcons Syntax.tyBool Syntax.tnil)))))))))) (List._∷_ (1, Rows.whole (Declared.row Held.the-type)) (List._∷_ (2, Rows.whole (Declared.row Line.the-type)) (List._∷_ (3, Rows.sslice (Referent.rtF (Referent.fInt Syntax.w8)) (Syntax.tyRef (Syntax.named 0) Syntax.imm (Syntax.tyInt Syntax.w8)) 0) (List._∷_ (4, Rows.sref (Array.Array (Referent.rtF (Referent.fInt Syntax.w32)) 32772) (Syntax.tyRef (Syntax.named 1) Syntax.imm (Syntax.tyArray (Syntax.tyInt Syntax.w32) 32772)) 1) (List._∷_ (5, Rows.mref-owed (Array.Array (Referent.rtF (Referent.fInt Syntax.w8)) 16388) (Syntax.tyRef (Syntax.named 2) Syntax.mut (Syntax.tyArray (Syntax.tyInt Syntax.w8) 16388)) 2 10 Row.off) (List._∷_ (6, Rows.mref-owed (Array.Array (Referent.rtF (Referent.fInt Syntax.w32)) 65540) (Syntax.tyRef (Syntax.named 3) Syntax.mut (Syntax.tyArray (Syntax.tyInt Syntax.w32) 65540)) 3 11 Row.off) (List._∷_ (7, Rows.mref (Array.Array (Referent.rtF (Referent.fInt Syntax.w32)) 32772) (Syntax.tyRef (Syntax.named 4) Syntax.mut (Syntax.tyArray (Syntax.tyInt Syntax.w32) 32772)) 4) (List._∷_ (8, Rows.mref (Array.Array (Referent.rtF (Referent.fInt Syntax.w32)) 32772) (Syntax.tyRef (Syntax.named 5) Syntax.mut (Syntax.tyArray (Syntax.tyInt Syntax.w32) 32772)) 5) (List._∷_ (9, Rows.mref (Array.Array (Referent.rtF (Referent.fInt Syntax.w32)) 262160) (Syntax.tyRef (Syntax.named 6) Syntax.mut (Syntax.tyArray (Syntax.tyInt Syntax.w32) 262160)) 6) (List._∷_ (10, Rows.mref (Array.Array (Referent.rtF (Referent.fInt Syntax.w8)) 600000) (Syntax.tyRef (Syntax.named 7) Syntax.mut (Syntax.tyArray (Syntax.tyInt Syntax.w8) 600000)) 7) (List._∷_ (11, Rows.mref (Array.Array Cell.R 65540) (Syntax.tyRef (Syntax.named 8) Syntax.mut (Syntax.tyArray Cell.behind 65540)) 8) (List._∷_ (12, Rows.mref (Array.Array Cell.R 32772) (Syntax.tyRef (Syntax.named 9) Syntax.mut (Syntax.tyArray Cell.behind 32772)) 9) (List._∷_ (13, Rows.any-gone Syntax.tyBool) (List._∷_ (14, Rows.any-gone Syntax.tyBool) (List._∷_ (15, Rows.any-gone Syntax.tyBool) List.[])))))))))))))))
 
 abbrev pub t7 : List.List Row.Entry
 t7 = List._∷_ (16, Rows.mref (Array.Array (Referent.rtF (Referent.fInt Syntax.w8)) 16388) (Syntax.tyRef Syntax.erased Syntax.mut (Syntax.tyArray (Syntax.tyInt Syntax.w8) 16388)) 10) (List._∷_ (17, Rows.mref (Array.Array (Referent.rtF (Referent.fInt Syntax.w32)) 65540) (Syntax.tyRef Syntax.erased Syntax.mut (Syntax.tyArray (Syntax.tyInt Syntax.w32) 65540)) 11) (List._∷_ (18, Rows.any-gone (Syntax.tyRef Syntax.erased Syntax.mut (Syntax.tyArray (Syntax.tyInt Syntax.w32) 32772))) (List._∷_ (19, Rows.any-gone (Syntax.tyRef Syntax.erased Syntax.mut (Syntax.tyArray (Syntax.tyInt Syntax.w32) 32772))) (List._∷_ (20, Rows.any-gone (Syntax.tyRef Syntax.erased Syntax.mut (Syntax.tyArray (Syntax.tyInt Syntax.w32) 262160))) (List._∷_ (21, Rows.any-gone (Syntax.tyRef Syntax.erased Syntax.mut (Syntax.tyArray (Syntax.tyInt Syntax.w8) 600000))) (List._∷_ (22, Rows.any-gone (Syntax.tyRef Syntax.erased Syntax.mut Cell.behind)) (List._∷_ (23, Rows.any-gone (Syntax.tyStruct (List._∷_ 38 (List._∷_ 91 (List._∷_ 93 List.[]))) (Syntax.tcons (Syntax.tyRef Syntax.erased Syntax.mut Cell.behind) (Syntax.tcons (Syntax.tyInt Syntax.w64) Syntax.tnil)))) (List._∷_ (24, Rows.any-gone (Syntax.tyRef Syntax.erased Syntax.mut Cell.behind)) (List._∷_ (25, Rows.any-gone (Syntax.tyStruct (List._∷_ 38 (List._∷_ 91 (List._∷_ 93 List.[]))) (Syntax.tcons (Syntax.tyRef Syntax.erased Syntax.mut Cell.behind) (Syntax.tcons (Syntax.tyInt Syntax.w64) Syntax.tnil)))) (List._∷_ (26, Rows.any-gone (Syntax.tyRef Syntax.erased Syntax.mut (Syntax.tyArray (Syntax.tyInt Syntax.w32) 65540))) (List._∷_ (27, Rows.any-gone (Syntax.tyRef Syntax.erased Syntax.mut (Syntax.tyArray (Syntax.tyInt Syntax.w32) 32772))) (List._∷_ (28, Rows.any-gone (Syntax.tyRef Syntax.erased Syntax.mut (Syntax.tyArray (Syntax.tyInt Syntax.w32) 262160))) (List._∷_ (29, Rows.any-gone (Syntax.tyRef Syntax.erased Syntax.imm (Syntax.tyArray (Syntax.tyInt Syntax.w8) 600000))) (List._∷_ (30, Rows.any-gone (Syntax.tyRef Syntax.erased Syntax.mut (Syntax.tyArray Cell.behind 65540))) (List._∷_ (31, Rows.any-gone (Syntax.tyRef Syntax.erased Syntax.mut (Syntax.tyArray Cell.behind 32772))) List.[])))))))))))))))
 
 abbrev pub t8 : List.List Row.Entry
-t8 = List._∷_ (0, Rows.any-gone (Syntax.tyStruct (List._∷_ 122 (List._∷_ 111 (List._∷_ 110 (List._∷_ 101 (List._∷_ 115 (List._∷_ 58 (List._∷_ 58 (List._∷_ 104 (List._∷_ 101 (List._∷_ 108 (List._∷_ 100 (List._∷_ 58 (List._∷_ 58 (List._∷_ 72 (List._∷_ 101 (List._∷_ 108 (List._∷_ 100 List.[]))))))))))))))))) (Syntax.tcons (Syntax.tyStruct (List._∷_ 112 (List._∷_ 121 (List._∷_ 114 (List._∷_ 97 (List._∷_ 109 (List._∷_ 105 (List._∷_ 100 (List._∷_ 58 (List._∷_ 58 (List._∷_ 83 (List._∷_ 116 (List._∷_ 97 (List._∷_ 116 (List._∷_ 101 List.[])))))))))))))) (Syntax.tcons (Syntax.tyInt Syntax.w32) (Syntax.tcons (Syntax.tyInt Syntax.w32) (Syntax.tcons (Syntax.tyInt Syntax.w32) (Syntax.tcons (Syntax.tyArray (Syntax.tyInt Syntax.w32) 64) Syntax.tnil))))) (Syntax.tcons (Syntax.tyInt Syntax.w64) (Syntax.tcons (Syntax.tyInt Syntax.w64) (Syntax.tcons (Syntax.tyInt Syntax.w64) (Syntax.tcons (Syntax.tyInt Syntax.w64) (Syntax.tcons (Syntax.tyInt Syntax.w64) (Syntax.tcons (Syntax.tyInt Syntax.w64) (Syntax.tcons Syntax.tyBool Syntax.tnil)))))))))) (List._∷_ (1, Rows.whole (Declared.row Held.the-type)) (List._∷_ (2, Rows.whole (Declared.row Line.the-type)) (List._∷_ (3, Rows.sslice (Referent.rtF (Referent.fInt Syntax.w8)) (Syntax.tyRef (Syntax.named 0) Syntax.imm (Syntax.tyInt Syntax.w8)) 0) (List._∷_ (4, Rows.sref (Array.Array (Referent.rtF (Referent.fInt Syntax.w32)) 32772) (Syntax.tyRef (Syntax.named 1) Syntax.imm (Syntax.tyArray (Syntax.tyInt Syntax.w32) 32772)) 1) (List._∷_ (5, Rows.mref-owed (Array.Array (Referent.rtF (Referent.fInt Syntax.w8)) 16388) (Syntax.tyRef (Syntax.named 2) Syntax.mut (Syntax.tyArray (Syntax.tyInt Syntax.w8) 16388)) 2 10 Row.off) (List._∷_ (6, Rows.mref-owed (Array.Array (Referent.rtF (Referent.fInt Syntax.w32)) 65540) (Syntax.tyRef (Syntax.named 3) Syntax.mut (Syntax.tyArray (Syntax.tyInt Syntax.w32) 65540)) 3 11 Row.off) (List._∷_ (7, Rows.mref-owed (Array.Array (Referent.rtF (Referent.fInt Syntax.w32)) 32772) (Syntax.tyRef (Syntax.named 4) Syntax.mut (Syntax.tyArray (Syntax.tyInt Syntax.w32) 32772)) 4 12 Row.off) (List._∷_ (8, Rows.mref (Array.Array (Referent.rtF (Referent.fInt Syntax.w32)) 32772) (Syntax.tyRef (Syntax.named 5) Syntax.mut (Syntax.tyArray (Syntax.tyInt Syntax.w32) 32772)) 5) (List._∷_ (9, Rows.mref (Array.Array (Referent.rtF (Referent.fInt Syntax.w32)) 262160) (Syntax.tyRef (Syntax.named 6) Syntax.mut (Syntax.tyArray (Syntax.tyInt Syntax.w32) 262160)) 6) (List._∷_ (10, Rows.mref (Array.Array (Referent.rtF (Referent.fInt Syntax.w8)) 600000) (Syntax.tyRef (Syntax.named 7) Syntax.mut (Syntax.tyArray (Syntax.tyInt Syntax.w8) 600000)) 7) (List._∷_ (11, Rows.mref (Array.Array Cell.R 65540) (Syntax.tyRef (Syntax.named 8) Syntax.mut (Syntax.tyArray Cell.behind 65540)) 8) (List._∷_ (12, Rows.mref (Array.Array Cell.R 32772) (Syntax.tyRef (Syntax.named 9) Syntax.mut (Syntax.tyArray Cell.behind 32772)) 9) (List._∷_ (13, Rows.any-gone Syntax.tyBool) (List._∷_ (14, Rows.any-gone Syntax.tyBool) (List._∷_ (15, Rows.any-gone Syntax.tyBool) List.[])))))))))))))))
+t8 = List._∷_ (0, Rows.any-gone (Syntax.tyStruct (List._∷_ 122 (List._∷_ 111 (List._∷_ 110 (List._∷_ 101 (List._∷_ 115 (List._∷_ 58 (List._∷_ 58 (List._∷_ 104 (List._∷_ 101 (List._∷_ 108 (List._∷_ 100 (List._∷_ 58 (List._∷_ 58 (List._∷_ 72 (List._∷_ 101 (List._∷_ 108 (List._∷_ 100 List.[]))))))))))))))))) (Syntax.tcons (Syntax.tyStruct (List._∷_ 112 (List._∷_ 121 (List._∷_ 114 (List._∷_ 97 (List._∷_ 109 (List._∷_ 105 (List._∷_ 100 (List._∷_ 58 (List._∷_ 58 (List._∷_ 83 (List._∷_ 116 (List._∷_ 97 (List._∷_ 116 (List._∷_ 101 List.[])))))))))))))) (Syntax.tcons (Syntax.tyInt Syntax.w32) (Syntax.tcons (Syntax.tyInt Syntax.w32) (Syntax.tcons (Syntax.tyInt Syntax.w32) (Syntax.tcons (Syntax.tyInt Syntax.w32) (Syntax.tcons (Syntax.tyInt Syntax.w32) (Syntax.tcons (Syntax.tyArray (Syntax.tyInt Syntax.w32) 64) Syntax.tnil))))))) (Syntax.tcons (Syntax.tyInt Syntax.w64) (Syntax.tcons (Syntax.tyInt Syntax.w64) (Syntax.tcons (Syntax.tyInt Syntax.w64) (Syntax.tcons (Syntax.tyInt Syntax.w64) (Syntax.tcons (Syntax.tyInt Syntax.w64) (Syntax.tcons (Syntax.tyInt Syntax.w64) (Syntax.tcons Syntax.tyBool Syntax.tnil)))))))))) (List._∷_ (1, Rows.whole (Declared.row Held.the-type)) (List._∷_ (2, Rows.whole (Declared.row Line.the-type)) (List._∷_ (3, Rows.sslice (Referent.rtF (Referent.fInt Syntax.w8)) (Syntax.tyRef (Syntax.named 0) Syntax.imm (Syntax.tyInt Syntax.w8)) 0) (List._∷_ (4, Rows.sref (Array.Array (Referent.rtF (Referent.fInt Syntax.w32)) 32772) (Syntax.tyRef (Syntax.named 1) Syntax.imm (Syntax.tyArray (Syntax.tyInt Syntax.w32) 32772)) 1) (List._∷_ (5, Rows.mref-owed (Array.Array (Referent.rtF (Referent.fInt Syntax.w8)) 16388) (Syntax.tyRef (Syntax.named 2) Syntax.mut (Syntax.tyArray (Syntax.tyInt Syntax.w8) 16388)) 2 10 Row.off) (List._∷_ (6, Rows.mref-owed (Array.Array (Referent.rtF (Referent.fInt Syntax.w32)) 65540) (Syntax.tyRef (Syntax.named 3) Syntax.mut (Syntax.tyArray (Syntax.tyInt Syntax.w32) 65540)) 3 11 Row.off) (List._∷_ (7, Rows.mref-owed (Array.Array (Referent.rtF (Referent.fInt Syntax.w32)) 32772) (Syntax.tyRef (Syntax.named 4) Syntax.mut (Syntax.tyArray (Syntax.tyInt Syntax.w32) 32772)) 4 12 Row.off) (List._∷_ (8, Rows.mref (Array.Array (Referent.rtF (Referent.fInt Syntax.w32)) 32772) (Syntax.tyRef (Syntax.named 5) Syntax.mut (Syntax.tyArray (Syntax.tyInt Syntax.w32) 32772)) 5) (List._∷_ (9, Rows.mref (Array.Array (Referent.rtF (Referent.fInt Syntax.w32)) 262160) (Syntax.tyRef (Syntax.named 6) Syntax.mut (Syntax.tyArray (Syntax.tyInt Syntax.w32) 262160)) 6) (List._∷_ (10, Rows.mref (Array.Array (Referent.rtF (Referent.fInt Syntax.w8)) 600000) (Syntax.tyRef (Syntax.named 7) Syntax.mut (Syntax.tyArray (Syntax.tyInt Syntax.w8) 600000)) 7) (List._∷_ (11, Rows.mref (Array.Array Cell.R 65540) (Syntax.tyRef (Syntax.named 8) Syntax.mut (Syntax.tyArray Cell.behind 65540)) 8) (List._∷_ (12, Rows.mref (Array.Array Cell.R 32772) (Syntax.tyRef (Syntax.named 9) Syntax.mut (Syntax.tyArray Cell.behind 32772)) 9) (List._∷_ (13, Rows.any-gone Syntax.tyBool) (List._∷_ (14, Rows.any-gone Syntax.tyBool) (List._∷_ (15, Rows.any-gone Syntax.tyBool) List.[])))))))))))))))
 
 abbrev pub t9 : List.List Row.Entry
 t9 = List._∷_ (16, Rows.mref (Array.Array (Referent.rtF (Referent.fInt Syntax.w8)) 16388) (Syntax.tyRef Syntax.erased Syntax.mut (Syntax.tyArray (Syntax.tyInt Syntax.w8) 16388)) 10) (List._∷_ (17, Rows.mref (Array.Array (Referent.rtF (Referent.fInt Syntax.w32)) 65540) (Syntax.tyRef Syntax.erased Syntax.mut (Syntax.tyArray (Syntax.tyInt Syntax.w32) 65540)) 11) (List._∷_ (18, Rows.mref (Array.Array (Referent.rtF (Referent.fInt Syntax.w32)) 32772) (Syntax.tyRef Syntax.erased Syntax.mut (Syntax.tyArray (Syntax.tyInt Syntax.w32) 32772)) 12) (List._∷_ (19, Rows.any-gone (Syntax.tyRef Syntax.erased Syntax.mut (Syntax.tyArray (Syntax.tyInt Syntax.w32) 32772))) (List._∷_ (20, Rows.any-gone (Syntax.tyRef Syntax.erased Syntax.mut (Syntax.tyArray (Syntax.tyInt Syntax.w32) 262160))) (List._∷_ (21, Rows.any-gone (Syntax.tyRef Syntax.erased Syntax.mut (Syntax.tyArray (Syntax.tyInt Syntax.w8) 600000))) (List._∷_ (22, Rows.any-gone (Syntax.tyRef Syntax.erased Syntax.mut Cell.behind)) (List._∷_ (23, Rows.any-gone (Syntax.tyStruct (List._∷_ 38 (List._∷_ 91 (List._∷_ 93 List.[]))) (Syntax.tcons (Syntax.tyRef Syntax.erased Syntax.mut Cell.behind) (Syntax.tcons (Syntax.tyInt Syntax.w64) Syntax.tnil)))) (List._∷_ (24, Rows.any-gone (Syntax.tyRef Syntax.erased Syntax.mut Cell.behind)) (List._∷_ (25, Rows.any-gone (Syntax.tyStruct (List._∷_ 38 (List._∷_ 91 (List._∷_ 93 List.[]))) (Syntax.tcons (Syntax.tyRef Syntax.erased Syntax.mut Cell.behind) (Syntax.tcons (Syntax.tyInt Syntax.w64) Syntax.tnil)))) (List._∷_ (26, Rows.any-gone (Syntax.tyRef Syntax.erased Syntax.mut (Syntax.tyArray (Syntax.tyInt Syntax.w32) 65540))) (List._∷_ (27, Rows.any-gone (Syntax.tyRef Syntax.erased Syntax.mut (Syntax.tyArray (Syntax.tyInt Syntax.w32) 32772))) (List._∷_ (28, Rows.any-gone (Syntax.tyRef Syntax.erased Syntax.mut (Syntax.tyArray (Syntax.tyInt Syntax.w32) 262160))) (List._∷_ (29, Rows.any-gone (Syntax.tyRef Syntax.erased Syntax.imm (Syntax.tyArray (Syntax.tyInt Syntax.w8) 600000))) (List._∷_ (30, Rows.any-gone (Syntax.tyRef Syntax.erased Syntax.mut (Syntax.tyArray Cell.behind 65540))) (List._∷_ (31, Rows.any-gone (Syntax.tyRef Syntax.erased Syntax.mut (Syntax.tyArray Cell.behind 32772))) List.[])))))))))))))))
 
 abbrev pub t10 : List.List Row.Entry
-t10 = List._∷_ (0, Rows.any-gone (Syntax.tyStruct (List._∷_ 122 (List._∷_ 111 (List._∷_ 110 (List._∷_ 101 (List._∷_ 115 (List._∷_ 58 (List._∷_ 58 (List._∷_ 104 (List._∷_ 101 (List._∷_ 108 (List._∷_ 100 (List._∷_ 58 (List._∷_ 58 (List._∷_ 72 (List._∷_ 101 (List._∷_ 108 (List._∷_ 100 List.[]))))))))))))))))) (Syntax.tcons (Syntax.tyStruct (List._∷_ 112 (List._∷_ 121 (List._∷_ 114 (List._∷_ 97 (List._∷_ 109 (List._∷_ 105 (List._∷_ 100 (List._∷_ 58 (List._∷_ 58 (List._∷_ 83 (List._∷_ 116 (List._∷_ 97 (List._∷_ 116 (List._∷_ 101 List.[])))))))))))))) (Syntax.tcons (Syntax.tyInt Syntax.w32) (Syntax.tcons (Syntax.tyInt Syntax.w32) (Syntax.tcons (Syntax.tyInt Syntax.w32) (Syntax.tcons (Syntax.tyArray (Syntax.tyInt Syntax.w32) 64) Syntax.tnil))))) (Syntax.tcons (Syntax.tyInt Syntax.w64) (Syntax.tcons (Syntax.tyInt Syntax.w64) (Syntax.tcons (Syntax.tyInt Syntax.w64) (Syntax.tcons (Syntax.tyInt Syntax.w64) (Syntax.tcons (Syntax.tyInt Syntax.w64) (Syntax.tcons (Syntax.tyInt Syntax.w64) (Syntax.tcons Syntax.tyBool Syntax.tnil)))))))))) (List._∷_ (1, Rows.whole (Declared.row Held.the-type)) (List._∷_ (2, Rows.whole (Declared.row Line.the-type)) (List._∷_ (3, Rows.sslice (Referent.rtF (Referent.fInt Syntax.w8)) (Syntax.tyRef (Syntax.named 0) Syntax.imm (Syntax.tyInt Syntax.w8)) 0) (List._∷_ (4, Rows.sref (Array.Array (Referent.rtF (Referent.fInt Syntax.w32)) 32772) (Syntax.tyRef (Syntax.named 1) Syntax.imm (Syntax.tyArray (Syntax.tyInt Syntax.w32) 32772)) 1) (List._∷_ (5, Rows.mref-owed (Array.Array (Referent.rtF (Referent.fInt Syntax.w8)) 16388) (Syntax.tyRef (Syntax.named 2) Syntax.mut (Syntax.tyArray (Syntax.tyInt Syntax.w8) 16388)) 2 10 Row.off) (List._∷_ (6, Rows.mref-owed (Array.Array (Referent.rtF (Referent.fInt Syntax.w32)) 65540) (Syntax.tyRef (Syntax.named 3) Syntax.mut (Syntax.tyArray (Syntax.tyInt Syntax.w32) 65540)) 3 11 Row.off) (List._∷_ (7, Rows.mref-owed (Array.Array (Referent.rtF (Referent.fInt Syntax.w32)) 32772) (Syntax.tyRef (Syntax.named 4) Syntax.mut (Syntax.tyArray (Syntax.tyInt Syntax.w32) 32772)) 4 12 Row.off) (List._∷_ (8, Rows.mref-owed (Array.Array (Referent.rtF (Referent.fInt Syntax.w32)) 32772) (Syntax.tyRef (Syntax.named 5) Syntax.mut (Syntax.tyArray (Syntax.tyInt Syntax.w32) 32772)) 5 13 Row.off) (List._∷_ (9, Rows.mref (Array.Array (Referent.rtF (Referent.fInt Syntax.w32)) 262160) (Syntax.tyRef (Syntax.named 6) Syntax.mut (Syntax.tyArray (Syntax.tyInt Syntax.w32) 262160)) 6) (List._∷_ (10, Rows.mref (Array.Array (Referent.rtF (Referent.fInt Syntax.w8)) 600000) (Syntax.tyRef (Syntax.named 7) Syntax.mut (Syntax.tyArray (Syntax.tyInt Syntax.w8) 600000)) 7) (List._∷_ (11, Rows.mref (Array.Array Cell.R 65540) (Syntax.tyRef (Syntax.named 8) Syntax.mut (Syntax.tyArray Cell.behind 65540)) 8) (List._∷_ (12, Rows.mref (Array.Array Cell.R 32772) (Syntax.tyRef (Syntax.named 9) Syntax.mut (Syntax.tyArray Cell.behind 32772)) 9) (List._∷_ (13, Rows.any-gone Syntax.tyBool) (List._∷_ (14, Rows.any-gone Syntax.tyBool) (List._∷_ (15, Rows.any-gone Syntax.tyBool) List.[])))))))))))))))
+t10 = List._∷_ (0, Rows.any-gone (Syntax.tyStruct (List._∷_ 122 (List._∷_ 111 (List._∷_ 110 (List._∷_ 101 (List._∷_ 115 (List._∷_ 58 (List._∷_ 58 (List._∷_ 104 (List._∷_ 101 (List._∷_ 108 (List._∷_ 100 (List._∷_ 58 (List._∷_ 58 (List._∷_ 72 (List._∷_ 101 (List._∷_ 108 (List._∷_ 100 List.[]))))))))))))))))) (Syntax.tcons (Syntax.tyStruct (List._∷_ 112 (List._∷_ 121 (List._∷_ 114 (List._∷_ 97 (List._∷_ 109 (List._∷_ 105 (List._∷_ 100 (List._∷_ 58 (List._∷_ 58 (List._∷_ 83 (List._∷_ 116 (List._∷_ 97 (List._∷_ 116 (List._∷_ 101 List.[])))))))))))))) (Syntax.tcons (Syntax.tyInt Syntax.w32) (Syntax.tcons (Syntax.tyInt Syntax.w32) (Syntax.tcons (Syntax.tyInt Syntax.w32) (Syntax.tcons (Syntax.tyInt Syntax.w32) (Syntax.tcons (Syntax.tyInt Syntax.w32) (Syntax.tcons (Syntax.tyArray (Syntax.tyInt Syntax.w32) 64) Syntax.tnil))))))) (Syntax.tcons (Syntax.tyInt Syntax.w64) (Syntax.tcons (Syntax.tyInt Syntax.w64) (Syntax.tcons (Syntax.tyInt Syntax.w64) (Syntax.tcons (Syntax.tyInt Syntax.w64) (Syntax.tcons (Syntax.tyInt Syntax.w64) (Syntax.tcons (Syntax.tyInt Syntax.w64) (Syntax.tcons Syntax.tyBool Syntax.tnil)))))))))) (List._∷_ (1, Rows.whole (Declared.row Held.the-type)) (List._∷_ (2, Rows.whole (Declared.row Line.the-type)) (List._∷_ (3, Rows.sslice (Referent.rtF (Referent.fInt Syntax.w8)) (Syntax.tyRef (Syntax.named 0) Syntax.imm (Syntax.tyInt Syntax.w8)) 0) (List._∷_ (4, Rows.sref (Array.Array (Referent.rtF (Referent.fInt Syntax.w32)) 32772) (Syntax.tyRef (Syntax.named 1) Syntax.imm (Syntax.tyArray (Syntax.tyInt Syntax.w32) 32772)) 1) (List._∷_ (5, Rows.mref-owed (Array.Array (Referent.rtF (Referent.fInt Syntax.w8)) 16388) (Syntax.tyRef (Syntax.named 2) Syntax.mut (Syntax.tyArray (Syntax.tyInt Syntax.w8) 16388)) 2 10 Row.off) (List._∷_ (6, Rows.mref-owed (Array.Array (Referent.rtF (Referent.fInt Syntax.w32)) 65540) (Syntax.tyRef (Syntax.named 3) Syntax.mut (Syntax.tyArray (Syntax.tyInt Syntax.w32) 65540)) 3 11 Row.off) (List._∷_ (7, Rows.mref-owed (Array.Array (Referent.rtF (Referent.fInt Syntax.w32)) 32772) (Syntax.tyRef (Syntax.named 4) Syntax.mut (Syntax.tyArray (Syntax.tyInt Syntax.w32) 32772)) 4 12 Row.off) (List._∷_ (8, Rows.mref-owed (Array.Array (Referent.rtF (Referent.fInt Syntax.w32)) 32772) (Syntax.tyRef (Syntax.named 5) Syntax.mut (Syntax.tyArray (Syntax.tyInt Syntax.w32) 32772)) 5 13 Row.off) (List._∷_ (9, Rows.mref (Array.Array (Referent.rtF (Referent.fInt Syntax.w32)) 262160) (Syntax.tyRef (Syntax.named 6) Syntax.mut (Syntax.tyArray (Syntax.tyInt Syntax.w32) 262160)) 6) (List._∷_ (10, Rows.mref (Array.Array (Referent.rtF (Referent.fInt Syntax.w8)) 600000) (Syntax.tyRef (Syntax.named 7) Syntax.mut (Syntax.tyArray (Syntax.tyInt Syntax.w8) 600000)) 7) (List._∷_ (11, Rows.mref (Array.Array Cell.R 65540) (Syntax.tyRef (Syntax.named 8) Syntax.mut (Syntax.tyArray Cell.behind 65540)) 8) (List._∷_ (12, Rows.mref (Array.Array Cell.R 32772) (Syntax.tyRef (Syntax.named 9) Syntax.mut (Syntax.tyArray Cell.behind 32772)) 9) (List._∷_ (13, Rows.any-gone Syntax.tyBool) (List._∷_ (14, Rows.any-gone Syntax.tyBool) (List._∷_ (15, Rows.any-gone Syntax.tyBool) List.[])))))))))))))))
 
 abbrev pub t11 : List.List Row.Entry
 t11 = List._∷_ (16, Rows.mref (Array.Array (Referent.rtF (Referent.fInt Syntax.w8)) 16388) (Syntax.tyRef Syntax.erased Syntax.mut (Syntax.tyArray (Syntax.tyInt Syntax.w8) 16388)) 10) (List._∷_ (17, Rows.mref (Array.Array (Referent.rtF (Referent.fInt Syntax.w32)) 65540) (Syntax.tyRef Syntax.erased Syntax.mut (Syntax.tyArray (Syntax.tyInt Syntax.w32) 65540)) 11) (List._∷_ (18, Rows.mref (Array.Array (Referent.rtF (Referent.fInt Syntax.w32)) 32772) (Syntax.tyRef Syntax.erased Syntax.mut (Syntax.tyArray (Syntax.tyInt Syntax.w32) 32772)) 12) (List._∷_ (19, Rows.mref (Array.Array (Referent.rtF (Referent.fInt Syntax.w32)) 32772) (Syntax.tyRef Syntax.erased Syntax.mut (Syntax.tyArray (Syntax.tyInt Syntax.w32) 32772)) 13) (List._∷_ (20, Rows.any-gone (Syntax.tyRef Syntax.erased Syntax.mut (Syntax.tyArray (Syntax.tyInt Syntax.w32) 262160))) (List._∷_ (21, Rows.any-gone (Syntax.tyRef Syntax.erased Syntax.mut (Syntax.tyArray (Syntax.tyInt Syntax.w8) 600000))) (List._∷_ (22, Rows.any-gone (Syntax.tyRef Syntax.erased Syntax.mut Cell.behind)) (List._∷_ (23, Rows.any-gone (Syntax.tyStruct (List._∷_ 38 (List._∷_ 91 (List._∷_ 93 List.[]))) (Syntax.tcons (Syntax.tyRef Syntax.erased Syntax.mut Cell.behind) (Syntax.tcons (Syntax.tyInt Syntax.w64) Syntax.tnil)))) (List._∷_ (24, Rows.any-gone (Syntax.tyRef Syntax.erased Syntax.mut Cell.behind)) (List._∷_ (25, Rows.any-gone (Syntax.tyStruct (List._∷_ 38 (List._∷_ 91 (List._∷_ 93 List.[]))) (Syntax.tcons (Syntax.tyRef Syntax.erased Syntax.mut Cell.behind) (Syntax.tcons (Syntax.tyInt Syntax.w64) Syntax.tnil)))) (List._∷_ (26, Rows.any-gone (Syntax.tyRef Syntax.erased Syntax.mut (Syntax.tyArray (Syntax.tyInt Syntax.w32) 65540))) (List._∷_ (27, Rows.any-gone (Syntax.tyRef Syntax.erased Syntax.mut (Syntax.tyArray (Syntax.tyInt Syntax.w32) 32772))) (List._∷_ (28, Rows.any-gone (Syntax.tyRef Syntax.erased Syntax.mut (Syntax.tyArray (Syntax.tyInt Syntax.w32) 262160))) (List._∷_ (29, Rows.any-gone (Syntax.tyRef Syntax.erased Syntax.imm (Syntax.tyArray (Syntax.tyInt Syntax.w8) 600000))) (List._∷_ (30, Rows.any-gone (Syntax.tyRef Syntax.erased Syntax.mut (Syntax.tyArray Cell.behind 65540))) (List._∷_ (31, Rows.any-gone (Syntax.tyRef Syntax.erased Syntax.mut (Syntax.tyArray Cell.behind 32772))) List.[])))))))))))))))
 
 abbrev pub t12 : List.List Row.Entry
-t12 = List._∷_ (0, Rows.any-gone (Syntax.tyStruct (List._∷_ 122 (List._∷_ 111 (List._∷_ 110 (List._∷_ 101 (List._∷_ 115 (List._∷_ 58 (List._∷_ 58 (List._∷_ 104 (List._∷_ 101 (List._∷_ 108 (List._∷_ 100 (List._∷_ 58 (List._∷_ 58 (List._∷_ 72 (List._∷_ 101 (List._∷_ 108 (List._∷_ 100 List.[]))))))))))))))))) (Syntax.tcons (Syntax.tyStruct (List._∷_ 112 (List._∷_ 121 (List._∷_ 114 (List._∷_ 97 (List._∷_ 109 (List._∷_ 105 (List._∷_ 100 (List._∷_ 58 (List._∷_ 58 (List._∷_ 83 (List._∷_ 116 (List._∷_ 97 (List._∷_ 116 (List._∷_ 101 List.[])))))))))))))) (Syntax.tcons (Syntax.tyInt Syntax.w32) (Syntax.tcons (Syntax.tyInt Syntax.w32) (Syntax.tcons (Syntax.tyInt Syntax.w32) (Syntax.tcons (Syntax.tyArray (Syntax.tyInt Syntax.w32) 64) Syntax.tnil))))) (Syntax.tcons (Syntax.tyInt Syntax.w64) (Syntax.tcons (Syntax.tyInt Syntax.w64) (Syntax.tcons (Syntax.tyInt Syntax.w64) (Syntax.tcons (Syntax.tyInt Syntax.w64) (Syntax.tcons (Syntax.tyInt Syntax.w64) (Syntax.tcons (Syntax.tyInt Syntax.w64) (Syntax.tcons Syntax.tyBool Syntax.tnil)))))))))) (List._∷_ (1, Rows.whole (Declared.row Held.the-type)) (List._∷_ (2, Rows.whole (Declared.row Line.the-type)) (List._∷_ (3, Rows.sslice (Referent.rtF (Referent.fInt Syntax.w8)) (Syntax.tyRef (Syntax.named 0) Syntax.imm (Syntax.tyInt Syntax.w8)) 0) (List._∷_ (4, Rows.sref (Array.Array (Referent.rtF (Referent.fInt Syntax.w32)) 32772) (Syntax.tyRef (Syntax.named 1) Syntax.imm (Syntax.tyArray (Syntax.tyInt Syntax.w32) 32772)) 1) (List._∷_ (5, Rows.mref-owed (Array.Array (Referent.rtF (Referent.fInt Syntax.w8)) 16388) (Syntax.tyRef (Syntax.named 2) Syntax.mut (Syntax.tyArray (Syntax.tyInt Syntax.w8) 16388)) 2 10 Row.off) (List._∷_ (6, Rows.mref-owed (Array.Array (Referent.rtF (Referent.fInt Syntax.w32)) 65540) (Syntax.tyRef (Syntax.named 3) Syntax.mut (Syntax.tyArray (Syntax.tyInt Syntax.w32) 65540)) 3 11 Row.off) (List._∷_ (7, Rows.mref-owed (Array.Array (Referent.rtF (Referent.fInt Syntax.w32)) 32772) (Syntax.tyRef (Syntax.named 4) Syntax.mut (Syntax.tyArray (Syntax.tyInt Syntax.w32) 32772)) 4 12 Row.off) (List._∷_ (8, Rows.mref-owed (Array.Array (Referent.rtF (Referent.fInt Syntax.w32)) 32772) (Syntax.tyRef (Syntax.named 5) Syntax.mut (Syntax.tyArray (Syntax.tyInt Syntax.w32) 32772)) 5 13 Row.off) (List._∷_ (9, Rows.mref-owed (Array.Array (Referent.rtF (Referent.fInt Syntax.w32)) 262160) (Syntax.tyRef (Syntax.named 6) Syntax.mut (Syntax.tyArray (Syntax.tyInt Syntax.w32) 262160)) 6 14 Row.off) (List._∷_ (10, Rows.mref (Array.Array (Referent.rtF (Referent.fInt Syntax.w8)) 600000) (Syntax.tyRef (Syntax.named 7) Syntax.mut (Syntax.tyArray (Syntax.tyInt Syntax.w8) 600000)) 7) (List._∷_ (11, Rows.mref (Array.Array Cell.R 65540) (Syntax.tyRef (Syntax.named 8) Syntax.mut (Syntax.tyArray Cell.behind 65540)) 8) (List._∷_ (12, Rows.mref (Array.Array Cell.R 32772) (Syntax.tyRef (Syntax.named 9) Syntax.mut (Syntax.tyArray Cell.behind 32772)) 9) (List._∷_ (13, Rows.any-gone Syntax.tyBool) (List._∷_ (14, Rows.any-gone Syntax.tyBool) (List._∷_ (15, Rows.any-gone Syntax.tyBool) List.[])))))))))))))))
+t12 = List._∷_ (0, Rows.any-gone (Syntax.tyStruct (List._∷_ 122 (List._∷_ 111 (List._∷_ 110 (List._∷_ 101 (List._∷_ 115 (List._∷_ 58 (List._∷_ 58 (List._∷_ 104 (List._∷_ 101 (List._∷_ 108 (List._∷_ 100 (List._∷_ 58 (List._∷_ 58 (List._∷_ 72 (List._∷_ 101 (List._∷_ 108 (List._∷_ 100 List.[]))))))))))))))))) (Syntax.tcons (Syntax.tyStruct (List._∷_ 112 (List._∷_ 121 (List._∷_ 114 (List._∷_ 97 (List._∷_ 109 (List._∷_ 105 (List._∷_ 100 (List._∷_ 58 (List._∷_ 58 (List._∷_ 83 (List._∷_ 116 (List._∷_ 97 (List._∷_ 116 (List._∷_ 101 List.[])))))))))))))) (Syntax.tcons (Syntax.tyInt Syntax.w32) (Syntax.tcons (Syntax.tyInt Syntax.w32) (Syntax.tcons (Syntax.tyInt Syntax.w32) (Syntax.tcons (Syntax.tyInt Syntax.w32) (Syntax.tcons (Syntax.tyInt Syntax.w32) (Syntax.tcons (Syntax.tyArray (Syntax.tyInt Syntax.w32) 64) Syntax.tnil))))))) (Syntax.tcons (Syntax.tyInt Syntax.w64) (Syntax.tcons (Syntax.tyInt Syntax.w64) (Syntax.tcons (Syntax.tyInt Syntax.w64) (Syntax.tcons (Syntax.tyInt Syntax.w64) (Syntax.tcons (Syntax.tyInt Syntax.w64) (Syntax.tcons (Syntax.tyInt Syntax.w64) (Syntax.tcons Syntax.tyBool Syntax.tnil)))))))))) (List._∷_ (1, Rows.whole (Declared.row Held.the-type)) (List._∷_ (2, Rows.whole (Declared.row Line.the-type)) (List._∷_ (3, Rows.sslice (Referent.rtF (Referent.fInt Syntax.w8)) (Syntax.tyRef (Syntax.named 0) Syntax.imm (Syntax.tyInt Syntax.w8)) 0) (List._∷_ (4, Rows.sref (Array.Array (Referent.rtF (Referent.fInt Syntax.w32)) 32772) (Syntax.tyRef (Syntax.named 1) Syntax.imm (Syntax.tyArray (Syntax.tyInt Syntax.w32) 32772)) 1) (List._∷_ (5, Rows.mref-owed (Array.Array (Referent.rtF (Referent.fInt Syntax.w8)) 16388) (Syntax.tyRef (Syntax.named 2) Syntax.mut (Syntax.tyArray (Syntax.tyInt Syntax.w8) 16388)) 2 10 Row.off) (List._∷_ (6, Rows.mref-owed (Array.Array (Referent.rtF (Referent.fInt Syntax.w32)) 65540) (Syntax.tyRef (Syntax.named 3) Syntax.mut (Syntax.tyArray (Syntax.tyInt Syntax.w32) 65540)) 3 11 Row.off) (List._∷_ (7, Rows.mref-owed (Array.Array (Referent.rtF (Referent.fInt Syntax.w32)) 32772) (Syntax.tyRef (Syntax.named 4) Syntax.mut (Syntax.tyArray (Syntax.tyInt Syntax.w32) 32772)) 4 12 Row.off) (List._∷_ (8, Rows.mref-owed (Array.Array (Referent.rtF (Referent.fInt Syntax.w32)) 32772) (Syntax.tyRef (Syntax.named 5) Syntax.mut (Syntax.tyArray (Syntax.tyInt Syntax.w32) 32772)) 5 13 Row.off) (List._∷_ (9, Rows.mref-owed (Array.Array (Referent.rtF (Referent.fInt Syntax.w32)) 262160) (Syntax.tyRef (Syntax.named 6) Syntax.mut (Syntax.tyArray (Syntax.tyInt Syntax.w32) 262160)) 6 14 Row.off) (List._∷_ (10, Rows.mref (Array.Array (Referent.rtF (Referent.fInt Syntax.w8)) 600000) (Syntax.tyRef (Syntax.named 7) Syntax.mut (Syntax.tyArray (Syntax.tyInt Syntax.w8) 600000)) 7) (List._∷_ (11, Rows.mref (Array.Array Cell.R 65540) (Syntax.tyRef (Syntax.named 8) Syntax.mut (Syntax.tyArray Cell.behind 65540)) 8) (List._∷_ (12, Rows.mref (Array.Array Cell.R 32772) (Syntax.tyRef (Syntax.named 9) Syntax.mut (Syntax.tyArray Cell.behind 32772)) 9) (List._∷_ (13, Rows.any-gone Syntax.tyBool) (List._∷_ (14, Rows.any-gone Syntax.tyBool) (List._∷_ (15, Rows.any-gone Syntax.tyBool) List.[])))))))))))))))
 
 abbrev pub t13 : List.List Row.Entry
 t13 = List._∷_ (16, Rows.mref (Array.Array (Referent.rtF (Referent.fInt Syntax.w8)) 16388) (Syntax.tyRef Syntax.erased Syntax.mut (Syntax.tyArray (Syntax.tyInt Syntax.w8) 16388)) 10) (List._∷_ (17, Rows.mref (Array.Array (Referent.rtF (Referent.fInt Syntax.w32)) 65540) (Syntax.tyRef Syntax.erased Syntax.mut (Syntax.tyArray (Syntax.tyInt Syntax.w32) 65540)) 11) (List._∷_ (18, Rows.mref (Array.Array (Referent.rtF (Referent.fInt Syntax.w32)) 32772) (Syntax.tyRef Syntax.erased Syntax.mut (Syntax.tyArray (Syntax.tyInt Syntax.w32) 32772)) 12) (List._∷_ (19, Rows.mref (Array.Array (Referent.rtF (Referent.fInt Syntax.w32)) 32772) (Syntax.tyRef Syntax.erased Syntax.mut (Syntax.tyArray (Syntax.tyInt Syntax.w32) 32772)) 13) (List._∷_ (20, Rows.mref (Array.Array (Referent.rtF (Referent.fInt Syntax.w32)) 262160) (Syntax.tyRef Syntax.erased Syntax.mut (Syntax.tyArray (Syntax.tyInt Syntax.w32) 262160)) 14) (List._∷_ (21, Rows.any-gone (Syntax.tyRef Syntax.erased Syntax.mut (Syntax.tyArray (Syntax.tyInt Syntax.w8) 600000))) (List._∷_ (22, Rows.any-gone (Syntax.tyRef Syntax.erased Syntax.mut Cell.behind)) (List._∷_ (23, Rows.any-gone (Syntax.tyStruct (List._∷_ 38 (List._∷_ 91 (List._∷_ 93 List.[]))) (Syntax.tcons (Syntax.tyRef Syntax.erased Syntax.mut Cell.behind) (Syntax.tcons (Syntax.tyInt Syntax.w64) Syntax.tnil)))) (List._∷_ (24, Rows.any-gone (Syntax.tyRef Syntax.erased Syntax.mut Cell.behind)) (List._∷_ (25, Rows.any-gone (Syntax.tyStruct (List._∷_ 38 (List._∷_ 91 (List._∷_ 93 List.[]))) (Syntax.tcons (Syntax.tyRef Syntax.erased Syntax.mut Cell.behind) (Syntax.tcons (Syntax.tyInt Syntax.w64) Syntax.tnil)))) (List._∷_ (26, Rows.any-gone (Syntax.tyRef Syntax.erased Syntax.mut (Syntax.tyArray (Syntax.tyInt Syntax.w32) 65540))) (List._∷_ (27, Rows.any-gone (Syntax.tyRef Syntax.erased Syntax.mut (Syntax.tyArray (Syntax.tyInt Syntax.w32) 32772))) (List._∷_ (28, Rows.any-gone (Syntax.tyRef Syntax.erased Syntax.mut (Syntax.tyArray (Syntax.tyInt Syntax.w32) 262160))) (List._∷_ (29, Rows.any-gone (Syntax.tyRef Syntax.erased Syntax.imm (Syntax.tyArray (Syntax.tyInt Syntax.w8) 600000))) (List._∷_ (30, Rows.any-gone (Syntax.tyRef Syntax.erased Syntax.mut (Syntax.tyArray Cell.behind 65540))) (List._∷_ (31, Rows.any-gone (Syntax.tyRef Syntax.erased Syntax.mut (Syntax.tyArray Cell.behind 32772))) List.[])))))))))))))))
 
 abbrev pub t14 : List.List Row.Entry
-t14 = List._∷_ (0, Rows.any-gone (Syntax.tyStruct (List._∷_ 122 (List._∷_ 111 (List._∷_ 110 (List._∷_ 101 (List._∷_ 115 (List._∷_ 58 (List._∷_ 58 (List._∷_ 104 (List._∷_ 101 (List._∷_ 108 (List._∷_ 100 (List._∷_ 58 (List._∷_ 58 (List._∷_ 72 (List._∷_ 101 (List._∷_ 108 (List._∷_ 100 List.[]))))))))))))))))) (Syntax.tcons (Syntax.tyStruct (List._∷_ 112 (List._∷_ 121 (List._∷_ 114 (List._∷_ 97 (List._∷_ 109 (List._∷_ 105 (List._∷_ 100 (List._∷_ 58 (List._∷_ 58 (List._∷_ 83 (List._∷_ 116 (List._∷_ 97 (List._∷_ 116 (List._∷_ 101 List.[])))))))))))))) (Syntax.tcons (Syntax.tyInt Syntax.w32) (Syntax.tcons (Syntax.tyInt Syntax.w32) (Syntax.tcons (Syntax.tyInt Syntax.w32) (Syntax.tcons (Syntax.tyArray (Syntax.tyInt Syntax.w32) 64) Syntax.tnil))))) (Syntax.tcons (Syntax.tyInt Syntax.w64) (Syntax.tcons (Syntax.tyInt Syntax.w64) (Syntax.tcons (Syntax.tyInt Syntax.w64) (Syntax.tcons (Syntax.tyInt Syntax.w64) (Syntax.tcons (Syntax.tyInt Syntax.w64) (Syntax.tcons (Syntax.tyInt Syntax.w64) (Syntax.tcons Syntax.tyBool Syntax.tnil)))))))))) (List._∷_ (1, Rows.whole (Declared.row Held.the-type)) (List._∷_ (2, Rows.whole (Declared.row Line.the-type)) (List._∷_ (3, Rows.sslice (Referent.rtF (Referent.fInt Syntax.w8)) (Syntax.tyRef (Syntax.named 0) Syntax.imm (Syntax.tyInt Syntax.w8)) 0) (List._∷_ (4, Rows.sref (Array.Array (Referent.rtF (Referent.fInt Syntax.w32)) 32772) (Syntax.tyRef (Syntax.named 1) Syntax.imm (Syntax.tyArray (Syntax.tyInt Syntax.w32) 32772)) 1) (List._∷_ (5, Rows.mref-owed (Array.Array (Referent.rtF (Referent.fInt Syntax.w8)) 16388) (Syntax.tyRef (Syntax.named 2) Syntax.mut (Syntax.tyArray (Syntax.tyInt Syntax.w8) 16388)) 2 10 Row.off) (List._∷_ (6, Rows.mref-owed (Array.Array (Referent.rtF (Referent.fInt Syntax.w32)) 65540) (Syntax.tyRef (Syntax.named 3) Syntax.mut (Syntax.tyArray (Syntax.tyInt Syntax.w32) 65540)) 3 11 Row.off) (List._∷_ (7, Rows.mref-owed (Array.Array (Referent.rtF (Referent.fInt Syntax.w32)) 32772) (Syntax.tyRef (Syntax.named 4) Syntax.mut (Syntax.tyArray (Syntax.tyInt Syntax.w32) 32772)) 4 12 Row.off) (List._∷_ (8, Rows.mref-owed (Array.Array (Referent.rtF (Referent.fInt Syntax.w32)) 32772) (Syntax.tyRef (Syntax.named 5) Syntax.mut (Syntax.tyArray (Syntax.tyInt Syntax.w32) 32772)) 5 13 Row.off) (List._∷_ (9, Rows.mref-owed (Array.Array (Referent.rtF (Referent.fInt Syntax.w32)) 262160) (Syntax.tyRef (Syntax.named 6) Syntax.mut (Syntax.tyArray (Syntax.tyInt Syntax.w32) 262160)) 6 14 Row.off) (List._∷_ (10, Rows.mref-owed (Array.Array (Referent.rtF (Referent.fInt Syntax.w8)) 600000) (Syntax.tyRef (Syntax.named 7) Syntax.mut (Syntax.tyArray (Syntax.tyInt Syntax.w8) 600000)) 7 15 Row.off) (List._∷_ (11, Rows.mref (Array.Array Cell.R 65540) (Syntax.tyRef (Syntax.named 8) Syntax.mut (Syntax.tyArray Cell.behind 65540)) 8) (List._∷_ (12, Rows.mref (Array.Array Cell.R 32772) (Syntax.tyRef (Syntax.named 9) Syntax.mut (Syntax.tyArray Cell.behind 32772)) 9) (List._∷_ (13, Rows.any-gone Syntax.tyBool) (List._∷_ (14, Rows.any-gone Syntax.tyBool) (List._∷_ (15, Rows.any-gone Syntax.tyBool) List.[])))))))))))))))
+t14 = List._∷_ (0, Rows.any-gone (Syntax.tyStruct (List._∷_ 122 (List._∷_ 111 (List._∷_ 110 (List._∷_ 101 (List._∷_ 115 (List._∷_ 58 (List._∷_ 58 (List._∷_ 104 (List._∷_ 101 (List._∷_ 108 (List._∷_ 100 (List._∷_ 58 (List._∷_ 58 (List._∷_ 72 (List._∷_ 101 (List._∷_ 108 (List._∷_ 100 List.[]))))))))))))))))) (Syntax.tcons (Syntax.tyStruct (List._∷_ 112 (List._∷_ 121 (List._∷_ 114 (List._∷_ 97 (List._∷_ 109 (List._∷_ 105 (List._∷_ 100 (List._∷_ 58 (List._∷_ 58 (List._∷_ 83 (List._∷_ 116 (List._∷_ 97 (List._∷_ 116 (List._∷_ 101 List.[])))))))))))))) (Syntax.tcons (Syntax.tyInt Syntax.w32) (Syntax.tcons (Syntax.tyInt Syntax.w32) (Syntax.tcons (Syntax.tyInt Syntax.w32) (Syntax.tcons (Syntax.tyInt Syntax.w32) (Syntax.tcons (Syntax.tyInt Syntax.w32) (Syntax.tcons (Syntax.tyArray (Syntax.tyInt Syntax.w32) 64) Syntax.tnil))))))) (Syntax.tcons (Syntax.tyInt Syntax.w64) (Syntax.tcons (Syntax.tyInt Syntax.w64) (Syntax.tcons (Syntax.tyInt Syntax.w64) (Syntax.tcons (Syntax.tyInt Syntax.w64) (Syntax.tcons (Syntax.tyInt Syntax.w64) (Syntax.tcons (Syntax.tyInt Syntax.w64) (Syntax.tcons Syntax.tyBool Syntax.tnil)))))))))) (List._∷_ (1, Rows.whole (Declared.row Held.the-type)) (List._∷_ (2, Rows.whole (Declared.row Line.the-type)) (List._∷_ (3, Rows.sslice (Referent.rtF (Referent.fInt Syntax.w8)) (Syntax.tyRef (Syntax.named 0) Syntax.imm (Syntax.tyInt Syntax.w8)) 0) (List._∷_ (4, Rows.sref (Array.Array (Referent.rtF (Referent.fInt Syntax.w32)) 32772) (Syntax.tyRef (Syntax.named 1) Syntax.imm (Syntax.tyArray (Syntax.tyInt Syntax.w32) 32772)) 1) (List._∷_ (5, Rows.mref-owed (Array.Array (Referent.rtF (Referent.fInt Syntax.w8)) 16388) (Syntax.tyRef (Syntax.named 2) Syntax.mut (Syntax.tyArray (Syntax.tyInt Syntax.w8) 16388)) 2 10 Row.off) (List._∷_ (6, Rows.mref-owed (Array.Array (Referent.rtF (Referent.fInt Syntax.w32)) 65540) (Syntax.tyRef (Syntax.named 3) Syntax.mut (Syntax.tyArray (Syntax.tyInt Syntax.w32) 65540)) 3 11 Row.off) (List._∷_ (7, Rows.mref-owed (Array.Array (Referent.rtF (Referent.fInt Syntax.w32)) 32772) (Syntax.tyRef (Syntax.named 4) Syntax.mut (Syntax.tyArray (Syntax.tyInt Syntax.w32) 32772)) 4 12 Row.off) (List._∷_ (8, Rows.mref-owed (Array.Array (Referent.rtF (Referent.fInt Syntax.w32)) 32772) (Syntax.tyRef (Syntax.named 5) Syntax.mut (Syntax.tyArray (Syntax.tyInt Syntax.w32) 32772)) 5 13 Row.off) (List._∷_ (9, Rows.mref-owed (Array.Array (Referent.rtF (Referent.fInt Syntax.w32)) 262160) (Syntax.tyRef (Syntax.named 6) Syntax.mut (Syntax.tyArray (Syntax.tyInt Syntax.w32) 262160)) 6 14 Row.off) (List._∷_ (10, Rows.mref-owed (Array.Array (Referent.rtF (Referent.fInt Syntax.w8)) 600000) (Syntax.tyRef (Syntax.named 7) Syntax.mut (Syntax.tyArray (Syntax.tyInt Syntax.w8) 600000)) 7 15 Row.off) (List._∷_ (11, Rows.mref (Array.Array Cell.R 65540) (Syntax.tyRef (Syntax.named 8) Syntax.mut (Syntax.tyArray Cell.behind 65540)) 8) (List._∷_ (12, Rows.mref (Array.Array Cell.R 32772) (Syntax.tyRef (Syntax.named 9) Syntax.mut (Syntax.tyArray Cell.behind 32772)) 9) (List._∷_ (13, Rows.any-gone Syntax.tyBool) (List._∷_ (14, Rows.any-gone Syntax.tyBool) (List._∷_ (15, Rows.any-gone Syntax.tyBool) List.[])))))))))))))))
 
 abbrev pub t15 : List.List Row.Entry
 t15 = List._∷_ (16, Rows.mref (Array.Array (Referent.rtF (Referent.fInt Syntax.w8)) 16388) (Syntax.tyRef Syntax.erased Syntax.mut (Syntax.tyArray (Syntax.tyInt Syntax.w8) 16388)) 10) (List._∷_ (17, Rows.mref (Array.Array (Referent.rtF (Referent.fInt Syntax.w32)) 65540) (Syntax.tyRef Syntax.erased Syntax.mut (Syntax.tyArray (Syntax.tyInt Syntax.w32) 65540)) 11) (List._∷_ (18, Rows.mref (Array.Array (Referent.rtF (Referent.fInt Syntax.w32)) 32772) (Syntax.tyRef Syntax.erased Syntax.mut (Syntax.tyArray (Syntax.tyInt Syntax.w32) 32772)) 12) (List._∷_ (19, Rows.mref (Array.Array (Referent.rtF (Referent.fInt Syntax.w32)) 32772) (Syntax.tyRef Syntax.erased Syntax.mut (Syntax.tyArray (Syntax.tyInt Syntax.w32) 32772)) 13) (List._∷_ (20, Rows.mref (Array.Array (Referent.rtF (Referent.fInt Syntax.w32)) 262160) (Syntax.tyRef Syntax.erased Syntax.mut (Syntax.tyArray (Syntax.tyInt Syntax.w32) 262160)) 14) (List._∷_ (21, Rows.mref (Array.Array (Referent.rtF (Referent.fInt Syntax.w8)) 600000) (Syntax.tyRef Syntax.erased Syntax.mut (Syntax.tyArray (Syntax.tyInt Syntax.w8) 600000)) 15) (List._∷_ (22, Rows.any-gone (Syntax.tyRef Syntax.erased Syntax.mut Cell.behind)) (List._∷_ (23, Rows.any-gone (Syntax.tyStruct (List._∷_ 38 (List._∷_ 91 (List._∷_ 93 List.[]))) (Syntax.tcons (Syntax.tyRef Syntax.erased Syntax.mut Cell.behind) (Syntax.tcons (Syntax.tyInt Syntax.w64) Syntax.tnil)))) (List._∷_ (24, Rows.any-gone (Syntax.tyRef Syntax.erased Syntax.mut Cell.behind)) (List._∷_ (25, Rows.any-gone (Syntax.tyStruct (List._∷_ 38 (List._∷_ 91 (List._∷_ 93 List.[]))) (Syntax.tcons (Syntax.tyRef Syntax.erased Syntax.mut Cell.behind) (Syntax.tcons (Syntax.tyInt Syntax.w64) Syntax.tnil)))) (List._∷_ (26, Rows.any-gone (Syntax.tyRef Syntax.erased Syntax.mut (Syntax.tyArray (Syntax.tyInt Syntax.w32) 65540))) (List._∷_ (27, Rows.any-gone (Syntax.tyRef Syntax.erased Syntax.mut (Syntax.tyArray (Syntax.tyInt Syntax.w32) 32772))) (List._∷_ (28, Rows.any-gone (Syntax.tyRef Syntax.erased Syntax.mut (Syntax.tyArray (Syntax.tyInt Syntax.w32) 262160))) (List._∷_ (29, Rows.any-gone (Syntax.tyRef Syntax.erased Syntax.imm (Syntax.tyArray (Syntax.tyInt Syntax.w8) 600000))) (List._∷_ (30, Rows.any-gone (Syntax.tyRef Syntax.erased Syntax.mut (Syntax.tyArray Cell.behind 65540))) (List._∷_ (31, Rows.any-gone (Syntax.tyRef Syntax.erased Syntax.mut (Syntax.tyArray Cell.behind 32772))) List.[])))))))))))))))
@@ -347,43 +347,43 @@ abbrev pub t17 : List.List Row.Entry
 t17 = List._∷_ (16, Rows.mleft (Array.Array (Referent.rtF (Referent.fInt Syntax.w8)) 16388) (Syntax.tyRef Syntax.erased Syntax.mut (Syntax.tyArray (Syntax.tyInt Syntax.w8) 16388))) (List._∷_ (17, Rows.mleft (Array.Array (Referent.rtF (Referent.fInt Syntax.w32)) 65540) (Syntax.tyRef Syntax.erased Syntax.mut (Syntax.tyArray (Syntax.tyInt Syntax.w32) 65540))) (List._∷_ (18, Rows.mleft (Array.Array (Referent.rtF (Referent.fInt Syntax.w32)) 32772) (Syntax.tyRef Syntax.erased Syntax.mut (Syntax.tyArray (Syntax.tyInt Syntax.w32) 32772))) (List._∷_ (19, Rows.mleft (Array.Array (Referent.rtF (Referent.fInt Syntax.w32)) 32772) (Syntax.tyRef Syntax.erased Syntax.mut (Syntax.tyArray (Syntax.tyInt Syntax.w32) 32772))) (List._∷_ (20, Rows.mleft (Array.Array (Referent.rtF (Referent.fInt Syntax.w32)) 262160) (Syntax.tyRef Syntax.erased Syntax.mut (Syntax.tyArray (Syntax.tyInt Syntax.w32) 262160))) (List._∷_ (21, Rows.mleft (Array.Array (Referent.rtF (Referent.fInt Syntax.w8)) 600000) (Syntax.tyRef Syntax.erased Syntax.mut (Syntax.tyArray (Syntax.tyInt Syntax.w8) 600000))) (List._∷_ (22, Rows.any-gone (Syntax.tyRef Syntax.erased Syntax.mut Cell.behind)) (List._∷_ (23, Rows.any-gone (Syntax.tyStruct (List._∷_ 38 (List._∷_ 91 (List._∷_ 93 List.[]))) (Syntax.tcons (Syntax.tyRef Syntax.erased Syntax.mut Cell.behind) (Syntax.tcons (Syntax.tyInt Syntax.w64) Syntax.tnil)))) (List._∷_ (24, Rows.any-gone (Syntax.tyRef Syntax.erased Syntax.mut Cell.behind)) (List._∷_ (25, Rows.any-gone (Syntax.tyStruct (List._∷_ 38 (List._∷_ 91 (List._∷_ 93 List.[]))) (Syntax.tcons (Syntax.tyRef Syntax.erased Syntax.mut Cell.behind) (Syntax.tcons (Syntax.tyInt Syntax.w64) Syntax.tnil)))) (List._∷_ (26, Rows.any-gone (Syntax.tyRef Syntax.erased Syntax.mut (Syntax.tyArray (Syntax.tyInt Syntax.w32) 65540))) (List._∷_ (27, Rows.any-gone (Syntax.tyRef Syntax.erased Syntax.mut (Syntax.tyArray (Syntax.tyInt Syntax.w32) 32772))) (List._∷_ (28, Rows.any-gone (Syntax.tyRef Syntax.erased Syntax.mut (Syntax.tyArray (Syntax.tyInt Syntax.w32) 262160))) (List._∷_ (29, Rows.any-gone (Syntax.tyRef Syntax.erased Syntax.imm (Syntax.tyArray (Syntax.tyInt Syntax.w8) 600000))) (List._∷_ (30, Rows.any-gone (Syntax.tyRef Syntax.erased Syntax.mut (Syntax.tyArray Cell.behind 65540))) (List._∷_ (31, Rows.any-gone (Syntax.tyRef Syntax.erased Syntax.mut (Syntax.tyArray Cell.behind 32772))) List.[])))))))))))))))
 
 abbrev pub t18 : List.List Row.Entry
-t18 = List._∷_ (0, Rows.whole (Declared.row Held.the-type)) (List._∷_ (1, Rows.any-gone (Syntax.tyStruct (List._∷_ 122 (List._∷_ 111 (List._∷_ 110 (List._∷_ 101 (List._∷_ 115 (List._∷_ 58 (List._∷_ 58 (List._∷_ 104 (List._∷_ 101 (List._∷_ 108 (List._∷_ 100 (List._∷_ 58 (List._∷_ 58 (List._∷_ 72 (List._∷_ 101 (List._∷_ 108 (List._∷_ 100 List.[]))))))))))))))))) (Syntax.tcons (Syntax.tyStruct (List._∷_ 112 (List._∷_ 121 (List._∷_ 114 (List._∷_ 97 (List._∷_ 109 (List._∷_ 105 (List._∷_ 100 (List._∷_ 58 (List._∷_ 58 (List._∷_ 83 (List._∷_ 116 (List._∷_ 97 (List._∷_ 116 (List._∷_ 101 List.[])))))))))))))) (Syntax.tcons (Syntax.tyInt Syntax.w32) (Syntax.tcons (Syntax.tyInt Syntax.w32) (Syntax.tcons (Syntax.tyInt Syntax.w32) (Syntax.tcons (Syntax.tyArray (Syntax.tyInt Syntax.w32) 64) Syntax.tnil))))) (Syntax.tcons (Syntax.tyInt Syntax.w64) (Syntax.tcons (Syntax.tyInt Syntax.w64) (Syntax.tcons (Syntax.tyInt Syntax.w64) (Syntax.tcons (Syntax.tyInt Syntax.w64) (Syntax.tcons (Syntax.tyInt Syntax.w64) (Syntax.tcons (Syntax.tyInt Syntax.w64) (Syntax.tcons Syntax.tyBool Syntax.tnil)))))))))) (List._∷_ (2, Rows.whole (Declared.row Line.the-type)) (List._∷_ (3, Rows.sslice (Referent.rtF (Referent.fInt Syntax.w8)) (Syntax.tyRef (Syntax.named 0) Syntax.imm (Syntax.tyInt Syntax.w8)) 0) (List._∷_ (4, Rows.sref (Array.Array (Referent.rtF (Referent.fInt Syntax.w32)) 32772) (Syntax.tyRef (Syntax.named 1) Syntax.imm (Syntax.tyArray (Syntax.tyInt Syntax.w32) 32772)) 1) (List._∷_ (5, Rows.mref-owed (Array.Array (Referent.rtF (Referent.fInt Syntax.w8)) 16388) (Syntax.tyRef (Syntax.named 2) Syntax.mut (Syntax.tyArray (Syntax.tyInt Syntax.w8) 16388)) 2 10 Row.off) (List._∷_ (6, Rows.mref-owed (Array.Array (Referent.rtF (Referent.fInt Syntax.w32)) 65540) (Syntax.tyRef (Syntax.named 3) Syntax.mut (Syntax.tyArray (Syntax.tyInt Syntax.w32) 65540)) 3 11 Row.off) (List._∷_ (7, Rows.mref-owed (Array.Array (Referent.rtF (Referent.fInt Syntax.w32)) 32772) (Syntax.tyRef (Syntax.named 4) Syntax.mut (Syntax.tyArray (Syntax.tyInt Syntax.w32) 32772)) 4 12 Row.off) (List._∷_ (8, Rows.mref-owed (Array.Array (Referent.rtF (Referent.fInt Syntax.w32)) 32772) (Syntax.tyRef (Syntax.named 5) Syntax.mut (Syntax.tyArray (Syntax.tyInt Syntax.w32) 32772)) 5 13 Row.off) (List._∷_ (9, Rows.mref-owed (Array.Array (Referent.rtF (Referent.fInt Syntax.w32)) 262160) (Syntax.tyRef (Syntax.named 6) Syntax.mut (Syntax.tyArray (Syntax.tyInt Syntax.w32) 262160)) 6 14 Row.off) (List._∷_ (10, Rows.mref-owed (Array.Array (Referent.rtF (Referent.fInt Syntax.w8)) 600000) (Syntax.tyRef (Syntax.named 7) Syntax.mut (Syntax.tyArray (Syntax.tyInt Syntax.w8) 600000)) 7 15 Row.off) (List._∷_ (11, Rows.mref (Array.Array Cell.R 65540) (Syntax.tyRef (Syntax.named 8) Syntax.mut (Syntax.tyArray Cell.behind 65540)) 8) (List._∷_ (12, Rows.mref (Array.Array Cell.R 32772) (Syntax.tyRef (Syntax.named 9) Syntax.mut (Syntax.tyArray Cell.behind 32772)) 9) (List._∷_ (13, Rows.any-gone Syntax.tyBool) (List._∷_ (14, Rows.any-gone Syntax.tyBool) (List._∷_ (15, Rows.any-gone Syntax.tyBool) List.[])))))))))))))))
+t18 = List._∷_ (0, Rows.whole (Declared.row Held.the-type)) (List._∷_ (1, Rows.any-gone (Syntax.tyStruct (List._∷_ 122 (List._∷_ 111 (List._∷_ 110 (List._∷_ 101 (List._∷_ 115 (List._∷_ 58 (List._∷_ 58 (List._∷_ 104 (List._∷_ 101 (List._∷_ 108 (List._∷_ 100 (List._∷_ 58 (List._∷_ 58 (List._∷_ 72 (List._∷_ 101 (List._∷_ 108 (List._∷_ 100 List.[]))))))))))))))))) (Syntax.tcons (Syntax.tyStruct (List._∷_ 112 (List._∷_ 121 (List._∷_ 114 (List._∷_ 97 (List._∷_ 109 (List._∷_ 105 (List._∷_ 100 (List._∷_ 58 (List._∷_ 58 (List._∷_ 83 (List._∷_ 116 (List._∷_ 97 (List._∷_ 116 (List._∷_ 101 List.[])))))))))))))) (Syntax.tcons (Syntax.tyInt Syntax.w32) (Syntax.tcons (Syntax.tyInt Syntax.w32) (Syntax.tcons (Syntax.tyInt Syntax.w32) (Syntax.tcons (Syntax.tyInt Syntax.w32) (Syntax.tcons (Syntax.tyInt Syntax.w32) (Syntax.tcons (Syntax.tyArray (Syntax.tyInt Syntax.w32) 64) Syntax.tnil))))))) (Syntax.tcons (Syntax.tyInt Syntax.w64) (Syntax.tcons (Syntax.tyInt Syntax.w64) (Syntax.tcons (Syntax.tyInt Syntax.w64) (Syntax.tcons (Syntax.tyInt Syntax.w64) (Syntax.tcons (Syntax.tyInt Syntax.w64) (Syntax.tcons (Syntax.tyInt Syntax.w64) (Syntax.tcons Syntax.tyBool Syntax.tnil)))))))))) (List._∷_ (2, Rows.whole (Declared.row Line.the-type)) (List._∷_ (3, Rows.sslice (Referent.rtF (Referent.fInt Syntax.w8)) (Syntax.tyRef (Syntax.named 0) Syntax.imm (Syntax.tyInt Syntax.w8)) 0) (List._∷_ (4, Rows.sref (Array.Array (Referent.rtF (Referent.fInt Syntax.w32)) 32772) (Syntax.tyRef (Syntax.named 1) Syntax.imm (Syntax.tyArray (Syntax.tyInt Syntax.w32) 32772)) 1) (List._∷_ (5, Rows.mref-owed (Array.Array (Referent.rtF (Referent.fInt Syntax.w8)) 16388) (Syntax.tyRef (Syntax.named 2) Syntax.mut (Syntax.tyArray (Syntax.tyInt Syntax.w8) 16388)) 2 10 Row.off) (List._∷_ (6, Rows.mref-owed (Array.Array (Referent.rtF (Referent.fInt Syntax.w32)) 65540) (Syntax.tyRef (Syntax.named 3) Syntax.mut (Syntax.tyArray (Syntax.tyInt Syntax.w32) 65540)) 3 11 Row.off) (List._∷_ (7, Rows.mref-owed (Array.Array (Referent.rtF (Referent.fInt Syntax.w32)) 32772) (Syntax.tyRef (Syntax.named 4) Syntax.mut (Syntax.tyArray (Syntax.tyInt Syntax.w32) 32772)) 4 12 Row.off) (List._∷_ (8, Rows.mref-owed (Array.Array (Referent.rtF (Referent.fInt Syntax.w32)) 32772) (Syntax.tyRef (Syntax.named 5) Syntax.mut (Syntax.tyArray (Syntax.tyInt Syntax.w32) 32772)) 5 13 Row.off) (List._∷_ (9, Rows.mref-owed (Array.Array (Referent.rtF (Referent.fInt Syntax.w32)) 262160) (Syntax.tyRef (Syntax.named 6) Syntax.mut (Syntax.tyArray (Syntax.tyInt Syntax.w32) 262160)) 6 14 Row.off) (List._∷_ (10, Rows.mref-owed (Array.Array (Referent.rtF (Referent.fInt Syntax.w8)) 600000) (Syntax.tyRef (Syntax.named 7) Syntax.mut (Syntax.tyArray (Syntax.tyInt Syntax.w8) 600000)) 7 15 Row.off) (List._∷_ (11, Rows.mref (Array.Array Cell.R 65540) (Syntax.tyRef (Syntax.named 8) Syntax.mut (Syntax.tyArray Cell.behind 65540)) 8) (List._∷_ (12, Rows.mref (Array.Array Cell.R 32772) (Syntax.tyRef (Syntax.named 9) Syntax.mut (Syntax.tyArray Cell.behind 32772)) 9) (List._∷_ (13, Rows.any-gone Syntax.tyBool) (List._∷_ (14, Rows.any-gone Syntax.tyBool) (List._∷_ (15, Rows.any-gone Syntax.tyBool) List.[])))))))))))))))
 
 abbrev pub t19 : List.List Row.Entry
-t19 = List._∷_ (0, Rows.whole (Declared.row Held.the-type)) (List._∷_ (1, Rows.any-gone (Syntax.tyStruct (List._∷_ 122 (List._∷_ 111 (List._∷_ 110 (List._∷_ 101 (List._∷_ 115 (List._∷_ 58 (List._∷_ 58 (List._∷_ 104 (List._∷_ 101 (List._∷_ 108 (List._∷_ 100 (List._∷_ 58 (List._∷_ 58 (List._∷_ 72 (List._∷_ 101 (List._∷_ 108 (List._∷_ 100 List.[]))))))))))))))))) (Syntax.tcons (Syntax.tyStruct (List._∷_ 112 (List._∷_ 121 (List._∷_ 114 (List._∷_ 97 (List._∷_ 109 (List._∷_ 105 (List._∷_ 100 (List._∷_ 58 (List._∷_ 58 (List._∷_ 83 (List._∷_ 116 (List._∷_ 97 (List._∷_ 116 (List._∷_ 101 List.[])))))))))))))) (Syntax.tcons (Syntax.tyInt Syntax.w32) (Syntax.tcons (Syntax.tyInt Syntax.w32) (Syntax.tcons (Syntax.tyInt Syntax.w32) (Syntax.tcons (Syntax.tyArray (Syntax.tyInt Syntax.w32) 64) Syntax.tnil))))) (Syntax.tcons (Syntax.tyInt Syntax.w64) (Syntax.tcons (Syntax.tyInt Syntax.w64) (Syntax.tcons (Syntax.tyInt Syntax.w64) (Syntax.tcons (Syntax.tyInt Syntax.w64) (Syntax.tcons (Syntax.tyInt Syntax.w64) (Syntax.tcons (Syntax.tyInt Syntax.w64) (Syntax.tcons Syntax.tyBool Syntax.tnil)))))))))) (List._∷_ (2, Rows.any-gone (Syntax.tyStruct (List._∷_ 122 (List._∷_ 111 (List._∷_ 110 (List._∷_ 101 (List._∷_ 115 (List._∷_ 58 (List._∷_ 58 (List._∷_ 115 (List._∷_ 99 (List._∷_ 97 (List._∷_ 110 (List._∷_ 58 (List._∷_ 58 (List._∷_ 76 (List._∷_ 105 (List._∷_ 110 (List._∷_ 101 List.[]))))))))))))))))) (Syntax.tcons (Syntax.tyInt Syntax.w32) (Syntax.tcons (Syntax.tyInt Syntax.w64) (Syntax.tcons (Syntax.tyInt Syntax.w64) (Syntax.tcons (Syntax.tyInt Syntax.w64) (Syntax.tcons (Syntax.tyInt Syntax.w64) Syntax.tnil))))))) (List._∷_ (3, Rows.sslice (Referent.rtF (Referent.fInt Syntax.w8)) (Syntax.tyRef (Syntax.named 0) Syntax.imm (Syntax.tyInt Syntax.w8)) 0) (List._∷_ (4, Rows.sref (Array.Array (Referent.rtF (Referent.fInt Syntax.w32)) 32772) (Syntax.tyRef (Syntax.named 1) Syntax.imm (Syntax.tyArray (Syntax.tyInt Syntax.w32) 32772)) 1) (List._∷_ (5, Rows.mref-owed (Array.Array (Referent.rtF (Referent.fInt Syntax.w8)) 16388) (Syntax.tyRef (Syntax.named 2) Syntax.mut (Syntax.tyArray (Syntax.tyInt Syntax.w8) 16388)) 2 10 Row.off) (List._∷_ (6, Rows.mref-owed (Array.Array (Referent.rtF (Referent.fInt Syntax.w32)) 65540) (Syntax.tyRef (Syntax.named 3) Syntax.mut (Syntax.tyArray (Syntax.tyInt Syntax.w32) 65540)) 3 11 Row.off) (List._∷_ (7, Rows.mref-owed (Array.Array (Referent.rtF (Referent.fInt Syntax.w32)) 32772) (Syntax.tyRef (Syntax.named 4) Syntax.mut (Syntax.tyArray (Syntax.tyInt Syntax.w32) 32772)) 4 12 Row.off) (List._∷_ (8, Rows.mref-owed (Array.Array (Referent.rtF (Referent.fInt Syntax.w32)) 32772) (Syntax.tyRef (Syntax.named 5) Syntax.mut (Syntax.tyArray (Syntax.tyInt Syntax.w32) 32772)) 5 13 Row.off) (List._∷_ (9, Rows.mref-owed (Array.Array (Referent.rtF (Referent.fInt Syntax.w32)) 262160) (Syntax.tyRef (Syntax.named 6) Syntax.mut (Syntax.tyArray (Syntax.tyInt Syntax.w32) 262160)) 6 14 Row.off) (List._∷_ (10, Rows.mref-owed (Array.Array (Referent.rtF (Referent.fInt Syntax.w8)) 600000) (Syntax.tyRef (Syntax.named 7) Syntax.mut (Syntax.tyArray (Syntax.tyInt Syntax.w8) 600000)) 7 15 Row.off) (List._∷_ (11, Rows.mref (Array.Array Cell.R 65540) (Syntax.tyRef (Syntax.named 8) Syntax.mut (Syntax.tyArray Cell.behind 65540)) 8) (List._∷_ (12, Rows.mref (Array.Array Cell.R 32772) (Syntax.tyRef (Syntax.named 9) Syntax.mut (Syntax.tyArray Cell.behind 32772)) 9) (List._∷_ (13, Rows.any-gone Syntax.tyBool) (List._∷_ (14, Rows.any-gone Syntax.tyBool) (List._∷_ (15, Rows.any-gone Syntax.tyBool) List.[])))))))))))))))
+t19 = List._∷_ (0, Rows.whole (Declared.row Held.the-type)) (List._∷_ (1, Rows.any-gone (Syntax.tyStruct (List._∷_ 122 (List._∷_ 111 (List._∷_ 110 (List._∷_ 101 (List._∷_ 115 (List._∷_ 58 (List._∷_ 58 (List._∷_ 104 (List._∷_ 101 (List._∷_ 108 (List._∷_ 100 (List._∷_ 58 (List._∷_ 58 (List._∷_ 72 (List._∷_ 101 (List._∷_ 108 (List._∷_ 100 List.[]))))))))))))))))) (Syntax.tcons (Syntax.tyStruct (List._∷_ 112 (List._∷_ 121 (List._∷_ 114 (List._∷_ 97 (List._∷_ 109 (List._∷_ 105 (List._∷_ 100 (List._∷_ 58 (List._∷_ 58 (List._∷_ 83 (List._∷_ 116 (List._∷_ 97 (List._∷_ 116 (List._∷_ 101 List.[])))))))))))))) (Syntax.tcons (Syntax.tyInt Syntax.w32) (Syntax.tcons (Syntax.tyInt Syntax.w32) (Syntax.tcons (Syntax.tyInt Syntax.w32) (Syntax.tcons (Syntax.tyInt Syntax.w32) (Syntax.tcons (Syntax.tyInt Syntax.w32) (Syntax.tcons (Syntax.tyArray (Syntax.tyInt Syntax.w32) 64) Syntax.tnil))))))) (Syntax.tcons (Syntax.tyInt Syntax.w64) (Syntax.tcons (Syntax.tyInt Syntax.w64) (Syntax.tcons (Syntax.tyInt Syntax.w64) (Syntax.tcons (Syntax.tyInt Syntax.w64) (Syntax.tcons (Syntax.tyInt Syntax.w64) (Syntax.tcons (Syntax.tyInt Syntax.w64) (Syntax.tcons Syntax.tyBool Syntax.tnil)))))))))) (List._∷_ (2, Rows.any-gone (Syntax.tyStruct (List._∷_ 122 (List._∷_ 111 (List._∷_ 110 (List._∷_ 101 (List._∷_ 115 (List._∷_ 58 (List._∷_ 58 (List._∷_ 115 (List._∷_ 99 (List._∷_ 97 (List._∷_ 110 (List._∷_ 58 (List._∷_ 58 (List._∷_ 76 (List._∷_ 105 (List._∷_ 110 (List._∷_ 101 List.[]))))))))))))))))) (Syntax.tcons (Syntax.tyInt Syntax.w32) (Syntax.tcons (Syntax.tyInt Syntax.w64) (Syntax.tcons (Syntax.tyInt Syntax.w64) (Syntax.tcons (Syntax.tyInt Syntax.w64) (Syntax.tcons (Syntax.tyInt Syntax.w64) Syntax.tnil))))))) (List._∷_ (3, Rows.sslice (Referent.rtF (Referent.fInt Syntax.w8)) (Syntax.tyRef (Syntax.named 0) Syntax.imm (Syntax.tyInt Syntax.w8)) 0) (List._∷_ (4, Rows.sref (Array.Array (Referent.rtF (Referent.fInt Syntax.w32)) 32772) (Syntax.tyRef (Syntax.named 1) Syntax.imm (Syntax.tyArray (Syntax.tyInt Syntax.w32) 32772)) 1) (List._∷_ (5, Rows.mref-owed (Array.Array (Referent.rtF (Referent.fInt Syntax.w8)) 16388) (Syntax.tyRef (Syntax.named 2) Syntax.mut (Syntax.tyArray (Syntax.tyInt Syntax.w8) 16388)) 2 10 Row.off) (List._∷_ (6, Rows.mref-owed (Array.Array (Referent.rtF (Referent.fInt Syntax.w32)) 65540) (Syntax.tyRef (Syntax.named 3) Syntax.mut (Syntax.tyArray (Syntax.tyInt Syntax.w32) 65540)) 3 11 Row.off) (List._∷_ (7, Rows.mref-owed (Array.Array (Referent.rtF (Referent.fInt Syntax.w32)) 32772) (Syntax.tyRef (Syntax.named 4) Syntax.mut (Syntax.tyArray (Syntax.tyInt Syntax.w32) 32772)) 4 12 Row.off) (List._∷_ (8, Rows.mref-owed (Array.Array (Referent.rtF (Referent.fInt Syntax.w32)) 32772) (Syntax.tyRef (Syntax.named 5) Syntax.mut (Syntax.tyArray (Syntax.tyInt Syntax.w32) 32772)) 5 13 Row.off) (List._∷_ (9, Rows.mref-owed (Array.Array (Referent.rtF (Referent.fInt Syntax.w32)) 262160) (Syntax.tyRef (Syntax.named 6) Syntax.mut (Syntax.tyArray (Syntax.tyInt Syntax.w32) 262160)) 6 14 Row.off) (List._∷_ (10, Rows.mref-owed (Array.Array (Referent.rtF (Referent.fInt Syntax.w8)) 600000) (Syntax.tyRef (Syntax.named 7) Syntax.mut (Syntax.tyArray (Syntax.tyInt Syntax.w8) 600000)) 7 15 Row.off) (List._∷_ (11, Rows.mref (Array.Array Cell.R 65540) (Syntax.tyRef (Syntax.named 8) Syntax.mut (Syntax.tyArray Cell.behind 65540)) 8) (List._∷_ (12, Rows.mref (Array.Array Cell.R 32772) (Syntax.tyRef (Syntax.named 9) Syntax.mut (Syntax.tyArray Cell.behind 32772)) 9) (List._∷_ (13, Rows.any-gone Syntax.tyBool) (List._∷_ (14, Rows.any-gone Syntax.tyBool) (List._∷_ (15, Rows.any-gone Syntax.tyBool) List.[])))))))))))))))
 
 abbrev pub t20 : List.List Row.Entry
-t20 = List._∷_ (0, Rows.whole (Declared.row Held.the-type)) (List._∷_ (1, Rows.any-gone (Syntax.tyStruct (List._∷_ 122 (List._∷_ 111 (List._∷_ 110 (List._∷_ 101 (List._∷_ 115 (List._∷_ 58 (List._∷_ 58 (List._∷_ 104 (List._∷_ 101 (List._∷_ 108 (List._∷_ 100 (List._∷_ 58 (List._∷_ 58 (List._∷_ 72 (List._∷_ 101 (List._∷_ 108 (List._∷_ 100 List.[]))))))))))))))))) (Syntax.tcons (Syntax.tyStruct (List._∷_ 112 (List._∷_ 121 (List._∷_ 114 (List._∷_ 97 (List._∷_ 109 (List._∷_ 105 (List._∷_ 100 (List._∷_ 58 (List._∷_ 58 (List._∷_ 83 (List._∷_ 116 (List._∷_ 97 (List._∷_ 116 (List._∷_ 101 List.[])))))))))))))) (Syntax.tcons (Syntax.tyInt Syntax.w32) (Syntax.tcons (Syntax.tyInt Syntax.w32) (Syntax.tcons (Syntax.tyInt Syntax.w32) (Syntax.tcons (Syntax.tyArray (Syntax.tyInt Syntax.w32) 64) Syntax.tnil))))) (Syntax.tcons (Syntax.tyInt Syntax.w64) (Syntax.tcons (Syntax.tyInt Syntax.w64) (Syntax.tcons (Syntax.tyInt Syntax.w64) (Syntax.tcons (Syntax.tyInt Syntax.w64) (Syntax.tcons (Syntax.tyInt Syntax.w64) (Syntax.tcons (Syntax.tyInt Syntax.w64) (Syntax.tcons Syntax.tyBool Syntax.tnil)))))))))) (List._∷_ (2, Rows.any-gone (Syntax.tyStruct (List._∷_ 122 (List._∷_ 111 (List._∷_ 110 (List._∷_ 101 (List._∷_ 115 (List._∷_ 58 (List._∷_ 58 (List._∷_ 115 (List._∷_ 99 (List._∷_ 97 (List._∷_ 110 (List._∷_ 58 (List._∷_ 58 (List._∷_ 76 (List._∷_ 105 (List._∷_ 110 (List._∷_ 101 List.[]))))))))))))))))) (Syntax.tcons (Syntax.tyInt Syntax.w32) (Syntax.tcons (Syntax.tyInt Syntax.w64) (Syntax.tcons (Syntax.tyInt Syntax.w64) (Syntax.tcons (Syntax.tyInt Syntax.w64) (Syntax.tcons (Syntax.tyInt Syntax.w64) Syntax.tnil))))))) (List._∷_ (3, Rows.sslice (Referent.rtF (Referent.fInt Syntax.w8)) (Syntax.tyRef (Syntax.named 0) Syntax.imm (Syntax.tyInt Syntax.w8)) 0) (List._∷_ (4, Rows.sref (Array.Array (Referent.rtF (Referent.fInt Syntax.w32)) 32772) (Syntax.tyRef (Syntax.named 1) Syntax.imm (Syntax.tyArray (Syntax.tyInt Syntax.w32) 32772)) 1) (List._∷_ (5, Rows.mref (Array.Array (Referent.rtF (Referent.fInt Syntax.w8)) 16388) (Syntax.tyRef (Syntax.named 2) Syntax.mut (Syntax.tyArray (Syntax.tyInt Syntax.w8) 16388)) 2) (List._∷_ (6, Rows.mref-owed (Array.Array (Referent.rtF (Referent.fInt Syntax.w32)) 65540) (Syntax.tyRef (Syntax.named 3) Syntax.mut (Syntax.tyArray (Syntax.tyInt Syntax.w32) 65540)) 3 11 Row.off) (List._∷_ (7, Rows.mref-owed (Array.Array (Referent.rtF (Referent.fInt Syntax.w32)) 32772) (Syntax.tyRef (Syntax.named 4) Syntax.mut (Syntax.tyArray (Syntax.tyInt Syntax.w32) 32772)) 4 12 Row.off) (List._∷_ (8, Rows.mref-owed (Array.Array (Referent.rtF (Referent.fInt Syntax.w32)) 32772) (Syntax.tyRef (Syntax.named 5) Syntax.mut (Syntax.tyArray (Syntax.tyInt Syntax.w32) 32772)) 5 13 Row.off) (List._∷_ (9, Rows.mref-owed (Array.Array (Referent.rtF (Referent.fInt Syntax.w32)) 262160) (Syntax.tyRef (Syntax.named 6) Syntax.mut (Syntax.tyArray (Syntax.tyInt Syntax.w32) 262160)) 6 14 Row.off) (List._∷_ (10, Rows.mref-owed (Array.Array (Referent.rtF (Referent.fInt Syntax.w8)) 600000) (Syntax.tyRef (Syntax.named 7) Syntax.mut (Syntax.tyArray (Syntax.tyInt Syntax.w8) 600000)) 7 15 Row.off) (List._∷_ (11, Rows.mref (Array.Array Cell.R 65540) (Syntax.tyRef (Syntax.named 8) Syntax.mut (Syntax.tyArray Cell.behind 65540)) 8) (List._∷_ (12, Rows.mref (Array.Array Cell.R 32772) (Syntax.tyRef (Syntax.named 9) Syntax.mut (Syntax.tyArray Cell.behind 32772)) 9) (List._∷_ (13, Rows.any-gone Syntax.tyBool) (List._∷_ (14, Rows.any-gone Syntax.tyBool) (List._∷_ (15, Rows.any-gone Syntax.tyBool) List.[])))))))))))))))
+t20 = List._∷_ (0, Rows.whole (Declared.row Held.the-type)) (List._∷_ (1, Rows.any-gone (Syntax.tyStruct (List._∷_ 122 (List._∷_ 111 (List._∷_ 110 (List._∷_ 101 (List._∷_ 115 (List._∷_ 58 (List._∷_ 58 (List._∷_ 104 (List._∷_ 101 (List._∷_ 108 (List._∷_ 100 (List._∷_ 58 (List._∷_ 58 (List._∷_ 72 (List._∷_ 101 (List._∷_ 108 (List._∷_ 100 List.[]))))))))))))))))) (Syntax.tcons (Syntax.tyStruct (List._∷_ 112 (List._∷_ 121 (List._∷_ 114 (List._∷_ 97 (List._∷_ 109 (List._∷_ 105 (List._∷_ 100 (List._∷_ 58 (List._∷_ 58 (List._∷_ 83 (List._∷_ 116 (List._∷_ 97 (List._∷_ 116 (List._∷_ 101 List.[])))))))))))))) (Syntax.tcons (Syntax.tyInt Syntax.w32) (Syntax.tcons (Syntax.tyInt Syntax.w32) (Syntax.tcons (Syntax.tyInt Syntax.w32) (Syntax.tcons (Syntax.tyInt Syntax.w32) (Syntax.tcons (Syntax.tyInt Syntax.w32) (Syntax.tcons (Syntax.tyArray (Syntax.tyInt Syntax.w32) 64) Syntax.tnil))))))) (Syntax.tcons (Syntax.tyInt Syntax.w64) (Syntax.tcons (Syntax.tyInt Syntax.w64) (Syntax.tcons (Syntax.tyInt Syntax.w64) (Syntax.tcons (Syntax.tyInt Syntax.w64) (Syntax.tcons (Syntax.tyInt Syntax.w64) (Syntax.tcons (Syntax.tyInt Syntax.w64) (Syntax.tcons Syntax.tyBool Syntax.tnil)))))))))) (List._∷_ (2, Rows.any-gone (Syntax.tyStruct (List._∷_ 122 (List._∷_ 111 (List._∷_ 110 (List._∷_ 101 (List._∷_ 115 (List._∷_ 58 (List._∷_ 58 (List._∷_ 115 (List._∷_ 99 (List._∷_ 97 (List._∷_ 110 (List._∷_ 58 (List._∷_ 58 (List._∷_ 76 (List._∷_ 105 (List._∷_ 110 (List._∷_ 101 List.[]))))))))))))))))) (Syntax.tcons (Syntax.tyInt Syntax.w32) (Syntax.tcons (Syntax.tyInt Syntax.w64) (Syntax.tcons (Syntax.tyInt Syntax.w64) (Syntax.tcons (Syntax.tyInt Syntax.w64) (Syntax.tcons (Syntax.tyInt Syntax.w64) Syntax.tnil))))))) (List._∷_ (3, Rows.sslice (Referent.rtF (Referent.fInt Syntax.w8)) (Syntax.tyRef (Syntax.named 0) Syntax.imm (Syntax.tyInt Syntax.w8)) 0) (List._∷_ (4, Rows.sref (Array.Array (Referent.rtF (Referent.fInt Syntax.w32)) 32772) (Syntax.tyRef (Syntax.named 1) Syntax.imm (Syntax.tyArray (Syntax.tyInt Syntax.w32) 32772)) 1) (List._∷_ (5, Rows.mref (Array.Array (Referent.rtF (Referent.fInt Syntax.w8)) 16388) (Syntax.tyRef (Syntax.named 2) Syntax.mut (Syntax.tyArray (Syntax.tyInt Syntax.w8) 16388)) 2) (List._∷_ (6, Rows.mref-owed (Array.Array (Referent.rtF (Referent.fInt Syntax.w32)) 65540) (Syntax.tyRef (Syntax.named 3) Syntax.mut (Syntax.tyArray (Syntax.tyInt Syntax.w32) 65540)) 3 11 Row.off) (List._∷_ (7, Rows.mref-owed (Array.Array (Referent.rtF (Referent.fInt Syntax.w32)) 32772) (Syntax.tyRef (Syntax.named 4) Syntax.mut (Syntax.tyArray (Syntax.tyInt Syntax.w32) 32772)) 4 12 Row.off) (List._∷_ (8, Rows.mref-owed (Array.Array (Referent.rtF (Referent.fInt Syntax.w32)) 32772) (Syntax.tyRef (Syntax.named 5) Syntax.mut (Syntax.tyArray (Syntax.tyInt Syntax.w32) 32772)) 5 13 Row.off) (List._∷_ (9, Rows.mref-owed (Array.Array (Referent.rtF (Referent.fInt Syntax.w32)) 262160) (Syntax.tyRef (Syntax.named 6) Syntax.mut (Syntax.tyArray (Syntax.tyInt Syntax.w32) 262160)) 6 14 Row.off) (List._∷_ (10, Rows.mref-owed (Array.Array (Referent.rtF (Referent.fInt Syntax.w8)) 600000) (Syntax.tyRef (Syntax.named 7) Syntax.mut (Syntax.tyArray (Syntax.tyInt Syntax.w8) 600000)) 7 15 Row.off) (List._∷_ (11, Rows.mref (Array.Array Cell.R 65540) (Syntax.tyRef (Syntax.named 8) Syntax.mut (Syntax.tyArray Cell.behind 65540)) 8) (List._∷_ (12, Rows.mref (Array.Array Cell.R 32772) (Syntax.tyRef (Syntax.named 9) Syntax.mut (Syntax.tyArray Cell.behind 32772)) 9) (List._∷_ (13, Rows.any-gone Syntax.tyBool) (List._∷_ (14, Rows.any-gone Syntax.tyBool) (List._∷_ (15, Rows.any-gone Syntax.tyBool) List.[])))))))))))))))
 
 abbrev pub t21 : List.List Row.Entry
 t21 = List._∷_ (16, Rows.any-gone (Syntax.tyRef Syntax.erased Syntax.mut (Syntax.tyArray (Syntax.tyInt Syntax.w8) 16388))) (List._∷_ (17, Rows.mleft (Array.Array (Referent.rtF (Referent.fInt Syntax.w32)) 65540) (Syntax.tyRef Syntax.erased Syntax.mut (Syntax.tyArray (Syntax.tyInt Syntax.w32) 65540))) (List._∷_ (18, Rows.mleft (Array.Array (Referent.rtF (Referent.fInt Syntax.w32)) 32772) (Syntax.tyRef Syntax.erased Syntax.mut (Syntax.tyArray (Syntax.tyInt Syntax.w32) 32772))) (List._∷_ (19, Rows.mleft (Array.Array (Referent.rtF (Referent.fInt Syntax.w32)) 32772) (Syntax.tyRef Syntax.erased Syntax.mut (Syntax.tyArray (Syntax.tyInt Syntax.w32) 32772))) (List._∷_ (20, Rows.mleft (Array.Array (Referent.rtF (Referent.fInt Syntax.w32)) 262160) (Syntax.tyRef Syntax.erased Syntax.mut (Syntax.tyArray (Syntax.tyInt Syntax.w32) 262160))) (List._∷_ (21, Rows.mleft (Array.Array (Referent.rtF (Referent.fInt Syntax.w8)) 600000) (Syntax.tyRef Syntax.erased Syntax.mut (Syntax.tyArray (Syntax.tyInt Syntax.w8) 600000))) (List._∷_ (22, Rows.any-gone (Syntax.tyRef Syntax.erased Syntax.mut Cell.behind)) (List._∷_ (23, Rows.any-gone (Syntax.tyStruct (List._∷_ 38 (List._∷_ 91 (List._∷_ 93 List.[]))) (Syntax.tcons (Syntax.tyRef Syntax.erased Syntax.mut Cell.behind) (Syntax.tcons (Syntax.tyInt Syntax.w64) Syntax.tnil)))) (List._∷_ (24, Rows.any-gone (Syntax.tyRef Syntax.erased Syntax.mut Cell.behind)) (List._∷_ (25, Rows.any-gone (Syntax.tyStruct (List._∷_ 38 (List._∷_ 91 (List._∷_ 93 List.[]))) (Syntax.tcons (Syntax.tyRef Syntax.erased Syntax.mut Cell.behind) (Syntax.tcons (Syntax.tyInt Syntax.w64) Syntax.tnil)))) (List._∷_ (26, Rows.any-gone (Syntax.tyRef Syntax.erased Syntax.mut (Syntax.tyArray (Syntax.tyInt Syntax.w32) 65540))) (List._∷_ (27, Rows.any-gone (Syntax.tyRef Syntax.erased Syntax.mut (Syntax.tyArray (Syntax.tyInt Syntax.w32) 32772))) (List._∷_ (28, Rows.any-gone (Syntax.tyRef Syntax.erased Syntax.mut (Syntax.tyArray (Syntax.tyInt Syntax.w32) 262160))) (List._∷_ (29, Rows.any-gone (Syntax.tyRef Syntax.erased Syntax.imm (Syntax.tyArray (Syntax.tyInt Syntax.w8) 600000))) (List._∷_ (30, Rows.any-gone (Syntax.tyRef Syntax.erased Syntax.mut (Syntax.tyArray Cell.behind 65540))) (List._∷_ (31, Rows.any-gone (Syntax.tyRef Syntax.erased Syntax.mut (Syntax.tyArray Cell.behind 32772))) List.[])))))))))))))))
 
 abbrev pub t22 : List.List Row.Entry
-t22 = List._∷_ (0, Rows.whole (Declared.row Held.the-type)) (List._∷_ (1, Rows.any-gone (Syntax.tyStruct (List._∷_ 122 (List._∷_ 111 (List._∷_ 110 (List._∷_ 101 (List._∷_ 115 (List._∷_ 58 (List._∷_ 58 (List._∷_ 104 (List._∷_ 101 (List._∷_ 108 (List._∷_ 100 (List._∷_ 58 (List._∷_ 58 (List._∷_ 72 (List._∷_ 101 (List._∷_ 108 (List._∷_ 100 List.[]))))))))))))))))) (Syntax.tcons (Syntax.tyStruct (List._∷_ 112 (List._∷_ 121 (List._∷_ 114 (List._∷_ 97 (List._∷_ 109 (List._∷_ 105 (List._∷_ 100 (List._∷_ 58 (List._∷_ 58 (List._∷_ 83 (List._∷_ 116 (List._∷_ 97 (List._∷_ 116 (List._∷_ 101 List.[])))))))))))))) (Syntax.tcons (Syntax.tyInt Syntax.w32) (Syntax.tcons (Syntax.tyInt Syntax.w32) (Syntax.tcons (Syntax.tyInt Syntax.w32) (Syntax.tcons (Syntax.tyArray (Syntax.tyInt Syntax.w32) 64) Syntax.tnil))))) (Syntax.tcons (Syntax.tyInt Syntax.w64) (Syntax.tcons (Syntax.tyInt Syntax.w64) (Syntax.tcons (Syntax.tyInt Syntax.w64) (Syntax.tcons (Syntax.tyInt Syntax.w64) (Syntax.tcons (Syntax.tyInt Syntax.w64) (Syntax.tcons (Syntax.tyInt Syntax.w64) (Syntax.tcons Syntax.tyBool Syntax.tnil)))))))))) (List._∷_ (2, Rows.any-gone (Syntax.tyStruct (List._∷_ 122 (List._∷_ 111 (List._∷_ 110 (List._∷_ 101 (List._∷_ 115 (List._∷_ 58 (List._∷_ 58 (List._∷_ 115 (List._∷_ 99 (List._∷_ 97 (List._∷_ 110 (List._∷_ 58 (List._∷_ 58 (List._∷_ 76 (List._∷_ 105 (List._∷_ 110 (List._∷_ 101 List.[]))))))))))))))))) (Syntax.tcons (Syntax.tyInt Syntax.w32) (Syntax.tcons (Syntax.tyInt Syntax.w64) (Syntax.tcons (Syntax.tyInt Syntax.w64) (Syntax.tcons (Syntax.tyInt Syntax.w64) (Syntax.tcons (Syntax.tyInt Syntax.w64) Syntax.tnil))))))) (List._∷_ (3, Rows.sslice (Referent.rtF (Referent.fInt Syntax.w8)) (Syntax.tyRef (Syntax.named 0) Syntax.imm (Syntax.tyInt Syntax.w8)) 0) (List._∷_ (4, Rows.sref (Array.Array (Referent.rtF (Referent.fInt Syntax.w32)) 32772) (Syntax.tyRef (Syntax.named 1) Syntax.imm (Syntax.tyArray (Syntax.tyInt Syntax.w32) 32772)) 1) (List._∷_ (5, Rows.mref (Array.Array (Referent.rtF (Referent.fInt Syntax.w8)) 16388) (Syntax.tyRef (Syntax.named 2) Syntax.mut (Syntax.tyArray (Syntax.tyInt Syntax.w8) 16388)) 2) (List._∷_ (6, Rows.mref (Array.Array (Referent.rtF (Referent.fInt Syntax.w32)) 65540) (Syntax.tyRef (Syntax.named 3) Syntax.mut (Syntax.tyArray (Syntax.tyInt Syntax.w32) 65540)) 3) (List._∷_ (7, Rows.mref-owed (Array.Array (Referent.rtF (Referent.fInt Syntax.w32)) 32772) (Syntax.tyRef (Syntax.named 4) Syntax.mut (Syntax.tyArray (Syntax.tyInt Syntax.w32) 32772)) 4 12 Row.off) (List._∷_ (8, Rows.mref-owed (Array.Array (Referent.rtF (Referent.fInt Syntax.w32)) 32772) (Syntax.tyRef (Syntax.named 5) Syntax.mut (Syntax.tyArray (Syntax.tyInt Syntax.w32) 32772)) 5 13 Row.off) (List._∷_ (9, Rows.mref-owed (Array.Array (Referent.rtF (Referent.fInt Syntax.w32)) 262160) (Syntax.tyRef (Syntax.named 6) Syntax.mut (Syntax.tyArray (Syntax.tyInt Syntax.w32) 262160)) 6 14 Row.off) (List._∷_ (10, Rows.mref-owed (Array.Array (Referent.rtF (Referent.fInt Syntax.w8)) 600000) (Syntax.tyRef (Syntax.named 7) Syntax.mut (Syntax.tyArray (Syntax.tyInt Syntax.w8) 600000)) 7 15 Row.off) (List._∷_ (11, Rows.mref (Array.Array Cell.R 65540) (Syntax.tyRef (Syntax.named 8) Syntax.mut (Syntax.tyArray Cell.behind 65540)) 8) (List._∷_ (12, Rows.mref (Array.Array Cell.R 32772) (Syntax.tyRef (Syntax.named 9) Syntax.mut (Syntax.tyArray Cell.behind 32772)) 9) (List._∷_ (13, Rows.any-gone Syntax.tyBool) (List._∷_ (14, Rows.any-gone Syntax.tyBool) (List._∷_ (15, Rows.any-gone Syntax.tyBool) List.[])))))))))))))))
+t22 = List._∷_ (0, Rows.whole (Declared.row Held.the-type)) (List._∷_ (1, Rows.any-gone (Syntax.tyStruct (List._∷_ 122 (List._∷_ 111 (List._∷_ 110 (List._∷_ 101 (List._∷_ 115 (List._∷_ 58 (List._∷_ 58 (List._∷_ 104 (List._∷_ 101 (List._∷_ 108 (List._∷_ 100 (List._∷_ 58 (List._∷_ 58 (List._∷_ 72 (List._∷_ 101 (List._∷_ 108 (List._∷_ 100 List.[]))))))))))))))))) (Syntax.tcons (Syntax.tyStruct (List._∷_ 112 (List._∷_ 121 (List._∷_ 114 (List._∷_ 97 (List._∷_ 109 (List._∷_ 105 (List._∷_ 100 (List._∷_ 58 (List._∷_ 58 (List._∷_ 83 (List._∷_ 116 (List._∷_ 97 (List._∷_ 116 (List._∷_ 101 List.[])))))))))))))) (Syntax.tcons (Syntax.tyInt Syntax.w32) (Syntax.tcons (Syntax.tyInt Syntax.w32) (Syntax.tcons (Syntax.tyInt Syntax.w32) (Syntax.tcons (Syntax.tyInt Syntax.w32) (Syntax.tcons (Syntax.tyInt Syntax.w32) (Syntax.tcons (Syntax.tyArray (Syntax.tyInt Syntax.w32) 64) Syntax.tnil))))))) (Syntax.tcons (Syntax.tyInt Syntax.w64) (Syntax.tcons (Syntax.tyInt Syntax.w64) (Syntax.tcons (Syntax.tyInt Syntax.w64) (Syntax.tcons (Syntax.tyInt Syntax.w64) (Syntax.tcons (Syntax.tyInt Syntax.w64) (Syntax.tcons (Syntax.tyInt Syntax.w64) (Syntax.tcons Syntax.tyBool Syntax.tnil)))))))))) (List._∷_ (2, Rows.any-gone (Syntax.tyStruct (List._∷_ 122 (List._∷_ 111 (List._∷_ 110 (List._∷_ 101 (List._∷_ 115 (List._∷_ 58 (List._∷_ 58 (List._∷_ 115 (List._∷_ 99 (List._∷_ 97 (List._∷_ 110 (List._∷_ 58 (List._∷_ 58 (List._∷_ 76 (List._∷_ 105 (List._∷_ 110 (List._∷_ 101 List.[]))))))))))))))))) (Syntax.tcons (Syntax.tyInt Syntax.w32) (Syntax.tcons (Syntax.tyInt Syntax.w64) (Syntax.tcons (Syntax.tyInt Syntax.w64) (Syntax.tcons (Syntax.tyInt Syntax.w64) (Syntax.tcons (Syntax.tyInt Syntax.w64) Syntax.tnil))))))) (List._∷_ (3, Rows.sslice (Referent.rtF (Referent.fInt Syntax.w8)) (Syntax.tyRef (Syntax.named 0) Syntax.imm (Syntax.tyInt Syntax.w8)) 0) (List._∷_ (4, Rows.sref (Array.Array (Referent.rtF (Referent.fInt Syntax.w32)) 32772) (Syntax.tyRef (Syntax.named 1) Syntax.imm (Syntax.tyArray (Syntax.tyInt Syntax.w32) 32772)) 1) (List._∷_ (5, Rows.mref (Array.Array (Referent.rtF (Referent.fInt Syntax.w8)) 16388) (Syntax.tyRef (Syntax.named 2) Syntax.mut (Syntax.tyArray (Syntax.tyInt Syntax.w8) 16388)) 2) (List._∷_ (6, Rows.mref (Array.Array (Referent.rtF (Referent.fInt Syntax.w32)) 65540) (Syntax.tyRef (Syntax.named 3) Syntax.mut (Syntax.tyArray (Syntax.tyInt Syntax.w32) 65540)) 3) (List._∷_ (7, Rows.mref-owed (Array.Array (Referent.rtF (Referent.fInt Syntax.w32)) 32772) (Syntax.tyRef (Syntax.named 4) Syntax.mut (Syntax.tyArray (Syntax.tyInt Syntax.w32) 32772)) 4 12 Row.off) (List._∷_ (8, Rows.mref-owed (Array.Array (Referent.rtF (Referent.fInt Syntax.w32)) 32772) (Syntax.tyRef (Syntax.named 5) Syntax.mut (Syntax.tyArray (Syntax.tyInt Syntax.w32) 32772)) 5 13 Row.off) (List._∷_ (9, Rows.mref-owed (Array.Array (Referent.rtF (Referent.fInt Syntax.w32)) 262160) (Syntax.tyRef (Syntax.named 6) Syntax.mut (Syntax.tyArray (Syntax.tyInt Syntax.w32) 262160)) 6 14 Row.off) (List._∷_ (10, Rows.mref-owed (Array.Array (Referent.rtF (Referent.fInt Syntax.w8)) 600000) (Syntax.tyRef (Syntax.named 7) Syntax.mut (Syntax.tyArray (Syntax.tyInt Syntax.w8) 600000)) 7 15 Row.off) (List._∷_ (11, Rows.mref (Array.Array Cell.R 65540) (Syntax.tyRef (Syntax.named 8) Syntax.mut (Syntax.tyArray Cell.behind 65540)) 8) (List._∷_ (12, Rows.mref (Array.Array Cell.R 32772) (Syntax.tyRef (Syntax.named 9) Syntax.mut (Syntax.tyArray Cell.behind 32772)) 9) (List._∷_ (13, Rows.any-gone Syntax.tyBool) (List._∷_ (14, Rows.any-gone Syntax.tyBool) (List._∷_ (15, Rows.any-gone Syntax.tyBool) List.[])))))))))))))))
 
 abbrev pub t23 : List.List Row.Entry
 t23 = List._∷_ (16, Rows.any-gone (Syntax.tyRef Syntax.erased Syntax.mut (Syntax.tyArray (Syntax.tyInt Syntax.w8) 16388))) (List._∷_ (17, Rows.any-gone (Syntax.tyRef Syntax.erased Syntax.mut (Syntax.tyArray (Syntax.tyInt Syntax.w32) 65540))) (List._∷_ (18, Rows.mleft (Array.Array (Referent.rtF (Referent.fInt Syntax.w32)) 32772) (Syntax.tyRef Syntax.erased Syntax.mut (Syntax.tyArray (Syntax.tyInt Syntax.w32) 32772))) (List._∷_ (19, Rows.mleft (Array.Array (Referent.rtF (Referent.fInt Syntax.w32)) 32772) (Syntax.tyRef Syntax.erased Syntax.mut (Syntax.tyArray (Syntax.tyInt Syntax.w32) 32772))) (List._∷_ (20, Rows.mleft (Array.Array (Referent.rtF (Referent.fInt Syntax.w32)) 262160) (Syntax.tyRef Syntax.erased Syntax.mut (Syntax.tyArray (Syntax.tyInt Syntax.w32) 262160))) (List._∷_ (21, Rows.mleft (Array.Array (Referent.rtF (Referent.fInt Syntax.w8)) 600000) (Syntax.tyRef Syntax.erased Syntax.mut (Syntax.tyArray (Syntax.tyInt Syntax.w8) 600000))) (List._∷_ (22, Rows.any-gone (Syntax.tyRef Syntax.erased Syntax.mut Cell.behind)) (List._∷_ (23, Rows.any-gone (Syntax.tyStruct (List._∷_ 38 (List._∷_ 91 (List._∷_ 93 List.[]))) (Syntax.tcons (Syntax.tyRef Syntax.erased Syntax.mut Cell.behind) (Syntax.tcons (Syntax.tyInt Syntax.w64) Syntax.tnil)))) (List._∷_ (24, Rows.any-gone (Syntax.tyRef Syntax.erased Syntax.mut Cell.behind)) (List._∷_ (25, Rows.any-gone (Syntax.tyStruct (List._∷_ 38 (List._∷_ 91 (List._∷_ 93 List.[]))) (Syntax.tcons (Syntax.tyRef Syntax.erased Syntax.mut Cell.behind) (Syntax.tcons (Syntax.tyInt Syntax.w64) Syntax.tnil)))) (List._∷_ (26, Rows.any-gone (Syntax.tyRef Syntax.erased Syntax.mut (Syntax.tyArray (Syntax.tyInt Syntax.w32) 65540))) (List._∷_ (27, Rows.any-gone (Syntax.tyRef Syntax.erased Syntax.mut (Syntax.tyArray (Syntax.tyInt Syntax.w32) 32772))) (List._∷_ (28, Rows.any-gone (Syntax.tyRef Syntax.erased Syntax.mut (Syntax.tyArray (Syntax.tyInt Syntax.w32) 262160))) (List._∷_ (29, Rows.any-gone (Syntax.tyRef Syntax.erased Syntax.imm (Syntax.tyArray (Syntax.tyInt Syntax.w8) 600000))) (List._∷_ (30, Rows.any-gone (Syntax.tyRef Syntax.erased Syntax.mut (Syntax.tyArray Cell.behind 65540))) (List._∷_ (31, Rows.any-gone (Syntax.tyRef Syntax.erased Syntax.mut (Syntax.tyArray Cell.behind 32772))) List.[])))))))))))))))
 
 abbrev pub t24 : List.List Row.Entry
-t24 = List._∷_ (0, Rows.whole (Declared.row Held.the-type)) (List._∷_ (1, Rows.any-gone (Syntax.tyStruct (List._∷_ 122 (List._∷_ 111 (List._∷_ 110 (List._∷_ 101 (List._∷_ 115 (List._∷_ 58 (List._∷_ 58 (List._∷_ 104 (List._∷_ 101 (List._∷_ 108 (List._∷_ 100 (List._∷_ 58 (List._∷_ 58 (List._∷_ 72 (List._∷_ 101 (List._∷_ 108 (List._∷_ 100 List.[]))))))))))))))))) (Syntax.tcons (Syntax.tyStruct (List._∷_ 112 (List._∷_ 121 (List._∷_ 114 (List._∷_ 97 (List._∷_ 109 (List._∷_ 105 (List._∷_ 100 (List._∷_ 58 (List._∷_ 58 (List._∷_ 83 (List._∷_ 116 (List._∷_ 97 (List._∷_ 116 (List._∷_ 101 List.[])))))))))))))) (Syntax.tcons (Syntax.tyInt Syntax.w32) (Syntax.tcons (Syntax.tyInt Syntax.w32) (Syntax.tcons (Syntax.tyInt Syntax.w32) (Syntax.tcons (Syntax.tyArray (Syntax.tyInt Syntax.w32) 64) Syntax.tnil))))) (Syntax.tcons (Syntax.tyInt Syntax.w64) (Syntax.tcons (Syntax.tyInt Syntax.w64) (Syntax.tcons (Syntax.tyInt Syntax.w64) (Syntax.tcons (Syntax.tyInt Syntax.w64) (Syntax.tcons (Syntax.tyInt Syntax.w64) (Syntax.tcons (Syntax.tyInt Syntax.w64) (Syntax.tcons Syntax.tyBool Syntax.tnil)))))))))) (List._∷_ (2, Rows.any-gone (Syntax.tyStruct (List._∷_ 122 (List._∷_ 111 (List._∷_ 110 (List._∷_ 101 (List._∷_ 115 (List._∷_ 58 (List._∷_ 58 (List._∷_ 115 (List._∷_ 99 (List._∷_ 97 (List._∷_ 110 (List._∷_ 58 (List._∷_ 58 (List._∷_ 76 (List._∷_ 105 (List._∷_ 110 (List._∷_ 101 List.[]))))))))))))))))) (Syntax.tcons (Syntax.tyInt Syntax.w32) (Syntax.tcons (Syntax.tyInt Syntax.w64) (Syntax.tcons (Syntax.tyInt Syntax.w64) (Syntax.tcons (Syntax.tyInt Syntax.w64) (Syntax.tcons (Syntax.tyInt Syntax.w64) Syntax.tnil))))))) (List._∷_ (3, Rows.sslice (Referent.rtF (Referent.fInt Syntax.w8)) (Syntax.tyRef (Syntax.named 0) Syntax.imm (Syntax.tyInt Syntax.w8)) 0) (List._∷_ (4, Rows.sref (Array.Array (Referent.rtF (Referent.fInt Syntax.w32)) 32772) (Syntax.tyRef (Syntax.named 1) Syntax.imm (Syntax.tyArray (Syntax.tyInt Syntax.w32) 32772)) 1) (List._∷_ (5, Rows.mref (Array.Array (Referent.rtF (Referent.fInt Syntax.w8)) 16388) (Syntax.tyRef (Syntax.named 2) Syntax.mut (Syntax.tyArray (Syntax.tyInt Syntax.w8) 16388)) 2) (List._∷_ (6, Rows.mref (Array.Array (Referent.rtF (Referent.fInt Syntax.w32)) 65540) (Syntax.tyRef (Syntax.named 3) Syntax.mut (Syntax.tyArray (Syntax.tyInt Syntax.w32) 65540)) 3) (List._∷_ (7, Rows.mref (Array.Array (Referent.rtF (Referent.fInt Syntax.w32)) 32772) (Syntax.tyRef (Syntax.named 4) Syntax.mut (Syntax.tyArray (Syntax.tyInt Syntax.w32) 32772)) 4) (List._∷_ (8, Rows.mref-owed (Array.Array (Referent.rtF (Referent.fInt Syntax.w32)) 32772) (Syntax.tyRef (Syntax.named 5) Syntax.mut (Syntax.tyArray (Syntax.tyInt Syntax.w32) 32772)) 5 13 Row.off) (List._∷_ (9, Rows.mref-owed (Array.Array (Referent.rtF (Referent.fInt Syntax.w32)) 262160) (Syntax.tyRef (Syntax.named 6) Syntax.mut (Syntax.tyArray (Syntax.tyInt Syntax.w32) 262160)) 6 14 Row.off) (List._∷_ (10, Rows.mref-owed (Array.Array (Referent.rtF (Referent.fInt Syntax.w8)) 600000) (Syntax.tyRef (Syntax.named 7) Syntax.mut (Syntax.tyArray (Syntax.tyInt Syntax.w8) 600000)) 7 15 Row.off) (List._∷_ (11, Rows.mref (Array.Array Cell.R 65540) (Syntax.tyRef (Syntax.named 8) Syntax.mut (Syntax.tyArray Cell.behind 65540)) 8) (List._∷_ (12, Rows.mref (Array.Array Cell.R 32772) (Syntax.tyRef (Syntax.named 9) Syntax.mut (Syntax.tyArray Cell.behind 32772)) 9) (List._∷_ (13, Rows.any-gone Syntax.tyBool) (List._∷_ (14, Rows.any-gone Syntax.tyBool) (List._∷_ (15, Rows.any-gone Syntax.tyBool) List.[])))))))))))))))
+t24 = List._∷_ (0, Rows.whole (Declared.row Held.the-type)) (List._∷_ (1, Rows.any-gone (Syntax.tyStruct (List._∷_ 122 (List._∷_ 111 (List._∷_ 110 (List._∷_ 101 (List._∷_ 115 (List._∷_ 58 (List._∷_ 58 (List._∷_ 104 (List._∷_ 101 (List._∷_ 108 (List._∷_ 100 (List._∷_ 58 (List._∷_ 58 (List._∷_ 72 (List._∷_ 101 (List._∷_ 108 (List._∷_ 100 List.[]))))))))))))))))) (Syntax.tcons (Syntax.tyStruct (List._∷_ 112 (List._∷_ 121 (List._∷_ 114 (List._∷_ 97 (List._∷_ 109 (List._∷_ 105 (List._∷_ 100 (List._∷_ 58 (List._∷_ 58 (List._∷_ 83 (List._∷_ 116 (List._∷_ 97 (List._∷_ 116 (List._∷_ 101 List.[])))))))))))))) (Syntax.tcons (Syntax.tyInt Syntax.w32) (Syntax.tcons (Syntax.tyInt Syntax.w32) (Syntax.tcons (Syntax.tyInt Syntax.w32) (Syntax.tcons (Syntax.tyInt Syntax.w32) (Syntax.tcons (Syntax.tyInt Syntax.w32) (Syntax.tcons (Syntax.tyArray (Syntax.tyInt Syntax.w32) 64) Syntax.tnil))))))) (Syntax.tcons (Syntax.tyInt Syntax.w64) (Syntax.tcons (Syntax.tyInt Syntax.w64) (Syntax.tcons (Syntax.tyInt Syntax.w64) (Syntax.tcons (Syntax.tyInt Syntax.w64) (Syntax.tcons (Syntax.tyInt Syntax.w64) (Syntax.tcons (Syntax.tyInt Syntax.w64) (Syntax.tcons Syntax.tyBool Syntax.tnil)))))))))) (List._∷_ (2, Rows.any-gone (Syntax.tyStruct (List._∷_ 122 (List._∷_ 111 (List._∷_ 110 (List._∷_ 101 (List._∷_ 115 (List._∷_ 58 (List._∷_ 58 (List._∷_ 115 (List._∷_ 99 (List._∷_ 97 (List._∷_ 110 (List._∷_ 58 (List._∷_ 58 (List._∷_ 76 (List._∷_ 105 (List._∷_ 110 (List._∷_ 101 List.[]))))))))))))))))) (Syntax.tcons (Syntax.tyInt Syntax.w32) (Syntax.tcons (Syntax.tyInt Syntax.w64) (Syntax.tcons (Syntax.tyInt Syntax.w64) (Syntax.tcons (Syntax.tyInt Syntax.w64) (Syntax.tcons (Syntax.tyInt Syntax.w64) Syntax.tnil))))))) (List._∷_ (3, Rows.sslice (Referent.rtF (Referent.fInt Syntax.w8)) (Syntax.tyRef (Syntax.named 0) Syntax.imm (Syntax.tyInt Syntax.w8)) 0) (List._∷_ (4, Rows.sref (Array.Array (Referent.rtF (Referent.fInt Syntax.w32)) 32772) (Syntax.tyRef (Syntax.named 1) Syntax.imm (Syntax.tyArray (Syntax.tyInt Syntax.w32) 32772)) 1) (List._∷_ (5, Rows.mref (Array.Array (Referent.rtF (Referent.fInt Syntax.w8)) 16388) (Syntax.tyRef (Syntax.named 2) Syntax.mut (Syntax.tyArray (Syntax.tyInt Syntax.w8) 16388)) 2) (List._∷_ (6, Rows.mref (Array.Array (Referent.rtF (Referent.fInt Syntax.w32)) 65540) (Syntax.tyRef (Syntax.named 3) Syntax.mut (Syntax.tyArray (Syntax.tyInt Syntax.w32) 65540)) 3) (List._∷_ (7, Rows.mref (Array.Array (Referent.rtF (Referent.fInt Syntax.w32)) 32772) (Syntax.tyRef (Syntax.named 4) Syntax.mut (Syntax.tyArray (Syntax.tyInt Syntax.w32) 32772)) 4) (List._∷_ (8, Rows.mref-owed (Array.Array (Referent.rtF (Referent.fInt Syntax.w32)) 32772) (Syntax.tyRef (Syntax.named 5) Syntax.mut (Syntax.tyArray (Syntax.tyInt Syntax.w32) 32772)) 5 13 Row.off) (List._∷_ (9, Rows.mref-owed (Array.Array (Referent.rtF (Referent.fInt Syntax.w32)) 262160) (Syntax.tyRef (Syntax.named 6) Syntax.mut (Syntax.tyArray (Syntax.tyInt Syntax.w32) 262160)) 6 14 Row.off) (List._∷_ (10, Rows.mref-owed (Array.Array (Referent.rtF (Referent.fInt Syntax.w8)) 600000) (Syntax.tyRef (Syntax.named 7) Syntax.mut (Syntax.tyArray (Syntax.tyInt Syntax.w8) 600000)) 7 15 Row.off) (List._∷_ (11, Rows.mref (Array.Array Cell.R 65540) (Syntax.tyRef (Syntax.named 8) Syntax.mut (Syntax.tyArray Cell.behind 65540)) 8) (List._∷_ (12, Rows.mref (Array.Array Cell.R 32772) (Syntax.tyRef (Syntax.named 9) Syntax.mut (Syntax.tyArray Cell.behind 32772)) 9) (List._∷_ (13, Rows.any-gone Syntax.tyBool) (List._∷_ (14, Rows.any-gone Syntax.tyBool) (List._∷_ (15, Rows.any-gone Syntax.tyBool) List.[])))))))))))))))
 
 abbrev pub t25 : List.List Row.Entry
 t25 = List._∷_ (16, Rows.any-gone (Syntax.tyRef Syntax.erased Syntax.mut (Syntax.tyArray (Syntax.tyInt Syntax.w8) 16388))) (List._∷_ (17, Rows.any-gone (Syntax.tyRef Syntax.erased Syntax.mut (Syntax.tyArray (Syntax.tyInt Syntax.w32) 65540))) (List._∷_ (18, Rows.any-gone (Syntax.tyRef Syntax.erased Syntax.mut (Syntax.tyArray (Syntax.tyInt Syntax.w32) 32772))) (List._∷_ (19, Rows.mleft (Array.Array (Referent.rtF (Referent.fInt Syntax.w32)) 32772) (Syntax.tyRef Syntax.erased Syntax.mut (Syntax.tyArray (Syntax.tyInt Syntax.w32) 32772))) (List._∷_ (20, Rows.mleft (Array.Array (Referent.rtF (Referent.fInt Syntax.w32)) 262160) (Syntax.tyRef Syntax.erased Syntax.mut (Syntax.tyArray (Syntax.tyInt Syntax.w32) 262160))) (List._∷_ (21, Rows.mleft (Array.Array (Referent.rtF (Referent.fInt Syntax.w8)) 600000) (Syntax.tyRef Syntax.erased Syntax.mut (Syntax.tyArray (Syntax.tyInt Syntax.w8) 600000))) (List._∷_ (22, Rows.any-gone (Syntax.tyRef Syntax.erased Syntax.mut Cell.behind)) (List._∷_ (23, Rows.any-gone (Syntax.tyStruct (List._∷_ 38 (List._∷_ 91 (List._∷_ 93 List.[]))) (Syntax.tcons (Syntax.tyRef Syntax.erased Syntax.mut Cell.behind) (Syntax.tcons (Syntax.tyInt Syntax.w64) Syntax.tnil)))) (List._∷_ (24, Rows.any-gone (Syntax.tyRef Syntax.erased Syntax.mut Cell.behind)) (List._∷_ (25, Rows.any-gone (Syntax.tyStruct (List._∷_ 38 (List._∷_ 91 (List._∷_ 93 List.[]))) (Syntax.tcons (Syntax.tyRef Syntax.erased Syntax.mut Cell.behind) (Syntax.tcons (Syntax.tyInt Syntax.w64) Syntax.tnil)))) (List._∷_ (26, Rows.any-gone (Syntax.tyRef Syntax.erased Syntax.mut (Syntax.tyArray (Syntax.tyInt Syntax.w32) 65540))) (List._∷_ (27, Rows.any-gone (Syntax.tyRef Syntax.erased Syntax.mut (Syntax.tyArray (Syntax.tyInt Syntax.w32) 32772))) (List._∷_ (28, Rows.any-gone (Syntax.tyRef Syntax.erased Syntax.mut (Syntax.tyArray (Syntax.tyInt Syntax.w32) 262160))) (List._∷_ (29, Rows.any-gone (Syntax.tyRef Syntax.erased Syntax.imm (Syntax.tyArray (Syntax.tyInt Syntax.w8) 600000))) (List._∷_ (30, Rows.any-gone (Syntax.tyRef Syntax.erased Syntax.mut (Syntax.tyArray Cell.behind 65540))) (List._∷_ (31, Rows.any-gone (Syntax.tyRef Syntax.erased Syntax.mut (Syntax.tyArray Cell.behind 32772))) List.[])))))))))))))))
 
 abbrev pub t26 : List.List Row.Entry
-t26 = List._∷_ (0, Rows.whole (Declared.row Held.the-type)) (List._∷_ (1, Rows.any-gone (Syntax.tyStruct (List._∷_ 122 (List._∷_ 111 (List._∷_ 110 (List._∷_ 101 (List._∷_ 115 (List._∷_ 58 (List._∷_ 58 (List._∷_ 104 (List._∷_ 101 (List._∷_ 108 (List._∷_ 100 (List._∷_ 58 (List._∷_ 58 (List._∷_ 72 (List._∷_ 101 (List._∷_ 108 (List._∷_ 100 List.[]))))))))))))))))) (Syntax.tcons (Syntax.tyStruct (List._∷_ 112 (List._∷_ 121 (List._∷_ 114 (List._∷_ 97 (List._∷_ 109 (List._∷_ 105 (List._∷_ 100 (List._∷_ 58 (List._∷_ 58 (List._∷_ 83 (List._∷_ 116 (List._∷_ 97 (List._∷_ 116 (List._∷_ 101 List.[])))))))))))))) (Syntax.tcons (Syntax.tyInt Syntax.w32) (Syntax.tcons (Syntax.tyInt Syntax.w32) (Syntax.tcons (Syntax.tyInt Syntax.w32) (Syntax.tcons (Syntax.tyArray (Syntax.tyInt Syntax.w32) 64) Syntax.tnil))))) (Syntax.tcons (Syntax.tyInt Syntax.w64) (Syntax.tcons (Syntax.tyInt Syntax.w64) (Syntax.tcons (Syntax.tyInt Syntax.w64) (Syntax.tcons (Syntax.tyInt Syntax.w64) (Syntax.tcons (Syntax.tyInt Syntax.w64) (Syntax.tcons (Syntax.tyInt Syntax.w64) (Syntax.tcons Syntax.tyBool Syntax.tnil)))))))))) (List._∷_ (2, Rows.any-gone (Syntax.tyStruct (List._∷_ 122 (List._∷_ 111 (List._∷_ 110 (List._∷_ 101 (List._∷_ 115 (List._∷_ 58 (List._∷_ 58 (List._∷_ 115 (List._∷_ 99 (List._∷_ 97 (List._∷_ 110 (List._∷_ 58 (List._∷_ 58 (List._∷_ 76 (List._∷_ 105 (List._∷_ 110 (List._∷_ 101 List.[]))))))))))))))))) (Syntax.tcons (Syntax.tyInt Syntax.w32) (Syntax.tcons (Syntax.tyInt Syntax.w64) (Syntax.tcons (Syntax.tyInt Syntax.w64) (Syntax.tcons (Syntax.tyInt Syntax.w64) (Syntax.tcons (Syntax.tyInt Syntax.w64) Syntax.tnil))))))) (List._∷_ (3, Rows.sslice (Referent.rtF (Referent.fInt Syntax.w8)) (Syntax.tyRef (Syntax.named 0) Syntax.imm (Syntax.tyInt Syntax.w8)) 0) (List._∷_ (4, Rows.sref (Array.Array (Referent.rtF (Referent.fInt Syntax.w32)) 32772) (Syntax.tyRef (Syntax.named 1) Syntax.imm (Syntax.tyArray (Syntax.tyInt Syntax.w32) 32772)) 1) (List._∷_ (5, Rows.mref (Array.Array (Referent.rtF (Referent.fInt Syntax.w8)) 16388) (Syntax.tyRef (Syntax.named 2) Syntax.mut (Syntax.tyArray (Syntax.tyInt Syntax.w8) 16388)) 2) (List._∷_ (6, Rows.mref (Array.Array (Referent.rtF (Referent.fInt Syntax.w32)) 65540) (Syntax.tyRef (Syntax.named 3) Syntax.mut (Syntax.tyArray (Syntax.tyInt Syntax.w32) 65540)) 3) (List._∷_ (7, Rows.mref (Array.Array (Referent.rtF (Referent.fInt Syntax.w32)) 32772) (Syntax.tyRef (Syntax.named 4) Syntax.mut (Syntax.tyArray (Syntax.tyInt Syntax.w32) 32772)) 4) (List._∷_ (8, Rows.mref (Array.Array (Referent.rtF (Referent.fInt Syntax.w32)) 32772) (Syntax.tyRef (Syntax.named 5) Syntax.mut (Syntax.tyArray (Syntax.tyInt Syntax.w32) 32772)) 5) (List._∷_ (9, Rows.mref-owed (Array.Array (Referent.rtF (Referent.fInt Syntax.w32)) 262160) (Syntax.tyRef (Syntax.named 6) Syntax.mut (Syntax.tyArray (Syntax.tyInt Syntax.w32) 262160)) 6 14 Row.off) (List._∷_ (10, Rows.mref-owed (Array.Array (Referent.rtF (Referent.fInt Syntax.w8)) 600000) (Syntax.tyRef (Syntax.named 7) Syntax.mut (Syntax.tyArray (Syntax.tyInt Syntax.w8) 600000)) 7 15 Row.off) (List._∷_ (11, Rows.mref (Array.Array Cell.R 65540) (Syntax.tyRef (Syntax.named 8) Syntax.mut (Syntax.tyArray Cell.behind 65540)) 8) (List._∷_ (12, Rows.mref (Array.Array Cell.R 32772) (Syntax.tyRef (Syntax.named 9) Syntax.mut (Syntax.tyArray Cell.behind 32772)) 9) (List._∷_ (13, Rows.any-gone Syntax.tyBool) (List._∷_ (14, Rows.any-gone Syntax.tyBool) (List._∷_ (15, Rows.any-gone Syntax.tyBool) List.[])))))))))))))))
+t26 = List._∷_ (0, Rows.whole (Declared.row Held.the-type)) (List._∷_ (1, Rows.any-gone (Syntax.tyStruct (List._∷_ 122 (List._∷_ 111 (List._∷_ 110 (List._∷_ 101 (List._∷_ 115 (List._∷_ 58 (List._∷_ 58 (List._∷_ 104 (List._∷_ 101 (List._∷_ 108 (List._∷_ 100 (List._∷_ 58 (List._∷_ 58 (List._∷_ 72 (List._∷_ 101 (List._∷_ 108 (List._∷_ 100 List.[]))))))))))))))))) (Syntax.tcons (Syntax.tyStruct (List._∷_ 112 (List._∷_ 121 (List._∷_ 114 (List._∷_ 97 (List._∷_ 109 (List._∷_ 105 (List._∷_ 100 (List._∷_ 58 (List._∷_ 58 (List._∷_ 83 (List._∷_ 116 (List._∷_ 97 (List._∷_ 116 (List._∷_ 101 List.[])))))))))))))) (Syntax.tcons (Syntax.tyInt Syntax.w32) (Syntax.tcons (Syntax.tyInt Syntax.w32) (Syntax.tcons (Syntax.tyInt Syntax.w32) (Syntax.tcons (Syntax.tyInt Syntax.w32) (Syntax.tcons (Syntax.tyInt Syntax.w32) (Syntax.tcons (Syntax.tyArray (Syntax.tyInt Syntax.w32) 64) Syntax.tnil))))))) (Syntax.tcons (Syntax.tyInt Syntax.w64) (Syntax.tcons (Syntax.tyInt Syntax.w64) (Syntax.tcons (Syntax.tyInt Syntax.w64) (Syntax.tcons (Syntax.tyInt Syntax.w64) (Syntax.tcons (Syntax.tyInt Syntax.w64) (Syntax.tcons (Syntax.tyInt Syntax.w64) (Syntax.tcons Syntax.tyBool Syntax.tnil)))))))))) (List._∷_ (2, Rows.any-gone (Syntax.tyStruct (List._∷_ 122 (List._∷_ 111 (List._∷_ 110 (List._∷_ 101 (List._∷_ 115 (List._∷_ 58 (List._∷_ 58 (List._∷_ 115 (List._∷_ 99 (List._∷_ 97 (List._∷_ 110 (List._∷_ 58 (List._∷_ 58 (List._∷_ 76 (List._∷_ 105 (List._∷_ 110 (List._∷_ 101 List.[]))))))))))))))))) (Syntax.tcons (Syntax.tyInt Syntax.w32) (Syntax.tcons (Syntax.tyInt Syntax.w64) (Syntax.tcons (Syntax.tyInt Syntax.w64) (Syntax.tcons (Syntax.tyInt Syntax.w64) (Syntax.tcons (Syntax.tyInt Syntax.w64) Syntax.tnil))))))) (List._∷_ (3, Rows.sslice (Referent.rtF (Referent.fInt Syntax.w8)) (Syntax.tyRef (Syntax.named 0) Syntax.imm (Syntax.tyInt Syntax.w8)) 0) (List._∷_ (4, Rows.sref (Array.Array (Referent.rtF (Referent.fInt Syntax.w32)) 32772) (Syntax.tyRef (Syntax.named 1) Syntax.imm (Syntax.tyArray (Syntax.tyInt Syntax.w32) 32772)) 1) (List._∷_ (5, Rows.mref (Array.Array (Referent.rtF (Referent.fInt Syntax.w8)) 16388) (Syntax.tyRef (Syntax.named 2) Syntax.mut (Syntax.tyArray (Syntax.tyInt Syntax.w8) 16388)) 2) (List._∷_ (6, Rows.mref (Array.Array (Referent.rtF (Referent.fInt Syntax.w32)) 65540) (Syntax.tyRef (Syntax.named 3) Syntax.mut (Syntax.tyArray (Syntax.tyInt Syntax.w32) 65540)) 3) (List._∷_ (7, Rows.mref (Array.Array (Referent.rtF (Referent.fInt Syntax.w32)) 32772) (Syntax.tyRef (Syntax.named 4) Syntax.mut (Syntax.tyArray (Syntax.tyInt Syntax.w32) 32772)) 4) (List._∷_ (8, Rows.mref (Array.Array (Referent.rtF (Referent.fInt Syntax.w32)) 32772) (Syntax.tyRef (Syntax.named 5) Syntax.mut (Syntax.tyArray (Syntax.tyInt Syntax.w32) 32772)) 5) (List._∷_ (9, Rows.mref-owed (Array.Array (Referent.rtF (Referent.fInt Syntax.w32)) 262160) (Syntax.tyRef (Syntax.named 6) Syntax.mut (Syntax.tyArray (Syntax.tyInt Syntax.w32) 262160)) 6 14 Row.off) (List._∷_ (10, Rows.mref-owed (Array.Array (Referent.rtF (Referent.fInt Syntax.w8)) 600000) (Syntax.tyRef (Syntax.named 7) Syntax.mut (Syntax.tyArray (Syntax.tyInt Syntax.w8) 600000)) 7 15 Row.off) (List._∷_ (11, Rows.mref (Array.Array Cell.R 65540) (Syntax.tyRef (Syntax.named 8) Syntax.mut (Syntax.tyArray Cell.behind 65540)) 8) (List._∷_ (12, Rows.mref (Array.Array Cell.R 32772) (Syntax.tyRef (Syntax.named 9) Syntax.mut (Syntax.tyArray Cell.behind 32772)) 9) (List._∷_ (13, Rows.any-gone Syntax.tyBool) (List._∷_ (14, Rows.any-gone Syntax.tyBool) (List._∷_ (15, Rows.any-gone Syntax.tyBool) List.[])))))))))))))))
 
 abbrev pub t27 : List.List Row.Entry
 t27 = List._∷_ (16, Rows.any-gone (Syntax.tyRef Syntax.erased Syntax.mut (Syntax.tyArray (Syntax.tyInt Syntax.w8) 16388))) (List._∷_ (17, Rows.any-gone (Syntax.tyRef Syntax.erased Syntax.mut (Syntax.tyArray (Syntax.tyInt Syntax.w32) 65540))) (List._∷_ (18, Rows.any-gone (Syntax.tyRef Syntax.erased Syntax.mut (Syntax.tyArray (Syntax.tyInt Syntax.w32) 32772))) (List._∷_ (19, Rows.any-gone (Syntax.tyRef Syntax.erased Syntax.mut (Syntax.tyArray (Syntax.tyInt Syntax.w32) 32772))) (List._∷_ (20, Rows.mleft (Array.Array (Referent.rtF (Referent.fInt Syntax.w32)) 262160) (Syntax.tyRef Syntax.erased Syntax.mut (Syntax.tyArray (Syntax.tyInt Syntax.w32) 262160))) (List._∷_ (21, Rows.mleft (Array.Array (Referent.rtF (Referent.fInt Syntax.w8)) 600000) (Syntax.tyRef Syntax.erased Syntax.mut (Syntax.tyArray (Syntax.tyInt Syntax.w8) 600000))) (List._∷_ (22, Rows.any-gone (Syntax.tyRef Syntax.erased Syntax.mut Cell.behind)) (List._∷_ (23, Rows.any-gone (Syntax.tyStruct (List._∷_ 38 (List._∷_ 91 (List._∷_ 93 List.[]))) (Syntax.tcons (Syntax.tyRef Syntax.erased Syntax.mut Cell.behind) (Syntax.tcons (Syntax.tyInt Syntax.w64) Syntax.tnil)))) (List._∷_ (24, Rows.any-gone (Syntax.tyRef Syntax.erased Syntax.mut Cell.behind)) (List._∷_ (25, Rows.any-gone (Syntax.tyStruct (List._∷_ 38 (List._∷_ 91 (List._∷_ 93 List.[]))) (Syntax.tcons (Syntax.tyRef Syntax.erased Syntax.mut Cell.behind) (Syntax.tcons (Syntax.tyInt Syntax.w64) Syntax.tnil)))) (List._∷_ (26, Rows.any-gone (Syntax.tyRef Syntax.erased Syntax.mut (Syntax.tyArray (Syntax.tyInt Syntax.w32) 65540))) (List._∷_ (27, Rows.any-gone (Syntax.tyRef Syntax.erased Syntax.mut (Syntax.tyArray (Syntax.tyInt Syntax.w32) 32772))) (List._∷_ (28, Rows.any-gone (Syntax.tyRef Syntax.erased Syntax.mut (Syntax.tyArray (Syntax.tyInt Syntax.w32) 262160))) (List._∷_ (29, Rows.any-gone (Syntax.tyRef Syntax.erased Syntax.imm (Syntax.tyArray (Syntax.tyInt Syntax.w8) 600000))) (List._∷_ (30, Rows.any-gone (Syntax.tyRef Syntax.erased Syntax.mut (Syntax.tyArray Cell.behind 65540))) (List._∷_ (31, Rows.any-gone (Syntax.tyRef Syntax.erased Syntax.mut (Syntax.tyArray Cell.behind 32772))) List.[])))))))))))))))
 
 abbrev pub t28 : List.List Row.Entry
-t28 = List._∷_ (0, Rows.whole (Declared.row Held.the-type)) (List._∷_ (1, Rows.any-gone (Syntax.tyStruct (List._∷_ 122 (List._∷_ 111 (List._∷_ 110 (List._∷_ 101 (List._∷_ 115 (List._∷_ 58 (List._∷_ 58 (List._∷_ 104 (List._∷_ 101 (List._∷_ 108 (List._∷_ 100 (List._∷_ 58 (List._∷_ 58 (List._∷_ 72 (List._∷_ 101 (List._∷_ 108 (List._∷_ 100 List.[]))))))))))))))))) (Syntax.tcons (Syntax.tyStruct (List._∷_ 112 (List._∷_ 121 (List._∷_ 114 (List._∷_ 97 (List._∷_ 109 (List._∷_ 105 (List._∷_ 100 (List._∷_ 58 (List._∷_ 58 (List._∷_ 83 (List._∷_ 116 (List._∷_ 97 (List._∷_ 116 (List._∷_ 101 List.[])))))))))))))) (Syntax.tcons (Syntax.tyInt Syntax.w32) (Syntax.tcons (Syntax.tyInt Syntax.w32) (Syntax.tcons (Syntax.tyInt Syntax.w32) (Syntax.tcons (Syntax.tyArray (Syntax.tyInt Syntax.w32) 64) Syntax.tnil))))) (Syntax.tcons (Syntax.tyInt Syntax.w64) (Syntax.tcons (Syntax.tyInt Syntax.w64) (Syntax.tcons (Syntax.tyInt Syntax.w64) (Syntax.tcons (Syntax.tyInt Syntax.w64) (Syntax.tcons (Syntax.tyInt Syntax.w64) (Syntax.tcons (Syntax.tyInt Syntax.w64) (Syntax.tcons Syntax.tyBool Syntax.tnil)))))))))) (List._∷_ (2, Rows.any-gone (Syntax.tyStruct (List._∷_ 122 (List._∷_ 111 (List._∷_ 110 (List._∷_ 101 (List._∷_ 115 (List._∷_ 58 (List._∷_ 58 (List._∷_ 115 (List._∷_ 99 (List._∷_ 97 (List._∷_ 110 (List._∷_ 58 (List._∷_ 58 (List._∷_ 76 (List._∷_ 105 (List._∷_ 110 (List._∷_ 101 List.[]))))))))))))))))) (Syntax.tcons (Syntax.tyInt Syntax.w32) (Syntax.tcons (Syntax.tyInt Syntax.w64) (Syntax.tcons (Syntax.tyInt Syntax.w64) (Syntax.tcons (Syntax.tyInt Syntax.w64) (Syntax.tcons (Syntax.tyInt Syntax.w64) Syntax.tnil))))))) (List._∷_ (3, Rows.sslice (Referent.rtF (Referent.fInt Syntax.w8)) (Syntax.tyRef (Syntax.named 0) Syntax.imm (Syntax.tyInt Syntax.w8)) 0) (List._∷_ (4, Rows.sref (Array.Array (Referent.rtF (Referent.fInt Syntax.w32)) 32772) (Syntax.tyRef (Syntax.named 1) Syntax.imm (Syntax.tyArray (Syntax.tyInt Syntax.w32) 32772)) 1) (List._∷_ (5, Rows.mref (Array.Array (Referent.rtF (Referent.fInt Syntax.w8)) 16388) (Syntax.tyRef (Syntax.named 2) Syntax.mut (Syntax.tyArray (Syntax.tyInt Syntax.w8) 16388)) 2) (List._∷_ (6, Rows.mref (Array.Array (Referent.rtF (Referent.fInt Syntax.w32)) 65540) (Syntax.tyRef (Syntax.named 3) Syntax.mut (Syntax.tyArray (Syntax.tyInt Syntax.w32) 65540)) 3) (List._∷_ (7, Rows.mref (Array.Array (Referent.rtF (Referent.fInt Syntax.w32)) 32772) (Syntax.tyRef (Syntax.named 4) Syntax.mut (Syntax.tyArray (Syntax.tyInt Syntax.w32) 32772)) 4) (List._∷_ (8, Rows.mref (Array.Array (Referent.rtF (Referent.fInt Syntax.w32)) 32772) (Syntax.tyRef (Syntax.named 5) Syntax.mut (Syntax.tyArray (Syntax.tyInt Syntax.w32) 32772)) 5) (List._∷_ (9, Rows.mref (Array.Array (Referent.rtF (Referent.fInt Syntax.w32)) 262160) (Syntax.tyRef (Syntax.named 6) Syntax.mut (Syntax.tyArray (Syntax.tyInt Syntax.w32) 262160)) 6) (List._∷_ (10, Rows.mref-owed (Array.Array (Referent.rtF (Referent.fInt Syntax.w8)) 600000) (Syntax.tyRef (Syntax.named 7) Syntax.mut (Syntax.tyArray (Syntax.tyInt Syntax.w8) 600000)) 7 15 Row.off) (List._∷_ (11, Rows.mref (Array.Array Cell.R 65540) (Syntax.tyRef (Syntax.named 8) Syntax.mut (Syntax.tyArray Cell.behind 65540)) 8) (List._∷_ (12, Rows.mref (Array.Array Cell.R 32772) (Syntax.tyRef (Syntax.named 9) Syntax.mut (Syntax.tyArray Cell.behind 32772)) 9) (List._∷_ (13, Rows.any-gone Syntax.tyBool) (List._∷_ (14, Rows.any-gone Syntax.tyBool) (List._∷_ (15, Rows.any-gone Syntax.tyBool) List.[])))))))))))))))
+t28 = List._∷_ (0, Rows.whole (Declared.row Held.the-type)) (List._∷_ (1, Rows.any-gone (Syntax.tyStruct (List._∷_ 122 (List._∷_ 111 (List._∷_ 110 (List._∷_ 101 (List._∷_ 115 (List._∷_ 58 (List._∷_ 58 (List._∷_ 104 (List._∷_ 101 (List._∷_ 108 (List._∷_ 100 (List._∷_ 58 (List._∷_ 58 (List._∷_ 72 (List._∷_ 101 (List._∷_ 108 (List._∷_ 100 List.[]))))))))))))))))) (Syntax.tcons (Syntax.tyStruct (List._∷_ 112 (List._∷_ 121 (List._∷_ 114 (List._∷_ 97 (List._∷_ 109 (List._∷_ 105 (List._∷_ 100 (List._∷_ 58 (List._∷_ 58 (List._∷_ 83 (List._∷_ 116 (List._∷_ 97 (List._∷_ 116 (List._∷_ 101 List.[])))))))))))))) (Syntax.tcons (Syntax.tyInt Syntax.w32) (Syntax.tcons (Syntax.tyInt Syntax.w32) (Syntax.tcons (Syntax.tyInt Syntax.w32) (Syntax.tcons (Syntax.tyInt Syntax.w32) (Syntax.tcons (Syntax.tyInt Syntax.w32) (Syntax.tcons (Syntax.tyArray (Syntax.tyInt Syntax.w32) 64) Syntax.tnil))))))) (Syntax.tcons (Syntax.tyInt Syntax.w64) (Syntax.tcons (Syntax.tyInt Syntax.w64) (Syntax.tcons (Syntax.tyInt Syntax.w64) (Syntax.tcons (Syntax.tyInt Syntax.w64) (Syntax.tcons (Syntax.tyInt Syntax.w64) (Syntax.tcons (Syntax.tyInt Syntax.w64) (Syntax.tcons Syntax.tyBool Syntax.tnil)))))))))) (List._∷_ (2, Rows.any-gone (Syntax.tyStruct (List._∷_ 122 (List._∷_ 111 (List._∷_ 110 (List._∷_ 101 (List._∷_ 115 (List._∷_ 58 (List._∷_ 58 (List._∷_ 115 (List._∷_ 99 (List._∷_ 97 (List._∷_ 110 (List._∷_ 58 (List._∷_ 58 (List._∷_ 76 (List._∷_ 105 (List._∷_ 110 (List._∷_ 101 List.[]))))))))))))))))) (Syntax.tcons (Syntax.tyInt Syntax.w32) (Syntax.tcons (Syntax.tyInt Syntax.w64) (Syntax.tcons (Syntax.tyInt Syntax.w64) (Syntax.tcons (Syntax.tyInt Syntax.w64) (Syntax.tcons (Syntax.tyInt Syntax.w64) Syntax.tnil))))))) (List._∷_ (3, Rows.sslice (Referent.rtF (Referent.fInt Syntax.w8)) (Syntax.tyRef (Syntax.named 0) Syntax.imm (Syntax.tyInt Syntax.w8)) 0) (List._∷_ (4, Rows.sref (Array.Array (Referent.rtF (Referent.fInt Syntax.w32)) 32772) (Syntax.tyRef (Syntax.named 1) Syntax.imm (Syntax.tyArray (Syntax.tyInt Syntax.w32) 32772)) 1) (List._∷_ (5, Rows.mref (Array.Array (Referent.rtF (Referent.fInt Syntax.w8)) 16388) (Syntax.tyRef (Syntax.named 2) Syntax.mut (Syntax.tyArray (Syntax.tyInt Syntax.w8) 16388)) 2) (List._∷_ (6, Rows.mref (Array.Array (Referent.rtF (Referent.fInt Syntax.w32)) 65540) (Syntax.tyRef (Syntax.named 3) Syntax.mut (Syntax.tyArray (Syntax.tyInt Syntax.w32) 65540)) 3) (List._∷_ (7, Rows.mref (Array.Array (Referent.rtF (Referent.fInt Syntax.w32)) 32772) (Syntax.tyRef (Syntax.named 4) Syntax.mut (Syntax.tyArray (Syntax.tyInt Syntax.w32) 32772)) 4) (List._∷_ (8, Rows.mref (Array.Array (Referent.rtF (Referent.fInt Syntax.w32)) 32772) (Syntax.tyRef (Syntax.named 5) Syntax.mut (Syntax.tyArray (Syntax.tyInt Syntax.w32) 32772)) 5) (List._∷_ (9, Rows.mref (Array.Array (Referent.rtF (Referent.fInt Syntax.w32)) 262160) (Syntax.tyRef (Syntax.named 6) Syntax.mut (Syntax.tyArray (Syntax.tyInt Syntax.w32) 262160)) 6) (List._∷_ (10, Rows.mref-owed (Array.Array (Referent.rtF (Referent.fInt Syntax.w8)) 600000) (Syntax.tyRef (Syntax.named 7) Syntax.mut (Syntax.tyArray (Syntax.tyInt Syntax.w8) 600000)) 7 15 Row.off) (List._∷_ (11, Rows.mref (Array.Array Cell.R 65540) (Syntax.tyRef (Syntax.named 8) Syntax.mut (Syntax.tyArray Cell.behind 65540)) 8) (List._∷_ (12, Rows.mref (Array.Array Cell.R 32772) (Syntax.tyRef (Syntax.named 9) Syntax.mut (Syntax.tyArray Cell.behind 32772)) 9) (List._∷_ (13, Rows.any-gone Syntax.tyBool) (List._∷_ (14, Rows.any-gone Syntax.tyBool) (List._∷_ (15, Rows.any-gone Syntax.tyBool) List.[])))))))))))))))
 
 abbrev pub t29 : List.List Row.Entry
 t29 = List._∷_ (16, Rows.any-gone (Syntax.tyRef Syntax.erased Syntax.mut (Syntax.tyArray (Syntax.tyInt Syntax.w8) 16388))) (List._∷_ (17, Rows.any-gone (Syntax.tyRef Syntax.erased Syntax.mut (Syntax.tyArray (Syntax.tyInt Syntax.w32) 65540))) (List._∷_ (18, Rows.any-gone (Syntax.tyRef Syntax.erased Syntax.mut (Syntax.tyArray (Syntax.tyInt Syntax.w32) 32772))) (List._∷_ (19, Rows.any-gone (Syntax.tyRef Syntax.erased Syntax.mut (Syntax.tyArray (Syntax.tyInt Syntax.w32) 32772))) (List._∷_ (20, Rows.any-gone (Syntax.tyRef Syntax.erased Syntax.mut (Syntax.tyArray (Syntax.tyInt Syntax.w32) 262160))) (List._∷_ (21, Rows.mleft (Array.Array (Referent.rtF (Referent.fInt Syntax.w8)) 600000) (Syntax.tyRef Syntax.erased Syntax.mut (Syntax.tyArray (Syntax.tyInt Syntax.w8) 600000))) (List._∷_ (22, Rows.any-gone (Syntax.tyRef Syntax.erased Syntax.mut Cell.behind)) (List._∷_ (23, Rows.any-gone (Syntax.tyStruct (List._∷_ 38 (List._∷_ 91 (List._∷_ 93 List.[]))) (Syntax.tcons (Syntax.tyRef Syntax.erased Syntax.mut Cell.behind) (Syntax.tcons (Syntax.tyInt Syntax.w64) Syntax.tnil)))) (List._∷_ (24, Rows.any-gone (Syntax.tyRef Syntax.erased Syntax.mut Cell.behind)) (List._∷_ (25, Rows.any-gone (Syntax.tyStruct (List._∷_ 38 (List._∷_ 91 (List._∷_ 93 List.[]))) (Syntax.tcons (Syntax.tyRef Syntax.erased Syntax.mut Cell.behind) (Syntax.tcons (Syntax.tyInt Syntax.w64) Syntax.tnil)))) (List._∷_ (26, Rows.any-gone (Syntax.tyRef Syntax.erased Syntax.mut (Syntax.tyArray (Syntax.tyInt Syntax.w32) 65540))) (List._∷_ (27, Rows.any-gone (Syntax.tyRef Syntax.erased Syntax.mut (Syntax.tyArray (Syntax.tyInt Syntax.w32) 32772))) (List._∷_ (28, Rows.any-gone (Syntax.tyRef Syntax.erased Syntax.mut (Syntax.tyArray (Syntax.tyInt Syntax.w32) 262160))) (List._∷_ (29, Rows.any-gone (Syntax.tyRef Syntax.erased Syntax.imm (Syntax.tyArray (Syntax.tyInt Syntax.w8) 600000))) (List._∷_ (30, Rows.any-gone (Syntax.tyRef Syntax.erased Syntax.mut (Syntax.tyArray Cell.behind 65540))) (List._∷_ (31, Rows.any-gone (Syntax.tyRef Syntax.erased Syntax.mut (Syntax.tyArray Cell.behind 32772))) List.[])))))))))))))))
 
 abbrev pub t30 : List.List Row.Entry
-t30 = List._∷_ (0, Rows.any-gone (Syntax.tyStruct (List._∷_ 122 (List._∷_ 111 (List._∷_ 110 (List._∷_ 101 (List._∷_ 115 (List._∷_ 58 (List._∷_ 58 (List._∷_ 104 (List._∷_ 101 (List._∷_ 108 (List._∷_ 100 (List._∷_ 58 (List._∷_ 58 (List._∷_ 72 (List._∷_ 101 (List._∷_ 108 (List._∷_ 100 List.[]))))))))))))))))) (Syntax.tcons (Syntax.tyStruct (List._∷_ 112 (List._∷_ 121 (List._∷_ 114 (List._∷_ 97 (List._∷_ 109 (List._∷_ 105 (List._∷_ 100 (List._∷_ 58 (List._∷_ 58 (List._∷_ 83 (List._∷_ 116 (List._∷_ 97 (List._∷_ 116 (List._∷_ 101 List.[])))))))))))))) (Syntax.tcons (Syntax.tyInt Syntax.w32) (Syntax.tcons (Syntax.tyInt Syntax.w32) (Syntax.tcons (Syntax.tyInt Syntax.w32) (Syntax.tcons (Syntax.tyArray (Syntax.tyInt Syntax.w32) 64) Syntax.tnil))))) (Syntax.tcons (Syntax.tyInt Syntax.w64) (Syntax.tcons (Syntax.tyInt Syntax.w64) (Syntax.tcons (Syntax.tyInt Syntax.w64) (Syntax.tcons (Syntax.tyInt Syntax.w64) (Syntax.tcons (Syntax.tyInt Syntax.w64) (Syntax.tcons (Syntax.tyInt Syntax.w64) (Syntax.tcons Syntax.tyBool Syntax.tnil)))))))))) (List._∷_ (1, Rows.whole (Declared.row Held.the-type)) (List._∷_ (2, Rows.whole (Declared.row Line.the-type)) (List._∷_ (3, Rows.sslice (Referent.rtF (Referent.fInt Syntax.w8)) (Syntax.tyRef (Syntax.named 0) Syntax.imm (Syntax.tyInt Syntax.w8)) 0) (List._∷_ (4, Rows.sref (Array.Array (Referent.rtF (Referent.fInt Syntax.w32)) 32772) (Syntax.tyRef (Syntax.named 1) Syntax.imm (Syntax.tyArray (Syntax.tyInt Syntax.w32) 32772)) 1) (List._∷_ (5, Rows.mref (Array.Array (Referent.rtF (Referent.fInt Syntax.w8)) 16388) (Syntax.tyRef (Syntax.named 2) Syntax.mut (Syntax.tyArray (Syntax.tyInt Syntax.w8) 16388)) 2) (List._∷_ (6, Rows.mref (Array.Array (Referent.rtF (Referent.fInt Syntax.w32)) 65540) (Syntax.tyRef (Syntax.named 3) Syntax.mut (Syntax.tyArray (Syntax.tyInt Syntax.w32) 65540)) 3) (List._∷_ (7, Rows.mref (Array.Array (Referent.rtF (Referent.fInt Syntax.w32)) 32772) (Syntax.tyRef (Syntax.named 4) Syntax.mut (Syntax.tyArray (Syntax.tyInt Syntax.w32) 32772)) 4) (List._∷_ (8, Rows.mref (Array.Array (Referent.rtF (Referent.fInt Syntax.w32)) 32772) (Syntax.tyRef (Syntax.named 5) Syntax.mut (Syntax.tyArray (Syntax.tyInt Syntax.w32) 32772)) 5) (List._∷_ (9, Rows.mref (Array.Array (Referent.rtF (Referent.fInt Syntax.w32)) 262160) (Syntax.tyRef (Syntax.named 6) Syntax.mut (Syntax.tyArray (Syntax.tyInt Syntax.w32) 262160)) 6) (List._∷_ (10, Rows.mref (Array.Array (Referent.rtF (Referent.fInt Syntax.w8)) 600000) (Syntax.tyRef (Syntax.named 7) Syntax.mut (Syntax.tyArray (Syntax.tyInt Syntax.w8) 600000)) 7) (List._∷_ (11, Frozen.held (Frozen.fz-open Syntax.erased 8 List.[] Row.off (AsSlice.fz-lent-sl Cell.R 65540 16))) (List._∷_ (12, Rows.mref (Array.Array Cell.R 32772) (Syntax.tyRef (Syntax.named 9) Syntax.mut (Syntax.tyArray Cell.behind 32772)) 9) (List._∷_ (13, Rows.any-gone Syntax.tyBool) (List._∷_ (14, Rows.any-gone Syntax.tyBool) (List._∷_ (15, Rows.any-gone Syntax.tyBool) List.[])))))))))))))))
+t30 = List._∷_ (0, Rows.any-gone (Syntax.tyStruct (List._∷_ 122 (List._∷_ 111 (List._∷_ 110 (List._∷_ 101 (List._∷_ 115 (List._∷_ 58 (List._∷_ 58 (List._∷_ 104 (List._∷_ 101 (List._∷_ 108 (List._∷_ 100 (List._∷_ 58 (List._∷_ 58 (List._∷_ 72 (List._∷_ 101 (List._∷_ 108 (List._∷_ 100 List.[]))))))))))))))))) (Syntax.tcons (Syntax.tyStruct (List._∷_ 112 (List._∷_ 121 (List._∷_ 114 (List._∷_ 97 (List._∷_ 109 (List._∷_ 105 (List._∷_ 100 (List._∷_ 58 (List._∷_ 58 (List._∷_ 83 (List._∷_ 116 (List._∷_ 97 (List._∷_ 116 (List._∷_ 101 List.[])))))))))))))) (Syntax.tcons (Syntax.tyInt Syntax.w32) (Syntax.tcons (Syntax.tyInt Syntax.w32) (Syntax.tcons (Syntax.tyInt Syntax.w32) (Syntax.tcons (Syntax.tyInt Syntax.w32) (Syntax.tcons (Syntax.tyInt Syntax.w32) (Syntax.tcons (Syntax.tyArray (Syntax.tyInt Syntax.w32) 64) Syntax.tnil))))))) (Syntax.tcons (Syntax.tyInt Syntax.w64) (Syntax.tcons (Syntax.tyInt Syntax.w64) (Syntax.tcons (Syntax.tyInt Syntax.w64) (Syntax.tcons (Syntax.tyInt Syntax.w64) (Syntax.tcons (Syntax.tyInt Syntax.w64) (Syntax.tcons (Syntax.tyInt Syntax.w64) (Syntax.tcons Syntax.tyBool Syntax.tnil)))))))))) (List._∷_ (1, Rows.whole (Declared.row Held.the-type)) (List._∷_ (2, Rows.whole (Declared.row Line.the-type)) (List._∷_ (3, Rows.sslice (Referent.rtF (Referent.fInt Syntax.w8)) (Syntax.tyRef (Syntax.named 0) Syntax.imm (Syntax.tyInt Syntax.w8)) 0) (List._∷_ (4, Rows.sref (Array.Array (Referent.rtF (Referent.fInt Syntax.w32)) 32772) (Syntax.tyRef (Syntax.named 1) Syntax.imm (Syntax.tyArray (Syntax.tyInt Syntax.w32) 32772)) 1) (List._∷_ (5, Rows.mref (Array.Array (Referent.rtF (Referent.fInt Syntax.w8)) 16388) (Syntax.tyRef (Syntax.named 2) Syntax.mut (Syntax.tyArray (Syntax.tyInt Syntax.w8) 16388)) 2) (List._∷_ (6, Rows.mref (Array.Array (Referent.rtF (Referent.fInt Syntax.w32)) 65540) (Syntax.tyRef (Syntax.named 3) Syntax.mut (Syntax.tyArray (Syntax.tyInt Syntax.w32) 65540)) 3) (List._∷_ (7, Rows.mref (Array.Array (Referent.rtF (Referent.fInt Syntax.w32)) 32772) (Syntax.tyRef (Syntax.named 4) Syntax.mut (Syntax.tyArray (Syntax.tyInt Syntax.w32) 32772)) 4) (List._∷_ (8, Rows.mref (Array.Array (Referent.rtF (Referent.fInt Syntax.w32)) 32772) (Syntax.tyRef (Syntax.named 5) Syntax.mut (Syntax.tyArray (Syntax.tyInt Syntax.w32) 32772)) 5) (List._∷_ (9, Rows.mref (Array.Array (Referent.rtF (Referent.fInt Syntax.w32)) 262160) (Syntax.tyRef (Syntax.named 6) Syntax.mut (Syntax.tyArray (Syntax.tyInt Syntax.w32) 262160)) 6) (List._∷_ (10, Rows.mref (Array.Array (Referent.rtF (Referent.fInt Syntax.w8)) 600000) (Syntax.tyRef (Syntax.named 7) Syntax.mut (Syntax.tyArray (Syntax.tyInt Syntax.w8) 600000)) 7) (List._∷_ (11, Frozen.held (Frozen.fz-open Syntax.erased 8 List.[] Row.off (AsSlice.fz-lent-sl Cell.R 65540 16))) (List._∷_ (12, Rows.mref (Array.Array Cell.R 32772) (Syntax.tyRef (Syntax.named 9) Syntax.mut (Syntax.tyArray Cell.behind 32772)) 9) (List._∷_ (13, Rows.any-gone Syntax.tyBool) (List._∷_ (14, Rows.any-gone Syntax.tyBool) (List._∷_ (15, Rows.any-gone Syntax.tyBool) List.[])))))))))))))))
 
 abbrev pub t31 : List.List Row.Entry
 t31 = List._∷_ (16, Rows.any-gone (Syntax.tyRef Syntax.erased Syntax.mut (Syntax.tyArray (Syntax.tyInt Syntax.w8) 16388))) (List._∷_ (17, Rows.any-gone (Syntax.tyRef Syntax.erased Syntax.mut (Syntax.tyArray (Syntax.tyInt Syntax.w32) 65540))) (List._∷_ (18, Rows.any-gone (Syntax.tyRef Syntax.erased Syntax.mut (Syntax.tyArray (Syntax.tyInt Syntax.w32) 32772))) (List._∷_ (19, Rows.any-gone (Syntax.tyRef Syntax.erased Syntax.mut (Syntax.tyArray (Syntax.tyInt Syntax.w32) 32772))) (List._∷_ (20, Rows.any-gone (Syntax.tyRef Syntax.erased Syntax.mut (Syntax.tyArray (Syntax.tyInt Syntax.w32) 262160))) (List._∷_ (21, Rows.any-gone (Syntax.tyRef Syntax.erased Syntax.mut (Syntax.tyArray (Syntax.tyInt Syntax.w8) 600000))) (List._∷_ (22, Relend.msptr Cell.R (Syntax.tyRef Syntax.erased Syntax.mut Cell.behind) 16) (List._∷_ (23, Rows.any-gone (Syntax.tyStruct (List._∷_ 38 (List._∷_ 91 (List._∷_ 93 List.[]))) (Syntax.tcons (Syntax.tyRef Syntax.erased Syntax.mut Cell.behind) (Syntax.tcons (Syntax.tyInt Syntax.w64) Syntax.tnil)))) (List._∷_ (24, Rows.any-gone (Syntax.tyRef Syntax.erased Syntax.mut Cell.behind)) (List._∷_ (25, Rows.any-gone (Syntax.tyStruct (List._∷_ 38 (List._∷_ 91 (List._∷_ 93 List.[]))) (Syntax.tcons (Syntax.tyRef Syntax.erased Syntax.mut Cell.behind) (Syntax.tcons (Syntax.tyInt Syntax.w64) Syntax.tnil)))) (List._∷_ (26, Rows.any-gone (Syntax.tyRef Syntax.erased Syntax.mut (Syntax.tyArray (Syntax.tyInt Syntax.w32) 65540))) (List._∷_ (27, Rows.any-gone (Syntax.tyRef Syntax.erased Syntax.mut (Syntax.tyArray (Syntax.tyInt Syntax.w32) 32772))) (List._∷_ (28, Rows.any-gone (Syntax.tyRef Syntax.erased Syntax.mut (Syntax.tyArray (Syntax.tyInt Syntax.w32) 262160))) (List._∷_ (29, Rows.any-gone (Syntax.tyRef Syntax.erased Syntax.imm (Syntax.tyArray (Syntax.tyInt Syntax.w8) 600000))) (List._∷_ (30, Rows.any-gone (Syntax.tyRef Syntax.erased Syntax.mut (Syntax.tyArray Cell.behind 65540))) (List._∷_ (31, Rows.any-gone (Syntax.tyRef Syntax.erased Syntax.mut (Syntax.tyArray Cell.behind 32772))) List.[])))))))))))))))
@@ -392,25 +392,25 @@ abbrev pub t32 : List.List Row.Entry
 t32 = List._∷_ (16, Rows.any-gone (Syntax.tyRef Syntax.erased Syntax.mut (Syntax.tyArray (Syntax.tyInt Syntax.w8) 16388))) (List._∷_ (17, Rows.any-gone (Syntax.tyRef Syntax.erased Syntax.mut (Syntax.tyArray (Syntax.tyInt Syntax.w32) 65540))) (List._∷_ (18, Rows.any-gone (Syntax.tyRef Syntax.erased Syntax.mut (Syntax.tyArray (Syntax.tyInt Syntax.w32) 32772))) (List._∷_ (19, Rows.any-gone (Syntax.tyRef Syntax.erased Syntax.mut (Syntax.tyArray (Syntax.tyInt Syntax.w32) 32772))) (List._∷_ (20, Rows.any-gone (Syntax.tyRef Syntax.erased Syntax.mut (Syntax.tyArray (Syntax.tyInt Syntax.w32) 262160))) (List._∷_ (21, Rows.any-gone (Syntax.tyRef Syntax.erased Syntax.mut (Syntax.tyArray (Syntax.tyInt Syntax.w8) 600000))) (List._∷_ (22, Rows.any-gone (Syntax.tyRef Syntax.erased Syntax.mut Cell.behind)) (List._∷_ (23, Mut.mslice Cell.R (Syntax.tyRef Syntax.erased Syntax.mut Cell.behind) 16) (List._∷_ (24, Rows.any-gone (Syntax.tyRef Syntax.erased Syntax.mut Cell.behind)) (List._∷_ (25, Rows.any-gone (Syntax.tyStruct (List._∷_ 38 (List._∷_ 91 (List._∷_ 93 List.[]))) (Syntax.tcons (Syntax.tyRef Syntax.erased Syntax.mut Cell.behind) (Syntax.tcons (Syntax.tyInt Syntax.w64) Syntax.tnil)))) (List._∷_ (26, Rows.any-gone (Syntax.tyRef Syntax.erased Syntax.mut (Syntax.tyArray (Syntax.tyInt Syntax.w32) 65540))) (List._∷_ (27, Rows.any-gone (Syntax.tyRef Syntax.erased Syntax.mut (Syntax.tyArray (Syntax.tyInt Syntax.w32) 32772))) (List._∷_ (28, Rows.any-gone (Syntax.tyRef Syntax.erased Syntax.mut (Syntax.tyArray (Syntax.tyInt Syntax.w32) 262160))) (List._∷_ (29, Rows.any-gone (Syntax.tyRef Syntax.erased Syntax.imm (Syntax.tyArray (Syntax.tyInt Syntax.w8) 600000))) (List._∷_ (30, Rows.any-gone (Syntax.tyRef Syntax.erased Syntax.mut (Syntax.tyArray Cell.behind 65540))) (List._∷_ (31, Rows.any-gone (Syntax.tyRef Syntax.erased Syntax.mut (Syntax.tyArray Cell.behind 32772))) List.[])))))))))))))))
 
 abbrev pub t33 : List.List Row.Entry
-t33 = List._∷_ (0, Rows.any-gone (Syntax.tyStruct (List._∷_ 122 (List._∷_ 111 (List._∷_ 110 (List._∷_ 101 (List._∷_ 115 (List._∷_ 58 (List._∷_ 58 (List._∷_ 104 (List._∷_ 101 (List._∷_ 108 (List._∷_ 100 (List._∷_ 58 (List._∷_ 58 (List._∷_ 72 (List._∷_ 101 (List._∷_ 108 (List._∷_ 100 List.[]))))))))))))))))) (Syntax.tcons (Syntax.tyStruct (List._∷_ 112 (List._∷_ 121 (List._∷_ 114 (List._∷_ 97 (List._∷_ 109 (List._∷_ 105 (List._∷_ 100 (List._∷_ 58 (List._∷_ 58 (List._∷_ 83 (List._∷_ 116 (List._∷_ 97 (List._∷_ 116 (List._∷_ 101 List.[])))))))))))))) (Syntax.tcons (Syntax.tyInt Syntax.w32) (Syntax.tcons (Syntax.tyInt Syntax.w32) (Syntax.tcons (Syntax.tyInt Syntax.w32) (Syntax.tcons (Syntax.tyArray (Syntax.tyInt Syntax.w32) 64) Syntax.tnil))))) (Syntax.tcons (Syntax.tyInt Syntax.w64) (Syntax.tcons (Syntax.tyInt Syntax.w64) (Syntax.tcons (Syntax.tyInt Syntax.w64) (Syntax.tcons (Syntax.tyInt Syntax.w64) (Syntax.tcons (Syntax.tyInt Syntax.w64) (Syntax.tcons (Syntax.tyInt Syntax.w64) (Syntax.tcons Syntax.tyBool Syntax.tnil)))))))))) (List._∷_ (1, Rows.whole (Declared.row Held.the-type)) (List._∷_ (2, Rows.whole (Declared.row Line.the-type)) (List._∷_ (3, Rows.sslice (Referent.rtF (Referent.fInt Syntax.w8)) (Syntax.tyRef (Syntax.named 0) Syntax.imm (Syntax.tyInt Syntax.w8)) 0) (List._∷_ (4, Rows.sref (Array.Array (Referent.rtF (Referent.fInt Syntax.w32)) 32772) (Syntax.tyRef (Syntax.named 1) Syntax.imm (Syntax.tyArray (Syntax.tyInt Syntax.w32) 32772)) 1) (List._∷_ (5, Rows.mref (Array.Array (Referent.rtF (Referent.fInt Syntax.w8)) 16388) (Syntax.tyRef (Syntax.named 2) Syntax.mut (Syntax.tyArray (Syntax.tyInt Syntax.w8) 16388)) 2) (List._∷_ (6, Rows.mref (Array.Array (Referent.rtF (Referent.fInt Syntax.w32)) 65540) (Syntax.tyRef (Syntax.named 3) Syntax.mut (Syntax.tyArray (Syntax.tyInt Syntax.w32) 65540)) 3) (List._∷_ (7, Rows.mref (Array.Array (Referent.rtF (Referent.fInt Syntax.w32)) 32772) (Syntax.tyRef (Syntax.named 4) Syntax.mut (Syntax.tyArray (Syntax.tyInt Syntax.w32) 32772)) 4) (List._∷_ (8, Rows.mref (Array.Array (Referent.rtF (Referent.fInt Syntax.w32)) 32772) (Syntax.tyRef (Syntax.named 5) Syntax.mut (Syntax.tyArray (Syntax.tyInt Syntax.w32) 32772)) 5) (List._∷_ (9, Rows.mref (Array.Array (Referent.rtF (Referent.fInt Syntax.w32)) 262160) (Syntax.tyRef (Syntax.named 6) Syntax.mut (Syntax.tyArray (Syntax.tyInt Syntax.w32) 262160)) 6) (List._∷_ (10, Rows.mref (Array.Array (Referent.rtF (Referent.fInt Syntax.w8)) 600000) (Syntax.tyRef (Syntax.named 7) Syntax.mut (Syntax.tyArray (Syntax.tyInt Syntax.w8) 600000)) 7) (List._∷_ (11, Frozen.held (Frozen.fz-open Syntax.erased 8 List.[] Row.off (AsSlice.fz-lent-sl Cell.R 65540 16))) (List._∷_ (12, Rows.mref (Array.Array Cell.R 32772) (Syntax.tyRef (Syntax.named 9) Syntax.mut (Syntax.tyArray Cell.behind 32772)) 9) (List._∷_ (13, Rows.sc-here Row.sBool) (List._∷_ (14, Rows.any-gone Syntax.tyBool) (List._∷_ (15, Rows.any-gone Syntax.tyBool) List.[])))))))))))))))
+t33 = List._∷_ (0, Rows.any-gone (Syntax.tyStruct (List._∷_ 122 (List._∷_ 111 (List._∷_ 110 (List._∷_ 101 (List._∷_ 115 (List._∷_ 58 (List._∷_ 58 (List._∷_ 104 (List._∷_ 101 (List._∷_ 108 (List._∷_ 100 (List._∷_ 58 (List._∷_ 58 (List._∷_ 72 (List._∷_ 101 (List._∷_ 108 (List._∷_ 100 List.[]))))))))))))))))) (Syntax.tcons (Syntax.tyStruct (List._∷_ 112 (List._∷_ 121 (List._∷_ 114 (List._∷_ 97 (List._∷_ 109 (List._∷_ 105 (List._∷_ 100 (List._∷_ 58 (List._∷_ 58 (List._∷_ 83 (List._∷_ 116 (List._∷_ 97 (List._∷_ 116 (List._∷_ 101 List.[])))))))))))))) (Syntax.tcons (Syntax.tyInt Syntax.w32) (Syntax.tcons (Syntax.tyInt Syntax.w32) (Syntax.tcons (Syntax.tyInt Syntax.w32) (Syntax.tcons (Syntax.tyInt Syntax.w32) (Syntax.tcons (Syntax.tyInt Syntax.w32) (Syntax.tcons (Syntax.tyArray (Syntax.tyInt Syntax.w32) 64) Syntax.tnil))))))) (Syntax.tcons (Syntax.tyInt Syntax.w64) (Syntax.tcons (Syntax.tyInt Syntax.w64) (Syntax.tcons (Syntax.tyInt Syntax.w64) (Syntax.tcons (Syntax.tyInt Syntax.w64) (Syntax.tcons (Syntax.tyInt Syntax.w64) (Syntax.tcons (Syntax.tyInt Syntax.w64) (Syntax.tcons Syntax.tyBool Syntax.tnil)))))))))) (List._∷_ (1, Rows.whole (Declared.row Held.the-type)) (List._∷_ (2, Rows.whole (Declared.row Line.the-type)) (List._∷_ (3, Rows.sslice (Referent.rtF (Referent.fInt Syntax.w8)) (Syntax.tyRef (Syntax.named 0) Syntax.imm (Syntax.tyInt Syntax.w8)) 0) (List._∷_ (4, Rows.sref (Array.Array (Referent.rtF (Referent.fInt Syntax.w32)) 32772) (Syntax.tyRef (Syntax.named 1) Syntax.imm (Syntax.tyArray (Syntax.tyInt Syntax.w32) 32772)) 1) (List._∷_ (5, Rows.mref (Array.Array (Referent.rtF (Referent.fInt Syntax.w8)) 16388) (Syntax.tyRef (Syntax.named 2) Syntax.mut (Syntax.tyArray (Syntax.tyInt Syntax.w8) 16388)) 2) (List._∷_ (6, Rows.mref (Array.Array (Referent.rtF (Referent.fInt Syntax.w32)) 65540) (Syntax.tyRef (Syntax.named 3) Syntax.mut (Syntax.tyArray (Syntax.tyInt Syntax.w32) 65540)) 3) (List._∷_ (7, Rows.mref (Array.Array (Referent.rtF (Referent.fInt Syntax.w32)) 32772) (Syntax.tyRef (Syntax.named 4) Syntax.mut (Syntax.tyArray (Syntax.tyInt Syntax.w32) 32772)) 4) (List._∷_ (8, Rows.mref (Array.Array (Referent.rtF (Referent.fInt Syntax.w32)) 32772) (Syntax.tyRef (Syntax.named 5) Syntax.mut (Syntax.tyArray (Syntax.tyInt Syntax.w32) 32772)) 5) (List._∷_ (9, Rows.mref (Array.Array (Referent.rtF (Referent.fInt Syntax.w32)) 262160) (Syntax.tyRef (Syntax.named 6) Syntax.mut (Syntax.tyArray (Syntax.tyInt Syntax.w32) 262160)) 6) (List._∷_ (10, Rows.mref (Array.Array (Referent.rtF (Referent.fInt Syntax.w8)) 600000) (Syntax.tyRef (Syntax.named 7) Syntax.mut (Syntax.tyArray (Syntax.tyInt Syntax.w8) 600000)) 7) (List._∷_ (11, Frozen.held (Frozen.fz-open Syntax.erased 8 List.[] Row.off (AsSlice.fz-lent-sl Cell.R 65540 16))) (List._∷_ (12, Rows.mref (Array.Array Cell.R 32772) (Syntax.tyRef (Syntax.named 9) Syntax.mut (Syntax.tyArray Cell.behind 32772)) 9) (List._∷_ (13, Rows.sc-here Row.sBool) (List._∷_ (14, Rows.any-gone Syntax.tyBool) (List._∷_ (15, Rows.any-gone Syntax.tyBool) List.[])))))))))))))))
 
 abbrev pub t34 : List.List Row.Entry
 t34 = List._∷_ (16, Rows.any-gone (Syntax.tyRef Syntax.erased Syntax.mut (Syntax.tyArray (Syntax.tyInt Syntax.w8) 16388))) (List._∷_ (17, Rows.any-gone (Syntax.tyRef Syntax.erased Syntax.mut (Syntax.tyArray (Syntax.tyInt Syntax.w32) 65540))) (List._∷_ (18, Rows.any-gone (Syntax.tyRef Syntax.erased Syntax.mut (Syntax.tyArray (Syntax.tyInt Syntax.w32) 32772))) (List._∷_ (19, Rows.any-gone (Syntax.tyRef Syntax.erased Syntax.mut (Syntax.tyArray (Syntax.tyInt Syntax.w32) 32772))) (List._∷_ (20, Rows.any-gone (Syntax.tyRef Syntax.erased Syntax.mut (Syntax.tyArray (Syntax.tyInt Syntax.w32) 262160))) (List._∷_ (21, Rows.any-gone (Syntax.tyRef Syntax.erased Syntax.mut (Syntax.tyArray (Syntax.tyInt Syntax.w8) 600000))) (List._∷_ (22, Rows.any-gone (Syntax.tyRef Syntax.erased Syntax.mut Cell.behind)) (List._∷_ (23, Mut.msleft Cell.R (Syntax.tyRef Syntax.erased Syntax.mut Cell.behind)) (List._∷_ (24, Rows.any-gone (Syntax.tyRef Syntax.erased Syntax.mut Cell.behind)) (List._∷_ (25, Rows.any-gone (Syntax.tyStruct (List._∷_ 38 (List._∷_ 91 (List._∷_ 93 List.[]))) (Syntax.tcons (Syntax.tyRef Syntax.erased Syntax.mut Cell.behind) (Syntax.tcons (Syntax.tyInt Syntax.w64) Syntax.tnil)))) (List._∷_ (26, Rows.any-gone (Syntax.tyRef Syntax.erased Syntax.mut (Syntax.tyArray (Syntax.tyInt Syntax.w32) 65540))) (List._∷_ (27, Rows.any-gone (Syntax.tyRef Syntax.erased Syntax.mut (Syntax.tyArray (Syntax.tyInt Syntax.w32) 32772))) (List._∷_ (28, Rows.any-gone (Syntax.tyRef Syntax.erased Syntax.mut (Syntax.tyArray (Syntax.tyInt Syntax.w32) 262160))) (List._∷_ (29, Rows.any-gone (Syntax.tyRef Syntax.erased Syntax.imm (Syntax.tyArray (Syntax.tyInt Syntax.w8) 600000))) (List._∷_ (30, Rows.any-gone (Syntax.tyRef Syntax.erased Syntax.mut (Syntax.tyArray Cell.behind 65540))) (List._∷_ (31, Rows.any-gone (Syntax.tyRef Syntax.erased Syntax.mut (Syntax.tyArray Cell.behind 32772))) List.[])))))))))))))))
 
 abbrev pub t35 : List.List Row.Entry
-t35 = List._∷_ (0, Rows.any-gone (Syntax.tyStruct (List._∷_ 122 (List._∷_ 111 (List._∷_ 110 (List._∷_ 101 (List._∷_ 115 (List._∷_ 58 (List._∷_ 58 (List._∷_ 104 (List._∷_ 101 (List._∷_ 108 (List._∷_ 100 (List._∷_ 58 (List._∷_ 58 (List._∷_ 72 (List._∷_ 101 (List._∷_ 108 (List._∷_ 100 List.[]))))))))))))))))) (Syntax.tcons (Syntax.tyStruct (List._∷_ 112 (List._∷_ 121 (List._∷_ 114 (List._∷_ 97 (List._∷_ 109 (List._∷_ 105 (List._∷_ 100 (List._∷_ 58 (List._∷_ 58 (List._∷_ 83 (List._∷_ 116 (List._∷_ 97 (List._∷_ 116 (List._∷_ 101 List.[])))))))))))))) (Syntax.tcons (Syntax.tyInt Syntax.w32) (Syntax.tcons (Syntax.tyInt Syntax.w32) (Syntax.tcons (Syntax.tyInt Syntax.w32) (Syntax.tcons (Syntax.tyArray (Syntax.tyInt Syntax.w32) 64) Syntax.tnil))))) (Syntax.tcons (Syntax.tyInt Syntax.w64) (Syntax.tcons (Syntax.tyInt Syntax.w64) (Syntax.tcons (Syntax.tyInt Syntax.w64) (Syntax.tcons (Syntax.tyInt Syntax.w64) (Syntax.tcons (Syntax.tyInt Syntax.w64) (Syntax.tcons (Syntax.tyInt Syntax.w64) (Syntax.tcons Syntax.tyBool Syntax.tnil)))))))))) (List._∷_ (1, Rows.whole (Declared.row Held.the-type)) (List._∷_ (2, Rows.any-gone (Syntax.tyStruct (List._∷_ 122 (List._∷_ 111 (List._∷_ 110 (List._∷_ 101 (List._∷_ 115 (List._∷_ 58 (List._∷_ 58 (List._∷_ 115 (List._∷_ 99 (List._∷_ 97 (List._∷_ 110 (List._∷_ 58 (List._∷_ 58 (List._∷_ 76 (List._∷_ 105 (List._∷_ 110 (List._∷_ 101 List.[]))))))))))))))))) (Syntax.tcons (Syntax.tyInt Syntax.w32) (Syntax.tcons (Syntax.tyInt Syntax.w64) (Syntax.tcons (Syntax.tyInt Syntax.w64) (Syntax.tcons (Syntax.tyInt Syntax.w64) (Syntax.tcons (Syntax.tyInt Syntax.w64) Syntax.tnil))))))) (List._∷_ (3, Rows.sslice (Referent.rtF (Referent.fInt Syntax.w8)) (Syntax.tyRef (Syntax.named 0) Syntax.imm (Syntax.tyInt Syntax.w8)) 0) (List._∷_ (4, Rows.sref (Array.Array (Referent.rtF (Referent.fInt Syntax.w32)) 32772) (Syntax.tyRef (Syntax.named 1) Syntax.imm (Syntax.tyArray (Syntax.tyInt Syntax.w32) 32772)) 1) (List._∷_ (5, Rows.mref (Array.Array (Referent.rtF (Referent.fInt Syntax.w8)) 16388) (Syntax.tyRef (Syntax.named 2) Syntax.mut (Syntax.tyArray (Syntax.tyInt Syntax.w8) 16388)) 2) (List._∷_ (6, Rows.mref (Array.Array (Referent.rtF (Referent.fInt Syntax.w32)) 65540) (Syntax.tyRef (Syntax.named 3) Syntax.mut (Syntax.tyArray (Syntax.tyInt Syntax.w32) 65540)) 3) (List._∷_ (7, Rows.mref (Array.Array (Referent.rtF (Referent.fInt Syntax.w32)) 32772) (Syntax.tyRef (Syntax.named 4) Syntax.mut (Syntax.tyArray (Syntax.tyInt Syntax.w32) 32772)) 4) (List._∷_ (8, Rows.mref (Array.Array (Referent.rtF (Referent.fInt Syntax.w32)) 32772) (Syntax.tyRef (Syntax.named 5) Syntax.mut (Syntax.tyArray (Syntax.tyInt Syntax.w32) 32772)) 5) (List._∷_ (9, Rows.mref (Array.Array (Referent.rtF (Referent.fInt Syntax.w32)) 262160) (Syntax.tyRef (Syntax.named 6) Syntax.mut (Syntax.tyArray (Syntax.tyInt Syntax.w32) 262160)) 6) (List._∷_ (10, Rows.mref (Array.Array (Referent.rtF (Referent.fInt Syntax.w8)) 600000) (Syntax.tyRef (Syntax.named 7) Syntax.mut (Syntax.tyArray (Syntax.tyInt Syntax.w8) 600000)) 7) (List._∷_ (11, Frozen.held (Frozen.fz-open Syntax.erased 8 List.[] Row.off (AsSlice.fz-lent-sl Cell.R 65540 16))) (List._∷_ (12, Rows.mref (Array.Array Cell.R 32772) (Syntax.tyRef (Syntax.named 9) Syntax.mut (Syntax.tyArray Cell.behind 32772)) 9) (List._∷_ (13, Rows.sc-here Row.sBool) (List._∷_ (14, Rows.any-gone Syntax.tyBool) (List._∷_ (15, Rows.any-gone Syntax.tyBool) List.[])))))))))))))))
+t35 = List._∷_ (0, Rows.any-gone (Syntax.tyStruct (List._∷_ 122 (List._∷_ 111 (List._∷_ 110 (List._∷_ 101 (List._∷_ 115 (List._∷_ 58 (List._∷_ 58 (List._∷_ 104 (List._∷_ 101 (List._∷_ 108 (List._∷_ 100 (List._∷_ 58 (List._∷_ 58 (List._∷_ 72 (List._∷_ 101 (List._∷_ 108 (List._∷_ 100 List.[]))))))))))))))))) (Syntax.tcons (Syntax.tyStruct (List._∷_ 112 (List._∷_ 121 (List._∷_ 114 (List._∷_ 97 (List._∷_ 109 (List._∷_ 105 (List._∷_ 100 (List._∷_ 58 (List._∷_ 58 (List._∷_ 83 (List._∷_ 116 (List._∷_ 97 (List._∷_ 116 (List._∷_ 101 List.[])))))))))))))) (Syntax.tcons (Syntax.tyInt Syntax.w32) (Syntax.tcons (Syntax.tyInt Syntax.w32) (Syntax.tcons (Syntax.tyInt Syntax.w32) (Syntax.tcons (Syntax.tyInt Syntax.w32) (Syntax.tcons (Syntax.tyInt Syntax.w32) (Syntax.tcons (Syntax.tyArray (Syntax.tyInt Syntax.w32) 64) Syntax.tnil))))))) (Syntax.tcons (Syntax.tyInt Syntax.w64) (Syntax.tcons (Syntax.tyInt Syntax.w64) (Syntax.tcons (Syntax.tyInt Syntax.w64) (Syntax.tcons (Syntax.tyInt Syntax.w64) (Syntax.tcons (Syntax.tyInt Syntax.w64) (Syntax.tcons (Syntax.tyInt Syntax.w64) (Syntax.tcons Syntax.tyBool Syntax.tnil)))))))))) (List._∷_ (1, Rows.whole (Declared.row Held.the-type)) (List._∷_ (2, Rows.any-gone (Syntax.tyStruct (List._∷_ 122 (List._∷_ 111 (List._∷_ 110 (List._∷_ 101 (List._∷_ 115 (List._∷_ 58 (List._∷_ 58 (List._∷_ 115 (List._∷_ 99 (List._∷_ 97 (List._∷_ 110 (List._∷_ 58 (List._∷_ 58 (List._∷_ 76 (List._∷_ 105 (List._∷_ 110 (List._∷_ 101 List.[]))))))))))))))))) (Syntax.tcons (Syntax.tyInt Syntax.w32) (Syntax.tcons (Syntax.tyInt Syntax.w64) (Syntax.tcons (Syntax.tyInt Syntax.w64) (Syntax.tcons (Syntax.tyInt Syntax.w64) (Syntax.tcons (Syntax.tyInt Syntax.w64) Syntax.tnil))))))) (List._∷_ (3, Rows.sslice (Referent.rtF (Referent.fInt Syntax.w8)) (Syntax.tyRef (Syntax.named 0) Syntax.imm (Syntax.tyInt Syntax.w8)) 0) (List._∷_ (4, Rows.sref (Array.Array (Referent.rtF (Referent.fInt Syntax.w32)) 32772) (Syntax.tyRef (Syntax.named 1) Syntax.imm (Syntax.tyArray (Syntax.tyInt Syntax.w32) 32772)) 1) (List._∷_ (5, Rows.mref (Array.Array (Referent.rtF (Referent.fInt Syntax.w8)) 16388) (Syntax.tyRef (Syntax.named 2) Syntax.mut (Syntax.tyArray (Syntax.tyInt Syntax.w8) 16388)) 2) (List._∷_ (6, Rows.mref (Array.Array (Referent.rtF (Referent.fInt Syntax.w32)) 65540) (Syntax.tyRef (Syntax.named 3) Syntax.mut (Syntax.tyArray (Syntax.tyInt Syntax.w32) 65540)) 3) (List._∷_ (7, Rows.mref (Array.Array (Referent.rtF (Referent.fInt Syntax.w32)) 32772) (Syntax.tyRef (Syntax.named 4) Syntax.mut (Syntax.tyArray (Syntax.tyInt Syntax.w32) 32772)) 4) (List._∷_ (8, Rows.mref (Array.Array (Referent.rtF (Referent.fInt Syntax.w32)) 32772) (Syntax.tyRef (Syntax.named 5) Syntax.mut (Syntax.tyArray (Syntax.tyInt Syntax.w32) 32772)) 5) (List._∷_ (9, Rows.mref (Array.Array (Referent.rtF (Referent.fInt Syntax.w32)) 262160) (Syntax.tyRef (Syntax.named 6) Syntax.mut (Syntax.tyArray (Syntax.tyInt Syntax.w32) 262160)) 6) (List._∷_ (10, Rows.mref (Array.Array (Referent.rtF (Referent.fInt Syntax.w8)) 600000) (Syntax.tyRef (Syntax.named 7) Syntax.mut (Syntax.tyArray (Syntax.tyInt Syntax.w8) 600000)) 7) (List._∷_ (11, Frozen.held (Frozen.fz-open Syntax.erased 8 List.[] Row.off (AsSlice.fz-lent-sl Cell.R 65540 16))) (List._∷_ (12, Rows.mref (Array.Array Cell.R 32772) (Syntax.tyRef (Syntax.named 9) Syntax.mut (Syntax.tyArray Cell.behind 32772)) 9) (List._∷_ (13, Rows.sc-here Row.sBool) (List._∷_ (14, Rows.any-gone Syntax.tyBool) (List._∷_ (15, Rows.any-gone Syntax.tyBool) List.[])))))))))))))))
 
 abbrev pub t36 : List.List Row.Entry
-t36 = List._∷_ (0, Rows.any-gone (Syntax.tyStruct (List._∷_ 122 (List._∷_ 111 (List._∷_ 110 (List._∷_ 101 (List._∷_ 115 (List._∷_ 58 (List._∷_ 58 (List._∷_ 104 (List._∷_ 101 (List._∷_ 108 (List._∷_ 100 (List._∷_ 58 (List._∷_ 58 (List._∷_ 72 (List._∷_ 101 (List._∷_ 108 (List._∷_ 100 List.[]))))))))))))))))) (Syntax.tcons (Syntax.tyStruct (List._∷_ 112 (List._∷_ 121 (List._∷_ 114 (List._∷_ 97 (List._∷_ 109 (List._∷_ 105 (List._∷_ 100 (List._∷_ 58 (List._∷_ 58 (List._∷_ 83 (List._∷_ 116 (List._∷_ 97 (List._∷_ 116 (List._∷_ 101 List.[])))))))))))))) (Syntax.tcons (Syntax.tyInt Syntax.w32) (Syntax.tcons (Syntax.tyInt Syntax.w32) (Syntax.tcons (Syntax.tyInt Syntax.w32) (Syntax.tcons (Syntax.tyArray (Syntax.tyInt Syntax.w32) 64) Syntax.tnil))))) (Syntax.tcons (Syntax.tyInt Syntax.w64) (Syntax.tcons (Syntax.tyInt Syntax.w64) (Syntax.tcons (Syntax.tyInt Syntax.w64) (Syntax.tcons (Syntax.tyInt Syntax.w64) (Syntax.tcons (Syntax.tyInt Syntax.w64) (Syntax.tcons (Syntax.tyInt Syntax.w64) (Syntax.tcons Syntax.tyBool Syntax.tnil)))))))))) (List._∷_ (1, Rows.whole (Declared.row Held.the-type)) (List._∷_ (2, Rows.any-gone (Syntax.tyStruct (List._∷_ 122 (List._∷_ 111 (List._∷_ 110 (List._∷_ 101 (List._∷_ 115 (List._∷_ 58 (List._∷_ 58 (List._∷_ 115 (List._∷_ 99 (List._∷_ 97 (List._∷_ 110 (List._∷_ 58 (List._∷_ 58 (List._∷_ 76 (List._∷_ 105 (List._∷_ 110 (List._∷_ 101 List.[]))))))))))))))))) (Syntax.tcons (Syntax.tyInt Syntax.w32) (Syntax.tcons (Syntax.tyInt Syntax.w64) (Syntax.tcons (Syntax.tyInt Syntax.w64) (Syntax.tcons (Syntax.tyInt Syntax.w64) (Syntax.tcons (Syntax.tyInt Syntax.w64) Syntax.tnil))))))) (List._∷_ (3, Rows.sslice (Referent.rtF (Referent.fInt Syntax.w8)) (Syntax.tyRef (Syntax.named 0) Syntax.imm (Syntax.tyInt Syntax.w8)) 0) (List._∷_ (4, Rows.sref (Array.Array (Referent.rtF (Referent.fInt Syntax.w32)) 32772) (Syntax.tyRef (Syntax.named 1) Syntax.imm (Syntax.tyArray (Syntax.tyInt Syntax.w32) 32772)) 1) (List._∷_ (5, Rows.mref (Array.Array (Referent.rtF (Referent.fInt Syntax.w8)) 16388) (Syntax.tyRef (Syntax.named 2) Syntax.mut (Syntax.tyArray (Syntax.tyInt Syntax.w8) 16388)) 2) (List._∷_ (6, Rows.mref (Array.Array (Referent.rtF (Referent.fInt Syntax.w32)) 65540) (Syntax.tyRef (Syntax.named 3) Syntax.mut (Syntax.tyArray (Syntax.tyInt Syntax.w32) 65540)) 3) (List._∷_ (7, Rows.mref (Array.Array (Referent.rtF (Referent.fInt Syntax.w32)) 32772) (Syntax.tyRef (Syntax.named 4) Syntax.mut (Syntax.tyArray (Syntax.tyInt Syntax.w32) 32772)) 4) (List._∷_ (8, Rows.mref (Array.Array (Referent.rtF (Referent.fInt Syntax.w32)) 32772) (Syntax.tyRef (Syntax.named 5) Syntax.mut (Syntax.tyArray (Syntax.tyInt Syntax.w32) 32772)) 5) (List._∷_ (9, Rows.mref (Array.Array (Referent.rtF (Referent.fInt Syntax.w32)) 262160) (Syntax.tyRef (Syntax.named 6) Syntax.mut (Syntax.tyArray (Syntax.tyInt Syntax.w32) 262160)) 6) (List._∷_ (10, Rows.mref (Array.Array (Referent.rtF (Referent.fInt Syntax.w8)) 600000) (Syntax.tyRef (Syntax.named 7) Syntax.mut (Syntax.tyArray (Syntax.tyInt Syntax.w8) 600000)) 7) (List._∷_ (11, Rows.mref (Array.Array Cell.R 65540) (Syntax.tyRef (Syntax.named 8) Syntax.mut (Syntax.tyArray Cell.behind 65540)) 8) (List._∷_ (12, Rows.mref (Array.Array Cell.R 32772) (Syntax.tyRef (Syntax.named 9) Syntax.mut (Syntax.tyArray Cell.behind 32772)) 9) (List._∷_ (13, Rows.sc-here Row.sBool) (List._∷_ (14, Rows.any-gone Syntax.tyBool) (List._∷_ (15, Rows.any-gone Syntax.tyBool) List.[])))))))))))))))
+t36 = List._∷_ (0, Rows.any-gone (Syntax.tyStruct (List._∷_ 122 (List._∷_ 111 (List._∷_ 110 (List._∷_ 101 (List._∷_ 115 (List._∷_ 58 (List._∷_ 58 (List._∷_ 104 (List._∷_ 101 (List._∷_ 108 (List._∷_ 100 (List._∷_ 58 (List._∷_ 58 (List._∷_ 72 (List._∷_ 101 (List._∷_ 108 (List._∷_ 100 List.[]))))))))))))))))) (Syntax.tcons (Syntax.tyStruct (List._∷_ 112 (List._∷_ 121 (List._∷_ 114 (List._∷_ 97 (List._∷_ 109 (List._∷_ 105 (List._∷_ 100 (List._∷_ 58 (List._∷_ 58 (List._∷_ 83 (List._∷_ 116 (List._∷_ 97 (List._∷_ 116 (List._∷_ 101 List.[])))))))))))))) (Syntax.tcons (Syntax.tyInt Syntax.w32) (Syntax.tcons (Syntax.tyInt Syntax.w32) (Syntax.tcons (Syntax.tyInt Syntax.w32) (Syntax.tcons (Syntax.tyInt Syntax.w32) (Syntax.tcons (Syntax.tyInt Syntax.w32) (Syntax.tcons (Syntax.tyArray (Syntax.tyInt Syntax.w32) 64) Syntax.tnil))))))) (Syntax.tcons (Syntax.tyInt Syntax.w64) (Syntax.tcons (Syntax.tyInt Syntax.w64) (Syntax.tcons (Syntax.tyInt Syntax.w64) (Syntax.tcons (Syntax.tyInt Syntax.w64) (Syntax.tcons (Syntax.tyInt Syntax.w64) (Syntax.tcons (Syntax.tyInt Syntax.w64) (Syntax.tcons Syntax.tyBool Syntax.tnil)))))))))) (List._∷_ (1, Rows.whole (Declared.row Held.the-type)) (List._∷_ (2, Rows.any-gone (Syntax.tyStruct (List._∷_ 122 (List._∷_ 111 (List._∷_ 110 (List._∷_ 101 (List._∷_ 115 (List._∷_ 58 (List._∷_ 58 (List._∷_ 115 (List._∷_ 99 (List._∷_ 97 (List._∷_ 110 (List._∷_ 58 (List._∷_ 58 (List._∷_ 76 (List._∷_ 105 (List._∷_ 110 (List._∷_ 101 List.[]))))))))))))))))) (Syntax.tcons (Syntax.tyInt Syntax.w32) (Syntax.tcons (Syntax.tyInt Syntax.w64) (Syntax.tcons (Syntax.tyInt Syntax.w64) (Syntax.tcons (Syntax.tyInt Syntax.w64) (Syntax.tcons (Syntax.tyInt Syntax.w64) Syntax.tnil))))))) (List._∷_ (3, Rows.sslice (Referent.rtF (Referent.fInt Syntax.w8)) (Syntax.tyRef (Syntax.named 0) Syntax.imm (Syntax.tyInt Syntax.w8)) 0) (List._∷_ (4, Rows.sref (Array.Array (Referent.rtF (Referent.fInt Syntax.w32)) 32772) (Syntax.tyRef (Syntax.named 1) Syntax.imm (Syntax.tyArray (Syntax.tyInt Syntax.w32) 32772)) 1) (List._∷_ (5, Rows.mref (Array.Array (Referent.rtF (Referent.fInt Syntax.w8)) 16388) (Syntax.tyRef (Syntax.named 2) Syntax.mut (Syntax.tyArray (Syntax.tyInt Syntax.w8) 16388)) 2) (List._∷_ (6, Rows.mref (Array.Array (Referent.rtF (Referent.fInt Syntax.w32)) 65540) (Syntax.tyRef (Syntax.named 3) Syntax.mut (Syntax.tyArray (Syntax.tyInt Syntax.w32) 65540)) 3) (List._∷_ (7, Rows.mref (Array.Array (Referent.rtF (Referent.fInt Syntax.w32)) 32772) (Syntax.tyRef (Syntax.named 4) Syntax.mut (Syntax.tyArray (Syntax.tyInt Syntax.w32) 32772)) 4) (List._∷_ (8, Rows.mref (Array.Array (Referent.rtF (Referent.fInt Syntax.w32)) 32772) (Syntax.tyRef (Syntax.named 5) Syntax.mut (Syntax.tyArray (Syntax.tyInt Syntax.w32) 32772)) 5) (List._∷_ (9, Rows.mref (Array.Array (Referent.rtF (Referent.fInt Syntax.w32)) 262160) (Syntax.tyRef (Syntax.named 6) Syntax.mut (Syntax.tyArray (Syntax.tyInt Syntax.w32) 262160)) 6) (List._∷_ (10, Rows.mref (Array.Array (Referent.rtF (Referent.fInt Syntax.w8)) 600000) (Syntax.tyRef (Syntax.named 7) Syntax.mut (Syntax.tyArray (Syntax.tyInt Syntax.w8) 600000)) 7) (List._∷_ (11, Rows.mref (Array.Array Cell.R 65540) (Syntax.tyRef (Syntax.named 8) Syntax.mut (Syntax.tyArray Cell.behind 65540)) 8) (List._∷_ (12, Rows.mref (Array.Array Cell.R 32772) (Syntax.tyRef (Syntax.named 9) Syntax.mut (Syntax.tyArray Cell.behind 32772)) 9) (List._∷_ (13, Rows.sc-here Row.sBool) (List._∷_ (14, Rows.any-gone Syntax.tyBool) (List._∷_ (15, Rows.any-gone Syntax.tyBool) List.[])))))))))))))))
 
 abbrev pub t37 : List.List Row.Entry
 t37 = List._∷_ (0, Rows.whole (Declared.row Held.the-type)) (List._∷_ (1, Rows.whole (Declared.row Held.the-type)) (List._∷_ (2, Rows.any-gone (Syntax.tyStruct (List._∷_ 122 (List._∷_ 111 (List._∷_ 110 (List._∷_ 101 (List._∷_ 115 (List._∷_ 58 (List._∷_ 58 (List._∷_ 115 (List._∷_ 99 (List._∷_ 97 (List._∷_ 110 (List._∷_ 58 (List._∷_ 58 (List._∷_ 76 (List._∷_ 105 (List._∷_ 110 (List._∷_ 101 List.[]))))))))))))))))) (Syntax.tcons (Syntax.tyInt Syntax.w32) (Syntax.tcons (Syntax.tyInt Syntax.w64) (Syntax.tcons (Syntax.tyInt Syntax.w64) (Syntax.tcons (Syntax.tyInt Syntax.w64) (Syntax.tcons (Syntax.tyInt Syntax.w64) Syntax.tnil))))))) (List._∷_ (3, Rows.sslice (Referent.rtF (Referent.fInt Syntax.w8)) (Syntax.tyRef (Syntax.named 0) Syntax.imm (Syntax.tyInt Syntax.w8)) 0) (List._∷_ (4, Rows.sref (Array.Array (Referent.rtF (Referent.fInt Syntax.w32)) 32772) (Syntax.tyRef (Syntax.named 1) Syntax.imm (Syntax.tyArray (Syntax.tyInt Syntax.w32) 32772)) 1) (List._∷_ (5, Rows.mref (Array.Array (Referent.rtF (Referent.fInt Syntax.w8)) 16388) (Syntax.tyRef (Syntax.named 2) Syntax.mut (Syntax.tyArray (Syntax.tyInt Syntax.w8) 16388)) 2) (List._∷_ (6, Rows.mref (Array.Array (Referent.rtF (Referent.fInt Syntax.w32)) 65540) (Syntax.tyRef (Syntax.named 3) Syntax.mut (Syntax.tyArray (Syntax.tyInt Syntax.w32) 65540)) 3) (List._∷_ (7, Rows.mref (Array.Array (Referent.rtF (Referent.fInt Syntax.w32)) 32772) (Syntax.tyRef (Syntax.named 4) Syntax.mut (Syntax.tyArray (Syntax.tyInt Syntax.w32) 32772)) 4) (List._∷_ (8, Rows.mref (Array.Array (Referent.rtF (Referent.fInt Syntax.w32)) 32772) (Syntax.tyRef (Syntax.named 5) Syntax.mut (Syntax.tyArray (Syntax.tyInt Syntax.w32) 32772)) 5) (List._∷_ (9, Rows.mref (Array.Array (Referent.rtF (Referent.fInt Syntax.w32)) 262160) (Syntax.tyRef (Syntax.named 6) Syntax.mut (Syntax.tyArray (Syntax.tyInt Syntax.w32) 262160)) 6) (List._∷_ (10, Rows.mref (Array.Array (Referent.rtF (Referent.fInt Syntax.w8)) 600000) (Syntax.tyRef (Syntax.named 7) Syntax.mut (Syntax.tyArray (Syntax.tyInt Syntax.w8) 600000)) 7) (List._∷_ (11, Rows.mref (Array.Array Cell.R 65540) (Syntax.tyRef (Syntax.named 8) Syntax.mut (Syntax.tyArray Cell.behind 65540)) 8) (List._∷_ (12, Rows.mref (Array.Array Cell.R 32772) (Syntax.tyRef (Syntax.named 9) Syntax.mut (Syntax.tyArray Cell.behind 32772)) 9) (List._∷_ (13, Rows.sc-here Row.sBool) (List._∷_ (14, Rows.any-gone Syntax.tyBool) (List._∷_ (15, Rows.any-gone Syntax.tyBool) List.[])))))))))))))))
 
 abbrev pub t38 : List.List Row.Entry
-t38 = List._∷_ (0, Rows.whole (Declared.row Held.the-type)) (List._∷_ (1, Rows.any-gone (Syntax.tyStruct (List._∷_ 122 (List._∷_ 111 (List._∷_ 110 (List._∷_ 101 (List._∷_ 115 (List._∷_ 58 (List._∷_ 58 (List._∷_ 104 (List._∷_ 101 (List._∷_ 108 (List._∷_ 100 (List._∷_ 58 (List._∷_ 58 (List._∷_ 72 (List._∷_ 101 (List._∷_ 108 (List._∷_ 100 List.[]))))))))))))))))) (Syntax.tcons (Syntax.tyStruct (List._∷_ 112 (List._∷_ 121 (List._∷_ 114 (List._∷_ 97 (List._∷_ 109 (List._∷_ 105 (List._∷_ 100 (List._∷_ 58 (List._∷_ 58 (List._∷_ 83 (List._∷_ 116 (List._∷_ 97 (List._∷_ 116 (List._∷_ 101 List.[])))))))))))))) (Syntax.tcons (Syntax.tyInt Syntax.w32) (Syntax.tcons (Syntax.tyInt Syntax.w32) (Syntax.tcons (Syntax.tyInt Syntax.w32) (Syntax.tcons (Syntax.tyArray (Syntax.tyInt Syntax.w32) 64) Syntax.tnil))))) (Syntax.tcons (Syntax.tyInt Syntax.w64) (Syntax.tcons (Syntax.tyInt Syntax.w64) (Syntax.tcons (Syntax.tyInt Syntax.w64) (Syntax.tcons (Syntax.tyInt Syntax.w64) (Syntax.tcons (Syntax.tyInt Syntax.w64) (Syntax.tcons (Syntax.tyInt Syntax.w64) (Syntax.tcons Syntax.tyBool Syntax.tnil)))))))))) (List._∷_ (2, Rows.any-gone (Syntax.tyStruct (List._∷_ 122 (List._∷_ 111 (List._∷_ 110 (List._∷_ 101 (List._∷_ 115 (List._∷_ 58 (List._∷_ 58 (List._∷_ 115 (List._∷_ 99 (List._∷_ 97 (List._∷_ 110 (List._∷_ 58 (List._∷_ 58 (List._∷_ 76 (List._∷_ 105 (List._∷_ 110 (List._∷_ 101 List.[]))))))))))))))))) (Syntax.tcons (Syntax.tyInt Syntax.w32) (Syntax.tcons (Syntax.tyInt Syntax.w64) (Syntax.tcons (Syntax.tyInt Syntax.w64) (Syntax.tcons (Syntax.tyInt Syntax.w64) (Syntax.tcons (Syntax.tyInt Syntax.w64) Syntax.tnil))))))) (List._∷_ (3, Rows.sslice (Referent.rtF (Referent.fInt Syntax.w8)) (Syntax.tyRef (Syntax.named 0) Syntax.imm (Syntax.tyInt Syntax.w8)) 0) (List._∷_ (4, Rows.sref (Array.Array (Referent.rtF (Referent.fInt Syntax.w32)) 32772) (Syntax.tyRef (Syntax.named 1) Syntax.imm (Syntax.tyArray (Syntax.tyInt Syntax.w32) 32772)) 1) (List._∷_ (5, Rows.mref (Array.Array (Referent.rtF (Referent.fInt Syntax.w8)) 16388) (Syntax.tyRef (Syntax.named 2) Syntax.mut (Syntax.tyArray (Syntax.tyInt Syntax.w8) 16388)) 2) (List._∷_ (6, Rows.mref (Array.Array (Referent.rtF (Referent.fInt Syntax.w32)) 65540) (Syntax.tyRef (Syntax.named 3) Syntax.mut (Syntax.tyArray (Syntax.tyInt Syntax.w32) 65540)) 3) (List._∷_ (7, Rows.mref (Array.Array (Referent.rtF (Referent.fInt Syntax.w32)) 32772) (Syntax.tyRef (Syntax.named 4) Syntax.mut (Syntax.tyArray (Syntax.tyInt Syntax.w32) 32772)) 4) (List._∷_ (8, Rows.mref (Array.Array (Referent.rtF (Referent.fInt Syntax.w32)) 32772) (Syntax.tyRef (Syntax.named 5) Syntax.mut (Syntax.tyArray (Syntax.tyInt Syntax.w32) 32772)) 5) (List._∷_ (9, Rows.mref (Array.Array (Referent.rtF (Referent.fInt Syntax.w32)) 262160) (Syntax.tyRef (Syntax.named 6) Syntax.mut (Syntax.tyArray (Syntax.tyInt Syntax.w32) 262160)) 6) (List._∷_ (10, Rows.mref (Array.Array (Referent.rtF (Referent.fInt Syntax.w8)) 600000) (Syntax.tyRef (Syntax.named 7) Syntax.mut (Syntax.tyArray (Syntax.tyInt Syntax.w8) 600000)) 7) (List._∷_ (11, Rows.mref (Array.Array Cell.R 65540) (Syntax.tyRef (Syntax.named 8) Syntax.mut (Syntax.tyArray Cell.behind 65540)) 8) (List._∷_ (12, Rows.mref (Array.Array Cell.R 32772) (Syntax.tyRef (Syntax.named 9) Syntax.mut (Syntax.tyArray Cell.behind 32772)) 9) (List._∷_ (13, Rows.sc-here Row.sBool) (List._∷_ (14, Rows.any-gone Syntax.tyBool) (List._∷_ (15, Rows.any-gone Syntax.tyBool) List.[])))))))))))))))
+t38 = List._∷_ (0, Rows.whole (Declared.row Held.the-type)) (List._∷_ (1, Rows.any-gone (Syntax.tyStruct (List._∷_ 122 (List._∷_ 111 (List._∷_ 110 (List._∷_ 101 (List._∷_ 115 (List._∷_ 58 (List._∷_ 58 (List._∷_ 104 (List._∷_ 101 (List._∷_ 108 (List._∷_ 100 (List._∷_ 58 (List._∷_ 58 (List._∷_ 72 (List._∷_ 101 (List._∷_ 108 (List._∷_ 100 List.[]))))))))))))))))) (Syntax.tcons (Syntax.tyStruct (List._∷_ 112 (List._∷_ 121 (List._∷_ 114 (List._∷_ 97 (List._∷_ 109 (List._∷_ 105 (List._∷_ 100 (List._∷_ 58 (List._∷_ 58 (List._∷_ 83 (List._∷_ 116 (List._∷_ 97 (List._∷_ 116 (List._∷_ 101 List.[])))))))))))))) (Syntax.tcons (Syntax.tyInt Syntax.w32) (Syntax.tcons (Syntax.tyInt Syntax.w32) (Syntax.tcons (Syntax.tyInt Syntax.w32) (Syntax.tcons (Syntax.tyInt Syntax.w32) (Syntax.tcons (Syntax.tyInt Syntax.w32) (Syntax.tcons (Syntax.tyArray (Syntax.tyInt Syntax.w32) 64) Syntax.tnil))))))) (Syntax.tcons (Syntax.tyInt Syntax.w64) (Syntax.tcons (Syntax.tyInt Syntax.w64) (Syntax.tcons (Syntax.tyInt Syntax.w64) (Syntax.tcons (Syntax.tyInt Syntax.w64) (Syntax.tcons (Syntax.tyInt Syntax.w64) (Syntax.tcons (Syntax.tyInt Syntax.w64) (Syntax.tcons Syntax.tyBool Syntax.tnil)))))))))) (List._∷_ (2, Rows.any-gone (Syntax.tyStruct (List._∷_ 122 (List._∷_ 111 (List._∷_ 110 (List._∷_ 101 (List._∷_ 115 (List._∷_ 58 (List._∷_ 58 (List._∷_ 115 (List._∷_ 99 (List._∷_ 97 (List._∷_ 110 (List._∷_ 58 (List._∷_ 58 (List._∷_ 76 (List._∷_ 105 (List._∷_ 110 (List._∷_ 101 List.[]))))))))))))))))) (Syntax.tcons (Syntax.tyInt Syntax.w32) (Syntax.tcons (Syntax.tyInt Syntax.w64) (Syntax.tcons (Syntax.tyInt Syntax.w64) (Syntax.tcons (Syntax.tyInt Syntax.w64) (Syntax.tcons (Syntax.tyInt Syntax.w64) Syntax.tnil))))))) (List._∷_ (3, Rows.sslice (Referent.rtF (Referent.fInt Syntax.w8)) (Syntax.tyRef (Syntax.named 0) Syntax.imm (Syntax.tyInt Syntax.w8)) 0) (List._∷_ (4, Rows.sref (Array.Array (Referent.rtF (Referent.fInt Syntax.w32)) 32772) (Syntax.tyRef (Syntax.named 1) Syntax.imm (Syntax.tyArray (Syntax.tyInt Syntax.w32) 32772)) 1) (List._∷_ (5, Rows.mref (Array.Array (Referent.rtF (Referent.fInt Syntax.w8)) 16388) (Syntax.tyRef (Syntax.named 2) Syntax.mut (Syntax.tyArray (Syntax.tyInt Syntax.w8) 16388)) 2) (List._∷_ (6, Rows.mref (Array.Array (Referent.rtF (Referent.fInt Syntax.w32)) 65540) (Syntax.tyRef (Syntax.named 3) Syntax.mut (Syntax.tyArray (Syntax.tyInt Syntax.w32) 65540)) 3) (List._∷_ (7, Rows.mref (Array.Array (Referent.rtF (Referent.fInt Syntax.w32)) 32772) (Syntax.tyRef (Syntax.named 4) Syntax.mut (Syntax.tyArray (Syntax.tyInt Syntax.w32) 32772)) 4) (List._∷_ (8, Rows.mref (Array.Array (Referent.rtF (Referent.fInt Syntax.w32)) 32772) (Syntax.tyRef (Syntax.named 5) Syntax.mut (Syntax.tyArray (Syntax.tyInt Syntax.w32) 32772)) 5) (List._∷_ (9, Rows.mref (Array.Array (Referent.rtF (Referent.fInt Syntax.w32)) 262160) (Syntax.tyRef (Syntax.named 6) Syntax.mut (Syntax.tyArray (Syntax.tyInt Syntax.w32) 262160)) 6) (List._∷_ (10, Rows.mref (Array.Array (Referent.rtF (Referent.fInt Syntax.w8)) 600000) (Syntax.tyRef (Syntax.named 7) Syntax.mut (Syntax.tyArray (Syntax.tyInt Syntax.w8) 600000)) 7) (List._∷_ (11, Rows.mref (Array.Array Cell.R 65540) (Syntax.tyRef (Syntax.named 8) Syntax.mut (Syntax.tyArray Cell.behind 65540)) 8) (List._∷_ (12, Rows.mref (Array.Array Cell.R 32772) (Syntax.tyRef (Syntax.named 9) Syntax.mut (Syntax.tyArray Cell.behind 32772)) 9) (List._∷_ (13, Rows.sc-here Row.sBool) (List._∷_ (14, Rows.any-gone Syntax.tyBool) (List._∷_ (15, Rows.any-gone Syntax.tyBool) List.[])))))))))))))))
 
 abbrev pub t39 : List.List Row.Entry
-t39 = List._∷_ (0, Rows.any-gone (Syntax.tyStruct (List._∷_ 122 (List._∷_ 111 (List._∷_ 110 (List._∷_ 101 (List._∷_ 115 (List._∷_ 58 (List._∷_ 58 (List._∷_ 104 (List._∷_ 101 (List._∷_ 108 (List._∷_ 100 (List._∷_ 58 (List._∷_ 58 (List._∷_ 72 (List._∷_ 101 (List._∷_ 108 (List._∷_ 100 List.[]))))))))))))))))) (Syntax.tcons (Syntax.tyStruct (List._∷_ 112 (List._∷_ 121 (List._∷_ 114 (List._∷_ 97 (List._∷_ 109 (List._∷_ 105 (List._∷_ 100 (List._∷_ 58 (List._∷_ 58 (List._∷_ 83 (List._∷_ 116 (List._∷_ 97 (List._∷_ 116 (List._∷_ 101 List.[])))))))))))))) (Syntax.tcons (Syntax.tyInt Syntax.w32) (Syntax.tcons (Syntax.tyInt Syntax.w32) (Syntax.tcons (Syntax.tyInt Syntax.w32) (Syntax.tcons (Syntax.tyArray (Syntax.tyInt Syntax.w32) 64) Syntax.tnil))))) (Syntax.tcons (Syntax.tyInt Syntax.w64) (Syntax.tcons (Syntax.tyInt Syntax.w64) (Syntax.tcons (Syntax.tyInt Syntax.w64) (Syntax.tcons (Syntax.tyInt Syntax.w64) (Syntax.tcons (Syntax.tyInt Syntax.w64) (Syntax.tcons (Syntax.tyInt Syntax.w64) (Syntax.tcons Syntax.tyBool Syntax.tnil)))))))))) (List._∷_ (1, Rows.whole (Declared.row Held.the-type)) (List._∷_ (2, Rows.whole (Declared.row Line.the-type)) (List._∷_ (3, Rows.sslice (Referent.rtF (Referent.fInt Syntax.w8)) (Syntax.tyRef (Syntax.named 0) Syntax.imm (Syntax.tyInt Syntax.w8)) 0) (List._∷_ (4, Rows.sref (Array.Array (Referent.rtF (Referent.fInt Syntax.w32)) 32772) (Syntax.tyRef (Syntax.named 1) Syntax.imm (Syntax.tyArray (Syntax.tyInt Syntax.w32) 32772)) 1) (List._∷_ (5, Rows.mref (Array.Array (Referent.rtF (Referent.fInt Syntax.w8)) 16388) (Syntax.tyRef (Syntax.named 2) Syntax.mut (Syntax.tyArray (Syntax.tyInt Syntax.w8) 16388)) 2) (List._∷_ (6, Rows.mref (Array.Array (Referent.rtF (Referent.fInt Syntax.w32)) 65540) (Syntax.tyRef (Syntax.named 3) Syntax.mut (Syntax.tyArray (Syntax.tyInt Syntax.w32) 65540)) 3) (List._∷_ (7, Rows.mref (Array.Array (Referent.rtF (Referent.fInt Syntax.w32)) 32772) (Syntax.tyRef (Syntax.named 4) Syntax.mut (Syntax.tyArray (Syntax.tyInt Syntax.w32) 32772)) 4) (List._∷_ (8, Rows.mref (Array.Array (Referent.rtF (Referent.fInt Syntax.w32)) 32772) (Syntax.tyRef (Syntax.named 5) Syntax.mut (Syntax.tyArray (Syntax.tyInt Syntax.w32) 32772)) 5) (List._∷_ (9, Rows.mref (Array.Array (Referent.rtF (Referent.fInt Syntax.w32)) 262160) (Syntax.tyRef (Syntax.named 6) Syntax.mut (Syntax.tyArray (Syntax.tyInt Syntax.w32) 262160)) 6) (List._∷_ (10, Rows.mref (Array.Array (Referent.rtF (Referent.fInt Syntax.w8)) 600000) (Syntax.tyRef (Syntax.named 7) Syntax.mut (Syntax.tyArray (Syntax.tyInt Syntax.w8) 600000)) 7) (List._∷_ (11, Rows.mref (Array.Array Cell.R 65540) (Syntax.tyRef (Syntax.named 8) Syntax.mut (Syntax.tyArray Cell.behind 65540)) 8) (List._∷_ (12, Frozen.held (Frozen.fz-open Syntax.erased 9 List.[] Row.off (AsSlice.fz-lent-sl Cell.R 32772 17))) (List._∷_ (13, Rows.any-gone Syntax.tyBool) (List._∷_ (14, Rows.any-gone Syntax.tyBool) (List._∷_ (15, Rows.any-gone Syntax.tyBool) List.[])))))))))))))))
+t39 = List._∷_ (0, Rows.any-gone (Syntax.tyStruct (List._∷_ 122 (List._∷_ 111 (List._∷_ 110 (List._∷_ 101 (List._∷_ 115 (List._∷_ 58 (List._∷_ 58 (List._∷_ 104 (List._∷_ 101 (List._∷_ 108 (List._∷_ 100 (List._∷_ 58 (List._∷_ 58 (List._∷_ 72 (List._∷_ 101 (List._∷_ 108 (List._∷_ 100 List.[]))))))))))))))))) (Syntax.tcons (Syntax.tyStruct (List._∷_ 112 (List._∷_ 121 (List._∷_ 114 (List._∷_ 97 (List._∷_ 109 (List._∷_ 105 (List._∷_ 100 (List._∷_ 58 (List._∷_ 58 (List._∷_ 83 (List._∷_ 116 (List._∷_ 97 (List._∷_ 116 (List._∷_ 101 List.[])))))))))))))) (Syntax.tcons (Syntax.tyInt Syntax.w32) (Syntax.tcons (Syntax.tyInt Syntax.w32) (Syntax.tcons (Syntax.tyInt Syntax.w32) (Syntax.tcons (Syntax.tyInt Syntax.w32) (Syntax.tcons (Syntax.tyInt Syntax.w32) (Syntax.tcons (Syntax.tyArray (Syntax.tyInt Syntax.w32) 64) Syntax.tnil))))))) (Syntax.tcons (Syntax.tyInt Syntax.w64) (Syntax.tcons (Syntax.tyInt Syntax.w64) (Syntax.tcons (Syntax.tyInt Syntax.w64) (Syntax.tcons (Syntax.tyInt Syntax.w64) (Syntax.tcons (Syntax.tyInt Syntax.w64) (Syntax.tcons (Syntax.tyInt Syntax.w64) (Syntax.tcons Syntax.tyBool Syntax.tnil)))))))))) (List._∷_ (1, Rows.whole (Declared.row Held.the-type)) (List._∷_ (2, Rows.whole (Declared.row Line.the-type)) (List._∷_ (3, Rows.sslice (Referent.rtF (Referent.fInt Syntax.w8)) (Syntax.tyRef (Syntax.named 0) Syntax.imm (Syntax.tyInt Syntax.w8)) 0) (List._∷_ (4, Rows.sref (Array.Array (Referent.rtF (Referent.fInt Syntax.w32)) 32772) (Syntax.tyRef (Syntax.named 1) Syntax.imm (Syntax.tyArray (Syntax.tyInt Syntax.w32) 32772)) 1) (List._∷_ (5, Rows.mref (Array.Array (Referent.rtF (Referent.fInt Syntax.w8)) 16388) (Syntax.tyRef (Syntax.named 2) Syntax.mut (Syntax.tyArray (Syntax.tyInt Syntax.w8) 16388)) 2) (List._∷_ (6, Rows.mref (Array.Array (Referent.rtF (Referent.fInt Syntax.w32)) 65540) (Syntax.tyRef (Syntax.named 3) Syntax.mut (Syntax.tyArray (Syntax.tyInt Syntax.w32) 65540)) 3) (List._∷_ (7, Rows.mref (Array.Array (Referent.rtF (Referent.fInt Syntax.w32)) 32772) (Syntax.tyRef (Syntax.named 4) Syntax.mut (Syntax.tyArray (Syntax.tyInt Syntax.w32) 32772)) 4) (List._∷_ (8, Rows.mref (Array.Array (Referent.rtF (Referent.fInt Syntax.w32)) 32772) (Syntax.tyRef (Syntax.named 5) Syntax.mut (Syntax.tyArray (Syntax.tyInt Syntax.w32) 32772)) 5) (List._∷_ (9, Rows.mref (Array.Array (Referent.rtF (Referent.fInt Syntax.w32)) 262160) (Syntax.tyRef (Syntax.named 6) Syntax.mut (Syntax.tyArray (Syntax.tyInt Syntax.w32) 262160)) 6) (List._∷_ (10, Rows.mref (Array.Array (Referent.rtF (Referent.fInt Syntax.w8)) 600000) (Syntax.tyRef (Syntax.named 7) Syntax.mut (Syntax.tyArray (Syntax.tyInt Syntax.w8) 600000)) 7) (List._∷_ (11, Rows.mref (Array.Array Cell.R 65540) (Syntax.tyRef (Syntax.named 8) Syntax.mut (Syntax.tyArray Cell.behind 65540)) 8) (List._∷_ (12, Frozen.held (Frozen.fz-open Syntax.erased 9 List.[] Row.off (AsSlice.fz-lent-sl Cell.R 32772 17))) (List._∷_ (13, Rows.any-gone Syntax.tyBool) (List._∷_ (14, Rows.any-gone Syntax.tyBool) (List._∷_ (15, Rows.any-gone Syntax.tyBool) List.[])))))))))))))))
 
 abbrev pub t40 : List.List Row.Entry
 t40 = List._∷_ (16, Rows.any-gone (Syntax.tyRef Syntax.erased Syntax.mut (Syntax.tyArray (Syntax.tyInt Syntax.w8) 16388))) (List._∷_ (17, Rows.any-gone (Syntax.tyRef Syntax.erased Syntax.mut (Syntax.tyArray (Syntax.tyInt Syntax.w32) 65540))) (List._∷_ (18, Rows.any-gone (Syntax.tyRef Syntax.erased Syntax.mut (Syntax.tyArray (Syntax.tyInt Syntax.w32) 32772))) (List._∷_ (19, Rows.any-gone (Syntax.tyRef Syntax.erased Syntax.mut (Syntax.tyArray (Syntax.tyInt Syntax.w32) 32772))) (List._∷_ (20, Rows.any-gone (Syntax.tyRef Syntax.erased Syntax.mut (Syntax.tyArray (Syntax.tyInt Syntax.w32) 262160))) (List._∷_ (21, Rows.any-gone (Syntax.tyRef Syntax.erased Syntax.mut (Syntax.tyArray (Syntax.tyInt Syntax.w8) 600000))) (List._∷_ (22, Rows.any-gone (Syntax.tyRef Syntax.erased Syntax.mut Cell.behind)) (List._∷_ (23, Rows.any-gone (Syntax.tyStruct (List._∷_ 38 (List._∷_ 91 (List._∷_ 93 List.[]))) (Syntax.tcons (Syntax.tyRef Syntax.erased Syntax.mut Cell.behind) (Syntax.tcons (Syntax.tyInt Syntax.w64) Syntax.tnil)))) (List._∷_ (24, Relend.msptr Cell.R (Syntax.tyRef Syntax.erased Syntax.mut Cell.behind) 17) (List._∷_ (25, Rows.any-gone (Syntax.tyStruct (List._∷_ 38 (List._∷_ 91 (List._∷_ 93 List.[]))) (Syntax.tcons (Syntax.tyRef Syntax.erased Syntax.mut Cell.behind) (Syntax.tcons (Syntax.tyInt Syntax.w64) Syntax.tnil)))) (List._∷_ (26, Rows.any-gone (Syntax.tyRef Syntax.erased Syntax.mut (Syntax.tyArray (Syntax.tyInt Syntax.w32) 65540))) (List._∷_ (27, Rows.any-gone (Syntax.tyRef Syntax.erased Syntax.mut (Syntax.tyArray (Syntax.tyInt Syntax.w32) 32772))) (List._∷_ (28, Rows.any-gone (Syntax.tyRef Syntax.erased Syntax.mut (Syntax.tyArray (Syntax.tyInt Syntax.w32) 262160))) (List._∷_ (29, Rows.any-gone (Syntax.tyRef Syntax.erased Syntax.imm (Syntax.tyArray (Syntax.tyInt Syntax.w8) 600000))) (List._∷_ (30, Rows.any-gone (Syntax.tyRef Syntax.erased Syntax.mut (Syntax.tyArray Cell.behind 65540))) (List._∷_ (31, Rows.any-gone (Syntax.tyRef Syntax.erased Syntax.mut (Syntax.tyArray Cell.behind 32772))) List.[])))))))))))))))
@@ -419,55 +419,55 @@ abbrev pub t41 : List.List Row.Entry
 t41 = List._∷_ (16, Rows.any-gone (Syntax.tyRef Syntax.erased Syntax.mut (Syntax.tyArray (Syntax.tyInt Syntax.w8) 16388))) (List._∷_ (17, Rows.any-gone (Syntax.tyRef Syntax.erased Syntax.mut (Syntax.tyArray (Syntax.tyInt Syntax.w32) 65540))) (List._∷_ (18, Rows.any-gone (Syntax.tyRef Syntax.erased Syntax.mut (Syntax.tyArray (Syntax.tyInt Syntax.w32) 32772))) (List._∷_ (19, Rows.any-gone (Syntax.tyRef Syntax.erased Syntax.mut (Syntax.tyArray (Syntax.tyInt Syntax.w32) 32772))) (List._∷_ (20, Rows.any-gone (Syntax.tyRef Syntax.erased Syntax.mut (Syntax.tyArray (Syntax.tyInt Syntax.w32) 262160))) (List._∷_ (21, Rows.any-gone (Syntax.tyRef Syntax.erased Syntax.mut (Syntax.tyArray (Syntax.tyInt Syntax.w8) 600000))) (List._∷_ (22, Rows.any-gone (Syntax.tyRef Syntax.erased Syntax.mut Cell.behind)) (List._∷_ (23, Rows.any-gone (Syntax.tyStruct (List._∷_ 38 (List._∷_ 91 (List._∷_ 93 List.[]))) (Syntax.tcons (Syntax.tyRef Syntax.erased Syntax.mut Cell.behind) (Syntax.tcons (Syntax.tyInt Syntax.w64) Syntax.tnil)))) (List._∷_ (24, Rows.any-gone (Syntax.tyRef Syntax.erased Syntax.mut Cell.behind)) (List._∷_ (25, Mut.mslice Cell.R (Syntax.tyRef Syntax.erased Syntax.mut Cell.behind) 17) (List._∷_ (26, Rows.any-gone (Syntax.tyRef Syntax.erased Syntax.mut (Syntax.tyArray (Syntax.tyInt Syntax.w32) 65540))) (List._∷_ (27, Rows.any-gone (Syntax.tyRef Syntax.erased Syntax.mut (Syntax.tyArray (Syntax.tyInt Syntax.w32) 32772))) (List._∷_ (28, Rows.any-gone (Syntax.tyRef Syntax.erased Syntax.mut (Syntax.tyArray (Syntax.tyInt Syntax.w32) 262160))) (List._∷_ (29, Rows.any-gone (Syntax.tyRef Syntax.erased Syntax.imm (Syntax.tyArray (Syntax.tyInt Syntax.w8) 600000))) (List._∷_ (30, Rows.any-gone (Syntax.tyRef Syntax.erased Syntax.mut (Syntax.tyArray Cell.behind 65540))) (List._∷_ (31, Rows.any-gone (Syntax.tyRef Syntax.erased Syntax.mut (Syntax.tyArray Cell.behind 32772))) List.[])))))))))))))))
 
 abbrev pub t42 : List.List Row.Entry
-t42 = List._∷_ (0, Rows.any-gone (Syntax.tyStruct (List._∷_ 122 (List._∷_ 111 (List._∷_ 110 (List._∷_ 101 (List._∷_ 115 (List._∷_ 58 (List._∷_ 58 (List._∷_ 104 (List._∷_ 101 (List._∷_ 108 (List._∷_ 100 (List._∷_ 58 (List._∷_ 58 (List._∷_ 72 (List._∷_ 101 (List._∷_ 108 (List._∷_ 100 List.[]))))))))))))))))) (Syntax.tcons (Syntax.tyStruct (List._∷_ 112 (List._∷_ 121 (List._∷_ 114 (List._∷_ 97 (List._∷_ 109 (List._∷_ 105 (List._∷_ 100 (List._∷_ 58 (List._∷_ 58 (List._∷_ 83 (List._∷_ 116 (List._∷_ 97 (List._∷_ 116 (List._∷_ 101 List.[])))))))))))))) (Syntax.tcons (Syntax.tyInt Syntax.w32) (Syntax.tcons (Syntax.tyInt Syntax.w32) (Syntax.tcons (Syntax.tyInt Syntax.w32) (Syntax.tcons (Syntax.tyArray (Syntax.tyInt Syntax.w32) 64) Syntax.tnil))))) (Syntax.tcons (Syntax.tyInt Syntax.w64) (Syntax.tcons (Syntax.tyInt Syntax.w64) (Syntax.tcons (Syntax.tyInt Syntax.w64) (Syntax.tcons (Syntax.tyInt Syntax.w64) (Syntax.tcons (Syntax.tyInt Syntax.w64) (Syntax.tcons (Syntax.tyInt Syntax.w64) (Syntax.tcons Syntax.tyBool Syntax.tnil)))))))))) (List._∷_ (1, Rows.whole (Declared.row Held.the-type)) (List._∷_ (2, Rows.whole (Declared.row Line.the-type)) (List._∷_ (3, Rows.sslice (Referent.rtF (Referent.fInt Syntax.w8)) (Syntax.tyRef (Syntax.named 0) Syntax.imm (Syntax.tyInt Syntax.w8)) 0) (List._∷_ (4, Rows.sref (Array.Array (Referent.rtF (Referent.fInt Syntax.w32)) 32772) (Syntax.tyRef (Syntax.named 1) Syntax.imm (Syntax.tyArray (Syntax.tyInt Syntax.w32) 32772)) 1) (List._∷_ (5, Rows.mref (Array.Array (Referent.rtF (Referent.fInt Syntax.w8)) 16388) (Syntax.tyRef (Syntax.named 2) Syntax.mut (Syntax.tyArray (Syntax.tyInt Syntax.w8) 16388)) 2) (List._∷_ (6, Rows.mref (Array.Array (Referent.rtF (Referent.fInt Syntax.w32)) 65540) (Syntax.tyRef (Syntax.named 3) Syntax.mut (Syntax.tyArray (Syntax.tyInt Syntax.w32) 65540)) 3) (List._∷_ (7, Rows.mref (Array.Array (Referent.rtF (Referent.fInt Syntax.w32)) 32772) (Syntax.tyRef (Syntax.named 4) Syntax.mut (Syntax.tyArray (Syntax.tyInt Syntax.w32) 32772)) 4) (List._∷_ (8, Rows.mref (Array.Array (Referent.rtF (Referent.fInt Syntax.w32)) 32772) (Syntax.tyRef (Syntax.named 5) Syntax.mut (Syntax.tyArray (Syntax.tyInt Syntax.w32) 32772)) 5) (List._∷_ (9, Rows.mref (Array.Array (Referent.rtF (Referent.fInt Syntax.w32)) 262160) (Syntax.tyRef (Syntax.named 6) Syntax.mut (Syntax.tyArray (Syntax.tyInt Syntax.w32) 262160)) 6) (List._∷_ (10, Rows.mref (Array.Array (Referent.rtF (Referent.fInt Syntax.w8)) 600000) (Syntax.tyRef (Syntax.named 7) Syntax.mut (Syntax.tyArray (Syntax.tyInt Syntax.w8) 600000)) 7) (List._∷_ (11, Rows.mref (Array.Array Cell.R 65540) (Syntax.tyRef (Syntax.named 8) Syntax.mut (Syntax.tyArray Cell.behind 65540)) 8) (List._∷_ (12, Frozen.held (Frozen.fz-open Syntax.erased 9 List.[] Row.off (AsSlice.fz-lent-sl Cell.R 32772 17))) (List._∷_ (13, Rows.any-gone Syntax.tyBool) (List._∷_ (14, Rows.sc-here Row.sBool) (List._∷_ (15, Rows.any-gone Syntax.tyBool) List.[])))))))))))))))
+t42 = List._∷_ (0, Rows.any-gone (Syntax.tyStruct (List._∷_ 122 (List._∷_ 111 (List._∷_ 110 (List._∷_ 101 (List._∷_ 115 (List._∷_ 58 (List._∷_ 58 (List._∷_ 104 (List._∷_ 101 (List._∷_ 108 (List._∷_ 100 (List._∷_ 58 (List._∷_ 58 (List._∷_ 72 (List._∷_ 101 (List._∷_ 108 (List._∷_ 100 List.[]))))))))))))))))) (Syntax.tcons (Syntax.tyStruct (List._∷_ 112 (List._∷_ 121 (List._∷_ 114 (List._∷_ 97 (List._∷_ 109 (List._∷_ 105 (List._∷_ 100 (List._∷_ 58 (List._∷_ 58 (List._∷_ 83 (List._∷_ 116 (List._∷_ 97 (List._∷_ 116 (List._∷_ 101 List.[])))))))))))))) (Syntax.tcons (Syntax.tyInt Syntax.w32) (Syntax.tcons (Syntax.tyInt Syntax.w32) (Syntax.tcons (Syntax.tyInt Syntax.w32) (Syntax.tcons (Syntax.tyInt Syntax.w32) (Syntax.tcons (Syntax.tyInt Syntax.w32) (Syntax.tcons (Syntax.tyArray (Syntax.tyInt Syntax.w32) 64) Syntax.tnil))))))) (Syntax.tcons (Syntax.tyInt Syntax.w64) (Syntax.tcons (Syntax.tyInt Syntax.w64) (Syntax.tcons (Syntax.tyInt Syntax.w64) (Syntax.tcons (Syntax.tyInt Syntax.w64) (Syntax.tcons (Syntax.tyInt Syntax.w64) (Syntax.tcons (Syntax.tyInt Syntax.w64) (Syntax.tcons Syntax.tyBool Syntax.tnil)))))))))) (List._∷_ (1, Rows.whole (Declared.row Held.the-type)) (List._∷_ (2, Rows.whole (Declared.row Line.the-type)) (List._∷_ (3, Rows.sslice (Referent.rtF (Referent.fInt Syntax.w8)) (Syntax.tyRef (Syntax.named 0) Syntax.imm (Syntax.tyInt Syntax.w8)) 0) (List._∷_ (4, Rows.sref (Array.Array (Referent.rtF (Referent.fInt Syntax.w32)) 32772) (Syntax.tyRef (Syntax.named 1) Syntax.imm (Syntax.tyArray (Syntax.tyInt Syntax.w32) 32772)) 1) (List._∷_ (5, Rows.mref (Array.Array (Referent.rtF (Referent.fInt Syntax.w8)) 16388) (Syntax.tyRef (Syntax.named 2) Syntax.mut (Syntax.tyArray (Syntax.tyInt Syntax.w8) 16388)) 2) (List._∷_ (6, Rows.mref (Array.Array (Referent.rtF (Referent.fInt Syntax.w32)) 65540) (Syntax.tyRef (Syntax.named 3) Syntax.mut (Syntax.tyArray (Syntax.tyInt Syntax.w32) 65540)) 3) (List._∷_ (7, Rows.mref (Array.Array (Referent.rtF (Referent.fInt Syntax.w32)) 32772) (Syntax.tyRef (Syntax.named 4) Syntax.mut (Syntax.tyArray (Syntax.tyInt Syntax.w32) 32772)) 4) (List._∷_ (8, Rows.mref (Array.Array (Referent.rtF (Referent.fInt Syntax.w32)) 32772) (Syntax.tyRef (Syntax.named 5) Syntax.mut (Syntax.tyArray (Syntax.tyInt Syntax.w32) 32772)) 5) (List._∷_ (9, Rows.mref (Array.Array (Referent.rtF (Referent.fInt Syntax.w32)) 262160) (Syntax.tyRef (Syntax.named 6) Syntax.mut (Syntax.tyArray (Syntax.tyInt Syntax.w32) 262160)) 6) (List._∷_ (10, Rows.mref (Array.Array (Referent.rtF (Referent.fInt Syntax.w8)) 600000) (Syntax.tyRef (Syntax.named 7) Syntax.mut (Syntax.tyArray (Syntax.tyInt Syntax.w8) 600000)) 7) (List._∷_ (11, Rows.mref (Array.Array Cell.R 65540) (Syntax.tyRef (Syntax.named 8) Syntax.mut (Syntax.tyArray Cell.behind 65540)) 8) (List._∷_ (12, Frozen.held (Frozen.fz-open Syntax.erased 9 List.[] Row.off (AsSlice.fz-lent-sl Cell.R 32772 17))) (List._∷_ (13, Rows.any-gone Syntax.tyBool) (List._∷_ (14, Rows.sc-here Row.sBool) (List._∷_ (15, Rows.any-gone Syntax.tyBool) List.[])))))))))))))))
 
 abbrev pub t43 : List.List Row.Entry
 t43 = List._∷_ (16, Rows.any-gone (Syntax.tyRef Syntax.erased Syntax.mut (Syntax.tyArray (Syntax.tyInt Syntax.w8) 16388))) (List._∷_ (17, Rows.any-gone (Syntax.tyRef Syntax.erased Syntax.mut (Syntax.tyArray (Syntax.tyInt Syntax.w32) 65540))) (List._∷_ (18, Rows.any-gone (Syntax.tyRef Syntax.erased Syntax.mut (Syntax.tyArray (Syntax.tyInt Syntax.w32) 32772))) (List._∷_ (19, Rows.any-gone (Syntax.tyRef Syntax.erased Syntax.mut (Syntax.tyArray (Syntax.tyInt Syntax.w32) 32772))) (List._∷_ (20, Rows.any-gone (Syntax.tyRef Syntax.erased Syntax.mut (Syntax.tyArray (Syntax.tyInt Syntax.w32) 262160))) (List._∷_ (21, Rows.any-gone (Syntax.tyRef Syntax.erased Syntax.mut (Syntax.tyArray (Syntax.tyInt Syntax.w8) 600000))) (List._∷_ (22, Rows.any-gone (Syntax.tyRef Syntax.erased Syntax.mut Cell.behind)) (List._∷_ (23, Rows.any-gone (Syntax.tyStruct (List._∷_ 38 (List._∷_ 91 (List._∷_ 93 List.[]))) (Syntax.tcons (Syntax.tyRef Syntax.erased Syntax.mut Cell.behind) (Syntax.tcons (Syntax.tyInt Syntax.w64) Syntax.tnil)))) (List._∷_ (24, Rows.any-gone (Syntax.tyRef Syntax.erased Syntax.mut Cell.behind)) (List._∷_ (25, Mut.msleft Cell.R (Syntax.tyRef Syntax.erased Syntax.mut Cell.behind)) (List._∷_ (26, Rows.any-gone (Syntax.tyRef Syntax.erased Syntax.mut (Syntax.tyArray (Syntax.tyInt Syntax.w32) 65540))) (List._∷_ (27, Rows.any-gone (Syntax.tyRef Syntax.erased Syntax.mut (Syntax.tyArray (Syntax.tyInt Syntax.w32) 32772))) (List._∷_ (28, Rows.any-gone (Syntax.tyRef Syntax.erased Syntax.mut (Syntax.tyArray (Syntax.tyInt Syntax.w32) 262160))) (List._∷_ (29, Rows.any-gone (Syntax.tyRef Syntax.erased Syntax.imm (Syntax.tyArray (Syntax.tyInt Syntax.w8) 600000))) (List._∷_ (30, Rows.any-gone (Syntax.tyRef Syntax.erased Syntax.mut (Syntax.tyArray Cell.behind 65540))) (List._∷_ (31, Rows.any-gone (Syntax.tyRef Syntax.erased Syntax.mut (Syntax.tyArray Cell.behind 32772))) List.[])))))))))))))))
 
 abbrev pub t44 : List.List Row.Entry
-t44 = List._∷_ (0, Rows.any-gone (Syntax.tyStruct (List._∷_ 122 (List._∷_ 111 (List._∷_ 110 (List._∷_ 101 (List._∷_ 115 (List._∷_ 58 (List._∷_ 58 (List._∷_ 104 (List._∷_ 101 (List._∷_ 108 (List._∷_ 100 (List._∷_ 58 (List._∷_ 58 (List._∷_ 72 (List._∷_ 101 (List._∷_ 108 (List._∷_ 100 List.[]))))))))))))))))) (Syntax.tcons (Syntax.tyStruct (List._∷_ 112 (List._∷_ 121 (List._∷_ 114 (List._∷_ 97 (List._∷_ 109 (List._∷_ 105 (List._∷_ 100 (List._∷_ 58 (List._∷_ 58 (List._∷_ 83 (List._∷_ 116 (List._∷_ 97 (List._∷_ 116 (List._∷_ 101 List.[])))))))))))))) (Syntax.tcons (Syntax.tyInt Syntax.w32) (Syntax.tcons (Syntax.tyInt Syntax.w32) (Syntax.tcons (Syntax.tyInt Syntax.w32) (Syntax.tcons (Syntax.tyArray (Syntax.tyInt Syntax.w32) 64) Syntax.tnil))))) (Syntax.tcons (Syntax.tyInt Syntax.w64) (Syntax.tcons (Syntax.tyInt Syntax.w64) (Syntax.tcons (Syntax.tyInt Syntax.w64) (Syntax.tcons (Syntax.tyInt Syntax.w64) (Syntax.tcons (Syntax.tyInt Syntax.w64) (Syntax.tcons (Syntax.tyInt Syntax.w64) (Syntax.tcons Syntax.tyBool Syntax.tnil)))))))))) (List._∷_ (1, Rows.whole (Declared.row Held.the-type)) (List._∷_ (2, Rows.any-gone (Syntax.tyStruct (List._∷_ 122 (List._∷_ 111 (List._∷_ 110 (List._∷_ 101 (List._∷_ 115 (List._∷_ 58 (List._∷_ 58 (List._∷_ 115 (List._∷_ 99 (List._∷_ 97 (List._∷_ 110 (List._∷_ 58 (List._∷_ 58 (List._∷_ 76 (List._∷_ 105 (List._∷_ 110 (List._∷_ 101 List.[]))))))))))))))))) (Syntax.tcons (Syntax.tyInt Syntax.w32) (Syntax.tcons (Syntax.tyInt Syntax.w64) (Syntax.tcons (Syntax.tyInt Syntax.w64) (Syntax.tcons (Syntax.tyInt Syntax.w64) (Syntax.tcons (Syntax.tyInt Syntax.w64) Syntax.tnil))))))) (List._∷_ (3, Rows.sslice (Referent.rtF (Referent.fInt Syntax.w8)) (Syntax.tyRef (Syntax.named 0) Syntax.imm (Syntax.tyInt Syntax.w8)) 0) (List._∷_ (4, Rows.sref (Array.Array (Referent.rtF (Referent.fInt Syntax.w32)) 32772) (Syntax.tyRef (Syntax.named 1) Syntax.imm (Syntax.tyArray (Syntax.tyInt Syntax.w32) 32772)) 1) (List._∷_ (5, Rows.mref (Array.Array (Referent.rtF (Referent.fInt Syntax.w8)) 16388) (Syntax.tyRef (Syntax.named 2) Syntax.mut (Syntax.tyArray (Syntax.tyInt Syntax.w8) 16388)) 2) (List._∷_ (6, Rows.mref (Array.Array (Referent.rtF (Referent.fInt Syntax.w32)) 65540) (Syntax.tyRef (Syntax.named 3) Syntax.mut (Syntax.tyArray (Syntax.tyInt Syntax.w32) 65540)) 3) (List._∷_ (7, Rows.mref (Array.Array (Referent.rtF (Referent.fInt Syntax.w32)) 32772) (Syntax.tyRef (Syntax.named 4) Syntax.mut (Syntax.tyArray (Syntax.tyInt Syntax.w32) 32772)) 4) (List._∷_ (8, Rows.mref (Array.Array (Referent.rtF (Referent.fInt Syntax.w32)) 32772) (Syntax.tyRef (Syntax.named 5) Syntax.mut (Syntax.tyArray (Syntax.tyInt Syntax.w32) 32772)) 5) (List._∷_ (9, Rows.mref (Array.Array (Referent.rtF (Referent.fInt Syntax.w32)) 262160) (Syntax.tyRef (Syntax.named 6) Syntax.mut (Syntax.tyArray (Syntax.tyInt Syntax.w32) 262160)) 6) (List._∷_ (10, Rows.mref (Array.Array (Referent.rtF (Referent.fInt Syntax.w8)) 600000) (Syntax.tyRef (Syntax.named 7) Syntax.mut (Syntax.tyArray (Syntax.tyInt Syntax.w8) 600000)) 7) (List._∷_ (11, Rows.mref (Array.Array Cell.R 65540) (Syntax.tyRef (Syntax.named 8) Syntax.mut (Syntax.tyArray Cell.behind 65540)) 8) (List._∷_ (12, Frozen.held (Frozen.fz-open Syntax.erased 9 List.[] Row.off (AsSlice.fz-lent-sl Cell.R 32772 17))) (List._∷_ (13, Rows.any-gone Syntax.tyBool) (List._∷_ (14, Rows.sc-here Row.sBool) (List._∷_ (15, Rows.any-gone Syntax.tyBool) List.[])))))))))))))))
+t44 = List._∷_ (0, Rows.any-gone (Syntax.tyStruct (List._∷_ 122 (List._∷_ 111 (List._∷_ 110 (List._∷_ 101 (List._∷_ 115 (List._∷_ 58 (List._∷_ 58 (List._∷_ 104 (List._∷_ 101 (List._∷_ 108 (List._∷_ 100 (List._∷_ 58 (List._∷_ 58 (List._∷_ 72 (List._∷_ 101 (List._∷_ 108 (List._∷_ 100 List.[]))))))))))))))))) (Syntax.tcons (Syntax.tyStruct (List._∷_ 112 (List._∷_ 121 (List._∷_ 114 (List._∷_ 97 (List._∷_ 109 (List._∷_ 105 (List._∷_ 100 (List._∷_ 58 (List._∷_ 58 (List._∷_ 83 (List._∷_ 116 (List._∷_ 97 (List._∷_ 116 (List._∷_ 101 List.[])))))))))))))) (Syntax.tcons (Syntax.tyInt Syntax.w32) (Syntax.tcons (Syntax.tyInt Syntax.w32) (Syntax.tcons (Syntax.tyInt Syntax.w32) (Syntax.tcons (Syntax.tyInt Syntax.w32) (Syntax.tcons (Syntax.tyInt Syntax.w32) (Syntax.tcons (Syntax.tyArray (Syntax.tyInt Syntax.w32) 64) Syntax.tnil))))))) (Syntax.tcons (Syntax.tyInt Syntax.w64) (Syntax.tcons (Syntax.tyInt Syntax.w64) (Syntax.tcons (Syntax.tyInt Syntax.w64) (Syntax.tcons (Syntax.tyInt Syntax.w64) (Syntax.tcons (Syntax.tyInt Syntax.w64) (Syntax.tcons (Syntax.tyInt Syntax.w64) (Syntax.tcons Syntax.tyBool Syntax.tnil)))))))))) (List._∷_ (1, Rows.whole (Declared.row Held.the-type)) (List._∷_ (2, Rows.any-gone (Syntax.tyStruct (List._∷_ 122 (List._∷_ 111 (List._∷_ 110 (List._∷_ 101 (List._∷_ 115 (List._∷_ 58 (List._∷_ 58 (List._∷_ 115 (List._∷_ 99 (List._∷_ 97 (List._∷_ 110 (List._∷_ 58 (List._∷_ 58 (List._∷_ 76 (List._∷_ 105 (List._∷_ 110 (List._∷_ 101 List.[]))))))))))))))))) (Syntax.tcons (Syntax.tyInt Syntax.w32) (Syntax.tcons (Syntax.tyInt Syntax.w64) (Syntax.tcons (Syntax.tyInt Syntax.w64) (Syntax.tcons (Syntax.tyInt Syntax.w64) (Syntax.tcons (Syntax.tyInt Syntax.w64) Syntax.tnil))))))) (List._∷_ (3, Rows.sslice (Referent.rtF (Referent.fInt Syntax.w8)) (Syntax.tyRef (Syntax.named 0) Syntax.imm (Syntax.tyInt Syntax.w8)) 0) (List._∷_ (4, Rows.sref (Array.Array (Referent.rtF (Referent.fInt Syntax.w32)) 32772) (Syntax.tyRef (Syntax.named 1) Syntax.imm (Syntax.tyArray (Syntax.tyInt Syntax.w32) 32772)) 1) (List._∷_ (5, Rows.mref (Array.Array (Referent.rtF (Referent.fInt Syntax.w8)) 16388) (Syntax.tyRef (Syntax.named 2) Syntax.mut (Syntax.tyArray (Syntax.tyInt Syntax.w8) 16388)) 2) (List._∷_ (6, Rows.mref (Array.Array (Referent.rtF (Referent.fInt Syntax.w32)) 65540) (Syntax.tyRef (Syntax.named 3) Syntax.mut (Syntax.tyArray (Syntax.tyInt Syntax.w32) 65540)) 3) (List._∷_ (7, Rows.mref (Array.Array (Referent.rtF (Referent.fInt Syntax.w32)) 32772) (Syntax.tyRef (Syntax.named 4) Syntax.mut (Syntax.tyArray (Syntax.tyInt Syntax.w32) 32772)) 4) (List._∷_ (8, Rows.mref (Array.Array (Referent.rtF (Referent.fInt Syntax.w32)) 32772) (Syntax.tyRef (Syntax.named 5) Syntax.mut (Syntax.tyArray (Syntax.tyInt Syntax.w32) 32772)) 5) (List._∷_ (9, Rows.mref (Array.Array (Referent.rtF (Referent.fInt Syntax.w32)) 262160) (Syntax.tyRef (Syntax.named 6) Syntax.mut (Syntax.tyArray (Syntax.tyInt Syntax.w32) 262160)) 6) (List._∷_ (10, Rows.mref (Array.Array (Referent.rtF (Referent.fInt Syntax.w8)) 600000) (Syntax.tyRef (Syntax.named 7) Syntax.mut (Syntax.tyArray (Syntax.tyInt Syntax.w8) 600000)) 7) (List._∷_ (11, Rows.mref (Array.Array Cell.R 65540) (Syntax.tyRef (Syntax.named 8) Syntax.mut (Syntax.tyArray Cell.behind 65540)) 8) (List._∷_ (12, Frozen.held (Frozen.fz-open Syntax.erased 9 List.[] Row.off (AsSlice.fz-lent-sl Cell.R 32772 17))) (List._∷_ (13, Rows.any-gone Syntax.tyBool) (List._∷_ (14, Rows.sc-here Row.sBool) (List._∷_ (15, Rows.any-gone Syntax.tyBool) List.[])))))))))))))))
 
 abbrev pub t45 : List.List Row.Entry
-t45 = List._∷_ (0, Rows.any-gone (Syntax.tyStruct (List._∷_ 122 (List._∷_ 111 (List._∷_ 110 (List._∷_ 101 (List._∷_ 115 (List._∷_ 58 (List._∷_ 58 (List._∷_ 104 (List._∷_ 101 (List._∷_ 108 (List._∷_ 100 (List._∷_ 58 (List._∷_ 58 (List._∷_ 72 (List._∷_ 101 (List._∷_ 108 (List._∷_ 100 List.[]))))))))))))))))) (Syntax.tcons (Syntax.tyStruct (List._∷_ 112 (List._∷_ 121 (List._∷_ 114 (List._∷_ 97 (List._∷_ 109 (List._∷_ 105 (List._∷_ 100 (List._∷_ 58 (List._∷_ 58 (List._∷_ 83 (List._∷_ 116 (List._∷_ 97 (List._∷_ 116 (List._∷_ 101 List.[])))))))))))))) (Syntax.tcons (Syntax.tyInt Syntax.w32) (Syntax.tcons (Syntax.tyInt Syntax.w32) (Syntax.tcons (Syntax.tyInt Syntax.w32) (Syntax.tcons (Syntax.tyArray (Syntax.tyInt Syntax.w32) 64) Syntax.tnil))))) (Syntax.tcons (Syntax.tyInt Syntax.w64) (Syntax.tcons (Syntax.tyInt Syntax.w64) (Syntax.tcons (Syntax.tyInt Syntax.w64) (Syntax.tcons (Syntax.tyInt Syntax.w64) (Syntax.tcons (Syntax.tyInt Syntax.w64) (Syntax.tcons (Syntax.tyInt Syntax.w64) (Syntax.tcons Syntax.tyBool Syntax.tnil)))))))))) (List._∷_ (1, Rows.whole (Declared.row Held.the-type)) (List._∷_ (2, Rows.any-gone (Syntax.tyStruct (List._∷_ 122 (List._∷_ 111 (List._∷_ 110 (List._∷_ 101 (List._∷_ 115 (List._∷_ 58 (List._∷_ 58 (List._∷_ 115 (List._∷_ 99 (List._∷_ 97 (List._∷_ 110 (List._∷_ 58 (List._∷_ 58 (List._∷_ 76 (List._∷_ 105 (List._∷_ 110 (List._∷_ 101 List.[]))))))))))))))))) (Syntax.tcons (Syntax.tyInt Syntax.w32) (Syntax.tcons (Syntax.tyInt Syntax.w64) (Syntax.tcons (Syntax.tyInt Syntax.w64) (Syntax.tcons (Syntax.tyInt Syntax.w64) (Syntax.tcons (Syntax.tyInt Syntax.w64) Syntax.tnil))))))) (List._∷_ (3, Rows.sslice (Referent.rtF (Referent.fInt Syntax.w8)) (Syntax.tyRef (Syntax.named 0) Syntax.imm (Syntax.tyInt Syntax.w8)) 0) (List._∷_ (4, Rows.sref (Array.Array (Referent.rtF (Referent.fInt Syntax.w32)) 32772) (Syntax.tyRef (Syntax.named 1) Syntax.imm (Syntax.tyArray (Syntax.tyInt Syntax.w32) 32772)) 1) (List._∷_ (5, Rows.mref (Array.Array (Referent.rtF (Referent.fInt Syntax.w8)) 16388) (Syntax.tyRef (Syntax.named 2) Syntax.mut (Syntax.tyArray (Syntax.tyInt Syntax.w8) 16388)) 2) (List._∷_ (6, Rows.mref (Array.Array (Referent.rtF (Referent.fInt Syntax.w32)) 65540) (Syntax.tyRef (Syntax.named 3) Syntax.mut (Syntax.tyArray (Syntax.tyInt Syntax.w32) 65540)) 3) (List._∷_ (7, Rows.mref (Array.Array (Referent.rtF (Referent.fInt Syntax.w32)) 32772) (Syntax.tyRef (Syntax.named 4) Syntax.mut (Syntax.tyArray (Syntax.tyInt Syntax.w32) 32772)) 4) (List._∷_ (8, Rows.mref (Array.Array (Referent.rtF (Referent.fInt Syntax.w32)) 32772) (Syntax.tyRef (Syntax.named 5) Syntax.mut (Syntax.tyArray (Syntax.tyInt Syntax.w32) 32772)) 5) (List._∷_ (9, Rows.mref (Array.Array (Referent.rtF (Referent.fInt Syntax.w32)) 262160) (Syntax.tyRef (Syntax.named 6) Syntax.mut (Syntax.tyArray (Syntax.tyInt Syntax.w32) 262160)) 6) (List._∷_ (10, Rows.mref (Array.Array (Referent.rtF (Referent.fInt Syntax.w8)) 600000) (Syntax.tyRef (Syntax.named 7) Syntax.mut (Syntax.tyArray (Syntax.tyInt Syntax.w8) 600000)) 7) (List._∷_ (11, Rows.mref (Array.Array Cell.R 65540) (Syntax.tyRef (Syntax.named 8) Syntax.mut (Syntax.tyArray Cell.behind 65540)) 8) (List._∷_ (12, Rows.mref (Array.Array Cell.R 32772) (Syntax.tyRef (Syntax.named 9) Syntax.mut (Syntax.tyArray Cell.behind 32772)) 9) (List._∷_ (13, Rows.any-gone Syntax.tyBool) (List._∷_ (14, Rows.sc-here Row.sBool) (List._∷_ (15, Rows.any-gone Syntax.tyBool) List.[])))))))))))))))
+t45 = List._∷_ (0, Rows.any-gone (Syntax.tyStruct (List._∷_ 122 (List._∷_ 111 (List._∷_ 110 (List._∷_ 101 (List._∷_ 115 (List._∷_ 58 (List._∷_ 58 (List._∷_ 104 (List._∷_ 101 (List._∷_ 108 (List._∷_ 100 (List._∷_ 58 (List._∷_ 58 (List._∷_ 72 (List._∷_ 101 (List._∷_ 108 (List._∷_ 100 List.[]))))))))))))))))) (Syntax.tcons (Syntax.tyStruct (List._∷_ 112 (List._∷_ 121 (List._∷_ 114 (List._∷_ 97 (List._∷_ 109 (List._∷_ 105 (List._∷_ 100 (List._∷_ 58 (List._∷_ 58 (List._∷_ 83 (List._∷_ 116 (List._∷_ 97 (List._∷_ 116 (List._∷_ 101 List.[])))))))))))))) (Syntax.tcons (Syntax.tyInt Syntax.w32) (Syntax.tcons (Syntax.tyInt Syntax.w32) (Syntax.tcons (Syntax.tyInt Syntax.w32) (Syntax.tcons (Syntax.tyInt Syntax.w32) (Syntax.tcons (Syntax.tyInt Syntax.w32) (Syntax.tcons (Syntax.tyArray (Syntax.tyInt Syntax.w32) 64) Syntax.tnil))))))) (Syntax.tcons (Syntax.tyInt Syntax.w64) (Syntax.tcons (Syntax.tyInt Syntax.w64) (Syntax.tcons (Syntax.tyInt Syntax.w64) (Syntax.tcons (Syntax.tyInt Syntax.w64) (Syntax.tcons (Syntax.tyInt Syntax.w64) (Syntax.tcons (Syntax.tyInt Syntax.w64) (Syntax.tcons Syntax.tyBool Syntax.tnil)))))))))) (List._∷_ (1, Rows.whole (Declared.row Held.the-type)) (List._∷_ (2, Rows.any-gone (Syntax.tyStruct (List._∷_ 122 (List._∷_ 111 (List._∷_ 110 (List._∷_ 101 (List._∷_ 115 (List._∷_ 58 (List._∷_ 58 (List._∷_ 115 (List._∷_ 99 (List._∷_ 97 (List._∷_ 110 (List._∷_ 58 (List._∷_ 58 (List._∷_ 76 (List._∷_ 105 (List._∷_ 110 (List._∷_ 101 List.[]))))))))))))))))) (Syntax.tcons (Syntax.tyInt Syntax.w32) (Syntax.tcons (Syntax.tyInt Syntax.w64) (Syntax.tcons (Syntax.tyInt Syntax.w64) (Syntax.tcons (Syntax.tyInt Syntax.w64) (Syntax.tcons (Syntax.tyInt Syntax.w64) Syntax.tnil))))))) (List._∷_ (3, Rows.sslice (Referent.rtF (Referent.fInt Syntax.w8)) (Syntax.tyRef (Syntax.named 0) Syntax.imm (Syntax.tyInt Syntax.w8)) 0) (List._∷_ (4, Rows.sref (Array.Array (Referent.rtF (Referent.fInt Syntax.w32)) 32772) (Syntax.tyRef (Syntax.named 1) Syntax.imm (Syntax.tyArray (Syntax.tyInt Syntax.w32) 32772)) 1) (List._∷_ (5, Rows.mref (Array.Array (Referent.rtF (Referent.fInt Syntax.w8)) 16388) (Syntax.tyRef (Syntax.named 2) Syntax.mut (Syntax.tyArray (Syntax.tyInt Syntax.w8) 16388)) 2) (List._∷_ (6, Rows.mref (Array.Array (Referent.rtF (Referent.fInt Syntax.w32)) 65540) (Syntax.tyRef (Syntax.named 3) Syntax.mut (Syntax.tyArray (Syntax.tyInt Syntax.w32) 65540)) 3) (List._∷_ (7, Rows.mref (Array.Array (Referent.rtF (Referent.fInt Syntax.w32)) 32772) (Syntax.tyRef (Syntax.named 4) Syntax.mut (Syntax.tyArray (Syntax.tyInt Syntax.w32) 32772)) 4) (List._∷_ (8, Rows.mref (Array.Array (Referent.rtF (Referent.fInt Syntax.w32)) 32772) (Syntax.tyRef (Syntax.named 5) Syntax.mut (Syntax.tyArray (Syntax.tyInt Syntax.w32) 32772)) 5) (List._∷_ (9, Rows.mref (Array.Array (Referent.rtF (Referent.fInt Syntax.w32)) 262160) (Syntax.tyRef (Syntax.named 6) Syntax.mut (Syntax.tyArray (Syntax.tyInt Syntax.w32) 262160)) 6) (List._∷_ (10, Rows.mref (Array.Array (Referent.rtF (Referent.fInt Syntax.w8)) 600000) (Syntax.tyRef (Syntax.named 7) Syntax.mut (Syntax.tyArray (Syntax.tyInt Syntax.w8) 600000)) 7) (List._∷_ (11, Rows.mref (Array.Array Cell.R 65540) (Syntax.tyRef (Syntax.named 8) Syntax.mut (Syntax.tyArray Cell.behind 65540)) 8) (List._∷_ (12, Rows.mref (Array.Array Cell.R 32772) (Syntax.tyRef (Syntax.named 9) Syntax.mut (Syntax.tyArray Cell.behind 32772)) 9) (List._∷_ (13, Rows.any-gone Syntax.tyBool) (List._∷_ (14, Rows.sc-here Row.sBool) (List._∷_ (15, Rows.any-gone Syntax.tyBool) List.[])))))))))))))))
 
 abbrev pub t46 : List.List Row.Entry
 t46 = List._∷_ (0, Rows.whole (Declared.row Held.the-type)) (List._∷_ (1, Rows.whole (Declared.row Held.the-type)) (List._∷_ (2, Rows.any-gone (Syntax.tyStruct (List._∷_ 122 (List._∷_ 111 (List._∷_ 110 (List._∷_ 101 (List._∷_ 115 (List._∷_ 58 (List._∷_ 58 (List._∷_ 115 (List._∷_ 99 (List._∷_ 97 (List._∷_ 110 (List._∷_ 58 (List._∷_ 58 (List._∷_ 76 (List._∷_ 105 (List._∷_ 110 (List._∷_ 101 List.[]))))))))))))))))) (Syntax.tcons (Syntax.tyInt Syntax.w32) (Syntax.tcons (Syntax.tyInt Syntax.w64) (Syntax.tcons (Syntax.tyInt Syntax.w64) (Syntax.tcons (Syntax.tyInt Syntax.w64) (Syntax.tcons (Syntax.tyInt Syntax.w64) Syntax.tnil))))))) (List._∷_ (3, Rows.sslice (Referent.rtF (Referent.fInt Syntax.w8)) (Syntax.tyRef (Syntax.named 0) Syntax.imm (Syntax.tyInt Syntax.w8)) 0) (List._∷_ (4, Rows.sref (Array.Array (Referent.rtF (Referent.fInt Syntax.w32)) 32772) (Syntax.tyRef (Syntax.named 1) Syntax.imm (Syntax.tyArray (Syntax.tyInt Syntax.w32) 32772)) 1) (List._∷_ (5, Rows.mref (Array.Array (Referent.rtF (Referent.fInt Syntax.w8)) 16388) (Syntax.tyRef (Syntax.named 2) Syntax.mut (Syntax.tyArray (Syntax.tyInt Syntax.w8) 16388)) 2) (List._∷_ (6, Rows.mref (Array.Array (Referent.rtF (Referent.fInt Syntax.w32)) 65540) (Syntax.tyRef (Syntax.named 3) Syntax.mut (Syntax.tyArray (Syntax.tyInt Syntax.w32) 65540)) 3) (List._∷_ (7, Rows.mref (Array.Array (Referent.rtF (Referent.fInt Syntax.w32)) 32772) (Syntax.tyRef (Syntax.named 4) Syntax.mut (Syntax.tyArray (Syntax.tyInt Syntax.w32) 32772)) 4) (List._∷_ (8, Rows.mref (Array.Array (Referent.rtF (Referent.fInt Syntax.w32)) 32772) (Syntax.tyRef (Syntax.named 5) Syntax.mut (Syntax.tyArray (Syntax.tyInt Syntax.w32) 32772)) 5) (List._∷_ (9, Rows.mref (Array.Array (Referent.rtF (Referent.fInt Syntax.w32)) 262160) (Syntax.tyRef (Syntax.named 6) Syntax.mut (Syntax.tyArray (Syntax.tyInt Syntax.w32) 262160)) 6) (List._∷_ (10, Rows.mref (Array.Array (Referent.rtF (Referent.fInt Syntax.w8)) 600000) (Syntax.tyRef (Syntax.named 7) Syntax.mut (Syntax.tyArray (Syntax.tyInt Syntax.w8) 600000)) 7) (List._∷_ (11, Rows.mref (Array.Array Cell.R 65540) (Syntax.tyRef (Syntax.named 8) Syntax.mut (Syntax.tyArray Cell.behind 65540)) 8) (List._∷_ (12, Rows.mref (Array.Array Cell.R 32772) (Syntax.tyRef (Syntax.named 9) Syntax.mut (Syntax.tyArray Cell.behind 32772)) 9) (List._∷_ (13, Rows.any-gone Syntax.tyBool) (List._∷_ (14, Rows.sc-here Row.sBool) (List._∷_ (15, Rows.any-gone Syntax.tyBool) List.[])))))))))))))))
 
 abbrev pub t47 : List.List Row.Entry
-t47 = List._∷_ (0, Rows.whole (Declared.row Held.the-type)) (List._∷_ (1, Rows.any-gone (Syntax.tyStruct (List._∷_ 122 (List._∷_ 111 (List._∷_ 110 (List._∷_ 101 (List._∷_ 115 (List._∷_ 58 (List._∷_ 58 (List._∷_ 104 (List._∷_ 101 (List._∷_ 108 (List._∷_ 100 (List._∷_ 58 (List._∷_ 58 (List._∷_ 72 (List._∷_ 101 (List._∷_ 108 (List._∷_ 100 List.[]))))))))))))))))) (Syntax.tcons (Syntax.tyStruct (List._∷_ 112 (List._∷_ 121 (List._∷_ 114 (List._∷_ 97 (List._∷_ 109 (List._∷_ 105 (List._∷_ 100 (List._∷_ 58 (List._∷_ 58 (List._∷_ 83 (List._∷_ 116 (List._∷_ 97 (List._∷_ 116 (List._∷_ 101 List.[])))))))))))))) (Syntax.tcons (Syntax.tyInt Syntax.w32) (Syntax.tcons (Syntax.tyInt Syntax.w32) (Syntax.tcons (Syntax.tyInt Syntax.w32) (Syntax.tcons (Syntax.tyArray (Syntax.tyInt Syntax.w32) 64) Syntax.tnil))))) (Syntax.tcons (Syntax.tyInt Syntax.w64) (Syntax.tcons (Syntax.tyInt Syntax.w64) (Syntax.tcons (Syntax.tyInt Syntax.w64) (Syntax.tcons (Syntax.tyInt Syntax.w64) (Syntax.tcons (Syntax.tyInt Syntax.w64) (Syntax.tcons (Syntax.tyInt Syntax.w64) (Syntax.tcons Syntax.tyBool Syntax.tnil)))))))))) (List._∷_ (2, Rows.any-gone (Syntax.tyStruct (List._∷_ 122 (List._∷_ 111 (List._∷_ 110 (List._∷_ 101 (List._∷_ 115 (List._∷_ 58 (List._∷_ 58 (List._∷_ 115 (List._∷_ 99 (List._∷_ 97 (List._∷_ 110 (List._∷_ 58 (List._∷_ 58 (List._∷_ 76 (List._∷_ 105 (List._∷_ 110 (List._∷_ 101 List.[]))))))))))))))))) (Syntax.tcons (Syntax.tyInt Syntax.w32) (Syntax.tcons (Syntax.tyInt Syntax.w64) (Syntax.tcons (Syntax.tyInt Syntax.w64) (Syntax.tcons (Syntax.tyInt Syntax.w64) (Syntax.tcons (Syntax.tyInt Syntax.w64) Syntax.tnil))))))) (List._∷_ (3, Rows.sslice (Referent.rtF (Referent.fInt Syntax.w8)) (Syntax.tyRef (Syntax.named 0) Syntax.imm (Syntax.tyInt Syntax.w8)) 0) (List._∷_ (4, Rows.sref (Array.Array (Referent.rtF (Referent.fInt Syntax.w32)) 32772) (Syntax.tyRef (Syntax.named 1) Syntax.imm (Syntax.tyArray (Syntax.tyInt Syntax.w32) 32772)) 1) (List._∷_ (5, Rows.mref (Array.Array (Referent.rtF (Referent.fInt Syntax.w8)) 16388) (Syntax.tyRef (Syntax.named 2) Syntax.mut (Syntax.tyArray (Syntax.tyInt Syntax.w8) 16388)) 2) (List._∷_ (6, Rows.mref (Array.Array (Referent.rtF (Referent.fInt Syntax.w32)) 65540) (Syntax.tyRef (Syntax.named 3) Syntax.mut (Syntax.tyArray (Syntax.tyInt Syntax.w32) 65540)) 3) (List._∷_ (7, Rows.mref (Array.Array (Referent.rtF (Referent.fInt Syntax.w32)) 32772) (Syntax.tyRef (Syntax.named 4) Syntax.mut (Syntax.tyArray (Syntax.tyInt Syntax.w32) 32772)) 4) (List._∷_ (8, Rows.mref (Array.Array (Referent.rtF (Referent.fInt Syntax.w32)) 32772) (Syntax.tyRef (Syntax.named 5) Syntax.mut (Syntax.tyArray (Syntax.tyInt Syntax.w32) 32772)) 5) (List._∷_ (9, Rows.mref (Array.Array (Referent.rtF (Referent.fInt Syntax.w32)) 262160) (Syntax.tyRef (Syntax.named 6) Syntax.mut (Syntax.tyArray (Syntax.tyInt Syntax.w32) 262160)) 6) (List._∷_ (10, Rows.mref (Array.Array (Referent.rtF (Referent.fInt Syntax.w8)) 600000) (Syntax.tyRef (Syntax.named 7) Syntax.mut (Syntax.tyArray (Syntax.tyInt Syntax.w8) 600000)) 7) (List._∷_ (11, Rows.mref (Array.Array Cell.R 65540) (Syntax.tyRef (Syntax.named 8) Syntax.mut (Syntax.tyArray Cell.behind 65540)) 8) (List._∷_ (12, Rows.mref (Array.Array Cell.R 32772) (Syntax.tyRef (Syntax.named 9) Syntax.mut (Syntax.tyArray Cell.behind 32772)) 9) (List._∷_ (13, Rows.any-gone Syntax.tyBool) (List._∷_ (14, Rows.sc-here Row.sBool) (List._∷_ (15, Rows.any-gone Syntax.tyBool) List.[])))))))))))))))
+t47 = List._∷_ (0, Rows.whole (Declared.row Held.the-type)) (List._∷_ (1, Rows.any-gone (Syntax.tyStruct (List._∷_ 122 (List._∷_ 111 (List._∷_ 110 (List._∷_ 101 (List._∷_ 115 (List._∷_ 58 (List._∷_ 58 (List._∷_ 104 (List._∷_ 101 (List._∷_ 108 (List._∷_ 100 (List._∷_ 58 (List._∷_ 58 (List._∷_ 72 (List._∷_ 101 (List._∷_ 108 (List._∷_ 100 List.[]))))))))))))))))) (Syntax.tcons (Syntax.tyStruct (List._∷_ 112 (List._∷_ 121 (List._∷_ 114 (List._∷_ 97 (List._∷_ 109 (List._∷_ 105 (List._∷_ 100 (List._∷_ 58 (List._∷_ 58 (List._∷_ 83 (List._∷_ 116 (List._∷_ 97 (List._∷_ 116 (List._∷_ 101 List.[])))))))))))))) (Syntax.tcons (Syntax.tyInt Syntax.w32) (Syntax.tcons (Syntax.tyInt Syntax.w32) (Syntax.tcons (Syntax.tyInt Syntax.w32) (Syntax.tcons (Syntax.tyInt Syntax.w32) (Syntax.tcons (Syntax.tyInt Syntax.w32) (Syntax.tcons (Syntax.tyArray (Syntax.tyInt Syntax.w32) 64) Syntax.tnil))))))) (Syntax.tcons (Syntax.tyInt Syntax.w64) (Syntax.tcons (Syntax.tyInt Syntax.w64) (Syntax.tcons (Syntax.tyInt Syntax.w64) (Syntax.tcons (Syntax.tyInt Syntax.w64) (Syntax.tcons (Syntax.tyInt Syntax.w64) (Syntax.tcons (Syntax.tyInt Syntax.w64) (Syntax.tcons Syntax.tyBool Syntax.tnil)))))))))) (List._∷_ (2, Rows.any-gone (Syntax.tyStruct (List._∷_ 122 (List._∷_ 111 (List._∷_ 110 (List._∷_ 101 (List._∷_ 115 (List._∷_ 58 (List._∷_ 58 (List._∷_ 115 (List._∷_ 99 (List._∷_ 97 (List._∷_ 110 (List._∷_ 58 (List._∷_ 58 (List._∷_ 76 (List._∷_ 105 (List._∷_ 110 (List._∷_ 101 List.[]))))))))))))))))) (Syntax.tcons (Syntax.tyInt Syntax.w32) (Syntax.tcons (Syntax.tyInt Syntax.w64) (Syntax.tcons (Syntax.tyInt Syntax.w64) (Syntax.tcons (Syntax.tyInt Syntax.w64) (Syntax.tcons (Syntax.tyInt Syntax.w64) Syntax.tnil))))))) (List._∷_ (3, Rows.sslice (Referent.rtF (Referent.fInt Syntax.w8)) (Syntax.tyRef (Syntax.named 0) Syntax.imm (Syntax.tyInt Syntax.w8)) 0) (List._∷_ (4, Rows.sref (Array.Array (Referent.rtF (Referent.fInt Syntax.w32)) 32772) (Syntax.tyRef (Syntax.named 1) Syntax.imm (Syntax.tyArray (Syntax.tyInt Syntax.w32) 32772)) 1) (List._∷_ (5, Rows.mref (Array.Array (Referent.rtF (Referent.fInt Syntax.w8)) 16388) (Syntax.tyRef (Syntax.named 2) Syntax.mut (Syntax.tyArray (Syntax.tyInt Syntax.w8) 16388)) 2) (List._∷_ (6, Rows.mref (Array.Array (Referent.rtF (Referent.fInt Syntax.w32)) 65540) (Syntax.tyRef (Syntax.named 3) Syntax.mut (Syntax.tyArray (Syntax.tyInt Syntax.w32) 65540)) 3) (List._∷_ (7, Rows.mref (Array.Array (Referent.rtF (Referent.fInt Syntax.w32)) 32772) (Syntax.tyRef (Syntax.named 4) Syntax.mut (Syntax.tyArray (Syntax.tyInt Syntax.w32) 32772)) 4) (List._∷_ (8, Rows.mref (Array.Array (Referent.rtF (Referent.fInt Syntax.w32)) 32772) (Syntax.tyRef (Syntax.named 5) Syntax.mut (Syntax.tyArray (Syntax.tyInt Syntax.w32) 32772)) 5) (List._∷_ (9, Rows.mref (Array.Array (Referent.rtF (Referent.fInt Syntax.w32)) 262160) (Syntax.tyRef (Syntax.named 6) Syntax.mut (Syntax.tyArray (Syntax.tyInt Syntax.w32) 262160)) 6) (List._∷_ (10, Rows.mref (Array.Array (Referent.rtF (Referent.fInt Syntax.w8)) 600000) (Syntax.tyRef (Syntax.named 7) Syntax.mut (Syntax.tyArray (Syntax.tyInt Syntax.w8) 600000)) 7) (List._∷_ (11, Rows.mref (Array.Array Cell.R 65540) (Syntax.tyRef (Syntax.named 8) Syntax.mut (Syntax.tyArray Cell.behind 65540)) 8) (List._∷_ (12, Rows.mref (Array.Array Cell.R 32772) (Syntax.tyRef (Syntax.named 9) Syntax.mut (Syntax.tyArray Cell.behind 32772)) 9) (List._∷_ (13, Rows.any-gone Syntax.tyBool) (List._∷_ (14, Rows.sc-here Row.sBool) (List._∷_ (15, Rows.any-gone Syntax.tyBool) List.[])))))))))))))))
 
 abbrev pub t48 : List.List Row.Entry
-t48 = List._∷_ (0, Rows.any-gone (Syntax.tyStruct (List._∷_ 122 (List._∷_ 111 (List._∷_ 110 (List._∷_ 101 (List._∷_ 115 (List._∷_ 58 (List._∷_ 58 (List._∷_ 104 (List._∷_ 101 (List._∷_ 108 (List._∷_ 100 (List._∷_ 58 (List._∷_ 58 (List._∷_ 72 (List._∷_ 101 (List._∷_ 108 (List._∷_ 100 List.[]))))))))))))))))) (Syntax.tcons (Syntax.tyStruct (List._∷_ 112 (List._∷_ 121 (List._∷_ 114 (List._∷_ 97 (List._∷_ 109 (List._∷_ 105 (List._∷_ 100 (List._∷_ 58 (List._∷_ 58 (List._∷_ 83 (List._∷_ 116 (List._∷_ 97 (List._∷_ 116 (List._∷_ 101 List.[])))))))))))))) (Syntax.tcons (Syntax.tyInt Syntax.w32) (Syntax.tcons (Syntax.tyInt Syntax.w32) (Syntax.tcons (Syntax.tyInt Syntax.w32) (Syntax.tcons (Syntax.tyArray (Syntax.tyInt Syntax.w32) 64) Syntax.tnil))))) (Syntax.tcons (Syntax.tyInt Syntax.w64) (Syntax.tcons (Syntax.tyInt Syntax.w64) (Syntax.tcons (Syntax.tyInt Syntax.w64) (Syntax.tcons (Syntax.tyInt Syntax.w64) (Syntax.tcons (Syntax.tyInt Syntax.w64) (Syntax.tcons (Syntax.tyInt Syntax.w64) (Syntax.tcons Syntax.tyBool Syntax.tnil)))))))))) (List._∷_ (1, Rows.whole (Declared.row Held.the-type)) (List._∷_ (2, Rows.whole (Declared.row Line.the-type)) (List._∷_ (3, Rows.sslice (Referent.rtF (Referent.fInt Syntax.w8)) (Syntax.tyRef (Syntax.named 0) Syntax.imm (Syntax.tyInt Syntax.w8)) 0) (List._∷_ (4, Rows.sref (Array.Array (Referent.rtF (Referent.fInt Syntax.w32)) 32772) (Syntax.tyRef (Syntax.named 1) Syntax.imm (Syntax.tyArray (Syntax.tyInt Syntax.w32) 32772)) 1) (List._∷_ (5, Rows.mref (Array.Array (Referent.rtF (Referent.fInt Syntax.w8)) 16388) (Syntax.tyRef (Syntax.named 2) Syntax.mut (Syntax.tyArray (Syntax.tyInt Syntax.w8) 16388)) 2) (List._∷_ (6, Rows.mref-owed (Array.Array (Referent.rtF (Referent.fInt Syntax.w32)) 65540) (Syntax.tyRef (Syntax.named 3) Syntax.mut (Syntax.tyArray (Syntax.tyInt Syntax.w32) 65540)) 3 18 Row.off) (List._∷_ (7, Rows.mref (Array.Array (Referent.rtF (Referent.fInt Syntax.w32)) 32772) (Syntax.tyRef (Syntax.named 4) Syntax.mut (Syntax.tyArray (Syntax.tyInt Syntax.w32) 32772)) 4) (List._∷_ (8, Rows.mref (Array.Array (Referent.rtF (Referent.fInt Syntax.w32)) 32772) (Syntax.tyRef (Syntax.named 5) Syntax.mut (Syntax.tyArray (Syntax.tyInt Syntax.w32) 32772)) 5) (List._∷_ (9, Rows.mref (Array.Array (Referent.rtF (Referent.fInt Syntax.w32)) 262160) (Syntax.tyRef (Syntax.named 6) Syntax.mut (Syntax.tyArray (Syntax.tyInt Syntax.w32) 262160)) 6) (List._∷_ (10, Rows.mref (Array.Array (Referent.rtF (Referent.fInt Syntax.w8)) 600000) (Syntax.tyRef (Syntax.named 7) Syntax.mut (Syntax.tyArray (Syntax.tyInt Syntax.w8) 600000)) 7) (List._∷_ (11, Rows.mref (Array.Array Cell.R 65540) (Syntax.tyRef (Syntax.named 8) Syntax.mut (Syntax.tyArray Cell.behind 65540)) 8) (List._∷_ (12, Rows.mref (Array.Array Cell.R 32772) (Syntax.tyRef (Syntax.named 9) Syntax.mut (Syntax.tyArray Cell.behind 32772)) 9) (List._∷_ (13, Rows.any-gone Syntax.tyBool) (List._∷_ (14, Rows.any-gone Syntax.tyBool) (List._∷_ (15, Rows.any-gone Syntax.tyBool) List.[])))))))))))))))
+t48 = List._∷_ (0, Rows.any-gone (Syntax.tyStruct (List._∷_ 122 (List._∷_ 111 (List._∷_ 110 (List._∷_ 101 (List._∷_ 115 (List._∷_ 58 (List._∷_ 58 (List._∷_ 104 (List._∷_ 101 (List._∷_ 108 (List._∷_ 100 (List._∷_ 58 (List._∷_ 58 (List._∷_ 72 (List._∷_ 101 (List._∷_ 108 (List._∷_ 100 List.[]))))))))))))))))) (Syntax.tcons (Syntax.tyStruct (List._∷_ 112 (List._∷_ 121 (List._∷_ 114 (List._∷_ 97 (List._∷_ 109 (List._∷_ 105 (List._∷_ 100 (List._∷_ 58 (List._∷_ 58 (List._∷_ 83 (List._∷_ 116 (List._∷_ 97 (List._∷_ 116 (List._∷_ 101 List.[])))))))))))))) (Syntax.tcons (Syntax.tyInt Syntax.w32) (Syntax.tcons (Syntax.tyInt Syntax.w32) (Syntax.tcons (Syntax.tyInt Syntax.w32) (Syntax.tcons (Syntax.tyInt Syntax.w32) (Syntax.tcons (Syntax.tyInt Syntax.w32) (Syntax.tcons (Syntax.tyArray (Syntax.tyInt Syntax.w32) 64) Syntax.tnil))))))) (Syntax.tcons (Syntax.tyInt Syntax.w64) (Syntax.tcons (Syntax.tyInt Syntax.w64) (Syntax.tcons (Syntax.tyInt Syntax.w64) (Syntax.tcons (Syntax.tyInt Syntax.w64) (Syntax.tcons (Syntax.tyInt Syntax.w64) (Syntax.tcons (Syntax.tyInt Syntax.w64) (Syntax.tcons Syntax.tyBool Syntax.tnil)))))))))) (List._∷_ (1, Rows.whole (Declared.row Held.the-type)) (List._∷_ (2, Rows.whole (Declared.row Line.the-type)) (List._∷_ (3, Rows.sslice (Referent.rtF (Referent.fInt Syntax.w8)) (Syntax.tyRef (Syntax.named 0) Syntax.imm (Syntax.tyInt Syntax.w8)) 0) (List._∷_ (4, Rows.sref (Array.Array (Referent.rtF (Referent.fInt Syntax.w32)) 32772) (Syntax.tyRef (Syntax.named 1) Syntax.imm (Syntax.tyArray (Syntax.tyInt Syntax.w32) 32772)) 1) (List._∷_ (5, Rows.mref (Array.Array (Referent.rtF (Referent.fInt Syntax.w8)) 16388) (Syntax.tyRef (Syntax.named 2) Syntax.mut (Syntax.tyArray (Syntax.tyInt Syntax.w8) 16388)) 2) (List._∷_ (6, Rows.mref-owed (Array.Array (Referent.rtF (Referent.fInt Syntax.w32)) 65540) (Syntax.tyRef (Syntax.named 3) Syntax.mut (Syntax.tyArray (Syntax.tyInt Syntax.w32) 65540)) 3 18 Row.off) (List._∷_ (7, Rows.mref (Array.Array (Referent.rtF (Referent.fInt Syntax.w32)) 32772) (Syntax.tyRef (Syntax.named 4) Syntax.mut (Syntax.tyArray (Syntax.tyInt Syntax.w32) 32772)) 4) (List._∷_ (8, Rows.mref (Array.Array (Referent.rtF (Referent.fInt Syntax.w32)) 32772) (Syntax.tyRef (Syntax.named 5) Syntax.mut (Syntax.tyArray (Syntax.tyInt Syntax.w32) 32772)) 5) (List._∷_ (9, Rows.mref (Array.Array (Referent.rtF (Referent.fInt Syntax.w32)) 262160) (Syntax.tyRef (Syntax.named 6) Syntax.mut (Syntax.tyArray (Syntax.tyInt Syntax.w32) 262160)) 6) (List._∷_ (10, Rows.mref (Array.Array (Referent.rtF (Referent.fInt Syntax.w8)) 600000) (Syntax.tyRef (Syntax.named 7) Syntax.mut (Syntax.tyArray (Syntax.tyInt Syntax.w8) 600000)) 7) (List._∷_ (11, Rows.mref (Array.Array Cell.R 65540) (Syntax.tyRef (Syntax.named 8) Syntax.mut (Syntax.tyArray Cell.behind 65540)) 8) (List._∷_ (12, Rows.mref (Array.Array Cell.R 32772) (Syntax.tyRef (Syntax.named 9) Syntax.mut (Syntax.tyArray Cell.behind 32772)) 9) (List._∷_ (13, Rows.any-gone Syntax.tyBool) (List._∷_ (14, Rows.any-gone Syntax.tyBool) (List._∷_ (15, Rows.any-gone Syntax.tyBool) List.[])))))))))))))))
 
 abbrev pub t49 : List.List Row.Entry
 t49 = List._∷_ (16, Rows.any-gone (Syntax.tyRef Syntax.erased Syntax.mut (Syntax.tyArray (Syntax.tyInt Syntax.w8) 16388))) (List._∷_ (17, Rows.any-gone (Syntax.tyRef Syntax.erased Syntax.mut (Syntax.tyArray (Syntax.tyInt Syntax.w32) 65540))) (List._∷_ (18, Rows.any-gone (Syntax.tyRef Syntax.erased Syntax.mut (Syntax.tyArray (Syntax.tyInt Syntax.w32) 32772))) (List._∷_ (19, Rows.any-gone (Syntax.tyRef Syntax.erased Syntax.mut (Syntax.tyArray (Syntax.tyInt Syntax.w32) 32772))) (List._∷_ (20, Rows.any-gone (Syntax.tyRef Syntax.erased Syntax.mut (Syntax.tyArray (Syntax.tyInt Syntax.w32) 262160))) (List._∷_ (21, Rows.any-gone (Syntax.tyRef Syntax.erased Syntax.mut (Syntax.tyArray (Syntax.tyInt Syntax.w8) 600000))) (List._∷_ (22, Rows.any-gone (Syntax.tyRef Syntax.erased Syntax.mut Cell.behind)) (List._∷_ (23, Rows.any-gone (Syntax.tyStruct (List._∷_ 38 (List._∷_ 91 (List._∷_ 93 List.[]))) (Syntax.tcons (Syntax.tyRef Syntax.erased Syntax.mut Cell.behind) (Syntax.tcons (Syntax.tyInt Syntax.w64) Syntax.tnil)))) (List._∷_ (24, Rows.any-gone (Syntax.tyRef Syntax.erased Syntax.mut Cell.behind)) (List._∷_ (25, Rows.any-gone (Syntax.tyStruct (List._∷_ 38 (List._∷_ 91 (List._∷_ 93 List.[]))) (Syntax.tcons (Syntax.tyRef Syntax.erased Syntax.mut Cell.behind) (Syntax.tcons (Syntax.tyInt Syntax.w64) Syntax.tnil)))) (List._∷_ (26, Rows.mref (Array.Array (Referent.rtF (Referent.fInt Syntax.w32)) 65540) (Syntax.tyRef Syntax.erased Syntax.mut (Syntax.tyArray (Syntax.tyInt Syntax.w32) 65540)) 18) (List._∷_ (27, Rows.any-gone (Syntax.tyRef Syntax.erased Syntax.mut (Syntax.tyArray (Syntax.tyInt Syntax.w32) 32772))) (List._∷_ (28, Rows.any-gone (Syntax.tyRef Syntax.erased Syntax.mut (Syntax.tyArray (Syntax.tyInt Syntax.w32) 262160))) (List._∷_ (29, Rows.any-gone (Syntax.tyRef Syntax.erased Syntax.imm (Syntax.tyArray (Syntax.tyInt Syntax.w8) 600000))) (List._∷_ (30, Rows.any-gone (Syntax.tyRef Syntax.erased Syntax.mut (Syntax.tyArray Cell.behind 65540))) (List._∷_ (31, Rows.any-gone (Syntax.tyRef Syntax.erased Syntax.mut (Syntax.tyArray Cell.behind 32772))) List.[])))))))))))))))
 
 abbrev pub t50 : List.List Row.Entry
-t50 = List._∷_ (0, Rows.any-gone (Syntax.tyStruct (List._∷_ 122 (List._∷_ 111 (List._∷_ 110 (List._∷_ 101 (List._∷_ 115 (List._∷_ 58 (List._∷_ 58 (List._∷_ 104 (List._∷_ 101 (List._∷_ 108 (List._∷_ 100 (List._∷_ 58 (List._∷_ 58 (List._∷_ 72 (List._∷_ 101 (List._∷_ 108 (List._∷_ 100 List.[]))))))))))))))))) (Syntax.tcons (Syntax.tyStruct (List._∷_ 112 (List._∷_ 121 (List._∷_ 114 (List._∷_ 97 (List._∷_ 109 (List._∷_ 105 (List._∷_ 100 (List._∷_ 58 (List._∷_ 58 (List._∷_ 83 (List._∷_ 116 (List._∷_ 97 (List._∷_ 116 (List._∷_ 101 List.[])))))))))))))) (Syntax.tcons (Syntax.tyInt Syntax.w32) (Syntax.tcons (Syntax.tyInt Syntax.w32) (Syntax.tcons (Syntax.tyInt Syntax.w32) (Syntax.tcons (Syntax.tyArray (Syntax.tyInt Syntax.w32) 64) Syntax.tnil))))) (Syntax.tcons (Syntax.tyInt Syntax.w64) (Syntax.tcons (Syntax.tyInt Syntax.w64) (Syntax.tcons (Syntax.tyInt Syntax.w64) (Syntax.tcons (Syntax.tyInt Syntax.w64) (Syntax.tcons (Syntax.tyInt Syntax.w64) (Syntax.tcons (Syntax.tyInt Syntax.w64) (Syntax.tcons Syntax.tyBool Syntax.tnil)))))))))) (List._∷_ (1, Rows.whole (Declared.row Held.the-type)) (List._∷_ (2, Rows.whole (Declared.row Line.the-type)) (List._∷_ (3, Rows.sslice (Referent.rtF (Referent.fInt Syntax.w8)) (Syntax.tyRef (Syntax.named 0) Syntax.imm (Syntax.tyInt Syntax.w8)) 0) (List._∷_ (4, Rows.sref (Array.Array (Referent.rtF (Referent.fInt Syntax.w32)) 32772) (Syntax.tyRef (Syntax.named 1) Syntax.imm (Syntax.tyArray (Syntax.tyInt Syntax.w32) 32772)) 1) (List._∷_ (5, Rows.mref (Array.Array (Referent.rtF (Referent.fInt Syntax.w8)) 16388) (Syntax.tyRef (Syntax.named 2) Syntax.mut (Syntax.tyArray (Syntax.tyInt Syntax.w8) 16388)) 2) (List._∷_ (6, Rows.mref-owed (Array.Array (Referent.rtF (Referent.fInt Syntax.w32)) 65540) (Syntax.tyRef (Syntax.named 3) Syntax.mut (Syntax.tyArray (Syntax.tyInt Syntax.w32) 65540)) 3 18 Row.off) (List._∷_ (7, Rows.mref-owed (Array.Array (Referent.rtF (Referent.fInt Syntax.w32)) 32772) (Syntax.tyRef (Syntax.named 4) Syntax.mut (Syntax.tyArray (Syntax.tyInt Syntax.w32) 32772)) 4 19 Row.off) (List._∷_ (8, Rows.mref (Array.Array (Referent.rtF (Referent.fInt Syntax.w32)) 32772) (Syntax.tyRef (Syntax.named 5) Syntax.mut (Syntax.tyArray (Syntax.tyInt Syntax.w32) 32772)) 5) (List._∷_ (9, Rows.mref (Array.Array (Referent.rtF (Referent.fInt Syntax.w32)) 262160) (Syntax.tyRef (Syntax.named 6) Syntax.mut (Syntax.tyArray (Syntax.tyInt Syntax.w32) 262160)) 6) (List._∷_ (10, Rows.mref (Array.Array (Referent.rtF (Referent.fInt Syntax.w8)) 600000) (Syntax.tyRef (Syntax.named 7) Syntax.mut (Syntax.tyArray (Syntax.tyInt Syntax.w8) 600000)) 7) (List._∷_ (11, Rows.mref (Array.Array Cell.R 65540) (Syntax.tyRef (Syntax.named 8) Syntax.mut (Syntax.tyArray Cell.behind 65540)) 8) (List._∷_ (12, Rows.mref (Array.Array Cell.R 32772) (Syntax.tyRef (Syntax.named 9) Syntax.mut (Syntax.tyArray Cell.behind 32772)) 9) (List._∷_ (13, Rows.any-gone Syntax.tyBool) (List._∷_ (14, Rows.any-gone Syntax.tyBool) (List._∷_ (15, Rows.any-gone Syntax.tyBool) List.[])))))))))))))))
+t50 = List._∷_ (0, Rows.any-gone (Syntax.tyStruct (List._∷_ 122 (List._∷_ 111 (List._∷_ 110 (List._∷_ 101 (List._∷_ 115 (List._∷_ 58 (List._∷_ 58 (List._∷_ 104 (List._∷_ 101 (List._∷_ 108 (List._∷_ 100 (List._∷_ 58 (List._∷_ 58 (List._∷_ 72 (List._∷_ 101 (List._∷_ 108 (List._∷_ 100 List.[]))))))))))))))))) (Syntax.tcons (Syntax.tyStruct (List._∷_ 112 (List._∷_ 121 (List._∷_ 114 (List._∷_ 97 (List._∷_ 109 (List._∷_ 105 (List._∷_ 100 (List._∷_ 58 (List._∷_ 58 (List._∷_ 83 (List._∷_ 116 (List._∷_ 97 (List._∷_ 116 (List._∷_ 101 List.[])))))))))))))) (Syntax.tcons (Syntax.tyInt Syntax.w32) (Syntax.tcons (Syntax.tyInt Syntax.w32) (Syntax.tcons (Syntax.tyInt Syntax.w32) (Syntax.tcons (Syntax.tyInt Syntax.w32) (Syntax.tcons (Syntax.tyInt Syntax.w32) (Syntax.tcons (Syntax.tyArray (Syntax.tyInt Syntax.w32) 64) Syntax.tnil))))))) (Syntax.tcons (Syntax.tyInt Syntax.w64) (Syntax.tcons (Syntax.tyInt Syntax.w64) (Syntax.tcons (Syntax.tyInt Syntax.w64) (Syntax.tcons (Syntax.tyInt Syntax.w64) (Syntax.tcons (Syntax.tyInt Syntax.w64) (Syntax.tcons (Syntax.tyInt Syntax.w64) (Syntax.tcons Syntax.tyBool Syntax.tnil)))))))))) (List._∷_ (1, Rows.whole (Declared.row Held.the-type)) (List._∷_ (2, Rows.whole (Declared.row Line.the-type)) (List._∷_ (3, Rows.sslice (Referent.rtF (Referent.fInt Syntax.w8)) (Syntax.tyRef (Syntax.named 0) Syntax.imm (Syntax.tyInt Syntax.w8)) 0) (List._∷_ (4, Rows.sref (Array.Array (Referent.rtF (Referent.fInt Syntax.w32)) 32772) (Syntax.tyRef (Syntax.named 1) Syntax.imm (Syntax.tyArray (Syntax.tyInt Syntax.w32) 32772)) 1) (List._∷_ (5, Rows.mref (Array.Array (Referent.rtF (Referent.fInt Syntax.w8)) 16388) (Syntax.tyRef (Syntax.named 2) Syntax.mut (Syntax.tyArray (Syntax.tyInt Syntax.w8) 16388)) 2) (List._∷_ (6, Rows.mref-owed (Array.Array (Referent.rtF (Referent.fInt Syntax.w32)) 65540) (Syntax.tyRef (Syntax.named 3) Syntax.mut (Syntax.tyArray (Syntax.tyInt Syntax.w32) 65540)) 3 18 Row.off) (List._∷_ (7, Rows.mref-owed (Array.Array (Referent.rtF (Referent.fInt Syntax.w32)) 32772) (Syntax.tyRef (Syntax.named 4) Syntax.mut (Syntax.tyArray (Syntax.tyInt Syntax.w32) 32772)) 4 19 Row.off) (List._∷_ (8, Rows.mref (Array.Array (Referent.rtF (Referent.fInt Syntax.w32)) 32772) (Syntax.tyRef (Syntax.named 5) Syntax.mut (Syntax.tyArray (Syntax.tyInt Syntax.w32) 32772)) 5) (List._∷_ (9, Rows.mref (Array.Array (Referent.rtF (Referent.fInt Syntax.w32)) 262160) (Syntax.tyRef (Syntax.named 6) Syntax.mut (Syntax.tyArray (Syntax.tyInt Syntax.w32) 262160)) 6) (List._∷_ (10, Rows.mref (Array.Array (Referent.rtF (Referent.fInt Syntax.w8)) 600000) (Syntax.tyRef (Syntax.named 7) Syntax.mut (Syntax.tyArray (Syntax.tyInt Syntax.w8) 600000)) 7) (List._∷_ (11, Rows.mref (Array.Array Cell.R 65540) (Syntax.tyRef (Syntax.named 8) Syntax.mut (Syntax.tyArray Cell.behind 65540)) 8) (List._∷_ (12, Rows.mref (Array.Array Cell.R 32772) (Syntax.tyRef (Syntax.named 9) Syntax.mut (Syntax.tyArray Cell.behind 32772)) 9) (List._∷_ (13, Rows.any-gone Syntax.tyBool) (List._∷_ (14, Rows.any-gone Syntax.tyBool) (List._∷_ (15, Rows.any-gone Syntax.tyBool) List.[])))))))))))))))
 
 abbrev pub t51 : List.List Row.Entry
 t51 = List._∷_ (16, Rows.any-gone (Syntax.tyRef Syntax.erased Syntax.mut (Syntax.tyArray (Syntax.tyInt Syntax.w8) 16388))) (List._∷_ (17, Rows.any-gone (Syntax.tyRef Syntax.erased Syntax.mut (Syntax.tyArray (Syntax.tyInt Syntax.w32) 65540))) (List._∷_ (18, Rows.any-gone (Syntax.tyRef Syntax.erased Syntax.mut (Syntax.tyArray (Syntax.tyInt Syntax.w32) 32772))) (List._∷_ (19, Rows.any-gone (Syntax.tyRef Syntax.erased Syntax.mut (Syntax.tyArray (Syntax.tyInt Syntax.w32) 32772))) (List._∷_ (20, Rows.any-gone (Syntax.tyRef Syntax.erased Syntax.mut (Syntax.tyArray (Syntax.tyInt Syntax.w32) 262160))) (List._∷_ (21, Rows.any-gone (Syntax.tyRef Syntax.erased Syntax.mut (Syntax.tyArray (Syntax.tyInt Syntax.w8) 600000))) (List._∷_ (22, Rows.any-gone (Syntax.tyRef Syntax.erased Syntax.mut Cell.behind)) (List._∷_ (23, Rows.any-gone (Syntax.tyStruct (List._∷_ 38 (List._∷_ 91 (List._∷_ 93 List.[]))) (Syntax.tcons (Syntax.tyRef Syntax.erased Syntax.mut Cell.behind) (Syntax.tcons (Syntax.tyInt Syntax.w64) Syntax.tnil)))) (List._∷_ (24, Rows.any-gone (Syntax.tyRef Syntax.erased Syntax.mut Cell.behind)) (List._∷_ (25, Rows.any-gone (Syntax.tyStruct (List._∷_ 38 (List._∷_ 91 (List._∷_ 93 List.[]))) (Syntax.tcons (Syntax.tyRef Syntax.erased Syntax.mut Cell.behind) (Syntax.tcons (Syntax.tyInt Syntax.w64) Syntax.tnil)))) (List._∷_ (26, Rows.mref (Array.Array (Referent.rtF (Referent.fInt Syntax.w32)) 65540) (Syntax.tyRef Syntax.erased Syntax.mut (Syntax.tyArray (Syntax.tyInt Syntax.w32) 65540)) 18) (List._∷_ (27, Rows.mref (Array.Array (Referent.rtF (Referent.fInt Syntax.w32)) 32772) (Syntax.tyRef Syntax.erased Syntax.mut (Syntax.tyArray (Syntax.tyInt Syntax.w32) 32772)) 19) (List._∷_ (28, Rows.any-gone (Syntax.tyRef Syntax.erased Syntax.mut (Syntax.tyArray (Syntax.tyInt Syntax.w32) 262160))) (List._∷_ (29, Rows.any-gone (Syntax.tyRef Syntax.erased Syntax.imm (Syntax.tyArray (Syntax.tyInt Syntax.w8) 600000))) (List._∷_ (30, Rows.any-gone (Syntax.tyRef Syntax.erased Syntax.mut (Syntax.tyArray Cell.behind 65540))) (List._∷_ (31, Rows.any-gone (Syntax.tyRef Syntax.erased Syntax.mut (Syntax.tyArray Cell.behind 32772))) List.[])))))))))))))))
 
 abbrev pub t52 : List.List Row.Entry
-t52 = List._∷_ (0, Rows.any-gone (Syntax.tyStruct (List._∷_ 122 (List._∷_ 111 (List._∷_ 110 (List._∷_ 101 (List._∷_ 115 (List._∷_ 58 (List._∷_ 58 (List._∷_ 104 (List._∷_ 101 (List._∷_ 108 (List._∷_ 100 (List._∷_ 58 (List._∷_ 58 (List._∷_ 72 (List._∷_ 101 (List._∷_ 108 (List._∷_ 100 List.[]))))))))))))))))) (Syntax.tcons (Syntax.tyStruct (List._∷_ 112 (List._∷_ 121 (List._∷_ 114 (List._∷_ 97 (List._∷_ 109 (List._∷_ 105 (List._∷_ 100 (List._∷_ 58 (List._∷_ 58 (List._∷_ 83 (List._∷_ 116 (List._∷_ 97 (List._∷_ 116 (List._∷_ 101 List.[])))))))))))))) (Syntax.tcons (Syntax.tyInt Syntax.w32) (Syntax.tcons (Syntax.tyInt Syntax.w32) (Syntax.tcons (Syntax.tyInt Syntax.w32) (Syntax.tcons (Syntax.tyArray (Syntax.tyInt Syntax.w32) 64) Syntax.tnil))))) (Syntax.tcons (Syntax.tyInt Syntax.w64) (Syntax.tcons (Syntax.tyInt Syntax.w64) (Syntax.tcons (Syntax.tyInt Syntax.w64) (Syntax.tcons (Syntax.tyInt Syntax.w64) (Syntax.tcons (Syntax.tyInt Syntax.w64) (Syntax.tcons (Syntax.tyInt Syntax.w64) (Syntax.tcons Syntax.tyBool Syntax.tnil)))))))))) (List._∷_ (1, Rows.whole (Declared.row Held.the-type)) (List._∷_ (2, Rows.whole (Declared.row Line.the-type)) (List._∷_ (3, Rows.sslice (Referent.rtF (Referent.fInt Syntax.w8)) (Syntax.tyRef (Syntax.named 0) Syntax.imm (Syntax.tyInt Syntax.w8)) 0) (List._∷_ (4, Rows.sref (Array.Array (Referent.rtF (Referent.fInt Syntax.w32)) 32772) (Syntax.tyRef (Syntax.named 1) Syntax.imm (Syntax.tyArray (Syntax.tyInt Syntax.w32) 32772)) 1) (List._∷_ (5, Rows.mref (Array.Array (Referent.rtF (Referent.fInt Syntax.w8)) 16388) (Syntax.tyRef (Syntax.named 2) Syntax.mut (Syntax.tyArray (Syntax.tyInt Syntax.w8) 16388)) 2) (List._∷_ (6, Rows.mref-owed (Array.Array (Referent.rtF (Referent.fInt Syntax.w32)) 65540) (Syntax.tyRef (Syntax.named 3) Syntax.mut (Syntax.tyArray (Syntax.tyInt Syntax.w32) 65540)) 3 18 Row.off) (List._∷_ (7, Rows.mref-owed (Array.Array (Referent.rtF (Referent.fInt Syntax.w32)) 32772) (Syntax.tyRef (Syntax.named 4) Syntax.mut (Syntax.tyArray (Syntax.tyInt Syntax.w32) 32772)) 4 19 Row.off) (List._∷_ (8, Rows.mref (Array.Array (Referent.rtF (Referent.fInt Syntax.w32)) 32772) (Syntax.tyRef (Syntax.named 5) Syntax.mut (Syntax.tyArray (Syntax.tyInt Syntax.w32) 32772)) 5) (List._∷_ (9, Rows.mref-owed (Array.Array (Referent.rtF (Referent.fInt Syntax.w32)) 262160) (Syntax.tyRef (Syntax.named 6) Syntax.mut (Syntax.tyArray (Syntax.tyInt Syntax.w32) 262160)) 6 20 Row.off) (List._∷_ (10, Rows.mref (Array.Array (Referent.rtF (Referent.fInt Syntax.w8)) 600000) (Syntax.tyRef (Syntax.named 7) Syntax.mut (Syntax.tyArray (Syntax.tyInt Syntax.w8) 600000)) 7) (List._∷_ (11, Rows.mref (Array.Array Cell.R 65540) (Syntax.tyRef (Syntax.named 8) Syntax.mut (Syntax.tyArray Cell.behind 65540)) 8) (List._∷_ (12, Rows.mref (Array.Array Cell.R 32772) (Syntax.tyRef (Syntax.named 9) Syntax.mut (Syntax.tyArray Cell.behind 32772)) 9) (List._∷_ (13, Rows.any-gone Syntax.tyBool) (List._∷_ (14, Rows.any-gone Syntax.tyBool) (List._∷_ (15, Rows.any-gone Syntax.tyBool) List.[])))))))))))))))
+t52 = List._∷_ (0, Rows.any-gone (Syntax.tyStruct (List._∷_ 122 (List._∷_ 111 (List._∷_ 110 (List._∷_ 101 (List._∷_ 115 (List._∷_ 58 (List._∷_ 58 (List._∷_ 104 (List._∷_ 101 (List._∷_ 108 (List._∷_ 100 (List._∷_ 58 (List._∷_ 58 (List._∷_ 72 (List._∷_ 101 (List._∷_ 108 (List._∷_ 100 List.[]))))))))))))))))) (Syntax.tcons (Syntax.tyStruct (List._∷_ 112 (List._∷_ 121 (List._∷_ 114 (List._∷_ 97 (List._∷_ 109 (List._∷_ 105 (List._∷_ 100 (List._∷_ 58 (List._∷_ 58 (List._∷_ 83 (List._∷_ 116 (List._∷_ 97 (List._∷_ 116 (List._∷_ 101 List.[])))))))))))))) (Syntax.tcons (Syntax.tyInt Syntax.w32) (Syntax.tcons (Syntax.tyInt Syntax.w32) (Syntax.tcons (Syntax.tyInt Syntax.w32) (Syntax.tcons (Syntax.tyInt Syntax.w32) (Syntax.tcons (Syntax.tyInt Syntax.w32) (Syntax.tcons (Syntax.tyArray (Syntax.tyInt Syntax.w32) 64) Syntax.tnil))))))) (Syntax.tcons (Syntax.tyInt Syntax.w64) (Syntax.tcons (Syntax.tyInt Syntax.w64) (Syntax.tcons (Syntax.tyInt Syntax.w64) (Syntax.tcons (Syntax.tyInt Syntax.w64) (Syntax.tcons (Syntax.tyInt Syntax.w64) (Syntax.tcons (Syntax.tyInt Syntax.w64) (Syntax.tcons Syntax.tyBool Syntax.tnil)))))))))) (List._∷_ (1, Rows.whole (Declared.row Held.the-type)) (List._∷_ (2, Rows.whole (Declared.row Line.the-type)) (List._∷_ (3, Rows.sslice (Referent.rtF (Referent.fInt Syntax.w8)) (Syntax.tyRef (Syntax.named 0) Syntax.imm (Syntax.tyInt Syntax.w8)) 0) (List._∷_ (4, Rows.sref (Array.Array (Referent.rtF (Referent.fInt Syntax.w32)) 32772) (Syntax.tyRef (Syntax.named 1) Syntax.imm (Syntax.tyArray (Syntax.tyInt Syntax.w32) 32772)) 1) (List._∷_ (5, Rows.mref (Array.Array (Referent.rtF (Referent.fInt Syntax.w8)) 16388) (Syntax.tyRef (Syntax.named 2) Syntax.mut (Syntax.tyArray (Syntax.tyInt Syntax.w8) 16388)) 2) (List._∷_ (6, Rows.mref-owed (Array.Array (Referent.rtF (Referent.fInt Syntax.w32)) 65540) (Syntax.tyRef (Syntax.named 3) Syntax.mut (Syntax.tyArray (Syntax.tyInt Syntax.w32) 65540)) 3 18 Row.off) (List._∷_ (7, Rows.mref-owed (Array.Array (Referent.rtF (Referent.fInt Syntax.w32)) 32772) (Syntax.tyRef (Syntax.named 4) Syntax.mut (Syntax.tyArray (Syntax.tyInt Syntax.w32) 32772)) 4 19 Row.off) (List._∷_ (8, Rows.mref (Array.Array (Referent.rtF (Referent.fInt Syntax.w32)) 32772) (Syntax.tyRef (Syntax.named 5) Syntax.mut (Syntax.tyArray (Syntax.tyInt Syntax.w32) 32772)) 5) (List._∷_ (9, Rows.mref-owed (Array.Array (Referent.rtF (Referent.fInt Syntax.w32)) 262160) (Syntax.tyRef (Syntax.named 6) Syntax.mut (Syntax.tyArray (Syntax.tyInt Syntax.w32) 262160)) 6 20 Row.off) (List._∷_ (10, Rows.mref (Array.Array (Referent.rtF (Referent.fInt Syntax.w8)) 600000) (Syntax.tyRef (Syntax.named 7) Syntax.mut (Syntax.tyArray (Syntax.tyInt Syntax.w8) 600000)) 7) (List._∷_ (11, Rows.mref (Array.Array Cell.R 65540) (Syntax.tyRef (Syntax.named 8) Syntax.mut (Syntax.tyArray Cell.behind 65540)) 8) (List._∷_ (12, Rows.mref (Array.Array Cell.R 32772) (Syntax.tyRef (Syntax.named 9) Syntax.mut (Syntax.tyArray Cell.behind 32772)) 9) (List._∷_ (13, Rows.any-gone Syntax.tyBool) (List._∷_ (14, Rows.any-gone Syntax.tyBool) (List._∷_ (15, Rows.any-gone Syntax.tyBool) List.[])))))))))))))))
 
 abbrev pub t53 : List.List Row.Entry
 t53 = List._∷_ (16, Rows.any-gone (Syntax.tyRef Syntax.erased Syntax.mut (Syntax.tyArray (Syntax.tyInt Syntax.w8) 16388))) (List._∷_ (17, Rows.any-gone (Syntax.tyRef Syntax.erased Syntax.mut (Syntax.tyArray (Syntax.tyInt Syntax.w32) 65540))) (List._∷_ (18, Rows.any-gone (Syntax.tyRef Syntax.erased Syntax.mut (Syntax.tyArray (Syntax.tyInt Syntax.w32) 32772))) (List._∷_ (19, Rows.any-gone (Syntax.tyRef Syntax.erased Syntax.mut (Syntax.tyArray (Syntax.tyInt Syntax.w32) 32772))) (List._∷_ (20, Rows.any-gone (Syntax.tyRef Syntax.erased Syntax.mut (Syntax.tyArray (Syntax.tyInt Syntax.w32) 262160))) (List._∷_ (21, Rows.any-gone (Syntax.tyRef Syntax.erased Syntax.mut (Syntax.tyArray (Syntax.tyInt Syntax.w8) 600000))) (List._∷_ (22, Rows.any-gone (Syntax.tyRef Syntax.erased Syntax.mut Cell.behind)) (List._∷_ (23, Rows.any-gone (Syntax.tyStruct (List._∷_ 38 (List._∷_ 91 (List._∷_ 93 List.[]))) (Syntax.tcons (Syntax.tyRef Syntax.erased Syntax.mut Cell.behind) (Syntax.tcons (Syntax.tyInt Syntax.w64) Syntax.tnil)))) (List._∷_ (24, Rows.any-gone (Syntax.tyRef Syntax.erased Syntax.mut Cell.behind)) (List._∷_ (25, Rows.any-gone (Syntax.tyStruct (List._∷_ 38 (List._∷_ 91 (List._∷_ 93 List.[]))) (Syntax.tcons (Syntax.tyRef Syntax.erased Syntax.mut Cell.behind) (Syntax.tcons (Syntax.tyInt Syntax.w64) Syntax.tnil)))) (List._∷_ (26, Rows.mref (Array.Array (Referent.rtF (Referent.fInt Syntax.w32)) 65540) (Syntax.tyRef Syntax.erased Syntax.mut (Syntax.tyArray (Syntax.tyInt Syntax.w32) 65540)) 18) (List._∷_ (27, Rows.mref (Array.Array (Referent.rtF (Referent.fInt Syntax.w32)) 32772) (Syntax.tyRef Syntax.erased Syntax.mut (Syntax.tyArray (Syntax.tyInt Syntax.w32) 32772)) 19) (List._∷_ (28, Rows.mref (Array.Array (Referent.rtF (Referent.fInt Syntax.w32)) 262160) (Syntax.tyRef Syntax.erased Syntax.mut (Syntax.tyArray (Syntax.tyInt Syntax.w32) 262160)) 20) (List._∷_ (29, Rows.any-gone (Syntax.tyRef Syntax.erased Syntax.imm (Syntax.tyArray (Syntax.tyInt Syntax.w8) 600000))) (List._∷_ (30, Rows.any-gone (Syntax.tyRef Syntax.erased Syntax.mut (Syntax.tyArray Cell.behind 65540))) (List._∷_ (31, Rows.any-gone (Syntax.tyRef Syntax.erased Syntax.mut (Syntax.tyArray Cell.behind 32772))) List.[])))))))))))))))
 
 abbrev pub t54 : List.List Row.Entry
-t54 = List._∷_ (0, Rows.any-gone (Syntax.tyStruct (List._∷_ 122 (List._∷_ 111 (List._∷_ 110 (List._∷_ 101 (List._∷_ 115 (List._∷_ 58 (List._∷_ 58 (List._∷_ 104 (List._∷_ 101 (List._∷_ 108 (List._∷_ 100 (List._∷_ 58 (List._∷_ 58 (List._∷_ 72 (List._∷_ 101 (List._∷_ 108 (List._∷_ 100 List.[]))))))))))))))))) (Syntax.tcons (Syntax.tyStruct (List._∷_ 112 (List._∷_ 121 (List._∷_ 114 (List._∷_ 97 (List._∷_ 109 (List._∷_ 105 (List._∷_ 100 (List._∷_ 58 (List._∷_ 58 (List._∷_ 83 (List._∷_ 116 (List._∷_ 97 (List._∷_ 116 (List._∷_ 101 List.[])))))))))))))) (Syntax.tcons (Syntax.tyInt Syntax.w32) (Syntax.tcons (Syntax.tyInt Syntax.w32) (Syntax.tcons (Syntax.tyInt Syntax.w32) (Syntax.tcons (Syntax.tyArray (Syntax.tyInt Syntax.w32) 64) Syntax.tnil))))) (Syntax.tcons (Syntax.tyInt Syntax.w64) (Syntax.tcons (Syntax.tyInt Syntax.w64) (Syntax.tcons (Syntax.tyInt Syntax.w64) (Syntax.tcons (Syntax.tyInt Syntax.w64) (Syntax.tcons (Syntax.tyInt Syntax.w64) (Syntax.tcons (Syntax.tyInt Syntax.w64) (Syntax.tcons Syntax.tyBool Syntax.tnil)))))))))) (List._∷_ (1, Rows.whole (Declared.row Held.the-type)) (List._∷_ (2, Rows.whole (Declared.row Line.the-type)) (List._∷_ (3, Rows.sslice (Referent.rtF (Referent.fInt Syntax.w8)) (Syntax.tyRef (Syntax.named 0) Syntax.imm (Syntax.tyInt Syntax.w8)) 0) (List._∷_ (4, Rows.sref (Array.Array (Referent.rtF (Referent.fInt Syntax.w32)) 32772) (Syntax.tyRef (Syntax.named 1) Syntax.imm (Syntax.tyArray (Syntax.tyInt Syntax.w32) 32772)) 1) (List._∷_ (5, Rows.mref (Array.Array (Referent.rtF (Referent.fInt Syntax.w8)) 16388) (Syntax.tyRef (Syntax.named 2) Syntax.mut (Syntax.tyArray (Syntax.tyInt Syntax.w8) 16388)) 2) (List._∷_ (6, Rows.mref-owed (Array.Array (Referent.rtF (Referent.fInt Syntax.w32)) 65540) (Syntax.tyRef (Syntax.named 3) Syntax.mut (Syntax.tyArray (Syntax.tyInt Syntax.w32) 65540)) 3 18 Row.off) (List._∷_ (7, Rows.mref-owed (Array.Array (Referent.rtF (Referent.fInt Syntax.w32)) 32772) (Syntax.tyRef (Syntax.named 4) Syntax.mut (Syntax.tyArray (Syntax.tyInt Syntax.w32) 32772)) 4 19 Row.off) (List._∷_ (8, Rows.mref (Array.Array (Referent.rtF (Referent.fInt Syntax.w32)) 32772) (Syntax.tyRef (Syntax.named 5) Syntax.mut (Syntax.tyArray (Syntax.tyInt Syntax.w32) 32772)) 5) (List._∷_ (9, Rows.mref-owed (Array.Array (Referent.rtF (Referent.fInt Syntax.w32)) 262160) (Syntax.tyRef (Syntax.named 6) Syntax.mut (Syntax.tyArray (Syntax.tyInt Syntax.w32) 262160)) 6 20 Row.off) (List._∷_ (10, Reshare.mref-owedS (Array.Array (Referent.rtF (Referent.fInt Syntax.w8)) 600000) (Syntax.tyRef (Syntax.named 7) Syntax.mut (Syntax.tyArray (Syntax.tyInt Syntax.w8) 600000)) 7 21 Row.off) (List._∷_ (11, Rows.mref (Array.Array Cell.R 65540) (Syntax.tyRef (Syntax.named 8) Syntax.mut (Syntax.tyArray Cell.behind 65540)) 8) (List._∷_ (12, Rows.mref (Array.Array Cell.R 32772) (Syntax.tyRef (Syntax.named 9) Syntax.mut (Syntax.tyArray Cell.behind 32772)) 9) (List._∷_ (13, Rows.any-gone Syntax.tyBool) (List._∷_ (14, Rows.any-gone Syntax.tyBool) (List._∷_ (15, Rows.any-gone Syntax.tyBool) List.[])))))))))))))))
+t54 = List._∷_ (0, Rows.any-gone (Syntax.tyStruct (List._∷_ 122 (List._∷_ 111 (List._∷_ 110 (List._∷_ 101 (List._∷_ 115 (List._∷_ 58 (List._∷_ 58 (List._∷_ 104 (List._∷_ 101 (List._∷_ 108 (List._∷_ 100 (List._∷_ 58 (List._∷_ 58 (List._∷_ 72 (List._∷_ 101 (List._∷_ 108 (List._∷_ 100 List.[]))))))))))))))))) (Syntax.tcons (Syntax.tyStruct (List._∷_ 112 (List._∷_ 121 (List._∷_ 114 (List._∷_ 97 (List._∷_ 109 (List._∷_ 105 (List._∷_ 100 (List._∷_ 58 (List._∷_ 58 (List._∷_ 83 (List._∷_ 116 (List._∷_ 97 (List._∷_ 116 (List._∷_ 101 List.[])))))))))))))) (Syntax.tcons (Syntax.tyInt Syntax.w32) (Syntax.tcons (Syntax.tyInt Syntax.w32) (Syntax.tcons (Syntax.tyInt Syntax.w32) (Syntax.tcons (Syntax.tyInt Syntax.w32) (Syntax.tcons (Syntax.tyInt Syntax.w32) (Syntax.tcons (Syntax.tyArray (Syntax.tyInt Syntax.w32) 64) Syntax.tnil))))))) (Syntax.tcons (Syntax.tyInt Syntax.w64) (Syntax.tcons (Syntax.tyInt Syntax.w64) (Syntax.tcons (Syntax.tyInt Syntax.w64) (Syntax.tcons (Syntax.tyInt Syntax.w64) (Syntax.tcons (Syntax.tyInt Syntax.w64) (Syntax.tcons (Syntax.tyInt Syntax.w64) (Syntax.tcons Syntax.tyBool Syntax.tnil)))))))))) (List._∷_ (1, Rows.whole (Declared.row Held.the-type)) (List._∷_ (2, Rows.whole (Declared.row Line.the-type)) (List._∷_ (3, Rows.sslice (Referent.rtF (Referent.fInt Syntax.w8)) (Syntax.tyRef (Syntax.named 0) Syntax.imm (Syntax.tyInt Syntax.w8)) 0) (List._∷_ (4, Rows.sref (Array.Array (Referent.rtF (Referent.fInt Syntax.w32)) 32772) (Syntax.tyRef (Syntax.named 1) Syntax.imm (Syntax.tyArray (Syntax.tyInt Syntax.w32) 32772)) 1) (List._∷_ (5, Rows.mref (Array.Array (Referent.rtF (Referent.fInt Syntax.w8)) 16388) (Syntax.tyRef (Syntax.named 2) Syntax.mut (Syntax.tyArray (Syntax.tyInt Syntax.w8) 16388)) 2) (List._∷_ (6, Rows.mref-owed (Array.Array (Referent.rtF (Referent.fInt Syntax.w32)) 65540) (Syntax.tyRef (Syntax.named 3) Syntax.mut (Syntax.tyArray (Syntax.tyInt Syntax.w32) 65540)) 3 18 Row.off) (List._∷_ (7, Rows.mref-owed (Array.Array (Referent.rtF (Referent.fInt Syntax.w32)) 32772) (Syntax.tyRef (Syntax.named 4) Syntax.mut (Syntax.tyArray (Syntax.tyInt Syntax.w32) 32772)) 4 19 Row.off) (List._∷_ (8, Rows.mref (Array.Array (Referent.rtF (Referent.fInt Syntax.w32)) 32772) (Syntax.tyRef (Syntax.named 5) Syntax.mut (Syntax.tyArray (Syntax.tyInt Syntax.w32) 32772)) 5) (List._∷_ (9, Rows.mref-owed (Array.Array (Referent.rtF (Referent.fInt Syntax.w32)) 262160) (Syntax.tyRef (Syntax.named 6) Syntax.mut (Syntax.tyArray (Syntax.tyInt Syntax.w32) 262160)) 6 20 Row.off) (List._∷_ (10, Reshare.mref-owedS (Array.Array (Referent.rtF (Referent.fInt Syntax.w8)) 600000) (Syntax.tyRef (Syntax.named 7) Syntax.mut (Syntax.tyArray (Syntax.tyInt Syntax.w8) 600000)) 7 21 Row.off) (List._∷_ (11, Rows.mref (Array.Array Cell.R 65540) (Syntax.tyRef (Syntax.named 8) Syntax.mut (Syntax.tyArray Cell.behind 65540)) 8) (List._∷_ (12, Rows.mref (Array.Array Cell.R 32772) (Syntax.tyRef (Syntax.named 9) Syntax.mut (Syntax.tyArray Cell.behind 32772)) 9) (List._∷_ (13, Rows.any-gone Syntax.tyBool) (List._∷_ (14, Rows.any-gone Syntax.tyBool) (List._∷_ (15, Rows.any-gone Syntax.tyBool) List.[])))))))))))))))
 
 abbrev pub t55 : List.List Row.Entry
 t55 = List._∷_ (16, Rows.any-gone (Syntax.tyRef Syntax.erased Syntax.mut (Syntax.tyArray (Syntax.tyInt Syntax.w8) 16388))) (List._∷_ (17, Rows.any-gone (Syntax.tyRef Syntax.erased Syntax.mut (Syntax.tyArray (Syntax.tyInt Syntax.w32) 65540))) (List._∷_ (18, Rows.any-gone (Syntax.tyRef Syntax.erased Syntax.mut (Syntax.tyArray (Syntax.tyInt Syntax.w32) 32772))) (List._∷_ (19, Rows.any-gone (Syntax.tyRef Syntax.erased Syntax.mut (Syntax.tyArray (Syntax.tyInt Syntax.w32) 32772))) (List._∷_ (20, Rows.any-gone (Syntax.tyRef Syntax.erased Syntax.mut (Syntax.tyArray (Syntax.tyInt Syntax.w32) 262160))) (List._∷_ (21, Rows.any-gone (Syntax.tyRef Syntax.erased Syntax.mut (Syntax.tyArray (Syntax.tyInt Syntax.w8) 600000))) (List._∷_ (22, Rows.any-gone (Syntax.tyRef Syntax.erased Syntax.mut Cell.behind)) (List._∷_ (23, Rows.any-gone (Syntax.tyStruct (List._∷_ 38 (List._∷_ 91 (List._∷_ 93 List.[]))) (Syntax.tcons (Syntax.tyRef Syntax.erased Syntax.mut Cell.behind) (Syntax.tcons (Syntax.tyInt Syntax.w64) Syntax.tnil)))) (List._∷_ (24, Rows.any-gone (Syntax.tyRef Syntax.erased Syntax.mut Cell.behind)) (List._∷_ (25, Rows.any-gone (Syntax.tyStruct (List._∷_ 38 (List._∷_ 91 (List._∷_ 93 List.[]))) (Syntax.tcons (Syntax.tyRef Syntax.erased Syntax.mut Cell.behind) (Syntax.tcons (Syntax.tyInt Syntax.w64) Syntax.tnil)))) (List._∷_ (26, Rows.mref (Array.Array (Referent.rtF (Referent.fInt Syntax.w32)) 65540) (Syntax.tyRef Syntax.erased Syntax.mut (Syntax.tyArray (Syntax.tyInt Syntax.w32) 65540)) 18) (List._∷_ (27, Rows.mref (Array.Array (Referent.rtF (Referent.fInt Syntax.w32)) 32772) (Syntax.tyRef Syntax.erased Syntax.mut (Syntax.tyArray (Syntax.tyInt Syntax.w32) 32772)) 19) (List._∷_ (28, Rows.mref (Array.Array (Referent.rtF (Referent.fInt Syntax.w32)) 262160) (Syntax.tyRef Syntax.erased Syntax.mut (Syntax.tyArray (Syntax.tyInt Syntax.w32) 262160)) 20) (List._∷_ (29, Rows.sref (Array.Array (Referent.rtF (Referent.fInt Syntax.w8)) 600000) (Syntax.tyRef Syntax.erased Syntax.imm (Syntax.tyArray (Syntax.tyInt Syntax.w8) 600000)) 21) (List._∷_ (30, Rows.any-gone (Syntax.tyRef Syntax.erased Syntax.mut (Syntax.tyArray Cell.behind 65540))) (List._∷_ (31, Rows.any-gone (Syntax.tyRef Syntax.erased Syntax.mut (Syntax.tyArray Cell.behind 32772))) List.[])))))))))))))))
 
 abbrev pub t56 : List.List Row.Entry
-t56 = List._∷_ (0, Rows.any-gone (Syntax.tyStruct (List._∷_ 122 (List._∷_ 111 (List._∷_ 110 (List._∷_ 101 (List._∷_ 115 (List._∷_ 58 (List._∷_ 58 (List._∷_ 104 (List._∷_ 101 (List._∷_ 108 (List._∷_ 100 (List._∷_ 58 (List._∷_ 58 (List._∷_ 72 (List._∷_ 101 (List._∷_ 108 (List._∷_ 100 List.[]))))))))))))))))) (Syntax.tcons (Syntax.tyStruct (List._∷_ 112 (List._∷_ 121 (List._∷_ 114 (List._∷_ 97 (List._∷_ 109 (List._∷_ 105 (List._∷_ 100 (List._∷_ 58 (List._∷_ 58 (List._∷_ 83 (List._∷_ 116 (List._∷_ 97 (List._∷_ 116 (List._∷_ 101 List.[])))))))))))))) (Syntax.tcons (Syntax.tyInt Syntax.w32) (Syntax.tcons (Syntax.tyInt Syntax.w32) (Syntax.tcons (Syntax.tyInt Syntax.w32) (Syntax.tcons (Syntax.tyArray (Syntax.tyInt Syntax.w32) 64) Syntax.tnil))))) (Syntax.tcons (Syntax.tyInt Syntax.w64) (Syntax.tcons (Syntax.tyInt Syntax.w64) (Syntax.tcons (Syntax.tyInt Syntax.w64) (Syntax.tcons (Syntax.tyInt Syntax.w64) (Syntax.tcons (Syntax.tyInt Syntax.w64) (Syntax.tcons (Syntax.tyInt Syntax.w64) (Syntax.tcons Syntax.tyBool Syntax.tnil)))))))))) (List._∷_ (1, Rows.whole (Declared.row Held.the-type)) (List._∷_ (2, Rows.whole (Declared.row Line.the-type)) (List._∷_ (3, Rows.sslice (Referent.rtF (Referent.fInt Syntax.w8)) (Syntax.tyRef (Syntax.named 0) Syntax.imm (Syntax.tyInt Syntax.w8)) 0) (List._∷_ (4, Rows.sref (Array.Array (Referent.rtF (Referent.fInt Syntax.w32)) 32772) (Syntax.tyRef (Syntax.named 1) Syntax.imm (Syntax.tyArray (Syntax.tyInt Syntax.w32) 32772)) 1) (List._∷_ (5, Rows.mref (Array.Array (Referent.rtF (Referent.fInt Syntax.w8)) 16388) (Syntax.tyRef (Syntax.named 2) Syntax.mut (Syntax.tyArray (Syntax.tyInt Syntax.w8) 16388)) 2) (List._∷_ (6, Rows.mref-owed (Array.Array (Referent.rtF (Referent.fInt Syntax.w32)) 65540) (Syntax.tyRef (Syntax.named 3) Syntax.mut (Syntax.tyArray (Syntax.tyInt Syntax.w32) 65540)) 3 18 Row.off) (List._∷_ (7, Rows.mref-owed (Array.Array (Referent.rtF (Referent.fInt Syntax.w32)) 32772) (Syntax.tyRef (Syntax.named 4) Syntax.mut (Syntax.tyArray (Syntax.tyInt Syntax.w32) 32772)) 4 19 Row.off) (List._∷_ (8, Rows.mref (Array.Array (Referent.rtF (Referent.fInt Syntax.w32)) 32772) (Syntax.tyRef (Syntax.named 5) Syntax.mut (Syntax.tyArray (Syntax.tyInt Syntax.w32) 32772)) 5) (List._∷_ (9, Rows.mref-owed (Array.Array (Referent.rtF (Referent.fInt Syntax.w32)) 262160) (Syntax.tyRef (Syntax.named 6) Syntax.mut (Syntax.tyArray (Syntax.tyInt Syntax.w32) 262160)) 6 20 Row.off) (List._∷_ (10, Reshare.mref-owedS (Array.Array (Referent.rtF (Referent.fInt Syntax.w8)) 600000) (Syntax.tyRef (Syntax.named 7) Syntax.mut (Syntax.tyArray (Syntax.tyInt Syntax.w8) 600000)) 7 21 Row.off) (List._∷_ (11, Rows.mref-owed (Array.Array Cell.R 65540) (Syntax.tyRef (Syntax.named 8) Syntax.mut (Syntax.tyArray Cell.behind 65540)) 8 22 Row.off) (List._∷_ (12, Rows.mref (Array.Array Cell.R 32772) (Syntax.tyRef (Syntax.named 9) Syntax.mut (Syntax.tyArray Cell.behind 32772)) 9) (List._∷_ (13, Rows.any-gone Syntax.tyBool) (List._∷_ (14, Rows.any-gone Syntax.tyBool) (List._∷_ (15, Rows.any-gone Syntax.tyBool) List.[])))))))))))))))
+t56 = List._∷_ (0, Rows.any-gone (Syntax.tyStruct (List._∷_ 122 (List._∷_ 111 (List._∷_ 110 (List._∷_ 101 (List._∷_ 115 (List._∷_ 58 (List._∷_ 58 (List._∷_ 104 (List._∷_ 101 (List._∷_ 108 (List._∷_ 100 (List._∷_ 58 (List._∷_ 58 (List._∷_ 72 (List._∷_ 101 (List._∷_ 108 (List._∷_ 100 List.[]))))))))))))))))) (Syntax.tcons (Syntax.tyStruct (List._∷_ 112 (List._∷_ 121 (List._∷_ 114 (List._∷_ 97 (List._∷_ 109 (List._∷_ 105 (List._∷_ 100 (List._∷_ 58 (List._∷_ 58 (List._∷_ 83 (List._∷_ 116 (List._∷_ 97 (List._∷_ 116 (List._∷_ 101 List.[])))))))))))))) (Syntax.tcons (Syntax.tyInt Syntax.w32) (Syntax.tcons (Syntax.tyInt Syntax.w32) (Syntax.tcons (Syntax.tyInt Syntax.w32) (Syntax.tcons (Syntax.tyInt Syntax.w32) (Syntax.tcons (Syntax.tyInt Syntax.w32) (Syntax.tcons (Syntax.tyArray (Syntax.tyInt Syntax.w32) 64) Syntax.tnil))))))) (Syntax.tcons (Syntax.tyInt Syntax.w64) (Syntax.tcons (Syntax.tyInt Syntax.w64) (Syntax.tcons (Syntax.tyInt Syntax.w64) (Syntax.tcons (Syntax.tyInt Syntax.w64) (Syntax.tcons (Syntax.tyInt Syntax.w64) (Syntax.tcons (Syntax.tyInt Syntax.w64) (Syntax.tcons Syntax.tyBool Syntax.tnil)))))))))) (List._∷_ (1, Rows.whole (Declared.row Held.the-type)) (List._∷_ (2, Rows.whole (Declared.row Line.the-type)) (List._∷_ (3, Rows.sslice (Referent.rtF (Referent.fInt Syntax.w8)) (Syntax.tyRef (Syntax.named 0) Syntax.imm (Syntax.tyInt Syntax.w8)) 0) (List._∷_ (4, Rows.sref (Array.Array (Referent.rtF (Referent.fInt Syntax.w32)) 32772) (Syntax.tyRef (Syntax.named 1) Syntax.imm (Syntax.tyArray (Syntax.tyInt Syntax.w32) 32772)) 1) (List._∷_ (5, Rows.mref (Array.Array (Referent.rtF (Referent.fInt Syntax.w8)) 16388) (Syntax.tyRef (Syntax.named 2) Syntax.mut (Syntax.tyArray (Syntax.tyInt Syntax.w8) 16388)) 2) (List._∷_ (6, Rows.mref-owed (Array.Array (Referent.rtF (Referent.fInt Syntax.w32)) 65540) (Syntax.tyRef (Syntax.named 3) Syntax.mut (Syntax.tyArray (Syntax.tyInt Syntax.w32) 65540)) 3 18 Row.off) (List._∷_ (7, Rows.mref-owed (Array.Array (Referent.rtF (Referent.fInt Syntax.w32)) 32772) (Syntax.tyRef (Syntax.named 4) Syntax.mut (Syntax.tyArray (Syntax.tyInt Syntax.w32) 32772)) 4 19 Row.off) (List._∷_ (8, Rows.mref (Array.Array (Referent.rtF (Referent.fInt Syntax.w32)) 32772) (Syntax.tyRef (Syntax.named 5) Syntax.mut (Syntax.tyArray (Syntax.tyInt Syntax.w32) 32772)) 5) (List._∷_ (9, Rows.mref-owed (Array.Array (Referent.rtF (Referent.fInt Syntax.w32)) 262160) (Syntax.tyRef (Syntax.named 6) Syntax.mut (Syntax.tyArray (Syntax.tyInt Syntax.w32) 262160)) 6 20 Row.off) (List._∷_ (10, Reshare.mref-owedS (Array.Array (Referent.rtF (Referent.fInt Syntax.w8)) 600000) (Syntax.tyRef (Syntax.named 7) Syntax.mut (Syntax.tyArray (Syntax.tyInt Syntax.w8) 600000)) 7 21 Row.off) (List._∷_ (11, Rows.mref-owed (Array.Array Cell.R 65540) (Syntax.tyRef (Syntax.named 8) Syntax.mut (Syntax.tyArray Cell.behind 65540)) 8 22 Row.off) (List._∷_ (12, Rows.mref (Array.Array Cell.R 32772) (Syntax.tyRef (Syntax.named 9) Syntax.mut (Syntax.tyArray Cell.behind 32772)) 9) (List._∷_ (13, Rows.any-gone Syntax.tyBool) (List._∷_ (14, Rows.any-gone Syntax.tyBool) (List._∷_ (15, Rows.any-gone Syntax.tyBool) List.[])))))))))))))))
 
 abbrev pub t57 : List.List Row.Entry
 t57 = List._∷_ (16, Rows.any-gone (Syntax.tyRef Syntax.erased Syntax.mut (Syntax.tyArray (Syntax.tyInt Syntax.w8) 16388))) (List._∷_ (17, Rows.any-gone (Syntax.tyRef Syntax.erased Syntax.mut (Syntax.tyArray (Syntax.tyInt Syntax.w32) 65540))) (List._∷_ (18, Rows.any-gone (Syntax.tyRef Syntax.erased Syntax.mut (Syntax.tyArray (Syntax.tyInt Syntax.w32) 32772))) (List._∷_ (19, Rows.any-gone (Syntax.tyRef Syntax.erased Syntax.mut (Syntax.tyArray (Syntax.tyInt Syntax.w32) 32772))) (List._∷_ (20, Rows.any-gone (Syntax.tyRef Syntax.erased Syntax.mut (Syntax.tyArray (Syntax.tyInt Syntax.w32) 262160))) (List._∷_ (21, Rows.any-gone (Syntax.tyRef Syntax.erased Syntax.mut (Syntax.tyArray (Syntax.tyInt Syntax.w8) 600000))) (List._∷_ (22, Rows.any-gone (Syntax.tyRef Syntax.erased Syntax.mut Cell.behind)) (List._∷_ (23, Rows.any-gone (Syntax.tyStruct (List._∷_ 38 (List._∷_ 91 (List._∷_ 93 List.[]))) (Syntax.tcons (Syntax.tyRef Syntax.erased Syntax.mut Cell.behind) (Syntax.tcons (Syntax.tyInt Syntax.w64) Syntax.tnil)))) (List._∷_ (24, Rows.any-gone (Syntax.tyRef Syntax.erased Syntax.mut Cell.behind)) (List._∷_ (25, Rows.any-gone (Syntax.tyStruct (List._∷_ 38 (List._∷_ 91 (List._∷_ 93 List.[]))) (Syntax.tcons (Syntax.tyRef Syntax.erased Syntax.mut Cell.behind) (Syntax.tcons (Syntax.tyInt Syntax.w64) Syntax.tnil)))) (List._∷_ (26, Rows.mref (Array.Array (Referent.rtF (Referent.fInt Syntax.w32)) 65540) (Syntax.tyRef Syntax.erased Syntax.mut (Syntax.tyArray (Syntax.tyInt Syntax.w32) 65540)) 18) (List._∷_ (27, Rows.mref (Array.Array (Referent.rtF (Referent.fInt Syntax.w32)) 32772) (Syntax.tyRef Syntax.erased Syntax.mut (Syntax.tyArray (Syntax.tyInt Syntax.w32) 32772)) 19) (List._∷_ (28, Rows.mref (Array.Array (Referent.rtF (Referent.fInt Syntax.w32)) 262160) (Syntax.tyRef Syntax.erased Syntax.mut (Syntax.tyArray (Syntax.tyInt Syntax.w32) 262160)) 20) (List._∷_ (29, Rows.sref (Array.Array (Referent.rtF (Referent.fInt Syntax.w8)) 600000) (Syntax.tyRef Syntax.erased Syntax.imm (Syntax.tyArray (Syntax.tyInt Syntax.w8) 600000)) 21) (List._∷_ (30, Rows.mref (Array.Array Cell.R 65540) (Syntax.tyRef Syntax.erased Syntax.mut (Syntax.tyArray Cell.behind 65540)) 22) (List._∷_ (31, Rows.any-gone (Syntax.tyRef Syntax.erased Syntax.mut (Syntax.tyArray Cell.behind 32772))) List.[])))))))))))))))
 
 abbrev pub t58 : List.List Row.Entry
-t58 = List._∷_ (0, Rows.any-gone (Syntax.tyStruct (List._∷_ 122 (List._∷_ 111 (List._∷_ 110 (List._∷_ 101 (List._∷_ 115 (List._∷_ 58 (List._∷_ 58 (List._∷_ 104 (List._∷_ 101 (List._∷_ 108 (List._∷_ 100 (List._∷_ 58 (List._∷_ 58 (List._∷_ 72 (List._∷_ 101 (List._∷_ 108 (List._∷_ 100 List.[]))))))))))))))))) (Syntax.tcons (Syntax.tyStruct (List._∷_ 112 (List._∷_ 121 (List._∷_ 114 (List._∷_ 97 (List._∷_ 109 (List._∷_ 105 (List._∷_ 100 (List._∷_ 58 (List._∷_ 58 (List._∷_ 83 (List._∷_ 116 (List._∷_ 97 (List._∷_ 116 (List._∷_ 101 List.[])))))))))))))) (Syntax.tcons (Syntax.tyInt Syntax.w32) (Syntax.tcons (Syntax.tyInt Syntax.w32) (Syntax.tcons (Syntax.tyInt Syntax.w32) (Syntax.tcons (Syntax.tyArray (Syntax.tyInt Syntax.w32) 64) Syntax.tnil))))) (Syntax.tcons (Syntax.tyInt Syntax.w64) (Syntax.tcons (Syntax.tyInt Syntax.w64) (Syntax.tcons (Syntax.tyInt Syntax.w64) (Syntax.tcons (Syntax.tyInt Syntax.w64) (Syntax.tcons (Syntax.tyInt Syntax.w64) (Syntax.tcons (Syntax.tyInt Syntax.w64) (Syntax.tcons Syntax.tyBool Syntax.tnil)))))))))) (List._∷_ (1, Rows.whole (Declared.row Held.the-type)) (List._∷_ (2, Rows.whole (Declared.row Line.the-type)) (List._∷_ (3, Rows.sslice (Referent.rtF (Referent.fInt Syntax.w8)) (Syntax.tyRef (Syntax.named 0) Syntax.imm (Syntax.tyInt Syntax.w8)) 0) (List._∷_ (4, Rows.sref (Array.Array (Referent.rtF (Referent.fInt Syntax.w32)) 32772) (Syntax.tyRef (Syntax.named 1) Syntax.imm (Syntax.tyArray (Syntax.tyInt Syntax.w32) 32772)) 1) (List._∷_ (5, Rows.mref (Array.Array (Referent.rtF (Referent.fInt Syntax.w8)) 16388) (Syntax.tyRef (Syntax.named 2) Syntax.mut (Syntax.tyArray (Syntax.tyInt Syntax.w8) 16388)) 2) (List._∷_ (6, Rows.mref-owed (Array.Array (Referent.rtF (Referent.fInt Syntax.w32)) 65540) (Syntax.tyRef (Syntax.named 3) Syntax.mut (Syntax.tyArray (Syntax.tyInt Syntax.w32) 65540)) 3 18 Row.off) (List._∷_ (7, Rows.mref-owed (Array.Array (Referent.rtF (Referent.fInt Syntax.w32)) 32772) (Syntax.tyRef (Syntax.named 4) Syntax.mut (Syntax.tyArray (Syntax.tyInt Syntax.w32) 32772)) 4 19 Row.off) (List._∷_ (8, Rows.mref (Array.Array (Referent.rtF (Referent.fInt Syntax.w32)) 32772) (Syntax.tyRef (Syntax.named 5) Syntax.mut (Syntax.tyArray (Syntax.tyInt Syntax.w32) 32772)) 5) (List._∷_ (9, Rows.mref-owed (Array.Array (Referent.rtF (Referent.fInt Syntax.w32)) 262160) (Syntax.tyRef (Syntax.named 6) Syntax.mut (Syntax.tyArray (Syntax.tyInt Syntax.w32) 262160)) 6 20 Row.off) (List._∷_ (10, Reshare.mref-owedS (Array.Array (Referent.rtF (Referent.fInt Syntax.w8)) 600000) (Syntax.tyRef (Syntax.named 7) Syntax.mut (Syntax.tyArray (Syntax.tyInt Syntax.w8) 600000)) 7 21 Row.off) (List._∷_ (11, Rows.mref-owed (Array.Array Cell.R 65540) (Syntax.tyRef (Syntax.named 8) Syntax.mut (Syntax.tyArray Cell.behind 65540)) 8 22 Row.off) (List._∷_ (12, Rows.mref-owed (Array.Array Cell.R 32772) (Syntax.tyRef (Syntax.named 9) Syntax.mut (Syntax.tyArray Cell.behind 32772)) 9 23 Row.off) (List._∷_ (13, Rows.any-gone Syntax.tyBool) (List._∷_ (14, Rows.any-gone Syntax.tyBool) (List._∷_ (15, Rows.any-gone Syntax.tyBool) List.[])))))))))))))))
+t58 = List._∷_ (0, Rows.any-gone (Syntax.tyStruct (List._∷_ 122 (List._∷_ 111 (List._∷_ 110 (List._∷_ 101 (List._∷_ 115 (List._∷_ 58 (List._∷_ 58 (List._∷_ 104 (List._∷_ 101 (List._∷_ 108 (List._∷_ 100 (List._∷_ 58 (List._∷_ 58 (List._∷_ 72 (List._∷_ 101 (List._∷_ 108 (List._∷_ 100 List.[]))))))))))))))))) (Syntax.tcons (Syntax.tyStruct (List._∷_ 112 (List._∷_ 121 (List._∷_ 114 (List._∷_ 97 (List._∷_ 109 (List._∷_ 105 (List._∷_ 100 (List._∷_ 58 (List._∷_ 58 (List._∷_ 83 (List._∷_ 116 (List._∷_ 97 (List._∷_ 116 (List._∷_ 101 List.[])))))))))))))) (Syntax.tcons (Syntax.tyInt Syntax.w32) (Syntax.tcons (Syntax.tyInt Syntax.w32) (Syntax.tcons (Syntax.tyInt Syntax.w32) (Syntax.tcons (Syntax.tyInt Syntax.w32) (Syntax.tcons (Syntax.tyInt Syntax.w32) (Syntax.tcons (Syntax.tyArray (Syntax.tyInt Syntax.w32) 64) Syntax.tnil))))))) (Syntax.tcons (Syntax.tyInt Syntax.w64) (Syntax.tcons (Syntax.tyInt Syntax.w64) (Syntax.tcons (Syntax.tyInt Syntax.w64) (Syntax.tcons (Syntax.tyInt Syntax.w64) (Syntax.tcons (Syntax.tyInt Syntax.w64) (Syntax.tcons (Syntax.tyInt Syntax.w64) (Syntax.tcons Syntax.tyBool Syntax.tnil)))))))))) (List._∷_ (1, Rows.whole (Declared.row Held.the-type)) (List._∷_ (2, Rows.whole (Declared.row Line.the-type)) (List._∷_ (3, Rows.sslice (Referent.rtF (Referent.fInt Syntax.w8)) (Syntax.tyRef (Syntax.named 0) Syntax.imm (Syntax.tyInt Syntax.w8)) 0) (List._∷_ (4, Rows.sref (Array.Array (Referent.rtF (Referent.fInt Syntax.w32)) 32772) (Syntax.tyRef (Syntax.named 1) Syntax.imm (Syntax.tyArray (Syntax.tyInt Syntax.w32) 32772)) 1) (List._∷_ (5, Rows.mref (Array.Array (Referent.rtF (Referent.fInt Syntax.w8)) 16388) (Syntax.tyRef (Syntax.named 2) Syntax.mut (Syntax.tyArray (Syntax.tyInt Syntax.w8) 16388)) 2) (List._∷_ (6, Rows.mref-owed (Array.Array (Referent.rtF (Referent.fInt Syntax.w32)) 65540) (Syntax.tyRef (Syntax.named 3) Syntax.mut (Syntax.tyArray (Syntax.tyInt Syntax.w32) 65540)) 3 18 Row.off) (List._∷_ (7, Rows.mref-owed (Array.Array (Referent.rtF (Referent.fInt Syntax.w32)) 32772) (Syntax.tyRef (Syntax.named 4) Syntax.mut (Syntax.tyArray (Syntax.tyInt Syntax.w32) 32772)) 4 19 Row.off) (List._∷_ (8, Rows.mref (Array.Array (Referent.rtF (Referent.fInt Syntax.w32)) 32772) (Syntax.tyRef (Syntax.named 5) Syntax.mut (Syntax.tyArray (Syntax.tyInt Syntax.w32) 32772)) 5) (List._∷_ (9, Rows.mref-owed (Array.Array (Referent.rtF (Referent.fInt Syntax.w32)) 262160) (Syntax.tyRef (Syntax.named 6) Syntax.mut (Syntax.tyArray (Syntax.tyInt Syntax.w32) 262160)) 6 20 Row.off) (List._∷_ (10, Reshare.mref-owedS (Array.Array (Referent.rtF (Referent.fInt Syntax.w8)) 600000) (Syntax.tyRef (Syntax.named 7) Syntax.mut (Syntax.tyArray (Syntax.tyInt Syntax.w8) 600000)) 7 21 Row.off) (List._∷_ (11, Rows.mref-owed (Array.Array Cell.R 65540) (Syntax.tyRef (Syntax.named 8) Syntax.mut (Syntax.tyArray Cell.behind 65540)) 8 22 Row.off) (List._∷_ (12, Rows.mref-owed (Array.Array Cell.R 32772) (Syntax.tyRef (Syntax.named 9) Syntax.mut (Syntax.tyArray Cell.behind 32772)) 9 23 Row.off) (List._∷_ (13, Rows.any-gone Syntax.tyBool) (List._∷_ (14, Rows.any-gone Syntax.tyBool) (List._∷_ (15, Rows.any-gone Syntax.tyBool) List.[])))))))))))))))
 
 abbrev pub t59 : List.List Row.Entry
 t59 = List._∷_ (16, Rows.any-gone (Syntax.tyRef Syntax.erased Syntax.mut (Syntax.tyArray (Syntax.tyInt Syntax.w8) 16388))) (List._∷_ (17, Rows.any-gone (Syntax.tyRef Syntax.erased Syntax.mut (Syntax.tyArray (Syntax.tyInt Syntax.w32) 65540))) (List._∷_ (18, Rows.any-gone (Syntax.tyRef Syntax.erased Syntax.mut (Syntax.tyArray (Syntax.tyInt Syntax.w32) 32772))) (List._∷_ (19, Rows.any-gone (Syntax.tyRef Syntax.erased Syntax.mut (Syntax.tyArray (Syntax.tyInt Syntax.w32) 32772))) (List._∷_ (20, Rows.any-gone (Syntax.tyRef Syntax.erased Syntax.mut (Syntax.tyArray (Syntax.tyInt Syntax.w32) 262160))) (List._∷_ (21, Rows.any-gone (Syntax.tyRef Syntax.erased Syntax.mut (Syntax.tyArray (Syntax.tyInt Syntax.w8) 600000))) (List._∷_ (22, Rows.any-gone (Syntax.tyRef Syntax.erased Syntax.mut Cell.behind)) (List._∷_ (23, Rows.any-gone (Syntax.tyStruct (List._∷_ 38 (List._∷_ 91 (List._∷_ 93 List.[]))) (Syntax.tcons (Syntax.tyRef Syntax.erased Syntax.mut Cell.behind) (Syntax.tcons (Syntax.tyInt Syntax.w64) Syntax.tnil)))) (List._∷_ (24, Rows.any-gone (Syntax.tyRef Syntax.erased Syntax.mut Cell.behind)) (List._∷_ (25, Rows.any-gone (Syntax.tyStruct (List._∷_ 38 (List._∷_ 91 (List._∷_ 93 List.[]))) (Syntax.tcons (Syntax.tyRef Syntax.erased Syntax.mut Cell.behind) (Syntax.tcons (Syntax.tyInt Syntax.w64) Syntax.tnil)))) (List._∷_ (26, Rows.mref (Array.Array (Referent.rtF (Referent.fInt Syntax.w32)) 65540) (Syntax.tyRef Syntax.erased Syntax.mut (Syntax.tyArray (Syntax.tyInt Syntax.w32) 65540)) 18) (List._∷_ (27, Rows.mref (Array.Array (Referent.rtF (Referent.fInt Syntax.w32)) 32772) (Syntax.tyRef Syntax.erased Syntax.mut (Syntax.tyArray (Syntax.tyInt Syntax.w32) 32772)) 19) (List._∷_ (28, Rows.mref (Array.Array (Referent.rtF (Referent.fInt Syntax.w32)) 262160) (Syntax.tyRef Syntax.erased Syntax.mut (Syntax.tyArray (Syntax.tyInt Syntax.w32) 262160)) 20) (List._∷_ (29, Rows.sref (Array.Array (Referent.rtF (Referent.fInt Syntax.w8)) 600000) (Syntax.tyRef Syntax.erased Syntax.imm (Syntax.tyArray (Syntax.tyInt Syntax.w8) 600000)) 21) (List._∷_ (30, Rows.mref (Array.Array Cell.R 65540) (Syntax.tyRef Syntax.erased Syntax.mut (Syntax.tyArray Cell.behind 65540)) 22) (List._∷_ (31, Rows.mref (Array.Array Cell.R 32772) (Syntax.tyRef Syntax.erased Syntax.mut (Syntax.tyArray Cell.behind 32772)) 23) List.[])))))))))))))))
@@ -482,34 +482,34 @@ abbrev pub t62 : List.List Row.Entry
 t62 = List._∷_ (16, Rows.any-gone (Syntax.tyRef Syntax.erased Syntax.mut (Syntax.tyArray (Syntax.tyInt Syntax.w8) 16388))) (List._∷_ (17, Rows.any-gone (Syntax.tyRef Syntax.erased Syntax.mut (Syntax.tyArray (Syntax.tyInt Syntax.w32) 65540))) (List._∷_ (18, Rows.any-gone (Syntax.tyRef Syntax.erased Syntax.mut (Syntax.tyArray (Syntax.tyInt Syntax.w32) 32772))) (List._∷_ (19, Rows.any-gone (Syntax.tyRef Syntax.erased Syntax.mut (Syntax.tyArray (Syntax.tyInt Syntax.w32) 32772))) (List._∷_ (20, Rows.any-gone (Syntax.tyRef Syntax.erased Syntax.mut (Syntax.tyArray (Syntax.tyInt Syntax.w32) 262160))) (List._∷_ (21, Rows.any-gone (Syntax.tyRef Syntax.erased Syntax.mut (Syntax.tyArray (Syntax.tyInt Syntax.w8) 600000))) (List._∷_ (22, Rows.any-gone (Syntax.tyRef Syntax.erased Syntax.mut Cell.behind)) (List._∷_ (23, Rows.any-gone (Syntax.tyStruct (List._∷_ 38 (List._∷_ 91 (List._∷_ 93 List.[]))) (Syntax.tcons (Syntax.tyRef Syntax.erased Syntax.mut Cell.behind) (Syntax.tcons (Syntax.tyInt Syntax.w64) Syntax.tnil)))) (List._∷_ (24, Rows.any-gone (Syntax.tyRef Syntax.erased Syntax.mut Cell.behind)) (List._∷_ (25, Rows.any-gone (Syntax.tyStruct (List._∷_ 38 (List._∷_ 91 (List._∷_ 93 List.[]))) (Syntax.tcons (Syntax.tyRef Syntax.erased Syntax.mut Cell.behind) (Syntax.tcons (Syntax.tyInt Syntax.w64) Syntax.tnil)))) (List._∷_ (26, Rows.mleft (Array.Array (Referent.rtF (Referent.fInt Syntax.w32)) 65540) (Syntax.tyRef Syntax.erased Syntax.mut (Syntax.tyArray (Syntax.tyInt Syntax.w32) 65540))) (List._∷_ (27, Rows.mleft (Array.Array (Referent.rtF (Referent.fInt Syntax.w32)) 32772) (Syntax.tyRef Syntax.erased Syntax.mut (Syntax.tyArray (Syntax.tyInt Syntax.w32) 32772))) (List._∷_ (28, Rows.mleft (Array.Array (Referent.rtF (Referent.fInt Syntax.w32)) 262160) (Syntax.tyRef Syntax.erased Syntax.mut (Syntax.tyArray (Syntax.tyInt Syntax.w32) 262160))) (List._∷_ (29, Rows.any-gone (Syntax.tyRef Syntax.erased Syntax.imm (Syntax.tyArray (Syntax.tyInt Syntax.w8) 600000))) (List._∷_ (30, Rows.mleft (Array.Array Cell.R 65540) (Syntax.tyRef Syntax.erased Syntax.mut (Syntax.tyArray Cell.behind 65540))) (List._∷_ (31, Rows.mleft (Array.Array Cell.R 32772) (Syntax.tyRef Syntax.erased Syntax.mut (Syntax.tyArray Cell.behind 32772))) List.[])))))))))))))))
 
 abbrev pub t63 : List.List Row.Entry
-t63 = List._∷_ (0, Rows.whole (Declared.row Held.the-type)) (List._∷_ (1, Rows.any-gone (Syntax.tyStruct (List._∷_ 122 (List._∷_ 111 (List._∷_ 110 (List._∷_ 101 (List._∷_ 115 (List._∷_ 58 (List._∷_ 58 (List._∷_ 104 (List._∷_ 101 (List._∷_ 108 (List._∷_ 100 (List._∷_ 58 (List._∷_ 58 (List._∷_ 72 (List._∷_ 101 (List._∷_ 108 (List._∷_ 100 List.[]))))))))))))))))) (Syntax.tcons (Syntax.tyStruct (List._∷_ 112 (List._∷_ 121 (List._∷_ 114 (List._∷_ 97 (List._∷_ 109 (List._∷_ 105 (List._∷_ 100 (List._∷_ 58 (List._∷_ 58 (List._∷_ 83 (List._∷_ 116 (List._∷_ 97 (List._∷_ 116 (List._∷_ 101 List.[])))))))))))))) (Syntax.tcons (Syntax.tyInt Syntax.w32) (Syntax.tcons (Syntax.tyInt Syntax.w32) (Syntax.tcons (Syntax.tyInt Syntax.w32) (Syntax.tcons (Syntax.tyArray (Syntax.tyInt Syntax.w32) 64) Syntax.tnil))))) (Syntax.tcons (Syntax.tyInt Syntax.w64) (Syntax.tcons (Syntax.tyInt Syntax.w64) (Syntax.tcons (Syntax.tyInt Syntax.w64) (Syntax.tcons (Syntax.tyInt Syntax.w64) (Syntax.tcons (Syntax.tyInt Syntax.w64) (Syntax.tcons (Syntax.tyInt Syntax.w64) (Syntax.tcons Syntax.tyBool Syntax.tnil)))))))))) (List._∷_ (2, Rows.whole (Declared.row Line.the-type)) (List._∷_ (3, Rows.sslice (Referent.rtF (Referent.fInt Syntax.w8)) (Syntax.tyRef (Syntax.named 0) Syntax.imm (Syntax.tyInt Syntax.w8)) 0) (List._∷_ (4, Rows.sref (Array.Array (Referent.rtF (Referent.fInt Syntax.w32)) 32772) (Syntax.tyRef (Syntax.named 1) Syntax.imm (Syntax.tyArray (Syntax.tyInt Syntax.w32) 32772)) 1) (List._∷_ (5, Rows.mref (Array.Array (Referent.rtF (Referent.fInt Syntax.w8)) 16388) (Syntax.tyRef (Syntax.named 2) Syntax.mut (Syntax.tyArray (Syntax.tyInt Syntax.w8) 16388)) 2) (List._∷_ (6, Rows.mref-owed (Array.Array (Referent.rtF (Referent.fInt Syntax.w32)) 65540) (Syntax.tyRef (Syntax.named 3) Syntax.mut (Syntax.tyArray (Syntax.tyInt Syntax.w32) 65540)) 3 18 Row.off) (List._∷_ (7, Rows.mref-owed (Array.Array (Referent.rtF (Referent.fInt Syntax.w32)) 32772) (Syntax.tyRef (Syntax.named 4) Syntax.mut (Syntax.tyArray (Syntax.tyInt Syntax.w32) 32772)) 4 19 Row.off) (List._∷_ (8, Rows.mref (Array.Array (Referent.rtF (Referent.fInt Syntax.w32)) 32772) (Syntax.tyRef (Syntax.named 5) Syntax.mut (Syntax.tyArray (Syntax.tyInt Syntax.w32) 32772)) 5) (List._∷_ (9, Rows.mref-owed (Array.Array (Referent.rtF (Referent.fInt Syntax.w32)) 262160) (Syntax.tyRef (Syntax.named 6) Syntax.mut (Syntax.tyArray (Syntax.tyInt Syntax.w32) 262160)) 6 20 Row.off) (List._∷_ (10, Reshare.mref-owedS (Array.Array (Referent.rtF (Referent.fInt Syntax.w8)) 600000) (Syntax.tyRef (Syntax.named 7) Syntax.mut (Syntax.tyArray (Syntax.tyInt Syntax.w8) 600000)) 7 21 Row.off) (List._∷_ (11, Rows.mref-owed (Array.Array Cell.R 65540) (Syntax.tyRef (Syntax.named 8) Syntax.mut (Syntax.tyArray Cell.behind 65540)) 8 22 Row.off) (List._∷_ (12, Rows.mref-owed (Array.Array Cell.R 32772) (Syntax.tyRef (Syntax.named 9) Syntax.mut (Syntax.tyArray Cell.behind 32772)) 9 23 Row.off) (List._∷_ (13, Rows.any-gone Syntax.tyBool) (List._∷_ (14, Rows.any-gone Syntax.tyBool) (List._∷_ (15, Rows.any-gone Syntax.tyBool) List.[])))))))))))))))
+t63 = List._∷_ (0, Rows.whole (Declared.row Held.the-type)) (List._∷_ (1, Rows.any-gone (Syntax.tyStruct (List._∷_ 122 (List._∷_ 111 (List._∷_ 110 (List._∷_ 101 (List._∷_ 115 (List._∷_ 58 (List._∷_ 58 (List._∷_ 104 (List._∷_ 101 (List._∷_ 108 (List._∷_ 100 (List._∷_ 58 (List._∷_ 58 (List._∷_ 72 (List._∷_ 101 (List._∷_ 108 (List._∷_ 100 List.[]))))))))))))))))) (Syntax.tcons (Syntax.tyStruct (List._∷_ 112 (List._∷_ 121 (List._∷_ 114 (List._∷_ 97 (List._∷_ 109 (List._∷_ 105 (List._∷_ 100 (List._∷_ 58 (List._∷_ 58 (List._∷_ 83 (List._∷_ 116 (List._∷_ 97 (List._∷_ 116 (List._∷_ 101 List.[])))))))))))))) (Syntax.tcons (Syntax.tyInt Syntax.w32) (Syntax.tcons (Syntax.tyInt Syntax.w32) (Syntax.tcons (Syntax.tyInt Syntax.w32) (Syntax.tcons (Syntax.tyInt Syntax.w32) (Syntax.tcons (Syntax.tyInt Syntax.w32) (Syntax.tcons (Syntax.tyArray (Syntax.tyInt Syntax.w32) 64) Syntax.tnil))))))) (Syntax.tcons (Syntax.tyInt Syntax.w64) (Syntax.tcons (Syntax.tyInt Syntax.w64) (Syntax.tcons (Syntax.tyInt Syntax.w64) (Syntax.tcons (Syntax.tyInt Syntax.w64) (Syntax.tcons (Syntax.tyInt Syntax.w64) (Syntax.tcons (Syntax.tyInt Syntax.w64) (Syntax.tcons Syntax.tyBool Syntax.tnil)))))))))) (List._∷_ (2, Rows.whole (Declared.row Line.the-type)) (List._∷_ (3, Rows.sslice (Referent.rtF (Referent.fInt Syntax.w8)) (Syntax.tyRef (Syntax.named 0) Syntax.imm (Syntax.tyInt Syntax.w8)) 0) (List._∷_ (4, Rows.sref (Array.Array (Referent.rtF (Referent.fInt Syntax.w32)) 32772) (Syntax.tyRef (Syntax.named 1) Syntax.imm (Syntax.tyArray (Syntax.tyInt Syntax.w32) 32772)) 1) (List._∷_ (5, Rows.mref (Array.Array (Referent.rtF (Referent.fInt Syntax.w8)) 16388) (Syntax.tyRef (Syntax.named 2) Syntax.mut (Syntax.tyArray (Syntax.tyInt Syntax.w8) 16388)) 2) (List._∷_ (6, Rows.mref-owed (Array.Array (Referent.rtF (Referent.fInt Syntax.w32)) 65540) (Syntax.tyRef (Syntax.named 3) Syntax.mut (Syntax.tyArray (Syntax.tyInt Syntax.w32) 65540)) 3 18 Row.off) (List._∷_ (7, Rows.mref-owed (Array.Array (Referent.rtF (Referent.fInt Syntax.w32)) 32772) (Syntax.tyRef (Syntax.named 4) Syntax.mut (Syntax.tyArray (Syntax.tyInt Syntax.w32) 32772)) 4 19 Row.off) (List._∷_ (8, Rows.mref (Array.Array (Referent.rtF (Referent.fInt Syntax.w32)) 32772) (Syntax.tyRef (Syntax.named 5) Syntax.mut (Syntax.tyArray (Syntax.tyInt Syntax.w32) 32772)) 5) (List._∷_ (9, Rows.mref-owed (Array.Array (Referent.rtF (Referent.fInt Syntax.w32)) 262160) (Syntax.tyRef (Syntax.named 6) Syntax.mut (Syntax.tyArray (Syntax.tyInt Syntax.w32) 262160)) 6 20 Row.off) (List._∷_ (10, Reshare.mref-owedS (Array.Array (Referent.rtF (Referent.fInt Syntax.w8)) 600000) (Syntax.tyRef (Syntax.named 7) Syntax.mut (Syntax.tyArray (Syntax.tyInt Syntax.w8) 600000)) 7 21 Row.off) (List._∷_ (11, Rows.mref-owed (Array.Array Cell.R 65540) (Syntax.tyRef (Syntax.named 8) Syntax.mut (Syntax.tyArray Cell.behind 65540)) 8 22 Row.off) (List._∷_ (12, Rows.mref-owed (Array.Array Cell.R 32772) (Syntax.tyRef (Syntax.named 9) Syntax.mut (Syntax.tyArray Cell.behind 32772)) 9 23 Row.off) (List._∷_ (13, Rows.any-gone Syntax.tyBool) (List._∷_ (14, Rows.any-gone Syntax.tyBool) (List._∷_ (15, Rows.any-gone Syntax.tyBool) List.[])))))))))))))))
 
 abbrev pub t64 : List.List Row.Entry
-t64 = List._∷_ (0, Rows.whole (Declared.row Held.the-type)) (List._∷_ (1, Rows.any-gone (Syntax.tyStruct (List._∷_ 122 (List._∷_ 111 (List._∷_ 110 (List._∷_ 101 (List._∷_ 115 (List._∷_ 58 (List._∷_ 58 (List._∷_ 104 (List._∷_ 101 (List._∷_ 108 (List._∷_ 100 (List._∷_ 58 (List._∷_ 58 (List._∷_ 72 (List._∷_ 101 (List._∷_ 108 (List._∷_ 100 List.[]))))))))))))))))) (Syntax.tcons (Syntax.tyStruct (List._∷_ 112 (List._∷_ 121 (List._∷_ 114 (List._∷_ 97 (List._∷_ 109 (List._∷_ 105 (List._∷_ 100 (List._∷_ 58 (List._∷_ 58 (List._∷_ 83 (List._∷_ 116 (List._∷_ 97 (List._∷_ 116 (List._∷_ 101 List.[])))))))))))))) (Syntax.tcons (Syntax.tyInt Syntax.w32) (Syntax.tcons (Syntax.tyInt Syntax.w32) (Syntax.tcons (Syntax.tyInt Syntax.w32) (Syntax.tcons (Syntax.tyArray (Syntax.tyInt Syntax.w32) 64) Syntax.tnil))))) (Syntax.tcons (Syntax.tyInt Syntax.w64) (Syntax.tcons (Syntax.tyInt Syntax.w64) (Syntax.tcons (Syntax.tyInt Syntax.w64) (Syntax.tcons (Syntax.tyInt Syntax.w64) (Syntax.tcons (Syntax.tyInt Syntax.w64) (Syntax.tcons (Syntax.tyInt Syntax.w64) (Syntax.tcons Syntax.tyBool Syntax.tnil)))))))))) (List._∷_ (2, Rows.any-gone (Syntax.tyStruct (List._∷_ 122 (List._∷_ 111 (List._∷_ 110 (List._∷_ 101 (List._∷_ 115 (List._∷_ 58 (List._∷_ 58 (List._∷_ 115 (List._∷_ 99 (List._∷_ 97 (List._∷_ 110 (List._∷_ 58 (List._∷_ 58 (List._∷_ 76 (List._∷_ 105 (List._∷_ 110 (List._∷_ 101 List.[]))))))))))))))))) (Syntax.tcons (Syntax.tyInt Syntax.w32) (Syntax.tcons (Syntax.tyInt Syntax.w64) (Syntax.tcons (Syntax.tyInt Syntax.w64) (Syntax.tcons (Syntax.tyInt Syntax.w64) (Syntax.tcons (Syntax.tyInt Syntax.w64) Syntax.tnil))))))) (List._∷_ (3, Rows.sslice (Referent.rtF (Referent.fInt Syntax.w8)) (Syntax.tyRef (Syntax.named 0) Syntax.imm (Syntax.tyInt Syntax.w8)) 0) (List._∷_ (4, Rows.sref (Array.Array (Referent.rtF (Referent.fInt Syntax.w32)) 32772) (Syntax.tyRef (Syntax.named 1) Syntax.imm (Syntax.tyArray (Syntax.tyInt Syntax.w32) 32772)) 1) (List._∷_ (5, Rows.mref (Array.Array (Referent.rtF (Referent.fInt Syntax.w8)) 16388) (Syntax.tyRef (Syntax.named 2) Syntax.mut (Syntax.tyArray (Syntax.tyInt Syntax.w8) 16388)) 2) (List._∷_ (6, Rows.mref-owed (Array.Array (Referent.rtF (Referent.fInt Syntax.w32)) 65540) (Syntax.tyRef (Syntax.named 3) Syntax.mut (Syntax.tyArray (Syntax.tyInt Syntax.w32) 65540)) 3 18 Row.off) (List._∷_ (7, Rows.mref-owed (Array.Array (Referent.rtF (Referent.fInt Syntax.w32)) 32772) (Syntax.tyRef (Syntax.named 4) Syntax.mut (Syntax.tyArray (Syntax.tyInt Syntax.w32) 32772)) 4 19 Row.off) (List._∷_ (8, Rows.mref (Array.Array (Referent.rtF (Referent.fInt Syntax.w32)) 32772) (Syntax.tyRef (Syntax.named 5) Syntax.mut (Syntax.tyArray (Syntax.tyInt Syntax.w32) 32772)) 5) (List._∷_ (9, Rows.mref-owed (Array.Array (Referent.rtF (Referent.fInt Syntax.w32)) 262160) (Syntax.tyRef (Syntax.named 6) Syntax.mut (Syntax.tyArray (Syntax.tyInt Syntax.w32) 262160)) 6 20 Row.off) (List._∷_ (10, Reshare.mref-owedS (Array.Array (Referent.rtF (Referent.fInt Syntax.w8)) 600000) (Syntax.tyRef (Syntax.named 7) Syntax.mut (Syntax.tyArray (Syntax.tyInt Syntax.w8) 600000)) 7 21 Row.off) (List._∷_ (11, Rows.mref-owed (Array.Array Cell.R 65540) (Syntax.tyRef (Syntax.named 8) Syntax.mut (Syntax.tyArray Cell.behind 65540)) 8 22 Row.off) (List._∷_ (12, Rows.mref-owed (Array.Array Cell.R 32772) (Syntax.tyRef (Syntax.named 9) Syntax.mut (Syntax.tyArray Cell.behind 32772)) 9 23 Row.off) (List._∷_ (13, Rows.any-gone Syntax.tyBool) (List._∷_ (14, Rows.any-gone Syntax.tyBool) (List._∷_ (15, Rows.any-gone Syntax.tyBool) List.[])))))))))))))))
+t64 = List._∷_ (0, Rows.whole (Declared.row Held.the-type)) (List._∷_ (1, Rows.any-gone (Syntax.tyStruct (List._∷_ 122 (List._∷_ 111 (List._∷_ 110 (List._∷_ 101 (List._∷_ 115 (List._∷_ 58 (List._∷_ 58 (List._∷_ 104 (List._∷_ 101 (List._∷_ 108 (List._∷_ 100 (List._∷_ 58 (List._∷_ 58 (List._∷_ 72 (List._∷_ 101 (List._∷_ 108 (List._∷_ 100 List.[]))))))))))))))))) (Syntax.tcons (Syntax.tyStruct (List._∷_ 112 (List._∷_ 121 (List._∷_ 114 (List._∷_ 97 (List._∷_ 109 (List._∷_ 105 (List._∷_ 100 (List._∷_ 58 (List._∷_ 58 (List._∷_ 83 (List._∷_ 116 (List._∷_ 97 (List._∷_ 116 (List._∷_ 101 List.[])))))))))))))) (Syntax.tcons (Syntax.tyInt Syntax.w32) (Syntax.tcons (Syntax.tyInt Syntax.w32) (Syntax.tcons (Syntax.tyInt Syntax.w32) (Syntax.tcons (Syntax.tyInt Syntax.w32) (Syntax.tcons (Syntax.tyInt Syntax.w32) (Syntax.tcons (Syntax.tyArray (Syntax.tyInt Syntax.w32) 64) Syntax.tnil))))))) (Syntax.tcons (Syntax.tyInt Syntax.w64) (Syntax.tcons (Syntax.tyInt Syntax.w64) (Syntax.tcons (Syntax.tyInt Syntax.w64) (Syntax.tcons (Syntax.tyInt Syntax.w64) (Syntax.tcons (Syntax.tyInt Syntax.w64) (Syntax.tcons (Syntax.tyInt Syntax.w64) (Syntax.tcons Syntax.tyBool Syntax.tnil)))))))))) (List._∷_ (2, Rows.any-gone (Syntax.tyStruct (List._∷_ 122 (List._∷_ 111 (List._∷_ 110 (List._∷_ 101 (List._∷_ 115 (List._∷_ 58 (List._∷_ 58 (List._∷_ 115 (List._∷_ 99 (List._∷_ 97 (List._∷_ 110 (List._∷_ 58 (List._∷_ 58 (List._∷_ 76 (List._∷_ 105 (List._∷_ 110 (List._∷_ 101 List.[]))))))))))))))))) (Syntax.tcons (Syntax.tyInt Syntax.w32) (Syntax.tcons (Syntax.tyInt Syntax.w64) (Syntax.tcons (Syntax.tyInt Syntax.w64) (Syntax.tcons (Syntax.tyInt Syntax.w64) (Syntax.tcons (Syntax.tyInt Syntax.w64) Syntax.tnil))))))) (List._∷_ (3, Rows.sslice (Referent.rtF (Referent.fInt Syntax.w8)) (Syntax.tyRef (Syntax.named 0) Syntax.imm (Syntax.tyInt Syntax.w8)) 0) (List._∷_ (4, Rows.sref (Array.Array (Referent.rtF (Referent.fInt Syntax.w32)) 32772) (Syntax.tyRef (Syntax.named 1) Syntax.imm (Syntax.tyArray (Syntax.tyInt Syntax.w32) 32772)) 1) (List._∷_ (5, Rows.mref (Array.Array (Referent.rtF (Referent.fInt Syntax.w8)) 16388) (Syntax.tyRef (Syntax.named 2) Syntax.mut (Syntax.tyArray (Syntax.tyInt Syntax.w8) 16388)) 2) (List._∷_ (6, Rows.mref-owed (Array.Array (Referent.rtF (Referent.fInt Syntax.w32)) 65540) (Syntax.tyRef (Syntax.named 3) Syntax.mut (Syntax.tyArray (Syntax.tyInt Syntax.w32) 65540)) 3 18 Row.off) (List._∷_ (7, Rows.mref-owed (Array.Array (Referent.rtF (Referent.fInt Syntax.w32)) 32772) (Syntax.tyRef (Syntax.named 4) Syntax.mut (Syntax.tyArray (Syntax.tyInt Syntax.w32) 32772)) 4 19 Row.off) (List._∷_ (8, Rows.mref (Array.Array (Referent.rtF (Referent.fInt Syntax.w32)) 32772) (Syntax.tyRef (Syntax.named 5) Syntax.mut (Syntax.tyArray (Syntax.tyInt Syntax.w32) 32772)) 5) (List._∷_ (9, Rows.mref-owed (Array.Array (Referent.rtF (Referent.fInt Syntax.w32)) 262160) (Syntax.tyRef (Syntax.named 6) Syntax.mut (Syntax.tyArray (Syntax.tyInt Syntax.w32) 262160)) 6 20 Row.off) (List._∷_ (10, Reshare.mref-owedS (Array.Array (Referent.rtF (Referent.fInt Syntax.w8)) 600000) (Syntax.tyRef (Syntax.named 7) Syntax.mut (Syntax.tyArray (Syntax.tyInt Syntax.w8) 600000)) 7 21 Row.off) (List._∷_ (11, Rows.mref-owed (Array.Array Cell.R 65540) (Syntax.tyRef (Syntax.named 8) Syntax.mut (Syntax.tyArray Cell.behind 65540)) 8 22 Row.off) (List._∷_ (12, Rows.mref-owed (Array.Array Cell.R 32772) (Syntax.tyRef (Syntax.named 9) Syntax.mut (Syntax.tyArray Cell.behind 32772)) 9 23 Row.off) (List._∷_ (13, Rows.any-gone Syntax.tyBool) (List._∷_ (14, Rows.any-gone Syntax.tyBool) (List._∷_ (15, Rows.any-gone Syntax.tyBool) List.[])))))))))))))))
 
 abbrev pub t65 : List.List Row.Entry
-t65 = List._∷_ (0, Rows.whole (Declared.row Held.the-type)) (List._∷_ (1, Rows.any-gone (Syntax.tyStruct (List._∷_ 122 (List._∷_ 111 (List._∷_ 110 (List._∷_ 101 (List._∷_ 115 (List._∷_ 58 (List._∷_ 58 (List._∷_ 104 (List._∷_ 101 (List._∷_ 108 (List._∷_ 100 (List._∷_ 58 (List._∷_ 58 (List._∷_ 72 (List._∷_ 101 (List._∷_ 108 (List._∷_ 100 List.[]))))))))))))))))) (Syntax.tcons (Syntax.tyStruct (List._∷_ 112 (List._∷_ 121 (List._∷_ 114 (List._∷_ 97 (List._∷_ 109 (List._∷_ 105 (List._∷_ 100 (List._∷_ 58 (List._∷_ 58 (List._∷_ 83 (List._∷_ 116 (List._∷_ 97 (List._∷_ 116 (List._∷_ 101 List.[])))))))))))))) (Syntax.tcons (Syntax.tyInt Syntax.w32) (Syntax.tcons (Syntax.tyInt Syntax.w32) (Syntax.tcons (Syntax.tyInt Syntax.w32) (Syntax.tcons (Syntax.tyArray (Syntax.tyInt Syntax.w32) 64) Syntax.tnil))))) (Syntax.tcons (Syntax.tyInt Syntax.w64) (Syntax.tcons (Syntax.tyInt Syntax.w64) (Syntax.tcons (Syntax.tyInt Syntax.w64) (Syntax.tcons (Syntax.tyInt Syntax.w64) (Syntax.tcons (Syntax.tyInt Syntax.w64) (Syntax.tcons (Syntax.tyInt Syntax.w64) (Syntax.tcons Syntax.tyBool Syntax.tnil)))))))))) (List._∷_ (2, Rows.any-gone (Syntax.tyStruct (List._∷_ 122 (List._∷_ 111 (List._∷_ 110 (List._∷_ 101 (List._∷_ 115 (List._∷_ 58 (List._∷_ 58 (List._∷_ 115 (List._∷_ 99 (List._∷_ 97 (List._∷_ 110 (List._∷_ 58 (List._∷_ 58 (List._∷_ 76 (List._∷_ 105 (List._∷_ 110 (List._∷_ 101 List.[]))))))))))))))))) (Syntax.tcons (Syntax.tyInt Syntax.w32) (Syntax.tcons (Syntax.tyInt Syntax.w64) (Syntax.tcons (Syntax.tyInt Syntax.w64) (Syntax.tcons (Syntax.tyInt Syntax.w64) (Syntax.tcons (Syntax.tyInt Syntax.w64) Syntax.tnil))))))) (List._∷_ (3, Rows.sslice (Referent.rtF (Referent.fInt Syntax.w8)) (Syntax.tyRef (Syntax.named 0) Syntax.imm (Syntax.tyInt Syntax.w8)) 0) (List._∷_ (4, Rows.sref (Array.Array (Referent.rtF (Referent.fInt Syntax.w32)) 32772) (Syntax.tyRef (Syntax.named 1) Syntax.imm (Syntax.tyArray (Syntax.tyInt Syntax.w32) 32772)) 1) (List._∷_ (5, Rows.mref (Array.Array (Referent.rtF (Referent.fInt Syntax.w8)) 16388) (Syntax.tyRef (Syntax.named 2) Syntax.mut (Syntax.tyArray (Syntax.tyInt Syntax.w8) 16388)) 2) (List._∷_ (6, Rows.mref (Array.Array (Referent.rtF (Referent.fInt Syntax.w32)) 65540) (Syntax.tyRef (Syntax.named 3) Syntax.mut (Syntax.tyArray (Syntax.tyInt Syntax.w32) 65540)) 3) (List._∷_ (7, Rows.mref-owed (Array.Array (Referent.rtF (Referent.fInt Syntax.w32)) 32772) (Syntax.tyRef (Syntax.named 4) Syntax.mut (Syntax.tyArray (Syntax.tyInt Syntax.w32) 32772)) 4 19 Row.off) (List._∷_ (8, Rows.mref (Array.Array (Referent.rtF (Referent.fInt Syntax.w32)) 32772) (Syntax.tyRef (Syntax.named 5) Syntax.mut (Syntax.tyArray (Syntax.tyInt Syntax.w32) 32772)) 5) (List._∷_ (9, Rows.mref-owed (Array.Array (Referent.rtF (Referent.fInt Syntax.w32)) 262160) (Syntax.tyRef (Syntax.named 6) Syntax.mut (Syntax.tyArray (Syntax.tyInt Syntax.w32) 262160)) 6 20 Row.off) (List._∷_ (10, Reshare.mref-owedS (Array.Array (Referent.rtF (Referent.fInt Syntax.w8)) 600000) (Syntax.tyRef (Syntax.named 7) Syntax.mut (Syntax.tyArray (Syntax.tyInt Syntax.w8) 600000)) 7 21 Row.off) (List._∷_ (11, Rows.mref-owed (Array.Array Cell.R 65540) (Syntax.tyRef (Syntax.named 8) Syntax.mut (Syntax.tyArray Cell.behind 65540)) 8 22 Row.off) (List._∷_ (12, Rows.mref-owed (Array.Array Cell.R 32772) (Syntax.tyRef (Syntax.named 9) Syntax.mut (Syntax.tyArray Cell.behind 32772)) 9 23 Row.off) (List._∷_ (13, Rows.any-gone Syntax.tyBool) (List._∷_ (14, Rows.any-gone Syntax.tyBool) (List._∷_ (15, Rows.any-gone Syntax.tyBool) List.[])))))))))))))))
+t65 = List._∷_ (0, Rows.whole (Declared.row Held.the-type)) (List._∷_ (1, Rows.any-gone (Syntax.tyStruct (List._∷_ 122 (List._∷_ 111 (List._∷_ 110 (List._∷_ 101 (List._∷_ 115 (List._∷_ 58 (List._∷_ 58 (List._∷_ 104 (List._∷_ 101 (List._∷_ 108 (List._∷_ 100 (List._∷_ 58 (List._∷_ 58 (List._∷_ 72 (List._∷_ 101 (List._∷_ 108 (List._∷_ 100 List.[]))))))))))))))))) (Syntax.tcons (Syntax.tyStruct (List._∷_ 112 (List._∷_ 121 (List._∷_ 114 (List._∷_ 97 (List._∷_ 109 (List._∷_ 105 (List._∷_ 100 (List._∷_ 58 (List._∷_ 58 (List._∷_ 83 (List._∷_ 116 (List._∷_ 97 (List._∷_ 116 (List._∷_ 101 List.[])))))))))))))) (Syntax.tcons (Syntax.tyInt Syntax.w32) (Syntax.tcons (Syntax.tyInt Syntax.w32) (Syntax.tcons (Syntax.tyInt Syntax.w32) (Syntax.tcons (Syntax.tyInt Syntax.w32) (Syntax.tcons (Syntax.tyInt Syntax.w32) (Syntax.tcons (Syntax.tyArray (Syntax.tyInt Syntax.w32) 64) Syntax.tnil))))))) (Syntax.tcons (Syntax.tyInt Syntax.w64) (Syntax.tcons (Syntax.tyInt Syntax.w64) (Syntax.tcons (Syntax.tyInt Syntax.w64) (Syntax.tcons (Syntax.tyInt Syntax.w64) (Syntax.tcons (Syntax.tyInt Syntax.w64) (Syntax.tcons (Syntax.tyInt Syntax.w64) (Syntax.tcons Syntax.tyBool Syntax.tnil)))))))))) (List._∷_ (2, Rows.any-gone (Syntax.tyStruct (List._∷_ 122 (List._∷_ 111 (List._∷_ 110 (List._∷_ 101 (List._∷_ 115 (List._∷_ 58 (List._∷_ 58 (List._∷_ 115 (List._∷_ 99 (List._∷_ 97 (List._∷_ 110 (List._∷_ 58 (List._∷_ 58 (List._∷_ 76 (List._∷_ 105 (List._∷_ 110 (List._∷_ 101 List.[]))))))))))))))))) (Syntax.tcons (Syntax.tyInt Syntax.w32) (Syntax.tcons (Syntax.tyInt Syntax.w64) (Syntax.tcons (Syntax.tyInt Syntax.w64) (Syntax.tcons (Syntax.tyInt Syntax.w64) (Syntax.tcons (Syntax.tyInt Syntax.w64) Syntax.tnil))))))) (List._∷_ (3, Rows.sslice (Referent.rtF (Referent.fInt Syntax.w8)) (Syntax.tyRef (Syntax.named 0) Syntax.imm (Syntax.tyInt Syntax.w8)) 0) (List._∷_ (4, Rows.sref (Array.Array (Referent.rtF (Referent.fInt Syntax.w32)) 32772) (Syntax.tyRef (Syntax.named 1) Syntax.imm (Syntax.tyArray (Syntax.tyInt Syntax.w32) 32772)) 1) (List._∷_ (5, Rows.mref (Array.Array (Referent.rtF (Referent.fInt Syntax.w8)) 16388) (Syntax.tyRef (Syntax.named 2) Syntax.mut (Syntax.tyArray (Syntax.tyInt Syntax.w8) 16388)) 2) (List._∷_ (6, Rows.mref (Array.Array (Referent.rtF (Referent.fInt Syntax.w32)) 65540) (Syntax.tyRef (Syntax.named 3) Syntax.mut (Syntax.tyArray (Syntax.tyInt Syntax.w32) 65540)) 3) (List._∷_ (7, Rows.mref-owed (Array.Array (Referent.rtF (Referent.fInt Syntax.w32)) 32772) (Syntax.tyRef (Syntax.named 4) Syntax.mut (Syntax.tyArray (Syntax.tyInt Syntax.w32) 32772)) 4 19 Row.off) (List._∷_ (8, Rows.mref (Array.Array (Referent.rtF (Referent.fInt Syntax.w32)) 32772) (Syntax.tyRef (Syntax.named 5) Syntax.mut (Syntax.tyArray (Syntax.tyInt Syntax.w32) 32772)) 5) (List._∷_ (9, Rows.mref-owed (Array.Array (Referent.rtF (Referent.fInt Syntax.w32)) 262160) (Syntax.tyRef (Syntax.named 6) Syntax.mut (Syntax.tyArray (Syntax.tyInt Syntax.w32) 262160)) 6 20 Row.off) (List._∷_ (10, Reshare.mref-owedS (Array.Array (Referent.rtF (Referent.fInt Syntax.w8)) 600000) (Syntax.tyRef (Syntax.named 7) Syntax.mut (Syntax.tyArray (Syntax.tyInt Syntax.w8) 600000)) 7 21 Row.off) (List._∷_ (11, Rows.mref-owed (Array.Array Cell.R 65540) (Syntax.tyRef (Syntax.named 8) Syntax.mut (Syntax.tyArray Cell.behind 65540)) 8 22 Row.off) (List._∷_ (12, Rows.mref-owed (Array.Array Cell.R 32772) (Syntax.tyRef (Syntax.named 9) Syntax.mut (Syntax.tyArray Cell.behind 32772)) 9 23 Row.off) (List._∷_ (13, Rows.any-gone Syntax.tyBool) (List._∷_ (14, Rows.any-gone Syntax.tyBool) (List._∷_ (15, Rows.any-gone Syntax.tyBool) List.[])))))))))))))))
 
 abbrev pub t66 : List.List Row.Entry
 t66 = List._∷_ (16, Rows.any-gone (Syntax.tyRef Syntax.erased Syntax.mut (Syntax.tyArray (Syntax.tyInt Syntax.w8) 16388))) (List._∷_ (17, Rows.any-gone (Syntax.tyRef Syntax.erased Syntax.mut (Syntax.tyArray (Syntax.tyInt Syntax.w32) 65540))) (List._∷_ (18, Rows.any-gone (Syntax.tyRef Syntax.erased Syntax.mut (Syntax.tyArray (Syntax.tyInt Syntax.w32) 32772))) (List._∷_ (19, Rows.any-gone (Syntax.tyRef Syntax.erased Syntax.mut (Syntax.tyArray (Syntax.tyInt Syntax.w32) 32772))) (List._∷_ (20, Rows.any-gone (Syntax.tyRef Syntax.erased Syntax.mut (Syntax.tyArray (Syntax.tyInt Syntax.w32) 262160))) (List._∷_ (21, Rows.any-gone (Syntax.tyRef Syntax.erased Syntax.mut (Syntax.tyArray (Syntax.tyInt Syntax.w8) 600000))) (List._∷_ (22, Rows.any-gone (Syntax.tyRef Syntax.erased Syntax.mut Cell.behind)) (List._∷_ (23, Rows.any-gone (Syntax.tyStruct (List._∷_ 38 (List._∷_ 91 (List._∷_ 93 List.[]))) (Syntax.tcons (Syntax.tyRef Syntax.erased Syntax.mut Cell.behind) (Syntax.tcons (Syntax.tyInt Syntax.w64) Syntax.tnil)))) (List._∷_ (24, Rows.any-gone (Syntax.tyRef Syntax.erased Syntax.mut Cell.behind)) (List._∷_ (25, Rows.any-gone (Syntax.tyStruct (List._∷_ 38 (List._∷_ 91 (List._∷_ 93 List.[]))) (Syntax.tcons (Syntax.tyRef Syntax.erased Syntax.mut Cell.behind) (Syntax.tcons (Syntax.tyInt Syntax.w64) Syntax.tnil)))) (List._∷_ (26, Rows.any-gone (Syntax.tyRef Syntax.erased Syntax.mut (Syntax.tyArray (Syntax.tyInt Syntax.w32) 65540))) (List._∷_ (27, Rows.mleft (Array.Array (Referent.rtF (Referent.fInt Syntax.w32)) 32772) (Syntax.tyRef Syntax.erased Syntax.mut (Syntax.tyArray (Syntax.tyInt Syntax.w32) 32772))) (List._∷_ (28, Rows.mleft (Array.Array (Referent.rtF (Referent.fInt Syntax.w32)) 262160) (Syntax.tyRef Syntax.erased Syntax.mut (Syntax.tyArray (Syntax.tyInt Syntax.w32) 262160))) (List._∷_ (29, Rows.any-gone (Syntax.tyRef Syntax.erased Syntax.imm (Syntax.tyArray (Syntax.tyInt Syntax.w8) 600000))) (List._∷_ (30, Rows.mleft (Array.Array Cell.R 65540) (Syntax.tyRef Syntax.erased Syntax.mut (Syntax.tyArray Cell.behind 65540))) (List._∷_ (31, Rows.mleft (Array.Array Cell.R 32772) (Syntax.tyRef Syntax.erased Syntax.mut (Syntax.tyArray Cell.behind 32772))) List.[])))))))))))))))
 
 abbrev pub t67 : List.List Row.Entry
-t67 = List._∷_ (0, Rows.whole (Declared.row Held.the-type)) (List._∷_ (1, Rows.any-gone (Syntax.tyStruct (List._∷_ 122 (List._∷_ 111 (List._∷_ 110 (List._∷_ 101 (List._∷_ 115 (List._∷_ 58 (List._∷_ 58 (List._∷_ 104 (List._∷_ 101 (List._∷_ 108 (List._∷_ 100 (List._∷_ 58 (List._∷_ 58 (List._∷_ 72 (List._∷_ 101 (List._∷_ 108 (List._∷_ 100 List.[]))))))))))))))))) (Syntax.tcons (Syntax.tyStruct (List._∷_ 112 (List._∷_ 121 (List._∷_ 114 (List._∷_ 97 (List._∷_ 109 (List._∷_ 105 (List._∷_ 100 (List._∷_ 58 (List._∷_ 58 (List._∷_ 83 (List._∷_ 116 (List._∷_ 97 (List._∷_ 116 (List._∷_ 101 List.[])))))))))))))) (Syntax.tcons (Syntax.tyInt Syntax.w32) (Syntax.tcons (Syntax.tyInt Syntax.w32) (Syntax.tcons (Syntax.tyInt Syntax.w32) (Syntax.tcons (Syntax.tyArray (Syntax.tyInt Syntax.w32) 64) Syntax.tnil))))) (Syntax.tcons (Syntax.tyInt Syntax.w64) (Syntax.tcons (Syntax.tyInt Syntax.w64) (Syntax.tcons (Syntax.tyInt Syntax.w64) (Syntax.tcons (Syntax.tyInt Syntax.w64) (Syntax.tcons (Syntax.tyInt Syntax.w64) (Syntax.tcons (Syntax.tyInt Syntax.w64) (Syntax.tcons Syntax.tyBool Syntax.tnil)))))))))) (List._∷_ (2, Rows.any-gone (Syntax.tyStruct (List._∷_ 122 (List._∷_ 111 (List._∷_ 110 (List._∷_ 101 (List._∷_ 115 (List._∷_ 58 (List._∷_ 58 (List._∷_ 115 (List._∷_ 99 (List._∷_ 97 (List._∷_ 110 (List._∷_ 58 (List._∷_ 58 (List._∷_ 76 (List._∷_ 105 (List._∷_ 110 (List._∷_ 101 List.[]))))))))))))))))) (Syntax.tcons (Syntax.tyInt Syntax.w32) (Syntax.tcons (Syntax.tyInt Syntax.w64) (Syntax.tcons (Syntax.tyInt Syntax.w64) (Syntax.tcons (Syntax.tyInt Syntax.w64) (Syntax.tcons (Syntax.tyInt Syntax.w64) Syntax.tnil))))))) (List._∷_ (3, Rows.sslice (Referent.rtF (Referent.fInt Syntax.w8)) (Syntax.tyRef (Syntax.named 0) Syntax.imm (Syntax.tyInt Syntax.w8)) 0) (List._∷_ (4, Rows.sref (Array.Array (Referent.rtF (Referent.fInt Syntax.w32)) 32772) (Syntax.tyRef (Syntax.named 1) Syntax.imm (Syntax.tyArray (Syntax.tyInt Syntax.w32) 32772)) 1) (List._∷_ (5, Rows.mref (Array.Array (Referent.rtF (Referent.fInt Syntax.w8)) 16388) (Syntax.tyRef (Syntax.named 2) Syntax.mut (Syntax.tyArray (Syntax.tyInt Syntax.w8) 16388)) 2) (List._∷_ (6, Rows.mref (Array.Array (Referent.rtF (Referent.fInt Syntax.w32)) 65540) (Syntax.tyRef (Syntax.named 3) Syntax.mut (Syntax.tyArray (Syntax.tyInt Syntax.w32) 65540)) 3) (List._∷_ (7, Rows.mref (Array.Array (Referent.rtF (Referent.fInt Syntax.w32)) 32772) (Syntax.tyRef (Syntax.named 4) Syntax.mut (Syntax.tyArray (Syntax.tyInt Syntax.w32) 32772)) 4) (List._∷_ (8, Rows.mref (Array.Array (Referent.rtF (Referent.fInt Syntax.w32)) 32772) (Syntax.tyRef (Syntax.named 5) Syntax.mut (Syntax.tyArray (Syntax.tyInt Syntax.w32) 32772)) 5) (List._∷_ (9, Rows.mref-owed (Array.Array (Referent.rtF (Referent.fInt Syntax.w32)) 262160) (Syntax.tyRef (Syntax.named 6) Syntax.mut (Syntax.tyArray (Syntax.tyInt Syntax.w32) 262160)) 6 20 Row.off) (List._∷_ (10, Reshare.mref-owedS (Array.Array (Referent.rtF (Referent.fInt Syntax.w8)) 600000) (Syntax.tyRef (Syntax.named 7) Syntax.mut (Syntax.tyArray (Syntax.tyInt Syntax.w8) 600000)) 7 21 Row.off) (List._∷_ (11, Rows.mref-owed (Array.Array Cell.R 65540) (Syntax.tyRef (Syntax.named 8) Syntax.mut (Syntax.tyArray Cell.behind 65540)) 8 22 Row.off) (List._∷_ (12, Rows.mref-owed (Array.Array Cell.R 32772) (Syntax.tyRef (Syntax.named 9) Syntax.mut (Syntax.tyArray Cell.behind 32772)) 9 23 Row.off) (List._∷_ (13, Rows.any-gone Syntax.tyBool) (List._∷_ (14, Rows.any-gone Syntax.tyBool) (List._∷_ (15, Rows.any-gone Syntax.tyBool) List.[])))))))))))))))
+t67 = List._∷_ (0, Rows.whole (Declared.row Held.the-type)) (List._∷_ (1, Rows.any-gone (Syntax.tyStruct (List._∷_ 122 (List._∷_ 111 (List._∷_ 110 (List._∷_ 101 (List._∷_ 115 (List._∷_ 58 (List._∷_ 58 (List._∷_ 104 (List._∷_ 101 (List._∷_ 108 (List._∷_ 100 (List._∷_ 58 (List._∷_ 58 (List._∷_ 72 (List._∷_ 101 (List._∷_ 108 (List._∷_ 100 List.[]))))))))))))))))) (Syntax.tcons (Syntax.tyStruct (List._∷_ 112 (List._∷_ 121 (List._∷_ 114 (List._∷_ 97 (List._∷_ 109 (List._∷_ 105 (List._∷_ 100 (List._∷_ 58 (List._∷_ 58 (List._∷_ 83 (List._∷_ 116 (List._∷_ 97 (List._∷_ 116 (List._∷_ 101 List.[])))))))))))))) (Syntax.tcons (Syntax.tyInt Syntax.w32) (Syntax.tcons (Syntax.tyInt Syntax.w32) (Syntax.tcons (Syntax.tyInt Syntax.w32) (Syntax.tcons (Syntax.tyInt Syntax.w32) (Syntax.tcons (Syntax.tyInt Syntax.w32) (Syntax.tcons (Syntax.tyArray (Syntax.tyInt Syntax.w32) 64) Syntax.tnil))))))) (Syntax.tcons (Syntax.tyInt Syntax.w64) (Syntax.tcons (Syntax.tyInt Syntax.w64) (Syntax.tcons (Syntax.tyInt Syntax.w64) (Syntax.tcons (Syntax.tyInt Syntax.w64) (Syntax.tcons (Syntax.tyInt Syntax.w64) (Syntax.tcons (Syntax.tyInt Syntax.w64) (Syntax.tcons Syntax.tyBool Syntax.tnil)))))))))) (List._∷_ (2, Rows.any-gone (Syntax.tyStruct (List._∷_ 122 (List._∷_ 111 (List._∷_ 110 (List._∷_ 101 (List._∷_ 115 (List._∷_ 58 (List._∷_ 58 (List._∷_ 115 (List._∷_ 99 (List._∷_ 97 (List._∷_ 110 (List._∷_ 58 (List._∷_ 58 (List._∷_ 76 (List._∷_ 105 (List._∷_ 110 (List._∷_ 101 List.[]))))))))))))))))) (Syntax.tcons (Syntax.tyInt Syntax.w32) (Syntax.tcons (Syntax.tyInt Syntax.w64) (Syntax.tcons (Syntax.tyInt Syntax.w64) (Syntax.tcons (Syntax.tyInt Syntax.w64) (Syntax.tcons (Syntax.tyInt Syntax.w64) Syntax.tnil))))))) (List._∷_ (3, Rows.sslice (Referent.rtF (Referent.fInt Syntax.w8)) (Syntax.tyRef (Syntax.named 0) Syntax.imm (Syntax.tyInt Syntax.w8)) 0) (List._∷_ (4, Rows.sref (Array.Array (Referent.rtF (Referent.fInt Syntax.w32)) 32772) (Syntax.tyRef (Syntax.named 1) Syntax.imm (Syntax.tyArray (Syntax.tyInt Syntax.w32) 32772)) 1) (List._∷_ (5, Rows.mref (Array.Array (Referent.rtF (Referent.fInt Syntax.w8)) 16388) (Syntax.tyRef (Syntax.named 2) Syntax.mut (Syntax.tyArray (Syntax.tyInt Syntax.w8) 16388)) 2) (List._∷_ (6, Rows.mref (Array.Array (Referent.rtF (Referent.fInt Syntax.w32)) 65540) (Syntax.tyRef (Syntax.named 3) Syntax.mut (Syntax.tyArray (Syntax.tyInt Syntax.w32) 65540)) 3) (List._∷_ (7, Rows.mref (Array.Array (Referent.rtF (Referent.fInt Syntax.w32)) 32772) (Syntax.tyRef (Syntax.named 4) Syntax.mut (Syntax.tyArray (Syntax.tyInt Syntax.w32) 32772)) 4) (List._∷_ (8, Rows.mref (Array.Array (Referent.rtF (Referent.fInt Syntax.w32)) 32772) (Syntax.tyRef (Syntax.named 5) Syntax.mut (Syntax.tyArray (Syntax.tyInt Syntax.w32) 32772)) 5) (List._∷_ (9, Rows.mref-owed (Array.Array (Referent.rtF (Referent.fInt Syntax.w32)) 262160) (Syntax.tyRef (Syntax.named 6) Syntax.mut (Syntax.tyArray (Syntax.tyInt Syntax.w32) 262160)) 6 20 Row.off) (List._∷_ (10, Reshare.mref-owedS (Array.Array (Referent.rtF (Referent.fInt Syntax.w8)) 600000) (Syntax.tyRef (Syntax.named 7) Syntax.mut (Syntax.tyArray (Syntax.tyInt Syntax.w8) 600000)) 7 21 Row.off) (List._∷_ (11, Rows.mref-owed (Array.Array Cell.R 65540) (Syntax.tyRef (Syntax.named 8) Syntax.mut (Syntax.tyArray Cell.behind 65540)) 8 22 Row.off) (List._∷_ (12, Rows.mref-owed (Array.Array Cell.R 32772) (Syntax.tyRef (Syntax.named 9) Syntax.mut (Syntax.tyArray Cell.behind 32772)) 9 23 Row.off) (List._∷_ (13, Rows.any-gone Syntax.tyBool) (List._∷_ (14, Rows.any-gone Syntax.tyBool) (List._∷_ (15, Rows.any-gone Syntax.tyBool) List.[])))))))))))))))
 
 abbrev pub t68 : List.List Row.Entry
 t68 = List._∷_ (16, Rows.any-gone (Syntax.tyRef Syntax.erased Syntax.mut (Syntax.tyArray (Syntax.tyInt Syntax.w8) 16388))) (List._∷_ (17, Rows.any-gone (Syntax.tyRef Syntax.erased Syntax.mut (Syntax.tyArray (Syntax.tyInt Syntax.w32) 65540))) (List._∷_ (18, Rows.any-gone (Syntax.tyRef Syntax.erased Syntax.mut (Syntax.tyArray (Syntax.tyInt Syntax.w32) 32772))) (List._∷_ (19, Rows.any-gone (Syntax.tyRef Syntax.erased Syntax.mut (Syntax.tyArray (Syntax.tyInt Syntax.w32) 32772))) (List._∷_ (20, Rows.any-gone (Syntax.tyRef Syntax.erased Syntax.mut (Syntax.tyArray (Syntax.tyInt Syntax.w32) 262160))) (List._∷_ (21, Rows.any-gone (Syntax.tyRef Syntax.erased Syntax.mut (Syntax.tyArray (Syntax.tyInt Syntax.w8) 600000))) (List._∷_ (22, Rows.any-gone (Syntax.tyRef Syntax.erased Syntax.mut Cell.behind)) (List._∷_ (23, Rows.any-gone (Syntax.tyStruct (List._∷_ 38 (List._∷_ 91 (List._∷_ 93 List.[]))) (Syntax.tcons (Syntax.tyRef Syntax.erased Syntax.mut Cell.behind) (Syntax.tcons (Syntax.tyInt Syntax.w64) Syntax.tnil)))) (List._∷_ (24, Rows.any-gone (Syntax.tyRef Syntax.erased Syntax.mut Cell.behind)) (List._∷_ (25, Rows.any-gone (Syntax.tyStruct (List._∷_ 38 (List._∷_ 91 (List._∷_ 93 List.[]))) (Syntax.tcons (Syntax.tyRef Syntax.erased Syntax.mut Cell.behind) (Syntax.tcons (Syntax.tyInt Syntax.w64) Syntax.tnil)))) (List._∷_ (26, Rows.any-gone (Syntax.tyRef Syntax.erased Syntax.mut (Syntax.tyArray (Syntax.tyInt Syntax.w32) 65540))) (List._∷_ (27, Rows.any-gone (Syntax.tyRef Syntax.erased Syntax.mut (Syntax.tyArray (Syntax.tyInt Syntax.w32) 32772))) (List._∷_ (28, Rows.mleft (Array.Array (Referent.rtF (Referent.fInt Syntax.w32)) 262160) (Syntax.tyRef Syntax.erased Syntax.mut (Syntax.tyArray (Syntax.tyInt Syntax.w32) 262160))) (List._∷_ (29, Rows.any-gone (Syntax.tyRef Syntax.erased Syntax.imm (Syntax.tyArray (Syntax.tyInt Syntax.w8) 600000))) (List._∷_ (30, Rows.mleft (Array.Array Cell.R 65540) (Syntax.tyRef Syntax.erased Syntax.mut (Syntax.tyArray Cell.behind 65540))) (List._∷_ (31, Rows.mleft (Array.Array Cell.R 32772) (Syntax.tyRef Syntax.erased Syntax.mut (Syntax.tyArray Cell.behind 32772))) List.[])))))))))))))))
 
 abbrev pub t69 : List.List Row.Entry
-t69 = List._∷_ (0, Rows.whole (Declared.row Held.the-type)) (List._∷_ (1, Rows.any-gone (Syntax.tyStruct (List._∷_ 122 (List._∷_ 111 (List._∷_ 110 (List._∷_ 101 (List._∷_ 115 (List._∷_ 58 (List._∷_ 58 (List._∷_ 104 (List._∷_ 101 (List._∷_ 108 (List._∷_ 100 (List._∷_ 58 (List._∷_ 58 (List._∷_ 72 (List._∷_ 101 (List._∷_ 108 (List._∷_ 100 List.[]))))))))))))))))) (Syntax.tcons (Syntax.tyStruct (List._∷_ 112 (List._∷_ 121 (List._∷_ 114 (List._∷_ 97 (List._∷_ 109 (List._∷_ 105 (List._∷_ 100 (List._∷_ 58 (List._∷_ 58 (List._∷_ 83 (List._∷_ 116 (List._∷_ 97 (List._∷_ 116 (List._∷_ 101 List.[])))))))))))))) (Syntax.tcons (Syntax.tyInt Syntax.w32) (Syntax.tcons (Syntax.tyInt Syntax.w32) (Syntax.tcons (Syntax.tyInt Syntax.w32) (Syntax.tcons (Syntax.tyArray (Syntax.tyInt Syntax.w32) 64) Syntax.tnil))))) (Syntax.tcons (Syntax.tyInt Syntax.w64) (Syntax.tcons (Syntax.tyInt Syntax.w64) (Syntax.tcons (Syntax.tyInt Syntax.w64) (Syntax.tcons (Syntax.tyInt Syntax.w64) (Syntax.tcons (Syntax.tyInt Syntax.w64) (Syntax.tcons (Syntax.tyInt Syntax.w64) (Syntax.tcons Syntax.tyBool Syntax.tnil)))))))))) (List._∷_ (2, Rows.any-gone (Syntax.tyStruct (List._∷_ 122 (List._∷_ 111 (List._∷_ 110 (List._∷_ 101 (List._∷_ 115 (List._∷_ 58 (List._∷_ 58 (List._∷_ 115 (List._∷_ 99 (List._∷_ 97 (List._∷_ 110 (List._∷_ 58 (List._∷_ 58 (List._∷_ 76 (List._∷_ 105 (List._∷_ 110 (List._∷_ 101 List.[]))))))))))))))))) (Syntax.tcons (Syntax.tyInt Syntax.w32) (Syntax.tcons (Syntax.tyInt Syntax.w64) (Syntax.tcons (Syntax.tyInt Syntax.w64) (Syntax.tcons (Syntax.tyInt Syntax.w64) (Syntax.tcons (Syntax.tyInt Syntax.w64) Syntax.tnil))))))) (List._∷_ (3, Rows.sslice (Referent.rtF (Referent.fInt Syntax.w8)) (Syntax.tyRef (Syntax.named 0) Syntax.imm (Syntax.tyInt Syntax.w8)) 0) (List._∷_ (4, Rows.sref (Array.Array (Referent.rtF (Referent.fInt Syntax.w32)) 32772) (Syntax.tyRef (Syntax.named 1) Syntax.imm (Syntax.tyArray (Syntax.tyInt Syntax.w32) 32772)) 1) (List._∷_ (5, Rows.mref (Array.Array (Referent.rtF (Referent.fInt Syntax.w8)) 16388) (Syntax.tyRef (Syntax.named 2) Syntax.mut (Syntax.tyArray (Syntax.tyInt Syntax.w8) 16388)) 2) (List._∷_ (6, Rows.mref (Array.Array (Referent.rtF (Referent.fInt Syntax.w32)) 65540) (Syntax.tyRef (Syntax.named 3) Syntax.mut (Syntax.tyArray (Syntax.tyInt Syntax.w32) 65540)) 3) (List._∷_ (7, Rows.mref (Array.Array (Referent.rtF (Referent.fInt Syntax.w32)) 32772) (Syntax.tyRef (Syntax.named 4) Syntax.mut (Syntax.tyArray (Syntax.tyInt Syntax.w32) 32772)) 4) (List._∷_ (8, Rows.mref (Array.Array (Referent.rtF (Referent.fInt Syntax.w32)) 32772) (Syntax.tyRef (Syntax.named 5) Syntax.mut (Syntax.tyArray (Syntax.tyInt Syntax.w32) 32772)) 5) (List._∷_ (9, Rows.mref (Array.Array (Referent.rtF (Referent.fInt Syntax.w32)) 262160) (Syntax.tyRef (Syntax.named 6) Syntax.mut (Syntax.tyArray (Syntax.tyInt Syntax.w32) 262160)) 6) (List._∷_ (10, Reshare.mref-owedS (Array.Array (Referent.rtF (Referent.fInt Syntax.w8)) 600000) (Syntax.tyRef (Syntax.named 7) Syntax.mut (Syntax.tyArray (Syntax.tyInt Syntax.w8) 600000)) 7 21 Row.off) (List._∷_ (11, Rows.mref-owed (Array.Array Cell.R 65540) (Syntax.tyRef (Syntax.named 8) Syntax.mut (Syntax.tyArray Cell.behind 65540)) 8 22 Row.off) (List._∷_ (12, Rows.mref-owed (Array.Array Cell.R 32772) (Syntax.tyRef (Syntax.named 9) Syntax.mut (Syntax.tyArray Cell.behind 32772)) 9 23 Row.off) (List._∷_ (13, Rows.any-gone Syntax.tyBool) (List._∷_ (14, Rows.any-gone Syntax.tyBool) (List._∷_ (15, Rows.any-gone Syntax.tyBool) List.[])))))))))))))))
+t69 = List._∷_ (0, Rows.whole (Declared.row Held.the-type)) (List._∷_ (1, Rows.any-gone (Syntax.tyStruct (List._∷_ 122 (List._∷_ 111 (List._∷_ 110 (List._∷_ 101 (List._∷_ 115 (List._∷_ 58 (List._∷_ 58 (List._∷_ 104 (List._∷_ 101 (List._∷_ 108 (List._∷_ 100 (List._∷_ 58 (List._∷_ 58 (List._∷_ 72 (List._∷_ 101 (List._∷_ 108 (List._∷_ 100 List.[]))))))))))))))))) (Syntax.tcons (Syntax.tyStruct (List._∷_ 112 (List._∷_ 121 (List._∷_ 114 (List._∷_ 97 (List._∷_ 109 (List._∷_ 105 (List._∷_ 100 (List._∷_ 58 (List._∷_ 58 (List._∷_ 83 (List._∷_ 116 (List._∷_ 97 (List._∷_ 116 (List._∷_ 101 List.[])))))))))))))) (Syntax.tcons (Syntax.tyInt Syntax.w32) (Syntax.tcons (Syntax.tyInt Syntax.w32) (Syntax.tcons (Syntax.tyInt Syntax.w32) (Syntax.tcons (Syntax.tyInt Syntax.w32) (Syntax.tcons (Syntax.tyInt Syntax.w32) (Syntax.tcons (Syntax.tyArray (Syntax.tyInt Syntax.w32) 64) Syntax.tnil))))))) (Syntax.tcons (Syntax.tyInt Syntax.w64) (Syntax.tcons (Syntax.tyInt Syntax.w64) (Syntax.tcons (Syntax.tyInt Syntax.w64) (Syntax.tcons (Syntax.tyInt Syntax.w64) (Syntax.tcons (Syntax.tyInt Syntax.w64) (Syntax.tcons (Syntax.tyInt Syntax.w64) (Syntax.tcons Syntax.tyBool Syntax.tnil)))))))))) (List._∷_ (2, Rows.any-gone (Syntax.tyStruct (List._∷_ 122 (List._∷_ 111 (List._∷_ 110 (List._∷_ 101 (List._∷_ 115 (List._∷_ 58 (List._∷_ 58 (List._∷_ 115 (List._∷_ 99 (List._∷_ 97 (List._∷_ 110 (List._∷_ 58 (List._∷_ 58 (List._∷_ 76 (List._∷_ 105 (List._∷_ 110 (List._∷_ 101 List.[]))))))))))))))))) (Syntax.tcons (Syntax.tyInt Syntax.w32) (Syntax.tcons (Syntax.tyInt Syntax.w64) (Syntax.tcons (Syntax.tyInt Syntax.w64) (Syntax.tcons (Syntax.tyInt Syntax.w64) (Syntax.tcons (Syntax.tyInt Syntax.w64) Syntax.tnil))))))) (List._∷_ (3, Rows.sslice (Referent.rtF (Referent.fInt Syntax.w8)) (Syntax.tyRef (Syntax.named 0) Syntax.imm (Syntax.tyInt Syntax.w8)) 0) (List._∷_ (4, Rows.sref (Array.Array (Referent.rtF (Referent.fInt Syntax.w32)) 32772) (Syntax.tyRef (Syntax.named 1) Syntax.imm (Syntax.tyArray (Syntax.tyInt Syntax.w32) 32772)) 1) (List._∷_ (5, Rows.mref (Array.Array (Referent.rtF (Referent.fInt Syntax.w8)) 16388) (Syntax.tyRef (Syntax.named 2) Syntax.mut (Syntax.tyArray (Syntax.tyInt Syntax.w8) 16388)) 2) (List._∷_ (6, Rows.mref (Array.Array (Referent.rtF (Referent.fInt Syntax.w32)) 65540) (Syntax.tyRef (Syntax.named 3) Syntax.mut (Syntax.tyArray (Syntax.tyInt Syntax.w32) 65540)) 3) (List._∷_ (7, Rows.mref (Array.Array (Referent.rtF (Referent.fInt Syntax.w32)) 32772) (Syntax.tyRef (Syntax.named 4) Syntax.mut (Syntax.tyArray (Syntax.tyInt Syntax.w32) 32772)) 4) (List._∷_ (8, Rows.mref (Array.Array (Referent.rtF (Referent.fInt Syntax.w32)) 32772) (Syntax.tyRef (Syntax.named 5) Syntax.mut (Syntax.tyArray (Syntax.tyInt Syntax.w32) 32772)) 5) (List._∷_ (9, Rows.mref (Array.Array (Referent.rtF (Referent.fInt Syntax.w32)) 262160) (Syntax.tyRef (Syntax.named 6) Syntax.mut (Syntax.tyArray (Syntax.tyInt Syntax.w32) 262160)) 6) (List._∷_ (10, Reshare.mref-owedS (Array.Array (Referent.rtF (Referent.fInt Syntax.w8)) 600000) (Syntax.tyRef (Syntax.named 7) Syntax.mut (Syntax.tyArray (Syntax.tyInt Syntax.w8) 600000)) 7 21 Row.off) (List._∷_ (11, Rows.mref-owed (Array.Array Cell.R 65540) (Syntax.tyRef (Syntax.named 8) Syntax.mut (Syntax.tyArray Cell.behind 65540)) 8 22 Row.off) (List._∷_ (12, Rows.mref-owed (Array.Array Cell.R 32772) (Syntax.tyRef (Syntax.named 9) Syntax.mut (Syntax.tyArray Cell.behind 32772)) 9 23 Row.off) (List._∷_ (13, Rows.any-gone Syntax.tyBool) (List._∷_ (14, Rows.any-gone Syntax.tyBool) (List._∷_ (15, Rows.any-gone Syntax.tyBool) List.[])))))))))))))))
 
 abbrev pub t70 : List.List Row.Entry
 t70 = List._∷_ (16, Rows.any-gone (Syntax.tyRef Syntax.erased Syntax.mut (Syntax.tyArray (Syntax.tyInt Syntax.w8) 16388))) (List._∷_ (17, Rows.any-gone (Syntax.tyRef Syntax.erased Syntax.mut (Syntax.tyArray (Syntax.tyInt Syntax.w32) 65540))) (List._∷_ (18, Rows.any-gone (Syntax.tyRef Syntax.erased Syntax.mut (Syntax.tyArray (Syntax.tyInt Syntax.w32) 32772))) (List._∷_ (19, Rows.any-gone (Syntax.tyRef Syntax.erased Syntax.mut (Syntax.tyArray (Syntax.tyInt Syntax.w32) 32772))) (List._∷_ (20, Rows.any-gone (Syntax.tyRef Syntax.erased Syntax.mut (Syntax.tyArray (Syntax.tyInt Syntax.w32) 262160))) (List._∷_ (21, Rows.any-gone (Syntax.tyRef Syntax.erased Syntax.mut (Syntax.tyArray (Syntax.tyInt Syntax.w8) 600000))) (List._∷_ (22, Rows.any-gone (Syntax.tyRef Syntax.erased Syntax.mut Cell.behind)) (List._∷_ (23, Rows.any-gone (Syntax.tyStruct (List._∷_ 38 (List._∷_ 91 (List._∷_ 93 List.[]))) (Syntax.tcons (Syntax.tyRef Syntax.erased Syntax.mut Cell.behind) (Syntax.tcons (Syntax.tyInt Syntax.w64) Syntax.tnil)))) (List._∷_ (24, Rows.any-gone (Syntax.tyRef Syntax.erased Syntax.mut Cell.behind)) (List._∷_ (25, Rows.any-gone (Syntax.tyStruct (List._∷_ 38 (List._∷_ 91 (List._∷_ 93 List.[]))) (Syntax.tcons (Syntax.tyRef Syntax.erased Syntax.mut Cell.behind) (Syntax.tcons (Syntax.tyInt Syntax.w64) Syntax.tnil)))) (List._∷_ (26, Rows.any-gone (Syntax.tyRef Syntax.erased Syntax.mut (Syntax.tyArray (Syntax.tyInt Syntax.w32) 65540))) (List._∷_ (27, Rows.any-gone (Syntax.tyRef Syntax.erased Syntax.mut (Syntax.tyArray (Syntax.tyInt Syntax.w32) 32772))) (List._∷_ (28, Rows.any-gone (Syntax.tyRef Syntax.erased Syntax.mut (Syntax.tyArray (Syntax.tyInt Syntax.w32) 262160))) (List._∷_ (29, Rows.any-gone (Syntax.tyRef Syntax.erased Syntax.imm (Syntax.tyArray (Syntax.tyInt Syntax.w8) 600000))) (List._∷_ (30, Rows.mleft (Array.Array Cell.R 65540) (Syntax.tyRef Syntax.erased Syntax.mut (Syntax.tyArray Cell.behind 65540))) (List._∷_ (31, Rows.mleft (Array.Array Cell.R 32772) (Syntax.tyRef Syntax.erased Syntax.mut (Syntax.tyArray Cell.behind 32772))) List.[])))))))))))))))
 
 abbrev pub t71 : List.List Row.Entry
-t71 = List._∷_ (0, Rows.whole (Declared.row Held.the-type)) (List._∷_ (1, Rows.any-gone (Syntax.tyStruct (List._∷_ 122 (List._∷_ 111 (List._∷_ 110 (List._∷_ 101 (List._∷_ 115 (List._∷_ 58 (List._∷_ 58 (List._∷_ 104 (List._∷_ 101 (List._∷_ 108 (List._∷_ 100 (List._∷_ 58 (List._∷_ 58 (List._∷_ 72 (List._∷_ 101 (List._∷_ 108 (List._∷_ 100 List.[]))))))))))))))))) (Syntax.tcons (Syntax.tyStruct (List._∷_ 112 (List._∷_ 121 (List._∷_ 114 (List._∷_ 97 (List._∷_ 109 (List._∷_ 105 (List._∷_ 100 (List._∷_ 58 (List._∷_ 58 (List._∷_ 83 (List._∷_ 116 (List._∷_ 97 (List._∷_ 116 (List._∷_ 101 List.[])))))))))))))) (Syntax.tcons (Syntax.tyInt Syntax.w32) (Syntax.tcons (Syntax.tyInt Syntax.w32) (Syntax.tcons (Syntax.tyInt Syntax.w32) (Syntax.tcons (Syntax.tyArray (Syntax.tyInt Syntax.w32) 64) Syntax.tnil))))) (Syntax.tcons (Syntax.tyInt Syntax.w64) (Syntax.tcons (Syntax.tyInt Syntax.w64) (Syntax.tcons (Syntax.tyInt Syntax.w64) (Syntax.tcons (Syntax.tyInt Syntax.w64) (Syntax.tcons (Syntax.tyInt Syntax.w64) (Syntax.tcons (Syntax.tyInt Syntax.w64) (Syntax.tcons Syntax.tyBool Syntax.tnil)))))))))) (List._∷_ (2, Rows.any-gone (Syntax.tyStruct (List._∷_ 122 (List._∷_ 111 (List._∷_ 110 (List._∷_ 101 (List._∷_ 115 (List._∷_ 58 (List._∷_ 58 (List._∷_ 115 (List._∷_ 99 (List._∷_ 97 (List._∷_ 110 (List._∷_ 58 (List._∷_ 58 (List._∷_ 76 (List._∷_ 105 (List._∷_ 110 (List._∷_ 101 List.[]))))))))))))))))) (Syntax.tcons (Syntax.tyInt Syntax.w32) (Syntax.tcons (Syntax.tyInt Syntax.w64) (Syntax.tcons (Syntax.tyInt Syntax.w64) (Syntax.tcons (Syntax.tyInt Syntax.w64) (Syntax.tcons (Syntax.tyInt Syntax.w64) Syntax.tnil))))))) (List._∷_ (3, Rows.sslice (Referent.rtF (Referent.fInt Syntax.w8)) (Syntax.tyRef (Syntax.named 0) Syntax.imm (Syntax.tyInt Syntax.w8)) 0) (List._∷_ (4, Rows.sref (Array.Array (Referent.rtF (Referent.fInt Syntax.w32)) 32772) (Syntax.tyRef (Syntax.named 1) Syntax.imm (Syntax.tyArray (Syntax.tyInt Syntax.w32) 32772)) 1) (List._∷_ (5, Rows.mref (Array.Array (Referent.rtF (Referent.fInt Syntax.w8)) 16388) (Syntax.tyRef (Syntax.named 2) Syntax.mut (Syntax.tyArray (Syntax.tyInt Syntax.w8) 16388)) 2) (List._∷_ (6, Rows.mref (Array.Array (Referent.rtF (Referent.fInt Syntax.w32)) 65540) (Syntax.tyRef (Syntax.named 3) Syntax.mut (Syntax.tyArray (Syntax.tyInt Syntax.w32) 65540)) 3) (List._∷_ (7, Rows.mref (Array.Array (Referent.rtF (Referent.fInt Syntax.w32)) 32772) (Syntax.tyRef (Syntax.named 4) Syntax.mut (Syntax.tyArray (Syntax.tyInt Syntax.w32) 32772)) 4) (List._∷_ (8, Rows.mref (Array.Array (Referent.rtF (Referent.fInt Syntax.w32)) 32772) (Syntax.tyRef (Syntax.named 5) Syntax.mut (Syntax.tyArray (Syntax.tyInt Syntax.w32) 32772)) 5) (List._∷_ (9, Rows.mref (Array.Array (Referent.rtF (Referent.fInt Syntax.w32)) 262160) (Syntax.tyRef (Syntax.named 6) Syntax.mut (Syntax.tyArray (Syntax.tyInt Syntax.w32) 262160)) 6) (List._∷_ (10, Rows.mref (Array.Array (Referent.rtF (Referent.fInt Syntax.w8)) 600000) (Syntax.tyRef (Syntax.named 7) Syntax.mut (Syntax.tyArray (Syntax.tyInt Syntax.w8) 600000)) 7) (List._∷_ (11, Rows.mref-owed (Array.Array Cell.R 65540) (Syntax.tyRef (Syntax.named 8) Syntax.mut (Syntax.tyArray Cell.behind 65540)) 8 22 Row.off) (List._∷_ (12, Rows.mref-owed (Array.Array Cell.R 32772) (Syntax.tyRef (Syntax.named 9) Syntax.mut (Syntax.tyArray Cell.behind 32772)) 9 23 Row.off) (List._∷_ (13, Rows.any-gone Syntax.tyBool) (List._∷_ (14, Rows.any-gone Syntax.tyBool) (List._∷_ (15, Rows.any-gone Syntax.tyBool) List.[])))))))))))))))
+t71 = List._∷_ (0, Rows.whole (Declared.row Held.the-type)) (List._∷_ (1, Rows.any-gone (Syntax.tyStruct (List._∷_ 122 (List._∷_ 111 (List._∷_ 110 (List._∷_ 101 (List._∷_ 115 (List._∷_ 58 (List._∷_ 58 (List._∷_ 104 (List._∷_ 101 (List._∷_ 108 (List._∷_ 100 (List._∷_ 58 (List._∷_ 58 (List._∷_ 72 (List._∷_ 101 (List._∷_ 108 (List._∷_ 100 List.[]))))))))))))))))) (Syntax.tcons (Syntax.tyStruct (List._∷_ 112 (List._∷_ 121 (List._∷_ 114 (List._∷_ 97 (List._∷_ 109 (List._∷_ 105 (List._∷_ 100 (List._∷_ 58 (List._∷_ 58 (List._∷_ 83 (List._∷_ 116 (List._∷_ 97 (List._∷_ 116 (List._∷_ 101 List.[])))))))))))))) (Syntax.tcons (Syntax.tyInt Syntax.w32) (Syntax.tcons (Syntax.tyInt Syntax.w32) (Syntax.tcons (Syntax.tyInt Syntax.w32) (Syntax.tcons (Syntax.tyInt Syntax.w32) (Syntax.tcons (Syntax.tyInt Syntax.w32) (Syntax.tcons (Syntax.tyArray (Syntax.tyInt Syntax.w32) 64) Syntax.tnil))))))) (Syntax.tcons (Syntax.tyInt Syntax.w64) (Syntax.tcons (Syntax.tyInt Syntax.w64) (Syntax.tcons (Syntax.tyInt Syntax.w64) (Syntax.tcons (Syntax.tyInt Syntax.w64) (Syntax.tcons (Syntax.tyInt Syntax.w64) (Syntax.tcons (Syntax.tyInt Syntax.w64) (Syntax.tcons Syntax.tyBool Syntax.tnil)))))))))) (List._∷_ (2, Rows.any-gone (Syntax.tyStruct (List._∷_ 122 (List._∷_ 111 (List._∷_ 110 (List._∷_ 101 (List._∷_ 115 (List._∷_ 58 (List._∷_ 58 (List._∷_ 115 (List._∷_ 99 (List._∷_ 97 (List._∷_ 110 (List._∷_ 58 (List._∷_ 58 (List._∷_ 76 (List._∷_ 105 (List._∷_ 110 (List._∷_ 101 List.[]))))))))))))))))) (Syntax.tcons (Syntax.tyInt Syntax.w32) (Syntax.tcons (Syntax.tyInt Syntax.w64) (Syntax.tcons (Syntax.tyInt Syntax.w64) (Syntax.tcons (Syntax.tyInt Syntax.w64) (Syntax.tcons (Syntax.tyInt Syntax.w64) Syntax.tnil))))))) (List._∷_ (3, Rows.sslice (Referent.rtF (Referent.fInt Syntax.w8)) (Syntax.tyRef (Syntax.named 0) Syntax.imm (Syntax.tyInt Syntax.w8)) 0) (List._∷_ (4, Rows.sref (Array.Array (Referent.rtF (Referent.fInt Syntax.w32)) 32772) (Syntax.tyRef (Syntax.named 1) Syntax.imm (Syntax.tyArray (Syntax.tyInt Syntax.w32) 32772)) 1) (List._∷_ (5, Rows.mref (Array.Array (Referent.rtF (Referent.fInt Syntax.w8)) 16388) (Syntax.tyRef (Syntax.named 2) Syntax.mut (Syntax.tyArray (Syntax.tyInt Syntax.w8) 16388)) 2) (List._∷_ (6, Rows.mref (Array.Array (Referent.rtF (Referent.fInt Syntax.w32)) 65540) (Syntax.tyRef (Syntax.named 3) Syntax.mut (Syntax.tyArray (Syntax.tyInt Syntax.w32) 65540)) 3) (List._∷_ (7, Rows.mref (Array.Array (Referent.rtF (Referent.fInt Syntax.w32)) 32772) (Syntax.tyRef (Syntax.named 4) Syntax.mut (Syntax.tyArray (Syntax.tyInt Syntax.w32) 32772)) 4) (List._∷_ (8, Rows.mref (Array.Array (Referent.rtF (Referent.fInt Syntax.w32)) 32772) (Syntax.tyRef (Syntax.named 5) Syntax.mut (Syntax.tyArray (Syntax.tyInt Syntax.w32) 32772)) 5) (List._∷_ (9, Rows.mref (Array.Array (Referent.rtF (Referent.fInt Syntax.w32)) 262160) (Syntax.tyRef (Syntax.named 6) Syntax.mut (Syntax.tyArray (Syntax.tyInt Syntax.w32) 262160)) 6) (List._∷_ (10, Rows.mref (Array.Array (Referent.rtF (Referent.fInt Syntax.w8)) 600000) (Syntax.tyRef (Syntax.named 7) Syntax.mut (Syntax.tyArray (Syntax.tyInt Syntax.w8) 600000)) 7) (List._∷_ (11, Rows.mref-owed (Array.Array Cell.R 65540) (Syntax.tyRef (Syntax.named 8) Syntax.mut (Syntax.tyArray Cell.behind 65540)) 8 22 Row.off) (List._∷_ (12, Rows.mref-owed (Array.Array Cell.R 32772) (Syntax.tyRef (Syntax.named 9) Syntax.mut (Syntax.tyArray Cell.behind 32772)) 9 23 Row.off) (List._∷_ (13, Rows.any-gone Syntax.tyBool) (List._∷_ (14, Rows.any-gone Syntax.tyBool) (List._∷_ (15, Rows.any-gone Syntax.tyBool) List.[])))))))))))))))
 
 abbrev pub t72 : List.List Row.Entry
-t72 = List._∷_ (0, Rows.whole (Declared.row Held.the-type)) (List._∷_ (1, Rows.any-gone (Syntax.tyStruct (List._∷_ 122 (List._∷_ 111 (List._∷_ 110 (List._∷_ 101 (List._∷_ 115 (List._∷_ 58 (List._∷_ 58 (List._∷_ 104 (List._∷_ 101 (List._∷_ 108 (List._∷_ 100 (List._∷_ 58 (List._∷_ 58 (List._∷_ 72 (List._∷_ 101 (List._∷_ 108 (List._∷_ 100 List.[]))))))))))))))))) (Syntax.tcons (Syntax.tyStruct (List._∷_ 112 (List._∷_ 121 (List._∷_ 114 (List._∷_ 97 (List._∷_ 109 (List._∷_ 105 (List._∷_ 100 (List._∷_ 58 (List._∷_ 58 (List._∷_ 83 (List._∷_ 116 (List._∷_ 97 (List._∷_ 116 (List._∷_ 101 List.[])))))))))))))) (Syntax.tcons (Syntax.tyInt Syntax.w32) (Syntax.tcons (Syntax.tyInt Syntax.w32) (Syntax.tcons (Syntax.tyInt Syntax.w32) (Syntax.tcons (Syntax.tyArray (Syntax.tyInt Syntax.w32) 64) Syntax.tnil))))) (Syntax.tcons (Syntax.tyInt Syntax.w64) (Syntax.tcons (Syntax.tyInt Syntax.w64) (Syntax.tcons (Syntax.tyInt Syntax.w64) (Syntax.tcons (Syntax.tyInt Syntax.w64) (Syntax.tcons (Syntax.tyInt Syntax.w64) (Syntax.tcons (Syntax.tyInt Syntax.w64) (Syntax.tcons Syntax.tyBool Syntax.tnil)))))))))) (List._∷_ (2, Rows.any-gone (Syntax.tyStruct (List._∷_ 122 (List._∷_ 111 (List._∷_ 110 (List._∷_ 101 (List._∷_ 115 (List._∷_ 58 (List._∷_ 58 (List._∷_ 115 (List._∷_ 99 (List._∷_ 97 (List._∷_ 110 (List._∷_ 58 (List._∷_ 58 (List._∷_ 76 (List._∷_ 105 (List._∷_ 110 (List._∷_ 101 List.[]))))))))))))))))) (Syntax.tcons (Syntax.tyInt Syntax.w32) (Syntax.tcons (Syntax.tyInt Syntax.w64) (Syntax.tcons (Syntax.tyInt Syntax.w64) (Syntax.tcons (Syntax.tyInt Syntax.w64) (Syntax.tcons (Syntax.tyInt Syntax.w64) Syntax.tnil))))))) (List._∷_ (3, Rows.sslice (Referent.rtF (Referent.fInt Syntax.w8)) (Syntax.tyRef (Syntax.named 0) Syntax.imm (Syntax.tyInt Syntax.w8)) 0) (List._∷_ (4, Rows.sref (Array.Array (Referent.rtF (Referent.fInt Syntax.w32)) 32772) (Syntax.tyRef (Syntax.named 1) Syntax.imm (Syntax.tyArray (Syntax.tyInt Syntax.w32) 32772)) 1) (List._∷_ (5, Rows.mref (Array.Array (Referent.rtF (Referent.fInt Syntax.w8)) 16388) (Syntax.tyRef (Syntax.named 2) Syntax.mut (Syntax.tyArray (Syntax.tyInt Syntax.w8) 16388)) 2) (List._∷_ (6, Rows.mref (Array.Array (Referent.rtF (Referent.fInt Syntax.w32)) 65540) (Syntax.tyRef (Syntax.named 3) Syntax.mut (Syntax.tyArray (Syntax.tyInt Syntax.w32) 65540)) 3) (List._∷_ (7, Rows.mref (Array.Array (Referent.rtF (Referent.fInt Syntax.w32)) 32772) (Syntax.tyRef (Syntax.named 4) Syntax.mut (Syntax.tyArray (Syntax.tyInt Syntax.w32) 32772)) 4) (List._∷_ (8, Rows.mref (Array.Array (Referent.rtF (Referent.fInt Syntax.w32)) 32772) (Syntax.tyRef (Syntax.named 5) Syntax.mut (Syntax.tyArray (Syntax.tyInt Syntax.w32) 32772)) 5) (List._∷_ (9, Rows.mref (Array.Array (Referent.rtF (Referent.fInt Syntax.w32)) 262160) (Syntax.tyRef (Syntax.named 6) Syntax.mut (Syntax.tyArray (Syntax.tyInt Syntax.w32) 262160)) 6) (List._∷_ (10, Rows.mref (Array.Array (Referent.rtF (Referent.fInt Syntax.w8)) 600000) (Syntax.tyRef (Syntax.named 7) Syntax.mut (Syntax.tyArray (Syntax.tyInt Syntax.w8) 600000)) 7) (List._∷_ (11, Rows.mref (Array.Array Cell.R 65540) (Syntax.tyRef (Syntax.named 8) Syntax.mut (Syntax.tyArray Cell.behind 65540)) 8) (List._∷_ (12, Rows.mref-owed (Array.Array Cell.R 32772) (Syntax.tyRef (Syntax.named 9) Syntax.mut (Syntax.tyArray Cell.behind 32772)) 9 23 Row.off) (List._∷_ (13, Rows.any-gone Syntax.tyBool) (List._∷_ (14, Rows.any-gone Syntax.tyBool) (List._∷_ (15, Rows.any-gone Syntax.tyBool) List.[])))))))))))))))
+t72 = List._∷_ (0, Rows.whole (Declared.row Held.the-type)) (List._∷_ (1, Rows.any-gone (Syntax.tyStruct (List._∷_ 122 (List._∷_ 111 (List._∷_ 110 (List._∷_ 101 (List._∷_ 115 (List._∷_ 58 (List._∷_ 58 (List._∷_ 104 (List._∷_ 101 (List._∷_ 108 (List._∷_ 100 (List._∷_ 58 (List._∷_ 58 (List._∷_ 72 (List._∷_ 101 (List._∷_ 108 (List._∷_ 100 List.[]))))))))))))))))) (Syntax.tcons (Syntax.tyStruct (List._∷_ 112 (List._∷_ 121 (List._∷_ 114 (List._∷_ 97 (List._∷_ 109 (List._∷_ 105 (List._∷_ 100 (List._∷_ 58 (List._∷_ 58 (List._∷_ 83 (List._∷_ 116 (List._∷_ 97 (List._∷_ 116 (List._∷_ 101 List.[])))))))))))))) (Syntax.tcons (Syntax.tyInt Syntax.w32) (Syntax.tcons (Syntax.tyInt Syntax.w32) (Syntax.tcons (Syntax.tyInt Syntax.w32) (Syntax.tcons (Syntax.tyInt Syntax.w32) (Syntax.tcons (Syntax.tyInt Syntax.w32) (Syntax.tcons (Syntax.tyArray (Syntax.tyInt Syntax.w32) 64) Syntax.tnil))))))) (Syntax.tcons (Syntax.tyInt Syntax.w64) (Syntax.tcons (Syntax.tyInt Syntax.w64) (Syntax.tcons (Syntax.tyInt Syntax.w64) (Syntax.tcons (Syntax.tyInt Syntax.w64) (Syntax.tcons (Syntax.tyInt Syntax.w64) (Syntax.tcons (Syntax.tyInt Syntax.w64) (Syntax.tcons Syntax.tyBool Syntax.tnil)))))))))) (List._∷_ (2, Rows.any-gone (Syntax.tyStruct (List._∷_ 122 (List._∷_ 111 (List._∷_ 110 (List._∷_ 101 (List._∷_ 115 (List._∷_ 58 (List._∷_ 58 (List._∷_ 115 (List._∷_ 99 (List._∷_ 97 (List._∷_ 110 (List._∷_ 58 (List._∷_ 58 (List._∷_ 76 (List._∷_ 105 (List._∷_ 110 (List._∷_ 101 List.[]))))))))))))))))) (Syntax.tcons (Syntax.tyInt Syntax.w32) (Syntax.tcons (Syntax.tyInt Syntax.w64) (Syntax.tcons (Syntax.tyInt Syntax.w64) (Syntax.tcons (Syntax.tyInt Syntax.w64) (Syntax.tcons (Syntax.tyInt Syntax.w64) Syntax.tnil))))))) (List._∷_ (3, Rows.sslice (Referent.rtF (Referent.fInt Syntax.w8)) (Syntax.tyRef (Syntax.named 0) Syntax.imm (Syntax.tyInt Syntax.w8)) 0) (List._∷_ (4, Rows.sref (Array.Array (Referent.rtF (Referent.fInt Syntax.w32)) 32772) (Syntax.tyRef (Syntax.named 1) Syntax.imm (Syntax.tyArray (Syntax.tyInt Syntax.w32) 32772)) 1) (List._∷_ (5, Rows.mref (Array.Array (Referent.rtF (Referent.fInt Syntax.w8)) 16388) (Syntax.tyRef (Syntax.named 2) Syntax.mut (Syntax.tyArray (Syntax.tyInt Syntax.w8) 16388)) 2) (List._∷_ (6, Rows.mref (Array.Array (Referent.rtF (Referent.fInt Syntax.w32)) 65540) (Syntax.tyRef (Syntax.named 3) Syntax.mut (Syntax.tyArray (Syntax.tyInt Syntax.w32) 65540)) 3) (List._∷_ (7, Rows.mref (Array.Array (Referent.rtF (Referent.fInt Syntax.w32)) 32772) (Syntax.tyRef (Syntax.named 4) Syntax.mut (Syntax.tyArray (Syntax.tyInt Syntax.w32) 32772)) 4) (List._∷_ (8, Rows.mref (Array.Array (Referent.rtF (Referent.fInt Syntax.w32)) 32772) (Syntax.tyRef (Syntax.named 5) Syntax.mut (Syntax.tyArray (Syntax.tyInt Syntax.w32) 32772)) 5) (List._∷_ (9, Rows.mref (Array.Array (Referent.rtF (Referent.fInt Syntax.w32)) 262160) (Syntax.tyRef (Syntax.named 6) Syntax.mut (Syntax.tyArray (Syntax.tyInt Syntax.w32) 262160)) 6) (List._∷_ (10, Rows.mref (Array.Array (Referent.rtF (Referent.fInt Syntax.w8)) 600000) (Syntax.tyRef (Syntax.named 7) Syntax.mut (Syntax.tyArray (Syntax.tyInt Syntax.w8) 600000)) 7) (List._∷_ (11, Rows.mref (Array.Array Cell.R 65540) (Syntax.tyRef (Syntax.named 8) Syntax.mut (Syntax.tyArray Cell.behind 65540)) 8) (List._∷_ (12, Rows.mref-owed (Array.Array Cell.R 32772) (Syntax.tyRef (Syntax.named 9) Syntax.mut (Syntax.tyArray Cell.behind 32772)) 9 23 Row.off) (List._∷_ (13, Rows.any-gone Syntax.tyBool) (List._∷_ (14, Rows.any-gone Syntax.tyBool) (List._∷_ (15, Rows.any-gone Syntax.tyBool) List.[])))))))))))))))
 
 abbrev pub t73 : List.List Row.Entry
 t73 = List._∷_ (16, Rows.any-gone (Syntax.tyRef Syntax.erased Syntax.mut (Syntax.tyArray (Syntax.tyInt Syntax.w8) 16388))) (List._∷_ (17, Rows.any-gone (Syntax.tyRef Syntax.erased Syntax.mut (Syntax.tyArray (Syntax.tyInt Syntax.w32) 65540))) (List._∷_ (18, Rows.any-gone (Syntax.tyRef Syntax.erased Syntax.mut (Syntax.tyArray (Syntax.tyInt Syntax.w32) 32772))) (List._∷_ (19, Rows.any-gone (Syntax.tyRef Syntax.erased Syntax.mut (Syntax.tyArray (Syntax.tyInt Syntax.w32) 32772))) (List._∷_ (20, Rows.any-gone (Syntax.tyRef Syntax.erased Syntax.mut (Syntax.tyArray (Syntax.tyInt Syntax.w32) 262160))) (List._∷_ (21, Rows.any-gone (Syntax.tyRef Syntax.erased Syntax.mut (Syntax.tyArray (Syntax.tyInt Syntax.w8) 600000))) (List._∷_ (22, Rows.any-gone (Syntax.tyRef Syntax.erased Syntax.mut Cell.behind)) (List._∷_ (23, Rows.any-gone (Syntax.tyStruct (List._∷_ 38 (List._∷_ 91 (List._∷_ 93 List.[]))) (Syntax.tcons (Syntax.tyRef Syntax.erased Syntax.mut Cell.behind) (Syntax.tcons (Syntax.tyInt Syntax.w64) Syntax.tnil)))) (List._∷_ (24, Rows.any-gone (Syntax.tyRef Syntax.erased Syntax.mut Cell.behind)) (List._∷_ (25, Rows.any-gone (Syntax.tyStruct (List._∷_ 38 (List._∷_ 91 (List._∷_ 93 List.[]))) (Syntax.tcons (Syntax.tyRef Syntax.erased Syntax.mut Cell.behind) (Syntax.tcons (Syntax.tyInt Syntax.w64) Syntax.tnil)))) (List._∷_ (26, Rows.any-gone (Syntax.tyRef Syntax.erased Syntax.mut (Syntax.tyArray (Syntax.tyInt Syntax.w32) 65540))) (List._∷_ (27, Rows.any-gone (Syntax.tyRef Syntax.erased Syntax.mut (Syntax.tyArray (Syntax.tyInt Syntax.w32) 32772))) (List._∷_ (28, Rows.any-gone (Syntax.tyRef Syntax.erased Syntax.mut (Syntax.tyArray (Syntax.tyInt Syntax.w32) 262160))) (List._∷_ (29, Rows.any-gone (Syntax.tyRef Syntax.erased Syntax.imm (Syntax.tyArray (Syntax.tyInt Syntax.w8) 600000))) (List._∷_ (30, Rows.any-gone (Syntax.tyRef Syntax.erased Syntax.mut (Syntax.tyArray Cell.behind 65540))) (List._∷_ (31, Rows.mleft (Array.Array Cell.R 32772) (Syntax.tyRef Syntax.erased Syntax.mut (Syntax.tyArray Cell.behind 32772))) List.[])))))))))))))))
@@ -729,7 +729,7 @@ module _ (claims· : Claims) where
   s1 = Know'.k-struct-known Line.the-type Laws'.the-laws T2 2 λ x. x
 
   abbrev s2 : Typed.Asks T3 T4
-  s2 = Scalar.k-op2 T3 (Syntax.lt Syntax.unsigned) (Scalar.oFld 2 (List._∷_ (Syntax.field 0) List.[]) (Syntax.tyInt Syntax.w32) 0 (Reads.fieldV Line.the-type Laws'.the-laws 0)) (Scalar.oInt Syntax.w32 24) 15 (Rows.sc-here Row.sBool) (Row.sBool .of)
+  s2 = Scalar.k-op2 T3 (Syntax.lt Syntax.unsigned) (Scalar.oFld 2 (List._∷_ (Syntax.field 0) List.[]) (Syntax.tyInt Syntax.w32) 0 (Reads.fieldV Line.the-type Laws'.the-laws 0)) (Scalar.oInt Syntax.w32 25) 15 (Rows.sc-here Row.sBool) (Row.sBool .of)
 
   abbrev s3 : Typed.Mo T4 → Typed.Mo T6
   s3 = Scalar.n-room T4 15 Syntax.tyBool
@@ -753,10 +753,10 @@ module _ (claims· : Claims) where
   s15 = Reborrow.k-mref-relend T16 10 21 7 15 (Array.Array (Referent.rtF (Referent.fInt Syntax.w8)) 600000) (Syntax.tyRef (Syntax.named 7) Syntax.mut (Syntax.tyArray (Syntax.tyInt Syntax.w8) 600000)) (Syntax.tyRef Syntax.erased Syntax.mut (Syntax.tyArray (Syntax.tyInt Syntax.w8) 600000)) Row.off List.[] λ x. x
 
   abbrev s16 : Typed.Both T18 T19
-  s16 = Call.callB ps·0 r·0 (claims· .0) (claims· .1) T18 (record { pos = 1; st = List.[]; d = 0; at = λ x. x }, (record { pos = 2; st = List.[]; d = 0; at = λ x. x }, (record { pos = 3; ty = Syntax.tyRef (Syntax.named 0) Syntax.imm (Syntax.tyInt Syntax.w8); ref = λ x. x }, (record { pos = 4; ty = Syntax.tyRef (Syntax.named 1) Syntax.imm (Syntax.tyArray (Syntax.tyInt Syntax.w32) 32772); ref = λ x. x }, (record { pos = 16; ty = Syntax.tyRef Syntax.erased Syntax.mut (Syntax.tyArray (Syntax.tyInt Syntax.w8) 16388); ref = λ x. x }, (record { pos = 17; ty = Syntax.tyRef Syntax.erased Syntax.mut (Syntax.tyArray (Syntax.tyInt Syntax.w32) 65540); ref = λ x. x }, (record { pos = 18; ty = Syntax.tyRef Syntax.erased Syntax.mut (Syntax.tyArray (Syntax.tyInt Syntax.w32) 32772); ref = λ x. x }, (record { pos = 19; ty = Syntax.tyRef Syntax.erased Syntax.mut (Syntax.tyArray (Syntax.tyInt Syntax.w32) 32772); ref = λ x. x }, (record { pos = 20; ty = Syntax.tyRef Syntax.erased Syntax.mut (Syntax.tyArray (Syntax.tyInt Syntax.w32) 262160); ref = λ x. x }, (record { pos = 21; ty = Syntax.tyRef Syntax.erased Syntax.mut (Syntax.tyArray (Syntax.tyInt Syntax.w8) 600000); ref = λ x. x }, tt)))))))))) 0 (List._∷_ 0 (List._∷_ 1 (List._∷_ 10 (List._∷_ 11 (List._∷_ 12 (List._∷_ 13 (List._∷_ 14 (List._∷_ 15 List.[])))))))) (Syntax.tyStruct (List._∷_ 122 (List._∷_ 111 (List._∷_ 110 (List._∷_ 101 (List._∷_ 115 (List._∷_ 58 (List._∷_ 58 (List._∷_ 104 (List._∷_ 101 (List._∷_ 108 (List._∷_ 100 (List._∷_ 58 (List._∷_ 58 (List._∷_ 72 (List._∷_ 101 (List._∷_ 108 (List._∷_ 100 List.[]))))))))))))))))) (Syntax.tcons (Syntax.tyStruct (List._∷_ 112 (List._∷_ 121 (List._∷_ 114 (List._∷_ 97 (List._∷_ 109 (List._∷_ 105 (List._∷_ 100 (List._∷_ 58 (List._∷_ 58 (List._∷_ 83 (List._∷_ 116 (List._∷_ 97 (List._∷_ 116 (List._∷_ 101 List.[])))))))))))))) (Syntax.tcons (Syntax.tyInt Syntax.w32) (Syntax.tcons (Syntax.tyInt Syntax.w32) (Syntax.tcons (Syntax.tyInt Syntax.w32) (Syntax.tcons (Syntax.tyArray (Syntax.tyInt Syntax.w32) 64) Syntax.tnil))))) (Syntax.tcons (Syntax.tyInt Syntax.w64) (Syntax.tcons (Syntax.tyInt Syntax.w64) (Syntax.tcons (Syntax.tyInt Syntax.w64) (Syntax.tcons (Syntax.tyInt Syntax.w64) (Syntax.tcons (Syntax.tyInt Syntax.w64) (Syntax.tcons (Syntax.tyInt Syntax.w64) (Syntax.tcons Syntax.tyBool Syntax.tnil)))))))))
+  s16 = Call.callB ps·0 r·0 (claims· .0) (claims· .1) T18 (record { pos = 1; st = List.[]; d = 0; at = λ x. x }, (record { pos = 2; st = List.[]; d = 0; at = λ x. x }, (record { pos = 3; ty = Syntax.tyRef (Syntax.named 0) Syntax.imm (Syntax.tyInt Syntax.w8); ref = λ x. x }, (record { pos = 4; ty = Syntax.tyRef (Syntax.named 1) Syntax.imm (Syntax.tyArray (Syntax.tyInt Syntax.w32) 32772); ref = λ x. x }, (record { pos = 16; ty = Syntax.tyRef Syntax.erased Syntax.mut (Syntax.tyArray (Syntax.tyInt Syntax.w8) 16388); ref = λ x. x }, (record { pos = 17; ty = Syntax.tyRef Syntax.erased Syntax.mut (Syntax.tyArray (Syntax.tyInt Syntax.w32) 65540); ref = λ x. x }, (record { pos = 18; ty = Syntax.tyRef Syntax.erased Syntax.mut (Syntax.tyArray (Syntax.tyInt Syntax.w32) 32772); ref = λ x. x }, (record { pos = 19; ty = Syntax.tyRef Syntax.erased Syntax.mut (Syntax.tyArray (Syntax.tyInt Syntax.w32) 32772); ref = λ x. x }, (record { pos = 20; ty = Syntax.tyRef Syntax.erased Syntax.mut (Syntax.tyArray (Syntax.tyInt Syntax.w32) 262160); ref = λ x. x }, (record { pos = 21; ty = Syntax.tyRef Syntax.erased Syntax.mut (Syntax.tyArray (Syntax.tyInt Syntax.w8) 600000); ref = λ x. x }, tt)))))))))) 0 (List._∷_ 0 (List._∷_ 1 (List._∷_ 10 (List._∷_ 11 (List._∷_ 12 (List._∷_ 13 (List._∷_ 14 (List._∷_ 15 List.[])))))))) (Syntax.tyStruct (List._∷_ 122 (List._∷_ 111 (List._∷_ 110 (List._∷_ 101 (List._∷_ 115 (List._∷_ 58 (List._∷_ 58 (List._∷_ 104 (List._∷_ 101 (List._∷_ 108 (List._∷_ 100 (List._∷_ 58 (List._∷_ 58 (List._∷_ 72 (List._∷_ 101 (List._∷_ 108 (List._∷_ 100 List.[]))))))))))))))))) (Syntax.tcons (Syntax.tyStruct (List._∷_ 112 (List._∷_ 121 (List._∷_ 114 (List._∷_ 97 (List._∷_ 109 (List._∷_ 105 (List._∷_ 100 (List._∷_ 58 (List._∷_ 58 (List._∷_ 83 (List._∷_ 116 (List._∷_ 97 (List._∷_ 116 (List._∷_ 101 List.[])))))))))))))) (Syntax.tcons (Syntax.tyInt Syntax.w32) (Syntax.tcons (Syntax.tyInt Syntax.w32) (Syntax.tcons (Syntax.tyInt Syntax.w32) (Syntax.tcons (Syntax.tyInt Syntax.w32) (Syntax.tcons (Syntax.tyInt Syntax.w32) (Syntax.tcons (Syntax.tyArray (Syntax.tyInt Syntax.w32) 64) Syntax.tnil))))))) (Syntax.tcons (Syntax.tyInt Syntax.w64) (Syntax.tcons (Syntax.tyInt Syntax.w64) (Syntax.tcons (Syntax.tyInt Syntax.w64) (Syntax.tcons (Syntax.tyInt Syntax.w64) (Syntax.tcons (Syntax.tyInt Syntax.w64) (Syntax.tcons (Syntax.tyInt Syntax.w64) (Syntax.tcons Syntax.tyBool Syntax.tnil)))))))))
 
   abbrev s17 : Typed.Mo T19 → Typed.Mo T20
-  s17 = Scalar.n-room T19 1 (Syntax.tyStruct (List._∷_ 122 (List._∷_ 111 (List._∷_ 110 (List._∷_ 101 (List._∷_ 115 (List._∷_ 58 (List._∷_ 58 (List._∷_ 104 (List._∷_ 101 (List._∷_ 108 (List._∷_ 100 (List._∷_ 58 (List._∷_ 58 (List._∷_ 72 (List._∷_ 101 (List._∷_ 108 (List._∷_ 100 List.[]))))))))))))))))) (Syntax.tcons (Syntax.tyStruct (List._∷_ 112 (List._∷_ 121 (List._∷_ 114 (List._∷_ 97 (List._∷_ 109 (List._∷_ 105 (List._∷_ 100 (List._∷_ 58 (List._∷_ 58 (List._∷_ 83 (List._∷_ 116 (List._∷_ 97 (List._∷_ 116 (List._∷_ 101 List.[])))))))))))))) (Syntax.tcons (Syntax.tyInt Syntax.w32) (Syntax.tcons (Syntax.tyInt Syntax.w32) (Syntax.tcons (Syntax.tyInt Syntax.w32) (Syntax.tcons (Syntax.tyArray (Syntax.tyInt Syntax.w32) 64) Syntax.tnil))))) (Syntax.tcons (Syntax.tyInt Syntax.w64) (Syntax.tcons (Syntax.tyInt Syntax.w64) (Syntax.tcons (Syntax.tyInt Syntax.w64) (Syntax.tcons (Syntax.tyInt Syntax.w64) (Syntax.tcons (Syntax.tyInt Syntax.w64) (Syntax.tcons (Syntax.tyInt Syntax.w64) (Syntax.tcons Syntax.tyBool Syntax.tnil)))))))))
+  s17 = Scalar.n-room T19 1 (Syntax.tyStruct (List._∷_ 122 (List._∷_ 111 (List._∷_ 110 (List._∷_ 101 (List._∷_ 115 (List._∷_ 58 (List._∷_ 58 (List._∷_ 104 (List._∷_ 101 (List._∷_ 108 (List._∷_ 100 (List._∷_ 58 (List._∷_ 58 (List._∷_ 72 (List._∷_ 101 (List._∷_ 108 (List._∷_ 100 List.[]))))))))))))))))) (Syntax.tcons (Syntax.tyStruct (List._∷_ 112 (List._∷_ 121 (List._∷_ 114 (List._∷_ 97 (List._∷_ 109 (List._∷_ 105 (List._∷_ 100 (List._∷_ 58 (List._∷_ 58 (List._∷_ 83 (List._∷_ 116 (List._∷_ 97 (List._∷_ 116 (List._∷_ 101 List.[])))))))))))))) (Syntax.tcons (Syntax.tyInt Syntax.w32) (Syntax.tcons (Syntax.tyInt Syntax.w32) (Syntax.tcons (Syntax.tyInt Syntax.w32) (Syntax.tcons (Syntax.tyInt Syntax.w32) (Syntax.tcons (Syntax.tyInt Syntax.w32) (Syntax.tcons (Syntax.tyArray (Syntax.tyInt Syntax.w32) 64) Syntax.tnil))))))) (Syntax.tcons (Syntax.tyInt Syntax.w64) (Syntax.tcons (Syntax.tyInt Syntax.w64) (Syntax.tcons (Syntax.tyInt Syntax.w64) (Syntax.tcons (Syntax.tyInt Syntax.w64) (Syntax.tcons (Syntax.tyInt Syntax.w64) (Syntax.tcons (Syntax.tyInt Syntax.w64) (Syntax.tcons Syntax.tyBool Syntax.tnil)))))))))
 
   abbrev s18 : Typed.Mo T20 → Typed.Mo T21
   s18 = Scalar.n-room T20 2 (Syntax.tyStruct (List._∷_ 122 (List._∷_ 111 (List._∷_ 110 (List._∷_ 101 (List._∷_ 115 (List._∷_ 58 (List._∷_ 58 (List._∷_ 115 (List._∷_ 99 (List._∷_ 97 (List._∷_ 110 (List._∷_ 58 (List._∷_ 58 (List._∷_ 76 (List._∷_ 105 (List._∷_ 110 (List._∷_ 101 List.[]))))))))))))))))) (Syntax.tcons (Syntax.tyInt Syntax.w32) (Syntax.tcons (Syntax.tyInt Syntax.w64) (Syntax.tcons (Syntax.tyInt Syntax.w64) (Syntax.tcons (Syntax.tyInt Syntax.w64) (Syntax.tcons (Syntax.tyInt Syntax.w64) Syntax.tnil))))))
@@ -786,7 +786,7 @@ module _ (claims· : Claims) where
   s38 = Know'.k-struct-known Line.the-type Laws'.the-laws T5 2 λ x. x
 
   abbrev s39 : Typed.Asks T41 T42
-  s39 = Scalar.k-op2 T41 Syntax.eq (Scalar.oFld 2 (List._∷_ (Syntax.field 0) List.[]) (Syntax.tyInt Syntax.w32) 0 (Reads.fieldV Line.the-type Laws'.the-laws 0)) (Scalar.oInt Syntax.w32 24) 15 (Rows.sc-here Row.sBool) (Row.sBool .of)
+  s39 = Scalar.k-op2 T41 Syntax.eq (Scalar.oFld 2 (List._∷_ (Syntax.field 0) List.[]) (Syntax.tyInt Syntax.w32) 0 (Reads.fieldV Line.the-type Laws'.the-laws 0)) (Scalar.oInt Syntax.w32 25) 15 (Rows.sc-here Row.sBool) (Row.sBool .of)
 
   abbrev s40 : Typed.Mo T42 → Typed.Mo T44
   s40 = Scalar.n-room T42 15 Syntax.tyBool
@@ -807,10 +807,10 @@ module _ (claims· : Claims) where
   s47 = WayLend.k-way-back (Frozen.fz-open Syntax.erased 8 List.[] Row.off (AsSlice.fz-lent-sl Cell.R 65540 16)) T49 23 11 (Rows.mref (Array.Array Cell.R 65540) (Syntax.tyRef (Syntax.named 8) Syntax.mut (Syntax.tyArray Cell.behind 65540)) 8) (Syntax.tyRef Syntax.erased Syntax.mut Cell.behind) List.[] (λ x. x) (λ x. x) λ x. x
 
   abbrev s49 : Typed.Both T51 T53
-  s49 = Call.callB ps·2 r·2 (claims· .4) (claims· .5) T51 (record { pos = 1; st = List.[]; d = 0; at = λ x. x }, (Bool.bAt 13 λ x. x, tt)) 0 List.[] (Syntax.tyStruct (List._∷_ 122 (List._∷_ 111 (List._∷_ 110 (List._∷_ 101 (List._∷_ 115 (List._∷_ 58 (List._∷_ 58 (List._∷_ 104 (List._∷_ 101 (List._∷_ 108 (List._∷_ 100 (List._∷_ 58 (List._∷_ 58 (List._∷_ 72 (List._∷_ 101 (List._∷_ 108 (List._∷_ 100 List.[]))))))))))))))))) (Syntax.tcons (Syntax.tyStruct (List._∷_ 112 (List._∷_ 121 (List._∷_ 114 (List._∷_ 97 (List._∷_ 109 (List._∷_ 105 (List._∷_ 100 (List._∷_ 58 (List._∷_ 58 (List._∷_ 83 (List._∷_ 116 (List._∷_ 97 (List._∷_ 116 (List._∷_ 101 List.[])))))))))))))) (Syntax.tcons (Syntax.tyInt Syntax.w32) (Syntax.tcons (Syntax.tyInt Syntax.w32) (Syntax.tcons (Syntax.tyInt Syntax.w32) (Syntax.tcons (Syntax.tyArray (Syntax.tyInt Syntax.w32) 64) Syntax.tnil))))) (Syntax.tcons (Syntax.tyInt Syntax.w64) (Syntax.tcons (Syntax.tyInt Syntax.w64) (Syntax.tcons (Syntax.tyInt Syntax.w64) (Syntax.tcons (Syntax.tyInt Syntax.w64) (Syntax.tcons (Syntax.tyInt Syntax.w64) (Syntax.tcons (Syntax.tyInt Syntax.w64) (Syntax.tcons Syntax.tyBool Syntax.tnil)))))))))
+  s49 = Call.callB ps·2 r·2 (claims· .4) (claims· .5) T51 (record { pos = 1; st = List.[]; d = 0; at = λ x. x }, (Bool.bAt 13 λ x. x, tt)) 0 List.[] (Syntax.tyStruct (List._∷_ 122 (List._∷_ 111 (List._∷_ 110 (List._∷_ 101 (List._∷_ 115 (List._∷_ 58 (List._∷_ 58 (List._∷_ 104 (List._∷_ 101 (List._∷_ 108 (List._∷_ 100 (List._∷_ 58 (List._∷_ 58 (List._∷_ 72 (List._∷_ 101 (List._∷_ 108 (List._∷_ 100 List.[]))))))))))))))))) (Syntax.tcons (Syntax.tyStruct (List._∷_ 112 (List._∷_ 121 (List._∷_ 114 (List._∷_ 97 (List._∷_ 109 (List._∷_ 105 (List._∷_ 100 (List._∷_ 58 (List._∷_ 58 (List._∷_ 83 (List._∷_ 116 (List._∷_ 97 (List._∷_ 116 (List._∷_ 101 List.[])))))))))))))) (Syntax.tcons (Syntax.tyInt Syntax.w32) (Syntax.tcons (Syntax.tyInt Syntax.w32) (Syntax.tcons (Syntax.tyInt Syntax.w32) (Syntax.tcons (Syntax.tyInt Syntax.w32) (Syntax.tcons (Syntax.tyInt Syntax.w32) (Syntax.tcons (Syntax.tyArray (Syntax.tyInt Syntax.w32) 64) Syntax.tnil))))))) (Syntax.tcons (Syntax.tyInt Syntax.w64) (Syntax.tcons (Syntax.tyInt Syntax.w64) (Syntax.tcons (Syntax.tyInt Syntax.w64) (Syntax.tcons (Syntax.tyInt Syntax.w64) (Syntax.tcons (Syntax.tyInt Syntax.w64) (Syntax.tcons (Syntax.tyInt Syntax.w64) (Syntax.tcons Syntax.tyBool Syntax.tnil)))))))))
 
   abbrev s50 : Typed.Mo T53 → Typed.Mo T54
-  s50 = Scalar.n-room T53 1 (Syntax.tyStruct (List._∷_ 122 (List._∷_ 111 (List._∷_ 110 (List._∷_ 101 (List._∷_ 115 (List._∷_ 58 (List._∷_ 58 (List._∷_ 104 (List._∷_ 101 (List._∷_ 108 (List._∷_ 100 (List._∷_ 58 (List._∷_ 58 (List._∷_ 72 (List._∷_ 101 (List._∷_ 108 (List._∷_ 100 List.[]))))))))))))))))) (Syntax.tcons (Syntax.tyStruct (List._∷_ 112 (List._∷_ 121 (List._∷_ 114 (List._∷_ 97 (List._∷_ 109 (List._∷_ 105 (List._∷_ 100 (List._∷_ 58 (List._∷_ 58 (List._∷_ 83 (List._∷_ 116 (List._∷_ 97 (List._∷_ 116 (List._∷_ 101 List.[])))))))))))))) (Syntax.tcons (Syntax.tyInt Syntax.w32) (Syntax.tcons (Syntax.tyInt Syntax.w32) (Syntax.tcons (Syntax.tyInt Syntax.w32) (Syntax.tcons (Syntax.tyArray (Syntax.tyInt Syntax.w32) 64) Syntax.tnil))))) (Syntax.tcons (Syntax.tyInt Syntax.w64) (Syntax.tcons (Syntax.tyInt Syntax.w64) (Syntax.tcons (Syntax.tyInt Syntax.w64) (Syntax.tcons (Syntax.tyInt Syntax.w64) (Syntax.tcons (Syntax.tyInt Syntax.w64) (Syntax.tcons (Syntax.tyInt Syntax.w64) (Syntax.tcons Syntax.tyBool Syntax.tnil)))))))))
+  s50 = Scalar.n-room T53 1 (Syntax.tyStruct (List._∷_ 122 (List._∷_ 111 (List._∷_ 110 (List._∷_ 101 (List._∷_ 115 (List._∷_ 58 (List._∷_ 58 (List._∷_ 104 (List._∷_ 101 (List._∷_ 108 (List._∷_ 100 (List._∷_ 58 (List._∷_ 58 (List._∷_ 72 (List._∷_ 101 (List._∷_ 108 (List._∷_ 100 List.[]))))))))))))))))) (Syntax.tcons (Syntax.tyStruct (List._∷_ 112 (List._∷_ 121 (List._∷_ 114 (List._∷_ 97 (List._∷_ 109 (List._∷_ 105 (List._∷_ 100 (List._∷_ 58 (List._∷_ 58 (List._∷_ 83 (List._∷_ 116 (List._∷_ 97 (List._∷_ 116 (List._∷_ 101 List.[])))))))))))))) (Syntax.tcons (Syntax.tyInt Syntax.w32) (Syntax.tcons (Syntax.tyInt Syntax.w32) (Syntax.tcons (Syntax.tyInt Syntax.w32) (Syntax.tcons (Syntax.tyInt Syntax.w32) (Syntax.tcons (Syntax.tyInt Syntax.w32) (Syntax.tcons (Syntax.tyArray (Syntax.tyInt Syntax.w32) 64) Syntax.tnil))))))) (Syntax.tcons (Syntax.tyInt Syntax.w64) (Syntax.tcons (Syntax.tyInt Syntax.w64) (Syntax.tcons (Syntax.tyInt Syntax.w64) (Syntax.tcons (Syntax.tyInt Syntax.w64) (Syntax.tcons (Syntax.tyInt Syntax.w64) (Syntax.tcons (Syntax.tyInt Syntax.w64) (Syntax.tcons Syntax.tyBool Syntax.tnil)))))))))
 
   abbrev s51 : Typed.Mo T54 → Typed.Mo T55
   s51 = Scalar.n-room T54 13 Syntax.tyBool
@@ -822,7 +822,7 @@ module _ (claims· : Claims) where
   s53 = Know'.k-struct-known Line.the-type Laws'.the-laws T43 2 λ x. x
 
   abbrev s54 : Typed.Asks T57 T58
-  s54 = Scalar.k-op2 T57 Syntax.eq (Scalar.oFld 2 (List._∷_ (Syntax.field 0) List.[]) (Syntax.tyInt Syntax.w32) 0 (Reads.fieldV Line.the-type Laws'.the-laws 0)) (Scalar.oInt Syntax.w32 25) 15 (Rows.sc-here Row.sBool) (Row.sBool .of)
+  s54 = Scalar.k-op2 T57 Syntax.eq (Scalar.oFld 2 (List._∷_ (Syntax.field 0) List.[]) (Syntax.tyInt Syntax.w32) 0 (Reads.fieldV Line.the-type Laws'.the-laws 0)) (Scalar.oInt Syntax.w32 26) 15 (Rows.sc-here Row.sBool) (Row.sBool .of)
 
   abbrev s55 : Typed.Mo T58 → Typed.Mo T60
   s55 = Scalar.n-room T58 15 Syntax.tyBool
@@ -843,10 +843,10 @@ module _ (claims· : Claims) where
   s62 = WayLend.k-way-back (Frozen.fz-open Syntax.erased 9 List.[] Row.off (AsSlice.fz-lent-sl Cell.R 32772 17)) T65 25 12 (Rows.mref (Array.Array Cell.R 32772) (Syntax.tyRef (Syntax.named 9) Syntax.mut (Syntax.tyArray Cell.behind 32772)) 9) (Syntax.tyRef Syntax.erased Syntax.mut Cell.behind) List.[] (λ x. x) (λ x. x) λ x. x
 
   abbrev s64 : Typed.Both T67 T69
-  s64 = Call.callB ps·2 r·2 (claims· .4) (claims· .5) T67 (record { pos = 1; st = List.[]; d = 0; at = λ x. x }, (Bool.bAt 14 λ x. x, tt)) 0 List.[] (Syntax.tyStruct (List._∷_ 122 (List._∷_ 111 (List._∷_ 110 (List._∷_ 101 (List._∷_ 115 (List._∷_ 58 (List._∷_ 58 (List._∷_ 104 (List._∷_ 101 (List._∷_ 108 (List._∷_ 100 (List._∷_ 58 (List._∷_ 58 (List._∷_ 72 (List._∷_ 101 (List._∷_ 108 (List._∷_ 100 List.[]))))))))))))))))) (Syntax.tcons (Syntax.tyStruct (List._∷_ 112 (List._∷_ 121 (List._∷_ 114 (List._∷_ 97 (List._∷_ 109 (List._∷_ 105 (List._∷_ 100 (List._∷_ 58 (List._∷_ 58 (List._∷_ 83 (List._∷_ 116 (List._∷_ 97 (List._∷_ 116 (List._∷_ 101 List.[])))))))))))))) (Syntax.tcons (Syntax.tyInt Syntax.w32) (Syntax.tcons (Syntax.tyInt Syntax.w32) (Syntax.tcons (Syntax.tyInt Syntax.w32) (Syntax.tcons (Syntax.tyArray (Syntax.tyInt Syntax.w32) 64) Syntax.tnil))))) (Syntax.tcons (Syntax.tyInt Syntax.w64) (Syntax.tcons (Syntax.tyInt Syntax.w64) (Syntax.tcons (Syntax.tyInt Syntax.w64) (Syntax.tcons (Syntax.tyInt Syntax.w64) (Syntax.tcons (Syntax.tyInt Syntax.w64) (Syntax.tcons (Syntax.tyInt Syntax.w64) (Syntax.tcons Syntax.tyBool Syntax.tnil)))))))))
+  s64 = Call.callB ps·2 r·2 (claims· .4) (claims· .5) T67 (record { pos = 1; st = List.[]; d = 0; at = λ x. x }, (Bool.bAt 14 λ x. x, tt)) 0 List.[] (Syntax.tyStruct (List._∷_ 122 (List._∷_ 111 (List._∷_ 110 (List._∷_ 101 (List._∷_ 115 (List._∷_ 58 (List._∷_ 58 (List._∷_ 104 (List._∷_ 101 (List._∷_ 108 (List._∷_ 100 (List._∷_ 58 (List._∷_ 58 (List._∷_ 72 (List._∷_ 101 (List._∷_ 108 (List._∷_ 100 List.[]))))))))))))))))) (Syntax.tcons (Syntax.tyStruct (List._∷_ 112 (List._∷_ 121 (List._∷_ 114 (List._∷_ 97 (List._∷_ 109 (List._∷_ 105 (List._∷_ 100 (List._∷_ 58 (List._∷_ 58 (List._∷_ 83 (List._∷_ 116 (List._∷_ 97 (List._∷_ 116 (List._∷_ 101 List.[])))))))))))))) (Syntax.tcons (Syntax.tyInt Syntax.w32) (Syntax.tcons (Syntax.tyInt Syntax.w32) (Syntax.tcons (Syntax.tyInt Syntax.w32) (Syntax.tcons (Syntax.tyInt Syntax.w32) (Syntax.tcons (Syntax.tyInt Syntax.w32) (Syntax.tcons (Syntax.tyArray (Syntax.tyInt Syntax.w32) 64) Syntax.tnil))))))) (Syntax.tcons (Syntax.tyInt Syntax.w64) (Syntax.tcons (Syntax.tyInt Syntax.w64) (Syntax.tcons (Syntax.tyInt Syntax.w64) (Syntax.tcons (Syntax.tyInt Syntax.w64) (Syntax.tcons (Syntax.tyInt Syntax.w64) (Syntax.tcons (Syntax.tyInt Syntax.w64) (Syntax.tcons Syntax.tyBool Syntax.tnil)))))))))
 
   abbrev s65 : Typed.Mo T69 → Typed.Mo T70
-  s65 = Scalar.n-room T69 1 (Syntax.tyStruct (List._∷_ 122 (List._∷_ 111 (List._∷_ 110 (List._∷_ 101 (List._∷_ 115 (List._∷_ 58 (List._∷_ 58 (List._∷_ 104 (List._∷_ 101 (List._∷_ 108 (List._∷_ 100 (List._∷_ 58 (List._∷_ 58 (List._∷_ 72 (List._∷_ 101 (List._∷_ 108 (List._∷_ 100 List.[]))))))))))))))))) (Syntax.tcons (Syntax.tyStruct (List._∷_ 112 (List._∷_ 121 (List._∷_ 114 (List._∷_ 97 (List._∷_ 109 (List._∷_ 105 (List._∷_ 100 (List._∷_ 58 (List._∷_ 58 (List._∷_ 83 (List._∷_ 116 (List._∷_ 97 (List._∷_ 116 (List._∷_ 101 List.[])))))))))))))) (Syntax.tcons (Syntax.tyInt Syntax.w32) (Syntax.tcons (Syntax.tyInt Syntax.w32) (Syntax.tcons (Syntax.tyInt Syntax.w32) (Syntax.tcons (Syntax.tyArray (Syntax.tyInt Syntax.w32) 64) Syntax.tnil))))) (Syntax.tcons (Syntax.tyInt Syntax.w64) (Syntax.tcons (Syntax.tyInt Syntax.w64) (Syntax.tcons (Syntax.tyInt Syntax.w64) (Syntax.tcons (Syntax.tyInt Syntax.w64) (Syntax.tcons (Syntax.tyInt Syntax.w64) (Syntax.tcons (Syntax.tyInt Syntax.w64) (Syntax.tcons Syntax.tyBool Syntax.tnil)))))))))
+  s65 = Scalar.n-room T69 1 (Syntax.tyStruct (List._∷_ 122 (List._∷_ 111 (List._∷_ 110 (List._∷_ 101 (List._∷_ 115 (List._∷_ 58 (List._∷_ 58 (List._∷_ 104 (List._∷_ 101 (List._∷_ 108 (List._∷_ 100 (List._∷_ 58 (List._∷_ 58 (List._∷_ 72 (List._∷_ 101 (List._∷_ 108 (List._∷_ 100 List.[]))))))))))))))))) (Syntax.tcons (Syntax.tyStruct (List._∷_ 112 (List._∷_ 121 (List._∷_ 114 (List._∷_ 97 (List._∷_ 109 (List._∷_ 105 (List._∷_ 100 (List._∷_ 58 (List._∷_ 58 (List._∷_ 83 (List._∷_ 116 (List._∷_ 97 (List._∷_ 116 (List._∷_ 101 List.[])))))))))))))) (Syntax.tcons (Syntax.tyInt Syntax.w32) (Syntax.tcons (Syntax.tyInt Syntax.w32) (Syntax.tcons (Syntax.tyInt Syntax.w32) (Syntax.tcons (Syntax.tyInt Syntax.w32) (Syntax.tcons (Syntax.tyInt Syntax.w32) (Syntax.tcons (Syntax.tyArray (Syntax.tyInt Syntax.w32) 64) Syntax.tnil))))))) (Syntax.tcons (Syntax.tyInt Syntax.w64) (Syntax.tcons (Syntax.tyInt Syntax.w64) (Syntax.tcons (Syntax.tyInt Syntax.w64) (Syntax.tcons (Syntax.tyInt Syntax.w64) (Syntax.tcons (Syntax.tyInt Syntax.w64) (Syntax.tcons (Syntax.tyInt Syntax.w64) (Syntax.tcons Syntax.tyBool Syntax.tnil)))))))))
 
   abbrev s66 : Typed.Mo T70 → Typed.Mo T71
   s66 = Scalar.n-room T70 14 Syntax.tyBool
@@ -873,13 +873,13 @@ module _ (claims· : Claims) where
   s79 = Reborrow.k-mref-relend T82 12 31 9 23 (Array.Array Cell.R 32772) (Syntax.tyRef (Syntax.named 9) Syntax.mut (Syntax.tyArray Cell.behind 32772)) (Syntax.tyRef Syntax.erased Syntax.mut (Syntax.tyArray Cell.behind 32772)) Row.off List.[] λ x. x
 
   abbrev s80 : Typed.Both T84 T85
-  s80 = Call.callB ps·3 r·3 (claims· .6) (claims· .7) T84 (record { pos = 1; st = List.[]; d = 0; at = λ x. x }, (record { pos = 2; st = List.[]; d = 0; at = λ x. x }, (record { pos = 4; ty = Syntax.tyRef (Syntax.named 1) Syntax.imm (Syntax.tyArray (Syntax.tyInt Syntax.w32) 32772); ref = λ x. x }, (record { pos = 26; ty = Syntax.tyRef Syntax.erased Syntax.mut (Syntax.tyArray (Syntax.tyInt Syntax.w32) 65540); ref = λ x. x }, (record { pos = 27; ty = Syntax.tyRef Syntax.erased Syntax.mut (Syntax.tyArray (Syntax.tyInt Syntax.w32) 32772); ref = λ x. x }, (record { pos = 28; ty = Syntax.tyRef Syntax.erased Syntax.mut (Syntax.tyArray (Syntax.tyInt Syntax.w32) 262160); ref = λ x. x }, (record { pos = 29; ty = Syntax.tyRef Syntax.erased Syntax.imm (Syntax.tyArray (Syntax.tyInt Syntax.w8) 600000); ref = λ x. x }, (record { pos = 30; ty = Syntax.tyRef Syntax.erased Syntax.mut (Syntax.tyArray Cell.behind 65540); ref = λ x. x }, (record { pos = 31; ty = Syntax.tyRef Syntax.erased Syntax.mut (Syntax.tyArray Cell.behind 32772); ref = λ x. x }, tt))))))))) 0 (List._∷_ 1 (List._∷_ 18 (List._∷_ 19 (List._∷_ 20 (List._∷_ 21 (List._∷_ 22 (List._∷_ 23 List.[]))))))) (Syntax.tyStruct (List._∷_ 122 (List._∷_ 111 (List._∷_ 110 (List._∷_ 101 (List._∷_ 115 (List._∷_ 58 (List._∷_ 58 (List._∷_ 104 (List._∷_ 101 (List._∷_ 108 (List._∷_ 100 (List._∷_ 58 (List._∷_ 58 (List._∷_ 72 (List._∷_ 101 (List._∷_ 108 (List._∷_ 100 List.[]))))))))))))))))) (Syntax.tcons (Syntax.tyStruct (List._∷_ 112 (List._∷_ 121 (List._∷_ 114 (List._∷_ 97 (List._∷_ 109 (List._∷_ 105 (List._∷_ 100 (List._∷_ 58 (List._∷_ 58 (List._∷_ 83 (List._∷_ 116 (List._∷_ 97 (List._∷_ 116 (List._∷_ 101 List.[])))))))))))))) (Syntax.tcons (Syntax.tyInt Syntax.w32) (Syntax.tcons (Syntax.tyInt Syntax.w32) (Syntax.tcons (Syntax.tyInt Syntax.w32) (Syntax.tcons (Syntax.tyArray (Syntax.tyInt Syntax.w32) 64) Syntax.tnil))))) (Syntax.tcons (Syntax.tyInt Syntax.w64) (Syntax.tcons (Syntax.tyInt Syntax.w64) (Syntax.tcons (Syntax.tyInt Syntax.w64) (Syntax.tcons (Syntax.tyInt Syntax.w64) (Syntax.tcons (Syntax.tyInt Syntax.w64) (Syntax.tcons (Syntax.tyInt Syntax.w64) (Syntax.tcons Syntax.tyBool Syntax.tnil)))))))))
+  s80 = Call.callB ps·3 r·3 (claims· .6) (claims· .7) T84 (record { pos = 1; st = List.[]; d = 0; at = λ x. x }, (record { pos = 2; st = List.[]; d = 0; at = λ x. x }, (record { pos = 4; ty = Syntax.tyRef (Syntax.named 1) Syntax.imm (Syntax.tyArray (Syntax.tyInt Syntax.w32) 32772); ref = λ x. x }, (record { pos = 26; ty = Syntax.tyRef Syntax.erased Syntax.mut (Syntax.tyArray (Syntax.tyInt Syntax.w32) 65540); ref = λ x. x }, (record { pos = 27; ty = Syntax.tyRef Syntax.erased Syntax.mut (Syntax.tyArray (Syntax.tyInt Syntax.w32) 32772); ref = λ x. x }, (record { pos = 28; ty = Syntax.tyRef Syntax.erased Syntax.mut (Syntax.tyArray (Syntax.tyInt Syntax.w32) 262160); ref = λ x. x }, (record { pos = 29; ty = Syntax.tyRef Syntax.erased Syntax.imm (Syntax.tyArray (Syntax.tyInt Syntax.w8) 600000); ref = λ x. x }, (record { pos = 30; ty = Syntax.tyRef Syntax.erased Syntax.mut (Syntax.tyArray Cell.behind 65540); ref = λ x. x }, (record { pos = 31; ty = Syntax.tyRef Syntax.erased Syntax.mut (Syntax.tyArray Cell.behind 32772); ref = λ x. x }, tt))))))))) 0 (List._∷_ 1 (List._∷_ 18 (List._∷_ 19 (List._∷_ 20 (List._∷_ 21 (List._∷_ 22 (List._∷_ 23 List.[]))))))) (Syntax.tyStruct (List._∷_ 122 (List._∷_ 111 (List._∷_ 110 (List._∷_ 101 (List._∷_ 115 (List._∷_ 58 (List._∷_ 58 (List._∷_ 104 (List._∷_ 101 (List._∷_ 108 (List._∷_ 100 (List._∷_ 58 (List._∷_ 58 (List._∷_ 72 (List._∷_ 101 (List._∷_ 108 (List._∷_ 100 List.[]))))))))))))))))) (Syntax.tcons (Syntax.tyStruct (List._∷_ 112 (List._∷_ 121 (List._∷_ 114 (List._∷_ 97 (List._∷_ 109 (List._∷_ 105 (List._∷_ 100 (List._∷_ 58 (List._∷_ 58 (List._∷_ 83 (List._∷_ 116 (List._∷_ 97 (List._∷_ 116 (List._∷_ 101 List.[])))))))))))))) (Syntax.tcons (Syntax.tyInt Syntax.w32) (Syntax.tcons (Syntax.tyInt Syntax.w32) (Syntax.tcons (Syntax.tyInt Syntax.w32) (Syntax.tcons (Syntax.tyInt Syntax.w32) (Syntax.tcons (Syntax.tyInt Syntax.w32) (Syntax.tcons (Syntax.tyArray (Syntax.tyInt Syntax.w32) 64) Syntax.tnil))))))) (Syntax.tcons (Syntax.tyInt Syntax.w64) (Syntax.tcons (Syntax.tyInt Syntax.w64) (Syntax.tcons (Syntax.tyInt Syntax.w64) (Syntax.tcons (Syntax.tyInt Syntax.w64) (Syntax.tcons (Syntax.tyInt Syntax.w64) (Syntax.tcons (Syntax.tyInt Syntax.w64) (Syntax.tcons Syntax.tyBool Syntax.tnil)))))))))
 
   abbrev s81 : Typed.Mo T85 → Typed.Mo T86
   s81 = Scalar.n-room T85 29 (Syntax.tyRef Syntax.erased Syntax.imm (Syntax.tyArray (Syntax.tyInt Syntax.w8) 600000))
 
   abbrev s82 : Typed.Mo T86 → Typed.Mo T87
-  s82 = Scalar.n-room T86 1 (Syntax.tyStruct (List._∷_ 122 (List._∷_ 111 (List._∷_ 110 (List._∷_ 101 (List._∷_ 115 (List._∷_ 58 (List._∷_ 58 (List._∷_ 104 (List._∷_ 101 (List._∷_ 108 (List._∷_ 100 (List._∷_ 58 (List._∷_ 58 (List._∷_ 72 (List._∷_ 101 (List._∷_ 108 (List._∷_ 100 List.[]))))))))))))))))) (Syntax.tcons (Syntax.tyStruct (List._∷_ 112 (List._∷_ 121 (List._∷_ 114 (List._∷_ 97 (List._∷_ 109 (List._∷_ 105 (List._∷_ 100 (List._∷_ 58 (List._∷_ 58 (List._∷_ 83 (List._∷_ 116 (List._∷_ 97 (List._∷_ 116 (List._∷_ 101 List.[])))))))))))))) (Syntax.tcons (Syntax.tyInt Syntax.w32) (Syntax.tcons (Syntax.tyInt Syntax.w32) (Syntax.tcons (Syntax.tyInt Syntax.w32) (Syntax.tcons (Syntax.tyArray (Syntax.tyInt Syntax.w32) 64) Syntax.tnil))))) (Syntax.tcons (Syntax.tyInt Syntax.w64) (Syntax.tcons (Syntax.tyInt Syntax.w64) (Syntax.tcons (Syntax.tyInt Syntax.w64) (Syntax.tcons (Syntax.tyInt Syntax.w64) (Syntax.tcons (Syntax.tyInt Syntax.w64) (Syntax.tcons (Syntax.tyInt Syntax.w64) (Syntax.tcons Syntax.tyBool Syntax.tnil)))))))))
+  s82 = Scalar.n-room T86 1 (Syntax.tyStruct (List._∷_ 122 (List._∷_ 111 (List._∷_ 110 (List._∷_ 101 (List._∷_ 115 (List._∷_ 58 (List._∷_ 58 (List._∷_ 104 (List._∷_ 101 (List._∷_ 108 (List._∷_ 100 (List._∷_ 58 (List._∷_ 58 (List._∷_ 72 (List._∷_ 101 (List._∷_ 108 (List._∷_ 100 List.[]))))))))))))))))) (Syntax.tcons (Syntax.tyStruct (List._∷_ 112 (List._∷_ 121 (List._∷_ 114 (List._∷_ 97 (List._∷_ 109 (List._∷_ 105 (List._∷_ 100 (List._∷_ 58 (List._∷_ 58 (List._∷_ 83 (List._∷_ 116 (List._∷_ 97 (List._∷_ 116 (List._∷_ 101 List.[])))))))))))))) (Syntax.tcons (Syntax.tyInt Syntax.w32) (Syntax.tcons (Syntax.tyInt Syntax.w32) (Syntax.tcons (Syntax.tyInt Syntax.w32) (Syntax.tcons (Syntax.tyInt Syntax.w32) (Syntax.tcons (Syntax.tyInt Syntax.w32) (Syntax.tcons (Syntax.tyArray (Syntax.tyInt Syntax.w32) 64) Syntax.tnil))))))) (Syntax.tcons (Syntax.tyInt Syntax.w64) (Syntax.tcons (Syntax.tyInt Syntax.w64) (Syntax.tcons (Syntax.tyInt Syntax.w64) (Syntax.tcons (Syntax.tyInt Syntax.w64) (Syntax.tcons (Syntax.tyInt Syntax.w64) (Syntax.tcons (Syntax.tyInt Syntax.w64) (Syntax.tcons Syntax.tyBool Syntax.tnil)))))))))
 
   abbrev s83 : Typed.Mo T87 → Typed.Mo T88
   s83 = Scalar.n-room T87 2 (Syntax.tyStruct (List._∷_ 122 (List._∷_ 111 (List._∷_ 110 (List._∷_ 101 (List._∷_ 115 (List._∷_ 58 (List._∷_ 58 (List._∷_ 115 (List._∷_ 99 (List._∷_ 97 (List._∷_ 110 (List._∷_ 58 (List._∷_ 58 (List._∷_ 76 (List._∷_ 105 (List._∷_ 110 (List._∷_ 101 List.[]))))))))))))))))) (Syntax.tcons (Syntax.tyInt Syntax.w32) (Syntax.tcons (Syntax.tyInt Syntax.w64) (Syntax.tcons (Syntax.tyInt Syntax.w64) (Syntax.tcons (Syntax.tyInt Syntax.w64) (Syntax.tcons (Syntax.tyInt Syntax.w64) Syntax.tnil))))))
@@ -1262,106 +1262,106 @@ module _ (claims· : Claims) where
 
       module _ (κs : Lifetimes.Lfts 10) (qs : Lifetimes.Shares 10) where
         abbrev g4 : List.List Row.Entry
-        g4 = List._∷_ (0, Rows.any-gone (Syntax.tyStruct (List._∷_ 122 (List._∷_ 111 (List._∷_ 110 (List._∷_ 101 (List._∷_ 115 (List._∷_ 58 (List._∷_ 58 (List._∷_ 104 (List._∷_ 101 (List._∷_ 108 (List._∷_ 100 (List._∷_ 58 (List._∷_ 58 (List._∷_ 72 (List._∷_ 101 (List._∷_ 108 (List._∷_ 100 List.[]))))))))))))))))) (Syntax.tcons (Syntax.tyStruct (List._∷_ 112 (List._∷_ 121 (List._∷_ 114 (List._∷_ 97 (List._∷_ 109 (List._∷_ 105 (List._∷_ 100 (List._∷_ 58 (List._∷_ 58 (List._∷_ 83 (List._∷_ 116 (List._∷_ 97 (List._∷_ 116 (List._∷_ 101 List.[])))))))))))))) (Syntax.tcons (Syntax.tyInt Syntax.w32) (Syntax.tcons (Syntax.tyInt Syntax.w32) (Syntax.tcons (Syntax.tyInt Syntax.w32) (Syntax.tcons (Syntax.tyArray (Syntax.tyInt Syntax.w32) 64) Syntax.tnil))))) (Syntax.tcons (Syntax.tyInt Syntax.w64) (Syntax.tcons (Syntax.tyInt Syntax.w64) (Syntax.tcons (Syntax.tyInt Syntax.w64) (Syntax.tcons (Syntax.tyInt Syntax.w64) (Syntax.tcons (Syntax.tyInt Syntax.w64) (Syntax.tcons (Syntax.tyInt Syntax.w64) (Syntax.tcons Syntax.tyBool Syntax.tnil)))))))))) (List._∷_ (1, Rows.whole (Declared.row Held.the-type)) (List._∷_ (2, Rows.whole (Declared.row Line.the-type)) (List._∷_ (3, Rows.sslice (Referent.rtF (Referent.fInt Syntax.w8)) (Syntax.tyRef (Syntax.named 0) Syntax.imm (Syntax.tyInt Syntax.w8)) 0) (List._∷_ (4, Rows.sref (Array.Array (Referent.rtF (Referent.fInt Syntax.w32)) 32772) (Syntax.tyRef (Syntax.named 1) Syntax.imm (Syntax.tyArray (Syntax.tyInt Syntax.w32) 32772)) 1) (List._∷_ (5, Rows.mref-owed (Array.Array (Referent.rtF (Referent.fInt Syntax.w8)) 16388) (Syntax.tyRef (Syntax.named 2) Syntax.mut (Syntax.tyArray (Syntax.tyInt Syntax.w8) 16388)) 2 10 (Row.lease (κs .1 .1 .0) (qs .1 .1 .0))) (List._∷_ (6, Rows.mref (Array.Array (Referent.rtF (Referent.fInt Syntax.w32)) 65540) (Syntax.tyRef (Syntax.named 3) Syntax.mut (Syntax.tyArray (Syntax.tyInt Syntax.w32) 65540)) 3) (List._∷_ (7, Rows.mref (Array.Array (Referent.rtF (Referent.fInt Syntax.w32)) 32772) (Syntax.tyRef (Syntax.named 4) Syntax.mut (Syntax.tyArray (Syntax.tyInt Syntax.w32) 32772)) 4) (List._∷_ (8, Rows.mref (Array.Array (Referent.rtF (Referent.fInt Syntax.w32)) 32772) (Syntax.tyRef (Syntax.named 5) Syntax.mut (Syntax.tyArray (Syntax.tyInt Syntax.w32) 32772)) 5) (List._∷_ (9, Rows.mref (Array.Array (Referent.rtF (Referent.fInt Syntax.w32)) 262160) (Syntax.tyRef (Syntax.named 6) Syntax.mut (Syntax.tyArray (Syntax.tyInt Syntax.w32) 262160)) 6) (List._∷_ (10, Rows.mref (Array.Array (Referent.rtF (Referent.fInt Syntax.w8)) 600000) (Syntax.tyRef (Syntax.named 7) Syntax.mut (Syntax.tyArray (Syntax.tyInt Syntax.w8) 600000)) 7) (List._∷_ (11, Rows.mref (Array.Array Cell.R 65540) (Syntax.tyRef (Syntax.named 8) Syntax.mut (Syntax.tyArray Cell.behind 65540)) 8) (List._∷_ (12, Rows.mref (Array.Array Cell.R 32772) (Syntax.tyRef (Syntax.named 9) Syntax.mut (Syntax.tyArray Cell.behind 32772)) 9) (List._∷_ (13, Rows.any-gone Syntax.tyBool) (List._∷_ (14, Rows.any-gone Syntax.tyBool) (List._∷_ (15, Rows.any-gone Syntax.tyBool) List.[])))))))))))))))
+        g4 = List._∷_ (0, Rows.any-gone (Syntax.tyStruct (List._∷_ 122 (List._∷_ 111 (List._∷_ 110 (List._∷_ 101 (List._∷_ 115 (List._∷_ 58 (List._∷_ 58 (List._∷_ 104 (List._∷_ 101 (List._∷_ 108 (List._∷_ 100 (List._∷_ 58 (List._∷_ 58 (List._∷_ 72 (List._∷_ 101 (List._∷_ 108 (List._∷_ 100 List.[]))))))))))))))))) (Syntax.tcons (Syntax.tyStruct (List._∷_ 112 (List._∷_ 121 (List._∷_ 114 (List._∷_ 97 (List._∷_ 109 (List._∷_ 105 (List._∷_ 100 (List._∷_ 58 (List._∷_ 58 (List._∷_ 83 (List._∷_ 116 (List._∷_ 97 (List._∷_ 116 (List._∷_ 101 List.[])))))))))))))) (Syntax.tcons (Syntax.tyInt Syntax.w32) (Syntax.tcons (Syntax.tyInt Syntax.w32) (Syntax.tcons (Syntax.tyInt Syntax.w32) (Syntax.tcons (Syntax.tyInt Syntax.w32) (Syntax.tcons (Syntax.tyInt Syntax.w32) (Syntax.tcons (Syntax.tyArray (Syntax.tyInt Syntax.w32) 64) Syntax.tnil))))))) (Syntax.tcons (Syntax.tyInt Syntax.w64) (Syntax.tcons (Syntax.tyInt Syntax.w64) (Syntax.tcons (Syntax.tyInt Syntax.w64) (Syntax.tcons (Syntax.tyInt Syntax.w64) (Syntax.tcons (Syntax.tyInt Syntax.w64) (Syntax.tcons (Syntax.tyInt Syntax.w64) (Syntax.tcons Syntax.tyBool Syntax.tnil)))))))))) (List._∷_ (1, Rows.whole (Declared.row Held.the-type)) (List._∷_ (2, Rows.whole (Declared.row Line.the-type)) (List._∷_ (3, Rows.sslice (Referent.rtF (Referent.fInt Syntax.w8)) (Syntax.tyRef (Syntax.named 0) Syntax.imm (Syntax.tyInt Syntax.w8)) 0) (List._∷_ (4, Rows.sref (Array.Array (Referent.rtF (Referent.fInt Syntax.w32)) 32772) (Syntax.tyRef (Syntax.named 1) Syntax.imm (Syntax.tyArray (Syntax.tyInt Syntax.w32) 32772)) 1) (List._∷_ (5, Rows.mref-owed (Array.Array (Referent.rtF (Referent.fInt Syntax.w8)) 16388) (Syntax.tyRef (Syntax.named 2) Syntax.mut (Syntax.tyArray (Syntax.tyInt Syntax.w8) 16388)) 2 10 (Row.lease (κs .1 .1 .0) (qs .1 .1 .0))) (List._∷_ (6, Rows.mref (Array.Array (Referent.rtF (Referent.fInt Syntax.w32)) 65540) (Syntax.tyRef (Syntax.named 3) Syntax.mut (Syntax.tyArray (Syntax.tyInt Syntax.w32) 65540)) 3) (List._∷_ (7, Rows.mref (Array.Array (Referent.rtF (Referent.fInt Syntax.w32)) 32772) (Syntax.tyRef (Syntax.named 4) Syntax.mut (Syntax.tyArray (Syntax.tyInt Syntax.w32) 32772)) 4) (List._∷_ (8, Rows.mref (Array.Array (Referent.rtF (Referent.fInt Syntax.w32)) 32772) (Syntax.tyRef (Syntax.named 5) Syntax.mut (Syntax.tyArray (Syntax.tyInt Syntax.w32) 32772)) 5) (List._∷_ (9, Rows.mref (Array.Array (Referent.rtF (Referent.fInt Syntax.w32)) 262160) (Syntax.tyRef (Syntax.named 6) Syntax.mut (Syntax.tyArray (Syntax.tyInt Syntax.w32) 262160)) 6) (List._∷_ (10, Rows.mref (Array.Array (Referent.rtF (Referent.fInt Syntax.w8)) 600000) (Syntax.tyRef (Syntax.named 7) Syntax.mut (Syntax.tyArray (Syntax.tyInt Syntax.w8) 600000)) 7) (List._∷_ (11, Rows.mref (Array.Array Cell.R 65540) (Syntax.tyRef (Syntax.named 8) Syntax.mut (Syntax.tyArray Cell.behind 65540)) 8) (List._∷_ (12, Rows.mref (Array.Array Cell.R 32772) (Syntax.tyRef (Syntax.named 9) Syntax.mut (Syntax.tyArray Cell.behind 32772)) 9) (List._∷_ (13, Rows.any-gone Syntax.tyBool) (List._∷_ (14, Rows.any-gone Syntax.tyBool) (List._∷_ (15, Rows.any-gone Syntax.tyBool) List.[])))))))))))))))
 
         abbrev g6 : List.List Row.Entry
-        g6 = List._∷_ (0, Rows.any-gone (Syntax.tyStruct (List._∷_ 122 (List._∷_ 111 (List._∷_ 110 (List._∷_ 101 (List._∷_ 115 (List._∷_ 58 (List._∷_ 58 (List._∷_ 104 (List._∷_ 101 (List._∷_ 108 (List._∷_ 100 (List._∷_ 58 (List._∷_ 58 (List._∷_ 72 (List._∷_ 101 (List._∷_ 108 (List._∷_ 100 List.[]))))))))))))))))) (Syntax.tcons (Syntax.tyStruct (List._∷_ 112 (List._∷_ 121 (List._∷_ 114 (List._∷_ 97 (List._∷_ 109 (List._∷_ 105 (List._∷_ 100 (List._∷_ 58 (List._∷_ 58 (List._∷_ 83 (List._∷_ 116 (List._∷_ 97 (List._∷_ 116 (List._∷_ 101 List.[])))))))))))))) (Syntax.tcons (Syntax.tyInt Syntax.w32) (Syntax.tcons (Syntax.tyInt Syntax.w32) (Syntax.tcons (Syntax.tyInt Syntax.w32) (Syntax.tcons (Syntax.tyArray (Syntax.tyInt Syntax.w32) 64) Syntax.tnil))))) (Syntax.tcons (Syntax.tyInt Syntax.w64) (Syntax.tcons (Syntax.tyInt Syntax.w64) (Syntax.tcons (Syntax.tyInt Syntax.w64) (Syntax.tcons (Syntax.tyInt Syntax.w64) (Syntax.tcons (Syntax.tyInt Syntax.w64) (Syntax.tcons (Syntax.tyInt Syntax.w64) (Syntax.tcons Syntax.tyBool Syntax.tnil)))))))))) (List._∷_ (1, Rows.whole (Declared.row Held.the-type)) (List._∷_ (2, Rows.whole (Declared.row Line.the-type)) (List._∷_ (3, Rows.sslice (Referent.rtF (Referent.fInt Syntax.w8)) (Syntax.tyRef (Syntax.named 0) Syntax.imm (Syntax.tyInt Syntax.w8)) 0) (List._∷_ (4, Rows.sref (Array.Array (Referent.rtF (Referent.fInt Syntax.w32)) 32772) (Syntax.tyRef (Syntax.named 1) Syntax.imm (Syntax.tyArray (Syntax.tyInt Syntax.w32) 32772)) 1) (List._∷_ (5, Rows.mref-owed (Array.Array (Referent.rtF (Referent.fInt Syntax.w8)) 16388) (Syntax.tyRef (Syntax.named 2) Syntax.mut (Syntax.tyArray (Syntax.tyInt Syntax.w8) 16388)) 2 10 (Row.lease (κs .1 .1 .0) (qs .1 .1 .0))) (List._∷_ (6, Rows.mref-owed (Array.Array (Referent.rtF (Referent.fInt Syntax.w32)) 65540) (Syntax.tyRef (Syntax.named 3) Syntax.mut (Syntax.tyArray (Syntax.tyInt Syntax.w32) 65540)) 3 11 (Row.lease (κs .1 .1 .1 .0) (qs .1 .1 .1 .0))) (List._∷_ (7, Rows.mref (Array.Array (Referent.rtF (Referent.fInt Syntax.w32)) 32772) (Syntax.tyRef (Syntax.named 4) Syntax.mut (Syntax.tyArray (Syntax.tyInt Syntax.w32) 32772)) 4) (List._∷_ (8, Rows.mref (Array.Array (Referent.rtF (Referent.fInt Syntax.w32)) 32772) (Syntax.tyRef (Syntax.named 5) Syntax.mut (Syntax.tyArray (Syntax.tyInt Syntax.w32) 32772)) 5) (List._∷_ (9, Rows.mref (Array.Array (Referent.rtF (Referent.fInt Syntax.w32)) 262160) (Syntax.tyRef (Syntax.named 6) Syntax.mut (Syntax.tyArray (Syntax.tyInt Syntax.w32) 262160)) 6) (List._∷_ (10, Rows.mref (Array.Array (Referent.rtF (Referent.fInt Syntax.w8)) 600000) (Syntax.tyRef (Syntax.named 7) Syntax.mut (Syntax.tyArray (Syntax.tyInt Syntax.w8) 600000)) 7) (List._∷_ (11, Rows.mref (Array.Array Cell.R 65540) (Syntax.tyRef (Syntax.named 8) Syntax.mut (Syntax.tyArray Cell.behind 65540)) 8) (List._∷_ (12, Rows.mref (Array.Array Cell.R 32772) (Syntax.tyRef (Syntax.named 9) Syntax.mut (Syntax.tyArray Cell.behind 32772)) 9) (List._∷_ (13, Rows.any-gone Syntax.tyBool) (List._∷_ (14, Rows.any-gone Syntax.tyBool) (List._∷_ (15, Rows.any-gone Syntax.tyBool) List.[])))))))))))))))
+        g6 = List._∷_ (0, Rows.any-gone (Syntax.tyStruct (List._∷_ 122 (List._∷_ 111 (List._∷_ 110 (List._∷_ 101 (List._∷_ 115 (List._∷_ 58 (List._∷_ 58 (List._∷_ 104 (List._∷_ 101 (List._∷_ 108 (List._∷_ 100 (List._∷_ 58 (List._∷_ 58 (List._∷_ 72 (List._∷_ 101 (List._∷_ 108 (List._∷_ 100 List.[]))))))))))))))))) (Syntax.tcons (Syntax.tyStruct (List._∷_ 112 (List._∷_ 121 (List._∷_ 114 (List._∷_ 97 (List._∷_ 109 (List._∷_ 105 (List._∷_ 100 (List._∷_ 58 (List._∷_ 58 (List._∷_ 83 (List._∷_ 116 (List._∷_ 97 (List._∷_ 116 (List._∷_ 101 List.[])))))))))))))) (Syntax.tcons (Syntax.tyInt Syntax.w32) (Syntax.tcons (Syntax.tyInt Syntax.w32) (Syntax.tcons (Syntax.tyInt Syntax.w32) (Syntax.tcons (Syntax.tyInt Syntax.w32) (Syntax.tcons (Syntax.tyInt Syntax.w32) (Syntax.tcons (Syntax.tyArray (Syntax.tyInt Syntax.w32) 64) Syntax.tnil))))))) (Syntax.tcons (Syntax.tyInt Syntax.w64) (Syntax.tcons (Syntax.tyInt Syntax.w64) (Syntax.tcons (Syntax.tyInt Syntax.w64) (Syntax.tcons (Syntax.tyInt Syntax.w64) (Syntax.tcons (Syntax.tyInt Syntax.w64) (Syntax.tcons (Syntax.tyInt Syntax.w64) (Syntax.tcons Syntax.tyBool Syntax.tnil)))))))))) (List._∷_ (1, Rows.whole (Declared.row Held.the-type)) (List._∷_ (2, Rows.whole (Declared.row Line.the-type)) (List._∷_ (3, Rows.sslice (Referent.rtF (Referent.fInt Syntax.w8)) (Syntax.tyRef (Syntax.named 0) Syntax.imm (Syntax.tyInt Syntax.w8)) 0) (List._∷_ (4, Rows.sref (Array.Array (Referent.rtF (Referent.fInt Syntax.w32)) 32772) (Syntax.tyRef (Syntax.named 1) Syntax.imm (Syntax.tyArray (Syntax.tyInt Syntax.w32) 32772)) 1) (List._∷_ (5, Rows.mref-owed (Array.Array (Referent.rtF (Referent.fInt Syntax.w8)) 16388) (Syntax.tyRef (Syntax.named 2) Syntax.mut (Syntax.tyArray (Syntax.tyInt Syntax.w8) 16388)) 2 10 (Row.lease (κs .1 .1 .0) (qs .1 .1 .0))) (List._∷_ (6, Rows.mref-owed (Array.Array (Referent.rtF (Referent.fInt Syntax.w32)) 65540) (Syntax.tyRef (Syntax.named 3) Syntax.mut (Syntax.tyArray (Syntax.tyInt Syntax.w32) 65540)) 3 11 (Row.lease (κs .1 .1 .1 .0) (qs .1 .1 .1 .0))) (List._∷_ (7, Rows.mref (Array.Array (Referent.rtF (Referent.fInt Syntax.w32)) 32772) (Syntax.tyRef (Syntax.named 4) Syntax.mut (Syntax.tyArray (Syntax.tyInt Syntax.w32) 32772)) 4) (List._∷_ (8, Rows.mref (Array.Array (Referent.rtF (Referent.fInt Syntax.w32)) 32772) (Syntax.tyRef (Syntax.named 5) Syntax.mut (Syntax.tyArray (Syntax.tyInt Syntax.w32) 32772)) 5) (List._∷_ (9, Rows.mref (Array.Array (Referent.rtF (Referent.fInt Syntax.w32)) 262160) (Syntax.tyRef (Syntax.named 6) Syntax.mut (Syntax.tyArray (Syntax.tyInt Syntax.w32) 262160)) 6) (List._∷_ (10, Rows.mref (Array.Array (Referent.rtF (Referent.fInt Syntax.w8)) 600000) (Syntax.tyRef (Syntax.named 7) Syntax.mut (Syntax.tyArray (Syntax.tyInt Syntax.w8) 600000)) 7) (List._∷_ (11, Rows.mref (Array.Array Cell.R 65540) (Syntax.tyRef (Syntax.named 8) Syntax.mut (Syntax.tyArray Cell.behind 65540)) 8) (List._∷_ (12, Rows.mref (Array.Array Cell.R 32772) (Syntax.tyRef (Syntax.named 9) Syntax.mut (Syntax.tyArray Cell.behind 32772)) 9) (List._∷_ (13, Rows.any-gone Syntax.tyBool) (List._∷_ (14, Rows.any-gone Syntax.tyBool) (List._∷_ (15, Rows.any-gone Syntax.tyBool) List.[])))))))))))))))
 
         abbrev g8 : List.List Row.Entry
-        g8 = List._∷_ (0, Rows.any-gone (Syntax.tyStruct (List._∷_ 122 (List._∷_ 111 (List._∷_ 110 (List._∷_ 101 (List._∷_ 115 (List._∷_ 58 (List._∷_ 58 (List._∷_ 104 (List._∷_ 101 (List._∷_ 108 (List._∷_ 100 (List._∷_ 58 (List._∷_ 58 (List._∷_ 72 (List._∷_ 101 (List._∷_ 108 (List._∷_ 100 List.[]))))))))))))))))) (Syntax.tcons (Syntax.tyStruct (List._∷_ 112 (List._∷_ 121 (List._∷_ 114 (List._∷_ 97 (List._∷_ 109 (List._∷_ 105 (List._∷_ 100 (List._∷_ 58 (List._∷_ 58 (List._∷_ 83 (List._∷_ 116 (List._∷_ 97 (List._∷_ 116 (List._∷_ 101 List.[])))))))))))))) (Syntax.tcons (Syntax.tyInt Syntax.w32) (Syntax.tcons (Syntax.tyInt Syntax.w32) (Syntax.tcons (Syntax.tyInt Syntax.w32) (Syntax.tcons (Syntax.tyArray (Syntax.tyInt Syntax.w32) 64) Syntax.tnil))))) (Syntax.tcons (Syntax.tyInt Syntax.w64) (Syntax.tcons (Syntax.tyInt Syntax.w64) (Syntax.tcons (Syntax.tyInt Syntax.w64) (Syntax.tcons (Syntax.tyInt Syntax.w64) (Syntax.tcons (Syntax.tyInt Syntax.w64) (Syntax.tcons (Syntax.tyInt Syntax.w64) (Syntax.tcons Syntax.tyBool Syntax.tnil)))))))))) (List._∷_ (1, Rows.whole (Declared.row Held.the-type)) (List._∷_ (2, Rows.whole (Declared.row Line.the-type)) (List._∷_ (3, Rows.sslice (Referent.rtF (Referent.fInt Syntax.w8)) (Syntax.tyRef (Syntax.named 0) Syntax.imm (Syntax.tyInt Syntax.w8)) 0) (List._∷_ (4, Rows.sref (Array.Array (Referent.rtF (Referent.fInt Syntax.w32)) 32772) (Syntax.tyRef (Syntax.named 1) Syntax.imm (Syntax.tyArray (Syntax.tyInt Syntax.w32) 32772)) 1) (List._∷_ (5, Rows.mref-owed (Array.Array (Referent.rtF (Referent.fInt Syntax.w8)) 16388) (Syntax.tyRef (Syntax.named 2) Syntax.mut (Syntax.tyArray (Syntax.tyInt Syntax.w8) 16388)) 2 10 (Row.lease (κs .1 .1 .0) (qs .1 .1 .0))) (List._∷_ (6, Rows.mref-owed (Array.Array (Referent.rtF (Referent.fInt Syntax.w32)) 65540) (Syntax.tyRef (Syntax.named 3) Syntax.mut (Syntax.tyArray (Syntax.tyInt Syntax.w32) 65540)) 3 11 (Row.lease (κs .1 .1 .1 .0) (qs .1 .1 .1 .0))) (List._∷_ (7, Rows.mref-owed (Array.Array (Referent.rtF (Referent.fInt Syntax.w32)) 32772) (Syntax.tyRef (Syntax.named 4) Syntax.mut (Syntax.tyArray (Syntax.tyInt Syntax.w32) 32772)) 4 12 (Row.lease (κs .1 .1 .1 .1 .0) (qs .1 .1 .1 .1 .0))) (List._∷_ (8, Rows.mref (Array.Array (Referent.rtF (Referent.fInt Syntax.w32)) 32772) (Syntax.tyRef (Syntax.named 5) Syntax.mut (Syntax.tyArray (Syntax.tyInt Syntax.w32) 32772)) 5) (List._∷_ (9, Rows.mref (Array.Array (Referent.rtF (Referent.fInt Syntax.w32)) 262160) (Syntax.tyRef (Syntax.named 6) Syntax.mut (Syntax.tyArray (Syntax.tyInt Syntax.w32) 262160)) 6) (List._∷_ (10, Rows.mref (Array.Array (Referent.rtF (Referent.fInt Syntax.w8)) 600000) (Syntax.tyRef (Syntax.named 7) Syntax.mut (Syntax.tyArray (Syntax.tyInt Syntax.w8) 600000)) 7) (List._∷_ (11, Rows.mref (Array.Array Cell.R 65540) (Syntax.tyRef (Syntax.named 8) Syntax.mut (Syntax.tyArray Cell.behind 65540)) 8) (List._∷_ (12, Rows.mref (Array.Array Cell.R 32772) (Syntax.tyRef (Syntax.named 9) Syntax.mut (Syntax.tyArray Cell.behind 32772)) 9) (List._∷_ (13, Rows.any-gone Syntax.tyBool) (List._∷_ (14, Rows.any-gone Syntax.tyBool) (List._∷_ (15, Rows.any-gone Syntax.tyBool) List.[])))))))))))))))
+        g8 = List._∷_ (0, Rows.any-gone (Syntax.tyStruct (List._∷_ 122 (List._∷_ 111 (List._∷_ 110 (List._∷_ 101 (List._∷_ 115 (List._∷_ 58 (List._∷_ 58 (List._∷_ 104 (List._∷_ 101 (List._∷_ 108 (List._∷_ 100 (List._∷_ 58 (List._∷_ 58 (List._∷_ 72 (List._∷_ 101 (List._∷_ 108 (List._∷_ 100 List.[]))))))))))))))))) (Syntax.tcons (Syntax.tyStruct (List._∷_ 112 (List._∷_ 121 (List._∷_ 114 (List._∷_ 97 (List._∷_ 109 (List._∷_ 105 (List._∷_ 100 (List._∷_ 58 (List._∷_ 58 (List._∷_ 83 (List._∷_ 116 (List._∷_ 97 (List._∷_ 116 (List._∷_ 101 List.[])))))))))))))) (Syntax.tcons (Syntax.tyInt Syntax.w32) (Syntax.tcons (Syntax.tyInt Syntax.w32) (Syntax.tcons (Syntax.tyInt Syntax.w32) (Syntax.tcons (Syntax.tyInt Syntax.w32) (Syntax.tcons (Syntax.tyInt Syntax.w32) (Syntax.tcons (Syntax.tyArray (Syntax.tyInt Syntax.w32) 64) Syntax.tnil))))))) (Syntax.tcons (Syntax.tyInt Syntax.w64) (Syntax.tcons (Syntax.tyInt Syntax.w64) (Syntax.tcons (Syntax.tyInt Syntax.w64) (Syntax.tcons (Syntax.tyInt Syntax.w64) (Syntax.tcons (Syntax.tyInt Syntax.w64) (Syntax.tcons (Syntax.tyInt Syntax.w64) (Syntax.tcons Syntax.tyBool Syntax.tnil)))))))))) (List._∷_ (1, Rows.whole (Declared.row Held.the-type)) (List._∷_ (2, Rows.whole (Declared.row Line.the-type)) (List._∷_ (3, Rows.sslice (Referent.rtF (Referent.fInt Syntax.w8)) (Syntax.tyRef (Syntax.named 0) Syntax.imm (Syntax.tyInt Syntax.w8)) 0) (List._∷_ (4, Rows.sref (Array.Array (Referent.rtF (Referent.fInt Syntax.w32)) 32772) (Syntax.tyRef (Syntax.named 1) Syntax.imm (Syntax.tyArray (Syntax.tyInt Syntax.w32) 32772)) 1) (List._∷_ (5, Rows.mref-owed (Array.Array (Referent.rtF (Referent.fInt Syntax.w8)) 16388) (Syntax.tyRef (Syntax.named 2) Syntax.mut (Syntax.tyArray (Syntax.tyInt Syntax.w8) 16388)) 2 10 (Row.lease (κs .1 .1 .0) (qs .1 .1 .0))) (List._∷_ (6, Rows.mref-owed (Array.Array (Referent.rtF (Referent.fInt Syntax.w32)) 65540) (Syntax.tyRef (Syntax.named 3) Syntax.mut (Syntax.tyArray (Syntax.tyInt Syntax.w32) 65540)) 3 11 (Row.lease (κs .1 .1 .1 .0) (qs .1 .1 .1 .0))) (List._∷_ (7, Rows.mref-owed (Array.Array (Referent.rtF (Referent.fInt Syntax.w32)) 32772) (Syntax.tyRef (Syntax.named 4) Syntax.mut (Syntax.tyArray (Syntax.tyInt Syntax.w32) 32772)) 4 12 (Row.lease (κs .1 .1 .1 .1 .0) (qs .1 .1 .1 .1 .0))) (List._∷_ (8, Rows.mref (Array.Array (Referent.rtF (Referent.fInt Syntax.w32)) 32772) (Syntax.tyRef (Syntax.named 5) Syntax.mut (Syntax.tyArray (Syntax.tyInt Syntax.w32) 32772)) 5) (List._∷_ (9, Rows.mref (Array.Array (Referent.rtF (Referent.fInt Syntax.w32)) 262160) (Syntax.tyRef (Syntax.named 6) Syntax.mut (Syntax.tyArray (Syntax.tyInt Syntax.w32) 262160)) 6) (List._∷_ (10, Rows.mref (Array.Array (Referent.rtF (Referent.fInt Syntax.w8)) 600000) (Syntax.tyRef (Syntax.named 7) Syntax.mut (Syntax.tyArray (Syntax.tyInt Syntax.w8) 600000)) 7) (List._∷_ (11, Rows.mref (Array.Array Cell.R 65540) (Syntax.tyRef (Syntax.named 8) Syntax.mut (Syntax.tyArray Cell.behind 65540)) 8) (List._∷_ (12, Rows.mref (Array.Array Cell.R 32772) (Syntax.tyRef (Syntax.named 9) Syntax.mut (Syntax.tyArray Cell.behind 32772)) 9) (List._∷_ (13, Rows.any-gone Syntax.tyBool) (List._∷_ (14, Rows.any-gone Syntax.tyBool) (List._∷_ (15, Rows.any-gone Syntax.tyBool) List.[])))))))))))))))
 
         abbrev g10 : List.List Row.Entry
-        g10 = List._∷_ (0, Rows.any-gone (Syntax.tyStruct (List._∷_ 122 (List._∷_ 111 (List._∷_ 110 (List._∷_ 101 (List._∷_ 115 (List._∷_ 58 (List._∷_ 58 (List._∷_ 104 (List._∷_ 101 (List._∷_ 108 (List._∷_ 100 (List._∷_ 58 (List._∷_ 58 (List._∷_ 72 (List._∷_ 101 (List._∷_ 108 (List._∷_ 100 List.[]))))))))))))))))) (Syntax.tcons (Syntax.tyStruct (List._∷_ 112 (List._∷_ 121 (List._∷_ 114 (List._∷_ 97 (List._∷_ 109 (List._∷_ 105 (List._∷_ 100 (List._∷_ 58 (List._∷_ 58 (List._∷_ 83 (List._∷_ 116 (List._∷_ 97 (List._∷_ 116 (List._∷_ 101 List.[])))))))))))))) (Syntax.tcons (Syntax.tyInt Syntax.w32) (Syntax.tcons (Syntax.tyInt Syntax.w32) (Syntax.tcons (Syntax.tyInt Syntax.w32) (Syntax.tcons (Syntax.tyArray (Syntax.tyInt Syntax.w32) 64) Syntax.tnil))))) (Syntax.tcons (Syntax.tyInt Syntax.w64) (Syntax.tcons (Syntax.tyInt Syntax.w64) (Syntax.tcons (Syntax.tyInt Syntax.w64) (Syntax.tcons (Syntax.tyInt Syntax.w64) (Syntax.tcons (Syntax.tyInt Syntax.w64) (Syntax.tcons (Syntax.tyInt Syntax.w64) (Syntax.tcons Syntax.tyBool Syntax.tnil)))))))))) (List._∷_ (1, Rows.whole (Declared.row Held.the-type)) (List._∷_ (2, Rows.whole (Declared.row Line.the-type)) (List._∷_ (3, Rows.sslice (Referent.rtF (Referent.fInt Syntax.w8)) (Syntax.tyRef (Syntax.named 0) Syntax.imm (Syntax.tyInt Syntax.w8)) 0) (List._∷_ (4, Rows.sref (Array.Array (Referent.rtF (Referent.fInt Syntax.w32)) 32772) (Syntax.tyRef (Syntax.named 1) Syntax.imm (Syntax.tyArray (Syntax.tyInt Syntax.w32) 32772)) 1) (List._∷_ (5, Rows.mref-owed (Array.Array (Referent.rtF (Referent.fInt Syntax.w8)) 16388) (Syntax.tyRef (Syntax.named 2) Syntax.mut (Syntax.tyArray (Syntax.tyInt Syntax.w8) 16388)) 2 10 (Row.lease (κs .1 .1 .0) (qs .1 .1 .0))) (List._∷_ (6, Rows.mref-owed (Array.Array (Referent.rtF (Referent.fInt Syntax.w32)) 65540) (Syntax.tyRef (Syntax.named 3) Syntax.mut (Syntax.tyArray (Syntax.tyInt Syntax.w32) 65540)) 3 11 (Row.lease (κs .1 .1 .1 .0) (qs .1 .1 .1 .0))) (List._∷_ (7, Rows.mref-owed (Array.Array (Referent.rtF (Referent.fInt Syntax.w32)) 32772) (Syntax.tyRef (Syntax.named 4) Syntax.mut (Syntax.tyArray (Syntax.tyInt Syntax.w32) 32772)) 4 12 (Row.lease (κs .1 .1 .1 .1 .0) (qs .1 .1 .1 .1 .0))) (List._∷_ (8, Rows.mref-owed (Array.Array (Referent.rtF (Referent.fInt Syntax.w32)) 32772) (Syntax.tyRef (Syntax.named 5) Syntax.mut (Syntax.tyArray (Syntax.tyInt Syntax.w32) 32772)) 5 13 (Row.lease (κs .1 .1 .1 .1 .1 .0) (qs .1 .1 .1 .1 .1 .0))) (List._∷_ (9, Rows.mref (Array.Array (Referent.rtF (Referent.fInt Syntax.w32)) 262160) (Syntax.tyRef (Syntax.named 6) Syntax.mut (Syntax.tyArray (Syntax.tyInt Syntax.w32) 262160)) 6) (List._∷_ (10, Rows.mref (Array.Array (Referent.rtF (Referent.fInt Syntax.w8)) 600000) (Syntax.tyRef (Syntax.named 7) Syntax.mut (Syntax.tyArray (Syntax.tyInt Syntax.w8) 600000)) 7) (List._∷_ (11, Rows.mref (Array.Array Cell.R 65540) (Syntax.tyRef (Syntax.named 8) Syntax.mut (Syntax.tyArray Cell.behind 65540)) 8) (List._∷_ (12, Rows.mref (Array.Array Cell.R 32772) (Syntax.tyRef (Syntax.named 9) Syntax.mut (Syntax.tyArray Cell.behind 32772)) 9) (List._∷_ (13, Rows.any-gone Syntax.tyBool) (List._∷_ (14, Rows.any-gone Syntax.tyBool) (List._∷_ (15, Rows.any-gone Syntax.tyBool) List.[])))))))))))))))
+        g10 = List._∷_ (0, Rows.any-gone (Syntax.tyStruct (List._∷_ 122 (List._∷_ 111 (List._∷_ 110 (List._∷_ 101 (List._∷_ 115 (List._∷_ 58 (List._∷_ 58 (List._∷_ 104 (List._∷_ 101 (List._∷_ 108 (List._∷_ 100 (List._∷_ 58 (List._∷_ 58 (List._∷_ 72 (List._∷_ 101 (List._∷_ 108 (List._∷_ 100 List.[]))))))))))))))))) (Syntax.tcons (Syntax.tyStruct (List._∷_ 112 (List._∷_ 121 (List._∷_ 114 (List._∷_ 97 (List._∷_ 109 (List._∷_ 105 (List._∷_ 100 (List._∷_ 58 (List._∷_ 58 (List._∷_ 83 (List._∷_ 116 (List._∷_ 97 (List._∷_ 116 (List._∷_ 101 List.[])))))))))))))) (Syntax.tcons (Syntax.tyInt Syntax.w32) (Syntax.tcons (Syntax.tyInt Syntax.w32) (Syntax.tcons (Syntax.tyInt Syntax.w32) (Syntax.tcons (Syntax.tyInt Syntax.w32) (Syntax.tcons (Syntax.tyInt Syntax.w32) (Syntax.tcons (Syntax.tyArray (Syntax.tyInt Syntax.w32) 64) Syntax.tnil))))))) (Syntax.tcons (Syntax.tyInt Syntax.w64) (Syntax.tcons (Syntax.tyInt Syntax.w64) (Syntax.tcons (Syntax.tyInt Syntax.w64) (Syntax.tcons (Syntax.tyInt Syntax.w64) (Syntax.tcons (Syntax.tyInt Syntax.w64) (Syntax.tcons (Syntax.tyInt Syntax.w64) (Syntax.tcons Syntax.tyBool Syntax.tnil)))))))))) (List._∷_ (1, Rows.whole (Declared.row Held.the-type)) (List._∷_ (2, Rows.whole (Declared.row Line.the-type)) (List._∷_ (3, Rows.sslice (Referent.rtF (Referent.fInt Syntax.w8)) (Syntax.tyRef (Syntax.named 0) Syntax.imm (Syntax.tyInt Syntax.w8)) 0) (List._∷_ (4, Rows.sref (Array.Array (Referent.rtF (Referent.fInt Syntax.w32)) 32772) (Syntax.tyRef (Syntax.named 1) Syntax.imm (Syntax.tyArray (Syntax.tyInt Syntax.w32) 32772)) 1) (List._∷_ (5, Rows.mref-owed (Array.Array (Referent.rtF (Referent.fInt Syntax.w8)) 16388) (Syntax.tyRef (Syntax.named 2) Syntax.mut (Syntax.tyArray (Syntax.tyInt Syntax.w8) 16388)) 2 10 (Row.lease (κs .1 .1 .0) (qs .1 .1 .0))) (List._∷_ (6, Rows.mref-owed (Array.Array (Referent.rtF (Referent.fInt Syntax.w32)) 65540) (Syntax.tyRef (Syntax.named 3) Syntax.mut (Syntax.tyArray (Syntax.tyInt Syntax.w32) 65540)) 3 11 (Row.lease (κs .1 .1 .1 .0) (qs .1 .1 .1 .0))) (List._∷_ (7, Rows.mref-owed (Array.Array (Referent.rtF (Referent.fInt Syntax.w32)) 32772) (Syntax.tyRef (Syntax.named 4) Syntax.mut (Syntax.tyArray (Syntax.tyInt Syntax.w32) 32772)) 4 12 (Row.lease (κs .1 .1 .1 .1 .0) (qs .1 .1 .1 .1 .0))) (List._∷_ (8, Rows.mref-owed (Array.Array (Referent.rtF (Referent.fInt Syntax.w32)) 32772) (Syntax.tyRef (Syntax.named 5) Syntax.mut (Syntax.tyArray (Syntax.tyInt Syntax.w32) 32772)) 5 13 (Row.lease (κs .1 .1 .1 .1 .1 .0) (qs .1 .1 .1 .1 .1 .0))) (List._∷_ (9, Rows.mref (Array.Array (Referent.rtF (Referent.fInt Syntax.w32)) 262160) (Syntax.tyRef (Syntax.named 6) Syntax.mut (Syntax.tyArray (Syntax.tyInt Syntax.w32) 262160)) 6) (List._∷_ (10, Rows.mref (Array.Array (Referent.rtF (Referent.fInt Syntax.w8)) 600000) (Syntax.tyRef (Syntax.named 7) Syntax.mut (Syntax.tyArray (Syntax.tyInt Syntax.w8) 600000)) 7) (List._∷_ (11, Rows.mref (Array.Array Cell.R 65540) (Syntax.tyRef (Syntax.named 8) Syntax.mut (Syntax.tyArray Cell.behind 65540)) 8) (List._∷_ (12, Rows.mref (Array.Array Cell.R 32772) (Syntax.tyRef (Syntax.named 9) Syntax.mut (Syntax.tyArray Cell.behind 32772)) 9) (List._∷_ (13, Rows.any-gone Syntax.tyBool) (List._∷_ (14, Rows.any-gone Syntax.tyBool) (List._∷_ (15, Rows.any-gone Syntax.tyBool) List.[])))))))))))))))
 
         abbrev g12 : List.List Row.Entry
-        g12 = List._∷_ (0, Rows.any-gone (Syntax.tyStruct (List._∷_ 122 (List._∷_ 111 (List._∷_ 110 (List._∷_ 101 (List._∷_ 115 (List._∷_ 58 (List._∷_ 58 (List._∷_ 104 (List._∷_ 101 (List._∷_ 108 (List._∷_ 100 (List._∷_ 58 (List._∷_ 58 (List._∷_ 72 (List._∷_ 101 (List._∷_ 108 (List._∷_ 100 List.[]))))))))))))))))) (Syntax.tcons (Syntax.tyStruct (List._∷_ 112 (List._∷_ 121 (List._∷_ 114 (List._∷_ 97 (List._∷_ 109 (List._∷_ 105 (List._∷_ 100 (List._∷_ 58 (List._∷_ 58 (List._∷_ 83 (List._∷_ 116 (List._∷_ 97 (List._∷_ 116 (List._∷_ 101 List.[])))))))))))))) (Syntax.tcons (Syntax.tyInt Syntax.w32) (Syntax.tcons (Syntax.tyInt Syntax.w32) (Syntax.tcons (Syntax.tyInt Syntax.w32) (Syntax.tcons (Syntax.tyArray (Syntax.tyInt Syntax.w32) 64) Syntax.tnil))))) (Syntax.tcons (Syntax.tyInt Syntax.w64) (Syntax.tcons (Syntax.tyInt Syntax.w64) (Syntax.tcons (Syntax.tyInt Syntax.w64) (Syntax.tcons (Syntax.tyInt Syntax.w64) (Syntax.tcons (Syntax.tyInt Syntax.w64) (Syntax.tcons (Syntax.tyInt Syntax.w64) (Syntax.tcons Syntax.tyBool Syntax.tnil)))))))))) (List._∷_ (1, Rows.whole (Declared.row Held.the-type)) (List._∷_ (2, Rows.whole (Declared.row Line.the-type)) (List._∷_ (3, Rows.sslice (Referent.rtF (Referent.fInt Syntax.w8)) (Syntax.tyRef (Syntax.named 0) Syntax.imm (Syntax.tyInt Syntax.w8)) 0) (List._∷_ (4, Rows.sref (Array.Array (Referent.rtF (Referent.fInt Syntax.w32)) 32772) (Syntax.tyRef (Syntax.named 1) Syntax.imm (Syntax.tyArray (Syntax.tyInt Syntax.w32) 32772)) 1) (List._∷_ (5, Rows.mref-owed (Array.Array (Referent.rtF (Referent.fInt Syntax.w8)) 16388) (Syntax.tyRef (Syntax.named 2) Syntax.mut (Syntax.tyArray (Syntax.tyInt Syntax.w8) 16388)) 2 10 (Row.lease (κs .1 .1 .0) (qs .1 .1 .0))) (List._∷_ (6, Rows.mref-owed (Array.Array (Referent.rtF (Referent.fInt Syntax.w32)) 65540) (Syntax.tyRef (Syntax.named 3) Syntax.mut (Syntax.tyArray (Syntax.tyInt Syntax.w32) 65540)) 3 11 (Row.lease (κs .1 .1 .1 .0) (qs .1 .1 .1 .0))) (List._∷_ (7, Rows.mref-owed (Array.Array (Referent.rtF (Referent.fInt Syntax.w32)) 32772) (Syntax.tyRef (Syntax.named 4) Syntax.mut (Syntax.tyArray (Syntax.tyInt Syntax.w32) 32772)) 4 12 (Row.lease (κs .1 .1 .1 .1 .0) (qs .1 .1 .1 .1 .0))) (List._∷_ (8, Rows.mref-owed (Array.Array (Referent.rtF (Referent.fInt Syntax.w32)) 32772) (Syntax.tyRef (Syntax.named 5) Syntax.mut (Syntax.tyArray (Syntax.tyInt Syntax.w32) 32772)) 5 13 (Row.lease (κs .1 .1 .1 .1 .1 .0) (qs .1 .1 .1 .1 .1 .0))) (List._∷_ (9, Rows.mref-owed (Array.Array (Referent.rtF (Referent.fInt Syntax.w32)) 262160) (Syntax.tyRef (Syntax.named 6) Syntax.mut (Syntax.tyArray (Syntax.tyInt Syntax.w32) 262160)) 6 14 (Row.lease (κs .1 .1 .1 .1 .1 .1 .0) (qs .1 .1 .1 .1 .1 .1 .0))) (List._∷_ (10, Rows.mref (Array.Array (Referent.rtF (Referent.fInt Syntax.w8)) 600000) (Syntax.tyRef (Syntax.named 7) Syntax.mut (Syntax.tyArray (Syntax.tyInt Syntax.w8) 600000)) 7) (List._∷_ (11, Rows.mref (Array.Array Cell.R 65540) (Syntax.tyRef (Syntax.named 8) Syntax.mut (Syntax.tyArray Cell.behind 65540)) 8) (List._∷_ (12, Rows.mref (Array.Array Cell.R 32772) (Syntax.tyRef (Syntax.named 9) Syntax.mut (Syntax.tyArray Cell.behind 32772)) 9) (List._∷_ (13, Rows.any-gone Syntax.tyBool) (List._∷_ (14, Rows.any-gone Syntax.tyBool) (List._∷_ (15, Rows.any-gone Syntax.tyBool) List.[])))))))))))))))
+        g12 = List._∷_ (0, Rows.any-gone (Syntax.tyStruct (List._∷_ 122 (List._∷_ 111 (List._∷_ 110 (List._∷_ 101 (List._∷_ 115 (List._∷_ 58 (List._∷_ 58 (List._∷_ 104 (List._∷_ 101 (List._∷_ 108 (List._∷_ 100 (List._∷_ 58 (List._∷_ 58 (List._∷_ 72 (List._∷_ 101 (List._∷_ 108 (List._∷_ 100 List.[]))))))))))))))))) (Syntax.tcons (Syntax.tyStruct (List._∷_ 112 (List._∷_ 121 (List._∷_ 114 (List._∷_ 97 (List._∷_ 109 (List._∷_ 105 (List._∷_ 100 (List._∷_ 58 (List._∷_ 58 (List._∷_ 83 (List._∷_ 116 (List._∷_ 97 (List._∷_ 116 (List._∷_ 101 List.[])))))))))))))) (Syntax.tcons (Syntax.tyInt Syntax.w32) (Syntax.tcons (Syntax.tyInt Syntax.w32) (Syntax.tcons (Syntax.tyInt Syntax.w32) (Syntax.tcons (Syntax.tyInt Syntax.w32) (Syntax.tcons (Syntax.tyInt Syntax.w32) (Syntax.tcons (Syntax.tyArray (Syntax.tyInt Syntax.w32) 64) Syntax.tnil))))))) (Syntax.tcons (Syntax.tyInt Syntax.w64) (Syntax.tcons (Syntax.tyInt Syntax.w64) (Syntax.tcons (Syntax.tyInt Syntax.w64) (Syntax.tcons (Syntax.tyInt Syntax.w64) (Syntax.tcons (Syntax.tyInt Syntax.w64) (Syntax.tcons (Syntax.tyInt Syntax.w64) (Syntax.tcons Syntax.tyBool Syntax.tnil)))))))))) (List._∷_ (1, Rows.whole (Declared.row Held.the-type)) (List._∷_ (2, Rows.whole (Declared.row Line.the-type)) (List._∷_ (3, Rows.sslice (Referent.rtF (Referent.fInt Syntax.w8)) (Syntax.tyRef (Syntax.named 0) Syntax.imm (Syntax.tyInt Syntax.w8)) 0) (List._∷_ (4, Rows.sref (Array.Array (Referent.rtF (Referent.fInt Syntax.w32)) 32772) (Syntax.tyRef (Syntax.named 1) Syntax.imm (Syntax.tyArray (Syntax.tyInt Syntax.w32) 32772)) 1) (List._∷_ (5, Rows.mref-owed (Array.Array (Referent.rtF (Referent.fInt Syntax.w8)) 16388) (Syntax.tyRef (Syntax.named 2) Syntax.mut (Syntax.tyArray (Syntax.tyInt Syntax.w8) 16388)) 2 10 (Row.lease (κs .1 .1 .0) (qs .1 .1 .0))) (List._∷_ (6, Rows.mref-owed (Array.Array (Referent.rtF (Referent.fInt Syntax.w32)) 65540) (Syntax.tyRef (Syntax.named 3) Syntax.mut (Syntax.tyArray (Syntax.tyInt Syntax.w32) 65540)) 3 11 (Row.lease (κs .1 .1 .1 .0) (qs .1 .1 .1 .0))) (List._∷_ (7, Rows.mref-owed (Array.Array (Referent.rtF (Referent.fInt Syntax.w32)) 32772) (Syntax.tyRef (Syntax.named 4) Syntax.mut (Syntax.tyArray (Syntax.tyInt Syntax.w32) 32772)) 4 12 (Row.lease (κs .1 .1 .1 .1 .0) (qs .1 .1 .1 .1 .0))) (List._∷_ (8, Rows.mref-owed (Array.Array (Referent.rtF (Referent.fInt Syntax.w32)) 32772) (Syntax.tyRef (Syntax.named 5) Syntax.mut (Syntax.tyArray (Syntax.tyInt Syntax.w32) 32772)) 5 13 (Row.lease (κs .1 .1 .1 .1 .1 .0) (qs .1 .1 .1 .1 .1 .0))) (List._∷_ (9, Rows.mref-owed (Array.Array (Referent.rtF (Referent.fInt Syntax.w32)) 262160) (Syntax.tyRef (Syntax.named 6) Syntax.mut (Syntax.tyArray (Syntax.tyInt Syntax.w32) 262160)) 6 14 (Row.lease (κs .1 .1 .1 .1 .1 .1 .0) (qs .1 .1 .1 .1 .1 .1 .0))) (List._∷_ (10, Rows.mref (Array.Array (Referent.rtF (Referent.fInt Syntax.w8)) 600000) (Syntax.tyRef (Syntax.named 7) Syntax.mut (Syntax.tyArray (Syntax.tyInt Syntax.w8) 600000)) 7) (List._∷_ (11, Rows.mref (Array.Array Cell.R 65540) (Syntax.tyRef (Syntax.named 8) Syntax.mut (Syntax.tyArray Cell.behind 65540)) 8) (List._∷_ (12, Rows.mref (Array.Array Cell.R 32772) (Syntax.tyRef (Syntax.named 9) Syntax.mut (Syntax.tyArray Cell.behind 32772)) 9) (List._∷_ (13, Rows.any-gone Syntax.tyBool) (List._∷_ (14, Rows.any-gone Syntax.tyBool) (List._∷_ (15, Rows.any-gone Syntax.tyBool) List.[])))))))))))))))
 
         abbrev g14 : List.List Row.Entry
-        g14 = List._∷_ (0, Rows.any-gone (Syntax.tyStruct (List._∷_ 122 (List._∷_ 111 (List._∷_ 110 (List._∷_ 101 (List._∷_ 115 (List._∷_ 58 (List._∷_ 58 (List._∷_ 104 (List._∷_ 101 (List._∷_ 108 (List._∷_ 100 (List._∷_ 58 (List._∷_ 58 (List._∷_ 72 (List._∷_ 101 (List._∷_ 108 (List._∷_ 100 List.[]))))))))))))))))) (Syntax.tcons (Syntax.tyStruct (List._∷_ 112 (List._∷_ 121 (List._∷_ 114 (List._∷_ 97 (List._∷_ 109 (List._∷_ 105 (List._∷_ 100 (List._∷_ 58 (List._∷_ 58 (List._∷_ 83 (List._∷_ 116 (List._∷_ 97 (List._∷_ 116 (List._∷_ 101 List.[])))))))))))))) (Syntax.tcons (Syntax.tyInt Syntax.w32) (Syntax.tcons (Syntax.tyInt Syntax.w32) (Syntax.tcons (Syntax.tyInt Syntax.w32) (Syntax.tcons (Syntax.tyArray (Syntax.tyInt Syntax.w32) 64) Syntax.tnil))))) (Syntax.tcons (Syntax.tyInt Syntax.w64) (Syntax.tcons (Syntax.tyInt Syntax.w64) (Syntax.tcons (Syntax.tyInt Syntax.w64) (Syntax.tcons (Syntax.tyInt Syntax.w64) (Syntax.tcons (Syntax.tyInt Syntax.w64) (Syntax.tcons (Syntax.tyInt Syntax.w64) (Syntax.tcons Syntax.tyBool Syntax.tnil)))))))))) (List._∷_ (1, Rows.whole (Declared.row Held.the-type)) (List._∷_ (2, Rows.whole (Declared.row Line.the-type)) (List._∷_ (3, Rows.sslice (Referent.rtF (Referent.fInt Syntax.w8)) (Syntax.tyRef (Syntax.named 0) Syntax.imm (Syntax.tyInt Syntax.w8)) 0) (List._∷_ (4, Rows.sref (Array.Array (Referent.rtF (Referent.fInt Syntax.w32)) 32772) (Syntax.tyRef (Syntax.named 1) Syntax.imm (Syntax.tyArray (Syntax.tyInt Syntax.w32) 32772)) 1) (List._∷_ (5, Rows.mref-owed (Array.Array (Referent.rtF (Referent.fInt Syntax.w8)) 16388) (Syntax.tyRef (Syntax.named 2) Syntax.mut (Syntax.tyArray (Syntax.tyInt Syntax.w8) 16388)) 2 10 (Row.lease (κs .1 .1 .0) (qs .1 .1 .0))) (List._∷_ (6, Rows.mref-owed (Array.Array (Referent.rtF (Referent.fInt Syntax.w32)) 65540) (Syntax.tyRef (Syntax.named 3) Syntax.mut (Syntax.tyArray (Syntax.tyInt Syntax.w32) 65540)) 3 11 (Row.lease (κs .1 .1 .1 .0) (qs .1 .1 .1 .0))) (List._∷_ (7, Rows.mref-owed (Array.Array (Referent.rtF (Referent.fInt Syntax.w32)) 32772) (Syntax.tyRef (Syntax.named 4) Syntax.mut (Syntax.tyArray (Syntax.tyInt Syntax.w32) 32772)) 4 12 (Row.lease (κs .1 .1 .1 .1 .0) (qs .1 .1 .1 .1 .0))) (List._∷_ (8, Rows.mref-owed (Array.Array (Referent.rtF (Referent.fInt Syntax.w32)) 32772) (Syntax.tyRef (Syntax.named 5) Syntax.mut (Syntax.tyArray (Syntax.tyInt Syntax.w32) 32772)) 5 13 (Row.lease (κs .1 .1 .1 .1 .1 .0) (qs .1 .1 .1 .1 .1 .0))) (List._∷_ (9, Rows.mref-owed (Array.Array (Referent.rtF (Referent.fInt Syntax.w32)) 262160) (Syntax.tyRef (Syntax.named 6) Syntax.mut (Syntax.tyArray (Syntax.tyInt Syntax.w32) 262160)) 6 14 (Row.lease (κs .1 .1 .1 .1 .1 .1 .0) (qs .1 .1 .1 .1 .1 .1 .0))) (List._∷_ (10, Rows.mref-owed (Array.Array (Referent.rtF (Referent.fInt Syntax.w8)) 600000) (Syntax.tyRef (Syntax.named 7) Syntax.mut (Syntax.tyArray (Syntax.tyInt Syntax.w8) 600000)) 7 15 (Row.lease (κs .1 .1 .1 .1 .1 .1 .1 .0) (qs .1 .1 .1 .1 .1 .1 .1 .0))) (List._∷_ (11, Rows.mref (Array.Array Cell.R 65540) (Syntax.tyRef (Syntax.named 8) Syntax.mut (Syntax.tyArray Cell.behind 65540)) 8) (List._∷_ (12, Rows.mref (Array.Array Cell.R 32772) (Syntax.tyRef (Syntax.named 9) Syntax.mut (Syntax.tyArray Cell.behind 32772)) 9) (List._∷_ (13, Rows.any-gone Syntax.tyBool) (List._∷_ (14, Rows.any-gone Syntax.tyBool) (List._∷_ (15, Rows.any-gone Syntax.tyBool) List.[])))))))))))))))
+        g14 = List._∷_ (0, Rows.any-gone (Syntax.tyStruct (List._∷_ 122 (List._∷_ 111 (List._∷_ 110 (List._∷_ 101 (List._∷_ 115 (List._∷_ 58 (List._∷_ 58 (List._∷_ 104 (List._∷_ 101 (List._∷_ 108 (List._∷_ 100 (List._∷_ 58 (List._∷_ 58 (List._∷_ 72 (List._∷_ 101 (List._∷_ 108 (List._∷_ 100 List.[]))))))))))))))))) (Syntax.tcons (Syntax.tyStruct (List._∷_ 112 (List._∷_ 121 (List._∷_ 114 (List._∷_ 97 (List._∷_ 109 (List._∷_ 105 (List._∷_ 100 (List._∷_ 58 (List._∷_ 58 (List._∷_ 83 (List._∷_ 116 (List._∷_ 97 (List._∷_ 116 (List._∷_ 101 List.[])))))))))))))) (Syntax.tcons (Syntax.tyInt Syntax.w32) (Syntax.tcons (Syntax.tyInt Syntax.w32) (Syntax.tcons (Syntax.tyInt Syntax.w32) (Syntax.tcons (Syntax.tyInt Syntax.w32) (Syntax.tcons (Syntax.tyInt Syntax.w32) (Syntax.tcons (Syntax.tyArray (Syntax.tyInt Syntax.w32) 64) Syntax.tnil))))))) (Syntax.tcons (Syntax.tyInt Syntax.w64) (Syntax.tcons (Syntax.tyInt Syntax.w64) (Syntax.tcons (Syntax.tyInt Syntax.w64) (Syntax.tcons (Syntax.tyInt Syntax.w64) (Syntax.tcons (Syntax.tyInt Syntax.w64) (Syntax.tcons (Syntax.tyInt Syntax.w64) (Syntax.tcons Syntax.tyBool Syntax.tnil)))))))))) (List._∷_ (1, Rows.whole (Declared.row Held.the-type)) (List._∷_ (2, Rows.whole (Declared.row Line.the-type)) (List._∷_ (3, Rows.sslice (Referent.rtF (Referent.fInt Syntax.w8)) (Syntax.tyRef (Syntax.named 0) Syntax.imm (Syntax.tyInt Syntax.w8)) 0) (List._∷_ (4, Rows.sref (Array.Array (Referent.rtF (Referent.fInt Syntax.w32)) 32772) (Syntax.tyRef (Syntax.named 1) Syntax.imm (Syntax.tyArray (Syntax.tyInt Syntax.w32) 32772)) 1) (List._∷_ (5, Rows.mref-owed (Array.Array (Referent.rtF (Referent.fInt Syntax.w8)) 16388) (Syntax.tyRef (Syntax.named 2) Syntax.mut (Syntax.tyArray (Syntax.tyInt Syntax.w8) 16388)) 2 10 (Row.lease (κs .1 .1 .0) (qs .1 .1 .0))) (List._∷_ (6, Rows.mref-owed (Array.Array (Referent.rtF (Referent.fInt Syntax.w32)) 65540) (Syntax.tyRef (Syntax.named 3) Syntax.mut (Syntax.tyArray (Syntax.tyInt Syntax.w32) 65540)) 3 11 (Row.lease (κs .1 .1 .1 .0) (qs .1 .1 .1 .0))) (List._∷_ (7, Rows.mref-owed (Array.Array (Referent.rtF (Referent.fInt Syntax.w32)) 32772) (Syntax.tyRef (Syntax.named 4) Syntax.mut (Syntax.tyArray (Syntax.tyInt Syntax.w32) 32772)) 4 12 (Row.lease (κs .1 .1 .1 .1 .0) (qs .1 .1 .1 .1 .0))) (List._∷_ (8, Rows.mref-owed (Array.Array (Referent.rtF (Referent.fInt Syntax.w32)) 32772) (Syntax.tyRef (Syntax.named 5) Syntax.mut (Syntax.tyArray (Syntax.tyInt Syntax.w32) 32772)) 5 13 (Row.lease (κs .1 .1 .1 .1 .1 .0) (qs .1 .1 .1 .1 .1 .0))) (List._∷_ (9, Rows.mref-owed (Array.Array (Referent.rtF (Referent.fInt Syntax.w32)) 262160) (Syntax.tyRef (Syntax.named 6) Syntax.mut (Syntax.tyArray (Syntax.tyInt Syntax.w32) 262160)) 6 14 (Row.lease (κs .1 .1 .1 .1 .1 .1 .0) (qs .1 .1 .1 .1 .1 .1 .0))) (List._∷_ (10, Rows.mref-owed (Array.Array (Referent.rtF (Referent.fInt Syntax.w8)) 600000) (Syntax.tyRef (Syntax.named 7) Syntax.mut (Syntax.tyArray (Syntax.tyInt Syntax.w8) 600000)) 7 15 (Row.lease (κs .1 .1 .1 .1 .1 .1 .1 .0) (qs .1 .1 .1 .1 .1 .1 .1 .0))) (List._∷_ (11, Rows.mref (Array.Array Cell.R 65540) (Syntax.tyRef (Syntax.named 8) Syntax.mut (Syntax.tyArray Cell.behind 65540)) 8) (List._∷_ (12, Rows.mref (Array.Array Cell.R 32772) (Syntax.tyRef (Syntax.named 9) Syntax.mut (Syntax.tyArray Cell.behind 32772)) 9) (List._∷_ (13, Rows.any-gone Syntax.tyBool) (List._∷_ (14, Rows.any-gone Syntax.tyBool) (List._∷_ (15, Rows.any-gone Syntax.tyBool) List.[])))))))))))))))
 
         abbrev g16 : List.List Row.Entry
         g16 = List._∷_ (0, Rows.whole (Declared.row Held.the-type)) (List._∷_ (1, Rows.whole (Declared.row Held.the-type)) (List._∷_ (2, Rows.whole (Declared.row Line.the-type)) (List._∷_ (3, Rows.sslice (Referent.rtF (Referent.fInt Syntax.w8)) (Syntax.tyRef (Syntax.named 0) Syntax.imm (Syntax.tyInt Syntax.w8)) 0) (List._∷_ (4, Rows.sref (Array.Array (Referent.rtF (Referent.fInt Syntax.w32)) 32772) (Syntax.tyRef (Syntax.named 1) Syntax.imm (Syntax.tyArray (Syntax.tyInt Syntax.w32) 32772)) 1) (List._∷_ (5, Rows.mref-owed (Array.Array (Referent.rtF (Referent.fInt Syntax.w8)) 16388) (Syntax.tyRef (Syntax.named 2) Syntax.mut (Syntax.tyArray (Syntax.tyInt Syntax.w8) 16388)) 2 10 (Row.lease (κs .1 .1 .0) (qs .1 .1 .0))) (List._∷_ (6, Rows.mref-owed (Array.Array (Referent.rtF (Referent.fInt Syntax.w32)) 65540) (Syntax.tyRef (Syntax.named 3) Syntax.mut (Syntax.tyArray (Syntax.tyInt Syntax.w32) 65540)) 3 11 (Row.lease (κs .1 .1 .1 .0) (qs .1 .1 .1 .0))) (List._∷_ (7, Rows.mref-owed (Array.Array (Referent.rtF (Referent.fInt Syntax.w32)) 32772) (Syntax.tyRef (Syntax.named 4) Syntax.mut (Syntax.tyArray (Syntax.tyInt Syntax.w32) 32772)) 4 12 (Row.lease (κs .1 .1 .1 .1 .0) (qs .1 .1 .1 .1 .0))) (List._∷_ (8, Rows.mref-owed (Array.Array (Referent.rtF (Referent.fInt Syntax.w32)) 32772) (Syntax.tyRef (Syntax.named 5) Syntax.mut (Syntax.tyArray (Syntax.tyInt Syntax.w32) 32772)) 5 13 (Row.lease (κs .1 .1 .1 .1 .1 .0) (qs .1 .1 .1 .1 .1 .0))) (List._∷_ (9, Rows.mref-owed (Array.Array (Referent.rtF (Referent.fInt Syntax.w32)) 262160) (Syntax.tyRef (Syntax.named 6) Syntax.mut (Syntax.tyArray (Syntax.tyInt Syntax.w32) 262160)) 6 14 (Row.lease (κs .1 .1 .1 .1 .1 .1 .0) (qs .1 .1 .1 .1 .1 .1 .0))) (List._∷_ (10, Rows.mref-owed (Array.Array (Referent.rtF (Referent.fInt Syntax.w8)) 600000) (Syntax.tyRef (Syntax.named 7) Syntax.mut (Syntax.tyArray (Syntax.tyInt Syntax.w8) 600000)) 7 15 (Row.lease (κs .1 .1 .1 .1 .1 .1 .1 .0) (qs .1 .1 .1 .1 .1 .1 .1 .0))) (List._∷_ (11, Rows.mref (Array.Array Cell.R 65540) (Syntax.tyRef (Syntax.named 8) Syntax.mut (Syntax.tyArray Cell.behind 65540)) 8) (List._∷_ (12, Rows.mref (Array.Array Cell.R 32772) (Syntax.tyRef (Syntax.named 9) Syntax.mut (Syntax.tyArray Cell.behind 32772)) 9) (List._∷_ (13, Rows.any-gone Syntax.tyBool) (List._∷_ (14, Rows.any-gone Syntax.tyBool) (List._∷_ (15, Rows.any-gone Syntax.tyBool) List.[])))))))))))))))
 
         abbrev g18 : List.List Row.Entry
-        g18 = List._∷_ (0, Rows.whole (Declared.row Held.the-type)) (List._∷_ (1, Rows.any-gone (Syntax.tyStruct (List._∷_ 122 (List._∷_ 111 (List._∷_ 110 (List._∷_ 101 (List._∷_ 115 (List._∷_ 58 (List._∷_ 58 (List._∷_ 104 (List._∷_ 101 (List._∷_ 108 (List._∷_ 100 (List._∷_ 58 (List._∷_ 58 (List._∷_ 72 (List._∷_ 101 (List._∷_ 108 (List._∷_ 100 List.[]))))))))))))))))) (Syntax.tcons (Syntax.tyStruct (List._∷_ 112 (List._∷_ 121 (List._∷_ 114 (List._∷_ 97 (List._∷_ 109 (List._∷_ 105 (List._∷_ 100 (List._∷_ 58 (List._∷_ 58 (List._∷_ 83 (List._∷_ 116 (List._∷_ 97 (List._∷_ 116 (List._∷_ 101 List.[])))))))))))))) (Syntax.tcons (Syntax.tyInt Syntax.w32) (Syntax.tcons (Syntax.tyInt Syntax.w32) (Syntax.tcons (Syntax.tyInt Syntax.w32) (Syntax.tcons (Syntax.tyArray (Syntax.tyInt Syntax.w32) 64) Syntax.tnil))))) (Syntax.tcons (Syntax.tyInt Syntax.w64) (Syntax.tcons (Syntax.tyInt Syntax.w64) (Syntax.tcons (Syntax.tyInt Syntax.w64) (Syntax.tcons (Syntax.tyInt Syntax.w64) (Syntax.tcons (Syntax.tyInt Syntax.w64) (Syntax.tcons (Syntax.tyInt Syntax.w64) (Syntax.tcons Syntax.tyBool Syntax.tnil)))))))))) (List._∷_ (2, Rows.whole (Declared.row Line.the-type)) (List._∷_ (3, Rows.sslice (Referent.rtF (Referent.fInt Syntax.w8)) (Syntax.tyRef (Syntax.named 0) Syntax.imm (Syntax.tyInt Syntax.w8)) 0) (List._∷_ (4, Rows.sref (Array.Array (Referent.rtF (Referent.fInt Syntax.w32)) 32772) (Syntax.tyRef (Syntax.named 1) Syntax.imm (Syntax.tyArray (Syntax.tyInt Syntax.w32) 32772)) 1) (List._∷_ (5, Rows.mref-owed (Array.Array (Referent.rtF (Referent.fInt Syntax.w8)) 16388) (Syntax.tyRef (Syntax.named 2) Syntax.mut (Syntax.tyArray (Syntax.tyInt Syntax.w8) 16388)) 2 10 (Row.lease (κs .1 .1 .0) (qs .1 .1 .0))) (List._∷_ (6, Rows.mref-owed (Array.Array (Referent.rtF (Referent.fInt Syntax.w32)) 65540) (Syntax.tyRef (Syntax.named 3) Syntax.mut (Syntax.tyArray (Syntax.tyInt Syntax.w32) 65540)) 3 11 (Row.lease (κs .1 .1 .1 .0) (qs .1 .1 .1 .0))) (List._∷_ (7, Rows.mref-owed (Array.Array (Referent.rtF (Referent.fInt Syntax.w32)) 32772) (Syntax.tyRef (Syntax.named 4) Syntax.mut (Syntax.tyArray (Syntax.tyInt Syntax.w32) 32772)) 4 12 (Row.lease (κs .1 .1 .1 .1 .0) (qs .1 .1 .1 .1 .0))) (List._∷_ (8, Rows.mref-owed (Array.Array (Referent.rtF (Referent.fInt Syntax.w32)) 32772) (Syntax.tyRef (Syntax.named 5) Syntax.mut (Syntax.tyArray (Syntax.tyInt Syntax.w32) 32772)) 5 13 (Row.lease (κs .1 .1 .1 .1 .1 .0) (qs .1 .1 .1 .1 .1 .0))) (List._∷_ (9, Rows.mref-owed (Array.Array (Referent.rtF (Referent.fInt Syntax.w32)) 262160) (Syntax.tyRef (Syntax.named 6) Syntax.mut (Syntax.tyArray (Syntax.tyInt Syntax.w32) 262160)) 6 14 (Row.lease (κs .1 .1 .1 .1 .1 .1 .0) (qs .1 .1 .1 .1 .1 .1 .0))) (List._∷_ (10, Rows.mref-owed (Array.Array (Referent.rtF (Referent.fInt Syntax.w8)) 600000) (Syntax.tyRef (Syntax.named 7) Syntax.mut (Syntax.tyArray (Syntax.tyInt Syntax.w8) 600000)) 7 15 (Row.lease (κs .1 .1 .1 .1 .1 .1 .1 .0) (qs .1 .1 .1 .1 .1 .1 .1 .0))) (List._∷_ (11, Rows.mref (Array.Array Cell.R 65540) (Syntax.tyRef (Syntax.named 8) Syntax.mut (Syntax.tyArray Cell.behind 65540)) 8) (List._∷_ (12, Rows.mref (Array.Array Cell.R 32772) (Syntax.tyRef (Syntax.named 9) Syntax.mut (Syntax.tyArray Cell.behind 32772)) 9) (List._∷_ (13, Rows.any-gone Syntax.tyBool) (List._∷_ (14, Rows.any-gone Syntax.tyBool) (List._∷_ (15, Rows.any-gone Syntax.tyBool) List.[])))))))))))))))
+        g18 = List._∷_ (0, Rows.whole (Declared.row Held.the-type)) (List._∷_ (1, Rows.any-gone (Syntax.tyStruct (List._∷_ 122 (List._∷_ 111 (List._∷_ 110 (List._∷_ 101 (List._∷_ 115 (List._∷_ 58 (List._∷_ 58 (List._∷_ 104 (List._∷_ 101 (List._∷_ 108 (List._∷_ 100 (List._∷_ 58 (List._∷_ 58 (List._∷_ 72 (List._∷_ 101 (List._∷_ 108 (List._∷_ 100 List.[]))))))))))))))))) (Syntax.tcons (Syntax.tyStruct (List._∷_ 112 (List._∷_ 121 (List._∷_ 114 (List._∷_ 97 (List._∷_ 109 (List._∷_ 105 (List._∷_ 100 (List._∷_ 58 (List._∷_ 58 (List._∷_ 83 (List._∷_ 116 (List._∷_ 97 (List._∷_ 116 (List._∷_ 101 List.[])))))))))))))) (Syntax.tcons (Syntax.tyInt Syntax.w32) (Syntax.tcons (Syntax.tyInt Syntax.w32) (Syntax.tcons (Syntax.tyInt Syntax.w32) (Syntax.tcons (Syntax.tyInt Syntax.w32) (Syntax.tcons (Syntax.tyInt Syntax.w32) (Syntax.tcons (Syntax.tyArray (Syntax.tyInt Syntax.w32) 64) Syntax.tnil))))))) (Syntax.tcons (Syntax.tyInt Syntax.w64) (Syntax.tcons (Syntax.tyInt Syntax.w64) (Syntax.tcons (Syntax.tyInt Syntax.w64) (Syntax.tcons (Syntax.tyInt Syntax.w64) (Syntax.tcons (Syntax.tyInt Syntax.w64) (Syntax.tcons (Syntax.tyInt Syntax.w64) (Syntax.tcons Syntax.tyBool Syntax.tnil)))))))))) (List._∷_ (2, Rows.whole (Declared.row Line.the-type)) (List._∷_ (3, Rows.sslice (Referent.rtF (Referent.fInt Syntax.w8)) (Syntax.tyRef (Syntax.named 0) Syntax.imm (Syntax.tyInt Syntax.w8)) 0) (List._∷_ (4, Rows.sref (Array.Array (Referent.rtF (Referent.fInt Syntax.w32)) 32772) (Syntax.tyRef (Syntax.named 1) Syntax.imm (Syntax.tyArray (Syntax.tyInt Syntax.w32) 32772)) 1) (List._∷_ (5, Rows.mref-owed (Array.Array (Referent.rtF (Referent.fInt Syntax.w8)) 16388) (Syntax.tyRef (Syntax.named 2) Syntax.mut (Syntax.tyArray (Syntax.tyInt Syntax.w8) 16388)) 2 10 (Row.lease (κs .1 .1 .0) (qs .1 .1 .0))) (List._∷_ (6, Rows.mref-owed (Array.Array (Referent.rtF (Referent.fInt Syntax.w32)) 65540) (Syntax.tyRef (Syntax.named 3) Syntax.mut (Syntax.tyArray (Syntax.tyInt Syntax.w32) 65540)) 3 11 (Row.lease (κs .1 .1 .1 .0) (qs .1 .1 .1 .0))) (List._∷_ (7, Rows.mref-owed (Array.Array (Referent.rtF (Referent.fInt Syntax.w32)) 32772) (Syntax.tyRef (Syntax.named 4) Syntax.mut (Syntax.tyArray (Syntax.tyInt Syntax.w32) 32772)) 4 12 (Row.lease (κs .1 .1 .1 .1 .0) (qs .1 .1 .1 .1 .0))) (List._∷_ (8, Rows.mref-owed (Array.Array (Referent.rtF (Referent.fInt Syntax.w32)) 32772) (Syntax.tyRef (Syntax.named 5) Syntax.mut (Syntax.tyArray (Syntax.tyInt Syntax.w32) 32772)) 5 13 (Row.lease (κs .1 .1 .1 .1 .1 .0) (qs .1 .1 .1 .1 .1 .0))) (List._∷_ (9, Rows.mref-owed (Array.Array (Referent.rtF (Referent.fInt Syntax.w32)) 262160) (Syntax.tyRef (Syntax.named 6) Syntax.mut (Syntax.tyArray (Syntax.tyInt Syntax.w32) 262160)) 6 14 (Row.lease (κs .1 .1 .1 .1 .1 .1 .0) (qs .1 .1 .1 .1 .1 .1 .0))) (List._∷_ (10, Rows.mref-owed (Array.Array (Referent.rtF (Referent.fInt Syntax.w8)) 600000) (Syntax.tyRef (Syntax.named 7) Syntax.mut (Syntax.tyArray (Syntax.tyInt Syntax.w8) 600000)) 7 15 (Row.lease (κs .1 .1 .1 .1 .1 .1 .1 .0) (qs .1 .1 .1 .1 .1 .1 .1 .0))) (List._∷_ (11, Rows.mref (Array.Array Cell.R 65540) (Syntax.tyRef (Syntax.named 8) Syntax.mut (Syntax.tyArray Cell.behind 65540)) 8) (List._∷_ (12, Rows.mref (Array.Array Cell.R 32772) (Syntax.tyRef (Syntax.named 9) Syntax.mut (Syntax.tyArray Cell.behind 32772)) 9) (List._∷_ (13, Rows.any-gone Syntax.tyBool) (List._∷_ (14, Rows.any-gone Syntax.tyBool) (List._∷_ (15, Rows.any-gone Syntax.tyBool) List.[])))))))))))))))
 
         abbrev g19 : List.List Row.Entry
-        g19 = List._∷_ (0, Rows.whole (Declared.row Held.the-type)) (List._∷_ (1, Rows.any-gone (Syntax.tyStruct (List._∷_ 122 (List._∷_ 111 (List._∷_ 110 (List._∷_ 101 (List._∷_ 115 (List._∷_ 58 (List._∷_ 58 (List._∷_ 104 (List._∷_ 101 (List._∷_ 108 (List._∷_ 100 (List._∷_ 58 (List._∷_ 58 (List._∷_ 72 (List._∷_ 101 (List._∷_ 108 (List._∷_ 100 List.[]))))))))))))))))) (Syntax.tcons (Syntax.tyStruct (List._∷_ 112 (List._∷_ 121 (List._∷_ 114 (List._∷_ 97 (List._∷_ 109 (List._∷_ 105 (List._∷_ 100 (List._∷_ 58 (List._∷_ 58 (List._∷_ 83 (List._∷_ 116 (List._∷_ 97 (List._∷_ 116 (List._∷_ 101 List.[])))))))))))))) (Syntax.tcons (Syntax.tyInt Syntax.w32) (Syntax.tcons (Syntax.tyInt Syntax.w32) (Syntax.tcons (Syntax.tyInt Syntax.w32) (Syntax.tcons (Syntax.tyArray (Syntax.tyInt Syntax.w32) 64) Syntax.tnil))))) (Syntax.tcons (Syntax.tyInt Syntax.w64) (Syntax.tcons (Syntax.tyInt Syntax.w64) (Syntax.tcons (Syntax.tyInt Syntax.w64) (Syntax.tcons (Syntax.tyInt Syntax.w64) (Syntax.tcons (Syntax.tyInt Syntax.w64) (Syntax.tcons (Syntax.tyInt Syntax.w64) (Syntax.tcons Syntax.tyBool Syntax.tnil)))))))))) (List._∷_ (2, Rows.any-gone (Syntax.tyStruct (List._∷_ 122 (List._∷_ 111 (List._∷_ 110 (List._∷_ 101 (List._∷_ 115 (List._∷_ 58 (List._∷_ 58 (List._∷_ 115 (List._∷_ 99 (List._∷_ 97 (List._∷_ 110 (List._∷_ 58 (List._∷_ 58 (List._∷_ 76 (List._∷_ 105 (List._∷_ 110 (List._∷_ 101 List.[]))))))))))))))))) (Syntax.tcons (Syntax.tyInt Syntax.w32) (Syntax.tcons (Syntax.tyInt Syntax.w64) (Syntax.tcons (Syntax.tyInt Syntax.w64) (Syntax.tcons (Syntax.tyInt Syntax.w64) (Syntax.tcons (Syntax.tyInt Syntax.w64) Syntax.tnil))))))) (List._∷_ (3, Rows.sslice (Referent.rtF (Referent.fInt Syntax.w8)) (Syntax.tyRef (Syntax.named 0) Syntax.imm (Syntax.tyInt Syntax.w8)) 0) (List._∷_ (4, Rows.sref (Array.Array (Referent.rtF (Referent.fInt Syntax.w32)) 32772) (Syntax.tyRef (Syntax.named 1) Syntax.imm (Syntax.tyArray (Syntax.tyInt Syntax.w32) 32772)) 1) (List._∷_ (5, Rows.mref-owed (Array.Array (Referent.rtF (Referent.fInt Syntax.w8)) 16388) (Syntax.tyRef (Syntax.named 2) Syntax.mut (Syntax.tyArray (Syntax.tyInt Syntax.w8) 16388)) 2 10 (Row.lease (κs .1 .1 .0) (qs .1 .1 .0))) (List._∷_ (6, Rows.mref-owed (Array.Array (Referent.rtF (Referent.fInt Syntax.w32)) 65540) (Syntax.tyRef (Syntax.named 3) Syntax.mut (Syntax.tyArray (Syntax.tyInt Syntax.w32) 65540)) 3 11 (Row.lease (κs .1 .1 .1 .0) (qs .1 .1 .1 .0))) (List._∷_ (7, Rows.mref-owed (Array.Array (Referent.rtF (Referent.fInt Syntax.w32)) 32772) (Syntax.tyRef (Syntax.named 4) Syntax.mut (Syntax.tyArray (Syntax.tyInt Syntax.w32) 32772)) 4 12 (Row.lease (κs .1 .1 .1 .1 .0) (qs .1 .1 .1 .1 .0))) (List._∷_ (8, Rows.mref-owed (Array.Array (Referent.rtF (Referent.fInt Syntax.w32)) 32772) (Syntax.tyRef (Syntax.named 5) Syntax.mut (Syntax.tyArray (Syntax.tyInt Syntax.w32) 32772)) 5 13 (Row.lease (κs .1 .1 .1 .1 .1 .0) (qs .1 .1 .1 .1 .1 .0))) (List._∷_ (9, Rows.mref-owed (Array.Array (Referent.rtF (Referent.fInt Syntax.w32)) 262160) (Syntax.tyRef (Syntax.named 6) Syntax.mut (Syntax.tyArray (Syntax.tyInt Syntax.w32) 262160)) 6 14 (Row.lease (κs .1 .1 .1 .1 .1 .1 .0) (qs .1 .1 .1 .1 .1 .1 .0))) (List._∷_ (10, Rows.mref-owed (Array.Array (Referent.rtF (Referent.fInt Syntax.w8)) 600000) (Syntax.tyRef (Syntax.named 7) Syntax.mut (Syntax.tyArray (Syntax.tyInt Syntax.w8) 600000)) 7 15 (Row.lease (κs .1 .1 .1 .1 .1 .1 .1 .0) (qs .1 .1 .1 .1 .1 .1 .1 .0))) (List._∷_ (11, Rows.mref (Array.Array Cell.R 65540) (Syntax.tyRef (Syntax.named 8) Syntax.mut (Syntax.tyArray Cell.behind 65540)) 8) (List._∷_ (12, Rows.mref (Array.Array Cell.R 32772) (Syntax.tyRef (Syntax.named 9) Syntax.mut (Syntax.tyArray Cell.behind 32772)) 9) (List._∷_ (13, Rows.any-gone Syntax.tyBool) (List._∷_ (14, Rows.any-gone Syntax.tyBool) (List._∷_ (15, Rows.any-gone Syntax.tyBool) List.[])))))))))))))))
+        g19 = List._∷_ (0, Rows.whole (Declared.row Held.the-type)) (List._∷_ (1, Rows.any-gone (Syntax.tyStruct (List._∷_ 122 (List._∷_ 111 (List._∷_ 110 (List._∷_ 101 (List._∷_ 115 (List._∷_ 58 (List._∷_ 58 (List._∷_ 104 (List._∷_ 101 (List._∷_ 108 (List._∷_ 100 (List._∷_ 58 (List._∷_ 58 (List._∷_ 72 (List._∷_ 101 (List._∷_ 108 (List._∷_ 100 List.[]))))))))))))))))) (Syntax.tcons (Syntax.tyStruct (List._∷_ 112 (List._∷_ 121 (List._∷_ 114 (List._∷_ 97 (List._∷_ 109 (List._∷_ 105 (List._∷_ 100 (List._∷_ 58 (List._∷_ 58 (List._∷_ 83 (List._∷_ 116 (List._∷_ 97 (List._∷_ 116 (List._∷_ 101 List.[])))))))))))))) (Syntax.tcons (Syntax.tyInt Syntax.w32) (Syntax.tcons (Syntax.tyInt Syntax.w32) (Syntax.tcons (Syntax.tyInt Syntax.w32) (Syntax.tcons (Syntax.tyInt Syntax.w32) (Syntax.tcons (Syntax.tyInt Syntax.w32) (Syntax.tcons (Syntax.tyArray (Syntax.tyInt Syntax.w32) 64) Syntax.tnil))))))) (Syntax.tcons (Syntax.tyInt Syntax.w64) (Syntax.tcons (Syntax.tyInt Syntax.w64) (Syntax.tcons (Syntax.tyInt Syntax.w64) (Syntax.tcons (Syntax.tyInt Syntax.w64) (Syntax.tcons (Syntax.tyInt Syntax.w64) (Syntax.tcons (Syntax.tyInt Syntax.w64) (Syntax.tcons Syntax.tyBool Syntax.tnil)))))))))) (List._∷_ (2, Rows.any-gone (Syntax.tyStruct (List._∷_ 122 (List._∷_ 111 (List._∷_ 110 (List._∷_ 101 (List._∷_ 115 (List._∷_ 58 (List._∷_ 58 (List._∷_ 115 (List._∷_ 99 (List._∷_ 97 (List._∷_ 110 (List._∷_ 58 (List._∷_ 58 (List._∷_ 76 (List._∷_ 105 (List._∷_ 110 (List._∷_ 101 List.[]))))))))))))))))) (Syntax.tcons (Syntax.tyInt Syntax.w32) (Syntax.tcons (Syntax.tyInt Syntax.w64) (Syntax.tcons (Syntax.tyInt Syntax.w64) (Syntax.tcons (Syntax.tyInt Syntax.w64) (Syntax.tcons (Syntax.tyInt Syntax.w64) Syntax.tnil))))))) (List._∷_ (3, Rows.sslice (Referent.rtF (Referent.fInt Syntax.w8)) (Syntax.tyRef (Syntax.named 0) Syntax.imm (Syntax.tyInt Syntax.w8)) 0) (List._∷_ (4, Rows.sref (Array.Array (Referent.rtF (Referent.fInt Syntax.w32)) 32772) (Syntax.tyRef (Syntax.named 1) Syntax.imm (Syntax.tyArray (Syntax.tyInt Syntax.w32) 32772)) 1) (List._∷_ (5, Rows.mref-owed (Array.Array (Referent.rtF (Referent.fInt Syntax.w8)) 16388) (Syntax.tyRef (Syntax.named 2) Syntax.mut (Syntax.tyArray (Syntax.tyInt Syntax.w8) 16388)) 2 10 (Row.lease (κs .1 .1 .0) (qs .1 .1 .0))) (List._∷_ (6, Rows.mref-owed (Array.Array (Referent.rtF (Referent.fInt Syntax.w32)) 65540) (Syntax.tyRef (Syntax.named 3) Syntax.mut (Syntax.tyArray (Syntax.tyInt Syntax.w32) 65540)) 3 11 (Row.lease (κs .1 .1 .1 .0) (qs .1 .1 .1 .0))) (List._∷_ (7, Rows.mref-owed (Array.Array (Referent.rtF (Referent.fInt Syntax.w32)) 32772) (Syntax.tyRef (Syntax.named 4) Syntax.mut (Syntax.tyArray (Syntax.tyInt Syntax.w32) 32772)) 4 12 (Row.lease (κs .1 .1 .1 .1 .0) (qs .1 .1 .1 .1 .0))) (List._∷_ (8, Rows.mref-owed (Array.Array (Referent.rtF (Referent.fInt Syntax.w32)) 32772) (Syntax.tyRef (Syntax.named 5) Syntax.mut (Syntax.tyArray (Syntax.tyInt Syntax.w32) 32772)) 5 13 (Row.lease (κs .1 .1 .1 .1 .1 .0) (qs .1 .1 .1 .1 .1 .0))) (List._∷_ (9, Rows.mref-owed (Array.Array (Referent.rtF (Referent.fInt Syntax.w32)) 262160) (Syntax.tyRef (Syntax.named 6) Syntax.mut (Syntax.tyArray (Syntax.tyInt Syntax.w32) 262160)) 6 14 (Row.lease (κs .1 .1 .1 .1 .1 .1 .0) (qs .1 .1 .1 .1 .1 .1 .0))) (List._∷_ (10, Rows.mref-owed (Array.Array (Referent.rtF (Referent.fInt Syntax.w8)) 600000) (Syntax.tyRef (Syntax.named 7) Syntax.mut (Syntax.tyArray (Syntax.tyInt Syntax.w8) 600000)) 7 15 (Row.lease (κs .1 .1 .1 .1 .1 .1 .1 .0) (qs .1 .1 .1 .1 .1 .1 .1 .0))) (List._∷_ (11, Rows.mref (Array.Array Cell.R 65540) (Syntax.tyRef (Syntax.named 8) Syntax.mut (Syntax.tyArray Cell.behind 65540)) 8) (List._∷_ (12, Rows.mref (Array.Array Cell.R 32772) (Syntax.tyRef (Syntax.named 9) Syntax.mut (Syntax.tyArray Cell.behind 32772)) 9) (List._∷_ (13, Rows.any-gone Syntax.tyBool) (List._∷_ (14, Rows.any-gone Syntax.tyBool) (List._∷_ (15, Rows.any-gone Syntax.tyBool) List.[])))))))))))))))
 
         abbrev g20 : List.List Row.Entry
-        g20 = List._∷_ (0, Rows.whole (Declared.row Held.the-type)) (List._∷_ (1, Rows.any-gone (Syntax.tyStruct (List._∷_ 122 (List._∷_ 111 (List._∷_ 110 (List._∷_ 101 (List._∷_ 115 (List._∷_ 58 (List._∷_ 58 (List._∷_ 104 (List._∷_ 101 (List._∷_ 108 (List._∷_ 100 (List._∷_ 58 (List._∷_ 58 (List._∷_ 72 (List._∷_ 101 (List._∷_ 108 (List._∷_ 100 List.[]))))))))))))))))) (Syntax.tcons (Syntax.tyStruct (List._∷_ 112 (List._∷_ 121 (List._∷_ 114 (List._∷_ 97 (List._∷_ 109 (List._∷_ 105 (List._∷_ 100 (List._∷_ 58 (List._∷_ 58 (List._∷_ 83 (List._∷_ 116 (List._∷_ 97 (List._∷_ 116 (List._∷_ 101 List.[])))))))))))))) (Syntax.tcons (Syntax.tyInt Syntax.w32) (Syntax.tcons (Syntax.tyInt Syntax.w32) (Syntax.tcons (Syntax.tyInt Syntax.w32) (Syntax.tcons (Syntax.tyArray (Syntax.tyInt Syntax.w32) 64) Syntax.tnil))))) (Syntax.tcons (Syntax.tyInt Syntax.w64) (Syntax.tcons (Syntax.tyInt Syntax.w64) (Syntax.tcons (Syntax.tyInt Syntax.w64) (Syntax.tcons (Syntax.tyInt Syntax.w64) (Syntax.tcons (Syntax.tyInt Syntax.w64) (Syntax.tcons (Syntax.tyInt Syntax.w64) (Syntax.tcons Syntax.tyBool Syntax.tnil)))))))))) (List._∷_ (2, Rows.any-gone (Syntax.tyStruct (List._∷_ 122 (List._∷_ 111 (List._∷_ 110 (List._∷_ 101 (List._∷_ 115 (List._∷_ 58 (List._∷_ 58 (List._∷_ 115 (List._∷_ 99 (List._∷_ 97 (List._∷_ 110 (List._∷_ 58 (List._∷_ 58 (List._∷_ 76 (List._∷_ 105 (List._∷_ 110 (List._∷_ 101 List.[]))))))))))))))))) (Syntax.tcons (Syntax.tyInt Syntax.w32) (Syntax.tcons (Syntax.tyInt Syntax.w64) (Syntax.tcons (Syntax.tyInt Syntax.w64) (Syntax.tcons (Syntax.tyInt Syntax.w64) (Syntax.tcons (Syntax.tyInt Syntax.w64) Syntax.tnil))))))) (List._∷_ (3, Rows.sslice (Referent.rtF (Referent.fInt Syntax.w8)) (Syntax.tyRef (Syntax.named 0) Syntax.imm (Syntax.tyInt Syntax.w8)) 0) (List._∷_ (4, Rows.sref (Array.Array (Referent.rtF (Referent.fInt Syntax.w32)) 32772) (Syntax.tyRef (Syntax.named 1) Syntax.imm (Syntax.tyArray (Syntax.tyInt Syntax.w32) 32772)) 1) (List._∷_ (5, Rows.mref (Array.Array (Referent.rtF (Referent.fInt Syntax.w8)) 16388) (Syntax.tyRef (Syntax.named 2) Syntax.mut (Syntax.tyArray (Syntax.tyInt Syntax.w8) 16388)) 2) (List._∷_ (6, Rows.mref-owed (Array.Array (Referent.rtF (Referent.fInt Syntax.w32)) 65540) (Syntax.tyRef (Syntax.named 3) Syntax.mut (Syntax.tyArray (Syntax.tyInt Syntax.w32) 65540)) 3 11 (Row.lease (κs .1 .1 .1 .0) (qs .1 .1 .1 .0))) (List._∷_ (7, Rows.mref-owed (Array.Array (Referent.rtF (Referent.fInt Syntax.w32)) 32772) (Syntax.tyRef (Syntax.named 4) Syntax.mut (Syntax.tyArray (Syntax.tyInt Syntax.w32) 32772)) 4 12 (Row.lease (κs .1 .1 .1 .1 .0) (qs .1 .1 .1 .1 .0))) (List._∷_ (8, Rows.mref-owed (Array.Array (Referent.rtF (Referent.fInt Syntax.w32)) 32772) (Syntax.tyRef (Syntax.named 5) Syntax.mut (Syntax.tyArray (Syntax.tyInt Syntax.w32) 32772)) 5 13 (Row.lease (κs .1 .1 .1 .1 .1 .0) (qs .1 .1 .1 .1 .1 .0))) (List._∷_ (9, Rows.mref-owed (Array.Array (Referent.rtF (Referent.fInt Syntax.w32)) 262160) (Syntax.tyRef (Syntax.named 6) Syntax.mut (Syntax.tyArray (Syntax.tyInt Syntax.w32) 262160)) 6 14 (Row.lease (κs .1 .1 .1 .1 .1 .1 .0) (qs .1 .1 .1 .1 .1 .1 .0))) (List._∷_ (10, Rows.mref-owed (Array.Array (Referent.rtF (Referent.fInt Syntax.w8)) 600000) (Syntax.tyRef (Syntax.named 7) Syntax.mut (Syntax.tyArray (Syntax.tyInt Syntax.w8) 600000)) 7 15 (Row.lease (κs .1 .1 .1 .1 .1 .1 .1 .0) (qs .1 .1 .1 .1 .1 .1 .1 .0))) (List._∷_ (11, Rows.mref (Array.Array Cell.R 65540) (Syntax.tyRef (Syntax.named 8) Syntax.mut (Syntax.tyArray Cell.behind 65540)) 8) (List._∷_ (12, Rows.mref (Array.Array Cell.R 32772) (Syntax.tyRef (Syntax.named 9) Syntax.mut (Syntax.tyArray Cell.behind 32772)) 9) (List._∷_ (13, Rows.any-gone Syntax.tyBool) (List._∷_ (14, Rows.any-gone Syntax.tyBool) (List._∷_ (15, Rows.any-gone Syntax.tyBool) List.[])))))))))))))))
+        g20 = List._∷_ (0, Rows.whole (Declared.row Held.the-type)) (List._∷_ (1, Rows.any-gone (Syntax.tyStruct (List._∷_ 122 (List._∷_ 111 (List._∷_ 110 (List._∷_ 101 (List._∷_ 115 (List._∷_ 58 (List._∷_ 58 (List._∷_ 104 (List._∷_ 101 (List._∷_ 108 (List._∷_ 100 (List._∷_ 58 (List._∷_ 58 (List._∷_ 72 (List._∷_ 101 (List._∷_ 108 (List._∷_ 100 List.[]))))))))))))))))) (Syntax.tcons (Syntax.tyStruct (List._∷_ 112 (List._∷_ 121 (List._∷_ 114 (List._∷_ 97 (List._∷_ 109 (List._∷_ 105 (List._∷_ 100 (List._∷_ 58 (List._∷_ 58 (List._∷_ 83 (List._∷_ 116 (List._∷_ 97 (List._∷_ 116 (List._∷_ 101 List.[])))))))))))))) (Syntax.tcons (Syntax.tyInt Syntax.w32) (Syntax.tcons (Syntax.tyInt Syntax.w32) (Syntax.tcons (Syntax.tyInt Syntax.w32) (Syntax.tcons (Syntax.tyInt Syntax.w32) (Syntax.tcons (Syntax.tyInt Syntax.w32) (Syntax.tcons (Syntax.tyArray (Syntax.tyInt Syntax.w32) 64) Syntax.tnil))))))) (Syntax.tcons (Syntax.tyInt Syntax.w64) (Syntax.tcons (Syntax.tyInt Syntax.w64) (Syntax.tcons (Syntax.tyInt Syntax.w64) (Syntax.tcons (Syntax.tyInt Syntax.w64) (Syntax.tcons (Syntax.tyInt Syntax.w64) (Syntax.tcons (Syntax.tyInt Syntax.w64) (Syntax.tcons Syntax.tyBool Syntax.tnil)))))))))) (List._∷_ (2, Rows.any-gone (Syntax.tyStruct (List._∷_ 122 (List._∷_ 111 (List._∷_ 110 (List._∷_ 101 (List._∷_ 115 (List._∷_ 58 (List._∷_ 58 (List._∷_ 115 (List._∷_ 99 (List._∷_ 97 (List._∷_ 110 (List._∷_ 58 (List._∷_ 58 (List._∷_ 76 (List._∷_ 105 (List._∷_ 110 (List._∷_ 101 List.[]))))))))))))))))) (Syntax.tcons (Syntax.tyInt Syntax.w32) (Syntax.tcons (Syntax.tyInt Syntax.w64) (Syntax.tcons (Syntax.tyInt Syntax.w64) (Syntax.tcons (Syntax.tyInt Syntax.w64) (Syntax.tcons (Syntax.tyInt Syntax.w64) Syntax.tnil))))))) (List._∷_ (3, Rows.sslice (Referent.rtF (Referent.fInt Syntax.w8)) (Syntax.tyRef (Syntax.named 0) Syntax.imm (Syntax.tyInt Syntax.w8)) 0) (List._∷_ (4, Rows.sref (Array.Array (Referent.rtF (Referent.fInt Syntax.w32)) 32772) (Syntax.tyRef (Syntax.named 1) Syntax.imm (Syntax.tyArray (Syntax.tyInt Syntax.w32) 32772)) 1) (List._∷_ (5, Rows.mref (Array.Array (Referent.rtF (Referent.fInt Syntax.w8)) 16388) (Syntax.tyRef (Syntax.named 2) Syntax.mut (Syntax.tyArray (Syntax.tyInt Syntax.w8) 16388)) 2) (List._∷_ (6, Rows.mref-owed (Array.Array (Referent.rtF (Referent.fInt Syntax.w32)) 65540) (Syntax.tyRef (Syntax.named 3) Syntax.mut (Syntax.tyArray (Syntax.tyInt Syntax.w32) 65540)) 3 11 (Row.lease (κs .1 .1 .1 .0) (qs .1 .1 .1 .0))) (List._∷_ (7, Rows.mref-owed (Array.Array (Referent.rtF (Referent.fInt Syntax.w32)) 32772) (Syntax.tyRef (Syntax.named 4) Syntax.mut (Syntax.tyArray (Syntax.tyInt Syntax.w32) 32772)) 4 12 (Row.lease (κs .1 .1 .1 .1 .0) (qs .1 .1 .1 .1 .0))) (List._∷_ (8, Rows.mref-owed (Array.Array (Referent.rtF (Referent.fInt Syntax.w32)) 32772) (Syntax.tyRef (Syntax.named 5) Syntax.mut (Syntax.tyArray (Syntax.tyInt Syntax.w32) 32772)) 5 13 (Row.lease (κs .1 .1 .1 .1 .1 .0) (qs .1 .1 .1 .1 .1 .0))) (List._∷_ (9, Rows.mref-owed (Array.Array (Referent.rtF (Referent.fInt Syntax.w32)) 262160) (Syntax.tyRef (Syntax.named 6) Syntax.mut (Syntax.tyArray (Syntax.tyInt Syntax.w32) 262160)) 6 14 (Row.lease (κs .1 .1 .1 .1 .1 .1 .0) (qs .1 .1 .1 .1 .1 .1 .0))) (List._∷_ (10, Rows.mref-owed (Array.Array (Referent.rtF (Referent.fInt Syntax.w8)) 600000) (Syntax.tyRef (Syntax.named 7) Syntax.mut (Syntax.tyArray (Syntax.tyInt Syntax.w8) 600000)) 7 15 (Row.lease (κs .1 .1 .1 .1 .1 .1 .1 .0) (qs .1 .1 .1 .1 .1 .1 .1 .0))) (List._∷_ (11, Rows.mref (Array.Array Cell.R 65540) (Syntax.tyRef (Syntax.named 8) Syntax.mut (Syntax.tyArray Cell.behind 65540)) 8) (List._∷_ (12, Rows.mref (Array.Array Cell.R 32772) (Syntax.tyRef (Syntax.named 9) Syntax.mut (Syntax.tyArray Cell.behind 32772)) 9) (List._∷_ (13, Rows.any-gone Syntax.tyBool) (List._∷_ (14, Rows.any-gone Syntax.tyBool) (List._∷_ (15, Rows.any-gone Syntax.tyBool) List.[])))))))))))))))
 
         abbrev g22 : List.List Row.Entry
-        g22 = List._∷_ (0, Rows.whole (Declared.row Held.the-type)) (List._∷_ (1, Rows.any-gone (Syntax.tyStruct (List._∷_ 122 (List._∷_ 111 (List._∷_ 110 (List._∷_ 101 (List._∷_ 115 (List._∷_ 58 (List._∷_ 58 (List._∷_ 104 (List._∷_ 101 (List._∷_ 108 (List._∷_ 100 (List._∷_ 58 (List._∷_ 58 (List._∷_ 72 (List._∷_ 101 (List._∷_ 108 (List._∷_ 100 List.[]))))))))))))))))) (Syntax.tcons (Syntax.tyStruct (List._∷_ 112 (List._∷_ 121 (List._∷_ 114 (List._∷_ 97 (List._∷_ 109 (List._∷_ 105 (List._∷_ 100 (List._∷_ 58 (List._∷_ 58 (List._∷_ 83 (List._∷_ 116 (List._∷_ 97 (List._∷_ 116 (List._∷_ 101 List.[])))))))))))))) (Syntax.tcons (Syntax.tyInt Syntax.w32) (Syntax.tcons (Syntax.tyInt Syntax.w32) (Syntax.tcons (Syntax.tyInt Syntax.w32) (Syntax.tcons (Syntax.tyArray (Syntax.tyInt Syntax.w32) 64) Syntax.tnil))))) (Syntax.tcons (Syntax.tyInt Syntax.w64) (Syntax.tcons (Syntax.tyInt Syntax.w64) (Syntax.tcons (Syntax.tyInt Syntax.w64) (Syntax.tcons (Syntax.tyInt Syntax.w64) (Syntax.tcons (Syntax.tyInt Syntax.w64) (Syntax.tcons (Syntax.tyInt Syntax.w64) (Syntax.tcons Syntax.tyBool Syntax.tnil)))))))))) (List._∷_ (2, Rows.any-gone (Syntax.tyStruct (List._∷_ 122 (List._∷_ 111 (List._∷_ 110 (List._∷_ 101 (List._∷_ 115 (List._∷_ 58 (List._∷_ 58 (List._∷_ 115 (List._∷_ 99 (List._∷_ 97 (List._∷_ 110 (List._∷_ 58 (List._∷_ 58 (List._∷_ 76 (List._∷_ 105 (List._∷_ 110 (List._∷_ 101 List.[]))))))))))))))))) (Syntax.tcons (Syntax.tyInt Syntax.w32) (Syntax.tcons (Syntax.tyInt Syntax.w64) (Syntax.tcons (Syntax.tyInt Syntax.w64) (Syntax.tcons (Syntax.tyInt Syntax.w64) (Syntax.tcons (Syntax.tyInt Syntax.w64) Syntax.tnil))))))) (List._∷_ (3, Rows.sslice (Referent.rtF (Referent.fInt Syntax.w8)) (Syntax.tyRef (Syntax.named 0) Syntax.imm (Syntax.tyInt Syntax.w8)) 0) (List._∷_ (4, Rows.sref (Array.Array (Referent.rtF (Referent.fInt Syntax.w32)) 32772) (Syntax.tyRef (Syntax.named 1) Syntax.imm (Syntax.tyArray (Syntax.tyInt Syntax.w32) 32772)) 1) (List._∷_ (5, Rows.mref (Array.Array (Referent.rtF (Referent.fInt Syntax.w8)) 16388) (Syntax.tyRef (Syntax.named 2) Syntax.mut (Syntax.tyArray (Syntax.tyInt Syntax.w8) 16388)) 2) (List._∷_ (6, Rows.mref (Array.Array (Referent.rtF (Referent.fInt Syntax.w32)) 65540) (Syntax.tyRef (Syntax.named 3) Syntax.mut (Syntax.tyArray (Syntax.tyInt Syntax.w32) 65540)) 3) (List._∷_ (7, Rows.mref-owed (Array.Array (Referent.rtF (Referent.fInt Syntax.w32)) 32772) (Syntax.tyRef (Syntax.named 4) Syntax.mut (Syntax.tyArray (Syntax.tyInt Syntax.w32) 32772)) 4 12 (Row.lease (κs .1 .1 .1 .1 .0) (qs .1 .1 .1 .1 .0))) (List._∷_ (8, Rows.mref-owed (Array.Array (Referent.rtF (Referent.fInt Syntax.w32)) 32772) (Syntax.tyRef (Syntax.named 5) Syntax.mut (Syntax.tyArray (Syntax.tyInt Syntax.w32) 32772)) 5 13 (Row.lease (κs .1 .1 .1 .1 .1 .0) (qs .1 .1 .1 .1 .1 .0))) (List._∷_ (9, Rows.mref-owed (Array.Array (Referent.rtF (Referent.fInt Syntax.w32)) 262160) (Syntax.tyRef (Syntax.named 6) Syntax.mut (Syntax.tyArray (Syntax.tyInt Syntax.w32) 262160)) 6 14 (Row.lease (κs .1 .1 .1 .1 .1 .1 .0) (qs .1 .1 .1 .1 .1 .1 .0))) (List._∷_ (10, Rows.mref-owed (Array.Array (Referent.rtF (Referent.fInt Syntax.w8)) 600000) (Syntax.tyRef (Syntax.named 7) Syntax.mut (Syntax.tyArray (Syntax.tyInt Syntax.w8) 600000)) 7 15 (Row.lease (κs .1 .1 .1 .1 .1 .1 .1 .0) (qs .1 .1 .1 .1 .1 .1 .1 .0))) (List._∷_ (11, Rows.mref (Array.Array Cell.R 65540) (Syntax.tyRef (Syntax.named 8) Syntax.mut (Syntax.tyArray Cell.behind 65540)) 8) (List._∷_ (12, Rows.mref (Array.Array Cell.R 32772) (Syntax.tyRef (Syntax.named 9) Syntax.mut (Syntax.tyArray Cell.behind 32772)) 9) (List._∷_ (13, Rows.any-gone Syntax.tyBool) (List._∷_ (14, Rows.any-gone Syntax.tyBool) (List._∷_ (15, Rows.any-gone Syntax.tyBool) List.[])))))))))))))))
+        g22 = List._∷_ (0, Rows.whole (Declared.row Held.the-type)) (List._∷_ (1, Rows.any-gone (Syntax.tyStruct (List._∷_ 122 (List._∷_ 111 (List._∷_ 110 (List._∷_ 101 (List._∷_ 115 (List._∷_ 58 (List._∷_ 58 (List._∷_ 104 (List._∷_ 101 (List._∷_ 108 (List._∷_ 100 (List._∷_ 58 (List._∷_ 58 (List._∷_ 72 (List._∷_ 101 (List._∷_ 108 (List._∷_ 100 List.[]))))))))))))))))) (Syntax.tcons (Syntax.tyStruct (List._∷_ 112 (List._∷_ 121 (List._∷_ 114 (List._∷_ 97 (List._∷_ 109 (List._∷_ 105 (List._∷_ 100 (List._∷_ 58 (List._∷_ 58 (List._∷_ 83 (List._∷_ 116 (List._∷_ 97 (List._∷_ 116 (List._∷_ 101 List.[])))))))))))))) (Syntax.tcons (Syntax.tyInt Syntax.w32) (Syntax.tcons (Syntax.tyInt Syntax.w32) (Syntax.tcons (Syntax.tyInt Syntax.w32) (Syntax.tcons (Syntax.tyInt Syntax.w32) (Syntax.tcons (Syntax.tyInt Syntax.w32) (Syntax.tcons (Syntax.tyArray (Syntax.tyInt Syntax.w32) 64) Syntax.tnil))))))) (Syntax.tcons (Syntax.tyInt Syntax.w64) (Syntax.tcons (Syntax.tyInt Syntax.w64) (Syntax.tcons (Syntax.tyInt Syntax.w64) (Syntax.tcons (Syntax.tyInt Syntax.w64) (Syntax.tcons (Syntax.tyInt Syntax.w64) (Syntax.tcons (Syntax.tyInt Syntax.w64) (Syntax.tcons Syntax.tyBool Syntax.tnil)))))))))) (List._∷_ (2, Rows.any-gone (Syntax.tyStruct (List._∷_ 122 (List._∷_ 111 (List._∷_ 110 (List._∷_ 101 (List._∷_ 115 (List._∷_ 58 (List._∷_ 58 (List._∷_ 115 (List._∷_ 99 (List._∷_ 97 (List._∷_ 110 (List._∷_ 58 (List._∷_ 58 (List._∷_ 76 (List._∷_ 105 (List._∷_ 110 (List._∷_ 101 List.[]))))))))))))))))) (Syntax.tcons (Syntax.tyInt Syntax.w32) (Syntax.tcons (Syntax.tyInt Syntax.w64) (Syntax.tcons (Syntax.tyInt Syntax.w64) (Syntax.tcons (Syntax.tyInt Syntax.w64) (Syntax.tcons (Syntax.tyInt Syntax.w64) Syntax.tnil))))))) (List._∷_ (3, Rows.sslice (Referent.rtF (Referent.fInt Syntax.w8)) (Syntax.tyRef (Syntax.named 0) Syntax.imm (Syntax.tyInt Syntax.w8)) 0) (List._∷_ (4, Rows.sref (Array.Array (Referent.rtF (Referent.fInt Syntax.w32)) 32772) (Syntax.tyRef (Syntax.named 1) Syntax.imm (Syntax.tyArray (Syntax.tyInt Syntax.w32) 32772)) 1) (List._∷_ (5, Rows.mref (Array.Array (Referent.rtF (Referent.fInt Syntax.w8)) 16388) (Syntax.tyRef (Syntax.named 2) Syntax.mut (Syntax.tyArray (Syntax.tyInt Syntax.w8) 16388)) 2) (List._∷_ (6, Rows.mref (Array.Array (Referent.rtF (Referent.fInt Syntax.w32)) 65540) (Syntax.tyRef (Syntax.named 3) Syntax.mut (Syntax.tyArray (Syntax.tyInt Syntax.w32) 65540)) 3) (List._∷_ (7, Rows.mref-owed (Array.Array (Referent.rtF (Referent.fInt Syntax.w32)) 32772) (Syntax.tyRef (Syntax.named 4) Syntax.mut (Syntax.tyArray (Syntax.tyInt Syntax.w32) 32772)) 4 12 (Row.lease (κs .1 .1 .1 .1 .0) (qs .1 .1 .1 .1 .0))) (List._∷_ (8, Rows.mref-owed (Array.Array (Referent.rtF (Referent.fInt Syntax.w32)) 32772) (Syntax.tyRef (Syntax.named 5) Syntax.mut (Syntax.tyArray (Syntax.tyInt Syntax.w32) 32772)) 5 13 (Row.lease (κs .1 .1 .1 .1 .1 .0) (qs .1 .1 .1 .1 .1 .0))) (List._∷_ (9, Rows.mref-owed (Array.Array (Referent.rtF (Referent.fInt Syntax.w32)) 262160) (Syntax.tyRef (Syntax.named 6) Syntax.mut (Syntax.tyArray (Syntax.tyInt Syntax.w32) 262160)) 6 14 (Row.lease (κs .1 .1 .1 .1 .1 .1 .0) (qs .1 .1 .1 .1 .1 .1 .0))) (List._∷_ (10, Rows.mref-owed (Array.Array (Referent.rtF (Referent.fInt Syntax.w8)) 600000) (Syntax.tyRef (Syntax.named 7) Syntax.mut (Syntax.tyArray (Syntax.tyInt Syntax.w8) 600000)) 7 15 (Row.lease (κs .1 .1 .1 .1 .1 .1 .1 .0) (qs .1 .1 .1 .1 .1 .1 .1 .0))) (List._∷_ (11, Rows.mref (Array.Array Cell.R 65540) (Syntax.tyRef (Syntax.named 8) Syntax.mut (Syntax.tyArray Cell.behind 65540)) 8) (List._∷_ (12, Rows.mref (Array.Array Cell.R 32772) (Syntax.tyRef (Syntax.named 9) Syntax.mut (Syntax.tyArray Cell.behind 32772)) 9) (List._∷_ (13, Rows.any-gone Syntax.tyBool) (List._∷_ (14, Rows.any-gone Syntax.tyBool) (List._∷_ (15, Rows.any-gone Syntax.tyBool) List.[])))))))))))))))
 
         abbrev g24 : List.List Row.Entry
-        g24 = List._∷_ (0, Rows.whole (Declared.row Held.the-type)) (List._∷_ (1, Rows.any-gone (Syntax.tyStruct (List._∷_ 122 (List._∷_ 111 (List._∷_ 110 (List._∷_ 101 (List._∷_ 115 (List._∷_ 58 (List._∷_ 58 (List._∷_ 104 (List._∷_ 101 (List._∷_ 108 (List._∷_ 100 (List._∷_ 58 (List._∷_ 58 (List._∷_ 72 (List._∷_ 101 (List._∷_ 108 (List._∷_ 100 List.[]))))))))))))))))) (Syntax.tcons (Syntax.tyStruct (List._∷_ 112 (List._∷_ 121 (List._∷_ 114 (List._∷_ 97 (List._∷_ 109 (List._∷_ 105 (List._∷_ 100 (List._∷_ 58 (List._∷_ 58 (List._∷_ 83 (List._∷_ 116 (List._∷_ 97 (List._∷_ 116 (List._∷_ 101 List.[])))))))))))))) (Syntax.tcons (Syntax.tyInt Syntax.w32) (Syntax.tcons (Syntax.tyInt Syntax.w32) (Syntax.tcons (Syntax.tyInt Syntax.w32) (Syntax.tcons (Syntax.tyArray (Syntax.tyInt Syntax.w32) 64) Syntax.tnil))))) (Syntax.tcons (Syntax.tyInt Syntax.w64) (Syntax.tcons (Syntax.tyInt Syntax.w64) (Syntax.tcons (Syntax.tyInt Syntax.w64) (Syntax.tcons (Syntax.tyInt Syntax.w64) (Syntax.tcons (Syntax.tyInt Syntax.w64) (Syntax.tcons (Syntax.tyInt Syntax.w64) (Syntax.tcons Syntax.tyBool Syntax.tnil)))))))))) (List._∷_ (2, Rows.any-gone (Syntax.tyStruct (List._∷_ 122 (List._∷_ 111 (List._∷_ 110 (List._∷_ 101 (List._∷_ 115 (List._∷_ 58 (List._∷_ 58 (List._∷_ 115 (List._∷_ 99 (List._∷_ 97 (List._∷_ 110 (List._∷_ 58 (List._∷_ 58 (List._∷_ 76 (List._∷_ 105 (List._∷_ 110 (List._∷_ 101 List.[]))))))))))))))))) (Syntax.tcons (Syntax.tyInt Syntax.w32) (Syntax.tcons (Syntax.tyInt Syntax.w64) (Syntax.tcons (Syntax.tyInt Syntax.w64) (Syntax.tcons (Syntax.tyInt Syntax.w64) (Syntax.tcons (Syntax.tyInt Syntax.w64) Syntax.tnil))))))) (List._∷_ (3, Rows.sslice (Referent.rtF (Referent.fInt Syntax.w8)) (Syntax.tyRef (Syntax.named 0) Syntax.imm (Syntax.tyInt Syntax.w8)) 0) (List._∷_ (4, Rows.sref (Array.Array (Referent.rtF (Referent.fInt Syntax.w32)) 32772) (Syntax.tyRef (Syntax.named 1) Syntax.imm (Syntax.tyArray (Syntax.tyInt Syntax.w32) 32772)) 1) (List._∷_ (5, Rows.mref (Array.Array (Referent.rtF (Referent.fInt Syntax.w8)) 16388) (Syntax.tyRef (Syntax.named 2) Syntax.mut (Syntax.tyArray (Syntax.tyInt Syntax.w8) 16388)) 2) (List._∷_ (6, Rows.mref (Array.Array (Referent.rtF (Referent.fInt Syntax.w32)) 65540) (Syntax.tyRef (Syntax.named 3) Syntax.mut (Syntax.tyArray (Syntax.tyInt Syntax.w32) 65540)) 3) (List._∷_ (7, Rows.mref (Array.Array (Referent.rtF (Referent.fInt Syntax.w32)) 32772) (Syntax.tyRef (Syntax.named 4) Syntax.mut (Syntax.tyArray (Syntax.tyInt Syntax.w32) 32772)) 4) (List._∷_ (8, Rows.mref-owed (Array.Array (Referent.rtF (Referent.fInt Syntax.w32)) 32772) (Syntax.tyRef (Syntax.named 5) Syntax.mut (Syntax.tyArray (Syntax.tyInt Syntax.w32) 32772)) 5 13 (Row.lease (κs .1 .1 .1 .1 .1 .0) (qs .1 .1 .1 .1 .1 .0))) (List._∷_ (9, Rows.mref-owed (Array.Array (Referent.rtF (Referent.fInt Syntax.w32)) 262160) (Syntax.tyRef (Syntax.named 6) Syntax.mut (Syntax.tyArray (Syntax.tyInt Syntax.w32) 262160)) 6 14 (Row.lease (κs .1 .1 .1 .1 .1 .1 .0) (qs .1 .1 .1 .1 .1 .1 .0))) (List._∷_ (10, Rows.mref-owed (Array.Array (Referent.rtF (Referent.fInt Syntax.w8)) 600000) (Syntax.tyRef (Syntax.named 7) Syntax.mut (Syntax.tyArray (Syntax.tyInt Syntax.w8) 600000)) 7 15 (Row.lease (κs .1 .1 .1 .1 .1 .1 .1 .0) (qs .1 .1 .1 .1 .1 .1 .1 .0))) (List._∷_ (11, Rows.mref (Array.Array Cell.R 65540) (Syntax.tyRef (Syntax.named 8) Syntax.mut (Syntax.tyArray Cell.behind 65540)) 8) (List._∷_ (12, Rows.mref (Array.Array Cell.R 32772) (Syntax.tyRef (Syntax.named 9) Syntax.mut (Syntax.tyArray Cell.behind 32772)) 9) (List._∷_ (13, Rows.any-gone Syntax.tyBool) (List._∷_ (14, Rows.any-gone Syntax.tyBool) (List._∷_ (15, Rows.any-gone Syntax.tyBool) List.[])))))))))))))))
+        g24 = List._∷_ (0, Rows.whole (Declared.row Held.the-type)) (List._∷_ (1, Rows.any-gone (Syntax.tyStruct (List._∷_ 122 (List._∷_ 111 (List._∷_ 110 (List._∷_ 101 (List._∷_ 115 (List._∷_ 58 (List._∷_ 58 (List._∷_ 104 (List._∷_ 101 (List._∷_ 108 (List._∷_ 100 (List._∷_ 58 (List._∷_ 58 (List._∷_ 72 (List._∷_ 101 (List._∷_ 108 (List._∷_ 100 List.[]))))))))))))))))) (Syntax.tcons (Syntax.tyStruct (List._∷_ 112 (List._∷_ 121 (List._∷_ 114 (List._∷_ 97 (List._∷_ 109 (List._∷_ 105 (List._∷_ 100 (List._∷_ 58 (List._∷_ 58 (List._∷_ 83 (List._∷_ 116 (List._∷_ 97 (List._∷_ 116 (List._∷_ 101 List.[])))))))))))))) (Syntax.tcons (Syntax.tyInt Syntax.w32) (Syntax.tcons (Syntax.tyInt Syntax.w32) (Syntax.tcons (Syntax.tyInt Syntax.w32) (Syntax.tcons (Syntax.tyInt Syntax.w32) (Syntax.tcons (Syntax.tyInt Syntax.w32) (Syntax.tcons (Syntax.tyArray (Syntax.tyInt Syntax.w32) 64) Syntax.tnil))))))) (Syntax.tcons (Syntax.tyInt Syntax.w64) (Syntax.tcons (Syntax.tyInt Syntax.w64) (Syntax.tcons (Syntax.tyInt Syntax.w64) (Syntax.tcons (Syntax.tyInt Syntax.w64) (Syntax.tcons (Syntax.tyInt Syntax.w64) (Syntax.tcons (Syntax.tyInt Syntax.w64) (Syntax.tcons Syntax.tyBool Syntax.tnil)))))))))) (List._∷_ (2, Rows.any-gone (Syntax.tyStruct (List._∷_ 122 (List._∷_ 111 (List._∷_ 110 (List._∷_ 101 (List._∷_ 115 (List._∷_ 58 (List._∷_ 58 (List._∷_ 115 (List._∷_ 99 (List._∷_ 97 (List._∷_ 110 (List._∷_ 58 (List._∷_ 58 (List._∷_ 76 (List._∷_ 105 (List._∷_ 110 (List._∷_ 101 List.[]))))))))))))))))) (Syntax.tcons (Syntax.tyInt Syntax.w32) (Syntax.tcons (Syntax.tyInt Syntax.w64) (Syntax.tcons (Syntax.tyInt Syntax.w64) (Syntax.tcons (Syntax.tyInt Syntax.w64) (Syntax.tcons (Syntax.tyInt Syntax.w64) Syntax.tnil))))))) (List._∷_ (3, Rows.sslice (Referent.rtF (Referent.fInt Syntax.w8)) (Syntax.tyRef (Syntax.named 0) Syntax.imm (Syntax.tyInt Syntax.w8)) 0) (List._∷_ (4, Rows.sref (Array.Array (Referent.rtF (Referent.fInt Syntax.w32)) 32772) (Syntax.tyRef (Syntax.named 1) Syntax.imm (Syntax.tyArray (Syntax.tyInt Syntax.w32) 32772)) 1) (List._∷_ (5, Rows.mref (Array.Array (Referent.rtF (Referent.fInt Syntax.w8)) 16388) (Syntax.tyRef (Syntax.named 2) Syntax.mut (Syntax.tyArray (Syntax.tyInt Syntax.w8) 16388)) 2) (List._∷_ (6, Rows.mref (Array.Array (Referent.rtF (Referent.fInt Syntax.w32)) 65540) (Syntax.tyRef (Syntax.named 3) Syntax.mut (Syntax.tyArray (Syntax.tyInt Syntax.w32) 65540)) 3) (List._∷_ (7, Rows.mref (Array.Array (Referent.rtF (Referent.fInt Syntax.w32)) 32772) (Syntax.tyRef (Syntax.named 4) Syntax.mut (Syntax.tyArray (Syntax.tyInt Syntax.w32) 32772)) 4) (List._∷_ (8, Rows.mref-owed (Array.Array (Referent.rtF (Referent.fInt Syntax.w32)) 32772) (Syntax.tyRef (Syntax.named 5) Syntax.mut (Syntax.tyArray (Syntax.tyInt Syntax.w32) 32772)) 5 13 (Row.lease (κs .1 .1 .1 .1 .1 .0) (qs .1 .1 .1 .1 .1 .0))) (List._∷_ (9, Rows.mref-owed (Array.Array (Referent.rtF (Referent.fInt Syntax.w32)) 262160) (Syntax.tyRef (Syntax.named 6) Syntax.mut (Syntax.tyArray (Syntax.tyInt Syntax.w32) 262160)) 6 14 (Row.lease (κs .1 .1 .1 .1 .1 .1 .0) (qs .1 .1 .1 .1 .1 .1 .0))) (List._∷_ (10, Rows.mref-owed (Array.Array (Referent.rtF (Referent.fInt Syntax.w8)) 600000) (Syntax.tyRef (Syntax.named 7) Syntax.mut (Syntax.tyArray (Syntax.tyInt Syntax.w8) 600000)) 7 15 (Row.lease (κs .1 .1 .1 .1 .1 .1 .1 .0) (qs .1 .1 .1 .1 .1 .1 .1 .0))) (List._∷_ (11, Rows.mref (Array.Array Cell.R 65540) (Syntax.tyRef (Syntax.named 8) Syntax.mut (Syntax.tyArray Cell.behind 65540)) 8) (List._∷_ (12, Rows.mref (Array.Array Cell.R 32772) (Syntax.tyRef (Syntax.named 9) Syntax.mut (Syntax.tyArray Cell.behind 32772)) 9) (List._∷_ (13, Rows.any-gone Syntax.tyBool) (List._∷_ (14, Rows.any-gone Syntax.tyBool) (List._∷_ (15, Rows.any-gone Syntax.tyBool) List.[])))))))))))))))
 
         abbrev g26 : List.List Row.Entry
-        g26 = List._∷_ (0, Rows.whole (Declared.row Held.the-type)) (List._∷_ (1, Rows.any-gone (Syntax.tyStruct (List._∷_ 122 (List._∷_ 111 (List._∷_ 110 (List._∷_ 101 (List._∷_ 115 (List._∷_ 58 (List._∷_ 58 (List._∷_ 104 (List._∷_ 101 (List._∷_ 108 (List._∷_ 100 (List._∷_ 58 (List._∷_ 58 (List._∷_ 72 (List._∷_ 101 (List._∷_ 108 (List._∷_ 100 List.[]))))))))))))))))) (Syntax.tcons (Syntax.tyStruct (List._∷_ 112 (List._∷_ 121 (List._∷_ 114 (List._∷_ 97 (List._∷_ 109 (List._∷_ 105 (List._∷_ 100 (List._∷_ 58 (List._∷_ 58 (List._∷_ 83 (List._∷_ 116 (List._∷_ 97 (List._∷_ 116 (List._∷_ 101 List.[])))))))))))))) (Syntax.tcons (Syntax.tyInt Syntax.w32) (Syntax.tcons (Syntax.tyInt Syntax.w32) (Syntax.tcons (Syntax.tyInt Syntax.w32) (Syntax.tcons (Syntax.tyArray (Syntax.tyInt Syntax.w32) 64) Syntax.tnil))))) (Syntax.tcons (Syntax.tyInt Syntax.w64) (Syntax.tcons (Syntax.tyInt Syntax.w64) (Syntax.tcons (Syntax.tyInt Syntax.w64) (Syntax.tcons (Syntax.tyInt Syntax.w64) (Syntax.tcons (Syntax.tyInt Syntax.w64) (Syntax.tcons (Syntax.tyInt Syntax.w64) (Syntax.tcons Syntax.tyBool Syntax.tnil)))))))))) (List._∷_ (2, Rows.any-gone (Syntax.tyStruct (List._∷_ 122 (List._∷_ 111 (List._∷_ 110 (List._∷_ 101 (List._∷_ 115 (List._∷_ 58 (List._∷_ 58 (List._∷_ 115 (List._∷_ 99 (List._∷_ 97 (List._∷_ 110 (List._∷_ 58 (List._∷_ 58 (List._∷_ 76 (List._∷_ 105 (List._∷_ 110 (List._∷_ 101 List.[]))))))))))))))))) (Syntax.tcons (Syntax.tyInt Syntax.w32) (Syntax.tcons (Syntax.tyInt Syntax.w64) (Syntax.tcons (Syntax.tyInt Syntax.w64) (Syntax.tcons (Syntax.tyInt Syntax.w64) (Syntax.tcons (Syntax.tyInt Syntax.w64) Syntax.tnil))))))) (List._∷_ (3, Rows.sslice (Referent.rtF (Referent.fInt Syntax.w8)) (Syntax.tyRef (Syntax.named 0) Syntax.imm (Syntax.tyInt Syntax.w8)) 0) (List._∷_ (4, Rows.sref (Array.Array (Referent.rtF (Referent.fInt Syntax.w32)) 32772) (Syntax.tyRef (Syntax.named 1) Syntax.imm (Syntax.tyArray (Syntax.tyInt Syntax.w32) 32772)) 1) (List._∷_ (5, Rows.mref (Array.Array (Referent.rtF (Referent.fInt Syntax.w8)) 16388) (Syntax.tyRef (Syntax.named 2) Syntax.mut (Syntax.tyArray (Syntax.tyInt Syntax.w8) 16388)) 2) (List._∷_ (6, Rows.mref (Array.Array (Referent.rtF (Referent.fInt Syntax.w32)) 65540) (Syntax.tyRef (Syntax.named 3) Syntax.mut (Syntax.tyArray (Syntax.tyInt Syntax.w32) 65540)) 3) (List._∷_ (7, Rows.mref (Array.Array (Referent.rtF (Referent.fInt Syntax.w32)) 32772) (Syntax.tyRef (Syntax.named 4) Syntax.mut (Syntax.tyArray (Syntax.tyInt Syntax.w32) 32772)) 4) (List._∷_ (8, Rows.mref (Array.Array (Referent.rtF (Referent.fInt Syntax.w32)) 32772) (Syntax.tyRef (Syntax.named 5) Syntax.mut (Syntax.tyArray (Syntax.tyInt Syntax.w32) 32772)) 5) (List._∷_ (9, Rows.mref-owed (Array.Array (Referent.rtF (Referent.fInt Syntax.w32)) 262160) (Syntax.tyRef (Syntax.named 6) Syntax.mut (Syntax.tyArray (Syntax.tyInt Syntax.w32) 262160)) 6 14 (Row.lease (κs .1 .1 .1 .1 .1 .1 .0) (qs .1 .1 .1 .1 .1 .1 .0))) (List._∷_ (10, Rows.mref-owed (Array.Array (Referent.rtF (Referent.fInt Syntax.w8)) 600000) (Syntax.tyRef (Syntax.named 7) Syntax.mut (Syntax.tyArray (Syntax.tyInt Syntax.w8) 600000)) 7 15 (Row.lease (κs .1 .1 .1 .1 .1 .1 .1 .0) (qs .1 .1 .1 .1 .1 .1 .1 .0))) (List._∷_ (11, Rows.mref (Array.Array Cell.R 65540) (Syntax.tyRef (Syntax.named 8) Syntax.mut (Syntax.tyArray Cell.behind 65540)) 8) (List._∷_ (12, Rows.mref (Array.Array Cell.R 32772) (Syntax.tyRef (Syntax.named 9) Syntax.mut (Syntax.tyArray Cell.behind 32772)) 9) (List._∷_ (13, Rows.any-gone Syntax.tyBool) (List._∷_ (14, Rows.any-gone Syntax.tyBool) (List._∷_ (15, Rows.any-gone Syntax.tyBool) List.[])))))))))))))))
+        g26 = List._∷_ (0, Rows.whole (Declared.row Held.the-type)) (List._∷_ (1, Rows.any-gone (Syntax.tyStruct (List._∷_ 122 (List._∷_ 111 (List._∷_ 110 (List._∷_ 101 (List._∷_ 115 (List._∷_ 58 (List._∷_ 58 (List._∷_ 104 (List._∷_ 101 (List._∷_ 108 (List._∷_ 100 (List._∷_ 58 (List._∷_ 58 (List._∷_ 72 (List._∷_ 101 (List._∷_ 108 (List._∷_ 100 List.[]))))))))))))))))) (Syntax.tcons (Syntax.tyStruct (List._∷_ 112 (List._∷_ 121 (List._∷_ 114 (List._∷_ 97 (List._∷_ 109 (List._∷_ 105 (List._∷_ 100 (List._∷_ 58 (List._∷_ 58 (List._∷_ 83 (List._∷_ 116 (List._∷_ 97 (List._∷_ 116 (List._∷_ 101 List.[])))))))))))))) (Syntax.tcons (Syntax.tyInt Syntax.w32) (Syntax.tcons (Syntax.tyInt Syntax.w32) (Syntax.tcons (Syntax.tyInt Syntax.w32) (Syntax.tcons (Syntax.tyInt Syntax.w32) (Syntax.tcons (Syntax.tyInt Syntax.w32) (Syntax.tcons (Syntax.tyArray (Syntax.tyInt Syntax.w32) 64) Syntax.tnil))))))) (Syntax.tcons (Syntax.tyInt Syntax.w64) (Syntax.tcons (Syntax.tyInt Syntax.w64) (Syntax.tcons (Syntax.tyInt Syntax.w64) (Syntax.tcons (Syntax.tyInt Syntax.w64) (Syntax.tcons (Syntax.tyInt Syntax.w64) (Syntax.tcons (Syntax.tyInt Syntax.w64) (Syntax.tcons Syntax.tyBool Syntax.tnil)))))))))) (List._∷_ (2, Rows.any-gone (Syntax.tyStruct (List._∷_ 122 (List._∷_ 111 (List._∷_ 110 (List._∷_ 101 (List._∷_ 115 (List._∷_ 58 (List._∷_ 58 (List._∷_ 115 (List._∷_ 99 (List._∷_ 97 (List._∷_ 110 (List._∷_ 58 (List._∷_ 58 (List._∷_ 76 (List._∷_ 105 (List._∷_ 110 (List._∷_ 101 List.[]))))))))))))))))) (Syntax.tcons (Syntax.tyInt Syntax.w32) (Syntax.tcons (Syntax.tyInt Syntax.w64) (Syntax.tcons (Syntax.tyInt Syntax.w64) (Syntax.tcons (Syntax.tyInt Syntax.w64) (Syntax.tcons (Syntax.tyInt Syntax.w64) Syntax.tnil))))))) (List._∷_ (3, Rows.sslice (Referent.rtF (Referent.fInt Syntax.w8)) (Syntax.tyRef (Syntax.named 0) Syntax.imm (Syntax.tyInt Syntax.w8)) 0) (List._∷_ (4, Rows.sref (Array.Array (Referent.rtF (Referent.fInt Syntax.w32)) 32772) (Syntax.tyRef (Syntax.named 1) Syntax.imm (Syntax.tyArray (Syntax.tyInt Syntax.w32) 32772)) 1) (List._∷_ (5, Rows.mref (Array.Array (Referent.rtF (Referent.fInt Syntax.w8)) 16388) (Syntax.tyRef (Syntax.named 2) Syntax.mut (Syntax.tyArray (Syntax.tyInt Syntax.w8) 16388)) 2) (List._∷_ (6, Rows.mref (Array.Array (Referent.rtF (Referent.fInt Syntax.w32)) 65540) (Syntax.tyRef (Syntax.named 3) Syntax.mut (Syntax.tyArray (Syntax.tyInt Syntax.w32) 65540)) 3) (List._∷_ (7, Rows.mref (Array.Array (Referent.rtF (Referent.fInt Syntax.w32)) 32772) (Syntax.tyRef (Syntax.named 4) Syntax.mut (Syntax.tyArray (Syntax.tyInt Syntax.w32) 32772)) 4) (List._∷_ (8, Rows.mref (Array.Array (Referent.rtF (Referent.fInt Syntax.w32)) 32772) (Syntax.tyRef (Syntax.named 5) Syntax.mut (Syntax.tyArray (Syntax.tyInt Syntax.w32) 32772)) 5) (List._∷_ (9, Rows.mref-owed (Array.Array (Referent.rtF (Referent.fInt Syntax.w32)) 262160) (Syntax.tyRef (Syntax.named 6) Syntax.mut (Syntax.tyArray (Syntax.tyInt Syntax.w32) 262160)) 6 14 (Row.lease (κs .1 .1 .1 .1 .1 .1 .0) (qs .1 .1 .1 .1 .1 .1 .0))) (List._∷_ (10, Rows.mref-owed (Array.Array (Referent.rtF (Referent.fInt Syntax.w8)) 600000) (Syntax.tyRef (Syntax.named 7) Syntax.mut (Syntax.tyArray (Syntax.tyInt Syntax.w8) 600000)) 7 15 (Row.lease (κs .1 .1 .1 .1 .1 .1 .1 .0) (qs .1 .1 .1 .1 .1 .1 .1 .0))) (List._∷_ (11, Rows.mref (Array.Array Cell.R 65540) (Syntax.tyRef (Syntax.named 8) Syntax.mut (Syntax.tyArray Cell.behind 65540)) 8) (List._∷_ (12, Rows.mref (Array.Array Cell.R 32772) (Syntax.tyRef (Syntax.named 9) Syntax.mut (Syntax.tyArray Cell.behind 32772)) 9) (List._∷_ (13, Rows.any-gone Syntax.tyBool) (List._∷_ (14, Rows.any-gone Syntax.tyBool) (List._∷_ (15, Rows.any-gone Syntax.tyBool) List.[])))))))))))))))
 
         abbrev g28 : List.List Row.Entry
-        g28 = List._∷_ (0, Rows.whole (Declared.row Held.the-type)) (List._∷_ (1, Rows.any-gone (Syntax.tyStruct (List._∷_ 122 (List._∷_ 111 (List._∷_ 110 (List._∷_ 101 (List._∷_ 115 (List._∷_ 58 (List._∷_ 58 (List._∷_ 104 (List._∷_ 101 (List._∷_ 108 (List._∷_ 100 (List._∷_ 58 (List._∷_ 58 (List._∷_ 72 (List._∷_ 101 (List._∷_ 108 (List._∷_ 100 List.[]))))))))))))))))) (Syntax.tcons (Syntax.tyStruct (List._∷_ 112 (List._∷_ 121 (List._∷_ 114 (List._∷_ 97 (List._∷_ 109 (List._∷_ 105 (List._∷_ 100 (List._∷_ 58 (List._∷_ 58 (List._∷_ 83 (List._∷_ 116 (List._∷_ 97 (List._∷_ 116 (List._∷_ 101 List.[])))))))))))))) (Syntax.tcons (Syntax.tyInt Syntax.w32) (Syntax.tcons (Syntax.tyInt Syntax.w32) (Syntax.tcons (Syntax.tyInt Syntax.w32) (Syntax.tcons (Syntax.tyArray (Syntax.tyInt Syntax.w32) 64) Syntax.tnil))))) (Syntax.tcons (Syntax.tyInt Syntax.w64) (Syntax.tcons (Syntax.tyInt Syntax.w64) (Syntax.tcons (Syntax.tyInt Syntax.w64) (Syntax.tcons (Syntax.tyInt Syntax.w64) (Syntax.tcons (Syntax.tyInt Syntax.w64) (Syntax.tcons (Syntax.tyInt Syntax.w64) (Syntax.tcons Syntax.tyBool Syntax.tnil)))))))))) (List._∷_ (2, Rows.any-gone (Syntax.tyStruct (List._∷_ 122 (List._∷_ 111 (List._∷_ 110 (List._∷_ 101 (List._∷_ 115 (List._∷_ 58 (List._∷_ 58 (List._∷_ 115 (List._∷_ 99 (List._∷_ 97 (List._∷_ 110 (List._∷_ 58 (List._∷_ 58 (List._∷_ 76 (List._∷_ 105 (List._∷_ 110 (List._∷_ 101 List.[]))))))))))))))))) (Syntax.tcons (Syntax.tyInt Syntax.w32) (Syntax.tcons (Syntax.tyInt Syntax.w64) (Syntax.tcons (Syntax.tyInt Syntax.w64) (Syntax.tcons (Syntax.tyInt Syntax.w64) (Syntax.tcons (Syntax.tyInt Syntax.w64) Syntax.tnil))))))) (List._∷_ (3, Rows.sslice (Referent.rtF (Referent.fInt Syntax.w8)) (Syntax.tyRef (Syntax.named 0) Syntax.imm (Syntax.tyInt Syntax.w8)) 0) (List._∷_ (4, Rows.sref (Array.Array (Referent.rtF (Referent.fInt Syntax.w32)) 32772) (Syntax.tyRef (Syntax.named 1) Syntax.imm (Syntax.tyArray (Syntax.tyInt Syntax.w32) 32772)) 1) (List._∷_ (5, Rows.mref (Array.Array (Referent.rtF (Referent.fInt Syntax.w8)) 16388) (Syntax.tyRef (Syntax.named 2) Syntax.mut (Syntax.tyArray (Syntax.tyInt Syntax.w8) 16388)) 2) (List._∷_ (6, Rows.mref (Array.Array (Referent.rtF (Referent.fInt Syntax.w32)) 65540) (Syntax.tyRef (Syntax.named 3) Syntax.mut (Syntax.tyArray (Syntax.tyInt Syntax.w32) 65540)) 3) (List._∷_ (7, Rows.mref (Array.Array (Referent.rtF (Referent.fInt Syntax.w32)) 32772) (Syntax.tyRef (Syntax.named 4) Syntax.mut (Syntax.tyArray (Syntax.tyInt Syntax.w32) 32772)) 4) (List._∷_ (8, Rows.mref (Array.Array (Referent.rtF (Referent.fInt Syntax.w32)) 32772) (Syntax.tyRef (Syntax.named 5) Syntax.mut (Syntax.tyArray (Syntax.tyInt Syntax.w32) 32772)) 5) (List._∷_ (9, Rows.mref (Array.Array (Referent.rtF (Referent.fInt Syntax.w32)) 262160) (Syntax.tyRef (Syntax.named 6) Syntax.mut (Syntax.tyArray (Syntax.tyInt Syntax.w32) 262160)) 6) (List._∷_ (10, Rows.mref-owed (Array.Array (Referent.rtF (Referent.fInt Syntax.w8)) 600000) (Syntax.tyRef (Syntax.named 7) Syntax.mut (Syntax.tyArray (Syntax.tyInt Syntax.w8) 600000)) 7 15 (Row.lease (κs .1 .1 .1 .1 .1 .1 .1 .0) (qs .1 .1 .1 .1 .1 .1 .1 .0))) (List._∷_ (11, Rows.mref (Array.Array Cell.R 65540) (Syntax.tyRef (Syntax.named 8) Syntax.mut (Syntax.tyArray Cell.behind 65540)) 8) (List._∷_ (12, Rows.mref (Array.Array Cell.R 32772) (Syntax.tyRef (Syntax.named 9) Syntax.mut (Syntax.tyArray Cell.behind 32772)) 9) (List._∷_ (13, Rows.any-gone Syntax.tyBool) (List._∷_ (14, Rows.any-gone Syntax.tyBool) (List._∷_ (15, Rows.any-gone Syntax.tyBool) List.[])))))))))))))))
+        g28 = List._∷_ (0, Rows.whole (Declared.row Held.the-type)) (List._∷_ (1, Rows.any-gone (Syntax.tyStruct (List._∷_ 122 (List._∷_ 111 (List._∷_ 110 (List._∷_ 101 (List._∷_ 115 (List._∷_ 58 (List._∷_ 58 (List._∷_ 104 (List._∷_ 101 (List._∷_ 108 (List._∷_ 100 (List._∷_ 58 (List._∷_ 58 (List._∷_ 72 (List._∷_ 101 (List._∷_ 108 (List._∷_ 100 List.[]))))))))))))))))) (Syntax.tcons (Syntax.tyStruct (List._∷_ 112 (List._∷_ 121 (List._∷_ 114 (List._∷_ 97 (List._∷_ 109 (List._∷_ 105 (List._∷_ 100 (List._∷_ 58 (List._∷_ 58 (List._∷_ 83 (List._∷_ 116 (List._∷_ 97 (List._∷_ 116 (List._∷_ 101 List.[])))))))))))))) (Syntax.tcons (Syntax.tyInt Syntax.w32) (Syntax.tcons (Syntax.tyInt Syntax.w32) (Syntax.tcons (Syntax.tyInt Syntax.w32) (Syntax.tcons (Syntax.tyInt Syntax.w32) (Syntax.tcons (Syntax.tyInt Syntax.w32) (Syntax.tcons (Syntax.tyArray (Syntax.tyInt Syntax.w32) 64) Syntax.tnil))))))) (Syntax.tcons (Syntax.tyInt Syntax.w64) (Syntax.tcons (Syntax.tyInt Syntax.w64) (Syntax.tcons (Syntax.tyInt Syntax.w64) (Syntax.tcons (Syntax.tyInt Syntax.w64) (Syntax.tcons (Syntax.tyInt Syntax.w64) (Syntax.tcons (Syntax.tyInt Syntax.w64) (Syntax.tcons Syntax.tyBool Syntax.tnil)))))))))) (List._∷_ (2, Rows.any-gone (Syntax.tyStruct (List._∷_ 122 (List._∷_ 111 (List._∷_ 110 (List._∷_ 101 (List._∷_ 115 (List._∷_ 58 (List._∷_ 58 (List._∷_ 115 (List._∷_ 99 (List._∷_ 97 (List._∷_ 110 (List._∷_ 58 (List._∷_ 58 (List._∷_ 76 (List._∷_ 105 (List._∷_ 110 (List._∷_ 101 List.[]))))))))))))))))) (Syntax.tcons (Syntax.tyInt Syntax.w32) (Syntax.tcons (Syntax.tyInt Syntax.w64) (Syntax.tcons (Syntax.tyInt Syntax.w64) (Syntax.tcons (Syntax.tyInt Syntax.w64) (Syntax.tcons (Syntax.tyInt Syntax.w64) Syntax.tnil))))))) (List._∷_ (3, Rows.sslice (Referent.rtF (Referent.fInt Syntax.w8)) (Syntax.tyRef (Syntax.named 0) Syntax.imm (Syntax.tyInt Syntax.w8)) 0) (List._∷_ (4, Rows.sref (Array.Array (Referent.rtF (Referent.fInt Syntax.w32)) 32772) (Syntax.tyRef (Syntax.named 1) Syntax.imm (Syntax.tyArray (Syntax.tyInt Syntax.w32) 32772)) 1) (List._∷_ (5, Rows.mref (Array.Array (Referent.rtF (Referent.fInt Syntax.w8)) 16388) (Syntax.tyRef (Syntax.named 2) Syntax.mut (Syntax.tyArray (Syntax.tyInt Syntax.w8) 16388)) 2) (List._∷_ (6, Rows.mref (Array.Array (Referent.rtF (Referent.fInt Syntax.w32)) 65540) (Syntax.tyRef (Syntax.named 3) Syntax.mut (Syntax.tyArray (Syntax.tyInt Syntax.w32) 65540)) 3) (List._∷_ (7, Rows.mref (Array.Array (Referent.rtF (Referent.fInt Syntax.w32)) 32772) (Syntax.tyRef (Syntax.named 4) Syntax.mut (Syntax.tyArray (Syntax.tyInt Syntax.w32) 32772)) 4) (List._∷_ (8, Rows.mref (Array.Array (Referent.rtF (Referent.fInt Syntax.w32)) 32772) (Syntax.tyRef (Syntax.named 5) Syntax.mut (Syntax.tyArray (Syntax.tyInt Syntax.w32) 32772)) 5) (List._∷_ (9, Rows.mref (Array.Array (Referent.rtF (Referent.fInt Syntax.w32)) 262160) (Syntax.tyRef (Syntax.named 6) Syntax.mut (Syntax.tyArray (Syntax.tyInt Syntax.w32) 262160)) 6) (List._∷_ (10, Rows.mref-owed (Array.Array (Referent.rtF (Referent.fInt Syntax.w8)) 600000) (Syntax.tyRef (Syntax.named 7) Syntax.mut (Syntax.tyArray (Syntax.tyInt Syntax.w8) 600000)) 7 15 (Row.lease (κs .1 .1 .1 .1 .1 .1 .1 .0) (qs .1 .1 .1 .1 .1 .1 .1 .0))) (List._∷_ (11, Rows.mref (Array.Array Cell.R 65540) (Syntax.tyRef (Syntax.named 8) Syntax.mut (Syntax.tyArray Cell.behind 65540)) 8) (List._∷_ (12, Rows.mref (Array.Array Cell.R 32772) (Syntax.tyRef (Syntax.named 9) Syntax.mut (Syntax.tyArray Cell.behind 32772)) 9) (List._∷_ (13, Rows.any-gone Syntax.tyBool) (List._∷_ (14, Rows.any-gone Syntax.tyBool) (List._∷_ (15, Rows.any-gone Syntax.tyBool) List.[])))))))))))))))
 
         abbrev g30 : List.List Row.Entry
-        g30 = List._∷_ (0, Rows.any-gone (Syntax.tyStruct (List._∷_ 122 (List._∷_ 111 (List._∷_ 110 (List._∷_ 101 (List._∷_ 115 (List._∷_ 58 (List._∷_ 58 (List._∷_ 104 (List._∷_ 101 (List._∷_ 108 (List._∷_ 100 (List._∷_ 58 (List._∷_ 58 (List._∷_ 72 (List._∷_ 101 (List._∷_ 108 (List._∷_ 100 List.[]))))))))))))))))) (Syntax.tcons (Syntax.tyStruct (List._∷_ 112 (List._∷_ 121 (List._∷_ 114 (List._∷_ 97 (List._∷_ 109 (List._∷_ 105 (List._∷_ 100 (List._∷_ 58 (List._∷_ 58 (List._∷_ 83 (List._∷_ 116 (List._∷_ 97 (List._∷_ 116 (List._∷_ 101 List.[])))))))))))))) (Syntax.tcons (Syntax.tyInt Syntax.w32) (Syntax.tcons (Syntax.tyInt Syntax.w32) (Syntax.tcons (Syntax.tyInt Syntax.w32) (Syntax.tcons (Syntax.tyArray (Syntax.tyInt Syntax.w32) 64) Syntax.tnil))))) (Syntax.tcons (Syntax.tyInt Syntax.w64) (Syntax.tcons (Syntax.tyInt Syntax.w64) (Syntax.tcons (Syntax.tyInt Syntax.w64) (Syntax.tcons (Syntax.tyInt Syntax.w64) (Syntax.tcons (Syntax.tyInt Syntax.w64) (Syntax.tcons (Syntax.tyInt Syntax.w64) (Syntax.tcons Syntax.tyBool Syntax.tnil)))))))))) (List._∷_ (1, Rows.whole (Declared.row Held.the-type)) (List._∷_ (2, Rows.whole (Declared.row Line.the-type)) (List._∷_ (3, Rows.sslice (Referent.rtF (Referent.fInt Syntax.w8)) (Syntax.tyRef (Syntax.named 0) Syntax.imm (Syntax.tyInt Syntax.w8)) 0) (List._∷_ (4, Rows.sref (Array.Array (Referent.rtF (Referent.fInt Syntax.w32)) 32772) (Syntax.tyRef (Syntax.named 1) Syntax.imm (Syntax.tyArray (Syntax.tyInt Syntax.w32) 32772)) 1) (List._∷_ (5, Rows.mref (Array.Array (Referent.rtF (Referent.fInt Syntax.w8)) 16388) (Syntax.tyRef (Syntax.named 2) Syntax.mut (Syntax.tyArray (Syntax.tyInt Syntax.w8) 16388)) 2) (List._∷_ (6, Rows.mref (Array.Array (Referent.rtF (Referent.fInt Syntax.w32)) 65540) (Syntax.tyRef (Syntax.named 3) Syntax.mut (Syntax.tyArray (Syntax.tyInt Syntax.w32) 65540)) 3) (List._∷_ (7, Rows.mref (Array.Array (Referent.rtF (Referent.fInt Syntax.w32)) 32772) (Syntax.tyRef (Syntax.named 4) Syntax.mut (Syntax.tyArray (Syntax.tyInt Syntax.w32) 32772)) 4) (List._∷_ (8, Rows.mref (Array.Array (Referent.rtF (Referent.fInt Syntax.w32)) 32772) (Syntax.tyRef (Syntax.named 5) Syntax.mut (Syntax.tyArray (Syntax.tyInt Syntax.w32) 32772)) 5) (List._∷_ (9, Rows.mref (Array.Array (Referent.rtF (Referent.fInt Syntax.w32)) 262160) (Syntax.tyRef (Syntax.named 6) Syntax.mut (Syntax.tyArray (Syntax.tyInt Syntax.w32) 262160)) 6) (List._∷_ (10, Rows.mref (Array.Array (Referent.rtF (Referent.fInt Syntax.w8)) 600000) (Syntax.tyRef (Syntax.named 7) Syntax.mut (Syntax.tyArray (Syntax.tyInt Syntax.w8) 600000)) 7) (List._∷_ (11, Frozen.held (Frozen.fz-open Syntax.erased 8 (κs .1 .1 .1 .1 .1 .1 .1 .1 .0) (Row.lease (κs .1 .1 .1 .1 .1 .1 .1 .1 .0) (qs .1 .1 .1 .1 .1 .1 .1 .1 .0)) (AsSlice.fz-lent-sl Cell.R 65540 16))) (List._∷_ (12, Rows.mref (Array.Array Cell.R 32772) (Syntax.tyRef (Syntax.named 9) Syntax.mut (Syntax.tyArray Cell.behind 32772)) 9) (List._∷_ (13, Rows.any-gone Syntax.tyBool) (List._∷_ (14, Rows.any-gone Syntax.tyBool) (List._∷_ (15, Rows.any-gone Syntax.tyBool) List.[])))))))))))))))
+        g30 = List._∷_ (0, Rows.any-gone (Syntax.tyStruct (List._∷_ 122 (List._∷_ 111 (List._∷_ 110 (List._∷_ 101 (List._∷_ 115 (List._∷_ 58 (List._∷_ 58 (List._∷_ 104 (List._∷_ 101 (List._∷_ 108 (List._∷_ 100 (List._∷_ 58 (List._∷_ 58 (List._∷_ 72 (List._∷_ 101 (List._∷_ 108 (List._∷_ 100 List.[]))))))))))))))))) (Syntax.tcons (Syntax.tyStruct (List._∷_ 112 (List._∷_ 121 (List._∷_ 114 (List._∷_ 97 (List._∷_ 109 (List._∷_ 105 (List._∷_ 100 (List._∷_ 58 (List._∷_ 58 (List._∷_ 83 (List._∷_ 116 (List._∷_ 97 (List._∷_ 116 (List._∷_ 101 List.[])))))))))))))) (Syntax.tcons (Syntax.tyInt Syntax.w32) (Syntax.tcons (Syntax.tyInt Syntax.w32) (Syntax.tcons (Syntax.tyInt Syntax.w32) (Syntax.tcons (Syntax.tyInt Syntax.w32) (Syntax.tcons (Syntax.tyInt Syntax.w32) (Syntax.tcons (Syntax.tyArray (Syntax.tyInt Syntax.w32) 64) Syntax.tnil))))))) (Syntax.tcons (Syntax.tyInt Syntax.w64) (Syntax.tcons (Syntax.tyInt Syntax.w64) (Syntax.tcons (Syntax.tyInt Syntax.w64) (Syntax.tcons (Syntax.tyInt Syntax.w64) (Syntax.tcons (Syntax.tyInt Syntax.w64) (Syntax.tcons (Syntax.tyInt Syntax.w64) (Syntax.tcons Syntax.tyBool Syntax.tnil)))))))))) (List._∷_ (1, Rows.whole (Declared.row Held.the-type)) (List._∷_ (2, Rows.whole (Declared.row Line.the-type)) (List._∷_ (3, Rows.sslice (Referent.rtF (Referent.fInt Syntax.w8)) (Syntax.tyRef (Syntax.named 0) Syntax.imm (Syntax.tyInt Syntax.w8)) 0) (List._∷_ (4, Rows.sref (Array.Array (Referent.rtF (Referent.fInt Syntax.w32)) 32772) (Syntax.tyRef (Syntax.named 1) Syntax.imm (Syntax.tyArray (Syntax.tyInt Syntax.w32) 32772)) 1) (List._∷_ (5, Rows.mref (Array.Array (Referent.rtF (Referent.fInt Syntax.w8)) 16388) (Syntax.tyRef (Syntax.named 2) Syntax.mut (Syntax.tyArray (Syntax.tyInt Syntax.w8) 16388)) 2) (List._∷_ (6, Rows.mref (Array.Array (Referent.rtF (Referent.fInt Syntax.w32)) 65540) (Syntax.tyRef (Syntax.named 3) Syntax.mut (Syntax.tyArray (Syntax.tyInt Syntax.w32) 65540)) 3) (List._∷_ (7, Rows.mref (Array.Array (Referent.rtF (Referent.fInt Syntax.w32)) 32772) (Syntax.tyRef (Syntax.named 4) Syntax.mut (Syntax.tyArray (Syntax.tyInt Syntax.w32) 32772)) 4) (List._∷_ (8, Rows.mref (Array.Array (Referent.rtF (Referent.fInt Syntax.w32)) 32772) (Syntax.tyRef (Syntax.named 5) Syntax.mut (Syntax.tyArray (Syntax.tyInt Syntax.w32) 32772)) 5) (List._∷_ (9, Rows.mref (Array.Array (Referent.rtF (Referent.fInt Syntax.w32)) 262160) (Syntax.tyRef (Syntax.named 6) Syntax.mut (Syntax.tyArray (Syntax.tyInt Syntax.w32) 262160)) 6) (List._∷_ (10, Rows.mref (Array.Array (Referent.rtF (Referent.fInt Syntax.w8)) 600000) (Syntax.tyRef (Syntax.named 7) Syntax.mut (Syntax.tyArray (Syntax.tyInt Syntax.w8) 600000)) 7) (List._∷_ (11, Frozen.held (Frozen.fz-open Syntax.erased 8 (κs .1 .1 .1 .1 .1 .1 .1 .1 .0) (Row.lease (κs .1 .1 .1 .1 .1 .1 .1 .1 .0) (qs .1 .1 .1 .1 .1 .1 .1 .1 .0)) (AsSlice.fz-lent-sl Cell.R 65540 16))) (List._∷_ (12, Rows.mref (Array.Array Cell.R 32772) (Syntax.tyRef (Syntax.named 9) Syntax.mut (Syntax.tyArray Cell.behind 32772)) 9) (List._∷_ (13, Rows.any-gone Syntax.tyBool) (List._∷_ (14, Rows.any-gone Syntax.tyBool) (List._∷_ (15, Rows.any-gone Syntax.tyBool) List.[])))))))))))))))
 
         abbrev g33 : List.List Row.Entry
-        g33 = List._∷_ (0, Rows.any-gone (Syntax.tyStruct (List._∷_ 122 (List._∷_ 111 (List._∷_ 110 (List._∷_ 101 (List._∷_ 115 (List._∷_ 58 (List._∷_ 58 (List._∷_ 104 (List._∷_ 101 (List._∷_ 108 (List._∷_ 100 (List._∷_ 58 (List._∷_ 58 (List._∷_ 72 (List._∷_ 101 (List._∷_ 108 (List._∷_ 100 List.[]))))))))))))))))) (Syntax.tcons (Syntax.tyStruct (List._∷_ 112 (List._∷_ 121 (List._∷_ 114 (List._∷_ 97 (List._∷_ 109 (List._∷_ 105 (List._∷_ 100 (List._∷_ 58 (List._∷_ 58 (List._∷_ 83 (List._∷_ 116 (List._∷_ 97 (List._∷_ 116 (List._∷_ 101 List.[])))))))))))))) (Syntax.tcons (Syntax.tyInt Syntax.w32) (Syntax.tcons (Syntax.tyInt Syntax.w32) (Syntax.tcons (Syntax.tyInt Syntax.w32) (Syntax.tcons (Syntax.tyArray (Syntax.tyInt Syntax.w32) 64) Syntax.tnil))))) (Syntax.tcons (Syntax.tyInt Syntax.w64) (Syntax.tcons (Syntax.tyInt Syntax.w64) (Syntax.tcons (Syntax.tyInt Syntax.w64) (Syntax.tcons (Syntax.tyInt Syntax.w64) (Syntax.tcons (Syntax.tyInt Syntax.w64) (Syntax.tcons (Syntax.tyInt Syntax.w64) (Syntax.tcons Syntax.tyBool Syntax.tnil)))))))))) (List._∷_ (1, Rows.whole (Declared.row Held.the-type)) (List._∷_ (2, Rows.whole (Declared.row Line.the-type)) (List._∷_ (3, Rows.sslice (Referent.rtF (Referent.fInt Syntax.w8)) (Syntax.tyRef (Syntax.named 0) Syntax.imm (Syntax.tyInt Syntax.w8)) 0) (List._∷_ (4, Rows.sref (Array.Array (Referent.rtF (Referent.fInt Syntax.w32)) 32772) (Syntax.tyRef (Syntax.named 1) Syntax.imm (Syntax.tyArray (Syntax.tyInt Syntax.w32) 32772)) 1) (List._∷_ (5, Rows.mref (Array.Array (Referent.rtF (Referent.fInt Syntax.w8)) 16388) (Syntax.tyRef (Syntax.named 2) Syntax.mut (Syntax.tyArray (Syntax.tyInt Syntax.w8) 16388)) 2) (List._∷_ (6, Rows.mref (Array.Array (Referent.rtF (Referent.fInt Syntax.w32)) 65540) (Syntax.tyRef (Syntax.named 3) Syntax.mut (Syntax.tyArray (Syntax.tyInt Syntax.w32) 65540)) 3) (List._∷_ (7, Rows.mref (Array.Array (Referent.rtF (Referent.fInt Syntax.w32)) 32772) (Syntax.tyRef (Syntax.named 4) Syntax.mut (Syntax.tyArray (Syntax.tyInt Syntax.w32) 32772)) 4) (List._∷_ (8, Rows.mref (Array.Array (Referent.rtF (Referent.fInt Syntax.w32)) 32772) (Syntax.tyRef (Syntax.named 5) Syntax.mut (Syntax.tyArray (Syntax.tyInt Syntax.w32) 32772)) 5) (List._∷_ (9, Rows.mref (Array.Array (Referent.rtF (Referent.fInt Syntax.w32)) 262160) (Syntax.tyRef (Syntax.named 6) Syntax.mut (Syntax.tyArray (Syntax.tyInt Syntax.w32) 262160)) 6) (List._∷_ (10, Rows.mref (Array.Array (Referent.rtF (Referent.fInt Syntax.w8)) 600000) (Syntax.tyRef (Syntax.named 7) Syntax.mut (Syntax.tyArray (Syntax.tyInt Syntax.w8) 600000)) 7) (List._∷_ (11, Frozen.held (Frozen.fz-open Syntax.erased 8 (κs .1 .1 .1 .1 .1 .1 .1 .1 .0) (Row.lease (κs .1 .1 .1 .1 .1 .1 .1 .1 .0) (qs .1 .1 .1 .1 .1 .1 .1 .1 .0)) (AsSlice.fz-lent-sl Cell.R 65540 16))) (List._∷_ (12, Rows.mref (Array.Array Cell.R 32772) (Syntax.tyRef (Syntax.named 9) Syntax.mut (Syntax.tyArray Cell.behind 32772)) 9) (List._∷_ (13, Rows.sc-here Row.sBool) (List._∷_ (14, Rows.any-gone Syntax.tyBool) (List._∷_ (15, Rows.any-gone Syntax.tyBool) List.[])))))))))))))))
+        g33 = List._∷_ (0, Rows.any-gone (Syntax.tyStruct (List._∷_ 122 (List._∷_ 111 (List._∷_ 110 (List._∷_ 101 (List._∷_ 115 (List._∷_ 58 (List._∷_ 58 (List._∷_ 104 (List._∷_ 101 (List._∷_ 108 (List._∷_ 100 (List._∷_ 58 (List._∷_ 58 (List._∷_ 72 (List._∷_ 101 (List._∷_ 108 (List._∷_ 100 List.[]))))))))))))))))) (Syntax.tcons (Syntax.tyStruct (List._∷_ 112 (List._∷_ 121 (List._∷_ 114 (List._∷_ 97 (List._∷_ 109 (List._∷_ 105 (List._∷_ 100 (List._∷_ 58 (List._∷_ 58 (List._∷_ 83 (List._∷_ 116 (List._∷_ 97 (List._∷_ 116 (List._∷_ 101 List.[])))))))))))))) (Syntax.tcons (Syntax.tyInt Syntax.w32) (Syntax.tcons (Syntax.tyInt Syntax.w32) (Syntax.tcons (Syntax.tyInt Syntax.w32) (Syntax.tcons (Syntax.tyInt Syntax.w32) (Syntax.tcons (Syntax.tyInt Syntax.w32) (Syntax.tcons (Syntax.tyArray (Syntax.tyInt Syntax.w32) 64) Syntax.tnil))))))) (Syntax.tcons (Syntax.tyInt Syntax.w64) (Syntax.tcons (Syntax.tyInt Syntax.w64) (Syntax.tcons (Syntax.tyInt Syntax.w64) (Syntax.tcons (Syntax.tyInt Syntax.w64) (Syntax.tcons (Syntax.tyInt Syntax.w64) (Syntax.tcons (Syntax.tyInt Syntax.w64) (Syntax.tcons Syntax.tyBool Syntax.tnil)))))))))) (List._∷_ (1, Rows.whole (Declared.row Held.the-type)) (List._∷_ (2, Rows.whole (Declared.row Line.the-type)) (List._∷_ (3, Rows.sslice (Referent.rtF (Referent.fInt Syntax.w8)) (Syntax.tyRef (Syntax.named 0) Syntax.imm (Syntax.tyInt Syntax.w8)) 0) (List._∷_ (4, Rows.sref (Array.Array (Referent.rtF (Referent.fInt Syntax.w32)) 32772) (Syntax.tyRef (Syntax.named 1) Syntax.imm (Syntax.tyArray (Syntax.tyInt Syntax.w32) 32772)) 1) (List._∷_ (5, Rows.mref (Array.Array (Referent.rtF (Referent.fInt Syntax.w8)) 16388) (Syntax.tyRef (Syntax.named 2) Syntax.mut (Syntax.tyArray (Syntax.tyInt Syntax.w8) 16388)) 2) (List._∷_ (6, Rows.mref (Array.Array (Referent.rtF (Referent.fInt Syntax.w32)) 65540) (Syntax.tyRef (Syntax.named 3) Syntax.mut (Syntax.tyArray (Syntax.tyInt Syntax.w32) 65540)) 3) (List._∷_ (7, Rows.mref (Array.Array (Referent.rtF (Referent.fInt Syntax.w32)) 32772) (Syntax.tyRef (Syntax.named 4) Syntax.mut (Syntax.tyArray (Syntax.tyInt Syntax.w32) 32772)) 4) (List._∷_ (8, Rows.mref (Array.Array (Referent.rtF (Referent.fInt Syntax.w32)) 32772) (Syntax.tyRef (Syntax.named 5) Syntax.mut (Syntax.tyArray (Syntax.tyInt Syntax.w32) 32772)) 5) (List._∷_ (9, Rows.mref (Array.Array (Referent.rtF (Referent.fInt Syntax.w32)) 262160) (Syntax.tyRef (Syntax.named 6) Syntax.mut (Syntax.tyArray (Syntax.tyInt Syntax.w32) 262160)) 6) (List._∷_ (10, Rows.mref (Array.Array (Referent.rtF (Referent.fInt Syntax.w8)) 600000) (Syntax.tyRef (Syntax.named 7) Syntax.mut (Syntax.tyArray (Syntax.tyInt Syntax.w8) 600000)) 7) (List._∷_ (11, Frozen.held (Frozen.fz-open Syntax.erased 8 (κs .1 .1 .1 .1 .1 .1 .1 .1 .0) (Row.lease (κs .1 .1 .1 .1 .1 .1 .1 .1 .0) (qs .1 .1 .1 .1 .1 .1 .1 .1 .0)) (AsSlice.fz-lent-sl Cell.R 65540 16))) (List._∷_ (12, Rows.mref (Array.Array Cell.R 32772) (Syntax.tyRef (Syntax.named 9) Syntax.mut (Syntax.tyArray Cell.behind 32772)) 9) (List._∷_ (13, Rows.sc-here Row.sBool) (List._∷_ (14, Rows.any-gone Syntax.tyBool) (List._∷_ (15, Rows.any-gone Syntax.tyBool) List.[])))))))))))))))
 
         abbrev g35 : List.List Row.Entry
-        g35 = List._∷_ (0, Rows.any-gone (Syntax.tyStruct (List._∷_ 122 (List._∷_ 111 (List._∷_ 110 (List._∷_ 101 (List._∷_ 115 (List._∷_ 58 (List._∷_ 58 (List._∷_ 104 (List._∷_ 101 (List._∷_ 108 (List._∷_ 100 (List._∷_ 58 (List._∷_ 58 (List._∷_ 72 (List._∷_ 101 (List._∷_ 108 (List._∷_ 100 List.[]))))))))))))))))) (Syntax.tcons (Syntax.tyStruct (List._∷_ 112 (List._∷_ 121 (List._∷_ 114 (List._∷_ 97 (List._∷_ 109 (List._∷_ 105 (List._∷_ 100 (List._∷_ 58 (List._∷_ 58 (List._∷_ 83 (List._∷_ 116 (List._∷_ 97 (List._∷_ 116 (List._∷_ 101 List.[])))))))))))))) (Syntax.tcons (Syntax.tyInt Syntax.w32) (Syntax.tcons (Syntax.tyInt Syntax.w32) (Syntax.tcons (Syntax.tyInt Syntax.w32) (Syntax.tcons (Syntax.tyArray (Syntax.tyInt Syntax.w32) 64) Syntax.tnil))))) (Syntax.tcons (Syntax.tyInt Syntax.w64) (Syntax.tcons (Syntax.tyInt Syntax.w64) (Syntax.tcons (Syntax.tyInt Syntax.w64) (Syntax.tcons (Syntax.tyInt Syntax.w64) (Syntax.tcons (Syntax.tyInt Syntax.w64) (Syntax.tcons (Syntax.tyInt Syntax.w64) (Syntax.tcons Syntax.tyBool Syntax.tnil)))))))))) (List._∷_ (1, Rows.whole (Declared.row Held.the-type)) (List._∷_ (2, Rows.any-gone (Syntax.tyStruct (List._∷_ 122 (List._∷_ 111 (List._∷_ 110 (List._∷_ 101 (List._∷_ 115 (List._∷_ 58 (List._∷_ 58 (List._∷_ 115 (List._∷_ 99 (List._∷_ 97 (List._∷_ 110 (List._∷_ 58 (List._∷_ 58 (List._∷_ 76 (List._∷_ 105 (List._∷_ 110 (List._∷_ 101 List.[]))))))))))))))))) (Syntax.tcons (Syntax.tyInt Syntax.w32) (Syntax.tcons (Syntax.tyInt Syntax.w64) (Syntax.tcons (Syntax.tyInt Syntax.w64) (Syntax.tcons (Syntax.tyInt Syntax.w64) (Syntax.tcons (Syntax.tyInt Syntax.w64) Syntax.tnil))))))) (List._∷_ (3, Rows.sslice (Referent.rtF (Referent.fInt Syntax.w8)) (Syntax.tyRef (Syntax.named 0) Syntax.imm (Syntax.tyInt Syntax.w8)) 0) (List._∷_ (4, Rows.sref (Array.Array (Referent.rtF (Referent.fInt Syntax.w32)) 32772) (Syntax.tyRef (Syntax.named 1) Syntax.imm (Syntax.tyArray (Syntax.tyInt Syntax.w32) 32772)) 1) (List._∷_ (5, Rows.mref (Array.Array (Referent.rtF (Referent.fInt Syntax.w8)) 16388) (Syntax.tyRef (Syntax.named 2) Syntax.mut (Syntax.tyArray (Syntax.tyInt Syntax.w8) 16388)) 2) (List._∷_ (6, Rows.mref (Array.Array (Referent.rtF (Referent.fInt Syntax.w32)) 65540) (Syntax.tyRef (Syntax.named 3) Syntax.mut (Syntax.tyArray (Syntax.tyInt Syntax.w32) 65540)) 3) (List._∷_ (7, Rows.mref (Array.Array (Referent.rtF (Referent.fInt Syntax.w32)) 32772) (Syntax.tyRef (Syntax.named 4) Syntax.mut (Syntax.tyArray (Syntax.tyInt Syntax.w32) 32772)) 4) (List._∷_ (8, Rows.mref (Array.Array (Referent.rtF (Referent.fInt Syntax.w32)) 32772) (Syntax.tyRef (Syntax.named 5) Syntax.mut (Syntax.tyArray (Syntax.tyInt Syntax.w32) 32772)) 5) (List._∷_ (9, Rows.mref (Array.Array (Referent.rtF (Referent.fInt Syntax.w32)) 262160) (Syntax.tyRef (Syntax.named 6) Syntax.mut (Syntax.tyArray (Syntax.tyInt Syntax.w32) 262160)) 6) (List._∷_ (10, Rows.mref (Array.Array (Referent.rtF (Referent.fInt Syntax.w8)) 600000) (Syntax.tyRef (Syntax.named 7) Syntax.mut (Syntax.tyArray (Syntax.tyInt Syntax.w8) 600000)) 7) (List._∷_ (11, Frozen.held (Frozen.fz-open Syntax.erased 8 (κs .1 .1 .1 .1 .1 .1 .1 .1 .0) (Row.lease (κs .1 .1 .1 .1 .1 .1 .1 .1 .0) (qs .1 .1 .1 .1 .1 .1 .1 .1 .0)) (AsSlice.fz-lent-sl Cell.R 65540 16))) (List._∷_ (12, Rows.mref (Array.Array Cell.R 32772) (Syntax.tyRef (Syntax.named 9) Syntax.mut (Syntax.tyArray Cell.behind 32772)) 9) (List._∷_ (13, Rows.sc-here Row.sBool) (List._∷_ (14, Rows.any-gone Syntax.tyBool) (List._∷_ (15, Rows.any-gone Syntax.tyBool) List.[])))))))))))))))
+        g35 = List._∷_ (0, Rows.any-gone (Syntax.tyStruct (List._∷_ 122 (List._∷_ 111 (List._∷_ 110 (List._∷_ 101 (List._∷_ 115 (List._∷_ 58 (List._∷_ 58 (List._∷_ 104 (List._∷_ 101 (List._∷_ 108 (List._∷_ 100 (List._∷_ 58 (List._∷_ 58 (List._∷_ 72 (List._∷_ 101 (List._∷_ 108 (List._∷_ 100 List.[]))))))))))))))))) (Syntax.tcons (Syntax.tyStruct (List._∷_ 112 (List._∷_ 121 (List._∷_ 114 (List._∷_ 97 (List._∷_ 109 (List._∷_ 105 (List._∷_ 100 (List._∷_ 58 (List._∷_ 58 (List._∷_ 83 (List._∷_ 116 (List._∷_ 97 (List._∷_ 116 (List._∷_ 101 List.[])))))))))))))) (Syntax.tcons (Syntax.tyInt Syntax.w32) (Syntax.tcons (Syntax.tyInt Syntax.w32) (Syntax.tcons (Syntax.tyInt Syntax.w32) (Syntax.tcons (Syntax.tyInt Syntax.w32) (Syntax.tcons (Syntax.tyInt Syntax.w32) (Syntax.tcons (Syntax.tyArray (Syntax.tyInt Syntax.w32) 64) Syntax.tnil))))))) (Syntax.tcons (Syntax.tyInt Syntax.w64) (Syntax.tcons (Syntax.tyInt Syntax.w64) (Syntax.tcons (Syntax.tyInt Syntax.w64) (Syntax.tcons (Syntax.tyInt Syntax.w64) (Syntax.tcons (Syntax.tyInt Syntax.w64) (Syntax.tcons (Syntax.tyInt Syntax.w64) (Syntax.tcons Syntax.tyBool Syntax.tnil)))))))))) (List._∷_ (1, Rows.whole (Declared.row Held.the-type)) (List._∷_ (2, Rows.any-gone (Syntax.tyStruct (List._∷_ 122 (List._∷_ 111 (List._∷_ 110 (List._∷_ 101 (List._∷_ 115 (List._∷_ 58 (List._∷_ 58 (List._∷_ 115 (List._∷_ 99 (List._∷_ 97 (List._∷_ 110 (List._∷_ 58 (List._∷_ 58 (List._∷_ 76 (List._∷_ 105 (List._∷_ 110 (List._∷_ 101 List.[]))))))))))))))))) (Syntax.tcons (Syntax.tyInt Syntax.w32) (Syntax.tcons (Syntax.tyInt Syntax.w64) (Syntax.tcons (Syntax.tyInt Syntax.w64) (Syntax.tcons (Syntax.tyInt Syntax.w64) (Syntax.tcons (Syntax.tyInt Syntax.w64) Syntax.tnil))))))) (List._∷_ (3, Rows.sslice (Referent.rtF (Referent.fInt Syntax.w8)) (Syntax.tyRef (Syntax.named 0) Syntax.imm (Syntax.tyInt Syntax.w8)) 0) (List._∷_ (4, Rows.sref (Array.Array (Referent.rtF (Referent.fInt Syntax.w32)) 32772) (Syntax.tyRef (Syntax.named 1) Syntax.imm (Syntax.tyArray (Syntax.tyInt Syntax.w32) 32772)) 1) (List._∷_ (5, Rows.mref (Array.Array (Referent.rtF (Referent.fInt Syntax.w8)) 16388) (Syntax.tyRef (Syntax.named 2) Syntax.mut (Syntax.tyArray (Syntax.tyInt Syntax.w8) 16388)) 2) (List._∷_ (6, Rows.mref (Array.Array (Referent.rtF (Referent.fInt Syntax.w32)) 65540) (Syntax.tyRef (Syntax.named 3) Syntax.mut (Syntax.tyArray (Syntax.tyInt Syntax.w32) 65540)) 3) (List._∷_ (7, Rows.mref (Array.Array (Referent.rtF (Referent.fInt Syntax.w32)) 32772) (Syntax.tyRef (Syntax.named 4) Syntax.mut (Syntax.tyArray (Syntax.tyInt Syntax.w32) 32772)) 4) (List._∷_ (8, Rows.mref (Array.Array (Referent.rtF (Referent.fInt Syntax.w32)) 32772) (Syntax.tyRef (Syntax.named 5) Syntax.mut (Syntax.tyArray (Syntax.tyInt Syntax.w32) 32772)) 5) (List._∷_ (9, Rows.mref (Array.Array (Referent.rtF (Referent.fInt Syntax.w32)) 262160) (Syntax.tyRef (Syntax.named 6) Syntax.mut (Syntax.tyArray (Syntax.tyInt Syntax.w32) 262160)) 6) (List._∷_ (10, Rows.mref (Array.Array (Referent.rtF (Referent.fInt Syntax.w8)) 600000) (Syntax.tyRef (Syntax.named 7) Syntax.mut (Syntax.tyArray (Syntax.tyInt Syntax.w8) 600000)) 7) (List._∷_ (11, Frozen.held (Frozen.fz-open Syntax.erased 8 (κs .1 .1 .1 .1 .1 .1 .1 .1 .0) (Row.lease (κs .1 .1 .1 .1 .1 .1 .1 .1 .0) (qs .1 .1 .1 .1 .1 .1 .1 .1 .0)) (AsSlice.fz-lent-sl Cell.R 65540 16))) (List._∷_ (12, Rows.mref (Array.Array Cell.R 32772) (Syntax.tyRef (Syntax.named 9) Syntax.mut (Syntax.tyArray Cell.behind 32772)) 9) (List._∷_ (13, Rows.sc-here Row.sBool) (List._∷_ (14, Rows.any-gone Syntax.tyBool) (List._∷_ (15, Rows.any-gone Syntax.tyBool) List.[])))))))))))))))
 
         abbrev g39 : List.List Row.Entry
-        g39 = List._∷_ (0, Rows.any-gone (Syntax.tyStruct (List._∷_ 122 (List._∷_ 111 (List._∷_ 110 (List._∷_ 101 (List._∷_ 115 (List._∷_ 58 (List._∷_ 58 (List._∷_ 104 (List._∷_ 101 (List._∷_ 108 (List._∷_ 100 (List._∷_ 58 (List._∷_ 58 (List._∷_ 72 (List._∷_ 101 (List._∷_ 108 (List._∷_ 100 List.[]))))))))))))))))) (Syntax.tcons (Syntax.tyStruct (List._∷_ 112 (List._∷_ 121 (List._∷_ 114 (List._∷_ 97 (List._∷_ 109 (List._∷_ 105 (List._∷_ 100 (List._∷_ 58 (List._∷_ 58 (List._∷_ 83 (List._∷_ 116 (List._∷_ 97 (List._∷_ 116 (List._∷_ 101 List.[])))))))))))))) (Syntax.tcons (Syntax.tyInt Syntax.w32) (Syntax.tcons (Syntax.tyInt Syntax.w32) (Syntax.tcons (Syntax.tyInt Syntax.w32) (Syntax.tcons (Syntax.tyArray (Syntax.tyInt Syntax.w32) 64) Syntax.tnil))))) (Syntax.tcons (Syntax.tyInt Syntax.w64) (Syntax.tcons (Syntax.tyInt Syntax.w64) (Syntax.tcons (Syntax.tyInt Syntax.w64) (Syntax.tcons (Syntax.tyInt Syntax.w64) (Syntax.tcons (Syntax.tyInt Syntax.w64) (Syntax.tcons (Syntax.tyInt Syntax.w64) (Syntax.tcons Syntax.tyBool Syntax.tnil)))))))))) (List._∷_ (1, Rows.whole (Declared.row Held.the-type)) (List._∷_ (2, Rows.whole (Declared.row Line.the-type)) (List._∷_ (3, Rows.sslice (Referent.rtF (Referent.fInt Syntax.w8)) (Syntax.tyRef (Syntax.named 0) Syntax.imm (Syntax.tyInt Syntax.w8)) 0) (List._∷_ (4, Rows.sref (Array.Array (Referent.rtF (Referent.fInt Syntax.w32)) 32772) (Syntax.tyRef (Syntax.named 1) Syntax.imm (Syntax.tyArray (Syntax.tyInt Syntax.w32) 32772)) 1) (List._∷_ (5, Rows.mref (Array.Array (Referent.rtF (Referent.fInt Syntax.w8)) 16388) (Syntax.tyRef (Syntax.named 2) Syntax.mut (Syntax.tyArray (Syntax.tyInt Syntax.w8) 16388)) 2) (List._∷_ (6, Rows.mref (Array.Array (Referent.rtF (Referent.fInt Syntax.w32)) 65540) (Syntax.tyRef (Syntax.named 3) Syntax.mut (Syntax.tyArray (Syntax.tyInt Syntax.w32) 65540)) 3) (List._∷_ (7, Rows.mref (Array.Array (Referent.rtF (Referent.fInt Syntax.w32)) 32772) (Syntax.tyRef (Syntax.named 4) Syntax.mut (Syntax.tyArray (Syntax.tyInt Syntax.w32) 32772)) 4) (List._∷_ (8, Rows.mref (Array.Array (Referent.rtF (Referent.fInt Syntax.w32)) 32772) (Syntax.tyRef (Syntax.named 5) Syntax.mut (Syntax.tyArray (Syntax.tyInt Syntax.w32) 32772)) 5) (List._∷_ (9, Rows.mref (Array.Array (Referent.rtF (Referent.fInt Syntax.w32)) 262160) (Syntax.tyRef (Syntax.named 6) Syntax.mut (Syntax.tyArray (Syntax.tyInt Syntax.w32) 262160)) 6) (List._∷_ (10, Rows.mref (Array.Array (Referent.rtF (Referent.fInt Syntax.w8)) 600000) (Syntax.tyRef (Syntax.named 7) Syntax.mut (Syntax.tyArray (Syntax.tyInt Syntax.w8) 600000)) 7) (List._∷_ (11, Rows.mref (Array.Array Cell.R 65540) (Syntax.tyRef (Syntax.named 8) Syntax.mut (Syntax.tyArray Cell.behind 65540)) 8) (List._∷_ (12, Frozen.held (Frozen.fz-open Syntax.erased 9 (κs .1 .1 .1 .1 .1 .1 .1 .1 .1 .0) (Row.lease (κs .1 .1 .1 .1 .1 .1 .1 .1 .1 .0) (qs .1 .1 .1 .1 .1 .1 .1 .1 .1 .0)) (AsSlice.fz-lent-sl Cell.R 32772 17))) (List._∷_ (13, Rows.any-gone Syntax.tyBool) (List._∷_ (14, Rows.any-gone Syntax.tyBool) (List._∷_ (15, Rows.any-gone Syntax.tyBool) List.[])))))))))))))))
+        g39 = List._∷_ (0, Rows.any-gone (Syntax.tyStruct (List._∷_ 122 (List._∷_ 111 (List._∷_ 110 (List._∷_ 101 (List._∷_ 115 (List._∷_ 58 (List._∷_ 58 (List._∷_ 104 (List._∷_ 101 (List._∷_ 108 (List._∷_ 100 (List._∷_ 58 (List._∷_ 58 (List._∷_ 72 (List._∷_ 101 (List._∷_ 108 (List._∷_ 100 List.[]))))))))))))))))) (Syntax.tcons (Syntax.tyStruct (List._∷_ 112 (List._∷_ 121 (List._∷_ 114 (List._∷_ 97 (List._∷_ 109 (List._∷_ 105 (List._∷_ 100 (List._∷_ 58 (List._∷_ 58 (List._∷_ 83 (List._∷_ 116 (List._∷_ 97 (List._∷_ 116 (List._∷_ 101 List.[])))))))))))))) (Syntax.tcons (Syntax.tyInt Syntax.w32) (Syntax.tcons (Syntax.tyInt Syntax.w32) (Syntax.tcons (Syntax.tyInt Syntax.w32) (Syntax.tcons (Syntax.tyInt Syntax.w32) (Syntax.tcons (Syntax.tyInt Syntax.w32) (Syntax.tcons (Syntax.tyArray (Syntax.tyInt Syntax.w32) 64) Syntax.tnil))))))) (Syntax.tcons (Syntax.tyInt Syntax.w64) (Syntax.tcons (Syntax.tyInt Syntax.w64) (Syntax.tcons (Syntax.tyInt Syntax.w64) (Syntax.tcons (Syntax.tyInt Syntax.w64) (Syntax.tcons (Syntax.tyInt Syntax.w64) (Syntax.tcons (Syntax.tyInt Syntax.w64) (Syntax.tcons Syntax.tyBool Syntax.tnil)))))))))) (List._∷_ (1, Rows.whole (Declared.row Held.the-type)) (List._∷_ (2, Rows.whole (Declared.row Line.the-type)) (List._∷_ (3, Rows.sslice (Referent.rtF (Referent.fInt Syntax.w8)) (Syntax.tyRef (Syntax.named 0) Syntax.imm (Syntax.tyInt Syntax.w8)) 0) (List._∷_ (4, Rows.sref (Array.Array (Referent.rtF (Referent.fInt Syntax.w32)) 32772) (Syntax.tyRef (Syntax.named 1) Syntax.imm (Syntax.tyArray (Syntax.tyInt Syntax.w32) 32772)) 1) (List._∷_ (5, Rows.mref (Array.Array (Referent.rtF (Referent.fInt Syntax.w8)) 16388) (Syntax.tyRef (Syntax.named 2) Syntax.mut (Syntax.tyArray (Syntax.tyInt Syntax.w8) 16388)) 2) (List._∷_ (6, Rows.mref (Array.Array (Referent.rtF (Referent.fInt Syntax.w32)) 65540) (Syntax.tyRef (Syntax.named 3) Syntax.mut (Syntax.tyArray (Syntax.tyInt Syntax.w32) 65540)) 3) (List._∷_ (7, Rows.mref (Array.Array (Referent.rtF (Referent.fInt Syntax.w32)) 32772) (Syntax.tyRef (Syntax.named 4) Syntax.mut (Syntax.tyArray (Syntax.tyInt Syntax.w32) 32772)) 4) (List._∷_ (8, Rows.mref (Array.Array (Referent.rtF (Referent.fInt Syntax.w32)) 32772) (Syntax.tyRef (Syntax.named 5) Syntax.mut (Syntax.tyArray (Syntax.tyInt Syntax.w32) 32772)) 5) (List._∷_ (9, Rows.mref (Array.Array (Referent.rtF (Referent.fInt Syntax.w32)) 262160) (Syntax.tyRef (Syntax.named 6) Syntax.mut (Syntax.tyArray (Syntax.tyInt Syntax.w32) 262160)) 6) (List._∷_ (10, Rows.mref (Array.Array (Referent.rtF (Referent.fInt Syntax.w8)) 600000) (Syntax.tyRef (Syntax.named 7) Syntax.mut (Syntax.tyArray (Syntax.tyInt Syntax.w8) 600000)) 7) (List._∷_ (11, Rows.mref (Array.Array Cell.R 65540) (Syntax.tyRef (Syntax.named 8) Syntax.mut (Syntax.tyArray Cell.behind 65540)) 8) (List._∷_ (12, Frozen.held (Frozen.fz-open Syntax.erased 9 (κs .1 .1 .1 .1 .1 .1 .1 .1 .1 .0) (Row.lease (κs .1 .1 .1 .1 .1 .1 .1 .1 .1 .0) (qs .1 .1 .1 .1 .1 .1 .1 .1 .1 .0)) (AsSlice.fz-lent-sl Cell.R 32772 17))) (List._∷_ (13, Rows.any-gone Syntax.tyBool) (List._∷_ (14, Rows.any-gone Syntax.tyBool) (List._∷_ (15, Rows.any-gone Syntax.tyBool) List.[])))))))))))))))
 
         abbrev g42 : List.List Row.Entry
-        g42 = List._∷_ (0, Rows.any-gone (Syntax.tyStruct (List._∷_ 122 (List._∷_ 111 (List._∷_ 110 (List._∷_ 101 (List._∷_ 115 (List._∷_ 58 (List._∷_ 58 (List._∷_ 104 (List._∷_ 101 (List._∷_ 108 (List._∷_ 100 (List._∷_ 58 (List._∷_ 58 (List._∷_ 72 (List._∷_ 101 (List._∷_ 108 (List._∷_ 100 List.[]))))))))))))))))) (Syntax.tcons (Syntax.tyStruct (List._∷_ 112 (List._∷_ 121 (List._∷_ 114 (List._∷_ 97 (List._∷_ 109 (List._∷_ 105 (List._∷_ 100 (List._∷_ 58 (List._∷_ 58 (List._∷_ 83 (List._∷_ 116 (List._∷_ 97 (List._∷_ 116 (List._∷_ 101 List.[])))))))))))))) (Syntax.tcons (Syntax.tyInt Syntax.w32) (Syntax.tcons (Syntax.tyInt Syntax.w32) (Syntax.tcons (Syntax.tyInt Syntax.w32) (Syntax.tcons (Syntax.tyArray (Syntax.tyInt Syntax.w32) 64) Syntax.tnil))))) (Syntax.tcons (Syntax.tyInt Syntax.w64) (Syntax.tcons (Syntax.tyInt Syntax.w64) (Syntax.tcons (Syntax.tyInt Syntax.w64) (Syntax.tcons (Syntax.tyInt Syntax.w64) (Syntax.tcons (Syntax.tyInt Syntax.w64) (Syntax.tcons (Syntax.tyInt Syntax.w64) (Syntax.tcons Syntax.tyBool Syntax.tnil)))))))))) (List._∷_ (1, Rows.whole (Declared.row Held.the-type)) (List._∷_ (2, Rows.whole (Declared.row Line.the-type)) (List._∷_ (3, Rows.sslice (Referent.rtF (Referent.fInt Syntax.w8)) (Syntax.tyRef (Syntax.named 0) Syntax.imm (Syntax.tyInt Syntax.w8)) 0) (List._∷_ (4, Rows.sref (Array.Array (Referent.rtF (Referent.fInt Syntax.w32)) 32772) (Syntax.tyRef (Syntax.named 1) Syntax.imm (Syntax.tyArray (Syntax.tyInt Syntax.w32) 32772)) 1) (List._∷_ (5, Rows.mref (Array.Array (Referent.rtF (Referent.fInt Syntax.w8)) 16388) (Syntax.tyRef (Syntax.named 2) Syntax.mut (Syntax.tyArray (Syntax.tyInt Syntax.w8) 16388)) 2) (List._∷_ (6, Rows.mref (Array.Array (Referent.rtF (Referent.fInt Syntax.w32)) 65540) (Syntax.tyRef (Syntax.named 3) Syntax.mut (Syntax.tyArray (Syntax.tyInt Syntax.w32) 65540)) 3) (List._∷_ (7, Rows.mref (Array.Array (Referent.rtF (Referent.fInt Syntax.w32)) 32772) (Syntax.tyRef (Syntax.named 4) Syntax.mut (Syntax.tyArray (Syntax.tyInt Syntax.w32) 32772)) 4) (List._∷_ (8, Rows.mref (Array.Array (Referent.rtF (Referent.fInt Syntax.w32)) 32772) (Syntax.tyRef (Syntax.named 5) Syntax.mut (Syntax.tyArray (Syntax.tyInt Syntax.w32) 32772)) 5) (List._∷_ (9, Rows.mref (Array.Array (Referent.rtF (Referent.fInt Syntax.w32)) 262160) (Syntax.tyRef (Syntax.named 6) Syntax.mut (Syntax.tyArray (Syntax.tyInt Syntax.w32) 262160)) 6) (List._∷_ (10, Rows.mref (Array.Array (Referent.rtF (Referent.fInt Syntax.w8)) 600000) (Syntax.tyRef (Syntax.named 7) Syntax.mut (Syntax.tyArray (Syntax.tyInt Syntax.w8) 600000)) 7) (List._∷_ (11, Rows.mref (Array.Array Cell.R 65540) (Syntax.tyRef (Syntax.named 8) Syntax.mut (Syntax.tyArray Cell.behind 65540)) 8) (List._∷_ (12, Frozen.held (Frozen.fz-open Syntax.erased 9 (κs .1 .1 .1 .1 .1 .1 .1 .1 .1 .0) (Row.lease (κs .1 .1 .1 .1 .1 .1 .1 .1 .1 .0) (qs .1 .1 .1 .1 .1 .1 .1 .1 .1 .0)) (AsSlice.fz-lent-sl Cell.R 32772 17))) (List._∷_ (13, Rows.any-gone Syntax.tyBool) (List._∷_ (14, Rows.sc-here Row.sBool) (List._∷_ (15, Rows.any-gone Syntax.tyBool) List.[])))))))))))))))
+        g42 = List._∷_ (0, Rows.any-gone (Syntax.tyStruct (List._∷_ 122 (List._∷_ 111 (List._∷_ 110 (List._∷_ 101 (List._∷_ 115 (List._∷_ 58 (List._∷_ 58 (List._∷_ 104 (List._∷_ 101 (List._∷_ 108 (List._∷_ 100 (List._∷_ 58 (List._∷_ 58 (List._∷_ 72 (List._∷_ 101 (List._∷_ 108 (List._∷_ 100 List.[]))))))))))))))))) (Syntax.tcons (Syntax.tyStruct (List._∷_ 112 (List._∷_ 121 (List._∷_ 114 (List._∷_ 97 (List._∷_ 109 (List._∷_ 105 (List._∷_ 100 (List._∷_ 58 (List._∷_ 58 (List._∷_ 83 (List._∷_ 116 (List._∷_ 97 (List._∷_ 116 (List._∷_ 101 List.[])))))))))))))) (Syntax.tcons (Syntax.tyInt Syntax.w32) (Syntax.tcons (Syntax.tyInt Syntax.w32) (Syntax.tcons (Syntax.tyInt Syntax.w32) (Syntax.tcons (Syntax.tyInt Syntax.w32) (Syntax.tcons (Syntax.tyInt Syntax.w32) (Syntax.tcons (Syntax.tyArray (Syntax.tyInt Syntax.w32) 64) Syntax.tnil))))))) (Syntax.tcons (Syntax.tyInt Syntax.w64) (Syntax.tcons (Syntax.tyInt Syntax.w64) (Syntax.tcons (Syntax.tyInt Syntax.w64) (Syntax.tcons (Syntax.tyInt Syntax.w64) (Syntax.tcons (Syntax.tyInt Syntax.w64) (Syntax.tcons (Syntax.tyInt Syntax.w64) (Syntax.tcons Syntax.tyBool Syntax.tnil)))))))))) (List._∷_ (1, Rows.whole (Declared.row Held.the-type)) (List._∷_ (2, Rows.whole (Declared.row Line.the-type)) (List._∷_ (3, Rows.sslice (Referent.rtF (Referent.fInt Syntax.w8)) (Syntax.tyRef (Syntax.named 0) Syntax.imm (Syntax.tyInt Syntax.w8)) 0) (List._∷_ (4, Rows.sref (Array.Array (Referent.rtF (Referent.fInt Syntax.w32)) 32772) (Syntax.tyRef (Syntax.named 1) Syntax.imm (Syntax.tyArray (Syntax.tyInt Syntax.w32) 32772)) 1) (List._∷_ (5, Rows.mref (Array.Array (Referent.rtF (Referent.fInt Syntax.w8)) 16388) (Syntax.tyRef (Syntax.named 2) Syntax.mut (Syntax.tyArray (Syntax.tyInt Syntax.w8) 16388)) 2) (List._∷_ (6, Rows.mref (Array.Array (Referent.rtF (Referent.fInt Syntax.w32)) 65540) (Syntax.tyRef (Syntax.named 3) Syntax.mut (Syntax.tyArray (Syntax.tyInt Syntax.w32) 65540)) 3) (List._∷_ (7, Rows.mref (Array.Array (Referent.rtF (Referent.fInt Syntax.w32)) 32772) (Syntax.tyRef (Syntax.named 4) Syntax.mut (Syntax.tyArray (Syntax.tyInt Syntax.w32) 32772)) 4) (List._∷_ (8, Rows.mref (Array.Array (Referent.rtF (Referent.fInt Syntax.w32)) 32772) (Syntax.tyRef (Syntax.named 5) Syntax.mut (Syntax.tyArray (Syntax.tyInt Syntax.w32) 32772)) 5) (List._∷_ (9, Rows.mref (Array.Array (Referent.rtF (Referent.fInt Syntax.w32)) 262160) (Syntax.tyRef (Syntax.named 6) Syntax.mut (Syntax.tyArray (Syntax.tyInt Syntax.w32) 262160)) 6) (List._∷_ (10, Rows.mref (Array.Array (Referent.rtF (Referent.fInt Syntax.w8)) 600000) (Syntax.tyRef (Syntax.named 7) Syntax.mut (Syntax.tyArray (Syntax.tyInt Syntax.w8) 600000)) 7) (List._∷_ (11, Rows.mref (Array.Array Cell.R 65540) (Syntax.tyRef (Syntax.named 8) Syntax.mut (Syntax.tyArray Cell.behind 65540)) 8) (List._∷_ (12, Frozen.held (Frozen.fz-open Syntax.erased 9 (κs .1 .1 .1 .1 .1 .1 .1 .1 .1 .0) (Row.lease (κs .1 .1 .1 .1 .1 .1 .1 .1 .1 .0) (qs .1 .1 .1 .1 .1 .1 .1 .1 .1 .0)) (AsSlice.fz-lent-sl Cell.R 32772 17))) (List._∷_ (13, Rows.any-gone Syntax.tyBool) (List._∷_ (14, Rows.sc-here Row.sBool) (List._∷_ (15, Rows.any-gone Syntax.tyBool) List.[])))))))))))))))
 
         abbrev g44 : List.List Row.Entry
-        g44 = List._∷_ (0, Rows.any-gone (Syntax.tyStruct (List._∷_ 122 (List._∷_ 111 (List._∷_ 110 (List._∷_ 101 (List._∷_ 115 (List._∷_ 58 (List._∷_ 58 (List._∷_ 104 (List._∷_ 101 (List._∷_ 108 (List._∷_ 100 (List._∷_ 58 (List._∷_ 58 (List._∷_ 72 (List._∷_ 101 (List._∷_ 108 (List._∷_ 100 List.[]))))))))))))))))) (Syntax.tcons (Syntax.tyStruct (List._∷_ 112 (List._∷_ 121 (List._∷_ 114 (List._∷_ 97 (List._∷_ 109 (List._∷_ 105 (List._∷_ 100 (List._∷_ 58 (List._∷_ 58 (List._∷_ 83 (List._∷_ 116 (List._∷_ 97 (List._∷_ 116 (List._∷_ 101 List.[])))))))))))))) (Syntax.tcons (Syntax.tyInt Syntax.w32) (Syntax.tcons (Syntax.tyInt Syntax.w32) (Syntax.tcons (Syntax.tyInt Syntax.w32) (Syntax.tcons (Syntax.tyArray (Syntax.tyInt Syntax.w32) 64) Syntax.tnil))))) (Syntax.tcons (Syntax.tyInt Syntax.w64) (Syntax.tcons (Syntax.tyInt Syntax.w64) (Syntax.tcons (Syntax.tyInt Syntax.w64) (Syntax.tcons (Syntax.tyInt Syntax.w64) (Syntax.tcons (Syntax.tyInt Syntax.w64) (Syntax.tcons (Syntax.tyInt Syntax.w64) (Syntax.tcons Syntax.tyBool Syntax.tnil)))))))))) (List._∷_ (1, Rows.whole (Declared.row Held.the-type)) (List._∷_ (2, Rows.any-gone (Syntax.tyStruct (List._∷_ 122 (List._∷_ 111 (List._∷_ 110 (List._∷_ 101 (List._∷_ 115 (List._∷_ 58 (List._∷_ 58 (List._∷_ 115 (List._∷_ 99 (List._∷_ 97 (List._∷_ 110 (List._∷_ 58 (List._∷_ 58 (List._∷_ 76 (List._∷_ 105 (List._∷_ 110 (List._∷_ 101 List.[]))))))))))))))))) (Syntax.tcons (Syntax.tyInt Syntax.w32) (Syntax.tcons (Syntax.tyInt Syntax.w64) (Syntax.tcons (Syntax.tyInt Syntax.w64) (Syntax.tcons (Syntax.tyInt Syntax.w64) (Syntax.tcons (Syntax.tyInt Syntax.w64) Syntax.tnil))))))) (List._∷_ (3, Rows.sslice (Referent.rtF (Referent.fInt Syntax.w8)) (Syntax.tyRef (Syntax.named 0) Syntax.imm (Syntax.tyInt Syntax.w8)) 0) (List._∷_ (4, Rows.sref (Array.Array (Referent.rtF (Referent.fInt Syntax.w32)) 32772) (Syntax.tyRef (Syntax.named 1) Syntax.imm (Syntax.tyArray (Syntax.tyInt Syntax.w32) 32772)) 1) (List._∷_ (5, Rows.mref (Array.Array (Referent.rtF (Referent.fInt Syntax.w8)) 16388) (Syntax.tyRef (Syntax.named 2) Syntax.mut (Syntax.tyArray (Syntax.tyInt Syntax.w8) 16388)) 2) (List._∷_ (6, Rows.mref (Array.Array (Referent.rtF (Referent.fInt Syntax.w32)) 65540) (Syntax.tyRef (Syntax.named 3) Syntax.mut (Syntax.tyArray (Syntax.tyInt Syntax.w32) 65540)) 3) (List._∷_ (7, Rows.mref (Array.Array (Referent.rtF (Referent.fInt Syntax.w32)) 32772) (Syntax.tyRef (Syntax.named 4) Syntax.mut (Syntax.tyArray (Syntax.tyInt Syntax.w32) 32772)) 4) (List._∷_ (8, Rows.mref (Array.Array (Referent.rtF (Referent.fInt Syntax.w32)) 32772) (Syntax.tyRef (Syntax.named 5) Syntax.mut (Syntax.tyArray (Syntax.tyInt Syntax.w32) 32772)) 5) (List._∷_ (9, Rows.mref (Array.Array (Referent.rtF (Referent.fInt Syntax.w32)) 262160) (Syntax.tyRef (Syntax.named 6) Syntax.mut (Syntax.tyArray (Syntax.tyInt Syntax.w32) 262160)) 6) (List._∷_ (10, Rows.mref (Array.Array (Referent.rtF (Referent.fInt Syntax.w8)) 600000) (Syntax.tyRef (Syntax.named 7) Syntax.mut (Syntax.tyArray (Syntax.tyInt Syntax.w8) 600000)) 7) (List._∷_ (11, Rows.mref (Array.Array Cell.R 65540) (Syntax.tyRef (Syntax.named 8) Syntax.mut (Syntax.tyArray Cell.behind 65540)) 8) (List._∷_ (12, Frozen.held (Frozen.fz-open Syntax.erased 9 (κs .1 .1 .1 .1 .1 .1 .1 .1 .1 .0) (Row.lease (κs .1 .1 .1 .1 .1 .1 .1 .1 .1 .0) (qs .1 .1 .1 .1 .1 .1 .1 .1 .1 .0)) (AsSlice.fz-lent-sl Cell.R 32772 17))) (List._∷_ (13, Rows.any-gone Syntax.tyBool) (List._∷_ (14, Rows.sc-here Row.sBool) (List._∷_ (15, Rows.any-gone Syntax.tyBool) List.[])))))))))))))))
+        g44 = List._∷_ (0, Rows.any-gone (Syntax.tyStruct (List._∷_ 122 (List._∷_ 111 (List._∷_ 110 (List._∷_ 101 (List._∷_ 115 (List._∷_ 58 (List._∷_ 58 (List._∷_ 104 (List._∷_ 101 (List._∷_ 108 (List._∷_ 100 (List._∷_ 58 (List._∷_ 58 (List._∷_ 72 (List._∷_ 101 (List._∷_ 108 (List._∷_ 100 List.[]))))))))))))))))) (Syntax.tcons (Syntax.tyStruct (List._∷_ 112 (List._∷_ 121 (List._∷_ 114 (List._∷_ 97 (List._∷_ 109 (List._∷_ 105 (List._∷_ 100 (List._∷_ 58 (List._∷_ 58 (List._∷_ 83 (List._∷_ 116 (List._∷_ 97 (List._∷_ 116 (List._∷_ 101 List.[])))))))))))))) (Syntax.tcons (Syntax.tyInt Syntax.w32) (Syntax.tcons (Syntax.tyInt Syntax.w32) (Syntax.tcons (Syntax.tyInt Syntax.w32) (Syntax.tcons (Syntax.tyInt Syntax.w32) (Syntax.tcons (Syntax.tyInt Syntax.w32) (Syntax.tcons (Syntax.tyArray (Syntax.tyInt Syntax.w32) 64) Syntax.tnil))))))) (Syntax.tcons (Syntax.tyInt Syntax.w64) (Syntax.tcons (Syntax.tyInt Syntax.w64) (Syntax.tcons (Syntax.tyInt Syntax.w64) (Syntax.tcons (Syntax.tyInt Syntax.w64) (Syntax.tcons (Syntax.tyInt Syntax.w64) (Syntax.tcons (Syntax.tyInt Syntax.w64) (Syntax.tcons Syntax.tyBool Syntax.tnil)))))))))) (List._∷_ (1, Rows.whole (Declared.row Held.the-type)) (List._∷_ (2, Rows.any-gone (Syntax.tyStruct (List._∷_ 122 (List._∷_ 111 (List._∷_ 110 (List._∷_ 101 (List._∷_ 115 (List._∷_ 58 (List._∷_ 58 (List._∷_ 115 (List._∷_ 99 (List._∷_ 97 (List._∷_ 110 (List._∷_ 58 (List._∷_ 58 (List._∷_ 76 (List._∷_ 105 (List._∷_ 110 (List._∷_ 101 List.[]))))))))))))))))) (Syntax.tcons (Syntax.tyInt Syntax.w32) (Syntax.tcons (Syntax.tyInt Syntax.w64) (Syntax.tcons (Syntax.tyInt Syntax.w64) (Syntax.tcons (Syntax.tyInt Syntax.w64) (Syntax.tcons (Syntax.tyInt Syntax.w64) Syntax.tnil))))))) (List._∷_ (3, Rows.sslice (Referent.rtF (Referent.fInt Syntax.w8)) (Syntax.tyRef (Syntax.named 0) Syntax.imm (Syntax.tyInt Syntax.w8)) 0) (List._∷_ (4, Rows.sref (Array.Array (Referent.rtF (Referent.fInt Syntax.w32)) 32772) (Syntax.tyRef (Syntax.named 1) Syntax.imm (Syntax.tyArray (Syntax.tyInt Syntax.w32) 32772)) 1) (List._∷_ (5, Rows.mref (Array.Array (Referent.rtF (Referent.fInt Syntax.w8)) 16388) (Syntax.tyRef (Syntax.named 2) Syntax.mut (Syntax.tyArray (Syntax.tyInt Syntax.w8) 16388)) 2) (List._∷_ (6, Rows.mref (Array.Array (Referent.rtF (Referent.fInt Syntax.w32)) 65540) (Syntax.tyRef (Syntax.named 3) Syntax.mut (Syntax.tyArray (Syntax.tyInt Syntax.w32) 65540)) 3) (List._∷_ (7, Rows.mref (Array.Array (Referent.rtF (Referent.fInt Syntax.w32)) 32772) (Syntax.tyRef (Syntax.named 4) Syntax.mut (Syntax.tyArray (Syntax.tyInt Syntax.w32) 32772)) 4) (List._∷_ (8, Rows.mref (Array.Array (Referent.rtF (Referent.fInt Syntax.w32)) 32772) (Syntax.tyRef (Syntax.named 5) Syntax.mut (Syntax.tyArray (Syntax.tyInt Syntax.w32) 32772)) 5) (List._∷_ (9, Rows.mref (Array.Array (Referent.rtF (Referent.fInt Syntax.w32)) 262160) (Syntax.tyRef (Syntax.named 6) Syntax.mut (Syntax.tyArray (Syntax.tyInt Syntax.w32) 262160)) 6) (List._∷_ (10, Rows.mref (Array.Array (Referent.rtF (Referent.fInt Syntax.w8)) 600000) (Syntax.tyRef (Syntax.named 7) Syntax.mut (Syntax.tyArray (Syntax.tyInt Syntax.w8) 600000)) 7) (List._∷_ (11, Rows.mref (Array.Array Cell.R 65540) (Syntax.tyRef (Syntax.named 8) Syntax.mut (Syntax.tyArray Cell.behind 65540)) 8) (List._∷_ (12, Frozen.held (Frozen.fz-open Syntax.erased 9 (κs .1 .1 .1 .1 .1 .1 .1 .1 .1 .0) (Row.lease (κs .1 .1 .1 .1 .1 .1 .1 .1 .1 .0) (qs .1 .1 .1 .1 .1 .1 .1 .1 .1 .0)) (AsSlice.fz-lent-sl Cell.R 32772 17))) (List._∷_ (13, Rows.any-gone Syntax.tyBool) (List._∷_ (14, Rows.sc-here Row.sBool) (List._∷_ (15, Rows.any-gone Syntax.tyBool) List.[])))))))))))))))
 
         abbrev g48 : List.List Row.Entry
-        g48 = List._∷_ (0, Rows.any-gone (Syntax.tyStruct (List._∷_ 122 (List._∷_ 111 (List._∷_ 110 (List._∷_ 101 (List._∷_ 115 (List._∷_ 58 (List._∷_ 58 (List._∷_ 104 (List._∷_ 101 (List._∷_ 108 (List._∷_ 100 (List._∷_ 58 (List._∷_ 58 (List._∷_ 72 (List._∷_ 101 (List._∷_ 108 (List._∷_ 100 List.[]))))))))))))))))) (Syntax.tcons (Syntax.tyStruct (List._∷_ 112 (List._∷_ 121 (List._∷_ 114 (List._∷_ 97 (List._∷_ 109 (List._∷_ 105 (List._∷_ 100 (List._∷_ 58 (List._∷_ 58 (List._∷_ 83 (List._∷_ 116 (List._∷_ 97 (List._∷_ 116 (List._∷_ 101 List.[])))))))))))))) (Syntax.tcons (Syntax.tyInt Syntax.w32) (Syntax.tcons (Syntax.tyInt Syntax.w32) (Syntax.tcons (Syntax.tyInt Syntax.w32) (Syntax.tcons (Syntax.tyArray (Syntax.tyInt Syntax.w32) 64) Syntax.tnil))))) (Syntax.tcons (Syntax.tyInt Syntax.w64) (Syntax.tcons (Syntax.tyInt Syntax.w64) (Syntax.tcons (Syntax.tyInt Syntax.w64) (Syntax.tcons (Syntax.tyInt Syntax.w64) (Syntax.tcons (Syntax.tyInt Syntax.w64) (Syntax.tcons (Syntax.tyInt Syntax.w64) (Syntax.tcons Syntax.tyBool Syntax.tnil)))))))))) (List._∷_ (1, Rows.whole (Declared.row Held.the-type)) (List._∷_ (2, Rows.whole (Declared.row Line.the-type)) (List._∷_ (3, Rows.sslice (Referent.rtF (Referent.fInt Syntax.w8)) (Syntax.tyRef (Syntax.named 0) Syntax.imm (Syntax.tyInt Syntax.w8)) 0) (List._∷_ (4, Rows.sref (Array.Array (Referent.rtF (Referent.fInt Syntax.w32)) 32772) (Syntax.tyRef (Syntax.named 1) Syntax.imm (Syntax.tyArray (Syntax.tyInt Syntax.w32) 32772)) 1) (List._∷_ (5, Rows.mref (Array.Array (Referent.rtF (Referent.fInt Syntax.w8)) 16388) (Syntax.tyRef (Syntax.named 2) Syntax.mut (Syntax.tyArray (Syntax.tyInt Syntax.w8) 16388)) 2) (List._∷_ (6, Rows.mref-owed (Array.Array (Referent.rtF (Referent.fInt Syntax.w32)) 65540) (Syntax.tyRef (Syntax.named 3) Syntax.mut (Syntax.tyArray (Syntax.tyInt Syntax.w32) 65540)) 3 18 (Row.lease (κs .1 .1 .1 .0) (qs .1 .1 .1 .0))) (List._∷_ (7, Rows.mref (Array.Array (Referent.rtF (Referent.fInt Syntax.w32)) 32772) (Syntax.tyRef (Syntax.named 4) Syntax.mut (Syntax.tyArray (Syntax.tyInt Syntax.w32) 32772)) 4) (List._∷_ (8, Rows.mref (Array.Array (Referent.rtF (Referent.fInt Syntax.w32)) 32772) (Syntax.tyRef (Syntax.named 5) Syntax.mut (Syntax.tyArray (Syntax.tyInt Syntax.w32) 32772)) 5) (List._∷_ (9, Rows.mref (Array.Array (Referent.rtF (Referent.fInt Syntax.w32)) 262160) (Syntax.tyRef (Syntax.named 6) Syntax.mut (Syntax.tyArray (Syntax.tyInt Syntax.w32) 262160)) 6) (List._∷_ (10, Rows.mref (Array.Array (Referent.rtF (Referent.fInt Syntax.w8)) 600000) (Syntax.tyRef (Syntax.named 7) Syntax.mut (Syntax.tyArray (Syntax.tyInt Syntax.w8) 600000)) 7) (List._∷_ (11, Rows.mref (Array.Array Cell.R 65540) (Syntax.tyRef (Syntax.named 8) Syntax.mut (Syntax.tyArray Cell.behind 65540)) 8) (List._∷_ (12, Rows.mref (Array.Array Cell.R 32772) (Syntax.tyRef (Syntax.named 9) Syntax.mut (Syntax.tyArray Cell.behind 32772)) 9) (List._∷_ (13, Rows.any-gone Syntax.tyBool) (List._∷_ (14, Rows.any-gone Syntax.tyBool) (List._∷_ (15, Rows.any-gone Syntax.tyBool) List.[])))))))))))))))
+        g48 = List._∷_ (0, Rows.any-gone (Syntax.tyStruct (List._∷_ 122 (List._∷_ 111 (List._∷_ 110 (List._∷_ 101 (List._∷_ 115 (List._∷_ 58 (List._∷_ 58 (List._∷_ 104 (List._∷_ 101 (List._∷_ 108 (List._∷_ 100 (List._∷_ 58 (List._∷_ 58 (List._∷_ 72 (List._∷_ 101 (List._∷_ 108 (List._∷_ 100 List.[]))))))))))))))))) (Syntax.tcons (Syntax.tyStruct (List._∷_ 112 (List._∷_ 121 (List._∷_ 114 (List._∷_ 97 (List._∷_ 109 (List._∷_ 105 (List._∷_ 100 (List._∷_ 58 (List._∷_ 58 (List._∷_ 83 (List._∷_ 116 (List._∷_ 97 (List._∷_ 116 (List._∷_ 101 List.[])))))))))))))) (Syntax.tcons (Syntax.tyInt Syntax.w32) (Syntax.tcons (Syntax.tyInt Syntax.w32) (Syntax.tcons (Syntax.tyInt Syntax.w32) (Syntax.tcons (Syntax.tyInt Syntax.w32) (Syntax.tcons (Syntax.tyInt Syntax.w32) (Syntax.tcons (Syntax.tyArray (Syntax.tyInt Syntax.w32) 64) Syntax.tnil))))))) (Syntax.tcons (Syntax.tyInt Syntax.w64) (Syntax.tcons (Syntax.tyInt Syntax.w64) (Syntax.tcons (Syntax.tyInt Syntax.w64) (Syntax.tcons (Syntax.tyInt Syntax.w64) (Syntax.tcons (Syntax.tyInt Syntax.w64) (Syntax.tcons (Syntax.tyInt Syntax.w64) (Syntax.tcons Syntax.tyBool Syntax.tnil)))))))))) (List._∷_ (1, Rows.whole (Declared.row Held.the-type)) (List._∷_ (2, Rows.whole (Declared.row Line.the-type)) (List._∷_ (3, Rows.sslice (Referent.rtF (Referent.fInt Syntax.w8)) (Syntax.tyRef (Syntax.named 0) Syntax.imm (Syntax.tyInt Syntax.w8)) 0) (List._∷_ (4, Rows.sref (Array.Array (Referent.rtF (Referent.fInt Syntax.w32)) 32772) (Syntax.tyRef (Syntax.named 1) Syntax.imm (Syntax.tyArray (Syntax.tyInt Syntax.w32) 32772)) 1) (List._∷_ (5, Rows.mref (Array.Array (Referent.rtF (Referent.fInt Syntax.w8)) 16388) (Syntax.tyRef (Syntax.named 2) Syntax.mut (Syntax.tyArray (Syntax.tyInt Syntax.w8) 16388)) 2) (List._∷_ (6, Rows.mref-owed (Array.Array (Referent.rtF (Referent.fInt Syntax.w32)) 65540) (Syntax.tyRef (Syntax.named 3) Syntax.mut (Syntax.tyArray (Syntax.tyInt Syntax.w32) 65540)) 3 18 (Row.lease (κs .1 .1 .1 .0) (qs .1 .1 .1 .0))) (List._∷_ (7, Rows.mref (Array.Array (Referent.rtF (Referent.fInt Syntax.w32)) 32772) (Syntax.tyRef (Syntax.named 4) Syntax.mut (Syntax.tyArray (Syntax.tyInt Syntax.w32) 32772)) 4) (List._∷_ (8, Rows.mref (Array.Array (Referent.rtF (Referent.fInt Syntax.w32)) 32772) (Syntax.tyRef (Syntax.named 5) Syntax.mut (Syntax.tyArray (Syntax.tyInt Syntax.w32) 32772)) 5) (List._∷_ (9, Rows.mref (Array.Array (Referent.rtF (Referent.fInt Syntax.w32)) 262160) (Syntax.tyRef (Syntax.named 6) Syntax.mut (Syntax.tyArray (Syntax.tyInt Syntax.w32) 262160)) 6) (List._∷_ (10, Rows.mref (Array.Array (Referent.rtF (Referent.fInt Syntax.w8)) 600000) (Syntax.tyRef (Syntax.named 7) Syntax.mut (Syntax.tyArray (Syntax.tyInt Syntax.w8) 600000)) 7) (List._∷_ (11, Rows.mref (Array.Array Cell.R 65540) (Syntax.tyRef (Syntax.named 8) Syntax.mut (Syntax.tyArray Cell.behind 65540)) 8) (List._∷_ (12, Rows.mref (Array.Array Cell.R 32772) (Syntax.tyRef (Syntax.named 9) Syntax.mut (Syntax.tyArray Cell.behind 32772)) 9) (List._∷_ (13, Rows.any-gone Syntax.tyBool) (List._∷_ (14, Rows.any-gone Syntax.tyBool) (List._∷_ (15, Rows.any-gone Syntax.tyBool) List.[])))))))))))))))
 
         abbrev g50 : List.List Row.Entry
-        g50 = List._∷_ (0, Rows.any-gone (Syntax.tyStruct (List._∷_ 122 (List._∷_ 111 (List._∷_ 110 (List._∷_ 101 (List._∷_ 115 (List._∷_ 58 (List._∷_ 58 (List._∷_ 104 (List._∷_ 101 (List._∷_ 108 (List._∷_ 100 (List._∷_ 58 (List._∷_ 58 (List._∷_ 72 (List._∷_ 101 (List._∷_ 108 (List._∷_ 100 List.[]))))))))))))))))) (Syntax.tcons (Syntax.tyStruct (List._∷_ 112 (List._∷_ 121 (List._∷_ 114 (List._∷_ 97 (List._∷_ 109 (List._∷_ 105 (List._∷_ 100 (List._∷_ 58 (List._∷_ 58 (List._∷_ 83 (List._∷_ 116 (List._∷_ 97 (List._∷_ 116 (List._∷_ 101 List.[])))))))))))))) (Syntax.tcons (Syntax.tyInt Syntax.w32) (Syntax.tcons (Syntax.tyInt Syntax.w32) (Syntax.tcons (Syntax.tyInt Syntax.w32) (Syntax.tcons (Syntax.tyArray (Syntax.tyInt Syntax.w32) 64) Syntax.tnil))))) (Syntax.tcons (Syntax.tyInt Syntax.w64) (Syntax.tcons (Syntax.tyInt Syntax.w64) (Syntax.tcons (Syntax.tyInt Syntax.w64) (Syntax.tcons (Syntax.tyInt Syntax.w64) (Syntax.tcons (Syntax.tyInt Syntax.w64) (Syntax.tcons (Syntax.tyInt Syntax.w64) (Syntax.tcons Syntax.tyBool Syntax.tnil)))))))))) (List._∷_ (1, Rows.whole (Declared.row Held.the-type)) (List._∷_ (2, Rows.whole (Declared.row Line.the-type)) (List._∷_ (3, Rows.sslice (Referent.rtF (Referent.fInt Syntax.w8)) (Syntax.tyRef (Syntax.named 0) Syntax.imm (Syntax.tyInt Syntax.w8)) 0) (List._∷_ (4, Rows.sref (Array.Array (Referent.rtF (Referent.fInt Syntax.w32)) 32772) (Syntax.tyRef (Syntax.named 1) Syntax.imm (Syntax.tyArray (Syntax.tyInt Syntax.w32) 32772)) 1) (List._∷_ (5, Rows.mref (Array.Array (Referent.rtF (Referent.fInt Syntax.w8)) 16388) (Syntax.tyRef (Syntax.named 2) Syntax.mut (Syntax.tyArray (Syntax.tyInt Syntax.w8) 16388)) 2) (List._∷_ (6, Rows.mref-owed (Array.Array (Referent.rtF (Referent.fInt Syntax.w32)) 65540) (Syntax.tyRef (Syntax.named 3) Syntax.mut (Syntax.tyArray (Syntax.tyInt Syntax.w32) 65540)) 3 18 (Row.lease (κs .1 .1 .1 .0) (qs .1 .1 .1 .0))) (List._∷_ (7, Rows.mref-owed (Array.Array (Referent.rtF (Referent.fInt Syntax.w32)) 32772) (Syntax.tyRef (Syntax.named 4) Syntax.mut (Syntax.tyArray (Syntax.tyInt Syntax.w32) 32772)) 4 19 (Row.lease (κs .1 .1 .1 .1 .0) (qs .1 .1 .1 .1 .0))) (List._∷_ (8, Rows.mref (Array.Array (Referent.rtF (Referent.fInt Syntax.w32)) 32772) (Syntax.tyRef (Syntax.named 5) Syntax.mut (Syntax.tyArray (Syntax.tyInt Syntax.w32) 32772)) 5) (List._∷_ (9, Rows.mref (Array.Array (Referent.rtF (Referent.fInt Syntax.w32)) 262160) (Syntax.tyRef (Syntax.named 6) Syntax.mut (Syntax.tyArray (Syntax.tyInt Syntax.w32) 262160)) 6) (List._∷_ (10, Rows.mref (Array.Array (Referent.rtF (Referent.fInt Syntax.w8)) 600000) (Syntax.tyRef (Syntax.named 7) Syntax.mut (Syntax.tyArray (Syntax.tyInt Syntax.w8) 600000)) 7) (List._∷_ (11, Rows.mref (Array.Array Cell.R 65540) (Syntax.tyRef (Syntax.named 8) Syntax.mut (Syntax.tyArray Cell.behind 65540)) 8) (List._∷_ (12, Rows.mref (Array.Array Cell.R 32772) (Syntax.tyRef (Syntax.named 9) Syntax.mut (Syntax.tyArray Cell.behind 32772)) 9) (List._∷_ (13, Rows.any-gone Syntax.tyBool) (List._∷_ (14, Rows.any-gone Syntax.tyBool) (List._∷_ (15, Rows.any-gone Syntax.tyBool) List.[])))))))))))))))
+        g50 = List._∷_ (0, Rows.any-gone (Syntax.tyStruct (List._∷_ 122 (List._∷_ 111 (List._∷_ 110 (List._∷_ 101 (List._∷_ 115 (List._∷_ 58 (List._∷_ 58 (List._∷_ 104 (List._∷_ 101 (List._∷_ 108 (List._∷_ 100 (List._∷_ 58 (List._∷_ 58 (List._∷_ 72 (List._∷_ 101 (List._∷_ 108 (List._∷_ 100 List.[]))))))))))))))))) (Syntax.tcons (Syntax.tyStruct (List._∷_ 112 (List._∷_ 121 (List._∷_ 114 (List._∷_ 97 (List._∷_ 109 (List._∷_ 105 (List._∷_ 100 (List._∷_ 58 (List._∷_ 58 (List._∷_ 83 (List._∷_ 116 (List._∷_ 97 (List._∷_ 116 (List._∷_ 101 List.[])))))))))))))) (Syntax.tcons (Syntax.tyInt Syntax.w32) (Syntax.tcons (Syntax.tyInt Syntax.w32) (Syntax.tcons (Syntax.tyInt Syntax.w32) (Syntax.tcons (Syntax.tyInt Syntax.w32) (Syntax.tcons (Syntax.tyInt Syntax.w32) (Syntax.tcons (Syntax.tyArray (Syntax.tyInt Syntax.w32) 64) Syntax.tnil))))))) (Syntax.tcons (Syntax.tyInt Syntax.w64) (Syntax.tcons (Syntax.tyInt Syntax.w64) (Syntax.tcons (Syntax.tyInt Syntax.w64) (Syntax.tcons (Syntax.tyInt Syntax.w64) (Syntax.tcons (Syntax.tyInt Syntax.w64) (Syntax.tcons (Syntax.tyInt Syntax.w64) (Syntax.tcons Syntax.tyBool Syntax.tnil)))))))))) (List._∷_ (1, Rows.whole (Declared.row Held.the-type)) (List._∷_ (2, Rows.whole (Declared.row Line.the-type)) (List._∷_ (3, Rows.sslice (Referent.rtF (Referent.fInt Syntax.w8)) (Syntax.tyRef (Syntax.named 0) Syntax.imm (Syntax.tyInt Syntax.w8)) 0) (List._∷_ (4, Rows.sref (Array.Array (Referent.rtF (Referent.fInt Syntax.w32)) 32772) (Syntax.tyRef (Syntax.named 1) Syntax.imm (Syntax.tyArray (Syntax.tyInt Syntax.w32) 32772)) 1) (List._∷_ (5, Rows.mref (Array.Array (Referent.rtF (Referent.fInt Syntax.w8)) 16388) (Syntax.tyRef (Syntax.named 2) Syntax.mut (Syntax.tyArray (Syntax.tyInt Syntax.w8) 16388)) 2) (List._∷_ (6, Rows.mref-owed (Array.Array (Referent.rtF (Referent.fInt Syntax.w32)) 65540) (Syntax.tyRef (Syntax.named 3) Syntax.mut (Syntax.tyArray (Syntax.tyInt Syntax.w32) 65540)) 3 18 (Row.lease (κs .1 .1 .1 .0) (qs .1 .1 .1 .0))) (List._∷_ (7, Rows.mref-owed (Array.Array (Referent.rtF (Referent.fInt Syntax.w32)) 32772) (Syntax.tyRef (Syntax.named 4) Syntax.mut (Syntax.tyArray (Syntax.tyInt Syntax.w32) 32772)) 4 19 (Row.lease (κs .1 .1 .1 .1 .0) (qs .1 .1 .1 .1 .0))) (List._∷_ (8, Rows.mref (Array.Array (Referent.rtF (Referent.fInt Syntax.w32)) 32772) (Syntax.tyRef (Syntax.named 5) Syntax.mut (Syntax.tyArray (Syntax.tyInt Syntax.w32) 32772)) 5) (List._∷_ (9, Rows.mref (Array.Array (Referent.rtF (Referent.fInt Syntax.w32)) 262160) (Syntax.tyRef (Syntax.named 6) Syntax.mut (Syntax.tyArray (Syntax.tyInt Syntax.w32) 262160)) 6) (List._∷_ (10, Rows.mref (Array.Array (Referent.rtF (Referent.fInt Syntax.w8)) 600000) (Syntax.tyRef (Syntax.named 7) Syntax.mut (Syntax.tyArray (Syntax.tyInt Syntax.w8) 600000)) 7) (List._∷_ (11, Rows.mref (Array.Array Cell.R 65540) (Syntax.tyRef (Syntax.named 8) Syntax.mut (Syntax.tyArray Cell.behind 65540)) 8) (List._∷_ (12, Rows.mref (Array.Array Cell.R 32772) (Syntax.tyRef (Syntax.named 9) Syntax.mut (Syntax.tyArray Cell.behind 32772)) 9) (List._∷_ (13, Rows.any-gone Syntax.tyBool) (List._∷_ (14, Rows.any-gone Syntax.tyBool) (List._∷_ (15, Rows.any-gone Syntax.tyBool) List.[])))))))))))))))
 
         abbrev g52 : List.List Row.Entry
-        g52 = List._∷_ (0, Rows.any-gone (Syntax.tyStruct (List._∷_ 122 (List._∷_ 111 (List._∷_ 110 (List._∷_ 101 (List._∷_ 115 (List._∷_ 58 (List._∷_ 58 (List._∷_ 104 (List._∷_ 101 (List._∷_ 108 (List._∷_ 100 (List._∷_ 58 (List._∷_ 58 (List._∷_ 72 (List._∷_ 101 (List._∷_ 108 (List._∷_ 100 List.[]))))))))))))))))) (Syntax.tcons (Syntax.tyStruct (List._∷_ 112 (List._∷_ 121 (List._∷_ 114 (List._∷_ 97 (List._∷_ 109 (List._∷_ 105 (List._∷_ 100 (List._∷_ 58 (List._∷_ 58 (List._∷_ 83 (List._∷_ 116 (List._∷_ 97 (List._∷_ 116 (List._∷_ 101 List.[])))))))))))))) (Syntax.tcons (Syntax.tyInt Syntax.w32) (Syntax.tcons (Syntax.tyInt Syntax.w32) (Syntax.tcons (Syntax.tyInt Syntax.w32) (Syntax.tcons (Syntax.tyArray (Syntax.tyInt Syntax.w32) 64) Syntax.tnil))))) (Syntax.tcons (Syntax.tyInt Syntax.w64) (Syntax.tcons (Syntax.tyInt Syntax.w64) (Syntax.tcons (Syntax.tyInt Syntax.w64) (Syntax.tcons (Syntax.tyInt Syntax.w64) (Syntax.tcons (Syntax.tyInt Syntax.w64) (Syntax.tcons (Syntax.tyInt Syntax.w64) (Syntax.tcons Syntax.tyBool Syntax.tnil)))))))))) (List._∷_ (1, Rows.whole (Declared.row Held.the-type)) (List._∷_ (2, Rows.whole (Declared.row Line.the-type)) (List._∷_ (3, Rows.sslice (Referent.rtF (Referent.fInt Syntax.w8)) (Syntax.tyRef (Syntax.named 0) Syntax.imm (Syntax.tyInt Syntax.w8)) 0) (List._∷_ (4, Rows.sref (Array.Array (Referent.rtF (Referent.fInt Syntax.w32)) 32772) (Syntax.tyRef (Syntax.named 1) Syntax.imm (Syntax.tyArray (Syntax.tyInt Syntax.w32) 32772)) 1) (List._∷_ (5, Rows.mref (Array.Array (Referent.rtF (Referent.fInt Syntax.w8)) 16388) (Syntax.tyRef (Syntax.named 2) Syntax.mut (Syntax.tyArray (Syntax.tyInt Syntax.w8) 16388)) 2) (List._∷_ (6, Rows.mref-owed (Array.Array (Referent.rtF (Referent.fInt Syntax.w32)) 65540) (Syntax.tyRef (Syntax.named 3) Syntax.mut (Syntax.tyArray (Syntax.tyInt Syntax.w32) 65540)) 3 18 (Row.lease (κs .1 .1 .1 .0) (qs .1 .1 .1 .0))) (List._∷_ (7, Rows.mref-owed (Array.Array (Referent.rtF (Referent.fInt Syntax.w32)) 32772) (Syntax.tyRef (Syntax.named 4) Syntax.mut (Syntax.tyArray (Syntax.tyInt Syntax.w32) 32772)) 4 19 (Row.lease (κs .1 .1 .1 .1 .0) (qs .1 .1 .1 .1 .0))) (List._∷_ (8, Rows.mref (Array.Array (Referent.rtF (Referent.fInt Syntax.w32)) 32772) (Syntax.tyRef (Syntax.named 5) Syntax.mut (Syntax.tyArray (Syntax.tyInt Syntax.w32) 32772)) 5) (List._∷_ (9, Rows.mref-owed (Array.Array (Referent.rtF (Referent.fInt Syntax.w32)) 262160) (Syntax.tyRef (Syntax.named 6) Syntax.mut (Syntax.tyArray (Syntax.tyInt Syntax.w32) 262160)) 6 20 (Row.lease (κs .1 .1 .1 .1 .1 .1 .0) (qs .1 .1 .1 .1 .1 .1 .0))) (List._∷_ (10, Rows.mref (Array.Array (Referent.rtF (Referent.fInt Syntax.w8)) 600000) (Syntax.tyRef (Syntax.named 7) Syntax.mut (Syntax.tyArray (Syntax.tyInt Syntax.w8) 600000)) 7) (List._∷_ (11, Rows.mref (Array.Array Cell.R 65540) (Syntax.tyRef (Syntax.named 8) Syntax.mut (Syntax.tyArray Cell.behind 65540)) 8) (List._∷_ (12, Rows.mref (Array.Array Cell.R 32772) (Syntax.tyRef (Syntax.named 9) Syntax.mut (Syntax.tyArray Cell.behind 32772)) 9) (List._∷_ (13, Rows.any-gone Syntax.tyBool) (List._∷_ (14, Rows.any-gone Syntax.tyBool) (List._∷_ (15, Rows.any-gone Syntax.tyBool) List.[])))))))))))))))
+        g52 = List._∷_ (0, Rows.any-gone (Syntax.tyStruct (List._∷_ 122 (List._∷_ 111 (List._∷_ 110 (List._∷_ 101 (List._∷_ 115 (List._∷_ 58 (List._∷_ 58 (List._∷_ 104 (List._∷_ 101 (List._∷_ 108 (List._∷_ 100 (List._∷_ 58 (List._∷_ 58 (List._∷_ 72 (List._∷_ 101 (List._∷_ 108 (List._∷_ 100 List.[]))))))))))))))))) (Syntax.tcons (Syntax.tyStruct (List._∷_ 112 (List._∷_ 121 (List._∷_ 114 (List._∷_ 97 (List._∷_ 109 (List._∷_ 105 (List._∷_ 100 (List._∷_ 58 (List._∷_ 58 (List._∷_ 83 (List._∷_ 116 (List._∷_ 97 (List._∷_ 116 (List._∷_ 101 List.[])))))))))))))) (Syntax.tcons (Syntax.tyInt Syntax.w32) (Syntax.tcons (Syntax.tyInt Syntax.w32) (Syntax.tcons (Syntax.tyInt Syntax.w32) (Syntax.tcons (Syntax.tyInt Syntax.w32) (Syntax.tcons (Syntax.tyInt Syntax.w32) (Syntax.tcons (Syntax.tyArray (Syntax.tyInt Syntax.w32) 64) Syntax.tnil))))))) (Syntax.tcons (Syntax.tyInt Syntax.w64) (Syntax.tcons (Syntax.tyInt Syntax.w64) (Syntax.tcons (Syntax.tyInt Syntax.w64) (Syntax.tcons (Syntax.tyInt Syntax.w64) (Syntax.tcons (Syntax.tyInt Syntax.w64) (Syntax.tcons (Syntax.tyInt Syntax.w64) (Syntax.tcons Syntax.tyBool Syntax.tnil)))))))))) (List._∷_ (1, Rows.whole (Declared.row Held.the-type)) (List._∷_ (2, Rows.whole (Declared.row Line.the-type)) (List._∷_ (3, Rows.sslice (Referent.rtF (Referent.fInt Syntax.w8)) (Syntax.tyRef (Syntax.named 0) Syntax.imm (Syntax.tyInt Syntax.w8)) 0) (List._∷_ (4, Rows.sref (Array.Array (Referent.rtF (Referent.fInt Syntax.w32)) 32772) (Syntax.tyRef (Syntax.named 1) Syntax.imm (Syntax.tyArray (Syntax.tyInt Syntax.w32) 32772)) 1) (List._∷_ (5, Rows.mref (Array.Array (Referent.rtF (Referent.fInt Syntax.w8)) 16388) (Syntax.tyRef (Syntax.named 2) Syntax.mut (Syntax.tyArray (Syntax.tyInt Syntax.w8) 16388)) 2) (List._∷_ (6, Rows.mref-owed (Array.Array (Referent.rtF (Referent.fInt Syntax.w32)) 65540) (Syntax.tyRef (Syntax.named 3) Syntax.mut (Syntax.tyArray (Syntax.tyInt Syntax.w32) 65540)) 3 18 (Row.lease (κs .1 .1 .1 .0) (qs .1 .1 .1 .0))) (List._∷_ (7, Rows.mref-owed (Array.Array (Referent.rtF (Referent.fInt Syntax.w32)) 32772) (Syntax.tyRef (Syntax.named 4) Syntax.mut (Syntax.tyArray (Syntax.tyInt Syntax.w32) 32772)) 4 19 (Row.lease (κs .1 .1 .1 .1 .0) (qs .1 .1 .1 .1 .0))) (List._∷_ (8, Rows.mref (Array.Array (Referent.rtF (Referent.fInt Syntax.w32)) 32772) (Syntax.tyRef (Syntax.named 5) Syntax.mut (Syntax.tyArray (Syntax.tyInt Syntax.w32) 32772)) 5) (List._∷_ (9, Rows.mref-owed (Array.Array (Referent.rtF (Referent.fInt Syntax.w32)) 262160) (Syntax.tyRef (Syntax.named 6) Syntax.mut (Syntax.tyArray (Syntax.tyInt Syntax.w32) 262160)) 6 20 (Row.lease (κs .1 .1 .1 .1 .1 .1 .0) (qs .1 .1 .1 .1 .1 .1 .0))) (List._∷_ (10, Rows.mref (Array.Array (Referent.rtF (Referent.fInt Syntax.w8)) 600000) (Syntax.tyRef (Syntax.named 7) Syntax.mut (Syntax.tyArray (Syntax.tyInt Syntax.w8) 600000)) 7) (List._∷_ (11, Rows.mref (Array.Array Cell.R 65540) (Syntax.tyRef (Syntax.named 8) Syntax.mut (Syntax.tyArray Cell.behind 65540)) 8) (List._∷_ (12, Rows.mref (Array.Array Cell.R 32772) (Syntax.tyRef (Syntax.named 9) Syntax.mut (Syntax.tyArray Cell.behind 32772)) 9) (List._∷_ (13, Rows.any-gone Syntax.tyBool) (List._∷_ (14, Rows.any-gone Syntax.tyBool) (List._∷_ (15, Rows.any-gone Syntax.tyBool) List.[])))))))))))))))
 
         abbrev g54 : List.List Row.Entry
-        g54 = List._∷_ (0, Rows.any-gone (Syntax.tyStruct (List._∷_ 122 (List._∷_ 111 (List._∷_ 110 (List._∷_ 101 (List._∷_ 115 (List._∷_ 58 (List._∷_ 58 (List._∷_ 104 (List._∷_ 101 (List._∷_ 108 (List._∷_ 100 (List._∷_ 58 (List._∷_ 58 (List._∷_ 72 (List._∷_ 101 (List._∷_ 108 (List._∷_ 100 List.[]))))))))))))))))) (Syntax.tcons (Syntax.tyStruct (List._∷_ 112 (List._∷_ 121 (List._∷_ 114 (List._∷_ 97 (List._∷_ 109 (List._∷_ 105 (List._∷_ 100 (List._∷_ 58 (List._∷_ 58 (List._∷_ 83 (List._∷_ 116 (List._∷_ 97 (List._∷_ 116 (List._∷_ 101 List.[])))))))))))))) (Syntax.tcons (Syntax.tyInt Syntax.w32) (Syntax.tcons (Syntax.tyInt Syntax.w32) (Syntax.tcons (Syntax.tyInt Syntax.w32) (Syntax.tcons (Syntax.tyArray (Syntax.tyInt Syntax.w32) 64) Syntax.tnil))))) (Syntax.tcons (Syntax.tyInt Syntax.w64) (Syntax.tcons (Syntax.tyInt Syntax.w64) (Syntax.tcons (Syntax.tyInt Syntax.w64) (Syntax.tcons (Syntax.tyInt Syntax.w64) (Syntax.tcons (Syntax.tyInt Syntax.w64) (Syntax.tcons (Syntax.tyInt Syntax.w64) (Syntax.tcons Syntax.tyBool Syntax.tnil)))))))))) (List._∷_ (1, Rows.whole (Declared.row Held.the-type)) (List._∷_ (2, Rows.whole (Declared.row Line.the-type)) (List._∷_ (3, Rows.sslice (Referent.rtF (Referent.fInt Syntax.w8)) (Syntax.tyRef (Syntax.named 0) Syntax.imm (Syntax.tyInt Syntax.w8)) 0) (List._∷_ (4, Rows.sref (Array.Array (Referent.rtF (Referent.fInt Syntax.w32)) 32772) (Syntax.tyRef (Syntax.named 1) Syntax.imm (Syntax.tyArray (Syntax.tyInt Syntax.w32) 32772)) 1) (List._∷_ (5, Rows.mref (Array.Array (Referent.rtF (Referent.fInt Syntax.w8)) 16388) (Syntax.tyRef (Syntax.named 2) Syntax.mut (Syntax.tyArray (Syntax.tyInt Syntax.w8) 16388)) 2) (List._∷_ (6, Rows.mref-owed (Array.Array (Referent.rtF (Referent.fInt Syntax.w32)) 65540) (Syntax.tyRef (Syntax.named 3) Syntax.mut (Syntax.tyArray (Syntax.tyInt Syntax.w32) 65540)) 3 18 (Row.lease (κs .1 .1 .1 .0) (qs .1 .1 .1 .0))) (List._∷_ (7, Rows.mref-owed (Array.Array (Referent.rtF (Referent.fInt Syntax.w32)) 32772) (Syntax.tyRef (Syntax.named 4) Syntax.mut (Syntax.tyArray (Syntax.tyInt Syntax.w32) 32772)) 4 19 (Row.lease (κs .1 .1 .1 .1 .0) (qs .1 .1 .1 .1 .0))) (List._∷_ (8, Rows.mref (Array.Array (Referent.rtF (Referent.fInt Syntax.w32)) 32772) (Syntax.tyRef (Syntax.named 5) Syntax.mut (Syntax.tyArray (Syntax.tyInt Syntax.w32) 32772)) 5) (List._∷_ (9, Rows.mref-owed (Array.Array (Referent.rtF (Referent.fInt Syntax.w32)) 262160) (Syntax.tyRef (Syntax.named 6) Syntax.mut (Syntax.tyArray (Syntax.tyInt Syntax.w32) 262160)) 6 20 (Row.lease (κs .1 .1 .1 .1 .1 .1 .0) (qs .1 .1 .1 .1 .1 .1 .0))) (List._∷_ (10, Reshare.mref-owedS (Array.Array (Referent.rtF (Referent.fInt Syntax.w8)) 600000) (Syntax.tyRef (Syntax.named 7) Syntax.mut (Syntax.tyArray (Syntax.tyInt Syntax.w8) 600000)) 7 21 (Row.lease (κs .1 .1 .1 .1 .1 .1 .1 .0) (qs .1 .1 .1 .1 .1 .1 .1 .0))) (List._∷_ (11, Rows.mref (Array.Array Cell.R 65540) (Syntax.tyRef (Syntax.named 8) Syntax.mut (Syntax.tyArray Cell.behind 65540)) 8) (List._∷_ (12, Rows.mref (Array.Array Cell.R 32772) (Syntax.tyRef (Syntax.named 9) Syntax.mut (Syntax.tyArray Cell.behind 32772)) 9) (List._∷_ (13, Rows.any-gone Syntax.tyBool) (List._∷_ (14, Rows.any-gone Syntax.tyBool) (List._∷_ (15, Rows.any-gone Syntax.tyBool) List.[])))))))))))))))
+        g54 = List._∷_ (0, Rows.any-gone (Syntax.tyStruct (List._∷_ 122 (List._∷_ 111 (List._∷_ 110 (List._∷_ 101 (List._∷_ 115 (List._∷_ 58 (List._∷_ 58 (List._∷_ 104 (List._∷_ 101 (List._∷_ 108 (List._∷_ 100 (List._∷_ 58 (List._∷_ 58 (List._∷_ 72 (List._∷_ 101 (List._∷_ 108 (List._∷_ 100 List.[]))))))))))))))))) (Syntax.tcons (Syntax.tyStruct (List._∷_ 112 (List._∷_ 121 (List._∷_ 114 (List._∷_ 97 (List._∷_ 109 (List._∷_ 105 (List._∷_ 100 (List._∷_ 58 (List._∷_ 58 (List._∷_ 83 (List._∷_ 116 (List._∷_ 97 (List._∷_ 116 (List._∷_ 101 List.[])))))))))))))) (Syntax.tcons (Syntax.tyInt Syntax.w32) (Syntax.tcons (Syntax.tyInt Syntax.w32) (Syntax.tcons (Syntax.tyInt Syntax.w32) (Syntax.tcons (Syntax.tyInt Syntax.w32) (Syntax.tcons (Syntax.tyInt Syntax.w32) (Syntax.tcons (Syntax.tyArray (Syntax.tyInt Syntax.w32) 64) Syntax.tnil))))))) (Syntax.tcons (Syntax.tyInt Syntax.w64) (Syntax.tcons (Syntax.tyInt Syntax.w64) (Syntax.tcons (Syntax.tyInt Syntax.w64) (Syntax.tcons (Syntax.tyInt Syntax.w64) (Syntax.tcons (Syntax.tyInt Syntax.w64) (Syntax.tcons (Syntax.tyInt Syntax.w64) (Syntax.tcons Syntax.tyBool Syntax.tnil)))))))))) (List._∷_ (1, Rows.whole (Declared.row Held.the-type)) (List._∷_ (2, Rows.whole (Declared.row Line.the-type)) (List._∷_ (3, Rows.sslice (Referent.rtF (Referent.fInt Syntax.w8)) (Syntax.tyRef (Syntax.named 0) Syntax.imm (Syntax.tyInt Syntax.w8)) 0) (List._∷_ (4, Rows.sref (Array.Array (Referent.rtF (Referent.fInt Syntax.w32)) 32772) (Syntax.tyRef (Syntax.named 1) Syntax.imm (Syntax.tyArray (Syntax.tyInt Syntax.w32) 32772)) 1) (List._∷_ (5, Rows.mref (Array.Array (Referent.rtF (Referent.fInt Syntax.w8)) 16388) (Syntax.tyRef (Syntax.named 2) Syntax.mut (Syntax.tyArray (Syntax.tyInt Syntax.w8) 16388)) 2) (List._∷_ (6, Rows.mref-owed (Array.Array (Referent.rtF (Referent.fInt Syntax.w32)) 65540) (Syntax.tyRef (Syntax.named 3) Syntax.mut (Syntax.tyArray (Syntax.tyInt Syntax.w32) 65540)) 3 18 (Row.lease (κs .1 .1 .1 .0) (qs .1 .1 .1 .0))) (List._∷_ (7, Rows.mref-owed (Array.Array (Referent.rtF (Referent.fInt Syntax.w32)) 32772) (Syntax.tyRef (Syntax.named 4) Syntax.mut (Syntax.tyArray (Syntax.tyInt Syntax.w32) 32772)) 4 19 (Row.lease (κs .1 .1 .1 .1 .0) (qs .1 .1 .1 .1 .0))) (List._∷_ (8, Rows.mref (Array.Array (Referent.rtF (Referent.fInt Syntax.w32)) 32772) (Syntax.tyRef (Syntax.named 5) Syntax.mut (Syntax.tyArray (Syntax.tyInt Syntax.w32) 32772)) 5) (List._∷_ (9, Rows.mref-owed (Array.Array (Referent.rtF (Referent.fInt Syntax.w32)) 262160) (Syntax.tyRef (Syntax.named 6) Syntax.mut (Syntax.tyArray (Syntax.tyInt Syntax.w32) 262160)) 6 20 (Row.lease (κs .1 .1 .1 .1 .1 .1 .0) (qs .1 .1 .1 .1 .1 .1 .0))) (List._∷_ (10, Reshare.mref-owedS (Array.Array (Referent.rtF (Referent.fInt Syntax.w8)) 600000) (Syntax.tyRef (Syntax.named 7) Syntax.mut (Syntax.tyArray (Syntax.tyInt Syntax.w8) 600000)) 7 21 (Row.lease (κs .1 .1 .1 .1 .1 .1 .1 .0) (qs .1 .1 .1 .1 .1 .1 .1 .0))) (List._∷_ (11, Rows.mref (Array.Array Cell.R 65540) (Syntax.tyRef (Syntax.named 8) Syntax.mut (Syntax.tyArray Cell.behind 65540)) 8) (List._∷_ (12, Rows.mref (Array.Array Cell.R 32772) (Syntax.tyRef (Syntax.named 9) Syntax.mut (Syntax.tyArray Cell.behind 32772)) 9) (List._∷_ (13, Rows.any-gone Syntax.tyBool) (List._∷_ (14, Rows.any-gone Syntax.tyBool) (List._∷_ (15, Rows.any-gone Syntax.tyBool) List.[])))))))))))))))
 
         abbrev g56 : List.List Row.Entry
-        g56 = List._∷_ (0, Rows.any-gone (Syntax.tyStruct (List._∷_ 122 (List._∷_ 111 (List._∷_ 110 (List._∷_ 101 (List._∷_ 115 (List._∷_ 58 (List._∷_ 58 (List._∷_ 104 (List._∷_ 101 (List._∷_ 108 (List._∷_ 100 (List._∷_ 58 (List._∷_ 58 (List._∷_ 72 (List._∷_ 101 (List._∷_ 108 (List._∷_ 100 List.[]))))))))))))))))) (Syntax.tcons (Syntax.tyStruct (List._∷_ 112 (List._∷_ 121 (List._∷_ 114 (List._∷_ 97 (List._∷_ 109 (List._∷_ 105 (List._∷_ 100 (List._∷_ 58 (List._∷_ 58 (List._∷_ 83 (List._∷_ 116 (List._∷_ 97 (List._∷_ 116 (List._∷_ 101 List.[])))))))))))))) (Syntax.tcons (Syntax.tyInt Syntax.w32) (Syntax.tcons (Syntax.tyInt Syntax.w32) (Syntax.tcons (Syntax.tyInt Syntax.w32) (Syntax.tcons (Syntax.tyArray (Syntax.tyInt Syntax.w32) 64) Syntax.tnil))))) (Syntax.tcons (Syntax.tyInt Syntax.w64) (Syntax.tcons (Syntax.tyInt Syntax.w64) (Syntax.tcons (Syntax.tyInt Syntax.w64) (Syntax.tcons (Syntax.tyInt Syntax.w64) (Syntax.tcons (Syntax.tyInt Syntax.w64) (Syntax.tcons (Syntax.tyInt Syntax.w64) (Syntax.tcons Syntax.tyBool Syntax.tnil)))))))))) (List._∷_ (1, Rows.whole (Declared.row Held.the-type)) (List._∷_ (2, Rows.whole (Declared.row Line.the-type)) (List._∷_ (3, Rows.sslice (Referent.rtF (Referent.fInt Syntax.w8)) (Syntax.tyRef (Syntax.named 0) Syntax.imm (Syntax.tyInt Syntax.w8)) 0) (List._∷_ (4, Rows.sref (Array.Array (Referent.rtF (Referent.fInt Syntax.w32)) 32772) (Syntax.tyRef (Syntax.named 1) Syntax.imm (Syntax.tyArray (Syntax.tyInt Syntax.w32) 32772)) 1) (List._∷_ (5, Rows.mref (Array.Array (Referent.rtF (Referent.fInt Syntax.w8)) 16388) (Syntax.tyRef (Syntax.named 2) Syntax.mut (Syntax.tyArray (Syntax.tyInt Syntax.w8) 16388)) 2) (List._∷_ (6, Rows.mref-owed (Array.Array (Referent.rtF (Referent.fInt Syntax.w32)) 65540) (Syntax.tyRef (Syntax.named 3) Syntax.mut (Syntax.tyArray (Syntax.tyInt Syntax.w32) 65540)) 3 18 (Row.lease (κs .1 .1 .1 .0) (qs .1 .1 .1 .0))) (List._∷_ (7, Rows.mref-owed (Array.Array (Referent.rtF (Referent.fInt Syntax.w32)) 32772) (Syntax.tyRef (Syntax.named 4) Syntax.mut (Syntax.tyArray (Syntax.tyInt Syntax.w32) 32772)) 4 19 (Row.lease (κs .1 .1 .1 .1 .0) (qs .1 .1 .1 .1 .0))) (List._∷_ (8, Rows.mref (Array.Array (Referent.rtF (Referent.fInt Syntax.w32)) 32772) (Syntax.tyRef (Syntax.named 5) Syntax.mut (Syntax.tyArray (Syntax.tyInt Syntax.w32) 32772)) 5) (List._∷_ (9, Rows.mref-owed (Array.Array (Referent.rtF (Referent.fInt Syntax.w32)) 262160) (Syntax.tyRef (Syntax.named 6) Syntax.mut (Syntax.tyArray (Syntax.tyInt Syntax.w32) 262160)) 6 20 (Row.lease (κs .1 .1 .1 .1 .1 .1 .0) (qs .1 .1 .1 .1 .1 .1 .0))) (List._∷_ (10, Reshare.mref-owedS (Array.Array (Referent.rtF (Referent.fInt Syntax.w8)) 600000) (Syntax.tyRef (Syntax.named 7) Syntax.mut (Syntax.tyArray (Syntax.tyInt Syntax.w8) 600000)) 7 21 (Row.lease (κs .1 .1 .1 .1 .1 .1 .1 .0) (qs .1 .1 .1 .1 .1 .1 .1 .0))) (List._∷_ (11, Rows.mref-owed (Array.Array Cell.R 65540) (Syntax.tyRef (Syntax.named 8) Syntax.mut (Syntax.tyArray Cell.behind 65540)) 8 22 (Row.lease (κs .1 .1 .1 .1 .1 .1 .1 .1 .0) (qs .1 .1 .1 .1 .1 .1 .1 .1 .0))) (List._∷_ (12, Rows.mref (Array.Array Cell.R 32772) (Syntax.tyRef (Syntax.named 9) Syntax.mut (Syntax.tyArray Cell.behind 32772)) 9) (List._∷_ (13, Rows.any-gone Syntax.tyBool) (List._∷_ (14, Rows.any-gone Syntax.tyBool) (List._∷_ (15, Rows.any-gone Syntax.tyBool) List.[])))))))))))))))
+        g56 = List._∷_ (0, Rows.any-gone (Syntax.tyStruct (List._∷_ 122 (List._∷_ 111 (List._∷_ 110 (List._∷_ 101 (List._∷_ 115 (List._∷_ 58 (List._∷_ 58 (List._∷_ 104 (List._∷_ 101 (List._∷_ 108 (List._∷_ 100 (List._∷_ 58 (List._∷_ 58 (List._∷_ 72 (List._∷_ 101 (List._∷_ 108 (List._∷_ 100 List.[]))))))))))))))))) (Syntax.tcons (Syntax.tyStruct (List._∷_ 112 (List._∷_ 121 (List._∷_ 114 (List._∷_ 97 (List._∷_ 109 (List._∷_ 105 (List._∷_ 100 (List._∷_ 58 (List._∷_ 58 (List._∷_ 83 (List._∷_ 116 (List._∷_ 97 (List._∷_ 116 (List._∷_ 101 List.[])))))))))))))) (Syntax.tcons (Syntax.tyInt Syntax.w32) (Syntax.tcons (Syntax.tyInt Syntax.w32) (Syntax.tcons (Syntax.tyInt Syntax.w32) (Syntax.tcons (Syntax.tyInt Syntax.w32) (Syntax.tcons (Syntax.tyInt Syntax.w32) (Syntax.tcons (Syntax.tyArray (Syntax.tyInt Syntax.w32) 64) Syntax.tnil))))))) (Syntax.tcons (Syntax.tyInt Syntax.w64) (Syntax.tcons (Syntax.tyInt Syntax.w64) (Syntax.tcons (Syntax.tyInt Syntax.w64) (Syntax.tcons (Syntax.tyInt Syntax.w64) (Syntax.tcons (Syntax.tyInt Syntax.w64) (Syntax.tcons (Syntax.tyInt Syntax.w64) (Syntax.tcons Syntax.tyBool Syntax.tnil)))))))))) (List._∷_ (1, Rows.whole (Declared.row Held.the-type)) (List._∷_ (2, Rows.whole (Declared.row Line.the-type)) (List._∷_ (3, Rows.sslice (Referent.rtF (Referent.fInt Syntax.w8)) (Syntax.tyRef (Syntax.named 0) Syntax.imm (Syntax.tyInt Syntax.w8)) 0) (List._∷_ (4, Rows.sref (Array.Array (Referent.rtF (Referent.fInt Syntax.w32)) 32772) (Syntax.tyRef (Syntax.named 1) Syntax.imm (Syntax.tyArray (Syntax.tyInt Syntax.w32) 32772)) 1) (List._∷_ (5, Rows.mref (Array.Array (Referent.rtF (Referent.fInt Syntax.w8)) 16388) (Syntax.tyRef (Syntax.named 2) Syntax.mut (Syntax.tyArray (Syntax.tyInt Syntax.w8) 16388)) 2) (List._∷_ (6, Rows.mref-owed (Array.Array (Referent.rtF (Referent.fInt Syntax.w32)) 65540) (Syntax.tyRef (Syntax.named 3) Syntax.mut (Syntax.tyArray (Syntax.tyInt Syntax.w32) 65540)) 3 18 (Row.lease (κs .1 .1 .1 .0) (qs .1 .1 .1 .0))) (List._∷_ (7, Rows.mref-owed (Array.Array (Referent.rtF (Referent.fInt Syntax.w32)) 32772) (Syntax.tyRef (Syntax.named 4) Syntax.mut (Syntax.tyArray (Syntax.tyInt Syntax.w32) 32772)) 4 19 (Row.lease (κs .1 .1 .1 .1 .0) (qs .1 .1 .1 .1 .0))) (List._∷_ (8, Rows.mref (Array.Array (Referent.rtF (Referent.fInt Syntax.w32)) 32772) (Syntax.tyRef (Syntax.named 5) Syntax.mut (Syntax.tyArray (Syntax.tyInt Syntax.w32) 32772)) 5) (List._∷_ (9, Rows.mref-owed (Array.Array (Referent.rtF (Referent.fInt Syntax.w32)) 262160) (Syntax.tyRef (Syntax.named 6) Syntax.mut (Syntax.tyArray (Syntax.tyInt Syntax.w32) 262160)) 6 20 (Row.lease (κs .1 .1 .1 .1 .1 .1 .0) (qs .1 .1 .1 .1 .1 .1 .0))) (List._∷_ (10, Reshare.mref-owedS (Array.Array (Referent.rtF (Referent.fInt Syntax.w8)) 600000) (Syntax.tyRef (Syntax.named 7) Syntax.mut (Syntax.tyArray (Syntax.tyInt Syntax.w8) 600000)) 7 21 (Row.lease (κs .1 .1 .1 .1 .1 .1 .1 .0) (qs .1 .1 .1 .1 .1 .1 .1 .0))) (List._∷_ (11, Rows.mref-owed (Array.Array Cell.R 65540) (Syntax.tyRef (Syntax.named 8) Syntax.mut (Syntax.tyArray Cell.behind 65540)) 8 22 (Row.lease (κs .1 .1 .1 .1 .1 .1 .1 .1 .0) (qs .1 .1 .1 .1 .1 .1 .1 .1 .0))) (List._∷_ (12, Rows.mref (Array.Array Cell.R 32772) (Syntax.tyRef (Syntax.named 9) Syntax.mut (Syntax.tyArray Cell.behind 32772)) 9) (List._∷_ (13, Rows.any-gone Syntax.tyBool) (List._∷_ (14, Rows.any-gone Syntax.tyBool) (List._∷_ (15, Rows.any-gone Syntax.tyBool) List.[])))))))))))))))
 
         abbrev g58 : List.List Row.Entry
-        g58 = List._∷_ (0, Rows.any-gone (Syntax.tyStruct (List._∷_ 122 (List._∷_ 111 (List._∷_ 110 (List._∷_ 101 (List._∷_ 115 (List._∷_ 58 (List._∷_ 58 (List._∷_ 104 (List._∷_ 101 (List._∷_ 108 (List._∷_ 100 (List._∷_ 58 (List._∷_ 58 (List._∷_ 72 (List._∷_ 101 (List._∷_ 108 (List._∷_ 100 List.[]))))))))))))))))) (Syntax.tcons (Syntax.tyStruct (List._∷_ 112 (List._∷_ 121 (List._∷_ 114 (List._∷_ 97 (List._∷_ 109 (List._∷_ 105 (List._∷_ 100 (List._∷_ 58 (List._∷_ 58 (List._∷_ 83 (List._∷_ 116 (List._∷_ 97 (List._∷_ 116 (List._∷_ 101 List.[])))))))))))))) (Syntax.tcons (Syntax.tyInt Syntax.w32) (Syntax.tcons (Syntax.tyInt Syntax.w32) (Syntax.tcons (Syntax.tyInt Syntax.w32) (Syntax.tcons (Syntax.tyArray (Syntax.tyInt Syntax.w32) 64) Syntax.tnil))))) (Syntax.tcons (Syntax.tyInt Syntax.w64) (Syntax.tcons (Syntax.tyInt Syntax.w64) (Syntax.tcons (Syntax.tyInt Syntax.w64) (Syntax.tcons (Syntax.tyInt Syntax.w64) (Syntax.tcons (Syntax.tyInt Syntax.w64) (Syntax.tcons (Syntax.tyInt Syntax.w64) (Syntax.tcons Syntax.tyBool Syntax.tnil)))))))))) (List._∷_ (1, Rows.whole (Declared.row Held.the-type)) (List._∷_ (2, Rows.whole (Declared.row Line.the-type)) (List._∷_ (3, Rows.sslice (Referent.rtF (Referent.fInt Syntax.w8)) (Syntax.tyRef (Syntax.named 0) Syntax.imm (Syntax.tyInt Syntax.w8)) 0) (List._∷_ (4, Rows.sref (Array.Array (Referent.rtF (Referent.fInt Syntax.w32)) 32772) (Syntax.tyRef (Syntax.named 1) Syntax.imm (Syntax.tyArray (Syntax.tyInt Syntax.w32) 32772)) 1) (List._∷_ (5, Rows.mref (Array.Array (Referent.rtF (Referent.fInt Syntax.w8)) 16388) (Syntax.tyRef (Syntax.named 2) Syntax.mut (Syntax.tyArray (Syntax.tyInt Syntax.w8) 16388)) 2) (List._∷_ (6, Rows.mref-owed (Array.Array (Referent.rtF (Referent.fInt Syntax.w32)) 65540) (Syntax.tyRef (Syntax.named 3) Syntax.mut (Syntax.tyArray (Syntax.tyInt Syntax.w32) 65540)) 3 18 (Row.lease (κs .1 .1 .1 .0) (qs .1 .1 .1 .0))) (List._∷_ (7, Rows.mref-owed (Array.Array (Referent.rtF (Referent.fInt Syntax.w32)) 32772) (Syntax.tyRef (Syntax.named 4) Syntax.mut (Syntax.tyArray (Syntax.tyInt Syntax.w32) 32772)) 4 19 (Row.lease (κs .1 .1 .1 .1 .0) (qs .1 .1 .1 .1 .0))) (List._∷_ (8, Rows.mref (Array.Array (Referent.rtF (Referent.fInt Syntax.w32)) 32772) (Syntax.tyRef (Syntax.named 5) Syntax.mut (Syntax.tyArray (Syntax.tyInt Syntax.w32) 32772)) 5) (List._∷_ (9, Rows.mref-owed (Array.Array (Referent.rtF (Referent.fInt Syntax.w32)) 262160) (Syntax.tyRef (Syntax.named 6) Syntax.mut (Syntax.tyArray (Syntax.tyInt Syntax.w32) 262160)) 6 20 (Row.lease (κs .1 .1 .1 .1 .1 .1 .0) (qs .1 .1 .1 .1 .1 .1 .0))) (List._∷_ (10, Reshare.mref-owedS (Array.Array (Referent.rtF (Referent.fInt Syntax.w8)) 600000) (Syntax.tyRef (Syntax.named 7) Syntax.mut (Syntax.tyArray (Syntax.tyInt Syntax.w8) 600000)) 7 21 (Row.lease (κs .1 .1 .1 .1 .1 .1 .1 .0) (qs .1 .1 .1 .1 .1 .1 .1 .0))) (List._∷_ (11, Rows.mref-owed (Array.Array Cell.R 65540) (Syntax.tyRef (Syntax.named 8) Syntax.mut (Syntax.tyArray Cell.behind 65540)) 8 22 (Row.lease (κs .1 .1 .1 .1 .1 .1 .1 .1 .0) (qs .1 .1 .1 .1 .1 .1 .1 .1 .0))) (List._∷_ (12, Rows.mref-owed (Array.Array Cell.R 32772) (Syntax.tyRef (Syntax.named 9) Syntax.mut (Syntax.tyArray Cell.behind 32772)) 9 23 (Row.lease (κs .1 .1 .1 .1 .1 .1 .1 .1 .1 .0) (qs .1 .1 .1 .1 .1 .1 .1 .1 .1 .0))) (List._∷_ (13, Rows.any-gone Syntax.tyBool) (List._∷_ (14, Rows.any-gone Syntax.tyBool) (List._∷_ (15, Rows.any-gone Syntax.tyBool) List.[])))))))))))))))
+        g58 = List._∷_ (0, Rows.any-gone (Syntax.tyStruct (List._∷_ 122 (List._∷_ 111 (List._∷_ 110 (List._∷_ 101 (List._∷_ 115 (List._∷_ 58 (List._∷_ 58 (List._∷_ 104 (List._∷_ 101 (List._∷_ 108 (List._∷_ 100 (List._∷_ 58 (List._∷_ 58 (List._∷_ 72 (List._∷_ 101 (List._∷_ 108 (List._∷_ 100 List.[]))))))))))))))))) (Syntax.tcons (Syntax.tyStruct (List._∷_ 112 (List._∷_ 121 (List._∷_ 114 (List._∷_ 97 (List._∷_ 109 (List._∷_ 105 (List._∷_ 100 (List._∷_ 58 (List._∷_ 58 (List._∷_ 83 (List._∷_ 116 (List._∷_ 97 (List._∷_ 116 (List._∷_ 101 List.[])))))))))))))) (Syntax.tcons (Syntax.tyInt Syntax.w32) (Syntax.tcons (Syntax.tyInt Syntax.w32) (Syntax.tcons (Syntax.tyInt Syntax.w32) (Syntax.tcons (Syntax.tyInt Syntax.w32) (Syntax.tcons (Syntax.tyInt Syntax.w32) (Syntax.tcons (Syntax.tyArray (Syntax.tyInt Syntax.w32) 64) Syntax.tnil))))))) (Syntax.tcons (Syntax.tyInt Syntax.w64) (Syntax.tcons (Syntax.tyInt Syntax.w64) (Syntax.tcons (Syntax.tyInt Syntax.w64) (Syntax.tcons (Syntax.tyInt Syntax.w64) (Syntax.tcons (Syntax.tyInt Syntax.w64) (Syntax.tcons (Syntax.tyInt Syntax.w64) (Syntax.tcons Syntax.tyBool Syntax.tnil)))))))))) (List._∷_ (1, Rows.whole (Declared.row Held.the-type)) (List._∷_ (2, Rows.whole (Declared.row Line.the-type)) (List._∷_ (3, Rows.sslice (Referent.rtF (Referent.fInt Syntax.w8)) (Syntax.tyRef (Syntax.named 0) Syntax.imm (Syntax.tyInt Syntax.w8)) 0) (List._∷_ (4, Rows.sref (Array.Array (Referent.rtF (Referent.fInt Syntax.w32)) 32772) (Syntax.tyRef (Syntax.named 1) Syntax.imm (Syntax.tyArray (Syntax.tyInt Syntax.w32) 32772)) 1) (List._∷_ (5, Rows.mref (Array.Array (Referent.rtF (Referent.fInt Syntax.w8)) 16388) (Syntax.tyRef (Syntax.named 2) Syntax.mut (Syntax.tyArray (Syntax.tyInt Syntax.w8) 16388)) 2) (List._∷_ (6, Rows.mref-owed (Array.Array (Referent.rtF (Referent.fInt Syntax.w32)) 65540) (Syntax.tyRef (Syntax.named 3) Syntax.mut (Syntax.tyArray (Syntax.tyInt Syntax.w32) 65540)) 3 18 (Row.lease (κs .1 .1 .1 .0) (qs .1 .1 .1 .0))) (List._∷_ (7, Rows.mref-owed (Array.Array (Referent.rtF (Referent.fInt Syntax.w32)) 32772) (Syntax.tyRef (Syntax.named 4) Syntax.mut (Syntax.tyArray (Syntax.tyInt Syntax.w32) 32772)) 4 19 (Row.lease (κs .1 .1 .1 .1 .0) (qs .1 .1 .1 .1 .0))) (List._∷_ (8, Rows.mref (Array.Array (Referent.rtF (Referent.fInt Syntax.w32)) 32772) (Syntax.tyRef (Syntax.named 5) Syntax.mut (Syntax.tyArray (Syntax.tyInt Syntax.w32) 32772)) 5) (List._∷_ (9, Rows.mref-owed (Array.Array (Referent.rtF (Referent.fInt Syntax.w32)) 262160) (Syntax.tyRef (Syntax.named 6) Syntax.mut (Syntax.tyArray (Syntax.tyInt Syntax.w32) 262160)) 6 20 (Row.lease (κs .1 .1 .1 .1 .1 .1 .0) (qs .1 .1 .1 .1 .1 .1 .0))) (List._∷_ (10, Reshare.mref-owedS (Array.Array (Referent.rtF (Referent.fInt Syntax.w8)) 600000) (Syntax.tyRef (Syntax.named 7) Syntax.mut (Syntax.tyArray (Syntax.tyInt Syntax.w8) 600000)) 7 21 (Row.lease (κs .1 .1 .1 .1 .1 .1 .1 .0) (qs .1 .1 .1 .1 .1 .1 .1 .0))) (List._∷_ (11, Rows.mref-owed (Array.Array Cell.R 65540) (Syntax.tyRef (Syntax.named 8) Syntax.mut (Syntax.tyArray Cell.behind 65540)) 8 22 (Row.lease (κs .1 .1 .1 .1 .1 .1 .1 .1 .0) (qs .1 .1 .1 .1 .1 .1 .1 .1 .0))) (List._∷_ (12, Rows.mref-owed (Array.Array Cell.R 32772) (Syntax.tyRef (Syntax.named 9) Syntax.mut (Syntax.tyArray Cell.behind 32772)) 9 23 (Row.lease (κs .1 .1 .1 .1 .1 .1 .1 .1 .1 .0) (qs .1 .1 .1 .1 .1 .1 .1 .1 .1 .0))) (List._∷_ (13, Rows.any-gone Syntax.tyBool) (List._∷_ (14, Rows.any-gone Syntax.tyBool) (List._∷_ (15, Rows.any-gone Syntax.tyBool) List.[])))))))))))))))
 
         abbrev g60 : List.List Row.Entry
         g60 = List._∷_ (0, Rows.whole (Declared.row Held.the-type)) (List._∷_ (1, Rows.whole (Declared.row Held.the-type)) (List._∷_ (2, Rows.whole (Declared.row Line.the-type)) (List._∷_ (3, Rows.sslice (Referent.rtF (Referent.fInt Syntax.w8)) (Syntax.tyRef (Syntax.named 0) Syntax.imm (Syntax.tyInt Syntax.w8)) 0) (List._∷_ (4, Rows.sref (Array.Array (Referent.rtF (Referent.fInt Syntax.w32)) 32772) (Syntax.tyRef (Syntax.named 1) Syntax.imm (Syntax.tyArray (Syntax.tyInt Syntax.w32) 32772)) 1) (List._∷_ (5, Rows.mref (Array.Array (Referent.rtF (Referent.fInt Syntax.w8)) 16388) (Syntax.tyRef (Syntax.named 2) Syntax.mut (Syntax.tyArray (Syntax.tyInt Syntax.w8) 16388)) 2) (List._∷_ (6, Rows.mref-owed (Array.Array (Referent.rtF (Referent.fInt Syntax.w32)) 65540) (Syntax.tyRef (Syntax.named 3) Syntax.mut (Syntax.tyArray (Syntax.tyInt Syntax.w32) 65540)) 3 18 (Row.lease (κs .1 .1 .1 .0) (qs .1 .1 .1 .0))) (List._∷_ (7, Rows.mref-owed (Array.Array (Referent.rtF (Referent.fInt Syntax.w32)) 32772) (Syntax.tyRef (Syntax.named 4) Syntax.mut (Syntax.tyArray (Syntax.tyInt Syntax.w32) 32772)) 4 19 (Row.lease (κs .1 .1 .1 .1 .0) (qs .1 .1 .1 .1 .0))) (List._∷_ (8, Rows.mref (Array.Array (Referent.rtF (Referent.fInt Syntax.w32)) 32772) (Syntax.tyRef (Syntax.named 5) Syntax.mut (Syntax.tyArray (Syntax.tyInt Syntax.w32) 32772)) 5) (List._∷_ (9, Rows.mref-owed (Array.Array (Referent.rtF (Referent.fInt Syntax.w32)) 262160) (Syntax.tyRef (Syntax.named 6) Syntax.mut (Syntax.tyArray (Syntax.tyInt Syntax.w32) 262160)) 6 20 (Row.lease (κs .1 .1 .1 .1 .1 .1 .0) (qs .1 .1 .1 .1 .1 .1 .0))) (List._∷_ (10, Reshare.mref-owedS (Array.Array (Referent.rtF (Referent.fInt Syntax.w8)) 600000) (Syntax.tyRef (Syntax.named 7) Syntax.mut (Syntax.tyArray (Syntax.tyInt Syntax.w8) 600000)) 7 21 (Row.lease (κs .1 .1 .1 .1 .1 .1 .1 .0) (qs .1 .1 .1 .1 .1 .1 .1 .0))) (List._∷_ (11, Rows.mref-owed (Array.Array Cell.R 65540) (Syntax.tyRef (Syntax.named 8) Syntax.mut (Syntax.tyArray Cell.behind 65540)) 8 22 (Row.lease (κs .1 .1 .1 .1 .1 .1 .1 .1 .0) (qs .1 .1 .1 .1 .1 .1 .1 .1 .0))) (List._∷_ (12, Rows.mref-owed (Array.Array Cell.R 32772) (Syntax.tyRef (Syntax.named 9) Syntax.mut (Syntax.tyArray Cell.behind 32772)) 9 23 (Row.lease (κs .1 .1 .1 .1 .1 .1 .1 .1 .1 .0) (qs .1 .1 .1 .1 .1 .1 .1 .1 .1 .0))) (List._∷_ (13, Rows.any-gone Syntax.tyBool) (List._∷_ (14, Rows.any-gone Syntax.tyBool) (List._∷_ (15, Rows.any-gone Syntax.tyBool) List.[])))))))))))))))
 
         abbrev g63 : List.List Row.Entry
-        g63 = List._∷_ (0, Rows.whole (Declared.row Held.the-type)) (List._∷_ (1, Rows.any-gone (Syntax.tyStruct (List._∷_ 122 (List._∷_ 111 (List._∷_ 110 (List._∷_ 101 (List._∷_ 115 (List._∷_ 58 (List._∷_ 58 (List._∷_ 104 (List._∷_ 101 (List._∷_ 108 (List._∷_ 100 (List._∷_ 58 (List._∷_ 58 (List._∷_ 72 (List._∷_ 101 (List._∷_ 108 (List._∷_ 100 List.[]))))))))))))))))) (Syntax.tcons (Syntax.tyStruct (List._∷_ 112 (List._∷_ 121 (List._∷_ 114 (List._∷_ 97 (List._∷_ 109 (List._∷_ 105 (List._∷_ 100 (List._∷_ 58 (List._∷_ 58 (List._∷_ 83 (List._∷_ 116 (List._∷_ 97 (List._∷_ 116 (List._∷_ 101 List.[])))))))))))))) (Syntax.tcons (Syntax.tyInt Syntax.w32) (Syntax.tcons (Syntax.tyInt Syntax.w32) (Syntax.tcons (Syntax.tyInt Syntax.w32) (Syntax.tcons (Syntax.tyArray (Syntax.tyInt Syntax.w32) 64) Syntax.tnil))))) (Syntax.tcons (Syntax.tyInt Syntax.w64) (Syntax.tcons (Syntax.tyInt Syntax.w64) (Syntax.tcons (Syntax.tyInt Syntax.w64) (Syntax.tcons (Syntax.tyInt Syntax.w64) (Syntax.tcons (Syntax.tyInt Syntax.w64) (Syntax.tcons (Syntax.tyInt Syntax.w64) (Syntax.tcons Syntax.tyBool Syntax.tnil)))))))))) (List._∷_ (2, Rows.whole (Declared.row Line.the-type)) (List._∷_ (3, Rows.sslice (Referent.rtF (Referent.fInt Syntax.w8)) (Syntax.tyRef (Syntax.named 0) Syntax.imm (Syntax.tyInt Syntax.w8)) 0) (List._∷_ (4, Rows.sref (Array.Array (Referent.rtF (Referent.fInt Syntax.w32)) 32772) (Syntax.tyRef (Syntax.named 1) Syntax.imm (Syntax.tyArray (Syntax.tyInt Syntax.w32) 32772)) 1) (List._∷_ (5, Rows.mref (Array.Array (Referent.rtF (Referent.fInt Syntax.w8)) 16388) (Syntax.tyRef (Syntax.named 2) Syntax.mut (Syntax.tyArray (Syntax.tyInt Syntax.w8) 16388)) 2) (List._∷_ (6, Rows.mref-owed (Array.Array (Referent.rtF (Referent.fInt Syntax.w32)) 65540) (Syntax.tyRef (Syntax.named 3) Syntax.mut (Syntax.tyArray (Syntax.tyInt Syntax.w32) 65540)) 3 18 (Row.lease (κs .1 .1 .1 .0) (qs .1 .1 .1 .0))) (List._∷_ (7, Rows.mref-owed (Array.Array (Referent.rtF (Referent.fInt Syntax.w32)) 32772) (Syntax.tyRef (Syntax.named 4) Syntax.mut (Syntax.tyArray (Syntax.tyInt Syntax.w32) 32772)) 4 19 (Row.lease (κs .1 .1 .1 .1 .0) (qs .1 .1 .1 .1 .0))) (List._∷_ (8, Rows.mref (Array.Array (Referent.rtF (Referent.fInt Syntax.w32)) 32772) (Syntax.tyRef (Syntax.named 5) Syntax.mut (Syntax.tyArray (Syntax.tyInt Syntax.w32) 32772)) 5) (List._∷_ (9, Rows.mref-owed (Array.Array (Referent.rtF (Referent.fInt Syntax.w32)) 262160) (Syntax.tyRef (Syntax.named 6) Syntax.mut (Syntax.tyArray (Syntax.tyInt Syntax.w32) 262160)) 6 20 (Row.lease (κs .1 .1 .1 .1 .1 .1 .0) (qs .1 .1 .1 .1 .1 .1 .0))) (List._∷_ (10, Reshare.mref-owedS (Array.Array (Referent.rtF (Referent.fInt Syntax.w8)) 600000) (Syntax.tyRef (Syntax.named 7) Syntax.mut (Syntax.tyArray (Syntax.tyInt Syntax.w8) 600000)) 7 21 (Row.lease (κs .1 .1 .1 .1 .1 .1 .1 .0) (qs .1 .1 .1 .1 .1 .1 .1 .0))) (List._∷_ (11, Rows.mref-owed (Array.Array Cell.R 65540) (Syntax.tyRef (Syntax.named 8) Syntax.mut (Syntax.tyArray Cell.behind 65540)) 8 22 (Row.lease (κs .1 .1 .1 .1 .1 .1 .1 .1 .0) (qs .1 .1 .1 .1 .1 .1 .1 .1 .0))) (List._∷_ (12, Rows.mref-owed (Array.Array Cell.R 32772) (Syntax.tyRef (Syntax.named 9) Syntax.mut (Syntax.tyArray Cell.behind 32772)) 9 23 (Row.lease (κs .1 .1 .1 .1 .1 .1 .1 .1 .1 .0) (qs .1 .1 .1 .1 .1 .1 .1 .1 .1 .0))) (List._∷_ (13, Rows.any-gone Syntax.tyBool) (List._∷_ (14, Rows.any-gone Syntax.tyBool) (List._∷_ (15, Rows.any-gone Syntax.tyBool) List.[])))))))))))))))
+        g63 = List._∷_ (0, Rows.whole (Declared.row Held.the-type)) (List._∷_ (1, Rows.any-gone (Syntax.tyStruct (List._∷_ 122 (List._∷_ 111 (List._∷_ 110 (List._∷_ 101 (List._∷_ 115 (List._∷_ 58 (List._∷_ 58 (List._∷_ 104 (List._∷_ 101 (List._∷_ 108 (List._∷_ 100 (List._∷_ 58 (List._∷_ 58 (List._∷_ 72 (List._∷_ 101 (List._∷_ 108 (List._∷_ 100 List.[]))))))))))))))))) (Syntax.tcons (Syntax.tyStruct (List._∷_ 112 (List._∷_ 121 (List._∷_ 114 (List._∷_ 97 (List._∷_ 109 (List._∷_ 105 (List._∷_ 100 (List._∷_ 58 (List._∷_ 58 (List._∷_ 83 (List._∷_ 116 (List._∷_ 97 (List._∷_ 116 (List._∷_ 101 List.[])))))))))))))) (Syntax.tcons (Syntax.tyInt Syntax.w32) (Syntax.tcons (Syntax.tyInt Syntax.w32) (Syntax.tcons (Syntax.tyInt Syntax.w32) (Syntax.tcons (Syntax.tyInt Syntax.w32) (Syntax.tcons (Syntax.tyInt Syntax.w32) (Syntax.tcons (Syntax.tyArray (Syntax.tyInt Syntax.w32) 64) Syntax.tnil))))))) (Syntax.tcons (Syntax.tyInt Syntax.w64) (Syntax.tcons (Syntax.tyInt Syntax.w64) (Syntax.tcons (Syntax.tyInt Syntax.w64) (Syntax.tcons (Syntax.tyInt Syntax.w64) (Syntax.tcons (Syntax.tyInt Syntax.w64) (Syntax.tcons (Syntax.tyInt Syntax.w64) (Syntax.tcons Syntax.tyBool Syntax.tnil)))))))))) (List._∷_ (2, Rows.whole (Declared.row Line.the-type)) (List._∷_ (3, Rows.sslice (Referent.rtF (Referent.fInt Syntax.w8)) (Syntax.tyRef (Syntax.named 0) Syntax.imm (Syntax.tyInt Syntax.w8)) 0) (List._∷_ (4, Rows.sref (Array.Array (Referent.rtF (Referent.fInt Syntax.w32)) 32772) (Syntax.tyRef (Syntax.named 1) Syntax.imm (Syntax.tyArray (Syntax.tyInt Syntax.w32) 32772)) 1) (List._∷_ (5, Rows.mref (Array.Array (Referent.rtF (Referent.fInt Syntax.w8)) 16388) (Syntax.tyRef (Syntax.named 2) Syntax.mut (Syntax.tyArray (Syntax.tyInt Syntax.w8) 16388)) 2) (List._∷_ (6, Rows.mref-owed (Array.Array (Referent.rtF (Referent.fInt Syntax.w32)) 65540) (Syntax.tyRef (Syntax.named 3) Syntax.mut (Syntax.tyArray (Syntax.tyInt Syntax.w32) 65540)) 3 18 (Row.lease (κs .1 .1 .1 .0) (qs .1 .1 .1 .0))) (List._∷_ (7, Rows.mref-owed (Array.Array (Referent.rtF (Referent.fInt Syntax.w32)) 32772) (Syntax.tyRef (Syntax.named 4) Syntax.mut (Syntax.tyArray (Syntax.tyInt Syntax.w32) 32772)) 4 19 (Row.lease (κs .1 .1 .1 .1 .0) (qs .1 .1 .1 .1 .0))) (List._∷_ (8, Rows.mref (Array.Array (Referent.rtF (Referent.fInt Syntax.w32)) 32772) (Syntax.tyRef (Syntax.named 5) Syntax.mut (Syntax.tyArray (Syntax.tyInt Syntax.w32) 32772)) 5) (List._∷_ (9, Rows.mref-owed (Array.Array (Referent.rtF (Referent.fInt Syntax.w32)) 262160) (Syntax.tyRef (Syntax.named 6) Syntax.mut (Syntax.tyArray (Syntax.tyInt Syntax.w32) 262160)) 6 20 (Row.lease (κs .1 .1 .1 .1 .1 .1 .0) (qs .1 .1 .1 .1 .1 .1 .0))) (List._∷_ (10, Reshare.mref-owedS (Array.Array (Referent.rtF (Referent.fInt Syntax.w8)) 600000) (Syntax.tyRef (Syntax.named 7) Syntax.mut (Syntax.tyArray (Syntax.tyInt Syntax.w8) 600000)) 7 21 (Row.lease (κs .1 .1 .1 .1 .1 .1 .1 .0) (qs .1 .1 .1 .1 .1 .1 .1 .0))) (List._∷_ (11, Rows.mref-owed (Array.Array Cell.R 65540) (Syntax.tyRef (Syntax.named 8) Syntax.mut (Syntax.tyArray Cell.behind 65540)) 8 22 (Row.lease (κs .1 .1 .1 .1 .1 .1 .1 .1 .0) (qs .1 .1 .1 .1 .1 .1 .1 .1 .0))) (List._∷_ (12, Rows.mref-owed (Array.Array Cell.R 32772) (Syntax.tyRef (Syntax.named 9) Syntax.mut (Syntax.tyArray Cell.behind 32772)) 9 23 (Row.lease (κs .1 .1 .1 .1 .1 .1 .1 .1 .1 .0) (qs .1 .1 .1 .1 .1 .1 .1 .1 .1 .0))) (List._∷_ (13, Rows.any-gone Syntax.tyBool) (List._∷_ (14, Rows.any-gone Syntax.tyBool) (List._∷_ (15, Rows.any-gone Syntax.tyBool) List.[])))))))))))))))
 
         abbrev g64 : List.List Row.Entry
-        g64 = List._∷_ (0, Rows.whole (Declared.row Held.the-type)) (List._∷_ (1, Rows.any-gone (Syntax.tyStruct (List._∷_ 122 (List._∷_ 111 (List._∷_ 110 (List._∷_ 101 (List._∷_ 115 (List._∷_ 58 (List._∷_ 58 (List._∷_ 104 (List._∷_ 101 (List._∷_ 108 (List._∷_ 100 (List._∷_ 58 (List._∷_ 58 (List._∷_ 72 (List._∷_ 101 (List._∷_ 108 (List._∷_ 100 List.[]))))))))))))))))) (Syntax.tcons (Syntax.tyStruct (List._∷_ 112 (List._∷_ 121 (List._∷_ 114 (List._∷_ 97 (List._∷_ 109 (List._∷_ 105 (List._∷_ 100 (List._∷_ 58 (List._∷_ 58 (List._∷_ 83 (List._∷_ 116 (List._∷_ 97 (List._∷_ 116 (List._∷_ 101 List.[])))))))))))))) (Syntax.tcons (Syntax.tyInt Syntax.w32) (Syntax.tcons (Syntax.tyInt Syntax.w32) (Syntax.tcons (Syntax.tyInt Syntax.w32) (Syntax.tcons (Syntax.tyArray (Syntax.tyInt Syntax.w32) 64) Syntax.tnil))))) (Syntax.tcons (Syntax.tyInt Syntax.w64) (Syntax.tcons (Syntax.tyInt Syntax.w64) (Syntax.tcons (Syntax.tyInt Syntax.w64) (Syntax.tcons (Syntax.tyInt Syntax.w64) (Syntax.tcons (Syntax.tyInt Syntax.w64) (Syntax.tcons (Syntax.tyInt Syntax.w64) (Syntax.tcons Syntax.tyBool Syntax.tnil)))))))))) (List._∷_ (2, Rows.any-gone (Syntax.tyStruct (List._∷_ 122 (List._∷_ 111 (List._∷_ 110 (List._∷_ 101 (List._∷_ 115 (List._∷_ 58 (List._∷_ 58 (List._∷_ 115 (List._∷_ 99 (List._∷_ 97 (List._∷_ 110 (List._∷_ 58 (List._∷_ 58 (List._∷_ 76 (List._∷_ 105 (List._∷_ 110 (List._∷_ 101 List.[]))))))))))))))))) (Syntax.tcons (Syntax.tyInt Syntax.w32) (Syntax.tcons (Syntax.tyInt Syntax.w64) (Syntax.tcons (Syntax.tyInt Syntax.w64) (Syntax.tcons (Syntax.tyInt Syntax.w64) (Syntax.tcons (Syntax.tyInt Syntax.w64) Syntax.tnil))))))) (List._∷_ (3, Rows.sslice (Referent.rtF (Referent.fInt Syntax.w8)) (Syntax.tyRef (Syntax.named 0) Syntax.imm (Syntax.tyInt Syntax.w8)) 0) (List._∷_ (4, Rows.sref (Array.Array (Referent.rtF (Referent.fInt Syntax.w32)) 32772) (Syntax.tyRef (Syntax.named 1) Syntax.imm (Syntax.tyArray (Syntax.tyInt Syntax.w32) 32772)) 1) (List._∷_ (5, Rows.mref (Array.Array (Referent.rtF (Referent.fInt Syntax.w8)) 16388) (Syntax.tyRef (Syntax.named 2) Syntax.mut (Syntax.tyArray (Syntax.tyInt Syntax.w8) 16388)) 2) (List._∷_ (6, Rows.mref-owed (Array.Array (Referent.rtF (Referent.fInt Syntax.w32)) 65540) (Syntax.tyRef (Syntax.named 3) Syntax.mut (Syntax.tyArray (Syntax.tyInt Syntax.w32) 65540)) 3 18 (Row.lease (κs .1 .1 .1 .0) (qs .1 .1 .1 .0))) (List._∷_ (7, Rows.mref-owed (Array.Array (Referent.rtF (Referent.fInt Syntax.w32)) 32772) (Syntax.tyRef (Syntax.named 4) Syntax.mut (Syntax.tyArray (Syntax.tyInt Syntax.w32) 32772)) 4 19 (Row.lease (κs .1 .1 .1 .1 .0) (qs .1 .1 .1 .1 .0))) (List._∷_ (8, Rows.mref (Array.Array (Referent.rtF (Referent.fInt Syntax.w32)) 32772) (Syntax.tyRef (Syntax.named 5) Syntax.mut (Syntax.tyArray (Syntax.tyInt Syntax.w32) 32772)) 5) (List._∷_ (9, Rows.mref-owed (Array.Array (Referent.rtF (Referent.fInt Syntax.w32)) 262160) (Syntax.tyRef (Syntax.named 6) Syntax.mut (Syntax.tyArray (Syntax.tyInt Syntax.w32) 262160)) 6 20 (Row.lease (κs .1 .1 .1 .1 .1 .1 .0) (qs .1 .1 .1 .1 .1 .1 .0))) (List._∷_ (10, Reshare.mref-owedS (Array.Array (Referent.rtF (Referent.fInt Syntax.w8)) 600000) (Syntax.tyRef (Syntax.named 7) Syntax.mut (Syntax.tyArray (Syntax.tyInt Syntax.w8) 600000)) 7 21 (Row.lease (κs .1 .1 .1 .1 .1 .1 .1 .0) (qs .1 .1 .1 .1 .1 .1 .1 .0))) (List._∷_ (11, Rows.mref-owed (Array.Array Cell.R 65540) (Syntax.tyRef (Syntax.named 8) Syntax.mut (Syntax.tyArray Cell.behind 65540)) 8 22 (Row.lease (κs .1 .1 .1 .1 .1 .1 .1 .1 .0) (qs .1 .1 .1 .1 .1 .1 .1 .1 .0))) (List._∷_ (12, Rows.mref-owed (Array.Array Cell.R 32772) (Syntax.tyRef (Syntax.named 9) Syntax.mut (Syntax.tyArray Cell.behind 32772)) 9 23 (Row.lease (κs .1 .1 .1 .1 .1 .1 .1 .1 .1 .0) (qs .1 .1 .1 .1 .1 .1 .1 .1 .1 .0))) (List._∷_ (13, Rows.any-gone Syntax.tyBool) (List._∷_ (14, Rows.any-gone Syntax.tyBool) (List._∷_ (15, Rows.any-gone Syntax.tyBool) List.[])))))))))))))))
+        g64 = List._∷_ (0, Rows.whole (Declared.row Held.the-type)) (List._∷_ (1, Rows.any-gone (Syntax.tyStruct (List._∷_ 122 (List._∷_ 111 (List._∷_ 110 (List._∷_ 101 (List._∷_ 115 (List._∷_ 58 (List._∷_ 58 (List._∷_ 104 (List._∷_ 101 (List._∷_ 108 (List._∷_ 100 (List._∷_ 58 (List._∷_ 58 (List._∷_ 72 (List._∷_ 101 (List._∷_ 108 (List._∷_ 100 List.[]))))))))))))))))) (Syntax.tcons (Syntax.tyStruct (List._∷_ 112 (List._∷_ 121 (List._∷_ 114 (List._∷_ 97 (List._∷_ 109 (List._∷_ 105 (List._∷_ 100 (List._∷_ 58 (List._∷_ 58 (List._∷_ 83 (List._∷_ 116 (List._∷_ 97 (List._∷_ 116 (List._∷_ 101 List.[])))))))))))))) (Syntax.tcons (Syntax.tyInt Syntax.w32) (Syntax.tcons (Syntax.tyInt Syntax.w32) (Syntax.tcons (Syntax.tyInt Syntax.w32) (Syntax.tcons (Syntax.tyInt Syntax.w32) (Syntax.tcons (Syntax.tyInt Syntax.w32) (Syntax.tcons (Syntax.tyArray (Syntax.tyInt Syntax.w32) 64) Syntax.tnil))))))) (Syntax.tcons (Syntax.tyInt Syntax.w64) (Syntax.tcons (Syntax.tyInt Syntax.w64) (Syntax.tcons (Syntax.tyInt Syntax.w64) (Syntax.tcons (Syntax.tyInt Syntax.w64) (Syntax.tcons (Syntax.tyInt Syntax.w64) (Syntax.tcons (Syntax.tyInt Syntax.w64) (Syntax.tcons Syntax.tyBool Syntax.tnil)))))))))) (List._∷_ (2, Rows.any-gone (Syntax.tyStruct (List._∷_ 122 (List._∷_ 111 (List._∷_ 110 (List._∷_ 101 (List._∷_ 115 (List._∷_ 58 (List._∷_ 58 (List._∷_ 115 (List._∷_ 99 (List._∷_ 97 (List._∷_ 110 (List._∷_ 58 (List._∷_ 58 (List._∷_ 76 (List._∷_ 105 (List._∷_ 110 (List._∷_ 101 List.[]))))))))))))))))) (Syntax.tcons (Syntax.tyInt Syntax.w32) (Syntax.tcons (Syntax.tyInt Syntax.w64) (Syntax.tcons (Syntax.tyInt Syntax.w64) (Syntax.tcons (Syntax.tyInt Syntax.w64) (Syntax.tcons (Syntax.tyInt Syntax.w64) Syntax.tnil))))))) (List._∷_ (3, Rows.sslice (Referent.rtF (Referent.fInt Syntax.w8)) (Syntax.tyRef (Syntax.named 0) Syntax.imm (Syntax.tyInt Syntax.w8)) 0) (List._∷_ (4, Rows.sref (Array.Array (Referent.rtF (Referent.fInt Syntax.w32)) 32772) (Syntax.tyRef (Syntax.named 1) Syntax.imm (Syntax.tyArray (Syntax.tyInt Syntax.w32) 32772)) 1) (List._∷_ (5, Rows.mref (Array.Array (Referent.rtF (Referent.fInt Syntax.w8)) 16388) (Syntax.tyRef (Syntax.named 2) Syntax.mut (Syntax.tyArray (Syntax.tyInt Syntax.w8) 16388)) 2) (List._∷_ (6, Rows.mref-owed (Array.Array (Referent.rtF (Referent.fInt Syntax.w32)) 65540) (Syntax.tyRef (Syntax.named 3) Syntax.mut (Syntax.tyArray (Syntax.tyInt Syntax.w32) 65540)) 3 18 (Row.lease (κs .1 .1 .1 .0) (qs .1 .1 .1 .0))) (List._∷_ (7, Rows.mref-owed (Array.Array (Referent.rtF (Referent.fInt Syntax.w32)) 32772) (Syntax.tyRef (Syntax.named 4) Syntax.mut (Syntax.tyArray (Syntax.tyInt Syntax.w32) 32772)) 4 19 (Row.lease (κs .1 .1 .1 .1 .0) (qs .1 .1 .1 .1 .0))) (List._∷_ (8, Rows.mref (Array.Array (Referent.rtF (Referent.fInt Syntax.w32)) 32772) (Syntax.tyRef (Syntax.named 5) Syntax.mut (Syntax.tyArray (Syntax.tyInt Syntax.w32) 32772)) 5) (List._∷_ (9, Rows.mref-owed (Array.Array (Referent.rtF (Referent.fInt Syntax.w32)) 262160) (Syntax.tyRef (Syntax.named 6) Syntax.mut (Syntax.tyArray (Syntax.tyInt Syntax.w32) 262160)) 6 20 (Row.lease (κs .1 .1 .1 .1 .1 .1 .0) (qs .1 .1 .1 .1 .1 .1 .0))) (List._∷_ (10, Reshare.mref-owedS (Array.Array (Referent.rtF (Referent.fInt Syntax.w8)) 600000) (Syntax.tyRef (Syntax.named 7) Syntax.mut (Syntax.tyArray (Syntax.tyInt Syntax.w8) 600000)) 7 21 (Row.lease (κs .1 .1 .1 .1 .1 .1 .1 .0) (qs .1 .1 .1 .1 .1 .1 .1 .0))) (List._∷_ (11, Rows.mref-owed (Array.Array Cell.R 65540) (Syntax.tyRef (Syntax.named 8) Syntax.mut (Syntax.tyArray Cell.behind 65540)) 8 22 (Row.lease (κs .1 .1 .1 .1 .1 .1 .1 .1 .0) (qs .1 .1 .1 .1 .1 .1 .1 .1 .0))) (List._∷_ (12, Rows.mref-owed (Array.Array Cell.R 32772) (Syntax.tyRef (Syntax.named 9) Syntax.mut (Syntax.tyArray Cell.behind 32772)) 9 23 (Row.lease (κs .1 .1 .1 .1 .1 .1 .1 .1 .1 .0) (qs .1 .1 .1 .1 .1 .1 .1 .1 .1 .0))) (List._∷_ (13, Rows.any-gone Syntax.tyBool) (List._∷_ (14, Rows.any-gone Syntax.tyBool) (List._∷_ (15, Rows.any-gone Syntax.tyBool) List.[])))))))))))))))
 
         abbrev g65 : List.List Row.Entry
-        g65 = List._∷_ (0, Rows.whole (Declared.row Held.the-type)) (List._∷_ (1, Rows.any-gone (Syntax.tyStruct (List._∷_ 122 (List._∷_ 111 (List._∷_ 110 (List._∷_ 101 (List._∷_ 115 (List._∷_ 58 (List._∷_ 58 (List._∷_ 104 (List._∷_ 101 (List._∷_ 108 (List._∷_ 100 (List._∷_ 58 (List._∷_ 58 (List._∷_ 72 (List._∷_ 101 (List._∷_ 108 (List._∷_ 100 List.[]))))))))))))))))) (Syntax.tcons (Syntax.tyStruct (List._∷_ 112 (List._∷_ 121 (List._∷_ 114 (List._∷_ 97 (List._∷_ 109 (List._∷_ 105 (List._∷_ 100 (List._∷_ 58 (List._∷_ 58 (List._∷_ 83 (List._∷_ 116 (List._∷_ 97 (List._∷_ 116 (List._∷_ 101 List.[])))))))))))))) (Syntax.tcons (Syntax.tyInt Syntax.w32) (Syntax.tcons (Syntax.tyInt Syntax.w32) (Syntax.tcons (Syntax.tyInt Syntax.w32) (Syntax.tcons (Syntax.tyArray (Syntax.tyInt Syntax.w32) 64) Syntax.tnil))))) (Syntax.tcons (Syntax.tyInt Syntax.w64) (Syntax.tcons (Syntax.tyInt Syntax.w64) (Syntax.tcons (Syntax.tyInt Syntax.w64) (Syntax.tcons (Syntax.tyInt Syntax.w64) (Syntax.tcons (Syntax.tyInt Syntax.w64) (Syntax.tcons (Syntax.tyInt Syntax.w64) (Syntax.tcons Syntax.tyBool Syntax.tnil)))))))))) (List._∷_ (2, Rows.any-gone (Syntax.tyStruct (List._∷_ 122 (List._∷_ 111 (List._∷_ 110 (List._∷_ 101 (List._∷_ 115 (List._∷_ 58 (List._∷_ 58 (List._∷_ 115 (List._∷_ 99 (List._∷_ 97 (List._∷_ 110 (List._∷_ 58 (List._∷_ 58 (List._∷_ 76 (List._∷_ 105 (List._∷_ 110 (List._∷_ 101 List.[]))))))))))))))))) (Syntax.tcons (Syntax.tyInt Syntax.w32) (Syntax.tcons (Syntax.tyInt Syntax.w64) (Syntax.tcons (Syntax.tyInt Syntax.w64) (Syntax.tcons (Syntax.tyInt Syntax.w64) (Syntax.tcons (Syntax.tyInt Syntax.w64) Syntax.tnil))))))) (List._∷_ (3, Rows.sslice (Referent.rtF (Referent.fInt Syntax.w8)) (Syntax.tyRef (Syntax.named 0) Syntax.imm (Syntax.tyInt Syntax.w8)) 0) (List._∷_ (4, Rows.sref (Array.Array (Referent.rtF (Referent.fInt Syntax.w32)) 32772) (Syntax.tyRef (Syntax.named 1) Syntax.imm (Syntax.tyArray (Syntax.tyInt Syntax.w32) 32772)) 1) (List._∷_ (5, Rows.mref (Array.Array (Referent.rtF (Referent.fInt Syntax.w8)) 16388) (Syntax.tyRef (Syntax.named 2) Syntax.mut (Syntax.tyArray (Syntax.tyInt Syntax.w8) 16388)) 2) (List._∷_ (6, Rows.mref (Array.Array (Referent.rtF (Referent.fInt Syntax.w32)) 65540) (Syntax.tyRef (Syntax.named 3) Syntax.mut (Syntax.tyArray (Syntax.tyInt Syntax.w32) 65540)) 3) (List._∷_ (7, Rows.mref-owed (Array.Array (Referent.rtF (Referent.fInt Syntax.w32)) 32772) (Syntax.tyRef (Syntax.named 4) Syntax.mut (Syntax.tyArray (Syntax.tyInt Syntax.w32) 32772)) 4 19 (Row.lease (κs .1 .1 .1 .1 .0) (qs .1 .1 .1 .1 .0))) (List._∷_ (8, Rows.mref (Array.Array (Referent.rtF (Referent.fInt Syntax.w32)) 32772) (Syntax.tyRef (Syntax.named 5) Syntax.mut (Syntax.tyArray (Syntax.tyInt Syntax.w32) 32772)) 5) (List._∷_ (9, Rows.mref-owed (Array.Array (Referent.rtF (Referent.fInt Syntax.w32)) 262160) (Syntax.tyRef (Syntax.named 6) Syntax.mut (Syntax.tyArray (Syntax.tyInt Syntax.w32) 262160)) 6 20 (Row.lease (κs .1 .1 .1 .1 .1 .1 .0) (qs .1 .1 .1 .1 .1 .1 .0))) (List._∷_ (10, Reshare.mref-owedS (Array.Array (Referent.rtF (Referent.fInt Syntax.w8)) 600000) (Syntax.tyRef (Syntax.named 7) Syntax.mut (Syntax.tyArray (Syntax.tyInt Syntax.w8) 600000)) 7 21 (Row.lease (κs .1 .1 .1 .1 .1 .1 .1 .0) (qs .1 .1 .1 .1 .1 .1 .1 .0))) (List._∷_ (11, Rows.mref-owed (Array.Array Cell.R 65540) (Syntax.tyRef (Syntax.named 8) Syntax.mut (Syntax.tyArray Cell.behind 65540)) 8 22 (Row.lease (κs .1 .1 .1 .1 .1 .1 .1 .1 .0) (qs .1 .1 .1 .1 .1 .1 .1 .1 .0))) (List._∷_ (12, Rows.mref-owed (Array.Array Cell.R 32772) (Syntax.tyRef (Syntax.named 9) Syntax.mut (Syntax.tyArray Cell.behind 32772)) 9 23 (Row.lease (κs .1 .1 .1 .1 .1 .1 .1 .1 .1 .0) (qs .1 .1 .1 .1 .1 .1 .1 .1 .1 .0))) (List._∷_ (13, Rows.any-gone Syntax.tyBool) (List._∷_ (14, Rows.any-gone Syntax.tyBool) (List._∷_ (15, Rows.any-gone Syntax.tyBool) List.[])))))))))))))))
+        g65 = List._∷_ (0, Rows.whole (Declared.row Held.the-type)) (List._∷_ (1, Rows.any-gone (Syntax.tyStruct (List._∷_ 122 (List._∷_ 111 (List._∷_ 110 (List._∷_ 101 (List._∷_ 115 (List._∷_ 58 (List._∷_ 58 (List._∷_ 104 (List._∷_ 101 (List._∷_ 108 (List._∷_ 100 (List._∷_ 58 (List._∷_ 58 (List._∷_ 72 (List._∷_ 101 (List._∷_ 108 (List._∷_ 100 List.[]))))))))))))))))) (Syntax.tcons (Syntax.tyStruct (List._∷_ 112 (List._∷_ 121 (List._∷_ 114 (List._∷_ 97 (List._∷_ 109 (List._∷_ 105 (List._∷_ 100 (List._∷_ 58 (List._∷_ 58 (List._∷_ 83 (List._∷_ 116 (List._∷_ 97 (List._∷_ 116 (List._∷_ 101 List.[])))))))))))))) (Syntax.tcons (Syntax.tyInt Syntax.w32) (Syntax.tcons (Syntax.tyInt Syntax.w32) (Syntax.tcons (Syntax.tyInt Syntax.w32) (Syntax.tcons (Syntax.tyInt Syntax.w32) (Syntax.tcons (Syntax.tyInt Syntax.w32) (Syntax.tcons (Syntax.tyArray (Syntax.tyInt Syntax.w32) 64) Syntax.tnil))))))) (Syntax.tcons (Syntax.tyInt Syntax.w64) (Syntax.tcons (Syntax.tyInt Syntax.w64) (Syntax.tcons (Syntax.tyInt Syntax.w64) (Syntax.tcons (Syntax.tyInt Syntax.w64) (Syntax.tcons (Syntax.tyInt Syntax.w64) (Syntax.tcons (Syntax.tyInt Syntax.w64) (Syntax.tcons Syntax.tyBool Syntax.tnil)))))))))) (List._∷_ (2, Rows.any-gone (Syntax.tyStruct (List._∷_ 122 (List._∷_ 111 (List._∷_ 110 (List._∷_ 101 (List._∷_ 115 (List._∷_ 58 (List._∷_ 58 (List._∷_ 115 (List._∷_ 99 (List._∷_ 97 (List._∷_ 110 (List._∷_ 58 (List._∷_ 58 (List._∷_ 76 (List._∷_ 105 (List._∷_ 110 (List._∷_ 101 List.[]))))))))))))))))) (Syntax.tcons (Syntax.tyInt Syntax.w32) (Syntax.tcons (Syntax.tyInt Syntax.w64) (Syntax.tcons (Syntax.tyInt Syntax.w64) (Syntax.tcons (Syntax.tyInt Syntax.w64) (Syntax.tcons (Syntax.tyInt Syntax.w64) Syntax.tnil))))))) (List._∷_ (3, Rows.sslice (Referent.rtF (Referent.fInt Syntax.w8)) (Syntax.tyRef (Syntax.named 0) Syntax.imm (Syntax.tyInt Syntax.w8)) 0) (List._∷_ (4, Rows.sref (Array.Array (Referent.rtF (Referent.fInt Syntax.w32)) 32772) (Syntax.tyRef (Syntax.named 1) Syntax.imm (Syntax.tyArray (Syntax.tyInt Syntax.w32) 32772)) 1) (List._∷_ (5, Rows.mref (Array.Array (Referent.rtF (Referent.fInt Syntax.w8)) 16388) (Syntax.tyRef (Syntax.named 2) Syntax.mut (Syntax.tyArray (Syntax.tyInt Syntax.w8) 16388)) 2) (List._∷_ (6, Rows.mref (Array.Array (Referent.rtF (Referent.fInt Syntax.w32)) 65540) (Syntax.tyRef (Syntax.named 3) Syntax.mut (Syntax.tyArray (Syntax.tyInt Syntax.w32) 65540)) 3) (List._∷_ (7, Rows.mref-owed (Array.Array (Referent.rtF (Referent.fInt Syntax.w32)) 32772) (Syntax.tyRef (Syntax.named 4) Syntax.mut (Syntax.tyArray (Syntax.tyInt Syntax.w32) 32772)) 4 19 (Row.lease (κs .1 .1 .1 .1 .0) (qs .1 .1 .1 .1 .0))) (List._∷_ (8, Rows.mref (Array.Array (Referent.rtF (Referent.fInt Syntax.w32)) 32772) (Syntax.tyRef (Syntax.named 5) Syntax.mut (Syntax.tyArray (Syntax.tyInt Syntax.w32) 32772)) 5) (List._∷_ (9, Rows.mref-owed (Array.Array (Referent.rtF (Referent.fInt Syntax.w32)) 262160) (Syntax.tyRef (Syntax.named 6) Syntax.mut (Syntax.tyArray (Syntax.tyInt Syntax.w32) 262160)) 6 20 (Row.lease (κs .1 .1 .1 .1 .1 .1 .0) (qs .1 .1 .1 .1 .1 .1 .0))) (List._∷_ (10, Reshare.mref-owedS (Array.Array (Referent.rtF (Referent.fInt Syntax.w8)) 600000) (Syntax.tyRef (Syntax.named 7) Syntax.mut (Syntax.tyArray (Syntax.tyInt Syntax.w8) 600000)) 7 21 (Row.lease (κs .1 .1 .1 .1 .1 .1 .1 .0) (qs .1 .1 .1 .1 .1 .1 .1 .0))) (List._∷_ (11, Rows.mref-owed (Array.Array Cell.R 65540) (Syntax.tyRef (Syntax.named 8) Syntax.mut (Syntax.tyArray Cell.behind 65540)) 8 22 (Row.lease (κs .1 .1 .1 .1 .1 .1 .1 .1 .0) (qs .1 .1 .1 .1 .1 .1 .1 .1 .0))) (List._∷_ (12, Rows.mref-owed (Array.Array Cell.R 32772) (Syntax.tyRef (Syntax.named 9) Syntax.mut (Syntax.tyArray Cell.behind 32772)) 9 23 (Row.lease (κs .1 .1 .1 .1 .1 .1 .1 .1 .1 .0) (qs .1 .1 .1 .1 .1 .1 .1 .1 .1 .0))) (List._∷_ (13, Rows.any-gone Syntax.tyBool) (List._∷_ (14, Rows.any-gone Syntax.tyBool) (List._∷_ (15, Rows.any-gone Syntax.tyBool) List.[])))))))))))))))
 
         abbrev g67 : List.List Row.Entry
-        g67 = List._∷_ (0, Rows.whole (Declared.row Held.the-type)) (List._∷_ (1, Rows.any-gone (Syntax.tyStruct (List._∷_ 122 (List._∷_ 111 (List._∷_ 110 (List._∷_ 101 (List._∷_ 115 (List._∷_ 58 (List._∷_ 58 (List._∷_ 104 (List._∷_ 101 (List._∷_ 108 (List._∷_ 100 (List._∷_ 58 (List._∷_ 58 (List._∷_ 72 (List._∷_ 101 (List._∷_ 108 (List._∷_ 100 List.[]))))))))))))))))) (Syntax.tcons (Syntax.tyStruct (List._∷_ 112 (List._∷_ 121 (List._∷_ 114 (List._∷_ 97 (List._∷_ 109 (List._∷_ 105 (List._∷_ 100 (List._∷_ 58 (List._∷_ 58 (List._∷_ 83 (List._∷_ 116 (List._∷_ 97 (List._∷_ 116 (List._∷_ 101 List.[])))))))))))))) (Syntax.tcons (Syntax.tyInt Syntax.w32) (Syntax.tcons (Syntax.tyInt Syntax.w32) (Syntax.tcons (Syntax.tyInt Syntax.w32) (Syntax.tcons (Syntax.tyArray (Syntax.tyInt Syntax.w32) 64) Syntax.tnil))))) (Syntax.tcons (Syntax.tyInt Syntax.w64) (Syntax.tcons (Syntax.tyInt Syntax.w64) (Syntax.tcons (Syntax.tyInt Syntax.w64) (Syntax.tcons (Syntax.tyInt Syntax.w64) (Syntax.tcons (Syntax.tyInt Syntax.w64) (Syntax.tcons (Syntax.tyInt Syntax.w64) (Syntax.tcons Syntax.tyBool Syntax.tnil)))))))))) (List._∷_ (2, Rows.any-gone (Syntax.tyStruct (List._∷_ 122 (List._∷_ 111 (List._∷_ 110 (List._∷_ 101 (List._∷_ 115 (List._∷_ 58 (List._∷_ 58 (List._∷_ 115 (List._∷_ 99 (List._∷_ 97 (List._∷_ 110 (List._∷_ 58 (List._∷_ 58 (List._∷_ 76 (List._∷_ 105 (List._∷_ 110 (List._∷_ 101 List.[]))))))))))))))))) (Syntax.tcons (Syntax.tyInt Syntax.w32) (Syntax.tcons (Syntax.tyInt Syntax.w64) (Syntax.tcons (Syntax.tyInt Syntax.w64) (Syntax.tcons (Syntax.tyInt Syntax.w64) (Syntax.tcons (Syntax.tyInt Syntax.w64) Syntax.tnil))))))) (List._∷_ (3, Rows.sslice (Referent.rtF (Referent.fInt Syntax.w8)) (Syntax.tyRef (Syntax.named 0) Syntax.imm (Syntax.tyInt Syntax.w8)) 0) (List._∷_ (4, Rows.sref (Array.Array (Referent.rtF (Referent.fInt Syntax.w32)) 32772) (Syntax.tyRef (Syntax.named 1) Syntax.imm (Syntax.tyArray (Syntax.tyInt Syntax.w32) 32772)) 1) (List._∷_ (5, Rows.mref (Array.Array (Referent.rtF (Referent.fInt Syntax.w8)) 16388) (Syntax.tyRef (Syntax.named 2) Syntax.mut (Syntax.tyArray (Syntax.tyInt Syntax.w8) 16388)) 2) (List._∷_ (6, Rows.mref (Array.Array (Referent.rtF (Referent.fInt Syntax.w32)) 65540) (Syntax.tyRef (Syntax.named 3) Syntax.mut (Syntax.tyArray (Syntax.tyInt Syntax.w32) 65540)) 3) (List._∷_ (7, Rows.mref (Array.Array (Referent.rtF (Referent.fInt Syntax.w32)) 32772) (Syntax.tyRef (Syntax.named 4) Syntax.mut (Syntax.tyArray (Syntax.tyInt Syntax.w32) 32772)) 4) (List._∷_ (8, Rows.mref (Array.Array (Referent.rtF (Referent.fInt Syntax.w32)) 32772) (Syntax.tyRef (Syntax.named 5) Syntax.mut (Syntax.tyArray (Syntax.tyInt Syntax.w32) 32772)) 5) (List._∷_ (9, Rows.mref-owed (Array.Array (Referent.rtF (Referent.fInt Syntax.w32)) 262160) (Syntax.tyRef (Syntax.named 6) Syntax.mut (Syntax.tyArray (Syntax.tyInt Syntax.w32) 262160)) 6 20 (Row.lease (κs .1 .1 .1 .1 .1 .1 .0) (qs .1 .1 .1 .1 .1 .1 .0))) (List._∷_ (10, Reshare.mref-owedS (Array.Array (Referent.rtF (Referent.fInt Syntax.w8)) 600000) (Syntax.tyRef (Syntax.named 7) Syntax.mut (Syntax.tyArray (Syntax.tyInt Syntax.w8) 600000)) 7 21 (Row.lease (κs .1 .1 .1 .1 .1 .1 .1 .0) (qs .1 .1 .1 .1 .1 .1 .1 .0))) (List._∷_ (11, Rows.mref-owed (Array.Array Cell.R 65540) (Syntax.tyRef (Syntax.named 8) Syntax.mut (Syntax.tyArray Cell.behind 65540)) 8 22 (Row.lease (κs .1 .1 .1 .1 .1 .1 .1 .1 .0) (qs .1 .1 .1 .1 .1 .1 .1 .1 .0))) (List._∷_ (12, Rows.mref-owed (Array.Array Cell.R 32772) (Syntax.tyRef (Syntax.named 9) Syntax.mut (Syntax.tyArray Cell.behind 32772)) 9 23 (Row.lease (κs .1 .1 .1 .1 .1 .1 .1 .1 .1 .0) (qs .1 .1 .1 .1 .1 .1 .1 .1 .1 .0))) (List._∷_ (13, Rows.any-gone Syntax.tyBool) (List._∷_ (14, Rows.any-gone Syntax.tyBool) (List._∷_ (15, Rows.any-gone Syntax.tyBool) List.[])))))))))))))))
+        g67 = List._∷_ (0, Rows.whole (Declared.row Held.the-type)) (List._∷_ (1, Rows.any-gone (Syntax.tyStruct (List._∷_ 122 (List._∷_ 111 (List._∷_ 110 (List._∷_ 101 (List._∷_ 115 (List._∷_ 58 (List._∷_ 58 (List._∷_ 104 (List._∷_ 101 (List._∷_ 108 (List._∷_ 100 (List._∷_ 58 (List._∷_ 58 (List._∷_ 72 (List._∷_ 101 (List._∷_ 108 (List._∷_ 100 List.[]))))))))))))))))) (Syntax.tcons (Syntax.tyStruct (List._∷_ 112 (List._∷_ 121 (List._∷_ 114 (List._∷_ 97 (List._∷_ 109 (List._∷_ 105 (List._∷_ 100 (List._∷_ 58 (List._∷_ 58 (List._∷_ 83 (List._∷_ 116 (List._∷_ 97 (List._∷_ 116 (List._∷_ 101 List.[])))))))))))))) (Syntax.tcons (Syntax.tyInt Syntax.w32) (Syntax.tcons (Syntax.tyInt Syntax.w32) (Syntax.tcons (Syntax.tyInt Syntax.w32) (Syntax.tcons (Syntax.tyInt Syntax.w32) (Syntax.tcons (Syntax.tyInt Syntax.w32) (Syntax.tcons (Syntax.tyArray (Syntax.tyInt Syntax.w32) 64) Syntax.tnil))))))) (Syntax.tcons (Syntax.tyInt Syntax.w64) (Syntax.tcons (Syntax.tyInt Syntax.w64) (Syntax.tcons (Syntax.tyInt Syntax.w64) (Syntax.tcons (Syntax.tyInt Syntax.w64) (Syntax.tcons (Syntax.tyInt Syntax.w64) (Syntax.tcons (Syntax.tyInt Syntax.w64) (Syntax.tcons Syntax.tyBool Syntax.tnil)))))))))) (List._∷_ (2, Rows.any-gone (Syntax.tyStruct (List._∷_ 122 (List._∷_ 111 (List._∷_ 110 (List._∷_ 101 (List._∷_ 115 (List._∷_ 58 (List._∷_ 58 (List._∷_ 115 (List._∷_ 99 (List._∷_ 97 (List._∷_ 110 (List._∷_ 58 (List._∷_ 58 (List._∷_ 76 (List._∷_ 105 (List._∷_ 110 (List._∷_ 101 List.[]))))))))))))))))) (Syntax.tcons (Syntax.tyInt Syntax.w32) (Syntax.tcons (Syntax.tyInt Syntax.w64) (Syntax.tcons (Syntax.tyInt Syntax.w64) (Syntax.tcons (Syntax.tyInt Syntax.w64) (Syntax.tcons (Syntax.tyInt Syntax.w64) Syntax.tnil))))))) (List._∷_ (3, Rows.sslice (Referent.rtF (Referent.fInt Syntax.w8)) (Syntax.tyRef (Syntax.named 0) Syntax.imm (Syntax.tyInt Syntax.w8)) 0) (List._∷_ (4, Rows.sref (Array.Array (Referent.rtF (Referent.fInt Syntax.w32)) 32772) (Syntax.tyRef (Syntax.named 1) Syntax.imm (Syntax.tyArray (Syntax.tyInt Syntax.w32) 32772)) 1) (List._∷_ (5, Rows.mref (Array.Array (Referent.rtF (Referent.fInt Syntax.w8)) 16388) (Syntax.tyRef (Syntax.named 2) Syntax.mut (Syntax.tyArray (Syntax.tyInt Syntax.w8) 16388)) 2) (List._∷_ (6, Rows.mref (Array.Array (Referent.rtF (Referent.fInt Syntax.w32)) 65540) (Syntax.tyRef (Syntax.named 3) Syntax.mut (Syntax.tyArray (Syntax.tyInt Syntax.w32) 65540)) 3) (List._∷_ (7, Rows.mref (Array.Array (Referent.rtF (Referent.fInt Syntax.w32)) 32772) (Syntax.tyRef (Syntax.named 4) Syntax.mut (Syntax.tyArray (Syntax.tyInt Syntax.w32) 32772)) 4) (List._∷_ (8, Rows.mref (Array.Array (Referent.rtF (Referent.fInt Syntax.w32)) 32772) (Syntax.tyRef (Syntax.named 5) Syntax.mut (Syntax.tyArray (Syntax.tyInt Syntax.w32) 32772)) 5) (List._∷_ (9, Rows.mref-owed (Array.Array (Referent.rtF (Referent.fInt Syntax.w32)) 262160) (Syntax.tyRef (Syntax.named 6) Syntax.mut (Syntax.tyArray (Syntax.tyInt Syntax.w32) 262160)) 6 20 (Row.lease (κs .1 .1 .1 .1 .1 .1 .0) (qs .1 .1 .1 .1 .1 .1 .0))) (List._∷_ (10, Reshare.mref-owedS (Array.Array (Referent.rtF (Referent.fInt Syntax.w8)) 600000) (Syntax.tyRef (Syntax.named 7) Syntax.mut (Syntax.tyArray (Syntax.tyInt Syntax.w8) 600000)) 7 21 (Row.lease (κs .1 .1 .1 .1 .1 .1 .1 .0) (qs .1 .1 .1 .1 .1 .1 .1 .0))) (List._∷_ (11, Rows.mref-owed (Array.Array Cell.R 65540) (Syntax.tyRef (Syntax.named 8) Syntax.mut (Syntax.tyArray Cell.behind 65540)) 8 22 (Row.lease (κs .1 .1 .1 .1 .1 .1 .1 .1 .0) (qs .1 .1 .1 .1 .1 .1 .1 .1 .0))) (List._∷_ (12, Rows.mref-owed (Array.Array Cell.R 32772) (Syntax.tyRef (Syntax.named 9) Syntax.mut (Syntax.tyArray Cell.behind 32772)) 9 23 (Row.lease (κs .1 .1 .1 .1 .1 .1 .1 .1 .1 .0) (qs .1 .1 .1 .1 .1 .1 .1 .1 .1 .0))) (List._∷_ (13, Rows.any-gone Syntax.tyBool) (List._∷_ (14, Rows.any-gone Syntax.tyBool) (List._∷_ (15, Rows.any-gone Syntax.tyBool) List.[])))))))))))))))
 
         abbrev g69 : List.List Row.Entry
-        g69 = List._∷_ (0, Rows.whole (Declared.row Held.the-type)) (List._∷_ (1, Rows.any-gone (Syntax.tyStruct (List._∷_ 122 (List._∷_ 111 (List._∷_ 110 (List._∷_ 101 (List._∷_ 115 (List._∷_ 58 (List._∷_ 58 (List._∷_ 104 (List._∷_ 101 (List._∷_ 108 (List._∷_ 100 (List._∷_ 58 (List._∷_ 58 (List._∷_ 72 (List._∷_ 101 (List._∷_ 108 (List._∷_ 100 List.[]))))))))))))))))) (Syntax.tcons (Syntax.tyStruct (List._∷_ 112 (List._∷_ 121 (List._∷_ 114 (List._∷_ 97 (List._∷_ 109 (List._∷_ 105 (List._∷_ 100 (List._∷_ 58 (List._∷_ 58 (List._∷_ 83 (List._∷_ 116 (List._∷_ 97 (List._∷_ 116 (List._∷_ 101 List.[])))))))))))))) (Syntax.tcons (Syntax.tyInt Syntax.w32) (Syntax.tcons (Syntax.tyInt Syntax.w32) (Syntax.tcons (Syntax.tyInt Syntax.w32) (Syntax.tcons (Syntax.tyArray (Syntax.tyInt Syntax.w32) 64) Syntax.tnil))))) (Syntax.tcons (Syntax.tyInt Syntax.w64) (Syntax.tcons (Syntax.tyInt Syntax.w64) (Syntax.tcons (Syntax.tyInt Syntax.w64) (Syntax.tcons (Syntax.tyInt Syntax.w64) (Syntax.tcons (Syntax.tyInt Syntax.w64) (Syntax.tcons (Syntax.tyInt Syntax.w64) (Syntax.tcons Syntax.tyBool Syntax.tnil)))))))))) (List._∷_ (2, Rows.any-gone (Syntax.tyStruct (List._∷_ 122 (List._∷_ 111 (List._∷_ 110 (List._∷_ 101 (List._∷_ 115 (List._∷_ 58 (List._∷_ 58 (List._∷_ 115 (List._∷_ 99 (List._∷_ 97 (List._∷_ 110 (List._∷_ 58 (List._∷_ 58 (List._∷_ 76 (List._∷_ 105 (List._∷_ 110 (List._∷_ 101 List.[]))))))))))))))))) (Syntax.tcons (Syntax.tyInt Syntax.w32) (Syntax.tcons (Syntax.tyInt Syntax.w64) (Syntax.tcons (Syntax.tyInt Syntax.w64) (Syntax.tcons (Syntax.tyInt Syntax.w64) (Syntax.tcons (Syntax.tyInt Syntax.w64) Syntax.tnil))))))) (List._∷_ (3, Rows.sslice (Referent.rtF (Referent.fInt Syntax.w8)) (Syntax.tyRef (Syntax.named 0) Syntax.imm (Syntax.tyInt Syntax.w8)) 0) (List._∷_ (4, Rows.sref (Array.Array (Referent.rtF (Referent.fInt Syntax.w32)) 32772) (Syntax.tyRef (Syntax.named 1) Syntax.imm (Syntax.tyArray (Syntax.tyInt Syntax.w32) 32772)) 1) (List._∷_ (5, Rows.mref (Array.Array (Referent.rtF (Referent.fInt Syntax.w8)) 16388) (Syntax.tyRef (Syntax.named 2) Syntax.mut (Syntax.tyArray (Syntax.tyInt Syntax.w8) 16388)) 2) (List._∷_ (6, Rows.mref (Array.Array (Referent.rtF (Referent.fInt Syntax.w32)) 65540) (Syntax.tyRef (Syntax.named 3) Syntax.mut (Syntax.tyArray (Syntax.tyInt Syntax.w32) 65540)) 3) (List._∷_ (7, Rows.mref (Array.Array (Referent.rtF (Referent.fInt Syntax.w32)) 32772) (Syntax.tyRef (Syntax.named 4) Syntax.mut (Syntax.tyArray (Syntax.tyInt Syntax.w32) 32772)) 4) (List._∷_ (8, Rows.mref (Array.Array (Referent.rtF (Referent.fInt Syntax.w32)) 32772) (Syntax.tyRef (Syntax.named 5) Syntax.mut (Syntax.tyArray (Syntax.tyInt Syntax.w32) 32772)) 5) (List._∷_ (9, Rows.mref (Array.Array (Referent.rtF (Referent.fInt Syntax.w32)) 262160) (Syntax.tyRef (Syntax.named 6) Syntax.mut (Syntax.tyArray (Syntax.tyInt Syntax.w32) 262160)) 6) (List._∷_ (10, Reshare.mref-owedS (Array.Array (Referent.rtF (Referent.fInt Syntax.w8)) 600000) (Syntax.tyRef (Syntax.named 7) Syntax.mut (Syntax.tyArray (Syntax.tyInt Syntax.w8) 600000)) 7 21 (Row.lease (κs .1 .1 .1 .1 .1 .1 .1 .0) (qs .1 .1 .1 .1 .1 .1 .1 .0))) (List._∷_ (11, Rows.mref-owed (Array.Array Cell.R 65540) (Syntax.tyRef (Syntax.named 8) Syntax.mut (Syntax.tyArray Cell.behind 65540)) 8 22 (Row.lease (κs .1 .1 .1 .1 .1 .1 .1 .1 .0) (qs .1 .1 .1 .1 .1 .1 .1 .1 .0))) (List._∷_ (12, Rows.mref-owed (Array.Array Cell.R 32772) (Syntax.tyRef (Syntax.named 9) Syntax.mut (Syntax.tyArray Cell.behind 32772)) 9 23 (Row.lease (κs .1 .1 .1 .1 .1 .1 .1 .1 .1 .0) (qs .1 .1 .1 .1 .1 .1 .1 .1 .1 .0))) (List._∷_ (13, Rows.any-gone Syntax.tyBool) (List._∷_ (14, Rows.any-gone Syntax.tyBool) (List._∷_ (15, Rows.any-gone Syntax.tyBool) List.[])))))))))))))))
+        g69 = List._∷_ (0, Rows.whole (Declared.row Held.the-type)) (List._∷_ (1, Rows.any-gone (Syntax.tyStruct (List._∷_ 122 (List._∷_ 111 (List._∷_ 110 (List._∷_ 101 (List._∷_ 115 (List._∷_ 58 (List._∷_ 58 (List._∷_ 104 (List._∷_ 101 (List._∷_ 108 (List._∷_ 100 (List._∷_ 58 (List._∷_ 58 (List._∷_ 72 (List._∷_ 101 (List._∷_ 108 (List._∷_ 100 List.[]))))))))))))))))) (Syntax.tcons (Syntax.tyStruct (List._∷_ 112 (List._∷_ 121 (List._∷_ 114 (List._∷_ 97 (List._∷_ 109 (List._∷_ 105 (List._∷_ 100 (List._∷_ 58 (List._∷_ 58 (List._∷_ 83 (List._∷_ 116 (List._∷_ 97 (List._∷_ 116 (List._∷_ 101 List.[])))))))))))))) (Syntax.tcons (Syntax.tyInt Syntax.w32) (Syntax.tcons (Syntax.tyInt Syntax.w32) (Syntax.tcons (Syntax.tyInt Syntax.w32) (Syntax.tcons (Syntax.tyInt Syntax.w32) (Syntax.tcons (Syntax.tyInt Syntax.w32) (Syntax.tcons (Syntax.tyArray (Syntax.tyInt Syntax.w32) 64) Syntax.tnil))))))) (Syntax.tcons (Syntax.tyInt Syntax.w64) (Syntax.tcons (Syntax.tyInt Syntax.w64) (Syntax.tcons (Syntax.tyInt Syntax.w64) (Syntax.tcons (Syntax.tyInt Syntax.w64) (Syntax.tcons (Syntax.tyInt Syntax.w64) (Syntax.tcons (Syntax.tyInt Syntax.w64) (Syntax.tcons Syntax.tyBool Syntax.tnil)))))))))) (List._∷_ (2, Rows.any-gone (Syntax.tyStruct (List._∷_ 122 (List._∷_ 111 (List._∷_ 110 (List._∷_ 101 (List._∷_ 115 (List._∷_ 58 (List._∷_ 58 (List._∷_ 115 (List._∷_ 99 (List._∷_ 97 (List._∷_ 110 (List._∷_ 58 (List._∷_ 58 (List._∷_ 76 (List._∷_ 105 (List._∷_ 110 (List._∷_ 101 List.[]))))))))))))))))) (Syntax.tcons (Syntax.tyInt Syntax.w32) (Syntax.tcons (Syntax.tyInt Syntax.w64) (Syntax.tcons (Syntax.tyInt Syntax.w64) (Syntax.tcons (Syntax.tyInt Syntax.w64) (Syntax.tcons (Syntax.tyInt Syntax.w64) Syntax.tnil))))))) (List._∷_ (3, Rows.sslice (Referent.rtF (Referent.fInt Syntax.w8)) (Syntax.tyRef (Syntax.named 0) Syntax.imm (Syntax.tyInt Syntax.w8)) 0) (List._∷_ (4, Rows.sref (Array.Array (Referent.rtF (Referent.fInt Syntax.w32)) 32772) (Syntax.tyRef (Syntax.named 1) Syntax.imm (Syntax.tyArray (Syntax.tyInt Syntax.w32) 32772)) 1) (List._∷_ (5, Rows.mref (Array.Array (Referent.rtF (Referent.fInt Syntax.w8)) 16388) (Syntax.tyRef (Syntax.named 2) Syntax.mut (Syntax.tyArray (Syntax.tyInt Syntax.w8) 16388)) 2) (List._∷_ (6, Rows.mref (Array.Array (Referent.rtF (Referent.fInt Syntax.w32)) 65540) (Syntax.tyRef (Syntax.named 3) Syntax.mut (Syntax.tyArray (Syntax.tyInt Syntax.w32) 65540)) 3) (List._∷_ (7, Rows.mref (Array.Array (Referent.rtF (Referent.fInt Syntax.w32)) 32772) (Syntax.tyRef (Syntax.named 4) Syntax.mut (Syntax.tyArray (Syntax.tyInt Syntax.w32) 32772)) 4) (List._∷_ (8, Rows.mref (Array.Array (Referent.rtF (Referent.fInt Syntax.w32)) 32772) (Syntax.tyRef (Syntax.named 5) Syntax.mut (Syntax.tyArray (Syntax.tyInt Syntax.w32) 32772)) 5) (List._∷_ (9, Rows.mref (Array.Array (Referent.rtF (Referent.fInt Syntax.w32)) 262160) (Syntax.tyRef (Syntax.named 6) Syntax.mut (Syntax.tyArray (Syntax.tyInt Syntax.w32) 262160)) 6) (List._∷_ (10, Reshare.mref-owedS (Array.Array (Referent.rtF (Referent.fInt Syntax.w8)) 600000) (Syntax.tyRef (Syntax.named 7) Syntax.mut (Syntax.tyArray (Syntax.tyInt Syntax.w8) 600000)) 7 21 (Row.lease (κs .1 .1 .1 .1 .1 .1 .1 .0) (qs .1 .1 .1 .1 .1 .1 .1 .0))) (List._∷_ (11, Rows.mref-owed (Array.Array Cell.R 65540) (Syntax.tyRef (Syntax.named 8) Syntax.mut (Syntax.tyArray Cell.behind 65540)) 8 22 (Row.lease (κs .1 .1 .1 .1 .1 .1 .1 .1 .0) (qs .1 .1 .1 .1 .1 .1 .1 .1 .0))) (List._∷_ (12, Rows.mref-owed (Array.Array Cell.R 32772) (Syntax.tyRef (Syntax.named 9) Syntax.mut (Syntax.tyArray Cell.behind 32772)) 9 23 (Row.lease (κs .1 .1 .1 .1 .1 .1 .1 .1 .1 .0) (qs .1 .1 .1 .1 .1 .1 .1 .1 .1 .0))) (List._∷_ (13, Rows.any-gone Syntax.tyBool) (List._∷_ (14, Rows.any-gone Syntax.tyBool) (List._∷_ (15, Rows.any-gone Syntax.tyBool) List.[])))))))))))))))
 
         abbrev g71 : List.List Row.Entry
-        g71 = List._∷_ (0, Rows.whole (Declared.row Held.the-type)) (List._∷_ (1, Rows.any-gone (Syntax.tyStruct (List._∷_ 122 (List._∷_ 111 (List._∷_ 110 (List._∷_ 101 (List._∷_ 115 (List._∷_ 58 (List._∷_ 58 (List._∷_ 104 (List._∷_ 101 (List._∷_ 108 (List._∷_ 100 (List._∷_ 58 (List._∷_ 58 (List._∷_ 72 (List._∷_ 101 (List._∷_ 108 (List._∷_ 100 List.[]))))))))))))))))) (Syntax.tcons (Syntax.tyStruct (List._∷_ 112 (List._∷_ 121 (List._∷_ 114 (List._∷_ 97 (List._∷_ 109 (List._∷_ 105 (List._∷_ 100 (List._∷_ 58 (List._∷_ 58 (List._∷_ 83 (List._∷_ 116 (List._∷_ 97 (List._∷_ 116 (List._∷_ 101 List.[])))))))))))))) (Syntax.tcons (Syntax.tyInt Syntax.w32) (Syntax.tcons (Syntax.tyInt Syntax.w32) (Syntax.tcons (Syntax.tyInt Syntax.w32) (Syntax.tcons (Syntax.tyArray (Syntax.tyInt Syntax.w32) 64) Syntax.tnil))))) (Syntax.tcons (Syntax.tyInt Syntax.w64) (Syntax.tcons (Syntax.tyInt Syntax.w64) (Syntax.tcons (Syntax.tyInt Syntax.w64) (Syntax.tcons (Syntax.tyInt Syntax.w64) (Syntax.tcons (Syntax.tyInt Syntax.w64) (Syntax.tcons (Syntax.tyInt Syntax.w64) (Syntax.tcons Syntax.tyBool Syntax.tnil)))))))))) (List._∷_ (2, Rows.any-gone (Syntax.tyStruct (List._∷_ 122 (List._∷_ 111 (List._∷_ 110 (List._∷_ 101 (List._∷_ 115 (List._∷_ 58 (List._∷_ 58 (List._∷_ 115 (List._∷_ 99 (List._∷_ 97 (List._∷_ 110 (List._∷_ 58 (List._∷_ 58 (List._∷_ 76 (List._∷_ 105 (List._∷_ 110 (List._∷_ 101 List.[]))))))))))))))))) (Syntax.tcons (Syntax.tyInt Syntax.w32) (Syntax.tcons (Syntax.tyInt Syntax.w64) (Syntax.tcons (Syntax.tyInt Syntax.w64) (Syntax.tcons (Syntax.tyInt Syntax.w64) (Syntax.tcons (Syntax.tyInt Syntax.w64) Syntax.tnil))))))) (List._∷_ (3, Rows.sslice (Referent.rtF (Referent.fInt Syntax.w8)) (Syntax.tyRef (Syntax.named 0) Syntax.imm (Syntax.tyInt Syntax.w8)) 0) (List._∷_ (4, Rows.sref (Array.Array (Referent.rtF (Referent.fInt Syntax.w32)) 32772) (Syntax.tyRef (Syntax.named 1) Syntax.imm (Syntax.tyArray (Syntax.tyInt Syntax.w32) 32772)) 1) (List._∷_ (5, Rows.mref (Array.Array (Referent.rtF (Referent.fInt Syntax.w8)) 16388) (Syntax.tyRef (Syntax.named 2) Syntax.mut (Syntax.tyArray (Syntax.tyInt Syntax.w8) 16388)) 2) (List._∷_ (6, Rows.mref (Array.Array (Referent.rtF (Referent.fInt Syntax.w32)) 65540) (Syntax.tyRef (Syntax.named 3) Syntax.mut (Syntax.tyArray (Syntax.tyInt Syntax.w32) 65540)) 3) (List._∷_ (7, Rows.mref (Array.Array (Referent.rtF (Referent.fInt Syntax.w32)) 32772) (Syntax.tyRef (Syntax.named 4) Syntax.mut (Syntax.tyArray (Syntax.tyInt Syntax.w32) 32772)) 4) (List._∷_ (8, Rows.mref (Array.Array (Referent.rtF (Referent.fInt Syntax.w32)) 32772) (Syntax.tyRef (Syntax.named 5) Syntax.mut (Syntax.tyArray (Syntax.tyInt Syntax.w32) 32772)) 5) (List._∷_ (9, Rows.mref (Array.Array (Referent.rtF (Referent.fInt Syntax.w32)) 262160) (Syntax.tyRef (Syntax.named 6) Syntax.mut (Syntax.tyArray (Syntax.tyInt Syntax.w32) 262160)) 6) (List._∷_ (10, Rows.mref (Array.Array (Referent.rtF (Referent.fInt Syntax.w8)) 600000) (Syntax.tyRef (Syntax.named 7) Syntax.mut (Syntax.tyArray (Syntax.tyInt Syntax.w8) 600000)) 7) (List._∷_ (11, Rows.mref-owed (Array.Array Cell.R 65540) (Syntax.tyRef (Syntax.named 8) Syntax.mut (Syntax.tyArray Cell.behind 65540)) 8 22 (Row.lease (κs .1 .1 .1 .1 .1 .1 .1 .1 .0) (qs .1 .1 .1 .1 .1 .1 .1 .1 .0))) (List._∷_ (12, Rows.mref-owed (Array.Array Cell.R 32772) (Syntax.tyRef (Syntax.named 9) Syntax.mut (Syntax.tyArray Cell.behind 32772)) 9 23 (Row.lease (κs .1 .1 .1 .1 .1 .1 .1 .1 .1 .0) (qs .1 .1 .1 .1 .1 .1 .1 .1 .1 .0))) (List._∷_ (13, Rows.any-gone Syntax.tyBool) (List._∷_ (14, Rows.any-gone Syntax.tyBool) (List._∷_ (15, Rows.any-gone Syntax.tyBool) List.[])))))))))))))))
+        g71 = List._∷_ (0, Rows.whole (Declared.row Held.the-type)) (List._∷_ (1, Rows.any-gone (Syntax.tyStruct (List._∷_ 122 (List._∷_ 111 (List._∷_ 110 (List._∷_ 101 (List._∷_ 115 (List._∷_ 58 (List._∷_ 58 (List._∷_ 104 (List._∷_ 101 (List._∷_ 108 (List._∷_ 100 (List._∷_ 58 (List._∷_ 58 (List._∷_ 72 (List._∷_ 101 (List._∷_ 108 (List._∷_ 100 List.[]))))))))))))))))) (Syntax.tcons (Syntax.tyStruct (List._∷_ 112 (List._∷_ 121 (List._∷_ 114 (List._∷_ 97 (List._∷_ 109 (List._∷_ 105 (List._∷_ 100 (List._∷_ 58 (List._∷_ 58 (List._∷_ 83 (List._∷_ 116 (List._∷_ 97 (List._∷_ 116 (List._∷_ 101 List.[])))))))))))))) (Syntax.tcons (Syntax.tyInt Syntax.w32) (Syntax.tcons (Syntax.tyInt Syntax.w32) (Syntax.tcons (Syntax.tyInt Syntax.w32) (Syntax.tcons (Syntax.tyInt Syntax.w32) (Syntax.tcons (Syntax.tyInt Syntax.w32) (Syntax.tcons (Syntax.tyArray (Syntax.tyInt Syntax.w32) 64) Syntax.tnil))))))) (Syntax.tcons (Syntax.tyInt Syntax.w64) (Syntax.tcons (Syntax.tyInt Syntax.w64) (Syntax.tcons (Syntax.tyInt Syntax.w64) (Syntax.tcons (Syntax.tyInt Syntax.w64) (Syntax.tcons (Syntax.tyInt Syntax.w64) (Syntax.tcons (Syntax.tyInt Syntax.w64) (Syntax.tcons Syntax.tyBool Syntax.tnil)))))))))) (List._∷_ (2, Rows.any-gone (Syntax.tyStruct (List._∷_ 122 (List._∷_ 111 (List._∷_ 110 (List._∷_ 101 (List._∷_ 115 (List._∷_ 58 (List._∷_ 58 (List._∷_ 115 (List._∷_ 99 (List._∷_ 97 (List._∷_ 110 (List._∷_ 58 (List._∷_ 58 (List._∷_ 76 (List._∷_ 105 (List._∷_ 110 (List._∷_ 101 List.[]))))))))))))))))) (Syntax.tcons (Syntax.tyInt Syntax.w32) (Syntax.tcons (Syntax.tyInt Syntax.w64) (Syntax.tcons (Syntax.tyInt Syntax.w64) (Syntax.tcons (Syntax.tyInt Syntax.w64) (Syntax.tcons (Syntax.tyInt Syntax.w64) Syntax.tnil))))))) (List._∷_ (3, Rows.sslice (Referent.rtF (Referent.fInt Syntax.w8)) (Syntax.tyRef (Syntax.named 0) Syntax.imm (Syntax.tyInt Syntax.w8)) 0) (List._∷_ (4, Rows.sref (Array.Array (Referent.rtF (Referent.fInt Syntax.w32)) 32772) (Syntax.tyRef (Syntax.named 1) Syntax.imm (Syntax.tyArray (Syntax.tyInt Syntax.w32) 32772)) 1) (List._∷_ (5, Rows.mref (Array.Array (Referent.rtF (Referent.fInt Syntax.w8)) 16388) (Syntax.tyRef (Syntax.named 2) Syntax.mut (Syntax.tyArray (Syntax.tyInt Syntax.w8) 16388)) 2) (List._∷_ (6, Rows.mref (Array.Array (Referent.rtF (Referent.fInt Syntax.w32)) 65540) (Syntax.tyRef (Syntax.named 3) Syntax.mut (Syntax.tyArray (Syntax.tyInt Syntax.w32) 65540)) 3) (List._∷_ (7, Rows.mref (Array.Array (Referent.rtF (Referent.fInt Syntax.w32)) 32772) (Syntax.tyRef (Syntax.named 4) Syntax.mut (Syntax.tyArray (Syntax.tyInt Syntax.w32) 32772)) 4) (List._∷_ (8, Rows.mref (Array.Array (Referent.rtF (Referent.fInt Syntax.w32)) 32772) (Syntax.tyRef (Syntax.named 5) Syntax.mut (Syntax.tyArray (Syntax.tyInt Syntax.w32) 32772)) 5) (List._∷_ (9, Rows.mref (Array.Array (Referent.rtF (Referent.fInt Syntax.w32)) 262160) (Syntax.tyRef (Syntax.named 6) Syntax.mut (Syntax.tyArray (Syntax.tyInt Syntax.w32) 262160)) 6) (List._∷_ (10, Rows.mref (Array.Array (Referent.rtF (Referent.fInt Syntax.w8)) 600000) (Syntax.tyRef (Syntax.named 7) Syntax.mut (Syntax.tyArray (Syntax.tyInt Syntax.w8) 600000)) 7) (List._∷_ (11, Rows.mref-owed (Array.Array Cell.R 65540) (Syntax.tyRef (Syntax.named 8) Syntax.mut (Syntax.tyArray Cell.behind 65540)) 8 22 (Row.lease (κs .1 .1 .1 .1 .1 .1 .1 .1 .0) (qs .1 .1 .1 .1 .1 .1 .1 .1 .0))) (List._∷_ (12, Rows.mref-owed (Array.Array Cell.R 32772) (Syntax.tyRef (Syntax.named 9) Syntax.mut (Syntax.tyArray Cell.behind 32772)) 9 23 (Row.lease (κs .1 .1 .1 .1 .1 .1 .1 .1 .1 .0) (qs .1 .1 .1 .1 .1 .1 .1 .1 .1 .0))) (List._∷_ (13, Rows.any-gone Syntax.tyBool) (List._∷_ (14, Rows.any-gone Syntax.tyBool) (List._∷_ (15, Rows.any-gone Syntax.tyBool) List.[])))))))))))))))
 
         abbrev g72 : List.List Row.Entry
-        g72 = List._∷_ (0, Rows.whole (Declared.row Held.the-type)) (List._∷_ (1, Rows.any-gone (Syntax.tyStruct (List._∷_ 122 (List._∷_ 111 (List._∷_ 110 (List._∷_ 101 (List._∷_ 115 (List._∷_ 58 (List._∷_ 58 (List._∷_ 104 (List._∷_ 101 (List._∷_ 108 (List._∷_ 100 (List._∷_ 58 (List._∷_ 58 (List._∷_ 72 (List._∷_ 101 (List._∷_ 108 (List._∷_ 100 List.[]))))))))))))))))) (Syntax.tcons (Syntax.tyStruct (List._∷_ 112 (List._∷_ 121 (List._∷_ 114 (List._∷_ 97 (List._∷_ 109 (List._∷_ 105 (List._∷_ 100 (List._∷_ 58 (List._∷_ 58 (List._∷_ 83 (List._∷_ 116 (List._∷_ 97 (List._∷_ 116 (List._∷_ 101 List.[])))))))))))))) (Syntax.tcons (Syntax.tyInt Syntax.w32) (Syntax.tcons (Syntax.tyInt Syntax.w32) (Syntax.tcons (Syntax.tyInt Syntax.w32) (Syntax.tcons (Syntax.tyArray (Syntax.tyInt Syntax.w32) 64) Syntax.tnil))))) (Syntax.tcons (Syntax.tyInt Syntax.w64) (Syntax.tcons (Syntax.tyInt Syntax.w64) (Syntax.tcons (Syntax.tyInt Syntax.w64) (Syntax.tcons (Syntax.tyInt Syntax.w64) (Syntax.tcons (Syntax.tyInt Syntax.w64) (Syntax.tcons (Syntax.tyInt Syntax.w64) (Syntax.tcons Syntax.tyBool Syntax.tnil)))))))))) (List._∷_ (2, Rows.any-gone (Syntax.tyStruct (List._∷_ 122 (List._∷_ 111 (List._∷_ 110 (List._∷_ 101 (List._∷_ 115 (List._∷_ 58 (List._∷_ 58 (List._∷_ 115 (List._∷_ 99 (List._∷_ 97 (List._∷_ 110 (List._∷_ 58 (List._∷_ 58 (List._∷_ 76 (List._∷_ 105 (List._∷_ 110 (List._∷_ 101 List.[]))))))))))))))))) (Syntax.tcons (Syntax.tyInt Syntax.w32) (Syntax.tcons (Syntax.tyInt Syntax.w64) (Syntax.tcons (Syntax.tyInt Syntax.w64) (Syntax.tcons (Syntax.tyInt Syntax.w64) (Syntax.tcons (Syntax.tyInt Syntax.w64) Syntax.tnil))))))) (List._∷_ (3, Rows.sslice (Referent.rtF (Referent.fInt Syntax.w8)) (Syntax.tyRef (Syntax.named 0) Syntax.imm (Syntax.tyInt Syntax.w8)) 0) (List._∷_ (4, Rows.sref (Array.Array (Referent.rtF (Referent.fInt Syntax.w32)) 32772) (Syntax.tyRef (Syntax.named 1) Syntax.imm (Syntax.tyArray (Syntax.tyInt Syntax.w32) 32772)) 1) (List._∷_ (5, Rows.mref (Array.Array (Referent.rtF (Referent.fInt Syntax.w8)) 16388) (Syntax.tyRef (Syntax.named 2) Syntax.mut (Syntax.tyArray (Syntax.tyInt Syntax.w8) 16388)) 2) (List._∷_ (6, Rows.mref (Array.Array (Referent.rtF (Referent.fInt Syntax.w32)) 65540) (Syntax.tyRef (Syntax.named 3) Syntax.mut (Syntax.tyArray (Syntax.tyInt Syntax.w32) 65540)) 3) (List._∷_ (7, Rows.mref (Array.Array (Referent.rtF (Referent.fInt Syntax.w32)) 32772) (Syntax.tyRef (Syntax.named 4) Syntax.mut (Syntax.tyArray (Syntax.tyInt Syntax.w32) 32772)) 4) (List._∷_ (8, Rows.mref (Array.Array (Referent.rtF (Referent.fInt Syntax.w32)) 32772) (Syntax.tyRef (Syntax.named 5) Syntax.mut (Syntax.tyArray (Syntax.tyInt Syntax.w32) 32772)) 5) (List._∷_ (9, Rows.mref (Array.Array (Referent.rtF (Referent.fInt Syntax.w32)) 262160) (Syntax.tyRef (Syntax.named 6) Syntax.mut (Syntax.tyArray (Syntax.tyInt Syntax.w32) 262160)) 6) (List._∷_ (10, Rows.mref (Array.Array (Referent.rtF (Referent.fInt Syntax.w8)) 600000) (Syntax.tyRef (Syntax.named 7) Syntax.mut (Syntax.tyArray (Syntax.tyInt Syntax.w8) 600000)) 7) (List._∷_ (11, Rows.mref (Array.Array Cell.R 65540) (Syntax.tyRef (Syntax.named 8) Syntax.mut (Syntax.tyArray Cell.behind 65540)) 8) (List._∷_ (12, Rows.mref-owed (Array.Array Cell.R 32772) (Syntax.tyRef (Syntax.named 9) Syntax.mut (Syntax.tyArray Cell.behind 32772)) 9 23 (Row.lease (κs .1 .1 .1 .1 .1 .1 .1 .1 .1 .0) (qs .1 .1 .1 .1 .1 .1 .1 .1 .1 .0))) (List._∷_ (13, Rows.any-gone Syntax.tyBool) (List._∷_ (14, Rows.any-gone Syntax.tyBool) (List._∷_ (15, Rows.any-gone Syntax.tyBool) List.[])))))))))))))))
+        g72 = List._∷_ (0, Rows.whole (Declared.row Held.the-type)) (List._∷_ (1, Rows.any-gone (Syntax.tyStruct (List._∷_ 122 (List._∷_ 111 (List._∷_ 110 (List._∷_ 101 (List._∷_ 115 (List._∷_ 58 (List._∷_ 58 (List._∷_ 104 (List._∷_ 101 (List._∷_ 108 (List._∷_ 100 (List._∷_ 58 (List._∷_ 58 (List._∷_ 72 (List._∷_ 101 (List._∷_ 108 (List._∷_ 100 List.[]))))))))))))))))) (Syntax.tcons (Syntax.tyStruct (List._∷_ 112 (List._∷_ 121 (List._∷_ 114 (List._∷_ 97 (List._∷_ 109 (List._∷_ 105 (List._∷_ 100 (List._∷_ 58 (List._∷_ 58 (List._∷_ 83 (List._∷_ 116 (List._∷_ 97 (List._∷_ 116 (List._∷_ 101 List.[])))))))))))))) (Syntax.tcons (Syntax.tyInt Syntax.w32) (Syntax.tcons (Syntax.tyInt Syntax.w32) (Syntax.tcons (Syntax.tyInt Syntax.w32) (Syntax.tcons (Syntax.tyInt Syntax.w32) (Syntax.tcons (Syntax.tyInt Syntax.w32) (Syntax.tcons (Syntax.tyArray (Syntax.tyInt Syntax.w32) 64) Syntax.tnil))))))) (Syntax.tcons (Syntax.tyInt Syntax.w64) (Syntax.tcons (Syntax.tyInt Syntax.w64) (Syntax.tcons (Syntax.tyInt Syntax.w64) (Syntax.tcons (Syntax.tyInt Syntax.w64) (Syntax.tcons (Syntax.tyInt Syntax.w64) (Syntax.tcons (Syntax.tyInt Syntax.w64) (Syntax.tcons Syntax.tyBool Syntax.tnil)))))))))) (List._∷_ (2, Rows.any-gone (Syntax.tyStruct (List._∷_ 122 (List._∷_ 111 (List._∷_ 110 (List._∷_ 101 (List._∷_ 115 (List._∷_ 58 (List._∷_ 58 (List._∷_ 115 (List._∷_ 99 (List._∷_ 97 (List._∷_ 110 (List._∷_ 58 (List._∷_ 58 (List._∷_ 76 (List._∷_ 105 (List._∷_ 110 (List._∷_ 101 List.[]))))))))))))))))) (Syntax.tcons (Syntax.tyInt Syntax.w32) (Syntax.tcons (Syntax.tyInt Syntax.w64) (Syntax.tcons (Syntax.tyInt Syntax.w64) (Syntax.tcons (Syntax.tyInt Syntax.w64) (Syntax.tcons (Syntax.tyInt Syntax.w64) Syntax.tnil))))))) (List._∷_ (3, Rows.sslice (Referent.rtF (Referent.fInt Syntax.w8)) (Syntax.tyRef (Syntax.named 0) Syntax.imm (Syntax.tyInt Syntax.w8)) 0) (List._∷_ (4, Rows.sref (Array.Array (Referent.rtF (Referent.fInt Syntax.w32)) 32772) (Syntax.tyRef (Syntax.named 1) Syntax.imm (Syntax.tyArray (Syntax.tyInt Syntax.w32) 32772)) 1) (List._∷_ (5, Rows.mref (Array.Array (Referent.rtF (Referent.fInt Syntax.w8)) 16388) (Syntax.tyRef (Syntax.named 2) Syntax.mut (Syntax.tyArray (Syntax.tyInt Syntax.w8) 16388)) 2) (List._∷_ (6, Rows.mref (Array.Array (Referent.rtF (Referent.fInt Syntax.w32)) 65540) (Syntax.tyRef (Syntax.named 3) Syntax.mut (Syntax.tyArray (Syntax.tyInt Syntax.w32) 65540)) 3) (List._∷_ (7, Rows.mref (Array.Array (Referent.rtF (Referent.fInt Syntax.w32)) 32772) (Syntax.tyRef (Syntax.named 4) Syntax.mut (Syntax.tyArray (Syntax.tyInt Syntax.w32) 32772)) 4) (List._∷_ (8, Rows.mref (Array.Array (Referent.rtF (Referent.fInt Syntax.w32)) 32772) (Syntax.tyRef (Syntax.named 5) Syntax.mut (Syntax.tyArray (Syntax.tyInt Syntax.w32) 32772)) 5) (List._∷_ (9, Rows.mref (Array.Array (Referent.rtF (Referent.fInt Syntax.w32)) 262160) (Syntax.tyRef (Syntax.named 6) Syntax.mut (Syntax.tyArray (Syntax.tyInt Syntax.w32) 262160)) 6) (List._∷_ (10, Rows.mref (Array.Array (Referent.rtF (Referent.fInt Syntax.w8)) 600000) (Syntax.tyRef (Syntax.named 7) Syntax.mut (Syntax.tyArray (Syntax.tyInt Syntax.w8) 600000)) 7) (List._∷_ (11, Rows.mref (Array.Array Cell.R 65540) (Syntax.tyRef (Syntax.named 8) Syntax.mut (Syntax.tyArray Cell.behind 65540)) 8) (List._∷_ (12, Rows.mref-owed (Array.Array Cell.R 32772) (Syntax.tyRef (Syntax.named 9) Syntax.mut (Syntax.tyArray Cell.behind 32772)) 9 23 (Row.lease (κs .1 .1 .1 .1 .1 .1 .1 .1 .1 .0) (qs .1 .1 .1 .1 .1 .1 .1 .1 .1 .0))) (List._∷_ (13, Rows.any-gone Syntax.tyBool) (List._∷_ (14, Rows.any-gone Syntax.tyBool) (List._∷_ (15, Rows.any-gone Syntax.tyBool) List.[])))))))))))))))
 
         abbrev G0 : Row.Cx
         G0 = record { locals = List._++_ t0 t1; slots = List._∷_ (Row.lease (κs .0) (qs .0)) (List._∷_ (Row.lease (κs .1 .0) (qs .1 .0)) (List._∷_ (Row.lease (κs .1 .1 .0) (qs .1 .1 .0)) (List._∷_ (Row.lease (κs .1 .1 .1 .0) (qs .1 .1 .1 .0)) (List._∷_ (Row.lease (κs .1 .1 .1 .1 .0) (qs .1 .1 .1 .1 .0)) (List._∷_ (Row.lease (κs .1 .1 .1 .1 .1 .0) (qs .1 .1 .1 .1 .1 .0)) (List._∷_ (Row.lease (κs .1 .1 .1 .1 .1 .1 .0) (qs .1 .1 .1 .1 .1 .1 .0)) (List._∷_ (Row.lease (κs .1 .1 .1 .1 .1 .1 .1 .0) (qs .1 .1 .1 .1 .1 .1 .1 .0)) (List._∷_ (Row.lease (κs .1 .1 .1 .1 .1 .1 .1 .1 .0) (qs .1 .1 .1 .1 .1 .1 .1 .1 .0)) (List._∷_ (Row.lease (κs .1 .1 .1 .1 .1 .1 .1 .1 .1 .0) (qs .1 .1 .1 .1 .1 .1 .1 .1 .1 .0)) (List._∷_ Row.off (List._∷_ Row.off (List._∷_ Row.off (List._∷_ Row.off (List._∷_ Row.off (List._∷_ Row.off (List._∷_ Row.off (List._∷_ Row.off (List._∷_ Row.off (List._∷_ Row.off (List._∷_ Row.off (List._∷_ Row.off (List._∷_ Row.off (List._∷_ Row.off List.[]))))))))))))))))))))))) }
@@ -1761,10 +1761,10 @@ module _ (claims· : Claims) where
           d19 = Typed.g-pre 𝓤 H A W 𝓣 E G20 G21 b8 Δ1 (Typed.pass T20 T21 s18) at18 (Scalar.g-room 𝓤 H A W E G20 2 (Syntax.tyStruct (List._∷_ 122 (List._∷_ 111 (List._∷_ 110 (List._∷_ 101 (List._∷_ 115 (List._∷_ 58 (List._∷_ 58 (List._∷_ 115 (List._∷_ 99 (List._∷_ 97 (List._∷_ 110 (List._∷_ 58 (List._∷_ 58 (List._∷_ 76 (List._∷_ 105 (List._∷_ 110 (List._∷_ 101 List.[]))))))))))))))))) (Syntax.tcons (Syntax.tyInt Syntax.w32) (Syntax.tcons (Syntax.tyInt Syntax.w64) (Syntax.tcons (Syntax.tyInt Syntax.w64) (Syntax.tcons (Syntax.tyInt Syntax.w64) (Syntax.tcons (Syntax.tyInt Syntax.w64) Syntax.tnil)))))) (Local.room-whole 𝓤 H A W (Declared.row Line.the-type) (Syntax.tyStruct (List._∷_ 122 (List._∷_ 111 (List._∷_ 110 (List._∷_ 101 (List._∷_ 115 (List._∷_ 58 (List._∷_ 58 (List._∷_ 115 (List._∷_ 99 (List._∷_ 97 (List._∷_ 110 (List._∷_ 58 (List._∷_ 58 (List._∷_ 76 (List._∷_ 105 (List._∷_ 110 (List._∷_ 101 List.[]))))))))))))))))) (Syntax.tcons (Syntax.tyInt Syntax.w32) (Syntax.tcons (Syntax.tyInt Syntax.w64) (Syntax.tcons (Syntax.tyInt Syntax.w64) (Syntax.tcons (Syntax.tyInt Syntax.w64) (Syntax.tcons (Syntax.tyInt Syntax.w64) Syntax.tnil)))))) Path'.refl)) d18
 
           d20 : Typed.Typed 𝓤 H A 𝓣 E G19 b8 Δ1 at20
-          d20 = Typed.g-pre 𝓤 H A W 𝓣 E G19 G20 b8 Δ1 (Typed.pass T19 T20 s17) at19 (Scalar.g-room 𝓤 H A W E G19 1 (Syntax.tyStruct (List._∷_ 122 (List._∷_ 111 (List._∷_ 110 (List._∷_ 101 (List._∷_ 115 (List._∷_ 58 (List._∷_ 58 (List._∷_ 104 (List._∷_ 101 (List._∷_ 108 (List._∷_ 100 (List._∷_ 58 (List._∷_ 58 (List._∷_ 72 (List._∷_ 101 (List._∷_ 108 (List._∷_ 100 List.[]))))))))))))))))) (Syntax.tcons (Syntax.tyStruct (List._∷_ 112 (List._∷_ 121 (List._∷_ 114 (List._∷_ 97 (List._∷_ 109 (List._∷_ 105 (List._∷_ 100 (List._∷_ 58 (List._∷_ 58 (List._∷_ 83 (List._∷_ 116 (List._∷_ 97 (List._∷_ 116 (List._∷_ 101 List.[])))))))))))))) (Syntax.tcons (Syntax.tyInt Syntax.w32) (Syntax.tcons (Syntax.tyInt Syntax.w32) (Syntax.tcons (Syntax.tyInt Syntax.w32) (Syntax.tcons (Syntax.tyArray (Syntax.tyInt Syntax.w32) 64) Syntax.tnil))))) (Syntax.tcons (Syntax.tyInt Syntax.w64) (Syntax.tcons (Syntax.tyInt Syntax.w64) (Syntax.tcons (Syntax.tyInt Syntax.w64) (Syntax.tcons (Syntax.tyInt Syntax.w64) (Syntax.tcons (Syntax.tyInt Syntax.w64) (Syntax.tcons (Syntax.tyInt Syntax.w64) (Syntax.tcons Syntax.tyBool Syntax.tnil))))))))) (Local.room-whole 𝓤 H A W (Declared.row Held.the-type) (Syntax.tyStruct (List._∷_ 122 (List._∷_ 111 (List._∷_ 110 (List._∷_ 101 (List._∷_ 115 (List._∷_ 58 (List._∷_ 58 (List._∷_ 104 (List._∷_ 101 (List._∷_ 108 (List._∷_ 100 (List._∷_ 58 (List._∷_ 58 (List._∷_ 72 (List._∷_ 101 (List._∷_ 108 (List._∷_ 100 List.[]))))))))))))))))) (Syntax.tcons (Syntax.tyStruct (List._∷_ 112 (List._∷_ 121 (List._∷_ 114 (List._∷_ 97 (List._∷_ 109 (List._∷_ 105 (List._∷_ 100 (List._∷_ 58 (List._∷_ 58 (List._∷_ 83 (List._∷_ 116 (List._∷_ 97 (List._∷_ 116 (List._∷_ 101 List.[])))))))))))))) (Syntax.tcons (Syntax.tyInt Syntax.w32) (Syntax.tcons (Syntax.tyInt Syntax.w32) (Syntax.tcons (Syntax.tyInt Syntax.w32) (Syntax.tcons (Syntax.tyArray (Syntax.tyInt Syntax.w32) 64) Syntax.tnil))))) (Syntax.tcons (Syntax.tyInt Syntax.w64) (Syntax.tcons (Syntax.tyInt Syntax.w64) (Syntax.tcons (Syntax.tyInt Syntax.w64) (Syntax.tcons (Syntax.tyInt Syntax.w64) (Syntax.tcons (Syntax.tyInt Syntax.w64) (Syntax.tcons (Syntax.tyInt Syntax.w64) (Syntax.tcons Syntax.tyBool Syntax.tnil))))))))) Path'.refl)) d19
+          d20 = Typed.g-pre 𝓤 H A W 𝓣 E G19 G20 b8 Δ1 (Typed.pass T19 T20 s17) at19 (Scalar.g-room 𝓤 H A W E G19 1 (Syntax.tyStruct (List._∷_ 122 (List._∷_ 111 (List._∷_ 110 (List._∷_ 101 (List._∷_ 115 (List._∷_ 58 (List._∷_ 58 (List._∷_ 104 (List._∷_ 101 (List._∷_ 108 (List._∷_ 100 (List._∷_ 58 (List._∷_ 58 (List._∷_ 72 (List._∷_ 101 (List._∷_ 108 (List._∷_ 100 List.[]))))))))))))))))) (Syntax.tcons (Syntax.tyStruct (List._∷_ 112 (List._∷_ 121 (List._∷_ 114 (List._∷_ 97 (List._∷_ 109 (List._∷_ 105 (List._∷_ 100 (List._∷_ 58 (List._∷_ 58 (List._∷_ 83 (List._∷_ 116 (List._∷_ 97 (List._∷_ 116 (List._∷_ 101 List.[])))))))))))))) (Syntax.tcons (Syntax.tyInt Syntax.w32) (Syntax.tcons (Syntax.tyInt Syntax.w32) (Syntax.tcons (Syntax.tyInt Syntax.w32) (Syntax.tcons (Syntax.tyInt Syntax.w32) (Syntax.tcons (Syntax.tyInt Syntax.w32) (Syntax.tcons (Syntax.tyArray (Syntax.tyInt Syntax.w32) 64) Syntax.tnil))))))) (Syntax.tcons (Syntax.tyInt Syntax.w64) (Syntax.tcons (Syntax.tyInt Syntax.w64) (Syntax.tcons (Syntax.tyInt Syntax.w64) (Syntax.tcons (Syntax.tyInt Syntax.w64) (Syntax.tcons (Syntax.tyInt Syntax.w64) (Syntax.tcons (Syntax.tyInt Syntax.w64) (Syntax.tcons Syntax.tyBool Syntax.tnil))))))))) (Local.room-whole 𝓤 H A W (Declared.row Held.the-type) (Syntax.tyStruct (List._∷_ 122 (List._∷_ 111 (List._∷_ 110 (List._∷_ 101 (List._∷_ 115 (List._∷_ 58 (List._∷_ 58 (List._∷_ 104 (List._∷_ 101 (List._∷_ 108 (List._∷_ 100 (List._∷_ 58 (List._∷_ 58 (List._∷_ 72 (List._∷_ 101 (List._∷_ 108 (List._∷_ 100 List.[]))))))))))))))))) (Syntax.tcons (Syntax.tyStruct (List._∷_ 112 (List._∷_ 121 (List._∷_ 114 (List._∷_ 97 (List._∷_ 109 (List._∷_ 105 (List._∷_ 100 (List._∷_ 58 (List._∷_ 58 (List._∷_ 83 (List._∷_ 116 (List._∷_ 97 (List._∷_ 116 (List._∷_ 101 List.[])))))))))))))) (Syntax.tcons (Syntax.tyInt Syntax.w32) (Syntax.tcons (Syntax.tyInt Syntax.w32) (Syntax.tcons (Syntax.tyInt Syntax.w32) (Syntax.tcons (Syntax.tyInt Syntax.w32) (Syntax.tcons (Syntax.tyInt Syntax.w32) (Syntax.tcons (Syntax.tyArray (Syntax.tyInt Syntax.w32) 64) Syntax.tnil))))))) (Syntax.tcons (Syntax.tyInt Syntax.w64) (Syntax.tcons (Syntax.tyInt Syntax.w64) (Syntax.tcons (Syntax.tyInt Syntax.w64) (Syntax.tcons (Syntax.tyInt Syntax.w64) (Syntax.tcons (Syntax.tyInt Syntax.w64) (Syntax.tcons (Syntax.tyInt Syntax.w64) (Syntax.tcons Syntax.tyBool Syntax.tnil))))))))) Path'.refl)) d19
 
           d21 : Typed.Typed 𝓤 H A 𝓣 E G18 b9 Δ1 at21
-          d21 = Typed.s-seq 𝓤 H A W 𝓣 E G18 G19 b7 b8 Δ1 (Typed.both s16) at20 (Plain.t-call-plain 𝓤 H A W 𝓣 8 ps·0 r·0 (claims· .0) (claims· .1) "zones::lines::plain" (known .0) E (λ pos β. β) G18 (record { pos = 1; st = List.[]; d = 0; at = λ x. x }, (record { pos = 2; st = List.[]; d = 0; at = λ x. x }, (record { pos = 3; ty = Syntax.tyRef (Syntax.named 0) Syntax.imm (Syntax.tyInt Syntax.w8); ref = λ x. x }, (record { pos = 4; ty = Syntax.tyRef (Syntax.named 1) Syntax.imm (Syntax.tyArray (Syntax.tyInt Syntax.w32) 32772); ref = λ x. x }, (record { pos = 16; ty = Syntax.tyRef Syntax.erased Syntax.mut (Syntax.tyArray (Syntax.tyInt Syntax.w8) 16388); ref = λ x. x }, (record { pos = 17; ty = Syntax.tyRef Syntax.erased Syntax.mut (Syntax.tyArray (Syntax.tyInt Syntax.w32) 65540); ref = λ x. x }, (record { pos = 18; ty = Syntax.tyRef Syntax.erased Syntax.mut (Syntax.tyArray (Syntax.tyInt Syntax.w32) 32772); ref = λ x. x }, (record { pos = 19; ty = Syntax.tyRef Syntax.erased Syntax.mut (Syntax.tyArray (Syntax.tyInt Syntax.w32) 32772); ref = λ x. x }, (record { pos = 20; ty = Syntax.tyRef Syntax.erased Syntax.mut (Syntax.tyArray (Syntax.tyInt Syntax.w32) 262160); ref = λ x. x }, (record { pos = 21; ty = Syntax.tyRef Syntax.erased Syntax.mut (Syntax.tyArray (Syntax.tyInt Syntax.w8) 600000); ref = λ x. x }, tt)))))))))) 0 (List._∷_ 0 (List._∷_ 1 (List._∷_ 10 (List._∷_ 11 (List._∷_ 12 (List._∷_ 13 (List._∷_ 14 (List._∷_ 15 List.[])))))))) (Call.sub-id 𝓤 H A W (G18 .slots)) ((Yields.yields-copy 𝓤 H A W (λ ρ. Unit) (Declared.row Held.the-type) Path'.refl (Copies.cStruct Held.the-type Laws.the-laws Laws.the-copy .copy 𝓤 H A W) (Rows.whole (Declared.row Held.the-type)) (λ x. x) (λ x. x) (λ ρ told. Local.mem-whole 𝓤 H A W (Declared.row Held.the-type) ρ) λ ρ told. Local.whole-mem 𝓤 H A W (Declared.row Held.the-type) ρ, Path'.refl), ((Yields.yields-copy 𝓤 H A W (λ ρ. Unit) (Declared.row Line.the-type) Path'.refl (Copies.cStruct Line.the-type Laws'.the-laws Laws'.the-copy .copy 𝓤 H A W) (Rows.whole (Declared.row Line.the-type)) (λ x. x) (λ x. x) (λ ρ told. Local.mem-whole 𝓤 H A W (Declared.row Line.the-type) ρ) λ ρ told. Local.whole-mem 𝓤 H A W (Declared.row Line.the-type) ρ, Path'.refl), (ShrSlice.spares-sslice 𝓤 H A W (Referent.rtF (Referent.fInt Syntax.w8)) (Syntax.tyRef (Syntax.named 0) Syntax.imm (Syntax.tyInt Syntax.w8)) 0, Shared.reads-sslice 𝓤 H A W (Referent.rtF (Referent.fInt Syntax.w8)) (Syntax.tyRef (Syntax.named 0) Syntax.imm (Syntax.tyInt Syntax.w8)) 0, Path'.refl, (ShrRef.spares-sref 𝓤 H A W (Array.Array (Referent.rtF (Referent.fInt Syntax.w32)) 32772) (Syntax.tyRef (Syntax.named 1) Syntax.imm (Syntax.tyArray (Syntax.tyInt Syntax.w32) 32772)) 1, Reads'.reads-sref 𝓤 H A W (Array.Array (Referent.rtF (Referent.fInt Syntax.w32)) 32772) (Syntax.tyRef (Syntax.named 1) Syntax.imm (Syntax.tyArray (Syntax.tyInt Syntax.w32) 32772)) 1, Path'.refl, (Reads'.as-is 𝓤 H A (Rows.mref (Array.Array (Referent.rtF (Referent.fInt Syntax.w8)) 16388) (Syntax.tyRef Syntax.erased Syntax.mut (Syntax.tyArray (Syntax.tyInt Syntax.w8) 16388)) 10), Reads'.reads-mref 𝓤 H A W (Array.Array (Referent.rtF (Referent.fInt Syntax.w8)) 16388) (Syntax.tyRef Syntax.erased Syntax.mut (Syntax.tyArray (Syntax.tyInt Syntax.w8) 16388)) 10, Path'.refl, (Reads'.as-is 𝓤 H A (Rows.mref (Array.Array (Referent.rtF (Referent.fInt Syntax.w32)) 65540) (Syntax.tyRef Syntax.erased Syntax.mut (Syntax.tyArray (Syntax.tyInt Syntax.w32) 65540)) 11), Reads'.reads-mref 𝓤 H A W (Array.Array (Referent.rtF (Referent.fInt Syntax.w32)) 65540) (Syntax.tyRef Syntax.erased Syntax.mut (Syntax.tyArray (Syntax.tyInt Syntax.w32) 65540)) 11, Path'.refl, (Reads'.as-is 𝓤 H A (Rows.mref (Array.Array (Referent.rtF (Referent.fInt Syntax.w32)) 32772) (Syntax.tyRef Syntax.erased Syntax.mut (Syntax.tyArray (Syntax.tyInt Syntax.w32) 32772)) 12), Reads'.reads-mref 𝓤 H A W (Array.Array (Referent.rtF (Referent.fInt Syntax.w32)) 32772) (Syntax.tyRef Syntax.erased Syntax.mut (Syntax.tyArray (Syntax.tyInt Syntax.w32) 32772)) 12, Path'.refl, (Reads'.as-is 𝓤 H A (Rows.mref (Array.Array (Referent.rtF (Referent.fInt Syntax.w32)) 32772) (Syntax.tyRef Syntax.erased Syntax.mut (Syntax.tyArray (Syntax.tyInt Syntax.w32) 32772)) 13), Reads'.reads-mref 𝓤 H A W (Array.Array (Referent.rtF (Referent.fInt Syntax.w32)) 32772) (Syntax.tyRef Syntax.erased Syntax.mut (Syntax.tyArray (Syntax.tyInt Syntax.w32) 32772)) 13, Path'.refl, (Reads'.as-is 𝓤 H A (Rows.mref (Array.Array (Referent.rtF (Referent.fInt Syntax.w32)) 262160) (Syntax.tyRef Syntax.erased Syntax.mut (Syntax.tyArray (Syntax.tyInt Syntax.w32) 262160)) 14), Reads'.reads-mref 𝓤 H A W (Array.Array (Referent.rtF (Referent.fInt Syntax.w32)) 262160) (Syntax.tyRef Syntax.erased Syntax.mut (Syntax.tyArray (Syntax.tyInt Syntax.w32) 262160)) 14, Path'.refl, (Reads'.as-is 𝓤 H A (Rows.mref (Array.Array (Referent.rtF (Referent.fInt Syntax.w8)) 600000) (Syntax.tyRef Syntax.erased Syntax.mut (Syntax.tyArray (Syntax.tyInt Syntax.w8) 600000)) 15), Reads'.reads-mref 𝓤 H A W (Array.Array (Referent.rtF (Referent.fInt Syntax.w8)) 600000) (Syntax.tyRef Syntax.erased Syntax.mut (Syntax.tyArray (Syntax.tyInt Syntax.w8) 600000)) 15, Path'.refl, tt)))))))))) (Reads'.room-gone 𝓤 H A (Syntax.tyStruct (List._∷_ 122 (List._∷_ 111 (List._∷_ 110 (List._∷_ 101 (List._∷_ 115 (List._∷_ 58 (List._∷_ 58 (List._∷_ 104 (List._∷_ 101 (List._∷_ 108 (List._∷_ 100 (List._∷_ 58 (List._∷_ 58 (List._∷_ 72 (List._∷_ 101 (List._∷_ 108 (List._∷_ 100 List.[]))))))))))))))))) (Syntax.tcons (Syntax.tyStruct (List._∷_ 112 (List._∷_ 121 (List._∷_ 114 (List._∷_ 97 (List._∷_ 109 (List._∷_ 105 (List._∷_ 100 (List._∷_ 58 (List._∷_ 58 (List._∷_ 83 (List._∷_ 116 (List._∷_ 97 (List._∷_ 116 (List._∷_ 101 List.[])))))))))))))) (Syntax.tcons (Syntax.tyInt Syntax.w32) (Syntax.tcons (Syntax.tyInt Syntax.w32) (Syntax.tcons (Syntax.tyInt Syntax.w32) (Syntax.tcons (Syntax.tyArray (Syntax.tyInt Syntax.w32) 64) Syntax.tnil))))) (Syntax.tcons (Syntax.tyInt Syntax.w64) (Syntax.tcons (Syntax.tyInt Syntax.w64) (Syntax.tcons (Syntax.tyInt Syntax.w64) (Syntax.tcons (Syntax.tyInt Syntax.w64) (Syntax.tcons (Syntax.tyInt Syntax.w64) (Syntax.tcons (Syntax.tyInt Syntax.w64) (Syntax.tcons Syntax.tyBool Syntax.tnil)))))))))) (tt, (tt, (tt, (tt, (tt, (tt, (tt, (tt, tt)))))))) Path'.refl) d20
+          d21 = Typed.s-seq 𝓤 H A W 𝓣 E G18 G19 b7 b8 Δ1 (Typed.both s16) at20 (Plain.t-call-plain 𝓤 H A W 𝓣 8 ps·0 r·0 (claims· .0) (claims· .1) "zones::lines::plain" (known .0) E (λ pos β. β) G18 (record { pos = 1; st = List.[]; d = 0; at = λ x. x }, (record { pos = 2; st = List.[]; d = 0; at = λ x. x }, (record { pos = 3; ty = Syntax.tyRef (Syntax.named 0) Syntax.imm (Syntax.tyInt Syntax.w8); ref = λ x. x }, (record { pos = 4; ty = Syntax.tyRef (Syntax.named 1) Syntax.imm (Syntax.tyArray (Syntax.tyInt Syntax.w32) 32772); ref = λ x. x }, (record { pos = 16; ty = Syntax.tyRef Syntax.erased Syntax.mut (Syntax.tyArray (Syntax.tyInt Syntax.w8) 16388); ref = λ x. x }, (record { pos = 17; ty = Syntax.tyRef Syntax.erased Syntax.mut (Syntax.tyArray (Syntax.tyInt Syntax.w32) 65540); ref = λ x. x }, (record { pos = 18; ty = Syntax.tyRef Syntax.erased Syntax.mut (Syntax.tyArray (Syntax.tyInt Syntax.w32) 32772); ref = λ x. x }, (record { pos = 19; ty = Syntax.tyRef Syntax.erased Syntax.mut (Syntax.tyArray (Syntax.tyInt Syntax.w32) 32772); ref = λ x. x }, (record { pos = 20; ty = Syntax.tyRef Syntax.erased Syntax.mut (Syntax.tyArray (Syntax.tyInt Syntax.w32) 262160); ref = λ x. x }, (record { pos = 21; ty = Syntax.tyRef Syntax.erased Syntax.mut (Syntax.tyArray (Syntax.tyInt Syntax.w8) 600000); ref = λ x. x }, tt)))))))))) 0 (List._∷_ 0 (List._∷_ 1 (List._∷_ 10 (List._∷_ 11 (List._∷_ 12 (List._∷_ 13 (List._∷_ 14 (List._∷_ 15 List.[])))))))) (Call.sub-id 𝓤 H A W (G18 .slots)) ((Yields.yields-copy 𝓤 H A W (λ ρ. Unit) (Declared.row Held.the-type) Path'.refl (Copies.cStruct Held.the-type Laws.the-laws Laws.the-copy .copy 𝓤 H A W) (Rows.whole (Declared.row Held.the-type)) (λ x. x) (λ x. x) (λ ρ told. Local.mem-whole 𝓤 H A W (Declared.row Held.the-type) ρ) λ ρ told. Local.whole-mem 𝓤 H A W (Declared.row Held.the-type) ρ, Path'.refl), ((Yields.yields-copy 𝓤 H A W (λ ρ. Unit) (Declared.row Line.the-type) Path'.refl (Copies.cStruct Line.the-type Laws'.the-laws Laws'.the-copy .copy 𝓤 H A W) (Rows.whole (Declared.row Line.the-type)) (λ x. x) (λ x. x) (λ ρ told. Local.mem-whole 𝓤 H A W (Declared.row Line.the-type) ρ) λ ρ told. Local.whole-mem 𝓤 H A W (Declared.row Line.the-type) ρ, Path'.refl), (ShrSlice.spares-sslice 𝓤 H A W (Referent.rtF (Referent.fInt Syntax.w8)) (Syntax.tyRef (Syntax.named 0) Syntax.imm (Syntax.tyInt Syntax.w8)) 0, Shared.reads-sslice 𝓤 H A W (Referent.rtF (Referent.fInt Syntax.w8)) (Syntax.tyRef (Syntax.named 0) Syntax.imm (Syntax.tyInt Syntax.w8)) 0, Path'.refl, (ShrRef.spares-sref 𝓤 H A W (Array.Array (Referent.rtF (Referent.fInt Syntax.w32)) 32772) (Syntax.tyRef (Syntax.named 1) Syntax.imm (Syntax.tyArray (Syntax.tyInt Syntax.w32) 32772)) 1, Reads'.reads-sref 𝓤 H A W (Array.Array (Referent.rtF (Referent.fInt Syntax.w32)) 32772) (Syntax.tyRef (Syntax.named 1) Syntax.imm (Syntax.tyArray (Syntax.tyInt Syntax.w32) 32772)) 1, Path'.refl, (Reads'.as-is 𝓤 H A (Rows.mref (Array.Array (Referent.rtF (Referent.fInt Syntax.w8)) 16388) (Syntax.tyRef Syntax.erased Syntax.mut (Syntax.tyArray (Syntax.tyInt Syntax.w8) 16388)) 10), Reads'.reads-mref 𝓤 H A W (Array.Array (Referent.rtF (Referent.fInt Syntax.w8)) 16388) (Syntax.tyRef Syntax.erased Syntax.mut (Syntax.tyArray (Syntax.tyInt Syntax.w8) 16388)) 10, Path'.refl, (Reads'.as-is 𝓤 H A (Rows.mref (Array.Array (Referent.rtF (Referent.fInt Syntax.w32)) 65540) (Syntax.tyRef Syntax.erased Syntax.mut (Syntax.tyArray (Syntax.tyInt Syntax.w32) 65540)) 11), Reads'.reads-mref 𝓤 H A W (Array.Array (Referent.rtF (Referent.fInt Syntax.w32)) 65540) (Syntax.tyRef Syntax.erased Syntax.mut (Syntax.tyArray (Syntax.tyInt Syntax.w32) 65540)) 11, Path'.refl, (Reads'.as-is 𝓤 H A (Rows.mref (Array.Array (Referent.rtF (Referent.fInt Syntax.w32)) 32772) (Syntax.tyRef Syntax.erased Syntax.mut (Syntax.tyArray (Syntax.tyInt Syntax.w32) 32772)) 12), Reads'.reads-mref 𝓤 H A W (Array.Array (Referent.rtF (Referent.fInt Syntax.w32)) 32772) (Syntax.tyRef Syntax.erased Syntax.mut (Syntax.tyArray (Syntax.tyInt Syntax.w32) 32772)) 12, Path'.refl, (Reads'.as-is 𝓤 H A (Rows.mref (Array.Array (Referent.rtF (Referent.fInt Syntax.w32)) 32772) (Syntax.tyRef Syntax.erased Syntax.mut (Syntax.tyArray (Syntax.tyInt Syntax.w32) 32772)) 13), Reads'.reads-mref 𝓤 H A W (Array.Array (Referent.rtF (Referent.fInt Syntax.w32)) 32772) (Syntax.tyRef Syntax.erased Syntax.mut (Syntax.tyArray (Syntax.tyInt Syntax.w32) 32772)) 13, Path'.refl, (Reads'.as-is 𝓤 H A (Rows.mref (Array.Array (Referent.rtF (Referent.fInt Syntax.w32)) 262160) (Syntax.tyRef Syntax.erased Syntax.mut (Syntax.tyArray (Syntax.tyInt Syntax.w32) 262160)) 14), Reads'.reads-mref 𝓤 H A W (Array.Array (Referent.rtF (Referent.fInt Syntax.w32)) 262160) (Syntax.tyRef Syntax.erased Syntax.mut (Syntax.tyArray (Syntax.tyInt Syntax.w32) 262160)) 14, Path'.refl, (Reads'.as-is 𝓤 H A (Rows.mref (Array.Array (Referent.rtF (Referent.fInt Syntax.w8)) 600000) (Syntax.tyRef Syntax.erased Syntax.mut (Syntax.tyArray (Syntax.tyInt Syntax.w8) 600000)) 15), Reads'.reads-mref 𝓤 H A W (Array.Array (Referent.rtF (Referent.fInt Syntax.w8)) 600000) (Syntax.tyRef Syntax.erased Syntax.mut (Syntax.tyArray (Syntax.tyInt Syntax.w8) 600000)) 15, Path'.refl, tt)))))))))) (Reads'.room-gone 𝓤 H A (Syntax.tyStruct (List._∷_ 122 (List._∷_ 111 (List._∷_ 110 (List._∷_ 101 (List._∷_ 115 (List._∷_ 58 (List._∷_ 58 (List._∷_ 104 (List._∷_ 101 (List._∷_ 108 (List._∷_ 100 (List._∷_ 58 (List._∷_ 58 (List._∷_ 72 (List._∷_ 101 (List._∷_ 108 (List._∷_ 100 List.[]))))))))))))))))) (Syntax.tcons (Syntax.tyStruct (List._∷_ 112 (List._∷_ 121 (List._∷_ 114 (List._∷_ 97 (List._∷_ 109 (List._∷_ 105 (List._∷_ 100 (List._∷_ 58 (List._∷_ 58 (List._∷_ 83 (List._∷_ 116 (List._∷_ 97 (List._∷_ 116 (List._∷_ 101 List.[])))))))))))))) (Syntax.tcons (Syntax.tyInt Syntax.w32) (Syntax.tcons (Syntax.tyInt Syntax.w32) (Syntax.tcons (Syntax.tyInt Syntax.w32) (Syntax.tcons (Syntax.tyInt Syntax.w32) (Syntax.tcons (Syntax.tyInt Syntax.w32) (Syntax.tcons (Syntax.tyArray (Syntax.tyInt Syntax.w32) 64) Syntax.tnil))))))) (Syntax.tcons (Syntax.tyInt Syntax.w64) (Syntax.tcons (Syntax.tyInt Syntax.w64) (Syntax.tcons (Syntax.tyInt Syntax.w64) (Syntax.tcons (Syntax.tyInt Syntax.w64) (Syntax.tcons (Syntax.tyInt Syntax.w64) (Syntax.tcons (Syntax.tyInt Syntax.w64) (Syntax.tcons Syntax.tyBool Syntax.tnil)))))))))) (tt, (tt, (tt, (tt, (tt, (tt, (tt, (tt, tt)))))))) Path'.refl) d20
 
           d22 : Typed.Typed 𝓤 H A 𝓣 E G17 b10 Δ1 at22
           d22 = Typed.s-seq 𝓤 H A W 𝓣 E G17 G18 b6 b9 Δ1 (Typed.give s15) at21 (Reborrow.t-mref-relend 𝓤 H A W E 𝓣 G17 10 21 7 15 (Array.Array (Referent.rtF (Referent.fInt Syntax.w8)) 600000) (Syntax.tyArray (Syntax.tyInt Syntax.w8) 600000) (Syntax.tyRef (Syntax.named 7) Syntax.mut (Syntax.tyArray (Syntax.tyInt Syntax.w8) 600000)) (Syntax.tyRef Syntax.erased Syntax.mut (Syntax.tyArray (Syntax.tyInt Syntax.w8) 600000)) (Row.lease (κs .1 .1 .1 .1 .1 .1 .1 .0) (qs .1 .1 .1 .1 .1 .1 .1 .0)) (λ x. x) (Reads'.as-is 𝓤 H A (Rows.mref (Array.Array (Referent.rtF (Referent.fInt Syntax.w8)) 600000) (Syntax.tyRef (Syntax.named 7) Syntax.mut (Syntax.tyArray (Syntax.tyInt Syntax.w8) 600000)) 7)) (Reads'.room-gone 𝓤 H A (Syntax.tyRef Syntax.erased Syntax.mut (Syntax.tyArray (Syntax.tyInt Syntax.w8) 600000))) Path'.refl tt Path'.refl Path'.refl λ b o. tt) d21
@@ -1821,10 +1821,10 @@ module _ (claims· : Claims) where
           d39 = Typed.g-pre 𝓤 H A W 𝓣 E G54 G55 b23 Δ2 (Typed.pass T54 T55 s51) at38 (Scalar.g-room 𝓤 H A W E G54 13 Syntax.tyBool (Scalar.room-sc 𝓤 H A W Row.sBool)) d38
 
           d40 : Typed.Typed 𝓤 H A 𝓣 E G53 b23 Δ2 at40
-          d40 = Typed.g-pre 𝓤 H A W 𝓣 E G53 G54 b23 Δ2 (Typed.pass T53 T54 s50) at39 (Scalar.g-room 𝓤 H A W E G53 1 (Syntax.tyStruct (List._∷_ 122 (List._∷_ 111 (List._∷_ 110 (List._∷_ 101 (List._∷_ 115 (List._∷_ 58 (List._∷_ 58 (List._∷_ 104 (List._∷_ 101 (List._∷_ 108 (List._∷_ 100 (List._∷_ 58 (List._∷_ 58 (List._∷_ 72 (List._∷_ 101 (List._∷_ 108 (List._∷_ 100 List.[]))))))))))))))))) (Syntax.tcons (Syntax.tyStruct (List._∷_ 112 (List._∷_ 121 (List._∷_ 114 (List._∷_ 97 (List._∷_ 109 (List._∷_ 105 (List._∷_ 100 (List._∷_ 58 (List._∷_ 58 (List._∷_ 83 (List._∷_ 116 (List._∷_ 97 (List._∷_ 116 (List._∷_ 101 List.[])))))))))))))) (Syntax.tcons (Syntax.tyInt Syntax.w32) (Syntax.tcons (Syntax.tyInt Syntax.w32) (Syntax.tcons (Syntax.tyInt Syntax.w32) (Syntax.tcons (Syntax.tyArray (Syntax.tyInt Syntax.w32) 64) Syntax.tnil))))) (Syntax.tcons (Syntax.tyInt Syntax.w64) (Syntax.tcons (Syntax.tyInt Syntax.w64) (Syntax.tcons (Syntax.tyInt Syntax.w64) (Syntax.tcons (Syntax.tyInt Syntax.w64) (Syntax.tcons (Syntax.tyInt Syntax.w64) (Syntax.tcons (Syntax.tyInt Syntax.w64) (Syntax.tcons Syntax.tyBool Syntax.tnil))))))))) (Local.room-whole 𝓤 H A W (Declared.row Held.the-type) (Syntax.tyStruct (List._∷_ 122 (List._∷_ 111 (List._∷_ 110 (List._∷_ 101 (List._∷_ 115 (List._∷_ 58 (List._∷_ 58 (List._∷_ 104 (List._∷_ 101 (List._∷_ 108 (List._∷_ 100 (List._∷_ 58 (List._∷_ 58 (List._∷_ 72 (List._∷_ 101 (List._∷_ 108 (List._∷_ 100 List.[]))))))))))))))))) (Syntax.tcons (Syntax.tyStruct (List._∷_ 112 (List._∷_ 121 (List._∷_ 114 (List._∷_ 97 (List._∷_ 109 (List._∷_ 105 (List._∷_ 100 (List._∷_ 58 (List._∷_ 58 (List._∷_ 83 (List._∷_ 116 (List._∷_ 97 (List._∷_ 116 (List._∷_ 101 List.[])))))))))))))) (Syntax.tcons (Syntax.tyInt Syntax.w32) (Syntax.tcons (Syntax.tyInt Syntax.w32) (Syntax.tcons (Syntax.tyInt Syntax.w32) (Syntax.tcons (Syntax.tyArray (Syntax.tyInt Syntax.w32) 64) Syntax.tnil))))) (Syntax.tcons (Syntax.tyInt Syntax.w64) (Syntax.tcons (Syntax.tyInt Syntax.w64) (Syntax.tcons (Syntax.tyInt Syntax.w64) (Syntax.tcons (Syntax.tyInt Syntax.w64) (Syntax.tcons (Syntax.tyInt Syntax.w64) (Syntax.tcons (Syntax.tyInt Syntax.w64) (Syntax.tcons Syntax.tyBool Syntax.tnil))))))))) Path'.refl)) d39
+          d40 = Typed.g-pre 𝓤 H A W 𝓣 E G53 G54 b23 Δ2 (Typed.pass T53 T54 s50) at39 (Scalar.g-room 𝓤 H A W E G53 1 (Syntax.tyStruct (List._∷_ 122 (List._∷_ 111 (List._∷_ 110 (List._∷_ 101 (List._∷_ 115 (List._∷_ 58 (List._∷_ 58 (List._∷_ 104 (List._∷_ 101 (List._∷_ 108 (List._∷_ 100 (List._∷_ 58 (List._∷_ 58 (List._∷_ 72 (List._∷_ 101 (List._∷_ 108 (List._∷_ 100 List.[]))))))))))))))))) (Syntax.tcons (Syntax.tyStruct (List._∷_ 112 (List._∷_ 121 (List._∷_ 114 (List._∷_ 97 (List._∷_ 109 (List._∷_ 105 (List._∷_ 100 (List._∷_ 58 (List._∷_ 58 (List._∷_ 83 (List._∷_ 116 (List._∷_ 97 (List._∷_ 116 (List._∷_ 101 List.[])))))))))))))) (Syntax.tcons (Syntax.tyInt Syntax.w32) (Syntax.tcons (Syntax.tyInt Syntax.w32) (Syntax.tcons (Syntax.tyInt Syntax.w32) (Syntax.tcons (Syntax.tyInt Syntax.w32) (Syntax.tcons (Syntax.tyInt Syntax.w32) (Syntax.tcons (Syntax.tyArray (Syntax.tyInt Syntax.w32) 64) Syntax.tnil))))))) (Syntax.tcons (Syntax.tyInt Syntax.w64) (Syntax.tcons (Syntax.tyInt Syntax.w64) (Syntax.tcons (Syntax.tyInt Syntax.w64) (Syntax.tcons (Syntax.tyInt Syntax.w64) (Syntax.tcons (Syntax.tyInt Syntax.w64) (Syntax.tcons (Syntax.tyInt Syntax.w64) (Syntax.tcons Syntax.tyBool Syntax.tnil))))))))) (Local.room-whole 𝓤 H A W (Declared.row Held.the-type) (Syntax.tyStruct (List._∷_ 122 (List._∷_ 111 (List._∷_ 110 (List._∷_ 101 (List._∷_ 115 (List._∷_ 58 (List._∷_ 58 (List._∷_ 104 (List._∷_ 101 (List._∷_ 108 (List._∷_ 100 (List._∷_ 58 (List._∷_ 58 (List._∷_ 72 (List._∷_ 101 (List._∷_ 108 (List._∷_ 100 List.[]))))))))))))))))) (Syntax.tcons (Syntax.tyStruct (List._∷_ 112 (List._∷_ 121 (List._∷_ 114 (List._∷_ 97 (List._∷_ 109 (List._∷_ 105 (List._∷_ 100 (List._∷_ 58 (List._∷_ 58 (List._∷_ 83 (List._∷_ 116 (List._∷_ 97 (List._∷_ 116 (List._∷_ 101 List.[])))))))))))))) (Syntax.tcons (Syntax.tyInt Syntax.w32) (Syntax.tcons (Syntax.tyInt Syntax.w32) (Syntax.tcons (Syntax.tyInt Syntax.w32) (Syntax.tcons (Syntax.tyInt Syntax.w32) (Syntax.tcons (Syntax.tyInt Syntax.w32) (Syntax.tcons (Syntax.tyArray (Syntax.tyInt Syntax.w32) 64) Syntax.tnil))))))) (Syntax.tcons (Syntax.tyInt Syntax.w64) (Syntax.tcons (Syntax.tyInt Syntax.w64) (Syntax.tcons (Syntax.tyInt Syntax.w64) (Syntax.tcons (Syntax.tyInt Syntax.w64) (Syntax.tcons (Syntax.tyInt Syntax.w64) (Syntax.tcons (Syntax.tyInt Syntax.w64) (Syntax.tcons Syntax.tyBool Syntax.tnil))))))))) Path'.refl)) d39
 
           d41 : Typed.Typed 𝓤 H A 𝓣 E G52 b24 Δ2 at41
-          d41 = Typed.s-seq 𝓤 H A W 𝓣 E G52 G53 b22 b23 Δ2 (Typed.both s49) at40 (Plain.t-call-plain 𝓤 H A W 𝓣 0 ps·2 r·2 (claims· .4) (claims· .5) "zones::held::Held::judged" (known .2) E (λ pos β. β) G52 (record { pos = 1; st = List.[]; d = 0; at = λ x. x }, (Bool.bAt 13 λ x. x, tt)) 0 List.[] (Call.sub-id 𝓤 H A W (G52 .slots)) ((Yields.yields-copy 𝓤 H A W (λ ρ. Unit) (Declared.row Held.the-type) Path'.refl (Copies.cStruct Held.the-type Laws.the-laws Laws.the-copy .copy 𝓤 H A W) (Rows.whole (Declared.row Held.the-type)) (λ x. x) (λ x. x) (λ ρ told. Local.mem-whole 𝓤 H A W (Declared.row Held.the-type) ρ) λ ρ told. Local.whole-mem 𝓤 H A W (Declared.row Held.the-type) ρ, Path'.refl), ((Scalar.reads-sc 𝓤 H A W Row.sBool, Path'.refl), tt)) (Reads'.room-gone 𝓤 H A (Syntax.tyStruct (List._∷_ 122 (List._∷_ 111 (List._∷_ 110 (List._∷_ 101 (List._∷_ 115 (List._∷_ 58 (List._∷_ 58 (List._∷_ 104 (List._∷_ 101 (List._∷_ 108 (List._∷_ 100 (List._∷_ 58 (List._∷_ 58 (List._∷_ 72 (List._∷_ 101 (List._∷_ 108 (List._∷_ 100 List.[]))))))))))))))))) (Syntax.tcons (Syntax.tyStruct (List._∷_ 112 (List._∷_ 121 (List._∷_ 114 (List._∷_ 97 (List._∷_ 109 (List._∷_ 105 (List._∷_ 100 (List._∷_ 58 (List._∷_ 58 (List._∷_ 83 (List._∷_ 116 (List._∷_ 97 (List._∷_ 116 (List._∷_ 101 List.[])))))))))))))) (Syntax.tcons (Syntax.tyInt Syntax.w32) (Syntax.tcons (Syntax.tyInt Syntax.w32) (Syntax.tcons (Syntax.tyInt Syntax.w32) (Syntax.tcons (Syntax.tyArray (Syntax.tyInt Syntax.w32) 64) Syntax.tnil))))) (Syntax.tcons (Syntax.tyInt Syntax.w64) (Syntax.tcons (Syntax.tyInt Syntax.w64) (Syntax.tcons (Syntax.tyInt Syntax.w64) (Syntax.tcons (Syntax.tyInt Syntax.w64) (Syntax.tcons (Syntax.tyInt Syntax.w64) (Syntax.tcons (Syntax.tyInt Syntax.w64) (Syntax.tcons Syntax.tyBool Syntax.tnil)))))))))) tt Path'.refl) d40
+          d41 = Typed.s-seq 𝓤 H A W 𝓣 E G52 G53 b22 b23 Δ2 (Typed.both s49) at40 (Plain.t-call-plain 𝓤 H A W 𝓣 0 ps·2 r·2 (claims· .4) (claims· .5) "zones::held::Held::judged" (known .2) E (λ pos β. β) G52 (record { pos = 1; st = List.[]; d = 0; at = λ x. x }, (Bool.bAt 13 λ x. x, tt)) 0 List.[] (Call.sub-id 𝓤 H A W (G52 .slots)) ((Yields.yields-copy 𝓤 H A W (λ ρ. Unit) (Declared.row Held.the-type) Path'.refl (Copies.cStruct Held.the-type Laws.the-laws Laws.the-copy .copy 𝓤 H A W) (Rows.whole (Declared.row Held.the-type)) (λ x. x) (λ x. x) (λ ρ told. Local.mem-whole 𝓤 H A W (Declared.row Held.the-type) ρ) λ ρ told. Local.whole-mem 𝓤 H A W (Declared.row Held.the-type) ρ, Path'.refl), ((Scalar.reads-sc 𝓤 H A W Row.sBool, Path'.refl), tt)) (Reads'.room-gone 𝓤 H A (Syntax.tyStruct (List._∷_ 122 (List._∷_ 111 (List._∷_ 110 (List._∷_ 101 (List._∷_ 115 (List._∷_ 58 (List._∷_ 58 (List._∷_ 104 (List._∷_ 101 (List._∷_ 108 (List._∷_ 100 (List._∷_ 58 (List._∷_ 58 (List._∷_ 72 (List._∷_ 101 (List._∷_ 108 (List._∷_ 100 List.[]))))))))))))))))) (Syntax.tcons (Syntax.tyStruct (List._∷_ 112 (List._∷_ 121 (List._∷_ 114 (List._∷_ 97 (List._∷_ 109 (List._∷_ 105 (List._∷_ 100 (List._∷_ 58 (List._∷_ 58 (List._∷_ 83 (List._∷_ 116 (List._∷_ 97 (List._∷_ 116 (List._∷_ 101 List.[])))))))))))))) (Syntax.tcons (Syntax.tyInt Syntax.w32) (Syntax.tcons (Syntax.tyInt Syntax.w32) (Syntax.tcons (Syntax.tyInt Syntax.w32) (Syntax.tcons (Syntax.tyInt Syntax.w32) (Syntax.tcons (Syntax.tyInt Syntax.w32) (Syntax.tcons (Syntax.tyArray (Syntax.tyInt Syntax.w32) 64) Syntax.tnil))))))) (Syntax.tcons (Syntax.tyInt Syntax.w64) (Syntax.tcons (Syntax.tyInt Syntax.w64) (Syntax.tcons (Syntax.tyInt Syntax.w64) (Syntax.tcons (Syntax.tyInt Syntax.w64) (Syntax.tcons (Syntax.tyInt Syntax.w64) (Syntax.tcons (Syntax.tyInt Syntax.w64) (Syntax.tcons Syntax.tyBool Syntax.tnil)))))))))) tt Path'.refl) d40
 
           d42 : Typed.Typed 𝓤 H A 𝓣 E G51 b24 Δ2 at42
           d42 = Typed.g-pre 𝓤 H A W 𝓣 E G51 G52 b24 Δ2 (λ Ψ. Ψ) at41 (Lifetime.g-forget 𝓤 H A W E G51 16 Row.dead Path'.refl) d41
@@ -1869,10 +1869,10 @@ module _ (claims· : Claims) where
           d55 = Typed.g-pre 𝓤 H A W 𝓣 E G70 G71 b35 Δ3 (Typed.pass T70 T71 s66) at54 (Scalar.g-room 𝓤 H A W E G70 14 Syntax.tyBool (Scalar.room-sc 𝓤 H A W Row.sBool)) d54
 
           d56 : Typed.Typed 𝓤 H A 𝓣 E G69 b35 Δ3 at56
-          d56 = Typed.g-pre 𝓤 H A W 𝓣 E G69 G70 b35 Δ3 (Typed.pass T69 T70 s65) at55 (Scalar.g-room 𝓤 H A W E G69 1 (Syntax.tyStruct (List._∷_ 122 (List._∷_ 111 (List._∷_ 110 (List._∷_ 101 (List._∷_ 115 (List._∷_ 58 (List._∷_ 58 (List._∷_ 104 (List._∷_ 101 (List._∷_ 108 (List._∷_ 100 (List._∷_ 58 (List._∷_ 58 (List._∷_ 72 (List._∷_ 101 (List._∷_ 108 (List._∷_ 100 List.[]))))))))))))))))) (Syntax.tcons (Syntax.tyStruct (List._∷_ 112 (List._∷_ 121 (List._∷_ 114 (List._∷_ 97 (List._∷_ 109 (List._∷_ 105 (List._∷_ 100 (List._∷_ 58 (List._∷_ 58 (List._∷_ 83 (List._∷_ 116 (List._∷_ 97 (List._∷_ 116 (List._∷_ 101 List.[])))))))))))))) (Syntax.tcons (Syntax.tyInt Syntax.w32) (Syntax.tcons (Syntax.tyInt Syntax.w32) (Syntax.tcons (Syntax.tyInt Syntax.w32) (Syntax.tcons (Syntax.tyArray (Syntax.tyInt Syntax.w32) 64) Syntax.tnil))))) (Syntax.tcons (Syntax.tyInt Syntax.w64) (Syntax.tcons (Syntax.tyInt Syntax.w64) (Syntax.tcons (Syntax.tyInt Syntax.w64) (Syntax.tcons (Syntax.tyInt Syntax.w64) (Syntax.tcons (Syntax.tyInt Syntax.w64) (Syntax.tcons (Syntax.tyInt Syntax.w64) (Syntax.tcons Syntax.tyBool Syntax.tnil))))))))) (Local.room-whole 𝓤 H A W (Declared.row Held.the-type) (Syntax.tyStruct (List._∷_ 122 (List._∷_ 111 (List._∷_ 110 (List._∷_ 101 (List._∷_ 115 (List._∷_ 58 (List._∷_ 58 (List._∷_ 104 (List._∷_ 101 (List._∷_ 108 (List._∷_ 100 (List._∷_ 58 (List._∷_ 58 (List._∷_ 72 (List._∷_ 101 (List._∷_ 108 (List._∷_ 100 List.[]))))))))))))))))) (Syntax.tcons (Syntax.tyStruct (List._∷_ 112 (List._∷_ 121 (List._∷_ 114 (List._∷_ 97 (List._∷_ 109 (List._∷_ 105 (List._∷_ 100 (List._∷_ 58 (List._∷_ 58 (List._∷_ 83 (List._∷_ 116 (List._∷_ 97 (List._∷_ 116 (List._∷_ 101 List.[])))))))))))))) (Syntax.tcons (Syntax.tyInt Syntax.w32) (Syntax.tcons (Syntax.tyInt Syntax.w32) (Syntax.tcons (Syntax.tyInt Syntax.w32) (Syntax.tcons (Syntax.tyArray (Syntax.tyInt Syntax.w32) 64) Syntax.tnil))))) (Syntax.tcons (Syntax.tyInt Syntax.w64) (Syntax.tcons (Syntax.tyInt Syntax.w64) (Syntax.tcons (Syntax.tyInt Syntax.w64) (Syntax.tcons (Syntax.tyInt Syntax.w64) (Syntax.tcons (Syntax.tyInt Syntax.w64) (Syntax.tcons (Syntax.tyInt Syntax.w64) (Syntax.tcons Syntax.tyBool Syntax.tnil))))))))) Path'.refl)) d55
+          d56 = Typed.g-pre 𝓤 H A W 𝓣 E G69 G70 b35 Δ3 (Typed.pass T69 T70 s65) at55 (Scalar.g-room 𝓤 H A W E G69 1 (Syntax.tyStruct (List._∷_ 122 (List._∷_ 111 (List._∷_ 110 (List._∷_ 101 (List._∷_ 115 (List._∷_ 58 (List._∷_ 58 (List._∷_ 104 (List._∷_ 101 (List._∷_ 108 (List._∷_ 100 (List._∷_ 58 (List._∷_ 58 (List._∷_ 72 (List._∷_ 101 (List._∷_ 108 (List._∷_ 100 List.[]))))))))))))))))) (Syntax.tcons (Syntax.tyStruct (List._∷_ 112 (List._∷_ 121 (List._∷_ 114 (List._∷_ 97 (List._∷_ 109 (List._∷_ 105 (List._∷_ 100 (List._∷_ 58 (List._∷_ 58 (List._∷_ 83 (List._∷_ 116 (List._∷_ 97 (List._∷_ 116 (List._∷_ 101 List.[])))))))))))))) (Syntax.tcons (Syntax.tyInt Syntax.w32) (Syntax.tcons (Syntax.tyInt Syntax.w32) (Syntax.tcons (Syntax.tyInt Syntax.w32) (Syntax.tcons (Syntax.tyInt Syntax.w32) (Syntax.tcons (Syntax.tyInt Syntax.w32) (Syntax.tcons (Syntax.tyArray (Syntax.tyInt Syntax.w32) 64) Syntax.tnil))))))) (Syntax.tcons (Syntax.tyInt Syntax.w64) (Syntax.tcons (Syntax.tyInt Syntax.w64) (Syntax.tcons (Syntax.tyInt Syntax.w64) (Syntax.tcons (Syntax.tyInt Syntax.w64) (Syntax.tcons (Syntax.tyInt Syntax.w64) (Syntax.tcons (Syntax.tyInt Syntax.w64) (Syntax.tcons Syntax.tyBool Syntax.tnil))))))))) (Local.room-whole 𝓤 H A W (Declared.row Held.the-type) (Syntax.tyStruct (List._∷_ 122 (List._∷_ 111 (List._∷_ 110 (List._∷_ 101 (List._∷_ 115 (List._∷_ 58 (List._∷_ 58 (List._∷_ 104 (List._∷_ 101 (List._∷_ 108 (List._∷_ 100 (List._∷_ 58 (List._∷_ 58 (List._∷_ 72 (List._∷_ 101 (List._∷_ 108 (List._∷_ 100 List.[]))))))))))))))))) (Syntax.tcons (Syntax.tyStruct (List._∷_ 112 (List._∷_ 121 (List._∷_ 114 (List._∷_ 97 (List._∷_ 109 (List._∷_ 105 (List._∷_ 100 (List._∷_ 58 (List._∷_ 58 (List._∷_ 83 (List._∷_ 116 (List._∷_ 97 (List._∷_ 116 (List._∷_ 101 List.[])))))))))))))) (Syntax.tcons (Syntax.tyInt Syntax.w32) (Syntax.tcons (Syntax.tyInt Syntax.w32) (Syntax.tcons (Syntax.tyInt Syntax.w32) (Syntax.tcons (Syntax.tyInt Syntax.w32) (Syntax.tcons (Syntax.tyInt Syntax.w32) (Syntax.tcons (Syntax.tyArray (Syntax.tyInt Syntax.w32) 64) Syntax.tnil))))))) (Syntax.tcons (Syntax.tyInt Syntax.w64) (Syntax.tcons (Syntax.tyInt Syntax.w64) (Syntax.tcons (Syntax.tyInt Syntax.w64) (Syntax.tcons (Syntax.tyInt Syntax.w64) (Syntax.tcons (Syntax.tyInt Syntax.w64) (Syntax.tcons (Syntax.tyInt Syntax.w64) (Syntax.tcons Syntax.tyBool Syntax.tnil))))))))) Path'.refl)) d55
 
           d57 : Typed.Typed 𝓤 H A 𝓣 E G68 b36 Δ3 at57
-          d57 = Typed.s-seq 𝓤 H A W 𝓣 E G68 G69 b34 b35 Δ3 (Typed.both s64) at56 (Plain.t-call-plain 𝓤 H A W 𝓣 0 ps·2 r·2 (claims· .4) (claims· .5) "zones::held::Held::judged" (known .2) E (λ pos β. β) G68 (record { pos = 1; st = List.[]; d = 0; at = λ x. x }, (Bool.bAt 14 λ x. x, tt)) 0 List.[] (Call.sub-id 𝓤 H A W (G68 .slots)) ((Yields.yields-copy 𝓤 H A W (λ ρ. Unit) (Declared.row Held.the-type) Path'.refl (Copies.cStruct Held.the-type Laws.the-laws Laws.the-copy .copy 𝓤 H A W) (Rows.whole (Declared.row Held.the-type)) (λ x. x) (λ x. x) (λ ρ told. Local.mem-whole 𝓤 H A W (Declared.row Held.the-type) ρ) λ ρ told. Local.whole-mem 𝓤 H A W (Declared.row Held.the-type) ρ, Path'.refl), ((Scalar.reads-sc 𝓤 H A W Row.sBool, Path'.refl), tt)) (Reads'.room-gone 𝓤 H A (Syntax.tyStruct (List._∷_ 122 (List._∷_ 111 (List._∷_ 110 (List._∷_ 101 (List._∷_ 115 (List._∷_ 58 (List._∷_ 58 (List._∷_ 104 (List._∷_ 101 (List._∷_ 108 (List._∷_ 100 (List._∷_ 58 (List._∷_ 58 (List._∷_ 72 (List._∷_ 101 (List._∷_ 108 (List._∷_ 100 List.[]))))))))))))))))) (Syntax.tcons (Syntax.tyStruct (List._∷_ 112 (List._∷_ 121 (List._∷_ 114 (List._∷_ 97 (List._∷_ 109 (List._∷_ 105 (List._∷_ 100 (List._∷_ 58 (List._∷_ 58 (List._∷_ 83 (List._∷_ 116 (List._∷_ 97 (List._∷_ 116 (List._∷_ 101 List.[])))))))))))))) (Syntax.tcons (Syntax.tyInt Syntax.w32) (Syntax.tcons (Syntax.tyInt Syntax.w32) (Syntax.tcons (Syntax.tyInt Syntax.w32) (Syntax.tcons (Syntax.tyArray (Syntax.tyInt Syntax.w32) 64) Syntax.tnil))))) (Syntax.tcons (Syntax.tyInt Syntax.w64) (Syntax.tcons (Syntax.tyInt Syntax.w64) (Syntax.tcons (Syntax.tyInt Syntax.w64) (Syntax.tcons (Syntax.tyInt Syntax.w64) (Syntax.tcons (Syntax.tyInt Syntax.w64) (Syntax.tcons (Syntax.tyInt Syntax.w64) (Syntax.tcons Syntax.tyBool Syntax.tnil)))))))))) tt Path'.refl) d56
+          d57 = Typed.s-seq 𝓤 H A W 𝓣 E G68 G69 b34 b35 Δ3 (Typed.both s64) at56 (Plain.t-call-plain 𝓤 H A W 𝓣 0 ps·2 r·2 (claims· .4) (claims· .5) "zones::held::Held::judged" (known .2) E (λ pos β. β) G68 (record { pos = 1; st = List.[]; d = 0; at = λ x. x }, (Bool.bAt 14 λ x. x, tt)) 0 List.[] (Call.sub-id 𝓤 H A W (G68 .slots)) ((Yields.yields-copy 𝓤 H A W (λ ρ. Unit) (Declared.row Held.the-type) Path'.refl (Copies.cStruct Held.the-type Laws.the-laws Laws.the-copy .copy 𝓤 H A W) (Rows.whole (Declared.row Held.the-type)) (λ x. x) (λ x. x) (λ ρ told. Local.mem-whole 𝓤 H A W (Declared.row Held.the-type) ρ) λ ρ told. Local.whole-mem 𝓤 H A W (Declared.row Held.the-type) ρ, Path'.refl), ((Scalar.reads-sc 𝓤 H A W Row.sBool, Path'.refl), tt)) (Reads'.room-gone 𝓤 H A (Syntax.tyStruct (List._∷_ 122 (List._∷_ 111 (List._∷_ 110 (List._∷_ 101 (List._∷_ 115 (List._∷_ 58 (List._∷_ 58 (List._∷_ 104 (List._∷_ 101 (List._∷_ 108 (List._∷_ 100 (List._∷_ 58 (List._∷_ 58 (List._∷_ 72 (List._∷_ 101 (List._∷_ 108 (List._∷_ 100 List.[]))))))))))))))))) (Syntax.tcons (Syntax.tyStruct (List._∷_ 112 (List._∷_ 121 (List._∷_ 114 (List._∷_ 97 (List._∷_ 109 (List._∷_ 105 (List._∷_ 100 (List._∷_ 58 (List._∷_ 58 (List._∷_ 83 (List._∷_ 116 (List._∷_ 97 (List._∷_ 116 (List._∷_ 101 List.[])))))))))))))) (Syntax.tcons (Syntax.tyInt Syntax.w32) (Syntax.tcons (Syntax.tyInt Syntax.w32) (Syntax.tcons (Syntax.tyInt Syntax.w32) (Syntax.tcons (Syntax.tyInt Syntax.w32) (Syntax.tcons (Syntax.tyInt Syntax.w32) (Syntax.tcons (Syntax.tyArray (Syntax.tyInt Syntax.w32) 64) Syntax.tnil))))))) (Syntax.tcons (Syntax.tyInt Syntax.w64) (Syntax.tcons (Syntax.tyInt Syntax.w64) (Syntax.tcons (Syntax.tyInt Syntax.w64) (Syntax.tcons (Syntax.tyInt Syntax.w64) (Syntax.tcons (Syntax.tyInt Syntax.w64) (Syntax.tcons (Syntax.tyInt Syntax.w64) (Syntax.tcons Syntax.tyBool Syntax.tnil)))))))))) tt Path'.refl) d56
 
           d58 : Typed.Typed 𝓤 H A 𝓣 E G67 b36 Δ3 at58
           d58 = Typed.g-pre 𝓤 H A W 𝓣 E G67 G68 b36 Δ3 (λ Ψ. Ψ) at57 (Lifetime.g-forget 𝓤 H A W E G67 17 Row.dead Path'.refl) d57
@@ -1971,13 +1971,13 @@ module _ (claims· : Claims) where
           d89 = Typed.g-pre 𝓤 H A W 𝓣 E G87 G88 b49 Δ0 (Typed.pass T87 T88 s83) at88 (Scalar.g-room 𝓤 H A W E G87 2 (Syntax.tyStruct (List._∷_ 122 (List._∷_ 111 (List._∷_ 110 (List._∷_ 101 (List._∷_ 115 (List._∷_ 58 (List._∷_ 58 (List._∷_ 115 (List._∷_ 99 (List._∷_ 97 (List._∷_ 110 (List._∷_ 58 (List._∷_ 58 (List._∷_ 76 (List._∷_ 105 (List._∷_ 110 (List._∷_ 101 List.[]))))))))))))))))) (Syntax.tcons (Syntax.tyInt Syntax.w32) (Syntax.tcons (Syntax.tyInt Syntax.w64) (Syntax.tcons (Syntax.tyInt Syntax.w64) (Syntax.tcons (Syntax.tyInt Syntax.w64) (Syntax.tcons (Syntax.tyInt Syntax.w64) Syntax.tnil)))))) (Local.room-whole 𝓤 H A W (Declared.row Line.the-type) (Syntax.tyStruct (List._∷_ 122 (List._∷_ 111 (List._∷_ 110 (List._∷_ 101 (List._∷_ 115 (List._∷_ 58 (List._∷_ 58 (List._∷_ 115 (List._∷_ 99 (List._∷_ 97 (List._∷_ 110 (List._∷_ 58 (List._∷_ 58 (List._∷_ 76 (List._∷_ 105 (List._∷_ 110 (List._∷_ 101 List.[]))))))))))))))))) (Syntax.tcons (Syntax.tyInt Syntax.w32) (Syntax.tcons (Syntax.tyInt Syntax.w64) (Syntax.tcons (Syntax.tyInt Syntax.w64) (Syntax.tcons (Syntax.tyInt Syntax.w64) (Syntax.tcons (Syntax.tyInt Syntax.w64) Syntax.tnil)))))) Path'.refl)) d88
 
           d90 : Typed.Typed 𝓤 H A 𝓣 E G86 b49 Δ0 at90
-          d90 = Typed.g-pre 𝓤 H A W 𝓣 E G86 G87 b49 Δ0 (Typed.pass T86 T87 s82) at89 (Scalar.g-room 𝓤 H A W E G86 1 (Syntax.tyStruct (List._∷_ 122 (List._∷_ 111 (List._∷_ 110 (List._∷_ 101 (List._∷_ 115 (List._∷_ 58 (List._∷_ 58 (List._∷_ 104 (List._∷_ 101 (List._∷_ 108 (List._∷_ 100 (List._∷_ 58 (List._∷_ 58 (List._∷_ 72 (List._∷_ 101 (List._∷_ 108 (List._∷_ 100 List.[]))))))))))))))))) (Syntax.tcons (Syntax.tyStruct (List._∷_ 112 (List._∷_ 121 (List._∷_ 114 (List._∷_ 97 (List._∷_ 109 (List._∷_ 105 (List._∷_ 100 (List._∷_ 58 (List._∷_ 58 (List._∷_ 83 (List._∷_ 116 (List._∷_ 97 (List._∷_ 116 (List._∷_ 101 List.[])))))))))))))) (Syntax.tcons (Syntax.tyInt Syntax.w32) (Syntax.tcons (Syntax.tyInt Syntax.w32) (Syntax.tcons (Syntax.tyInt Syntax.w32) (Syntax.tcons (Syntax.tyArray (Syntax.tyInt Syntax.w32) 64) Syntax.tnil))))) (Syntax.tcons (Syntax.tyInt Syntax.w64) (Syntax.tcons (Syntax.tyInt Syntax.w64) (Syntax.tcons (Syntax.tyInt Syntax.w64) (Syntax.tcons (Syntax.tyInt Syntax.w64) (Syntax.tcons (Syntax.tyInt Syntax.w64) (Syntax.tcons (Syntax.tyInt Syntax.w64) (Syntax.tcons Syntax.tyBool Syntax.tnil))))))))) (Local.room-whole 𝓤 H A W (Declared.row Held.the-type) (Syntax.tyStruct (List._∷_ 122 (List._∷_ 111 (List._∷_ 110 (List._∷_ 101 (List._∷_ 115 (List._∷_ 58 (List._∷_ 58 (List._∷_ 104 (List._∷_ 101 (List._∷_ 108 (List._∷_ 100 (List._∷_ 58 (List._∷_ 58 (List._∷_ 72 (List._∷_ 101 (List._∷_ 108 (List._∷_ 100 List.[]))))))))))))))))) (Syntax.tcons (Syntax.tyStruct (List._∷_ 112 (List._∷_ 121 (List._∷_ 114 (List._∷_ 97 (List._∷_ 109 (List._∷_ 105 (List._∷_ 100 (List._∷_ 58 (List._∷_ 58 (List._∷_ 83 (List._∷_ 116 (List._∷_ 97 (List._∷_ 116 (List._∷_ 101 List.[])))))))))))))) (Syntax.tcons (Syntax.tyInt Syntax.w32) (Syntax.tcons (Syntax.tyInt Syntax.w32) (Syntax.tcons (Syntax.tyInt Syntax.w32) (Syntax.tcons (Syntax.tyArray (Syntax.tyInt Syntax.w32) 64) Syntax.tnil))))) (Syntax.tcons (Syntax.tyInt Syntax.w64) (Syntax.tcons (Syntax.tyInt Syntax.w64) (Syntax.tcons (Syntax.tyInt Syntax.w64) (Syntax.tcons (Syntax.tyInt Syntax.w64) (Syntax.tcons (Syntax.tyInt Syntax.w64) (Syntax.tcons (Syntax.tyInt Syntax.w64) (Syntax.tcons Syntax.tyBool Syntax.tnil))))))))) Path'.refl)) d89
+          d90 = Typed.g-pre 𝓤 H A W 𝓣 E G86 G87 b49 Δ0 (Typed.pass T86 T87 s82) at89 (Scalar.g-room 𝓤 H A W E G86 1 (Syntax.tyStruct (List._∷_ 122 (List._∷_ 111 (List._∷_ 110 (List._∷_ 101 (List._∷_ 115 (List._∷_ 58 (List._∷_ 58 (List._∷_ 104 (List._∷_ 101 (List._∷_ 108 (List._∷_ 100 (List._∷_ 58 (List._∷_ 58 (List._∷_ 72 (List._∷_ 101 (List._∷_ 108 (List._∷_ 100 List.[]))))))))))))))))) (Syntax.tcons (Syntax.tyStruct (List._∷_ 112 (List._∷_ 121 (List._∷_ 114 (List._∷_ 97 (List._∷_ 109 (List._∷_ 105 (List._∷_ 100 (List._∷_ 58 (List._∷_ 58 (List._∷_ 83 (List._∷_ 116 (List._∷_ 97 (List._∷_ 116 (List._∷_ 101 List.[])))))))))))))) (Syntax.tcons (Syntax.tyInt Syntax.w32) (Syntax.tcons (Syntax.tyInt Syntax.w32) (Syntax.tcons (Syntax.tyInt Syntax.w32) (Syntax.tcons (Syntax.tyInt Syntax.w32) (Syntax.tcons (Syntax.tyInt Syntax.w32) (Syntax.tcons (Syntax.tyArray (Syntax.tyInt Syntax.w32) 64) Syntax.tnil))))))) (Syntax.tcons (Syntax.tyInt Syntax.w64) (Syntax.tcons (Syntax.tyInt Syntax.w64) (Syntax.tcons (Syntax.tyInt Syntax.w64) (Syntax.tcons (Syntax.tyInt Syntax.w64) (Syntax.tcons (Syntax.tyInt Syntax.w64) (Syntax.tcons (Syntax.tyInt Syntax.w64) (Syntax.tcons Syntax.tyBool Syntax.tnil))))))))) (Local.room-whole 𝓤 H A W (Declared.row Held.the-type) (Syntax.tyStruct (List._∷_ 122 (List._∷_ 111 (List._∷_ 110 (List._∷_ 101 (List._∷_ 115 (List._∷_ 58 (List._∷_ 58 (List._∷_ 104 (List._∷_ 101 (List._∷_ 108 (List._∷_ 100 (List._∷_ 58 (List._∷_ 58 (List._∷_ 72 (List._∷_ 101 (List._∷_ 108 (List._∷_ 100 List.[]))))))))))))))))) (Syntax.tcons (Syntax.tyStruct (List._∷_ 112 (List._∷_ 121 (List._∷_ 114 (List._∷_ 97 (List._∷_ 109 (List._∷_ 105 (List._∷_ 100 (List._∷_ 58 (List._∷_ 58 (List._∷_ 83 (List._∷_ 116 (List._∷_ 97 (List._∷_ 116 (List._∷_ 101 List.[])))))))))))))) (Syntax.tcons (Syntax.tyInt Syntax.w32) (Syntax.tcons (Syntax.tyInt Syntax.w32) (Syntax.tcons (Syntax.tyInt Syntax.w32) (Syntax.tcons (Syntax.tyInt Syntax.w32) (Syntax.tcons (Syntax.tyInt Syntax.w32) (Syntax.tcons (Syntax.tyArray (Syntax.tyInt Syntax.w32) 64) Syntax.tnil))))))) (Syntax.tcons (Syntax.tyInt Syntax.w64) (Syntax.tcons (Syntax.tyInt Syntax.w64) (Syntax.tcons (Syntax.tyInt Syntax.w64) (Syntax.tcons (Syntax.tyInt Syntax.w64) (Syntax.tcons (Syntax.tyInt Syntax.w64) (Syntax.tcons (Syntax.tyInt Syntax.w64) (Syntax.tcons Syntax.tyBool Syntax.tnil))))))))) Path'.refl)) d89
 
           d91 : Typed.Typed 𝓤 H A 𝓣 E G85 b49 Δ0 at91
           d91 = Typed.g-pre 𝓤 H A W 𝓣 E G85 G86 b49 Δ0 (Typed.pass T85 T86 s81) at90 (Local.g-drop-sref 𝓤 H A W E G85 29 21 (Array.Array (Referent.rtF (Referent.fInt Syntax.w8)) 600000) (Syntax.tyRef Syntax.erased Syntax.imm (Syntax.tyArray (Syntax.tyInt Syntax.w8) 600000)) (λ x. x) (Reads'.as-is 𝓤 H A (Rows.sref (Array.Array (Referent.rtF (Referent.fInt Syntax.w8)) 600000) (Syntax.tyRef Syntax.erased Syntax.imm (Syntax.tyArray (Syntax.tyInt Syntax.w8) 600000)) 21))) d90
 
           d92 : Typed.Typed 𝓤 H A 𝓣 E G84 b50 Δ0 at92
-          d92 = Typed.s-seq 𝓤 H A W 𝓣 E G84 G85 b48 b49 Δ0 (Typed.both s80) at91 (Plain.t-call-plain 𝓤 H A W 𝓣 7 ps·3 r·3 (claims· .6) (claims· .7) "zones::sheet_calls::step_with" (known .3) E (λ pos β. β) G84 (record { pos = 1; st = List.[]; d = 0; at = λ x. x }, (record { pos = 2; st = List.[]; d = 0; at = λ x. x }, (record { pos = 4; ty = Syntax.tyRef (Syntax.named 1) Syntax.imm (Syntax.tyArray (Syntax.tyInt Syntax.w32) 32772); ref = λ x. x }, (record { pos = 26; ty = Syntax.tyRef Syntax.erased Syntax.mut (Syntax.tyArray (Syntax.tyInt Syntax.w32) 65540); ref = λ x. x }, (record { pos = 27; ty = Syntax.tyRef Syntax.erased Syntax.mut (Syntax.tyArray (Syntax.tyInt Syntax.w32) 32772); ref = λ x. x }, (record { pos = 28; ty = Syntax.tyRef Syntax.erased Syntax.mut (Syntax.tyArray (Syntax.tyInt Syntax.w32) 262160); ref = λ x. x }, (record { pos = 29; ty = Syntax.tyRef Syntax.erased Syntax.imm (Syntax.tyArray (Syntax.tyInt Syntax.w8) 600000); ref = λ x. x }, (record { pos = 30; ty = Syntax.tyRef Syntax.erased Syntax.mut (Syntax.tyArray Cell.behind 65540); ref = λ x. x }, (record { pos = 31; ty = Syntax.tyRef Syntax.erased Syntax.mut (Syntax.tyArray Cell.behind 32772); ref = λ x. x }, tt))))))))) 0 (List._∷_ 1 (List._∷_ 18 (List._∷_ 19 (List._∷_ 20 (List._∷_ 21 (List._∷_ 22 (List._∷_ 23 List.[]))))))) (Call.sub-id 𝓤 H A W (G84 .slots)) ((Yields.yields-copy 𝓤 H A W (λ ρ. Unit) (Declared.row Held.the-type) Path'.refl (Copies.cStruct Held.the-type Laws.the-laws Laws.the-copy .copy 𝓤 H A W) (Rows.whole (Declared.row Held.the-type)) (λ x. x) (λ x. x) (λ ρ told. Local.mem-whole 𝓤 H A W (Declared.row Held.the-type) ρ) λ ρ told. Local.whole-mem 𝓤 H A W (Declared.row Held.the-type) ρ, Path'.refl), ((Yields.yields-copy 𝓤 H A W (λ ρ. Unit) (Declared.row Line.the-type) Path'.refl (Copies.cStruct Line.the-type Laws'.the-laws Laws'.the-copy .copy 𝓤 H A W) (Rows.whole (Declared.row Line.the-type)) (λ x. x) (λ x. x) (λ ρ told. Local.mem-whole 𝓤 H A W (Declared.row Line.the-type) ρ) λ ρ told. Local.whole-mem 𝓤 H A W (Declared.row Line.the-type) ρ, Path'.refl), (ShrRef.spares-sref 𝓤 H A W (Array.Array (Referent.rtF (Referent.fInt Syntax.w32)) 32772) (Syntax.tyRef (Syntax.named 1) Syntax.imm (Syntax.tyArray (Syntax.tyInt Syntax.w32) 32772)) 1, Reads'.reads-sref 𝓤 H A W (Array.Array (Referent.rtF (Referent.fInt Syntax.w32)) 32772) (Syntax.tyRef (Syntax.named 1) Syntax.imm (Syntax.tyArray (Syntax.tyInt Syntax.w32) 32772)) 1, Path'.refl, (Reads'.as-is 𝓤 H A (Rows.mref (Array.Array (Referent.rtF (Referent.fInt Syntax.w32)) 65540) (Syntax.tyRef Syntax.erased Syntax.mut (Syntax.tyArray (Syntax.tyInt Syntax.w32) 65540)) 18), Reads'.reads-mref 𝓤 H A W (Array.Array (Referent.rtF (Referent.fInt Syntax.w32)) 65540) (Syntax.tyRef Syntax.erased Syntax.mut (Syntax.tyArray (Syntax.tyInt Syntax.w32) 65540)) 18, Path'.refl, (Reads'.as-is 𝓤 H A (Rows.mref (Array.Array (Referent.rtF (Referent.fInt Syntax.w32)) 32772) (Syntax.tyRef Syntax.erased Syntax.mut (Syntax.tyArray (Syntax.tyInt Syntax.w32) 32772)) 19), Reads'.reads-mref 𝓤 H A W (Array.Array (Referent.rtF (Referent.fInt Syntax.w32)) 32772) (Syntax.tyRef Syntax.erased Syntax.mut (Syntax.tyArray (Syntax.tyInt Syntax.w32) 32772)) 19, Path'.refl, (Reads'.as-is 𝓤 H A (Rows.mref (Array.Array (Referent.rtF (Referent.fInt Syntax.w32)) 262160) (Syntax.tyRef Syntax.erased Syntax.mut (Syntax.tyArray (Syntax.tyInt Syntax.w32) 262160)) 20), Reads'.reads-mref 𝓤 H A W (Array.Array (Referent.rtF (Referent.fInt Syntax.w32)) 262160) (Syntax.tyRef Syntax.erased Syntax.mut (Syntax.tyArray (Syntax.tyInt Syntax.w32) 262160)) 20, Path'.refl, (ShrRef.spares-sref 𝓤 H A W (Array.Array (Referent.rtF (Referent.fInt Syntax.w8)) 600000) (Syntax.tyRef Syntax.erased Syntax.imm (Syntax.tyArray (Syntax.tyInt Syntax.w8) 600000)) 21, Reads'.reads-sref 𝓤 H A W (Array.Array (Referent.rtF (Referent.fInt Syntax.w8)) 600000) (Syntax.tyRef Syntax.erased Syntax.imm (Syntax.tyArray (Syntax.tyInt Syntax.w8) 600000)) 21, Path'.refl, (Reads'.as-is 𝓤 H A (Rows.mref (Array.Array Cell.R 65540) (Syntax.tyRef Syntax.erased Syntax.mut (Syntax.tyArray Cell.behind 65540)) 22), Reads'.reads-mref 𝓤 H A W (Array.Array Cell.R 65540) (Syntax.tyRef Syntax.erased Syntax.mut (Syntax.tyArray Cell.behind 65540)) 22, Path'.refl, (Reads'.as-is 𝓤 H A (Rows.mref (Array.Array Cell.R 32772) (Syntax.tyRef Syntax.erased Syntax.mut (Syntax.tyArray Cell.behind 32772)) 23), Reads'.reads-mref 𝓤 H A W (Array.Array Cell.R 32772) (Syntax.tyRef Syntax.erased Syntax.mut (Syntax.tyArray Cell.behind 32772)) 23, Path'.refl, tt))))))))) (Reads'.room-gone 𝓤 H A (Syntax.tyStruct (List._∷_ 122 (List._∷_ 111 (List._∷_ 110 (List._∷_ 101 (List._∷_ 115 (List._∷_ 58 (List._∷_ 58 (List._∷_ 104 (List._∷_ 101 (List._∷_ 108 (List._∷_ 100 (List._∷_ 58 (List._∷_ 58 (List._∷_ 72 (List._∷_ 101 (List._∷_ 108 (List._∷_ 100 List.[]))))))))))))))))) (Syntax.tcons (Syntax.tyStruct (List._∷_ 112 (List._∷_ 121 (List._∷_ 114 (List._∷_ 97 (List._∷_ 109 (List._∷_ 105 (List._∷_ 100 (List._∷_ 58 (List._∷_ 58 (List._∷_ 83 (List._∷_ 116 (List._∷_ 97 (List._∷_ 116 (List._∷_ 101 List.[])))))))))))))) (Syntax.tcons (Syntax.tyInt Syntax.w32) (Syntax.tcons (Syntax.tyInt Syntax.w32) (Syntax.tcons (Syntax.tyInt Syntax.w32) (Syntax.tcons (Syntax.tyArray (Syntax.tyInt Syntax.w32) 64) Syntax.tnil))))) (Syntax.tcons (Syntax.tyInt Syntax.w64) (Syntax.tcons (Syntax.tyInt Syntax.w64) (Syntax.tcons (Syntax.tyInt Syntax.w64) (Syntax.tcons (Syntax.tyInt Syntax.w64) (Syntax.tcons (Syntax.tyInt Syntax.w64) (Syntax.tcons (Syntax.tyInt Syntax.w64) (Syntax.tcons Syntax.tyBool Syntax.tnil)))))))))) (tt, (tt, (tt, (tt, (tt, (tt, (tt, tt))))))) Path'.refl) d91
+          d92 = Typed.s-seq 𝓤 H A W 𝓣 E G84 G85 b48 b49 Δ0 (Typed.both s80) at91 (Plain.t-call-plain 𝓤 H A W 𝓣 7 ps·3 r·3 (claims· .6) (claims· .7) "zones::sheet_calls::step_with" (known .3) E (λ pos β. β) G84 (record { pos = 1; st = List.[]; d = 0; at = λ x. x }, (record { pos = 2; st = List.[]; d = 0; at = λ x. x }, (record { pos = 4; ty = Syntax.tyRef (Syntax.named 1) Syntax.imm (Syntax.tyArray (Syntax.tyInt Syntax.w32) 32772); ref = λ x. x }, (record { pos = 26; ty = Syntax.tyRef Syntax.erased Syntax.mut (Syntax.tyArray (Syntax.tyInt Syntax.w32) 65540); ref = λ x. x }, (record { pos = 27; ty = Syntax.tyRef Syntax.erased Syntax.mut (Syntax.tyArray (Syntax.tyInt Syntax.w32) 32772); ref = λ x. x }, (record { pos = 28; ty = Syntax.tyRef Syntax.erased Syntax.mut (Syntax.tyArray (Syntax.tyInt Syntax.w32) 262160); ref = λ x. x }, (record { pos = 29; ty = Syntax.tyRef Syntax.erased Syntax.imm (Syntax.tyArray (Syntax.tyInt Syntax.w8) 600000); ref = λ x. x }, (record { pos = 30; ty = Syntax.tyRef Syntax.erased Syntax.mut (Syntax.tyArray Cell.behind 65540); ref = λ x. x }, (record { pos = 31; ty = Syntax.tyRef Syntax.erased Syntax.mut (Syntax.tyArray Cell.behind 32772); ref = λ x. x }, tt))))))))) 0 (List._∷_ 1 (List._∷_ 18 (List._∷_ 19 (List._∷_ 20 (List._∷_ 21 (List._∷_ 22 (List._∷_ 23 List.[]))))))) (Call.sub-id 𝓤 H A W (G84 .slots)) ((Yields.yields-copy 𝓤 H A W (λ ρ. Unit) (Declared.row Held.the-type) Path'.refl (Copies.cStruct Held.the-type Laws.the-laws Laws.the-copy .copy 𝓤 H A W) (Rows.whole (Declared.row Held.the-type)) (λ x. x) (λ x. x) (λ ρ told. Local.mem-whole 𝓤 H A W (Declared.row Held.the-type) ρ) λ ρ told. Local.whole-mem 𝓤 H A W (Declared.row Held.the-type) ρ, Path'.refl), ((Yields.yields-copy 𝓤 H A W (λ ρ. Unit) (Declared.row Line.the-type) Path'.refl (Copies.cStruct Line.the-type Laws'.the-laws Laws'.the-copy .copy 𝓤 H A W) (Rows.whole (Declared.row Line.the-type)) (λ x. x) (λ x. x) (λ ρ told. Local.mem-whole 𝓤 H A W (Declared.row Line.the-type) ρ) λ ρ told. Local.whole-mem 𝓤 H A W (Declared.row Line.the-type) ρ, Path'.refl), (ShrRef.spares-sref 𝓤 H A W (Array.Array (Referent.rtF (Referent.fInt Syntax.w32)) 32772) (Syntax.tyRef (Syntax.named 1) Syntax.imm (Syntax.tyArray (Syntax.tyInt Syntax.w32) 32772)) 1, Reads'.reads-sref 𝓤 H A W (Array.Array (Referent.rtF (Referent.fInt Syntax.w32)) 32772) (Syntax.tyRef (Syntax.named 1) Syntax.imm (Syntax.tyArray (Syntax.tyInt Syntax.w32) 32772)) 1, Path'.refl, (Reads'.as-is 𝓤 H A (Rows.mref (Array.Array (Referent.rtF (Referent.fInt Syntax.w32)) 65540) (Syntax.tyRef Syntax.erased Syntax.mut (Syntax.tyArray (Syntax.tyInt Syntax.w32) 65540)) 18), Reads'.reads-mref 𝓤 H A W (Array.Array (Referent.rtF (Referent.fInt Syntax.w32)) 65540) (Syntax.tyRef Syntax.erased Syntax.mut (Syntax.tyArray (Syntax.tyInt Syntax.w32) 65540)) 18, Path'.refl, (Reads'.as-is 𝓤 H A (Rows.mref (Array.Array (Referent.rtF (Referent.fInt Syntax.w32)) 32772) (Syntax.tyRef Syntax.erased Syntax.mut (Syntax.tyArray (Syntax.tyInt Syntax.w32) 32772)) 19), Reads'.reads-mref 𝓤 H A W (Array.Array (Referent.rtF (Referent.fInt Syntax.w32)) 32772) (Syntax.tyRef Syntax.erased Syntax.mut (Syntax.tyArray (Syntax.tyInt Syntax.w32) 32772)) 19, Path'.refl, (Reads'.as-is 𝓤 H A (Rows.mref (Array.Array (Referent.rtF (Referent.fInt Syntax.w32)) 262160) (Syntax.tyRef Syntax.erased Syntax.mut (Syntax.tyArray (Syntax.tyInt Syntax.w32) 262160)) 20), Reads'.reads-mref 𝓤 H A W (Array.Array (Referent.rtF (Referent.fInt Syntax.w32)) 262160) (Syntax.tyRef Syntax.erased Syntax.mut (Syntax.tyArray (Syntax.tyInt Syntax.w32) 262160)) 20, Path'.refl, (ShrRef.spares-sref 𝓤 H A W (Array.Array (Referent.rtF (Referent.fInt Syntax.w8)) 600000) (Syntax.tyRef Syntax.erased Syntax.imm (Syntax.tyArray (Syntax.tyInt Syntax.w8) 600000)) 21, Reads'.reads-sref 𝓤 H A W (Array.Array (Referent.rtF (Referent.fInt Syntax.w8)) 600000) (Syntax.tyRef Syntax.erased Syntax.imm (Syntax.tyArray (Syntax.tyInt Syntax.w8) 600000)) 21, Path'.refl, (Reads'.as-is 𝓤 H A (Rows.mref (Array.Array Cell.R 65540) (Syntax.tyRef Syntax.erased Syntax.mut (Syntax.tyArray Cell.behind 65540)) 22), Reads'.reads-mref 𝓤 H A W (Array.Array Cell.R 65540) (Syntax.tyRef Syntax.erased Syntax.mut (Syntax.tyArray Cell.behind 65540)) 22, Path'.refl, (Reads'.as-is 𝓤 H A (Rows.mref (Array.Array Cell.R 32772) (Syntax.tyRef Syntax.erased Syntax.mut (Syntax.tyArray Cell.behind 32772)) 23), Reads'.reads-mref 𝓤 H A W (Array.Array Cell.R 32772) (Syntax.tyRef Syntax.erased Syntax.mut (Syntax.tyArray Cell.behind 32772)) 23, Path'.refl, tt))))))))) (Reads'.room-gone 𝓤 H A (Syntax.tyStruct (List._∷_ 122 (List._∷_ 111 (List._∷_ 110 (List._∷_ 101 (List._∷_ 115 (List._∷_ 58 (List._∷_ 58 (List._∷_ 104 (List._∷_ 101 (List._∷_ 108 (List._∷_ 100 (List._∷_ 58 (List._∷_ 58 (List._∷_ 72 (List._∷_ 101 (List._∷_ 108 (List._∷_ 100 List.[]))))))))))))))))) (Syntax.tcons (Syntax.tyStruct (List._∷_ 112 (List._∷_ 121 (List._∷_ 114 (List._∷_ 97 (List._∷_ 109 (List._∷_ 105 (List._∷_ 100 (List._∷_ 58 (List._∷_ 58 (List._∷_ 83 (List._∷_ 116 (List._∷_ 97 (List._∷_ 116 (List._∷_ 101 List.[])))))))))))))) (Syntax.tcons (Syntax.tyInt Syntax.w32) (Syntax.tcons (Syntax.tyInt Syntax.w32) (Syntax.tcons (Syntax.tyInt Syntax.w32) (Syntax.tcons (Syntax.tyInt Syntax.w32) (Syntax.tcons (Syntax.tyInt Syntax.w32) (Syntax.tcons (Syntax.tyArray (Syntax.tyInt Syntax.w32) 64) Syntax.tnil))))))) (Syntax.tcons (Syntax.tyInt Syntax.w64) (Syntax.tcons (Syntax.tyInt Syntax.w64) (Syntax.tcons (Syntax.tyInt Syntax.w64) (Syntax.tcons (Syntax.tyInt Syntax.w64) (Syntax.tcons (Syntax.tyInt Syntax.w64) (Syntax.tcons (Syntax.tyInt Syntax.w64) (Syntax.tcons Syntax.tyBool Syntax.tnil)))))))))) (tt, (tt, (tt, (tt, (tt, (tt, (tt, tt))))))) Path'.refl) d91
 
           d93 : Typed.Typed 𝓤 H A 𝓣 E G83 b51 Δ0 at93
           d93 = Typed.s-seq 𝓤 H A W 𝓣 E G83 G84 b47 b50 Δ0 (Typed.give s79) at92 (Reborrow.t-mref-relend 𝓤 H A W E 𝓣 G83 12 31 9 23 (Array.Array Cell.R 32772) (Syntax.tyArray Cell.held 32772) (Syntax.tyRef (Syntax.named 9) Syntax.mut (Syntax.tyArray Cell.behind 32772)) (Syntax.tyRef Syntax.erased Syntax.mut (Syntax.tyArray Cell.behind 32772)) (Row.lease (κs .1 .1 .1 .1 .1 .1 .1 .1 .1 .0) (qs .1 .1 .1 .1 .1 .1 .1 .1 .1 .0)) (λ x. x) (Reads'.as-is 𝓤 H A (Rows.mref (Array.Array Cell.R 32772) (Syntax.tyRef (Syntax.named 9) Syntax.mut (Syntax.tyArray Cell.behind 32772)) 9)) (Reads'.room-gone 𝓤 H A (Syntax.tyRef Syntax.erased Syntax.mut (Syntax.tyArray Cell.behind 32772))) Path'.refl tt Path'.refl Path'.refl λ b o. tt) d92
@@ -2019,7 +2019,7 @@ module _ (claims· : Claims) where
           d105 = Typed.t-seq 𝓤 H A W 𝓣 E G58 G59 b41 b56 Δ0 at69 at104 d69 d104
 
           d106 : Typed.Typed 𝓤 H A 𝓣 E G57 b58 Δ0 at106
-          d106 = Typed.s-seq 𝓤 H A W 𝓣 E G57 G58 b30 b57 Δ0 (Typed.ask s54) at105 (Scalar.t-op2 𝓤 H A W E 𝓣 G57 Syntax.eq (Scalar.oFld 2 (List._∷_ (Syntax.field 0) List.[]) (Syntax.tyInt Syntax.w32) 0 (Reads.fieldV Line.the-type Laws'.the-laws 0)) (Scalar.oInt Syntax.w32 25) 15 (Rows.sc-here Row.sBool) Syntax.tyBool (Row.valS Row.sBool) (Row.sBool .of) (Reads.reads-field 𝓤 H A W Line.the-type Laws'.the-laws 0 (Syntax.tyInt Syntax.w32) 0 Path'.refl, Path'.refl) tt (Reads'.room-gone 𝓤 H A Syntax.tyBool) (Scalar.holds-sc 𝓤 H A W Row.sBool) Path'.refl (λ u. Path'.refl) λ u. tt) d105
+          d106 = Typed.s-seq 𝓤 H A W 𝓣 E G57 G58 b30 b57 Δ0 (Typed.ask s54) at105 (Scalar.t-op2 𝓤 H A W E 𝓣 G57 Syntax.eq (Scalar.oFld 2 (List._∷_ (Syntax.field 0) List.[]) (Syntax.tyInt Syntax.w32) 0 (Reads.fieldV Line.the-type Laws'.the-laws 0)) (Scalar.oInt Syntax.w32 26) 15 (Rows.sc-here Row.sBool) Syntax.tyBool (Row.valS Row.sBool) (Row.sBool .of) (Reads.reads-field 𝓤 H A W Line.the-type Laws'.the-laws 0 (Syntax.tyInt Syntax.w32) 0 Path'.refl, Path'.refl) tt (Reads'.room-gone 𝓤 H A Syntax.tyBool) (Scalar.holds-sc 𝓤 H A W Row.sBool) Path'.refl (λ u. Path'.refl) λ u. tt) d105
 
           d107 : Typed.Typed 𝓤 H A 𝓣 E G43 b58 Δ0 at107
           d107 = Typed.g-pre 𝓤 H A W 𝓣 E G43 G57 b58 Δ0 (Typed.give s53) at106 (Know'.g-struct-known 𝓤 H A W E Line.the-type Laws'.the-laws G43 2 (λ x. x) (Reads'.as-is 𝓤 H A (Rows.whole (Declared.row Line.the-type)))) d106
@@ -2028,7 +2028,7 @@ module _ (claims· : Claims) where
           d108 = Typed.t-seq 𝓤 H A W 𝓣 E G42 G43 b29 b58 Δ0 at53 at107 d53 d107
 
           d109 : Typed.Typed 𝓤 H A 𝓣 E G41 b60 Δ0 at109
-          d109 = Typed.s-seq 𝓤 H A W 𝓣 E G41 G42 b18 b59 Δ0 (Typed.ask s39) at108 (Scalar.t-op2 𝓤 H A W E 𝓣 G41 Syntax.eq (Scalar.oFld 2 (List._∷_ (Syntax.field 0) List.[]) (Syntax.tyInt Syntax.w32) 0 (Reads.fieldV Line.the-type Laws'.the-laws 0)) (Scalar.oInt Syntax.w32 24) 15 (Rows.sc-here Row.sBool) Syntax.tyBool (Row.valS Row.sBool) (Row.sBool .of) (Reads.reads-field 𝓤 H A W Line.the-type Laws'.the-laws 0 (Syntax.tyInt Syntax.w32) 0 Path'.refl, Path'.refl) tt (Reads'.room-gone 𝓤 H A Syntax.tyBool) (Scalar.holds-sc 𝓤 H A W Row.sBool) Path'.refl (λ u. Path'.refl) λ u. tt) d108
+          d109 = Typed.s-seq 𝓤 H A W 𝓣 E G41 G42 b18 b59 Δ0 (Typed.ask s39) at108 (Scalar.t-op2 𝓤 H A W E 𝓣 G41 Syntax.eq (Scalar.oFld 2 (List._∷_ (Syntax.field 0) List.[]) (Syntax.tyInt Syntax.w32) 0 (Reads.fieldV Line.the-type Laws'.the-laws 0)) (Scalar.oInt Syntax.w32 25) 15 (Rows.sc-here Row.sBool) Syntax.tyBool (Row.valS Row.sBool) (Row.sBool .of) (Reads.reads-field 𝓤 H A W Line.the-type Laws'.the-laws 0 (Syntax.tyInt Syntax.w32) 0 Path'.refl, Path'.refl) tt (Reads'.room-gone 𝓤 H A Syntax.tyBool) (Scalar.holds-sc 𝓤 H A W Row.sBool) Path'.refl (λ u. Path'.refl) λ u. tt) d108
 
           d110 : Typed.Typed 𝓤 H A 𝓣 E G5 b60 Δ0 at110
           d110 = Typed.g-pre 𝓤 H A W 𝓣 E G5 G41 b60 Δ0 (Typed.give s38) at109 (Know'.g-struct-known 𝓤 H A W E Line.the-type Laws'.the-laws G5 2 (λ x. x) (Reads'.as-is 𝓤 H A (Rows.whole (Declared.row Line.the-type)))) d109
@@ -2037,7 +2037,7 @@ module _ (claims· : Claims) where
           d111 = Typed.t-seq 𝓤 H A W 𝓣 E G4 G5 b17 b60 Δ0 at37 at110 d37 d110
 
           d112 : Typed.Typed 𝓤 H A 𝓣 E G3 b62 Δ0 at112
-          d112 = Typed.s-seq 𝓤 H A W 𝓣 E G3 G4 b0 b61 Δ0 (Typed.ask s2) at111 (Scalar.t-op2 𝓤 H A W E 𝓣 G3 (Syntax.lt Syntax.unsigned) (Scalar.oFld 2 (List._∷_ (Syntax.field 0) List.[]) (Syntax.tyInt Syntax.w32) 0 (Reads.fieldV Line.the-type Laws'.the-laws 0)) (Scalar.oInt Syntax.w32 24) 15 (Rows.sc-here Row.sBool) Syntax.tyBool (Row.valS Row.sBool) (Row.sBool .of) (Reads.reads-field 𝓤 H A W Line.the-type Laws'.the-laws 0 (Syntax.tyInt Syntax.w32) 0 Path'.refl, Path'.refl) tt (Reads'.room-gone 𝓤 H A Syntax.tyBool) (Scalar.holds-sc 𝓤 H A W Row.sBool) Path'.refl (λ u. Path'.refl) λ u. tt) d111
+          d112 = Typed.s-seq 𝓤 H A W 𝓣 E G3 G4 b0 b61 Δ0 (Typed.ask s2) at111 (Scalar.t-op2 𝓤 H A W E 𝓣 G3 (Syntax.lt Syntax.unsigned) (Scalar.oFld 2 (List._∷_ (Syntax.field 0) List.[]) (Syntax.tyInt Syntax.w32) 0 (Reads.fieldV Line.the-type Laws'.the-laws 0)) (Scalar.oInt Syntax.w32 25) 15 (Rows.sc-here Row.sBool) Syntax.tyBool (Row.valS Row.sBool) (Row.sBool .of) (Reads.reads-field 𝓤 H A W Line.the-type Laws'.the-laws 0 (Syntax.tyInt Syntax.w32) 0 Path'.refl, Path'.refl) tt (Reads'.room-gone 𝓤 H A Syntax.tyBool) (Scalar.holds-sc 𝓤 H A W Row.sBool) Path'.refl (λ u. Path'.refl) λ u. tt) d111
 
           d113 : Typed.Typed 𝓤 H A 𝓣 E G2 b62 Δ0 at113
           d113 = Typed.g-pre 𝓤 H A W 𝓣 E G2 G3 b62 Δ0 (Typed.give s1) at112 (Know'.g-struct-known 𝓤 H A W E Line.the-type Laws'.the-laws G2 2 (λ x. x) (Reads'.as-is 𝓤 H A (Rows.whole (Declared.row Line.the-type)))) d112
@@ -2108,7 +2108,7 @@ module _ (claims· : Claims) where
 
       module _ (before· : After-struct-known) where
         pub record Then1·own : Type 0 where
-          pub taken : Nat._<_ (Line.struct .as-values (Row.get 2 (T3 .locals) (m2 (before· .before) (before· .struct-known .given))) .0) 24
+          pub taken : Nat._<_ (Line.struct .as-values (Row.get 2 (T3 .locals) (m2 (before· .before) (before· .struct-known .given))) .0) 25
 
       pub record Then1 : Type 0 where
         pub before : After-struct-known
@@ -2229,7 +2229,7 @@ module _ (claims· : Claims) where
 
       module _ (before· : After-struct-known) where
         pub record Else1·own : Type 0 where
-          pub left : Nat._≤_ 24 (Line.struct .as-values (Row.get 2 (T3 .locals) (m2 (before· .before) (before· .struct-known .given))) .0)
+          pub left : Nat._≤_ 25 (Line.struct .as-values (Row.get 2 (T3 .locals) (m2 (before· .before) (before· .struct-known .given))) .0)
 
       pub record Else1 : Type 0 where
         pub before : After-struct-known
@@ -2257,7 +2257,7 @@ module _ (claims· : Claims) where
 
       module _ (before· : After-struct-known2) where
         pub record Then2·own : Type 0 where
-          pub taken : Path'._≡_ {A = Nat.ℕ} (Line.struct .as-values (Row.get 2 (T41 .locals) (m21 (before· .before) (before· .struct-known2 .given))) .0) 24
+          pub taken : Path'._≡_ {A = Nat.ℕ} (Line.struct .as-values (Row.get 2 (T41 .locals) (m21 (before· .before) (before· .struct-known2 .given))) .0) 25
 
       pub record Then2 : Type 0 where
         pub before : After-struct-known2
@@ -2331,7 +2331,7 @@ module _ (claims· : Claims) where
 
       module _ (before· : After-struct-known2) where
         pub record Else2·own : Type 0 where
-          pub left : Path'._≡_ {A = Nat.ℕ} (Line.struct .as-values (Row.get 2 (T41 .locals) (m21 (before· .before) (before· .struct-known2 .given))) .0) 24 → ⊥
+          pub left : Path'._≡_ {A = Nat.ℕ} (Line.struct .as-values (Row.get 2 (T41 .locals) (m21 (before· .before) (before· .struct-known2 .given))) .0) 25 → ⊥
 
       pub record Else2 : Type 0 where
         pub before : After-struct-known2
@@ -2359,7 +2359,7 @@ module _ (claims· : Claims) where
 
       module _ (before· : After-struct-known3) where
         pub record Then3·own : Type 0 where
-          pub taken : Path'._≡_ {A = Nat.ℕ} (Line.struct .as-values (Row.get 2 (T57 .locals) (m33 (before· .before) (before· .struct-known3 .given))) .0) 25
+          pub taken : Path'._≡_ {A = Nat.ℕ} (Line.struct .as-values (Row.get 2 (T57 .locals) (m33 (before· .before) (before· .struct-known3 .given))) .0) 26
 
       pub record Then3 : Type 0 where
         pub before : After-struct-known3
@@ -2433,7 +2433,7 @@ module _ (claims· : Claims) where
 
       module _ (before· : After-struct-known3) where
         pub record Else3·own : Type 0 where
-          pub left : Path'._≡_ {A = Nat.ℕ} (Line.struct .as-values (Row.get 2 (T57 .locals) (m33 (before· .before) (before· .struct-known3 .given))) .0) 25 → ⊥
+          pub left : Path'._≡_ {A = Nat.ℕ} (Line.struct .as-values (Row.get 2 (T57 .locals) (m33 (before· .before) (before· .struct-known3 .given))) .0) 26 → ⊥
 
       pub record Else3 : Type 0 where
         pub before : After-struct-known3
@@ -2575,7 +2575,7 @@ module _ (claims· : Claims) where
         lay10 = λ c. (tt, λ g. (Relend.count-is T62 24 25 (λ x. x) (λ u. 32772) (m36 record { before = c .before; if3 = c .if3 } g) (Path'.sym (g .0 .1)), (put-records-requires-2 record { before = record { before = c .before; if3 = c .if3 }; put-records-arg2 = record { given = g } }, λ g'. lay11 record { before = record { before = record { before = c .before; if3 = c .if3 }; put-records-arg2 = record { given = g } }; put-records2 = Called.called ps·1 r·1 (claims· .3) T63 (record { pos = 25; ty = Syntax.tyRef Syntax.erased Syntax.mut Cell.behind; ref = λ x. x }, (record { pos = 3; ty = Syntax.tyRef (Syntax.named 0) Syntax.imm (Syntax.tyInt Syntax.w8); ref = λ x. x }, (record { pos = 2; st = List.[]; d = 0; at = λ x. x }, tt))) (m37 record { before = c .before; if3 = c .if3 } g) g' })))
 
         lay9 : (c : Else2) → at107 (W0 (c .before .before .before .before .before .κs) (c .before .before .before .before .before .args)) (m32 (c .before))
-        lay9 = λ c. λ g. (tt, (λ taken. lay10 record { before = record { before = record { before = c .before; if2 = c .if2 }; struct-known3 = record { given = g } }; if3 = record { taken = Tests.eqb-true (Line.struct .as-values (Row.get 2 (T57 .locals) (m33 record { before = c .before; if2 = c .if2 } g)) .0) 25 taken } }, λ left. lay13 record { before = record { before = record { before = c .before; if2 = c .if2 }; struct-known3 = record { given = g } }; if3 = record { left = Tests.eqb-false (Line.struct .as-values (Row.get 2 (T57 .locals) (m33 record { before = c .before; if2 = c .if2 } g)) .0) 25 left } }))
+        lay9 = λ c. λ g. (tt, (λ taken. lay10 record { before = record { before = record { before = c .before; if2 = c .if2 }; struct-known3 = record { given = g } }; if3 = record { taken = Tests.eqb-true (Line.struct .as-values (Row.get 2 (T57 .locals) (m33 record { before = c .before; if2 = c .if2 } g)) .0) 26 taken } }, λ left. lay13 record { before = record { before = record { before = c .before; if2 = c .if2 }; struct-known3 = record { given = g } }; if3 = record { left = Tests.eqb-false (Line.struct .as-values (Row.get 2 (T57 .locals) (m33 record { before = c .before; if2 = c .if2 } g)) .0) 26 left } }))
 
         lay8 : (c : Else2) → at52 (W2 (c .before .before) (c .before .struct-known2 .given)) (m22 (c .before .before) (c .before .struct-known2 .given))
         lay8 = λ c. lay9 record { before = c .before; if2 = c .if2 }
@@ -2590,7 +2590,7 @@ module _ (claims· : Claims) where
         lay5 = λ c. (tt, λ g. (Relend.count-is T46 22 23 (λ x. x) (λ u. 65540) (m24 record { before = c .before; if2 = c .if2 } g) (Path'.sym (g .0 .1)), (put-records-requires record { before = record { before = c .before; if2 = c .if2 }; put-records-arg = record { given = g } }, λ g'. lay6 record { before = record { before = record { before = c .before; if2 = c .if2 }; put-records-arg = record { given = g } }; put-records = Called.called ps·1 r·1 (claims· .3) T47 (record { pos = 23; ty = Syntax.tyRef Syntax.erased Syntax.mut Cell.behind; ref = λ x. x }, (record { pos = 3; ty = Syntax.tyRef (Syntax.named 0) Syntax.imm (Syntax.tyInt Syntax.w8); ref = λ x. x }, (record { pos = 2; st = List.[]; d = 0; at = λ x. x }, tt))) (m25 record { before = c .before; if2 = c .if2 } g) g' })))
 
         lay4 : (c : Else1) → at110 (W0 (c .before .before .before .κs) (c .before .before .before .args)) (m20 (c .before))
-        lay4 = λ c. λ g. (tt, (λ taken. lay5 record { before = record { before = record { before = c .before; if1 = c .if1 }; struct-known2 = record { given = g } }; if2 = record { taken = Tests.eqb-true (Line.struct .as-values (Row.get 2 (T41 .locals) (m21 record { before = c .before; if1 = c .if1 } g)) .0) 24 taken } }, λ left. lay8 record { before = record { before = record { before = c .before; if1 = c .if1 }; struct-known2 = record { given = g } }; if2 = record { left = Tests.eqb-false (Line.struct .as-values (Row.get 2 (T41 .locals) (m21 record { before = c .before; if1 = c .if1 } g)) .0) 24 left } }))
+        lay4 = λ c. λ g. (tt, (λ taken. lay5 record { before = record { before = record { before = c .before; if1 = c .if1 }; struct-known2 = record { given = g } }; if2 = record { taken = Tests.eqb-true (Line.struct .as-values (Row.get 2 (T41 .locals) (m21 record { before = c .before; if1 = c .if1 } g)) .0) 25 taken } }, λ left. lay8 record { before = record { before = record { before = c .before; if1 = c .if1 }; struct-known2 = record { given = g } }; if2 = record { left = Tests.eqb-false (Line.struct .as-values (Row.get 2 (T41 .locals) (m21 record { before = c .before; if1 = c .if1 } g)) .0) 25 left } }))
 
         lay3 : (c : Else1) → at36 (W1 (c .before .before) (c .before .struct-known .given)) (m3 (c .before .before) (c .before .struct-known .given))
         lay3 = λ c. lay4 record { before = c .before; if1 = c .if1 }
@@ -2602,7 +2602,7 @@ module _ (claims· : Claims) where
         lay1 = λ c. λ g. λ g'. λ g''. λ g'3. λ g'4. λ g'5. (plain-requires record { before = record { before = record { before = record { before = record { before = record { before = record { before = c .before; if1 = c .if1 }; plain-arg = record { given = g } }; plain-arg2 = record { given = g' } }; plain-arg3 = record { given = g'' } }; plain-arg4 = record { given = g'3 } }; plain-arg5 = record { given = g'4 } }; plain-arg6 = record { given = g'5 } }, λ g'6. lay2 record { before = record { before = record { before = record { before = record { before = record { before = record { before = record { before = c .before; if1 = c .if1 }; plain-arg = record { given = g } }; plain-arg2 = record { given = g' } }; plain-arg3 = record { given = g'' } }; plain-arg4 = record { given = g'3 } }; plain-arg5 = record { given = g'4 } }; plain-arg6 = record { given = g'5 } }; plain = Called.called ps·0 r·0 (claims· .1) T18 (record { pos = 1; st = List.[]; d = 0; at = λ x. x }, (record { pos = 2; st = List.[]; d = 0; at = λ x. x }, (record { pos = 3; ty = Syntax.tyRef (Syntax.named 0) Syntax.imm (Syntax.tyInt Syntax.w8); ref = λ x. x }, (record { pos = 4; ty = Syntax.tyRef (Syntax.named 1) Syntax.imm (Syntax.tyArray (Syntax.tyInt Syntax.w32) 32772); ref = λ x. x }, (record { pos = 16; ty = Syntax.tyRef Syntax.erased Syntax.mut (Syntax.tyArray (Syntax.tyInt Syntax.w8) 16388); ref = λ x. x }, (record { pos = 17; ty = Syntax.tyRef Syntax.erased Syntax.mut (Syntax.tyArray (Syntax.tyInt Syntax.w32) 65540); ref = λ x. x }, (record { pos = 18; ty = Syntax.tyRef Syntax.erased Syntax.mut (Syntax.tyArray (Syntax.tyInt Syntax.w32) 32772); ref = λ x. x }, (record { pos = 19; ty = Syntax.tyRef Syntax.erased Syntax.mut (Syntax.tyArray (Syntax.tyInt Syntax.w32) 32772); ref = λ x. x }, (record { pos = 20; ty = Syntax.tyRef Syntax.erased Syntax.mut (Syntax.tyArray (Syntax.tyInt Syntax.w32) 262160); ref = λ x. x }, (record { pos = 21; ty = Syntax.tyRef Syntax.erased Syntax.mut (Syntax.tyArray (Syntax.tyInt Syntax.w8) 600000); ref = λ x. x }, tt)))))))))) (m10 record { before = record { before = record { before = record { before = record { before = record { before = c .before; if1 = c .if1 }; plain-arg = record { given = g } }; plain-arg2 = record { given = g' } }; plain-arg3 = record { given = g'' } }; plain-arg4 = record { given = g'3 } }; plain-arg5 = record { given = g'4 } } g'5) g'6 })
 
         pub laid : (c : Start) → at114 (W0 (c .κs) (c .args)) (m0 (c .κs) (c .args))
-        laid = λ c. λ g. λ g'. (tt, (λ taken. lay1 record { before = record { before = record { before = c; shared-slice-known = record { given = g } }; struct-known = record { given = g' } }; if1 = record { taken = Tests.ltb-true (Line.struct .as-values (Row.get 2 (T3 .locals) (m2 record { before = c; shared-slice-known = record { given = g } } g')) .0) 24 taken } }, λ left. lay3 record { before = record { before = record { before = c; shared-slice-known = record { given = g } }; struct-known = record { given = g' } }; if1 = record { left = Tests.ltb-false (Line.struct .as-values (Row.get 2 (T3 .locals) (m2 record { before = c; shared-slice-known = record { given = g } } g')) .0) 24 left } }))
+        laid = λ c. λ g. λ g'. (tt, (λ taken. lay1 record { before = record { before = record { before = c; shared-slice-known = record { given = g } }; struct-known = record { given = g' } }; if1 = record { taken = Tests.ltb-true (Line.struct .as-values (Row.get 2 (T3 .locals) (m2 record { before = c; shared-slice-known = record { given = g } } g')) .0) 25 taken } }, λ left. lay3 record { before = record { before = record { before = c; shared-slice-known = record { given = g } }; struct-known = record { given = g' } }; if1 = record { left = Tests.ltb-false (Line.struct .as-values (Row.get 2 (T3 .locals) (m2 record { before = c; shared-slice-known = record { given = g } } g')) .0) 25 left } }))
 
         module _ (κs : Lifetimes.Lfts 10) (qs : Lifetimes.Shares 10) where
           pub asked : (a : Kinds.Dens κs ps) → (good : Kinds.GoodsP κs ps a) → (pre : Pre· κs a) → (bs : List.List Nat.ℕ) → Φ (Any.wantQ 10 ps r xs m κs qs a (Post· κs a)) (Function.init 10 ps r xs m κs qs a)
