@@ -2,6 +2,7 @@
 
 use crate::bases::{self, Added};
 use crate::chance::Chance;
+use crate::damage::the_numbers;
 use crate::files;
 use crate::input::Input;
 use crate::kernels;
@@ -45,7 +46,7 @@ pub fn input(script: usize) -> Input {
     Input::script(script)
 }
 
-/// A base, two levels or three, every call, refusals late in a kernel, and one number changed.
+/// A base, two levels or three, every call, refusals late in a kernel, one number changed, and other numbers stored.
 fn life(script: &mut Script, chance: &mut Chance, base: &[u32], proposals: usize) {
     script.numbers("fill", &[chance.below(9)]);
     let mut scene = Scene::start(script, chance, base);
@@ -60,6 +61,7 @@ fn life(script: &mut Script, chance: &mut Chance, base: &[u32], proposals: usize
     scene.script.word("counts");
     write_and_read(&mut scene, chance);
     one_entry_changed(&mut scene, chance);
+    other_numbers_stored(&mut scene, chance);
     scene.lend_one_short(chance);
     scene.any_call(chance);
     scene.lend_again();
@@ -103,6 +105,16 @@ fn one_entry_changed(scene: &mut Scene, chance: &mut Chance) {
     scene.script.put("table", dart, &[chance.below(scene.darts())]);
     scene.script.word("counts");
     scene.script.put("table", dart, &[entry]);
+}
+
+/// Other numbers of vertices and faces, counts, which leave them, and the right ones.
+fn other_numbers_stored(scene: &mut Scene, chance: &mut Chance) {
+    let state = scene.pyramid.state();
+    for _ in 0..2 {
+        the_numbers(&state, scene, chance);
+        scene.script.word("counts");
+    }
+    scene.script.stored(state.vertices, state.faces);
 }
 
 /// A grid of that many darts, or fewer by less than a course's, under its own numbers. It may be higher than a plan.

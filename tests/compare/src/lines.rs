@@ -26,7 +26,7 @@ pub fn input(script: usize) -> Input {
     Input::text(Program::Zones, &bytes)
 }
 
-const LINES: [&str; 193] = [
+const LINES: [&str; 211] = [
     // Words.
     "\n", " \n", "nothing\n", "Counts\n", "count\n", "countss\n", " counts\n", "counts \n", "counts\r\n", "counts\t\n",
     "counts 0\n", "sweep 1\n", "undo 1\n", "show 1\n", "bytes 1\n", "counts\0\n", "counts\u{e9}\n",
@@ -69,7 +69,11 @@ const LINES: [&str; 193] = [
     "sheets 65536 32768\nyarnundo\n", "sheets 65537 0\n", "sheets 0 32769\n", "sheets 0 4294967297\n", "sheets x 0\n",
     "yarnstart\n", "yarnstart 2\n", "yarnstart 2 2\n", "sheets 2 1\nyarnstart 02\n", "yarncontract\n",
     "yarncontract \n", "yarnremove 4294967296\n", "yarnsweep 1\n", "yarnundo 1\n", "yarnunfold\n", "yarnunfold 0 0\n",
-    "yarncounts\n",
+    "yarncounts\n", // The numbers that the state stores.
+    "stored\n", "stored 1\n", "stored 1 2\n", "stored 1 2 3\n", "stored 001 02\n", "stored 2 1\n",
+    "stored 4294967295 0\n", "stored 1 4294967296\n", "stored 4294967296 2\n", "stored 1 x\n", "stored -1 2\n",
+    "stored 1 2 \n", "stored  1 2\n", "stored 1  2\n", "store 1 2\n", "Stored 1 2\n", "storeds 1 2\n",
+    "stored 1 2\nstate 2 0 0\n",
 ];
 
 /// Scripts that are in error at their end, or that hold nothing to print.

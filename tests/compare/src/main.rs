@@ -17,7 +17,7 @@
 //! - [`input`]    what one run of a program reads
 //! - [`worked`], [`lines`], [`starts`], [`small`], [`deep`], [`reads`], [`reports`], [`plans`], [`drawings`], [`lookups`],
 //!   [`yarn`], [`large`]  the inputs, group by group
-//! - [`worked_yarn`] the worked script of the calls with sheets
+//! - [`worked_stored`], [`worked_yarn`] the worked scripts of the stored numbers and of the calls with sheets
 //! - [`groups`]   the list of these
 //! - [`compare`]  both programs on one input
 //! - [`round`]    both programs on a group's inputs
@@ -55,6 +55,7 @@ mod starts;
 mod steps;
 mod twice;
 mod worked;
+mod worked_stored;
 mod worked_yarn;
 mod yarn;
 

@@ -96,7 +96,7 @@ impl<'a> Scene<'a> {
     }
 
     pub fn darts(&self) -> u32 {
-        self.pyramid.state().darts
+        self.pyramid.map().table().len() as u32
     }
 
     pub fn top(&self) -> u32 {
@@ -129,7 +129,7 @@ impl<'a> Scene<'a> {
     pub fn read(&mut self, file: &[u8]) {
         self.script.read(file);
         match files::held(file, self.darts()) {
-            Some(pyramid) if pyramid.state().darts == self.darts() => self.pyramid = pyramid,
+            Some(pyramid) if pyramid.map().table().len() as u32 == self.darts() => self.pyramid = pyramid,
             _ => self.all_again(),
         }
     }

@@ -64,10 +64,18 @@ impl Script {
         self.numbers("lend", &[table, history, work]);
     }
 
-    /// The state with its ends as far as they are not zero.
+    /// The state with its ends as far as they are not zero, and the numbers that it stores: "`state` sets them to 0".
     pub fn state(&mut self, state: &State) {
         let used = state.ends.iter().rposition(|&end| end != 0).map_or(0, |last| last + 1);
         self.numbers("state", &[&[state.darts, state.operations, state.levels], &state.ends[..used]].concat());
+        if (state.vertices, state.faces) != (0, 0) {
+            self.stored(state.vertices, state.faces);
+        }
+    }
+
+    /// `stored V F`
+    pub fn stored(&mut self, vertices: u32, faces: u32) {
+        self.numbers("stored", &[vertices, faces]);
     }
 
     pub fn reduce(&mut self, kind: Kind, edges: &[u32]) {

@@ -28,12 +28,20 @@ pub fn twice(script: &mut Script, chance: &mut Chance, base: &[u32]) {
     };
     let mut state = State { operations: 4, levels: 4, ..pyramid.state() };
     state.ends[..4].copy_from_slice(&[1, 2, 3, 4]);
+    // The numbers of the cycles, and those that four operations would leave of the base's.
+    let of_the_cycles = state;
+    match kind {
+        Kind::Contract => state.faces -= 1,
+        Kind::Remove => state.vertices -= 1,
+    }
     script.lend(needed(state.darts));
     script.put("table", 0, pyramid.map().table());
     script.put("history", 0, &[a, b, other, last]);
     for call in ["counts", "contract 0", "remove 0", "sweep", "undo", "unfold 0", "write 900"] {
-        script.state(&state);
-        script.word(call);
+        for state in [of_the_cycles, state] {
+            script.state(&state);
+            script.word(call);
+        }
     }
 }
 

@@ -1,5 +1,5 @@
 //! Group `worked`: what document 01 works out by hand, the cases that only one test of a pyramid refuses, and tables that are
-//! no permutation, plans, lookups and sheets that can be followed by eye
+//! no permutation, plans, lookups, stored numbers and sheets that can be followed by eye
 //!
 //! These are fixed. Chance reaches them late or never.
 
@@ -7,11 +7,12 @@ use crate::files::from_one;
 use crate::input::Input;
 use crate::scene::needed;
 use crate::script::Script;
+use crate::worked_stored;
 use crate::worked_yarn;
 use second::operation::kind_of;
 use second::state::State;
 
-pub const SCRIPTS: usize = 6;
+pub const SCRIPTS: usize = 7;
 
 pub fn input(script: usize) -> Input {
     Input::script(match script {
@@ -20,6 +21,7 @@ pub fn input(script: usize) -> Input {
         2 => culprits(),
         3 => plans(),
         4 => lookups(),
+        5 => worked_stored::script(),
         _ => worked_yarn::script(),
     })
 }
@@ -125,20 +127,28 @@ const ROWS: [(&[u32], &[u32]); 17] = [
 
 const CALLS: [&str; 7] = ["counts", "contract 0", "remove 0", "sweep", "undo", "unfold 0", "write 200"];
 
-/// Every call on a state, on every row.
+/// Every call on a state, on every row, with every number of vertices and of faces that could be stored.
 fn no_pyramids() -> Script {
     let mut script = Script::default();
     for (table, history) in ROWS {
         let darts = table.len() as u32;
         script.lend(needed(darts));
-        for call in CALLS {
+        for state in with_any_numbers(&stated(darts, history)) {
             script.put("table", 0, table);
             script.put("history", 0, history);
-            script.state(&stated(darts, history));
-            script.word(call);
+            for call in CALLS {
+                script.state(&state);
+                script.word(call);
+            }
         }
     }
     script
+}
+
+/// The state with each number of vertices and of faces up to D.
+fn with_any_numbers(state: &State) -> Vec<State> {
+    let with = |vertices| move |faces| State { vertices, faces, ..*state };
+    (0..=state.darts).flat_map(|vertices| (0..=state.darts).map(with(vertices))).collect()
 }
 
 /// The state with the fewest levels that have one kind inside each.
@@ -186,8 +196,8 @@ fn culprits() -> Script {
         script.word("fill 7");
         script.put("table", 0, table);
         script.numbers("start", &[darts]);
-        for call in CALLS {
-            script.state(&stated(darts, &[]));
+        for (call, state) in CALLS.iter().cycle().zip(with_any_numbers(&stated(darts, &[]))) {
+            script.state(&state);
             script.word(call);
         }
         let pairs: String = table.chunks(2).map(|pair| format!("pair={} {}\n", pair[0], pair[1])).collect();

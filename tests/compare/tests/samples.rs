@@ -63,9 +63,10 @@ fn the_drawing_of_the_brief_is_its_plan() {
 #[test]
 fn the_scripts_print_what_is_told() {
     let text = fs::read_to_string(samples().join("README.md")).expect("a text");
-    let names = ["plan.script", "no-permutation.script", "successor.script", "worked-yarn.script", "yarn.script"];
+    let names =
+        ["plan", "no-permutation", "successor", "stored", "worked-yarn", "yarn"].map(|name| format!("{name}.script"));
     for name in names {
-        let printed = zones::run(&fs::read(samples().join(name)).expect("a script"));
+        let printed = zones::run(&fs::read(samples().join(&name)).expect("a script"));
         let told: String = String::from_utf8_lossy(&printed).lines().map(|line| format!("    {line}\n")).collect();
         assert!(format!("{text}\n").contains(&format!("\n\n{told}\n")), "{name}: {told}");
     }

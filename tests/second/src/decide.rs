@@ -1,17 +1,29 @@
 //! pyramid_of == the pyramid that a state, its table and its history come from, if there is one
+//! levels_of  == the same whatever numbers of vertices and faces the state stores: a file states none
 //! map_of     == the map that a table and a history show, if their numbers are darts
 //!
 //! "A state with its table and history is a pyramid when some base and some kernels, accepted one after another, give
 //! exactly this state, this table (gone darts too) and these history numbers." Undo returns every entry, so only the
-//! base that undo gives can fit. It is judged by doing everything again.
+//! base that undo gives can fit. It is judged by doing everything again. "a state whose numbers differ from the cycles is no
+//! pyramid": the numbers of the pyramid found are counted from its cycles and compared.
 
 use crate::map::{partner, Map};
 use crate::operation::{dart_of, edge_of, kind_of, undo, Kind};
 use crate::pyramid::Pyramid;
 use crate::state::State;
 
-/// The table is lent with D numbers, the history with the operations' numbers or more: what is more is not looked at.
 pub fn pyramid_of(state: &State, table: &[u32], history: &[u32]) -> Option<Pyramid> {
+    levels_of(state, table, history).filter(|pyramid| stores(state, pyramid))
+}
+
+/// Are the numbers that a state stores those of its pyramid's cycles?
+fn stores(state: &State, pyramid: &Pyramid) -> bool {
+    let counted = pyramid.state();
+    state.vertices == counted.vertices && state.faces == counted.faces
+}
+
+/// The table is lent with D numbers, the history with the operations' numbers or more: what is more is not looked at.
+pub fn levels_of(state: &State, table: &[u32], history: &[u32]) -> Option<Pyramid> {
     // An edge goes at most once: more operations than edges are no pyramid, however long the history.
     if state.operations > state.darts / 2 {
         return None;
@@ -21,7 +33,9 @@ pub fn pyramid_of(state: &State, table: &[u32], history: &[u32]) -> Option<Pyram
     for (kind, edges) in kernels(state, history)? {
         pyramid.reduce(kind, &edges).ok()?;
     }
-    let given_back = pyramid.state() == *state && pyramid.map().table() == table && pyramid.history() == history;
+    let found = pyramid.state();
+    let same_state = found == State { vertices: found.vertices, faces: found.faces, ..*state };
+    let given_back = same_state && pyramid.map().table() == table && pyramid.history() == history;
     given_back.then_some(pyramid)
 }
 

@@ -4,7 +4,7 @@
 //! "Values are judged when their line has ended: D (1, then 2), L over 64 (6), N of 0 (5). After the last byte: 4".
 
 use crate::answer::Refusal;
-use crate::decide::pyramid_of;
+use crate::decide::levels_of;
 use crate::operation::{number, Kind};
 use crate::pyramid::Pyramid;
 use crate::scan::Scan;
@@ -48,7 +48,7 @@ pub fn read_body(scan: &mut Scan, head: &Head) -> Result<Pyramid, Refusal> {
     scan.end()?;
     let table = counted_from_zero(head, &table).ok_or(Refusal::NoPyramid)?;
     let (state, history) = stated(head.darts, &kernels);
-    pyramid_of(&state, &table, &history).ok_or(Refusal::NoPyramid)
+    levels_of(&state, &table, &history).ok_or(Refusal::NoPyramid)
 }
 
 /// "3. `levels=L`. 4. L lines `kernel=`": "L over 64 (6)"
@@ -90,7 +90,7 @@ fn counted_from_zero(head: &Head, table: &[u32]) -> Option<Vec<u32>> {
     table.iter().map(dart).collect()
 }
 
-/// The state and the history that the kernel lines state. "Operation t read back has p = 2t-2", with t from 1.
+/// The state, but for its two numbers, and the history that the kernel lines state. "Operation t read back has p = 2t-2", with t from 1.
 fn stated(darts: u32, kernels: &[Kernel]) -> (State, Vec<u32>) {
     let mut state = State { darts, levels: kernels.len() as u32, ..State::ZERO };
     let mut history = Vec::new();

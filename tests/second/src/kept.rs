@@ -4,9 +4,9 @@
 //! - An accepted start or read begins it anew, an accepted reduce or sweep puts a level on, undo and unfold take levels
 //!   off. Calls on a state answer from it: what undo hands back is the table that was stored when that level was made.
 //! - A refused call leaves it. But a refused start or read hands back "a state of zeros", to which no levels belong.
-//! - A script that puts numbers by hand into the state, the first D of the table or the history up to the count drops
-//!   it. The next call derives the levels from the numbers as they stand (`decide`); where they are a pyramid, that
-//!   one is kept.
+//! - A script that puts numbers by hand into the state, those that it stores of vertices and faces too, the first D of
+//!   the table or the history up to the count drops it. The next call derives the levels from the numbers as they stand
+//!   (`decide`); where they are a pyramid, that one is kept.
 //! - What is kept is derived all the same, before each call on a state from what it is given and after each accepted
 //!   change from what it leaves, and the two are compared (`two_ways`). A call answered 1 or 2 looks at no numbers.
 

@@ -2,7 +2,7 @@
 //! It shares no line with the proved library; both read the same scripts and files and must print the same bytes.
 //!
 //! - [`answer`]     an answer: its number and its two places; a refusal, case by case
-//! - [`state`]      D, operations, levels and the 64 level ends
+//! - [`state`]      D, operations, levels, the stored numbers of vertices and faces, and the 64 level ends
 //! - [`map`]        the table with its surviving darts: partner, successor, face-next, the dart before, cycles
 //! - [`operation`]  one operation on one edge, and its undoing
 //! - [`kernel`]     an edge judged at its turn; a list of edges; the edges a sweep takes

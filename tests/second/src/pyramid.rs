@@ -2,6 +2,7 @@
 //! Pyramid == the levels, base first, and the history; only `start` and accepted kernels make one
 
 use crate::answer::Refusal;
+use crate::counts::{counts, Counts};
 use crate::kernel;
 use crate::map::{Dart, Map};
 use crate::operation::Kind;
@@ -73,16 +74,19 @@ impl Pyramid {
         self.levels.windows(2).map(|pair| &self.history[pair[0].operations..pair[1].operations])
     }
 
-    /// The state that goes with this pyramid.
+    /// The state that goes with this pyramid. Its two numbers are counted each time, from the cycles of the present level.
     pub fn state(&self) -> State {
         let mut ends = [0; MOST_LEVELS];
         for (end, level) in ends.iter_mut().zip(&self.levels[1..]) {
             *end = level.operations as u32;
         }
+        let Counts { vertices, faces, .. } = counts(self.map());
         State {
             darts: self.map().table().len() as u32,
             operations: self.history.len() as u32,
             levels: self.top() as u32,
+            vertices,
+            faces,
             ends,
         }
     }

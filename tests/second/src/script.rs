@@ -19,6 +19,7 @@ pub enum Command<'a> {
     Sheets { sheet: usize, kept: usize },
     Fill(u32),
     State(Box<State>),
+    Stored { vertices: u32, faces: u32 },
     Start(u32),
     Flat { grid: Grid, length: usize },
     FlatAreas { grid: Grid, length: usize },
@@ -87,6 +88,7 @@ impl<'a> Commands<'a> {
             (b"sheets", &[sheet, kept]) => Some(Command::Sheets { sheet: sheet as usize, kept: kept as usize }),
             (b"fill", &[value]) => Some(Command::Fill(value)),
             (b"state", numbers) => state(numbers).map(|state| Command::State(Box::new(state))),
+            (b"stored", &[vertices, faces]) => Some(Command::Stored { vertices, faces }),
             (b"start", &[darts]) => Some(Command::Start(darts)),
             (b"flat", &[wales, courses, length]) => {
                 Some(Command::Flat { grid: Grid { wales, courses }, length: length as usize })
@@ -173,12 +175,13 @@ fn put_plan<'a>(numbers: &[u32]) -> Option<Command<'a>> {
     Some(Command::PutPlan { from: from as usize, codes })
 }
 
-/// "`state D N L E E ...`: darts, operations, levels, then level ends; ends that are not given are 0"
+/// "`state D N L E E ...`: darts, operations, levels, then level ends; ends that are not given are 0". The two numbers stored:
+/// "`state` sets them to 0"
 fn state(numbers: &[u32]) -> Option<State> {
     let (&[darts, operations, levels], given) = numbers.split_first_chunk()?;
     let mut ends = [0; MOST_LEVELS];
     ends.get_mut(..given.len())?.copy_from_slice(given);
-    Some(State { darts, operations, levels, ends })
+    Some(State { darts, operations, levels, ends, ..State::ZERO })
 }
 
 /// "`contract E E ...`, `remove E E ...`: reduce by that kernel (no edge: the empty kernel)"

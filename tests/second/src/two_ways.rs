@@ -48,9 +48,10 @@ fn going_up(kept: &Pyramid, state: &State, table: &[u32], history: &[u32]) -> Re
     Ok(())
 }
 
-/// D, the number of operations, the number of levels, and the level ends.
+/// D, the number of operations, the number of levels, the numbers of vertices and faces, and the level ends.
 fn numbers(state: &State) -> Vec<u32> {
-    [[state.darts, state.operations, state.levels].as_slice(), &state.ends].concat()
+    let State { darts, operations, levels, vertices, faces, ends } = *state;
+    [[darts, operations, levels, vertices, faces].as_slice(), &ends].concat()
 }
 
 /// Every entry, gone darts too, and the surviving darts.

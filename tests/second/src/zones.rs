@@ -68,6 +68,7 @@ impl Zones {
             Command::Sheets { sheet, kept } => self.rooms.set_lent_sheets(sheet, kept)?,
             Command::Fill(value) => self.rooms.fill(value),
             Command::State(state) => self.set_state(*state),
+            Command::Stored { vertices, faces } => self.set_state(State { vertices, faces, ..self.state }),
             Command::Start(darts) => self.call(|_, lent, kept| calls::start(darts, lent, kept)),
             Command::Flat { grid, length } => {
                 self.on_plan(length, |codes, lent, kept| calls::flat(grid, codes, lent, kept))?;
@@ -122,14 +123,14 @@ impl Zones {
         self.printed.extend_from_slice(text.as_bytes());
     }
 
-    /// The line of a call, but for its line feed: "answer=A place=P second=S state=D N L ends=C table=C history=C work=C
-    /// output=C". From request Three on "every call's line has ` second=S` after its place".
+    /// The line of a call, but for its line feed: "answer=A place=P second=S state=D N L V F ends=C table=C history=C work=C
+    /// output=C". From request Three on "every call's line has ` second=S` after its place", and from request Six on "each
+    /// `state=D N L` is `state=D N L V F`".
     fn print_answer(&mut self, answer: Answer, output: usize) {
         let Answer { number, place, second } = answer;
-        let State { darts, operations, levels, ends } = self.state;
-        let (ends, rooms) = (checksum(&ends), self.rooms.checksums(output));
-        let answered = format!("answer={number} place={place} second={second}");
-        self.print(&format!("{answered} state={darts} {operations} {levels} ends={ends} {rooms}"));
+        let (ends, rooms) = (checksum(&self.state.ends), self.rooms.checksums(output));
+        let state = spaced(&before_the_ends(&self.state));
+        self.print(&format!("answer={number} place={place} second={second} state={state} ends={ends} {rooms}"));
     }
 
     /// "The state is the one handed back, which the script then holds." "A call other than `write` is lent no output".
@@ -199,11 +200,11 @@ impl Zones {
         Some(())
     }
 
-    /// "`state=D N L E .. E` with the first L ends (64 at most), `table=` with the first D numbers of the table (T at
+    /// "`state=D N L V F E .. E` with the first L ends (64 at most), `table=` with the first D numbers of the table (T at
     /// most) and `history=` with the first N (H at most), numbers separated by one space."
     fn show(&mut self) {
-        let State { darts, operations, levels, ends } = self.state;
-        let mut state = vec![darts, operations, levels];
+        let State { darts, operations, levels, ends, .. } = self.state;
+        let mut state = before_the_ends(&self.state);
         state.extend(&ends[..MOST_LEVELS.min(levels as usize)]);
         let lines = format!(
             "state={}\ntable={}\nhistory={}\n",
@@ -213,6 +214,11 @@ impl Zones {
         );
         self.print(&lines);
     }
+}
+
+/// "`state=D N L V F` .., in calls' lines and in `show` (there the level ends follow F)"
+fn before_the_ends(state: &State) -> Vec<u32> {
+    vec![state.darts, state.operations, state.levels, state.vertices, state.faces]
 }
 
 /// "numbers separated by one space"; "an empty list in `show` leaves nothing"

@@ -36,7 +36,7 @@ const EDGE_TWICE: Edit = (
             state.ends[63] = 0;
             state.levels -= 1;
         }
-        return pyramid_of(&state, table, &fewer);
+        return levels_of(&state, table, &fewer);
     }\n",
 );
 
@@ -68,7 +68,7 @@ fn a_flag_applied_to_counts_is_found() {
 #[test]
 fn an_edge_twice_in_a_history_is_found() {
     let copy = second_with("edge-twice", &[EDGE_TWICE]);
-    let text = found(&copy, "worked", "zones", 100);
+    let text = found(&copy, "worked", "zones", 120);
     assert!(text.contains("\nhistory 0 11 14 5 4\n"), "the copy accepts the case that only this test refuses");
     found(&copy, "small", "zones", 400);
 }

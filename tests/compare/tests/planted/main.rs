@@ -7,6 +7,7 @@ mod drawings;
 mod levels;
 mod lookups;
 mod plans;
+mod stored;
 mod yarn;
 
 use copies::{compare, second_with};

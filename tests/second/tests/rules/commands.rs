@@ -36,7 +36,7 @@ fn levels_reads_standard_input() {
 #[test]
 fn zones_reads_standard_input() {
     prints(&["zones"], "", "");
-    prints(&["zones"], "state 4 3 2 1\nshow\n\n", "state=4 3 2 1 0\ntable=\nhistory=\nerror=3\n");
+    prints(&["zones"], "state 4 3 2 1\nstored 6 5\nshow\n\n", "state=4 3 2 6 5 1 0\ntable=\nhistory=\nerror=4\n");
 }
 
 #[test]

@@ -120,7 +120,7 @@ fn a_state_with_such_a_table_is_4_and_has_no_second_place() {
     for (table, ..) in ROWS {
         let lot = Lot::new(state(table.len() as u32, 0, &[]), table, &[]);
         for call in ON_A_STATE.into_iter().chain([Call::Reduce(Contract, &[]), Call::Reduce(Remove, &[9])]) {
-            lot.refuse(&call, 4, 0, 4 * table.len());
+            lot.refuse_as_no_pyramid(&call);
         }
     }
 }

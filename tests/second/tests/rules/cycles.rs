@@ -1,6 +1,7 @@
 //! Random pyramids: the dart before, one vertex, one face and each operation, found in another way.
 
 use crate::support::chance::on_random_pyramids;
+use crate::support::maps::cycle;
 use second::kernel::judge;
 use second::map::{partner, Dart, Map};
 use second::operation::{operate, Kind};
@@ -8,11 +9,6 @@ use second::operation::{operate, Kind};
 /// The surviving darts that lead to x, looked for among all.
 fn all_before(map: &Map, x: Dart) -> Vec<Dart> {
     map.survivors().filter(|&d| map.successor(d) == x).collect()
-}
-
-/// Every dart on the cycle of d.
-fn cycle(step: impl Fn(Dart) -> Dart, d: Dart) -> Vec<Dart> {
-    std::iter::successors(Some(d), |&at| Some(step(at)).filter(|&next| next != d)).collect()
 }
 
 #[test]

@@ -42,7 +42,7 @@ fn drops(lines: &str) {
 #[test]
 fn nothing_is_kept_at_first() {
     assert_eq!(kept(""), None);
-    assert_eq!(kept("lend 8 4 32\ntable 0 5 2 1 4 6 0 3 7\nstate 8 0 0\n"), None);
+    assert_eq!(kept("lend 8 4 32\ntable 0 5 2 1 4 6 0 3 7\nstate 8 0 0\nstored 4 2\n"), None);
 }
 
 #[test]
@@ -133,7 +133,7 @@ fn numbers_put_in_by_hand_drop_them() {
     {
         drops(lines);
     }
-    for state in ["state 8 3 2 2 3\n", "state 8 2 1 2\n", "state 0 0 0\n"] {
+    for state in ["state 8 3 2 2 3\n", "state 8 2 1 2\n", "state 0 0 0\n", "stored 2 1\n", "stored 1 2\n"] {
         drops(state);
     }
 }
@@ -154,19 +154,27 @@ fn numbers_that_no_call_looks_at_keep_them() {
 
 #[test]
 fn the_next_call_derives_them_from_the_numbers() {
-    let by_hand = "state 8 3 2 2 3\ntable 0 5 2 5 4 6 4 6 7\nhistory 0 1 5 10\n";
+    let by_hand = "state 8 3 2 2 3\nstored 2 1\ntable 0 5 2 5 4 6 4 6 7\nhistory 0 1 5 10\n";
     assert_eq!(kept(&format!("lend 8 4 32\n{by_hand}")), None);
     for call in ["counts\n", "write 97\n", "write 0\n", "contract\n", "unfold 9\n"] {
         keeps(&format!("lend 8 4 32\n{by_hand}{call}"), &[T, ONE, TWO], &[0, 2, 3], &[1, 5, 10]);
     }
     keeps(&format!("lend 8 4 32\n{by_hand}undo\n"), &[T, ONE], &[0, 2], &[1, 5]);
     // Cut into other levels the same numbers are another pyramid.
-    keeps(&format!("{K7}state 8 3 3 1 2 3\nunfold 2\n"), &[T, [5, 2, 5, 4, 6, 2, 3, 7], ONE], &[0, 1, 2], &[1, 5]);
+    let three_levels = "state 8 3 3 1 2 3\nstored 2 1\n";
+    keeps(&format!("{K7}{three_levels}unfold 2\n"), &[T, [5, 2, 5, 4, 6, 2, 3, 7], ONE], &[0, 1, 2], &[1, 5]);
+    // Numbers that were stored wrong and then right.
+    keeps_k7("stored 1 2\ncounts\nstored 2 1\ncounts\n");
 }
 
 #[test]
 fn numbers_that_are_no_pyramid_are_not_kept() {
-    for lines in ["table 0 4\ncounts\n", "history 2 11\nundo\n", "state 8 3 1 2\nunfold 0\n", "state 7 0 0\nundo\n"] {
+    for lines in ["state 8 3 2 2 3\ncounts\n", "stored 3 1\nundo\n", "stored 2 0\nwrite 97\n", "stored 1 2\nsweep\n"] {
+        drops(lines);
+    }
+    for lines in
+        ["table 0 4\ncounts\n", "history 2 11\nundo\n", "state 8 3 1 2\nstored 2 1\nunfold 0\n", "state 7 0 0\nundo\n"]
+    {
         drops(lines);
     }
 }

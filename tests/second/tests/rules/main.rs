@@ -7,6 +7,7 @@
 //! - `culprits`    answer 3 with both its places; tables that are no permutation, from every call
 //! - `no_pyramid`  answer 4: the table of seventeen tests, and faults of shape
 //! - `every_small` every table and history of up to 6 darts against the words of document 01
+//! - `stored`      the numbers of vertices and faces that a state stores, right and wrong
 //! - `undoing`, `any_order`, `files`, `cycles`  random pyramids over maps of up to 12 darts
 //! - `lookups`     the successor at a level: what is found, each refusal, and their order
 //! - `ends`        tables and edges' ends that come from no pyramid; every one of up to 6 darts
@@ -43,6 +44,7 @@ mod reader;
 mod refusals;
 mod rubbish;
 mod scripts;
+mod stored;
 mod support;
 mod two_ways;
 mod undoing;

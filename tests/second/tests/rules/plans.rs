@@ -4,7 +4,7 @@ use std::collections::BTreeSet;
 
 use crate::accepted::leaves;
 use crate::support::chance::Chance;
-use crate::support::lot::{state, Call, Lot};
+use crate::support::lot::{stored, Call, Lot};
 use crate::support::maps::k7;
 use second::counts::counts;
 use second::decide::map_of;
@@ -196,7 +196,8 @@ fn undone_it_is_the_base() {
         if let Some(mut lot) = areas(grid, codes) {
             lot.accept(&Call::Undo);
             assert_eq!(lot.entries(), grid.table());
-            assert_eq!(lot.state, state(grid.darts(), 0, &[]));
+            let (cells, meshes) = (grid.wales * grid.courses, (grid.wales - 1) * (grid.courses - 1));
+            assert_eq!(lot.state, stored(grid.darts(), 0, &[], (cells, meshes + 1)), "{grid:?}");
         }
     });
 }
@@ -220,17 +221,17 @@ fn what_is_left() {
     let square = grid(2, 2);
     let base = [4, 6, 5, 7, 0, 2, 1, 3];
     let longer = b"AAAAB";
-    leaves(&room(square), &Call::Flat(square, longer), state(8, 0, &[]), &base, &[]);
+    leaves(&room(square), &Call::Flat(square, longer), stored(8, 0, &[], (4, 2)), &base, &[]);
     // Contract 0: before 0 is 4, before 1 is 6; 4 leads to 6 and 6 to 4. Contract 1: 5 to 7 and 7 to 5. Contract 2: before 4 is
     // 6, before 5 is 7; 6 leads to 7 and 7 to 6.
     let top = [4, 6, 5, 7, 6, 7, 7, 6];
-    leaves(&room(square), &Call::FlatAreas(square, longer), state(8, 3, &[3]), &top, &[1, 5, 9]);
+    leaves(&room(square), &Call::FlatAreas(square, longer), stored(8, 3, &[3], (1, 2)), &top, &[1, 5, 9]);
     // More is lent than a plan of two cells asks for.
     let pair = grid(2, 1);
-    leaves(&room(square), &Call::Flat(pair, b"AA"), state(2, 0, &[]), &[0, 1], &[]);
+    leaves(&room(square), &Call::Flat(pair, b"AA"), stored(2, 0, &[], (2, 1)), &[0, 1], &[]);
     // Edge 0 is pending at its even dart: turned round, the dart before 1, which is 2, leads to 2.
     let cord = grid(1, 3);
-    leaves(&room(square), &Call::FlatAreas(cord, b"AAAA"), state(4, 1, &[1]), &[0, 2, 2, 3], &[3]);
+    leaves(&room(square), &Call::FlatAreas(cord, b"AAAA"), stored(4, 1, &[1], (2, 1)), &[0, 2, 2, 3], &[3]);
 }
 
 #[test]
@@ -239,7 +240,7 @@ fn the_largest_plan() {
     assert_eq!(largest.darts(), 65_024);
     let codes = [7; 16_384];
     let lot = areas(largest, &codes).expect("a plan of one code");
-    assert_eq!(lot.state, state(65_024, 16_383, &[16_383]));
+    assert_eq!(lot.state, stored(65_024, 16_383, &[16_383], (1, 16_130)));
     room(largest).refuse(&Call::Flat(largest, &codes[1..]), 2, 0, 0);
     let chequers: Vec<u8> = largest.cells().map(|(x, y)| ((x + y) % 2) as u8).collect();
     room(largest).refuse(&Call::FlatAreas(largest, &chequers), 5, 0, 4 * 65_024);

@@ -4,6 +4,7 @@ use crate::support::chance::Chance;
 use crate::support::ended::Ended;
 use crate::support::lot::{Call, Lot, ON_A_STATE};
 use second::answer::Answer;
+use second::decide::levels_of;
 use second::lookup::Found;
 use second::state::State;
 use second::zones::Zones;
@@ -36,7 +37,11 @@ fn any_lot(chance: &mut Chance) -> Lot {
     }
     let table = any_numbers(chance, darts as usize, darts);
     let history = any_numbers(chance, darts as usize / 2, 2 * darts);
-    Lot::new(state, &table, &history)
+    let lot = Lot::new(state, &table, &history);
+    match levels_of(&State { darts, ..state }, &table, &history) {
+        Some(pyramid) if chance.coin() => lot.storing(pyramid.state().vertices, pyramid.state().faces),
+        _ => lot.storing(any_number(chance, darts), any_number(chance, darts)),
+    }
 }
 
 /// Makes the call; where it is refused, everything but the work area must stay.
@@ -71,11 +76,13 @@ fn pyramids_with_one_number_altered_get_an_answer() {
         let mut lot = Lot::of(&pyramid);
         let darts = lot.state.darts;
         let place = chance.below(darts) as usize;
-        match chance.below(5) {
+        match chance.below(7) {
             0 => lot.state.operations = any_number(&mut chance, darts),
             1 => lot.state.levels = any_number(&mut chance, 6),
             2 => lot.state.ends[place] = any_number(&mut chance, darts),
             3 => lot.history[place / 2] = any_number(&mut chance, 2 * darts),
+            4 => lot.state.vertices = any_number(&mut chance, darts),
+            5 => lot.state.faces = any_number(&mut chance, darts),
             _ => lot.table[place] = any_number(&mut chance, darts),
         }
         for call in ON_A_STATE {
@@ -122,10 +129,11 @@ fn any_line(chance: &mut Chance) -> String {
     ];
     let by_hand = [
         "table 0 5 2 1 4 6 0 3 7", "table 2 5 4 6 4 6 7", "table 7 7", "table 8 1", "history 0 1 5", "history 2 10",
-        "history 3 9", "state 8 3 2 2 3", "state 8 2 1 2", "state 8 0 0", "lend 8 4 32", "fill 9", "start 8",
-        "plan 0 1 1 1 1", "plan 1 2", "flat 2 2 4", "flatareas 2 2 4", "flatareas 1 4 4", "flat 1 1 4", "flat 2 3 6",
-        "ends 0 3 3 4 0", "ends 1 2 0 9", "sheets 8 4", "sheet 0 1:0 1:- 1:0 1:-", "sheet 0 65536:0", "kept 0 1:0 2:-",
-        "yarnstart 8",
+        "history 3 9", "state 8 3 2 2 3\nstored 2 1", "state 8 2 1 2\nstored 2 2", "state 8 0 0\nstored 4 2",
+        "state 8 0 0", "stored 2 1", "stored 2 2", "stored 1 2", "stored 4294967295 0", "lend 8 4 32", "fill 9",
+        "start 8", "plan 0 1 1 1 1", "plan 1 2", "flat 2 2 4", "flatareas 2 2 4", "flatareas 1 4 4", "flat 1 1 4",
+        "flat 2 3 6", "ends 0 3 3 4 0", "ends 1 2 0 9", "sheets 8 4", "sheet 0 1:0 1:- 1:0 1:-", "sheet 0 65536:0",
+        "kept 0 1:0 2:-", "yarnstart 8",
     ];
     match chance.below(8) {
         0 => format!("table {} {}\n", chance.below(8), chance.below(9)),

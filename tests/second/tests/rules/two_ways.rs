@@ -3,7 +3,7 @@
 use std::panic::{catch_unwind, AssertUnwindSafe};
 
 use crate::support::chance::{on_random_pyramids, Chance};
-use crate::support::lot::{state, Call, Lot, ON_A_STATE};
+use crate::support::lot::{stored, Call, Lot, ON_A_STATE};
 use crate::support::maps::k7;
 use second::decide::pyramid_of;
 use second::file_write::bytes_of;
@@ -75,7 +75,9 @@ fn counts_says(change: impl FnOnce(&mut Lot), difference: &str) {
 #[test]
 fn the_message_names_what_differs() {
     counts_says(|lot| lot.state.operations = 2, "the state, place 1: kept 3, by the numbers 2");
-    counts_says(|lot| lot.state.ends[0] = 1, "the state, place 3: kept 2, by the numbers 1");
+    counts_says(|lot| lot.state.ends[0] = 1, "the state, place 5: kept 2, by the numbers 1");
+    counts_says(|lot| lot.state.vertices = 3, "the state, place 3: kept 2, by the numbers 3");
+    counts_says(|lot| lot.state.faces = 0, "the state, place 4: kept 1, by the numbers 0");
     counts_says(|lot| lot.history[2] = 8, "the history, place 2: kept 10, by the numbers 8");
     counts_says(|lot| lot.table[7] = 6, "level 2 as it stands: the table, place 7: kept 7, by the numbers 6");
     counts_says(|lot| lot.table[7] = 8, "table or history hold a number that is no dart's");
@@ -100,6 +102,8 @@ fn every_number_of_a_pyramid_is_compared() {
         let mut given = whole.clone();
         match number {
             0..=63 => given.state.ends[number] ^= 1,
+            64..=79 => given.state.vertices ^= 1,
+            80..=95 => given.state.faces ^= 1,
             100..=199 if number < 100 + whole.darts() => given.table[number - 100] ^= 1,
             200..=299 if number < 200 + whole.numbers().len() => given.history[number - 200] ^= 1,
             _ => return,
@@ -118,7 +122,7 @@ fn other_levels_under_the_same_table_are_noticed() {
     says(&said_of_kind, "undo", "the history, place 0: kept 0, by the numbers 1");
     // The same operations cut into other levels.
     let mut cut = k7();
-    cut.state = state(8, 3, &[1, 2, 3]);
+    cut.state = stored(8, 3, &[1, 2, 3], (2, 1));
     let said_of_cut = said(&pyramid(&k7()), &cut, &Call::Unfold(0));
     says(&said_of_cut, "unfold", "the state, place 2: kept 2, by the numbers 3");
 }

@@ -58,11 +58,16 @@ pub struct Left {
     pub counts: Counts,
 }
 
-/// A state whose ends are given up to the last level.
+/// A state whose ends are given up to the last level; it stores 0 vertices and 0 faces.
 pub fn state(darts: u32, operations: u32, ends: &[u32]) -> State {
     let mut state = State { darts, operations, levels: ends.len() as u32, ..State::ZERO };
     state.ends[..ends.len()].copy_from_slice(ends);
     state
+}
+
+/// The same with the numbers of vertices and faces that it stores.
+pub fn stored(darts: u32, operations: u32, ends: &[u32], (vertices, faces): (u32, u32)) -> State {
+    State { vertices, faces, ..state(darts, operations, ends) }
 }
 
 impl Lot {
@@ -112,6 +117,11 @@ impl Lot {
         &self.history[..self.state.operations as usize]
     }
 
+    /// The same lot whose state stores these numbers of vertices and faces.
+    pub fn storing(&self, vertices: u32, faces: u32) -> Lot {
+        Lot { state: State { vertices, faces, ..self.state }, ..self.clone() }
+    }
+
     /// Makes the call and keeps the state that it hands back.
     pub fn call(&mut self, call: &Call) -> Left {
         self.call_keeping(call, &mut Kept::default())
@@ -152,6 +162,14 @@ impl Lot {
     /// The call must be refused with this number and place, and with no second place.
     pub fn refuse(&self, call: &Call, number: u32, place: usize, zeroed: usize) {
         self.refuse_with(call, Answer { number, place, second: 0 }, zeroed);
+    }
+
+    /// The call must be refused with 4 whatever numbers of vertices and faces the state stores.
+    pub fn refuse_as_no_pyramid(&self, call: &Call) {
+        let darts = self.state.darts;
+        for (vertices, faces) in (0..=darts).flat_map(|vertices| (0..=darts).map(move |faces| (vertices, faces))) {
+            self.storing(vertices, faces).refuse(call, 4, 0, 4 * darts as usize);
+        }
     }
 
     /// A start must be refused with 3 and both these places.

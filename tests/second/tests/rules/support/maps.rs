@@ -1,6 +1,7 @@
 //! Maps that tests share.
 
 use super::lot::Lot;
+use second::map::{Dart, Map};
 use second::operation::Kind;
 
 /// Base T of document 01: "a triangle with one pending edge".
@@ -26,4 +27,18 @@ pub fn full_star() -> Lot {
     let kernels: Vec<[u32; 1]> = (0..64).map(|e| [e]).collect();
     let kernels: Vec<(Kind, &[u32])> = kernels.iter().map(|edges| (Kind::Contract, edges.as_slice())).collect();
     Lot::built(&star(66), &kernels)
+}
+
+/// The vertices and faces of a map, counted in another way: by the darts that are the lowest of their cycles.
+pub fn numbers_of(map: &Map) -> (u32, u32) {
+    (lowest_ones(map, |d| map.successor(d)), lowest_ones(map, |d| map.face_next(d)))
+}
+
+fn lowest_ones(map: &Map, step: impl Fn(Dart) -> Dart) -> u32 {
+    map.survivors().filter(|&d| cycle(&step, d).iter().all(|&other| d <= other)).count() as u32
+}
+
+/// Every dart on the cycle of d.
+pub fn cycle(step: impl Fn(Dart) -> Dart, d: Dart) -> Vec<Dart> {
+    std::iter::successors(Some(d), |&at| Some(step(at)).filter(|&next| next != d)).collect()
 }
