@@ -18,9 +18,13 @@ static void agree_snapshots(const struct plan *plan, const struct room *one, con
 
 void agree_rooms(const struct plan *plan, const struct room *one, const struct room *other) {
     for (int m = 0; m < MOMENTS; m++) agree_snapshots(plan, one, other, m);
-    for (int m = CONTRACTED; m <= SWEPT; m++)
+    for (int m = CONTRACTED; m <= SWEPT; m++) {
+        const struct state *state = &one->moments[m].state;
         if (!same(one->counts[m], other->counts[m], 4))
             fail(plan, "%s and %s count differently after %s", one->name, other->name, moment_names[m]);
+        if (state->vertices != one->counts[m][1] || state->faces != one->counts[m][2])
+            fail(plan, "%s stores other numbers than it counts after %s", one->name, moment_names[m]);
+    }
     if (one->file_length != other->file_length || memcmp(one->file, other->file, one->file_length) != 0)
         fail(plan, "%s and %s write different files", one->name, other->name);
     if (!same(one->moments[UNFOLDED].table, plan->table, plan->darts)) fail(plan, "%s does not unfold to the base", one->name);
@@ -30,6 +34,8 @@ void agree_cgal(const struct plan *plan, const struct room *room, const uint32_t
     for (int m = CONTRACTED; m <= SWEPT; m++) {
         const struct snapshot *kept = &room->moments[m];
         if (!same(room->counts[m], counts[m], 3)) fail(plan, "%s and CGAL count differently after %s", room->name, moment_names[m]);
+        if (kept->state.vertices != counts[m][1] || kept->state.faces != counts[m][2])
+            fail(plan, "%s stores other numbers than CGAL counts after %s", room->name, moment_names[m]);
         for (uint32_t i = 0; i < kept->state.operations; i++) {
             uint32_t p = kept->history[i] / 2;
             if (successors[m][p] != plan->darts || successors[m][p ^ 1] != plan->darts)
@@ -64,26 +70,33 @@ static const struct {
     {4, 1, {2, 3, 3, 2}, {0}},
 };
 
-void agree_refusals(const struct calls *const *versions, const char *const *names, int count) {
-    for (size_t i = 0; i < sizeof refused / sizeof *refused; i++)
-        for (int v = 0; v < count; v++) {
-            uint32_t n = refused[i].operations, table[8], history[4], work[32] = {0}, counts[4];
-            struct lent lent = {{refused[i].darts, n, n, {0}}, table, history, work, 8, 4, 32};
-            size_t place[2];
-            for (uint32_t level = 0; level < n; level++) lent.state.ends[level] = level + 1;
-            memcpy(table, refused[i].table, sizeof table);
-            memcpy(history, refused[i].history, sizeof history);
-            uint32_t number = versions[v]->counts(&lent, counts, place);
-            if (number != 4) fail(NULL, "%s answers %u where test %zu alone refuses", names[v], number, i + 1);
-        }
+/* The answer of a version to the counts of one of these maps, whose state stores these numbers. */
+static uint32_t refusal(const struct calls *version, size_t i, uint32_t vertices, uint32_t faces) {
+    uint32_t n = refused[i].operations, table[8], history[4], work[32] = {0}, counts[4];
+    struct lent lent = {{refused[i].darts, n, n, vertices, faces, {0}}, table, history, work, 8, 4, 32};
+    size_t place[2];
+    for (uint32_t level = 0; level < n; level++) lent.state.ends[level] = level + 1;
+    memcpy(table, refused[i].table, sizeof table);
+    memcpy(history, refused[i].history, sizeof history);
+    return version->counts(&lent, counts, place);
 }
 
-/* One number of the state, the table or the history becomes another, near the old one or anywhere. */
+void agree_refusals(const struct calls *const *versions, const char *const *names, int count) {
+    for (size_t i = 0; i < sizeof refused / sizeof *refused; i++)
+        for (int v = 0; v < count; v++)
+            for (uint32_t pair = 0, each = refused[i].darts + 1; pair < each * each; pair++) {
+                uint32_t number = refusal(versions[v], i, pair / each, pair % each);
+                if (number != 4) fail(NULL, "%s answers %u where test %zu alone refuses", names[v], number, i + 1);
+            }
+}
+
+/* One number of the state, the table or the history becomes another, near the old one or anywhere. Of the state the first three level ends and all
+ * before them, vertices and faces too. */
 static void damage(struct lent *lent, uint64_t *seed) {
     uint32_t darts = lent->state.darts, *state = (uint32_t *)&lent->state;
-    uint32_t *number = &state[plan_random(seed, 6)];
-    uint32_t part = plan_random(seed, 8);
-    if (part > 0) number = part < 5 ? &lent->table[plan_random(seed, darts)] : &lent->history[plan_random(seed, lent->state.operations)];
+    uint32_t *number = &state[plan_random(seed, 8)];
+    uint32_t part = plan_random(seed, 9);
+    if (part > 1) number = part < 6 ? &lent->table[plan_random(seed, darts)] : &lent->history[plan_random(seed, lent->state.operations)];
     *number = plan_random(seed, 2) == 0 ? *number ^ (1u << plan_random(seed, 4)) : plan_random(seed, 2 * darts + 2);
 }
 

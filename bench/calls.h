@@ -8,9 +8,10 @@
 
 enum { MOST_LEVELS = 64, MOST_DARTS = 65536 };
 
-/* D, the operations, the levels, and the operation count after each kernel, zero past the last level: 67 numbers. */
+/* D, the operations, the levels, the vertices and faces of the present level, and the operation count after each kernel, zero past the last level: 69
+ * numbers. */
 struct state {
-    uint32_t darts, operations, levels, ends[MOST_LEVELS];
+    uint32_t darts, operations, levels, vertices, faces, ends[MOST_LEVELS];
 };
 
 /* What a call is lent. */

@@ -2,7 +2,7 @@
 #include "calls.h"
 #include "zonemap.h"
 
-/* A state's 67 numbers, and the three lent slices with their lengths. */
+/* A state's 69 numbers, and the three lent slices with their lengths. */
 #define STATE(lent) ((uint32_t *)&(lent)->state)
 #define SLICES(lent) \
     (lent)->table, (lent)->table_length, (lent)->history, (lent)->history_length, (lent)->work, (lent)->work_length

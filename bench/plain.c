@@ -11,44 +11,49 @@ static uint32_t start(struct lent *lent, uint32_t darts, size_t place[2]) {
     if (number != 0) return number;
     struct area area = area_over(lent, darts);
     uint32_t beside = 0, bad = area_test_base(area, lent->table, &beside);
-    area_clear(area);
-    if (bad < darts) {
+    if (bad == darts) {
+        lent->state.darts = darts;
+        lent->state.vertices = area_count_base(area, CONTRACT);
+        lent->state.faces = area_count_base(area, REMOVE);
+    } else {
         place[0] = bad;
         place[1] = beside;
-        return 3;
+        number = 3;
     }
-    lent->state.darts = darts;
-    return 0;
+    area_clear(area);
+    return number;
 }
 
 static uint32_t contract_inside(struct area area, struct lent *lent, const uint32_t *kernel, size_t length, size_t place[2]) {
     if (!area_check(area, lent, CONTRACT)) return 4;
     if (lent->state.levels >= MOST_LEVELS) return 6;
-    return area_level(area, lent, area_run(area, lent->state.operations, kernel, length), place);
+    return area_level(area, lent, area_run(area, lent->state.operations, kernel, length), &lent->state.vertices, place);
 }
 
 static uint32_t sweep_inside(struct area area, struct lent *lent, size_t place[2]) {
     if (!area_check(area, lent, REMOVE)) return 4;
     if (lent->state.levels >= MOST_LEVELS) return 6;
-    return area_level(area, lent, area_sweep(area, lent->state.operations), place);
+    return area_level(area, lent, area_sweep(area, lent->state.operations), &lent->state.faces, place);
 }
 
+/* The numbers that the state stores are those of its cycles, once it is checked. */
 static uint32_t counts_inside(struct area area, struct lent *lent, uint32_t counts[4]) {
     if (!area_check(area, lent, NEITHER)) return 4;
     counts[0] = area.darts - 2 * lent->state.operations;
-    counts[1] = area_count(area, CONTRACT);
-    counts[2] = area_count(area, REMOVE);
+    counts[1] = lent->state.vertices;
+    counts[2] = lent->state.faces;
     counts[3] = counts[1] - counts[0] / 2 + counts[2];
     return 0;
 }
 
-/* Level after level undone, down to this one. */
+/* Level after level undone, down to this one. Each operation undone gives a vertex or a face back, and a level has one kind. */
 static void lower(struct area area, struct lent *lent, uint32_t to) {
     struct state *state = &lent->state;
     uint32_t operations = state->operations;
     while (state->levels > to) {
         uint32_t below = state->levels > 1 ? state->ends[state->levels - 2] : 0;
         area_take_back(area, operations, operations - below);
+        *(area.history[below] % 2 == CONTRACT ? &state->vertices : &state->faces) += operations - below;
         state->ends[--state->levels] = 0;
         operations = below;
     }

@@ -177,11 +177,13 @@ void area_store(struct area area, struct lent *lent, uint32_t operations) {
     lent->state.operations = operations;
 }
 
-/* One level more by a run that has gone well, or the answer that stopped it. */
-uint32_t area_level(struct area area, struct lent *lent, struct ran ran, size_t place[2]) {
+/* One level more by a run that has gone well, or the answer that stopped it. The number that falls, of vertices or of faces, loses one with each
+ * operation. */
+uint32_t area_level(struct area area, struct lent *lent, struct ran ran, uint32_t *falls, size_t place[2]) {
     place[0] = ran.place;
     if (ran.number != 0) return ran.number;
     if (ran.operations == lent->state.operations) return 5;
+    *falls -= ran.operations - lent->state.operations;
     area_store(area, lent, ran.operations);
     lent->state.ends[lent->state.levels++] = ran.operations;
     return 0;

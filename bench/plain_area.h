@@ -58,12 +58,13 @@ bool area_contract(struct area area, uint32_t operations, uint32_t edge);
 bool area_remove(struct area area, uint32_t operations, uint32_t edge);
 struct ran area_sweep(struct area area, uint32_t operations);
 void area_store(struct area area, struct lent *lent, uint32_t operations);
-uint32_t area_level(struct area area, struct lent *lent, struct ran ran, size_t place[2]);
+uint32_t area_level(struct area area, struct lent *lent, struct ran ran, uint32_t *falls, size_t place[2]);
 
-void area_label(struct area area, enum kind kind);
-uint32_t area_count(struct area area, enum kind kind);
+uint32_t area_label(struct area area, enum kind kind);
+uint32_t area_label_base(struct area area, enum kind kind);
+uint32_t area_count_base(struct area area, enum kind kind);
 bool area_shape(const uint32_t *history, const struct state *state);
 bool area_check(struct area area, const struct lent *lent, enum kind coming);
-bool area_check_laid(struct area area, const struct state *state);
+bool area_check_laid(struct area area, struct state *state);
 
 #endif

@@ -90,6 +90,13 @@ static uint32_t fit_plan(struct lent *lent, uint32_t wales, uint32_t courses, si
     return length < wales * courses ? 2 : area_fit(lent, *darts);
 }
 
+/* A vertex for each cell; a face inside each four cells, and one outside. */
+static void number_base(struct lent *lent, struct grid grid, uint32_t darts) {
+    lent->state.darts = darts;
+    lent->state.vertices = grid.wales * grid.courses;
+    lent->state.faces = (grid.wales - 1) * (grid.courses - 1) + 1;
+}
+
 static uint32_t base(struct lent *lent, uint32_t wales, uint32_t courses, const uint8_t *codes, size_t length, size_t place[2]) {
     struct grid grid;
     uint32_t darts, number = fit_plan(lent, wales, courses, length, &grid, &darts);
@@ -99,7 +106,7 @@ static uint32_t base(struct lent *lent, uint32_t wales, uint32_t courses, const 
     if (number != 0) return number;
     lay_base(lent->table, grid);
     area_clear(area_over(lent, darts));
-    lent->state.darts = darts;
+    number_base(lent, grid, darts);
     return 0;
 }
 
@@ -113,9 +120,10 @@ static uint32_t areas(struct lent *lent, uint32_t wales, uint32_t courses, const
     struct area area = area_over(lent, darts);
     lay_base(area.map, grid);
     area_relink(area, 0);
-    area_label(area, CONTRACT);
-    number = area_level(area, lent, (struct ran){0, contract_codes(area, grid, codes), 0}, place);
-    if (number == 0) lent->state.darts = darts;
+    area_label_base(area, CONTRACT);
+    uint32_t taken = contract_codes(area, grid, codes);
+    if (taken > 0) number_base(lent, grid, darts);
+    number = area_level(area, lent, (struct ran){0, taken, 0}, &lent->state.vertices, place);
     area_clear(area);
     return number;
 }

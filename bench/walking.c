@@ -102,6 +102,18 @@ static bool permutes(struct walk walk, uint32_t operations) {
     return true;
 }
 
+/* The faces or vertices, each counted at its first dart and marked by walking round it. */
+static uint32_t cycles(struct walk walk, enum kind kind) {
+    uint32_t flip = kind == REMOVE, count = 0, *met = walk.given;
+    memset(met, 0, walk.darts * sizeof *met);
+    for (uint32_t i = 0; i < walk.darts; i++) {
+        if (walk.gone[i] != 0 || met[i] != 0) continue;
+        count++;
+        for (uint32_t x = i; met[x] == 0; x = walk.map[x ^ flip]) met[x] = 1;
+    }
+    return count;
+}
+
 /* Everything undone, and done again: each operation must be allowed, and leave the same number and in the end the same map. */
 static bool check_laid(struct walk walk, const struct state *state) {
     uint32_t n = state->operations;
@@ -120,13 +132,17 @@ static bool check(struct walk walk, const struct lent *lent) {
     if (lent->state.operations > walk.darts / 2) return false;
     memcpy(walk.map, lent->table, walk.darts * sizeof *walk.map);
     memcpy(walk.history, lent->history, lent->state.operations * sizeof *walk.history);
-    return check_laid(walk, &lent->state);
+    if (!check_laid(walk, &lent->state)) return false;
+    return cycles(walk, CONTRACT) == lent->state.vertices && cycles(walk, REMOVE) == lent->state.faces;
 }
 
+/* The numbers of vertices and faces are counted each time. */
 static void store(struct walk walk, struct lent *lent, uint32_t operations) {
     memcpy(lent->table, walk.map, walk.darts * sizeof *walk.map);
     memcpy(lent->history, walk.history, operations * sizeof *walk.history);
     lent->state.operations = operations;
+    lent->state.vertices = cycles(walk, CONTRACT);
+    lent->state.faces = cycles(walk, REMOVE);
 }
 
 static uint32_t level(struct walk walk, struct lent *lent, uint32_t operations) {
@@ -165,23 +181,11 @@ static uint32_t sweep_inside(struct walk walk, struct lent *lent, size_t place[2
     return level(walk, lent, m);
 }
 
-/* The faces or vertices, each counted at its first dart and marked by walking round it. */
-static uint32_t cycles(struct walk walk, enum kind kind) {
-    uint32_t flip = kind == REMOVE, count = 0, *met = walk.given;
-    memset(met, 0, walk.darts * sizeof *met);
-    for (uint32_t i = 0; i < walk.darts; i++) {
-        if (walk.gone[i] != 0 || met[i] != 0) continue;
-        count++;
-        for (uint32_t x = i; met[x] == 0; x = walk.map[x ^ flip]) met[x] = 1;
-    }
-    return count;
-}
-
 static uint32_t counts_inside(struct walk walk, struct lent *lent, uint32_t counts[4]) {
     if (!check(walk, lent)) return 4;
     counts[0] = walk.darts - 2 * lent->state.operations;
-    counts[1] = cycles(walk, CONTRACT);
-    counts[2] = cycles(walk, REMOVE);
+    counts[1] = lent->state.vertices;
+    counts[2] = lent->state.faces;
     counts[3] = counts[1] - counts[0] / 2 + counts[2];
     return 0;
 }
@@ -242,7 +246,11 @@ static uint32_t start_inside(struct walk walk, struct lent *lent, size_t place[2
         }
         walk.map[x] = i + 1;
     }
+    memcpy(walk.map, lent->table, walk.darts * sizeof *walk.map);
+    memset(walk.gone, 0, walk.darts * sizeof *walk.gone);
     lent->state.darts = walk.darts;
+    lent->state.vertices = cycles(walk, CONTRACT);
+    lent->state.faces = cycles(walk, REMOVE);
     return 0;
 }
 
