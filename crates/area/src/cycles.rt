@@ -61,8 +61,8 @@ fn label_cycles(work: &mut [u32], d: usize, k: usize) -> usize
     let mut n = 0;
     let mut i = 0;
     while i < d {
-        if at(work, d + i) < d {
-            if at(work, 2 * d + i) == i {
+        if at(work, 2 * d + i) == i {
+            if at(work, d + i) < d {
                 label_cycle(work, d, k, i);
                 n += 1;
                 i += 1;

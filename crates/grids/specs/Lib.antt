@@ -3,3 +3,4 @@ pub mod Base
 pub mod Plans
 pub mod Stored
 pub mod Worked
+pub mod WorkedStored

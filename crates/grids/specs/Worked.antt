@@ -62,7 +62,7 @@ one D n = record { darts = D; operations = n; levels = 1; ends = n ∷ replicate
 -- 3 by 2 with two codes, drawn with the highest course first, as in docs/CALLS.md, and its base
 --     a b b
 --     a a b
-abbrev twoCodes : List ℕ
+abbrev pub twoCodes : List ℕ
 twoCodes = 97 ∷ 97 ∷ 98 ∷ 97 ∷ 98 ∷ 98 ∷ []
 
 abbrev threeByTwo : List ℕ
@@ -73,7 +73,7 @@ threeByTwo = 8 ∷ 2 ∷ 10 ∷ 12 ∷ 9 ∷ 11 ∷ 5 ∷ 13 ∷ 0 ∷ 4 ∷ 1 �
 --     B B B B B
 --     L B B B R
 --     L L B R R
-abbrev brief : List ℕ
+abbrev pub brief : List ℕ
 brief =
     76 ∷ 76 ∷ 66 ∷ 82 ∷ 82 ∷ 76 ∷ 66 ∷ 66 ∷ 66 ∷ 82 ∷ 66 ∷ 66 ∷ 66 ∷ 66 ∷ 66 ∷ 87 ∷ 87 ∷ 87 ∷ 87 ∷ 87 ∷ []
 
@@ -90,7 +90,7 @@ briefAreas =
     ∷ 53 ∷ 59 ∷ 53 ∷ 61 ∷ 2 ∷ 8 ∷ 8 ∷ 3 ∷ 3 ∷ 39 ∷ 5 ∷ 14 ∷ 38 ∷ 50 ∷ 2 ∷ 9 ∷ 9 ∷ 47 ∷ 47 ∷ 49 ∷ 46 ∷ 51 ∷ 15 ∷ 60 ∷ 43 ∷ 55 ∷ 52 ∷ 57
     ∷ 54 ∷ 59 ∷ 56 ∷ 61 ∷ 58 ∷ 53 ∷ []
 
-abbrev codes : ℕ → List ℕ
+abbrev pub codes : ℕ → List ℕ
 codes n = replicate n 97
 
 abbrev pub table : List Row

@@ -5,3 +5,4 @@ pub mod Stored
 pub mod Totals
 pub mod Rows
 pub mod Worked
+pub mod WorkedStored

@@ -50,7 +50,7 @@ called sweeping l = sweepWith (l .state) (l .table) (l .history) (replicate 33 9
 called undoing l = undoWith (l .state) (l .table) (l .history) (replicate 33 9) (l .sheets)
 called (toLevel k) l = unfoldWith k (l .state) (l .table) (l .history) (replicate 33 9) (l .sheets)
 
-abbrev sameZones : List Zone → List Zone → Bool
+abbrev pub sameZones : List Zone → List Zone → Bool
 sameZones [] [] = true
 sameZones [] (b ∷ bs) = false
 sameZones (a ∷ rest) [] = false

@@ -1,12 +1,13 @@
 -- What a contraction, a removal, a kernel and an undo do to the numbers of vertices and faces (document 02, request Six).
+--   Takes k n v f v′ f′ == n operations of kind k lead from v vertices and f faces to v′ and f′
 --   one-vertex-less  == a contraction takes one vertex and no face
 --   one-face-less    == a removal takes one face and no vertex
---   vertices-less, faces-less == a kernel of contractions takes a vertex for each of its edges, a kernel of removals a face for each
+--   kernel-less      == a kernel of contractions takes a vertex for each of its edges, a kernel of removals a face for each
 --   sweep-less       == a sweep takes a face for each edge that it takes
 --   undo-gives-back  == undo after an accepted kernel gives back the state that was before, its numbers too
 use mathlib.Core.List.{List, [], _∷_}
 use mathlib.Core.Path.{_≡_, refl, sym, _∙_}
-use Prim.Native.Nat.{ℕ, _+_}
+use Prim.Native.Nat.{ℕ, suc, _+_}
 use native.Mathlib.Omega.{arith}
 use lib.ListN.{length}
 use Rattle.darts.specs.Operation.{Kind, contraction, removal, lead, operate, number}
@@ -27,14 +28,19 @@ use Rattle.laws.proofs.runs.Pyramids.{pyramid-built}
 use Rattle.laws.proofs.runs.Undo.{undo-returns, sweep-undo-returns}
 use Rattle.laws.proofs.chained.Steps.{reduce-leads}
 
--- n vertices less and as many faces; n faces less and as many vertices
-pub record VerticesLess (n v f v′ f′ : ℕ) : Type 0 where
-  pub vertices : v ≡ v′ + n
-  pub faces : f ≡ f′
+-- of n operations of kind k: so many vertices, and so many faces
+abbrev pub verticesTaken : Kind → ℕ → ℕ
+verticesTaken contraction n = n
+verticesTaken removal n = 0
 
-pub record FacesLess (n v f v′ f′ : ℕ) : Type 0 where
-  pub vertices : v ≡ v′
-  pub faces : f ≡ f′ + n
+abbrev pub facesTaken : Kind → ℕ → ℕ
+facesTaken contraction n = 0
+facesTaken removal n = n
+
+-- from v vertices and f faces n operations of kind k lead to v′ and f′
+pub record Takes (k : Kind) (n v f v′ f′ : ℕ) : Type 0 where
+  pub vertices : v ≡ v′ + verticesTaken k n
+  pub faces : f ≡ f′ + facesTaken k n
 
 -- ---- one operation
 
@@ -42,53 +48,53 @@ module _ {D : ℕ} {t past : List ℕ} (S : Standing D t past) (e : ℕ) where
   abbrev after : Kind → Counts
   after k = countsOf D (operate k D t past e) (number k (lead k t e) ∷ past)
 
+  one-less : (k : Kind) → judge k D t past e ≡ 0 → Takes k 1 (countsOf D t past .vertices) (countsOf D t past .faces) (after k .vertices) (after k .faces)
+  one-less contraction fine = let T = counts-operate S contraction e fine in record { vertices = T .a-vertex; faces = T .a-face }
+  one-less removal fine = let T = counts-operate S removal e fine in record { vertices = T .a-vertex; faces = T .a-face }
+
   -- A CONTRACTION TAKES ONE VERTEX AND NO FACE
   pub one-vertex-less : judge contraction D t past e ≡ 0
-      → VerticesLess 1 (countsOf D t past .vertices) (countsOf D t past .faces) (after contraction .vertices) (after contraction .faces)
-  one-vertex-less fine = let T = counts-operate S contraction e fine in record { vertices = T .a-vertex; faces = let f = T .a-face in omega arith }
+      → Takes contraction 1 (countsOf D t past .vertices) (countsOf D t past .faces) (after contraction .vertices) (after contraction .faces)
+  one-vertex-less = one-less contraction
 
   -- A REMOVAL TAKES ONE FACE AND NO VERTEX
   pub one-face-less : judge removal D t past e ≡ 0
-      → FacesLess 1 (countsOf D t past .vertices) (countsOf D t past .faces) (after removal .vertices) (after removal .faces)
-  one-face-less fine = let T = counts-operate S removal e fine in record { vertices = let v = T .a-vertex in omega arith; faces = T .a-face }
+      → Takes removal 1 (countsOf D t past .vertices) (countsOf D t past .faces) (after removal .vertices) (after removal .faces)
+  one-face-less = one-less removal
 
 -- ---- a kernel
 
-done-vertices : {D : ℕ} {t past u new : List ℕ} → Standing D t past → (es : List ℕ) → AllDone D t past (each contraction es) u new
-    → VerticesLess (length es) (countsOf D t past .vertices) (countsOf D t past .faces) (countsOf D u new .vertices) (countsOf D u new .faces)
-done-vertices S [] none = record { vertices = omega arith; faces = refl }
-done-vertices S (e ∷ es) (first fine rest) =
-    let one = one-vertex-less S e fine in
-    let more = done-vertices (operate-stands S contraction e fine) es rest in
-    record { vertices = let a = one .vertices in let b = more .vertices in omega arith; faces = one .faces ∙ more .faces }
+takes-on : (k : Kind) {n v f v′ f′ v″ f″ : ℕ} → Takes k 1 v f v′ f′ → Takes k n v′ f′ v″ f″ → Takes k (suc n) v f v″ f″
+takes-on contraction one more = record {
+  vertices = let a = one .vertices in let b = more .vertices in omega arith;
+  faces = let a = one .faces in let b = more .faces in omega arith;
+}
+takes-on removal one more = record {
+  vertices = let a = one .vertices in let b = more .vertices in omega arith;
+  faces = let a = one .faces in let b = more .faces in omega arith;
+}
 
-done-faces : {D : ℕ} {t past u new : List ℕ} → Standing D t past → (es : List ℕ) → AllDone D t past (each removal es) u new
-    → FacesLess (length es) (countsOf D t past .vertices) (countsOf D t past .faces) (countsOf D u new .vertices) (countsOf D u new .faces)
-done-faces S [] none = record { vertices = refl; faces = omega arith }
-done-faces S (e ∷ es) (first fine rest) =
-    let one = one-face-less S e fine in
-    let more = done-faces (operate-stands S removal e fine) es rest in
-    record { vertices = one .vertices ∙ more .vertices; faces = let a = one .faces in let b = more .faces in omega arith }
+takes-none : (k : Kind) (v f : ℕ) → Takes k 0 v f v f
+takes-none contraction v f = record { vertices = omega arith; faces = omega arith }
+takes-none removal v f = record { vertices = omega arith; faces = omega arith }
+
+done-less : {D : ℕ} {t past u new : List ℕ} → Standing D t past → (k : Kind) (es : List ℕ) → AllDone D t past (each k es) u new
+    → Takes k (length es) (countsOf D t past .vertices) (countsOf D t past .faces) (countsOf D u new .vertices) (countsOf D u new .faces)
+done-less S k [] none = takes-none k _ _
+done-less S k (e ∷ es) (first fine rest) = takes-on k (one-less S e k fine) (done-less (operate-stands S k e fine) k es rest)
 
 module _ {s : State} {t past : List ℕ} {z : State} {u new : List ℕ} (P : Pyramid s t past) where
-  kernel-done : (k : Kind) (es : List ℕ) → reduce k es s t past ≡ gives z u new → AllDone (s .darts) t past (each k es) u new
-  kernel-done k es e = run-iff k (s .darts) t past es .0 (reduce-raises s t past k es e .stood)
-
-  -- A KERNEL OF CONTRACTIONS TAKES ONE VERTEX FOR EACH OF ITS EDGES, AND NO FACE
-  pub vertices-less : (es : List ℕ) → reduce contraction es s t past ≡ gives z u new
-      → VerticesLess (length es) (storing s t past .vertices) (storing s t past .faces) (storing z u new .vertices) (storing z u new .faces)
+  -- A KERNEL OF CONTRACTIONS TAKES ONE VERTEX FOR EACH OF ITS EDGES AND NO FACE, A KERNEL OF REMOVALS ONE FACE FOR EACH AND NO VERTEX
+  pub kernel-less : (k : Kind) (es : List ℕ) → reduce k es s t past ≡ gives z u new
+      → Takes k (length es) (storing s t past .vertices) (storing s t past .faces) (storing z u new .vertices) (storing z u new .faces)
   unfolding storing
-  vertices-less es e = rw (reduce-leads contraction es .darts e) (done-vertices (pyramid-built P .standing) es (kernel-done contraction es e))
-
-  -- A KERNEL OF REMOVALS TAKES ONE FACE FOR EACH OF ITS EDGES, AND NO VERTEX
-  pub faces-less : (es : List ℕ) → reduce removal es s t past ≡ gives z u new
-      → FacesLess (length es) (storing s t past .vertices) (storing s t past .faces) (storing z u new .vertices) (storing z u new .faces)
-  unfolding storing
-  faces-less es e = rw (reduce-leads removal es .darts e) (done-faces (pyramid-built P .standing) es (kernel-done removal es e))
+  kernel-less k es e =
+      let all = run-iff k (s .darts) t past es .0 (reduce-raises s t past k es e .stood) in
+      rw (reduce-leads k es .darts e) (done-less (pyramid-built P .standing) k es all)
 
   pub sweep-less : sweep s t past ≡ gives z u new
-      → FacesLess (length (loops s t past)) (storing s t past .vertices) (storing s t past .faces) (storing z u new .vertices) (storing z u new .faces)
-  sweep-less e = faces-less (loops s t past) (sym (sweep-reduces s t past) ∙ e)
+      → Takes removal (length (loops s t past)) (storing s t past .vertices) (storing s t past .faces) (storing z u new .vertices) (storing z u new .faces)
+  sweep-less e = kernel-less removal (loops s t past) (sym (sweep-reduces s t past) ∙ e)
 
 -- ---- undo
 

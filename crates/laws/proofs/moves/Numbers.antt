@@ -1,7 +1,6 @@
 -- The stored numbers along the four steps.
 --   Balanced past new S Z == Z stores as many vertices as S once the contractions undone are added and those done taken away; and so of faces and removals
 --   storing-balanced == the numbers of the cycles of two pyramids over one base are so
---   numbers-moved    == and so they are along each of the four steps
 --   Exchanged undone done S Z == what Z stores and the operations done have taken is what S stores and the operations undone had taken
 --   moved-exchanged  == so it is with the parts of a history that holds both pasts
 --   moved-stores     == what `movedTo` gives along a history that holds both pasts are the numbers of the cycles
@@ -12,16 +11,15 @@ use native.Mathlib.Omega.{arith}
 use lib.ListN.{length, take, drop, length-append, length-reverse}
 use lib.Seq.{drop-at, take-add, take-at, take-take}
 use Rattle.slices.specs.Part.{part}
-use Rattle.darts.specs.State.{State, gives}
+use Rattle.darts.specs.State.{State}
 use Rattle.darts.specs.Pyramid.{Pyramid}
 use Rattle.darts.specs.Stored.{Stored, storing}
 use Rattle.darts.specs.Moves.{contractionsIn, movedTo}
 use Rattle.darts.specs.Calls.{pastOf}
 use Rattle.laws.proofs.runs.Pyramids.{pyramid-built}
-use Rattle.laws.proofs.chained.Steps.{Step}
 use Rattle.laws.proofs.moves.Contractions.{removalsIn, contractions-append, contractions-reverse, removals-append, removals-reverse}
 use Rattle.laws.proofs.moves.Kept.{Kept, kept-on, kept-back, pyramid-kept}
-use Rattle.laws.proofs.moves.Steps.{Grown, Moved, up, down, baseFrom, Follows, Following}
+use Rattle.laws.proofs.moves.Steps.{Grown, Moved, up, down, baseFrom, Follows}
 
 pub record Balanced (past new : List ℕ) (S Z : Stored) : Type 0 where
   pub vertices : Z .vertices + contractionsIn new ≡ S .vertices + contractionsIn past
@@ -41,14 +39,16 @@ module _ {s : State} {t past : List ℕ} {z : State} {u new : List ℕ} (P : Pyr
       let K = kept-along P F in
       rw (F .darts) (record { vertices = K .vertices; faces = K .faces })
 
--- THE FOUR STEPS MOVE THE STORED NUMBERS BY THE OPERATIONS DONE AND UNDONE
-pub numbers-moved : {f : Step} → Following f → {s : State} {t past : List ℕ} {z : State} {u new : List ℕ} → Pyramid s t past → f s t past ≡ gives z u new
-    → Balanced past new (storing s t past) (storing z u new)
-numbers-moved A P e = storing-balanced P (A .follows P e)
-
 pub record Exchanged (undone done : List ℕ) (S Z : Stored) : Type 0 where
   pub vertices : S .vertices + contractionsIn undone ≡ Z .vertices + contractionsIn done
   pub faces : S .faces + removalsIn undone ≡ Z .faces + removalsIn done
+
+-- both read the other way round
+balanced-back : {past new : List ℕ} {S Z : Stored} → Balanced past new S Z → Balanced new past Z S
+balanced-back B = record { vertices = sym (B .vertices); faces = sym (B .faces) }
+
+exchanged-back : {undone done : List ℕ} {S Z : Stored} → Exchanged undone done S Z → Exchanged done undone Z S
+exchanged-back E = record { vertices = sym (E .vertices); faces = sym (E .faces) }
 
 -- ---- along a history that holds both pasts
 
@@ -137,16 +137,6 @@ module _ {past new : List ℕ} (S Z : Stored) (h : List ℕ) (B : Balanced past 
         faces = rw (fresh-removals G h there) (let g = grown-removals G h there in let e = B .faces in omega arith);
       })
 
-  exchanged-down : take (length past) h ≡ reverse past → Grown new past
-      → Exchanged (part (Z .state .operations) (S .state .operations) h) (part (S .state .operations) (Z .state .operations) h) S Z
-  unfolding contractionsIn
-  exchanged-down there G =
-      rw (was, is, none-part G h there)
-      (record {
-        vertices = let f = fresh-contractions G h there in let g = grown-contractions G h there in let e = B .vertices in omega arith;
-        faces = rw (fresh-removals G h there) (let g = grown-removals G h there in let e = B .faces in omega arith);
-      })
-
 module _ {s : State} {t past : List ℕ} {z : State} {u new : List ℕ} (P : Pyramid s t past) (F : Follows s t past z u new) (h : List ℕ)
     (before : pastOf s h ≡ past) (behind : pastOf z h ≡ new) where
   was : s .operations ≡ length past
@@ -179,4 +169,4 @@ module _ {s : State} {t past : List ℕ} {z : State} {u new : List ℕ} (P : Pyr
       go : Moved past new
           → Exchanged (part (z .operations) (s .operations) h) (part (s .operations) (z .operations) h) (storing s t past) (storing z u new)
       go (up G) = exchanged-up (storing s t past) (storing z u new) h (storing-balanced P F) was is held-behind G
-      go (down G) = exchanged-down (storing s t past) (storing z u new) h (storing-balanced P F) was is held-before G
+      go (down G) = exchanged-back (exchanged-up (storing z u new) (storing s t past) h (balanced-back (storing-balanced P F)) is was held-before G)

@@ -1,16 +1,13 @@
 -- A pyramid with its numbers, along the four steps.
 --   Most S           == S stores at most D vertices and at most D faces
 --   storing-most, stored-most == so do the numbers of cycles, and every pyramid with its numbers
---   storing-pyramid  == a pyramid with the numbers of its cycles is one with its numbers
 --   stored-moved     == along a step the stored numbers, moved along a history that holds both pasts, are the numbers of the cycles
---   stored-follows   == what a step gives of it, with the numbers moved so, is a pyramid with its numbers
 --   stored-exchanged == what is taken and given back are the operations done and undone
 use mathlib.Core.List.{List}
-use mathlib.Core.Path.{_≡_, refl, sym, ap, _∙_, subst}
+use mathlib.Core.Path.{_≡_, sym, ap, _∙_, subst}
 use Prim.Native.Nat.{ℕ, _≤_}
 use Rattle.slices.specs.Part.{part}
 use Rattle.darts.specs.State.{State, gives}
-use Rattle.darts.specs.Pyramid.{Pyramid}
 use Rattle.darts.specs.Calls.{pastOf}
 use Rattle.darts.specs.Stored.{Stored, storing, StoredPyramid}
 use Rattle.darts.specs.Moves.{movedTo}
@@ -34,18 +31,11 @@ stored-most {S} {t} {past} P = subst Most (sym (P .numbers)) (storing-most (S .s
 
 -- ---- along a step
 
-pub storing-pyramid : {z : State} {u new : List ℕ} → Pyramid z u new → StoredPyramid (storing z u new) u new
-unfolding storing
-storing-pyramid P = record { pyramid = P; numbers = refl }
-
 module _ {f : Step} (A : Following f) {S : Stored} {t past : List ℕ} {z : State} {u new : List ℕ} (P : StoredPyramid S t past)
     (e : f (S .state) t past ≡ gives z u new) (h : List ℕ) (before : pastOf (S .state) h ≡ past) (behind : pastOf z h ≡ new) where
   -- THE STORED NUMBERS, MOVED ALONG THE HISTORY, ARE THE NUMBERS OF THE CYCLES
   pub stored-moved : movedTo S z h ≡ storing z u new
   stored-moved = ap (λ (S : Stored). movedTo S z h) (P .numbers) ∙ moved-stores (P .pyramid) (A .follows (P .pyramid) e) h before behind
-
-  pub stored-follows : StoredPyramid (movedTo S z h) u new
-  stored-follows = rw stored-moved (storing-pyramid (A .follows (P .pyramid) e .pyramid))
 
   pub stored-exchanged : Exchanged (part (z .operations) (S .state .operations) h) (part (S .state .operations) (z .operations) h) S (storing z u new)
   stored-exchanged =

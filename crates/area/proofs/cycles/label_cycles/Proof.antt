@@ -4,7 +4,7 @@
 --   Labelling D k w₀ w n i == so far, from w₀ to w
 --   roots-same           == the roots among the first darts, where their parents stay
 --   turn-gone            == a gone dart is alone on its cycle, and its own parent
---   turn-child           == a survivor that a lower dart has reached
+--   turn-child           == a dart that a lower one has reached
 --   turn-root            == a survivor that none has reached, and its cycle marked
 use mathlib.Core.List.{List}
 use mathlib.Core.Bool.{Bool, true, false, _&&_}
@@ -141,14 +141,14 @@ abbrev μ-loop : tie.MeasureT-loop
 loop-holds : tie.Need-loop-holds Inv-loop μ-loop
 loop-holds c = begin (c .before .pre .1 .0) (c .before .pre .1 .1)
 
+mul-at : tie.Need-mul-at Inv-loop μ-loop
+mul-at c = search needs
+
 add-at : tie.Need-add-at Inv-loop μ-loop
 add-at c = search needs
 
 at-requires : tie.Need-at-requires Inv-loop μ-loop
 at-requires c κs = search needs
-
-mul-at : tie.Need-mul-at Inv-loop μ-loop
-mul-at c = search needs
 
 add-at-2 : tie.Need-add-at-2 Inv-loop μ-loop
 add-at-2 c = search needs
@@ -158,10 +158,12 @@ at-requires-2 c κs = search needs
 
 label-cycle-requires : tie.Need-label-cycle-requires Inv-loop μ-loop
 label-cycle-requires c κs =
-    let s = c .before .before .before .before .before .before .before .before .before .before in
-    let l = c .before .before .before .before .before .before .before .before .loop .inv in (
+    let own = c .before .before .before .before in
+    let turn = own .before .before .before in
+    let l = turn .before .loop .inv in
+    let s = turn .before .before .before in (
       outside-room (l .outside) (s .pre .0),
-      (same-perm (s .pre .0) (s .pre .1 .0) l (c .before .before .before .before .before .before .before .loop-test .taken), (c .before .before .before .before .before .before .before .loop-test .taken, omega arith, sym (c .before .before .at2 .ensures) ∙ c .before .if2 .taken)),
+      (same-perm (s .pre .0) (s .pre .1 .0) l (turn .loop-test .taken), (turn .loop-test .taken, omega arith, sym (own .before .at .ensures) ∙ own .if1 .taken)),
     )
 
 add-n : tie.Need-add-n Inv-loop μ-loop
@@ -175,11 +177,11 @@ loop-less c = search needs
 
 loop-again : tie.Need-loop-again Inv-loop μ-loop
 loop-again c =
-    let at-loop-test = c .before .before .before .before .before .before .before .before .before .before in
-    let s = at-loop-test .before .before .before in
-    turn-root (s .pre .0) (s .pre .1 .0) (at-loop-test .before .loop .inv) (at-loop-test .loop-test .taken) (omega arith)
-    (sym (c .before .before .before .before .before .at2 .ensures) ∙ c .before .before .before .before .if2 .taken)
-    (c .before .before .label-cycle .ensures)
+    let own = c .before .before .before .before .before .before .before in
+    let turn = own .before .before .before in
+    let s = turn .before .before .before in
+    turn-root (s .pre .0) (s .pre .1 .0) (turn .before .loop .inv) (turn .loop-test .taken) (omega arith)
+    (sym (own .before .at .ensures) ∙ own .if1 .taken) (c .before .before .label-cycle .ensures)
 
 add-i-2 : tie.Need-add-i-2 Inv-loop μ-loop
 add-i-2 c = search needs
@@ -189,8 +191,9 @@ loop-less-2 c = search needs
 
 loop-again-2 : tie.Need-loop-again-2 Inv-loop μ-loop
 loop-again-2 c =
-    let s = c .before .before .before .before .before .before .before .before .before in
-    turn-child (s .pre .0) (s .pre .1 .0) (c .before .before .before .before .before .before .before .loop .inv) (c .before .before .before .before .before .before .loop-test .taken) (λ e. c .if2 .left (c .before .at2 .ensures ∙ e))
+    let turn = c .before .before .before .before .before .before in
+    let s = turn .before .before .before in
+    turn-gone (s .pre .0) (s .pre .1 .0) (turn .before .loop .inv) (turn .loop-test .taken) (omega arith)
 
 add-i-3 : tie.Need-add-i-3 Inv-loop μ-loop
 add-i-3 c = search needs
@@ -200,8 +203,9 @@ loop-less-3 c = search needs
 
 loop-again-3 : tie.Need-loop-again-3 Inv-loop μ-loop
 loop-again-3 c =
-    let s = c .before .before .before .before .before .before in
-    turn-gone (s .pre .0) (s .pre .1 .0) (c .before .before .before .before .loop .inv) (c .before .before .before .loop-test .taken) (omega arith)
+    let turn = c .before .before .before in
+    let s = turn .before .before .before in
+    turn-child (s .pre .0) (s .pre .1 .0) (turn .before .loop .inv) (turn .loop-test .taken) (λ e. c .if1 .left (c .before .at .ensures ∙ e))
 
 same-length : tie.Need-same-length Inv-loop μ-loop
 same-length c = search needs
@@ -216,9 +220,9 @@ label-cycles-spec =
     Inv-loop
     μ-loop
     loop-holds
+    mul-at
     add-at
     at-requires
-    mul-at
     add-at-2
     at-requires-2
     label-cycle-requires
