@@ -4,6 +4,7 @@ mod chain;
 mod examples;
 mod lookups;
 mod rows;
+mod stored;
 
 fn main() {
     examples::kernels();
@@ -11,7 +12,7 @@ fn main() {
     examples::refused_at_the_top();
     examples::two_darts();
     examples::both_culprits();
-    examples::right_numbers();
-    examples::wrong_numbers();
+    stored::right_numbers();
+    stored::wrong_numbers();
     lookups::lookups();
 }

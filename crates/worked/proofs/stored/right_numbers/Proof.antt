@@ -1,8 +1,8 @@
--- `worked::examples::right_numbers`: the numbers given back and kept, as computed.
+-- `worked::stored::right_numbers`: the numbers given back and kept, as computed.
 use Rattle.worked.proofs.Computed.{computed}
 use borrow.Author.Needs.{needs}
-use Rattle.worked.proofs.examples.right_numbers.Statement.{statement}
-use Rattle.worked.proofs.examples.right_numbers.Tie as tie
+use Rattle.worked.proofs.stored.right_numbers.Statement.{statement}
+use Rattle.worked.proofs.stored.right_numbers.Tie as tie
 
 example-requires : tie.Need-example-requires
 example-requires c κs = computed .16

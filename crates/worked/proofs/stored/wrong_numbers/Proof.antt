@@ -1,8 +1,8 @@
--- `worked::examples::wrong_numbers`: 4 where a number is wrong, as computed.
+-- `worked::stored::wrong_numbers`: 4 where a number is wrong, as computed.
 use Rattle.worked.proofs.Computed.{computed}
 use borrow.Author.Needs.{needs}
-use Rattle.worked.proofs.examples.wrong_numbers.Statement.{statement}
-use Rattle.worked.proofs.examples.wrong_numbers.Tie as tie
+use Rattle.worked.proofs.stored.wrong_numbers.Statement.{statement}
+use Rattle.worked.proofs.stored.wrong_numbers.Tie as tie
 
 example-requires : tie.Need-example-requires
 example-requires c κs = computed .18
