@@ -114,19 +114,19 @@ allRight [] = true
 allRight (r ∷ rs) = right r && allRight rs
 
 -- "Base T (D = 8): 5 2 1 4 6 0 3 7, a triangle with one pending edge."
-abbrev T : List ℕ
+abbrev pub T : List ℕ
 T = 5 ∷ 2 ∷ 1 ∷ 4 ∷ 6 ∷ 0 ∷ 3 ∷ 7 ∷ []
 
-abbrev K5 : List Step
+abbrev pub K5 : List Step
 K5 = byContracting (0 ∷ 1 ∷ []) ∷ []
 
-abbrev K7 : List Step
+abbrev pub K7 : List Step
 K7 = K5 ++ (byRemoving (2 ∷ []) ∷ [])
 
-abbrev K12 : String
+abbrev pub K12 : String
 K12 = "numbers=0\ndarts=8\nlevels=2\nkernel=contract 2\nkernel=remove 1\npair=4 2\npair=4 5\npair=5 6\npair=6 7\n"
 
-abbrev fromOne : String
+abbrev pub fromOne : String
 fromOne = "numbers=1\ndarts=8\nlevels=2\nkernel=contract 2\nkernel=remove 1\npair=5 3\npair=5 6\npair=6 7\npair=7 8\n"
 
 abbrev pub table : List Row

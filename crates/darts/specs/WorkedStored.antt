@@ -27,7 +27,7 @@ use Rattle.darts.specs.Read.{flagAt, opening, kernelOfKind, kernelAt, ke
 use Rattle.darts.specs.Calls.{Written, room, fitting, tableOf, pastOf, cleared, workAfter, judged, begins, start, handsBack, onState, reduceBy, sweepBy, undoBy, unfoldBy, counts, readInto, read, write}
 use Rattle.slices.specs.Over.{over}
 use Rattle.darts.specs.Stored.{Stored, AfterStored, storing, stores, leavesStored, numbered, judgedStored, onStored, startStored, reduceStored, sweepStored, undoStored, unfoldStored, countsStored, readStored, writeStored}
-use Rattle.darts.specs.Worked.{Step, byContracting, byRemoving, bySweep, byUndo, toLevel, answers, countsAre}
+use Rattle.darts.specs.Worked.{Step, byContracting, byRemoving, bySweep, byUndo, toLevel, answers, countsAre, T, K5, K7, K12, fromOne}
 
 pub data Row : Type 0 where
   -- start from a table, some steps: the last one's number, operations and levels, and the vertices and faces that the state handed back stores
@@ -129,22 +129,6 @@ allRight [] = true
 allRight (r ∷ rs) = right r && allRight rs
 
 -- ---- the rows
-
--- "Base T (D = 8): 5 2 1 4 6 0 3 7, a triangle with one pending edge."
-abbrev T : List ℕ
-T = 5 ∷ 2 ∷ 1 ∷ 4 ∷ 6 ∷ 0 ∷ 3 ∷ 7 ∷ []
-
-abbrev K5 : List Step
-K5 = byContracting (0 ∷ 1 ∷ []) ∷ []
-
-abbrev K7 : List Step
-K7 = K5 ++ (byRemoving (2 ∷ []) ∷ [])
-
-abbrev K12 : String
-K12 = "numbers=0\ndarts=8\nlevels=2\nkernel=contract 2\nkernel=remove 1\npair=4 2\npair=4 5\npair=5 6\npair=6 7\n"
-
-abbrev fromOne : String
-fromOne = "numbers=1\ndarts=8\nlevels=2\nkernel=contract 2\nkernel=remove 1\npair=5 3\npair=5 6\npair=6 7\npair=7 8\n"
 
 -- two loops that cross: one vertex and one face
 abbrev torus : List ℕ

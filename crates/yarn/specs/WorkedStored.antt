@@ -22,7 +22,7 @@ use Rattle.darts.specs.Pyramid.{dartCount, build, kernelOf, cut, kernelsOf, sam
 use Rattle.darts.specs.Counts.{neverBelow, lowest as lowestIn, cycles, surviving, countsOf}
 use Rattle.darts.specs.Calls.{room, fitting as fittingPlain, tableOf, pastOf, cleared, workAfter, begins, handsBack}
 use Rattle.darts.specs.Stored.{Stored, storing, stores, leavesStored, numbered}
-use Rattle.darts.specs.Worked.{Step, byContracting, byRemoving, bySweep, byUndo, toLevel, answers}
+use Rattle.darts.specs.Worked.{Step, byContracting, byRemoving, bySweep, byUndo, toLevel, answers, T, K5, K7}
 use Rattle.sheets.specs.Records.{sameInteger, sameMetres, sameYarn, sameZone}
 use Rattle.sheets.specs.Sheets.{Sheets, lowInto, highOf, merged, returned, mergedBy, returnedBy, lastInto, sound, keptSound, keptRight, sheetRight, right as rightSheets}
 use Rattle.yarn.specs.Places.{lowestFrom, lowest, isPlace, joins, zoned, mergeBy, mergesOf, merges}
@@ -41,9 +41,9 @@ pub data Row : Type 0 where
 
 -- ---- the calls
 
--- "Base T (D = 8): 5 2 1 4 6 0 3 7"; rubbish in history and work area
+-- T, with rubbish in history and work area
 abbrev started : ℕ → Sheets → CostedStored
-started D S = startStoredWith D (5 ∷ 2 ∷ 1 ∷ 4 ∷ 6 ∷ 0 ∷ 3 ∷ 7 ∷ []) (replicate 4 9) (replicate 32 9) S
+started D S = startStoredWith D T (replicate 4 9) (replicate 32 9) S
 
 abbrev stepped : Step → CostedStored → CostedStored
 stepped (byContracting es) c = reduceStoredWith contraction es (c .plain .state) (c .plain .table) (c .plain .history) (c .plain .work) (c .sheets)
@@ -106,12 +106,6 @@ allRight [] = true
 allRight (r ∷ rs) = right r && allRight rs
 
 -- ---- the rows
-
-abbrev K5 : List Step
-K5 = byContracting (0 ∷ 1 ∷ []) ∷ []
-
-abbrev K7 : List Step
-K7 = K5 ++ (byRemoving (2 ∷ []) ∷ [])
 
 abbrev pub storedTable : List Row
 storedTable =
