@@ -1,11 +1,11 @@
 -- Counts taken from the forest of the cycles: each cycle has one tree, whose root is its lowest dart.
 --   roots-cycles  == the roots are as many as the cycles: faces where k is 0, vertices where k is 1
 --   labelled-area == labelling keeps the map
---   cycles-few    == there are at most as many cycles as darts
+--   cycles-are    == the numbers of vertices and faces, of which there are at most as many as darts
 --   kind-counted  == so the cycles of one kind are counted at the base
 --   base-counted  == and both kinds are
 --   both-counted, both-counted-back == one after the other
-use mathlib.Core.Bool.{Bool, true, false, _&&_}
+use mathlib.Core.Bool.{Bool, _&&_}
 use mathlib.Core.List.{List, []}
 use mathlib.Core.Logic.{_≢_, _↔_, Iff·rfl, Iff·trans, Iff·symm}
 use mathlib.Core.Path.{_≡_, refl, ap, _∙_}
@@ -14,14 +14,15 @@ use native.Mathlib.Decide.{decLt}
 use native.Mathlib.Omega.{arith}
 use lib.Dec.{T, eqb}
 use lib.ListN.{getD}
-use Rattle.permutations.specs.Choice.{T-ext, eqb-iff, and-iff, pick}
+use Rattle.permutations.specs.Choice.{T-ext, eqb-iff, and-iff}
 use Rattle.permutations.specs.Cycle.{Meets}
 use Rattle.permutations.specs.Partner.{partner, partner-below}
 use Rattle.permutations.specs.Map.{next-live}
-use Rattle.darts.specs.Map.{successor, faceNext, survives, live}
+use Rattle.darts.specs.Map.{faceNext, survives, live}
 use Rattle.darts.specs.Operation.{kindOf}
 use Rattle.darts.specs.Counts.{lowest, cycles, countsOf}
 use Rattle.laws.proofs.bridge.Standing.{live-iff}
+use Rattle.laws.proofs.moves.Kept.{vertices-most, faces-most}
 use Rattle.forest.specs.Forest.{parent}
 use Rattle.forest.specs.Lowest.{Lowest}
 use Rattle.area.specs.Area.{there, tableIn, pastIn, forestIn, around}
@@ -102,21 +103,17 @@ module _ {D n k : ℕ} {w v : List ℕ} (A : Area D n w) (kind : k ≤ 1) (L : L
   roots-below (suc m) h = rw (root-lowest m (omega arith), roots-below m (omega arith))
 
   -- THE ROOTS ARE AS MANY AS THE CYCLES
-  roots-cycles : rootsIn D v D ≡ cycles next D past D
+  pub roots-cycles : rootsIn D v D ≡ cycles next D past D
   roots-cycles = roots-below D (omega arith)
 
   -- LABELLING KEEPS THE MAP
   pub labelled-area : Area D n v
   labelled-area = beside-area (L .outside) A
 
-cycles-few : (f : ℕ → ℕ) (D : ℕ) (past : List ℕ) (m : ℕ) → cycles f D past m ≤ m
-unfolding cycles
-cycles-few f D past zero = omega arith
-cycles-few f D past (suc m) = go (survives past m && lowest f D m) (cycles-few f D past m)
-  where
-    go : (b : Bool) → cycles f D past m ≤ m → pick b (suc (cycles f D past m)) (cycles f D past m) ≤ suc m
-    go true h = omega arith
-    go false h = omega arith
+-- THERE ARE AT MOST AS MANY CYCLES AS DARTS
+pub cycles-are : {D v f : ℕ} {t past : List ℕ} → v ≡ countsOf D t past .vertices → f ≡ countsOf D t past .faces → CyclesAre D t past v f
+cycles-are {D} {t = t} {past = past} i j =
+    record { vertices = i; faces = j; few-vertices = rw i (vertices-most D t past); few-faces = rw j (faces-most D t past) }
 
 -- ---- at the base
 
@@ -128,12 +125,7 @@ kind-counted {D} {k} {w} A kind L e = rw (past-none D w) at (e ∙ roots-cycles 
 -- VERTICES AND FACES ARE COUNTED
 pub base-counted : {D v f : ℕ} (t : List ℕ) → v ≡ cycles (around 1 t) D [] D → f ≡ cycles (around 0 t) D [] D → CyclesAre D t [] v f
 unfolding around faceNext countsOf
-base-counted {D} t i j = record {
-  vertices = i;
-  faces = j;
-  few-vertices = rw i (cycles-few (successor t) D [] D);
-  few-faces = rw j (cycles-few (faceNext t) D [] D);
-}
+base-counted t i j = cycles-are i j
 
 -- one kind after the other, of which the second finds the same base
 module _ {D x y : ℕ} (k : ℕ) {w v : List ℕ} (o : Outside D w v) (i : y ≡ cycles (around (1 - k) (tableIn D w)) D [] D)

@@ -3,12 +3,16 @@
 --   pyramid-passed == a pyramid passes every test
 --   pyramid-loads  == tests 1 to 5 among them
 --   pyramid-few    == a pyramid has at most D/2 operations
+--   count          == the past has as many operations as the state says
 --   shape-no       == no where the state does not fit the history
+--   history        == the history's numbers still stand, once operations are taken back
 --   back-no        == no where an operation does not fit
 --   all-taken      == all operations taken back: the work area holds the base, and the history's numbers still
+--   base           == its table is the present one, with everything undone
 --   decided        == both kinds are replayed on the base
 --   decided-takes  == the base has the numbers that the operations took away
 --   decided-are    == and what is left are those of the present level
+--   decided-coming == the kind that was replayed last is the coming one, where one is coming
 use mathlib.Core.Bool.{Bool, true, false, _&&_, false≢true}
 use mathlib.Core.List.{List, [], reverse, reverse-reverse}
 use mathlib.Core.Logic.{_↔_, Iff·trans}
@@ -107,6 +111,9 @@ module _ (s : State) {w : List ℕ} (A : Area (s .darts) (s .operations) w) wher
   abbrev hs : List ℕ
   hs = historyIn D n w
 
+  pub count : length past ≡ n
+  count = past-length D n w (omega (arith, A .few, A .room .fits))
+
   refuses : {w′ : List ℕ} → length w′ ≡ length w → drop (3 * D) w′ ≡ drop (3 * D) w → {coming : ℕ} → ¬ Pyramid s t past
       → Decided s coming w w′ false
   refuses size rest none = record {
@@ -132,6 +139,9 @@ module _ (s : State) {w : List ℕ} (A : Area (s .darts) (s .operations) w) wher
     v-rest : drop (3 * D) v ≡ drop (3 * D) w
     v-rest = rest-from D (3 * D) v w (B .rest) (omega arith)
 
+    pub history : historyIn D n v ≡ reverse past
+    history = ap (take (3 * D + n - 3 * D)) v-rest ∙ sym (reverse-reverse hs)
+
     pub back-no : b ≡ false → {coming : ℕ} → Decided s coming w v false
     back-no e = refuses (B .size) v-rest (λ P. rw (all-back fits-stand n w A, ← back, e) at (pyramid-passed P .back))
 
@@ -148,18 +158,15 @@ module _ (s : State) {w : List ℕ} (A : Area (s .darts) (s .operations) w) wher
         },
       )
 
+      pub base : tableIn D v ≡ baseOf s t past
+      base = B .table (true→T fine) ∙ ap (λ c. undone D c t past) (sym count)
+
       module _ {a : Bool} (told : a ≡ shaped s hs) (shape : a ≡ true) {coming : ℕ} {w′ : List ℕ} {r : Bool} (M : BothTried D n coming v w′ r) where
         abbrev Lv : ℕ → ℕ
         Lv = M .label 1
 
         abbrev Lf : ℕ → ℕ
         Lf = M .label 0
-
-        base : tableIn D v ≡ baseOf s t past
-        base = B .table (true→T fine) ∙ ap (λ c. undone D c t past) (sym (past-length D n w (omega (arith, A .few, A .room .fits))))
-
-        history : historyIn D n v ≡ reverse past
-        history = ap (take (3 * D + n - 3 * D)) v-rest ∙ sym (reverse-reverse hs)
 
         base-labels : (k : ℕ) → k ≤ 1 → Labels (live D []) (cyclesOf (kindOf k) (mapOf D (baseOf s t past) [])) (M .label k)
         base-labels k b = rw (past-none D v, base) at (M .right k b)
@@ -215,9 +222,6 @@ module _ (s : State) {w : List ℕ} (A : Area (s .darts) (s .operations) w) wher
 
         -- ---- the numbers of the present level
 
-        count : length past ≡ n
-        count = past-length D n w (omega (arith, A .few, A .room .fits))
-
         left-contractions : contractionsIn (historyIn D (length past) w′) ≡ contractionsIn past
         left-contractions =
             ap contractionsIn (rw count (ap (take (3 * D + n - 3 * D)) (M .outside .rest) ∙ history)) ∙ contractions-reverse past
@@ -239,3 +243,15 @@ module _ (s : State) {w : List ℕ} (A : Area (s .darts) (s .operations) w) wher
           decided-are {g} T =
               taken-are (passes .0 (true→T yes-decided)) (3 * D) w′ left-contractions left-fits base-cycles refl refl
               (subst (λ (c : ℕ). Taken (3 * D) c w′ f g) (sym count) T)
+
+-- ---- the coming kernel
+
+pub decided-coming : {s : State} {k coming : ℕ} {w w′ : List ℕ} {r : Bool} → (coming ≤ 1 → k ≡ coming) → Decided s k w w′ r → Decided s coming w w′ r
+decided-coming same δ = record {
+  answer = δ .answer;
+  size = δ .size;
+  rest = δ .rest;
+  falls = λ e b. δ .falls e (rw (same b) b);
+  roots = λ e b. rw (← (same b)) (δ .roots e (rw (same b) b));
+  kept = δ .kept;
+}

@@ -8,6 +8,7 @@ pub mod BothKinds
 pub mod ByRoots
 pub mod Checking
 pub mod CheckingLaid
+pub mod Contracted
 pub mod Counts
 pub mod Decides
 pub mod Edges

@@ -15,9 +15,10 @@ use Rattle.darts.specs.Operation.{undone}
 use Rattle.darts.specs.Pyramid.{Pyramid}
 use Rattle.darts.specs.State.{State}
 use Rattle.laws.proofs.moves.Contractions.{contractions-most}
-use Rattle.laws.proofs.moves.Kept.{vertices-kept, faces-kept, vertices-most, faces-most}
+use Rattle.laws.proofs.moves.Kept.{vertices-kept, faces-kept}
 use Rattle.engine.specs.Counted.{CyclesAre, FindsCycles, Takes, Taken}
 use Rattle.engine.specs.declared.Found.{Found}
+use Rattle.engine.proofs.Counts.{cycles-are}
 
 pub none-found : {D : ℕ} {t past : List ℕ} {r : Found} → r .pyramid ≡ false → FindsCycles D t past r
 none-found e y = absurd (false≢true (sym e ∙ y))
@@ -47,4 +48,4 @@ module _ {s : State} {t past : List ℕ} (P : Pyramid s t past) (a : ℕ) (u : L
       let y : r .faces ≡ f - (length past - contractionsIn past) = rw (j, same) at (T .faces) in
       let e : r .vertices ≡ countsOf D t past .vertices = omega (arith, vertices, x) in
       let g : r .faces ≡ countsOf D t past .faces = omega (arith, faces, y) in
-      record { vertices = e; faces = g; few-vertices = rw e (vertices-most D t past); few-faces = rw g (faces-most D t past) }
+      cycles-are e g

@@ -1,12 +1,13 @@
 -- The operations of one kind replayed on the base, and then those of the other.
 --   walk-rooted      == the lowest dart of each cycle: labels of the base that are always right
---   outside-history  == and the history,
+--   outside-back     == where only the forest differs, it is so the other way round
+--   outside-history  == and the history is the same,
 --   outside-numbered == whose numbers are still of darts
+--   kind-passed      == a kind of which there are none, and none are coming
 --   kind-replayed    == a kind with a tree for each cycle of the base, and its operations joined
 --   kind-grown       == its forest is there, whatever is coming
 --   both-no          == the first kind is refused
 --   both-yes         == the first kind passes, and the second answers
---   both-coming      == the kind that was replayed last is the coming one, where one is coming
 use mathlib.Core.Bool.{Bool, true, false, false≢true}
 use mathlib.Core.List.{List}
 use mathlib.Core.Logic.{_≢_, _↔_, by-cases}
@@ -21,10 +22,11 @@ use Rattle.darts.specs.Operation.{kindOf}
 use Rattle.laws.proofs.bridge.Walks.{lowestMet, lowest-labels}
 use Rattle.area.specs.Cycles.{Labelled}
 use Rattle.area.specs.Replay.{rejoined, replayed, Numbered, Replayed}
-use Rattle.area.specs.Shape.{historyIn}
+use Rattle.area.specs.Shape.{hasKind, historyIn}
 use Rattle.area.specs.Trees.{Outside, rooted}
 use Rattle.area.proofs.Labels.{labelled-same}
-use Rattle.area.proofs.Outside.{outside-trans, outside-rest}
+use Rattle.area.proofs.Outside.{outside-refl, outside-trans, outside-rest}
+use Rattle.area.proofs.Replay.{none-replayed}
 use Rattle.laws.specs.Standing.{cyclesOf}
 use Rattle.engine.specs.Held.{Area, mapIn, Rooted}
 use Rattle.engine.specs.Checks.{Grown, KindTried, BothTried}
@@ -37,16 +39,25 @@ use Rattle.engine.proofs.ByRoots.{rooted-start}
 walk-rooted : {D : ℕ} {w : List ℕ} → Area D 0 w → (k : ℕ) → Rooted D 0 k w (lowestMet (cyclesOf (kindOf k) (mapIn D 0 w)) D)
 walk-rooted A k = lowest-labels (ring-good (A .stands .good) (kindOf k) .perm) _
 
-outside-back : {D : ℕ} {w v : List ℕ} → Outside D w v → Outside D v w
+pub outside-back : {D : ℕ} {w v : List ℕ} → Outside D w v → Outside D v w
 outside-back o = record { size = sym (o .size); front = sym (o .front); rest = sym (o .rest) }
 
-outside-history : {D : ℕ} {w v : List ℕ} (n : ℕ) → Outside D w v → historyIn D n v ≡ historyIn D n w
+pub outside-history : {D : ℕ} {w v : List ℕ} (n : ℕ) → Outside D w v → historyIn D n v ≡ historyIn D n w
 outside-history {D} n o = ap (take (3 * D + n - 3 * D)) (o .rest)
 
 pub outside-numbered : {D n : ℕ} {w v : List ℕ} → Outside D w v → Numbered D n w → Numbered D n v
 outside-numbered o N = record { fits = N .fits; each = λ i h. rw (outside-rest o i) (N .each i h) }
 
 module _ {D n k : ℕ} {w : List ℕ} (A : Area D 0 w) where
+  pub kind-passed : {coming : ℕ} → k ≢ coming → hasKind k (historyIn D n w) ≡ false → KindTried D n k coming w w true
+  kind-passed other none = record {
+    outside = outside-refl D w;
+    label = lowestMet (cyclesOf (kindOf k) (mapIn D 0 w)) D;
+    right = walk-rooted A k;
+    answer = sym (none-replayed k _ (historyIn D n w) none);
+    grown = λ _ e. absurd (other e);
+  }
+
   pub kind-replayed : k ≤ 1 → {v w′ : List ℕ} {r : Bool} → Labelled D k w v → Replayed D n k v w′ r → KindTried D n k k w w′ r
   kind-replayed l {v} L R = record {
     outside = outside-trans (L .outside) (R .outside);
@@ -114,12 +125,3 @@ module _ {D n k coming : ℕ} {w v : List ℕ} {q : Bool} (l : k ≤ 1) (last : 
       both (beside-rooted (outside-back (K .outside)) 0 k (M .right)) r (outside-trans (K .outside) (M .outside))
       (λ x. (true→T e, rw (M .answer, same) at x), λ x. rw (M .answer, same) (x .1))
       (λ t c. let G = M .grown t c in record { falls = G .falls; roots = G .roots ∙ ap (rejoined k (M .label)) same })
-
-pub both-coming : {D n k coming : ℕ} {w w′ : List ℕ} {r : Bool} → (coming ≤ 1 → k ≡ coming) → BothTried D n k w w′ r → BothTried D n coming w w′ r
-both-coming same M = record {
-  outside = M .outside;
-  label = M .label;
-  right = M .right;
-  answer = M .answer;
-  grown = λ e b. let s = same b in rw (← s) (M .grown e (omega (arith, b, s)));
-}

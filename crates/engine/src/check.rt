@@ -1,5 +1,6 @@
 // Is it a pyramid? Decided in the work area, in almost linear time. The kind that the coming kernel needs comes last, so that its forest then judges the kernel's
-// edges. The base's vertices and faces are counted while they are labelled, and each operation has taken one of them away.
+// edges. The base's vertices and faces are counted while they are labelled, and each operation has taken one of them away. Where all operations are contractions and
+// no removals are coming, the faces are counted at the present level.
 use crate::Found;
 use crate::Tried;
 use area::Figures;
@@ -10,16 +11,18 @@ use area::load::load;
 use area::load::relink;
 use area::shape::contractions;
 use area::shape::shape;
-ghost use mathlib.Core.Bool.{false};
+ghost use mathlib.Core.Bool.{true, false};
 ghost use mathlib.Core.List.{[]};
 ghost use mathlib.Core.Path.{_≡_};
 ghost use Prim.Native.Nat.{_/_, _≤_};
 ghost use lib.ListN.{length};
 ghost use Rattle.darts.specs.Calls.{tableOf, pastOf};
 ghost use Rattle.darts.specs.Counts.{cycles};
+ghost use Rattle.darts.specs.Moves.{contractionsIn};
+ghost use Rattle.darts.specs.Tests.{shaped};
 ghost use Rattle.area.specs.Area.{Room, tableIn, pastIn, around};
 ghost use Rattle.area.specs.Replay.{Numbered};
-ghost use Rattle.area.specs.Shape.{stateWith};
+ghost use Rattle.area.specs.Shape.{stateWith, historyIn};
 ghost use Rattle.engine.specs.Held.{Area};
 ghost use Rattle.engine.specs.Checks.{KindTried, BothTried, Decided, Checked, CheckedLaid};
 ghost use Rattle.engine.specs.Counted.{FindsCycles, Takes, Taken};
@@ -102,6 +105,47 @@ pub fn present(numbers: &[u32], from: usize, n: usize, base: Found) -> Found
     }
 }
 
+// Whether contractions are all that was done, and no kernel of removals is coming: then no face has gone, and none has to be judged.
+fn only_contractions(work: &[u32], d: usize, n: usize, coming: usize) -> bool
+    requires { ⌜ Room d (now work) ⌝ }
+    requires { ⌜ n ≤ d ⌝ }
+    ensures { λ r. ⌜ (r ≡ true → (coming ≤ 1 → 1 ≡ coming) × (contractionsIn (historyIn d n (now (work .entry))) ≡ n)) ⌝ }
+{
+    if coming == 0 {
+        return false;
+    }
+    let from = 3 * d;
+    contractions(work, from, from + n) == n
+}
+
+// The decision for a history of contractions alone, of a shape that fits the state. The faces of the present level are the base's, and have fewer darts: they are
+// counted before anything is taken back.
+fn decide_contracted(work: &mut [u32], state: Figures) -> Found
+    requires { ⌜ Area (state .darts) (state .operations) (now work) ⌝ }
+    requires { ⌜ shaped (stateWith state) (historyIn (state .darts) (state .operations) (now work)) ≡ true ⌝ }
+    requires { ⌜ contractionsIn (historyIn (state .darts) (state .operations) (now work)) ≡ state .operations ⌝ }
+    ensures { λ r. ⌜ Decided (stateWith state) 1 (now (work .entry)) (now (work .exit)) (r .pyramid) ⌝ }
+    ensures { λ r. ⌜
+        FindsCycles (state .darts) (tableIn (state .darts) (now (work .entry))) (pastIn (state .darts) (state .operations) (now (work .entry))) r ⌝ }
+{
+    let d = state.darts;
+    let n = state.operations;
+    let faces = label(work, d, 0);
+    if !take_back_last(work, d, n, n) {
+        return nothing();
+    }
+    let base = try_kind(work, d, n, 1);
+    if base.fine {
+        let vertices = base.cycles - n;
+        return Found {
+            pyramid: true,
+            vertices: vertices,
+            faces: faces,
+        };
+    }
+    nothing()
+}
+
 // Whether the map in the work area, its history and the state are a pyramid: the shape, then tests 6 to 15 down to the base, then 16 and 17.
 fn decide(work: &mut [u32], state: Figures, coming: usize) -> Found
     requires { ⌜ Area (state .darts) (state .operations) (now work) ⌝ }
@@ -113,6 +157,9 @@ fn decide(work: &mut [u32], state: Figures, coming: usize) -> Found
     let n = state.operations;
     if !shape(work, state) {
         return nothing();
+    }
+    if only_contractions(work, d, n, coming) {
+        return decide_contracted(work, state);
     }
     if !take_back_last(work, d, n, n) {
         return nothing();
