@@ -72,12 +72,22 @@ bool area_shape(const uint32_t *history, const struct state *state) {
     return from == state->operations;
 }
 
+/* Contractions alone: no face has gone, so that the faces are counted at the present level, which has fewer darts, before anything is taken back. */
+static bool decide_contracted(struct area area, uint32_t operations, uint32_t numbers[2]) {
+    numbers[REMOVE] = area_label(area, REMOVE);
+    if (!area_take_back(area, operations, operations) || !replay(area, operations, CONTRACT, &numbers[CONTRACT])) return false;
+    numbers[CONTRACT] -= operations;
+    return true;
+}
+
 /* Both forests are built, the coming kernel's last. By kind, the numbers of the present level: the base's faces and vertices, of which each removal and
  * each contraction took one away. */
 static bool decide(struct area area, const struct state *state, enum kind coming, uint32_t numbers[2]) {
     uint32_t n = state->operations, contracted = contractions(area, n);
     enum kind last = coming == REMOVE ? REMOVE : CONTRACT, first = 1 - last;
-    if (!area_shape(area.history, state) || !area_take_back(area, n, n)) return false;
+    if (!area_shape(area.history, state)) return false;
+    if (contracted == n && coming != REMOVE) return decide_contracted(area, n, numbers);
+    if (!area_take_back(area, n, n)) return false;
     if (!replay(area, n, first, &numbers[first]) || !replay(area, n, last, &numbers[last])) return false;
     numbers[REMOVE] -= n - contracted;
     numbers[CONTRACT] -= contracted;
