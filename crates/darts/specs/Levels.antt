@@ -1,20 +1,21 @@
 -- Levels: the sweep, undo of one level, unfold (document 01, "Levels and calls").
---   emptyLoop t e       == r = q or s = p
---   takes t past e      == the sweep takes edge e
---   swept D t past      == the sweep's run
---   sweep s t past      == one level more, by the sweep
---   undoLevel s t past  == the last level undone
---   unfoldTo k s t past == back to level k
+--   emptyLoop t e         == r = q or s = p
+--   takes t past e        == the sweep takes edge e
+--   sweptFrom D t past es == the sweep's pass over the edges es
+--   swept D t past        == the whole pass
+--   sweep s t past        == one level more, by the sweep
+--   undoLevel s t past    == the last level undone
+--   unfoldTo k s t past   == back to level k
 use mathlib.Core.Bool.{Bool, _||_, _&&_, not}
-use mathlib.Core.List.{List}
+use mathlib.Core.List.{List, [], _∷_}
 use Prim.Native.Nat.{ℕ, zero, suc, _+_, _-_, _*_, _/_}
 use lib.Dec.{eqb, leb, ltb}
 use lib.ListN.{getD, set, drop}
 use Rattle.darts.specs.Choose.{if_then_else_}
 use Rattle.darts.specs.Answers.{tooManyLevels, noLevel}
 use Rattle.darts.specs.Map.{successor, survives}
-use Rattle.darts.specs.Operation.{removal, wholeEdge, undone}
-use Rattle.darts.specs.Kernel.{each, rising, Run, pass}
+use Rattle.darts.specs.Operation.{removal, lead, wholeEdge, operate, number, undone}
+use Rattle.darts.specs.Kernel.{rising, Run, stands}
 use Rattle.darts.specs.State.{State, Result, gives, refuses, andThen, levelled}
 
 -- "an empty loop (r = q or s = p)"
@@ -25,9 +26,15 @@ emptyLoop t e = eqb (successor t (2 * e)) (2 * e + 1) || eqb (successor t (2 * e
 unfoldable pub takes : List ℕ → List ℕ → ℕ → Bool
 takes t past e = survives past (2 * e) && (emptyLoop t e && not (wholeEdge t e))
 
--- "one pass over the edges by rising number". "It answers 10 if such an edge has one face on both sides.": it is judged as a removal
+-- each edge that it takes is removed, and none is judged: an empty loop has two different faces (document 02, Seven)
+unfoldable pub sweptFrom : ℕ → List ℕ → List ℕ → List ℕ → Run
+sweptFrom D t past [] = stands t past
+sweptFrom D t past (e ∷ es) =
+    if takes t past e then sweptFrom D (operate removal D t past e) (number removal (lead removal t e) ∷ past) es else sweptFrom D t past es
+
+-- "one pass over the edges by rising number"
 unfoldable pub swept : ℕ → List ℕ → List ℕ → Run
-swept D t past = pass takes D t past (each removal (rising 0 (D / 2)))
+swept D t past = sweptFrom D t past (rising 0 (D / 2))
 
 -- "The sweep is a removal kernel". "A sweep that takes no edge is an empty kernel (answer 5)."
 unfoldable pub sweep : State → List ℕ → List ℕ → Result

@@ -7,7 +7,7 @@
 use mathlib.Core.Bool.{Bool, true, false, _&&_, Bool·beq}
 use mathlib.Core.List.{List, [], _∷_, _++_}
 use mathlib.Core.Path.{_≡_, refl}
-use Prim.Native.Nat.{ℕ, _/_, _*_}
+use Prim.Native.Nat.{ℕ, _+_, _/_, _*_}
 use Prim.Native.String.{String}
 use lib.Dec.{eqb}
 use lib.IntN.{ℤ, pos, negsuc}
@@ -19,7 +19,7 @@ use Rattle.darts.specs.Map.{successor, faceNext, sameVertex, sameFace, s
 use Rattle.darts.specs.Operation.{contraction, removal, turned, lead, wholeEdge, remove, contract, operate, number, kindOf, leadOf, edgeOf, putBack, undoOne, undone}
 use Rattle.darts.specs.Kernel.{shared, judge, rising, passFrom, pass, run}
 use Rattle.darts.specs.State.{raised, levelled, reduce}
-use Rattle.darts.specs.Levels.{emptyLoop, takes, swept, sweep, endBelow, lowered, undoLevel, undoLevels, unfoldTo}
+use Rattle.darts.specs.Levels.{emptyLoop, takes, sweptFrom, swept, sweep, endBelow, lowered, undoLevel, undoLevels, unfoldTo}
 use Rattle.darts.specs.Pyramid.{dartCount, build, kernelOf, cut, kernelsOf, sameNumbers, sameState, isExactly, isPyramid}
 use Rattle.darts.specs.Counts.{neverBelow, lowest, cycles, surviving, countsOf}
 use Rattle.darts.specs.Text.{bytes, digits, decimal}
@@ -49,6 +49,8 @@ pub data Row : Type 0 where
   answersFile : String → ℕ → ℕ → Row
   -- two darts of a base, and whether they are in one piece
   pieces : List ℕ → ℕ → ℕ → Bool → Row
+  -- an edge of a table: whether it is an empty loop, and whether it has one face on both sides
+  sides : List ℕ → ℕ → Bool → Bool → Row
 
 -- slices of the lengths that D darts want, rubbish in the work area
 abbrev started : List ℕ → After
@@ -108,6 +110,7 @@ right (writes t ss f) = isWritten f (steps ss (started t))
 right (reads f k d v e x) = countsAre 0 d v e x (counting (stepped (toLevel k) (reading f)))
 right (answersFile f n p) = answers n p (reading f .answer)
 right (pieces t x y b) = Bool·beq (samePiece (length t) t x y) b
+right (sides t e l f) = Bool·beq (emptyLoop t e) l && Bool·beq (sameFace (length t) t (2 * e) (2 * e + 1)) f
 
 abbrev allRight : List Row → Bool
 allRight [] = true
@@ -176,6 +179,18 @@ table =
     ∷ leads (2 ∷ 0 ∷ 1 ∷ 3 ∷ []) (bySweep ∷ []) 0 0 (2 ∷ 0 ∷ 2 ∷ 3 ∷ []) (2 ∷ [])
     ∷ leads T (K5 ++ (bySweep ∷ [])) 0 0 (5 ∷ 2 ∷ 5 ∷ 4 ∷ 6 ∷ 4 ∷ 6 ∷ 7 ∷ []) (1 ∷ 5 ∷ 10 ∷ [])
     ∷ leads (1 ∷ 0 ∷ []) (bySweep ∷ []) 5 0 (1 ∷ 0 ∷ []) []
+    -- "one pass over the edges by rising number", "at its turn": the last edge too; of two loops, one round the other, the outer one only after the inner
+    ∷ leads (0 ∷ 2 ∷ 3 ∷ 1 ∷ []) (bySweep ∷ []) 0 0 (0 ∷ 1 ∷ 3 ∷ 1 ∷ []) (4 ∷ [])
+    ∷ leads (2 ∷ 4 ∷ 3 ∷ 1 ∷ 0 ∷ 5 ∷ []) (bySweep ∷ []) 0 0 (1 ∷ 4 ∷ 3 ∷ 1 ∷ 0 ∷ 5 ∷ []) (4 ∷ [])
+    ∷ leads (1 ∷ 3 ∷ 0 ∷ 4 ∷ 2 ∷ 5 ∷ []) (bySweep ∷ []) 0 0 (1 ∷ 3 ∷ 3 ∷ 4 ∷ 4 ∷ 5 ∷ []) (0 ∷ 4 ∷ [])
+    -- Seven: "an empty loop always has two different faces", from either side, and as a whole piece; a pending edge has one, and so have two loops that cross;
+    -- a table that is no permutation is no map, and there it need not be so
+    ∷ sides (1 ∷ 2 ∷ 0 ∷ 3 ∷ []) 0 true false
+    ∷ sides (2 ∷ 0 ∷ 1 ∷ 3 ∷ []) 0 true false
+    ∷ sides (1 ∷ 0 ∷ []) 0 true false
+    ∷ sides T 3 false true
+    ∷ sides (2 ∷ 3 ∷ 1 ∷ 0 ∷ []) 0 false true
+    ∷ sides (1 ∷ 2 ∷ 0 ∷ 1 ∷ []) 0 true true
     -- "Testing for a pending edge from one side only": the even dart of edge 0 is alone at its vertex
     ∷ leads (0 ∷ 2 ∷ 1 ∷ 3 ∷ []) (byContracting (0 ∷ []) ∷ []) 0 0 (0 ∷ 2 ∷ 2 ∷ 3 ∷ []) (3 ∷ [])
     -- "two parallel edges can each be contracted, not both": judged at its turn, and nothing is left of the kernel
@@ -209,5 +224,5 @@ table =
     ∷ []
 
 pub worked : allRight table ≡ true
-unfolding partner meetsIn successor faceNext sameVertex sameFace samePiece gone survives beforeIn before repeats culprit testFrom permutationTest turned lead wholeEdge remove contract operate number kindOf leadOf edgeOf putBack undoOne undone shared judge passFrom pass run raised levelled reduce emptyLoop takes rising swept sweep endBelow lowered undoLevel undoLevels unfoldTo dartCount build kernelOf cut kernelsOf sameNumbers sameState isExactly isPyramid neverBelow lowest cycles surviving countsOf digits decimal taken survivors fileOrder placeIn fileNumber fileTable kindWord kernelLine kernelLines pairLines fileOf byteAt word isDigit numberOn numberAt field flagAt opening kernelOfKind kernelAt kernelsAt pairsAt endAt body fromFlag endsFrom total fileState numbersFrom historyFrom fileHistory closed opened readFile room fitting tableOf pastOf over cleared workAfter judged begins start handsBack onState reduceBy sweepBy undoBy unfoldBy counts readInto read write
+unfolding partner meetsIn successor faceNext sameVertex sameFace samePiece gone survives beforeIn before repeats culprit testFrom permutationTest turned lead wholeEdge remove contract operate number kindOf leadOf edgeOf putBack undoOne undone shared judge passFrom pass run raised levelled reduce emptyLoop takes rising sweptFrom swept sweep endBelow lowered undoLevel undoLevels unfoldTo dartCount build kernelOf cut kernelsOf sameNumbers sameState isExactly isPyramid neverBelow lowest cycles surviving countsOf digits decimal taken survivors fileOrder placeIn fileNumber fileTable kindWord kernelLine kernelLines pairLines fileOf byteAt word isDigit numberOn numberAt field flagAt opening kernelOfKind kernelAt kernelsAt pairsAt endAt body fromFlag endsFrom total fileState numbersFrom historyFrom fileHistory closed opened readFile room fitting tableOf pastOf over cleared workAfter judged begins start handsBack onState reduceBy sweepBy undoBy unfoldBy counts readInto read write
 worked = refl

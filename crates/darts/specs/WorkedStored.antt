@@ -17,7 +17,7 @@ use Rattle.darts.specs.Map.{successor, faceNext, sameVertex, sameFace, g
 use Rattle.darts.specs.Operation.{contraction, removal, turned, lead, wholeEdge, remove, contract, operate, number, kindOf, leadOf, edgeOf, putBack, undoOne, undone}
 use Rattle.darts.specs.Kernel.{shared, judge, rising, passFrom, pass, run}
 use Rattle.darts.specs.State.{State, baseState, raised, levelled, reduce}
-use Rattle.darts.specs.Levels.{emptyLoop, takes, swept, sweep, endBelow, lowered, undoLevel, undoLevels, unfoldTo}
+use Rattle.darts.specs.Levels.{emptyLoop, takes, sweptFrom, swept, sweep, endBelow, lowered, undoLevel, undoLevels, unfoldTo}
 use Rattle.darts.specs.Pyramid.{dartCount, build, kernelOf, cut, kernelsOf, sameNumbers, sameState, isExactly, isPyramid}
 use Rattle.darts.specs.Counts.{neverBelow, lowest, cycles, surviving, countsOf}
 use Rattle.darts.specs.Text.{bytes, digits, decimal}
@@ -214,5 +214,5 @@ storedTable =
     ∷ []
 
 pub stored-worked : allRight storedTable ≡ true
-unfolding partner meetsIn successor faceNext sameVertex sameFace gone survives beforeIn before repeats culprit testFrom permutationTest turned lead wholeEdge remove contract operate number kindOf leadOf edgeOf putBack undoOne undone shared judge passFrom pass run raised levelled reduce emptyLoop takes rising swept sweep endBelow lowered undoLevel undoLevels unfoldTo dartCount build kernelOf cut kernelsOf sameNumbers sameState isExactly isPyramid neverBelow lowest cycles surviving countsOf digits decimal taken survivors fileOrder placeIn fileNumber fileTable kindWord kernelLine kernelLines pairLines fileOf byteAt word isDigit numberOn numberAt field flagAt opening kernelOfKind kernelAt kernelsAt pairsAt endAt body fromFlag endsFrom total fileState numbersFrom historyFrom fileHistory closed opened readFile room fitting tableOf pastOf over cleared workAfter judged begins start handsBack onState reduceBy sweepBy undoBy unfoldBy counts readInto read write storing stores numbered judgedStored onStored startStored reduceStored sweepStored undoStored unfoldStored countsStored readStored writeStored
+unfolding partner meetsIn successor faceNext sameVertex sameFace gone survives beforeIn before repeats culprit testFrom permutationTest turned lead wholeEdge remove contract operate number kindOf leadOf edgeOf putBack undoOne undone shared judge passFrom pass run raised levelled reduce emptyLoop takes rising sweptFrom swept sweep endBelow lowered undoLevel undoLevels unfoldTo dartCount build kernelOf cut kernelsOf sameNumbers sameState isExactly isPyramid neverBelow lowest cycles surviving countsOf digits decimal taken survivors fileOrder placeIn fileNumber fileTable kindWord kernelLine kernelLines pairLines fileOf byteAt word isDigit numberOn numberAt field flagAt opening kernelOfKind kernelAt kernelsAt pairsAt endAt body fromFlag endsFrom total fileState numbersFrom historyFrom fileHistory closed opened readFile room fitting tableOf pastOf over cleared workAfter judged begins start handsBack onState reduceBy sweepBy undoBy unfoldBy counts readInto read write storing stores numbered judgedStored onStored startStored reduceStored sweepStored undoStored unfoldStored countsStored readStored writeStored
 stored-worked = refl

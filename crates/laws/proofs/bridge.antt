@@ -9,6 +9,7 @@ pub mod AnyKind
 pub mod Relink
 pub mod Lead
 pub mod Operate
+pub mod EmptyLoop
 pub mod Pieces
 pub mod Turns
 pub mod Definitions

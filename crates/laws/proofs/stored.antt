@@ -6,3 +6,4 @@ pub mod Wrong
 pub mod Refused
 pub mod Undo
 pub mod Outcome
+pub mod Sweep

@@ -14,15 +14,15 @@ use native.Mathlib.Omega.{arith}
 use lib.Dec.{leb, leb→le, le→leb}
 use lib.ListN.{length, take, drop, length-append, length-reverse, take-append-drop}
 use Rattle.permutations.specs.Choice.{T→true, nT→false, eqb-other}
-use Rattle.darts.specs.Operation.{Kind, removal}
-use Rattle.darts.specs.Kernel.{each}
+use Rattle.darts.specs.Operation.{Kind}
+use Rattle.darts.specs.Kernel.{Operation}
 use Rattle.darts.specs.State.{State, gives, reduce}
 use Rattle.darts.specs.Levels.{sweep, endBelow, undoLevel, undoLevels}
 use Rattle.laws.proofs.Lists.{reverse-onto}
-use Rattle.laws.proofs.runs.Operations.{run-iff, done-told}
-use Rattle.laws.proofs.runs.Reduces.{reduce-raises}
+use Rattle.laws.proofs.runs.Operations.{Told}
+use Rattle.laws.proofs.runs.Reduces.{reduce-tells}
 use Rattle.laws.proofs.runs.Results.{refuses≢gives, then, same-result}
-use Rattle.laws.proofs.runs.Sweeps.{loops, sweep-reduces}
+use Rattle.laws.proofs.runs.Sweeps.{sweep-told}
 use Rattle.laws.proofs.chained.Steps.{unfold-undoes}
 use Rattle.laws.proofs.chained.OnLent.{Call, byKernel, bySweep, byUndo, toLevel, stepOf}
 use Rattle.sheets.specs.Sheets.{Sheets, Merge, mergedBy, returnedBy}
@@ -89,14 +89,16 @@ module _ {past new : List ℕ} (G : Grown past new) where
 
 -- ---- the four steps
 
+-- operations that the history tells
+told-grown : {past : List ℕ} {os : List Operation} {new : List ℕ} → Told past os new → Grown past new
+told-grown {past} T = record { more = T .numbers; grown = ap reverse (T .history) ∙ reverse-onto (T .numbers) past }
+
 module _ (s : State) (t past : List ℕ) {z : State} {u new : List ℕ} where
   pub reduce-grown : (k : Kind) (es : List ℕ) → reduce k es s t past ≡ gives z u new → Grown past new
-  reduce-grown k es e =
-      let T = done-told (each k es) (run-iff k (s .darts) t past es .0 (reduce-raises s t past k es e .stood)) in
-      record { more = T .numbers; grown = ap reverse (T .history) ∙ reverse-onto (T .numbers) past }
+  reduce-grown k es e = told-grown (reduce-tells s t past k es e)
 
   pub sweep-grown : sweep s t past ≡ gives z u new → Grown past new
-  sweep-grown e = reduce-grown removal (loops s t past) (sym (sweep-reduces s t past) ∙ e)
+  sweep-grown e = told-grown (sweep-told s t past e)
 
   pub undo-grown : undoLevel s t past ≡ gives z u new → Grown new past
   unfolding undoLevel

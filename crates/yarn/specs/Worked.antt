@@ -19,7 +19,7 @@ use Rattle.darts.specs.Map.{successor, faceNext, sameVertex, sameFace, gone, su
 use Rattle.darts.specs.Operation.{turned, lead, wholeEdge, remove, contract, operate, number, kindOf, leadOf, edgeOf, putBack, undoOne, undone}
 use Rattle.darts.specs.Kernel.{shared, judge, rising, passFrom, pass, run}
 use Rattle.darts.specs.State.{State, baseState, raised, levelled, reduce}
-use Rattle.darts.specs.Levels.{emptyLoop, takes, swept, sweep, endBelow, lowered, undoLevel, undoLevels, unfoldTo}
+use Rattle.darts.specs.Levels.{emptyLoop, takes, sweptFrom, swept, sweep, endBelow, lowered, undoLevel, undoLevels, unfoldTo}
 use Rattle.darts.specs.Pyramid.{dartCount, build, kernelOf, cut, kernelsOf, sameNumbers, sameState, isExactly, isPyramid}
 use Rattle.darts.specs.Calls.{room, fitting as fittingPlain, tableOf, pastOf, cleared, workAfter, begins, handsBack}
 use Rattle.sheets.specs.declared.Zone.{Zone}
@@ -242,7 +242,7 @@ table =
     ∷ []
 
 pub worked : allRight table ≡ true
-unfolding partner meetsIn successor faceNext sameVertex sameFace gone survives beforeIn before repeats culprit testFrom permutationTest turned lead wholeEdge remove contract operate number kindOf leadOf edgeOf putBack undoOne undone shared judge passFrom pass run raised levelled reduce emptyLoop takes rising swept sweep endBelow lowered undoLevel undoLevels unfoldTo dartCount build kernelOf cut kernelsOf sameNumbers sameState isExactly isPyramid room fittingPlain tableOf pastOf over cleared workAfter begins handsBack sameInteger sameMetres sameYarn sameZone lowInto highOf merged returned mergedBy returnedBy lastInto sound keptSound keptRight sheetRight rightSheets lowestFrom lowest isPlace joins zoned mergeBy mergesOf merges given fitting fittingOf baseOf judged unfitFrom firstUnfit beginsWith startWith carried carriedTo sheetsAfter onSheets reduceWith sweepWith undoWith unfoldWith Ieee.le Ieee.add Ieee.ofBits
+unfolding partner meetsIn successor faceNext sameVertex sameFace gone survives beforeIn before repeats culprit testFrom permutationTest turned lead wholeEdge remove contract operate number kindOf leadOf edgeOf putBack undoOne undone shared judge passFrom pass run raised levelled reduce emptyLoop takes rising sweptFrom swept sweep endBelow lowered undoLevel undoLevels unfoldTo dartCount build kernelOf cut kernelsOf sameNumbers sameState isExactly isPyramid room fittingPlain tableOf pastOf over cleared workAfter begins handsBack sameInteger sameMetres sameYarn sameZone lowInto highOf merged returned mergedBy returnedBy lastInto sound keptSound keptRight sheetRight rightSheets lowestFrom lowest isPlace joins zoned mergeBy mergesOf merges given fitting fittingOf baseOf judged unfitFrom firstUnfit beginsWith startWith carried carriedTo sheetsAfter onSheets reduceWith sweepWith undoWith unfoldWith Ieee.le Ieee.add Ieee.ofBits
 worked = refl
 
 -- "subtracting does not do that": 0.1 + 0.2 less 0.2 is not 0.1, and the two orders of adding differ

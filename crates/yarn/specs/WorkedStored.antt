@@ -17,7 +17,7 @@ use Rattle.darts.specs.Map.{successor, faceNext, sameVertex, sameFace, gone, su
 use Rattle.darts.specs.Operation.{contraction, removal, turned, lead, wholeEdge, remove, contract, operate, number, kindOf, leadOf, edgeOf, putBack, undoOne, undone}
 use Rattle.darts.specs.Kernel.{shared, judge, rising, passFrom, pass, run}
 use Rattle.darts.specs.State.{raised, levelled, reduce}
-use Rattle.darts.specs.Levels.{emptyLoop, takes, swept, sweep, endBelow, lowered, undoLevel, undoLevels, unfoldTo}
+use Rattle.darts.specs.Levels.{emptyLoop, takes, sweptFrom, swept, sweep, endBelow, lowered, undoLevel, undoLevels, unfoldTo}
 use Rattle.darts.specs.Pyramid.{dartCount, build, kernelOf, cut, kernelsOf, sameNumbers, sameState, isExactly, isPyramid}
 use Rattle.darts.specs.Counts.{neverBelow, lowest as lowestIn, cycles, surviving, countsOf}
 use Rattle.darts.specs.Calls.{room, fitting as fittingPlain, tableOf, pastOf, cleared, workAfter, begins, handsBack}
@@ -134,5 +134,5 @@ storedTable =
     ∷ []
 
 pub stored-worked : allRight storedTable ≡ true
-unfolding partner meetsIn successor faceNext sameVertex sameFace gone survives beforeIn before repeats culprit testFrom permutationTest turned lead wholeEdge remove contract operate number kindOf leadOf edgeOf putBack undoOne undone shared judge passFrom pass run raised levelled reduce emptyLoop takes rising swept sweep endBelow lowered undoLevel undoLevels unfoldTo dartCount build kernelOf cut kernelsOf sameNumbers sameState isExactly isPyramid neverBelow lowestIn cycles surviving countsOf room fittingPlain tableOf pastOf over cleared workAfter begins handsBack storing stores numbered sameInteger sameMetres sameYarn sameZone lowInto highOf merged returned mergedBy returnedBy lastInto sound keptSound keptRight sheetRight rightSheets lowestFrom lowest isPlace joins zoned mergeBy mergesOf merges given fitting fittingOf baseOf judged unfitFrom firstUnfit beginsWith startWith carried carriedTo sheetsAfter onSheets reduceWith sweepWith undoWith unfoldWith numberedWith judgedStoredWith onStoredWith startStoredWith reduceStoredWith sweepStoredWith undoStoredWith unfoldStoredWith Ieee.le Ieee.add
+unfolding partner meetsIn successor faceNext sameVertex sameFace gone survives beforeIn before repeats culprit testFrom permutationTest turned lead wholeEdge remove contract operate number kindOf leadOf edgeOf putBack undoOne undone shared judge passFrom pass run raised levelled reduce emptyLoop takes rising sweptFrom swept sweep endBelow lowered undoLevel undoLevels unfoldTo dartCount build kernelOf cut kernelsOf sameNumbers sameState isExactly isPyramid neverBelow lowestIn cycles surviving countsOf room fittingPlain tableOf pastOf over cleared workAfter begins handsBack storing stores numbered sameInteger sameMetres sameYarn sameZone lowInto highOf merged returned mergedBy returnedBy lastInto sound keptSound keptRight sheetRight rightSheets lowestFrom lowest isPlace joins zoned mergeBy mergesOf merges given fitting fittingOf baseOf judged unfitFrom firstUnfit beginsWith startWith carried carriedTo sheetsAfter onSheets reduceWith sweepWith undoWith unfoldWith numberedWith judgedStoredWith onStoredWith startStoredWith reduceStoredWith sweepStoredWith undoStoredWith unfoldStoredWith Ieee.le Ieee.add
 stored-worked = refl

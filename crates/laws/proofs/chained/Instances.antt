@@ -15,7 +15,7 @@ use Rattle.darts.specs.Map.{successor, faceNext, sameVertex, sameFace, gone, su
 use Rattle.darts.specs.Operation.{contraction, removal, turned, lead, wholeEdge, remove, contract, operate, number, kindOf, leadOf, edgeOf, putBack, undoOne, undone}
 use Rattle.darts.specs.Kernel.{shared, judge, rising, passFrom, pass, run}
 use Rattle.darts.specs.State.{baseState, raised, levelled, reduce}
-use Rattle.darts.specs.Levels.{emptyLoop, takes, swept, sweep, endBelow, lowered, undoLevel, undoLevels, unfoldTo}
+use Rattle.darts.specs.Levels.{emptyLoop, takes, sweptFrom, swept, sweep, endBelow, lowered, undoLevel, undoLevels, unfoldTo}
 use Rattle.darts.specs.Pyramid.{Kernel, dartCount, build, kernelOf, cut, kernelsOf, sameNumbers, sameState, isExactly, isPyramid}
 use Rattle.darts.specs.Calls.{After, leaves, room, fitting, tableOf, pastOf, cleared, workAfter, judged, begins, start, handsBack, onState, reduceBy, sweepBy, undoBy, unfoldBy}
 use Rattle.slices.specs.Over.{over}
@@ -88,7 +88,7 @@ k7-base = start-then-unfold 8 triangle numbers area (kernels K7) (k7-accepted .0
 
 -- "an empty loop (r = q or s = p)": the sweep of K5 takes edge 2, and leaves what K7 leaves
 k5-swept : callOn bySweep k5 ≡ k7
-unfolding partner meetsIn successor faceNext sameVertex sameFace gone survives beforeIn before repeats culprit testFrom permutationTest turned lead wholeEdge remove contract operate number kindOf leadOf edgeOf putBack undoOne undone shared judge passFrom pass run raised levelled reduce emptyLoop takes rising swept sweep endBelow lowered undoLevel undoLevels unfoldTo dartCount build kernelOf cut kernelsOf sameNumbers sameState isExactly isPyramid room fitting tableOf pastOf over cleared workAfter judged begins start handsBack onState reduceBy sweepBy undoBy unfoldBy
+unfolding partner meetsIn successor faceNext sameVertex sameFace gone survives beforeIn before repeats culprit testFrom permutationTest turned lead wholeEdge remove contract operate number kindOf leadOf edgeOf putBack undoOne undone shared judge passFrom pass run raised levelled reduce emptyLoop takes rising sweptFrom swept sweep endBelow lowered undoLevel undoLevels unfoldTo dartCount build kernelOf cut kernelsOf sameNumbers sameState isExactly isPyramid room fitting tableOf pastOf over cleared workAfter judged begins start handsBack onState reduceBy sweepBy undoBy unfoldBy
 k5-swept = refl
 
 k5-sweep-undone : Returned (answered 0 0) (k5 .state) (k5 .table) (callOn bySweep k5 .history) (k5 .work) (undoing (callOn bySweep k5))

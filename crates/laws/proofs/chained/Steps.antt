@@ -19,8 +19,8 @@ use Rattle.darts.specs.Levels.{sweep, lowered, undoLevel, undoLevels, unfoldTo}
 use Rattle.darts.specs.Pyramid.{Pyramid}
 use Rattle.laws.proofs.runs.Results.{refuses≢gives, then, same-result}
 use Rattle.laws.proofs.runs.Reduces.{reduce-raises}
-use Rattle.laws.proofs.runs.Sweeps.{loops, sweep-reduces}
-use Rattle.laws.proofs.runs.Pyramids.{reduce-pyramid, sweep-pyramid}
+use Rattle.laws.proofs.runs.Sweeps.{loops, sweep-raises}
+use Rattle.laws.proofs.runs.Pyramids.{pyramid-sweep, reduce-pyramid, sweep-pyramid}
 use Rattle.laws.proofs.runs.Undo.{undo-returns, undo-levels, undo-pyramid, unfold-pyramid}
 use Rattle.laws.proofs.runs.Earnest.{Earnest, earnest-reduce, earnest-sweep, earnest-undo, earnest-unfold}
 
@@ -114,10 +114,11 @@ reduce-leads k es = record {
 }
 
 pub sweep-leads : Leads sweep
+unfolding raised
 sweep-leads = record {
   pyramid = sweep-pyramid;
-  darts = λ {s} {t} {past} e. one-up s t past removal (loops s t past) (sym (sweep-reduces s t past) ∙ e) .0;
-  ground = λ {s} {t} {past} P e. reduce-ground s t past P removal (loops s t past) (sym (sweep-reduces s t past) ∙ e);
+  darts = λ {s} {t} {past} e. ap (λ (z : State). z .darts) (sweep-raises s t past e .state);
+  ground = λ {s} {t} {past} P e. reduce-ground s t past P removal (loops s t past) (sym (pyramid-sweep P) ∙ e);
   earnest = earnest-sweep;
 }
 

@@ -15,7 +15,7 @@ use Rattle.darts.specs.Map.{successor, faceNext, sameVertex, sameFace, gone, su
 use Rattle.darts.specs.Operation.{contraction, removal, turned, lead, wholeEdge, remove, contract, operate, number, kindOf, leadOf, edgeOf, putBack, undoOne, undone}
 use Rattle.darts.specs.Kernel.{Operation, stands, stops, shared, judge, rising, passFrom, pass, run}
 use Rattle.darts.specs.State.{State, baseState, gives, raised, levelled, reduce}
-use Rattle.darts.specs.Levels.{emptyLoop, takes, swept, sweep, endBelow, lowered, undoLevel}
+use Rattle.darts.specs.Levels.{emptyLoop, takes, sweptFrom, swept, sweep, endBelow, lowered, undoLevel}
 use Rattle.darts.specs.Pyramid.{Kernel, Pyramid, dartCount, build, kernelOf, cut, kernelsOf, sameNumbers, sameState, isExactly, isPyramid}
 use Rattle.darts.specs.OneByOne.{oneByOne}
 use Rattle.laws.proofs.runs.Results.{same-result}
@@ -150,7 +150,7 @@ k7-agrees =
 
 -- the claim, at K7's pyramid, whose top level the sweep makes too; its operations from the last to the first, in two levels
 k7-swept : sweep k5-state k5-table k5-past ≡ gives k7-state k7-table k7-past
-unfolding partner meetsIn successor faceNext sameFace gone survives beforeIn before turned lead wholeEdge remove operate number shared judge raised levelled emptyLoop takes rising passFrom pass swept sweep
+unfolding partner meetsIn successor faceNext sameFace gone survives beforeIn before turned lead wholeEdge remove operate number shared judge raised levelled emptyLoop takes rising sweptFrom swept sweep
 k7-swept = refl
 
 k7-pyramid : Pyramid k7-state k7-table k7-past

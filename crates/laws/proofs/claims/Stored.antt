@@ -23,8 +23,8 @@ use Rattle.laws.proofs.bridge.Counting.{counts-operate}
 use Rattle.laws.proofs.runs.Operations.{AllDone, none, first, run-iff}
 use Rattle.laws.proofs.runs.Results.{same-result}
 use Rattle.laws.proofs.runs.Reduces.{reduce-raises}
-use Rattle.laws.proofs.runs.Sweeps.{loops, sweep-reduces}
-use Rattle.laws.proofs.runs.Pyramids.{pyramid-built}
+use Rattle.laws.proofs.runs.Sweeps.{loops}
+use Rattle.laws.proofs.runs.Pyramids.{pyramid-built, pyramid-sweep}
 use Rattle.laws.proofs.runs.Undo.{undo-returns, sweep-undo-returns}
 use Rattle.laws.proofs.chained.Steps.{reduce-leads}
 
@@ -94,7 +94,7 @@ module _ {s : State} {t past : List ℕ} {z : State} {u new : List ℕ} (P : Pyr
 
   pub sweep-less : sweep s t past ≡ gives z u new
       → Takes removal (length (loops s t past)) (storing s t past .vertices) (storing s t past .faces) (storing z u new .vertices) (storing z u new .faces)
-  sweep-less e = kernel-less removal (loops s t past) (sym (sweep-reduces s t past) ∙ e)
+  sweep-less e = kernel-less removal (loops s t past) (sym (pyramid-sweep P) ∙ e)
 
 -- ---- undo
 

@@ -13,15 +13,15 @@ use native.Mathlib.Decide.{ℕ-discrete}
 use lib.ListN.{length, take, take-append-drop}
 use Rattle.permutations.specs.Choice.{eqb-other}
 use Rattle.darts.specs.Operation.{Kind, removal, undone}
-use Rattle.darts.specs.Kernel.{each}
+use Rattle.darts.specs.Kernel.{Operation}
 use Rattle.darts.specs.State.{State, gives, reduce}
 use Rattle.darts.specs.Levels.{sweep, endBelow, undoLevel, undoLevels, unfoldTo}
 use Rattle.darts.specs.Pyramid.{Pyramid}
-use Rattle.laws.proofs.runs.Operations.{run-iff, done-told}
+use Rattle.laws.proofs.runs.Operations.{Told}
 use Rattle.laws.proofs.runs.Results.{refuses≢gives, then, same-result}
-use Rattle.laws.proofs.runs.Reduces.{reduce-raises, reduced, reduced-base}
-use Rattle.laws.proofs.runs.Sweeps.{loops, sweep-reduces}
-use Rattle.laws.proofs.runs.Pyramids.{pyramid-built, Stacked, ground, over, stacked}
+use Rattle.laws.proofs.runs.Reduces.{reduce-tells, reduced, reduced-base}
+use Rattle.laws.proofs.runs.Sweeps.{loops, sweep-told}
+use Rattle.laws.proofs.runs.Pyramids.{pyramid-built, pyramid-sweep, Stacked, ground, over, stacked}
 use Rattle.laws.proofs.runs.Undo.{undo-returns, undo-pyramid}
 use Rattle.laws.proofs.chained.Steps.{Step, Leads, undo-lowers, unfold-undoes, reduce-leads, sweep-leads, undo-leads, unfold-leads}
 
@@ -41,14 +41,15 @@ grown-on {a} G H = record {
 
 -- ---- the past
 
+told-grown : {past : List ℕ} {os : List Operation} {new : List ℕ} → Told past os new → Grown past new
+told-grown T = record { fresh = reverse (T .numbers); grown = T .history }
+
 module _ (s : State) (t past : List ℕ) {z : State} {u new : List ℕ} where
   pub reduce-grown : (k : Kind) (es : List ℕ) → reduce k es s t past ≡ gives z u new → Grown past new
-  reduce-grown k es e =
-      let T = done-told (each k es) (run-iff k (s .darts) t past es .0 (reduce-raises s t past k es e .stood)) in
-      record { fresh = reverse (T .numbers); grown = T .history }
+  reduce-grown k es e = told-grown (reduce-tells s t past k es e)
 
   pub sweep-grown : sweep s t past ≡ gives z u new → Grown past new
-  sweep-grown e = reduce-grown removal (loops s t past) (sym (sweep-reduces s t past) ∙ e)
+  sweep-grown e = told-grown (sweep-told s t past e)
 
   pub undo-shrunk : undoLevel s t past ≡ gives z u new → Grown new past
   unfolding undoLevel
@@ -83,7 +84,7 @@ module _ {s : State} {t past : List ℕ} {z : State} {u new : List ℕ} (P : Pyr
       reduced-base (B .layered) (reduced (B .standing) (B .layered) (record { kind = k; edges = es }) e)
 
   pub sweep-base : sweep s t past ≡ gives z u new → baseFrom (s .darts) u new ≡ baseFrom (s .darts) t past
-  sweep-base e = reduce-base removal (loops s t past) (sym (sweep-reduces s t past) ∙ e)
+  sweep-base e = reduce-base removal (loops s t past) (sym (pyramid-sweep P) ∙ e)
 
 pub undo-base : {s : State} {t past : List ℕ} {z : State} {u new : List ℕ} → Pyramid s t past → undoLevel s t past ≡ gives z u new
     → baseFrom (s .darts) u new ≡ baseFrom (s .darts) t past

@@ -12,12 +12,11 @@ use lib.Dec.{eqb, leb, ltb}
 use lib.ListN.{length}
 use Rattle.darts.specs.Answers.{Answer, answered}
 use Rattle.darts.specs.Choose.{if_then_else_}
-use Rattle.darts.specs.Operation.{Kind, removal}
+use Rattle.darts.specs.Operation.{Kind}
 use Rattle.darts.specs.Kernel.{Run, stands, stops}
 use Rattle.darts.specs.State.{State, Result, gives, refuses, andThen, levelled, reduce}
 use Rattle.darts.specs.Levels.{sweep, undoLevel, undoLevels, unfoldTo}
-use Rattle.laws.proofs.runs.Stops.{Stopping, run-stops}
-use Rattle.laws.proofs.runs.Sweeps.{loops, sweep-reduces}
+use Rattle.laws.proofs.runs.Stops.{Stopping, run-stops, swept-stands}
 
 abbrev pub Refusing : (Answer → Type 0) → Result → Type 0
 Refusing P (gives z u new) = Unit {0}
@@ -40,7 +39,9 @@ module _ (P : Answer → Type 0) (some : (n p : ℕ) → n ≢ 0 → P (answered
       (refusing-levelled s past _ (run-stops P (λ m i l h. some m i (λ e. omega arith)) k (s .darts) t past es))
 
   pub refusing-sweep : (s : State) (t past : List ℕ) → Refusing P (sweep s t past)
-  refusing-sweep s t past = rw (sweep-reduces s t past) (refusing-reduce removal (loops s t past) s t past)
+  unfolding sweep
+  refusing-sweep s t past =
+      refusing-if P (leb 64 (s .levels)) _ _ (some 6 0 (λ e. omega arith)) (refusing-levelled s past _ (swept-stands P (s .darts) t past))
 
   pub refusing-undo : (s : State) (t past : List ℕ) → Refusing P (undoLevel s t past)
   unfolding undoLevel

@@ -107,15 +107,17 @@ pub record Told (past : List ℕ) (os : List Operation) (new : List ℕ) : Type 
 number-told : (t : List ℕ) (o : Operation) → operationOf (number (o .kind) (lead (o .kind) t (o .edge))) ≡ o
 number-told t o = λ i. record { kind = number-kind (o .kind) (lead (o .kind) t (o .edge)) i; edge = number-edge (o .kind) t (o .edge) i }
 
+-- the operation o first, and then those that are told
+pub told-first : (t : List ℕ) {past : List ℕ} (o : Operation) {os : List Operation} {new : List ℕ} → Told (pastAfter t past o) os new → Told past (o ∷ os) new
+told-first t o R = record {
+  numbers = number (o .kind) (lead (o .kind) t (o .edge)) ∷ R .numbers;
+  history = R .history ∙ rw (reverse-cons, append-assoc);
+  told = ap₂ _∷_ (number-told t o) (R .told);
+}
+
 pub done-told : {D : ℕ} {t past u new : List ℕ} (os : List Operation) → AllDone D t past os u new → Told past os new
 done-told [] none = record { numbers = []; history = refl; told = refl }
-done-told {t = t} (o ∷ os) (first fine rest) =
-    let R = done-told os rest in
-    record {
-      numbers = number (o .kind) (lead (o .kind) t (o .edge)) ∷ R .numbers;
-      history = R .history ∙ rw (reverse-cons, append-assoc);
-      told = ap₂ _∷_ (number-told t o) (R .told);
-    }
+done-told {t = t} (o ∷ os) (first fine rest) = told-first t o (done-told os rest)
 
 module _ {past : List ℕ} {os : List Operation} {new : List ℕ} (R : Told past os new) where
   pub told-count : length (R .numbers) ≡ length os

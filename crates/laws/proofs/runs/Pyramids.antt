@@ -1,5 +1,6 @@
 -- Pyramids: what holds of them, and what lies one level up and one level down.
 --   pyramid-built, built-pyramid  == a pyramid is built from its base by its kernels; what is built so is a pyramid
+--   pyramid-sweep                 == of a pyramid the sweep is the removal kernel of the edges that it takes
 --   reduce-pyramid, sweep-pyramid == a kernel and the sweep lead from pyramids to pyramids
 --   Stacked z u new               == z, u and new are a base, or one kernel over a pyramid
 use mathlib.Core.List.{List, [], _∷_, _++_, concat, concat-eq-append, eq-nil-or-concat}
@@ -39,6 +40,10 @@ built-pyramid D b count size permutation ks {s} {t} {past} e =
 
 -- ---- one level up
 
+-- "The sweep is a removal kernel"
+pub pyramid-sweep : {s : State} {t past : List ℕ} → Pyramid s t past → sweep s t past ≡ reduce removal (loops s t past) s t past
+pyramid-sweep {s} {t} {past} P = sweep-reduces s t past (pyramid-built P .standing)
+
 module _ {s : State} {t past : List ℕ} {z : State} {u new : List ℕ} (P : Pyramid s t past) where
   pub reduce-pyramid : (k : Kind) (es : List ℕ) → reduce k es s t past ≡ gives z u new → Pyramid z u new
   reduce-pyramid k es e =
@@ -47,7 +52,7 @@ module _ {s : State} {t past : List ℕ} {z : State} {u new : List ℕ} (P : Pyr
       (build-last (baseState (s .darts)) (P .base) [] (P .kernels) top ∙ rw (P .built) e)
 
   pub sweep-pyramid : sweep s t past ≡ gives z u new → Pyramid z u new
-  sweep-pyramid e = reduce-pyramid removal (loops s t past) (sym (sweep-reduces s t past) ∙ e)
+  sweep-pyramid e = reduce-pyramid removal (loops s t past) (sym (pyramid-sweep P) ∙ e)
 
 -- ---- one level down
 

@@ -19,7 +19,7 @@ use Rattle.darts.specs.State.{State, gives, refuses, raised, levelled, reduce}
 use Rattle.darts.specs.Pyramid.{Kernel, kernelsOf}
 use Rattle.darts.specs.OneByOne.{operationOf}
 use Rattle.laws.specs.Standing.{Standing}
-use Rattle.laws.proofs.runs.Operations.{run-iff, done-told, told-history, told-count, told-longer, told-dropped, told-kernel}
+use Rattle.laws.proofs.runs.Operations.{Told, run-iff, done-told, told-history, told-count, told-longer, told-dropped, told-kernel}
 use Rattle.laws.proofs.runs.Runs.{Ran, ran, undone-more}
 use Rattle.laws.proofs.runs.Ends.{Layered, layered-raised, kernels-raised}
 use Rattle.laws.proofs.runs.Results.{refuses≢gives}
@@ -69,8 +69,11 @@ module _ (s : State) (t past : List ℕ) (k : Kind) (es : List ℕ) {z : State} 
   raises-reduce = raises-gives
 
   -- the history gets the kernel's operations
+  pub reduce-tells : reduce k es s t past ≡ gives z u new → Told past (each k es) new
+  reduce-tells e = done-told (each k es) (run-iff k (s .darts) t past es .0 (reduce-raises e .stood))
+
   pub reduce-told : reduce k es s t past ≡ gives z u new → map operationOf (reverse new) ≡ map operationOf (reverse past) ++ each k es
-  reduce-told e = told-history (done-told (each k es) (run-iff k (s .darts) t past es .0 (reduce-raises e .stood)))
+  reduce-told e = told-history (reduce-tells e)
 
 -- ---- what an accepted kernel has done
 

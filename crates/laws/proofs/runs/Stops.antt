@@ -2,6 +2,7 @@
 --   Stopping P r          == the run r stands, or stops with an answer of which P holds
 --   Edgy r                == the run r stands, or stops with an answer from 7 to 11
 --   pass-stops, run-stops == so it is with a pass, and a kernel's run, for every P that holds of the answers 7 to 11
+--   swept-stands          == the sweep's pass stops nowhere
 --   run-edgy, swept-edgy  == a kernel's run, and the sweep's, are edgy
 use mathlib.Core.Bool.{Bool, true, false, not}
 use mathlib.Core.List.{List, [], _∷_}
@@ -11,9 +12,9 @@ use lib.Dec.{eqb, leb, lit≤}
 use Rattle.darts.specs.Choose.{if_then_else_}
 use Rattle.darts.specs.Answers.{Answer, answered}
 use Rattle.darts.specs.Map.{sameVertex, sameFace, gone}
-use Rattle.darts.specs.Operation.{Kind, contraction, removal, wholeEdge}
+use Rattle.darts.specs.Operation.{Kind, contraction, removal, lead, wholeEdge, operate, number}
 use Rattle.darts.specs.Kernel.{shared, judge, Operation, each, rising, Run, stands, stops, Test, always, passFrom, pass, run}
-use Rattle.darts.specs.Levels.{takes, swept}
+use Rattle.darts.specs.Levels.{takes, sweptFrom, swept}
 
 abbrev pub Stopping : (Answer → Type 0) → Run → Type 0
 Stopping P (stands t past) = Unit {0}
@@ -87,6 +88,25 @@ module _ (P : Answer → Type 0) (edge : (m i : ℕ) → 7 ≤ m → m ≤ 11 �
 pub run-edgy : (k : Kind) (D : ℕ) (t past es : List ℕ) → Edgy (run k D t past es)
 run-edgy = run-stops OfEdge (λ m i l h. (l, h))
 
+-- ---- the sweep
+
+module _ (P : Answer → Type 0) where
+  -- by the test's answer
+  turn-stands : (b : Bool) (over on : Run) → Stopping P over → Stopping P on → Stopping P (if b then on else over)
+  turn-stands true over on h k = k
+  turn-stands false over on h k = h
+
+  from-stands : (D : ℕ) (t past es : List ℕ) → Stopping P (sweptFrom D t past es)
+  unfolding sweptFrom
+  from-stands D t past [] = tt
+  from-stands D t past (e ∷ es) =
+      turn-stands (takes t past e) _ _ (from-stands D t past es)
+      (from-stands D (operate removal D t past e) (number removal (lead removal t e) ∷ past) es)
+
+  -- THE SWEEP'S PASS STOPS NOWHERE
+  pub swept-stands : (D : ℕ) (t past : List ℕ) → Stopping P (swept D t past)
+  unfolding swept
+  swept-stands D t past = from-stands D t past (rising 0 (D / 2))
+
 pub swept-edgy : (D : ℕ) (t past : List ℕ) → Edgy (swept D t past)
-unfolding swept
-swept-edgy D t past = pass-stops OfEdge (λ m i l h. (l, h)) takes D t past (each removal (rising 0 (D / 2)))
+swept-edgy = swept-stands OfEdge

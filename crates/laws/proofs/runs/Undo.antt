@@ -27,8 +27,8 @@ use Rattle.laws.proofs.runs.Ends.{Layered, below-raised, lowered-raised
 use Rattle.laws.proofs.runs.Results.{refuses≢gives, then, then-then, same-result}
 use Rattle.laws.proofs.runs.Reduces.{Reduced, reduced}
 use Rattle.laws.proofs.runs.Builds.{built}
-use Rattle.laws.proofs.runs.Sweeps.{loops, sweep-reduces}
-use Rattle.laws.proofs.runs.Pyramids.{pyramid-built, reduce-pyramid, Stacked, ground, over, stacked}
+use Rattle.laws.proofs.runs.Sweeps.{loops}
+use Rattle.laws.proofs.runs.Pyramids.{pyramid-built, pyramid-sweep, reduce-pyramid, Stacked, ground, over, stacked}
 
 -- ---- one level
 
@@ -52,7 +52,7 @@ module _ {s : State} {t past : List ℕ} {z : State} {u new : List ℕ} (P : Pyr
       rw (R .state) (undo-raised (B .layered) R)
 
   pub sweep-undo-returns : sweep s t past ≡ gives z u new → undoLevel z u new ≡ gives s t past
-  sweep-undo-returns e = undo-returns removal (loops s t past) (sym (sweep-reduces s t past) ∙ e)
+  sweep-undo-returns e = undo-returns removal (loops s t past) (sym (pyramid-sweep P) ∙ e)
 
 -- ---- several levels
 

@@ -5,7 +5,6 @@
 --   judge-seven .. judge-zero == the answers of an edge, each where no earlier one is given
 --   Taken t past e  == a surviving edge that is an empty loop (r = q or s = p) and no whole piece
 --   takes-iff       == exactly these does the sweep take; instances: from one side, from the other, not where gone, not where whole
---   takes-judged    == such an edge is judged 10 or 0
 use mathlib.Core.Bool.{false, _||_, _&&_, not}
 use mathlib.Core.List.{List, [], _∷_}
 use mathlib.Core.Logic.{_≢_, _⊎_, _↔_, inl, inr, ⊎-elim}
@@ -132,11 +131,6 @@ module _ (t past : List ℕ) (e : ℕ) where
         λ k. let p = parts .0 k in record { stays = p .0; loop = p .1 .0; part = p .1 .1 },
         λ r. parts .1 (r .stays, (r .loop, r .part)),
       )
-
-  -- "It answers 10 if such an edge has one face on both sides.": and else it may be removed
-  pub takes-judged : (D : ℕ) → e < D / 2 → Taken t past e
-      → (Shares removal D t e → judge removal D t past e ≡ 10) × (¬ (Shares removal D t e) → judge removal D t past e ≡ 0)
-  takes-judged D below k = (judge-ten D t past e below (k .stays), λ two. judge-zero D t past e below (k .stays) removal two (k .part))
 
   -- r = q alone, and s = p alone: an empty loop is seen from both sides
   pub takes-first : ¬ (Gone past e) → getD t (2 * e) 0 ≡ 2 * e + 1 → getD t (2 * e + 1) 0 ≢ 2 * e → T (takes t past e)

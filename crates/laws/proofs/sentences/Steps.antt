@@ -18,8 +18,8 @@ use Rattle.darts.specs.Levels.{sweep, endBelow, lowered, undoLevel, undoLevels,
 use Rattle.darts.specs.Pyramid.{Pyramid}
 use Rattle.laws.proofs.runs.Results.{refuses≢gives, then, same-result}
 use Rattle.laws.proofs.runs.Reduces.{reduced}
-use Rattle.laws.proofs.runs.Sweeps.{loops, sweep-reduces}
-use Rattle.laws.proofs.runs.Pyramids.{pyramid-built, reduce-pyramid, sweep-pyramid}
+use Rattle.laws.proofs.runs.Sweeps.{loops}
+use Rattle.laws.proofs.runs.Pyramids.{pyramid-built, pyramid-sweep, reduce-pyramid, sweep-pyramid}
 use Rattle.laws.proofs.runs.Undo.{undo-pyramid, unfold-pyramid}
 use Rattle.laws.proofs.tests.Room.{pyramid-room}
 
@@ -54,7 +54,7 @@ module _ {s : State} {t past : List ℕ} {z : State} {u new : List ℕ} (P : Pyr
       record { darts = ap (λ (z : State). z .darts) (R .state); more = reverse (R .ran .tells .numbers); history = R .ran .tells .history }
 
   sweep-onto : sweep s t past ≡ gives z u new → Onto s past z new
-  sweep-onto e = reduce-onto removal (loops s t past) (sym (sweep-reduces s t past) ∙ e)
+  sweep-onto e = reduce-onto removal (loops s t past) (sym (pyramid-sweep P) ∙ e)
 
 pub reduce-adds : (k : Kind) (es : List ℕ) → Adds (reduce k es)
 reduce-adds k es = record { onto = λ P e. reduce-onto P k es e }

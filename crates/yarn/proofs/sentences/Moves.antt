@@ -17,8 +17,8 @@ use Rattle.laws.specs.Standing.{Standing}
 use Rattle.laws.proofs.runs.Operations.{told-longer, told-dropped}
 use Rattle.laws.proofs.runs.Runs.{undone-more}
 use Rattle.laws.proofs.runs.Reduces.{reduced}
-use Rattle.laws.proofs.runs.Sweeps.{loops, sweep-reduces}
-use Rattle.laws.proofs.runs.Pyramids.{pyramid-built, reduce-pyramid}
+use Rattle.laws.proofs.runs.Sweeps.{loops}
+use Rattle.laws.proofs.runs.Pyramids.{pyramid-built, pyramid-sweep, reduce-pyramid}
 use Rattle.laws.proofs.sentences.Steps.{reduce-adds, undo-lessens, unfold-lessens}
 use Rattle.yarn.specs.Places.{lowest, isPlace, merges}
 use Rattle.yarn.specs.Calls.{baseOf}
@@ -67,7 +67,7 @@ pub reduce-moves : (k : Kind) (es : List ℕ) → Moving (reduce k es)
 reduce-moves k es = record { moves = λ P e. reduce-more P k es e }
 
 pub sweep-moves : Moving sweep
-sweep-moves = record { moves = λ {s} {t} {past} P e. reduce-more P removal (loops s t past) (sym (sweep-reduces s t past) ∙ e) }
+sweep-moves = record { moves = λ {s} {t} {past} P e. reduce-more P removal (loops s t past) (sym (pyramid-sweep P) ∙ e) }
 
 pub undo-moves : Moving undoLevel
 undo-moves = record { moves = λ P e. let O = undo-lessens .onto P e in fewer (O .more) (O .history) }
