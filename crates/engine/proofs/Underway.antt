@@ -1,4 +1,4 @@
--- A pass under way in the work area: a kernel's, or the sweep's.
+-- A pass under way in the work area: a kernel's, or that of a plan's first kernel.
 --   Underway D k takes whole w₀ i es w m == w is w₀ after some of a pass's turns, i of them taken, and there are m operations then: the pass over the edges
 --                                           es that are left, from the table and the past that w holds, goes where the whole pass goes
 --   underway-over                        == an edge is passed over

@@ -1,16 +1,16 @@
-// The sweep: a removal kernel that chooses its own edges.
+// The sweep: a removal kernel that chooses its own edges. None of them is judged: each may be removed.
 use crate::Ran;
-use crate::kernel::turn;
+use area::operate::operate;
 use area::operate::takes;
 use darts::Answer;
 ghost use Rattle.darts.specs.Levels.{swept};
 ghost use Rattle.area.specs.Area.{tableIn, pastIn};
-ghost use Rattle.engine.specs.Held.{Ready};
+ghost use Rattle.engine.specs.Held.{Area};
 ghost use Rattle.engine.specs.Runs.{Went};
 
-// The sweep's removals, after n operations: one pass over the edges by rising number. A refused edge stops it.
+// The sweep's removals, after n operations: one pass over the edges by rising number. No forest is asked.
 pub fn sweep(work: &mut [u32], d: usize, n: usize) -> Ran
-    requires { ⌜ Ready d n 0 (now work) ⌝ }
+    requires { ⌜ Area d n (now work) ⌝ }
     ensures { λ r. ⌜
         Went d (swept d (tableIn d (now (work .entry))) (pastIn d n (now (work .entry))))
         (now (work .entry)) (now (work .exit)) r ⌝ }
@@ -19,13 +19,7 @@ pub fn sweep(work: &mut [u32], d: usize, n: usize) -> Ran
     let mut m = n;
     while e < d / 2 {
         if takes(work, d, e) {
-            let answer = turn(work, d, m, 0, e, m - n);
-            if answer.number() != 0 {
-                return Ran {
-                    answer: answer,
-                    operations: n,
-                };
-            }
+            operate(work, d, m, 0, e);
             m += 1;
             e += 1;
         } else {

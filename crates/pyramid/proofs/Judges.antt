@@ -9,6 +9,7 @@
 --   lent-of      == done: a pyramid is lent, with room
 --   stacked-of   == the work area holds it
 --   stood-of     == so that what comes next stands on it
+--   any-kind     == where no kernel is coming, or one that is not judged, any forest will do
 --   relabelled   == the forest of another kind, made on the map as it stands
 --   room-then    == and what comes next in the work area has its room
 use mathlib.Core.Bool.{Bool, true, false, _&&_}
@@ -118,6 +119,16 @@ module _ {s : State} {k : ℕ} {t h w v : List ℕ} {a : Answer} (J : Judged s k
           ready = C .ready;
         };
       }
+
+-- THE FOREST IS NOT ASKED
+pub any-kind : {s : State} {k : ℕ} {t h w : List ℕ} → Stood s k t h w → Stood s 2 t h w
+any-kind Z =
+    let C = Z .checked refl in
+    record {
+      answer = Z .answer;
+      refused = λ n. absurd (n refl);
+      checked = λ _. record { answer = C .answer; beyond = C .beyond; area = C .area; table = C .table; past = C .past; ready = λ _ l. absurd (omega arith) };
+    }
 
 pub relabelled : {s : State} {k j : ℕ} {t h w v : List ℕ} → Stood s k t h w → j ≤ 1 → Labelled (s .darts) j w v → Judged s j t h w v done
 relabelled {s} Z few L =

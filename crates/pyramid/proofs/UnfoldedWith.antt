@@ -3,7 +3,6 @@
 --   unfolded-count     == so many operations there are at that level
 --   unfold-noted       == the notes of the operations above it lead to places of the sheets
 --   unfolded-sheets    == what is put back by the notes is what unfolding gives
---   any-kind           == where no kernel is coming, any forest will do
 --   undo-with          == undo is unfold to the level below
 use mathlib.Core.List.{List, reverse}
 use mathlib.Core.Logic.{_≢_}
@@ -187,15 +186,6 @@ module _ {s : State} {t h w : List ℕ} (Z : StoodWith s t h w) (k : ℕ) where
   pub unfolded-sheets : (S : Sheets) → returnedBy (notesIn D w) n (n - operationsAt k s) S
       ≡ sheetsAfter s (tableOf s t) past S (unfoldTo k s (tableOf s t) past)
   unfolded-sheets S = after S (unfoldTo k s (tableOf s t) past) refl
-
-pub any-kind : {s : State} {k : ℕ} {t h w : List ℕ} → Stood s k t h w → Stood s 2 t h w
-any-kind Z =
-    let C = Z .checked refl in
-    record {
-      answer = Z .answer;
-      refused = λ n. absurd (n refl);
-      checked = λ _. record { answer = C .answer; beyond = C .beyond; area = C .area; table = C .table; past = C .past; ready = λ _ l. absurd (omega arith) };
-    }
 
 undo-is : {k : ℕ} (s : State) (t h w : List ℕ) (S : Sheets) → k ≡ pick (eqb (s .levels) 0) 1 (s .levels - 1) → unfoldWith k s t h w S ≡ undoWith s t h w S
 unfolding unfoldWith undoWith onSheets

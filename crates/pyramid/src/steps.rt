@@ -1,5 +1,5 @@
-// What the calls with sheets do once they are judged, beside the sheets. The check leaves a forest of vertices; where removals are coming, one of faces is made
-// on the map as it stands.
+// What the calls with sheets do once they are judged, beside the sheets. The check leaves a forest of vertices; where a kernel of removals is coming, one of faces is
+// made on the map as it stands.
 use crate::Answer;
 use crate::Made;
 use crate::Outcome;
@@ -9,7 +9,7 @@ use crate::sizes::reached;
 use area::cycles::label;
 use noting::run::run_noted;
 ghost use mathlib.Core.Path.{_≡_};
-ghost use Rattle.darts.specs.Calls.{reduceBy, sweepBy};
+ghost use Rattle.darts.specs.Calls.{reduceBy};
 ghost use Rattle.darts.specs.Operation.{removal};
 ghost use Rattle.pyramid.specs.Costs.{StoodWith, MadeBy};
 ghost use Rattle.pyramid.specs.Steps.{Stood};
@@ -31,22 +31,6 @@ impl State {
     {
         label(work, self.darts as usize, 0);
         self.reduce_judged(0, kernel, table, history, work)
-    }
-
-    // The sweep.
-    pub(crate) fn sweep_stood(
-        self,
-        table: &mut [u32],
-        history: &mut [u32],
-        work: &mut [u32],
-    ) -> Outcome
-        requires { ⌜ Stood (stateOf self) 1 (now table) (now history) (now work) ⌝ }
-        ensures { λ r. ⌜
-            left r (now (table .exit)) (now (history .exit)) (now (work .exit))
-            ≡ sweepBy (stateOf self) (now (table .entry)) (now (history .entry)) (now (work .entry)) ⌝ }
-    {
-        label(work, self.darts as usize, 0);
-        self.sweep_judged(table, history, work)
     }
 
     // A kernel of contractions, with notes of what each merges. The work area is not cleared yet.

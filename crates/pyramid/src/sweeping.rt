@@ -14,7 +14,7 @@ ghost use Rattle.pyramid.specs.Values.{stateOf, storedOf, left, leftStor
 impl State {
     // The sweep once it is judged. The work area is cleared.
     pub fn sweep_judged(self, table: &mut [u32], history: &mut [u32], work: &mut [u32]) -> Outcome
-        requires { ⌜ Stood (stateOf self) 0 (now table) (now history) (now work) ⌝ }
+        requires { ⌜ Stood (stateOf self) 2 (now table) (now history) (now work) ⌝ }
         ensures { λ r. ⌜
             left r (now (table .exit)) (now (history .exit)) (now (work .exit))
             ≡ sweepBy (stateOf self) (now (table .entry)) (now (history .entry)) (now (work .entry)) ⌝ }
@@ -36,7 +36,7 @@ impl State {
             leftStored r (now (table .exit)) (now (history .exit)) (now (work .exit))
             ≡ sweepStored (storedOf self) (now (table .entry)) (now (history .entry)) (now (work .entry)) ⌝ }
     {
-        let judged = self.judged(0, table, history, work);
+        let judged = self.judged(2, table, history, work);
         if judged.number() != 0 {
             return kept(self, judged);
         }

@@ -89,7 +89,7 @@ impl State {
         if judged.number() != 0 {
             return kept(self, judged);
         }
-        let o = self.sweep_stood(table, history, work);
+        let o = self.sweep_judged(table, history, work);
         self.settle(o, history)
     }
 

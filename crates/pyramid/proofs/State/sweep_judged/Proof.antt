@@ -1,7 +1,6 @@
 -- `pyramid::State::sweep_judged` meets its contract: one level more, once the call is judged.
 use mathlib.Core.Path.{_≡_, refl, _∙_, sym}
 use native.Mathlib.Omega.{arith}
-use lib.Dec.{lit≤}
 use Rattle.darts.specs.Calls.{sweepBy}
 use Rattle.engine.proofs.Ready.{beyond-refl}
 use Rattle.pyramid.proofs.Judges.{room-then}
@@ -32,7 +31,7 @@ cast-sweep : tie.Need-cast-sweep
 cast-sweep c = search needs
 
 sweep-requires : tie.Need-sweep-requires
-sweep-requires c κs = c .before .before .before .before .before .before .before .before .pre .checked refl .ready refl (lit≤ tt)
+sweep-requires c κs = c .before .before .before .before .before .before .before .before .pre .checked refl .area refl
 
 level-requires : tie.Need-level-requires
 level-requires c κs =

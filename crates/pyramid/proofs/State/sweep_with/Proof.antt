@@ -9,6 +9,7 @@ use Rattle.laws.proofs.chained.OnLent.{bySweep}
 use Rattle.yarn.specs.Calls.{sweepWith}
 use Rattle.yarn.proofs.sentences.Removals.{sweep-sheets}
 use Rattle.pyramid.proofs.ByRun.{plain-sweep}
+use Rattle.pyramid.proofs.Judges.{any-kind}
 use Rattle.pyramid.proofs.OnSheets.{with-left, stored-refused, stored-settles, stored-settled}
 use borrow.Author.Needs.{needs}
 use Rattle.pyramid.proofs.State.sweep_with.Statement.{statement}
@@ -45,17 +46,17 @@ returns c = stored-refused bySweep (c .before .before .before .before .before .j
 fine : (c : tie.Else1) → answerOf (c .before .before .before .before .judged-with .result) .number ≡ 0
 fine c = sym (c .before .number .ensures) ∙ c .if1 .left
 
-sweep-stood-requires : tie.Need-sweep-stood-requires
-sweep-stood-requires c κs =
+sweep-judged-requires : tie.Need-sweep-judged-requires
+sweep-judged-requires c κs =
     let e = c .before .before .before in
-    e .before .before .before .before .judged-with .ensures .judged (fine e) .stood refl .stood
+    any-kind (e .before .before .before .before .judged-with .ensures .judged (fine e) .stood refl .stood)
 
 settle-requires : tie.Need-settle-requires
 unfolding sweepWith sweepBy
 settle-requires c κs =
     let e = c .before .before .before .before .before .before .before .before .before .before .before in
     let j = e .before .before .before .before .judged-with .ensures in
-    let o = c .before .before .before .before .before .before .before .sweep-stood in
+    let o = c .before .before .before .before .before .before .before .sweep-judged in
     stored-settles bySweep j (fine e) (o .result) (with-left sweep (j .judged (fine e)) refl (plain-sweep _ _ _) (o .ensures) (sweep-sheets _ _ _ _ _))
 
 same-length-6 : tie.Need-same-length-6
@@ -78,8 +79,8 @@ unfolding sweepWith sweepBy
 returns-2 c =
     let e = c .before .before .before .before .before .before .before .before .before .before .before .before in
     let j = e .before .before .before .before .judged-with .ensures in
-    let o = c .before .before .before .before .before .before .before .before .sweep-stood in
+    let o = c .before .before .before .before .before .before .before .before .sweep-judged in
     stored-settled bySweep j (fine e) (o .result) (with-left sweep (j .judged (fine e)) refl (plain-sweep _ _ _) (o .ensures) (sweep-sheets _ _ _ _ _)) (c .settle .ensures)
 
 pub sweep-with-spec : {M : Type 1} → statement M
-sweep-with-spec = tie.close (tie.spec judged-with-requires number-requires kept-requires same-length same-length-2 same-length-3 same-length-4 same-length-5 returns sweep-stood-requires settle-requires same-length-6 same-length-7 same-length-8 same-length-9 same-length-10 returns-2)
+sweep-with-spec = tie.close (tie.spec judged-with-requires number-requires kept-requires same-length same-length-2 same-length-3 same-length-4 same-length-5 returns sweep-judged-requires settle-requires same-length-6 same-length-7 same-length-8 same-length-9 same-length-10 returns-2)

@@ -12,7 +12,8 @@ use Rattle.yarn.specs.Calls.{unfoldWith}
 use Rattle.pyramid.proofs.BackInside.{plain-unfold}
 use Rattle.pyramid.proofs.JudgesWith.{costed-of}
 use Rattle.pyramid.proofs.OnSheets.{with-done, stored-refused, stored-settles, stored-settled}
-use Rattle.pyramid.proofs.UnfoldedWith.{unfold-noted, unfolded-sheets, any-kind}
+use Rattle.pyramid.proofs.Judges.{any-kind}
+use Rattle.pyramid.proofs.UnfoldedWith.{unfold-noted, unfolded-sheets}
 use borrow.Author.Needs.{needs}
 use Rattle.pyramid.proofs.State.unfold_with.Statement.{statement}
 use Rattle.pyramid.proofs.State.unfold_with.Proof.Tie as tie

@@ -172,7 +172,7 @@ abbrev b23 : Syntax.Body
 b23 = Syntax.assign (Syntax.place 26 List.[]) (Syntax.aggregate (List._∷_ (Syntax.copy (Syntax.place 25 List.[])) (List._∷_ (Syntax.copy (Syntax.place 4 (List._∷_ (Syntax.field 1) List.[]))) List.[])))
 
 abbrev b24 : Syntax.Body
-b24 = Syntax.call "pyramid::State::sweep_stood" (List._∷_ (Syntax.copy (Syntax.place 1 List.[])) (List._∷_ (Syntax.copy (Syntax.place 22 List.[])) (List._∷_ (Syntax.copy (Syntax.place 24 List.[])) (List._∷_ (Syntax.copy (Syntax.place 26 List.[])) List.[])))) (Syntax.place 8 List.[])
+b24 = Syntax.call "pyramid::State::sweep_judged" (List._∷_ (Syntax.copy (Syntax.place 1 List.[])) (List._∷_ (Syntax.copy (Syntax.place 22 List.[])) (List._∷_ (Syntax.copy (Syntax.place 24 List.[])) (List._∷_ (Syntax.copy (Syntax.place 26 List.[])) List.[])))) (Syntax.place 8 List.[])
 
 abbrev b25 : Syntax.Body
 b25 = Syntax.assign (Syntax.place 27 List.[]) (Syntax.addrOf (Syntax.place 3 (List._∷_ (Syntax.field 0) (List._∷_ (Syntax.deref (Syntax.tyInt Syntax.w32)) List.[]))))
@@ -754,7 +754,7 @@ module _ (claims· : Claims) where
   module _ (Pre· : (κs : Lifetimes.Lfts 5) → Kinds.Dens κs ps → Type 0) (Post· : (κs : Lifetimes.Lfts 5) → (a : Kinds.Dens κs ps) → Kinds.Plain 5 ps r κs) where
     module _ (M : Type 1) where
       abbrev pub Closed : Type 2
-      Closed = (𝓤 : URA.URA M) (H : Wp.Heap 𝓤) (A : Atoms.Atoms 𝓤) (W : Kit.Given 𝓤 H A) (𝓣 : Wp.Tables 𝓤 H) (known0 : Plain.Known 𝓤 H A W 𝓣 5 ps·0 r·0 (claims· .0) (claims· .1) "pyramid::State::judged_with") (known1 : Plain.Known 𝓤 H A W 𝓣 0 ps·1 r·1 (claims· .2) (claims· .3) "darts::Answer::number") (known2 : Plain.Known 𝓤 H A W 𝓣 0 ps·2 r·2 (claims· .4) (claims· .5) "pyramid::numbers::kept") (known3 : Plain.Known 𝓤 H A W 𝓣 3 ps·3 r·3 (claims· .6) (claims· .7) "pyramid::State::sweep_stood") (known4 : Plain.Known 𝓤 H A W 𝓣 1 ps·4 r·4 (claims· .8) (claims· .9) "pyramid::State::settle") → Statement.Triple 𝓤 (Wp.WpFn 𝓤 H (𝓣 .C) (𝓣 .Λ) (Function.fnOf 5 ps r xs m hs body)) (Function.plainOf 𝓤 H A 5 ps r Pre· Post·)
+      Closed = (𝓤 : URA.URA M) (H : Wp.Heap 𝓤) (A : Atoms.Atoms 𝓤) (W : Kit.Given 𝓤 H A) (𝓣 : Wp.Tables 𝓤 H) (known0 : Plain.Known 𝓤 H A W 𝓣 5 ps·0 r·0 (claims· .0) (claims· .1) "pyramid::State::judged_with") (known1 : Plain.Known 𝓤 H A W 𝓣 0 ps·1 r·1 (claims· .2) (claims· .3) "darts::Answer::number") (known2 : Plain.Known 𝓤 H A W 𝓣 0 ps·2 r·2 (claims· .4) (claims· .5) "pyramid::numbers::kept") (known3 : Plain.Known 𝓤 H A W 𝓣 3 ps·3 r·3 (claims· .6) (claims· .7) "pyramid::State::sweep_judged") (known4 : Plain.Known 𝓤 H A W 𝓣 1 ps·4 r·4 (claims· .8) (claims· .9) "pyramid::State::settle") → Statement.Triple 𝓤 (Wp.WpFn 𝓤 H (𝓣 .C) (𝓣 .Λ) (Function.fnOf 5 ps r xs m hs body)) (Function.plainOf 𝓤 H A 5 ps r Pre· Post·)
 
     module _ where
       abbrev at0 : Typed.TF T48 O1
@@ -1017,7 +1017,7 @@ module _ (claims· : Claims) where
 
       module _ {M : Type 1} (𝓤 : URA.URA M) (H : Wp.Heap 𝓤) (A : Atoms.Atoms 𝓤) (W : Kit.Given 𝓤 H A) (𝓣 : Wp.Tables 𝓤 H) where
         abbrev Knowns : Type 1
-        Knowns = Plain.Known 𝓤 H A W 𝓣 5 ps·0 r·0 (claims· .0) (claims· .1) "pyramid::State::judged_with" × Plain.Known 𝓤 H A W 𝓣 0 ps·1 r·1 (claims· .2) (claims· .3) "darts::Answer::number" × Plain.Known 𝓤 H A W 𝓣 0 ps·2 r·2 (claims· .4) (claims· .5) "pyramid::numbers::kept" × Plain.Known 𝓤 H A W 𝓣 3 ps·3 r·3 (claims· .6) (claims· .7) "pyramid::State::sweep_stood" × Plain.Known 𝓤 H A W 𝓣 1 ps·4 r·4 (claims· .8) (claims· .9) "pyramid::State::settle"
+        Knowns = Plain.Known 𝓤 H A W 𝓣 5 ps·0 r·0 (claims· .0) (claims· .1) "pyramid::State::judged_with" × Plain.Known 𝓤 H A W 𝓣 0 ps·1 r·1 (claims· .2) (claims· .3) "darts::Answer::number" × Plain.Known 𝓤 H A W 𝓣 0 ps·2 r·2 (claims· .4) (claims· .5) "pyramid::numbers::kept" × Plain.Known 𝓤 H A W 𝓣 3 ps·3 r·3 (claims· .6) (claims· .7) "pyramid::State::sweep_judged" × Plain.Known 𝓤 H A W 𝓣 1 ps·4 r·4 (claims· .8) (claims· .9) "pyramid::State::settle"
 
       module _ (κs : Lifetimes.Lfts 5) (qs : Lifetimes.Shares 5) where
         abbrev g3 : List.List Row.Entry
@@ -1457,7 +1457,7 @@ module _ (claims· : Claims) where
           d32 = Typed.g-pre 𝓤 H A W 𝓣 E G60 G61 b31 Δ0 (λ Ψ. Ψ) at31 (Lifetime.g-end 𝓤 H A W E G60 10 Path'.refl) d31
 
           d33 : Typed.Typed 𝓤 H A 𝓣 E G59 b32 Δ0 at33
-          d33 = Typed.s-seq 𝓤 H A W 𝓣 E G59 G60 b24 b31 Δ0 (Typed.both s57) at32 (Plain.t-call-plain 𝓤 H A W 𝓣 3 ps·3 r·3 (claims· .6) (claims· .7) "pyramid::State::sweep_stood" (known .3) E (λ pos β. β) G59 (record { pos = 1; st = List.[]; d = 0; at = λ x. x }, (record { pos = 22; ty = Syntax.tyRef Syntax.erased Syntax.mut (Syntax.tyInt Syntax.w32); ref = λ x. x }, (record { pos = 24; ty = Syntax.tyRef Syntax.erased Syntax.mut (Syntax.tyInt Syntax.w32); ref = λ x. x }, (record { pos = 26; ty = Syntax.tyRef Syntax.erased Syntax.mut (Syntax.tyInt Syntax.w32); ref = λ x. x }, tt)))) 8 (List._∷_ 10 (List._∷_ 11 (List._∷_ 12 List.[]))) (Call.sub-id 𝓤 H A W (G59 .slots)) ((Yields.yields-copy 𝓤 H A W (λ ρ. Unit) (Declared'.row State.the-type) Path'.refl (Copies.cStruct State.the-type Laws''.the-laws Laws''.the-copy .copy 𝓤 H A W) (Rows.whole (Declared'.row State.the-type)) (λ x. x) (λ x. x) (λ ρ told. Local.mem-whole 𝓤 H A W (Declared'.row State.the-type) ρ) λ ρ told. Local.whole-mem 𝓤 H A W (Declared'.row State.the-type) ρ, Path'.refl), (Reads.as-is 𝓤 H A (Mut.mslice (Referent.rtF (Referent.fInt Syntax.w32)) (Syntax.tyRef Syntax.erased Syntax.mut (Syntax.tyInt Syntax.w32)) 10), Mut.reads-mslice 𝓤 H A W (Referent.rtF (Referent.fInt Syntax.w32)) (Syntax.tyRef Syntax.erased Syntax.mut (Syntax.tyInt Syntax.w32)) 10, Path'.refl, (Reads.as-is 𝓤 H A (Mut.mslice (Referent.rtF (Referent.fInt Syntax.w32)) (Syntax.tyRef Syntax.erased Syntax.mut (Syntax.tyInt Syntax.w32)) 11), Mut.reads-mslice 𝓤 H A W (Referent.rtF (Referent.fInt Syntax.w32)) (Syntax.tyRef Syntax.erased Syntax.mut (Syntax.tyInt Syntax.w32)) 11, Path'.refl, (Reads.as-is 𝓤 H A (Mut.mslice (Referent.rtF (Referent.fInt Syntax.w32)) (Syntax.tyRef Syntax.erased Syntax.mut (Syntax.tyInt Syntax.w32)) 12), Mut.reads-mslice 𝓤 H A W (Referent.rtF (Referent.fInt Syntax.w32)) (Syntax.tyRef Syntax.erased Syntax.mut (Syntax.tyInt Syntax.w32)) 12, Path'.refl, tt)))) (Reads.room-gone 𝓤 H A (Syntax.tyStruct (List._∷_ 112 (List._∷_ 121 (List._∷_ 114 (List._∷_ 97 (List._∷_ 109 (List._∷_ 105 (List._∷_ 100 (List._∷_ 58 (List._∷_ 58 (List._∷_ 79 (List._∷_ 117 (List._∷_ 116 (List._∷_ 99 (List._∷_ 111 (List._∷_ 109 (List._∷_ 101 List.[])))))))))))))))) (Syntax.tcons (Syntax.tyStruct (List._∷_ 112 (List._∷_ 121 (List._∷_ 114 (List._∷_ 97 (List._∷_ 109 (List._∷_ 105 (List._∷_ 100 (List._∷_ 58 (List._∷_ 58 (List._∷_ 83 (List._∷_ 116 (List._∷_ 97 (List._∷_ 116 (List._∷_ 101 List.[])))))))))))))) (Syntax.tcons (Syntax.tyInt Syntax.w32) (Syntax.tcons (Syntax.tyInt Syntax.w32) (Syntax.tcons (Syntax.tyInt Syntax.w32) (Syntax.tcons (Syntax.tyInt Syntax.w32) (Syntax.tcons (Syntax.tyInt Syntax.w32) (Syntax.tcons (Syntax.tyArray (Syntax.tyInt Syntax.w32) 64) Syntax.tnil))))))) (Syntax.tcons (Syntax.tyEnum (List._∷_ 100 (List._∷_ 97 (List._∷_ 114 (List._∷_ 116 (List._∷_ 115 (List._∷_ 58 (List._∷_ 58 (List._∷_ 65 (List._∷_ 110 (List._∷_ 115 (List._∷_ 119 (List._∷_ 101 (List._∷_ 114 List.[]))))))))))))) (Syntax.ttcons (Syntax.tcons (Syntax.tyInt Syntax.w64) Syntax.tnil) (Syntax.ttcons Syntax.tnil (Syntax.ttcons (Syntax.tcons (Syntax.tyInt Syntax.w64) Syntax.tnil) (Syntax.ttcons (Syntax.tcons (Syntax.tyInt Syntax.w64) (Syntax.tcons (Syntax.tyInt Syntax.w64) Syntax.tnil)) (Syntax.ttcons Syntax.tnil (Syntax.ttcons Syntax.tnil (Syntax.ttcons Syntax.tnil (Syntax.ttcons (Syntax.tcons (Syntax.tyInt Syntax.w64) Syntax.tnil) (Syntax.ttcons (Syntax.tcons (Syntax.tyInt Syntax.w64) Syntax.tnil) (Syntax.ttcons (Syntax.tcons (Syntax.tyInt Syntax.w64) Syntax.tnil) (Syntax.ttcons (Syntax.tcons (Syntax.tyInt Syntax.w64) Syntax.tnil) (Syntax.ttcons (Syntax.tcons (Syntax.tyInt Syntax.w64) Syntax.tnil) (Syntax.ttcons (Syntax.tcons (Syntax.tyInt Syntax.w64) Syntax.tnil) (Syntax.ttcons (Syntax.tcons (Syntax.tyInt Syntax.w64) Syntax.tnil) (Syntax.ttcons Syntax.tnil (Syntax.ttcons Syntax.tnil (Syntax.ttcons (Syntax.tcons (Syntax.tyInt Syntax.w64) Syntax.tnil) Syntax.ttnil)))))))))))))))))) Syntax.tnil)))) (tt, (tt, (tt, tt))) Path'.refl) d32
+          d33 = Typed.s-seq 𝓤 H A W 𝓣 E G59 G60 b24 b31 Δ0 (Typed.both s57) at32 (Plain.t-call-plain 𝓤 H A W 𝓣 3 ps·3 r·3 (claims· .6) (claims· .7) "pyramid::State::sweep_judged" (known .3) E (λ pos β. β) G59 (record { pos = 1; st = List.[]; d = 0; at = λ x. x }, (record { pos = 22; ty = Syntax.tyRef Syntax.erased Syntax.mut (Syntax.tyInt Syntax.w32); ref = λ x. x }, (record { pos = 24; ty = Syntax.tyRef Syntax.erased Syntax.mut (Syntax.tyInt Syntax.w32); ref = λ x. x }, (record { pos = 26; ty = Syntax.tyRef Syntax.erased Syntax.mut (Syntax.tyInt Syntax.w32); ref = λ x. x }, tt)))) 8 (List._∷_ 10 (List._∷_ 11 (List._∷_ 12 List.[]))) (Call.sub-id 𝓤 H A W (G59 .slots)) ((Yields.yields-copy 𝓤 H A W (λ ρ. Unit) (Declared'.row State.the-type) Path'.refl (Copies.cStruct State.the-type Laws''.the-laws Laws''.the-copy .copy 𝓤 H A W) (Rows.whole (Declared'.row State.the-type)) (λ x. x) (λ x. x) (λ ρ told. Local.mem-whole 𝓤 H A W (Declared'.row State.the-type) ρ) λ ρ told. Local.whole-mem 𝓤 H A W (Declared'.row State.the-type) ρ, Path'.refl), (Reads.as-is 𝓤 H A (Mut.mslice (Referent.rtF (Referent.fInt Syntax.w32)) (Syntax.tyRef Syntax.erased Syntax.mut (Syntax.tyInt Syntax.w32)) 10), Mut.reads-mslice 𝓤 H A W (Referent.rtF (Referent.fInt Syntax.w32)) (Syntax.tyRef Syntax.erased Syntax.mut (Syntax.tyInt Syntax.w32)) 10, Path'.refl, (Reads.as-is 𝓤 H A (Mut.mslice (Referent.rtF (Referent.fInt Syntax.w32)) (Syntax.tyRef Syntax.erased Syntax.mut (Syntax.tyInt Syntax.w32)) 11), Mut.reads-mslice 𝓤 H A W (Referent.rtF (Referent.fInt Syntax.w32)) (Syntax.tyRef Syntax.erased Syntax.mut (Syntax.tyInt Syntax.w32)) 11, Path'.refl, (Reads.as-is 𝓤 H A (Mut.mslice (Referent.rtF (Referent.fInt Syntax.w32)) (Syntax.tyRef Syntax.erased Syntax.mut (Syntax.tyInt Syntax.w32)) 12), Mut.reads-mslice 𝓤 H A W (Referent.rtF (Referent.fInt Syntax.w32)) (Syntax.tyRef Syntax.erased Syntax.mut (Syntax.tyInt Syntax.w32)) 12, Path'.refl, tt)))) (Reads.room-gone 𝓤 H A (Syntax.tyStruct (List._∷_ 112 (List._∷_ 121 (List._∷_ 114 (List._∷_ 97 (List._∷_ 109 (List._∷_ 105 (List._∷_ 100 (List._∷_ 58 (List._∷_ 58 (List._∷_ 79 (List._∷_ 117 (List._∷_ 116 (List._∷_ 99 (List._∷_ 111 (List._∷_ 109 (List._∷_ 101 List.[])))))))))))))))) (Syntax.tcons (Syntax.tyStruct (List._∷_ 112 (List._∷_ 121 (List._∷_ 114 (List._∷_ 97 (List._∷_ 109 (List._∷_ 105 (List._∷_ 100 (List._∷_ 58 (List._∷_ 58 (List._∷_ 83 (List._∷_ 116 (List._∷_ 97 (List._∷_ 116 (List._∷_ 101 List.[])))))))))))))) (Syntax.tcons (Syntax.tyInt Syntax.w32) (Syntax.tcons (Syntax.tyInt Syntax.w32) (Syntax.tcons (Syntax.tyInt Syntax.w32) (Syntax.tcons (Syntax.tyInt Syntax.w32) (Syntax.tcons (Syntax.tyInt Syntax.w32) (Syntax.tcons (Syntax.tyArray (Syntax.tyInt Syntax.w32) 64) Syntax.tnil))))))) (Syntax.tcons (Syntax.tyEnum (List._∷_ 100 (List._∷_ 97 (List._∷_ 114 (List._∷_ 116 (List._∷_ 115 (List._∷_ 58 (List._∷_ 58 (List._∷_ 65 (List._∷_ 110 (List._∷_ 115 (List._∷_ 119 (List._∷_ 101 (List._∷_ 114 List.[]))))))))))))) (Syntax.ttcons (Syntax.tcons (Syntax.tyInt Syntax.w64) Syntax.tnil) (Syntax.ttcons Syntax.tnil (Syntax.ttcons (Syntax.tcons (Syntax.tyInt Syntax.w64) Syntax.tnil) (Syntax.ttcons (Syntax.tcons (Syntax.tyInt Syntax.w64) (Syntax.tcons (Syntax.tyInt Syntax.w64) Syntax.tnil)) (Syntax.ttcons Syntax.tnil (Syntax.ttcons Syntax.tnil (Syntax.ttcons Syntax.tnil (Syntax.ttcons (Syntax.tcons (Syntax.tyInt Syntax.w64) Syntax.tnil) (Syntax.ttcons (Syntax.tcons (Syntax.tyInt Syntax.w64) Syntax.tnil) (Syntax.ttcons (Syntax.tcons (Syntax.tyInt Syntax.w64) Syntax.tnil) (Syntax.ttcons (Syntax.tcons (Syntax.tyInt Syntax.w64) Syntax.tnil) (Syntax.ttcons (Syntax.tcons (Syntax.tyInt Syntax.w64) Syntax.tnil) (Syntax.ttcons (Syntax.tcons (Syntax.tyInt Syntax.w64) Syntax.tnil) (Syntax.ttcons (Syntax.tcons (Syntax.tyInt Syntax.w64) Syntax.tnil) (Syntax.ttcons Syntax.tnil (Syntax.ttcons Syntax.tnil (Syntax.ttcons (Syntax.tcons (Syntax.tyInt Syntax.w64) Syntax.tnil) Syntax.ttnil)))))))))))))))))) Syntax.tnil)))) (tt, (tt, (tt, tt))) Path'.refl) d32
 
           d34 : Typed.Typed 𝓤 H A 𝓣 E G58 b33 Δ0 at34
           d34 = Typed.s-seq 𝓤 H A W 𝓣 E G58 G59 b23 b32 Δ0 (Typed.ask s56) at33 (Relend.t-sl-aggregate 𝓤 H A W E (Referent.rtF (Referent.fInt Syntax.w32)) 𝓣 (Relend.asMut (Referent.rtF (Referent.fInt Syntax.w32))) G58 25 26 12 (Syntax.tyRef Syntax.erased Syntax.mut (Syntax.tyInt Syntax.w32)) (Syntax.tyRef Syntax.erased Syntax.mut (Syntax.tyInt Syntax.w32)) (λ x. x) (Scalar.oFld 4 (List._∷_ (Syntax.field 1) List.[]) (Syntax.tyInt Syntax.w64) 8 λ v. Shared.lenV (v .0)) (Reads.as-is 𝓤 H A (Relend.msptr (Referent.rtF (Referent.fInt Syntax.w32)) (Syntax.tyRef Syntax.erased Syntax.mut (Syntax.tyInt Syntax.w32)) 12)) (Reads.room-gone 𝓤 H A (Syntax.tyStruct (List._∷_ 38 (List._∷_ 91 (List._∷_ 93 List.[]))) (Syntax.tcons (Syntax.tyRef Syntax.erased Syntax.mut (Syntax.tyInt Syntax.w32)) (Syntax.tcons (Syntax.tyInt Syntax.w64) Syntax.tnil)))) (Relend.reads-owed-len 𝓤 H A W (Referent.rtF (Referent.fInt Syntax.w32)) (Syntax.tyRef (Syntax.named 2) Syntax.mut (Syntax.tyInt Syntax.w32)) 2 12 (Row.lease (κs .1 .1 .0) (qs .1 .1 .0)) 8 Path'.refl, Path'.refl) Path'.refl Path'.refl λ b o k. tt) d33
@@ -1904,67 +1904,67 @@ module _ (claims· : Claims) where
       m35 = λ before given. s50 .next (m34 before given)
 
       module _ (before· : Else1) where
-        pub record After-sweep-stood-arg·own : Type 0 where
+        pub record After-sweep-judged-arg·own : Type 0 where
           pub given : s49 .gives (m33 (before· .before))
 
-      pub record After-sweep-stood-arg : Type 0 where
+      pub record After-sweep-judged-arg : Type 0 where
         pub before : Else1
-        pub sweep-stood-arg : After-sweep-stood-arg·own before
+        pub sweep-judged-arg : After-sweep-judged-arg·own before
 
-      abbrev pub m36 : (before : After-sweep-stood-arg) → (given : s52 .gives (m35 (before .before) (before .sweep-stood-arg .given))) → Typed.Mo T55
-      m36 = λ before given. s52 .next (m35 (before .before) (before .sweep-stood-arg .given)) given
+      abbrev pub m36 : (before : After-sweep-judged-arg) → (given : s52 .gives (m35 (before .before) (before .sweep-judged-arg .given))) → Typed.Mo T55
+      m36 = λ before given. s52 .next (m35 (before .before) (before .sweep-judged-arg .given)) given
 
-      abbrev pub m37 : (before : After-sweep-stood-arg) → (given : s52 .gives (m35 (before .before) (before .sweep-stood-arg .given))) → Typed.Mo T56
+      abbrev pub m37 : (before : After-sweep-judged-arg) → (given : s52 .gives (m35 (before .before) (before .sweep-judged-arg .given))) → Typed.Mo T56
       m37 = λ before given. s53 .next (m36 before given)
 
-      module _ (before· : After-sweep-stood-arg) where
-        pub record After-sweep-stood-arg2·own : Type 0 where
-          pub given : s52 .gives (m35 (before· .before) (before· .sweep-stood-arg .given))
+      module _ (before· : After-sweep-judged-arg) where
+        pub record After-sweep-judged-arg2·own : Type 0 where
+          pub given : s52 .gives (m35 (before· .before) (before· .sweep-judged-arg .given))
 
-      pub record After-sweep-stood-arg2 : Type 0 where
-        pub before : After-sweep-stood-arg
-        pub sweep-stood-arg2 : After-sweep-stood-arg2·own before
+      pub record After-sweep-judged-arg2 : Type 0 where
+        pub before : After-sweep-judged-arg
+        pub sweep-judged-arg2 : After-sweep-judged-arg2·own before
 
-      abbrev pub m38 : (before : After-sweep-stood-arg2) → (given : s55 .gives (m37 (before .before) (before .sweep-stood-arg2 .given))) → Typed.Mo T58
-      m38 = λ before given. s55 .next (m37 (before .before) (before .sweep-stood-arg2 .given)) given
+      abbrev pub m38 : (before : After-sweep-judged-arg2) → (given : s55 .gives (m37 (before .before) (before .sweep-judged-arg2 .given))) → Typed.Mo T58
+      m38 = λ before given. s55 .next (m37 (before .before) (before .sweep-judged-arg2 .given)) given
 
-      abbrev pub m39 : (before : After-sweep-stood-arg2) → (given : s55 .gives (m37 (before .before) (before .sweep-stood-arg2 .given))) → Typed.Mo T59
+      abbrev pub m39 : (before : After-sweep-judged-arg2) → (given : s55 .gives (m37 (before .before) (before .sweep-judged-arg2 .given))) → Typed.Mo T59
       m39 = λ before given. s56 .next (m38 before given)
 
-      module _ (before· : After-sweep-stood-arg2) where
-        pub record After-sweep-stood-arg3·own : Type 0 where
-          pub given : s55 .gives (m37 (before· .before) (before· .sweep-stood-arg2 .given))
+      module _ (before· : After-sweep-judged-arg2) where
+        pub record After-sweep-judged-arg3·own : Type 0 where
+          pub given : s55 .gives (m37 (before· .before) (before· .sweep-judged-arg2 .given))
 
-      pub record After-sweep-stood-arg3 : Type 0 where
-        pub before : After-sweep-stood-arg2
-        pub sweep-stood-arg3 : After-sweep-stood-arg3·own before
+      pub record After-sweep-judged-arg3 : Type 0 where
+        pub before : After-sweep-judged-arg2
+        pub sweep-judged-arg3 : After-sweep-judged-arg3·own before
 
-      abbrev pub Need-sweep-stood-requires : Type 0
-      Need-sweep-stood-requires = (c : After-sweep-stood-arg3) → s57 .asks (m39 (c .before) (c .sweep-stood-arg3 .given))
+      abbrev pub Need-sweep-judged-requires : Type 0
+      Need-sweep-judged-requires = (c : After-sweep-judged-arg3) → s57 .asks (m39 (c .before) (c .sweep-judged-arg3 .given))
 
-      abbrev pub m40 : (before : After-sweep-stood-arg3) → (given : s57 .gives (m39 (before .before) (before .sweep-stood-arg3 .given))) → Typed.Mo T60
-      m40 = λ before given. s57 .next (m39 (before .before) (before .sweep-stood-arg3 .given)) given
+      abbrev pub m40 : (before : After-sweep-judged-arg3) → (given : s57 .gives (m39 (before .before) (before .sweep-judged-arg3 .given))) → Typed.Mo T60
+      m40 = λ before given. s57 .next (m39 (before .before) (before .sweep-judged-arg3 .given)) given
 
-      module _ (before· : After-sweep-stood-arg3) where
-        abbrev pub After-sweep-stood·own : Type 0
-        After-sweep-stood·own = Called.Called ps·3 r·3 (claims· .7) T59 (record { pos = 1; st = List.[]; d = 0; at = λ x. x }, (record { pos = 22; ty = Syntax.tyRef Syntax.erased Syntax.mut (Syntax.tyInt Syntax.w32); ref = λ x. x }, (record { pos = 24; ty = Syntax.tyRef Syntax.erased Syntax.mut (Syntax.tyInt Syntax.w32); ref = λ x. x }, (record { pos = 26; ty = Syntax.tyRef Syntax.erased Syntax.mut (Syntax.tyInt Syntax.w32); ref = λ x. x }, tt)))) (m39 (before· .before) (before· .sweep-stood-arg3 .given))
+      module _ (before· : After-sweep-judged-arg3) where
+        abbrev pub After-sweep-judged·own : Type 0
+        After-sweep-judged·own = Called.Called ps·3 r·3 (claims· .7) T59 (record { pos = 1; st = List.[]; d = 0; at = λ x. x }, (record { pos = 22; ty = Syntax.tyRef Syntax.erased Syntax.mut (Syntax.tyInt Syntax.w32); ref = λ x. x }, (record { pos = 24; ty = Syntax.tyRef Syntax.erased Syntax.mut (Syntax.tyInt Syntax.w32); ref = λ x. x }, (record { pos = 26; ty = Syntax.tyRef Syntax.erased Syntax.mut (Syntax.tyInt Syntax.w32); ref = λ x. x }, tt)))) (m39 (before· .before) (before· .sweep-judged-arg3 .given))
 
-      pub record After-sweep-stood : Type 0 where
-        pub before : After-sweep-stood-arg3
-        pub sweep-stood : After-sweep-stood·own before
+      pub record After-sweep-judged : Type 0 where
+        pub before : After-sweep-judged-arg3
+        pub sweep-judged : After-sweep-judged·own before
 
-      abbrev pub After-sweep-stood·gave : (c : After-sweep-stood) → s57 .gives (m39 (c .before .before) (c .before .sweep-stood-arg3 .given))
-      After-sweep-stood·gave = λ c. Called.given ps·3 r·3 (claims· .7) T59 (record { pos = 1; st = List.[]; d = 0; at = λ x. x }, (record { pos = 22; ty = Syntax.tyRef Syntax.erased Syntax.mut (Syntax.tyInt Syntax.w32); ref = λ x. x }, (record { pos = 24; ty = Syntax.tyRef Syntax.erased Syntax.mut (Syntax.tyInt Syntax.w32); ref = λ x. x }, (record { pos = 26; ty = Syntax.tyRef Syntax.erased Syntax.mut (Syntax.tyInt Syntax.w32); ref = λ x. x }, tt)))) (m39 (c .before .before) (c .before .sweep-stood-arg3 .given)) (c .sweep-stood)
+      abbrev pub After-sweep-judged·gave : (c : After-sweep-judged) → s57 .gives (m39 (c .before .before) (c .before .sweep-judged-arg3 .given))
+      After-sweep-judged·gave = λ c. Called.given ps·3 r·3 (claims· .7) T59 (record { pos = 1; st = List.[]; d = 0; at = λ x. x }, (record { pos = 22; ty = Syntax.tyRef Syntax.erased Syntax.mut (Syntax.tyInt Syntax.w32); ref = λ x. x }, (record { pos = 24; ty = Syntax.tyRef Syntax.erased Syntax.mut (Syntax.tyInt Syntax.w32); ref = λ x. x }, (record { pos = 26; ty = Syntax.tyRef Syntax.erased Syntax.mut (Syntax.tyInt Syntax.w32); ref = λ x. x }, tt)))) (m39 (c .before .before) (c .before .sweep-judged-arg3 .given)) (c .sweep-judged)
 
-      abbrev pub m41 : (before : After-sweep-stood) → (given : s59 .gives (m40 (before .before) (After-sweep-stood·gave before))) → Typed.Mo T62
-      m41 = λ before given. s59 .next (m40 (before .before) (After-sweep-stood·gave before)) given
+      abbrev pub m41 : (before : After-sweep-judged) → (given : s59 .gives (m40 (before .before) (After-sweep-judged·gave before))) → Typed.Mo T62
+      m41 = λ before given. s59 .next (m40 (before .before) (After-sweep-judged·gave before)) given
 
-      module _ (before· : After-sweep-stood) where
+      module _ (before· : After-sweep-judged) where
         pub record After-table·own : Type 0 where
-          pub given : s59 .gives (m40 (before· .before) (After-sweep-stood·gave before·))
+          pub given : s59 .gives (m40 (before· .before) (After-sweep-judged·gave before·))
 
       pub record After-table : Type 0 where
-        pub before : After-sweep-stood
+        pub before : After-sweep-judged
         pub table : After-table·own before
 
       abbrev pub m42 : (before : After-table) → (given : s60 .gives (m41 (before .before) (before .table .given))) → Typed.Mo T63
@@ -2083,15 +2083,15 @@ module _ (claims· : Claims) where
       abbrev pub Need-returns-2 : Type 0
       Need-returns-2 = (c : After-settle) → Post· (c .before .before .before .before .before .before .before .before .before .before .before .before .before .before .before .before .before .before .before .before .before .before .before .before .before .κs) (dens (c .before .before .before .before .before .before .before .before .before .before .before .before .before .before .before .before .before .before .before .before .before .before .before .before .before .κs) (c .before .before .before .before .before .before .before .before .before .before .before .before .before .before .before .before .before .before .before .before .before .before .before .before .before .args)) (Function.resV r (c .before .before .before .before .before .before .before .before .before .before .before .before .before .before .before .before .before .before .before .before .before .before .before .before .before .κs) (m53 (c .before) (After-settle·gave c) .0)) (Clauses.atExit (Kinds.endedOf 5 ps r) (c .before .before .before .before .before .before .before .before .before .before .before .before .before .before .before .before .before .before .before .before .before .before .before .before .before .κs) (dens (c .before .before .before .before .before .before .before .before .before .before .before .before .before .before .before .before .before .before .before .before .before .before .before .before .before .κs) (c .before .before .before .before .before .before .before .before .before .before .before .before .before .before .before .before .before .before .before .before .before .before .before .before .before .args)) (Enter.lastsP (c .before .before .before .before .before .before .before .before .before .before .before .before .before .before .before .before .before .before .before .before .before .before .before .before .before .κs) 1 ps xs (dens (c .before .before .before .before .before .before .before .before .before .before .before .before .before .before .before .before .before .before .before .before .before .before .before .before .before .κs) (c .before .before .before .before .before .before .before .before .before .before .before .before .before .before .before .before .before .before .before .before .before .before .before .before .before .args)) (m53 (c .before) (After-settle·gave c) .1)))
 
-      module _ (judged-with-requires : Need-judged-with-requires) (number-requires : Need-number-requires) (kept-requires : Need-kept-requires) (same-length : Need-same-length) (same-length-2 : Need-same-length-2) (same-length-3 : Need-same-length-3) (same-length-4 : Need-same-length-4) (same-length-5 : Need-same-length-5) (returns : Need-returns) (sweep-stood-requires : Need-sweep-stood-requires) (settle-requires : Need-settle-requires) (same-length-6 : Need-same-length-6) (same-length-7 : Need-same-length-7) (same-length-8 : Need-same-length-8) (same-length-9 : Need-same-length-9) (same-length-10 : Need-same-length-10) (returns-2 : Need-returns-2) where
+      module _ (judged-with-requires : Need-judged-with-requires) (number-requires : Need-number-requires) (kept-requires : Need-kept-requires) (same-length : Need-same-length) (same-length-2 : Need-same-length-2) (same-length-3 : Need-same-length-3) (same-length-4 : Need-same-length-4) (same-length-5 : Need-same-length-5) (returns : Need-returns) (sweep-judged-requires : Need-sweep-judged-requires) (settle-requires : Need-settle-requires) (same-length-6 : Need-same-length-6) (same-length-7 : Need-same-length-7) (same-length-8 : Need-same-length-8) (same-length-9 : Need-same-length-9) (same-length-10 : Need-same-length-10) (returns-2 : Need-returns-2) where
         lay8 : (c : After-settle) → at16 (W0 (c .before .before .before .before .before .before .before .before .before .before .before .before .before .before .before .before .before .before .before .before .before .before .before .before .before .κs) (c .before .before .before .before .before .before .before .before .before .before .before .before .before .before .before .before .before .before .before .before .before .before .before .before .before .args)) (m49 (c .before) (After-settle·gave c))
         lay8 = λ c. ((tt, (MutSlice.fix-len (Row.get 2 (T81 .locals) (m53 (c .before) (After-settle·gave c)) .ptr) (Row.get 2 (T81 .locals) (m53 (c .before) (After-settle·gave c)) .name) (Row.get 2 (T81 .locals) (m53 (c .before) (After-settle·gave c)) .now) (dens (c .before .before .before .before .before .before .before .before .before .before .before .before .before .before .before .before .before .before .before .before .before .before .before .before .before .κs) (c .before .before .before .before .before .before .before .before .before .before .before .before .before .before .before .before .before .before .before .before .before .before .before .before .before .args) .1 .0 .now) (same-length-6 record { before = c .before; settle = c .settle }), (MutSlice.fix-len (Row.get 3 (T81 .locals) (m53 (c .before) (After-settle·gave c)) .ptr) (Row.get 3 (T81 .locals) (m53 (c .before) (After-settle·gave c)) .name) (Row.get 3 (T81 .locals) (m53 (c .before) (After-settle·gave c)) .now) (dens (c .before .before .before .before .before .before .before .before .before .before .before .before .before .before .before .before .before .before .before .before .before .before .before .before .before .κs) (c .before .before .before .before .before .before .before .before .before .before .before .before .before .before .before .before .before .before .before .before .before .before .before .before .before .args) .1 .1 .0 .now) (same-length-7 record { before = c .before; settle = c .settle }), (MutSlice.fix-len (Row.get 4 (T81 .locals) (m53 (c .before) (After-settle·gave c)) .ptr) (Row.get 4 (T81 .locals) (m53 (c .before) (After-settle·gave c)) .name) (Row.get 4 (T81 .locals) (m53 (c .before) (After-settle·gave c)) .now) (dens (c .before .before .before .before .before .before .before .before .before .before .before .before .before .before .before .before .before .before .before .before .before .before .before .before .before .κs) (c .before .before .before .before .before .before .before .before .before .before .before .before .before .before .before .before .before .before .before .before .before .before .before .before .before .args) .1 .1 .1 .0 .now) (same-length-8 record { before = c .before; settle = c .settle }), (MutSlice.fix-len (Row.get 5 (T81 .locals) (m53 (c .before) (After-settle·gave c)) .ptr) (Row.get 5 (T81 .locals) (m53 (c .before) (After-settle·gave c)) .name) (Row.get 5 (T81 .locals) (m53 (c .before) (After-settle·gave c)) .now) (dens (c .before .before .before .before .before .before .before .before .before .before .before .before .before .before .before .before .before .before .before .before .before .before .before .before .before .κs) (c .before .before .before .before .before .before .before .before .before .before .before .before .before .before .before .before .before .before .before .before .before .before .before .before .before .args) .1 .1 .1 .1 .0 .now) (same-length-9 record { before = c .before; settle = c .settle }), (MutSlice.fix-len (Row.get 6 (T81 .locals) (m53 (c .before) (After-settle·gave c)) .ptr) (Row.get 6 (T81 .locals) (m53 (c .before) (After-settle·gave c)) .name) (Row.get 6 (T81 .locals) (m53 (c .before) (After-settle·gave c)) .now) (dens (c .before .before .before .before .before .before .before .before .before .before .before .before .before .before .before .before .before .before .before .before .before .before .before .before .before .κs) (c .before .before .before .before .before .before .before .before .before .before .before .before .before .before .before .before .before .before .before .before .before .before .before .before .before .args) .1 .1 .1 .1 .1 .0 .now) (same-length-10 record { before = c .before; settle = c .settle }), tt)))))), returns-2 record { before = c .before; settle = c .settle })
 
-        lay7 : (c : After-sweep-stood) → at32 (W0 (c .before .before .before .before .before .before .before .before .before .before .before .before .before .before .before .before .before .κs) (c .before .before .before .before .before .before .before .before .before .before .before .before .before .before .before .before .before .args)) (m40 (c .before) (After-sweep-stood·gave c))
-        lay7 = λ c. (Path'.refl, λ g. λ g'. (Path'.refl, λ g''. λ g'3. (Path'.refl, λ g'4. λ g'5. λ g'6. (Path'.refl, (settle-requires record { before = record { before = record { before = record { before = record { before = record { before = record { before = record { before = c .before; sweep-stood = c .sweep-stood }; table = record { given = g } }; slice-known5 = record { given = g' } }; history = record { given = g'' } }; slice-known6 = record { given = g'3 } }; work2 = record { given = g'4 } }; slice-known7 = record { given = g'5 } }; settle-arg = record { given = g'6 } }, λ g'7. lay8 record { before = record { before = record { before = record { before = record { before = record { before = record { before = record { before = record { before = c .before; sweep-stood = c .sweep-stood }; table = record { given = g } }; slice-known5 = record { given = g' } }; history = record { given = g'' } }; slice-known6 = record { given = g'3 } }; work2 = record { given = g'4 } }; slice-known7 = record { given = g'5 } }; settle-arg = record { given = g'6 } }; settle = Called.called ps·4 r·4 (claims· .9) T75 (record { pos = 1; st = List.[]; d = 0; at = λ x. x }, (record { pos = 8; st = List.[]; d = 0; at = λ x. x }, (record { pos = 28; ty = Syntax.tyRef Syntax.erased Syntax.imm (Syntax.tyInt Syntax.w32); ref = λ x. x }, tt))) (m48 record { before = record { before = record { before = record { before = record { before = record { before = record { before = c .before; sweep-stood = c .sweep-stood }; table = record { given = g } }; slice-known5 = record { given = g' } }; history = record { given = g'' } }; slice-known6 = record { given = g'3 } }; work2 = record { given = g'4 } }; slice-known7 = record { given = g'5 } } g'6) g'7 })))))
+        lay7 : (c : After-sweep-judged) → at32 (W0 (c .before .before .before .before .before .before .before .before .before .before .before .before .before .before .before .before .before .κs) (c .before .before .before .before .before .before .before .before .before .before .before .before .before .before .before .before .before .args)) (m40 (c .before) (After-sweep-judged·gave c))
+        lay7 = λ c. (Path'.refl, λ g. λ g'. (Path'.refl, λ g''. λ g'3. (Path'.refl, λ g'4. λ g'5. λ g'6. (Path'.refl, (settle-requires record { before = record { before = record { before = record { before = record { before = record { before = record { before = record { before = c .before; sweep-judged = c .sweep-judged }; table = record { given = g } }; slice-known5 = record { given = g' } }; history = record { given = g'' } }; slice-known6 = record { given = g'3 } }; work2 = record { given = g'4 } }; slice-known7 = record { given = g'5 } }; settle-arg = record { given = g'6 } }, λ g'7. lay8 record { before = record { before = record { before = record { before = record { before = record { before = record { before = record { before = record { before = c .before; sweep-judged = c .sweep-judged }; table = record { given = g } }; slice-known5 = record { given = g' } }; history = record { given = g'' } }; slice-known6 = record { given = g'3 } }; work2 = record { given = g'4 } }; slice-known7 = record { given = g'5 } }; settle-arg = record { given = g'6 } }; settle = Called.called ps·4 r·4 (claims· .9) T75 (record { pos = 1; st = List.[]; d = 0; at = λ x. x }, (record { pos = 8; st = List.[]; d = 0; at = λ x. x }, (record { pos = 28; ty = Syntax.tyRef Syntax.erased Syntax.imm (Syntax.tyInt Syntax.w32); ref = λ x. x }, tt))) (m48 record { before = record { before = record { before = record { before = record { before = record { before = record { before = c .before; sweep-judged = c .sweep-judged }; table = record { given = g } }; slice-known5 = record { given = g' } }; history = record { given = g'' } }; slice-known6 = record { given = g'3 } }; work2 = record { given = g'4 } }; slice-known7 = record { given = g'5 } } g'6) g'7 })))))
 
         lay6 : (c : Else1) → at42 (W0 (c .before .before .before .before .before .before .before .before .before .before .before .before .before .κs) (c .before .before .before .before .before .before .before .before .before .before .before .before .before .args)) (m33 (c .before))
-        lay6 = λ c. λ g. (Path'.refl, λ g'. (Path'.refl, λ g''. (Path'.refl, (sweep-stood-requires record { before = record { before = record { before = record { before = c .before; if1 = c .if1 }; sweep-stood-arg = record { given = g } }; sweep-stood-arg2 = record { given = g' } }; sweep-stood-arg3 = record { given = g'' } }, λ g'3. lay7 record { before = record { before = record { before = record { before = record { before = c .before; if1 = c .if1 }; sweep-stood-arg = record { given = g } }; sweep-stood-arg2 = record { given = g' } }; sweep-stood-arg3 = record { given = g'' } }; sweep-stood = Called.called ps·3 r·3 (claims· .7) T59 (record { pos = 1; st = List.[]; d = 0; at = λ x. x }, (record { pos = 22; ty = Syntax.tyRef Syntax.erased Syntax.mut (Syntax.tyInt Syntax.w32); ref = λ x. x }, (record { pos = 24; ty = Syntax.tyRef Syntax.erased Syntax.mut (Syntax.tyInt Syntax.w32); ref = λ x. x }, (record { pos = 26; ty = Syntax.tyRef Syntax.erased Syntax.mut (Syntax.tyInt Syntax.w32); ref = λ x. x }, tt)))) (m39 record { before = record { before = record { before = c .before; if1 = c .if1 }; sweep-stood-arg = record { given = g } }; sweep-stood-arg2 = record { given = g' } } g'') g'3 }))))
+        lay6 = λ c. λ g. (Path'.refl, λ g'. (Path'.refl, λ g''. (Path'.refl, (sweep-judged-requires record { before = record { before = record { before = record { before = c .before; if1 = c .if1 }; sweep-judged-arg = record { given = g } }; sweep-judged-arg2 = record { given = g' } }; sweep-judged-arg3 = record { given = g'' } }, λ g'3. lay7 record { before = record { before = record { before = record { before = record { before = c .before; if1 = c .if1 }; sweep-judged-arg = record { given = g } }; sweep-judged-arg2 = record { given = g' } }; sweep-judged-arg3 = record { given = g'' } }; sweep-judged = Called.called ps·3 r·3 (claims· .7) T59 (record { pos = 1; st = List.[]; d = 0; at = λ x. x }, (record { pos = 22; ty = Syntax.tyRef Syntax.erased Syntax.mut (Syntax.tyInt Syntax.w32); ref = λ x. x }, (record { pos = 24; ty = Syntax.tyRef Syntax.erased Syntax.mut (Syntax.tyInt Syntax.w32); ref = λ x. x }, (record { pos = 26; ty = Syntax.tyRef Syntax.erased Syntax.mut (Syntax.tyInt Syntax.w32); ref = λ x. x }, tt)))) (m39 record { before = record { before = record { before = c .before; if1 = c .if1 }; sweep-judged-arg = record { given = g } }; sweep-judged-arg2 = record { given = g' } } g'') g'3 }))))
 
         lay5 : (c : Else1) → at7 (W1 (c .before .before) (After-number·gave (c .before))) (m27 (c .before .before) (After-number·gave (c .before)))
         lay5 = λ c. lay6 record { before = c .before; if1 = c .if1 }
@@ -2115,6 +2115,6 @@ module _ (claims· : Claims) where
           pub asked : (a : Kinds.Dens κs ps) → (good : Kinds.GoodsP κs ps a) → (pre : Pre· κs a) → (bs : List.List Nat.ℕ) → Φ (Any.wantQ 5 ps r xs m κs qs a (Post· κs a)) (Function.init 5 ps r xs m κs qs a)
           asked = λ a good pre bs. laid record { κs = κs; args = record { self = a .0; table = a .1 .0; history = a .1 .1 .0; work = a .1 .1 .1 .0; sheet = a .1 .1 .1 .1 .0; keeps = a .1 .1 .1 .1 .1 .0 }; good = good; pre = pre }
 
-        module _ {M : Type 1} (𝓤 : URA.URA M) (H : Wp.Heap 𝓤) (A : Atoms.Atoms 𝓤) (W : Kit.Given 𝓤 H A) (𝓣 : Wp.Tables 𝓤 H) (known0 : Plain.Known 𝓤 H A W 𝓣 5 ps·0 r·0 (claims· .0) (claims· .1) "pyramid::State::judged_with") (known1 : Plain.Known 𝓤 H A W 𝓣 0 ps·1 r·1 (claims· .2) (claims· .3) "darts::Answer::number") (known2 : Plain.Known 𝓤 H A W 𝓣 0 ps·2 r·2 (claims· .4) (claims· .5) "pyramid::numbers::kept") (known3 : Plain.Known 𝓤 H A W 𝓣 3 ps·3 r·3 (claims· .6) (claims· .7) "pyramid::State::sweep_stood") (known4 : Plain.Known 𝓤 H A W 𝓣 1 ps·4 r·4 (claims· .8) (claims· .9) "pyramid::State::settle") where
+        module _ {M : Type 1} (𝓤 : URA.URA M) (H : Wp.Heap 𝓤) (A : Atoms.Atoms 𝓤) (W : Kit.Given 𝓤 H A) (𝓣 : Wp.Tables 𝓤 H) (known0 : Plain.Known 𝓤 H A W 𝓣 5 ps·0 r·0 (claims· .0) (claims· .1) "pyramid::State::judged_with") (known1 : Plain.Known 𝓤 H A W 𝓣 0 ps·1 r·1 (claims· .2) (claims· .3) "darts::Answer::number") (known2 : Plain.Known 𝓤 H A W 𝓣 0 ps·2 r·2 (claims· .4) (claims· .5) "pyramid::numbers::kept") (known3 : Plain.Known 𝓤 H A W 𝓣 3 ps·3 r·3 (claims· .6) (claims· .7) "pyramid::State::sweep_judged") (known4 : Plain.Known 𝓤 H A W 𝓣 1 ps·4 r·4 (claims· .8) (claims· .9) "pyramid::State::settle") where
           pub spec : Statement.Triple 𝓤 (Wp.WpFn 𝓤 H (𝓣 .C) (𝓣 .Λ) (Function.fnOf 5 ps r xs m hs body)) (Function.plainOf 𝓤 H A 5 ps r Pre· Post·)
           spec = Plain.t-fn-plain 𝓤 H A W 𝓣 5 ps r xs m hs body (λ κs qs bs. Φ) (λ κs qs bs bd. typed κs qs 𝓤 H A W 𝓣 (known0, known1, known2, known3, known4) bs bd) Pre· Post· asked

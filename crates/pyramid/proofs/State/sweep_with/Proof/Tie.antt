@@ -8,9 +8,9 @@ use Rattle.pyramid.proofs.State.judged_with.Symbol as Symbol'
 use Rattle.pyramid.proofs.State.settle.Met as Met''
 use Rattle.pyramid.proofs.State.settle.Reads as Reads''
 use Rattle.pyramid.proofs.State.settle.Symbol as Symbol''
-use Rattle.pyramid.proofs.State.sweep_stood.Met as Met'3
-use Rattle.pyramid.proofs.State.sweep_stood.Reads as Reads'3
-use Rattle.pyramid.proofs.State.sweep_stood.Symbol as Symbol'3
+use Rattle.pyramid.proofs.State.sweep_judged.Met as Met'3
+use Rattle.pyramid.proofs.State.sweep_judged.Reads as Reads'3
+use Rattle.pyramid.proofs.State.sweep_judged.Symbol as Symbol'3
 use Rattle.pyramid.proofs.State.sweep_with.Code
 use Rattle.pyramid.proofs.State.sweep_with.Key
 use Rattle.pyramid.proofs.Sheets.State.sweep_with.Kinds
@@ -72,17 +72,17 @@ After-kept = Lts.After-kept (Reads'.Asked, Reads'.Learnt, Reads.Asked, Reads.Lea
 abbrev pub Else1 : Type 0
 Else1 = Lts.Else1 (Reads'.Asked, Reads'.Learnt, Reads.Asked, Reads.Learnt, Reads'5.Asked, Reads'5.Learnt, Reads'3.Asked, Reads'3.Learnt, Reads''.Asked, Reads''.Learnt) Reads'4.Pre Reads'4.Post
 
-abbrev pub After-sweep-stood-arg : Type 0
-After-sweep-stood-arg = Lts.After-sweep-stood-arg (Reads'.Asked, Reads'.Learnt, Reads.Asked, Reads.Learnt, Reads'5.Asked, Reads'5.Learnt, Reads'3.Asked, Reads'3.Learnt, Reads''.Asked, Reads''.Learnt) Reads'4.Pre Reads'4.Post
+abbrev pub After-sweep-judged-arg : Type 0
+After-sweep-judged-arg = Lts.After-sweep-judged-arg (Reads'.Asked, Reads'.Learnt, Reads.Asked, Reads.Learnt, Reads'5.Asked, Reads'5.Learnt, Reads'3.Asked, Reads'3.Learnt, Reads''.Asked, Reads''.Learnt) Reads'4.Pre Reads'4.Post
 
-abbrev pub After-sweep-stood-arg2 : Type 0
-After-sweep-stood-arg2 = Lts.After-sweep-stood-arg2 (Reads'.Asked, Reads'.Learnt, Reads.Asked, Reads.Learnt, Reads'5.Asked, Reads'5.Learnt, Reads'3.Asked, Reads'3.Learnt, Reads''.Asked, Reads''.Learnt) Reads'4.Pre Reads'4.Post
+abbrev pub After-sweep-judged-arg2 : Type 0
+After-sweep-judged-arg2 = Lts.After-sweep-judged-arg2 (Reads'.Asked, Reads'.Learnt, Reads.Asked, Reads.Learnt, Reads'5.Asked, Reads'5.Learnt, Reads'3.Asked, Reads'3.Learnt, Reads''.Asked, Reads''.Learnt) Reads'4.Pre Reads'4.Post
 
-abbrev pub After-sweep-stood-arg3 : Type 0
-After-sweep-stood-arg3 = Lts.After-sweep-stood-arg3 (Reads'.Asked, Reads'.Learnt, Reads.Asked, Reads.Learnt, Reads'5.Asked, Reads'5.Learnt, Reads'3.Asked, Reads'3.Learnt, Reads''.Asked, Reads''.Learnt) Reads'4.Pre Reads'4.Post
+abbrev pub After-sweep-judged-arg3 : Type 0
+After-sweep-judged-arg3 = Lts.After-sweep-judged-arg3 (Reads'.Asked, Reads'.Learnt, Reads.Asked, Reads.Learnt, Reads'5.Asked, Reads'5.Learnt, Reads'3.Asked, Reads'3.Learnt, Reads''.Asked, Reads''.Learnt) Reads'4.Pre Reads'4.Post
 
-abbrev pub After-sweep-stood : Type 0
-After-sweep-stood = Lts.After-sweep-stood (Reads'.Asked, Reads'.Learnt, Reads.Asked, Reads.Learnt, Reads'5.Asked, Reads'5.Learnt, Reads'3.Asked, Reads'3.Learnt, Reads''.Asked, Reads''.Learnt) Reads'4.Pre Reads'4.Post
+abbrev pub After-sweep-judged : Type 0
+After-sweep-judged = Lts.After-sweep-judged (Reads'.Asked, Reads'.Learnt, Reads.Asked, Reads.Learnt, Reads'5.Asked, Reads'5.Learnt, Reads'3.Asked, Reads'3.Learnt, Reads''.Asked, Reads''.Learnt) Reads'4.Pre Reads'4.Post
 
 abbrev pub After-table : Type 0
 After-table = Lts.After-table (Reads'.Asked, Reads'.Learnt, Reads.Asked, Reads.Learnt, Reads'5.Asked, Reads'5.Learnt, Reads'3.Asked, Reads'3.Learnt, Reads''.Asked, Reads''.Learnt) Reads'4.Pre Reads'4.Post
@@ -135,8 +135,8 @@ Need-same-length-5 = Lts.Need-same-length-5 (Reads'.Asked, Reads'.Learnt, Reads.
 abbrev pub Need-returns : Type 0
 Need-returns = Lts.Need-returns (Reads'.Asked, Reads'.Learnt, Reads.Asked, Reads.Learnt, Reads'5.Asked, Reads'5.Learnt, Reads'3.Asked, Reads'3.Learnt, Reads''.Asked, Reads''.Learnt) Reads'4.Pre Reads'4.Post
 
-abbrev pub Need-sweep-stood-requires : Type 0
-Need-sweep-stood-requires = Lts.Need-sweep-stood-requires (Reads'.Asked, Reads'.Learnt, Reads.Asked, Reads.Learnt, Reads'5.Asked, Reads'5.Learnt, Reads'3.Asked, Reads'3.Learnt, Reads''.Asked, Reads''.Learnt) Reads'4.Pre Reads'4.Post
+abbrev pub Need-sweep-judged-requires : Type 0
+Need-sweep-judged-requires = Lts.Need-sweep-judged-requires (Reads'.Asked, Reads'.Learnt, Reads.Asked, Reads.Learnt, Reads'5.Asked, Reads'5.Learnt, Reads'3.Asked, Reads'3.Learnt, Reads''.Asked, Reads''.Learnt) Reads'4.Pre Reads'4.Post
 
 abbrev pub Need-settle-requires : Type 0
 Need-settle-requires = Lts.Need-settle-requires (Reads'.Asked, Reads'.Learnt, Reads.Asked, Reads.Learnt, Reads'5.Asked, Reads'5.Learnt, Reads'3.Asked, Reads'3.Learnt, Reads''.Asked, Reads''.Learnt) Reads'4.Pre Reads'4.Post
@@ -160,9 +160,9 @@ abbrev pub Need-returns-2 : Type 0
 Need-returns-2 = Lts.Need-returns-2 (Reads'.Asked, Reads'.Learnt, Reads.Asked, Reads.Learnt, Reads'5.Asked, Reads'5.Learnt, Reads'3.Asked, Reads'3.Learnt, Reads''.Asked, Reads''.Learnt) Reads'4.Pre Reads'4.Post
 
 module _ {M : Type 1} where
-  pub spec : (answer : Need-judged-with-requires) → (answer : Need-number-requires) → (answer : Need-kept-requires) → (answer : Need-same-length) → (answer : Need-same-length-2) → (answer : Need-same-length-3) → (answer : Need-same-length-4) → (answer : Need-same-length-5) → (answer : Need-returns) → (answer : Need-sweep-stood-requires) → (answer : Need-settle-requires) → (answer : Need-same-length-6) → (answer : Need-same-length-7) → (answer : Need-same-length-8) → (answer : Need-same-length-9) → (answer : Need-same-length-10) → (answer : Need-returns-2) → Lts.Closed (Reads'.Asked, Reads'.Learnt, Reads.Asked, Reads.Learnt, Reads'5.Asked, Reads'5.Learnt, Reads'3.Asked, Reads'3.Learnt, Reads''.Asked, Reads''.Learnt) Reads'4.Pre Reads'4.Post M
+  pub spec : (answer : Need-judged-with-requires) → (answer : Need-number-requires) → (answer : Need-kept-requires) → (answer : Need-same-length) → (answer : Need-same-length-2) → (answer : Need-same-length-3) → (answer : Need-same-length-4) → (answer : Need-same-length-5) → (answer : Need-returns) → (answer : Need-sweep-judged-requires) → (answer : Need-settle-requires) → (answer : Need-same-length-6) → (answer : Need-same-length-7) → (answer : Need-same-length-8) → (answer : Need-same-length-9) → (answer : Need-same-length-10) → (answer : Need-returns-2) → Lts.Closed (Reads'.Asked, Reads'.Learnt, Reads.Asked, Reads.Learnt, Reads'5.Asked, Reads'5.Learnt, Reads'3.Asked, Reads'3.Learnt, Reads''.Asked, Reads''.Learnt) Reads'4.Pre Reads'4.Post M
   spec = λ answer answer' answer'' answer'3 answer'4 answer'5 answer'6 answer'7 answer'8 answer'9 answer'10 answer'11 answer'12 answer'13 answer'14 answer'15 answer'16. Lts.spec (Reads'.Asked, Reads'.Learnt, Reads.Asked, Reads.Learnt, Reads'5.Asked, Reads'5.Learnt, Reads'3.Asked, Reads'3.Learnt, Reads''.Asked, Reads''.Learnt) Reads'4.Pre Reads'4.Post answer answer' answer'' answer'3 answer'4 answer'5 answer'6 answer'7 answer'8 answer'9 answer'10 answer'11 answer'12 answer'13 answer'14 answer'15 answer'16
 
   pub close : Lts.Closed (Reads'.Asked, Reads'.Learnt, Reads.Asked, Reads.Learnt, Reads'5.Asked, Reads'5.Learnt, Reads'3.Asked, Reads'3.Learnt, Reads''.Asked, Reads''.Learnt) Reads'4.Pre Reads'4.Post M → Statement.statement M
   unfolding Code.routine Running.tablesOf
-  close = λ closed 𝓤 H 𝓜 𝓖 𝓡. Written.close 5 Kinds.ps Kinds.r Reads'4.Ghost Reads'4.requires Reads'4.ensures Reads'4.pre-read Reads'4.Pinned Reads'4.Owned Reads'4.post-read record { M = M; 𝓤 = 𝓤; H = H; 𝓜 = 𝓜; 𝓖 = 𝓖; 𝓡 = 𝓡 } Code.env Key.name Code.function (Code.unfolded 𝓤 H 𝓜 𝓡) (λ κs a g. tt) (λ κs. Reads'4.owns κs record { M = M; 𝓤 = 𝓤; H = H; 𝓜 = 𝓜; 𝓖 = 𝓖; 𝓡 = 𝓡 }) (Reads'4.passes record { M = M; 𝓤 = 𝓤; H = H; 𝓜 = 𝓜; 𝓖 = 𝓖; 𝓡 = 𝓡 }) λ g. closed 𝓤 H (𝓖 .A) (Running.givenOf 𝓤 H 𝓜 𝓖) (Run.Over 𝓤 H 𝓜 𝓖 𝓡 Code.env) (Reads'.known record { M = M; 𝓤 = 𝓤; H = H; 𝓜 = 𝓜; 𝓖 = 𝓖; 𝓡 = 𝓡 } Code.env Symbol'.name Symbol'.routine Code.calls-pyramid·State·judged-with (Met'.met 𝓤 H 𝓜 𝓖 𝓡)) (Reads.known record { M = M; 𝓤 = 𝓤; H = H; 𝓜 = 𝓜; 𝓖 = 𝓖; 𝓡 = 𝓡 } Code.env Symbol.name Symbol.routine Code.calls-darts·Answer·number (Met.met 𝓤 H 𝓜 𝓖 𝓡)) (Reads'5.known record { M = M; 𝓤 = 𝓤; H = H; 𝓜 = 𝓜; 𝓖 = 𝓖; 𝓡 = 𝓡 } Code.env Symbol'4.name Symbol'4.routine Code.calls-pyramid·numbers·kept (Met'4.met 𝓤 H 𝓜 𝓖 𝓡)) (Reads'3.known record { M = M; 𝓤 = 𝓤; H = H; 𝓜 = 𝓜; 𝓖 = 𝓖; 𝓡 = 𝓡 } Code.env Symbol'3.name Symbol'3.routine Code.calls-pyramid·State·sweep-stood (Met'3.met 𝓤 H 𝓜 𝓖 𝓡)) (Reads''.known record { M = M; 𝓤 = 𝓤; H = H; 𝓜 = 𝓜; 𝓖 = 𝓖; 𝓡 = 𝓡 } Code.env Symbol''.name Symbol''.routine Code.calls-pyramid·State·settle (Met''.met 𝓤 H 𝓜 𝓖 𝓡))
+  close = λ closed 𝓤 H 𝓜 𝓖 𝓡. Written.close 5 Kinds.ps Kinds.r Reads'4.Ghost Reads'4.requires Reads'4.ensures Reads'4.pre-read Reads'4.Pinned Reads'4.Owned Reads'4.post-read record { M = M; 𝓤 = 𝓤; H = H; 𝓜 = 𝓜; 𝓖 = 𝓖; 𝓡 = 𝓡 } Code.env Key.name Code.function (Code.unfolded 𝓤 H 𝓜 𝓡) (λ κs a g. tt) (λ κs. Reads'4.owns κs record { M = M; 𝓤 = 𝓤; H = H; 𝓜 = 𝓜; 𝓖 = 𝓖; 𝓡 = 𝓡 }) (Reads'4.passes record { M = M; 𝓤 = 𝓤; H = H; 𝓜 = 𝓜; 𝓖 = 𝓖; 𝓡 = 𝓡 }) λ g. closed 𝓤 H (𝓖 .A) (Running.givenOf 𝓤 H 𝓜 𝓖) (Run.Over 𝓤 H 𝓜 𝓖 𝓡 Code.env) (Reads'.known record { M = M; 𝓤 = 𝓤; H = H; 𝓜 = 𝓜; 𝓖 = 𝓖; 𝓡 = 𝓡 } Code.env Symbol'.name Symbol'.routine Code.calls-pyramid·State·judged-with (Met'.met 𝓤 H 𝓜 𝓖 𝓡)) (Reads.known record { M = M; 𝓤 = 𝓤; H = H; 𝓜 = 𝓜; 𝓖 = 𝓖; 𝓡 = 𝓡 } Code.env Symbol.name Symbol.routine Code.calls-darts·Answer·number (Met.met 𝓤 H 𝓜 𝓖 𝓡)) (Reads'5.known record { M = M; 𝓤 = 𝓤; H = H; 𝓜 = 𝓜; 𝓖 = 𝓖; 𝓡 = 𝓡 } Code.env Symbol'4.name Symbol'4.routine Code.calls-pyramid·numbers·kept (Met'4.met 𝓤 H 𝓜 𝓖 𝓡)) (Reads'3.known record { M = M; 𝓤 = 𝓤; H = H; 𝓜 = 𝓜; 𝓖 = 𝓖; 𝓡 = 𝓡 } Code.env Symbol'3.name Symbol'3.routine Code.calls-pyramid·State·sweep-judged (Met'3.met 𝓤 H 𝓜 𝓖 𝓡)) (Reads''.known record { M = M; 𝓤 = 𝓤; H = H; 𝓜 = 𝓜; 𝓖 = 𝓖; 𝓡 = 𝓡 } Code.env Symbol''.name Symbol''.routine Code.calls-pyramid·State·settle (Met''.met 𝓤 H 𝓜 𝓖 𝓡))
