@@ -132,7 +132,7 @@ const GIVEN_BY: [(&str, &[Call], &str); COLUMNS] = [
         &[Contract, YarnContract],
         "\"contraction with one vertex at both ends\"; the sweep is a removal, a first kernel leaves such edges",
     ),
-    ("10", &[Remove, YarnRemove], "a sweep takes empty loops that are no whole piece, and these have two faces"),
+    ("10", &[Remove, YarnRemove], "a sweep judges no edge: an empty loop has two different faces"),
     ("11", &[Contract, Remove, YarnContract, YarnRemove], "a sweep or a first kernel takes no whole piece"),
     ("12", &[Undo, Unfold, Successor, YarnUndo, YarnUnfold], "the others go to no lower level and look at none"),
     ("13", &[Read, Levels], "the others are given no file"),

@@ -38,15 +38,14 @@ pub fn reduce(map: &mut Map, kind: Kind, edges: &[u32]) -> Result<Vec<u32>, Refu
 }
 
 /// "one pass over the edges by rising number, taking each surviving edge that at its turn is an empty loop (r = q or
-/// s = p) and no whole piece. It answers 10 if such an edge has one face on both sides." The judge gives that 10, at
-/// the place it would have.
-pub fn sweep(map: &mut Map) -> Result<Vec<u32>, Refusal> {
+/// s = p) and no whole piece." None is judged: "an empty loop always has two different faces" (request Seven of document
+/// 02).
+pub fn sweep(map: &mut Map) -> Vec<u32> {
     let mut numbers = Vec::new();
     for edge in 0..map.edges() {
         if map.survives(2 * edge) && map.empty_loop(edge) && !map.whole_piece(edge) {
-            judge(map, Kind::Remove, edge, numbers.len())?;
             numbers.push(operate(map, Kind::Remove, edge));
         }
     }
-    Ok(numbers)
+    numbers
 }

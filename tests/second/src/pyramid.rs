@@ -121,7 +121,7 @@ impl Pyramid {
     pub fn sweep(&mut self) -> Result<(), Refusal> {
         self.judge_room()?;
         let mut map = self.map().clone();
-        let numbers = kernel::sweep(&mut map)?;
+        let numbers = kernel::sweep(&mut map);
         self.add_level(map, numbers)
     }
 

@@ -8,6 +8,7 @@ mod levels;
 mod lookups;
 mod plans;
 mod stored;
+mod sweeps;
 mod yarn;
 
 use copies::{compare, second_with};

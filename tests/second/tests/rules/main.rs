@@ -8,6 +8,7 @@
 //! - `no_pyramid`  answer 4: the table of seventeen tests, and faults of shape
 //! - `every_small` every table and history of up to 6 darts against the words of document 01
 //! - `stored`      the numbers of vertices and faces that a state stores, right and wrong
+//! - `sweeping`    an empty loop's two faces; the sweep is a kernel of removals, by every base of up to 8 darts
 //! - `undoing`, `any_order`, `files`, `cycles`  random pyramids over maps of up to 12 darts
 //! - `lookups`     the successor at a level: what is found, each refusal, and their order
 //! - `ends`        tables and edges' ends that come from no pyramid; every one of up to 6 darts
@@ -46,6 +47,7 @@ mod rubbish;
 mod scripts;
 mod stored;
 mod support;
+mod sweeping;
 mod two_ways;
 mod undoing;
 mod worked;
