@@ -31,7 +31,7 @@ static uint32_t contract_inside(struct area area, struct lent *lent, const uint3
 }
 
 static uint32_t sweep_inside(struct area area, struct lent *lent, size_t place[2]) {
-    if (!area_check(area, lent, REMOVE)) return 4;
+    if (!area_check(area, lent, NEITHER)) return 4;
     if (lent->state.levels >= MOST_LEVELS) return 6;
     return area_level(area, lent, area_sweep(area, lent->state.operations), &lent->state.faces, place);
 }

@@ -166,18 +166,15 @@ static uint32_t contract_inside(struct walk walk, struct lent *lent, const uint3
     return level(walk, lent, m);
 }
 
-static uint32_t sweep_inside(struct walk walk, struct lent *lent, size_t place[2]) {
+static uint32_t sweep_inside(struct walk walk, struct lent *lent) {
     uint32_t m = lent->state.operations;
     if (!check(walk, lent)) return 4;
     if (lent->state.levels >= MOST_LEVELS) return 6;
     for (uint32_t edge = 0; edge < walk.darts / 2; edge++) {
         uint32_t p = 2 * edge, q = p + 1;
         if (walk.gone[p] != 0 || (walk.map[p] == q) == (walk.map[q] == p)) continue;
-        place[0] = m - lent->state.operations;
-        if (meets(walk, REMOVE, p, q)) return 10;
         walk.history[m++] = operate(walk, REMOVE, edge);
     }
-    place[0] = 0;
     return level(walk, lent, m);
 }
 
@@ -264,7 +261,7 @@ static uint32_t contract(struct lent *lent, const uint32_t *kernel, size_t lengt
 }
 
 static uint32_t sweep(struct lent *lent, size_t place[2]) {
-    CALL(lent->state.darts, sweep_inside(walk, lent, place));
+    CALL(lent->state.darts, sweep_inside(walk, lent));
 }
 
 static uint32_t counts(struct lent *lent, uint32_t counts[4], size_t place[2]) {
