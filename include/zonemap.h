@@ -84,7 +84,7 @@ enum {
                               * For zm_successor, the dart is D or more; place 0 */
     ZM_GONE_ALREADY = 8,     /* the edge is gone already; for zm_successor, the dart is gone by the level, place 0 */
     ZM_ONE_VERTEX = 9,       /* contraction with one vertex at both ends */
-    ZM_ONE_FACE = 10,        /* removal with one face on both sides */
+    ZM_ONE_FACE = 10,        /* removal with one face on both sides, by zm_remove alone */
     ZM_WHOLE_PIECE = 11,     /* the edge is a whole piece */
     ZM_NO_LEVEL = 12,        /* undo at the base, or a level above the top. Place: the top level */
     ZM_NO_FILE = 13,         /* the bytes leave the file's form. Place: the first wrong byte, or the length where the file ends early */
@@ -176,8 +176,8 @@ uint32_t zm_remove(uint32_t state[ZM_STATE],
                    size_t *place, size_t *second);
 
 /* One level more: a removal kernel of one pass over the edges by rising number, which takes each surviving edge that at its
- * turn is an empty loop and no whole piece.
- * Answers 0, 1, 2, 4, 5, 6, 10; for 10 the place counts the edges taken before.
+ * turn is an empty loop and no whole piece. No edge is refused: an empty loop always has two different faces.
+ * Answers 0, 1, 2, 4, 5, 6.
  * Writes state, table and history where it is accepted.
  * Lengths: table D, history D/2, work 4D, D = state[0]. */
 uint32_t zm_sweep(uint32_t state[ZM_STATE],
