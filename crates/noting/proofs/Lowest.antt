@@ -2,21 +2,28 @@
 --   lowest-found   == the lowest is what is on x's vertex where no lower dart is
 --   label-lowest   == the labels in the forest's part are the lowest darts
 --   roots-lowest   == and so are its roots
+--   ready-lowest   == and so are the roots of any forest that judges contractions on the base
+--   Own D b v      == of the darts exactly the records' places are their own labels in v
+--   ready-own      == and so it is in such a forest
 use mathlib.Core.Bool.{Bool, true, false}
 use mathlib.Core.List.{List, []}
 use mathlib.Core.Path.{_≡_, refl, sym, ap, _∙_, subst}
 use Prim.Native.Nat.{ℕ, zero, suc, _+_, _*_, _≤_, _<_}
 use native.Mathlib.Decide.{ℕ-discrete}
 use native.Mathlib.Omega.{arith}
-use lib.Dec.{T}
+use lib.Dec.{T, eqb}
 use lib.ListN.{getD}
-use Rattle.permutations.specs.Choice.{pick, T→true, nT→false}
+use Rattle.permutations.specs.Choice.{pick, T→true, nT→false, eqb-same, eqb-other}
 use Rattle.permutations.specs.Perm.{Perm}
 use Rattle.permutations.specs.Cycle.{Meets}
+use Rattle.permutations.specs.Labels.{Labels}
 use Rattle.darts.specs.Map.{sameVertex, live, survives, gone}
 use Rattle.darts.specs.Operation.{kindOf}
+use Rattle.forest.specs.Forest.{parent, Falls, root}
 use Rattle.forest.specs.Lowest.{lowest-root}
-use Rattle.forest.specs.Forest.{parent}
+use Rattle.forest.specs.Roots.{root-top, root-settled}
+use Rattle.laws.specs.Standing.{mapOf, Standing}
+use Rattle.laws.proofs.bridge.Bases.{all-live}
 use Rattle.laws.proofs.bridge.Standing.{live-iff}
 use Rattle.laws.proofs.bridge.Judged.{same-vertex}
 use Rattle.area.specs.Area.{tableIn, pastIn, forestIn}
@@ -24,10 +31,12 @@ use Rattle.area.specs.Cycles.{stepIn, Labelled}
 use Rattle.area.specs.Trees.{rooted}
 use Rattle.area.proofs.Outside.{forest-at}
 use Rattle.area.proofs.Steps.{cycle-classes}
-use Rattle.engine.specs.Held.{Area}
+use Rattle.engine.specs.Held.{Area, Ready}
 use Rattle.engine.proofs.Around.{step-ring, step-perm}
 use Rattle.engine.proofs.Parts.{past-none}
-use Rattle.yarn.specs.Places.{lowestFrom, lowest}
+use Rattle.yarn.specs.Places.{lowestFrom, lowest, isPlace}
+use Rattle.yarn.proofs.Lowest.{lowest-least, lowest-below, lowest-met}
+use Rattle.noting.proofs.Stepping.{root-down}
 
 module _ (D : ℕ) (b : List ℕ) (x : ℕ) (z : ℕ) (there : T (sameVertex D b z x)) (first : (y : ℕ) → y < z → ¬ T (sameVertex D b y x)) where
   found-from : (n y : ℕ) → y ≤ z → z < y + n → lowestFrom D b x n y ≡ z
@@ -69,3 +78,42 @@ module _ {D : ℕ} {w v : List ℕ} (A : Area D 0 w) (L : Labelled D 1 w v) wher
 
   pub roots-lowest : (x : ℕ) → x < D → rooted D v x ≡ lowest D (tableIn D w) x
   roots-lowest x l = lowest-root (cycle-classes π) (L .lowest) x l ∙ forest-at D v x l ∙ label-lowest x l
+
+-- ---- any forest of the base's vertices
+
+-- a number is its own parent where it is its own root
+own-parent : {f : List ℕ} → Falls f → (x : ℕ) → eqb (parent f x) x ≡ eqb (root f x) x
+own-parent {f} F x = go (ℕ-discrete (parent f x) x)
+  where
+    go : Dec (parent f x ≡ x) → eqb (parent f x) x ≡ eqb (root f x) x
+    go (yes e) = eqb-same e ∙ sym (eqb-same (root-top f x e))
+    go (no n) = eqb-other n ∙ sym (eqb-other (λ e. n (subst (λ y. parent f y ≡ y) e (root-settled F x))))
+
+module _ {D : ℕ} {b f : List ℕ} (S : Standing D b []) (F : Falls f) (Λ : Labels (live D []) (mapOf D b [] .next) (root f)) where
+  -- a root is its own root, so it is on the vertex; and the lowest dart, whose root it is too, is not below it
+  least-root : (x : ℕ) → x < D → root f x ≡ lowest D b x
+  least-root x l =
+      let r : ℕ = root f x in
+      let m : ℕ = lowest D b x in
+      let down : r ≤ x = root-down F x in
+      let dart : r < D = omega arith in
+      let below : m ≤ x = lowest-below S x l in
+      let own : root f r ≡ r = root-top f r (root-settled F x) in
+      let there : T (sameVertex D b r x) = same-vertex S r x (all-live D r .1 dart) .1 (Λ .says r x (all-live D r .1 dart) (all-live D x .1 l) .0 own) in
+      let least : m ≤ r = lowest-least D b x r there in
+      let same : root f m ≡ r = Λ .says m x (all-live D m .1 (omega arith)) (all-live D x .1 l) .1 (lowest-met S x l) in
+      let under : root f m ≤ m = root-down F m in
+      omega arith
+
+abbrev pub Own : ℕ → List ℕ → List ℕ → Type 0
+Own D b v = (x : ℕ) → x < D → eqb (getD v (2 * D + x) 0) x ≡ isPlace D b x
+
+module _ {D : ℕ} {w : List ℕ} (R : Ready D 0 1 w) where
+  pub ready-lowest : (x : ℕ) → x < D → rooted D w x ≡ lowest D (tableIn D w) x
+  unfolding kindOf
+  ready-lowest = least-root (rw (past-none D w) at (R .area .stands)) (R .falls) (rw (past-none D w) at (R .roots))
+
+  pub ready-own : Own D (tableIn D w) w
+  unfolding isPlace
+  ready-own x l =
+      ap (λ y. eqb y x) (sym (forest-at D w x l)) ∙ own-parent (R .falls) x ∙ ap (λ y. eqb y x) (ready-lowest x l)

@@ -3,6 +3,7 @@
 --   placed-no     == the table does not permute the darts
 --   placed-yes    == where it does, it is labelled
 --   unfit-found   == the first place whose record is not fit
+--   placed-own    == the labels lead to it
 use mathlib.Core.Bool.{_||_}
 use mathlib.Core.List.{List, []}
 use mathlib.Core.Path.{_≡_, refl, sym, ap, _∙_, subst}
@@ -30,7 +31,7 @@ use Rattle.sheets.specs.Notes.{unfitIn}
 use Rattle.yarn.specs.Places.{lowestFrom, lowest, isPlace}
 use Rattle.yarn.specs.Calls.{unfitFrom, firstUnfit}
 use Rattle.noting.specs.Running.{Placed}
-use Rattle.noting.proofs.Lowest.{label-lowest}
+use Rattle.noting.proofs.Lowest.{label-lowest, Own}
 
 -- ---- the first D numbers of a table
 
@@ -95,13 +96,18 @@ module _ (D : ℕ) (t w : List ℕ) (room : Room D w) (long : D ≤ length t) wh
 
 -- ---- the first place whose record is not fit
 
-module _ {D : ℕ} {t w v : List ℕ} {r : Verdict} (P : Placed D t w v r) (passes : verdictOf r ≡ permutes) (S : Sheets) where
-  unfit-from : (n x : ℕ) → x + n ≤ D → unfitIn D v S n x ≡ unfitFrom D t S n x
-  unfolding unfitIn unfitFrom isPlace
+-- only the first sheet is looked at
+module _ (D : ℕ) (t v : List ℕ) (own : Own D t v) (S : Sheets) where
+  unfit-from : (n x : ℕ) → x + n ≤ D → unfitIn D v (record { sheet = S .sheet; kept = [] }) n x ≡ unfitFrom D t S n x
+  unfolding unfitIn unfitFrom
   unfit-from zero x l = refl
-  unfit-from (suc n) x l = rw (P .labels passes x (omega arith), unfit-from n (suc x) (omega arith)) refl
+  unfit-from (suc n) x l = rw (own x (omega arith), unfit-from n (suc x) (omega arith)) refl
 
   -- "place the first such record"
-  pub unfit-found : unfitIn D v S D 0 ≡ firstUnfit D t S
+  pub unfit-found : unfitIn D v (record { sheet = S .sheet; kept = [] }) D 0 ≡ firstUnfit D t S
   unfolding firstUnfit
   unfit-found = unfit-from D 0 (omega arith)
+
+pub placed-own : {D : ℕ} {t w v : List ℕ} {r : Verdict} → Placed D t w v r → verdictOf r ≡ permutes → Own D t v
+unfolding isPlace
+placed-own P passes x l = ap (λ y. eqb y x) (P .labels passes x l)

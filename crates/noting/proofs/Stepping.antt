@@ -1,4 +1,5 @@
 -- One operation of the replay: its two vertices joined, and its note and links written.
+--   root-down      == a root is not above its number
 --   roots-below    == the roots of the forest's part are darts
 --   roots-own      == a root is its own root
 --   both-below, joined-room == both roots are darts, and the four parts still fit
@@ -38,11 +39,15 @@ unfolding climb
 climb-down F zero x = omega arith
 climb-down {t} F (suc k) x = omega (arith, climb-down F k (parent t x), F .down x)
 
+pub root-down : {t : List ℕ} → Falls t → (x : ℕ) → root t x ≤ x
+unfolding root
+root-down F x = climb-down F x x
+
 root-below : {t : List ℕ} → Falls t → 0 < length t → (x : ℕ) → root t x < length t
 root-below {t} F some x = by-cases (decLt x (length t)) (λ l. near x l) (λ n. far x n)
   where
     near : (x : ℕ) → x < length t → root t x < length t
-    near x l = unfold root in omega (arith, climb-down F x x)
+    near x l = omega (arith, root-down F x)
 
     far : (x : ℕ) → ¬ (x < length t) → root t x < length t
     far x n =

@@ -1,5 +1,6 @@
 -- The ways that the check beside the records ends, and the judgement with the records after it.
 --   fitting-of    == answers 1 and 2 by the lengths of the sheets
+--   fitting-zero  == neither
 --   noted-of, reloads-of, reloaded-of == the same of the state that figures are
 --   check-first   == 1 or 2: nothing is written
 --   check-asks    == neither: what the check asks
@@ -41,6 +42,10 @@ pub fitting-of : (D : ℕ) (t h w : List ℕ) (S : Sheets) {k l : ℕ} → lengt
     → fittingOf D t h w S ≡ fitting D (length t) (length h) (length w) k l
 unfolding fittingOf
 fitting-of D t h w S e f = ap₂ (λ (k l : ℕ). fitting D (length t) (length h) (length w) k l) e f
+
+pub fitting-zero : (D : ℕ) (t h w : List ℕ) (S : Sheets) {k l : ℕ} → length (S .sheet) ≡ k → length (S .kept) ≡ l
+    → fitting D (length t) (length h) (length w) k l .number ≡ 0 → fittingOf D t h w S .number ≡ 0
+fitting-zero D t h w S e f fine = ap (λ (b : Answer). b .number) (fitting-of D t h w S e f) ∙ fine
 
 -- ---- the state's numbers, by figures
 
@@ -97,7 +102,7 @@ module _ (S : Stored) {t h w : List ℕ} {k l : ℕ} {a : Answer} (E : a ≡ fit
   module _ (fine : a .number ≡ 0) {v : List ℕ} {r : Found} (N : NoteChecked (S .state) t h w v (r .pyramid))
       (F : FindsCycles (S .state .darts) (tableOf (S .state) t) (pastOf (S .state) h) r) where
     zero-of : (C : Sheets) → length (C .sheet) ≡ k → length (C .kept) ≡ l → fittingOf (S .state .darts) t h w C .number ≡ 0
-    zero-of C e f = ap (λ (b : Answer). b .number) (fitting-of (S .state .darts) t h w C e f ∙ sym E) ∙ fine
+    zero-of C e f = fitting-zero (S .state .darts) t h w C e f (sym (ap (λ (b : Answer). b .number) E) ∙ fine)
 
     refused-of : ((C : Sheets) → length (C .sheet) ≡ k → length (C .kept) ≡ l → JudgedStoredWith S t h w (cleared (S .state .darts) v) C noPyramid)
         → CheckedWith S t h w k l (cleared (S .state .darts) v) noPyramid
@@ -142,7 +147,7 @@ module _ {S : Stored} {t h w : List ℕ} {k l : ℕ} {v : List ℕ} {a : Answer}
   D = S .state .darts
 
   fits-zero : fittingOf D t h w C .number ≡ 0
-  fits-zero = ap (λ (b : Answer). b .number) (fitting-of D t h w C (sym e) (sym f)) ∙ K .fits fine
+  fits-zero = fitting-zero D t h w C (sym e) (sym f) (K .fits fine)
 
   pub right-asks : Linked D (S .state .operations) v × (D ≤ length (C .sheet)) × (S .state .operations ≤ length (C .kept))
   right-asks =

@@ -1,5 +1,6 @@
 -- What a call with sheets is judged, in code.
 --   with-first   == 1 or 2: nothing is written
+--   refused-four == 4: the work area is cleared
 --   with-no      == it is no pyramid: 4, and the work area is cleared
 --   with-wrong   == the sheets are not right: 4 too
 --   with-yes     == it is a pyramid, and its sheets are right
@@ -86,7 +87,7 @@ module _ (s : State) (t h w : List ℕ) (S : Sheets) {a : Answer} (E : a ≡ fit
         let m = F .count .some in
         record { even = F .count .even; some = omega arith; small = F .count .small; fits = F .lengths .work }
 
-    refused-four : {v : List ℕ} → Beyond (s .darts) w v → noPyramid ≡ judged s t h w S → JudgedWith s t h w (cleared (s .darts) v) S noPyramid
+    pub refused-four : {v : List ℕ} → Beyond (s .darts) w v → noPyramid ≡ judged s t h w S → JudgedWith s t h w (cleared (s .darts) v) S noPyramid
     unfolding workAfter
     refused-four {v} B e = record {
       answer = e;

@@ -16,4 +16,5 @@ pub mod OnSheets
 pub mod UnfoldedWith
 pub mod Sheets
 pub mod ChecksWith
+pub mod AtBase
 pub mod StartsWith

@@ -36,9 +36,9 @@ use Rattle.yarn.specs.Given.{Fit}
 use Rattle.yarn.specs.Calls.{costed, fitting, fittingOf, firstUnfit, beginsWith, startWith}
 use Rattle.yarn.specs.Stored.{costedStored, numberedWith, startStoredWith}
 use Rattle.yarn.proofs.sentences.Lengths.{fits}
-use Rattle.yarn.proofs.sentences.Unfit.{FirstUnfit, some-or-none, unfit-alike}
+use Rattle.yarn.proofs.sentences.Unfit.{FirstUnfit, some-or-none}
 use Rattle.noting.specs.Running.{Placed}
-use Rattle.noting.proofs.Placed.{unfit-found}
+use Rattle.noting.proofs.Placed.{unfit-found, placed-own}
 use Rattle.pyramid.specs.Costs.{Begun, costsStored}
 use Rattle.pyramid.specs.Checking.{BeganWith}
 use Rattle.pyramid.specs.Values.{leftStored, Hands}
@@ -149,11 +149,8 @@ module _ {D : ℕ} {t : List ℕ} {h : ℕ} {w : List ℕ} {k l : ℕ} {v : List
     pub unfit-asks : (3 * D ≤ length v) × (D ≤ length (S .sheet))
     unfit-asks = (omega (arith, finish-asks .fits), fits D t g w S fits-zero .room .sheet)
 
-    -- only the first sheet is looked at
     found : unfitIn D v (record { sheet = S .sheet; kept = [] }) D 0 ≡ firstUnfit D t S
-    found =
-        unfit-found (K .placed fine) refl (record { sheet = S .sheet; kept = [] })
-        ∙ unfit-alike D t (record { sheet = S .sheet; kept = [] }) S (record { sheet = λ x _ _. refl; kept = λ i l. absurd (omega arith) })
+    found = unfit-found D t v (placed-own (K .placed fine) refl) S
 
     module _ {x y : ℕ} (N : CyclesAre D (take D t) [] x y) where
       ends : FirstUnfit D t S (firstUnfit D t S) ⊎ ((firstUnfit D t S ≡ D) × Fit D t S) → {o : Outcome} → Begun D x y (firstUnfit D t S) o

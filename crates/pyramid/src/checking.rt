@@ -17,7 +17,7 @@ ghost use Rattle.darts.specs.Cases.{answerOf};
 ghost use Rattle.area.specs.Area.{Room};
 ghost use Rattle.noting.specs.Checks.{Reloads, Reloaded};
 ghost use Rattle.pyramid.specs.Costs.{Begun};
-ghost use Rattle.pyramid.specs.Checking.{CheckedWith, BeganWith, BeginsCycles};
+ghost use Rattle.pyramid.specs.Checking.{CheckedWith, CheckedPlain, BeganWith, BeginsCycles};
 ghost use Rattle.pyramid.specs.Values.{stateOf, storedOf};
 
 // 1, 2 and 3 of a start, which is lent a history and sheets of these lengths. Where it is none of them, the work area labels each dart with the place of its
@@ -100,6 +100,32 @@ impl State {
         }
         clear(work, self.darts as usize);
         Answer::NoPyramid
+    }
+
+    // The same as the plain call judges it. Where it is none of them, the work area holds the map, and its forest of vertices judges contractions.
+    pub(crate) fn check_plain(
+        self,
+        table: &[u32],
+        history: &[u32],
+        work: &mut [u32],
+        sheet: usize,
+        keeps: usize,
+    ) -> Answer
+        ensures { λ r. ⌜
+            CheckedPlain (storedOf self) (now (table .entry)) (now (history .entry)) (now (work .entry)) sheet keeps (now (work .exit)) (answerOf r) ⌝ }
+    {
+        let fits = fit_with(
+            self.darts,
+            table.len(),
+            history.len(),
+            work.len(),
+            sheet,
+            keeps,
+        );
+        if fits.number() != 0 {
+            return fits;
+        }
+        self.judged(1, table, history, work)
     }
 
     // The records are right: table and history are loaded again.

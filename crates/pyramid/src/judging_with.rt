@@ -3,7 +3,9 @@ use crate::Answer;
 use crate::State;
 use sheets::Zone;
 use sheets::loops::all_right;
+use sheets::loops::first_unfit;
 use sheets::thin::records;
+ghost use mathlib.Core.Path.{_≡_};
 ghost use Rattle.darts.specs.Cases.{answerOf};
 ghost use Rattle.pyramid.specs.Costs.{JudgedStoredWith};
 ghost use Rattle.pyramid.specs.Values.{storedOf};
@@ -23,6 +25,9 @@ impl State {
             JudgedStoredWith (storedOf self) (now (table .entry)) (now (history .entry)) (now (work .entry)) (now (work .exit))
             (record { sheet = now (sheet .entry); kept = now (keeps .entry) }) (answerOf r) ⌝ }
     {
+        if self.operations == 0 {
+            return self.judged_base(table, history, work, sheet, keeps);
+        }
         let k = records(sheet);
         let l = records(keeps);
         let first = self.check_with(table, history, work, k, l);
@@ -37,6 +42,32 @@ impl State {
             keeps,
         ) {
             return self.accept(table, history, work);
+        }
+        self.refuse(work)
+    }
+    // The same at a base: what the plain call judges, and then the record at each place that is its own label. Nothing was merged yet, so no links are needed.
+    pub(crate) fn judged_base(
+        self,
+        table: &[u32],
+        history: &[u32],
+        work: &mut [u32],
+        sheet: &[Zone],
+        keeps: &[Zone],
+    ) -> Answer
+        requires { ⌜ self .operations ≡ 0 ⌝ }
+        ensures { λ r. ⌜
+            JudgedStoredWith (storedOf self) (now (table .entry)) (now (history .entry)) (now (work .entry)) (now (work .exit))
+            (record { sheet = now (sheet .entry); kept = now (keeps .entry) }) (answerOf r) ⌝ }
+    {
+        let k = records(sheet);
+        let l = records(keeps);
+        let first = self.check_plain(table, history, work, k, l);
+        if first.number() != 0 {
+            return first;
+        }
+        let d = self.darts as usize;
+        if first_unfit(work, d, sheet) == d {
+            return Answer::Done(0);
         }
         self.refuse(work)
     }

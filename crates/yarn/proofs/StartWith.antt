@@ -1,12 +1,13 @@
 -- A base that a start accepts, with its sheets.
 --   fit-front    == the records of the base in a table are those of the base in its first D numbers
---   fit-given    == sheets whose base records are fit are given, before any operation
+--   fit-given    == before any operation sheets are given exactly where the base's records are fit
 --   Begun D t h w S a == a leaves what the plain start leaves of the base in t, and the sheets S, with room, and fit
 --   start-begun  == so it is where a start with sheets answers 0
 --   begun-above  == from there calls with sheets can be made
 --   start-total  == and whatever calls are accepted, the total of stitches stays the base's
 use mathlib.Core.Bool.{Bool, true, false, not, _||_, _&&_}
 use mathlib.Core.List.{List, [], reverse}
+use mathlib.Core.Logic.{_↔_}
 use mathlib.Core.Path.{_≡_, refl, sym, ap, ap₂, _∙_, subst, subst₂}
 use Prim.Native.Nat.{ℕ, zero, suc, _+_, _/_, _≤_, _<_}
 use native.Mathlib.Omega.{arith}
@@ -61,11 +62,13 @@ module _ (D : ℕ) (t : List ℕ) (B : Standing D (take D t) []) where
 
 -- ---- sheets of a base
 
-fit-given : {D : ℕ} {b : List ℕ} → Standing D b [] → (S : Sheets) → D ≤ length (S .sheet) → Fit D b S → T (given D b [] S)
+pub fit-given : {D : ℕ} {b : List ℕ} → Standing D b [] → (S : Sheets) → D ≤ length (S .sheet) → Fit D b S ↔ T (given D b [] S)
 unfolding mergedBy
-fit-given B S long F =
-    given-decided B [] tt tt S long (omega arith) .1
-    (record { first = S; long = long; keeps = omega arith; fit = F; looked = record { sheet = λ x d p. refl; kept = λ t h k. refl } })
+fit-given B S long =
+    let decided = given-decided B [] tt tt S long (omega arith) in (
+      λ F. decided .1 (record { first = S; long = long; keeps = omega arith; fit = F; looked = record { sheet = λ x d p. refl; kept = λ t h k. refl } }),
+      λ g. let G = decided .0 g in record { each = λ x d p. rw (← G .looked .sheet x d p) (G .fit .each x d p) },
+    )
 
 pub record Begun (D : ℕ) (t h w : List ℕ) (S : Sheets) (a : Costed) : Type 0 where
   pub plain : a .plain ≡ start D t h w
@@ -102,7 +105,7 @@ module _ {D : ℕ} {t h w : List ℕ} {S : Sheets} {a : Costed} (G : Begun D t h
         lent = begun .left .lent;
         sheet = long;
         kept = rw (G .sheets, darts) (G .kept);
-        given = subst (λ p. T (given (a .plain .state .darts) (baseBy a) (reverse p) (a .sheets))) (sym begun-past) (fit-given B (a .sheets) long fits);
+        given = subst (λ p. T (given (a .plain .state .darts) (baseBy a) (reverse p) (a .sheets))) (sym begun-past) (fit-given B (a .sheets) long .0 fits);
       }
 
   -- a base, and its own sheets

@@ -5,6 +5,7 @@
 --   stored-with-lent, stored-with-done == of a pyramid with its numbers and its sheets it is done; and where it is done, it is one
 --   stored-with-decides         == a call is judged done exactly where the lengths fit, state, table and history are a pyramid with its numbers, and the sheets are given
 --   stored-with-wrong           == where the lengths fit and the numbers are wrong, it is judged 4
+--   stored-with-same            == where the lengths fit, what is refused without sheets is refused so with them
 --   on-with-lent, on-with-refused, on-with-done == what a call is, given such a pyramid, and what it is otherwise
 --   calledStoredWith c          == the call c
 --   stored-with-plain           == with right sheets a call leaves what it leaves without sheets
@@ -24,11 +25,13 @@ use lib.Dec.{T}
 use Rattle.permutations.specs.Choice.{T?, T→true, nT→false, eqb-same, eqb-other}
 use Rattle.darts.specs.Answers.{Answer, done, noPyramid}
 use Rattle.darts.specs.State.{State}
-use Rattle.darts.specs.Calls.{After, tableOf, pastOf, cleared, workAfter}
-use Rattle.darts.specs.Stored.{Stored, storing, stores, StoredPyramid, zeros, AfterStored, leavesStored, numbered}
+use Rattle.darts.specs.Calls.{After, tableOf, pastOf, cleared, workAfter, judged as judgedPlain}
+use Rattle.darts.specs.Stored.{Stored, storing, stores, StoredPyramid, zeros, AfterStored, leavesStored, numbered, judgedStored}
 use Rattle.darts.proofs.Fitting.{count-facts}
 use Rattle.laws.proofs.chained.OnLent.{Call, byKernel, bySweep, byUndo, toLevel, called}
+use Rattle.laws.proofs.calls.Judging as Plain
 use Rattle.laws.proofs.stored.Judging.{LentStored, stores-iff}
+use Rattle.laws.proofs.stored.Judging as PlainStored
 use Rattle.laws.proofs.stored.Calls.{numbered-done, numbered-answer, on-lent, calledStored, called-stored}
 use Rattle.laws.proofs.stored.Always.{LeftStored, numbered-lent}
 use Rattle.laws.proofs.stored.Refused.{Kept, refused-keeps}
@@ -36,7 +39,7 @@ use Rattle.sheets.specs.Sheets.{Sheets}
 use Rattle.yarn.specs.Calls.{Costed, fittingOf, judged, startWith}
 use Rattle.yarn.specs.Stored.{CostedStored, costedStored, numberedWith, judgedStoredWith, onStoredWith, startStoredWith, reduceStoredWith, sweepStoredWith, undoStoredWith, unfoldStoredWith}
 use Rattle.yarn.proofs.sentences.Lengths.{fits, fitting-fine}
-use Rattle.yarn.proofs.sentences.Judging.{Right, Judging, uncounted, cramped, narrow, other, strange, lent, judging}
+use Rattle.yarn.proofs.sentences.Judging.{Right, Judging, uncounted, cramped, narrow, other, strange, lent, judging, judged-other}
 use Rattle.yarn.proofs.sentences.Refused.{reduce-refused, sweep-refused, undo-refused, unfold-refused, start-sheets}
 use Rattle.yarn.proofs.LentWith.{LentWith, judged-lent, judged-done}
 use Rattle.yarn.proofs.CalledWith.{calledWith, called-plain, with-left}
@@ -138,6 +141,25 @@ module _ (S : Stored) (t h w : List ℕ) (C : Sheets) where
       go (other F n j) = unfit-with (rw j (λ z. omega arith)) ∙ j
       go (strange F n j) = unfit-with (rw j (λ z. omega arith)) ∙ j
       go (lent L j) = wrong-with (ap (λ (a : Answer). a .number) j) f
+
+  module _ (e : fit .number ≡ 0) where
+    -- without sheets too 1 and 2 are past
+    same-other : Plain.Judging s t h w → judgedPlain s t h w .number ≢ 0 → judgedStoredWith S t h w C ≡ judgedPlain s t h w
+    same-other (Plain.uncounted n j) _ = absurd (n (fits (s .darts) t h w C e .count))
+    same-other (Plain.cramped c n j) _ = absurd (n (fits (s .darts) t h w C e .lengths))
+    same-other (Plain.other c l n j) _ =
+        let four = judged-other s t h w C (fits (s .darts) t h w C e) n in
+        unfit-with (rw four (λ z. omega arith)) ∙ four ∙ sym j
+    same-other (Plain.lent L j) n = absurd (n (ap (λ (a : Answer). a .number) j))
+
+    -- WHAT IS REFUSED WITHOUT SHEETS IS REFUSED SO WITH THEM
+    pub stored-with-same : judgedStored S t h w .number ≢ 0 → judgedStoredWith S t h w C ≡ judgedStored S t h w
+    stored-with-same refused = go (PlainStored.judging-stored S t h w)
+      where
+        go : PlainStored.JudgingStored S t h w → judgedStoredWith S t h w C ≡ judgedStored S t h w
+        go (PlainStored.unfit n j) = same-other (Plain.judging s t h w) n ∙ sym j
+        go (PlainStored.wrong L f j) = stored-with-wrong e f ∙ sym j
+        go (PlainStored.right L j) = absurd (refused (ap (λ (a : Answer). a .number) j))
 
 -- ---- a call with sheets on a state with its numbers
 

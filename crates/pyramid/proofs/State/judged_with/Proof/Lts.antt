@@ -65,319 +65,376 @@ abbrev pub r : Kinds.RK 5
 r = Value.rVal record { ty = Declared.row Answer.the-type; one = Path'.refl; val = Laws''.val Answer.the-type Laws.the-laws; tells = Laws''.tells Answer.the-type Laws.the-laws; still = Laws''.still Answer.the-type Laws.the-copy Exit.yes; row = Rows.whole (Declared.row Answer.the-type); rd = λ x. x; mk = λ x. x } λ M 𝓤 H A W. record { copies = Laws''.copy Answer.the-type Laws.the-copy 𝓤 H A W; lawful = Laws''.lawful Answer.the-type Laws.the-laws 𝓤 H A W tt; makes = Laws''.makes Answer.the-type Laws.the-plain 𝓤 H A; in-mem = Local.mem-whole 𝓤 H A W (Declared.row Answer.the-type); of-mem = Local.whole-mem 𝓤 H A W (Declared.row Answer.the-type) }
 
 abbrev pub xs : List.List Syntax.Ty
-xs = List._∷_ (Syntax.tyInt Syntax.w64) (List._∷_ (Syntax.tyInt Syntax.w64) (List._∷_ (Syntax.tyEnum (List._∷_ 100 (List._∷_ 97 (List._∷_ 114 (List._∷_ 116 (List._∷_ 115 (List._∷_ 58 (List._∷_ 58 (List._∷_ 65 (List._∷_ 110 (List._∷_ 115 (List._∷_ 119 (List._∷_ 101 (List._∷_ 114 List.[]))))))))))))) (Syntax.ttcons (Syntax.tcons (Syntax.tyInt Syntax.w64) Syntax.tnil) (Syntax.ttcons Syntax.tnil (Syntax.ttcons (Syntax.tcons (Syntax.tyInt Syntax.w64) Syntax.tnil) (Syntax.ttcons (Syntax.tcons (Syntax.tyInt Syntax.w64) (Syntax.tcons (Syntax.tyInt Syntax.w64) Syntax.tnil)) (Syntax.ttcons Syntax.tnil (Syntax.ttcons Syntax.tnil (Syntax.ttcons Syntax.tnil (Syntax.ttcons (Syntax.tcons (Syntax.tyInt Syntax.w64) Syntax.tnil) (Syntax.ttcons (Syntax.tcons (Syntax.tyInt Syntax.w64) Syntax.tnil) (Syntax.ttcons (Syntax.tcons (Syntax.tyInt Syntax.w64) Syntax.tnil) (Syntax.ttcons (Syntax.tcons (Syntax.tyInt Syntax.w64) Syntax.tnil) (Syntax.ttcons (Syntax.tcons (Syntax.tyInt Syntax.w64) Syntax.tnil) (Syntax.ttcons (Syntax.tcons (Syntax.tyInt Syntax.w64) Syntax.tnil) (Syntax.ttcons (Syntax.tcons (Syntax.tyInt Syntax.w64) Syntax.tnil) (Syntax.ttcons Syntax.tnil (Syntax.ttcons Syntax.tnil (Syntax.ttcons (Syntax.tcons (Syntax.tyInt Syntax.w64) Syntax.tnil) Syntax.ttnil)))))))))))))))))) (List._∷_ (Syntax.tyRef Syntax.erased Syntax.mut (Syntax.tyInt Syntax.w32)) (List._∷_ (Syntax.tyStruct (List._∷_ 38 (List._∷_ 91 (List._∷_ 93 List.[]))) (Syntax.tcons (Syntax.tyRef Syntax.erased Syntax.mut (Syntax.tyInt Syntax.w32)) (Syntax.tcons (Syntax.tyInt Syntax.w64) Syntax.tnil))) (List._∷_ (Syntax.tyInt Syntax.w32) (List._∷_ Syntax.tyBool (List._∷_ Syntax.tyBool (List._∷_ (Syntax.tyRef Syntax.erased Syntax.imm (Syntax.tyInt Syntax.w32)) (List._∷_ (Syntax.tyStruct (List._∷_ 38 (List._∷_ 91 (List._∷_ 93 List.[]))) (Syntax.tcons (Syntax.tyRef Syntax.erased Syntax.imm (Syntax.tyInt Syntax.w32)) (Syntax.tcons (Syntax.tyInt Syntax.w64) Syntax.tnil))) (List._∷_ (Syntax.tyInt Syntax.w64) (List._∷_ (Syntax.tyInt Syntax.w64) (List._∷_ (Syntax.tyRef Syntax.erased Syntax.mut (Syntax.tyInt Syntax.w32)) (List._∷_ (Syntax.tyStruct (List._∷_ 38 (List._∷_ 91 (List._∷_ 93 List.[]))) (Syntax.tcons (Syntax.tyRef Syntax.erased Syntax.mut (Syntax.tyInt Syntax.w32)) (Syntax.tcons (Syntax.tyInt Syntax.w64) Syntax.tnil))) (List._∷_ (Syntax.tyRef Syntax.erased Syntax.mut (Syntax.tyInt Syntax.w32)) (List._∷_ (Syntax.tyStruct (List._∷_ 38 (List._∷_ 91 (List._∷_ 93 List.[]))) (Syntax.tcons (Syntax.tyRef Syntax.erased Syntax.mut (Syntax.tyInt Syntax.w32)) (Syntax.tcons (Syntax.tyInt Syntax.w64) Syntax.tnil))) List.[])))))))))))))))
+xs = List._∷_ (Syntax.tyInt Syntax.w64) (List._∷_ (Syntax.tyInt Syntax.w64) (List._∷_ (Syntax.tyEnum (List._∷_ 100 (List._∷_ 97 (List._∷_ 114 (List._∷_ 116 (List._∷_ 115 (List._∷_ 58 (List._∷_ 58 (List._∷_ 65 (List._∷_ 110 (List._∷_ 115 (List._∷_ 119 (List._∷_ 101 (List._∷_ 114 List.[]))))))))))))) (Syntax.ttcons (Syntax.tcons (Syntax.tyInt Syntax.w64) Syntax.tnil) (Syntax.ttcons Syntax.tnil (Syntax.ttcons (Syntax.tcons (Syntax.tyInt Syntax.w64) Syntax.tnil) (Syntax.ttcons (Syntax.tcons (Syntax.tyInt Syntax.w64) (Syntax.tcons (Syntax.tyInt Syntax.w64) Syntax.tnil)) (Syntax.ttcons Syntax.tnil (Syntax.ttcons Syntax.tnil (Syntax.ttcons Syntax.tnil (Syntax.ttcons (Syntax.tcons (Syntax.tyInt Syntax.w64) Syntax.tnil) (Syntax.ttcons (Syntax.tcons (Syntax.tyInt Syntax.w64) Syntax.tnil) (Syntax.ttcons (Syntax.tcons (Syntax.tyInt Syntax.w64) Syntax.tnil) (Syntax.ttcons (Syntax.tcons (Syntax.tyInt Syntax.w64) Syntax.tnil) (Syntax.ttcons (Syntax.tcons (Syntax.tyInt Syntax.w64) Syntax.tnil) (Syntax.ttcons (Syntax.tcons (Syntax.tyInt Syntax.w64) Syntax.tnil) (Syntax.ttcons (Syntax.tcons (Syntax.tyInt Syntax.w64) Syntax.tnil) (Syntax.ttcons Syntax.tnil (Syntax.ttcons Syntax.tnil (Syntax.ttcons (Syntax.tcons (Syntax.tyInt Syntax.w64) Syntax.tnil) Syntax.ttnil)))))))))))))))))) (List._∷_ Syntax.tyBool (List._∷_ (Syntax.tyRef Syntax.erased Syntax.mut (Syntax.tyInt Syntax.w32)) (List._∷_ (Syntax.tyStruct (List._∷_ 38 (List._∷_ 91 (List._∷_ 93 List.[]))) (Syntax.tcons (Syntax.tyRef Syntax.erased Syntax.mut (Syntax.tyInt Syntax.w32)) (Syntax.tcons (Syntax.tyInt Syntax.w64) Syntax.tnil))) (List._∷_ (Syntax.tyRef Syntax.erased Syntax.mut (Syntax.tyInt Syntax.w32)) (List._∷_ (Syntax.tyStruct (List._∷_ 38 (List._∷_ 91 (List._∷_ 93 List.[]))) (Syntax.tcons (Syntax.tyRef Syntax.erased Syntax.mut (Syntax.tyInt Syntax.w32)) (Syntax.tcons (Syntax.tyInt Syntax.w64) Syntax.tnil))) (List._∷_ (Syntax.tyInt Syntax.w32) (List._∷_ Syntax.tyBool (List._∷_ (Syntax.tyRef Syntax.erased Syntax.imm (Syntax.tyInt Syntax.w32)) (List._∷_ (Syntax.tyStruct (List._∷_ 38 (List._∷_ 91 (List._∷_ 93 List.[]))) (Syntax.tcons (Syntax.tyRef Syntax.erased Syntax.imm (Syntax.tyInt Syntax.w32)) (Syntax.tcons (Syntax.tyInt Syntax.w64) Syntax.tnil))) (List._∷_ (Syntax.tyInt Syntax.w64) (List._∷_ (Syntax.tyInt Syntax.w64) (List._∷_ (Syntax.tyRef Syntax.erased Syntax.mut (Syntax.tyInt Syntax.w32)) (List._∷_ (Syntax.tyStruct (List._∷_ 38 (List._∷_ 91 (List._∷_ 93 List.[]))) (Syntax.tcons (Syntax.tyRef Syntax.erased Syntax.mut (Syntax.tyInt Syntax.w32)) (Syntax.tcons (Syntax.tyInt Syntax.w64) Syntax.tnil))) (List._∷_ (Syntax.tyRef Syntax.erased Syntax.mut (Syntax.tyInt Syntax.w32)) (List._∷_ (Syntax.tyStruct (List._∷_ 38 (List._∷_ 91 (List._∷_ 93 List.[]))) (Syntax.tcons (Syntax.tyRef Syntax.erased Syntax.mut (Syntax.tyInt Syntax.w32)) (Syntax.tcons (Syntax.tyInt Syntax.w64) Syntax.tnil))) List.[])))))))))))))))))
 
 abbrev pub m : Nat.ℕ
-m = 4
+m = 5
 
-abbrev pub ps·0 : List.List (Kinds.PK 1)
-ps·0 = List._∷_ (ShrSlice.pShrS Cell.R 0 tt) List.[]
+abbrev pub ps·0 : List.List (Kinds.PK 5)
+ps·0 = List._∷_ (Value.pVal record { ty = Declared'.row State.the-type; one = Path'.refl; val = Laws'3.val State.the-type Laws'.the-laws; tells = Laws'3.tells State.the-type Laws'.the-laws; still = Laws'3.still State.the-type Laws'.the-copy Exit.yes; row = Rows.whole (Declared'.row State.the-type); rd = λ x. x; mk = λ x. x } λ M 𝓤 H A W. record { copies = Laws'3.copy State.the-type Laws'.the-copy 𝓤 H A W; lawful = Laws'3.lawful State.the-type Laws'.the-laws 𝓤 H A W; makes = Laws'3.makes State.the-type Laws'.the-plain 𝓤 H A; in-mem = Local.mem-whole 𝓤 H A W (Declared'.row State.the-type); of-mem = Local.whole-mem 𝓤 H A W (Declared'.row State.the-type) }) (List._∷_ (ShrSlice.pShrS (Referent.rtF (Referent.fInt Syntax.w32)) 0 tt) (List._∷_ (ShrSlice.pShrS (Referent.rtF (Referent.fInt Syntax.w32)) 1 tt) (List._∷_ (MutSlice.pMutS (Referent.rtF (Referent.fInt Syntax.w32)) 2 tt) (List._∷_ (ShrSlice.pShrS Cell.R 3 tt) (List._∷_ (ShrSlice.pShrS Cell.R 4 tt) List.[])))))
 
-abbrev pub r·0 : Kinds.RK 1
-r·0 = Num.rNum Syntax.w64
+abbrev pub r·0 : Kinds.RK 5
+r·0 = Value.rVal record { ty = Declared.row Answer.the-type; one = Path'.refl; val = Laws''.val Answer.the-type Laws.the-laws; tells = Laws''.tells Answer.the-type Laws.the-laws; still = Laws''.still Answer.the-type Laws.the-copy Exit.yes; row = Rows.whole (Declared.row Answer.the-type); rd = λ x. x; mk = λ x. x } λ M 𝓤 H A W. record { copies = Laws''.copy Answer.the-type Laws.the-copy 𝓤 H A W; lawful = Laws''.lawful Answer.the-type Laws.the-laws 𝓤 H A W tt; makes = Laws''.makes Answer.the-type Laws.the-plain 𝓤 H A; in-mem = Local.mem-whole 𝓤 H A W (Declared.row Answer.the-type); of-mem = Local.whole-mem 𝓤 H A W (Declared.row Answer.the-type) }
 
-abbrev pub ps·1 : List.List (Kinds.PK 3)
-ps·1 = List._∷_ (Value.pVal record { ty = Declared'.row State.the-type; one = Path'.refl; val = Laws'3.val State.the-type Laws'.the-laws; tells = Laws'3.tells State.the-type Laws'.the-laws; still = Laws'3.still State.the-type Laws'.the-copy Exit.yes; row = Rows.whole (Declared'.row State.the-type); rd = λ x. x; mk = λ x. x } λ M 𝓤 H A W. record { copies = Laws'3.copy State.the-type Laws'.the-copy 𝓤 H A W; lawful = Laws'3.lawful State.the-type Laws'.the-laws 𝓤 H A W; makes = Laws'3.makes State.the-type Laws'.the-plain 𝓤 H A; in-mem = Local.mem-whole 𝓤 H A W (Declared'.row State.the-type); of-mem = Local.whole-mem 𝓤 H A W (Declared'.row State.the-type) }) (List._∷_ (ShrSlice.pShrS (Referent.rtF (Referent.fInt Syntax.w32)) 0 tt) (List._∷_ (ShrSlice.pShrS (Referent.rtF (Referent.fInt Syntax.w32)) 1 tt) (List._∷_ (MutSlice.pMutS (Referent.rtF (Referent.fInt Syntax.w32)) 2 tt) (List._∷_ (Num.pNum Syntax.w64) (List._∷_ (Num.pNum Syntax.w64) List.[])))))
+abbrev pub ps·1 : List.List (Kinds.PK 1)
+ps·1 = List._∷_ (ShrSlice.pShrS Cell.R 0 tt) List.[]
 
-abbrev pub r·1 : Kinds.RK 3
-r·1 = Value.rVal record { ty = Declared.row Answer.the-type; one = Path'.refl; val = Laws''.val Answer.the-type Laws.the-laws; tells = Laws''.tells Answer.the-type Laws.the-laws; still = Laws''.still Answer.the-type Laws.the-copy Exit.yes; row = Rows.whole (Declared.row Answer.the-type); rd = λ x. x; mk = λ x. x } λ M 𝓤 H A W. record { copies = Laws''.copy Answer.the-type Laws.the-copy 𝓤 H A W; lawful = Laws''.lawful Answer.the-type Laws.the-laws 𝓤 H A W tt; makes = Laws''.makes Answer.the-type Laws.the-plain 𝓤 H A; in-mem = Local.mem-whole 𝓤 H A W (Declared.row Answer.the-type); of-mem = Local.whole-mem 𝓤 H A W (Declared.row Answer.the-type) }
+abbrev pub r·1 : Kinds.RK 1
+r·1 = Num.rNum Syntax.w64
 
-abbrev pub ps·2 : List.List (Kinds.PK 0)
-ps·2 = List._∷_ (Value.pVal record { ty = Declared.row Answer.the-type; one = Path'.refl; val = Laws''.val Answer.the-type Laws.the-laws; tells = Laws''.tells Answer.the-type Laws.the-laws; still = Laws''.still Answer.the-type Laws.the-copy Exit.yes; row = Rows.whole (Declared.row Answer.the-type); rd = λ x. x; mk = λ x. x } λ M 𝓤 H A W. record { copies = Laws''.copy Answer.the-type Laws.the-copy 𝓤 H A W; lawful = Laws''.lawful Answer.the-type Laws.the-laws 𝓤 H A W tt; makes = Laws''.makes Answer.the-type Laws.the-plain 𝓤 H A; in-mem = Local.mem-whole 𝓤 H A W (Declared.row Answer.the-type); of-mem = Local.whole-mem 𝓤 H A W (Declared.row Answer.the-type) }) List.[]
+abbrev pub ps·2 : List.List (Kinds.PK 3)
+ps·2 = List._∷_ (Value.pVal record { ty = Declared'.row State.the-type; one = Path'.refl; val = Laws'3.val State.the-type Laws'.the-laws; tells = Laws'3.tells State.the-type Laws'.the-laws; still = Laws'3.still State.the-type Laws'.the-copy Exit.yes; row = Rows.whole (Declared'.row State.the-type); rd = λ x. x; mk = λ x. x } λ M 𝓤 H A W. record { copies = Laws'3.copy State.the-type Laws'.the-copy 𝓤 H A W; lawful = Laws'3.lawful State.the-type Laws'.the-laws 𝓤 H A W; makes = Laws'3.makes State.the-type Laws'.the-plain 𝓤 H A; in-mem = Local.mem-whole 𝓤 H A W (Declared'.row State.the-type); of-mem = Local.whole-mem 𝓤 H A W (Declared'.row State.the-type) }) (List._∷_ (ShrSlice.pShrS (Referent.rtF (Referent.fInt Syntax.w32)) 0 tt) (List._∷_ (ShrSlice.pShrS (Referent.rtF (Referent.fInt Syntax.w32)) 1 tt) (List._∷_ (MutSlice.pMutS (Referent.rtF (Referent.fInt Syntax.w32)) 2 tt) (List._∷_ (Num.pNum Syntax.w64) (List._∷_ (Num.pNum Syntax.w64) List.[])))))
 
-abbrev pub r·2 : Kinds.RK 0
-r·2 = Num.rNum Syntax.w32
+abbrev pub r·2 : Kinds.RK 3
+r·2 = Value.rVal record { ty = Declared.row Answer.the-type; one = Path'.refl; val = Laws''.val Answer.the-type Laws.the-laws; tells = Laws''.tells Answer.the-type Laws.the-laws; still = Laws''.still Answer.the-type Laws.the-copy Exit.yes; row = Rows.whole (Declared.row Answer.the-type); rd = λ x. x; mk = λ x. x } λ M 𝓤 H A W. record { copies = Laws''.copy Answer.the-type Laws.the-copy 𝓤 H A W; lawful = Laws''.lawful Answer.the-type Laws.the-laws 𝓤 H A W tt; makes = Laws''.makes Answer.the-type Laws.the-plain 𝓤 H A; in-mem = Local.mem-whole 𝓤 H A W (Declared.row Answer.the-type); of-mem = Local.whole-mem 𝓤 H A W (Declared.row Answer.the-type) }
 
-abbrev pub ps·3 : List.List (Kinds.PK 3)
-ps·3 = List._∷_ (ShrSlice.pShrS (Referent.rtF (Referent.fInt Syntax.w32)) 0 tt) (List._∷_ (Num.pNum Syntax.w64) (List._∷_ (Num.pNum Syntax.w64) (List._∷_ (ShrSlice.pShrS Cell.R 1 tt) (List._∷_ (ShrSlice.pShrS Cell.R 2 tt) List.[]))))
+abbrev pub ps·3 : List.List (Kinds.PK 0)
+ps·3 = List._∷_ (Value.pVal record { ty = Declared.row Answer.the-type; one = Path'.refl; val = Laws''.val Answer.the-type Laws.the-laws; tells = Laws''.tells Answer.the-type Laws.the-laws; still = Laws''.still Answer.the-type Laws.the-copy Exit.yes; row = Rows.whole (Declared.row Answer.the-type); rd = λ x. x; mk = λ x. x } λ M 𝓤 H A W. record { copies = Laws''.copy Answer.the-type Laws.the-copy 𝓤 H A W; lawful = Laws''.lawful Answer.the-type Laws.the-laws 𝓤 H A W tt; makes = Laws''.makes Answer.the-type Laws.the-plain 𝓤 H A; in-mem = Local.mem-whole 𝓤 H A W (Declared.row Answer.the-type); of-mem = Local.whole-mem 𝓤 H A W (Declared.row Answer.the-type) }) List.[]
 
-abbrev pub r·3 : Kinds.RK 3
-r·3 = Bool.rBool
+abbrev pub r·3 : Kinds.RK 0
+r·3 = Num.rNum Syntax.w32
 
 abbrev pub ps·4 : List.List (Kinds.PK 3)
-ps·4 = List._∷_ (Value.pVal record { ty = Declared'.row State.the-type; one = Path'.refl; val = Laws'3.val State.the-type Laws'.the-laws; tells = Laws'3.tells State.the-type Laws'.the-laws; still = Laws'3.still State.the-type Laws'.the-copy Exit.yes; row = Rows.whole (Declared'.row State.the-type); rd = λ x. x; mk = λ x. x } λ M 𝓤 H A W. record { copies = Laws'3.copy State.the-type Laws'.the-copy 𝓤 H A W; lawful = Laws'3.lawful State.the-type Laws'.the-laws 𝓤 H A W; makes = Laws'3.makes State.the-type Laws'.the-plain 𝓤 H A; in-mem = Local.mem-whole 𝓤 H A W (Declared'.row State.the-type); of-mem = Local.whole-mem 𝓤 H A W (Declared'.row State.the-type) }) (List._∷_ (ShrSlice.pShrS (Referent.rtF (Referent.fInt Syntax.w32)) 0 tt) (List._∷_ (ShrSlice.pShrS (Referent.rtF (Referent.fInt Syntax.w32)) 1 tt) (List._∷_ (MutSlice.pMutS (Referent.rtF (Referent.fInt Syntax.w32)) 2 tt) List.[])))
+ps·4 = List._∷_ (ShrSlice.pShrS (Referent.rtF (Referent.fInt Syntax.w32)) 0 tt) (List._∷_ (Num.pNum Syntax.w64) (List._∷_ (Num.pNum Syntax.w64) (List._∷_ (ShrSlice.pShrS Cell.R 1 tt) (List._∷_ (ShrSlice.pShrS Cell.R 2 tt) List.[]))))
 
 abbrev pub r·4 : Kinds.RK 3
-r·4 = Value.rVal record { ty = Declared.row Answer.the-type; one = Path'.refl; val = Laws''.val Answer.the-type Laws.the-laws; tells = Laws''.tells Answer.the-type Laws.the-laws; still = Laws''.still Answer.the-type Laws.the-copy Exit.yes; row = Rows.whole (Declared.row Answer.the-type); rd = λ x. x; mk = λ x. x } λ M 𝓤 H A W. record { copies = Laws''.copy Answer.the-type Laws.the-copy 𝓤 H A W; lawful = Laws''.lawful Answer.the-type Laws.the-laws 𝓤 H A W tt; makes = Laws''.makes Answer.the-type Laws.the-plain 𝓤 H A; in-mem = Local.mem-whole 𝓤 H A W (Declared.row Answer.the-type); of-mem = Local.whole-mem 𝓤 H A W (Declared.row Answer.the-type) }
+r·4 = Bool.rBool
 
-abbrev pub ps·5 : List.List (Kinds.PK 1)
-ps·5 = List._∷_ (Value.pVal record { ty = Declared'.row State.the-type; one = Path'.refl; val = Laws'3.val State.the-type Laws'.the-laws; tells = Laws'3.tells State.the-type Laws'.the-laws; still = Laws'3.still State.the-type Laws'.the-copy Exit.yes; row = Rows.whole (Declared'.row State.the-type); rd = λ x. x; mk = λ x. x } λ M 𝓤 H A W. record { copies = Laws'3.copy State.the-type Laws'.the-copy 𝓤 H A W; lawful = Laws'3.lawful State.the-type Laws'.the-laws 𝓤 H A W; makes = Laws'3.makes State.the-type Laws'.the-plain 𝓤 H A; in-mem = Local.mem-whole 𝓤 H A W (Declared'.row State.the-type); of-mem = Local.whole-mem 𝓤 H A W (Declared'.row State.the-type) }) (List._∷_ (MutSlice.pMutS (Referent.rtF (Referent.fInt Syntax.w32)) 0 tt) List.[])
+abbrev pub ps·5 : List.List (Kinds.PK 3)
+ps·5 = List._∷_ (Value.pVal record { ty = Declared'.row State.the-type; one = Path'.refl; val = Laws'3.val State.the-type Laws'.the-laws; tells = Laws'3.tells State.the-type Laws'.the-laws; still = Laws'3.still State.the-type Laws'.the-copy Exit.yes; row = Rows.whole (Declared'.row State.the-type); rd = λ x. x; mk = λ x. x } λ M 𝓤 H A W. record { copies = Laws'3.copy State.the-type Laws'.the-copy 𝓤 H A W; lawful = Laws'3.lawful State.the-type Laws'.the-laws 𝓤 H A W; makes = Laws'3.makes State.the-type Laws'.the-plain 𝓤 H A; in-mem = Local.mem-whole 𝓤 H A W (Declared'.row State.the-type); of-mem = Local.whole-mem 𝓤 H A W (Declared'.row State.the-type) }) (List._∷_ (ShrSlice.pShrS (Referent.rtF (Referent.fInt Syntax.w32)) 0 tt) (List._∷_ (ShrSlice.pShrS (Referent.rtF (Referent.fInt Syntax.w32)) 1 tt) (List._∷_ (MutSlice.pMutS (Referent.rtF (Referent.fInt Syntax.w32)) 2 tt) List.[])))
 
-abbrev pub r·5 : Kinds.RK 1
+abbrev pub r·5 : Kinds.RK 3
 r·5 = Value.rVal record { ty = Declared.row Answer.the-type; one = Path'.refl; val = Laws''.val Answer.the-type Laws.the-laws; tells = Laws''.tells Answer.the-type Laws.the-laws; still = Laws''.still Answer.the-type Laws.the-copy Exit.yes; row = Rows.whole (Declared.row Answer.the-type); rd = λ x. x; mk = λ x. x } λ M 𝓤 H A W. record { copies = Laws''.copy Answer.the-type Laws.the-copy 𝓤 H A W; lawful = Laws''.lawful Answer.the-type Laws.the-laws 𝓤 H A W tt; makes = Laws''.makes Answer.the-type Laws.the-plain 𝓤 H A; in-mem = Local.mem-whole 𝓤 H A W (Declared.row Answer.the-type); of-mem = Local.whole-mem 𝓤 H A W (Declared.row Answer.the-type) }
 
+abbrev pub ps·6 : List.List (Kinds.PK 1)
+ps·6 = List._∷_ (Value.pVal record { ty = Declared'.row State.the-type; one = Path'.refl; val = Laws'3.val State.the-type Laws'.the-laws; tells = Laws'3.tells State.the-type Laws'.the-laws; still = Laws'3.still State.the-type Laws'.the-copy Exit.yes; row = Rows.whole (Declared'.row State.the-type); rd = λ x. x; mk = λ x. x } λ M 𝓤 H A W. record { copies = Laws'3.copy State.the-type Laws'.the-copy 𝓤 H A W; lawful = Laws'3.lawful State.the-type Laws'.the-laws 𝓤 H A W; makes = Laws'3.makes State.the-type Laws'.the-plain 𝓤 H A; in-mem = Local.mem-whole 𝓤 H A W (Declared'.row State.the-type); of-mem = Local.whole-mem 𝓤 H A W (Declared'.row State.the-type) }) (List._∷_ (MutSlice.pMutS (Referent.rtF (Referent.fInt Syntax.w32)) 0 tt) List.[])
+
+abbrev pub r·6 : Kinds.RK 1
+r·6 = Value.rVal record { ty = Declared.row Answer.the-type; one = Path'.refl; val = Laws''.val Answer.the-type Laws.the-laws; tells = Laws''.tells Answer.the-type Laws.the-laws; still = Laws''.still Answer.the-type Laws.the-copy Exit.yes; row = Rows.whole (Declared.row Answer.the-type); rd = λ x. x; mk = λ x. x } λ M 𝓤 H A W. record { copies = Laws''.copy Answer.the-type Laws.the-copy 𝓤 H A W; lawful = Laws''.lawful Answer.the-type Laws.the-laws 𝓤 H A W tt; makes = Laws''.makes Answer.the-type Laws.the-plain 𝓤 H A; in-mem = Local.mem-whole 𝓤 H A W (Declared.row Answer.the-type); of-mem = Local.whole-mem 𝓤 H A W (Declared.row Answer.the-type) }
+
 abbrev pub hs : List.List Syntax.Home
-hs = List._∷_ Syntax.valueLocal (List._∷_ Syntax.valueLocal (List._∷_ Syntax.valueLocal (List._∷_ Syntax.valueLocal (List._∷_ Syntax.valueLocal (List._∷_ Syntax.valueLocal (List._∷_ Syntax.valueLocal (List._∷_ Syntax.valueLocal (List._∷_ Syntax.valueLocal (List._∷_ Syntax.valueLocal (List._∷_ Syntax.valueLocal (List._∷_ Syntax.valueLocal (List._∷_ Syntax.valueLocal (List._∷_ Syntax.valueLocal (List._∷_ Syntax.valueLocal (List._∷_ Syntax.valueLocal (List._∷_ Syntax.valueLocal (List._∷_ Syntax.valueLocal (List._∷_ Syntax.valueLocal (List._∷_ Syntax.valueLocal (List._∷_ Syntax.valueLocal (List._∷_ Syntax.valueLocal (List._∷_ Syntax.valueLocal List.[]))))))))))))))))))))))
+hs = List._∷_ Syntax.valueLocal (List._∷_ Syntax.valueLocal (List._∷_ Syntax.valueLocal (List._∷_ Syntax.valueLocal (List._∷_ Syntax.valueLocal (List._∷_ Syntax.valueLocal (List._∷_ Syntax.valueLocal (List._∷_ Syntax.valueLocal (List._∷_ Syntax.valueLocal (List._∷_ Syntax.valueLocal (List._∷_ Syntax.valueLocal (List._∷_ Syntax.valueLocal (List._∷_ Syntax.valueLocal (List._∷_ Syntax.valueLocal (List._∷_ Syntax.valueLocal (List._∷_ Syntax.valueLocal (List._∷_ Syntax.valueLocal (List._∷_ Syntax.valueLocal (List._∷_ Syntax.valueLocal (List._∷_ Syntax.valueLocal (List._∷_ Syntax.valueLocal (List._∷_ Syntax.valueLocal (List._∷_ Syntax.valueLocal (List._∷_ Syntax.valueLocal (List._∷_ Syntax.valueLocal List.[]))))))))))))))))))))))))
 
 abbrev b0 : Syntax.Body
-b0 = Syntax.call "sheets::thin::records" (List._∷_ (Syntax.copy (Syntax.place 5 List.[])) List.[]) (Syntax.place 7 List.[])
+b0 = Syntax.assign (Syntax.place 10 List.[]) (Syntax.op2 Syntax.eq (Syntax.copy (Syntax.place 1 (List._∷_ (Syntax.field 1) List.[]))) (Syntax.int Syntax.w32 0))
 
 abbrev b1 : Syntax.Body
-b1 = Syntax.call "sheets::thin::records" (List._∷_ (Syntax.copy (Syntax.place 6 List.[])) List.[]) (Syntax.place 8 List.[])
+b1 = Syntax.assign (Syntax.place 11 List.[]) (Syntax.addrOf (Syntax.place 4 (List._∷_ (Syntax.field 0) (List._∷_ (Syntax.deref (Syntax.tyInt Syntax.w32)) List.[]))))
 
 abbrev b2 : Syntax.Body
-b2 = Syntax.assign (Syntax.place 10 List.[]) (Syntax.addrOf (Syntax.place 4 (List._∷_ (Syntax.field 0) (List._∷_ (Syntax.deref (Syntax.tyInt Syntax.w32)) List.[]))))
+b2 = Syntax.assign (Syntax.place 12 List.[]) (Syntax.aggregate (List._∷_ (Syntax.copy (Syntax.place 11 List.[])) (List._∷_ (Syntax.copy (Syntax.place 4 (List._∷_ (Syntax.field 1) List.[]))) List.[])))
 
 abbrev b3 : Syntax.Body
-b3 = Syntax.assign (Syntax.place 11 List.[]) (Syntax.aggregate (List._∷_ (Syntax.copy (Syntax.place 10 List.[])) (List._∷_ (Syntax.copy (Syntax.place 4 (List._∷_ (Syntax.field 1) List.[]))) List.[])))
+b3 = Syntax.call "pyramid::State::judged_base" (List._∷_ (Syntax.copy (Syntax.place 1 List.[])) (List._∷_ (Syntax.copy (Syntax.place 2 List.[])) (List._∷_ (Syntax.copy (Syntax.place 3 List.[])) (List._∷_ (Syntax.copy (Syntax.place 12 List.[])) (List._∷_ (Syntax.copy (Syntax.place 5 List.[])) (List._∷_ (Syntax.copy (Syntax.place 6 List.[])) List.[])))))) (Syntax.place 0 List.[])
 
 abbrev b4 : Syntax.Body
-b4 = Syntax.call "pyramid::State::check_with" (List._∷_ (Syntax.copy (Syntax.place 1 List.[])) (List._∷_ (Syntax.copy (Syntax.place 2 List.[])) (List._∷_ (Syntax.copy (Syntax.place 3 List.[])) (List._∷_ (Syntax.copy (Syntax.place 11 List.[])) (List._∷_ (Syntax.copy (Syntax.place 7 List.[])) (List._∷_ (Syntax.copy (Syntax.place 8 List.[])) List.[])))))) (Syntax.place 9 List.[])
+b4 = Syntax.return
 
 abbrev b5 : Syntax.Body
-b5 = Syntax.call "darts::Answer::number" (List._∷_ (Syntax.copy (Syntax.place 9 List.[])) List.[]) (Syntax.place 12 List.[])
+b5 = Syntax.seq b3 b4
 
 abbrev b6 : Syntax.Body
-b6 = Syntax.assign (Syntax.place 13 List.[]) (Syntax.op2 Syntax.ne (Syntax.copy (Syntax.place 12 List.[])) (Syntax.int Syntax.w32 0))
+b6 = Syntax.seq b2 b5
 
 abbrev b7 : Syntax.Body
-b7 = Syntax.assign (Syntax.place 0 List.[]) (Syntax.rvOpd (Syntax.copy (Syntax.place 9 List.[])))
+b7 = Syntax.seq b1 b6
 
 abbrev b8 : Syntax.Body
-b8 = Syntax.return
+b8 = Syntax.skip
 
 abbrev b9 : Syntax.Body
-b9 = Syntax.seq b7 b8
+b9 = Syntax.cond (Syntax.copy (Syntax.place 10 List.[])) b7 b8
 
 abbrev b10 : Syntax.Body
-b10 = Syntax.skip
+b10 = Syntax.call "sheets::thin::records" (List._∷_ (Syntax.copy (Syntax.place 5 List.[])) List.[]) (Syntax.place 7 List.[])
 
 abbrev b11 : Syntax.Body
-b11 = Syntax.cond (Syntax.copy (Syntax.place 13 List.[])) b9 b10
+b11 = Syntax.call "sheets::thin::records" (List._∷_ (Syntax.copy (Syntax.place 6 List.[])) List.[]) (Syntax.place 8 List.[])
 
 abbrev b12 : Syntax.Body
-b12 = Syntax.assign (Syntax.place 15 List.[]) (Syntax.addrOf (Syntax.place 4 (List._∷_ (Syntax.field 0) (List._∷_ (Syntax.deref (Syntax.tyInt Syntax.w32)) List.[]))))
+b12 = Syntax.assign (Syntax.place 13 List.[]) (Syntax.addrOf (Syntax.place 4 (List._∷_ (Syntax.field 0) (List._∷_ (Syntax.deref (Syntax.tyInt Syntax.w32)) List.[]))))
 
 abbrev b13 : Syntax.Body
-b13 = Syntax.assign (Syntax.place 16 List.[]) (Syntax.aggregate (List._∷_ (Syntax.copy (Syntax.place 15 List.[])) (List._∷_ (Syntax.copy (Syntax.place 4 (List._∷_ (Syntax.field 1) List.[]))) List.[])))
+b13 = Syntax.assign (Syntax.place 14 List.[]) (Syntax.aggregate (List._∷_ (Syntax.copy (Syntax.place 13 List.[])) (List._∷_ (Syntax.copy (Syntax.place 4 (List._∷_ (Syntax.field 1) List.[]))) List.[])))
 
 abbrev b14 : Syntax.Body
-b14 = Syntax.assign (Syntax.place 17 List.[]) (Syntax.op1 (Syntax.cast Syntax.unsigned Syntax.unsigned Syntax.w64) (Syntax.copy (Syntax.place 1 (List._∷_ (Syntax.field 0) List.[]))))
+b14 = Syntax.call "pyramid::State::check_with" (List._∷_ (Syntax.copy (Syntax.place 1 List.[])) (List._∷_ (Syntax.copy (Syntax.place 2 List.[])) (List._∷_ (Syntax.copy (Syntax.place 3 List.[])) (List._∷_ (Syntax.copy (Syntax.place 14 List.[])) (List._∷_ (Syntax.copy (Syntax.place 7 List.[])) (List._∷_ (Syntax.copy (Syntax.place 8 List.[])) List.[])))))) (Syntax.place 9 List.[])
 
 abbrev b15 : Syntax.Body
-b15 = Syntax.assign (Syntax.place 18 List.[]) (Syntax.op1 (Syntax.cast Syntax.unsigned Syntax.unsigned Syntax.w64) (Syntax.copy (Syntax.place 1 (List._∷_ (Syntax.field 1) List.[]))))
+b15 = Syntax.call "darts::Answer::number" (List._∷_ (Syntax.copy (Syntax.place 9 List.[])) List.[]) (Syntax.place 15 List.[])
 
 abbrev b16 : Syntax.Body
-b16 = Syntax.call "sheets::loops::all_right" (List._∷_ (Syntax.copy (Syntax.place 16 List.[])) (List._∷_ (Syntax.copy (Syntax.place 17 List.[])) (List._∷_ (Syntax.copy (Syntax.place 18 List.[])) (List._∷_ (Syntax.copy (Syntax.place 5 List.[])) (List._∷_ (Syntax.copy (Syntax.place 6 List.[])) List.[]))))) (Syntax.place 14 List.[])
+b16 = Syntax.assign (Syntax.place 10 List.[]) (Syntax.op2 Syntax.ne (Syntax.copy (Syntax.place 15 List.[])) (Syntax.int Syntax.w32 0))
 
 abbrev b17 : Syntax.Body
-b17 = Syntax.assign (Syntax.place 19 List.[]) (Syntax.addrOf (Syntax.place 4 (List._∷_ (Syntax.field 0) (List._∷_ (Syntax.deref (Syntax.tyInt Syntax.w32)) List.[]))))
+b17 = Syntax.assign (Syntax.place 0 List.[]) (Syntax.rvOpd (Syntax.copy (Syntax.place 9 List.[])))
 
 abbrev b18 : Syntax.Body
-b18 = Syntax.assign (Syntax.place 20 List.[]) (Syntax.aggregate (List._∷_ (Syntax.copy (Syntax.place 19 List.[])) (List._∷_ (Syntax.copy (Syntax.place 4 (List._∷_ (Syntax.field 1) List.[]))) List.[])))
+b18 = Syntax.return
 
 abbrev b19 : Syntax.Body
-b19 = Syntax.call "pyramid::State::accept" (List._∷_ (Syntax.copy (Syntax.place 1 List.[])) (List._∷_ (Syntax.copy (Syntax.place 2 List.[])) (List._∷_ (Syntax.copy (Syntax.place 3 List.[])) (List._∷_ (Syntax.copy (Syntax.place 20 List.[])) List.[])))) (Syntax.place 0 List.[])
+b19 = Syntax.seq b17 b18
 
 abbrev b20 : Syntax.Body
-b20 = Syntax.return
+b20 = Syntax.skip
 
 abbrev b21 : Syntax.Body
-b21 = Syntax.seq b19 b20
+b21 = Syntax.cond (Syntax.copy (Syntax.place 10 List.[])) b19 b20
 
 abbrev b22 : Syntax.Body
-b22 = Syntax.seq b18 b21
+b22 = Syntax.assign (Syntax.place 17 List.[]) (Syntax.addrOf (Syntax.place 4 (List._∷_ (Syntax.field 0) (List._∷_ (Syntax.deref (Syntax.tyInt Syntax.w32)) List.[]))))
 
 abbrev b23 : Syntax.Body
-b23 = Syntax.seq b17 b22
+b23 = Syntax.assign (Syntax.place 18 List.[]) (Syntax.aggregate (List._∷_ (Syntax.copy (Syntax.place 17 List.[])) (List._∷_ (Syntax.copy (Syntax.place 4 (List._∷_ (Syntax.field 1) List.[]))) List.[])))
 
 abbrev b24 : Syntax.Body
-b24 = Syntax.skip
+b24 = Syntax.assign (Syntax.place 19 List.[]) (Syntax.op1 (Syntax.cast Syntax.unsigned Syntax.unsigned Syntax.w64) (Syntax.copy (Syntax.place 1 (List._∷_ (Syntax.field 0) List.[]))))
 
 abbrev b25 : Syntax.Body
-b25 = Syntax.cond (Syntax.copy (Syntax.place 14 List.[])) b23 b24
+b25 = Syntax.assign (Syntax.place 20 List.[]) (Syntax.op1 (Syntax.cast Syntax.unsigned Syntax.unsigned Syntax.w64) (Syntax.copy (Syntax.place 1 (List._∷_ (Syntax.field 1) List.[]))))
 
 abbrev b26 : Syntax.Body
-b26 = Syntax.assign (Syntax.place 21 List.[]) (Syntax.addrOf (Syntax.place 4 (List._∷_ (Syntax.field 0) (List._∷_ (Syntax.deref (Syntax.tyInt Syntax.w32)) List.[]))))
+b26 = Syntax.call "sheets::loops::all_right" (List._∷_ (Syntax.copy (Syntax.place 18 List.[])) (List._∷_ (Syntax.copy (Syntax.place 19 List.[])) (List._∷_ (Syntax.copy (Syntax.place 20 List.[])) (List._∷_ (Syntax.copy (Syntax.place 5 List.[])) (List._∷_ (Syntax.copy (Syntax.place 6 List.[])) List.[]))))) (Syntax.place 16 List.[])
 
 abbrev b27 : Syntax.Body
-b27 = Syntax.assign (Syntax.place 22 List.[]) (Syntax.aggregate (List._∷_ (Syntax.copy (Syntax.place 21 List.[])) (List._∷_ (Syntax.copy (Syntax.place 4 (List._∷_ (Syntax.field 1) List.[]))) List.[])))
+b27 = Syntax.assign (Syntax.place 21 List.[]) (Syntax.addrOf (Syntax.place 4 (List._∷_ (Syntax.field 0) (List._∷_ (Syntax.deref (Syntax.tyInt Syntax.w32)) List.[]))))
 
 abbrev b28 : Syntax.Body
-b28 = Syntax.call "pyramid::State::refuse" (List._∷_ (Syntax.copy (Syntax.place 1 List.[])) (List._∷_ (Syntax.copy (Syntax.place 22 List.[])) List.[])) (Syntax.place 0 List.[])
+b28 = Syntax.assign (Syntax.place 22 List.[]) (Syntax.aggregate (List._∷_ (Syntax.copy (Syntax.place 21 List.[])) (List._∷_ (Syntax.copy (Syntax.place 4 (List._∷_ (Syntax.field 1) List.[]))) List.[])))
 
 abbrev b29 : Syntax.Body
-b29 = Syntax.return
+b29 = Syntax.call "pyramid::State::accept" (List._∷_ (Syntax.copy (Syntax.place 1 List.[])) (List._∷_ (Syntax.copy (Syntax.place 2 List.[])) (List._∷_ (Syntax.copy (Syntax.place 3 List.[])) (List._∷_ (Syntax.copy (Syntax.place 22 List.[])) List.[])))) (Syntax.place 0 List.[])
 
 abbrev b30 : Syntax.Body
-b30 = Syntax.seq b28 b29
+b30 = Syntax.return
 
 abbrev b31 : Syntax.Body
-b31 = Syntax.seq b27 b30
+b31 = Syntax.seq b29 b30
 
 abbrev b32 : Syntax.Body
-b32 = Syntax.seq b26 b31
+b32 = Syntax.seq b28 b31
 
 abbrev b33 : Syntax.Body
-b33 = Syntax.seq b25 b32
+b33 = Syntax.seq b27 b32
 
 abbrev b34 : Syntax.Body
-b34 = Syntax.seq b16 b33
+b34 = Syntax.skip
 
 abbrev b35 : Syntax.Body
-b35 = Syntax.seq b15 b34
+b35 = Syntax.cond (Syntax.copy (Syntax.place 16 List.[])) b33 b34
 
 abbrev b36 : Syntax.Body
-b36 = Syntax.seq b14 b35
+b36 = Syntax.assign (Syntax.place 23 List.[]) (Syntax.addrOf (Syntax.place 4 (List._∷_ (Syntax.field 0) (List._∷_ (Syntax.deref (Syntax.tyInt Syntax.w32)) List.[]))))
 
 abbrev b37 : Syntax.Body
-b37 = Syntax.seq b13 b36
+b37 = Syntax.assign (Syntax.place 24 List.[]) (Syntax.aggregate (List._∷_ (Syntax.copy (Syntax.place 23 List.[])) (List._∷_ (Syntax.copy (Syntax.place 4 (List._∷_ (Syntax.field 1) List.[]))) List.[])))
 
 abbrev b38 : Syntax.Body
-b38 = Syntax.seq b12 b37
+b38 = Syntax.call "pyramid::State::refuse" (List._∷_ (Syntax.copy (Syntax.place 1 List.[])) (List._∷_ (Syntax.copy (Syntax.place 24 List.[])) List.[])) (Syntax.place 0 List.[])
 
 abbrev b39 : Syntax.Body
-b39 = Syntax.seq b11 b38
+b39 = Syntax.return
 
 abbrev b40 : Syntax.Body
-b40 = Syntax.seq b6 b39
+b40 = Syntax.seq b38 b39
 
 abbrev b41 : Syntax.Body
-b41 = Syntax.seq b5 b40
+b41 = Syntax.seq b37 b40
 
 abbrev b42 : Syntax.Body
-b42 = Syntax.seq b4 b41
+b42 = Syntax.seq b36 b41
 
 abbrev b43 : Syntax.Body
-b43 = Syntax.seq b3 b42
+b43 = Syntax.seq b35 b42
 
 abbrev b44 : Syntax.Body
-b44 = Syntax.seq b2 b43
+b44 = Syntax.seq b26 b43
 
 abbrev b45 : Syntax.Body
-b45 = Syntax.seq b1 b44
+b45 = Syntax.seq b25 b44
 
 abbrev b46 : Syntax.Body
-b46 = Syntax.seq b0 b45
+b46 = Syntax.seq b24 b45
+
+abbrev b47 : Syntax.Body
+b47 = Syntax.seq b23 b46
+
+abbrev b48 : Syntax.Body
+b48 = Syntax.seq b22 b47
+
+abbrev b49 : Syntax.Body
+b49 = Syntax.seq b21 b48
+
+abbrev b50 : Syntax.Body
+b50 = Syntax.seq b16 b49
+
+abbrev b51 : Syntax.Body
+b51 = Syntax.seq b15 b50
+
+abbrev b52 : Syntax.Body
+b52 = Syntax.seq b14 b51
+
+abbrev b53 : Syntax.Body
+b53 = Syntax.seq b13 b52
+
+abbrev b54 : Syntax.Body
+b54 = Syntax.seq b12 b53
+
+abbrev b55 : Syntax.Body
+b55 = Syntax.seq b11 b54
+
+abbrev b56 : Syntax.Body
+b56 = Syntax.seq b10 b55
+
+abbrev b57 : Syntax.Body
+b57 = Syntax.seq b9 b56
+
+abbrev b58 : Syntax.Body
+b58 = Syntax.seq b0 b57
 
 abbrev pub body : Syntax.Body
-body = b46
+body = b58
 
 abbrev pub Claims : Type 1
-Claims = Kinds.In 1 ps·0 × Kinds.Out 1 ps·0 r·0 × Kinds.In 3 ps·1 × Kinds.Out 3 ps·1 r·1 × Kinds.In 0 ps·2 × Kinds.Out 0 ps·2 r·2 × Kinds.In 3 ps·3 × Kinds.Out 3 ps·3 r·3 × Kinds.In 3 ps·4 × Kinds.Out 3 ps·4 r·4 × Kinds.In 1 ps·5 × Kinds.Out 1 ps·5 r·5
+Claims = Kinds.In 5 ps·0 × Kinds.Out 5 ps·0 r·0 × Kinds.In 1 ps·1 × Kinds.Out 1 ps·1 r·1 × Kinds.In 3 ps·2 × Kinds.Out 3 ps·2 r·2 × Kinds.In 0 ps·3 × Kinds.Out 0 ps·3 r·3 × Kinds.In 3 ps·4 × Kinds.Out 3 ps·4 r·4 × Kinds.In 3 ps·5 × Kinds.Out 3 ps·5 r·5 × Kinds.In 1 ps·6 × Kinds.Out 1 ps·6 r·6
 
 abbrev pub t0 : List.List Row.Entry
-t0 = List._∷_ (0, Rows.any-gone (Syntax.tyEnum (List._∷_ 100 (List._∷_ 97 (List._∷_ 114 (List._∷_ 116 (List._∷_ 115 (List._∷_ 58 (List._∷_ 58 (List._∷_ 65 (List._∷_ 110 (List._∷_ 115 (List._∷_ 119 (List._∷_ 101 (List._∷_ 114 List.[]))))))))))))) (Syntax.ttcons (Syntax.tcons (Syntax.tyInt Syntax.w64) Syntax.tnil) (Syntax.ttcons Syntax.tnil (Syntax.ttcons (Syntax.tcons (Syntax.tyInt Syntax.w64) Syntax.tnil) (Syntax.ttcons (Syntax.tcons (Syntax.tyInt Syntax.w64) (Syntax.tcons (Syntax.tyInt Syntax.w64) Syntax.tnil)) (Syntax.ttcons Syntax.tnil (Syntax.ttcons Syntax.tnil (Syntax.ttcons Syntax.tnil (Syntax.ttcons (Syntax.tcons (Syntax.tyInt Syntax.w64) Syntax.tnil) (Syntax.ttcons (Syntax.tcons (Syntax.tyInt Syntax.w64) Syntax.tnil) (Syntax.ttcons (Syntax.tcons (Syntax.tyInt Syntax.w64) Syntax.tnil) (Syntax.ttcons (Syntax.tcons (Syntax.tyInt Syntax.w64) Syntax.tnil) (Syntax.ttcons (Syntax.tcons (Syntax.tyInt Syntax.w64) Syntax.tnil) (Syntax.ttcons (Syntax.tcons (Syntax.tyInt Syntax.w64) Syntax.tnil) (Syntax.ttcons (Syntax.tcons (Syntax.tyInt Syntax.w64) Syntax.tnil) (Syntax.ttcons Syntax.tnil (Syntax.ttcons Syntax.tnil (Syntax.ttcons (Syntax.tcons (Syntax.tyInt Syntax.w64) Syntax.tnil) Syntax.ttnil))))))))))))))))))) (List._∷_ (1, Rows.whole (Declared'.row State.the-type)) (List._∷_ (2, Rows.sslice (Referent.rtF (Referent.fInt Syntax.w32)) (Syntax.tyRef (Syntax.named 0) Syntax.imm (Syntax.tyInt Syntax.w32)) 0) (List._∷_ (3, Rows.sslice (Referent.rtF (Referent.fInt Syntax.w32)) (Syntax.tyRef (Syntax.named 1) Syntax.imm (Syntax.tyInt Syntax.w32)) 1) (List._∷_ (4, Mut.mslice (Referent.rtF (Referent.fInt Syntax.w32)) (Syntax.tyRef (Syntax.named 2) Syntax.mut (Syntax.tyInt Syntax.w32)) 2) (List._∷_ (5, Rows.sslice Cell.R (Syntax.tyRef (Syntax.named 3) Syntax.imm Cell.behind) 3) (List._∷_ (6, Rows.sslice Cell.R (Syntax.tyRef (Syntax.named 4) Syntax.imm Cell.behind) 4) (List._∷_ (7, Rows.any-gone (Syntax.tyInt Syntax.w64)) (List._∷_ (8, Rows.any-gone (Syntax.tyInt Syntax.w64)) (List._∷_ (9, Rows.any-gone (Syntax.tyEnum (List._∷_ 100 (List._∷_ 97 (List._∷_ 114 (List._∷_ 116 (List._∷_ 115 (List._∷_ 58 (List._∷_ 58 (List._∷_ 65 (List._∷_ 110 (List._∷_ 115 (List._∷_ 119 (List._∷_ 101 (List._∷_ 114 List.[]))))))))))))) (Syntax.ttcons (Syntax.tcons (Syntax.tyInt Syntax.w64) Syntax.tnil) (Syntax.ttcons Syntax.tnil (Syntax.ttcons (Syntax.tcons (Syntax.tyInt Syntax.w64) Syntax.tnil) (Syntax.ttcons (Syntax.tcons (Syntax.tyInt Syntax.w64) (Syntax.tcons (Syntax.tyInt Syntax.w64) Syntax.tnil)) (Syntax.ttcons Syntax.tnil (Syntax.ttcons Syntax.tnil (Syntax.ttcons Syntax.tnil (Syntax.ttcons (Syntax.tcons (Syntax.tyInt Syntax.w64) Syntax.tnil) (Syntax.ttcons (Syntax.tcons (Syntax.tyInt Syntax.w64) Syntax.tnil) (Syntax.ttcons (Syntax.tcons (Syntax.tyInt Syntax.w64) Syntax.tnil) (Syntax.ttcons (Syntax.tcons (Syntax.tyInt Syntax.w64) Syntax.tnil) (Syntax.ttcons (Syntax.tcons (Syntax.tyInt Syntax.w64) Syntax.tnil) (Syntax.ttcons (Syntax.tcons (Syntax.tyInt Syntax.w64) Syntax.tnil) (Syntax.ttcons (Syntax.tcons (Syntax.tyInt Syntax.w64) Syntax.tnil) (Syntax.ttcons Syntax.tnil (Syntax.ttcons Syntax.tnil (Syntax.ttcons (Syntax.tcons (Syntax.tyInt Syntax.w64) Syntax.tnil) Syntax.ttnil))))))))))))))))))) (List._∷_ (10, Rows.any-gone (Syntax.tyRef Syntax.erased Syntax.mut (Syntax.tyInt Syntax.w32))) (List._∷_ (11, Rows.any-gone (Syntax.tyStruct (List._∷_ 38 (List._∷_ 91 (List._∷_ 93 List.[]))) (Syntax.tcons (Syntax.tyRef Syntax.erased Syntax.mut (Syntax.tyInt Syntax.w32)) (Syntax.tcons (Syntax.tyInt Syntax.w64) Syntax.tnil)))) (List._∷_ (12, Rows.any-gone (Syntax.tyInt Syntax.w32)) (List._∷_ (13, Rows.any-gone Syntax.tyBool) (List._∷_ (14, Rows.any-gone Syntax.tyBool) (List._∷_ (15, Rows.any-gone (Syntax.tyRef Syntax.erased Syntax.imm (Syntax.tyInt Syntax.w32))) List.[])))))))))))))))
+t0 = List._∷_ (0, Rows.any-gone (Syntax.tyEnum (List._∷_ 100 (List._∷_ 97 (List._∷_ 114 (List._∷_ 116 (List._∷_ 115 (List._∷_ 58 (List._∷_ 58 (List._∷_ 65 (List._∷_ 110 (List._∷_ 115 (List._∷_ 119 (List._∷_ 101 (List._∷_ 114 List.[]))))))))))))) (Syntax.ttcons (Syntax.tcons (Syntax.tyInt Syntax.w64) Syntax.tnil) (Syntax.ttcons Syntax.tnil (Syntax.ttcons (Syntax.tcons (Syntax.tyInt Syntax.w64) Syntax.tnil) (Syntax.ttcons (Syntax.tcons (Syntax.tyInt Syntax.w64) (Syntax.tcons (Syntax.tyInt Syntax.w64) Syntax.tnil)) (Syntax.ttcons Syntax.tnil (Syntax.ttcons Syntax.tnil (Syntax.ttcons Syntax.tnil (Syntax.ttcons (Syntax.tcons (Syntax.tyInt Syntax.w64) Syntax.tnil) (Syntax.ttcons (Syntax.tcons (Syntax.tyInt Syntax.w64) Syntax.tnil) (Syntax.ttcons (Syntax.tcons (Syntax.tyInt Syntax.w64) Syntax.tnil) (Syntax.ttcons (Syntax.tcons (Syntax.tyInt Syntax.w64) Syntax.tnil) (Syntax.ttcons (Syntax.tcons (Syntax.tyInt Syntax.w64) Syntax.tnil) (Syntax.ttcons (Syntax.tcons (Syntax.tyInt Syntax.w64) Syntax.tnil) (Syntax.ttcons (Syntax.tcons (Syntax.tyInt Syntax.w64) Syntax.tnil) (Syntax.ttcons Syntax.tnil (Syntax.ttcons Syntax.tnil (Syntax.ttcons (Syntax.tcons (Syntax.tyInt Syntax.w64) Syntax.tnil) Syntax.ttnil))))))))))))))))))) (List._∷_ (1, Rows.whole (Declared'.row State.the-type)) (List._∷_ (2, Rows.sslice (Referent.rtF (Referent.fInt Syntax.w32)) (Syntax.tyRef (Syntax.named 0) Syntax.imm (Syntax.tyInt Syntax.w32)) 0) (List._∷_ (3, Rows.sslice (Referent.rtF (Referent.fInt Syntax.w32)) (Syntax.tyRef (Syntax.named 1) Syntax.imm (Syntax.tyInt Syntax.w32)) 1) (List._∷_ (4, Mut.mslice (Referent.rtF (Referent.fInt Syntax.w32)) (Syntax.tyRef (Syntax.named 2) Syntax.mut (Syntax.tyInt Syntax.w32)) 2) (List._∷_ (5, Rows.sslice Cell.R (Syntax.tyRef (Syntax.named 3) Syntax.imm Cell.behind) 3) (List._∷_ (6, Rows.sslice Cell.R (Syntax.tyRef (Syntax.named 4) Syntax.imm Cell.behind) 4) (List._∷_ (7, Rows.any-gone (Syntax.tyInt Syntax.w64)) (List._∷_ (8, Rows.any-gone (Syntax.tyInt Syntax.w64)) (List._∷_ (9, Rows.any-gone (Syntax.tyEnum (List._∷_ 100 (List._∷_ 97 (List._∷_ 114 (List._∷_ 116 (List._∷_ 115 (List._∷_ 58 (List._∷_ 58 (List._∷_ 65 (List._∷_ 110 (List._∷_ 115 (List._∷_ 119 (List._∷_ 101 (List._∷_ 114 List.[]))))))))))))) (Syntax.ttcons (Syntax.tcons (Syntax.tyInt Syntax.w64) Syntax.tnil) (Syntax.ttcons Syntax.tnil (Syntax.ttcons (Syntax.tcons (Syntax.tyInt Syntax.w64) Syntax.tnil) (Syntax.ttcons (Syntax.tcons (Syntax.tyInt Syntax.w64) (Syntax.tcons (Syntax.tyInt Syntax.w64) Syntax.tnil)) (Syntax.ttcons Syntax.tnil (Syntax.ttcons Syntax.tnil (Syntax.ttcons Syntax.tnil (Syntax.ttcons (Syntax.tcons (Syntax.tyInt Syntax.w64) Syntax.tnil) (Syntax.ttcons (Syntax.tcons (Syntax.tyInt Syntax.w64) Syntax.tnil) (Syntax.ttcons (Syntax.tcons (Syntax.tyInt Syntax.w64) Syntax.tnil) (Syntax.ttcons (Syntax.tcons (Syntax.tyInt Syntax.w64) Syntax.tnil) (Syntax.ttcons (Syntax.tcons (Syntax.tyInt Syntax.w64) Syntax.tnil) (Syntax.ttcons (Syntax.tcons (Syntax.tyInt Syntax.w64) Syntax.tnil) (Syntax.ttcons (Syntax.tcons (Syntax.tyInt Syntax.w64) Syntax.tnil) (Syntax.ttcons Syntax.tnil (Syntax.ttcons Syntax.tnil (Syntax.ttcons (Syntax.tcons (Syntax.tyInt Syntax.w64) Syntax.tnil) Syntax.ttnil))))))))))))))))))) (List._∷_ (10, Rows.any-gone Syntax.tyBool) (List._∷_ (11, Rows.any-gone (Syntax.tyRef Syntax.erased Syntax.mut (Syntax.tyInt Syntax.w32))) (List._∷_ (12, Rows.any-gone (Syntax.tyStruct (List._∷_ 38 (List._∷_ 91 (List._∷_ 93 List.[]))) (Syntax.tcons (Syntax.tyRef Syntax.erased Syntax.mut (Syntax.tyInt Syntax.w32)) (Syntax.tcons (Syntax.tyInt Syntax.w64) Syntax.tnil)))) (List._∷_ (13, Rows.any-gone (Syntax.tyRef Syntax.erased Syntax.mut (Syntax.tyInt Syntax.w32))) (List._∷_ (14, Rows.any-gone (Syntax.tyStruct (List._∷_ 38 (List._∷_ 91 (List._∷_ 93 List.[]))) (Syntax.tcons (Syntax.tyRef Syntax.erased Syntax.mut (Syntax.tyInt Syntax.w32)) (Syntax.tcons (Syntax.tyInt Syntax.w64) Syntax.tnil)))) (List._∷_ (15, Rows.any-gone (Syntax.tyInt Syntax.w32)) List.[])))))))))))))))
 
 abbrev pub t1 : List.List Row.Entry
-t1 = List._∷_ (16, Rows.any-gone (Syntax.tyStruct (List._∷_ 38 (List._∷_ 91 (List._∷_ 93 List.[]))) (Syntax.tcons (Syntax.tyRef Syntax.erased Syntax.imm (Syntax.tyInt Syntax.w32)) (Syntax.tcons (Syntax.tyInt Syntax.w64) Syntax.tnil)))) (List._∷_ (17, Rows.any-gone (Syntax.tyInt Syntax.w64)) (List._∷_ (18, Rows.any-gone (Syntax.tyInt Syntax.w64)) (List._∷_ (19, Rows.any-gone (Syntax.tyRef Syntax.erased Syntax.mut (Syntax.tyInt Syntax.w32))) (List._∷_ (20, Rows.any-gone (Syntax.tyStruct (List._∷_ 38 (List._∷_ 91 (List._∷_ 93 List.[]))) (Syntax.tcons (Syntax.tyRef Syntax.erased Syntax.mut (Syntax.tyInt Syntax.w32)) (Syntax.tcons (Syntax.tyInt Syntax.w64) Syntax.tnil)))) (List._∷_ (21, Rows.any-gone (Syntax.tyRef Syntax.erased Syntax.mut (Syntax.tyInt Syntax.w32))) (List._∷_ (22, Rows.any-gone (Syntax.tyStruct (List._∷_ 38 (List._∷_ 91 (List._∷_ 93 List.[]))) (Syntax.tcons (Syntax.tyRef Syntax.erased Syntax.mut (Syntax.tyInt Syntax.w32)) (Syntax.tcons (Syntax.tyInt Syntax.w64) Syntax.tnil)))) List.[]))))))
+t1 = List._∷_ (16, Rows.any-gone Syntax.tyBool) (List._∷_ (17, Rows.any-gone (Syntax.tyRef Syntax.erased Syntax.imm (Syntax.tyInt Syntax.w32))) (List._∷_ (18, Rows.any-gone (Syntax.tyStruct (List._∷_ 38 (List._∷_ 91 (List._∷_ 93 List.[]))) (Syntax.tcons (Syntax.tyRef Syntax.erased Syntax.imm (Syntax.tyInt Syntax.w32)) (Syntax.tcons (Syntax.tyInt Syntax.w64) Syntax.tnil)))) (List._∷_ (19, Rows.any-gone (Syntax.tyInt Syntax.w64)) (List._∷_ (20, Rows.any-gone (Syntax.tyInt Syntax.w64)) (List._∷_ (21, Rows.any-gone (Syntax.tyRef Syntax.erased Syntax.mut (Syntax.tyInt Syntax.w32))) (List._∷_ (22, Rows.any-gone (Syntax.tyStruct (List._∷_ 38 (List._∷_ 91 (List._∷_ 93 List.[]))) (Syntax.tcons (Syntax.tyRef Syntax.erased Syntax.mut (Syntax.tyInt Syntax.w32)) (Syntax.tcons (Syntax.tyInt Syntax.w64) Syntax.tnil)))) (List._∷_ (23, Rows.any-gone (Syntax.tyRef Syntax.erased Syntax.mut (Syntax.tyInt Syntax.w32))) (List._∷_ (24, Rows.any-gone (Syntax.tyStruct (List._∷_ 38 (List._∷_ 91 (List._∷_ 93 List.[]))) (Syntax.tcons (Syntax.tyRef Syntax.erased Syntax.mut (Syntax.tyInt Syntax.w32)) (Syntax.tcons (Syntax.tyInt Syntax.w64) Syntax.tnil)))) List.[]))))))))
 
 abbrev pub t2 : List.List Row.Entry
-t2 = List._∷_ (0, Rows.whole (Declared.row Answer.the-type)) (List._∷_ (1, Rows.any-gone (Syntax.tyStruct (List._∷_ 112 (List._∷_ 121 (List._∷_ 114 (List._∷_ 97 (List._∷_ 109 (List._∷_ 105 (List._∷_ 100 (List._∷_ 58 (List._∷_ 58 (List._∷_ 83 (List._∷_ 116 (List._∷_ 97 (List._∷_ 116 (List._∷_ 101 List.[])))))))))))))) (Syntax.tcons (Syntax.tyInt Syntax.w32) (Syntax.tcons (Syntax.tyInt Syntax.w32) (Syntax.tcons (Syntax.tyInt Syntax.w32) (Syntax.tcons (Syntax.tyInt Syntax.w32) (Syntax.tcons (Syntax.tyInt Syntax.w32) (Syntax.tcons (Syntax.tyArray (Syntax.tyInt Syntax.w32) 64) Syntax.tnil)))))))) (List._∷_ (2, Rows.sslice (Referent.rtF (Referent.fInt Syntax.w32)) (Syntax.tyRef (Syntax.named 0) Syntax.imm (Syntax.tyInt Syntax.w32)) 0) (List._∷_ (3, Rows.sslice (Referent.rtF (Referent.fInt Syntax.w32)) (Syntax.tyRef (Syntax.named 1) Syntax.imm (Syntax.tyInt Syntax.w32)) 1) (List._∷_ (4, Mut.mslice (Referent.rtF (Referent.fInt Syntax.w32)) (Syntax.tyRef (Syntax.named 2) Syntax.mut (Syntax.tyInt Syntax.w32)) 2) (List._∷_ (5, Rows.sslice Cell.R (Syntax.tyRef (Syntax.named 3) Syntax.imm Cell.behind) 3) (List._∷_ (6, Rows.sslice Cell.R (Syntax.tyRef (Syntax.named 4) Syntax.imm Cell.behind) 4) (List._∷_ (7, Rows.any-gone (Syntax.tyInt Syntax.w64)) (List._∷_ (8, Rows.any-gone (Syntax.tyInt Syntax.w64)) (List._∷_ (9, Rows.any-gone (Syntax.tyEnum (List._∷_ 100 (List._∷_ 97 (List._∷_ 114 (List._∷_ 116 (List._∷_ 115 (List._∷_ 58 (List._∷_ 58 (List._∷_ 65 (List._∷_ 110 (List._∷_ 115 (List._∷_ 119 (List._∷_ 101 (List._∷_ 114 List.[]))))))))))))) (Syntax.ttcons (Syntax.tcons (Syntax.tyInt Syntax.w64) Syntax.tnil) (Syntax.ttcons Syntax.tnil (Syntax.ttcons (Syntax.tcons (Syntax.tyInt Syntax.w64) Syntax.tnil) (Syntax.ttcons (Syntax.tcons (Syntax.tyInt Syntax.w64) (Syntax.tcons (Syntax.tyInt Syntax.w64) Syntax.tnil)) (Syntax.ttcons Syntax.tnil (Syntax.ttcons Syntax.tnil (Syntax.ttcons Syntax.tnil (Syntax.ttcons (Syntax.tcons (Syntax.tyInt Syntax.w64) Syntax.tnil) (Syntax.ttcons (Syntax.tcons (Syntax.tyInt Syntax.w64) Syntax.tnil) (Syntax.ttcons (Syntax.tcons (Syntax.tyInt Syntax.w64) Syntax.tnil) (Syntax.ttcons (Syntax.tcons (Syntax.tyInt Syntax.w64) Syntax.tnil) (Syntax.ttcons (Syntax.tcons (Syntax.tyInt Syntax.w64) Syntax.tnil) (Syntax.ttcons (Syntax.tcons (Syntax.tyInt Syntax.w64) Syntax.tnil) (Syntax.ttcons (Syntax.tcons (Syntax.tyInt Syntax.w64) Syntax.tnil) (Syntax.ttcons Syntax.tnil (Syntax.ttcons Syntax.tnil (Syntax.ttcons (Syntax.tcons (Syntax.tyInt Syntax.w64) Syntax.tnil) Syntax.ttnil))))))))))))))))))) (List._∷_ (10, Rows.any-gone (Syntax.tyRef Syntax.erased Syntax.mut (Syntax.tyInt Syntax.w32))) (List._∷_ (11, Rows.any-gone (Syntax.tyStruct (List._∷_ 38 (List._∷_ 91 (List._∷_ 93 List.[]))) (Syntax.tcons (Syntax.tyRef Syntax.erased Syntax.mut (Syntax.tyInt Syntax.w32)) (Syntax.tcons (Syntax.tyInt Syntax.w64) Syntax.tnil)))) (List._∷_ (12, Rows.any-gone (Syntax.tyInt Syntax.w32)) (List._∷_ (13, Rows.any-gone Syntax.tyBool) (List._∷_ (14, Rows.any-gone Syntax.tyBool) (List._∷_ (15, Rows.any-gone (Syntax.tyRef Syntax.erased Syntax.imm (Syntax.tyInt Syntax.w32))) List.[])))))))))))))))
+t2 = List._∷_ (0, Rows.whole (Declared.row Answer.the-type)) (List._∷_ (1, Rows.any-gone (Syntax.tyStruct (List._∷_ 112 (List._∷_ 121 (List._∷_ 114 (List._∷_ 97 (List._∷_ 109 (List._∷_ 105 (List._∷_ 100 (List._∷_ 58 (List._∷_ 58 (List._∷_ 83 (List._∷_ 116 (List._∷_ 97 (List._∷_ 116 (List._∷_ 101 List.[])))))))))))))) (Syntax.tcons (Syntax.tyInt Syntax.w32) (Syntax.tcons (Syntax.tyInt Syntax.w32) (Syntax.tcons (Syntax.tyInt Syntax.w32) (Syntax.tcons (Syntax.tyInt Syntax.w32) (Syntax.tcons (Syntax.tyInt Syntax.w32) (Syntax.tcons (Syntax.tyArray (Syntax.tyInt Syntax.w32) 64) Syntax.tnil)))))))) (List._∷_ (2, Rows.sslice (Referent.rtF (Referent.fInt Syntax.w32)) (Syntax.tyRef (Syntax.named 0) Syntax.imm (Syntax.tyInt Syntax.w32)) 0) (List._∷_ (3, Rows.sslice (Referent.rtF (Referent.fInt Syntax.w32)) (Syntax.tyRef (Syntax.named 1) Syntax.imm (Syntax.tyInt Syntax.w32)) 1) (List._∷_ (4, Mut.mslice (Referent.rtF (Referent.fInt Syntax.w32)) (Syntax.tyRef (Syntax.named 2) Syntax.mut (Syntax.tyInt Syntax.w32)) 2) (List._∷_ (5, Rows.sslice Cell.R (Syntax.tyRef (Syntax.named 3) Syntax.imm Cell.behind) 3) (List._∷_ (6, Rows.sslice Cell.R (Syntax.tyRef (Syntax.named 4) Syntax.imm Cell.behind) 4) (List._∷_ (7, Rows.any-gone (Syntax.tyInt Syntax.w64)) (List._∷_ (8, Rows.any-gone (Syntax.tyInt Syntax.w64)) (List._∷_ (9, Rows.any-gone (Syntax.tyEnum (List._∷_ 100 (List._∷_ 97 (List._∷_ 114 (List._∷_ 116 (List._∷_ 115 (List._∷_ 58 (List._∷_ 58 (List._∷_ 65 (List._∷_ 110 (List._∷_ 115 (List._∷_ 119 (List._∷_ 101 (List._∷_ 114 List.[]))))))))))))) (Syntax.ttcons (Syntax.tcons (Syntax.tyInt Syntax.w64) Syntax.tnil) (Syntax.ttcons Syntax.tnil (Syntax.ttcons (Syntax.tcons (Syntax.tyInt Syntax.w64) Syntax.tnil) (Syntax.ttcons (Syntax.tcons (Syntax.tyInt Syntax.w64) (Syntax.tcons (Syntax.tyInt Syntax.w64) Syntax.tnil)) (Syntax.ttcons Syntax.tnil (Syntax.ttcons Syntax.tnil (Syntax.ttcons Syntax.tnil (Syntax.ttcons (Syntax.tcons (Syntax.tyInt Syntax.w64) Syntax.tnil) (Syntax.ttcons (Syntax.tcons (Syntax.tyInt Syntax.w64) Syntax.tnil) (Syntax.ttcons (Syntax.tcons (Syntax.tyInt Syntax.w64) Syntax.tnil) (Syntax.ttcons (Syntax.tcons (Syntax.tyInt Syntax.w64) Syntax.tnil) (Syntax.ttcons (Syntax.tcons (Syntax.tyInt Syntax.w64) Syntax.tnil) (Syntax.ttcons (Syntax.tcons (Syntax.tyInt Syntax.w64) Syntax.tnil) (Syntax.ttcons (Syntax.tcons (Syntax.tyInt Syntax.w64) Syntax.tnil) (Syntax.ttcons Syntax.tnil (Syntax.ttcons Syntax.tnil (Syntax.ttcons (Syntax.tcons (Syntax.tyInt Syntax.w64) Syntax.tnil) Syntax.ttnil))))))))))))))))))) (List._∷_ (10, Rows.any-gone Syntax.tyBool) (List._∷_ (11, Rows.any-gone (Syntax.tyRef Syntax.erased Syntax.mut (Syntax.tyInt Syntax.w32))) (List._∷_ (12, Rows.any-gone (Syntax.tyStruct (List._∷_ 38 (List._∷_ 91 (List._∷_ 93 List.[]))) (Syntax.tcons (Syntax.tyRef Syntax.erased Syntax.mut (Syntax.tyInt Syntax.w32)) (Syntax.tcons (Syntax.tyInt Syntax.w64) Syntax.tnil)))) (List._∷_ (13, Rows.any-gone (Syntax.tyRef Syntax.erased Syntax.mut (Syntax.tyInt Syntax.w32))) (List._∷_ (14, Rows.any-gone (Syntax.tyStruct (List._∷_ 38 (List._∷_ 91 (List._∷_ 93 List.[]))) (Syntax.tcons (Syntax.tyRef Syntax.erased Syntax.mut (Syntax.tyInt Syntax.w32)) (Syntax.tcons (Syntax.tyInt Syntax.w64) Syntax.tnil)))) (List._∷_ (15, Rows.any-gone (Syntax.tyInt Syntax.w32)) List.[])))))))))))))))
 
 abbrev pub t3 : List.List Row.Entry
-t3 = List._∷_ (0, Rows.any-gone (Syntax.tyEnum (List._∷_ 100 (List._∷_ 97 (List._∷_ 114 (List._∷_ 116 (List._∷_ 115 (List._∷_ 58 (List._∷_ 58 (List._∷_ 65 (List._∷_ 110 (List._∷_ 115 (List._∷_ 119 (List._∷_ 101 (List._∷_ 114 List.[]))))))))))))) (Syntax.ttcons (Syntax.tcons (Syntax.tyInt Syntax.w64) Syntax.tnil) (Syntax.ttcons Syntax.tnil (Syntax.ttcons (Syntax.tcons (Syntax.tyInt Syntax.w64) Syntax.tnil) (Syntax.ttcons (Syntax.tcons (Syntax.tyInt Syntax.w64) (Syntax.tcons (Syntax.tyInt Syntax.w64) Syntax.tnil)) (Syntax.ttcons Syntax.tnil (Syntax.ttcons Syntax.tnil (Syntax.ttcons Syntax.tnil (Syntax.ttcons (Syntax.tcons (Syntax.tyInt Syntax.w64) Syntax.tnil) (Syntax.ttcons (Syntax.tcons (Syntax.tyInt Syntax.w64) Syntax.tnil) (Syntax.ttcons (Syntax.tcons (Syntax.tyInt Syntax.w64) Syntax.tnil) (Syntax.ttcons (Syntax.tcons (Syntax.tyInt Syntax.w64) Syntax.tnil) (Syntax.ttcons (Syntax.tcons (Syntax.tyInt Syntax.w64) Syntax.tnil) (Syntax.ttcons (Syntax.tcons (Syntax.tyInt Syntax.w64) Syntax.tnil) (Syntax.ttcons (Syntax.tcons (Syntax.tyInt Syntax.w64) Syntax.tnil) (Syntax.ttcons Syntax.tnil (Syntax.ttcons Syntax.tnil (Syntax.ttcons (Syntax.tcons (Syntax.tyInt Syntax.w64) Syntax.tnil) Syntax.ttnil))))))))))))))))))) (List._∷_ (1, Rows.whole (Declared'.row State.the-type)) (List._∷_ (2, Rows.sslice (Referent.rtF (Referent.fInt Syntax.w32)) (Syntax.tyRef (Syntax.named 0) Syntax.imm (Syntax.tyInt Syntax.w32)) 0) (List._∷_ (3, Rows.sslice (Referent.rtF (Referent.fInt Syntax.w32)) (Syntax.tyRef (Syntax.named 1) Syntax.imm (Syntax.tyInt Syntax.w32)) 1) (List._∷_ (4, Mut.mslice (Referent.rtF (Referent.fInt Syntax.w32)) (Syntax.tyRef (Syntax.named 2) Syntax.mut (Syntax.tyInt Syntax.w32)) 2) (List._∷_ (5, Rows.sslice Cell.R (Syntax.tyRef (Syntax.named 3) Syntax.imm Cell.behind) 3) (List._∷_ (6, Rows.sslice Cell.R (Syntax.tyRef (Syntax.named 4) Syntax.imm Cell.behind) 4) (List._∷_ (7, Rows.sc-here (Row.sInt Syntax.w64)) (List._∷_ (8, Rows.any-gone (Syntax.tyInt Syntax.w64)) (List._∷_ (9, Rows.any-gone (Syntax.tyEnum (List._∷_ 100 (List._∷_ 97 (List._∷_ 114 (List._∷_ 116 (List._∷_ 115 (List._∷_ 58 (List._∷_ 58 (List._∷_ 65 (List._∷_ 110 (List._∷_ 115 (List._∷_ 119 (List._∷_ 101 (List._∷_ 114 List.[]))))))))))))) (Syntax.ttcons (Syntax.tcons (Syntax.tyInt Syntax.w64) Syntax.tnil) (Syntax.ttcons Syntax.tnil (Syntax.ttcons (Syntax.tcons (Syntax.tyInt Syntax.w64) Syntax.tnil) (Syntax.ttcons (Syntax.tcons (Syntax.tyInt Syntax.w64) (Syntax.tcons (Syntax.tyInt Syntax.w64) Syntax.tnil)) (Syntax.ttcons Syntax.tnil (Syntax.ttcons Syntax.tnil (Syntax.ttcons Syntax.tnil (Syntax.ttcons (Syntax.tcons (Syntax.tyInt Syntax.w64) Syntax.tnil) (Syntax.ttcons (Syntax.tcons (Syntax.tyInt Syntax.w64) Syntax.tnil) (Syntax.ttcons (Syntax.tcons (Syntax.tyInt Syntax.w64) Syntax.tnil) (Syntax.ttcons (Syntax.tcons (Syntax.tyInt Syntax.w64) Syntax.tnil) (Syntax.ttcons (Syntax.tcons (Syntax.tyInt Syntax.w64) Syntax.tnil) (Syntax.ttcons (Syntax.tcons (Syntax.tyInt Syntax.w64) Syntax.tnil) (Syntax.ttcons (Syntax.tcons (Syntax.tyInt Syntax.w64) Syntax.tnil) (Syntax.ttcons Syntax.tnil (Syntax.ttcons Syntax.tnil (Syntax.ttcons (Syntax.tcons (Syntax.tyInt Syntax.w64) Syntax.tnil) Syntax.ttnil))))))))))))))))))) (List._∷_ (10, Rows.any-gone (Syntax.tyRef Syntax.erased Syntax.mut (Syntax.tyInt Syntax.w32))) (List._∷_ (11, Rows.any-gone (Syntax.tyStruct (List._∷_ 38 (List._∷_ 91 (List._∷_ 93 List.[]))) (Syntax.tcons (Syntax.tyRef Syntax.erased Syntax.mut (Syntax.tyInt Syntax.w32)) (Syntax.tcons (Syntax.tyInt Syntax.w64) Syntax.tnil)))) (List._∷_ (12, Rows.any-gone (Syntax.tyInt Syntax.w32)) (List._∷_ (13, Rows.any-gone Syntax.tyBool) (List._∷_ (14, Rows.any-gone Syntax.tyBool) (List._∷_ (15, Rows.any-gone (Syntax.tyRef Syntax.erased Syntax.imm (Syntax.tyInt Syntax.w32))) List.[])))))))))))))))
+t3 = List._∷_ (0, Rows.any-gone (Syntax.tyEnum (List._∷_ 100 (List._∷_ 97 (List._∷_ 114 (List._∷_ 116 (List._∷_ 115 (List._∷_ 58 (List._∷_ 58 (List._∷_ 65 (List._∷_ 110 (List._∷_ 115 (List._∷_ 119 (List._∷_ 101 (List._∷_ 114 List.[]))))))))))))) (Syntax.ttcons (Syntax.tcons (Syntax.tyInt Syntax.w64) Syntax.tnil) (Syntax.ttcons Syntax.tnil (Syntax.ttcons (Syntax.tcons (Syntax.tyInt Syntax.w64) Syntax.tnil) (Syntax.ttcons (Syntax.tcons (Syntax.tyInt Syntax.w64) (Syntax.tcons (Syntax.tyInt Syntax.w64) Syntax.tnil)) (Syntax.ttcons Syntax.tnil (Syntax.ttcons Syntax.tnil (Syntax.ttcons Syntax.tnil (Syntax.ttcons (Syntax.tcons (Syntax.tyInt Syntax.w64) Syntax.tnil) (Syntax.ttcons (Syntax.tcons (Syntax.tyInt Syntax.w64) Syntax.tnil) (Syntax.ttcons (Syntax.tcons (Syntax.tyInt Syntax.w64) Syntax.tnil) (Syntax.ttcons (Syntax.tcons (Syntax.tyInt Syntax.w64) Syntax.tnil) (Syntax.ttcons (Syntax.tcons (Syntax.tyInt Syntax.w64) Syntax.tnil) (Syntax.ttcons (Syntax.tcons (Syntax.tyInt Syntax.w64) Syntax.tnil) (Syntax.ttcons (Syntax.tcons (Syntax.tyInt Syntax.w64) Syntax.tnil) (Syntax.ttcons Syntax.tnil (Syntax.ttcons Syntax.tnil (Syntax.ttcons (Syntax.tcons (Syntax.tyInt Syntax.w64) Syntax.tnil) Syntax.ttnil))))))))))))))))))) (List._∷_ (1, Rows.whole (Declared'.row State.the-type)) (List._∷_ (2, Rows.sslice (Referent.rtF (Referent.fInt Syntax.w32)) (Syntax.tyRef (Syntax.named 0) Syntax.imm (Syntax.tyInt Syntax.w32)) 0) (List._∷_ (3, Rows.sslice (Referent.rtF (Referent.fInt Syntax.w32)) (Syntax.tyRef (Syntax.named 1) Syntax.imm (Syntax.tyInt Syntax.w32)) 1) (List._∷_ (4, Mut.mslice (Referent.rtF (Referent.fInt Syntax.w32)) (Syntax.tyRef (Syntax.named 2) Syntax.mut (Syntax.tyInt Syntax.w32)) 2) (List._∷_ (5, Rows.sslice Cell.R (Syntax.tyRef (Syntax.named 3) Syntax.imm Cell.behind) 3) (List._∷_ (6, Rows.sslice Cell.R (Syntax.tyRef (Syntax.named 4) Syntax.imm Cell.behind) 4) (List._∷_ (7, Rows.any-gone (Syntax.tyInt Syntax.w64)) (List._∷_ (8, Rows.any-gone (Syntax.tyInt Syntax.w64)) (List._∷_ (9, Rows.any-gone (Syntax.tyEnum (List._∷_ 100 (List._∷_ 97 (List._∷_ 114 (List._∷_ 116 (List._∷_ 115 (List._∷_ 58 (List._∷_ 58 (List._∷_ 65 (List._∷_ 110 (List._∷_ 115 (List._∷_ 119 (List._∷_ 101 (List._∷_ 114 List.[]))))))))))))) (Syntax.ttcons (Syntax.tcons (Syntax.tyInt Syntax.w64) Syntax.tnil) (Syntax.ttcons Syntax.tnil (Syntax.ttcons (Syntax.tcons (Syntax.tyInt Syntax.w64) Syntax.tnil) (Syntax.ttcons (Syntax.tcons (Syntax.tyInt Syntax.w64) (Syntax.tcons (Syntax.tyInt Syntax.w64) Syntax.tnil)) (Syntax.ttcons Syntax.tnil (Syntax.ttcons Syntax.tnil (Syntax.ttcons Syntax.tnil (Syntax.ttcons (Syntax.tcons (Syntax.tyInt Syntax.w64) Syntax.tnil) (Syntax.ttcons (Syntax.tcons (Syntax.tyInt Syntax.w64) Syntax.tnil) (Syntax.ttcons (Syntax.tcons (Syntax.tyInt Syntax.w64) Syntax.tnil) (Syntax.ttcons (Syntax.tcons (Syntax.tyInt Syntax.w64) Syntax.tnil) (Syntax.ttcons (Syntax.tcons (Syntax.tyInt Syntax.w64) Syntax.tnil) (Syntax.ttcons (Syntax.tcons (Syntax.tyInt Syntax.w64) Syntax.tnil) (Syntax.ttcons (Syntax.tcons (Syntax.tyInt Syntax.w64) Syntax.tnil) (Syntax.ttcons Syntax.tnil (Syntax.ttcons Syntax.tnil (Syntax.ttcons (Syntax.tcons (Syntax.tyInt Syntax.w64) Syntax.tnil) Syntax.ttnil))))))))))))))))))) (List._∷_ (10, Rows.sc-here Row.sBool) (List._∷_ (11, Rows.any-gone (Syntax.tyRef Syntax.erased Syntax.mut (Syntax.tyInt Syntax.w32))) (List._∷_ (12, Rows.any-gone (Syntax.tyStruct (List._∷_ 38 (List._∷_ 91 (List._∷_ 93 List.[]))) (Syntax.tcons (Syntax.tyRef Syntax.erased Syntax.mut (Syntax.tyInt Syntax.w32)) (Syntax.tcons (Syntax.tyInt Syntax.w64) Syntax.tnil)))) (List._∷_ (13, Rows.any-gone (Syntax.tyRef Syntax.erased Syntax.mut (Syntax.tyInt Syntax.w32))) (List._∷_ (14, Rows.any-gone (Syntax.tyStruct (List._∷_ 38 (List._∷_ 91 (List._∷_ 93 List.[]))) (Syntax.tcons (Syntax.tyRef Syntax.erased Syntax.mut (Syntax.tyInt Syntax.w32)) (Syntax.tcons (Syntax.tyInt Syntax.w64) Syntax.tnil)))) (List._∷_ (15, Rows.any-gone (Syntax.tyInt Syntax.w32)) List.[])))))))))))))))
 
 abbrev pub t4 : List.List Row.Entry
-t4 = List._∷_ (0, Rows.any-gone (Syntax.tyEnum (List._∷_ 100 (List._∷_ 97 (List._∷_ 114 (List._∷_ 116 (List._∷_ 115 (List._∷_ 58 (List._∷_ 58 (List._∷_ 65 (List._∷_ 110 (List._∷_ 115 (List._∷_ 119 (List._∷_ 101 (List._∷_ 114 List.[]))))))))))))) (Syntax.ttcons (Syntax.tcons (Syntax.tyInt Syntax.w64) Syntax.tnil) (Syntax.ttcons Syntax.tnil (Syntax.ttcons (Syntax.tcons (Syntax.tyInt Syntax.w64) Syntax.tnil) (Syntax.ttcons (Syntax.tcons (Syntax.tyInt Syntax.w64) (Syntax.tcons (Syntax.tyInt Syntax.w64) Syntax.tnil)) (Syntax.ttcons Syntax.tnil (Syntax.ttcons Syntax.tnil (Syntax.ttcons Syntax.tnil (Syntax.ttcons (Syntax.tcons (Syntax.tyInt Syntax.w64) Syntax.tnil) (Syntax.ttcons (Syntax.tcons (Syntax.tyInt Syntax.w64) Syntax.tnil) (Syntax.ttcons (Syntax.tcons (Syntax.tyInt Syntax.w64) Syntax.tnil) (Syntax.ttcons (Syntax.tcons (Syntax.tyInt Syntax.w64) Syntax.tnil) (Syntax.ttcons (Syntax.tcons (Syntax.tyInt Syntax.w64) Syntax.tnil) (Syntax.ttcons (Syntax.tcons (Syntax.tyInt Syntax.w64) Syntax.tnil) (Syntax.ttcons (Syntax.tcons (Syntax.tyInt Syntax.w64) Syntax.tnil) (Syntax.ttcons Syntax.tnil (Syntax.ttcons Syntax.tnil (Syntax.ttcons (Syntax.tcons (Syntax.tyInt Syntax.w64) Syntax.tnil) Syntax.ttnil))))))))))))))))))) (List._∷_ (1, Rows.whole (Declared'.row State.the-type)) (List._∷_ (2, Rows.sslice (Referent.rtF (Referent.fInt Syntax.w32)) (Syntax.tyRef (Syntax.named 0) Syntax.imm (Syntax.tyInt Syntax.w32)) 0) (List._∷_ (3, Rows.sslice (Referent.rtF (Referent.fInt Syntax.w32)) (Syntax.tyRef (Syntax.named 1) Syntax.imm (Syntax.tyInt Syntax.w32)) 1) (List._∷_ (4, Mut.mslice (Referent.rtF (Referent.fInt Syntax.w32)) (Syntax.tyRef (Syntax.named 2) Syntax.mut (Syntax.tyInt Syntax.w32)) 2) (List._∷_ (5, Rows.sslice Cell.R (Syntax.tyRef (Syntax.named 3) Syntax.imm Cell.behind) 3) (List._∷_ (6, Rows.sslice Cell.R (Syntax.tyRef (Syntax.named 4) Syntax.imm Cell.behind) 4) (List._∷_ (7, Rows.sc-here (Row.sInt Syntax.w64)) (List._∷_ (8, Rows.sc-here (Row.sInt Syntax.w64)) (List._∷_ (9, Rows.any-gone (Syntax.tyEnum (List._∷_ 100 (List._∷_ 97 (List._∷_ 114 (List._∷_ 116 (List._∷_ 115 (List._∷_ 58 (List._∷_ 58 (List._∷_ 65 (List._∷_ 110 (List._∷_ 115 (List._∷_ 119 (List._∷_ 101 (List._∷_ 114 List.[]))))))))))))) (Syntax.ttcons (Syntax.tcons (Syntax.tyInt Syntax.w64) Syntax.tnil) (Syntax.ttcons Syntax.tnil (Syntax.ttcons (Syntax.tcons (Syntax.tyInt Syntax.w64) Syntax.tnil) (Syntax.ttcons (Syntax.tcons (Syntax.tyInt Syntax.w64) (Syntax.tcons (Syntax.tyInt Syntax.w64) Syntax.tnil)) (Syntax.ttcons Syntax.tnil (Syntax.ttcons Syntax.tnil (Syntax.ttcons Syntax.tnil (Syntax.ttcons (Syntax.tcons (Syntax.tyInt Syntax.w64) Syntax.tnil) (Syntax.ttcons (Syntax.tcons (Syntax.tyInt Syntax.w64) Syntax.tnil) (Syntax.ttcons (Syntax.tcons (Syntax.tyInt Syntax.w64) Syntax.tnil) (Syntax.ttcons (Syntax.tcons (Syntax.tyInt Syntax.w64) Syntax.tnil) (Syntax.ttcons (Syntax.tcons (Syntax.tyInt Syntax.w64) Syntax.tnil) (Syntax.ttcons (Syntax.tcons (Syntax.tyInt Syntax.w64) Syntax.tnil) (Syntax.ttcons (Syntax.tcons (Syntax.tyInt Syntax.w64) Syntax.tnil) (Syntax.ttcons Syntax.tnil (Syntax.ttcons Syntax.tnil (Syntax.ttcons (Syntax.tcons (Syntax.tyInt Syntax.w64) Syntax.tnil) Syntax.ttnil))))))))))))))))))) (List._∷_ (10, Rows.any-gone (Syntax.tyRef Syntax.erased Syntax.mut (Syntax.tyInt Syntax.w32))) (List._∷_ (11, Rows.any-gone (Syntax.tyStruct (List._∷_ 38 (List._∷_ 91 (List._∷_ 93 List.[]))) (Syntax.tcons (Syntax.tyRef Syntax.erased Syntax.mut (Syntax.tyInt Syntax.w32)) (Syntax.tcons (Syntax.tyInt Syntax.w64) Syntax.tnil)))) (List._∷_ (12, Rows.any-gone (Syntax.tyInt Syntax.w32)) (List._∷_ (13, Rows.any-gone Syntax.tyBool) (List._∷_ (14, Rows.any-gone Syntax.tyBool) (List._∷_ (15, Rows.any-gone (Syntax.tyRef Syntax.erased Syntax.imm (Syntax.tyInt Syntax.w32))) List.[])))))))))))))))
+t4 = List._∷_ (0, Rows.any-gone (Syntax.tyEnum (List._∷_ 100 (List._∷_ 97 (List._∷_ 114 (List._∷_ 116 (List._∷_ 115 (List._∷_ 58 (List._∷_ 58 (List._∷_ 65 (List._∷_ 110 (List._∷_ 115 (List._∷_ 119 (List._∷_ 101 (List._∷_ 114 List.[]))))))))))))) (Syntax.ttcons (Syntax.tcons (Syntax.tyInt Syntax.w64) Syntax.tnil) (Syntax.ttcons Syntax.tnil (Syntax.ttcons (Syntax.tcons (Syntax.tyInt Syntax.w64) Syntax.tnil) (Syntax.ttcons (Syntax.tcons (Syntax.tyInt Syntax.w64) (Syntax.tcons (Syntax.tyInt Syntax.w64) Syntax.tnil)) (Syntax.ttcons Syntax.tnil (Syntax.ttcons Syntax.tnil (Syntax.ttcons Syntax.tnil (Syntax.ttcons (Syntax.tcons (Syntax.tyInt Syntax.w64) Syntax.tnil) (Syntax.ttcons (Syntax.tcons (Syntax.tyInt Syntax.w64) Syntax.tnil) (Syntax.ttcons (Syntax.tcons (Syntax.tyInt Syntax.w64) Syntax.tnil) (Syntax.ttcons (Syntax.tcons (Syntax.tyInt Syntax.w64) Syntax.tnil) (Syntax.ttcons (Syntax.tcons (Syntax.tyInt Syntax.w64) Syntax.tnil) (Syntax.ttcons (Syntax.tcons (Syntax.tyInt Syntax.w64) Syntax.tnil) (Syntax.ttcons (Syntax.tcons (Syntax.tyInt Syntax.w64) Syntax.tnil) (Syntax.ttcons Syntax.tnil (Syntax.ttcons Syntax.tnil (Syntax.ttcons (Syntax.tcons (Syntax.tyInt Syntax.w64) Syntax.tnil) Syntax.ttnil))))))))))))))))))) (List._∷_ (1, Rows.whole (Declared'.row State.the-type)) (List._∷_ (2, Rows.sslice (Referent.rtF (Referent.fInt Syntax.w32)) (Syntax.tyRef (Syntax.named 0) Syntax.imm (Syntax.tyInt Syntax.w32)) 0) (List._∷_ (3, Rows.sslice (Referent.rtF (Referent.fInt Syntax.w32)) (Syntax.tyRef (Syntax.named 1) Syntax.imm (Syntax.tyInt Syntax.w32)) 1) (List._∷_ (4, Relend.mslice-owed (Referent.rtF (Referent.fInt Syntax.w32)) (Syntax.tyRef (Syntax.named 2) Syntax.mut (Syntax.tyInt Syntax.w32)) 2 5 Row.off) (List._∷_ (5, Rows.sslice Cell.R (Syntax.tyRef (Syntax.named 3) Syntax.imm Cell.behind) 3) (List._∷_ (6, Rows.sslice Cell.R (Syntax.tyRef (Syntax.named 4) Syntax.imm Cell.behind) 4) (List._∷_ (7, Rows.any-gone (Syntax.tyInt Syntax.w64)) (List._∷_ (8, Rows.any-gone (Syntax.tyInt Syntax.w64)) (List._∷_ (9, Rows.any-gone (Syntax.tyEnum (List._∷_ 100 (List._∷_ 97 (List._∷_ 114 (List._∷_ 116 (List._∷_ 115 (List._∷_ 58 (List._∷_ 58 (List._∷_ 65 (List._∷_ 110 (List._∷_ 115 (List._∷_ 119 (List._∷_ 101 (List._∷_ 114 List.[]))))))))))))) (Syntax.ttcons (Syntax.tcons (Syntax.tyInt Syntax.w64) Syntax.tnil) (Syntax.ttcons Syntax.tnil (Syntax.ttcons (Syntax.tcons (Syntax.tyInt Syntax.w64) Syntax.tnil) (Syntax.ttcons (Syntax.tcons (Syntax.tyInt Syntax.w64) (Syntax.tcons (Syntax.tyInt Syntax.w64) Syntax.tnil)) (Syntax.ttcons Syntax.tnil (Syntax.ttcons Syntax.tnil (Syntax.ttcons Syntax.tnil (Syntax.ttcons (Syntax.tcons (Syntax.tyInt Syntax.w64) Syntax.tnil) (Syntax.ttcons (Syntax.tcons (Syntax.tyInt Syntax.w64) Syntax.tnil) (Syntax.ttcons (Syntax.tcons (Syntax.tyInt Syntax.w64) Syntax.tnil) (Syntax.ttcons (Syntax.tcons (Syntax.tyInt Syntax.w64) Syntax.tnil) (Syntax.ttcons (Syntax.tcons (Syntax.tyInt Syntax.w64) Syntax.tnil) (Syntax.ttcons (Syntax.tcons (Syntax.tyInt Syntax.w64) Syntax.tnil) (Syntax.ttcons (Syntax.tcons (Syntax.tyInt Syntax.w64) Syntax.tnil) (Syntax.ttcons Syntax.tnil (Syntax.ttcons Syntax.tnil (Syntax.ttcons (Syntax.tcons (Syntax.tyInt Syntax.w64) Syntax.tnil) Syntax.ttnil))))))))))))))))))) (List._∷_ (10, Rows.any-gone Syntax.tyBool) (List._∷_ (11, Relend.msptr (Referent.rtF (Referent.fInt Syntax.w32)) (Syntax.tyRef Syntax.erased Syntax.mut (Syntax.tyInt Syntax.w32)) 5) (List._∷_ (12, Rows.any-gone (Syntax.tyStruct (List._∷_ 38 (List._∷_ 91 (List._∷_ 93 List.[]))) (Syntax.tcons (Syntax.tyRef Syntax.erased Syntax.mut (Syntax.tyInt Syntax.w32)) (Syntax.tcons (Syntax.tyInt Syntax.w64) Syntax.tnil)))) (List._∷_ (13, Rows.any-gone (Syntax.tyRef Syntax.erased Syntax.mut (Syntax.tyInt Syntax.w32))) (List._∷_ (14, Rows.any-gone (Syntax.tyStruct (List._∷_ 38 (List._∷_ 91 (List._∷_ 93 List.[]))) (Syntax.tcons (Syntax.tyRef Syntax.erased Syntax.mut (Syntax.tyInt Syntax.w32)) (Syntax.tcons (Syntax.tyInt Syntax.w64) Syntax.tnil)))) (List._∷_ (15, Rows.any-gone (Syntax.tyInt Syntax.w32)) List.[])))))))))))))))
 
 abbrev pub t5 : List.List Row.Entry
-t5 = List._∷_ (0, Rows.any-gone (Syntax.tyEnum (List._∷_ 100 (List._∷_ 97 (List._∷_ 114 (List._∷_ 116 (List._∷_ 115 (List._∷_ 58 (List._∷_ 58 (List._∷_ 65 (List._∷_ 110 (List._∷_ 115 (List._∷_ 119 (List._∷_ 101 (List._∷_ 114 List.[]))))))))))))) (Syntax.ttcons (Syntax.tcons (Syntax.tyInt Syntax.w64) Syntax.tnil) (Syntax.ttcons Syntax.tnil (Syntax.ttcons (Syntax.tcons (Syntax.tyInt Syntax.w64) Syntax.tnil) (Syntax.ttcons (Syntax.tcons (Syntax.tyInt Syntax.w64) (Syntax.tcons (Syntax.tyInt Syntax.w64) Syntax.tnil)) (Syntax.ttcons Syntax.tnil (Syntax.ttcons Syntax.tnil (Syntax.ttcons Syntax.tnil (Syntax.ttcons (Syntax.tcons (Syntax.tyInt Syntax.w64) Syntax.tnil) (Syntax.ttcons (Syntax.tcons (Syntax.tyInt Syntax.w64) Syntax.tnil) (Syntax.ttcons (Syntax.tcons (Syntax.tyInt Syntax.w64) Syntax.tnil) (Syntax.ttcons (Syntax.tcons (Syntax.tyInt Syntax.w64) Syntax.tnil) (Syntax.ttcons (Syntax.tcons (Syntax.tyInt Syntax.w64) Syntax.tnil) (Syntax.ttcons (Syntax.tcons (Syntax.tyInt Syntax.w64) Syntax.tnil) (Syntax.ttcons (Syntax.tcons (Syntax.tyInt Syntax.w64) Syntax.tnil) (Syntax.ttcons Syntax.tnil (Syntax.ttcons Syntax.tnil (Syntax.ttcons (Syntax.tcons (Syntax.tyInt Syntax.w64) Syntax.tnil) Syntax.ttnil))))))))))))))))))) (List._∷_ (1, Rows.whole (Declared'.row State.the-type)) (List._∷_ (2, Rows.sslice (Referent.rtF (Referent.fInt Syntax.w32)) (Syntax.tyRef (Syntax.named 0) Syntax.imm (Syntax.tyInt Syntax.w32)) 0) (List._∷_ (3, Rows.sslice (Referent.rtF (Referent.fInt Syntax.w32)) (Syntax.tyRef (Syntax.named 1) Syntax.imm (Syntax.tyInt Syntax.w32)) 1) (List._∷_ (4, Relend.mslice-owed (Referent.rtF (Referent.fInt Syntax.w32)) (Syntax.tyRef (Syntax.named 2) Syntax.mut (Syntax.tyInt Syntax.w32)) 2 5 Row.off) (List._∷_ (5, Rows.sslice Cell.R (Syntax.tyRef (Syntax.named 3) Syntax.imm Cell.behind) 3) (List._∷_ (6, Rows.sslice Cell.R (Syntax.tyRef (Syntax.named 4) Syntax.imm Cell.behind) 4) (List._∷_ (7, Rows.sc-here (Row.sInt Syntax.w64)) (List._∷_ (8, Rows.sc-here (Row.sInt Syntax.w64)) (List._∷_ (9, Rows.any-gone (Syntax.tyEnum (List._∷_ 100 (List._∷_ 97 (List._∷_ 114 (List._∷_ 116 (List._∷_ 115 (List._∷_ 58 (List._∷_ 58 (List._∷_ 65 (List._∷_ 110 (List._∷_ 115 (List._∷_ 119 (List._∷_ 101 (List._∷_ 114 List.[]))))))))))))) (Syntax.ttcons (Syntax.tcons (Syntax.tyInt Syntax.w64) Syntax.tnil) (Syntax.ttcons Syntax.tnil (Syntax.ttcons (Syntax.tcons (Syntax.tyInt Syntax.w64) Syntax.tnil) (Syntax.ttcons (Syntax.tcons (Syntax.tyInt Syntax.w64) (Syntax.tcons (Syntax.tyInt Syntax.w64) Syntax.tnil)) (Syntax.ttcons Syntax.tnil (Syntax.ttcons Syntax.tnil (Syntax.ttcons Syntax.tnil (Syntax.ttcons (Syntax.tcons (Syntax.tyInt Syntax.w64) Syntax.tnil) (Syntax.ttcons (Syntax.tcons (Syntax.tyInt Syntax.w64) Syntax.tnil) (Syntax.ttcons (Syntax.tcons (Syntax.tyInt Syntax.w64) Syntax.tnil) (Syntax.ttcons (Syntax.tcons (Syntax.tyInt Syntax.w64) Syntax.tnil) (Syntax.ttcons (Syntax.tcons (Syntax.tyInt Syntax.w64) Syntax.tnil) (Syntax.ttcons (Syntax.tcons (Syntax.tyInt Syntax.w64) Syntax.tnil) (Syntax.ttcons (Syntax.tcons (Syntax.tyInt Syntax.w64) Syntax.tnil) (Syntax.ttcons Syntax.tnil (Syntax.ttcons Syntax.tnil (Syntax.ttcons (Syntax.tcons (Syntax.tyInt Syntax.w64) Syntax.tnil) Syntax.ttnil))))))))))))))))))) (List._∷_ (10, Relend.msptr (Referent.rtF (Referent.fInt Syntax.w32)) (Syntax.tyRef Syntax.erased Syntax.mut (Syntax.tyInt Syntax.w32)) 5) (List._∷_ (11, Rows.any-gone (Syntax.tyStruct (List._∷_ 38 (List._∷_ 91 (List._∷_ 93 List.[]))) (Syntax.tcons (Syntax.tyRef Syntax.erased Syntax.mut (Syntax.tyInt Syntax.w32)) (Syntax.tcons (Syntax.tyInt Syntax.w64) Syntax.tnil)))) (List._∷_ (12, Rows.any-gone (Syntax.tyInt Syntax.w32)) (List._∷_ (13, Rows.any-gone Syntax.tyBool) (List._∷_ (14, Rows.any-gone Syntax.tyBool) (List._∷_ (15, Rows.any-gone (Syntax.tyRef Syntax.erased Syntax.imm (Syntax.tyInt Syntax.w32))) List.[])))))))))))))))
+t5 = List._∷_ (0, Rows.any-gone (Syntax.tyEnum (List._∷_ 100 (List._∷_ 97 (List._∷_ 114 (List._∷_ 116 (List._∷_ 115 (List._∷_ 58 (List._∷_ 58 (List._∷_ 65 (List._∷_ 110 (List._∷_ 115 (List._∷_ 119 (List._∷_ 101 (List._∷_ 114 List.[]))))))))))))) (Syntax.ttcons (Syntax.tcons (Syntax.tyInt Syntax.w64) Syntax.tnil) (Syntax.ttcons Syntax.tnil (Syntax.ttcons (Syntax.tcons (Syntax.tyInt Syntax.w64) Syntax.tnil) (Syntax.ttcons (Syntax.tcons (Syntax.tyInt Syntax.w64) (Syntax.tcons (Syntax.tyInt Syntax.w64) Syntax.tnil)) (Syntax.ttcons Syntax.tnil (Syntax.ttcons Syntax.tnil (Syntax.ttcons Syntax.tnil (Syntax.ttcons (Syntax.tcons (Syntax.tyInt Syntax.w64) Syntax.tnil) (Syntax.ttcons (Syntax.tcons (Syntax.tyInt Syntax.w64) Syntax.tnil) (Syntax.ttcons (Syntax.tcons (Syntax.tyInt Syntax.w64) Syntax.tnil) (Syntax.ttcons (Syntax.tcons (Syntax.tyInt Syntax.w64) Syntax.tnil) (Syntax.ttcons (Syntax.tcons (Syntax.tyInt Syntax.w64) Syntax.tnil) (Syntax.ttcons (Syntax.tcons (Syntax.tyInt Syntax.w64) Syntax.tnil) (Syntax.ttcons (Syntax.tcons (Syntax.tyInt Syntax.w64) Syntax.tnil) (Syntax.ttcons Syntax.tnil (Syntax.ttcons Syntax.tnil (Syntax.ttcons (Syntax.tcons (Syntax.tyInt Syntax.w64) Syntax.tnil) Syntax.ttnil))))))))))))))))))) (List._∷_ (1, Rows.whole (Declared'.row State.the-type)) (List._∷_ (2, Rows.sslice (Referent.rtF (Referent.fInt Syntax.w32)) (Syntax.tyRef (Syntax.named 0) Syntax.imm (Syntax.tyInt Syntax.w32)) 0) (List._∷_ (3, Rows.sslice (Referent.rtF (Referent.fInt Syntax.w32)) (Syntax.tyRef (Syntax.named 1) Syntax.imm (Syntax.tyInt Syntax.w32)) 1) (List._∷_ (4, Relend.mslice-owed (Referent.rtF (Referent.fInt Syntax.w32)) (Syntax.tyRef (Syntax.named 2) Syntax.mut (Syntax.tyInt Syntax.w32)) 2 5 Row.off) (List._∷_ (5, Rows.sslice Cell.R (Syntax.tyRef (Syntax.named 3) Syntax.imm Cell.behind) 3) (List._∷_ (6, Rows.sslice Cell.R (Syntax.tyRef (Syntax.named 4) Syntax.imm Cell.behind) 4) (List._∷_ (7, Rows.any-gone (Syntax.tyInt Syntax.w64)) (List._∷_ (8, Rows.any-gone (Syntax.tyInt Syntax.w64)) (List._∷_ (9, Rows.any-gone (Syntax.tyEnum (List._∷_ 100 (List._∷_ 97 (List._∷_ 114 (List._∷_ 116 (List._∷_ 115 (List._∷_ 58 (List._∷_ 58 (List._∷_ 65 (List._∷_ 110 (List._∷_ 115 (List._∷_ 119 (List._∷_ 101 (List._∷_ 114 List.[]))))))))))))) (Syntax.ttcons (Syntax.tcons (Syntax.tyInt Syntax.w64) Syntax.tnil) (Syntax.ttcons Syntax.tnil (Syntax.ttcons (Syntax.tcons (Syntax.tyInt Syntax.w64) Syntax.tnil) (Syntax.ttcons (Syntax.tcons (Syntax.tyInt Syntax.w64) (Syntax.tcons (Syntax.tyInt Syntax.w64) Syntax.tnil)) (Syntax.ttcons Syntax.tnil (Syntax.ttcons Syntax.tnil (Syntax.ttcons Syntax.tnil (Syntax.ttcons (Syntax.tcons (Syntax.tyInt Syntax.w64) Syntax.tnil) (Syntax.ttcons (Syntax.tcons (Syntax.tyInt Syntax.w64) Syntax.tnil) (Syntax.ttcons (Syntax.tcons (Syntax.tyInt Syntax.w64) Syntax.tnil) (Syntax.ttcons (Syntax.tcons (Syntax.tyInt Syntax.w64) Syntax.tnil) (Syntax.ttcons (Syntax.tcons (Syntax.tyInt Syntax.w64) Syntax.tnil) (Syntax.ttcons (Syntax.tcons (Syntax.tyInt Syntax.w64) Syntax.tnil) (Syntax.ttcons (Syntax.tcons (Syntax.tyInt Syntax.w64) Syntax.tnil) (Syntax.ttcons Syntax.tnil (Syntax.ttcons Syntax.tnil (Syntax.ttcons (Syntax.tcons (Syntax.tyInt Syntax.w64) Syntax.tnil) Syntax.ttnil))))))))))))))))))) (List._∷_ (10, Rows.any-gone Syntax.tyBool) (List._∷_ (11, Rows.any-gone (Syntax.tyRef Syntax.erased Syntax.mut (Syntax.tyInt Syntax.w32))) (List._∷_ (12, Mut.mslice (Referent.rtF (Referent.fInt Syntax.w32)) (Syntax.tyRef Syntax.erased Syntax.mut (Syntax.tyInt Syntax.w32)) 5) (List._∷_ (13, Rows.any-gone (Syntax.tyRef Syntax.erased Syntax.mut (Syntax.tyInt Syntax.w32))) (List._∷_ (14, Rows.any-gone (Syntax.tyStruct (List._∷_ 38 (List._∷_ 91 (List._∷_ 93 List.[]))) (Syntax.tcons (Syntax.tyRef Syntax.erased Syntax.mut (Syntax.tyInt Syntax.w32)) (Syntax.tcons (Syntax.tyInt Syntax.w64) Syntax.tnil)))) (List._∷_ (15, Rows.any-gone (Syntax.tyInt Syntax.w32)) List.[])))))))))))))))
 
 abbrev pub t6 : List.List Row.Entry
-t6 = List._∷_ (0, Rows.any-gone (Syntax.tyEnum (List._∷_ 100 (List._∷_ 97 (List._∷_ 114 (List._∷_ 116 (List._∷_ 115 (List._∷_ 58 (List._∷_ 58 (List._∷_ 65 (List._∷_ 110 (List._∷_ 115 (List._∷_ 119 (List._∷_ 101 (List._∷_ 114 List.[]))))))))))))) (Syntax.ttcons (Syntax.tcons (Syntax.tyInt Syntax.w64) Syntax.tnil) (Syntax.ttcons Syntax.tnil (Syntax.ttcons (Syntax.tcons (Syntax.tyInt Syntax.w64) Syntax.tnil) (Syntax.ttcons (Syntax.tcons (Syntax.tyInt Syntax.w64) (Syntax.tcons (Syntax.tyInt Syntax.w64) Syntax.tnil)) (Syntax.ttcons Syntax.tnil (Syntax.ttcons Syntax.tnil (Syntax.ttcons Syntax.tnil (Syntax.ttcons (Syntax.tcons (Syntax.tyInt Syntax.w64) Syntax.tnil) (Syntax.ttcons (Syntax.tcons (Syntax.tyInt Syntax.w64) Syntax.tnil) (Syntax.ttcons (Syntax.tcons (Syntax.tyInt Syntax.w64) Syntax.tnil) (Syntax.ttcons (Syntax.tcons (Syntax.tyInt Syntax.w64) Syntax.tnil) (Syntax.ttcons (Syntax.tcons (Syntax.tyInt Syntax.w64) Syntax.tnil) (Syntax.ttcons (Syntax.tcons (Syntax.tyInt Syntax.w64) Syntax.tnil) (Syntax.ttcons (Syntax.tcons (Syntax.tyInt Syntax.w64) Syntax.tnil) (Syntax.ttcons Syntax.tnil (Syntax.ttcons Syntax.tnil (Syntax.ttcons (Syntax.tcons (Syntax.tyInt Syntax.w64) Syntax.tnil) Syntax.ttnil))))))))))))))))))) (List._∷_ (1, Rows.whole (Declared'.row State.the-type)) (List._∷_ (2, Rows.sslice (Referent.rtF (Referent.fInt Syntax.w32)) (Syntax.tyRef (Syntax.named 0) Syntax.imm (Syntax.tyInt Syntax.w32)) 0) (List._∷_ (3, Rows.sslice (Referent.rtF (Referent.fInt Syntax.w32)) (Syntax.tyRef (Syntax.named 1) Syntax.imm (Syntax.tyInt Syntax.w32)) 1) (List._∷_ (4, Relend.mslice-owed (Referent.rtF (Referent.fInt Syntax.w32)) (Syntax.tyRef (Syntax.named 2) Syntax.mut (Syntax.tyInt Syntax.w32)) 2 5 Row.off) (List._∷_ (5, Rows.sslice Cell.R (Syntax.tyRef (Syntax.named 3) Syntax.imm Cell.behind) 3) (List._∷_ (6, Rows.sslice Cell.R (Syntax.tyRef (Syntax.named 4) Syntax.imm Cell.behind) 4) (List._∷_ (7, Rows.sc-here (Row.sInt Syntax.w64)) (List._∷_ (8, Rows.sc-here (Row.sInt Syntax.w64)) (List._∷_ (9, Rows.any-gone (Syntax.tyEnum (List._∷_ 100 (List._∷_ 97 (List._∷_ 114 (List._∷_ 116 (List._∷_ 115 (List._∷_ 58 (List._∷_ 58 (List._∷_ 65 (List._∷_ 110 (List._∷_ 115 (List._∷_ 119 (List._∷_ 101 (List._∷_ 114 List.[]))))))))))))) (Syntax.ttcons (Syntax.tcons (Syntax.tyInt Syntax.w64) Syntax.tnil) (Syntax.ttcons Syntax.tnil (Syntax.ttcons (Syntax.tcons (Syntax.tyInt Syntax.w64) Syntax.tnil) (Syntax.ttcons (Syntax.tcons (Syntax.tyInt Syntax.w64) (Syntax.tcons (Syntax.tyInt Syntax.w64) Syntax.tnil)) (Syntax.ttcons Syntax.tnil (Syntax.ttcons Syntax.tnil (Syntax.ttcons Syntax.tnil (Syntax.ttcons (Syntax.tcons (Syntax.tyInt Syntax.w64) Syntax.tnil) (Syntax.ttcons (Syntax.tcons (Syntax.tyInt Syntax.w64) Syntax.tnil) (Syntax.ttcons (Syntax.tcons (Syntax.tyInt Syntax.w64) Syntax.tnil) (Syntax.ttcons (Syntax.tcons (Syntax.tyInt Syntax.w64) Syntax.tnil) (Syntax.ttcons (Syntax.tcons (Syntax.tyInt Syntax.w64) Syntax.tnil) (Syntax.ttcons (Syntax.tcons (Syntax.tyInt Syntax.w64) Syntax.tnil) (Syntax.ttcons (Syntax.tcons (Syntax.tyInt Syntax.w64) Syntax.tnil) (Syntax.ttcons Syntax.tnil (Syntax.ttcons Syntax.tnil (Syntax.ttcons (Syntax.tcons (Syntax.tyInt Syntax.w64) Syntax.tnil) Syntax.ttnil))))))))))))))))))) (List._∷_ (10, Rows.any-gone (Syntax.tyRef Syntax.erased Syntax.mut (Syntax.tyInt Syntax.w32))) (List._∷_ (11, Mut.mslice (Referent.rtF (Referent.fInt Syntax.w32)) (Syntax.tyRef Syntax.erased Syntax.mut (Syntax.tyInt Syntax.w32)) 5) (List._∷_ (12, Rows.any-gone (Syntax.tyInt Syntax.w32)) (List._∷_ (13, Rows.any-gone Syntax.tyBool) (List._∷_ (14, Rows.any-gone Syntax.tyBool) (List._∷_ (15, Rows.any-gone (Syntax.tyRef Syntax.erased Syntax.imm (Syntax.tyInt Syntax.w32))) List.[])))))))))))))))
+t6 = List._∷_ (0, Rows.whole (Declared.row Answer.the-type)) (List._∷_ (1, Rows.whole (Declared'.row State.the-type)) (List._∷_ (2, Rows.sslice (Referent.rtF (Referent.fInt Syntax.w32)) (Syntax.tyRef (Syntax.named 0) Syntax.imm (Syntax.tyInt Syntax.w32)) 0) (List._∷_ (3, Rows.sslice (Referent.rtF (Referent.fInt Syntax.w32)) (Syntax.tyRef (Syntax.named 1) Syntax.imm (Syntax.tyInt Syntax.w32)) 1) (List._∷_ (4, Relend.mslice-owed (Referent.rtF (Referent.fInt Syntax.w32)) (Syntax.tyRef (Syntax.named 2) Syntax.mut (Syntax.tyInt Syntax.w32)) 2 5 Row.off) (List._∷_ (5, Rows.sslice Cell.R (Syntax.tyRef (Syntax.named 3) Syntax.imm Cell.behind) 3) (List._∷_ (6, Rows.sslice Cell.R (Syntax.tyRef (Syntax.named 4) Syntax.imm Cell.behind) 4) (List._∷_ (7, Rows.any-gone (Syntax.tyInt Syntax.w64)) (List._∷_ (8, Rows.any-gone (Syntax.tyInt Syntax.w64)) (List._∷_ (9, Rows.any-gone (Syntax.tyEnum (List._∷_ 100 (List._∷_ 97 (List._∷_ 114 (List._∷_ 116 (List._∷_ 115 (List._∷_ 58 (List._∷_ 58 (List._∷_ 65 (List._∷_ 110 (List._∷_ 115 (List._∷_ 119 (List._∷_ 101 (List._∷_ 114 List.[]))))))))))))) (Syntax.ttcons (Syntax.tcons (Syntax.tyInt Syntax.w64) Syntax.tnil) (Syntax.ttcons Syntax.tnil (Syntax.ttcons (Syntax.tcons (Syntax.tyInt Syntax.w64) Syntax.tnil) (Syntax.ttcons (Syntax.tcons (Syntax.tyInt Syntax.w64) (Syntax.tcons (Syntax.tyInt Syntax.w64) Syntax.tnil)) (Syntax.ttcons Syntax.tnil (Syntax.ttcons Syntax.tnil (Syntax.ttcons Syntax.tnil (Syntax.ttcons (Syntax.tcons (Syntax.tyInt Syntax.w64) Syntax.tnil) (Syntax.ttcons (Syntax.tcons (Syntax.tyInt Syntax.w64) Syntax.tnil) (Syntax.ttcons (Syntax.tcons (Syntax.tyInt Syntax.w64) Syntax.tnil) (Syntax.ttcons (Syntax.tcons (Syntax.tyInt Syntax.w64) Syntax.tnil) (Syntax.ttcons (Syntax.tcons (Syntax.tyInt Syntax.w64) Syntax.tnil) (Syntax.ttcons (Syntax.tcons (Syntax.tyInt Syntax.w64) Syntax.tnil) (Syntax.ttcons (Syntax.tcons (Syntax.tyInt Syntax.w64) Syntax.tnil) (Syntax.ttcons Syntax.tnil (Syntax.ttcons Syntax.tnil (Syntax.ttcons (Syntax.tcons (Syntax.tyInt Syntax.w64) Syntax.tnil) Syntax.ttnil))))))))))))))))))) (List._∷_ (10, Rows.any-gone Syntax.tyBool) (List._∷_ (11, Rows.any-gone (Syntax.tyRef Syntax.erased Syntax.mut (Syntax.tyInt Syntax.w32))) (List._∷_ (12, Mut.msleft (Referent.rtF (Referent.fInt Syntax.w32)) (Syntax.tyRef Syntax.erased Syntax.mut (Syntax.tyInt Syntax.w32))) (List._∷_ (13, Rows.any-gone (Syntax.tyRef Syntax.erased Syntax.mut (Syntax.tyInt Syntax.w32))) (List._∷_ (14, Rows.any-gone (Syntax.tyStruct (List._∷_ 38 (List._∷_ 91 (List._∷_ 93 List.[]))) (Syntax.tcons (Syntax.tyRef Syntax.erased Syntax.mut (Syntax.tyInt Syntax.w32)) (Syntax.tcons (Syntax.tyInt Syntax.w64) Syntax.tnil)))) (List._∷_ (15, Rows.any-gone (Syntax.tyInt Syntax.w32)) List.[])))))))))))))))
 
 abbrev pub t7 : List.List Row.Entry
-t7 = List._∷_ (0, Rows.any-gone (Syntax.tyEnum (List._∷_ 100 (List._∷_ 97 (List._∷_ 114 (List._∷_ 116 (List._∷_ 115 (List._∷_ 58 (List._∷_ 58 (List._∷_ 65 (List._∷_ 110 (List._∷_ 115 (List._∷_ 119 (List._∷_ 101 (List._∷_ 114 List.[]))))))))))))) (Syntax.ttcons (Syntax.tcons (Syntax.tyInt Syntax.w64) Syntax.tnil) (Syntax.ttcons Syntax.tnil (Syntax.ttcons (Syntax.tcons (Syntax.tyInt Syntax.w64) Syntax.tnil) (Syntax.ttcons (Syntax.tcons (Syntax.tyInt Syntax.w64) (Syntax.tcons (Syntax.tyInt Syntax.w64) Syntax.tnil)) (Syntax.ttcons Syntax.tnil (Syntax.ttcons Syntax.tnil (Syntax.ttcons Syntax.tnil (Syntax.ttcons (Syntax.tcons (Syntax.tyInt Syntax.w64) Syntax.tnil) (Syntax.ttcons (Syntax.tcons (Syntax.tyInt Syntax.w64) Syntax.tnil) (Syntax.ttcons (Syntax.tcons (Syntax.tyInt Syntax.w64) Syntax.tnil) (Syntax.ttcons (Syntax.tcons (Syntax.tyInt Syntax.w64) Syntax.tnil) (Syntax.ttcons (Syntax.tcons (Syntax.tyInt Syntax.w64) Syntax.tnil) (Syntax.ttcons (Syntax.tcons (Syntax.tyInt Syntax.w64) Syntax.tnil) (Syntax.ttcons (Syntax.tcons (Syntax.tyInt Syntax.w64) Syntax.tnil) (Syntax.ttcons Syntax.tnil (Syntax.ttcons Syntax.tnil (Syntax.ttcons (Syntax.tcons (Syntax.tyInt Syntax.w64) Syntax.tnil) Syntax.ttnil))))))))))))))))))) (List._∷_ (1, Rows.whole (Declared'.row State.the-type)) (List._∷_ (2, Rows.sslice (Referent.rtF (Referent.fInt Syntax.w32)) (Syntax.tyRef (Syntax.named 0) Syntax.imm (Syntax.tyInt Syntax.w32)) 0) (List._∷_ (3, Rows.sslice (Referent.rtF (Referent.fInt Syntax.w32)) (Syntax.tyRef (Syntax.named 1) Syntax.imm (Syntax.tyInt Syntax.w32)) 1) (List._∷_ (4, Relend.mslice-owed (Referent.rtF (Referent.fInt Syntax.w32)) (Syntax.tyRef (Syntax.named 2) Syntax.mut (Syntax.tyInt Syntax.w32)) 2 5 Row.off) (List._∷_ (5, Rows.sslice Cell.R (Syntax.tyRef (Syntax.named 3) Syntax.imm Cell.behind) 3) (List._∷_ (6, Rows.sslice Cell.R (Syntax.tyRef (Syntax.named 4) Syntax.imm Cell.behind) 4) (List._∷_ (7, Rows.sc-here (Row.sInt Syntax.w64)) (List._∷_ (8, Rows.sc-here (Row.sInt Syntax.w64)) (List._∷_ (9, Rows.whole (Declared.row Answer.the-type)) (List._∷_ (10, Rows.any-gone (Syntax.tyRef Syntax.erased Syntax.mut (Syntax.tyInt Syntax.w32))) (List._∷_ (11, Mut.msleft (Referent.rtF (Referent.fInt Syntax.w32)) (Syntax.tyRef Syntax.erased Syntax.mut (Syntax.tyInt Syntax.w32))) (List._∷_ (12, Rows.any-gone (Syntax.tyInt Syntax.w32)) (List._∷_ (13, Rows.any-gone Syntax.tyBool) (List._∷_ (14, Rows.any-gone Syntax.tyBool) (List._∷_ (15, Rows.any-gone (Syntax.tyRef Syntax.erased Syntax.imm (Syntax.tyInt Syntax.w32))) List.[])))))))))))))))
+t7 = List._∷_ (0, Rows.whole (Declared.row Answer.the-type)) (List._∷_ (1, Rows.any-gone (Syntax.tyStruct (List._∷_ 112 (List._∷_ 121 (List._∷_ 114 (List._∷_ 97 (List._∷_ 109 (List._∷_ 105 (List._∷_ 100 (List._∷_ 58 (List._∷_ 58 (List._∷_ 83 (List._∷_ 116 (List._∷_ 97 (List._∷_ 116 (List._∷_ 101 List.[])))))))))))))) (Syntax.tcons (Syntax.tyInt Syntax.w32) (Syntax.tcons (Syntax.tyInt Syntax.w32) (Syntax.tcons (Syntax.tyInt Syntax.w32) (Syntax.tcons (Syntax.tyInt Syntax.w32) (Syntax.tcons (Syntax.tyInt Syntax.w32) (Syntax.tcons (Syntax.tyArray (Syntax.tyInt Syntax.w32) 64) Syntax.tnil)))))))) (List._∷_ (2, Rows.sslice (Referent.rtF (Referent.fInt Syntax.w32)) (Syntax.tyRef (Syntax.named 0) Syntax.imm (Syntax.tyInt Syntax.w32)) 0) (List._∷_ (3, Rows.sslice (Referent.rtF (Referent.fInt Syntax.w32)) (Syntax.tyRef (Syntax.named 1) Syntax.imm (Syntax.tyInt Syntax.w32)) 1) (List._∷_ (4, Relend.mslice-owed (Referent.rtF (Referent.fInt Syntax.w32)) (Syntax.tyRef (Syntax.named 2) Syntax.mut (Syntax.tyInt Syntax.w32)) 2 5 Row.off) (List._∷_ (5, Rows.sslice Cell.R (Syntax.tyRef (Syntax.named 3) Syntax.imm Cell.behind) 3) (List._∷_ (6, Rows.sslice Cell.R (Syntax.tyRef (Syntax.named 4) Syntax.imm Cell.behind) 4) (List._∷_ (7, Rows.any-gone (Syntax.tyInt Syntax.w64)) (List._∷_ (8, Rows.any-gone (Syntax.tyInt Syntax.w64)) (List._∷_ (9, Rows.any-gone (Syntax.tyEnum (List._∷_ 100 (List._∷_ 97 (List._∷_ 114 (List._∷_ 116 (List._∷_ 115 (List._∷_ 58 (List._∷_ 58 (List._∷_ 65 (List._∷_ 110 (List._∷_ 115 (List._∷_ 119 (List._∷_ 101 (List._∷_ 114 List.[]))))))))))))) (Syntax.ttcons (Syntax.tcons (Syntax.tyInt Syntax.w64) Syntax.tnil) (Syntax.ttcons Syntax.tnil (Syntax.ttcons (Syntax.tcons (Syntax.tyInt Syntax.w64) Syntax.tnil) (Syntax.ttcons (Syntax.tcons (Syntax.tyInt Syntax.w64) (Syntax.tcons (Syntax.tyInt Syntax.w64) Syntax.tnil)) (Syntax.ttcons Syntax.tnil (Syntax.ttcons Syntax.tnil (Syntax.ttcons Syntax.tnil (Syntax.ttcons (Syntax.tcons (Syntax.tyInt Syntax.w64) Syntax.tnil) (Syntax.ttcons (Syntax.tcons (Syntax.tyInt Syntax.w64) Syntax.tnil) (Syntax.ttcons (Syntax.tcons (Syntax.tyInt Syntax.w64) Syntax.tnil) (Syntax.ttcons (Syntax.tcons (Syntax.tyInt Syntax.w64) Syntax.tnil) (Syntax.ttcons (Syntax.tcons (Syntax.tyInt Syntax.w64) Syntax.tnil) (Syntax.ttcons (Syntax.tcons (Syntax.tyInt Syntax.w64) Syntax.tnil) (Syntax.ttcons (Syntax.tcons (Syntax.tyInt Syntax.w64) Syntax.tnil) (Syntax.ttcons Syntax.tnil (Syntax.ttcons Syntax.tnil (Syntax.ttcons (Syntax.tcons (Syntax.tyInt Syntax.w64) Syntax.tnil) Syntax.ttnil))))))))))))))))))) (List._∷_ (10, Rows.any-gone Syntax.tyBool) (List._∷_ (11, Rows.any-gone (Syntax.tyRef Syntax.erased Syntax.mut (Syntax.tyInt Syntax.w32))) (List._∷_ (12, Mut.msleft (Referent.rtF (Referent.fInt Syntax.w32)) (Syntax.tyRef Syntax.erased Syntax.mut (Syntax.tyInt Syntax.w32))) (List._∷_ (13, Rows.any-gone (Syntax.tyRef Syntax.erased Syntax.mut (Syntax.tyInt Syntax.w32))) (List._∷_ (14, Rows.any-gone (Syntax.tyStruct (List._∷_ 38 (List._∷_ 91 (List._∷_ 93 List.[]))) (Syntax.tcons (Syntax.tyRef Syntax.erased Syntax.mut (Syntax.tyInt Syntax.w32)) (Syntax.tcons (Syntax.tyInt Syntax.w64) Syntax.tnil)))) (List._∷_ (15, Rows.any-gone (Syntax.tyInt Syntax.w32)) List.[])))))))))))))))
 
 abbrev pub t8 : List.List Row.Entry
-t8 = List._∷_ (0, Rows.any-gone (Syntax.tyEnum (List._∷_ 100 (List._∷_ 97 (List._∷_ 114 (List._∷_ 116 (List._∷_ 115 (List._∷_ 58 (List._∷_ 58 (List._∷_ 65 (List._∷_ 110 (List._∷_ 115 (List._∷_ 119 (List._∷_ 101 (List._∷_ 114 List.[]))))))))))))) (Syntax.ttcons (Syntax.tcons (Syntax.tyInt Syntax.w64) Syntax.tnil) (Syntax.ttcons Syntax.tnil (Syntax.ttcons (Syntax.tcons (Syntax.tyInt Syntax.w64) Syntax.tnil) (Syntax.ttcons (Syntax.tcons (Syntax.tyInt Syntax.w64) (Syntax.tcons (Syntax.tyInt Syntax.w64) Syntax.tnil)) (Syntax.ttcons Syntax.tnil (Syntax.ttcons Syntax.tnil (Syntax.ttcons Syntax.tnil (Syntax.ttcons (Syntax.tcons (Syntax.tyInt Syntax.w64) Syntax.tnil) (Syntax.ttcons (Syntax.tcons (Syntax.tyInt Syntax.w64) Syntax.tnil) (Syntax.ttcons (Syntax.tcons (Syntax.tyInt Syntax.w64) Syntax.tnil) (Syntax.ttcons (Syntax.tcons (Syntax.tyInt Syntax.w64) Syntax.tnil) (Syntax.ttcons (Syntax.tcons (Syntax.tyInt Syntax.w64) Syntax.tnil) (Syntax.ttcons (Syntax.tcons (Syntax.tyInt Syntax.w64) Syntax.tnil) (Syntax.ttcons (Syntax.tcons (Syntax.tyInt Syntax.w64) Syntax.tnil) (Syntax.ttcons Syntax.tnil (Syntax.ttcons Syntax.tnil (Syntax.ttcons (Syntax.tcons (Syntax.tyInt Syntax.w64) Syntax.tnil) Syntax.ttnil))))))))))))))))))) (List._∷_ (1, Rows.whole (Declared'.row State.the-type)) (List._∷_ (2, Rows.sslice (Referent.rtF (Referent.fInt Syntax.w32)) (Syntax.tyRef (Syntax.named 0) Syntax.imm (Syntax.tyInt Syntax.w32)) 0) (List._∷_ (3, Rows.sslice (Referent.rtF (Referent.fInt Syntax.w32)) (Syntax.tyRef (Syntax.named 1) Syntax.imm (Syntax.tyInt Syntax.w32)) 1) (List._∷_ (4, Mut.mslice (Referent.rtF (Referent.fInt Syntax.w32)) (Syntax.tyRef (Syntax.named 2) Syntax.mut (Syntax.tyInt Syntax.w32)) 2) (List._∷_ (5, Rows.sslice Cell.R (Syntax.tyRef (Syntax.named 3) Syntax.imm Cell.behind) 3) (List._∷_ (6, Rows.sslice Cell.R (Syntax.tyRef (Syntax.named 4) Syntax.imm Cell.behind) 4) (List._∷_ (7, Rows.sc-here (Row.sInt Syntax.w64)) (List._∷_ (8, Rows.sc-here (Row.sInt Syntax.w64)) (List._∷_ (9, Rows.whole (Declared.row Answer.the-type)) (List._∷_ (10, Rows.any-gone (Syntax.tyRef Syntax.erased Syntax.mut (Syntax.tyInt Syntax.w32))) (List._∷_ (11, Rows.any-gone (Syntax.tyStruct (List._∷_ 38 (List._∷_ 91 (List._∷_ 93 List.[]))) (Syntax.tcons (Syntax.tyRef Syntax.erased Syntax.mut (Syntax.tyInt Syntax.w32)) (Syntax.tcons (Syntax.tyInt Syntax.w64) Syntax.tnil)))) (List._∷_ (12, Rows.any-gone (Syntax.tyInt Syntax.w32)) (List._∷_ (13, Rows.any-gone Syntax.tyBool) (List._∷_ (14, Rows.any-gone Syntax.tyBool) (List._∷_ (15, Rows.any-gone (Syntax.tyRef Syntax.erased Syntax.imm (Syntax.tyInt Syntax.w32))) List.[])))))))))))))))
+t8 = List._∷_ (0, Rows.any-gone (Syntax.tyEnum (List._∷_ 100 (List._∷_ 97 (List._∷_ 114 (List._∷_ 116 (List._∷_ 115 (List._∷_ 58 (List._∷_ 58 (List._∷_ 65 (List._∷_ 110 (List._∷_ 115 (List._∷_ 119 (List._∷_ 101 (List._∷_ 114 List.[]))))))))))))) (Syntax.ttcons (Syntax.tcons (Syntax.tyInt Syntax.w64) Syntax.tnil) (Syntax.ttcons Syntax.tnil (Syntax.ttcons (Syntax.tcons (Syntax.tyInt Syntax.w64) Syntax.tnil) (Syntax.ttcons (Syntax.tcons (Syntax.tyInt Syntax.w64) (Syntax.tcons (Syntax.tyInt Syntax.w64) Syntax.tnil)) (Syntax.ttcons Syntax.tnil (Syntax.ttcons Syntax.tnil (Syntax.ttcons Syntax.tnil (Syntax.ttcons (Syntax.tcons (Syntax.tyInt Syntax.w64) Syntax.tnil) (Syntax.ttcons (Syntax.tcons (Syntax.tyInt Syntax.w64) Syntax.tnil) (Syntax.ttcons (Syntax.tcons (Syntax.tyInt Syntax.w64) Syntax.tnil) (Syntax.ttcons (Syntax.tcons (Syntax.tyInt Syntax.w64) Syntax.tnil) (Syntax.ttcons (Syntax.tcons (Syntax.tyInt Syntax.w64) Syntax.tnil) (Syntax.ttcons (Syntax.tcons (Syntax.tyInt Syntax.w64) Syntax.tnil) (Syntax.ttcons (Syntax.tcons (Syntax.tyInt Syntax.w64) Syntax.tnil) (Syntax.ttcons Syntax.tnil (Syntax.ttcons Syntax.tnil (Syntax.ttcons (Syntax.tcons (Syntax.tyInt Syntax.w64) Syntax.tnil) Syntax.ttnil))))))))))))))))))) (List._∷_ (1, Rows.whole (Declared'.row State.the-type)) (List._∷_ (2, Rows.sslice (Referent.rtF (Referent.fInt Syntax.w32)) (Syntax.tyRef (Syntax.named 0) Syntax.imm (Syntax.tyInt Syntax.w32)) 0) (List._∷_ (3, Rows.sslice (Referent.rtF (Referent.fInt Syntax.w32)) (Syntax.tyRef (Syntax.named 1) Syntax.imm (Syntax.tyInt Syntax.w32)) 1) (List._∷_ (4, Mut.mslice (Referent.rtF (Referent.fInt Syntax.w32)) (Syntax.tyRef (Syntax.named 2) Syntax.mut (Syntax.tyInt Syntax.w32)) 2) (List._∷_ (5, Rows.sslice Cell.R (Syntax.tyRef (Syntax.named 3) Syntax.imm Cell.behind) 3) (List._∷_ (6, Rows.sslice Cell.R (Syntax.tyRef (Syntax.named 4) Syntax.imm Cell.behind) 4) (List._∷_ (7, Rows.sc-here (Row.sInt Syntax.w64)) (List._∷_ (8, Rows.any-gone (Syntax.tyInt Syntax.w64)) (List._∷_ (9, Rows.any-gone (Syntax.tyEnum (List._∷_ 100 (List._∷_ 97 (List._∷_ 114 (List._∷_ 116 (List._∷_ 115 (List._∷_ 58 (List._∷_ 58 (List._∷_ 65 (List._∷_ 110 (List._∷_ 115 (List._∷_ 119 (List._∷_ 101 (List._∷_ 114 List.[]))))))))))))) (Syntax.ttcons (Syntax.tcons (Syntax.tyInt Syntax.w64) Syntax.tnil) (Syntax.ttcons Syntax.tnil (Syntax.ttcons (Syntax.tcons (Syntax.tyInt Syntax.w64) Syntax.tnil) (Syntax.ttcons (Syntax.tcons (Syntax.tyInt Syntax.w64) (Syntax.tcons (Syntax.tyInt Syntax.w64) Syntax.tnil)) (Syntax.ttcons Syntax.tnil (Syntax.ttcons Syntax.tnil (Syntax.ttcons Syntax.tnil (Syntax.ttcons (Syntax.tcons (Syntax.tyInt Syntax.w64) Syntax.tnil) (Syntax.ttcons (Syntax.tcons (Syntax.tyInt Syntax.w64) Syntax.tnil) (Syntax.ttcons (Syntax.tcons (Syntax.tyInt Syntax.w64) Syntax.tnil) (Syntax.ttcons (Syntax.tcons (Syntax.tyInt Syntax.w64) Syntax.tnil) (Syntax.ttcons (Syntax.tcons (Syntax.tyInt Syntax.w64) Syntax.tnil) (Syntax.ttcons (Syntax.tcons (Syntax.tyInt Syntax.w64) Syntax.tnil) (Syntax.ttcons (Syntax.tcons (Syntax.tyInt Syntax.w64) Syntax.tnil) (Syntax.ttcons Syntax.tnil (Syntax.ttcons Syntax.tnil (Syntax.ttcons (Syntax.tcons (Syntax.tyInt Syntax.w64) Syntax.tnil) Syntax.ttnil))))))))))))))))))) (List._∷_ (10, Rows.any-gone Syntax.tyBool) (List._∷_ (11, Rows.any-gone (Syntax.tyRef Syntax.erased Syntax.mut (Syntax.tyInt Syntax.w32))) (List._∷_ (12, Rows.any-gone (Syntax.tyStruct (List._∷_ 38 (List._∷_ 91 (List._∷_ 93 List.[]))) (Syntax.tcons (Syntax.tyRef Syntax.erased Syntax.mut (Syntax.tyInt Syntax.w32)) (Syntax.tcons (Syntax.tyInt Syntax.w64) Syntax.tnil)))) (List._∷_ (13, Rows.any-gone (Syntax.tyRef Syntax.erased Syntax.mut (Syntax.tyInt Syntax.w32))) (List._∷_ (14, Rows.any-gone (Syntax.tyStruct (List._∷_ 38 (List._∷_ 91 (List._∷_ 93 List.[]))) (Syntax.tcons (Syntax.tyRef Syntax.erased Syntax.mut (Syntax.tyInt Syntax.w32)) (Syntax.tcons (Syntax.tyInt Syntax.w64) Syntax.tnil)))) (List._∷_ (15, Rows.any-gone (Syntax.tyInt Syntax.w32)) List.[])))))))))))))))
 
 abbrev pub t9 : List.List Row.Entry
-t9 = List._∷_ (0, Rows.any-gone (Syntax.tyEnum (List._∷_ 100 (List._∷_ 97 (List._∷_ 114 (List._∷_ 116 (List._∷_ 115 (List._∷_ 58 (List._∷_ 58 (List._∷_ 65 (List._∷_ 110 (List._∷_ 115 (List._∷_ 119 (List._∷_ 101 (List._∷_ 114 List.[]))))))))))))) (Syntax.ttcons (Syntax.tcons (Syntax.tyInt Syntax.w64) Syntax.tnil) (Syntax.ttcons Syntax.tnil (Syntax.ttcons (Syntax.tcons (Syntax.tyInt Syntax.w64) Syntax.tnil) (Syntax.ttcons (Syntax.tcons (Syntax.tyInt Syntax.w64) (Syntax.tcons (Syntax.tyInt Syntax.w64) Syntax.tnil)) (Syntax.ttcons Syntax.tnil (Syntax.ttcons Syntax.tnil (Syntax.ttcons Syntax.tnil (Syntax.ttcons (Syntax.tcons (Syntax.tyInt Syntax.w64) Syntax.tnil) (Syntax.ttcons (Syntax.tcons (Syntax.tyInt Syntax.w64) Syntax.tnil) (Syntax.ttcons (Syntax.tcons (Syntax.tyInt Syntax.w64) Syntax.tnil) (Syntax.ttcons (Syntax.tcons (Syntax.tyInt Syntax.w64) Syntax.tnil) (Syntax.ttcons (Syntax.tcons (Syntax.tyInt Syntax.w64) Syntax.tnil) (Syntax.ttcons (Syntax.tcons (Syntax.tyInt Syntax.w64) Syntax.tnil) (Syntax.ttcons (Syntax.tcons (Syntax.tyInt Syntax.w64) Syntax.tnil) (Syntax.ttcons Syntax.tnil (Syntax.ttcons Syntax.tnil (Syntax.ttcons (Syntax.tcons (Syntax.tyInt Syntax.w64) Syntax.tnil) Syntax.ttnil))))))))))))))))))) (List._∷_ (1, Rows.whole (Declared'.row State.the-type)) (List._∷_ (2, Rows.sslice (Referent.rtF (Referent.fInt Syntax.w32)) (Syntax.tyRef (Syntax.named 0) Syntax.imm (Syntax.tyInt Syntax.w32)) 0) (List._∷_ (3, Rows.sslice (Referent.rtF (Referent.fInt Syntax.w32)) (Syntax.tyRef (Syntax.named 1) Syntax.imm (Syntax.tyInt Syntax.w32)) 1) (List._∷_ (4, Mut.mslice (Referent.rtF (Referent.fInt Syntax.w32)) (Syntax.tyRef (Syntax.named 2) Syntax.mut (Syntax.tyInt Syntax.w32)) 2) (List._∷_ (5, Rows.sslice Cell.R (Syntax.tyRef (Syntax.named 3) Syntax.imm Cell.behind) 3) (List._∷_ (6, Rows.sslice Cell.R (Syntax.tyRef (Syntax.named 4) Syntax.imm Cell.behind) 4) (List._∷_ (7, Rows.sc-here (Row.sInt Syntax.w64)) (List._∷_ (8, Rows.sc-here (Row.sInt Syntax.w64)) (List._∷_ (9, Rows.whole (Declared.row Answer.the-type)) (List._∷_ (10, Rows.any-gone (Syntax.tyRef Syntax.erased Syntax.mut (Syntax.tyInt Syntax.w32))) (List._∷_ (11, Rows.any-gone (Syntax.tyStruct (List._∷_ 38 (List._∷_ 91 (List._∷_ 93 List.[]))) (Syntax.tcons (Syntax.tyRef Syntax.erased Syntax.mut (Syntax.tyInt Syntax.w32)) (Syntax.tcons (Syntax.tyInt Syntax.w64) Syntax.tnil)))) (List._∷_ (12, Rows.sc-here (Row.sInt Syntax.w32)) (List._∷_ (13, Rows.any-gone Syntax.tyBool) (List._∷_ (14, Rows.any-gone Syntax.tyBool) (List._∷_ (15, Rows.any-gone (Syntax.tyRef Syntax.erased Syntax.imm (Syntax.tyInt Syntax.w32))) List.[])))))))))))))))
+t9 = List._∷_ (0, Rows.any-gone (Syntax.tyEnum (List._∷_ 100 (List._∷_ 97 (List._∷_ 114 (List._∷_ 116 (List._∷_ 115 (List._∷_ 58 (List._∷_ 58 (List._∷_ 65 (List._∷_ 110 (List._∷_ 115 (List._∷_ 119 (List._∷_ 101 (List._∷_ 114 List.[]))))))))))))) (Syntax.ttcons (Syntax.tcons (Syntax.tyInt Syntax.w64) Syntax.tnil) (Syntax.ttcons Syntax.tnil (Syntax.ttcons (Syntax.tcons (Syntax.tyInt Syntax.w64) Syntax.tnil) (Syntax.ttcons (Syntax.tcons (Syntax.tyInt Syntax.w64) (Syntax.tcons (Syntax.tyInt Syntax.w64) Syntax.tnil)) (Syntax.ttcons Syntax.tnil (Syntax.ttcons Syntax.tnil (Syntax.ttcons Syntax.tnil (Syntax.ttcons (Syntax.tcons (Syntax.tyInt Syntax.w64) Syntax.tnil) (Syntax.ttcons (Syntax.tcons (Syntax.tyInt Syntax.w64) Syntax.tnil) (Syntax.ttcons (Syntax.tcons (Syntax.tyInt Syntax.w64) Syntax.tnil) (Syntax.ttcons (Syntax.tcons (Syntax.tyInt Syntax.w64) Syntax.tnil) (Syntax.ttcons (Syntax.tcons (Syntax.tyInt Syntax.w64) Syntax.tnil) (Syntax.ttcons (Syntax.tcons (Syntax.tyInt Syntax.w64) Syntax.tnil) (Syntax.ttcons (Syntax.tcons (Syntax.tyInt Syntax.w64) Syntax.tnil) (Syntax.ttcons Syntax.tnil (Syntax.ttcons Syntax.tnil (Syntax.ttcons (Syntax.tcons (Syntax.tyInt Syntax.w64) Syntax.tnil) Syntax.ttnil))))))))))))))))))) (List._∷_ (1, Rows.whole (Declared'.row State.the-type)) (List._∷_ (2, Rows.sslice (Referent.rtF (Referent.fInt Syntax.w32)) (Syntax.tyRef (Syntax.named 0) Syntax.imm (Syntax.tyInt Syntax.w32)) 0) (List._∷_ (3, Rows.sslice (Referent.rtF (Referent.fInt Syntax.w32)) (Syntax.tyRef (Syntax.named 1) Syntax.imm (Syntax.tyInt Syntax.w32)) 1) (List._∷_ (4, Mut.mslice (Referent.rtF (Referent.fInt Syntax.w32)) (Syntax.tyRef (Syntax.named 2) Syntax.mut (Syntax.tyInt Syntax.w32)) 2) (List._∷_ (5, Rows.sslice Cell.R (Syntax.tyRef (Syntax.named 3) Syntax.imm Cell.behind) 3) (List._∷_ (6, Rows.sslice Cell.R (Syntax.tyRef (Syntax.named 4) Syntax.imm Cell.behind) 4) (List._∷_ (7, Rows.sc-here (Row.sInt Syntax.w64)) (List._∷_ (8, Rows.sc-here (Row.sInt Syntax.w64)) (List._∷_ (9, Rows.any-gone (Syntax.tyEnum (List._∷_ 100 (List._∷_ 97 (List._∷_ 114 (List._∷_ 116 (List._∷_ 115 (List._∷_ 58 (List._∷_ 58 (List._∷_ 65 (List._∷_ 110 (List._∷_ 115 (List._∷_ 119 (List._∷_ 101 (List._∷_ 114 List.[]))))))))))))) (Syntax.ttcons (Syntax.tcons (Syntax.tyInt Syntax.w64) Syntax.tnil) (Syntax.ttcons Syntax.tnil (Syntax.ttcons (Syntax.tcons (Syntax.tyInt Syntax.w64) Syntax.tnil) (Syntax.ttcons (Syntax.tcons (Syntax.tyInt Syntax.w64) (Syntax.tcons (Syntax.tyInt Syntax.w64) Syntax.tnil)) (Syntax.ttcons Syntax.tnil (Syntax.ttcons Syntax.tnil (Syntax.ttcons Syntax.tnil (Syntax.ttcons (Syntax.tcons (Syntax.tyInt Syntax.w64) Syntax.tnil) (Syntax.ttcons (Syntax.tcons (Syntax.tyInt Syntax.w64) Syntax.tnil) (Syntax.ttcons (Syntax.tcons (Syntax.tyInt Syntax.w64) Syntax.tnil) (Syntax.ttcons (Syntax.tcons (Syntax.tyInt Syntax.w64) Syntax.tnil) (Syntax.ttcons (Syntax.tcons (Syntax.tyInt Syntax.w64) Syntax.tnil) (Syntax.ttcons (Syntax.tcons (Syntax.tyInt Syntax.w64) Syntax.tnil) (Syntax.ttcons (Syntax.tcons (Syntax.tyInt Syntax.w64) Syntax.tnil) (Syntax.ttcons Syntax.tnil (Syntax.ttcons Syntax.tnil (Syntax.ttcons (Syntax.tcons (Syntax.tyInt Syntax.w64) Syntax.tnil) Syntax.ttnil))))))))))))))))))) (List._∷_ (10, Rows.any-gone Syntax.tyBool) (List._∷_ (11, Rows.any-gone (Syntax.tyRef Syntax.erased Syntax.mut (Syntax.tyInt Syntax.w32))) (List._∷_ (12, Rows.any-gone (Syntax.tyStruct (List._∷_ 38 (List._∷_ 91 (List._∷_ 93 List.[]))) (Syntax.tcons (Syntax.tyRef Syntax.erased Syntax.mut (Syntax.tyInt Syntax.w32)) (Syntax.tcons (Syntax.tyInt Syntax.w64) Syntax.tnil)))) (List._∷_ (13, Rows.any-gone (Syntax.tyRef Syntax.erased Syntax.mut (Syntax.tyInt Syntax.w32))) (List._∷_ (14, Rows.any-gone (Syntax.tyStruct (List._∷_ 38 (List._∷_ 91 (List._∷_ 93 List.[]))) (Syntax.tcons (Syntax.tyRef Syntax.erased Syntax.mut (Syntax.tyInt Syntax.w32)) (Syntax.tcons (Syntax.tyInt Syntax.w64) Syntax.tnil)))) (List._∷_ (15, Rows.any-gone (Syntax.tyInt Syntax.w32)) List.[])))))))))))))))
 
 abbrev pub t10 : List.List Row.Entry
-t10 = List._∷_ (0, Rows.any-gone (Syntax.tyEnum (List._∷_ 100 (List._∷_ 97 (List._∷_ 114 (List._∷_ 116 (List._∷_ 115 (List._∷_ 58 (List._∷_ 58 (List._∷_ 65 (List._∷_ 110 (List._∷_ 115 (List._∷_ 119 (List._∷_ 101 (List._∷_ 114 List.[]))))))))))))) (Syntax.ttcons (Syntax.tcons (Syntax.tyInt Syntax.w64) Syntax.tnil) (Syntax.ttcons Syntax.tnil (Syntax.ttcons (Syntax.tcons (Syntax.tyInt Syntax.w64) Syntax.tnil) (Syntax.ttcons (Syntax.tcons (Syntax.tyInt Syntax.w64) (Syntax.tcons (Syntax.tyInt Syntax.w64) Syntax.tnil)) (Syntax.ttcons Syntax.tnil (Syntax.ttcons Syntax.tnil (Syntax.ttcons Syntax.tnil (Syntax.ttcons (Syntax.tcons (Syntax.tyInt Syntax.w64) Syntax.tnil) (Syntax.ttcons (Syntax.tcons (Syntax.tyInt Syntax.w64) Syntax.tnil) (Syntax.ttcons (Syntax.tcons (Syntax.tyInt Syntax.w64) Syntax.tnil) (Syntax.ttcons (Syntax.tcons (Syntax.tyInt Syntax.w64) Syntax.tnil) (Syntax.ttcons (Syntax.tcons (Syntax.tyInt Syntax.w64) Syntax.tnil) (Syntax.ttcons (Syntax.tcons (Syntax.tyInt Syntax.w64) Syntax.tnil) (Syntax.ttcons (Syntax.tcons (Syntax.tyInt Syntax.w64) Syntax.tnil) (Syntax.ttcons Syntax.tnil (Syntax.ttcons Syntax.tnil (Syntax.ttcons (Syntax.tcons (Syntax.tyInt Syntax.w64) Syntax.tnil) Syntax.ttnil))))))))))))))))))) (List._∷_ (1, Rows.whole (Declared'.row State.the-type)) (List._∷_ (2, Rows.sslice (Referent.rtF (Referent.fInt Syntax.w32)) (Syntax.tyRef (Syntax.named 0) Syntax.imm (Syntax.tyInt Syntax.w32)) 0) (List._∷_ (3, Rows.sslice (Referent.rtF (Referent.fInt Syntax.w32)) (Syntax.tyRef (Syntax.named 1) Syntax.imm (Syntax.tyInt Syntax.w32)) 1) (List._∷_ (4, Mut.mslice (Referent.rtF (Referent.fInt Syntax.w32)) (Syntax.tyRef (Syntax.named 2) Syntax.mut (Syntax.tyInt Syntax.w32)) 2) (List._∷_ (5, Rows.sslice Cell.R (Syntax.tyRef (Syntax.named 3) Syntax.imm Cell.behind) 3) (List._∷_ (6, Rows.sslice Cell.R (Syntax.tyRef (Syntax.named 4) Syntax.imm Cell.behind) 4) (List._∷_ (7, Rows.sc-here (Row.sInt Syntax.w64)) (List._∷_ (8, Rows.sc-here (Row.sInt Syntax.w64)) (List._∷_ (9, Rows.whole (Declared.row Answer.the-type)) (List._∷_ (10, Rows.any-gone (Syntax.tyRef Syntax.erased Syntax.mut (Syntax.tyInt Syntax.w32))) (List._∷_ (11, Rows.any-gone (Syntax.tyStruct (List._∷_ 38 (List._∷_ 91 (List._∷_ 93 List.[]))) (Syntax.tcons (Syntax.tyRef Syntax.erased Syntax.mut (Syntax.tyInt Syntax.w32)) (Syntax.tcons (Syntax.tyInt Syntax.w64) Syntax.tnil)))) (List._∷_ (12, Rows.sc-here (Row.sInt Syntax.w32)) (List._∷_ (13, Rows.sc-here Row.sBool) (List._∷_ (14, Rows.any-gone Syntax.tyBool) (List._∷_ (15, Rows.any-gone (Syntax.tyRef Syntax.erased Syntax.imm (Syntax.tyInt Syntax.w32))) List.[])))))))))))))))
+t10 = List._∷_ (0, Rows.any-gone (Syntax.tyEnum (List._∷_ 100 (List._∷_ 97 (List._∷_ 114 (List._∷_ 116 (List._∷_ 115 (List._∷_ 58 (List._∷_ 58 (List._∷_ 65 (List._∷_ 110 (List._∷_ 115 (List._∷_ 119 (List._∷_ 101 (List._∷_ 114 List.[]))))))))))))) (Syntax.ttcons (Syntax.tcons (Syntax.tyInt Syntax.w64) Syntax.tnil) (Syntax.ttcons Syntax.tnil (Syntax.ttcons (Syntax.tcons (Syntax.tyInt Syntax.w64) Syntax.tnil) (Syntax.ttcons (Syntax.tcons (Syntax.tyInt Syntax.w64) (Syntax.tcons (Syntax.tyInt Syntax.w64) Syntax.tnil)) (Syntax.ttcons Syntax.tnil (Syntax.ttcons Syntax.tnil (Syntax.ttcons Syntax.tnil (Syntax.ttcons (Syntax.tcons (Syntax.tyInt Syntax.w64) Syntax.tnil) (Syntax.ttcons (Syntax.tcons (Syntax.tyInt Syntax.w64) Syntax.tnil) (Syntax.ttcons (Syntax.tcons (Syntax.tyInt Syntax.w64) Syntax.tnil) (Syntax.ttcons (Syntax.tcons (Syntax.tyInt Syntax.w64) Syntax.tnil) (Syntax.ttcons (Syntax.tcons (Syntax.tyInt Syntax.w64) Syntax.tnil) (Syntax.ttcons (Syntax.tcons (Syntax.tyInt Syntax.w64) Syntax.tnil) (Syntax.ttcons (Syntax.tcons (Syntax.tyInt Syntax.w64) Syntax.tnil) (Syntax.ttcons Syntax.tnil (Syntax.ttcons Syntax.tnil (Syntax.ttcons (Syntax.tcons (Syntax.tyInt Syntax.w64) Syntax.tnil) Syntax.ttnil))))))))))))))))))) (List._∷_ (1, Rows.whole (Declared'.row State.the-type)) (List._∷_ (2, Rows.sslice (Referent.rtF (Referent.fInt Syntax.w32)) (Syntax.tyRef (Syntax.named 0) Syntax.imm (Syntax.tyInt Syntax.w32)) 0) (List._∷_ (3, Rows.sslice (Referent.rtF (Referent.fInt Syntax.w32)) (Syntax.tyRef (Syntax.named 1) Syntax.imm (Syntax.tyInt Syntax.w32)) 1) (List._∷_ (4, Relend.mslice-owed (Referent.rtF (Referent.fInt Syntax.w32)) (Syntax.tyRef (Syntax.named 2) Syntax.mut (Syntax.tyInt Syntax.w32)) 2 6 Row.off) (List._∷_ (5, Rows.sslice Cell.R (Syntax.tyRef (Syntax.named 3) Syntax.imm Cell.behind) 3) (List._∷_ (6, Rows.sslice Cell.R (Syntax.tyRef (Syntax.named 4) Syntax.imm Cell.behind) 4) (List._∷_ (7, Rows.sc-here (Row.sInt Syntax.w64)) (List._∷_ (8, Rows.sc-here (Row.sInt Syntax.w64)) (List._∷_ (9, Rows.any-gone (Syntax.tyEnum (List._∷_ 100 (List._∷_ 97 (List._∷_ 114 (List._∷_ 116 (List._∷_ 115 (List._∷_ 58 (List._∷_ 58 (List._∷_ 65 (List._∷_ 110 (List._∷_ 115 (List._∷_ 119 (List._∷_ 101 (List._∷_ 114 List.[]))))))))))))) (Syntax.ttcons (Syntax.tcons (Syntax.tyInt Syntax.w64) Syntax.tnil) (Syntax.ttcons Syntax.tnil (Syntax.ttcons (Syntax.tcons (Syntax.tyInt Syntax.w64) Syntax.tnil) (Syntax.ttcons (Syntax.tcons (Syntax.tyInt Syntax.w64) (Syntax.tcons (Syntax.tyInt Syntax.w64) Syntax.tnil)) (Syntax.ttcons Syntax.tnil (Syntax.ttcons Syntax.tnil (Syntax.ttcons Syntax.tnil (Syntax.ttcons (Syntax.tcons (Syntax.tyInt Syntax.w64) Syntax.tnil) (Syntax.ttcons (Syntax.tcons (Syntax.tyInt Syntax.w64) Syntax.tnil) (Syntax.ttcons (Syntax.tcons (Syntax.tyInt Syntax.w64) Syntax.tnil) (Syntax.ttcons (Syntax.tcons (Syntax.tyInt Syntax.w64) Syntax.tnil) (Syntax.ttcons (Syntax.tcons (Syntax.tyInt Syntax.w64) Syntax.tnil) (Syntax.ttcons (Syntax.tcons (Syntax.tyInt Syntax.w64) Syntax.tnil) (Syntax.ttcons (Syntax.tcons (Syntax.tyInt Syntax.w64) Syntax.tnil) (Syntax.ttcons Syntax.tnil (Syntax.ttcons Syntax.tnil (Syntax.ttcons (Syntax.tcons (Syntax.tyInt Syntax.w64) Syntax.tnil) Syntax.ttnil))))))))))))))))))) (List._∷_ (10, Rows.any-gone Syntax.tyBool) (List._∷_ (11, Rows.any-gone (Syntax.tyRef Syntax.erased Syntax.mut (Syntax.tyInt Syntax.w32))) (List._∷_ (12, Rows.any-gone (Syntax.tyStruct (List._∷_ 38 (List._∷_ 91 (List._∷_ 93 List.[]))) (Syntax.tcons (Syntax.tyRef Syntax.erased Syntax.mut (Syntax.tyInt Syntax.w32)) (Syntax.tcons (Syntax.tyInt Syntax.w64) Syntax.tnil)))) (List._∷_ (13, Relend.msptr (Referent.rtF (Referent.fInt Syntax.w32)) (Syntax.tyRef Syntax.erased Syntax.mut (Syntax.tyInt Syntax.w32)) 6) (List._∷_ (14, Rows.any-gone (Syntax.tyStruct (List._∷_ 38 (List._∷_ 91 (List._∷_ 93 List.[]))) (Syntax.tcons (Syntax.tyRef Syntax.erased Syntax.mut (Syntax.tyInt Syntax.w32)) (Syntax.tcons (Syntax.tyInt Syntax.w64) Syntax.tnil)))) (List._∷_ (15, Rows.any-gone (Syntax.tyInt Syntax.w32)) List.[])))))))))))))))
 
 abbrev pub t11 : List.List Row.Entry
-t11 = List._∷_ (0, Rows.any-gone (Syntax.tyEnum (List._∷_ 100 (List._∷_ 97 (List._∷_ 114 (List._∷_ 116 (List._∷_ 115 (List._∷_ 58 (List._∷_ 58 (List._∷_ 65 (List._∷_ 110 (List._∷_ 115 (List._∷_ 119 (List._∷_ 101 (List._∷_ 114 List.[]))))))))))))) (Syntax.ttcons (Syntax.tcons (Syntax.tyInt Syntax.w64) Syntax.tnil) (Syntax.ttcons Syntax.tnil (Syntax.ttcons (Syntax.tcons (Syntax.tyInt Syntax.w64) Syntax.tnil) (Syntax.ttcons (Syntax.tcons (Syntax.tyInt Syntax.w64) (Syntax.tcons (Syntax.tyInt Syntax.w64) Syntax.tnil)) (Syntax.ttcons Syntax.tnil (Syntax.ttcons Syntax.tnil (Syntax.ttcons Syntax.tnil (Syntax.ttcons (Syntax.tcons (Syntax.tyInt Syntax.w64) Syntax.tnil) (Syntax.ttcons (Syntax.tcons (Syntax.tyInt Syntax.w64) Syntax.tnil) (Syntax.ttcons (Syntax.tcons (Syntax.tyInt Syntax.w64) Syntax.tnil) (Syntax.ttcons (Syntax.tcons (Syntax.tyInt Syntax.w64) Syntax.tnil) (Syntax.ttcons (Syntax.tcons (Syntax.tyInt Syntax.w64) Syntax.tnil) (Syntax.ttcons (Syntax.tcons (Syntax.tyInt Syntax.w64) Syntax.tnil) (Syntax.ttcons (Syntax.tcons (Syntax.tyInt Syntax.w64) Syntax.tnil) (Syntax.ttcons Syntax.tnil (Syntax.ttcons Syntax.tnil (Syntax.ttcons (Syntax.tcons (Syntax.tyInt Syntax.w64) Syntax.tnil) Syntax.ttnil))))))))))))))))))) (List._∷_ (1, Rows.whole (Declared'.row State.the-type)) (List._∷_ (2, Rows.sslice (Referent.rtF (Referent.fInt Syntax.w32)) (Syntax.tyRef (Syntax.named 0) Syntax.imm (Syntax.tyInt Syntax.w32)) 0) (List._∷_ (3, Rows.sslice (Referent.rtF (Referent.fInt Syntax.w32)) (Syntax.tyRef (Syntax.named 1) Syntax.imm (Syntax.tyInt Syntax.w32)) 1) (List._∷_ (4, Mut.mslice (Referent.rtF (Referent.fInt Syntax.w32)) (Syntax.tyRef (Syntax.named 2) Syntax.mut (Syntax.tyInt Syntax.w32)) 2) (List._∷_ (5, Rows.sslice Cell.R (Syntax.tyRef (Syntax.named 3) Syntax.imm Cell.behind) 3) (List._∷_ (6, Rows.sslice Cell.R (Syntax.tyRef (Syntax.named 4) Syntax.imm Cell.behind) 4) (List._∷_ (7, Rows.sc-here (Row.sInt Syntax.w64)) (List._∷_ (8, Rows.sc-here (Row.sInt Syntax.w64)) (List._∷_ (9, Rows.whole (Declared.row Answer.the-type)) (List._∷_ (10, Rows.any-gone (Syntax.tyRef Syntax.erased Syntax.mut (Syntax.tyInt Syntax.w32))) (List._∷_ (11, Rows.any-gone (Syntax.tyStruct (List._∷_ 38 (List._∷_ 91 (List._∷_ 93 List.[]))) (Syntax.tcons (Syntax.tyRef Syntax.erased Syntax.mut (Syntax.tyInt Syntax.w32)) (Syntax.tcons (Syntax.tyInt Syntax.w64) Syntax.tnil)))) (List._∷_ (12, Rows.any-gone (Syntax.tyInt Syntax.w32)) (List._∷_ (13, Rows.sc-here Row.sBool) (List._∷_ (14, Rows.any-gone Syntax.tyBool) (List._∷_ (15, Rows.any-gone (Syntax.tyRef Syntax.erased Syntax.imm (Syntax.tyInt Syntax.w32))) List.[])))))))))))))))
+t11 = List._∷_ (0, Rows.any-gone (Syntax.tyEnum (List._∷_ 100 (List._∷_ 97 (List._∷_ 114 (List._∷_ 116 (List._∷_ 115 (List._∷_ 58 (List._∷_ 58 (List._∷_ 65 (List._∷_ 110 (List._∷_ 115 (List._∷_ 119 (List._∷_ 101 (List._∷_ 114 List.[]))))))))))))) (Syntax.ttcons (Syntax.tcons (Syntax.tyInt Syntax.w64) Syntax.tnil) (Syntax.ttcons Syntax.tnil (Syntax.ttcons (Syntax.tcons (Syntax.tyInt Syntax.w64) Syntax.tnil) (Syntax.ttcons (Syntax.tcons (Syntax.tyInt Syntax.w64) (Syntax.tcons (Syntax.tyInt Syntax.w64) Syntax.tnil)) (Syntax.ttcons Syntax.tnil (Syntax.ttcons Syntax.tnil (Syntax.ttcons Syntax.tnil (Syntax.ttcons (Syntax.tcons (Syntax.tyInt Syntax.w64) Syntax.tnil) (Syntax.ttcons (Syntax.tcons (Syntax.tyInt Syntax.w64) Syntax.tnil) (Syntax.ttcons (Syntax.tcons (Syntax.tyInt Syntax.w64) Syntax.tnil) (Syntax.ttcons (Syntax.tcons (Syntax.tyInt Syntax.w64) Syntax.tnil) (Syntax.ttcons (Syntax.tcons (Syntax.tyInt Syntax.w64) Syntax.tnil) (Syntax.ttcons (Syntax.tcons (Syntax.tyInt Syntax.w64) Syntax.tnil) (Syntax.ttcons (Syntax.tcons (Syntax.tyInt Syntax.w64) Syntax.tnil) (Syntax.ttcons Syntax.tnil (Syntax.ttcons Syntax.tnil (Syntax.ttcons (Syntax.tcons (Syntax.tyInt Syntax.w64) Syntax.tnil) Syntax.ttnil))))))))))))))))))) (List._∷_ (1, Rows.whole (Declared'.row State.the-type)) (List._∷_ (2, Rows.sslice (Referent.rtF (Referent.fInt Syntax.w32)) (Syntax.tyRef (Syntax.named 0) Syntax.imm (Syntax.tyInt Syntax.w32)) 0) (List._∷_ (3, Rows.sslice (Referent.rtF (Referent.fInt Syntax.w32)) (Syntax.tyRef (Syntax.named 1) Syntax.imm (Syntax.tyInt Syntax.w32)) 1) (List._∷_ (4, Relend.mslice-owed (Referent.rtF (Referent.fInt Syntax.w32)) (Syntax.tyRef (Syntax.named 2) Syntax.mut (Syntax.tyInt Syntax.w32)) 2 6 Row.off) (List._∷_ (5, Rows.sslice Cell.R (Syntax.tyRef (Syntax.named 3) Syntax.imm Cell.behind) 3) (List._∷_ (6, Rows.sslice Cell.R (Syntax.tyRef (Syntax.named 4) Syntax.imm Cell.behind) 4) (List._∷_ (7, Rows.sc-here (Row.sInt Syntax.w64)) (List._∷_ (8, Rows.sc-here (Row.sInt Syntax.w64)) (List._∷_ (9, Rows.any-gone (Syntax.tyEnum (List._∷_ 100 (List._∷_ 97 (List._∷_ 114 (List._∷_ 116 (List._∷_ 115 (List._∷_ 58 (List._∷_ 58 (List._∷_ 65 (List._∷_ 110 (List._∷_ 115 (List._∷_ 119 (List._∷_ 101 (List._∷_ 114 List.[]))))))))))))) (Syntax.ttcons (Syntax.tcons (Syntax.tyInt Syntax.w64) Syntax.tnil) (Syntax.ttcons Syntax.tnil (Syntax.ttcons (Syntax.tcons (Syntax.tyInt Syntax.w64) Syntax.tnil) (Syntax.ttcons (Syntax.tcons (Syntax.tyInt Syntax.w64) (Syntax.tcons (Syntax.tyInt Syntax.w64) Syntax.tnil)) (Syntax.ttcons Syntax.tnil (Syntax.ttcons Syntax.tnil (Syntax.ttcons Syntax.tnil (Syntax.ttcons (Syntax.tcons (Syntax.tyInt Syntax.w64) Syntax.tnil) (Syntax.ttcons (Syntax.tcons (Syntax.tyInt Syntax.w64) Syntax.tnil) (Syntax.ttcons (Syntax.tcons (Syntax.tyInt Syntax.w64) Syntax.tnil) (Syntax.ttcons (Syntax.tcons (Syntax.tyInt Syntax.w64) Syntax.tnil) (Syntax.ttcons (Syntax.tcons (Syntax.tyInt Syntax.w64) Syntax.tnil) (Syntax.ttcons (Syntax.tcons (Syntax.tyInt Syntax.w64) Syntax.tnil) (Syntax.ttcons (Syntax.tcons (Syntax.tyInt Syntax.w64) Syntax.tnil) (Syntax.ttcons Syntax.tnil (Syntax.ttcons Syntax.tnil (Syntax.ttcons (Syntax.tcons (Syntax.tyInt Syntax.w64) Syntax.tnil) Syntax.ttnil))))))))))))))))))) (List._∷_ (10, Rows.any-gone Syntax.tyBool) (List._∷_ (11, Rows.any-gone (Syntax.tyRef Syntax.erased Syntax.mut (Syntax.tyInt Syntax.w32))) (List._∷_ (12, Rows.any-gone (Syntax.tyStruct (List._∷_ 38 (List._∷_ 91 (List._∷_ 93 List.[]))) (Syntax.tcons (Syntax.tyRef Syntax.erased Syntax.mut (Syntax.tyInt Syntax.w32)) (Syntax.tcons (Syntax.tyInt Syntax.w64) Syntax.tnil)))) (List._∷_ (13, Rows.any-gone (Syntax.tyRef Syntax.erased Syntax.mut (Syntax.tyInt Syntax.w32))) (List._∷_ (14, Mut.mslice (Referent.rtF (Referent.fInt Syntax.w32)) (Syntax.tyRef Syntax.erased Syntax.mut (Syntax.tyInt Syntax.w32)) 6) (List._∷_ (15, Rows.any-gone (Syntax.tyInt Syntax.w32)) List.[])))))))))))))))
 
 abbrev pub t12 : List.List Row.Entry
-t12 = List._∷_ (0, Rows.any-gone (Syntax.tyEnum (List._∷_ 100 (List._∷_ 97 (List._∷_ 114 (List._∷_ 116 (List._∷_ 115 (List._∷_ 58 (List._∷_ 58 (List._∷_ 65 (List._∷_ 110 (List._∷_ 115 (List._∷_ 119 (List._∷_ 101 (List._∷_ 114 List.[]))))))))))))) (Syntax.ttcons (Syntax.tcons (Syntax.tyInt Syntax.w64) Syntax.tnil) (Syntax.ttcons Syntax.tnil (Syntax.ttcons (Syntax.tcons (Syntax.tyInt Syntax.w64) Syntax.tnil) (Syntax.ttcons (Syntax.tcons (Syntax.tyInt Syntax.w64) (Syntax.tcons (Syntax.tyInt Syntax.w64) Syntax.tnil)) (Syntax.ttcons Syntax.tnil (Syntax.ttcons Syntax.tnil (Syntax.ttcons Syntax.tnil (Syntax.ttcons (Syntax.tcons (Syntax.tyInt Syntax.w64) Syntax.tnil) (Syntax.ttcons (Syntax.tcons (Syntax.tyInt Syntax.w64) Syntax.tnil) (Syntax.ttcons (Syntax.tcons (Syntax.tyInt Syntax.w64) Syntax.tnil) (Syntax.ttcons (Syntax.tcons (Syntax.tyInt Syntax.w64) Syntax.tnil) (Syntax.ttcons (Syntax.tcons (Syntax.tyInt Syntax.w64) Syntax.tnil) (Syntax.ttcons (Syntax.tcons (Syntax.tyInt Syntax.w64) Syntax.tnil) (Syntax.ttcons (Syntax.tcons (Syntax.tyInt Syntax.w64) Syntax.tnil) (Syntax.ttcons Syntax.tnil (Syntax.ttcons Syntax.tnil (Syntax.ttcons (Syntax.tcons (Syntax.tyInt Syntax.w64) Syntax.tnil) Syntax.ttnil))))))))))))))))))) (List._∷_ (1, Rows.any-gone (Syntax.tyStruct (List._∷_ 112 (List._∷_ 121 (List._∷_ 114 (List._∷_ 97 (List._∷_ 109 (List._∷_ 105 (List._∷_ 100 (List._∷_ 58 (List._∷_ 58 (List._∷_ 83 (List._∷_ 116 (List._∷_ 97 (List._∷_ 116 (List._∷_ 101 List.[])))))))))))))) (Syntax.tcons (Syntax.tyInt Syntax.w32) (Syntax.tcons (Syntax.tyInt Syntax.w32) (Syntax.tcons (Syntax.tyInt Syntax.w32) (Syntax.tcons (Syntax.tyInt Syntax.w32) (Syntax.tcons (Syntax.tyInt Syntax.w32) (Syntax.tcons (Syntax.tyArray (Syntax.tyInt Syntax.w32) 64) Syntax.tnil)))))))) (List._∷_ (2, Rows.sslice (Referent.rtF (Referent.fInt Syntax.w32)) (Syntax.tyRef (Syntax.named 0) Syntax.imm (Syntax.tyInt Syntax.w32)) 0) (List._∷_ (3, Rows.sslice (Referent.rtF (Referent.fInt Syntax.w32)) (Syntax.tyRef (Syntax.named 1) Syntax.imm (Syntax.tyInt Syntax.w32)) 1) (List._∷_ (4, Mut.mslice (Referent.rtF (Referent.fInt Syntax.w32)) (Syntax.tyRef (Syntax.named 2) Syntax.mut (Syntax.tyInt Syntax.w32)) 2) (List._∷_ (5, Rows.sslice Cell.R (Syntax.tyRef (Syntax.named 3) Syntax.imm Cell.behind) 3) (List._∷_ (6, Rows.sslice Cell.R (Syntax.tyRef (Syntax.named 4) Syntax.imm Cell.behind) 4) (List._∷_ (7, Rows.sc-here (Row.sInt Syntax.w64)) (List._∷_ (8, Rows.sc-here (Row.sInt Syntax.w64)) (List._∷_ (9, Rows.whole (Declared.row Answer.the-type)) (List._∷_ (10, Rows.any-gone (Syntax.tyRef Syntax.erased Syntax.mut (Syntax.tyInt Syntax.w32))) (List._∷_ (11, Rows.any-gone (Syntax.tyStruct (List._∷_ 38 (List._∷_ 91 (List._∷_ 93 List.[]))) (Syntax.tcons (Syntax.tyRef Syntax.erased Syntax.mut (Syntax.tyInt Syntax.w32)) (Syntax.tcons (Syntax.tyInt Syntax.w64) Syntax.tnil)))) (List._∷_ (12, Rows.any-gone (Syntax.tyInt Syntax.w32)) (List._∷_ (13, Rows.sc-here Row.sBool) (List._∷_ (14, Rows.any-gone Syntax.tyBool) (List._∷_ (15, Rows.any-gone (Syntax.tyRef Syntax.erased Syntax.imm (Syntax.tyInt Syntax.w32))) List.[])))))))))))))))
+t12 = List._∷_ (0, Rows.any-gone (Syntax.tyEnum (List._∷_ 100 (List._∷_ 97 (List._∷_ 114 (List._∷_ 116 (List._∷_ 115 (List._∷_ 58 (List._∷_ 58 (List._∷_ 65 (List._∷_ 110 (List._∷_ 115 (List._∷_ 119 (List._∷_ 101 (List._∷_ 114 List.[]))))))))))))) (Syntax.ttcons (Syntax.tcons (Syntax.tyInt Syntax.w64) Syntax.tnil) (Syntax.ttcons Syntax.tnil (Syntax.ttcons (Syntax.tcons (Syntax.tyInt Syntax.w64) Syntax.tnil) (Syntax.ttcons (Syntax.tcons (Syntax.tyInt Syntax.w64) (Syntax.tcons (Syntax.tyInt Syntax.w64) Syntax.tnil)) (Syntax.ttcons Syntax.tnil (Syntax.ttcons Syntax.tnil (Syntax.ttcons Syntax.tnil (Syntax.ttcons (Syntax.tcons (Syntax.tyInt Syntax.w64) Syntax.tnil) (Syntax.ttcons (Syntax.tcons (Syntax.tyInt Syntax.w64) Syntax.tnil) (Syntax.ttcons (Syntax.tcons (Syntax.tyInt Syntax.w64) Syntax.tnil) (Syntax.ttcons (Syntax.tcons (Syntax.tyInt Syntax.w64) Syntax.tnil) (Syntax.ttcons (Syntax.tcons (Syntax.tyInt Syntax.w64) Syntax.tnil) (Syntax.ttcons (Syntax.tcons (Syntax.tyInt Syntax.w64) Syntax.tnil) (Syntax.ttcons (Syntax.tcons (Syntax.tyInt Syntax.w64) Syntax.tnil) (Syntax.ttcons Syntax.tnil (Syntax.ttcons Syntax.tnil (Syntax.ttcons (Syntax.tcons (Syntax.tyInt Syntax.w64) Syntax.tnil) Syntax.ttnil))))))))))))))))))) (List._∷_ (1, Rows.whole (Declared'.row State.the-type)) (List._∷_ (2, Rows.sslice (Referent.rtF (Referent.fInt Syntax.w32)) (Syntax.tyRef (Syntax.named 0) Syntax.imm (Syntax.tyInt Syntax.w32)) 0) (List._∷_ (3, Rows.sslice (Referent.rtF (Referent.fInt Syntax.w32)) (Syntax.tyRef (Syntax.named 1) Syntax.imm (Syntax.tyInt Syntax.w32)) 1) (List._∷_ (4, Relend.mslice-owed (Referent.rtF (Referent.fInt Syntax.w32)) (Syntax.tyRef (Syntax.named 2) Syntax.mut (Syntax.tyInt Syntax.w32)) 2 6 Row.off) (List._∷_ (5, Rows.sslice Cell.R (Syntax.tyRef (Syntax.named 3) Syntax.imm Cell.behind) 3) (List._∷_ (6, Rows.sslice Cell.R (Syntax.tyRef (Syntax.named 4) Syntax.imm Cell.behind) 4) (List._∷_ (7, Rows.sc-here (Row.sInt Syntax.w64)) (List._∷_ (8, Rows.sc-here (Row.sInt Syntax.w64)) (List._∷_ (9, Rows.whole (Declared.row Answer.the-type)) (List._∷_ (10, Rows.any-gone Syntax.tyBool) (List._∷_ (11, Rows.any-gone (Syntax.tyRef Syntax.erased Syntax.mut (Syntax.tyInt Syntax.w32))) (List._∷_ (12, Rows.any-gone (Syntax.tyStruct (List._∷_ 38 (List._∷_ 91 (List._∷_ 93 List.[]))) (Syntax.tcons (Syntax.tyRef Syntax.erased Syntax.mut (Syntax.tyInt Syntax.w32)) (Syntax.tcons (Syntax.tyInt Syntax.w64) Syntax.tnil)))) (List._∷_ (13, Rows.any-gone (Syntax.tyRef Syntax.erased Syntax.mut (Syntax.tyInt Syntax.w32))) (List._∷_ (14, Mut.msleft (Referent.rtF (Referent.fInt Syntax.w32)) (Syntax.tyRef Syntax.erased Syntax.mut (Syntax.tyInt Syntax.w32))) (List._∷_ (15, Rows.any-gone (Syntax.tyInt Syntax.w32)) List.[])))))))))))))))
 
 abbrev pub t13 : List.List Row.Entry
-t13 = List._∷_ (0, Rows.any-gone (Syntax.tyEnum (List._∷_ 100 (List._∷_ 97 (List._∷_ 114 (List._∷_ 116 (List._∷_ 115 (List._∷_ 58 (List._∷_ 58 (List._∷_ 65 (List._∷_ 110 (List._∷_ 115 (List._∷_ 119 (List._∷_ 101 (List._∷_ 114 List.[]))))))))))))) (Syntax.ttcons (Syntax.tcons (Syntax.tyInt Syntax.w64) Syntax.tnil) (Syntax.ttcons Syntax.tnil (Syntax.ttcons (Syntax.tcons (Syntax.tyInt Syntax.w64) Syntax.tnil) (Syntax.ttcons (Syntax.tcons (Syntax.tyInt Syntax.w64) (Syntax.tcons (Syntax.tyInt Syntax.w64) Syntax.tnil)) (Syntax.ttcons Syntax.tnil (Syntax.ttcons Syntax.tnil (Syntax.ttcons Syntax.tnil (Syntax.ttcons (Syntax.tcons (Syntax.tyInt Syntax.w64) Syntax.tnil) (Syntax.ttcons (Syntax.tcons (Syntax.tyInt Syntax.w64) Syntax.tnil) (Syntax.ttcons (Syntax.tcons (Syntax.tyInt Syntax.w64) Syntax.tnil) (Syntax.ttcons (Syntax.tcons (Syntax.tyInt Syntax.w64) Syntax.tnil) (Syntax.ttcons (Syntax.tcons (Syntax.tyInt Syntax.w64) Syntax.tnil) (Syntax.ttcons (Syntax.tcons (Syntax.tyInt Syntax.w64) Syntax.tnil) (Syntax.ttcons (Syntax.tcons (Syntax.tyInt Syntax.w64) Syntax.tnil) (Syntax.ttcons Syntax.tnil (Syntax.ttcons Syntax.tnil (Syntax.ttcons (Syntax.tcons (Syntax.tyInt Syntax.w64) Syntax.tnil) Syntax.ttnil))))))))))))))))))) (List._∷_ (1, Rows.any-gone (Syntax.tyStruct (List._∷_ 112 (List._∷_ 121 (List._∷_ 114 (List._∷_ 97 (List._∷_ 109 (List._∷_ 105 (List._∷_ 100 (List._∷_ 58 (List._∷_ 58 (List._∷_ 83 (List._∷_ 116 (List._∷_ 97 (List._∷_ 116 (List._∷_ 101 List.[])))))))))))))) (Syntax.tcons (Syntax.tyInt Syntax.w32) (Syntax.tcons (Syntax.tyInt Syntax.w32) (Syntax.tcons (Syntax.tyInt Syntax.w32) (Syntax.tcons (Syntax.tyInt Syntax.w32) (Syntax.tcons (Syntax.tyInt Syntax.w32) (Syntax.tcons (Syntax.tyArray (Syntax.tyInt Syntax.w32) 64) Syntax.tnil)))))))) (List._∷_ (2, Rows.sslice (Referent.rtF (Referent.fInt Syntax.w32)) (Syntax.tyRef (Syntax.named 0) Syntax.imm (Syntax.tyInt Syntax.w32)) 0) (List._∷_ (3, Rows.sslice (Referent.rtF (Referent.fInt Syntax.w32)) (Syntax.tyRef (Syntax.named 1) Syntax.imm (Syntax.tyInt Syntax.w32)) 1) (List._∷_ (4, Mut.mslice (Referent.rtF (Referent.fInt Syntax.w32)) (Syntax.tyRef (Syntax.named 2) Syntax.mut (Syntax.tyInt Syntax.w32)) 2) (List._∷_ (5, Rows.sslice Cell.R (Syntax.tyRef (Syntax.named 3) Syntax.imm Cell.behind) 3) (List._∷_ (6, Rows.sslice Cell.R (Syntax.tyRef (Syntax.named 4) Syntax.imm Cell.behind) 4) (List._∷_ (7, Rows.sc-here (Row.sInt Syntax.w64)) (List._∷_ (8, Rows.sc-here (Row.sInt Syntax.w64)) (List._∷_ (9, Rows.whole (Declared.row Answer.the-type)) (List._∷_ (10, Rows.any-gone (Syntax.tyRef Syntax.erased Syntax.mut (Syntax.tyInt Syntax.w32))) (List._∷_ (11, Rows.any-gone (Syntax.tyStruct (List._∷_ 38 (List._∷_ 91 (List._∷_ 93 List.[]))) (Syntax.tcons (Syntax.tyRef Syntax.erased Syntax.mut (Syntax.tyInt Syntax.w32)) (Syntax.tcons (Syntax.tyInt Syntax.w64) Syntax.tnil)))) (List._∷_ (12, Rows.any-gone (Syntax.tyInt Syntax.w32)) (List._∷_ (13, Rows.any-gone Syntax.tyBool) (List._∷_ (14, Rows.any-gone Syntax.tyBool) (List._∷_ (15, Rows.any-gone (Syntax.tyRef Syntax.erased Syntax.imm (Syntax.tyInt Syntax.w32))) List.[])))))))))))))))
+t13 = List._∷_ (0, Rows.any-gone (Syntax.tyEnum (List._∷_ 100 (List._∷_ 97 (List._∷_ 114 (List._∷_ 116 (List._∷_ 115 (List._∷_ 58 (List._∷_ 58 (List._∷_ 65 (List._∷_ 110 (List._∷_ 115 (List._∷_ 119 (List._∷_ 101 (List._∷_ 114 List.[]))))))))))))) (Syntax.ttcons (Syntax.tcons (Syntax.tyInt Syntax.w64) Syntax.tnil) (Syntax.ttcons Syntax.tnil (Syntax.ttcons (Syntax.tcons (Syntax.tyInt Syntax.w64) Syntax.tnil) (Syntax.ttcons (Syntax.tcons (Syntax.tyInt Syntax.w64) (Syntax.tcons (Syntax.tyInt Syntax.w64) Syntax.tnil)) (Syntax.ttcons Syntax.tnil (Syntax.ttcons Syntax.tnil (Syntax.ttcons Syntax.tnil (Syntax.ttcons (Syntax.tcons (Syntax.tyInt Syntax.w64) Syntax.tnil) (Syntax.ttcons (Syntax.tcons (Syntax.tyInt Syntax.w64) Syntax.tnil) (Syntax.ttcons (Syntax.tcons (Syntax.tyInt Syntax.w64) Syntax.tnil) (Syntax.ttcons (Syntax.tcons (Syntax.tyInt Syntax.w64) Syntax.tnil) (Syntax.ttcons (Syntax.tcons (Syntax.tyInt Syntax.w64) Syntax.tnil) (Syntax.ttcons (Syntax.tcons (Syntax.tyInt Syntax.w64) Syntax.tnil) (Syntax.ttcons (Syntax.tcons (Syntax.tyInt Syntax.w64) Syntax.tnil) (Syntax.ttcons Syntax.tnil (Syntax.ttcons Syntax.tnil (Syntax.ttcons (Syntax.tcons (Syntax.tyInt Syntax.w64) Syntax.tnil) Syntax.ttnil))))))))))))))))))) (List._∷_ (1, Rows.whole (Declared'.row State.the-type)) (List._∷_ (2, Rows.sslice (Referent.rtF (Referent.fInt Syntax.w32)) (Syntax.tyRef (Syntax.named 0) Syntax.imm (Syntax.tyInt Syntax.w32)) 0) (List._∷_ (3, Rows.sslice (Referent.rtF (Referent.fInt Syntax.w32)) (Syntax.tyRef (Syntax.named 1) Syntax.imm (Syntax.tyInt Syntax.w32)) 1) (List._∷_ (4, Mut.mslice (Referent.rtF (Referent.fInt Syntax.w32)) (Syntax.tyRef (Syntax.named 2) Syntax.mut (Syntax.tyInt Syntax.w32)) 2) (List._∷_ (5, Rows.sslice Cell.R (Syntax.tyRef (Syntax.named 3) Syntax.imm Cell.behind) 3) (List._∷_ (6, Rows.sslice Cell.R (Syntax.tyRef (Syntax.named 4) Syntax.imm Cell.behind) 4) (List._∷_ (7, Rows.sc-here (Row.sInt Syntax.w64)) (List._∷_ (8, Rows.sc-here (Row.sInt Syntax.w64)) (List._∷_ (9, Rows.whole (Declared.row Answer.the-type)) (List._∷_ (10, Rows.any-gone Syntax.tyBool) (List._∷_ (11, Rows.any-gone (Syntax.tyRef Syntax.erased Syntax.mut (Syntax.tyInt Syntax.w32))) (List._∷_ (12, Rows.any-gone (Syntax.tyStruct (List._∷_ 38 (List._∷_ 91 (List._∷_ 93 List.[]))) (Syntax.tcons (Syntax.tyRef Syntax.erased Syntax.mut (Syntax.tyInt Syntax.w32)) (Syntax.tcons (Syntax.tyInt Syntax.w64) Syntax.tnil)))) (List._∷_ (13, Rows.any-gone (Syntax.tyRef Syntax.erased Syntax.mut (Syntax.tyInt Syntax.w32))) (List._∷_ (14, Rows.any-gone (Syntax.tyStruct (List._∷_ 38 (List._∷_ 91 (List._∷_ 93 List.[]))) (Syntax.tcons (Syntax.tyRef Syntax.erased Syntax.mut (Syntax.tyInt Syntax.w32)) (Syntax.tcons (Syntax.tyInt Syntax.w64) Syntax.tnil)))) (List._∷_ (15, Rows.any-gone (Syntax.tyInt Syntax.w32)) List.[])))))))))))))))
 
 abbrev pub t14 : List.List Row.Entry
-t14 = List._∷_ (0, Rows.whole (Declared.row Answer.the-type)) (List._∷_ (1, Rows.any-gone (Syntax.tyStruct (List._∷_ 112 (List._∷_ 121 (List._∷_ 114 (List._∷_ 97 (List._∷_ 109 (List._∷_ 105 (List._∷_ 100 (List._∷_ 58 (List._∷_ 58 (List._∷_ 83 (List._∷_ 116 (List._∷_ 97 (List._∷_ 116 (List._∷_ 101 List.[])))))))))))))) (Syntax.tcons (Syntax.tyInt Syntax.w32) (Syntax.tcons (Syntax.tyInt Syntax.w32) (Syntax.tcons (Syntax.tyInt Syntax.w32) (Syntax.tcons (Syntax.tyInt Syntax.w32) (Syntax.tcons (Syntax.tyInt Syntax.w32) (Syntax.tcons (Syntax.tyArray (Syntax.tyInt Syntax.w32) 64) Syntax.tnil)))))))) (List._∷_ (2, Rows.sslice (Referent.rtF (Referent.fInt Syntax.w32)) (Syntax.tyRef (Syntax.named 0) Syntax.imm (Syntax.tyInt Syntax.w32)) 0) (List._∷_ (3, Rows.sslice (Referent.rtF (Referent.fInt Syntax.w32)) (Syntax.tyRef (Syntax.named 1) Syntax.imm (Syntax.tyInt Syntax.w32)) 1) (List._∷_ (4, Mut.mslice (Referent.rtF (Referent.fInt Syntax.w32)) (Syntax.tyRef (Syntax.named 2) Syntax.mut (Syntax.tyInt Syntax.w32)) 2) (List._∷_ (5, Rows.sslice Cell.R (Syntax.tyRef (Syntax.named 3) Syntax.imm Cell.behind) 3) (List._∷_ (6, Rows.sslice Cell.R (Syntax.tyRef (Syntax.named 4) Syntax.imm Cell.behind) 4) (List._∷_ (7, Rows.sc-here (Row.sInt Syntax.w64)) (List._∷_ (8, Rows.sc-here (Row.sInt Syntax.w64)) (List._∷_ (9, Rows.whole (Declared.row Answer.the-type)) (List._∷_ (10, Rows.any-gone (Syntax.tyRef Syntax.erased Syntax.mut (Syntax.tyInt Syntax.w32))) (List._∷_ (11, Rows.any-gone (Syntax.tyStruct (List._∷_ 38 (List._∷_ 91 (List._∷_ 93 List.[]))) (Syntax.tcons (Syntax.tyRef Syntax.erased Syntax.mut (Syntax.tyInt Syntax.w32)) (Syntax.tcons (Syntax.tyInt Syntax.w64) Syntax.tnil)))) (List._∷_ (12, Rows.any-gone (Syntax.tyInt Syntax.w32)) (List._∷_ (13, Rows.any-gone Syntax.tyBool) (List._∷_ (14, Rows.any-gone Syntax.tyBool) (List._∷_ (15, Rows.any-gone (Syntax.tyRef Syntax.erased Syntax.imm (Syntax.tyInt Syntax.w32))) List.[])))))))))))))))
+t14 = List._∷_ (0, Rows.any-gone (Syntax.tyEnum (List._∷_ 100 (List._∷_ 97 (List._∷_ 114 (List._∷_ 116 (List._∷_ 115 (List._∷_ 58 (List._∷_ 58 (List._∷_ 65 (List._∷_ 110 (List._∷_ 115 (List._∷_ 119 (List._∷_ 101 (List._∷_ 114 List.[]))))))))))))) (Syntax.ttcons (Syntax.tcons (Syntax.tyInt Syntax.w64) Syntax.tnil) (Syntax.ttcons Syntax.tnil (Syntax.ttcons (Syntax.tcons (Syntax.tyInt Syntax.w64) Syntax.tnil) (Syntax.ttcons (Syntax.tcons (Syntax.tyInt Syntax.w64) (Syntax.tcons (Syntax.tyInt Syntax.w64) Syntax.tnil)) (Syntax.ttcons Syntax.tnil (Syntax.ttcons Syntax.tnil (Syntax.ttcons Syntax.tnil (Syntax.ttcons (Syntax.tcons (Syntax.tyInt Syntax.w64) Syntax.tnil) (Syntax.ttcons (Syntax.tcons (Syntax.tyInt Syntax.w64) Syntax.tnil) (Syntax.ttcons (Syntax.tcons (Syntax.tyInt Syntax.w64) Syntax.tnil) (Syntax.ttcons (Syntax.tcons (Syntax.tyInt Syntax.w64) Syntax.tnil) (Syntax.ttcons (Syntax.tcons (Syntax.tyInt Syntax.w64) Syntax.tnil) (Syntax.ttcons (Syntax.tcons (Syntax.tyInt Syntax.w64) Syntax.tnil) (Syntax.ttcons (Syntax.tcons (Syntax.tyInt Syntax.w64) Syntax.tnil) (Syntax.ttcons Syntax.tnil (Syntax.ttcons Syntax.tnil (Syntax.ttcons (Syntax.tcons (Syntax.tyInt Syntax.w64) Syntax.tnil) Syntax.ttnil))))))))))))))))))) (List._∷_ (1, Rows.whole (Declared'.row State.the-type)) (List._∷_ (2, Rows.sslice (Referent.rtF (Referent.fInt Syntax.w32)) (Syntax.tyRef (Syntax.named 0) Syntax.imm (Syntax.tyInt Syntax.w32)) 0) (List._∷_ (3, Rows.sslice (Referent.rtF (Referent.fInt Syntax.w32)) (Syntax.tyRef (Syntax.named 1) Syntax.imm (Syntax.tyInt Syntax.w32)) 1) (List._∷_ (4, Mut.mslice (Referent.rtF (Referent.fInt Syntax.w32)) (Syntax.tyRef (Syntax.named 2) Syntax.mut (Syntax.tyInt Syntax.w32)) 2) (List._∷_ (5, Rows.sslice Cell.R (Syntax.tyRef (Syntax.named 3) Syntax.imm Cell.behind) 3) (List._∷_ (6, Rows.sslice Cell.R (Syntax.tyRef (Syntax.named 4) Syntax.imm Cell.behind) 4) (List._∷_ (7, Rows.sc-here (Row.sInt Syntax.w64)) (List._∷_ (8, Rows.sc-here (Row.sInt Syntax.w64)) (List._∷_ (9, Rows.whole (Declared.row Answer.the-type)) (List._∷_ (10, Rows.any-gone Syntax.tyBool) (List._∷_ (11, Rows.any-gone (Syntax.tyRef Syntax.erased Syntax.mut (Syntax.tyInt Syntax.w32))) (List._∷_ (12, Rows.any-gone (Syntax.tyStruct (List._∷_ 38 (List._∷_ 91 (List._∷_ 93 List.[]))) (Syntax.tcons (Syntax.tyRef Syntax.erased Syntax.mut (Syntax.tyInt Syntax.w32)) (Syntax.tcons (Syntax.tyInt Syntax.w64) Syntax.tnil)))) (List._∷_ (13, Rows.any-gone (Syntax.tyRef Syntax.erased Syntax.mut (Syntax.tyInt Syntax.w32))) (List._∷_ (14, Rows.any-gone (Syntax.tyStruct (List._∷_ 38 (List._∷_ 91 (List._∷_ 93 List.[]))) (Syntax.tcons (Syntax.tyRef Syntax.erased Syntax.mut (Syntax.tyInt Syntax.w32)) (Syntax.tcons (Syntax.tyInt Syntax.w64) Syntax.tnil)))) (List._∷_ (15, Rows.sc-here (Row.sInt Syntax.w32)) List.[])))))))))))))))
 
 abbrev pub t15 : List.List Row.Entry
-t15 = List._∷_ (0, Rows.whole (Declared.row Answer.the-type)) (List._∷_ (1, Rows.any-gone (Syntax.tyStruct (List._∷_ 112 (List._∷_ 121 (List._∷_ 114 (List._∷_ 97 (List._∷_ 109 (List._∷_ 105 (List._∷_ 100 (List._∷_ 58 (List._∷_ 58 (List._∷_ 83 (List._∷_ 116 (List._∷_ 97 (List._∷_ 116 (List._∷_ 101 List.[])))))))))))))) (Syntax.tcons (Syntax.tyInt Syntax.w32) (Syntax.tcons (Syntax.tyInt Syntax.w32) (Syntax.tcons (Syntax.tyInt Syntax.w32) (Syntax.tcons (Syntax.tyInt Syntax.w32) (Syntax.tcons (Syntax.tyInt Syntax.w32) (Syntax.tcons (Syntax.tyArray (Syntax.tyInt Syntax.w32) 64) Syntax.tnil)))))))) (List._∷_ (2, Rows.sslice (Referent.rtF (Referent.fInt Syntax.w32)) (Syntax.tyRef (Syntax.named 0) Syntax.imm (Syntax.tyInt Syntax.w32)) 0) (List._∷_ (3, Rows.sslice (Referent.rtF (Referent.fInt Syntax.w32)) (Syntax.tyRef (Syntax.named 1) Syntax.imm (Syntax.tyInt Syntax.w32)) 1) (List._∷_ (4, Mut.mslice (Referent.rtF (Referent.fInt Syntax.w32)) (Syntax.tyRef (Syntax.named 2) Syntax.mut (Syntax.tyInt Syntax.w32)) 2) (List._∷_ (5, Rows.sslice Cell.R (Syntax.tyRef (Syntax.named 3) Syntax.imm Cell.behind) 3) (List._∷_ (6, Rows.sslice Cell.R (Syntax.tyRef (Syntax.named 4) Syntax.imm Cell.behind) 4) (List._∷_ (7, Rows.sc-here (Row.sInt Syntax.w64)) (List._∷_ (8, Rows.sc-here (Row.sInt Syntax.w64)) (List._∷_ (9, Rows.any-gone (Syntax.tyEnum (List._∷_ 100 (List._∷_ 97 (List._∷_ 114 (List._∷_ 116 (List._∷_ 115 (List._∷_ 58 (List._∷_ 58 (List._∷_ 65 (List._∷_ 110 (List._∷_ 115 (List._∷_ 119 (List._∷_ 101 (List._∷_ 114 List.[]))))))))))))) (Syntax.ttcons (Syntax.tcons (Syntax.tyInt Syntax.w64) Syntax.tnil) (Syntax.ttcons Syntax.tnil (Syntax.ttcons (Syntax.tcons (Syntax.tyInt Syntax.w64) Syntax.tnil) (Syntax.ttcons (Syntax.tcons (Syntax.tyInt Syntax.w64) (Syntax.tcons (Syntax.tyInt Syntax.w64) Syntax.tnil)) (Syntax.ttcons Syntax.tnil (Syntax.ttcons Syntax.tnil (Syntax.ttcons Syntax.tnil (Syntax.ttcons (Syntax.tcons (Syntax.tyInt Syntax.w64) Syntax.tnil) (Syntax.ttcons (Syntax.tcons (Syntax.tyInt Syntax.w64) Syntax.tnil) (Syntax.ttcons (Syntax.tcons (Syntax.tyInt Syntax.w64) Syntax.tnil) (Syntax.ttcons (Syntax.tcons (Syntax.tyInt Syntax.w64) Syntax.tnil) (Syntax.ttcons (Syntax.tcons (Syntax.tyInt Syntax.w64) Syntax.tnil) (Syntax.ttcons (Syntax.tcons (Syntax.tyInt Syntax.w64) Syntax.tnil) (Syntax.ttcons (Syntax.tcons (Syntax.tyInt Syntax.w64) Syntax.tnil) (Syntax.ttcons Syntax.tnil (Syntax.ttcons Syntax.tnil (Syntax.ttcons (Syntax.tcons (Syntax.tyInt Syntax.w64) Syntax.tnil) Syntax.ttnil))))))))))))))))))) (List._∷_ (10, Rows.any-gone (Syntax.tyRef Syntax.erased Syntax.mut (Syntax.tyInt Syntax.w32))) (List._∷_ (11, Rows.any-gone (Syntax.tyStruct (List._∷_ 38 (List._∷_ 91 (List._∷_ 93 List.[]))) (Syntax.tcons (Syntax.tyRef Syntax.erased Syntax.mut (Syntax.tyInt Syntax.w32)) (Syntax.tcons (Syntax.tyInt Syntax.w64) Syntax.tnil)))) (List._∷_ (12, Rows.any-gone (Syntax.tyInt Syntax.w32)) (List._∷_ (13, Rows.any-gone Syntax.tyBool) (List._∷_ (14, Rows.any-gone Syntax.tyBool) (List._∷_ (15, Rows.any-gone (Syntax.tyRef Syntax.erased Syntax.imm (Syntax.tyInt Syntax.w32))) List.[])))))))))))))))
+t15 = List._∷_ (0, Rows.any-gone (Syntax.tyEnum (List._∷_ 100 (List._∷_ 97 (List._∷_ 114 (List._∷_ 116 (List._∷_ 115 (List._∷_ 58 (List._∷_ 58 (List._∷_ 65 (List._∷_ 110 (List._∷_ 115 (List._∷_ 119 (List._∷_ 101 (List._∷_ 114 List.[]))))))))))))) (Syntax.ttcons (Syntax.tcons (Syntax.tyInt Syntax.w64) Syntax.tnil) (Syntax.ttcons Syntax.tnil (Syntax.ttcons (Syntax.tcons (Syntax.tyInt Syntax.w64) Syntax.tnil) (Syntax.ttcons (Syntax.tcons (Syntax.tyInt Syntax.w64) (Syntax.tcons (Syntax.tyInt Syntax.w64) Syntax.tnil)) (Syntax.ttcons Syntax.tnil (Syntax.ttcons Syntax.tnil (Syntax.ttcons Syntax.tnil (Syntax.ttcons (Syntax.tcons (Syntax.tyInt Syntax.w64) Syntax.tnil) (Syntax.ttcons (Syntax.tcons (Syntax.tyInt Syntax.w64) Syntax.tnil) (Syntax.ttcons (Syntax.tcons (Syntax.tyInt Syntax.w64) Syntax.tnil) (Syntax.ttcons (Syntax.tcons (Syntax.tyInt Syntax.w64) Syntax.tnil) (Syntax.ttcons (Syntax.tcons (Syntax.tyInt Syntax.w64) Syntax.tnil) (Syntax.ttcons (Syntax.tcons (Syntax.tyInt Syntax.w64) Syntax.tnil) (Syntax.ttcons (Syntax.tcons (Syntax.tyInt Syntax.w64) Syntax.tnil) (Syntax.ttcons Syntax.tnil (Syntax.ttcons Syntax.tnil (Syntax.ttcons (Syntax.tcons (Syntax.tyInt Syntax.w64) Syntax.tnil) Syntax.ttnil))))))))))))))))))) (List._∷_ (1, Rows.whole (Declared'.row State.the-type)) (List._∷_ (2, Rows.sslice (Referent.rtF (Referent.fInt Syntax.w32)) (Syntax.tyRef (Syntax.named 0) Syntax.imm (Syntax.tyInt Syntax.w32)) 0) (List._∷_ (3, Rows.sslice (Referent.rtF (Referent.fInt Syntax.w32)) (Syntax.tyRef (Syntax.named 1) Syntax.imm (Syntax.tyInt Syntax.w32)) 1) (List._∷_ (4, Mut.mslice (Referent.rtF (Referent.fInt Syntax.w32)) (Syntax.tyRef (Syntax.named 2) Syntax.mut (Syntax.tyInt Syntax.w32)) 2) (List._∷_ (5, Rows.sslice Cell.R (Syntax.tyRef (Syntax.named 3) Syntax.imm Cell.behind) 3) (List._∷_ (6, Rows.sslice Cell.R (Syntax.tyRef (Syntax.named 4) Syntax.imm Cell.behind) 4) (List._∷_ (7, Rows.sc-here (Row.sInt Syntax.w64)) (List._∷_ (8, Rows.sc-here (Row.sInt Syntax.w64)) (List._∷_ (9, Rows.whole (Declared.row Answer.the-type)) (List._∷_ (10, Rows.sc-here Row.sBool) (List._∷_ (11, Rows.any-gone (Syntax.tyRef Syntax.erased Syntax.mut (Syntax.tyInt Syntax.w32))) (List._∷_ (12, Rows.any-gone (Syntax.tyStruct (List._∷_ 38 (List._∷_ 91 (List._∷_ 93 List.[]))) (Syntax.tcons (Syntax.tyRef Syntax.erased Syntax.mut (Syntax.tyInt Syntax.w32)) (Syntax.tcons (Syntax.tyInt Syntax.w64) Syntax.tnil)))) (List._∷_ (13, Rows.any-gone (Syntax.tyRef Syntax.erased Syntax.mut (Syntax.tyInt Syntax.w32))) (List._∷_ (14, Rows.any-gone (Syntax.tyStruct (List._∷_ 38 (List._∷_ 91 (List._∷_ 93 List.[]))) (Syntax.tcons (Syntax.tyRef Syntax.erased Syntax.mut (Syntax.tyInt Syntax.w32)) (Syntax.tcons (Syntax.tyInt Syntax.w64) Syntax.tnil)))) (List._∷_ (15, Rows.sc-here (Row.sInt Syntax.w32)) List.[])))))))))))))))
 
 abbrev pub t16 : List.List Row.Entry
-t16 = List._∷_ (0, Rows.whole (Declared.row Answer.the-type)) (List._∷_ (1, Rows.any-gone (Syntax.tyStruct (List._∷_ 112 (List._∷_ 121 (List._∷_ 114 (List._∷_ 97 (List._∷_ 109 (List._∷_ 105 (List._∷_ 100 (List._∷_ 58 (List._∷_ 58 (List._∷_ 83 (List._∷_ 116 (List._∷_ 97 (List._∷_ 116 (List._∷_ 101 List.[])))))))))))))) (Syntax.tcons (Syntax.tyInt Syntax.w32) (Syntax.tcons (Syntax.tyInt Syntax.w32) (Syntax.tcons (Syntax.tyInt Syntax.w32) (Syntax.tcons (Syntax.tyInt Syntax.w32) (Syntax.tcons (Syntax.tyInt Syntax.w32) (Syntax.tcons (Syntax.tyArray (Syntax.tyInt Syntax.w32) 64) Syntax.tnil)))))))) (List._∷_ (2, Rows.sslice (Referent.rtF (Referent.fInt Syntax.w32)) (Syntax.tyRef (Syntax.named 0) Syntax.imm (Syntax.tyInt Syntax.w32)) 0) (List._∷_ (3, Rows.sslice (Referent.rtF (Referent.fInt Syntax.w32)) (Syntax.tyRef (Syntax.named 1) Syntax.imm (Syntax.tyInt Syntax.w32)) 1) (List._∷_ (4, Mut.mslice (Referent.rtF (Referent.fInt Syntax.w32)) (Syntax.tyRef (Syntax.named 2) Syntax.mut (Syntax.tyInt Syntax.w32)) 2) (List._∷_ (5, Rows.sslice Cell.R (Syntax.tyRef (Syntax.named 3) Syntax.imm Cell.behind) 3) (List._∷_ (6, Rows.sslice Cell.R (Syntax.tyRef (Syntax.named 4) Syntax.imm Cell.behind) 4) (List._∷_ (7, Rows.any-gone (Syntax.tyInt Syntax.w64)) (List._∷_ (8, Rows.sc-here (Row.sInt Syntax.w64)) (List._∷_ (9, Rows.any-gone (Syntax.tyEnum (List._∷_ 100 (List._∷_ 97 (List._∷_ 114 (List._∷_ 116 (List._∷_ 115 (List._∷_ 58 (List._∷_ 58 (List._∷_ 65 (List._∷_ 110 (List._∷_ 115 (List._∷_ 119 (List._∷_ 101 (List._∷_ 114 List.[]))))))))))))) (Syntax.ttcons (Syntax.tcons (Syntax.tyInt Syntax.w64) Syntax.tnil) (Syntax.ttcons Syntax.tnil (Syntax.ttcons (Syntax.tcons (Syntax.tyInt Syntax.w64) Syntax.tnil) (Syntax.ttcons (Syntax.tcons (Syntax.tyInt Syntax.w64) (Syntax.tcons (Syntax.tyInt Syntax.w64) Syntax.tnil)) (Syntax.ttcons Syntax.tnil (Syntax.ttcons Syntax.tnil (Syntax.ttcons Syntax.tnil (Syntax.ttcons (Syntax.tcons (Syntax.tyInt Syntax.w64) Syntax.tnil) (Syntax.ttcons (Syntax.tcons (Syntax.tyInt Syntax.w64) Syntax.tnil) (Syntax.ttcons (Syntax.tcons (Syntax.tyInt Syntax.w64) Syntax.tnil) (Syntax.ttcons (Syntax.tcons (Syntax.tyInt Syntax.w64) Syntax.tnil) (Syntax.ttcons (Syntax.tcons (Syntax.tyInt Syntax.w64) Syntax.tnil) (Syntax.ttcons (Syntax.tcons (Syntax.tyInt Syntax.w64) Syntax.tnil) (Syntax.ttcons (Syntax.tcons (Syntax.tyInt Syntax.w64) Syntax.tnil) (Syntax.ttcons Syntax.tnil (Syntax.ttcons Syntax.tnil (Syntax.ttcons (Syntax.tcons (Syntax.tyInt Syntax.w64) Syntax.tnil) Syntax.ttnil))))))))))))))))))) (List._∷_ (10, Rows.any-gone (Syntax.tyRef Syntax.erased Syntax.mut (Syntax.tyInt Syntax.w32))) (List._∷_ (11, Rows.any-gone (Syntax.tyStruct (List._∷_ 38 (List._∷_ 91 (List._∷_ 93 List.[]))) (Syntax.tcons (Syntax.tyRef Syntax.erased Syntax.mut (Syntax.tyInt Syntax.w32)) (Syntax.tcons (Syntax.tyInt Syntax.w64) Syntax.tnil)))) (List._∷_ (12, Rows.any-gone (Syntax.tyInt Syntax.w32)) (List._∷_ (13, Rows.any-gone Syntax.tyBool) (List._∷_ (14, Rows.any-gone Syntax.tyBool) (List._∷_ (15, Rows.any-gone (Syntax.tyRef Syntax.erased Syntax.imm (Syntax.tyInt Syntax.w32))) List.[])))))))))))))))
+t16 = List._∷_ (0, Rows.any-gone (Syntax.tyEnum (List._∷_ 100 (List._∷_ 97 (List._∷_ 114 (List._∷_ 116 (List._∷_ 115 (List._∷_ 58 (List._∷_ 58 (List._∷_ 65 (List._∷_ 110 (List._∷_ 115 (List._∷_ 119 (List._∷_ 101 (List._∷_ 114 List.[]))))))))))))) (Syntax.ttcons (Syntax.tcons (Syntax.tyInt Syntax.w64) Syntax.tnil) (Syntax.ttcons Syntax.tnil (Syntax.ttcons (Syntax.tcons (Syntax.tyInt Syntax.w64) Syntax.tnil) (Syntax.ttcons (Syntax.tcons (Syntax.tyInt Syntax.w64) (Syntax.tcons (Syntax.tyInt Syntax.w64) Syntax.tnil)) (Syntax.ttcons Syntax.tnil (Syntax.ttcons Syntax.tnil (Syntax.ttcons Syntax.tnil (Syntax.ttcons (Syntax.tcons (Syntax.tyInt Syntax.w64) Syntax.tnil) (Syntax.ttcons (Syntax.tcons (Syntax.tyInt Syntax.w64) Syntax.tnil) (Syntax.ttcons (Syntax.tcons (Syntax.tyInt Syntax.w64) Syntax.tnil) (Syntax.ttcons (Syntax.tcons (Syntax.tyInt Syntax.w64) Syntax.tnil) (Syntax.ttcons (Syntax.tcons (Syntax.tyInt Syntax.w64) Syntax.tnil) (Syntax.ttcons (Syntax.tcons (Syntax.tyInt Syntax.w64) Syntax.tnil) (Syntax.ttcons (Syntax.tcons (Syntax.tyInt Syntax.w64) Syntax.tnil) (Syntax.ttcons Syntax.tnil (Syntax.ttcons Syntax.tnil (Syntax.ttcons (Syntax.tcons (Syntax.tyInt Syntax.w64) Syntax.tnil) Syntax.ttnil))))))))))))))))))) (List._∷_ (1, Rows.whole (Declared'.row State.the-type)) (List._∷_ (2, Rows.sslice (Referent.rtF (Referent.fInt Syntax.w32)) (Syntax.tyRef (Syntax.named 0) Syntax.imm (Syntax.tyInt Syntax.w32)) 0) (List._∷_ (3, Rows.sslice (Referent.rtF (Referent.fInt Syntax.w32)) (Syntax.tyRef (Syntax.named 1) Syntax.imm (Syntax.tyInt Syntax.w32)) 1) (List._∷_ (4, Mut.mslice (Referent.rtF (Referent.fInt Syntax.w32)) (Syntax.tyRef (Syntax.named 2) Syntax.mut (Syntax.tyInt Syntax.w32)) 2) (List._∷_ (5, Rows.sslice Cell.R (Syntax.tyRef (Syntax.named 3) Syntax.imm Cell.behind) 3) (List._∷_ (6, Rows.sslice Cell.R (Syntax.tyRef (Syntax.named 4) Syntax.imm Cell.behind) 4) (List._∷_ (7, Rows.sc-here (Row.sInt Syntax.w64)) (List._∷_ (8, Rows.sc-here (Row.sInt Syntax.w64)) (List._∷_ (9, Rows.whole (Declared.row Answer.the-type)) (List._∷_ (10, Rows.sc-here Row.sBool) (List._∷_ (11, Rows.any-gone (Syntax.tyRef Syntax.erased Syntax.mut (Syntax.tyInt Syntax.w32))) (List._∷_ (12, Rows.any-gone (Syntax.tyStruct (List._∷_ 38 (List._∷_ 91 (List._∷_ 93 List.[]))) (Syntax.tcons (Syntax.tyRef Syntax.erased Syntax.mut (Syntax.tyInt Syntax.w32)) (Syntax.tcons (Syntax.tyInt Syntax.w64) Syntax.tnil)))) (List._∷_ (13, Rows.any-gone (Syntax.tyRef Syntax.erased Syntax.mut (Syntax.tyInt Syntax.w32))) (List._∷_ (14, Rows.any-gone (Syntax.tyStruct (List._∷_ 38 (List._∷_ 91 (List._∷_ 93 List.[]))) (Syntax.tcons (Syntax.tyRef Syntax.erased Syntax.mut (Syntax.tyInt Syntax.w32)) (Syntax.tcons (Syntax.tyInt Syntax.w64) Syntax.tnil)))) (List._∷_ (15, Rows.any-gone (Syntax.tyInt Syntax.w32)) List.[])))))))))))))))
 
 abbrev pub t17 : List.List Row.Entry
-t17 = List._∷_ (0, Rows.any-gone (Syntax.tyEnum (List._∷_ 100 (List._∷_ 97 (List._∷_ 114 (List._∷_ 116 (List._∷_ 115 (List._∷_ 58 (List._∷_ 58 (List._∷_ 65 (List._∷_ 110 (List._∷_ 115 (List._∷_ 119 (List._∷_ 101 (List._∷_ 114 List.[]))))))))))))) (Syntax.ttcons (Syntax.tcons (Syntax.tyInt Syntax.w64) Syntax.tnil) (Syntax.ttcons Syntax.tnil (Syntax.ttcons (Syntax.tcons (Syntax.tyInt Syntax.w64) Syntax.tnil) (Syntax.ttcons (Syntax.tcons (Syntax.tyInt Syntax.w64) (Syntax.tcons (Syntax.tyInt Syntax.w64) Syntax.tnil)) (Syntax.ttcons Syntax.tnil (Syntax.ttcons Syntax.tnil (Syntax.ttcons Syntax.tnil (Syntax.ttcons (Syntax.tcons (Syntax.tyInt Syntax.w64) Syntax.tnil) (Syntax.ttcons (Syntax.tcons (Syntax.tyInt Syntax.w64) Syntax.tnil) (Syntax.ttcons (Syntax.tcons (Syntax.tyInt Syntax.w64) Syntax.tnil) (Syntax.ttcons (Syntax.tcons (Syntax.tyInt Syntax.w64) Syntax.tnil) (Syntax.ttcons (Syntax.tcons (Syntax.tyInt Syntax.w64) Syntax.tnil) (Syntax.ttcons (Syntax.tcons (Syntax.tyInt Syntax.w64) Syntax.tnil) (Syntax.ttcons (Syntax.tcons (Syntax.tyInt Syntax.w64) Syntax.tnil) (Syntax.ttcons Syntax.tnil (Syntax.ttcons Syntax.tnil (Syntax.ttcons (Syntax.tcons (Syntax.tyInt Syntax.w64) Syntax.tnil) Syntax.ttnil))))))))))))))))))) (List._∷_ (1, Rows.whole (Declared'.row State.the-type)) (List._∷_ (2, Rows.sslice (Referent.rtF (Referent.fInt Syntax.w32)) (Syntax.tyRef (Syntax.named 0) Syntax.imm (Syntax.tyInt Syntax.w32)) 0) (List._∷_ (3, Rows.sslice (Referent.rtF (Referent.fInt Syntax.w32)) (Syntax.tyRef (Syntax.named 1) Syntax.imm (Syntax.tyInt Syntax.w32)) 1) (List._∷_ (4, Mut.mslice (Referent.rtF (Referent.fInt Syntax.w32)) (Syntax.tyRef (Syntax.named 2) Syntax.mut (Syntax.tyInt Syntax.w32)) 2) (List._∷_ (5, Rows.sslice Cell.R (Syntax.tyRef (Syntax.named 3) Syntax.imm Cell.behind) 3) (List._∷_ (6, Rows.sslice Cell.R (Syntax.tyRef (Syntax.named 4) Syntax.imm Cell.behind) 4) (List._∷_ (7, Rows.sc-here (Row.sInt Syntax.w64)) (List._∷_ (8, Rows.sc-here (Row.sInt Syntax.w64)) (List._∷_ (9, Rows.any-gone (Syntax.tyEnum (List._∷_ 100 (List._∷_ 97 (List._∷_ 114 (List._∷_ 116 (List._∷_ 115 (List._∷_ 58 (List._∷_ 58 (List._∷_ 65 (List._∷_ 110 (List._∷_ 115 (List._∷_ 119 (List._∷_ 101 (List._∷_ 114 List.[]))))))))))))) (Syntax.ttcons (Syntax.tcons (Syntax.tyInt Syntax.w64) Syntax.tnil) (Syntax.ttcons Syntax.tnil (Syntax.ttcons (Syntax.tcons (Syntax.tyInt Syntax.w64) Syntax.tnil) (Syntax.ttcons (Syntax.tcons (Syntax.tyInt Syntax.w64) (Syntax.tcons (Syntax.tyInt Syntax.w64) Syntax.tnil)) (Syntax.ttcons Syntax.tnil (Syntax.ttcons Syntax.tnil (Syntax.ttcons Syntax.tnil (Syntax.ttcons (Syntax.tcons (Syntax.tyInt Syntax.w64) Syntax.tnil) (Syntax.ttcons (Syntax.tcons (Syntax.tyInt Syntax.w64) Syntax.tnil) (Syntax.ttcons (Syntax.tcons (Syntax.tyInt Syntax.w64) Syntax.tnil) (Syntax.ttcons (Syntax.tcons (Syntax.tyInt Syntax.w64) Syntax.tnil) (Syntax.ttcons (Syntax.tcons (Syntax.tyInt Syntax.w64) Syntax.tnil) (Syntax.ttcons (Syntax.tcons (Syntax.tyInt Syntax.w64) Syntax.tnil) (Syntax.ttcons (Syntax.tcons (Syntax.tyInt Syntax.w64) Syntax.tnil) (Syntax.ttcons Syntax.tnil (Syntax.ttcons Syntax.tnil (Syntax.ttcons (Syntax.tcons (Syntax.tyInt Syntax.w64) Syntax.tnil) Syntax.ttnil))))))))))))))))))) (List._∷_ (10, Rows.any-gone (Syntax.tyRef Syntax.erased Syntax.mut (Syntax.tyInt Syntax.w32))) (List._∷_ (11, Rows.any-gone (Syntax.tyStruct (List._∷_ 38 (List._∷_ 91 (List._∷_ 93 List.[]))) (Syntax.tcons (Syntax.tyRef Syntax.erased Syntax.mut (Syntax.tyInt Syntax.w32)) (Syntax.tcons (Syntax.tyInt Syntax.w64) Syntax.tnil)))) (List._∷_ (12, Rows.any-gone (Syntax.tyInt Syntax.w32)) (List._∷_ (13, Rows.sc-here Row.sBool) (List._∷_ (14, Rows.any-gone Syntax.tyBool) (List._∷_ (15, Rows.any-gone (Syntax.tyRef Syntax.erased Syntax.imm (Syntax.tyInt Syntax.w32))) List.[])))))))))))))))
+t17 = List._∷_ (0, Rows.any-gone (Syntax.tyEnum (List._∷_ 100 (List._∷_ 97 (List._∷_ 114 (List._∷_ 116 (List._∷_ 115 (List._∷_ 58 (List._∷_ 58 (List._∷_ 65 (List._∷_ 110 (List._∷_ 115 (List._∷_ 119 (List._∷_ 101 (List._∷_ 114 List.[]))))))))))))) (Syntax.ttcons (Syntax.tcons (Syntax.tyInt Syntax.w64) Syntax.tnil) (Syntax.ttcons Syntax.tnil (Syntax.ttcons (Syntax.tcons (Syntax.tyInt Syntax.w64) Syntax.tnil) (Syntax.ttcons (Syntax.tcons (Syntax.tyInt Syntax.w64) (Syntax.tcons (Syntax.tyInt Syntax.w64) Syntax.tnil)) (Syntax.ttcons Syntax.tnil (Syntax.ttcons Syntax.tnil (Syntax.ttcons Syntax.tnil (Syntax.ttcons (Syntax.tcons (Syntax.tyInt Syntax.w64) Syntax.tnil) (Syntax.ttcons (Syntax.tcons (Syntax.tyInt Syntax.w64) Syntax.tnil) (Syntax.ttcons (Syntax.tcons (Syntax.tyInt Syntax.w64) Syntax.tnil) (Syntax.ttcons (Syntax.tcons (Syntax.tyInt Syntax.w64) Syntax.tnil) (Syntax.ttcons (Syntax.tcons (Syntax.tyInt Syntax.w64) Syntax.tnil) (Syntax.ttcons (Syntax.tcons (Syntax.tyInt Syntax.w64) Syntax.tnil) (Syntax.ttcons (Syntax.tcons (Syntax.tyInt Syntax.w64) Syntax.tnil) (Syntax.ttcons Syntax.tnil (Syntax.ttcons Syntax.tnil (Syntax.ttcons (Syntax.tcons (Syntax.tyInt Syntax.w64) Syntax.tnil) Syntax.ttnil))))))))))))))))))) (List._∷_ (1, Rows.any-gone (Syntax.tyStruct (List._∷_ 112 (List._∷_ 121 (List._∷_ 114 (List._∷_ 97 (List._∷_ 109 (List._∷_ 105 (List._∷_ 100 (List._∷_ 58 (List._∷_ 58 (List._∷_ 83 (List._∷_ 116 (List._∷_ 97 (List._∷_ 116 (List._∷_ 101 List.[])))))))))))))) (Syntax.tcons (Syntax.tyInt Syntax.w32) (Syntax.tcons (Syntax.tyInt Syntax.w32) (Syntax.tcons (Syntax.tyInt Syntax.w32) (Syntax.tcons (Syntax.tyInt Syntax.w32) (Syntax.tcons (Syntax.tyInt Syntax.w32) (Syntax.tcons (Syntax.tyArray (Syntax.tyInt Syntax.w32) 64) Syntax.tnil)))))))) (List._∷_ (2, Rows.sslice (Referent.rtF (Referent.fInt Syntax.w32)) (Syntax.tyRef (Syntax.named 0) Syntax.imm (Syntax.tyInt Syntax.w32)) 0) (List._∷_ (3, Rows.sslice (Referent.rtF (Referent.fInt Syntax.w32)) (Syntax.tyRef (Syntax.named 1) Syntax.imm (Syntax.tyInt Syntax.w32)) 1) (List._∷_ (4, Mut.mslice (Referent.rtF (Referent.fInt Syntax.w32)) (Syntax.tyRef (Syntax.named 2) Syntax.mut (Syntax.tyInt Syntax.w32)) 2) (List._∷_ (5, Rows.sslice Cell.R (Syntax.tyRef (Syntax.named 3) Syntax.imm Cell.behind) 3) (List._∷_ (6, Rows.sslice Cell.R (Syntax.tyRef (Syntax.named 4) Syntax.imm Cell.behind) 4) (List._∷_ (7, Rows.sc-here (Row.sInt Syntax.w64)) (List._∷_ (8, Rows.sc-here (Row.sInt Syntax.w64)) (List._∷_ (9, Rows.whole (Declared.row Answer.the-type)) (List._∷_ (10, Rows.sc-here Row.sBool) (List._∷_ (11, Rows.any-gone (Syntax.tyRef Syntax.erased Syntax.mut (Syntax.tyInt Syntax.w32))) (List._∷_ (12, Rows.any-gone (Syntax.tyStruct (List._∷_ 38 (List._∷_ 91 (List._∷_ 93 List.[]))) (Syntax.tcons (Syntax.tyRef Syntax.erased Syntax.mut (Syntax.tyInt Syntax.w32)) (Syntax.tcons (Syntax.tyInt Syntax.w64) Syntax.tnil)))) (List._∷_ (13, Rows.any-gone (Syntax.tyRef Syntax.erased Syntax.mut (Syntax.tyInt Syntax.w32))) (List._∷_ (14, Rows.any-gone (Syntax.tyStruct (List._∷_ 38 (List._∷_ 91 (List._∷_ 93 List.[]))) (Syntax.tcons (Syntax.tyRef Syntax.erased Syntax.mut (Syntax.tyInt Syntax.w32)) (Syntax.tcons (Syntax.tyInt Syntax.w64) Syntax.tnil)))) (List._∷_ (15, Rows.any-gone (Syntax.tyInt Syntax.w32)) List.[])))))))))))))))
 
 abbrev pub t18 : List.List Row.Entry
-t18 = List._∷_ (0, Rows.any-gone (Syntax.tyEnum (List._∷_ 100 (List._∷_ 97 (List._∷_ 114 (List._∷_ 116 (List._∷_ 115 (List._∷_ 58 (List._∷_ 58 (List._∷_ 65 (List._∷_ 110 (List._∷_ 115 (List._∷_ 119 (List._∷_ 101 (List._∷_ 114 List.[]))))))))))))) (Syntax.ttcons (Syntax.tcons (Syntax.tyInt Syntax.w64) Syntax.tnil) (Syntax.ttcons Syntax.tnil (Syntax.ttcons (Syntax.tcons (Syntax.tyInt Syntax.w64) Syntax.tnil) (Syntax.ttcons (Syntax.tcons (Syntax.tyInt Syntax.w64) (Syntax.tcons (Syntax.tyInt Syntax.w64) Syntax.tnil)) (Syntax.ttcons Syntax.tnil (Syntax.ttcons Syntax.tnil (Syntax.ttcons Syntax.tnil (Syntax.ttcons (Syntax.tcons (Syntax.tyInt Syntax.w64) Syntax.tnil) (Syntax.ttcons (Syntax.tcons (Syntax.tyInt Syntax.w64) Syntax.tnil) (Syntax.ttcons (Syntax.tcons (Syntax.tyInt Syntax.w64) Syntax.tnil) (Syntax.ttcons (Syntax.tcons (Syntax.tyInt Syntax.w64) Syntax.tnil) (Syntax.ttcons (Syntax.tcons (Syntax.tyInt Syntax.w64) Syntax.tnil) (Syntax.ttcons (Syntax.tcons (Syntax.tyInt Syntax.w64) Syntax.tnil) (Syntax.ttcons (Syntax.tcons (Syntax.tyInt Syntax.w64) Syntax.tnil) (Syntax.ttcons Syntax.tnil (Syntax.ttcons Syntax.tnil (Syntax.ttcons (Syntax.tcons (Syntax.tyInt Syntax.w64) Syntax.tnil) Syntax.ttnil))))))))))))))))))) (List._∷_ (1, Rows.whole (Declared'.row State.the-type)) (List._∷_ (2, Rows.sslice (Referent.rtF (Referent.fInt Syntax.w32)) (Syntax.tyRef (Syntax.named 0) Syntax.imm (Syntax.tyInt Syntax.w32)) 0) (List._∷_ (3, Rows.sslice (Referent.rtF (Referent.fInt Syntax.w32)) (Syntax.tyRef (Syntax.named 1) Syntax.imm (Syntax.tyInt Syntax.w32)) 1) (List._∷_ (4, Reshare.mslice-owedS (Referent.rtF (Referent.fInt Syntax.w32)) (Syntax.tyRef (Syntax.named 2) Syntax.mut (Syntax.tyInt Syntax.w32)) 2 6 Row.off) (List._∷_ (5, Rows.sslice Cell.R (Syntax.tyRef (Syntax.named 3) Syntax.imm Cell.behind) 3) (List._∷_ (6, Rows.sslice Cell.R (Syntax.tyRef (Syntax.named 4) Syntax.imm Cell.behind) 4) (List._∷_ (7, Rows.sc-here (Row.sInt Syntax.w64)) (List._∷_ (8, Rows.sc-here (Row.sInt Syntax.w64)) (List._∷_ (9, Rows.any-gone (Syntax.tyEnum (List._∷_ 100 (List._∷_ 97 (List._∷_ 114 (List._∷_ 116 (List._∷_ 115 (List._∷_ 58 (List._∷_ 58 (List._∷_ 65 (List._∷_ 110 (List._∷_ 115 (List._∷_ 119 (List._∷_ 101 (List._∷_ 114 List.[]))))))))))))) (Syntax.ttcons (Syntax.tcons (Syntax.tyInt Syntax.w64) Syntax.tnil) (Syntax.ttcons Syntax.tnil (Syntax.ttcons (Syntax.tcons (Syntax.tyInt Syntax.w64) Syntax.tnil) (Syntax.ttcons (Syntax.tcons (Syntax.tyInt Syntax.w64) (Syntax.tcons (Syntax.tyInt Syntax.w64) Syntax.tnil)) (Syntax.ttcons Syntax.tnil (Syntax.ttcons Syntax.tnil (Syntax.ttcons Syntax.tnil (Syntax.ttcons (Syntax.tcons (Syntax.tyInt Syntax.w64) Syntax.tnil) (Syntax.ttcons (Syntax.tcons (Syntax.tyInt Syntax.w64) Syntax.tnil) (Syntax.ttcons (Syntax.tcons (Syntax.tyInt Syntax.w64) Syntax.tnil) (Syntax.ttcons (Syntax.tcons (Syntax.tyInt Syntax.w64) Syntax.tnil) (Syntax.ttcons (Syntax.tcons (Syntax.tyInt Syntax.w64) Syntax.tnil) (Syntax.ttcons (Syntax.tcons (Syntax.tyInt Syntax.w64) Syntax.tnil) (Syntax.ttcons (Syntax.tcons (Syntax.tyInt Syntax.w64) Syntax.tnil) (Syntax.ttcons Syntax.tnil (Syntax.ttcons Syntax.tnil (Syntax.ttcons (Syntax.tcons (Syntax.tyInt Syntax.w64) Syntax.tnil) Syntax.ttnil))))))))))))))))))) (List._∷_ (10, Rows.any-gone (Syntax.tyRef Syntax.erased Syntax.mut (Syntax.tyInt Syntax.w32))) (List._∷_ (11, Rows.any-gone (Syntax.tyStruct (List._∷_ 38 (List._∷_ 91 (List._∷_ 93 List.[]))) (Syntax.tcons (Syntax.tyRef Syntax.erased Syntax.mut (Syntax.tyInt Syntax.w32)) (Syntax.tcons (Syntax.tyInt Syntax.w64) Syntax.tnil)))) (List._∷_ (12, Rows.any-gone (Syntax.tyInt Syntax.w32)) (List._∷_ (13, Rows.any-gone Syntax.tyBool) (List._∷_ (14, Rows.any-gone Syntax.tyBool) (List._∷_ (15, Relend.ssptr (Referent.rtF (Referent.fInt Syntax.w32)) (Syntax.tyRef Syntax.erased Syntax.imm (Syntax.tyInt Syntax.w32)) 6) List.[])))))))))))))))
+t18 = List._∷_ (0, Rows.any-gone (Syntax.tyEnum (List._∷_ 100 (List._∷_ 97 (List._∷_ 114 (List._∷_ 116 (List._∷_ 115 (List._∷_ 58 (List._∷_ 58 (List._∷_ 65 (List._∷_ 110 (List._∷_ 115 (List._∷_ 119 (List._∷_ 101 (List._∷_ 114 List.[]))))))))))))) (Syntax.ttcons (Syntax.tcons (Syntax.tyInt Syntax.w64) Syntax.tnil) (Syntax.ttcons Syntax.tnil (Syntax.ttcons (Syntax.tcons (Syntax.tyInt Syntax.w64) Syntax.tnil) (Syntax.ttcons (Syntax.tcons (Syntax.tyInt Syntax.w64) (Syntax.tcons (Syntax.tyInt Syntax.w64) Syntax.tnil)) (Syntax.ttcons Syntax.tnil (Syntax.ttcons Syntax.tnil (Syntax.ttcons Syntax.tnil (Syntax.ttcons (Syntax.tcons (Syntax.tyInt Syntax.w64) Syntax.tnil) (Syntax.ttcons (Syntax.tcons (Syntax.tyInt Syntax.w64) Syntax.tnil) (Syntax.ttcons (Syntax.tcons (Syntax.tyInt Syntax.w64) Syntax.tnil) (Syntax.ttcons (Syntax.tcons (Syntax.tyInt Syntax.w64) Syntax.tnil) (Syntax.ttcons (Syntax.tcons (Syntax.tyInt Syntax.w64) Syntax.tnil) (Syntax.ttcons (Syntax.tcons (Syntax.tyInt Syntax.w64) Syntax.tnil) (Syntax.ttcons (Syntax.tcons (Syntax.tyInt Syntax.w64) Syntax.tnil) (Syntax.ttcons Syntax.tnil (Syntax.ttcons Syntax.tnil (Syntax.ttcons (Syntax.tcons (Syntax.tyInt Syntax.w64) Syntax.tnil) Syntax.ttnil))))))))))))))))))) (List._∷_ (1, Rows.any-gone (Syntax.tyStruct (List._∷_ 112 (List._∷_ 121 (List._∷_ 114 (List._∷_ 97 (List._∷_ 109 (List._∷_ 105 (List._∷_ 100 (List._∷_ 58 (List._∷_ 58 (List._∷_ 83 (List._∷_ 116 (List._∷_ 97 (List._∷_ 116 (List._∷_ 101 List.[])))))))))))))) (Syntax.tcons (Syntax.tyInt Syntax.w32) (Syntax.tcons (Syntax.tyInt Syntax.w32) (Syntax.tcons (Syntax.tyInt Syntax.w32) (Syntax.tcons (Syntax.tyInt Syntax.w32) (Syntax.tcons (Syntax.tyInt Syntax.w32) (Syntax.tcons (Syntax.tyArray (Syntax.tyInt Syntax.w32) 64) Syntax.tnil)))))))) (List._∷_ (2, Rows.sslice (Referent.rtF (Referent.fInt Syntax.w32)) (Syntax.tyRef (Syntax.named 0) Syntax.imm (Syntax.tyInt Syntax.w32)) 0) (List._∷_ (3, Rows.sslice (Referent.rtF (Referent.fInt Syntax.w32)) (Syntax.tyRef (Syntax.named 1) Syntax.imm (Syntax.tyInt Syntax.w32)) 1) (List._∷_ (4, Mut.mslice (Referent.rtF (Referent.fInt Syntax.w32)) (Syntax.tyRef (Syntax.named 2) Syntax.mut (Syntax.tyInt Syntax.w32)) 2) (List._∷_ (5, Rows.sslice Cell.R (Syntax.tyRef (Syntax.named 3) Syntax.imm Cell.behind) 3) (List._∷_ (6, Rows.sslice Cell.R (Syntax.tyRef (Syntax.named 4) Syntax.imm Cell.behind) 4) (List._∷_ (7, Rows.sc-here (Row.sInt Syntax.w64)) (List._∷_ (8, Rows.sc-here (Row.sInt Syntax.w64)) (List._∷_ (9, Rows.whole (Declared.row Answer.the-type)) (List._∷_ (10, Rows.any-gone Syntax.tyBool) (List._∷_ (11, Rows.any-gone (Syntax.tyRef Syntax.erased Syntax.mut (Syntax.tyInt Syntax.w32))) (List._∷_ (12, Rows.any-gone (Syntax.tyStruct (List._∷_ 38 (List._∷_ 91 (List._∷_ 93 List.[]))) (Syntax.tcons (Syntax.tyRef Syntax.erased Syntax.mut (Syntax.tyInt Syntax.w32)) (Syntax.tcons (Syntax.tyInt Syntax.w64) Syntax.tnil)))) (List._∷_ (13, Rows.any-gone (Syntax.tyRef Syntax.erased Syntax.mut (Syntax.tyInt Syntax.w32))) (List._∷_ (14, Rows.any-gone (Syntax.tyStruct (List._∷_ 38 (List._∷_ 91 (List._∷_ 93 List.[]))) (Syntax.tcons (Syntax.tyRef Syntax.erased Syntax.mut (Syntax.tyInt Syntax.w32)) (Syntax.tcons (Syntax.tyInt Syntax.w64) Syntax.tnil)))) (List._∷_ (15, Rows.any-gone (Syntax.tyInt Syntax.w32)) List.[])))))))))))))))
 
 abbrev pub t19 : List.List Row.Entry
-t19 = List._∷_ (0, Rows.any-gone (Syntax.tyEnum (List._∷_ 100 (List._∷_ 97 (List._∷_ 114 (List._∷_ 116 (List._∷_ 115 (List._∷_ 58 (List._∷_ 58 (List._∷_ 65 (List._∷_ 110 (List._∷_ 115 (List._∷_ 119 (List._∷_ 101 (List._∷_ 114 List.[]))))))))))))) (Syntax.ttcons (Syntax.tcons (Syntax.tyInt Syntax.w64) Syntax.tnil) (Syntax.ttcons Syntax.tnil (Syntax.ttcons (Syntax.tcons (Syntax.tyInt Syntax.w64) Syntax.tnil) (Syntax.ttcons (Syntax.tcons (Syntax.tyInt Syntax.w64) (Syntax.tcons (Syntax.tyInt Syntax.w64) Syntax.tnil)) (Syntax.ttcons Syntax.tnil (Syntax.ttcons Syntax.tnil (Syntax.ttcons Syntax.tnil (Syntax.ttcons (Syntax.tcons (Syntax.tyInt Syntax.w64) Syntax.tnil) (Syntax.ttcons (Syntax.tcons (Syntax.tyInt Syntax.w64) Syntax.tnil) (Syntax.ttcons (Syntax.tcons (Syntax.tyInt Syntax.w64) Syntax.tnil) (Syntax.ttcons (Syntax.tcons (Syntax.tyInt Syntax.w64) Syntax.tnil) (Syntax.ttcons (Syntax.tcons (Syntax.tyInt Syntax.w64) Syntax.tnil) (Syntax.ttcons (Syntax.tcons (Syntax.tyInt Syntax.w64) Syntax.tnil) (Syntax.ttcons (Syntax.tcons (Syntax.tyInt Syntax.w64) Syntax.tnil) (Syntax.ttcons Syntax.tnil (Syntax.ttcons Syntax.tnil (Syntax.ttcons (Syntax.tcons (Syntax.tyInt Syntax.w64) Syntax.tnil) Syntax.ttnil))))))))))))))))))) (List._∷_ (1, Rows.whole (Declared'.row State.the-type)) (List._∷_ (2, Rows.sslice (Referent.rtF (Referent.fInt Syntax.w32)) (Syntax.tyRef (Syntax.named 0) Syntax.imm (Syntax.tyInt Syntax.w32)) 0) (List._∷_ (3, Rows.sslice (Referent.rtF (Referent.fInt Syntax.w32)) (Syntax.tyRef (Syntax.named 1) Syntax.imm (Syntax.tyInt Syntax.w32)) 1) (List._∷_ (4, Reshare.mslice-owedS (Referent.rtF (Referent.fInt Syntax.w32)) (Syntax.tyRef (Syntax.named 2) Syntax.mut (Syntax.tyInt Syntax.w32)) 2 6 Row.off) (List._∷_ (5, Rows.sslice Cell.R (Syntax.tyRef (Syntax.named 3) Syntax.imm Cell.behind) 3) (List._∷_ (6, Rows.sslice Cell.R (Syntax.tyRef (Syntax.named 4) Syntax.imm Cell.behind) 4) (List._∷_ (7, Rows.sc-here (Row.sInt Syntax.w64)) (List._∷_ (8, Rows.sc-here (Row.sInt Syntax.w64)) (List._∷_ (9, Rows.any-gone (Syntax.tyEnum (List._∷_ 100 (List._∷_ 97 (List._∷_ 114 (List._∷_ 116 (List._∷_ 115 (List._∷_ 58 (List._∷_ 58 (List._∷_ 65 (List._∷_ 110 (List._∷_ 115 (List._∷_ 119 (List._∷_ 101 (List._∷_ 114 List.[]))))))))))))) (Syntax.ttcons (Syntax.tcons (Syntax.tyInt Syntax.w64) Syntax.tnil) (Syntax.ttcons Syntax.tnil (Syntax.ttcons (Syntax.tcons (Syntax.tyInt Syntax.w64) Syntax.tnil) (Syntax.ttcons (Syntax.tcons (Syntax.tyInt Syntax.w64) (Syntax.tcons (Syntax.tyInt Syntax.w64) Syntax.tnil)) (Syntax.ttcons Syntax.tnil (Syntax.ttcons Syntax.tnil (Syntax.ttcons Syntax.tnil (Syntax.ttcons (Syntax.tcons (Syntax.tyInt Syntax.w64) Syntax.tnil) (Syntax.ttcons (Syntax.tcons (Syntax.tyInt Syntax.w64) Syntax.tnil) (Syntax.ttcons (Syntax.tcons (Syntax.tyInt Syntax.w64) Syntax.tnil) (Syntax.ttcons (Syntax.tcons (Syntax.tyInt Syntax.w64) Syntax.tnil) (Syntax.ttcons (Syntax.tcons (Syntax.tyInt Syntax.w64) Syntax.tnil) (Syntax.ttcons (Syntax.tcons (Syntax.tyInt Syntax.w64) Syntax.tnil) (Syntax.ttcons (Syntax.tcons (Syntax.tyInt Syntax.w64) Syntax.tnil) (Syntax.ttcons Syntax.tnil (Syntax.ttcons Syntax.tnil (Syntax.ttcons (Syntax.tcons (Syntax.tyInt Syntax.w64) Syntax.tnil) Syntax.ttnil))))))))))))))))))) (List._∷_ (10, Rows.any-gone (Syntax.tyRef Syntax.erased Syntax.mut (Syntax.tyInt Syntax.w32))) (List._∷_ (11, Rows.any-gone (Syntax.tyStruct (List._∷_ 38 (List._∷_ 91 (List._∷_ 93 List.[]))) (Syntax.tcons (Syntax.tyRef Syntax.erased Syntax.mut (Syntax.tyInt Syntax.w32)) (Syntax.tcons (Syntax.tyInt Syntax.w64) Syntax.tnil)))) (List._∷_ (12, Rows.any-gone (Syntax.tyInt Syntax.w32)) (List._∷_ (13, Rows.any-gone Syntax.tyBool) (List._∷_ (14, Rows.any-gone Syntax.tyBool) (List._∷_ (15, Rows.any-gone (Syntax.tyRef Syntax.erased Syntax.imm (Syntax.tyInt Syntax.w32))) List.[])))))))))))))))
+t19 = List._∷_ (0, Rows.whole (Declared.row Answer.the-type)) (List._∷_ (1, Rows.any-gone (Syntax.tyStruct (List._∷_ 112 (List._∷_ 121 (List._∷_ 114 (List._∷_ 97 (List._∷_ 109 (List._∷_ 105 (List._∷_ 100 (List._∷_ 58 (List._∷_ 58 (List._∷_ 83 (List._∷_ 116 (List._∷_ 97 (List._∷_ 116 (List._∷_ 101 List.[])))))))))))))) (Syntax.tcons (Syntax.tyInt Syntax.w32) (Syntax.tcons (Syntax.tyInt Syntax.w32) (Syntax.tcons (Syntax.tyInt Syntax.w32) (Syntax.tcons (Syntax.tyInt Syntax.w32) (Syntax.tcons (Syntax.tyInt Syntax.w32) (Syntax.tcons (Syntax.tyArray (Syntax.tyInt Syntax.w32) 64) Syntax.tnil)))))))) (List._∷_ (2, Rows.sslice (Referent.rtF (Referent.fInt Syntax.w32)) (Syntax.tyRef (Syntax.named 0) Syntax.imm (Syntax.tyInt Syntax.w32)) 0) (List._∷_ (3, Rows.sslice (Referent.rtF (Referent.fInt Syntax.w32)) (Syntax.tyRef (Syntax.named 1) Syntax.imm (Syntax.tyInt Syntax.w32)) 1) (List._∷_ (4, Mut.mslice (Referent.rtF (Referent.fInt Syntax.w32)) (Syntax.tyRef (Syntax.named 2) Syntax.mut (Syntax.tyInt Syntax.w32)) 2) (List._∷_ (5, Rows.sslice Cell.R (Syntax.tyRef (Syntax.named 3) Syntax.imm Cell.behind) 3) (List._∷_ (6, Rows.sslice Cell.R (Syntax.tyRef (Syntax.named 4) Syntax.imm Cell.behind) 4) (List._∷_ (7, Rows.sc-here (Row.sInt Syntax.w64)) (List._∷_ (8, Rows.sc-here (Row.sInt Syntax.w64)) (List._∷_ (9, Rows.whole (Declared.row Answer.the-type)) (List._∷_ (10, Rows.any-gone Syntax.tyBool) (List._∷_ (11, Rows.any-gone (Syntax.tyRef Syntax.erased Syntax.mut (Syntax.tyInt Syntax.w32))) (List._∷_ (12, Rows.any-gone (Syntax.tyStruct (List._∷_ 38 (List._∷_ 91 (List._∷_ 93 List.[]))) (Syntax.tcons (Syntax.tyRef Syntax.erased Syntax.mut (Syntax.tyInt Syntax.w32)) (Syntax.tcons (Syntax.tyInt Syntax.w64) Syntax.tnil)))) (List._∷_ (13, Rows.any-gone (Syntax.tyRef Syntax.erased Syntax.mut (Syntax.tyInt Syntax.w32))) (List._∷_ (14, Rows.any-gone (Syntax.tyStruct (List._∷_ 38 (List._∷_ 91 (List._∷_ 93 List.[]))) (Syntax.tcons (Syntax.tyRef Syntax.erased Syntax.mut (Syntax.tyInt Syntax.w32)) (Syntax.tcons (Syntax.tyInt Syntax.w64) Syntax.tnil)))) (List._∷_ (15, Rows.any-gone (Syntax.tyInt Syntax.w32)) List.[])))))))))))))))
 
 abbrev pub t20 : List.List Row.Entry
-t20 = List._∷_ (16, Rows.sslice (Referent.rtF (Referent.fInt Syntax.w32)) (Syntax.tyRef Syntax.erased Syntax.imm (Syntax.tyInt Syntax.w32)) 6) (List._∷_ (17, Rows.any-gone (Syntax.tyInt Syntax.w64)) (List._∷_ (18, Rows.any-gone (Syntax.tyInt Syntax.w64)) (List._∷_ (19, Rows.any-gone (Syntax.tyRef Syntax.erased Syntax.mut (Syntax.tyInt Syntax.w32))) (List._∷_ (20, Rows.any-gone (Syntax.tyStruct (List._∷_ 38 (List._∷_ 91 (List._∷_ 93 List.[]))) (Syntax.tcons (Syntax.tyRef Syntax.erased Syntax.mut (Syntax.tyInt Syntax.w32)) (Syntax.tcons (Syntax.tyInt Syntax.w64) Syntax.tnil)))) (List._∷_ (21, Rows.any-gone (Syntax.tyRef Syntax.erased Syntax.mut (Syntax.tyInt Syntax.w32))) (List._∷_ (22, Rows.any-gone (Syntax.tyStruct (List._∷_ 38 (List._∷_ 91 (List._∷_ 93 List.[]))) (Syntax.tcons (Syntax.tyRef Syntax.erased Syntax.mut (Syntax.tyInt Syntax.w32)) (Syntax.tcons (Syntax.tyInt Syntax.w64) Syntax.tnil)))) List.[]))))))
+t20 = List._∷_ (0, Rows.whole (Declared.row Answer.the-type)) (List._∷_ (1, Rows.any-gone (Syntax.tyStruct (List._∷_ 112 (List._∷_ 121 (List._∷_ 114 (List._∷_ 97 (List._∷_ 109 (List._∷_ 105 (List._∷_ 100 (List._∷_ 58 (List._∷_ 58 (List._∷_ 83 (List._∷_ 116 (List._∷_ 97 (List._∷_ 116 (List._∷_ 101 List.[])))))))))))))) (Syntax.tcons (Syntax.tyInt Syntax.w32) (Syntax.tcons (Syntax.tyInt Syntax.w32) (Syntax.tcons (Syntax.tyInt Syntax.w32) (Syntax.tcons (Syntax.tyInt Syntax.w32) (Syntax.tcons (Syntax.tyInt Syntax.w32) (Syntax.tcons (Syntax.tyArray (Syntax.tyInt Syntax.w32) 64) Syntax.tnil)))))))) (List._∷_ (2, Rows.sslice (Referent.rtF (Referent.fInt Syntax.w32)) (Syntax.tyRef (Syntax.named 0) Syntax.imm (Syntax.tyInt Syntax.w32)) 0) (List._∷_ (3, Rows.sslice (Referent.rtF (Referent.fInt Syntax.w32)) (Syntax.tyRef (Syntax.named 1) Syntax.imm (Syntax.tyInt Syntax.w32)) 1) (List._∷_ (4, Mut.mslice (Referent.rtF (Referent.fInt Syntax.w32)) (Syntax.tyRef (Syntax.named 2) Syntax.mut (Syntax.tyInt Syntax.w32)) 2) (List._∷_ (5, Rows.sslice Cell.R (Syntax.tyRef (Syntax.named 3) Syntax.imm Cell.behind) 3) (List._∷_ (6, Rows.sslice Cell.R (Syntax.tyRef (Syntax.named 4) Syntax.imm Cell.behind) 4) (List._∷_ (7, Rows.sc-here (Row.sInt Syntax.w64)) (List._∷_ (8, Rows.sc-here (Row.sInt Syntax.w64)) (List._∷_ (9, Rows.any-gone (Syntax.tyEnum (List._∷_ 100 (List._∷_ 97 (List._∷_ 114 (List._∷_ 116 (List._∷_ 115 (List._∷_ 58 (List._∷_ 58 (List._∷_ 65 (List._∷_ 110 (List._∷_ 115 (List._∷_ 119 (List._∷_ 101 (List._∷_ 114 List.[]))))))))))))) (Syntax.ttcons (Syntax.tcons (Syntax.tyInt Syntax.w64) Syntax.tnil) (Syntax.ttcons Syntax.tnil (Syntax.ttcons (Syntax.tcons (Syntax.tyInt Syntax.w64) Syntax.tnil) (Syntax.ttcons (Syntax.tcons (Syntax.tyInt Syntax.w64) (Syntax.tcons (Syntax.tyInt Syntax.w64) Syntax.tnil)) (Syntax.ttcons Syntax.tnil (Syntax.ttcons Syntax.tnil (Syntax.ttcons Syntax.tnil (Syntax.ttcons (Syntax.tcons (Syntax.tyInt Syntax.w64) Syntax.tnil) (Syntax.ttcons (Syntax.tcons (Syntax.tyInt Syntax.w64) Syntax.tnil) (Syntax.ttcons (Syntax.tcons (Syntax.tyInt Syntax.w64) Syntax.tnil) (Syntax.ttcons (Syntax.tcons (Syntax.tyInt Syntax.w64) Syntax.tnil) (Syntax.ttcons (Syntax.tcons (Syntax.tyInt Syntax.w64) Syntax.tnil) (Syntax.ttcons (Syntax.tcons (Syntax.tyInt Syntax.w64) Syntax.tnil) (Syntax.ttcons (Syntax.tcons (Syntax.tyInt Syntax.w64) Syntax.tnil) (Syntax.ttcons Syntax.tnil (Syntax.ttcons Syntax.tnil (Syntax.ttcons (Syntax.tcons (Syntax.tyInt Syntax.w64) Syntax.tnil) Syntax.ttnil))))))))))))))))))) (List._∷_ (10, Rows.any-gone Syntax.tyBool) (List._∷_ (11, Rows.any-gone (Syntax.tyRef Syntax.erased Syntax.mut (Syntax.tyInt Syntax.w32))) (List._∷_ (12, Rows.any-gone (Syntax.tyStruct (List._∷_ 38 (List._∷_ 91 (List._∷_ 93 List.[]))) (Syntax.tcons (Syntax.tyRef Syntax.erased Syntax.mut (Syntax.tyInt Syntax.w32)) (Syntax.tcons (Syntax.tyInt Syntax.w64) Syntax.tnil)))) (List._∷_ (13, Rows.any-gone (Syntax.tyRef Syntax.erased Syntax.mut (Syntax.tyInt Syntax.w32))) (List._∷_ (14, Rows.any-gone (Syntax.tyStruct (List._∷_ 38 (List._∷_ 91 (List._∷_ 93 List.[]))) (Syntax.tcons (Syntax.tyRef Syntax.erased Syntax.mut (Syntax.tyInt Syntax.w32)) (Syntax.tcons (Syntax.tyInt Syntax.w64) Syntax.tnil)))) (List._∷_ (15, Rows.any-gone (Syntax.tyInt Syntax.w32)) List.[])))))))))))))))
 
 abbrev pub t21 : List.List Row.Entry
-t21 = List._∷_ (16, Rows.sslice (Referent.rtF (Referent.fInt Syntax.w32)) (Syntax.tyRef Syntax.erased Syntax.imm (Syntax.tyInt Syntax.w32)) 6) (List._∷_ (17, Rows.sc-here (Row.sInt Syntax.w64)) (List._∷_ (18, Rows.any-gone (Syntax.tyInt Syntax.w64)) (List._∷_ (19, Rows.any-gone (Syntax.tyRef Syntax.erased Syntax.mut (Syntax.tyInt Syntax.w32))) (List._∷_ (20, Rows.any-gone (Syntax.tyStruct (List._∷_ 38 (List._∷_ 91 (List._∷_ 93 List.[]))) (Syntax.tcons (Syntax.tyRef Syntax.erased Syntax.mut (Syntax.tyInt Syntax.w32)) (Syntax.tcons (Syntax.tyInt Syntax.w64) Syntax.tnil)))) (List._∷_ (21, Rows.any-gone (Syntax.tyRef Syntax.erased Syntax.mut (Syntax.tyInt Syntax.w32))) (List._∷_ (22, Rows.any-gone (Syntax.tyStruct (List._∷_ 38 (List._∷_ 91 (List._∷_ 93 List.[]))) (Syntax.tcons (Syntax.tyRef Syntax.erased Syntax.mut (Syntax.tyInt Syntax.w32)) (Syntax.tcons (Syntax.tyInt Syntax.w64) Syntax.tnil)))) List.[]))))))
+t21 = List._∷_ (0, Rows.whole (Declared.row Answer.the-type)) (List._∷_ (1, Rows.any-gone (Syntax.tyStruct (List._∷_ 112 (List._∷_ 121 (List._∷_ 114 (List._∷_ 97 (List._∷_ 109 (List._∷_ 105 (List._∷_ 100 (List._∷_ 58 (List._∷_ 58 (List._∷_ 83 (List._∷_ 116 (List._∷_ 97 (List._∷_ 116 (List._∷_ 101 List.[])))))))))))))) (Syntax.tcons (Syntax.tyInt Syntax.w32) (Syntax.tcons (Syntax.tyInt Syntax.w32) (Syntax.tcons (Syntax.tyInt Syntax.w32) (Syntax.tcons (Syntax.tyInt Syntax.w32) (Syntax.tcons (Syntax.tyInt Syntax.w32) (Syntax.tcons (Syntax.tyArray (Syntax.tyInt Syntax.w32) 64) Syntax.tnil)))))))) (List._∷_ (2, Rows.sslice (Referent.rtF (Referent.fInt Syntax.w32)) (Syntax.tyRef (Syntax.named 0) Syntax.imm (Syntax.tyInt Syntax.w32)) 0) (List._∷_ (3, Rows.sslice (Referent.rtF (Referent.fInt Syntax.w32)) (Syntax.tyRef (Syntax.named 1) Syntax.imm (Syntax.tyInt Syntax.w32)) 1) (List._∷_ (4, Mut.mslice (Referent.rtF (Referent.fInt Syntax.w32)) (Syntax.tyRef (Syntax.named 2) Syntax.mut (Syntax.tyInt Syntax.w32)) 2) (List._∷_ (5, Rows.sslice Cell.R (Syntax.tyRef (Syntax.named 3) Syntax.imm Cell.behind) 3) (List._∷_ (6, Rows.sslice Cell.R (Syntax.tyRef (Syntax.named 4) Syntax.imm Cell.behind) 4) (List._∷_ (7, Rows.any-gone (Syntax.tyInt Syntax.w64)) (List._∷_ (8, Rows.sc-here (Row.sInt Syntax.w64)) (List._∷_ (9, Rows.any-gone (Syntax.tyEnum (List._∷_ 100 (List._∷_ 97 (List._∷_ 114 (List._∷_ 116 (List._∷_ 115 (List._∷_ 58 (List._∷_ 58 (List._∷_ 65 (List._∷_ 110 (List._∷_ 115 (List._∷_ 119 (List._∷_ 101 (List._∷_ 114 List.[]))))))))))))) (Syntax.ttcons (Syntax.tcons (Syntax.tyInt Syntax.w64) Syntax.tnil) (Syntax.ttcons Syntax.tnil (Syntax.ttcons (Syntax.tcons (Syntax.tyInt Syntax.w64) Syntax.tnil) (Syntax.ttcons (Syntax.tcons (Syntax.tyInt Syntax.w64) (Syntax.tcons (Syntax.tyInt Syntax.w64) Syntax.tnil)) (Syntax.ttcons Syntax.tnil (Syntax.ttcons Syntax.tnil (Syntax.ttcons Syntax.tnil (Syntax.ttcons (Syntax.tcons (Syntax.tyInt Syntax.w64) Syntax.tnil) (Syntax.ttcons (Syntax.tcons (Syntax.tyInt Syntax.w64) Syntax.tnil) (Syntax.ttcons (Syntax.tcons (Syntax.tyInt Syntax.w64) Syntax.tnil) (Syntax.ttcons (Syntax.tcons (Syntax.tyInt Syntax.w64) Syntax.tnil) (Syntax.ttcons (Syntax.tcons (Syntax.tyInt Syntax.w64) Syntax.tnil) (Syntax.ttcons (Syntax.tcons (Syntax.tyInt Syntax.w64) Syntax.tnil) (Syntax.ttcons (Syntax.tcons (Syntax.tyInt Syntax.w64) Syntax.tnil) (Syntax.ttcons Syntax.tnil (Syntax.ttcons Syntax.tnil (Syntax.ttcons (Syntax.tcons (Syntax.tyInt Syntax.w64) Syntax.tnil) Syntax.ttnil))))))))))))))))))) (List._∷_ (10, Rows.any-gone Syntax.tyBool) (List._∷_ (11, Rows.any-gone (Syntax.tyRef Syntax.erased Syntax.mut (Syntax.tyInt Syntax.w32))) (List._∷_ (12, Rows.any-gone (Syntax.tyStruct (List._∷_ 38 (List._∷_ 91 (List._∷_ 93 List.[]))) (Syntax.tcons (Syntax.tyRef Syntax.erased Syntax.mut (Syntax.tyInt Syntax.w32)) (Syntax.tcons (Syntax.tyInt Syntax.w64) Syntax.tnil)))) (List._∷_ (13, Rows.any-gone (Syntax.tyRef Syntax.erased Syntax.mut (Syntax.tyInt Syntax.w32))) (List._∷_ (14, Rows.any-gone (Syntax.tyStruct (List._∷_ 38 (List._∷_ 91 (List._∷_ 93 List.[]))) (Syntax.tcons (Syntax.tyRef Syntax.erased Syntax.mut (Syntax.tyInt Syntax.w32)) (Syntax.tcons (Syntax.tyInt Syntax.w64) Syntax.tnil)))) (List._∷_ (15, Rows.any-gone (Syntax.tyInt Syntax.w32)) List.[])))))))))))))))
 
 abbrev pub t22 : List.List Row.Entry
-t22 = List._∷_ (16, Rows.sslice (Referent.rtF (Referent.fInt Syntax.w32)) (Syntax.tyRef Syntax.erased Syntax.imm (Syntax.tyInt Syntax.w32)) 6) (List._∷_ (17, Rows.sc-here (Row.sInt Syntax.w64)) (List._∷_ (18, Rows.sc-here (Row.sInt Syntax.w64)) (List._∷_ (19, Rows.any-gone (Syntax.tyRef Syntax.erased Syntax.mut (Syntax.tyInt Syntax.w32))) (List._∷_ (20, Rows.any-gone (Syntax.tyStruct (List._∷_ 38 (List._∷_ 91 (List._∷_ 93 List.[]))) (Syntax.tcons (Syntax.tyRef Syntax.erased Syntax.mut (Syntax.tyInt Syntax.w32)) (Syntax.tcons (Syntax.tyInt Syntax.w64) Syntax.tnil)))) (List._∷_ (21, Rows.any-gone (Syntax.tyRef Syntax.erased Syntax.mut (Syntax.tyInt Syntax.w32))) (List._∷_ (22, Rows.any-gone (Syntax.tyStruct (List._∷_ 38 (List._∷_ 91 (List._∷_ 93 List.[]))) (Syntax.tcons (Syntax.tyRef Syntax.erased Syntax.mut (Syntax.tyInt Syntax.w32)) (Syntax.tcons (Syntax.tyInt Syntax.w64) Syntax.tnil)))) List.[]))))))
+t22 = List._∷_ (0, Rows.any-gone (Syntax.tyEnum (List._∷_ 100 (List._∷_ 97 (List._∷_ 114 (List._∷_ 116 (List._∷_ 115 (List._∷_ 58 (List._∷_ 58 (List._∷_ 65 (List._∷_ 110 (List._∷_ 115 (List._∷_ 119 (List._∷_ 101 (List._∷_ 114 List.[]))))))))))))) (Syntax.ttcons (Syntax.tcons (Syntax.tyInt Syntax.w64) Syntax.tnil) (Syntax.ttcons Syntax.tnil (Syntax.ttcons (Syntax.tcons (Syntax.tyInt Syntax.w64) Syntax.tnil) (Syntax.ttcons (Syntax.tcons (Syntax.tyInt Syntax.w64) (Syntax.tcons (Syntax.tyInt Syntax.w64) Syntax.tnil)) (Syntax.ttcons Syntax.tnil (Syntax.ttcons Syntax.tnil (Syntax.ttcons Syntax.tnil (Syntax.ttcons (Syntax.tcons (Syntax.tyInt Syntax.w64) Syntax.tnil) (Syntax.ttcons (Syntax.tcons (Syntax.tyInt Syntax.w64) Syntax.tnil) (Syntax.ttcons (Syntax.tcons (Syntax.tyInt Syntax.w64) Syntax.tnil) (Syntax.ttcons (Syntax.tcons (Syntax.tyInt Syntax.w64) Syntax.tnil) (Syntax.ttcons (Syntax.tcons (Syntax.tyInt Syntax.w64) Syntax.tnil) (Syntax.ttcons (Syntax.tcons (Syntax.tyInt Syntax.w64) Syntax.tnil) (Syntax.ttcons (Syntax.tcons (Syntax.tyInt Syntax.w64) Syntax.tnil) (Syntax.ttcons Syntax.tnil (Syntax.ttcons Syntax.tnil (Syntax.ttcons (Syntax.tcons (Syntax.tyInt Syntax.w64) Syntax.tnil) Syntax.ttnil))))))))))))))))))) (List._∷_ (1, Rows.whole (Declared'.row State.the-type)) (List._∷_ (2, Rows.sslice (Referent.rtF (Referent.fInt Syntax.w32)) (Syntax.tyRef (Syntax.named 0) Syntax.imm (Syntax.tyInt Syntax.w32)) 0) (List._∷_ (3, Rows.sslice (Referent.rtF (Referent.fInt Syntax.w32)) (Syntax.tyRef (Syntax.named 1) Syntax.imm (Syntax.tyInt Syntax.w32)) 1) (List._∷_ (4, Mut.mslice (Referent.rtF (Referent.fInt Syntax.w32)) (Syntax.tyRef (Syntax.named 2) Syntax.mut (Syntax.tyInt Syntax.w32)) 2) (List._∷_ (5, Rows.sslice Cell.R (Syntax.tyRef (Syntax.named 3) Syntax.imm Cell.behind) 3) (List._∷_ (6, Rows.sslice Cell.R (Syntax.tyRef (Syntax.named 4) Syntax.imm Cell.behind) 4) (List._∷_ (7, Rows.sc-here (Row.sInt Syntax.w64)) (List._∷_ (8, Rows.sc-here (Row.sInt Syntax.w64)) (List._∷_ (9, Rows.any-gone (Syntax.tyEnum (List._∷_ 100 (List._∷_ 97 (List._∷_ 114 (List._∷_ 116 (List._∷_ 115 (List._∷_ 58 (List._∷_ 58 (List._∷_ 65 (List._∷_ 110 (List._∷_ 115 (List._∷_ 119 (List._∷_ 101 (List._∷_ 114 List.[]))))))))))))) (Syntax.ttcons (Syntax.tcons (Syntax.tyInt Syntax.w64) Syntax.tnil) (Syntax.ttcons Syntax.tnil (Syntax.ttcons (Syntax.tcons (Syntax.tyInt Syntax.w64) Syntax.tnil) (Syntax.ttcons (Syntax.tcons (Syntax.tyInt Syntax.w64) (Syntax.tcons (Syntax.tyInt Syntax.w64) Syntax.tnil)) (Syntax.ttcons Syntax.tnil (Syntax.ttcons Syntax.tnil (Syntax.ttcons Syntax.tnil (Syntax.ttcons (Syntax.tcons (Syntax.tyInt Syntax.w64) Syntax.tnil) (Syntax.ttcons (Syntax.tcons (Syntax.tyInt Syntax.w64) Syntax.tnil) (Syntax.ttcons (Syntax.tcons (Syntax.tyInt Syntax.w64) Syntax.tnil) (Syntax.ttcons (Syntax.tcons (Syntax.tyInt Syntax.w64) Syntax.tnil) (Syntax.ttcons (Syntax.tcons (Syntax.tyInt Syntax.w64) Syntax.tnil) (Syntax.ttcons (Syntax.tcons (Syntax.tyInt Syntax.w64) Syntax.tnil) (Syntax.ttcons (Syntax.tcons (Syntax.tyInt Syntax.w64) Syntax.tnil) (Syntax.ttcons Syntax.tnil (Syntax.ttcons Syntax.tnil (Syntax.ttcons (Syntax.tcons (Syntax.tyInt Syntax.w64) Syntax.tnil) Syntax.ttnil))))))))))))))))))) (List._∷_ (10, Rows.sc-here Row.sBool) (List._∷_ (11, Rows.any-gone (Syntax.tyRef Syntax.erased Syntax.mut (Syntax.tyInt Syntax.w32))) (List._∷_ (12, Rows.any-gone (Syntax.tyStruct (List._∷_ 38 (List._∷_ 91 (List._∷_ 93 List.[]))) (Syntax.tcons (Syntax.tyRef Syntax.erased Syntax.mut (Syntax.tyInt Syntax.w32)) (Syntax.tcons (Syntax.tyInt Syntax.w64) Syntax.tnil)))) (List._∷_ (13, Rows.any-gone (Syntax.tyRef Syntax.erased Syntax.mut (Syntax.tyInt Syntax.w32))) (List._∷_ (14, Rows.any-gone (Syntax.tyStruct (List._∷_ 38 (List._∷_ 91 (List._∷_ 93 List.[]))) (Syntax.tcons (Syntax.tyRef Syntax.erased Syntax.mut (Syntax.tyInt Syntax.w32)) (Syntax.tcons (Syntax.tyInt Syntax.w64) Syntax.tnil)))) (List._∷_ (15, Rows.any-gone (Syntax.tyInt Syntax.w32)) List.[])))))))))))))))
 
 abbrev pub t23 : List.List Row.Entry
-t23 = List._∷_ (0, Rows.any-gone (Syntax.tyEnum (List._∷_ 100 (List._∷_ 97 (List._∷_ 114 (List._∷_ 116 (List._∷_ 115 (List._∷_ 58 (List._∷_ 58 (List._∷_ 65 (List._∷_ 110 (List._∷_ 115 (List._∷_ 119 (List._∷_ 101 (List._∷_ 114 List.[]))))))))))))) (Syntax.ttcons (Syntax.tcons (Syntax.tyInt Syntax.w64) Syntax.tnil) (Syntax.ttcons Syntax.tnil (Syntax.ttcons (Syntax.tcons (Syntax.tyInt Syntax.w64) Syntax.tnil) (Syntax.ttcons (Syntax.tcons (Syntax.tyInt Syntax.w64) (Syntax.tcons (Syntax.tyInt Syntax.w64) Syntax.tnil)) (Syntax.ttcons Syntax.tnil (Syntax.ttcons Syntax.tnil (Syntax.ttcons Syntax.tnil (Syntax.ttcons (Syntax.tcons (Syntax.tyInt Syntax.w64) Syntax.tnil) (Syntax.ttcons (Syntax.tcons (Syntax.tyInt Syntax.w64) Syntax.tnil) (Syntax.ttcons (Syntax.tcons (Syntax.tyInt Syntax.w64) Syntax.tnil) (Syntax.ttcons (Syntax.tcons (Syntax.tyInt Syntax.w64) Syntax.tnil) (Syntax.ttcons (Syntax.tcons (Syntax.tyInt Syntax.w64) Syntax.tnil) (Syntax.ttcons (Syntax.tcons (Syntax.tyInt Syntax.w64) Syntax.tnil) (Syntax.ttcons (Syntax.tcons (Syntax.tyInt Syntax.w64) Syntax.tnil) (Syntax.ttcons Syntax.tnil (Syntax.ttcons Syntax.tnil (Syntax.ttcons (Syntax.tcons (Syntax.tyInt Syntax.w64) Syntax.tnil) Syntax.ttnil))))))))))))))))))) (List._∷_ (1, Rows.whole (Declared'.row State.the-type)) (List._∷_ (2, Rows.sslice (Referent.rtF (Referent.fInt Syntax.w32)) (Syntax.tyRef (Syntax.named 0) Syntax.imm (Syntax.tyInt Syntax.w32)) 0) (List._∷_ (3, Rows.sslice (Referent.rtF (Referent.fInt Syntax.w32)) (Syntax.tyRef (Syntax.named 1) Syntax.imm (Syntax.tyInt Syntax.w32)) 1) (List._∷_ (4, Reshare.mslice-owedS (Referent.rtF (Referent.fInt Syntax.w32)) (Syntax.tyRef (Syntax.named 2) Syntax.mut (Syntax.tyInt Syntax.w32)) 2 6 Row.off) (List._∷_ (5, Rows.sslice Cell.R (Syntax.tyRef (Syntax.named 3) Syntax.imm Cell.behind) 3) (List._∷_ (6, Rows.sslice Cell.R (Syntax.tyRef (Syntax.named 4) Syntax.imm Cell.behind) 4) (List._∷_ (7, Rows.sc-here (Row.sInt Syntax.w64)) (List._∷_ (8, Rows.sc-here (Row.sInt Syntax.w64)) (List._∷_ (9, Rows.any-gone (Syntax.tyEnum (List._∷_ 100 (List._∷_ 97 (List._∷_ 114 (List._∷_ 116 (List._∷_ 115 (List._∷_ 58 (List._∷_ 58 (List._∷_ 65 (List._∷_ 110 (List._∷_ 115 (List._∷_ 119 (List._∷_ 101 (List._∷_ 114 List.[]))))))))))))) (Syntax.ttcons (Syntax.tcons (Syntax.tyInt Syntax.w64) Syntax.tnil) (Syntax.ttcons Syntax.tnil (Syntax.ttcons (Syntax.tcons (Syntax.tyInt Syntax.w64) Syntax.tnil) (Syntax.ttcons (Syntax.tcons (Syntax.tyInt Syntax.w64) (Syntax.tcons (Syntax.tyInt Syntax.w64) Syntax.tnil)) (Syntax.ttcons Syntax.tnil (Syntax.ttcons Syntax.tnil (Syntax.ttcons Syntax.tnil (Syntax.ttcons (Syntax.tcons (Syntax.tyInt Syntax.w64) Syntax.tnil) (Syntax.ttcons (Syntax.tcons (Syntax.tyInt Syntax.w64) Syntax.tnil) (Syntax.ttcons (Syntax.tcons (Syntax.tyInt Syntax.w64) Syntax.tnil) (Syntax.ttcons (Syntax.tcons (Syntax.tyInt Syntax.w64) Syntax.tnil) (Syntax.ttcons (Syntax.tcons (Syntax.tyInt Syntax.w64) Syntax.tnil) (Syntax.ttcons (Syntax.tcons (Syntax.tyInt Syntax.w64) Syntax.tnil) (Syntax.ttcons (Syntax.tcons (Syntax.tyInt Syntax.w64) Syntax.tnil) (Syntax.ttcons Syntax.tnil (Syntax.ttcons Syntax.tnil (Syntax.ttcons (Syntax.tcons (Syntax.tyInt Syntax.w64) Syntax.tnil) Syntax.ttnil))))))))))))))))))) (List._∷_ (10, Rows.any-gone (Syntax.tyRef Syntax.erased Syntax.mut (Syntax.tyInt Syntax.w32))) (List._∷_ (11, Rows.any-gone (Syntax.tyStruct (List._∷_ 38 (List._∷_ 91 (List._∷_ 93 List.[]))) (Syntax.tcons (Syntax.tyRef Syntax.erased Syntax.mut (Syntax.tyInt Syntax.w32)) (Syntax.tcons (Syntax.tyInt Syntax.w64) Syntax.tnil)))) (List._∷_ (12, Rows.any-gone (Syntax.tyInt Syntax.w32)) (List._∷_ (13, Rows.any-gone Syntax.tyBool) (List._∷_ (14, Rows.sc-here Row.sBool) (List._∷_ (15, Rows.any-gone (Syntax.tyRef Syntax.erased Syntax.imm (Syntax.tyInt Syntax.w32))) List.[])))))))))))))))
+t23 = List._∷_ (0, Rows.any-gone (Syntax.tyEnum (List._∷_ 100 (List._∷_ 97 (List._∷_ 114 (List._∷_ 116 (List._∷_ 115 (List._∷_ 58 (List._∷_ 58 (List._∷_ 65 (List._∷_ 110 (List._∷_ 115 (List._∷_ 119 (List._∷_ 101 (List._∷_ 114 List.[]))))))))))))) (Syntax.ttcons (Syntax.tcons (Syntax.tyInt Syntax.w64) Syntax.tnil) (Syntax.ttcons Syntax.tnil (Syntax.ttcons (Syntax.tcons (Syntax.tyInt Syntax.w64) Syntax.tnil) (Syntax.ttcons (Syntax.tcons (Syntax.tyInt Syntax.w64) (Syntax.tcons (Syntax.tyInt Syntax.w64) Syntax.tnil)) (Syntax.ttcons Syntax.tnil (Syntax.ttcons Syntax.tnil (Syntax.ttcons Syntax.tnil (Syntax.ttcons (Syntax.tcons (Syntax.tyInt Syntax.w64) Syntax.tnil) (Syntax.ttcons (Syntax.tcons (Syntax.tyInt Syntax.w64) Syntax.tnil) (Syntax.ttcons (Syntax.tcons (Syntax.tyInt Syntax.w64) Syntax.tnil) (Syntax.ttcons (Syntax.tcons (Syntax.tyInt Syntax.w64) Syntax.tnil) (Syntax.ttcons (Syntax.tcons (Syntax.tyInt Syntax.w64) Syntax.tnil) (Syntax.ttcons (Syntax.tcons (Syntax.tyInt Syntax.w64) Syntax.tnil) (Syntax.ttcons (Syntax.tcons (Syntax.tyInt Syntax.w64) Syntax.tnil) (Syntax.ttcons Syntax.tnil (Syntax.ttcons Syntax.tnil (Syntax.ttcons (Syntax.tcons (Syntax.tyInt Syntax.w64) Syntax.tnil) Syntax.ttnil))))))))))))))))))) (List._∷_ (1, Rows.whole (Declared'.row State.the-type)) (List._∷_ (2, Rows.sslice (Referent.rtF (Referent.fInt Syntax.w32)) (Syntax.tyRef (Syntax.named 0) Syntax.imm (Syntax.tyInt Syntax.w32)) 0) (List._∷_ (3, Rows.sslice (Referent.rtF (Referent.fInt Syntax.w32)) (Syntax.tyRef (Syntax.named 1) Syntax.imm (Syntax.tyInt Syntax.w32)) 1) (List._∷_ (4, Reshare.mslice-owedS (Referent.rtF (Referent.fInt Syntax.w32)) (Syntax.tyRef (Syntax.named 2) Syntax.mut (Syntax.tyInt Syntax.w32)) 2 7 Row.off) (List._∷_ (5, Rows.sslice Cell.R (Syntax.tyRef (Syntax.named 3) Syntax.imm Cell.behind) 3) (List._∷_ (6, Rows.sslice Cell.R (Syntax.tyRef (Syntax.named 4) Syntax.imm Cell.behind) 4) (List._∷_ (7, Rows.sc-here (Row.sInt Syntax.w64)) (List._∷_ (8, Rows.sc-here (Row.sInt Syntax.w64)) (List._∷_ (9, Rows.any-gone (Syntax.tyEnum (List._∷_ 100 (List._∷_ 97 (List._∷_ 114 (List._∷_ 116 (List._∷_ 115 (List._∷_ 58 (List._∷_ 58 (List._∷_ 65 (List._∷_ 110 (List._∷_ 115 (List._∷_ 119 (List._∷_ 101 (List._∷_ 114 List.[]))))))))))))) (Syntax.ttcons (Syntax.tcons (Syntax.tyInt Syntax.w64) Syntax.tnil) (Syntax.ttcons Syntax.tnil (Syntax.ttcons (Syntax.tcons (Syntax.tyInt Syntax.w64) Syntax.tnil) (Syntax.ttcons (Syntax.tcons (Syntax.tyInt Syntax.w64) (Syntax.tcons (Syntax.tyInt Syntax.w64) Syntax.tnil)) (Syntax.ttcons Syntax.tnil (Syntax.ttcons Syntax.tnil (Syntax.ttcons Syntax.tnil (Syntax.ttcons (Syntax.tcons (Syntax.tyInt Syntax.w64) Syntax.tnil) (Syntax.ttcons (Syntax.tcons (Syntax.tyInt Syntax.w64) Syntax.tnil) (Syntax.ttcons (Syntax.tcons (Syntax.tyInt Syntax.w64) Syntax.tnil) (Syntax.ttcons (Syntax.tcons (Syntax.tyInt Syntax.w64) Syntax.tnil) (Syntax.ttcons (Syntax.tcons (Syntax.tyInt Syntax.w64) Syntax.tnil) (Syntax.ttcons (Syntax.tcons (Syntax.tyInt Syntax.w64) Syntax.tnil) (Syntax.ttcons (Syntax.tcons (Syntax.tyInt Syntax.w64) Syntax.tnil) (Syntax.ttcons Syntax.tnil (Syntax.ttcons Syntax.tnil (Syntax.ttcons (Syntax.tcons (Syntax.tyInt Syntax.w64) Syntax.tnil) Syntax.ttnil))))))))))))))))))) (List._∷_ (10, Rows.any-gone Syntax.tyBool) (List._∷_ (11, Rows.any-gone (Syntax.tyRef Syntax.erased Syntax.mut (Syntax.tyInt Syntax.w32))) (List._∷_ (12, Rows.any-gone (Syntax.tyStruct (List._∷_ 38 (List._∷_ 91 (List._∷_ 93 List.[]))) (Syntax.tcons (Syntax.tyRef Syntax.erased Syntax.mut (Syntax.tyInt Syntax.w32)) (Syntax.tcons (Syntax.tyInt Syntax.w64) Syntax.tnil)))) (List._∷_ (13, Rows.any-gone (Syntax.tyRef Syntax.erased Syntax.mut (Syntax.tyInt Syntax.w32))) (List._∷_ (14, Rows.any-gone (Syntax.tyStruct (List._∷_ 38 (List._∷_ 91 (List._∷_ 93 List.[]))) (Syntax.tcons (Syntax.tyRef Syntax.erased Syntax.mut (Syntax.tyInt Syntax.w32)) (Syntax.tcons (Syntax.tyInt Syntax.w64) Syntax.tnil)))) (List._∷_ (15, Rows.any-gone (Syntax.tyInt Syntax.w32)) List.[])))))))))))))))
 
 abbrev pub t24 : List.List Row.Entry
-t24 = List._∷_ (16, Rows.any-gone (Syntax.tyStruct (List._∷_ 38 (List._∷_ 91 (List._∷_ 93 List.[]))) (Syntax.tcons (Syntax.tyRef Syntax.erased Syntax.imm (Syntax.tyInt Syntax.w32)) (Syntax.tcons (Syntax.tyInt Syntax.w64) Syntax.tnil)))) (List._∷_ (17, Rows.sc-here (Row.sInt Syntax.w64)) (List._∷_ (18, Rows.sc-here (Row.sInt Syntax.w64)) (List._∷_ (19, Rows.any-gone (Syntax.tyRef Syntax.erased Syntax.mut (Syntax.tyInt Syntax.w32))) (List._∷_ (20, Rows.any-gone (Syntax.tyStruct (List._∷_ 38 (List._∷_ 91 (List._∷_ 93 List.[]))) (Syntax.tcons (Syntax.tyRef Syntax.erased Syntax.mut (Syntax.tyInt Syntax.w32)) (Syntax.tcons (Syntax.tyInt Syntax.w64) Syntax.tnil)))) (List._∷_ (21, Rows.any-gone (Syntax.tyRef Syntax.erased Syntax.mut (Syntax.tyInt Syntax.w32))) (List._∷_ (22, Rows.any-gone (Syntax.tyStruct (List._∷_ 38 (List._∷_ 91 (List._∷_ 93 List.[]))) (Syntax.tcons (Syntax.tyRef Syntax.erased Syntax.mut (Syntax.tyInt Syntax.w32)) (Syntax.tcons (Syntax.tyInt Syntax.w64) Syntax.tnil)))) List.[]))))))
+t24 = List._∷_ (16, Rows.any-gone Syntax.tyBool) (List._∷_ (17, Relend.ssptr (Referent.rtF (Referent.fInt Syntax.w32)) (Syntax.tyRef Syntax.erased Syntax.imm (Syntax.tyInt Syntax.w32)) 7) (List._∷_ (18, Rows.any-gone (Syntax.tyStruct (List._∷_ 38 (List._∷_ 91 (List._∷_ 93 List.[]))) (Syntax.tcons (Syntax.tyRef Syntax.erased Syntax.imm (Syntax.tyInt Syntax.w32)) (Syntax.tcons (Syntax.tyInt Syntax.w64) Syntax.tnil)))) (List._∷_ (19, Rows.any-gone (Syntax.tyInt Syntax.w64)) (List._∷_ (20, Rows.any-gone (Syntax.tyInt Syntax.w64)) (List._∷_ (21, Rows.any-gone (Syntax.tyRef Syntax.erased Syntax.mut (Syntax.tyInt Syntax.w32))) (List._∷_ (22, Rows.any-gone (Syntax.tyStruct (List._∷_ 38 (List._∷_ 91 (List._∷_ 93 List.[]))) (Syntax.tcons (Syntax.tyRef Syntax.erased Syntax.mut (Syntax.tyInt Syntax.w32)) (Syntax.tcons (Syntax.tyInt Syntax.w64) Syntax.tnil)))) (List._∷_ (23, Rows.any-gone (Syntax.tyRef Syntax.erased Syntax.mut (Syntax.tyInt Syntax.w32))) (List._∷_ (24, Rows.any-gone (Syntax.tyStruct (List._∷_ 38 (List._∷_ 91 (List._∷_ 93 List.[]))) (Syntax.tcons (Syntax.tyRef Syntax.erased Syntax.mut (Syntax.tyInt Syntax.w32)) (Syntax.tcons (Syntax.tyInt Syntax.w64) Syntax.tnil)))) List.[]))))))))
 
 abbrev pub t25 : List.List Row.Entry
-t25 = List._∷_ (16, Rows.any-gone (Syntax.tyStruct (List._∷_ 38 (List._∷_ 91 (List._∷_ 93 List.[]))) (Syntax.tcons (Syntax.tyRef Syntax.erased Syntax.imm (Syntax.tyInt Syntax.w32)) (Syntax.tcons (Syntax.tyInt Syntax.w64) Syntax.tnil)))) (List._∷_ (17, Rows.any-gone (Syntax.tyInt Syntax.w64)) (List._∷_ (18, Rows.sc-here (Row.sInt Syntax.w64)) (List._∷_ (19, Rows.any-gone (Syntax.tyRef Syntax.erased Syntax.mut (Syntax.tyInt Syntax.w32))) (List._∷_ (20, Rows.any-gone (Syntax.tyStruct (List._∷_ 38 (List._∷_ 91 (List._∷_ 93 List.[]))) (Syntax.tcons (Syntax.tyRef Syntax.erased Syntax.mut (Syntax.tyInt Syntax.w32)) (Syntax.tcons (Syntax.tyInt Syntax.w64) Syntax.tnil)))) (List._∷_ (21, Rows.any-gone (Syntax.tyRef Syntax.erased Syntax.mut (Syntax.tyInt Syntax.w32))) (List._∷_ (22, Rows.any-gone (Syntax.tyStruct (List._∷_ 38 (List._∷_ 91 (List._∷_ 93 List.[]))) (Syntax.tcons (Syntax.tyRef Syntax.erased Syntax.mut (Syntax.tyInt Syntax.w32)) (Syntax.tcons (Syntax.tyInt Syntax.w64) Syntax.tnil)))) List.[]))))))
+t25 = List._∷_ (16, Rows.any-gone Syntax.tyBool) (List._∷_ (17, Rows.any-gone (Syntax.tyRef Syntax.erased Syntax.imm (Syntax.tyInt Syntax.w32))) (List._∷_ (18, Rows.sslice (Referent.rtF (Referent.fInt Syntax.w32)) (Syntax.tyRef Syntax.erased Syntax.imm (Syntax.tyInt Syntax.w32)) 7) (List._∷_ (19, Rows.any-gone (Syntax.tyInt Syntax.w64)) (List._∷_ (20, Rows.any-gone (Syntax.tyInt Syntax.w64)) (List._∷_ (21, Rows.any-gone (Syntax.tyRef Syntax.erased Syntax.mut (Syntax.tyInt Syntax.w32))) (List._∷_ (22, Rows.any-gone (Syntax.tyStruct (List._∷_ 38 (List._∷_ 91 (List._∷_ 93 List.[]))) (Syntax.tcons (Syntax.tyRef Syntax.erased Syntax.mut (Syntax.tyInt Syntax.w32)) (Syntax.tcons (Syntax.tyInt Syntax.w64) Syntax.tnil)))) (List._∷_ (23, Rows.any-gone (Syntax.tyRef Syntax.erased Syntax.mut (Syntax.tyInt Syntax.w32))) (List._∷_ (24, Rows.any-gone (Syntax.tyStruct (List._∷_ 38 (List._∷_ 91 (List._∷_ 93 List.[]))) (Syntax.tcons (Syntax.tyRef Syntax.erased Syntax.mut (Syntax.tyInt Syntax.w32)) (Syntax.tcons (Syntax.tyInt Syntax.w64) Syntax.tnil)))) List.[]))))))))
 
 abbrev pub t26 : List.List Row.Entry
-t26 = List._∷_ (0, Rows.any-gone (Syntax.tyEnum (List._∷_ 100 (List._∷_ 97 (List._∷_ 114 (List._∷_ 116 (List._∷_ 115 (List._∷_ 58 (List._∷_ 58 (List._∷_ 65 (List._∷_ 110 (List._∷_ 115 (List._∷_ 119 (List._∷_ 101 (List._∷_ 114 List.[]))))))))))))) (Syntax.ttcons (Syntax.tcons (Syntax.tyInt Syntax.w64) Syntax.tnil) (Syntax.ttcons Syntax.tnil (Syntax.ttcons (Syntax.tcons (Syntax.tyInt Syntax.w64) Syntax.tnil) (Syntax.ttcons (Syntax.tcons (Syntax.tyInt Syntax.w64) (Syntax.tcons (Syntax.tyInt Syntax.w64) Syntax.tnil)) (Syntax.ttcons Syntax.tnil (Syntax.ttcons Syntax.tnil (Syntax.ttcons Syntax.tnil (Syntax.ttcons (Syntax.tcons (Syntax.tyInt Syntax.w64) Syntax.tnil) (Syntax.ttcons (Syntax.tcons (Syntax.tyInt Syntax.w64) Syntax.tnil) (Syntax.ttcons (Syntax.tcons (Syntax.tyInt Syntax.w64) Syntax.tnil) (Syntax.ttcons (Syntax.tcons (Syntax.tyInt Syntax.w64) Syntax.tnil) (Syntax.ttcons (Syntax.tcons (Syntax.tyInt Syntax.w64) Syntax.tnil) (Syntax.ttcons (Syntax.tcons (Syntax.tyInt Syntax.w64) Syntax.tnil) (Syntax.ttcons (Syntax.tcons (Syntax.tyInt Syntax.w64) Syntax.tnil) (Syntax.ttcons Syntax.tnil (Syntax.ttcons Syntax.tnil (Syntax.ttcons (Syntax.tcons (Syntax.tyInt Syntax.w64) Syntax.tnil) Syntax.ttnil))))))))))))))))))) (List._∷_ (1, Rows.whole (Declared'.row State.the-type)) (List._∷_ (2, Rows.sslice (Referent.rtF (Referent.fInt Syntax.w32)) (Syntax.tyRef (Syntax.named 0) Syntax.imm (Syntax.tyInt Syntax.w32)) 0) (List._∷_ (3, Rows.sslice (Referent.rtF (Referent.fInt Syntax.w32)) (Syntax.tyRef (Syntax.named 1) Syntax.imm (Syntax.tyInt Syntax.w32)) 1) (List._∷_ (4, Mut.mslice (Referent.rtF (Referent.fInt Syntax.w32)) (Syntax.tyRef (Syntax.named 2) Syntax.mut (Syntax.tyInt Syntax.w32)) 2) (List._∷_ (5, Rows.sslice Cell.R (Syntax.tyRef (Syntax.named 3) Syntax.imm Cell.behind) 3) (List._∷_ (6, Rows.sslice Cell.R (Syntax.tyRef (Syntax.named 4) Syntax.imm Cell.behind) 4) (List._∷_ (7, Rows.sc-here (Row.sInt Syntax.w64)) (List._∷_ (8, Rows.sc-here (Row.sInt Syntax.w64)) (List._∷_ (9, Rows.any-gone (Syntax.tyEnum (List._∷_ 100 (List._∷_ 97 (List._∷_ 114 (List._∷_ 116 (List._∷_ 115 (List._∷_ 58 (List._∷_ 58 (List._∷_ 65 (List._∷_ 110 (List._∷_ 115 (List._∷_ 119 (List._∷_ 101 (List._∷_ 114 List.[]))))))))))))) (Syntax.ttcons (Syntax.tcons (Syntax.tyInt Syntax.w64) Syntax.tnil) (Syntax.ttcons Syntax.tnil (Syntax.ttcons (Syntax.tcons (Syntax.tyInt Syntax.w64) Syntax.tnil) (Syntax.ttcons (Syntax.tcons (Syntax.tyInt Syntax.w64) (Syntax.tcons (Syntax.tyInt Syntax.w64) Syntax.tnil)) (Syntax.ttcons Syntax.tnil (Syntax.ttcons Syntax.tnil (Syntax.ttcons Syntax.tnil (Syntax.ttcons (Syntax.tcons (Syntax.tyInt Syntax.w64) Syntax.tnil) (Syntax.ttcons (Syntax.tcons (Syntax.tyInt Syntax.w64) Syntax.tnil) (Syntax.ttcons (Syntax.tcons (Syntax.tyInt Syntax.w64) Syntax.tnil) (Syntax.ttcons (Syntax.tcons (Syntax.tyInt Syntax.w64) Syntax.tnil) (Syntax.ttcons (Syntax.tcons (Syntax.tyInt Syntax.w64) Syntax.tnil) (Syntax.ttcons (Syntax.tcons (Syntax.tyInt Syntax.w64) Syntax.tnil) (Syntax.ttcons (Syntax.tcons (Syntax.tyInt Syntax.w64) Syntax.tnil) (Syntax.ttcons Syntax.tnil (Syntax.ttcons Syntax.tnil (Syntax.ttcons (Syntax.tcons (Syntax.tyInt Syntax.w64) Syntax.tnil) Syntax.ttnil))))))))))))))))))) (List._∷_ (10, Rows.any-gone (Syntax.tyRef Syntax.erased Syntax.mut (Syntax.tyInt Syntax.w32))) (List._∷_ (11, Rows.any-gone (Syntax.tyStruct (List._∷_ 38 (List._∷_ 91 (List._∷_ 93 List.[]))) (Syntax.tcons (Syntax.tyRef Syntax.erased Syntax.mut (Syntax.tyInt Syntax.w32)) (Syntax.tcons (Syntax.tyInt Syntax.w64) Syntax.tnil)))) (List._∷_ (12, Rows.any-gone (Syntax.tyInt Syntax.w32)) (List._∷_ (13, Rows.any-gone Syntax.tyBool) (List._∷_ (14, Rows.sc-here Row.sBool) (List._∷_ (15, Rows.any-gone (Syntax.tyRef Syntax.erased Syntax.imm (Syntax.tyInt Syntax.w32))) List.[])))))))))))))))
+t26 = List._∷_ (16, Rows.any-gone Syntax.tyBool) (List._∷_ (17, Rows.any-gone (Syntax.tyRef Syntax.erased Syntax.imm (Syntax.tyInt Syntax.w32))) (List._∷_ (18, Rows.sslice (Referent.rtF (Referent.fInt Syntax.w32)) (Syntax.tyRef Syntax.erased Syntax.imm (Syntax.tyInt Syntax.w32)) 7) (List._∷_ (19, Rows.sc-here (Row.sInt Syntax.w64)) (List._∷_ (20, Rows.any-gone (Syntax.tyInt Syntax.w64)) (List._∷_ (21, Rows.any-gone (Syntax.tyRef Syntax.erased Syntax.mut (Syntax.tyInt Syntax.w32))) (List._∷_ (22, Rows.any-gone (Syntax.tyStruct (List._∷_ 38 (List._∷_ 91 (List._∷_ 93 List.[]))) (Syntax.tcons (Syntax.tyRef Syntax.erased Syntax.mut (Syntax.tyInt Syntax.w32)) (Syntax.tcons (Syntax.tyInt Syntax.w64) Syntax.tnil)))) (List._∷_ (23, Rows.any-gone (Syntax.tyRef Syntax.erased Syntax.mut (Syntax.tyInt Syntax.w32))) (List._∷_ (24, Rows.any-gone (Syntax.tyStruct (List._∷_ 38 (List._∷_ 91 (List._∷_ 93 List.[]))) (Syntax.tcons (Syntax.tyRef Syntax.erased Syntax.mut (Syntax.tyInt Syntax.w32)) (Syntax.tcons (Syntax.tyInt Syntax.w64) Syntax.tnil)))) List.[]))))))))
 
 abbrev pub t27 : List.List Row.Entry
-t27 = List._∷_ (0, Rows.any-gone (Syntax.tyEnum (List._∷_ 100 (List._∷_ 97 (List._∷_ 114 (List._∷_ 116 (List._∷_ 115 (List._∷_ 58 (List._∷_ 58 (List._∷_ 65 (List._∷_ 110 (List._∷_ 115 (List._∷_ 119 (List._∷_ 101 (List._∷_ 114 List.[]))))))))))))) (Syntax.ttcons (Syntax.tcons (Syntax.tyInt Syntax.w64) Syntax.tnil) (Syntax.ttcons Syntax.tnil (Syntax.ttcons (Syntax.tcons (Syntax.tyInt Syntax.w64) Syntax.tnil) (Syntax.ttcons (Syntax.tcons (Syntax.tyInt Syntax.w64) (Syntax.tcons (Syntax.tyInt Syntax.w64) Syntax.tnil)) (Syntax.ttcons Syntax.tnil (Syntax.ttcons Syntax.tnil (Syntax.ttcons Syntax.tnil (Syntax.ttcons (Syntax.tcons (Syntax.tyInt Syntax.w64) Syntax.tnil) (Syntax.ttcons (Syntax.tcons (Syntax.tyInt Syntax.w64) Syntax.tnil) (Syntax.ttcons (Syntax.tcons (Syntax.tyInt Syntax.w64) Syntax.tnil) (Syntax.ttcons (Syntax.tcons (Syntax.tyInt Syntax.w64) Syntax.tnil) (Syntax.ttcons (Syntax.tcons (Syntax.tyInt Syntax.w64) Syntax.tnil) (Syntax.ttcons (Syntax.tcons (Syntax.tyInt Syntax.w64) Syntax.tnil) (Syntax.ttcons (Syntax.tcons (Syntax.tyInt Syntax.w64) Syntax.tnil) (Syntax.ttcons Syntax.tnil (Syntax.ttcons Syntax.tnil (Syntax.ttcons (Syntax.tcons (Syntax.tyInt Syntax.w64) Syntax.tnil) Syntax.ttnil))))))))))))))))))) (List._∷_ (1, Rows.whole (Declared'.row State.the-type)) (List._∷_ (2, Rows.sslice (Referent.rtF (Referent.fInt Syntax.w32)) (Syntax.tyRef (Syntax.named 0) Syntax.imm (Syntax.tyInt Syntax.w32)) 0) (List._∷_ (3, Rows.sslice (Referent.rtF (Referent.fInt Syntax.w32)) (Syntax.tyRef (Syntax.named 1) Syntax.imm (Syntax.tyInt Syntax.w32)) 1) (List._∷_ (4, Relend.mslice-owed (Referent.rtF (Referent.fInt Syntax.w32)) (Syntax.tyRef (Syntax.named 2) Syntax.mut (Syntax.tyInt Syntax.w32)) 2 7 Row.off) (List._∷_ (5, Rows.sslice Cell.R (Syntax.tyRef (Syntax.named 3) Syntax.imm Cell.behind) 3) (List._∷_ (6, Rows.sslice Cell.R (Syntax.tyRef (Syntax.named 4) Syntax.imm Cell.behind) 4) (List._∷_ (7, Rows.sc-here (Row.sInt Syntax.w64)) (List._∷_ (8, Rows.sc-here (Row.sInt Syntax.w64)) (List._∷_ (9, Rows.any-gone (Syntax.tyEnum (List._∷_ 100 (List._∷_ 97 (List._∷_ 114 (List._∷_ 116 (List._∷_ 115 (List._∷_ 58 (List._∷_ 58 (List._∷_ 65 (List._∷_ 110 (List._∷_ 115 (List._∷_ 119 (List._∷_ 101 (List._∷_ 114 List.[]))))))))))))) (Syntax.ttcons (Syntax.tcons (Syntax.tyInt Syntax.w64) Syntax.tnil) (Syntax.ttcons Syntax.tnil (Syntax.ttcons (Syntax.tcons (Syntax.tyInt Syntax.w64) Syntax.tnil) (Syntax.ttcons (Syntax.tcons (Syntax.tyInt Syntax.w64) (Syntax.tcons (Syntax.tyInt Syntax.w64) Syntax.tnil)) (Syntax.ttcons Syntax.tnil (Syntax.ttcons Syntax.tnil (Syntax.ttcons Syntax.tnil (Syntax.ttcons (Syntax.tcons (Syntax.tyInt Syntax.w64) Syntax.tnil) (Syntax.ttcons (Syntax.tcons (Syntax.tyInt Syntax.w64) Syntax.tnil) (Syntax.ttcons (Syntax.tcons (Syntax.tyInt Syntax.w64) Syntax.tnil) (Syntax.ttcons (Syntax.tcons (Syntax.tyInt Syntax.w64) Syntax.tnil) (Syntax.ttcons (Syntax.tcons (Syntax.tyInt Syntax.w64) Syntax.tnil) (Syntax.ttcons (Syntax.tcons (Syntax.tyInt Syntax.w64) Syntax.tnil) (Syntax.ttcons (Syntax.tcons (Syntax.tyInt Syntax.w64) Syntax.tnil) (Syntax.ttcons Syntax.tnil (Syntax.ttcons Syntax.tnil (Syntax.ttcons (Syntax.tcons (Syntax.tyInt Syntax.w64) Syntax.tnil) Syntax.ttnil))))))))))))))))))) (List._∷_ (10, Rows.any-gone (Syntax.tyRef Syntax.erased Syntax.mut (Syntax.tyInt Syntax.w32))) (List._∷_ (11, Rows.any-gone (Syntax.tyStruct (List._∷_ 38 (List._∷_ 91 (List._∷_ 93 List.[]))) (Syntax.tcons (Syntax.tyRef Syntax.erased Syntax.mut (Syntax.tyInt Syntax.w32)) (Syntax.tcons (Syntax.tyInt Syntax.w64) Syntax.tnil)))) (List._∷_ (12, Rows.any-gone (Syntax.tyInt Syntax.w32)) (List._∷_ (13, Rows.any-gone Syntax.tyBool) (List._∷_ (14, Rows.any-gone Syntax.tyBool) (List._∷_ (15, Rows.any-gone (Syntax.tyRef Syntax.erased Syntax.imm (Syntax.tyInt Syntax.w32))) List.[])))))))))))))))
+t27 = List._∷_ (16, Rows.any-gone Syntax.tyBool) (List._∷_ (17, Rows.any-gone (Syntax.tyRef Syntax.erased Syntax.imm (Syntax.tyInt Syntax.w32))) (List._∷_ (18, Rows.sslice (Referent.rtF (Referent.fInt Syntax.w32)) (Syntax.tyRef Syntax.erased Syntax.imm (Syntax.tyInt Syntax.w32)) 7) (List._∷_ (19, Rows.sc-here (Row.sInt Syntax.w64)) (List._∷_ (20, Rows.sc-here (Row.sInt Syntax.w64)) (List._∷_ (21, Rows.any-gone (Syntax.tyRef Syntax.erased Syntax.mut (Syntax.tyInt Syntax.w32))) (List._∷_ (22, Rows.any-gone (Syntax.tyStruct (List._∷_ 38 (List._∷_ 91 (List._∷_ 93 List.[]))) (Syntax.tcons (Syntax.tyRef Syntax.erased Syntax.mut (Syntax.tyInt Syntax.w32)) (Syntax.tcons (Syntax.tyInt Syntax.w64) Syntax.tnil)))) (List._∷_ (23, Rows.any-gone (Syntax.tyRef Syntax.erased Syntax.mut (Syntax.tyInt Syntax.w32))) (List._∷_ (24, Rows.any-gone (Syntax.tyStruct (List._∷_ 38 (List._∷_ 91 (List._∷_ 93 List.[]))) (Syntax.tcons (Syntax.tyRef Syntax.erased Syntax.mut (Syntax.tyInt Syntax.w32)) (Syntax.tcons (Syntax.tyInt Syntax.w64) Syntax.tnil)))) List.[]))))))))
 
 abbrev pub t28 : List.List Row.Entry
-t28 = List._∷_ (16, Rows.any-gone (Syntax.tyStruct (List._∷_ 38 (List._∷_ 91 (List._∷_ 93 List.[]))) (Syntax.tcons (Syntax.tyRef Syntax.erased Syntax.imm (Syntax.tyInt Syntax.w32)) (Syntax.tcons (Syntax.tyInt Syntax.w64) Syntax.tnil)))) (List._∷_ (17, Rows.any-gone (Syntax.tyInt Syntax.w64)) (List._∷_ (18, Rows.any-gone (Syntax.tyInt Syntax.w64)) (List._∷_ (19, Relend.msptr (Referent.rtF (Referent.fInt Syntax.w32)) (Syntax.tyRef Syntax.erased Syntax.mut (Syntax.tyInt Syntax.w32)) 7) (List._∷_ (20, Rows.any-gone (Syntax.tyStruct (List._∷_ 38 (List._∷_ 91 (List._∷_ 93 List.[]))) (Syntax.tcons (Syntax.tyRef Syntax.erased Syntax.mut (Syntax.tyInt Syntax.w32)) (Syntax.tcons (Syntax.tyInt Syntax.w64) Syntax.tnil)))) (List._∷_ (21, Rows.any-gone (Syntax.tyRef Syntax.erased Syntax.mut (Syntax.tyInt Syntax.w32))) (List._∷_ (22, Rows.any-gone (Syntax.tyStruct (List._∷_ 38 (List._∷_ 91 (List._∷_ 93 List.[]))) (Syntax.tcons (Syntax.tyRef Syntax.erased Syntax.mut (Syntax.tyInt Syntax.w32)) (Syntax.tcons (Syntax.tyInt Syntax.w64) Syntax.tnil)))) List.[]))))))
+t28 = List._∷_ (16, Rows.sc-here Row.sBool) (List._∷_ (17, Rows.any-gone (Syntax.tyRef Syntax.erased Syntax.imm (Syntax.tyInt Syntax.w32))) (List._∷_ (18, Rows.sslice (Referent.rtF (Referent.fInt Syntax.w32)) (Syntax.tyRef Syntax.erased Syntax.imm (Syntax.tyInt Syntax.w32)) 7) (List._∷_ (19, Rows.sc-here (Row.sInt Syntax.w64)) (List._∷_ (20, Rows.sc-here (Row.sInt Syntax.w64)) (List._∷_ (21, Rows.any-gone (Syntax.tyRef Syntax.erased Syntax.mut (Syntax.tyInt Syntax.w32))) (List._∷_ (22, Rows.any-gone (Syntax.tyStruct (List._∷_ 38 (List._∷_ 91 (List._∷_ 93 List.[]))) (Syntax.tcons (Syntax.tyRef Syntax.erased Syntax.mut (Syntax.tyInt Syntax.w32)) (Syntax.tcons (Syntax.tyInt Syntax.w64) Syntax.tnil)))) (List._∷_ (23, Rows.any-gone (Syntax.tyRef Syntax.erased Syntax.mut (Syntax.tyInt Syntax.w32))) (List._∷_ (24, Rows.any-gone (Syntax.tyStruct (List._∷_ 38 (List._∷_ 91 (List._∷_ 93 List.[]))) (Syntax.tcons (Syntax.tyRef Syntax.erased Syntax.mut (Syntax.tyInt Syntax.w32)) (Syntax.tcons (Syntax.tyInt Syntax.w64) Syntax.tnil)))) List.[]))))))))
 
 abbrev pub t29 : List.List Row.Entry
-t29 = List._∷_ (16, Rows.any-gone (Syntax.tyStruct (List._∷_ 38 (List._∷_ 91 (List._∷_ 93 List.[]))) (Syntax.tcons (Syntax.tyRef Syntax.erased Syntax.imm (Syntax.tyInt Syntax.w32)) (Syntax.tcons (Syntax.tyInt Syntax.w64) Syntax.tnil)))) (List._∷_ (17, Rows.any-gone (Syntax.tyInt Syntax.w64)) (List._∷_ (18, Rows.any-gone (Syntax.tyInt Syntax.w64)) (List._∷_ (19, Rows.any-gone (Syntax.tyRef Syntax.erased Syntax.mut (Syntax.tyInt Syntax.w32))) (List._∷_ (20, Mut.mslice (Referent.rtF (Referent.fInt Syntax.w32)) (Syntax.tyRef Syntax.erased Syntax.mut (Syntax.tyInt Syntax.w32)) 7) (List._∷_ (21, Rows.any-gone (Syntax.tyRef Syntax.erased Syntax.mut (Syntax.tyInt Syntax.w32))) (List._∷_ (22, Rows.any-gone (Syntax.tyStruct (List._∷_ 38 (List._∷_ 91 (List._∷_ 93 List.[]))) (Syntax.tcons (Syntax.tyRef Syntax.erased Syntax.mut (Syntax.tyInt Syntax.w32)) (Syntax.tcons (Syntax.tyInt Syntax.w64) Syntax.tnil)))) List.[]))))))
+t29 = List._∷_ (16, Rows.sc-here Row.sBool) (List._∷_ (17, Rows.any-gone (Syntax.tyRef Syntax.erased Syntax.imm (Syntax.tyInt Syntax.w32))) (List._∷_ (18, Rows.any-gone (Syntax.tyStruct (List._∷_ 38 (List._∷_ 91 (List._∷_ 93 List.[]))) (Syntax.tcons (Syntax.tyRef Syntax.erased Syntax.imm (Syntax.tyInt Syntax.w32)) (Syntax.tcons (Syntax.tyInt Syntax.w64) Syntax.tnil)))) (List._∷_ (19, Rows.sc-here (Row.sInt Syntax.w64)) (List._∷_ (20, Rows.sc-here (Row.sInt Syntax.w64)) (List._∷_ (21, Rows.any-gone (Syntax.tyRef Syntax.erased Syntax.mut (Syntax.tyInt Syntax.w32))) (List._∷_ (22, Rows.any-gone (Syntax.tyStruct (List._∷_ 38 (List._∷_ 91 (List._∷_ 93 List.[]))) (Syntax.tcons (Syntax.tyRef Syntax.erased Syntax.mut (Syntax.tyInt Syntax.w32)) (Syntax.tcons (Syntax.tyInt Syntax.w64) Syntax.tnil)))) (List._∷_ (23, Rows.any-gone (Syntax.tyRef Syntax.erased Syntax.mut (Syntax.tyInt Syntax.w32))) (List._∷_ (24, Rows.any-gone (Syntax.tyStruct (List._∷_ 38 (List._∷_ 91 (List._∷_ 93 List.[]))) (Syntax.tcons (Syntax.tyRef Syntax.erased Syntax.mut (Syntax.tyInt Syntax.w32)) (Syntax.tcons (Syntax.tyInt Syntax.w64) Syntax.tnil)))) List.[]))))))))
 
 abbrev pub t30 : List.List Row.Entry
-t30 = List._∷_ (0, Rows.whole (Declared.row Answer.the-type)) (List._∷_ (1, Rows.whole (Declared'.row State.the-type)) (List._∷_ (2, Rows.sslice (Referent.rtF (Referent.fInt Syntax.w32)) (Syntax.tyRef (Syntax.named 0) Syntax.imm (Syntax.tyInt Syntax.w32)) 0) (List._∷_ (3, Rows.sslice (Referent.rtF (Referent.fInt Syntax.w32)) (Syntax.tyRef (Syntax.named 1) Syntax.imm (Syntax.tyInt Syntax.w32)) 1) (List._∷_ (4, Relend.mslice-owed (Referent.rtF (Referent.fInt Syntax.w32)) (Syntax.tyRef (Syntax.named 2) Syntax.mut (Syntax.tyInt Syntax.w32)) 2 7 Row.off) (List._∷_ (5, Rows.sslice Cell.R (Syntax.tyRef (Syntax.named 3) Syntax.imm Cell.behind) 3) (List._∷_ (6, Rows.sslice Cell.R (Syntax.tyRef (Syntax.named 4) Syntax.imm Cell.behind) 4) (List._∷_ (7, Rows.sc-here (Row.sInt Syntax.w64)) (List._∷_ (8, Rows.sc-here (Row.sInt Syntax.w64)) (List._∷_ (9, Rows.any-gone (Syntax.tyEnum (List._∷_ 100 (List._∷_ 97 (List._∷_ 114 (List._∷_ 116 (List._∷_ 115 (List._∷_ 58 (List._∷_ 58 (List._∷_ 65 (List._∷_ 110 (List._∷_ 115 (List._∷_ 119 (List._∷_ 101 (List._∷_ 114 List.[]))))))))))))) (Syntax.ttcons (Syntax.tcons (Syntax.tyInt Syntax.w64) Syntax.tnil) (Syntax.ttcons Syntax.tnil (Syntax.ttcons (Syntax.tcons (Syntax.tyInt Syntax.w64) Syntax.tnil) (Syntax.ttcons (Syntax.tcons (Syntax.tyInt Syntax.w64) (Syntax.tcons (Syntax.tyInt Syntax.w64) Syntax.tnil)) (Syntax.ttcons Syntax.tnil (Syntax.ttcons Syntax.tnil (Syntax.ttcons Syntax.tnil (Syntax.ttcons (Syntax.tcons (Syntax.tyInt Syntax.w64) Syntax.tnil) (Syntax.ttcons (Syntax.tcons (Syntax.tyInt Syntax.w64) Syntax.tnil) (Syntax.ttcons (Syntax.tcons (Syntax.tyInt Syntax.w64) Syntax.tnil) (Syntax.ttcons (Syntax.tcons (Syntax.tyInt Syntax.w64) Syntax.tnil) (Syntax.ttcons (Syntax.tcons (Syntax.tyInt Syntax.w64) Syntax.tnil) (Syntax.ttcons (Syntax.tcons (Syntax.tyInt Syntax.w64) Syntax.tnil) (Syntax.ttcons (Syntax.tcons (Syntax.tyInt Syntax.w64) Syntax.tnil) (Syntax.ttcons Syntax.tnil (Syntax.ttcons Syntax.tnil (Syntax.ttcons (Syntax.tcons (Syntax.tyInt Syntax.w64) Syntax.tnil) Syntax.ttnil))))))))))))))))))) (List._∷_ (10, Rows.any-gone (Syntax.tyRef Syntax.erased Syntax.mut (Syntax.tyInt Syntax.w32))) (List._∷_ (11, Rows.any-gone (Syntax.tyStruct (List._∷_ 38 (List._∷_ 91 (List._∷_ 93 List.[]))) (Syntax.tcons (Syntax.tyRef Syntax.erased Syntax.mut (Syntax.tyInt Syntax.w32)) (Syntax.tcons (Syntax.tyInt Syntax.w64) Syntax.tnil)))) (List._∷_ (12, Rows.any-gone (Syntax.tyInt Syntax.w32)) (List._∷_ (13, Rows.any-gone Syntax.tyBool) (List._∷_ (14, Rows.any-gone Syntax.tyBool) (List._∷_ (15, Rows.any-gone (Syntax.tyRef Syntax.erased Syntax.imm (Syntax.tyInt Syntax.w32))) List.[])))))))))))))))
+t30 = List._∷_ (16, Rows.sc-here Row.sBool) (List._∷_ (17, Rows.any-gone (Syntax.tyRef Syntax.erased Syntax.imm (Syntax.tyInt Syntax.w32))) (List._∷_ (18, Rows.any-gone (Syntax.tyStruct (List._∷_ 38 (List._∷_ 91 (List._∷_ 93 List.[]))) (Syntax.tcons (Syntax.tyRef Syntax.erased Syntax.imm (Syntax.tyInt Syntax.w32)) (Syntax.tcons (Syntax.tyInt Syntax.w64) Syntax.tnil)))) (List._∷_ (19, Rows.any-gone (Syntax.tyInt Syntax.w64)) (List._∷_ (20, Rows.sc-here (Row.sInt Syntax.w64)) (List._∷_ (21, Rows.any-gone (Syntax.tyRef Syntax.erased Syntax.mut (Syntax.tyInt Syntax.w32))) (List._∷_ (22, Rows.any-gone (Syntax.tyStruct (List._∷_ 38 (List._∷_ 91 (List._∷_ 93 List.[]))) (Syntax.tcons (Syntax.tyRef Syntax.erased Syntax.mut (Syntax.tyInt Syntax.w32)) (Syntax.tcons (Syntax.tyInt Syntax.w64) Syntax.tnil)))) (List._∷_ (23, Rows.any-gone (Syntax.tyRef Syntax.erased Syntax.mut (Syntax.tyInt Syntax.w32))) (List._∷_ (24, Rows.any-gone (Syntax.tyStruct (List._∷_ 38 (List._∷_ 91 (List._∷_ 93 List.[]))) (Syntax.tcons (Syntax.tyRef Syntax.erased Syntax.mut (Syntax.tyInt Syntax.w32)) (Syntax.tcons (Syntax.tyInt Syntax.w64) Syntax.tnil)))) List.[]))))))))
 
 abbrev pub t31 : List.List Row.Entry
-t31 = List._∷_ (16, Rows.any-gone (Syntax.tyStruct (List._∷_ 38 (List._∷_ 91 (List._∷_ 93 List.[]))) (Syntax.tcons (Syntax.tyRef Syntax.erased Syntax.imm (Syntax.tyInt Syntax.w32)) (Syntax.tcons (Syntax.tyInt Syntax.w64) Syntax.tnil)))) (List._∷_ (17, Rows.any-gone (Syntax.tyInt Syntax.w64)) (List._∷_ (18, Rows.any-gone (Syntax.tyInt Syntax.w64)) (List._∷_ (19, Rows.any-gone (Syntax.tyRef Syntax.erased Syntax.mut (Syntax.tyInt Syntax.w32))) (List._∷_ (20, Mut.msleft (Referent.rtF (Referent.fInt Syntax.w32)) (Syntax.tyRef Syntax.erased Syntax.mut (Syntax.tyInt Syntax.w32))) (List._∷_ (21, Rows.any-gone (Syntax.tyRef Syntax.erased Syntax.mut (Syntax.tyInt Syntax.w32))) (List._∷_ (22, Rows.any-gone (Syntax.tyStruct (List._∷_ 38 (List._∷_ 91 (List._∷_ 93 List.[]))) (Syntax.tcons (Syntax.tyRef Syntax.erased Syntax.mut (Syntax.tyInt Syntax.w32)) (Syntax.tcons (Syntax.tyInt Syntax.w64) Syntax.tnil)))) List.[]))))))
+t31 = List._∷_ (16, Rows.sc-here Row.sBool) (List._∷_ (17, Rows.any-gone (Syntax.tyRef Syntax.erased Syntax.imm (Syntax.tyInt Syntax.w32))) (List._∷_ (18, Rows.any-gone (Syntax.tyStruct (List._∷_ 38 (List._∷_ 91 (List._∷_ 93 List.[]))) (Syntax.tcons (Syntax.tyRef Syntax.erased Syntax.imm (Syntax.tyInt Syntax.w32)) (Syntax.tcons (Syntax.tyInt Syntax.w64) Syntax.tnil)))) (List._∷_ (19, Rows.any-gone (Syntax.tyInt Syntax.w64)) (List._∷_ (20, Rows.any-gone (Syntax.tyInt Syntax.w64)) (List._∷_ (21, Rows.any-gone (Syntax.tyRef Syntax.erased Syntax.mut (Syntax.tyInt Syntax.w32))) (List._∷_ (22, Rows.any-gone (Syntax.tyStruct (List._∷_ 38 (List._∷_ 91 (List._∷_ 93 List.[]))) (Syntax.tcons (Syntax.tyRef Syntax.erased Syntax.mut (Syntax.tyInt Syntax.w32)) (Syntax.tcons (Syntax.tyInt Syntax.w64) Syntax.tnil)))) (List._∷_ (23, Rows.any-gone (Syntax.tyRef Syntax.erased Syntax.mut (Syntax.tyInt Syntax.w32))) (List._∷_ (24, Rows.any-gone (Syntax.tyStruct (List._∷_ 38 (List._∷_ 91 (List._∷_ 93 List.[]))) (Syntax.tcons (Syntax.tyRef Syntax.erased Syntax.mut (Syntax.tyInt Syntax.w32)) (Syntax.tcons (Syntax.tyInt Syntax.w64) Syntax.tnil)))) List.[]))))))))
 
 abbrev pub t32 : List.List Row.Entry
-t32 = List._∷_ (0, Rows.whole (Declared.row Answer.the-type)) (List._∷_ (1, Rows.any-gone (Syntax.tyStruct (List._∷_ 112 (List._∷_ 121 (List._∷_ 114 (List._∷_ 97 (List._∷_ 109 (List._∷_ 105 (List._∷_ 100 (List._∷_ 58 (List._∷_ 58 (List._∷_ 83 (List._∷_ 116 (List._∷_ 97 (List._∷_ 116 (List._∷_ 101 List.[])))))))))))))) (Syntax.tcons (Syntax.tyInt Syntax.w32) (Syntax.tcons (Syntax.tyInt Syntax.w32) (Syntax.tcons (Syntax.tyInt Syntax.w32) (Syntax.tcons (Syntax.tyInt Syntax.w32) (Syntax.tcons (Syntax.tyInt Syntax.w32) (Syntax.tcons (Syntax.tyArray (Syntax.tyInt Syntax.w32) 64) Syntax.tnil)))))))) (List._∷_ (2, Rows.sslice (Referent.rtF (Referent.fInt Syntax.w32)) (Syntax.tyRef (Syntax.named 0) Syntax.imm (Syntax.tyInt Syntax.w32)) 0) (List._∷_ (3, Rows.sslice (Referent.rtF (Referent.fInt Syntax.w32)) (Syntax.tyRef (Syntax.named 1) Syntax.imm (Syntax.tyInt Syntax.w32)) 1) (List._∷_ (4, Relend.mslice-owed (Referent.rtF (Referent.fInt Syntax.w32)) (Syntax.tyRef (Syntax.named 2) Syntax.mut (Syntax.tyInt Syntax.w32)) 2 7 Row.off) (List._∷_ (5, Rows.sslice Cell.R (Syntax.tyRef (Syntax.named 3) Syntax.imm Cell.behind) 3) (List._∷_ (6, Rows.sslice Cell.R (Syntax.tyRef (Syntax.named 4) Syntax.imm Cell.behind) 4) (List._∷_ (7, Rows.sc-here (Row.sInt Syntax.w64)) (List._∷_ (8, Rows.sc-here (Row.sInt Syntax.w64)) (List._∷_ (9, Rows.any-gone (Syntax.tyEnum (List._∷_ 100 (List._∷_ 97 (List._∷_ 114 (List._∷_ 116 (List._∷_ 115 (List._∷_ 58 (List._∷_ 58 (List._∷_ 65 (List._∷_ 110 (List._∷_ 115 (List._∷_ 119 (List._∷_ 101 (List._∷_ 114 List.[]))))))))))))) (Syntax.ttcons (Syntax.tcons (Syntax.tyInt Syntax.w64) Syntax.tnil) (Syntax.ttcons Syntax.tnil (Syntax.ttcons (Syntax.tcons (Syntax.tyInt Syntax.w64) Syntax.tnil) (Syntax.ttcons (Syntax.tcons (Syntax.tyInt Syntax.w64) (Syntax.tcons (Syntax.tyInt Syntax.w64) Syntax.tnil)) (Syntax.ttcons Syntax.tnil (Syntax.ttcons Syntax.tnil (Syntax.ttcons Syntax.tnil (Syntax.ttcons (Syntax.tcons (Syntax.tyInt Syntax.w64) Syntax.tnil) (Syntax.ttcons (Syntax.tcons (Syntax.tyInt Syntax.w64) Syntax.tnil) (Syntax.ttcons (Syntax.tcons (Syntax.tyInt Syntax.w64) Syntax.tnil) (Syntax.ttcons (Syntax.tcons (Syntax.tyInt Syntax.w64) Syntax.tnil) (Syntax.ttcons (Syntax.tcons (Syntax.tyInt Syntax.w64) Syntax.tnil) (Syntax.ttcons (Syntax.tcons (Syntax.tyInt Syntax.w64) Syntax.tnil) (Syntax.ttcons (Syntax.tcons (Syntax.tyInt Syntax.w64) Syntax.tnil) (Syntax.ttcons Syntax.tnil (Syntax.ttcons Syntax.tnil (Syntax.ttcons (Syntax.tcons (Syntax.tyInt Syntax.w64) Syntax.tnil) Syntax.ttnil))))))))))))))))))) (List._∷_ (10, Rows.any-gone (Syntax.tyRef Syntax.erased Syntax.mut (Syntax.tyInt Syntax.w32))) (List._∷_ (11, Rows.any-gone (Syntax.tyStruct (List._∷_ 38 (List._∷_ 91 (List._∷_ 93 List.[]))) (Syntax.tcons (Syntax.tyRef Syntax.erased Syntax.mut (Syntax.tyInt Syntax.w32)) (Syntax.tcons (Syntax.tyInt Syntax.w64) Syntax.tnil)))) (List._∷_ (12, Rows.any-gone (Syntax.tyInt Syntax.w32)) (List._∷_ (13, Rows.any-gone Syntax.tyBool) (List._∷_ (14, Rows.any-gone Syntax.tyBool) (List._∷_ (15, Rows.any-gone (Syntax.tyRef Syntax.erased Syntax.imm (Syntax.tyInt Syntax.w32))) List.[])))))))))))))))
+t32 = List._∷_ (0, Rows.any-gone (Syntax.tyEnum (List._∷_ 100 (List._∷_ 97 (List._∷_ 114 (List._∷_ 116 (List._∷_ 115 (List._∷_ 58 (List._∷_ 58 (List._∷_ 65 (List._∷_ 110 (List._∷_ 115 (List._∷_ 119 (List._∷_ 101 (List._∷_ 114 List.[]))))))))))))) (Syntax.ttcons (Syntax.tcons (Syntax.tyInt Syntax.w64) Syntax.tnil) (Syntax.ttcons Syntax.tnil (Syntax.ttcons (Syntax.tcons (Syntax.tyInt Syntax.w64) Syntax.tnil) (Syntax.ttcons (Syntax.tcons (Syntax.tyInt Syntax.w64) (Syntax.tcons (Syntax.tyInt Syntax.w64) Syntax.tnil)) (Syntax.ttcons Syntax.tnil (Syntax.ttcons Syntax.tnil (Syntax.ttcons Syntax.tnil (Syntax.ttcons (Syntax.tcons (Syntax.tyInt Syntax.w64) Syntax.tnil) (Syntax.ttcons (Syntax.tcons (Syntax.tyInt Syntax.w64) Syntax.tnil) (Syntax.ttcons (Syntax.tcons (Syntax.tyInt Syntax.w64) Syntax.tnil) (Syntax.ttcons (Syntax.tcons (Syntax.tyInt Syntax.w64) Syntax.tnil) (Syntax.ttcons (Syntax.tcons (Syntax.tyInt Syntax.w64) Syntax.tnil) (Syntax.ttcons (Syntax.tcons (Syntax.tyInt Syntax.w64) Syntax.tnil) (Syntax.ttcons (Syntax.tcons (Syntax.tyInt Syntax.w64) Syntax.tnil) (Syntax.ttcons Syntax.tnil (Syntax.ttcons Syntax.tnil (Syntax.ttcons (Syntax.tcons (Syntax.tyInt Syntax.w64) Syntax.tnil) Syntax.ttnil))))))))))))))))))) (List._∷_ (1, Rows.whole (Declared'.row State.the-type)) (List._∷_ (2, Rows.sslice (Referent.rtF (Referent.fInt Syntax.w32)) (Syntax.tyRef (Syntax.named 0) Syntax.imm (Syntax.tyInt Syntax.w32)) 0) (List._∷_ (3, Rows.sslice (Referent.rtF (Referent.fInt Syntax.w32)) (Syntax.tyRef (Syntax.named 1) Syntax.imm (Syntax.tyInt Syntax.w32)) 1) (List._∷_ (4, Relend.mslice-owed (Referent.rtF (Referent.fInt Syntax.w32)) (Syntax.tyRef (Syntax.named 2) Syntax.mut (Syntax.tyInt Syntax.w32)) 2 8 Row.off) (List._∷_ (5, Rows.sslice Cell.R (Syntax.tyRef (Syntax.named 3) Syntax.imm Cell.behind) 3) (List._∷_ (6, Rows.sslice Cell.R (Syntax.tyRef (Syntax.named 4) Syntax.imm Cell.behind) 4) (List._∷_ (7, Rows.sc-here (Row.sInt Syntax.w64)) (List._∷_ (8, Rows.sc-here (Row.sInt Syntax.w64)) (List._∷_ (9, Rows.any-gone (Syntax.tyEnum (List._∷_ 100 (List._∷_ 97 (List._∷_ 114 (List._∷_ 116 (List._∷_ 115 (List._∷_ 58 (List._∷_ 58 (List._∷_ 65 (List._∷_ 110 (List._∷_ 115 (List._∷_ 119 (List._∷_ 101 (List._∷_ 114 List.[]))))))))))))) (Syntax.ttcons (Syntax.tcons (Syntax.tyInt Syntax.w64) Syntax.tnil) (Syntax.ttcons Syntax.tnil (Syntax.ttcons (Syntax.tcons (Syntax.tyInt Syntax.w64) Syntax.tnil) (Syntax.ttcons (Syntax.tcons (Syntax.tyInt Syntax.w64) (Syntax.tcons (Syntax.tyInt Syntax.w64) Syntax.tnil)) (Syntax.ttcons Syntax.tnil (Syntax.ttcons Syntax.tnil (Syntax.ttcons Syntax.tnil (Syntax.ttcons (Syntax.tcons (Syntax.tyInt Syntax.w64) Syntax.tnil) (Syntax.ttcons (Syntax.tcons (Syntax.tyInt Syntax.w64) Syntax.tnil) (Syntax.ttcons (Syntax.tcons (Syntax.tyInt Syntax.w64) Syntax.tnil) (Syntax.ttcons (Syntax.tcons (Syntax.tyInt Syntax.w64) Syntax.tnil) (Syntax.ttcons (Syntax.tcons (Syntax.tyInt Syntax.w64) Syntax.tnil) (Syntax.ttcons (Syntax.tcons (Syntax.tyInt Syntax.w64) Syntax.tnil) (Syntax.ttcons (Syntax.tcons (Syntax.tyInt Syntax.w64) Syntax.tnil) (Syntax.ttcons Syntax.tnil (Syntax.ttcons Syntax.tnil (Syntax.ttcons (Syntax.tcons (Syntax.tyInt Syntax.w64) Syntax.tnil) Syntax.ttnil))))))))))))))))))) (List._∷_ (10, Rows.any-gone Syntax.tyBool) (List._∷_ (11, Rows.any-gone (Syntax.tyRef Syntax.erased Syntax.mut (Syntax.tyInt Syntax.w32))) (List._∷_ (12, Rows.any-gone (Syntax.tyStruct (List._∷_ 38 (List._∷_ 91 (List._∷_ 93 List.[]))) (Syntax.tcons (Syntax.tyRef Syntax.erased Syntax.mut (Syntax.tyInt Syntax.w32)) (Syntax.tcons (Syntax.tyInt Syntax.w64) Syntax.tnil)))) (List._∷_ (13, Rows.any-gone (Syntax.tyRef Syntax.erased Syntax.mut (Syntax.tyInt Syntax.w32))) (List._∷_ (14, Rows.any-gone (Syntax.tyStruct (List._∷_ 38 (List._∷_ 91 (List._∷_ 93 List.[]))) (Syntax.tcons (Syntax.tyRef Syntax.erased Syntax.mut (Syntax.tyInt Syntax.w32)) (Syntax.tcons (Syntax.tyInt Syntax.w64) Syntax.tnil)))) (List._∷_ (15, Rows.any-gone (Syntax.tyInt Syntax.w32)) List.[])))))))))))))))
 
 abbrev pub t33 : List.List Row.Entry
-t33 = List._∷_ (0, Rows.any-gone (Syntax.tyEnum (List._∷_ 100 (List._∷_ 97 (List._∷_ 114 (List._∷_ 116 (List._∷_ 115 (List._∷_ 58 (List._∷_ 58 (List._∷_ 65 (List._∷_ 110 (List._∷_ 115 (List._∷_ 119 (List._∷_ 101 (List._∷_ 114 List.[]))))))))))))) (Syntax.ttcons (Syntax.tcons (Syntax.tyInt Syntax.w64) Syntax.tnil) (Syntax.ttcons Syntax.tnil (Syntax.ttcons (Syntax.tcons (Syntax.tyInt Syntax.w64) Syntax.tnil) (Syntax.ttcons (Syntax.tcons (Syntax.tyInt Syntax.w64) (Syntax.tcons (Syntax.tyInt Syntax.w64) Syntax.tnil)) (Syntax.ttcons Syntax.tnil (Syntax.ttcons Syntax.tnil (Syntax.ttcons Syntax.tnil (Syntax.ttcons (Syntax.tcons (Syntax.tyInt Syntax.w64) Syntax.tnil) (Syntax.ttcons (Syntax.tcons (Syntax.tyInt Syntax.w64) Syntax.tnil) (Syntax.ttcons (Syntax.tcons (Syntax.tyInt Syntax.w64) Syntax.tnil) (Syntax.ttcons (Syntax.tcons (Syntax.tyInt Syntax.w64) Syntax.tnil) (Syntax.ttcons (Syntax.tcons (Syntax.tyInt Syntax.w64) Syntax.tnil) (Syntax.ttcons (Syntax.tcons (Syntax.tyInt Syntax.w64) Syntax.tnil) (Syntax.ttcons (Syntax.tcons (Syntax.tyInt Syntax.w64) Syntax.tnil) (Syntax.ttcons Syntax.tnil (Syntax.ttcons Syntax.tnil (Syntax.ttcons (Syntax.tcons (Syntax.tyInt Syntax.w64) Syntax.tnil) Syntax.ttnil))))))))))))))))))) (List._∷_ (1, Rows.whole (Declared'.row State.the-type)) (List._∷_ (2, Rows.sslice (Referent.rtF (Referent.fInt Syntax.w32)) (Syntax.tyRef (Syntax.named 0) Syntax.imm (Syntax.tyInt Syntax.w32)) 0) (List._∷_ (3, Rows.sslice (Referent.rtF (Referent.fInt Syntax.w32)) (Syntax.tyRef (Syntax.named 1) Syntax.imm (Syntax.tyInt Syntax.w32)) 1) (List._∷_ (4, Relend.mslice-owed (Referent.rtF (Referent.fInt Syntax.w32)) (Syntax.tyRef (Syntax.named 2) Syntax.mut (Syntax.tyInt Syntax.w32)) 2 8 Row.off) (List._∷_ (5, Rows.sslice Cell.R (Syntax.tyRef (Syntax.named 3) Syntax.imm Cell.behind) 3) (List._∷_ (6, Rows.sslice Cell.R (Syntax.tyRef (Syntax.named 4) Syntax.imm Cell.behind) 4) (List._∷_ (7, Rows.sc-here (Row.sInt Syntax.w64)) (List._∷_ (8, Rows.sc-here (Row.sInt Syntax.w64)) (List._∷_ (9, Rows.any-gone (Syntax.tyEnum (List._∷_ 100 (List._∷_ 97 (List._∷_ 114 (List._∷_ 116 (List._∷_ 115 (List._∷_ 58 (List._∷_ 58 (List._∷_ 65 (List._∷_ 110 (List._∷_ 115 (List._∷_ 119 (List._∷_ 101 (List._∷_ 114 List.[]))))))))))))) (Syntax.ttcons (Syntax.tcons (Syntax.tyInt Syntax.w64) Syntax.tnil) (Syntax.ttcons Syntax.tnil (Syntax.ttcons (Syntax.tcons (Syntax.tyInt Syntax.w64) Syntax.tnil) (Syntax.ttcons (Syntax.tcons (Syntax.tyInt Syntax.w64) (Syntax.tcons (Syntax.tyInt Syntax.w64) Syntax.tnil)) (Syntax.ttcons Syntax.tnil (Syntax.ttcons Syntax.tnil (Syntax.ttcons Syntax.tnil (Syntax.ttcons (Syntax.tcons (Syntax.tyInt Syntax.w64) Syntax.tnil) (Syntax.ttcons (Syntax.tcons (Syntax.tyInt Syntax.w64) Syntax.tnil) (Syntax.ttcons (Syntax.tcons (Syntax.tyInt Syntax.w64) Syntax.tnil) (Syntax.ttcons (Syntax.tcons (Syntax.tyInt Syntax.w64) Syntax.tnil) (Syntax.ttcons (Syntax.tcons (Syntax.tyInt Syntax.w64) Syntax.tnil) (Syntax.ttcons (Syntax.tcons (Syntax.tyInt Syntax.w64) Syntax.tnil) (Syntax.ttcons (Syntax.tcons (Syntax.tyInt Syntax.w64) Syntax.tnil) (Syntax.ttcons Syntax.tnil (Syntax.ttcons Syntax.tnil (Syntax.ttcons (Syntax.tcons (Syntax.tyInt Syntax.w64) Syntax.tnil) Syntax.ttnil))))))))))))))))))) (List._∷_ (10, Rows.any-gone (Syntax.tyRef Syntax.erased Syntax.mut (Syntax.tyInt Syntax.w32))) (List._∷_ (11, Rows.any-gone (Syntax.tyStruct (List._∷_ 38 (List._∷_ 91 (List._∷_ 93 List.[]))) (Syntax.tcons (Syntax.tyRef Syntax.erased Syntax.mut (Syntax.tyInt Syntax.w32)) (Syntax.tcons (Syntax.tyInt Syntax.w64) Syntax.tnil)))) (List._∷_ (12, Rows.any-gone (Syntax.tyInt Syntax.w32)) (List._∷_ (13, Rows.any-gone Syntax.tyBool) (List._∷_ (14, Rows.any-gone Syntax.tyBool) (List._∷_ (15, Rows.any-gone (Syntax.tyRef Syntax.erased Syntax.imm (Syntax.tyInt Syntax.w32))) List.[])))))))))))))))
+t33 = List._∷_ (16, Rows.any-gone Syntax.tyBool) (List._∷_ (17, Rows.any-gone (Syntax.tyRef Syntax.erased Syntax.imm (Syntax.tyInt Syntax.w32))) (List._∷_ (18, Rows.any-gone (Syntax.tyStruct (List._∷_ 38 (List._∷_ 91 (List._∷_ 93 List.[]))) (Syntax.tcons (Syntax.tyRef Syntax.erased Syntax.imm (Syntax.tyInt Syntax.w32)) (Syntax.tcons (Syntax.tyInt Syntax.w64) Syntax.tnil)))) (List._∷_ (19, Rows.any-gone (Syntax.tyInt Syntax.w64)) (List._∷_ (20, Rows.any-gone (Syntax.tyInt Syntax.w64)) (List._∷_ (21, Relend.msptr (Referent.rtF (Referent.fInt Syntax.w32)) (Syntax.tyRef Syntax.erased Syntax.mut (Syntax.tyInt Syntax.w32)) 8) (List._∷_ (22, Rows.any-gone (Syntax.tyStruct (List._∷_ 38 (List._∷_ 91 (List._∷_ 93 List.[]))) (Syntax.tcons (Syntax.tyRef Syntax.erased Syntax.mut (Syntax.tyInt Syntax.w32)) (Syntax.tcons (Syntax.tyInt Syntax.w64) Syntax.tnil)))) (List._∷_ (23, Rows.any-gone (Syntax.tyRef Syntax.erased Syntax.mut (Syntax.tyInt Syntax.w32))) (List._∷_ (24, Rows.any-gone (Syntax.tyStruct (List._∷_ 38 (List._∷_ 91 (List._∷_ 93 List.[]))) (Syntax.tcons (Syntax.tyRef Syntax.erased Syntax.mut (Syntax.tyInt Syntax.w32)) (Syntax.tcons (Syntax.tyInt Syntax.w64) Syntax.tnil)))) List.[]))))))))
 
 abbrev pub t34 : List.List Row.Entry
-t34 = List._∷_ (16, Rows.any-gone (Syntax.tyStruct (List._∷_ 38 (List._∷_ 91 (List._∷_ 93 List.[]))) (Syntax.tcons (Syntax.tyRef Syntax.erased Syntax.imm (Syntax.tyInt Syntax.w32)) (Syntax.tcons (Syntax.tyInt Syntax.w64) Syntax.tnil)))) (List._∷_ (17, Rows.any-gone (Syntax.tyInt Syntax.w64)) (List._∷_ (18, Rows.any-gone (Syntax.tyInt Syntax.w64)) (List._∷_ (19, Rows.any-gone (Syntax.tyRef Syntax.erased Syntax.mut (Syntax.tyInt Syntax.w32))) (List._∷_ (20, Rows.any-gone (Syntax.tyStruct (List._∷_ 38 (List._∷_ 91 (List._∷_ 93 List.[]))) (Syntax.tcons (Syntax.tyRef Syntax.erased Syntax.mut (Syntax.tyInt Syntax.w32)) (Syntax.tcons (Syntax.tyInt Syntax.w64) Syntax.tnil)))) (List._∷_ (21, Relend.msptr (Referent.rtF (Referent.fInt Syntax.w32)) (Syntax.tyRef Syntax.erased Syntax.mut (Syntax.tyInt Syntax.w32)) 8) (List._∷_ (22, Rows.any-gone (Syntax.tyStruct (List._∷_ 38 (List._∷_ 91 (List._∷_ 93 List.[]))) (Syntax.tcons (Syntax.tyRef Syntax.erased Syntax.mut (Syntax.tyInt Syntax.w32)) (Syntax.tcons (Syntax.tyInt Syntax.w64) Syntax.tnil)))) List.[]))))))
+t34 = List._∷_ (16, Rows.any-gone Syntax.tyBool) (List._∷_ (17, Rows.any-gone (Syntax.tyRef Syntax.erased Syntax.imm (Syntax.tyInt Syntax.w32))) (List._∷_ (18, Rows.any-gone (Syntax.tyStruct (List._∷_ 38 (List._∷_ 91 (List._∷_ 93 List.[]))) (Syntax.tcons (Syntax.tyRef Syntax.erased Syntax.imm (Syntax.tyInt Syntax.w32)) (Syntax.tcons (Syntax.tyInt Syntax.w64) Syntax.tnil)))) (List._∷_ (19, Rows.any-gone (Syntax.tyInt Syntax.w64)) (List._∷_ (20, Rows.any-gone (Syntax.tyInt Syntax.w64)) (List._∷_ (21, Rows.any-gone (Syntax.tyRef Syntax.erased Syntax.mut (Syntax.tyInt Syntax.w32))) (List._∷_ (22, Mut.mslice (Referent.rtF (Referent.fInt Syntax.w32)) (Syntax.tyRef Syntax.erased Syntax.mut (Syntax.tyInt Syntax.w32)) 8) (List._∷_ (23, Rows.any-gone (Syntax.tyRef Syntax.erased Syntax.mut (Syntax.tyInt Syntax.w32))) (List._∷_ (24, Rows.any-gone (Syntax.tyStruct (List._∷_ 38 (List._∷_ 91 (List._∷_ 93 List.[]))) (Syntax.tcons (Syntax.tyRef Syntax.erased Syntax.mut (Syntax.tyInt Syntax.w32)) (Syntax.tcons (Syntax.tyInt Syntax.w64) Syntax.tnil)))) List.[]))))))))
 
 abbrev pub t35 : List.List Row.Entry
-t35 = List._∷_ (16, Rows.any-gone (Syntax.tyStruct (List._∷_ 38 (List._∷_ 91 (List._∷_ 93 List.[]))) (Syntax.tcons (Syntax.tyRef Syntax.erased Syntax.imm (Syntax.tyInt Syntax.w32)) (Syntax.tcons (Syntax.tyInt Syntax.w64) Syntax.tnil)))) (List._∷_ (17, Rows.any-gone (Syntax.tyInt Syntax.w64)) (List._∷_ (18, Rows.any-gone (Syntax.tyInt Syntax.w64)) (List._∷_ (19, Rows.any-gone (Syntax.tyRef Syntax.erased Syntax.mut (Syntax.tyInt Syntax.w32))) (List._∷_ (20, Rows.any-gone (Syntax.tyStruct (List._∷_ 38 (List._∷_ 91 (List._∷_ 93 List.[]))) (Syntax.tcons (Syntax.tyRef Syntax.erased Syntax.mut (Syntax.tyInt Syntax.w32)) (Syntax.tcons (Syntax.tyInt Syntax.w64) Syntax.tnil)))) (List._∷_ (21, Rows.any-gone (Syntax.tyRef Syntax.erased Syntax.mut (Syntax.tyInt Syntax.w32))) (List._∷_ (22, Mut.mslice (Referent.rtF (Referent.fInt Syntax.w32)) (Syntax.tyRef Syntax.erased Syntax.mut (Syntax.tyInt Syntax.w32)) 8) List.[]))))))
+t35 = List._∷_ (0, Rows.whole (Declared.row Answer.the-type)) (List._∷_ (1, Rows.whole (Declared'.row State.the-type)) (List._∷_ (2, Rows.sslice (Referent.rtF (Referent.fInt Syntax.w32)) (Syntax.tyRef (Syntax.named 0) Syntax.imm (Syntax.tyInt Syntax.w32)) 0) (List._∷_ (3, Rows.sslice (Referent.rtF (Referent.fInt Syntax.w32)) (Syntax.tyRef (Syntax.named 1) Syntax.imm (Syntax.tyInt Syntax.w32)) 1) (List._∷_ (4, Relend.mslice-owed (Referent.rtF (Referent.fInt Syntax.w32)) (Syntax.tyRef (Syntax.named 2) Syntax.mut (Syntax.tyInt Syntax.w32)) 2 8 Row.off) (List._∷_ (5, Rows.sslice Cell.R (Syntax.tyRef (Syntax.named 3) Syntax.imm Cell.behind) 3) (List._∷_ (6, Rows.sslice Cell.R (Syntax.tyRef (Syntax.named 4) Syntax.imm Cell.behind) 4) (List._∷_ (7, Rows.sc-here (Row.sInt Syntax.w64)) (List._∷_ (8, Rows.sc-here (Row.sInt Syntax.w64)) (List._∷_ (9, Rows.any-gone (Syntax.tyEnum (List._∷_ 100 (List._∷_ 97 (List._∷_ 114 (List._∷_ 116 (List._∷_ 115 (List._∷_ 58 (List._∷_ 58 (List._∷_ 65 (List._∷_ 110 (List._∷_ 115 (List._∷_ 119 (List._∷_ 101 (List._∷_ 114 List.[]))))))))))))) (Syntax.ttcons (Syntax.tcons (Syntax.tyInt Syntax.w64) Syntax.tnil) (Syntax.ttcons Syntax.tnil (Syntax.ttcons (Syntax.tcons (Syntax.tyInt Syntax.w64) Syntax.tnil) (Syntax.ttcons (Syntax.tcons (Syntax.tyInt Syntax.w64) (Syntax.tcons (Syntax.tyInt Syntax.w64) Syntax.tnil)) (Syntax.ttcons Syntax.tnil (Syntax.ttcons Syntax.tnil (Syntax.ttcons Syntax.tnil (Syntax.ttcons (Syntax.tcons (Syntax.tyInt Syntax.w64) Syntax.tnil) (Syntax.ttcons (Syntax.tcons (Syntax.tyInt Syntax.w64) Syntax.tnil) (Syntax.ttcons (Syntax.tcons (Syntax.tyInt Syntax.w64) Syntax.tnil) (Syntax.ttcons (Syntax.tcons (Syntax.tyInt Syntax.w64) Syntax.tnil) (Syntax.ttcons (Syntax.tcons (Syntax.tyInt Syntax.w64) Syntax.tnil) (Syntax.ttcons (Syntax.tcons (Syntax.tyInt Syntax.w64) Syntax.tnil) (Syntax.ttcons (Syntax.tcons (Syntax.tyInt Syntax.w64) Syntax.tnil) (Syntax.ttcons Syntax.tnil (Syntax.ttcons Syntax.tnil (Syntax.ttcons (Syntax.tcons (Syntax.tyInt Syntax.w64) Syntax.tnil) Syntax.ttnil))))))))))))))))))) (List._∷_ (10, Rows.any-gone Syntax.tyBool) (List._∷_ (11, Rows.any-gone (Syntax.tyRef Syntax.erased Syntax.mut (Syntax.tyInt Syntax.w32))) (List._∷_ (12, Rows.any-gone (Syntax.tyStruct (List._∷_ 38 (List._∷_ 91 (List._∷_ 93 List.[]))) (Syntax.tcons (Syntax.tyRef Syntax.erased Syntax.mut (Syntax.tyInt Syntax.w32)) (Syntax.tcons (Syntax.tyInt Syntax.w64) Syntax.tnil)))) (List._∷_ (13, Rows.any-gone (Syntax.tyRef Syntax.erased Syntax.mut (Syntax.tyInt Syntax.w32))) (List._∷_ (14, Rows.any-gone (Syntax.tyStruct (List._∷_ 38 (List._∷_ 91 (List._∷_ 93 List.[]))) (Syntax.tcons (Syntax.tyRef Syntax.erased Syntax.mut (Syntax.tyInt Syntax.w32)) (Syntax.tcons (Syntax.tyInt Syntax.w64) Syntax.tnil)))) (List._∷_ (15, Rows.any-gone (Syntax.tyInt Syntax.w32)) List.[])))))))))))))))
 
 abbrev pub t36 : List.List Row.Entry
-t36 = List._∷_ (0, Rows.whole (Declared.row Answer.the-type)) (List._∷_ (1, Rows.whole (Declared'.row State.the-type)) (List._∷_ (2, Rows.sslice (Referent.rtF (Referent.fInt Syntax.w32)) (Syntax.tyRef (Syntax.named 0) Syntax.imm (Syntax.tyInt Syntax.w32)) 0) (List._∷_ (3, Rows.sslice (Referent.rtF (Referent.fInt Syntax.w32)) (Syntax.tyRef (Syntax.named 1) Syntax.imm (Syntax.tyInt Syntax.w32)) 1) (List._∷_ (4, Relend.mslice-owed (Referent.rtF (Referent.fInt Syntax.w32)) (Syntax.tyRef (Syntax.named 2) Syntax.mut (Syntax.tyInt Syntax.w32)) 2 8 Row.off) (List._∷_ (5, Rows.sslice Cell.R (Syntax.tyRef (Syntax.named 3) Syntax.imm Cell.behind) 3) (List._∷_ (6, Rows.sslice Cell.R (Syntax.tyRef (Syntax.named 4) Syntax.imm Cell.behind) 4) (List._∷_ (7, Rows.sc-here (Row.sInt Syntax.w64)) (List._∷_ (8, Rows.sc-here (Row.sInt Syntax.w64)) (List._∷_ (9, Rows.any-gone (Syntax.tyEnum (List._∷_ 100 (List._∷_ 97 (List._∷_ 114 (List._∷_ 116 (List._∷_ 115 (List._∷_ 58 (List._∷_ 58 (List._∷_ 65 (List._∷_ 110 (List._∷_ 115 (List._∷_ 119 (List._∷_ 101 (List._∷_ 114 List.[]))))))))))))) (Syntax.ttcons (Syntax.tcons (Syntax.tyInt Syntax.w64) Syntax.tnil) (Syntax.ttcons Syntax.tnil (Syntax.ttcons (Syntax.tcons (Syntax.tyInt Syntax.w64) Syntax.tnil) (Syntax.ttcons (Syntax.tcons (Syntax.tyInt Syntax.w64) (Syntax.tcons (Syntax.tyInt Syntax.w64) Syntax.tnil)) (Syntax.ttcons Syntax.tnil (Syntax.ttcons Syntax.tnil (Syntax.ttcons Syntax.tnil (Syntax.ttcons (Syntax.tcons (Syntax.tyInt Syntax.w64) Syntax.tnil) (Syntax.ttcons (Syntax.tcons (Syntax.tyInt Syntax.w64) Syntax.tnil) (Syntax.ttcons (Syntax.tcons (Syntax.tyInt Syntax.w64) Syntax.tnil) (Syntax.ttcons (Syntax.tcons (Syntax.tyInt Syntax.w64) Syntax.tnil) (Syntax.ttcons (Syntax.tcons (Syntax.tyInt Syntax.w64) Syntax.tnil) (Syntax.ttcons (Syntax.tcons (Syntax.tyInt Syntax.w64) Syntax.tnil) (Syntax.ttcons (Syntax.tcons (Syntax.tyInt Syntax.w64) Syntax.tnil) (Syntax.ttcons Syntax.tnil (Syntax.ttcons Syntax.tnil (Syntax.ttcons (Syntax.tcons (Syntax.tyInt Syntax.w64) Syntax.tnil) Syntax.ttnil))))))))))))))))))) (List._∷_ (10, Rows.any-gone (Syntax.tyRef Syntax.erased Syntax.mut (Syntax.tyInt Syntax.w32))) (List._∷_ (11, Rows.any-gone (Syntax.tyStruct (List._∷_ 38 (List._∷_ 91 (List._∷_ 93 List.[]))) (Syntax.tcons (Syntax.tyRef Syntax.erased Syntax.mut (Syntax.tyInt Syntax.w32)) (Syntax.tcons (Syntax.tyInt Syntax.w64) Syntax.tnil)))) (List._∷_ (12, Rows.any-gone (Syntax.tyInt Syntax.w32)) (List._∷_ (13, Rows.any-gone Syntax.tyBool) (List._∷_ (14, Rows.any-gone Syntax.tyBool) (List._∷_ (15, Rows.any-gone (Syntax.tyRef Syntax.erased Syntax.imm (Syntax.tyInt Syntax.w32))) List.[])))))))))))))))
+t36 = List._∷_ (16, Rows.any-gone Syntax.tyBool) (List._∷_ (17, Rows.any-gone (Syntax.tyRef Syntax.erased Syntax.imm (Syntax.tyInt Syntax.w32))) (List._∷_ (18, Rows.any-gone (Syntax.tyStruct (List._∷_ 38 (List._∷_ 91 (List._∷_ 93 List.[]))) (Syntax.tcons (Syntax.tyRef Syntax.erased Syntax.imm (Syntax.tyInt Syntax.w32)) (Syntax.tcons (Syntax.tyInt Syntax.w64) Syntax.tnil)))) (List._∷_ (19, Rows.any-gone (Syntax.tyInt Syntax.w64)) (List._∷_ (20, Rows.any-gone (Syntax.tyInt Syntax.w64)) (List._∷_ (21, Rows.any-gone (Syntax.tyRef Syntax.erased Syntax.mut (Syntax.tyInt Syntax.w32))) (List._∷_ (22, Mut.msleft (Referent.rtF (Referent.fInt Syntax.w32)) (Syntax.tyRef Syntax.erased Syntax.mut (Syntax.tyInt Syntax.w32))) (List._∷_ (23, Rows.any-gone (Syntax.tyRef Syntax.erased Syntax.mut (Syntax.tyInt Syntax.w32))) (List._∷_ (24, Rows.any-gone (Syntax.tyStruct (List._∷_ 38 (List._∷_ 91 (List._∷_ 93 List.[]))) (Syntax.tcons (Syntax.tyRef Syntax.erased Syntax.mut (Syntax.tyInt Syntax.w32)) (Syntax.tcons (Syntax.tyInt Syntax.w64) Syntax.tnil)))) List.[]))))))))
 
 abbrev pub t37 : List.List Row.Entry
-t37 = List._∷_ (16, Rows.any-gone (Syntax.tyStruct (List._∷_ 38 (List._∷_ 91 (List._∷_ 93 List.[]))) (Syntax.tcons (Syntax.tyRef Syntax.erased Syntax.imm (Syntax.tyInt Syntax.w32)) (Syntax.tcons (Syntax.tyInt Syntax.w64) Syntax.tnil)))) (List._∷_ (17, Rows.any-gone (Syntax.tyInt Syntax.w64)) (List._∷_ (18, Rows.any-gone (Syntax.tyInt Syntax.w64)) (List._∷_ (19, Rows.any-gone (Syntax.tyRef Syntax.erased Syntax.mut (Syntax.tyInt Syntax.w32))) (List._∷_ (20, Rows.any-gone (Syntax.tyStruct (List._∷_ 38 (List._∷_ 91 (List._∷_ 93 List.[]))) (Syntax.tcons (Syntax.tyRef Syntax.erased Syntax.mut (Syntax.tyInt Syntax.w32)) (Syntax.tcons (Syntax.tyInt Syntax.w64) Syntax.tnil)))) (List._∷_ (21, Rows.any-gone (Syntax.tyRef Syntax.erased Syntax.mut (Syntax.tyInt Syntax.w32))) (List._∷_ (22, Mut.msleft (Referent.rtF (Referent.fInt Syntax.w32)) (Syntax.tyRef Syntax.erased Syntax.mut (Syntax.tyInt Syntax.w32))) List.[]))))))
+t37 = List._∷_ (0, Rows.whole (Declared.row Answer.the-type)) (List._∷_ (1, Rows.any-gone (Syntax.tyStruct (List._∷_ 112 (List._∷_ 121 (List._∷_ 114 (List._∷_ 97 (List._∷_ 109 (List._∷_ 105 (List._∷_ 100 (List._∷_ 58 (List._∷_ 58 (List._∷_ 83 (List._∷_ 116 (List._∷_ 97 (List._∷_ 116 (List._∷_ 101 List.[])))))))))))))) (Syntax.tcons (Syntax.tyInt Syntax.w32) (Syntax.tcons (Syntax.tyInt Syntax.w32) (Syntax.tcons (Syntax.tyInt Syntax.w32) (Syntax.tcons (Syntax.tyInt Syntax.w32) (Syntax.tcons (Syntax.tyInt Syntax.w32) (Syntax.tcons (Syntax.tyArray (Syntax.tyInt Syntax.w32) 64) Syntax.tnil)))))))) (List._∷_ (2, Rows.sslice (Referent.rtF (Referent.fInt Syntax.w32)) (Syntax.tyRef (Syntax.named 0) Syntax.imm (Syntax.tyInt Syntax.w32)) 0) (List._∷_ (3, Rows.sslice (Referent.rtF (Referent.fInt Syntax.w32)) (Syntax.tyRef (Syntax.named 1) Syntax.imm (Syntax.tyInt Syntax.w32)) 1) (List._∷_ (4, Relend.mslice-owed (Referent.rtF (Referent.fInt Syntax.w32)) (Syntax.tyRef (Syntax.named 2) Syntax.mut (Syntax.tyInt Syntax.w32)) 2 8 Row.off) (List._∷_ (5, Rows.sslice Cell.R (Syntax.tyRef (Syntax.named 3) Syntax.imm Cell.behind) 3) (List._∷_ (6, Rows.sslice Cell.R (Syntax.tyRef (Syntax.named 4) Syntax.imm Cell.behind) 4) (List._∷_ (7, Rows.sc-here (Row.sInt Syntax.w64)) (List._∷_ (8, Rows.sc-here (Row.sInt Syntax.w64)) (List._∷_ (9, Rows.any-gone (Syntax.tyEnum (List._∷_ 100 (List._∷_ 97 (List._∷_ 114 (List._∷_ 116 (List._∷_ 115 (List._∷_ 58 (List._∷_ 58 (List._∷_ 65 (List._∷_ 110 (List._∷_ 115 (List._∷_ 119 (List._∷_ 101 (List._∷_ 114 List.[]))))))))))))) (Syntax.ttcons (Syntax.tcons (Syntax.tyInt Syntax.w64) Syntax.tnil) (Syntax.ttcons Syntax.tnil (Syntax.ttcons (Syntax.tcons (Syntax.tyInt Syntax.w64) Syntax.tnil) (Syntax.ttcons (Syntax.tcons (Syntax.tyInt Syntax.w64) (Syntax.tcons (Syntax.tyInt Syntax.w64) Syntax.tnil)) (Syntax.ttcons Syntax.tnil (Syntax.ttcons Syntax.tnil (Syntax.ttcons Syntax.tnil (Syntax.ttcons (Syntax.tcons (Syntax.tyInt Syntax.w64) Syntax.tnil) (Syntax.ttcons (Syntax.tcons (Syntax.tyInt Syntax.w64) Syntax.tnil) (Syntax.ttcons (Syntax.tcons (Syntax.tyInt Syntax.w64) Syntax.tnil) (Syntax.ttcons (Syntax.tcons (Syntax.tyInt Syntax.w64) Syntax.tnil) (Syntax.ttcons (Syntax.tcons (Syntax.tyInt Syntax.w64) Syntax.tnil) (Syntax.ttcons (Syntax.tcons (Syntax.tyInt Syntax.w64) Syntax.tnil) (Syntax.ttcons (Syntax.tcons (Syntax.tyInt Syntax.w64) Syntax.tnil) (Syntax.ttcons Syntax.tnil (Syntax.ttcons Syntax.tnil (Syntax.ttcons (Syntax.tcons (Syntax.tyInt Syntax.w64) Syntax.tnil) Syntax.ttnil))))))))))))))))))) (List._∷_ (10, Rows.any-gone Syntax.tyBool) (List._∷_ (11, Rows.any-gone (Syntax.tyRef Syntax.erased Syntax.mut (Syntax.tyInt Syntax.w32))) (List._∷_ (12, Rows.any-gone (Syntax.tyStruct (List._∷_ 38 (List._∷_ 91 (List._∷_ 93 List.[]))) (Syntax.tcons (Syntax.tyRef Syntax.erased Syntax.mut (Syntax.tyInt Syntax.w32)) (Syntax.tcons (Syntax.tyInt Syntax.w64) Syntax.tnil)))) (List._∷_ (13, Rows.any-gone (Syntax.tyRef Syntax.erased Syntax.mut (Syntax.tyInt Syntax.w32))) (List._∷_ (14, Rows.any-gone (Syntax.tyStruct (List._∷_ 38 (List._∷_ 91 (List._∷_ 93 List.[]))) (Syntax.tcons (Syntax.tyRef Syntax.erased Syntax.mut (Syntax.tyInt Syntax.w32)) (Syntax.tcons (Syntax.tyInt Syntax.w64) Syntax.tnil)))) (List._∷_ (15, Rows.any-gone (Syntax.tyInt Syntax.w32)) List.[])))))))))))))))
 
 abbrev pub t38 : List.List Row.Entry
-t38 = List._∷_ (0, Rows.whole (Declared.row Answer.the-type)) (List._∷_ (1, Rows.any-gone (Syntax.tyStruct (List._∷_ 112 (List._∷_ 121 (List._∷_ 114 (List._∷_ 97 (List._∷_ 109 (List._∷_ 105 (List._∷_ 100 (List._∷_ 58 (List._∷_ 58 (List._∷_ 83 (List._∷_ 116 (List._∷_ 97 (List._∷_ 116 (List._∷_ 101 List.[])))))))))))))) (Syntax.tcons (Syntax.tyInt Syntax.w32) (Syntax.tcons (Syntax.tyInt Syntax.w32) (Syntax.tcons (Syntax.tyInt Syntax.w32) (Syntax.tcons (Syntax.tyInt Syntax.w32) (Syntax.tcons (Syntax.tyInt Syntax.w32) (Syntax.tcons (Syntax.tyArray (Syntax.tyInt Syntax.w32) 64) Syntax.tnil)))))))) (List._∷_ (2, Rows.sslice (Referent.rtF (Referent.fInt Syntax.w32)) (Syntax.tyRef (Syntax.named 0) Syntax.imm (Syntax.tyInt Syntax.w32)) 0) (List._∷_ (3, Rows.sslice (Referent.rtF (Referent.fInt Syntax.w32)) (Syntax.tyRef (Syntax.named 1) Syntax.imm (Syntax.tyInt Syntax.w32)) 1) (List._∷_ (4, Relend.mslice-owed (Referent.rtF (Referent.fInt Syntax.w32)) (Syntax.tyRef (Syntax.named 2) Syntax.mut (Syntax.tyInt Syntax.w32)) 2 8 Row.off) (List._∷_ (5, Rows.sslice Cell.R (Syntax.tyRef (Syntax.named 3) Syntax.imm Cell.behind) 3) (List._∷_ (6, Rows.sslice Cell.R (Syntax.tyRef (Syntax.named 4) Syntax.imm Cell.behind) 4) (List._∷_ (7, Rows.sc-here (Row.sInt Syntax.w64)) (List._∷_ (8, Rows.sc-here (Row.sInt Syntax.w64)) (List._∷_ (9, Rows.any-gone (Syntax.tyEnum (List._∷_ 100 (List._∷_ 97 (List._∷_ 114 (List._∷_ 116 (List._∷_ 115 (List._∷_ 58 (List._∷_ 58 (List._∷_ 65 (List._∷_ 110 (List._∷_ 115 (List._∷_ 119 (List._∷_ 101 (List._∷_ 114 List.[]))))))))))))) (Syntax.ttcons (Syntax.tcons (Syntax.tyInt Syntax.w64) Syntax.tnil) (Syntax.ttcons Syntax.tnil (Syntax.ttcons (Syntax.tcons (Syntax.tyInt Syntax.w64) Syntax.tnil) (Syntax.ttcons (Syntax.tcons (Syntax.tyInt Syntax.w64) (Syntax.tcons (Syntax.tyInt Syntax.w64) Syntax.tnil)) (Syntax.ttcons Syntax.tnil (Syntax.ttcons Syntax.tnil (Syntax.ttcons Syntax.tnil (Syntax.ttcons (Syntax.tcons (Syntax.tyInt Syntax.w64) Syntax.tnil) (Syntax.ttcons (Syntax.tcons (Syntax.tyInt Syntax.w64) Syntax.tnil) (Syntax.ttcons (Syntax.tcons (Syntax.tyInt Syntax.w64) Syntax.tnil) (Syntax.ttcons (Syntax.tcons (Syntax.tyInt Syntax.w64) Syntax.tnil) (Syntax.ttcons (Syntax.tcons (Syntax.tyInt Syntax.w64) Syntax.tnil) (Syntax.ttcons (Syntax.tcons (Syntax.tyInt Syntax.w64) Syntax.tnil) (Syntax.ttcons (Syntax.tcons (Syntax.tyInt Syntax.w64) Syntax.tnil) (Syntax.ttcons Syntax.tnil (Syntax.ttcons Syntax.tnil (Syntax.ttcons (Syntax.tcons (Syntax.tyInt Syntax.w64) Syntax.tnil) Syntax.ttnil))))))))))))))))))) (List._∷_ (10, Rows.any-gone (Syntax.tyRef Syntax.erased Syntax.mut (Syntax.tyInt Syntax.w32))) (List._∷_ (11, Rows.any-gone (Syntax.tyStruct (List._∷_ 38 (List._∷_ 91 (List._∷_ 93 List.[]))) (Syntax.tcons (Syntax.tyRef Syntax.erased Syntax.mut (Syntax.tyInt Syntax.w32)) (Syntax.tcons (Syntax.tyInt Syntax.w64) Syntax.tnil)))) (List._∷_ (12, Rows.any-gone (Syntax.tyInt Syntax.w32)) (List._∷_ (13, Rows.any-gone Syntax.tyBool) (List._∷_ (14, Rows.any-gone Syntax.tyBool) (List._∷_ (15, Rows.any-gone (Syntax.tyRef Syntax.erased Syntax.imm (Syntax.tyInt Syntax.w32))) List.[])))))))))))))))
+t38 = List._∷_ (0, Rows.any-gone (Syntax.tyEnum (List._∷_ 100 (List._∷_ 97 (List._∷_ 114 (List._∷_ 116 (List._∷_ 115 (List._∷_ 58 (List._∷_ 58 (List._∷_ 65 (List._∷_ 110 (List._∷_ 115 (List._∷_ 119 (List._∷_ 101 (List._∷_ 114 List.[]))))))))))))) (Syntax.ttcons (Syntax.tcons (Syntax.tyInt Syntax.w64) Syntax.tnil) (Syntax.ttcons Syntax.tnil (Syntax.ttcons (Syntax.tcons (Syntax.tyInt Syntax.w64) Syntax.tnil) (Syntax.ttcons (Syntax.tcons (Syntax.tyInt Syntax.w64) (Syntax.tcons (Syntax.tyInt Syntax.w64) Syntax.tnil)) (Syntax.ttcons Syntax.tnil (Syntax.ttcons Syntax.tnil (Syntax.ttcons Syntax.tnil (Syntax.ttcons (Syntax.tcons (Syntax.tyInt Syntax.w64) Syntax.tnil) (Syntax.ttcons (Syntax.tcons (Syntax.tyInt Syntax.w64) Syntax.tnil) (Syntax.ttcons (Syntax.tcons (Syntax.tyInt Syntax.w64) Syntax.tnil) (Syntax.ttcons (Syntax.tcons (Syntax.tyInt Syntax.w64) Syntax.tnil) (Syntax.ttcons (Syntax.tcons (Syntax.tyInt Syntax.w64) Syntax.tnil) (Syntax.ttcons (Syntax.tcons (Syntax.tyInt Syntax.w64) Syntax.tnil) (Syntax.ttcons (Syntax.tcons (Syntax.tyInt Syntax.w64) Syntax.tnil) (Syntax.ttcons Syntax.tnil (Syntax.ttcons Syntax.tnil (Syntax.ttcons (Syntax.tcons (Syntax.tyInt Syntax.w64) Syntax.tnil) Syntax.ttnil))))))))))))))))))) (List._∷_ (1, Rows.whole (Declared'.row State.the-type)) (List._∷_ (2, Rows.sslice (Referent.rtF (Referent.fInt Syntax.w32)) (Syntax.tyRef (Syntax.named 0) Syntax.imm (Syntax.tyInt Syntax.w32)) 0) (List._∷_ (3, Rows.sslice (Referent.rtF (Referent.fInt Syntax.w32)) (Syntax.tyRef (Syntax.named 1) Syntax.imm (Syntax.tyInt Syntax.w32)) 1) (List._∷_ (4, Relend.mslice-owed (Referent.rtF (Referent.fInt Syntax.w32)) (Syntax.tyRef (Syntax.named 2) Syntax.mut (Syntax.tyInt Syntax.w32)) 2 9 Row.off) (List._∷_ (5, Rows.sslice Cell.R (Syntax.tyRef (Syntax.named 3) Syntax.imm Cell.behind) 3) (List._∷_ (6, Rows.sslice Cell.R (Syntax.tyRef (Syntax.named 4) Syntax.imm Cell.behind) 4) (List._∷_ (7, Rows.sc-here (Row.sInt Syntax.w64)) (List._∷_ (8, Rows.sc-here (Row.sInt Syntax.w64)) (List._∷_ (9, Rows.any-gone (Syntax.tyEnum (List._∷_ 100 (List._∷_ 97 (List._∷_ 114 (List._∷_ 116 (List._∷_ 115 (List._∷_ 58 (List._∷_ 58 (List._∷_ 65 (List._∷_ 110 (List._∷_ 115 (List._∷_ 119 (List._∷_ 101 (List._∷_ 114 List.[]))))))))))))) (Syntax.ttcons (Syntax.tcons (Syntax.tyInt Syntax.w64) Syntax.tnil) (Syntax.ttcons Syntax.tnil (Syntax.ttcons (Syntax.tcons (Syntax.tyInt Syntax.w64) Syntax.tnil) (Syntax.ttcons (Syntax.tcons (Syntax.tyInt Syntax.w64) (Syntax.tcons (Syntax.tyInt Syntax.w64) Syntax.tnil)) (Syntax.ttcons Syntax.tnil (Syntax.ttcons Syntax.tnil (Syntax.ttcons Syntax.tnil (Syntax.ttcons (Syntax.tcons (Syntax.tyInt Syntax.w64) Syntax.tnil) (Syntax.ttcons (Syntax.tcons (Syntax.tyInt Syntax.w64) Syntax.tnil) (Syntax.ttcons (Syntax.tcons (Syntax.tyInt Syntax.w64) Syntax.tnil) (Syntax.ttcons (Syntax.tcons (Syntax.tyInt Syntax.w64) Syntax.tnil) (Syntax.ttcons (Syntax.tcons (Syntax.tyInt Syntax.w64) Syntax.tnil) (Syntax.ttcons (Syntax.tcons (Syntax.tyInt Syntax.w64) Syntax.tnil) (Syntax.ttcons (Syntax.tcons (Syntax.tyInt Syntax.w64) Syntax.tnil) (Syntax.ttcons Syntax.tnil (Syntax.ttcons Syntax.tnil (Syntax.ttcons (Syntax.tcons (Syntax.tyInt Syntax.w64) Syntax.tnil) Syntax.ttnil))))))))))))))))))) (List._∷_ (10, Rows.any-gone Syntax.tyBool) (List._∷_ (11, Rows.any-gone (Syntax.tyRef Syntax.erased Syntax.mut (Syntax.tyInt Syntax.w32))) (List._∷_ (12, Rows.any-gone (Syntax.tyStruct (List._∷_ 38 (List._∷_ 91 (List._∷_ 93 List.[]))) (Syntax.tcons (Syntax.tyRef Syntax.erased Syntax.mut (Syntax.tyInt Syntax.w32)) (Syntax.tcons (Syntax.tyInt Syntax.w64) Syntax.tnil)))) (List._∷_ (13, Rows.any-gone (Syntax.tyRef Syntax.erased Syntax.mut (Syntax.tyInt Syntax.w32))) (List._∷_ (14, Rows.any-gone (Syntax.tyStruct (List._∷_ 38 (List._∷_ 91 (List._∷_ 93 List.[]))) (Syntax.tcons (Syntax.tyRef Syntax.erased Syntax.mut (Syntax.tyInt Syntax.w32)) (Syntax.tcons (Syntax.tyInt Syntax.w64) Syntax.tnil)))) (List._∷_ (15, Rows.any-gone (Syntax.tyInt Syntax.w32)) List.[])))))))))))))))
 
 abbrev pub t39 : List.List Row.Entry
-t39 = List._∷_ (0, Rows.whole (Declared.row Answer.the-type)) (List._∷_ (1, Rows.any-gone (Syntax.tyStruct (List._∷_ 112 (List._∷_ 121 (List._∷_ 114 (List._∷_ 97 (List._∷_ 109 (List._∷_ 105 (List._∷_ 100 (List._∷_ 58 (List._∷_ 58 (List._∷_ 83 (List._∷_ 116 (List._∷_ 97 (List._∷_ 116 (List._∷_ 101 List.[])))))))))))))) (Syntax.tcons (Syntax.tyInt Syntax.w32) (Syntax.tcons (Syntax.tyInt Syntax.w32) (Syntax.tcons (Syntax.tyInt Syntax.w32) (Syntax.tcons (Syntax.tyInt Syntax.w32) (Syntax.tcons (Syntax.tyInt Syntax.w32) (Syntax.tcons (Syntax.tyArray (Syntax.tyInt Syntax.w32) 64) Syntax.tnil)))))))) (List._∷_ (2, Rows.sslice (Referent.rtF (Referent.fInt Syntax.w32)) (Syntax.tyRef (Syntax.named 0) Syntax.imm (Syntax.tyInt Syntax.w32)) 0) (List._∷_ (3, Rows.sslice (Referent.rtF (Referent.fInt Syntax.w32)) (Syntax.tyRef (Syntax.named 1) Syntax.imm (Syntax.tyInt Syntax.w32)) 1) (List._∷_ (4, Relend.mslice-owed (Referent.rtF (Referent.fInt Syntax.w32)) (Syntax.tyRef (Syntax.named 2) Syntax.mut (Syntax.tyInt Syntax.w32)) 2 8 Row.off) (List._∷_ (5, Rows.sslice Cell.R (Syntax.tyRef (Syntax.named 3) Syntax.imm Cell.behind) 3) (List._∷_ (6, Rows.sslice Cell.R (Syntax.tyRef (Syntax.named 4) Syntax.imm Cell.behind) 4) (List._∷_ (7, Rows.any-gone (Syntax.tyInt Syntax.w64)) (List._∷_ (8, Rows.sc-here (Row.sInt Syntax.w64)) (List._∷_ (9, Rows.any-gone (Syntax.tyEnum (List._∷_ 100 (List._∷_ 97 (List._∷_ 114 (List._∷_ 116 (List._∷_ 115 (List._∷_ 58 (List._∷_ 58 (List._∷_ 65 (List._∷_ 110 (List._∷_ 115 (List._∷_ 119 (List._∷_ 101 (List._∷_ 114 List.[]))))))))))))) (Syntax.ttcons (Syntax.tcons (Syntax.tyInt Syntax.w64) Syntax.tnil) (Syntax.ttcons Syntax.tnil (Syntax.ttcons (Syntax.tcons (Syntax.tyInt Syntax.w64) Syntax.tnil) (Syntax.ttcons (Syntax.tcons (Syntax.tyInt Syntax.w64) (Syntax.tcons (Syntax.tyInt Syntax.w64) Syntax.tnil)) (Syntax.ttcons Syntax.tnil (Syntax.ttcons Syntax.tnil (Syntax.ttcons Syntax.tnil (Syntax.ttcons (Syntax.tcons (Syntax.tyInt Syntax.w64) Syntax.tnil) (Syntax.ttcons (Syntax.tcons (Syntax.tyInt Syntax.w64) Syntax.tnil) (Syntax.ttcons (Syntax.tcons (Syntax.tyInt Syntax.w64) Syntax.tnil) (Syntax.ttcons (Syntax.tcons (Syntax.tyInt Syntax.w64) Syntax.tnil) (Syntax.ttcons (Syntax.tcons (Syntax.tyInt Syntax.w64) Syntax.tnil) (Syntax.ttcons (Syntax.tcons (Syntax.tyInt Syntax.w64) Syntax.tnil) (Syntax.ttcons (Syntax.tcons (Syntax.tyInt Syntax.w64) Syntax.tnil) (Syntax.ttcons Syntax.tnil (Syntax.ttcons Syntax.tnil (Syntax.ttcons (Syntax.tcons (Syntax.tyInt Syntax.w64) Syntax.tnil) Syntax.ttnil))))))))))))))))))) (List._∷_ (10, Rows.any-gone (Syntax.tyRef Syntax.erased Syntax.mut (Syntax.tyInt Syntax.w32))) (List._∷_ (11, Rows.any-gone (Syntax.tyStruct (List._∷_ 38 (List._∷_ 91 (List._∷_ 93 List.[]))) (Syntax.tcons (Syntax.tyRef Syntax.erased Syntax.mut (Syntax.tyInt Syntax.w32)) (Syntax.tcons (Syntax.tyInt Syntax.w64) Syntax.tnil)))) (List._∷_ (12, Rows.any-gone (Syntax.tyInt Syntax.w32)) (List._∷_ (13, Rows.any-gone Syntax.tyBool) (List._∷_ (14, Rows.any-gone Syntax.tyBool) (List._∷_ (15, Rows.any-gone (Syntax.tyRef Syntax.erased Syntax.imm (Syntax.tyInt Syntax.w32))) List.[])))))))))))))))
+t39 = List._∷_ (16, Rows.any-gone Syntax.tyBool) (List._∷_ (17, Rows.any-gone (Syntax.tyRef Syntax.erased Syntax.imm (Syntax.tyInt Syntax.w32))) (List._∷_ (18, Rows.any-gone (Syntax.tyStruct (List._∷_ 38 (List._∷_ 91 (List._∷_ 93 List.[]))) (Syntax.tcons (Syntax.tyRef Syntax.erased Syntax.imm (Syntax.tyInt Syntax.w32)) (Syntax.tcons (Syntax.tyInt Syntax.w64) Syntax.tnil)))) (List._∷_ (19, Rows.any-gone (Syntax.tyInt Syntax.w64)) (List._∷_ (20, Rows.any-gone (Syntax.tyInt Syntax.w64)) (List._∷_ (21, Rows.any-gone (Syntax.tyRef Syntax.erased Syntax.mut (Syntax.tyInt Syntax.w32))) (List._∷_ (22, Rows.any-gone (Syntax.tyStruct (List._∷_ 38 (List._∷_ 91 (List._∷_ 93 List.[]))) (Syntax.tcons (Syntax.tyRef Syntax.erased Syntax.mut (Syntax.tyInt Syntax.w32)) (Syntax.tcons (Syntax.tyInt Syntax.w64) Syntax.tnil)))) (List._∷_ (23, Relend.msptr (Referent.rtF (Referent.fInt Syntax.w32)) (Syntax.tyRef Syntax.erased Syntax.mut (Syntax.tyInt Syntax.w32)) 9) (List._∷_ (24, Rows.any-gone (Syntax.tyStruct (List._∷_ 38 (List._∷_ 91 (List._∷_ 93 List.[]))) (Syntax.tcons (Syntax.tyRef Syntax.erased Syntax.mut (Syntax.tyInt Syntax.w32)) (Syntax.tcons (Syntax.tyInt Syntax.w64) Syntax.tnil)))) List.[]))))))))
 
 abbrev pub t40 : List.List Row.Entry
-t40 = List._∷_ (0, Rows.whole (Declared.row Answer.the-type)) (List._∷_ (1, Rows.any-gone (Syntax.tyStruct (List._∷_ 112 (List._∷_ 121 (List._∷_ 114 (List._∷_ 97 (List._∷_ 109 (List._∷_ 105 (List._∷_ 100 (List._∷_ 58 (List._∷_ 58 (List._∷_ 83 (List._∷_ 116 (List._∷_ 97 (List._∷_ 116 (List._∷_ 101 List.[])))))))))))))) (Syntax.tcons (Syntax.tyInt Syntax.w32) (Syntax.tcons (Syntax.tyInt Syntax.w32) (Syntax.tcons (Syntax.tyInt Syntax.w32) (Syntax.tcons (Syntax.tyInt Syntax.w32) (Syntax.tcons (Syntax.tyInt Syntax.w32) (Syntax.tcons (Syntax.tyArray (Syntax.tyInt Syntax.w32) 64) Syntax.tnil)))))))) (List._∷_ (2, Rows.sslice (Referent.rtF (Referent.fInt Syntax.w32)) (Syntax.tyRef (Syntax.named 0) Syntax.imm (Syntax.tyInt Syntax.w32)) 0) (List._∷_ (3, Rows.sslice (Referent.rtF (Referent.fInt Syntax.w32)) (Syntax.tyRef (Syntax.named 1) Syntax.imm (Syntax.tyInt Syntax.w32)) 1) (List._∷_ (4, Relend.mslice-owed (Referent.rtF (Referent.fInt Syntax.w32)) (Syntax.tyRef (Syntax.named 2) Syntax.mut (Syntax.tyInt Syntax.w32)) 2 8 Row.off) (List._∷_ (5, Rows.sslice Cell.R (Syntax.tyRef (Syntax.named 3) Syntax.imm Cell.behind) 3) (List._∷_ (6, Rows.sslice Cell.R (Syntax.tyRef (Syntax.named 4) Syntax.imm Cell.behind) 4) (List._∷_ (7, Rows.any-gone (Syntax.tyInt Syntax.w64)) (List._∷_ (8, Rows.any-gone (Syntax.tyInt Syntax.w64)) (List._∷_ (9, Rows.any-gone (Syntax.tyEnum (List._∷_ 100 (List._∷_ 97 (List._∷_ 114 (List._∷_ 116 (List._∷_ 115 (List._∷_ 58 (List._∷_ 58 (List._∷_ 65 (List._∷_ 110 (List._∷_ 115 (List._∷_ 119 (List._∷_ 101 (List._∷_ 114 List.[]))))))))))))) (Syntax.ttcons (Syntax.tcons (Syntax.tyInt Syntax.w64) Syntax.tnil) (Syntax.ttcons Syntax.tnil (Syntax.ttcons (Syntax.tcons (Syntax.tyInt Syntax.w64) Syntax.tnil) (Syntax.ttcons (Syntax.tcons (Syntax.tyInt Syntax.w64) (Syntax.tcons (Syntax.tyInt Syntax.w64) Syntax.tnil)) (Syntax.ttcons Syntax.tnil (Syntax.ttcons Syntax.tnil (Syntax.ttcons Syntax.tnil (Syntax.ttcons (Syntax.tcons (Syntax.tyInt Syntax.w64) Syntax.tnil) (Syntax.ttcons (Syntax.tcons (Syntax.tyInt Syntax.w64) Syntax.tnil) (Syntax.ttcons (Syntax.tcons (Syntax.tyInt Syntax.w64) Syntax.tnil) (Syntax.ttcons (Syntax.tcons (Syntax.tyInt Syntax.w64) Syntax.tnil) (Syntax.ttcons (Syntax.tcons (Syntax.tyInt Syntax.w64) Syntax.tnil) (Syntax.ttcons (Syntax.tcons (Syntax.tyInt Syntax.w64) Syntax.tnil) (Syntax.ttcons (Syntax.tcons (Syntax.tyInt Syntax.w64) Syntax.tnil) (Syntax.ttcons Syntax.tnil (Syntax.ttcons Syntax.tnil (Syntax.ttcons (Syntax.tcons (Syntax.tyInt Syntax.w64) Syntax.tnil) Syntax.ttnil))))))))))))))))))) (List._∷_ (10, Rows.any-gone (Syntax.tyRef Syntax.erased Syntax.mut (Syntax.tyInt Syntax.w32))) (List._∷_ (11, Rows.any-gone (Syntax.tyStruct (List._∷_ 38 (List._∷_ 91 (List._∷_ 93 List.[]))) (Syntax.tcons (Syntax.tyRef Syntax.erased Syntax.mut (Syntax.tyInt Syntax.w32)) (Syntax.tcons (Syntax.tyInt Syntax.w64) Syntax.tnil)))) (List._∷_ (12, Rows.any-gone (Syntax.tyInt Syntax.w32)) (List._∷_ (13, Rows.any-gone Syntax.tyBool) (List._∷_ (14, Rows.any-gone Syntax.tyBool) (List._∷_ (15, Rows.any-gone (Syntax.tyRef Syntax.erased Syntax.imm (Syntax.tyInt Syntax.w32))) List.[])))))))))))))))
+t40 = List._∷_ (16, Rows.any-gone Syntax.tyBool) (List._∷_ (17, Rows.any-gone (Syntax.tyRef Syntax.erased Syntax.imm (Syntax.tyInt Syntax.w32))) (List._∷_ (18, Rows.any-gone (Syntax.tyStruct (List._∷_ 38 (List._∷_ 91 (List._∷_ 93 List.[]))) (Syntax.tcons (Syntax.tyRef Syntax.erased Syntax.imm (Syntax.tyInt Syntax.w32)) (Syntax.tcons (Syntax.tyInt Syntax.w64) Syntax.tnil)))) (List._∷_ (19, Rows.any-gone (Syntax.tyInt Syntax.w64)) (List._∷_ (20, Rows.any-gone (Syntax.tyInt Syntax.w64)) (List._∷_ (21, Rows.any-gone (Syntax.tyRef Syntax.erased Syntax.mut (Syntax.tyInt Syntax.w32))) (List._∷_ (22, Rows.any-gone (Syntax.tyStruct (List._∷_ 38 (List._∷_ 91 (List._∷_ 93 List.[]))) (Syntax.tcons (Syntax.tyRef Syntax.erased Syntax.mut (Syntax.tyInt Syntax.w32)) (Syntax.tcons (Syntax.tyInt Syntax.w64) Syntax.tnil)))) (List._∷_ (23, Rows.any-gone (Syntax.tyRef Syntax.erased Syntax.mut (Syntax.tyInt Syntax.w32))) (List._∷_ (24, Mut.mslice (Referent.rtF (Referent.fInt Syntax.w32)) (Syntax.tyRef Syntax.erased Syntax.mut (Syntax.tyInt Syntax.w32)) 9) List.[]))))))))
+
+abbrev pub t41 : List.List Row.Entry
+t41 = List._∷_ (0, Rows.whole (Declared.row Answer.the-type)) (List._∷_ (1, Rows.whole (Declared'.row State.the-type)) (List._∷_ (2, Rows.sslice (Referent.rtF (Referent.fInt Syntax.w32)) (Syntax.tyRef (Syntax.named 0) Syntax.imm (Syntax.tyInt Syntax.w32)) 0) (List._∷_ (3, Rows.sslice (Referent.rtF (Referent.fInt Syntax.w32)) (Syntax.tyRef (Syntax.named 1) Syntax.imm (Syntax.tyInt Syntax.w32)) 1) (List._∷_ (4, Relend.mslice-owed (Referent.rtF (Referent.fInt Syntax.w32)) (Syntax.tyRef (Syntax.named 2) Syntax.mut (Syntax.tyInt Syntax.w32)) 2 9 Row.off) (List._∷_ (5, Rows.sslice Cell.R (Syntax.tyRef (Syntax.named 3) Syntax.imm Cell.behind) 3) (List._∷_ (6, Rows.sslice Cell.R (Syntax.tyRef (Syntax.named 4) Syntax.imm Cell.behind) 4) (List._∷_ (7, Rows.sc-here (Row.sInt Syntax.w64)) (List._∷_ (8, Rows.sc-here (Row.sInt Syntax.w64)) (List._∷_ (9, Rows.any-gone (Syntax.tyEnum (List._∷_ 100 (List._∷_ 97 (List._∷_ 114 (List._∷_ 116 (List._∷_ 115 (List._∷_ 58 (List._∷_ 58 (List._∷_ 65 (List._∷_ 110 (List._∷_ 115 (List._∷_ 119 (List._∷_ 101 (List._∷_ 114 List.[]))))))))))))) (Syntax.ttcons (Syntax.tcons (Syntax.tyInt Syntax.w64) Syntax.tnil) (Syntax.ttcons Syntax.tnil (Syntax.ttcons (Syntax.tcons (Syntax.tyInt Syntax.w64) Syntax.tnil) (Syntax.ttcons (Syntax.tcons (Syntax.tyInt Syntax.w64) (Syntax.tcons (Syntax.tyInt Syntax.w64) Syntax.tnil)) (Syntax.ttcons Syntax.tnil (Syntax.ttcons Syntax.tnil (Syntax.ttcons Syntax.tnil (Syntax.ttcons (Syntax.tcons (Syntax.tyInt Syntax.w64) Syntax.tnil) (Syntax.ttcons (Syntax.tcons (Syntax.tyInt Syntax.w64) Syntax.tnil) (Syntax.ttcons (Syntax.tcons (Syntax.tyInt Syntax.w64) Syntax.tnil) (Syntax.ttcons (Syntax.tcons (Syntax.tyInt Syntax.w64) Syntax.tnil) (Syntax.ttcons (Syntax.tcons (Syntax.tyInt Syntax.w64) Syntax.tnil) (Syntax.ttcons (Syntax.tcons (Syntax.tyInt Syntax.w64) Syntax.tnil) (Syntax.ttcons (Syntax.tcons (Syntax.tyInt Syntax.w64) Syntax.tnil) (Syntax.ttcons Syntax.tnil (Syntax.ttcons Syntax.tnil (Syntax.ttcons (Syntax.tcons (Syntax.tyInt Syntax.w64) Syntax.tnil) Syntax.ttnil))))))))))))))))))) (List._∷_ (10, Rows.any-gone Syntax.tyBool) (List._∷_ (11, Rows.any-gone (Syntax.tyRef Syntax.erased Syntax.mut (Syntax.tyInt Syntax.w32))) (List._∷_ (12, Rows.any-gone (Syntax.tyStruct (List._∷_ 38 (List._∷_ 91 (List._∷_ 93 List.[]))) (Syntax.tcons (Syntax.tyRef Syntax.erased Syntax.mut (Syntax.tyInt Syntax.w32)) (Syntax.tcons (Syntax.tyInt Syntax.w64) Syntax.tnil)))) (List._∷_ (13, Rows.any-gone (Syntax.tyRef Syntax.erased Syntax.mut (Syntax.tyInt Syntax.w32))) (List._∷_ (14, Rows.any-gone (Syntax.tyStruct (List._∷_ 38 (List._∷_ 91 (List._∷_ 93 List.[]))) (Syntax.tcons (Syntax.tyRef Syntax.erased Syntax.mut (Syntax.tyInt Syntax.w32)) (Syntax.tcons (Syntax.tyInt Syntax.w64) Syntax.tnil)))) (List._∷_ (15, Rows.any-gone (Syntax.tyInt Syntax.w32)) List.[])))))))))))))))
+
+abbrev pub t42 : List.List Row.Entry
+t42 = List._∷_ (16, Rows.any-gone Syntax.tyBool) (List._∷_ (17, Rows.any-gone (Syntax.tyRef Syntax.erased Syntax.imm (Syntax.tyInt Syntax.w32))) (List._∷_ (18, Rows.any-gone (Syntax.tyStruct (List._∷_ 38 (List._∷_ 91 (List._∷_ 93 List.[]))) (Syntax.tcons (Syntax.tyRef Syntax.erased Syntax.imm (Syntax.tyInt Syntax.w32)) (Syntax.tcons (Syntax.tyInt Syntax.w64) Syntax.tnil)))) (List._∷_ (19, Rows.any-gone (Syntax.tyInt Syntax.w64)) (List._∷_ (20, Rows.any-gone (Syntax.tyInt Syntax.w64)) (List._∷_ (21, Rows.any-gone (Syntax.tyRef Syntax.erased Syntax.mut (Syntax.tyInt Syntax.w32))) (List._∷_ (22, Rows.any-gone (Syntax.tyStruct (List._∷_ 38 (List._∷_ 91 (List._∷_ 93 List.[]))) (Syntax.tcons (Syntax.tyRef Syntax.erased Syntax.mut (Syntax.tyInt Syntax.w32)) (Syntax.tcons (Syntax.tyInt Syntax.w64) Syntax.tnil)))) (List._∷_ (23, Rows.any-gone (Syntax.tyRef Syntax.erased Syntax.mut (Syntax.tyInt Syntax.w32))) (List._∷_ (24, Mut.msleft (Referent.rtF (Referent.fInt Syntax.w32)) (Syntax.tyRef Syntax.erased Syntax.mut (Syntax.tyInt Syntax.w32))) List.[]))))))))
+
+abbrev pub t43 : List.List Row.Entry
+t43 = List._∷_ (0, Rows.whole (Declared.row Answer.the-type)) (List._∷_ (1, Rows.any-gone (Syntax.tyStruct (List._∷_ 112 (List._∷_ 121 (List._∷_ 114 (List._∷_ 97 (List._∷_ 109 (List._∷_ 105 (List._∷_ 100 (List._∷_ 58 (List._∷_ 58 (List._∷_ 83 (List._∷_ 116 (List._∷_ 97 (List._∷_ 116 (List._∷_ 101 List.[])))))))))))))) (Syntax.tcons (Syntax.tyInt Syntax.w32) (Syntax.tcons (Syntax.tyInt Syntax.w32) (Syntax.tcons (Syntax.tyInt Syntax.w32) (Syntax.tcons (Syntax.tyInt Syntax.w32) (Syntax.tcons (Syntax.tyInt Syntax.w32) (Syntax.tcons (Syntax.tyArray (Syntax.tyInt Syntax.w32) 64) Syntax.tnil)))))))) (List._∷_ (2, Rows.sslice (Referent.rtF (Referent.fInt Syntax.w32)) (Syntax.tyRef (Syntax.named 0) Syntax.imm (Syntax.tyInt Syntax.w32)) 0) (List._∷_ (3, Rows.sslice (Referent.rtF (Referent.fInt Syntax.w32)) (Syntax.tyRef (Syntax.named 1) Syntax.imm (Syntax.tyInt Syntax.w32)) 1) (List._∷_ (4, Relend.mslice-owed (Referent.rtF (Referent.fInt Syntax.w32)) (Syntax.tyRef (Syntax.named 2) Syntax.mut (Syntax.tyInt Syntax.w32)) 2 9 Row.off) (List._∷_ (5, Rows.sslice Cell.R (Syntax.tyRef (Syntax.named 3) Syntax.imm Cell.behind) 3) (List._∷_ (6, Rows.sslice Cell.R (Syntax.tyRef (Syntax.named 4) Syntax.imm Cell.behind) 4) (List._∷_ (7, Rows.sc-here (Row.sInt Syntax.w64)) (List._∷_ (8, Rows.sc-here (Row.sInt Syntax.w64)) (List._∷_ (9, Rows.any-gone (Syntax.tyEnum (List._∷_ 100 (List._∷_ 97 (List._∷_ 114 (List._∷_ 116 (List._∷_ 115 (List._∷_ 58 (List._∷_ 58 (List._∷_ 65 (List._∷_ 110 (List._∷_ 115 (List._∷_ 119 (List._∷_ 101 (List._∷_ 114 List.[]))))))))))))) (Syntax.ttcons (Syntax.tcons (Syntax.tyInt Syntax.w64) Syntax.tnil) (Syntax.ttcons Syntax.tnil (Syntax.ttcons (Syntax.tcons (Syntax.tyInt Syntax.w64) Syntax.tnil) (Syntax.ttcons (Syntax.tcons (Syntax.tyInt Syntax.w64) (Syntax.tcons (Syntax.tyInt Syntax.w64) Syntax.tnil)) (Syntax.ttcons Syntax.tnil (Syntax.ttcons Syntax.tnil (Syntax.ttcons Syntax.tnil (Syntax.ttcons (Syntax.tcons (Syntax.tyInt Syntax.w64) Syntax.tnil) (Syntax.ttcons (Syntax.tcons (Syntax.tyInt Syntax.w64) Syntax.tnil) (Syntax.ttcons (Syntax.tcons (Syntax.tyInt Syntax.w64) Syntax.tnil) (Syntax.ttcons (Syntax.tcons (Syntax.tyInt Syntax.w64) Syntax.tnil) (Syntax.ttcons (Syntax.tcons (Syntax.tyInt Syntax.w64) Syntax.tnil) (Syntax.ttcons (Syntax.tcons (Syntax.tyInt Syntax.w64) Syntax.tnil) (Syntax.ttcons (Syntax.tcons (Syntax.tyInt Syntax.w64) Syntax.tnil) (Syntax.ttcons Syntax.tnil (Syntax.ttcons Syntax.tnil (Syntax.ttcons (Syntax.tcons (Syntax.tyInt Syntax.w64) Syntax.tnil) Syntax.ttnil))))))))))))))))))) (List._∷_ (10, Rows.any-gone Syntax.tyBool) (List._∷_ (11, Rows.any-gone (Syntax.tyRef Syntax.erased Syntax.mut (Syntax.tyInt Syntax.w32))) (List._∷_ (12, Rows.any-gone (Syntax.tyStruct (List._∷_ 38 (List._∷_ 91 (List._∷_ 93 List.[]))) (Syntax.tcons (Syntax.tyRef Syntax.erased Syntax.mut (Syntax.tyInt Syntax.w32)) (Syntax.tcons (Syntax.tyInt Syntax.w64) Syntax.tnil)))) (List._∷_ (13, Rows.any-gone (Syntax.tyRef Syntax.erased Syntax.mut (Syntax.tyInt Syntax.w32))) (List._∷_ (14, Rows.any-gone (Syntax.tyStruct (List._∷_ 38 (List._∷_ 91 (List._∷_ 93 List.[]))) (Syntax.tcons (Syntax.tyRef Syntax.erased Syntax.mut (Syntax.tyInt Syntax.w32)) (Syntax.tcons (Syntax.tyInt Syntax.w64) Syntax.tnil)))) (List._∷_ (15, Rows.any-gone (Syntax.tyInt Syntax.w32)) List.[])))))))))))))))
+
+abbrev pub t44 : List.List Row.Entry
+t44 = List._∷_ (0, Rows.whole (Declared.row Answer.the-type)) (List._∷_ (1, Rows.any-gone (Syntax.tyStruct (List._∷_ 112 (List._∷_ 121 (List._∷_ 114 (List._∷_ 97 (List._∷_ 109 (List._∷_ 105 (List._∷_ 100 (List._∷_ 58 (List._∷_ 58 (List._∷_ 83 (List._∷_ 116 (List._∷_ 97 (List._∷_ 116 (List._∷_ 101 List.[])))))))))))))) (Syntax.tcons (Syntax.tyInt Syntax.w32) (Syntax.tcons (Syntax.tyInt Syntax.w32) (Syntax.tcons (Syntax.tyInt Syntax.w32) (Syntax.tcons (Syntax.tyInt Syntax.w32) (Syntax.tcons (Syntax.tyInt Syntax.w32) (Syntax.tcons (Syntax.tyArray (Syntax.tyInt Syntax.w32) 64) Syntax.tnil)))))))) (List._∷_ (2, Rows.sslice (Referent.rtF (Referent.fInt Syntax.w32)) (Syntax.tyRef (Syntax.named 0) Syntax.imm (Syntax.tyInt Syntax.w32)) 0) (List._∷_ (3, Rows.sslice (Referent.rtF (Referent.fInt Syntax.w32)) (Syntax.tyRef (Syntax.named 1) Syntax.imm (Syntax.tyInt Syntax.w32)) 1) (List._∷_ (4, Relend.mslice-owed (Referent.rtF (Referent.fInt Syntax.w32)) (Syntax.tyRef (Syntax.named 2) Syntax.mut (Syntax.tyInt Syntax.w32)) 2 9 Row.off) (List._∷_ (5, Rows.sslice Cell.R (Syntax.tyRef (Syntax.named 3) Syntax.imm Cell.behind) 3) (List._∷_ (6, Rows.sslice Cell.R (Syntax.tyRef (Syntax.named 4) Syntax.imm Cell.behind) 4) (List._∷_ (7, Rows.any-gone (Syntax.tyInt Syntax.w64)) (List._∷_ (8, Rows.sc-here (Row.sInt Syntax.w64)) (List._∷_ (9, Rows.any-gone (Syntax.tyEnum (List._∷_ 100 (List._∷_ 97 (List._∷_ 114 (List._∷_ 116 (List._∷_ 115 (List._∷_ 58 (List._∷_ 58 (List._∷_ 65 (List._∷_ 110 (List._∷_ 115 (List._∷_ 119 (List._∷_ 101 (List._∷_ 114 List.[]))))))))))))) (Syntax.ttcons (Syntax.tcons (Syntax.tyInt Syntax.w64) Syntax.tnil) (Syntax.ttcons Syntax.tnil (Syntax.ttcons (Syntax.tcons (Syntax.tyInt Syntax.w64) Syntax.tnil) (Syntax.ttcons (Syntax.tcons (Syntax.tyInt Syntax.w64) (Syntax.tcons (Syntax.tyInt Syntax.w64) Syntax.tnil)) (Syntax.ttcons Syntax.tnil (Syntax.ttcons Syntax.tnil (Syntax.ttcons Syntax.tnil (Syntax.ttcons (Syntax.tcons (Syntax.tyInt Syntax.w64) Syntax.tnil) (Syntax.ttcons (Syntax.tcons (Syntax.tyInt Syntax.w64) Syntax.tnil) (Syntax.ttcons (Syntax.tcons (Syntax.tyInt Syntax.w64) Syntax.tnil) (Syntax.ttcons (Syntax.tcons (Syntax.tyInt Syntax.w64) Syntax.tnil) (Syntax.ttcons (Syntax.tcons (Syntax.tyInt Syntax.w64) Syntax.tnil) (Syntax.ttcons (Syntax.tcons (Syntax.tyInt Syntax.w64) Syntax.tnil) (Syntax.ttcons (Syntax.tcons (Syntax.tyInt Syntax.w64) Syntax.tnil) (Syntax.ttcons Syntax.tnil (Syntax.ttcons Syntax.tnil (Syntax.ttcons (Syntax.tcons (Syntax.tyInt Syntax.w64) Syntax.tnil) Syntax.ttnil))))))))))))))))))) (List._∷_ (10, Rows.any-gone Syntax.tyBool) (List._∷_ (11, Rows.any-gone (Syntax.tyRef Syntax.erased Syntax.mut (Syntax.tyInt Syntax.w32))) (List._∷_ (12, Rows.any-gone (Syntax.tyStruct (List._∷_ 38 (List._∷_ 91 (List._∷_ 93 List.[]))) (Syntax.tcons (Syntax.tyRef Syntax.erased Syntax.mut (Syntax.tyInt Syntax.w32)) (Syntax.tcons (Syntax.tyInt Syntax.w64) Syntax.tnil)))) (List._∷_ (13, Rows.any-gone (Syntax.tyRef Syntax.erased Syntax.mut (Syntax.tyInt Syntax.w32))) (List._∷_ (14, Rows.any-gone (Syntax.tyStruct (List._∷_ 38 (List._∷_ 91 (List._∷_ 93 List.[]))) (Syntax.tcons (Syntax.tyRef Syntax.erased Syntax.mut (Syntax.tyInt Syntax.w32)) (Syntax.tcons (Syntax.tyInt Syntax.w64) Syntax.tnil)))) (List._∷_ (15, Rows.any-gone (Syntax.tyInt Syntax.w32)) List.[])))))))))))))))
+
+abbrev pub t45 : List.List Row.Entry
+t45 = List._∷_ (0, Rows.whole (Declared.row Answer.the-type)) (List._∷_ (1, Rows.any-gone (Syntax.tyStruct (List._∷_ 112 (List._∷_ 121 (List._∷_ 114 (List._∷_ 97 (List._∷_ 109 (List._∷_ 105 (List._∷_ 100 (List._∷_ 58 (List._∷_ 58 (List._∷_ 83 (List._∷_ 116 (List._∷_ 97 (List._∷_ 116 (List._∷_ 101 List.[])))))))))))))) (Syntax.tcons (Syntax.tyInt Syntax.w32) (Syntax.tcons (Syntax.tyInt Syntax.w32) (Syntax.tcons (Syntax.tyInt Syntax.w32) (Syntax.tcons (Syntax.tyInt Syntax.w32) (Syntax.tcons (Syntax.tyInt Syntax.w32) (Syntax.tcons (Syntax.tyArray (Syntax.tyInt Syntax.w32) 64) Syntax.tnil)))))))) (List._∷_ (2, Rows.sslice (Referent.rtF (Referent.fInt Syntax.w32)) (Syntax.tyRef (Syntax.named 0) Syntax.imm (Syntax.tyInt Syntax.w32)) 0) (List._∷_ (3, Rows.sslice (Referent.rtF (Referent.fInt Syntax.w32)) (Syntax.tyRef (Syntax.named 1) Syntax.imm (Syntax.tyInt Syntax.w32)) 1) (List._∷_ (4, Relend.mslice-owed (Referent.rtF (Referent.fInt Syntax.w32)) (Syntax.tyRef (Syntax.named 2) Syntax.mut (Syntax.tyInt Syntax.w32)) 2 9 Row.off) (List._∷_ (5, Rows.sslice Cell.R (Syntax.tyRef (Syntax.named 3) Syntax.imm Cell.behind) 3) (List._∷_ (6, Rows.sslice Cell.R (Syntax.tyRef (Syntax.named 4) Syntax.imm Cell.behind) 4) (List._∷_ (7, Rows.any-gone (Syntax.tyInt Syntax.w64)) (List._∷_ (8, Rows.any-gone (Syntax.tyInt Syntax.w64)) (List._∷_ (9, Rows.any-gone (Syntax.tyEnum (List._∷_ 100 (List._∷_ 97 (List._∷_ 114 (List._∷_ 116 (List._∷_ 115 (List._∷_ 58 (List._∷_ 58 (List._∷_ 65 (List._∷_ 110 (List._∷_ 115 (List._∷_ 119 (List._∷_ 101 (List._∷_ 114 List.[]))))))))))))) (Syntax.ttcons (Syntax.tcons (Syntax.tyInt Syntax.w64) Syntax.tnil) (Syntax.ttcons Syntax.tnil (Syntax.ttcons (Syntax.tcons (Syntax.tyInt Syntax.w64) Syntax.tnil) (Syntax.ttcons (Syntax.tcons (Syntax.tyInt Syntax.w64) (Syntax.tcons (Syntax.tyInt Syntax.w64) Syntax.tnil)) (Syntax.ttcons Syntax.tnil (Syntax.ttcons Syntax.tnil (Syntax.ttcons Syntax.tnil (Syntax.ttcons (Syntax.tcons (Syntax.tyInt Syntax.w64) Syntax.tnil) (Syntax.ttcons (Syntax.tcons (Syntax.tyInt Syntax.w64) Syntax.tnil) (Syntax.ttcons (Syntax.tcons (Syntax.tyInt Syntax.w64) Syntax.tnil) (Syntax.ttcons (Syntax.tcons (Syntax.tyInt Syntax.w64) Syntax.tnil) (Syntax.ttcons (Syntax.tcons (Syntax.tyInt Syntax.w64) Syntax.tnil) (Syntax.ttcons (Syntax.tcons (Syntax.tyInt Syntax.w64) Syntax.tnil) (Syntax.ttcons (Syntax.tcons (Syntax.tyInt Syntax.w64) Syntax.tnil) (Syntax.ttcons Syntax.tnil (Syntax.ttcons Syntax.tnil (Syntax.ttcons (Syntax.tcons (Syntax.tyInt Syntax.w64) Syntax.tnil) Syntax.ttnil))))))))))))))))))) (List._∷_ (10, Rows.any-gone Syntax.tyBool) (List._∷_ (11, Rows.any-gone (Syntax.tyRef Syntax.erased Syntax.mut (Syntax.tyInt Syntax.w32))) (List._∷_ (12, Rows.any-gone (Syntax.tyStruct (List._∷_ 38 (List._∷_ 91 (List._∷_ 93 List.[]))) (Syntax.tcons (Syntax.tyRef Syntax.erased Syntax.mut (Syntax.tyInt Syntax.w32)) (Syntax.tcons (Syntax.tyInt Syntax.w64) Syntax.tnil)))) (List._∷_ (13, Rows.any-gone (Syntax.tyRef Syntax.erased Syntax.mut (Syntax.tyInt Syntax.w32))) (List._∷_ (14, Rows.any-gone (Syntax.tyStruct (List._∷_ 38 (List._∷_ 91 (List._∷_ 93 List.[]))) (Syntax.tcons (Syntax.tyRef Syntax.erased Syntax.mut (Syntax.tyInt Syntax.w32)) (Syntax.tcons (Syntax.tyInt Syntax.w64) Syntax.tnil)))) (List._∷_ (15, Rows.any-gone (Syntax.tyInt Syntax.w32)) List.[])))))))))))))))
 
 abbrev pub T0 : Row.Cx
 T0 = record { locals = List._++_ t0 t1; slots = List.[] }
@@ -395,160 +452,196 @@ abbrev pub T4 : Row.Cx
 T4 = record { locals = List._++_ t0 t1; slots = List.[] }
 
 abbrev pub T5 : Row.Cx
-T5 = record { locals = List._++_ t3 t1; slots = List.[] }
+T5 = record { locals = List._++_ t0 t1; slots = List.[] }
 
 abbrev pub T6 : Row.Cx
-T6 = record { locals = List._++_ t4 t1; slots = List.[] }
+T6 = record { locals = List._++_ t3 t1; slots = List.[] }
+
+abbrev pub T7 : Row.Cx
+T7 = record { locals = List._++_ t0 t1; slots = List.[] }
 
 abbrev pub T8 : Row.Cx
-T8 = record { locals = List._++_ t5 t1; slots = List.[] }
-
-abbrev pub T9 : Row.Cx
-T9 = record { locals = List._++_ t6 t1; slots = List.[] }
+T8 = record { locals = List._++_ t0 t1; slots = List.[] }
 
 abbrev pub T10 : Row.Cx
-T10 = record { locals = List._++_ t7 t1; slots = List.[] }
+T10 = record { locals = List._++_ t4 t1; slots = List.[] }
+
+abbrev pub T11 : Row.Cx
+T11 = record { locals = List._++_ t5 t1; slots = List.[] }
 
 abbrev pub T12 : Row.Cx
-T12 = record { locals = List._++_ t8 t1; slots = List.[] }
+T12 = record { locals = List._++_ t6 t1; slots = List.[] }
 
 abbrev pub T13 : Row.Cx
-T13 = record { locals = List._++_ t8 t1; slots = List.[] }
+T13 = record { locals = List._++_ t7 t1; slots = List.[] }
 
 abbrev pub T15 : Row.Cx
-T15 = record { locals = List._++_ t9 t1; slots = List.[] }
+T15 = record { locals = List._++_ t2 t1; slots = List.[] }
 
 abbrev pub T16 : Row.Cx
-T16 = record { locals = List._++_ t10 t1; slots = List.[] }
-
-abbrev pub T17 : Row.Cx
-T17 = record { locals = List._++_ t4 t1; slots = List.[] }
+T16 = record { locals = List._++_ t2 t1; slots = List.[] }
 
 abbrev pub T18 : Row.Cx
-T18 = record { locals = List._++_ t11 t1; slots = List.[] }
+T18 = record { locals = List._++_ t0 t1; slots = List.[] }
 
 abbrev pub T19 : Row.Cx
-T19 = record { locals = List._++_ t12 t1; slots = List.[] }
+T19 = record { locals = List._++_ t8 t1; slots = List.[] }
 
 abbrev pub T20 : Row.Cx
-T20 = record { locals = List._++_ t13 t1; slots = List.[] }
-
-abbrev pub T21 : Row.Cx
-T21 = record { locals = List._++_ t14 t1; slots = List.[] }
+T20 = record { locals = List._++_ t9 t1; slots = List.[] }
 
 abbrev pub T22 : Row.Cx
-T22 = record { locals = List._++_ t15 t1; slots = List.[] }
+T22 = record { locals = List._++_ t10 t1; slots = List.[] }
 
 abbrev pub T23 : Row.Cx
-T23 = record { locals = List._++_ t16 t1; slots = List.[] }
+T23 = record { locals = List._++_ t11 t1; slots = List.[] }
 
 abbrev pub T24 : Row.Cx
-T24 = record { locals = List._++_ t2 t1; slots = List.[] }
-
-abbrev pub T25 : Row.Cx
-T25 = record { locals = List._++_ t17 t1; slots = List.[] }
+T24 = record { locals = List._++_ t12 t1; slots = List.[] }
 
 abbrev pub T26 : Row.Cx
-T26 = record { locals = List._++_ t4 t1; slots = List.[] }
+T26 = record { locals = List._++_ t13 t1; slots = List.[] }
 
-abbrev pub T28 : Row.Cx
-T28 = record { locals = List._++_ t18 t1; slots = List.[] }
+abbrev pub T27 : Row.Cx
+T27 = record { locals = List._++_ t13 t1; slots = List.[] }
 
 abbrev pub T29 : Row.Cx
-T29 = record { locals = List._++_ t19 t20; slots = List.[] }
+T29 = record { locals = List._++_ t14 t1; slots = List.[] }
 
 abbrev pub T30 : Row.Cx
-T30 = record { locals = List._++_ t19 t20; slots = List.[] }
+T30 = record { locals = List._++_ t15 t1; slots = List.[] }
 
 abbrev pub T31 : Row.Cx
-T31 = record { locals = List._++_ t19 t21; slots = List.[] }
+T31 = record { locals = List._++_ t9 t1; slots = List.[] }
 
 abbrev pub T32 : Row.Cx
-T32 = record { locals = List._++_ t19 t21; slots = List.[] }
+T32 = record { locals = List._++_ t16 t1; slots = List.[] }
 
 abbrev pub T33 : Row.Cx
-T33 = record { locals = List._++_ t19 t22; slots = List.[] }
+T33 = record { locals = List._++_ t17 t1; slots = List.[] }
 
 abbrev pub T34 : Row.Cx
-T34 = record { locals = List._++_ t23 t22; slots = List.[] }
+T34 = record { locals = List._++_ t18 t1; slots = List.[] }
 
 abbrev pub T35 : Row.Cx
-T35 = record { locals = List._++_ t4 t1; slots = List.[] }
+T35 = record { locals = List._++_ t19 t1; slots = List.[] }
 
 abbrev pub T36 : Row.Cx
-T36 = record { locals = List._++_ t23 t24; slots = List.[] }
+T36 = record { locals = List._++_ t20 t1; slots = List.[] }
 
 abbrev pub T37 : Row.Cx
-T37 = record { locals = List._++_ t23 t25; slots = List.[] }
+T37 = record { locals = List._++_ t21 t1; slots = List.[] }
 
 abbrev pub T38 : Row.Cx
-T38 = record { locals = List._++_ t23 t1; slots = List.[] }
+T38 = record { locals = List._++_ t2 t1; slots = List.[] }
+
+abbrev pub T39 : Row.Cx
+T39 = record { locals = List._++_ t22 t1; slots = List.[] }
 
 abbrev pub T40 : Row.Cx
-T40 = record { locals = List._++_ t26 t1; slots = List.[] }
+T40 = record { locals = List._++_ t9 t1; slots = List.[] }
 
 abbrev pub T42 : Row.Cx
-T42 = record { locals = List._++_ t4 t1; slots = List.[] }
+T42 = record { locals = List._++_ t23 t24; slots = List.[] }
+
+abbrev pub T43 : Row.Cx
+T43 = record { locals = List._++_ t23 t25; slots = List.[] }
 
 abbrev pub T44 : Row.Cx
-T44 = record { locals = List._++_ t27 t28; slots = List.[] }
+T44 = record { locals = List._++_ t23 t25; slots = List.[] }
 
 abbrev pub T45 : Row.Cx
-T45 = record { locals = List._++_ t27 t29; slots = List.[] }
+T45 = record { locals = List._++_ t23 t26; slots = List.[] }
 
 abbrev pub T46 : Row.Cx
-T46 = record { locals = List._++_ t30 t31; slots = List.[] }
+T46 = record { locals = List._++_ t23 t26; slots = List.[] }
 
 abbrev pub T47 : Row.Cx
-T47 = record { locals = List._++_ t32 t31; slots = List.[] }
+T47 = record { locals = List._++_ t23 t27; slots = List.[] }
+
+abbrev pub T48 : Row.Cx
+T48 = record { locals = List._++_ t23 t28; slots = List.[] }
 
 abbrev pub T49 : Row.Cx
-T49 = record { locals = List._++_ t15 t1; slots = List.[] }
+T49 = record { locals = List._++_ t9 t1; slots = List.[] }
 
 abbrev pub T50 : Row.Cx
-T50 = record { locals = List._++_ t15 t1; slots = List.[] }
+T50 = record { locals = List._++_ t23 t29; slots = List.[] }
+
+abbrev pub T51 : Row.Cx
+T51 = record { locals = List._++_ t23 t30; slots = List.[] }
 
 abbrev pub T52 : Row.Cx
-T52 = record { locals = List._++_ t16 t1; slots = List.[] }
-
-abbrev pub T53 : Row.Cx
-T53 = record { locals = List._++_ t2 t1; slots = List.[] }
+T52 = record { locals = List._++_ t23 t31; slots = List.[] }
 
 abbrev pub T54 : Row.Cx
-T54 = record { locals = List._++_ t4 t1; slots = List.[] }
+T54 = record { locals = List._++_ t9 t31; slots = List.[] }
 
 abbrev pub T56 : Row.Cx
-T56 = record { locals = List._++_ t33 t34; slots = List.[] }
-
-abbrev pub T57 : Row.Cx
-T57 = record { locals = List._++_ t33 t35; slots = List.[] }
+T56 = record { locals = List._++_ t9 t1; slots = List.[] }
 
 abbrev pub T58 : Row.Cx
-T58 = record { locals = List._++_ t36 t37; slots = List.[] }
+T58 = record { locals = List._++_ t32 t33; slots = List.[] }
 
 abbrev pub T59 : Row.Cx
-T59 = record { locals = List._++_ t38 t37; slots = List.[] }
+T59 = record { locals = List._++_ t32 t34; slots = List.[] }
 
 abbrev pub T60 : Row.Cx
-T60 = record { locals = List._++_ t39 t37; slots = List.[] }
+T60 = record { locals = List._++_ t35 t36; slots = List.[] }
 
 abbrev pub T61 : Row.Cx
-T61 = record { locals = List._++_ t40 t37; slots = List.[] }
+T61 = record { locals = List._++_ t37 t36; slots = List.[] }
 
 abbrev pub T63 : Row.Cx
-T63 = record { locals = List._++_ t2 t1; slots = List.[] }
+T63 = record { locals = List._++_ t20 t1; slots = List.[] }
 
 abbrev pub T64 : Row.Cx
-T64 = record { locals = List._++_ t2 t1; slots = List.[] }
+T64 = record { locals = List._++_ t20 t1; slots = List.[] }
+
+abbrev pub T66 : Row.Cx
+T66 = record { locals = List._++_ t21 t1; slots = List.[] }
+
+abbrev pub T67 : Row.Cx
+T67 = record { locals = List._++_ t2 t1; slots = List.[] }
+
+abbrev pub T68 : Row.Cx
+T68 = record { locals = List._++_ t9 t1; slots = List.[] }
+
+abbrev pub T70 : Row.Cx
+T70 = record { locals = List._++_ t38 t39; slots = List.[] }
+
+abbrev pub T71 : Row.Cx
+T71 = record { locals = List._++_ t38 t40; slots = List.[] }
+
+abbrev pub T72 : Row.Cx
+T72 = record { locals = List._++_ t41 t42; slots = List.[] }
+
+abbrev pub T73 : Row.Cx
+T73 = record { locals = List._++_ t43 t42; slots = List.[] }
+
+abbrev pub T74 : Row.Cx
+T74 = record { locals = List._++_ t44 t42; slots = List.[] }
+
+abbrev pub T75 : Row.Cx
+T75 = record { locals = List._++_ t45 t42; slots = List.[] }
+
+abbrev pub T77 : Row.Cx
+T77 = record { locals = List._++_ t2 t1; slots = List.[] }
+
+abbrev pub T78 : Row.Cx
+T78 = record { locals = List._++_ t2 t1; slots = List.[] }
 
 abbrev pub O0 : Typed.Outs
 O0 = record { next = Option.none; exits = List.[]; returns = Option.some T1 }
 
 abbrev pub O1 : Typed.Outs
-O1 = Typed.withNext (Option.some T17) O0
+O1 = Typed.withNext (Option.some T7) O0
 
 abbrev pub O2 : Typed.Outs
-O2 = Typed.withNext (Option.some T35) O0
+O2 = Typed.withNext (Option.some T31) O0
+
+abbrev pub O3 : Typed.Outs
+O3 = Typed.withNext (Option.some T49) O0
 
 module _ (claims· : Claims) where
   abbrev s0 : Typed.Gives T0 T2
@@ -560,842 +653,1025 @@ module _ (claims· : Claims) where
   abbrev s2 : Typed.Gives T3 T4
   s2 = Know.k-sl-known (Referent.fInt Syntax.w32) T3 4 2 (Syntax.tyRef (Syntax.named 2) Syntax.mut (Syntax.tyInt Syntax.w32)) Row.off 0 λ x. x
 
-  abbrev s3 : Typed.Both T4 T5
-  s3 = Call.callB ps·0 r·0 (claims· .0) (claims· .1) T4 (record { pos = 5; ty = Syntax.tyRef (Syntax.named 3) Syntax.imm Cell.behind; ref = λ x. x }, tt) 7 (List._∷_ 3 List.[]) (Syntax.tyInt Syntax.w64)
+  abbrev s3 : Typed.Gives T4 T5
+  s3 = Know'.k-struct-known State.the-type Laws'.the-laws T4 1 λ x. x
 
-  abbrev s4 : Typed.Both T5 T6
-  s4 = Call.callB ps·0 r·0 (claims· .0) (claims· .1) T5 (record { pos = 6; ty = Syntax.tyRef (Syntax.named 4) Syntax.imm Cell.behind; ref = λ x. x }, tt) 8 (List._∷_ 4 List.[]) (Syntax.tyInt Syntax.w64)
+  abbrev s4 : Typed.Asks T5 T6
+  s4 = Scalar.k-op2 T5 Syntax.eq (Scalar.oFld 1 (List._∷_ (Syntax.field 1) List.[]) (Syntax.tyInt Syntax.w32) 4 (Reads.fieldV State.the-type Laws'.the-laws 1)) (Scalar.oInt Syntax.w32 0) 10 (Rows.sc-here Row.sBool) (Row.sBool .of)
 
-  abbrev s6 : Typed.Gives T6 T8
-  s6 = Relend.k-sl-relend (Referent.rtF (Referent.fInt Syntax.w32)) T6 4 10 2 5 (Syntax.tyRef (Syntax.named 2) Syntax.mut (Syntax.tyInt Syntax.w32)) (Syntax.tyRef Syntax.erased Syntax.mut (Syntax.tyInt Syntax.w32)) Row.off λ x. x
+  abbrev s5 : Typed.Mo T6 → Typed.Mo T8
+  s5 = Scalar.n-room T6 10 Syntax.tyBool
 
-  abbrev s7 : Typed.Asks T8 T9
-  s7 = Relend.k-sl-aggregate (Referent.rtF (Referent.fInt Syntax.w32)) (Relend.asMut (Referent.rtF (Referent.fInt Syntax.w32))) T8 10 11 5 (Syntax.tyRef Syntax.erased Syntax.mut (Syntax.tyInt Syntax.w32)) (Syntax.tyRef Syntax.erased Syntax.mut (Syntax.tyInt Syntax.w32)) (λ x. x) (Scalar.oFld 4 (List._∷_ (Syntax.field 1) List.[]) (Syntax.tyInt Syntax.w64) 8 λ v. Shared.lenV (v .0))
+  abbrev s7 : Typed.Gives T8 T10
+  s7 = Relend.k-sl-relend (Referent.rtF (Referent.fInt Syntax.w32)) T8 4 11 2 5 (Syntax.tyRef (Syntax.named 2) Syntax.mut (Syntax.tyInt Syntax.w32)) (Syntax.tyRef Syntax.erased Syntax.mut (Syntax.tyInt Syntax.w32)) Row.off λ x. x
 
-  abbrev s8 : Typed.Both T9 T10
-  s8 = Call.callB ps·1 r·1 (claims· .2) (claims· .3) T9 (record { pos = 1; st = List.[]; d = 0; at = λ x. x }, (record { pos = 2; ty = Syntax.tyRef (Syntax.named 0) Syntax.imm (Syntax.tyInt Syntax.w32); ref = λ x. x }, (record { pos = 3; ty = Syntax.tyRef (Syntax.named 1) Syntax.imm (Syntax.tyInt Syntax.w32); ref = λ x. x }, (record { pos = 11; ty = Syntax.tyRef Syntax.erased Syntax.mut (Syntax.tyInt Syntax.w32); ref = λ x. x }, (Num.vAt 7 λ x. x, (Num.vAt 8 λ x. x, tt)))))) 9 (List._∷_ 0 (List._∷_ 1 (List._∷_ 5 List.[]))) (Syntax.tyEnum (List._∷_ 100 (List._∷_ 97 (List._∷_ 114 (List._∷_ 116 (List._∷_ 115 (List._∷_ 58 (List._∷_ 58 (List._∷_ 65 (List._∷_ 110 (List._∷_ 115 (List._∷_ 119 (List._∷_ 101 (List._∷_ 114 List.[]))))))))))))) (Syntax.ttcons (Syntax.tcons (Syntax.tyInt Syntax.w64) Syntax.tnil) (Syntax.ttcons Syntax.tnil (Syntax.ttcons (Syntax.tcons (Syntax.tyInt Syntax.w64) Syntax.tnil) (Syntax.ttcons (Syntax.tcons (Syntax.tyInt Syntax.w64) (Syntax.tcons (Syntax.tyInt Syntax.w64) Syntax.tnil)) (Syntax.ttcons Syntax.tnil (Syntax.ttcons Syntax.tnil (Syntax.ttcons Syntax.tnil (Syntax.ttcons (Syntax.tcons (Syntax.tyInt Syntax.w64) Syntax.tnil) (Syntax.ttcons (Syntax.tcons (Syntax.tyInt Syntax.w64) Syntax.tnil) (Syntax.ttcons (Syntax.tcons (Syntax.tyInt Syntax.w64) Syntax.tnil) (Syntax.ttcons (Syntax.tcons (Syntax.tyInt Syntax.w64) Syntax.tnil) (Syntax.ttcons (Syntax.tcons (Syntax.tyInt Syntax.w64) Syntax.tnil) (Syntax.ttcons (Syntax.tcons (Syntax.tyInt Syntax.w64) Syntax.tnil) (Syntax.ttcons (Syntax.tcons (Syntax.tyInt Syntax.w64) Syntax.tnil) (Syntax.ttcons Syntax.tnil (Syntax.ttcons Syntax.tnil (Syntax.ttcons (Syntax.tcons (Syntax.tyInt Syntax.w64) Syntax.tnil) Syntax.ttnil))))))))))))))))))
+  abbrev s8 : Typed.Asks T10 T11
+  s8 = Relend.k-sl-aggregate (Referent.rtF (Referent.fInt Syntax.w32)) (Relend.asMut (Referent.rtF (Referent.fInt Syntax.w32))) T10 11 12 5 (Syntax.tyRef Syntax.erased Syntax.mut (Syntax.tyInt Syntax.w32)) (Syntax.tyRef Syntax.erased Syntax.mut (Syntax.tyInt Syntax.w32)) (λ x. x) (Scalar.oFld 4 (List._∷_ (Syntax.field 1) List.[]) (Syntax.tyInt Syntax.w64) 8 λ v. Shared.lenV (v .0))
 
-  abbrev s10 : Typed.Both T10 T12
-  s10 = Relend.k-back-sl (Referent.rtF (Referent.fInt Syntax.w32)) T10 11 4 2 5 (Syntax.tyRef (Syntax.named 2) Syntax.mut (Syntax.tyInt Syntax.w32)) (Syntax.tyRef Syntax.erased Syntax.mut (Syntax.tyInt Syntax.w32)) Row.off (λ x. x) λ x. x
+  abbrev s9 : Typed.Both T11 T12
+  s9 = Call.callB ps·0 r·0 (claims· .0) (claims· .1) T11 (record { pos = 1; st = List.[]; d = 0; at = λ x. x }, (record { pos = 2; ty = Syntax.tyRef (Syntax.named 0) Syntax.imm (Syntax.tyInt Syntax.w32); ref = λ x. x }, (record { pos = 3; ty = Syntax.tyRef (Syntax.named 1) Syntax.imm (Syntax.tyInt Syntax.w32); ref = λ x. x }, (record { pos = 12; ty = Syntax.tyRef Syntax.erased Syntax.mut (Syntax.tyInt Syntax.w32); ref = λ x. x }, (record { pos = 5; ty = Syntax.tyRef (Syntax.named 3) Syntax.imm Cell.behind; ref = λ x. x }, (record { pos = 6; ty = Syntax.tyRef (Syntax.named 4) Syntax.imm Cell.behind; ref = λ x. x }, tt)))))) 0 (List._∷_ 0 (List._∷_ 1 (List._∷_ 5 (List._∷_ 3 (List._∷_ 4 List.[]))))) (Syntax.tyEnum (List._∷_ 100 (List._∷_ 97 (List._∷_ 114 (List._∷_ 116 (List._∷_ 115 (List._∷_ 58 (List._∷_ 58 (List._∷_ 65 (List._∷_ 110 (List._∷_ 115 (List._∷_ 119 (List._∷_ 101 (List._∷_ 114 List.[]))))))))))))) (Syntax.ttcons (Syntax.tcons (Syntax.tyInt Syntax.w64) Syntax.tnil) (Syntax.ttcons Syntax.tnil (Syntax.ttcons (Syntax.tcons (Syntax.tyInt Syntax.w64) Syntax.tnil) (Syntax.ttcons (Syntax.tcons (Syntax.tyInt Syntax.w64) (Syntax.tcons (Syntax.tyInt Syntax.w64) Syntax.tnil)) (Syntax.ttcons Syntax.tnil (Syntax.ttcons Syntax.tnil (Syntax.ttcons Syntax.tnil (Syntax.ttcons (Syntax.tcons (Syntax.tyInt Syntax.w64) Syntax.tnil) (Syntax.ttcons (Syntax.tcons (Syntax.tyInt Syntax.w64) Syntax.tnil) (Syntax.ttcons (Syntax.tcons (Syntax.tyInt Syntax.w64) Syntax.tnil) (Syntax.ttcons (Syntax.tcons (Syntax.tyInt Syntax.w64) Syntax.tnil) (Syntax.ttcons (Syntax.tcons (Syntax.tyInt Syntax.w64) Syntax.tnil) (Syntax.ttcons (Syntax.tcons (Syntax.tyInt Syntax.w64) Syntax.tnil) (Syntax.ttcons (Syntax.tcons (Syntax.tyInt Syntax.w64) Syntax.tnil) (Syntax.ttcons Syntax.tnil (Syntax.ttcons Syntax.tnil (Syntax.ttcons (Syntax.tcons (Syntax.tyInt Syntax.w64) Syntax.tnil) Syntax.ttnil))))))))))))))))))
 
-  abbrev s11 : Typed.Gives T12 T13
-  s11 = Know.k-sl-known (Referent.fInt Syntax.w32) T12 4 2 (Syntax.tyRef (Syntax.named 2) Syntax.mut (Syntax.tyInt Syntax.w32)) Row.off 0 λ x. x
+  abbrev s10 : Typed.Mo T12 → Typed.Mo T13
+  s10 = Scalar.n-room T12 1 (Syntax.tyStruct (List._∷_ 112 (List._∷_ 121 (List._∷_ 114 (List._∷_ 97 (List._∷_ 109 (List._∷_ 105 (List._∷_ 100 (List._∷_ 58 (List._∷_ 58 (List._∷_ 83 (List._∷_ 116 (List._∷_ 97 (List._∷_ 116 (List._∷_ 101 List.[])))))))))))))) (Syntax.tcons (Syntax.tyInt Syntax.w32) (Syntax.tcons (Syntax.tyInt Syntax.w32) (Syntax.tcons (Syntax.tyInt Syntax.w32) (Syntax.tcons (Syntax.tyInt Syntax.w32) (Syntax.tcons (Syntax.tyInt Syntax.w32) (Syntax.tcons (Syntax.tyArray (Syntax.tyInt Syntax.w32) 64) Syntax.tnil)))))))
 
-  abbrev s13 : Typed.Both T13 T15
-  s13 = Call.callB ps·2 r·2 (claims· .4) (claims· .5) T13 (record { pos = 9; st = List.[]; d = 0; at = λ x. x }, tt) 12 List.[] (Syntax.tyInt Syntax.w32)
+  abbrev s12 : Typed.Both T13 T15
+  s12 = Relend.k-back-sl (Referent.rtF (Referent.fInt Syntax.w32)) T13 12 4 2 5 (Syntax.tyRef (Syntax.named 2) Syntax.mut (Syntax.tyInt Syntax.w32)) (Syntax.tyRef Syntax.erased Syntax.mut (Syntax.tyInt Syntax.w32)) Row.off (λ x. x) λ x. x
 
-  abbrev s14 : Typed.Asks T15 T16
-  s14 = Scalar.k-op2 T15 Syntax.ne (Scalar.oAt 12 (Syntax.tyInt Syntax.w32) (Row.valS (Row.sInt Syntax.w32))) (Scalar.oInt Syntax.w32 0) 13 (Rows.sc-here Row.sBool) (Row.sBool .of)
+  abbrev s13 : Typed.Gives T15 T16
+  s13 = Know.k-sl-known (Referent.fInt Syntax.w32) T15 4 2 (Syntax.tyRef (Syntax.named 2) Syntax.mut (Syntax.tyInt Syntax.w32)) Row.off 0 λ x. x
 
-  abbrev s15 : Typed.Mo T16 → Typed.Mo T18
-  s15 = Scalar.n-room T16 12 (Syntax.tyInt Syntax.w32)
+  abbrev s15 : Typed.Mo T6 → Typed.Mo T18
+  s15 = Scalar.n-room T6 10 Syntax.tyBool
 
-  abbrev s16 : Typed.Mo T18 → Typed.Mo T19
-  s16 = Scalar.n-room T18 1 (Syntax.tyStruct (List._∷_ 112 (List._∷_ 121 (List._∷_ 114 (List._∷_ 97 (List._∷_ 109 (List._∷_ 105 (List._∷_ 100 (List._∷_ 58 (List._∷_ 58 (List._∷_ 83 (List._∷_ 116 (List._∷_ 97 (List._∷_ 116 (List._∷_ 101 List.[])))))))))))))) (Syntax.tcons (Syntax.tyInt Syntax.w32) (Syntax.tcons (Syntax.tyInt Syntax.w32) (Syntax.tcons (Syntax.tyInt Syntax.w32) (Syntax.tcons (Syntax.tyInt Syntax.w32) (Syntax.tcons (Syntax.tyInt Syntax.w32) (Syntax.tcons (Syntax.tyArray (Syntax.tyInt Syntax.w32) 64) Syntax.tnil)))))))
+  abbrev s16 : Typed.Both T7 T19
+  s16 = Call.callB ps·1 r·1 (claims· .2) (claims· .3) T7 (record { pos = 5; ty = Syntax.tyRef (Syntax.named 3) Syntax.imm Cell.behind; ref = λ x. x }, tt) 7 (List._∷_ 3 List.[]) (Syntax.tyInt Syntax.w64)
 
-  abbrev s17 : Typed.Mo T19 → Typed.Mo T20
-  s17 = Scalar.n-room T19 13 Syntax.tyBool
+  abbrev s17 : Typed.Both T19 T20
+  s17 = Call.callB ps·1 r·1 (claims· .2) (claims· .3) T19 (record { pos = 6; ty = Syntax.tyRef (Syntax.named 4) Syntax.imm Cell.behind; ref = λ x. x }, tt) 8 (List._∷_ 4 List.[]) (Syntax.tyInt Syntax.w64)
 
-  abbrev s18 : Typed.Mo T20 → Typed.Mo T21
-  s18 = LocalCopy.n-val-copy T20 9 0 (Declared.row Answer.the-type) (Rows.whole (Declared.row Answer.the-type)) (Rows.whole (Declared.row Answer.the-type)) (λ x. x) (λ x. x) λ x. x
+  abbrev s19 : Typed.Gives T20 T22
+  s19 = Relend.k-sl-relend (Referent.rtF (Referent.fInt Syntax.w32)) T20 4 13 2 6 (Syntax.tyRef (Syntax.named 2) Syntax.mut (Syntax.tyInt Syntax.w32)) (Syntax.tyRef Syntax.erased Syntax.mut (Syntax.tyInt Syntax.w32)) Row.off λ x. x
 
-  abbrev s19 : Typed.Mo T21 → Typed.Mo T22
-  s19 = Scalar.n-room T21 9 (Syntax.tyEnum (List._∷_ 100 (List._∷_ 97 (List._∷_ 114 (List._∷_ 116 (List._∷_ 115 (List._∷_ 58 (List._∷_ 58 (List._∷_ 65 (List._∷_ 110 (List._∷_ 115 (List._∷_ 119 (List._∷_ 101 (List._∷_ 114 List.[]))))))))))))) (Syntax.ttcons (Syntax.tcons (Syntax.tyInt Syntax.w64) Syntax.tnil) (Syntax.ttcons Syntax.tnil (Syntax.ttcons (Syntax.tcons (Syntax.tyInt Syntax.w64) Syntax.tnil) (Syntax.ttcons (Syntax.tcons (Syntax.tyInt Syntax.w64) (Syntax.tcons (Syntax.tyInt Syntax.w64) Syntax.tnil)) (Syntax.ttcons Syntax.tnil (Syntax.ttcons Syntax.tnil (Syntax.ttcons Syntax.tnil (Syntax.ttcons (Syntax.tcons (Syntax.tyInt Syntax.w64) Syntax.tnil) (Syntax.ttcons (Syntax.tcons (Syntax.tyInt Syntax.w64) Syntax.tnil) (Syntax.ttcons (Syntax.tcons (Syntax.tyInt Syntax.w64) Syntax.tnil) (Syntax.ttcons (Syntax.tcons (Syntax.tyInt Syntax.w64) Syntax.tnil) (Syntax.ttcons (Syntax.tcons (Syntax.tyInt Syntax.w64) Syntax.tnil) (Syntax.ttcons (Syntax.tcons (Syntax.tyInt Syntax.w64) Syntax.tnil) (Syntax.ttcons (Syntax.tcons (Syntax.tyInt Syntax.w64) Syntax.tnil) (Syntax.ttcons Syntax.tnil (Syntax.ttcons Syntax.tnil (Syntax.ttcons (Syntax.tcons (Syntax.tyInt Syntax.w64) Syntax.tnil) Syntax.ttnil))))))))))))))))))
+  abbrev s20 : Typed.Asks T22 T23
+  s20 = Relend.k-sl-aggregate (Referent.rtF (Referent.fInt Syntax.w32)) (Relend.asMut (Referent.rtF (Referent.fInt Syntax.w32))) T22 13 14 6 (Syntax.tyRef Syntax.erased Syntax.mut (Syntax.tyInt Syntax.w32)) (Syntax.tyRef Syntax.erased Syntax.mut (Syntax.tyInt Syntax.w32)) (λ x. x) (Scalar.oFld 4 (List._∷_ (Syntax.field 1) List.[]) (Syntax.tyInt Syntax.w64) 8 λ v. Shared.lenV (v .0))
 
-  abbrev s20 : Typed.Mo T22 → Typed.Mo T23
-  s20 = Scalar.n-room T22 7 (Syntax.tyInt Syntax.w64)
+  abbrev s21 : Typed.Both T23 T24
+  s21 = Call.callB ps·2 r·2 (claims· .4) (claims· .5) T23 (record { pos = 1; st = List.[]; d = 0; at = λ x. x }, (record { pos = 2; ty = Syntax.tyRef (Syntax.named 0) Syntax.imm (Syntax.tyInt Syntax.w32); ref = λ x. x }, (record { pos = 3; ty = Syntax.tyRef (Syntax.named 1) Syntax.imm (Syntax.tyInt Syntax.w32); ref = λ x. x }, (record { pos = 14; ty = Syntax.tyRef Syntax.erased Syntax.mut (Syntax.tyInt Syntax.w32); ref = λ x. x }, (Num.vAt 7 λ x. x, (Num.vAt 8 λ x. x, tt)))))) 9 (List._∷_ 0 (List._∷_ 1 (List._∷_ 6 List.[]))) (Syntax.tyEnum (List._∷_ 100 (List._∷_ 97 (List._∷_ 114 (List._∷_ 116 (List._∷_ 115 (List._∷_ 58 (List._∷_ 58 (List._∷_ 65 (List._∷_ 110 (List._∷_ 115 (List._∷_ 119 (List._∷_ 101 (List._∷_ 114 List.[]))))))))))))) (Syntax.ttcons (Syntax.tcons (Syntax.tyInt Syntax.w64) Syntax.tnil) (Syntax.ttcons Syntax.tnil (Syntax.ttcons (Syntax.tcons (Syntax.tyInt Syntax.w64) Syntax.tnil) (Syntax.ttcons (Syntax.tcons (Syntax.tyInt Syntax.w64) (Syntax.tcons (Syntax.tyInt Syntax.w64) Syntax.tnil)) (Syntax.ttcons Syntax.tnil (Syntax.ttcons Syntax.tnil (Syntax.ttcons Syntax.tnil (Syntax.ttcons (Syntax.tcons (Syntax.tyInt Syntax.w64) Syntax.tnil) (Syntax.ttcons (Syntax.tcons (Syntax.tyInt Syntax.w64) Syntax.tnil) (Syntax.ttcons (Syntax.tcons (Syntax.tyInt Syntax.w64) Syntax.tnil) (Syntax.ttcons (Syntax.tcons (Syntax.tyInt Syntax.w64) Syntax.tnil) (Syntax.ttcons (Syntax.tcons (Syntax.tyInt Syntax.w64) Syntax.tnil) (Syntax.ttcons (Syntax.tcons (Syntax.tyInt Syntax.w64) Syntax.tnil) (Syntax.ttcons (Syntax.tcons (Syntax.tyInt Syntax.w64) Syntax.tnil) (Syntax.ttcons Syntax.tnil (Syntax.ttcons Syntax.tnil (Syntax.ttcons (Syntax.tcons (Syntax.tyInt Syntax.w64) Syntax.tnil) Syntax.ttnil))))))))))))))))))
 
-  abbrev s21 : Typed.Mo T23 → Typed.Mo T24
-  s21 = Scalar.n-room T23 8 (Syntax.tyInt Syntax.w64)
+  abbrev s23 : Typed.Both T24 T26
+  s23 = Relend.k-back-sl (Referent.rtF (Referent.fInt Syntax.w32)) T24 14 4 2 6 (Syntax.tyRef (Syntax.named 2) Syntax.mut (Syntax.tyInt Syntax.w32)) (Syntax.tyRef Syntax.erased Syntax.mut (Syntax.tyInt Syntax.w32)) Row.off (λ x. x) λ x. x
 
-  abbrev s22 : Typed.Mo T18 → Typed.Mo T25
-  s22 = Scalar.n-room T18 9 (Syntax.tyEnum (List._∷_ 100 (List._∷_ 97 (List._∷_ 114 (List._∷_ 116 (List._∷_ 115 (List._∷_ 58 (List._∷_ 58 (List._∷_ 65 (List._∷_ 110 (List._∷_ 115 (List._∷_ 119 (List._∷_ 101 (List._∷_ 114 List.[]))))))))))))) (Syntax.ttcons (Syntax.tcons (Syntax.tyInt Syntax.w64) Syntax.tnil) (Syntax.ttcons Syntax.tnil (Syntax.ttcons (Syntax.tcons (Syntax.tyInt Syntax.w64) Syntax.tnil) (Syntax.ttcons (Syntax.tcons (Syntax.tyInt Syntax.w64) (Syntax.tcons (Syntax.tyInt Syntax.w64) Syntax.tnil)) (Syntax.ttcons Syntax.tnil (Syntax.ttcons Syntax.tnil (Syntax.ttcons Syntax.tnil (Syntax.ttcons (Syntax.tcons (Syntax.tyInt Syntax.w64) Syntax.tnil) (Syntax.ttcons (Syntax.tcons (Syntax.tyInt Syntax.w64) Syntax.tnil) (Syntax.ttcons (Syntax.tcons (Syntax.tyInt Syntax.w64) Syntax.tnil) (Syntax.ttcons (Syntax.tcons (Syntax.tyInt Syntax.w64) Syntax.tnil) (Syntax.ttcons (Syntax.tcons (Syntax.tyInt Syntax.w64) Syntax.tnil) (Syntax.ttcons (Syntax.tcons (Syntax.tyInt Syntax.w64) Syntax.tnil) (Syntax.ttcons (Syntax.tcons (Syntax.tyInt Syntax.w64) Syntax.tnil) (Syntax.ttcons Syntax.tnil (Syntax.ttcons Syntax.tnil (Syntax.ttcons (Syntax.tcons (Syntax.tyInt Syntax.w64) Syntax.tnil) Syntax.ttnil))))))))))))))))))
+  abbrev s24 : Typed.Gives T26 T27
+  s24 = Know.k-sl-known (Referent.fInt Syntax.w32) T26 4 2 (Syntax.tyRef (Syntax.named 2) Syntax.mut (Syntax.tyInt Syntax.w32)) Row.off 0 λ x. x
 
-  abbrev s23 : Typed.Mo T25 → Typed.Mo T26
-  s23 = Scalar.n-room T25 13 Syntax.tyBool
+  abbrev s26 : Typed.Both T27 T29
+  s26 = Call.callB ps·3 r·3 (claims· .6) (claims· .7) T27 (record { pos = 9; st = List.[]; d = 0; at = λ x. x }, tt) 15 List.[] (Syntax.tyInt Syntax.w32)
 
-  abbrev s25 : Typed.Gives T17 T28
-  s25 = Reshare.k-sl-reshare (Referent.rtF (Referent.fInt Syntax.w32)) T17 4 15 2 6 (Syntax.tyRef (Syntax.named 2) Syntax.mut (Syntax.tyInt Syntax.w32)) (Syntax.tyRef Syntax.erased Syntax.imm (Syntax.tyInt Syntax.w32)) Row.off λ x. x
+  abbrev s27 : Typed.Asks T29 T30
+  s27 = Scalar.k-op2 T29 Syntax.ne (Scalar.oAt 15 (Syntax.tyInt Syntax.w32) (Row.valS (Row.sInt Syntax.w32))) (Scalar.oInt Syntax.w32 0) 10 (Rows.sc-here Row.sBool) (Row.sBool .of)
 
-  abbrev s26 : Typed.Asks T28 T29
-  s26 = Relend.k-sl-aggregate (Referent.rtF (Referent.fInt Syntax.w32)) (Relend.asShr (Referent.rtF (Referent.fInt Syntax.w32))) T28 15 16 6 (Syntax.tyRef Syntax.erased Syntax.imm (Syntax.tyInt Syntax.w32)) (Syntax.tyRef Syntax.erased Syntax.imm (Syntax.tyInt Syntax.w32)) (λ x. x) (Scalar.oFld 4 (List._∷_ (Syntax.field 1) List.[]) (Syntax.tyInt Syntax.w64) 8 λ v. Shared.lenV (v .0))
+  abbrev s28 : Typed.Mo T30 → Typed.Mo T32
+  s28 = Scalar.n-room T30 15 (Syntax.tyInt Syntax.w32)
 
-  abbrev s27 : Typed.Gives T29 T30
-  s27 = Know'.k-struct-known State.the-type Laws'.the-laws T29 1 λ x. x
+  abbrev s29 : Typed.Mo T32 → Typed.Mo T33
+  s29 = Scalar.n-room T32 1 (Syntax.tyStruct (List._∷_ 112 (List._∷_ 121 (List._∷_ 114 (List._∷_ 97 (List._∷_ 109 (List._∷_ 105 (List._∷_ 100 (List._∷_ 58 (List._∷_ 58 (List._∷_ 83 (List._∷_ 116 (List._∷_ 97 (List._∷_ 116 (List._∷_ 101 List.[])))))))))))))) (Syntax.tcons (Syntax.tyInt Syntax.w32) (Syntax.tcons (Syntax.tyInt Syntax.w32) (Syntax.tcons (Syntax.tyInt Syntax.w32) (Syntax.tcons (Syntax.tyInt Syntax.w32) (Syntax.tcons (Syntax.tyInt Syntax.w32) (Syntax.tcons (Syntax.tyArray (Syntax.tyInt Syntax.w32) 64) Syntax.tnil)))))))
 
-  abbrev s28 : Typed.Asks T30 T31
-  s28 = Scalar.k-op1 T30 (Syntax.cast Syntax.unsigned Syntax.unsigned Syntax.w64) (Scalar.oFld 1 (List._∷_ (Syntax.field 0) List.[]) (Syntax.tyInt Syntax.w32) 0 (Reads.fieldV State.the-type Laws'.the-laws 0)) 17 (Rows.sc-here (Row.sInt Syntax.w64)) (Row.sInt Syntax.w64 .of)
+  abbrev s30 : Typed.Mo T33 → Typed.Mo T34
+  s30 = Scalar.n-room T33 10 Syntax.tyBool
 
-  abbrev s29 : Typed.Gives T31 T32
-  s29 = Know'.k-struct-known State.the-type Laws'.the-laws T31 1 λ x. x
+  abbrev s31 : Typed.Mo T34 → Typed.Mo T35
+  s31 = LocalCopy.n-val-copy T34 9 0 (Declared.row Answer.the-type) (Rows.whole (Declared.row Answer.the-type)) (Rows.whole (Declared.row Answer.the-type)) (λ x. x) (λ x. x) λ x. x
 
-  abbrev s30 : Typed.Asks T32 T33
-  s30 = Scalar.k-op1 T32 (Syntax.cast Syntax.unsigned Syntax.unsigned Syntax.w64) (Scalar.oFld 1 (List._∷_ (Syntax.field 1) List.[]) (Syntax.tyInt Syntax.w32) 4 (Reads.fieldV State.the-type Laws'.the-laws 1)) 18 (Rows.sc-here (Row.sInt Syntax.w64)) (Row.sInt Syntax.w64 .of)
-
-  abbrev s31 : Typed.Both T33 T34
-  s31 = Call.callB ps·3 r·3 (claims· .6) (claims· .7) T33 (record { pos = 16; ty = Syntax.tyRef Syntax.erased Syntax.imm (Syntax.tyInt Syntax.w32); ref = λ x. x }, (Num.vAt 17 λ x. x, (Num.vAt 18 λ x. x, (record { pos = 5; ty = Syntax.tyRef (Syntax.named 3) Syntax.imm Cell.behind; ref = λ x. x }, (record { pos = 6; ty = Syntax.tyRef (Syntax.named 4) Syntax.imm Cell.behind; ref = λ x. x }, tt))))) 14 (List._∷_ 6 (List._∷_ 3 (List._∷_ 4 List.[]))) Syntax.tyBool
-
-  abbrev s32 : Typed.Mo T34 → Typed.Mo T36
-  s32 = Scalar.n-room T34 16 (Syntax.tyStruct (List._∷_ 38 (List._∷_ 91 (List._∷_ 93 List.[]))) (Syntax.tcons (Syntax.tyRef Syntax.erased Syntax.imm (Syntax.tyInt Syntax.w32)) (Syntax.tcons (Syntax.tyInt Syntax.w64) Syntax.tnil)))
+  abbrev s32 : Typed.Mo T35 → Typed.Mo T36
+  s32 = Scalar.n-room T35 9 (Syntax.tyEnum (List._∷_ 100 (List._∷_ 97 (List._∷_ 114 (List._∷_ 116 (List._∷_ 115 (List._∷_ 58 (List._∷_ 58 (List._∷_ 65 (List._∷_ 110 (List._∷_ 115 (List._∷_ 119 (List._∷_ 101 (List._∷_ 114 List.[]))))))))))))) (Syntax.ttcons (Syntax.tcons (Syntax.tyInt Syntax.w64) Syntax.tnil) (Syntax.ttcons Syntax.tnil (Syntax.ttcons (Syntax.tcons (Syntax.tyInt Syntax.w64) Syntax.tnil) (Syntax.ttcons (Syntax.tcons (Syntax.tyInt Syntax.w64) (Syntax.tcons (Syntax.tyInt Syntax.w64) Syntax.tnil)) (Syntax.ttcons Syntax.tnil (Syntax.ttcons Syntax.tnil (Syntax.ttcons Syntax.tnil (Syntax.ttcons (Syntax.tcons (Syntax.tyInt Syntax.w64) Syntax.tnil) (Syntax.ttcons (Syntax.tcons (Syntax.tyInt Syntax.w64) Syntax.tnil) (Syntax.ttcons (Syntax.tcons (Syntax.tyInt Syntax.w64) Syntax.tnil) (Syntax.ttcons (Syntax.tcons (Syntax.tyInt Syntax.w64) Syntax.tnil) (Syntax.ttcons (Syntax.tcons (Syntax.tyInt Syntax.w64) Syntax.tnil) (Syntax.ttcons (Syntax.tcons (Syntax.tyInt Syntax.w64) Syntax.tnil) (Syntax.ttcons (Syntax.tcons (Syntax.tyInt Syntax.w64) Syntax.tnil) (Syntax.ttcons Syntax.tnil (Syntax.ttcons Syntax.tnil (Syntax.ttcons (Syntax.tcons (Syntax.tyInt Syntax.w64) Syntax.tnil) Syntax.ttnil))))))))))))))))))
 
   abbrev s33 : Typed.Mo T36 → Typed.Mo T37
-  s33 = Scalar.n-room T36 17 (Syntax.tyInt Syntax.w64)
+  s33 = Scalar.n-room T36 7 (Syntax.tyInt Syntax.w64)
 
   abbrev s34 : Typed.Mo T37 → Typed.Mo T38
-  s34 = Scalar.n-room T37 18 (Syntax.tyInt Syntax.w64)
+  s34 = Scalar.n-room T37 8 (Syntax.tyInt Syntax.w64)
 
-  abbrev s36 : Typed.Mo T38 → Typed.Mo T40
-  s36 = Reshare.n-back-sl-shr (Referent.rtF (Referent.fInt Syntax.w32)) T38 4 2 6 (Syntax.tyRef (Syntax.named 2) Syntax.mut (Syntax.tyInt Syntax.w32)) Row.off λ x. x
+  abbrev s35 : Typed.Mo T32 → Typed.Mo T39
+  s35 = Scalar.n-room T32 9 (Syntax.tyEnum (List._∷_ 100 (List._∷_ 97 (List._∷_ 114 (List._∷_ 116 (List._∷_ 115 (List._∷_ 58 (List._∷_ 58 (List._∷_ 65 (List._∷_ 110 (List._∷_ 115 (List._∷_ 119 (List._∷_ 101 (List._∷_ 114 List.[]))))))))))))) (Syntax.ttcons (Syntax.tcons (Syntax.tyInt Syntax.w64) Syntax.tnil) (Syntax.ttcons Syntax.tnil (Syntax.ttcons (Syntax.tcons (Syntax.tyInt Syntax.w64) Syntax.tnil) (Syntax.ttcons (Syntax.tcons (Syntax.tyInt Syntax.w64) (Syntax.tcons (Syntax.tyInt Syntax.w64) Syntax.tnil)) (Syntax.ttcons Syntax.tnil (Syntax.ttcons Syntax.tnil (Syntax.ttcons Syntax.tnil (Syntax.ttcons (Syntax.tcons (Syntax.tyInt Syntax.w64) Syntax.tnil) (Syntax.ttcons (Syntax.tcons (Syntax.tyInt Syntax.w64) Syntax.tnil) (Syntax.ttcons (Syntax.tcons (Syntax.tyInt Syntax.w64) Syntax.tnil) (Syntax.ttcons (Syntax.tcons (Syntax.tyInt Syntax.w64) Syntax.tnil) (Syntax.ttcons (Syntax.tcons (Syntax.tyInt Syntax.w64) Syntax.tnil) (Syntax.ttcons (Syntax.tcons (Syntax.tyInt Syntax.w64) Syntax.tnil) (Syntax.ttcons (Syntax.tcons (Syntax.tyInt Syntax.w64) Syntax.tnil) (Syntax.ttcons Syntax.tnil (Syntax.ttcons Syntax.tnil (Syntax.ttcons (Syntax.tcons (Syntax.tyInt Syntax.w64) Syntax.tnil) Syntax.ttnil))))))))))))))))))
 
-  abbrev s38 : Typed.Mo T40 → Typed.Mo T42
-  s38 = Scalar.n-room T40 14 Syntax.tyBool
+  abbrev s36 : Typed.Mo T39 → Typed.Mo T40
+  s36 = Scalar.n-room T39 10 Syntax.tyBool
 
-  abbrev s40 : Typed.Gives T42 T44
-  s40 = Relend.k-sl-relend (Referent.rtF (Referent.fInt Syntax.w32)) T42 4 19 2 7 (Syntax.tyRef (Syntax.named 2) Syntax.mut (Syntax.tyInt Syntax.w32)) (Syntax.tyRef Syntax.erased Syntax.mut (Syntax.tyInt Syntax.w32)) Row.off λ x. x
+  abbrev s38 : Typed.Gives T31 T42
+  s38 = Reshare.k-sl-reshare (Referent.rtF (Referent.fInt Syntax.w32)) T31 4 17 2 7 (Syntax.tyRef (Syntax.named 2) Syntax.mut (Syntax.tyInt Syntax.w32)) (Syntax.tyRef Syntax.erased Syntax.imm (Syntax.tyInt Syntax.w32)) Row.off λ x. x
+
+  abbrev s39 : Typed.Asks T42 T43
+  s39 = Relend.k-sl-aggregate (Referent.rtF (Referent.fInt Syntax.w32)) (Relend.asShr (Referent.rtF (Referent.fInt Syntax.w32))) T42 17 18 7 (Syntax.tyRef Syntax.erased Syntax.imm (Syntax.tyInt Syntax.w32)) (Syntax.tyRef Syntax.erased Syntax.imm (Syntax.tyInt Syntax.w32)) (λ x. x) (Scalar.oFld 4 (List._∷_ (Syntax.field 1) List.[]) (Syntax.tyInt Syntax.w64) 8 λ v. Shared.lenV (v .0))
+
+  abbrev s40 : Typed.Gives T43 T44
+  s40 = Know'.k-struct-known State.the-type Laws'.the-laws T43 1 λ x. x
 
   abbrev s41 : Typed.Asks T44 T45
-  s41 = Relend.k-sl-aggregate (Referent.rtF (Referent.fInt Syntax.w32)) (Relend.asMut (Referent.rtF (Referent.fInt Syntax.w32))) T44 19 20 7 (Syntax.tyRef Syntax.erased Syntax.mut (Syntax.tyInt Syntax.w32)) (Syntax.tyRef Syntax.erased Syntax.mut (Syntax.tyInt Syntax.w32)) (λ x. x) (Scalar.oFld 4 (List._∷_ (Syntax.field 1) List.[]) (Syntax.tyInt Syntax.w64) 8 λ v. Shared.lenV (v .0))
+  s41 = Scalar.k-op1 T44 (Syntax.cast Syntax.unsigned Syntax.unsigned Syntax.w64) (Scalar.oFld 1 (List._∷_ (Syntax.field 0) List.[]) (Syntax.tyInt Syntax.w32) 0 (Reads.fieldV State.the-type Laws'.the-laws 0)) 19 (Rows.sc-here (Row.sInt Syntax.w64)) (Row.sInt Syntax.w64 .of)
 
-  abbrev s42 : Typed.Both T45 T46
-  s42 = Call.callB ps·4 r·4 (claims· .8) (claims· .9) T45 (record { pos = 1; st = List.[]; d = 0; at = λ x. x }, (record { pos = 2; ty = Syntax.tyRef (Syntax.named 0) Syntax.imm (Syntax.tyInt Syntax.w32); ref = λ x. x }, (record { pos = 3; ty = Syntax.tyRef (Syntax.named 1) Syntax.imm (Syntax.tyInt Syntax.w32); ref = λ x. x }, (record { pos = 20; ty = Syntax.tyRef Syntax.erased Syntax.mut (Syntax.tyInt Syntax.w32); ref = λ x. x }, tt)))) 0 (List._∷_ 0 (List._∷_ 1 (List._∷_ 7 List.[]))) (Syntax.tyEnum (List._∷_ 100 (List._∷_ 97 (List._∷_ 114 (List._∷_ 116 (List._∷_ 115 (List._∷_ 58 (List._∷_ 58 (List._∷_ 65 (List._∷_ 110 (List._∷_ 115 (List._∷_ 119 (List._∷_ 101 (List._∷_ 114 List.[]))))))))))))) (Syntax.ttcons (Syntax.tcons (Syntax.tyInt Syntax.w64) Syntax.tnil) (Syntax.ttcons Syntax.tnil (Syntax.ttcons (Syntax.tcons (Syntax.tyInt Syntax.w64) Syntax.tnil) (Syntax.ttcons (Syntax.tcons (Syntax.tyInt Syntax.w64) (Syntax.tcons (Syntax.tyInt Syntax.w64) Syntax.tnil)) (Syntax.ttcons Syntax.tnil (Syntax.ttcons Syntax.tnil (Syntax.ttcons Syntax.tnil (Syntax.ttcons (Syntax.tcons (Syntax.tyInt Syntax.w64) Syntax.tnil) (Syntax.ttcons (Syntax.tcons (Syntax.tyInt Syntax.w64) Syntax.tnil) (Syntax.ttcons (Syntax.tcons (Syntax.tyInt Syntax.w64) Syntax.tnil) (Syntax.ttcons (Syntax.tcons (Syntax.tyInt Syntax.w64) Syntax.tnil) (Syntax.ttcons (Syntax.tcons (Syntax.tyInt Syntax.w64) Syntax.tnil) (Syntax.ttcons (Syntax.tcons (Syntax.tyInt Syntax.w64) Syntax.tnil) (Syntax.ttcons (Syntax.tcons (Syntax.tyInt Syntax.w64) Syntax.tnil) (Syntax.ttcons Syntax.tnil (Syntax.ttcons Syntax.tnil (Syntax.ttcons (Syntax.tcons (Syntax.tyInt Syntax.w64) Syntax.tnil) Syntax.ttnil))))))))))))))))))
+  abbrev s42 : Typed.Gives T45 T46
+  s42 = Know'.k-struct-known State.the-type Laws'.the-laws T45 1 λ x. x
 
-  abbrev s43 : Typed.Mo T46 → Typed.Mo T47
-  s43 = Scalar.n-room T46 1 (Syntax.tyStruct (List._∷_ 112 (List._∷_ 121 (List._∷_ 114 (List._∷_ 97 (List._∷_ 109 (List._∷_ 105 (List._∷_ 100 (List._∷_ 58 (List._∷_ 58 (List._∷_ 83 (List._∷_ 116 (List._∷_ 97 (List._∷_ 116 (List._∷_ 101 List.[])))))))))))))) (Syntax.tcons (Syntax.tyInt Syntax.w32) (Syntax.tcons (Syntax.tyInt Syntax.w32) (Syntax.tcons (Syntax.tyInt Syntax.w32) (Syntax.tcons (Syntax.tyInt Syntax.w32) (Syntax.tcons (Syntax.tyInt Syntax.w32) (Syntax.tcons (Syntax.tyArray (Syntax.tyInt Syntax.w32) 64) Syntax.tnil)))))))
+  abbrev s43 : Typed.Asks T46 T47
+  s43 = Scalar.k-op1 T46 (Syntax.cast Syntax.unsigned Syntax.unsigned Syntax.w64) (Scalar.oFld 1 (List._∷_ (Syntax.field 1) List.[]) (Syntax.tyInt Syntax.w32) 4 (Reads.fieldV State.the-type Laws'.the-laws 1)) 20 (Rows.sc-here (Row.sInt Syntax.w64)) (Row.sInt Syntax.w64 .of)
 
-  abbrev s45 : Typed.Both T47 T49
-  s45 = Relend.k-back-sl (Referent.rtF (Referent.fInt Syntax.w32)) T47 20 4 2 7 (Syntax.tyRef (Syntax.named 2) Syntax.mut (Syntax.tyInt Syntax.w32)) (Syntax.tyRef Syntax.erased Syntax.mut (Syntax.tyInt Syntax.w32)) Row.off (λ x. x) λ x. x
+  abbrev s44 : Typed.Both T47 T48
+  s44 = Call.callB ps·4 r·4 (claims· .8) (claims· .9) T47 (record { pos = 18; ty = Syntax.tyRef Syntax.erased Syntax.imm (Syntax.tyInt Syntax.w32); ref = λ x. x }, (Num.vAt 19 λ x. x, (Num.vAt 20 λ x. x, (record { pos = 5; ty = Syntax.tyRef (Syntax.named 3) Syntax.imm Cell.behind; ref = λ x. x }, (record { pos = 6; ty = Syntax.tyRef (Syntax.named 4) Syntax.imm Cell.behind; ref = λ x. x }, tt))))) 16 (List._∷_ 7 (List._∷_ 3 (List._∷_ 4 List.[]))) Syntax.tyBool
 
-  abbrev s46 : Typed.Gives T49 T50
-  s46 = Know.k-sl-known (Referent.fInt Syntax.w32) T49 4 2 (Syntax.tyRef (Syntax.named 2) Syntax.mut (Syntax.tyInt Syntax.w32)) Row.off 0 λ x. x
+  abbrev s45 : Typed.Mo T48 → Typed.Mo T50
+  s45 = Scalar.n-room T48 18 (Syntax.tyStruct (List._∷_ 38 (List._∷_ 91 (List._∷_ 93 List.[]))) (Syntax.tcons (Syntax.tyRef Syntax.erased Syntax.imm (Syntax.tyInt Syntax.w32)) (Syntax.tcons (Syntax.tyInt Syntax.w64) Syntax.tnil)))
 
-  abbrev s48 : Typed.Mo T50 → Typed.Mo T52
-  s48 = Scalar.n-room T50 7 (Syntax.tyInt Syntax.w64)
+  abbrev s46 : Typed.Mo T50 → Typed.Mo T51
+  s46 = Scalar.n-room T50 19 (Syntax.tyInt Syntax.w64)
 
-  abbrev s49 : Typed.Mo T52 → Typed.Mo T53
-  s49 = Scalar.n-room T52 8 (Syntax.tyInt Syntax.w64)
+  abbrev s47 : Typed.Mo T51 → Typed.Mo T52
+  s47 = Scalar.n-room T51 20 (Syntax.tyInt Syntax.w64)
 
-  abbrev s50 : Typed.Mo T40 → Typed.Mo T54
-  s50 = Scalar.n-room T40 14 Syntax.tyBool
+  abbrev s49 : Typed.Mo T52 → Typed.Mo T54
+  s49 = Reshare.n-back-sl-shr (Referent.rtF (Referent.fInt Syntax.w32)) T52 4 2 7 (Syntax.tyRef (Syntax.named 2) Syntax.mut (Syntax.tyInt Syntax.w32)) Row.off λ x. x
 
-  abbrev s52 : Typed.Gives T35 T56
-  s52 = Relend.k-sl-relend (Referent.rtF (Referent.fInt Syntax.w32)) T35 4 21 2 8 (Syntax.tyRef (Syntax.named 2) Syntax.mut (Syntax.tyInt Syntax.w32)) (Syntax.tyRef Syntax.erased Syntax.mut (Syntax.tyInt Syntax.w32)) Row.off λ x. x
+  abbrev s51 : Typed.Mo T54 → Typed.Mo T56
+  s51 = Scalar.n-room T54 16 Syntax.tyBool
 
-  abbrev s53 : Typed.Asks T56 T57
-  s53 = Relend.k-sl-aggregate (Referent.rtF (Referent.fInt Syntax.w32)) (Relend.asMut (Referent.rtF (Referent.fInt Syntax.w32))) T56 21 22 8 (Syntax.tyRef Syntax.erased Syntax.mut (Syntax.tyInt Syntax.w32)) (Syntax.tyRef Syntax.erased Syntax.mut (Syntax.tyInt Syntax.w32)) (λ x. x) (Scalar.oFld 4 (List._∷_ (Syntax.field 1) List.[]) (Syntax.tyInt Syntax.w64) 8 λ v. Shared.lenV (v .0))
+  abbrev s53 : Typed.Gives T56 T58
+  s53 = Relend.k-sl-relend (Referent.rtF (Referent.fInt Syntax.w32)) T56 4 21 2 8 (Syntax.tyRef (Syntax.named 2) Syntax.mut (Syntax.tyInt Syntax.w32)) (Syntax.tyRef Syntax.erased Syntax.mut (Syntax.tyInt Syntax.w32)) Row.off λ x. x
 
-  abbrev s54 : Typed.Both T57 T58
-  s54 = Call.callB ps·5 r·5 (claims· .10) (claims· .11) T57 (record { pos = 1; st = List.[]; d = 0; at = λ x. x }, (record { pos = 22; ty = Syntax.tyRef Syntax.erased Syntax.mut (Syntax.tyInt Syntax.w32); ref = λ x. x }, tt)) 0 (List._∷_ 8 List.[]) (Syntax.tyEnum (List._∷_ 100 (List._∷_ 97 (List._∷_ 114 (List._∷_ 116 (List._∷_ 115 (List._∷_ 58 (List._∷_ 58 (List._∷_ 65 (List._∷_ 110 (List._∷_ 115 (List._∷_ 119 (List._∷_ 101 (List._∷_ 114 List.[]))))))))))))) (Syntax.ttcons (Syntax.tcons (Syntax.tyInt Syntax.w64) Syntax.tnil) (Syntax.ttcons Syntax.tnil (Syntax.ttcons (Syntax.tcons (Syntax.tyInt Syntax.w64) Syntax.tnil) (Syntax.ttcons (Syntax.tcons (Syntax.tyInt Syntax.w64) (Syntax.tcons (Syntax.tyInt Syntax.w64) Syntax.tnil)) (Syntax.ttcons Syntax.tnil (Syntax.ttcons Syntax.tnil (Syntax.ttcons Syntax.tnil (Syntax.ttcons (Syntax.tcons (Syntax.tyInt Syntax.w64) Syntax.tnil) (Syntax.ttcons (Syntax.tcons (Syntax.tyInt Syntax.w64) Syntax.tnil) (Syntax.ttcons (Syntax.tcons (Syntax.tyInt Syntax.w64) Syntax.tnil) (Syntax.ttcons (Syntax.tcons (Syntax.tyInt Syntax.w64) Syntax.tnil) (Syntax.ttcons (Syntax.tcons (Syntax.tyInt Syntax.w64) Syntax.tnil) (Syntax.ttcons (Syntax.tcons (Syntax.tyInt Syntax.w64) Syntax.tnil) (Syntax.ttcons (Syntax.tcons (Syntax.tyInt Syntax.w64) Syntax.tnil) (Syntax.ttcons Syntax.tnil (Syntax.ttcons Syntax.tnil (Syntax.ttcons (Syntax.tcons (Syntax.tyInt Syntax.w64) Syntax.tnil) Syntax.ttnil))))))))))))))))))
+  abbrev s54 : Typed.Asks T58 T59
+  s54 = Relend.k-sl-aggregate (Referent.rtF (Referent.fInt Syntax.w32)) (Relend.asMut (Referent.rtF (Referent.fInt Syntax.w32))) T58 21 22 8 (Syntax.tyRef Syntax.erased Syntax.mut (Syntax.tyInt Syntax.w32)) (Syntax.tyRef Syntax.erased Syntax.mut (Syntax.tyInt Syntax.w32)) (λ x. x) (Scalar.oFld 4 (List._∷_ (Syntax.field 1) List.[]) (Syntax.tyInt Syntax.w64) 8 λ v. Shared.lenV (v .0))
 
-  abbrev s55 : Typed.Mo T58 → Typed.Mo T59
-  s55 = Scalar.n-room T58 1 (Syntax.tyStruct (List._∷_ 112 (List._∷_ 121 (List._∷_ 114 (List._∷_ 97 (List._∷_ 109 (List._∷_ 105 (List._∷_ 100 (List._∷_ 58 (List._∷_ 58 (List._∷_ 83 (List._∷_ 116 (List._∷_ 97 (List._∷_ 116 (List._∷_ 101 List.[])))))))))))))) (Syntax.tcons (Syntax.tyInt Syntax.w32) (Syntax.tcons (Syntax.tyInt Syntax.w32) (Syntax.tcons (Syntax.tyInt Syntax.w32) (Syntax.tcons (Syntax.tyInt Syntax.w32) (Syntax.tcons (Syntax.tyInt Syntax.w32) (Syntax.tcons (Syntax.tyArray (Syntax.tyInt Syntax.w32) 64) Syntax.tnil)))))))
+  abbrev s55 : Typed.Both T59 T60
+  s55 = Call.callB ps·5 r·5 (claims· .10) (claims· .11) T59 (record { pos = 1; st = List.[]; d = 0; at = λ x. x }, (record { pos = 2; ty = Syntax.tyRef (Syntax.named 0) Syntax.imm (Syntax.tyInt Syntax.w32); ref = λ x. x }, (record { pos = 3; ty = Syntax.tyRef (Syntax.named 1) Syntax.imm (Syntax.tyInt Syntax.w32); ref = λ x. x }, (record { pos = 22; ty = Syntax.tyRef Syntax.erased Syntax.mut (Syntax.tyInt Syntax.w32); ref = λ x. x }, tt)))) 0 (List._∷_ 0 (List._∷_ 1 (List._∷_ 8 List.[]))) (Syntax.tyEnum (List._∷_ 100 (List._∷_ 97 (List._∷_ 114 (List._∷_ 116 (List._∷_ 115 (List._∷_ 58 (List._∷_ 58 (List._∷_ 65 (List._∷_ 110 (List._∷_ 115 (List._∷_ 119 (List._∷_ 101 (List._∷_ 114 List.[]))))))))))))) (Syntax.ttcons (Syntax.tcons (Syntax.tyInt Syntax.w64) Syntax.tnil) (Syntax.ttcons Syntax.tnil (Syntax.ttcons (Syntax.tcons (Syntax.tyInt Syntax.w64) Syntax.tnil) (Syntax.ttcons (Syntax.tcons (Syntax.tyInt Syntax.w64) (Syntax.tcons (Syntax.tyInt Syntax.w64) Syntax.tnil)) (Syntax.ttcons Syntax.tnil (Syntax.ttcons Syntax.tnil (Syntax.ttcons Syntax.tnil (Syntax.ttcons (Syntax.tcons (Syntax.tyInt Syntax.w64) Syntax.tnil) (Syntax.ttcons (Syntax.tcons (Syntax.tyInt Syntax.w64) Syntax.tnil) (Syntax.ttcons (Syntax.tcons (Syntax.tyInt Syntax.w64) Syntax.tnil) (Syntax.ttcons (Syntax.tcons (Syntax.tyInt Syntax.w64) Syntax.tnil) (Syntax.ttcons (Syntax.tcons (Syntax.tyInt Syntax.w64) Syntax.tnil) (Syntax.ttcons (Syntax.tcons (Syntax.tyInt Syntax.w64) Syntax.tnil) (Syntax.ttcons (Syntax.tcons (Syntax.tyInt Syntax.w64) Syntax.tnil) (Syntax.ttcons Syntax.tnil (Syntax.ttcons Syntax.tnil (Syntax.ttcons (Syntax.tcons (Syntax.tyInt Syntax.w64) Syntax.tnil) Syntax.ttnil))))))))))))))))))
 
-  abbrev s56 : Typed.Mo T59 → Typed.Mo T60
-  s56 = Scalar.n-room T59 7 (Syntax.tyInt Syntax.w64)
+  abbrev s56 : Typed.Mo T60 → Typed.Mo T61
+  s56 = Scalar.n-room T60 1 (Syntax.tyStruct (List._∷_ 112 (List._∷_ 121 (List._∷_ 114 (List._∷_ 97 (List._∷_ 109 (List._∷_ 105 (List._∷_ 100 (List._∷_ 58 (List._∷_ 58 (List._∷_ 83 (List._∷_ 116 (List._∷_ 97 (List._∷_ 116 (List._∷_ 101 List.[])))))))))))))) (Syntax.tcons (Syntax.tyInt Syntax.w32) (Syntax.tcons (Syntax.tyInt Syntax.w32) (Syntax.tcons (Syntax.tyInt Syntax.w32) (Syntax.tcons (Syntax.tyInt Syntax.w32) (Syntax.tcons (Syntax.tyInt Syntax.w32) (Syntax.tcons (Syntax.tyArray (Syntax.tyInt Syntax.w32) 64) Syntax.tnil)))))))
 
-  abbrev s57 : Typed.Mo T60 → Typed.Mo T61
-  s57 = Scalar.n-room T60 8 (Syntax.tyInt Syntax.w64)
+  abbrev s58 : Typed.Both T61 T63
+  s58 = Relend.k-back-sl (Referent.rtF (Referent.fInt Syntax.w32)) T61 22 4 2 8 (Syntax.tyRef (Syntax.named 2) Syntax.mut (Syntax.tyInt Syntax.w32)) (Syntax.tyRef Syntax.erased Syntax.mut (Syntax.tyInt Syntax.w32)) Row.off (λ x. x) λ x. x
 
-  abbrev s59 : Typed.Both T61 T63
-  s59 = Relend.k-back-sl (Referent.rtF (Referent.fInt Syntax.w32)) T61 22 4 2 8 (Syntax.tyRef (Syntax.named 2) Syntax.mut (Syntax.tyInt Syntax.w32)) (Syntax.tyRef Syntax.erased Syntax.mut (Syntax.tyInt Syntax.w32)) Row.off (λ x. x) λ x. x
+  abbrev s59 : Typed.Gives T63 T64
+  s59 = Know.k-sl-known (Referent.fInt Syntax.w32) T63 4 2 (Syntax.tyRef (Syntax.named 2) Syntax.mut (Syntax.tyInt Syntax.w32)) Row.off 0 λ x. x
 
-  abbrev s60 : Typed.Gives T63 T64
-  s60 = Know.k-sl-known (Referent.fInt Syntax.w32) T63 4 2 (Syntax.tyRef (Syntax.named 2) Syntax.mut (Syntax.tyInt Syntax.w32)) Row.off 0 λ x. x
+  abbrev s61 : Typed.Mo T64 → Typed.Mo T66
+  s61 = Scalar.n-room T64 7 (Syntax.tyInt Syntax.w64)
+
+  abbrev s62 : Typed.Mo T66 → Typed.Mo T67
+  s62 = Scalar.n-room T66 8 (Syntax.tyInt Syntax.w64)
+
+  abbrev s63 : Typed.Mo T54 → Typed.Mo T68
+  s63 = Scalar.n-room T54 16 Syntax.tyBool
+
+  abbrev s65 : Typed.Gives T49 T70
+  s65 = Relend.k-sl-relend (Referent.rtF (Referent.fInt Syntax.w32)) T49 4 23 2 9 (Syntax.tyRef (Syntax.named 2) Syntax.mut (Syntax.tyInt Syntax.w32)) (Syntax.tyRef Syntax.erased Syntax.mut (Syntax.tyInt Syntax.w32)) Row.off λ x. x
+
+  abbrev s66 : Typed.Asks T70 T71
+  s66 = Relend.k-sl-aggregate (Referent.rtF (Referent.fInt Syntax.w32)) (Relend.asMut (Referent.rtF (Referent.fInt Syntax.w32))) T70 23 24 9 (Syntax.tyRef Syntax.erased Syntax.mut (Syntax.tyInt Syntax.w32)) (Syntax.tyRef Syntax.erased Syntax.mut (Syntax.tyInt Syntax.w32)) (λ x. x) (Scalar.oFld 4 (List._∷_ (Syntax.field 1) List.[]) (Syntax.tyInt Syntax.w64) 8 λ v. Shared.lenV (v .0))
+
+  abbrev s67 : Typed.Both T71 T72
+  s67 = Call.callB ps·6 r·6 (claims· .12) (claims· .13) T71 (record { pos = 1; st = List.[]; d = 0; at = λ x. x }, (record { pos = 24; ty = Syntax.tyRef Syntax.erased Syntax.mut (Syntax.tyInt Syntax.w32); ref = λ x. x }, tt)) 0 (List._∷_ 9 List.[]) (Syntax.tyEnum (List._∷_ 100 (List._∷_ 97 (List._∷_ 114 (List._∷_ 116 (List._∷_ 115 (List._∷_ 58 (List._∷_ 58 (List._∷_ 65 (List._∷_ 110 (List._∷_ 115 (List._∷_ 119 (List._∷_ 101 (List._∷_ 114 List.[]))))))))))))) (Syntax.ttcons (Syntax.tcons (Syntax.tyInt Syntax.w64) Syntax.tnil) (Syntax.ttcons Syntax.tnil (Syntax.ttcons (Syntax.tcons (Syntax.tyInt Syntax.w64) Syntax.tnil) (Syntax.ttcons (Syntax.tcons (Syntax.tyInt Syntax.w64) (Syntax.tcons (Syntax.tyInt Syntax.w64) Syntax.tnil)) (Syntax.ttcons Syntax.tnil (Syntax.ttcons Syntax.tnil (Syntax.ttcons Syntax.tnil (Syntax.ttcons (Syntax.tcons (Syntax.tyInt Syntax.w64) Syntax.tnil) (Syntax.ttcons (Syntax.tcons (Syntax.tyInt Syntax.w64) Syntax.tnil) (Syntax.ttcons (Syntax.tcons (Syntax.tyInt Syntax.w64) Syntax.tnil) (Syntax.ttcons (Syntax.tcons (Syntax.tyInt Syntax.w64) Syntax.tnil) (Syntax.ttcons (Syntax.tcons (Syntax.tyInt Syntax.w64) Syntax.tnil) (Syntax.ttcons (Syntax.tcons (Syntax.tyInt Syntax.w64) Syntax.tnil) (Syntax.ttcons (Syntax.tcons (Syntax.tyInt Syntax.w64) Syntax.tnil) (Syntax.ttcons Syntax.tnil (Syntax.ttcons Syntax.tnil (Syntax.ttcons (Syntax.tcons (Syntax.tyInt Syntax.w64) Syntax.tnil) Syntax.ttnil))))))))))))))))))
+
+  abbrev s68 : Typed.Mo T72 → Typed.Mo T73
+  s68 = Scalar.n-room T72 1 (Syntax.tyStruct (List._∷_ 112 (List._∷_ 121 (List._∷_ 114 (List._∷_ 97 (List._∷_ 109 (List._∷_ 105 (List._∷_ 100 (List._∷_ 58 (List._∷_ 58 (List._∷_ 83 (List._∷_ 116 (List._∷_ 97 (List._∷_ 116 (List._∷_ 101 List.[])))))))))))))) (Syntax.tcons (Syntax.tyInt Syntax.w32) (Syntax.tcons (Syntax.tyInt Syntax.w32) (Syntax.tcons (Syntax.tyInt Syntax.w32) (Syntax.tcons (Syntax.tyInt Syntax.w32) (Syntax.tcons (Syntax.tyInt Syntax.w32) (Syntax.tcons (Syntax.tyArray (Syntax.tyInt Syntax.w32) 64) Syntax.tnil)))))))
+
+  abbrev s69 : Typed.Mo T73 → Typed.Mo T74
+  s69 = Scalar.n-room T73 7 (Syntax.tyInt Syntax.w64)
+
+  abbrev s70 : Typed.Mo T74 → Typed.Mo T75
+  s70 = Scalar.n-room T74 8 (Syntax.tyInt Syntax.w64)
+
+  abbrev s72 : Typed.Both T75 T77
+  s72 = Relend.k-back-sl (Referent.rtF (Referent.fInt Syntax.w32)) T75 24 4 2 9 (Syntax.tyRef (Syntax.named 2) Syntax.mut (Syntax.tyInt Syntax.w32)) (Syntax.tyRef Syntax.erased Syntax.mut (Syntax.tyInt Syntax.w32)) Row.off (λ x. x) λ x. x
+
+  abbrev s73 : Typed.Gives T77 T78
+  s73 = Know.k-sl-known (Referent.fInt Syntax.w32) T77 4 2 (Syntax.tyRef (Syntax.named 2) Syntax.mut (Syntax.tyInt Syntax.w32)) Row.off 0 λ x. x
 
   module _ (Pre· : (κs : Lifetimes.Lfts 5) → Kinds.Dens κs ps → Type 0) (Post· : (κs : Lifetimes.Lfts 5) → (a : Kinds.Dens κs ps) → Kinds.Plain 5 ps r κs) where
     module _ (M : Type 1) where
       abbrev pub Closed : Type 2
-      Closed = (𝓤 : URA.URA M) (H : Wp.Heap 𝓤) (A : Atoms.Atoms 𝓤) (W : Kit.Given 𝓤 H A) (𝓣 : Wp.Tables 𝓤 H) (known0 : Plain.Known 𝓤 H A W 𝓣 1 ps·0 r·0 (claims· .0) (claims· .1) "sheets::thin::records") (known1 : Plain.Known 𝓤 H A W 𝓣 3 ps·1 r·1 (claims· .2) (claims· .3) "pyramid::State::check_with") (known2 : Plain.Known 𝓤 H A W 𝓣 0 ps·2 r·2 (claims· .4) (claims· .5) "darts::Answer::number") (known3 : Plain.Known 𝓤 H A W 𝓣 3 ps·3 r·3 (claims· .6) (claims· .7) "sheets::loops::all_right") (known4 : Plain.Known 𝓤 H A W 𝓣 3 ps·4 r·4 (claims· .8) (claims· .9) "pyramid::State::accept") (known5 : Plain.Known 𝓤 H A W 𝓣 1 ps·5 r·5 (claims· .10) (claims· .11) "pyramid::State::refuse") → Statement.Triple 𝓤 (Wp.WpFn 𝓤 H (𝓣 .C) (𝓣 .Λ) (Function.fnOf 5 ps r xs m hs body)) (Function.plainOf 𝓤 H A 5 ps r Pre· Post·)
+      Closed = (𝓤 : URA.URA M) (H : Wp.Heap 𝓤) (A : Atoms.Atoms 𝓤) (W : Kit.Given 𝓤 H A) (𝓣 : Wp.Tables 𝓤 H) (known0 : Plain.Known 𝓤 H A W 𝓣 5 ps·0 r·0 (claims· .0) (claims· .1) "pyramid::State::judged_base") (known1 : Plain.Known 𝓤 H A W 𝓣 1 ps·1 r·1 (claims· .2) (claims· .3) "sheets::thin::records") (known2 : Plain.Known 𝓤 H A W 𝓣 3 ps·2 r·2 (claims· .4) (claims· .5) "pyramid::State::check_with") (known3 : Plain.Known 𝓤 H A W 𝓣 0 ps·3 r·3 (claims· .6) (claims· .7) "darts::Answer::number") (known4 : Plain.Known 𝓤 H A W 𝓣 3 ps·4 r·4 (claims· .8) (claims· .9) "sheets::loops::all_right") (known5 : Plain.Known 𝓤 H A W 𝓣 3 ps·5 r·5 (claims· .10) (claims· .11) "pyramid::State::accept") (known6 : Plain.Known 𝓤 H A W 𝓣 1 ps·6 r·6 (claims· .12) (claims· .13) "pyramid::State::refuse") → Statement.Triple 𝓤 (Wp.WpFn 𝓤 H (𝓣 .C) (𝓣 .Λ) (Function.fnOf 5 ps r xs m hs body)) (Function.plainOf 𝓤 H A 5 ps r Pre· Post·)
 
     module _ where
-      abbrev at0 : Typed.TF T24 O1
+      abbrev at0 : Typed.TF T16 O1
       at0 = Typed.atRet O1
 
-      abbrev at1 : Typed.TF T23 O1
-      at1 = λ Ψ. Typed.pass T23 T24 s21 (at0 Ψ)
+      abbrev at1 : Typed.TF T16 O1
+      at1 = λ Ψ. at0 Ψ
 
-      abbrev at2 : Typed.TF T22 O1
-      at2 = λ Ψ. Typed.pass T22 T23 s20 (at1 Ψ)
+      abbrev at2 : Typed.TF T15 O1
+      at2 = λ Ψ. Typed.give s13 (at1 Ψ)
 
-      abbrev at3 : Typed.TF T21 O1
-      at3 = λ Ψ. Typed.pass T21 T22 s19 (at2 Ψ)
+      abbrev at3 : Typed.TF T13 O1
+      at3 = λ Ψ. Typed.both s12 (at2 Ψ)
 
-      abbrev at4 : Typed.TF T20 O1
-      at4 = λ Ψ. Typed.pass T20 T21 s18 (at3 Ψ)
+      abbrev at4 : Typed.TF T13 O1
+      at4 = λ Ψ. at3 Ψ
 
-      abbrev at5 : Typed.TF T19 O1
-      at5 = λ Ψ. Typed.pass T19 T20 s17 (at4 Ψ)
+      abbrev at5 : Typed.TF T12 O1
+      at5 = λ Ψ. Typed.pass T12 T13 s10 (at4 Ψ)
 
-      abbrev at6 : Typed.TF T18 O1
-      at6 = λ Ψ. Typed.pass T18 T19 s16 (at5 Ψ)
+      abbrev at6 : Typed.TF T11 O1
+      at6 = λ Ψ. Typed.both s9 (at5 Ψ)
 
-      abbrev at7 : Typed.TF T26 O1
-      at7 = Typed.atNext O1
+      abbrev at7 : Typed.TF T10 O1
+      at7 = λ Ψ. Typed.ask s8 (at6 Ψ)
 
-      abbrev at8 : Typed.TF T25 O1
-      at8 = λ Ψ. Typed.pass T25 T26 s23 (at7 Ψ)
+      abbrev at8 : Typed.TF T8 O1
+      at8 = λ Ψ. Typed.give s7 (at7 Ψ)
 
-      abbrev at9 : Typed.TF T18 O1
-      at9 = λ Ψ. Typed.pass T18 T25 s22 (at8 Ψ)
+      abbrev at9 : Typed.TF T8 O1
+      at9 = λ Ψ. at8 Ψ
 
-      abbrev at10 : Typed.TF T18 O1
-      at10 = Scalar.Φcond T18 O1 13 (λ x. x) at6 at9
+      abbrev at10 : Typed.TF T6 O1
+      at10 = λ Ψ. Typed.pass T6 T8 s5 (at9 Ψ)
 
-      abbrev at11 : Typed.TF T16 O1
-      at11 = λ Ψ. Typed.pass T16 T18 s15 (at10 Ψ)
+      abbrev at11 : Typed.TF T18 O1
+      at11 = Typed.atNext O1
 
-      abbrev at12 : Typed.TF T53 O2
-      at12 = Typed.atRet O2
+      abbrev at12 : Typed.TF T6 O1
+      at12 = λ Ψ. Typed.pass T6 T18 s15 (at11 Ψ)
 
-      abbrev at13 : Typed.TF T52 O2
-      at13 = λ Ψ. Typed.pass T52 T53 s49 (at12 Ψ)
+      abbrev at13 : Typed.TF T6 O1
+      at13 = Scalar.Φcond T6 O1 10 (λ x. x) at10 at12
 
-      abbrev at14 : Typed.TF T50 O2
-      at14 = λ Ψ. Typed.pass T50 T52 s48 (at13 Ψ)
+      abbrev at14 : Typed.TF T38 O2
+      at14 = Typed.atRet O2
 
-      abbrev at15 : Typed.TF T50 O2
-      at15 = λ Ψ. at14 Ψ
+      abbrev at15 : Typed.TF T37 O2
+      at15 = λ Ψ. Typed.pass T37 T38 s34 (at14 Ψ)
 
-      abbrev at16 : Typed.TF T49 O2
-      at16 = λ Ψ. Typed.give s46 (at15 Ψ)
+      abbrev at16 : Typed.TF T36 O2
+      at16 = λ Ψ. Typed.pass T36 T37 s33 (at15 Ψ)
 
-      abbrev at17 : Typed.TF T47 O2
-      at17 = λ Ψ. Typed.both s45 (at16 Ψ)
+      abbrev at17 : Typed.TF T35 O2
+      at17 = λ Ψ. Typed.pass T35 T36 s32 (at16 Ψ)
 
-      abbrev at18 : Typed.TF T47 O2
-      at18 = λ Ψ. at17 Ψ
+      abbrev at18 : Typed.TF T34 O2
+      at18 = λ Ψ. Typed.pass T34 T35 s31 (at17 Ψ)
 
-      abbrev at19 : Typed.TF T46 O2
-      at19 = λ Ψ. Typed.pass T46 T47 s43 (at18 Ψ)
+      abbrev at19 : Typed.TF T33 O2
+      at19 = λ Ψ. Typed.pass T33 T34 s30 (at18 Ψ)
 
-      abbrev at20 : Typed.TF T45 O2
-      at20 = λ Ψ. Typed.both s42 (at19 Ψ)
+      abbrev at20 : Typed.TF T32 O2
+      at20 = λ Ψ. Typed.pass T32 T33 s29 (at19 Ψ)
 
-      abbrev at21 : Typed.TF T44 O2
-      at21 = λ Ψ. Typed.ask s41 (at20 Ψ)
+      abbrev at21 : Typed.TF T40 O2
+      at21 = Typed.atNext O2
 
-      abbrev at22 : Typed.TF T42 O2
-      at22 = λ Ψ. Typed.give s40 (at21 Ψ)
+      abbrev at22 : Typed.TF T39 O2
+      at22 = λ Ψ. Typed.pass T39 T40 s36 (at21 Ψ)
 
-      abbrev at23 : Typed.TF T42 O2
-      at23 = λ Ψ. at22 Ψ
+      abbrev at23 : Typed.TF T32 O2
+      at23 = λ Ψ. Typed.pass T32 T39 s35 (at22 Ψ)
 
-      abbrev at24 : Typed.TF T40 O2
-      at24 = λ Ψ. Typed.pass T40 T42 s38 (at23 Ψ)
+      abbrev at24 : Typed.TF T32 O2
+      at24 = Scalar.Φcond T32 O2 10 (λ x. x) at20 at23
 
-      abbrev at25 : Typed.TF T54 O2
-      at25 = Typed.atNext O2
+      abbrev at25 : Typed.TF T30 O2
+      at25 = λ Ψ. Typed.pass T30 T32 s28 (at24 Ψ)
 
-      abbrev at26 : Typed.TF T40 O2
-      at26 = λ Ψ. Typed.pass T40 T54 s50 (at25 Ψ)
+      abbrev at26 : Typed.TF T67 O3
+      at26 = Typed.atRet O3
 
-      abbrev at27 : Typed.TF T40 O2
-      at27 = Scalar.Φcond T40 O2 14 (λ x. x) at24 at26
+      abbrev at27 : Typed.TF T66 O3
+      at27 = λ Ψ. Typed.pass T66 T67 s62 (at26 Ψ)
 
-      abbrev at28 : Typed.TF T40 O2
-      at28 = λ Ψ. at27 Ψ
+      abbrev at28 : Typed.TF T64 O3
+      at28 = λ Ψ. Typed.pass T64 T66 s61 (at27 Ψ)
 
-      abbrev at29 : Typed.TF T38 O2
-      at29 = λ Ψ. Typed.pass T38 T40 s36 (at28 Ψ)
+      abbrev at29 : Typed.TF T64 O3
+      at29 = λ Ψ. at28 Ψ
 
-      abbrev at30 : Typed.TF T38 O2
-      at30 = λ Ψ. at29 Ψ
+      abbrev at30 : Typed.TF T63 O3
+      at30 = λ Ψ. Typed.give s59 (at29 Ψ)
 
-      abbrev at31 : Typed.TF T37 O2
-      at31 = λ Ψ. Typed.pass T37 T38 s34 (at30 Ψ)
+      abbrev at31 : Typed.TF T61 O3
+      at31 = λ Ψ. Typed.both s58 (at30 Ψ)
 
-      abbrev at32 : Typed.TF T36 O2
-      at32 = λ Ψ. Typed.pass T36 T37 s33 (at31 Ψ)
+      abbrev at32 : Typed.TF T61 O3
+      at32 = λ Ψ. at31 Ψ
 
-      abbrev at33 : Typed.TF T34 O2
-      at33 = λ Ψ. Typed.pass T34 T36 s32 (at32 Ψ)
+      abbrev at33 : Typed.TF T60 O3
+      at33 = λ Ψ. Typed.pass T60 T61 s56 (at32 Ψ)
 
-      abbrev at34 : Typed.TF T64 O0
-      at34 = Typed.atRet O0
+      abbrev at34 : Typed.TF T59 O3
+      at34 = λ Ψ. Typed.both s55 (at33 Ψ)
 
-      abbrev at35 : Typed.TF T64 O0
-      at35 = λ Ψ. at34 Ψ
+      abbrev at35 : Typed.TF T58 O3
+      at35 = λ Ψ. Typed.ask s54 (at34 Ψ)
 
-      abbrev at36 : Typed.TF T63 O0
-      at36 = λ Ψ. Typed.give s60 (at35 Ψ)
+      abbrev at36 : Typed.TF T56 O3
+      at36 = λ Ψ. Typed.give s53 (at35 Ψ)
 
-      abbrev at37 : Typed.TF T61 O0
-      at37 = λ Ψ. Typed.both s59 (at36 Ψ)
+      abbrev at37 : Typed.TF T56 O3
+      at37 = λ Ψ. at36 Ψ
 
-      abbrev at38 : Typed.TF T61 O0
-      at38 = λ Ψ. at37 Ψ
+      abbrev at38 : Typed.TF T54 O3
+      at38 = λ Ψ. Typed.pass T54 T56 s51 (at37 Ψ)
 
-      abbrev at39 : Typed.TF T60 O0
-      at39 = λ Ψ. Typed.pass T60 T61 s57 (at38 Ψ)
+      abbrev at39 : Typed.TF T68 O3
+      at39 = Typed.atNext O3
 
-      abbrev at40 : Typed.TF T59 O0
-      at40 = λ Ψ. Typed.pass T59 T60 s56 (at39 Ψ)
+      abbrev at40 : Typed.TF T54 O3
+      at40 = λ Ψ. Typed.pass T54 T68 s63 (at39 Ψ)
 
-      abbrev at41 : Typed.TF T58 O0
-      at41 = λ Ψ. Typed.pass T58 T59 s55 (at40 Ψ)
+      abbrev at41 : Typed.TF T54 O3
+      at41 = Scalar.Φcond T54 O3 16 (λ x. x) at38 at40
 
-      abbrev at42 : Typed.TF T57 O0
-      at42 = λ Ψ. Typed.both s54 (at41 Ψ)
+      abbrev at42 : Typed.TF T54 O3
+      at42 = λ Ψ. at41 Ψ
 
-      abbrev at43 : Typed.TF T56 O0
-      at43 = λ Ψ. Typed.ask s53 (at42 Ψ)
+      abbrev at43 : Typed.TF T52 O3
+      at43 = λ Ψ. Typed.pass T52 T54 s49 (at42 Ψ)
 
-      abbrev at44 : Typed.TF T35 O0
-      at44 = λ Ψ. Typed.give s52 (at43 Ψ)
+      abbrev at44 : Typed.TF T52 O3
+      at44 = λ Ψ. at43 Ψ
 
-      abbrev at45 : Typed.TF T35 O0
-      at45 = λ Ψ. at44 Ψ
+      abbrev at45 : Typed.TF T51 O3
+      at45 = λ Ψ. Typed.pass T51 T52 s47 (at44 Ψ)
 
-      abbrev at46 : Typed.TF T34 O0
-      at46 = λ Ψ. at33 (Typed.wantNext T35 O0 (at45 Ψ) Ψ)
+      abbrev at46 : Typed.TF T50 O3
+      at46 = λ Ψ. Typed.pass T50 T51 s46 (at45 Ψ)
 
-      abbrev at47 : Typed.TF T33 O0
-      at47 = λ Ψ. Typed.both s31 (at46 Ψ)
+      abbrev at47 : Typed.TF T48 O3
+      at47 = λ Ψ. Typed.pass T48 T50 s45 (at46 Ψ)
 
-      abbrev at48 : Typed.TF T32 O0
-      at48 = λ Ψ. Typed.ask s30 (at47 Ψ)
+      abbrev at48 : Typed.TF T78 O0
+      at48 = Typed.atRet O0
 
-      abbrev at49 : Typed.TF T31 O0
-      at49 = λ Ψ. Typed.give s29 (at48 Ψ)
+      abbrev at49 : Typed.TF T78 O0
+      at49 = λ Ψ. at48 Ψ
 
-      abbrev at50 : Typed.TF T30 O0
-      at50 = λ Ψ. Typed.ask s28 (at49 Ψ)
+      abbrev at50 : Typed.TF T77 O0
+      at50 = λ Ψ. Typed.give s73 (at49 Ψ)
 
-      abbrev at51 : Typed.TF T29 O0
-      at51 = λ Ψ. Typed.give s27 (at50 Ψ)
+      abbrev at51 : Typed.TF T75 O0
+      at51 = λ Ψ. Typed.both s72 (at50 Ψ)
 
-      abbrev at52 : Typed.TF T28 O0
-      at52 = λ Ψ. Typed.ask s26 (at51 Ψ)
+      abbrev at52 : Typed.TF T75 O0
+      at52 = λ Ψ. at51 Ψ
 
-      abbrev at53 : Typed.TF T17 O0
-      at53 = λ Ψ. Typed.give s25 (at52 Ψ)
+      abbrev at53 : Typed.TF T74 O0
+      at53 = λ Ψ. Typed.pass T74 T75 s70 (at52 Ψ)
 
-      abbrev at54 : Typed.TF T17 O0
-      at54 = λ Ψ. at53 Ψ
+      abbrev at54 : Typed.TF T73 O0
+      at54 = λ Ψ. Typed.pass T73 T74 s69 (at53 Ψ)
 
-      abbrev at55 : Typed.TF T16 O0
-      at55 = λ Ψ. at11 (Typed.wantNext T17 O0 (at54 Ψ) Ψ)
+      abbrev at55 : Typed.TF T72 O0
+      at55 = λ Ψ. Typed.pass T72 T73 s68 (at54 Ψ)
 
-      abbrev at56 : Typed.TF T15 O0
-      at56 = λ Ψ. Typed.ask s14 (at55 Ψ)
+      abbrev at56 : Typed.TF T71 O0
+      at56 = λ Ψ. Typed.both s67 (at55 Ψ)
 
-      abbrev at57 : Typed.TF T13 O0
-      at57 = λ Ψ. Typed.both s13 (at56 Ψ)
+      abbrev at57 : Typed.TF T70 O0
+      at57 = λ Ψ. Typed.ask s66 (at56 Ψ)
 
-      abbrev at58 : Typed.TF T13 O0
-      at58 = λ Ψ. at57 Ψ
+      abbrev at58 : Typed.TF T49 O0
+      at58 = λ Ψ. Typed.give s65 (at57 Ψ)
 
-      abbrev at59 : Typed.TF T12 O0
-      at59 = λ Ψ. Typed.give s11 (at58 Ψ)
+      abbrev at59 : Typed.TF T49 O0
+      at59 = λ Ψ. at58 Ψ
 
-      abbrev at60 : Typed.TF T10 O0
-      at60 = λ Ψ. Typed.both s10 (at59 Ψ)
+      abbrev at60 : Typed.TF T48 O0
+      at60 = λ Ψ. at47 (Typed.wantNext T49 O0 (at59 Ψ) Ψ)
 
-      abbrev at61 : Typed.TF T10 O0
-      at61 = λ Ψ. at60 Ψ
+      abbrev at61 : Typed.TF T47 O0
+      at61 = λ Ψ. Typed.both s44 (at60 Ψ)
 
-      abbrev at62 : Typed.TF T9 O0
-      at62 = λ Ψ. Typed.both s8 (at61 Ψ)
+      abbrev at62 : Typed.TF T46 O0
+      at62 = λ Ψ. Typed.ask s43 (at61 Ψ)
 
-      abbrev at63 : Typed.TF T8 O0
-      at63 = λ Ψ. Typed.ask s7 (at62 Ψ)
+      abbrev at63 : Typed.TF T45 O0
+      at63 = λ Ψ. Typed.give s42 (at62 Ψ)
 
-      abbrev at64 : Typed.TF T6 O0
-      at64 = λ Ψ. Typed.give s6 (at63 Ψ)
+      abbrev at64 : Typed.TF T44 O0
+      at64 = λ Ψ. Typed.ask s41 (at63 Ψ)
 
-      abbrev at65 : Typed.TF T6 O0
-      at65 = λ Ψ. at64 Ψ
+      abbrev at65 : Typed.TF T43 O0
+      at65 = λ Ψ. Typed.give s40 (at64 Ψ)
 
-      abbrev at66 : Typed.TF T5 O0
-      at66 = λ Ψ. Typed.both s4 (at65 Ψ)
+      abbrev at66 : Typed.TF T42 O0
+      at66 = λ Ψ. Typed.ask s39 (at65 Ψ)
 
-      abbrev at67 : Typed.TF T4 O0
-      at67 = λ Ψ. Typed.both s3 (at66 Ψ)
+      abbrev at67 : Typed.TF T31 O0
+      at67 = λ Ψ. Typed.give s38 (at66 Ψ)
 
-      abbrev at68 : Typed.TF T3 O0
-      at68 = λ Ψ. Typed.give s2 (at67 Ψ)
+      abbrev at68 : Typed.TF T31 O0
+      at68 = λ Ψ. at67 Ψ
 
-      abbrev at69 : Typed.TF T2 O0
-      at69 = λ Ψ. Typed.give s1 (at68 Ψ)
+      abbrev at69 : Typed.TF T30 O0
+      at69 = λ Ψ. at25 (Typed.wantNext T31 O0 (at68 Ψ) Ψ)
 
-      abbrev at70 : Typed.TF T0 O0
-      at70 = λ Ψ. Typed.give s0 (at69 Ψ)
+      abbrev at70 : Typed.TF T29 O0
+      at70 = λ Ψ. Typed.ask s27 (at69 Ψ)
+
+      abbrev at71 : Typed.TF T27 O0
+      at71 = λ Ψ. Typed.both s26 (at70 Ψ)
+
+      abbrev at72 : Typed.TF T27 O0
+      at72 = λ Ψ. at71 Ψ
+
+      abbrev at73 : Typed.TF T26 O0
+      at73 = λ Ψ. Typed.give s24 (at72 Ψ)
+
+      abbrev at74 : Typed.TF T24 O0
+      at74 = λ Ψ. Typed.both s23 (at73 Ψ)
+
+      abbrev at75 : Typed.TF T24 O0
+      at75 = λ Ψ. at74 Ψ
+
+      abbrev at76 : Typed.TF T23 O0
+      at76 = λ Ψ. Typed.both s21 (at75 Ψ)
+
+      abbrev at77 : Typed.TF T22 O0
+      at77 = λ Ψ. Typed.ask s20 (at76 Ψ)
+
+      abbrev at78 : Typed.TF T20 O0
+      at78 = λ Ψ. Typed.give s19 (at77 Ψ)
+
+      abbrev at79 : Typed.TF T20 O0
+      at79 = λ Ψ. at78 Ψ
+
+      abbrev at80 : Typed.TF T19 O0
+      at80 = λ Ψ. Typed.both s17 (at79 Ψ)
+
+      abbrev at81 : Typed.TF T7 O0
+      at81 = λ Ψ. Typed.both s16 (at80 Ψ)
+
+      abbrev at82 : Typed.TF T6 O0
+      at82 = λ Ψ. at13 (Typed.wantNext T7 O0 (at81 Ψ) Ψ)
+
+      abbrev at83 : Typed.TF T5 O0
+      at83 = λ Ψ. Typed.ask s4 (at82 Ψ)
+
+      abbrev at84 : Typed.TF T4 O0
+      at84 = λ Ψ. Typed.give s3 (at83 Ψ)
+
+      abbrev at85 : Typed.TF T3 O0
+      at85 = λ Ψ. Typed.give s2 (at84 Ψ)
+
+      abbrev at86 : Typed.TF T2 O0
+      at86 = λ Ψ. Typed.give s1 (at85 Ψ)
+
+      abbrev at87 : Typed.TF T0 O0
+      at87 = λ Ψ. Typed.give s0 (at86 Ψ)
 
       abbrev pub Φ : Typed.TF T0 O0
-      Φ = at70
+      Φ = at87
 
       module _ {M : Type 1} (𝓤 : URA.URA M) (H : Wp.Heap 𝓤) (A : Atoms.Atoms 𝓤) (W : Kit.Given 𝓤 H A) (𝓣 : Wp.Tables 𝓤 H) where
         abbrev Knowns : Type 1
-        Knowns = Plain.Known 𝓤 H A W 𝓣 1 ps·0 r·0 (claims· .0) (claims· .1) "sheets::thin::records" × Plain.Known 𝓤 H A W 𝓣 3 ps·1 r·1 (claims· .2) (claims· .3) "pyramid::State::check_with" × Plain.Known 𝓤 H A W 𝓣 0 ps·2 r·2 (claims· .4) (claims· .5) "darts::Answer::number" × Plain.Known 𝓤 H A W 𝓣 3 ps·3 r·3 (claims· .6) (claims· .7) "sheets::loops::all_right" × Plain.Known 𝓤 H A W 𝓣 3 ps·4 r·4 (claims· .8) (claims· .9) "pyramid::State::accept" × Plain.Known 𝓤 H A W 𝓣 1 ps·5 r·5 (claims· .10) (claims· .11) "pyramid::State::refuse"
+        Knowns = Plain.Known 𝓤 H A W 𝓣 5 ps·0 r·0 (claims· .0) (claims· .1) "pyramid::State::judged_base" × Plain.Known 𝓤 H A W 𝓣 1 ps·1 r·1 (claims· .2) (claims· .3) "sheets::thin::records" × Plain.Known 𝓤 H A W 𝓣 3 ps·2 r·2 (claims· .4) (claims· .5) "pyramid::State::check_with" × Plain.Known 𝓤 H A W 𝓣 0 ps·3 r·3 (claims· .6) (claims· .7) "darts::Answer::number" × Plain.Known 𝓤 H A W 𝓣 3 ps·4 r·4 (claims· .8) (claims· .9) "sheets::loops::all_right" × Plain.Known 𝓤 H A W 𝓣 3 ps·5 r·5 (claims· .10) (claims· .11) "pyramid::State::accept" × Plain.Known 𝓤 H A W 𝓣 1 ps·6 r·6 (claims· .12) (claims· .13) "pyramid::State::refuse"
 
       module _ (κs : Lifetimes.Lfts 5) (qs : Lifetimes.Shares 5) where
+        abbrev g4 : List.List Row.Entry
+        g4 = List._∷_ (0, Rows.any-gone (Syntax.tyEnum (List._∷_ 100 (List._∷_ 97 (List._∷_ 114 (List._∷_ 116 (List._∷_ 115 (List._∷_ 58 (List._∷_ 58 (List._∷_ 65 (List._∷_ 110 (List._∷_ 115 (List._∷_ 119 (List._∷_ 101 (List._∷_ 114 List.[]))))))))))))) (Syntax.ttcons (Syntax.tcons (Syntax.tyInt Syntax.w64) Syntax.tnil) (Syntax.ttcons Syntax.tnil (Syntax.ttcons (Syntax.tcons (Syntax.tyInt Syntax.w64) Syntax.tnil) (Syntax.ttcons (Syntax.tcons (Syntax.tyInt Syntax.w64) (Syntax.tcons (Syntax.tyInt Syntax.w64) Syntax.tnil)) (Syntax.ttcons Syntax.tnil (Syntax.ttcons Syntax.tnil (Syntax.ttcons Syntax.tnil (Syntax.ttcons (Syntax.tcons (Syntax.tyInt Syntax.w64) Syntax.tnil) (Syntax.ttcons (Syntax.tcons (Syntax.tyInt Syntax.w64) Syntax.tnil) (Syntax.ttcons (Syntax.tcons (Syntax.tyInt Syntax.w64) Syntax.tnil) (Syntax.ttcons (Syntax.tcons (Syntax.tyInt Syntax.w64) Syntax.tnil) (Syntax.ttcons (Syntax.tcons (Syntax.tyInt Syntax.w64) Syntax.tnil) (Syntax.ttcons (Syntax.tcons (Syntax.tyInt Syntax.w64) Syntax.tnil) (Syntax.ttcons (Syntax.tcons (Syntax.tyInt Syntax.w64) Syntax.tnil) (Syntax.ttcons Syntax.tnil (Syntax.ttcons Syntax.tnil (Syntax.ttcons (Syntax.tcons (Syntax.tyInt Syntax.w64) Syntax.tnil) Syntax.ttnil))))))))))))))))))) (List._∷_ (1, Rows.whole (Declared'.row State.the-type)) (List._∷_ (2, Rows.sslice (Referent.rtF (Referent.fInt Syntax.w32)) (Syntax.tyRef (Syntax.named 0) Syntax.imm (Syntax.tyInt Syntax.w32)) 0) (List._∷_ (3, Rows.sslice (Referent.rtF (Referent.fInt Syntax.w32)) (Syntax.tyRef (Syntax.named 1) Syntax.imm (Syntax.tyInt Syntax.w32)) 1) (List._∷_ (4, Relend.mslice-owed (Referent.rtF (Referent.fInt Syntax.w32)) (Syntax.tyRef (Syntax.named 2) Syntax.mut (Syntax.tyInt Syntax.w32)) 2 5 (Row.lease (κs .1 .1 .0) (qs .1 .1 .0))) (List._∷_ (5, Rows.sslice Cell.R (Syntax.tyRef (Syntax.named 3) Syntax.imm Cell.behind) 3) (List._∷_ (6, Rows.sslice Cell.R (Syntax.tyRef (Syntax.named 4) Syntax.imm Cell.behind) 4) (List._∷_ (7, Rows.any-gone (Syntax.tyInt Syntax.w64)) (List._∷_ (8, Rows.any-gone (Syntax.tyInt Syntax.w64)) (List._∷_ (9, Rows.any-gone (Syntax.tyEnum (List._∷_ 100 (List._∷_ 97 (List._∷_ 114 (List._∷_ 116 (List._∷_ 115 (List._∷_ 58 (List._∷_ 58 (List._∷_ 65 (List._∷_ 110 (List._∷_ 115 (List._∷_ 119 (List._∷_ 101 (List._∷_ 114 List.[]))))))))))))) (Syntax.ttcons (Syntax.tcons (Syntax.tyInt Syntax.w64) Syntax.tnil) (Syntax.ttcons Syntax.tnil (Syntax.ttcons (Syntax.tcons (Syntax.tyInt Syntax.w64) Syntax.tnil) (Syntax.ttcons (Syntax.tcons (Syntax.tyInt Syntax.w64) (Syntax.tcons (Syntax.tyInt Syntax.w64) Syntax.tnil)) (Syntax.ttcons Syntax.tnil (Syntax.ttcons Syntax.tnil (Syntax.ttcons Syntax.tnil (Syntax.ttcons (Syntax.tcons (Syntax.tyInt Syntax.w64) Syntax.tnil) (Syntax.ttcons (Syntax.tcons (Syntax.tyInt Syntax.w64) Syntax.tnil) (Syntax.ttcons (Syntax.tcons (Syntax.tyInt Syntax.w64) Syntax.tnil) (Syntax.ttcons (Syntax.tcons (Syntax.tyInt Syntax.w64) Syntax.tnil) (Syntax.ttcons (Syntax.tcons (Syntax.tyInt Syntax.w64) Syntax.tnil) (Syntax.ttcons (Syntax.tcons (Syntax.tyInt Syntax.w64) Syntax.tnil) (Syntax.ttcons (Syntax.tcons (Syntax.tyInt Syntax.w64) Syntax.tnil) (Syntax.ttcons Syntax.tnil (Syntax.ttcons Syntax.tnil (Syntax.ttcons (Syntax.tcons (Syntax.tyInt Syntax.w64) Syntax.tnil) Syntax.ttnil))))))))))))))))))) (List._∷_ (10, Rows.any-gone Syntax.tyBool) (List._∷_ (11, Relend.msptr (Referent.rtF (Referent.fInt Syntax.w32)) (Syntax.tyRef Syntax.erased Syntax.mut (Syntax.tyInt Syntax.w32)) 5) (List._∷_ (12, Rows.any-gone (Syntax.tyStruct (List._∷_ 38 (List._∷_ 91 (List._∷_ 93 List.[]))) (Syntax.tcons (Syntax.tyRef Syntax.erased Syntax.mut (Syntax.tyInt Syntax.w32)) (Syntax.tcons (Syntax.tyInt Syntax.w64) Syntax.tnil)))) (List._∷_ (13, Rows.any-gone (Syntax.tyRef Syntax.erased Syntax.mut (Syntax.tyInt Syntax.w32))) (List._∷_ (14, Rows.any-gone (Syntax.tyStruct (List._∷_ 38 (List._∷_ 91 (List._∷_ 93 List.[]))) (Syntax.tcons (Syntax.tyRef Syntax.erased Syntax.mut (Syntax.tyInt Syntax.w32)) (Syntax.tcons (Syntax.tyInt Syntax.w64) Syntax.tnil)))) (List._∷_ (15, Rows.any-gone (Syntax.tyInt Syntax.w32)) List.[])))))))))))))))
+
         abbrev g5 : List.List Row.Entry
-        g5 = List._∷_ (0, Rows.any-gone (Syntax.tyEnum (List._∷_ 100 (List._∷_ 97 (List._∷_ 114 (List._∷_ 116 (List._∷_ 115 (List._∷_ 58 (List._∷_ 58 (List._∷_ 65 (List._∷_ 110 (List._∷_ 115 (List._∷_ 119 (List._∷_ 101 (List._∷_ 114 List.[]))))))))))))) (Syntax.ttcons (Syntax.tcons (Syntax.tyInt Syntax.w64) Syntax.tnil) (Syntax.ttcons Syntax.tnil (Syntax.ttcons (Syntax.tcons (Syntax.tyInt Syntax.w64) Syntax.tnil) (Syntax.ttcons (Syntax.tcons (Syntax.tyInt Syntax.w64) (Syntax.tcons (Syntax.tyInt Syntax.w64) Syntax.tnil)) (Syntax.ttcons Syntax.tnil (Syntax.ttcons Syntax.tnil (Syntax.ttcons Syntax.tnil (Syntax.ttcons (Syntax.tcons (Syntax.tyInt Syntax.w64) Syntax.tnil) (Syntax.ttcons (Syntax.tcons (Syntax.tyInt Syntax.w64) Syntax.tnil) (Syntax.ttcons (Syntax.tcons (Syntax.tyInt Syntax.w64) Syntax.tnil) (Syntax.ttcons (Syntax.tcons (Syntax.tyInt Syntax.w64) Syntax.tnil) (Syntax.ttcons (Syntax.tcons (Syntax.tyInt Syntax.w64) Syntax.tnil) (Syntax.ttcons (Syntax.tcons (Syntax.tyInt Syntax.w64) Syntax.tnil) (Syntax.ttcons (Syntax.tcons (Syntax.tyInt Syntax.w64) Syntax.tnil) (Syntax.ttcons Syntax.tnil (Syntax.ttcons Syntax.tnil (Syntax.ttcons (Syntax.tcons (Syntax.tyInt Syntax.w64) Syntax.tnil) Syntax.ttnil))))))))))))))))))) (List._∷_ (1, Rows.whole (Declared'.row State.the-type)) (List._∷_ (2, Rows.sslice (Referent.rtF (Referent.fInt Syntax.w32)) (Syntax.tyRef (Syntax.named 0) Syntax.imm (Syntax.tyInt Syntax.w32)) 0) (List._∷_ (3, Rows.sslice (Referent.rtF (Referent.fInt Syntax.w32)) (Syntax.tyRef (Syntax.named 1) Syntax.imm (Syntax.tyInt Syntax.w32)) 1) (List._∷_ (4, Relend.mslice-owed (Referent.rtF (Referent.fInt Syntax.w32)) (Syntax.tyRef (Syntax.named 2) Syntax.mut (Syntax.tyInt Syntax.w32)) 2 5 (Row.lease (κs .1 .1 .0) (qs .1 .1 .0))) (List._∷_ (5, Rows.sslice Cell.R (Syntax.tyRef (Syntax.named 3) Syntax.imm Cell.behind) 3) (List._∷_ (6, Rows.sslice Cell.R (Syntax.tyRef (Syntax.named 4) Syntax.imm Cell.behind) 4) (List._∷_ (7, Rows.sc-here (Row.sInt Syntax.w64)) (List._∷_ (8, Rows.sc-here (Row.sInt Syntax.w64)) (List._∷_ (9, Rows.any-gone (Syntax.tyEnum (List._∷_ 100 (List._∷_ 97 (List._∷_ 114 (List._∷_ 116 (List._∷_ 115 (List._∷_ 58 (List._∷_ 58 (List._∷_ 65 (List._∷_ 110 (List._∷_ 115 (List._∷_ 119 (List._∷_ 101 (List._∷_ 114 List.[]))))))))))))) (Syntax.ttcons (Syntax.tcons (Syntax.tyInt Syntax.w64) Syntax.tnil) (Syntax.ttcons Syntax.tnil (Syntax.ttcons (Syntax.tcons (Syntax.tyInt Syntax.w64) Syntax.tnil) (Syntax.ttcons (Syntax.tcons (Syntax.tyInt Syntax.w64) (Syntax.tcons (Syntax.tyInt Syntax.w64) Syntax.tnil)) (Syntax.ttcons Syntax.tnil (Syntax.ttcons Syntax.tnil (Syntax.ttcons Syntax.tnil (Syntax.ttcons (Syntax.tcons (Syntax.tyInt Syntax.w64) Syntax.tnil) (Syntax.ttcons (Syntax.tcons (Syntax.tyInt Syntax.w64) Syntax.tnil) (Syntax.ttcons (Syntax.tcons (Syntax.tyInt Syntax.w64) Syntax.tnil) (Syntax.ttcons (Syntax.tcons (Syntax.tyInt Syntax.w64) Syntax.tnil) (Syntax.ttcons (Syntax.tcons (Syntax.tyInt Syntax.w64) Syntax.tnil) (Syntax.ttcons (Syntax.tcons (Syntax.tyInt Syntax.w64) Syntax.tnil) (Syntax.ttcons (Syntax.tcons (Syntax.tyInt Syntax.w64) Syntax.tnil) (Syntax.ttcons Syntax.tnil (Syntax.ttcons Syntax.tnil (Syntax.ttcons (Syntax.tcons (Syntax.tyInt Syntax.w64) Syntax.tnil) Syntax.ttnil))))))))))))))))))) (List._∷_ (10, Relend.msptr (Referent.rtF (Referent.fInt Syntax.w32)) (Syntax.tyRef Syntax.erased Syntax.mut (Syntax.tyInt Syntax.w32)) 5) (List._∷_ (11, Rows.any-gone (Syntax.tyStruct (List._∷_ 38 (List._∷_ 91 (List._∷_ 93 List.[]))) (Syntax.tcons (Syntax.tyRef Syntax.erased Syntax.mut (Syntax.tyInt Syntax.w32)) (Syntax.tcons (Syntax.tyInt Syntax.w64) Syntax.tnil)))) (List._∷_ (12, Rows.any-gone (Syntax.tyInt Syntax.w32)) (List._∷_ (13, Rows.any-gone Syntax.tyBool) (List._∷_ (14, Rows.any-gone Syntax.tyBool) (List._∷_ (15, Rows.any-gone (Syntax.tyRef Syntax.erased Syntax.imm (Syntax.tyInt Syntax.w32))) List.[])))))))))))))))
+        g5 = List._∷_ (0, Rows.any-gone (Syntax.tyEnum (List._∷_ 100 (List._∷_ 97 (List._∷_ 114 (List._∷_ 116 (List._∷_ 115 (List._∷_ 58 (List._∷_ 58 (List._∷_ 65 (List._∷_ 110 (List._∷_ 115 (List._∷_ 119 (List._∷_ 101 (List._∷_ 114 List.[]))))))))))))) (Syntax.ttcons (Syntax.tcons (Syntax.tyInt Syntax.w64) Syntax.tnil) (Syntax.ttcons Syntax.tnil (Syntax.ttcons (Syntax.tcons (Syntax.tyInt Syntax.w64) Syntax.tnil) (Syntax.ttcons (Syntax.tcons (Syntax.tyInt Syntax.w64) (Syntax.tcons (Syntax.tyInt Syntax.w64) Syntax.tnil)) (Syntax.ttcons Syntax.tnil (Syntax.ttcons Syntax.tnil (Syntax.ttcons Syntax.tnil (Syntax.ttcons (Syntax.tcons (Syntax.tyInt Syntax.w64) Syntax.tnil) (Syntax.ttcons (Syntax.tcons (Syntax.tyInt Syntax.w64) Syntax.tnil) (Syntax.ttcons (Syntax.tcons (Syntax.tyInt Syntax.w64) Syntax.tnil) (Syntax.ttcons (Syntax.tcons (Syntax.tyInt Syntax.w64) Syntax.tnil) (Syntax.ttcons (Syntax.tcons (Syntax.tyInt Syntax.w64) Syntax.tnil) (Syntax.ttcons (Syntax.tcons (Syntax.tyInt Syntax.w64) Syntax.tnil) (Syntax.ttcons (Syntax.tcons (Syntax.tyInt Syntax.w64) Syntax.tnil) (Syntax.ttcons Syntax.tnil (Syntax.ttcons Syntax.tnil (Syntax.ttcons (Syntax.tcons (Syntax.tyInt Syntax.w64) Syntax.tnil) Syntax.ttnil))))))))))))))))))) (List._∷_ (1, Rows.whole (Declared'.row State.the-type)) (List._∷_ (2, Rows.sslice (Referent.rtF (Referent.fInt Syntax.w32)) (Syntax.tyRef (Syntax.named 0) Syntax.imm (Syntax.tyInt Syntax.w32)) 0) (List._∷_ (3, Rows.sslice (Referent.rtF (Referent.fInt Syntax.w32)) (Syntax.tyRef (Syntax.named 1) Syntax.imm (Syntax.tyInt Syntax.w32)) 1) (List._∷_ (4, Relend.mslice-owed (Referent.rtF (Referent.fInt Syntax.w32)) (Syntax.tyRef (Syntax.named 2) Syntax.mut (Syntax.tyInt Syntax.w32)) 2 5 (Row.lease (κs .1 .1 .0) (qs .1 .1 .0))) (List._∷_ (5, Rows.sslice Cell.R (Syntax.tyRef (Syntax.named 3) Syntax.imm Cell.behind) 3) (List._∷_ (6, Rows.sslice Cell.R (Syntax.tyRef (Syntax.named 4) Syntax.imm Cell.behind) 4) (List._∷_ (7, Rows.any-gone (Syntax.tyInt Syntax.w64)) (List._∷_ (8, Rows.any-gone (Syntax.tyInt Syntax.w64)) (List._∷_ (9, Rows.any-gone (Syntax.tyEnum (List._∷_ 100 (List._∷_ 97 (List._∷_ 114 (List._∷_ 116 (List._∷_ 115 (List._∷_ 58 (List._∷_ 58 (List._∷_ 65 (List._∷_ 110 (List._∷_ 115 (List._∷_ 119 (List._∷_ 101 (List._∷_ 114 List.[]))))))))))))) (Syntax.ttcons (Syntax.tcons (Syntax.tyInt Syntax.w64) Syntax.tnil) (Syntax.ttcons Syntax.tnil (Syntax.ttcons (Syntax.tcons (Syntax.tyInt Syntax.w64) Syntax.tnil) (Syntax.ttcons (Syntax.tcons (Syntax.tyInt Syntax.w64) (Syntax.tcons (Syntax.tyInt Syntax.w64) Syntax.tnil)) (Syntax.ttcons Syntax.tnil (Syntax.ttcons Syntax.tnil (Syntax.ttcons Syntax.tnil (Syntax.ttcons (Syntax.tcons (Syntax.tyInt Syntax.w64) Syntax.tnil) (Syntax.ttcons (Syntax.tcons (Syntax.tyInt Syntax.w64) Syntax.tnil) (Syntax.ttcons (Syntax.tcons (Syntax.tyInt Syntax.w64) Syntax.tnil) (Syntax.ttcons (Syntax.tcons (Syntax.tyInt Syntax.w64) Syntax.tnil) (Syntax.ttcons (Syntax.tcons (Syntax.tyInt Syntax.w64) Syntax.tnil) (Syntax.ttcons (Syntax.tcons (Syntax.tyInt Syntax.w64) Syntax.tnil) (Syntax.ttcons (Syntax.tcons (Syntax.tyInt Syntax.w64) Syntax.tnil) (Syntax.ttcons Syntax.tnil (Syntax.ttcons Syntax.tnil (Syntax.ttcons (Syntax.tcons (Syntax.tyInt Syntax.w64) Syntax.tnil) Syntax.ttnil))))))))))))))))))) (List._∷_ (10, Rows.any-gone Syntax.tyBool) (List._∷_ (11, Rows.any-gone (Syntax.tyRef Syntax.erased Syntax.mut (Syntax.tyInt Syntax.w32))) (List._∷_ (12, Mut.mslice (Referent.rtF (Referent.fInt Syntax.w32)) (Syntax.tyRef Syntax.erased Syntax.mut (Syntax.tyInt Syntax.w32)) 5) (List._∷_ (13, Rows.any-gone (Syntax.tyRef Syntax.erased Syntax.mut (Syntax.tyInt Syntax.w32))) (List._∷_ (14, Rows.any-gone (Syntax.tyStruct (List._∷_ 38 (List._∷_ 91 (List._∷_ 93 List.[]))) (Syntax.tcons (Syntax.tyRef Syntax.erased Syntax.mut (Syntax.tyInt Syntax.w32)) (Syntax.tcons (Syntax.tyInt Syntax.w64) Syntax.tnil)))) (List._∷_ (15, Rows.any-gone (Syntax.tyInt Syntax.w32)) List.[])))))))))))))))
 
         abbrev g6 : List.List Row.Entry
-        g6 = List._∷_ (0, Rows.any-gone (Syntax.tyEnum (List._∷_ 100 (List._∷_ 97 (List._∷_ 114 (List._∷_ 116 (List._∷_ 115 (List._∷_ 58 (List._∷_ 58 (List._∷_ 65 (List._∷_ 110 (List._∷_ 115 (List._∷_ 119 (List._∷_ 101 (List._∷_ 114 List.[]))))))))))))) (Syntax.ttcons (Syntax.tcons (Syntax.tyInt Syntax.w64) Syntax.tnil) (Syntax.ttcons Syntax.tnil (Syntax.ttcons (Syntax.tcons (Syntax.tyInt Syntax.w64) Syntax.tnil) (Syntax.ttcons (Syntax.tcons (Syntax.tyInt Syntax.w64) (Syntax.tcons (Syntax.tyInt Syntax.w64) Syntax.tnil)) (Syntax.ttcons Syntax.tnil (Syntax.ttcons Syntax.tnil (Syntax.ttcons Syntax.tnil (Syntax.ttcons (Syntax.tcons (Syntax.tyInt Syntax.w64) Syntax.tnil) (Syntax.ttcons (Syntax.tcons (Syntax.tyInt Syntax.w64) Syntax.tnil) (Syntax.ttcons (Syntax.tcons (Syntax.tyInt Syntax.w64) Syntax.tnil) (Syntax.ttcons (Syntax.tcons (Syntax.tyInt Syntax.w64) Syntax.tnil) (Syntax.ttcons (Syntax.tcons (Syntax.tyInt Syntax.w64) Syntax.tnil) (Syntax.ttcons (Syntax.tcons (Syntax.tyInt Syntax.w64) Syntax.tnil) (Syntax.ttcons (Syntax.tcons (Syntax.tyInt Syntax.w64) Syntax.tnil) (Syntax.ttcons Syntax.tnil (Syntax.ttcons Syntax.tnil (Syntax.ttcons (Syntax.tcons (Syntax.tyInt Syntax.w64) Syntax.tnil) Syntax.ttnil))))))))))))))))))) (List._∷_ (1, Rows.whole (Declared'.row State.the-type)) (List._∷_ (2, Rows.sslice (Referent.rtF (Referent.fInt Syntax.w32)) (Syntax.tyRef (Syntax.named 0) Syntax.imm (Syntax.tyInt Syntax.w32)) 0) (List._∷_ (3, Rows.sslice (Referent.rtF (Referent.fInt Syntax.w32)) (Syntax.tyRef (Syntax.named 1) Syntax.imm (Syntax.tyInt Syntax.w32)) 1) (List._∷_ (4, Relend.mslice-owed (Referent.rtF (Referent.fInt Syntax.w32)) (Syntax.tyRef (Syntax.named 2) Syntax.mut (Syntax.tyInt Syntax.w32)) 2 5 (Row.lease (κs .1 .1 .0) (qs .1 .1 .0))) (List._∷_ (5, Rows.sslice Cell.R (Syntax.tyRef (Syntax.named 3) Syntax.imm Cell.behind) 3) (List._∷_ (6, Rows.sslice Cell.R (Syntax.tyRef (Syntax.named 4) Syntax.imm Cell.behind) 4) (List._∷_ (7, Rows.sc-here (Row.sInt Syntax.w64)) (List._∷_ (8, Rows.sc-here (Row.sInt Syntax.w64)) (List._∷_ (9, Rows.any-gone (Syntax.tyEnum (List._∷_ 100 (List._∷_ 97 (List._∷_ 114 (List._∷_ 116 (List._∷_ 115 (List._∷_ 58 (List._∷_ 58 (List._∷_ 65 (List._∷_ 110 (List._∷_ 115 (List._∷_ 119 (List._∷_ 101 (List._∷_ 114 List.[]))))))))))))) (Syntax.ttcons (Syntax.tcons (Syntax.tyInt Syntax.w64) Syntax.tnil) (Syntax.ttcons Syntax.tnil (Syntax.ttcons (Syntax.tcons (Syntax.tyInt Syntax.w64) Syntax.tnil) (Syntax.ttcons (Syntax.tcons (Syntax.tyInt Syntax.w64) (Syntax.tcons (Syntax.tyInt Syntax.w64) Syntax.tnil)) (Syntax.ttcons Syntax.tnil (Syntax.ttcons Syntax.tnil (Syntax.ttcons Syntax.tnil (Syntax.ttcons (Syntax.tcons (Syntax.tyInt Syntax.w64) Syntax.tnil) (Syntax.ttcons (Syntax.tcons (Syntax.tyInt Syntax.w64) Syntax.tnil) (Syntax.ttcons (Syntax.tcons (Syntax.tyInt Syntax.w64) Syntax.tnil) (Syntax.ttcons (Syntax.tcons (Syntax.tyInt Syntax.w64) Syntax.tnil) (Syntax.ttcons (Syntax.tcons (Syntax.tyInt Syntax.w64) Syntax.tnil) (Syntax.ttcons (Syntax.tcons (Syntax.tyInt Syntax.w64) Syntax.tnil) (Syntax.ttcons (Syntax.tcons (Syntax.tyInt Syntax.w64) Syntax.tnil) (Syntax.ttcons Syntax.tnil (Syntax.ttcons Syntax.tnil (Syntax.ttcons (Syntax.tcons (Syntax.tyInt Syntax.w64) Syntax.tnil) Syntax.ttnil))))))))))))))))))) (List._∷_ (10, Rows.any-gone (Syntax.tyRef Syntax.erased Syntax.mut (Syntax.tyInt Syntax.w32))) (List._∷_ (11, Mut.mslice (Referent.rtF (Referent.fInt Syntax.w32)) (Syntax.tyRef Syntax.erased Syntax.mut (Syntax.tyInt Syntax.w32)) 5) (List._∷_ (12, Rows.any-gone (Syntax.tyInt Syntax.w32)) (List._∷_ (13, Rows.any-gone Syntax.tyBool) (List._∷_ (14, Rows.any-gone Syntax.tyBool) (List._∷_ (15, Rows.any-gone (Syntax.tyRef Syntax.erased Syntax.imm (Syntax.tyInt Syntax.w32))) List.[])))))))))))))))
+        g6 = List._∷_ (0, Rows.whole (Declared.row Answer.the-type)) (List._∷_ (1, Rows.whole (Declared'.row State.the-type)) (List._∷_ (2, Rows.sslice (Referent.rtF (Referent.fInt Syntax.w32)) (Syntax.tyRef (Syntax.named 0) Syntax.imm (Syntax.tyInt Syntax.w32)) 0) (List._∷_ (3, Rows.sslice (Referent.rtF (Referent.fInt Syntax.w32)) (Syntax.tyRef (Syntax.named 1) Syntax.imm (Syntax.tyInt Syntax.w32)) 1) (List._∷_ (4, Relend.mslice-owed (Referent.rtF (Referent.fInt Syntax.w32)) (Syntax.tyRef (Syntax.named 2) Syntax.mut (Syntax.tyInt Syntax.w32)) 2 5 (Row.lease (κs .1 .1 .0) (qs .1 .1 .0))) (List._∷_ (5, Rows.sslice Cell.R (Syntax.tyRef (Syntax.named 3) Syntax.imm Cell.behind) 3) (List._∷_ (6, Rows.sslice Cell.R (Syntax.tyRef (Syntax.named 4) Syntax.imm Cell.behind) 4) (List._∷_ (7, Rows.any-gone (Syntax.tyInt Syntax.w64)) (List._∷_ (8, Rows.any-gone (Syntax.tyInt Syntax.w64)) (List._∷_ (9, Rows.any-gone (Syntax.tyEnum (List._∷_ 100 (List._∷_ 97 (List._∷_ 114 (List._∷_ 116 (List._∷_ 115 (List._∷_ 58 (List._∷_ 58 (List._∷_ 65 (List._∷_ 110 (List._∷_ 115 (List._∷_ 119 (List._∷_ 101 (List._∷_ 114 List.[]))))))))))))) (Syntax.ttcons (Syntax.tcons (Syntax.tyInt Syntax.w64) Syntax.tnil) (Syntax.ttcons Syntax.tnil (Syntax.ttcons (Syntax.tcons (Syntax.tyInt Syntax.w64) Syntax.tnil) (Syntax.ttcons (Syntax.tcons (Syntax.tyInt Syntax.w64) (Syntax.tcons (Syntax.tyInt Syntax.w64) Syntax.tnil)) (Syntax.ttcons Syntax.tnil (Syntax.ttcons Syntax.tnil (Syntax.ttcons Syntax.tnil (Syntax.ttcons (Syntax.tcons (Syntax.tyInt Syntax.w64) Syntax.tnil) (Syntax.ttcons (Syntax.tcons (Syntax.tyInt Syntax.w64) Syntax.tnil) (Syntax.ttcons (Syntax.tcons (Syntax.tyInt Syntax.w64) Syntax.tnil) (Syntax.ttcons (Syntax.tcons (Syntax.tyInt Syntax.w64) Syntax.tnil) (Syntax.ttcons (Syntax.tcons (Syntax.tyInt Syntax.w64) Syntax.tnil) (Syntax.ttcons (Syntax.tcons (Syntax.tyInt Syntax.w64) Syntax.tnil) (Syntax.ttcons (Syntax.tcons (Syntax.tyInt Syntax.w64) Syntax.tnil) (Syntax.ttcons Syntax.tnil (Syntax.ttcons Syntax.tnil (Syntax.ttcons (Syntax.tcons (Syntax.tyInt Syntax.w64) Syntax.tnil) Syntax.ttnil))))))))))))))))))) (List._∷_ (10, Rows.any-gone Syntax.tyBool) (List._∷_ (11, Rows.any-gone (Syntax.tyRef Syntax.erased Syntax.mut (Syntax.tyInt Syntax.w32))) (List._∷_ (12, Mut.msleft (Referent.rtF (Referent.fInt Syntax.w32)) (Syntax.tyRef Syntax.erased Syntax.mut (Syntax.tyInt Syntax.w32))) (List._∷_ (13, Rows.any-gone (Syntax.tyRef Syntax.erased Syntax.mut (Syntax.tyInt Syntax.w32))) (List._∷_ (14, Rows.any-gone (Syntax.tyStruct (List._∷_ 38 (List._∷_ 91 (List._∷_ 93 List.[]))) (Syntax.tcons (Syntax.tyRef Syntax.erased Syntax.mut (Syntax.tyInt Syntax.w32)) (Syntax.tcons (Syntax.tyInt Syntax.w64) Syntax.tnil)))) (List._∷_ (15, Rows.any-gone (Syntax.tyInt Syntax.w32)) List.[])))))))))))))))
 
         abbrev g7 : List.List Row.Entry
-        g7 = List._∷_ (0, Rows.any-gone (Syntax.tyEnum (List._∷_ 100 (List._∷_ 97 (List._∷_ 114 (List._∷_ 116 (List._∷_ 115 (List._∷_ 58 (List._∷_ 58 (List._∷_ 65 (List._∷_ 110 (List._∷_ 115 (List._∷_ 119 (List._∷_ 101 (List._∷_ 114 List.[]))))))))))))) (Syntax.ttcons (Syntax.tcons (Syntax.tyInt Syntax.w64) Syntax.tnil) (Syntax.ttcons Syntax.tnil (Syntax.ttcons (Syntax.tcons (Syntax.tyInt Syntax.w64) Syntax.tnil) (Syntax.ttcons (Syntax.tcons (Syntax.tyInt Syntax.w64) (Syntax.tcons (Syntax.tyInt Syntax.w64) Syntax.tnil)) (Syntax.ttcons Syntax.tnil (Syntax.ttcons Syntax.tnil (Syntax.ttcons Syntax.tnil (Syntax.ttcons (Syntax.tcons (Syntax.tyInt Syntax.w64) Syntax.tnil) (Syntax.ttcons (Syntax.tcons (Syntax.tyInt Syntax.w64) Syntax.tnil) (Syntax.ttcons (Syntax.tcons (Syntax.tyInt Syntax.w64) Syntax.tnil) (Syntax.ttcons (Syntax.tcons (Syntax.tyInt Syntax.w64) Syntax.tnil) (Syntax.ttcons (Syntax.tcons (Syntax.tyInt Syntax.w64) Syntax.tnil) (Syntax.ttcons (Syntax.tcons (Syntax.tyInt Syntax.w64) Syntax.tnil) (Syntax.ttcons (Syntax.tcons (Syntax.tyInt Syntax.w64) Syntax.tnil) (Syntax.ttcons Syntax.tnil (Syntax.ttcons Syntax.tnil (Syntax.ttcons (Syntax.tcons (Syntax.tyInt Syntax.w64) Syntax.tnil) Syntax.ttnil))))))))))))))))))) (List._∷_ (1, Rows.whole (Declared'.row State.the-type)) (List._∷_ (2, Rows.sslice (Referent.rtF (Referent.fInt Syntax.w32)) (Syntax.tyRef (Syntax.named 0) Syntax.imm (Syntax.tyInt Syntax.w32)) 0) (List._∷_ (3, Rows.sslice (Referent.rtF (Referent.fInt Syntax.w32)) (Syntax.tyRef (Syntax.named 1) Syntax.imm (Syntax.tyInt Syntax.w32)) 1) (List._∷_ (4, Relend.mslice-owed (Referent.rtF (Referent.fInt Syntax.w32)) (Syntax.tyRef (Syntax.named 2) Syntax.mut (Syntax.tyInt Syntax.w32)) 2 5 (Row.lease (κs .1 .1 .0) (qs .1 .1 .0))) (List._∷_ (5, Rows.sslice Cell.R (Syntax.tyRef (Syntax.named 3) Syntax.imm Cell.behind) 3) (List._∷_ (6, Rows.sslice Cell.R (Syntax.tyRef (Syntax.named 4) Syntax.imm Cell.behind) 4) (List._∷_ (7, Rows.sc-here (Row.sInt Syntax.w64)) (List._∷_ (8, Rows.sc-here (Row.sInt Syntax.w64)) (List._∷_ (9, Rows.whole (Declared.row Answer.the-type)) (List._∷_ (10, Rows.any-gone (Syntax.tyRef Syntax.erased Syntax.mut (Syntax.tyInt Syntax.w32))) (List._∷_ (11, Mut.msleft (Referent.rtF (Referent.fInt Syntax.w32)) (Syntax.tyRef Syntax.erased Syntax.mut (Syntax.tyInt Syntax.w32))) (List._∷_ (12, Rows.any-gone (Syntax.tyInt Syntax.w32)) (List._∷_ (13, Rows.any-gone Syntax.tyBool) (List._∷_ (14, Rows.any-gone Syntax.tyBool) (List._∷_ (15, Rows.any-gone (Syntax.tyRef Syntax.erased Syntax.imm (Syntax.tyInt Syntax.w32))) List.[])))))))))))))))
+        g7 = List._∷_ (0, Rows.whole (Declared.row Answer.the-type)) (List._∷_ (1, Rows.any-gone (Syntax.tyStruct (List._∷_ 112 (List._∷_ 121 (List._∷_ 114 (List._∷_ 97 (List._∷_ 109 (List._∷_ 105 (List._∷_ 100 (List._∷_ 58 (List._∷_ 58 (List._∷_ 83 (List._∷_ 116 (List._∷_ 97 (List._∷_ 116 (List._∷_ 101 List.[])))))))))))))) (Syntax.tcons (Syntax.tyInt Syntax.w32) (Syntax.tcons (Syntax.tyInt Syntax.w32) (Syntax.tcons (Syntax.tyInt Syntax.w32) (Syntax.tcons (Syntax.tyInt Syntax.w32) (Syntax.tcons (Syntax.tyInt Syntax.w32) (Syntax.tcons (Syntax.tyArray (Syntax.tyInt Syntax.w32) 64) Syntax.tnil)))))))) (List._∷_ (2, Rows.sslice (Referent.rtF (Referent.fInt Syntax.w32)) (Syntax.tyRef (Syntax.named 0) Syntax.imm (Syntax.tyInt Syntax.w32)) 0) (List._∷_ (3, Rows.sslice (Referent.rtF (Referent.fInt Syntax.w32)) (Syntax.tyRef (Syntax.named 1) Syntax.imm (Syntax.tyInt Syntax.w32)) 1) (List._∷_ (4, Relend.mslice-owed (Referent.rtF (Referent.fInt Syntax.w32)) (Syntax.tyRef (Syntax.named 2) Syntax.mut (Syntax.tyInt Syntax.w32)) 2 5 (Row.lease (κs .1 .1 .0) (qs .1 .1 .0))) (List._∷_ (5, Rows.sslice Cell.R (Syntax.tyRef (Syntax.named 3) Syntax.imm Cell.behind) 3) (List._∷_ (6, Rows.sslice Cell.R (Syntax.tyRef (Syntax.named 4) Syntax.imm Cell.behind) 4) (List._∷_ (7, Rows.any-gone (Syntax.tyInt Syntax.w64)) (List._∷_ (8, Rows.any-gone (Syntax.tyInt Syntax.w64)) (List._∷_ (9, Rows.any-gone (Syntax.tyEnum (List._∷_ 100 (List._∷_ 97 (List._∷_ 114 (List._∷_ 116 (List._∷_ 115 (List._∷_ 58 (List._∷_ 58 (List._∷_ 65 (List._∷_ 110 (List._∷_ 115 (List._∷_ 119 (List._∷_ 101 (List._∷_ 114 List.[]))))))))))))) (Syntax.ttcons (Syntax.tcons (Syntax.tyInt Syntax.w64) Syntax.tnil) (Syntax.ttcons Syntax.tnil (Syntax.ttcons (Syntax.tcons (Syntax.tyInt Syntax.w64) Syntax.tnil) (Syntax.ttcons (Syntax.tcons (Syntax.tyInt Syntax.w64) (Syntax.tcons (Syntax.tyInt Syntax.w64) Syntax.tnil)) (Syntax.ttcons Syntax.tnil (Syntax.ttcons Syntax.tnil (Syntax.ttcons Syntax.tnil (Syntax.ttcons (Syntax.tcons (Syntax.tyInt Syntax.w64) Syntax.tnil) (Syntax.ttcons (Syntax.tcons (Syntax.tyInt Syntax.w64) Syntax.tnil) (Syntax.ttcons (Syntax.tcons (Syntax.tyInt Syntax.w64) Syntax.tnil) (Syntax.ttcons (Syntax.tcons (Syntax.tyInt Syntax.w64) Syntax.tnil) (Syntax.ttcons (Syntax.tcons (Syntax.tyInt Syntax.w64) Syntax.tnil) (Syntax.ttcons (Syntax.tcons (Syntax.tyInt Syntax.w64) Syntax.tnil) (Syntax.ttcons (Syntax.tcons (Syntax.tyInt Syntax.w64) Syntax.tnil) (Syntax.ttcons Syntax.tnil (Syntax.ttcons Syntax.tnil (Syntax.ttcons (Syntax.tcons (Syntax.tyInt Syntax.w64) Syntax.tnil) Syntax.ttnil))))))))))))))))))) (List._∷_ (10, Rows.any-gone Syntax.tyBool) (List._∷_ (11, Rows.any-gone (Syntax.tyRef Syntax.erased Syntax.mut (Syntax.tyInt Syntax.w32))) (List._∷_ (12, Mut.msleft (Referent.rtF (Referent.fInt Syntax.w32)) (Syntax.tyRef Syntax.erased Syntax.mut (Syntax.tyInt Syntax.w32))) (List._∷_ (13, Rows.any-gone (Syntax.tyRef Syntax.erased Syntax.mut (Syntax.tyInt Syntax.w32))) (List._∷_ (14, Rows.any-gone (Syntax.tyStruct (List._∷_ 38 (List._∷_ 91 (List._∷_ 93 List.[]))) (Syntax.tcons (Syntax.tyRef Syntax.erased Syntax.mut (Syntax.tyInt Syntax.w32)) (Syntax.tcons (Syntax.tyInt Syntax.w64) Syntax.tnil)))) (List._∷_ (15, Rows.any-gone (Syntax.tyInt Syntax.w32)) List.[])))))))))))))))
 
-        abbrev g18 : List.List Row.Entry
-        g18 = List._∷_ (0, Rows.any-gone (Syntax.tyEnum (List._∷_ 100 (List._∷_ 97 (List._∷_ 114 (List._∷_ 116 (List._∷_ 115 (List._∷_ 58 (List._∷_ 58 (List._∷_ 65 (List._∷_ 110 (List._∷_ 115 (List._∷_ 119 (List._∷_ 101 (List._∷_ 114 List.[]))))))))))))) (Syntax.ttcons (Syntax.tcons (Syntax.tyInt Syntax.w64) Syntax.tnil) (Syntax.ttcons Syntax.tnil (Syntax.ttcons (Syntax.tcons (Syntax.tyInt Syntax.w64) Syntax.tnil) (Syntax.ttcons (Syntax.tcons (Syntax.tyInt Syntax.w64) (Syntax.tcons (Syntax.tyInt Syntax.w64) Syntax.tnil)) (Syntax.ttcons Syntax.tnil (Syntax.ttcons Syntax.tnil (Syntax.ttcons Syntax.tnil (Syntax.ttcons (Syntax.tcons (Syntax.tyInt Syntax.w64) Syntax.tnil) (Syntax.ttcons (Syntax.tcons (Syntax.tyInt Syntax.w64) Syntax.tnil) (Syntax.ttcons (Syntax.tcons (Syntax.tyInt Syntax.w64) Syntax.tnil) (Syntax.ttcons (Syntax.tcons (Syntax.tyInt Syntax.w64) Syntax.tnil) (Syntax.ttcons (Syntax.tcons (Syntax.tyInt Syntax.w64) Syntax.tnil) (Syntax.ttcons (Syntax.tcons (Syntax.tyInt Syntax.w64) Syntax.tnil) (Syntax.ttcons (Syntax.tcons (Syntax.tyInt Syntax.w64) Syntax.tnil) (Syntax.ttcons Syntax.tnil (Syntax.ttcons Syntax.tnil (Syntax.ttcons (Syntax.tcons (Syntax.tyInt Syntax.w64) Syntax.tnil) Syntax.ttnil))))))))))))))))))) (List._∷_ (1, Rows.whole (Declared'.row State.the-type)) (List._∷_ (2, Rows.sslice (Referent.rtF (Referent.fInt Syntax.w32)) (Syntax.tyRef (Syntax.named 0) Syntax.imm (Syntax.tyInt Syntax.w32)) 0) (List._∷_ (3, Rows.sslice (Referent.rtF (Referent.fInt Syntax.w32)) (Syntax.tyRef (Syntax.named 1) Syntax.imm (Syntax.tyInt Syntax.w32)) 1) (List._∷_ (4, Reshare.mslice-owedS (Referent.rtF (Referent.fInt Syntax.w32)) (Syntax.tyRef (Syntax.named 2) Syntax.mut (Syntax.tyInt Syntax.w32)) 2 6 (Row.lease (κs .1 .1 .0) (qs .1 .1 .0))) (List._∷_ (5, Rows.sslice Cell.R (Syntax.tyRef (Syntax.named 3) Syntax.imm Cell.behind) 3) (List._∷_ (6, Rows.sslice Cell.R (Syntax.tyRef (Syntax.named 4) Syntax.imm Cell.behind) 4) (List._∷_ (7, Rows.sc-here (Row.sInt Syntax.w64)) (List._∷_ (8, Rows.sc-here (Row.sInt Syntax.w64)) (List._∷_ (9, Rows.any-gone (Syntax.tyEnum (List._∷_ 100 (List._∷_ 97 (List._∷_ 114 (List._∷_ 116 (List._∷_ 115 (List._∷_ 58 (List._∷_ 58 (List._∷_ 65 (List._∷_ 110 (List._∷_ 115 (List._∷_ 119 (List._∷_ 101 (List._∷_ 114 List.[]))))))))))))) (Syntax.ttcons (Syntax.tcons (Syntax.tyInt Syntax.w64) Syntax.tnil) (Syntax.ttcons Syntax.tnil (Syntax.ttcons (Syntax.tcons (Syntax.tyInt Syntax.w64) Syntax.tnil) (Syntax.ttcons (Syntax.tcons (Syntax.tyInt Syntax.w64) (Syntax.tcons (Syntax.tyInt Syntax.w64) Syntax.tnil)) (Syntax.ttcons Syntax.tnil (Syntax.ttcons Syntax.tnil (Syntax.ttcons Syntax.tnil (Syntax.ttcons (Syntax.tcons (Syntax.tyInt Syntax.w64) Syntax.tnil) (Syntax.ttcons (Syntax.tcons (Syntax.tyInt Syntax.w64) Syntax.tnil) (Syntax.ttcons (Syntax.tcons (Syntax.tyInt Syntax.w64) Syntax.tnil) (Syntax.ttcons (Syntax.tcons (Syntax.tyInt Syntax.w64) Syntax.tnil) (Syntax.ttcons (Syntax.tcons (Syntax.tyInt Syntax.w64) Syntax.tnil) (Syntax.ttcons (Syntax.tcons (Syntax.tyInt Syntax.w64) Syntax.tnil) (Syntax.ttcons (Syntax.tcons (Syntax.tyInt Syntax.w64) Syntax.tnil) (Syntax.ttcons Syntax.tnil (Syntax.ttcons Syntax.tnil (Syntax.ttcons (Syntax.tcons (Syntax.tyInt Syntax.w64) Syntax.tnil) Syntax.ttnil))))))))))))))))))) (List._∷_ (10, Rows.any-gone (Syntax.tyRef Syntax.erased Syntax.mut (Syntax.tyInt Syntax.w32))) (List._∷_ (11, Rows.any-gone (Syntax.tyStruct (List._∷_ 38 (List._∷_ 91 (List._∷_ 93 List.[]))) (Syntax.tcons (Syntax.tyRef Syntax.erased Syntax.mut (Syntax.tyInt Syntax.w32)) (Syntax.tcons (Syntax.tyInt Syntax.w64) Syntax.tnil)))) (List._∷_ (12, Rows.any-gone (Syntax.tyInt Syntax.w32)) (List._∷_ (13, Rows.any-gone Syntax.tyBool) (List._∷_ (14, Rows.any-gone Syntax.tyBool) (List._∷_ (15, Relend.ssptr (Referent.rtF (Referent.fInt Syntax.w32)) (Syntax.tyRef Syntax.erased Syntax.imm (Syntax.tyInt Syntax.w32)) 6) List.[])))))))))))))))
+        abbrev g10 : List.List Row.Entry
+        g10 = List._∷_ (0, Rows.any-gone (Syntax.tyEnum (List._∷_ 100 (List._∷_ 97 (List._∷_ 114 (List._∷_ 116 (List._∷_ 115 (List._∷_ 58 (List._∷_ 58 (List._∷_ 65 (List._∷_ 110 (List._∷_ 115 (List._∷_ 119 (List._∷_ 101 (List._∷_ 114 List.[]))))))))))))) (Syntax.ttcons (Syntax.tcons (Syntax.tyInt Syntax.w64) Syntax.tnil) (Syntax.ttcons Syntax.tnil (Syntax.ttcons (Syntax.tcons (Syntax.tyInt Syntax.w64) Syntax.tnil) (Syntax.ttcons (Syntax.tcons (Syntax.tyInt Syntax.w64) (Syntax.tcons (Syntax.tyInt Syntax.w64) Syntax.tnil)) (Syntax.ttcons Syntax.tnil (Syntax.ttcons Syntax.tnil (Syntax.ttcons Syntax.tnil (Syntax.ttcons (Syntax.tcons (Syntax.tyInt Syntax.w64) Syntax.tnil) (Syntax.ttcons (Syntax.tcons (Syntax.tyInt Syntax.w64) Syntax.tnil) (Syntax.ttcons (Syntax.tcons (Syntax.tyInt Syntax.w64) Syntax.tnil) (Syntax.ttcons (Syntax.tcons (Syntax.tyInt Syntax.w64) Syntax.tnil) (Syntax.ttcons (Syntax.tcons (Syntax.tyInt Syntax.w64) Syntax.tnil) (Syntax.ttcons (Syntax.tcons (Syntax.tyInt Syntax.w64) Syntax.tnil) (Syntax.ttcons (Syntax.tcons (Syntax.tyInt Syntax.w64) Syntax.tnil) (Syntax.ttcons Syntax.tnil (Syntax.ttcons Syntax.tnil (Syntax.ttcons (Syntax.tcons (Syntax.tyInt Syntax.w64) Syntax.tnil) Syntax.ttnil))))))))))))))))))) (List._∷_ (1, Rows.whole (Declared'.row State.the-type)) (List._∷_ (2, Rows.sslice (Referent.rtF (Referent.fInt Syntax.w32)) (Syntax.tyRef (Syntax.named 0) Syntax.imm (Syntax.tyInt Syntax.w32)) 0) (List._∷_ (3, Rows.sslice (Referent.rtF (Referent.fInt Syntax.w32)) (Syntax.tyRef (Syntax.named 1) Syntax.imm (Syntax.tyInt Syntax.w32)) 1) (List._∷_ (4, Relend.mslice-owed (Referent.rtF (Referent.fInt Syntax.w32)) (Syntax.tyRef (Syntax.named 2) Syntax.mut (Syntax.tyInt Syntax.w32)) 2 6 (Row.lease (κs .1 .1 .0) (qs .1 .1 .0))) (List._∷_ (5, Rows.sslice Cell.R (Syntax.tyRef (Syntax.named 3) Syntax.imm Cell.behind) 3) (List._∷_ (6, Rows.sslice Cell.R (Syntax.tyRef (Syntax.named 4) Syntax.imm Cell.behind) 4) (List._∷_ (7, Rows.sc-here (Row.sInt Syntax.w64)) (List._∷_ (8, Rows.sc-here (Row.sInt Syntax.w64)) (List._∷_ (9, Rows.any-gone (Syntax.tyEnum (List._∷_ 100 (List._∷_ 97 (List._∷_ 114 (List._∷_ 116 (List._∷_ 115 (List._∷_ 58 (List._∷_ 58 (List._∷_ 65 (List._∷_ 110 (List._∷_ 115 (List._∷_ 119 (List._∷_ 101 (List._∷_ 114 List.[]))))))))))))) (Syntax.ttcons (Syntax.tcons (Syntax.tyInt Syntax.w64) Syntax.tnil) (Syntax.ttcons Syntax.tnil (Syntax.ttcons (Syntax.tcons (Syntax.tyInt Syntax.w64) Syntax.tnil) (Syntax.ttcons (Syntax.tcons (Syntax.tyInt Syntax.w64) (Syntax.tcons (Syntax.tyInt Syntax.w64) Syntax.tnil)) (Syntax.ttcons Syntax.tnil (Syntax.ttcons Syntax.tnil (Syntax.ttcons Syntax.tnil (Syntax.ttcons (Syntax.tcons (Syntax.tyInt Syntax.w64) Syntax.tnil) (Syntax.ttcons (Syntax.tcons (Syntax.tyInt Syntax.w64) Syntax.tnil) (Syntax.ttcons (Syntax.tcons (Syntax.tyInt Syntax.w64) Syntax.tnil) (Syntax.ttcons (Syntax.tcons (Syntax.tyInt Syntax.w64) Syntax.tnil) (Syntax.ttcons (Syntax.tcons (Syntax.tyInt Syntax.w64) Syntax.tnil) (Syntax.ttcons (Syntax.tcons (Syntax.tyInt Syntax.w64) Syntax.tnil) (Syntax.ttcons (Syntax.tcons (Syntax.tyInt Syntax.w64) Syntax.tnil) (Syntax.ttcons Syntax.tnil (Syntax.ttcons Syntax.tnil (Syntax.ttcons (Syntax.tcons (Syntax.tyInt Syntax.w64) Syntax.tnil) Syntax.ttnil))))))))))))))))))) (List._∷_ (10, Rows.any-gone Syntax.tyBool) (List._∷_ (11, Rows.any-gone (Syntax.tyRef Syntax.erased Syntax.mut (Syntax.tyInt Syntax.w32))) (List._∷_ (12, Rows.any-gone (Syntax.tyStruct (List._∷_ 38 (List._∷_ 91 (List._∷_ 93 List.[]))) (Syntax.tcons (Syntax.tyRef Syntax.erased Syntax.mut (Syntax.tyInt Syntax.w32)) (Syntax.tcons (Syntax.tyInt Syntax.w64) Syntax.tnil)))) (List._∷_ (13, Relend.msptr (Referent.rtF (Referent.fInt Syntax.w32)) (Syntax.tyRef Syntax.erased Syntax.mut (Syntax.tyInt Syntax.w32)) 6) (List._∷_ (14, Rows.any-gone (Syntax.tyStruct (List._∷_ 38 (List._∷_ 91 (List._∷_ 93 List.[]))) (Syntax.tcons (Syntax.tyRef Syntax.erased Syntax.mut (Syntax.tyInt Syntax.w32)) (Syntax.tcons (Syntax.tyInt Syntax.w64) Syntax.tnil)))) (List._∷_ (15, Rows.any-gone (Syntax.tyInt Syntax.w32)) List.[])))))))))))))))
 
-        abbrev g19 : List.List Row.Entry
-        g19 = List._∷_ (0, Rows.any-gone (Syntax.tyEnum (List._∷_ 100 (List._∷_ 97 (List._∷_ 114 (List._∷_ 116 (List._∷_ 115 (List._∷_ 58 (List._∷_ 58 (List._∷_ 65 (List._∷_ 110 (List._∷_ 115 (List._∷_ 119 (List._∷_ 101 (List._∷_ 114 List.[]))))))))))))) (Syntax.ttcons (Syntax.tcons (Syntax.tyInt Syntax.w64) Syntax.tnil) (Syntax.ttcons Syntax.tnil (Syntax.ttcons (Syntax.tcons (Syntax.tyInt Syntax.w64) Syntax.tnil) (Syntax.ttcons (Syntax.tcons (Syntax.tyInt Syntax.w64) (Syntax.tcons (Syntax.tyInt Syntax.w64) Syntax.tnil)) (Syntax.ttcons Syntax.tnil (Syntax.ttcons Syntax.tnil (Syntax.ttcons Syntax.tnil (Syntax.ttcons (Syntax.tcons (Syntax.tyInt Syntax.w64) Syntax.tnil) (Syntax.ttcons (Syntax.tcons (Syntax.tyInt Syntax.w64) Syntax.tnil) (Syntax.ttcons (Syntax.tcons (Syntax.tyInt Syntax.w64) Syntax.tnil) (Syntax.ttcons (Syntax.tcons (Syntax.tyInt Syntax.w64) Syntax.tnil) (Syntax.ttcons (Syntax.tcons (Syntax.tyInt Syntax.w64) Syntax.tnil) (Syntax.ttcons (Syntax.tcons (Syntax.tyInt Syntax.w64) Syntax.tnil) (Syntax.ttcons (Syntax.tcons (Syntax.tyInt Syntax.w64) Syntax.tnil) (Syntax.ttcons Syntax.tnil (Syntax.ttcons Syntax.tnil (Syntax.ttcons (Syntax.tcons (Syntax.tyInt Syntax.w64) Syntax.tnil) Syntax.ttnil))))))))))))))))))) (List._∷_ (1, Rows.whole (Declared'.row State.the-type)) (List._∷_ (2, Rows.sslice (Referent.rtF (Referent.fInt Syntax.w32)) (Syntax.tyRef (Syntax.named 0) Syntax.imm (Syntax.tyInt Syntax.w32)) 0) (List._∷_ (3, Rows.sslice (Referent.rtF (Referent.fInt Syntax.w32)) (Syntax.tyRef (Syntax.named 1) Syntax.imm (Syntax.tyInt Syntax.w32)) 1) (List._∷_ (4, Reshare.mslice-owedS (Referent.rtF (Referent.fInt Syntax.w32)) (Syntax.tyRef (Syntax.named 2) Syntax.mut (Syntax.tyInt Syntax.w32)) 2 6 (Row.lease (κs .1 .1 .0) (qs .1 .1 .0))) (List._∷_ (5, Rows.sslice Cell.R (Syntax.tyRef (Syntax.named 3) Syntax.imm Cell.behind) 3) (List._∷_ (6, Rows.sslice Cell.R (Syntax.tyRef (Syntax.named 4) Syntax.imm Cell.behind) 4) (List._∷_ (7, Rows.sc-here (Row.sInt Syntax.w64)) (List._∷_ (8, Rows.sc-here (Row.sInt Syntax.w64)) (List._∷_ (9, Rows.any-gone (Syntax.tyEnum (List._∷_ 100 (List._∷_ 97 (List._∷_ 114 (List._∷_ 116 (List._∷_ 115 (List._∷_ 58 (List._∷_ 58 (List._∷_ 65 (List._∷_ 110 (List._∷_ 115 (List._∷_ 119 (List._∷_ 101 (List._∷_ 114 List.[]))))))))))))) (Syntax.ttcons (Syntax.tcons (Syntax.tyInt Syntax.w64) Syntax.tnil) (Syntax.ttcons Syntax.tnil (Syntax.ttcons (Syntax.tcons (Syntax.tyInt Syntax.w64) Syntax.tnil) (Syntax.ttcons (Syntax.tcons (Syntax.tyInt Syntax.w64) (Syntax.tcons (Syntax.tyInt Syntax.w64) Syntax.tnil)) (Syntax.ttcons Syntax.tnil (Syntax.ttcons Syntax.tnil (Syntax.ttcons Syntax.tnil (Syntax.ttcons (Syntax.tcons (Syntax.tyInt Syntax.w64) Syntax.tnil) (Syntax.ttcons (Syntax.tcons (Syntax.tyInt Syntax.w64) Syntax.tnil) (Syntax.ttcons (Syntax.tcons (Syntax.tyInt Syntax.w64) Syntax.tnil) (Syntax.ttcons (Syntax.tcons (Syntax.tyInt Syntax.w64) Syntax.tnil) (Syntax.ttcons (Syntax.tcons (Syntax.tyInt Syntax.w64) Syntax.tnil) (Syntax.ttcons (Syntax.tcons (Syntax.tyInt Syntax.w64) Syntax.tnil) (Syntax.ttcons (Syntax.tcons (Syntax.tyInt Syntax.w64) Syntax.tnil) (Syntax.ttcons Syntax.tnil (Syntax.ttcons Syntax.tnil (Syntax.ttcons (Syntax.tcons (Syntax.tyInt Syntax.w64) Syntax.tnil) Syntax.ttnil))))))))))))))))))) (List._∷_ (10, Rows.any-gone (Syntax.tyRef Syntax.erased Syntax.mut (Syntax.tyInt Syntax.w32))) (List._∷_ (11, Rows.any-gone (Syntax.tyStruct (List._∷_ 38 (List._∷_ 91 (List._∷_ 93 List.[]))) (Syntax.tcons (Syntax.tyRef Syntax.erased Syntax.mut (Syntax.tyInt Syntax.w32)) (Syntax.tcons (Syntax.tyInt Syntax.w64) Syntax.tnil)))) (List._∷_ (12, Rows.any-gone (Syntax.tyInt Syntax.w32)) (List._∷_ (13, Rows.any-gone Syntax.tyBool) (List._∷_ (14, Rows.any-gone Syntax.tyBool) (List._∷_ (15, Rows.any-gone (Syntax.tyRef Syntax.erased Syntax.imm (Syntax.tyInt Syntax.w32))) List.[])))))))))))))))
+        abbrev g11 : List.List Row.Entry
+        g11 = List._∷_ (0, Rows.any-gone (Syntax.tyEnum (List._∷_ 100 (List._∷_ 97 (List._∷_ 114 (List._∷_ 116 (List._∷_ 115 (List._∷_ 58 (List._∷_ 58 (List._∷_ 65 (List._∷_ 110 (List._∷_ 115 (List._∷_ 119 (List._∷_ 101 (List._∷_ 114 List.[]))))))))))))) (Syntax.ttcons (Syntax.tcons (Syntax.tyInt Syntax.w64) Syntax.tnil) (Syntax.ttcons Syntax.tnil (Syntax.ttcons (Syntax.tcons (Syntax.tyInt Syntax.w64) Syntax.tnil) (Syntax.ttcons (Syntax.tcons (Syntax.tyInt Syntax.w64) (Syntax.tcons (Syntax.tyInt Syntax.w64) Syntax.tnil)) (Syntax.ttcons Syntax.tnil (Syntax.ttcons Syntax.tnil (Syntax.ttcons Syntax.tnil (Syntax.ttcons (Syntax.tcons (Syntax.tyInt Syntax.w64) Syntax.tnil) (Syntax.ttcons (Syntax.tcons (Syntax.tyInt Syntax.w64) Syntax.tnil) (Syntax.ttcons (Syntax.tcons (Syntax.tyInt Syntax.w64) Syntax.tnil) (Syntax.ttcons (Syntax.tcons (Syntax.tyInt Syntax.w64) Syntax.tnil) (Syntax.ttcons (Syntax.tcons (Syntax.tyInt Syntax.w64) Syntax.tnil) (Syntax.ttcons (Syntax.tcons (Syntax.tyInt Syntax.w64) Syntax.tnil) (Syntax.ttcons (Syntax.tcons (Syntax.tyInt Syntax.w64) Syntax.tnil) (Syntax.ttcons Syntax.tnil (Syntax.ttcons Syntax.tnil (Syntax.ttcons (Syntax.tcons (Syntax.tyInt Syntax.w64) Syntax.tnil) Syntax.ttnil))))))))))))))))))) (List._∷_ (1, Rows.whole (Declared'.row State.the-type)) (List._∷_ (2, Rows.sslice (Referent.rtF (Referent.fInt Syntax.w32)) (Syntax.tyRef (Syntax.named 0) Syntax.imm (Syntax.tyInt Syntax.w32)) 0) (List._∷_ (3, Rows.sslice (Referent.rtF (Referent.fInt Syntax.w32)) (Syntax.tyRef (Syntax.named 1) Syntax.imm (Syntax.tyInt Syntax.w32)) 1) (List._∷_ (4, Relend.mslice-owed (Referent.rtF (Referent.fInt Syntax.w32)) (Syntax.tyRef (Syntax.named 2) Syntax.mut (Syntax.tyInt Syntax.w32)) 2 6 (Row.lease (κs .1 .1 .0) (qs .1 .1 .0))) (List._∷_ (5, Rows.sslice Cell.R (Syntax.tyRef (Syntax.named 3) Syntax.imm Cell.behind) 3) (List._∷_ (6, Rows.sslice Cell.R (Syntax.tyRef (Syntax.named 4) Syntax.imm Cell.behind) 4) (List._∷_ (7, Rows.sc-here (Row.sInt Syntax.w64)) (List._∷_ (8, Rows.sc-here (Row.sInt Syntax.w64)) (List._∷_ (9, Rows.any-gone (Syntax.tyEnum (List._∷_ 100 (List._∷_ 97 (List._∷_ 114 (List._∷_ 116 (List._∷_ 115 (List._∷_ 58 (List._∷_ 58 (List._∷_ 65 (List._∷_ 110 (List._∷_ 115 (List._∷_ 119 (List._∷_ 101 (List._∷_ 114 List.[]))))))))))))) (Syntax.ttcons (Syntax.tcons (Syntax.tyInt Syntax.w64) Syntax.tnil) (Syntax.ttcons Syntax.tnil (Syntax.ttcons (Syntax.tcons (Syntax.tyInt Syntax.w64) Syntax.tnil) (Syntax.ttcons (Syntax.tcons (Syntax.tyInt Syntax.w64) (Syntax.tcons (Syntax.tyInt Syntax.w64) Syntax.tnil)) (Syntax.ttcons Syntax.tnil (Syntax.ttcons Syntax.tnil (Syntax.ttcons Syntax.tnil (Syntax.ttcons (Syntax.tcons (Syntax.tyInt Syntax.w64) Syntax.tnil) (Syntax.ttcons (Syntax.tcons (Syntax.tyInt Syntax.w64) Syntax.tnil) (Syntax.ttcons (Syntax.tcons (Syntax.tyInt Syntax.w64) Syntax.tnil) (Syntax.ttcons (Syntax.tcons (Syntax.tyInt Syntax.w64) Syntax.tnil) (Syntax.ttcons (Syntax.tcons (Syntax.tyInt Syntax.w64) Syntax.tnil) (Syntax.ttcons (Syntax.tcons (Syntax.tyInt Syntax.w64) Syntax.tnil) (Syntax.ttcons (Syntax.tcons (Syntax.tyInt Syntax.w64) Syntax.tnil) (Syntax.ttcons Syntax.tnil (Syntax.ttcons Syntax.tnil (Syntax.ttcons (Syntax.tcons (Syntax.tyInt Syntax.w64) Syntax.tnil) Syntax.ttnil))))))))))))))))))) (List._∷_ (10, Rows.any-gone Syntax.tyBool) (List._∷_ (11, Rows.any-gone (Syntax.tyRef Syntax.erased Syntax.mut (Syntax.tyInt Syntax.w32))) (List._∷_ (12, Rows.any-gone (Syntax.tyStruct (List._∷_ 38 (List._∷_ 91 (List._∷_ 93 List.[]))) (Syntax.tcons (Syntax.tyRef Syntax.erased Syntax.mut (Syntax.tyInt Syntax.w32)) (Syntax.tcons (Syntax.tyInt Syntax.w64) Syntax.tnil)))) (List._∷_ (13, Rows.any-gone (Syntax.tyRef Syntax.erased Syntax.mut (Syntax.tyInt Syntax.w32))) (List._∷_ (14, Mut.mslice (Referent.rtF (Referent.fInt Syntax.w32)) (Syntax.tyRef Syntax.erased Syntax.mut (Syntax.tyInt Syntax.w32)) 6) (List._∷_ (15, Rows.any-gone (Syntax.tyInt Syntax.w32)) List.[])))))))))))))))
+
+        abbrev g12 : List.List Row.Entry
+        g12 = List._∷_ (0, Rows.any-gone (Syntax.tyEnum (List._∷_ 100 (List._∷_ 97 (List._∷_ 114 (List._∷_ 116 (List._∷_ 115 (List._∷_ 58 (List._∷_ 58 (List._∷_ 65 (List._∷_ 110 (List._∷_ 115 (List._∷_ 119 (List._∷_ 101 (List._∷_ 114 List.[]))))))))))))) (Syntax.ttcons (Syntax.tcons (Syntax.tyInt Syntax.w64) Syntax.tnil) (Syntax.ttcons Syntax.tnil (Syntax.ttcons (Syntax.tcons (Syntax.tyInt Syntax.w64) Syntax.tnil) (Syntax.ttcons (Syntax.tcons (Syntax.tyInt Syntax.w64) (Syntax.tcons (Syntax.tyInt Syntax.w64) Syntax.tnil)) (Syntax.ttcons Syntax.tnil (Syntax.ttcons Syntax.tnil (Syntax.ttcons Syntax.tnil (Syntax.ttcons (Syntax.tcons (Syntax.tyInt Syntax.w64) Syntax.tnil) (Syntax.ttcons (Syntax.tcons (Syntax.tyInt Syntax.w64) Syntax.tnil) (Syntax.ttcons (Syntax.tcons (Syntax.tyInt Syntax.w64) Syntax.tnil) (Syntax.ttcons (Syntax.tcons (Syntax.tyInt Syntax.w64) Syntax.tnil) (Syntax.ttcons (Syntax.tcons (Syntax.tyInt Syntax.w64) Syntax.tnil) (Syntax.ttcons (Syntax.tcons (Syntax.tyInt Syntax.w64) Syntax.tnil) (Syntax.ttcons (Syntax.tcons (Syntax.tyInt Syntax.w64) Syntax.tnil) (Syntax.ttcons Syntax.tnil (Syntax.ttcons Syntax.tnil (Syntax.ttcons (Syntax.tcons (Syntax.tyInt Syntax.w64) Syntax.tnil) Syntax.ttnil))))))))))))))))))) (List._∷_ (1, Rows.whole (Declared'.row State.the-type)) (List._∷_ (2, Rows.sslice (Referent.rtF (Referent.fInt Syntax.w32)) (Syntax.tyRef (Syntax.named 0) Syntax.imm (Syntax.tyInt Syntax.w32)) 0) (List._∷_ (3, Rows.sslice (Referent.rtF (Referent.fInt Syntax.w32)) (Syntax.tyRef (Syntax.named 1) Syntax.imm (Syntax.tyInt Syntax.w32)) 1) (List._∷_ (4, Relend.mslice-owed (Referent.rtF (Referent.fInt Syntax.w32)) (Syntax.tyRef (Syntax.named 2) Syntax.mut (Syntax.tyInt Syntax.w32)) 2 6 (Row.lease (κs .1 .1 .0) (qs .1 .1 .0))) (List._∷_ (5, Rows.sslice Cell.R (Syntax.tyRef (Syntax.named 3) Syntax.imm Cell.behind) 3) (List._∷_ (6, Rows.sslice Cell.R (Syntax.tyRef (Syntax.named 4) Syntax.imm Cell.behind) 4) (List._∷_ (7, Rows.sc-here (Row.sInt Syntax.w64)) (List._∷_ (8, Rows.sc-here (Row.sInt Syntax.w64)) (List._∷_ (9, Rows.whole (Declared.row Answer.the-type)) (List._∷_ (10, Rows.any-gone Syntax.tyBool) (List._∷_ (11, Rows.any-gone (Syntax.tyRef Syntax.erased Syntax.mut (Syntax.tyInt Syntax.w32))) (List._∷_ (12, Rows.any-gone (Syntax.tyStruct (List._∷_ 38 (List._∷_ 91 (List._∷_ 93 List.[]))) (Syntax.tcons (Syntax.tyRef Syntax.erased Syntax.mut (Syntax.tyInt Syntax.w32)) (Syntax.tcons (Syntax.tyInt Syntax.w64) Syntax.tnil)))) (List._∷_ (13, Rows.any-gone (Syntax.tyRef Syntax.erased Syntax.mut (Syntax.tyInt Syntax.w32))) (List._∷_ (14, Mut.msleft (Referent.rtF (Referent.fInt Syntax.w32)) (Syntax.tyRef Syntax.erased Syntax.mut (Syntax.tyInt Syntax.w32))) (List._∷_ (15, Rows.any-gone (Syntax.tyInt Syntax.w32)) List.[])))))))))))))))
 
         abbrev g23 : List.List Row.Entry
-        g23 = List._∷_ (0, Rows.any-gone (Syntax.tyEnum (List._∷_ 100 (List._∷_ 97 (List._∷_ 114 (List._∷_ 116 (List._∷_ 115 (List._∷_ 58 (List._∷_ 58 (List._∷_ 65 (List._∷_ 110 (List._∷_ 115 (List._∷_ 119 (List._∷_ 101 (List._∷_ 114 List.[]))))))))))))) (Syntax.ttcons (Syntax.tcons (Syntax.tyInt Syntax.w64) Syntax.tnil) (Syntax.ttcons Syntax.tnil (Syntax.ttcons (Syntax.tcons (Syntax.tyInt Syntax.w64) Syntax.tnil) (Syntax.ttcons (Syntax.tcons (Syntax.tyInt Syntax.w64) (Syntax.tcons (Syntax.tyInt Syntax.w64) Syntax.tnil)) (Syntax.ttcons Syntax.tnil (Syntax.ttcons Syntax.tnil (Syntax.ttcons Syntax.tnil (Syntax.ttcons (Syntax.tcons (Syntax.tyInt Syntax.w64) Syntax.tnil) (Syntax.ttcons (Syntax.tcons (Syntax.tyInt Syntax.w64) Syntax.tnil) (Syntax.ttcons (Syntax.tcons (Syntax.tyInt Syntax.w64) Syntax.tnil) (Syntax.ttcons (Syntax.tcons (Syntax.tyInt Syntax.w64) Syntax.tnil) (Syntax.ttcons (Syntax.tcons (Syntax.tyInt Syntax.w64) Syntax.tnil) (Syntax.ttcons (Syntax.tcons (Syntax.tyInt Syntax.w64) Syntax.tnil) (Syntax.ttcons (Syntax.tcons (Syntax.tyInt Syntax.w64) Syntax.tnil) (Syntax.ttcons Syntax.tnil (Syntax.ttcons Syntax.tnil (Syntax.ttcons (Syntax.tcons (Syntax.tyInt Syntax.w64) Syntax.tnil) Syntax.ttnil))))))))))))))))))) (List._∷_ (1, Rows.whole (Declared'.row State.the-type)) (List._∷_ (2, Rows.sslice (Referent.rtF (Referent.fInt Syntax.w32)) (Syntax.tyRef (Syntax.named 0) Syntax.imm (Syntax.tyInt Syntax.w32)) 0) (List._∷_ (3, Rows.sslice (Referent.rtF (Referent.fInt Syntax.w32)) (Syntax.tyRef (Syntax.named 1) Syntax.imm (Syntax.tyInt Syntax.w32)) 1) (List._∷_ (4, Reshare.mslice-owedS (Referent.rtF (Referent.fInt Syntax.w32)) (Syntax.tyRef (Syntax.named 2) Syntax.mut (Syntax.tyInt Syntax.w32)) 2 6 (Row.lease (κs .1 .1 .0) (qs .1 .1 .0))) (List._∷_ (5, Rows.sslice Cell.R (Syntax.tyRef (Syntax.named 3) Syntax.imm Cell.behind) 3) (List._∷_ (6, Rows.sslice Cell.R (Syntax.tyRef (Syntax.named 4) Syntax.imm Cell.behind) 4) (List._∷_ (7, Rows.sc-here (Row.sInt Syntax.w64)) (List._∷_ (8, Rows.sc-here (Row.sInt Syntax.w64)) (List._∷_ (9, Rows.any-gone (Syntax.tyEnum (List._∷_ 100 (List._∷_ 97 (List._∷_ 114 (List._∷_ 116 (List._∷_ 115 (List._∷_ 58 (List._∷_ 58 (List._∷_ 65 (List._∷_ 110 (List._∷_ 115 (List._∷_ 119 (List._∷_ 101 (List._∷_ 114 List.[]))))))))))))) (Syntax.ttcons (Syntax.tcons (Syntax.tyInt Syntax.w64) Syntax.tnil) (Syntax.ttcons Syntax.tnil (Syntax.ttcons (Syntax.tcons (Syntax.tyInt Syntax.w64) Syntax.tnil) (Syntax.ttcons (Syntax.tcons (Syntax.tyInt Syntax.w64) (Syntax.tcons (Syntax.tyInt Syntax.w64) Syntax.tnil)) (Syntax.ttcons Syntax.tnil (Syntax.ttcons Syntax.tnil (Syntax.ttcons Syntax.tnil (Syntax.ttcons (Syntax.tcons (Syntax.tyInt Syntax.w64) Syntax.tnil) (Syntax.ttcons (Syntax.tcons (Syntax.tyInt Syntax.w64) Syntax.tnil) (Syntax.ttcons (Syntax.tcons (Syntax.tyInt Syntax.w64) Syntax.tnil) (Syntax.ttcons (Syntax.tcons (Syntax.tyInt Syntax.w64) Syntax.tnil) (Syntax.ttcons (Syntax.tcons (Syntax.tyInt Syntax.w64) Syntax.tnil) (Syntax.ttcons (Syntax.tcons (Syntax.tyInt Syntax.w64) Syntax.tnil) (Syntax.ttcons (Syntax.tcons (Syntax.tyInt Syntax.w64) Syntax.tnil) (Syntax.ttcons Syntax.tnil (Syntax.ttcons Syntax.tnil (Syntax.ttcons (Syntax.tcons (Syntax.tyInt Syntax.w64) Syntax.tnil) Syntax.ttnil))))))))))))))))))) (List._∷_ (10, Rows.any-gone (Syntax.tyRef Syntax.erased Syntax.mut (Syntax.tyInt Syntax.w32))) (List._∷_ (11, Rows.any-gone (Syntax.tyStruct (List._∷_ 38 (List._∷_ 91 (List._∷_ 93 List.[]))) (Syntax.tcons (Syntax.tyRef Syntax.erased Syntax.mut (Syntax.tyInt Syntax.w32)) (Syntax.tcons (Syntax.tyInt Syntax.w64) Syntax.tnil)))) (List._∷_ (12, Rows.any-gone (Syntax.tyInt Syntax.w32)) (List._∷_ (13, Rows.any-gone Syntax.tyBool) (List._∷_ (14, Rows.sc-here Row.sBool) (List._∷_ (15, Rows.any-gone (Syntax.tyRef Syntax.erased Syntax.imm (Syntax.tyInt Syntax.w32))) List.[])))))))))))))))
-
-        abbrev g27 : List.List Row.Entry
-        g27 = List._∷_ (0, Rows.any-gone (Syntax.tyEnum (List._∷_ 100 (List._∷_ 97 (List._∷_ 114 (List._∷_ 116 (List._∷_ 115 (List._∷_ 58 (List._∷_ 58 (List._∷_ 65 (List._∷_ 110 (List._∷_ 115 (List._∷_ 119 (List._∷_ 101 (List._∷_ 114 List.[]))))))))))))) (Syntax.ttcons (Syntax.tcons (Syntax.tyInt Syntax.w64) Syntax.tnil) (Syntax.ttcons Syntax.tnil (Syntax.ttcons (Syntax.tcons (Syntax.tyInt Syntax.w64) Syntax.tnil) (Syntax.ttcons (Syntax.tcons (Syntax.tyInt Syntax.w64) (Syntax.tcons (Syntax.tyInt Syntax.w64) Syntax.tnil)) (Syntax.ttcons Syntax.tnil (Syntax.ttcons Syntax.tnil (Syntax.ttcons Syntax.tnil (Syntax.ttcons (Syntax.tcons (Syntax.tyInt Syntax.w64) Syntax.tnil) (Syntax.ttcons (Syntax.tcons (Syntax.tyInt Syntax.w64) Syntax.tnil) (Syntax.ttcons (Syntax.tcons (Syntax.tyInt Syntax.w64) Syntax.tnil) (Syntax.ttcons (Syntax.tcons (Syntax.tyInt Syntax.w64) Syntax.tnil) (Syntax.ttcons (Syntax.tcons (Syntax.tyInt Syntax.w64) Syntax.tnil) (Syntax.ttcons (Syntax.tcons (Syntax.tyInt Syntax.w64) Syntax.tnil) (Syntax.ttcons (Syntax.tcons (Syntax.tyInt Syntax.w64) Syntax.tnil) (Syntax.ttcons Syntax.tnil (Syntax.ttcons Syntax.tnil (Syntax.ttcons (Syntax.tcons (Syntax.tyInt Syntax.w64) Syntax.tnil) Syntax.ttnil))))))))))))))))))) (List._∷_ (1, Rows.whole (Declared'.row State.the-type)) (List._∷_ (2, Rows.sslice (Referent.rtF (Referent.fInt Syntax.w32)) (Syntax.tyRef (Syntax.named 0) Syntax.imm (Syntax.tyInt Syntax.w32)) 0) (List._∷_ (3, Rows.sslice (Referent.rtF (Referent.fInt Syntax.w32)) (Syntax.tyRef (Syntax.named 1) Syntax.imm (Syntax.tyInt Syntax.w32)) 1) (List._∷_ (4, Relend.mslice-owed (Referent.rtF (Referent.fInt Syntax.w32)) (Syntax.tyRef (Syntax.named 2) Syntax.mut (Syntax.tyInt Syntax.w32)) 2 7 (Row.lease (κs .1 .1 .0) (qs .1 .1 .0))) (List._∷_ (5, Rows.sslice Cell.R (Syntax.tyRef (Syntax.named 3) Syntax.imm Cell.behind) 3) (List._∷_ (6, Rows.sslice Cell.R (Syntax.tyRef (Syntax.named 4) Syntax.imm Cell.behind) 4) (List._∷_ (7, Rows.sc-here (Row.sInt Syntax.w64)) (List._∷_ (8, Rows.sc-here (Row.sInt Syntax.w64)) (List._∷_ (9, Rows.any-gone (Syntax.tyEnum (List._∷_ 100 (List._∷_ 97 (List._∷_ 114 (List._∷_ 116 (List._∷_ 115 (List._∷_ 58 (List._∷_ 58 (List._∷_ 65 (List._∷_ 110 (List._∷_ 115 (List._∷_ 119 (List._∷_ 101 (List._∷_ 114 List.[]))))))))))))) (Syntax.ttcons (Syntax.tcons (Syntax.tyInt Syntax.w64) Syntax.tnil) (Syntax.ttcons Syntax.tnil (Syntax.ttcons (Syntax.tcons (Syntax.tyInt Syntax.w64) Syntax.tnil) (Syntax.ttcons (Syntax.tcons (Syntax.tyInt Syntax.w64) (Syntax.tcons (Syntax.tyInt Syntax.w64) Syntax.tnil)) (Syntax.ttcons Syntax.tnil (Syntax.ttcons Syntax.tnil (Syntax.ttcons Syntax.tnil (Syntax.ttcons (Syntax.tcons (Syntax.tyInt Syntax.w64) Syntax.tnil) (Syntax.ttcons (Syntax.tcons (Syntax.tyInt Syntax.w64) Syntax.tnil) (Syntax.ttcons (Syntax.tcons (Syntax.tyInt Syntax.w64) Syntax.tnil) (Syntax.ttcons (Syntax.tcons (Syntax.tyInt Syntax.w64) Syntax.tnil) (Syntax.ttcons (Syntax.tcons (Syntax.tyInt Syntax.w64) Syntax.tnil) (Syntax.ttcons (Syntax.tcons (Syntax.tyInt Syntax.w64) Syntax.tnil) (Syntax.ttcons (Syntax.tcons (Syntax.tyInt Syntax.w64) Syntax.tnil) (Syntax.ttcons Syntax.tnil (Syntax.ttcons Syntax.tnil (Syntax.ttcons (Syntax.tcons (Syntax.tyInt Syntax.w64) Syntax.tnil) Syntax.ttnil))))))))))))))))))) (List._∷_ (10, Rows.any-gone (Syntax.tyRef Syntax.erased Syntax.mut (Syntax.tyInt Syntax.w32))) (List._∷_ (11, Rows.any-gone (Syntax.tyStruct (List._∷_ 38 (List._∷_ 91 (List._∷_ 93 List.[]))) (Syntax.tcons (Syntax.tyRef Syntax.erased Syntax.mut (Syntax.tyInt Syntax.w32)) (Syntax.tcons (Syntax.tyInt Syntax.w64) Syntax.tnil)))) (List._∷_ (12, Rows.any-gone (Syntax.tyInt Syntax.w32)) (List._∷_ (13, Rows.any-gone Syntax.tyBool) (List._∷_ (14, Rows.any-gone Syntax.tyBool) (List._∷_ (15, Rows.any-gone (Syntax.tyRef Syntax.erased Syntax.imm (Syntax.tyInt Syntax.w32))) List.[])))))))))))))))
-
-        abbrev g30 : List.List Row.Entry
-        g30 = List._∷_ (0, Rows.whole (Declared.row Answer.the-type)) (List._∷_ (1, Rows.whole (Declared'.row State.the-type)) (List._∷_ (2, Rows.sslice (Referent.rtF (Referent.fInt Syntax.w32)) (Syntax.tyRef (Syntax.named 0) Syntax.imm (Syntax.tyInt Syntax.w32)) 0) (List._∷_ (3, Rows.sslice (Referent.rtF (Referent.fInt Syntax.w32)) (Syntax.tyRef (Syntax.named 1) Syntax.imm (Syntax.tyInt Syntax.w32)) 1) (List._∷_ (4, Relend.mslice-owed (Referent.rtF (Referent.fInt Syntax.w32)) (Syntax.tyRef (Syntax.named 2) Syntax.mut (Syntax.tyInt Syntax.w32)) 2 7 (Row.lease (κs .1 .1 .0) (qs .1 .1 .0))) (List._∷_ (5, Rows.sslice Cell.R (Syntax.tyRef (Syntax.named 3) Syntax.imm Cell.behind) 3) (List._∷_ (6, Rows.sslice Cell.R (Syntax.tyRef (Syntax.named 4) Syntax.imm Cell.behind) 4) (List._∷_ (7, Rows.sc-here (Row.sInt Syntax.w64)) (List._∷_ (8, Rows.sc-here (Row.sInt Syntax.w64)) (List._∷_ (9, Rows.any-gone (Syntax.tyEnum (List._∷_ 100 (List._∷_ 97 (List._∷_ 114 (List._∷_ 116 (List._∷_ 115 (List._∷_ 58 (List._∷_ 58 (List._∷_ 65 (List._∷_ 110 (List._∷_ 115 (List._∷_ 119 (List._∷_ 101 (List._∷_ 114 List.[]))))))))))))) (Syntax.ttcons (Syntax.tcons (Syntax.tyInt Syntax.w64) Syntax.tnil) (Syntax.ttcons Syntax.tnil (Syntax.ttcons (Syntax.tcons (Syntax.tyInt Syntax.w64) Syntax.tnil) (Syntax.ttcons (Syntax.tcons (Syntax.tyInt Syntax.w64) (Syntax.tcons (Syntax.tyInt Syntax.w64) Syntax.tnil)) (Syntax.ttcons Syntax.tnil (Syntax.ttcons Syntax.tnil (Syntax.ttcons Syntax.tnil (Syntax.ttcons (Syntax.tcons (Syntax.tyInt Syntax.w64) Syntax.tnil) (Syntax.ttcons (Syntax.tcons (Syntax.tyInt Syntax.w64) Syntax.tnil) (Syntax.ttcons (Syntax.tcons (Syntax.tyInt Syntax.w64) Syntax.tnil) (Syntax.ttcons (Syntax.tcons (Syntax.tyInt Syntax.w64) Syntax.tnil) (Syntax.ttcons (Syntax.tcons (Syntax.tyInt Syntax.w64) Syntax.tnil) (Syntax.ttcons (Syntax.tcons (Syntax.tyInt Syntax.w64) Syntax.tnil) (Syntax.ttcons (Syntax.tcons (Syntax.tyInt Syntax.w64) Syntax.tnil) (Syntax.ttcons Syntax.tnil (Syntax.ttcons Syntax.tnil (Syntax.ttcons (Syntax.tcons (Syntax.tyInt Syntax.w64) Syntax.tnil) Syntax.ttnil))))))))))))))))))) (List._∷_ (10, Rows.any-gone (Syntax.tyRef Syntax.erased Syntax.mut (Syntax.tyInt Syntax.w32))) (List._∷_ (11, Rows.any-gone (Syntax.tyStruct (List._∷_ 38 (List._∷_ 91 (List._∷_ 93 List.[]))) (Syntax.tcons (Syntax.tyRef Syntax.erased Syntax.mut (Syntax.tyInt Syntax.w32)) (Syntax.tcons (Syntax.tyInt Syntax.w64) Syntax.tnil)))) (List._∷_ (12, Rows.any-gone (Syntax.tyInt Syntax.w32)) (List._∷_ (13, Rows.any-gone Syntax.tyBool) (List._∷_ (14, Rows.any-gone Syntax.tyBool) (List._∷_ (15, Rows.any-gone (Syntax.tyRef Syntax.erased Syntax.imm (Syntax.tyInt Syntax.w32))) List.[])))))))))))))))
+        g23 = List._∷_ (0, Rows.any-gone (Syntax.tyEnum (List._∷_ 100 (List._∷_ 97 (List._∷_ 114 (List._∷_ 116 (List._∷_ 115 (List._∷_ 58 (List._∷_ 58 (List._∷_ 65 (List._∷_ 110 (List._∷_ 115 (List._∷_ 119 (List._∷_ 101 (List._∷_ 114 List.[]))))))))))))) (Syntax.ttcons (Syntax.tcons (Syntax.tyInt Syntax.w64) Syntax.tnil) (Syntax.ttcons Syntax.tnil (Syntax.ttcons (Syntax.tcons (Syntax.tyInt Syntax.w64) Syntax.tnil) (Syntax.ttcons (Syntax.tcons (Syntax.tyInt Syntax.w64) (Syntax.tcons (Syntax.tyInt Syntax.w64) Syntax.tnil)) (Syntax.ttcons Syntax.tnil (Syntax.ttcons Syntax.tnil (Syntax.ttcons Syntax.tnil (Syntax.ttcons (Syntax.tcons (Syntax.tyInt Syntax.w64) Syntax.tnil) (Syntax.ttcons (Syntax.tcons (Syntax.tyInt Syntax.w64) Syntax.tnil) (Syntax.ttcons (Syntax.tcons (Syntax.tyInt Syntax.w64) Syntax.tnil) (Syntax.ttcons (Syntax.tcons (Syntax.tyInt Syntax.w64) Syntax.tnil) (Syntax.ttcons (Syntax.tcons (Syntax.tyInt Syntax.w64) Syntax.tnil) (Syntax.ttcons (Syntax.tcons (Syntax.tyInt Syntax.w64) Syntax.tnil) (Syntax.ttcons (Syntax.tcons (Syntax.tyInt Syntax.w64) Syntax.tnil) (Syntax.ttcons Syntax.tnil (Syntax.ttcons Syntax.tnil (Syntax.ttcons (Syntax.tcons (Syntax.tyInt Syntax.w64) Syntax.tnil) Syntax.ttnil))))))))))))))))))) (List._∷_ (1, Rows.whole (Declared'.row State.the-type)) (List._∷_ (2, Rows.sslice (Referent.rtF (Referent.fInt Syntax.w32)) (Syntax.tyRef (Syntax.named 0) Syntax.imm (Syntax.tyInt Syntax.w32)) 0) (List._∷_ (3, Rows.sslice (Referent.rtF (Referent.fInt Syntax.w32)) (Syntax.tyRef (Syntax.named 1) Syntax.imm (Syntax.tyInt Syntax.w32)) 1) (List._∷_ (4, Reshare.mslice-owedS (Referent.rtF (Referent.fInt Syntax.w32)) (Syntax.tyRef (Syntax.named 2) Syntax.mut (Syntax.tyInt Syntax.w32)) 2 7 (Row.lease (κs .1 .1 .0) (qs .1 .1 .0))) (List._∷_ (5, Rows.sslice Cell.R (Syntax.tyRef (Syntax.named 3) Syntax.imm Cell.behind) 3) (List._∷_ (6, Rows.sslice Cell.R (Syntax.tyRef (Syntax.named 4) Syntax.imm Cell.behind) 4) (List._∷_ (7, Rows.sc-here (Row.sInt Syntax.w64)) (List._∷_ (8, Rows.sc-here (Row.sInt Syntax.w64)) (List._∷_ (9, Rows.any-gone (Syntax.tyEnum (List._∷_ 100 (List._∷_ 97 (List._∷_ 114 (List._∷_ 116 (List._∷_ 115 (List._∷_ 58 (List._∷_ 58 (List._∷_ 65 (List._∷_ 110 (List._∷_ 115 (List._∷_ 119 (List._∷_ 101 (List._∷_ 114 List.[]))))))))))))) (Syntax.ttcons (Syntax.tcons (Syntax.tyInt Syntax.w64) Syntax.tnil) (Syntax.ttcons Syntax.tnil (Syntax.ttcons (Syntax.tcons (Syntax.tyInt Syntax.w64) Syntax.tnil) (Syntax.ttcons (Syntax.tcons (Syntax.tyInt Syntax.w64) (Syntax.tcons (Syntax.tyInt Syntax.w64) Syntax.tnil)) (Syntax.ttcons Syntax.tnil (Syntax.ttcons Syntax.tnil (Syntax.ttcons Syntax.tnil (Syntax.ttcons (Syntax.tcons (Syntax.tyInt Syntax.w64) Syntax.tnil) (Syntax.ttcons (Syntax.tcons (Syntax.tyInt Syntax.w64) Syntax.tnil) (Syntax.ttcons (Syntax.tcons (Syntax.tyInt Syntax.w64) Syntax.tnil) (Syntax.ttcons (Syntax.tcons (Syntax.tyInt Syntax.w64) Syntax.tnil) (Syntax.ttcons (Syntax.tcons (Syntax.tyInt Syntax.w64) Syntax.tnil) (Syntax.ttcons (Syntax.tcons (Syntax.tyInt Syntax.w64) Syntax.tnil) (Syntax.ttcons (Syntax.tcons (Syntax.tyInt Syntax.w64) Syntax.tnil) (Syntax.ttcons Syntax.tnil (Syntax.ttcons Syntax.tnil (Syntax.ttcons (Syntax.tcons (Syntax.tyInt Syntax.w64) Syntax.tnil) Syntax.ttnil))))))))))))))))))) (List._∷_ (10, Rows.any-gone Syntax.tyBool) (List._∷_ (11, Rows.any-gone (Syntax.tyRef Syntax.erased Syntax.mut (Syntax.tyInt Syntax.w32))) (List._∷_ (12, Rows.any-gone (Syntax.tyStruct (List._∷_ 38 (List._∷_ 91 (List._∷_ 93 List.[]))) (Syntax.tcons (Syntax.tyRef Syntax.erased Syntax.mut (Syntax.tyInt Syntax.w32)) (Syntax.tcons (Syntax.tyInt Syntax.w64) Syntax.tnil)))) (List._∷_ (13, Rows.any-gone (Syntax.tyRef Syntax.erased Syntax.mut (Syntax.tyInt Syntax.w32))) (List._∷_ (14, Rows.any-gone (Syntax.tyStruct (List._∷_ 38 (List._∷_ 91 (List._∷_ 93 List.[]))) (Syntax.tcons (Syntax.tyRef Syntax.erased Syntax.mut (Syntax.tyInt Syntax.w32)) (Syntax.tcons (Syntax.tyInt Syntax.w64) Syntax.tnil)))) (List._∷_ (15, Rows.any-gone (Syntax.tyInt Syntax.w32)) List.[])))))))))))))))
 
         abbrev g32 : List.List Row.Entry
-        g32 = List._∷_ (0, Rows.whole (Declared.row Answer.the-type)) (List._∷_ (1, Rows.any-gone (Syntax.tyStruct (List._∷_ 112 (List._∷_ 121 (List._∷_ 114 (List._∷_ 97 (List._∷_ 109 (List._∷_ 105 (List._∷_ 100 (List._∷_ 58 (List._∷_ 58 (List._∷_ 83 (List._∷_ 116 (List._∷_ 97 (List._∷_ 116 (List._∷_ 101 List.[])))))))))))))) (Syntax.tcons (Syntax.tyInt Syntax.w32) (Syntax.tcons (Syntax.tyInt Syntax.w32) (Syntax.tcons (Syntax.tyInt Syntax.w32) (Syntax.tcons (Syntax.tyInt Syntax.w32) (Syntax.tcons (Syntax.tyInt Syntax.w32) (Syntax.tcons (Syntax.tyArray (Syntax.tyInt Syntax.w32) 64) Syntax.tnil)))))))) (List._∷_ (2, Rows.sslice (Referent.rtF (Referent.fInt Syntax.w32)) (Syntax.tyRef (Syntax.named 0) Syntax.imm (Syntax.tyInt Syntax.w32)) 0) (List._∷_ (3, Rows.sslice (Referent.rtF (Referent.fInt Syntax.w32)) (Syntax.tyRef (Syntax.named 1) Syntax.imm (Syntax.tyInt Syntax.w32)) 1) (List._∷_ (4, Relend.mslice-owed (Referent.rtF (Referent.fInt Syntax.w32)) (Syntax.tyRef (Syntax.named 2) Syntax.mut (Syntax.tyInt Syntax.w32)) 2 7 (Row.lease (κs .1 .1 .0) (qs .1 .1 .0))) (List._∷_ (5, Rows.sslice Cell.R (Syntax.tyRef (Syntax.named 3) Syntax.imm Cell.behind) 3) (List._∷_ (6, Rows.sslice Cell.R (Syntax.tyRef (Syntax.named 4) Syntax.imm Cell.behind) 4) (List._∷_ (7, Rows.sc-here (Row.sInt Syntax.w64)) (List._∷_ (8, Rows.sc-here (Row.sInt Syntax.w64)) (List._∷_ (9, Rows.any-gone (Syntax.tyEnum (List._∷_ 100 (List._∷_ 97 (List._∷_ 114 (List._∷_ 116 (List._∷_ 115 (List._∷_ 58 (List._∷_ 58 (List._∷_ 65 (List._∷_ 110 (List._∷_ 115 (List._∷_ 119 (List._∷_ 101 (List._∷_ 114 List.[]))))))))))))) (Syntax.ttcons (Syntax.tcons (Syntax.tyInt Syntax.w64) Syntax.tnil) (Syntax.ttcons Syntax.tnil (Syntax.ttcons (Syntax.tcons (Syntax.tyInt Syntax.w64) Syntax.tnil) (Syntax.ttcons (Syntax.tcons (Syntax.tyInt Syntax.w64) (Syntax.tcons (Syntax.tyInt Syntax.w64) Syntax.tnil)) (Syntax.ttcons Syntax.tnil (Syntax.ttcons Syntax.tnil (Syntax.ttcons Syntax.tnil (Syntax.ttcons (Syntax.tcons (Syntax.tyInt Syntax.w64) Syntax.tnil) (Syntax.ttcons (Syntax.tcons (Syntax.tyInt Syntax.w64) Syntax.tnil) (Syntax.ttcons (Syntax.tcons (Syntax.tyInt Syntax.w64) Syntax.tnil) (Syntax.ttcons (Syntax.tcons (Syntax.tyInt Syntax.w64) Syntax.tnil) (Syntax.ttcons (Syntax.tcons (Syntax.tyInt Syntax.w64) Syntax.tnil) (Syntax.ttcons (Syntax.tcons (Syntax.tyInt Syntax.w64) Syntax.tnil) (Syntax.ttcons (Syntax.tcons (Syntax.tyInt Syntax.w64) Syntax.tnil) (Syntax.ttcons Syntax.tnil (Syntax.ttcons Syntax.tnil (Syntax.ttcons (Syntax.tcons (Syntax.tyInt Syntax.w64) Syntax.tnil) Syntax.ttnil))))))))))))))))))) (List._∷_ (10, Rows.any-gone (Syntax.tyRef Syntax.erased Syntax.mut (Syntax.tyInt Syntax.w32))) (List._∷_ (11, Rows.any-gone (Syntax.tyStruct (List._∷_ 38 (List._∷_ 91 (List._∷_ 93 List.[]))) (Syntax.tcons (Syntax.tyRef Syntax.erased Syntax.mut (Syntax.tyInt Syntax.w32)) (Syntax.tcons (Syntax.tyInt Syntax.w64) Syntax.tnil)))) (List._∷_ (12, Rows.any-gone (Syntax.tyInt Syntax.w32)) (List._∷_ (13, Rows.any-gone Syntax.tyBool) (List._∷_ (14, Rows.any-gone Syntax.tyBool) (List._∷_ (15, Rows.any-gone (Syntax.tyRef Syntax.erased Syntax.imm (Syntax.tyInt Syntax.w32))) List.[])))))))))))))))
+        g32 = List._∷_ (0, Rows.any-gone (Syntax.tyEnum (List._∷_ 100 (List._∷_ 97 (List._∷_ 114 (List._∷_ 116 (List._∷_ 115 (List._∷_ 58 (List._∷_ 58 (List._∷_ 65 (List._∷_ 110 (List._∷_ 115 (List._∷_ 119 (List._∷_ 101 (List._∷_ 114 List.[]))))))))))))) (Syntax.ttcons (Syntax.tcons (Syntax.tyInt Syntax.w64) Syntax.tnil) (Syntax.ttcons Syntax.tnil (Syntax.ttcons (Syntax.tcons (Syntax.tyInt Syntax.w64) Syntax.tnil) (Syntax.ttcons (Syntax.tcons (Syntax.tyInt Syntax.w64) (Syntax.tcons (Syntax.tyInt Syntax.w64) Syntax.tnil)) (Syntax.ttcons Syntax.tnil (Syntax.ttcons Syntax.tnil (Syntax.ttcons Syntax.tnil (Syntax.ttcons (Syntax.tcons (Syntax.tyInt Syntax.w64) Syntax.tnil) (Syntax.ttcons (Syntax.tcons (Syntax.tyInt Syntax.w64) Syntax.tnil) (Syntax.ttcons (Syntax.tcons (Syntax.tyInt Syntax.w64) Syntax.tnil) (Syntax.ttcons (Syntax.tcons (Syntax.tyInt Syntax.w64) Syntax.tnil) (Syntax.ttcons (Syntax.tcons (Syntax.tyInt Syntax.w64) Syntax.tnil) (Syntax.ttcons (Syntax.tcons (Syntax.tyInt Syntax.w64) Syntax.tnil) (Syntax.ttcons (Syntax.tcons (Syntax.tyInt Syntax.w64) Syntax.tnil) (Syntax.ttcons Syntax.tnil (Syntax.ttcons Syntax.tnil (Syntax.ttcons (Syntax.tcons (Syntax.tyInt Syntax.w64) Syntax.tnil) Syntax.ttnil))))))))))))))))))) (List._∷_ (1, Rows.whole (Declared'.row State.the-type)) (List._∷_ (2, Rows.sslice (Referent.rtF (Referent.fInt Syntax.w32)) (Syntax.tyRef (Syntax.named 0) Syntax.imm (Syntax.tyInt Syntax.w32)) 0) (List._∷_ (3, Rows.sslice (Referent.rtF (Referent.fInt Syntax.w32)) (Syntax.tyRef (Syntax.named 1) Syntax.imm (Syntax.tyInt Syntax.w32)) 1) (List._∷_ (4, Relend.mslice-owed (Referent.rtF (Referent.fInt Syntax.w32)) (Syntax.tyRef (Syntax.named 2) Syntax.mut (Syntax.tyInt Syntax.w32)) 2 8 (Row.lease (κs .1 .1 .0) (qs .1 .1 .0))) (List._∷_ (5, Rows.sslice Cell.R (Syntax.tyRef (Syntax.named 3) Syntax.imm Cell.behind) 3) (List._∷_ (6, Rows.sslice Cell.R (Syntax.tyRef (Syntax.named 4) Syntax.imm Cell.behind) 4) (List._∷_ (7, Rows.sc-here (Row.sInt Syntax.w64)) (List._∷_ (8, Rows.sc-here (Row.sInt Syntax.w64)) (List._∷_ (9, Rows.any-gone (Syntax.tyEnum (List._∷_ 100 (List._∷_ 97 (List._∷_ 114 (List._∷_ 116 (List._∷_ 115 (List._∷_ 58 (List._∷_ 58 (List._∷_ 65 (List._∷_ 110 (List._∷_ 115 (List._∷_ 119 (List._∷_ 101 (List._∷_ 114 List.[]))))))))))))) (Syntax.ttcons (Syntax.tcons (Syntax.tyInt Syntax.w64) Syntax.tnil) (Syntax.ttcons Syntax.tnil (Syntax.ttcons (Syntax.tcons (Syntax.tyInt Syntax.w64) Syntax.tnil) (Syntax.ttcons (Syntax.tcons (Syntax.tyInt Syntax.w64) (Syntax.tcons (Syntax.tyInt Syntax.w64) Syntax.tnil)) (Syntax.ttcons Syntax.tnil (Syntax.ttcons Syntax.tnil (Syntax.ttcons Syntax.tnil (Syntax.ttcons (Syntax.tcons (Syntax.tyInt Syntax.w64) Syntax.tnil) (Syntax.ttcons (Syntax.tcons (Syntax.tyInt Syntax.w64) Syntax.tnil) (Syntax.ttcons (Syntax.tcons (Syntax.tyInt Syntax.w64) Syntax.tnil) (Syntax.ttcons (Syntax.tcons (Syntax.tyInt Syntax.w64) Syntax.tnil) (Syntax.ttcons (Syntax.tcons (Syntax.tyInt Syntax.w64) Syntax.tnil) (Syntax.ttcons (Syntax.tcons (Syntax.tyInt Syntax.w64) Syntax.tnil) (Syntax.ttcons (Syntax.tcons (Syntax.tyInt Syntax.w64) Syntax.tnil) (Syntax.ttcons Syntax.tnil (Syntax.ttcons Syntax.tnil (Syntax.ttcons (Syntax.tcons (Syntax.tyInt Syntax.w64) Syntax.tnil) Syntax.ttnil))))))))))))))))))) (List._∷_ (10, Rows.any-gone Syntax.tyBool) (List._∷_ (11, Rows.any-gone (Syntax.tyRef Syntax.erased Syntax.mut (Syntax.tyInt Syntax.w32))) (List._∷_ (12, Rows.any-gone (Syntax.tyStruct (List._∷_ 38 (List._∷_ 91 (List._∷_ 93 List.[]))) (Syntax.tcons (Syntax.tyRef Syntax.erased Syntax.mut (Syntax.tyInt Syntax.w32)) (Syntax.tcons (Syntax.tyInt Syntax.w64) Syntax.tnil)))) (List._∷_ (13, Rows.any-gone (Syntax.tyRef Syntax.erased Syntax.mut (Syntax.tyInt Syntax.w32))) (List._∷_ (14, Rows.any-gone (Syntax.tyStruct (List._∷_ 38 (List._∷_ 91 (List._∷_ 93 List.[]))) (Syntax.tcons (Syntax.tyRef Syntax.erased Syntax.mut (Syntax.tyInt Syntax.w32)) (Syntax.tcons (Syntax.tyInt Syntax.w64) Syntax.tnil)))) (List._∷_ (15, Rows.any-gone (Syntax.tyInt Syntax.w32)) List.[])))))))))))))))
 
-        abbrev g33 : List.List Row.Entry
-        g33 = List._∷_ (0, Rows.any-gone (Syntax.tyEnum (List._∷_ 100 (List._∷_ 97 (List._∷_ 114 (List._∷_ 116 (List._∷_ 115 (List._∷_ 58 (List._∷_ 58 (List._∷_ 65 (List._∷_ 110 (List._∷_ 115 (List._∷_ 119 (List._∷_ 101 (List._∷_ 114 List.[]))))))))))))) (Syntax.ttcons (Syntax.tcons (Syntax.tyInt Syntax.w64) Syntax.tnil) (Syntax.ttcons Syntax.tnil (Syntax.ttcons (Syntax.tcons (Syntax.tyInt Syntax.w64) Syntax.tnil) (Syntax.ttcons (Syntax.tcons (Syntax.tyInt Syntax.w64) (Syntax.tcons (Syntax.tyInt Syntax.w64) Syntax.tnil)) (Syntax.ttcons Syntax.tnil (Syntax.ttcons Syntax.tnil (Syntax.ttcons Syntax.tnil (Syntax.ttcons (Syntax.tcons (Syntax.tyInt Syntax.w64) Syntax.tnil) (Syntax.ttcons (Syntax.tcons (Syntax.tyInt Syntax.w64) Syntax.tnil) (Syntax.ttcons (Syntax.tcons (Syntax.tyInt Syntax.w64) Syntax.tnil) (Syntax.ttcons (Syntax.tcons (Syntax.tyInt Syntax.w64) Syntax.tnil) (Syntax.ttcons (Syntax.tcons (Syntax.tyInt Syntax.w64) Syntax.tnil) (Syntax.ttcons (Syntax.tcons (Syntax.tyInt Syntax.w64) Syntax.tnil) (Syntax.ttcons (Syntax.tcons (Syntax.tyInt Syntax.w64) Syntax.tnil) (Syntax.ttcons Syntax.tnil (Syntax.ttcons Syntax.tnil (Syntax.ttcons (Syntax.tcons (Syntax.tyInt Syntax.w64) Syntax.tnil) Syntax.ttnil))))))))))))))))))) (List._∷_ (1, Rows.whole (Declared'.row State.the-type)) (List._∷_ (2, Rows.sslice (Referent.rtF (Referent.fInt Syntax.w32)) (Syntax.tyRef (Syntax.named 0) Syntax.imm (Syntax.tyInt Syntax.w32)) 0) (List._∷_ (3, Rows.sslice (Referent.rtF (Referent.fInt Syntax.w32)) (Syntax.tyRef (Syntax.named 1) Syntax.imm (Syntax.tyInt Syntax.w32)) 1) (List._∷_ (4, Relend.mslice-owed (Referent.rtF (Referent.fInt Syntax.w32)) (Syntax.tyRef (Syntax.named 2) Syntax.mut (Syntax.tyInt Syntax.w32)) 2 8 (Row.lease (κs .1 .1 .0) (qs .1 .1 .0))) (List._∷_ (5, Rows.sslice Cell.R (Syntax.tyRef (Syntax.named 3) Syntax.imm Cell.behind) 3) (List._∷_ (6, Rows.sslice Cell.R (Syntax.tyRef (Syntax.named 4) Syntax.imm Cell.behind) 4) (List._∷_ (7, Rows.sc-here (Row.sInt Syntax.w64)) (List._∷_ (8, Rows.sc-here (Row.sInt Syntax.w64)) (List._∷_ (9, Rows.any-gone (Syntax.tyEnum (List._∷_ 100 (List._∷_ 97 (List._∷_ 114 (List._∷_ 116 (List._∷_ 115 (List._∷_ 58 (List._∷_ 58 (List._∷_ 65 (List._∷_ 110 (List._∷_ 115 (List._∷_ 119 (List._∷_ 101 (List._∷_ 114 List.[]))))))))))))) (Syntax.ttcons (Syntax.tcons (Syntax.tyInt Syntax.w64) Syntax.tnil) (Syntax.ttcons Syntax.tnil (Syntax.ttcons (Syntax.tcons (Syntax.tyInt Syntax.w64) Syntax.tnil) (Syntax.ttcons (Syntax.tcons (Syntax.tyInt Syntax.w64) (Syntax.tcons (Syntax.tyInt Syntax.w64) Syntax.tnil)) (Syntax.ttcons Syntax.tnil (Syntax.ttcons Syntax.tnil (Syntax.ttcons Syntax.tnil (Syntax.ttcons (Syntax.tcons (Syntax.tyInt Syntax.w64) Syntax.tnil) (Syntax.ttcons (Syntax.tcons (Syntax.tyInt Syntax.w64) Syntax.tnil) (Syntax.ttcons (Syntax.tcons (Syntax.tyInt Syntax.w64) Syntax.tnil) (Syntax.ttcons (Syntax.tcons (Syntax.tyInt Syntax.w64) Syntax.tnil) (Syntax.ttcons (Syntax.tcons (Syntax.tyInt Syntax.w64) Syntax.tnil) (Syntax.ttcons (Syntax.tcons (Syntax.tyInt Syntax.w64) Syntax.tnil) (Syntax.ttcons (Syntax.tcons (Syntax.tyInt Syntax.w64) Syntax.tnil) (Syntax.ttcons Syntax.tnil (Syntax.ttcons Syntax.tnil (Syntax.ttcons (Syntax.tcons (Syntax.tyInt Syntax.w64) Syntax.tnil) Syntax.ttnil))))))))))))))))))) (List._∷_ (10, Rows.any-gone (Syntax.tyRef Syntax.erased Syntax.mut (Syntax.tyInt Syntax.w32))) (List._∷_ (11, Rows.any-gone (Syntax.tyStruct (List._∷_ 38 (List._∷_ 91 (List._∷_ 93 List.[]))) (Syntax.tcons (Syntax.tyRef Syntax.erased Syntax.mut (Syntax.tyInt Syntax.w32)) (Syntax.tcons (Syntax.tyInt Syntax.w64) Syntax.tnil)))) (List._∷_ (12, Rows.any-gone (Syntax.tyInt Syntax.w32)) (List._∷_ (13, Rows.any-gone Syntax.tyBool) (List._∷_ (14, Rows.any-gone Syntax.tyBool) (List._∷_ (15, Rows.any-gone (Syntax.tyRef Syntax.erased Syntax.imm (Syntax.tyInt Syntax.w32))) List.[])))))))))))))))
+        abbrev g35 : List.List Row.Entry
+        g35 = List._∷_ (0, Rows.whole (Declared.row Answer.the-type)) (List._∷_ (1, Rows.whole (Declared'.row State.the-type)) (List._∷_ (2, Rows.sslice (Referent.rtF (Referent.fInt Syntax.w32)) (Syntax.tyRef (Syntax.named 0) Syntax.imm (Syntax.tyInt Syntax.w32)) 0) (List._∷_ (3, Rows.sslice (Referent.rtF (Referent.fInt Syntax.w32)) (Syntax.tyRef (Syntax.named 1) Syntax.imm (Syntax.tyInt Syntax.w32)) 1) (List._∷_ (4, Relend.mslice-owed (Referent.rtF (Referent.fInt Syntax.w32)) (Syntax.tyRef (Syntax.named 2) Syntax.mut (Syntax.tyInt Syntax.w32)) 2 8 (Row.lease (κs .1 .1 .0) (qs .1 .1 .0))) (List._∷_ (5, Rows.sslice Cell.R (Syntax.tyRef (Syntax.named 3) Syntax.imm Cell.behind) 3) (List._∷_ (6, Rows.sslice Cell.R (Syntax.tyRef (Syntax.named 4) Syntax.imm Cell.behind) 4) (List._∷_ (7, Rows.sc-here (Row.sInt Syntax.w64)) (List._∷_ (8, Rows.sc-here (Row.sInt Syntax.w64)) (List._∷_ (9, Rows.any-gone (Syntax.tyEnum (List._∷_ 100 (List._∷_ 97 (List._∷_ 114 (List._∷_ 116 (List._∷_ 115 (List._∷_ 58 (List._∷_ 58 (List._∷_ 65 (List._∷_ 110 (List._∷_ 115 (List._∷_ 119 (List._∷_ 101 (List._∷_ 114 List.[]))))))))))))) (Syntax.ttcons (Syntax.tcons (Syntax.tyInt Syntax.w64) Syntax.tnil) (Syntax.ttcons Syntax.tnil (Syntax.ttcons (Syntax.tcons (Syntax.tyInt Syntax.w64) Syntax.tnil) (Syntax.ttcons (Syntax.tcons (Syntax.tyInt Syntax.w64) (Syntax.tcons (Syntax.tyInt Syntax.w64) Syntax.tnil)) (Syntax.ttcons Syntax.tnil (Syntax.ttcons Syntax.tnil (Syntax.ttcons Syntax.tnil (Syntax.ttcons (Syntax.tcons (Syntax.tyInt Syntax.w64) Syntax.tnil) (Syntax.ttcons (Syntax.tcons (Syntax.tyInt Syntax.w64) Syntax.tnil) (Syntax.ttcons (Syntax.tcons (Syntax.tyInt Syntax.w64) Syntax.tnil) (Syntax.ttcons (Syntax.tcons (Syntax.tyInt Syntax.w64) Syntax.tnil) (Syntax.ttcons (Syntax.tcons (Syntax.tyInt Syntax.w64) Syntax.tnil) (Syntax.ttcons (Syntax.tcons (Syntax.tyInt Syntax.w64) Syntax.tnil) (Syntax.ttcons (Syntax.tcons (Syntax.tyInt Syntax.w64) Syntax.tnil) (Syntax.ttcons Syntax.tnil (Syntax.ttcons Syntax.tnil (Syntax.ttcons (Syntax.tcons (Syntax.tyInt Syntax.w64) Syntax.tnil) Syntax.ttnil))))))))))))))))))) (List._∷_ (10, Rows.any-gone Syntax.tyBool) (List._∷_ (11, Rows.any-gone (Syntax.tyRef Syntax.erased Syntax.mut (Syntax.tyInt Syntax.w32))) (List._∷_ (12, Rows.any-gone (Syntax.tyStruct (List._∷_ 38 (List._∷_ 91 (List._∷_ 93 List.[]))) (Syntax.tcons (Syntax.tyRef Syntax.erased Syntax.mut (Syntax.tyInt Syntax.w32)) (Syntax.tcons (Syntax.tyInt Syntax.w64) Syntax.tnil)))) (List._∷_ (13, Rows.any-gone (Syntax.tyRef Syntax.erased Syntax.mut (Syntax.tyInt Syntax.w32))) (List._∷_ (14, Rows.any-gone (Syntax.tyStruct (List._∷_ 38 (List._∷_ 91 (List._∷_ 93 List.[]))) (Syntax.tcons (Syntax.tyRef Syntax.erased Syntax.mut (Syntax.tyInt Syntax.w32)) (Syntax.tcons (Syntax.tyInt Syntax.w64) Syntax.tnil)))) (List._∷_ (15, Rows.any-gone (Syntax.tyInt Syntax.w32)) List.[])))))))))))))))
 
-        abbrev g36 : List.List Row.Entry
-        g36 = List._∷_ (0, Rows.whole (Declared.row Answer.the-type)) (List._∷_ (1, Rows.whole (Declared'.row State.the-type)) (List._∷_ (2, Rows.sslice (Referent.rtF (Referent.fInt Syntax.w32)) (Syntax.tyRef (Syntax.named 0) Syntax.imm (Syntax.tyInt Syntax.w32)) 0) (List._∷_ (3, Rows.sslice (Referent.rtF (Referent.fInt Syntax.w32)) (Syntax.tyRef (Syntax.named 1) Syntax.imm (Syntax.tyInt Syntax.w32)) 1) (List._∷_ (4, Relend.mslice-owed (Referent.rtF (Referent.fInt Syntax.w32)) (Syntax.tyRef (Syntax.named 2) Syntax.mut (Syntax.tyInt Syntax.w32)) 2 8 (Row.lease (κs .1 .1 .0) (qs .1 .1 .0))) (List._∷_ (5, Rows.sslice Cell.R (Syntax.tyRef (Syntax.named 3) Syntax.imm Cell.behind) 3) (List._∷_ (6, Rows.sslice Cell.R (Syntax.tyRef (Syntax.named 4) Syntax.imm Cell.behind) 4) (List._∷_ (7, Rows.sc-here (Row.sInt Syntax.w64)) (List._∷_ (8, Rows.sc-here (Row.sInt Syntax.w64)) (List._∷_ (9, Rows.any-gone (Syntax.tyEnum (List._∷_ 100 (List._∷_ 97 (List._∷_ 114 (List._∷_ 116 (List._∷_ 115 (List._∷_ 58 (List._∷_ 58 (List._∷_ 65 (List._∷_ 110 (List._∷_ 115 (List._∷_ 119 (List._∷_ 101 (List._∷_ 114 List.[]))))))))))))) (Syntax.ttcons (Syntax.tcons (Syntax.tyInt Syntax.w64) Syntax.tnil) (Syntax.ttcons Syntax.tnil (Syntax.ttcons (Syntax.tcons (Syntax.tyInt Syntax.w64) Syntax.tnil) (Syntax.ttcons (Syntax.tcons (Syntax.tyInt Syntax.w64) (Syntax.tcons (Syntax.tyInt Syntax.w64) Syntax.tnil)) (Syntax.ttcons Syntax.tnil (Syntax.ttcons Syntax.tnil (Syntax.ttcons Syntax.tnil (Syntax.ttcons (Syntax.tcons (Syntax.tyInt Syntax.w64) Syntax.tnil) (Syntax.ttcons (Syntax.tcons (Syntax.tyInt Syntax.w64) Syntax.tnil) (Syntax.ttcons (Syntax.tcons (Syntax.tyInt Syntax.w64) Syntax.tnil) (Syntax.ttcons (Syntax.tcons (Syntax.tyInt Syntax.w64) Syntax.tnil) (Syntax.ttcons (Syntax.tcons (Syntax.tyInt Syntax.w64) Syntax.tnil) (Syntax.ttcons (Syntax.tcons (Syntax.tyInt Syntax.w64) Syntax.tnil) (Syntax.ttcons (Syntax.tcons (Syntax.tyInt Syntax.w64) Syntax.tnil) (Syntax.ttcons Syntax.tnil (Syntax.ttcons Syntax.tnil (Syntax.ttcons (Syntax.tcons (Syntax.tyInt Syntax.w64) Syntax.tnil) Syntax.ttnil))))))))))))))))))) (List._∷_ (10, Rows.any-gone (Syntax.tyRef Syntax.erased Syntax.mut (Syntax.tyInt Syntax.w32))) (List._∷_ (11, Rows.any-gone (Syntax.tyStruct (List._∷_ 38 (List._∷_ 91 (List._∷_ 93 List.[]))) (Syntax.tcons (Syntax.tyRef Syntax.erased Syntax.mut (Syntax.tyInt Syntax.w32)) (Syntax.tcons (Syntax.tyInt Syntax.w64) Syntax.tnil)))) (List._∷_ (12, Rows.any-gone (Syntax.tyInt Syntax.w32)) (List._∷_ (13, Rows.any-gone Syntax.tyBool) (List._∷_ (14, Rows.any-gone Syntax.tyBool) (List._∷_ (15, Rows.any-gone (Syntax.tyRef Syntax.erased Syntax.imm (Syntax.tyInt Syntax.w32))) List.[])))))))))))))))
+        abbrev g37 : List.List Row.Entry
+        g37 = List._∷_ (0, Rows.whole (Declared.row Answer.the-type)) (List._∷_ (1, Rows.any-gone (Syntax.tyStruct (List._∷_ 112 (List._∷_ 121 (List._∷_ 114 (List._∷_ 97 (List._∷_ 109 (List._∷_ 105 (List._∷_ 100 (List._∷_ 58 (List._∷_ 58 (List._∷_ 83 (List._∷_ 116 (List._∷_ 97 (List._∷_ 116 (List._∷_ 101 List.[])))))))))))))) (Syntax.tcons (Syntax.tyInt Syntax.w32) (Syntax.tcons (Syntax.tyInt Syntax.w32) (Syntax.tcons (Syntax.tyInt Syntax.w32) (Syntax.tcons (Syntax.tyInt Syntax.w32) (Syntax.tcons (Syntax.tyInt Syntax.w32) (Syntax.tcons (Syntax.tyArray (Syntax.tyInt Syntax.w32) 64) Syntax.tnil)))))))) (List._∷_ (2, Rows.sslice (Referent.rtF (Referent.fInt Syntax.w32)) (Syntax.tyRef (Syntax.named 0) Syntax.imm (Syntax.tyInt Syntax.w32)) 0) (List._∷_ (3, Rows.sslice (Referent.rtF (Referent.fInt Syntax.w32)) (Syntax.tyRef (Syntax.named 1) Syntax.imm (Syntax.tyInt Syntax.w32)) 1) (List._∷_ (4, Relend.mslice-owed (Referent.rtF (Referent.fInt Syntax.w32)) (Syntax.tyRef (Syntax.named 2) Syntax.mut (Syntax.tyInt Syntax.w32)) 2 8 (Row.lease (κs .1 .1 .0) (qs .1 .1 .0))) (List._∷_ (5, Rows.sslice Cell.R (Syntax.tyRef (Syntax.named 3) Syntax.imm Cell.behind) 3) (List._∷_ (6, Rows.sslice Cell.R (Syntax.tyRef (Syntax.named 4) Syntax.imm Cell.behind) 4) (List._∷_ (7, Rows.sc-here (Row.sInt Syntax.w64)) (List._∷_ (8, Rows.sc-here (Row.sInt Syntax.w64)) (List._∷_ (9, Rows.any-gone (Syntax.tyEnum (List._∷_ 100 (List._∷_ 97 (List._∷_ 114 (List._∷_ 116 (List._∷_ 115 (List._∷_ 58 (List._∷_ 58 (List._∷_ 65 (List._∷_ 110 (List._∷_ 115 (List._∷_ 119 (List._∷_ 101 (List._∷_ 114 List.[]))))))))))))) (Syntax.ttcons (Syntax.tcons (Syntax.tyInt Syntax.w64) Syntax.tnil) (Syntax.ttcons Syntax.tnil (Syntax.ttcons (Syntax.tcons (Syntax.tyInt Syntax.w64) Syntax.tnil) (Syntax.ttcons (Syntax.tcons (Syntax.tyInt Syntax.w64) (Syntax.tcons (Syntax.tyInt Syntax.w64) Syntax.tnil)) (Syntax.ttcons Syntax.tnil (Syntax.ttcons Syntax.tnil (Syntax.ttcons Syntax.tnil (Syntax.ttcons (Syntax.tcons (Syntax.tyInt Syntax.w64) Syntax.tnil) (Syntax.ttcons (Syntax.tcons (Syntax.tyInt Syntax.w64) Syntax.tnil) (Syntax.ttcons (Syntax.tcons (Syntax.tyInt Syntax.w64) Syntax.tnil) (Syntax.ttcons (Syntax.tcons (Syntax.tyInt Syntax.w64) Syntax.tnil) (Syntax.ttcons (Syntax.tcons (Syntax.tyInt Syntax.w64) Syntax.tnil) (Syntax.ttcons (Syntax.tcons (Syntax.tyInt Syntax.w64) Syntax.tnil) (Syntax.ttcons (Syntax.tcons (Syntax.tyInt Syntax.w64) Syntax.tnil) (Syntax.ttcons Syntax.tnil (Syntax.ttcons Syntax.tnil (Syntax.ttcons (Syntax.tcons (Syntax.tyInt Syntax.w64) Syntax.tnil) Syntax.ttnil))))))))))))))))))) (List._∷_ (10, Rows.any-gone Syntax.tyBool) (List._∷_ (11, Rows.any-gone (Syntax.tyRef Syntax.erased Syntax.mut (Syntax.tyInt Syntax.w32))) (List._∷_ (12, Rows.any-gone (Syntax.tyStruct (List._∷_ 38 (List._∷_ 91 (List._∷_ 93 List.[]))) (Syntax.tcons (Syntax.tyRef Syntax.erased Syntax.mut (Syntax.tyInt Syntax.w32)) (Syntax.tcons (Syntax.tyInt Syntax.w64) Syntax.tnil)))) (List._∷_ (13, Rows.any-gone (Syntax.tyRef Syntax.erased Syntax.mut (Syntax.tyInt Syntax.w32))) (List._∷_ (14, Rows.any-gone (Syntax.tyStruct (List._∷_ 38 (List._∷_ 91 (List._∷_ 93 List.[]))) (Syntax.tcons (Syntax.tyRef Syntax.erased Syntax.mut (Syntax.tyInt Syntax.w32)) (Syntax.tcons (Syntax.tyInt Syntax.w64) Syntax.tnil)))) (List._∷_ (15, Rows.any-gone (Syntax.tyInt Syntax.w32)) List.[])))))))))))))))
 
         abbrev g38 : List.List Row.Entry
-        g38 = List._∷_ (0, Rows.whole (Declared.row Answer.the-type)) (List._∷_ (1, Rows.any-gone (Syntax.tyStruct (List._∷_ 112 (List._∷_ 121 (List._∷_ 114 (List._∷_ 97 (List._∷_ 109 (List._∷_ 105 (List._∷_ 100 (List._∷_ 58 (List._∷_ 58 (List._∷_ 83 (List._∷_ 116 (List._∷_ 97 (List._∷_ 116 (List._∷_ 101 List.[])))))))))))))) (Syntax.tcons (Syntax.tyInt Syntax.w32) (Syntax.tcons (Syntax.tyInt Syntax.w32) (Syntax.tcons (Syntax.tyInt Syntax.w32) (Syntax.tcons (Syntax.tyInt Syntax.w32) (Syntax.tcons (Syntax.tyInt Syntax.w32) (Syntax.tcons (Syntax.tyArray (Syntax.tyInt Syntax.w32) 64) Syntax.tnil)))))))) (List._∷_ (2, Rows.sslice (Referent.rtF (Referent.fInt Syntax.w32)) (Syntax.tyRef (Syntax.named 0) Syntax.imm (Syntax.tyInt Syntax.w32)) 0) (List._∷_ (3, Rows.sslice (Referent.rtF (Referent.fInt Syntax.w32)) (Syntax.tyRef (Syntax.named 1) Syntax.imm (Syntax.tyInt Syntax.w32)) 1) (List._∷_ (4, Relend.mslice-owed (Referent.rtF (Referent.fInt Syntax.w32)) (Syntax.tyRef (Syntax.named 2) Syntax.mut (Syntax.tyInt Syntax.w32)) 2 8 (Row.lease (κs .1 .1 .0) (qs .1 .1 .0))) (List._∷_ (5, Rows.sslice Cell.R (Syntax.tyRef (Syntax.named 3) Syntax.imm Cell.behind) 3) (List._∷_ (6, Rows.sslice Cell.R (Syntax.tyRef (Syntax.named 4) Syntax.imm Cell.behind) 4) (List._∷_ (7, Rows.sc-here (Row.sInt Syntax.w64)) (List._∷_ (8, Rows.sc-here (Row.sInt Syntax.w64)) (List._∷_ (9, Rows.any-gone (Syntax.tyEnum (List._∷_ 100 (List._∷_ 97 (List._∷_ 114 (List._∷_ 116 (List._∷_ 115 (List._∷_ 58 (List._∷_ 58 (List._∷_ 65 (List._∷_ 110 (List._∷_ 115 (List._∷_ 119 (List._∷_ 101 (List._∷_ 114 List.[]))))))))))))) (Syntax.ttcons (Syntax.tcons (Syntax.tyInt Syntax.w64) Syntax.tnil) (Syntax.ttcons Syntax.tnil (Syntax.ttcons (Syntax.tcons (Syntax.tyInt Syntax.w64) Syntax.tnil) (Syntax.ttcons (Syntax.tcons (Syntax.tyInt Syntax.w64) (Syntax.tcons (Syntax.tyInt Syntax.w64) Syntax.tnil)) (Syntax.ttcons Syntax.tnil (Syntax.ttcons Syntax.tnil (Syntax.ttcons Syntax.tnil (Syntax.ttcons (Syntax.tcons (Syntax.tyInt Syntax.w64) Syntax.tnil) (Syntax.ttcons (Syntax.tcons (Syntax.tyInt Syntax.w64) Syntax.tnil) (Syntax.ttcons (Syntax.tcons (Syntax.tyInt Syntax.w64) Syntax.tnil) (Syntax.ttcons (Syntax.tcons (Syntax.tyInt Syntax.w64) Syntax.tnil) (Syntax.ttcons (Syntax.tcons (Syntax.tyInt Syntax.w64) Syntax.tnil) (Syntax.ttcons (Syntax.tcons (Syntax.tyInt Syntax.w64) Syntax.tnil) (Syntax.ttcons (Syntax.tcons (Syntax.tyInt Syntax.w64) Syntax.tnil) (Syntax.ttcons Syntax.tnil (Syntax.ttcons Syntax.tnil (Syntax.ttcons (Syntax.tcons (Syntax.tyInt Syntax.w64) Syntax.tnil) Syntax.ttnil))))))))))))))))))) (List._∷_ (10, Rows.any-gone (Syntax.tyRef Syntax.erased Syntax.mut (Syntax.tyInt Syntax.w32))) (List._∷_ (11, Rows.any-gone (Syntax.tyStruct (List._∷_ 38 (List._∷_ 91 (List._∷_ 93 List.[]))) (Syntax.tcons (Syntax.tyRef Syntax.erased Syntax.mut (Syntax.tyInt Syntax.w32)) (Syntax.tcons (Syntax.tyInt Syntax.w64) Syntax.tnil)))) (List._∷_ (12, Rows.any-gone (Syntax.tyInt Syntax.w32)) (List._∷_ (13, Rows.any-gone Syntax.tyBool) (List._∷_ (14, Rows.any-gone Syntax.tyBool) (List._∷_ (15, Rows.any-gone (Syntax.tyRef Syntax.erased Syntax.imm (Syntax.tyInt Syntax.w32))) List.[])))))))))))))))
+        g38 = List._∷_ (0, Rows.any-gone (Syntax.tyEnum (List._∷_ 100 (List._∷_ 97 (List._∷_ 114 (List._∷_ 116 (List._∷_ 115 (List._∷_ 58 (List._∷_ 58 (List._∷_ 65 (List._∷_ 110 (List._∷_ 115 (List._∷_ 119 (List._∷_ 101 (List._∷_ 114 List.[]))))))))))))) (Syntax.ttcons (Syntax.tcons (Syntax.tyInt Syntax.w64) Syntax.tnil) (Syntax.ttcons Syntax.tnil (Syntax.ttcons (Syntax.tcons (Syntax.tyInt Syntax.w64) Syntax.tnil) (Syntax.ttcons (Syntax.tcons (Syntax.tyInt Syntax.w64) (Syntax.tcons (Syntax.tyInt Syntax.w64) Syntax.tnil)) (Syntax.ttcons Syntax.tnil (Syntax.ttcons Syntax.tnil (Syntax.ttcons Syntax.tnil (Syntax.ttcons (Syntax.tcons (Syntax.tyInt Syntax.w64) Syntax.tnil) (Syntax.ttcons (Syntax.tcons (Syntax.tyInt Syntax.w64) Syntax.tnil) (Syntax.ttcons (Syntax.tcons (Syntax.tyInt Syntax.w64) Syntax.tnil) (Syntax.ttcons (Syntax.tcons (Syntax.tyInt Syntax.w64) Syntax.tnil) (Syntax.ttcons (Syntax.tcons (Syntax.tyInt Syntax.w64) Syntax.tnil) (Syntax.ttcons (Syntax.tcons (Syntax.tyInt Syntax.w64) Syntax.tnil) (Syntax.ttcons (Syntax.tcons (Syntax.tyInt Syntax.w64) Syntax.tnil) (Syntax.ttcons Syntax.tnil (Syntax.ttcons Syntax.tnil (Syntax.ttcons (Syntax.tcons (Syntax.tyInt Syntax.w64) Syntax.tnil) Syntax.ttnil))))))))))))))))))) (List._∷_ (1, Rows.whole (Declared'.row State.the-type)) (List._∷_ (2, Rows.sslice (Referent.rtF (Referent.fInt Syntax.w32)) (Syntax.tyRef (Syntax.named 0) Syntax.imm (Syntax.tyInt Syntax.w32)) 0) (List._∷_ (3, Rows.sslice (Referent.rtF (Referent.fInt Syntax.w32)) (Syntax.tyRef (Syntax.named 1) Syntax.imm (Syntax.tyInt Syntax.w32)) 1) (List._∷_ (4, Relend.mslice-owed (Referent.rtF (Referent.fInt Syntax.w32)) (Syntax.tyRef (Syntax.named 2) Syntax.mut (Syntax.tyInt Syntax.w32)) 2 9 (Row.lease (κs .1 .1 .0) (qs .1 .1 .0))) (List._∷_ (5, Rows.sslice Cell.R (Syntax.tyRef (Syntax.named 3) Syntax.imm Cell.behind) 3) (List._∷_ (6, Rows.sslice Cell.R (Syntax.tyRef (Syntax.named 4) Syntax.imm Cell.behind) 4) (List._∷_ (7, Rows.sc-here (Row.sInt Syntax.w64)) (List._∷_ (8, Rows.sc-here (Row.sInt Syntax.w64)) (List._∷_ (9, Rows.any-gone (Syntax.tyEnum (List._∷_ 100 (List._∷_ 97 (List._∷_ 114 (List._∷_ 116 (List._∷_ 115 (List._∷_ 58 (List._∷_ 58 (List._∷_ 65 (List._∷_ 110 (List._∷_ 115 (List._∷_ 119 (List._∷_ 101 (List._∷_ 114 List.[]))))))))))))) (Syntax.ttcons (Syntax.tcons (Syntax.tyInt Syntax.w64) Syntax.tnil) (Syntax.ttcons Syntax.tnil (Syntax.ttcons (Syntax.tcons (Syntax.tyInt Syntax.w64) Syntax.tnil) (Syntax.ttcons (Syntax.tcons (Syntax.tyInt Syntax.w64) (Syntax.tcons (Syntax.tyInt Syntax.w64) Syntax.tnil)) (Syntax.ttcons Syntax.tnil (Syntax.ttcons Syntax.tnil (Syntax.ttcons Syntax.tnil (Syntax.ttcons (Syntax.tcons (Syntax.tyInt Syntax.w64) Syntax.tnil) (Syntax.ttcons (Syntax.tcons (Syntax.tyInt Syntax.w64) Syntax.tnil) (Syntax.ttcons (Syntax.tcons (Syntax.tyInt Syntax.w64) Syntax.tnil) (Syntax.ttcons (Syntax.tcons (Syntax.tyInt Syntax.w64) Syntax.tnil) (Syntax.ttcons (Syntax.tcons (Syntax.tyInt Syntax.w64) Syntax.tnil) (Syntax.ttcons (Syntax.tcons (Syntax.tyInt Syntax.w64) Syntax.tnil) (Syntax.ttcons (Syntax.tcons (Syntax.tyInt Syntax.w64) Syntax.tnil) (Syntax.ttcons Syntax.tnil (Syntax.ttcons Syntax.tnil (Syntax.ttcons (Syntax.tcons (Syntax.tyInt Syntax.w64) Syntax.tnil) Syntax.ttnil))))))))))))))))))) (List._∷_ (10, Rows.any-gone Syntax.tyBool) (List._∷_ (11, Rows.any-gone (Syntax.tyRef Syntax.erased Syntax.mut (Syntax.tyInt Syntax.w32))) (List._∷_ (12, Rows.any-gone (Syntax.tyStruct (List._∷_ 38 (List._∷_ 91 (List._∷_ 93 List.[]))) (Syntax.tcons (Syntax.tyRef Syntax.erased Syntax.mut (Syntax.tyInt Syntax.w32)) (Syntax.tcons (Syntax.tyInt Syntax.w64) Syntax.tnil)))) (List._∷_ (13, Rows.any-gone (Syntax.tyRef Syntax.erased Syntax.mut (Syntax.tyInt Syntax.w32))) (List._∷_ (14, Rows.any-gone (Syntax.tyStruct (List._∷_ 38 (List._∷_ 91 (List._∷_ 93 List.[]))) (Syntax.tcons (Syntax.tyRef Syntax.erased Syntax.mut (Syntax.tyInt Syntax.w32)) (Syntax.tcons (Syntax.tyInt Syntax.w64) Syntax.tnil)))) (List._∷_ (15, Rows.any-gone (Syntax.tyInt Syntax.w32)) List.[])))))))))))))))
 
-        abbrev g39 : List.List Row.Entry
-        g39 = List._∷_ (0, Rows.whole (Declared.row Answer.the-type)) (List._∷_ (1, Rows.any-gone (Syntax.tyStruct (List._∷_ 112 (List._∷_ 121 (List._∷_ 114 (List._∷_ 97 (List._∷_ 109 (List._∷_ 105 (List._∷_ 100 (List._∷_ 58 (List._∷_ 58 (List._∷_ 83 (List._∷_ 116 (List._∷_ 97 (List._∷_ 116 (List._∷_ 101 List.[])))))))))))))) (Syntax.tcons (Syntax.tyInt Syntax.w32) (Syntax.tcons (Syntax.tyInt Syntax.w32) (Syntax.tcons (Syntax.tyInt Syntax.w32) (Syntax.tcons (Syntax.tyInt Syntax.w32) (Syntax.tcons (Syntax.tyInt Syntax.w32) (Syntax.tcons (Syntax.tyArray (Syntax.tyInt Syntax.w32) 64) Syntax.tnil)))))))) (List._∷_ (2, Rows.sslice (Referent.rtF (Referent.fInt Syntax.w32)) (Syntax.tyRef (Syntax.named 0) Syntax.imm (Syntax.tyInt Syntax.w32)) 0) (List._∷_ (3, Rows.sslice (Referent.rtF (Referent.fInt Syntax.w32)) (Syntax.tyRef (Syntax.named 1) Syntax.imm (Syntax.tyInt Syntax.w32)) 1) (List._∷_ (4, Relend.mslice-owed (Referent.rtF (Referent.fInt Syntax.w32)) (Syntax.tyRef (Syntax.named 2) Syntax.mut (Syntax.tyInt Syntax.w32)) 2 8 (Row.lease (κs .1 .1 .0) (qs .1 .1 .0))) (List._∷_ (5, Rows.sslice Cell.R (Syntax.tyRef (Syntax.named 3) Syntax.imm Cell.behind) 3) (List._∷_ (6, Rows.sslice Cell.R (Syntax.tyRef (Syntax.named 4) Syntax.imm Cell.behind) 4) (List._∷_ (7, Rows.any-gone (Syntax.tyInt Syntax.w64)) (List._∷_ (8, Rows.sc-here (Row.sInt Syntax.w64)) (List._∷_ (9, Rows.any-gone (Syntax.tyEnum (List._∷_ 100 (List._∷_ 97 (List._∷_ 114 (List._∷_ 116 (List._∷_ 115 (List._∷_ 58 (List._∷_ 58 (List._∷_ 65 (List._∷_ 110 (List._∷_ 115 (List._∷_ 119 (List._∷_ 101 (List._∷_ 114 List.[]))))))))))))) (Syntax.ttcons (Syntax.tcons (Syntax.tyInt Syntax.w64) Syntax.tnil) (Syntax.ttcons Syntax.tnil (Syntax.ttcons (Syntax.tcons (Syntax.tyInt Syntax.w64) Syntax.tnil) (Syntax.ttcons (Syntax.tcons (Syntax.tyInt Syntax.w64) (Syntax.tcons (Syntax.tyInt Syntax.w64) Syntax.tnil)) (Syntax.ttcons Syntax.tnil (Syntax.ttcons Syntax.tnil (Syntax.ttcons Syntax.tnil (Syntax.ttcons (Syntax.tcons (Syntax.tyInt Syntax.w64) Syntax.tnil) (Syntax.ttcons (Syntax.tcons (Syntax.tyInt Syntax.w64) Syntax.tnil) (Syntax.ttcons (Syntax.tcons (Syntax.tyInt Syntax.w64) Syntax.tnil) (Syntax.ttcons (Syntax.tcons (Syntax.tyInt Syntax.w64) Syntax.tnil) (Syntax.ttcons (Syntax.tcons (Syntax.tyInt Syntax.w64) Syntax.tnil) (Syntax.ttcons (Syntax.tcons (Syntax.tyInt Syntax.w64) Syntax.tnil) (Syntax.ttcons (Syntax.tcons (Syntax.tyInt Syntax.w64) Syntax.tnil) (Syntax.ttcons Syntax.tnil (Syntax.ttcons Syntax.tnil (Syntax.ttcons (Syntax.tcons (Syntax.tyInt Syntax.w64) Syntax.tnil) Syntax.ttnil))))))))))))))))))) (List._∷_ (10, Rows.any-gone (Syntax.tyRef Syntax.erased Syntax.mut (Syntax.tyInt Syntax.w32))) (List._∷_ (11, Rows.any-gone (Syntax.tyStruct (List._∷_ 38 (List._∷_ 91 (List._∷_ 93 List.[]))) (Syntax.tcons (Syntax.tyRef Syntax.erased Syntax.mut (Syntax.tyInt Syntax.w32)) (Syntax.tcons (Syntax.tyInt Syntax.w64) Syntax.tnil)))) (List._∷_ (12, Rows.any-gone (Syntax.tyInt Syntax.w32)) (List._∷_ (13, Rows.any-gone Syntax.tyBool) (List._∷_ (14, Rows.any-gone Syntax.tyBool) (List._∷_ (15, Rows.any-gone (Syntax.tyRef Syntax.erased Syntax.imm (Syntax.tyInt Syntax.w32))) List.[])))))))))))))))
+        abbrev g41 : List.List Row.Entry
+        g41 = List._∷_ (0, Rows.whole (Declared.row Answer.the-type)) (List._∷_ (1, Rows.whole (Declared'.row State.the-type)) (List._∷_ (2, Rows.sslice (Referent.rtF (Referent.fInt Syntax.w32)) (Syntax.tyRef (Syntax.named 0) Syntax.imm (Syntax.tyInt Syntax.w32)) 0) (List._∷_ (3, Rows.sslice (Referent.rtF (Referent.fInt Syntax.w32)) (Syntax.tyRef (Syntax.named 1) Syntax.imm (Syntax.tyInt Syntax.w32)) 1) (List._∷_ (4, Relend.mslice-owed (Referent.rtF (Referent.fInt Syntax.w32)) (Syntax.tyRef (Syntax.named 2) Syntax.mut (Syntax.tyInt Syntax.w32)) 2 9 (Row.lease (κs .1 .1 .0) (qs .1 .1 .0))) (List._∷_ (5, Rows.sslice Cell.R (Syntax.tyRef (Syntax.named 3) Syntax.imm Cell.behind) 3) (List._∷_ (6, Rows.sslice Cell.R (Syntax.tyRef (Syntax.named 4) Syntax.imm Cell.behind) 4) (List._∷_ (7, Rows.sc-here (Row.sInt Syntax.w64)) (List._∷_ (8, Rows.sc-here (Row.sInt Syntax.w64)) (List._∷_ (9, Rows.any-gone (Syntax.tyEnum (List._∷_ 100 (List._∷_ 97 (List._∷_ 114 (List._∷_ 116 (List._∷_ 115 (List._∷_ 58 (List._∷_ 58 (List._∷_ 65 (List._∷_ 110 (List._∷_ 115 (List._∷_ 119 (List._∷_ 101 (List._∷_ 114 List.[]))))))))))))) (Syntax.ttcons (Syntax.tcons (Syntax.tyInt Syntax.w64) Syntax.tnil) (Syntax.ttcons Syntax.tnil (Syntax.ttcons (Syntax.tcons (Syntax.tyInt Syntax.w64) Syntax.tnil) (Syntax.ttcons (Syntax.tcons (Syntax.tyInt Syntax.w64) (Syntax.tcons (Syntax.tyInt Syntax.w64) Syntax.tnil)) (Syntax.ttcons Syntax.tnil (Syntax.ttcons Syntax.tnil (Syntax.ttcons Syntax.tnil (Syntax.ttcons (Syntax.tcons (Syntax.tyInt Syntax.w64) Syntax.tnil) (Syntax.ttcons (Syntax.tcons (Syntax.tyInt Syntax.w64) Syntax.tnil) (Syntax.ttcons (Syntax.tcons (Syntax.tyInt Syntax.w64) Syntax.tnil) (Syntax.ttcons (Syntax.tcons (Syntax.tyInt Syntax.w64) Syntax.tnil) (Syntax.ttcons (Syntax.tcons (Syntax.tyInt Syntax.w64) Syntax.tnil) (Syntax.ttcons (Syntax.tcons (Syntax.tyInt Syntax.w64) Syntax.tnil) (Syntax.ttcons (Syntax.tcons (Syntax.tyInt Syntax.w64) Syntax.tnil) (Syntax.ttcons Syntax.tnil (Syntax.ttcons Syntax.tnil (Syntax.ttcons (Syntax.tcons (Syntax.tyInt Syntax.w64) Syntax.tnil) Syntax.ttnil))))))))))))))))))) (List._∷_ (10, Rows.any-gone Syntax.tyBool) (List._∷_ (11, Rows.any-gone (Syntax.tyRef Syntax.erased Syntax.mut (Syntax.tyInt Syntax.w32))) (List._∷_ (12, Rows.any-gone (Syntax.tyStruct (List._∷_ 38 (List._∷_ 91 (List._∷_ 93 List.[]))) (Syntax.tcons (Syntax.tyRef Syntax.erased Syntax.mut (Syntax.tyInt Syntax.w32)) (Syntax.tcons (Syntax.tyInt Syntax.w64) Syntax.tnil)))) (List._∷_ (13, Rows.any-gone (Syntax.tyRef Syntax.erased Syntax.mut (Syntax.tyInt Syntax.w32))) (List._∷_ (14, Rows.any-gone (Syntax.tyStruct (List._∷_ 38 (List._∷_ 91 (List._∷_ 93 List.[]))) (Syntax.tcons (Syntax.tyRef Syntax.erased Syntax.mut (Syntax.tyInt Syntax.w32)) (Syntax.tcons (Syntax.tyInt Syntax.w64) Syntax.tnil)))) (List._∷_ (15, Rows.any-gone (Syntax.tyInt Syntax.w32)) List.[])))))))))))))))
 
-        abbrev g40 : List.List Row.Entry
-        g40 = List._∷_ (0, Rows.whole (Declared.row Answer.the-type)) (List._∷_ (1, Rows.any-gone (Syntax.tyStruct (List._∷_ 112 (List._∷_ 121 (List._∷_ 114 (List._∷_ 97 (List._∷_ 109 (List._∷_ 105 (List._∷_ 100 (List._∷_ 58 (List._∷_ 58 (List._∷_ 83 (List._∷_ 116 (List._∷_ 97 (List._∷_ 116 (List._∷_ 101 List.[])))))))))))))) (Syntax.tcons (Syntax.tyInt Syntax.w32) (Syntax.tcons (Syntax.tyInt Syntax.w32) (Syntax.tcons (Syntax.tyInt Syntax.w32) (Syntax.tcons (Syntax.tyInt Syntax.w32) (Syntax.tcons (Syntax.tyInt Syntax.w32) (Syntax.tcons (Syntax.tyArray (Syntax.tyInt Syntax.w32) 64) Syntax.tnil)))))))) (List._∷_ (2, Rows.sslice (Referent.rtF (Referent.fInt Syntax.w32)) (Syntax.tyRef (Syntax.named 0) Syntax.imm (Syntax.tyInt Syntax.w32)) 0) (List._∷_ (3, Rows.sslice (Referent.rtF (Referent.fInt Syntax.w32)) (Syntax.tyRef (Syntax.named 1) Syntax.imm (Syntax.tyInt Syntax.w32)) 1) (List._∷_ (4, Relend.mslice-owed (Referent.rtF (Referent.fInt Syntax.w32)) (Syntax.tyRef (Syntax.named 2) Syntax.mut (Syntax.tyInt Syntax.w32)) 2 8 (Row.lease (κs .1 .1 .0) (qs .1 .1 .0))) (List._∷_ (5, Rows.sslice Cell.R (Syntax.tyRef (Syntax.named 3) Syntax.imm Cell.behind) 3) (List._∷_ (6, Rows.sslice Cell.R (Syntax.tyRef (Syntax.named 4) Syntax.imm Cell.behind) 4) (List._∷_ (7, Rows.any-gone (Syntax.tyInt Syntax.w64)) (List._∷_ (8, Rows.any-gone (Syntax.tyInt Syntax.w64)) (List._∷_ (9, Rows.any-gone (Syntax.tyEnum (List._∷_ 100 (List._∷_ 97 (List._∷_ 114 (List._∷_ 116 (List._∷_ 115 (List._∷_ 58 (List._∷_ 58 (List._∷_ 65 (List._∷_ 110 (List._∷_ 115 (List._∷_ 119 (List._∷_ 101 (List._∷_ 114 List.[]))))))))))))) (Syntax.ttcons (Syntax.tcons (Syntax.tyInt Syntax.w64) Syntax.tnil) (Syntax.ttcons Syntax.tnil (Syntax.ttcons (Syntax.tcons (Syntax.tyInt Syntax.w64) Syntax.tnil) (Syntax.ttcons (Syntax.tcons (Syntax.tyInt Syntax.w64) (Syntax.tcons (Syntax.tyInt Syntax.w64) Syntax.tnil)) (Syntax.ttcons Syntax.tnil (Syntax.ttcons Syntax.tnil (Syntax.ttcons Syntax.tnil (Syntax.ttcons (Syntax.tcons (Syntax.tyInt Syntax.w64) Syntax.tnil) (Syntax.ttcons (Syntax.tcons (Syntax.tyInt Syntax.w64) Syntax.tnil) (Syntax.ttcons (Syntax.tcons (Syntax.tyInt Syntax.w64) Syntax.tnil) (Syntax.ttcons (Syntax.tcons (Syntax.tyInt Syntax.w64) Syntax.tnil) (Syntax.ttcons (Syntax.tcons (Syntax.tyInt Syntax.w64) Syntax.tnil) (Syntax.ttcons (Syntax.tcons (Syntax.tyInt Syntax.w64) Syntax.tnil) (Syntax.ttcons (Syntax.tcons (Syntax.tyInt Syntax.w64) Syntax.tnil) (Syntax.ttcons Syntax.tnil (Syntax.ttcons Syntax.tnil (Syntax.ttcons (Syntax.tcons (Syntax.tyInt Syntax.w64) Syntax.tnil) Syntax.ttnil))))))))))))))))))) (List._∷_ (10, Rows.any-gone (Syntax.tyRef Syntax.erased Syntax.mut (Syntax.tyInt Syntax.w32))) (List._∷_ (11, Rows.any-gone (Syntax.tyStruct (List._∷_ 38 (List._∷_ 91 (List._∷_ 93 List.[]))) (Syntax.tcons (Syntax.tyRef Syntax.erased Syntax.mut (Syntax.tyInt Syntax.w32)) (Syntax.tcons (Syntax.tyInt Syntax.w64) Syntax.tnil)))) (List._∷_ (12, Rows.any-gone (Syntax.tyInt Syntax.w32)) (List._∷_ (13, Rows.any-gone Syntax.tyBool) (List._∷_ (14, Rows.any-gone Syntax.tyBool) (List._∷_ (15, Rows.any-gone (Syntax.tyRef Syntax.erased Syntax.imm (Syntax.tyInt Syntax.w32))) List.[])))))))))))))))
+        abbrev g43 : List.List Row.Entry
+        g43 = List._∷_ (0, Rows.whole (Declared.row Answer.the-type)) (List._∷_ (1, Rows.any-gone (Syntax.tyStruct (List._∷_ 112 (List._∷_ 121 (List._∷_ 114 (List._∷_ 97 (List._∷_ 109 (List._∷_ 105 (List._∷_ 100 (List._∷_ 58 (List._∷_ 58 (List._∷_ 83 (List._∷_ 116 (List._∷_ 97 (List._∷_ 116 (List._∷_ 101 List.[])))))))))))))) (Syntax.tcons (Syntax.tyInt Syntax.w32) (Syntax.tcons (Syntax.tyInt Syntax.w32) (Syntax.tcons (Syntax.tyInt Syntax.w32) (Syntax.tcons (Syntax.tyInt Syntax.w32) (Syntax.tcons (Syntax.tyInt Syntax.w32) (Syntax.tcons (Syntax.tyArray (Syntax.tyInt Syntax.w32) 64) Syntax.tnil)))))))) (List._∷_ (2, Rows.sslice (Referent.rtF (Referent.fInt Syntax.w32)) (Syntax.tyRef (Syntax.named 0) Syntax.imm (Syntax.tyInt Syntax.w32)) 0) (List._∷_ (3, Rows.sslice (Referent.rtF (Referent.fInt Syntax.w32)) (Syntax.tyRef (Syntax.named 1) Syntax.imm (Syntax.tyInt Syntax.w32)) 1) (List._∷_ (4, Relend.mslice-owed (Referent.rtF (Referent.fInt Syntax.w32)) (Syntax.tyRef (Syntax.named 2) Syntax.mut (Syntax.tyInt Syntax.w32)) 2 9 (Row.lease (κs .1 .1 .0) (qs .1 .1 .0))) (List._∷_ (5, Rows.sslice Cell.R (Syntax.tyRef (Syntax.named 3) Syntax.imm Cell.behind) 3) (List._∷_ (6, Rows.sslice Cell.R (Syntax.tyRef (Syntax.named 4) Syntax.imm Cell.behind) 4) (List._∷_ (7, Rows.sc-here (Row.sInt Syntax.w64)) (List._∷_ (8, Rows.sc-here (Row.sInt Syntax.w64)) (List._∷_ (9, Rows.any-gone (Syntax.tyEnum (List._∷_ 100 (List._∷_ 97 (List._∷_ 114 (List._∷_ 116 (List._∷_ 115 (List._∷_ 58 (List._∷_ 58 (List._∷_ 65 (List._∷_ 110 (List._∷_ 115 (List._∷_ 119 (List._∷_ 101 (List._∷_ 114 List.[]))))))))))))) (Syntax.ttcons (Syntax.tcons (Syntax.tyInt Syntax.w64) Syntax.tnil) (Syntax.ttcons Syntax.tnil (Syntax.ttcons (Syntax.tcons (Syntax.tyInt Syntax.w64) Syntax.tnil) (Syntax.ttcons (Syntax.tcons (Syntax.tyInt Syntax.w64) (Syntax.tcons (Syntax.tyInt Syntax.w64) Syntax.tnil)) (Syntax.ttcons Syntax.tnil (Syntax.ttcons Syntax.tnil (Syntax.ttcons Syntax.tnil (Syntax.ttcons (Syntax.tcons (Syntax.tyInt Syntax.w64) Syntax.tnil) (Syntax.ttcons (Syntax.tcons (Syntax.tyInt Syntax.w64) Syntax.tnil) (Syntax.ttcons (Syntax.tcons (Syntax.tyInt Syntax.w64) Syntax.tnil) (Syntax.ttcons (Syntax.tcons (Syntax.tyInt Syntax.w64) Syntax.tnil) (Syntax.ttcons (Syntax.tcons (Syntax.tyInt Syntax.w64) Syntax.tnil) (Syntax.ttcons (Syntax.tcons (Syntax.tyInt Syntax.w64) Syntax.tnil) (Syntax.ttcons (Syntax.tcons (Syntax.tyInt Syntax.w64) Syntax.tnil) (Syntax.ttcons Syntax.tnil (Syntax.ttcons Syntax.tnil (Syntax.ttcons (Syntax.tcons (Syntax.tyInt Syntax.w64) Syntax.tnil) Syntax.ttnil))))))))))))))))))) (List._∷_ (10, Rows.any-gone Syntax.tyBool) (List._∷_ (11, Rows.any-gone (Syntax.tyRef Syntax.erased Syntax.mut (Syntax.tyInt Syntax.w32))) (List._∷_ (12, Rows.any-gone (Syntax.tyStruct (List._∷_ 38 (List._∷_ 91 (List._∷_ 93 List.[]))) (Syntax.tcons (Syntax.tyRef Syntax.erased Syntax.mut (Syntax.tyInt Syntax.w32)) (Syntax.tcons (Syntax.tyInt Syntax.w64) Syntax.tnil)))) (List._∷_ (13, Rows.any-gone (Syntax.tyRef Syntax.erased Syntax.mut (Syntax.tyInt Syntax.w32))) (List._∷_ (14, Rows.any-gone (Syntax.tyStruct (List._∷_ 38 (List._∷_ 91 (List._∷_ 93 List.[]))) (Syntax.tcons (Syntax.tyRef Syntax.erased Syntax.mut (Syntax.tyInt Syntax.w32)) (Syntax.tcons (Syntax.tyInt Syntax.w64) Syntax.tnil)))) (List._∷_ (15, Rows.any-gone (Syntax.tyInt Syntax.w32)) List.[])))))))))))))))
+
+        abbrev g44 : List.List Row.Entry
+        g44 = List._∷_ (0, Rows.whole (Declared.row Answer.the-type)) (List._∷_ (1, Rows.any-gone (Syntax.tyStruct (List._∷_ 112 (List._∷_ 121 (List._∷_ 114 (List._∷_ 97 (List._∷_ 109 (List._∷_ 105 (List._∷_ 100 (List._∷_ 58 (List._∷_ 58 (List._∷_ 83 (List._∷_ 116 (List._∷_ 97 (List._∷_ 116 (List._∷_ 101 List.[])))))))))))))) (Syntax.tcons (Syntax.tyInt Syntax.w32) (Syntax.tcons (Syntax.tyInt Syntax.w32) (Syntax.tcons (Syntax.tyInt Syntax.w32) (Syntax.tcons (Syntax.tyInt Syntax.w32) (Syntax.tcons (Syntax.tyInt Syntax.w32) (Syntax.tcons (Syntax.tyArray (Syntax.tyInt Syntax.w32) 64) Syntax.tnil)))))))) (List._∷_ (2, Rows.sslice (Referent.rtF (Referent.fInt Syntax.w32)) (Syntax.tyRef (Syntax.named 0) Syntax.imm (Syntax.tyInt Syntax.w32)) 0) (List._∷_ (3, Rows.sslice (Referent.rtF (Referent.fInt Syntax.w32)) (Syntax.tyRef (Syntax.named 1) Syntax.imm (Syntax.tyInt Syntax.w32)) 1) (List._∷_ (4, Relend.mslice-owed (Referent.rtF (Referent.fInt Syntax.w32)) (Syntax.tyRef (Syntax.named 2) Syntax.mut (Syntax.tyInt Syntax.w32)) 2 9 (Row.lease (κs .1 .1 .0) (qs .1 .1 .0))) (List._∷_ (5, Rows.sslice Cell.R (Syntax.tyRef (Syntax.named 3) Syntax.imm Cell.behind) 3) (List._∷_ (6, Rows.sslice Cell.R (Syntax.tyRef (Syntax.named 4) Syntax.imm Cell.behind) 4) (List._∷_ (7, Rows.any-gone (Syntax.tyInt Syntax.w64)) (List._∷_ (8, Rows.sc-here (Row.sInt Syntax.w64)) (List._∷_ (9, Rows.any-gone (Syntax.tyEnum (List._∷_ 100 (List._∷_ 97 (List._∷_ 114 (List._∷_ 116 (List._∷_ 115 (List._∷_ 58 (List._∷_ 58 (List._∷_ 65 (List._∷_ 110 (List._∷_ 115 (List._∷_ 119 (List._∷_ 101 (List._∷_ 114 List.[]))))))))))))) (Syntax.ttcons (Syntax.tcons (Syntax.tyInt Syntax.w64) Syntax.tnil) (Syntax.ttcons Syntax.tnil (Syntax.ttcons (Syntax.tcons (Syntax.tyInt Syntax.w64) Syntax.tnil) (Syntax.ttcons (Syntax.tcons (Syntax.tyInt Syntax.w64) (Syntax.tcons (Syntax.tyInt Syntax.w64) Syntax.tnil)) (Syntax.ttcons Syntax.tnil (Syntax.ttcons Syntax.tnil (Syntax.ttcons Syntax.tnil (Syntax.ttcons (Syntax.tcons (Syntax.tyInt Syntax.w64) Syntax.tnil) (Syntax.ttcons (Syntax.tcons (Syntax.tyInt Syntax.w64) Syntax.tnil) (Syntax.ttcons (Syntax.tcons (Syntax.tyInt Syntax.w64) Syntax.tnil) (Syntax.ttcons (Syntax.tcons (Syntax.tyInt Syntax.w64) Syntax.tnil) (Syntax.ttcons (Syntax.tcons (Syntax.tyInt Syntax.w64) Syntax.tnil) (Syntax.ttcons (Syntax.tcons (Syntax.tyInt Syntax.w64) Syntax.tnil) (Syntax.ttcons (Syntax.tcons (Syntax.tyInt Syntax.w64) Syntax.tnil) (Syntax.ttcons Syntax.tnil (Syntax.ttcons Syntax.tnil (Syntax.ttcons (Syntax.tcons (Syntax.tyInt Syntax.w64) Syntax.tnil) Syntax.ttnil))))))))))))))))))) (List._∷_ (10, Rows.any-gone Syntax.tyBool) (List._∷_ (11, Rows.any-gone (Syntax.tyRef Syntax.erased Syntax.mut (Syntax.tyInt Syntax.w32))) (List._∷_ (12, Rows.any-gone (Syntax.tyStruct (List._∷_ 38 (List._∷_ 91 (List._∷_ 93 List.[]))) (Syntax.tcons (Syntax.tyRef Syntax.erased Syntax.mut (Syntax.tyInt Syntax.w32)) (Syntax.tcons (Syntax.tyInt Syntax.w64) Syntax.tnil)))) (List._∷_ (13, Rows.any-gone (Syntax.tyRef Syntax.erased Syntax.mut (Syntax.tyInt Syntax.w32))) (List._∷_ (14, Rows.any-gone (Syntax.tyStruct (List._∷_ 38 (List._∷_ 91 (List._∷_ 93 List.[]))) (Syntax.tcons (Syntax.tyRef Syntax.erased Syntax.mut (Syntax.tyInt Syntax.w32)) (Syntax.tcons (Syntax.tyInt Syntax.w64) Syntax.tnil)))) (List._∷_ (15, Rows.any-gone (Syntax.tyInt Syntax.w32)) List.[])))))))))))))))
+
+        abbrev g45 : List.List Row.Entry
+        g45 = List._∷_ (0, Rows.whole (Declared.row Answer.the-type)) (List._∷_ (1, Rows.any-gone (Syntax.tyStruct (List._∷_ 112 (List._∷_ 121 (List._∷_ 114 (List._∷_ 97 (List._∷_ 109 (List._∷_ 105 (List._∷_ 100 (List._∷_ 58 (List._∷_ 58 (List._∷_ 83 (List._∷_ 116 (List._∷_ 97 (List._∷_ 116 (List._∷_ 101 List.[])))))))))))))) (Syntax.tcons (Syntax.tyInt Syntax.w32) (Syntax.tcons (Syntax.tyInt Syntax.w32) (Syntax.tcons (Syntax.tyInt Syntax.w32) (Syntax.tcons (Syntax.tyInt Syntax.w32) (Syntax.tcons (Syntax.tyInt Syntax.w32) (Syntax.tcons (Syntax.tyArray (Syntax.tyInt Syntax.w32) 64) Syntax.tnil)))))))) (List._∷_ (2, Rows.sslice (Referent.rtF (Referent.fInt Syntax.w32)) (Syntax.tyRef (Syntax.named 0) Syntax.imm (Syntax.tyInt Syntax.w32)) 0) (List._∷_ (3, Rows.sslice (Referent.rtF (Referent.fInt Syntax.w32)) (Syntax.tyRef (Syntax.named 1) Syntax.imm (Syntax.tyInt Syntax.w32)) 1) (List._∷_ (4, Relend.mslice-owed (Referent.rtF (Referent.fInt Syntax.w32)) (Syntax.tyRef (Syntax.named 2) Syntax.mut (Syntax.tyInt Syntax.w32)) 2 9 (Row.lease (κs .1 .1 .0) (qs .1 .1 .0))) (List._∷_ (5, Rows.sslice Cell.R (Syntax.tyRef (Syntax.named 3) Syntax.imm Cell.behind) 3) (List._∷_ (6, Rows.sslice Cell.R (Syntax.tyRef (Syntax.named 4) Syntax.imm Cell.behind) 4) (List._∷_ (7, Rows.any-gone (Syntax.tyInt Syntax.w64)) (List._∷_ (8, Rows.any-gone (Syntax.tyInt Syntax.w64)) (List._∷_ (9, Rows.any-gone (Syntax.tyEnum (List._∷_ 100 (List._∷_ 97 (List._∷_ 114 (List._∷_ 116 (List._∷_ 115 (List._∷_ 58 (List._∷_ 58 (List._∷_ 65 (List._∷_ 110 (List._∷_ 115 (List._∷_ 119 (List._∷_ 101 (List._∷_ 114 List.[]))))))))))))) (Syntax.ttcons (Syntax.tcons (Syntax.tyInt Syntax.w64) Syntax.tnil) (Syntax.ttcons Syntax.tnil (Syntax.ttcons (Syntax.tcons (Syntax.tyInt Syntax.w64) Syntax.tnil) (Syntax.ttcons (Syntax.tcons (Syntax.tyInt Syntax.w64) (Syntax.tcons (Syntax.tyInt Syntax.w64) Syntax.tnil)) (Syntax.ttcons Syntax.tnil (Syntax.ttcons Syntax.tnil (Syntax.ttcons Syntax.tnil (Syntax.ttcons (Syntax.tcons (Syntax.tyInt Syntax.w64) Syntax.tnil) (Syntax.ttcons (Syntax.tcons (Syntax.tyInt Syntax.w64) Syntax.tnil) (Syntax.ttcons (Syntax.tcons (Syntax.tyInt Syntax.w64) Syntax.tnil) (Syntax.ttcons (Syntax.tcons (Syntax.tyInt Syntax.w64) Syntax.tnil) (Syntax.ttcons (Syntax.tcons (Syntax.tyInt Syntax.w64) Syntax.tnil) (Syntax.ttcons (Syntax.tcons (Syntax.tyInt Syntax.w64) Syntax.tnil) (Syntax.ttcons (Syntax.tcons (Syntax.tyInt Syntax.w64) Syntax.tnil) (Syntax.ttcons Syntax.tnil (Syntax.ttcons Syntax.tnil (Syntax.ttcons (Syntax.tcons (Syntax.tyInt Syntax.w64) Syntax.tnil) Syntax.ttnil))))))))))))))))))) (List._∷_ (10, Rows.any-gone Syntax.tyBool) (List._∷_ (11, Rows.any-gone (Syntax.tyRef Syntax.erased Syntax.mut (Syntax.tyInt Syntax.w32))) (List._∷_ (12, Rows.any-gone (Syntax.tyStruct (List._∷_ 38 (List._∷_ 91 (List._∷_ 93 List.[]))) (Syntax.tcons (Syntax.tyRef Syntax.erased Syntax.mut (Syntax.tyInt Syntax.w32)) (Syntax.tcons (Syntax.tyInt Syntax.w64) Syntax.tnil)))) (List._∷_ (13, Rows.any-gone (Syntax.tyRef Syntax.erased Syntax.mut (Syntax.tyInt Syntax.w32))) (List._∷_ (14, Rows.any-gone (Syntax.tyStruct (List._∷_ 38 (List._∷_ 91 (List._∷_ 93 List.[]))) (Syntax.tcons (Syntax.tyRef Syntax.erased Syntax.mut (Syntax.tyInt Syntax.w32)) (Syntax.tcons (Syntax.tyInt Syntax.w64) Syntax.tnil)))) (List._∷_ (15, Rows.any-gone (Syntax.tyInt Syntax.w32)) List.[])))))))))))))))
 
         abbrev G0 : Row.Cx
-        G0 = record { locals = List._++_ t0 t1; slots = List._∷_ (Row.lease (κs .0) (qs .0)) (List._∷_ (Row.lease (κs .1 .0) (qs .1 .0)) (List._∷_ (Row.lease (κs .1 .1 .0) (qs .1 .1 .0)) (List._∷_ (Row.lease (κs .1 .1 .1 .0) (qs .1 .1 .1 .0)) (List._∷_ (Row.lease (κs .1 .1 .1 .1 .0) (qs .1 .1 .1 .1 .0)) (List._∷_ Row.off (List._∷_ Row.off (List._∷_ Row.off (List._∷_ Row.off List.[])))))))) }
+        G0 = record { locals = List._++_ t0 t1; slots = List._∷_ (Row.lease (κs .0) (qs .0)) (List._∷_ (Row.lease (κs .1 .0) (qs .1 .0)) (List._∷_ (Row.lease (κs .1 .1 .0) (qs .1 .1 .0)) (List._∷_ (Row.lease (κs .1 .1 .1 .0) (qs .1 .1 .1 .0)) (List._∷_ (Row.lease (κs .1 .1 .1 .1 .0) (qs .1 .1 .1 .1 .0)) (List._∷_ Row.off (List._∷_ Row.off (List._∷_ Row.off (List._∷_ Row.off (List._∷_ Row.off List.[]))))))))) }
 
         abbrev G1 : Row.Cx
-        G1 = record { locals = List._++_ t2 t1; slots = List._∷_ (Row.lease (κs .0) (qs .0)) (List._∷_ (Row.lease (κs .1 .0) (qs .1 .0)) (List._∷_ (Row.lease (κs .1 .1 .0) (qs .1 .1 .0)) (List._∷_ (Row.lease (κs .1 .1 .1 .0) (qs .1 .1 .1 .0)) (List._∷_ (Row.lease (κs .1 .1 .1 .1 .0) (qs .1 .1 .1 .1 .0)) (List._∷_ Row.off (List._∷_ Row.off (List._∷_ Row.off (List._∷_ Row.off List.[])))))))) }
+        G1 = record { locals = List._++_ t2 t1; slots = List._∷_ (Row.lease (κs .0) (qs .0)) (List._∷_ (Row.lease (κs .1 .0) (qs .1 .0)) (List._∷_ (Row.lease (κs .1 .1 .0) (qs .1 .1 .0)) (List._∷_ (Row.lease (κs .1 .1 .1 .0) (qs .1 .1 .1 .0)) (List._∷_ (Row.lease (κs .1 .1 .1 .1 .0) (qs .1 .1 .1 .1 .0)) (List._∷_ Row.off (List._∷_ Row.off (List._∷_ Row.off (List._∷_ Row.off (List._∷_ Row.off List.[]))))))))) }
 
         abbrev G2 : Row.Cx
-        G2 = record { locals = List._++_ t0 t1; slots = List._∷_ (Row.lease (κs .0) (qs .0)) (List._∷_ (Row.lease (κs .1 .0) (qs .1 .0)) (List._∷_ (Row.lease (κs .1 .1 .0) (qs .1 .1 .0)) (List._∷_ (Row.lease (κs .1 .1 .1 .0) (qs .1 .1 .1 .0)) (List._∷_ (Row.lease (κs .1 .1 .1 .1 .0) (qs .1 .1 .1 .1 .0)) (List._∷_ Row.off (List._∷_ Row.off (List._∷_ Row.off (List._∷_ Row.off List.[])))))))) }
+        G2 = record { locals = List._++_ t0 t1; slots = List._∷_ (Row.lease (κs .0) (qs .0)) (List._∷_ (Row.lease (κs .1 .0) (qs .1 .0)) (List._∷_ (Row.lease (κs .1 .1 .0) (qs .1 .1 .0)) (List._∷_ (Row.lease (κs .1 .1 .1 .0) (qs .1 .1 .1 .0)) (List._∷_ (Row.lease (κs .1 .1 .1 .1 .0) (qs .1 .1 .1 .1 .0)) (List._∷_ Row.off (List._∷_ Row.off (List._∷_ Row.off (List._∷_ Row.off (List._∷_ Row.off List.[]))))))))) }
 
         abbrev G3 : Row.Cx
-        G3 = record { locals = List._++_ t0 t1; slots = List._∷_ (Row.lease (κs .0) (qs .0)) (List._∷_ (Row.lease (κs .1 .0) (qs .1 .0)) (List._∷_ (Row.lease (κs .1 .1 .0) (qs .1 .1 .0)) (List._∷_ (Row.lease (κs .1 .1 .1 .0) (qs .1 .1 .1 .0)) (List._∷_ (Row.lease (κs .1 .1 .1 .1 .0) (qs .1 .1 .1 .1 .0)) (List._∷_ Row.off (List._∷_ Row.off (List._∷_ Row.off (List._∷_ Row.off List.[])))))))) }
+        G3 = record { locals = List._++_ t0 t1; slots = List._∷_ (Row.lease (κs .0) (qs .0)) (List._∷_ (Row.lease (κs .1 .0) (qs .1 .0)) (List._∷_ (Row.lease (κs .1 .1 .0) (qs .1 .1 .0)) (List._∷_ (Row.lease (κs .1 .1 .1 .0) (qs .1 .1 .1 .0)) (List._∷_ (Row.lease (κs .1 .1 .1 .1 .0) (qs .1 .1 .1 .1 .0)) (List._∷_ Row.off (List._∷_ Row.off (List._∷_ Row.off (List._∷_ Row.off (List._∷_ Row.off List.[]))))))))) }
 
         abbrev G4 : Row.Cx
-        G4 = record { locals = List._++_ t0 t1; slots = List._∷_ (Row.lease (κs .0) (qs .0)) (List._∷_ (Row.lease (κs .1 .0) (qs .1 .0)) (List._∷_ (Row.lease (κs .1 .1 .0) (qs .1 .1 .0)) (List._∷_ (Row.lease (κs .1 .1 .1 .0) (qs .1 .1 .1 .0)) (List._∷_ (Row.lease (κs .1 .1 .1 .1 .0) (qs .1 .1 .1 .1 .0)) (List._∷_ Row.off (List._∷_ Row.off (List._∷_ Row.off (List._∷_ Row.off List.[])))))))) }
+        G4 = record { locals = List._++_ t0 t1; slots = List._∷_ (Row.lease (κs .0) (qs .0)) (List._∷_ (Row.lease (κs .1 .0) (qs .1 .0)) (List._∷_ (Row.lease (κs .1 .1 .0) (qs .1 .1 .0)) (List._∷_ (Row.lease (κs .1 .1 .1 .0) (qs .1 .1 .1 .0)) (List._∷_ (Row.lease (κs .1 .1 .1 .1 .0) (qs .1 .1 .1 .1 .0)) (List._∷_ Row.off (List._∷_ Row.off (List._∷_ Row.off (List._∷_ Row.off (List._∷_ Row.off List.[]))))))))) }
 
         abbrev G5 : Row.Cx
-        G5 = record { locals = List._++_ t3 t1; slots = List._∷_ (Row.lease (κs .0) (qs .0)) (List._∷_ (Row.lease (κs .1 .0) (qs .1 .0)) (List._∷_ (Row.lease (κs .1 .1 .0) (qs .1 .1 .0)) (List._∷_ (Row.lease (κs .1 .1 .1 .0) (qs .1 .1 .1 .0)) (List._∷_ (Row.lease (κs .1 .1 .1 .1 .0) (qs .1 .1 .1 .1 .0)) (List._∷_ Row.off (List._∷_ Row.off (List._∷_ Row.off (List._∷_ Row.off List.[])))))))) }
+        G5 = record { locals = List._++_ t0 t1; slots = List._∷_ (Row.lease (κs .0) (qs .0)) (List._∷_ (Row.lease (κs .1 .0) (qs .1 .0)) (List._∷_ (Row.lease (κs .1 .1 .0) (qs .1 .1 .0)) (List._∷_ (Row.lease (κs .1 .1 .1 .0) (qs .1 .1 .1 .0)) (List._∷_ (Row.lease (κs .1 .1 .1 .1 .0) (qs .1 .1 .1 .1 .0)) (List._∷_ Row.off (List._∷_ Row.off (List._∷_ Row.off (List._∷_ Row.off (List._∷_ Row.off List.[]))))))))) }
 
         abbrev G6 : Row.Cx
-        G6 = record { locals = List._++_ t4 t1; slots = List._∷_ (Row.lease (κs .0) (qs .0)) (List._∷_ (Row.lease (κs .1 .0) (qs .1 .0)) (List._∷_ (Row.lease (κs .1 .1 .0) (qs .1 .1 .0)) (List._∷_ (Row.lease (κs .1 .1 .1 .0) (qs .1 .1 .1 .0)) (List._∷_ (Row.lease (κs .1 .1 .1 .1 .0) (qs .1 .1 .1 .1 .0)) (List._∷_ Row.off (List._∷_ Row.off (List._∷_ Row.off (List._∷_ Row.off List.[])))))))) }
+        G6 = record { locals = List._++_ t3 t1; slots = List._∷_ (Row.lease (κs .0) (qs .0)) (List._∷_ (Row.lease (κs .1 .0) (qs .1 .0)) (List._∷_ (Row.lease (κs .1 .1 .0) (qs .1 .1 .0)) (List._∷_ (Row.lease (κs .1 .1 .1 .0) (qs .1 .1 .1 .0)) (List._∷_ (Row.lease (κs .1 .1 .1 .1 .0) (qs .1 .1 .1 .1 .0)) (List._∷_ Row.off (List._∷_ Row.off (List._∷_ Row.off (List._∷_ Row.off (List._∷_ Row.off List.[]))))))))) }
 
         abbrev G7 : Row.Cx
-        G7 = record { locals = List._++_ t4 t1; slots = List._∷_ (Row.lease (κs .0) (qs .0)) (List._∷_ (Row.lease (κs .1 .0) (qs .1 .0)) (List._∷_ (Row.lease (κs .1 .1 .0) (qs .1 .1 .0)) (List._∷_ (Row.lease (κs .1 .1 .1 .0) (qs .1 .1 .1 .0)) (List._∷_ (Row.lease (κs .1 .1 .1 .1 .0) (qs .1 .1 .1 .1 .0)) (List._∷_ Row.alive (List._∷_ Row.off (List._∷_ Row.off (List._∷_ Row.off List.[])))))))) }
+        G7 = record { locals = List._++_ t0 t1; slots = List._∷_ (Row.lease (κs .0) (qs .0)) (List._∷_ (Row.lease (κs .1 .0) (qs .1 .0)) (List._∷_ (Row.lease (κs .1 .1 .0) (qs .1 .1 .0)) (List._∷_ (Row.lease (κs .1 .1 .1 .0) (qs .1 .1 .1 .0)) (List._∷_ (Row.lease (κs .1 .1 .1 .1 .0) (qs .1 .1 .1 .1 .0)) (List._∷_ Row.off (List._∷_ Row.off (List._∷_ Row.off (List._∷_ Row.off (List._∷_ Row.off List.[]))))))))) }
 
         abbrev G8 : Row.Cx
-        G8 = record { locals = List._++_ g5 t1; slots = List._∷_ (Row.lease (κs .0) (qs .0)) (List._∷_ (Row.lease (κs .1 .0) (qs .1 .0)) (List._∷_ Row.off (List._∷_ (Row.lease (κs .1 .1 .1 .0) (qs .1 .1 .1 .0)) (List._∷_ (Row.lease (κs .1 .1 .1 .1 .0) (qs .1 .1 .1 .1 .0)) (List._∷_ Row.alive (List._∷_ Row.off (List._∷_ Row.off (List._∷_ Row.off List.[])))))))) }
+        G8 = record { locals = List._++_ t0 t1; slots = List._∷_ (Row.lease (κs .0) (qs .0)) (List._∷_ (Row.lease (κs .1 .0) (qs .1 .0)) (List._∷_ (Row.lease (κs .1 .1 .0) (qs .1 .1 .0)) (List._∷_ (Row.lease (κs .1 .1 .1 .0) (qs .1 .1 .1 .0)) (List._∷_ (Row.lease (κs .1 .1 .1 .1 .0) (qs .1 .1 .1 .1 .0)) (List._∷_ Row.off (List._∷_ Row.off (List._∷_ Row.off (List._∷_ Row.off (List._∷_ Row.off List.[]))))))))) }
 
         abbrev G9 : Row.Cx
-        G9 = record { locals = List._++_ g6 t1; slots = List._∷_ (Row.lease (κs .0) (qs .0)) (List._∷_ (Row.lease (κs .1 .0) (qs .1 .0)) (List._∷_ Row.off (List._∷_ (Row.lease (κs .1 .1 .1 .0) (qs .1 .1 .1 .0)) (List._∷_ (Row.lease (κs .1 .1 .1 .1 .0) (qs .1 .1 .1 .1 .0)) (List._∷_ Row.alive (List._∷_ Row.off (List._∷_ Row.off (List._∷_ Row.off List.[])))))))) }
+        G9 = record { locals = List._++_ t0 t1; slots = List._∷_ (Row.lease (κs .0) (qs .0)) (List._∷_ (Row.lease (κs .1 .0) (qs .1 .0)) (List._∷_ (Row.lease (κs .1 .1 .0) (qs .1 .1 .0)) (List._∷_ (Row.lease (κs .1 .1 .1 .0) (qs .1 .1 .1 .0)) (List._∷_ (Row.lease (κs .1 .1 .1 .1 .0) (qs .1 .1 .1 .1 .0)) (List._∷_ Row.alive (List._∷_ Row.off (List._∷_ Row.off (List._∷_ Row.off (List._∷_ Row.off List.[]))))))))) }
 
         abbrev G10 : Row.Cx
-        G10 = record { locals = List._++_ g7 t1; slots = List._∷_ (Row.lease (κs .0) (qs .0)) (List._∷_ (Row.lease (κs .1 .0) (qs .1 .0)) (List._∷_ Row.off (List._∷_ (Row.lease (κs .1 .1 .1 .0) (qs .1 .1 .1 .0)) (List._∷_ (Row.lease (κs .1 .1 .1 .1 .0) (qs .1 .1 .1 .1 .0)) (List._∷_ Row.alive (List._∷_ Row.off (List._∷_ Row.off (List._∷_ Row.off List.[])))))))) }
+        G10 = record { locals = List._++_ g4 t1; slots = List._∷_ (Row.lease (κs .0) (qs .0)) (List._∷_ (Row.lease (κs .1 .0) (qs .1 .0)) (List._∷_ Row.off (List._∷_ (Row.lease (κs .1 .1 .1 .0) (qs .1 .1 .1 .0)) (List._∷_ (Row.lease (κs .1 .1 .1 .1 .0) (qs .1 .1 .1 .1 .0)) (List._∷_ Row.alive (List._∷_ Row.off (List._∷_ Row.off (List._∷_ Row.off (List._∷_ Row.off List.[]))))))))) }
 
         abbrev G11 : Row.Cx
-        G11 = record { locals = List._++_ g7 t1; slots = List._∷_ (Row.lease (κs .0) (qs .0)) (List._∷_ (Row.lease (κs .1 .0) (qs .1 .0)) (List._∷_ Row.off (List._∷_ (Row.lease (κs .1 .1 .1 .0) (qs .1 .1 .1 .0)) (List._∷_ (Row.lease (κs .1 .1 .1 .1 .0) (qs .1 .1 .1 .1 .0)) (List._∷_ Row.dead (List._∷_ Row.off (List._∷_ Row.off (List._∷_ Row.off List.[])))))))) }
+        G11 = record { locals = List._++_ g5 t1; slots = List._∷_ (Row.lease (κs .0) (qs .0)) (List._∷_ (Row.lease (κs .1 .0) (qs .1 .0)) (List._∷_ Row.off (List._∷_ (Row.lease (κs .1 .1 .1 .0) (qs .1 .1 .1 .0)) (List._∷_ (Row.lease (κs .1 .1 .1 .1 .0) (qs .1 .1 .1 .1 .0)) (List._∷_ Row.alive (List._∷_ Row.off (List._∷_ Row.off (List._∷_ Row.off (List._∷_ Row.off List.[]))))))))) }
 
         abbrev G12 : Row.Cx
-        G12 = record { locals = List._++_ t8 t1; slots = List._∷_ (Row.lease (κs .0) (qs .0)) (List._∷_ (Row.lease (κs .1 .0) (qs .1 .0)) (List._∷_ (Row.lease (κs .1 .1 .0) (qs .1 .1 .0)) (List._∷_ (Row.lease (κs .1 .1 .1 .0) (qs .1 .1 .1 .0)) (List._∷_ (Row.lease (κs .1 .1 .1 .1 .0) (qs .1 .1 .1 .1 .0)) (List._∷_ Row.dead (List._∷_ Row.off (List._∷_ Row.off (List._∷_ Row.off List.[])))))))) }
+        G12 = record { locals = List._++_ g6 t1; slots = List._∷_ (Row.lease (κs .0) (qs .0)) (List._∷_ (Row.lease (κs .1 .0) (qs .1 .0)) (List._∷_ Row.off (List._∷_ (Row.lease (κs .1 .1 .1 .0) (qs .1 .1 .1 .0)) (List._∷_ (Row.lease (κs .1 .1 .1 .1 .0) (qs .1 .1 .1 .1 .0)) (List._∷_ Row.alive (List._∷_ Row.off (List._∷_ Row.off (List._∷_ Row.off (List._∷_ Row.off List.[]))))))))) }
 
         abbrev G13 : Row.Cx
-        G13 = record { locals = List._++_ t8 t1; slots = List._∷_ (Row.lease (κs .0) (qs .0)) (List._∷_ (Row.lease (κs .1 .0) (qs .1 .0)) (List._∷_ (Row.lease (κs .1 .1 .0) (qs .1 .1 .0)) (List._∷_ (Row.lease (κs .1 .1 .1 .0) (qs .1 .1 .1 .0)) (List._∷_ (Row.lease (κs .1 .1 .1 .1 .0) (qs .1 .1 .1 .1 .0)) (List._∷_ Row.dead (List._∷_ Row.off (List._∷_ Row.off (List._∷_ Row.off List.[])))))))) }
+        G13 = record { locals = List._++_ g7 t1; slots = List._∷_ (Row.lease (κs .0) (qs .0)) (List._∷_ (Row.lease (κs .1 .0) (qs .1 .0)) (List._∷_ Row.off (List._∷_ (Row.lease (κs .1 .1 .1 .0) (qs .1 .1 .1 .0)) (List._∷_ (Row.lease (κs .1 .1 .1 .1 .0) (qs .1 .1 .1 .1 .0)) (List._∷_ Row.alive (List._∷_ Row.off (List._∷_ Row.off (List._∷_ Row.off (List._∷_ Row.off List.[]))))))))) }
 
         abbrev G14 : Row.Cx
-        G14 = record { locals = List._++_ t8 t1; slots = List._∷_ (Row.lease (κs .0) (qs .0)) (List._∷_ (Row.lease (κs .1 .0) (qs .1 .0)) (List._∷_ (Row.lease (κs .1 .1 .0) (qs .1 .1 .0)) (List._∷_ (Row.lease (κs .1 .1 .1 .0) (qs .1 .1 .1 .0)) (List._∷_ (Row.lease (κs .1 .1 .1 .1 .0) (qs .1 .1 .1 .1 .0)) (List._∷_ Row.off (List._∷_ Row.off (List._∷_ Row.off (List._∷_ Row.off List.[])))))))) }
+        G14 = record { locals = List._++_ g7 t1; slots = List._∷_ (Row.lease (κs .0) (qs .0)) (List._∷_ (Row.lease (κs .1 .0) (qs .1 .0)) (List._∷_ Row.off (List._∷_ (Row.lease (κs .1 .1 .1 .0) (qs .1 .1 .1 .0)) (List._∷_ (Row.lease (κs .1 .1 .1 .1 .0) (qs .1 .1 .1 .1 .0)) (List._∷_ Row.dead (List._∷_ Row.off (List._∷_ Row.off (List._∷_ Row.off (List._∷_ Row.off List.[]))))))))) }
 
         abbrev G15 : Row.Cx
-        G15 = record { locals = List._++_ t9 t1; slots = List._∷_ (Row.lease (κs .0) (qs .0)) (List._∷_ (Row.lease (κs .1 .0) (qs .1 .0)) (List._∷_ (Row.lease (κs .1 .1 .0) (qs .1 .1 .0)) (List._∷_ (Row.lease (κs .1 .1 .1 .0) (qs .1 .1 .1 .0)) (List._∷_ (Row.lease (κs .1 .1 .1 .1 .0) (qs .1 .1 .1 .1 .0)) (List._∷_ Row.off (List._∷_ Row.off (List._∷_ Row.off (List._∷_ Row.off List.[])))))))) }
+        G15 = record { locals = List._++_ t2 t1; slots = List._∷_ (Row.lease (κs .0) (qs .0)) (List._∷_ (Row.lease (κs .1 .0) (qs .1 .0)) (List._∷_ (Row.lease (κs .1 .1 .0) (qs .1 .1 .0)) (List._∷_ (Row.lease (κs .1 .1 .1 .0) (qs .1 .1 .1 .0)) (List._∷_ (Row.lease (κs .1 .1 .1 .1 .0) (qs .1 .1 .1 .1 .0)) (List._∷_ Row.dead (List._∷_ Row.off (List._∷_ Row.off (List._∷_ Row.off (List._∷_ Row.off List.[]))))))))) }
 
         abbrev G16 : Row.Cx
-        G16 = record { locals = List._++_ t10 t1; slots = List._∷_ (Row.lease (κs .0) (qs .0)) (List._∷_ (Row.lease (κs .1 .0) (qs .1 .0)) (List._∷_ (Row.lease (κs .1 .1 .0) (qs .1 .1 .0)) (List._∷_ (Row.lease (κs .1 .1 .1 .0) (qs .1 .1 .1 .0)) (List._∷_ (Row.lease (κs .1 .1 .1 .1 .0) (qs .1 .1 .1 .1 .0)) (List._∷_ Row.off (List._∷_ Row.off (List._∷_ Row.off (List._∷_ Row.off List.[])))))))) }
+        G16 = record { locals = List._++_ t2 t1; slots = List._∷_ (Row.lease (κs .0) (qs .0)) (List._∷_ (Row.lease (κs .1 .0) (qs .1 .0)) (List._∷_ (Row.lease (κs .1 .1 .0) (qs .1 .1 .0)) (List._∷_ (Row.lease (κs .1 .1 .1 .0) (qs .1 .1 .1 .0)) (List._∷_ (Row.lease (κs .1 .1 .1 .1 .0) (qs .1 .1 .1 .1 .0)) (List._∷_ Row.dead (List._∷_ Row.off (List._∷_ Row.off (List._∷_ Row.off (List._∷_ Row.off List.[]))))))))) }
 
         abbrev G17 : Row.Cx
-        G17 = record { locals = List._++_ t4 t1; slots = List._∷_ (Row.lease (κs .0) (qs .0)) (List._∷_ (Row.lease (κs .1 .0) (qs .1 .0)) (List._∷_ (Row.lease (κs .1 .1 .0) (qs .1 .1 .0)) (List._∷_ (Row.lease (κs .1 .1 .1 .0) (qs .1 .1 .1 .0)) (List._∷_ (Row.lease (κs .1 .1 .1 .1 .0) (qs .1 .1 .1 .1 .0)) (List._∷_ Row.off (List._∷_ Row.off (List._∷_ Row.off (List._∷_ Row.off List.[])))))))) }
+        G17 = record { locals = List._++_ t2 t1; slots = List._∷_ (Row.lease (κs .0) (qs .0)) (List._∷_ (Row.lease (κs .1 .0) (qs .1 .0)) (List._∷_ (Row.lease (κs .1 .1 .0) (qs .1 .1 .0)) (List._∷_ (Row.lease (κs .1 .1 .1 .0) (qs .1 .1 .1 .0)) (List._∷_ (Row.lease (κs .1 .1 .1 .1 .0) (qs .1 .1 .1 .1 .0)) (List._∷_ Row.off (List._∷_ Row.off (List._∷_ Row.off (List._∷_ Row.off (List._∷_ Row.off List.[]))))))))) }
 
         abbrev G18 : Row.Cx
-        G18 = record { locals = List._++_ t11 t1; slots = List._∷_ (Row.lease (κs .0) (qs .0)) (List._∷_ (Row.lease (κs .1 .0) (qs .1 .0)) (List._∷_ (Row.lease (κs .1 .1 .0) (qs .1 .1 .0)) (List._∷_ (Row.lease (κs .1 .1 .1 .0) (qs .1 .1 .1 .0)) (List._∷_ (Row.lease (κs .1 .1 .1 .1 .0) (qs .1 .1 .1 .1 .0)) (List._∷_ Row.off (List._∷_ Row.off (List._∷_ Row.off (List._∷_ Row.off List.[])))))))) }
+        G18 = record { locals = List._++_ t0 t1; slots = List._∷_ (Row.lease (κs .0) (qs .0)) (List._∷_ (Row.lease (κs .1 .0) (qs .1 .0)) (List._∷_ (Row.lease (κs .1 .1 .0) (qs .1 .1 .0)) (List._∷_ (Row.lease (κs .1 .1 .1 .0) (qs .1 .1 .1 .0)) (List._∷_ (Row.lease (κs .1 .1 .1 .1 .0) (qs .1 .1 .1 .1 .0)) (List._∷_ Row.off (List._∷_ Row.off (List._∷_ Row.off (List._∷_ Row.off (List._∷_ Row.off List.[]))))))))) }
 
         abbrev G19 : Row.Cx
-        G19 = record { locals = List._++_ t12 t1; slots = List._∷_ (Row.lease (κs .0) (qs .0)) (List._∷_ (Row.lease (κs .1 .0) (qs .1 .0)) (List._∷_ (Row.lease (κs .1 .1 .0) (qs .1 .1 .0)) (List._∷_ (Row.lease (κs .1 .1 .1 .0) (qs .1 .1 .1 .0)) (List._∷_ (Row.lease (κs .1 .1 .1 .1 .0) (qs .1 .1 .1 .1 .0)) (List._∷_ Row.off (List._∷_ Row.off (List._∷_ Row.off (List._∷_ Row.off List.[])))))))) }
+        G19 = record { locals = List._++_ t8 t1; slots = List._∷_ (Row.lease (κs .0) (qs .0)) (List._∷_ (Row.lease (κs .1 .0) (qs .1 .0)) (List._∷_ (Row.lease (κs .1 .1 .0) (qs .1 .1 .0)) (List._∷_ (Row.lease (κs .1 .1 .1 .0) (qs .1 .1 .1 .0)) (List._∷_ (Row.lease (κs .1 .1 .1 .1 .0) (qs .1 .1 .1 .1 .0)) (List._∷_ Row.off (List._∷_ Row.off (List._∷_ Row.off (List._∷_ Row.off (List._∷_ Row.off List.[]))))))))) }
 
         abbrev G20 : Row.Cx
-        G20 = record { locals = List._++_ t13 t1; slots = List._∷_ (Row.lease (κs .0) (qs .0)) (List._∷_ (Row.lease (κs .1 .0) (qs .1 .0)) (List._∷_ (Row.lease (κs .1 .1 .0) (qs .1 .1 .0)) (List._∷_ (Row.lease (κs .1 .1 .1 .0) (qs .1 .1 .1 .0)) (List._∷_ (Row.lease (κs .1 .1 .1 .1 .0) (qs .1 .1 .1 .1 .0)) (List._∷_ Row.off (List._∷_ Row.off (List._∷_ Row.off (List._∷_ Row.off List.[])))))))) }
+        G20 = record { locals = List._++_ t9 t1; slots = List._∷_ (Row.lease (κs .0) (qs .0)) (List._∷_ (Row.lease (κs .1 .0) (qs .1 .0)) (List._∷_ (Row.lease (κs .1 .1 .0) (qs .1 .1 .0)) (List._∷_ (Row.lease (κs .1 .1 .1 .0) (qs .1 .1 .1 .0)) (List._∷_ (Row.lease (κs .1 .1 .1 .1 .0) (qs .1 .1 .1 .1 .0)) (List._∷_ Row.off (List._∷_ Row.off (List._∷_ Row.off (List._∷_ Row.off (List._∷_ Row.off List.[]))))))))) }
 
         abbrev G21 : Row.Cx
-        G21 = record { locals = List._++_ t14 t1; slots = List._∷_ (Row.lease (κs .0) (qs .0)) (List._∷_ (Row.lease (κs .1 .0) (qs .1 .0)) (List._∷_ (Row.lease (κs .1 .1 .0) (qs .1 .1 .0)) (List._∷_ (Row.lease (κs .1 .1 .1 .0) (qs .1 .1 .1 .0)) (List._∷_ (Row.lease (κs .1 .1 .1 .1 .0) (qs .1 .1 .1 .1 .0)) (List._∷_ Row.off (List._∷_ Row.off (List._∷_ Row.off (List._∷_ Row.off List.[])))))))) }
+        G21 = record { locals = List._++_ t9 t1; slots = List._∷_ (Row.lease (κs .0) (qs .0)) (List._∷_ (Row.lease (κs .1 .0) (qs .1 .0)) (List._∷_ (Row.lease (κs .1 .1 .0) (qs .1 .1 .0)) (List._∷_ (Row.lease (κs .1 .1 .1 .0) (qs .1 .1 .1 .0)) (List._∷_ (Row.lease (κs .1 .1 .1 .1 .0) (qs .1 .1 .1 .1 .0)) (List._∷_ Row.off (List._∷_ Row.alive (List._∷_ Row.off (List._∷_ Row.off (List._∷_ Row.off List.[]))))))))) }
 
         abbrev G22 : Row.Cx
-        G22 = record { locals = List._++_ t15 t1; slots = List._∷_ (Row.lease (κs .0) (qs .0)) (List._∷_ (Row.lease (κs .1 .0) (qs .1 .0)) (List._∷_ (Row.lease (κs .1 .1 .0) (qs .1 .1 .0)) (List._∷_ (Row.lease (κs .1 .1 .1 .0) (qs .1 .1 .1 .0)) (List._∷_ (Row.lease (κs .1 .1 .1 .1 .0) (qs .1 .1 .1 .1 .0)) (List._∷_ Row.off (List._∷_ Row.off (List._∷_ Row.off (List._∷_ Row.off List.[])))))))) }
+        G22 = record { locals = List._++_ g10 t1; slots = List._∷_ (Row.lease (κs .0) (qs .0)) (List._∷_ (Row.lease (κs .1 .0) (qs .1 .0)) (List._∷_ Row.off (List._∷_ (Row.lease (κs .1 .1 .1 .0) (qs .1 .1 .1 .0)) (List._∷_ (Row.lease (κs .1 .1 .1 .1 .0) (qs .1 .1 .1 .1 .0)) (List._∷_ Row.off (List._∷_ Row.alive (List._∷_ Row.off (List._∷_ Row.off (List._∷_ Row.off List.[]))))))))) }
 
         abbrev G23 : Row.Cx
-        G23 = record { locals = List._++_ t16 t1; slots = List._∷_ (Row.lease (κs .0) (qs .0)) (List._∷_ (Row.lease (κs .1 .0) (qs .1 .0)) (List._∷_ (Row.lease (κs .1 .1 .0) (qs .1 .1 .0)) (List._∷_ (Row.lease (κs .1 .1 .1 .0) (qs .1 .1 .1 .0)) (List._∷_ (Row.lease (κs .1 .1 .1 .1 .0) (qs .1 .1 .1 .1 .0)) (List._∷_ Row.off (List._∷_ Row.off (List._∷_ Row.off (List._∷_ Row.off List.[])))))))) }
+        G23 = record { locals = List._++_ g11 t1; slots = List._∷_ (Row.lease (κs .0) (qs .0)) (List._∷_ (Row.lease (κs .1 .0) (qs .1 .0)) (List._∷_ Row.off (List._∷_ (Row.lease (κs .1 .1 .1 .0) (qs .1 .1 .1 .0)) (List._∷_ (Row.lease (κs .1 .1 .1 .1 .0) (qs .1 .1 .1 .1 .0)) (List._∷_ Row.off (List._∷_ Row.alive (List._∷_ Row.off (List._∷_ Row.off (List._∷_ Row.off List.[]))))))))) }
 
         abbrev G24 : Row.Cx
-        G24 = record { locals = List._++_ t2 t1; slots = List._∷_ (Row.lease (κs .0) (qs .0)) (List._∷_ (Row.lease (κs .1 .0) (qs .1 .0)) (List._∷_ (Row.lease (κs .1 .1 .0) (qs .1 .1 .0)) (List._∷_ (Row.lease (κs .1 .1 .1 .0) (qs .1 .1 .1 .0)) (List._∷_ (Row.lease (κs .1 .1 .1 .1 .0) (qs .1 .1 .1 .1 .0)) (List._∷_ Row.off (List._∷_ Row.off (List._∷_ Row.off (List._∷_ Row.off List.[])))))))) }
+        G24 = record { locals = List._++_ g12 t1; slots = List._∷_ (Row.lease (κs .0) (qs .0)) (List._∷_ (Row.lease (κs .1 .0) (qs .1 .0)) (List._∷_ Row.off (List._∷_ (Row.lease (κs .1 .1 .1 .0) (qs .1 .1 .1 .0)) (List._∷_ (Row.lease (κs .1 .1 .1 .1 .0) (qs .1 .1 .1 .1 .0)) (List._∷_ Row.off (List._∷_ Row.alive (List._∷_ Row.off (List._∷_ Row.off (List._∷_ Row.off List.[]))))))))) }
 
         abbrev G25 : Row.Cx
-        G25 = record { locals = List._++_ t17 t1; slots = List._∷_ (Row.lease (κs .0) (qs .0)) (List._∷_ (Row.lease (κs .1 .0) (qs .1 .0)) (List._∷_ (Row.lease (κs .1 .1 .0) (qs .1 .1 .0)) (List._∷_ (Row.lease (κs .1 .1 .1 .0) (qs .1 .1 .1 .0)) (List._∷_ (Row.lease (κs .1 .1 .1 .1 .0) (qs .1 .1 .1 .1 .0)) (List._∷_ Row.off (List._∷_ Row.off (List._∷_ Row.off (List._∷_ Row.off List.[])))))))) }
+        G25 = record { locals = List._++_ g12 t1; slots = List._∷_ (Row.lease (κs .0) (qs .0)) (List._∷_ (Row.lease (κs .1 .0) (qs .1 .0)) (List._∷_ Row.off (List._∷_ (Row.lease (κs .1 .1 .1 .0) (qs .1 .1 .1 .0)) (List._∷_ (Row.lease (κs .1 .1 .1 .1 .0) (qs .1 .1 .1 .1 .0)) (List._∷_ Row.off (List._∷_ Row.dead (List._∷_ Row.off (List._∷_ Row.off (List._∷_ Row.off List.[]))))))))) }
 
         abbrev G26 : Row.Cx
-        G26 = record { locals = List._++_ t4 t1; slots = List._∷_ (Row.lease (κs .0) (qs .0)) (List._∷_ (Row.lease (κs .1 .0) (qs .1 .0)) (List._∷_ (Row.lease (κs .1 .1 .0) (qs .1 .1 .0)) (List._∷_ (Row.lease (κs .1 .1 .1 .0) (qs .1 .1 .1 .0)) (List._∷_ (Row.lease (κs .1 .1 .1 .1 .0) (qs .1 .1 .1 .1 .0)) (List._∷_ Row.off (List._∷_ Row.off (List._∷_ Row.off (List._∷_ Row.off List.[])))))))) }
+        G26 = record { locals = List._++_ t13 t1; slots = List._∷_ (Row.lease (κs .0) (qs .0)) (List._∷_ (Row.lease (κs .1 .0) (qs .1 .0)) (List._∷_ (Row.lease (κs .1 .1 .0) (qs .1 .1 .0)) (List._∷_ (Row.lease (κs .1 .1 .1 .0) (qs .1 .1 .1 .0)) (List._∷_ (Row.lease (κs .1 .1 .1 .1 .0) (qs .1 .1 .1 .1 .0)) (List._∷_ Row.off (List._∷_ Row.dead (List._∷_ Row.off (List._∷_ Row.off (List._∷_ Row.off List.[]))))))))) }
 
         abbrev G27 : Row.Cx
-        G27 = record { locals = List._++_ t4 t1; slots = List._∷_ (Row.lease (κs .0) (qs .0)) (List._∷_ (Row.lease (κs .1 .0) (qs .1 .0)) (List._∷_ (Row.lease (κs .1 .1 .0) (qs .1 .1 .0)) (List._∷_ (Row.lease (κs .1 .1 .1 .0) (qs .1 .1 .1 .0)) (List._∷_ (Row.lease (κs .1 .1 .1 .1 .0) (qs .1 .1 .1 .1 .0)) (List._∷_ Row.off (List._∷_ Row.alive (List._∷_ Row.off (List._∷_ Row.off List.[])))))))) }
+        G27 = record { locals = List._++_ t13 t1; slots = List._∷_ (Row.lease (κs .0) (qs .0)) (List._∷_ (Row.lease (κs .1 .0) (qs .1 .0)) (List._∷_ (Row.lease (κs .1 .1 .0) (qs .1 .1 .0)) (List._∷_ (Row.lease (κs .1 .1 .1 .0) (qs .1 .1 .1 .0)) (List._∷_ (Row.lease (κs .1 .1 .1 .1 .0) (qs .1 .1 .1 .1 .0)) (List._∷_ Row.off (List._∷_ Row.dead (List._∷_ Row.off (List._∷_ Row.off (List._∷_ Row.off List.[]))))))))) }
 
         abbrev G28 : Row.Cx
-        G28 = record { locals = List._++_ g18 t1; slots = List._∷_ (Row.lease (κs .0) (qs .0)) (List._∷_ (Row.lease (κs .1 .0) (qs .1 .0)) (List._∷_ Row.off (List._∷_ (Row.lease (κs .1 .1 .1 .0) (qs .1 .1 .1 .0)) (List._∷_ (Row.lease (κs .1 .1 .1 .1 .0) (qs .1 .1 .1 .1 .0)) (List._∷_ Row.off (List._∷_ Row.alive (List._∷_ Row.off (List._∷_ Row.off List.[])))))))) }
+        G28 = record { locals = List._++_ t13 t1; slots = List._∷_ (Row.lease (κs .0) (qs .0)) (List._∷_ (Row.lease (κs .1 .0) (qs .1 .0)) (List._∷_ (Row.lease (κs .1 .1 .0) (qs .1 .1 .0)) (List._∷_ (Row.lease (κs .1 .1 .1 .0) (qs .1 .1 .1 .0)) (List._∷_ (Row.lease (κs .1 .1 .1 .1 .0) (qs .1 .1 .1 .1 .0)) (List._∷_ Row.off (List._∷_ Row.off (List._∷_ Row.off (List._∷_ Row.off (List._∷_ Row.off List.[]))))))))) }
 
         abbrev G29 : Row.Cx
-        G29 = record { locals = List._++_ g19 t20; slots = List._∷_ (Row.lease (κs .0) (qs .0)) (List._∷_ (Row.lease (κs .1 .0) (qs .1 .0)) (List._∷_ Row.off (List._∷_ (Row.lease (κs .1 .1 .1 .0) (qs .1 .1 .1 .0)) (List._∷_ (Row.lease (κs .1 .1 .1 .1 .0) (qs .1 .1 .1 .1 .0)) (List._∷_ Row.off (List._∷_ Row.alive (List._∷_ Row.off (List._∷_ Row.off List.[])))))))) }
+        G29 = record { locals = List._++_ t14 t1; slots = List._∷_ (Row.lease (κs .0) (qs .0)) (List._∷_ (Row.lease (κs .1 .0) (qs .1 .0)) (List._∷_ (Row.lease (κs .1 .1 .0) (qs .1 .1 .0)) (List._∷_ (Row.lease (κs .1 .1 .1 .0) (qs .1 .1 .1 .0)) (List._∷_ (Row.lease (κs .1 .1 .1 .1 .0) (qs .1 .1 .1 .1 .0)) (List._∷_ Row.off (List._∷_ Row.off (List._∷_ Row.off (List._∷_ Row.off (List._∷_ Row.off List.[]))))))))) }
 
         abbrev G30 : Row.Cx
-        G30 = record { locals = List._++_ g19 t20; slots = List._∷_ (Row.lease (κs .0) (qs .0)) (List._∷_ (Row.lease (κs .1 .0) (qs .1 .0)) (List._∷_ Row.off (List._∷_ (Row.lease (κs .1 .1 .1 .0) (qs .1 .1 .1 .0)) (List._∷_ (Row.lease (κs .1 .1 .1 .1 .0) (qs .1 .1 .1 .1 .0)) (List._∷_ Row.off (List._∷_ Row.alive (List._∷_ Row.off (List._∷_ Row.off List.[])))))))) }
+        G30 = record { locals = List._++_ t15 t1; slots = List._∷_ (Row.lease (κs .0) (qs .0)) (List._∷_ (Row.lease (κs .1 .0) (qs .1 .0)) (List._∷_ (Row.lease (κs .1 .1 .0) (qs .1 .1 .0)) (List._∷_ (Row.lease (κs .1 .1 .1 .0) (qs .1 .1 .1 .0)) (List._∷_ (Row.lease (κs .1 .1 .1 .1 .0) (qs .1 .1 .1 .1 .0)) (List._∷_ Row.off (List._∷_ Row.off (List._∷_ Row.off (List._∷_ Row.off (List._∷_ Row.off List.[]))))))))) }
 
         abbrev G31 : Row.Cx
-        G31 = record { locals = List._++_ g19 t21; slots = List._∷_ (Row.lease (κs .0) (qs .0)) (List._∷_ (Row.lease (κs .1 .0) (qs .1 .0)) (List._∷_ Row.off (List._∷_ (Row.lease (κs .1 .1 .1 .0) (qs .1 .1 .1 .0)) (List._∷_ (Row.lease (κs .1 .1 .1 .1 .0) (qs .1 .1 .1 .1 .0)) (List._∷_ Row.off (List._∷_ Row.alive (List._∷_ Row.off (List._∷_ Row.off List.[])))))))) }
+        G31 = record { locals = List._++_ t9 t1; slots = List._∷_ (Row.lease (κs .0) (qs .0)) (List._∷_ (Row.lease (κs .1 .0) (qs .1 .0)) (List._∷_ (Row.lease (κs .1 .1 .0) (qs .1 .1 .0)) (List._∷_ (Row.lease (κs .1 .1 .1 .0) (qs .1 .1 .1 .0)) (List._∷_ (Row.lease (κs .1 .1 .1 .1 .0) (qs .1 .1 .1 .1 .0)) (List._∷_ Row.off (List._∷_ Row.off (List._∷_ Row.off (List._∷_ Row.off (List._∷_ Row.off List.[]))))))))) }
 
         abbrev G32 : Row.Cx
-        G32 = record { locals = List._++_ g19 t21; slots = List._∷_ (Row.lease (κs .0) (qs .0)) (List._∷_ (Row.lease (κs .1 .0) (qs .1 .0)) (List._∷_ Row.off (List._∷_ (Row.lease (κs .1 .1 .1 .0) (qs .1 .1 .1 .0)) (List._∷_ (Row.lease (κs .1 .1 .1 .1 .0) (qs .1 .1 .1 .1 .0)) (List._∷_ Row.off (List._∷_ Row.alive (List._∷_ Row.off (List._∷_ Row.off List.[])))))))) }
+        G32 = record { locals = List._++_ t16 t1; slots = List._∷_ (Row.lease (κs .0) (qs .0)) (List._∷_ (Row.lease (κs .1 .0) (qs .1 .0)) (List._∷_ (Row.lease (κs .1 .1 .0) (qs .1 .1 .0)) (List._∷_ (Row.lease (κs .1 .1 .1 .0) (qs .1 .1 .1 .0)) (List._∷_ (Row.lease (κs .1 .1 .1 .1 .0) (qs .1 .1 .1 .1 .0)) (List._∷_ Row.off (List._∷_ Row.off (List._∷_ Row.off (List._∷_ Row.off (List._∷_ Row.off List.[]))))))))) }
 
         abbrev G33 : Row.Cx
-        G33 = record { locals = List._++_ g19 t22; slots = List._∷_ (Row.lease (κs .0) (qs .0)) (List._∷_ (Row.lease (κs .1 .0) (qs .1 .0)) (List._∷_ Row.off (List._∷_ (Row.lease (κs .1 .1 .1 .0) (qs .1 .1 .1 .0)) (List._∷_ (Row.lease (κs .1 .1 .1 .1 .0) (qs .1 .1 .1 .1 .0)) (List._∷_ Row.off (List._∷_ Row.alive (List._∷_ Row.off (List._∷_ Row.off List.[])))))))) }
+        G33 = record { locals = List._++_ t17 t1; slots = List._∷_ (Row.lease (κs .0) (qs .0)) (List._∷_ (Row.lease (κs .1 .0) (qs .1 .0)) (List._∷_ (Row.lease (κs .1 .1 .0) (qs .1 .1 .0)) (List._∷_ (Row.lease (κs .1 .1 .1 .0) (qs .1 .1 .1 .0)) (List._∷_ (Row.lease (κs .1 .1 .1 .1 .0) (qs .1 .1 .1 .1 .0)) (List._∷_ Row.off (List._∷_ Row.off (List._∷_ Row.off (List._∷_ Row.off (List._∷_ Row.off List.[]))))))))) }
 
         abbrev G34 : Row.Cx
-        G34 = record { locals = List._++_ g23 t22; slots = List._∷_ (Row.lease (κs .0) (qs .0)) (List._∷_ (Row.lease (κs .1 .0) (qs .1 .0)) (List._∷_ Row.off (List._∷_ (Row.lease (κs .1 .1 .1 .0) (qs .1 .1 .1 .0)) (List._∷_ (Row.lease (κs .1 .1 .1 .1 .0) (qs .1 .1 .1 .1 .0)) (List._∷_ Row.off (List._∷_ Row.alive (List._∷_ Row.off (List._∷_ Row.off List.[])))))))) }
+        G34 = record { locals = List._++_ t18 t1; slots = List._∷_ (Row.lease (κs .0) (qs .0)) (List._∷_ (Row.lease (κs .1 .0) (qs .1 .0)) (List._∷_ (Row.lease (κs .1 .1 .0) (qs .1 .1 .0)) (List._∷_ (Row.lease (κs .1 .1 .1 .0) (qs .1 .1 .1 .0)) (List._∷_ (Row.lease (κs .1 .1 .1 .1 .0) (qs .1 .1 .1 .1 .0)) (List._∷_ Row.off (List._∷_ Row.off (List._∷_ Row.off (List._∷_ Row.off (List._∷_ Row.off List.[]))))))))) }
 
         abbrev G35 : Row.Cx
-        G35 = record { locals = List._++_ t4 t1; slots = List._∷_ (Row.lease (κs .0) (qs .0)) (List._∷_ (Row.lease (κs .1 .0) (qs .1 .0)) (List._∷_ (Row.lease (κs .1 .1 .0) (qs .1 .1 .0)) (List._∷_ (Row.lease (κs .1 .1 .1 .0) (qs .1 .1 .1 .0)) (List._∷_ (Row.lease (κs .1 .1 .1 .1 .0) (qs .1 .1 .1 .1 .0)) (List._∷_ Row.off (List._∷_ Row.off (List._∷_ Row.off (List._∷_ Row.off List.[])))))))) }
+        G35 = record { locals = List._++_ t19 t1; slots = List._∷_ (Row.lease (κs .0) (qs .0)) (List._∷_ (Row.lease (κs .1 .0) (qs .1 .0)) (List._∷_ (Row.lease (κs .1 .1 .0) (qs .1 .1 .0)) (List._∷_ (Row.lease (κs .1 .1 .1 .0) (qs .1 .1 .1 .0)) (List._∷_ (Row.lease (κs .1 .1 .1 .1 .0) (qs .1 .1 .1 .1 .0)) (List._∷_ Row.off (List._∷_ Row.off (List._∷_ Row.off (List._∷_ Row.off (List._∷_ Row.off List.[]))))))))) }
 
         abbrev G36 : Row.Cx
-        G36 = record { locals = List._++_ g23 t24; slots = List._∷_ (Row.lease (κs .0) (qs .0)) (List._∷_ (Row.lease (κs .1 .0) (qs .1 .0)) (List._∷_ Row.off (List._∷_ (Row.lease (κs .1 .1 .1 .0) (qs .1 .1 .1 .0)) (List._∷_ (Row.lease (κs .1 .1 .1 .1 .0) (qs .1 .1 .1 .1 .0)) (List._∷_ Row.off (List._∷_ Row.alive (List._∷_ Row.off (List._∷_ Row.off List.[])))))))) }
+        G36 = record { locals = List._++_ t20 t1; slots = List._∷_ (Row.lease (κs .0) (qs .0)) (List._∷_ (Row.lease (κs .1 .0) (qs .1 .0)) (List._∷_ (Row.lease (κs .1 .1 .0) (qs .1 .1 .0)) (List._∷_ (Row.lease (κs .1 .1 .1 .0) (qs .1 .1 .1 .0)) (List._∷_ (Row.lease (κs .1 .1 .1 .1 .0) (qs .1 .1 .1 .1 .0)) (List._∷_ Row.off (List._∷_ Row.off (List._∷_ Row.off (List._∷_ Row.off (List._∷_ Row.off List.[]))))))))) }
 
         abbrev G37 : Row.Cx
-        G37 = record { locals = List._++_ g23 t25; slots = List._∷_ (Row.lease (κs .0) (qs .0)) (List._∷_ (Row.lease (κs .1 .0) (qs .1 .0)) (List._∷_ Row.off (List._∷_ (Row.lease (κs .1 .1 .1 .0) (qs .1 .1 .1 .0)) (List._∷_ (Row.lease (κs .1 .1 .1 .1 .0) (qs .1 .1 .1 .1 .0)) (List._∷_ Row.off (List._∷_ Row.alive (List._∷_ Row.off (List._∷_ Row.off List.[])))))))) }
+        G37 = record { locals = List._++_ t21 t1; slots = List._∷_ (Row.lease (κs .0) (qs .0)) (List._∷_ (Row.lease (κs .1 .0) (qs .1 .0)) (List._∷_ (Row.lease (κs .1 .1 .0) (qs .1 .1 .0)) (List._∷_ (Row.lease (κs .1 .1 .1 .0) (qs .1 .1 .1 .0)) (List._∷_ (Row.lease (κs .1 .1 .1 .1 .0) (qs .1 .1 .1 .1 .0)) (List._∷_ Row.off (List._∷_ Row.off (List._∷_ Row.off (List._∷_ Row.off (List._∷_ Row.off List.[]))))))))) }
 
         abbrev G38 : Row.Cx
-        G38 = record { locals = List._++_ g23 t1; slots = List._∷_ (Row.lease (κs .0) (qs .0)) (List._∷_ (Row.lease (κs .1 .0) (qs .1 .0)) (List._∷_ Row.off (List._∷_ (Row.lease (κs .1 .1 .1 .0) (qs .1 .1 .1 .0)) (List._∷_ (Row.lease (κs .1 .1 .1 .1 .0) (qs .1 .1 .1 .1 .0)) (List._∷_ Row.off (List._∷_ Row.alive (List._∷_ Row.off (List._∷_ Row.off List.[])))))))) }
+        G38 = record { locals = List._++_ t2 t1; slots = List._∷_ (Row.lease (κs .0) (qs .0)) (List._∷_ (Row.lease (κs .1 .0) (qs .1 .0)) (List._∷_ (Row.lease (κs .1 .1 .0) (qs .1 .1 .0)) (List._∷_ (Row.lease (κs .1 .1 .1 .0) (qs .1 .1 .1 .0)) (List._∷_ (Row.lease (κs .1 .1 .1 .1 .0) (qs .1 .1 .1 .1 .0)) (List._∷_ Row.off (List._∷_ Row.off (List._∷_ Row.off (List._∷_ Row.off (List._∷_ Row.off List.[]))))))))) }
 
         abbrev G39 : Row.Cx
-        G39 = record { locals = List._++_ g23 t1; slots = List._∷_ (Row.lease (κs .0) (qs .0)) (List._∷_ (Row.lease (κs .1 .0) (qs .1 .0)) (List._∷_ Row.off (List._∷_ (Row.lease (κs .1 .1 .1 .0) (qs .1 .1 .1 .0)) (List._∷_ (Row.lease (κs .1 .1 .1 .1 .0) (qs .1 .1 .1 .1 .0)) (List._∷_ Row.off (List._∷_ Row.dead (List._∷_ Row.off (List._∷_ Row.off List.[])))))))) }
+        G39 = record { locals = List._++_ t22 t1; slots = List._∷_ (Row.lease (κs .0) (qs .0)) (List._∷_ (Row.lease (κs .1 .0) (qs .1 .0)) (List._∷_ (Row.lease (κs .1 .1 .0) (qs .1 .1 .0)) (List._∷_ (Row.lease (κs .1 .1 .1 .0) (qs .1 .1 .1 .0)) (List._∷_ (Row.lease (κs .1 .1 .1 .1 .0) (qs .1 .1 .1 .1 .0)) (List._∷_ Row.off (List._∷_ Row.off (List._∷_ Row.off (List._∷_ Row.off (List._∷_ Row.off List.[]))))))))) }
 
         abbrev G40 : Row.Cx
-        G40 = record { locals = List._++_ t26 t1; slots = List._∷_ (Row.lease (κs .0) (qs .0)) (List._∷_ (Row.lease (κs .1 .0) (qs .1 .0)) (List._∷_ (Row.lease (κs .1 .1 .0) (qs .1 .1 .0)) (List._∷_ (Row.lease (κs .1 .1 .1 .0) (qs .1 .1 .1 .0)) (List._∷_ (Row.lease (κs .1 .1 .1 .1 .0) (qs .1 .1 .1 .1 .0)) (List._∷_ Row.off (List._∷_ Row.dead (List._∷_ Row.off (List._∷_ Row.off List.[])))))))) }
+        G40 = record { locals = List._++_ t9 t1; slots = List._∷_ (Row.lease (κs .0) (qs .0)) (List._∷_ (Row.lease (κs .1 .0) (qs .1 .0)) (List._∷_ (Row.lease (κs .1 .1 .0) (qs .1 .1 .0)) (List._∷_ (Row.lease (κs .1 .1 .1 .0) (qs .1 .1 .1 .0)) (List._∷_ (Row.lease (κs .1 .1 .1 .1 .0) (qs .1 .1 .1 .1 .0)) (List._∷_ Row.off (List._∷_ Row.off (List._∷_ Row.off (List._∷_ Row.off (List._∷_ Row.off List.[]))))))))) }
 
         abbrev G41 : Row.Cx
-        G41 = record { locals = List._++_ t26 t1; slots = List._∷_ (Row.lease (κs .0) (qs .0)) (List._∷_ (Row.lease (κs .1 .0) (qs .1 .0)) (List._∷_ (Row.lease (κs .1 .1 .0) (qs .1 .1 .0)) (List._∷_ (Row.lease (κs .1 .1 .1 .0) (qs .1 .1 .1 .0)) (List._∷_ (Row.lease (κs .1 .1 .1 .1 .0) (qs .1 .1 .1 .1 .0)) (List._∷_ Row.off (List._∷_ Row.off (List._∷_ Row.off (List._∷_ Row.off List.[])))))))) }
+        G41 = record { locals = List._++_ t9 t1; slots = List._∷_ (Row.lease (κs .0) (qs .0)) (List._∷_ (Row.lease (κs .1 .0) (qs .1 .0)) (List._∷_ (Row.lease (κs .1 .1 .0) (qs .1 .1 .0)) (List._∷_ (Row.lease (κs .1 .1 .1 .0) (qs .1 .1 .1 .0)) (List._∷_ (Row.lease (κs .1 .1 .1 .1 .0) (qs .1 .1 .1 .1 .0)) (List._∷_ Row.off (List._∷_ Row.off (List._∷_ Row.alive (List._∷_ Row.off (List._∷_ Row.off List.[]))))))))) }
 
         abbrev G42 : Row.Cx
-        G42 = record { locals = List._++_ t4 t1; slots = List._∷_ (Row.lease (κs .0) (qs .0)) (List._∷_ (Row.lease (κs .1 .0) (qs .1 .0)) (List._∷_ (Row.lease (κs .1 .1 .0) (qs .1 .1 .0)) (List._∷_ (Row.lease (κs .1 .1 .1 .0) (qs .1 .1 .1 .0)) (List._∷_ (Row.lease (κs .1 .1 .1 .1 .0) (qs .1 .1 .1 .1 .0)) (List._∷_ Row.off (List._∷_ Row.off (List._∷_ Row.off (List._∷_ Row.off List.[])))))))) }
+        G42 = record { locals = List._++_ g23 t24; slots = List._∷_ (Row.lease (κs .0) (qs .0)) (List._∷_ (Row.lease (κs .1 .0) (qs .1 .0)) (List._∷_ Row.off (List._∷_ (Row.lease (κs .1 .1 .1 .0) (qs .1 .1 .1 .0)) (List._∷_ (Row.lease (κs .1 .1 .1 .1 .0) (qs .1 .1 .1 .1 .0)) (List._∷_ Row.off (List._∷_ Row.off (List._∷_ Row.alive (List._∷_ Row.off (List._∷_ Row.off List.[]))))))))) }
 
         abbrev G43 : Row.Cx
-        G43 = record { locals = List._++_ t4 t1; slots = List._∷_ (Row.lease (κs .0) (qs .0)) (List._∷_ (Row.lease (κs .1 .0) (qs .1 .0)) (List._∷_ (Row.lease (κs .1 .1 .0) (qs .1 .1 .0)) (List._∷_ (Row.lease (κs .1 .1 .1 .0) (qs .1 .1 .1 .0)) (List._∷_ (Row.lease (κs .1 .1 .1 .1 .0) (qs .1 .1 .1 .1 .0)) (List._∷_ Row.off (List._∷_ Row.off (List._∷_ Row.alive (List._∷_ Row.off List.[])))))))) }
+        G43 = record { locals = List._++_ g23 t25; slots = List._∷_ (Row.lease (κs .0) (qs .0)) (List._∷_ (Row.lease (κs .1 .0) (qs .1 .0)) (List._∷_ Row.off (List._∷_ (Row.lease (κs .1 .1 .1 .0) (qs .1 .1 .1 .0)) (List._∷_ (Row.lease (κs .1 .1 .1 .1 .0) (qs .1 .1 .1 .1 .0)) (List._∷_ Row.off (List._∷_ Row.off (List._∷_ Row.alive (List._∷_ Row.off (List._∷_ Row.off List.[]))))))))) }
 
         abbrev G44 : Row.Cx
-        G44 = record { locals = List._++_ g27 t28; slots = List._∷_ (Row.lease (κs .0) (qs .0)) (List._∷_ (Row.lease (κs .1 .0) (qs .1 .0)) (List._∷_ Row.off (List._∷_ (Row.lease (κs .1 .1 .1 .0) (qs .1 .1 .1 .0)) (List._∷_ (Row.lease (κs .1 .1 .1 .1 .0) (qs .1 .1 .1 .1 .0)) (List._∷_ Row.off (List._∷_ Row.off (List._∷_ Row.alive (List._∷_ Row.off List.[])))))))) }
+        G44 = record { locals = List._++_ g23 t25; slots = List._∷_ (Row.lease (κs .0) (qs .0)) (List._∷_ (Row.lease (κs .1 .0) (qs .1 .0)) (List._∷_ Row.off (List._∷_ (Row.lease (κs .1 .1 .1 .0) (qs .1 .1 .1 .0)) (List._∷_ (Row.lease (κs .1 .1 .1 .1 .0) (qs .1 .1 .1 .1 .0)) (List._∷_ Row.off (List._∷_ Row.off (List._∷_ Row.alive (List._∷_ Row.off (List._∷_ Row.off List.[]))))))))) }
 
         abbrev G45 : Row.Cx
-        G45 = record { locals = List._++_ g27 t29; slots = List._∷_ (Row.lease (κs .0) (qs .0)) (List._∷_ (Row.lease (κs .1 .0) (qs .1 .0)) (List._∷_ Row.off (List._∷_ (Row.lease (κs .1 .1 .1 .0) (qs .1 .1 .1 .0)) (List._∷_ (Row.lease (κs .1 .1 .1 .1 .0) (qs .1 .1 .1 .1 .0)) (List._∷_ Row.off (List._∷_ Row.off (List._∷_ Row.alive (List._∷_ Row.off List.[])))))))) }
+        G45 = record { locals = List._++_ g23 t26; slots = List._∷_ (Row.lease (κs .0) (qs .0)) (List._∷_ (Row.lease (κs .1 .0) (qs .1 .0)) (List._∷_ Row.off (List._∷_ (Row.lease (κs .1 .1 .1 .0) (qs .1 .1 .1 .0)) (List._∷_ (Row.lease (κs .1 .1 .1 .1 .0) (qs .1 .1 .1 .1 .0)) (List._∷_ Row.off (List._∷_ Row.off (List._∷_ Row.alive (List._∷_ Row.off (List._∷_ Row.off List.[]))))))))) }
 
         abbrev G46 : Row.Cx
-        G46 = record { locals = List._++_ g30 t31; slots = List._∷_ (Row.lease (κs .0) (qs .0)) (List._∷_ (Row.lease (κs .1 .0) (qs .1 .0)) (List._∷_ Row.off (List._∷_ (Row.lease (κs .1 .1 .1 .0) (qs .1 .1 .1 .0)) (List._∷_ (Row.lease (κs .1 .1 .1 .1 .0) (qs .1 .1 .1 .1 .0)) (List._∷_ Row.off (List._∷_ Row.off (List._∷_ Row.alive (List._∷_ Row.off List.[])))))))) }
+        G46 = record { locals = List._++_ g23 t26; slots = List._∷_ (Row.lease (κs .0) (qs .0)) (List._∷_ (Row.lease (κs .1 .0) (qs .1 .0)) (List._∷_ Row.off (List._∷_ (Row.lease (κs .1 .1 .1 .0) (qs .1 .1 .1 .0)) (List._∷_ (Row.lease (κs .1 .1 .1 .1 .0) (qs .1 .1 .1 .1 .0)) (List._∷_ Row.off (List._∷_ Row.off (List._∷_ Row.alive (List._∷_ Row.off (List._∷_ Row.off List.[]))))))))) }
 
         abbrev G47 : Row.Cx
-        G47 = record { locals = List._++_ g32 t31; slots = List._∷_ (Row.lease (κs .0) (qs .0)) (List._∷_ (Row.lease (κs .1 .0) (qs .1 .0)) (List._∷_ Row.off (List._∷_ (Row.lease (κs .1 .1 .1 .0) (qs .1 .1 .1 .0)) (List._∷_ (Row.lease (κs .1 .1 .1 .1 .0) (qs .1 .1 .1 .1 .0)) (List._∷_ Row.off (List._∷_ Row.off (List._∷_ Row.alive (List._∷_ Row.off List.[])))))))) }
+        G47 = record { locals = List._++_ g23 t27; slots = List._∷_ (Row.lease (κs .0) (qs .0)) (List._∷_ (Row.lease (κs .1 .0) (qs .1 .0)) (List._∷_ Row.off (List._∷_ (Row.lease (κs .1 .1 .1 .0) (qs .1 .1 .1 .0)) (List._∷_ (Row.lease (κs .1 .1 .1 .1 .0) (qs .1 .1 .1 .1 .0)) (List._∷_ Row.off (List._∷_ Row.off (List._∷_ Row.alive (List._∷_ Row.off (List._∷_ Row.off List.[]))))))))) }
 
         abbrev G48 : Row.Cx
-        G48 = record { locals = List._++_ g32 t31; slots = List._∷_ (Row.lease (κs .0) (qs .0)) (List._∷_ (Row.lease (κs .1 .0) (qs .1 .0)) (List._∷_ Row.off (List._∷_ (Row.lease (κs .1 .1 .1 .0) (qs .1 .1 .1 .0)) (List._∷_ (Row.lease (κs .1 .1 .1 .1 .0) (qs .1 .1 .1 .1 .0)) (List._∷_ Row.off (List._∷_ Row.off (List._∷_ Row.dead (List._∷_ Row.off List.[])))))))) }
+        G48 = record { locals = List._++_ g23 t28; slots = List._∷_ (Row.lease (κs .0) (qs .0)) (List._∷_ (Row.lease (κs .1 .0) (qs .1 .0)) (List._∷_ Row.off (List._∷_ (Row.lease (κs .1 .1 .1 .0) (qs .1 .1 .1 .0)) (List._∷_ (Row.lease (κs .1 .1 .1 .1 .0) (qs .1 .1 .1 .1 .0)) (List._∷_ Row.off (List._∷_ Row.off (List._∷_ Row.alive (List._∷_ Row.off (List._∷_ Row.off List.[]))))))))) }
 
         abbrev G49 : Row.Cx
-        G49 = record { locals = List._++_ t15 t1; slots = List._∷_ (Row.lease (κs .0) (qs .0)) (List._∷_ (Row.lease (κs .1 .0) (qs .1 .0)) (List._∷_ (Row.lease (κs .1 .1 .0) (qs .1 .1 .0)) (List._∷_ (Row.lease (κs .1 .1 .1 .0) (qs .1 .1 .1 .0)) (List._∷_ (Row.lease (κs .1 .1 .1 .1 .0) (qs .1 .1 .1 .1 .0)) (List._∷_ Row.off (List._∷_ Row.off (List._∷_ Row.dead (List._∷_ Row.off List.[])))))))) }
+        G49 = record { locals = List._++_ t9 t1; slots = List._∷_ (Row.lease (κs .0) (qs .0)) (List._∷_ (Row.lease (κs .1 .0) (qs .1 .0)) (List._∷_ (Row.lease (κs .1 .1 .0) (qs .1 .1 .0)) (List._∷_ (Row.lease (κs .1 .1 .1 .0) (qs .1 .1 .1 .0)) (List._∷_ (Row.lease (κs .1 .1 .1 .1 .0) (qs .1 .1 .1 .1 .0)) (List._∷_ Row.off (List._∷_ Row.off (List._∷_ Row.off (List._∷_ Row.off (List._∷_ Row.off List.[]))))))))) }
 
         abbrev G50 : Row.Cx
-        G50 = record { locals = List._++_ t15 t1; slots = List._∷_ (Row.lease (κs .0) (qs .0)) (List._∷_ (Row.lease (κs .1 .0) (qs .1 .0)) (List._∷_ (Row.lease (κs .1 .1 .0) (qs .1 .1 .0)) (List._∷_ (Row.lease (κs .1 .1 .1 .0) (qs .1 .1 .1 .0)) (List._∷_ (Row.lease (κs .1 .1 .1 .1 .0) (qs .1 .1 .1 .1 .0)) (List._∷_ Row.off (List._∷_ Row.off (List._∷_ Row.dead (List._∷_ Row.off List.[])))))))) }
+        G50 = record { locals = List._++_ g23 t29; slots = List._∷_ (Row.lease (κs .0) (qs .0)) (List._∷_ (Row.lease (κs .1 .0) (qs .1 .0)) (List._∷_ Row.off (List._∷_ (Row.lease (κs .1 .1 .1 .0) (qs .1 .1 .1 .0)) (List._∷_ (Row.lease (κs .1 .1 .1 .1 .0) (qs .1 .1 .1 .1 .0)) (List._∷_ Row.off (List._∷_ Row.off (List._∷_ Row.alive (List._∷_ Row.off (List._∷_ Row.off List.[]))))))))) }
 
         abbrev G51 : Row.Cx
-        G51 = record { locals = List._++_ t15 t1; slots = List._∷_ (Row.lease (κs .0) (qs .0)) (List._∷_ (Row.lease (κs .1 .0) (qs .1 .0)) (List._∷_ (Row.lease (κs .1 .1 .0) (qs .1 .1 .0)) (List._∷_ (Row.lease (κs .1 .1 .1 .0) (qs .1 .1 .1 .0)) (List._∷_ (Row.lease (κs .1 .1 .1 .1 .0) (qs .1 .1 .1 .1 .0)) (List._∷_ Row.off (List._∷_ Row.off (List._∷_ Row.off (List._∷_ Row.off List.[])))))))) }
+        G51 = record { locals = List._++_ g23 t30; slots = List._∷_ (Row.lease (κs .0) (qs .0)) (List._∷_ (Row.lease (κs .1 .0) (qs .1 .0)) (List._∷_ Row.off (List._∷_ (Row.lease (κs .1 .1 .1 .0) (qs .1 .1 .1 .0)) (List._∷_ (Row.lease (κs .1 .1 .1 .1 .0) (qs .1 .1 .1 .1 .0)) (List._∷_ Row.off (List._∷_ Row.off (List._∷_ Row.alive (List._∷_ Row.off (List._∷_ Row.off List.[]))))))))) }
 
         abbrev G52 : Row.Cx
-        G52 = record { locals = List._++_ t16 t1; slots = List._∷_ (Row.lease (κs .0) (qs .0)) (List._∷_ (Row.lease (κs .1 .0) (qs .1 .0)) (List._∷_ (Row.lease (κs .1 .1 .0) (qs .1 .1 .0)) (List._∷_ (Row.lease (κs .1 .1 .1 .0) (qs .1 .1 .1 .0)) (List._∷_ (Row.lease (κs .1 .1 .1 .1 .0) (qs .1 .1 .1 .1 .0)) (List._∷_ Row.off (List._∷_ Row.off (List._∷_ Row.off (List._∷_ Row.off List.[])))))))) }
+        G52 = record { locals = List._++_ g23 t31; slots = List._∷_ (Row.lease (κs .0) (qs .0)) (List._∷_ (Row.lease (κs .1 .0) (qs .1 .0)) (List._∷_ Row.off (List._∷_ (Row.lease (κs .1 .1 .1 .0) (qs .1 .1 .1 .0)) (List._∷_ (Row.lease (κs .1 .1 .1 .1 .0) (qs .1 .1 .1 .1 .0)) (List._∷_ Row.off (List._∷_ Row.off (List._∷_ Row.alive (List._∷_ Row.off (List._∷_ Row.off List.[]))))))))) }
 
         abbrev G53 : Row.Cx
-        G53 = record { locals = List._++_ t2 t1; slots = List._∷_ (Row.lease (κs .0) (qs .0)) (List._∷_ (Row.lease (κs .1 .0) (qs .1 .0)) (List._∷_ (Row.lease (κs .1 .1 .0) (qs .1 .1 .0)) (List._∷_ (Row.lease (κs .1 .1 .1 .0) (qs .1 .1 .1 .0)) (List._∷_ (Row.lease (κs .1 .1 .1 .1 .0) (qs .1 .1 .1 .1 .0)) (List._∷_ Row.off (List._∷_ Row.off (List._∷_ Row.off (List._∷_ Row.off List.[])))))))) }
+        G53 = record { locals = List._++_ g23 t31; slots = List._∷_ (Row.lease (κs .0) (qs .0)) (List._∷_ (Row.lease (κs .1 .0) (qs .1 .0)) (List._∷_ Row.off (List._∷_ (Row.lease (κs .1 .1 .1 .0) (qs .1 .1 .1 .0)) (List._∷_ (Row.lease (κs .1 .1 .1 .1 .0) (qs .1 .1 .1 .1 .0)) (List._∷_ Row.off (List._∷_ Row.off (List._∷_ Row.dead (List._∷_ Row.off (List._∷_ Row.off List.[]))))))))) }
 
         abbrev G54 : Row.Cx
-        G54 = record { locals = List._++_ t4 t1; slots = List._∷_ (Row.lease (κs .0) (qs .0)) (List._∷_ (Row.lease (κs .1 .0) (qs .1 .0)) (List._∷_ (Row.lease (κs .1 .1 .0) (qs .1 .1 .0)) (List._∷_ (Row.lease (κs .1 .1 .1 .0) (qs .1 .1 .1 .0)) (List._∷_ (Row.lease (κs .1 .1 .1 .1 .0) (qs .1 .1 .1 .1 .0)) (List._∷_ Row.off (List._∷_ Row.off (List._∷_ Row.off (List._∷_ Row.off List.[])))))))) }
+        G54 = record { locals = List._++_ t9 t31; slots = List._∷_ (Row.lease (κs .0) (qs .0)) (List._∷_ (Row.lease (κs .1 .0) (qs .1 .0)) (List._∷_ (Row.lease (κs .1 .1 .0) (qs .1 .1 .0)) (List._∷_ (Row.lease (κs .1 .1 .1 .0) (qs .1 .1 .1 .0)) (List._∷_ (Row.lease (κs .1 .1 .1 .1 .0) (qs .1 .1 .1 .1 .0)) (List._∷_ Row.off (List._∷_ Row.off (List._∷_ Row.dead (List._∷_ Row.off (List._∷_ Row.off List.[]))))))))) }
 
         abbrev G55 : Row.Cx
-        G55 = record { locals = List._++_ t4 t1; slots = List._∷_ (Row.lease (κs .0) (qs .0)) (List._∷_ (Row.lease (κs .1 .0) (qs .1 .0)) (List._∷_ (Row.lease (κs .1 .1 .0) (qs .1 .1 .0)) (List._∷_ (Row.lease (κs .1 .1 .1 .0) (qs .1 .1 .1 .0)) (List._∷_ (Row.lease (κs .1 .1 .1 .1 .0) (qs .1 .1 .1 .1 .0)) (List._∷_ Row.off (List._∷_ Row.off (List._∷_ Row.off (List._∷_ Row.alive List.[])))))))) }
+        G55 = record { locals = List._++_ t9 t31; slots = List._∷_ (Row.lease (κs .0) (qs .0)) (List._∷_ (Row.lease (κs .1 .0) (qs .1 .0)) (List._∷_ (Row.lease (κs .1 .1 .0) (qs .1 .1 .0)) (List._∷_ (Row.lease (κs .1 .1 .1 .0) (qs .1 .1 .1 .0)) (List._∷_ (Row.lease (κs .1 .1 .1 .1 .0) (qs .1 .1 .1 .1 .0)) (List._∷_ Row.off (List._∷_ Row.off (List._∷_ Row.off (List._∷_ Row.off (List._∷_ Row.off List.[]))))))))) }
 
         abbrev G56 : Row.Cx
-        G56 = record { locals = List._++_ g33 t34; slots = List._∷_ (Row.lease (κs .0) (qs .0)) (List._∷_ (Row.lease (κs .1 .0) (qs .1 .0)) (List._∷_ Row.off (List._∷_ (Row.lease (κs .1 .1 .1 .0) (qs .1 .1 .1 .0)) (List._∷_ (Row.lease (κs .1 .1 .1 .1 .0) (qs .1 .1 .1 .1 .0)) (List._∷_ Row.off (List._∷_ Row.off (List._∷_ Row.off (List._∷_ Row.alive List.[])))))))) }
+        G56 = record { locals = List._++_ t9 t1; slots = List._∷_ (Row.lease (κs .0) (qs .0)) (List._∷_ (Row.lease (κs .1 .0) (qs .1 .0)) (List._∷_ (Row.lease (κs .1 .1 .0) (qs .1 .1 .0)) (List._∷_ (Row.lease (κs .1 .1 .1 .0) (qs .1 .1 .1 .0)) (List._∷_ (Row.lease (κs .1 .1 .1 .1 .0) (qs .1 .1 .1 .1 .0)) (List._∷_ Row.off (List._∷_ Row.off (List._∷_ Row.off (List._∷_ Row.off (List._∷_ Row.off List.[]))))))))) }
 
         abbrev G57 : Row.Cx
-        G57 = record { locals = List._++_ g33 t35; slots = List._∷_ (Row.lease (κs .0) (qs .0)) (List._∷_ (Row.lease (κs .1 .0) (qs .1 .0)) (List._∷_ Row.off (List._∷_ (Row.lease (κs .1 .1 .1 .0) (qs .1 .1 .1 .0)) (List._∷_ (Row.lease (κs .1 .1 .1 .1 .0) (qs .1 .1 .1 .1 .0)) (List._∷_ Row.off (List._∷_ Row.off (List._∷_ Row.off (List._∷_ Row.alive List.[])))))))) }
+        G57 = record { locals = List._++_ t9 t1; slots = List._∷_ (Row.lease (κs .0) (qs .0)) (List._∷_ (Row.lease (κs .1 .0) (qs .1 .0)) (List._∷_ (Row.lease (κs .1 .1 .0) (qs .1 .1 .0)) (List._∷_ (Row.lease (κs .1 .1 .1 .0) (qs .1 .1 .1 .0)) (List._∷_ (Row.lease (κs .1 .1 .1 .1 .0) (qs .1 .1 .1 .1 .0)) (List._∷_ Row.off (List._∷_ Row.off (List._∷_ Row.off (List._∷_ Row.alive (List._∷_ Row.off List.[]))))))))) }
 
         abbrev G58 : Row.Cx
-        G58 = record { locals = List._++_ g36 t37; slots = List._∷_ (Row.lease (κs .0) (qs .0)) (List._∷_ (Row.lease (κs .1 .0) (qs .1 .0)) (List._∷_ Row.off (List._∷_ (Row.lease (κs .1 .1 .1 .0) (qs .1 .1 .1 .0)) (List._∷_ (Row.lease (κs .1 .1 .1 .1 .0) (qs .1 .1 .1 .1 .0)) (List._∷_ Row.off (List._∷_ Row.off (List._∷_ Row.off (List._∷_ Row.alive List.[])))))))) }
+        G58 = record { locals = List._++_ g32 t33; slots = List._∷_ (Row.lease (κs .0) (qs .0)) (List._∷_ (Row.lease (κs .1 .0) (qs .1 .0)) (List._∷_ Row.off (List._∷_ (Row.lease (κs .1 .1 .1 .0) (qs .1 .1 .1 .0)) (List._∷_ (Row.lease (κs .1 .1 .1 .1 .0) (qs .1 .1 .1 .1 .0)) (List._∷_ Row.off (List._∷_ Row.off (List._∷_ Row.off (List._∷_ Row.alive (List._∷_ Row.off List.[]))))))))) }
 
         abbrev G59 : Row.Cx
-        G59 = record { locals = List._++_ g38 t37; slots = List._∷_ (Row.lease (κs .0) (qs .0)) (List._∷_ (Row.lease (κs .1 .0) (qs .1 .0)) (List._∷_ Row.off (List._∷_ (Row.lease (κs .1 .1 .1 .0) (qs .1 .1 .1 .0)) (List._∷_ (Row.lease (κs .1 .1 .1 .1 .0) (qs .1 .1 .1 .1 .0)) (List._∷_ Row.off (List._∷_ Row.off (List._∷_ Row.off (List._∷_ Row.alive List.[])))))))) }
+        G59 = record { locals = List._++_ g32 t34; slots = List._∷_ (Row.lease (κs .0) (qs .0)) (List._∷_ (Row.lease (κs .1 .0) (qs .1 .0)) (List._∷_ Row.off (List._∷_ (Row.lease (κs .1 .1 .1 .0) (qs .1 .1 .1 .0)) (List._∷_ (Row.lease (κs .1 .1 .1 .1 .0) (qs .1 .1 .1 .1 .0)) (List._∷_ Row.off (List._∷_ Row.off (List._∷_ Row.off (List._∷_ Row.alive (List._∷_ Row.off List.[]))))))))) }
 
         abbrev G60 : Row.Cx
-        G60 = record { locals = List._++_ g39 t37; slots = List._∷_ (Row.lease (κs .0) (qs .0)) (List._∷_ (Row.lease (κs .1 .0) (qs .1 .0)) (List._∷_ Row.off (List._∷_ (Row.lease (κs .1 .1 .1 .0) (qs .1 .1 .1 .0)) (List._∷_ (Row.lease (κs .1 .1 .1 .1 .0) (qs .1 .1 .1 .1 .0)) (List._∷_ Row.off (List._∷_ Row.off (List._∷_ Row.off (List._∷_ Row.alive List.[])))))))) }
+        G60 = record { locals = List._++_ g35 t36; slots = List._∷_ (Row.lease (κs .0) (qs .0)) (List._∷_ (Row.lease (κs .1 .0) (qs .1 .0)) (List._∷_ Row.off (List._∷_ (Row.lease (κs .1 .1 .1 .0) (qs .1 .1 .1 .0)) (List._∷_ (Row.lease (κs .1 .1 .1 .1 .0) (qs .1 .1 .1 .1 .0)) (List._∷_ Row.off (List._∷_ Row.off (List._∷_ Row.off (List._∷_ Row.alive (List._∷_ Row.off List.[]))))))))) }
 
         abbrev G61 : Row.Cx
-        G61 = record { locals = List._++_ g40 t37; slots = List._∷_ (Row.lease (κs .0) (qs .0)) (List._∷_ (Row.lease (κs .1 .0) (qs .1 .0)) (List._∷_ Row.off (List._∷_ (Row.lease (κs .1 .1 .1 .0) (qs .1 .1 .1 .0)) (List._∷_ (Row.lease (κs .1 .1 .1 .1 .0) (qs .1 .1 .1 .1 .0)) (List._∷_ Row.off (List._∷_ Row.off (List._∷_ Row.off (List._∷_ Row.alive List.[])))))))) }
+        G61 = record { locals = List._++_ g37 t36; slots = List._∷_ (Row.lease (κs .0) (qs .0)) (List._∷_ (Row.lease (κs .1 .0) (qs .1 .0)) (List._∷_ Row.off (List._∷_ (Row.lease (κs .1 .1 .1 .0) (qs .1 .1 .1 .0)) (List._∷_ (Row.lease (κs .1 .1 .1 .1 .0) (qs .1 .1 .1 .1 .0)) (List._∷_ Row.off (List._∷_ Row.off (List._∷_ Row.off (List._∷_ Row.alive (List._∷_ Row.off List.[]))))))))) }
 
         abbrev G62 : Row.Cx
-        G62 = record { locals = List._++_ g40 t37; slots = List._∷_ (Row.lease (κs .0) (qs .0)) (List._∷_ (Row.lease (κs .1 .0) (qs .1 .0)) (List._∷_ Row.off (List._∷_ (Row.lease (κs .1 .1 .1 .0) (qs .1 .1 .1 .0)) (List._∷_ (Row.lease (κs .1 .1 .1 .1 .0) (qs .1 .1 .1 .1 .0)) (List._∷_ Row.off (List._∷_ Row.off (List._∷_ Row.off (List._∷_ Row.dead List.[])))))))) }
+        G62 = record { locals = List._++_ g37 t36; slots = List._∷_ (Row.lease (κs .0) (qs .0)) (List._∷_ (Row.lease (κs .1 .0) (qs .1 .0)) (List._∷_ Row.off (List._∷_ (Row.lease (κs .1 .1 .1 .0) (qs .1 .1 .1 .0)) (List._∷_ (Row.lease (κs .1 .1 .1 .1 .0) (qs .1 .1 .1 .1 .0)) (List._∷_ Row.off (List._∷_ Row.off (List._∷_ Row.off (List._∷_ Row.dead (List._∷_ Row.off List.[]))))))))) }
 
         abbrev G63 : Row.Cx
-        G63 = record { locals = List._++_ t2 t1; slots = List._∷_ (Row.lease (κs .0) (qs .0)) (List._∷_ (Row.lease (κs .1 .0) (qs .1 .0)) (List._∷_ (Row.lease (κs .1 .1 .0) (qs .1 .1 .0)) (List._∷_ (Row.lease (κs .1 .1 .1 .0) (qs .1 .1 .1 .0)) (List._∷_ (Row.lease (κs .1 .1 .1 .1 .0) (qs .1 .1 .1 .1 .0)) (List._∷_ Row.off (List._∷_ Row.off (List._∷_ Row.off (List._∷_ Row.dead List.[])))))))) }
+        G63 = record { locals = List._++_ t20 t1; slots = List._∷_ (Row.lease (κs .0) (qs .0)) (List._∷_ (Row.lease (κs .1 .0) (qs .1 .0)) (List._∷_ (Row.lease (κs .1 .1 .0) (qs .1 .1 .0)) (List._∷_ (Row.lease (κs .1 .1 .1 .0) (qs .1 .1 .1 .0)) (List._∷_ (Row.lease (κs .1 .1 .1 .1 .0) (qs .1 .1 .1 .1 .0)) (List._∷_ Row.off (List._∷_ Row.off (List._∷_ Row.off (List._∷_ Row.dead (List._∷_ Row.off List.[]))))))))) }
 
         abbrev G64 : Row.Cx
-        G64 = record { locals = List._++_ t2 t1; slots = List._∷_ (Row.lease (κs .0) (qs .0)) (List._∷_ (Row.lease (κs .1 .0) (qs .1 .0)) (List._∷_ (Row.lease (κs .1 .1 .0) (qs .1 .1 .0)) (List._∷_ (Row.lease (κs .1 .1 .1 .0) (qs .1 .1 .1 .0)) (List._∷_ (Row.lease (κs .1 .1 .1 .1 .0) (qs .1 .1 .1 .1 .0)) (List._∷_ Row.off (List._∷_ Row.off (List._∷_ Row.off (List._∷_ Row.dead List.[])))))))) }
+        G64 = record { locals = List._++_ t20 t1; slots = List._∷_ (Row.lease (κs .0) (qs .0)) (List._∷_ (Row.lease (κs .1 .0) (qs .1 .0)) (List._∷_ (Row.lease (κs .1 .1 .0) (qs .1 .1 .0)) (List._∷_ (Row.lease (κs .1 .1 .1 .0) (qs .1 .1 .1 .0)) (List._∷_ (Row.lease (κs .1 .1 .1 .1 .0) (qs .1 .1 .1 .1 .0)) (List._∷_ Row.off (List._∷_ Row.off (List._∷_ Row.off (List._∷_ Row.dead (List._∷_ Row.off List.[]))))))))) }
 
         abbrev G65 : Row.Cx
-        G65 = record { locals = List._++_ t2 t1; slots = List._∷_ (Row.lease (κs .0) (qs .0)) (List._∷_ (Row.lease (κs .1 .0) (qs .1 .0)) (List._∷_ (Row.lease (κs .1 .1 .0) (qs .1 .1 .0)) (List._∷_ (Row.lease (κs .1 .1 .1 .0) (qs .1 .1 .1 .0)) (List._∷_ (Row.lease (κs .1 .1 .1 .1 .0) (qs .1 .1 .1 .1 .0)) (List._∷_ Row.off (List._∷_ Row.off (List._∷_ Row.off (List._∷_ Row.off List.[])))))))) }
+        G65 = record { locals = List._++_ t20 t1; slots = List._∷_ (Row.lease (κs .0) (qs .0)) (List._∷_ (Row.lease (κs .1 .0) (qs .1 .0)) (List._∷_ (Row.lease (κs .1 .1 .0) (qs .1 .1 .0)) (List._∷_ (Row.lease (κs .1 .1 .1 .0) (qs .1 .1 .1 .0)) (List._∷_ (Row.lease (κs .1 .1 .1 .1 .0) (qs .1 .1 .1 .1 .0)) (List._∷_ Row.off (List._∷_ Row.off (List._∷_ Row.off (List._∷_ Row.off (List._∷_ Row.off List.[]))))))))) }
+
+        abbrev G66 : Row.Cx
+        G66 = record { locals = List._++_ t21 t1; slots = List._∷_ (Row.lease (κs .0) (qs .0)) (List._∷_ (Row.lease (κs .1 .0) (qs .1 .0)) (List._∷_ (Row.lease (κs .1 .1 .0) (qs .1 .1 .0)) (List._∷_ (Row.lease (κs .1 .1 .1 .0) (qs .1 .1 .1 .0)) (List._∷_ (Row.lease (κs .1 .1 .1 .1 .0) (qs .1 .1 .1 .1 .0)) (List._∷_ Row.off (List._∷_ Row.off (List._∷_ Row.off (List._∷_ Row.off (List._∷_ Row.off List.[]))))))))) }
+
+        abbrev G67 : Row.Cx
+        G67 = record { locals = List._++_ t2 t1; slots = List._∷_ (Row.lease (κs .0) (qs .0)) (List._∷_ (Row.lease (κs .1 .0) (qs .1 .0)) (List._∷_ (Row.lease (κs .1 .1 .0) (qs .1 .1 .0)) (List._∷_ (Row.lease (κs .1 .1 .1 .0) (qs .1 .1 .1 .0)) (List._∷_ (Row.lease (κs .1 .1 .1 .1 .0) (qs .1 .1 .1 .1 .0)) (List._∷_ Row.off (List._∷_ Row.off (List._∷_ Row.off (List._∷_ Row.off (List._∷_ Row.off List.[]))))))))) }
+
+        abbrev G68 : Row.Cx
+        G68 = record { locals = List._++_ t9 t1; slots = List._∷_ (Row.lease (κs .0) (qs .0)) (List._∷_ (Row.lease (κs .1 .0) (qs .1 .0)) (List._∷_ (Row.lease (κs .1 .1 .0) (qs .1 .1 .0)) (List._∷_ (Row.lease (κs .1 .1 .1 .0) (qs .1 .1 .1 .0)) (List._∷_ (Row.lease (κs .1 .1 .1 .1 .0) (qs .1 .1 .1 .1 .0)) (List._∷_ Row.off (List._∷_ Row.off (List._∷_ Row.off (List._∷_ Row.off (List._∷_ Row.off List.[]))))))))) }
+
+        abbrev G69 : Row.Cx
+        G69 = record { locals = List._++_ t9 t1; slots = List._∷_ (Row.lease (κs .0) (qs .0)) (List._∷_ (Row.lease (κs .1 .0) (qs .1 .0)) (List._∷_ (Row.lease (κs .1 .1 .0) (qs .1 .1 .0)) (List._∷_ (Row.lease (κs .1 .1 .1 .0) (qs .1 .1 .1 .0)) (List._∷_ (Row.lease (κs .1 .1 .1 .1 .0) (qs .1 .1 .1 .1 .0)) (List._∷_ Row.off (List._∷_ Row.off (List._∷_ Row.off (List._∷_ Row.off (List._∷_ Row.alive List.[]))))))))) }
+
+        abbrev G70 : Row.Cx
+        G70 = record { locals = List._++_ g38 t39; slots = List._∷_ (Row.lease (κs .0) (qs .0)) (List._∷_ (Row.lease (κs .1 .0) (qs .1 .0)) (List._∷_ Row.off (List._∷_ (Row.lease (κs .1 .1 .1 .0) (qs .1 .1 .1 .0)) (List._∷_ (Row.lease (κs .1 .1 .1 .1 .0) (qs .1 .1 .1 .1 .0)) (List._∷_ Row.off (List._∷_ Row.off (List._∷_ Row.off (List._∷_ Row.off (List._∷_ Row.alive List.[]))))))))) }
+
+        abbrev G71 : Row.Cx
+        G71 = record { locals = List._++_ g38 t40; slots = List._∷_ (Row.lease (κs .0) (qs .0)) (List._∷_ (Row.lease (κs .1 .0) (qs .1 .0)) (List._∷_ Row.off (List._∷_ (Row.lease (κs .1 .1 .1 .0) (qs .1 .1 .1 .0)) (List._∷_ (Row.lease (κs .1 .1 .1 .1 .0) (qs .1 .1 .1 .1 .0)) (List._∷_ Row.off (List._∷_ Row.off (List._∷_ Row.off (List._∷_ Row.off (List._∷_ Row.alive List.[]))))))))) }
+
+        abbrev G72 : Row.Cx
+        G72 = record { locals = List._++_ g41 t42; slots = List._∷_ (Row.lease (κs .0) (qs .0)) (List._∷_ (Row.lease (κs .1 .0) (qs .1 .0)) (List._∷_ Row.off (List._∷_ (Row.lease (κs .1 .1 .1 .0) (qs .1 .1 .1 .0)) (List._∷_ (Row.lease (κs .1 .1 .1 .1 .0) (qs .1 .1 .1 .1 .0)) (List._∷_ Row.off (List._∷_ Row.off (List._∷_ Row.off (List._∷_ Row.off (List._∷_ Row.alive List.[]))))))))) }
+
+        abbrev G73 : Row.Cx
+        G73 = record { locals = List._++_ g43 t42; slots = List._∷_ (Row.lease (κs .0) (qs .0)) (List._∷_ (Row.lease (κs .1 .0) (qs .1 .0)) (List._∷_ Row.off (List._∷_ (Row.lease (κs .1 .1 .1 .0) (qs .1 .1 .1 .0)) (List._∷_ (Row.lease (κs .1 .1 .1 .1 .0) (qs .1 .1 .1 .1 .0)) (List._∷_ Row.off (List._∷_ Row.off (List._∷_ Row.off (List._∷_ Row.off (List._∷_ Row.alive List.[]))))))))) }
+
+        abbrev G74 : Row.Cx
+        G74 = record { locals = List._++_ g44 t42; slots = List._∷_ (Row.lease (κs .0) (qs .0)) (List._∷_ (Row.lease (κs .1 .0) (qs .1 .0)) (List._∷_ Row.off (List._∷_ (Row.lease (κs .1 .1 .1 .0) (qs .1 .1 .1 .0)) (List._∷_ (Row.lease (κs .1 .1 .1 .1 .0) (qs .1 .1 .1 .1 .0)) (List._∷_ Row.off (List._∷_ Row.off (List._∷_ Row.off (List._∷_ Row.off (List._∷_ Row.alive List.[]))))))))) }
+
+        abbrev G75 : Row.Cx
+        G75 = record { locals = List._++_ g45 t42; slots = List._∷_ (Row.lease (κs .0) (qs .0)) (List._∷_ (Row.lease (κs .1 .0) (qs .1 .0)) (List._∷_ Row.off (List._∷_ (Row.lease (κs .1 .1 .1 .0) (qs .1 .1 .1 .0)) (List._∷_ (Row.lease (κs .1 .1 .1 .1 .0) (qs .1 .1 .1 .1 .0)) (List._∷_ Row.off (List._∷_ Row.off (List._∷_ Row.off (List._∷_ Row.off (List._∷_ Row.alive List.[]))))))))) }
+
+        abbrev G76 : Row.Cx
+        G76 = record { locals = List._++_ g45 t42; slots = List._∷_ (Row.lease (κs .0) (qs .0)) (List._∷_ (Row.lease (κs .1 .0) (qs .1 .0)) (List._∷_ Row.off (List._∷_ (Row.lease (κs .1 .1 .1 .0) (qs .1 .1 .1 .0)) (List._∷_ (Row.lease (κs .1 .1 .1 .1 .0) (qs .1 .1 .1 .1 .0)) (List._∷_ Row.off (List._∷_ Row.off (List._∷_ Row.off (List._∷_ Row.off (List._∷_ Row.dead List.[]))))))))) }
+
+        abbrev G77 : Row.Cx
+        G77 = record { locals = List._++_ t2 t1; slots = List._∷_ (Row.lease (κs .0) (qs .0)) (List._∷_ (Row.lease (κs .1 .0) (qs .1 .0)) (List._∷_ (Row.lease (κs .1 .1 .0) (qs .1 .1 .0)) (List._∷_ (Row.lease (κs .1 .1 .1 .0) (qs .1 .1 .1 .0)) (List._∷_ (Row.lease (κs .1 .1 .1 .1 .0) (qs .1 .1 .1 .1 .0)) (List._∷_ Row.off (List._∷_ Row.off (List._∷_ Row.off (List._∷_ Row.off (List._∷_ Row.dead List.[]))))))))) }
+
+        abbrev G78 : Row.Cx
+        G78 = record { locals = List._++_ t2 t1; slots = List._∷_ (Row.lease (κs .0) (qs .0)) (List._∷_ (Row.lease (κs .1 .0) (qs .1 .0)) (List._∷_ (Row.lease (κs .1 .1 .0) (qs .1 .1 .0)) (List._∷_ (Row.lease (κs .1 .1 .1 .0) (qs .1 .1 .1 .0)) (List._∷_ (Row.lease (κs .1 .1 .1 .1 .0) (qs .1 .1 .1 .1 .0)) (List._∷_ Row.off (List._∷_ Row.off (List._∷_ Row.off (List._∷_ Row.off (List._∷_ Row.dead List.[]))))))))) }
+
+        abbrev G79 : Row.Cx
+        G79 = record { locals = List._++_ t2 t1; slots = List._∷_ (Row.lease (κs .0) (qs .0)) (List._∷_ (Row.lease (κs .1 .0) (qs .1 .0)) (List._∷_ (Row.lease (κs .1 .1 .0) (qs .1 .1 .0)) (List._∷_ (Row.lease (κs .1 .1 .1 .0) (qs .1 .1 .1 .0)) (List._∷_ (Row.lease (κs .1 .1 .1 .1 .0) (qs .1 .1 .1 .1 .0)) (List._∷_ Row.off (List._∷_ Row.off (List._∷_ Row.off (List._∷_ Row.off (List._∷_ Row.off List.[]))))))))) }
 
         abbrev Δ0 : Typed.Outs
         Δ0 = record { next = Option.none; exits = List.[]; returns = Option.some G1 }
 
         abbrev Δ1 : Typed.Outs
-        Δ1 = Typed.withNext (Option.some G17) Δ0
+        Δ1 = Typed.withNext (Option.some G7) Δ0
 
         abbrev Δ2 : Typed.Outs
-        Δ2 = Typed.withNext (Option.some G35) Δ0
+        Δ2 = Typed.withNext (Option.some G31) Δ0
+
+        abbrev Δ3 : Typed.Outs
+        Δ3 = Typed.withNext (Option.some G49) Δ0
 
         module _ {M : Type 1} (𝓤 : URA.URA M) (H : Wp.Heap 𝓤) (A : Atoms.Atoms 𝓤) (W : Kit.Given 𝓤 H A) (𝓣 : Wp.Tables 𝓤 H) (known : Knowns 𝓤 H A W 𝓣) (bs : List.List Nat.ℕ) (bd : Lifetimes.AllOutlive 5 (Kinds.osR r) κs) where
           abbrev E : Wp.Env 𝓤 H
           E = Frame.EnvOf 𝓤 H (List._∷_ (Kinds.tyR r) (Enter.tysP ps xs)) bs
 
-          d0 : Typed.Typed 𝓤 H A 𝓣 E G24 b8 Δ1 at0
+          d0 : Typed.Typed 𝓤 H A 𝓣 E G17 b4 Δ1 at0
           d0 = Typed.t-return 𝓤 H A W 𝓣 E Δ1 tt
 
-          d1 : Typed.Typed 𝓤 H A 𝓣 E G23 b8 Δ1 at1
-          d1 = Typed.g-pre 𝓤 H A W 𝓣 E G23 G24 b8 Δ1 (Typed.pass T23 T24 s21) at0 (Scalar.g-room 𝓤 H A W E G23 8 (Syntax.tyInt Syntax.w64) (Scalar.room-sc 𝓤 H A W (Row.sInt Syntax.w64))) d0
+          d1 : Typed.Typed 𝓤 H A 𝓣 E G16 b4 Δ1 at1
+          d1 = Typed.g-pre 𝓤 H A W 𝓣 E G16 G17 b4 Δ1 (λ Ψ. Ψ) at0 (Lifetime.g-forget 𝓤 H A W E G16 5 Row.dead Path'.refl) d0
 
-          d2 : Typed.Typed 𝓤 H A 𝓣 E G22 b8 Δ1 at2
-          d2 = Typed.g-pre 𝓤 H A W 𝓣 E G22 G23 b8 Δ1 (Typed.pass T22 T23 s20) at1 (Scalar.g-room 𝓤 H A W E G22 7 (Syntax.tyInt Syntax.w64) (Scalar.room-sc 𝓤 H A W (Row.sInt Syntax.w64))) d1
+          d2 : Typed.Typed 𝓤 H A 𝓣 E G15 b4 Δ1 at2
+          d2 = Typed.g-pre 𝓤 H A W 𝓣 E G15 G16 b4 Δ1 (Typed.give s13) at1 (Know.g-sl-known 𝓤 H A W (Referent.fInt Syntax.w32) E G15 4 2 (Syntax.tyRef (Syntax.named 2) Syntax.mut (Syntax.tyInt Syntax.w32)) (Row.lease (κs .1 .1 .0) (qs .1 .1 .0)) 0 (λ x. x) record { fits = Dec'.lit< tt } (Reads'.as-is 𝓤 H A (Mut.mslice (Referent.rtF (Referent.fInt Syntax.w32)) (Syntax.tyRef (Syntax.named 2) Syntax.mut (Syntax.tyInt Syntax.w32)) 2)) Path'.refl tt) d1
 
-          d3 : Typed.Typed 𝓤 H A 𝓣 E G21 b8 Δ1 at3
-          d3 = Typed.g-pre 𝓤 H A W 𝓣 E G21 G22 b8 Δ1 (Typed.pass T21 T22 s19) at2 (Scalar.g-room 𝓤 H A W E G21 9 (Syntax.tyEnum (List._∷_ 100 (List._∷_ 97 (List._∷_ 114 (List._∷_ 116 (List._∷_ 115 (List._∷_ 58 (List._∷_ 58 (List._∷_ 65 (List._∷_ 110 (List._∷_ 115 (List._∷_ 119 (List._∷_ 101 (List._∷_ 114 List.[]))))))))))))) (Syntax.ttcons (Syntax.tcons (Syntax.tyInt Syntax.w64) Syntax.tnil) (Syntax.ttcons Syntax.tnil (Syntax.ttcons (Syntax.tcons (Syntax.tyInt Syntax.w64) Syntax.tnil) (Syntax.ttcons (Syntax.tcons (Syntax.tyInt Syntax.w64) (Syntax.tcons (Syntax.tyInt Syntax.w64) Syntax.tnil)) (Syntax.ttcons Syntax.tnil (Syntax.ttcons Syntax.tnil (Syntax.ttcons Syntax.tnil (Syntax.ttcons (Syntax.tcons (Syntax.tyInt Syntax.w64) Syntax.tnil) (Syntax.ttcons (Syntax.tcons (Syntax.tyInt Syntax.w64) Syntax.tnil) (Syntax.ttcons (Syntax.tcons (Syntax.tyInt Syntax.w64) Syntax.tnil) (Syntax.ttcons (Syntax.tcons (Syntax.tyInt Syntax.w64) Syntax.tnil) (Syntax.ttcons (Syntax.tcons (Syntax.tyInt Syntax.w64) Syntax.tnil) (Syntax.ttcons (Syntax.tcons (Syntax.tyInt Syntax.w64) Syntax.tnil) (Syntax.ttcons (Syntax.tcons (Syntax.tyInt Syntax.w64) Syntax.tnil) (Syntax.ttcons Syntax.tnil (Syntax.ttcons Syntax.tnil (Syntax.ttcons (Syntax.tcons (Syntax.tyInt Syntax.w64) Syntax.tnil) Syntax.ttnil)))))))))))))))))) (Local.room-whole 𝓤 H A W (Declared.row Answer.the-type) (Syntax.tyEnum (List._∷_ 100 (List._∷_ 97 (List._∷_ 114 (List._∷_ 116 (List._∷_ 115 (List._∷_ 58 (List._∷_ 58 (List._∷_ 65 (List._∷_ 110 (List._∷_ 115 (List._∷_ 119 (List._∷_ 101 (List._∷_ 114 List.[]))))))))))))) (Syntax.ttcons (Syntax.tcons (Syntax.tyInt Syntax.w64) Syntax.tnil) (Syntax.ttcons Syntax.tnil (Syntax.ttcons (Syntax.tcons (Syntax.tyInt Syntax.w64) Syntax.tnil) (Syntax.ttcons (Syntax.tcons (Syntax.tyInt Syntax.w64) (Syntax.tcons (Syntax.tyInt Syntax.w64) Syntax.tnil)) (Syntax.ttcons Syntax.tnil (Syntax.ttcons Syntax.tnil (Syntax.ttcons Syntax.tnil (Syntax.ttcons (Syntax.tcons (Syntax.tyInt Syntax.w64) Syntax.tnil) (Syntax.ttcons (Syntax.tcons (Syntax.tyInt Syntax.w64) Syntax.tnil) (Syntax.ttcons (Syntax.tcons (Syntax.tyInt Syntax.w64) Syntax.tnil) (Syntax.ttcons (Syntax.tcons (Syntax.tyInt Syntax.w64) Syntax.tnil) (Syntax.ttcons (Syntax.tcons (Syntax.tyInt Syntax.w64) Syntax.tnil) (Syntax.ttcons (Syntax.tcons (Syntax.tyInt Syntax.w64) Syntax.tnil) (Syntax.ttcons (Syntax.tcons (Syntax.tyInt Syntax.w64) Syntax.tnil) (Syntax.ttcons Syntax.tnil (Syntax.ttcons Syntax.tnil (Syntax.ttcons (Syntax.tcons (Syntax.tyInt Syntax.w64) Syntax.tnil) Syntax.ttnil)))))))))))))))))) Path'.refl)) d2
+          d3 : Typed.Typed 𝓤 H A 𝓣 E G14 b4 Δ1 at3
+          d3 = Typed.g-pre 𝓤 H A W 𝓣 E G14 G15 b4 Δ1 (Typed.both s12) at2 (Relend.g-back-sl 𝓤 H A W E (Referent.rtF (Referent.fInt Syntax.w32)) G14 12 4 2 5 (Syntax.tyRef (Syntax.named 2) Syntax.mut (Syntax.tyInt Syntax.w32)) (Syntax.tyRef Syntax.erased Syntax.mut (Syntax.tyInt Syntax.w32)) (Row.lease (κs .1 .1 .0) (qs .1 .1 .0)) (λ x. x) (λ x. x) (Reads'.as-is 𝓤 H A (Mut.msleft (Referent.rtF (Referent.fInt Syntax.w32)) (Syntax.tyRef Syntax.erased Syntax.mut (Syntax.tyInt Syntax.w32)))) (Reads'.as-is 𝓤 H A (Relend.mslice-owed (Referent.rtF (Referent.fInt Syntax.w32)) (Syntax.tyRef (Syntax.named 2) Syntax.mut (Syntax.tyInt Syntax.w32)) 2 5 (Row.lease (κs .1 .1 .0) (qs .1 .1 .0)))) Path'.refl Path'.refl) d2
 
-          d4 : Typed.Typed 𝓤 H A 𝓣 E G20 b9 Δ1 at4
-          d4 = Typed.s-seq 𝓤 H A W 𝓣 E G20 G21 b7 b8 Δ1 (Typed.pass T20 T21 s18) at3 (LocalCopy.t-val-copy 𝓤 H A W E 𝓣 (λ ρ. Unit) G20 9 0 (Declared.row Answer.the-type) (Syntax.tyEnum (List._∷_ 100 (List._∷_ 97 (List._∷_ 114 (List._∷_ 116 (List._∷_ 115 (List._∷_ 58 (List._∷_ 58 (List._∷_ 65 (List._∷_ 110 (List._∷_ 115 (List._∷_ 119 (List._∷_ 101 (List._∷_ 114 List.[]))))))))))))) (Syntax.ttcons (Syntax.tcons (Syntax.tyInt Syntax.w64) Syntax.tnil) (Syntax.ttcons Syntax.tnil (Syntax.ttcons (Syntax.tcons (Syntax.tyInt Syntax.w64) Syntax.tnil) (Syntax.ttcons (Syntax.tcons (Syntax.tyInt Syntax.w64) (Syntax.tcons (Syntax.tyInt Syntax.w64) Syntax.tnil)) (Syntax.ttcons Syntax.tnil (Syntax.ttcons Syntax.tnil (Syntax.ttcons Syntax.tnil (Syntax.ttcons (Syntax.tcons (Syntax.tyInt Syntax.w64) Syntax.tnil) (Syntax.ttcons (Syntax.tcons (Syntax.tyInt Syntax.w64) Syntax.tnil) (Syntax.ttcons (Syntax.tcons (Syntax.tyInt Syntax.w64) Syntax.tnil) (Syntax.ttcons (Syntax.tcons (Syntax.tyInt Syntax.w64) Syntax.tnil) (Syntax.ttcons (Syntax.tcons (Syntax.tyInt Syntax.w64) Syntax.tnil) (Syntax.ttcons (Syntax.tcons (Syntax.tyInt Syntax.w64) Syntax.tnil) (Syntax.ttcons (Syntax.tcons (Syntax.tyInt Syntax.w64) Syntax.tnil) (Syntax.ttcons Syntax.tnil (Syntax.ttcons Syntax.tnil (Syntax.ttcons (Syntax.tcons (Syntax.tyInt Syntax.w64) Syntax.tnil) Syntax.ttnil)))))))))))))))))) (Syntax.tyEnum (List._∷_ 100 (List._∷_ 97 (List._∷_ 114 (List._∷_ 116 (List._∷_ 115 (List._∷_ 58 (List._∷_ 58 (List._∷_ 65 (List._∷_ 110 (List._∷_ 115 (List._∷_ 119 (List._∷_ 101 (List._∷_ 114 List.[]))))))))))))) (Syntax.ttcons (Syntax.tcons (Syntax.tyInt Syntax.w64) Syntax.tnil) (Syntax.ttcons Syntax.tnil (Syntax.ttcons (Syntax.tcons (Syntax.tyInt Syntax.w64) Syntax.tnil) (Syntax.ttcons (Syntax.tcons (Syntax.tyInt Syntax.w64) (Syntax.tcons (Syntax.tyInt Syntax.w64) Syntax.tnil)) (Syntax.ttcons Syntax.tnil (Syntax.ttcons Syntax.tnil (Syntax.ttcons Syntax.tnil (Syntax.ttcons (Syntax.tcons (Syntax.tyInt Syntax.w64) Syntax.tnil) (Syntax.ttcons (Syntax.tcons (Syntax.tyInt Syntax.w64) Syntax.tnil) (Syntax.ttcons (Syntax.tcons (Syntax.tyInt Syntax.w64) Syntax.tnil) (Syntax.ttcons (Syntax.tcons (Syntax.tyInt Syntax.w64) Syntax.tnil) (Syntax.ttcons (Syntax.tcons (Syntax.tyInt Syntax.w64) Syntax.tnil) (Syntax.ttcons (Syntax.tcons (Syntax.tyInt Syntax.w64) Syntax.tnil) (Syntax.ttcons (Syntax.tcons (Syntax.tyInt Syntax.w64) Syntax.tnil) (Syntax.ttcons Syntax.tnil (Syntax.ttcons Syntax.tnil (Syntax.ttcons (Syntax.tcons (Syntax.tyInt Syntax.w64) Syntax.tnil) Syntax.ttnil)))))))))))))))))) (Rows.whole (Declared.row Answer.the-type)) (Rows.whole (Declared.row Answer.the-type)) (λ x. x) (λ x. x) (λ x. x) Path'.refl (Own.told-none 𝓤 H A (G20 .slots)) (Yields.yields-copy 𝓤 H A W (λ ρ. Unit) (Declared.row Answer.the-type) Path'.refl (Copies.cEnum Answer.the-type Laws.the-laws Laws.the-copy .copy 𝓤 H A W) (Rows.whole (Declared.row Answer.the-type)) (λ x. x) (λ x. x) (λ ρ told. Local.mem-whole 𝓤 H A W (Declared.row Answer.the-type) ρ) λ ρ told. Local.whole-mem 𝓤 H A W (Declared.row Answer.the-type) ρ) (Reads'.room-gone 𝓤 H A (Syntax.tyEnum (List._∷_ 100 (List._∷_ 97 (List._∷_ 114 (List._∷_ 116 (List._∷_ 115 (List._∷_ 58 (List._∷_ 58 (List._∷_ 65 (List._∷_ 110 (List._∷_ 115 (List._∷_ 119 (List._∷_ 101 (List._∷_ 114 List.[]))))))))))))) (Syntax.ttcons (Syntax.tcons (Syntax.tyInt Syntax.w64) Syntax.tnil) (Syntax.ttcons Syntax.tnil (Syntax.ttcons (Syntax.tcons (Syntax.tyInt Syntax.w64) Syntax.tnil) (Syntax.ttcons (Syntax.tcons (Syntax.tyInt Syntax.w64) (Syntax.tcons (Syntax.tyInt Syntax.w64) Syntax.tnil)) (Syntax.ttcons Syntax.tnil (Syntax.ttcons Syntax.tnil (Syntax.ttcons Syntax.tnil (Syntax.ttcons (Syntax.tcons (Syntax.tyInt Syntax.w64) Syntax.tnil) (Syntax.ttcons (Syntax.tcons (Syntax.tyInt Syntax.w64) Syntax.tnil) (Syntax.ttcons (Syntax.tcons (Syntax.tyInt Syntax.w64) Syntax.tnil) (Syntax.ttcons (Syntax.tcons (Syntax.tyInt Syntax.w64) Syntax.tnil) (Syntax.ttcons (Syntax.tcons (Syntax.tyInt Syntax.w64) Syntax.tnil) (Syntax.ttcons (Syntax.tcons (Syntax.tyInt Syntax.w64) Syntax.tnil) (Syntax.ttcons (Syntax.tcons (Syntax.tyInt Syntax.w64) Syntax.tnil) (Syntax.ttcons Syntax.tnil (Syntax.ttcons Syntax.tnil (Syntax.ttcons (Syntax.tcons (Syntax.tyInt Syntax.w64) Syntax.tnil) Syntax.ttnil))))))))))))))))))) (Yields.makes-mem 𝓤 H A W (λ ρ. Unit) (Declared.row Answer.the-type) Path'.refl (Rows.whole (Declared.row Answer.the-type)) (λ x. x) λ ρ told. Local.whole-mem 𝓤 H A W (Declared.row Answer.the-type) ρ) Path'.refl Path'.refl) d3
+          d4 : Typed.Typed 𝓤 H A 𝓣 E G13 b4 Δ1 at4
+          d4 = Typed.g-pre 𝓤 H A W 𝓣 E G13 G14 b4 Δ1 (λ Ψ. Ψ) at3 (Lifetime.g-end 𝓤 H A W E G13 5 Path'.refl) d3
 
-          d5 : Typed.Typed 𝓤 H A 𝓣 E G19 b9 Δ1 at5
-          d5 = Typed.g-pre 𝓤 H A W 𝓣 E G19 G20 b9 Δ1 (Typed.pass T19 T20 s17) at4 (Scalar.g-room 𝓤 H A W E G19 13 Syntax.tyBool (Scalar.room-sc 𝓤 H A W Row.sBool)) d4
+          d5 : Typed.Typed 𝓤 H A 𝓣 E G12 b4 Δ1 at5
+          d5 = Typed.g-pre 𝓤 H A W 𝓣 E G12 G13 b4 Δ1 (Typed.pass T12 T13 s10) at4 (Scalar.g-room 𝓤 H A W E G12 1 (Syntax.tyStruct (List._∷_ 112 (List._∷_ 121 (List._∷_ 114 (List._∷_ 97 (List._∷_ 109 (List._∷_ 105 (List._∷_ 100 (List._∷_ 58 (List._∷_ 58 (List._∷_ 83 (List._∷_ 116 (List._∷_ 97 (List._∷_ 116 (List._∷_ 101 List.[])))))))))))))) (Syntax.tcons (Syntax.tyInt Syntax.w32) (Syntax.tcons (Syntax.tyInt Syntax.w32) (Syntax.tcons (Syntax.tyInt Syntax.w32) (Syntax.tcons (Syntax.tyInt Syntax.w32) (Syntax.tcons (Syntax.tyInt Syntax.w32) (Syntax.tcons (Syntax.tyArray (Syntax.tyInt Syntax.w32) 64) Syntax.tnil))))))) (Local.room-whole 𝓤 H A W (Declared'.row State.the-type) (Syntax.tyStruct (List._∷_ 112 (List._∷_ 121 (List._∷_ 114 (List._∷_ 97 (List._∷_ 109 (List._∷_ 105 (List._∷_ 100 (List._∷_ 58 (List._∷_ 58 (List._∷_ 83 (List._∷_ 116 (List._∷_ 97 (List._∷_ 116 (List._∷_ 101 List.[])))))))))))))) (Syntax.tcons (Syntax.tyInt Syntax.w32) (Syntax.tcons (Syntax.tyInt Syntax.w32) (Syntax.tcons (Syntax.tyInt Syntax.w32) (Syntax.tcons (Syntax.tyInt Syntax.w32) (Syntax.tcons (Syntax.tyInt Syntax.w32) (Syntax.tcons (Syntax.tyArray (Syntax.tyInt Syntax.w32) 64) Syntax.tnil))))))) Path'.refl)) d4
 
-          d6 : Typed.Typed 𝓤 H A 𝓣 E G18 b9 Δ1 at6
-          d6 = Typed.g-pre 𝓤 H A W 𝓣 E G18 G19 b9 Δ1 (Typed.pass T18 T19 s16) at5 (Scalar.g-room 𝓤 H A W E G18 1 (Syntax.tyStruct (List._∷_ 112 (List._∷_ 121 (List._∷_ 114 (List._∷_ 97 (List._∷_ 109 (List._∷_ 105 (List._∷_ 100 (List._∷_ 58 (List._∷_ 58 (List._∷_ 83 (List._∷_ 116 (List._∷_ 97 (List._∷_ 116 (List._∷_ 101 List.[])))))))))))))) (Syntax.tcons (Syntax.tyInt Syntax.w32) (Syntax.tcons (Syntax.tyInt Syntax.w32) (Syntax.tcons (Syntax.tyInt Syntax.w32) (Syntax.tcons (Syntax.tyInt Syntax.w32) (Syntax.tcons (Syntax.tyInt Syntax.w32) (Syntax.tcons (Syntax.tyArray (Syntax.tyInt Syntax.w32) 64) Syntax.tnil))))))) (Local.room-whole 𝓤 H A W (Declared'.row State.the-type) (Syntax.tyStruct (List._∷_ 112 (List._∷_ 121 (List._∷_ 114 (List._∷_ 97 (List._∷_ 109 (List._∷_ 105 (List._∷_ 100 (List._∷_ 58 (List._∷_ 58 (List._∷_ 83 (List._∷_ 116 (List._∷_ 97 (List._∷_ 116 (List._∷_ 101 List.[])))))))))))))) (Syntax.tcons (Syntax.tyInt Syntax.w32) (Syntax.tcons (Syntax.tyInt Syntax.w32) (Syntax.tcons (Syntax.tyInt Syntax.w32) (Syntax.tcons (Syntax.tyInt Syntax.w32) (Syntax.tcons (Syntax.tyInt Syntax.w32) (Syntax.tcons (Syntax.tyArray (Syntax.tyInt Syntax.w32) 64) Syntax.tnil))))))) Path'.refl)) d5
+          d6 : Typed.Typed 𝓤 H A 𝓣 E G11 b5 Δ1 at6
+          d6 = Typed.s-seq 𝓤 H A W 𝓣 E G11 G12 b3 b4 Δ1 (Typed.both s9) at5 (Plain.t-call-plain 𝓤 H A W 𝓣 5 ps·0 r·0 (claims· .0) (claims· .1) "pyramid::State::judged_base" (known .0) E (λ pos β. β) G11 (record { pos = 1; st = List.[]; d = 0; at = λ x. x }, (record { pos = 2; ty = Syntax.tyRef (Syntax.named 0) Syntax.imm (Syntax.tyInt Syntax.w32); ref = λ x. x }, (record { pos = 3; ty = Syntax.tyRef (Syntax.named 1) Syntax.imm (Syntax.tyInt Syntax.w32); ref = λ x. x }, (record { pos = 12; ty = Syntax.tyRef Syntax.erased Syntax.mut (Syntax.tyInt Syntax.w32); ref = λ x. x }, (record { pos = 5; ty = Syntax.tyRef (Syntax.named 3) Syntax.imm Cell.behind; ref = λ x. x }, (record { pos = 6; ty = Syntax.tyRef (Syntax.named 4) Syntax.imm Cell.behind; ref = λ x. x }, tt)))))) 0 (List._∷_ 0 (List._∷_ 1 (List._∷_ 5 (List._∷_ 3 (List._∷_ 4 List.[]))))) (Call.sub-id 𝓤 H A W (G11 .slots)) ((Yields.yields-copy 𝓤 H A W (λ ρ. Unit) (Declared'.row State.the-type) Path'.refl (Copies.cStruct State.the-type Laws'.the-laws Laws'.the-copy .copy 𝓤 H A W) (Rows.whole (Declared'.row State.the-type)) (λ x. x) (λ x. x) (λ ρ told. Local.mem-whole 𝓤 H A W (Declared'.row State.the-type) ρ) λ ρ told. Local.whole-mem 𝓤 H A W (Declared'.row State.the-type) ρ, Path'.refl), (ShrSlice.spares-sslice 𝓤 H A W (Referent.rtF (Referent.fInt Syntax.w32)) (Syntax.tyRef (Syntax.named 0) Syntax.imm (Syntax.tyInt Syntax.w32)) 0, Shared.reads-sslice 𝓤 H A W (Referent.rtF (Referent.fInt Syntax.w32)) (Syntax.tyRef (Syntax.named 0) Syntax.imm (Syntax.tyInt Syntax.w32)) 0, Path'.refl, (ShrSlice.spares-sslice 𝓤 H A W (Referent.rtF (Referent.fInt Syntax.w32)) (Syntax.tyRef (Syntax.named 1) Syntax.imm (Syntax.tyInt Syntax.w32)) 1, Shared.reads-sslice 𝓤 H A W (Referent.rtF (Referent.fInt Syntax.w32)) (Syntax.tyRef (Syntax.named 1) Syntax.imm (Syntax.tyInt Syntax.w32)) 1, Path'.refl, (Reads'.as-is 𝓤 H A (Mut.mslice (Referent.rtF (Referent.fInt Syntax.w32)) (Syntax.tyRef Syntax.erased Syntax.mut (Syntax.tyInt Syntax.w32)) 5), Mut.reads-mslice 𝓤 H A W (Referent.rtF (Referent.fInt Syntax.w32)) (Syntax.tyRef Syntax.erased Syntax.mut (Syntax.tyInt Syntax.w32)) 5, Path'.refl, (ShrSlice.spares-sslice 𝓤 H A W Cell.R (Syntax.tyRef (Syntax.named 3) Syntax.imm Cell.behind) 3, Shared.reads-sslice 𝓤 H A W Cell.R (Syntax.tyRef (Syntax.named 3) Syntax.imm Cell.behind) 3, Path'.refl, (ShrSlice.spares-sslice 𝓤 H A W Cell.R (Syntax.tyRef (Syntax.named 4) Syntax.imm Cell.behind) 4, Shared.reads-sslice 𝓤 H A W Cell.R (Syntax.tyRef (Syntax.named 4) Syntax.imm Cell.behind) 4, Path'.refl, tt)))))) (Reads'.room-gone 𝓤 H A (Syntax.tyEnum (List._∷_ 100 (List._∷_ 97 (List._∷_ 114 (List._∷_ 116 (List._∷_ 115 (List._∷_ 58 (List._∷_ 58 (List._∷_ 65 (List._∷_ 110 (List._∷_ 115 (List._∷_ 119 (List._∷_ 101 (List._∷_ 114 List.[]))))))))))))) (Syntax.ttcons (Syntax.tcons (Syntax.tyInt Syntax.w64) Syntax.tnil) (Syntax.ttcons Syntax.tnil (Syntax.ttcons (Syntax.tcons (Syntax.tyInt Syntax.w64) Syntax.tnil) (Syntax.ttcons (Syntax.tcons (Syntax.tyInt Syntax.w64) (Syntax.tcons (Syntax.tyInt Syntax.w64) Syntax.tnil)) (Syntax.ttcons Syntax.tnil (Syntax.ttcons Syntax.tnil (Syntax.ttcons Syntax.tnil (Syntax.ttcons (Syntax.tcons (Syntax.tyInt Syntax.w64) Syntax.tnil) (Syntax.ttcons (Syntax.tcons (Syntax.tyInt Syntax.w64) Syntax.tnil) (Syntax.ttcons (Syntax.tcons (Syntax.tyInt Syntax.w64) Syntax.tnil) (Syntax.ttcons (Syntax.tcons (Syntax.tyInt Syntax.w64) Syntax.tnil) (Syntax.ttcons (Syntax.tcons (Syntax.tyInt Syntax.w64) Syntax.tnil) (Syntax.ttcons (Syntax.tcons (Syntax.tyInt Syntax.w64) Syntax.tnil) (Syntax.ttcons (Syntax.tcons (Syntax.tyInt Syntax.w64) Syntax.tnil) (Syntax.ttcons Syntax.tnil (Syntax.ttcons Syntax.tnil (Syntax.ttcons (Syntax.tcons (Syntax.tyInt Syntax.w64) Syntax.tnil) Syntax.ttnil))))))))))))))))))) (tt, (tt, (tt, (tt, (tt, tt))))) Path'.refl) d5
 
-          d7 : Typed.Typed 𝓤 H A 𝓣 E G26 b10 Δ1 at7
-          d7 = Typed.t-skip 𝓤 H A W 𝓣 E Δ1 tt
+          d7 : Typed.Typed 𝓤 H A 𝓣 E G10 b6 Δ1 at7
+          d7 = Typed.s-seq 𝓤 H A W 𝓣 E G10 G11 b2 b5 Δ1 (Typed.ask s8) at6 (Relend.t-sl-aggregate 𝓤 H A W E (Referent.rtF (Referent.fInt Syntax.w32)) 𝓣 (Relend.asMut (Referent.rtF (Referent.fInt Syntax.w32))) G10 11 12 5 (Syntax.tyRef Syntax.erased Syntax.mut (Syntax.tyInt Syntax.w32)) (Syntax.tyRef Syntax.erased Syntax.mut (Syntax.tyInt Syntax.w32)) (λ x. x) (Scalar.oFld 4 (List._∷_ (Syntax.field 1) List.[]) (Syntax.tyInt Syntax.w64) 8 λ v. Shared.lenV (v .0)) (Reads'.as-is 𝓤 H A (Relend.msptr (Referent.rtF (Referent.fInt Syntax.w32)) (Syntax.tyRef Syntax.erased Syntax.mut (Syntax.tyInt Syntax.w32)) 5)) (Reads'.room-gone 𝓤 H A (Syntax.tyStruct (List._∷_ 38 (List._∷_ 91 (List._∷_ 93 List.[]))) (Syntax.tcons (Syntax.tyRef Syntax.erased Syntax.mut (Syntax.tyInt Syntax.w32)) (Syntax.tcons (Syntax.tyInt Syntax.w64) Syntax.tnil)))) (Relend.reads-owed-len 𝓤 H A W (Referent.rtF (Referent.fInt Syntax.w32)) (Syntax.tyRef (Syntax.named 2) Syntax.mut (Syntax.tyInt Syntax.w32)) 2 5 (Row.lease (κs .1 .1 .0) (qs .1 .1 .0)) 8 Path'.refl, Path'.refl) Path'.refl Path'.refl λ b o k. tt) d6
 
-          d8 : Typed.Typed 𝓤 H A 𝓣 E G25 b10 Δ1 at8
-          d8 = Typed.g-pre 𝓤 H A W 𝓣 E G25 G26 b10 Δ1 (Typed.pass T25 T26 s23) at7 (Scalar.g-room 𝓤 H A W E G25 13 Syntax.tyBool (Scalar.room-sc 𝓤 H A W Row.sBool)) d7
+          d8 : Typed.Typed 𝓤 H A 𝓣 E G9 b7 Δ1 at8
+          d8 = Typed.s-seq 𝓤 H A W 𝓣 E G9 G10 b1 b6 Δ1 (Typed.give s7) at7 (Relend.t-sl-relend 𝓤 H A W E (Referent.rtF (Referent.fInt Syntax.w32)) 𝓣 G9 4 11 2 5 (Syntax.tyRef (Syntax.named 2) Syntax.mut (Syntax.tyInt Syntax.w32)) (Syntax.tyRef Syntax.erased Syntax.mut (Syntax.tyInt Syntax.w32)) (Row.lease (κs .1 .1 .0) (qs .1 .1 .0)) 0 (λ x. x) (Reads'.as-is 𝓤 H A (Mut.mslice (Referent.rtF (Referent.fInt Syntax.w32)) (Syntax.tyRef (Syntax.named 2) Syntax.mut (Syntax.tyInt Syntax.w32)) 2)) (Reads'.room-gone 𝓤 H A (Syntax.tyRef Syntax.erased Syntax.mut (Syntax.tyInt Syntax.w32))) Path'.refl tt Path'.refl Path'.refl Path'.refl λ b o. tt) d7
 
-          d9 : Typed.Typed 𝓤 H A 𝓣 E G18 b10 Δ1 at9
-          d9 = Typed.g-pre 𝓤 H A W 𝓣 E G18 G25 b10 Δ1 (Typed.pass T18 T25 s22) at8 (Scalar.g-room 𝓤 H A W E G18 9 (Syntax.tyEnum (List._∷_ 100 (List._∷_ 97 (List._∷_ 114 (List._∷_ 116 (List._∷_ 115 (List._∷_ 58 (List._∷_ 58 (List._∷_ 65 (List._∷_ 110 (List._∷_ 115 (List._∷_ 119 (List._∷_ 101 (List._∷_ 114 List.[]))))))))))))) (Syntax.ttcons (Syntax.tcons (Syntax.tyInt Syntax.w64) Syntax.tnil) (Syntax.ttcons Syntax.tnil (Syntax.ttcons (Syntax.tcons (Syntax.tyInt Syntax.w64) Syntax.tnil) (Syntax.ttcons (Syntax.tcons (Syntax.tyInt Syntax.w64) (Syntax.tcons (Syntax.tyInt Syntax.w64) Syntax.tnil)) (Syntax.ttcons Syntax.tnil (Syntax.ttcons Syntax.tnil (Syntax.ttcons Syntax.tnil (Syntax.ttcons (Syntax.tcons (Syntax.tyInt Syntax.w64) Syntax.tnil) (Syntax.ttcons (Syntax.tcons (Syntax.tyInt Syntax.w64) Syntax.tnil) (Syntax.ttcons (Syntax.tcons (Syntax.tyInt Syntax.w64) Syntax.tnil) (Syntax.ttcons (Syntax.tcons (Syntax.tyInt Syntax.w64) Syntax.tnil) (Syntax.ttcons (Syntax.tcons (Syntax.tyInt Syntax.w64) Syntax.tnil) (Syntax.ttcons (Syntax.tcons (Syntax.tyInt Syntax.w64) Syntax.tnil) (Syntax.ttcons (Syntax.tcons (Syntax.tyInt Syntax.w64) Syntax.tnil) (Syntax.ttcons Syntax.tnil (Syntax.ttcons Syntax.tnil (Syntax.ttcons (Syntax.tcons (Syntax.tyInt Syntax.w64) Syntax.tnil) Syntax.ttnil)))))))))))))))))) (Local.room-whole 𝓤 H A W (Declared.row Answer.the-type) (Syntax.tyEnum (List._∷_ 100 (List._∷_ 97 (List._∷_ 114 (List._∷_ 116 (List._∷_ 115 (List._∷_ 58 (List._∷_ 58 (List._∷_ 65 (List._∷_ 110 (List._∷_ 115 (List._∷_ 119 (List._∷_ 101 (List._∷_ 114 List.[]))))))))))))) (Syntax.ttcons (Syntax.tcons (Syntax.tyInt Syntax.w64) Syntax.tnil) (Syntax.ttcons Syntax.tnil (Syntax.ttcons (Syntax.tcons (Syntax.tyInt Syntax.w64) Syntax.tnil) (Syntax.ttcons (Syntax.tcons (Syntax.tyInt Syntax.w64) (Syntax.tcons (Syntax.tyInt Syntax.w64) Syntax.tnil)) (Syntax.ttcons Syntax.tnil (Syntax.ttcons Syntax.tnil (Syntax.ttcons Syntax.tnil (Syntax.ttcons (Syntax.tcons (Syntax.tyInt Syntax.w64) Syntax.tnil) (Syntax.ttcons (Syntax.tcons (Syntax.tyInt Syntax.w64) Syntax.tnil) (Syntax.ttcons (Syntax.tcons (Syntax.tyInt Syntax.w64) Syntax.tnil) (Syntax.ttcons (Syntax.tcons (Syntax.tyInt Syntax.w64) Syntax.tnil) (Syntax.ttcons (Syntax.tcons (Syntax.tyInt Syntax.w64) Syntax.tnil) (Syntax.ttcons (Syntax.tcons (Syntax.tyInt Syntax.w64) Syntax.tnil) (Syntax.ttcons (Syntax.tcons (Syntax.tyInt Syntax.w64) Syntax.tnil) (Syntax.ttcons Syntax.tnil (Syntax.ttcons Syntax.tnil (Syntax.ttcons (Syntax.tcons (Syntax.tyInt Syntax.w64) Syntax.tnil) Syntax.ttnil)))))))))))))))))) Path'.refl)) d8
+          d9 : Typed.Typed 𝓤 H A 𝓣 E G8 b7 Δ1 at9
+          d9 = Typed.g-pre 𝓤 H A W 𝓣 E G8 G9 b7 Δ1 (λ Ψ. Ψ) at8 (Lifetime.g-begin 𝓤 H A W E G8 5 (tt, (tt, (tt, (tt, (tt, (tt, (tt, (tt, (tt, (tt, (tt, (tt, (tt, (tt, (tt, (tt, (tt, (tt, (tt, (tt, (tt, (tt, (tt, (tt, (tt, tt)))))))))))))))))))))))))) d8
 
-          d10 : Typed.Typed 𝓤 H A 𝓣 E G18 b11 Δ1 at10
-          d10 = Scalar.t-cond 𝓤 H A W E 𝓣 G18 13 (λ x. x) b9 b10 Δ1 at6 at9 (Scalar.reads-sc 𝓤 H A W Row.sBool) Path'.refl d6 d9
+          d10 : Typed.Typed 𝓤 H A 𝓣 E G6 b7 Δ1 at10
+          d10 = Typed.g-pre 𝓤 H A W 𝓣 E G6 G8 b7 Δ1 (Typed.pass T6 T8 s5) at9 (Scalar.g-room 𝓤 H A W E G6 10 Syntax.tyBool (Scalar.room-sc 𝓤 H A W Row.sBool)) d9
 
-          d11 : Typed.Typed 𝓤 H A 𝓣 E G16 b11 Δ1 at11
-          d11 = Typed.g-pre 𝓤 H A W 𝓣 E G16 G18 b11 Δ1 (Typed.pass T16 T18 s15) at10 (Scalar.g-room 𝓤 H A W E G16 12 (Syntax.tyInt Syntax.w32) (Scalar.room-sc 𝓤 H A W (Row.sInt Syntax.w32))) d10
+          d11 : Typed.Typed 𝓤 H A 𝓣 E G18 b8 Δ1 at11
+          d11 = Typed.t-skip 𝓤 H A W 𝓣 E Δ1 tt
 
-          d12 : Typed.Typed 𝓤 H A 𝓣 E G53 b20 Δ2 at12
-          d12 = Typed.t-return 𝓤 H A W 𝓣 E Δ2 tt
+          d12 : Typed.Typed 𝓤 H A 𝓣 E G6 b8 Δ1 at12
+          d12 = Typed.g-pre 𝓤 H A W 𝓣 E G6 G18 b8 Δ1 (Typed.pass T6 T18 s15) at11 (Scalar.g-room 𝓤 H A W E G6 10 Syntax.tyBool (Scalar.room-sc 𝓤 H A W Row.sBool)) d11
 
-          d13 : Typed.Typed 𝓤 H A 𝓣 E G52 b20 Δ2 at13
-          d13 = Typed.g-pre 𝓤 H A W 𝓣 E G52 G53 b20 Δ2 (Typed.pass T52 T53 s49) at12 (Scalar.g-room 𝓤 H A W E G52 8 (Syntax.tyInt Syntax.w64) (Scalar.room-sc 𝓤 H A W (Row.sInt Syntax.w64))) d12
+          d13 : Typed.Typed 𝓤 H A 𝓣 E G6 b9 Δ1 at13
+          d13 = Scalar.t-cond 𝓤 H A W E 𝓣 G6 10 (λ x. x) b7 b8 Δ1 at10 at12 (Scalar.reads-sc 𝓤 H A W Row.sBool) Path'.refl d10 d12
 
-          d14 : Typed.Typed 𝓤 H A 𝓣 E G51 b20 Δ2 at14
-          d14 = Typed.g-pre 𝓤 H A W 𝓣 E G51 G52 b20 Δ2 (Typed.pass T50 T52 s48) at13 (Scalar.g-room 𝓤 H A W E G51 7 (Syntax.tyInt Syntax.w64) (Scalar.room-sc 𝓤 H A W (Row.sInt Syntax.w64))) d13
+          d14 : Typed.Typed 𝓤 H A 𝓣 E G38 b18 Δ2 at14
+          d14 = Typed.t-return 𝓤 H A W 𝓣 E Δ2 tt
 
-          d15 : Typed.Typed 𝓤 H A 𝓣 E G50 b20 Δ2 at15
-          d15 = Typed.g-pre 𝓤 H A W 𝓣 E G50 G51 b20 Δ2 (λ Ψ. Ψ) at14 (Lifetime.g-forget 𝓤 H A W E G50 7 Row.dead Path'.refl) d14
+          d15 : Typed.Typed 𝓤 H A 𝓣 E G37 b18 Δ2 at15
+          d15 = Typed.g-pre 𝓤 H A W 𝓣 E G37 G38 b18 Δ2 (Typed.pass T37 T38 s34) at14 (Scalar.g-room 𝓤 H A W E G37 8 (Syntax.tyInt Syntax.w64) (Scalar.room-sc 𝓤 H A W (Row.sInt Syntax.w64))) d14
 
-          d16 : Typed.Typed 𝓤 H A 𝓣 E G49 b20 Δ2 at16
-          d16 = Typed.g-pre 𝓤 H A W 𝓣 E G49 G50 b20 Δ2 (Typed.give s46) at15 (Know.g-sl-known 𝓤 H A W (Referent.fInt Syntax.w32) E G49 4 2 (Syntax.tyRef (Syntax.named 2) Syntax.mut (Syntax.tyInt Syntax.w32)) (Row.lease (κs .1 .1 .0) (qs .1 .1 .0)) 0 (λ x. x) record { fits = Dec'.lit< tt } (Reads'.as-is 𝓤 H A (Mut.mslice (Referent.rtF (Referent.fInt Syntax.w32)) (Syntax.tyRef (Syntax.named 2) Syntax.mut (Syntax.tyInt Syntax.w32)) 2)) Path'.refl tt) d15
+          d16 : Typed.Typed 𝓤 H A 𝓣 E G36 b18 Δ2 at16
+          d16 = Typed.g-pre 𝓤 H A W 𝓣 E G36 G37 b18 Δ2 (Typed.pass T36 T37 s33) at15 (Scalar.g-room 𝓤 H A W E G36 7 (Syntax.tyInt Syntax.w64) (Scalar.room-sc 𝓤 H A W (Row.sInt Syntax.w64))) d15
 
-          d17 : Typed.Typed 𝓤 H A 𝓣 E G48 b20 Δ2 at17
-          d17 = Typed.g-pre 𝓤 H A W 𝓣 E G48 G49 b20 Δ2 (Typed.both s45) at16 (Relend.g-back-sl 𝓤 H A W E (Referent.rtF (Referent.fInt Syntax.w32)) G48 20 4 2 7 (Syntax.tyRef (Syntax.named 2) Syntax.mut (Syntax.tyInt Syntax.w32)) (Syntax.tyRef Syntax.erased Syntax.mut (Syntax.tyInt Syntax.w32)) (Row.lease (κs .1 .1 .0) (qs .1 .1 .0)) (λ x. x) (λ x. x) (Reads'.as-is 𝓤 H A (Mut.msleft (Referent.rtF (Referent.fInt Syntax.w32)) (Syntax.tyRef Syntax.erased Syntax.mut (Syntax.tyInt Syntax.w32)))) (Reads'.as-is 𝓤 H A (Relend.mslice-owed (Referent.rtF (Referent.fInt Syntax.w32)) (Syntax.tyRef (Syntax.named 2) Syntax.mut (Syntax.tyInt Syntax.w32)) 2 7 (Row.lease (κs .1 .1 .0) (qs .1 .1 .0)))) Path'.refl Path'.refl) d16
+          d17 : Typed.Typed 𝓤 H A 𝓣 E G35 b18 Δ2 at17
+          d17 = Typed.g-pre 𝓤 H A W 𝓣 E G35 G36 b18 Δ2 (Typed.pass T35 T36 s32) at16 (Scalar.g-room 𝓤 H A W E G35 9 (Syntax.tyEnum (List._∷_ 100 (List._∷_ 97 (List._∷_ 114 (List._∷_ 116 (List._∷_ 115 (List._∷_ 58 (List._∷_ 58 (List._∷_ 65 (List._∷_ 110 (List._∷_ 115 (List._∷_ 119 (List._∷_ 101 (List._∷_ 114 List.[]))))))))))))) (Syntax.ttcons (Syntax.tcons (Syntax.tyInt Syntax.w64) Syntax.tnil) (Syntax.ttcons Syntax.tnil (Syntax.ttcons (Syntax.tcons (Syntax.tyInt Syntax.w64) Syntax.tnil) (Syntax.ttcons (Syntax.tcons (Syntax.tyInt Syntax.w64) (Syntax.tcons (Syntax.tyInt Syntax.w64) Syntax.tnil)) (Syntax.ttcons Syntax.tnil (Syntax.ttcons Syntax.tnil (Syntax.ttcons Syntax.tnil (Syntax.ttcons (Syntax.tcons (Syntax.tyInt Syntax.w64) Syntax.tnil) (Syntax.ttcons (Syntax.tcons (Syntax.tyInt Syntax.w64) Syntax.tnil) (Syntax.ttcons (Syntax.tcons (Syntax.tyInt Syntax.w64) Syntax.tnil) (Syntax.ttcons (Syntax.tcons (Syntax.tyInt Syntax.w64) Syntax.tnil) (Syntax.ttcons (Syntax.tcons (Syntax.tyInt Syntax.w64) Syntax.tnil) (Syntax.ttcons (Syntax.tcons (Syntax.tyInt Syntax.w64) Syntax.tnil) (Syntax.ttcons (Syntax.tcons (Syntax.tyInt Syntax.w64) Syntax.tnil) (Syntax.ttcons Syntax.tnil (Syntax.ttcons Syntax.tnil (Syntax.ttcons (Syntax.tcons (Syntax.tyInt Syntax.w64) Syntax.tnil) Syntax.ttnil)))))))))))))))))) (Local.room-whole 𝓤 H A W (Declared.row Answer.the-type) (Syntax.tyEnum (List._∷_ 100 (List._∷_ 97 (List._∷_ 114 (List._∷_ 116 (List._∷_ 115 (List._∷_ 58 (List._∷_ 58 (List._∷_ 65 (List._∷_ 110 (List._∷_ 115 (List._∷_ 119 (List._∷_ 101 (List._∷_ 114 List.[]))))))))))))) (Syntax.ttcons (Syntax.tcons (Syntax.tyInt Syntax.w64) Syntax.tnil) (Syntax.ttcons Syntax.tnil (Syntax.ttcons (Syntax.tcons (Syntax.tyInt Syntax.w64) Syntax.tnil) (Syntax.ttcons (Syntax.tcons (Syntax.tyInt Syntax.w64) (Syntax.tcons (Syntax.tyInt Syntax.w64) Syntax.tnil)) (Syntax.ttcons Syntax.tnil (Syntax.ttcons Syntax.tnil (Syntax.ttcons Syntax.tnil (Syntax.ttcons (Syntax.tcons (Syntax.tyInt Syntax.w64) Syntax.tnil) (Syntax.ttcons (Syntax.tcons (Syntax.tyInt Syntax.w64) Syntax.tnil) (Syntax.ttcons (Syntax.tcons (Syntax.tyInt Syntax.w64) Syntax.tnil) (Syntax.ttcons (Syntax.tcons (Syntax.tyInt Syntax.w64) Syntax.tnil) (Syntax.ttcons (Syntax.tcons (Syntax.tyInt Syntax.w64) Syntax.tnil) (Syntax.ttcons (Syntax.tcons (Syntax.tyInt Syntax.w64) Syntax.tnil) (Syntax.ttcons (Syntax.tcons (Syntax.tyInt Syntax.w64) Syntax.tnil) (Syntax.ttcons Syntax.tnil (Syntax.ttcons Syntax.tnil (Syntax.ttcons (Syntax.tcons (Syntax.tyInt Syntax.w64) Syntax.tnil) Syntax.ttnil)))))))))))))))))) Path'.refl)) d16
 
-          d18 : Typed.Typed 𝓤 H A 𝓣 E G47 b20 Δ2 at18
-          d18 = Typed.g-pre 𝓤 H A W 𝓣 E G47 G48 b20 Δ2 (λ Ψ. Ψ) at17 (Lifetime.g-end 𝓤 H A W E G47 7 Path'.refl) d17
+          d18 : Typed.Typed 𝓤 H A 𝓣 E G34 b19 Δ2 at18
+          d18 = Typed.s-seq 𝓤 H A W 𝓣 E G34 G35 b17 b18 Δ2 (Typed.pass T34 T35 s31) at17 (LocalCopy.t-val-copy 𝓤 H A W E 𝓣 (λ ρ. Unit) G34 9 0 (Declared.row Answer.the-type) (Syntax.tyEnum (List._∷_ 100 (List._∷_ 97 (List._∷_ 114 (List._∷_ 116 (List._∷_ 115 (List._∷_ 58 (List._∷_ 58 (List._∷_ 65 (List._∷_ 110 (List._∷_ 115 (List._∷_ 119 (List._∷_ 101 (List._∷_ 114 List.[]))))))))))))) (Syntax.ttcons (Syntax.tcons (Syntax.tyInt Syntax.w64) Syntax.tnil) (Syntax.ttcons Syntax.tnil (Syntax.ttcons (Syntax.tcons (Syntax.tyInt Syntax.w64) Syntax.tnil) (Syntax.ttcons (Syntax.tcons (Syntax.tyInt Syntax.w64) (Syntax.tcons (Syntax.tyInt Syntax.w64) Syntax.tnil)) (Syntax.ttcons Syntax.tnil (Syntax.ttcons Syntax.tnil (Syntax.ttcons Syntax.tnil (Syntax.ttcons (Syntax.tcons (Syntax.tyInt Syntax.w64) Syntax.tnil) (Syntax.ttcons (Syntax.tcons (Syntax.tyInt Syntax.w64) Syntax.tnil) (Syntax.ttcons (Syntax.tcons (Syntax.tyInt Syntax.w64) Syntax.tnil) (Syntax.ttcons (Syntax.tcons (Syntax.tyInt Syntax.w64) Syntax.tnil) (Syntax.ttcons (Syntax.tcons (Syntax.tyInt Syntax.w64) Syntax.tnil) (Syntax.ttcons (Syntax.tcons (Syntax.tyInt Syntax.w64) Syntax.tnil) (Syntax.ttcons (Syntax.tcons (Syntax.tyInt Syntax.w64) Syntax.tnil) (Syntax.ttcons Syntax.tnil (Syntax.ttcons Syntax.tnil (Syntax.ttcons (Syntax.tcons (Syntax.tyInt Syntax.w64) Syntax.tnil) Syntax.ttnil)))))))))))))))))) (Syntax.tyEnum (List._∷_ 100 (List._∷_ 97 (List._∷_ 114 (List._∷_ 116 (List._∷_ 115 (List._∷_ 58 (List._∷_ 58 (List._∷_ 65 (List._∷_ 110 (List._∷_ 115 (List._∷_ 119 (List._∷_ 101 (List._∷_ 114 List.[]))))))))))))) (Syntax.ttcons (Syntax.tcons (Syntax.tyInt Syntax.w64) Syntax.tnil) (Syntax.ttcons Syntax.tnil (Syntax.ttcons (Syntax.tcons (Syntax.tyInt Syntax.w64) Syntax.tnil) (Syntax.ttcons (Syntax.tcons (Syntax.tyInt Syntax.w64) (Syntax.tcons (Syntax.tyInt Syntax.w64) Syntax.tnil)) (Syntax.ttcons Syntax.tnil (Syntax.ttcons Syntax.tnil (Syntax.ttcons Syntax.tnil (Syntax.ttcons (Syntax.tcons (Syntax.tyInt Syntax.w64) Syntax.tnil) (Syntax.ttcons (Syntax.tcons (Syntax.tyInt Syntax.w64) Syntax.tnil) (Syntax.ttcons (Syntax.tcons (Syntax.tyInt Syntax.w64) Syntax.tnil) (Syntax.ttcons (Syntax.tcons (Syntax.tyInt Syntax.w64) Syntax.tnil) (Syntax.ttcons (Syntax.tcons (Syntax.tyInt Syntax.w64) Syntax.tnil) (Syntax.ttcons (Syntax.tcons (Syntax.tyInt Syntax.w64) Syntax.tnil) (Syntax.ttcons (Syntax.tcons (Syntax.tyInt Syntax.w64) Syntax.tnil) (Syntax.ttcons Syntax.tnil (Syntax.ttcons Syntax.tnil (Syntax.ttcons (Syntax.tcons (Syntax.tyInt Syntax.w64) Syntax.tnil) Syntax.ttnil)))))))))))))))))) (Rows.whole (Declared.row Answer.the-type)) (Rows.whole (Declared.row Answer.the-type)) (λ x. x) (λ x. x) (λ x. x) Path'.refl (Own.told-none 𝓤 H A (G34 .slots)) (Yields.yields-copy 𝓤 H A W (λ ρ. Unit) (Declared.row Answer.the-type) Path'.refl (Copies.cEnum Answer.the-type Laws.the-laws Laws.the-copy .copy 𝓤 H A W) (Rows.whole (Declared.row Answer.the-type)) (λ x. x) (λ x. x) (λ ρ told. Local.mem-whole 𝓤 H A W (Declared.row Answer.the-type) ρ) λ ρ told. Local.whole-mem 𝓤 H A W (Declared.row Answer.the-type) ρ) (Reads'.room-gone 𝓤 H A (Syntax.tyEnum (List._∷_ 100 (List._∷_ 97 (List._∷_ 114 (List._∷_ 116 (List._∷_ 115 (List._∷_ 58 (List._∷_ 58 (List._∷_ 65 (List._∷_ 110 (List._∷_ 115 (List._∷_ 119 (List._∷_ 101 (List._∷_ 114 List.[]))))))))))))) (Syntax.ttcons (Syntax.tcons (Syntax.tyInt Syntax.w64) Syntax.tnil) (Syntax.ttcons Syntax.tnil (Syntax.ttcons (Syntax.tcons (Syntax.tyInt Syntax.w64) Syntax.tnil) (Syntax.ttcons (Syntax.tcons (Syntax.tyInt Syntax.w64) (Syntax.tcons (Syntax.tyInt Syntax.w64) Syntax.tnil)) (Syntax.ttcons Syntax.tnil (Syntax.ttcons Syntax.tnil (Syntax.ttcons Syntax.tnil (Syntax.ttcons (Syntax.tcons (Syntax.tyInt Syntax.w64) Syntax.tnil) (Syntax.ttcons (Syntax.tcons (Syntax.tyInt Syntax.w64) Syntax.tnil) (Syntax.ttcons (Syntax.tcons (Syntax.tyInt Syntax.w64) Syntax.tnil) (Syntax.ttcons (Syntax.tcons (Syntax.tyInt Syntax.w64) Syntax.tnil) (Syntax.ttcons (Syntax.tcons (Syntax.tyInt Syntax.w64) Syntax.tnil) (Syntax.ttcons (Syntax.tcons (Syntax.tyInt Syntax.w64) Syntax.tnil) (Syntax.ttcons (Syntax.tcons (Syntax.tyInt Syntax.w64) Syntax.tnil) (Syntax.ttcons Syntax.tnil (Syntax.ttcons Syntax.tnil (Syntax.ttcons (Syntax.tcons (Syntax.tyInt Syntax.w64) Syntax.tnil) Syntax.ttnil))))))))))))))))))) (Yields.makes-mem 𝓤 H A W (λ ρ. Unit) (Declared.row Answer.the-type) Path'.refl (Rows.whole (Declared.row Answer.the-type)) (λ x. x) λ ρ told. Local.whole-mem 𝓤 H A W (Declared.row Answer.the-type) ρ) Path'.refl Path'.refl) d17
 
-          d19 : Typed.Typed 𝓤 H A 𝓣 E G46 b20 Δ2 at19
-          d19 = Typed.g-pre 𝓤 H A W 𝓣 E G46 G47 b20 Δ2 (Typed.pass T46 T47 s43) at18 (Scalar.g-room 𝓤 H A W E G46 1 (Syntax.tyStruct (List._∷_ 112 (List._∷_ 121 (List._∷_ 114 (List._∷_ 97 (List._∷_ 109 (List._∷_ 105 (List._∷_ 100 (List._∷_ 58 (List._∷_ 58 (List._∷_ 83 (List._∷_ 116 (List._∷_ 97 (List._∷_ 116 (List._∷_ 101 List.[])))))))))))))) (Syntax.tcons (Syntax.tyInt Syntax.w32) (Syntax.tcons (Syntax.tyInt Syntax.w32) (Syntax.tcons (Syntax.tyInt Syntax.w32) (Syntax.tcons (Syntax.tyInt Syntax.w32) (Syntax.tcons (Syntax.tyInt Syntax.w32) (Syntax.tcons (Syntax.tyArray (Syntax.tyInt Syntax.w32) 64) Syntax.tnil))))))) (Local.room-whole 𝓤 H A W (Declared'.row State.the-type) (Syntax.tyStruct (List._∷_ 112 (List._∷_ 121 (List._∷_ 114 (List._∷_ 97 (List._∷_ 109 (List._∷_ 105 (List._∷_ 100 (List._∷_ 58 (List._∷_ 58 (List._∷_ 83 (List._∷_ 116 (List._∷_ 97 (List._∷_ 116 (List._∷_ 101 List.[])))))))))))))) (Syntax.tcons (Syntax.tyInt Syntax.w32) (Syntax.tcons (Syntax.tyInt Syntax.w32) (Syntax.tcons (Syntax.tyInt Syntax.w32) (Syntax.tcons (Syntax.tyInt Syntax.w32) (Syntax.tcons (Syntax.tyInt Syntax.w32) (Syntax.tcons (Syntax.tyArray (Syntax.tyInt Syntax.w32) 64) Syntax.tnil))))))) Path'.refl)) d18
+          d19 : Typed.Typed 𝓤 H A 𝓣 E G33 b19 Δ2 at19
+          d19 = Typed.g-pre 𝓤 H A W 𝓣 E G33 G34 b19 Δ2 (Typed.pass T33 T34 s30) at18 (Scalar.g-room 𝓤 H A W E G33 10 Syntax.tyBool (Scalar.room-sc 𝓤 H A W Row.sBool)) d18
 
-          d20 : Typed.Typed 𝓤 H A 𝓣 E G45 b21 Δ2 at20
-          d20 = Typed.s-seq 𝓤 H A W 𝓣 E G45 G46 b19 b20 Δ2 (Typed.both s42) at19 (Plain.t-call-plain 𝓤 H A W 𝓣 3 ps·4 r·4 (claims· .8) (claims· .9) "pyramid::State::accept" (known .4) E (λ pos β. β) G45 (record { pos = 1; st = List.[]; d = 0; at = λ x. x }, (record { pos = 2; ty = Syntax.tyRef (Syntax.named 0) Syntax.imm (Syntax.tyInt Syntax.w32); ref = λ x. x }, (record { pos = 3; ty = Syntax.tyRef (Syntax.named 1) Syntax.imm (Syntax.tyInt Syntax.w32); ref = λ x. x }, (record { pos = 20; ty = Syntax.tyRef Syntax.erased Syntax.mut (Syntax.tyInt Syntax.w32); ref = λ x. x }, tt)))) 0 (List._∷_ 0 (List._∷_ 1 (List._∷_ 7 List.[]))) (Call.sub-id 𝓤 H A W (G45 .slots)) ((Yields.yields-copy 𝓤 H A W (λ ρ. Unit) (Declared'.row State.the-type) Path'.refl (Copies.cStruct State.the-type Laws'.the-laws Laws'.the-copy .copy 𝓤 H A W) (Rows.whole (Declared'.row State.the-type)) (λ x. x) (λ x. x) (λ ρ told. Local.mem-whole 𝓤 H A W (Declared'.row State.the-type) ρ) λ ρ told. Local.whole-mem 𝓤 H A W (Declared'.row State.the-type) ρ, Path'.refl), (ShrSlice.spares-sslice 𝓤 H A W (Referent.rtF (Referent.fInt Syntax.w32)) (Syntax.tyRef (Syntax.named 0) Syntax.imm (Syntax.tyInt Syntax.w32)) 0, Shared.reads-sslice 𝓤 H A W (Referent.rtF (Referent.fInt Syntax.w32)) (Syntax.tyRef (Syntax.named 0) Syntax.imm (Syntax.tyInt Syntax.w32)) 0, Path'.refl, (ShrSlice.spares-sslice 𝓤 H A W (Referent.rtF (Referent.fInt Syntax.w32)) (Syntax.tyRef (Syntax.named 1) Syntax.imm (Syntax.tyInt Syntax.w32)) 1, Shared.reads-sslice 𝓤 H A W (Referent.rtF (Referent.fInt Syntax.w32)) (Syntax.tyRef (Syntax.named 1) Syntax.imm (Syntax.tyInt Syntax.w32)) 1, Path'.refl, (Reads'.as-is 𝓤 H A (Mut.mslice (Referent.rtF (Referent.fInt Syntax.w32)) (Syntax.tyRef Syntax.erased Syntax.mut (Syntax.tyInt Syntax.w32)) 7), Mut.reads-mslice 𝓤 H A W (Referent.rtF (Referent.fInt Syntax.w32)) (Syntax.tyRef Syntax.erased Syntax.mut (Syntax.tyInt Syntax.w32)) 7, Path'.refl, tt)))) (Reads'.room-gone 𝓤 H A (Syntax.tyEnum (List._∷_ 100 (List._∷_ 97 (List._∷_ 114 (List._∷_ 116 (List._∷_ 115 (List._∷_ 58 (List._∷_ 58 (List._∷_ 65 (List._∷_ 110 (List._∷_ 115 (List._∷_ 119 (List._∷_ 101 (List._∷_ 114 List.[]))))))))))))) (Syntax.ttcons (Syntax.tcons (Syntax.tyInt Syntax.w64) Syntax.tnil) (Syntax.ttcons Syntax.tnil (Syntax.ttcons (Syntax.tcons (Syntax.tyInt Syntax.w64) Syntax.tnil) (Syntax.ttcons (Syntax.tcons (Syntax.tyInt Syntax.w64) (Syntax.tcons (Syntax.tyInt Syntax.w64) Syntax.tnil)) (Syntax.ttcons Syntax.tnil (Syntax.ttcons Syntax.tnil (Syntax.ttcons Syntax.tnil (Syntax.ttcons (Syntax.tcons (Syntax.tyInt Syntax.w64) Syntax.tnil) (Syntax.ttcons (Syntax.tcons (Syntax.tyInt Syntax.w64) Syntax.tnil) (Syntax.ttcons (Syntax.tcons (Syntax.tyInt Syntax.w64) Syntax.tnil) (Syntax.ttcons (Syntax.tcons (Syntax.tyInt Syntax.w64) Syntax.tnil) (Syntax.ttcons (Syntax.tcons (Syntax.tyInt Syntax.w64) Syntax.tnil) (Syntax.ttcons (Syntax.tcons (Syntax.tyInt Syntax.w64) Syntax.tnil) (Syntax.ttcons (Syntax.tcons (Syntax.tyInt Syntax.w64) Syntax.tnil) (Syntax.ttcons Syntax.tnil (Syntax.ttcons Syntax.tnil (Syntax.ttcons (Syntax.tcons (Syntax.tyInt Syntax.w64) Syntax.tnil) Syntax.ttnil))))))))))))))))))) (tt, (tt, (tt, tt))) Path'.refl) d19
+          d20 : Typed.Typed 𝓤 H A 𝓣 E G32 b19 Δ2 at20
+          d20 = Typed.g-pre 𝓤 H A W 𝓣 E G32 G33 b19 Δ2 (Typed.pass T32 T33 s29) at19 (Scalar.g-room 𝓤 H A W E G32 1 (Syntax.tyStruct (List._∷_ 112 (List._∷_ 121 (List._∷_ 114 (List._∷_ 97 (List._∷_ 109 (List._∷_ 105 (List._∷_ 100 (List._∷_ 58 (List._∷_ 58 (List._∷_ 83 (List._∷_ 116 (List._∷_ 97 (List._∷_ 116 (List._∷_ 101 List.[])))))))))))))) (Syntax.tcons (Syntax.tyInt Syntax.w32) (Syntax.tcons (Syntax.tyInt Syntax.w32) (Syntax.tcons (Syntax.tyInt Syntax.w32) (Syntax.tcons (Syntax.tyInt Syntax.w32) (Syntax.tcons (Syntax.tyInt Syntax.w32) (Syntax.tcons (Syntax.tyArray (Syntax.tyInt Syntax.w32) 64) Syntax.tnil))))))) (Local.room-whole 𝓤 H A W (Declared'.row State.the-type) (Syntax.tyStruct (List._∷_ 112 (List._∷_ 121 (List._∷_ 114 (List._∷_ 97 (List._∷_ 109 (List._∷_ 105 (List._∷_ 100 (List._∷_ 58 (List._∷_ 58 (List._∷_ 83 (List._∷_ 116 (List._∷_ 97 (List._∷_ 116 (List._∷_ 101 List.[])))))))))))))) (Syntax.tcons (Syntax.tyInt Syntax.w32) (Syntax.tcons (Syntax.tyInt Syntax.w32) (Syntax.tcons (Syntax.tyInt Syntax.w32) (Syntax.tcons (Syntax.tyInt Syntax.w32) (Syntax.tcons (Syntax.tyInt Syntax.w32) (Syntax.tcons (Syntax.tyArray (Syntax.tyInt Syntax.w32) 64) Syntax.tnil))))))) Path'.refl)) d19
 
-          d21 : Typed.Typed 𝓤 H A 𝓣 E G44 b22 Δ2 at21
-          d21 = Typed.s-seq 𝓤 H A W 𝓣 E G44 G45 b18 b21 Δ2 (Typed.ask s41) at20 (Relend.t-sl-aggregate 𝓤 H A W E (Referent.rtF (Referent.fInt Syntax.w32)) 𝓣 (Relend.asMut (Referent.rtF (Referent.fInt Syntax.w32))) G44 19 20 7 (Syntax.tyRef Syntax.erased Syntax.mut (Syntax.tyInt Syntax.w32)) (Syntax.tyRef Syntax.erased Syntax.mut (Syntax.tyInt Syntax.w32)) (λ x. x) (Scalar.oFld 4 (List._∷_ (Syntax.field 1) List.[]) (Syntax.tyInt Syntax.w64) 8 λ v. Shared.lenV (v .0)) (Reads'.as-is 𝓤 H A (Relend.msptr (Referent.rtF (Referent.fInt Syntax.w32)) (Syntax.tyRef Syntax.erased Syntax.mut (Syntax.tyInt Syntax.w32)) 7)) (Reads'.room-gone 𝓤 H A (Syntax.tyStruct (List._∷_ 38 (List._∷_ 91 (List._∷_ 93 List.[]))) (Syntax.tcons (Syntax.tyRef Syntax.erased Syntax.mut (Syntax.tyInt Syntax.w32)) (Syntax.tcons (Syntax.tyInt Syntax.w64) Syntax.tnil)))) (Relend.reads-owed-len 𝓤 H A W (Referent.rtF (Referent.fInt Syntax.w32)) (Syntax.tyRef (Syntax.named 2) Syntax.mut (Syntax.tyInt Syntax.w32)) 2 7 (Row.lease (κs .1 .1 .0) (qs .1 .1 .0)) 8 Path'.refl, Path'.refl) Path'.refl Path'.refl λ b o k. tt) d20
+          d21 : Typed.Typed 𝓤 H A 𝓣 E G40 b20 Δ2 at21
+          d21 = Typed.t-skip 𝓤 H A W 𝓣 E Δ2 tt
 
-          d22 : Typed.Typed 𝓤 H A 𝓣 E G43 b23 Δ2 at22
-          d22 = Typed.s-seq 𝓤 H A W 𝓣 E G43 G44 b17 b22 Δ2 (Typed.give s40) at21 (Relend.t-sl-relend 𝓤 H A W E (Referent.rtF (Referent.fInt Syntax.w32)) 𝓣 G43 4 19 2 7 (Syntax.tyRef (Syntax.named 2) Syntax.mut (Syntax.tyInt Syntax.w32)) (Syntax.tyRef Syntax.erased Syntax.mut (Syntax.tyInt Syntax.w32)) (Row.lease (κs .1 .1 .0) (qs .1 .1 .0)) 0 (λ x. x) (Reads'.as-is 𝓤 H A (Mut.mslice (Referent.rtF (Referent.fInt Syntax.w32)) (Syntax.tyRef (Syntax.named 2) Syntax.mut (Syntax.tyInt Syntax.w32)) 2)) (Reads'.room-gone 𝓤 H A (Syntax.tyRef Syntax.erased Syntax.mut (Syntax.tyInt Syntax.w32))) Path'.refl tt Path'.refl Path'.refl Path'.refl λ b o. tt) d21
+          d22 : Typed.Typed 𝓤 H A 𝓣 E G39 b20 Δ2 at22
+          d22 = Typed.g-pre 𝓤 H A W 𝓣 E G39 G40 b20 Δ2 (Typed.pass T39 T40 s36) at21 (Scalar.g-room 𝓤 H A W E G39 10 Syntax.tyBool (Scalar.room-sc 𝓤 H A W Row.sBool)) d21
 
-          d23 : Typed.Typed 𝓤 H A 𝓣 E G42 b23 Δ2 at23
-          d23 = Typed.g-pre 𝓤 H A W 𝓣 E G42 G43 b23 Δ2 (λ Ψ. Ψ) at22 (Lifetime.g-begin 𝓤 H A W E G42 7 (tt, (tt, (tt, (tt, (tt, (tt, (tt, (tt, (tt, (tt, (tt, (tt, (tt, (tt, (tt, (tt, (tt, (tt, (tt, (tt, (tt, (tt, (tt, tt)))))))))))))))))))))))) d22
+          d23 : Typed.Typed 𝓤 H A 𝓣 E G32 b20 Δ2 at23
+          d23 = Typed.g-pre 𝓤 H A W 𝓣 E G32 G39 b20 Δ2 (Typed.pass T32 T39 s35) at22 (Scalar.g-room 𝓤 H A W E G32 9 (Syntax.tyEnum (List._∷_ 100 (List._∷_ 97 (List._∷_ 114 (List._∷_ 116 (List._∷_ 115 (List._∷_ 58 (List._∷_ 58 (List._∷_ 65 (List._∷_ 110 (List._∷_ 115 (List._∷_ 119 (List._∷_ 101 (List._∷_ 114 List.[]))))))))))))) (Syntax.ttcons (Syntax.tcons (Syntax.tyInt Syntax.w64) Syntax.tnil) (Syntax.ttcons Syntax.tnil (Syntax.ttcons (Syntax.tcons (Syntax.tyInt Syntax.w64) Syntax.tnil) (Syntax.ttcons (Syntax.tcons (Syntax.tyInt Syntax.w64) (Syntax.tcons (Syntax.tyInt Syntax.w64) Syntax.tnil)) (Syntax.ttcons Syntax.tnil (Syntax.ttcons Syntax.tnil (Syntax.ttcons Syntax.tnil (Syntax.ttcons (Syntax.tcons (Syntax.tyInt Syntax.w64) Syntax.tnil) (Syntax.ttcons (Syntax.tcons (Syntax.tyInt Syntax.w64) Syntax.tnil) (Syntax.ttcons (Syntax.tcons (Syntax.tyInt Syntax.w64) Syntax.tnil) (Syntax.ttcons (Syntax.tcons (Syntax.tyInt Syntax.w64) Syntax.tnil) (Syntax.ttcons (Syntax.tcons (Syntax.tyInt Syntax.w64) Syntax.tnil) (Syntax.ttcons (Syntax.tcons (Syntax.tyInt Syntax.w64) Syntax.tnil) (Syntax.ttcons (Syntax.tcons (Syntax.tyInt Syntax.w64) Syntax.tnil) (Syntax.ttcons Syntax.tnil (Syntax.ttcons Syntax.tnil (Syntax.ttcons (Syntax.tcons (Syntax.tyInt Syntax.w64) Syntax.tnil) Syntax.ttnil)))))))))))))))))) (Local.room-whole 𝓤 H A W (Declared.row Answer.the-type) (Syntax.tyEnum (List._∷_ 100 (List._∷_ 97 (List._∷_ 114 (List._∷_ 116 (List._∷_ 115 (List._∷_ 58 (List._∷_ 58 (List._∷_ 65 (List._∷_ 110 (List._∷_ 115 (List._∷_ 119 (List._∷_ 101 (List._∷_ 114 List.[]))))))))))))) (Syntax.ttcons (Syntax.tcons (Syntax.tyInt Syntax.w64) Syntax.tnil) (Syntax.ttcons Syntax.tnil (Syntax.ttcons (Syntax.tcons (Syntax.tyInt Syntax.w64) Syntax.tnil) (Syntax.ttcons (Syntax.tcons (Syntax.tyInt Syntax.w64) (Syntax.tcons (Syntax.tyInt Syntax.w64) Syntax.tnil)) (Syntax.ttcons Syntax.tnil (Syntax.ttcons Syntax.tnil (Syntax.ttcons Syntax.tnil (Syntax.ttcons (Syntax.tcons (Syntax.tyInt Syntax.w64) Syntax.tnil) (Syntax.ttcons (Syntax.tcons (Syntax.tyInt Syntax.w64) Syntax.tnil) (Syntax.ttcons (Syntax.tcons (Syntax.tyInt Syntax.w64) Syntax.tnil) (Syntax.ttcons (Syntax.tcons (Syntax.tyInt Syntax.w64) Syntax.tnil) (Syntax.ttcons (Syntax.tcons (Syntax.tyInt Syntax.w64) Syntax.tnil) (Syntax.ttcons (Syntax.tcons (Syntax.tyInt Syntax.w64) Syntax.tnil) (Syntax.ttcons (Syntax.tcons (Syntax.tyInt Syntax.w64) Syntax.tnil) (Syntax.ttcons Syntax.tnil (Syntax.ttcons Syntax.tnil (Syntax.ttcons (Syntax.tcons (Syntax.tyInt Syntax.w64) Syntax.tnil) Syntax.ttnil)))))))))))))))))) Path'.refl)) d22
 
-          d24 : Typed.Typed 𝓤 H A 𝓣 E G41 b23 Δ2 at24
-          d24 = Typed.g-pre 𝓤 H A W 𝓣 E G41 G42 b23 Δ2 (Typed.pass T40 T42 s38) at23 (Scalar.g-room 𝓤 H A W E G41 14 Syntax.tyBool (Scalar.room-sc 𝓤 H A W Row.sBool)) d23
+          d24 : Typed.Typed 𝓤 H A 𝓣 E G32 b21 Δ2 at24
+          d24 = Scalar.t-cond 𝓤 H A W E 𝓣 G32 10 (λ x. x) b19 b20 Δ2 at20 at23 (Scalar.reads-sc 𝓤 H A W Row.sBool) Path'.refl d20 d23
 
-          d25 : Typed.Typed 𝓤 H A 𝓣 E G54 b24 Δ2 at25
-          d25 = Typed.t-skip 𝓤 H A W 𝓣 E Δ2 tt
+          d25 : Typed.Typed 𝓤 H A 𝓣 E G30 b21 Δ2 at25
+          d25 = Typed.g-pre 𝓤 H A W 𝓣 E G30 G32 b21 Δ2 (Typed.pass T30 T32 s28) at24 (Scalar.g-room 𝓤 H A W E G30 15 (Syntax.tyInt Syntax.w32) (Scalar.room-sc 𝓤 H A W (Row.sInt Syntax.w32))) d24
 
-          d26 : Typed.Typed 𝓤 H A 𝓣 E G41 b24 Δ2 at26
-          d26 = Typed.g-pre 𝓤 H A W 𝓣 E G41 G54 b24 Δ2 (Typed.pass T40 T54 s50) at25 (Scalar.g-room 𝓤 H A W E G41 14 Syntax.tyBool (Scalar.room-sc 𝓤 H A W Row.sBool)) d25
+          d26 : Typed.Typed 𝓤 H A 𝓣 E G67 b30 Δ3 at26
+          d26 = Typed.t-return 𝓤 H A W 𝓣 E Δ3 tt
 
-          d27 : Typed.Typed 𝓤 H A 𝓣 E G41 b25 Δ2 at27
-          d27 = Scalar.t-cond 𝓤 H A W E 𝓣 G41 14 (λ x. x) b23 b24 Δ2 at24 at26 (Scalar.reads-sc 𝓤 H A W Row.sBool) Path'.refl d24 d26
+          d27 : Typed.Typed 𝓤 H A 𝓣 E G66 b30 Δ3 at27
+          d27 = Typed.g-pre 𝓤 H A W 𝓣 E G66 G67 b30 Δ3 (Typed.pass T66 T67 s62) at26 (Scalar.g-room 𝓤 H A W E G66 8 (Syntax.tyInt Syntax.w64) (Scalar.room-sc 𝓤 H A W (Row.sInt Syntax.w64))) d26
 
-          d28 : Typed.Typed 𝓤 H A 𝓣 E G40 b25 Δ2 at28
-          d28 = Typed.g-pre 𝓤 H A W 𝓣 E G40 G41 b25 Δ2 (λ Ψ. Ψ) at27 (Lifetime.g-forget 𝓤 H A W E G40 6 Row.dead Path'.refl) d27
+          d28 : Typed.Typed 𝓤 H A 𝓣 E G65 b30 Δ3 at28
+          d28 = Typed.g-pre 𝓤 H A W 𝓣 E G65 G66 b30 Δ3 (Typed.pass T64 T66 s61) at27 (Scalar.g-room 𝓤 H A W E G65 7 (Syntax.tyInt Syntax.w64) (Scalar.room-sc 𝓤 H A W (Row.sInt Syntax.w64))) d27
 
-          d29 : Typed.Typed 𝓤 H A 𝓣 E G39 b25 Δ2 at29
-          d29 = Typed.g-pre 𝓤 H A W 𝓣 E G39 G40 b25 Δ2 (Typed.pass T38 T40 s36) at28 (Reshare.g-back-sl-shr 𝓤 H A W E (Referent.rtF (Referent.fInt Syntax.w32)) G39 4 2 6 (Syntax.tyRef (Syntax.named 2) Syntax.mut (Syntax.tyInt Syntax.w32)) (Row.lease (κs .1 .1 .0) (qs .1 .1 .0)) (λ x. x) (Reads'.as-is 𝓤 H A (Reshare.mslice-owedS (Referent.rtF (Referent.fInt Syntax.w32)) (Syntax.tyRef (Syntax.named 2) Syntax.mut (Syntax.tyInt Syntax.w32)) 2 6 (Row.lease (κs .1 .1 .0) (qs .1 .1 .0)))) Path'.refl Path'.refl) d28
+          d29 : Typed.Typed 𝓤 H A 𝓣 E G64 b30 Δ3 at29
+          d29 = Typed.g-pre 𝓤 H A W 𝓣 E G64 G65 b30 Δ3 (λ Ψ. Ψ) at28 (Lifetime.g-forget 𝓤 H A W E G64 8 Row.dead Path'.refl) d28
 
-          d30 : Typed.Typed 𝓤 H A 𝓣 E G38 b25 Δ2 at30
-          d30 = Typed.g-pre 𝓤 H A W 𝓣 E G38 G39 b25 Δ2 (λ Ψ. Ψ) at29 (Lifetime.g-end 𝓤 H A W E G38 6 Path'.refl) d29
+          d30 : Typed.Typed 𝓤 H A 𝓣 E G63 b30 Δ3 at30
+          d30 = Typed.g-pre 𝓤 H A W 𝓣 E G63 G64 b30 Δ3 (Typed.give s59) at29 (Know.g-sl-known 𝓤 H A W (Referent.fInt Syntax.w32) E G63 4 2 (Syntax.tyRef (Syntax.named 2) Syntax.mut (Syntax.tyInt Syntax.w32)) (Row.lease (κs .1 .1 .0) (qs .1 .1 .0)) 0 (λ x. x) record { fits = Dec'.lit< tt } (Reads'.as-is 𝓤 H A (Mut.mslice (Referent.rtF (Referent.fInt Syntax.w32)) (Syntax.tyRef (Syntax.named 2) Syntax.mut (Syntax.tyInt Syntax.w32)) 2)) Path'.refl tt) d29
 
-          d31 : Typed.Typed 𝓤 H A 𝓣 E G37 b25 Δ2 at31
-          d31 = Typed.g-pre 𝓤 H A W 𝓣 E G37 G38 b25 Δ2 (Typed.pass T37 T38 s34) at30 (Scalar.g-room 𝓤 H A W E G37 18 (Syntax.tyInt Syntax.w64) (Scalar.room-sc 𝓤 H A W (Row.sInt Syntax.w64))) d30
+          d31 : Typed.Typed 𝓤 H A 𝓣 E G62 b30 Δ3 at31
+          d31 = Typed.g-pre 𝓤 H A W 𝓣 E G62 G63 b30 Δ3 (Typed.both s58) at30 (Relend.g-back-sl 𝓤 H A W E (Referent.rtF (Referent.fInt Syntax.w32)) G62 22 4 2 8 (Syntax.tyRef (Syntax.named 2) Syntax.mut (Syntax.tyInt Syntax.w32)) (Syntax.tyRef Syntax.erased Syntax.mut (Syntax.tyInt Syntax.w32)) (Row.lease (κs .1 .1 .0) (qs .1 .1 .0)) (λ x. x) (λ x. x) (Reads'.as-is 𝓤 H A (Mut.msleft (Referent.rtF (Referent.fInt Syntax.w32)) (Syntax.tyRef Syntax.erased Syntax.mut (Syntax.tyInt Syntax.w32)))) (Reads'.as-is 𝓤 H A (Relend.mslice-owed (Referent.rtF (Referent.fInt Syntax.w32)) (Syntax.tyRef (Syntax.named 2) Syntax.mut (Syntax.tyInt Syntax.w32)) 2 8 (Row.lease (κs .1 .1 .0) (qs .1 .1 .0)))) Path'.refl Path'.refl) d30
 
-          d32 : Typed.Typed 𝓤 H A 𝓣 E G36 b25 Δ2 at32
-          d32 = Typed.g-pre 𝓤 H A W 𝓣 E G36 G37 b25 Δ2 (Typed.pass T36 T37 s33) at31 (Scalar.g-room 𝓤 H A W E G36 17 (Syntax.tyInt Syntax.w64) (Scalar.room-sc 𝓤 H A W (Row.sInt Syntax.w64))) d31
+          d32 : Typed.Typed 𝓤 H A 𝓣 E G61 b30 Δ3 at32
+          d32 = Typed.g-pre 𝓤 H A W 𝓣 E G61 G62 b30 Δ3 (λ Ψ. Ψ) at31 (Lifetime.g-end 𝓤 H A W E G61 8 Path'.refl) d31
 
-          d33 : Typed.Typed 𝓤 H A 𝓣 E G34 b25 Δ2 at33
-          d33 = Typed.g-pre 𝓤 H A W 𝓣 E G34 G36 b25 Δ2 (Typed.pass T34 T36 s32) at32 (Scalar.g-room 𝓤 H A W E G34 16 (Syntax.tyStruct (List._∷_ 38 (List._∷_ 91 (List._∷_ 93 List.[]))) (Syntax.tcons (Syntax.tyRef Syntax.erased Syntax.imm (Syntax.tyInt Syntax.w32)) (Syntax.tcons (Syntax.tyInt Syntax.w64) Syntax.tnil))) (Shared.room-sslice 𝓤 H A W (Referent.rtF (Referent.fInt Syntax.w32)) (Syntax.tyRef Syntax.erased Syntax.imm (Syntax.tyInt Syntax.w32)) 6)) d32
+          d33 : Typed.Typed 𝓤 H A 𝓣 E G60 b30 Δ3 at33
+          d33 = Typed.g-pre 𝓤 H A W 𝓣 E G60 G61 b30 Δ3 (Typed.pass T60 T61 s56) at32 (Scalar.g-room 𝓤 H A W E G60 1 (Syntax.tyStruct (List._∷_ 112 (List._∷_ 121 (List._∷_ 114 (List._∷_ 97 (List._∷_ 109 (List._∷_ 105 (List._∷_ 100 (List._∷_ 58 (List._∷_ 58 (List._∷_ 83 (List._∷_ 116 (List._∷_ 97 (List._∷_ 116 (List._∷_ 101 List.[])))))))))))))) (Syntax.tcons (Syntax.tyInt Syntax.w32) (Syntax.tcons (Syntax.tyInt Syntax.w32) (Syntax.tcons (Syntax.tyInt Syntax.w32) (Syntax.tcons (Syntax.tyInt Syntax.w32) (Syntax.tcons (Syntax.tyInt Syntax.w32) (Syntax.tcons (Syntax.tyArray (Syntax.tyInt Syntax.w32) 64) Syntax.tnil))))))) (Local.room-whole 𝓤 H A W (Declared'.row State.the-type) (Syntax.tyStruct (List._∷_ 112 (List._∷_ 121 (List._∷_ 114 (List._∷_ 97 (List._∷_ 109 (List._∷_ 105 (List._∷_ 100 (List._∷_ 58 (List._∷_ 58 (List._∷_ 83 (List._∷_ 116 (List._∷_ 97 (List._∷_ 116 (List._∷_ 101 List.[])))))))))))))) (Syntax.tcons (Syntax.tyInt Syntax.w32) (Syntax.tcons (Syntax.tyInt Syntax.w32) (Syntax.tcons (Syntax.tyInt Syntax.w32) (Syntax.tcons (Syntax.tyInt Syntax.w32) (Syntax.tcons (Syntax.tyInt Syntax.w32) (Syntax.tcons (Syntax.tyArray (Syntax.tyInt Syntax.w32) 64) Syntax.tnil))))))) Path'.refl)) d32
 
-          d34 : Typed.Typed 𝓤 H A 𝓣 E G65 b29 Δ0 at34
-          d34 = Typed.t-return 𝓤 H A W 𝓣 E Δ0 tt
+          d34 : Typed.Typed 𝓤 H A 𝓣 E G59 b31 Δ3 at34
+          d34 = Typed.s-seq 𝓤 H A W 𝓣 E G59 G60 b29 b30 Δ3 (Typed.both s55) at33 (Plain.t-call-plain 𝓤 H A W 𝓣 3 ps·5 r·5 (claims· .10) (claims· .11) "pyramid::State::accept" (known .5) E (λ pos β. β) G59 (record { pos = 1; st = List.[]; d = 0; at = λ x. x }, (record { pos = 2; ty = Syntax.tyRef (Syntax.named 0) Syntax.imm (Syntax.tyInt Syntax.w32); ref = λ x. x }, (record { pos = 3; ty = Syntax.tyRef (Syntax.named 1) Syntax.imm (Syntax.tyInt Syntax.w32); ref = λ x. x }, (record { pos = 22; ty = Syntax.tyRef Syntax.erased Syntax.mut (Syntax.tyInt Syntax.w32); ref = λ x. x }, tt)))) 0 (List._∷_ 0 (List._∷_ 1 (List._∷_ 8 List.[]))) (Call.sub-id 𝓤 H A W (G59 .slots)) ((Yields.yields-copy 𝓤 H A W (λ ρ. Unit) (Declared'.row State.the-type) Path'.refl (Copies.cStruct State.the-type Laws'.the-laws Laws'.the-copy .copy 𝓤 H A W) (Rows.whole (Declared'.row State.the-type)) (λ x. x) (λ x. x) (λ ρ told. Local.mem-whole 𝓤 H A W (Declared'.row State.the-type) ρ) λ ρ told. Local.whole-mem 𝓤 H A W (Declared'.row State.the-type) ρ, Path'.refl), (ShrSlice.spares-sslice 𝓤 H A W (Referent.rtF (Referent.fInt Syntax.w32)) (Syntax.tyRef (Syntax.named 0) Syntax.imm (Syntax.tyInt Syntax.w32)) 0, Shared.reads-sslice 𝓤 H A W (Referent.rtF (Referent.fInt Syntax.w32)) (Syntax.tyRef (Syntax.named 0) Syntax.imm (Syntax.tyInt Syntax.w32)) 0, Path'.refl, (ShrSlice.spares-sslice 𝓤 H A W (Referent.rtF (Referent.fInt Syntax.w32)) (Syntax.tyRef (Syntax.named 1) Syntax.imm (Syntax.tyInt Syntax.w32)) 1, Shared.reads-sslice 𝓤 H A W (Referent.rtF (Referent.fInt Syntax.w32)) (Syntax.tyRef (Syntax.named 1) Syntax.imm (Syntax.tyInt Syntax.w32)) 1, Path'.refl, (Reads'.as-is 𝓤 H A (Mut.mslice (Referent.rtF (Referent.fInt Syntax.w32)) (Syntax.tyRef Syntax.erased Syntax.mut (Syntax.tyInt Syntax.w32)) 8), Mut.reads-mslice 𝓤 H A W (Referent.rtF (Referent.fInt Syntax.w32)) (Syntax.tyRef Syntax.erased Syntax.mut (Syntax.tyInt Syntax.w32)) 8, Path'.refl, tt)))) (Reads'.room-gone 𝓤 H A (Syntax.tyEnum (List._∷_ 100 (List._∷_ 97 (List._∷_ 114 (List._∷_ 116 (List._∷_ 115 (List._∷_ 58 (List._∷_ 58 (List._∷_ 65 (List._∷_ 110 (List._∷_ 115 (List._∷_ 119 (List._∷_ 101 (List._∷_ 114 List.[]))))))))))))) (Syntax.ttcons (Syntax.tcons (Syntax.tyInt Syntax.w64) Syntax.tnil) (Syntax.ttcons Syntax.tnil (Syntax.ttcons (Syntax.tcons (Syntax.tyInt Syntax.w64) Syntax.tnil) (Syntax.ttcons (Syntax.tcons (Syntax.tyInt Syntax.w64) (Syntax.tcons (Syntax.tyInt Syntax.w64) Syntax.tnil)) (Syntax.ttcons Syntax.tnil (Syntax.ttcons Syntax.tnil (Syntax.ttcons Syntax.tnil (Syntax.ttcons (Syntax.tcons (Syntax.tyInt Syntax.w64) Syntax.tnil) (Syntax.ttcons (Syntax.tcons (Syntax.tyInt Syntax.w64) Syntax.tnil) (Syntax.ttcons (Syntax.tcons (Syntax.tyInt Syntax.w64) Syntax.tnil) (Syntax.ttcons (Syntax.tcons (Syntax.tyInt Syntax.w64) Syntax.tnil) (Syntax.ttcons (Syntax.tcons (Syntax.tyInt Syntax.w64) Syntax.tnil) (Syntax.ttcons (Syntax.tcons (Syntax.tyInt Syntax.w64) Syntax.tnil) (Syntax.ttcons (Syntax.tcons (Syntax.tyInt Syntax.w64) Syntax.tnil) (Syntax.ttcons Syntax.tnil (Syntax.ttcons Syntax.tnil (Syntax.ttcons (Syntax.tcons (Syntax.tyInt Syntax.w64) Syntax.tnil) Syntax.ttnil))))))))))))))))))) (tt, (tt, (tt, tt))) Path'.refl) d33
 
-          d35 : Typed.Typed 𝓤 H A 𝓣 E G64 b29 Δ0 at35
-          d35 = Typed.g-pre 𝓤 H A W 𝓣 E G64 G65 b29 Δ0 (λ Ψ. Ψ) at34 (Lifetime.g-forget 𝓤 H A W E G64 8 Row.dead Path'.refl) d34
+          d35 : Typed.Typed 𝓤 H A 𝓣 E G58 b32 Δ3 at35
+          d35 = Typed.s-seq 𝓤 H A W 𝓣 E G58 G59 b28 b31 Δ3 (Typed.ask s54) at34 (Relend.t-sl-aggregate 𝓤 H A W E (Referent.rtF (Referent.fInt Syntax.w32)) 𝓣 (Relend.asMut (Referent.rtF (Referent.fInt Syntax.w32))) G58 21 22 8 (Syntax.tyRef Syntax.erased Syntax.mut (Syntax.tyInt Syntax.w32)) (Syntax.tyRef Syntax.erased Syntax.mut (Syntax.tyInt Syntax.w32)) (λ x. x) (Scalar.oFld 4 (List._∷_ (Syntax.field 1) List.[]) (Syntax.tyInt Syntax.w64) 8 λ v. Shared.lenV (v .0)) (Reads'.as-is 𝓤 H A (Relend.msptr (Referent.rtF (Referent.fInt Syntax.w32)) (Syntax.tyRef Syntax.erased Syntax.mut (Syntax.tyInt Syntax.w32)) 8)) (Reads'.room-gone 𝓤 H A (Syntax.tyStruct (List._∷_ 38 (List._∷_ 91 (List._∷_ 93 List.[]))) (Syntax.tcons (Syntax.tyRef Syntax.erased Syntax.mut (Syntax.tyInt Syntax.w32)) (Syntax.tcons (Syntax.tyInt Syntax.w64) Syntax.tnil)))) (Relend.reads-owed-len 𝓤 H A W (Referent.rtF (Referent.fInt Syntax.w32)) (Syntax.tyRef (Syntax.named 2) Syntax.mut (Syntax.tyInt Syntax.w32)) 2 8 (Row.lease (κs .1 .1 .0) (qs .1 .1 .0)) 8 Path'.refl, Path'.refl) Path'.refl Path'.refl λ b o k. tt) d34
 
-          d36 : Typed.Typed 𝓤 H A 𝓣 E G63 b29 Δ0 at36
-          d36 = Typed.g-pre 𝓤 H A W 𝓣 E G63 G64 b29 Δ0 (Typed.give s60) at35 (Know.g-sl-known 𝓤 H A W (Referent.fInt Syntax.w32) E G63 4 2 (Syntax.tyRef (Syntax.named 2) Syntax.mut (Syntax.tyInt Syntax.w32)) (Row.lease (κs .1 .1 .0) (qs .1 .1 .0)) 0 (λ x. x) record { fits = Dec'.lit< tt } (Reads'.as-is 𝓤 H A (Mut.mslice (Referent.rtF (Referent.fInt Syntax.w32)) (Syntax.tyRef (Syntax.named 2) Syntax.mut (Syntax.tyInt Syntax.w32)) 2)) Path'.refl tt) d35
+          d36 : Typed.Typed 𝓤 H A 𝓣 E G57 b33 Δ3 at36
+          d36 = Typed.s-seq 𝓤 H A W 𝓣 E G57 G58 b27 b32 Δ3 (Typed.give s53) at35 (Relend.t-sl-relend 𝓤 H A W E (Referent.rtF (Referent.fInt Syntax.w32)) 𝓣 G57 4 21 2 8 (Syntax.tyRef (Syntax.named 2) Syntax.mut (Syntax.tyInt Syntax.w32)) (Syntax.tyRef Syntax.erased Syntax.mut (Syntax.tyInt Syntax.w32)) (Row.lease (κs .1 .1 .0) (qs .1 .1 .0)) 0 (λ x. x) (Reads'.as-is 𝓤 H A (Mut.mslice (Referent.rtF (Referent.fInt Syntax.w32)) (Syntax.tyRef (Syntax.named 2) Syntax.mut (Syntax.tyInt Syntax.w32)) 2)) (Reads'.room-gone 𝓤 H A (Syntax.tyRef Syntax.erased Syntax.mut (Syntax.tyInt Syntax.w32))) Path'.refl tt Path'.refl Path'.refl Path'.refl λ b o. tt) d35
 
-          d37 : Typed.Typed 𝓤 H A 𝓣 E G62 b29 Δ0 at37
-          d37 = Typed.g-pre 𝓤 H A W 𝓣 E G62 G63 b29 Δ0 (Typed.both s59) at36 (Relend.g-back-sl 𝓤 H A W E (Referent.rtF (Referent.fInt Syntax.w32)) G62 22 4 2 8 (Syntax.tyRef (Syntax.named 2) Syntax.mut (Syntax.tyInt Syntax.w32)) (Syntax.tyRef Syntax.erased Syntax.mut (Syntax.tyInt Syntax.w32)) (Row.lease (κs .1 .1 .0) (qs .1 .1 .0)) (λ x. x) (λ x. x) (Reads'.as-is 𝓤 H A (Mut.msleft (Referent.rtF (Referent.fInt Syntax.w32)) (Syntax.tyRef Syntax.erased Syntax.mut (Syntax.tyInt Syntax.w32)))) (Reads'.as-is 𝓤 H A (Relend.mslice-owed (Referent.rtF (Referent.fInt Syntax.w32)) (Syntax.tyRef (Syntax.named 2) Syntax.mut (Syntax.tyInt Syntax.w32)) 2 8 (Row.lease (κs .1 .1 .0) (qs .1 .1 .0)))) Path'.refl Path'.refl) d36
+          d37 : Typed.Typed 𝓤 H A 𝓣 E G56 b33 Δ3 at37
+          d37 = Typed.g-pre 𝓤 H A W 𝓣 E G56 G57 b33 Δ3 (λ Ψ. Ψ) at36 (Lifetime.g-begin 𝓤 H A W E G56 8 (tt, (tt, (tt, (tt, (tt, (tt, (tt, (tt, (tt, (tt, (tt, (tt, (tt, (tt, (tt, (tt, (tt, (tt, (tt, (tt, (tt, (tt, (tt, (tt, (tt, tt)))))))))))))))))))))))))) d36
 
-          d38 : Typed.Typed 𝓤 H A 𝓣 E G61 b29 Δ0 at38
-          d38 = Typed.g-pre 𝓤 H A W 𝓣 E G61 G62 b29 Δ0 (λ Ψ. Ψ) at37 (Lifetime.g-end 𝓤 H A W E G61 8 Path'.refl) d37
+          d38 : Typed.Typed 𝓤 H A 𝓣 E G55 b33 Δ3 at38
+          d38 = Typed.g-pre 𝓤 H A W 𝓣 E G55 G56 b33 Δ3 (Typed.pass T54 T56 s51) at37 (Scalar.g-room 𝓤 H A W E G55 16 Syntax.tyBool (Scalar.room-sc 𝓤 H A W Row.sBool)) d37
 
-          d39 : Typed.Typed 𝓤 H A 𝓣 E G60 b29 Δ0 at39
-          d39 = Typed.g-pre 𝓤 H A W 𝓣 E G60 G61 b29 Δ0 (Typed.pass T60 T61 s57) at38 (Scalar.g-room 𝓤 H A W E G60 8 (Syntax.tyInt Syntax.w64) (Scalar.room-sc 𝓤 H A W (Row.sInt Syntax.w64))) d38
+          d39 : Typed.Typed 𝓤 H A 𝓣 E G68 b34 Δ3 at39
+          d39 = Typed.t-skip 𝓤 H A W 𝓣 E Δ3 tt
 
-          d40 : Typed.Typed 𝓤 H A 𝓣 E G59 b29 Δ0 at40
-          d40 = Typed.g-pre 𝓤 H A W 𝓣 E G59 G60 b29 Δ0 (Typed.pass T59 T60 s56) at39 (Scalar.g-room 𝓤 H A W E G59 7 (Syntax.tyInt Syntax.w64) (Scalar.room-sc 𝓤 H A W (Row.sInt Syntax.w64))) d39
+          d40 : Typed.Typed 𝓤 H A 𝓣 E G55 b34 Δ3 at40
+          d40 = Typed.g-pre 𝓤 H A W 𝓣 E G55 G68 b34 Δ3 (Typed.pass T54 T68 s63) at39 (Scalar.g-room 𝓤 H A W E G55 16 Syntax.tyBool (Scalar.room-sc 𝓤 H A W Row.sBool)) d39
 
-          d41 : Typed.Typed 𝓤 H A 𝓣 E G58 b29 Δ0 at41
-          d41 = Typed.g-pre 𝓤 H A W 𝓣 E G58 G59 b29 Δ0 (Typed.pass T58 T59 s55) at40 (Scalar.g-room 𝓤 H A W E G58 1 (Syntax.tyStruct (List._∷_ 112 (List._∷_ 121 (List._∷_ 114 (List._∷_ 97 (List._∷_ 109 (List._∷_ 105 (List._∷_ 100 (List._∷_ 58 (List._∷_ 58 (List._∷_ 83 (List._∷_ 116 (List._∷_ 97 (List._∷_ 116 (List._∷_ 101 List.[])))))))))))))) (Syntax.tcons (Syntax.tyInt Syntax.w32) (Syntax.tcons (Syntax.tyInt Syntax.w32) (Syntax.tcons (Syntax.tyInt Syntax.w32) (Syntax.tcons (Syntax.tyInt Syntax.w32) (Syntax.tcons (Syntax.tyInt Syntax.w32) (Syntax.tcons (Syntax.tyArray (Syntax.tyInt Syntax.w32) 64) Syntax.tnil))))))) (Local.room-whole 𝓤 H A W (Declared'.row State.the-type) (Syntax.tyStruct (List._∷_ 112 (List._∷_ 121 (List._∷_ 114 (List._∷_ 97 (List._∷_ 109 (List._∷_ 105 (List._∷_ 100 (List._∷_ 58 (List._∷_ 58 (List._∷_ 83 (List._∷_ 116 (List._∷_ 97 (List._∷_ 116 (List._∷_ 101 List.[])))))))))))))) (Syntax.tcons (Syntax.tyInt Syntax.w32) (Syntax.tcons (Syntax.tyInt Syntax.w32) (Syntax.tcons (Syntax.tyInt Syntax.w32) (Syntax.tcons (Syntax.tyInt Syntax.w32) (Syntax.tcons (Syntax.tyInt Syntax.w32) (Syntax.tcons (Syntax.tyArray (Syntax.tyInt Syntax.w32) 64) Syntax.tnil))))))) Path'.refl)) d40
+          d41 : Typed.Typed 𝓤 H A 𝓣 E G55 b35 Δ3 at41
+          d41 = Scalar.t-cond 𝓤 H A W E 𝓣 G55 16 (λ x. x) b33 b34 Δ3 at38 at40 (Scalar.reads-sc 𝓤 H A W Row.sBool) Path'.refl d38 d40
 
-          d42 : Typed.Typed 𝓤 H A 𝓣 E G57 b30 Δ0 at42
-          d42 = Typed.s-seq 𝓤 H A W 𝓣 E G57 G58 b28 b29 Δ0 (Typed.both s54) at41 (Plain.t-call-plain 𝓤 H A W 𝓣 1 ps·5 r·5 (claims· .10) (claims· .11) "pyramid::State::refuse" (known .5) E (λ pos β. β) G57 (record { pos = 1; st = List.[]; d = 0; at = λ x. x }, (record { pos = 22; ty = Syntax.tyRef Syntax.erased Syntax.mut (Syntax.tyInt Syntax.w32); ref = λ x. x }, tt)) 0 (List._∷_ 8 List.[]) (Call.sub-id 𝓤 H A W (G57 .slots)) ((Yields.yields-copy 𝓤 H A W (λ ρ. Unit) (Declared'.row State.the-type) Path'.refl (Copies.cStruct State.the-type Laws'.the-laws Laws'.the-copy .copy 𝓤 H A W) (Rows.whole (Declared'.row State.the-type)) (λ x. x) (λ x. x) (λ ρ told. Local.mem-whole 𝓤 H A W (Declared'.row State.the-type) ρ) λ ρ told. Local.whole-mem 𝓤 H A W (Declared'.row State.the-type) ρ, Path'.refl), (Reads'.as-is 𝓤 H A (Mut.mslice (Referent.rtF (Referent.fInt Syntax.w32)) (Syntax.tyRef Syntax.erased Syntax.mut (Syntax.tyInt Syntax.w32)) 8), Mut.reads-mslice 𝓤 H A W (Referent.rtF (Referent.fInt Syntax.w32)) (Syntax.tyRef Syntax.erased Syntax.mut (Syntax.tyInt Syntax.w32)) 8, Path'.refl, tt)) (Reads'.room-gone 𝓤 H A (Syntax.tyEnum (List._∷_ 100 (List._∷_ 97 (List._∷_ 114 (List._∷_ 116 (List._∷_ 115 (List._∷_ 58 (List._∷_ 58 (List._∷_ 65 (List._∷_ 110 (List._∷_ 115 (List._∷_ 119 (List._∷_ 101 (List._∷_ 114 List.[]))))))))))))) (Syntax.ttcons (Syntax.tcons (Syntax.tyInt Syntax.w64) Syntax.tnil) (Syntax.ttcons Syntax.tnil (Syntax.ttcons (Syntax.tcons (Syntax.tyInt Syntax.w64) Syntax.tnil) (Syntax.ttcons (Syntax.tcons (Syntax.tyInt Syntax.w64) (Syntax.tcons (Syntax.tyInt Syntax.w64) Syntax.tnil)) (Syntax.ttcons Syntax.tnil (Syntax.ttcons Syntax.tnil (Syntax.ttcons Syntax.tnil (Syntax.ttcons (Syntax.tcons (Syntax.tyInt Syntax.w64) Syntax.tnil) (Syntax.ttcons (Syntax.tcons (Syntax.tyInt Syntax.w64) Syntax.tnil) (Syntax.ttcons (Syntax.tcons (Syntax.tyInt Syntax.w64) Syntax.tnil) (Syntax.ttcons (Syntax.tcons (Syntax.tyInt Syntax.w64) Syntax.tnil) (Syntax.ttcons (Syntax.tcons (Syntax.tyInt Syntax.w64) Syntax.tnil) (Syntax.ttcons (Syntax.tcons (Syntax.tyInt Syntax.w64) Syntax.tnil) (Syntax.ttcons (Syntax.tcons (Syntax.tyInt Syntax.w64) Syntax.tnil) (Syntax.ttcons Syntax.tnil (Syntax.ttcons Syntax.tnil (Syntax.ttcons (Syntax.tcons (Syntax.tyInt Syntax.w64) Syntax.tnil) Syntax.ttnil))))))))))))))))))) (tt, tt) Path'.refl) d41
+          d42 : Typed.Typed 𝓤 H A 𝓣 E G54 b35 Δ3 at42
+          d42 = Typed.g-pre 𝓤 H A W 𝓣 E G54 G55 b35 Δ3 (λ Ψ. Ψ) at41 (Lifetime.g-forget 𝓤 H A W E G54 7 Row.dead Path'.refl) d41
 
-          d43 : Typed.Typed 𝓤 H A 𝓣 E G56 b31 Δ0 at43
-          d43 = Typed.s-seq 𝓤 H A W 𝓣 E G56 G57 b27 b30 Δ0 (Typed.ask s53) at42 (Relend.t-sl-aggregate 𝓤 H A W E (Referent.rtF (Referent.fInt Syntax.w32)) 𝓣 (Relend.asMut (Referent.rtF (Referent.fInt Syntax.w32))) G56 21 22 8 (Syntax.tyRef Syntax.erased Syntax.mut (Syntax.tyInt Syntax.w32)) (Syntax.tyRef Syntax.erased Syntax.mut (Syntax.tyInt Syntax.w32)) (λ x. x) (Scalar.oFld 4 (List._∷_ (Syntax.field 1) List.[]) (Syntax.tyInt Syntax.w64) 8 λ v. Shared.lenV (v .0)) (Reads'.as-is 𝓤 H A (Relend.msptr (Referent.rtF (Referent.fInt Syntax.w32)) (Syntax.tyRef Syntax.erased Syntax.mut (Syntax.tyInt Syntax.w32)) 8)) (Reads'.room-gone 𝓤 H A (Syntax.tyStruct (List._∷_ 38 (List._∷_ 91 (List._∷_ 93 List.[]))) (Syntax.tcons (Syntax.tyRef Syntax.erased Syntax.mut (Syntax.tyInt Syntax.w32)) (Syntax.tcons (Syntax.tyInt Syntax.w64) Syntax.tnil)))) (Relend.reads-owed-len 𝓤 H A W (Referent.rtF (Referent.fInt Syntax.w32)) (Syntax.tyRef (Syntax.named 2) Syntax.mut (Syntax.tyInt Syntax.w32)) 2 8 (Row.lease (κs .1 .1 .0) (qs .1 .1 .0)) 8 Path'.refl, Path'.refl) Path'.refl Path'.refl λ b o k. tt) d42
+          d43 : Typed.Typed 𝓤 H A 𝓣 E G53 b35 Δ3 at43
+          d43 = Typed.g-pre 𝓤 H A W 𝓣 E G53 G54 b35 Δ3 (Typed.pass T52 T54 s49) at42 (Reshare.g-back-sl-shr 𝓤 H A W E (Referent.rtF (Referent.fInt Syntax.w32)) G53 4 2 7 (Syntax.tyRef (Syntax.named 2) Syntax.mut (Syntax.tyInt Syntax.w32)) (Row.lease (κs .1 .1 .0) (qs .1 .1 .0)) (λ x. x) (Reads'.as-is 𝓤 H A (Reshare.mslice-owedS (Referent.rtF (Referent.fInt Syntax.w32)) (Syntax.tyRef (Syntax.named 2) Syntax.mut (Syntax.tyInt Syntax.w32)) 2 7 (Row.lease (κs .1 .1 .0) (qs .1 .1 .0)))) Path'.refl Path'.refl) d42
 
-          d44 : Typed.Typed 𝓤 H A 𝓣 E G55 b32 Δ0 at44
-          d44 = Typed.s-seq 𝓤 H A W 𝓣 E G55 G56 b26 b31 Δ0 (Typed.give s52) at43 (Relend.t-sl-relend 𝓤 H A W E (Referent.rtF (Referent.fInt Syntax.w32)) 𝓣 G55 4 21 2 8 (Syntax.tyRef (Syntax.named 2) Syntax.mut (Syntax.tyInt Syntax.w32)) (Syntax.tyRef Syntax.erased Syntax.mut (Syntax.tyInt Syntax.w32)) (Row.lease (κs .1 .1 .0) (qs .1 .1 .0)) 0 (λ x. x) (Reads'.as-is 𝓤 H A (Mut.mslice (Referent.rtF (Referent.fInt Syntax.w32)) (Syntax.tyRef (Syntax.named 2) Syntax.mut (Syntax.tyInt Syntax.w32)) 2)) (Reads'.room-gone 𝓤 H A (Syntax.tyRef Syntax.erased Syntax.mut (Syntax.tyInt Syntax.w32))) Path'.refl tt Path'.refl Path'.refl Path'.refl λ b o. tt) d43
+          d44 : Typed.Typed 𝓤 H A 𝓣 E G52 b35 Δ3 at44
+          d44 = Typed.g-pre 𝓤 H A W 𝓣 E G52 G53 b35 Δ3 (λ Ψ. Ψ) at43 (Lifetime.g-end 𝓤 H A W E G52 7 Path'.refl) d43
 
-          d45 : Typed.Typed 𝓤 H A 𝓣 E G35 b32 Δ0 at45
-          d45 = Typed.g-pre 𝓤 H A W 𝓣 E G35 G55 b32 Δ0 (λ Ψ. Ψ) at44 (Lifetime.g-begin 𝓤 H A W E G35 8 (tt, (tt, (tt, (tt, (tt, (tt, (tt, (tt, (tt, (tt, (tt, (tt, (tt, (tt, (tt, (tt, (tt, (tt, (tt, (tt, (tt, (tt, (tt, tt)))))))))))))))))))))))) d44
+          d45 : Typed.Typed 𝓤 H A 𝓣 E G51 b35 Δ3 at45
+          d45 = Typed.g-pre 𝓤 H A W 𝓣 E G51 G52 b35 Δ3 (Typed.pass T51 T52 s47) at44 (Scalar.g-room 𝓤 H A W E G51 20 (Syntax.tyInt Syntax.w64) (Scalar.room-sc 𝓤 H A W (Row.sInt Syntax.w64))) d44
 
-          d46 : Typed.Typed 𝓤 H A 𝓣 E G34 b33 Δ0 at46
-          d46 = Typed.t-seq 𝓤 H A W 𝓣 E G34 G35 b25 b32 Δ0 at33 at45 d33 d45
+          d46 : Typed.Typed 𝓤 H A 𝓣 E G50 b35 Δ3 at46
+          d46 = Typed.g-pre 𝓤 H A W 𝓣 E G50 G51 b35 Δ3 (Typed.pass T50 T51 s46) at45 (Scalar.g-room 𝓤 H A W E G50 19 (Syntax.tyInt Syntax.w64) (Scalar.room-sc 𝓤 H A W (Row.sInt Syntax.w64))) d45
 
-          d47 : Typed.Typed 𝓤 H A 𝓣 E G33 b34 Δ0 at47
-          d47 = Typed.s-seq 𝓤 H A W 𝓣 E G33 G34 b16 b33 Δ0 (Typed.both s31) at46 (Plain.t-call-plain 𝓤 H A W 𝓣 3 ps·3 r·3 (claims· .6) (claims· .7) "sheets::loops::all_right" (known .3) E (λ pos β. β) G33 (record { pos = 16; ty = Syntax.tyRef Syntax.erased Syntax.imm (Syntax.tyInt Syntax.w32); ref = λ x. x }, (Num.vAt 17 λ x. x, (Num.vAt 18 λ x. x, (record { pos = 5; ty = Syntax.tyRef (Syntax.named 3) Syntax.imm Cell.behind; ref = λ x. x }, (record { pos = 6; ty = Syntax.tyRef (Syntax.named 4) Syntax.imm Cell.behind; ref = λ x. x }, tt))))) 14 (List._∷_ 6 (List._∷_ 3 (List._∷_ 4 List.[]))) (Call.sub-id 𝓤 H A W (G33 .slots)) (ShrSlice.spares-sslice 𝓤 H A W (Referent.rtF (Referent.fInt Syntax.w32)) (Syntax.tyRef Syntax.erased Syntax.imm (Syntax.tyInt Syntax.w32)) 6, Shared.reads-sslice 𝓤 H A W (Referent.rtF (Referent.fInt Syntax.w32)) (Syntax.tyRef Syntax.erased Syntax.imm (Syntax.tyInt Syntax.w32)) 6, Path'.refl, ((Scalar.reads-sc 𝓤 H A W (Row.sInt Syntax.w64), Path'.refl), ((Scalar.reads-sc 𝓤 H A W (Row.sInt Syntax.w64), Path'.refl), (ShrSlice.spares-sslice 𝓤 H A W Cell.R (Syntax.tyRef (Syntax.named 3) Syntax.imm Cell.behind) 3, Shared.reads-sslice 𝓤 H A W Cell.R (Syntax.tyRef (Syntax.named 3) Syntax.imm Cell.behind) 3, Path'.refl, (ShrSlice.spares-sslice 𝓤 H A W Cell.R (Syntax.tyRef (Syntax.named 4) Syntax.imm Cell.behind) 4, Shared.reads-sslice 𝓤 H A W Cell.R (Syntax.tyRef (Syntax.named 4) Syntax.imm Cell.behind) 4, Path'.refl, tt))))) (Reads'.room-gone 𝓤 H A Syntax.tyBool) (tt, (tt, (tt, tt))) Path'.refl) d46
+          d47 : Typed.Typed 𝓤 H A 𝓣 E G48 b35 Δ3 at47
+          d47 = Typed.g-pre 𝓤 H A W 𝓣 E G48 G50 b35 Δ3 (Typed.pass T48 T50 s45) at46 (Scalar.g-room 𝓤 H A W E G48 18 (Syntax.tyStruct (List._∷_ 38 (List._∷_ 91 (List._∷_ 93 List.[]))) (Syntax.tcons (Syntax.tyRef Syntax.erased Syntax.imm (Syntax.tyInt Syntax.w32)) (Syntax.tcons (Syntax.tyInt Syntax.w64) Syntax.tnil))) (Shared.room-sslice 𝓤 H A W (Referent.rtF (Referent.fInt Syntax.w32)) (Syntax.tyRef Syntax.erased Syntax.imm (Syntax.tyInt Syntax.w32)) 7)) d46
 
-          d48 : Typed.Typed 𝓤 H A 𝓣 E G32 b35 Δ0 at48
-          d48 = Typed.s-seq 𝓤 H A W 𝓣 E G32 G33 b15 b34 Δ0 (Typed.ask s30) at47 (Scalar.t-op1 𝓤 H A W E 𝓣 G32 (Syntax.cast Syntax.unsigned Syntax.unsigned Syntax.w64) (Scalar.oFld 1 (List._∷_ (Syntax.field 1) List.[]) (Syntax.tyInt Syntax.w32) 4 (Reads.fieldV State.the-type Laws'.the-laws 1)) 18 (Rows.sc-here (Row.sInt Syntax.w64)) (Syntax.tyInt Syntax.w64) (Row.valS (Row.sInt Syntax.w64)) (Row.sInt Syntax.w64 .of) (Reads.reads-field 𝓤 H A W State.the-type Laws'.the-laws 1 (Syntax.tyInt Syntax.w32) 4 Path'.refl, Path'.refl) (Reads'.room-gone 𝓤 H A (Syntax.tyInt Syntax.w64)) (Scalar.holds-sc 𝓤 H A W (Row.sInt Syntax.w64)) Path'.refl (λ u. Path'.refl) λ u. tt) d47
+          d48 : Typed.Typed 𝓤 H A 𝓣 E G79 b39 Δ0 at48
+          d48 = Typed.t-return 𝓤 H A W 𝓣 E Δ0 tt
 
-          d49 : Typed.Typed 𝓤 H A 𝓣 E G31 b35 Δ0 at49
-          d49 = Typed.g-pre 𝓤 H A W 𝓣 E G31 G32 b35 Δ0 (Typed.give s29) at48 (Know'.g-struct-known 𝓤 H A W E State.the-type Laws'.the-laws G31 1 (λ x. x) (Reads'.as-is 𝓤 H A (Rows.whole (Declared'.row State.the-type)))) d48
+          d49 : Typed.Typed 𝓤 H A 𝓣 E G78 b39 Δ0 at49
+          d49 = Typed.g-pre 𝓤 H A W 𝓣 E G78 G79 b39 Δ0 (λ Ψ. Ψ) at48 (Lifetime.g-forget 𝓤 H A W E G78 9 Row.dead Path'.refl) d48
 
-          d50 : Typed.Typed 𝓤 H A 𝓣 E G30 b36 Δ0 at50
-          d50 = Typed.s-seq 𝓤 H A W 𝓣 E G30 G31 b14 b35 Δ0 (Typed.ask s28) at49 (Scalar.t-op1 𝓤 H A W E 𝓣 G30 (Syntax.cast Syntax.unsigned Syntax.unsigned Syntax.w64) (Scalar.oFld 1 (List._∷_ (Syntax.field 0) List.[]) (Syntax.tyInt Syntax.w32) 0 (Reads.fieldV State.the-type Laws'.the-laws 0)) 17 (Rows.sc-here (Row.sInt Syntax.w64)) (Syntax.tyInt Syntax.w64) (Row.valS (Row.sInt Syntax.w64)) (Row.sInt Syntax.w64 .of) (Reads.reads-field 𝓤 H A W State.the-type Laws'.the-laws 0 (Syntax.tyInt Syntax.w32) 0 Path'.refl, Path'.refl) (Reads'.room-gone 𝓤 H A (Syntax.tyInt Syntax.w64)) (Scalar.holds-sc 𝓤 H A W (Row.sInt Syntax.w64)) Path'.refl (λ u. Path'.refl) λ u. tt) d49
+          d50 : Typed.Typed 𝓤 H A 𝓣 E G77 b39 Δ0 at50
+          d50 = Typed.g-pre 𝓤 H A W 𝓣 E G77 G78 b39 Δ0 (Typed.give s73) at49 (Know.g-sl-known 𝓤 H A W (Referent.fInt Syntax.w32) E G77 4 2 (Syntax.tyRef (Syntax.named 2) Syntax.mut (Syntax.tyInt Syntax.w32)) (Row.lease (κs .1 .1 .0) (qs .1 .1 .0)) 0 (λ x. x) record { fits = Dec'.lit< tt } (Reads'.as-is 𝓤 H A (Mut.mslice (Referent.rtF (Referent.fInt Syntax.w32)) (Syntax.tyRef (Syntax.named 2) Syntax.mut (Syntax.tyInt Syntax.w32)) 2)) Path'.refl tt) d49
 
-          d51 : Typed.Typed 𝓤 H A 𝓣 E G29 b36 Δ0 at51
-          d51 = Typed.g-pre 𝓤 H A W 𝓣 E G29 G30 b36 Δ0 (Typed.give s27) at50 (Know'.g-struct-known 𝓤 H A W E State.the-type Laws'.the-laws G29 1 (λ x. x) (Reads'.as-is 𝓤 H A (Rows.whole (Declared'.row State.the-type)))) d50
+          d51 : Typed.Typed 𝓤 H A 𝓣 E G76 b39 Δ0 at51
+          d51 = Typed.g-pre 𝓤 H A W 𝓣 E G76 G77 b39 Δ0 (Typed.both s72) at50 (Relend.g-back-sl 𝓤 H A W E (Referent.rtF (Referent.fInt Syntax.w32)) G76 24 4 2 9 (Syntax.tyRef (Syntax.named 2) Syntax.mut (Syntax.tyInt Syntax.w32)) (Syntax.tyRef Syntax.erased Syntax.mut (Syntax.tyInt Syntax.w32)) (Row.lease (κs .1 .1 .0) (qs .1 .1 .0)) (λ x. x) (λ x. x) (Reads'.as-is 𝓤 H A (Mut.msleft (Referent.rtF (Referent.fInt Syntax.w32)) (Syntax.tyRef Syntax.erased Syntax.mut (Syntax.tyInt Syntax.w32)))) (Reads'.as-is 𝓤 H A (Relend.mslice-owed (Referent.rtF (Referent.fInt Syntax.w32)) (Syntax.tyRef (Syntax.named 2) Syntax.mut (Syntax.tyInt Syntax.w32)) 2 9 (Row.lease (κs .1 .1 .0) (qs .1 .1 .0)))) Path'.refl Path'.refl) d50
 
-          d52 : Typed.Typed 𝓤 H A 𝓣 E G28 b37 Δ0 at52
-          d52 = Typed.s-seq 𝓤 H A W 𝓣 E G28 G29 b13 b36 Δ0 (Typed.ask s26) at51 (Relend.t-sl-aggregate 𝓤 H A W E (Referent.rtF (Referent.fInt Syntax.w32)) 𝓣 (Relend.asShr (Referent.rtF (Referent.fInt Syntax.w32))) G28 15 16 6 (Syntax.tyRef Syntax.erased Syntax.imm (Syntax.tyInt Syntax.w32)) (Syntax.tyRef Syntax.erased Syntax.imm (Syntax.tyInt Syntax.w32)) (λ x. x) (Scalar.oFld 4 (List._∷_ (Syntax.field 1) List.[]) (Syntax.tyInt Syntax.w64) 8 λ v. Shared.lenV (v .0)) (Reads'.as-is 𝓤 H A (Relend.ssptr (Referent.rtF (Referent.fInt Syntax.w32)) (Syntax.tyRef Syntax.erased Syntax.imm (Syntax.tyInt Syntax.w32)) 6)) (Reads'.room-gone 𝓤 H A (Syntax.tyStruct (List._∷_ 38 (List._∷_ 91 (List._∷_ 93 List.[]))) (Syntax.tcons (Syntax.tyRef Syntax.erased Syntax.imm (Syntax.tyInt Syntax.w32)) (Syntax.tcons (Syntax.tyInt Syntax.w64) Syntax.tnil)))) (Reshare.reads-owedS-len 𝓤 H A W (Referent.rtF (Referent.fInt Syntax.w32)) (Syntax.tyRef (Syntax.named 2) Syntax.mut (Syntax.tyInt Syntax.w32)) 2 6 (Row.lease (κs .1 .1 .0) (qs .1 .1 .0)) 8 Path'.refl, Path'.refl) Path'.refl Path'.refl λ b o k. tt) d51
+          d52 : Typed.Typed 𝓤 H A 𝓣 E G75 b39 Δ0 at52
+          d52 = Typed.g-pre 𝓤 H A W 𝓣 E G75 G76 b39 Δ0 (λ Ψ. Ψ) at51 (Lifetime.g-end 𝓤 H A W E G75 9 Path'.refl) d51
 
-          d53 : Typed.Typed 𝓤 H A 𝓣 E G27 b38 Δ0 at53
-          d53 = Typed.s-seq 𝓤 H A W 𝓣 E G27 G28 b12 b37 Δ0 (Typed.give s25) at52 (Reshare.t-sl-reshare 𝓤 H A W E (Referent.rtF (Referent.fInt Syntax.w32)) 𝓣 G27 4 15 2 6 (Syntax.tyRef (Syntax.named 2) Syntax.mut (Syntax.tyInt Syntax.w32)) (Syntax.tyRef Syntax.erased Syntax.imm (Syntax.tyInt Syntax.w32)) (Row.lease (κs .1 .1 .0) (qs .1 .1 .0)) 0 (λ x. x) (Reads'.as-is 𝓤 H A (Mut.mslice (Referent.rtF (Referent.fInt Syntax.w32)) (Syntax.tyRef (Syntax.named 2) Syntax.mut (Syntax.tyInt Syntax.w32)) 2)) (Reads'.room-gone 𝓤 H A (Syntax.tyRef Syntax.erased Syntax.imm (Syntax.tyInt Syntax.w32))) Path'.refl tt Path'.refl Path'.refl Path'.refl λ b o. tt) d52
+          d53 : Typed.Typed 𝓤 H A 𝓣 E G74 b39 Δ0 at53
+          d53 = Typed.g-pre 𝓤 H A W 𝓣 E G74 G75 b39 Δ0 (Typed.pass T74 T75 s70) at52 (Scalar.g-room 𝓤 H A W E G74 8 (Syntax.tyInt Syntax.w64) (Scalar.room-sc 𝓤 H A W (Row.sInt Syntax.w64))) d52
 
-          d54 : Typed.Typed 𝓤 H A 𝓣 E G17 b38 Δ0 at54
-          d54 = Typed.g-pre 𝓤 H A W 𝓣 E G17 G27 b38 Δ0 (λ Ψ. Ψ) at53 (Lifetime.g-begin 𝓤 H A W E G17 6 (tt, (tt, (tt, (tt, (tt, (tt, (tt, (tt, (tt, (tt, (tt, (tt, (tt, (tt, (tt, (tt, (tt, (tt, (tt, (tt, (tt, (tt, (tt, tt)))))))))))))))))))))))) d53
+          d54 : Typed.Typed 𝓤 H A 𝓣 E G73 b39 Δ0 at54
+          d54 = Typed.g-pre 𝓤 H A W 𝓣 E G73 G74 b39 Δ0 (Typed.pass T73 T74 s69) at53 (Scalar.g-room 𝓤 H A W E G73 7 (Syntax.tyInt Syntax.w64) (Scalar.room-sc 𝓤 H A W (Row.sInt Syntax.w64))) d53
 
-          d55 : Typed.Typed 𝓤 H A 𝓣 E G16 b39 Δ0 at55
-          d55 = Typed.t-seq 𝓤 H A W 𝓣 E G16 G17 b11 b38 Δ0 at11 at54 d11 d54
+          d55 : Typed.Typed 𝓤 H A 𝓣 E G72 b39 Δ0 at55
+          d55 = Typed.g-pre 𝓤 H A W 𝓣 E G72 G73 b39 Δ0 (Typed.pass T72 T73 s68) at54 (Scalar.g-room 𝓤 H A W E G72 1 (Syntax.tyStruct (List._∷_ 112 (List._∷_ 121 (List._∷_ 114 (List._∷_ 97 (List._∷_ 109 (List._∷_ 105 (List._∷_ 100 (List._∷_ 58 (List._∷_ 58 (List._∷_ 83 (List._∷_ 116 (List._∷_ 97 (List._∷_ 116 (List._∷_ 101 List.[])))))))))))))) (Syntax.tcons (Syntax.tyInt Syntax.w32) (Syntax.tcons (Syntax.tyInt Syntax.w32) (Syntax.tcons (Syntax.tyInt Syntax.w32) (Syntax.tcons (Syntax.tyInt Syntax.w32) (Syntax.tcons (Syntax.tyInt Syntax.w32) (Syntax.tcons (Syntax.tyArray (Syntax.tyInt Syntax.w32) 64) Syntax.tnil))))))) (Local.room-whole 𝓤 H A W (Declared'.row State.the-type) (Syntax.tyStruct (List._∷_ 112 (List._∷_ 121 (List._∷_ 114 (List._∷_ 97 (List._∷_ 109 (List._∷_ 105 (List._∷_ 100 (List._∷_ 58 (List._∷_ 58 (List._∷_ 83 (List._∷_ 116 (List._∷_ 97 (List._∷_ 116 (List._∷_ 101 List.[])))))))))))))) (Syntax.tcons (Syntax.tyInt Syntax.w32) (Syntax.tcons (Syntax.tyInt Syntax.w32) (Syntax.tcons (Syntax.tyInt Syntax.w32) (Syntax.tcons (Syntax.tyInt Syntax.w32) (Syntax.tcons (Syntax.tyInt Syntax.w32) (Syntax.tcons (Syntax.tyArray (Syntax.tyInt Syntax.w32) 64) Syntax.tnil))))))) Path'.refl)) d54
 
-          d56 : Typed.Typed 𝓤 H A 𝓣 E G15 b40 Δ0 at56
-          d56 = Typed.s-seq 𝓤 H A W 𝓣 E G15 G16 b6 b39 Δ0 (Typed.ask s14) at55 (Scalar.t-op2 𝓤 H A W E 𝓣 G15 Syntax.ne (Scalar.oAt 12 (Syntax.tyInt Syntax.w32) (Row.valS (Row.sInt Syntax.w32))) (Scalar.oInt Syntax.w32 0) 13 (Rows.sc-here Row.sBool) Syntax.tyBool (Row.valS Row.sBool) (Row.sBool .of) (Scalar.reads-sc 𝓤 H A W (Row.sInt Syntax.w32), Path'.refl) tt (Reads'.room-gone 𝓤 H A Syntax.tyBool) (Scalar.holds-sc 𝓤 H A W Row.sBool) Path'.refl (λ u. Path'.refl) λ u. tt) d55
+          d56 : Typed.Typed 𝓤 H A 𝓣 E G71 b40 Δ0 at56
+          d56 = Typed.s-seq 𝓤 H A W 𝓣 E G71 G72 b38 b39 Δ0 (Typed.both s67) at55 (Plain.t-call-plain 𝓤 H A W 𝓣 1 ps·6 r·6 (claims· .12) (claims· .13) "pyramid::State::refuse" (known .6) E (λ pos β. β) G71 (record { pos = 1; st = List.[]; d = 0; at = λ x. x }, (record { pos = 24; ty = Syntax.tyRef Syntax.erased Syntax.mut (Syntax.tyInt Syntax.w32); ref = λ x. x }, tt)) 0 (List._∷_ 9 List.[]) (Call.sub-id 𝓤 H A W (G71 .slots)) ((Yields.yields-copy 𝓤 H A W (λ ρ. Unit) (Declared'.row State.the-type) Path'.refl (Copies.cStruct State.the-type Laws'.the-laws Laws'.the-copy .copy 𝓤 H A W) (Rows.whole (Declared'.row State.the-type)) (λ x. x) (λ x. x) (λ ρ told. Local.mem-whole 𝓤 H A W (Declared'.row State.the-type) ρ) λ ρ told. Local.whole-mem 𝓤 H A W (Declared'.row State.the-type) ρ, Path'.refl), (Reads'.as-is 𝓤 H A (Mut.mslice (Referent.rtF (Referent.fInt Syntax.w32)) (Syntax.tyRef Syntax.erased Syntax.mut (Syntax.tyInt Syntax.w32)) 9), Mut.reads-mslice 𝓤 H A W (Referent.rtF (Referent.fInt Syntax.w32)) (Syntax.tyRef Syntax.erased Syntax.mut (Syntax.tyInt Syntax.w32)) 9, Path'.refl, tt)) (Reads'.room-gone 𝓤 H A (Syntax.tyEnum (List._∷_ 100 (List._∷_ 97 (List._∷_ 114 (List._∷_ 116 (List._∷_ 115 (List._∷_ 58 (List._∷_ 58 (List._∷_ 65 (List._∷_ 110 (List._∷_ 115 (List._∷_ 119 (List._∷_ 101 (List._∷_ 114 List.[]))))))))))))) (Syntax.ttcons (Syntax.tcons (Syntax.tyInt Syntax.w64) Syntax.tnil) (Syntax.ttcons Syntax.tnil (Syntax.ttcons (Syntax.tcons (Syntax.tyInt Syntax.w64) Syntax.tnil) (Syntax.ttcons (Syntax.tcons (Syntax.tyInt Syntax.w64) (Syntax.tcons (Syntax.tyInt Syntax.w64) Syntax.tnil)) (Syntax.ttcons Syntax.tnil (Syntax.ttcons Syntax.tnil (Syntax.ttcons Syntax.tnil (Syntax.ttcons (Syntax.tcons (Syntax.tyInt Syntax.w64) Syntax.tnil) (Syntax.ttcons (Syntax.tcons (Syntax.tyInt Syntax.w64) Syntax.tnil) (Syntax.ttcons (Syntax.tcons (Syntax.tyInt Syntax.w64) Syntax.tnil) (Syntax.ttcons (Syntax.tcons (Syntax.tyInt Syntax.w64) Syntax.tnil) (Syntax.ttcons (Syntax.tcons (Syntax.tyInt Syntax.w64) Syntax.tnil) (Syntax.ttcons (Syntax.tcons (Syntax.tyInt Syntax.w64) Syntax.tnil) (Syntax.ttcons (Syntax.tcons (Syntax.tyInt Syntax.w64) Syntax.tnil) (Syntax.ttcons Syntax.tnil (Syntax.ttcons Syntax.tnil (Syntax.ttcons (Syntax.tcons (Syntax.tyInt Syntax.w64) Syntax.tnil) Syntax.ttnil))))))))))))))))))) (tt, tt) Path'.refl) d55
 
-          d57 : Typed.Typed 𝓤 H A 𝓣 E G14 b41 Δ0 at57
-          d57 = Typed.s-seq 𝓤 H A W 𝓣 E G14 G15 b5 b40 Δ0 (Typed.both s13) at56 (Plain.t-call-plain 𝓤 H A W 𝓣 0 ps·2 r·2 (claims· .4) (claims· .5) "darts::Answer::number" (known .2) E (λ pos β. β) G14 (record { pos = 9; st = List.[]; d = 0; at = λ x. x }, tt) 12 List.[] (Call.sub-id 𝓤 H A W (G14 .slots)) ((Yields.yields-copy 𝓤 H A W (λ ρ. Unit) (Declared.row Answer.the-type) Path'.refl (Copies.cEnum Answer.the-type Laws.the-laws Laws.the-copy .copy 𝓤 H A W) (Rows.whole (Declared.row Answer.the-type)) (λ x. x) (λ x. x) (λ ρ told. Local.mem-whole 𝓤 H A W (Declared.row Answer.the-type) ρ) λ ρ told. Local.whole-mem 𝓤 H A W (Declared.row Answer.the-type) ρ, Path'.refl), tt) (Reads'.room-gone 𝓤 H A (Syntax.tyInt Syntax.w32)) tt Path'.refl) d56
+          d57 : Typed.Typed 𝓤 H A 𝓣 E G70 b41 Δ0 at57
+          d57 = Typed.s-seq 𝓤 H A W 𝓣 E G70 G71 b37 b40 Δ0 (Typed.ask s66) at56 (Relend.t-sl-aggregate 𝓤 H A W E (Referent.rtF (Referent.fInt Syntax.w32)) 𝓣 (Relend.asMut (Referent.rtF (Referent.fInt Syntax.w32))) G70 23 24 9 (Syntax.tyRef Syntax.erased Syntax.mut (Syntax.tyInt Syntax.w32)) (Syntax.tyRef Syntax.erased Syntax.mut (Syntax.tyInt Syntax.w32)) (λ x. x) (Scalar.oFld 4 (List._∷_ (Syntax.field 1) List.[]) (Syntax.tyInt Syntax.w64) 8 λ v. Shared.lenV (v .0)) (Reads'.as-is 𝓤 H A (Relend.msptr (Referent.rtF (Referent.fInt Syntax.w32)) (Syntax.tyRef Syntax.erased Syntax.mut (Syntax.tyInt Syntax.w32)) 9)) (Reads'.room-gone 𝓤 H A (Syntax.tyStruct (List._∷_ 38 (List._∷_ 91 (List._∷_ 93 List.[]))) (Syntax.tcons (Syntax.tyRef Syntax.erased Syntax.mut (Syntax.tyInt Syntax.w32)) (Syntax.tcons (Syntax.tyInt Syntax.w64) Syntax.tnil)))) (Relend.reads-owed-len 𝓤 H A W (Referent.rtF (Referent.fInt Syntax.w32)) (Syntax.tyRef (Syntax.named 2) Syntax.mut (Syntax.tyInt Syntax.w32)) 2 9 (Row.lease (κs .1 .1 .0) (qs .1 .1 .0)) 8 Path'.refl, Path'.refl) Path'.refl Path'.refl λ b o k. tt) d56
 
-          d58 : Typed.Typed 𝓤 H A 𝓣 E G13 b41 Δ0 at58
-          d58 = Typed.g-pre 𝓤 H A W 𝓣 E G13 G14 b41 Δ0 (λ Ψ. Ψ) at57 (Lifetime.g-forget 𝓤 H A W E G13 5 Row.dead Path'.refl) d57
+          d58 : Typed.Typed 𝓤 H A 𝓣 E G69 b42 Δ0 at58
+          d58 = Typed.s-seq 𝓤 H A W 𝓣 E G69 G70 b36 b41 Δ0 (Typed.give s65) at57 (Relend.t-sl-relend 𝓤 H A W E (Referent.rtF (Referent.fInt Syntax.w32)) 𝓣 G69 4 23 2 9 (Syntax.tyRef (Syntax.named 2) Syntax.mut (Syntax.tyInt Syntax.w32)) (Syntax.tyRef Syntax.erased Syntax.mut (Syntax.tyInt Syntax.w32)) (Row.lease (κs .1 .1 .0) (qs .1 .1 .0)) 0 (λ x. x) (Reads'.as-is 𝓤 H A (Mut.mslice (Referent.rtF (Referent.fInt Syntax.w32)) (Syntax.tyRef (Syntax.named 2) Syntax.mut (Syntax.tyInt Syntax.w32)) 2)) (Reads'.room-gone 𝓤 H A (Syntax.tyRef Syntax.erased Syntax.mut (Syntax.tyInt Syntax.w32))) Path'.refl tt Path'.refl Path'.refl Path'.refl λ b o. tt) d57
 
-          d59 : Typed.Typed 𝓤 H A 𝓣 E G12 b41 Δ0 at59
-          d59 = Typed.g-pre 𝓤 H A W 𝓣 E G12 G13 b41 Δ0 (Typed.give s11) at58 (Know.g-sl-known 𝓤 H A W (Referent.fInt Syntax.w32) E G12 4 2 (Syntax.tyRef (Syntax.named 2) Syntax.mut (Syntax.tyInt Syntax.w32)) (Row.lease (κs .1 .1 .0) (qs .1 .1 .0)) 0 (λ x. x) record { fits = Dec'.lit< tt } (Reads'.as-is 𝓤 H A (Mut.mslice (Referent.rtF (Referent.fInt Syntax.w32)) (Syntax.tyRef (Syntax.named 2) Syntax.mut (Syntax.tyInt Syntax.w32)) 2)) Path'.refl tt) d58
+          d59 : Typed.Typed 𝓤 H A 𝓣 E G49 b42 Δ0 at59
+          d59 = Typed.g-pre 𝓤 H A W 𝓣 E G49 G69 b42 Δ0 (λ Ψ. Ψ) at58 (Lifetime.g-begin 𝓤 H A W E G49 9 (tt, (tt, (tt, (tt, (tt, (tt, (tt, (tt, (tt, (tt, (tt, (tt, (tt, (tt, (tt, (tt, (tt, (tt, (tt, (tt, (tt, (tt, (tt, (tt, (tt, tt)))))))))))))))))))))))))) d58
 
-          d60 : Typed.Typed 𝓤 H A 𝓣 E G11 b41 Δ0 at60
-          d60 = Typed.g-pre 𝓤 H A W 𝓣 E G11 G12 b41 Δ0 (Typed.both s10) at59 (Relend.g-back-sl 𝓤 H A W E (Referent.rtF (Referent.fInt Syntax.w32)) G11 11 4 2 5 (Syntax.tyRef (Syntax.named 2) Syntax.mut (Syntax.tyInt Syntax.w32)) (Syntax.tyRef Syntax.erased Syntax.mut (Syntax.tyInt Syntax.w32)) (Row.lease (κs .1 .1 .0) (qs .1 .1 .0)) (λ x. x) (λ x. x) (Reads'.as-is 𝓤 H A (Mut.msleft (Referent.rtF (Referent.fInt Syntax.w32)) (Syntax.tyRef Syntax.erased Syntax.mut (Syntax.tyInt Syntax.w32)))) (Reads'.as-is 𝓤 H A (Relend.mslice-owed (Referent.rtF (Referent.fInt Syntax.w32)) (Syntax.tyRef (Syntax.named 2) Syntax.mut (Syntax.tyInt Syntax.w32)) 2 5 (Row.lease (κs .1 .1 .0) (qs .1 .1 .0)))) Path'.refl Path'.refl) d59
+          d60 : Typed.Typed 𝓤 H A 𝓣 E G48 b43 Δ0 at60
+          d60 = Typed.t-seq 𝓤 H A W 𝓣 E G48 G49 b35 b42 Δ0 at47 at59 d47 d59
 
-          d61 : Typed.Typed 𝓤 H A 𝓣 E G10 b41 Δ0 at61
-          d61 = Typed.g-pre 𝓤 H A W 𝓣 E G10 G11 b41 Δ0 (λ Ψ. Ψ) at60 (Lifetime.g-end 𝓤 H A W E G10 5 Path'.refl) d60
+          d61 : Typed.Typed 𝓤 H A 𝓣 E G47 b44 Δ0 at61
+          d61 = Typed.s-seq 𝓤 H A W 𝓣 E G47 G48 b26 b43 Δ0 (Typed.both s44) at60 (Plain.t-call-plain 𝓤 H A W 𝓣 3 ps·4 r·4 (claims· .8) (claims· .9) "sheets::loops::all_right" (known .4) E (λ pos β. β) G47 (record { pos = 18; ty = Syntax.tyRef Syntax.erased Syntax.imm (Syntax.tyInt Syntax.w32); ref = λ x. x }, (Num.vAt 19 λ x. x, (Num.vAt 20 λ x. x, (record { pos = 5; ty = Syntax.tyRef (Syntax.named 3) Syntax.imm Cell.behind; ref = λ x. x }, (record { pos = 6; ty = Syntax.tyRef (Syntax.named 4) Syntax.imm Cell.behind; ref = λ x. x }, tt))))) 16 (List._∷_ 7 (List._∷_ 3 (List._∷_ 4 List.[]))) (Call.sub-id 𝓤 H A W (G47 .slots)) (ShrSlice.spares-sslice 𝓤 H A W (Referent.rtF (Referent.fInt Syntax.w32)) (Syntax.tyRef Syntax.erased Syntax.imm (Syntax.tyInt Syntax.w32)) 7, Shared.reads-sslice 𝓤 H A W (Referent.rtF (Referent.fInt Syntax.w32)) (Syntax.tyRef Syntax.erased Syntax.imm (Syntax.tyInt Syntax.w32)) 7, Path'.refl, ((Scalar.reads-sc 𝓤 H A W (Row.sInt Syntax.w64), Path'.refl), ((Scalar.reads-sc 𝓤 H A W (Row.sInt Syntax.w64), Path'.refl), (ShrSlice.spares-sslice 𝓤 H A W Cell.R (Syntax.tyRef (Syntax.named 3) Syntax.imm Cell.behind) 3, Shared.reads-sslice 𝓤 H A W Cell.R (Syntax.tyRef (Syntax.named 3) Syntax.imm Cell.behind) 3, Path'.refl, (ShrSlice.spares-sslice 𝓤 H A W Cell.R (Syntax.tyRef (Syntax.named 4) Syntax.imm Cell.behind) 4, Shared.reads-sslice 𝓤 H A W Cell.R (Syntax.tyRef (Syntax.named 4) Syntax.imm Cell.behind) 4, Path'.refl, tt))))) (Reads'.room-gone 𝓤 H A Syntax.tyBool) (tt, (tt, (tt, tt))) Path'.refl) d60
 
-          d62 : Typed.Typed 𝓤 H A 𝓣 E G9 b42 Δ0 at62
-          d62 = Typed.s-seq 𝓤 H A W 𝓣 E G9 G10 b4 b41 Δ0 (Typed.both s8) at61 (Plain.t-call-plain 𝓤 H A W 𝓣 3 ps·1 r·1 (claims· .2) (claims· .3) "pyramid::State::check_with" (known .1) E (λ pos β. β) G9 (record { pos = 1; st = List.[]; d = 0; at = λ x. x }, (record { pos = 2; ty = Syntax.tyRef (Syntax.named 0) Syntax.imm (Syntax.tyInt Syntax.w32); ref = λ x. x }, (record { pos = 3; ty = Syntax.tyRef (Syntax.named 1) Syntax.imm (Syntax.tyInt Syntax.w32); ref = λ x. x }, (record { pos = 11; ty = Syntax.tyRef Syntax.erased Syntax.mut (Syntax.tyInt Syntax.w32); ref = λ x. x }, (Num.vAt 7 λ x. x, (Num.vAt 8 λ x. x, tt)))))) 9 (List._∷_ 0 (List._∷_ 1 (List._∷_ 5 List.[]))) (Call.sub-id 𝓤 H A W (G9 .slots)) ((Yields.yields-copy 𝓤 H A W (λ ρ. Unit) (Declared'.row State.the-type) Path'.refl (Copies.cStruct State.the-type Laws'.the-laws Laws'.the-copy .copy 𝓤 H A W) (Rows.whole (Declared'.row State.the-type)) (λ x. x) (λ x. x) (λ ρ told. Local.mem-whole 𝓤 H A W (Declared'.row State.the-type) ρ) λ ρ told. Local.whole-mem 𝓤 H A W (Declared'.row State.the-type) ρ, Path'.refl), (ShrSlice.spares-sslice 𝓤 H A W (Referent.rtF (Referent.fInt Syntax.w32)) (Syntax.tyRef (Syntax.named 0) Syntax.imm (Syntax.tyInt Syntax.w32)) 0, Shared.reads-sslice 𝓤 H A W (Referent.rtF (Referent.fInt Syntax.w32)) (Syntax.tyRef (Syntax.named 0) Syntax.imm (Syntax.tyInt Syntax.w32)) 0, Path'.refl, (ShrSlice.spares-sslice 𝓤 H A W (Referent.rtF (Referent.fInt Syntax.w32)) (Syntax.tyRef (Syntax.named 1) Syntax.imm (Syntax.tyInt Syntax.w32)) 1, Shared.reads-sslice 𝓤 H A W (Referent.rtF (Referent.fInt Syntax.w32)) (Syntax.tyRef (Syntax.named 1) Syntax.imm (Syntax.tyInt Syntax.w32)) 1, Path'.refl, (Reads'.as-is 𝓤 H A (Mut.mslice (Referent.rtF (Referent.fInt Syntax.w32)) (Syntax.tyRef Syntax.erased Syntax.mut (Syntax.tyInt Syntax.w32)) 5), Mut.reads-mslice 𝓤 H A W (Referent.rtF (Referent.fInt Syntax.w32)) (Syntax.tyRef Syntax.erased Syntax.mut (Syntax.tyInt Syntax.w32)) 5, Path'.refl, ((Scalar.reads-sc 𝓤 H A W (Row.sInt Syntax.w64), Path'.refl), ((Scalar.reads-sc 𝓤 H A W (Row.sInt Syntax.w64), Path'.refl), tt)))))) (Reads'.room-gone 𝓤 H A (Syntax.tyEnum (List._∷_ 100 (List._∷_ 97 (List._∷_ 114 (List._∷_ 116 (List._∷_ 115 (List._∷_ 58 (List._∷_ 58 (List._∷_ 65 (List._∷_ 110 (List._∷_ 115 (List._∷_ 119 (List._∷_ 101 (List._∷_ 114 List.[]))))))))))))) (Syntax.ttcons (Syntax.tcons (Syntax.tyInt Syntax.w64) Syntax.tnil) (Syntax.ttcons Syntax.tnil (Syntax.ttcons (Syntax.tcons (Syntax.tyInt Syntax.w64) Syntax.tnil) (Syntax.ttcons (Syntax.tcons (Syntax.tyInt Syntax.w64) (Syntax.tcons (Syntax.tyInt Syntax.w64) Syntax.tnil)) (Syntax.ttcons Syntax.tnil (Syntax.ttcons Syntax.tnil (Syntax.ttcons Syntax.tnil (Syntax.ttcons (Syntax.tcons (Syntax.tyInt Syntax.w64) Syntax.tnil) (Syntax.ttcons (Syntax.tcons (Syntax.tyInt Syntax.w64) Syntax.tnil) (Syntax.ttcons (Syntax.tcons (Syntax.tyInt Syntax.w64) Syntax.tnil) (Syntax.ttcons (Syntax.tcons (Syntax.tyInt Syntax.w64) Syntax.tnil) (Syntax.ttcons (Syntax.tcons (Syntax.tyInt Syntax.w64) Syntax.tnil) (Syntax.ttcons (Syntax.tcons (Syntax.tyInt Syntax.w64) Syntax.tnil) (Syntax.ttcons (Syntax.tcons (Syntax.tyInt Syntax.w64) Syntax.tnil) (Syntax.ttcons Syntax.tnil (Syntax.ttcons Syntax.tnil (Syntax.ttcons (Syntax.tcons (Syntax.tyInt Syntax.w64) Syntax.tnil) Syntax.ttnil))))))))))))))))))) (tt, (tt, (tt, tt))) Path'.refl) d61
+          d62 : Typed.Typed 𝓤 H A 𝓣 E G46 b45 Δ0 at62
+          d62 = Typed.s-seq 𝓤 H A W 𝓣 E G46 G47 b25 b44 Δ0 (Typed.ask s43) at61 (Scalar.t-op1 𝓤 H A W E 𝓣 G46 (Syntax.cast Syntax.unsigned Syntax.unsigned Syntax.w64) (Scalar.oFld 1 (List._∷_ (Syntax.field 1) List.[]) (Syntax.tyInt Syntax.w32) 4 (Reads.fieldV State.the-type Laws'.the-laws 1)) 20 (Rows.sc-here (Row.sInt Syntax.w64)) (Syntax.tyInt Syntax.w64) (Row.valS (Row.sInt Syntax.w64)) (Row.sInt Syntax.w64 .of) (Reads.reads-field 𝓤 H A W State.the-type Laws'.the-laws 1 (Syntax.tyInt Syntax.w32) 4 Path'.refl, Path'.refl) (Reads'.room-gone 𝓤 H A (Syntax.tyInt Syntax.w64)) (Scalar.holds-sc 𝓤 H A W (Row.sInt Syntax.w64)) Path'.refl (λ u. Path'.refl) λ u. tt) d61
 
-          d63 : Typed.Typed 𝓤 H A 𝓣 E G8 b43 Δ0 at63
-          d63 = Typed.s-seq 𝓤 H A W 𝓣 E G8 G9 b3 b42 Δ0 (Typed.ask s7) at62 (Relend.t-sl-aggregate 𝓤 H A W E (Referent.rtF (Referent.fInt Syntax.w32)) 𝓣 (Relend.asMut (Referent.rtF (Referent.fInt Syntax.w32))) G8 10 11 5 (Syntax.tyRef Syntax.erased Syntax.mut (Syntax.tyInt Syntax.w32)) (Syntax.tyRef Syntax.erased Syntax.mut (Syntax.tyInt Syntax.w32)) (λ x. x) (Scalar.oFld 4 (List._∷_ (Syntax.field 1) List.[]) (Syntax.tyInt Syntax.w64) 8 λ v. Shared.lenV (v .0)) (Reads'.as-is 𝓤 H A (Relend.msptr (Referent.rtF (Referent.fInt Syntax.w32)) (Syntax.tyRef Syntax.erased Syntax.mut (Syntax.tyInt Syntax.w32)) 5)) (Reads'.room-gone 𝓤 H A (Syntax.tyStruct (List._∷_ 38 (List._∷_ 91 (List._∷_ 93 List.[]))) (Syntax.tcons (Syntax.tyRef Syntax.erased Syntax.mut (Syntax.tyInt Syntax.w32)) (Syntax.tcons (Syntax.tyInt Syntax.w64) Syntax.tnil)))) (Relend.reads-owed-len 𝓤 H A W (Referent.rtF (Referent.fInt Syntax.w32)) (Syntax.tyRef (Syntax.named 2) Syntax.mut (Syntax.tyInt Syntax.w32)) 2 5 (Row.lease (κs .1 .1 .0) (qs .1 .1 .0)) 8 Path'.refl, Path'.refl) Path'.refl Path'.refl λ b o k. tt) d62
+          d63 : Typed.Typed 𝓤 H A 𝓣 E G45 b45 Δ0 at63
+          d63 = Typed.g-pre 𝓤 H A W 𝓣 E G45 G46 b45 Δ0 (Typed.give s42) at62 (Know'.g-struct-known 𝓤 H A W E State.the-type Laws'.the-laws G45 1 (λ x. x) (Reads'.as-is 𝓤 H A (Rows.whole (Declared'.row State.the-type)))) d62
 
-          d64 : Typed.Typed 𝓤 H A 𝓣 E G7 b44 Δ0 at64
-          d64 = Typed.s-seq 𝓤 H A W 𝓣 E G7 G8 b2 b43 Δ0 (Typed.give s6) at63 (Relend.t-sl-relend 𝓤 H A W E (Referent.rtF (Referent.fInt Syntax.w32)) 𝓣 G7 4 10 2 5 (Syntax.tyRef (Syntax.named 2) Syntax.mut (Syntax.tyInt Syntax.w32)) (Syntax.tyRef Syntax.erased Syntax.mut (Syntax.tyInt Syntax.w32)) (Row.lease (κs .1 .1 .0) (qs .1 .1 .0)) 0 (λ x. x) (Reads'.as-is 𝓤 H A (Mut.mslice (Referent.rtF (Referent.fInt Syntax.w32)) (Syntax.tyRef (Syntax.named 2) Syntax.mut (Syntax.tyInt Syntax.w32)) 2)) (Reads'.room-gone 𝓤 H A (Syntax.tyRef Syntax.erased Syntax.mut (Syntax.tyInt Syntax.w32))) Path'.refl tt Path'.refl Path'.refl Path'.refl λ b o. tt) d63
+          d64 : Typed.Typed 𝓤 H A 𝓣 E G44 b46 Δ0 at64
+          d64 = Typed.s-seq 𝓤 H A W 𝓣 E G44 G45 b24 b45 Δ0 (Typed.ask s41) at63 (Scalar.t-op1 𝓤 H A W E 𝓣 G44 (Syntax.cast Syntax.unsigned Syntax.unsigned Syntax.w64) (Scalar.oFld 1 (List._∷_ (Syntax.field 0) List.[]) (Syntax.tyInt Syntax.w32) 0 (Reads.fieldV State.the-type Laws'.the-laws 0)) 19 (Rows.sc-here (Row.sInt Syntax.w64)) (Syntax.tyInt Syntax.w64) (Row.valS (Row.sInt Syntax.w64)) (Row.sInt Syntax.w64 .of) (Reads.reads-field 𝓤 H A W State.the-type Laws'.the-laws 0 (Syntax.tyInt Syntax.w32) 0 Path'.refl, Path'.refl) (Reads'.room-gone 𝓤 H A (Syntax.tyInt Syntax.w64)) (Scalar.holds-sc 𝓤 H A W (Row.sInt Syntax.w64)) Path'.refl (λ u. Path'.refl) λ u. tt) d63
 
-          d65 : Typed.Typed 𝓤 H A 𝓣 E G6 b44 Δ0 at65
-          d65 = Typed.g-pre 𝓤 H A W 𝓣 E G6 G7 b44 Δ0 (λ Ψ. Ψ) at64 (Lifetime.g-begin 𝓤 H A W E G6 5 (tt, (tt, (tt, (tt, (tt, (tt, (tt, (tt, (tt, (tt, (tt, (tt, (tt, (tt, (tt, (tt, (tt, (tt, (tt, (tt, (tt, (tt, (tt, tt)))))))))))))))))))))))) d64
+          d65 : Typed.Typed 𝓤 H A 𝓣 E G43 b46 Δ0 at65
+          d65 = Typed.g-pre 𝓤 H A W 𝓣 E G43 G44 b46 Δ0 (Typed.give s40) at64 (Know'.g-struct-known 𝓤 H A W E State.the-type Laws'.the-laws G43 1 (λ x. x) (Reads'.as-is 𝓤 H A (Rows.whole (Declared'.row State.the-type)))) d64
 
-          d66 : Typed.Typed 𝓤 H A 𝓣 E G5 b45 Δ0 at66
-          d66 = Typed.s-seq 𝓤 H A W 𝓣 E G5 G6 b1 b44 Δ0 (Typed.both s4) at65 (Plain.t-call-plain 𝓤 H A W 𝓣 1 ps·0 r·0 (claims· .0) (claims· .1) "sheets::thin::records" (known .0) E (λ pos β. β) G5 (record { pos = 6; ty = Syntax.tyRef (Syntax.named 4) Syntax.imm Cell.behind; ref = λ x. x }, tt) 8 (List._∷_ 4 List.[]) (Call.sub-id 𝓤 H A W (G5 .slots)) (ShrSlice.spares-sslice 𝓤 H A W Cell.R (Syntax.tyRef (Syntax.named 4) Syntax.imm Cell.behind) 4, Shared.reads-sslice 𝓤 H A W Cell.R (Syntax.tyRef (Syntax.named 4) Syntax.imm Cell.behind) 4, Path'.refl, tt) (Reads'.room-gone 𝓤 H A (Syntax.tyInt Syntax.w64)) (tt, tt) Path'.refl) d65
+          d66 : Typed.Typed 𝓤 H A 𝓣 E G42 b47 Δ0 at66
+          d66 = Typed.s-seq 𝓤 H A W 𝓣 E G42 G43 b23 b46 Δ0 (Typed.ask s39) at65 (Relend.t-sl-aggregate 𝓤 H A W E (Referent.rtF (Referent.fInt Syntax.w32)) 𝓣 (Relend.asShr (Referent.rtF (Referent.fInt Syntax.w32))) G42 17 18 7 (Syntax.tyRef Syntax.erased Syntax.imm (Syntax.tyInt Syntax.w32)) (Syntax.tyRef Syntax.erased Syntax.imm (Syntax.tyInt Syntax.w32)) (λ x. x) (Scalar.oFld 4 (List._∷_ (Syntax.field 1) List.[]) (Syntax.tyInt Syntax.w64) 8 λ v. Shared.lenV (v .0)) (Reads'.as-is 𝓤 H A (Relend.ssptr (Referent.rtF (Referent.fInt Syntax.w32)) (Syntax.tyRef Syntax.erased Syntax.imm (Syntax.tyInt Syntax.w32)) 7)) (Reads'.room-gone 𝓤 H A (Syntax.tyStruct (List._∷_ 38 (List._∷_ 91 (List._∷_ 93 List.[]))) (Syntax.tcons (Syntax.tyRef Syntax.erased Syntax.imm (Syntax.tyInt Syntax.w32)) (Syntax.tcons (Syntax.tyInt Syntax.w64) Syntax.tnil)))) (Reshare.reads-owedS-len 𝓤 H A W (Referent.rtF (Referent.fInt Syntax.w32)) (Syntax.tyRef (Syntax.named 2) Syntax.mut (Syntax.tyInt Syntax.w32)) 2 7 (Row.lease (κs .1 .1 .0) (qs .1 .1 .0)) 8 Path'.refl, Path'.refl) Path'.refl Path'.refl λ b o k. tt) d65
 
-          d67 : Typed.Typed 𝓤 H A 𝓣 E G4 b46 Δ0 at67
-          d67 = Typed.s-seq 𝓤 H A W 𝓣 E G4 G5 b0 b45 Δ0 (Typed.both s3) at66 (Plain.t-call-plain 𝓤 H A W 𝓣 1 ps·0 r·0 (claims· .0) (claims· .1) "sheets::thin::records" (known .0) E (λ pos β. β) G4 (record { pos = 5; ty = Syntax.tyRef (Syntax.named 3) Syntax.imm Cell.behind; ref = λ x. x }, tt) 7 (List._∷_ 3 List.[]) (Call.sub-id 𝓤 H A W (G4 .slots)) (ShrSlice.spares-sslice 𝓤 H A W Cell.R (Syntax.tyRef (Syntax.named 3) Syntax.imm Cell.behind) 3, Shared.reads-sslice 𝓤 H A W Cell.R (Syntax.tyRef (Syntax.named 3) Syntax.imm Cell.behind) 3, Path'.refl, tt) (Reads'.room-gone 𝓤 H A (Syntax.tyInt Syntax.w64)) (tt, tt) Path'.refl) d66
+          d67 : Typed.Typed 𝓤 H A 𝓣 E G41 b48 Δ0 at67
+          d67 = Typed.s-seq 𝓤 H A W 𝓣 E G41 G42 b22 b47 Δ0 (Typed.give s38) at66 (Reshare.t-sl-reshare 𝓤 H A W E (Referent.rtF (Referent.fInt Syntax.w32)) 𝓣 G41 4 17 2 7 (Syntax.tyRef (Syntax.named 2) Syntax.mut (Syntax.tyInt Syntax.w32)) (Syntax.tyRef Syntax.erased Syntax.imm (Syntax.tyInt Syntax.w32)) (Row.lease (κs .1 .1 .0) (qs .1 .1 .0)) 0 (λ x. x) (Reads'.as-is 𝓤 H A (Mut.mslice (Referent.rtF (Referent.fInt Syntax.w32)) (Syntax.tyRef (Syntax.named 2) Syntax.mut (Syntax.tyInt Syntax.w32)) 2)) (Reads'.room-gone 𝓤 H A (Syntax.tyRef Syntax.erased Syntax.imm (Syntax.tyInt Syntax.w32))) Path'.refl tt Path'.refl Path'.refl Path'.refl λ b o. tt) d66
 
-          d68 : Typed.Typed 𝓤 H A 𝓣 E G3 b46 Δ0 at68
-          d68 = Typed.g-pre 𝓤 H A W 𝓣 E G3 G4 b46 Δ0 (Typed.give s2) at67 (Know.g-sl-known 𝓤 H A W (Referent.fInt Syntax.w32) E G3 4 2 (Syntax.tyRef (Syntax.named 2) Syntax.mut (Syntax.tyInt Syntax.w32)) (Row.lease (κs .1 .1 .0) (qs .1 .1 .0)) 0 (λ x. x) record { fits = Dec'.lit< tt } (Reads'.as-is 𝓤 H A (Mut.mslice (Referent.rtF (Referent.fInt Syntax.w32)) (Syntax.tyRef (Syntax.named 2) Syntax.mut (Syntax.tyInt Syntax.w32)) 2)) Path'.refl tt) d67
+          d68 : Typed.Typed 𝓤 H A 𝓣 E G31 b48 Δ0 at68
+          d68 = Typed.g-pre 𝓤 H A W 𝓣 E G31 G41 b48 Δ0 (λ Ψ. Ψ) at67 (Lifetime.g-begin 𝓤 H A W E G31 7 (tt, (tt, (tt, (tt, (tt, (tt, (tt, (tt, (tt, (tt, (tt, (tt, (tt, (tt, (tt, (tt, (tt, (tt, (tt, (tt, (tt, (tt, (tt, (tt, (tt, tt)))))))))))))))))))))))))) d67
 
-          d69 : Typed.Typed 𝓤 H A 𝓣 E G2 b46 Δ0 at69
-          d69 = Typed.g-pre 𝓤 H A W 𝓣 E G2 G3 b46 Δ0 (Typed.give s1) at68 (Know.g-shs-known 𝓤 H A W (Referent.fInt Syntax.w32) E G2 3 1 (Syntax.tyRef (Syntax.named 1) Syntax.imm (Syntax.tyInt Syntax.w32)) (Row.lease (κs .1 .0) (qs .1 .0)) 0 (λ x. x) record { fits = Dec'.lit< tt } (Reads'.as-is 𝓤 H A (Rows.sslice (Referent.rtF (Referent.fInt Syntax.w32)) (Syntax.tyRef (Syntax.named 1) Syntax.imm (Syntax.tyInt Syntax.w32)) 1)) Path'.refl tt) d68
+          d69 : Typed.Typed 𝓤 H A 𝓣 E G30 b49 Δ0 at69
+          d69 = Typed.t-seq 𝓤 H A W 𝓣 E G30 G31 b21 b48 Δ0 at25 at68 d25 d68
 
-          d70 : Typed.Typed 𝓤 H A 𝓣 E G0 b46 Δ0 at70
-          d70 = Typed.g-pre 𝓤 H A W 𝓣 E G0 G2 b46 Δ0 (Typed.give s0) at69 (Know.g-shs-known 𝓤 H A W (Referent.fInt Syntax.w32) E G0 2 0 (Syntax.tyRef (Syntax.named 0) Syntax.imm (Syntax.tyInt Syntax.w32)) (Row.lease (κs .0) (qs .0)) 0 (λ x. x) record { fits = Dec'.lit< tt } (Reads'.as-is 𝓤 H A (Rows.sslice (Referent.rtF (Referent.fInt Syntax.w32)) (Syntax.tyRef (Syntax.named 0) Syntax.imm (Syntax.tyInt Syntax.w32)) 0)) Path'.refl tt) d69
+          d70 : Typed.Typed 𝓤 H A 𝓣 E G29 b50 Δ0 at70
+          d70 = Typed.s-seq 𝓤 H A W 𝓣 E G29 G30 b16 b49 Δ0 (Typed.ask s27) at69 (Scalar.t-op2 𝓤 H A W E 𝓣 G29 Syntax.ne (Scalar.oAt 15 (Syntax.tyInt Syntax.w32) (Row.valS (Row.sInt Syntax.w32))) (Scalar.oInt Syntax.w32 0) 10 (Rows.sc-here Row.sBool) Syntax.tyBool (Row.valS Row.sBool) (Row.sBool .of) (Scalar.reads-sc 𝓤 H A W (Row.sInt Syntax.w32), Path'.refl) tt (Reads'.room-gone 𝓤 H A Syntax.tyBool) (Scalar.holds-sc 𝓤 H A W Row.sBool) Path'.refl (λ u. Path'.refl) λ u. tt) d69
 
-          pub typed : Typed.Typed 𝓤 H A 𝓣 E (Function.Γin 5 ps r xs m κs qs) b46 (Function.Δret 5 ps r xs m κs qs) Φ
-          typed = d70
+          d71 : Typed.Typed 𝓤 H A 𝓣 E G28 b51 Δ0 at71
+          d71 = Typed.s-seq 𝓤 H A W 𝓣 E G28 G29 b15 b50 Δ0 (Typed.both s26) at70 (Plain.t-call-plain 𝓤 H A W 𝓣 0 ps·3 r·3 (claims· .6) (claims· .7) "darts::Answer::number" (known .3) E (λ pos β. β) G28 (record { pos = 9; st = List.[]; d = 0; at = λ x. x }, tt) 15 List.[] (Call.sub-id 𝓤 H A W (G28 .slots)) ((Yields.yields-copy 𝓤 H A W (λ ρ. Unit) (Declared.row Answer.the-type) Path'.refl (Copies.cEnum Answer.the-type Laws.the-laws Laws.the-copy .copy 𝓤 H A W) (Rows.whole (Declared.row Answer.the-type)) (λ x. x) (λ x. x) (λ ρ told. Local.mem-whole 𝓤 H A W (Declared.row Answer.the-type) ρ) λ ρ told. Local.whole-mem 𝓤 H A W (Declared.row Answer.the-type) ρ, Path'.refl), tt) (Reads'.room-gone 𝓤 H A (Syntax.tyInt Syntax.w32)) tt Path'.refl) d70
+
+          d72 : Typed.Typed 𝓤 H A 𝓣 E G27 b51 Δ0 at72
+          d72 = Typed.g-pre 𝓤 H A W 𝓣 E G27 G28 b51 Δ0 (λ Ψ. Ψ) at71 (Lifetime.g-forget 𝓤 H A W E G27 6 Row.dead Path'.refl) d71
+
+          d73 : Typed.Typed 𝓤 H A 𝓣 E G26 b51 Δ0 at73
+          d73 = Typed.g-pre 𝓤 H A W 𝓣 E G26 G27 b51 Δ0 (Typed.give s24) at72 (Know.g-sl-known 𝓤 H A W (Referent.fInt Syntax.w32) E G26 4 2 (Syntax.tyRef (Syntax.named 2) Syntax.mut (Syntax.tyInt Syntax.w32)) (Row.lease (κs .1 .1 .0) (qs .1 .1 .0)) 0 (λ x. x) record { fits = Dec'.lit< tt } (Reads'.as-is 𝓤 H A (Mut.mslice (Referent.rtF (Referent.fInt Syntax.w32)) (Syntax.tyRef (Syntax.named 2) Syntax.mut (Syntax.tyInt Syntax.w32)) 2)) Path'.refl tt) d72
+
+          d74 : Typed.Typed 𝓤 H A 𝓣 E G25 b51 Δ0 at74
+          d74 = Typed.g-pre 𝓤 H A W 𝓣 E G25 G26 b51 Δ0 (Typed.both s23) at73 (Relend.g-back-sl 𝓤 H A W E (Referent.rtF (Referent.fInt Syntax.w32)) G25 14 4 2 6 (Syntax.tyRef (Syntax.named 2) Syntax.mut (Syntax.tyInt Syntax.w32)) (Syntax.tyRef Syntax.erased Syntax.mut (Syntax.tyInt Syntax.w32)) (Row.lease (κs .1 .1 .0) (qs .1 .1 .0)) (λ x. x) (λ x. x) (Reads'.as-is 𝓤 H A (Mut.msleft (Referent.rtF (Referent.fInt Syntax.w32)) (Syntax.tyRef Syntax.erased Syntax.mut (Syntax.tyInt Syntax.w32)))) (Reads'.as-is 𝓤 H A (Relend.mslice-owed (Referent.rtF (Referent.fInt Syntax.w32)) (Syntax.tyRef (Syntax.named 2) Syntax.mut (Syntax.tyInt Syntax.w32)) 2 6 (Row.lease (κs .1 .1 .0) (qs .1 .1 .0)))) Path'.refl Path'.refl) d73
+
+          d75 : Typed.Typed 𝓤 H A 𝓣 E G24 b51 Δ0 at75
+          d75 = Typed.g-pre 𝓤 H A W 𝓣 E G24 G25 b51 Δ0 (λ Ψ. Ψ) at74 (Lifetime.g-end 𝓤 H A W E G24 6 Path'.refl) d74
+
+          d76 : Typed.Typed 𝓤 H A 𝓣 E G23 b52 Δ0 at76
+          d76 = Typed.s-seq 𝓤 H A W 𝓣 E G23 G24 b14 b51 Δ0 (Typed.both s21) at75 (Plain.t-call-plain 𝓤 H A W 𝓣 3 ps·2 r·2 (claims· .4) (claims· .5) "pyramid::State::check_with" (known .2) E (λ pos β. β) G23 (record { pos = 1; st = List.[]; d = 0; at = λ x. x }, (record { pos = 2; ty = Syntax.tyRef (Syntax.named 0) Syntax.imm (Syntax.tyInt Syntax.w32); ref = λ x. x }, (record { pos = 3; ty = Syntax.tyRef (Syntax.named 1) Syntax.imm (Syntax.tyInt Syntax.w32); ref = λ x. x }, (record { pos = 14; ty = Syntax.tyRef Syntax.erased Syntax.mut (Syntax.tyInt Syntax.w32); ref = λ x. x }, (Num.vAt 7 λ x. x, (Num.vAt 8 λ x. x, tt)))))) 9 (List._∷_ 0 (List._∷_ 1 (List._∷_ 6 List.[]))) (Call.sub-id 𝓤 H A W (G23 .slots)) ((Yields.yields-copy 𝓤 H A W (λ ρ. Unit) (Declared'.row State.the-type) Path'.refl (Copies.cStruct State.the-type Laws'.the-laws Laws'.the-copy .copy 𝓤 H A W) (Rows.whole (Declared'.row State.the-type)) (λ x. x) (λ x. x) (λ ρ told. Local.mem-whole 𝓤 H A W (Declared'.row State.the-type) ρ) λ ρ told. Local.whole-mem 𝓤 H A W (Declared'.row State.the-type) ρ, Path'.refl), (ShrSlice.spares-sslice 𝓤 H A W (Referent.rtF (Referent.fInt Syntax.w32)) (Syntax.tyRef (Syntax.named 0) Syntax.imm (Syntax.tyInt Syntax.w32)) 0, Shared.reads-sslice 𝓤 H A W (Referent.rtF (Referent.fInt Syntax.w32)) (Syntax.tyRef (Syntax.named 0) Syntax.imm (Syntax.tyInt Syntax.w32)) 0, Path'.refl, (ShrSlice.spares-sslice 𝓤 H A W (Referent.rtF (Referent.fInt Syntax.w32)) (Syntax.tyRef (Syntax.named 1) Syntax.imm (Syntax.tyInt Syntax.w32)) 1, Shared.reads-sslice 𝓤 H A W (Referent.rtF (Referent.fInt Syntax.w32)) (Syntax.tyRef (Syntax.named 1) Syntax.imm (Syntax.tyInt Syntax.w32)) 1, Path'.refl, (Reads'.as-is 𝓤 H A (Mut.mslice (Referent.rtF (Referent.fInt Syntax.w32)) (Syntax.tyRef Syntax.erased Syntax.mut (Syntax.tyInt Syntax.w32)) 6), Mut.reads-mslice 𝓤 H A W (Referent.rtF (Referent.fInt Syntax.w32)) (Syntax.tyRef Syntax.erased Syntax.mut (Syntax.tyInt Syntax.w32)) 6, Path'.refl, ((Scalar.reads-sc 𝓤 H A W (Row.sInt Syntax.w64), Path'.refl), ((Scalar.reads-sc 𝓤 H A W (Row.sInt Syntax.w64), Path'.refl), tt)))))) (Reads'.room-gone 𝓤 H A (Syntax.tyEnum (List._∷_ 100 (List._∷_ 97 (List._∷_ 114 (List._∷_ 116 (List._∷_ 115 (List._∷_ 58 (List._∷_ 58 (List._∷_ 65 (List._∷_ 110 (List._∷_ 115 (List._∷_ 119 (List._∷_ 101 (List._∷_ 114 List.[]))))))))))))) (Syntax.ttcons (Syntax.tcons (Syntax.tyInt Syntax.w64) Syntax.tnil) (Syntax.ttcons Syntax.tnil (Syntax.ttcons (Syntax.tcons (Syntax.tyInt Syntax.w64) Syntax.tnil) (Syntax.ttcons (Syntax.tcons (Syntax.tyInt Syntax.w64) (Syntax.tcons (Syntax.tyInt Syntax.w64) Syntax.tnil)) (Syntax.ttcons Syntax.tnil (Syntax.ttcons Syntax.tnil (Syntax.ttcons Syntax.tnil (Syntax.ttcons (Syntax.tcons (Syntax.tyInt Syntax.w64) Syntax.tnil) (Syntax.ttcons (Syntax.tcons (Syntax.tyInt Syntax.w64) Syntax.tnil) (Syntax.ttcons (Syntax.tcons (Syntax.tyInt Syntax.w64) Syntax.tnil) (Syntax.ttcons (Syntax.tcons (Syntax.tyInt Syntax.w64) Syntax.tnil) (Syntax.ttcons (Syntax.tcons (Syntax.tyInt Syntax.w64) Syntax.tnil) (Syntax.ttcons (Syntax.tcons (Syntax.tyInt Syntax.w64) Syntax.tnil) (Syntax.ttcons (Syntax.tcons (Syntax.tyInt Syntax.w64) Syntax.tnil) (Syntax.ttcons Syntax.tnil (Syntax.ttcons Syntax.tnil (Syntax.ttcons (Syntax.tcons (Syntax.tyInt Syntax.w64) Syntax.tnil) Syntax.ttnil))))))))))))))))))) (tt, (tt, (tt, tt))) Path'.refl) d75
+
+          d77 : Typed.Typed 𝓤 H A 𝓣 E G22 b53 Δ0 at77
+          d77 = Typed.s-seq 𝓤 H A W 𝓣 E G22 G23 b13 b52 Δ0 (Typed.ask s20) at76 (Relend.t-sl-aggregate 𝓤 H A W E (Referent.rtF (Referent.fInt Syntax.w32)) 𝓣 (Relend.asMut (Referent.rtF (Referent.fInt Syntax.w32))) G22 13 14 6 (Syntax.tyRef Syntax.erased Syntax.mut (Syntax.tyInt Syntax.w32)) (Syntax.tyRef Syntax.erased Syntax.mut (Syntax.tyInt Syntax.w32)) (λ x. x) (Scalar.oFld 4 (List._∷_ (Syntax.field 1) List.[]) (Syntax.tyInt Syntax.w64) 8 λ v. Shared.lenV (v .0)) (Reads'.as-is 𝓤 H A (Relend.msptr (Referent.rtF (Referent.fInt Syntax.w32)) (Syntax.tyRef Syntax.erased Syntax.mut (Syntax.tyInt Syntax.w32)) 6)) (Reads'.room-gone 𝓤 H A (Syntax.tyStruct (List._∷_ 38 (List._∷_ 91 (List._∷_ 93 List.[]))) (Syntax.tcons (Syntax.tyRef Syntax.erased Syntax.mut (Syntax.tyInt Syntax.w32)) (Syntax.tcons (Syntax.tyInt Syntax.w64) Syntax.tnil)))) (Relend.reads-owed-len 𝓤 H A W (Referent.rtF (Referent.fInt Syntax.w32)) (Syntax.tyRef (Syntax.named 2) Syntax.mut (Syntax.tyInt Syntax.w32)) 2 6 (Row.lease (κs .1 .1 .0) (qs .1 .1 .0)) 8 Path'.refl, Path'.refl) Path'.refl Path'.refl λ b o k. tt) d76
+
+          d78 : Typed.Typed 𝓤 H A 𝓣 E G21 b54 Δ0 at78
+          d78 = Typed.s-seq 𝓤 H A W 𝓣 E G21 G22 b12 b53 Δ0 (Typed.give s19) at77 (Relend.t-sl-relend 𝓤 H A W E (Referent.rtF (Referent.fInt Syntax.w32)) 𝓣 G21 4 13 2 6 (Syntax.tyRef (Syntax.named 2) Syntax.mut (Syntax.tyInt Syntax.w32)) (Syntax.tyRef Syntax.erased Syntax.mut (Syntax.tyInt Syntax.w32)) (Row.lease (κs .1 .1 .0) (qs .1 .1 .0)) 0 (λ x. x) (Reads'.as-is 𝓤 H A (Mut.mslice (Referent.rtF (Referent.fInt Syntax.w32)) (Syntax.tyRef (Syntax.named 2) Syntax.mut (Syntax.tyInt Syntax.w32)) 2)) (Reads'.room-gone 𝓤 H A (Syntax.tyRef Syntax.erased Syntax.mut (Syntax.tyInt Syntax.w32))) Path'.refl tt Path'.refl Path'.refl Path'.refl λ b o. tt) d77
+
+          d79 : Typed.Typed 𝓤 H A 𝓣 E G20 b54 Δ0 at79
+          d79 = Typed.g-pre 𝓤 H A W 𝓣 E G20 G21 b54 Δ0 (λ Ψ. Ψ) at78 (Lifetime.g-begin 𝓤 H A W E G20 6 (tt, (tt, (tt, (tt, (tt, (tt, (tt, (tt, (tt, (tt, (tt, (tt, (tt, (tt, (tt, (tt, (tt, (tt, (tt, (tt, (tt, (tt, (tt, (tt, (tt, tt)))))))))))))))))))))))))) d78
+
+          d80 : Typed.Typed 𝓤 H A 𝓣 E G19 b55 Δ0 at80
+          d80 = Typed.s-seq 𝓤 H A W 𝓣 E G19 G20 b11 b54 Δ0 (Typed.both s17) at79 (Plain.t-call-plain 𝓤 H A W 𝓣 1 ps·1 r·1 (claims· .2) (claims· .3) "sheets::thin::records" (known .1) E (λ pos β. β) G19 (record { pos = 6; ty = Syntax.tyRef (Syntax.named 4) Syntax.imm Cell.behind; ref = λ x. x }, tt) 8 (List._∷_ 4 List.[]) (Call.sub-id 𝓤 H A W (G19 .slots)) (ShrSlice.spares-sslice 𝓤 H A W Cell.R (Syntax.tyRef (Syntax.named 4) Syntax.imm Cell.behind) 4, Shared.reads-sslice 𝓤 H A W Cell.R (Syntax.tyRef (Syntax.named 4) Syntax.imm Cell.behind) 4, Path'.refl, tt) (Reads'.room-gone 𝓤 H A (Syntax.tyInt Syntax.w64)) (tt, tt) Path'.refl) d79
+
+          d81 : Typed.Typed 𝓤 H A 𝓣 E G7 b56 Δ0 at81
+          d81 = Typed.s-seq 𝓤 H A W 𝓣 E G7 G19 b10 b55 Δ0 (Typed.both s16) at80 (Plain.t-call-plain 𝓤 H A W 𝓣 1 ps·1 r·1 (claims· .2) (claims· .3) "sheets::thin::records" (known .1) E (λ pos β. β) G7 (record { pos = 5; ty = Syntax.tyRef (Syntax.named 3) Syntax.imm Cell.behind; ref = λ x. x }, tt) 7 (List._∷_ 3 List.[]) (Call.sub-id 𝓤 H A W (G7 .slots)) (ShrSlice.spares-sslice 𝓤 H A W Cell.R (Syntax.tyRef (Syntax.named 3) Syntax.imm Cell.behind) 3, Shared.reads-sslice 𝓤 H A W Cell.R (Syntax.tyRef (Syntax.named 3) Syntax.imm Cell.behind) 3, Path'.refl, tt) (Reads'.room-gone 𝓤 H A (Syntax.tyInt Syntax.w64)) (tt, tt) Path'.refl) d80
+
+          d82 : Typed.Typed 𝓤 H A 𝓣 E G6 b57 Δ0 at82
+          d82 = Typed.t-seq 𝓤 H A W 𝓣 E G6 G7 b9 b56 Δ0 at13 at81 d13 d81
+
+          d83 : Typed.Typed 𝓤 H A 𝓣 E G5 b58 Δ0 at83
+          d83 = Typed.s-seq 𝓤 H A W 𝓣 E G5 G6 b0 b57 Δ0 (Typed.ask s4) at82 (Scalar.t-op2 𝓤 H A W E 𝓣 G5 Syntax.eq (Scalar.oFld 1 (List._∷_ (Syntax.field 1) List.[]) (Syntax.tyInt Syntax.w32) 4 (Reads.fieldV State.the-type Laws'.the-laws 1)) (Scalar.oInt Syntax.w32 0) 10 (Rows.sc-here Row.sBool) Syntax.tyBool (Row.valS Row.sBool) (Row.sBool .of) (Reads.reads-field 𝓤 H A W State.the-type Laws'.the-laws 1 (Syntax.tyInt Syntax.w32) 4 Path'.refl, Path'.refl) tt (Reads'.room-gone 𝓤 H A Syntax.tyBool) (Scalar.holds-sc 𝓤 H A W Row.sBool) Path'.refl (λ u. Path'.refl) λ u. tt) d82
+
+          d84 : Typed.Typed 𝓤 H A 𝓣 E G4 b58 Δ0 at84
+          d84 = Typed.g-pre 𝓤 H A W 𝓣 E G4 G5 b58 Δ0 (Typed.give s3) at83 (Know'.g-struct-known 𝓤 H A W E State.the-type Laws'.the-laws G4 1 (λ x. x) (Reads'.as-is 𝓤 H A (Rows.whole (Declared'.row State.the-type)))) d83
+
+          d85 : Typed.Typed 𝓤 H A 𝓣 E G3 b58 Δ0 at85
+          d85 = Typed.g-pre 𝓤 H A W 𝓣 E G3 G4 b58 Δ0 (Typed.give s2) at84 (Know.g-sl-known 𝓤 H A W (Referent.fInt Syntax.w32) E G3 4 2 (Syntax.tyRef (Syntax.named 2) Syntax.mut (Syntax.tyInt Syntax.w32)) (Row.lease (κs .1 .1 .0) (qs .1 .1 .0)) 0 (λ x. x) record { fits = Dec'.lit< tt } (Reads'.as-is 𝓤 H A (Mut.mslice (Referent.rtF (Referent.fInt Syntax.w32)) (Syntax.tyRef (Syntax.named 2) Syntax.mut (Syntax.tyInt Syntax.w32)) 2)) Path'.refl tt) d84
+
+          d86 : Typed.Typed 𝓤 H A 𝓣 E G2 b58 Δ0 at86
+          d86 = Typed.g-pre 𝓤 H A W 𝓣 E G2 G3 b58 Δ0 (Typed.give s1) at85 (Know.g-shs-known 𝓤 H A W (Referent.fInt Syntax.w32) E G2 3 1 (Syntax.tyRef (Syntax.named 1) Syntax.imm (Syntax.tyInt Syntax.w32)) (Row.lease (κs .1 .0) (qs .1 .0)) 0 (λ x. x) record { fits = Dec'.lit< tt } (Reads'.as-is 𝓤 H A (Rows.sslice (Referent.rtF (Referent.fInt Syntax.w32)) (Syntax.tyRef (Syntax.named 1) Syntax.imm (Syntax.tyInt Syntax.w32)) 1)) Path'.refl tt) d85
+
+          d87 : Typed.Typed 𝓤 H A 𝓣 E G0 b58 Δ0 at87
+          d87 = Typed.g-pre 𝓤 H A W 𝓣 E G0 G2 b58 Δ0 (Typed.give s0) at86 (Know.g-shs-known 𝓤 H A W (Referent.fInt Syntax.w32) E G0 2 0 (Syntax.tyRef (Syntax.named 0) Syntax.imm (Syntax.tyInt Syntax.w32)) (Row.lease (κs .0) (qs .0)) 0 (λ x. x) record { fits = Dec'.lit< tt } (Reads'.as-is 𝓤 H A (Rows.sslice (Referent.rtF (Referent.fInt Syntax.w32)) (Syntax.tyRef (Syntax.named 0) Syntax.imm (Syntax.tyInt Syntax.w32)) 0)) Path'.refl tt) d86
+
+          pub typed : Typed.Typed 𝓤 H A 𝓣 E (Function.Γin 5 ps r xs m κs qs) b58 (Function.Δret 5 ps r xs m κs qs) Φ
+          typed = d87
 
       module _ (κs : Lifetimes.Lfts 5) where
         pub record Args : Type 0 where
@@ -1454,444 +1730,557 @@ module _ (claims· : Claims) where
         pub before : After-shared-slice-known2
         pub slice-known : After-slice-known·own before
 
-      abbrev pub Need-records-requires : Type 0
-      Need-records-requires = (c : After-slice-known) → s3 .asks (m3 (c .before) (c .slice-known .given))
-
       abbrev pub m4 : (before : After-slice-known) → (given : s3 .gives (m3 (before .before) (before .slice-known .given))) → Typed.Mo T5
       m4 = λ before given. s3 .next (m3 (before .before) (before .slice-known .given)) given
 
+      abbrev pub m5 : (before : After-slice-known) → (given : s3 .gives (m3 (before .before) (before .slice-known .given))) → Typed.Mo T6
+      m5 = λ before given. s4 .next (m4 before given)
+
+      abbrev W1 : (before : After-slice-known) → (given : s3 .gives (m3 (before .before) (before .slice-known .given))) → Typed.Want O1
+      W1 = λ before given. Typed.wantNext T7 O0 (at81 (W0 (before .before .before .before .κs) (before .before .before .before .args))) (W0 (before .before .before .before .κs) (before .before .before .before .args))
+
       module _ (before· : After-slice-known) where
+        pub record After-struct-known·own : Type 0 where
+          pub given : s3 .gives (m3 (before· .before) (before· .slice-known .given))
+
+      pub record After-struct-known : Type 0 where
+        pub before : After-slice-known
+        pub struct-known : After-struct-known·own before
+
+      module _ (before· : After-struct-known) where
+        pub record Then1·own : Type 0 where
+          pub taken : Path'._≡_ {A = Nat.ℕ} (State.struct .as-values (Row.get 1 (T5 .locals) (m4 (before· .before) (before· .struct-known .given))) .1 .0) 0
+
+      pub record Then1 : Type 0 where
+        pub before : After-struct-known
+        pub if1 : Then1·own before
+
+      abbrev pub m6 : (before : After-struct-known) → Typed.Mo T8
+      m6 = λ before. s5 (m5 (before .before) (before .struct-known .given))
+
+      abbrev pub m7 : (before : Then1) → (given : s7 .gives (m6 (before .before))) → Typed.Mo T10
+      m7 = λ before given. s7 .next (m6 (before .before)) given
+
+      abbrev pub m8 : (before : Then1) → (given : s7 .gives (m6 (before .before))) → Typed.Mo T11
+      m8 = λ before given. s8 .next (m7 before given)
+
+      module _ (before· : Then1) where
+        pub record After-judged-base-arg·own : Type 0 where
+          pub given : s7 .gives (m6 (before· .before))
+
+      pub record After-judged-base-arg : Type 0 where
+        pub before : Then1
+        pub judged-base-arg : After-judged-base-arg·own before
+
+      abbrev pub Need-judged-base-requires : Type 0
+      Need-judged-base-requires = (c : After-judged-base-arg) → s9 .asks (m8 (c .before) (c .judged-base-arg .given))
+
+      abbrev pub m9 : (before : After-judged-base-arg) → (given : s9 .gives (m8 (before .before) (before .judged-base-arg .given))) → Typed.Mo T12
+      m9 = λ before given. s9 .next (m8 (before .before) (before .judged-base-arg .given)) given
+
+      module _ (before· : After-judged-base-arg) where
+        abbrev pub After-judged-base·own : Type 0
+        After-judged-base·own = Called.Called ps·0 r·0 (claims· .1) T11 (record { pos = 1; st = List.[]; d = 0; at = λ x. x }, (record { pos = 2; ty = Syntax.tyRef (Syntax.named 0) Syntax.imm (Syntax.tyInt Syntax.w32); ref = λ x. x }, (record { pos = 3; ty = Syntax.tyRef (Syntax.named 1) Syntax.imm (Syntax.tyInt Syntax.w32); ref = λ x. x }, (record { pos = 12; ty = Syntax.tyRef Syntax.erased Syntax.mut (Syntax.tyInt Syntax.w32); ref = λ x. x }, (record { pos = 5; ty = Syntax.tyRef (Syntax.named 3) Syntax.imm Cell.behind; ref = λ x. x }, (record { pos = 6; ty = Syntax.tyRef (Syntax.named 4) Syntax.imm Cell.behind; ref = λ x. x }, tt)))))) (m8 (before· .before) (before· .judged-base-arg .given))
+
+      pub record After-judged-base : Type 0 where
+        pub before : After-judged-base-arg
+        pub judged-base : After-judged-base·own before
+
+      abbrev pub After-judged-base·gave : (c : After-judged-base) → s9 .gives (m8 (c .before .before) (c .before .judged-base-arg .given))
+      After-judged-base·gave = λ c. Called.given ps·0 r·0 (claims· .1) T11 (record { pos = 1; st = List.[]; d = 0; at = λ x. x }, (record { pos = 2; ty = Syntax.tyRef (Syntax.named 0) Syntax.imm (Syntax.tyInt Syntax.w32); ref = λ x. x }, (record { pos = 3; ty = Syntax.tyRef (Syntax.named 1) Syntax.imm (Syntax.tyInt Syntax.w32); ref = λ x. x }, (record { pos = 12; ty = Syntax.tyRef Syntax.erased Syntax.mut (Syntax.tyInt Syntax.w32); ref = λ x. x }, (record { pos = 5; ty = Syntax.tyRef (Syntax.named 3) Syntax.imm Cell.behind; ref = λ x. x }, (record { pos = 6; ty = Syntax.tyRef (Syntax.named 4) Syntax.imm Cell.behind; ref = λ x. x }, tt)))))) (m8 (c .before .before) (c .before .judged-base-arg .given)) (c .judged-base)
+
+      abbrev pub m10 : (before : After-judged-base-arg) → (given : s9 .gives (m8 (before .before) (before .judged-base-arg .given))) → Typed.Mo T13
+      m10 = λ before given. s10 (m9 before given)
+
+      abbrev pub m11 : (before : After-judged-base) → (given : s12 .gives (m10 (before .before) (After-judged-base·gave before))) → Typed.Mo T15
+      m11 = λ before given. s12 .next (m10 (before .before) (After-judged-base·gave before)) given
+
+      module _ (before· : After-judged-base) where
+        pub record After-work·own : Type 0 where
+          pub given : s12 .gives (m10 (before· .before) (After-judged-base·gave before·))
+
+      pub record After-work : Type 0 where
+        pub before : After-judged-base
+        pub work : After-work·own before
+
+      abbrev pub m12 : (before : After-work) → (given : s13 .gives (m11 (before .before) (before .work .given))) → Typed.Mo T16
+      m12 = λ before given. s13 .next (m11 (before .before) (before .work .given)) given
+
+      module _ (before· : After-work) where
+        pub record After-slice-known2·own : Type 0 where
+          pub given : s13 .gives (m11 (before· .before) (before· .work .given))
+
+      pub record After-slice-known2 : Type 0 where
+        pub before : After-work
+        pub slice-known2 : After-slice-known2·own before
+
+      abbrev pub Need-same-length : Type 0
+      Need-same-length = (c : After-slice-known2) → MutSlice.SameLen (Row.get 4 (T16 .locals) (m12 (c .before) (c .slice-known2 .given))) (dens (c .before .before .before .before .before .before .before .before .before .κs) (c .before .before .before .before .before .before .before .before .before .args) .1 .1 .1 .0)
+
+      abbrev pub Need-returns : Type 0
+      Need-returns = (c : After-slice-known2) → Post· (c .before .before .before .before .before .before .before .before .before .κs) (dens (c .before .before .before .before .before .before .before .before .before .κs) (c .before .before .before .before .before .before .before .before .before .args)) (Function.resV r (c .before .before .before .before .before .before .before .before .before .κs) (m12 (c .before) (c .slice-known2 .given) .0)) (Clauses.atExit (Kinds.endedOf 5 ps r) (c .before .before .before .before .before .before .before .before .before .κs) (dens (c .before .before .before .before .before .before .before .before .before .κs) (c .before .before .before .before .before .before .before .before .before .args)) (Enter.lastsP (c .before .before .before .before .before .before .before .before .before .κs) 1 ps xs (dens (c .before .before .before .before .before .before .before .before .before .κs) (c .before .before .before .before .before .before .before .before .before .args)) (m12 (c .before) (c .slice-known2 .given) .1)))
+
+      module _ (before· : After-struct-known) where
+        pub record Else1·own : Type 0 where
+          pub left : Path'._≡_ {A = Nat.ℕ} (State.struct .as-values (Row.get 1 (T5 .locals) (m4 (before· .before) (before· .struct-known .given))) .1 .0) 0 → ⊥
+
+      pub record Else1 : Type 0 where
+        pub before : After-struct-known
+        pub if1 : Else1·own before
+
+      abbrev pub m13 : (before : After-struct-known) → Typed.Mo T18
+      m13 = λ before. s15 (m5 (before .before) (before .struct-known .given))
+
+      abbrev pub Need-records-requires : Type 0
+      Need-records-requires = (c : Else1) → s16 .asks (m13 (c .before))
+
+      abbrev pub m14 : (before : Else1) → (given : s16 .gives (m13 (before .before))) → Typed.Mo T19
+      m14 = λ before given. s16 .next (m13 (before .before)) given
+
+      module _ (before· : Else1) where
         abbrev pub After-records·own : Type 0
-        After-records·own = Called.Called ps·0 r·0 (claims· .1) T4 (record { pos = 5; ty = Syntax.tyRef (Syntax.named 3) Syntax.imm Cell.behind; ref = λ x. x }, tt) (m3 (before· .before) (before· .slice-known .given))
+        After-records·own = Called.Called ps·1 r·1 (claims· .3) T7 (record { pos = 5; ty = Syntax.tyRef (Syntax.named 3) Syntax.imm Cell.behind; ref = λ x. x }, tt) (m13 (before· .before))
 
       pub record After-records : Type 0 where
-        pub before : After-slice-known
+        pub before : Else1
         pub records : After-records·own before
 
-      abbrev pub After-records·gave : (c : After-records) → s3 .gives (m3 (c .before .before) (c .before .slice-known .given))
-      After-records·gave = λ c. Called.given ps·0 r·0 (claims· .1) T4 (record { pos = 5; ty = Syntax.tyRef (Syntax.named 3) Syntax.imm Cell.behind; ref = λ x. x }, tt) (m3 (c .before .before) (c .before .slice-known .given)) (c .records)
+      abbrev pub After-records·gave : (c : After-records) → s16 .gives (m13 (c .before .before))
+      After-records·gave = λ c. Called.given ps·1 r·1 (claims· .3) T7 (record { pos = 5; ty = Syntax.tyRef (Syntax.named 3) Syntax.imm Cell.behind; ref = λ x. x }, tt) (m13 (c .before .before)) (c .records)
 
       abbrev pub Need-records-requires-2 : Type 0
-      Need-records-requires-2 = (c : After-records) → s4 .asks (m4 (c .before) (After-records·gave c))
+      Need-records-requires-2 = (c : After-records) → s17 .asks (m14 (c .before) (After-records·gave c))
 
-      abbrev pub m5 : (before : After-records) → (given : s4 .gives (m4 (before .before) (After-records·gave before))) → Typed.Mo T6
-      m5 = λ before given. s4 .next (m4 (before .before) (After-records·gave before)) given
+      abbrev pub m15 : (before : After-records) → (given : s17 .gives (m14 (before .before) (After-records·gave before))) → Typed.Mo T20
+      m15 = λ before given. s17 .next (m14 (before .before) (After-records·gave before)) given
 
       module _ (before· : After-records) where
         abbrev pub After-records2·own : Type 0
-        After-records2·own = Called.Called ps·0 r·0 (claims· .1) T5 (record { pos = 6; ty = Syntax.tyRef (Syntax.named 4) Syntax.imm Cell.behind; ref = λ x. x }, tt) (m4 (before· .before) (After-records·gave before·))
+        After-records2·own = Called.Called ps·1 r·1 (claims· .3) T19 (record { pos = 6; ty = Syntax.tyRef (Syntax.named 4) Syntax.imm Cell.behind; ref = λ x. x }, tt) (m14 (before· .before) (After-records·gave before·))
 
       pub record After-records2 : Type 0 where
         pub before : After-records
         pub records2 : After-records2·own before
 
-      abbrev pub After-records2·gave : (c : After-records2) → s4 .gives (m4 (c .before .before) (After-records·gave (c .before)))
-      After-records2·gave = λ c. Called.given ps·0 r·0 (claims· .1) T5 (record { pos = 6; ty = Syntax.tyRef (Syntax.named 4) Syntax.imm Cell.behind; ref = λ x. x }, tt) (m4 (c .before .before) (After-records·gave (c .before))) (c .records2)
+      abbrev pub After-records2·gave : (c : After-records2) → s17 .gives (m14 (c .before .before) (After-records·gave (c .before)))
+      After-records2·gave = λ c. Called.given ps·1 r·1 (claims· .3) T19 (record { pos = 6; ty = Syntax.tyRef (Syntax.named 4) Syntax.imm Cell.behind; ref = λ x. x }, tt) (m14 (c .before .before) (After-records·gave (c .before))) (c .records2)
 
-      abbrev pub m6 : (before : After-records2) → (given : s6 .gives (m5 (before .before) (After-records2·gave before))) → Typed.Mo T8
-      m6 = λ before given. s6 .next (m5 (before .before) (After-records2·gave before)) given
+      abbrev pub m16 : (before : After-records2) → (given : s19 .gives (m15 (before .before) (After-records2·gave before))) → Typed.Mo T22
+      m16 = λ before given. s19 .next (m15 (before .before) (After-records2·gave before)) given
 
-      abbrev pub m7 : (before : After-records2) → (given : s6 .gives (m5 (before .before) (After-records2·gave before))) → Typed.Mo T9
-      m7 = λ before given. s7 .next (m6 before given)
+      abbrev pub m17 : (before : After-records2) → (given : s19 .gives (m15 (before .before) (After-records2·gave before))) → Typed.Mo T23
+      m17 = λ before given. s20 .next (m16 before given)
 
       module _ (before· : After-records2) where
         pub record After-check-with-arg·own : Type 0 where
-          pub given : s6 .gives (m5 (before· .before) (After-records2·gave before·))
+          pub given : s19 .gives (m15 (before· .before) (After-records2·gave before·))
 
       pub record After-check-with-arg : Type 0 where
         pub before : After-records2
         pub check-with-arg : After-check-with-arg·own before
 
       abbrev pub Need-check-with-requires : Type 0
-      Need-check-with-requires = (c : After-check-with-arg) → s8 .asks (m7 (c .before) (c .check-with-arg .given))
+      Need-check-with-requires = (c : After-check-with-arg) → s21 .asks (m17 (c .before) (c .check-with-arg .given))
 
-      abbrev pub m8 : (before : After-check-with-arg) → (given : s8 .gives (m7 (before .before) (before .check-with-arg .given))) → Typed.Mo T10
-      m8 = λ before given. s8 .next (m7 (before .before) (before .check-with-arg .given)) given
+      abbrev pub m18 : (before : After-check-with-arg) → (given : s21 .gives (m17 (before .before) (before .check-with-arg .given))) → Typed.Mo T24
+      m18 = λ before given. s21 .next (m17 (before .before) (before .check-with-arg .given)) given
 
       module _ (before· : After-check-with-arg) where
         abbrev pub After-check-with·own : Type 0
-        After-check-with·own = Called.Called ps·1 r·1 (claims· .3) T9 (record { pos = 1; st = List.[]; d = 0; at = λ x. x }, (record { pos = 2; ty = Syntax.tyRef (Syntax.named 0) Syntax.imm (Syntax.tyInt Syntax.w32); ref = λ x. x }, (record { pos = 3; ty = Syntax.tyRef (Syntax.named 1) Syntax.imm (Syntax.tyInt Syntax.w32); ref = λ x. x }, (record { pos = 11; ty = Syntax.tyRef Syntax.erased Syntax.mut (Syntax.tyInt Syntax.w32); ref = λ x. x }, (Num.vAt 7 λ x. x, (Num.vAt 8 λ x. x, tt)))))) (m7 (before· .before) (before· .check-with-arg .given))
+        After-check-with·own = Called.Called ps·2 r·2 (claims· .5) T23 (record { pos = 1; st = List.[]; d = 0; at = λ x. x }, (record { pos = 2; ty = Syntax.tyRef (Syntax.named 0) Syntax.imm (Syntax.tyInt Syntax.w32); ref = λ x. x }, (record { pos = 3; ty = Syntax.tyRef (Syntax.named 1) Syntax.imm (Syntax.tyInt Syntax.w32); ref = λ x. x }, (record { pos = 14; ty = Syntax.tyRef Syntax.erased Syntax.mut (Syntax.tyInt Syntax.w32); ref = λ x. x }, (Num.vAt 7 λ x. x, (Num.vAt 8 λ x. x, tt)))))) (m17 (before· .before) (before· .check-with-arg .given))
 
       pub record After-check-with : Type 0 where
         pub before : After-check-with-arg
         pub check-with : After-check-with·own before
 
-      abbrev pub After-check-with·gave : (c : After-check-with) → s8 .gives (m7 (c .before .before) (c .before .check-with-arg .given))
-      After-check-with·gave = λ c. Called.given ps·1 r·1 (claims· .3) T9 (record { pos = 1; st = List.[]; d = 0; at = λ x. x }, (record { pos = 2; ty = Syntax.tyRef (Syntax.named 0) Syntax.imm (Syntax.tyInt Syntax.w32); ref = λ x. x }, (record { pos = 3; ty = Syntax.tyRef (Syntax.named 1) Syntax.imm (Syntax.tyInt Syntax.w32); ref = λ x. x }, (record { pos = 11; ty = Syntax.tyRef Syntax.erased Syntax.mut (Syntax.tyInt Syntax.w32); ref = λ x. x }, (Num.vAt 7 λ x. x, (Num.vAt 8 λ x. x, tt)))))) (m7 (c .before .before) (c .before .check-with-arg .given)) (c .check-with)
+      abbrev pub After-check-with·gave : (c : After-check-with) → s21 .gives (m17 (c .before .before) (c .before .check-with-arg .given))
+      After-check-with·gave = λ c. Called.given ps·2 r·2 (claims· .5) T23 (record { pos = 1; st = List.[]; d = 0; at = λ x. x }, (record { pos = 2; ty = Syntax.tyRef (Syntax.named 0) Syntax.imm (Syntax.tyInt Syntax.w32); ref = λ x. x }, (record { pos = 3; ty = Syntax.tyRef (Syntax.named 1) Syntax.imm (Syntax.tyInt Syntax.w32); ref = λ x. x }, (record { pos = 14; ty = Syntax.tyRef Syntax.erased Syntax.mut (Syntax.tyInt Syntax.w32); ref = λ x. x }, (Num.vAt 7 λ x. x, (Num.vAt 8 λ x. x, tt)))))) (m17 (c .before .before) (c .before .check-with-arg .given)) (c .check-with)
 
-      abbrev pub m9 : (before : After-check-with) → (given : s10 .gives (m8 (before .before) (After-check-with·gave before))) → Typed.Mo T12
-      m9 = λ before given. s10 .next (m8 (before .before) (After-check-with·gave before)) given
+      abbrev pub m19 : (before : After-check-with) → (given : s23 .gives (m18 (before .before) (After-check-with·gave before))) → Typed.Mo T26
+      m19 = λ before given. s23 .next (m18 (before .before) (After-check-with·gave before)) given
 
       module _ (before· : After-check-with) where
-        pub record After-work·own : Type 0 where
-          pub given : s10 .gives (m8 (before· .before) (After-check-with·gave before·))
-
-      pub record After-work : Type 0 where
-        pub before : After-check-with
-        pub work : After-work·own before
-
-      abbrev pub m10 : (before : After-work) → (given : s11 .gives (m9 (before .before) (before .work .given))) → Typed.Mo T13
-      m10 = λ before given. s11 .next (m9 (before .before) (before .work .given)) given
-
-      module _ (before· : After-work) where
-        pub record After-slice-known2·own : Type 0 where
-          pub given : s11 .gives (m9 (before· .before) (before· .work .given))
-
-      pub record After-slice-known2 : Type 0 where
-        pub before : After-work
-        pub slice-known2 : After-slice-known2·own before
-
-      abbrev pub Need-number-requires : Type 0
-      Need-number-requires = (c : After-slice-known2) → s13 .asks (m10 (c .before) (c .slice-known2 .given))
-
-      abbrev pub m11 : (before : After-slice-known2) → (given : s13 .gives (m10 (before .before) (before .slice-known2 .given))) → Typed.Mo T15
-      m11 = λ before given. s13 .next (m10 (before .before) (before .slice-known2 .given)) given
-
-      module _ (before· : After-slice-known2) where
-        abbrev pub After-number·own : Type 0
-        After-number·own = Called.Called ps·2 r·2 (claims· .5) T13 (record { pos = 9; st = List.[]; d = 0; at = λ x. x }, tt) (m10 (before· .before) (before· .slice-known2 .given))
-
-      pub record After-number : Type 0 where
-        pub before : After-slice-known2
-        pub number : After-number·own before
-
-      abbrev pub After-number·gave : (c : After-number) → s13 .gives (m10 (c .before .before) (c .before .slice-known2 .given))
-      After-number·gave = λ c. Called.given ps·2 r·2 (claims· .5) T13 (record { pos = 9; st = List.[]; d = 0; at = λ x. x }, tt) (m10 (c .before .before) (c .before .slice-known2 .given)) (c .number)
-
-      abbrev pub m12 : (before : After-slice-known2) → (given : s13 .gives (m10 (before .before) (before .slice-known2 .given))) → Typed.Mo T16
-      m12 = λ before given. s14 .next (m11 before given)
-
-      abbrev W1 : (before : After-slice-known2) → (given : s13 .gives (m10 (before .before) (before .slice-known2 .given))) → Typed.Want O1
-      W1 = λ before given. Typed.wantNext T17 O0 (at54 (W0 (before .before .before .before .before .before .before .before .before .before .κs) (before .before .before .before .before .before .before .before .before .before .args))) (W0 (before .before .before .before .before .before .before .before .before .before .κs) (before .before .before .before .before .before .before .before .before .before .args))
-
-      abbrev pub m13 : (before : After-slice-known2) → (given : s13 .gives (m10 (before .before) (before .slice-known2 .given))) → Typed.Mo T18
-      m13 = λ before given. s15 (m12 before given)
-
-      module _ (before· : After-number) where
-        pub record Then1·own : Type 0 where
-          pub taken : Path'._≡_ {A = Nat.ℕ} (Row.get 12 (T15 .locals) (m11 (before· .before) (After-number·gave before·))) 0 → ⊥
-
-      pub record Then1 : Type 0 where
-        pub before : After-number
-        pub if1 : Then1·own before
-
-      abbrev pub m14 : (before : After-number) → Typed.Mo T19
-      m14 = λ before. s16 (m13 (before .before) (After-number·gave before))
-
-      abbrev pub m15 : (before : After-number) → Typed.Mo T20
-      m15 = λ before. s17 (m14 before)
-
-      abbrev pub m16 : (before : After-number) → Typed.Mo T21
-      m16 = λ before. s18 (m15 before)
-
-      abbrev pub m17 : (before : After-number) → Typed.Mo T22
-      m17 = λ before. s19 (m16 before)
-
-      abbrev pub m18 : (before : After-number) → Typed.Mo T23
-      m18 = λ before. s20 (m17 before)
-
-      abbrev pub m19 : (before : After-number) → Typed.Mo T24
-      m19 = λ before. s21 (m18 before)
-
-      abbrev pub Need-same-length : Type 0
-      Need-same-length = (c : Then1) → MutSlice.SameLen (Row.get 4 (T24 .locals) (m19 (c .before))) (dens (c .before .before .before .before .before .before .before .before .before .before .before .κs) (c .before .before .before .before .before .before .before .before .before .before .before .args) .1 .1 .1 .0)
-
-      abbrev pub Need-returns : Type 0
-      Need-returns = (c : Then1) → Post· (c .before .before .before .before .before .before .before .before .before .before .before .κs) (dens (c .before .before .before .before .before .before .before .before .before .before .before .κs) (c .before .before .before .before .before .before .before .before .before .before .before .args)) (Function.resV r (c .before .before .before .before .before .before .before .before .before .before .before .κs) (m19 (c .before) .0)) (Clauses.atExit (Kinds.endedOf 5 ps r) (c .before .before .before .before .before .before .before .before .before .before .before .κs) (dens (c .before .before .before .before .before .before .before .before .before .before .before .κs) (c .before .before .before .before .before .before .before .before .before .before .before .args)) (Enter.lastsP (c .before .before .before .before .before .before .before .before .before .before .before .κs) 1 ps xs (dens (c .before .before .before .before .before .before .before .before .before .before .before .κs) (c .before .before .before .before .before .before .before .before .before .before .before .args)) (m19 (c .before) .1)))
-
-      module _ (before· : After-number) where
-        pub record Else1·own : Type 0 where
-          pub left : Path'._≡_ {A = Nat.ℕ} (Row.get 12 (T15 .locals) (m11 (before· .before) (After-number·gave before·))) 0
-
-      pub record Else1 : Type 0 where
-        pub before : After-number
-        pub if1 : Else1·own before
-
-      abbrev pub m20 : (before : After-number) → Typed.Mo T25
-      m20 = λ before. s22 (m13 (before .before) (After-number·gave before))
-
-      abbrev pub m21 : (before : After-number) → Typed.Mo T26
-      m21 = λ before. s23 (m20 before)
-
-      abbrev pub m22 : (before : Else1) → (given : s25 .gives (m21 (before .before))) → Typed.Mo T28
-      m22 = λ before given. s25 .next (m21 (before .before)) given
-
-      abbrev pub m23 : (before : Else1) → (given : s25 .gives (m21 (before .before))) → Typed.Mo T29
-      m23 = λ before given. s26 .next (m22 before given)
-
-      module _ (before· : Else1) where
-        pub record After-all-right-arg·own : Type 0 where
-          pub given : s25 .gives (m21 (before· .before))
-
-      pub record After-all-right-arg : Type 0 where
-        pub before : Else1
-        pub all-right-arg : After-all-right-arg·own before
-
-      abbrev pub m24 : (before : After-all-right-arg) → (given : s27 .gives (m23 (before .before) (before .all-right-arg .given))) → Typed.Mo T30
-      m24 = λ before given. s27 .next (m23 (before .before) (before .all-right-arg .given)) given
-
-      module _ (before· : After-all-right-arg) where
-        pub record After-struct-known·own : Type 0 where
-          pub given : s27 .gives (m23 (before· .before) (before· .all-right-arg .given))
-
-      pub record After-struct-known : Type 0 where
-        pub before : After-all-right-arg
-        pub struct-known : After-struct-known·own before
-
-      abbrev pub Need-cast-all-right : Type 0
-      Need-cast-all-right = (c : After-struct-known) → s28 .asks (m24 (c .before) (c .struct-known .given))
-
-      abbrev pub m25 : (before : After-all-right-arg) → (given : s27 .gives (m23 (before .before) (before .all-right-arg .given))) → Typed.Mo T31
-      m25 = λ before given. s28 .next (m24 before given)
-
-      abbrev pub m26 : (before : After-struct-known) → (given : s29 .gives (m25 (before .before) (before .struct-known .given))) → Typed.Mo T32
-      m26 = λ before given. s29 .next (m25 (before .before) (before .struct-known .given)) given
-
-      module _ (before· : After-struct-known) where
-        pub record After-struct-known2·own : Type 0 where
-          pub given : s29 .gives (m25 (before· .before) (before· .struct-known .given))
-
-      pub record After-struct-known2 : Type 0 where
-        pub before : After-struct-known
-        pub struct-known2 : After-struct-known2·own before
-
-      abbrev pub Need-cast-all-right-2 : Type 0
-      Need-cast-all-right-2 = (c : After-struct-known2) → s30 .asks (m26 (c .before) (c .struct-known2 .given))
-
-      abbrev pub m27 : (before : After-struct-known) → (given : s29 .gives (m25 (before .before) (before .struct-known .given))) → Typed.Mo T33
-      m27 = λ before given. s30 .next (m26 before given)
-
-      abbrev pub Need-all-right-requires : Type 0
-      Need-all-right-requires = (c : After-struct-known2) → s31 .asks (m27 (c .before) (c .struct-known2 .given))
-
-      abbrev pub m28 : (before : After-struct-known2) → (given : s31 .gives (m27 (before .before) (before .struct-known2 .given))) → Typed.Mo T34
-      m28 = λ before given. s31 .next (m27 (before .before) (before .struct-known2 .given)) given
-
-      module _ (before· : After-struct-known2) where
-        abbrev pub After-all-right·own : Type 0
-        After-all-right·own = Called.Called ps·3 r·3 (claims· .7) T33 (record { pos = 16; ty = Syntax.tyRef Syntax.erased Syntax.imm (Syntax.tyInt Syntax.w32); ref = λ x. x }, (Num.vAt 17 λ x. x, (Num.vAt 18 λ x. x, (record { pos = 5; ty = Syntax.tyRef (Syntax.named 3) Syntax.imm Cell.behind; ref = λ x. x }, (record { pos = 6; ty = Syntax.tyRef (Syntax.named 4) Syntax.imm Cell.behind; ref = λ x. x }, tt))))) (m27 (before· .before) (before· .struct-known2 .given))
-
-      pub record After-all-right : Type 0 where
-        pub before : After-struct-known2
-        pub all-right : After-all-right·own before
-
-      abbrev pub After-all-right·gave : (c : After-all-right) → s31 .gives (m27 (c .before .before) (c .before .struct-known2 .given))
-      After-all-right·gave = λ c. Called.given ps·3 r·3 (claims· .7) T33 (record { pos = 16; ty = Syntax.tyRef Syntax.erased Syntax.imm (Syntax.tyInt Syntax.w32); ref = λ x. x }, (Num.vAt 17 λ x. x, (Num.vAt 18 λ x. x, (record { pos = 5; ty = Syntax.tyRef (Syntax.named 3) Syntax.imm Cell.behind; ref = λ x. x }, (record { pos = 6; ty = Syntax.tyRef (Syntax.named 4) Syntax.imm Cell.behind; ref = λ x. x }, tt))))) (m27 (c .before .before) (c .before .struct-known2 .given)) (c .all-right)
-
-      abbrev W2 : (before : After-struct-known2) → (given : s31 .gives (m27 (before .before) (before .struct-known2 .given))) → Typed.Want O2
-      W2 = λ before given. Typed.wantNext T35 O0 (at45 (W0 (before .before .before .before .before .before .before .before .before .before .before .before .before .before .before .κs) (before .before .before .before .before .before .before .before .before .before .before .before .before .before .before .args))) (W0 (before .before .before .before .before .before .before .before .before .before .before .before .before .before .before .κs) (before .before .before .before .before .before .before .before .before .before .before .before .before .before .before .args))
-
-      abbrev pub m29 : (before : After-struct-known2) → (given : s31 .gives (m27 (before .before) (before .struct-known2 .given))) → Typed.Mo T36
-      m29 = λ before given. s32 (m28 before given)
-
-      abbrev pub m30 : (before : After-struct-known2) → (given : s31 .gives (m27 (before .before) (before .struct-known2 .given))) → Typed.Mo T37
-      m30 = λ before given. s33 (m29 before given)
-
-      abbrev pub m31 : (before : After-struct-known2) → (given : s31 .gives (m27 (before .before) (before .struct-known2 .given))) → Typed.Mo T38
-      m31 = λ before given. s34 (m30 before given)
-
-      abbrev pub m32 : (before : After-struct-known2) → (given : s31 .gives (m27 (before .before) (before .struct-known2 .given))) → Typed.Mo T40
-      m32 = λ before given. s36 (m31 before given)
-
-      abbrev pub m33 : (before : After-all-right) → Typed.Mo T42
-      m33 = λ before. s38 (m32 (before .before) (After-all-right·gave before))
-
-      module _ (before· : After-all-right) where
-        pub record Then2·own : Type 0 where
-          pub taken : Path'._≡_ (Row.get 14 (T40 .locals) (m32 (before· .before) (After-all-right·gave before·))) Bool'.true
-
-      pub record Then2 : Type 0 where
-        pub before : After-all-right
-        pub if2 : Then2·own before
-
-      abbrev pub m34 : (before : Then2) → (given : s40 .gives (m33 (before .before))) → Typed.Mo T44
-      m34 = λ before given. s40 .next (m33 (before .before)) given
-
-      abbrev pub m35 : (before : Then2) → (given : s40 .gives (m33 (before .before))) → Typed.Mo T45
-      m35 = λ before given. s41 .next (m34 before given)
-
-      module _ (before· : Then2) where
-        pub record After-accept-arg·own : Type 0 where
-          pub given : s40 .gives (m33 (before· .before))
-
-      pub record After-accept-arg : Type 0 where
-        pub before : Then2
-        pub accept-arg : After-accept-arg·own before
-
-      abbrev pub Need-accept-requires : Type 0
-      Need-accept-requires = (c : After-accept-arg) → s42 .asks (m35 (c .before) (c .accept-arg .given))
-
-      abbrev pub m36 : (before : After-accept-arg) → (given : s42 .gives (m35 (before .before) (before .accept-arg .given))) → Typed.Mo T46
-      m36 = λ before given. s42 .next (m35 (before .before) (before .accept-arg .given)) given
-
-      module _ (before· : After-accept-arg) where
-        abbrev pub After-accept·own : Type 0
-        After-accept·own = Called.Called ps·4 r·4 (claims· .9) T45 (record { pos = 1; st = List.[]; d = 0; at = λ x. x }, (record { pos = 2; ty = Syntax.tyRef (Syntax.named 0) Syntax.imm (Syntax.tyInt Syntax.w32); ref = λ x. x }, (record { pos = 3; ty = Syntax.tyRef (Syntax.named 1) Syntax.imm (Syntax.tyInt Syntax.w32); ref = λ x. x }, (record { pos = 20; ty = Syntax.tyRef Syntax.erased Syntax.mut (Syntax.tyInt Syntax.w32); ref = λ x. x }, tt)))) (m35 (before· .before) (before· .accept-arg .given))
-
-      pub record After-accept : Type 0 where
-        pub before : After-accept-arg
-        pub accept : After-accept·own before
-
-      abbrev pub After-accept·gave : (c : After-accept) → s42 .gives (m35 (c .before .before) (c .before .accept-arg .given))
-      After-accept·gave = λ c. Called.given ps·4 r·4 (claims· .9) T45 (record { pos = 1; st = List.[]; d = 0; at = λ x. x }, (record { pos = 2; ty = Syntax.tyRef (Syntax.named 0) Syntax.imm (Syntax.tyInt Syntax.w32); ref = λ x. x }, (record { pos = 3; ty = Syntax.tyRef (Syntax.named 1) Syntax.imm (Syntax.tyInt Syntax.w32); ref = λ x. x }, (record { pos = 20; ty = Syntax.tyRef Syntax.erased Syntax.mut (Syntax.tyInt Syntax.w32); ref = λ x. x }, tt)))) (m35 (c .before .before) (c .before .accept-arg .given)) (c .accept)
-
-      abbrev pub m37 : (before : After-accept-arg) → (given : s42 .gives (m35 (before .before) (before .accept-arg .given))) → Typed.Mo T47
-      m37 = λ before given. s43 (m36 before given)
-
-      abbrev pub m38 : (before : After-accept) → (given : s45 .gives (m37 (before .before) (After-accept·gave before))) → Typed.Mo T49
-      m38 = λ before given. s45 .next (m37 (before .before) (After-accept·gave before)) given
-
-      module _ (before· : After-accept) where
         pub record After-work2·own : Type 0 where
-          pub given : s45 .gives (m37 (before· .before) (After-accept·gave before·))
+          pub given : s23 .gives (m18 (before· .before) (After-check-with·gave before·))
 
       pub record After-work2 : Type 0 where
-        pub before : After-accept
+        pub before : After-check-with
         pub work2 : After-work2·own before
 
-      abbrev pub m39 : (before : After-work2) → (given : s46 .gives (m38 (before .before) (before .work2 .given))) → Typed.Mo T50
-      m39 = λ before given. s46 .next (m38 (before .before) (before .work2 .given)) given
-
-      abbrev pub m40 : (before : After-work2) → (given : s46 .gives (m38 (before .before) (before .work2 .given))) → Typed.Mo T52
-      m40 = λ before given. s48 (m39 before given)
-
-      abbrev pub m41 : (before : After-work2) → (given : s46 .gives (m38 (before .before) (before .work2 .given))) → Typed.Mo T53
-      m41 = λ before given. s49 (m40 before given)
+      abbrev pub m20 : (before : After-work2) → (given : s24 .gives (m19 (before .before) (before .work2 .given))) → Typed.Mo T27
+      m20 = λ before given. s24 .next (m19 (before .before) (before .work2 .given)) given
 
       module _ (before· : After-work2) where
         pub record After-slice-known3·own : Type 0 where
-          pub given : s46 .gives (m38 (before· .before) (before· .work2 .given))
+          pub given : s24 .gives (m19 (before· .before) (before· .work2 .given))
 
       pub record After-slice-known3 : Type 0 where
         pub before : After-work2
         pub slice-known3 : After-slice-known3·own before
 
+      abbrev pub Need-number-requires : Type 0
+      Need-number-requires = (c : After-slice-known3) → s26 .asks (m20 (c .before) (c .slice-known3 .given))
+
+      abbrev pub m21 : (before : After-slice-known3) → (given : s26 .gives (m20 (before .before) (before .slice-known3 .given))) → Typed.Mo T29
+      m21 = λ before given. s26 .next (m20 (before .before) (before .slice-known3 .given)) given
+
+      module _ (before· : After-slice-known3) where
+        abbrev pub After-number·own : Type 0
+        After-number·own = Called.Called ps·3 r·3 (claims· .7) T27 (record { pos = 9; st = List.[]; d = 0; at = λ x. x }, tt) (m20 (before· .before) (before· .slice-known3 .given))
+
+      pub record After-number : Type 0 where
+        pub before : After-slice-known3
+        pub number : After-number·own before
+
+      abbrev pub After-number·gave : (c : After-number) → s26 .gives (m20 (c .before .before) (c .before .slice-known3 .given))
+      After-number·gave = λ c. Called.given ps·3 r·3 (claims· .7) T27 (record { pos = 9; st = List.[]; d = 0; at = λ x. x }, tt) (m20 (c .before .before) (c .before .slice-known3 .given)) (c .number)
+
+      abbrev pub m22 : (before : After-slice-known3) → (given : s26 .gives (m20 (before .before) (before .slice-known3 .given))) → Typed.Mo T30
+      m22 = λ before given. s27 .next (m21 before given)
+
+      abbrev W2 : (before : After-slice-known3) → (given : s26 .gives (m20 (before .before) (before .slice-known3 .given))) → Typed.Want O2
+      W2 = λ before given. Typed.wantNext T31 O0 (at68 (W0 (before .before .before .before .before .before .before .before .before .before .before .before .κs) (before .before .before .before .before .before .before .before .before .before .before .before .args))) (W0 (before .before .before .before .before .before .before .before .before .before .before .before .κs) (before .before .before .before .before .before .before .before .before .before .before .before .args))
+
+      abbrev pub m23 : (before : After-slice-known3) → (given : s26 .gives (m20 (before .before) (before .slice-known3 .given))) → Typed.Mo T32
+      m23 = λ before given. s28 (m22 before given)
+
+      module _ (before· : After-number) where
+        pub record Then2·own : Type 0 where
+          pub taken : Path'._≡_ {A = Nat.ℕ} (Row.get 15 (T29 .locals) (m21 (before· .before) (After-number·gave before·))) 0 → ⊥
+
+      pub record Then2 : Type 0 where
+        pub before : After-number
+        pub if2 : Then2·own before
+
+      abbrev pub m24 : (before : After-number) → Typed.Mo T33
+      m24 = λ before. s29 (m23 (before .before) (After-number·gave before))
+
+      abbrev pub m25 : (before : After-number) → Typed.Mo T34
+      m25 = λ before. s30 (m24 before)
+
+      abbrev pub m26 : (before : After-number) → Typed.Mo T35
+      m26 = λ before. s31 (m25 before)
+
+      abbrev pub m27 : (before : After-number) → Typed.Mo T36
+      m27 = λ before. s32 (m26 before)
+
+      abbrev pub m28 : (before : After-number) → Typed.Mo T37
+      m28 = λ before. s33 (m27 before)
+
+      abbrev pub m29 : (before : After-number) → Typed.Mo T38
+      m29 = λ before. s34 (m28 before)
+
       abbrev pub Need-same-length-2 : Type 0
-      Need-same-length-2 = (c : After-slice-known3) → MutSlice.SameLen (Row.get 4 (T53 .locals) (m41 (c .before) (c .slice-known3 .given))) (dens (c .before .before .before .before .before .before .before .before .before .before .before .before .before .before .before .before .before .before .before .before .κs) (c .before .before .before .before .before .before .before .before .before .before .before .before .before .before .before .before .before .before .before .before .args) .1 .1 .1 .0)
+      Need-same-length-2 = (c : Then2) → MutSlice.SameLen (Row.get 4 (T38 .locals) (m29 (c .before))) (dens (c .before .before .before .before .before .before .before .before .before .before .before .before .before .κs) (c .before .before .before .before .before .before .before .before .before .before .before .before .before .args) .1 .1 .1 .0)
 
       abbrev pub Need-returns-2 : Type 0
-      Need-returns-2 = (c : After-slice-known3) → Post· (c .before .before .before .before .before .before .before .before .before .before .before .before .before .before .before .before .before .before .before .before .κs) (dens (c .before .before .before .before .before .before .before .before .before .before .before .before .before .before .before .before .before .before .before .before .κs) (c .before .before .before .before .before .before .before .before .before .before .before .before .before .before .before .before .before .before .before .before .args)) (Function.resV r (c .before .before .before .before .before .before .before .before .before .before .before .before .before .before .before .before .before .before .before .before .κs) (m41 (c .before) (c .slice-known3 .given) .0)) (Clauses.atExit (Kinds.endedOf 5 ps r) (c .before .before .before .before .before .before .before .before .before .before .before .before .before .before .before .before .before .before .before .before .κs) (dens (c .before .before .before .before .before .before .before .before .before .before .before .before .before .before .before .before .before .before .before .before .κs) (c .before .before .before .before .before .before .before .before .before .before .before .before .before .before .before .before .before .before .before .before .args)) (Enter.lastsP (c .before .before .before .before .before .before .before .before .before .before .before .before .before .before .before .before .before .before .before .before .κs) 1 ps xs (dens (c .before .before .before .before .before .before .before .before .before .before .before .before .before .before .before .before .before .before .before .before .κs) (c .before .before .before .before .before .before .before .before .before .before .before .before .before .before .before .before .before .before .before .before .args)) (m41 (c .before) (c .slice-known3 .given) .1)))
+      Need-returns-2 = (c : Then2) → Post· (c .before .before .before .before .before .before .before .before .before .before .before .before .before .κs) (dens (c .before .before .before .before .before .before .before .before .before .before .before .before .before .κs) (c .before .before .before .before .before .before .before .before .before .before .before .before .before .args)) (Function.resV r (c .before .before .before .before .before .before .before .before .before .before .before .before .before .κs) (m29 (c .before) .0)) (Clauses.atExit (Kinds.endedOf 5 ps r) (c .before .before .before .before .before .before .before .before .before .before .before .before .before .κs) (dens (c .before .before .before .before .before .before .before .before .before .before .before .before .before .κs) (c .before .before .before .before .before .before .before .before .before .before .before .before .before .args)) (Enter.lastsP (c .before .before .before .before .before .before .before .before .before .before .before .before .before .κs) 1 ps xs (dens (c .before .before .before .before .before .before .before .before .before .before .before .before .before .κs) (c .before .before .before .before .before .before .before .before .before .before .before .before .before .args)) (m29 (c .before) .1)))
 
-      abbrev pub m42 : (before : After-all-right) → Typed.Mo T54
-      m42 = λ before. s50 (m32 (before .before) (After-all-right·gave before))
-
-      module _ (before· : After-all-right) where
+      module _ (before· : After-number) where
         pub record Else2·own : Type 0 where
-          pub left : Path'._≡_ (Row.get 14 (T40 .locals) (m32 (before· .before) (After-all-right·gave before·))) Bool'.false
+          pub left : Path'._≡_ {A = Nat.ℕ} (Row.get 15 (T29 .locals) (m21 (before· .before) (After-number·gave before·))) 0
 
       pub record Else2 : Type 0 where
-        pub before : After-all-right
+        pub before : After-number
         pub if2 : Else2·own before
 
-      abbrev pub m43 : (before : Else2) → (given : s52 .gives (m42 (before .before))) → Typed.Mo T56
-      m43 = λ before given. s52 .next (m42 (before .before)) given
+      abbrev pub m30 : (before : After-number) → Typed.Mo T39
+      m30 = λ before. s35 (m23 (before .before) (After-number·gave before))
 
-      abbrev pub m44 : (before : Else2) → (given : s52 .gives (m42 (before .before))) → Typed.Mo T57
-      m44 = λ before given. s53 .next (m43 before given)
+      abbrev pub m31 : (before : After-number) → Typed.Mo T40
+      m31 = λ before. s36 (m30 before)
+
+      abbrev pub m32 : (before : Else2) → (given : s38 .gives (m31 (before .before))) → Typed.Mo T42
+      m32 = λ before given. s38 .next (m31 (before .before)) given
+
+      abbrev pub m33 : (before : Else2) → (given : s38 .gives (m31 (before .before))) → Typed.Mo T43
+      m33 = λ before given. s39 .next (m32 before given)
 
       module _ (before· : Else2) where
-        pub record After-refuse-arg·own : Type 0 where
-          pub given : s52 .gives (m42 (before· .before))
+        pub record After-all-right-arg·own : Type 0 where
+          pub given : s38 .gives (m31 (before· .before))
 
-      pub record After-refuse-arg : Type 0 where
+      pub record After-all-right-arg : Type 0 where
         pub before : Else2
-        pub refuse-arg : After-refuse-arg·own before
+        pub all-right-arg : After-all-right-arg·own before
 
-      abbrev pub Need-refuse-requires : Type 0
-      Need-refuse-requires = (c : After-refuse-arg) → s54 .asks (m44 (c .before) (c .refuse-arg .given))
+      abbrev pub m34 : (before : After-all-right-arg) → (given : s40 .gives (m33 (before .before) (before .all-right-arg .given))) → Typed.Mo T44
+      m34 = λ before given. s40 .next (m33 (before .before) (before .all-right-arg .given)) given
 
-      abbrev pub m45 : (before : After-refuse-arg) → (given : s54 .gives (m44 (before .before) (before .refuse-arg .given))) → Typed.Mo T58
-      m45 = λ before given. s54 .next (m44 (before .before) (before .refuse-arg .given)) given
+      module _ (before· : After-all-right-arg) where
+        pub record After-struct-known2·own : Type 0 where
+          pub given : s40 .gives (m33 (before· .before) (before· .all-right-arg .given))
 
-      module _ (before· : After-refuse-arg) where
-        abbrev pub After-refuse·own : Type 0
-        After-refuse·own = Called.Called ps·5 r·5 (claims· .11) T57 (record { pos = 1; st = List.[]; d = 0; at = λ x. x }, (record { pos = 22; ty = Syntax.tyRef Syntax.erased Syntax.mut (Syntax.tyInt Syntax.w32); ref = λ x. x }, tt)) (m44 (before· .before) (before· .refuse-arg .given))
+      pub record After-struct-known2 : Type 0 where
+        pub before : After-all-right-arg
+        pub struct-known2 : After-struct-known2·own before
 
-      pub record After-refuse : Type 0 where
-        pub before : After-refuse-arg
-        pub refuse : After-refuse·own before
+      abbrev pub Need-cast-all-right : Type 0
+      Need-cast-all-right = (c : After-struct-known2) → s41 .asks (m34 (c .before) (c .struct-known2 .given))
 
-      abbrev pub After-refuse·gave : (c : After-refuse) → s54 .gives (m44 (c .before .before) (c .before .refuse-arg .given))
-      After-refuse·gave = λ c. Called.given ps·5 r·5 (claims· .11) T57 (record { pos = 1; st = List.[]; d = 0; at = λ x. x }, (record { pos = 22; ty = Syntax.tyRef Syntax.erased Syntax.mut (Syntax.tyInt Syntax.w32); ref = λ x. x }, tt)) (m44 (c .before .before) (c .before .refuse-arg .given)) (c .refuse)
+      abbrev pub m35 : (before : After-all-right-arg) → (given : s40 .gives (m33 (before .before) (before .all-right-arg .given))) → Typed.Mo T45
+      m35 = λ before given. s41 .next (m34 before given)
 
-      abbrev pub m46 : (before : After-refuse-arg) → (given : s54 .gives (m44 (before .before) (before .refuse-arg .given))) → Typed.Mo T59
-      m46 = λ before given. s55 (m45 before given)
+      abbrev pub m36 : (before : After-struct-known2) → (given : s42 .gives (m35 (before .before) (before .struct-known2 .given))) → Typed.Mo T46
+      m36 = λ before given. s42 .next (m35 (before .before) (before .struct-known2 .given)) given
 
-      abbrev pub m47 : (before : After-refuse-arg) → (given : s54 .gives (m44 (before .before) (before .refuse-arg .given))) → Typed.Mo T60
+      module _ (before· : After-struct-known2) where
+        pub record After-struct-known3·own : Type 0 where
+          pub given : s42 .gives (m35 (before· .before) (before· .struct-known2 .given))
+
+      pub record After-struct-known3 : Type 0 where
+        pub before : After-struct-known2
+        pub struct-known3 : After-struct-known3·own before
+
+      abbrev pub Need-cast-all-right-2 : Type 0
+      Need-cast-all-right-2 = (c : After-struct-known3) → s43 .asks (m36 (c .before) (c .struct-known3 .given))
+
+      abbrev pub m37 : (before : After-struct-known2) → (given : s42 .gives (m35 (before .before) (before .struct-known2 .given))) → Typed.Mo T47
+      m37 = λ before given. s43 .next (m36 before given)
+
+      abbrev pub Need-all-right-requires : Type 0
+      Need-all-right-requires = (c : After-struct-known3) → s44 .asks (m37 (c .before) (c .struct-known3 .given))
+
+      abbrev pub m38 : (before : After-struct-known3) → (given : s44 .gives (m37 (before .before) (before .struct-known3 .given))) → Typed.Mo T48
+      m38 = λ before given. s44 .next (m37 (before .before) (before .struct-known3 .given)) given
+
+      module _ (before· : After-struct-known3) where
+        abbrev pub After-all-right·own : Type 0
+        After-all-right·own = Called.Called ps·4 r·4 (claims· .9) T47 (record { pos = 18; ty = Syntax.tyRef Syntax.erased Syntax.imm (Syntax.tyInt Syntax.w32); ref = λ x. x }, (Num.vAt 19 λ x. x, (Num.vAt 20 λ x. x, (record { pos = 5; ty = Syntax.tyRef (Syntax.named 3) Syntax.imm Cell.behind; ref = λ x. x }, (record { pos = 6; ty = Syntax.tyRef (Syntax.named 4) Syntax.imm Cell.behind; ref = λ x. x }, tt))))) (m37 (before· .before) (before· .struct-known3 .given))
+
+      pub record After-all-right : Type 0 where
+        pub before : After-struct-known3
+        pub all-right : After-all-right·own before
+
+      abbrev pub After-all-right·gave : (c : After-all-right) → s44 .gives (m37 (c .before .before) (c .before .struct-known3 .given))
+      After-all-right·gave = λ c. Called.given ps·4 r·4 (claims· .9) T47 (record { pos = 18; ty = Syntax.tyRef Syntax.erased Syntax.imm (Syntax.tyInt Syntax.w32); ref = λ x. x }, (Num.vAt 19 λ x. x, (Num.vAt 20 λ x. x, (record { pos = 5; ty = Syntax.tyRef (Syntax.named 3) Syntax.imm Cell.behind; ref = λ x. x }, (record { pos = 6; ty = Syntax.tyRef (Syntax.named 4) Syntax.imm Cell.behind; ref = λ x. x }, tt))))) (m37 (c .before .before) (c .before .struct-known3 .given)) (c .all-right)
+
+      abbrev W3 : (before : After-struct-known3) → (given : s44 .gives (m37 (before .before) (before .struct-known3 .given))) → Typed.Want O3
+      W3 = λ before given. Typed.wantNext T49 O0 (at59 (W0 (before .before .before .before .before .before .before .before .before .before .before .before .before .before .before .before .before .κs) (before .before .before .before .before .before .before .before .before .before .before .before .before .before .before .before .before .args))) (W0 (before .before .before .before .before .before .before .before .before .before .before .before .before .before .before .before .before .κs) (before .before .before .before .before .before .before .before .before .before .before .before .before .before .before .before .before .args))
+
+      abbrev pub m39 : (before : After-struct-known3) → (given : s44 .gives (m37 (before .before) (before .struct-known3 .given))) → Typed.Mo T50
+      m39 = λ before given. s45 (m38 before given)
+
+      abbrev pub m40 : (before : After-struct-known3) → (given : s44 .gives (m37 (before .before) (before .struct-known3 .given))) → Typed.Mo T51
+      m40 = λ before given. s46 (m39 before given)
+
+      abbrev pub m41 : (before : After-struct-known3) → (given : s44 .gives (m37 (before .before) (before .struct-known3 .given))) → Typed.Mo T52
+      m41 = λ before given. s47 (m40 before given)
+
+      abbrev pub m42 : (before : After-struct-known3) → (given : s44 .gives (m37 (before .before) (before .struct-known3 .given))) → Typed.Mo T54
+      m42 = λ before given. s49 (m41 before given)
+
+      abbrev pub m43 : (before : After-all-right) → Typed.Mo T56
+      m43 = λ before. s51 (m42 (before .before) (After-all-right·gave before))
+
+      module _ (before· : After-all-right) where
+        pub record Then3·own : Type 0 where
+          pub taken : Path'._≡_ (Row.get 16 (T54 .locals) (m42 (before· .before) (After-all-right·gave before·))) Bool'.true
+
+      pub record Then3 : Type 0 where
+        pub before : After-all-right
+        pub if3 : Then3·own before
+
+      abbrev pub m44 : (before : Then3) → (given : s53 .gives (m43 (before .before))) → Typed.Mo T58
+      m44 = λ before given. s53 .next (m43 (before .before)) given
+
+      abbrev pub m45 : (before : Then3) → (given : s53 .gives (m43 (before .before))) → Typed.Mo T59
+      m45 = λ before given. s54 .next (m44 before given)
+
+      module _ (before· : Then3) where
+        pub record After-accept-arg·own : Type 0 where
+          pub given : s53 .gives (m43 (before· .before))
+
+      pub record After-accept-arg : Type 0 where
+        pub before : Then3
+        pub accept-arg : After-accept-arg·own before
+
+      abbrev pub Need-accept-requires : Type 0
+      Need-accept-requires = (c : After-accept-arg) → s55 .asks (m45 (c .before) (c .accept-arg .given))
+
+      abbrev pub m46 : (before : After-accept-arg) → (given : s55 .gives (m45 (before .before) (before .accept-arg .given))) → Typed.Mo T60
+      m46 = λ before given. s55 .next (m45 (before .before) (before .accept-arg .given)) given
+
+      module _ (before· : After-accept-arg) where
+        abbrev pub After-accept·own : Type 0
+        After-accept·own = Called.Called ps·5 r·5 (claims· .11) T59 (record { pos = 1; st = List.[]; d = 0; at = λ x. x }, (record { pos = 2; ty = Syntax.tyRef (Syntax.named 0) Syntax.imm (Syntax.tyInt Syntax.w32); ref = λ x. x }, (record { pos = 3; ty = Syntax.tyRef (Syntax.named 1) Syntax.imm (Syntax.tyInt Syntax.w32); ref = λ x. x }, (record { pos = 22; ty = Syntax.tyRef Syntax.erased Syntax.mut (Syntax.tyInt Syntax.w32); ref = λ x. x }, tt)))) (m45 (before· .before) (before· .accept-arg .given))
+
+      pub record After-accept : Type 0 where
+        pub before : After-accept-arg
+        pub accept : After-accept·own before
+
+      abbrev pub After-accept·gave : (c : After-accept) → s55 .gives (m45 (c .before .before) (c .before .accept-arg .given))
+      After-accept·gave = λ c. Called.given ps·5 r·5 (claims· .11) T59 (record { pos = 1; st = List.[]; d = 0; at = λ x. x }, (record { pos = 2; ty = Syntax.tyRef (Syntax.named 0) Syntax.imm (Syntax.tyInt Syntax.w32); ref = λ x. x }, (record { pos = 3; ty = Syntax.tyRef (Syntax.named 1) Syntax.imm (Syntax.tyInt Syntax.w32); ref = λ x. x }, (record { pos = 22; ty = Syntax.tyRef Syntax.erased Syntax.mut (Syntax.tyInt Syntax.w32); ref = λ x. x }, tt)))) (m45 (c .before .before) (c .before .accept-arg .given)) (c .accept)
+
+      abbrev pub m47 : (before : After-accept-arg) → (given : s55 .gives (m45 (before .before) (before .accept-arg .given))) → Typed.Mo T61
       m47 = λ before given. s56 (m46 before given)
 
-      abbrev pub m48 : (before : After-refuse-arg) → (given : s54 .gives (m44 (before .before) (before .refuse-arg .given))) → Typed.Mo T61
-      m48 = λ before given. s57 (m47 before given)
+      abbrev pub m48 : (before : After-accept) → (given : s58 .gives (m47 (before .before) (After-accept·gave before))) → Typed.Mo T63
+      m48 = λ before given. s58 .next (m47 (before .before) (After-accept·gave before)) given
 
-      abbrev pub m49 : (before : After-refuse) → (given : s59 .gives (m48 (before .before) (After-refuse·gave before))) → Typed.Mo T63
-      m49 = λ before given. s59 .next (m48 (before .before) (After-refuse·gave before)) given
-
-      module _ (before· : After-refuse) where
+      module _ (before· : After-accept) where
         pub record After-work3·own : Type 0 where
-          pub given : s59 .gives (m48 (before· .before) (After-refuse·gave before·))
+          pub given : s58 .gives (m47 (before· .before) (After-accept·gave before·))
 
       pub record After-work3 : Type 0 where
-        pub before : After-refuse
+        pub before : After-accept
         pub work3 : After-work3·own before
 
-      abbrev pub m50 : (before : After-work3) → (given : s60 .gives (m49 (before .before) (before .work3 .given))) → Typed.Mo T64
-      m50 = λ before given. s60 .next (m49 (before .before) (before .work3 .given)) given
+      abbrev pub m49 : (before : After-work3) → (given : s59 .gives (m48 (before .before) (before .work3 .given))) → Typed.Mo T64
+      m49 = λ before given. s59 .next (m48 (before .before) (before .work3 .given)) given
+
+      abbrev pub m50 : (before : After-work3) → (given : s59 .gives (m48 (before .before) (before .work3 .given))) → Typed.Mo T66
+      m50 = λ before given. s61 (m49 before given)
+
+      abbrev pub m51 : (before : After-work3) → (given : s59 .gives (m48 (before .before) (before .work3 .given))) → Typed.Mo T67
+      m51 = λ before given. s62 (m50 before given)
 
       module _ (before· : After-work3) where
         pub record After-slice-known4·own : Type 0 where
-          pub given : s60 .gives (m49 (before· .before) (before· .work3 .given))
+          pub given : s59 .gives (m48 (before· .before) (before· .work3 .given))
 
       pub record After-slice-known4 : Type 0 where
         pub before : After-work3
         pub slice-known4 : After-slice-known4·own before
 
       abbrev pub Need-same-length-3 : Type 0
-      Need-same-length-3 = (c : After-slice-known4) → MutSlice.SameLen (Row.get 4 (T64 .locals) (m50 (c .before) (c .slice-known4 .given))) (dens (c .before .before .before .before .before .before .before .before .before .before .before .before .before .before .before .before .before .before .before .before .κs) (c .before .before .before .before .before .before .before .before .before .before .before .before .before .before .before .before .before .before .before .before .args) .1 .1 .1 .0)
+      Need-same-length-3 = (c : After-slice-known4) → MutSlice.SameLen (Row.get 4 (T67 .locals) (m51 (c .before) (c .slice-known4 .given))) (dens (c .before .before .before .before .before .before .before .before .before .before .before .before .before .before .before .before .before .before .before .before .before .before .κs) (c .before .before .before .before .before .before .before .before .before .before .before .before .before .before .before .before .before .before .before .before .before .before .args) .1 .1 .1 .0)
 
       abbrev pub Need-returns-3 : Type 0
-      Need-returns-3 = (c : After-slice-known4) → Post· (c .before .before .before .before .before .before .before .before .before .before .before .before .before .before .before .before .before .before .before .before .κs) (dens (c .before .before .before .before .before .before .before .before .before .before .before .before .before .before .before .before .before .before .before .before .κs) (c .before .before .before .before .before .before .before .before .before .before .before .before .before .before .before .before .before .before .before .before .args)) (Function.resV r (c .before .before .before .before .before .before .before .before .before .before .before .before .before .before .before .before .before .before .before .before .κs) (m50 (c .before) (c .slice-known4 .given) .0)) (Clauses.atExit (Kinds.endedOf 5 ps r) (c .before .before .before .before .before .before .before .before .before .before .before .before .before .before .before .before .before .before .before .before .κs) (dens (c .before .before .before .before .before .before .before .before .before .before .before .before .before .before .before .before .before .before .before .before .κs) (c .before .before .before .before .before .before .before .before .before .before .before .before .before .before .before .before .before .before .before .before .args)) (Enter.lastsP (c .before .before .before .before .before .before .before .before .before .before .before .before .before .before .before .before .before .before .before .before .κs) 1 ps xs (dens (c .before .before .before .before .before .before .before .before .before .before .before .before .before .before .before .before .before .before .before .before .κs) (c .before .before .before .before .before .before .before .before .before .before .before .before .before .before .before .before .before .before .before .before .args)) (m50 (c .before) (c .slice-known4 .given) .1)))
+      Need-returns-3 = (c : After-slice-known4) → Post· (c .before .before .before .before .before .before .before .before .before .before .before .before .before .before .before .before .before .before .before .before .before .before .κs) (dens (c .before .before .before .before .before .before .before .before .before .before .before .before .before .before .before .before .before .before .before .before .before .before .κs) (c .before .before .before .before .before .before .before .before .before .before .before .before .before .before .before .before .before .before .before .before .before .before .args)) (Function.resV r (c .before .before .before .before .before .before .before .before .before .before .before .before .before .before .before .before .before .before .before .before .before .before .κs) (m51 (c .before) (c .slice-known4 .given) .0)) (Clauses.atExit (Kinds.endedOf 5 ps r) (c .before .before .before .before .before .before .before .before .before .before .before .before .before .before .before .before .before .before .before .before .before .before .κs) (dens (c .before .before .before .before .before .before .before .before .before .before .before .before .before .before .before .before .before .before .before .before .before .before .κs) (c .before .before .before .before .before .before .before .before .before .before .before .before .before .before .before .before .before .before .before .before .before .before .args)) (Enter.lastsP (c .before .before .before .before .before .before .before .before .before .before .before .before .before .before .before .before .before .before .before .before .before .before .κs) 1 ps xs (dens (c .before .before .before .before .before .before .before .before .before .before .before .before .before .before .before .before .before .before .before .before .before .before .κs) (c .before .before .before .before .before .before .before .before .before .before .before .before .before .before .before .before .before .before .before .before .before .before .args)) (m51 (c .before) (c .slice-known4 .given) .1)))
 
-      module _ (records-requires : Need-records-requires) (records-requires-2 : Need-records-requires-2) (check-with-requires : Need-check-with-requires) (number-requires : Need-number-requires) (same-length : Need-same-length) (returns : Need-returns) (cast-all-right : Need-cast-all-right) (cast-all-right-2 : Need-cast-all-right-2) (all-right-requires : Need-all-right-requires) (accept-requires : Need-accept-requires) (same-length-2 : Need-same-length-2) (returns-2 : Need-returns-2) (refuse-requires : Need-refuse-requires) (same-length-3 : Need-same-length-3) (returns-3 : Need-returns-3) where
-        lay11 : (c : After-refuse) → at41 (W0 (c .before .before .before .before .before .before .before .before .before .before .before .before .before .before .before .before .before .before .κs) (c .before .before .before .before .before .before .before .before .before .before .before .before .before .before .before .before .before .before .args)) (m45 (c .before) (After-refuse·gave c))
-        lay11 = λ c. (Path'.refl, λ g. λ g'. ((tt, (Path'.refl, (Path'.refl, (MutSlice.fix-len (Row.get 4 (T64 .locals) (m50 record { before = record { before = c .before; refuse = c .refuse }; work3 = record { given = g } } g') .ptr) (Row.get 4 (T64 .locals) (m50 record { before = record { before = c .before; refuse = c .refuse }; work3 = record { given = g } } g') .name) (Row.get 4 (T64 .locals) (m50 record { before = record { before = c .before; refuse = c .refuse }; work3 = record { given = g } } g') .now) (dens (c .before .before .before .before .before .before .before .before .before .before .before .before .before .before .before .before .before .before .κs) (c .before .before .before .before .before .before .before .before .before .before .before .before .before .before .before .before .before .before .args) .1 .1 .1 .0 .now) (same-length-3 record { before = record { before = record { before = c .before; refuse = c .refuse }; work3 = record { given = g } }; slice-known4 = record { given = g' } }), (Path'.refl, (Path'.refl, tt)))))), returns-3 record { before = record { before = record { before = c .before; refuse = c .refuse }; work3 = record { given = g } }; slice-known4 = record { given = g' } }))
+      abbrev pub m52 : (before : After-all-right) → Typed.Mo T68
+      m52 = λ before. s63 (m42 (before .before) (After-all-right·gave before))
 
-        lay10 : (c : Else2) → at45 (W0 (c .before .before .before .before .before .before .before .before .before .before .before .before .before .before .before .before .κs) (c .before .before .before .before .before .before .before .before .before .before .before .before .before .before .before .before .args)) (m42 (c .before))
-        lay10 = λ c. λ g. (Path'.refl, (refuse-requires record { before = record { before = c .before; if2 = c .if2 }; refuse-arg = record { given = g } }, λ g'. lay11 record { before = record { before = record { before = c .before; if2 = c .if2 }; refuse-arg = record { given = g } }; refuse = Called.called ps·5 r·5 (claims· .11) T57 (record { pos = 1; st = List.[]; d = 0; at = λ x. x }, (record { pos = 22; ty = Syntax.tyRef Syntax.erased Syntax.mut (Syntax.tyInt Syntax.w32); ref = λ x. x }, tt)) (m44 record { before = c .before; if2 = c .if2 } g) g' }))
+      module _ (before· : After-all-right) where
+        pub record Else3·own : Type 0 where
+          pub left : Path'._≡_ (Row.get 16 (T54 .locals) (m42 (before· .before) (After-all-right·gave before·))) Bool'.false
 
-        lay9 : (c : After-accept) → at19 (W2 (c .before .before .before .before) (After-all-right·gave (c .before .before .before))) (m36 (c .before) (After-accept·gave c))
-        lay9 = λ c. (Path'.refl, λ g. λ g'. ((tt, (Path'.refl, (Path'.refl, (MutSlice.fix-len (Row.get 4 (T53 .locals) (m41 record { before = record { before = c .before; accept = c .accept }; work2 = record { given = g } } g') .ptr) (Row.get 4 (T53 .locals) (m41 record { before = record { before = c .before; accept = c .accept }; work2 = record { given = g } } g') .name) (Row.get 4 (T53 .locals) (m41 record { before = record { before = c .before; accept = c .accept }; work2 = record { given = g } } g') .now) (dens (c .before .before .before .before .before .before .before .before .before .before .before .before .before .before .before .before .before .before .κs) (c .before .before .before .before .before .before .before .before .before .before .before .before .before .before .before .before .before .before .args) .1 .1 .1 .0 .now) (same-length-2 record { before = record { before = record { before = c .before; accept = c .accept }; work2 = record { given = g } }; slice-known3 = record { given = g' } }), (Path'.refl, (Path'.refl, tt)))))), returns-2 record { before = record { before = record { before = c .before; accept = c .accept }; work2 = record { given = g } }; slice-known3 = record { given = g' } }))
+      pub record Else3 : Type 0 where
+        pub before : After-all-right
+        pub if3 : Else3·own before
 
-        lay8 : (c : After-all-right) → at46 (W0 (c .before .before .before .before .before .before .before .before .before .before .before .before .before .before .before .κs) (c .before .before .before .before .before .before .before .before .before .before .before .before .before .before .before .args)) (m28 (c .before) (After-all-right·gave c))
-        lay8 = λ c. (λ taken. λ g. (Path'.refl, (accept-requires record { before = record { before = record { before = c .before; all-right = c .all-right }; if2 = record { taken = taken } }; accept-arg = record { given = g } }, λ g'. lay9 record { before = record { before = record { before = record { before = c .before; all-right = c .all-right }; if2 = record { taken = taken } }; accept-arg = record { given = g } }; accept = Called.called ps·4 r·4 (claims· .9) T45 (record { pos = 1; st = List.[]; d = 0; at = λ x. x }, (record { pos = 2; ty = Syntax.tyRef (Syntax.named 0) Syntax.imm (Syntax.tyInt Syntax.w32); ref = λ x. x }, (record { pos = 3; ty = Syntax.tyRef (Syntax.named 1) Syntax.imm (Syntax.tyInt Syntax.w32); ref = λ x. x }, (record { pos = 20; ty = Syntax.tyRef Syntax.erased Syntax.mut (Syntax.tyInt Syntax.w32); ref = λ x. x }, tt)))) (m35 record { before = record { before = c .before; all-right = c .all-right }; if2 = record { taken = taken } } g) g' })), λ left. lay10 record { before = record { before = c .before; all-right = c .all-right }; if2 = record { left = left } })
+      abbrev pub m53 : (before : Else3) → (given : s65 .gives (m52 (before .before))) → Typed.Mo T70
+      m53 = λ before given. s65 .next (m52 (before .before)) given
 
-        lay7 : (c : Else1) → at54 (W0 (c .before .before .before .before .before .before .before .before .before .before .before .κs) (c .before .before .before .before .before .before .before .before .before .before .before .args)) (m21 (c .before))
-        lay7 = λ c. λ g. (Path'.refl, λ g'. (cast-all-right record { before = record { before = record { before = c .before; if1 = c .if1 }; all-right-arg = record { given = g } }; struct-known = record { given = g' } }, λ g''. (cast-all-right-2 record { before = record { before = record { before = record { before = c .before; if1 = c .if1 }; all-right-arg = record { given = g } }; struct-known = record { given = g' } }; struct-known2 = record { given = g'' } }, (all-right-requires record { before = record { before = record { before = record { before = c .before; if1 = c .if1 }; all-right-arg = record { given = g } }; struct-known = record { given = g' } }; struct-known2 = record { given = g'' } }, λ g'3. lay8 record { before = record { before = record { before = record { before = record { before = c .before; if1 = c .if1 }; all-right-arg = record { given = g } }; struct-known = record { given = g' } }; struct-known2 = record { given = g'' } }; all-right = Called.called ps·3 r·3 (claims· .7) T33 (record { pos = 16; ty = Syntax.tyRef Syntax.erased Syntax.imm (Syntax.tyInt Syntax.w32); ref = λ x. x }, (Num.vAt 17 λ x. x, (Num.vAt 18 λ x. x, (record { pos = 5; ty = Syntax.tyRef (Syntax.named 3) Syntax.imm Cell.behind; ref = λ x. x }, (record { pos = 6; ty = Syntax.tyRef (Syntax.named 4) Syntax.imm Cell.behind; ref = λ x. x }, tt))))) (m27 record { before = record { before = record { before = c .before; if1 = c .if1 }; all-right-arg = record { given = g } }; struct-known = record { given = g' } } g'') g'3 }))))
+      abbrev pub m54 : (before : Else3) → (given : s65 .gives (m52 (before .before))) → Typed.Mo T71
+      m54 = λ before given. s66 .next (m53 before given)
 
-        lay6 : (c : Else1) → at9 (W1 (c .before .before) (After-number·gave (c .before))) (m13 (c .before .before) (After-number·gave (c .before)))
-        lay6 = λ c. lay7 record { before = c .before; if1 = c .if1 }
+      module _ (before· : Else3) where
+        pub record After-refuse-arg·own : Type 0 where
+          pub given : s65 .gives (m52 (before· .before))
 
-        lay5 : (c : Then1) → at6 (W1 (c .before .before) (After-number·gave (c .before))) (m13 (c .before .before) (After-number·gave (c .before)))
-        lay5 = λ c. ((tt, (Path'.refl, (Path'.refl, (MutSlice.fix-len (Row.get 4 (T24 .locals) (m19 (c .before)) .ptr) (Row.get 4 (T24 .locals) (m19 (c .before)) .name) (Row.get 4 (T24 .locals) (m19 (c .before)) .now) (dens (c .before .before .before .before .before .before .before .before .before .before .before .κs) (c .before .before .before .before .before .before .before .before .before .before .before .args) .1 .1 .1 .0 .now) (same-length record { before = c .before; if1 = c .if1 }), (Path'.refl, (Path'.refl, tt)))))), returns record { before = c .before; if1 = c .if1 })
+      pub record After-refuse-arg : Type 0 where
+        pub before : Else3
+        pub refuse-arg : After-refuse-arg·own before
 
-        lay4 : (c : After-number) → at56 (W0 (c .before .before .before .before .before .before .before .before .before .before .κs) (c .before .before .before .before .before .before .before .before .before .before .args)) (m11 (c .before) (After-number·gave c))
-        lay4 = λ c. (tt, (λ taken. lay5 record { before = record { before = c .before; number = c .number }; if1 = record { taken = Tests.eqb-false (Row.get 12 (T15 .locals) (m11 (c .before) (After-number·gave c))) 0 (Tests.not-true (Dec'.eqb (Row.get 12 (T15 .locals) (m11 (c .before) (After-number·gave c))) 0) taken) } }, λ left. lay6 record { before = record { before = c .before; number = c .number }; if1 = record { left = Tests.eqb-true (Row.get 12 (T15 .locals) (m11 (c .before) (After-number·gave c))) 0 (Tests.not-false (Dec'.eqb (Row.get 12 (T15 .locals) (m11 (c .before) (After-number·gave c))) 0) left) } }))
+      abbrev pub Need-refuse-requires : Type 0
+      Need-refuse-requires = (c : After-refuse-arg) → s67 .asks (m54 (c .before) (c .refuse-arg .given))
 
-        lay3 : (c : After-check-with) → at61 (W0 (c .before .before .before .before .before .before .before .κs) (c .before .before .before .before .before .before .before .args)) (m8 (c .before) (After-check-with·gave c))
-        lay3 = λ c. (Path'.refl, λ g. λ g'. (number-requires record { before = record { before = record { before = c .before; check-with = c .check-with }; work = record { given = g } }; slice-known2 = record { given = g' } }, λ g''. lay4 record { before = record { before = record { before = record { before = c .before; check-with = c .check-with }; work = record { given = g } }; slice-known2 = record { given = g' } }; number = Called.called ps·2 r·2 (claims· .5) T13 (record { pos = 9; st = List.[]; d = 0; at = λ x. x }, tt) (m10 record { before = record { before = c .before; check-with = c .check-with }; work = record { given = g } } g') g'' }))
+      abbrev pub m55 : (before : After-refuse-arg) → (given : s67 .gives (m54 (before .before) (before .refuse-arg .given))) → Typed.Mo T72
+      m55 = λ before given. s67 .next (m54 (before .before) (before .refuse-arg .given)) given
 
-        lay2 : (c : After-records2) → at65 (W0 (c .before .before .before .before .before .κs) (c .before .before .before .before .before .args)) (m5 (c .before) (After-records2·gave c))
-        lay2 = λ c. λ g. (Path'.refl, (check-with-requires record { before = record { before = c .before; records2 = c .records2 }; check-with-arg = record { given = g } }, λ g'. lay3 record { before = record { before = record { before = c .before; records2 = c .records2 }; check-with-arg = record { given = g } }; check-with = Called.called ps·1 r·1 (claims· .3) T9 (record { pos = 1; st = List.[]; d = 0; at = λ x. x }, (record { pos = 2; ty = Syntax.tyRef (Syntax.named 0) Syntax.imm (Syntax.tyInt Syntax.w32); ref = λ x. x }, (record { pos = 3; ty = Syntax.tyRef (Syntax.named 1) Syntax.imm (Syntax.tyInt Syntax.w32); ref = λ x. x }, (record { pos = 11; ty = Syntax.tyRef Syntax.erased Syntax.mut (Syntax.tyInt Syntax.w32); ref = λ x. x }, (Num.vAt 7 λ x. x, (Num.vAt 8 λ x. x, tt)))))) (m7 record { before = c .before; records2 = c .records2 } g) g' }))
+      module _ (before· : After-refuse-arg) where
+        abbrev pub After-refuse·own : Type 0
+        After-refuse·own = Called.Called ps·6 r·6 (claims· .13) T71 (record { pos = 1; st = List.[]; d = 0; at = λ x. x }, (record { pos = 24; ty = Syntax.tyRef Syntax.erased Syntax.mut (Syntax.tyInt Syntax.w32); ref = λ x. x }, tt)) (m54 (before· .before) (before· .refuse-arg .given))
 
-        lay1 : (c : After-records) → at66 (W0 (c .before .before .before .before .κs) (c .before .before .before .before .args)) (m4 (c .before) (After-records·gave c))
-        lay1 = λ c. (records-requires-2 record { before = c .before; records = c .records }, λ g. lay2 record { before = record { before = c .before; records = c .records }; records2 = Called.called ps·0 r·0 (claims· .1) T5 (record { pos = 6; ty = Syntax.tyRef (Syntax.named 4) Syntax.imm Cell.behind; ref = λ x. x }, tt) (m4 (c .before) (After-records·gave c)) g })
+      pub record After-refuse : Type 0 where
+        pub before : After-refuse-arg
+        pub refuse : After-refuse·own before
 
-        pub laid : (c : Start) → at70 (W0 (c .κs) (c .args)) (m0 (c .κs) (c .args))
-        laid = λ c. λ g. λ g'. λ g''. (records-requires record { before = record { before = record { before = c; shared-slice-known = record { given = g } }; shared-slice-known2 = record { given = g' } }; slice-known = record { given = g'' } }, λ g'3. lay1 record { before = record { before = record { before = record { before = c; shared-slice-known = record { given = g } }; shared-slice-known2 = record { given = g' } }; slice-known = record { given = g'' } }; records = Called.called ps·0 r·0 (claims· .1) T4 (record { pos = 5; ty = Syntax.tyRef (Syntax.named 3) Syntax.imm Cell.behind; ref = λ x. x }, tt) (m3 record { before = record { before = c; shared-slice-known = record { given = g } }; shared-slice-known2 = record { given = g' } } g'') g'3 })
+      abbrev pub After-refuse·gave : (c : After-refuse) → s67 .gives (m54 (c .before .before) (c .before .refuse-arg .given))
+      After-refuse·gave = λ c. Called.given ps·6 r·6 (claims· .13) T71 (record { pos = 1; st = List.[]; d = 0; at = λ x. x }, (record { pos = 24; ty = Syntax.tyRef Syntax.erased Syntax.mut (Syntax.tyInt Syntax.w32); ref = λ x. x }, tt)) (m54 (c .before .before) (c .before .refuse-arg .given)) (c .refuse)
+
+      abbrev pub m56 : (before : After-refuse-arg) → (given : s67 .gives (m54 (before .before) (before .refuse-arg .given))) → Typed.Mo T73
+      m56 = λ before given. s68 (m55 before given)
+
+      abbrev pub m57 : (before : After-refuse-arg) → (given : s67 .gives (m54 (before .before) (before .refuse-arg .given))) → Typed.Mo T74
+      m57 = λ before given. s69 (m56 before given)
+
+      abbrev pub m58 : (before : After-refuse-arg) → (given : s67 .gives (m54 (before .before) (before .refuse-arg .given))) → Typed.Mo T75
+      m58 = λ before given. s70 (m57 before given)
+
+      abbrev pub m59 : (before : After-refuse) → (given : s72 .gives (m58 (before .before) (After-refuse·gave before))) → Typed.Mo T77
+      m59 = λ before given. s72 .next (m58 (before .before) (After-refuse·gave before)) given
+
+      module _ (before· : After-refuse) where
+        pub record After-work4·own : Type 0 where
+          pub given : s72 .gives (m58 (before· .before) (After-refuse·gave before·))
+
+      pub record After-work4 : Type 0 where
+        pub before : After-refuse
+        pub work4 : After-work4·own before
+
+      abbrev pub m60 : (before : After-work4) → (given : s73 .gives (m59 (before .before) (before .work4 .given))) → Typed.Mo T78
+      m60 = λ before given. s73 .next (m59 (before .before) (before .work4 .given)) given
+
+      module _ (before· : After-work4) where
+        pub record After-slice-known5·own : Type 0 where
+          pub given : s73 .gives (m59 (before· .before) (before· .work4 .given))
+
+      pub record After-slice-known5 : Type 0 where
+        pub before : After-work4
+        pub slice-known5 : After-slice-known5·own before
+
+      abbrev pub Need-same-length-4 : Type 0
+      Need-same-length-4 = (c : After-slice-known5) → MutSlice.SameLen (Row.get 4 (T78 .locals) (m60 (c .before) (c .slice-known5 .given))) (dens (c .before .before .before .before .before .before .before .before .before .before .before .before .before .before .before .before .before .before .before .before .before .before .κs) (c .before .before .before .before .before .before .before .before .before .before .before .before .before .before .before .before .before .before .before .before .before .before .args) .1 .1 .1 .0)
+
+      abbrev pub Need-returns-4 : Type 0
+      Need-returns-4 = (c : After-slice-known5) → Post· (c .before .before .before .before .before .before .before .before .before .before .before .before .before .before .before .before .before .before .before .before .before .before .κs) (dens (c .before .before .before .before .before .before .before .before .before .before .before .before .before .before .before .before .before .before .before .before .before .before .κs) (c .before .before .before .before .before .before .before .before .before .before .before .before .before .before .before .before .before .before .before .before .before .before .args)) (Function.resV r (c .before .before .before .before .before .before .before .before .before .before .before .before .before .before .before .before .before .before .before .before .before .before .κs) (m60 (c .before) (c .slice-known5 .given) .0)) (Clauses.atExit (Kinds.endedOf 5 ps r) (c .before .before .before .before .before .before .before .before .before .before .before .before .before .before .before .before .before .before .before .before .before .before .κs) (dens (c .before .before .before .before .before .before .before .before .before .before .before .before .before .before .before .before .before .before .before .before .before .before .κs) (c .before .before .before .before .before .before .before .before .before .before .before .before .before .before .before .before .before .before .before .before .before .before .args)) (Enter.lastsP (c .before .before .before .before .before .before .before .before .before .before .before .before .before .before .before .before .before .before .before .before .before .before .κs) 1 ps xs (dens (c .before .before .before .before .before .before .before .before .before .before .before .before .before .before .before .before .before .before .before .before .before .before .κs) (c .before .before .before .before .before .before .before .before .before .before .before .before .before .before .before .before .before .before .before .before .before .before .args)) (m60 (c .before) (c .slice-known5 .given) .1)))
+
+      module _ (judged-base-requires : Need-judged-base-requires) (same-length : Need-same-length) (returns : Need-returns) (records-requires : Need-records-requires) (records-requires-2 : Need-records-requires-2) (check-with-requires : Need-check-with-requires) (number-requires : Need-number-requires) (same-length-2 : Need-same-length-2) (returns-2 : Need-returns-2) (cast-all-right : Need-cast-all-right) (cast-all-right-2 : Need-cast-all-right-2) (all-right-requires : Need-all-right-requires) (accept-requires : Need-accept-requires) (same-length-3 : Need-same-length-3) (returns-3 : Need-returns-3) (refuse-requires : Need-refuse-requires) (same-length-4 : Need-same-length-4) (returns-4 : Need-returns-4) where
+        lay15 : (c : After-refuse) → at55 (W0 (c .before .before .before .before .before .before .before .before .before .before .before .before .before .before .before .before .before .before .before .before .κs) (c .before .before .before .before .before .before .before .before .before .before .before .before .before .before .before .before .before .before .before .before .args)) (m55 (c .before) (After-refuse·gave c))
+        lay15 = λ c. (Path'.refl, λ g. λ g'. ((tt, (Path'.refl, (Path'.refl, (MutSlice.fix-len (Row.get 4 (T78 .locals) (m60 record { before = record { before = c .before; refuse = c .refuse }; work4 = record { given = g } } g') .ptr) (Row.get 4 (T78 .locals) (m60 record { before = record { before = c .before; refuse = c .refuse }; work4 = record { given = g } } g') .name) (Row.get 4 (T78 .locals) (m60 record { before = record { before = c .before; refuse = c .refuse }; work4 = record { given = g } } g') .now) (dens (c .before .before .before .before .before .before .before .before .before .before .before .before .before .before .before .before .before .before .before .before .κs) (c .before .before .before .before .before .before .before .before .before .before .before .before .before .before .before .before .before .before .before .before .args) .1 .1 .1 .0 .now) (same-length-4 record { before = record { before = record { before = c .before; refuse = c .refuse }; work4 = record { given = g } }; slice-known5 = record { given = g' } }), (Path'.refl, (Path'.refl, tt)))))), returns-4 record { before = record { before = record { before = c .before; refuse = c .refuse }; work4 = record { given = g } }; slice-known5 = record { given = g' } }))
+
+        lay14 : (c : Else3) → at59 (W0 (c .before .before .before .before .before .before .before .before .before .before .before .before .before .before .before .before .before .before .κs) (c .before .before .before .before .before .before .before .before .before .before .before .before .before .before .before .before .before .before .args)) (m52 (c .before))
+        lay14 = λ c. λ g. (Path'.refl, (refuse-requires record { before = record { before = c .before; if3 = c .if3 }; refuse-arg = record { given = g } }, λ g'. lay15 record { before = record { before = record { before = c .before; if3 = c .if3 }; refuse-arg = record { given = g } }; refuse = Called.called ps·6 r·6 (claims· .13) T71 (record { pos = 1; st = List.[]; d = 0; at = λ x. x }, (record { pos = 24; ty = Syntax.tyRef Syntax.erased Syntax.mut (Syntax.tyInt Syntax.w32); ref = λ x. x }, tt)) (m54 record { before = c .before; if3 = c .if3 } g) g' }))
+
+        lay13 : (c : After-accept) → at33 (W3 (c .before .before .before .before) (After-all-right·gave (c .before .before .before))) (m46 (c .before) (After-accept·gave c))
+        lay13 = λ c. (Path'.refl, λ g. λ g'. ((tt, (Path'.refl, (Path'.refl, (MutSlice.fix-len (Row.get 4 (T67 .locals) (m51 record { before = record { before = c .before; accept = c .accept }; work3 = record { given = g } } g') .ptr) (Row.get 4 (T67 .locals) (m51 record { before = record { before = c .before; accept = c .accept }; work3 = record { given = g } } g') .name) (Row.get 4 (T67 .locals) (m51 record { before = record { before = c .before; accept = c .accept }; work3 = record { given = g } } g') .now) (dens (c .before .before .before .before .before .before .before .before .before .before .before .before .before .before .before .before .before .before .before .before .κs) (c .before .before .before .before .before .before .before .before .before .before .before .before .before .before .before .before .before .before .before .before .args) .1 .1 .1 .0 .now) (same-length-3 record { before = record { before = record { before = c .before; accept = c .accept }; work3 = record { given = g } }; slice-known4 = record { given = g' } }), (Path'.refl, (Path'.refl, tt)))))), returns-3 record { before = record { before = record { before = c .before; accept = c .accept }; work3 = record { given = g } }; slice-known4 = record { given = g' } }))
+
+        lay12 : (c : After-all-right) → at60 (W0 (c .before .before .before .before .before .before .before .before .before .before .before .before .before .before .before .before .before .κs) (c .before .before .before .before .before .before .before .before .before .before .before .before .before .before .before .before .before .args)) (m38 (c .before) (After-all-right·gave c))
+        lay12 = λ c. (λ taken. λ g. (Path'.refl, (accept-requires record { before = record { before = record { before = c .before; all-right = c .all-right }; if3 = record { taken = taken } }; accept-arg = record { given = g } }, λ g'. lay13 record { before = record { before = record { before = record { before = c .before; all-right = c .all-right }; if3 = record { taken = taken } }; accept-arg = record { given = g } }; accept = Called.called ps·5 r·5 (claims· .11) T59 (record { pos = 1; st = List.[]; d = 0; at = λ x. x }, (record { pos = 2; ty = Syntax.tyRef (Syntax.named 0) Syntax.imm (Syntax.tyInt Syntax.w32); ref = λ x. x }, (record { pos = 3; ty = Syntax.tyRef (Syntax.named 1) Syntax.imm (Syntax.tyInt Syntax.w32); ref = λ x. x }, (record { pos = 22; ty = Syntax.tyRef Syntax.erased Syntax.mut (Syntax.tyInt Syntax.w32); ref = λ x. x }, tt)))) (m45 record { before = record { before = c .before; all-right = c .all-right }; if3 = record { taken = taken } } g) g' })), λ left. lay14 record { before = record { before = c .before; all-right = c .all-right }; if3 = record { left = left } })
+
+        lay11 : (c : Else2) → at68 (W0 (c .before .before .before .before .before .before .before .before .before .before .before .before .before .κs) (c .before .before .before .before .before .before .before .before .before .before .before .before .before .args)) (m31 (c .before))
+        lay11 = λ c. λ g. (Path'.refl, λ g'. (cast-all-right record { before = record { before = record { before = c .before; if2 = c .if2 }; all-right-arg = record { given = g } }; struct-known2 = record { given = g' } }, λ g''. (cast-all-right-2 record { before = record { before = record { before = record { before = c .before; if2 = c .if2 }; all-right-arg = record { given = g } }; struct-known2 = record { given = g' } }; struct-known3 = record { given = g'' } }, (all-right-requires record { before = record { before = record { before = record { before = c .before; if2 = c .if2 }; all-right-arg = record { given = g } }; struct-known2 = record { given = g' } }; struct-known3 = record { given = g'' } }, λ g'3. lay12 record { before = record { before = record { before = record { before = record { before = c .before; if2 = c .if2 }; all-right-arg = record { given = g } }; struct-known2 = record { given = g' } }; struct-known3 = record { given = g'' } }; all-right = Called.called ps·4 r·4 (claims· .9) T47 (record { pos = 18; ty = Syntax.tyRef Syntax.erased Syntax.imm (Syntax.tyInt Syntax.w32); ref = λ x. x }, (Num.vAt 19 λ x. x, (Num.vAt 20 λ x. x, (record { pos = 5; ty = Syntax.tyRef (Syntax.named 3) Syntax.imm Cell.behind; ref = λ x. x }, (record { pos = 6; ty = Syntax.tyRef (Syntax.named 4) Syntax.imm Cell.behind; ref = λ x. x }, tt))))) (m37 record { before = record { before = record { before = c .before; if2 = c .if2 }; all-right-arg = record { given = g } }; struct-known2 = record { given = g' } } g'') g'3 }))))
+
+        lay10 : (c : Else2) → at23 (W2 (c .before .before) (After-number·gave (c .before))) (m23 (c .before .before) (After-number·gave (c .before)))
+        lay10 = λ c. lay11 record { before = c .before; if2 = c .if2 }
+
+        lay9 : (c : Then2) → at20 (W2 (c .before .before) (After-number·gave (c .before))) (m23 (c .before .before) (After-number·gave (c .before)))
+        lay9 = λ c. ((tt, (Path'.refl, (Path'.refl, (MutSlice.fix-len (Row.get 4 (T38 .locals) (m29 (c .before)) .ptr) (Row.get 4 (T38 .locals) (m29 (c .before)) .name) (Row.get 4 (T38 .locals) (m29 (c .before)) .now) (dens (c .before .before .before .before .before .before .before .before .before .before .before .before .before .κs) (c .before .before .before .before .before .before .before .before .before .before .before .before .before .args) .1 .1 .1 .0 .now) (same-length-2 record { before = c .before; if2 = c .if2 }), (Path'.refl, (Path'.refl, tt)))))), returns-2 record { before = c .before; if2 = c .if2 })
+
+        lay8 : (c : After-number) → at70 (W0 (c .before .before .before .before .before .before .before .before .before .before .before .before .κs) (c .before .before .before .before .before .before .before .before .before .before .before .before .args)) (m21 (c .before) (After-number·gave c))
+        lay8 = λ c. (tt, (λ taken. lay9 record { before = record { before = c .before; number = c .number }; if2 = record { taken = Tests.eqb-false (Row.get 15 (T29 .locals) (m21 (c .before) (After-number·gave c))) 0 (Tests.not-true (Dec'.eqb (Row.get 15 (T29 .locals) (m21 (c .before) (After-number·gave c))) 0) taken) } }, λ left. lay10 record { before = record { before = c .before; number = c .number }; if2 = record { left = Tests.eqb-true (Row.get 15 (T29 .locals) (m21 (c .before) (After-number·gave c))) 0 (Tests.not-false (Dec'.eqb (Row.get 15 (T29 .locals) (m21 (c .before) (After-number·gave c))) 0) left) } }))
+
+        lay7 : (c : After-check-with) → at75 (W0 (c .before .before .before .before .before .before .before .before .before .κs) (c .before .before .before .before .before .before .before .before .before .args)) (m18 (c .before) (After-check-with·gave c))
+        lay7 = λ c. (Path'.refl, λ g. λ g'. (number-requires record { before = record { before = record { before = c .before; check-with = c .check-with }; work2 = record { given = g } }; slice-known3 = record { given = g' } }, λ g''. lay8 record { before = record { before = record { before = record { before = c .before; check-with = c .check-with }; work2 = record { given = g } }; slice-known3 = record { given = g' } }; number = Called.called ps·3 r·3 (claims· .7) T27 (record { pos = 9; st = List.[]; d = 0; at = λ x. x }, tt) (m20 record { before = record { before = c .before; check-with = c .check-with }; work2 = record { given = g } } g') g'' }))
+
+        lay6 : (c : After-records2) → at79 (W0 (c .before .before .before .before .before .before .before .κs) (c .before .before .before .before .before .before .before .args)) (m15 (c .before) (After-records2·gave c))
+        lay6 = λ c. λ g. (Path'.refl, (check-with-requires record { before = record { before = c .before; records2 = c .records2 }; check-with-arg = record { given = g } }, λ g'. lay7 record { before = record { before = record { before = c .before; records2 = c .records2 }; check-with-arg = record { given = g } }; check-with = Called.called ps·2 r·2 (claims· .5) T23 (record { pos = 1; st = List.[]; d = 0; at = λ x. x }, (record { pos = 2; ty = Syntax.tyRef (Syntax.named 0) Syntax.imm (Syntax.tyInt Syntax.w32); ref = λ x. x }, (record { pos = 3; ty = Syntax.tyRef (Syntax.named 1) Syntax.imm (Syntax.tyInt Syntax.w32); ref = λ x. x }, (record { pos = 14; ty = Syntax.tyRef Syntax.erased Syntax.mut (Syntax.tyInt Syntax.w32); ref = λ x. x }, (Num.vAt 7 λ x. x, (Num.vAt 8 λ x. x, tt)))))) (m17 record { before = c .before; records2 = c .records2 } g) g' }))
+
+        lay5 : (c : After-records) → at80 (W0 (c .before .before .before .before .before .before .κs) (c .before .before .before .before .before .before .args)) (m14 (c .before) (After-records·gave c))
+        lay5 = λ c. (records-requires-2 record { before = c .before; records = c .records }, λ g. lay6 record { before = record { before = c .before; records = c .records }; records2 = Called.called ps·1 r·1 (claims· .3) T19 (record { pos = 6; ty = Syntax.tyRef (Syntax.named 4) Syntax.imm Cell.behind; ref = λ x. x }, tt) (m14 (c .before) (After-records·gave c)) g })
+
+        lay4 : (c : Else1) → at81 (W0 (c .before .before .before .before .before .κs) (c .before .before .before .before .before .args)) (m13 (c .before))
+        lay4 = λ c. (records-requires record { before = c .before; if1 = c .if1 }, λ g. lay5 record { before = record { before = c .before; if1 = c .if1 }; records = Called.called ps·1 r·1 (claims· .3) T7 (record { pos = 5; ty = Syntax.tyRef (Syntax.named 3) Syntax.imm Cell.behind; ref = λ x. x }, tt) (m13 (c .before)) g })
+
+        lay3 : (c : Else1) → at12 (W1 (c .before .before) (c .before .struct-known .given)) (m5 (c .before .before) (c .before .struct-known .given))
+        lay3 = λ c. lay4 record { before = c .before; if1 = c .if1 }
+
+        lay2 : (c : After-judged-base) → at5 (W1 (c .before .before .before .before) (c .before .before .before .struct-known .given)) (m9 (c .before) (After-judged-base·gave c))
+        lay2 = λ c. (Path'.refl, λ g. λ g'. ((tt, (Path'.refl, (Path'.refl, (MutSlice.fix-len (Row.get 4 (T16 .locals) (m12 record { before = record { before = c .before; judged-base = c .judged-base }; work = record { given = g } } g') .ptr) (Row.get 4 (T16 .locals) (m12 record { before = record { before = c .before; judged-base = c .judged-base }; work = record { given = g } } g') .name) (Row.get 4 (T16 .locals) (m12 record { before = record { before = c .before; judged-base = c .judged-base }; work = record { given = g } } g') .now) (dens (c .before .before .before .before .before .before .before .κs) (c .before .before .before .before .before .before .before .args) .1 .1 .1 .0 .now) (same-length record { before = record { before = record { before = c .before; judged-base = c .judged-base }; work = record { given = g } }; slice-known2 = record { given = g' } }), (Path'.refl, (Path'.refl, tt)))))), returns record { before = record { before = record { before = c .before; judged-base = c .judged-base }; work = record { given = g } }; slice-known2 = record { given = g' } }))
+
+        lay1 : (c : Then1) → at10 (W1 (c .before .before) (c .before .struct-known .given)) (m5 (c .before .before) (c .before .struct-known .given))
+        lay1 = λ c. λ g. (Path'.refl, (judged-base-requires record { before = record { before = c .before; if1 = c .if1 }; judged-base-arg = record { given = g } }, λ g'. lay2 record { before = record { before = record { before = c .before; if1 = c .if1 }; judged-base-arg = record { given = g } }; judged-base = Called.called ps·0 r·0 (claims· .1) T11 (record { pos = 1; st = List.[]; d = 0; at = λ x. x }, (record { pos = 2; ty = Syntax.tyRef (Syntax.named 0) Syntax.imm (Syntax.tyInt Syntax.w32); ref = λ x. x }, (record { pos = 3; ty = Syntax.tyRef (Syntax.named 1) Syntax.imm (Syntax.tyInt Syntax.w32); ref = λ x. x }, (record { pos = 12; ty = Syntax.tyRef Syntax.erased Syntax.mut (Syntax.tyInt Syntax.w32); ref = λ x. x }, (record { pos = 5; ty = Syntax.tyRef (Syntax.named 3) Syntax.imm Cell.behind; ref = λ x. x }, (record { pos = 6; ty = Syntax.tyRef (Syntax.named 4) Syntax.imm Cell.behind; ref = λ x. x }, tt)))))) (m8 record { before = c .before; if1 = c .if1 } g) g' }))
+
+        pub laid : (c : Start) → at87 (W0 (c .κs) (c .args)) (m0 (c .κs) (c .args))
+        laid = λ c. λ g. λ g'. λ g''. λ g'3. (tt, (λ taken. lay1 record { before = record { before = record { before = record { before = record { before = c; shared-slice-known = record { given = g } }; shared-slice-known2 = record { given = g' } }; slice-known = record { given = g'' } }; struct-known = record { given = g'3 } }; if1 = record { taken = Tests.eqb-true (State.struct .as-values (Row.get 1 (T5 .locals) (m4 record { before = record { before = record { before = c; shared-slice-known = record { given = g } }; shared-slice-known2 = record { given = g' } }; slice-known = record { given = g'' } } g'3)) .1 .0) 0 taken } }, λ left. lay3 record { before = record { before = record { before = record { before = record { before = c; shared-slice-known = record { given = g } }; shared-slice-known2 = record { given = g' } }; slice-known = record { given = g'' } }; struct-known = record { given = g'3 } }; if1 = record { left = Tests.eqb-false (State.struct .as-values (Row.get 1 (T5 .locals) (m4 record { before = record { before = record { before = c; shared-slice-known = record { given = g } }; shared-slice-known2 = record { given = g' } }; slice-known = record { given = g'' } } g'3)) .1 .0) 0 left } }))
 
         module _ (κs : Lifetimes.Lfts 5) (qs : Lifetimes.Shares 5) where
           pub asked : (a : Kinds.Dens κs ps) → (good : Kinds.GoodsP κs ps a) → (pre : Pre· κs a) → (bs : List.List Nat.ℕ) → Φ (Any.wantQ 5 ps r xs m κs qs a (Post· κs a)) (Function.init 5 ps r xs m κs qs a)
           asked = λ a good pre bs. laid record { κs = κs; args = record { self = a .0; table = a .1 .0; history = a .1 .1 .0; work = a .1 .1 .1 .0; sheet = a .1 .1 .1 .1 .0; keeps = a .1 .1 .1 .1 .1 .0 }; good = good; pre = pre }
 
-        module _ {M : Type 1} (𝓤 : URA.URA M) (H : Wp.Heap 𝓤) (A : Atoms.Atoms 𝓤) (W : Kit.Given 𝓤 H A) (𝓣 : Wp.Tables 𝓤 H) (known0 : Plain.Known 𝓤 H A W 𝓣 1 ps·0 r·0 (claims· .0) (claims· .1) "sheets::thin::records") (known1 : Plain.Known 𝓤 H A W 𝓣 3 ps·1 r·1 (claims· .2) (claims· .3) "pyramid::State::check_with") (known2 : Plain.Known 𝓤 H A W 𝓣 0 ps·2 r·2 (claims· .4) (claims· .5) "darts::Answer::number") (known3 : Plain.Known 𝓤 H A W 𝓣 3 ps·3 r·3 (claims· .6) (claims· .7) "sheets::loops::all_right") (known4 : Plain.Known 𝓤 H A W 𝓣 3 ps·4 r·4 (claims· .8) (claims· .9) "pyramid::State::accept") (known5 : Plain.Known 𝓤 H A W 𝓣 1 ps·5 r·5 (claims· .10) (claims· .11) "pyramid::State::refuse") where
+        module _ {M : Type 1} (𝓤 : URA.URA M) (H : Wp.Heap 𝓤) (A : Atoms.Atoms 𝓤) (W : Kit.Given 𝓤 H A) (𝓣 : Wp.Tables 𝓤 H) (known0 : Plain.Known 𝓤 H A W 𝓣 5 ps·0 r·0 (claims· .0) (claims· .1) "pyramid::State::judged_base") (known1 : Plain.Known 𝓤 H A W 𝓣 1 ps·1 r·1 (claims· .2) (claims· .3) "sheets::thin::records") (known2 : Plain.Known 𝓤 H A W 𝓣 3 ps·2 r·2 (claims· .4) (claims· .5) "pyramid::State::check_with") (known3 : Plain.Known 𝓤 H A W 𝓣 0 ps·3 r·3 (claims· .6) (claims· .7) "darts::Answer::number") (known4 : Plain.Known 𝓤 H A W 𝓣 3 ps·4 r·4 (claims· .8) (claims· .9) "sheets::loops::all_right") (known5 : Plain.Known 𝓤 H A W 𝓣 3 ps·5 r·5 (claims· .10) (claims· .11) "pyramid::State::accept") (known6 : Plain.Known 𝓤 H A W 𝓣 1 ps·6 r·6 (claims· .12) (claims· .13) "pyramid::State::refuse") where
           pub spec : Statement.Triple 𝓤 (Wp.WpFn 𝓤 H (𝓣 .C) (𝓣 .Λ) (Function.fnOf 5 ps r xs m hs body)) (Function.plainOf 𝓤 H A 5 ps r Pre· Post·)
-          spec = Plain.t-fn-plain 𝓤 H A W 𝓣 5 ps r xs m hs body (λ κs qs bs. Φ) (λ κs qs bs bd. typed κs qs 𝓤 H A W 𝓣 (known0, known1, known2, known3, known4, known5) bs bd) Pre· Post· asked
+          spec = Plain.t-fn-plain 𝓤 H A W 𝓣 5 ps r xs m hs body (λ κs qs bs. Φ) (λ κs qs bs bd. typed κs qs 𝓤 H A W 𝓣 (known0, known1, known2, known3, known4, known5, known6) bs bd) Pre· Post· asked
