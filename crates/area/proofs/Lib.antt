@@ -1,5 +1,6 @@
 pub mod Cleared
 pub mod Fitting
+pub mod Judging
 pub mod Labels
 pub mod Lent
 pub mod Marking

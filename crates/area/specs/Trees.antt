@@ -3,7 +3,6 @@
 --   rooted D w x           == the root of x
 --   Kept D w w′            == w′ is w, but for the forest's part, and each number has kept its root
 --   Found D w w′ x r       == r is the root of x, and the roots are kept
---   Together D w w′ x y r  == r says whether x and y have one root, and the roots are kept
 --   merged R p q           == the roots R, once those of p and q are joined
 --   Joined D w w′ p q r    == p and q are joined, and r says whether they were apart
 use mathlib.Core.Bool.{Bool, not}
@@ -31,10 +30,6 @@ pub record Kept (D : ℕ) (w w′ : List ℕ) : Type 0 where
 pub record Found (D : ℕ) (w w′ : List ℕ) (x r : ℕ) : Type 0 where
   pub kept : Kept D w w′
   pub top : r ≡ rooted D w x
-
-pub record Together (D : ℕ) (w w′ : List ℕ) (x y : ℕ) (r : Bool) : Type 0 where
-  pub kept : Kept D w w′
-  pub answer : r ≡ eqb (rooted D w x) (rooted D w y)
 
 unfoldable pub merged : (ℕ → ℕ) → ℕ → ℕ → ℕ → ℕ
 merged R p q x = linked (R p) (R q) (R x)

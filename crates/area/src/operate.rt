@@ -1,8 +1,8 @@
 // One operation in the work area: judged, and done.
 use crate::back::near;
 use crate::load::bind;
-use crate::trees::join;
-use crate::trees::together;
+use crate::trees::find;
+use crate::trees::link;
 use darts::Answer;
 use slices::at;
 ghost use mathlib.Core.Path.{_≡_};
@@ -14,6 +14,7 @@ ghost use Rattle.forest.specs.Forest.{Falls};
 ghost use Rattle.area.specs.Area.{Room, forestIn};
 ghost use Rattle.area.specs.Operate.{takesIn, led, noted, operated};
 ghost use Rattle.area.specs.Edge.{Says, Judged, Bounds, bypassed};
+ghost use Rattle.area.specs.Trees.{rooted};
 
 // Whether edge e is a whole piece.
 fn whole(work: &[u32], e: usize) -> bool
@@ -63,8 +64,39 @@ fn shared(k: usize, i: usize) -> Answer
     Answer::OneVertex(i)
 }
 
-// The answer for edge e at its turn, the one at place i of a kernel: the forest tells vertices where k is 1, and faces where k is 0. Where it is
-// done, the edge's two darts are joined, so that the forest tells vertices or faces as they are once the edge is gone.
+// The answer for edge e at its turn, the one at place i of a kernel: the forest tells vertices where k is 1, and faces where k is 0, and a and b are
+// the roots of the edge's two darts. Where it is done, the two are joined, so that the forest tells vertices or faces as they are once the edge is gone.
+pub fn judge_found(
+    work: &mut [u32],
+    d: usize,
+    k: usize,
+    e: usize,
+    i: usize,
+    a: usize,
+    b: usize,
+) -> Answer
+    requires { ⌜ Room d (now work) ⌝ }
+    requires { ⌜ Falls (forestIn d (now work)) ⌝ }
+    requires { ⌜ (k < 2) × (e < d / 2) ⌝ }
+    requires { ⌜ (a ≡ rooted d (now work) (2 * e)) × (b ≡ rooted d (now work) (2 * e + 1)) ⌝ }
+    ensures { λ r. ⌜ Judged d k e i (now (work .entry)) (now (work .exit)) r ⌝ }
+{
+    if d <= at(work, d + 2 * e) {
+        return Answer::GoneAlready(i);
+    }
+    if whole(work, e) {
+        if a == b {
+            return shared(k, i);
+        }
+        return Answer::WholePiece(i);
+    }
+    if link(work, d, a, b) {
+        return Answer::Done(0);
+    }
+    shared(k, i)
+}
+
+// The same of any number e, whose two roots are found first.
 pub fn judge(work: &mut [u32], d: usize, k: usize, e: usize, i: usize) -> Answer
     requires { ⌜ Room d (now work) ⌝ }
     requires { ⌜ Falls (forestIn d (now work)) ⌝ }
@@ -74,21 +106,9 @@ pub fn judge(work: &mut [u32], d: usize, k: usize, e: usize, i: usize) -> Answer
     if d / 2 <= e {
         return Answer::NoEdge(i);
     }
-    let p = 2 * e;
-    if d <= at(work, d + p) {
-        return Answer::GoneAlready(i);
-    }
-    let q = darts::partner(p);
-    if whole(work, e) {
-        if together(work, d, p, q) {
-            return shared(k, i);
-        }
-        return Answer::WholePiece(i);
-    }
-    if join(work, d, p, q) {
-        return Answer::Done(0);
-    }
-    shared(k, i)
+    let a = find(work, d, 2 * e);
+    let b = find(work, d, 2 * e + 1);
+    judge_found(work, d, k, e, i, a, b)
 }
 
 // The dart that plays p: the edge's first dart, or its second where the operation turns round.

@@ -7,9 +7,10 @@
 --   linked u v r == the root of what had the root r, once the roots u and v are joined: the lower of the two in place of the higher
 --   apart t x y  == the test whether x and y have two different roots
 --   Stands t x   == t is a forest, and x is one of its numbers: what a caller of `find` and of `join` shows
+--   Top t x      == t is a forest, and x is one of its roots: what a caller of `link` shows
 --   Fresh n t    == what `fresh` leaves: each of n numbers is its own parent
 --   Found ..     == what `find` leaves: r is the root of x, and every number has kept its root
---   Joined ..    == what `join` leaves: the roots of x and y are joined, and the answer says whether they were two
+--   Joined ..    == what `join` and `link` leave: the roots of x and y are joined, and the answer says whether they were two
 use mathlib.Core.Path.{_≡_}
 use mathlib.Core.Bool.{Bool, cond, not}
 use mathlib.Core.List.{List}
@@ -39,6 +40,11 @@ apart t x y = not (eqb (root t x) (root t y))
 pub record Stands (t : List ℕ) (x : ℕ) : Type 0 where
   pub falls : Falls t
   pub inside : x < length t
+
+pub record Top (t : List ℕ) (x : ℕ) : Type 0 where
+  pub falls : Falls t
+  pub inside : x < length t
+  pub own : parent t x ≡ x
 
 pub record Fresh (n : ℕ) (t : List ℕ) : Type 0 where
   pub size : length t ≡ n

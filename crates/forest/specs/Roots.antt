@@ -5,6 +5,8 @@
 --   fresh-root   == in a fresh forest each number is its own root
 --   root-top     == a number that is its own parent is its own root
 --   root-settled == a root is its own parent
+--   root-own     == and its own root
+--   root-down    == a root is not above its number
 --   root-up      == a parent has the root of its child
 --   root-only    == what is the same at parent and child, and the number itself where it is its own parent, is the root
 use mathlib.Core.Path.{_≡_, refl, sym, ap, _∙_}
@@ -56,6 +58,18 @@ module _ {t : List ℕ} (F : Falls t) where
   pub root-settled : (x : ℕ) → parent t (root t x) ≡ root t x
   unfolding root
   root-settled x = climb-settles x x (omega arith)
+
+  pub root-own : (x : ℕ) → root t (root t x) ≡ root t x
+  root-own x = root-top t (root t x) (root-settled x)
+
+  climb-down : (k x : ℕ) → climb t k x ≤ x
+  unfolding climb
+  climb-down zero x = omega arith
+  climb-down (suc k) x = omega (arith, climb-down k (parent t x), F .down x)
+
+  pub root-down : (x : ℕ) → root t x ≤ x
+  unfolding root
+  root-down x = climb-down x x
 
   pub root-up : (x : ℕ) → root t (parent t x) ≡ root t x
   unfolding climb

@@ -1,8 +1,8 @@
 // Which numbers belong together, kept in a lent slice: each number has a parent, which is never above it, and a root is its own parent.
 // Two numbers belong together where they have the same root.
-ghost use Prim.Native.Nat.{_≤_, _^_};
+ghost use Prim.Native.Nat.{_≤_, _<_, _^_};
 ghost use lib.ListN.{length};
-ghost use Rattle.forest.specs.Forest.{Stands, Found, Joined, Fresh};
+ghost use Rattle.forest.specs.Forest.{Stands, Top, Found, Joined, Fresh};
 
 // Every number becomes its own root.
 pub fn fresh(forest: &mut [u32])
@@ -32,13 +32,12 @@ pub fn find(forest: &mut [u32], x: usize) -> usize
     at
 }
 
-// Joins what belongs to x with what belongs to y: the higher root is hung under the lower. Answers whether they were apart.
-pub fn join(forest: &mut [u32], x: usize, y: usize) -> bool
-    requires { ⌜ Stands (now forest) x × Stands (now forest) y ⌝ }
-    ensures { λ r. ⌜ Joined (now (forest .entry)) (now (forest .exit)) x y r ⌝ }
+// Joins what belongs to the root u with what belongs to the root v: the higher root is hung under the lower. Answers whether they are two.
+pub fn link(forest: &mut [u32], u: usize, v: usize) -> bool
+    requires { ⌜ Top (now forest) u × Top (now forest) v ⌝ }
+    requires { ⌜ (u < 2 ^ 32) × (v < 2 ^ 32) ⌝ }
+    ensures { λ r. ⌜ Joined (now (forest .entry)) (now (forest .exit)) u v r ⌝ }
 {
-    let u = find(forest, x);
-    let v = find(forest, y);
     if u == v {
         return false;
     }
@@ -48,4 +47,14 @@ pub fn join(forest: &mut [u32], x: usize, y: usize) -> bool
         forest[u] = v as u32;
     }
     true
+}
+
+// Joins what belongs to x with what belongs to y. Answers whether they were apart.
+pub fn join(forest: &mut [u32], x: usize, y: usize) -> bool
+    requires { ⌜ Stands (now forest) x × Stands (now forest) y ⌝ }
+    ensures { λ r. ⌜ Joined (now (forest .entry)) (now (forest .exit)) x y r ⌝ }
+{
+    let u = find(forest, x);
+    let v = find(forest, y);
+    link(forest, u, v)
 }

@@ -21,7 +21,7 @@ use Rattle.darts.specs.Map.{sameVertex, live, survives, gone}
 use Rattle.darts.specs.Operation.{kindOf}
 use Rattle.forest.specs.Forest.{parent, Falls, root}
 use Rattle.forest.specs.Lowest.{lowest-root}
-use Rattle.forest.specs.Roots.{root-top, root-settled}
+use Rattle.forest.specs.Roots.{root-top, root-settled, root-own, root-down}
 use Rattle.laws.specs.Standing.{mapOf, Standing}
 use Rattle.laws.proofs.bridge.Bases.{all-live}
 use Rattle.laws.proofs.bridge.Standing.{live-iff}
@@ -36,7 +36,6 @@ use Rattle.engine.proofs.Around.{step-ring, step-perm}
 use Rattle.engine.proofs.Parts.{past-none}
 use Rattle.yarn.specs.Places.{lowestFrom, lowest, isPlace}
 use Rattle.yarn.proofs.Lowest.{lowest-least, lowest-below, lowest-met}
-use Rattle.noting.proofs.Stepping.{root-down}
 
 module _ (D : ℕ) (b : List ℕ) (x : ℕ) (z : ℕ) (there : T (sameVertex D b z x)) (first : (y : ℕ) → y < z → ¬ T (sameVertex D b y x)) where
   found-from : (n y : ℕ) → y ≤ z → z < y + n → lowestFrom D b x n y ≡ z
@@ -98,7 +97,7 @@ module _ {D : ℕ} {b f : List ℕ} (S : Standing D b []) (F : Falls f) (Λ : La
       let down : r ≤ x = root-down F x in
       let dart : r < D = omega arith in
       let below : m ≤ x = lowest-below S x l in
-      let own : root f r ≡ r = root-top f r (root-settled F x) in
+      let own : root f r ≡ r = root-own F x in
       let there : T (sameVertex D b r x) = same-vertex S r x (all-live D r .1 dart) .1 (Λ .says r x (all-live D r .1 dart) (all-live D x .1 l) .0 own) in
       let least : m ≤ r = lowest-least D b x r there in
       let same : root f m ≡ r = Λ .says m x (all-live D m .1 (omega arith)) (all-live D x .1 l) .1 (lowest-met S x l) in

@@ -21,6 +21,7 @@ use borrow.Author.Tests.{eqb-true}
 use Rattle.permutations.specs.Choice.{pick, eqb-same, eqb-other}
 use Rattle.darts.specs.Operation.{kindOf, edgeOf}
 use Rattle.forest.specs.Forest.{Falls, root}
+use Rattle.forest.specs.Roots.{root-own}
 use Rattle.slices.specs.Part.{part}
 use Rattle.area.specs.Area.{Room, forestIn}
 use Rattle.area.specs.Replay.{rejoin, replayed, Numbered}
@@ -34,7 +35,7 @@ use Rattle.yarn.specs.Places.{zoned, placesAfter, mergeBy, mergesOf}
 use Rattle.noting.specs.Links.{cameFrom, recorded, Starts, Stepped, Replayed}
 use Rattle.noting.proofs.Places.{Among, zoned-rejoins, merges-among}
 use Rattle.noting.proofs.Recorded.{Inside, low-none, recorded-size, recorded-rest, recorded-forest, recorded-else, recorded-note, recorded-link, recorded-kept}
-use Rattle.noting.proofs.Stepping.{roots-below, roots-own, step-answer, step-refused}
+use Rattle.noting.proofs.Stepping.{roots-below, step-answer, step-refused}
 
 -- the operations from place t on
 abbrev left : ℕ → ℕ → List ℕ → ℕ → List ℕ
@@ -122,7 +123,7 @@ module _ {D n : ℕ} {w₀ w : List ℕ} {t : ℕ} (room : Room D w₀) (F : Fal
   inside = subst (Inside D) merges-here (merges-among (λ x. x < D) R₀ (roots-below room F) (historyIn D n w₀) t)
 
   places : Among (λ x. R₀ x ≡ x) m
-  places = subst (Among (λ x. R₀ x ≡ x)) merges-here (merges-among (λ x. R₀ x ≡ x) R₀ (roots-own room F) (historyIn D n w₀) t)
+  places = subst (Among (λ x. R₀ x ≡ x)) merges-here (merges-among (λ x. R₀ x ≡ x) R₀ (root-own F) (historyIn D n w₀) t)
 
   u-room : Room D u
   u-room = outside-room (S .outside) (replay-room room now)

@@ -1,7 +1,5 @@
 -- One operation of the replay: its two vertices joined, and its note and links written.
---   root-down      == a root is not above its number
 --   roots-below    == the roots of the forest's part are darts
---   roots-own      == a root is its own root
 --   both-below, joined-room == both roots are darts, and the four parts still fit
 --   contracted-yes == the ends of the edge were two vertices
 --   contracted-no  == they were one
@@ -12,7 +10,7 @@ use mathlib.Core.Bool.{Bool, true, false, not, _||_, _&&_}
 use mathlib.Core.List.{List, [], _∷_}
 use mathlib.Core.Logic.{_≢_, ⊎-elim, by-cases}
 use mathlib.Core.Path.{_≡_, refl, sym, ap, ap₂, _∙_, fun-ext}
-use Prim.Native.Nat.{ℕ, zero, suc, _+_, _*_, _/_, _%_, _≤_, _<_, min, max}
+use Prim.Native.Nat.{ℕ, _+_, _*_, _/_, _%_, _<_, min, max}
 use native.Mathlib.Decide.{ℕ-discrete, decLt}
 use native.Mathlib.Omega.{arith}
 use lib.Dec.{eqb}
@@ -20,28 +18,19 @@ use lib.ListN.{length, List·getD-eq-default}
 use Rattle.permutations.specs.Choice.{pick, eqb-same, eqb-other}
 use Rattle.permutations.specs.Partner.{partner, partner-cases}
 use Rattle.darts.specs.Operation.{contraction, removal, kindOf, edgeOf}
-use Rattle.forest.specs.Forest.{Falls, parent, climb, root, linked}
-use Rattle.forest.specs.Roots.{root-top, root-settled, root-up}
+use Rattle.forest.specs.Forest.{Falls, parent, root}
+use Rattle.forest.specs.Roots.{root-up, root-down}
 use Rattle.area.specs.Area.{Room, forestIn}
 use Rattle.area.specs.Replay.{rejoin, replayed}
-use Rattle.area.specs.Trees.{Outside, Kept, Found, Joined, rooted, merged}
-use Rattle.area.proofs.Lent.{kept-trans}
-use Rattle.area.proofs.Outside.{outside-refl, outside-trans, outside-room, forest-length}
+use Rattle.area.specs.Trees.{Found, Joined, rooted, merged}
+use Rattle.area.proofs.Lent.{joined-roots, found-kept, found-roots, kept-joined}
+use Rattle.area.proofs.Outside.{outside-refl, outside-room, forest-length}
 use Rattle.sheets.specs.Sheets.{into}
 use Rattle.yarn.specs.Places.{joins, zoned, mergeBy}
 use Rattle.noting.specs.Links.{recorded, Contracted, Stepped}
 use Rattle.noting.proofs.Places.{kind-contraction, kind-removal, joins-linked, and-true}
 
 -- ---- roots
-
-climb-down : {t : List ℕ} → Falls t → (k x : ℕ) → climb t k x ≤ x
-unfolding climb
-climb-down F zero x = omega arith
-climb-down {t} F (suc k) x = omega (arith, climb-down F k (parent t x), F .down x)
-
-pub root-down : {t : List ℕ} → Falls t → (x : ℕ) → root t x ≤ x
-unfolding root
-root-down F x = climb-down F x x
 
 root-below : {t : List ℕ} → Falls t → 0 < length t → (x : ℕ) → root t x < length t
 root-below {t} F some x = by-cases (decLt x (length t)) (λ l. near x l) (λ n. far x n)
@@ -60,43 +49,38 @@ module _ {D : ℕ} {w : List ℕ} (room : Room D w) (F : Falls (forestIn D w)) w
       let e = forest-length D w (room .fits) in
       omega (arith, root-below F (omega (arith, e, room .some)) x, e)
 
-  pub roots-own : (x : ℕ) → rooted D w (rooted D w x) ≡ rooted D w x
-  roots-own x = root-top (forestIn D w) (rooted D w x) (root-settled F x)
-
 -- ---- the contraction of an edge
 
 module _ {D : ℕ} (e : ℕ) {w w₁ w₂ w₃ : List ℕ} {a b : ℕ} {r : Bool} (f : Found D w w₁ (2 * e) a) (g : Found D w₁ w₂ (2 * e + 1) b)
-    (j : Joined D w₂ w₃ (2 * e) (2 * e + 1) r) where
-  kept : Kept D w w₂
-  kept = kept-trans (f .kept) (g .kept)
-
+    (l : Joined D w₂ w₃ a b r) where
   first : a ≡ rooted D w (2 * e)
   first = f .top
 
   second : b ≡ rooted D w (2 * e + 1)
   second = g .top ∙ ap (λ R. R (2 * e + 1)) (f .kept .roots)
 
-  answer : r ≡ not (eqb (rooted D w (2 * e)) (rooted D w (2 * e + 1)))
-  answer = rw (kept .roots) at (j .answer)
+  -- the roots are joined, and so are the darts
+  j : Joined D w w₃ (2 * e) (2 * e + 1) r
+  j = let known = found-roots f g in kept-joined (found-kept f g) (joined-roots (g .kept .falls) (known .0) (known .1) l)
 
   roots : rooted D w₃ ≡ joins (rooted D w) e
   unfolding merged
-  roots = j .roots ∙ ap (λ R. merged R (2 * e) (2 * e + 1)) (kept .roots) ∙ fun-ext (λ x. sym (joins-linked (rooted D w) e x))
+  roots = j .roots ∙ fun-ext (λ x. sym (joins-linked (rooted D w) e x))
 
   module _ (room : Room D w) (F : Falls (forestIn D w)) where
     pub both-below : (a < D) × (b < D)
     both-below = (rw first (roots-below room F (2 * e)), rw second (roots-below room F (2 * e + 1)))
 
     pub joined-room : Room D w₃
-    joined-room = outside-room (outside-trans (kept .outside) (j .outside)) room
+    joined-room = outside-room (j .outside) room
 
   pub contracted-yes : {t : ℕ} → r ≡ true → {w₄ : List ℕ} {low high : ℕ} → low ≡ min a b → high ≡ max a b → w₄ ≡ recorded D t (into low high) w₃
       → Contracted D t e w w₄ true
   unfolding mergeBy
   contracted-yes {t} two {w₄} {low} {high} lower higher is = record {
-    answer = sym two ∙ answer;
+    answer = sym two ∙ j .answer;
     joined = w₃;
-    outside = outside-trans (kept .outside) (j .outside);
+    outside = j .outside;
     falls = j .falls;
     roots = roots;
     left = is ∙ ap₂ (λ x y. recorded D t (into x y) w₃) (rw (← first, ← second) lower) (rw (← first, ← second) higher);
@@ -104,9 +88,9 @@ module _ {D : ℕ} (e : ℕ) {w w₁ w₂ w₃ : List ℕ} {a b : ℕ} {r : Bool
 
   pub contracted-no : {t : ℕ} → r ≡ false → Contracted D t e w w₃ false
   contracted-no one = record {
-    answer = sym one ∙ answer;
+    answer = sym one ∙ j .answer;
     joined = w₃;
-    outside = outside-trans (kept .outside) (j .outside);
+    outside = j .outside;
     falls = j .falls;
     roots = roots;
     left = refl;

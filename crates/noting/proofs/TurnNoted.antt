@@ -3,7 +3,6 @@
 --   taken-refused == the edge is refused
 --   taken-for     == what its contraction and its note ask of the work area, where it may be done
 --   taken-done    == it is done, and noted
---   found-kept, found-roots == two finds keep the roots, and tell both
 --   kept-noted    == the turn after a change that keeps the roots is the turn from before it
 use mathlib.Core.Bool.{not, false≢true}
 use mathlib.Core.List.{List}
@@ -23,8 +22,7 @@ use Rattle.forest.specs.Forest.{root}
 use Rattle.area.specs.Area.{Room, tableIn, pastIn}
 use Rattle.area.specs.Edge.{Judged, Bounds}
 use Rattle.area.specs.Operate.{operated}
-use Rattle.area.specs.Trees.{Kept, Found, rooted, merged}
-use Rattle.area.proofs.Lent.{kept-trans}
+use Rattle.area.specs.Trees.{Kept, rooted, merged}
 use Rattle.area.proofs.Operation.{operated-same}
 use Rattle.engine.specs.Held.{Ready}
 use Rattle.engine.specs.Runs.{Stays, Turned}
@@ -119,17 +117,7 @@ module _ {D m e i : ℕ} {w v : List ℕ} {r : Answer} (ρ : Ready D m 1 w) (j :
             left = λ n. absurd (n none);
           }
 
--- ---- after two finds
-
-module _ {D : ℕ} (e : ℕ) {w w₁ w₂ : List ℕ} {a b : ℕ} (f : Found D w w₁ (2 * e) a) (g : Found D w₁ w₂ (2 * e + 1) b) where
-  pub found-kept : Kept D w w₂
-  found-kept = kept-trans (f .kept) (g .kept)
-
-  pub found-roots : (a ≡ rooted D w₂ (2 * e)) × (b ≡ rooted D w₂ (2 * e + 1))
-  found-roots = (
-    f .top ∙ ap (λ R. R (2 * e)) (sym (found-kept .roots)),
-    g .top ∙ ap (λ R. R (2 * e + 1)) (sym (g .kept .roots)),
-  )
+-- ---- after a change that keeps the roots
 
 module _ {D m : ℕ} {w u : List ℕ} (ρ : Ready D m 1 w) (κ : Kept D w u) where
   S : Stays D m 1 w u

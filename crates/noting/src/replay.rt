@@ -2,7 +2,7 @@
 use crate::note::merge;
 use crate::note::pass;
 use area::trees::find;
-use area::trees::join;
+use area::trees::link;
 use slices::at;
 ghost use Prim.Native.Nat.{_+_, _*_, _/_, _≤_, _<_};
 ghost use Rattle.forest.specs.Forest.{Falls};
@@ -19,7 +19,7 @@ fn contract(work: &mut [u32], d: usize, t: usize, e: usize) -> bool
 {
     let a = find(work, d, 2 * e);
     let b = find(work, d, 2 * e + 1);
-    if join(work, d, 2 * e, 2 * e + 1) {
+    if link(work, d, a, b) {
         if a < b {
             merge(work, d, t, a, b);
         } else {

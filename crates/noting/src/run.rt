@@ -1,13 +1,13 @@
 // A kernel of contractions, as `engine::kernel` has it, with the note of what each merges.
 use crate::note::note;
-use area::operate::judge;
+use area::operate::judge_found;
 use area::operate::operate;
 use area::trees::find;
 use darts::Answer;
 use engine::Ran;
 use slices::at;
 ghost use mathlib.Core.Path.{_≡_};
-ghost use Prim.Native.Nat.{_+_, _*_, _/_, _<_, min, max};
+ghost use Prim.Native.Nat.{_+_, _*_, _/_, _<_};
 ghost use lib.ListN.{set};
 ghost use Rattle.area.specs.Area.{Room};
 ghost use Rattle.area.specs.Edge.{Bounds};
@@ -29,18 +29,22 @@ fn contract(work: &mut [u32], d: usize, m: usize, e: usize, low: usize, high: us
     note(work, d, m, low, high);
 }
 
-// The same where it may be done: the edge at place i is judged on the map as it stands.
-fn take(work: &mut [u32], d: usize, m: usize, e: usize, i: usize, low: usize, high: usize) -> Answer
+// The same where it may be done: the edge at place i, whose darts have the roots a and b, is judged on the map as it stands.
+fn take(work: &mut [u32], d: usize, m: usize, e: usize, i: usize, a: usize, b: usize) -> Answer
     requires { ⌜ Ready d m 1 (now work) ⌝ }
-    requires { ⌜ low ≡ min (rooted d (now work) (2 * e)) (rooted d (now work) (2 * e + 1)) ⌝ }
-    requires { ⌜ high ≡ max (rooted d (now work) (2 * e)) (rooted d (now work) (2 * e + 1)) ⌝ }
+    requires { ⌜ e < d / 2 ⌝ }
+    requires { ⌜ (a ≡ rooted d (now work) (2 * e)) × (b ≡ rooted d (now work) (2 * e + 1)) ⌝ }
     ensures { λ r. ⌜ TurnedNoted d m e i (now (work .entry)) (now (work .exit)) r ⌝ }
 {
-    let answer = judge(work, d, 1, e, i);
+    let answer = judge_found(work, d, 1, e, i, a, b);
     if answer.number() != 0 {
         return answer;
     }
-    contract(work, d, m, e, low, high);
+    if a < b {
+        contract(work, d, m, e, a, b);
+    } else {
+        contract(work, d, m, e, b, a);
+    }
     answer
 }
 
@@ -54,10 +58,7 @@ fn turn(work: &mut [u32], d: usize, m: usize, e: usize, i: usize) -> Answer
     }
     let a = find(work, d, 2 * e);
     let b = find(work, d, 2 * e + 1);
-    if a < b {
-        return take(work, d, m, e, i, a, b);
-    }
-    take(work, d, m, e, i, b, a)
+    take(work, d, m, e, i, a, b)
 }
 
 // The kernel's contractions, after n other operations.

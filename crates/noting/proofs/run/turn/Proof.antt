@@ -1,9 +1,10 @@
 -- `noting::run::turn` meets its contract: both finds keep the roots.
 use native.Mathlib.Omega.{arith}
 use borrow.Author.Needs.{needs}
+use Rattle.area.proofs.Lent.{found-kept, found-roots}
 use Rattle.area.proofs.Outside.{outside-room}
 use Rattle.engine.proofs.Ready.{ready-stays}
-use Rattle.noting.proofs.TurnNoted.{no-edge-noted, found-kept, found-roots, kept-noted}
+use Rattle.noting.proofs.TurnNoted.{no-edge-noted, kept-noted}
 use Rattle.noting.proofs.run.turn.Statement.{statement}
 use Rattle.noting.proofs.run.turn.Tie as tie
 
@@ -33,39 +34,23 @@ find-requires-2 c κs =
 
 take-requires : tie.Need-take-requires
 take-requires c κs =
-    let g = c .before .before .before .before in
+    let g = c .before .before .before in
     let f = g .before .before .before .before in
-    let s = f .before .before .before .before in
-    let R = found-roots (s .args .e) (f .find .ensures) (g .find2 .ensures) in
-    (ready-stays (s .pre) (found-kept (s .args .e) (f .find .ensures) (g .find2 .ensures)) .ready, (omega (arith, R .0, R .1), omega (arith, R .0, R .1)))
+    let s = f .before .before .before .before in (
+      ready-stays (s .pre) (found-kept (f .find .ensures) (g .find2 .ensures)) .ready,
+      (f .before .before .if1 .left, found-roots (f .find .ensures) (g .find2 .ensures)),
+    )
 
 same-length : tie.Need-same-length
 same-length c = search needs
 
 returns-2 : tie.Need-returns-2
 returns-2 c =
-    let g = c .before .before .before .before .before .before .before in
+    let t = c .before .before in
+    let g = t .before .before .before .before in
     let f = g .before .before .before .before in
     let s = f .before .before .before .before in
-    kept-noted (s .pre) (found-kept (s .args .e) (f .find .ensures) (g .find2 .ensures)) (c .before .before .take .ensures)
-
-take-requires-2 : tie.Need-take-requires-2
-take-requires-2 c κs =
-    let g = c .before .before .before .before in
-    let f = g .before .before .before .before in
-    let s = f .before .before .before .before in
-    let R = found-roots (s .args .e) (f .find .ensures) (g .find2 .ensures) in
-    (ready-stays (s .pre) (found-kept (s .args .e) (f .find .ensures) (g .find2 .ensures)) .ready, (omega (arith, R .0, R .1), omega (arith, R .0, R .1)))
-
-same-length-2 : tie.Need-same-length-2
-same-length-2 c = search needs
-
-returns-3 : tie.Need-returns-3
-returns-3 c =
-    let g = c .before .before .before .before .before .before .before in
-    let f = g .before .before .before .before in
-    let s = f .before .before .before .before in
-    kept-noted (s .pre) (found-kept (s .args .e) (f .find .ensures) (g .find2 .ensures)) (c .before .before .take2 .ensures)
+    kept-noted (s .pre) (found-kept (f .find .ensures) (g .find2 .ensures)) (t .take .ensures)
 
 pub turn-spec : {M : Type 1} → statement M
 turn-spec =
@@ -79,7 +64,4 @@ turn-spec =
     find-requires-2
     take-requires
     same-length
-    returns-2
-    take-requires-2
-    same-length-2
-    returns-3)
+    returns-2)
