@@ -45,6 +45,7 @@ impl State {
         }
         self.refuse(work)
     }
+
     // The same at a base: what the plain call judges, and then the record at each place that is its own label. Nothing was merged yet, so no links are needed.
     pub(crate) fn judged_base(
         self,
