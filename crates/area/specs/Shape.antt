@@ -1,5 +1,5 @@
 -- The shape of a state, over the history in the work area.
---   stateWith f     == the state that these figures are
+--   stateWith f     == the state that these figures are, its numbers not looked at
 --   hasKind k hs    == one of the operations hs is of kind k, 0 for removals and 1 for contractions
 --   historyIn D n w == the n history numbers, the first operation first
 use mathlib.Core.Bool.{Bool, false, _||_}
@@ -11,7 +11,7 @@ use Rattle.slices.specs.Part.{part}
 use Rattle.area.specs.declared.Figures.{Figures}
 
 abbrev pub stateWith : Figures → State
-stateWith f = record { darts = f .darts; operations = f .operations; levels = f .levels; ends = f .ends }
+stateWith f = record { darts = f .darts; operations = f .operations; levels = f .levels; ends = f .ends; vertices = 0; faces = 0 }
 
 unfoldable pub hasKind : ℕ → List ℕ → Bool
 hasKind k [] = false

@@ -15,7 +15,7 @@ use Rattle.darts.specs.Choose.{if_then_else_}
 use Rattle.darts.specs.Answers.{Answer, done, wrote, noDartCount, tooShort, needs, noPermutation, noPyramid}
 use Rattle.darts.specs.Map.{Verdict, permutes, culprits, permutationTest}
 use Rattle.darts.specs.Operation.{Kind}
-use Rattle.darts.specs.State.{State, baseState, Result, gives, refuses, reduce}
+use Rattle.darts.specs.State.{State, zeros, baseState, Result, gives, refuses, reduce}
 use Rattle.darts.specs.Levels.{sweep, undoLevel, unfoldTo}
 use Rattle.darts.specs.Pyramid.{dartCount, isPyramid}
 use Rattle.darts.specs.Counts.{Counts, countsOf, noCounts}
@@ -79,13 +79,13 @@ judged s t h w =
 
 -- "A refused start or read, which was given none, hands back a state of zeros." The start call passes both culprits on.
 unfoldable pub begins : ℕ → List ℕ → List ℕ → List ℕ → Verdict → After
-begins D t h w permutes = leaves done (baseState D) t h (cleared D w)
-begins D t h w (culprits d c) = leaves (noPermutation d c) (baseState 0) t h (cleared D w)
+begins D t h w permutes = leaves done (baseState D (take D t)) t h (cleared D w)
+begins D t h w (culprits d c) = leaves (noPermutation d c) zeros t h (cleared D w)
 
 unfoldable pub start : ℕ → List ℕ → List ℕ → List ℕ → After
 start D t h w =
     let a : Answer = fitting D (length t) (length h) (length w) in
-    if not (eqb (a .number) 0) then leaves a (baseState 0) t h w else begins D t h w (permutationTest D t)
+    if not (eqb (a .number) 0) then leaves a zeros t h w else begins D t h w (permutationTest D t)
 
 -- "A refused call hands back the state it was given." "A refusal changes nothing but the work area."
 unfoldable pub handsBack : State → List ℕ → List ℕ → List ℕ → Result → After
@@ -128,7 +128,7 @@ counts s t h w =
 -- "The reader writes table and history only when it accepts". "The reader, which learns D late, follows the same sentence for its D".
 unfoldable pub readInto : List ℕ → List ℕ → List ℕ → Read → After
 readInto t h w (means s u past) = leaves done s (over u t) (over (reverse past) h) (cleared (s .darts) w)
-readInto t h w (faulty D a) = leaves a (baseState 0) t h (cleared D w)
+readInto t h w (faulty D a) = leaves a zeros t h (cleared D w)
 
 unfoldable pub read : List ℕ → List ℕ → List ℕ → List ℕ → After
 read b t h w = readInto t h w (readFile (room (length t) (length h) (length w)) b)

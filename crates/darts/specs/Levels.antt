@@ -16,7 +16,7 @@ use Rattle.darts.specs.Answers.{tooManyLevels, noLevel}
 use Rattle.darts.specs.Map.{successor, survives}
 use Rattle.darts.specs.Operation.{removal, lead, wholeEdge, operate, number, undone}
 use Rattle.darts.specs.Kernel.{rising, Run, stands}
-use Rattle.darts.specs.State.{State, Result, gives, refuses, andThen, levelled}
+use Rattle.darts.specs.State.{State, storing, Result, gives, refuses, andThen, levelled}
 
 -- "an empty loop (r = q or s = p)"
 unfoldable pub emptyLoop : List ℕ → ℕ → Bool
@@ -45,19 +45,15 @@ sweep s t past =
 unfoldable pub endBelow : State → ℕ
 endBelow s = if leb (s .levels) 1 then 0 else getD (s .ends) (s .levels - 2) 0
 
-unfoldable pub lowered : State → State
-lowered s = record {
-  darts = s .darts;
-  operations = endBelow s;
-  levels = s .levels - 1;
-  ends = set (s .ends) (s .levels - 1) 0;
-}
+unfoldable pub lowered : State → List ℕ → List ℕ → State
+lowered s t past = storing (s .darts) (endBelow s) (s .levels - 1) (set (s .ends) (s .levels - 1) 0) t past
 
 -- "undo one level", refused "at the base"
 unfoldable pub undoLevel : State → List ℕ → List ℕ → Result
 undoLevel s t past =
     let n : ℕ = s .operations - endBelow s in
-    if eqb (s .levels) 0 then refuses (noLevel 0) else gives (lowered s) (undone (s .darts) n t past) (drop n past)
+    let u : List ℕ = undone (s .darts) n t past in
+    if eqb (s .levels) 0 then refuses (noLevel 0) else gives (lowered s u (drop n past)) u (drop n past)
 
 unfoldable pub undoLevels : ℕ → State → List ℕ → List ℕ → Result
 undoLevels zero s t past = gives s t past

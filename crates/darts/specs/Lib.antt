@@ -15,7 +15,6 @@ pub mod File
 pub mod Scan
 pub mod Read
 pub mod Calls
-pub mod Stored
 pub mod Moves
 pub mod Worked
 pub mod WorkedLent

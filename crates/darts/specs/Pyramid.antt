@@ -37,7 +37,7 @@ pub record Pyramid (s : State) (t past : List ℕ) : Type 0 where
   pub size : length base ≡ s .darts
   pub permutation : permutationTest (s .darts) base ≡ permutes
   pub kernels : List Kernel
-  pub built : build (baseState (s .darts)) base [] kernels ≡ gives s t past
+  pub built : build (baseState (s .darts) base) base [] kernels ≡ gives s t past
 
 -- the kernel whose history numbers these are: its kind is its first operation's
 unfoldable pub kernelOf : List ℕ → Kernel
@@ -61,7 +61,8 @@ sameNumbers (x ∷ xs) (y ∷ ys) = eqb x y && sameNumbers xs ys
 unfoldable pub sameState : State → State → Bool
 sameState s z =
     eqb (s .darts) (z .darts) && (eqb (s .operations) (z .operations)
-    && (eqb (s .levels) (z .levels) && sameNumbers (s .ends) (z .ends)))
+    && (eqb (s .levels) (z .levels) && (sameNumbers (s .ends) (z .ends)
+    && (eqb (s .vertices) (z .vertices) && eqb (s .faces) (z .faces)))))
 
 -- a result gives exactly this state, table and past
 unfoldable pub isExactly : State → List ℕ → List ℕ → Result → Bool
@@ -74,4 +75,4 @@ isPyramid s t past =
     let D : ℕ = s .darts in
     let base : List ℕ = undone D (length past) t past in
     dartCount D && (eqb (length base) D && (passed (permutationTest D base)
-    && isExactly s t past (build (baseState D) base [] (kernelsOf s past))))
+    && isExactly s t past (build (baseState D base) base [] (kernelsOf s past))))

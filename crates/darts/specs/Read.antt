@@ -2,7 +2,7 @@
 --   Opening            == the first two lines: F and D
 --   KernelLine         == a kind and a count of operations
 --   Body               == the kernel lines, and the numbers of the pairs
---   fileState D ks     == the state that the kernel lines state
+--   fileState D ks t past == the state that the kernel lines state, over this table and past
 --   fileHistory ks     == the history numbers of the kernel lines
 --   Read               == the bytes mean a state, a table and a past, or they are faulty with an answer; D then, 0 where it is not known
 --   readFile room b    == the meaning of the bytes b, where room says for how many darts the lent slices are long enough
@@ -14,7 +14,7 @@ use lib.ListN.{length, replicate}
 use Rattle.darts.specs.Choose.{if_then_else_}
 use Rattle.darts.specs.Answers.{Answer, noDartCount, tooShort, noPyramid, emptyKernel, tooManyLevels, noFile, noFlag}
 use Rattle.darts.specs.Operation.{Kind, contraction, removal, number}
-use Rattle.darts.specs.State.{State}
+use Rattle.darts.specs.State.{State, storing}
 use Rattle.darts.specs.Pyramid.{dartCount, isPyramid}
 use Rattle.darts.specs.Text.{bytes}
 use Rattle.darts.specs.File.{lineFeed, kindWord}
@@ -95,13 +95,8 @@ unfoldable pub total : List KernelLine → ℕ
 total [] = 0
 total (k ∷ ks) = k .count + total ks
 
-unfoldable pub fileState : ℕ → List KernelLine → State
-fileState D ks = record {
-  darts = D;
-  operations = total ks;
-  levels = length ks;
-  ends = endsFrom 0 ks ++ replicate (64 - length ks) 0;
-}
+unfoldable pub fileState : ℕ → List KernelLine → List ℕ → List ℕ → State
+fileState D ks t past = storing D (total ks) (length ks) (endsFrom 0 ks ++ replicate (64 - length ks) 0) t past
 
 -- "Operation t read back has p = 2t-2.": the numbers of n operations of kind k, from t = i + 1 on
 unfoldable pub numbersFrom : Kind → ℕ → ℕ → List ℕ
@@ -123,9 +118,9 @@ pub data Read : Type 0 where
 unfoldable pub closed : Opening → Scan Body → Read
 closed o (fault a) = faulty (o .darts) a
 closed o (found c at) =
-    let s : State = fileState (o .darts) (c .kernels) in
     let t : List ℕ = map (fromFlag (o .flag) (o .darts)) (c .numbers) in
     let past : List ℕ = reverse (fileHistory (c .kernels)) in
+    let s : State = fileState (o .darts) (c .kernels) t past in
     if isPyramid s t past then means s t past else faulty (o .darts) noPyramid
 
 -- "Values are judged when their line has ended: D (1, then 2)". The reader "writes nothing if it stops before D is known".

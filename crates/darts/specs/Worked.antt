@@ -53,7 +53,7 @@ pub data Row : Type 0 where
   sides : List ℕ → ℕ → Bool → Bool → Row
 
 -- slices of the lengths that D darts want, rubbish in the work area
-abbrev started : List ℕ → After
+abbrev pub started : List ℕ → After
 started t = start (length t) t (replicate (length t / 2) 0) (replicate (4 * length t) 9)
 
 abbrev pub stepped : Step → After → After
@@ -63,7 +63,7 @@ stepped bySweep a = sweepBy (a .state) (a .table) (a .history) (a .work)
 stepped byUndo a = undoBy (a .state) (a .table) (a .history) (a .work)
 stepped (toLevel k) a = unfoldBy k (a .state) (a .table) (a .history) (a .work)
 
-abbrev steps : List Step → After → After
+abbrev pub steps : List Step → After → After
 steps [] a = a
 steps (s ∷ ss) a = steps ss (stepped s a)
 
@@ -97,7 +97,7 @@ isWritten f a =
     let w : Written = write (a .state) (a .table) (a .history) (a .work) (replicate 200 0) in
     answers 0 (length (bytes f)) (w .answer) && sameNumbers (w .output) (over (bytes f) (replicate 200 0))
 
-abbrev reading : String → After
+abbrev pub reading : String → After
 reading f = read (bytes f) (replicate 8 9) (replicate 4 9) (replicate 32 9)
 
 abbrev right : Row → Bool

@@ -10,7 +10,7 @@ use Prim.Native.Nat.{ℕ}
 use Prim.Native.String.{String}
 use lib.Dec.{eqb}
 use lib.IntN.{ℤ, pos}
-use lib.ListN.{replicate}
+use lib.ListN.{replicate, take}
 use Rattle.permutations.specs.Partner.{partner}
 use Rattle.permutations.specs.Cycle.{meetsIn}
 use Rattle.darts.specs.Answers.{answered}
@@ -47,7 +47,7 @@ slicesAre t h w a = sameNumbers (a .table) t && (sameNumbers (a .history) h && s
 abbrev right : Row → Bool
 right (starts D t h w n p s d u g v) =
     let a : After = start D t h w in
-    answersBoth n p s (a .answer) && (sameState (a .state) (baseState d) && slicesAre u g v a)
+    answersBoth n p s (a .answer) && (sameState (a .state) (baseState d (take d t)) && slicesAre u g v a)
 right (calls s t h w step n p z u g v) =
     let a : After = stepped step (record { answer = answered 0 0; state = s; table = t; history = h; work = w }) in
     answers n p (a .answer) && (sameState (a .state) z && slicesAre u g v a)
@@ -82,7 +82,7 @@ zeroed = replicate 16 0 ++ (7 ∷ [])
 
 -- the state after one operation and one level
 abbrev one : State
-one = record { darts = 4; operations = 1; levels = 1; ends = 1 ∷ replicate 63 0 }
+one = record { darts = 4; operations = 1; levels = 1; ends = 1 ∷ replicate 63 0; vertices = 2; faces = 1 }
 
 -- the file of L swept: the loop is its edge 0
 abbrev swept-file : String
@@ -104,9 +104,9 @@ lentTable =
     ∷ starts 3 (1 ∷ 1 ∷ []) [] [] 1 0 0 0 (1 ∷ 1 ∷ []) [] []
     ∷ starts 4 (1 ∷ 1 ∷ 1 ∷ 1 ∷ []) (8 ∷ []) (sevens 16) 2 0 0 0 (1 ∷ 1 ∷ 1 ∷ 1 ∷ []) (8 ∷ []) (sevens 16)
     -- a new operation alters the history at its own place, and nothing past D
-    ∷ calls (baseState 4) (behind L) (8 ∷ 8 ∷ 8 ∷ []) (sevens 17) bySweep 0 0 one (behind (1 ∷ 2 ∷ 2 ∷ 3 ∷ [])) (0 ∷ 8 ∷ 8 ∷ []) zeroed
+    ∷ calls (baseState 4 L) (behind L) (8 ∷ 8 ∷ 8 ∷ []) (sevens 17) bySweep 0 0 one (behind (1 ∷ 2 ∷ 2 ∷ 3 ∷ [])) (0 ∷ 8 ∷ 8 ∷ []) zeroed
     -- undo alters none of it: "History past the count is not looked at and never altered except by a new operation."
-    ∷ calls one (behind (1 ∷ 2 ∷ 2 ∷ 3 ∷ [])) (0 ∷ 8 ∷ 8 ∷ []) (sevens 17) byUndo 0 0 (baseState 4) (behind L) (0 ∷ 8 ∷ 8 ∷ []) zeroed
+    ∷ calls one (behind (1 ∷ 2 ∷ 2 ∷ 3 ∷ [])) (0 ∷ 8 ∷ 8 ∷ []) (sevens 17) byUndo 0 0 (baseState 4 L) (behind L) (0 ∷ 8 ∷ 8 ∷ []) zeroed
     ∷ calls one (behind (1 ∷ 2 ∷ 2 ∷ 3 ∷ [])) (0 ∷ 8 ∷ 8 ∷ []) (sevens 17) (toLevel 1) 0 0 one (behind (1 ∷ 2 ∷ 2 ∷ 3 ∷ [])) (0 ∷ 8 ∷ 8 ∷ []) zeroed
     -- "A refusal changes nothing but the work area": 12, 8, 5 and 4; and 2, which leaves the work area too, before 4
     ∷ calls one (behind (1 ∷ 2 ∷ 2 ∷ 3 ∷ [])) (0 ∷ 8 ∷ 8 ∷ []) (sevens 17) (toLevel 2) 12 1 one (behind (1 ∷ 2 ∷ 2 ∷ 3 ∷ [])) (0 ∷ 8 ∷ 8 ∷ []) zeroed

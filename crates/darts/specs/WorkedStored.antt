@@ -16,7 +16,7 @@ use Rattle.permutations.specs.Cycle.{meetsIn}
 use Rattle.darts.specs.Map.{successor, faceNext, sameVertex, sameFace, gone, survives, beforeIn, before, repeats, culprit, testFrom, permutationTest}
 use Rattle.darts.specs.Operation.{contraction, removal, turned, lead, wholeEdge, remove, contract, operate, number, kindOf, leadOf, edgeOf, putBack, undoOne, undone}
 use Rattle.darts.specs.Kernel.{shared, judge, rising, passFrom, pass, run}
-use Rattle.darts.specs.State.{State, baseState, raised, levelled, reduce}
+use Rattle.darts.specs.State.{State, zeros, baseState, raised, levelled, reduce}
 use Rattle.darts.specs.Levels.{emptyLoop, takes, sweptFrom, swept, sweep, endBelow, lowered, undoLevel, undoLevels, unfoldTo}
 use Rattle.darts.specs.Pyramid.{dartCount, build, kernelOf, cut, kernelsOf, sameNumbers, sameState, isExactly, isPyramid}
 use Rattle.darts.specs.Counts.{neverBelow, lowest, cycles, surviving, countsOf}
@@ -24,10 +24,9 @@ use Rattle.darts.specs.Text.{bytes, digits, decimal}
 use Rattle.darts.specs.File.{taken, survivors, fileOrder, placeIn, fileNumber, fileTable, kindWord, kernelLine, kernelLines, pairLines, fileOf}
 use Rattle.darts.specs.Scan.{byteAt, word, isDigit, numberOn, numberAt, field}
 use Rattle.darts.specs.Read.{flagAt, opening, kernelOfKind, kernelAt, kernelsAt, pairsAt, endAt, body, fromFlag, endsFrom, total, fileState, numbersFrom, historyFrom, fileHistory, closed, opened, readFile}
-use Rattle.darts.specs.Calls.{Written, room, fitting, tableOf, pastOf, cleared, workAfter, judged, begins, start, handsBack, onState, reduceBy, sweepBy, undoBy, unfoldBy, counts, readInto, read, write}
+use Rattle.darts.specs.Calls.{After, Written, leaves, room, fitting, tableOf, pastOf, cleared, workAfter, judged, begins, start, handsBack, onState, reduceBy, sweepBy, undoBy, unfoldBy, counts, readInto, read, write}
 use Rattle.slices.specs.Over.{over}
-use Rattle.darts.specs.Stored.{Stored, AfterStored, storing, stores, leavesStored, numbered, judgedStored, onStored, startStored, reduceStored, sweepStored, undoStored, unfoldStored, countsStored, readStored, writeStored}
-use Rattle.darts.specs.Worked.{Step, byContracting, byRemoving, bySweep, byUndo, toLevel, answers, countsAre, T, K5, K7, K12, fromOne}
+use Rattle.darts.specs.Worked.{Step, started, stepped, steps, reading, byContracting, byRemoving, bySweep, byUndo, toLevel, answers, countsAre, T, K5, K7, K12, fromOne}
 
 pub data Row : Type 0 where
   -- start from a table, some steps: the last one's number, operations and levels, and the vertices and faces that the state handed back stores
@@ -43,53 +42,33 @@ pub data Row : Type 0 where
   -- start, some steps, then these vertices and faces stored in the state: no call takes it for a pyramid
   wrong : List ℕ → List Step → ℕ → ℕ → Row
   -- a state whose numbers are wrong too, and slices of these lengths: every call answers this number before it looks at them
-  earlier : Stored → ℕ → ℕ → ℕ → ℕ → Row
-
--- ---- the calls
-
--- slices of the lengths that D darts want, rubbish in the work area
-abbrev started : List ℕ → AfterStored
-started t = startStored (length t) t (replicate (length t / 2) 0) (replicate (4 * length t) 9)
-
-abbrev stepped : Step → AfterStored → AfterStored
-stepped (byContracting es) a = reduceStored contraction es (a .state) (a .table) (a .history) (a .work)
-stepped (byRemoving es) a = reduceStored removal es (a .state) (a .table) (a .history) (a .work)
-stepped bySweep a = sweepStored (a .state) (a .table) (a .history) (a .work)
-stepped byUndo a = undoStored (a .state) (a .table) (a .history) (a .work)
-stepped (toLevel k) a = unfoldStored k (a .state) (a .table) (a .history) (a .work)
-
-abbrev steps : List Step → AfterStored → AfterStored
-steps [] a = a
-steps (s ∷ ss) a = steps ss (stepped s a)
-
-abbrev reading : String → AfterStored
-reading f = readStored (bytes f) (replicate 8 9) (replicate 4 9) (replicate 32 9)
+  earlier : State → ℕ → ℕ → ℕ → ℕ → Row
 
 -- what a call leaves, with other numbers stored in its state, and rubbish in the work area
-abbrev misstored : ℕ → ℕ → AfterStored → AfterStored
+abbrev misnumbered : ℕ → ℕ → State → State
+misnumbered v f s = record { darts = s .darts; operations = s .operations; levels = s .levels; ends = s .ends; vertices = v; faces = f }
+
+abbrev misstored : ℕ → ℕ → After → After
 misstored v f a =
-    leavesStored (a .answer) (record { state = a .state .state; vertices = v; faces = f }) (a .table) (a .history) (replicate (length (a .work)) 9)
+    leaves (a .answer) (misnumbered v f (a .state)) (a .table) (a .history) (replicate (length (a .work)) 9)
 
 -- ---- what a row says
 
-abbrev numbersAre : ℕ → ℕ → Stored → Bool
+abbrev numbersAre : ℕ → ℕ → State → Bool
 numbersAre v f S = eqb (S .vertices) v && eqb (S .faces) f
 
-abbrev sameStored : Stored → Stored → Bool
-sameStored S Z = sameState (S .state) (Z .state) && numbersAre (Z .vertices) (Z .faces) S
-
 -- the number is answered; state, table and history are as they were given, and the work area is w
-abbrev refusedWith : ℕ → List ℕ → AfterStored → AfterStored → Bool
+abbrev refusedWith : ℕ → List ℕ → After → After → Bool
 refusedWith n w a b =
     answers n 0 (b .answer)
-    && (sameStored (b .state) (a .state)
+    && (sameState (b .state) (a .state)
     && (sameNumbers (b .table) (a .table) && (sameNumbers (b .history) (a .history) && sameNumbers (b .work) w)))
 
-abbrev writing : AfterStored → Written
-writing a = writeStored (a .state) (a .table) (a .history) (a .work) (replicate 3 9)
+abbrev writing : After → Written
+writing a = write (a .state) (a .table) (a .history) (a .work) (replicate 3 9)
 
 -- each of the calls on a state; none looks at its kernel, its level or its output before
-abbrev allRefused : ℕ → List ℕ → AfterStored → Bool
+abbrev allRefused : ℕ → List ℕ → After → Bool
 allRefused n w a =
     refusedWith n w a (stepped (byContracting (3 ∷ [])) a)
     && (refusedWith n w a (stepped (byRemoving []) a)
@@ -97,32 +76,32 @@ allRefused n w a =
     && (refusedWith n w a (stepped byUndo a)
     && (refusedWith n w a (stepped (toLevel 0) a)
     && (refusedWith n w a (stepped (toLevel 9) a)
-    && (countsAre n 0 0 0 (pos 0) (countsStored (a .state) (a .table) (a .history) (a .work))
+    && (countsAre n 0 0 0 (pos 0) (counts (a .state) (a .table) (a .history) (a .work))
     && (answers n 0 (writing a .answer) && sameNumbers (writing a .output) (replicate 3 9))))))))
 
-abbrev isWritten : String → AfterStored → Bool
+abbrev isWritten : String → After → Bool
 isWritten f a =
-    let w : Written = writeStored (a .state) (a .table) (a .history) (a .work) (replicate 200 0) in
+    let w : Written = write (a .state) (a .table) (a .history) (a .work) (replicate 200 0) in
     answers 0 (length (bytes f)) (w .answer) && sameNumbers (w .output) (over (bytes f) (replicate 200 0))
 
 abbrev right : Row → Bool
 right (keeps t ss n o l v f) =
-    let a : AfterStored = steps ss (started t) in
-    eqb (a .answer .number) n && (eqb (a .state .state .operations) o && (eqb (a .state .state .levels) l && numbersAre v f (a .state)))
+    let a : After = steps ss (started t) in
+    eqb (a .answer .number) n && (eqb (a .state .operations) o && (eqb (a .state .levels) l && numbersAre v f (a .state)))
 right (shows t ss d v f x) =
-    let a : AfterStored = steps ss (started t) in
-    numbersAre v f (a .state) && countsAre 0 d v f x (countsStored (a .state) (a .table) (a .history) (a .work))
+    let a : After = steps ss (started t) in
+    numbersAre v f (a .state) && countsAre 0 d v f x (counts (a .state) (a .table) (a .history) (a .work))
 right (reads b k v f) =
-    let a : AfterStored = stepped (toLevel k) (reading b) in
+    let a : After = stepped (toLevel k) (reading b) in
     answers 0 0 (a .answer) && numbersAre v f (a .state)
 right (refusesFile b n) =
-    let a : AfterStored = reading b in
-    eqb (a .answer .number) n && sameStored (a .state) (record { state = baseState 0; vertices = 0; faces = 0 })
+    let a : After = reading b in
+    eqb (a .answer .number) n && sameState (a .state) zeros
 right (writes t ss f) = isWritten f (steps ss (started t))
 right (wrong t ss v f) =
-    let a : AfterStored = misstored v f (steps ss (started t)) in
+    let a : After = misstored v f (steps ss (started t)) in
     allRefused 4 (replicate (length (a .work)) 0) a
-right (earlier S t h w n) = allRefused n (replicate w 9) (leavesStored (record { number = 0; place = 0; second = 0 }) S (replicate t 9) (replicate h 9) (replicate w 9))
+right (earlier S t h w n) = allRefused n (replicate w 9) (leaves (record { number = 0; place = 0; second = 0 }) S (replicate t 9) (replicate h 9) (replicate w 9))
 
 abbrev allRight : List Row → Bool
 allRight [] = true
@@ -135,8 +114,8 @@ abbrev torus : List ℕ
 torus = 2 ∷ 3 ∷ 1 ∷ 0 ∷ []
 
 -- D darts at the base, with numbers that no cycles give
-abbrev base : ℕ → Stored
-base D = record { state = baseState D; vertices = 5; faces = 1 }
+abbrev base : ℕ → State
+base D = misnumbered 5 1 (baseState D [])
 
 abbrev pub storedTable : List Row
 storedTable =
@@ -214,5 +193,5 @@ storedTable =
     ∷ []
 
 pub stored-worked : allRight storedTable ≡ true
-unfolding partner meetsIn successor faceNext sameVertex sameFace gone survives beforeIn before repeats culprit testFrom permutationTest turned lead wholeEdge remove contract operate number kindOf leadOf edgeOf putBack undoOne undone shared judge passFrom pass run raised levelled reduce emptyLoop takes rising sweptFrom swept sweep endBelow lowered undoLevel undoLevels unfoldTo dartCount build kernelOf cut kernelsOf sameNumbers sameState isExactly isPyramid neverBelow lowest cycles surviving countsOf digits decimal taken survivors fileOrder placeIn fileNumber fileTable kindWord kernelLine kernelLines pairLines fileOf byteAt word isDigit numberOn numberAt field flagAt opening kernelOfKind kernelAt kernelsAt pairsAt endAt body fromFlag endsFrom total fileState numbersFrom historyFrom fileHistory closed opened readFile room fitting tableOf pastOf over cleared workAfter judged begins start handsBack onState reduceBy sweepBy undoBy unfoldBy counts readInto read write storing stores numbered judgedStored onStored startStored reduceStored sweepStored undoStored unfoldStored countsStored readStored writeStored
+unfolding partner meetsIn successor faceNext sameVertex sameFace gone survives beforeIn before repeats culprit testFrom permutationTest turned lead wholeEdge remove contract operate number kindOf leadOf edgeOf putBack undoOne undone shared judge passFrom pass run raised levelled reduce emptyLoop takes rising sweptFrom swept sweep endBelow lowered undoLevel undoLevels unfoldTo dartCount build kernelOf cut kernelsOf sameNumbers sameState isExactly isPyramid neverBelow lowest cycles surviving countsOf digits decimal taken survivors fileOrder placeIn fileNumber fileTable kindWord kernelLine kernelLines pairLines fileOf byteAt word isDigit numberOn numberAt field flagAt opening kernelOfKind kernelAt kernelsAt pairsAt endAt body fromFlag endsFrom total fileState numbersFrom historyFrom fileHistory closed opened readFile room fitting tableOf pastOf over cleared workAfter judged begins start handsBack onState reduceBy sweepBy undoBy unfoldBy counts readInto read write
 stored-worked = refl

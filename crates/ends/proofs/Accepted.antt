@@ -121,7 +121,7 @@ comes-ended {D} {t} {ends} size C = record {
     ks = C .kernels
 
     fresh : Fresh D [] (operationsOf ks)
-    fresh = done-distinct (operationsOf ks) (kernels-done (baseState D) t [] ks (C .built))
+    fresh = done-distinct (operationsOf ks) (kernels-done (baseState D t) t [] ks (C .built))
 
     inside : (e : ℕ) → T (has (edgesOf ks) e) → e < D / 2
     inside e h = fresh .1 e (subst (λ l. T (has l e)) (sym (kernels-edges ks)) h) .0

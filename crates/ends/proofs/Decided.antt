@@ -49,11 +49,11 @@ stands-accepted e = rw e tt
 
 module _ {D : ℕ} {t ends : List ℕ} (size : length ends ≡ D / 2) (C : Comes D t ends) where
   some : NoneEmpty (C .kernels)
-  some = built-some (baseState D) t [] (C .kernels) (C .built)
+  some = built-some (baseState D t) t [] (C .kernels) (C .built)
 
   few : length (C .kernels) ≤ 64
   few =
-      let B = built (base-stands D t (C .count) (C .size) (C .permutation)) (layered-base D) (C .kernels) (C .built) in
+      let B = built (base-stands D t (C .count) (C .size) (C .permutation)) (layered-base D t) (record { vertices = refl; faces = refl }) (C .kernels) (C .built) in
       let h = B .height in
       let m = B .layered .most in
       omega arith
@@ -62,7 +62,7 @@ module _ {D : ℕ} {t ends : List ℕ} (size : length ends ≡ D / 2) (C : Comes
   unfolding comes
   comes-yes =
       let E = comes-ended size C in
-      let listed = kernels-listed (baseState D) t [] (C .kernels) (C .built) in
+      let listed = kernels-listed (baseState D t) t [] (C .kernels) (C .built) in
       let A = other-order D t (C .count) (C .size) (C .permutation) (operationsOf (C .kernels)) listed (operations ends)
       (same-operations ends (ended-told E) (operations-told ends)) in
       let run : Run = oneByOne D t [] (operations ends) in

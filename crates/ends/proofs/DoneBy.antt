@@ -46,12 +46,12 @@ perm-length (List·Permᴰ·trans c d) = perm-length c ∙ perm-length d
 
 module _ (D : ℕ) (t ends : List ℕ) (size : length ends ≡ D / 2) (low high : List Kernel)
     (told : (e : ℕ) → e < D / 2 → T (endsSo (getD ends e 0) (endIn 1 (low ++ high) e)))
-    {z : State} {u new : List ℕ} (built : build (baseState D) t [] low ≡ gives z u new) where
+    {z : State} {u new : List ℕ} (built : build (baseState D t) t [] low ≡ gives z u new) where
   abbrev os : List Operation
   os = operationsOf low
 
   fresh : Fresh D [] os
-  fresh = done-distinct os (kernels-done (baseState D) t [] low built)
+  fresh = done-distinct os (kernels-done (baseState D t) t [] low built)
 
   -- an edge of these operations is one that ends by their level
   edge-by : (e : ℕ) → e < D / 2 → has (edges os) e ≡ endsBy (length low) (getD ends e 0)
@@ -67,7 +67,7 @@ module _ (D : ℕ) (t ends : List ℕ) (size : length ends ≡ D / 2) (low high 
 
   level-count : length new ≡ doneBy (length low) ends
   level-count =
-      let longer = told-longer (done-told os (kernels-done (baseState D) t [] low built)) in
+      let longer = told-longer (done-told os (kernels-done (baseState D t) t [] low built)) in
       let mapped : length (edges os) ≡ length os = length-map os _ in
       let same = perm-length (same-members (edges os) (picked (endsBy (length low)) 0 ends) (fresh .0) (distinct-picked (endsBy (length low)) 0 ends) same-edges) in
       let counted = done-picked (length low) 0 ends in

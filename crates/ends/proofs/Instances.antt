@@ -21,6 +21,7 @@ use Rattle.darts.specs.Operation.{contraction, removal, turned, lead, wholeEdge
 use Rattle.darts.specs.Kernel.{shared, judge, rising, passFrom, pass, run}
 use Rattle.darts.specs.State.{State, baseState, gives, raised, levelled, reduce}
 use Rattle.darts.specs.Levels.{endBelow, lowered, undoLevel, undoLevels, unfoldTo}
+use Rattle.darts.specs.Counts.{neverBelow, lowest, cycles, countsOf}
 use Rattle.darts.specs.Pyramid.{Kernel, Pyramid, dartCount, build, kernelOf, cut, kernelsOf}
 use Rattle.darts.specs.OneByOne.{oneByOne}
 use Rattle.darts.specs.Tests.{sameKind}
@@ -40,13 +41,13 @@ abbrev kernels : List Kernel
 kernels = record { kind = contraction; edges = 0 ∷ 1 ∷ [] } ∷ record { kind = removal; edges = 2 ∷ [] } ∷ []
 
 abbrev top-state : State
-top-state = record { darts = 8; operations = 3; levels = 2; ends = 2 ∷ 3 ∷ replicate 62 0 }
+top-state = record { darts = 8; operations = 3; levels = 2; ends = 2 ∷ 3 ∷ replicate 62 0; vertices = 2; faces = 1 }
 
 abbrev top-past : List ℕ
 top-past = 10 ∷ 5 ∷ 1 ∷ []
 
-built : build (baseState 8) triangle [] kernels ≡ gives top-state k7-table top-past
-unfolding partner meetsIn successor faceNext sameVertex sameFace gone survives beforeIn before turned lead wholeEdge remove contract operate number shared judge passFrom pass run raised levelled reduce build
+built : build (baseState 8 triangle) triangle [] kernels ≡ gives top-state k7-table top-past
+unfolding partner meetsIn successor faceNext sameVertex sameFace gone survives beforeIn before turned lead wholeEdge remove contract operate number shared judge passFrom pass run raised levelled reduce build neverBelow lowest cycles countsOf
 built = refl
 
 abbrev k12 : Pyramid top-state k7-table top-past
@@ -77,7 +78,7 @@ unfolding unfoldTo undoLevels
 to-2 = refl
 
 to-1 : unfoldTo 1 top-state k7-table top-past ≡ gives k5-state k5-table k5-past
-unfolding partner successor gone survives beforeIn before kindOf leadOf putBack undoOne undone endBelow lowered undoLevel undoLevels unfoldTo
+unfolding partner successor gone survives beforeIn before kindOf leadOf putBack undoOne undone endBelow lowered undoLevel undoLevels unfoldTo faceNext neverBelow lowest cycles countsOf
 to-1 = refl
 
 -- the claim, and what it says by computation: as many darts are passed as it allows

@@ -70,7 +70,7 @@ darts-count (o ∷ os) = let r = darts-count os in omega arith
 
 module _ (D : ℕ) (t ends : List ℕ) (count : T (dartCount D)) (size : length t ≡ D) (permutation : permutationTest D t ≡ permutes)
     (low high : List Kernel) (told : (e : ℕ) → e < D / 2 → T (endsSo (getD ends e 0) (endIn 1 (low ++ high) e)))
-    {z : State} {u new : List ℕ} (built : build (baseState D) t [] low ≡ gives z u new) where
+    {z : State} {u new : List ℕ} (built : build (baseState D t) t [] low ≡ gives z u new) where
   abbrev os : List Operation
   os = operationsOf low
 
@@ -84,7 +84,7 @@ module _ (D : ℕ) (t ends : List ℕ) (count : T (dartCount D)) (size : length 
   S = base-stands D t count size permutation
 
   R : Ran D t [] os u new
-  R = ran S os (kernels-done (baseState D) t [] low built)
+  R = ran S os (kernels-done (baseState D t) t [] low built)
 
   half : (x : ℕ) → x < D → x / 2 < D / 2
   half x h = let e = S .even in omega arith
@@ -149,7 +149,7 @@ module _ (D : ℕ) (t ends : List ℕ) (count : T (dartCount D)) (size : length 
   few =
       let P = built-pyramid D t count size permutation low built in
       let n = pyramid-room P in
-      let same = builds S (layered-base D) low built .layered .size in
+      let same = builds S (layered-base D t) (record { vertices = refl; faces = refl }) low built .layered .size in
       let longer = told-longer (R .tells) in
       omega arith
 
@@ -187,7 +187,7 @@ pub record Cut (D : ℕ) (b : List ℕ) (ks : List Kernel) (k : ℕ) (z : State)
   pub high : List Kernel
   pub whole : low ++ high ≡ ks
   pub height : length low ≡ k
-  pub built : build (baseState D) b [] low ≡ gives z u new
+  pub built : build (baseState D b) b [] low ≡ gives z u new
 
 unfold-reached : (s : State) (t past : List ℕ) (k : ℕ) {z : State} {u new : List ℕ} → unfoldTo k s t past ≡ gives z u new → k ≤ s .levels
 unfolding unfoldTo
@@ -198,10 +198,10 @@ unfold-reached s t past k e = go (ltb (s .levels) k) refl
     go false h = nltb→le (s .levels) k (rw h tt)
 
 module _ (D : ℕ) (b : List ℕ) (count : T (dartCount D)) (size : length b ≡ D) (permutation : permutationTest D b ≡ permutes)
-    (ks : List Kernel) {s : State} {t past : List ℕ} (all : build (baseState D) b [] ks ≡ gives s t past) where
+    (ks : List Kernel) {s : State} {t past : List ℕ} (all : build (baseState D b) b [] ks ≡ gives s t past) where
   -- the top is the number of kernels
   pub top-kernels : s .levels ≡ length ks
-  top-kernels = let h = builds (base-stands D b count size permutation) (layered-base D) ks all .height in omega arith
+  top-kernels = let h = builds (base-stands D b count size permutation) (layered-base D b) (record { vertices = refl; faces = refl }) ks all .height in omega arith
 
   -- WHAT UNFOLDING TO LEVEL k GIVES, THE KERNELS UP TO THERE GIVE
   pub unfold-cut : (k : ℕ) {z : State} {u new : List ℕ} → unfoldTo k s t past ≡ gives z u new → Cut D b ks k z u new
@@ -211,10 +211,10 @@ module _ (D : ℕ) (b : List ℕ) (count : T (dartCount D)) (size : length b ≡
       let whole : low ++ high ≡ ks = take-append-drop k ks in
       let reached : k ≤ s .levels = unfold-reached s t past k e in
       let height : length low ≡ k = length-take-le k ks (let l = top-kernels in omega arith) in
-      let parts = then (build (baseState D) b [] low) (λ s t past. build s t past high)
-      (sym (build-join (baseState D) b [] low high) ∙ ap (build (baseState D) b []) whole ∙ all) in
+      let parts = then (build (baseState D b) b [] low) (λ s t past. build s t past high)
+      (sym (build-join (baseState D b) b [] low high) ∙ ap (build (baseState D b) b []) whole ∙ all) in
       let P = built-pyramid D b count size permutation low (parts .first) in
-      let levels = builds (base-stands D b count size permutation) (layered-base D) low (parts .first) .height in
+      let levels = builds (base-stands D b count size permutation) (layered-base D b) (record { vertices = refl; faces = refl }) low (parts .first) .height in
       let same : parts .state .levels ≡ k = omega arith in
       let back : unfoldTo k s t past ≡ gives (parts .state) (parts .table) (parts .past) =
       ap (λ n. unfoldTo n s t past) (sym same) ∙ unfold-returns P high (parts .next) in

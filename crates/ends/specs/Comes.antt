@@ -44,7 +44,7 @@ pub record Comes (D : ℕ) (t ends : List ℕ) : Type 0 where
   pub state : State
   pub table : List ℕ
   pub past : List ℕ
-  pub built : build (baseState D) t [] kernels ≡ gives state table past
+  pub built : build (baseState D t) t [] kernels ≡ gives state table past
   pub told : (e : ℕ) → e < D / 2 → T (endsSo (getD ends e 0) (endIn 1 kernels e))
 
 -- any order will do, so that the levels need not be built one by one

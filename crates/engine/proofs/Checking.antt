@@ -19,7 +19,7 @@ use lib.Seq.{drop-drop}
 use Rattle.permutations.specs.Choice.{true→T}
 use Rattle.darts.specs.Calls.{tableOf, pastOf}
 use Rattle.darts.specs.Pyramid.{Pyramid, isPyramid}
-use Rattle.darts.specs.State.{State}
+use Rattle.darts.specs.State.{State, counted}
 use Rattle.laws.proofs.claims.Decided.{pyramid-decided}
 use Rattle.area.specs.Area.{Room, tableIn, pastIn, tried}
 use Rattle.area.specs.Load.{loads}
@@ -36,8 +36,8 @@ use Rattle.engine.proofs.Ready.{beyond-trans}
 
 -- WHERE THE CHECK SAYS YES, IT IS A PYRAMID
 pub checked-pyramid : {s : State} {coming : ℕ} {t h w w′ : List ℕ} {r : Bool} → Checked s coming t h w w′ r → r ≡ true
-    → Pyramid s (tableOf s t) (pastOf s h)
-checked-pyramid {s} {t = t} {h = h} C e = pyramid-decided s (tableOf s t) (pastOf s h) .0 (true→T (sym (C .answer) ∙ e))
+    → Pyramid (counted s (tableOf s t) (pastOf s h)) (tableOf s t) (pastOf s h)
+checked-pyramid {s} {t = t} {h = h} C e = pyramid-decided (counted s (tableOf s t) (pastOf s h)) (tableOf s t) (pastOf s h) .0 (true→T (sym (C .answer) ∙ e))
 
 -- ---- what stands beyond the four parts
 
@@ -59,7 +59,7 @@ module _ (s : State) (coming : ℕ) (t h : List ℕ) where
   abbrev n : ℕ
   n = s .operations
 
-  refuses : {w w′ : List ℕ} → Beyond D w w′ → ¬ Pyramid s (tableOf s t) (pastOf s h) → Checked s coming t h w w′ false
+  refuses : {w w′ : List ℕ} → Beyond D w w′ → ¬ Pyramid (counted s (tableOf s t) (pastOf s h)) (tableOf s t) (pastOf s h) → Checked s coming t h w w′ false
   refuses beyond none = record {
     answer = refuted none;
     beyond = beyond;
@@ -91,7 +91,7 @@ module _ (s : State) (coming : ℕ) (t h : List ℕ) where
       loaded-area = L .area (true→T fine)
 
       module _ {b : Bool} {u : List ℕ} (δ : Decided s coming v u b) where
-        decided : b ≡ isPyramid s (tableOf s t) (pastOf s h)
+        decided : b ≡ isPyramid (counted s (tableOf s t) (pastOf s h)) (tableOf s t) (pastOf s h)
         unfolding tableOf pastOf
         decided = rw (L .table, L .past) at (δ .answer)
 
@@ -100,7 +100,7 @@ module _ (s : State) (coming : ℕ) (t h : List ℕ) where
 
         pub decide-no : b ≡ false → Checked s coming t h w u b
         decide-no e =
-            rw e (refuses u-beyond (λ P. rw (← decided, e) at (pyramid-decided s (tableOf s t) (pastOf s h) .1 P)))
+            rw e (refuses u-beyond (λ P. rw (← decided, e) at (pyramid-decided (counted s (tableOf s t) (pastOf s h)) (tableOf s t) (pastOf s h) .1 P)))
 
         -- A BASE STANDS THERE STILL
         pub decide-base : b ≡ true → n ≡ 0 → Checked s coming t h w u b

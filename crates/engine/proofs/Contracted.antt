@@ -17,7 +17,7 @@ use Rattle.darts.specs.Counts.{cycles, countsOf}
 use Rattle.darts.specs.Map.{faceNext}
 use Rattle.darts.specs.Moves.{contractionsIn}
 use Rattle.darts.specs.Pyramid.{Pyramid}
-use Rattle.darts.specs.State.{State}
+use Rattle.darts.specs.State.{State, counted}
 use Rattle.darts.specs.Tests.{shaped}
 use Rattle.laws.proofs.claims.Decided.{pyramid-decided}
 use Rattle.laws.proofs.moves.Contractions.{contractions-most, contractions-reverse}
@@ -98,8 +98,8 @@ module _ (s : State) {w u : List ℕ} (A : Area (s .darts) (s .operations) w) (L
         decided-beside (L .outside) (decided s U back fine (sym shape-u) refl (contracted-tried (all-taken s U back fine .0) none K))
 
     module _ (yes-decided : r ≡ true) {c : ℕ} (base-has : c ≡ cycles (around 1 (tableIn D v)) D [] D) where
-      pyramid : Pyramid s t past
-      pyramid = pyramid-decided s t past .0 (true→T (sym (contracted .answer) ∙ yes-decided))
+      pyramid : Pyramid (counted s t past) t past
+      pyramid = pyramid-decided (counted s t past) t past .0 (true→T (sym (contracted .answer) ∙ yes-decided))
 
       vertices : countsOf D t past .vertices + n ≡ c
       unfolding around countsOf

@@ -30,14 +30,14 @@ use Rattle.darts.specs.Map.{live}
 use Rattle.darts.specs.Operation.{contraction, removal, kindOf, undone}
 use Rattle.darts.specs.Pyramid.{Pyramid, dartCount, isPyramid}
 use Rattle.darts.specs.Moves.{contractionsIn}
-use Rattle.darts.specs.State.{State}
+use Rattle.darts.specs.State.{State, counted}
 use Rattle.darts.specs.Tests.{numbered, linked, replays, shaped}
 use Rattle.laws.proofs.claims.Decided.{pyramid-decided}
 use Rattle.laws.proofs.moves.Contractions.{contractions-reverse}
 use Rattle.laws.proofs.tests.Links.{linked-stands}
 use Rattle.laws.proofs.tests.Room.{pyramid-room}
 use Rattle.laws.specs.Standing.{Standing, mapOf}
-use Rattle.laws.proofs.tests.TestsDecide.{baseOf, Passed, passed-iff, tests-decide}
+use Rattle.laws.proofs.tests.TestsDecide.{baseOf, Passed, passed-iff, figures-decide}
 use Rattle.laws.specs.Standing.{cyclesOf}
 use Rattle.laws.proofs.tests.TopLabels.{walked, walked-decide, labels-at-top}
 use Rattle.area.specs.Area.{Room, tableIn, pastIn, Tried, tried}
@@ -66,7 +66,7 @@ module _ {s : State} {t past : List ℕ} where
   decision r i = let d = pyramid-decided s t past in T-ext r (isPyramid s t past) (λ x. d .1 (i .0 x)) (λ x. i .1 (d .0 x))
 
   pyramid-passed : Pyramid s t past → Passed (walked contraction s t past) (walked removal s t past) s t past
-  pyramid-passed P = passed-iff _ _ s t past .0 (walked-decide s t past .1 P)
+  pyramid-passed P = passed-iff _ _ s t past .0 (walked-decide s t past .1 P .0)
 
   pub pyramid-loads : Pyramid s t past → T (numbered (s .darts) past && linked (s .darts) t past)
   pyramid-loads P =
@@ -78,6 +78,11 @@ module _ {s : State} {t past : List ℕ} where
   pyramid-few P =
       let e = eqb→eq (s .operations) (length (reverse past)) (and-left (eqb (s .operations) (length (reverse past))) _ (pyramid-passed P .shape)) in
       omega (arith, e, length-reverse past, pyramid-room P)
+
+-- the tests do not look at the numbers
+counted-shaped : (s : State) (t past : List ℕ) → Pyramid (counted s t past) t past → T (shaped s (reverse past))
+unfolding shaped
+counted-shaped s t past P = pyramid-passed P .shape
 
 -- ---- labels
 
@@ -114,7 +119,7 @@ module _ (s : State) {w : List ℕ} (A : Area (s .darts) (s .operations) w) wher
   pub count : length past ≡ n
   count = past-length D n w (omega (arith, A .few, A .room .fits))
 
-  refuses : {w′ : List ℕ} → length w′ ≡ length w → drop (3 * D) w′ ≡ drop (3 * D) w → {coming : ℕ} → ¬ Pyramid s t past
+  refuses : {w′ : List ℕ} → length w′ ≡ length w → drop (3 * D) w′ ≡ drop (3 * D) w → {coming : ℕ} → ¬ Pyramid (counted s t past) t past
       → Decided s coming w w′ false
   refuses size rest none = record {
     answer = refuted none;
@@ -126,7 +131,7 @@ module _ (s : State) {w : List ℕ} (A : Area (s .darts) (s .operations) w) wher
   }
 
   pub shape-no : {a : Bool} → a ≡ shaped s hs → a ≡ false → {coming : ℕ} → Decided s coming w w false
-  shape-no told e = refuses refl refl (λ P. rw (reverse-reverse hs, ← told, e) at (pyramid-passed P .shape))
+  shape-no told e = refuses refl refl (λ P. rw (reverse-reverse hs, ← told, e) at (counted-shaped s t past P))
 
   module _ {b : Bool} {v : List ℕ} (back : tried b v ≡ backs D w n n) where
     B : AllBack D n n t past w (tried b v)
@@ -198,9 +203,9 @@ module _ (s : State) {w : List ℕ} (A : Area (s .darts) (s .operations) w) wher
         replays-both P (suc zero) b = P .vertices
         replays-both P (suc (suc k)) b = absurd (omega arith)
 
-        passes : T r ↔ Pyramid s t past
+        passes : T r ↔ Pyramid (counted s t past) t past
         passes =
-            let d = tests-decide Lv Lf s t past labelled in
+            let d = figures-decide Lv Lf s t past labelled in
             let i = passed-iff Lv Lf s t past in (
               λ x. d .0 (i .1 (passed (λ k b. rw (replay-test k b) at (M .answer .0 x k b)))),
               λ P. M .answer .1 (λ k b. rw (replay-test k b) (replays-both (i .0 (d .1 P)) k b)),
@@ -216,7 +221,7 @@ module _ (s : State) {w : List ℕ} (A : Area (s .darts) (s .operations) w) wher
           roots = λ e b.
               labels-alike
               (rw (M .grown e b .roots, ← history) (rejoined-alike coming (omega arith) (alike-refl (M .label coming)) (historyIn D n v)))
-              (labels-at-top s t past (passes .0 (true→T e)) (kindOf coming) (M .label coming) (base-labels coming b));
+              (labels-at-top (counted s t past) t past (passes .0 (true→T e)) (kindOf coming) (M .label coming) (base-labels coming b));
           kept = λ _ none. subst (λ (u : List ℕ). Outside D u w′) (v-same none) (M .outside);
         }
 

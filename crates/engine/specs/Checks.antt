@@ -16,7 +16,7 @@ use lib.Dec.{T}
 use lib.ListN.{length, drop}
 use Rattle.darts.specs.Calls.{tableOf, pastOf}
 use Rattle.darts.specs.Pyramid.{isPyramid}
-use Rattle.darts.specs.State.{State}
+use Rattle.darts.specs.State.{State, counted}
 use Rattle.forest.specs.Forest.{Falls}
 use Rattle.area.specs.Area.{tableIn, pastIn, forestIn}
 use Rattle.area.specs.Replay.{rejoined, replayed}
@@ -43,7 +43,7 @@ pub record BothTried (D n coming : ℕ) (w w′ : List ℕ) (r : Bool) : Type 0 
   pub grown : r ≡ true → coming ≤ 1 → Grown D n coming (label coming) w w′
 
 pub record Decided (s : State) (coming : ℕ) (w w′ : List ℕ) (r : Bool) : Type 0 where
-  pub answer : r ≡ isPyramid s (tableIn (s .darts) w) (pastIn (s .darts) (s .operations) w)
+  pub answer : r ≡ isPyramid (counted s (tableIn (s .darts) w) (pastIn (s .darts) (s .operations) w)) (tableIn (s .darts) w) (pastIn (s .darts) (s .operations) w)
   pub size : length w′ ≡ length w
   pub rest : drop (3 * s .darts) w′ ≡ drop (3 * s .darts) w
   pub falls : r ≡ true → coming ≤ 1 → Falls (forestIn (s .darts) w′)
@@ -52,7 +52,7 @@ pub record Decided (s : State) (coming : ℕ) (w w′ : List ℕ) (r : Bool) : T
   pub kept : r ≡ true → s .operations ≡ 0 → Outside (s .darts) w w′
 
 pub record Checked (s : State) (coming : ℕ) (t h w w′ : List ℕ) (r : Bool) : Type 0 where
-  pub answer : r ≡ isPyramid s (tableOf s t) (pastOf s h)
+  pub answer : r ≡ isPyramid (counted s (tableOf s t) (pastOf s h)) (tableOf s t) (pastOf s h)
   pub beyond : Beyond (s .darts) w w′
   pub area : r ≡ true → Area (s .darts) (s .operations) w′
   pub table : r ≡ true → tableIn (s .darts) w′ ≡ tableOf s t
@@ -60,6 +60,6 @@ pub record Checked (s : State) (coming : ℕ) (t h w w′ : List ℕ) (r : Bool)
   pub ready : r ≡ true → coming ≤ 1 → Ready (s .darts) (s .operations) coming w′
 
 pub record CheckedLaid (s : State) (w w′ : List ℕ) (r : Bool) : Type 0 where
-  pub answer : r ≡ isPyramid s (tableIn (s .darts) w) (pastIn (s .darts) (s .operations) w)
+  pub answer : r ≡ isPyramid (counted s (tableIn (s .darts) w) (pastIn (s .darts) (s .operations) w)) (tableIn (s .darts) w) (pastIn (s .darts) (s .operations) w)
   pub beyond : Beyond (s .darts) w w′
   pub history : historyIn (s .darts) (s .operations) w′ ≡ historyIn (s .darts) (s .operations) w

@@ -19,7 +19,7 @@ use Rattle.slices.proofs.Over.{over-rest}
 use Rattle.darts.specs.Answers.{done, emptyKernel}
 use Rattle.darts.specs.Operation.{contraction}
 use Rattle.darts.specs.Kernel.{stands}
-use Rattle.darts.specs.State.{State, baseState, gives, raised, levelled, reduce}
+use Rattle.darts.specs.State.{State, baseState, gives, raised, levelled, reduce, zeros}
 use Rattle.darts.specs.Pyramid.{Pyramid}
 use Rattle.darts.specs.Calls.{leaves, cleared, tableOf, pastOf, reduceBy}
 use Rattle.laws.proofs.tests.Passes.{pyramid-shaped}
@@ -42,7 +42,7 @@ abbrev pub firstEdges : Grid → List ℕ → List ℕ
 firstEdges g plan = merged (dartsOf g) (oneCode g plan) (baseTable g)
 
 -- the base of a sized grid is a pyramid
-pub plan-pyramid : (g : Grid) → Limits g → Pyramid (baseState (dartsOf g)) (baseTable g) []
+pub plan-pyramid : (g : Grid) → Limits g → Pyramid (baseState (dartsOf g) (baseTable g)) (baseTable g) []
 plan-pyramid g l = let B = plan-base g (sized-limits g .1 l) in base-pyramid (dartsOf g) (baseTable g) (B .count) (B .size) (B .permutation)
 
 empty-list : (l : List ℕ) → length l ≡ 0 → l ≡ []
@@ -61,9 +61,9 @@ module _ (g : Grid) (plan t h w : List ℕ) where
   -- "Demands 2 and 3 read the built base like any other."
   pub plan-left : planBase g plan t h w .answer .number ≡ 0 → Left D t h w (planBase g plan t h w)
   unfolding planBase begun over
-  plan-left z = go (planning g (gives (baseState D) (baseTable g) []) plan t h w)
+  plan-left z = go (planning g (gives (baseState D (baseTable g)) (baseTable g) []) plan t h w)
     where
-      go : Planning g (gives (baseState D) (baseTable g) []) plan t h w → Left D t h w (planBase g plan t h w)
+      go : Planning g (gives (baseState D (baseTable g)) (baseTable g) []) plan t h w → Left D t h w (planBase g plan t h w)
       go (outside n e) = absurd (let k : 15 ≡ 0 = rw e at z in omega arith)
       go (cramped l n e) = absurd (let k : 2 ≡ 0 = rw e at z in omega arith)
       go (begins l k e) = rw e (laid-left (plan-pyramid g l) t h w (k .lengths))
@@ -71,20 +71,20 @@ module _ (g : Grid) (plan t h w : List ℕ) where
   -- ---- the base with its first kernel
 
   pub data Ends : Type 0 where
-    level : {u past : List ℕ} → firstKernel g plan ≡ stands u past → past ≢ [] → Pyramid (raised (baseState D) (length past)) u past
-        → planAreas g plan t h w ≡ leaves done (raised (baseState D) (length past)) (over u t) (over (reverse past) h) (cleared D w) → Ends
-    none : firstEdges g plan ≡ [] → planAreas g plan t h w ≡ leaves emptyKernel (baseState 0) t h (cleared D w) → Ends
+    level : {u past : List ℕ} → firstKernel g plan ≡ stands u past → past ≢ [] → Pyramid (raised (baseState D (baseTable g)) u past) u past
+        → planAreas g plan t h w ≡ leaves done (raised (baseState D (baseTable g)) u past) (over u t) (over (reverse past) h) (cleared D w) → Ends
+    none : firstEdges g plan ≡ [] → planAreas g plan t h w ≡ leaves emptyKernel zeros t h (cleared D w) → Ends
 
   abbrev same : ℕ → Bool
   same = oneCode g plan
 
-  first-levels : levelled (baseState D) [] (firstKernel g plan) ≡ levelled (baseState D) [] (merging D same (baseTable g))
-  first-levels = ap (levelled (baseState D) []) (first-merges g plan)
+  first-levels : levelled (baseState D (baseTable g)) [] (firstKernel g plan) ≡ levelled (baseState D (baseTable g)) [] (merging D same (baseTable g))
+  first-levels = ap (levelled (baseState D (baseTable g)) []) (first-merges g plan)
 
   -- HOW THE SECOND CALL ENDS
   pub areas-ends : Limits g → Enough g (length plan) (length t) (length h) (length w) → Ends
   unfolding planAreas begun
-  areas-ends l k = go (planning g (levelled (baseState D) [] (firstKernel g plan)) plan t h w)
+  areas-ends l k = go (planning g (levelled (baseState D (baseTable g)) [] (firstKernel g plan)) plan t h w)
     where
       B : PlanBase g
       B = plan-base g (sized-limits g .1 l)
@@ -96,7 +96,7 @@ module _ (g : Grid) (plan t h w : List ℕ) where
       stood past e = merging-stands D same (baseTable g) ∙ ap (stands u) e
 
       by-past : (past : List ℕ) → merging-through D same (baseTable g) .past ≡ past
-          → planAreas g plan t h w ≡ begun D t h w (levelled (baseState D) [] (firstKernel g plan)) → Ends
+          → planAreas g plan t h w ≡ begun D t h w (levelled (baseState D (baseTable g)) [] (firstKernel g plan)) → Ends
       by-past [] p e =
           let s = stood [] p in
           none (empty-list _ (sym (merging-count D same (baseTable g) s))) (e ∙ ap (begun D t h w) (first-levels ∙ merging-refuses D same (baseTable g) s refl))
@@ -106,7 +106,7 @@ module _ (g : Grid) (plan t h w : List ℕ) where
           level (first-merges g plan ∙ s) some (merging-pyramid D same (baseTable g) s (B .count) (B .size) (B .permutation) some)
           (e ∙ ap (begun D t h w) (first-levels ∙ merging-gives D same (baseTable g) s some))
 
-      go : Planning g (levelled (baseState D) [] (firstKernel g plan)) plan t h w → Ends
+      go : Planning g (levelled (baseState D (baseTable g)) [] (firstKernel g plan)) plan t h w → Ends
       go (outside n e) = absurd (n l)
       go (cramped m n e) = absurd (n k)
       go (begins m n e) = by-past _ refl e
@@ -122,9 +122,9 @@ module _ (g : Grid) (plan t h w : List ℕ) where
 
   pub areas-built : Accepts → Built
   unfolding planAreas
-  areas-built z = go (planning g (levelled (baseState D) [] (firstKernel g plan)) plan t h w)
+  areas-built z = go (planning g (levelled (baseState D (baseTable g)) [] (firstKernel g plan)) plan t h w)
     where
-      go : Planning g (levelled (baseState D) [] (firstKernel g plan)) plan t h w → Built
+      go : Planning g (levelled (baseState D (baseTable g)) [] (firstKernel g plan)) plan t h w → Built
       go (outside n e) = absurd (let k : 15 ≡ 0 = rw e at z in omega arith)
       go (cramped l n e) = absurd (let k : 2 ≡ 0 = rw e at z in omega arith)
       go (begins l k e) = record { within = l; enough = k; ends = areas-ends l k }
@@ -165,12 +165,12 @@ module _ (g : Grid) (plan t h w : List ℕ) where
   -- ---- an ordinary kernel
 
   pub base-leaves : Limits g → Enough g (length plan) (length t) (length h) (length w)
-      → planBase g plan t h w ≡ leaves done (baseState D) (over (baseTable g) t) h (cleared D w)
+      → planBase g plan t h w ≡ leaves done (baseState D (baseTable g)) (over (baseTable g) t) h (cleared D w)
   unfolding planBase begun over
-  base-leaves l k = go (planning g (gives (baseState D) (baseTable g) []) plan t h w)
+  base-leaves l k = go (planning g (gives (baseState D (baseTable g)) (baseTable g) []) plan t h w)
     where
-      go : Planning g (gives (baseState D) (baseTable g) []) plan t h w
-          → planBase g plan t h w ≡ leaves done (baseState D) (over (baseTable g) t) h (cleared D w)
+      go : Planning g (gives (baseState D (baseTable g)) (baseTable g) []) plan t h w
+          → planBase g plan t h w ≡ leaves done (baseState D (baseTable g)) (over (baseTable g) t) h (cleared D w)
       go (outside n e) = absurd (n l)
       go (cramped m n e) = absurd (n k)
       go (begins m n e) = e
@@ -195,9 +195,9 @@ module _ (g : Grid) (plan t h w : List ℕ) where
       go l k (none n e) = absurd (let q : 5 ≡ 0 = rw e at z in omega arith)
       go l k (level {u} {past} s some P e) =
           let base = base-leaves l k in
-          let lent : Lent (baseState D) (over (baseTable g) t) h (cleared D w) = rw base at (plan-left (rw base refl) .lent) in
+          let lent : Lent (baseState D (baseTable g)) (over (baseTable g) t) h (cleared D w) = rw base at (plan-left (rw base refl) .lent) in
           let stood = sym (first-merges g plan) ∙ s in
-          let step : reduce contraction (firstEdges g plan) (baseState D) (tableOf (baseState D) (over (baseTable g) t)) [] ≡ gives (raised (baseState D) (length past)) u past
+          let step : reduce contraction (firstEdges g plan) (baseState D (baseTable g)) (tableOf (baseState D (baseTable g)) (over (baseTable g) t)) [] ≡ gives (raised (baseState D (baseTable g)) u past) u past
           = rw (laid-table (plan-pyramid g l) t h w (k .lengths)) (sym (merging-reduces D same (baseTable g)) ∙ merging-gives D same (baseTable g) stood some) in
-          let call = on-gives (reduce contraction (firstEdges g plan)) (baseState D) (over (baseTable g) t) h (cleared D w) lent step in
+          let call = on-gives (reduce contraction (firstEdges g plan)) (baseState D (baseTable g)) (over (baseTable g) t) h (cleared D w) lent step in
           rw base (e ∙ sym (rw (over-base P refl, cleared-kept D w (cleared D w) (cleared-rest D w)) at call))

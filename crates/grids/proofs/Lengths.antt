@@ -41,22 +41,22 @@ module _ (t h w : List ℕ) where
   module _ (g : Grid) (plan : List ℕ) where
     pub plan-long : AsLong t h w (planBase g plan t h w)
     unfolding planBase begun over
-    plan-long = go (planning g (gives (baseState (dartsOf g)) (baseTable g) []) plan t h w)
+    plan-long = go (planning g (gives (baseState (dartsOf g) (baseTable g)) (baseTable g) []) plan t h w)
       where
-        go : Planning g (gives (baseState (dartsOf g)) (baseTable g) []) plan t h w → AsLong t h w (planBase g plan t h w)
+        go : Planning g (gives (baseState (dartsOf g) (baseTable g)) (baseTable g) []) plan t h w → AsLong t h w (planBase g plan t h w)
         go (outside n e) = rw e same-long
         go (cramped l n e) = rw e same-long
         go (begins l k e) = rw e (laid-long (plan-pyramid g l) (k .lengths))
 
     pub areas-long : AsLong t h w (planAreas g plan t h w)
     unfolding planAreas raised
-    areas-long = go (planning g (levelled (baseState (dartsOf g)) [] (firstKernel g plan)) plan t h w)
+    areas-long = go (planning g (levelled (baseState (dartsOf g) (baseTable g)) [] (firstKernel g plan)) plan t h w)
       where
         ended : Lengths (dartsOf g) (length t) (length h) (length w) → Ends g plan t h w → AsLong t h w (planAreas g plan t h w)
         ended l (none n e) = rw e (record { table = refl; history = refl; work = cleared-length (dartsOf g) w (l .work) })
         ended l (level s some P e) = rw e (laid-long P l)
 
-        go : Planning g (levelled (baseState (dartsOf g)) [] (firstKernel g plan)) plan t h w → AsLong t h w (planAreas g plan t h w)
+        go : Planning g (levelled (baseState (dartsOf g) (baseTable g)) [] (firstKernel g plan)) plan t h w → AsLong t h w (planAreas g plan t h w)
         go (outside n e) = rw e same-long
         go (cramped l n e) = rw e same-long
         go (begins l k e) = ended (k .lengths) (areas-ends g plan t h w l k)

@@ -20,7 +20,6 @@ pub mod Planning
 pub mod Begun
 pub mod Sentences
 pub mod SecondPlace
-pub mod Numbered
 pub mod Alike
 pub mod Lengths
 pub mod Instances

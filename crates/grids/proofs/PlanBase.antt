@@ -9,7 +9,7 @@
 --   built-is-started == what the call builds is what a start with its table leaves
 use mathlib.Core.List.{List, []}
 use mathlib.Core.Logic.{_↔_}
-use mathlib.Core.Path.{_≡_, refl, sym, subst}
+use mathlib.Core.Path.{_≡_, refl, sym, subst, ap, _∙_}
 use Prim.Native.Nat.{ℕ, _+_, _*_, _/_, _%_, _≤_, _<_}
 use native.Mathlib.Omega.{arith}
 use lib.Dec.{T, leb, le→leb}
@@ -89,7 +89,7 @@ pub record PlanBase (g : Grid) : Type 0 where
   pub permutation : permutationTest (dartsOf g) (baseTable g) ≡ permutes
   pub standing : Standing (dartsOf g) (baseTable g) []
   pub accepted : (t h w : List ℕ) → Lengths (dartsOf g) (length t) (length h) (length w)
-      → start (dartsOf g) (over (baseTable g) t) h w ≡ leaves done (baseState (dartsOf g)) (over (baseTable g) t) h (cleared (dartsOf g) w)
+      → start (dartsOf g) (over (baseTable g) t) h w ≡ leaves done (baseState (dartsOf g) (baseTable g)) (over (baseTable g) t) h (cleared (dartsOf g) w)
   -- its vertices are the cells
   pub vertices : (a b : ℕ) → a < dartsOf g → b < dartsOf g → T (sameVertex (dartsOf g) (baseTable g) a b) ↔ (cellOf g a ≡ cellOf g b)
   pub cell : (d : ℕ) → d < dartsOf g → cellOf g d < cells g
@@ -116,7 +116,7 @@ module _ (g : Grid) (s : T (sized g)) where
     front : permutationTest (dartsOf g) (take (dartsOf g) (over (baseTable g) t)) ≡ permutes
     front = subst (λ n. permutationTest (dartsOf g) (take n (over (baseTable g) t)) ≡ permutes) table-size (rw (over-front (baseTable g) t) base-permutes)
 
-    start-takes : start (dartsOf g) (over (baseTable g) t) h w ≡ leaves done (baseState (dartsOf g)) (over (baseTable g) t) h (cleared (dartsOf g) w)
+    start-takes : start (dartsOf g) (over (baseTable g) t) h w ≡ leaves done (baseState (dartsOf g) (baseTable g)) (over (baseTable g) t) h (cleared (dartsOf g) w)
     start-takes = go (starting D u h w) (start-accepts D u h w (dart-count g s) lengths front)
       where
         D : ℕ
@@ -125,11 +125,14 @@ module _ (g : Grid) (s : T (sized g)) where
         u : List ℕ
         u = over (baseTable g) t
 
-        go : Starting D u h w → start D u h w .answer .number ≡ 0 → start D u h w ≡ leaves done (baseState D) u h (cleared D w)
+        whole : take D u ≡ baseTable g
+        whole = subst (λ n. take n u ≡ baseTable g) table-size (over-front (baseTable g) t)
+
+        go : Starting D u h w → start D u h w .answer .number ≡ 0 → start D u h w ≡ leaves done (baseState D (baseTable g)) u h (cleared D w)
         go (noCount c e) z = absurd (let k : 1 ≡ 0 = rw e at z in omega arith)
         go (noRoom c l e) z = absurd (let k : 2 ≡ 0 = rw e at z in omega arith)
         go (noBase c l m e) z = absurd (let k : 3 ≡ 0 = rw e at z in omega arith)
-        go (base c l m e) z = e
+        go (base c l m e) z = e ∙ ap (λ b. leaves done (baseState D b) u h (cleared D w)) whole
 
   -- THE BASE OF EVERY SIZED GRID, WHETHER IT CLOSES OR NOT
   pub plan-base : PlanBase g

@@ -11,7 +11,7 @@ use lib.Dec.{T, leb, leb→le, le→leb}
 use lib.ListN.{length}
 use Rattle.permutations.specs.Choice.{T?, T→true, nT→false, and-intro, and-left, and-right}
 use Rattle.darts.specs.Answers.{tooShort, noPlanSize}
-use Rattle.darts.specs.State.{baseState, Result}
+use Rattle.darts.specs.State.{baseState, Result, zeros}
 use Rattle.darts.specs.Calls.{leaves, room}
 use Rattle.darts.proofs.Fitting.{Lengths, room-facts, room-test}
 use Rattle.grids.specs.Grid.{Grid, sized, cells, dartsOf}
@@ -32,9 +32,9 @@ enough-iff g p t h w = (
 )
 
 pub data Planning (g : Grid) (r : Result) (plan t h w : List ℕ) : Type 0 where
-  outside : ¬ (Limits g) → onPlan g r plan t h w ≡ leaves noPlanSize (baseState 0) t h w → Planning g r plan t h w
+  outside : ¬ (Limits g) → onPlan g r plan t h w ≡ leaves noPlanSize zeros t h w → Planning g r plan t h w
   cramped : Limits g → ¬ (Enough g (length plan) (length t) (length h) (length w))
-      → onPlan g r plan t h w ≡ leaves tooShort (baseState 0) t h w → Planning g r plan t h w
+      → onPlan g r plan t h w ≡ leaves tooShort zeros t h w → Planning g r plan t h w
   begins : Limits g → Enough g (length plan) (length t) (length h) (length w)
       → onPlan g r plan t h w ≡ begun (dartsOf g) t h w r → Planning g r plan t h w
 

@@ -31,16 +31,16 @@ module _ (g : Grid) (plan t h w : List ℕ) where
       go (cramped s n e) = rw e
       go (begins s l e) = rw e (begun-second r k)
 
-  first-second : Refusing NoSecond (levelled (baseState (dartsOf g)) [] (firstKernel g plan))
+  first-second : Refusing NoSecond (levelled (baseState (dartsOf g) (baseTable g)) [] (firstKernel g plan))
   unfolding firstKernel
   first-second =
-      refusing-levelled NoSecond (λ n p h. refl) (baseState (dartsOf g)) [] _
+      refusing-levelled NoSecond (λ n p h. refl) (baseState (dartsOf g) (baseTable g)) [] _
       (pass-stops NoSecond (λ m i l h. refl) (takesFirst g plan) (dartsOf g) (baseTable g) [] (each contraction (rising 0 (edges g))))
 
   pub plan-second : planBase g plan t h w .answer .second ≡ 0
   unfolding planBase
-  plan-second = on-second (gives (baseState (dartsOf g)) (baseTable g) []) tt
+  plan-second = on-second (gives (baseState (dartsOf g) (baseTable g)) (baseTable g) []) tt
 
   pub areas-second : planAreas g plan t h w .answer .second ≡ 0
   unfolding planAreas
-  areas-second = on-second (levelled (baseState (dartsOf g)) [] (firstKernel g plan)) first-second
+  areas-second = on-second (levelled (baseState (dartsOf g) (baseTable g)) [] (firstKernel g plan)) first-second

@@ -24,7 +24,7 @@ use Rattle.darts.specs.Choose.{if_then_else_}
 use Rattle.darts.specs.Answers.{done, emptyKernel}
 use Rattle.darts.specs.Map.{gone}
 use Rattle.darts.specs.Kernel.{stands}
-use Rattle.darts.specs.State.{State, baseState, Result, gives, refuses, raised, levelled}
+use Rattle.darts.specs.State.{State, baseState, Result, gives, refuses, raised, levelled, zeros}
 use Rattle.darts.specs.Calls.{leaves, cleared}
 use Rattle.laws.proofs.sentences.Refusals.{Returned}
 use Rattle.laws.proofs.sentences.WorkArea.{Zeroed, cleared-zeroed}
@@ -82,7 +82,7 @@ module _ (g : Grid) (r : Result) (plan t h w : List ℕ) where
   begun-work (gives s u past) = refl
   begun-work (refuses a) = refl
 
-  begun-returned : (z : Result) → begun D t h w z .answer .number ≢ 0 → Returned (baseState 0) t h (begun D t h w z)
+  begun-returned : (z : Result) → begun D t h w z .answer .number ≢ 0 → Returned zeros t h (begun D t h w z)
   unfolding begun
   begun-returned (gives s u past) n = absurd (n refl)
   begun-returned (refuses a) n = record { state = refl; table = refl; history = refl }
@@ -103,10 +103,10 @@ module _ (g : Grid) (r : Result) (plan t h w : List ℕ) where
       go (cramped s n e) = rw e
       go (begins s k e) = rw e (begun-place r ∙ zero)
 
-  pub on-refused : onPlan g r plan t h w .answer .number ≢ 0 → Returned (baseState 0) t h (onPlan g r plan t h w)
+  pub on-refused : onPlan g r plan t h w .answer .number ≢ 0 → Returned zeros t h (onPlan g r plan t h w)
   on-refused = go (planning g r plan t h w)
     where
-      go : Planning g r plan t h w → onPlan g r plan t h w .answer .number ≢ 0 → Returned (baseState 0) t h (onPlan g r plan t h w)
+      go : Planning g r plan t h w → onPlan g r plan t h w .answer .number ≢ 0 → Returned zeros t h (onPlan g r plan t h w)
       go (outside m e) n = record { state = rw e; table = rw e; history = rw e }
       go (cramped s m e) n = record { state = rw e; table = rw e; history = rw e }
       go (begins s k e) n = rw e (begun-returned r (rw e at n))
@@ -137,7 +137,7 @@ module _ (g : Grid) (plan t h w : List ℕ) where
   unfolding planBase
   plan-place = on-place g _ plan t h w refl
 
-  pub plan-refused : planBase g plan t h w .answer .number ≢ 0 → Returned (baseState 0) t h (planBase g plan t h w)
+  pub plan-refused : planBase g plan t h w .answer .number ≢ 0 → Returned zeros t h (planBase g plan t h w)
   unfolding planBase
   plan-refused = on-refused g _ plan t h w
 
@@ -146,12 +146,12 @@ module _ (g : Grid) (plan t h w : List ℕ) where
   plan-area = on-area g _ plan t h w (λ e. omega arith) (λ e. omega arith)
 
   -- "Build it": the state of a base, the table's first numbers, and the history as it was
-  pub plan-gives : planBase g plan t h w .answer .number ≡ 0 → planBase g plan t h w ≡ leaves done (baseState (dartsOf g)) (over (baseTable g) t) h (cleared (dartsOf g) w)
+  pub plan-gives : planBase g plan t h w .answer .number ≡ 0 → planBase g plan t h w ≡ leaves done (baseState (dartsOf g) (baseTable g)) (over (baseTable g) t) h (cleared (dartsOf g) w)
   unfolding planBase
-  plan-gives z = go (planning g (gives (baseState (dartsOf g)) (baseTable g) []) plan t h w)
+  plan-gives z = go (planning g (gives (baseState (dartsOf g) (baseTable g)) (baseTable g) []) plan t h w)
     where
-      go : Planning g (gives (baseState (dartsOf g)) (baseTable g) []) plan t h w
-          → planBase g plan t h w ≡ leaves done (baseState (dartsOf g)) (over (baseTable g) t) h (cleared (dartsOf g) w)
+      go : Planning g (gives (baseState (dartsOf g) (baseTable g)) (baseTable g) []) plan t h w
+          → planBase g plan t h w ≡ leaves done (baseState (dartsOf g) (baseTable g)) (over (baseTable g) t) h (cleared (dartsOf g) w)
       go (outside n e) = absurd (let k : 15 ≡ 0 = rw e at z in omega arith)
       go (cramped l n e) = absurd (let k : 2 ≡ 0 = rw e at z in omega arith)
       go (begins l k e) = base-leaves g plan t h w l k
@@ -167,8 +167,8 @@ stood-number : (s : State) (u past : List ℕ) → (numberOf (levelled s [] (sta
 unfolding levelled
 stood-number s u past = go (eqb (length past) 0)
   where
-    go : (b : Bool) → (numberOf (if b then refuses emptyKernel else gives (raised s (length past)) u past) ≡ 0)
-        ⊎ (numberOf (if b then refuses emptyKernel else gives (raised s (length past)) u past) ≡ 5)
+    go : (b : Bool) → (numberOf (if b then refuses emptyKernel else gives (raised s u past) u past) ≡ 0)
+        ⊎ (numberOf (if b then refuses emptyKernel else gives (raised s u past) u past) ≡ 5)
     go true = inr refl
     go false = inl refl
 
@@ -176,23 +176,23 @@ stood-place : (s : State) (u past : List ℕ) → placeOf (levelled s [] (stands
 unfolding levelled
 stood-place s u past = go (eqb (length past) 0)
   where
-    go : (b : Bool) → placeOf (if b then refuses emptyKernel else gives (raised s (length past)) u past) ≡ 0
+    go : (b : Bool) → placeOf (if b then refuses emptyKernel else gives (raised s u past) u past) ≡ 0
     go true = refl
     go false = refl
 
 module _ (g : Grid) (plan t h w : List ℕ) where
   abbrev first : Result
-  first = levelled (baseState (dartsOf g)) [] (firstKernel g plan)
+  first = levelled (baseState (dartsOf g) (baseTable g)) [] (firstKernel g plan)
 
   first-number : (numberOf first ≡ 0) ⊎ (numberOf first ≡ 5)
   first-number =
       let through = merging-through (dartsOf g) (oneCode g plan) (baseTable g) in
-      rw (first-merges g plan, merging-stands (dartsOf g) (oneCode g plan) (baseTable g)) (stood-number (baseState (dartsOf g)) (through .table) (through .past))
+      rw (first-merges g plan, merging-stands (dartsOf g) (oneCode g plan) (baseTable g)) (stood-number (baseState (dartsOf g) (baseTable g)) (through .table) (through .past))
 
   first-place : placeOf first ≡ 0
   first-place =
       let through = merging-through (dartsOf g) (oneCode g plan) (baseTable g) in
-      rw (first-merges g plan, merging-stands (dartsOf g) (oneCode g plan) (baseTable g)) (stood-place (baseState (dartsOf g)) (through .table) (through .past))
+      rw (first-merges g plan, merging-stands (dartsOf g) (oneCode g plan) (baseTable g)) (stood-place (baseState (dartsOf g) (baseTable g)) (through .table) (through .past))
 
   pub areas-order : Ordered g (length plan) (length t) (length h) (length w) (planAreas g plan t h w .answer .number) (numberOf first)
   unfolding planAreas
@@ -202,7 +202,7 @@ module _ (g : Grid) (plan t h w : List ℕ) where
   unfolding planAreas
   areas-place = on-place g first plan t h w first-place
 
-  pub areas-refused : planAreas g plan t h w .answer .number ≢ 0 → Returned (baseState 0) t h (planAreas g plan t h w)
+  pub areas-refused : planAreas g plan t h w .answer .number ≢ 0 → Returned zeros t h (planAreas g plan t h w)
   unfolding planAreas
   areas-refused = on-refused g first plan t h w
 

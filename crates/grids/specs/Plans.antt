@@ -17,7 +17,7 @@ use Rattle.darts.specs.Choose.{if_then_else_}
 use Rattle.darts.specs.Answers.{Answer, done, tooShort, noPlanSize}
 use Rattle.darts.specs.Operation.{contraction}
 use Rattle.darts.specs.Kernel.{judge, each, rising, Run, Test, pass}
-use Rattle.darts.specs.State.{baseState, Result, gives, refuses, levelled}
+use Rattle.darts.specs.State.{baseState, Result, gives, refuses, levelled, zeros}
 use Rattle.darts.specs.Calls.{After, leaves, room, cleared}
 use Rattle.grids.specs.Grid.{Grid, sized, cells, edges, dartsOf, Beside}
 use Rattle.grids.specs.Base.{cellOf, baseTable}
@@ -56,18 +56,18 @@ fittingPlan g plan t h w =
 -- a base, or a base with a level, goes into the lent slices; a refusal is "as a refused start"
 unfoldable pub begun : ℕ → List ℕ → List ℕ → List ℕ → Result → After
 begun D t h w (gives s u past) = leaves done s (over u t) (over (reverse past) h) (cleared D w)
-begun D t h w (refuses a) = leaves a (baseState 0) t h (cleared D w)
+begun D t h w (refuses a) = leaves a zeros t h (cleared D w)
 
 unfoldable pub onPlan : Grid → Result → List ℕ → List ℕ → List ℕ → List ℕ → After
 onPlan g r plan t h w =
     let a : Answer = fittingPlan g (length plan) (length t) (length h) (length w) in
     let b : After = begun (dartsOf g) t h w r in
-    if eqb (a .number) 0 then b else leaves a (baseState 0) t h w
+    if eqb (a .number) 0 then b else leaves a zeros t h w
 
 -- "Build it"
 unfoldable pub planBase : Grid → List ℕ → List ℕ → List ℕ → List ℕ → After
-planBase g plan t h w = onPlan g (gives (baseState (dartsOf g)) (baseTable g) []) plan t h w
+planBase g plan t h w = onPlan g (gives (baseState (dartsOf g) (baseTable g)) (baseTable g) []) plan t h w
 
 -- "A second call builds the base and at once takes a first kernel". It "answers 5, as a refused start, where its kernel would take no edge."
 unfoldable pub planAreas : Grid → List ℕ → List ℕ → List ℕ → List ℕ → After
-planAreas g plan t h w = onPlan g (levelled (baseState (dartsOf g)) [] (firstKernel g plan)) plan t h w
+planAreas g plan t h w = onPlan g (levelled (baseState (dartsOf g) (baseTable g)) [] (firstKernel g plan)) plan t h w

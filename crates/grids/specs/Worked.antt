@@ -11,10 +11,11 @@ use lib.ListN.{replicate}
 use Rattle.slices.specs.Over.{over}
 use Rattle.permutations.specs.Partner.{partner}
 use Rattle.permutations.specs.Cycle.{meetsIn}
-use Rattle.darts.specs.Map.{successor, sameVertex, gone, survives, beforeIn, before}
+use Rattle.darts.specs.Map.{successor, faceNext, sameVertex, gone, survives, beforeIn, before}
 use Rattle.darts.specs.Operation.{turned, lead, wholeEdge, contract, operate, number}
 use Rattle.darts.specs.Kernel.{shared, judge, rising, passFrom, pass}
-use Rattle.darts.specs.State.{State, baseState, raised, levelled}
+use Rattle.darts.specs.State.{State, zeros, raised, levelled}
+use Rattle.darts.specs.Counts.{neverBelow, lowest, cycles, countsOf}
 use Rattle.darts.specs.Pyramid.{sameNumbers, sameState}
 use Rattle.darts.specs.Calls.{After, room, cleared}
 use Rattle.darts.specs.Worked.{answers}
@@ -53,11 +54,15 @@ allRight [] = true
 allRight (r ∷ rs) = right r && allRight rs
 
 abbrev nothing : State
-nothing = baseState 0
+nothing = zeros
 
 -- one level of so many operations
-abbrev one : ℕ → ℕ → State
-one D n = record { darts = D; operations = n; levels = 1; ends = n ∷ replicate 63 0 }
+abbrev one : ℕ → ℕ → ℕ → ℕ → State
+one D n v f = record { darts = D; operations = n; levels = 1; ends = n ∷ replicate 63 0; vertices = v; faces = f }
+
+-- no level
+abbrev none : ℕ → ℕ → ℕ → State
+none D v f = record { darts = D; operations = 0; levels = 0; ends = replicate 64 0; vertices = v; faces = f }
 
 -- 3 by 2 with two codes, drawn with the highest course first, as in docs/CALLS.md, and its base
 --     a b b
@@ -96,14 +101,14 @@ codes n = replicate n 97
 abbrev pub table : List Row
 table =
     -- two cells, one edge: each dart alone at its cell
-    base 2 1 (97 ∷ 98 ∷ []) 2 0 (baseState 2) (0 ∷ 1 ∷ []) [] 8
+    base 2 1 (97 ∷ 98 ∷ []) 2 0 (none 2 2 1) (0 ∷ 1 ∷ []) [] 8
     -- three cells upright: the middle one has the dart that goes up, then the one that goes down
-    ∷ base 1 3 (97 ∷ 98 ∷ 99 ∷ []) 4 0 (baseState 4) (0 ∷ 2 ∷ 1 ∷ 3 ∷ []) [] 16
-    ∷ base 3 2 twoCodes 14 0 (baseState 14) threeByTwo [] 56
+    ∷ base 1 3 (97 ∷ 98 ∷ 99 ∷ []) 4 0 (none 4 3 1) (0 ∷ 2 ∷ 1 ∷ 3 ∷ []) [] 16
+    ∷ base 3 2 twoCodes 14 0 (none 14 6 3) threeByTwo [] 56
     -- three courses: the upright edges of the lowest come first
-    ∷ base 2 3 (codes 6) 14 0 (baseState 14) (6 ∷ 8 ∷ 10 ∷ 9 ∷ 11 ∷ 13 ∷ 0 ∷ 2 ∷ 1 ∷ 12 ∷ 7 ∷ 4 ∷ 3 ∷ 5 ∷ []) [] 56
+    ∷ base 2 3 (codes 6) 14 0 (none 14 6 3) (6 ∷ 8 ∷ 10 ∷ 9 ∷ 11 ∷ 13 ∷ 0 ∷ 2 ∷ 1 ∷ 12 ∷ 7 ∷ 4 ∷ 3 ∷ 5 ∷ []) [] 56
     -- a longer plan is not looked at past its cells
-    ∷ base 2 1 (97 ∷ 98 ∷ 99 ∷ []) 2 0 (baseState 2) (0 ∷ 1 ∷ []) [] 8
+    ∷ base 2 1 (97 ∷ 98 ∷ 99 ∷ []) 2 0 (none 2 2 1) (0 ∷ 1 ∷ []) [] 8
     -- 15: "one cell alone", "plan size outside the limits"; before 2
     ∷ base 1 1 (97 ∷ []) 2 15 nothing [] [] 0
     ∷ base 129 1 (codes 129) 2 15 nothing [] [] 0
@@ -119,15 +124,15 @@ table =
     -- 5: no edge of one code, or the one edge is a whole piece
     ∷ areas 2 1 (97 ∷ 98 ∷ []) 2 5 nothing [] [] 8
     ∷ areas 2 1 (codes 2) 2 5 nothing [] [] 8
-    ∷ areas 3 2 twoCodes 14 0 (one 14 4) (8 ∷ 2 ∷ 10 ∷ 5 ∷ 2 ∷ 11 ∷ 5 ∷ 13 ∷ 2 ∷ 4 ∷ 4 ∷ 3 ∷ 3 ∷ 5 ∷ []) (1 ∷ 13 ∷ 17 ∷ 25 ∷ []) 56
+    ∷ areas 3 2 twoCodes 14 0 (one 14 4 2 3) (8 ∷ 2 ∷ 10 ∷ 5 ∷ 2 ∷ 11 ∷ 5 ∷ 13 ∷ 2 ∷ 4 ∷ 4 ∷ 3 ∷ 3 ∷ 5 ∷ []) (1 ∷ 13 ∷ 17 ∷ 25 ∷ []) 56
     -- one code, 2 by 2: the last edge has one vertex at both ends
-    ∷ areas 2 2 (codes 4) 8 0 (one 8 3) (4 ∷ 6 ∷ 5 ∷ 7 ∷ 6 ∷ 7 ∷ 7 ∷ 6 ∷ []) (1 ∷ 5 ∷ 9 ∷ []) 32
-    ∷ base 5 4 brief 62 0 (baseState 62) briefBase [] 248
-    ∷ areas 5 4 brief 62 0 (one 62 16) briefAreas (1 ∷ 13 ∷ 21 ∷ 25 ∷ 33 ∷ 37 ∷ 41 ∷ 45 ∷ 49 ∷ 53 ∷ 57 ∷ 61 ∷ 65 ∷ 73 ∷ 81 ∷ 89 ∷ []) 248
+    ∷ areas 2 2 (codes 4) 8 0 (one 8 3 1 2) (4 ∷ 6 ∷ 5 ∷ 7 ∷ 6 ∷ 7 ∷ 7 ∷ 6 ∷ []) (1 ∷ 5 ∷ 9 ∷ []) 32
+    ∷ base 5 4 brief 62 0 (none 62 20 13) briefBase [] 248
+    ∷ areas 5 4 brief 62 0 (one 62 16 4 13) briefAreas (1 ∷ 13 ∷ 21 ∷ 25 ∷ 33 ∷ 37 ∷ 41 ∷ 45 ∷ 49 ∷ 53 ∷ 57 ∷ 61 ∷ 65 ∷ 73 ∷ 81 ∷ 89 ∷ []) 248
     -- one code, 1 by 3: the last edge is a whole piece and stays
-    ∷ areas 1 3 (codes 3) 4 0 (one 4 1) (0 ∷ 2 ∷ 2 ∷ 3 ∷ []) (3 ∷ []) 16
+    ∷ areas 1 3 (codes 3) 4 0 (one 4 1 2 1) (0 ∷ 2 ∷ 2 ∷ 3 ∷ []) (3 ∷ []) 16
     ∷ []
 
 pub worked : allRight table ≡ true
-unfolding partner meetsIn successor sameVertex gone survives beforeIn before turned lead wholeEdge contract operate number shared judge rising passFrom pass raised levelled sameNumbers sameState room cleared over sized cells cell along rightEdge upEdge leftEdge downEdge edges roundOf rounds has nextOr nextIn placeOf cellOf successorOn baseTable codeAt oneCode takesFirst firstKernel fittingPlan begun onPlan planBase planAreas
+unfolding partner meetsIn successor sameVertex gone survives beforeIn before turned lead wholeEdge contract operate number shared judge rising passFrom pass raised levelled sameNumbers sameState room cleared over sized cells cell along rightEdge upEdge leftEdge downEdge edges roundOf rounds has nextOr nextIn placeOf cellOf successorOn baseTable codeAt oneCode takesFirst firstKernel fittingPlan begun onPlan planBase planAreas faceNext neverBelow lowest cycles countsOf
 worked = refl

@@ -9,4 +9,3 @@ pub mod sentences
 pub mod chained
 pub mod merging
 pub mod moves
-pub mod stored

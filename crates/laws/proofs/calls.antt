@@ -1,3 +1,4 @@
 pub mod Cleared
 pub mod Judging
 pub mod Outcomes
+pub mod Numbers

@@ -14,6 +14,7 @@ pub mod KernelLines
 pub mod ReadWrite
 pub mod FlagOne
 pub mod RenamedMap
+pub mod RenamedCounts
 pub mod RenamedOperation
 pub mod RenamedHistory
 pub mod RenamedPyramid

@@ -2,5 +2,4 @@ pub mod Contractions
 pub mod Kept
 pub mod Steps
 pub mod Numbers
-pub mod Stored
 pub mod Called

@@ -3,27 +3,23 @@
 --   stored               == what an accepted call writes over the first numbers of the slices, they hold
 --   unfold-held          == unfold to level k on what is held
 --   counts-held          == counts of what is held
---   levelled, countedOf  == unfold and counts, on what a call without the numbers left
---   Level k r a          == on what a left, unfold to level k is done, and its counts are those of r
---   level-below          == so it is of a pyramid that was read
---   level-without, counts-without == of an accepted file, with the numbers and without them, the level and its counts are the same
+--   level-below          == the counts of level k of a pyramid that was read
+--   counts-none          == a refused file has none
 --   level-counts         == read, unfolded to level k and counted: the counts of level k of what the file means
-use mathlib.Core.Bool.{Bool, true, false}
+use mathlib.Core.Bool.{true}
 use mathlib.Core.List.{List, reverse, reverse-reverse}
 use mathlib.Core.Path.{_≡_, refl, sym, ap, ap₂, _∙_, subst}
 use Prim.Native.Nat.{ℕ, _-_, _≤_}
 use native.Mathlib.Omega.{arith}
-use lib.Dec.{T, eqb}
+use lib.Dec.{T}
 use lib.ListN.{length, take, length-reverse}
-use Rattle.darts.specs.Choose.{if_then_else_}
 use Rattle.darts.specs.Answers.{Answer, done}
-use Rattle.darts.specs.State.{State, Result, gives, baseState}
+use Rattle.darts.specs.State.{State, gives}
 use Rattle.darts.specs.Levels.{unfoldTo}
 use Rattle.darts.specs.Pyramid.{Pyramid, dartCount}
 use Rattle.darts.specs.Counts.{countsOf, noCounts}
 use Rattle.darts.specs.Read.{Read, means, faulty, readFile, fileState}
-use Rattle.darts.specs.Calls.{After, Counted, leaves, room, fitting, judged, tableOf, pastOf, cleared, handsBack, unfoldBy, counts, readInto, read}
-use Rattle.darts.specs.Stored.{Stored, AfterStored, storing, zeros, leavesStored, numbered, judgedStored, onStored, unfoldStored, countsStored, readStored}
+use Rattle.darts.specs.Calls.{leaves, room, fitting, judged, tableOf, pastOf, cleared, handsBack, onState, unfoldBy, counts, readInto, read}
 use Rattle.slices.specs.Over.{over}
 use Rattle.laws.proofs.runs.Pyramids.{pyramid-built}
 use Rattle.laws.proofs.claims.Decided.{pyramid-decided}
@@ -35,11 +31,6 @@ use Rattle.darts.proofs.Fitting.{Lengths, room-facts, fits}
 use Rattle.laws.proofs.calls.Judging.{Lent, judged-lent, on-lent}
 use Rattle.laws.proofs.calls.Cleared.{cleared-length}
 use Rattle.laws.proofs.chained.Steps.{unfold-leads}
-use Rattle.laws.proofs.chained.OnLent.{toLevel}
-use Rattle.laws.proofs.stored.Judging.{lent-stores}
-use Rattle.laws.proofs.stored.Calls.{without}
-use Rattle.laws.proofs.stored.Plain.{called-plain, counts-plain, read-plain}
-use Rattle.laws.proofs.stored.Always.{LeftStored, stored-always, read-always}
 use Rattle.slices.proofs.Over.{over-front, over-length}
 use Rattle.levels.specs.Report.{levelAt, countsAt, unfolded, counted, Tables, meant, topOf, countsGiven, countsOfLevel}
 
@@ -82,21 +73,11 @@ module _ {s : State} {u past t h w : List ℕ} (H : Holds s u past t h w) where
   unfolding counts
   counts-held = rw (judged-lent s t h w (H .lent)) (ap₂ (countsOf (s .darts)) (H .table) (H .history))
 
--- ---- read, unfolded, counted, without the numbers
-
-abbrev levelled : ℕ → After → After
-levelled k a = unfoldBy k (a .state) (a .table) (a .history) (a .work)
-
-abbrev countedOf : After → Counted
-countedOf a = counts (a .state) (a .table) (a .history) (a .work)
-
-record Level (k : ℕ) (r : Result) (a : After) : Type 0 where
-  done : levelled k a .answer .number ≡ 0
-  counts : countedOf (levelled k a) .counts ≡ countsGiven r
+-- ---- read, unfolded, counted
 
 module _ {s : State} {u past : List ℕ} (P : Pyramid s u past) (t h w : List ℕ) (L : Lengths (s .darts) (length t) (length h) (length w)) where
   -- level k of a pyramid that was read
-  level-below : (k : ℕ) → k ≤ s .levels → Level k (unfoldTo k s u past) (readInto t h w (means s u past))
+  level-below : (k : ℕ) → k ≤ s .levels → counted (unfolded k (readInto t h w (means s u past))) .counts ≡ countsGiven (unfoldTo k s u past)
   unfolding readInto countsGiven
   level-below k l =
       let S = write-read P (λ _. true) tt .levels k l in
@@ -106,69 +87,24 @@ module _ {s : State} {u past : List ℕ} (P : Pyramid s u past) (t h w : List �
       let H = stored P t h w v L size in
       let L′ = H .lent .lengths in
       let below : Lengths (S .state .darts) (length (over u t)) (length (over (reverse past) h)) (length v) = rw (unfold-leads k .darts e) L′ in
-      record {
-        done = ap (λ a. a .answer .number) (unfold-held H k e);
-        counts =
-            ap (λ a. countedOf a .counts) (unfold-held H k e)
-            ∙ counts-held (stored (unfold-pyramid P k e) (over u t) (over (reverse past) h) v (cleared (s .darts) v) below (cleared-length (s .darts) v (L′ .work)))
-            ∙ ap countsGiven (sym e);
-      }
+      ap (λ a. counted a .counts) (unfold-held H k e)
+      ∙ counts-held (stored (unfold-pyramid P k e) (over u t) (over (reverse past) h) v (cleared (s .darts) v) below (cleared-length (s .darts) v (L′ .work)))
+      ∙ ap countsGiven (sym e)
 
--- ---- with the numbers
-
-module _ (k : ℕ) (b t h w : List ℕ) where
-  abbrev begun : AfterStored
-  begun = readStored b t h w
-
-  module _ (accepted : read b t h w .answer .number ≡ 0) where
-    held : LeftStored begun
-    held = read-always b t h w (ap (λ (a : After). a .answer .number) (read-plain b t h w) ∙ accepted)
-
-    level-without : without (levelAt k b t h w) ≡ levelled k (read b t h w)
-    unfolding levelAt
-    level-without =
-        called-plain (begun .state) (begun .table) (begun .history) (begun .work) (toLevel k)
-        (lent-stores (begun .state) (begun .table) (begun .history) (begun .work) held)
-        ∙ ap (levelled k) (read-plain b t h w)
-
-    counts-without : levelled k (read b t h w) .answer .number ≡ 0 → countsAt k b t h w ≡ countedOf (levelled k (read b t h w))
-    unfolding countsAt levelAt
-    counts-without e =
-        let z : AfterStored = levelAt k b t h w in
-        let done : z .answer .number ≡ 0 = ap (λ (a : After). a .answer .number) level-without ∙ e in
-        let L : LeftStored z = stored-always (toLevel k) (begun .state) (begun .table) (begun .history) (begun .work) done in
-        counts-plain (z .state) (z .table) (z .history) (z .work) (lent-stores (z .state) (z .table) (z .history) (z .work) L)
-        ∙ ap countedOf level-without
-
--- a state of zeros has no counts, whatever numbers it stores
-counts-none : (k v f : ℕ) (a : Answer) (t h w : List ℕ)
-    → counted (unfolded k (leavesStored a (record { state = baseState 0; vertices = v; faces = f }) t h w)) .counts ≡ noCounts
-unfolding unfoldStored onStored judgedStored judged fitting dartCount countsStored
-counts-none k v f a t h w = refl
-
--- so a refused file has none
-counts-refused : (k D : ℕ) (a : Answer) (t h w : List ℕ) → counted (unfolded k (numbered zeros (readInto t h w (faulty D a)))) .counts ≡ noCounts
-unfolding readInto numbered storing
-counts-refused k D a t h w = go (eqb (a .number) 0)
-  where
-    numbers : Stored
-    numbers = storing (baseState 0) (tableOf (baseState 0) t) (pastOf (baseState 0) h)
-
-    go : (done : Bool) → counted (unfolded k (leavesStored a (if done then numbers else zeros) t h (cleared D w))) .counts ≡ noCounts
-    go true = counts-none k (numbers .vertices) (numbers .faces) a t h (cleared D w)
-    go false = counts-none k 0 0 a t h (cleared D w)
+-- a refused file has none
+counts-none : (k D : ℕ) (a : Answer) (t h w : List ℕ) → counted (unfolded k (readInto t h w (faulty D a))) .counts ≡ noCounts
+unfolding readInto unfoldBy onState handsBack judged fitting dartCount counts
+counts-none k D a t h w = refl
 
 module _ (k : ℕ) (b t h w : List ℕ) where
   counts-of-level : (r : Read) → readFile (room (length t) (length h) (length w)) b ≡ r → k ≤ topOf r → countsAt k b t h w .counts ≡ countsOfLevel k r
-  unfolding countsAt levelAt readStored read readInto topOf countsOfLevel fileState
-  counts-of-level (faulty D a) e l = ap (λ r. counted (unfolded k (numbered zeros (readInto t h w r))) .counts) e ∙ counts-refused k D a t h w
+  unfolding countsAt levelAt read topOf countsOfLevel fileState
+  counts-of-level (faulty D a) e l = ap (λ r. counted (unfolded k (readInto t h w r)) .counts) e ∙ counts-none k D a t h w
   counts-of-level (means s u past) e l =
       let M = meaning (room (length t) (length h) (length w)) b e in
       let darts : M .darts ≡ s .darts = ap (λ z. z .darts) (sym (M .state)) in
       let L = room-facts (length t) (length h) (length w) (s .darts) (subst (λ D. T (room (length t) (length h) (length w) D)) darts (M .fits)) in
-      let whole : read b t h w ≡ readInto t h w (means s u past) = ap (readInto t h w) e in
-      let B : Level k (unfoldTo k s u past) (read b t h w) = rw whole (level-below (pyramid-decided s u past .0 (M .pyramid)) t h w L k l) in
-      ap (λ c. c .counts) (counts-without k b t h w (ap (λ a. a .answer .number) whole) (B .done)) ∙ B .counts
+      ap (λ r. counted (unfolded k (readInto t h w r)) .counts) e ∙ level-below (pyramid-decided s u past .0 (M .pyramid)) t h w L k l
 
   module _ (T : Tables t h w) where
     -- THE COUNTS OF LEVEL k, WHATEVER STOOD IN THE TABLES

@@ -11,15 +11,12 @@ use Prim.Native.Nat.{ℕ, _+_, _≤_, _<_}
 use native.Mathlib.Omega.{arith}
 use Rattle.darts.specs.Counts.{Counts}
 use Rattle.darts.specs.Read.{Read, means, faulty}
-use Rattle.darts.specs.Calls.{After, room, readInto, read}
-use Rattle.darts.specs.Stored.{readStored}
+use Rattle.darts.specs.Calls.{room, readInto, read}
 use Rattle.laws.proofs.runs.Pyramids.{pyramid-built}
 use Rattle.laws.proofs.claims.Decided.{pyramid-decided}
 use Rattle.laws.proofs.file.Meanings.{meaning}
-use Rattle.laws.proofs.stored.Calls.{without}
-use Rattle.laws.proofs.stored.Plain.{read-plain}
 use Rattle.darts.specs.Cases.{answerOf}
-use Rattle.pyramid.specs.Values.{left, leftStored, tallyOf, countsLeft}
+use Rattle.pyramid.specs.Values.{left, tallyOf, countsLeft}
 use Rattle.pyramid.specs.declared.Outcome.{Outcome}
 use Rattle.pyramid.specs.declared.Counted.{Counted}
 use Rattle.levels.specs.Report.{countsAt, Tables, meant, answerTo, topOf, Refused, Accepted, LineOf, AllLines}
@@ -50,11 +47,7 @@ module _ (b : List ℕ) {t h w t′ h′ w′ : List ℕ} (T : Tables t h w) whe
       let top : k ≤ topOf (meant b) = omega (arith, A .top) in
       record { accepted = A .accepted; level = top; counts = ap (λ c. c .counts) e ∙ level-counts k b t h w T top }
 
-  module _ (o : Outcome) (called : leftStored o t′ h′ w′ ≡ readStored b t h w) where
-    -- without the numbers
-    e : left o t′ h′ w′ ≡ read b t h w
-    e = ap without called ∙ read-plain b t h w
-
+  module _ (o : Outcome) (e : left o t′ h′ w′ ≡ read b t h w) where
     answer-read : answerOf (o .answer) ≡ answerTo (meant b)
     unfolding read meant
     answer-read = ap (λ a. a .answer) e ∙ rw (T .table, T .history, T .work) (read-answer t h w _)

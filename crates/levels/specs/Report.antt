@@ -21,19 +21,18 @@ use Rattle.darts.specs.State.{Result, gives, refuses}
 use Rattle.darts.specs.Levels.{unfoldTo}
 use Rattle.darts.specs.Counts.{Counts, countsOf, noCounts}
 use Rattle.darts.specs.Read.{Read, means, faulty, readFile}
-use Rattle.darts.specs.Calls.{Counted, room}
-use Rattle.darts.specs.Stored.{AfterStored, unfoldStored, countsStored, readStored}
+use Rattle.darts.specs.Calls.{After, Counted, room, unfoldBy, counts, read}
 
 -- a call on what the one before it left
-abbrev pub unfolded : ℕ → AfterStored → AfterStored
-unfolded k a = unfoldStored k (a .state) (a .table) (a .history) (a .work)
+abbrev pub unfolded : ℕ → After → After
+unfolded k a = unfoldBy k (a .state) (a .table) (a .history) (a .work)
 
-abbrev pub counted : AfterStored → Counted
-counted a = countsStored (a .state) (a .table) (a .history) (a .work)
+abbrev pub counted : After → Counted
+counted a = counts (a .state) (a .table) (a .history) (a .work)
 
 -- read, then unfold to level k, then counts
-unfoldable pub levelAt : ℕ → List ℕ → List ℕ → List ℕ → List ℕ → AfterStored
-levelAt k b t h w = unfolded k (readStored b t h w)
+unfoldable pub levelAt : ℕ → List ℕ → List ℕ → List ℕ → List ℕ → After
+levelAt k b t h w = unfolded k (read b t h w)
 
 unfoldable pub countsAt : ℕ → List ℕ → List ℕ → List ℕ → List ℕ → Counted
 countsAt k b t h w = counted (levelAt k b t h w)

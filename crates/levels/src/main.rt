@@ -9,7 +9,7 @@ ghost use mathlib.Core.Path.{_≡_};
 ghost use Prim.Native.Nat.{_+_};
 ghost use Rattle.page.specs.Waits.{Waits};
 ghost use Rattle.darts.specs.Cases.{answerOf};
-ghost use Rattle.pyramid.specs.Values.{leftStored, tallyOf, countsLeft};
+ghost use Rattle.pyramid.specs.Values.{left, tallyOf, countsLeft};
 ghost use Rattle.levels.specs.Report.{levelAt, countsAt, Tables, Refused, Accepted, LineOf, AllLines};
 
 // The line of a refused file, which is lent for the contract alone: no other answer can stand in its line.
@@ -31,7 +31,7 @@ fn unfolded(
     work: &mut [u32],
 ) -> Outcome
     ensures { λ r. ⌜
-        leftStored r (now (table .exit)) (now (history .exit)) (now (work .exit))
+        left r (now (table .exit)) (now (history .exit)) (now (work .exit))
         ≡ levelAt k (now (file .entry)) (now (table .entry)) (now (history .entry)) (now (work .entry)) ⌝ }
 {
     let read = reader::read(file, table, history, work);

@@ -19,7 +19,7 @@ use Rattle.slices.specs.Part.{part}
 use Rattle.darts.specs.Moves.{contractionsIn}
 use Rattle.darts.specs.Operation.{kindOf, undone}
 use Rattle.darts.specs.Pyramid.{Pyramid}
-use Rattle.darts.specs.State.{State}
+use Rattle.darts.specs.State.{State, counted}
 use Rattle.darts.specs.Tests.{shaped}
 use Rattle.laws.proofs.claims.Decided.{pyramid-decided}
 use Rattle.laws.proofs.moves.Contractions.{contractions-reverse}
@@ -125,9 +125,9 @@ module _ (s : State) (t h : List ℕ) {w : List ℕ} (room : Room (s .darts) w) 
   -- what was found is of a pyramid with this past
   module _ {u : List ℕ} (f : Found) (δ : NoteDecided s v u (f .pyramid)) (yes-decided : f .pyramid ≡ true)
       (F : FindsCycles (s .darts) (baseOf s (tableIn (s .darts) v) (pastIn (s .darts) (s .operations) v)) [] f) where
-    pyramid : Pyramid s (tableOf s t) (pastOf s h)
+    pyramid : Pyramid (counted s (tableOf s t) (pastOf s h)) (tableOf s t) (pastOf s h)
     unfolding tableOf pastOf
-    pyramid = pyramid-decided s (tableOf s t) (pastOf s h) .0 (true→T (sym (rw (L .table, L .past) at (δ .answer)) ∙ yes-decided))
+    pyramid = pyramid-decided (counted s (tableOf s t) (pastOf s h)) (tableOf s t) (pastOf s h) .0 (true→T (sym (rw (L .table, L .past) at (δ .answer)) ∙ yes-decided))
 
     base-cycles : CyclesAre (s .darts) (baseOf s (tableOf s t) (pastOf s h)) [] (f .vertices) (f .faces)
     unfolding tableOf pastOf

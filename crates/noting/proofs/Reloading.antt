@@ -16,7 +16,7 @@ use Rattle.darts.specs.Calls.{tableOf, pastOf}
 use Rattle.darts.specs.Choose.{if_then_else_}
 use Rattle.darts.specs.Operation.{kindOf}
 use Rattle.darts.specs.Pyramid.{Pyramid, isPyramid}
-use Rattle.darts.specs.State.{State}
+use Rattle.darts.specs.State.{State, counted}
 use Rattle.darts.specs.Tests.{numbered, linked}
 use Rattle.laws.proofs.claims.Decided.{pyramid-decided}
 use Rattle.slices.specs.Laid.{laid, Space}
@@ -112,8 +112,8 @@ module _ {s : State} {t h w : List ℕ} (R : Reloads s t h w) where
   abbrev n : ℕ
   n = s .operations
 
-  P : Pyramid s (tableOf s t) (pastOf s h)
-  P = pyramid-decided s (tableOf s t) (pastOf s h) .0 (R .pyramid)
+  P : Pyramid (counted s (tableOf s t) (pastOf s h)) (tableOf s t) (pastOf s h)
+  P = pyramid-decided (counted s (tableOf s t) (pastOf s h)) (tableOf s t) (pastOf s h) .0 (R .pyramid)
 
   few : n ≤ D / 2
   few = pyramid-few P

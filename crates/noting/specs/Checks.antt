@@ -19,7 +19,7 @@ use Rattle.darts.specs.Calls.{tableOf, pastOf}
 use Rattle.darts.specs.Map.{live}
 use Rattle.darts.specs.Operation.{contraction}
 use Rattle.darts.specs.Pyramid.{isPyramid}
-use Rattle.darts.specs.State.{State}
+use Rattle.darts.specs.State.{State, counted}
 use Rattle.laws.specs.Standing.{mapOf, cyclesOf}
 use Rattle.forest.specs.Forest.{Falls}
 use Rattle.area.specs.Area.{Room, tableIn, pastIn, forestIn}
@@ -54,7 +54,7 @@ pub record BaseReplayed (D n : ℕ) (w w′ : List ℕ) (r : Bool) : Type 0 wher
   pub holds : r ≡ true → Holds D n (tableIn D w) (historyIn D n w) w′
 
 pub record NoteDecided (s : State) (w w′ : List ℕ) (r : Bool) : Type 0 where
-  pub answer : r ≡ isPyramid s (tableIn (s .darts) w) (pastIn (s .darts) (s .operations) w)
+  pub answer : r ≡ isPyramid (counted s (tableIn (s .darts) w) (pastIn (s .darts) (s .operations) w)) (tableIn (s .darts) w) (pastIn (s .darts) (s .operations) w)
   pub beyond : Beyond (s .darts) w w′
   pub falls : r ≡ true → Falls (forestIn (s .darts) w′)
   pub roots : r ≡ true → Rooted (s .darts) (s .operations) 1 w (rooted (s .darts) w′)
@@ -66,7 +66,7 @@ abbrev pub VertexRooted : State → List ℕ → List ℕ → (ℕ → ℕ) → 
 VertexRooted s t h R = Labels (live (s .darts) (pastOf s h)) (cyclesOf contraction (mapOf (s .darts) (tableOf s t) (pastOf s h))) R
 
 pub record NoteChecked (s : State) (t h w w′ : List ℕ) (r : Bool) : Type 0 where
-  pub answer : r ≡ isPyramid s (tableOf s t) (pastOf s h)
+  pub answer : r ≡ isPyramid (counted s (tableOf s t) (pastOf s h)) (tableOf s t) (pastOf s h)
   pub beyond : Beyond (s .darts) w w′
   pub falls : r ≡ true → Falls (forestIn (s .darts) w′)
   pub roots : r ≡ true → VertexRooted s t h (rooted (s .darts) w′)
@@ -76,7 +76,7 @@ pub record Reloads (s : State) (t h w : List ℕ) : Type 0 where
   pub room : Room (s .darts) w
   pub long : s .darts ≤ length t
   pub enough : s .darts / 2 ≤ length h
-  pub pyramid : T (isPyramid s (tableOf s t) (pastOf s h))
+  pub pyramid : T (isPyramid (counted s (tableOf s t) (pastOf s h)) (tableOf s t) (pastOf s h))
   pub falls : Falls (forestIn (s .darts) w)
   pub roots : VertexRooted s t h (rooted (s .darts) w)
 

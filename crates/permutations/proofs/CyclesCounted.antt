@@ -4,7 +4,7 @@
 --   cycles-numbered    == the cycles of a permutation on the live numbers are as many as their numbers
 use mathlib.Core.Bool.{Bool, true, false, _||_}
 use mathlib.Core.List.{List, [], _∷_}
-use mathlib.Core.Logic.{_≢_, _↔_, Iff·trans, Iff·symm}
+use mathlib.Core.Logic.{_≢_, _↔_, Iff·trans, Iff·symm, ⊎-elim}
 use mathlib.Core.Path.{_≡_, refl, sym, ap, ap₂, _∙_}
 use Prim.Native.Nat.{ℕ, zero, suc, _<_}
 use native.Mathlib.Decide.{ℕ-discrete}
@@ -12,7 +12,7 @@ use native.Mathlib.Nat.{not-suc-le-zero}
 use native.Mathlib.Omega.{arith}
 use lib.Dec.{T, eqb}
 use lib.ListN.{length}
-use Rattle.permutations.specs.Choice.{pick, T→true, T-ext, eqb-same, eqb-other, eqb-iff}
+use Rattle.permutations.specs.Choice.{pick, T→true, T-ext, eqb-same, eqb-other, eqb-iff, or-cases}
 use Rattle.permutations.specs.Perm.{Perm}
 use Rattle.permutations.specs.Cycle.{meetsIn, meets-iff}
 use Rattle.permutations.specs.Live.{any, has, darts, any-ext, any-has, has-head, has-tail, has-darts, darts-has}
@@ -99,3 +99,38 @@ cycles-numbered {D} {f} {live} {L} π inside Λ n small every =
     ∙ count-all (hits L (darts live D)) n (λ c h.
     let (x, t, e) = every c h in
     any-has (λ z. eqb (L z) c) (darts live D) x (darts-has live D x (inside x t) t) (eqb-iff (L x) c .1 e))
+
+-- ---- cycles that are labelled alike
+
+some-hit : (L : ℕ → ℕ) (l : List ℕ) (c : ℕ) → T (hits L l c) → (x : ℕ) × T (has l x) × (L x ≡ c)
+unfolding any
+some-hit L [] c h = absurd h
+some-hit L (x ∷ l) c h =
+    ⊎-elim (λ t. (x, has-head x l, eqb-iff (L x) c .0 t)) (λ t. let r = some-hit L l c t in (r .0, has-tail x (r .0) l (r .1), r .2)) (or-cases (eqb (L x) c) (hits L l c) h)
+
+module _ {D : ℕ} {f : ℕ → ℕ} {live : ℕ → Bool} {L : ℕ → ℕ} (π : Perm D f) (Λ : Labels live f L) (n : ℕ) (small : (x : ℕ) → T (live x) → L x < n) where
+  pub cycles-hit : cycles D live f ≡ length (darts (hits L (darts live D)) n)
+  unfolding cycles
+  cycles-hit =
+      classes-hit (meetsIn f D) L n (darts live D)
+      (λ x y h k. Iff·symm (Iff·trans (Λ .says x y (has-darts live D x h .1) (has-darts live D y k .1)) (meets-iff π x y)))
+      (λ x h. small x (has-darts live D x h .1))
+
+hits-over : (D : ℕ) (live new : ℕ → Bool) {L M : ℕ → ℕ} → ((y : ℕ) → T (new y) → y < D) → ((x : ℕ) → T (live x) → (y : ℕ) × T (new y) × (M y ≡ L x))
+    → (c : ℕ) → T (hits L (darts live D) c) → T (hits M (darts new D) c)
+hits-over D live new {L} {M} inside covers c h =
+    let (x, k, e) = some-hit L (darts live D) c h in
+    let (y, t, d) = covers x (has-darts live D x k .1) in
+    any-has (λ z. eqb (M z) c) (darts new D) y (darts-has new D y (inside y t) t) (eqb-iff (M y) c .1 (d ∙ e))
+
+-- WHERE THE SAME LABELS ARE USED THERE ARE AS MANY CYCLES
+pub cycles-alike : {D : ℕ} {f g : ℕ → ℕ} {live new : ℕ → Bool} {L M : ℕ → ℕ} → Perm D f → Perm D g → Labels live f L → Labels new g M
+    → ((x : ℕ) → T (live x) → x < D) → ((y : ℕ) → T (new y) → y < D)
+    → ((x : ℕ) → T (live x) → (y : ℕ) × T (new y) × (M y ≡ L x)) → ((y : ℕ) → T (new y) → (x : ℕ) × T (live x) × (L x ≡ M y))
+    → (n : ℕ) → ((x : ℕ) → T (live x) → L x < n) → cycles D live f ≡ cycles D new g
+cycles-alike {D} {f} {g} {live} {new} {L} {M} π ρ Λ Μ inside inside′ there back n small =
+    let small′ : (y : ℕ) → T (new y) → M y < n = λ y t. let (x, s, e) = back y t in let k = small x s in omega arith in
+    cycles-hit π Λ n small
+    ∙ count-same (hits L (darts live D)) (hits M (darts new D)) n (λ c h.
+    T-ext (hits L (darts live D) c) (hits M (darts new D) c) (hits-over D live new inside′ there c) (hits-over D new live inside back c))
+    ∙ sym (cycles-hit ρ Μ n small′)

@@ -21,14 +21,12 @@ use Rattle.slices.proofs.Over.{over-front}
 use Rattle.darts.specs.Cases.{answerOf}
 use Rattle.darts.specs.declared.Answer.{Answer}
 use Rattle.darts.specs.State.{State}
-use Rattle.darts.specs.Calls.{Written, write}
-use Rattle.darts.specs.Stored.{Stored, AfterStored, writeStored}
+use Rattle.darts.specs.Calls.{After, Written, write}
 use Rattle.grids.specs.Grid.{flat}
-use Rattle.pyramid.specs.Values.{storedOf, leftStored}
+use Rattle.pyramid.specs.Values.{stateOf, left}
 use Rattle.pyramid.specs.declared.Outcome.{Outcome}
 use Rattle.writer.specs.Filed.{filed}
 use Rattle.laws.proofs.sentences.Writing.{write-accepted}
-use Rattle.laws.proofs.stored.Plain.{write-stored}
 use Rattle.plan.specs.Drawing.{walesOf, wrongFrom, wrongLine, coursesOf, upsideDown, planOf, Fits, Right}
 use Rattle.plan.specs.Files.{called, drawn, written}
 use Rattle.plan.proofs.Turned.{plan-length}
@@ -55,12 +53,12 @@ module _ {d p : List ℕ} (R : Right d p) (w : ℕ) where
       let front : take (w * (length d / (w + 1)) - 0) p′ ≡ codes = rw (size, f) (over-front codes p) in
       ap (λ l. called b (flat w (length d / (w + 1))) l t h k) front ∙ rw e
 
-module _ (r : Outcome) {t h k : List ℕ} {a : AfterStored} (e : leftStored r t h k ≡ a) (o : List ℕ) where
+module _ (r : Outcome) {t h k : List ℕ} {a : After} (e : left r t h k ≡ a) (o : List ℕ) where
   pub refused-stays : answerOf (r .answer) .number ≢ 0 → filed (r .answer) t h k o ≡ written a o
   unfolding written
   refused-stays n = rw (← e) (rw (eqb-other n))
 
-  pub accepted-files : answerOf (r .answer) .number ≡ 0 → writeStored (storedOf (r .state)) t h k o ≡ written a o
+  pub accepted-files : answerOf (r .answer) .number ≡ 0 → write (stateOf (r .state)) t h k o ≡ written a o
   unfolding written
   accepted-files z = rw (← e) (rw (eqb-same z))
 
@@ -70,20 +68,15 @@ write-within s t h k o z =
     let F = write-accepted s t h k o z .1 in
     omega (arith, ap length (F .bytes), length-take (r .answer .place) (r .output), F .size, F .answer .place)
 
-stored-within : (S : Stored) (t h k o : List ℕ) → writeStored S t h k o .answer .number ≡ 0 → writeStored S t h k o .answer .place ≤ length o
-stored-within S t h k o z =
-    let plain : writeStored S t h k o ≡ write (S .state) t h k o = write-stored S t h k o z in
-    rw plain (write-within (S .state) t h k o (rw plain at z))
-
-file-within : (a : AfterStored) (o : List ℕ) → written a o .answer .number ≡ 0 → written a o .answer .place ≤ length o
+file-within : (a : After) (o : List ℕ) → written a o .answer .number ≡ 0 → written a o .answer .place ≤ length o
 unfolding written
 file-within a o z = go (ℕ-discrete (a .answer .number) 0)
   where
     go : Dec (a .answer .number ≡ 0) → written a o .answer .place ≤ length o
     go (no n) = absurd (n (rw (eqb-other n) at z))
-    go (yes e) = rw (eqb-same e) (stored-within (a .state) (a .table) (a .history) (a .work) o (rw (eqb-same e) at z))
+    go (yes e) = rw (eqb-same e) (write-within (a .state) (a .table) (a .history) (a .work) o (rw (eqb-same e) at z))
 
-pub place-within : (r : Answer) (a : AfterStored) (o : List ℕ) {t h k o′ : List ℕ} {m n : ℕ} → filed r t h k o′ ≡ written a o
+pub place-within : (r : Answer) (a : After) (o : List ℕ) {t h k o′ : List ℕ} {m n : ℕ} → filed r t h k o′ ≡ written a o
     → m ≡ answerOf r .number → m ≡ 0 → n ≡ answerOf r .place → length o′ ≡ length o → n ≤ length o′
 place-within r a o e number none place size =
     let same : answerOf r ≡ written a o .answer = ap (λ f. f .answer) e in

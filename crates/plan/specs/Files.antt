@@ -8,21 +8,20 @@ use mathlib.Core.List.{List}
 use Prim.Native.Nat.{ℕ}
 use lib.Dec.{eqb}
 use Rattle.darts.specs.Choose.{if_then_else_}
-use Rattle.darts.specs.Calls.{Written}
-use Rattle.darts.specs.Stored.{AfterStored, writeStored}
+use Rattle.darts.specs.Calls.{After, Written, write}
 use Rattle.grids.specs.Grid.{Grid, flat}
-use Rattle.grids.specs.Stored.{planStored, areasStored}
+use Rattle.grids.specs.Plans.{planBase, planAreas}
 use Rattle.plan.specs.Drawing.{walesOf, coursesOf, planOf}
 
-unfoldable pub called : Bool → Grid → List ℕ → List ℕ → List ℕ → List ℕ → AfterStored
-called b g plan t h w = if b then planStored g plan t h w else areasStored g plan t h w
+unfoldable pub called : Bool → Grid → List ℕ → List ℕ → List ℕ → List ℕ → After
+called b g plan t h w = if b then planBase g plan t h w else planAreas g plan t h w
 
-unfoldable pub drawn : Bool → List ℕ → List ℕ → List ℕ → List ℕ → AfterStored
+unfoldable pub drawn : Bool → List ℕ → List ℕ → List ℕ → List ℕ → After
 drawn b d t h w = called b (flat (walesOf d) (coursesOf d)) (planOf d) t h w
 
-unfoldable pub written : AfterStored → List ℕ → Written
+unfoldable pub written : After → List ℕ → Written
 written a o =
-    let filed : Written = writeStored (a .state) (a .table) (a .history) (a .work) o in
+    let filed : Written = write (a .state) (a .table) (a .history) (a .work) o in
     let refused : Written = record { answer = a .answer; table = a .table; history = a .history; work = a .work; output = o } in
     if eqb (a .answer .number) 0 then filed else refused
 

@@ -5,7 +5,7 @@ use pyramid::Answer;
 use pyramid::Outcome;
 ghost use mathlib.Core.Path.{_≡_};
 ghost use Rattle.grids.specs.Grid.{flat};
-ghost use Rattle.pyramid.specs.Values.{leftStored};
+ghost use Rattle.pyramid.specs.Values.{left};
 ghost use Rattle.writer.specs.Filed.{filed};
 ghost use Rattle.plan.specs.Drawing.{Right};
 ghost use Rattle.plan.specs.Files.{called, drawn, printed};
@@ -21,7 +21,7 @@ fn call(
     work: &mut [u32],
 ) -> Outcome
     ensures { λ r. ⌜
-        leftStored r (now (table .exit)) (now (history .exit)) (now (work .exit))
+        left r (now (table .exit)) (now (history .exit)) (now (work .exit))
         ≡ called base (flat wales courses) (now (plan .entry)) (now (table .entry)) (now (history .entry)) (now (work .entry)) ⌝ }
 {
     if base {
@@ -41,7 +41,7 @@ fn build(
 ) -> Outcome
     requires { ⌜ Right (now drawing) (now plan) ⌝ }
     ensures { λ r. ⌜
-        leftStored r (now (table .exit)) (now (history .exit)) (now (work .exit))
+        left r (now (table .exit)) (now (history .exit)) (now (work .exit))
         ≡ drawn base (now (drawing .entry)) (now (table .entry)) (now (history .entry)) (now (work .entry)) ⌝ }
 {
     let w = wales(drawing);

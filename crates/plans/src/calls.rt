@@ -11,8 +11,8 @@ use pyramid::Outcome;
 use pyramid::starting::unbased;
 ghost use mathlib.Core.Path.{_≡_};
 ghost use Rattle.grids.specs.Grid.{flat};
-ghost use Rattle.grids.specs.Stored.{planStored, areasStored};
-ghost use Rattle.pyramid.specs.Values.{leftStored};
+ghost use Rattle.grids.specs.Plans.{planBase, planAreas};
+ghost use Rattle.pyramid.specs.Values.{left};
 
 // The base of a plan: so many wales, so many courses, one code a cell.
 pub fn plan(
@@ -24,8 +24,8 @@ pub fn plan(
     work: &mut [u32],
 ) -> Outcome
     ensures { λ r. ⌜
-        leftStored r (now (table .exit)) (now (history .exit)) (now (work .exit))
-        ≡ planStored (flat wales courses) (now (plan .entry)) (now (table .entry)) (now (history .entry)) (now (work .entry)) ⌝ }
+        left r (now (table .exit)) (now (history .exit)) (now (work .exit))
+        ≡ planBase (flat wales courses) (now (plan .entry)) (now (table .entry)) (now (history .entry)) (now (work .entry)) ⌝ }
 {
     let judged = fit_plan(
         wales,
@@ -53,8 +53,8 @@ pub fn plan_areas(
     work: &mut [u32],
 ) -> Outcome
     ensures { λ r. ⌜
-        leftStored r (now (table .exit)) (now (history .exit)) (now (work .exit))
-        ≡ areasStored (flat wales courses) (now (plan .entry)) (now (table .entry)) (now (history .entry)) (now (work .entry)) ⌝ }
+        left r (now (table .exit)) (now (history .exit)) (now (work .exit))
+        ≡ planAreas (flat wales courses) (now (plan .entry)) (now (table .entry)) (now (history .entry)) (now (work .entry)) ⌝ }
 {
     let judged = fit_plan(
         wales,

@@ -3,13 +3,11 @@ use darts::Answer;
 use darts::answers::fit;
 use pyramid::Outcome;
 use pyramid::starting::based;
-ghost use mathlib.Core.List.{[]};
 ghost use mathlib.Core.Path.{_≡_};
 ghost use lib.Dec.{T};
 ghost use Rattle.darts.specs.Answers.{done};
 ghost use Rattle.darts.specs.Cases.{answerOf};
 ghost use Rattle.darts.specs.State.{baseState};
-ghost use Rattle.darts.specs.Stored.{storing};
 ghost use Rattle.grids.specs.Base.{baseTable};
 ghost use Rattle.grids.specs.Grid.{flat, sized, dartsOf};
 ghost use Rattle.grids.specs.Plans.{fittingPlan};
@@ -70,7 +68,7 @@ pub(crate) fn fit_plan(
 // The plan's base, with its numbers: a vertex for each cell, a face for each square of four cells, and the outer face.
 pub(crate) fn base_of(wales: u32, courses: u32) -> Outcome
     requires { ⌜ T (sized (flat wales courses)) ⌝ }
-    ensures { λ r. ⌜ Hands r done (storing (baseState (dartsOf (flat wales courses))) (baseTable (flat wales courses)) []) ⌝ }
+    ensures { λ r. ⌜ Hands r done (baseState (dartsOf (flat wales courses)) (baseTable (flat wales courses))) ⌝ }
 {
     let darts = darts_of(wales, courses);
     let vertices = wales * courses;

@@ -13,12 +13,11 @@ use Prim.Native.Nat.{ℕ, _*_, _≤_, _<_}
 use native.Mathlib.Omega.{arith}
 use lib.ListN.{length}
 use Rattle.darts.specs.Answers.{Answer, done, noPyramid}
-use Rattle.darts.specs.Calls.{tableOf, pastOf, cleared}
+use Rattle.darts.specs.Calls.{tableOf, pastOf, judged, cleared}
 use Rattle.darts.specs.Operation.{undone}
 use Rattle.darts.specs.State.{State}
-use Rattle.darts.specs.Stored.{Stored}
 use Rattle.laws.specs.Standing.{Standing}
-use Rattle.laws.proofs.stored.Judging.{stores-iff}
+use Rattle.laws.proofs.calls.Judging.{Judging, uncounted, cramped, other, lent, judging, judged-lent}
 use Rattle.area.specs.Area.{Room, tableIn}
 use Rattle.area.specs.Trees.{rooted}
 use Rattle.engine.specs.Held.{Ready}
@@ -27,36 +26,49 @@ use Rattle.sheets.specs.Sheets.{Sheets}
 use Rattle.sheets.specs.Notes.{unfitIn}
 use Rattle.yarn.specs.Places.{lowest, zoneOf, placesAfter}
 use Rattle.yarn.specs.Given.{Fit}
-use Rattle.yarn.specs.Calls.{fitting, fittingOf, baseOf, firstUnfit}
+use Rattle.yarn.specs.Calls.{fitting, fittingOf, baseOf, firstUnfit, judged as judgedWith}
 use Rattle.yarn.proofs.StartWith.{fit-given}
-use Rattle.yarn.proofs.StoredWith.{stored-with-same}
-use Rattle.yarn.proofs.sentences.Judging.{Right, judged-strange, judged-costed}
+use Rattle.yarn.proofs.sentences.Judging.{Right, judged-other, judged-strange, judged-costed}
 use Rattle.yarn.proofs.sentences.Lengths.{Fits}
 use Rattle.yarn.proofs.sentences.Unfit.{FirstUnfit, some-or-none}
 use Rattle.noting.proofs.Lowest.{Own, ready-lowest, ready-own}
 use Rattle.noting.proofs.Placed.{unfit-found}
 use Rattle.pyramid.specs.Checking.{CheckedPlain}
-use Rattle.pyramid.specs.Costs.{JudgedWith, JudgedStoredWith}
-use Rattle.pyramid.specs.Steps.{Judged, JudgedStored}
+use Rattle.pyramid.specs.Costs.{JudgedWith}
+use Rattle.pyramid.specs.Steps.{Judged}
 use Rattle.pyramid.proofs.ChecksWith.{fitting-zero, check-first}
 use Rattle.pyramid.proofs.Judges.{lent-of, stood-of}
-use Rattle.pyramid.proofs.JudgesWith.{with-fits, refused-four, stored-early, stored-right}
+use Rattle.pyramid.proofs.JudgesWith.{with-fits, refused-four}
 
 -- ---- beside the records
 
-module _ (S : Stored) {t h w : List ℕ} {k l : ℕ} {a : Answer} (E : a ≡ fitting (S .state .darts) (length t) (length h) (length w) k l) where
-  pub plain-first : a .number ≢ 0 → CheckedPlain S t h w k l w a
-  plain-first n = record { refused = check-first S E n .refused; fits = λ z. absurd (n z); plain = λ z. absurd (n z) }
+-- where the lengths fit, what is refused without sheets is refused so with them
+refused-same : (s : State) (t h w : List ℕ) (C : Sheets) → fittingOf (s .darts) t h w C .number ≡ 0 → judged s t h w .number ≢ 0
+    → judged s t h w ≡ judgedWith s t h w C
+refused-same s t h w C zero n = go (judging s t h w)
+  where
+    F : Fits (s .darts) t h w C
+    F = with-fits s t h w C refl zero
 
-  pub plain-said : a .number ≡ 0 → {v : List ℕ} {b : Answer} → JudgedStored S 1 t h w v b → CheckedPlain S t h w k l v b
+    go : Judging s t h w → judged s t h w ≡ judgedWith s t h w C
+    go (uncounted c e) = absurd (c (F .count))
+    go (cramped c l e) = absurd (l (F .lengths))
+    go (other c l p e) = e ∙ sym (judged-other s t h w C F p)
+    go (lent L e) = absurd (n (ap (λ (b : Answer). b .number) e))
+
+module _ (s : State) {t h w : List ℕ} {k l : ℕ} {a : Answer} (E : a ≡ fitting (s .darts) (length t) (length h) (length w) k l) where
+  pub plain-first : a .number ≢ 0 → CheckedPlain s t h w k l w a
+  plain-first n = record { refused = check-first s E n .refused; fits = λ z. absurd (n z); plain = λ z. absurd (n z) }
+
+  pub plain-said : a .number ≡ 0 → {v : List ℕ} {b : Answer} → Judged s 1 t h w v b → CheckedPlain s t h w k l v b
   plain-said fine J =
-      let zero : fitting (S .state .darts) (length t) (length h) (length w) k l .number ≡ 0 = sym (ap (λ (b : Answer). b .number) E) ∙ fine in
+      let zero : fitting (s .darts) (length t) (length h) (length w) k l .number ≡ 0 = sym (ap (λ (b : Answer). b .number) E) ∙ fine in
       record {
         refused = λ n C e f. record {
-          answer = J .answer ∙ sym (stored-with-same S t h w C (fitting-zero (S .state .darts) t h w C e f zero) (λ z. n (ap (λ (b : Answer). b .number) (J .answer) ∙ z)));
+          answer = J .answer ∙ refused-same s t h w C (fitting-zero (s .darts) t h w C e f zero) (λ z. n (ap (λ (b : Answer). b .number) (J .answer) ∙ z));
           refused = J .refused;
-          judged = λ z. absurd (n z);
-          stores = λ z. absurd (n z);
+          beyond = λ z. absurd (n z);
+          stood = λ z. absurd (n z);
         };
         fits = λ _. zero;
         plain = λ _. J;
@@ -64,11 +76,8 @@ module _ (S : Stored) {t h w : List ℕ} {k l : ℕ} {a : Answer} (E : a ≡ fit
 
 -- ---- the records
 
-module _ {S : Stored} {t h w : List ℕ} {k l : ℕ} {v : List ℕ} {a : Answer} (K : CheckedPlain S t h w k l v a) (fine : a .number ≡ 0)
-    (base : S .state .operations ≡ 0) (C : Sheets) (e : k ≡ length (C .sheet)) (f : l ≡ length (C .kept)) where
-  abbrev s : State
-  s = S .state
-
+module _ {s : State} {t h w : List ℕ} {k l : ℕ} {v : List ℕ} {a : Answer} (K : CheckedPlain s t h w k l v a) (fine : a .number ≡ 0)
+    (base : s .operations ≡ 0) (C : Sheets) (e : k ≡ length (C .sheet)) (f : l ≡ length (C .kept)) where
   abbrev D : ℕ
   D = s .darts
 
@@ -82,7 +91,9 @@ module _ {S : Stored} {t h w : List ℕ} {k l : ℕ} {v : List ℕ} {a : Answer}
   fits = with-fits s t h w C refl zero
 
   J : Judged s 1 t h w v done
-  J = K .plain fine .judged fine
+  J =
+      let P = K .plain fine in
+      record { answer = sym (judged-lent s t h w (lent-of P fine)); refused = λ n. absurd (n refl); checked = λ _. P .checked fine }
 
   ready : Ready D 0 1 v
   ready = subst (λ n. Ready D n 1 v) base (J .checked refl .ready refl (omega arith))
@@ -135,22 +146,17 @@ module _ {S : Stored} {t h w : List ℕ} {k l : ℕ} {v : List ℕ} {a : Answer}
         go (inl u) = u .such .unfit (all .each _ (u .dart) (u .such .place))
         go (inr (z, _)) = n (is ∙ found ∙ z)
 
-    judged : x ≡ D → JudgedWith s t h w v C done
-    judged last = record {
+    -- THE RECORDS OF THE BASE ARE FIT
+    pub base-right : x ≡ D → JudgedWith s t h w v C done
+    base-right last = record {
       answer = sym (judged-costed s t h w C (record { lent = lent-of J refl; room = fits .room; right = right-fit .0 (fit last) }));
       refused = λ n. absurd (n refl);
       beyond = λ _. J .checked refl .beyond;
       stood = λ _. record { stood = stood-of J refl; notes = λ i l. absurd (omega arith); zones = zones };
     }
 
-    -- THE RECORDS OF THE BASE ARE FIT
-    pub base-right : x ≡ D → JudgedStoredWith S t h w v C done
-    base-right last =
-        stored-right S t h w C (judged last) (stores-iff S b (pastOf s h) .1 (K .plain fine .stores fine .numbers))
-
     -- ONE OF THEM IS NOT
-    pub base-wrong : x ≢ D → {u : List ℕ} {c : Answer} → (c ≡ noPyramid) × (u ≡ cleared D v) → JudgedStoredWith S t h w u C c
+    pub base-wrong : x ≢ D → {u : List ℕ} {c : Answer} → (c ≡ noPyramid) × (u ≡ cleared D v) → JudgedWith s t h w u C c
     base-wrong n (four, clears) =
         rw (four, clears)
-        (stored-early S t h w C
-        (refused-four s t h w C refl zero (J .checked refl .beyond) (sym (judged-strange s t h w C fits (λ r. unfit n (right-fit .1 r))))) (λ z. omega arith))
+        (refused-four s t h w C refl zero (J .checked refl .beyond) (sym (judged-strange s t h w C fits (λ r. unfit n (right-fit .1 r)))))

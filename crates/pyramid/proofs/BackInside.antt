@@ -15,14 +15,14 @@ use lib.ListN.{length}
 use Rattle.permutations.specs.Choice.{pick}
 use Rattle.darts.specs.Answers.{Answer, noLevel}
 use Rattle.darts.specs.Choose.{if_then_else_}
-use Rattle.darts.specs.State.{State, Result, gives, refuses, andThen}
+use Rattle.darts.specs.State.{State, counted, Result, gives, refuses, andThen}
 use Rattle.darts.specs.Levels.{undoLevel, undoLevels, unfoldTo}
 use Rattle.darts.specs.Calls.{tableOf, pastOf, onState, undoBy, unfoldBy}
-use Rattle.darts.specs.Stored.{Stored, onStored, undoStored, unfoldStored}
+use Rattle.laws.proofs.runs.Pyramids.{pyramid-built}
 use Rattle.laws.proofs.runs.Undo.{undo-is-unfold}
 use Rattle.area.specs.Area.{Room, tableIn, pastIn}
-use Rattle.pyramid.specs.Steps.{Judged, Unfolded}
-use Rattle.pyramid.proofs.Judges.{lent-of}
+use Rattle.pyramid.specs.Steps.{stateIn, Judged, Unfolded}
+use Rattle.pyramid.proofs.Judges.{counted-same, lent-of}
 use Rattle.pyramid.proofs.OnState.{Plain}
 
 plain-then : (b : Bool) (a : Answer) (z : State) (t past : List ℕ) (f : State → List ℕ → List ℕ → Result)
@@ -49,13 +49,16 @@ no-level-above k s t past h = rw (lt-ltb (s .levels) k h)
 
 module _ {s : State} {j : ℕ} {t h w v : List ℕ} {a : Answer} (J : Judged s j t h w v a) (fine : a .number ≡ 0) where
   pub unfold-stepped : {k : ℕ} {z : State} {u : List ℕ} → k ≤ s .levels → Unfolded k s z v u
-      → unfoldTo k s (tableOf s t) (pastOf s h) ≡ gives z (tableIn (s .darts) u) (pastIn (s .darts) (z .operations) u)
+      → unfoldTo k s (tableOf s t) (pastOf s h) ≡ gives (stateIn z u) (tableIn (s .darts) u) (pastIn (s .darts) (z .operations) u)
   unfolding unfoldTo
   unfold-stepped {k} {z} {u} l U =
       let C = J .checked fine in
+      let n : ℕ = s .levels - k in
+      let same : counted s (tableOf s t) (pastOf s h) ≡ s = counted-same (pyramid-built (lent-of J fine .pyramid) .stored) in
       rw (le-ltb (s .levels) k l)
-      (ap₂ (undoLevels (s .levels - k) s) (sym (C .table refl)) (sym (C .past refl)) ∙ U .step
-      ∙ ap (λ (d : ℕ). gives z (tableIn d u) (pastIn d (z .operations) u)) (U .darts))
+      (ap (λ (y : State). undoLevels n y (tableOf s t) (pastOf s h)) (sym same)
+      ∙ ap₂ (λ (u past : List ℕ). undoLevels n (counted s u past) u past) (sym (C .table refl)) (sym (C .past refl)) ∙ U .step
+      ∙ ap (λ (d : ℕ). gives (stateIn z u) (tableIn d u) (pastIn d (z .operations) u)) (U .darts))
 
   pub store-fits : {k : ℕ} {z : State} {u : List ℕ} → Unfolded k s z v u
       → Room (s .darts) u × ((z .operations ≤ s .darts) × (s .darts ≤ length t) × (z .operations ≤ length h))
@@ -64,11 +67,6 @@ module _ {s : State} {j : ℕ} {t h w v : List ℕ} {a : Answer} (J : Judged s j
       let f = U .stacked .area .few in
       (rw (U .darts) at (U .stacked .area .room), (omega (arith, f, U .darts), l .table, omega (arith, f, U .darts, l .history)))
 
-undo-is : {k : ℕ} (s : State) (t h w : List ℕ) → k ≡ pick (eqb (s .levels) 0) 1 (s .levels - 1) → unfoldBy k s t h w ≡ undoBy s t h w
+pub undo-by-unfold : {k : ℕ} (s : State) (t h w : List ℕ) → k ≡ pick (eqb (s .levels) 0) 1 (s .levels - 1) → unfoldBy k s t h w ≡ undoBy s t h w
 unfolding unfoldBy undoBy onState
-undo-is s t h w e = rw (e, ← (undo-is-unfold s (tableOf s t) (pastOf s h)))
-
-pub undo-by-unfold : {k : ℕ} (S : Stored) (t h w : List ℕ) → k ≡ pick (eqb (S .state .levels) 0) 1 (S .state .levels - 1)
-    → unfoldStored k S t h w ≡ undoStored S t h w
-unfolding unfoldStored undoStored onStored
-undo-by-unfold S t h w e = rw (undo-is (S .state) t h w e)
+undo-by-unfold s t h w e = rw (e, ← (undo-is-unfold s (tableOf s t) (pastOf s h)))

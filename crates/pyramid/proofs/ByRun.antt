@@ -28,7 +28,7 @@ use Rattle.engine.specs.Runs.{ranIn, Went}
 use Rattle.engine.specs.declared.Ran.{Ran}
 use Rattle.engine.proofs.Ready.{beyond-refl}
 use Rattle.pyramid.specs.Steps.{Judged, Halts}
-use Rattle.pyramid.specs.Values.{left}
+use Rattle.pyramid.specs.Values.{figuresOf, left, unsettled}
 use Rattle.pyramid.specs.declared.Outcome.{Outcome}
 use Rattle.pyramid.proofs.Judges.{lent-of, room-then}
 use Rattle.pyramid.proofs.Started.{HandsBare}
@@ -80,7 +80,7 @@ module _ {step : State → List ℕ → List ℕ → Result} {runner : ℕ → L
   abbrev D : ℕ
   D = s .darts
 
-  pub level-full : 64 ≤ s .levels → {o : Outcome} → HandsBare o tooManyLevels s → left o t h (cleared D v) ≡ onState step s t h w
+  pub level-full : 64 ≤ s .levels → {o : Outcome} → HandsBare o tooManyLevels (figuresOf s) → unsettled (left o t h (cleared D v)) ≡ unsettled (onState step s t h w)
   level-full full H =
       act-refused step J fine (beyond-refl D v) (S .steps s (tableOf s t) (pastOf s h) ∙ rw (le-leb 64 (s .levels) full))
       (λ z. omega arith, λ z. omega arith) H
@@ -97,10 +97,10 @@ module _ {step : State → List ℕ → List ℕ → Result} {runner : ℕ → L
       answer = ran-edgy D u r _ (W .went) (S .edgy D (tableIn D v) (pastIn D (s .operations) v));
     }
 
-    pub level-ends : {x : After} → x ≡ handsBack s t h u (levelled s (pastOf s h) (ranIn D u r)) → x ≡ onState step s t h w
+    pub level-ends : {x : After} → x ≡ unsettled (handsBack s t h u (levelled s (pastOf s h) (ranIn D u r))) → x ≡ unsettled (onState step s t h w)
     level-ends L =
         let C = J .checked fine in
         let ran : ranIn D u r ≡ runner D (tableOf s t) (pastOf s h) = W .went ∙ ap₂ (runner D) (C .table refl) (C .past refl) in
         act-ends step J fine (W .beyond) (S .steps s (tableOf s t) (pastOf s h) ∙ rw (lt-leb 64 (s .levels) free))
         (plain-levelled s (pastOf s h) _ (S .edgy D (tableOf s t) (pastOf s h)))
-        (L ∙ ap (λ (y : Run). handsBack s t h u (levelled s (pastOf s h) y)) ran)
+        (L ∙ ap (λ (y : Run). unsettled (handsBack s t h u (levelled s (pastOf s h) y))) ran)

@@ -11,17 +11,15 @@ use Rattle.darts.specs.Answers.{Answer, done}
 use Rattle.darts.specs.Counts.{Counts, countsFrom, countsOf, noCounts, surviving}
 use Rattle.darts.specs.State.{State}
 use Rattle.darts.specs.Calls.{Counted, counts, tableOf, pastOf, cleared, workAfter}
-use Rattle.darts.specs.Stored.{Stored, storing, countsStored}
 use Rattle.laws.proofs.calls.Cleared.{cleared-kept}
 use Rattle.laws.proofs.calls.Judging.{judged-lent}
-use Rattle.laws.proofs.stored.Judging.{lent-stores, without-numbers}
-use Rattle.laws.proofs.stored.Plain.{counts-plain}
+use Rattle.laws.proofs.runs.Pyramids.{pyramid-built}
 use Rattle.area.specs.Area.{pastIn}
 use Rattle.engine.specs.Held.{Area}
 use Rattle.engine.proofs.Parts.{past-length}
 use Rattle.engine.proofs.Survivors.{surviving-count}
-use Rattle.pyramid.specs.Steps.{JudgedStored}
-use Rattle.pyramid.proofs.Judges.{lent-stored}
+use Rattle.pyramid.specs.Steps.{Judged}
+use Rattle.pyramid.proofs.Judges.{lent-of}
 
 -- how many darts survive
 survivors-left : {D n : ℕ} {w : List ℕ} → Area D n w → surviving (pastIn D n w) D ≡ D - 2 * n
@@ -30,33 +28,28 @@ survivors-left {D} {n} {w} A =
     let r = A .room .fits in
     surviving-count D (pastIn D n w) (A .numbers) (A .room .even) ∙ ap (λ (m : ℕ). D - 2 * m) (past-length D n w (omega arith))
 
-module _ {S : Stored} {k : ℕ} {t h w v : List ℕ} {a : Answer} (J : JudgedStored S k t h w v a) where
-  abbrev s : State
-  s = S .state
-
+module _ {s : State} {k : ℕ} {t h w v : List ℕ} {a : Answer} (J : Judged s k t h w v a) where
   abbrev leaves : Answer → Counts → List ℕ → Counted
   leaves b n u = record { answer = b; counts = n; table = t; history = h; work = u }
 
-  pub counts-refused : a .number ≢ 0 → leaves a noCounts v ≡ countsStored S t h w
-  unfolding countsStored
+  pub counts-refused : a .number ≢ 0 → leaves a noCounts v ≡ counts s t h w
+  unfolding counts
   counts-refused n = sym (rw (← (J .answer), ne-eqb (a .number) 0 n, J .refused n))
 
   module _ (fine : a .number ≡ 0) where
     survivors : surviving (pastOf s h) (s .darts) ≡ s .darts - 2 * s .operations
     survivors =
-        let C = J .judged fine .checked refl in
+        let C = J .checked fine in
         ap (λ (past : List ℕ). surviving past (s .darts)) (sym (C .past refl)) ∙ survivors-left (C .area refl)
 
-    tallied : countsFrom (s .darts - 2 * s .operations) (S .vertices) (S .faces) ≡ countsOf (s .darts) (tableOf s t) (pastOf s h)
-    unfolding countsOf storing
+    tallied : countsFrom (s .darts - 2 * s .operations) (s .vertices) (s .faces) ≡ countsOf (s .darts) (tableOf s t) (pastOf s h)
+    unfolding countsOf
     tallied =
-        let N = J .stores fine .numbers in
-        rw (← survivors)
-        (ap₂ (countsFrom (surviving (pastOf s h) (s .darts))) (ap (λ (S : Stored). S .vertices) N) (ap (λ (S : Stored). S .faces) N))
+        let N = pyramid-built (lent-of J fine .pyramid) .stored in
+        rw (← survivors) (ap₂ (countsFrom (surviving (pastOf s h) (s .darts))) (N .vertices) (N .faces))
 
-    pub counts-given : leaves done (countsFrom (s .darts - 2 * s .operations) (S .vertices) (S .faces)) (cleared (s .darts) v) ≡ countsStored S t h w
+    pub counts-given : leaves done (countsFrom (s .darts - 2 * s .operations) (s .vertices) (s .faces)) (cleared (s .darts) v) ≡ counts s t h w
     unfolding counts workAfter
     counts-given =
-        let L = lent-stored J fine in
-        ap₂ (leaves done) tallied (cleared-kept (s .darts) w v (J .judged fine .checked refl .beyond .rest))
-        ∙ sym (counts-plain S t h w (lent-stores S t h w L) ∙ rw (judged-lent s t h w (without-numbers S t h w L)))
+        ap₂ (leaves done) tallied (cleared-kept (s .darts) w v (J .checked fine .beyond .rest))
+        ∙ sym (rw (judged-lent s t h w (lent-of J fine)))

@@ -1,11 +1,11 @@
 -- What a call on a state is judged, in code.
 --   check-fits   == neither 1 nor 2: what the check asks
 --   fits-with, checked-with, cycles-with == what is asked and told of a state's figures, as of the state
+--   counted-same == a state that stores its numbers has those that are counted
+--   found-decides == the check's answer, and the numbers that it found compared to the stored ones, say whether it is a pyramid
 --   judged-first == 1 or 2: nothing is written
---   judged-no    == the check says no: 4, and the work area is cleared
---   judged-yes   == the check says yes
---   stored-first, stored-no, stored-yes == the same of a state with its numbers, which are compared to those that the check found
---   lent-stored  == done: a pyramid with its numbers is lent, with room
+--   judged-no    == no: 4, and the work area is cleared
+--   judged-yes   == yes
 --   lent-of      == done: a pyramid is lent, with room
 --   stacked-of   == the work area holds it
 --   stood-of     == so that what comes next stands on it
@@ -20,17 +20,18 @@ use Prim.Native.Nat.{ℕ, _/_, _≤_}
 use native.Mathlib.Omega.{arith}
 use lib.Dec.{T, eqb}
 use lib.ListN.{length}
-use Rattle.permutations.specs.Choice.{T→true, nT→false, true→T, eqb-iff, and-iff}
+use Rattle.permutations.specs.Choice.{T-ext, T→true, true→T, eqb-iff, and-iff}
 use Rattle.darts.specs.Answers.{Answer, done, noPyramid}
 use Rattle.darts.specs.Choose.{if_then_else_}
-use Rattle.darts.specs.State.{State}
+use Rattle.darts.specs.Pyramid.{isPyramid}
+use Rattle.darts.specs.State.{State, counted}
 use Rattle.darts.specs.Calls.{fitting, tableOf, pastOf, judged, cleared, workAfter}
-use Rattle.darts.specs.Stored.{Stored, storing, stores, StoredPyramid, judgedStored}
 use Rattle.laws.proofs.calls.Cleared.{cleared-kept}
 use Rattle.darts.proofs.Fitting.{Lengths, fits, first-keeps}
 use Rattle.laws.proofs.calls.Judging.{Lent, judged-unfit, judged-fit, judged-lent, judged-done}
-use Rattle.laws.proofs.moves.Numbers.{stored-path}
-use Rattle.laws.proofs.stored.Judging.{LentStored, stores-iff, unfit-stored, stored-lent, stored-done, stored-wrong}
+use Rattle.laws.proofs.claims.Decided.{pyramid-decided}
+use Rattle.laws.proofs.runs.Ends.{Stores, state-path}
+use Rattle.laws.proofs.runs.Pyramids.{pyramid-built}
 use Rattle.area.specs.Area.{Room}
 use Rattle.area.specs.Shape.{stateWith}
 use Rattle.area.specs.declared.Figures.{Figures}
@@ -44,7 +45,8 @@ use Rattle.area.specs.Cycles.{Labelled}
 use Rattle.engine.proofs.Beside.{beside-table, beside-past}
 use Rattle.engine.proofs.Labelled.{labelled-ready, labelled-beyond}
 use Rattle.engine.proofs.Ready.{beyond-refl}
-use Rattle.pyramid.specs.Steps.{Judged, JudgedStored, Stood, Stacked}
+use Rattle.pyramid.specs.Steps.{Judged, Stood, Stacked}
+use Rattle.pyramid.specs.Values.{figuresOf}
 
 pub check-fits : {D t h : ℕ} {w : List ℕ} {a : Answer} → a ≡ fitting D t h (length w) → a .number ≡ 0 → Room D w × ((D ≤ t) × (D / 2 ≤ h))
 check-fits {D} {t} {h} {w} E fine =
@@ -53,6 +55,44 @@ check-fits {D} {t} {h} {w} E fine =
       record { even = f .count .even; some = omega arith; small = f .count .small; fits = f .lengths .work },
       (f .lengths .table, f .lengths .history),
     )
+
+-- ---- the numbers
+
+pub counted-same : {s : State} {t past : List ℕ} → Stores s t past → counted s t past ≡ s
+counted-same N = state-path refl refl refl refl (sym (N .vertices)) (sym (N .faces))
+
+-- what the check found, compared to the numbers that are stored
+module _ (s : State) (t past : List ℕ) {p : Bool} {x y : ℕ} (C : p ≡ isPyramid (counted s t past) t past) (F : p ≡ true → CyclesAre (s .darts) t past x y) where
+  abbrev said : Bool
+  said = p && (eqb x (s .vertices) && eqb y (s .faces))
+
+  said-iff : T said ↔ (T p × ((x ≡ s .vertices) × (y ≡ s .faces)))
+  said-iff =
+      and-iff p (eqb x (s .vertices) && eqb y (s .faces)) (λ t. t, λ t. t)
+      (λ _. and-iff (eqb x (s .vertices)) (eqb y (s .faces)) (eqb-iff x (s .vertices)) (λ _. eqb-iff y (s .faces)))
+
+  found-yes : T said → T (isPyramid s t past)
+  found-yes q =
+      let Y = said-iff .0 q in
+      let N = F (T→true p (Y .0)) in
+      let S : Stores s t past = record { vertices = sym (Y .1 .0) ∙ N .vertices; faces = sym (Y .1 .1) ∙ N .faces } in
+      subst (λ (z : State). T (isPyramid z t past)) (counted-same S) (subst T C (Y .0))
+
+  yes-found : T (isPyramid s t past) → T said
+  yes-found q =
+      let S = pyramid-built (pyramid-decided s t past .0 q) .stored in
+      let is : T p = subst T (sym C) (subst (λ (z : State). T (isPyramid z t past)) (sym (counted-same S)) q) in
+      let N = F (T→true p is) in
+      said-iff .1 (is, (N .vertices ∙ sym (S .vertices), N .faces ∙ sym (S .faces)))
+
+  -- "a state whose numbers differ from the cycles is no pyramid"
+  pub found-decides : (p && (eqb x (s .vertices) && eqb y (s .faces))) ≡ isPyramid s t past
+  found-decides = T-ext said (isPyramid s t past) found-yes yes-found
+
+  pub found-pyramid : T (p && (eqb x (s .vertices) && eqb y (s .faces))) → p ≡ true
+  found-pyramid q = T→true p (said-iff .0 q .0)
+
+-- ---- judged
 
 module _ {s : State} {k : ℕ} {t h w : List ℕ} {a : Answer} (E : a ≡ fitting (s .darts) (length t) (length h) (length w)) where
   pub judged-first : a .number ≢ 0 → Judged s k t h w w a
@@ -64,11 +104,14 @@ module _ {s : State} {k : ℕ} {t h w : List ℕ} {a : Answer} (E : a ≡ fittin
         checked = λ e. absurd (m e);
       })
 
-  module _ (fine : a .number ≡ 0) {v : List ℕ} {r : Bool} (C : Checked s k t h w v r) where
-    told : (b : Bool) → r ≡ b → (if b then done else noPyramid) ≡ judged s t h w
-    told b e = sym (judged-fit s t h w (sym (ap (λ (b : Answer). b .number) E) ∙ fine) b (sym (C .answer) ∙ e))
+  module _ (fine : a .number ≡ 0) {v : List ℕ} {p : Bool} {x y : ℕ} (C : Checked s k t h w v p)
+      (F : p ≡ true → CyclesAre (s .darts) (tableOf s t) (pastOf s h) x y) {b : Bool} (is : b ≡ (p && (eqb x (s .vertices) && eqb y (s .faces)))) where
+    told : (c : Bool) → b ≡ c → (if c then done else noPyramid) ≡ judged s t h w
+    told c e =
+        sym (judged-fit s t h w (sym (ap (λ (b : Answer). b .number) E) ∙ fine) c
+        (sym (found-decides s (tableOf s t) (pastOf s h) (C .answer) F) ∙ sym is ∙ e))
 
-    pub judged-no : r ≡ false → Judged s k t h w (cleared (s .darts) v) noPyramid
+    pub judged-no : b ≡ false → Judged s k t h w (cleared (s .darts) v) noPyramid
     unfolding workAfter
     judged-no e = record {
       answer = told false e;
@@ -76,11 +119,12 @@ module _ {s : State} {k : ℕ} {t h w : List ℕ} {a : Answer} (E : a ≡ fittin
       checked = λ z. absurd (omega arith);
     }
 
-    pub judged-yes : r ≡ true → Judged s k t h w v done
+    pub judged-yes : b ≡ true → Judged s k t h w v done
     judged-yes e = record {
       answer = told true e;
       refused = λ n. absurd (n refl);
-      checked = λ _. subst (λ b. Checked s k t h w v b) e C;
+      checked = λ _.
+          subst (λ (q : Bool). Checked s k t h w v q) (found-pyramid s (tableOf s t) (pastOf s h) (C .answer) F (true→T (sym is ∙ e))) C;
     }
 
 module _ {s : State} {k : ℕ} {t h w v : List ℕ} {a : Answer} (J : Judged s k t h w v a) (fine : a .number ≡ 0) where
@@ -150,85 +194,20 @@ relabelled {s} Z few L =
 
 -- ---- a state's figures
 
-module _ {f : Figures} {s : State} (same : stateWith f ≡ s) where
-  pub fits-with : {w : List ℕ} {t h : ℕ} → Room (s .darts) w × ((s .darts ≤ t) × (s .darts / 2 ≤ h)) → Room (f .darts) w × ((f .darts ≤ t) × (f .darts / 2 ≤ h))
-  fits-with {w} {t} {h} = subst (λ (z : State). Room (z .darts) w × ((z .darts ≤ t) × (z .darts / 2 ≤ h))) (sym same)
+pub fits-with : {f : Figures} {s : State} → stateWith f ≡ s → {w : List ℕ} {t h : ℕ} → Room (s .darts) w × ((s .darts ≤ t) × (s .darts / 2 ≤ h))
+    → Room (f .darts) w × ((f .darts ≤ t) × (f .darts / 2 ≤ h))
+fits-with same {w} {t} {h} = subst (λ (z : State). Room (z .darts) w × ((z .darts ≤ t) × (z .darts / 2 ≤ h))) (sym same)
 
-  pub checked-with : {k : ℕ} {t h w v : List ℕ} {p : Bool} → Checked (stateWith f) k t h w v p → Checked s k t h w v p
-  checked-with {k} {t} {h} {w} {v} {p} = subst (λ (z : State). Checked z k t h w v p) same
+-- the check does not look at the stored numbers
+checked-figures : {s : State} {k : ℕ} {t h w v : List ℕ} {p : Bool} → Checked (figuresOf s) k t h w v p → Checked s k t h w v p
+unfolding tableOf pastOf
+checked-figures C = record { answer = C .answer; beyond = C .beyond; area = C .area; table = C .table; past = C .past; ready = C .ready }
 
-  pub cycles-with : (t h : List ℕ) {r : Found} → FindsCycles (f .darts) (tableOf (stateWith f) t) (pastOf (stateWith f) h) r
-      → FindsCycles (s .darts) (tableOf s t) (pastOf s h) r
-  cycles-with t h {r} = subst (λ (z : State). FindsCycles (z .darts) (tableOf z t) (pastOf z h) r) same
+pub checked-with : {f : Figures} {s : State} → stateWith f ≡ figuresOf s → {k : ℕ} {t h w v : List ℕ} {p : Bool} → Checked (stateWith f) k t h w v p
+    → Checked s k t h w v p
+checked-with same {k} {t} {h} {w} {v} {p} C = checked-figures (subst (λ (z : State). Checked z k t h w v p) same C)
 
--- ---- a state with its numbers
-
--- the numbers that were found, compared to those that are stored
-module _ (S : Stored) (t past : List ℕ) {x y : ℕ} (N : CyclesAre (S .state .darts) t past x y) where
-  found-numbers : x ≡ S .vertices → y ≡ S .faces → S ≡ storing (S .state) t past
-  unfolding storing
-  found-numbers v f = stored-path refl (sym v ∙ N .vertices) (sym f ∙ N .faces)
-
-  numbers-found : S ≡ storing (S .state) t past → (x ≡ S .vertices) × (y ≡ S .faces)
-  unfolding storing
-  numbers-found e = (N .vertices ∙ sym (ap (λ (S : Stored). S .vertices) e), N .faces ∙ sym (ap (λ (S : Stored). S .faces) e))
-
-module _ (S : Stored) {k : ℕ} {t h w : List ℕ} {a : Answer} (E : a ≡ fitting (S .state .darts) (length t) (length h) (length w)) where
-  pub stored-first : a .number ≢ 0 → JudgedStored S k t h w w a
-  stored-first n =
-      let J : Judged (S .state) k t h w w a = judged-first E n in
-      record {
-        answer = J .answer ∙ sym (unfit-stored S t h w (λ e. n (ap (λ (b : Answer). b .number) (J .answer) ∙ e)));
-        refused = J .refused;
-        judged = λ e. absurd (n e);
-        stores = λ e. absurd (n e);
-      }
-
-  module _ (fine : a .number ≡ 0) {v : List ℕ} {p : Bool} {x y : ℕ} (C : Checked (S .state) k t h w v p)
-      (F : p ≡ true → CyclesAre (S .state .darts) (tableOf (S .state) t) (pastOf (S .state) h) x y) where
-    abbrev said : Bool
-    said = p && (eqb x (S .vertices) && eqb y (S .faces))
-
-    -- yes says that it is a pyramid, whose numbers are these
-    said-iff : T said ↔ (T p × ((x ≡ S .vertices) × (y ≡ S .faces)))
-    said-iff =
-        and-iff p (eqb x (S .vertices) && eqb y (S .faces)) (λ t. t, λ t. t)
-        (λ _. and-iff (eqb x (S .vertices)) (eqb y (S .faces)) (eqb-iff x (S .vertices)) (λ _. eqb-iff y (S .faces)))
-
-    pub stored-yes : {b : Bool} → b ≡ said → b ≡ true → JudgedStored S k t h w v done
-    stored-yes e is =
-        let Y = said-iff .0 (true→T (sym e ∙ is)) in
-        let J : Judged (S .state) k t h w v done = judged-yes E fine C (T→true p (Y .0)) in
-        let N = F (T→true p (Y .0)) in
-        let lent = lent-of J refl in
-        let right : StoredPyramid S (tableOf (S .state) t) (pastOf (S .state) h) = record { pyramid = lent .pyramid; numbers = found-numbers S (tableOf (S .state) t) (pastOf (S .state) h) N (Y .1 .0) (Y .1 .1) } in
-        record {
-          answer = sym (stored-lent S t h w (record { stored = right; lengths = lent .lengths }));
-          refused = λ n. absurd (n refl);
-          judged = λ _. J;
-          stores = λ _. right;
-        }
-
-    -- where it is a pyramid, the numbers differ
-    differ : p ≡ true → said ≡ false → stores S (tableOf (S .state) t) (pastOf (S .state) h) ≡ false
-    differ is f =
-        nT→false (stores S (tableOf (S .state) t) (pastOf (S .state) h))
-        (λ y. subst T f (said-iff .1 (true→T is, numbers-found S (tableOf (S .state) t) (pastOf (S .state) h) (F is) (stores-iff S (tableOf (S .state) t) (pastOf (S .state) h) .0 y))))
-
-    four : (q : Bool) → p ≡ q → said ≡ false → noPyramid ≡ judgedStored S t h w
-    four true is f = sym (stored-wrong S t h w (sym (ap (λ (b : Answer). b .number) E) ∙ fine) (differ is f))
-    four false is f =
-        let J = judged-no E fine C is in
-        J .answer ∙ sym (unfit-stored S t h w (rw (← (J .answer)) (λ z. omega arith)))
-
-    pub stored-no : {b : Bool} → b ≡ said → b ≡ false → JudgedStored S k t h w (cleared (S .state .darts) v) noPyramid
-    unfolding workAfter
-    stored-no e is = record {
-      answer = four p refl (sym e ∙ is);
-      refused = λ _. cleared-kept (S .state .darts) w v (C .beyond .rest);
-      judged = λ z. absurd (omega arith);
-      stores = λ z. absurd (omega arith);
-    }
-
-pub lent-stored : {S : Stored} {k : ℕ} {t h w v : List ℕ} {a : Answer} → JudgedStored S k t h w v a → a .number ≡ 0 → LentStored S t h w
-lent-stored {S} {t = t} {h = h} {w = w} J fine = stored-done S t h w (sym (ap (λ (b : Answer). b .number) (J .answer)) ∙ fine)
+pub cycles-with : {f : Figures} (s : State) → stateWith f ≡ figuresOf s → (t h : List ℕ) {r : Found}
+    → FindsCycles (f .darts) (tableOf (stateWith f) t) (pastOf (stateWith f) h) r → FindsCycles (s .darts) (tableOf s t) (pastOf s h) r
+unfolding tableOf pastOf
+cycles-with s same t h {r} = subst (λ (z : State). FindsCycles (z .darts) (tableOf z t) (pastOf z h) r) same

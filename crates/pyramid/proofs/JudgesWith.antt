@@ -6,7 +6,6 @@
 --   with-yes     == it is a pyramid, and its sheets are right
 --   plain-judged == where it is done, so is the plain call
 --   costed-of, righted-of == a pyramid and its sheets, lent with room
---   stored-early, stored-strange, stored-right == the same of a state that stores its numbers: refused already; its numbers are wrong; or they are right
 use mathlib.Core.Bool.{Bool, true, false, _&&_}
 use mathlib.Core.List.{List, reverse}
 use mathlib.Core.Logic.{_≢_}
@@ -17,18 +16,16 @@ use native.Mathlib.Omega.{arith}
 use lib.Dec.{T}
 use lib.ListN.{getD, length, drop}
 use lib.Seq.{getD-drop}
-use Rattle.permutations.specs.Choice.{T→true, eqb-other}
+use Rattle.permutations.specs.Choice.{eqb-other}
 use Rattle.darts.specs.Answers.{Answer, done, noPyramid}
 use Rattle.darts.specs.State.{State}
-use Rattle.darts.specs.Pyramid.{isPyramid}
+use Rattle.darts.specs.Pyramid.{Pyramid, isPyramid}
 use Rattle.darts.specs.Calls.{fitting, tableOf, pastOf, cleared, workAfter}
-use Rattle.darts.specs.Stored.{Stored, stores}
 use Rattle.darts.proofs.Fitting.{Lengths, first-keeps}
 use Rattle.darts.proofs.Fitting as Plain
 use Rattle.laws.proofs.calls.Cleared.{cleared-kept}
 use Rattle.laws.proofs.calls.Judging.{Lent, judged-lent}
 use Rattle.laws.proofs.claims.Decided.{pyramid-decided}
-use Rattle.laws.proofs.stored.Judging.{stores-iff}
 use Rattle.area.specs.Area.{Room}
 use Rattle.engine.specs.Held.{Beyond}
 use Rattle.engine.proofs.Area.{room-kept}
@@ -40,10 +37,9 @@ use Rattle.yarn.specs.Given.{given}
 use Rattle.yarn.specs.Calls.{fittingOf, baseOf, judged}
 use Rattle.yarn.proofs.sentences.Lengths.{Room as SheetRoom, Fits, fits, room?, fitting-plain, fitting-narrow, fitting-fine}
 use Rattle.yarn.proofs.sentences.Judging.{Costed, judged-other, judged-strange, judged-costed, judged-done}
-use Rattle.yarn.proofs.StoredWith.{unfit-with, right-with, stored-with-wrong}
 use Rattle.noting.specs.Checks.{NoteChecked, Reloads, Reloaded}
 use Rattle.noting.proofs.Deciding.{given-told}
-use Rattle.pyramid.specs.Costs.{StoodWith, JudgedWith, JudgedStoredWith, Righted}
+use Rattle.pyramid.specs.Costs.{StoodWith, JudgedWith, Righted}
 use Rattle.pyramid.specs.Steps.{Judged}
 
 -- the notes stand in the half of the history's part that a load leaves
@@ -96,12 +92,11 @@ module _ (s : State) (t h w : List ℕ) (S : Sheets) {a : Answer} (E : a ≡ fit
       stood = λ z. absurd (omega arith);
     }
 
-    module _ {v : List ℕ} {r : Bool} (C : NoteChecked s t h w v r) where
-      pub with-no : r ≡ false → JudgedWith s t h w (cleared (s .darts) v) S noPyramid
-      with-no e =
-          refused-four (C .beyond)
-          (sym (judged-other s t h w S with-fits (λ P. subst T (sym (C .answer) ∙ e) (pyramid-decided s (tableOf s t) (pastOf s h) .1 P))))
+    pub with-no : {v : List ℕ} → Beyond (s .darts) w v → isPyramid s (tableOf s t) (pastOf s h) ≡ false → JudgedWith s t h w (cleared (s .darts) v) S noPyramid
+    with-no B e =
+        refused-four B (sym (judged-other s t h w S with-fits (λ P. subst T e (pyramid-decided s (tableOf s t) (pastOf s h) .1 P))))
 
+    module _ {v : List ℕ} {r : Bool} (C : NoteChecked s t h w v r) where
       module _ (yes : r ≡ true) where
         abbrev D : ℕ
         D = s .darts
@@ -131,10 +126,9 @@ module _ (s : State) (t h w : List ℕ) (S : Sheets) {a : Answer} (E : a ≡ fit
               roots = C .roots yes;
             }
 
-        pub with-yes : {x : Bool} → x ≡ rightIn D v S (D + s .operations) 0 → x ≡ true → {u : List ℕ} → Reloaded s t h v u → JudgedWith s t h w u S done
-        with-yes e k {u} R =
+        pub with-yes : Pyramid s (tableOf s t) (pastOf s h) → {x : Bool} → x ≡ rightIn D v S (D + s .operations) 0 → x ≡ true → {u : List ℕ} → Reloaded s t h v u → JudgedWith s t h w u S done
+        with-yes P e k {u} R =
             let F = with-fits in
-            let P = pyramid-decided s (tableOf s t) (pastOf s h) .0 (subst T (sym yes ∙ C .answer) tt) in
             let B = beyond-trans (C .beyond) (R .beyond) in
             let L : Lent s t h u = record { pyramid = P; lengths = subst (λ n. Lengths D (length t) (length h) n) (sym (B .size)) (F .lengths) } in
             let H = C .holds yes in
@@ -187,35 +181,3 @@ module _ {s : State} {t h w v : List ℕ} {S : Sheets} {a : Answer} (J : JudgedW
           ready = K .ready;
         };
       }
-
--- ---- the stored numbers
-
-module _ (S : Stored) (t h w : List ℕ) (C : Sheets) where
-  abbrev s : State
-  s = S .state
-
-  pub stored-early : {v : List ℕ} {a : Answer} → JudgedWith s t h w v C a → a .number ≢ 0 → JudgedStoredWith S t h w v C a
-  stored-early J n = record {
-    answer = J .answer ∙ sym (unfit-with S t h w C (λ z. n (ap (λ (b : Answer). b .number) (J .answer) ∙ z)));
-    refused = J .refused;
-    judged = λ z. absurd (n z);
-    stores = λ z. absurd (n z);
-  }
-
-  pub stored-strange : {v : List ℕ} → fittingOf (s .darts) t h w C .number ≡ 0 → Beyond (s .darts) w v
-      → stores S (tableOf s t) (pastOf s h) ≡ false → JudgedStoredWith S t h w (cleared (s .darts) v) C noPyramid
-  unfolding workAfter
-  stored-strange {v} fine B differ = record {
-    answer = sym (stored-with-wrong S t h w C fine differ);
-    refused = λ _. cleared-kept (s .darts) w v (B .rest);
-    judged = λ z. absurd (omega arith);
-    stores = λ z. absurd (omega arith);
-  }
-
-  pub stored-right : {v : List ℕ} → JudgedWith s t h w v C done → T (stores S (tableOf s t) (pastOf s h)) → JudgedStoredWith S t h w v C done
-  stored-right J y = record {
-    answer = sym (right-with S t h w C (sym (ap (λ (b : Answer). b .number) (J .answer))) (T→true _ y));
-    refused = λ n. absurd (n refl);
-    judged = λ _. J;
-    stores = λ _. record { pyramid = costed-of J refl .lent .pyramid; numbers = stores-iff S (tableOf s t) (pastOf s h) .0 y };
-  }

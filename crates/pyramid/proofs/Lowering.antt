@@ -5,7 +5,7 @@
 --   Falling k s z w v == on the way from s down to level k: z and v are as far as it went
 --   falling-start, falling-more, falling-end == none yet, one level more, level k
 use mathlib.Core.List.{List, [], _∷_}
-use mathlib.Core.Path.{_≡_, refl, ap, _∙_}
+use mathlib.Core.Path.{_≡_, refl, sym, ap, subst, _∙_}
 use Prim.Native.Nat.{ℕ, zero, suc, _-_, _≤_, _<_}
 use native.Mathlib.Decide.{decLe}
 use native.Mathlib.Nat.{not-suc-le-zero, le-of-suc-le-suc}
@@ -21,7 +21,8 @@ use Rattle.laws.proofs.runs.Undo.{undo-pyramid}
 use Rattle.area.specs.Area.{tableIn, pastIn}
 use Rattle.engine.specs.Held.{Beyond}
 use Rattle.engine.specs.Back.{TookBack}
-use Rattle.pyramid.specs.Steps.{Stacked, Lowered, Unfolded}
+use Rattle.pyramid.specs.Steps.{Sunk, stateIn, Stacked, Lowered, Unfolded}
+use Rattle.pyramid.specs.Values.{figuresOf}
 
 -- a mark that rises to the last one is not above it
 rising-le : (from : ℕ) (marks : List ℕ) (to i : ℕ) → Rising from marks to → i < length marks → getD marks i 0 ≤ to
@@ -37,7 +38,7 @@ module _ (s : State) (w : List ℕ) (S : Stacked s w) where
   abbrev n : ℕ
   n = s .operations
 
-  layered : Layered D s (pastIn D n w)
+  layered : Layered D (stateIn s w) (pastIn D n w)
   layered = pyramid-built (S .pyramid) .layered
 
   pub stacked-few : s .levels ≤ 64
@@ -57,17 +58,20 @@ module _ (s : State) (w : List ℕ) (S : Stacked s w) where
           rw (lt-leb (s .levels) 1 (omega arith))
           (rw (getD-take (s .levels) (s .ends) (s .levels - 2) 0 i) at (rising-le 0 (take (s .levels) (s .ends)) n (s .levels - 2) (layered .rise) long))
 
-  module _ (some : 0 < s .levels) (z : State) (state : z ≡ lowered s) (v : List ℕ) (B : TookBack D n (n - endBelow s) w v) where
+  module _ (some : 0 < s .levels) (v : List ℕ) (B : TookBack D n (n - endBelow s) w v) where
     back : n - (n - endBelow s) ≡ endBelow s
     back = let l = below-le in omega arith
 
-    stepped : undoLevel s (tableIn D w) (pastIn D n w) ≡ gives (lowered s) (tableIn D v) (pastIn D (endBelow s) v)
-    unfolding undoLevel
+    abbrev below : State
+    below = lowered s (tableIn D v) (pastIn D (endBelow s) v)
+
+    stepped : undoLevel (stateIn s w) (tableIn D w) (pastIn D n w) ≡ gives below (tableIn D v) (pastIn D (endBelow s) v)
+    unfolding undoLevel lowered endBelow
     stepped = rw (ne-eqb (s .levels) 0 (λ e. omega arith), ← (B .table), ← (B .past), back)
 
-    pub lowered-level : Lowered s z w v
+    lowers : Lowered s (figuresOf below) w v
     unfolding lowered
-    lowered-level = rw state (record {
+    lowers = record {
       step = stepped;
       stacked = record {
         pyramid = undo-pyramid (S .pyramid) stepped;
@@ -76,13 +80,27 @@ module _ (s : State) (w : List ℕ) (S : Stacked s w) where
       darts = refl;
       levels = omega arith;
       beyond = B .beyond;
-    })
+    }
+
+    -- only the figures are looked at
+    same-figures : (z : State) → Lowered s (figuresOf z) w v → Lowered s z w v
+    same-figures z L = record {
+      step = L .step;
+      stacked = record { pyramid = L .stacked .pyramid; area = L .stacked .area };
+      darts = L .darts;
+      levels = L .levels;
+      beyond = L .beyond;
+    }
+
+    pub lowered-level : (z : State) → Sunk s z → Lowered s z w v
+    lowered-level z is =
+        same-figures z (subst (λ (y : State). Lowered s y w v) (sym (is (tableIn D v) (pastIn D (endBelow s) v))) lowers)
 
 -- ---- level after level, down to level k
 
 pub record Falling (k : ℕ) (s z : State) (w v : List ℕ) : Type 0 where
-  pub rest : undoLevels (s .levels - k) s (tableIn (s .darts) w) (pastIn (s .darts) (s .operations) w)
-      ≡ undoLevels (z .levels - k) z (tableIn (z .darts) v) (pastIn (z .darts) (z .operations) v)
+  pub rest : undoLevels (s .levels - k) (stateIn s w) (tableIn (s .darts) w) (pastIn (s .darts) (s .operations) w)
+      ≡ undoLevels (z .levels - k) (stateIn z v) (tableIn (z .darts) v) (pastIn (z .darts) (z .operations) v)
   pub stacked : Stacked z v
   pub darts : z .darts ≡ s .darts
   pub beyond : Beyond (s .darts) w v
@@ -105,8 +123,8 @@ falling-more {k} {s} {z} {y} {w} {v} {u} F h L = record {
     count : z .levels - k ≡ suc (y .levels - k)
     count = let l = L .levels in omega arith
 
-    more : undoLevels (z .levels - k) z (tableIn (z .darts) v) (pastIn (z .darts) (z .operations) v)
-        ≡ undoLevels (y .levels - k) y (tableIn (y .darts) u) (pastIn (y .darts) (y .operations) u)
+    more : undoLevels (z .levels - k) (stateIn z v) (tableIn (z .darts) v) (pastIn (z .darts) (z .operations) v)
+        ≡ undoLevels (y .levels - k) (stateIn y u) (tableIn (y .darts) u) (pastIn (y .darts) (y .operations) u)
     more = rw count (ap (λ r. andThen r (undoLevels (y .levels - k))) (L .step))
 
 pub falling-end : {k : ℕ} {s z : State} {w v : List ℕ} → Falling k s z w v → z .levels ≤ k → Unfolded k s z w v

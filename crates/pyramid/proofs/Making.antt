@@ -51,7 +51,7 @@ use Rattle.noting.specs.Running.{RanNoted}
 use Rattle.noting.proofs.Places.{Numbers, merges-alike}
 use Rattle.pyramid.specs.declared.Made.{Made}
 use Rattle.pyramid.specs.Costs.{StoodWith, MadeBy}
-use Rattle.pyramid.specs.Values.{left}
+use Rattle.pyramid.specs.Values.{figuresOf, left, unsettled}
 use Rattle.pyramid.proofs.Judges.{lent-of, room-then}
 use Rattle.pyramid.proofs.ByRun.{reduce-levels, level-full}
 use Rattle.pyramid.proofs.Started.{HandsBare}
@@ -120,7 +120,7 @@ module _ {s : State} {t h w : List ℕ} (Z : StoodWith s t h w) (es : List ℕ) 
   area-few : n ≤ D / 2
   area-few = Z .stood .checked refl .area refl .few
 
-  module _ {t′ h′ v : List ℕ} (m : Made) (plain : left (m .outcome) t′ h′ (cleared D v) ≡ reduceBy contraction es s t h w) (room : Room D v) where
+  module _ {t′ h′ v : List ℕ} (m : Made) (plain : unsettled (left (m .outcome) t′ h′ (cleared D v)) ≡ unsettled (reduceBy contraction es s t h w)) (room : Room D v) where
     -- NEITHER SHEET CHANGES
     pub made-same : {a : Answer} → reduce contraction es s u past ≡ refuses a → m .operations ≡ n → MadeBy s es t h w t′ h′ v m
     unfolding sheetsAfter mergedBy
@@ -155,7 +155,7 @@ module _ {s : State} {t h w : List ℕ} (Z : StoodWith s t h w) (es : List ℕ) 
 
       module _ (some : length new ≢ length past) where
         abbrev z : State
-        z = raised s (length new)
+        z = raised s u′ new
 
         given-new : reduce contraction es s u past ≡ gives z u′ new
         given-new = raises-reduce s u past contraction es (record { room = free; stood = ran; more = some; state = refl })
@@ -213,14 +213,14 @@ module _ {s : State} {t h w : List ℕ} (Z : StoodWith s t h w) (es : List ℕ) 
                 (merges-fit D b (lowest-settled (base-standing P)) (room .small) hs fresh (record { inside = inside; apart = apart }) G l)
 
 module _ {s : State} {t h w : List ℕ} (Z : StoodWith s t h w) (es : List ℕ) where
-  pub made-full : 64 ≤ s .levels → (m : Made) → HandsBare (m .outcome) tooManyLevels s → m .operations ≡ s .operations → MadeBy s es t h w t h w m
+  pub made-full : 64 ≤ s .levels → (m : Made) → HandsBare (m .outcome) tooManyLevels (figuresOf s) → m .operations ≡ s .operations → MadeBy s es t h w t h w m
   unfolding reduceBy reduce
   made-full full m H same =
       made-same Z es m (level-full (reduce-levels refl es) (Z .stood) refl full H) (room-then (Z .stood) refl (beyond-refl (s .darts) w))
       {a = tooManyLevels} (rw (le-leb 64 (s .levels) full)) same
 
   module _ (free : s .levels < 64) {t′ h′ v : List ℕ} {r : Ran} (R : RanNoted (s .darts) (s .operations) es w v r) (m : Made)
-      (plain : left (m .outcome) t′ h′ (cleared (s .darts) v) ≡ reduceBy contraction es s t h w)
+      (plain : unsettled (left (m .outcome) t′ h′ (cleared (s .darts) v)) ≡ unsettled (reduceBy contraction es s t h w))
       (reached : m .operations ≡ pick (eqb (answerOf (r .answer) .number) 0) (r .operations) (s .operations)) where
     abbrev new : List ℕ
     new = pastIn (s .darts) (r .operations) v

@@ -4,7 +4,7 @@
 --   level-raised == one level more
 use mathlib.Core.List.{List, reverse-reverse}
 use mathlib.Core.Logic.{_≢_}
-use mathlib.Core.Path.{_≡_, sym, _∙_}
+use mathlib.Core.Path.{_≡_, sym, ap, _∙_}
 use Prim.Native.Nat.{ℕ, _+_, _*_}
 use native.Mathlib.Omega.{arith}
 use borrow.Author.Tests.{eq-eqb, ne-eqb}
@@ -13,14 +13,14 @@ use Rattle.slices.specs.Part.{part}
 use Rattle.darts.specs.Answers.{Answer as Answered, done, emptyKernel}
 use Rattle.darts.specs.Cases.{answerOf}
 use Rattle.darts.specs.State.{State as Stated, raised, levelled, refuses}
-use Rattle.darts.specs.Calls.{leaves, handsBack, workAfter, pastOf, cleared}
+use Rattle.darts.specs.Calls.{After, leaves, handsBack, workAfter, pastOf, cleared}
 use Rattle.slices.specs.Over.{over}
 use Rattle.area.specs.Area.{tableIn, pastIn}
 use Rattle.engine.specs.Runs.{ranIn}
 use Rattle.engine.specs.declared.Ran.{Ran}
 use Rattle.engine.proofs.Parts.{past-length}
-use Rattle.pyramid.specs.Steps.{Halts}
-use Rattle.pyramid.specs.Values.{left}
+use Rattle.pyramid.specs.Steps.{Halts, Raised}
+use Rattle.pyramid.specs.Values.{stateOf, figuresOf, left, unsettled}
 use Rattle.pyramid.proofs.Started.{HandsBare, hands-bare}
 use Rattle.pyramid.specs.declared.Outcome.{Outcome}
 
@@ -50,32 +50,43 @@ module _ (s : Stated) (r : Ran) (t h w : List ℕ) (H : Halts s r w (length t) (
   new-count : length (pastIn D (r .operations) w) ≡ r .operations
   new-count = let a = H .after in let f = H .room .fits in past-length D (r .operations) w (omega arith)
 
-  pub level-stops : (o : Outcome) → said .number ≢ 0 → HandsBare o said s
-      → left o t h (cleared D w) ≡ handsBack s t h w (levelled s past (ranIn D w r))
+  pub level-stops : (o : Outcome) → said .number ≢ 0 → HandsBare o said (figuresOf s)
+      → unsettled (left o t h (cleared D w)) ≡ unsettled (handsBack s t h w (levelled s past (ranIn D w r)))
   unfolding levelled ranIn
   level-stops o n G =
       let e = H .answer n in
-      hands-bare o G t h (cleared D w)
-      ∙ sym (rw (ne-eqb (said .number) 0 n) (refused-clears s t h w said (λ z. omega arith) (λ z. omega arith)))
+      let stops : handsBack s t h w (levelled s past (ranIn D w r)) ≡ leaves said s t h (cleared D w) =
+      rw (ne-eqb (said .number) 0 n) (refused-clears s t h w said (λ z. omega arith) (λ z. omega arith)) in
+      hands-bare o s G t h (cleared D w) ∙ ap (λ (x : After). unsettled x) (sym stops)
 
   module _ (fine : said .number ≡ 0) where
-    pub level-empty : (o : Outcome) → r .operations ≡ s .operations → HandsBare o emptyKernel s
-        → left o t h (cleared D w) ≡ handsBack s t h w (levelled s past (ranIn D w r))
+    pub level-empty : (o : Outcome) → r .operations ≡ s .operations → HandsBare o emptyKernel (figuresOf s)
+        → unsettled (left o t h (cleared D w)) ≡ unsettled (handsBack s t h w (levelled s past (ranIn D w r)))
     unfolding levelled ranIn
     level-empty o e G =
-        hands-bare o G t h (cleared D w)
-        ∙ sym (rw (eq-eqb (said .number) 0 fine, eq-eqb (length (pastIn D (r .operations) w)) (length past) (new-count ∙ e ∙ sym past-count))
-        (refused-clears s t h w emptyKernel (λ z. omega arith) (λ z. omega arith)))
+        let empty : handsBack s t h w (levelled s past (ranIn D w r)) ≡ leaves emptyKernel s t h (cleared D w) =
+        rw (eq-eqb (said .number) 0 fine, eq-eqb (length (pastIn D (r .operations) w)) (length past) (new-count ∙ e ∙ sym past-count))
+        (refused-clears s t h w emptyKernel (λ z. omega arith) (λ z. omega arith)) in
+        hands-bare o s G t h (cleared D w) ∙ ap (λ (x : After). unsettled x) (sym empty)
 
-    pub level-raised : (o : Outcome) → r .operations ≢ s .operations → HandsBare o done (raised s (r .operations))
-        → left o (over (tableIn D w) t) (over (part (3 * D) (3 * D + r .operations) w) h) (cleared D w)
-        ≡ handsBack s t h w (levelled s past (ranIn D w r))
+    -- the level that is more
+    abbrev z : Stated
+    z = raised s (tableIn D w) (pastIn D (r .operations) w)
+
+    raises : r .operations ≢ s .operations
+        → leaves done z (over (tableIn D w) t) (over (part (3 * D) (3 * D + r .operations) w) h) (cleared D w) ≡ handsBack s t h w (levelled s past (ranIn D w r))
     unfolding levelled ranIn handsBack
-    level-raised o n G =
-        hands-bare o G _ _ (cleared D w)
-        ∙ sym (rw (
+    raises n =
+        sym (rw (
           eq-eqb (said .number) 0 fine,
           ne-eqb (length (pastIn D (r .operations) w)) (length past) (λ e. n (sym new-count ∙ e ∙ past-count)),
-          new-count,
           reverse-reverse (part (3 * D) (3 * D + r .operations) w),
         ))
+
+    pub level-raised : (o : Outcome) → r .operations ≢ s .operations → answerOf (o .answer) ≡ done
+        → Raised s (r .operations) (stateOf (o .state))
+        → unsettled (left o (over (tableIn D w) t) (over (part (3 * D) (3 * D + r .operations) w) h) (cleared D w))
+        ≡ unsettled (handsBack s t h w (levelled s past (ranIn D w r)))
+    level-raised o n is up =
+        hands-bare o z (record { answer = is; state = up (tableIn D w) (pastIn D (r .operations) w) new-count }) _ _ (cleared D w)
+        ∙ ap (λ (x : After). unsettled x) (raises n)

@@ -1,7 +1,8 @@
 -- The stored numbers put right once a call's work is done.
 --   moved-nowhere == numbers that are moved nowhere stay
---   settles       == what a call left of a pyramid with its numbers: they can be moved to its operations
---   settled       == and with the numbers moved so it is what the call with numbers leaves
+--   moved-figures == of the state that they are moved to only the figures are looked at
+--   settles       == what a call left, but for the numbers: those that it was given can be moved to its operations
+--   settled       == and with the numbers moved so it is what the call leaves
 --   judged-settles, judged-settled == the same of what comes once the call is judged
 --   done-most     == no more contractions than operations
 --   settle-up, settle-down == the numbers moved where operations were done, and where they were undone
@@ -18,25 +19,23 @@ use Rattle.darts.specs.Answers.{Answer as Answered}
 use Rattle.darts.specs.Cases.{answerOf}
 use Rattle.darts.specs.State.{State}
 use Rattle.darts.specs.Pyramid.{Pyramid}
-use Rattle.darts.specs.Calls.{After, tableOf, pastOf}
-use Rattle.darts.specs.Stored.{Stored, storing, AfterStored, leavesStored, numbered}
+use Rattle.darts.specs.Calls.{After, leaves, tableOf, pastOf}
 use Rattle.darts.specs.Moves.{contractionsIn, movedTo}
 use Rattle.darts.proofs.Fitting.{count-facts}
+use Rattle.laws.proofs.runs.Ends.{state-path}
 use Rattle.laws.proofs.runs.Pyramids.{pyramid-built}
 use Rattle.laws.proofs.tests.Room.{pyramid-room}
 use Rattle.laws.proofs.calls.Judging.{Lent}
+use Rattle.laws.proofs.calls.Numbers.{pyramid-most}
 use Rattle.laws.proofs.sentences.Refusals.{Returned, refused-returns}
 use Rattle.laws.proofs.chained.OnLent.{Call, called, stepOf, called-on, called-left}
 use Rattle.laws.proofs.moves.Contractions.{contractions-most}
-use Rattle.laws.proofs.moves.Numbers.{Exchanged, stored-path}
-use Rattle.laws.proofs.moves.Stored.{stored-most, stored-moved, stored-exchanged}
-use Rattle.laws.proofs.moves.Called.{following, called-kept}
-use Rattle.laws.proofs.stored.Judging.{LentStored, without-numbers}
-use Rattle.laws.proofs.stored.Calls.{numbered-done, numbered-refused, on-lent, calledStored, called-stored}
-use Rattle.pyramid.specs.Steps.{JudgedStored}
+use Rattle.laws.proofs.moves.Numbers.{Exchanged, moved-exchanged}
+use Rattle.laws.proofs.moves.Called.{following, called-kept, called-moved}
+use Rattle.pyramid.specs.Steps.{Judged}
 use Rattle.pyramid.specs.Settling.{Settles, Settled}
-use Rattle.pyramid.specs.Values.{stateOf, left, leftStored}
-use Rattle.pyramid.proofs.Judges.{lent-stored}
+use Rattle.pyramid.specs.Values.{stateOf, figuresWith, figuresOf, left, unsettled}
+use Rattle.pyramid.proofs.Judges.{lent-of}
 use Rattle.pyramid.proofs.OnState.{Plain, stood-ends}
 use Rattle.pyramid.specs.declared.Outcome.{Outcome}
 
@@ -49,12 +48,16 @@ none-done : (n m : ℕ) (h : List ℕ) → m ≤ n → contractionsIn (part n m 
 unfolding contractionsIn
 none-done n m h l = ap contractionsIn (part-none n m h l)
 
-pub moved-nowhere : (S : Stored) (h : List ℕ) → movedTo S (S .state) h ≡ S
+pub moved-nowhere : (s : State) (h : List ℕ) → movedTo s s h ≡ s
 unfolding movedTo
-moved-nowhere S h =
-    let n = S .state .operations in
+moved-nowhere s h =
+    let n = s .operations in
     let none : contractionsIn (part n n h) ≡ 0 = none-done n n h (omega arith) in
-    rw none (stored-path refl (omega arith) (omega arith))
+    rw none (state-path refl refl refl refl (omega arith) (omega arith))
+
+moved-figures : (s z : State) (h : List ℕ) → movedTo s (figuresOf z) h ≡ movedTo s z h
+unfolding movedTo
+moved-figures s z h = refl
 
 -- ---- the operations of a pyramid that is lent
 
@@ -77,30 +80,30 @@ few-darts {s} P = count-facts (s .darts) (P .count) .small
 
 -- ---- what a call left
 
--- what a call left, the numbers of S moved to it
-abbrev moved : Stored → After → AfterStored
-moved S b = leavesStored (b .answer) (movedTo S (b .state) (b .history)) (b .table) (b .history) (b .work)
+-- what a call left, the numbers of s moved to it
+abbrev moved : State → After → After
+moved s b = leaves (b .answer) (movedTo s (b .state) (b .history)) (b .table) (b .history) (b .work)
 
 -- at most 65,536 operations, vertices and faces
-abbrev Few : Stored → Type 0
-Few S = (S .state .operations ≤ 65536) × (S .vertices ≤ 65536) × (S .faces ≤ 65536)
+abbrev Few : State → Type 0
+Few s = (s .operations ≤ 65536) × (s .vertices ≤ 65536) × (s .faces ≤ 65536)
 
 -- what was exchanged along a history that is long enough
-module _ (S Z : Stored) (h : List ℕ) where
+module _ (s z : State) (h : List ℕ) where
   abbrev n : ℕ
-  n = S .state .operations
+  n = s .operations
 
   abbrev m : ℕ
-  m = Z .state .operations
+  m = z .operations
 
-  module _ (X : Exchanged (part m n h) (part n m h) S Z) (before : n ≤ length h) (behind : m ≤ length h) (few : Few S) where
-    settles-by : contractionsIn (part n m h) ≤ S .vertices → m - n - contractionsIn (part n m h) ≤ S .faces → Settles S (Z .state) h
+  module _ (X : Exchanged (part m n h) (part n m h) s z) (before : n ≤ length h) (behind : m ≤ length h) (few : Few s) where
+    settles-by : contractionsIn (part n m h) ≤ s .vertices → m - n - contractionsIn (part n m h) ≤ s .faces → Settles s m h
     settles-by v f = record { before = before; after = behind; vertices = v; faces = f; few = few .0; few-vertices = few .1; few-faces = few .2 }
 
-    exchanged-settles : Settles S (Z .state) h
+    exchanged-settles : Settles s m h
     exchanged-settles = go (decLe n m)
       where
-        go : Dec (n ≤ m) → Settles S (Z .state) h
+        go : Dec (n ≤ m) → Settles s m h
         go (yes up) =
             let none = none-done m n h up in
             let size = part-length n m h behind in
@@ -108,92 +111,83 @@ module _ (S Z : Stored) (h : List ℕ) where
             settles-by (omega (arith, X .vertices)) (omega (arith, X .faces))
         go (no k) = let none = none-done n m h (omega arith) in settles-by (omega arith) (omega arith)
 
-module _ (c : Call) {S : Stored} {t h w : List ℕ} (L : LentStored S t h w) where
-  abbrev s : State
-  s = S .state
-
+module _ (c : Call) {s : State} {t h w : List ℕ} (L : Lent s t h w) where
   abbrev a : After
-  a = called c (S .state) t h w
+  a = called c s t h w
 
-  few-stored : Few S
+  few-stored : Few s
   few-stored =
-      let most = stored-most (L .stored) in
-      let few = few-darts (L .stored .pyramid) in
-      let count = pyramid-built (L .stored .pyramid) .layered .count in
-      let room = pyramid-room (L .stored .pyramid) in
+      let most = pyramid-most (L .pyramid) in
+      let few = few-darts (L .pyramid) in
+      let count = pyramid-built (L .pyramid) .layered .count in
+      let room = pyramid-room (L .pyramid) in
       (omega arith, omega (arith, most .vertices), omega (arith, most .faces))
 
   returned : a .answer .number ≢ 0 → Returned s t h a
   returned = rw (called-on c) (refused-returns s t h w (stepOf c))
 
   -- refused: it did nothing
-  refused-settles : a .answer .number ≢ 0 → Settles S (a .state) (a .history)
+  refused-settles : a .answer .number ≢ 0 → Settles s (a .state .operations) (a .history)
   refused-settles r =
       let R = returned r in
-      let fit = operations-fit (without-numbers S t h w L) in
-      rw (R .state, R .history)
-      (exchanged-settles S S h (record { vertices = refl; faces = refl }) fit fit few-stored)
+      let fit = operations-fit L in
+      rw (R .state, R .history) (exchanged-settles s s h (record { vertices = refl; faces = refl }) fit fit few-stored)
 
-  accepted-settles : a .answer .number ≡ 0 → Settles S (a .state) (a .history)
-  unfolding storing
+  accepted-settles : a .answer .number ≡ 0 → Settles s (a .state .operations) (a .history)
   accepted-settles e =
       let A = called-left c s t h w e in
-      let z = a .state in
-      let u = tableOf z (a .table) in
-      let new = pastOf z (a .history) in
-      exchanged-settles S (storing z u new) (a .history)
-      (stored-exchanged (following c) (L .stored) (A .gave) (a .history) (called-kept c s t h w) refl)
-      (kept-fit s (a .history) h (called-kept c s t h w) (operations-fit (without-numbers S t h w L))) (operations-fit (A .left .lent)) few-stored
+      let P = A .before .pyramid in
+      exchanged-settles s (a .state) (a .history)
+      (moved-exchanged P (following c .follows P (A .gave)) (a .history) (called-kept c s t h w) refl)
+      (kept-fit s (a .history) h (called-kept c s t h w) (operations-fit L)) (operations-fit (A .left .lent)) few-stored
 
-  called-settles : Settles S (a .state) (a .history)
+  called-settles : Settles s (a .state .operations) (a .history)
   called-settles = go (ℕ-discrete (a .answer .number) 0)
     where
-      go : Dec (a .answer .number ≡ 0) → Settles S (a .state) (a .history)
+      go : Dec (a .answer .number ≡ 0) → Settles s (a .state .operations) (a .history)
       go (yes e) = accepted-settles e
       go (no r) = refused-settles r
 
   -- the numbers moved are those that the call hands back
-  numbered-moved : numbered S a ≡ moved S a
-  numbered-moved = go (ℕ-discrete (a .answer .number) 0)
+  moved-same : moved s a ≡ a
+  moved-same = go (ℕ-discrete (a .answer .number) 0)
     where
-      with-numbers : Stored → AfterStored
-      with-numbers Z = leavesStored (a .answer) Z (a .table) (a .history) (a .work)
+      with-state : movedTo s (a .state) (a .history) ≡ a .state → moved s a ≡ a
+      with-state e = ap (λ (z : State). leaves (a .answer) z (a .table) (a .history) (a .work)) e
 
-      go : Dec (a .answer .number ≡ 0) → numbered S a ≡ moved S a
-      go (yes e) =
-          numbered-done S a e
-          ∙ ap with-numbers (sym (stored-moved (following c) (L .stored) (called-left c s t h w e .gave) (a .history) (called-kept c s t h w) refl))
-      go (no r) =
-          numbered-refused S a r
-          ∙ ap with-numbers (sym (ap₂ (movedTo S) (returned r .state) (returned r .history) ∙ moved-nowhere S h))
+      go : Dec (a .answer .number ≡ 0) → moved s a ≡ a
+      go (yes e) = with-state (called-moved c s t h w e)
+      go (no r) = with-state (ap₂ (movedTo s) (returned r .state) (returned r .history) ∙ moved-nowhere s h ∙ sym (returned r .state))
 
-  whole : calledStored c S t h w ≡ numbered S a
-  whole = rw (called-stored c) (on-lent (called c) S t h w L)
-
-  module _ (o : Outcome) {u g x : List ℕ} (E : left o u g x ≡ called c (S .state) t h w) where
+  module _ (o : Outcome) {u g x : List ℕ} (E : unsettled (left o u g x) ≡ unsettled (called c s t h w)) where
     -- THE STORED NUMBERS CAN BE MOVED TO WHAT A CALL LEFT
-    pub settles : Settles S (stateOf (o .state)) g
-    settles = subst (λ (b : After). Settles S (b .state) (b .history)) (sym E) called-settles
+    pub settles : Settles s (o .state .operations) g
+    settles = subst (λ (b : After). Settles s (b .state .operations) (b .history)) (sym E) called-settles
 
     -- AND MOVED SO THEY ARE THE NUMBERS THAT THE CALL HANDS BACK
-    pub settled : {r : Outcome} → Settled S o g r → leftStored r u g x ≡ calledStored c S t h w
+    pub settled : {r : Outcome} → Settled s o g r → left r u g x ≡ called c s t h w
     settled {r} R =
-        let here : leftStored r u g x ≡ moved S (left o u g x) =
-        ap₂ (λ (b : Answered) (Z : Stored). leavesStored b Z u g x) (ap answerOf (R .answer)) (R .state) in
-        here ∙ ap (moved S) E ∙ sym (whole ∙ numbered-moved)
+        let here : left r u g x ≡ moved s (unsettled (left o u g x)) =
+        ap₂ (λ (b : Answered) (z : State). leaves b z u g x) (ap answerOf (R .answer)) (R .state ∙ sym (moved-figures s (stateOf (o .state)) g)) in
+        let there : moved s (unsettled a) ≡ moved s a =
+        ap (λ (z : State). leaves (a .answer) z (a .table) (a .history) (a .work)) (moved-figures s (a .state) (a .history)) in
+        here ∙ ap (λ (b : After). moved s b) E ∙ there ∙ moved-same
 
 -- once it is judged
-module _ (c : Call) {S : Stored} {k : ℕ} {t h w v : List ℕ} {b : Answered} (J : JudgedStored S k t h w v b) (fine : b .number ≡ 0)
-    (plain : Plain (stepOf c (S .state) (tableOf (S .state) t) (pastOf (S .state) h))) (o : Outcome) {u g x : List ℕ}
-    (E : left o u g x ≡ called c (S .state) t h v) where
-  since-judged : left o u g x ≡ called c (S .state) t h w
-  since-judged = rw (called-on c) (stood-ends (stepOf c) (J .judged fine) refl plain (rw (called-on c) at E))
+module _ (c : Call) {s : State} {k : ℕ} {t h w v : List ℕ} {b : Answered} (J : Judged s k t h w v b) (fine : b .number ≡ 0)
+    (plain : Plain (stepOf c s (tableOf s t) (pastOf s h))) (o : Outcome) {u g x : List ℕ}
+    (E : unsettled (left o u g x) ≡ unsettled (called c s t h v)) where
+  since-judged : unsettled (left o u g x) ≡ unsettled (called c s t h w)
+  since-judged =
+      subst (λ (f : State → List ℕ → List ℕ → List ℕ → After). unsettled (left o u g x) ≡ unsettled (f s t h w)) (sym (called-on c))
+      (stood-ends (stepOf c) J fine plain
+      (subst (λ (f : State → List ℕ → List ℕ → List ℕ → After). unsettled (left o u g x) ≡ unsettled (f s t h v)) (called-on c) E))
 
-  pub judged-settles : Settles S (stateOf (o .state)) g
-  judged-settles = settles c (lent-stored J fine) o since-judged
+  pub judged-settles : Settles s (o .state .operations) g
+  judged-settles = settles c (lent-of J fine) o since-judged
 
-  pub judged-settled : {r : Outcome} → Settled S o g r → leftStored r u g x ≡ calledStored c S t h w
-  judged-settled = settled c (lent-stored J fine) o since-judged
+  pub judged-settled : {r : Outcome} → Settled s o g r → left r u g x ≡ called c s t h w
+  judged-settled = settled c (lent-of J fine) o since-judged
 
 -- ---- the numbers moved, by parts
 
@@ -203,21 +197,19 @@ done-most h n m l e = omega (arith, contractions-most (part n m h), part-length 
 plus-none : (a : ℕ) → a ≡ a + 0
 plus-none a = omega arith
 
-module _ (S : Stored) (z : State) (h : List ℕ) where
+module _ (s z : State) (h : List ℕ) where
   abbrev from : ℕ
-  from = S .state .operations
+  from = s .operations
 
   abbrev to : ℕ
   to = z .operations
 
-  pub settle-up : from ≤ to → {c : ℕ} → c ≡ contractionsIn (part from to h)
-      → record { state = z; vertices = S .vertices - c; faces = S .faces - (to - from - c) } ≡ movedTo S z h
+  pub settle-up : from ≤ to → {c : ℕ} → c ≡ contractionsIn (part from to h) → figuresWith z (s .vertices - c) (s .faces - (to - from - c)) ≡ movedTo s z h
   unfolding movedTo
   settle-up l {c} e =
       let fewer : from - to ≡ 0 = omega arith in
-      rw (none-done to from h l, ← e, fewer) (stored-path refl (plus-none _) (plus-none _))
+      rw (none-done to from h l, ← e, fewer) (state-path refl refl refl refl (plus-none _) (plus-none _))
 
-  pub settle-down : to ≤ from → {c : ℕ} → c ≡ contractionsIn (part to from h)
-      → record { state = z; vertices = S .vertices + c; faces = S .faces + (from - to - c) } ≡ movedTo S z h
+  pub settle-down : to ≤ from → {c : ℕ} → c ≡ contractionsIn (part to from h) → figuresWith z (s .vertices + c) (s .faces + (from - to - c)) ≡ movedTo s z h
   unfolding movedTo
-  settle-down l {c} e = let none = none-done from to h l in stored-path refl (omega arith) (omega arith)
+  settle-down l {c} e = let none = none-done from to h l in state-path refl refl refl refl (omega arith) (omega arith)

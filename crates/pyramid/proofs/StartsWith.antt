@@ -4,7 +4,7 @@
 --   begin-first == 1 or 2: nothing is written
 --   begin-bad   == 3: the table is no permutation
 --   begin-fine  == it is one, and its records' places are labelled
---   stored-none, stored-base == the same of a state that stores its numbers: refused, and done
+--   hands-none, hands-base == what is handed back: refused, and done
 --   start-first == 1, 2 or 3
 --   unfit-asks  == else the records can be looked at
 --   finish-asks == and the work area cleared
@@ -19,11 +19,9 @@ use borrow.Author.Tests.{eq-eqb, ne-eqb}
 use lib.ListN.{length, take}
 use Rattle.darts.specs.Answers.{Answer, done, noPermutation, unfitRecord}
 use Rattle.darts.specs.Map.{permutes, culprits, permutationTest}
-use Rattle.darts.specs.State.{baseState}
+use Rattle.darts.specs.State.{State, zeros, baseState}
 use Rattle.darts.specs.Calls.{After, leaves, begins, cleared}
-use Rattle.darts.specs.Stored.{Stored, zeros, AfterStored, leavesStored, numbered}
 use Rattle.laws.proofs.calls.Cleared.{cleared-kept}
-use Rattle.laws.proofs.stored.Calls.{numbered-done, numbered-refused}
 use Rattle.area.specs.Area.{Room}
 use Rattle.area.specs.Verdicts.{verdictOf}
 use Rattle.area.specs.declared.Verdict.{Verdict}
@@ -34,14 +32,13 @@ use Rattle.sheets.specs.Sheets.{Sheets}
 use Rattle.sheets.specs.Notes.{unfitIn}
 use Rattle.yarn.specs.Given.{Fit}
 use Rattle.yarn.specs.Calls.{costed, fitting, fittingOf, firstUnfit, beginsWith, startWith}
-use Rattle.yarn.specs.Stored.{costedStored, numberedWith, startStoredWith}
 use Rattle.yarn.proofs.sentences.Lengths.{fits}
 use Rattle.yarn.proofs.sentences.Unfit.{FirstUnfit, some-or-none}
 use Rattle.noting.specs.Running.{Placed}
 use Rattle.noting.proofs.Placed.{unfit-found, placed-own}
-use Rattle.pyramid.specs.Costs.{Begun, costsStored}
+use Rattle.pyramid.specs.Costs.{Begun, costs}
 use Rattle.pyramid.specs.Checking.{BeganWith}
-use Rattle.pyramid.specs.Values.{leftStored, Hands}
+use Rattle.pyramid.specs.Values.{baseWith, left, Hands}
 use Rattle.pyramid.specs.declared.Outcome.{Outcome}
 use Rattle.pyramid.proofs.ChecksWith.{fitting-of, check-asks}
 use Rattle.pyramid.proofs.Started.{hands, base-numbers}
@@ -49,49 +46,40 @@ use Rattle.pyramid.proofs.Started.{hands, base-numbers}
 -- ---- what the definition says
 
 module _ (D : ℕ) (t h w : List ℕ) (S : Sheets) where
-  says-first : {a : Answer} → a ≡ fittingOf D t h w S → a .number ≢ 0 → costed (leaves a (baseState 0) t h w) S ≡ startWith D t h w S
+  says-first : {a : Answer} → a ≡ fittingOf D t h w S → a .number ≢ 0 → costed (leaves a zeros t h w) S ≡ startWith D t h w S
   unfolding startWith
   says-first {a} E n = rw (← E, ne-eqb (a .number) 0 n)
 
   module _ (fine : fittingOf D t h w S .number ≡ 0) where
     says-three : {d c : ℕ} → culprits d c ≡ permutationTest D t
-        → costed (leaves (noPermutation d c) (baseState 0) t h (cleared D w)) S ≡ startWith D t h w S
+        → costed (leaves (noPermutation d c) zeros t h (cleared D w)) S ≡ startWith D t h w S
     unfolding startWith beginsWith begins
     says-three b = rw (eq-eqb (fittingOf D t h w S .number) 0 fine, ← b)
 
     module _ (base : permutes ≡ permutationTest D t) where
       says-unfit : firstUnfit D t S ≢ D
-          → costed (leaves (unfitRecord (firstUnfit D t S)) (baseState 0) t h (cleared D w)) S ≡ startWith D t h w S
+          → costed (leaves (unfitRecord (firstUnfit D t S)) zeros t h (cleared D w)) S ≡ startWith D t h w S
       unfolding startWith beginsWith
       says-unfit n = rw (eq-eqb (fittingOf D t h w S .number) 0 fine, ← base, ne-eqb (firstUnfit D t S) D n)
 
-      says-done : firstUnfit D t S ≡ D → costed (leaves done (baseState D) t h (cleared D w)) S ≡ startWith D t h w S
+      says-done : firstUnfit D t S ≡ D → costed (leaves done (baseState D (take D t)) t h (cleared D w)) S ≡ startWith D t h w S
       unfolding startWith beginsWith begins
       says-done e = rw (eq-eqb (fittingOf D t h w S .number) 0 fine, ← base, eq-eqb (firstUnfit D t S) D e)
 
--- ---- the stored numbers
+-- ---- what is handed back
 
 module _ (D : ℕ) (t h w : List ℕ) (S : Sheets) where
-  -- a start that leaves a
-  module _ {a : After} (E : costed a S ≡ startWith D t h w S) where
-    numbered-start : costedStored (numbered zeros a) S ≡ startStoredWith D t h w S
-    unfolding startStoredWith numberedWith
-    numbered-start = ap (numberedWith zeros) E
-
-    stored-none : a .answer .number ≢ 0 → {o : Outcome} → Hands o (a .answer) zeros
-        → costedStored (leftStored o (a .table) (a .history) (a .work)) S ≡ startStoredWith D t h w S
-    stored-none n {o} H =
-        ap (λ (b : AfterStored). costedStored b S) (hands o H (a .table) (a .history) (a .work) ∙ sym (numbered-refused zeros a n)) ∙ numbered-start
+  -- a start that leaves a state of zeros
+  hands-none : {a : Answer} {v : List ℕ} → costed (leaves a zeros t h v) S ≡ startWith D t h w S → {o : Outcome} → Hands o a zeros
+      → costed (left o t h v) S ≡ startWith D t h w S
+  hands-none {v = v} E {o} H = ap (λ (b : After). costed b S) (hands o H t h v) ∙ E
 
   -- the base stores the numbers of its cycles
-  stored-base : costed (leaves done (baseState D) t h (cleared D w)) S ≡ startWith D t h w S → {x y : ℕ} → CyclesAre D (take D t) [] x y
-      → {o : Outcome} → Hands o done (record { state = baseState D; vertices = x; faces = y })
-      → costedStored (leftStored o t h (cleared D w)) S ≡ startStoredWith D t h w S
-  stored-base E N {o} H =
-      let a : After = leaves done (baseState D) t h (cleared D w) in
-      ap (λ (b : AfterStored). costedStored b S)
-      (hands o H t h (cleared D w) ∙ ap (λ (Z : Stored). leavesStored done Z t h (cleared D w)) (base-numbers D t h w N) ∙ sym (numbered-done zeros a refl))
-      ∙ numbered-start {a = a} E
+  hands-base : costed (leaves done (baseState D (take D t)) t h (cleared D w)) S ≡ startWith D t h w S → {x y : ℕ} → CyclesAre D (take D t) [] x y
+      → {o : Outcome} → Hands o done (baseWith D x y) → costed (left o t h (cleared D w)) S ≡ startWith D t h w S
+  hands-base E N {o} H =
+      ap (λ (b : After). costed b S)
+      (hands o H t h (cleared D w) ∙ ap (λ (z : State). leaves done z t h (cleared D w)) (base-numbers D t h w N)) ∙ E
 
 -- ---- beside the records
 
@@ -136,8 +124,8 @@ few-fit {w = w} {k} {l} K fine N =
 
 module _ {D : ℕ} {t : List ℕ} {h : ℕ} {w : List ℕ} {k l : ℕ} {v : List ℕ} {a : Answer} (K : BeganWith D t h w k l v a) (g : List ℕ) (S : Sheets)
     (m : h ≡ length g) (e : k ≡ length (S .sheet)) (f : l ≡ length (S .kept)) where
-  pub start-first : a .number ≢ 0 → {o : Outcome} → Hands o a zeros → costsStored o t g v (S .sheet) (S .kept) ≡ startStoredWith D t g w S
-  start-first n {o} H = stored-none D t g w S (K .refused n g S (sym m) (sym e) (sym f)) n H
+  pub start-first : a .number ≢ 0 → {o : Outcome} → Hands o a zeros → costs o t g v (S .sheet) (S .kept) ≡ startWith D t g w S
+  start-first n {o} H = hands-none D t g w S (K .refused n g S (sym m) (sym e) (sym f)) H
 
   module _ (fine : a .number ≡ 0) where
     fits-zero : fittingOf D t g w S .number ≡ 0
@@ -154,15 +142,15 @@ module _ {D : ℕ} {t : List ℕ} {h : ℕ} {w : List ℕ} {k l : ℕ} {v : List
 
     module _ {x y : ℕ} (N : CyclesAre D (take D t) [] x y) where
       ends : FirstUnfit D t S (firstUnfit D t S) ⊎ ((firstUnfit D t S ≡ D) × Fit D t S) → {o : Outcome} → Begun D x y (firstUnfit D t S) o
-          → costedStored (leftStored o t g (cleared D w)) S ≡ startStoredWith D t g w S
+          → costed (left o t g (cleared D w)) S ≡ startWith D t g w S
       ends (inl u) {o} B =
-          stored-none D t g w S (says-unfit D t g w S fits-zero (K .placed fine .verdict) (λ z. omega (arith, u .dart))) (λ z. omega arith) (B .unfit (u .dart))
+          hands-none D t g w S (says-unfit D t g w S fits-zero (K .placed fine .verdict) (λ z. omega (arith, u .dart))) (B .unfit (u .dart))
       ends (inr (z, k)) {o} B =
-          stored-base D t g w S (says-done D t g w S fits-zero (K .placed fine .verdict) z) N (B .fit (omega (arith, z)))
+          hands-base D t g w S (says-done D t g w S fits-zero (K .placed fine .verdict) z) N (B .fit (omega (arith, z)))
 
       -- "16, by the start after 3"
       pub start-ends : {i : ℕ} → i ≡ unfitIn D v (record { sheet = S .sheet; kept = [] }) D 0 → {o : Outcome} {u : List ℕ}
-          → Begun D x y i o × (u ≡ cleared D v) → costsStored o t g u (S .sheet) (S .kept) ≡ startStoredWith D t g w S
+          → Begun D x y i o × (u ≡ cleared D v) → costs o t g u (S .sheet) (S .kept) ≡ startWith D t g w S
       start-ends is {o} {u} (B, clears) =
           rw (clears, cleared-kept D w v (K .placed fine .beyond .rest))
           (ends (some-or-none D t S) (subst (λ (i : ℕ). Begun D x y i o) (is ∙ found) B))

@@ -10,13 +10,12 @@ use Prim.Native.Nat.{ℕ}
 use lib.Dec.{eqb}
 use Rattle.darts.specs.Answers.{Answer as Answered}
 use Rattle.darts.specs.Choose.{if_then_else_}
-use Rattle.darts.specs.Calls.{Counted as CountsAfter}
-use Rattle.darts.specs.Stored.{AfterStored}
+use Rattle.darts.specs.Calls.{After, Counted as CountsAfter}
 use Rattle.darts.specs.Cases.{answerOf}
 use Rattle.sheets.specs.declared.Zone.{Zone}
-use Rattle.yarn.specs.Stored.{CostedStored}
-use Rattle.pyramid.specs.Costs.{costsStored}
-use Rattle.pyramid.specs.Values.{storedOf, leftStored, countsLeft}
+use Rattle.yarn.specs.Calls.{Costed}
+use Rattle.pyramid.specs.Costs.{costs}
+use Rattle.pyramid.specs.Values.{stateOf, left, countsLeft}
 use Rattle.pyramid.specs.declared.State.{State}
 use Rattle.darts.specs.declared.Answer.{Answer}
 use Rattle.darts.specs.declared.Answer.the-variants.{Done, NoDartCount, TooShort, NoPermutation, NoPyramid, EmptyKernel, TooManyLevels, NoEdge, GoneAlready, OneVertex, OneFace, WholePiece, NoLevel, NoFile, NoFlag, NoPlanSize, UnfitRecord}
@@ -66,14 +65,14 @@ answer-back (UnfitRecord x) = refl
 pub answer-one : (a b : Answer) → answerOf a ≡ answerOf b → a ≡ b
 answer-one a b e = sym (answer-back a) ∙ ap answerBack e ∙ answer-back b
 
-pub state-one : (s z : State) → storedOf s ≡ storedOf z → s ≡ z
+pub state-one : (s z : State) → stateOf s ≡ stateOf z → s ≡ z
 state-one s z e = λ i. record {
-  darts = e i .state .darts;
-  operations = e i .state .operations;
-  levels = e i .state .levels;
+  darts = e i .darts;
+  operations = e i .operations;
+  levels = e i .levels;
   vertices = e i .vertices;
   faces = e i .faces;
-  ends = e i .state .ends;
+  ends = e i .ends;
 }
 
 pub record Same (o p : Outcome) (t u h g w v : List ℕ) : Type 0 where
@@ -83,16 +82,16 @@ pub record Same (o p : Outcome) (t u h g w v : List ℕ) : Type 0 where
   pub work : w ≡ v
 
 -- NO TWO OUTCOMES OF START, REDUCE, SWEEP, UNDO, UNFOLD OR READ SATISFY ITS STATEMENT
-pub left-one : (o p : Outcome) (t u h g w v : List ℕ) (a : AfterStored) → leftStored o t h w ≡ a → leftStored p u g v ≡ a → Same o p t u h g w v
+pub left-one : (o p : Outcome) (t u h g w v : List ℕ) (a : After) → left o t h w ≡ a → left p u g v ≡ a → Same o p t u h g w v
 left-one o p t u h g w v a d e =
-    let c : leftStored o t h w ≡ leftStored p u g v = d ∙ sym e in
-    let x = answer-one (o .answer) (p .answer) (ap (λ (z : AfterStored). z .answer) c) in
-    let y = state-one (o .state) (p .state) (ap (λ (z : AfterStored). z .state) c) in
+    let c : left o t h w ≡ left p u g v = d ∙ sym e in
+    let x = answer-one (o .answer) (p .answer) (ap (λ (z : After). z .answer) c) in
+    let y = state-one (o .state) (p .state) (ap (λ (z : After). z .state) c) in
     record {
       outcome = λ i. record { state = y i; answer = x i };
-      table = ap (λ (z : AfterStored). z .table) c;
-      history = ap (λ (z : AfterStored). z .history) c;
-      work = ap (λ (z : AfterStored). z .work) c;
+      table = ap (λ (z : After). z .table) c;
+      history = ap (λ (z : After). z .history) c;
+      work = ap (λ (z : After). z .work) c;
     }
 
 -- NO TWO OUTCOMES OF A CALL WITH SHEETS SATISFY ITS STATEMENT
@@ -101,14 +100,14 @@ pub record SameCosts (o p : Outcome) (t u h g w v : List ℕ) (s z k l : List Zo
   pub sheet : s ≡ z
   pub kept : k ≡ l
 
-pub costs-one : (o p : Outcome) (t u h g w v : List ℕ) (s z k l : List Zone) (a : CostedStored) → costsStored o t h w s k ≡ a → costsStored p u g v z l ≡ a
+pub costs-one : (o p : Outcome) (t u h g w v : List ℕ) (s z k l : List Zone) (a : Costed) → costs o t h w s k ≡ a → costs p u g v z l ≡ a
     → SameCosts o p t u h g w v s z k l
 costs-one o p t u h g w v s z k l a d e =
-    let c : costsStored o t h w s k ≡ costsStored p u g v z l = d ∙ sym e in
+    let c : costs o t h w s k ≡ costs p u g v z l = d ∙ sym e in
     record {
-      plain = left-one o p t u h g w v (leftStored p u g v) (ap (λ (x : CostedStored). x .plain) c) refl;
-      sheet = ap (λ (x : CostedStored). x .sheets .sheet) c;
-      kept = ap (λ (x : CostedStored). x .sheets .kept) c;
+      plain = left-one o p t u h g w v (left p u g v) (ap (λ (x : Costed). x .plain) c) refl;
+      sheet = ap (λ (x : Costed). x .sheets .sheet) c;
+      kept = ap (λ (x : Costed). x .sheets .kept) c;
     }
 
 pub record SameCounts (o p : Counted) (t u h g w v : List ℕ) : Type 0 where

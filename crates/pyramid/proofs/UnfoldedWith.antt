@@ -20,7 +20,6 @@ use Rattle.darts.specs.State.{State, Result, gives, refuses}
 use Rattle.darts.specs.Levels.{endBelow, lowered, undoLevel, undoLevels, unfoldTo}
 use Rattle.darts.specs.Pyramid.{Pyramid}
 use Rattle.darts.specs.Calls.{tableOf, pastOf}
-use Rattle.darts.specs.Stored.{Stored}
 use Rattle.laws.proofs.runs.Pyramids.{pyramid-built}
 use Rattle.laws.proofs.runs.Results.{refuses≢gives, then, same-result}
 use Rattle.laws.proofs.runs.Undo.{unfold-pyramid, undo-is-unfold}
@@ -29,7 +28,6 @@ use Rattle.sheets.specs.Sheets.{Sheets, Merge, returnedBy}
 use Rattle.sheets.specs.Notes.{notesIn, Noted}
 use Rattle.yarn.specs.Places.{merges}
 use Rattle.yarn.specs.Calls.{baseOf, carriedTo, sheetsAfter, onSheets, undoWith, unfoldWith}
-use Rattle.yarn.specs.Stored.{onStoredWith, undoStoredWith, unfoldStoredWith}
 use Rattle.yarn.proofs.Agree.{First, returned-same}
 use Rattle.yarn.proofs.Apart.{base-apart, base-standing, pyramid-inside}
 use Rattle.yarn.proofs.Moved.{Grown, undos-grown, carried-shrunk}
@@ -42,11 +40,11 @@ use Rattle.pyramid.proofs.Making.{within-merging}
 
 -- ---- how many operations a level has
 
-operations-lowered : (k : ℕ) (s : State) → k < s .levels → operationsAt k (lowered s) ≡ operationsAt k s
+operations-lowered : (k : ℕ) (s : State) (t past : List ℕ) → k < s .levels → operationsAt k (lowered s t past) ≡ operationsAt k s
 unfolding operationsAt lowered endBelow
-operations-lowered k s h = go (ℕ-discrete k (s .levels - 1)) (ℕ-discrete k 0)
+operations-lowered k s t past h = go (ℕ-discrete k (s .levels - 1)) (ℕ-discrete k 0)
   where
-    go : Dec (k ≡ s .levels - 1) → Dec (k ≡ 0) → operationsAt k (lowered s) ≡ operationsAt k s
+    go : Dec (k ≡ s .levels - 1) → Dec (k ≡ 0) → operationsAt k (lowered s t past) ≡ operationsAt k s
     go (yes e) (yes z) = rw (le-leb (s .levels - 1) k (omega arith), lt-leb (s .levels) k h, eq-eqb k 0 z, le-leb (s .levels) 1 (omega arith))
     go (yes e) (no n) =
         let i : s .levels - 2 ≡ k - 1 = omega arith in
@@ -61,13 +59,13 @@ unfolding operationsAt
 at-top k s h = rw (le-leb (s .levels) k h)
 
 -- undo gives the level below
-lowers : (s : State) (t past : List ℕ) {z : State} {u new : List ℕ} → undoLevel s t past ≡ gives z u new → (0 < s .levels) × (z ≡ lowered s)
+lowers : (s : State) (t past : List ℕ) {z : State} {u new : List ℕ} → undoLevel s t past ≡ gives z u new → (0 < s .levels) × (z ≡ lowered s u new)
 unfolding undoLevel
-lowers s t past {z} e = go (ℕ-discrete (s .levels) 0)
+lowers s t past {z} {u} {new} e = go (ℕ-discrete (s .levels) 0)
   where
-    go : Dec (s .levels ≡ 0) → (0 < s .levels) × (z ≡ lowered s)
+    go : Dec (s .levels ≡ 0) → (0 < s .levels) × (z ≡ lowered s u new)
     go (yes h) = absurd (refuses≢gives (rw h at e))
-    go (no n) = (omega arith, same-result (λ z u new. z ≡ lowered s) (rw (ne-eqb (s .levels) 0 n) at e) refl)
+    go (no n) = (omega arith, same-result (λ z u new. z ≡ lowered s u new) (rw (ne-eqb (s .levels) 0 n) at e) refl)
 
 undos-count : (j k : ℕ) (s : State) (t past : List ℕ) {z : State} {u new : List ℕ} → j + k ≡ s .levels → undoLevels j s t past ≡ gives z u new
     → z .operations ≡ operationsAt k s
@@ -76,9 +74,9 @@ undos-count zero k s t past l e = same-result (λ z u new. z .operations ≡ ope
 undos-count (suc j) k s t past l e =
     let first = then (undoLevel s t past) (undoLevels j) e in
     let (some, is) = lowers s t past (first .first) in
-    let below : j + k ≡ lowered s .levels = omega arith in
+    let below : j + k ≡ lowered s (first .table) (first .past) .levels = omega arith in
     undos-count j k (first .state) (first .table) (first .past) (below ∙ ap (λ (y : State). y .levels) (sym is)) (first .next)
-    ∙ ap (operationsAt k) is ∙ operations-lowered k s (omega arith)
+    ∙ ap (operationsAt k) is ∙ operations-lowered k s (first .table) (first .past) (omega arith)
 
 module _ {s : State} {t past : List ℕ} (P : Pyramid s t past) (k : ℕ) {z : State} {u new : List ℕ} (e : unfoldTo k s t past ≡ gives z u new) where
   pub unfolded-count : length new ≡ operationsAt k s
@@ -92,7 +90,7 @@ unfolding undoLevels undoLevel lowered
 levels-there zero s t past l e = refuses≢gives (sym e)
 levels-there (suc j) s t past l e =
     let n : s .levels ≢ 0 = λ z. omega arith in
-    levels-there j (lowered s) _ _ (omega arith) (rw (ne-eqb (s .levels) 0 n) at e)
+    levels-there j (lowered s _ _) _ _ (omega arith) (rw (ne-eqb (s .levels) 0 n) at e)
 
 unfold-reaches : {s : State} {t past : List ℕ} → Pyramid s t past → (k : ℕ) → k ≤ s .levels → {a : Answer} → unfoldTo k s t past ≡ refuses a → ⊥
 unfolding unfoldTo
@@ -187,11 +185,6 @@ module _ {s : State} {t h w : List ℕ} (Z : StoodWith s t h w) (k : ℕ) where
       ≡ sheetsAfter s (tableOf s t) past S (unfoldTo k s (tableOf s t) past)
   unfolded-sheets S = after S (unfoldTo k s (tableOf s t) past) refl
 
-undo-is : {k : ℕ} (s : State) (t h w : List ℕ) (S : Sheets) → k ≡ pick (eqb (s .levels) 0) 1 (s .levels - 1) → unfoldWith k s t h w S ≡ undoWith s t h w S
+pub undo-with : {k : ℕ} (s : State) (t h w : List ℕ) (S : Sheets) → k ≡ pick (eqb (s .levels) 0) 1 (s .levels - 1) → unfoldWith k s t h w S ≡ undoWith s t h w S
 unfolding unfoldWith undoWith onSheets
-undo-is s t h w S e = rw (e, ← (undo-is-unfold s (tableOf s t) (pastOf s h)))
-
-pub undo-with : {k : ℕ} (S : Stored) (t h w : List ℕ) (C : Sheets) → k ≡ pick (eqb (S .state .levels) 0) 1 (S .state .levels - 1)
-    → unfoldStoredWith k S t h w C ≡ undoStoredWith S t h w C
-unfolding unfoldStoredWith undoStoredWith onStoredWith
-undo-with S t h w C e = rw (undo-is (S .state) t h w C e)
+undo-with s t h w S e = rw (e, ← (undo-is-unfold s (tableOf s t) (pastOf s h)))

@@ -18,7 +18,7 @@ ghost use Rattle.area.specs.Area.{Room};
 ghost use Rattle.noting.specs.Checks.{Reloads, Reloaded};
 ghost use Rattle.pyramid.specs.Costs.{Begun};
 ghost use Rattle.pyramid.specs.Checking.{CheckedWith, CheckedPlain, BeganWith, BeginsCycles};
-ghost use Rattle.pyramid.specs.Values.{stateOf, storedOf};
+ghost use Rattle.pyramid.specs.Values.{stateOf};
 
 // 1, 2 and 3 of a start, which is lent a history and sheets of these lengths. Where it is none of them, the work area labels each dart with the place of its
 // vertex's record.
@@ -81,7 +81,7 @@ impl State {
         keeps: usize,
     ) -> Answer
         ensures { λ r. ⌜
-            CheckedWith (storedOf self) (now (table .entry)) (now (history .entry)) (now (work .entry)) sheet keeps (now (work .exit)) (answerOf r) ⌝ }
+            CheckedWith (stateOf self) (now (table .entry)) (now (history .entry)) (now (work .entry)) sheet keeps (now (work .exit)) (answerOf r) ⌝ }
     {
         let fits = fit_with(
             self.darts,
@@ -112,7 +112,7 @@ impl State {
         keeps: usize,
     ) -> Answer
         ensures { λ r. ⌜
-            CheckedPlain (storedOf self) (now (table .entry)) (now (history .entry)) (now (work .entry)) sheet keeps (now (work .exit)) (answerOf r) ⌝ }
+            CheckedPlain (stateOf self) (now (table .entry)) (now (history .entry)) (now (work .entry)) sheet keeps (now (work .exit)) (answerOf r) ⌝ }
     {
         let fits = fit_with(
             self.darts,

@@ -7,8 +7,8 @@ use area::clear::clear;
 ghost use mathlib.Core.Path.{_≡_};
 ghost use Prim.Native.Nat.{_≤_};
 ghost use Rattle.darts.specs.Counts.{noCounts, countsFrom};
-ghost use Rattle.darts.specs.Stored.{countsStored};
-ghost use Rattle.pyramid.specs.Values.{storedOf, tallyOf, countsLeft};
+ghost use Rattle.darts.specs.Calls.{counts as countsOf};
+ghost use Rattle.pyramid.specs.Values.{stateOf, tallyOf, countsLeft};
 
 // The counts of so many surviving darts, vertices and faces: the Euler number is vertices minus edges plus faces.
 fn tallied(darts: u32, vertices: u32, faces: u32) -> Counts
@@ -47,7 +47,7 @@ impl State {
     pub fn counts(self, table: &mut [u32], history: &mut [u32], work: &mut [u32]) -> Counted
         ensures { λ r. ⌜
             countsLeft r (now (table .exit)) (now (history .exit)) (now (work .exit))
-            ≡ countsStored (storedOf self) (now (table .entry)) (now (history .entry)) (now (work .entry)) ⌝ }
+            ≡ countsOf (stateOf self) (now (table .entry)) (now (history .entry)) (now (work .entry)) ⌝ }
     {
         let judged = self.judged(2, table, history, work);
         if judged.number() != 0 {

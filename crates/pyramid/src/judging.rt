@@ -8,9 +8,9 @@ use engine::check::check;
 ghost use mathlib.Core.Bool.{_&&_};
 ghost use mathlib.Core.Path.{_≡_};
 ghost use lib.Dec.{eqb};
-ghost use Rattle.pyramid.specs.Steps.{JudgedStored};
+ghost use Rattle.pyramid.specs.Steps.{Judged};
 ghost use Rattle.darts.specs.Cases.{answerOf};
-ghost use Rattle.pyramid.specs.Values.{storedOf};
+ghost use Rattle.pyramid.specs.Values.{stateOf};
 
 impl State {
     // Whether it is a pyramid, and the stored numbers are those that the check found.
@@ -29,7 +29,7 @@ impl State {
     // the work area holds the map, and its forest judges the coming kernel: 0 for removals, 1 for contractions, any other number for none.
     pub fn judged(self, coming: usize, table: &[u32], history: &[u32], work: &mut [u32]) -> Answer
         ensures { λ r. ⌜
-            JudgedStored (storedOf self) coming (now (table .entry)) (now (history .entry)) (now (work .entry)) (now (work .exit)) (answerOf r) ⌝ }
+            Judged (stateOf self) coming (now (table .entry)) (now (history .entry)) (now (work .entry)) (now (work .exit)) (answerOf r) ⌝ }
     {
         let fits = fit(self.darts, table.len(), history.len(), work.len());
         if fits.number() != 0 {

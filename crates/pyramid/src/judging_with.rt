@@ -7,8 +7,8 @@ use sheets::loops::first_unfit;
 use sheets::thin::records;
 ghost use mathlib.Core.Path.{_≡_};
 ghost use Rattle.darts.specs.Cases.{answerOf};
-ghost use Rattle.pyramid.specs.Costs.{JudgedStoredWith};
-ghost use Rattle.pyramid.specs.Values.{storedOf};
+ghost use Rattle.pyramid.specs.Costs.{JudgedWith};
+ghost use Rattle.pyramid.specs.Values.{stateOf};
 
 impl State {
     // 1 and 2, which write nothing, and 4, after which the work area is cleared. Where it is done, the work area holds the map, its forest of vertices judges
@@ -22,7 +22,7 @@ impl State {
         keeps: &[Zone],
     ) -> Answer
         ensures { λ r. ⌜
-            JudgedStoredWith (storedOf self) (now (table .entry)) (now (history .entry)) (now (work .entry)) (now (work .exit))
+            JudgedWith (stateOf self) (now (table .entry)) (now (history .entry)) (now (work .entry)) (now (work .exit))
             (record { sheet = now (sheet .entry); kept = now (keeps .entry) }) (answerOf r) ⌝ }
     {
         if self.operations == 0 {
@@ -57,7 +57,7 @@ impl State {
     ) -> Answer
         requires { ⌜ self .operations ≡ 0 ⌝ }
         ensures { λ r. ⌜
-            JudgedStoredWith (storedOf self) (now (table .entry)) (now (history .entry)) (now (work .entry)) (now (work .exit))
+            JudgedWith (stateOf self) (now (table .entry)) (now (history .entry)) (now (work .entry)) (now (work .exit))
             (record { sheet = now (sheet .entry); kept = now (keeps .entry) }) (answerOf r) ⌝ }
     {
         let k = records(sheet);

@@ -6,14 +6,14 @@ ghost use mathlib.Core.Path.{_≡_};
 ghost use Prim.Native.Nat.{_-_, _≤_, _<_};
 ghost use lib.Dec.{eqb};
 ghost use Rattle.permutations.specs.Choice.{pick};
-ghost use Rattle.darts.specs.State.{raised as raisedOf};
-ghost use Rattle.darts.specs.Levels.{endBelow, lowered as loweredOf};
+ghost use Rattle.darts.specs.Levels.{endBelow};
 ghost use Rattle.darts.specs.Cases.{answerOf};
-ghost use Rattle.pyramid.specs.Values.{stateOf, storedOf, Hands};
+ghost use Rattle.pyramid.specs.Steps.{Raised, Sunk};
+ghost use Rattle.pyramid.specs.Values.{stateOf, Hands};
 
 // The state as it was given, with an answer.
 pub(crate) fn kept(state: State, answer: Answer) -> Outcome
-    ensures { λ r. ⌜ Hands r (answerOf answer) (storedOf state) ⌝ }
+    ensures { λ r. ⌜ Hands r (answerOf answer) (stateOf state) ⌝ }
 {
     Outcome {
         state: state,
@@ -25,7 +25,7 @@ impl State {
     // One level more, which ends after so many operations.
     pub(crate) fn raised(self, operations: u32) -> State
         requires { ⌜ self .levels < 64 ⌝ }
-        ensures { λ r. ⌜ stateOf r ≡ raisedOf (stateOf self) operations ⌝ }
+        ensures { λ r. ⌜ Raised (stateOf self) operations (stateOf r) ⌝ }
     {
         let at = self.levels as usize;
         let mut ends = self.ends;
@@ -66,7 +66,7 @@ impl State {
     // One level less.
     pub(crate) fn lowered(self) -> State
         requires { ⌜ (0 < self .levels) × (self .levels ≤ 64) ⌝ }
-        ensures { λ r. ⌜ stateOf r ≡ loweredOf (stateOf self) ⌝ }
+        ensures { λ r. ⌜ Sunk (stateOf self) (stateOf r) ⌝ }
     {
         let below = self.end_below();
         let at = (self.levels - 1) as usize;

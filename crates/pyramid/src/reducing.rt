@@ -14,10 +14,9 @@ ghost use lib.ListN.{length};
 ghost use Rattle.darts.specs.Calls.{reduceBy, pastOf, handsBack, cleared};
 ghost use Rattle.darts.specs.Operation.{kindOf as kindOfBit};
 ghost use Rattle.darts.specs.State.{levelled};
-ghost use Rattle.darts.specs.Stored.{reduceStored};
 ghost use Rattle.engine.specs.Runs.{ranIn};
 ghost use Rattle.pyramid.specs.Steps.{Halts, Stood};
-ghost use Rattle.pyramid.specs.Values.{stateOf, storedOf, kindOf, left, leftStored};
+ghost use Rattle.pyramid.specs.Values.{stateOf, kindOf, left, unsettled};
 
 // The last bit of a history number of this kind.
 fn bit(kind: Kind) -> usize
@@ -34,9 +33,9 @@ impl State {
     pub fn level(self, ran: Ran, table: &mut [u32], history: &mut [u32], work: &[u32]) -> Outcome
         requires { ⌜ Halts (stateOf self) ran (now work) (length (now table)) (length (now history)) ⌝ }
         ensures { λ r. ⌜
-            left r (now (table .exit)) (now (history .exit)) (cleared (self .darts) (now (work .entry)))
-            ≡ handsBack (stateOf self) (now (table .entry)) (now (history .entry)) (now (work .entry))
-            (levelled (stateOf self) (pastOf (stateOf self) (now (history .entry))) (ranIn (self .darts) (now (work .entry)) ran)) ⌝ }
+            unsettled (left r (now (table .exit)) (now (history .exit)) (cleared (self .darts) (now (work .entry))))
+            ≡ unsettled (handsBack (stateOf self) (now (table .entry)) (now (history .entry)) (now (work .entry))
+            (levelled (stateOf self) (pastOf (stateOf self) (now (history .entry))) (ranIn (self .darts) (now (work .entry)) ran))) ⌝ }
     {
         let d = self.darts as usize;
         let n = self.operations as usize;
@@ -67,8 +66,8 @@ impl State {
         requires { ⌜ k ≤ 1 ⌝ }
         requires { ⌜ Stood (stateOf self) k (now table) (now history) (now work) ⌝ }
         ensures { λ r. ⌜
-            left r (now (table .exit)) (now (history .exit)) (now (work .exit))
-            ≡ reduceBy (kindOfBit k) (now (kernel .entry)) (stateOf self) (now (table .entry)) (now (history .entry)) (now (work .entry)) ⌝ }
+            unsettled (left r (now (table .exit)) (now (history .exit)) (now (work .exit)))
+            ≡ unsettled (reduceBy (kindOfBit k) (now (kernel .entry)) (stateOf self) (now (table .entry)) (now (history .entry)) (now (work .entry))) ⌝ }
     {
         let d = self.darts as usize;
         if 64 <= self.levels {
@@ -91,8 +90,8 @@ impl State {
         work: &mut [u32],
     ) -> Outcome
         ensures { λ r. ⌜
-            leftStored r (now (table .exit)) (now (history .exit)) (now (work .exit))
-            ≡ reduceStored (kindOf kind) (now (kernel .entry)) (storedOf self) (now (table .entry)) (now (history .entry)) (now (work .entry)) ⌝ }
+            left r (now (table .exit)) (now (history .exit)) (now (work .exit))
+            ≡ reduceBy (kindOf kind) (now (kernel .entry)) (stateOf self) (now (table .entry)) (now (history .entry)) (now (work .entry)) ⌝ }
     {
         let k = bit(kind);
         let judged = self.judged(k, table, history, work);

@@ -4,12 +4,12 @@ use crate::State;
 use area::shape::contractions;
 ghost use mathlib.Core.Path.{_≡_};
 ghost use Rattle.pyramid.specs.Settling.{Settles, Settled};
-ghost use Rattle.pyramid.specs.Values.{stateOf, storedOf};
+ghost use Rattle.pyramid.specs.Values.{stateOf, figuresWith};
 
 impl State {
     // The state with these numbers of vertices and faces.
     fn storing(self, vertices: u32, faces: u32) -> State
-        ensures { λ r. ⌜ storedOf r ≡ record { state = stateOf self; vertices = vertices; faces = faces } ⌝ }
+        ensures { λ r. ⌜ stateOf r ≡ figuresWith (stateOf self) vertices faces ⌝ }
     {
         let ends = self.ends;
         State {
@@ -25,8 +25,8 @@ impl State {
     // What a call on this state hands back. Each contraction that it did took one vertex away and each removal one face; what it undid gave them back. A refused call
     // did none.
     pub fn settle(self, outcome: Outcome, history: &[u32]) -> Outcome
-        requires { ⌜ Settles (storedOf self) (stateOf (outcome .state)) (now history) ⌝ }
-        ensures { λ r. ⌜ Settled (storedOf self) outcome (now (history .entry)) r ⌝ }
+        requires { ⌜ Settles (stateOf self) (outcome .state .operations) (now history) ⌝ }
+        ensures { λ r. ⌜ Settled (stateOf self) outcome (now (history .entry)) r ⌝ }
     {
         let answer = outcome.answer;
         let state = outcome.state;

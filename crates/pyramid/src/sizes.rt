@@ -14,7 +14,7 @@ ghost use Rattle.permutations.specs.Choice.{pick};
 ghost use Rattle.darts.specs.Cases.{answerOf};
 ghost use Rattle.area.specs.Shape.{stateWith};
 ghost use Rattle.yarn.specs.Calls.{fitting};
-ghost use Rattle.pyramid.specs.Values.{stateOf};
+ghost use Rattle.pyramid.specs.Values.{stateOf, figuresOf};
 ghost use Rattle.pyramid.specs.Costs.{Begun, operationsAt};
 
 // Answers 1 and 2: the number of darts, then the lengths of the slices and of the sheets.
@@ -66,7 +66,7 @@ pub(crate) fn reached(ran: Ran, n: usize) -> usize
 impl State {
     // The state's numbers, as the check takes them.
     pub(crate) fn figures(self) -> Figures
-        ensures { λ r. ⌜ stateWith r ≡ stateOf self ⌝ }
+        ensures { λ r. ⌜ stateWith r ≡ figuresOf (stateOf self) ⌝ }
     {
         let ends = self.ends;
         Figures {

@@ -6,14 +6,14 @@ use area::Verdict;
 use darts::answers::fit;
 use engine::base::test_base;
 ghost use mathlib.Core.Path.{_≡_};
-ghost use Rattle.darts.specs.State.{baseState};
-ghost use Rattle.darts.specs.Stored.{zeros, startStored};
+ghost use Rattle.darts.specs.Calls.{start as startOf};
+ghost use Rattle.darts.specs.State.{zeros};
 ghost use Rattle.darts.specs.Cases.{answerOf};
-ghost use Rattle.pyramid.specs.Values.{leftStored, Hands};
+ghost use Rattle.pyramid.specs.Values.{baseWith, left, Hands};
 
 // A base of d darts, with so many vertices and faces, and an answer.
 pub fn based(darts: u32, vertices: u32, faces: u32, answer: Answer) -> Outcome
-    ensures { λ r. ⌜ Hands r (answerOf answer) (record { state = baseState darts; vertices = vertices; faces = faces }) ⌝ }
+    ensures { λ r. ⌜ Hands r (answerOf answer) (baseWith darts vertices faces) ⌝ }
 {
     let ends = [0u32; 64];
     Outcome {
@@ -39,8 +39,8 @@ pub fn unbased(answer: Answer) -> Outcome
 // Starts from the table's first D numbers: a base, where they are a permutation of all darts; else both culprits.
 pub fn start(darts: u32, table: &mut [u32], history: &mut [u32], work: &mut [u32]) -> Outcome
     ensures { λ r. ⌜
-        leftStored r (now (table .exit)) (now (history .exit)) (now (work .exit))
-        ≡ startStored darts (now (table .entry)) (now (history .entry)) (now (work .entry)) ⌝ }
+        left r (now (table .exit)) (now (history .exit)) (now (work .exit))
+        ≡ startOf darts (now (table .entry)) (now (history .entry)) (now (work .entry)) ⌝ }
 {
     let judged = fit(darts, table.len(), history.len(), work.len());
     if judged.number() != 0 {

@@ -7,8 +7,8 @@ use sheets::Zone;
 use sheets::loops::first_unfit;
 use sheets::thin::records;
 ghost use mathlib.Core.Path.{_≡_};
-ghost use Rattle.yarn.specs.Stored.{startStoredWith};
-ghost use Rattle.pyramid.specs.Costs.{costsStored};
+ghost use Rattle.yarn.specs.Calls.{startWith};
+ghost use Rattle.pyramid.specs.Costs.{costs};
 
 // Starts from the table's first D numbers and the records at the places of its vertices.
 pub fn start_with(
@@ -20,8 +20,8 @@ pub fn start_with(
     keeps: &mut [Zone],
 ) -> Outcome
     ensures { λ r. ⌜
-        costsStored r (now (table .exit)) (now (history .exit)) (now (work .exit)) (now (sheet .exit)) (now (keeps .exit))
-        ≡ startStoredWith darts (now (table .entry)) (now (history .entry)) (now (work .entry)) (record { sheet = now (sheet .entry); kept = now (keeps .entry) }) ⌝ }
+        costs r (now (table .exit)) (now (history .exit)) (now (work .exit)) (now (sheet .exit)) (now (keeps .exit))
+        ≡ startWith darts (now (table .entry)) (now (history .entry)) (now (work .entry)) (record { sheet = now (sheet .entry); kept = now (keeps .entry) }) ⌝ }
 {
     let k = records(sheet);
     let l = records(keeps);

@@ -13,7 +13,7 @@ ghost use Rattle.darts.specs.Calls.{reduceBy};
 ghost use Rattle.darts.specs.Operation.{removal};
 ghost use Rattle.pyramid.specs.Costs.{StoodWith, MadeBy};
 ghost use Rattle.pyramid.specs.Steps.{Stood};
-ghost use Rattle.pyramid.specs.Values.{stateOf, left};
+ghost use Rattle.pyramid.specs.Values.{stateOf, left, unsettled};
 
 impl State {
     // A kernel of removals.
@@ -26,8 +26,8 @@ impl State {
     ) -> Outcome
         requires { ⌜ Stood (stateOf self) 1 (now table) (now history) (now work) ⌝ }
         ensures { λ r. ⌜
-            left r (now (table .exit)) (now (history .exit)) (now (work .exit))
-            ≡ reduceBy removal (now (kernel .entry)) (stateOf self) (now (table .entry)) (now (history .entry)) (now (work .entry)) ⌝ }
+            unsettled (left r (now (table .exit)) (now (history .exit)) (now (work .exit)))
+            ≡ unsettled (reduceBy removal (now (kernel .entry)) (stateOf self) (now (table .entry)) (now (history .entry)) (now (work .entry))) ⌝ }
     {
         label(work, self.darts as usize, 0);
         self.reduce_judged(0, kernel, table, history, work)

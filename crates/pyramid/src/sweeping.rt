@@ -7,17 +7,16 @@ use area::clear::clear;
 use engine::sweep::sweep;
 ghost use mathlib.Core.Path.{_≡_};
 ghost use Rattle.darts.specs.Calls.{sweepBy};
-ghost use Rattle.darts.specs.Stored.{sweepStored};
 ghost use Rattle.pyramid.specs.Steps.{Stood};
-ghost use Rattle.pyramid.specs.Values.{stateOf, storedOf, left, leftStored};
+ghost use Rattle.pyramid.specs.Values.{stateOf, left, unsettled};
 
 impl State {
     // The sweep once it is judged. The work area is cleared.
     pub fn sweep_judged(self, table: &mut [u32], history: &mut [u32], work: &mut [u32]) -> Outcome
         requires { ⌜ Stood (stateOf self) 2 (now table) (now history) (now work) ⌝ }
         ensures { λ r. ⌜
-            left r (now (table .exit)) (now (history .exit)) (now (work .exit))
-            ≡ sweepBy (stateOf self) (now (table .entry)) (now (history .entry)) (now (work .entry)) ⌝ }
+            unsettled (left r (now (table .exit)) (now (history .exit)) (now (work .exit)))
+            ≡ unsettled (sweepBy (stateOf self) (now (table .entry)) (now (history .entry)) (now (work .entry))) ⌝ }
     {
         let d = self.darts as usize;
         if 64 <= self.levels {
@@ -33,8 +32,8 @@ impl State {
     // One level more: each empty loop that is no whole piece removed, in one pass by rising edge.
     pub fn sweep(self, table: &mut [u32], history: &mut [u32], work: &mut [u32]) -> Outcome
         ensures { λ r. ⌜
-            leftStored r (now (table .exit)) (now (history .exit)) (now (work .exit))
-            ≡ sweepStored (storedOf self) (now (table .entry)) (now (history .entry)) (now (work .entry)) ⌝ }
+            left r (now (table .exit)) (now (history .exit)) (now (work .exit))
+            ≡ sweepBy (stateOf self) (now (table .entry)) (now (history .entry)) (now (work .entry)) ⌝ }
     {
         let judged = self.judged(2, table, history, work);
         if judged.number() != 0 {

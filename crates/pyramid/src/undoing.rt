@@ -8,10 +8,9 @@ use engine::store::store;
 use engine::undo::take_back;
 ghost use mathlib.Core.Path.{_≡_};
 ghost use Prim.Native.Nat.{_<_};
-ghost use Rattle.darts.specs.Calls.{unfoldBy};
-ghost use Rattle.darts.specs.Stored.{undoStored, unfoldStored};
+ghost use Rattle.darts.specs.Calls.{undoBy, unfoldBy};
 ghost use Rattle.pyramid.specs.Steps.{Stood, Stacked, Lowered, Unfolded};
-ghost use Rattle.pyramid.specs.Values.{stateOf, storedOf, left, leftStored};
+ghost use Rattle.pyramid.specs.Values.{stateOf, left, unsettled};
 
 impl State {
     // The last level taken back in the work area.
@@ -51,8 +50,8 @@ impl State {
     ) -> Outcome
         requires { ⌜ Stood (stateOf self) 2 (now table) (now history) (now work) ⌝ }
         ensures { λ r. ⌜
-            left r (now (table .exit)) (now (history .exit)) (now (work .exit))
-            ≡ unfoldBy level (stateOf self) (now (table .entry)) (now (history .entry)) (now (work .entry)) ⌝ }
+            unsettled (left r (now (table .exit)) (now (history .exit)) (now (work .exit)))
+            ≡ unsettled (unfoldBy level (stateOf self) (now (table .entry)) (now (history .entry)) (now (work .entry))) ⌝ }
     {
         let d = self.darts as usize;
         let top = self.levels;
@@ -75,8 +74,8 @@ impl State {
         work: &mut [u32],
     ) -> Outcome
         ensures { λ r. ⌜
-            leftStored r (now (table .exit)) (now (history .exit)) (now (work .exit))
-            ≡ unfoldStored level (storedOf self) (now (table .entry)) (now (history .entry)) (now (work .entry)) ⌝ }
+            left r (now (table .exit)) (now (history .exit)) (now (work .exit))
+            ≡ unfoldBy level (stateOf self) (now (table .entry)) (now (history .entry)) (now (work .entry)) ⌝ }
     {
         let judged = self.judged(2, table, history, work);
         if judged.number() != 0 {
@@ -89,8 +88,8 @@ impl State {
     // The last level undone: the state and every entry of the table as they were before its kernel.
     pub fn undo(self, table: &mut [u32], history: &mut [u32], work: &mut [u32]) -> Outcome
         ensures { λ r. ⌜
-            leftStored r (now (table .exit)) (now (history .exit)) (now (work .exit))
-            ≡ undoStored (storedOf self) (now (table .entry)) (now (history .entry)) (now (work .entry)) ⌝ }
+            left r (now (table .exit)) (now (history .exit)) (now (work .exit))
+            ≡ undoBy (stateOf self) (now (table .entry)) (now (history .entry)) (now (work .entry)) ⌝ }
     {
         self.unfold(self.level_below(), table, history, work)
     }

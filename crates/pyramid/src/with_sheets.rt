@@ -9,9 +9,9 @@ use sheets::Zone;
 use sheets::loops::merge_all;
 use sheets::loops::put_all_back;
 ghost use mathlib.Core.Path.{_≡_};
-ghost use Rattle.yarn.specs.Stored.{reduceStoredWith, sweepStoredWith, undoStoredWith, unfoldStoredWith};
-ghost use Rattle.pyramid.specs.Costs.{StoodWith, Righted, costsLeft, costsStored, contractsWith};
-ghost use Rattle.pyramid.specs.Values.{stateOf, storedOf, kindOf};
+ghost use Rattle.yarn.specs.Calls.{reduceWith, sweepWith, undoWith, unfoldWith};
+ghost use Rattle.pyramid.specs.Costs.{StoodWith, Righted, costs, costsLeft, contractsWith};
+ghost use Rattle.pyramid.specs.Values.{stateOf, kindOf};
 
 impl State {
     // A kernel of contractions once it is judged: the merges are made when the whole kernel is accepted. The work area is cleared.
@@ -51,8 +51,8 @@ impl State {
         keeps: &mut [Zone],
     ) -> Outcome
         ensures { λ r. ⌜
-            costsStored r (now (table .exit)) (now (history .exit)) (now (work .exit)) (now (sheet .exit)) (now (keeps .exit))
-            ≡ reduceStoredWith (kindOf kind) (now (kernel .entry)) (storedOf self) (now (table .entry)) (now (history .entry)) (now (work .entry))
+            costs r (now (table .exit)) (now (history .exit)) (now (work .exit)) (now (sheet .exit)) (now (keeps .exit))
+            ≡ reduceWith (kindOf kind) (now (kernel .entry)) (stateOf self) (now (table .entry)) (now (history .entry)) (now (work .entry))
             (record { sheet = now (sheet .entry); kept = now (keeps .entry) }) ⌝ }
     {
         let judged = self.judged_with(table, history, work, sheet, keeps);
@@ -81,8 +81,8 @@ impl State {
         keeps: &mut [Zone],
     ) -> Outcome
         ensures { λ r. ⌜
-            costsStored r (now (table .exit)) (now (history .exit)) (now (work .exit)) (now (sheet .exit)) (now (keeps .exit))
-            ≡ sweepStoredWith (storedOf self) (now (table .entry)) (now (history .entry)) (now (work .entry))
+            costs r (now (table .exit)) (now (history .exit)) (now (work .exit)) (now (sheet .exit)) (now (keeps .exit))
+            ≡ sweepWith (stateOf self) (now (table .entry)) (now (history .entry)) (now (work .entry))
             (record { sheet = now (sheet .entry); kept = now (keeps .entry) }) ⌝ }
     {
         let judged = self.judged_with(table, history, work, sheet, keeps);
@@ -104,8 +104,8 @@ impl State {
         keeps: &mut [Zone],
     ) -> Outcome
         ensures { λ r. ⌜
-            costsStored r (now (table .exit)) (now (history .exit)) (now (work .exit)) (now (sheet .exit)) (now (keeps .exit))
-            ≡ unfoldStoredWith level (storedOf self) (now (table .entry)) (now (history .entry)) (now (work .entry))
+            costs r (now (table .exit)) (now (history .exit)) (now (work .exit)) (now (sheet .exit)) (now (keeps .exit))
+            ≡ unfoldWith level (stateOf self) (now (table .entry)) (now (history .entry)) (now (work .entry))
             (record { sheet = now (sheet .entry); kept = now (keeps .entry) }) ⌝ }
     {
         let judged = self.judged_with(table, history, work, sheet, keeps);
@@ -130,8 +130,8 @@ impl State {
         keeps: &mut [Zone],
     ) -> Outcome
         ensures { λ r. ⌜
-            costsStored r (now (table .exit)) (now (history .exit)) (now (work .exit)) (now (sheet .exit)) (now (keeps .exit))
-            ≡ undoStoredWith (storedOf self) (now (table .entry)) (now (history .entry)) (now (work .entry))
+            costs r (now (table .exit)) (now (history .exit)) (now (work .exit)) (now (sheet .exit)) (now (keeps .exit))
+            ≡ undoWith (stateOf self) (now (table .entry)) (now (history .entry)) (now (work .entry))
             (record { sheet = now (sheet .entry); kept = now (keeps .entry) }) ⌝ }
     {
         self.unfold_with(self.level_below(), table, history, work, sheet, keeps)

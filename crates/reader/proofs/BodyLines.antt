@@ -47,7 +47,7 @@ module _ {z : Scan Body} {b : List ℕ} {D F : ℕ} {w w′ : List ℕ} (l : ℕ
         beyond = beyond;
       }
 
-  pub body-right : {n p : ℕ} → Holds (record { darts = D; operations = n; levels = l; ends = ends }) b F p z w′
+  pub body-right : {n p : ℕ} → Holds (record { darts = D; operations = n; levels = l; ends = ends; vertices = 0; faces = 0 }) b F p z w′
       → BodyRead z b D F w w′ (record { read = Found n p; levels = l; ends = ends })
   body-right {n} {p} H =
       record {
@@ -157,7 +157,7 @@ module _ {b : List ℕ} {at L D : ℕ} (F : ℕ) {w : List ℕ} (room : Room D w
               lines-on (ks .value) (ks .whole)
               ∙ ap (λ (s : Scan (List ℕ)). after s (λ xs next. found (bodyOf (ks .value) xs) next)) (xs .whole);
           few = few;
-          state = state-path refl (sym (ks .same)) (sym count) (K .ends (ks .value) next (ks .whole));
+          state = λ t past. state-path refl (sym (ks .same)) (sym count) (K .ends (ks .value) next (ks .whole)) refl refl;
           pairs = pairs;
           table = laid-table pairs;
           history = laid-history (ks .whole) (ks .same);

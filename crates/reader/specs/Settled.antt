@@ -8,12 +8,11 @@ use Rattle.darts.specs.Scan.{Scan, found}
 use Rattle.darts.specs.Read.{Body, pairsAt, fromFlag, closed}
 use Rattle.darts.specs.Calls.{cleared, readInto}
 use Rattle.darts.specs.State.{State}
-use Rattle.darts.specs.Stored.{zeros, numbered}
 use Rattle.slices.specs.Over.{over}
 use Rattle.area.specs.Shape.{historyIn}
 use Rattle.engine.specs.Held.{Beyond}
 use Rattle.pyramid.specs.declared.Outcome.{Outcome}
-use Rattle.pyramid.specs.Values.{leftStored}
+use Rattle.pyramid.specs.Values.{left}
 use Rattle.reader.specs.Lines.{startsWith}
 use Rattle.reader.specs.Parsed.{Holds}
 
@@ -23,5 +22,5 @@ pub record Accepted (b : List ℕ) (p D F n : ℕ) (t t′ h h′ w : List ℕ) 
 
 pub record Settled (s : State) (b : List ℕ) (F p : ℕ) (t t′ h h′ w w′ : List ℕ) (r : Outcome) : Type 0 where
   pub whole : (z : Scan Body) → Holds s b F p z w → (v : List ℕ)
-      → leftStored r t′ h′ (cleared (s .darts) v) ≡ numbered zeros (readInto t h v (closed (startsWith F (s .darts)) z))
+      → left r t′ h′ (cleared (s .darts) v) ≡ readInto t h v (closed (startsWith F (s .darts)) z)
   pub beyond : Beyond (s .darts) w w′

@@ -18,12 +18,11 @@ ghost use mathlib.Core.Path.{_≡_};
 ghost use Prim.Native.Nat.{_/_, _≤_};
 ghost use lib.ListN.{length};
 ghost use Rattle.darts.specs.Read.{body, closed};
-ghost use Rattle.darts.specs.Calls.{cleared, readInto};
-ghost use Rattle.darts.specs.Stored.{zeros, numbered, readStored};
+ghost use Rattle.darts.specs.Calls.{cleared, readInto, read as readOf};
 ghost use Rattle.area.specs.Area.{Room};
 ghost use Rattle.area.specs.Shape.{stateWith};
 ghost use Rattle.engine.specs.Held.{Beyond};
-ghost use Rattle.pyramid.specs.Values.{leftStored};
+ghost use Rattle.pyramid.specs.Values.{left};
 ghost use Rattle.reader.specs.Lines.{startsWith};
 ghost use Rattle.reader.specs.Parsed.{LastRead, linesAt, BodyRead};
 ghost use Rattle.reader.specs.Settled.{Accepted, Settled};
@@ -178,9 +177,8 @@ fn read_inside(
     requires { ⌜ Room d (now work) ⌝ }
     requires { ⌜ (d ≤ length (now table)) × (d / 2 ≤ length (now history)) ⌝ }
     ensures { λ r. ⌜
-        leftStored r (now (table .exit)) (now (history .exit)) (cleared d (now (work .entry)))
-        ≡ numbered zeros
-        (readInto (now (table .entry)) (now (history .entry)) (now (work .entry)) (closed (startsWith flag d) (body d (now (bytes .entry)) at))) ⌝ }
+        left r (now (table .exit)) (now (history .exit)) (cleared d (now (work .entry)))
+        ≡ readInto (now (table .entry)) (now (history .entry)) (now (work .entry)) (closed (startsWith flag d) (body d (now (bytes .entry)) at)) ⌝ }
     ensures { λ _. ⌜ Beyond d (now (work .entry)) (now (work .exit)) ⌝ }
 {
     let said = parse(bytes, at, d, flag, work);
@@ -204,8 +202,8 @@ fn read_inside(
 // Reads a file: D, then its levels and their kernels, then the table. Table and history are written only when it is accepted.
 pub fn read(bytes: &[u8], table: &mut [u32], history: &mut [u32], work: &mut [u32]) -> Outcome
     ensures { λ r. ⌜
-        leftStored r (now (table .exit)) (now (history .exit)) (now (work .exit))
-        ≡ readStored (now (bytes .entry)) (now (table .entry)) (now (history .entry)) (now (work .entry)) ⌝ }
+        left r (now (table .exit)) (now (history .exit)) (now (work .exit))
+        ≡ readOf (now (bytes .entry)) (now (table .entry)) (now (history .entry)) (now (work .entry)) ⌝ }
 {
     match opening(bytes) {
         Line::Fault(answer) => unbased(answer),

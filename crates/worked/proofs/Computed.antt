@@ -20,7 +20,6 @@ use Rattle.darts.specs.Levels.{emptyLoop, takes, sweptFrom, swept, sweep, endBe
 use Rattle.darts.specs.Pyramid.{dartCount, build, kernelOf, cut, kernelsOf, sameNumbers, sameState, isExactly, isPyramid}
 use Rattle.darts.specs.Calls.{room, fitting, tableOf, pastOf, cleared, workAfter, judged, begins, start, handsBack, onState, reduceBy, sweepBy, undoBy, unfoldBy}
 use Rattle.darts.specs.Counts.{neverBelow, lowest, cycles, surviving, countsOf}
-use Rattle.darts.specs.Stored.{storing, stores, numbered, judgedStored, onStored, startStored, reduceStored, sweepStored, undoStored, unfoldStored}
 use Rattle.slices.specs.Over.{over}
 use Rattle.pyramid.specs.declared.Kind.the-variants.{Contract, Remove}
 use Rattle.worked.specs.declared.chain.Step.{Step}
@@ -98,5 +97,5 @@ pub computed :
     × (example 8 T vertex-more Sweep Stay 4 0 0 T nothing 5 2 ≡ true)
     × (example 8 T zones vertex-for-face Undo 4 0 0 k5 h5 3 1 ≡ true)
     × (example 8 T zones vertex-for-face (Unfold 0) 4 0 0 k5 h5 3 1 ≡ true)
-unfolding partner meetsIn successor faceNext sameVertex sameFace gone survives beforeIn before repeats culprit testFrom permutationTest turned lead wholeEdge remove contract operate number kindOf leadOf edgeOf putBack undoOne undone shared judge passFrom pass run raised levelled reduce emptyLoop takes rising sweptFrom swept sweep endBelow lowered undoLevel undoLevels dartCount build kernelOf cut kernelsOf sameNumbers sameState isExactly isPyramid room fitting tableOf pastOf over cleared workAfter judged begins start handsBack onState reduceBy sweepBy undoBy neverBelow lowest cycles surviving countsOf unfoldTo unfoldBy storing stores numbered judgedStored onStored startStored reduceStored sweepStored undoStored unfoldStored rowIs numbersAre
+unfolding partner meetsIn successor faceNext sameVertex sameFace gone survives beforeIn before repeats culprit testFrom permutationTest turned lead wholeEdge remove contract operate number kindOf leadOf edgeOf putBack undoOne undone shared judge passFrom pass run raised levelled reduce emptyLoop takes rising sweptFrom swept sweep endBelow lowered undoLevel undoLevels dartCount build kernelOf cut kernelsOf sameNumbers sameState isExactly isPyramid room fitting tableOf pastOf over cleared workAfter judged begins start handsBack onState reduceBy sweepBy undoBy neverBelow lowest cycles surviving countsOf unfoldTo unfoldBy rowIs numbersAre
 computed = (refl, refl, refl, refl, refl, refl, refl, refl, refl, refl, refl, refl, refl, refl, refl, refl, refl, refl, refl, refl, refl, refl)

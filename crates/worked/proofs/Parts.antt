@@ -13,9 +13,10 @@ use Prim.Native.Nat.{ℕ}
 use lib.Dec.{eqb}
 use Rattle.permutations.specs.Choice.{eqb-same, eqb-other}
 use Rattle.darts.specs.Answers.{Answer}
-use Rattle.darts.specs.Stored.{Stored, AfterStored, leavesStored}
+use Rattle.darts.specs.Calls.{After, leaves}
+use Rattle.darts.specs.State.{State}
 use Rattle.darts.specs.Pyramid.{sameNumbers}
-use Rattle.pyramid.specs.Values.{Hands, leftStored}
+use Rattle.pyramid.specs.Values.{Hands, left}
 use Rattle.pyramid.specs.declared.Outcome.{Outcome}
 use Rattle.worked.specs.Chain.{rowIs, numbersAre, leftIs}
 
@@ -40,26 +41,26 @@ module _ (a : Answer) (n p s : ℕ) (t u h v : List ℕ) where
   unfolding rowIs
   all-but-history e f g k = rw (eqb-same e, eqb-same f, eqb-same g, k) refl
 
-module _ (S : Stored) (x y : ℕ) where
-  pub not-vertices : S .vertices ≢ x → false ≡ numbersAre S x y
+module _ (s : State) (x y : ℕ) where
+  pub not-vertices : s .vertices ≢ x → false ≡ numbersAre s x y
   unfolding numbersAre
   not-vertices d = rw (eqb-other d) refl
 
-  pub faces-decide : S .vertices ≡ x → eqb (S .faces) y ≡ numbersAre S x y
+  pub faces-decide : s .vertices ≡ x → eqb (s .faces) y ≡ numbersAre s x y
   unfolding numbersAre
   faces-decide e = rw (eqb-same e) refl
 
-pub hands-left : {o : Outcome} {a : Answer} {S : Stored} {t h w : List ℕ} → Hands o a S → leftStored o t h w ≡ leavesStored a S t h w
-hands-left {t = t} {h = h} {w = w} H = λ i. leavesStored (H .answer i) (H .state i) t h w
+pub hands-left : {o : Outcome} {a : Answer} {s : State} {t h w : List ℕ} → Hands o a s → left o t h w ≡ leaves a s t h w
+hands-left {t = t} {h = h} {w = w} H = λ i. leaves (H .answer i) (H .state i) t h w
 
 both : (a b : Bool) → a && b ≡ true → (a ≡ true) × (b ≡ true)
 both true true e = (refl, refl)
 both true false e = (refl, e)
 both false b e = (e, absurd (true≢false (sym e)))
 
-module _ {a b : AfterStored} (n p s : ℕ) (u v : List ℕ) (x y : ℕ) (e : a ≡ b) (k : leftIs b n p s u v x y ≡ true) where
+module _ {a b : After} (n p s : ℕ) (u v : List ℕ) (x y : ℕ) (e : a ≡ b) (k : leftIs b n p s u v x y ≡ true) where
   parts : (rowIs (a .answer) n p s (a .table) u (a .history) v ≡ true) × (numbersAre (a .state) x y ≡ true)
-  parts = both _ _ (ap (λ (z : AfterStored). leftIs z n p s u v x y) e ∙ k)
+  parts = both _ _ (ap (λ (z : After). leftIs z n p s u v x y) e ∙ k)
 
   pub row-of : rowIs (a .answer) n p s (a .table) u (a .history) v ≡ true
   row-of = parts .0

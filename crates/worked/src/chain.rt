@@ -5,8 +5,8 @@ use pyramid::State;
 use pyramid::start;
 ghost use mathlib.Core.Path.{_≡_};
 ghost use Rattle.darts.specs.Cases.{answerOf};
-ghost use Rattle.darts.specs.Stored.{startStored};
-ghost use Rattle.pyramid.specs.Values.{Hands, stateOf, leftStored};
+ghost use Rattle.darts.specs.Calls.{start as startOf};
+ghost use Rattle.pyramid.specs.Values.{Hands, stateOf, figuresWith, left};
 ghost use Rattle.worked.specs.Chain.{stepped};
 
 // A call on a state: none, a kernel of one edge or of two, the sweep, an undo, back to a level; or no call, and other numbers of vertices and faces in the state.
@@ -22,7 +22,7 @@ pub enum Step {
 
 // The same outcome, with these numbers of vertices and faces in its state.
 fn stored(outcome: Outcome, vertices: u32, faces: u32) -> Outcome
-    ensures { λ r. ⌜ Hands r (answerOf (outcome .answer)) (record { state = stateOf (outcome .state); vertices = vertices; faces = faces }) ⌝ }
+    ensures { λ r. ⌜ Hands r (answerOf (outcome .answer)) (figuresWith (stateOf (outcome .state)) vertices faces) ⌝ }
 {
     let state = outcome.state;
     let ends = state.ends;
@@ -49,8 +49,8 @@ fn call(
     work: &mut [u32],
 ) -> Outcome
     ensures { λ r. ⌜
-        leftStored r (now (table .exit)) (now (history .exit)) (now (work .exit))
-        ≡ stepped step (leftStored before (now (table .entry)) (now (history .entry)) (now (work .entry))) ⌝ }
+        left r (now (table .exit)) (now (history .exit)) (now (work .exit))
+        ≡ stepped step (left before (now (table .entry)) (now (history .entry)) (now (work .entry))) ⌝ }
 {
     let state = before.state;
     match step {
@@ -81,8 +81,8 @@ pub fn chain(
     work: &mut [u32],
 ) -> Outcome
     ensures { λ r. ⌜
-        leftStored r (now (table .exit)) (now (history .exit)) (now (work .exit))
-        ≡ stepped third (stepped second (stepped first (startStored darts (now (table .entry)) (now (history .entry)) (now (work .entry))))) ⌝ }
+        left r (now (table .exit)) (now (history .exit)) (now (work .exit))
+        ≡ stepped third (stepped second (stepped first (startOf darts (now (table .entry)) (now (history .entry)) (now (work .entry))))) ⌝ }
 {
     let base = start(darts, table, history, work);
     let one = call(first, base, table, history, work);

@@ -3,7 +3,7 @@ use pyramid::Outcome;
 ghost use mathlib.Core.Path.{_≡_};
 ghost use Rattle.darts.specs.Pyramid.{sameNumbers};
 ghost use Rattle.darts.specs.Cases.{answerOf};
-ghost use Rattle.pyramid.specs.Values.{storedOf};
+ghost use Rattle.pyramid.specs.Values.{stateOf};
 ghost use Rattle.worked.specs.Chain.{rowIs, numbersAre};
 
 // Whether two slices hold the same numbers.
@@ -55,7 +55,7 @@ pub fn is_row(
 
 // Whether the state stores these numbers of vertices and faces.
 pub fn is_stored(outcome: Outcome, vertices: u32, faces: u32) -> bool
-    ensures { λ r. ⌜ r ≡ numbersAre (storedOf (outcome .state)) vertices faces ⌝ }
+    ensures { λ r. ⌜ r ≡ numbersAre (stateOf (outcome .state)) vertices faces ⌝ }
 {
     let state = outcome.state;
     if state.vertices != vertices {

@@ -5,8 +5,8 @@ use area::clear::clear;
 use pyramid::Answer;
 use pyramid::State;
 ghost use mathlib.Core.Path.{_≡_};
-ghost use Rattle.darts.specs.Stored.{writeStored};
-ghost use Rattle.pyramid.specs.Values.{storedOf};
+ghost use Rattle.darts.specs.Calls.{write as writeOf};
+ghost use Rattle.pyramid.specs.Values.{stateOf};
 ghost use Rattle.writer.specs.Filed.{filed};
 
 // Writes the file of a pyramid, with darts from zero, over the first bytes of the output.
@@ -19,7 +19,7 @@ pub fn write(
 ) -> Answer
     ensures { λ r. ⌜
         filed r (now (table .exit)) (now (history .exit)) (now (work .exit)) (now (output .exit))
-        ≡ writeStored (storedOf state) (now (table .entry)) (now (history .entry)) (now (work .entry)) (now (output .entry)) ⌝ }
+        ≡ writeOf (stateOf state) (now (table .entry)) (now (history .entry)) (now (work .entry)) (now (output .entry)) ⌝ }
 {
     let judged = state.judged(2, table, history, work);
     if judged.number() != 0 {

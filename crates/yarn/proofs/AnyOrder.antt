@@ -101,27 +101,27 @@ module _ (D : ℕ) (b : List ℕ) (count : T (dartCount D)) (size : length b ≡
   stands = base-stands D b count size permutation
 
   -- the operations of what kernels build are theirs
-  built-told : (ks : List Kernel) {s : State} {t past : List ℕ} → build (baseState D) b [] ks ≡ gives s t past
+  built-told : (ks : List Kernel) {s : State} {t past : List ℕ} → build (baseState D b) b [] ks ≡ gives s t past
       → map operationOf (reverse past) ≡ operationsOf ks
-  built-told ks e = told-history (done-told (operationsOf ks) (kernels-done (baseState D) b [] ks e))
+  built-told ks e = told-history (done-told (operationsOf ks) (kernels-done (baseState D b) b [] ks e))
 
-  built-turns : (ks : List Kernel) {s : State} {t past : List ℕ} → build (baseState D) b [] ks ≡ gives s t past → Turns D (lowest D b) (reverse past)
+  built-turns : (ks : List Kernel) {s : State} {t past : List ℕ} → build (baseState D b) b [] ks ≡ gives s t past → Turns D (lowest D b) (reverse past)
   built-turns ks {s} {t} {past} e =
-      let darts : s .darts ≡ D = built stands (layered-base D) ks e .layered .size in
+      let darts : s .darts ≡ D = built stands (layered-base D b) (record { vertices = refl; faces = refl }) ks e .layered .size in
       let P : Pyramid s t past = record {
         count = rw darts count;
         base = b;
         size = rw darts size;
         permutation = rw darts permutation;
         kernels = ks;
-        built = subst (λ n. build (baseState n) b [] ks ≡ gives s t past) (sym darts) e;
+        built = subst (λ n. build (baseState n b) b [] ks ≡ gives s t past) (sym darts) e;
       } in
       subst (λ n. Turns n (lowest n b) (reverse past)) darts (record { inside = pyramid-inside P; apart = pyramid-apart P })
 
   -- ANY ORDER, ANY CUT INTO LEVELS: the kernels ls hold the operations of accepted ones in some order; none of them is empty, and they are 64 at most
-  pub cut-zones : (ks ls : List Kernel) {s : State} {t past : List ℕ} → build (baseState D) b [] ks ≡ gives s t past
+  pub cut-zones : (ks ls : List Kernel) {s : State} {t past : List ℕ} → build (baseState D b) b [] ks ≡ gives s t past
       → List·Permᴰ (operationsOf ks) (operationsOf ls) → NoneEmpty ls → length ls ≤ 64
-      → (S : Sheets) → D ≤ length (S .sheet) → ZonesAgree D b t past S (build (baseState D) b [] ls)
+      → (S : Sheets) → D ≤ length (S .sheet) → ZonesAgree D b t past S (build (baseState D b) b [] ls)
   cut-zones ks ls {past = past} e rearranged some few S long =
       let G = any-cut D b count size permutation ks ls e rearranged some few in
       let told : List·Permᴰ (map operationOf (reverse past)) (map operationOf (reverse (G .new))) =
@@ -134,7 +134,7 @@ module _ (D : ℕ) (b : List ℕ) (count : T (dartCount D)) (size : length b ≡
 -- THE SAME FOR EVERY PYRAMID, whichever of kernels and sweeps made its levels
 pub pyramid-zones : {s : State} {t past : List ℕ} (P : Pyramid s t past) (ls : List Kernel)
     → List·Permᴰ (map operationOf (reverse past)) (operationsOf ls) → NoneEmpty ls → length ls ≤ 64 → (S : Sheets) → s .darts ≤ length (S .sheet)
-    → ZonesAgree (s .darts) (P .base) t past S (build (baseState (s .darts)) (P .base) [] ls)
+    → ZonesAgree (s .darts) (P .base) t past S (build (baseState (s .darts) (P .base)) (P .base) [] ls)
 pyramid-zones {s} P ls rearranged =
     let told = built-told (s .darts) (P .base) (P .count) (P .size) (P .permutation) (P .kernels) (P .built) in
     cut-zones (s .darts) (P .base) (P .count) (P .size) (P .permutation) (P .kernels) ls (P .built) (rw told at rearranged)

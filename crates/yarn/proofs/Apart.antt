@@ -166,7 +166,7 @@ module _ {s : State} {t past : List ℕ} (P : Pyramid s t past) where
   vertices-told : T (replays contraction (lowest D (baseOf s t past)) (reverse past))
   unfolding baseOf
   vertices-told =
-      passed-iff (lowest D b) sides s t past .0 (tests-decide (lowest D b) sides s t past labelled .1 P) .vertices
+      passed-iff (lowest D b) sides s t past .0 (tests-decide (lowest D b) sides s t past labelled .1 P .0) .vertices
     where
       b : List ℕ
       b = baseOf s t past

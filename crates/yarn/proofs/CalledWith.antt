@@ -41,10 +41,10 @@ use Rattle.yarn.proofs.LentWith.{LentWith, with-plain, with-sheets, wit
 -- ---- one base
 
 -- everything undone
-ground : {s : State} {t past : List ℕ} → Pyramid s t past → unfoldTo 0 s t past ≡ gives (baseState (s .darts)) (baseOf s t past) []
+ground : {s : State} {t past : List ℕ} → Pyramid s t past → unfoldTo 0 s t past ≡ gives (baseState (s .darts) (baseOf s t past)) (baseOf s t past) []
 unfolding baseOf build
 ground {s} P =
-    let B : Pyramid (baseState (s .darts)) (P .base) [] = record {
+    let B : Pyramid (baseState (s .darts) (P .base)) (P .base) [] = record {
       count = P .count;
       base = P .base;
       size = P .size;
@@ -52,12 +52,12 @@ ground {s} P =
       kernels = [];
       built = refl;
     } in
-    unfold-returns B (P .kernels) (P .built) ∙ ap (λ b. gives (baseState (s .darts)) b []) (sym (base-undone P))
+    unfold-returns B (P .kernels) (P .built) ∙ ap (λ b. gives (baseState (s .darts) b) b []) (sym (base-undone P))
 
 pub same-base : {f : Step} → Leads f → {s : State} {t past : List ℕ} {z : State} {u new : List ℕ} → Pyramid s t past → f s t past ≡ gives z u new
     → baseOf z u new ≡ baseOf s t past
 same-base A {s} {t} {past} {z} {u} {new} P e =
-    let same : gives (baseState (z .darts)) (baseOf z u new) [] ≡ gives (baseState (s .darts)) (baseOf s t past) [] =
+    let same : gives (baseState (z .darts) (baseOf z u new)) (baseOf z u new) [] ≡ gives (baseState (s .darts) (baseOf s t past)) (baseOf s t past) [] =
     sym (ground (A .pyramid P e)) ∙ A .ground P e ∙ ground P in
     cc
 

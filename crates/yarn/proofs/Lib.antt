@@ -27,4 +27,3 @@ pub mod Looks
 pub mod ChainedWith
 pub mod StartWith
 pub mod AnyOrderWith
-pub mod StoredWith

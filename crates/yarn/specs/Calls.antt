@@ -15,7 +15,7 @@ use Rattle.darts.specs.Choose.{if_then_else_}
 use Rattle.darts.specs.Answers.{Answer, done, tooShort, noPyramid, unfitRecord}
 use Rattle.darts.specs.Map.{Verdict, permutes, culprits, permutationTest}
 use Rattle.darts.specs.Operation.{Kind, undone}
-use Rattle.darts.specs.State.{State, baseState, Result, gives, refuses, reduce}
+use Rattle.darts.specs.State.{State, zeros, Result, gives, refuses, reduce}
 use Rattle.darts.specs.Levels.{sweep, undoLevel, unfoldTo}
 use Rattle.darts.specs.Pyramid.{isPyramid}
 use Rattle.darts.specs.Calls.{After, leaves, fitting as fittingPlain, tableOf, pastOf, cleared, begins, handsBack}
@@ -71,14 +71,14 @@ firstUnfit D b S = unfitFrom D b S D 0
 unfoldable pub beginsWith : ℕ → List ℕ → List ℕ → List ℕ → Sheets → Verdict → After
 beginsWith D t h w S permutes =
     let x : ℕ = firstUnfit D t S in
-    if eqb x D then begins D t h w permutes else leaves (unfitRecord x) (baseState 0) t h (cleared D w)
+    if eqb x D then begins D t h w permutes else leaves (unfitRecord x) zeros t h (cleared D w)
 beginsWith D t h w S (culprits d c) = begins D t h w (culprits d c)
 
 unfoldable pub startWith : ℕ → List ℕ → List ℕ → List ℕ → Sheets → Costed
 startWith D t h w S =
     let a : Answer = fittingOf D t h w S in
     let begun : After = beginsWith D t h w S (permutationTest D t) in
-    costed (if not (eqb (a .number) 0) then leaves a (baseState 0) t h w else begun) S
+    costed (if not (eqb (a .number) 0) then leaves a zeros t h w else begun) S
 
 -- ---- the calls on a state
 

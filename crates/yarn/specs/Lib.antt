@@ -1,7 +1,6 @@
 pub mod Places
 pub mod Given
 pub mod Calls
-pub mod Stored
 pub mod Totals
 pub mod Rows
 pub mod Worked

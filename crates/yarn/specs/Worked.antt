@@ -18,8 +18,9 @@ use Rattle.permutations.specs.Cycle.{meetsIn}
 use Rattle.darts.specs.Map.{successor, faceNext, sameVertex, sameFace, gone, survives, beforeIn, before, repeats, culprit, testFrom, permutationTest}
 use Rattle.darts.specs.Operation.{turned, lead, wholeEdge, remove, contract, operate, number, kindOf, leadOf, edgeOf, putBack, undoOne, undone}
 use Rattle.darts.specs.Kernel.{shared, judge, rising, passFrom, pass, run}
-use Rattle.darts.specs.State.{State, baseState, raised, levelled, reduce}
+use Rattle.darts.specs.State.{State, baseState, raised, levelled, reduce, zeros as zeroState}
 use Rattle.darts.specs.Levels.{emptyLoop, takes, sweptFrom, swept, sweep, endBelow, lowered, undoLevel, undoLevels, unfoldTo}
+use Rattle.darts.specs.Counts.{neverBelow, lowest as lowestIn, cycles, countsOf}
 use Rattle.darts.specs.Pyramid.{dartCount, build, kernelOf, cut, kernelsOf, sameNumbers, sameState, isExactly, isPyramid}
 use Rattle.darts.specs.Calls.{room, fitting as fittingPlain, tableOf, pastOf, cleared, workAfter, begins, handsBack}
 use Rattle.sheets.specs.declared.Zone.{Zone}
@@ -36,8 +37,8 @@ abbrev lent : State → List ℕ → List ℕ → Sheets → Lent
 lent s t h S = record { state = s; table = t; history = h; sheets = S }
 
 -- n operations, and the level ends in use
-abbrev state : ℕ → List ℕ → State
-state n es = record { darts = 8; operations = n; levels = length es; ends = over es (replicate 64 0) }
+abbrev state : ℕ → List ℕ → ℕ → ℕ → State
+state n es v f = record { darts = 8; operations = n; levels = length es; ends = over es (replicate 64 0); vertices = v; faces = f }
 
 -- "Base T (D = 8): 5 2 1 4 6 0 3 7", and a number that is not looked at; nor is history past the count
 abbrev T : List ℕ
@@ -62,17 +63,17 @@ past hs = over hs (replicate 5 9)
 
 -- at T, after K5, after K7, with these history numbers
 abbrev atT : List ℕ → Sheets → Lent
-atT hs S = lent (baseState 8) T (past hs) S
+atT hs S = lent (baseState 8 T) T (past hs) S
 
 abbrev atK5 : List ℕ → Sheets → Lent
-atK5 hs S = lent (state 2 (2 ∷ [])) T5 (past hs) S
+atK5 hs S = lent (state 2 (2 ∷ []) 2 2) T5 (past hs) S
 
 abbrev atK7 : List ℕ → Sheets → Lent
-atK7 hs S = lent (state 3 (2 ∷ 3 ∷ [])) T7 (past hs) S
+atK7 hs S = lent (state 3 (2 ∷ 3 ∷ []) 2 1) T7 (past hs) S
 
 -- what is lent, and a state of zeros handed back
 abbrev zeros : Lent → Lent
-zeros l = lent (baseState 0) (l .table) (l .history) (l .sheets)
+zeros l = lent zeroState (l .table) (l .history) (l .sheets)
 
 -- a call that hands back what it was lent, the work area cleared; and one that does not begin
 abbrev keeps : Call → Lent → ℕ → ℕ → Row
@@ -150,21 +151,21 @@ table =
     ∷ keeps (toLevel 3) (atK7 (1 ∷ 5 ∷ 10 ∷ []) S5) 12 2
     ∷ keeps undoing (atT [] S0) 12 0
     -- the two operations of K5 in two levels, and back, one and both
-    ∷ calls (contracting (0 ∷ [])) (atT [] S0) 0 0 0 (lent (state 1 (1 ∷ [])) T3 (past (1 ∷ [])) (S1 (half 1 ∷ []))) 32
-    ∷ calls (contracting (1 ∷ [])) (lent (state 1 (1 ∷ [])) T3 (past (1 ∷ [])) (S1 (half 1 ∷ []))) 0 0 0 (lent (state 2 (1 ∷ 2 ∷ [])) T5 (past (1 ∷ 5 ∷ [])) S5) 32
-    ∷ calls (toLevel 1) (lent (state 2 (1 ∷ 2 ∷ [])) T5 (past (1 ∷ 5 ∷ [])) S5) 0 0 0 (lent (state 1 (1 ∷ [])) T3 (past (1 ∷ 5 ∷ [])) (S1 kept5)) 32
-    ∷ calls (toLevel 0) (lent (state 2 (1 ∷ 2 ∷ [])) T5 (past (1 ∷ 5 ∷ [])) S5) 0 0 0 (atT (1 ∷ 5 ∷ []) back) 32
+    ∷ calls (contracting (0 ∷ [])) (atT [] S0) 0 0 0 (lent (state 1 (1 ∷ []) 3 2) T3 (past (1 ∷ [])) (S1 (half 1 ∷ []))) 32
+    ∷ calls (contracting (1 ∷ [])) (lent (state 1 (1 ∷ []) 3 2) T3 (past (1 ∷ [])) (S1 (half 1 ∷ []))) 0 0 0 (lent (state 2 (1 ∷ 2 ∷ []) 2 2) T5 (past (1 ∷ 5 ∷ [])) S5) 32
+    ∷ calls (toLevel 1) (lent (state 2 (1 ∷ 2 ∷ []) 2 2) T5 (past (1 ∷ 5 ∷ [])) S5) 0 0 0 (lent (state 1 (1 ∷ []) 3 2) T3 (past (1 ∷ 5 ∷ [])) (S1 kept5)) 32
+    ∷ calls (toLevel 0) (lent (state 2 (1 ∷ 2 ∷ []) 2 2) T5 (past (1 ∷ 5 ∷ [])) S5) 0 0 0 (atT (1 ∷ 5 ∷ []) back) 32
     -- edge 0 removed, then edge 1 contracted: "one an operation", the removal's place is left free
-    ∷ calls (contracting (1 ∷ [])) (lent (state 1 (1 ∷ [])) (5 ∷ 2 ∷ 2 ∷ 4 ∷ 6 ∷ 5 ∷ 3 ∷ 7 ∷ 9 ∷ []) (past (0 ∷ [])) S0) 0 0 0
-    (lent (state 2 (1 ∷ 2 ∷ [])) (5 ∷ 2 ∷ 2 ∷ 4 ∷ 6 ∷ 5 ∷ 4 ∷ 7 ∷ 9 ∷ []) (past (0 ∷ 7 ∷ [])) (sheets (half 1) (zone 5 (fin false 1 (pos 0))) (half 3) (half 4) (rubbish ∷ half 2 ∷ []))) 32
+    ∷ calls (contracting (1 ∷ [])) (lent (state 1 (1 ∷ []) 4 1) (5 ∷ 2 ∷ 2 ∷ 4 ∷ 6 ∷ 5 ∷ 3 ∷ 7 ∷ 9 ∷ []) (past (0 ∷ [])) S0) 0 0 0
+    (lent (state 2 (1 ∷ 2 ∷ []) 3 1) (5 ∷ 2 ∷ 2 ∷ 4 ∷ 6 ∷ 5 ∷ 4 ∷ 7 ∷ 9 ∷ []) (past (0 ∷ 7 ∷ [])) (sheets (half 1) (zone 5 (fin false 1 (pos 0))) (half 3) (half 4) (rubbish ∷ half 2 ∷ []))) 32
     ∷ calls (toLevel 0)
-    (lent (state 2 (1 ∷ 2 ∷ [])) (5 ∷ 2 ∷ 2 ∷ 4 ∷ 6 ∷ 5 ∷ 4 ∷ 7 ∷ 9 ∷ []) (past (0 ∷ 7 ∷ [])) (sheets (half 1) (zone 5 (fin false 1 (pos 0))) (half 3) (half 4) (rubbish ∷ half 2 ∷ []))) 0 0 0
+    (lent (state 2 (1 ∷ 2 ∷ []) 3 1) (5 ∷ 2 ∷ 2 ∷ 4 ∷ 6 ∷ 5 ∷ 4 ∷ 7 ∷ 9 ∷ []) (past (0 ∷ 7 ∷ [])) (sheets (half 1) (zone 5 (fin false 1 (pos 0))) (half 3) (half 4) (rubbish ∷ half 2 ∷ []))) 0 0 0
     (atT (0 ∷ 7 ∷ []) (sheets (half 1) (half 2) (half 3) (half 4) (rubbish ∷ half 2 ∷ []))) 32
     -- the sweep takes edge 2, and no record is merged
     ∷ calls sweeping (atK5 (1 ∷ 5 ∷ []) S5) 0 0 0 (atK7 (1 ∷ 5 ∷ 10 ∷ []) S5) 32
     -- edge 2's even dart is at the higher place
     ∷ calls (contracting (2 ∷ [])) (atT [] S0) 0 0 0
-    (lent (state 1 (1 ∷ [])) (6 ∷ 2 ∷ 1 ∷ 0 ∷ 6 ∷ 0 ∷ 3 ∷ 7 ∷ 9 ∷ []) (past (9 ∷ [])) (sheets (zone 4 (fin false 1 (pos 0))) (half 2) (half 3) (half 4) (half 1 ∷ []))) 32
+    (lent (state 1 (1 ∷ []) 3 2) (6 ∷ 2 ∷ 1 ∷ 0 ∷ 6 ∷ 0 ∷ 3 ∷ 7 ∷ 9 ∷ []) (past (9 ∷ [])) (sheets (zone 4 (fin false 1 (pos 0))) (half 2) (half 3) (half 4) (half 1 ∷ []))) 32
     -- one zone not measured: the other one of two, the lower one of two, neither
     ∷ calls (contracting (0 ∷ 1 ∷ [])) (atT [] (sheets (half 1) (unmeasured 2) (half 3) (half 4) [])) 0 0 0
     (atK5 (1 ∷ 5 ∷ []) (sheets (unmeasured 6) (unmeasured 2) (half 3) (half 4) (half 1 ∷ unmeasured 3 ∷ []))) 32
@@ -185,7 +186,7 @@ table =
     ∷ begun (sheets (zone 1 (fin true 0 (pos 0))) (half 2) (half 3) (zone 4 (fin false 3125 (pos 5))) [])
     -- the first such record; 3 before 16
     ∷ refused (atT [] (sheets (half 1) (half 65536) (zone 3 nan) (half 65536) [])) 16 1 0
-    ∷ refused (lent (baseState 8) (5 ∷ 2 ∷ 1 ∷ 4 ∷ 6 ∷ 0 ∷ 3 ∷ 4 ∷ 9 ∷ []) (past []) (sheets (zone 1 nan) (half 2) (half 3) (half 4) [])) 3 7 3
+    ∷ refused (lent (baseState 8 []) (5 ∷ 2 ∷ 1 ∷ 4 ∷ 6 ∷ 0 ∷ 3 ∷ 4 ∷ 9 ∷ []) (past []) (sheets (zone 1 nan) (half 2) (half 3) (half 4) [])) 3 7 3
     -- "These limits are for the base's records; merged ones may be larger"
     ∷ calls (contracting (0 ∷ 1 ∷ [])) (atT [] (sheets (half 65535) (half 65535) (half 65535) (half 4) [])) 0 0 0
     (atK5 (1 ∷ 5 ∷ []) (sheets (zone 196605 (fin false 3 (negsuc 0))) (half 65535) (half 65535) (half 4) (half 65535 ∷ zone 131070 (fin false 1 (pos 0)) ∷ []))) 32
@@ -196,11 +197,11 @@ table =
     ∷ calls (starting 8) (atT [] (fewer 7 4 S0)) 2 0 0 (zeros (atT [] (fewer 7 4 S0))) 0
     ∷ calls (starting 8) (atT [] (fewer 8 3 S0)) 2 0 0 (zeros (atT [] (fewer 8 3 S0))) 0
     ∷ begun (fewer 8 4 S0)
-    ∷ calls (starting 8) (lent (baseState 8) (9 ∷ T) (past []) (fewer 7 4 S0)) 2 0 0 (zeros (lent (baseState 8) (9 ∷ T) (past []) (fewer 7 4 S0))) 0
-    ∷ silent (contracting (0 ∷ [])) (lent (baseState 7) T (past []) (fewer 7 3 S0)) 1
+    ∷ calls (starting 8) (lent (baseState 8 []) (9 ∷ T) (past []) (fewer 7 4 S0)) 2 0 0 (zeros (lent (baseState 8 []) (9 ∷ T) (past []) (fewer 7 4 S0))) 0
+    ∷ silent (contracting (0 ∷ [])) (lent (baseState 7 []) T (past []) (fewer 7 3 S0)) 1
     ∷ silent (contracting (0 ∷ [])) (atT [] (fewer 7 4 S0)) 2
     ∷ silent (contracting (0 ∷ [])) (atT [] (fewer 8 3 S0)) 2
-    ∷ silent undoing (lent (baseState 8) (9 ∷ T) (past []) (fewer 8 3 S0)) 2
+    ∷ silent undoing (lent (baseState 8 []) (9 ∷ T) (past []) (fewer 8 3 S0)) 2
     ∷ calls (contracting (0 ∷ 1 ∷ [])) (atT [] (fewer 8 4 S0)) 0 0 0 (atK5 (1 ∷ 5 ∷ []) (fewer 8 4 S5)) 32
     -- 4: a kept record is other, of its operation or of the one before it; a merged one, by a stitch, by a bit; one that was merged
     ∷ keeps undoing (atK5 (1 ∷ 5 ∷ []) (sheets six (half 2) (half 3) (half 4) (half 2 ∷ zone 3 (fin false 1 (pos 0)) ∷ []))) 4 0
@@ -220,7 +221,7 @@ table =
     ∷ keeps (contracting []) (atT [] (sheets (half 1) (half 2) (half 65536) (half 4) [])) 4 0
     ∷ keeps (contracting (9 ∷ [])) (atT [] (sheets (half 1) (half 2) (half 65536) (half 4) [])) 4 0
     -- sheets of T lent with no pyramid
-    ∷ keeps undoing (lent (state 2 (2 ∷ [])) T (past (1 ∷ 5 ∷ [])) S5) 4 0
+    ∷ keeps undoing (lent (state 2 (2 ∷ []) 2 2) T (past (1 ∷ 5 ∷ [])) S5) 4 0
     -- 5, by a kernel and by a sweep; a refused kernel leaves both sheets, edges that were judged before the failing one too
     ∷ keeps (contracting []) (atT [] S0) 5 0
     ∷ keeps sweeping (atT [] S0) 5 0
@@ -234,15 +235,15 @@ table =
     ∷ calls (contracting (0 ∷ 1 ∷ [])) (atT [] (sheets (zone 1 m1) (zone 2 m2) (zone 3 m3) (half 4) [])) 0 0 0
     (atK5 (1 ∷ 5 ∷ []) (sheets (zone 6 m6+) (zone 2 m2) (zone 3 m3) (half 4) (zone 1 m1 ∷ zone 3 m3+ ∷ []))) 32
     ∷ calls (contracting (1 ∷ 0 ∷ [])) (atT [] (sheets (zone 1 m1) (zone 2 m2) (zone 3 m3) (half 4) [])) 0 0 0
-    (lent (state 2 (2 ∷ [])) T6 (past (5 ∷ 1 ∷ [])) (sheets (zone 6 m6) (half 5) (zone 3 m3) (half 4) (zone 2 m2 ∷ zone 1 m1 ∷ []))) 32
+    (lent (state 2 (2 ∷ []) 2 2) T6 (past (5 ∷ 1 ∷ [])) (sheets (zone 6 m6) (half 5) (zone 3 m3) (half 4) (zone 2 m2 ∷ zone 1 m1 ∷ []))) 32
     ∷ calls undoing (atK5 (1 ∷ 5 ∷ []) (sheets (zone 6 m6+) (zone 2 m2) (zone 3 m3) (half 4) (zone 1 m1 ∷ zone 3 m3+ ∷ []))) 0 0 0
     (atT (1 ∷ 5 ∷ []) (sheets (zone 1 m1) (zone 2 m2) (zone 3 m3) (half 4) (zone 1 m1 ∷ zone 3 m3+ ∷ []))) 32
-    ∷ calls undoing (lent (state 2 (2 ∷ [])) T6 (past (5 ∷ 1 ∷ [])) (sheets (zone 6 m6) (half 5) (zone 3 m3) (half 4) (zone 2 m2 ∷ zone 1 m1 ∷ []))) 0 0 0
+    ∷ calls undoing (lent (state 2 (2 ∷ []) 2 2) T6 (past (5 ∷ 1 ∷ [])) (sheets (zone 6 m6) (half 5) (zone 3 m3) (half 4) (zone 2 m2 ∷ zone 1 m1 ∷ []))) 0 0 0
     (atT (5 ∷ 1 ∷ []) (sheets (zone 1 m1) (zone 2 m2) (zone 3 m3) (half 4) (zone 2 m2 ∷ zone 1 m1 ∷ []))) 32
     ∷ []
 
 pub worked : allRight table ≡ true
-unfolding partner meetsIn successor faceNext sameVertex sameFace gone survives beforeIn before repeats culprit testFrom permutationTest turned lead wholeEdge remove contract operate number kindOf leadOf edgeOf putBack undoOne undone shared judge passFrom pass run raised levelled reduce emptyLoop takes rising sweptFrom swept sweep endBelow lowered undoLevel undoLevels unfoldTo dartCount build kernelOf cut kernelsOf sameNumbers sameState isExactly isPyramid room fittingPlain tableOf pastOf over cleared workAfter begins handsBack sameInteger sameMetres sameYarn sameZone lowInto highOf merged returned mergedBy returnedBy lastInto sound keptSound keptRight sheetRight rightSheets lowestFrom lowest isPlace joins zoned mergeBy mergesOf merges given fitting fittingOf baseOf judged unfitFrom firstUnfit beginsWith startWith carried carriedTo sheetsAfter onSheets reduceWith sweepWith undoWith unfoldWith Ieee.le Ieee.add Ieee.ofBits
+unfolding partner meetsIn successor faceNext sameVertex sameFace gone survives beforeIn before repeats culprit testFrom permutationTest turned lead wholeEdge remove contract operate number kindOf leadOf edgeOf putBack undoOne undone shared judge passFrom pass run raised levelled reduce emptyLoop takes rising sweptFrom swept sweep endBelow lowered undoLevel undoLevels unfoldTo dartCount build kernelOf cut kernelsOf sameNumbers sameState isExactly isPyramid room fittingPlain tableOf pastOf over cleared workAfter begins handsBack sameInteger sameMetres sameYarn sameZone lowInto highOf merged returned mergedBy returnedBy lastInto sound keptSound keptRight sheetRight rightSheets lowestFrom lowest isPlace joins zoned mergeBy mergesOf merges given fitting fittingOf baseOf judged unfitFrom firstUnfit beginsWith startWith carried carriedTo sheetsAfter onSheets reduceWith sweepWith undoWith unfoldWith Ieee.le Ieee.add Ieee.ofBits neverBelow lowestIn cycles countsOf
 worked = refl
 
 -- "subtracting does not do that": 0.1 + 0.2 less 0.2 is not 0.1, and the two orders of adding differ

@@ -16,19 +16,17 @@ use Rattle.permutations.specs.Cycle.{meetsIn}
 use Rattle.darts.specs.Map.{successor, faceNext, sameVertex, sameFace, gone, survives, beforeIn, before, repeats, culprit, testFrom, permutationTest}
 use Rattle.darts.specs.Operation.{contraction, removal, turned, lead, wholeEdge, remove, contract, operate, number, kindOf, leadOf, edgeOf, putBack, undoOne, undone}
 use Rattle.darts.specs.Kernel.{shared, judge, rising, passFrom, pass, run}
-use Rattle.darts.specs.State.{raised, levelled, reduce}
+use Rattle.darts.specs.State.{State, raised, levelled, reduce}
 use Rattle.darts.specs.Levels.{emptyLoop, takes, sweptFrom, swept, sweep, endBelow, lowered, undoLevel, undoLevels, unfoldTo}
 use Rattle.darts.specs.Pyramid.{dartCount, build, kernelOf, cut, kernelsOf, sameNumbers, sameState, isExactly, isPyramid}
 use Rattle.darts.specs.Counts.{neverBelow, lowest as lowestIn, cycles, surviving, countsOf}
-use Rattle.darts.specs.Calls.{room, fitting as fittingPlain, tableOf, pastOf, cleared, workAfter, begins, handsBack}
-use Rattle.darts.specs.Stored.{Stored, storing, stores, leavesStored, numbered}
+use Rattle.darts.specs.Calls.{leaves, room, fitting as fittingPlain, tableOf, pastOf, cleared, workAfter, begins, handsBack}
 use Rattle.darts.specs.Worked.{Step, byContracting, byRemoving, bySweep, byUndo, toLevel, answers, T, K5, K7}
 use Rattle.sheets.specs.Records.{sameInteger, sameMetres, sameYarn, sameZone}
 use Rattle.sheets.specs.Sheets.{Sheets, lowInto, highOf, merged, returned, mergedBy, returnedBy, lastInto, sound, keptSound, keptRight, sheetRight, right as rightSheets}
 use Rattle.yarn.specs.Places.{lowestFrom, lowest, isPlace, joins, zoned, mergeBy, mergesOf, merges}
 use Rattle.yarn.specs.Given.{given}
-use Rattle.yarn.specs.Calls.{fitting, fittingOf, baseOf, judged, unfitFrom, firstUnfit, beginsWith, startWith, carried, carriedTo, sheetsAfter, onSheets, reduceWith, sweepWith, undoWith, unfoldWith}
-use Rattle.yarn.specs.Stored.{CostedStored, costedStored, numberedWith, judgedStoredWith, onStoredWith, startStoredWith, reduceStoredWith, sweepStoredWith, undoStoredWith, unfoldStoredWith}
+use Rattle.yarn.specs.Calls.{Costed, costed, fitting, fittingOf, baseOf, judged, unfitFrom, firstUnfit, beginsWith, startWith, carried, carriedTo, sheetsAfter, onSheets, reduceWith, sweepWith, undoWith, unfoldWith}
 use Rattle.yarn.specs.Rows.{sameZones, half, sheets, fewer}
 
 pub data Row : Type 0 where
@@ -42,44 +40,46 @@ pub data Row : Type 0 where
 -- ---- the calls
 
 -- T, with rubbish in history and work area
-abbrev started : ℕ → Sheets → CostedStored
-started D S = startStoredWith D T (replicate 4 9) (replicate 32 9) S
+abbrev started : ℕ → Sheets → Costed
+started D S = startWith D T (replicate 4 9) (replicate 32 9) S
 
-abbrev stepped : Step → CostedStored → CostedStored
-stepped (byContracting es) c = reduceStoredWith contraction es (c .plain .state) (c .plain .table) (c .plain .history) (c .plain .work) (c .sheets)
-stepped (byRemoving es) c = reduceStoredWith removal es (c .plain .state) (c .plain .table) (c .plain .history) (c .plain .work) (c .sheets)
-stepped bySweep c = sweepStoredWith (c .plain .state) (c .plain .table) (c .plain .history) (c .plain .work) (c .sheets)
-stepped byUndo c = undoStoredWith (c .plain .state) (c .plain .table) (c .plain .history) (c .plain .work) (c .sheets)
-stepped (toLevel k) c = unfoldStoredWith k (c .plain .state) (c .plain .table) (c .plain .history) (c .plain .work) (c .sheets)
+abbrev stepped : Step → Costed → Costed
+stepped (byContracting es) c = reduceWith contraction es (c .plain .state) (c .plain .table) (c .plain .history) (c .plain .work) (c .sheets)
+stepped (byRemoving es) c = reduceWith removal es (c .plain .state) (c .plain .table) (c .plain .history) (c .plain .work) (c .sheets)
+stepped bySweep c = sweepWith (c .plain .state) (c .plain .table) (c .plain .history) (c .plain .work) (c .sheets)
+stepped byUndo c = undoWith (c .plain .state) (c .plain .table) (c .plain .history) (c .plain .work) (c .sheets)
+stepped (toLevel k) c = unfoldWith k (c .plain .state) (c .plain .table) (c .plain .history) (c .plain .work) (c .sheets)
 
-abbrev steps : List Step → CostedStored → CostedStored
+abbrev steps : List Step → Costed → Costed
 steps [] c = c
 steps (s ∷ ss) c = steps ss (stepped s c)
 
 -- what a call leaves, with other numbers stored in its state, other sheets, and rubbish in the work area
-abbrev misstored : ℕ → ℕ → Sheets → CostedStored → CostedStored
+abbrev misnumbered : ℕ → ℕ → State → State
+misnumbered v f s = record { darts = s .darts; operations = s .operations; levels = s .levels; ends = s .ends; vertices = v; faces = f }
+
+abbrev misstored : ℕ → ℕ → Sheets → Costed → Costed
 misstored v f S c =
-    costedStored
-    (leavesStored (c .plain .answer) (record { state = c .plain .state .state; vertices = v; faces = f }) (c .plain .table) (c .plain .history) (replicate 32 9)) S
+    costed
+    (leaves (c .plain .answer) (misnumbered v f (c .plain .state)) (c .plain .table) (c .plain .history) (replicate 32 9)) S
 
 -- ---- what a row says
 
-abbrev numbersAre : ℕ → ℕ → Stored → Bool
+abbrev numbersAre : ℕ → ℕ → State → Bool
 numbersAre v f S = eqb (S .vertices) v && eqb (S .faces) f
 
 -- the number is answered; state, table, history and sheets are as they were given, and the work area is w
-abbrev refusedWith : ℕ → List ℕ → CostedStored → CostedStored → Bool
+abbrev refusedWith : ℕ → List ℕ → Costed → Costed → Bool
 refusedWith n w c d =
     answers n 0 (d .plain .answer)
-    && (sameState (d .plain .state .state) (c .plain .state .state)
-    && (numbersAre (c .plain .state .vertices) (c .plain .state .faces) (d .plain .state)
+    && (sameState (d .plain .state) (c .plain .state)
     && (sameNumbers (d .plain .table) (c .plain .table)
     && (sameNumbers (d .plain .history) (c .plain .history)
     && (sameNumbers (d .plain .work) w
-    && (sameZones (d .sheets .sheet) (c .sheets .sheet) && sameZones (d .sheets .kept) (c .sheets .kept)))))))
+    && (sameZones (d .sheets .sheet) (c .sheets .sheet) && sameZones (d .sheets .kept) (c .sheets .kept))))))
 
 -- each of the calls on a state; none looks at its kernel or its level before
-abbrev allRefused : ℕ → List ℕ → CostedStored → Bool
+abbrev allRefused : ℕ → List ℕ → Costed → Bool
 allRefused n w c =
     refusedWith n w c (stepped (byContracting (3 ∷ [])) c)
     && (refusedWith n w c (stepped (byRemoving []) c)
@@ -92,13 +92,13 @@ S0 = sheets (half 1) (half 2) (half 3) (half 4) []
 
 abbrev right : Row → Bool
 right (keeps D S ss n v f) =
-    let c : CostedStored = steps ss (started D S) in
+    let c : Costed = steps ss (started D S) in
     eqb (c .plain .answer .number) n && numbersAre v f (c .plain .state)
 right (wrong ss v f) =
-    let c : CostedStored = steps ss (started 8 S0) in
+    let c : Costed = steps ss (started 8 S0) in
     allRefused 4 (replicate 32 0) (misstored v f (c .sheets) c)
 right (narrow m k v f) =
-    let c : CostedStored = started 8 S0 in
+    let c : Costed = started 8 S0 in
     allRefused 2 (replicate 32 9) (misstored v f (fewer m k (c .sheets)) c)
 
 abbrev allRight : List Row → Bool
@@ -134,5 +134,5 @@ storedTable =
     ∷ []
 
 pub stored-worked : allRight storedTable ≡ true
-unfolding partner meetsIn successor faceNext sameVertex sameFace gone survives beforeIn before repeats culprit testFrom permutationTest turned lead wholeEdge remove contract operate number kindOf leadOf edgeOf putBack undoOne undone shared judge passFrom pass run raised levelled reduce emptyLoop takes rising sweptFrom swept sweep endBelow lowered undoLevel undoLevels unfoldTo dartCount build kernelOf cut kernelsOf sameNumbers sameState isExactly isPyramid neverBelow lowestIn cycles surviving countsOf room fittingPlain tableOf pastOf over cleared workAfter begins handsBack storing stores numbered sameInteger sameMetres sameYarn sameZone lowInto highOf merged returned mergedBy returnedBy lastInto sound keptSound keptRight sheetRight rightSheets lowestFrom lowest isPlace joins zoned mergeBy mergesOf merges given fitting fittingOf baseOf judged unfitFrom firstUnfit beginsWith startWith carried carriedTo sheetsAfter onSheets reduceWith sweepWith undoWith unfoldWith numberedWith judgedStoredWith onStoredWith startStoredWith reduceStoredWith sweepStoredWith undoStoredWith unfoldStoredWith Ieee.le Ieee.add
+unfolding partner meetsIn successor faceNext sameVertex sameFace gone survives beforeIn before repeats culprit testFrom permutationTest turned lead wholeEdge remove contract operate number kindOf leadOf edgeOf putBack undoOne undone shared judge passFrom pass run raised levelled reduce emptyLoop takes rising sweptFrom swept sweep endBelow lowered undoLevel undoLevels unfoldTo dartCount build kernelOf cut kernelsOf sameNumbers sameState isExactly isPyramid neverBelow lowestIn cycles surviving countsOf room fittingPlain tableOf pastOf over cleared workAfter begins handsBack sameInteger sameMetres sameYarn sameZone lowInto highOf merged returned mergedBy returnedBy lastInto sound keptSound keptRight sheetRight rightSheets lowestFrom lowest isPlace joins zoned mergeBy mergesOf merges given fitting fittingOf baseOf judged unfitFrom firstUnfit beginsWith startWith carried carriedTo sheetsAfter onSheets reduceWith sweepWith undoWith unfoldWith Ieee.le Ieee.add
 stored-worked = refl

@@ -5,11 +5,10 @@
 use mathlib.Core.List.{List}
 use mathlib.Core.Path.{_≡_, _∙_}
 use Prim.Native.Nat.{ℕ}
-use Rattle.darts.specs.Calls.{Counted as CountsAfter, Written}
-use Rattle.darts.specs.Stored.{AfterStored, leavesStored}
+use Rattle.darts.specs.Calls.{After, Counted as CountsAfter, Written, leaves}
 use Rattle.darts.specs.Counts.{Counts as Tally}
 use Rattle.darts.specs.Cases.{answerOf}
-use Rattle.pyramid.specs.Values.{tallyOf, leftStored, countsLeft}
+use Rattle.pyramid.specs.Values.{tallyOf, left, countsLeft}
 use Rattle.darts.specs.declared.Answer.{Answer}
 use Rattle.pyramid.specs.declared.Counted.{Counted}
 use Rattle.pyramid.specs.declared.Outcome.{Outcome}
@@ -23,8 +22,8 @@ pub answers : {a : Answer} {n p s : ℕ} → Answered a n p s → answerIn n p s
 answers g = λ i. answerIn (g .number i) (g .place i) (g .second i)
 
 module _ {n p s : ℕ} {t h w : List ℕ} where
-  pub handed : {o : Outcome} {a : List ℕ} {z : AfterStored} → Handed o n p s a → leftStored o t h w ≡ z → leftIn n p s a t h w ≡ z
-  handed g e = (λ i. leavesStored (answers (g .answer) i) (g .state i) t h w) ∙ e
+  pub handed : {o : Outcome} {a : List ℕ} {z : After} → Handed o n p s a → left o t h w ≡ z → leftIn n p s a t h w ≡ z
+  handed g e = (λ i. leaves (answers (g .answer) i) (g .state i) t h w) ∙ e
 
   pub counted : {o : Counted} {y : Tally} {z : CountsAfter} → Answered (o .answer) n p s → y ≡ tallyOf (o .counts) → countsLeft o t h w ≡ z
       → countedIn n p s y t h w ≡ z

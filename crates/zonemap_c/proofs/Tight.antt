@@ -11,9 +11,9 @@ use native.Mathlib.Omega.{arith}
 use lib.IntN.{ℤ}
 use lib.ListN.{length, getD, drop, drop-of-length-le}
 use Rattle.darts.specs.Answers.{Answer}
-use Rattle.darts.specs.Calls.{Counted, Written}
+use Rattle.darts.specs.Calls.{After, Counted, Written}
 use Rattle.darts.specs.Counts.{Counts as Tally}
-use Rattle.darts.specs.Stored.{Stored, AfterStored}
+use Rattle.darts.specs.State.{State}
 use Rattle.ends.specs.Lookup.{Looked}
 use Rattle.zonemap_c.specs.Numbers.{stateIn, tallyIn, answerIn, leftIn, countedIn, filedIn, lookedIn}
 
@@ -32,8 +32,8 @@ five (x ∷ []) l = absurd (omega arith)
 five [] l = absurd (omega arith)
 
 -- the numbers of a state
-abbrev numbers : Stored → List ℕ
-numbers S = S .state .darts ∷ S .state .operations ∷ S .state .levels ∷ S .vertices ∷ S .faces ∷ S .state .ends
+abbrev numbers : State → List ℕ
+numbers s = s .darts ∷ s .operations ∷ s .levels ∷ s .vertices ∷ s .faces ∷ s .ends
 
 pub state-one : (a b : List ℕ) → length a ≡ 69 → length b ≡ 69 → stateIn a ≡ stateIn b → a ≡ b
 state-one a b k l e = sym (five a (omega arith)) ∙ ap numbers e ∙ five b (omega arith)
@@ -62,11 +62,11 @@ module _ (n m p q i j : ℕ) (t u h g w v : List ℕ) where
   same a x y z = record { number = ap (λ (b : Answer). b .number) a; place = ap (λ (b : Answer). b .place) a; second = ap (λ (b : Answer). b .second) a; table = x; history = y; work = z }
 
   -- NO TWO OUTCOMES OF START, PLAN, PLAN_AREAS, CONTRACT, REMOVE, SWEEP, UNDO, UNFOLD OR READ SATISFY ITS STATEMENT
-  pub left-one : (a b : List ℕ) → length a ≡ 69 → length b ≡ 69 → (z : AfterStored) → leftIn n p i a t h w ≡ z → leftIn m q j b u g v ≡ z → Same × (a ≡ b)
+  pub left-one : (a b : List ℕ) → length a ≡ 69 → length b ≡ 69 → (z : After) → leftIn n p i a t h w ≡ z → leftIn m q j b u g v ≡ z → Same × (a ≡ b)
   left-one a b k l z d e =
       let c : leftIn n p i a t h w ≡ leftIn m q j b u g v = d ∙ sym e in (
-        same (ap (λ (x : AfterStored). x .answer) c) (ap (λ (x : AfterStored). x .table) c) (ap (λ (x : AfterStored). x .history) c) (ap (λ (x : AfterStored). x .work) c),
-        state-one a b k l (ap (λ (x : AfterStored). x .state) c),
+        same (ap (λ (x : After). x .answer) c) (ap (λ (x : After). x .table) c) (ap (λ (x : After). x .history) c) (ap (λ (x : After). x .work) c),
+        state-one a b k l (ap (λ (x : After). x .state) c),
       )
 
   -- NO TWO OUTCOMES OF COUNTS SATISFY ITS STATEMENT

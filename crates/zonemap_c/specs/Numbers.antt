@@ -14,21 +14,17 @@ use Prim.Native.Nat.{ℕ}
 use lib.IntN.{ℤ}
 use lib.ListN.{getD, drop}
 use Rattle.darts.specs.Answers.{Answer as Said}
-use Rattle.darts.specs.Calls.{Counted, Written}
-use Rattle.darts.specs.Stored.{Stored, AfterStored, leavesStored}
+use Rattle.darts.specs.Calls.{After, Counted, Written, leaves}
+use Rattle.darts.specs.State.{State}
 use Rattle.darts.specs.Counts.{Counts as Tally}
 use Rattle.darts.specs.Cases.{answerOf}
 use Rattle.ends.specs.Lookup.{Looked}
-use Rattle.pyramid.specs.Values.{storedOf}
+use Rattle.pyramid.specs.Values.{stateOf}
 use Rattle.darts.specs.declared.Answer.{Answer}
 use Rattle.pyramid.specs.declared.Outcome.{Outcome}
 
-abbrev pub stateIn : List ℕ → Stored
-stateIn a = record {
-  state = record { darts = getD a 0 0; operations = getD a 1 0; levels = getD a 2 0; ends = drop 5 a };
-  vertices = getD a 3 0;
-  faces = getD a 4 0;
-}
+abbrev pub stateIn : List ℕ → State
+stateIn a = record { darts = getD a 0 0; operations = getD a 1 0; levels = getD a 2 0; vertices = getD a 3 0; faces = getD a 4 0; ends = drop 5 a }
 
 abbrev pub tallyIn : List ℕ → ℤ → Tally
 tallyIn c e = record { darts = getD c 0 0; vertices = getD c 1 0; faces = getD c 2 0; euler = e }
@@ -43,10 +39,10 @@ pub record Answered (a : Answer) (n p s : ℕ) : Type 0 where
 
 pub record Handed (o : Outcome) (n p s : ℕ) (a : List ℕ) : Type 0 where
   pub answer : Answered (o .answer) n p s
-  pub state : stateIn a ≡ storedOf (o .state)
+  pub state : stateIn a ≡ stateOf (o .state)
 
-abbrev pub leftIn : ℕ → ℕ → ℕ → List ℕ → List ℕ → List ℕ → List ℕ → AfterStored
-leftIn n p s a t h w = leavesStored (answerIn n p s) (stateIn a) t h w
+abbrev pub leftIn : ℕ → ℕ → ℕ → List ℕ → List ℕ → List ℕ → List ℕ → After
+leftIn n p s a t h w = leaves (answerIn n p s) (stateIn a) t h w
 
 abbrev pub countedIn : ℕ → ℕ → ℕ → Tally → List ℕ → List ℕ → List ℕ → Counted
 countedIn n p s y t h w = record { answer = answerIn n p s; counts = y; table = t; history = h; work = w }

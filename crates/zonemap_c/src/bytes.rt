@@ -3,7 +3,7 @@ use crate::state::hand_back;
 use crate::state::put_answer;
 use crate::state::state_of;
 ghost use mathlib.Core.Path.{_≡_};
-ghost use Rattle.darts.specs.Stored.{readStored, writeStored};
+ghost use Rattle.darts.specs.Calls.{read, write};
 ghost use Rattle.zonemap_c.specs.Numbers.{stateIn, leftIn, filedIn};
 
 // Reads a file.
@@ -19,7 +19,7 @@ pub extern "C" fn zm_read(
 ) -> u32
     ensures { λ r. ⌜
         leftIn r (now (place .exit)) (now (second .exit)) (now (state .exit)) (now (table .exit)) (now (history .exit)) (now (work .exit))
-        ≡ readStored (now (bytes .entry)) (now (table .entry)) (now (history .entry)) (now (work .entry)) ⌝ }
+        ≡ read (now (bytes .entry)) (now (table .entry)) (now (history .entry)) (now (work .entry)) ⌝ }
 {
     let outcome = reader::read(bytes, table, history, work);
     hand_back(outcome, state, place, second)
@@ -38,7 +38,7 @@ pub extern "C" fn zm_write(
 ) -> u32
     ensures { λ r. ⌜
         filedIn r (now (place .exit)) (now (second .exit)) (now (table .exit)) (now (history .exit)) (now (work .exit)) (now (output .exit))
-        ≡ writeStored (stateIn (now (state .entry))) (now (table .entry)) (now (history .entry)) (now (work .entry)) (now (output .entry)) ⌝ }
+        ≡ write (stateIn (now (state .entry))) (now (table .entry)) (now (history .entry)) (now (work .entry)) (now (output .entry)) ⌝ }
 {
     let given = state_of(state);
     let answer = writer::write(given, table, history, work, output);

@@ -6,7 +6,7 @@ use crate::state::state_of;
 use pyramid::Kind;
 ghost use mathlib.Core.Path.{_≡_};
 ghost use Rattle.darts.specs.Operation.{contraction, removal};
-ghost use Rattle.darts.specs.Stored.{startStored, reduceStored, sweepStored, undoStored, unfoldStored, countsStored};
+ghost use Rattle.darts.specs.Calls.{start, reduceBy, sweepBy, undoBy, unfoldBy, counts as countsOf};
 ghost use Rattle.zonemap_c.specs.Numbers.{stateIn, tallyIn, leftIn, countedIn};
 
 // Starts from the table's first D numbers.
@@ -22,7 +22,7 @@ pub extern "C" fn zm_start(
 ) -> u32
     ensures { λ r. ⌜
         leftIn r (now (place .exit)) (now (second .exit)) (now (state .exit)) (now (table .exit)) (now (history .exit)) (now (work .exit))
-        ≡ startStored darts (now (table .entry)) (now (history .entry)) (now (work .entry)) ⌝ }
+        ≡ start darts (now (table .entry)) (now (history .entry)) (now (work .entry)) ⌝ }
 {
     let outcome = pyramid::start(darts, table, history, work);
     hand_back(outcome, state, place, second)
@@ -41,7 +41,7 @@ pub extern "C" fn zm_contract(
 ) -> u32
     ensures { λ r. ⌜
         leftIn r (now (place .exit)) (now (second .exit)) (now (state .exit)) (now (table .exit)) (now (history .exit)) (now (work .exit))
-        ≡ reduceStored contraction (now (kernel .entry)) (stateIn (now (state .entry))) (now (table .entry)) (now (history .entry)) (now (work .entry)) ⌝ }
+        ≡ reduceBy contraction (now (kernel .entry)) (stateIn (now (state .entry))) (now (table .entry)) (now (history .entry)) (now (work .entry)) ⌝ }
 {
     let given = state_of(state);
     let outcome = given.reduce(Kind::Contract, kernel, table, history, work);
@@ -61,7 +61,7 @@ pub extern "C" fn zm_remove(
 ) -> u32
     ensures { λ r. ⌜
         leftIn r (now (place .exit)) (now (second .exit)) (now (state .exit)) (now (table .exit)) (now (history .exit)) (now (work .exit))
-        ≡ reduceStored removal (now (kernel .entry)) (stateIn (now (state .entry))) (now (table .entry)) (now (history .entry)) (now (work .entry)) ⌝ }
+        ≡ reduceBy removal (now (kernel .entry)) (stateIn (now (state .entry))) (now (table .entry)) (now (history .entry)) (now (work .entry)) ⌝ }
 {
     let given = state_of(state);
     let outcome = given.reduce(Kind::Remove, kernel, table, history, work);
@@ -80,7 +80,7 @@ pub extern "C" fn zm_sweep(
 ) -> u32
     ensures { λ r. ⌜
         leftIn r (now (place .exit)) (now (second .exit)) (now (state .exit)) (now (table .exit)) (now (history .exit)) (now (work .exit))
-        ≡ sweepStored (stateIn (now (state .entry))) (now (table .entry)) (now (history .entry)) (now (work .entry)) ⌝ }
+        ≡ sweepBy (stateIn (now (state .entry))) (now (table .entry)) (now (history .entry)) (now (work .entry)) ⌝ }
 {
     let given = state_of(state);
     let outcome = given.sweep(table, history, work);
@@ -99,7 +99,7 @@ pub extern "C" fn zm_undo(
 ) -> u32
     ensures { λ r. ⌜
         leftIn r (now (place .exit)) (now (second .exit)) (now (state .exit)) (now (table .exit)) (now (history .exit)) (now (work .exit))
-        ≡ undoStored (stateIn (now (state .entry))) (now (table .entry)) (now (history .entry)) (now (work .entry)) ⌝ }
+        ≡ undoBy (stateIn (now (state .entry))) (now (table .entry)) (now (history .entry)) (now (work .entry)) ⌝ }
 {
     let given = state_of(state);
     let outcome = given.undo(table, history, work);
@@ -119,7 +119,7 @@ pub extern "C" fn zm_unfold(
 ) -> u32
     ensures { λ r. ⌜
         leftIn r (now (place .exit)) (now (second .exit)) (now (state .exit)) (now (table .exit)) (now (history .exit)) (now (work .exit))
-        ≡ unfoldStored level (stateIn (now (state .entry))) (now (table .entry)) (now (history .entry)) (now (work .entry)) ⌝ }
+        ≡ unfoldBy level (stateIn (now (state .entry))) (now (table .entry)) (now (history .entry)) (now (work .entry)) ⌝ }
 {
     let given = state_of(state);
     let outcome = given.unfold(level, table, history, work);
@@ -140,7 +140,7 @@ pub extern "C" fn zm_counts(
 ) -> u32
     ensures { λ r. ⌜
         countedIn r (now (place .exit)) (now (second .exit)) (tallyIn (now (counts .exit)) (now (euler .exit))) (now (table .exit)) (now (history .exit)) (now (work .exit))
-        ≡ countsStored (stateIn (now (state .entry))) (now (table .entry)) (now (history .entry)) (now (work .entry)) ⌝ }
+        ≡ countsOf (stateIn (now (state .entry))) (now (table .entry)) (now (history .entry)) (now (work .entry)) ⌝ }
 {
     let given = state_of(state);
     let counted = given.counts(table, history, work);

@@ -2,7 +2,7 @@
 use crate::state::hand_back;
 ghost use mathlib.Core.Path.{_≡_};
 ghost use Rattle.grids.specs.Grid.{flat};
-ghost use Rattle.grids.specs.Stored.{planStored, areasStored};
+ghost use Rattle.grids.specs.Plans.{planBase, planAreas};
 ghost use Rattle.zonemap_c.specs.Numbers.{leftIn};
 
 // The base of a plan.
@@ -20,7 +20,7 @@ pub extern "C" fn zm_plan(
 ) -> u32
     ensures { λ r. ⌜
         leftIn r (now (place .exit)) (now (second .exit)) (now (state .exit)) (now (table .exit)) (now (history .exit)) (now (work .exit))
-        ≡ planStored (flat wales courses) (now (plan .entry)) (now (table .entry)) (now (history .entry)) (now (work .entry)) ⌝ }
+        ≡ planBase (flat wales courses) (now (plan .entry)) (now (table .entry)) (now (history .entry)) (now (work .entry)) ⌝ }
 {
     let outcome = plans::plan(wales, courses, plan, table, history, work);
     hand_back(outcome, state, place, second)
@@ -41,7 +41,7 @@ pub extern "C" fn zm_plan_areas(
 ) -> u32
     ensures { λ r. ⌜
         leftIn r (now (place .exit)) (now (second .exit)) (now (state .exit)) (now (table .exit)) (now (history .exit)) (now (work .exit))
-        ≡ areasStored (flat wales courses) (now (plan .entry)) (now (table .entry)) (now (history .entry)) (now (work .entry)) ⌝ }
+        ≡ planAreas (flat wales courses) (now (plan .entry)) (now (table .entry)) (now (history .entry)) (now (work .entry)) ⌝ }
 {
     let outcome = plans::plan_areas(wales, courses, plan, table, history, work);
     hand_back(outcome, state, place, second)

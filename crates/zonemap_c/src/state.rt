@@ -5,12 +5,12 @@ use pyramid::Outcome;
 use pyramid::State;
 use slices::copy;
 ghost use mathlib.Core.Path.{_≡_};
-ghost use Rattle.pyramid.specs.Values.{storedOf, tallyOf};
+ghost use Rattle.pyramid.specs.Values.{stateOf, tallyOf};
 ghost use Rattle.zonemap_c.specs.Numbers.{stateIn, tallyIn, Answered, Handed};
 
 // The state that the numbers are.
 pub(crate) fn state_of(numbers: &[u32; 69]) -> State
-    ensures { λ r. ⌜ storedOf r ≡ stateIn (now (numbers .entry)) ⌝ }
+    ensures { λ r. ⌜ stateOf r ≡ stateIn (now (numbers .entry)) ⌝ }
 {
     let all: &[u32] = numbers;
     let mut ends = [0u32; 64];
@@ -27,7 +27,7 @@ pub(crate) fn state_of(numbers: &[u32; 69]) -> State
 
 // The numbers that the state is, all 69.
 fn numbers_of(state: State) -> [u32; 69]
-    ensures { λ r. ⌜ stateIn r ≡ storedOf state ⌝ }
+    ensures { λ r. ⌜ stateIn r ≡ stateOf state ⌝ }
 {
     let ends = state.ends;
     let mut numbers = [0u32; 69];

@@ -22,7 +22,7 @@ use pyramid::State;
 ghost use mathlib.Core.Path.{_≡_};
 ghost use Prim.Native.Nat.{_+_, _≤_};
 ghost use lib.ListN.{length};
-ghost use Rattle.pyramid.specs.Values.{stateOf, storedOf};
+ghost use Rattle.pyramid.specs.Values.{stateOf, figuresWith};
 ghost use Rattle.zones.specs.Scanned.{Scanned};
 ghost use Rattle.zones.specs.Within.{Within};
 
@@ -163,7 +163,7 @@ fn given(numbers: &NumbersRoom, count: usize) -> State {
 
 // "sets the two numbers that the state stores, vertices and faces"
 fn stored(state: State, vertices: u32, faces: u32) -> State
-    ensures { λ r. ⌜ storedOf r ≡ record { state = stateOf state; vertices = vertices; faces = faces } ⌝ }
+    ensures { λ r. ⌜ stateOf r ≡ figuresWith (stateOf state) vertices faces ⌝ }
 {
     let ends = state.ends;
     State {

@@ -17,7 +17,7 @@ use Rattle.laws.proofs.runs.Pyramids.{built-pyramid}
 use Rattle.laws.proofs.bridge.Definitions.{Definition7, Definition8, definition-7, definition-8}
 use Rattle.laws.proofs.claims.Instances.{triangle, triangle-base, eight-darts, k5-table, k5-past, k5-pyramid, k7-table}
 
-base-pyramid : Pyramid (baseState 8) triangle []
+base-pyramid : Pyramid (baseState 8 triangle) triangle []
 unfolding build
 base-pyramid = built-pyramid 8 triangle eight-darts refl triangle-base [] refl
 

@@ -9,11 +9,11 @@ use Prim.Native.Nat.{ℕ, _<_, _≤_}
 use native.Mathlib.Decide.{decLt}
 use native.Mathlib.Omega.{arith}
 use lib.Dec.{T, ltb, lt→ltb, ltb→lt}
-use lib.ListN.{length}
+use lib.ListN.{length, take}
 use Rattle.permutations.specs.Choice.{T?, T→true, nT→false, eqb-other}
 use Rattle.darts.specs.Answers.{done, wrote, noDartCount, tooShort, needs, noPermutation}
 use Rattle.darts.specs.Map.{Verdict, permutes, culprits, permutationTest}
-use Rattle.darts.specs.State.{State, baseState}
+use Rattle.darts.specs.State.{State, zeros, baseState}
 use Rattle.darts.specs.Pyramid.{dartCount}
 use Rattle.darts.specs.File.{fileOf}
 use Rattle.darts.specs.Calls.{leaves, room, tableOf, pastOf, cleared, workAfter, judged, begins, start, write}
@@ -24,12 +24,12 @@ use Rattle.laws.proofs.calls.Judging.{Lent, Judging, uncounted, cramped
 -- ---- start
 
 pub data Starting (D : ℕ) (t h w : List ℕ) : Type 0 where
-  noCount : ¬ (Count D) → start D t h w ≡ leaves noDartCount (baseState 0) t h w → Starting D t h w
-  noRoom : Count D → ¬ (Lengths D (length t) (length h) (length w)) → start D t h w ≡ leaves tooShort (baseState 0) t h w → Starting D t h w
+  noCount : ¬ (Count D) → start D t h w ≡ leaves noDartCount zeros t h w → Starting D t h w
+  noRoom : Count D → ¬ (Lengths D (length t) (length h) (length w)) → start D t h w ≡ leaves tooShort zeros t h w → Starting D t h w
   noBase : Count D → Lengths D (length t) (length h) (length w) → {d c : ℕ} → permutationTest D t ≡ culprits d c
-      → start D t h w ≡ leaves (noPermutation d c) (baseState 0) t h (cleared D w) → Starting D t h w
+      → start D t h w ≡ leaves (noPermutation d c) zeros t h (cleared D w) → Starting D t h w
   base : Count D → Lengths D (length t) (length h) (length w) → permutationTest D t ≡ permutes
-      → start D t h w ≡ leaves done (baseState D) t h (cleared D w) → Starting D t h w
+      → start D t h w ≡ leaves done (baseState D (take D t)) t h (cleared D w) → Starting D t h w
 
 pub starting : (D : ℕ) (t h w : List ℕ) → Starting D t h w
 unfolding start begins

@@ -67,7 +67,7 @@ build-calls (k ∷ ks) a L d e =
 -- ---- from a base
 
 module _ (D : ℕ) (t h w : List ℕ) (d : start D t h w .answer .number ≡ 0) where
-  base-build : (ks : List Kernel) → build (baseState D) (take D t) [] ks ≡ buildOn (start D t h w) ks
+  base-build : (ks : List Kernel) → build (baseState D (take D t)) (take D t) [] ks ≡ buildOn (start D t h w) ks
   unfolding tableOf pastOf
   base-build ks = let S = start-left D t h w d in rw (S .state, S .table)
 
@@ -111,6 +111,6 @@ any-order-by-calls D t h w ks ls done rearranged some few t′ h′ w′ same ro
     let G = any-cut D (take D t) (S .count) size (S .permutation) ks ls
     (base-build D t h w begun ks ∙ calls-build ks x (S .left .lent) done) rearranged some few in
     let zero = start-accepts D t′ h′ w′ (S .count) room (rw same (S .permutation)) in
-    let other : build (baseState D) (take D t) [] ls ≡ buildOn (start D t′ h′ w′) ls = rw (← same) (base-build D t′ h′ w′ zero ls) in
+    let other : build (baseState D (take D t)) (take D t) [] ls ≡ buildOn (start D t′ h′ w′) ls = rw (← same) (base-build D t′ h′ w′ zero ls) in
     agrees-alike D t′ w′ (calls (kernels ks) x) (start D t′ h′ w′) ls (above-calls (above-start D t h w S) (kernels ks) done .darts)
     (above-start D t′ h′ w′ (start-left D t′ h′ w′ zero)) zero (subst (Agrees D _ _) other G)

@@ -42,7 +42,7 @@ module _ (D : ℕ) (t : List ℕ) where
 -- ---- start
 
 pub record Started (D : ℕ) (t h w : List ℕ) (a : After) : Type 0 where
-  pub state : a .state ≡ baseState D
+  pub state : a .state ≡ baseState D (take D t)
   pub table : a .table ≡ t
   pub history : a .history ≡ h
   pub left : Left D t h w a
@@ -51,7 +51,7 @@ pub record Started (D : ℕ) (t h w : List ℕ) (a : After) : Type 0 where
   pub permutation : permutationTest D (take D t) ≡ permutes
 
 module _ (D : ℕ) (t h w : List ℕ) where
-  begun : Count D → Lengths D (length t) (length h) (length w) → permutationTest D t ≡ permutes → Started D t h w (leaves done (baseState D) t h (cleared D w))
+  begun : Count D → Lengths D (length t) (length h) (length w) → permutationTest D t ≡ permutes → Started D t h w (leaves done (baseState D (take D t)) t h (cleared D w))
   unfolding build tableOf pastOf
   begun C L b =
       let count = count-test D C in

@@ -35,7 +35,7 @@ first-done (c ∷ cs) a d = d .0
 pub record Above (D : ℕ) (t w : List ℕ) (a : After) : Type 0 where
   pub darts : a .state .darts ≡ D
   pub lent : Lent (a .state) (a .table) (a .history) (a .work)
-  pub ground : unfoldTo 0 (a .state) (tableOf (a .state) (a .table)) (pastOf (a .state) (a .history)) ≡ gives (baseState D) (take D t) []
+  pub ground : unfoldTo 0 (a .state) (tableOf (a .state) (a .table)) (pastOf (a .state) (a .history)) ≡ gives (baseState D (take D t)) (take D t) []
   pub table : drop D (a .table) ≡ drop D t
   pub work : drop (4 * D) (a .work) ≡ drop (4 * D) w
 
@@ -44,7 +44,7 @@ unfolding tableOf pastOf
 above-start D t h w {a} S = record {
   darts = S .left .darts;
   lent = S .left .lent;
-  ground = rw (S .state, S .table) (unfold-top (baseState D) (take D t) []);
+  ground = rw (S .state, S .table) (unfold-top (baseState D (take D t)) (take D t) []);
   table = S .left .table;
   work = S .left .work;
 }
@@ -67,10 +67,10 @@ above-calls {a = a} O (c ∷ cs) d = above-calls (above-call O c (first-done cs 
 
 -- START, ANY ACCEPTED CALLS, UNFOLD TO LEVEL 0: THE WHOLE LENT TABLE IS AS IT WAS
 pub start-then-unfold : (D : ℕ) (t h w : List ℕ) (cs : List Call) → AllDone cs (start D t h w)
-    → Returned (answered 0 0) (baseState D) t (calls cs (start D t h w) .history) w (callOn (toLevel 0) (calls cs (start D t h w)))
+    → Returned (answered 0 0) (baseState D (take D t)) t (calls cs (start D t h w) .history) w (callOn (toLevel 0) (calls cs (start D t h w)))
 unfolding tableOf
 start-then-unfold D t h w cs d =
     let a = calls cs (start D t h w) in
     let O = above-calls (above-start D t h w (start-left D t h w (first-done cs (start D t h w) d))) cs d in
     let B = called-left (toLevel 0) _ _ _ _ (called-accepts (toLevel 0) (a .state) (a .table) (a .history) (a .work) (O .lent) (O .ground)) in
-    returned B (baseState D) t w (O .ground) (O .darts) (O .table) (unfold-history (a .state) (a .table) (a .history) (a .work) 0) (O .work)
+    returned B (baseState D (take D t)) t w (O .ground) (O .darts) (O .table) (unfold-history (a .state) (a .table) (a .history) (a .work) 0) (O .work)

@@ -118,7 +118,7 @@ body-told D b at =
 closed-told : (o : Opening) (r : Scan Body) → Told r → Meant (closed o r)
 unfolding closed
 closed-told o (fault a) h = h
-closed-told o (found c at) h = meant-if (isPyramid (fileState (o .darts) (c .kernels)) _ _) _ _ tt (λ z. omega arith)
+closed-told o (found c at) h = meant-if (isPyramid (fileState (o .darts) (c .kernels) _ _) _ _) _ _ tt (λ z. omega arith)
 
 opened-told : (room : ℕ → Bool) (b : List ℕ) (r : Scan Opening) → Told r → Meant (opened room b r)
 unfolding opened

@@ -13,6 +13,7 @@ use Rattle.darts.specs.Map.{successor, faceNext, sameVertex, sameFace, gone, su
 use Rattle.darts.specs.Operation.{turned, lead, wholeEdge, remove, contract, operate, number, kindOf, leadOf, edgeOf, putBack, undoOne, undone}
 use Rattle.darts.specs.Kernel.{shared, judge, passFrom, pass, run}
 use Rattle.darts.specs.State.{State, raised, levelled, reduce}
+use Rattle.darts.specs.Counts.{neverBelow, lowest, cycles, countsOf}
 use Rattle.darts.specs.Pyramid.{dartCount, build, kernelOf, cut, kernelsOf, sameNumbers, sameState, isExactly, isPyramid}
 use Rattle.darts.specs.Text.{bytes, digits, decimal}
 use Rattle.darts.specs.File.{taken, survivors, fileOrder, placeIn, fileNumber, fileTable, kindWord, kernelLine, kernelLines, pairLines, fileOf}
@@ -23,7 +24,7 @@ use Rattle.slices.specs.Over.{over}
 use Rattle.laws.proofs.chained.File.{ReadAgain, WrittenAgain, write-then-read, read-then-write}
 
 abbrev k7-state : State
-k7-state = record { darts = 8; operations = 3; levels = 2; ends = 2 ∷ 3 ∷ replicate 62 0 }
+k7-state = record { darts = 8; operations = 3; levels = 2; ends = 2 ∷ 3 ∷ replicate 62 0; vertices = 2; faces = 1 }
 
 abbrev k7-table : List ℕ
 k7-table = 5 ∷ 2 ∷ 5 ∷ 4 ∷ 6 ∷ 4 ∷ 6 ∷ 7 ∷ 99 ∷ []
@@ -49,7 +50,7 @@ readK12 = read k12 (replicate 9 9) (replicate 5 9) area
 -- ---- written, and read again
 
 k12-written : (wrote .answer .number ≡ 0) × ((wrote .answer .place ≡ 97) × (wrote .output ≡ k12 ++ (0 ∷ 0 ∷ 0 ∷ [])))
-unfolding partner meetsIn successor faceNext sameVertex sameFace gone survives beforeIn before repeats culprit testFrom permutationTest turned lead wholeEdge remove contract operate number kindOf leadOf edgeOf putBack undoOne undone shared judge passFrom pass run raised levelled reduce dartCount build kernelOf cut kernelsOf sameNumbers sameState isExactly isPyramid room fitting tableOf pastOf over cleared workAfter judged digits decimal taken survivors fileOrder placeIn fileNumber fileTable kindWord kernelLine kernelLines pairLines fileOf write
+unfolding partner meetsIn successor faceNext sameVertex sameFace gone survives beforeIn before repeats culprit testFrom permutationTest turned lead wholeEdge remove contract operate number kindOf leadOf edgeOf putBack undoOne undone shared judge passFrom pass run raised levelled reduce dartCount build kernelOf cut kernelsOf sameNumbers sameState isExactly isPyramid room fitting tableOf pastOf over cleared workAfter judged digits decimal taken survivors fileOrder placeIn fileNumber fileTable kindWord kernelLine kernelLines pairLines fileOf write neverBelow lowest cycles countsOf
 k12-written = (refl, (refl, refl))
 
 k12-read-again : ReadAgain k7-state k7-table k7-numbers area
@@ -61,7 +62,7 @@ k12-read-again =
 -- ---- read, and written again
 
 k12-read : (readK12 .answer .number ≡ 0) × ((readK12 .table ≡ 4 ∷ 2 ∷ 4 ∷ 5 ∷ 5 ∷ 6 ∷ 6 ∷ 7 ∷ 9 ∷ []) × (readK12 .history ≡ 1 ∷ 5 ∷ 8 ∷ 9 ∷ 9 ∷ []))
-unfolding partner meetsIn successor faceNext sameVertex sameFace gone survives beforeIn before repeats culprit testFrom permutationTest turned lead wholeEdge remove contract operate number kindOf leadOf edgeOf putBack undoOne undone shared judge passFrom pass run raised levelled reduce dartCount build kernelOf cut kernelsOf sameNumbers sameState isExactly isPyramid room fitting tableOf pastOf over cleared workAfter judged byteAt word isDigit numberOn numberAt field flagAt opening kernelOfKind kernelAt kernelsAt pairsAt endAt body fromFlag endsFrom total fileState numbersFrom historyFrom fileHistory closed opened readFile readInto read kindWord
+unfolding partner meetsIn successor faceNext sameVertex sameFace gone survives beforeIn before repeats culprit testFrom permutationTest turned lead wholeEdge remove contract operate number kindOf leadOf edgeOf putBack undoOne undone shared judge passFrom pass run raised levelled reduce dartCount build kernelOf cut kernelsOf sameNumbers sameState isExactly isPyramid room fitting tableOf pastOf over cleared workAfter judged byteAt word isDigit numberOn numberAt field flagAt opening kernelOfKind kernelAt kernelsAt pairsAt endAt body fromFlag endsFrom total fileState numbersFrom historyFrom fileHistory closed opened readFile readInto read kindWord neverBelow lowest cycles countsOf
 k12-read = (refl, (refl, refl))
 
 k12-written-again : WrittenAgain k12 output readK12 (write (readK12 .state) (readK12 .table) (readK12 .history) (readK12 .work) output)

@@ -16,6 +16,7 @@ use Rattle.darts.specs.Operation.{contraction, removal, turned, lead, wholeEdge
 use Rattle.darts.specs.Kernel.{shared, judge, rising, passFrom, pass, run}
 use Rattle.darts.specs.State.{baseState, raised, levelled, reduce}
 use Rattle.darts.specs.Levels.{emptyLoop, takes, sweptFrom, swept, sweep, endBelow, lowered, undoLevel, undoLevels, unfoldTo}
+use Rattle.darts.specs.Counts.{neverBelow, lowest, cycles, countsOf}
 use Rattle.darts.specs.Pyramid.{Kernel, dartCount, build, kernelOf, cut, kernelsOf, sameNumbers, sameState, isExactly, isPyramid}
 use Rattle.darts.specs.Calls.{After, leaves, room, fitting, tableOf, pastOf, cleared, workAfter, judged, begins, start, handsBack, onState, reduceBy, sweepBy, undoBy, unfoldBy}
 use Rattle.slices.specs.Over.{over}
@@ -62,7 +63,7 @@ k7 = calls (kernels K7) begun
 
 -- K7 is accepted, from start on, and its top is between 0 and 3
 k7-accepted : AllDone (kernels K7) begun × ((0 < k7 .state .levels) × (k7 .state .levels < 3))
-unfolding partner meetsIn successor faceNext sameVertex sameFace gone survives beforeIn before repeats culprit testFrom permutationTest turned lead wholeEdge remove contract operate number kindOf leadOf edgeOf putBack undoOne undone shared judge passFrom pass run raised levelled reduce endBelow lowered undoLevel undoLevels unfoldTo dartCount build kernelOf cut kernelsOf sameNumbers sameState isExactly isPyramid room fitting tableOf pastOf over cleared workAfter judged begins start handsBack onState reduceBy undoBy unfoldBy
+unfolding partner meetsIn successor faceNext sameVertex sameFace gone survives beforeIn before repeats culprit testFrom permutationTest turned lead wholeEdge remove contract operate number kindOf leadOf edgeOf putBack undoOne undone shared judge passFrom pass run raised levelled reduce endBelow lowered undoLevel undoLevels unfoldTo dartCount build kernelOf cut kernelsOf sameNumbers sameState isExactly isPyramid room fitting tableOf pastOf over cleared workAfter judged begins start handsBack onState reduceBy undoBy unfoldBy neverBelow lowest cycles countsOf
 k7-accepted = ((refl, (refl, refl)), (lit≤ tt, lit≤ tt))
 
 -- ---- K7 undone, and unfolded
@@ -83,12 +84,12 @@ k7-above : Returned (answered 12 (k7 .state .levels)) (k7 .state) (k7 .table) (k
 k7-above = unfold-above (k7 .state) (k7 .table) (k7 .history) (k7 .work) k7-lent 3 (k7-accepted .1 .1)
 
 -- back to the table that was started from
-k7-base : Returned (answered 0 0) (baseState 8) triangle (k7 .history) area (callOn (toLevel 0) k7)
+k7-base : Returned (answered 0 0) (baseState 8 (take 8 triangle)) triangle (k7 .history) area (callOn (toLevel 0) k7)
 k7-base = start-then-unfold 8 triangle numbers area (kernels K7) (k7-accepted .0)
 
 -- "an empty loop (r = q or s = p)": the sweep of K5 takes edge 2, and leaves what K7 leaves
 k5-swept : callOn bySweep k5 ≡ k7
-unfolding partner meetsIn successor faceNext sameVertex sameFace gone survives beforeIn before repeats culprit testFrom permutationTest turned lead wholeEdge remove contract operate number kindOf leadOf edgeOf putBack undoOne undone shared judge passFrom pass run raised levelled reduce emptyLoop takes rising sweptFrom swept sweep endBelow lowered undoLevel undoLevels unfoldTo dartCount build kernelOf cut kernelsOf sameNumbers sameState isExactly isPyramid room fitting tableOf pastOf over cleared workAfter judged begins start handsBack onState reduceBy sweepBy undoBy unfoldBy
+unfolding partner meetsIn successor faceNext sameVertex sameFace gone survives beforeIn before repeats culprit testFrom permutationTest turned lead wholeEdge remove contract operate number kindOf leadOf edgeOf putBack undoOne undone shared judge passFrom pass run raised levelled reduce emptyLoop takes rising sweptFrom swept sweep endBelow lowered undoLevel undoLevels unfoldTo dartCount build kernelOf cut kernelsOf sameNumbers sameState isExactly isPyramid room fitting tableOf pastOf over cleared workAfter judged begins start handsBack onState reduceBy sweepBy undoBy unfoldBy neverBelow lowest cycles countsOf
 k5-swept = refl
 
 k5-sweep-undone : Returned (answered 0 0) (k5 .state) (k5 .table) (callOn bySweep k5 .history) (k5 .work) (undoing (callOn bySweep k5))
@@ -96,8 +97,8 @@ k5-sweep-undone = sweep-then-undo (k5 .state) (k5 .table) (k5 .history) (k5 .wor
 
 -- by computation: undone once, it is the table of K5, and the history still has the number 10 of the removal; twice, it is T
 k7-computed : (undoing k7 .table ≡ 5 ∷ 2 ∷ 5 ∷ 4 ∷ 6 ∷ 4 ∷ 5 ∷ 7 ∷ 99 ∷ []) × ((undoing k7 .history ≡ 1 ∷ 5 ∷ 10 ∷ 94 ∷ 95 ∷ [])
-    × (undosBy 2 k7 ≡ leaves done (baseState 8) triangle (1 ∷ 5 ∷ 10 ∷ 94 ∷ 95 ∷ []) (replicate 32 0 ++ (9 ∷ []))))
-unfolding partner meetsIn successor faceNext sameVertex sameFace gone survives beforeIn before repeats culprit testFrom permutationTest turned lead wholeEdge remove contract operate number kindOf leadOf edgeOf putBack undoOne undone shared judge passFrom pass run raised levelled reduce endBelow lowered undoLevel undoLevels unfoldTo dartCount build kernelOf cut kernelsOf sameNumbers sameState isExactly isPyramid room fitting tableOf pastOf over cleared workAfter judged begins start handsBack onState reduceBy undoBy unfoldBy
+    × (undosBy 2 k7 ≡ leaves done (baseState 8 (take 8 triangle)) triangle (1 ∷ 5 ∷ 10 ∷ 94 ∷ 95 ∷ []) (replicate 32 0 ++ (9 ∷ []))))
+unfolding partner meetsIn successor faceNext sameVertex sameFace gone survives beforeIn before repeats culprit testFrom permutationTest turned lead wholeEdge remove contract operate number kindOf leadOf edgeOf putBack undoOne undone shared judge passFrom pass run raised levelled reduce endBelow lowered undoLevel undoLevels unfoldTo dartCount build kernelOf cut kernelsOf sameNumbers sameState isExactly isPyramid room fitting tableOf pastOf over cleared workAfter judged begins start handsBack onState reduceBy undoBy unfoldBy neverBelow lowest cycles countsOf
 k7-computed = (refl, (refl, refl))
 
 -- ---- K5 and K6: "Survivors 4 to 7 agree with K5."
@@ -111,5 +112,5 @@ k6-alike =
     (lit≤ tt) (take 8 triangle) (replicate 4 0) (replicate 32 7) refl (record { table = lit≤ tt; history = lit≤ tt; work = lit≤ tt })
 
 k6-computed : (calls (kernels K6) elsewhere .table ≡ 5 ∷ 4 ∷ 1 ∷ 4 ∷ 6 ∷ 4 ∷ 5 ∷ 7 ∷ []) × (k5 .table ≡ 5 ∷ 2 ∷ 5 ∷ 4 ∷ 6 ∷ 4 ∷ 5 ∷ 7 ∷ 99 ∷ [])
-unfolding partner meetsIn successor faceNext sameVertex sameFace gone survives beforeIn before repeats culprit testFrom permutationTest turned lead wholeEdge remove contract operate number kindOf leadOf edgeOf putBack undoOne undone shared judge passFrom pass run raised levelled reduce endBelow lowered undoLevel undoLevels unfoldTo dartCount build kernelOf cut kernelsOf sameNumbers sameState isExactly isPyramid room fitting tableOf pastOf over cleared workAfter judged begins start handsBack onState reduceBy undoBy unfoldBy
+unfolding partner meetsIn successor faceNext sameVertex sameFace gone survives beforeIn before repeats culprit testFrom permutationTest turned lead wholeEdge remove contract operate number kindOf leadOf edgeOf putBack undoOne undone shared judge passFrom pass run raised levelled reduce endBelow lowered undoLevel undoLevels unfoldTo dartCount build kernelOf cut kernelsOf sameNumbers sameState isExactly isPyramid room fitting tableOf pastOf over cleared workAfter judged begins start handsBack onState reduceBy undoBy unfoldBy neverBelow lowest cycles countsOf
 k6-computed = (refl, refl)

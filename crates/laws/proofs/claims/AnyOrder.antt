@@ -84,19 +84,19 @@ module _ (D : ℕ) (b : List ℕ) (count : T (dartCount D)) (size : length b ≡
       }
 
   -- ANY ORDER, ANY CUT INTO LEVELS: the kernels ls hold the same operations in some order; none of them is empty, and they are 64 at most
-  pub any-order : (ls : List Kernel) → List·Permᴰ os (operationsOf ls) → NoneEmpty ls → length ls ≤ 64 → Agrees D t past (build (baseState D) b [] ls)
+  pub any-order : (ls : List Kernel) → List·Permᴰ os (operationsOf ls) → NoneEmpty ls → length ls ≤ 64 → Agrees D t past (build (baseState D b) b [] ls)
   any-order ls rearranged some few =
       let L = other-order (operationsOf ls) rearranged in
-      let C = listed-kernels (baseState D) b [] ls some (omega arith) (L .accepted) in
+      let C = listed-kernels (baseState D b) b [] ls some (omega arith) (L .accepted) in
       record { state = C .0; table = L .table; new = L .new; accepted = C .1; alike = L .alike }
 
 -- THE SAME WHERE THE ACCEPTED LIST IS CUT INTO KERNELS ALREADY
 pub any-cut : (D : ℕ) (b : List ℕ) → T (dartCount D) → length b ≡ D → permutationTest D b ≡ permutes
-    → (ks ls : List Kernel) {s : State} {t past : List ℕ} → build (baseState D) b [] ks ≡ gives s t past
+    → (ks ls : List Kernel) {s : State} {t past : List ℕ} → build (baseState D b) b [] ks ≡ gives s t past
     → List·Permᴰ (operationsOf ks) (operationsOf ls) → NoneEmpty ls → length ls ≤ 64
-    → Agrees D t past (build (baseState D) b [] ls)
+    → Agrees D t past (build (baseState D b) b [] ls)
 any-cut D b count size permutation ks ls e =
-    any-order D b count size permutation (operationsOf ks) (kernels-listed (baseState D) b [] ks e) ls
+    any-order D b count size permutation (operationsOf ks) (kernels-listed (baseState D b) b [] ks e) ls
 
 -- ---- the operations that a pyramid's history tells
 
@@ -105,10 +105,10 @@ module _ {s : State} {t past : List ℕ} (P : Pyramid s t past) where
   pub pyramid-listed : oneByOne (s .darts) (P .base) [] (map operationOf (reverse past)) ≡ stands t past
   pyramid-listed =
       let ks = P .kernels in
-      let told = told-history (done-told (operationsOf ks) (kernels-done (baseState (s .darts)) (P .base) [] ks (P .built))) in
-      rw told (kernels-listed (baseState (s .darts)) (P .base) [] ks (P .built))
+      let told = told-history (done-told (operationsOf ks) (kernels-done (baseState (s .darts) (P .base)) (P .base) [] ks (P .built))) in
+      rw told (kernels-listed (baseState (s .darts) (P .base)) (P .base) [] ks (P .built))
 
   -- THE SAME FOR EVERY PYRAMID: whichever of kernels and sweeps made its levels, they lead from pyramids to pyramids (reduce-pyramid, sweep-pyramid)
   pub pyramid-order : (ls : List Kernel) → List·Permᴰ (map operationOf (reverse past)) (operationsOf ls) → NoneEmpty ls → length ls ≤ 64
-      → Agrees (s .darts) t past (build (baseState (s .darts)) (P .base) [] ls)
+      → Agrees (s .darts) t past (build (baseState (s .darts) (P .base)) (P .base) [] ls)
   pyramid-order = any-order (s .darts) (P .base) (P .count) (P .size) (P .permutation) (map operationOf (reverse past)) pyramid-listed

@@ -37,11 +37,13 @@ same-numbers (x ∷ xs) (y ∷ ys) =
 same-state : (s z : State) → T (sameState s z) ↔ (s ≡ z)
 unfolding sameState
 same-state s z =
-    let level = equal-and (s .levels) (z .levels) _ (same-numbers (s .ends) (z .ends)) in
+    let numbers = equal-and (s .vertices) (z .vertices) _ (eqb-iff (s .faces) (z .faces)) in
+    let marks = and-iff (sameNumbers (s .ends) (z .ends)) _ (same-numbers (s .ends) (z .ends)) (λ _. numbers) in
+    let level = equal-and (s .levels) (z .levels) _ marks in
     let operation = equal-and (s .operations) (z .operations) _ level in
     let parts = equal-and (s .darts) (z .darts) _ operation in (
-      λ h. let p = parts .0 h in state-path (p .0) (p .1 .0) (p .1 .1 .0) (p .1 .1 .1),
-      λ e. parts .1 (ap (λ x. x .darts) e, (ap (λ x. x .operations) e, (ap (λ x. x .levels) e, ap (λ x. x .ends) e))),
+      λ h. let p = parts .0 h in state-path (p .0) (p .1 .0) (p .1 .1 .0) (p .1 .1 .1 .0) (p .1 .1 .1 .1 .0) (p .1 .1 .1 .1 .1),
+      λ e. parts .1 (ap (λ x. x .darts) e, (ap (λ x. x .operations) e, (ap (λ x. x .levels) e, (ap (λ x. x .ends) e, (ap (λ x. x .vertices) e, ap (λ x. x .faces) e))))),
     )
 
 exactly : (s : State) (t past : List ℕ) (r : Result) → T (isExactly s t past r) ↔ (r ≡ gives s t past)
@@ -66,7 +68,7 @@ module _ {s : State} {t past : List ℕ} (P : Pyramid s t past) where
 
 abbrev Fits : State → List ℕ → List ℕ → List ℕ → List Kernel → Type 0
 Fits s t past b ks =
-    T (dartCount (s .darts)) × ((length b ≡ s .darts) × ((permutationTest (s .darts) b ≡ permutes) × (build (baseState (s .darts)) b [] ks ≡ gives s t past)))
+    T (dartCount (s .darts)) × ((length b ≡ s .darts) × ((permutationTest (s .darts) b ≡ permutes) × (build (baseState (s .darts) b) b [] ks ≡ gives s t past)))
 
 -- the base that undo gives and the kernels that the level ends give are tried
 tried : (s : State) (t past b : List ℕ) (ks : List Kernel) → undone (s .darts) (length past) t past ≡ b → kernelsOf s past ≡ ks
@@ -74,7 +76,7 @@ tried : (s : State) (t past b : List ℕ) (ks : List Kernel) → undone (s .dart
 unfolding isPyramid
 tried s t past b ks e f =
     let D = s .darts in
-    let built = exactly s t past (build (baseState D) b [] ks) in
+    let built = exactly s t past (build (baseState D b) b [] ks) in
     rw (e, f) (and-iff (dartCount D) _ (λ h. h, λ h. h) (λ _. equal-and (length b) D _ (and-iff (passed (permutationTest D b)) _ (passed-iff (permutationTest D b)) (λ _. built))))
 
 fits-pyramid : {s : State} {t past : List ℕ} (b : List ℕ) (ks : List Kernel) → Fits s t past b ks → Pyramid s t past

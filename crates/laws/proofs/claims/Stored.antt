@@ -4,7 +4,6 @@
 --   one-face-less    == a removal takes one face and no vertex
 --   kernel-less      == a kernel of contractions takes a vertex for each of its edges, a kernel of removals a face for each
 --   sweep-less       == a sweep takes a face for each edge that it takes
---   undo-gives-back  == undo after an accepted kernel gives back the state that was before, its numbers too
 use mathlib.Core.List.{List, [], _∷_}
 use mathlib.Core.Path.{_≡_, refl, sym, _∙_}
 use Prim.Native.Nat.{ℕ, suc, _+_}
@@ -13,19 +12,16 @@ use lib.ListN.{length}
 use Rattle.darts.specs.Operation.{Kind, contraction, removal, lead, operate, number}
 use Rattle.darts.specs.Kernel.{judge, each}
 use Rattle.darts.specs.State.{State, gives, reduce}
-use Rattle.darts.specs.Levels.{sweep, undoLevel}
+use Rattle.darts.specs.Levels.{sweep}
 use Rattle.darts.specs.Pyramid.{Pyramid}
 use Rattle.darts.specs.Counts.{Counts, countsOf}
-use Rattle.darts.specs.Stored.{storing}
 use Rattle.laws.specs.Standing.{Standing}
 use Rattle.laws.proofs.bridge.Operate.{operate-stands}
 use Rattle.laws.proofs.bridge.Counting.{counts-operate}
 use Rattle.laws.proofs.runs.Operations.{AllDone, none, first, run-iff}
-use Rattle.laws.proofs.runs.Results.{same-result}
 use Rattle.laws.proofs.runs.Reduces.{reduce-raises}
 use Rattle.laws.proofs.runs.Sweeps.{loops}
-use Rattle.laws.proofs.runs.Pyramids.{pyramid-built, pyramid-sweep}
-use Rattle.laws.proofs.runs.Undo.{undo-returns, sweep-undo-returns}
+use Rattle.laws.proofs.runs.Pyramids.{pyramid-built, pyramid-sweep, reduce-pyramid}
 use Rattle.laws.proofs.chained.Steps.{reduce-leads}
 
 -- of n operations of kind k: so many vertices, and so many faces
@@ -86,22 +82,14 @@ done-less S k (e ∷ es) (first fine rest) = takes-on k (one-less S e k fine) (d
 module _ {s : State} {t past : List ℕ} {z : State} {u new : List ℕ} (P : Pyramid s t past) where
   -- A KERNEL OF CONTRACTIONS TAKES ONE VERTEX FOR EACH OF ITS EDGES AND NO FACE, A KERNEL OF REMOVALS ONE FACE FOR EACH AND NO VERTEX
   pub kernel-less : (k : Kind) (es : List ℕ) → reduce k es s t past ≡ gives z u new
-      → Takes k (length es) (storing s t past .vertices) (storing s t past .faces) (storing z u new .vertices) (storing z u new .faces)
-  unfolding storing
+      → Takes k (length es) (s .vertices) (s .faces) (z .vertices) (z .faces)
   kernel-less k es e =
       let all = run-iff k (s .darts) t past es .0 (reduce-raises s t past k es e .stood) in
-      rw (reduce-leads k es .darts e) (done-less (pyramid-built P .standing) k es all)
+      let S = pyramid-built P .stored in
+      let Z = pyramid-built (reduce-pyramid P k es e) .stored in
+      let same = reduce-leads k es .darts e in
+      rw (S .vertices, S .faces, Z .vertices, Z .faces, same) (done-less (pyramid-built P .standing) k es all)
 
   pub sweep-less : sweep s t past ≡ gives z u new
-      → Takes removal (length (loops s t past)) (storing s t past .vertices) (storing s t past .faces) (storing z u new .vertices) (storing z u new .faces)
+      → Takes removal (length (loops s t past)) (s .vertices) (s .faces) (z .vertices) (z .faces)
   sweep-less e = kernel-less removal (loops s t past) (sym (pyramid-sweep P) ∙ e)
-
--- ---- undo
-
-module _ {s : State} {t past : List ℕ} {z : State} {u new : List ℕ} (P : Pyramid s t past) {x : State} {v last : List ℕ} (back : undoLevel z u new ≡ gives x v last) where
-  -- UNDO GIVES BACK THE STATE THAT WAS BEFORE, ITS NUMBERS TOO
-  pub undo-gives-back : (k : Kind) (es : List ℕ) → reduce k es s t past ≡ gives z u new → storing x v last ≡ storing s t past
-  undo-gives-back k es e = same-result (λ x v last. storing x v last ≡ storing s t past) (sym (undo-returns P k es e) ∙ back) refl
-
-  pub sweep-undo-gives-back : sweep s t past ≡ gives z u new → storing x v last ≡ storing s t past
-  sweep-undo-gives-back e = same-result (λ x v last. storing x v last ≡ storing s t past) (sym (sweep-undo-returns P e) ∙ back) refl

@@ -16,6 +16,7 @@ use Rattle.darts.specs.Operation.{contraction, removal, turned, lead, wholeEdge
 use Rattle.darts.specs.Kernel.{shared, judge, passFrom, pass, run}
 use Rattle.darts.specs.State.{State, baseState, gives, raised, levelled, reduce}
 use Rattle.darts.specs.Levels.{endBelow, lowered, undoLevel, undoLevels, unfoldTo}
+use Rattle.darts.specs.Counts.{neverBelow, lowest, cycles, countsOf}
 use Rattle.darts.specs.Pyramid.{Pyramid, dartCount, build, kernelOf, cut, kernelsOf, sameNumbers, sameState, isExactly, isPyramid}
 use Rattle.darts.specs.Text.{bytes, digits, decimal}
 use Rattle.darts.specs.File.{taken, survivors, fileOrder, placeIn, fileNumber, fileTable, kindWord, kernelLine, kernelLines, pairLines, fileOf}
@@ -31,7 +32,7 @@ use Rattle.laws.proofs.file.FlagOne.{flag-one}
 use Rattle.laws.proofs.file.WriteRead.{write-read}
 
 abbrev k7-state : State
-k7-state = record { darts = 8; operations = 3; levels = 2; ends = 2 ∷ 3 ∷ replicate 62 0 }
+k7-state = record { darts = 8; operations = 3; levels = 2; ends = 2 ∷ 3 ∷ replicate 62 0; vertices = 2; faces = 1 }
 
 abbrev k7-table : List ℕ
 k7-table = 5 ∷ 2 ∷ 5 ∷ 4 ∷ 6 ∷ 4 ∷ 6 ∷ 7 ∷ []
@@ -40,7 +41,7 @@ abbrev k7-past : List ℕ
 k7-past = 10 ∷ 5 ∷ 1 ∷ []
 
 k7-pyramid : Pyramid k7-state k7-table k7-past
-unfolding partner meetsIn successor faceNext sameVertex sameFace gone survives beforeIn before repeats culprit testFrom permutationTest turned lead wholeEdge remove contract operate number kindOf leadOf edgeOf putBack undoOne undone shared judge passFrom pass run raised levelled reduce dartCount build kernelOf cut kernelsOf sameNumbers sameState isExactly isPyramid
+unfolding partner meetsIn successor faceNext sameVertex sameFace gone survives beforeIn before repeats culprit testFrom permutationTest turned lead wholeEdge remove contract operate number kindOf leadOf edgeOf putBack undoOne undone shared judge passFrom pass run raised levelled reduce dartCount build kernelOf cut kernelsOf sameNumbers sameState isExactly isPyramid neverBelow lowest cycles countsOf
 k7-pyramid = pyramid-decided k7-state k7-table k7-past .0 tt
 
 abbrev k12 : List ℕ
@@ -107,6 +108,6 @@ module _ (room : ℕ → Bool) (fits : T (room 8)) where
 
 -- ---- the base, unfolded from what is read: T in the file's numbers
 
-k12-base : unfoldTo 0 k7-state k12-table k12-past ≡ gives (baseState 8) (4 ∷ 2 ∷ 1 ∷ 5 ∷ 0 ∷ 6 ∷ 3 ∷ 7 ∷ []) []
-unfolding partner successor gone survives beforeIn before kindOf leadOf putBack undoOne undone endBelow lowered undoLevel undoLevels unfoldTo
+k12-base : unfoldTo 0 k7-state k12-table k12-past ≡ gives (baseState 8 (4 ∷ 2 ∷ 1 ∷ 5 ∷ 0 ∷ 6 ∷ 3 ∷ 7 ∷ [])) (4 ∷ 2 ∷ 1 ∷ 5 ∷ 0 ∷ 6 ∷ 3 ∷ 7 ∷ []) []
+unfolding partner successor gone survives beforeIn before kindOf leadOf putBack undoOne undone endBelow lowered undoLevel undoLevels unfoldTo faceNext neverBelow lowest cycles countsOf
 k12-base = refl

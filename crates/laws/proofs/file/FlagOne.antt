@@ -38,7 +38,7 @@ zero-form {xs = xs} G = record {
 pub flag-one : (room : ℕ → Bool) (D : ℕ) (ks : List KernelLine) (xs : List ℕ) → GoodForm 1 D ks (map suc xs)
     → readFile room (textOf 1 D ks (map suc xs)) ≡ readFile room (textOf 0 D ks xs)
 flag-one room D ks xs G =
-    text-read room G ∙ ap (λ t. verdict room D (fileState D ks) t (reverse (fileHistory ks))) (from-one D xs ∙ sym (from-zero D xs))
+    text-read room G ∙ ap (λ t. verdict room D (fileState D ks t (reverse (fileHistory ks))) t (reverse (fileHistory ks))) (from-one D xs ∙ sym (from-zero D xs))
     ∙ sym (text-read room (zero-form G))
 
 -- ---- every file with F = 1 that has a meaning is so

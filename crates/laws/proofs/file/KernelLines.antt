@@ -19,7 +19,7 @@ use Rattle.darts.specs.File.{lineFeed, kernelLine, kernelLines, pairLines, file
 use Rattle.darts.specs.Tests.{sameKind, ofKind, oneKind, rises}
 use Rattle.darts.specs.Read.{KernelLine, endsFrom, total, fileState, numbersFrom, historyFrom, fileHistory}
 use Rattle.laws.proofs.bridge.Numbers.{number-kind}
-use Rattle.laws.proofs.runs.Ends.{Layered, state-path}
+use Rattle.laws.proofs.runs.Ends.{Layered, Stores, state-path}
 use Rattle.laws.proofs.tests.Shape.{same-kind, rises-iff}
 use Rattle.laws.proofs.tests.Passes.{pyramid-shaped}
 use Rattle.laws.proofs.tests.Room.{pyramid-room}
@@ -106,9 +106,10 @@ module _ {s : State} {t past : List ℕ} (P : Pyramid s t past) where
       ∙ sym (getD-drop (s .levels) (s .ends) i 0 ∙ L .unused (s .levels + i) (omega arith)))
 
   -- THE KERNEL LINES TELL THE STATE
-  pub state-told : fileState (s .darts) (linesOf s past) ≡ s
+  pub state-told : (u new : List ℕ) → Stores s u new → fileState (s .darts) (linesOf s past) u new ≡ s
   unfolding fileState
-  state-told = state-path refl count lines-levels (ap₂ _++_ (lines-told .ends) (rw lines-levels zeros-left) ∙ take-append-drop (s .levels) (s .ends))
+  state-told u new N = state-path refl count lines-levels (ap₂ _++_ (lines-told .ends) (rw lines-levels zeros-left) ∙ take-append-drop (s .levels) (s .ends))
+      (sym (N .vertices)) (sym (N .faces))
     where
       count : total (linesOf s past) ≡ s .operations
       count =
@@ -144,9 +145,9 @@ ends-length i [] = refl
 ends-length i (k ∷ ks) = ap suc (ends-length (i + k .count) ks)
 
 -- A FILE'S KERNEL LINES ARE READ BACK
-pub lines-again : (D : ℕ) (ks : List KernelLine) → Each Counted ks → linesOf (fileState D ks) (reverse (fileHistory ks)) ≡ ks
+pub lines-again : (D : ℕ) (ks : List KernelLine) (t past : List ℕ) → Each Counted ks → linesOf (fileState D ks t past) (reverse (fileHistory ks)) ≡ ks
 unfolding linesOf kernelsOf fileState fileHistory
-lines-again D ks C =
+lines-again D ks t past C =
     rw (reverse-reverse (historyFrom 0 ks), take-at (endsFrom 0 ks) (replicate (64 - length ks) 0) (length ks) (ends-length 0 ks)) (cut-lines 0 ks C)
 
 -- ---- the bytes of a pyramid's file

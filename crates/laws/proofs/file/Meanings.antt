@@ -32,7 +32,7 @@ pub record Meaning (room : ℕ → Bool) (b : List ℕ) (s : State) (t past : Li
   pub bytes : b ≡ textOf flag darts kernels numbers
   pub count : T (dartCount darts)
   pub fits : T (room darts)
-  pub state : s ≡ fileState darts kernels
+  pub state : s ≡ fileState darts kernels t past
   pub table : t ≡ map (fromFlag flag darts) numbers
   pub history : past ≡ reverse (fileHistory kernels)
   pub pyramid : T (isPyramid s t past)
@@ -46,29 +46,29 @@ record Closed (o : Opening) (r : Scan Body) (s : State) (t past : List ℕ) : Ty
   stated : Body
   end : ℕ
   holds : r ≡ found stated end
-  state : s ≡ fileState (o .darts) (stated .kernels)
+  state : s ≡ fileState (o .darts) (stated .kernels) t past
   table : t ≡ map (fromFlag (o .flag) (o .darts)) (stated .numbers)
   history : past ≡ reverse (fileHistory (stated .kernels))
   pyramid : T (isPyramid s t past)
 
 -- "After the last byte: 4"
 pub data Closing (o : Opening) (c : Body) (end : ℕ) : Type 0 where
-  stands : (let s : State = fileState (o .darts) (c .kernels) in let t : List ℕ = map (fromFlag (o .flag) (o .darts)) (c .numbers) in
-      let past : List ℕ = reverse (fileHistory (c .kernels)) in T (isPyramid s t past) × (closed o (found c end) ≡ means s t past)) → Closing o c end
+  stands : (let t : List ℕ = map (fromFlag (o .flag) (o .darts)) (c .numbers) in let past : List ℕ = reverse (fileHistory (c .kernels)) in
+      let s : State = fileState (o .darts) (c .kernels) t past in T (isPyramid s t past) × (closed o (found c end) ≡ means s t past)) → Closing o c end
   falls : closed o (found c end) ≡ faulty (o .darts) noPyramid → Closing o c end
 
 pub closing : (o : Opening) (c : Body) (end : ℕ) → Closing o c end
 unfolding closed
 closing o c end = go (T? (isPyramid s t past))
   where
-    s : State
-    s = fileState (o .darts) (c .kernels)
-
     t : List ℕ
     t = map (fromFlag (o .flag) (o .darts)) (c .numbers)
 
     past : List ℕ
     past = reverse (fileHistory (c .kernels))
+
+    s : State
+    s = fileState (o .darts) (c .kernels) t past
 
     go : Dec (T (isPyramid s t past)) → Closing o c end
     go (yes p) = stands (p, rw (T→true (isPyramid s t past) p))
@@ -82,9 +82,10 @@ means-closed o (found c end) {s} {t} {past} e = go (closing o c end)
     go : Closing o c end → Closed o (found c end) s t past
     go (stands (p, k)) =
         let given = sym k ∙ e in
-        let state : fileState (o .darts) (c .kernels) ≡ s = cc in
         let table : map (fromFlag (o .flag) (o .darts)) (c .numbers) ≡ t = cc in
         let history : reverse (fileHistory (c .kernels)) ≡ past = cc in
+        let stated : fileState (o .darts) (c .kernels) (map (fromFlag (o .flag) (o .darts)) (c .numbers)) (reverse (fileHistory (c .kernels))) ≡ s = cc in
+        let state : fileState (o .darts) (c .kernels) t past ≡ s = ap₂ (fileState (o .darts) (c .kernels)) (sym table) (sym history) ∙ stated in
         record {
           stated = c;
           end = end;
@@ -92,7 +93,7 @@ means-closed o (found c end) {s} {t} {past} e = go (closing o c end)
           state = sym state;
           table = sym table;
           history = sym history;
-          pyramid = subst₃ (λ s t past. T (isPyramid s t past)) state table history p;
+          pyramid = subst₃ (λ s t past. T (isPyramid s t past)) stated table history p;
         }
     go (falls k) = absurd (faulty≢means (sym k ∙ e))
 
@@ -190,7 +191,7 @@ verdict room D s t past =
     else faulty D noPyramid
 
 pub text-read : (room : ℕ → Bool) {F D : ℕ} {ks : List KernelLine} {xs : List ℕ} → GoodForm F D ks xs
-    → readFile room (textOf F D ks xs) ≡ verdict room D (fileState D ks) (map (fromFlag F D) xs) (reverse (fileHistory ks))
+    → readFile room (textOf F D ks xs) ≡ (let t : List ℕ = map (fromFlag F D) xs in let past : List ℕ = reverse (fileHistory ks) in verdict room D (fileState D ks t past) t past)
 unfolding readFile opened closed verdict
 text-read room G = let S = text-scanned G in rw (S .opens, S .holds)
 

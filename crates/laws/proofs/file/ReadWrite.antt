@@ -21,11 +21,11 @@ use Rattle.laws.proofs.file.KernelLines.{lines-levels, lines-again, fil
 
 -- a pyramid in a file's own numbers is written as it stands
 module _ (D : ℕ) (ks : List KernelLine) (t : List ℕ) (C : Each Counted ks) where
-  abbrev s : State
-  s = fileState D ks
-
   abbrev past : List ℕ
   past = reverse (fileHistory ks)
+
+  abbrev s : State
+  s = fileState D ks t past
 
   same-table : Pyramid s t past → fileTable D t past ≡ t
   unfolding fileState
@@ -37,14 +37,15 @@ module _ (D : ℕ) (ks : List KernelLine) (t : List ℕ) (C : Each Counted ks) w
 
   own-file : Pyramid s t past → fileOf s t past ≡ textOf 0 D ks t
   unfolding fileState
-  own-file P = file-text s t past (lines-levels P) ∙ ap₂ (textOf 0 D) (lines-again D ks C) (same-table P)
+  own-file P = file-text s t past (lines-levels P) ∙ ap₂ (textOf 0 D) (lines-again D ks t past C) (same-table P)
 
 again : {room : ℕ → Bool} {b : List ℕ} {s : State} {t past : List ℕ} (M : Meaning room b s t past) → M .flag ≡ 0 → fileOf s t past ≡ b
 again {b = b} {s} {t} {past} M flag =
     let ks = M .kernels in
-    let P = subst₂ (λ s past. Pyramid s t past) (M .state) (M .history) (pyramid-decided s t past .0 (M .pyramid)) in
+    let state : s ≡ fileState (M .darts) ks t (reverse (fileHistory ks)) = M .state ∙ ap (fileState (M .darts) ks t) (M .history) in
+    let P = subst₂ (λ s past. Pyramid s t past) state (M .history) (pyramid-decided s t past .0 (M .pyramid)) in
     let table : t ≡ M .numbers = M .table ∙ ap (λ F. map (fromFlag F (M .darts)) (M .numbers)) flag ∙ from-zero (M .darts) (M .numbers) in
-    ap₂ (λ s past. fileOf s t past) (M .state) (M .history) ∙ own-file (M .darts) ks t (M .form .counts) P
+    ap₂ (λ s past. fileOf s t past) state (M .history) ∙ own-file (M .darts) ks t (M .form .counts) P
     ∙ ap₂ (λ F xs. textOf F (M .darts) ks xs) (sym flag) table ∙ sym (M .bytes)
 
 -- A FILE WITH F = 0, READ AND WRITTEN AGAIN, IS ITS OWN BYTES

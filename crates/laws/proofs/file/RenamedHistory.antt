@@ -139,3 +139,9 @@ module _ {D : ℕ} {order : List ℕ} {ν : ℕ → ℕ} (R : Renaming D order �
   tracked-back zero past K = K
   tracked-back (suc n) [] K = K
   tracked-back (suc n) (h ∷ past) K = tracked-back n past (tracked-undo K)
+
+  pub tracked-stands : (n : ℕ) {t : List ℕ} (past : List ℕ) → Standing D t past → Tracked t past → Standing D (undone D n t past) (drop n past)
+  unfolding undone
+  tracked-stands zero past S K = S
+  tracked-stands (suc n) [] S K = S
+  tracked-stands (suc n) (h ∷ past) S K = tracked-stands n past (K .trail .0 .standing) (tracked-undo K)

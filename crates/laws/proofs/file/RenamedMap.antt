@@ -45,12 +45,12 @@ separate-end {m = m} {f} G π {p} (inr e) L = subst (Separate f m) (sym e) (reco
 
 module _ {D : ℕ} {order : List ℕ} {ν : ℕ → ℕ} (R : Renaming D order ν) (f f′ : ℕ → ℕ)
     (same : (x : ℕ) → x < D → f′ (ν x) ≡ ν (f x)) (stays : (x : ℕ) → x < D → f x < D) where
-  walk-renamed : (n x : ℕ) → x < D → walk f′ n (ν x) ≡ ν (walk f n x)
+  pub walk-renamed : (n x : ℕ) → x < D → walk f′ n (ν x) ≡ ν (walk f n x)
   unfolding walk
   walk-renamed zero x h = refl
   walk-renamed (suc n) x h = rw (same x h) (walk-renamed n (f x) (stays x h))
 
-  meets-renamed : (x y : ℕ) → x < D → y < D → Meets f′ (ν x) (ν y) → Meets f x y
+  pub meets-renamed : (x y : ℕ) → x < D → y < D → Meets f′ (ν x) (ν y) → Meets f x y
   meets-renamed x y h k m = record {
     steps = m .steps;
     there = number-one R (walk f (m .steps) x) y (walk-ind f (λ z. z < D) stays (m .steps) x h) k (sym (walk-renamed (m .steps) x h) ∙ m .there);
@@ -89,7 +89,7 @@ module _ {D : ℕ} {order : List ℕ} {ν : ℕ → ℕ} (R : Renaming D order �
   -- ---- the renamed table stands
 
   -- what holds of each dart's new number holds of each number
-  each-number : (Q : ℕ → Type 0) → ((x : ℕ) → x < D → Q (ν x)) → (i : ℕ) → i < D → Q i
+  pub each-number : (Q : ℕ → Type 0) → ((x : ℕ) → x < D → Q (ν x)) → (i : ℕ) → i < D → Q i
   each-number Q f i h = subst Q (R .forth i h) (f (getD order i 0) (R .dart i h))
 
   module _ {t past : List ℕ} (S : Standing D t past) (N : T (numbered D past)) where
@@ -105,13 +105,13 @@ module _ {D : ℕ} {order : List ℕ} {ν : ℕ → ℕ} (R : Renaming D order �
     abbrev m′ : Map
     m′ = mapOf D t′ past′
 
-    lives : (x : ℕ) → x < D → T (live D past′ (ν x)) → T (live D past x)
+    pub lives : (x : ℕ) → x < D → T (live D past′ (ν x)) → T (live D past x)
     lives x h l = subst T (live-renamed past N x h) l
 
     pub lives′ : (x : ℕ) → T (live D past x) → T (live D past′ (ν x))
     lives′ x l = subst T (sym (live-renamed past N x (S .good .small x l))) l
 
-    small′ : (i : ℕ) → T (live D past′ i) → i < D
+    pub small′ : (i : ℕ) → T (live D past′ i) → i < D
     small′ i l = live-iff D past′ i .0 l .0
 
     onward : (i : ℕ) → i < D → T (live D past′ i) → T (live D past′ (successor t′ i))
@@ -133,14 +133,14 @@ module _ {D : ℕ} {order : List ℕ} {ν : ℕ → ℕ} (R : Renaming D order �
 
     -- ---- successor and face-next
 
-    next-renamed : (x : ℕ) → x < D → m′ .next (ν x) ≡ ν (m .next x)
+    pub next-renamed : (x : ℕ) → x < D → m′ .next (ν x) ≡ ν (m .next x)
     next-renamed x h = go (T? (live D past x))
       where
         go : Dec (T (live D past x)) → m′ .next (ν x) ≡ ν (m .next x)
         go (yes l) = rw (live-renamed past N x h, T→true (live D past x) l) (renamed-entry R t x h)
         go (no n) = rw (live-renamed past N x h, nT→false (live D past x) n)
 
-    face-renamed : (x : ℕ) → x < D → face m′ (ν x) ≡ ν (face m x)
+    pub face-renamed : (x : ℕ) → x < D → face m′ (ν x) ≡ ν (face m x)
     unfolding face
     face-renamed x h = go (T? (live D past x))
       where

@@ -20,6 +20,7 @@ use Rattle.darts.specs.File.{fileOrder, fileNumber, fileTable, fileOf}
 use Rattle.darts.specs.Scan.{byteAt}
 use Rattle.darts.specs.Read.{fileHistory, means, readFile}
 use Rattle.laws.proofs.runs.Results.{Given}
+use Rattle.laws.proofs.runs.Pyramids.{pyramid-built}
 use Rattle.laws.proofs.claims.Decided.{pyramid-decided}
 use Rattle.laws.proofs.tests.Passes.{pyramid-shaped}
 use Rattle.laws.proofs.Lists.{each-at, each-reverse, reverse-map}
@@ -64,7 +65,7 @@ undo-given zero s t past h = record { state = s; table = t; past = past; given =
 undo-given (suc n) s t past h =
     let up : s .levels ≢ 0 = omega arith in
     let m = s .operations - endBelow s in
-    rw (eqb-other up) (undo-given n (lowered s) (undone (s .darts) m t past) (drop m past) (omega arith))
+    rw (eqb-other up) (undo-given n (lowered s (undone (s .darts) m t past) (drop m past)) (undone (s .darts) m t past) (drop m past) (omega arith))
 
 pub unfold-given : (k : ℕ) (s : State) (t past : List ℕ) → k ≤ s .levels → Given (unfoldTo k s t past)
 unfolding unfoldTo
@@ -133,7 +134,7 @@ module _ {s : State} {t past : List ℕ} (P : Pyramid s t past) where
   read-back room fits =
       let t′ = fileTable D t past in
       ap (readFile room) (file-text s t past (lines-levels P)) ∙ text-read room form
-      ∙ cc (state-told P, from-zero D t′, history-told)
+      ∙ cc (state-told P t′ (filePast past) (pyramid-built file-pyramid .stored), from-zero D t′, history-told)
       ∙ verdict-means room D s t′ (filePast past) (P .count) fits (pyramid-decided s t′ (filePast past) .1 file-pyramid)
 
   same-level : (k : ℕ) → k ≤ s .levels → SameLevel k s t past

@@ -22,7 +22,7 @@ use Rattle.laws.proofs.runs.Pyramids.{built-pyramid, reduce-pyramid}
 use Rattle.laws.proofs.merging.Turns.{merging, merged}
 use Rattle.laws.proofs.merging.Stands.{merging-run}
 
-pub base-pyramid : (D : ℕ) (t : List ℕ) → T (dartCount D) → length t ≡ D → permutationTest D t ≡ permutes → Pyramid (baseState D) t []
+pub base-pyramid : (D : ℕ) (t : List ℕ) → T (dartCount D) → length t ≡ D → permutationTest D t ≡ permutes → Pyramid (baseState D t) t []
 unfolding build
 base-pyramid D t count size permutation = built-pyramid D t count size permutation [] refl
 
@@ -32,21 +32,21 @@ longer (h ∷ past) some e = omega arith
 
 module _ (D : ℕ) (same : ℕ → Bool) (t : List ℕ) where
   -- A PASS BY RISING NUMBER IS A KERNEL
-  pub merging-reduces : levelled (baseState D) [] (merging D same t) ≡ reduce contraction (merged D same t) (baseState D) t []
+  pub merging-reduces : levelled (baseState D t) [] (merging D same t) ≡ reduce contraction (merged D same t) (baseState D t) t []
   unfolding reduce
-  merging-reduces = ap (levelled (baseState D) []) (merging-run D same t)
+  merging-reduces = ap (levelled (baseState D t) []) (merging-run D same t)
 
   module _ {u past : List ℕ} (stood : merging D same t ≡ stands u past) where
-    pub merging-gives : past ≢ [] → levelled (baseState D) [] (merging D same t) ≡ gives (raised (baseState D) (length past)) u past
+    pub merging-gives : past ≢ [] → levelled (baseState D t) [] (merging D same t) ≡ gives (raised (baseState D t) u past) u past
     unfolding levelled
     merging-gives some = rw (stood, eqb-other (longer past some))
 
     -- "answers 5 [..] where its kernel would take no edge"
-    pub merging-refuses : past ≡ [] → levelled (baseState D) [] (merging D same t) ≡ refuses emptyKernel
+    pub merging-refuses : past ≡ [] → levelled (baseState D t) [] (merging D same t) ≡ refuses emptyKernel
     unfolding levelled
     merging-refuses none = rw (stood, none)
 
     -- WHAT MERGING GIVES IS A PYRAMID
-    pub merging-pyramid : T (dartCount D) → length t ≡ D → permutationTest D t ≡ permutes → past ≢ [] → Pyramid (raised (baseState D) (length past)) u past
+    pub merging-pyramid : T (dartCount D) → length t ≡ D → permutationTest D t ≡ permutes → past ≢ [] → Pyramid (raised (baseState D t) u past) u past
     merging-pyramid count size permutation some =
         reduce-pyramid (base-pyramid D t count size permutation) contraction (merged D same t) (sym merging-reduces ∙ merging-gives some)

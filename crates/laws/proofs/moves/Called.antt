@@ -7,7 +7,6 @@ use mathlib.Core.Path.{_≡_, refl, ap}
 use Prim.Native.Nat.{ℕ}
 use Rattle.darts.specs.State.{State}
 use Rattle.darts.specs.Calls.{After, tableOf, pastOf}
-use Rattle.darts.specs.Stored.{storing}
 use Rattle.darts.specs.Moves.{movedTo}
 use Rattle.laws.proofs.chained.OnLent.{Call, byKernel, bySweep, byUndo, toLevel, called, stepOf, called-left}
 use Rattle.laws.proofs.sentences.NotWritten.{reduce-history, sweep-history, undo-history, unfold-history}
@@ -34,7 +33,7 @@ module _ (c : Call) (s : State) (t h w : List ℕ) where
 
   -- WHERE A CALL ANSWERS 0, THE NUMBERS MOVED ALONG THE HISTORY THAT IT LEAVES ARE THE NUMBERS OF THE CYCLES
   pub called-moved : a .answer .number ≡ 0
-      → movedTo (storing s (tableOf s t) (pastOf s h)) (a .state) (a .history) ≡ storing (a .state) (tableOf (a .state) (a .table)) (pastOf (a .state) (a .history))
+      → movedTo s (a .state) (a .history) ≡ a .state
   called-moved e =
       let A = called-left c s t h w e in
       let P = A .before .pyramid in

@@ -67,7 +67,7 @@ module _ {s : State} {t past : List ℕ} (P : Pyramid s t past) where
   pyramid-kept =
       let S = base-stands D (P .base) (P .count) (P .size) (P .permutation) in
       subst (λ (b : List ℕ). Kept D b [] t past) (sym (base-undone P))
-      (done-kept S (operationsOf (P .kernels)) (kernels-done (baseState D) (P .base) [] (P .kernels) (P .built)))
+      (done-kept S (operationsOf (P .kernels)) (kernels-done (baseState D (P .base)) (P .base) [] (P .kernels) (P .built)))
 
   -- A PYRAMID HAS AS MANY VERTICES AS ITS BASE, LESS ONE FOR EACH CONTRACTION
   pub vertices-kept : countsOf D t past .vertices + contractionsIn past ≡ countsOf D (undone D (length past) t past) [] .vertices

@@ -13,15 +13,16 @@ use lib.Seq.{drop-at, take-add, take-at, take-take}
 use Rattle.slices.specs.Part.{part}
 use Rattle.darts.specs.State.{State}
 use Rattle.darts.specs.Pyramid.{Pyramid}
-use Rattle.darts.specs.Stored.{Stored, storing}
 use Rattle.darts.specs.Moves.{contractionsIn, movedTo}
 use Rattle.darts.specs.Calls.{pastOf}
+use Rattle.darts.specs.Counts.{countsOf}
+use Rattle.laws.proofs.runs.Ends.{Stores, state-path}
 use Rattle.laws.proofs.runs.Pyramids.{pyramid-built}
 use Rattle.laws.proofs.moves.Contractions.{removalsIn, contractions-append, contractions-reverse, removals-append, removals-reverse}
 use Rattle.laws.proofs.moves.Kept.{Kept, kept-on, kept-back, pyramid-kept}
 use Rattle.laws.proofs.moves.Steps.{Grown, Moved, up, down, baseFrom, Follows}
 
-pub record Balanced (past new : List ℕ) (S Z : Stored) : Type 0 where
+pub record Balanced (past new : List ℕ) (S Z : State) : Type 0 where
   pub vertices : Z .vertices + contractionsIn new ≡ S .vertices + contractionsIn past
   pub faces : Z .faces + removalsIn new ≡ S .faces + removalsIn past
 
@@ -33,21 +34,24 @@ kept-along {s} {t} {past} {z} {u} {new} P F =
     kept-on (kept-back (pyramid-kept P)) same
 
 module _ {s : State} {t past : List ℕ} {z : State} {u new : List ℕ} (P : Pyramid s t past) (F : Follows s t past z u new) where
-  pub storing-balanced : Balanced past new (storing s t past) (storing z u new)
-  unfolding storing
+  pub storing-balanced : Balanced past new s z
   storing-balanced =
       let K = kept-along P F in
-      rw (F .darts) (record { vertices = K .vertices; faces = K .faces })
+      let S = pyramid-built P .stored in
+      let Z : Stores z u new = pyramid-built (F .pyramid) .stored in
+      let v : z .vertices ≡ countsOf (s .darts) u new .vertices = Z .vertices ∙ ap (λ D. countsOf D u new .vertices) (F .darts) in
+      let f : z .faces ≡ countsOf (s .darts) u new .faces = Z .faces ∙ ap (λ D. countsOf D u new .faces) (F .darts) in
+      rw (v, f, S .vertices, S .faces) (record { vertices = K .vertices; faces = K .faces })
 
-pub record Exchanged (undone done : List ℕ) (S Z : Stored) : Type 0 where
+pub record Exchanged (undone done : List ℕ) (S Z : State) : Type 0 where
   pub vertices : S .vertices + contractionsIn undone ≡ Z .vertices + contractionsIn done
   pub faces : S .faces + removalsIn undone ≡ Z .faces + removalsIn done
 
 -- both read the other way round
-balanced-back : {past new : List ℕ} {S Z : Stored} → Balanced past new S Z → Balanced new past Z S
+balanced-back : {past new : List ℕ} {S Z : State} → Balanced past new S Z → Balanced new past Z S
 balanced-back B = record { vertices = sym (B .vertices); faces = sym (B .faces) }
 
-exchanged-back : {undone done : List ℕ} {S Z : Stored} → Exchanged undone done S Z → Exchanged done undone Z S
+exchanged-back : {undone done : List ℕ} {S Z : State} → Exchanged undone done S Z → Exchanged done undone Z S
 exchanged-back E = record { vertices = sym (E .vertices); faces = sym (E .faces) }
 
 -- ---- along a history that holds both pasts
@@ -98,10 +102,6 @@ module _ {past new : List ℕ} (G : Grown past new) (h : List ℕ) (there : take
   grown-contractions : contractionsIn new ≡ contractionsIn (G .fresh) + contractionsIn past
   grown-contractions = ap contractionsIn (G .grown) ∙ contractions-append (G .fresh) past
 
--- two stored states with the same numbers
-pub stored-path : {S Z : Stored} → S .state ≡ Z .state → S .vertices ≡ Z .vertices → S .faces ≡ Z .faces → S ≡ Z
-stored-path s v f = λ i. record { state = s i; vertices = v i; faces = f i }
-
 -- r more of what is taken away, or r less
 taken-more : (v z c d r : ℕ) → z + d ≡ v + c → d ≡ r + c → v - r + 0 ≡ z
 taken-more v z c d r e k = omega arith
@@ -109,26 +109,26 @@ taken-more v z c d r e k = omega arith
 taken-less : (v z c d r : ℕ) → z + d ≡ v + c → c ≡ r + d → v - 0 + r ≡ z
 taken-less v z c d r e k = omega arith
 
-module _ {past new : List ℕ} (S Z : Stored) (h : List ℕ) (B : Balanced past new S Z)
-    (was : S .state .operations ≡ length past) (is : Z .state .operations ≡ length new) where
-  balanced-up : take (length new) h ≡ reverse new → Grown past new → movedTo S (Z .state) h ≡ Z
+module _ {past new : List ℕ} (S Z : State) (h : List ℕ) (B : Balanced past new S Z)
+    (was : S .operations ≡ length past) (is : Z .operations ≡ length new) where
+  balanced-up : take (length new) h ≡ reverse new → Grown past new → movedTo S Z h ≡ Z
   unfolding movedTo contractionsIn
   balanced-up there G =
       rw (was, is, fresh-contractions G h there, none-part G h there, fresh-size G h there, none-size G h there)
-      (stored-path refl
+      (state-path refl refl refl refl
       (taken-more (S .vertices) (Z .vertices) (contractionsIn past) (contractionsIn new) _ (B .vertices) (grown-contractions G h there))
       (taken-more (S .faces) (Z .faces) (removalsIn past) (removalsIn new) _ (B .faces) (grown-removals G h there)))
 
-  balanced-down : take (length past) h ≡ reverse past → Grown new past → movedTo S (Z .state) h ≡ Z
+  balanced-down : take (length past) h ≡ reverse past → Grown new past → movedTo S Z h ≡ Z
   unfolding movedTo contractionsIn
   balanced-down there G =
       rw (was, is, fresh-contractions G h there, none-part G h there, fresh-size G h there, none-size G h there)
-      (stored-path refl
+      (state-path refl refl refl refl
       (taken-less (S .vertices) (Z .vertices) (contractionsIn past) (contractionsIn new) _ (B .vertices) (grown-contractions G h there))
       (taken-less (S .faces) (Z .faces) (removalsIn past) (removalsIn new) _ (B .faces) (grown-removals G h there)))
 
   exchanged-up : take (length new) h ≡ reverse new → Grown past new
-      → Exchanged (part (Z .state .operations) (S .state .operations) h) (part (S .state .operations) (Z .state .operations) h) S Z
+      → Exchanged (part (Z .operations) (S .operations) h) (part (S .operations) (Z .operations) h) S Z
   unfolding contractionsIn
   exchanged-up there G =
       rw (was, is, none-part G h there)
@@ -154,19 +154,17 @@ module _ {s : State} {t past : List ℕ} {z : State} {u new : List ℕ} (P : Pyr
   held-behind = sym (reverse-reverse (take (length new) h)) ∙ ap reverse (rw is at behind)
 
   -- THE NUMBERS MOVED ALONG THE HISTORY ARE THE NUMBERS OF THE CYCLES
-  pub moved-stores : movedTo (storing s t past) z h ≡ storing z u new
-  unfolding storing
+  pub moved-stores : movedTo s z h ≡ z
   moved-stores = go (F .moved)
     where
-      go : Moved past new → movedTo (storing s t past) z h ≡ storing z u new
-      go (up G) = balanced-up (storing s t past) (storing z u new) h (storing-balanced P F) was is held-behind G
-      go (down G) = balanced-down (storing s t past) (storing z u new) h (storing-balanced P F) was is held-before G
+      go : Moved past new → movedTo s z h ≡ z
+      go (up G) = balanced-up s z h (storing-balanced P F) was is held-behind G
+      go (down G) = balanced-down s z h (storing-balanced P F) was is held-before G
 
-  pub moved-exchanged : Exchanged (part (z .operations) (s .operations) h) (part (s .operations) (z .operations) h) (storing s t past) (storing z u new)
-  unfolding storing
+  pub moved-exchanged : Exchanged (part (z .operations) (s .operations) h) (part (s .operations) (z .operations) h) s z
   moved-exchanged = go (F .moved)
     where
       go : Moved past new
-          → Exchanged (part (z .operations) (s .operations) h) (part (s .operations) (z .operations) h) (storing s t past) (storing z u new)
-      go (up G) = exchanged-up (storing s t past) (storing z u new) h (storing-balanced P F) was is held-behind G
-      go (down G) = exchanged-back (exchanged-up (storing z u new) (storing s t past) h (balanced-back (storing-balanced P F)) is was held-before G)
+          → Exchanged (part (z .operations) (s .operations) h) (part (s .operations) (z .operations) h) s z
+      go (up G) = exchanged-up s z h (storing-balanced P F) was is held-behind G
+      go (down G) = exchanged-back (exchanged-up z s h (balanced-back (storing-balanced P F)) is was held-before G)

@@ -9,23 +9,25 @@ use Rattle.darts.specs.Operation.{undone}
 use Rattle.darts.specs.State.{State, gives, andThen, raised, reduce}
 use Rattle.darts.specs.Pyramid.{Kernel, build, kernelsOf}
 use Rattle.laws.specs.Standing.{Standing}
-use Rattle.laws.proofs.runs.Ends.{Layered}
+use Rattle.laws.proofs.runs.Ends.{Layered, Stores}
 use Rattle.laws.proofs.runs.Results.{then, then-gives, then-then, same-result}
-use Rattle.laws.proofs.runs.Reduces.{Reduced, reduced, reduced-layered, reduced-kernels, reduced-base}
+use Rattle.laws.proofs.runs.Reduces.{Reduced, reduced, reduced-layered, reduced-stores, reduced-kernels, reduced-base}
 
 pub record Built (D : ℕ) (s : State) (t past : List ℕ) (ks : List Kernel) (z : State) (u new : List ℕ) : Type 0 where
   pub standing : Standing D u new
   pub layered : Layered D z new
+  pub stored : Stores z u new
   pub height : z .levels ≡ s .levels + length ks
   -- the level ends cut the past into exactly these kernels
   pub kernels : kernelsOf z new ≡ kernelsOf s past ++ ks
   -- everything undone, the base is the same
   pub base : undone D (length new) u new ≡ undone D (length past) t past
 
-built-none : {D : ℕ} {s : State} {t past : List ℕ} → Standing D t past → Layered D s past → Built D s t past [] s t past
-built-none {D} {s} {t} {past} S L = record {
+built-none : {D : ℕ} {s : State} {t past : List ℕ} → Standing D t past → Layered D s past → Stores s t past → Built D s t past [] s t past
+built-none {D} {s} {t} {past} S L N = record {
   standing = S;
   layered = L;
+  stored = N;
   height = omega arith;
   kernels = sym (append-nil (kernelsOf s past));
   base = refl;
@@ -40,20 +42,21 @@ module _ {D : ℕ} {s : State} {t past : List ℕ} {k : Kernel} {s₁ : State} {
   built-more {ks} {z} {u} {new} B = record {
     standing = B .standing;
     layered = B .layered;
+    stored = B .stored;
     height = let h = B .height in let one = one-level in omega arith;
     kernels = B .kernels ∙ ap (λ l. l ++ ks) (reduced-kernels L R) ∙ append-assoc (kernelsOf s past) (k ∷ []) ks;
     base = B .base ∙ reduced-base L R;
   }
 
 -- WHAT ACCEPTED KERNELS HAVE DONE
-pub built : {D : ℕ} {s : State} {t past : List ℕ} {z : State} {u new : List ℕ} → Standing D t past → Layered D s past
+pub built : {D : ℕ} {s : State} {t past : List ℕ} {z : State} {u new : List ℕ} → Standing D t past → Layered D s past → Stores s t past
     → (ks : List Kernel) → build s t past ks ≡ gives z u new → Built D s t past ks z u new
 unfolding build
-built {D} {s} {t} {past} S L [] e = same-result (Built D s t past []) e (built-none S L)
-built {D} {s} {t} {past} S L (k ∷ ks) e =
+built {D} {s} {t} {past} S L N [] e = same-result (Built D s t past []) e (built-none S L N)
+built {D} {s} {t} {past} S L N (k ∷ ks) e =
     let first = then (reduce (k .kind) (k .edges) s t past) (λ s t past. build s t past ks) e in
     let R = reduced S L k (first .first) in
-    built-more L R (built (R .ran .standing) (reduced-layered L R) ks (first .next))
+    built-more L R (built (R .ran .standing) (reduced-layered L R) (reduced-stores L R) ks (first .next))
 
 -- ---- the last kernel
 

@@ -45,14 +45,14 @@ done-kernels s t past (k ∷ ks) some room h =
     let longer = told-longer (done-told os (P .before)) in
     let count : length os ≡ length (k .edges) = length-map (k .edges) _ in
     let more : length (P .new) ≢ length past = omega (arith, some .0) in
-    let one : reduce (k .kind) (k .edges) s t past ≡ gives (raised s (length (P .new))) (P .table) (P .new) =
+    let one : reduce (k .kind) (k .edges) s t past ≡ gives (raised s (P .table) (P .new)) (P .table) (P .new) =
     raises-reduce s t past (k .kind) (k .edges) (record {
       room = omega arith;
       stood = run-iff (k .kind) (s .darts) t past (k .edges) .1 (P .before);
       more = more;
       state = refl;
     }) in
-    rw one (done-kernels (raised s (length (P .new))) (P .table) (P .new) ks (some .1) (omega arith) (P .beyond))
+    rw one (done-kernels (raised s (P .table) (P .new)) (P .table) (P .new) ks (some .1) (omega arith) (P .beyond))
 
 -- AN ACCEPTED LIST IS ACCEPTED IN ANY CUT INTO LEVELS
 pub listed-kernels : {u new : List ℕ} (s : State) (t past : List ℕ) (ks : List Kernel) → NoneEmpty ks → s .levels + length ks ≤ 64

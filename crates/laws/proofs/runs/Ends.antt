@@ -1,6 +1,7 @@
 -- The level ends of a state, and the kernels into which they cut the past.
 --   Rising from marks to == the marks rise strictly, the first above `from`, the last at `to`
 --   Layered D s past     == the state s, of D darts, has the operation count and the level ends of this past
+--   Stores s t past      == the state s stores the numbers of its vertices and faces
 use mathlib.Core.Bool.{false}
 use mathlib.Core.List.{List, [], _∷_, _++_, reverse}
 use mathlib.Core.Path.{_≡_, refl, sym, _∙_, ap}
@@ -15,6 +16,7 @@ use Rattle.darts.specs.Choose.{if_then_else_}
 use Rattle.darts.specs.State.{State, baseState, raised}
 use Rattle.darts.specs.Levels.{endBelow, lowered}
 use Rattle.darts.specs.Pyramid.{kernelOf, cut, kernelsOf}
+use Rattle.darts.specs.Counts.{countsOf}
 use Rattle.laws.proofs.Lists.{reverse-onto}
 
 abbrev pub Rising : ℕ → List ℕ → ℕ → Type 0
@@ -30,6 +32,11 @@ pub record Layered (D : ℕ) (s : State) (past : List ℕ) : Type 0 where
   pub sixty-four : length (s .ends) ≡ 64
   pub rise : Rising 0 (take (s .levels) (s .ends)) (s .operations)
   pub unused : (i : ℕ) → s .levels ≤ i → getD (s .ends) i 0 ≡ 0
+
+-- "Store both numbers in the state."
+pub record Stores (s : State) (t past : List ℕ) : Type 0 where
+  pub vertices : s .vertices ≡ countsOf (s .darts) t past .vertices
+  pub faces : s .faces ≡ countsOf (s .darts) t past .faces
 
 -- ---- marks that rise
 
@@ -75,11 +82,12 @@ below-at ends (suc l) n to h r =
     let r′ : Rising 0 (take l ends ++ (getD ends l 0 ∷ [])) to = rw (take-suc ends l 0 (omega arith)) at r in
     rw (two, top, getD-set-other ends (suc l) l n 0 (omega arith)) (rising-last 0 (take l ends) (getD ends l 0) to r′)
 
-pub state-path : {s z : State} → s .darts ≡ z .darts → s .operations ≡ z .operations → s .levels ≡ z .levels → s .ends ≡ z .ends → s ≡ z
-state-path d o l e = λ i. record { darts = d i; operations = o i; levels = l i; ends = e i }
+pub state-path : {s z : State} → s .darts ≡ z .darts → s .operations ≡ z .operations → s .levels ≡ z .levels → s .ends ≡ z .ends
+    → s .vertices ≡ z .vertices → s .faces ≡ z .faces → s ≡ z
+state-path d o l e v f = λ i. record { darts = d i; operations = o i; levels = l i; ends = e i; vertices = v i; faces = f i }
 
-pub layered-base : (D : ℕ) → Layered D (baseState D) []
-layered-base D = record {
+pub layered-base : (D : ℕ) (b : List ℕ) → Layered D (baseState D b) []
+layered-base D b = record {
   size = refl;
   count = refl;
   most = omega arith;
@@ -88,12 +96,12 @@ layered-base D = record {
   unused = λ i h. replicate-all 0 64 i;
 }
 
-module _ {D : ℕ} {s : State} {past : List ℕ} (L : Layered D s past) (room : s .levels < 64) (new : List ℕ) (more : length past < length new) where
+module _ {D : ℕ} {s : State} {past : List ℕ} (L : Layered D s past) (room : s .levels < 64) (u new : List ℕ) (more : length past < length new) where
   -- the ends in use once a level is added
   pub marks-raised : take (s .levels + 1) (set (s .ends) (s .levels) (length new)) ≡ take (s .levels) (s .ends) ++ (length new ∷ [])
   marks-raised = rw add-one (take-suc-set (s .ends) (s .levels) (length new) (let h = L .sixty-four in omega arith))
 
-  pub layered-raised : Layered D (raised s (length new)) new
+  pub layered-raised : Layered D (raised s u new) new
   unfolding raised
   layered-raised = record {
     size = L .size;
@@ -105,7 +113,7 @@ module _ {D : ℕ} {s : State} {past : List ℕ} (L : Layered D s past) (room : 
   }
 
   pub kernels-raised : (numbers : List ℕ) → new ≡ reverse numbers ++ past
-      → kernelsOf (raised s (length new)) new ≡ kernelsOf s past ++ (kernelOf numbers ∷ [])
+      → kernelsOf (raised s u new) new ≡ kernelsOf s past ++ (kernelOf numbers ∷ [])
   unfolding kernelsOf raised
   kernels-raised numbers e =
       let history : reverse new ≡ reverse past ++ numbers = ap reverse e ∙ reverse-onto numbers past in
@@ -113,14 +121,15 @@ module _ {D : ℕ} {s : State} {past : List ℕ} (L : Layered D s past) (room : 
       let before : s .operations ≡ 0 + length (reverse past) = simp length-reverse (let h = L .count in omega arith) in
       rw (marks-raised, history, longer) (cut-on 0 (take (s .levels) (s .ends)) (reverse past) numbers (s .operations) (L .rise) before)
 
-  pub below-raised : endBelow (raised s (length new)) ≡ s .operations
+  pub below-raised : endBelow (raised s u new) ≡ s .operations
   unfolding endBelow raised
   below-raised = below-at (s .ends) (s .levels) (length new) (s .operations) (let h = L .sixty-four in omega arith) (L .rise)
 
   -- LOWERING UNDOES RAISING
-  pub lowered-raised : lowered (raised s (length new)) ≡ s
+  pub lowered-raised : {t : List ℕ} → Stores s t past → lowered (raised s u new) t past ≡ s
   unfolding lowered raised
-  lowered-raised =
+  lowered-raised N =
       let top : s .levels + 1 - 1 ≡ s .levels = omega arith in
       state-path refl below-raised top
       (rw (top, set-set) (ap (set (s .ends) (s .levels)) (sym (L .unused (s .levels) (omega arith))) ∙ set-getD (s .ends) (s .levels) 0))
+      (sym (N .vertices)) (sym (N .faces))

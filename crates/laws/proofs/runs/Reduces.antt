@@ -21,7 +21,7 @@ use Rattle.darts.specs.OneByOne.{operationOf}
 use Rattle.laws.specs.Standing.{Standing}
 use Rattle.laws.proofs.runs.Operations.{Told, run-iff, done-told, told-history, told-count, told-longer, told-dropped, told-kernel}
 use Rattle.laws.proofs.runs.Runs.{Ran, ran, undone-more}
-use Rattle.laws.proofs.runs.Ends.{Layered, layered-raised, kernels-raised}
+use Rattle.laws.proofs.runs.Ends.{Layered, Stores, layered-raised, kernels-raised}
 use Rattle.laws.proofs.runs.Results.{refuses≢gives}
 
 -- ---- one level more
@@ -30,7 +30,7 @@ pub record Raises (s : State) (past : List ℕ) (r : Run) (z : State) (u new : L
   pub room : s .levels < 64
   pub stood : r ≡ stands u new
   pub more : length new ≢ length past
-  pub state : z ≡ raised s (length new)
+  pub state : z ≡ raised s u new
 
 module _ {s : State} {past : List ℕ} {z : State} {u new : List ℕ} where
   raises-level : s .levels < 64 → (r : Run) → levelled s past r ≡ gives z u new → Raises s past r z u new
@@ -41,8 +41,9 @@ module _ {s : State} {past : List ℕ} {z : State} {u new : List ℕ} where
       go : Dec (length new′ ≡ length past) → Raises s past (stands t′ new′) z u new
       go (yes h) = absurd (refuses≢gives (rw (eqb-same h) at e))
       go (no n) =
-          let given : gives (raised s (length new′)) t′ new′ ≡ gives z u new = rw (eqb-other n) at e in
+          let given : gives (raised s t′ new′) t′ new′ ≡ gives z u new = rw (eqb-other n) at e in
           let same : new′ ≡ new = cc in
+          let there : t′ ≡ u = cc in
           record { room = room; stood = cc; more = subst (λ l. length l ≢ length past) same n; state = cc }
 
   -- what reduce and the sweep have in common: 64 levels are refused, and the run adds a level
@@ -81,7 +82,7 @@ pub record Reduced (D : ℕ) (s : State) (t past : List ℕ) (k : Kernel) (z : S
   pub room : s .levels < 64
   pub ran : Ran D t past (each (k .kind) (k .edges)) u new
   pub grows : length past < length new
-  pub state : z ≡ raised s (length new)
+  pub state : z ≡ raised s u new
 
 pub reduced : {D : ℕ} {s : State} {t past : List ℕ} {z : State} {u new : List ℕ} → Standing D t past → Layered D s past
     → (k : Kernel) → reduce (k .kind) (k .edges) s t past ≡ gives z u new → Reduced D s t past k z u new
@@ -93,7 +94,11 @@ reduced {D} {s} {t} {past} {z} {u} {new} S L k e =
 
 module _ {D : ℕ} {s : State} {t past : List ℕ} {k : Kernel} {z : State} {u new : List ℕ} (L : Layered D s past) (R : Reduced D s t past k z u new) where
   pub reduced-layered : Layered D z new
-  reduced-layered = rw (R .state) (layered-raised L (R .room) new (R .grows))
+  reduced-layered = rw (R .state) (layered-raised L (R .room) u new (R .grows))
+
+  pub reduced-stores : Stores z u new
+  unfolding raised
+  reduced-stores = rw (R .state) (record { vertices = refl; faces = refl })
 
   -- the new level ends cut off this kernel
   pub reduced-kernels : kernelsOf z new ≡ kernelsOf s past ++ (k ∷ [])
@@ -101,7 +106,7 @@ module _ {D : ℕ} {s : State} {t past : List ℕ} {k : Kernel} {z : State} {u n
       let N = R .ran .tells in
       let some : 0 < length (N .numbers) = let c = told-count N in let h = told-longer N in let g = R .grows in omega arith in
       let kernel = told-kernel (k .kind) (k .edges) (N .numbers) (N .told) some in
-      rw (R .state) (kernels-raised L (R .room) new (R .grows) (N .numbers) (N .history) ∙ ap (λ c. kernelsOf s past ++ (c ∷ [])) kernel)
+      rw (R .state) (kernels-raised L (R .room) u new (R .grows) (N .numbers) (N .history) ∙ ap (λ c. kernelsOf s past ++ (c ∷ [])) kernel)
 
   -- everything undone, the base is the same
   pub reduced-base : undone D (length new) u new ≡ undone D (length past) t past

@@ -17,13 +17,13 @@ use native.Mathlib.Omega.{arith}
 use lib.Dec.{eqb, ltb, ltb→lt}
 use lib.ListN.{length}
 use Rattle.permutations.specs.Choice.{pick, eqb-other, nT→false}
-use Rattle.darts.specs.Operation.{Kind, removal}
+use Rattle.darts.specs.Operation.{Kind, removal, undone}
 use Rattle.darts.specs.State.{State, gives, andThen, raised, reduce}
 use Rattle.darts.specs.Levels.{sweep, endBelow, undoLevel, undoLevels, unfoldTo}
 use Rattle.darts.specs.Pyramid.{Kernel, Pyramid, build}
 use Rattle.darts.specs.Kernel.{each}
 use Rattle.laws.proofs.runs.Operations.{told-longer, told-dropped}
-use Rattle.laws.proofs.runs.Ends.{Layered, below-raised, lowered-raised}
+use Rattle.laws.proofs.runs.Ends.{Layered, Stores, below-raised, lowered-raised}
 use Rattle.laws.proofs.runs.Results.{refuses≢gives, then, then-then, same-result}
 use Rattle.laws.proofs.runs.Reduces.{Reduced, reduced}
 use Rattle.laws.proofs.runs.Builds.{built}
@@ -32,16 +32,17 @@ use Rattle.laws.proofs.runs.Pyramids.{pyramid-built, pyramid-sweep, red
 
 -- ---- one level
 
-module _ {D : ℕ} {s : State} {t past : List ℕ} {k : Kernel} {z : State} {u new : List ℕ} (L : Layered D s past) (R : Reduced D s t past k z u new) where
+module _ {D : ℕ} {s : State} {t past : List ℕ} {k : Kernel} {z : State} {u new : List ℕ} (L : Layered D s past) (N : Stores s t past) (R : Reduced D s t past k z u new) where
   -- the last level holds this kernel's operations
-  level-count : length new - endBelow (raised s (length new)) ≡ length (each (k .kind) (k .edges))
-  level-count = rw (below-raised L (R .room) new (R .grows)) (let n = L .count in let h = told-longer (R .ran .tells) in omega arith)
+  level-count : length new - endBelow (raised s u new) ≡ length (each (k .kind) (k .edges))
+  level-count = rw (below-raised L (R .room) u new (R .grows)) (let n = L .count in let h = told-longer (R .ran .tells) in omega arith)
 
-  undo-raised : undoLevel (raised s (length new)) u new ≡ gives s t past
+  undo-raised : undoLevel (raised s u new) u new ≡ gives s t past
   unfolding undoLevel raised
   undo-raised =
       let above : eqb (s .levels + 1) 0 ≡ false = eqb-other {m = s .levels + 1} {n = 0} (omega arith) in
-      rw (above, level-count, lowered-raised L (R .room) new (R .grows), L .size, R .ran .back, told-dropped (R .ran .tells))
+      let back : undone (s .darts) (length (each (k .kind) (k .edges))) u new ≡ t = rw (L .size) (R .ran .back) in
+      rw (above, level-count, back, told-dropped (R .ran .tells), lowered-raised L (R .room) u new (R .grows) N)
 
 module _ {s : State} {t past : List ℕ} {z : State} {u new : List ℕ} (P : Pyramid s t past) where
   -- UNDO RETURNS THE STATE, EVERY ENTRY OF THE TABLE, AND THE HISTORY
@@ -49,7 +50,7 @@ module _ {s : State} {t past : List ℕ} {z : State} {u new : List ℕ} (P : Pyr
   undo-returns k es e =
       let B = pyramid-built P in
       let R = reduced (B .standing) (B .layered) (record { kind = k; edges = es }) e in
-      rw (R .state) (undo-raised (B .layered) R)
+      rw (R .state) (undo-raised (B .layered) (B .stored) R)
 
   pub sweep-undo-returns : sweep s t past ≡ gives z u new → undoLevel z u new ≡ gives s t past
   sweep-undo-returns e = undo-returns removal (loops s t past) (sym (pyramid-sweep P) ∙ e)
@@ -80,7 +81,7 @@ pub unfold-returns : {s : State} {t past : List ℕ} {z : State} {u new : List �
 unfolding unfoldTo
 unfold-returns {s} {t} {past} {z} {u} {new} P ks e =
     let B = pyramid-built P in
-    let height = built (B .standing) (B .layered) ks e .height in
+    let height = built (B .standing) (B .layered) (B .stored) ks e .height in
     let reached : ltb (z .levels) (s .levels) ≡ false = nT→false (ltb (z .levels) (s .levels)) (λ h. omega (arith, ltb→lt (z .levels) (s .levels) h)) in
     let steps : z .levels - s .levels ≡ length ks = omega arith in
     rw (reached, steps) (undo-levels-returns P ks e)

@@ -7,10 +7,12 @@ use mathlib.Core.List.{List, [], _∷_, _++_}
 use mathlib.Core.Path.{_≡_, refl}
 use Prim.Native.Nat.{ℕ}
 use lib.ListN.{replicate}
+use Rattle.permutations.specs.Partner.{partner}
 use Rattle.darts.specs.Answers.{Answer, answered}
-use Rattle.darts.specs.Map.{successor, gone, survives, repeats, culprit, testFrom, permutationTest}
+use Rattle.darts.specs.Map.{successor, faceNext, gone, survives, repeats, culprit, testFrom, permutationTest}
 use Rattle.darts.specs.Operation.{undone}
-use Rattle.darts.specs.State.{baseState}
+use Rattle.darts.specs.State.{zeros, baseState}
+use Rattle.darts.specs.Counts.{neverBelow, lowest, cycles, countsOf}
 use Rattle.darts.specs.Pyramid.{dartCount, build, cut, kernelsOf, sameNumbers, sameState, isExactly, isPyramid}
 use Rattle.darts.specs.Text.{bytes, digits, decimal}
 use Rattle.darts.specs.File.{taken, survivors, fileOrder, placeIn, fileNumber, fileTable, kindWord, kernelLines, pairLines, fileOf}
@@ -39,21 +41,21 @@ reading b = read b lentTable lentHistory lentWork
 
 -- a read that was refused before D was known, or with 1 or 2, and one that was refused later
 abbrev early : Answer → After
-early a = leaves a (baseState 0) lentTable lentHistory lentWork
+early a = leaves a zeros lentTable lentHistory lentWork
 
 abbrev late : Answer → After
-late a = leaves a (baseState 0) lentTable lentHistory zeroed
+late a = leaves a zeros lentTable lentHistory zeroed
 
 record ReadRows : Type 0 where
   -- "The reader writes table and history only when it accepts"
-  accepted : reading one-edge ≡ leaves (answered 0 0) (baseState 2) (0 ∷ 1 ∷ 9 ∷ []) lentHistory zeroed
+  accepted : reading one-edge ≡ leaves (answered 0 0) (baseState 2 (0 ∷ 1 ∷ [])) (0 ∷ 1 ∷ 9 ∷ []) lentHistory zeroed
   -- "14: byte nine is neither 0 nor 1, place 8"
   flag : reading (bytes "numbers=2\n") ≡ early (answered 14 8)
   -- "or the length if it ends early"
   no-flag : reading (bytes "numbers=") ≡ early (answered 13 8)
   -- "Values are judged when their line has ended: D (1, then 2)"
   no-count : reading (bytes "numbers=0\ndarts=3\nlevels") ≡ early (answered 1 0)
-  no-count-first : read (bytes "numbers=0\ndarts=3\n") [] [] [] ≡ leaves (answered 1 0) (baseState 0) [] [] []
+  no-count-first : read (bytes "numbers=0\ndarts=3\n") [] [] [] ≡ leaves (answered 1 0) zeros [] [] []
   too-short : reading (bytes "numbers=0\ndarts=4\nlevels") ≡ early (answered 2 0)
   unended : reading (bytes "numbers=0\ndarts=3 ") ≡ early (answered 13 17)
   levels-unended : reading (bytes "numbers=0\ndarts=2\nlevels=65,") ≡ late (answered 13 27)
@@ -77,7 +79,7 @@ record ReadRows : Type 0 where
   no-dart-from-one : reading (bytes "numbers=1\ndarts=2\nlevels=0\npair=0 1\n") ≡ late (answered 4 0)
 
 read-rows : ReadRows
-unfolding successor gone survives repeats culprit testFrom permutationTest undone dartCount build cut kernelsOf sameNumbers sameState isExactly isPyramid kindWord byteAt word isDigit numberOn numberAt field flagAt opening kernelOfKind kernelAt kernelsAt pairsAt endAt body fromFlag endsFrom total fileState historyFrom fileHistory closed opened readFile room over cleared readInto read
+unfolding successor gone survives repeats culprit testFrom permutationTest undone dartCount build cut kernelsOf sameNumbers sameState isExactly isPyramid kindWord byteAt word isDigit numberOn numberAt field flagAt opening kernelOfKind kernelAt kernelsAt pairsAt endAt body fromFlag endsFrom total fileState historyFrom fileHistory closed opened readFile room over cleared readInto read faceNext partner neverBelow lowest cycles countsOf
 read-rows = record {
   accepted = refl;
   flag = refl;
@@ -105,14 +107,14 @@ read-rows = record {
 -- ---- written
 
 abbrev writing : List ℕ → Written
-writing o = write (baseState 2) (0 ∷ 1 ∷ 9 ∷ []) lentHistory lentWork o
+writing o = write (baseState 2 (0 ∷ 1 ∷ [])) (0 ∷ 1 ∷ 9 ∷ []) lentHistory lentWork o
 
 abbrev filed : Answer → List ℕ → Written
 filed a o = record { answer = a; table = 0 ∷ 1 ∷ 9 ∷ []; history = lentHistory; work = zeroed; output = o }
 
 record WriteRows : Type 0 where
   -- "The writer judges its output's length after 4."
-  no-pyramid : write (baseState 2) (1 ∷ 1 ∷ []) (8 ∷ []) (replicate 8 7) [] ≡ record {
+  no-pyramid : write (baseState 2 (1 ∷ 1 ∷ [])) (1 ∷ 1 ∷ []) (8 ∷ []) (replicate 8 7) [] ≡ record {
     answer = answered 4 0;
     table = 1 ∷ 1 ∷ [];
     history = 8 ∷ [];
@@ -127,5 +129,5 @@ record WriteRows : Type 0 where
   long : writing (replicate 38 6) ≡ filed (answered 0 36) (one-edge ++ (6 ∷ 6 ∷ []))
 
 write-rows : WriteRows
-unfolding successor gone survives repeats culprit testFrom permutationTest undone dartCount build cut kernelsOf sameNumbers sameState isExactly isPyramid digits decimal taken survivors fileOrder placeIn fileNumber fileTable kernelLines pairLines fileOf room fitting tableOf pastOf over cleared workAfter judged write
+unfolding successor gone survives repeats culprit testFrom permutationTest undone dartCount build cut kernelsOf sameNumbers sameState isExactly isPyramid digits decimal taken survivors fileOrder placeIn fileNumber fileTable kernelLines pairLines fileOf room fitting tableOf pastOf over cleared workAfter judged write faceNext partner neverBelow lowest cycles countsOf
 write-rows = record { no-pyramid = refl; short = refl; full = refl; long = refl }

@@ -102,7 +102,7 @@ module _ (s : State) (t h w : List ℕ) (L : Lent s t h w) where
     reduce-zero k es {u} {new} some r =
         let more = told-longer (done-told (each k es) (run-iff k (s .darts) (tableOf s t) (pastOf s h) es .0 r)) in
         answers (on-gives s t h w (reduce k es) L (record {
-          state = raised s (length new);
+          state = raised s u new;
           table = u;
           past = new;
           given = raises-reduce s (tableOf s t) (pastOf s h) k es (record { room = room; stood = r; more = longer es some more; state = refl });

@@ -79,12 +79,12 @@ module _ {F D : ℕ} {ks : List KernelLine} {xs : List ℕ} (G : GoodForm F D ks
       rw (lines-closed (fits t h w) L (count-test D c) fit, stops)
 
   -- "After the last byte: 4"
-  pub read-four : ¬ (Pyramid (fileState D ks) (map (fromFlag F D) xs) (reverse (fileHistory ks))) → read (textOf F D ks xs) t h w .answer ≡ answered 4 0
+  pub read-four : ¬ (Pyramid (fileState D ks (map (fromFlag F D) xs) (reverse (fileHistory ks))) (map (fromFlag F D) xs) (reverse (fileHistory ks))) → read (textOf F D ks xs) t h w .answer ≡ answered 4 0
   unfolding read readInto verdict
   read-four n =
-      let s = fileState D ks in
       let u = map (fromFlag F D) xs in
       let past = reverse (fileHistory ks) in
+      let s = fileState D ks u past in
       let none = nT→false (isPyramid s u past) (λ p. n (pyramid-decided s u past .0 p)) in
       rw (text-read (fits t h w) G, T→true (dartCount D) (count-test D c), T→true (fits t h w D) fit, none)
 

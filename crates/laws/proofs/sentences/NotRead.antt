@@ -5,19 +5,20 @@
 --   AlikeCounts, counts-alike == counts
 --   AlikeWritten, write-alike == write
 use mathlib.Core.Bool.{not}
-use mathlib.Core.List.{List, reverse}
+use mathlib.Core.List.{List, [], reverse}
 use mathlib.Core.Logic.{_≢_}
 use mathlib.Core.Path.{_≡_, refl, sym, _∙_, subst}
 use Prim.Native.Nat.{ℕ, _*_, _<_, max}
 use native.Mathlib.Decide.{decLt}
 use native.Mathlib.Omega.{arith}
 use lib.Dec.{T, eqb, ltb}
-use lib.ListN.{length, take, length-reverse}
+use lib.ListN.{length, take, replicate, length-reverse}
+use Rattle.darts.specs.Counts.{countsOf}
 use Rattle.permutations.specs.Choice.{T?, T→true, nT→false, eqb-other}
 use Rattle.darts.specs.Answers.{Answer, noPermutation, done}
 use Rattle.darts.specs.Map.{Verdict, permutes, culprits, permutationTest}
 use Rattle.darts.specs.Operation.{Kind}
-use Rattle.darts.specs.State.{State, baseState, Result, gives, refuses, reduce}
+use Rattle.darts.specs.State.{State, zeros, Result, gives, refuses, reduce}
 use Rattle.darts.specs.Levels.{sweep, undoLevel, unfoldTo}
 use Rattle.darts.specs.Pyramid.{dartCount}
 use Rattle.darts.specs.File.{fileOf}
@@ -62,19 +63,22 @@ module _ (D : ℕ) (w w′ : List ℕ) where
 -- ---- start
 
 module _ {D : ℕ} {t h w t′ h′ w′ : List ℕ} (A : Agree D 0 t h w t′ h′ w′) where
-  unwritten-alike : (a : Answer) → (a .number ≢ 1 → a .number ≢ 2 → ⊥) → Alike D 0 (leaves a (baseState 0) t h w) (leaves a (baseState 0) t′ h′ w′)
+  unwritten-alike : (a : Answer) → (a .number ≢ 1 → a .number ≢ 2 → ⊥) → Alike D 0 (leaves a zeros t h w) (leaves a zeros t′ h′ w′)
   unwritten-alike a short = record { answer = refl; state = refl; table = A .table; history = refl; work = λ one two. absurd (short one two) }
 
-  cleared-alike : (a : Answer) (E : ℕ) → Alike D 0 (leaves a (baseState E) t h (cleared D w)) (leaves a (baseState E) t′ h′ (cleared D w′))
-  cleared-alike a E = record { answer = refl; state = refl; table = A .table; history = refl; work = λ one two. zeros-alike D w w′ }
+  abbrev level0 : ℕ → ℕ → ℕ → State
+  level0 E v f = record { darts = E; operations = 0; levels = 0; ends = replicate 64 0; vertices = v; faces = f }
+
+  cleared-alike : (a : Answer) (E v f : ℕ) → Alike D 0 (leaves a (level0 E v f) t h (cleared D w)) (leaves a (level0 E v f) t′ h′ (cleared D w′))
+  cleared-alike a E v f = record { answer = refl; state = refl; table = A .table; history = refl; work = λ one two. zeros-alike D w w′ }
 
   pub start-alike : Alike D 0 (start D t h w) (start D t′ h′ w′)
   unfolding start begins fitting
   start-alike = go (T? (dartCount D)) (T? (room (length t) (length h) (length w) D))
     where
       said : (v : Verdict) → Alike D 0 (begins D t h w v) (begins D t′ h′ w′ v)
-      said permutes = cleared-alike done D
-      said (culprits d c) = cleared-alike (noPermutation d c) 0
+      said permutes = rw (A .table) (cleared-alike done D (countsOf D (take D t′) [] .vertices) (countsOf D (take D t′) [] .faces))
+      said (culprits d c) = cleared-alike (noPermutation d c) 0 0 0
 
       go : Dec (T (dartCount D)) → Dec (T (room (length t) (length h) (length w) D)) → Alike D 0 (start D t h w) (start D t′ h′ w′)
       go (no n) r = rw (nT→false (dartCount D) n) (unwritten-alike _ (λ one two. one refl))

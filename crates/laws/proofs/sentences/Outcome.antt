@@ -10,12 +10,12 @@ use mathlib.Core.Path.{_≡_, refl}
 use Prim.Native.Nat.{ℕ}
 use native.Mathlib.Decide.{ℕ-discrete}
 use lib.Dec.{eqb}
-use lib.ListN.{length}
+use lib.ListN.{length, take}
 use Rattle.permutations.specs.Choice.{eqb-same, eqb-other}
 use Rattle.darts.specs.Choose.{if_then_else_}
 use Rattle.darts.specs.Answers.{Answer, done, noDartCount, tooShort, noPermutation, noPyramid}
 use Rattle.darts.specs.Map.{Verdict, permutes, culprits, permutationTest}
-use Rattle.darts.specs.State.{State, baseState, Result, gives, refuses}
+use Rattle.darts.specs.State.{State, zeros, baseState, Result, gives, refuses}
 use Rattle.darts.specs.Calls.{After, leaves, fitting, tableOf, pastOf, cleared, workAfter, judged, begins, start}
 use Rattle.darts.proofs.Fitting.{Lengths, fits}
 use Rattle.laws.proofs.calls.Judging.{Judging, uncounted, cramped, other, lent, Lent, judging}
@@ -29,7 +29,7 @@ work-by P a D w kept wiped = go (eqb (a .number) 1) (eqb (a .number) 2)
     go false true = kept
     go false false = wiped
 
-pub start-by : (P : After → Type 0) (D : ℕ) (t h w : List ℕ) → ((a : Answer) → P (leaves a (baseState 0) t h w))
+pub start-by : (P : After → Type 0) (D : ℕ) (t h w : List ℕ) → ((a : Answer) → P (leaves a zeros t h w))
     → (Lengths D (length t) (length h) (length w) → (a : Answer) (z : State) → P (leaves a z t h (cleared D w))) → P (start D t h w)
 unfolding start begins
 start-by P D t h w none wiped = go (ℕ-discrete (a .number) 0)
@@ -38,8 +38,8 @@ start-by P D t h w none wiped = go (ℕ-discrete (a .number) 0)
     a = fitting D (length t) (length h) (length w)
 
     said-by : Lengths D (length t) (length h) (length w) → (v : Verdict) → P (begins D t h w v)
-    said-by l permutes = wiped l done (baseState D)
-    said-by l (culprits d c) = wiped l (noPermutation d c) (baseState 0)
+    said-by l permutes = wiped l done (baseState D (take D t))
+    said-by l (culprits d c) = wiped l (noPermutation d c) zeros
 
     go : Dec (a .number ≡ 0) → P (start D t h w)
     go (no n) = rw (eqb-other n) (none a)

@@ -27,7 +27,7 @@ use Rattle.laws.proofs.file.Seen.{seen-refused}
 use Rattle.laws.proofs.sentences.FirstLines.{fits}
 
 pub record Unread (r : After) (t h : List ℕ) : Type 0 where
-  pub state : r .state ≡ record { darts = 0; operations = 0; levels = 0; ends = replicate 64 0 }
+  pub state : r .state ≡ record { darts = 0; operations = 0; levels = 0; ends = replicate 64 0; vertices = 0; faces = 0 }
   pub table : r .table ≡ t
   pub history : r .history ≡ h
 

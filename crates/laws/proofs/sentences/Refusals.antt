@@ -5,17 +5,17 @@
 --   start-...         == a refused start hands back a state of zeros, an accepted one a base; table and history stay
 --   Noughts c         == four zeros; what refused counts are
 --   write-leaves      == the writer never changes table and history
-use mathlib.Core.List.{List}
+use mathlib.Core.List.{List, []}
 use mathlib.Core.Logic.{_≢_}
 use mathlib.Core.Path.{_≡_, refl}
 use Prim.Native.Nat.{ℕ}
 use native.Mathlib.Omega.{arith}
 use lib.IntN.{pos}
-use lib.ListN.{replicate}
+use lib.ListN.{replicate, take}
 use Rattle.permutations.specs.Choice.{eqb-other}
 use Rattle.darts.specs.Counts.{Counts}
 use Rattle.darts.specs.Operation.{Kind}
-use Rattle.darts.specs.State.{State, Result, gives, refuses, reduce}
+use Rattle.darts.specs.State.{State, storing, Result, gives, refuses, reduce}
 use Rattle.darts.specs.Levels.{sweep, undoLevel, unfoldTo}
 use Rattle.darts.specs.Calls.{After, handsBack, onState, start, reduceBy, sweepBy, undoBy, unfoldBy, counts, write}
 use Rattle.laws.proofs.calls.Outcomes.{Starting, noCount, noRoom, noBase, base, starting, Writing, refused, tight, written, writing}
@@ -63,10 +63,10 @@ module _ (s : State) (t h w : List ℕ) where
 module _ (D : ℕ) (t h w : List ℕ) where
   -- "A refused start or read, which was given none, hands back a state of zeros."
   pub start-refused : start D t h w .answer .number ≢ 0
-      → start D t h w .state ≡ record { darts = 0; operations = 0; levels = 0; ends = replicate 64 0 }
+      → start D t h w .state ≡ record { darts = 0; operations = 0; levels = 0; ends = replicate 64 0; vertices = 0; faces = 0 }
   start-refused n = go (starting D t h w)
     where
-      go : Starting D t h w → start D t h w .state ≡ record { darts = 0; operations = 0; levels = 0; ends = replicate 64 0 }
+      go : Starting D t h w → start D t h w .state ≡ record { darts = 0; operations = 0; levels = 0; ends = replicate 64 0; vertices = 0; faces = 0 }
       go (noCount c e) = rw e
       go (noRoom c l e) = rw e
       go (noBase c l b e) = rw e
@@ -74,10 +74,10 @@ module _ (D : ℕ) (t h w : List ℕ) where
 
   -- a base of D darts: no operation, no level, and no level end in use
   pub start-accepted : start D t h w .answer .number ≡ 0
-      → start D t h w .state ≡ record { darts = D; operations = 0; levels = 0; ends = replicate 64 0 }
+      → start D t h w .state ≡ storing D 0 0 (replicate 64 0) (take D t) []
   start-accepted z = go (starting D t h w)
     where
-      go : Starting D t h w → start D t h w .state ≡ record { darts = D; operations = 0; levels = 0; ends = replicate 64 0 }
+      go : Starting D t h w → start D t h w .state ≡ storing D 0 0 (replicate 64 0) (take D t) []
       go (noCount c e) = absurd (let k : 1 ≡ 0 = rw e at z in omega arith)
       go (noRoom c l e) = absurd (let k : 2 ≡ 0 = rw e at z in omega arith)
       go (noBase c l b e) = absurd (let k : 3 ≡ 0 = rw e at z in omega arith)

@@ -12,7 +12,7 @@ use mathlib.Core.Path.{_≡_, refl, sym, ap, _∙_, subst}
 use Prim.Native.Nat.{ℕ, zero, suc, _-_, _/_, _≤_}
 use lib.Dec.{eqb, ltb}
 use lib.ListN.{length, drop, take, take-append-drop}
-use Rattle.darts.specs.Operation.{Kind, removal}
+use Rattle.darts.specs.Operation.{Kind, removal, undone}
 use Rattle.darts.specs.State.{State, Result, gives, raised, reduce}
 use Rattle.darts.specs.Levels.{sweep, endBelow, lowered, undoLevel, undoLevels, unfoldTo}
 use Rattle.darts.specs.Pyramid.{Pyramid}
@@ -74,9 +74,9 @@ onto-more {past = past} A B = record {
   history = B .history ∙ ap (λ (l : List ℕ). B .more ++ l) (A .history) ∙ sym (append-assoc (B .more) (A .more) past);
 }
 
-lowered-onto : (s : State) (n : ℕ) (past : List ℕ) → Onto (lowered s) (drop n past) s past
+lowered-onto : (s : State) (u : List ℕ) (n : ℕ) (past : List ℕ) → Onto (lowered s u (drop n past)) (drop n past) s past
 unfolding lowered
-lowered-onto s n past = record { darts = refl; more = take n past; history = sym (take-append-drop n past) }
+lowered-onto s u n past = record { darts = refl; more = take n past; history = sym (take-append-drop n past) }
 
 undo-onto : (s : State) (t past : List ℕ) {z : State} {u new : List ℕ} → undoLevel s t past ≡ gives z u new → Onto z new s past
 unfolding undoLevel
@@ -84,7 +84,7 @@ undo-onto s t past {z} {u} {new} e = go (eqb (s .levels) 0) refl
   where
     go : (b : Bool) → eqb (s .levels) 0 ≡ b → Onto z new s past
     go true h = absurd (refuses≢gives (rw h at e))
-    go false h = same-result (λ z u new. Onto z new s past) (rw h at e) (lowered-onto s (s .operations - endBelow s) past)
+    go false h = same-result (λ z u new. Onto z new s past) (rw h at e) (lowered-onto s (undone (s .darts) (s .operations - endBelow s) t past) (s .operations - endBelow s) past)
 
 undo-levels-onto : (n : ℕ) (s : State) (t past : List ℕ) {z : State} {u new : List ℕ} → undoLevels n s t past ≡ gives z u new → Onto z new s past
 unfolding undoLevels

@@ -75,7 +75,7 @@ module _ {D : ℕ} {s : State} {t past : List ℕ} {z : State} {u new : List ℕ
 
   rising-more : T (rises 0 (take (z .levels) (z .ends)) (reverse new))
   unfolding raised
-  rising-more = rw (R .state, marks-raised (Q .layered) (R .room) new (R .grows), longer, history)
+  rising-more = rw (R .state, marks-raised (Q .layered) (R .room) u new (R .grows), longer, history)
       (rises-more 0 (take (s .levels) (s .ends)) (reverse past) numbers (Q .rising) one some)
     where
       numbers : List ℕ
@@ -115,4 +115,4 @@ pub pyramid-shaped : {s : State} {t past : List ℕ} → Pyramid s t past → Sh
 unfolding rises
 pyramid-shaped {s} P =
     let S = base-stands (s .darts) (P .base) (P .count) (P .size) (P .permutation) in
-    shaped-build (record { sound = sound-base S; layered = layered-base (s .darts); rising = tt }) (P .kernels) (P .built)
+    shaped-build (record { sound = sound-base S; layered = layered-base (s .darts) (P .base); rising = tt }) (P .kernels) (P .built)

@@ -4,7 +4,7 @@
 --   Reached D s u past one two t   == the kernel with the numbers `one` is accepted, and the operations `two` lead on to t
 use mathlib.Core.List.{List, [], _∷_, _++_, map, reverseAux}
 use mathlib.Core.Logic.{_≢_}
-use mathlib.Core.Path.{_≡_, refl, sym, ap, _∙_, subst}
+use mathlib.Core.Path.{_≡_, refl, sym, ap, ap₂, _∙_, subst}
 use Prim.Native.Nat.{ℕ, suc, _+_, _-_, _<_, _≤_}
 use native.Mathlib.Omega.{arith}
 use lib.Dec.{T}
@@ -19,7 +19,8 @@ use Rattle.laws.proofs.runs.Operations.{AllDone, none, first, run-iff}
 use Rattle.laws.proofs.runs.Reduces.{raises-reduce}
 use Rattle.darts.specs.Tests.{sameKind, ofKind, oneKind, rises}
 use Rattle.laws.proofs.tests.Replays.{Trail, Allowed, redo-fine}
-use Rattle.laws.proofs.tests.Shape.{same-kind, rises-iff, raisedBy}
+use Rattle.laws.proofs.tests.Shape.{same-kind, rises-iff, raisedBy, raised-none, raised-more}
+use Rattle.laws.proofs.runs.Ends.{Stores}
 
 abbrev pub Goes : ℕ → List ℕ → List ℕ → List ℕ → List ℕ → Type 0
 Goes D u past [] t = u ≡ t
@@ -59,7 +60,7 @@ goes-run k D u past (h ∷ hs) two t same g =
 
 record Reached (D : ℕ) (s : State) (u past one two t : List ℕ) : Type 0 where
   table : List ℕ
-  reduces : reduce (kernelOf one .kind) (kernelOf one .edges) s u past ≡ gives (raised s (length one + length past)) table (reverseAux one past)
+  reduces : reduce (kernelOf one .kind) (kernelOf one .edges) s u past ≡ gives (raised s table (reverseAux one past)) table (reverseAux one past)
   on : Goes D table (reverseAux one past) two t
 
 goes-reduce : {D : ℕ} (s : State) → s .darts ≡ D → s .levels < 64 → (u past one two t : List ℕ)
@@ -76,7 +77,7 @@ goes-reduce {D} s size room u past (h ∷ hs) two t same some g =
         room = room;
         stood = rw size (run-iff k D u past (map edgeOf (h ∷ hs)) .1 (r .done));
         more = (let n : length (reverseAux hs (h ∷ past)) ≢ length past = omega arith in n);
-        state = ap (raised s) (sym longer);
+        state = refl;
       });
       on = r .on;
     }
@@ -88,13 +89,13 @@ reverse-on [] two past = refl
 reverse-on (h ∷ hs) two past = reverse-on hs two (h ∷ past)
 
 -- THE LEVELS ARE BUILT UP AGAIN
-pub goes-build : {D : ℕ} (s : State) → s .darts ≡ D → (u past : List ℕ) (from : ℕ) → length past ≡ from
+pub goes-build : {D : ℕ} (s : State) → s .darts ≡ D → (u past : List ℕ) → Stores s u past → (from : ℕ) → length past ≡ from
     → (marks hs t : List ℕ) → s .levels + length marks ≤ 64 → T (rises from marks hs) → Goes D u past hs t
-    → build s u past (cut from marks hs) ≡ gives (raisedBy s marks) t (reverseAux hs past)
-unfolding build cut raisedBy rises raised
-goes-build s size u past from count [] [] t room rise g = ap (λ w. gives s w past) g
-goes-build s size u past from count [] (h ∷ hs) t room rise g = absurd rise
-goes-build {D} s size u past from count (m ∷ ms) hs t room rise g =
+    → build s u past (cut from marks hs) ≡ gives (raisedBy s marks t (reverseAux hs past)) t (reverseAux hs past)
+unfolding build cut rises raised
+goes-build s size u past N from count [] [] t room rise g = ap₂ (λ z w. gives z w past) (raised-none (subst (λ w. Stores s w past) g N)) g
+goes-build s size u past N from count [] (h ∷ hs) t room rise g = absurd rise
+goes-build {D} s size u past N from count (m ∷ ms) hs t room rise g =
     let (up, (fits, (one-kind, rest))) = rises-iff from m ms hs .0 rise in
     let one = take (m - from) hs in
     let two = drop (m - from) hs in
@@ -103,5 +104,9 @@ goes-build {D} s size u past from count (m ∷ ms) hs t room rise g =
     let r = goes-reduce s size (omega arith) u past one two t one-kind (omega arith) (subst (λ l. Goes D u past l t) (sym cuts) g) in
     let end : length one + length past ≡ m = omega arith in
     let new : length (reverseAux one past) ≡ m = length-reverseAux one past ∙ end in
-    rw (r .reduces, end) (goes-build (raised s m) size (r .table) (reverseAux one past) m new ms two t (omega arith) rest (r .on)
-    ∙ ap (gives (raisedBy (raised s m) ms) t) (reverse-on one two past ∙ ap (λ l. reverseAux l past) cuts))
+    let up = reverseAux one past in
+    let whole : reverseAux two up ≡ reverseAux hs past = reverse-on one two past ∙ ap (λ l. reverseAux l past) cuts in
+    let top : raisedBy (raised s (r .table) up) ms t (reverseAux two up) ≡ raisedBy s (m ∷ ms) t (reverseAux hs past) =
+    raised-more s (r .table) up ms t (reverseAux two up) ∙ ap₂ (λ n l. raisedBy s (n ∷ ms) t l) new whole in
+    rw (r .reduces) (goes-build (raised s (r .table) up) size (r .table) up (record { vertices = refl; faces = refl }) m new ms two t (omega arith) rest (r .on)
+    ∙ ap₂ (λ z l. gives z t l) top whole)

@@ -13,8 +13,8 @@ use lib.ListN.{length, set, take, drop, getD, replicate, getD-replicate, length-
 use lib.Seq.{drop-length, take-append-le, drop-append-le, getD-drop, sets, sets-eq, ext-getD, take-length, length-take-le}
 use Rattle.permutations.specs.Choice.{eqb-iff, and-iff, and-intro, and-left, and-right}
 use Rattle.darts.specs.Operation.{Kind, contraction, removal, kindOf}
-use Rattle.darts.specs.State.{State, baseState, raised}
-use Rattle.laws.proofs.runs.Ends.{Rising, Layered, state-path}
+use Rattle.darts.specs.State.{State, storing, baseState, raised}
+use Rattle.laws.proofs.runs.Ends.{Rising, Layered, Stores, state-path}
 use Rattle.darts.specs.Tests.{sameKind, ofKind, oneKind, rises, zeros, shaped}
 
 -- ---- one kind
@@ -135,11 +135,7 @@ shaped-iff s past = (
 
 -- ---- the state that the ends are told from
 
-unfoldable pub raisedBy : State → List ℕ → State
-raisedBy s [] = s
-raisedBy s (m ∷ ms) = raisedBy (raised s m) ms
-
-lastOf : ℕ → List ℕ → ℕ
+unfoldable pub lastOf : ℕ → List ℕ → ℕ
 lastOf from [] = from
 lastOf from (m ∷ ms) = lastOf m ms
 
@@ -148,17 +144,18 @@ unfolding lastOf
 marks-end from [] to r = r
 marks-end from (m ∷ ms) to r = marks-end m ms to (r .1)
 
-raised-all : (s : State) (marks : List ℕ) → raisedBy s marks ≡ record {
-  darts = s .darts;
-  operations = lastOf (s .operations) marks;
-  levels = s .levels + length marks;
-  ends = sets (s .ends) (s .levels) marks;
-}
+-- the state s once levels with these ends are over it, with the numbers of this table and past
+unfoldable pub raisedBy : State → List ℕ → List ℕ → List ℕ → State
+raisedBy s marks t past = storing (s .darts) (lastOf (s .operations) marks) (s .levels + length marks) (sets (s .ends) (s .levels) marks) t past
+
+pub raised-none : {s : State} {t past : List ℕ} → Stores s t past → s ≡ raisedBy s [] t past
+unfolding raisedBy lastOf
+raised-none N = state-path refl refl (omega arith) refl (N .vertices) (N .faces)
+
+pub raised-more : (s : State) (u new marks t past : List ℕ) → raisedBy (raised s u new) marks t past ≡ raisedBy s (length new ∷ marks) t past
 unfolding raisedBy raised lastOf
-raised-all s [] = state-path refl refl (omega arith) refl
-raised-all s (m ∷ ms) =
-    raised-all (raised s m) ms
-    ∙ state-path refl refl (omega arith) (ap (λ l. sets (set (s .ends) (s .levels) m) l ms) (add-one (s .levels)))
+raised-more s u new marks t past =
+    state-path refl refl (omega arith) (ap (λ l. sets (set (s .ends) (s .levels) (length new)) l marks) (add-one (s .levels))) refl refl
 
 -- the used ends over zeros are all the ends
 over-zeros : (n : ℕ) (ends : List ℕ) (l : ℕ) → length ends ≡ n → l ≤ n
@@ -177,11 +174,12 @@ over-zeros n ends l size most unused =
         getD-drop l (replicate n 0) i 0 ∙ getD-replicate n (l + i) 0 0 (omega arith) ∙ sym (getD-drop l ends i 0 ∙ unused (l + i) (omega arith)))
 
 -- A STATE IS TOLD BY ITS LEVEL ENDS
-pub layered-told : (s : State) (past : List ℕ) → Layered (s .darts) s past → raisedBy (baseState (s .darts)) (take (s .levels) (s .ends)) ≡ s
-layered-told s past L =
-    raised-all (baseState (s .darts)) marks
-    ∙ state-path refl (marks-end 0 marks (s .operations) (L .rise)) (zero-add (length marks) ∙ used)
-    (over-zeros 64 (s .ends) (s .levels) (L .sixty-four) (L .most) (L .unused))
+pub layered-told : (s : State) (b t new : List ℕ) {past : List ℕ} → Layered (s .darts) s past → Stores s t new
+    → raisedBy (baseState (s .darts) b) (take (s .levels) (s .ends)) t new ≡ s
+unfolding raisedBy
+layered-told s b t new L N =
+    state-path refl (marks-end 0 marks (s .operations) (L .rise)) (zero-add (length marks) ∙ used)
+    (over-zeros 64 (s .ends) (s .levels) (L .sixty-four) (L .most) (L .unused)) (sym (N .vertices)) (sym (N .faces))
   where
     marks : List ℕ
     marks = take (s .levels) (s .ends)

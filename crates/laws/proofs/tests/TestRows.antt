@@ -88,7 +88,7 @@ pub data Row : Type 0 where
 abbrev stateOf : List ℕ → List ℕ → List ℕ → State
 stateOf t hs ends =
     let l : ℕ = length ends in
-    record { darts = length t; operations = length hs; levels = l; ends = ends ++ replicate (64 - l) 0 }
+    record { darts = length t; operations = length hs; levels = l; ends = ends ++ replicate (64 - l) 0; vertices = 0; faces = 0 }
 
 abbrev isNone : List ℕ → Bool
 isNone [] = true

@@ -3,7 +3,7 @@
 --   Passed Lv Lf s t past == what the tests say, one by one
 use mathlib.Core.List.{List, [], _∷_, reverse, reverse-reverse}
 use mathlib.Core.Logic.{_↔_, Iff·rfl}
-use mathlib.Core.Path.{_≡_, refl, sym, ap₂, _∙_, subst}
+use mathlib.Core.Path.{_≡_, refl, sym, ap, _∙_, subst}
 use Prim.Native.Nat.{ℕ, _%_}
 use native.Mathlib.Omega.{arith}
 use lib.Dec.{T, eqb, eqb→eq}
@@ -12,7 +12,7 @@ use lib.Seq.{length-take-le}
 use Rattle.permutations.specs.Choice.{eqb-iff, and-iff, and-left}
 use Rattle.permutations.proofs.Replay.{Labelled}
 use Rattle.darts.specs.Operation.{contraction, removal, undoOne, undone}
-use Rattle.darts.specs.State.{State, baseState, gives}
+use Rattle.darts.specs.State.{State, counted, baseState, gives}
 use Rattle.darts.specs.Pyramid.{Pyramid, dartCount, build, kernelsOf}
 use Rattle.laws.specs.Standing.{mapOf, Standing}
 use Rattle.laws.proofs.bridge.Bases.{base-stands}
@@ -21,7 +21,9 @@ use Rattle.darts.specs.Tests.{numbered, linked, backs, relabelled, replays, sha
 use Rattle.laws.proofs.bridge.StandsBy.{stands-base}
 use Rattle.laws.proofs.tests.Links.{linked-stands}
 use Rattle.laws.proofs.tests.Replays.{Trail, backs-trail, Replayed, replayed}
-use Rattle.laws.proofs.tests.Shape.{shaped-iff, layered-told}
+use Rattle.laws.proofs.tests.Shape.{shaped-iff, raisedBy, layered-told}
+use Rattle.laws.proofs.runs.Ends.{Stores}
+use Rattle.laws.proofs.runs.Pyramids.{pyramid-built}
 use Rattle.laws.proofs.tests.Passes.{pyramid-shaped}
 use Rattle.laws.proofs.tests.Rebuilt.{goes-base, goes-build}
 
@@ -75,7 +77,7 @@ module _ (Lv Lf : ℕ → ℕ) (s : State) (t past : List ℕ) where
 
   module _ (right : Standing D base [] → Labelled (mapOf D base []) Lv Lf) where
     -- what passes the first tests goes back to a base that stands
-    module _ (P : Passed Lv Lf s t past) where
+    module _ (P : Passed Lv Lf s t past) (N : Stores s t past) where
       stands : Standing D t past
       stands = linked-stands D t past (even D (P .count)) (P .size) .0 (P .links)
 
@@ -88,15 +90,16 @@ module _ (Lv Lf : ℕ → ℕ) (s : State) (t past : List ℕ) where
       replay : Replayed D t past (reverse past) Lv Lf
       replay = replayed D t past trail (right base-standing)
 
-      rebuilt : build (baseState D) base [] (kernelsOf s past) ≡ gives s t past
+      rebuilt : build (baseState D base) base [] (kernelsOf s past) ≡ gives s t past
       unfolding kernelsOf
       rebuilt =
           let (layered, rising) = shaped-iff s past .0 (P .shape) in
           let marks = take (s .levels) (s .ends) in
           let used = length-take-le (s .levels) (s .ends) (let h = layered .sixty-four in let k = layered .most in omega arith) in
           let goes = goes-base D t past [] t trail (replay .tells .0 (P .vertices, P .faces)) refl in
-          goes-build (baseState D) refl base [] 0 refl marks (reverse past) t (let h = layered .most in omega arith) rising goes
-          ∙ ap₂ (λ z new. gives z t new) (layered-told s past layered) (reverse-reverse past)
+          goes-build (baseState D base) refl base [] (record { vertices = refl; faces = refl }) 0 refl marks (reverse past) t (let h = layered .most in omega arith) rising goes
+          ∙ ap (λ new. gives (raisedBy (baseState D base) marks t new) t new) (reverse-reverse past)
+          ∙ ap (λ z. gives z t past) (layered-told s base t past layered N)
 
       passed-pyramid : Pyramid s t past
       passed-pyramid = record {
@@ -131,10 +134,21 @@ module _ (Lv Lf : ℕ → ℕ) (s : State) (t past : List ℕ) where
         }
 
     -- THE TESTS HOLD EXACTLY OF PYRAMIDS
-    pub tests-decide : T (tested Lv Lf s t past) ↔ Pyramid s t past
-    tests-decide = (λ h. passed-pyramid (passed-iff Lv Lf s t past .0 h), λ P. passed-iff Lv Lf s t past .1 (pyramid-passed P))
+    pub tests-decide : (T (tested Lv Lf s t past) × Stores s t past) ↔ Pyramid s t past
+    tests-decide = (
+      λ (h, N). passed-pyramid (passed-iff Lv Lf s t past .0 h) N,
+      λ P. (passed-iff Lv Lf s t past .1 (pyramid-passed P), pyramid-built P .stored),
+    )
 
     -- THE MERGED LABELS ARE RIGHT AT THE TOP
     pub top-labelled : Pyramid s t past
         → Labelled (mapOf D t past) (relabelled contraction Lv (reverse past)) (relabelled removal Lf (reverse past))
     top-labelled P = pyramid-replayed P .labels (pyramid-shaped P .sound .legal)
+
+-- THE SAME OF THE FIGURES ALONE: the tests do not look at the numbers
+module _ (Lv Lf : ℕ → ℕ) (s : State) (t past : List ℕ) (right : Standing (s .darts) (baseOf s t past) [] → Labelled (mapOf (s .darts) (baseOf s t past) []) Lv Lf) where
+  pub figures-decide : T (tested Lv Lf s t past) ↔ Pyramid (counted s t past) t past
+  unfolding tested shaped
+  figures-decide =
+      let i = tests-decide Lv Lf (counted s t past) t past right in
+      (λ h. i .0 (h, record { vertices = refl; faces = refl }), λ P. i .1 P .0)

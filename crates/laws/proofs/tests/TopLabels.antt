@@ -10,6 +10,7 @@ use Rattle.permutations.specs.Labels.{Labels}
 use Rattle.darts.specs.Operation.{Kind, contraction, removal}
 use Rattle.darts.specs.State.{State}
 use Rattle.darts.specs.Pyramid.{Pyramid}
+use Rattle.laws.proofs.runs.Ends.{Stores}
 use Rattle.laws.specs.Standing.{mapOf, Standing, cyclesOf}
 use Rattle.laws.proofs.bridge.Standing.{live}
 use Rattle.darts.specs.Tests.{relabelled, tested}
@@ -31,7 +32,7 @@ module _ (s : State) (t past : List ℕ) where
   walked-right removal S = lowest-labels (face-perm (S .good)) (live D [])
 
   -- THE TESTS DECIDE, WITH NO LABELS GIVEN
-  pub walked-decide : T (tested (walked contraction s t past) (walked removal s t past) s t past) ↔ Pyramid s t past
+  pub walked-decide : (T (tested (walked contraction s t past) (walked removal s t past) s t past) × Stores s t past) ↔ Pyramid s t past
   walked-decide =
       tests-decide (walked contraction s t past) (walked removal s t past) s t past
       (λ S. record { vertex = walked-right contraction S; side = walked-right removal S })

@@ -15,11 +15,11 @@ use mathlib.Core.Path.{_≡_, refl, sym, ap, _∙_}
 use Prim.Native.Nat.{ℕ, _<_}
 use native.Mathlib.Omega.{arith}
 use lib.Dec.{T}
-use lib.ListN.{length}
+use lib.ListN.{length, take}
 use Rattle.permutations.specs.Choice.{T?, eqb-same, eqb-other}
 use Rattle.darts.specs.Answers.{Answer, answered, done, noDartCount, tooShort, noPermutation, unfitRecord}
 use Rattle.darts.specs.Map.{Verdict, permutes, culprits, permutationTest}
-use Rattle.darts.specs.State.{baseState}
+use Rattle.darts.specs.State.{zeros, baseState}
 use Rattle.darts.specs.Pyramid.{dartCount}
 use Rattle.darts.specs.Calls.{After, leaves, cleared, begins, start}
 use Rattle.darts.proofs.Fitting.{Count, Lengths, count-facts, count-test}
@@ -45,17 +45,17 @@ pub record Sixteen (D : ℕ) (t : List ℕ) (S : Sheets) (a : Answer) : Type 0 w
   pub second : a .second ≡ 0
 
 pub data Starting (D : ℕ) (t h w : List ℕ) (S : Sheets) : Type 0 where
-  noCount : ¬ (Count D) → startWith D t h w S .plain ≡ leaves noDartCount (baseState 0) t h w → Starting D t h w S
-  noRoom : Count D → ¬ (Fits D t h w S) → startWith D t h w S .plain ≡ leaves tooShort (baseState 0) t h w → Starting D t h w S
+  noCount : ¬ (Count D) → startWith D t h w S .plain ≡ leaves noDartCount zeros t h w → Starting D t h w S
+  noRoom : Count D → ¬ (Fits D t h w S) → startWith D t h w S .plain ≡ leaves tooShort zeros t h w → Starting D t h w S
   noBase : Fits D t h w S → {d c : ℕ} → permutationTest D t ≡ culprits d c
-      → startWith D t h w S .plain ≡ leaves (noPermutation d c) (baseState 0) t h (cleared D w) → Starting D t h w S
+      → startWith D t h w S .plain ≡ leaves (noPermutation d c) zeros t h (cleared D w) → Starting D t h w S
   noFit : Fits D t h w S → permutationTest D t ≡ permutes → {x : ℕ} → FirstUnfit D t S x
-      → startWith D t h w S .plain ≡ leaves (unfitRecord x) (baseState 0) t h (cleared D w) → Starting D t h w S
+      → startWith D t h w S .plain ≡ leaves (unfitRecord x) zeros t h (cleared D w) → Starting D t h w S
   base : Fits D t h w S → permutationTest D t ≡ permutes → Fit D t S
-      → startWith D t h w S .plain ≡ leaves done (baseState D) t h (cleared D w) → Starting D t h w S
+      → startWith D t h w S .plain ≡ leaves done (baseState D (take D t)) t h (cleared D w) → Starting D t h w S
 
 module _ (D : ℕ) (t h w : List ℕ) (S : Sheets) where
-  unfit : {a : Answer} → fittingOf D t h w S ≡ a → a .number ≢ 0 → startWith D t h w S .plain ≡ leaves a (baseState 0) t h w
+  unfit : {a : Answer} → fittingOf D t h w S ≡ a → a .number ≢ 0 → startWith D t h w S .plain ≡ leaves a zeros t h w
   unfolding startWith
   unfit e n = rw (e, eqb-other n)
 
@@ -90,7 +90,7 @@ module _ (D : ℕ) (t h w : List ℕ) (S : Sheets) where
       firsts (λ n. so (unfit (fitting-one D t h w S n) (λ z. omega arith))) (λ c n. so (unfit (fitting-two D t h w S c n) (λ z. omega arith)))
       (λ c n. so (unfit (fitting-narrow D t h w S c n) (λ z. omega arith)))
     where
-      so : {n : ℕ} → startWith D t h w S .plain ≡ leaves (answered n 0) (baseState 0) t h w → Answers (startWith D t h w S .plain .answer) n 0
+      so : {n : ℕ} → startWith D t h w S .plain ≡ leaves (answered n 0) zeros t h w → Answers (startWith D t h w S .plain .answer) n 0
       so e = answers (ap (λ (r : After). r .answer) e)
 
   -- ---- the plain start
@@ -163,10 +163,10 @@ module _ (D : ℕ) (t h w : List ℕ) (S : Sheets) where
   -- ---- what it leaves
 
   -- "A refused start .. hands back a state of zeros."
-  pub start-refused : startWith D t h w S .plain .answer .number ≢ 0 → startWith D t h w S .plain .state ≡ baseState 0
+  pub start-refused : startWith D t h w S .plain .answer .number ≢ 0 → startWith D t h w S .plain .state ≡ zeros
   start-refused n = go starting
     where
-      go : Starting D t h w S → startWith D t h w S .plain .state ≡ baseState 0
+      go : Starting D t h w S → startWith D t h w S .plain .state ≡ zeros
       go (noCount m e) = rw e
       go (noRoom c m e) = rw e
       go (noBase F m e) = rw e

@@ -5,7 +5,6 @@ use lib.ListN.{length}
 use Rattle.darts.specs.Answers.{Answer}
 use Rattle.grids.specs.Grid.{flat}
 use Rattle.grids.specs.Plans.{fittingPlan, planBase}
-use Rattle.grids.specs.Stored.{planStored}
 use Rattle.plans.proofs.Fits.{fitted, fitted-room}
 use Rattle.plans.proofs.Limits.{sized-facts}
 use Rattle.plans.proofs.Planned.{plan-refused, base-begun}
@@ -22,7 +21,7 @@ unbased-requires : tie.Need-unbased-requires
 unbased-requires c κs = search needs
 
 returns : tie.Need-returns
-unfolding planStored planBase
+unfolding planBase
 returns c =
     let g = c .before .before .before .before .before .before .before .before .args in
     let f = c .before .before .before .fit-plan .ensures in

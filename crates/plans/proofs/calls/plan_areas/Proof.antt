@@ -8,10 +8,9 @@ use Rattle.darts.specs.declared.Answer.the-variants.{Done}
 use Rattle.engine.specs.Runs.{Went}
 use Rattle.grids.specs.Grid.{flat, dartsOf}
 use Rattle.grids.specs.Plans.{fittingPlan, firstKernel, planAreas}
-use Rattle.grids.specs.Stored.{areasStored}
 use Rattle.plans.proofs.Fits.{fitted, fitted-room}
 use Rattle.plans.proofs.Limits.{sized-facts}
-use Rattle.plans.proofs.Planned.{plan-refused, base-state}
+use Rattle.plans.proofs.Planned.{plan-refused}
 use Rattle.plans.proofs.Areas.{areas-room, areas-halts, areas-none, areas-level, areas-settles, areas-settled}
 use Rattle.plans.proofs.calls.plan_areas.Statement.{statement}
 use Rattle.plans.proofs.calls.plan_areas.Tie as tie
@@ -26,7 +25,7 @@ unbased-requires : tie.Need-unbased-requires
 unbased-requires c κs = search needs
 
 returns : tie.Need-returns
-unfolding areasStored planAreas
+unfolding planAreas
 returns c =
     let g = c .before .before .before .before .before .before .before .before .args in
     let f = c .before .before .before .fit-plan .ensures in
@@ -93,7 +92,7 @@ level-requires c κs =
     let e = k .before .before .before in
     let g = e .before .before .before .before .before .before .before .args in
     let G = flat (g .wales) (g .courses) in
-    areas-halts G (g .plan .now) (g .table .now) (g .history .now) (g .work .now) (fits e) (went k) _ (base-state G (b .base-of .result) (b .base-of .ensures))
+    areas-halts G (g .plan .now) (g .table .now) (g .history .now) (g .work .now) (fits e) (went k) _ (b .base-of .ensures .state)
 
 clear-requires-2 : tie.Need-clear-requires-2
 clear-requires-2 c κs =
@@ -115,7 +114,7 @@ settle-requires c κs =
     let H = b .base-of .ensures in
     let o = l .level .result in
     areas-settles G (g .plan .now) (g .table .now) (g .history .now) (g .work .now) (fits e) (went k) some o
-    (areas-level G (g .plan .now) (g .table .now) (g .history .now) (g .work .now) (fits e) (went k) _ (base-state G (b .base-of .result) H) o some
+    (areas-level G (g .plan .now) (g .table .now) (g .history .now) (g .work .now) (fits e) (went k) _ (H .state) o some
     (l .level .ensures))
     (H .state)
 
@@ -141,7 +140,7 @@ returns-3 c =
     let o = l .level .result in
     rw (c .before .before .before .before .clear2 .ensures, k .before .before .darts-of .ensures)
     (areas-settled G (g .plan .now) (g .table .now) (g .history .now) (g .work .now) (fits e) (went k) some o
-    (areas-level G (g .plan .now) (g .table .now) (g .history .now) (g .work .now) (fits e) (went k) _ (base-state G (b .base-of .result) H) o some
+    (areas-level G (g .plan .now) (g .table .now) (g .history .now) (g .work .now) (fits e) (went k) _ (H .state) o some
     (l .level .ensures))
     (H .state) (c .settle .ensures))
 

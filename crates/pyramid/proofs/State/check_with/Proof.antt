@@ -40,7 +40,7 @@ returns-2 c =
     let e = c .before .before .before .before .before .before .before in
     let same = c .before .before .before .before .before .figures .ensures in
     let found = c .before .before .before .before .note-check .ensures in
-    check-yes _ (e .before .before .fit-with .ensures) (fine e) (noted-of same (found .0)) (cycles-with same _ _ (found .1)) (c .before .stores .ensures) (c .if2 .taken)
+    check-yes _ (e .before .before .fit-with .ensures) (fine e) (noted-of same (found .0)) (cycles-with _ same _ _ (found .1)) (c .before .stores .ensures) (c .if2 .taken)
 
 cast-clear : tie.Need-cast-clear
 cast-clear c = search needs
@@ -59,7 +59,7 @@ returns-3 c =
     let same = c .before .before .before .before .before .before .before .before .before .before .figures .ensures in
     let found = c .before .before .before .before .before .before .before .before .before .note-check .ensures in
     rw (c .before .before .clear .ensures)
-    (check-no _ (e .before .before .fit-with .ensures) (fine e) (noted-of same (found .0)) (cycles-with same _ _ (found .1)) (c .before .before .before .before .before .before .stores .ensures) (c .before .before .before .before .before .if2 .left))
+    (check-no _ (e .before .before .fit-with .ensures) (fine e) (noted-of same (found .0)) (cycles-with _ same _ _ (found .1)) (c .before .before .before .before .before .before .stores .ensures) (c .before .before .before .before .before .if2 .left))
 
 pub check-with-spec : {M : Type 1} → statement M
 check-with-spec = tie.close (tie.spec fit-with-requires number-requires returns figures-requires note-check-requires stores-requires same-length returns-2 cast-clear clear-requires same-length-2 returns-3)

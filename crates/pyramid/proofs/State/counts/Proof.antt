@@ -2,8 +2,9 @@
 use mathlib.Core.Path.{_≡_, _∙_, sym, refl}
 use native.Mathlib.Omega.{arith}
 use Rattle.darts.specs.Cases.{answerOf}
-use Rattle.laws.proofs.moves.Stored.{stored-most}
+use Rattle.laws.proofs.calls.Numbers.{pyramid-most}
 use Rattle.pyramid.proofs.CountsEnd.{counts-refused, counts-given}
+use Rattle.pyramid.proofs.Judges.{lent-of}
 use borrow.Author.Needs.{needs}
 use Rattle.pyramid.proofs.State.counts.Statement.{statement}
 use Rattle.pyramid.proofs.State.counts.Tie as tie
@@ -45,7 +46,7 @@ cast-n c = search needs
 clear-requires : tie.Need-clear-requires
 clear-requires c κs =
     let e = c .before .before .before in
-    e .before .before .before .before .judged .ensures .judged (fine e) .checked refl .area refl .room
+    e .before .before .before .before .judged .ensures .checked (fine e) .area refl .room
 
 mul-darts : tie.Need-mul-darts
 mul-darts c = search needs
@@ -53,7 +54,7 @@ mul-darts c = search needs
 sub-darts : tie.Need-sub-darts
 sub-darts c =
     let e = c .before .before .before .before .before .before in
-    let A = e .before .before .before .before .judged .ensures .judged (fine e) .checked refl .area refl in
+    let A = e .before .before .before .before .judged .ensures .checked (fine e) .area refl in
     let k = A .few in
     let m = A .room .small in
     omega arith
@@ -65,8 +66,8 @@ tallied-requires : tie.Need-tallied-requires
 tallied-requires c κs =
     let e = c .before .before .before .before .before .before in
     let J = e .before .before .before .before .judged .ensures in
-    let m = J .judged (fine e) .checked refl .area refl .room .small in
-    let M = stored-most (J .stores (fine e)) in
+    let m = J .checked (fine e) .area refl .room .small in
+    let M = pyramid-most (lent-of J (fine e) .pyramid) in
     let x = M .vertices in
     let y = M .faces in
     (omega arith, omega arith, omega arith)

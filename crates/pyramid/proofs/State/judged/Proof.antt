@@ -2,7 +2,7 @@
 use mathlib.Core.Path.{_≡_, _∙_, sym}
 use Rattle.darts.specs.Cases.{answerOf}
 use Rattle.engine.proofs.Area.{room-kept}
-use Rattle.pyramid.proofs.Judges.{check-fits, fits-with, checked-with, cycles-with, stored-first, stored-no, stored-yes}
+use Rattle.pyramid.proofs.Judges.{check-fits, fits-with, checked-with, cycles-with, judged-first, judged-no, judged-yes}
 use borrow.Author.Needs.{needs}
 use Rattle.pyramid.proofs.State.judged.Statement.{statement}
 use Rattle.pyramid.proofs.State.judged.Tie as tie
@@ -14,7 +14,7 @@ number-requires : tie.Need-number-requires
 number-requires c κs = search needs
 
 returns : tie.Need-returns
-returns c = stored-first _ (c .before .before .fit .ensures) (λ z. c .if1 .taken (c .before .number .ensures ∙ z))
+returns c = judged-first (c .before .before .fit .ensures) (λ z. c .if1 .taken (c .before .number .ensures ∙ z))
 
 -- 1 and 2 are past
 fine : (c : tie.Else1) → answerOf (c .before .before .fit .result) .number ≡ 0
@@ -39,7 +39,7 @@ returns-2 c =
     let e = c .before .before .before .before .before .before .before in
     let same = c .before .before .before .before .before .figures .ensures in
     let found = c .before .before .before .before .check .ensures in
-    stored-yes _ (e .before .before .fit .ensures) (fine e) (checked-with same (found .0)) (cycles-with same _ _ (found .1)) (c .before .stores .ensures) (c .if2 .taken)
+    judged-yes (e .before .before .fit .ensures) (fine e) (checked-with same (found .0)) (cycles-with _ same _ _ (found .1)) (c .before .stores .ensures) (c .if2 .taken)
 
 cast-clear : tie.Need-cast-clear
 cast-clear c = search needs
@@ -58,7 +58,7 @@ returns-3 c =
     let same = c .before .before .before .before .before .before .before .before .before .before .figures .ensures in
     let found = c .before .before .before .before .before .before .before .before .before .check .ensures in
     rw (c .before .before .clear .ensures)
-    (stored-no _ (e .before .before .fit .ensures) (fine e) (checked-with same (found .0)) (cycles-with same _ _ (found .1)) (c .before .before .before .before .before .before .stores .ensures) (c .before .before .before .before .before .if2 .left))
+    (judged-no (e .before .before .fit .ensures) (fine e) (checked-with same (found .0)) (cycles-with _ same _ _ (found .1)) (c .before .before .before .before .before .before .stores .ensures) (c .before .before .before .before .before .if2 .left))
 
 pub judged-spec : {M : Type 1} → statement M
 judged-spec =

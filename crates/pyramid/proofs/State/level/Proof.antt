@@ -53,7 +53,7 @@ returns-3 c =
     let d = c .before .before .before .before .before .store .ensures in
     rw (d .0, d .1)
     (level-raised _ _ _ _ _ (e .before .before .before .before .before .before .before .pre) (sym (e .before .number .ensures) ∙ e .if1 .left) (record { state = c .raised .result; answer = Done 0 })
-    (f .if2 .left) (record { answer = refl; state = c .raised .ensures }))
+    (f .if2 .left) refl (c .raised .ensures))
 
 pub level-spec : {M : Type 1} → statement M
 level-spec =

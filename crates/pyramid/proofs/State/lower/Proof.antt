@@ -47,8 +47,8 @@ returns : tie.Need-returns
 returns c =
     let g = c .before .before .before .before .before .before .before .before .before .args in
     let p = c .before .before .before .before .before .before .before .before .before .pre in
-    lowered-level (stateOf (g .self)) (g .work .now) (p .0) (p .1) (stateOf (c .lowered .result)) (c .lowered .ensures) (c .before .before .before .take-back .last .0)
-    (rw (c .before .before .before .before .before .end-below .ensures) at (c .before .before .before .take-back .ensures))
+    lowered-level (stateOf (g .self)) (g .work .now) (p .0) (p .1) (c .before .before .before .take-back .last .0)
+    (rw (c .before .before .before .before .before .end-below .ensures) at (c .before .before .before .take-back .ensures)) (stateOf (c .lowered .result)) (c .lowered .ensures)
 
 pub lower-spec : {M : Type 1} → statement M
 lower-spec =

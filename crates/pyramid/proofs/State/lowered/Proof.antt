@@ -24,7 +24,7 @@ sub-t5 c = search needs
 
 returns : tie.Need-returns
 unfolding lowered
-returns c = rw (c .before .before .before .end-below .ensures)
+returns c = λ t past. rw (c .before .before .before .end-below .ensures)
 
 pub lowered-spec : {M : Type 1} → statement M
 lowered-spec =

@@ -1,5 +1,4 @@
 -- `pyramid::State::raised` meets its contract: one place of the ends is changed.
-use mathlib.Core.Path.{refl}
 use Rattle.darts.specs.State.{raised}
 use borrow.Author.Needs.{needs}
 use Rattle.pyramid.proofs.State.raised.Statement.{statement}
@@ -19,7 +18,7 @@ add-t8 c = search needs
 
 returns : tie.Need-returns
 unfolding raised
-returns c = refl
+returns c = λ t new e. rw e
 
 pub raised-spec : {M : Type 1} → statement M
 raised-spec = tie.close (tie.spec cast-at mul-ends array-write-ends add-t8 returns)

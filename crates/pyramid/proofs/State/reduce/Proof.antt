@@ -1,7 +1,7 @@
 -- `pyramid::State::reduce` meets its contract: what is judged first, or what comes once it is judged, its numbers put right.
-use mathlib.Core.Path.{_≡_, _∙_, sym, refl}
+use mathlib.Core.Path.{_≡_, _∙_, sym}
 use Rattle.darts.specs.Cases.{answerOf}
-use Rattle.darts.specs.Stored.{reduceStored}
+use Rattle.darts.specs.Calls.{reduceBy}
 use Rattle.laws.proofs.chained.OnLent.{byKernel}
 use Rattle.pyramid.specs.Values.{kindOf}
 use Rattle.pyramid.proofs.Judges.{stood-of}
@@ -34,7 +34,7 @@ same-length-3 : tie.Need-same-length-3
 same-length-3 c = search needs
 
 returns : tie.Need-returns
-unfolding reduceStored
+unfolding reduceBy
 returns c =
     call-refused _ (c .before .before .before .before .before .judged .ensures) (λ z. c .before .if1 .taken (c .before .before .number .ensures ∙ z)) (c .kept .ensures)
 
@@ -45,7 +45,7 @@ fine c = sym (c .before .number .ensures) ∙ c .if1 .left
 reduce-judged-requires : tie.Need-reduce-judged-requires
 reduce-judged-requires c κs =
     let e = c .before .before .before in
-    (e .before .before .before .before .before .before .before .before .bit .ensures .0, stood-of (e .before .before .before .before .judged .ensures .judged (fine e)) refl)
+    (e .before .before .before .before .before .before .before .before .bit .ensures .0, stood-of (e .before .before .before .before .judged .ensures) (fine e))
 
 settle-requires : tie.Need-settle-requires
 settle-requires c κs =

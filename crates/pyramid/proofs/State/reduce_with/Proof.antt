@@ -1,7 +1,7 @@
 -- `pyramid::State::reduce_with` meets its contract: what is judged first, or a kernel of contractions, or one of removals, which leaves both sheets, and then the numbers put right. `Lts` and `Tie` are copies (tools/twin.py).
 mod Lts
 mod Tie
-use mathlib.Core.Path.{_≡_, refl, sym, _∙_}
+use mathlib.Core.Path.{_≡_, sym, _∙_}
 use Rattle.darts.specs.Calls.{reduceBy}
 use Rattle.darts.specs.Cases.{answerOf}
 use Rattle.darts.specs.Operation.{contraction, removal}
@@ -11,7 +11,7 @@ use Rattle.yarn.specs.Calls.{reduceWith}
 use Rattle.yarn.proofs.sentences.Removals.{removing-sheets}
 use Rattle.pyramid.proofs.ByRun.{plain-reduce}
 use Rattle.pyramid.proofs.JudgesWith.{righted-of}
-use Rattle.pyramid.proofs.OnSheets.{with-left, with-contract, stored-refused, stored-settles, stored-settled}
+use Rattle.pyramid.proofs.OnSheets.{with-left, with-contract, with-refused, with-settles, with-settled}
 use Rattle.pyramid.specs.Values.{kindOf}
 use borrow.Author.Needs.{needs}
 use Rattle.pyramid.proofs.State.reduce_with.Statement.{statement}
@@ -44,7 +44,7 @@ same-length-5 c = search needs
 returns : tie.Need-returns
 returns c =
     let g = c .before .before .before .before .before .before .before .before .before .before .before .before .before .before .before .args in
-    stored-refused (byKernel (record { kind = kindOf (g .kind); edges = g .kernel .now })) (c .before .before .before .before .before .judged-with .ensures) (λ z. c .before .if1 .taken (c .before .before .number .ensures ∙ z)) (c .kept .ensures)
+    with-refused (byKernel (record { kind = kindOf (g .kind); edges = g .kernel .now })) (c .before .before .before .before .before .judged-with .ensures) (λ z. c .before .if1 .taken (c .before .before .number .ensures ∙ z)) (c .kept .ensures)
 
 -- judged, and done
 fine : (c : tie.Else1) → answerOf (c .before .before .before .before .judged-with .result) .number ≡ 0
@@ -56,8 +56,8 @@ enum-told c = search needs
 contract-with-requires : tie.Need-contract-with-requires
 contract-with-requires c κs =
     let e = c .before .before .before .before .before .before .before in
-    let j = e .before .before .before .before .judged-with .ensures .judged (fine e) in
-    (j .stood refl, righted-of j refl)
+    let j = e .before .before .before .before .judged-with .ensures in
+    (j .stood (fine e), righted-of j (fine e))
 
 settle-requires : tie.Need-settle-requires
 settle-requires c κs =
@@ -65,7 +65,7 @@ settle-requires c κs =
     let g = e .before .before .before .before .before .before .before .before .before .before .before .before .before .before .args in
     let j = e .before .before .before .before .judged-with .ensures in
     let o = c .before .before .before .before .before .before .before .before .before .contract-with in
-    stored-settles (byKernel (record { kind = contraction; edges = g .kernel .now })) j (fine e) (o .result) (with-contract (g .kernel .now) (j .judged (fine e)) refl (o .ensures))
+    with-settles (byKernel (record { kind = contraction; edges = g .kernel .now })) j (fine e) (o .result) (with-contract (g .kernel .now) j (fine e) (o .ensures))
 
 enum-told-2 : tie.Need-enum-told-2
 enum-told-2 c = search needs
@@ -73,7 +73,7 @@ enum-told-2 c = search needs
 remove-stood-requires : tie.Need-remove-stood-requires
 remove-stood-requires c κs =
     let e = c .before .before .before .before .before in
-    e .before .before .before .before .judged-with .ensures .judged (fine e) .stood refl .stood
+    e .before .before .before .before .judged-with .ensures .stood (fine e) .stood
 
 settle-requires-2 : tie.Need-settle-requires-2
 unfolding reduceWith reduceBy
@@ -82,8 +82,8 @@ settle-requires-2 c κs =
     let g = e .before .before .before .before .before .before .before .before .before .before .before .before .before .before .args in
     let j = e .before .before .before .before .judged-with .ensures in
     let o = c .before .before .before .before .before .before .before .remove-stood in
-    stored-settles (byKernel (record { kind = removal; edges = g .kernel .now })) j (fine e) (o .result)
-    (with-left (reduce removal (g .kernel .now)) (j .judged (fine e)) refl (plain-reduce _ _ _ _ _) (o .ensures) (removing-sheets _ _ _ _ _ _))
+    with-settles (byKernel (record { kind = removal; edges = g .kernel .now })) j (fine e) (o .result)
+    (with-left (reduce removal (g .kernel .now)) j (fine e) (plain-reduce _ _ _ _ _) (o .ensures) (removing-sheets _ _ _ _ _ _))
 
 same-length-6 : tie.Need-same-length-6
 same-length-6 c = search needs
@@ -107,7 +107,7 @@ returns-2 c =
     let j = e .before .before .before .before .judged-with .ensures in
     let o = c .before .before .before .before .before .before .before .before .before .before .contract-with in
     rw (c .before .before .before .before .before .before .before .before .before .before .before .before .before .before .before .before .enum-told .given .1)
-    (stored-settled (byKernel (record { kind = contraction; edges = g .kernel .now })) j (fine e) (o .result) (with-contract (g .kernel .now) (j .judged (fine e)) refl (o .ensures)) (c .settle .ensures))
+    (with-settled (byKernel (record { kind = contraction; edges = g .kernel .now })) j (fine e) (o .result) (with-contract (g .kernel .now) j (fine e) (o .ensures)) (c .settle .ensures))
 
 same-length-11 : tie.Need-same-length-11
 same-length-11 c = search needs
@@ -132,8 +132,8 @@ returns-3 c =
     let j = e .before .before .before .before .judged-with .ensures in
     let o = c .before .before .before .before .before .before .before .before .remove-stood in
     rw (c .before .before .before .before .before .before .before .before .before .before .before .before .enum-told2 .given .1)
-    (stored-settled (byKernel (record { kind = removal; edges = g .kernel .now })) j (fine e) (o .result)
-    (with-left (reduce removal (g .kernel .now)) (j .judged (fine e)) refl (plain-reduce _ _ _ _ _) (o .ensures) (removing-sheets _ _ _ _ _ _)) (c .settle2 .ensures))
+    (with-settled (byKernel (record { kind = removal; edges = g .kernel .now })) j (fine e) (o .result)
+    (with-left (reduce removal (g .kernel .now)) j (fine e) (plain-reduce _ _ _ _ _) (o .ensures) (removing-sheets _ _ _ _ _ _)) (c .settle2 .ensures))
 
 pub reduce-with-spec : {M : Type 1} → statement M
 reduce-with-spec = tie.close (tie.spec judged-with-requires number-requires kept-requires same-length same-length-2 same-length-3 same-length-4 same-length-5 returns enum-told contract-with-requires settle-requires enum-told-2 remove-stood-requires settle-requires-2 same-length-6 same-length-7 same-length-8 same-length-9 same-length-10 returns-2 same-length-11 same-length-12 same-length-13 same-length-14 same-length-15 returns-3)

@@ -1,7 +1,7 @@
 -- `pyramid::State::unfold` meets its contract: what is judged first, or what comes once it is judged, its numbers put right.
-use mathlib.Core.Path.{_≡_, _∙_, sym, refl}
+use mathlib.Core.Path.{_≡_, _∙_, sym}
 use Rattle.darts.specs.Cases.{answerOf}
-use Rattle.darts.specs.Stored.{unfoldStored}
+use Rattle.darts.specs.Calls.{unfoldBy}
 use Rattle.laws.proofs.chained.OnLent.{toLevel}
 use Rattle.pyramid.proofs.Judges.{stood-of}
 use Rattle.pyramid.proofs.OnState.{call-refused}
@@ -30,7 +30,7 @@ same-length-3 : tie.Need-same-length-3
 same-length-3 c = search needs
 
 returns : tie.Need-returns
-unfolding unfoldStored
+unfolding unfoldBy
 returns c =
     call-refused _ (c .before .before .before .before .before .judged .ensures) (λ z. c .before .if1 .taken (c .before .before .number .ensures ∙ z)) (c .kept .ensures)
 
@@ -41,7 +41,7 @@ fine c = sym (c .before .number .ensures) ∙ c .if1 .left
 unfold-judged-requires : tie.Need-unfold-judged-requires
 unfold-judged-requires c κs =
     let e = c .before .before .before in
-    stood-of (e .before .before .before .before .judged .ensures .judged (fine e)) refl
+    stood-of (e .before .before .before .before .judged .ensures) (fine e)
 
 settle-requires : tie.Need-settle-requires
 settle-requires c κs =

@@ -11,7 +11,7 @@ use Rattle.laws.proofs.chained.OnLent.{toLevel}
 use Rattle.yarn.specs.Calls.{unfoldWith}
 use Rattle.pyramid.proofs.BackInside.{plain-unfold}
 use Rattle.pyramid.proofs.JudgesWith.{costed-of}
-use Rattle.pyramid.proofs.OnSheets.{with-done, stored-refused, stored-settles, stored-settled}
+use Rattle.pyramid.proofs.OnSheets.{with-done, with-refused, with-settles, with-settled}
 use Rattle.pyramid.proofs.Judges.{any-kind}
 use Rattle.pyramid.proofs.UnfoldedWith.{unfold-noted, unfolded-sheets}
 use borrow.Author.Needs.{needs}
@@ -45,7 +45,7 @@ same-length-5 c = search needs
 returns : tie.Need-returns
 returns c =
     let g = c .before .before .before .before .before .before .before .before .before .before .before .before .before .before .args in
-    stored-refused (toLevel (g .level)) (c .before .before .before .before .before .judged-with .ensures) (λ z. c .before .if1 .taken (c .before .before .number .ensures ∙ z)) (c .kept .ensures)
+    with-refused (toLevel (g .level)) (c .before .before .before .before .before .judged-with .ensures) (λ z. c .before .if1 .taken (c .before .before .number .ensures ∙ z)) (c .kept .ensures)
 
 -- judged, and done
 fine : (c : tie.Else1) → answerOf (c .before .before .before .before .judged-with .result) .number ≡ 0
@@ -60,7 +60,7 @@ cast-n c = search needs
 operations-at-requires : tie.Need-operations-at-requires
 operations-at-requires c κs =
     let e = c .before .before in
-    pyramid-built (e .before .before .before .before .judged-with .ensures .stores (fine e) .pyramid) .layered .most
+    pyramid-built (costed-of (e .before .before .before .before .judged-with .ensures) (fine e) .lent .pyramid) .layered .most
 
 cast-m : tie.Need-cast-m
 cast-m c = search needs
@@ -68,15 +68,15 @@ cast-m c = search needs
 put-all-back-requires : tie.Need-put-all-back-requires
 put-all-back-requires c κs =
     let e = c .before .before .before .before .before .before in
-    let j = e .before .before .before .before .judged-with .ensures .judged (fine e) in
-    let room = costed-of j refl .room in
-    let area = j .stood refl .stood .checked refl .area refl in
-    (rw (c .before .before .before .operations-at .ensures) (unfold-noted (j .stood refl) _), room .sheet, omega (arith, room .kept, area .few))
+    let j = e .before .before .before .before .judged-with .ensures in
+    let room = costed-of j (fine e) .room in
+    let area = j .stood (fine e) .stood .checked refl .area refl in
+    (rw (c .before .before .before .operations-at .ensures) (unfold-noted (j .stood (fine e)) _), room .sheet, omega (arith, room .kept, area .few))
 
 unfold-judged-requires : tie.Need-unfold-judged-requires
 unfold-judged-requires c κs =
     let e = c .before .before .before .before .before .before .before .before .before .before .before in
-    any-kind (e .before .before .before .before .judged-with .ensures .judged (fine e) .stood refl .stood)
+    any-kind (e .before .before .before .before .judged-with .ensures .stood (fine e) .stood)
 
 settle-requires : tie.Need-settle-requires
 unfolding unfoldWith unfoldBy
@@ -87,8 +87,8 @@ settle-requires c κs =
     let o = c .before .before .before .before .before .before .before .unfold-judged in
     let back = c .before .before .before .before .before .before .before .before .before .before .before .before .put-all-back .ensures in
     let at = c .before .before .before .before .before .before .before .before .before .before .before .before .before .before .before .before .operations-at .ensures in
-    stored-settles (toLevel (g .level)) j (fine e) (o .result)
-    (with-done (unfoldTo (g .level)) (j .judged (fine e)) refl (plain-unfold _ _ _ _) (o .ensures) (sym back ∙ rw at (unfolded-sheets (j .judged (fine e) .stood refl) _ _)))
+    with-settles (toLevel (g .level)) j (fine e) (o .result)
+    (with-done (unfoldTo (g .level)) j (fine e) (plain-unfold _ _ _ _) (o .ensures) (sym back ∙ rw at (unfolded-sheets (j .stood (fine e)) _ _)))
 
 same-length-6 : tie.Need-same-length-6
 same-length-6 c = search needs
@@ -114,8 +114,8 @@ returns-2 c =
     let o = c .before .before .before .before .before .before .before .before .unfold-judged in
     let back = c .before .before .before .before .before .before .before .before .before .before .before .before .before .put-all-back .ensures in
     let at = c .before .before .before .before .before .before .before .before .before .before .before .before .before .before .before .before .before .operations-at .ensures in
-    stored-settled (toLevel (g .level)) j (fine e) (o .result)
-    (with-done (unfoldTo (g .level)) (j .judged (fine e)) refl (plain-unfold _ _ _ _) (o .ensures) (sym back ∙ rw at (unfolded-sheets (j .judged (fine e) .stood refl) _ _)))
+    with-settled (toLevel (g .level)) j (fine e) (o .result)
+    (with-done (unfoldTo (g .level)) j (fine e) (plain-unfold _ _ _ _) (o .ensures) (sym back ∙ rw at (unfolded-sheets (j .stood (fine e)) _ _)))
     (c .settle .ensures)
 
 pub unfold-with-spec : {M : Type 1} → statement M

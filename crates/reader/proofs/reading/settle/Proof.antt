@@ -67,7 +67,7 @@ returns-2 c =
     let k = d .check-laid .ensures in
     let yes = e .before .before .before .before .if2 .taken in
     record {
-      whole = λ z H v. settle-all H (g .table .now) (g .history .now) v (d .before .before .if1 .left) (k .0) yes (e .accept .ensures) (s .pre .0) (k .1 yes);
+      whole = λ z H v. settle-all H (g .table .now) (g .history .now) v (d .before .before .if1 .left) (k .0) yes (e .accept .ensures) (k .1 yes);
       beyond = k .0 .beyond;
     }
 

@@ -1,5 +1,5 @@
 -- `writer::writing::write` meets its contract: what is judged first, or the file, or what it needs.
-use mathlib.Core.Path.{_≡_, refl, sym, _∙_}
+use mathlib.Core.Path.{_≡_, sym, _∙_}
 use native.Mathlib.Omega.{arith}
 use Rattle.darts.specs.Cases.{answerOf}
 use Rattle.pyramid.proofs.Judges.{room-then, stacked-of}
@@ -35,7 +35,7 @@ fine c = sym (c .before .number .ensures) ∙ c .if1 .left
 write-inside-requires : tie.Need-write-inside-requires
 write-inside-requires c κs =
     let e = c .before .before in
-    stacked-of (e .before .before .before .before .judged .ensures .judged (fine e)) refl
+    stacked-of (e .before .before .before .before .judged .ensures) (fine e)
 
 cast-clear : tie.Need-cast-clear
 cast-clear c = search needs
@@ -44,7 +44,7 @@ clear-requires : tie.Need-clear-requires
 clear-requires c κs =
     let w = c .before .before .before .before .before .before in
     let e = w .before .before .before in
-    room-then (e .before .before .before .before .judged .ensures .judged (fine e)) refl (w .write-inside .ensures .1)
+    room-then (e .before .before .before .before .judged .ensures) (fine e) (w .write-inside .ensures .1)
 
 enum-known-written : tie.Need-enum-known-written
 enum-known-written c = search needs
