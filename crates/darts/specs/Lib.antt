@@ -19,4 +19,4 @@ pub mod Moves
 pub mod Worked
 pub mod WorkedLent
 pub mod WorkedPass
-pub mod WorkedStored
+pub mod WorkedNumbers

@@ -1,10 +1,10 @@
--- K1 to K12 of document 01, "Worked by hand", and its expected slips, as one table of calls under one claim.
+-- K1 to K12 of document 01, "Worked by hand", its expected slips, and the numbers that a state stores, as one table of calls under one claim.
 --   Step          == a call that a row makes on the way
 --   Row           == one worked example: what is called, and what it leaves
 --   right r       == the definitions give what the row says
 --   table         == the rows of K1 to K12, and of the slips
 --   worked        == all of them are right
-use mathlib.Core.Bool.{Bool, true, false, _&&_, Bool·beq}
+use mathlib.Core.Bool.{Bool, true, false, _&&_, _||_, Bool·beq}
 use mathlib.Core.List.{List, [], _∷_, _++_}
 use mathlib.Core.Path.{_≡_, refl}
 use Prim.Native.Nat.{ℕ, _+_, _/_, _*_}
@@ -18,7 +18,8 @@ use Rattle.darts.specs.Answers.{Answer}
 use Rattle.darts.specs.Map.{successor, faceNext, sameVertex, sameFace, samePiece, gone, survives, beforeIn, before, repeats, culprit, testFrom, permutationTest}
 use Rattle.darts.specs.Operation.{contraction, removal, turned, lead, wholeEdge, remove, contract, operate, number, kindOf, leadOf, edgeOf, putBack, undoOne, undone}
 use Rattle.darts.specs.Kernel.{shared, judge, rising, passFrom, pass, run}
-use Rattle.darts.specs.State.{raised, levelled, reduce}
+use Rattle.darts.specs.Choose.{if_then_else_}
+use Rattle.darts.specs.State.{State, zeros, baseState, raised, levelled, reduce}
 use Rattle.darts.specs.Levels.{emptyLoop, takes, sweptFrom, swept, sweep, endBelow, lowered, undoLevel, undoLevels, unfoldTo}
 use Rattle.darts.specs.Pyramid.{dartCount, build, kernelOf, cut, kernelsOf, sameNumbers, sameState, isExactly, isPyramid}
 use Rattle.darts.specs.Counts.{neverBelow, lowest, cycles, surviving, countsOf}
@@ -35,17 +36,17 @@ pub data Step : Type 0 where
   toLevel : ℕ → Step
 
 pub data Row : Type 0 where
-  -- start from a table: the answer's number, place and second place
+  -- start from a table: the answer's number, place and second place; a refused one hands back zeros
   starts : List ℕ → ℕ → ℕ → ℕ → Row
-  -- start, some steps: the last one's number and place, and the table and history left
-  leads : List ℕ → List Step → ℕ → ℕ → List ℕ → List ℕ → Row
-  -- start, some steps, counts: surviving darts, vertices, faces, the Euler number
+  -- start, some steps: the last one's number and place; levels, vertices and faces of the state; and the table and history left
+  leads : List ℕ → List Step → ℕ → ℕ → ℕ → ℕ → ℕ → List ℕ → List ℕ → Row
+  -- start, some steps, counts: surviving darts, vertices, faces, the Euler number; the state stores the two in the middle
   counted : List ℕ → List Step → ℕ → ℕ → ℕ → ℤ → Row
   -- start, some steps, write: the file
   writes : List ℕ → List Step → String → Row
-  -- read a file, unfold to a level, counts
+  -- read a file, unfold to a level, counts: the same
   reads : String → ℕ → ℕ → ℕ → ℕ → ℤ → Row
-  -- read a file: the answer's number and place
+  -- read a file: the answer's number and place; a refused one hands back zeros
   answersFile : String → ℕ → ℕ → Row
   -- two darts of a base, and whether they are in one piece
   pieces : List ℕ → ℕ → ℕ → Bool → Row
@@ -88,6 +89,10 @@ countsAre n d v f x c =
     answers n 0 (c .answer) && (eqb (c .counts .darts) d && (eqb (c .counts .vertices) v
     && (eqb (c .counts .faces) f && sameℤ (c .counts .euler) x)))
 
+-- "Store both numbers in the state."
+abbrev numbersAre : ℕ → ℕ → State → Bool
+numbersAre v f s = eqb (s .vertices) v && eqb (s .faces) f
+
 -- the history numbers that count
 abbrev historyOf : After → List ℕ
 historyOf a = take (a .state .operations) (a .history)
@@ -101,14 +106,20 @@ abbrev pub reading : String → After
 reading f = read (bytes f) (replicate 8 9) (replicate 4 9) (replicate 32 9)
 
 abbrev right : Row → Bool
-right (starts t n p s) = answersBoth n p s (started t .answer)
-right (leads t ss n p u h) =
+right (starts t n p s) = answersBoth n p s (started t .answer) && sameState (started t .state) (if eqb n 0 then baseState (length t) t else zeros)
+right (leads t ss n p l v f u h) =
     let a : After = steps ss (started t) in
-    answers n p (a .answer) && (sameNumbers (a .table) u && sameNumbers (historyOf a) h)
-right (counted t ss d v f x) = countsAre 0 d v f x (counting (steps ss (started t)))
+    answers n p (a .answer)
+    && (eqb (a .state .levels) l
+    && (numbersAre v f (a .state) && (sameNumbers (a .table) u && sameNumbers (historyOf a) h)))
+right (counted t ss d v f x) =
+    let a : After = steps ss (started t) in
+    numbersAre v f (a .state) && countsAre 0 d v f x (counting a)
 right (writes t ss f) = isWritten f (steps ss (started t))
-right (reads f k d v e x) = countsAre 0 d v e x (counting (stepped (toLevel k) (reading f)))
-right (answersFile f n p) = answers n p (reading f .answer)
+right (reads f k d v e x) =
+    let a : After = stepped (toLevel k) (reading f) in
+    numbersAre v e (a .state) && countsAre 0 d v e x (counting a)
+right (answersFile f n p) = answers n p (reading f .answer) && (eqb n 0 || sameState (reading f .state) zeros)
 right (pieces t x y b) = Bool·beq (samePiece (length t) t x y) b
 right (sides t e l f) = Bool·beq (emptyLoop t e) l && Bool·beq (sameFace (length t) t (2 * e) (2 * e + 1)) f
 
@@ -132,40 +143,65 @@ K12 = "numbers=0\ndarts=8\nlevels=2\nkernel=contract 2\nkernel=remove 1\npair=4 
 abbrev pub fromOne : String
 fromOne = "numbers=1\ndarts=8\nlevels=2\nkernel=contract 2\nkernel=remove 1\npair=5 3\npair=5 6\npair=6 7\npair=7 8\n"
 
+-- two loops that cross: one vertex and one face
+abbrev pub torus : List ℕ
+torus = 2 ∷ 3 ∷ 1 ∷ 0 ∷ []
+
+-- two such pairs at one vertex, one after the other
+abbrev twoTori : List ℕ
+twoTori = 2 ∷ 3 ∷ 1 ∷ 4 ∷ 6 ∷ 7 ∷ 5 ∷ 0 ∷ []
+
 abbrev pub table : List Row
 table =
     -- K1
     counted T [] 8 4 2 (pos 2)
     ∷ pieces T 0 7 true
+    -- "the Euler number, vertices minus edges plus faces, a signed number that may fall below zero": of two pieces, of three parallel edges, which have
+    -- three faces, of two loops that cross, and of two such pairs at one vertex
+    ∷ counted (1 ∷ 0 ∷ 2 ∷ 3 ∷ []) [] 4 3 3 (pos 4)
+    ∷ counted (2 ∷ 5 ∷ 4 ∷ 1 ∷ 0 ∷ 3 ∷ []) [] 6 2 3 (pos 2)
+    ∷ counted torus [] 4 1 1 (pos 0)
+    ∷ counted twoTori [] 8 1 1 (negsuc 1)
+    ∷ leads torus (byContracting (0 ∷ []) ∷ []) 9 0 0 1 1 torus []
+    ∷ leads twoTori (byRemoving (0 ∷ []) ∷ []) 10 0 0 1 1 twoTori []
     -- K2
-    ∷ leads T (byRemoving (3 ∷ []) ∷ []) 10 0 T []
+    ∷ leads T (byRemoving (3 ∷ []) ∷ []) 10 0 0 4 2 T []
     -- K3
-    ∷ leads T (byContracting (3 ∷ []) ∷ []) 0 0 (5 ∷ 2 ∷ 1 ∷ 4 ∷ 3 ∷ 0 ∷ 3 ∷ 7 ∷ []) (13 ∷ [])
+    ∷ leads T (byContracting (3 ∷ []) ∷ []) 0 0 1 3 2 (5 ∷ 2 ∷ 1 ∷ 4 ∷ 3 ∷ 0 ∷ 3 ∷ 7 ∷ []) (13 ∷ [])
     -- K4
-    ∷ leads T (byRemoving (0 ∷ []) ∷ []) 0 0 (5 ∷ 2 ∷ 2 ∷ 4 ∷ 6 ∷ 5 ∷ 3 ∷ 7 ∷ []) (0 ∷ [])
-    ∷ leads T (byRemoving (0 ∷ []) ∷ byRemoving (1 ∷ []) ∷ []) 10 0 (5 ∷ 2 ∷ 2 ∷ 4 ∷ 6 ∷ 5 ∷ 3 ∷ 7 ∷ []) (0 ∷ [])
-    -- K5
-    ∷ leads T K5 0 0 (5 ∷ 2 ∷ 5 ∷ 4 ∷ 6 ∷ 4 ∷ 5 ∷ 7 ∷ []) (1 ∷ 5 ∷ [])
+    ∷ leads T (byRemoving (0 ∷ []) ∷ []) 0 0 1 4 1 (5 ∷ 2 ∷ 2 ∷ 4 ∷ 6 ∷ 5 ∷ 3 ∷ 7 ∷ []) (0 ∷ [])
+    ∷ leads T (byRemoving (0 ∷ []) ∷ byRemoving (1 ∷ []) ∷ []) 10 0 1 4 1 (5 ∷ 2 ∷ 2 ∷ 4 ∷ 6 ∷ 5 ∷ 3 ∷ 7 ∷ []) (0 ∷ [])
+    -- K5; undo gives the two vertices back
+    ∷ leads T K5 0 0 1 2 2 (5 ∷ 2 ∷ 5 ∷ 4 ∷ 6 ∷ 4 ∷ 5 ∷ 7 ∷ []) (1 ∷ 5 ∷ [])
+    ∷ counted T K5 4 2 2 (pos 2)
+    ∷ leads T (K5 ++ (byUndo ∷ [])) 0 0 0 4 2 T []
     -- K6
-    ∷ leads T (byContracting (1 ∷ 0 ∷ []) ∷ []) 0 0 (5 ∷ 4 ∷ 1 ∷ 4 ∷ 6 ∷ 4 ∷ 5 ∷ 7 ∷ []) (5 ∷ 1 ∷ [])
+    ∷ leads T (byContracting (1 ∷ 0 ∷ []) ∷ []) 0 0 1 2 2 (5 ∷ 4 ∷ 1 ∷ 4 ∷ 6 ∷ 4 ∷ 5 ∷ 7 ∷ []) (5 ∷ 1 ∷ [])
     -- K7
-    ∷ leads T (K5 ++ (byContracting (2 ∷ []) ∷ [])) 9 0 (5 ∷ 2 ∷ 5 ∷ 4 ∷ 6 ∷ 4 ∷ 5 ∷ 7 ∷ []) (1 ∷ 5 ∷ [])
-    ∷ leads T K7 0 0 (5 ∷ 2 ∷ 5 ∷ 4 ∷ 6 ∷ 4 ∷ 6 ∷ 7 ∷ []) (1 ∷ 5 ∷ 10 ∷ [])
+    ∷ leads T (K5 ++ (byContracting (2 ∷ []) ∷ [])) 9 0 1 2 2 (5 ∷ 2 ∷ 5 ∷ 4 ∷ 6 ∷ 4 ∷ 5 ∷ 7 ∷ []) (1 ∷ 5 ∷ [])
+    ∷ leads T K7 0 0 2 2 1 (5 ∷ 2 ∷ 5 ∷ 4 ∷ 6 ∷ 4 ∷ 6 ∷ 7 ∷ []) (1 ∷ 5 ∷ 10 ∷ [])
+    -- back again by undo and unfold: "Every operation and every undo keeps them right"
+    ∷ counted T K7 2 2 1 (pos 2)
+    ∷ leads T (K7 ++ (byUndo ∷ [])) 0 0 1 2 2 (5 ∷ 2 ∷ 5 ∷ 4 ∷ 6 ∷ 4 ∷ 5 ∷ 7 ∷ []) (1 ∷ 5 ∷ [])
+    ∷ leads T (K7 ++ (toLevel 0 ∷ [])) 0 0 0 4 2 T []
+    ∷ leads T (K7 ++ (toLevel 1 ∷ [])) 0 0 1 2 2 (5 ∷ 2 ∷ 5 ∷ 4 ∷ 6 ∷ 4 ∷ 5 ∷ 7 ∷ []) (1 ∷ 5 ∷ [])
+    ∷ leads T (K7 ++ (toLevel 2 ∷ [])) 0 0 2 2 1 (5 ∷ 2 ∷ 5 ∷ 4 ∷ 6 ∷ 4 ∷ 6 ∷ 7 ∷ []) (1 ∷ 5 ∷ 10 ∷ [])
     -- K8
-    ∷ leads T (K7 ++ (byContracting (3 ∷ []) ∷ [])) 11 0 (5 ∷ 2 ∷ 5 ∷ 4 ∷ 6 ∷ 4 ∷ 6 ∷ 7 ∷ []) (1 ∷ 5 ∷ 10 ∷ [])
-    ∷ leads T (K7 ++ (byRemoving (3 ∷ []) ∷ [])) 10 0 (5 ∷ 2 ∷ 5 ∷ 4 ∷ 6 ∷ 4 ∷ 6 ∷ 7 ∷ []) (1 ∷ 5 ∷ 10 ∷ [])
+    ∷ leads T (K7 ++ (byContracting (3 ∷ []) ∷ [])) 11 0 2 2 1 (5 ∷ 2 ∷ 5 ∷ 4 ∷ 6 ∷ 4 ∷ 6 ∷ 7 ∷ []) (1 ∷ 5 ∷ 10 ∷ [])
+    ∷ leads T (K7 ++ (byRemoving (3 ∷ []) ∷ [])) 10 0 2 2 1 (5 ∷ 2 ∷ 5 ∷ 4 ∷ 6 ∷ 4 ∷ 6 ∷ 7 ∷ []) (1 ∷ 5 ∷ 10 ∷ [])
     -- K9
-    ∷ leads (2 ∷ 4 ∷ 1 ∷ 3 ∷ 0 ∷ 5 ∷ []) (byRemoving (0 ∷ []) ∷ []) 0 0 (2 ∷ 4 ∷ 4 ∷ 3 ∷ 2 ∷ 5 ∷ []) (0 ∷ [])
-    ∷ leads (2 ∷ 4 ∷ 0 ∷ 3 ∷ 1 ∷ 5 ∷ []) (byContracting (0 ∷ []) ∷ []) 0 0 (2 ∷ 4 ∷ 4 ∷ 3 ∷ 2 ∷ 5 ∷ []) (1 ∷ [])
-    ∷ leads (2 ∷ 4 ∷ 1 ∷ 3 ∷ 0 ∷ 5 ∷ []) (byRemoving (0 ∷ []) ∷ byUndo ∷ []) 0 0 (2 ∷ 4 ∷ 1 ∷ 3 ∷ 0 ∷ 5 ∷ []) []
-    ∷ leads (2 ∷ 4 ∷ 0 ∷ 3 ∷ 1 ∷ 5 ∷ []) (byContracting (0 ∷ []) ∷ byUndo ∷ []) 0 0 (2 ∷ 4 ∷ 0 ∷ 3 ∷ 1 ∷ 5 ∷ []) []
+    ∷ leads (2 ∷ 4 ∷ 1 ∷ 3 ∷ 0 ∷ 5 ∷ []) (byRemoving (0 ∷ []) ∷ []) 0 0 1 3 1 (2 ∷ 4 ∷ 4 ∷ 3 ∷ 2 ∷ 5 ∷ []) (0 ∷ [])
+    ∷ leads (2 ∷ 4 ∷ 0 ∷ 3 ∷ 1 ∷ 5 ∷ []) (byContracting (0 ∷ []) ∷ []) 0 0 1 3 1 (2 ∷ 4 ∷ 4 ∷ 3 ∷ 2 ∷ 5 ∷ []) (1 ∷ [])
+    ∷ leads (2 ∷ 4 ∷ 1 ∷ 3 ∷ 0 ∷ 5 ∷ []) (byRemoving (0 ∷ []) ∷ byUndo ∷ []) 0 0 0 3 2 (2 ∷ 4 ∷ 1 ∷ 3 ∷ 0 ∷ 5 ∷ []) []
+    ∷ leads (2 ∷ 4 ∷ 0 ∷ 3 ∷ 1 ∷ 5 ∷ []) (byContracting (0 ∷ []) ∷ byUndo ∷ []) 0 0 0 4 1 (2 ∷ 4 ∷ 0 ∷ 3 ∷ 1 ∷ 5 ∷ []) []
     -- K10
     ∷ starts (1 ∷ 1 ∷ []) 3 1 0
     ∷ starts (1 ∷ 0 ∷ []) 0 0 0
+    ∷ counted (1 ∷ 0 ∷ []) [] 2 1 2 (pos 2)
     ∷ pieces (1 ∷ 0 ∷ 2 ∷ 3 ∷ []) 0 3 false
-    ∷ leads (1 ∷ 0 ∷ []) (byRemoving (0 ∷ []) ∷ []) 11 0 (1 ∷ 0 ∷ []) []
+    ∷ leads (1 ∷ 0 ∷ []) (byRemoving (0 ∷ []) ∷ []) 11 0 0 1 2 (1 ∷ 0 ∷ []) []
     -- K11
-    ∷ leads T (byRemoving (0 ∷ 0 ∷ []) ∷ []) 8 1 T []
+    ∷ leads T (byRemoving (0 ∷ 0 ∷ []) ∷ []) 8 1 0 4 2 T []
     -- K12
     ∷ writes T K7 K12
     ∷ reads K12 0 8 4 2 (pos 2)
@@ -175,14 +211,14 @@ table =
     ∷ reads fromOne 1 4 2 2 (pos 2)
     ∷ reads fromOne 2 2 2 1 (pos 2)
     -- "an empty loop (r = q or s = p)", from either side; the sweep of K5 takes edge 2, and no whole piece is taken
-    ∷ leads (1 ∷ 2 ∷ 0 ∷ 3 ∷ []) (bySweep ∷ []) 0 0 (1 ∷ 2 ∷ 2 ∷ 3 ∷ []) (0 ∷ [])
-    ∷ leads (2 ∷ 0 ∷ 1 ∷ 3 ∷ []) (bySweep ∷ []) 0 0 (2 ∷ 0 ∷ 2 ∷ 3 ∷ []) (2 ∷ [])
-    ∷ leads T (K5 ++ (bySweep ∷ [])) 0 0 (5 ∷ 2 ∷ 5 ∷ 4 ∷ 6 ∷ 4 ∷ 6 ∷ 7 ∷ []) (1 ∷ 5 ∷ 10 ∷ [])
-    ∷ leads (1 ∷ 0 ∷ []) (bySweep ∷ []) 5 0 (1 ∷ 0 ∷ []) []
+    ∷ leads (1 ∷ 2 ∷ 0 ∷ 3 ∷ []) (bySweep ∷ []) 0 0 1 2 1 (1 ∷ 2 ∷ 2 ∷ 3 ∷ []) (0 ∷ [])
+    ∷ leads (2 ∷ 0 ∷ 1 ∷ 3 ∷ []) (bySweep ∷ []) 0 0 1 2 1 (2 ∷ 0 ∷ 2 ∷ 3 ∷ []) (2 ∷ [])
+    ∷ leads T (K5 ++ (bySweep ∷ [])) 0 0 2 2 1 (5 ∷ 2 ∷ 5 ∷ 4 ∷ 6 ∷ 4 ∷ 6 ∷ 7 ∷ []) (1 ∷ 5 ∷ 10 ∷ [])
+    ∷ leads (1 ∷ 0 ∷ []) (bySweep ∷ []) 5 0 0 1 2 (1 ∷ 0 ∷ []) []
     -- "one pass over the edges by rising number", "at its turn": the last edge too; of two loops, one round the other, the outer one only after the inner
-    ∷ leads (0 ∷ 2 ∷ 3 ∷ 1 ∷ []) (bySweep ∷ []) 0 0 (0 ∷ 1 ∷ 3 ∷ 1 ∷ []) (4 ∷ [])
-    ∷ leads (2 ∷ 4 ∷ 3 ∷ 1 ∷ 0 ∷ 5 ∷ []) (bySweep ∷ []) 0 0 (1 ∷ 4 ∷ 3 ∷ 1 ∷ 0 ∷ 5 ∷ []) (4 ∷ [])
-    ∷ leads (1 ∷ 3 ∷ 0 ∷ 4 ∷ 2 ∷ 5 ∷ []) (bySweep ∷ []) 0 0 (1 ∷ 3 ∷ 3 ∷ 4 ∷ 4 ∷ 5 ∷ []) (0 ∷ 4 ∷ [])
+    ∷ leads (0 ∷ 2 ∷ 3 ∷ 1 ∷ []) (bySweep ∷ []) 0 0 1 2 1 (0 ∷ 1 ∷ 3 ∷ 1 ∷ []) (4 ∷ [])
+    ∷ leads (2 ∷ 4 ∷ 3 ∷ 1 ∷ 0 ∷ 5 ∷ []) (bySweep ∷ []) 0 0 1 2 2 (1 ∷ 4 ∷ 3 ∷ 1 ∷ 0 ∷ 5 ∷ []) (4 ∷ [])
+    ∷ leads (1 ∷ 3 ∷ 0 ∷ 4 ∷ 2 ∷ 5 ∷ []) (bySweep ∷ []) 0 0 1 2 1 (1 ∷ 3 ∷ 3 ∷ 4 ∷ 4 ∷ 5 ∷ []) (0 ∷ 4 ∷ [])
     -- Seven: "an empty loop always has two different faces", from either side, and as a whole piece; a pending edge has one, and so have two loops that cross;
     -- a table that is no permutation is no map, and there it need not be so
     ∷ sides (1 ∷ 2 ∷ 0 ∷ 3 ∷ []) 0 true false
@@ -192,11 +228,11 @@ table =
     ∷ sides (2 ∷ 3 ∷ 1 ∷ 0 ∷ []) 0 false true
     ∷ sides (1 ∷ 2 ∷ 0 ∷ 1 ∷ []) 0 true true
     -- "Testing for a pending edge from one side only": the even dart of edge 0 is alone at its vertex
-    ∷ leads (0 ∷ 2 ∷ 1 ∷ 3 ∷ []) (byContracting (0 ∷ []) ∷ []) 0 0 (0 ∷ 2 ∷ 2 ∷ 3 ∷ []) (3 ∷ [])
+    ∷ leads (0 ∷ 2 ∷ 1 ∷ 3 ∷ []) (byContracting (0 ∷ []) ∷ []) 0 0 1 2 1 (0 ∷ 2 ∷ 2 ∷ 3 ∷ []) (3 ∷ [])
     -- "two parallel edges can each be contracted, not both": judged at its turn, and nothing is left of the kernel
-    ∷ leads (2 ∷ 3 ∷ 0 ∷ 1 ∷ []) (byContracting (0 ∷ []) ∷ []) 0 0 (2 ∷ 3 ∷ 3 ∷ 2 ∷ []) (1 ∷ [])
-    ∷ leads (2 ∷ 3 ∷ 0 ∷ 1 ∷ []) (byContracting (1 ∷ []) ∷ []) 0 0 (1 ∷ 0 ∷ 0 ∷ 1 ∷ []) (5 ∷ [])
-    ∷ leads (2 ∷ 3 ∷ 0 ∷ 1 ∷ []) (byContracting (0 ∷ 1 ∷ []) ∷ []) 9 1 (2 ∷ 3 ∷ 0 ∷ 1 ∷ []) []
+    ∷ leads (2 ∷ 3 ∷ 0 ∷ 1 ∷ []) (byContracting (0 ∷ []) ∷ []) 0 0 1 1 2 (2 ∷ 3 ∷ 3 ∷ 2 ∷ []) (1 ∷ [])
+    ∷ leads (2 ∷ 3 ∷ 0 ∷ 1 ∷ []) (byContracting (1 ∷ []) ∷ []) 0 0 1 1 2 (1 ∷ 0 ∷ 0 ∷ 1 ∷ []) (5 ∷ [])
+    ∷ leads (2 ∷ 3 ∷ 0 ∷ 1 ∷ []) (byContracting (0 ∷ 1 ∷ []) ∷ []) 9 1 0 2 2 (2 ∷ 3 ∷ 0 ∷ 1 ∷ []) []
     -- 3: "which lower dart already has that successor", "D where the value was out of range"; of two faults the lowest dart's decides
     ∷ starts (0 ∷ 2 ∷ []) 3 1 2
     ∷ starts (2 ∷ 1 ∷ []) 3 0 2
@@ -204,16 +240,23 @@ table =
     ∷ starts (2 ∷ 9 ∷ 2 ∷ 0 ∷ []) 3 1 4
     ∷ starts (3 ∷ 1 ∷ 3 ∷ 3 ∷ []) 3 2 0
     -- 12: "the top level"
-    ∷ leads T (byUndo ∷ []) 12 0 T []
-    ∷ leads T (K7 ++ (toLevel 3 ∷ [])) 12 2 (5 ∷ 2 ∷ 5 ∷ 4 ∷ 6 ∷ 4 ∷ 6 ∷ 7 ∷ []) (1 ∷ 5 ∷ 10 ∷ [])
-    ∷ leads T (K7 ++ (toLevel 0 ∷ [])) 0 0 T []
+    ∷ leads T (byUndo ∷ []) 12 0 0 4 2 T []
+    ∷ leads T (K7 ++ (toLevel 3 ∷ [])) 12 2 2 2 1 (5 ∷ 2 ∷ 5 ∷ 4 ∷ 6 ∷ 4 ∷ 6 ∷ 7 ∷ []) (1 ∷ 5 ∷ 10 ∷ [])
     -- 13: "first wrong byte, from 0, or the length if it ends early"; 14: place 8
     ∷ answersFile "numbers=2\n" 14 8
     ∷ answersFile "numbers=" 13 8
     ∷ answersFile "numbers=0\ndarts=08\n" 13 17
+    -- "one to five digits": the sixth is the wrong byte, whatever the number is
+    ∷ answersFile "numbers=0\ndarts=123456\n" 13 21
+    ∷ answersFile "numbers=0\ndarts=8\nlevels=1\nkernel=remove 123456\n" 13 46
+    ∷ answersFile "numbers=0\ndarts=2\nlevels=0\npair=0 123456\n" 13 39
+    ∷ answersFile "numbers=0\ndarts=2\nlevels=0\npair=0 12345\n" 4 0
+    ∷ answersFile "numbers=0\ndarts=2\nlevels=123456\n" 13 30
+    ∷ answersFile "numbers=0\ndarts=2\nlevels=12345\n" 6 0
     ∷ answersFile "numbers=0\ndarts=7\n" 1 0
     ∷ answersFile "numbers=0\ndarts=10\nlevels=x" 2 0
     ∷ answersFile "numbers=0\ndarts=8\nlevels=65\nkernel=" 6 0
+    ∷ answersFile "numbers=0\ndarts=8\nlevels=64\nx" 13 28
     ∷ answersFile "numbers=0\ndarts=8\nlevels=1\nkernel=remove 0\npair" 5 0
     -- "nothing after the last"
     ∷ answersFile "numbers=0\ndarts=2\nlevels=0\npair=0 1\n\n" 13 36

@@ -26,6 +26,7 @@ pub mod LineEnds
 pub mod LastLine
 pub mod Writing
 pub mod FileRows
+pub mod LevelRows
 pub mod WrongByte
 pub mod FileLength
 pub mod SecondPlace
