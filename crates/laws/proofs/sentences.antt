@@ -29,3 +29,5 @@ pub mod FileRows
 pub mod WrongByte
 pub mod FileLength
 pub mod SecondPlace
+pub mod Numbers
+pub mod NumbersInstances

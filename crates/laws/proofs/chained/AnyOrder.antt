@@ -2,17 +2,19 @@
 -- calls on lent slices.
 --   kernels ks           == the calls of reduce by the kernels ks
 --   Rises c              == the call c is a kernel or a sweep: it undoes nothing
---   operationsBy cs a    == the operations of the calls cs from a on: a kernel's edges, each of its kind, and the edges that a sweep takes at its turn, each a
+--   operationsBy cs a    == the operations of the calls cs from a on: a kernel's edges, each of its kind; the edges that a sweep takes at its turn, each a
 --                           removal
 --   operationsIn a       == the operations that the history which a leaves tells, first to last
---   calls-told, based-told == of calls that undo nothing, it tells theirs; from a base on, no others
+--   calls-told           == of calls that undo nothing it tells theirs, after those that it told before
+--   based-told           == and from a base on, theirs alone
 --   pastIn a             == the history that a leaves, the last operation first
 --   EndsAs D u past cs x == the calls cs from x on are accepted, and they end as the table u and its past: the same darts survive, with the same successors,
 --                           by as many operations, and the state stores their numbers of vertices and faces
 --   EndsAlike D a cs x   == and so they end as a does
 --   list-by-calls        == kernels that hold the operations of an accepted list, in any order, end as the list does, whatever leaves the base
---   history-by-calls     == and those that a history tells, whatever accepted calls left it
---   any-order-of-calls   == and those of accepted kernels and sweeps
+--   over-by-calls        == and those that the history of a pyramid tells
+--   history-by-calls     == so of whatever accepted calls, undo and unfold too
+--   any-order-of-calls   == and so of accepted kernels and sweeps, by their own operations
 --   any-order-by-calls   == of kernels, from start to start
 use mathlib.Core.List.{List, [], _∷_, _++_, map, reverse, reverse-reverse, append-nil, append-assoc, List·Permᴰ}
 use mathlib.Core.Path.{_≡_, refl, sym, ap, _∙_, subst, subst₂}
