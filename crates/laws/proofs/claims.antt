@@ -1,4 +1,4 @@
 pub mod Decided
 pub mod AnyOrder
 pub mod Instances
-pub mod Stored
+pub mod NumbersTaken

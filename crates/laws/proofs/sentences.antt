@@ -30,3 +30,5 @@ pub mod LevelRows
 pub mod WrongByte
 pub mod FileLength
 pub mod SecondPlace
+pub mod Numbers
+pub mod NumbersInstances

@@ -2,6 +2,7 @@
 --   Judging s t h w == what `judged` answers, and why: 1, 2, 4, or done of a pyramid that is lent with room
 --   judging         == one of them it is
 --   Lent s t h w    == a pyramid, lent with room
+--   fits-zero       == with a count of darts and room neither 1 nor 2 is given
 --   judged-unfit    == where 1 or 2 is given, that is the answer
 --   judged-fit      == where they are not, the decision whether it is a pyramid tells
 --   judged-lent     == of which `judged` is done
@@ -52,7 +53,7 @@ module _ (s : State) (t h w : List ℕ) where
   unfolding judged
   judged-fit e b p = rw (eqb-same e, p)
 
-  fits-zero : Count D → Lengths D (length t) (length h) (length w) → fitting D (length t) (length h) (length w) .number ≡ 0
+  pub fits-zero : Count D → Lengths D (length t) (length h) (length w) → fitting D (length t) (length h) (length w) .number ≡ 0
   fits-zero C L = ap (λ (a : Answer). a .number) (sym (fine D (length t) (length h) (length w) C L))
 
   -- WHAT A CALL ON A STATE IS JUDGED

@@ -1,11 +1,11 @@
--- What a contraction, a removal, a kernel and an undo do to the numbers of vertices and faces (document 02, request Six).
+-- What a contraction, a removal, a kernel and a sweep take of the numbers of vertices and faces (document 02, request Six).
 --   Takes k n v f v′ f′ == n operations of kind k lead from v vertices and f faces to v′ and f′
 --   one-vertex-less  == a contraction takes one vertex and no face
 --   one-face-less    == a removal takes one face and no vertex
 --   kernel-less      == a kernel of contractions takes a vertex for each of its edges, a kernel of removals a face for each
 --   sweep-less       == a sweep takes a face for each edge that it takes
 use mathlib.Core.List.{List, [], _∷_}
-use mathlib.Core.Path.{_≡_, refl, sym, _∙_}
+use mathlib.Core.Path.{_≡_, sym, _∙_}
 use Prim.Native.Nat.{ℕ, suc, _+_}
 use native.Mathlib.Omega.{arith}
 use lib.ListN.{length}
