@@ -15,3 +15,4 @@ pub mod Carrying
 pub mod Moves
 pub mod NotLooked
 pub mod Kept
+pub mod Sweep
