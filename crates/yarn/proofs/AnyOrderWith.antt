@@ -1,11 +1,10 @@
 -- "Demand 3 covers, for each zone at the end, stitches and whether yarn is measured" (document 02, request Five), as calls of reduce that are lent both sheets.
---   done-plain, plain-done == calls with sheets on given ones are accepted where the plain calls are, and leave the same
 --   told-calls             == the history that calls of reduce leave tells the operations of their kernels
 --   ZonesAlike D b a y     == y leaves the zones that a leaves: each with the same place and stitches, and measured or not alike
 --   EndsAlike D b a cs y   == the calls cs from y on are accepted and end as a does, as plain calls and in their zones
 --   any-order-by-calls     == whatever kernels hold the operations of accepted ones, in any order, on whatever sheets have the same base records
 use mathlib.Core.List.{List, [], _∷_, _++_, map, reverse, append-assoc, append-nil, List·Permᴰ}
-use mathlib.Core.Path.{_≡_, refl, sym, ap, _∙_, subst, subst₂}
+use mathlib.Core.Path.{_≡_, sym, ap, _∙_, subst, subst₂}
 use Prim.Native.Nat.{ℕ, _/_, _≤_, _<_}
 use lib.Dec.{T}
 use lib.ListN.{length, take}
@@ -16,7 +15,7 @@ use Rattle.darts.specs.Calls.{After}
 use Rattle.darts.specs.OneByOne.{operationOf, operationsOf, NoneEmpty}
 use Rattle.laws.proofs.runs.Reduces.{reduce-told}
 use Rattle.laws.proofs.chained.OnLent.{Call, byKernel}
-use Rattle.laws.proofs.chained.Chains.{calls, AllDone as PlainDone, first-done}
+use Rattle.laws.proofs.chained.Chains.{calls, AllDone as PlainDone}
 use Rattle.laws.proofs.chained.AnyOrder.{kernels, EndsAlike as PlainAlike, any-order-by-calls as plain-any-order}
 use Rattle.sheets.specs.declared.Zone.{Zone}
 use Rattle.sheets.specs.Records.{measured}
@@ -25,44 +24,13 @@ use Rattle.yarn.specs.Places.{lowest, isPlace, zoneOf}
 use Rattle.yarn.specs.Given.{Looked}
 use Rattle.yarn.specs.Totals.{stitchesAt, measuredAt}
 use Rattle.yarn.specs.Calls.{Costed}
-use Rattle.yarn.proofs.CalledWith.{called-plain, LentBy, pastBy, with-left}
-use Rattle.yarn.proofs.ChainedWith.{callWith, callsWith, AllDone, Above, above-standing, above-turns, above-calls}
+use Rattle.yarn.proofs.CalledWith.{pastBy, with-left}
+use Rattle.yarn.proofs.ChainedWith.{callWith, callsWith, AllDone, done-plain, plain-done, Above, above-standing, above-turns, above-calls}
 use Rattle.yarn.proofs.StartWith.{Begun, begun, begun-past, begun-lent, begun-above}
 use Rattle.yarn.proofs.Redone.{Long}
 use Rattle.yarn.proofs.Settled.{lowest-settled}
 use Rattle.yarn.proofs.Turns.{own-after}
 use Rattle.yarn.proofs.AnyOrder.{zones-any-order}
-
--- ---- calls with sheets, and the plain calls
-
-record Plainly (cs : List Call) (a : Costed) : Type 0 where
-  done : AllDone cs a
-  plain : PlainDone cs (a .plain)
-  same : callsWith cs a .plain ≡ calls cs (a .plain)
-
-left-by : (c : Call) (a : Costed) → callWith c a .plain .answer .number ≡ 0 → LentBy (callWith c a)
-left-by c a e = with-left c (a .plain .state) (a .plain .table) (a .plain .history) (a .plain .work) (a .sheets) e .lent
-
-plain-call : (c : Call) (a : Costed) → LentBy a → callWith c a .plain ≡ calls (c ∷ []) (a .plain)
-plain-call c a L = called-plain c (a .plain .state) (a .plain .table) (a .plain .history) (a .plain .work) (a .sheets) L
-
-done-plain : (cs : List Call) (a : Costed) → LentBy a → a .plain .answer .number ≡ 0 → AllDone cs a → Plainly cs a
-done-plain [] a L e d = record { done = tt; plain = e; same = refl }
-done-plain (c ∷ cs) a L e d =
-    let R = done-plain cs (callWith c a) (left-by c a (d .0)) (d .0) (d .1) in
-    record {
-      done = d;
-      plain = (e, subst (PlainDone cs) (plain-call c a L) (R .plain));
-      same = R .same ∙ ap (calls cs) (plain-call c a L);
-    }
-
-plain-done : (cs : List Call) (a : Costed) → LentBy a → PlainDone cs (a .plain) → Plainly cs a
-plain-done [] a L d = record { done = tt; plain = d; same = refl }
-plain-done (c ∷ cs) a L d =
-    let rest : PlainDone cs (callWith c a .plain) = subst (PlainDone cs) (sym (plain-call c a L)) (d .1) in
-    let e : callWith c a .plain .answer .number ≡ 0 = first-done cs (callWith c a .plain) rest in
-    let R = plain-done cs (callWith c a) (left-by c a e) rest in
-    record { done = (e, R .done); plain = d; same = R .same ∙ ap (calls cs) (plain-call c a L) }
 
 -- ---- the operations of calls of reduce
 

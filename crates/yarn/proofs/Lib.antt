@@ -27,3 +27,4 @@ pub mod Looks
 pub mod ChainedWith
 pub mod StartWith
 pub mod AnyOrderWith
+pub mod GroundWith

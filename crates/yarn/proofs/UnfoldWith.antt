@@ -52,7 +52,7 @@ module _ (D : ℕ) (b : List ℕ) (S : Sheets) where
       sym (returned-same (merges-first D b (hs ++ more) last) (length (hs ++ more)) (length more) (omega arith) part (back (hs ++ more) last S))
       ∙ sym (rw (← append-assoc hs more last, count) (returned-on ms (length all) (length last) (length more) S ∙ rw left))
 
-  carried-on : {past mid new : List ℕ} → (G : Grown mid past) (H : Grown new mid) → carriedTo D b mid new (carriedTo D b past mid S) ≡ carriedTo D b past new S
+  pub carried-on : {past mid new : List ℕ} → (G : Grown mid past) (H : Grown new mid) → carriedTo D b mid new (carriedTo D b past mid S) ≡ carriedTo D b past new S
   carried-on {past} {mid} {new} G H =
       carried-shrunk H D b _ ∙ ap (back (reverse new) (H .more)) (carried-shrunk G D b S ∙ ap (λ hs. back hs (G .more) S) (H .grown))
       ∙ back-twice (reverse new) (H .more) (G .more) ∙ sym (carried-shrunk (grown-on H G) D b S)
