@@ -16,3 +16,4 @@ pub mod Moves
 pub mod NotLooked
 pub mod Kept
 pub mod Sweep
+pub mod Numbers
