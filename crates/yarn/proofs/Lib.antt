@@ -28,3 +28,4 @@ pub mod ChainedWith
 pub mod StartWith
 pub mod AnyOrderWith
 pub mod GroundWith
+pub mod InstancesWith
