@@ -2,9 +2,9 @@
 --   Apart R hs    == each contraction of hs finds two places at its turn, where the places at the first one are R
 --   Alike L R     == L and R give one label to the same darts
 --   replays-apart == labels that tell a legal history (test 16) tell places that are apart
+--   joins-merges  == places that are joined merge the labels of the edge's two darts
 --   after-alike   == along a history, the labels that the tests merge and the places stay alike
 --   base-standing, base-apart == the base of a pyramid stands, and the contractions on it find two places
---   pyramid-apart == the same, said of the pyramid's own base
 --   pyramid-inside == the operations of a pyramid are on edges of its darts
 use mathlib.Core.Bool.{not, _||_}
 use mathlib.Core.List.{List, [], _∷_, _++_, reverse, reverse-cons}
@@ -70,7 +70,7 @@ module _ (R : ℕ → ℕ) (p q e : ℕ) (low : min (R (2 * e)) (R (2 * e + 1)) 
       same : (x : ℕ) → joins R e x ≡ merge R p q x
       same x = rw (low, high)
 
-joins-merges : (R : ℕ → ℕ) (e : ℕ) → Merges R (joins R e) (2 * e) (2 * e + 1)
+pub joins-merges : (R : ℕ → ℕ) (e : ℕ) → Merges R (joins R e) (2 * e) (2 * e + 1)
 joins-merges R e = go (decLe (R (2 * e)) (R (2 * e + 1)))
   where
     go : Dec (R (2 * e) ≤ R (2 * e + 1)) → Merges R (joins R e) (2 * e) (2 * e + 1)
@@ -180,10 +180,6 @@ module _ {s : State} {t past : List ℕ} (P : Pyramid s t past) where
   -- "A contraction merges the two records": THERE ARE TWO
   pub base-apart : Apart (lowest D (baseOf s t past)) (reverse past)
   base-apart = replays-apart (reverse past) (alike-same (lowest D (baseOf s t past))) vertices-told
-
-  pub pyramid-apart : Apart (lowest D (P .base)) (reverse past)
-  unfolding baseOf
-  pyramid-apart = subst (λ b. Apart (lowest D b) (reverse past)) (base-undone P) base-apart
 
   pub pyramid-inside : Inside D (reverse past)
   pyramid-inside = numbered-inside D past (base-standing .even) (pyramid-shaped P .sound .numbers)

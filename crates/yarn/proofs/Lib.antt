@@ -13,6 +13,7 @@ pub mod Gathered
 pub mod Totals
 pub mod Returns
 pub mod Commutes
+pub mod Listed
 pub mod AnyOrder
 pub mod sentences
 pub mod Noted
