@@ -5,6 +5,7 @@
 --   joins-merges  == places that are joined merge the labels of the edge's two darts
 --   after-alike   == along a history, the labels that the tests merge and the places stay alike
 --   base-standing, base-apart == the base of a pyramid stands, and the contractions on it find two places
+--   pyramid-apart == the same, said of the pyramid's own base
 --   pyramid-inside == the operations of a pyramid are on edges of its darts
 use mathlib.Core.Bool.{not, _||_}
 use mathlib.Core.List.{List, [], _∷_, _++_, reverse, reverse-cons}
@@ -180,6 +181,10 @@ module _ {s : State} {t past : List ℕ} (P : Pyramid s t past) where
   -- "A contraction merges the two records": THERE ARE TWO
   pub base-apart : Apart (lowest D (baseOf s t past)) (reverse past)
   base-apart = replays-apart (reverse past) (alike-same (lowest D (baseOf s t past))) vertices-told
+
+  pub pyramid-apart : Apart (lowest D (P .base)) (reverse past)
+  unfolding baseOf
+  pyramid-apart = subst (λ b. Apart (lowest D b) (reverse past)) (base-undone P) base-apart
 
   pub pyramid-inside : Inside D (reverse past)
   pyramid-inside = numbered-inside D past (base-standing .even) (pyramid-shaped P .sound .numbers)

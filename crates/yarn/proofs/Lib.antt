@@ -27,6 +27,6 @@ pub mod UnfoldWith
 pub mod Looks
 pub mod ChainedWith
 pub mod StartWith
-pub mod AnyOrderWith
 pub mod GroundWith
+pub mod AnyOrderWith
 pub mod InstancesWith
