@@ -2,19 +2,12 @@
 -- met, and what they say is what the definitions compute. Slices and sheets are longer than 8 darts want, and hold rubbish there.
 --   triangle, numbers, area, records == what is lent: T, history, work area, and both sheets; one vertex is not measured
 --   begun           == what start leaves of them; k5 and k7 what the kernels of K5 and K7 leave after it
---   shorter         == the same base records, on sheets that just fit
---   elsewhere       == what start leaves of the same base with these, on slices that just fit
 --   round           == K5, a sweep, undo, K7's kernel, and down one level
-use mathlib.Core.Bool.{true, false}
-use mathlib.Core.List.{List, [], _∷_, List·Permᴰ·swap, reverse}
-use mathlib.Core.Logic.{_↔_}
-use mathlib.Core.Path.{_≡_, refl, sym, ap, _∙_}
-use Prim.Native.Nat.{ℕ, zero, suc, _-_, _/_, _<_}
-use native.Mathlib.Omega.{arith}
-use lib.Dec.{T, lit≤}
+use mathlib.Core.List.{List, [], _∷_, reverse}
+use mathlib.Core.Path.{_≡_, refl}
+use Prim.Native.Nat.{ℕ, _-_, _/_, _<_}
+use lib.Dec.{lit≤}
 use lib.Ieee as Ieee
-use lib.Ieee.{fin}
-use lib.IntN.{pos, negsuc}
 use lib.ListN.{take, replicate}
 use Rattle.permutations.specs.Partner.{partner}
 use Rattle.permutations.specs.Cycle.{meetsIn}
@@ -22,7 +15,7 @@ use Rattle.darts.specs.Answers.{done}
 use Rattle.darts.specs.Map.{successor, faceNext, sameVertex, sameFace, gone, survives, beforeIn, before, repeats, culprit, testFrom, permutationTest}
 use Rattle.darts.specs.Operation.{contraction, removal, turned, lead, wholeEdge, remove, contract, operate, number, kindOf, leadOf, edgeOf, putBack, undoOne, undone}
 use Rattle.darts.specs.Kernel.{shared, judge, rising, passFrom, pass, run}
-use Rattle.darts.specs.State.{State, raised, levelled, reduce}
+use Rattle.darts.specs.State.{raised, levelled, reduce}
 use Rattle.darts.specs.Levels.{emptyLoop, takes, sweptFrom, swept, sweep, endBelow, lowered, undoLevel, undoLevels, unfoldTo}
 use Rattle.darts.specs.Counts.{neverBelow, lowest as lowestIn, cycles, countsOf}
 use Rattle.darts.specs.Pyramid.{Kernel, dartCount, build, kernelOf, cut, kernelsOf, sameNumbers, sameState, isExactly, isPyramid}
@@ -30,63 +23,58 @@ use Rattle.darts.specs.Calls.{leaves, room, fitting as fittingPlain, tableOf, p
 use Rattle.slices.specs.Over.{over}
 use Rattle.laws.proofs.chained.OnLent.{Call, byKernel, bySweep, byUndo, toLevel}
 use Rattle.laws.proofs.chained.AnyOrder.{kernels}
-use Rattle.laws.proofs.sentences.Edges.{Taken, takes-iff}
+use Rattle.laws.proofs.sentences.Edges.{takes-iff}
 use Rattle.laws.proofs.sentences.Sweep.{Passed, begins as passBegins, skips, adds}
 use Rattle.sheets.specs.Records.{sameInteger, sameMetres, sameYarn, sameZone, at}
-use Rattle.sheets.specs.Sheets.{Sheets, none, lowInto, highOf, merged, returned, mergedBy, returnedBy, lastInto, sound, keptSound, keptRight, sheetRight, right as rightSheets}
+use Rattle.sheets.specs.Sheets.{Sheets, lowInto, highOf, merged, returned, mergedBy, returnedBy, lastInto, sound, keptSound, keptRight, sheetRight, right as rightSheets}
 use Rattle.yarn.specs.Places.{lowestFrom, lowest, isPlace, joins, zoned, mergeBy, mergesOf, merges, placesAfter, zoneOf}
-use Rattle.yarn.specs.Given.{given, Looked}
+use Rattle.yarn.specs.Given.{given}
 use Rattle.yarn.specs.Totals.{summed, total}
-use Rattle.yarn.specs.Rows.{zone, unmeasured, half, rubbish, sheets, fewer}
+use Rattle.yarn.specs.Rows.{unmeasured, half, rubbish, sheets}
 use Rattle.yarn.specs.Calls.{Costed, costed, fitting, fittingOf, baseOf, judged, unfitFrom, firstUnfit, beginsWith, startWith, carried, carriedTo, sheetsAfter, onSheets, reduceWith, sweepWith, undoWith, unfoldWith}
 use Rattle.yarn.proofs.CalledWith.{pastBy}
 use Rattle.yarn.proofs.ChainedWith.{callWith, callsWith, AllDone}
 use Rattle.yarn.proofs.UndoWith.{ReturnedWith, undoingWith, reduce-then-undo, sweep-then-undo}
 use Rattle.yarn.proofs.UnfoldWith.{undosWith, unfold-undos}
-use Rattle.yarn.proofs.StartWith.{start-begun, start-total}
+use Rattle.yarn.proofs.StartWith.{start-total}
 use Rattle.yarn.proofs.GroundWith.{Free, BaseWith, start-then-unfold}
-use Rattle.yarn.proofs.AnyOrderWith.{EndsAlike, any-order-by-calls}
 use Rattle.yarn.proofs.sentences.Sweep.{sweep-kernel}
 
-abbrev triangle : List ℕ
+abbrev pub triangle : List ℕ
 triangle = 5 ∷ 2 ∷ 1 ∷ 4 ∷ 6 ∷ 0 ∷ 3 ∷ 7 ∷ 99 ∷ []
 
-abbrev numbers : List ℕ
+abbrev pub numbers : List ℕ
 numbers = 91 ∷ 92 ∷ 93 ∷ 94 ∷ 95 ∷ []
 
-abbrev area : List ℕ
+abbrev pub area : List ℕ
 area = replicate 33 9
 
-abbrev records : Sheets
+abbrev pub records : Sheets
 records = sheets (half 1) (unmeasured 2) (half 3) (half 4) []
 
-abbrev contracting : List ℕ → Kernel
+abbrev pub contracting : List ℕ → Kernel
 contracting es = record { kind = contraction; edges = es }
 
-abbrev removing : List ℕ → Kernel
+abbrev pub removing : List ℕ → Kernel
 removing es = record { kind = removal; edges = es }
 
-abbrev begun : Costed
+abbrev pub begun : Costed
 begun = startWith 8 triangle numbers area records
 
-abbrev K5 : List Kernel
+abbrev pub K5 : List Kernel
 K5 = contracting (0 ∷ 1 ∷ []) ∷ []
 
--- the operations of K6, in two levels
-abbrev K6 : List Kernel
-K6 = contracting (1 ∷ []) ∷ contracting (0 ∷ []) ∷ []
-
-abbrev K7 : List Kernel
+abbrev pub K7 : List Kernel
 K7 = contracting (0 ∷ 1 ∷ []) ∷ removing (2 ∷ []) ∷ []
 
-abbrev k5 : Costed
+abbrev pub k5 : Costed
 k5 = callsWith (kernels K5) begun
 
-abbrev k7 : Costed
+abbrev pub k7 : Costed
 k7 = callsWith (kernels K7) begun
 
 -- K7 is accepted, from start on, and it has levels above the base
-k7-accepted : (begun .plain .answer .number ≡ 0) × (AllDone (kernels K7) begun × (0 < k7 .plain .state .levels))
+pub k7-accepted : (begun .plain .answer .number ≡ 0) × (AllDone (kernels K7) begun × (0 < k7 .plain .state .levels))
 unfolding partner meetsIn successor faceNext sameVertex sameFace gone survives beforeIn before repeats culprit testFrom permutationTest turned lead wholeEdge remove contract operate number kindOf leadOf edgeOf putBack undoOne undone shared judge passFrom pass run raised levelled reduce emptyLoop takes rising sweptFrom swept sweep endBelow lowered undoLevel undoLevels unfoldTo dartCount build kernelOf cut kernelsOf sameNumbers sameState isExactly isPyramid room fittingPlain tableOf pastOf over cleared workAfter begins handsBack sameInteger sameMetres sameYarn sameZone lowInto highOf merged returned mergedBy returnedBy lastInto sound keptSound keptRight sheetRight rightSheets lowestFrom lowest isPlace joins zoned mergeBy mergesOf merges given fitting fittingOf baseOf judged unfitFrom firstUnfit beginsWith startWith carried carriedTo sheetsAfter onSheets reduceWith sweepWith undoWith unfoldWith Ieee.le Ieee.add neverBelow lowestIn cycles countsOf
 k7-accepted = (refl, ((refl, (refl, tt)), lit≤ tt))
 
@@ -110,7 +98,7 @@ k5-computed = (refl, refl)
 -- ---- the sweep
 
 -- "an empty loop (r = q or s = p)": the sweep of K5 takes edge 2, and leaves what K7 leaves
-k5-swept : callWith bySweep k5 ≡ k7
+pub k5-swept : callWith bySweep k5 ≡ k7
 unfolding partner meetsIn successor faceNext sameVertex sameFace gone survives beforeIn before repeats culprit testFrom permutationTest turned lead wholeEdge remove contract operate number kindOf leadOf edgeOf putBack undoOne undone shared judge passFrom pass run raised levelled reduce emptyLoop takes rising sweptFrom swept sweep endBelow lowered undoLevel undoLevels unfoldTo dartCount build kernelOf cut kernelsOf sameNumbers sameState isExactly isPyramid room fittingPlain tableOf pastOf over cleared workAfter begins handsBack sameInteger sameMetres sameYarn sameZone lowInto highOf merged returned mergedBy returnedBy lastInto sound keptSound keptRight sheetRight rightSheets lowestFrom lowest isPlace joins zoned mergeBy mergesOf merges given fitting fittingOf baseOf judged unfitFrom firstUnfit beginsWith startWith carried carriedTo sheetsAfter onSheets reduceWith sweepWith undoWith unfoldWith Ieee.le Ieee.add neverBelow lowestIn cycles countsOf
 k5-swept = refl
 
@@ -139,11 +127,11 @@ k7-base : BaseWith 8 triangle numbers area records (kernels K7) (callWith (toLev
 k7-base = start-then-unfold 8 triangle numbers area records (kernels K7) (k7-accepted .0) (k7-accepted .1 .0)
 
 -- K5, a sweep, undo, K7's removal, and down one level
-abbrev round : List Call
+abbrev pub round : List Call
 round = byKernel (contracting (0 ∷ 1 ∷ [])) ∷ bySweep ∷ byUndo ∷ byKernel (removing (2 ∷ [])) ∷ toLevel 1 ∷ []
 
 -- at the place of the removal, and past every count, no call keeps a record
-round-accepted : AllDone round begun × (Free 8 (take 8 triangle) 2 round begun × Free 8 (take 8 triangle) 3 round begun)
+pub round-accepted : AllDone round begun × (Free 8 (take 8 triangle) 2 round begun × Free 8 (take 8 triangle) 3 round begun)
 unfolding partner meetsIn successor faceNext sameVertex sameFace gone survives beforeIn before repeats culprit testFrom permutationTest turned lead wholeEdge remove contract operate number kindOf leadOf edgeOf putBack undoOne undone shared judge passFrom pass run raised levelled reduce emptyLoop takes rising sweptFrom swept sweep endBelow lowered undoLevel undoLevels unfoldTo dartCount build kernelOf cut kernelsOf sameNumbers sameState isExactly isPyramid room fittingPlain tableOf pastOf over cleared workAfter begins handsBack sameInteger sameMetres sameYarn sameZone lowInto highOf merged returned mergedBy returnedBy lastInto sound keptSound keptRight sheetRight rightSheets lowestFrom lowest isPlace joins zoned mergeBy mergesOf merges given fitting fittingOf baseOf judged unfitFrom firstUnfit beginsWith startWith carried carriedTo sheetsAfter onSheets reduceWith sweepWith undoWith unfoldWith Ieee.le Ieee.add neverBelow lowestIn cycles countsOf
 round-accepted = (
   (refl, (refl, (refl, (refl, (refl, tt))))),

@@ -30,3 +30,4 @@ pub mod StartWith
 pub mod GroundWith
 pub mod AnyOrderWith
 pub mod InstancesWith
+pub mod OrderInstancesWith
