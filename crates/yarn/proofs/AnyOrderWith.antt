@@ -213,4 +213,5 @@ pub any-order-by-calls : {D : ℕ} {t h w t′ h′ w′ : List ℕ} {S S′ : S
     → EndsAlike D (take D t) (callsWith (kernels ks) a) (kernels ls) y
 any-order-by-calls {a = a} G H same looks ks ls done rearranged some few =
     any-order-of-calls (record { sheet = G .sheet; kept = G .kept }) (begun-based H same looks) ls some few
-    (begun-based G refl (record { sheet = λ x d p. refl; kept = λ t h k. refl })) (kernels ks) done (kernels-rise ks) (rw (kernels-told ks (a .plain)) rearranged)
+    (begun-based G refl (record { sheet = λ x d p. refl; kept = λ t h k. refl })) (kernels ks) done (kernels-rise ks)
+    (rw (kernels-told ks (a .plain)) rearranged)

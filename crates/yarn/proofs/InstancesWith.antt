@@ -3,19 +3,21 @@
 --   triangle, numbers, area, records == what is lent: T, history, work area, and both sheets; one vertex is not measured
 --   begun           == what start leaves of them; k5 and k7 what the kernels of K5 and K7 leave after it
 --   round           == K5, a sweep, undo, K7's kernel, and down one level
+--   wrong           == the state of K5 with a vertex too many
 use mathlib.Core.List.{List, [], _∷_, reverse}
 use mathlib.Core.Path.{_≡_, refl}
 use Prim.Native.Nat.{ℕ, _-_, _/_, _<_}
+use native.Mathlib.Omega.{arith}
 use lib.Dec.{lit≤}
 use lib.Ieee as Ieee
 use lib.ListN.{take, replicate}
 use Rattle.permutations.specs.Partner.{partner}
 use Rattle.permutations.specs.Cycle.{meetsIn}
-use Rattle.darts.specs.Answers.{done}
+use Rattle.darts.specs.Answers.{done, noPyramid}
 use Rattle.darts.specs.Map.{successor, faceNext, sameVertex, sameFace, gone, survives, beforeIn, before, repeats, culprit, testFrom, permutationTest}
 use Rattle.darts.specs.Operation.{contraction, removal, turned, lead, wholeEdge, remove, contract, operate, number, kindOf, leadOf, edgeOf, putBack, undoOne, undone}
 use Rattle.darts.specs.Kernel.{shared, judge, rising, passFrom, pass, run}
-use Rattle.darts.specs.State.{raised, levelled, reduce}
+use Rattle.darts.specs.State.{State, counted, raised, levelled, reduce}
 use Rattle.darts.specs.Levels.{emptyLoop, takes, sweptFrom, swept, sweep, endBelow, lowered, undoLevel, undoLevels, unfoldTo}
 use Rattle.darts.specs.Counts.{neverBelow, lowest as lowestIn, cycles, countsOf}
 use Rattle.darts.specs.Pyramid.{Kernel, dartCount, build, kernelOf, cut, kernelsOf, sameNumbers, sameState, isExactly, isPyramid}
@@ -38,6 +40,8 @@ use Rattle.yarn.proofs.UndoWith.{ReturnedWith, undoingWith, reduce-then
 use Rattle.yarn.proofs.UnfoldWith.{undosWith, unfold-undos}
 use Rattle.yarn.proofs.StartWith.{start-total}
 use Rattle.yarn.proofs.GroundWith.{Free, BaseWith, start-then-unfold}
+use Rattle.yarn.proofs.sentences.Lengths.{fits}
+use Rattle.yarn.proofs.sentences.Numbers.{Wrong, undo-wrong}
 use Rattle.yarn.proofs.sentences.Sweep.{sweep-kernel}
 
 abbrev pub triangle : List ℕ
@@ -144,7 +148,8 @@ round-accepted = (
 round-base : BaseWith 8 triangle numbers area records round (callWith (toLevel 0) (callsWith round begun))
 round-base = start-then-unfold 8 triangle numbers area records round (k7-accepted .0) (round-accepted .0)
 
-round-kept : (at (callWith (toLevel 0) (callsWith round begun) .sheets .kept) 2 ≡ rubbish) × (at (callWith (toLevel 0) (callsWith round begun) .sheets .kept) 3 ≡ rubbish)
+round-kept : (at (callWith (toLevel 0) (callsWith round begun) .sheets .kept) 2 ≡ rubbish)
+    × (at (callWith (toLevel 0) (callsWith round begun) .sheets .kept) 3 ≡ rubbish)
 round-kept = (round-base .kept 2 (round-accepted .1 .0), round-base .kept 3 (round-accepted .1 .1))
 
 -- ---- "The total of stitches at any level equals the base's."
@@ -156,3 +161,27 @@ k7-total = start-total 8 triangle numbers area records (kernels K7) (k7-accepted
 k7-computed : total 8 (zoneOf 8 (take 8 triangle) (reverse (pastBy k7))) (k7 .sheets) ≡ 10
 unfolding partner meetsIn successor faceNext sameVertex sameFace gone survives beforeIn before repeats culprit testFrom permutationTest turned lead wholeEdge remove contract operate number kindOf leadOf edgeOf putBack undoOne undone shared judge passFrom pass run raised levelled reduce emptyLoop takes rising sweptFrom swept sweep endBelow lowered undoLevel undoLevels unfoldTo dartCount build kernelOf cut kernelsOf sameNumbers sameState isExactly isPyramid room fittingPlain tableOf pastOf over cleared workAfter begins handsBack sameInteger sameMetres sameYarn sameZone lowInto highOf merged returned mergedBy returnedBy lastInto sound keptSound keptRight sheetRight rightSheets lowestFrom lowest isPlace joins zoned mergeBy mergesOf merges given fitting fittingOf baseOf judged unfitFrom firstUnfit beginsWith startWith carried carriedTo sheetsAfter onSheets reduceWith sweepWith undoWith unfoldWith Ieee.le Ieee.add neverBelow lowestIn cycles countsOf placesAfter zoneOf summed total
 k7-computed = refl
+
+-- ---- "a state whose numbers differ from the cycles is no pyramid": K5 with 3 vertices instead of 2
+
+abbrev wrong : State
+wrong = record { darts = 8; operations = 2; levels = 1; ends = over (2 ∷ []) (replicate 64 0); vertices = 3; faces = 2 }
+
+k5-wrong : Wrong wrong (k5 .plain .table) (k5 .plain .history)
+unfolding partner meetsIn successor faceNext sameVertex sameFace gone survives beforeIn before repeats culprit testFrom permutationTest turned lead wholeEdge remove contract operate number kindOf leadOf edgeOf putBack undoOne undone shared judge passFrom pass run raised levelled reduce emptyLoop takes rising sweptFrom swept sweep endBelow lowered undoLevel undoLevels unfoldTo dartCount build kernelOf cut kernelsOf sameNumbers sameState isExactly isPyramid room fittingPlain tableOf pastOf over cleared workAfter begins handsBack sameInteger sameMetres sameYarn sameZone lowInto highOf merged returned mergedBy returnedBy lastInto sound keptSound keptRight sheetRight rightSheets lowestFrom lowest isPlace joins zoned mergeBy mergesOf merges given fitting fittingOf baseOf judged unfitFrom firstUnfit beginsWith startWith carried carriedTo sheetsAfter onSheets reduceWith sweepWith undoWith unfoldWith Ieee.le Ieee.add neverBelow lowestIn cycles countsOf
+k5-wrong N = let z : _≡_ {A = ℕ} 3 2 = N .vertices in omega arith
+
+-- all else is as K5 left it
+k5-otherwise : k5 .plain .state ≡ counted wrong (tableOf wrong (k5 .plain .table)) (pastOf wrong (k5 .plain .history))
+unfolding partner meetsIn successor faceNext sameVertex sameFace gone survives beforeIn before repeats culprit testFrom permutationTest turned lead wholeEdge remove contract operate number kindOf leadOf edgeOf putBack undoOne undone shared judge passFrom pass run raised levelled reduce emptyLoop takes rising sweptFrom swept sweep endBelow lowered undoLevel undoLevels unfoldTo dartCount build kernelOf cut kernelsOf sameNumbers sameState isExactly isPyramid room fittingPlain tableOf pastOf over cleared workAfter begins handsBack sameInteger sameMetres sameYarn sameZone lowInto highOf merged returned mergedBy returnedBy lastInto sound keptSound keptRight sheetRight rightSheets lowestFrom lowest isPlace joins zoned mergeBy mergesOf merges given fitting fittingOf baseOf judged unfitFrom firstUnfit beginsWith startWith carried carriedTo sheetsAfter onSheets reduceWith sweepWith undoWith unfoldWith Ieee.le Ieee.add neverBelow lowestIn cycles countsOf
+k5-otherwise = refl
+
+k5-fits : fittingOf 8 (k5 .plain .table) (k5 .plain .history) (k5 .plain .work) (k5 .sheets) .number ≡ 0
+unfolding partner meetsIn successor faceNext sameVertex sameFace gone survives beforeIn before repeats culprit testFrom permutationTest turned lead wholeEdge remove contract operate number kindOf leadOf edgeOf putBack undoOne undone shared judge passFrom pass run raised levelled reduce emptyLoop takes rising sweptFrom swept sweep endBelow lowered undoLevel undoLevels unfoldTo dartCount build kernelOf cut kernelsOf sameNumbers sameState isExactly isPyramid room fittingPlain tableOf pastOf over cleared workAfter begins handsBack sameInteger sameMetres sameYarn sameZone lowInto highOf merged returned mergedBy returnedBy lastInto sound keptSound keptRight sheetRight rightSheets lowestFrom lowest isPlace joins zoned mergeBy mergesOf merges given fitting fittingOf baseOf judged unfitFrom firstUnfit beginsWith startWith carried carriedTo sheetsAfter onSheets reduceWith sweepWith undoWith unfoldWith Ieee.le Ieee.add neverBelow lowestIn cycles countsOf
+k5-fits = refl
+
+k5-refused : undoWith wrong (k5 .plain .table) (k5 .plain .history) (k5 .plain .work) (k5 .sheets)
+    ≡ costed (leaves noPyramid wrong (k5 .plain .table) (k5 .plain .history) (cleared 8 (k5 .plain .work))) (k5 .sheets)
+k5-refused =
+    undo-wrong wrong (k5 .plain .table) (k5 .plain .history) (k5 .plain .work) (k5 .sheets)
+    (fits 8 (k5 .plain .table) (k5 .plain .history) (k5 .plain .work) (k5 .sheets) k5-fits) k5-wrong
