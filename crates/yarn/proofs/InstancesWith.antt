@@ -1,4 +1,4 @@
--- The laws of chained calls with sheets at map T of document 01, with records at its places, and its worked examples K5, K6 and K7: what they ask for can be
+-- The laws of chained calls with sheets at map T of document 01, with records at its places, and its worked examples K5 and K7: what they ask for can be
 -- met, and what they say is what the definitions compute. Slices and sheets are longer than 8 darts want, and hold rubbish there.
 --   triangle, numbers, area, records == what is lent: T, history, work area, and both sheets; one vertex is not measured
 --   begun           == what start leaves of them; k5 and k7 what the kernels of K5 and K7 leave after it
