@@ -11,7 +11,8 @@
 --   list-by-calls         == kernels that hold the operations of an accepted list, in any order, end as the list does
 --   history-by-calls      == and those that a history tells, whatever accepted calls left it
 --   any-order-of-calls    == and those of accepted kernels and sweeps
---   any-order-by-calls    == of kernels, from start to start
+--   list-from-start       == an accepted list, from an accepted start on
+--   any-order-by-calls    == kernels alone, from start to start
 use mathlib.Core.List.{List, [], map, reverse, reverse-reverse, List·Permᴰ}
 use mathlib.Core.Path.{_≡_, refl, sym, ap, _∙_, subst}
 use Prim.Native.Nat.{ℕ, _/_, _≤_, _<_}
@@ -41,7 +42,7 @@ use Rattle.yarn.specs.Totals.{stitchesAt, measuredAt}
 use Rattle.yarn.specs.Calls.{Costed, baseOf, startWith}
 use Rattle.yarn.proofs.CalledWith.{LentBy, pastBy, with-left}
 use Rattle.yarn.proofs.ChainedWith.{callWith, callsWith, AllDone, done-plain, plain-done, Above, above-standing, above-turns, above-calls}
-use Rattle.yarn.proofs.StartWith.{Begun, begun-lent}
+use Rattle.yarn.proofs.StartWith.{Begun, begun-lent, start-begun}
 use Rattle.yarn.proofs.GroundWith.{start-then-unfold}
 use Rattle.yarn.proofs.Redone.{Long}
 use Rattle.yarn.proofs.Settled.{lowest-settled}
@@ -206,12 +207,25 @@ module _ {D : ℕ} {b : List ℕ} {F : Sheets} {y : Costed} (long : Long D (D / 
           ap operationsIn (first .same) ∙ based-told (A .plain) cs rise (first .plain) in
           history-by-calls (rw told rearranged)
 
--- THE SAME OF KERNELS ALONE, FROM START TO START: a and y leave one base, in whatever slices, with the same base records on their sheets
+-- ---- from an accepted start on
+
+own-records : {D : ℕ} {b : List ℕ} {S : Sheets} → Looked D b [] S S
+own-records = record { sheet = λ x d p. refl; kept = λ t h k. refl }
+
+-- A LIST THAT IS ACCEPTED ONE BY ONE ON THE BASE, kinds mixed as they come, AND KERNELS THAT HOLD IT IN ANY ORDER, FROM AN ACCEPTED START ON
+pub list-from-start : (D : ℕ) (t h w : List ℕ) (S : Sheets) → startWith D t h w S .plain .answer .number ≡ 0
+    → (os : List Operation) {u past : List ℕ} → oneByOne D (take D t) [] os ≡ stands u past
+    → (ls : List Kernel) → List·Permᴰ os (operationsOf ls) → NoneEmpty ls → length ls ≤ 64 → EndsAs D (take D t) S u past (kernels ls) (startWith D t h w S)
+list-from-start D t h w S zero os e ls rearranged some few =
+    let G = start-begun D t h w S zero in
+    list-by-calls (record { sheet = G .sheet; kept = G .kept }) (begun-based G refl own-records) ls some few os e rearranged
+
+-- KERNELS ALONE, FROM START TO START: a and y leave one base, in whatever slices, with the same base records on their sheets
 pub any-order-by-calls : {D : ℕ} {t h w t′ h′ w′ : List ℕ} {S S′ : Sheets} {a y : Costed} → Begun D t h w S a → Begun D t′ h′ w′ S′ y
     → take D t′ ≡ take D t → Looked D (take D t) [] S S′
     → (ks ls : List Kernel) → AllDone (kernels ks) a → List·Permᴰ (operationsOf ks) (operationsOf ls) → NoneEmpty ls → length ls ≤ 64
     → EndsAlike D (take D t) (callsWith (kernels ks) a) (kernels ls) y
 any-order-by-calls {a = a} G H same looks ks ls done rearranged some few =
     any-order-of-calls (record { sheet = G .sheet; kept = G .kept }) (begun-based H same looks) ls some few
-    (begun-based G refl (record { sheet = λ x d p. refl; kept = λ t h k. refl })) (kernels ks) done (kernels-rise ks)
+    (begun-based G refl own-records) (kernels ks) done (kernels-rise ks)
     (rw (kernels-told ks (a .plain)) rearranged)

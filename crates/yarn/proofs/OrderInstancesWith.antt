@@ -36,7 +36,7 @@ use Rattle.yarn.specs.Calls.{Costed, fitting, fittingOf, baseOf, judged,
 use Rattle.yarn.proofs.Redone.{Long}
 use Rattle.yarn.proofs.ChainedWith.{callWith, callsWith}
 use Rattle.yarn.proofs.StartWith.{Begun, start-begun}
-use Rattle.yarn.proofs.AnyOrderWith.{BasedWith, begun-based, unfolded-based, EndsAs, EndsAlike, list-by-calls, history-by-calls, any-order-of-calls, any-order-by-calls}
+use Rattle.yarn.proofs.AnyOrderWith.{BasedWith, begun-based, unfolded-based, EndsAs, EndsAlike, list-by-calls, history-by-calls, any-order-of-calls, list-from-start, any-order-by-calls}
 use Rattle.yarn.proofs.InstancesWith.{triangle, numbers, area, records, contracting, removing, begun, K5, k7-accepted, k5-swept, round, round-accepted}
 
 -- ---- two starts
@@ -134,6 +134,10 @@ mixed = refl
 
 mixed-ends : EndsAs 8 (take 8 triangle) records (0 ∷ 6 ∷ 1 ∷ 4 ∷ 6 ∷ 0 ∷ 6 ∷ 7 ∷ []) (3 ∷ 8 ∷ 5 ∷ []) (kernels other) elsewhere
 mixed-ends = list-by-calls long elsewhere-with other other-some (lit≤ tt) _ mixed (List·Permᴰ·swap refl refl)
+
+mixed-from-start : EndsAs 8 (take 8 triangle) records (0 ∷ 6 ∷ 1 ∷ 4 ∷ 6 ∷ 0 ∷ 6 ∷ 7 ∷ []) (3 ∷ 8 ∷ 5 ∷ []) (kernels other) begun
+mixed-from-start =
+    list-from-start 8 triangle numbers area records (k7-accepted .0) _ mixed other (List·Permᴰ·swap refl refl) other-some (lit≤ tt)
 
 -- ---- what a history tells: K5, a sweep, undo, K7's removal, and down one level leave the operations of K5
 
