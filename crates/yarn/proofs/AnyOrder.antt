@@ -6,23 +6,21 @@
 --   SameZones D b hs gs S == the operations gs give the zones of hs: the same places, the same stitches, and measured or not alike
 --   zones-any-order   == so do rearranged operations, on one base with one sheet
 --   ZonesAgree D b t past S r == the result r of kernels agrees with t and past as demand 3 says, and its zones are the same
---   cut-zones         == whatever kernels hold the operations of accepted kernels, in any order
---   pyramid-zones     == or those of a pyramid
+--   list-zones        == whatever kernels hold the operations of a list that is accepted one by one, in any order
+--   cut-zones, pyramid-zones == or those of accepted kernels, or of a pyramid
 use mathlib.Core.Bool.{true, _&&_}
 use mathlib.Core.List.{List, [], map, reverse, List·Permᴰ}
-use mathlib.Core.Path.{_≡_, refl, sym, ap, _∙_, subst}
+use mathlib.Core.Path.{_≡_, refl, sym, ap, _∙_}
 use Prim.Native.Nat.{ℕ, _≤_, _<_}
 use lib.Dec.{T}
 use lib.ListN.{length}
 use Rattle.darts.specs.Map.{permutes, permutationTest}
 use Rattle.darts.specs.State.{State, baseState, Result, gives}
 use Rattle.darts.specs.Pyramid.{Kernel, Pyramid, dartCount, build}
-use Rattle.darts.specs.OneByOne.{operationOf, operationsOf, NoneEmpty}
-use Rattle.laws.proofs.runs.Operations.{done-told, told-history}
-use Rattle.laws.proofs.runs.Cuts.{kernels-done}
-use Rattle.laws.proofs.runs.Ends.{layered-base}
-use Rattle.laws.proofs.runs.Builds.{built}
-use Rattle.laws.proofs.claims.AnyOrder.{Agrees, any-cut}
+use Rattle.darts.specs.Kernel.{Operation, stands}
+use Rattle.darts.specs.OneByOne.{oneByOne, operationOf, operationsOf, NoneEmpty}
+use Rattle.laws.proofs.runs.Cuts.{kernels-listed}
+use Rattle.laws.proofs.claims.AnyOrder.{Agrees, any-order, pyramid-listed}
 use Rattle.laws.specs.Standing.{Standing}
 use Rattle.laws.proofs.bridge.Bases.{base-stands}
 use Rattle.sheets.specs.declared.Yarn.{Yarn}
@@ -33,11 +31,11 @@ use Rattle.yarn.specs.Places.{lowest, zoneOf, merges}
 use Rattle.yarn.specs.Totals.{stitchesAt, measuredAt, stitchesFrom, measuredFrom}
 use Rattle.yarn.proofs.Sums.{both}
 use Rattle.yarn.proofs.Settled.{lowest-settled}
-use Rattle.yarn.proofs.Apart.{pyramid-apart, pyramid-inside}
 use Rattle.yarn.proofs.Turns.{Turns, from-start}
 use Rattle.yarn.proofs.Gathered.{Figure, gathered-at}
 use Rattle.yarn.proofs.Totals.{stitches-figure}
 use Rattle.yarn.proofs.Commutes.{places-any-order}
+use Rattle.yarn.proofs.Listed.{listed-turns, listed-told}
 
 -- "not measured with anything is not measured"
 pub measured-figure : Figure _&&_ true measured
@@ -94,47 +92,32 @@ pub record ZonesAgree (D : ℕ) (b t past : List ℕ) (S : Sheets) (r : Result) 
   pub plain : Agrees D t past r
   pub zones : SameZones D b (reverse past) (reverse (plain .new)) S
 
--- ---- kernels on one base
+-- ---- on one base
 
+-- b is a base of D darts, and the operations os are accepted on it one by one, kinds mixed as they come
 module _ (D : ℕ) (b : List ℕ) (count : T (dartCount D)) (size : length b ≡ D) (permutation : permutationTest D b ≡ permutes) where
-  stands : Standing D b []
-  stands = base-stands D b count size permutation
+  -- ANY ORDER, ANY CUT INTO LEVELS: the kernels ls hold the same operations in some order; none of them is empty, and they are 64 at most
+  pub list-zones : (os : List Operation) {t past : List ℕ} → oneByOne D b [] os ≡ stands t past → (ls : List Kernel) → List·Permᴰ os (operationsOf ls)
+      → NoneEmpty ls → length ls ≤ 64 → (S : Sheets) → D ≤ length (S .sheet) → ZonesAgree D b t past S (build (baseState D b) b [] ls)
+  list-zones os {past = past} e ls rearranged some few S long =
+      let B = base-stands D b count size permutation in
+      let G = any-order D b count size permutation os e ls rearranged some few in
+      let f = kernels-listed (baseState D b) b [] ls (G .accepted) in
+      let told : List·Permᴰ (map operationOf (reverse past)) (map operationOf (reverse (G .new))) =
+      rw (listed-told B os e, listed-told B (operationsOf ls) f) rearranged in
+      record {
+        plain = G;
+        zones = zones-any-order B (reverse past) (reverse (G .new)) (listed-turns B os e) (listed-turns B (operationsOf ls) f) told S long;
+      }
 
-  -- the operations of what kernels build are theirs
-  built-told : (ks : List Kernel) {s : State} {t past : List ℕ} → build (baseState D b) b [] ks ≡ gives s t past
-      → map operationOf (reverse past) ≡ operationsOf ks
-  built-told ks e = told-history (done-told (operationsOf ks) (kernels-done (baseState D b) b [] ks e))
-
-  built-turns : (ks : List Kernel) {s : State} {t past : List ℕ} → build (baseState D b) b [] ks ≡ gives s t past → Turns D (lowest D b) (reverse past)
-  built-turns ks {s} {t} {past} e =
-      let darts : s .darts ≡ D = built stands (layered-base D b) (record { vertices = refl; faces = refl }) ks e .layered .size in
-      let P : Pyramid s t past = record {
-        count = rw darts count;
-        base = b;
-        size = rw darts size;
-        permutation = rw darts permutation;
-        kernels = ks;
-        built = subst (λ n. build (baseState n b) b [] ks ≡ gives s t past) (sym darts) e;
-      } in
-      subst (λ n. Turns n (lowest n b) (reverse past)) darts (record { inside = pyramid-inside P; apart = pyramid-apart P })
-
-  -- ANY ORDER, ANY CUT INTO LEVELS: the kernels ls hold the operations of accepted ones in some order; none of them is empty, and they are 64 at most
+  -- THE SAME WHERE THE ACCEPTED LIST IS CUT INTO KERNELS ALREADY
   pub cut-zones : (ks ls : List Kernel) {s : State} {t past : List ℕ} → build (baseState D b) b [] ks ≡ gives s t past
       → List·Permᴰ (operationsOf ks) (operationsOf ls) → NoneEmpty ls → length ls ≤ 64
       → (S : Sheets) → D ≤ length (S .sheet) → ZonesAgree D b t past S (build (baseState D b) b [] ls)
-  cut-zones ks ls {past = past} e rearranged some few S long =
-      let G = any-cut D b count size permutation ks ls e rearranged some few in
-      let told : List·Permᴰ (map operationOf (reverse past)) (map operationOf (reverse (G .new))) =
-      rw (built-told ks e, built-told ls (G .accepted)) rearranged in
-      record {
-        plain = G;
-        zones = zones-any-order stands (reverse past) (reverse (G .new)) (built-turns ks e) (built-turns ls (G .accepted)) told S long;
-      }
+  cut-zones ks ls e = list-zones (operationsOf ks) (kernels-listed (baseState D b) b [] ks e) ls
 
 -- THE SAME FOR EVERY PYRAMID, whichever of kernels and sweeps made its levels
 pub pyramid-zones : {s : State} {t past : List ℕ} (P : Pyramid s t past) (ls : List Kernel)
     → List·Permᴰ (map operationOf (reverse past)) (operationsOf ls) → NoneEmpty ls → length ls ≤ 64 → (S : Sheets) → s .darts ≤ length (S .sheet)
     → ZonesAgree (s .darts) (P .base) t past S (build (baseState (s .darts) (P .base)) (P .base) [] ls)
-pyramid-zones {s} P ls rearranged =
-    let told = built-told (s .darts) (P .base) (P .count) (P .size) (P .permutation) (P .kernels) (P .built) in
-    cut-zones (s .darts) (P .base) (P .count) (P .size) (P .permutation) (P .kernels) ls (P .built) (rw told at rearranged)
+pyramid-zones {s} {past = past} P = list-zones (s .darts) (P .base) (P .count) (P .size) (P .permutation) (map operationOf (reverse past)) (pyramid-listed P)

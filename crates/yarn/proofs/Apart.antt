@@ -2,6 +2,7 @@
 --   Apart R hs    == each contraction of hs finds two places at its turn, where the places at the first one are R
 --   Alike L R     == L and R give one label to the same darts
 --   replays-apart == labels that tell a legal history (test 16) tell places that are apart
+--   joins-merges  == places that are joined merge the labels of the edge's two darts
 --   after-alike   == along a history, the labels that the tests merge and the places stay alike
 --   base-standing, base-apart == the base of a pyramid stands, and the contractions on it find two places
 --   pyramid-apart == the same, said of the pyramid's own base
@@ -70,7 +71,7 @@ module _ (R : ℕ → ℕ) (p q e : ℕ) (low : min (R (2 * e)) (R (2 * e + 1)) 
       same : (x : ℕ) → joins R e x ≡ merge R p q x
       same x = rw (low, high)
 
-joins-merges : (R : ℕ → ℕ) (e : ℕ) → Merges R (joins R e) (2 * e) (2 * e + 1)
+pub joins-merges : (R : ℕ → ℕ) (e : ℕ) → Merges R (joins R e) (2 * e) (2 * e + 1)
 joins-merges R e = go (decLe (R (2 * e)) (R (2 * e + 1)))
   where
     go : Dec (R (2 * e) ≤ R (2 * e + 1)) → Merges R (joins R e) (2 * e) (2 * e + 1)

@@ -7,9 +7,12 @@
 --   LentBy a, pastBy a, baseBy a == what a leaves, lent to the next call; its past and its base
 --   WithLeft f s t h w S a == what the accepted call a with sheets leaves: what the plain call leaves, and given sheets for the next call
 --   with-left        == an accepted call leaves that
+--   plain-tells      == calls that leave the same without sheets leave the same with them
 use mathlib.Core.List.{List, [], _++_, reverse}
+use mathlib.Core.Logic.{_≢_}
 use mathlib.Core.Path.{_≡_, refl, sym, ap, _∙_, subst}
 use Prim.Native.Nat.{ℕ, _/_, _≤_}
+use native.Mathlib.Decide.{ℕ-discrete}
 use native.Mathlib.Omega.{arith}
 use lib.Dec.{T}
 use lib.ListN.{length, length-reverse}
@@ -27,7 +30,7 @@ use Rattle.sheets.specs.Sheets.{Sheets}
 use Rattle.sheets.specs.Notes.{Fits}
 use Rattle.yarn.specs.Places.{lowest, merges}
 use Rattle.yarn.specs.Given.{given}
-use Rattle.yarn.specs.Calls.{Costed, baseOf, carriedTo, onSheets, reduceWith, sweepWith, undoWith, unfoldWith}
+use Rattle.yarn.specs.Calls.{Costed, baseOf, judged, carriedTo, onSheets, reduceWith, sweepWith, undoWith, unfoldWith}
 use Rattle.yarn.proofs.Settled.{lowest-settled}
 use Rattle.yarn.proofs.Apart.{base-standing}
 use Rattle.yarn.proofs.Decided.{pyramid-decided}
@@ -36,7 +39,8 @@ use Rattle.yarn.proofs.Turns.{Turns}
 use Rattle.yarn.proofs.Totals.{merges-fit, pyramid-turns}
 use Rattle.yarn.proofs.Grows.{longs-up, longs-down, given-grows, given-shrinks}
 use Rattle.yarn.proofs.Moved.{Grown, Moved, up, down, carried-grown, carried-shrunk, step-moves}
-use Rattle.yarn.proofs.LentWith.{LentWith, with-plain, with-sheets, with-accepted}
+use Rattle.yarn.proofs.LentWith.{LentWith, judged-done, with-refused, with-plain, with-sheets, with-accepted}
+use Rattle.yarn.proofs.sentences.Refused.{state-refused}
 
 -- ---- one base
 
@@ -179,3 +183,41 @@ module _ (c : Call) (s : State) (t h w : List ℕ) (S : Sheets) where
   -- AN ACCEPTED CALL LEAVES WHAT THE PLAIN CALL LEAVES, AND SHEETS THAT THE NEXT CALL TAKES
   pub with-left : calledWith c s t h w S .plain .answer .number ≡ 0 → WithLeft (stepOf c) s t h w S (calledWith c s t h w S)
   with-left = rw (called-with c) on-with
+
+-- ---- calls that are the same without sheets
+
+pub costed-path : {a b : Costed} → a .plain ≡ b .plain → a .sheets ≡ b .sheets → a ≡ b
+costed-path p q = λ i. record { plain = p i; sheets = q i }
+
+module _ (c d : Call) (s : State) (t h w : List ℕ) (S : Sheets) (same : called c s t h w ≡ called d s t h w) where
+  abbrev a : Costed
+  a = calledWith c s t h w S
+
+  abbrev o : Costed
+  o = calledWith d s t h w S
+
+  left-alone : (x : Call) → calledWith x s t h w S .plain .answer .number ≢ 0 → calledWith x s t h w S .sheets ≡ S
+  left-alone x = rw (called-with x) (state-refused s t h w S (stepOf x))
+
+  judged-away : (x : Call) → judged s t h w S .number ≢ 0 → calledWith x s t h w S ≡ onSheets (stepOf d) s t h w S
+  judged-away x n = rw (called-with x) (with-refused s t h w S (stepOf x) n ∙ sym (with-refused s t h w S (stepOf d) n))
+
+  -- WHAT A CALL DOES TO THE STATE AND THE SLICES TELLS WHAT IT DOES TO THE SHEETS
+  pub plain-tells : a ≡ o
+  plain-tells = go (ℕ-discrete (judged s t h w S .number) 0)
+    where
+      plainly : LentWith s t h w S → a .plain ≡ o .plain
+      plainly L = called-plain c s t h w S L ∙ same ∙ sym (called-plain d s t h w S L)
+
+      sheets : a .plain ≡ o .plain → Dec (a .plain .answer .number ≡ 0) → a .sheets ≡ o .sheets
+      sheets p (yes e) =
+          let z : o .plain .answer .number ≡ 0 = ap (λ (x : After). x .answer .number) (sym p) ∙ e in
+          with-left c s t h w S e .sheets ∙ ap (λ (x : After). carriedTo (s .darts) (baseIn s t h) (pastOf s h) (pastOf (x .state) (x .history)) S) p
+          ∙ sym (with-left d s t h w S z .sheets)
+      sheets p (no n) = left-alone c n ∙ sym (left-alone d (λ e. n (ap (λ (x : After). x .answer .number) p ∙ e)))
+
+      go : Dec (judged s t h w S .number ≡ 0) → a ≡ o
+      go (no n) = judged-away c n ∙ sym (judged-away d n)
+      go (yes z) =
+          let p = plainly (judged-done s t h w S z) in
+          costed-path p (sheets p (ℕ-discrete (a .plain .answer .number) 0))

@@ -2,11 +2,13 @@
 --   callWith c a    == the call c with sheets, on what a leaves
 --   callsWith cs a  == the calls cs, the first on what a leaves
 --   AllDone cs a    == each of the calls cs answers 0
+--   Plainly cs a    == the calls cs are done with sheets and without them, and leave the same
+--   done-plain, plain-done == so it is of given sheets, where the one or the other are done
 --   Above D b F a   == a leaves a pyramid over the base b of D darts, and sheets that look like what its operations give of the sheets F
 --   above-calls     == accepted calls of every kind lead from there to there
 --   above-total     == and the total of stitches stays the base's
 use mathlib.Core.List.{List, [], _∷_, _++_, reverse}
-use mathlib.Core.Path.{_≡_, sym, ap, _∙_, subst, subst₂}
+use mathlib.Core.Path.{_≡_, refl, sym, ap, _∙_, subst, subst₂}
 use Prim.Native.Nat.{ℕ, _/_, _≤_}
 use native.Mathlib.Omega.{arith}
 use lib.ListN.{length, length-reverse}
@@ -15,6 +17,7 @@ use Rattle.darts.specs.Pyramid.{Pyramid}
 use Rattle.laws.specs.Standing.{Standing}
 use Rattle.laws.proofs.tests.Room.{pyramid-room}
 use Rattle.laws.proofs.chained.OnLent.{Call}
+use Rattle.laws.proofs.chained.Chains.{calls, AllDone as PlainDone, first-done}
 use Rattle.sheets.specs.Sheets.{Sheets}
 use Rattle.yarn.specs.Places.{lowest, zoneOf}
 use Rattle.yarn.specs.Given.{Looked}
@@ -28,7 +31,7 @@ use Rattle.yarn.proofs.Totals.{pyramid-turns, total-seen}
 use Rattle.yarn.proofs.AnyOrder.{laidOut}
 use Rattle.yarn.proofs.Moved.{Moved, up, down, carried-grown, carried-shrunk, step-moves}
 use Rattle.yarn.proofs.Looks.{looked-grown, looked-shrunk}
-use Rattle.yarn.proofs.CalledWith.{new-turns, calledWith, LentBy, pastBy, baseBy, with-left}
+use Rattle.yarn.proofs.CalledWith.{new-turns, calledWith, called-plain, LentBy, pastBy, baseBy, with-left}
 
 abbrev pub callWith : Call → Costed → Costed
 callWith c a = calledWith c (a .plain .state) (a .plain .table) (a .plain .history) (a .plain .work) (a .sheets)
@@ -40,6 +43,39 @@ callsWith (c ∷ cs) a = callsWith cs (callWith c a)
 abbrev pub AllDone : List Call → Costed → Type 0
 AllDone [] a = Unit {0}
 AllDone (c ∷ cs) a = (callWith c a .plain .answer .number ≡ 0) × AllDone cs (callWith c a)
+
+-- ---- calls with sheets, and the plain calls
+
+pub record Plainly (cs : List Call) (a : Costed) : Type 0 where
+  pub done : AllDone cs a
+  pub plain : PlainDone cs (a .plain)
+  pub same : callsWith cs a .plain ≡ calls cs (a .plain)
+
+left-by : (c : Call) (a : Costed) → callWith c a .plain .answer .number ≡ 0 → LentBy (callWith c a)
+left-by c a e = with-left c (a .plain .state) (a .plain .table) (a .plain .history) (a .plain .work) (a .sheets) e .lent
+
+pub plain-call : (c : Call) (a : Costed) → LentBy a → callWith c a .plain ≡ calls (c ∷ []) (a .plain)
+plain-call c a L = called-plain c (a .plain .state) (a .plain .table) (a .plain .history) (a .plain .work) (a .sheets) L
+
+pub done-plain : (cs : List Call) (a : Costed) → LentBy a → a .plain .answer .number ≡ 0 → AllDone cs a → Plainly cs a
+done-plain [] a L e d = record { done = tt; plain = e; same = refl }
+done-plain (c ∷ cs) a L e d =
+    let R = done-plain cs (callWith c a) (left-by c a (d .0)) (d .0) (d .1) in
+    record {
+      done = d;
+      plain = (e, subst (PlainDone cs) (plain-call c a L) (R .plain));
+      same = R .same ∙ ap (calls cs) (plain-call c a L);
+    }
+
+pub plain-done : (cs : List Call) (a : Costed) → LentBy a → PlainDone cs (a .plain) → Plainly cs a
+plain-done [] a L d = record { done = tt; plain = d; same = refl }
+plain-done (c ∷ cs) a L d =
+    let rest : PlainDone cs (callWith c a .plain) = subst (PlainDone cs) (sym (plain-call c a L)) (d .1) in
+    let e : callWith c a .plain .answer .number ≡ 0 = first-done cs (callWith c a .plain) rest in
+    let R = plain-done cs (callWith c a) (left-by c a e) rest in
+    record { done = (e, R .done); plain = d; same = R .same ∙ ap (calls cs) (plain-call c a L) }
+
+-- ---- above one base
 
 -- "sheets that .. [an] accepted start and these operations give"
 pub record Above (D : ℕ) (b : List ℕ) (F : Sheets) (a : Costed) : Type 0 where

@@ -13,6 +13,7 @@ pub mod Gathered
 pub mod Totals
 pub mod Returns
 pub mod Commutes
+pub mod Listed
 pub mod AnyOrder
 pub mod sentences
 pub mod Noted
@@ -26,4 +27,7 @@ pub mod UnfoldWith
 pub mod Looks
 pub mod ChainedWith
 pub mod StartWith
+pub mod GroundWith
 pub mod AnyOrderWith
+pub mod InstancesWith
+pub mod OrderInstancesWith

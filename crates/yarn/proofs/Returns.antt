@@ -2,6 +2,7 @@
 --   merged-on, returned-on   == operations and undos one after another
 --   returned-kept            == undo writes no kept record
 --   merged-kept              == operations write their own kept records alone, and a removal none
+--   returned-alike           == undo looks at the records that the operations which it undoes kept
 --   undone-sheet             == UNDO RETURNS THE SHEET
 --   undone-kept              == and of the second sheet all but the places of the contractions that are undone
 use mathlib.Core.List.{List}
@@ -91,6 +92,21 @@ module _ (ms : ℕ → Merge) where
       ∙ untouched-once (ms t) t S i (λ e. ap ms (sym e) ∙ free (omega arith) (omega arith))
 
   -- ---- undo
+
+  alike-once : (m : Merge) (t : ℕ) (S Z : Sheets) → S .sheet ≡ Z .sheet → at (S .kept) t ≡ at (Z .kept) t → returned m t S .sheet ≡ returned m t Z .sheet
+  unfolding returned
+  alike-once none t S Z sheet kept = sheet
+  alike-once (into low high) t S Z sheet kept = ap₂ (λ (s : List Zone) (z : Zone). set s low z) sheet kept
+
+  -- of n operations the last c are undone: what stands past the n kept records does not matter
+  pub returned-alike : (n c : ℕ) → c ≤ n → (S Z : Sheets) → S .sheet ≡ Z .sheet → ((i : ℕ) → i < n → at (S .kept) i ≡ at (Z .kept) i)
+      → returnedBy ms n c S .sheet ≡ returnedBy ms n c Z .sheet
+  unfolding returnedBy
+  returned-alike n zero l S Z sheet kept = sheet
+  returned-alike n (suc c) l S Z sheet kept =
+      let m = ms (n - 1) in
+      returned-alike (n - 1) c (omega arith) (returned m (n - 1) S) (returned m (n - 1) Z) (alike-once m (n - 1) S Z sheet (kept (n - 1) (omega arith)))
+      (λ i h. ap (λ s. at s i) (returned-once m (n - 1) S) ∙ kept i (omega arith) ∙ ap (λ s. at s i) (sym (returned-once m (n - 1) Z)))
 
   -- UNDO RETURNS THE SHEET, every record of it
   pub undone-sheet : (n c : ℕ) (S : Sheets) → n + c ≤ length (S .kept) → returnedBy ms (n + c) c (mergedBy ms n c S) .sheet ≡ S .sheet

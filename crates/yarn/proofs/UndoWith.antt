@@ -1,7 +1,7 @@
 -- "Undo returns the old figure bit for bit" (document 02, request Five), as calls.
 --   undoingWith a  == undo, on what a leaves
 --   ReturnedWith s t h w S a b == b returns what the call a was lent: the state, the table, and both sheets save where a's contractions kept records
---   there-and-back == sheets that go to a longer past and back
+--   there-and-back == sheets that go to a longer past and back; back-sheet, back-kept == what they then hold
 --   reduce-then-undo, sweep-then-undo == what undo returns after an accepted kernel, and after an accepted sweep
 use mathlib.Core.List.{List, _++_, reverse}
 use mathlib.Core.Path.{_≡_, sym, ap, ap₂, _∙_, subst}
@@ -46,12 +46,12 @@ module _ {past new : List ℕ} (G : Grown past new) (D : ℕ) (b : List ℕ) (S 
   there-and-back : carriedTo D b new past (carriedTo D b past new S) ≡ returnedBy ms (n + c) c (mergedBy ms n c S)
   there-and-back = carried-shrunk G D b _ ∙ rw (length-append (reverse past) (G .more), carried-grown G D b S)
 
-  back-sheet : length new ≤ length (S .kept) → carriedTo D b new past (carriedTo D b past new S) .sheet ≡ S .sheet
+  pub back-sheet : length new ≤ length (S .kept) → carriedTo D b new past (carriedTo D b past new S) .sheet ≡ S .sheet
   back-sheet room =
       let size : n + c ≡ length new = sym (length-append (reverse past) (G .more)) ∙ ap length (sym (G .grown)) ∙ length-reverse new in
       ap (λ (Z : Sheets). Z .sheet) there-and-back ∙ undone-sheet ms n c S (omega arith)
 
-  back-kept : (i : ℕ) → (length past ≤ i → i < length new → merges D b (reverse new) i ≡ none)
+  pub back-kept : (i : ℕ) → (length past ≤ i → i < length new → merges D b (reverse new) i ≡ none)
       → at (carriedTo D b new past (carriedTo D b past new S) .kept) i ≡ at (S .kept) i
   back-kept i free =
       let size : n + c ≡ length new = sym (length-append (reverse past) (G .more)) ∙ ap length (sym (G .grown)) ∙ length-reverse new in

@@ -27,7 +27,7 @@ use Rattle.yarn.proofs.Returns.{returned-on}
 use Rattle.yarn.proofs.Agree.{returned-same, merges-first}
 use Rattle.yarn.proofs.Moved.{Grown, grown-on, carried-shrunk, undo-grown}
 use Rattle.yarn.proofs.LentWith.{LentWith, Refused, uncounted, cramped, other, judged-done, refused, with-refused, with-plain}
-use Rattle.yarn.proofs.CalledWith.{LentBy, pastBy, baseBy, WithLeft, with-left}
+use Rattle.yarn.proofs.CalledWith.{LentBy, pastBy, baseBy, WithLeft, with-left, costed-path}
 use Rattle.yarn.proofs.UndoWith.{undoingWith, undo-plain}
 
 abbrev pub undosWith : ℕ → Costed → Costed
@@ -52,7 +52,7 @@ module _ (D : ℕ) (b : List ℕ) (S : Sheets) where
       sym (returned-same (merges-first D b (hs ++ more) last) (length (hs ++ more)) (length more) (omega arith) part (back (hs ++ more) last S))
       ∙ sym (rw (← append-assoc hs more last, count) (returned-on ms (length all) (length last) (length more) S ∙ rw left))
 
-  carried-on : {past mid new : List ℕ} → (G : Grown mid past) (H : Grown new mid) → carriedTo D b mid new (carriedTo D b past mid S) ≡ carriedTo D b past new S
+  pub carried-on : {past mid new : List ℕ} → (G : Grown mid past) (H : Grown new mid) → carriedTo D b mid new (carriedTo D b past mid S) ≡ carriedTo D b past new S
   carried-on {past} {mid} {new} G H =
       carried-shrunk H D b _ ∙ ap (back (reverse new) (H .more)) (carried-shrunk G D b S ∙ ap (λ hs. back hs (G .more) S) (H .grown))
       ∙ back-twice (reverse new) (H .more) (G .more) ∙ sym (carried-shrunk (grown-on H G) D b S)
@@ -99,9 +99,6 @@ undos-left (suc n) a L some =
     let one = undo-lowers (a .plain .state) _ _ (A .plain .gave) in
     let (U, plain) = undos-left n (undoingWith a) (A .lent) (omega arith) in
     (undone-on a (undosWith (suc (suc n)) a) A U, plain ∙ ap (undosBy (suc n)) (undo-plain a L))
-
-costed-path : {a b : Costed} → a .plain ≡ b .plain → a .sheets ≡ b .sheets → a ≡ b
-costed-path p q = λ i. record { plain = p i; sheets = q i }
 
 module _ (k : ℕ) (s : State) (t h w : List ℕ) (S : Sheets) (below : k < s .levels) where
   abbrev given : Costed

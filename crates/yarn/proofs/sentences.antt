@@ -15,3 +15,5 @@ pub mod Carrying
 pub mod Moves
 pub mod NotLooked
 pub mod Kept
+pub mod Sweep
+pub mod Numbers
