@@ -15,6 +15,7 @@
 --   over-by-calls        == and those that the history of a pyramid tells
 --   history-by-calls     == so of whatever accepted calls, undo and unfold too
 --   any-order-of-calls   == and so of accepted kernels and sweeps, by their own operations
+--   again-by-calls       == a pyramid unfolded to level 0, and its operations done again in any order
 --   both-by-calls        == accepted calls of every kind whose histories tell the same operations, in any order, end alike
 --   any-order-by-calls   == of kernels, from start to start
 use mathlib.Core.List.{List, [], _∷_, _++_, map, reverse, reverse-reverse, append-nil, append-assoc, List·Permᴰ}
@@ -40,7 +41,7 @@ use Rattle.laws.proofs.runs.Pyramids.{pyramid-built}
 use Rattle.laws.proofs.claims.AnyOrder.{Alike, Agrees, other-order, any-order, pyramid-listed}
 use Rattle.laws.proofs.chained.OnLent.{Call, byKernel, bySweep, byUndo, toLevel, callOn, stepOf, called-accepts, called-left}
 use Rattle.laws.proofs.chained.Begins.{entry-front, start-left, start-accepts}
-use Rattle.laws.proofs.chained.Based.{LentOn, Based, Over, base-count, base-size, base-permutation, start-based, based-over, over-base}
+use Rattle.laws.proofs.chained.Based.{LentOn, Based, Over, base-count, base-size, base-permutation, start-based, lent-over, based-over, over-base, unfold-based}
 use Rattle.laws.proofs.chained.Chains.{calls, AllDone, first-done, over-calls}
 
 abbrev pub kernels : List Kernel → List Call
@@ -241,6 +242,11 @@ module _ {D : ℕ} {b : List ℕ} {y : After} (B : Based D b y) (ls : List Kerne
     -- ANY ORDER, ANY CUT INTO LEVELS: the kernels hold the operations of accepted kernels and sweeps
     pub any-order-of-calls : Each Rises cs → List·Permᴰ (operationsBy cs a) (operationsOf ls) → EndsAlike D (calls cs a) (kernels ls) y
     any-order-of-calls rise rearranged = history-by-calls (rw (based-told A cs rise done) rearranged)
+
+-- A PYRAMID LENT WITH ROOM, whatever left it, such as a read of a file with levels: unfolded to level 0, and its operations done again in any order and cut
+pub again-by-calls : (a : After) → LentOn a → (ls : List Kernel) → NoneEmpty ls → length ls ≤ 64 → List·Permᴰ (operationsIn a) (operationsOf ls)
+    → EndsAlike (a .state .darts) a (kernels ls) (callOn (toLevel 0) a)
+again-by-calls a L ls some few = over-by-calls (unfold-based (lent-over a L)) ls some few (lent-over a L)
 
 -- WHATEVER ACCEPTED CALLS ON BOTH SIDES, sweeps and undos too: where their histories tell the same operations, in some order, they end alike
 pub both-by-calls : {D : ℕ} {b : List ℕ} {a y : After} → Based D b a → Based D b y → (cs ds : List Call) → AllDone cs a → AllDone ds y

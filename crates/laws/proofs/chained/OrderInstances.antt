@@ -26,11 +26,13 @@ use Rattle.darts.specs.Read.{flagAt, opening, kernelOfKind, kernelAt, kernelsAt
 use Rattle.darts.specs.Calls.{After, room, fitting, tableOf, pastOf, cleared, workAfter, judged, begins, start, handsBack, onState, reduceBy, sweepBy, undoBy, readInto, read}
 use Rattle.slices.specs.Over.{over}
 use Rattle.laws.proofs.runs.Taking.{taken}
-use Rattle.laws.proofs.chained.OnLent.{Call, byKernel, bySweep, byUndo}
+use Rattle.laws.proofs.chained.OnLent.{Call, byKernel, bySweep, byUndo, toLevel, callOn}
+use Rattle.laws.proofs.chained.Begins.{read-left}
 use Rattle.laws.proofs.chained.Based.{Based, start-based, read-based}
 use Rattle.laws.proofs.chained.Chains.{calls, AllDone}
-use Rattle.laws.proofs.chained.AnyOrder.{kernels, kernel, sweeping, operationsBy, operationsIn, EndsAs, EndsAlike, based-told, kernels-rise, list-by-calls, history-by-calls, any-order-of-calls, both-by-calls}
+use Rattle.laws.proofs.chained.AnyOrder.{kernels, kernel, sweeping, operationsBy, operationsIn, EndsAs, EndsAlike, based-told, kernels-rise, list-by-calls, history-by-calls, any-order-of-calls, again-by-calls, both-by-calls}
 use Rattle.laws.proofs.chained.Instances.{triangle, numbers, area, contracting, removing, begun, K6, K7, elsewhere, k7-accepted, k7-undone, k5-swept}
+use Rattle.laws.proofs.chained.FileInstances.{area as fileArea, k12, readK12, k12-read}
 
 abbrev contracted : ℕ → Operation
 contracted e = record { kind = contraction; edge = e }
@@ -131,3 +133,14 @@ undone-alike : EndsAlike 8 (calls (kernels K7 ++ (byUndo ∷ [])) begun) (kernel
 undone-alike =
     history-by-calls asked-based K6 (lit≤ tt, (lit≤ tt, tt)) (lit≤ tt) begun-based (kernels K7 ++ (byUndo ∷ [])) undone-done
     (rw undone-told (List·Permᴰ·swap refl refl))
+
+-- ---- K12 read, unfolded to level 0, and its operations done again the other way round
+
+k12-tells : operationsIn readK12 ≡ contracted 0 ∷ contracted 1 ∷ removed 2 ∷ []
+unfolding partner meetsIn successor faceNext sameVertex sameFace gone survives beforeIn before repeats culprit testFrom permutationTest turned lead wholeEdge remove contract operate number kindOf leadOf edgeOf putBack undoOne undone shared judge passFrom pass run raised levelled reduce dartCount build kernelOf cut kernelsOf sameNumbers sameState isExactly isPyramid room fitting tableOf pastOf over cleared workAfter judged byteAt word isDigit numberOn numberAt field flagAt opening kernelOfKind kernelAt kernelsAt pairsAt endAt body fromFlag endsFrom total fileState numbersFrom historyFrom fileHistory closed opened readFile readInto read kindWord neverBelow lowest cycles countsOf
+k12-tells = refl
+
+k12-again : EndsAlike (readK12 .state .darts) readK12 (kernels other) (callOn (toLevel 0) readK12)
+k12-again =
+    again-by-calls readK12 (read-left k12 (replicate 9 9) (replicate 5 9) fileArea (k12-read .0) .left .lent) other other-some (lit≤ tt)
+    (rw k12-tells (Permᴰ·reverse (operationsOf other)))
