@@ -9,5 +9,5 @@ pub mod Chains
 pub mod AnyOrder
 pub mod File
 pub mod Instances
-pub mod OrderInstances
 pub mod FileInstances
+pub mod OrderInstances

@@ -15,6 +15,8 @@
 --   over-by-calls        == and those that the history of a pyramid tells
 --   history-by-calls     == so of whatever accepted calls, undo and unfold too
 --   any-order-of-calls   == and so of accepted kernels and sweeps, by their own operations
+--   again-by-calls       == a pyramid unfolded to level 0, and its operations done again in any order
+--   both-by-calls        == accepted calls of every kind whose histories tell the same operations, in any order, end alike
 --   any-order-by-calls   == of kernels, from start to start
 use mathlib.Core.List.{List, [], _∷_, _++_, map, reverse, reverse-reverse, append-nil, append-assoc, List·Permᴰ}
 use mathlib.Core.Path.{_≡_, refl, sym, ap, _∙_, subst, subst₂}
@@ -32,14 +34,14 @@ use Rattle.darts.specs.OneByOne.{oneByOne, operationOf, operationsOf, NoneEmpty
 use Rattle.darts.proofs.Fitting.{Lengths}
 use Rattle.laws.proofs.Lists.{Each}
 use Rattle.laws.proofs.runs.Operations.{told-history}
-use Rattle.laws.proofs.runs.Results.{then}
+use Rattle.laws.proofs.runs.Results.{then, same-result}
 use Rattle.laws.proofs.runs.Reduces.{reduce-told}
 use Rattle.laws.proofs.runs.Sweeps.{loops, sweep-told}
 use Rattle.laws.proofs.runs.Pyramids.{pyramid-built}
-use Rattle.laws.proofs.claims.AnyOrder.{Agrees, any-order, pyramid-listed}
+use Rattle.laws.proofs.claims.AnyOrder.{Alike, Agrees, other-order, any-order, pyramid-listed}
 use Rattle.laws.proofs.chained.OnLent.{Call, byKernel, bySweep, byUndo, toLevel, callOn, stepOf, called-accepts, called-left}
 use Rattle.laws.proofs.chained.Begins.{entry-front, start-left, start-accepts}
-use Rattle.laws.proofs.chained.Based.{LentOn, Based, Over, base-count, base-size, base-permutation, start-based, based-over, over-base}
+use Rattle.laws.proofs.chained.Based.{LentOn, Based, Over, base-count, base-size, base-permutation, start-based, lent-over, based-over, over-base, unfold-based}
 use Rattle.laws.proofs.chained.Chains.{calls, AllDone, first-done, over-calls}
 
 abbrev pub kernels : List Kernel → List Call
@@ -101,6 +103,12 @@ pub kernels-told : (ks : List Kernel) (a : After) → operationsBy (kernels ks) 
 kernels-told [] a = refl
 kernels-told (k ∷ ks) a = ap (λ l. each (k .kind) (k .edges) ++ l) (kernels-told ks (callOn (byKernel k) a))
 
+same-run : (P : List ℕ → List ℕ → Type 0) {t past u new : List ℕ} → stands t past ≡ stands u new → P t past → P u new
+same-run P {t} {past} {u} {new} e h =
+    let table : t ≡ u = cc in
+    let history : past ≡ new = cc in
+    subst₂ P table history h
+
 -- ---- how calls end
 
 pub record EndsAs (D : ℕ) (u past : List ℕ) (cs : List Call) (x : After) : Type 0 where
@@ -140,6 +148,35 @@ over-holds {D} {b} {a} O =
       faces = rw (← O .darts) (B .stored .faces);
     }
 
+-- calls that are accepted, with a table and past like u and its past at their end
+alike-ends : {D : ℕ} {b : List ℕ} (cs : List Call) {x : After} {u past : List ℕ} → AllDone cs x → Over D b (calls cs x)
+    → Alike D u past (tableOf (calls cs x .state) (calls cs x .table)) (pastOf (calls cs x .state) (calls cs x .history)) → EndsAs D u past cs x
+unfolding pastOf
+alike-ends cs done O A =
+    let H = over-holds O in
+    record {
+      accepted = done;
+      survivors = A .survivors;
+      successors = λ d dart lives. sym (H .successors d dart) ∙ A .successors d dart lives;
+      operations = H .operations ∙ A .operations;
+      vertices = H .vertices ∙ ap (λ (c : Counts). c .vertices) (A .counts);
+      faces = H .faces ∙ ap (λ (c : Counts). c .faces) (A .counts);
+    }
+
+ends-alike : {D : ℕ} {b : List ℕ} {a : After} → Over D b a → (cs : List Call) {x : After}
+    → EndsAs D (tableOf (a .state) (a .table)) (pastOf (a .state) (a .history)) cs x → EndsAlike D a cs x
+unfolding pastOf
+ends-alike O cs E =
+    let H = over-holds O in
+    record {
+      accepted = E .accepted;
+      survivors = E .survivors;
+      successors = λ d dart lives. E .successors d dart lives ∙ H .successors d dart;
+      operations = E .operations ∙ sym (H .operations);
+      vertices = E .vertices ∙ sym (H .vertices);
+      faces = E .faces ∙ sym (H .faces);
+    }
+
 -- ---- calls of reduce build what the kernels build
 
 abbrev buildOn : After → List Kernel → Result
@@ -172,25 +209,19 @@ module _ {D : ℕ} {b : List ℕ} {y : After} (B : Based D b y) (ls : List Kerne
   base-build = rw (B .state, B .table)
 
   agrees-ends : {u past : List ℕ} → Agrees D u past (build (baseState D b) b [] ls) → EndsAs D u past (kernels ls) y
-  unfolding pastOf
-  agrees-ends G =
-      let all = build-calls ls y (B .lent) (B .answer) (sym base-build ∙ G .accepted) in
-      let z = calls (kernels ls) y in
-      let end : gives (G .state) (G .table) (G .new) ≡ gives (z .state) (tableOf (z .state) (z .table)) (pastIn z) =
-      sym (G .accepted) ∙ base-build ∙ calls-build ls y (B .lent) all in
-      let table : tableOf (z .state) (z .table) ≡ G .table = cc in
-      let new : pastIn z ≡ G .new = cc in
-      let H : Holds D (G .table) (G .new) z = rw (table, new) at (over-holds (over-calls (based-over B) (kernels ls) all)) in
-      record {
-        accepted = all;
-        survivors = λ d dart. ap (λ (p : List ℕ). survives p d) new ∙ G .alike .survivors d dart;
-        successors = λ d dart lives. sym (H .successors d dart) ∙ G .alike .successors d dart lives;
-        operations = H .operations ∙ G .alike .operations;
-        vertices = H .vertices ∙ ap (λ (c : Counts). c .vertices) (G .alike .counts);
-        faces = H .faces ∙ ap (λ (c : Counts). c .faces) (G .alike .counts);
-      }
+  agrees-ends {u} {past} G =
+      let done = build-calls ls y (B .lent) (B .answer) (sym base-build ∙ G .accepted) in
+      alike-ends (kernels ls) done (over-calls (based-over B) (kernels ls) done)
+      (same-result (λ z t new. Alike D u past t new) (sym (G .accepted) ∙ base-build ∙ calls-build ls y (B .lent) done) (G .alike))
 
 -- ---- any order, any cut
+
+-- the operations that the history of a pyramid tells are an accepted list on its base
+history-listed : {D : ℕ} {b : List ℕ} {a : After} → Over D b a
+    → oneByOne D b [] (operationsIn a) ≡ stands (tableOf (a .state) (a .table)) (pastOf (a .state) (a .history))
+history-listed {a = a} O =
+    subst₂ (λ n l. oneByOne n l [] (operationsIn a) ≡ stands (tableOf (a .state) (a .table)) (pastOf (a .state) (a .history))) (O .darts) (over-base O)
+    (rw (told-past a) at (pyramid-listed (O .lent .pyramid)))
 
 -- y leaves the base b, in whatever slices, and of the kernels ls none is empty, and they are 64 at most
 module _ {D : ℕ} {b : List ℕ} {y : After} (B : Based D b y) (ls : List Kernel) (some : NoneEmpty ls) (few : length ls ≤ 64) where
@@ -199,26 +230,9 @@ module _ {D : ℕ} {b : List ℕ} {y : After} (B : Based D b y) (ls : List Kerne
       → EndsAs D u past (kernels ls) y
   list-by-calls os e rearranged = agrees-ends B ls (any-order D b (base-count B) (base-size B) (base-permutation B) os e ls rearranged some few)
 
-  module _ {a : After} (O : Over D b a) where
-    history-listed : oneByOne D b [] (operationsIn a) ≡ stands (tableOf (a .state) (a .table)) (pastOf (a .state) (a .history))
-    history-listed =
-        subst₂ (λ n l. oneByOne n l [] (operationsIn a) ≡ stands (tableOf (a .state) (a .table)) (pastOf (a .state) (a .history))) (O .darts) (over-base O)
-        (rw (told-past a) at (pyramid-listed (O .lent .pyramid)))
-
-    -- THE KERNELS HOLD THE OPERATIONS THAT A PYRAMID'S HISTORY TELLS
-    pub over-by-calls : List·Permᴰ (operationsIn a) (operationsOf ls) → EndsAlike D a (kernels ls) y
-    unfolding pastOf
-    over-by-calls rearranged =
-        let E = list-by-calls (operationsIn a) history-listed rearranged in
-        let H = over-holds O in
-        record {
-          accepted = E .accepted;
-          survivors = E .survivors;
-          successors = λ d dart lives. E .successors d dart lives ∙ H .successors d dart;
-          operations = E .operations ∙ sym (H .operations);
-          vertices = E .vertices ∙ sym (H .vertices);
-          faces = E .faces ∙ sym (H .faces);
-        }
+  -- THE KERNELS HOLD THE OPERATIONS THAT A PYRAMID'S HISTORY TELLS
+  pub over-by-calls : {a : After} → Over D b a → List·Permᴰ (operationsIn a) (operationsOf ls) → EndsAlike D a (kernels ls) y
+  over-by-calls {a} O rearranged = ends-alike O (kernels ls) (list-by-calls (operationsIn a) (history-listed O) rearranged)
 
   module _ {a : After} (A : Based D b a) (cs : List Call) (done : AllDone cs a) where
     -- WHATEVER ACCEPTED CALLS, UNDO AND UNFOLD TOO: the kernels hold what the history that they leave tells
@@ -228,6 +242,21 @@ module _ {D : ℕ} {b : List ℕ} {y : After} (B : Based D b y) (ls : List Kerne
     -- ANY ORDER, ANY CUT INTO LEVELS: the kernels hold the operations of accepted kernels and sweeps
     pub any-order-of-calls : Each Rises cs → List·Permᴰ (operationsBy cs a) (operationsOf ls) → EndsAlike D (calls cs a) (kernels ls) y
     any-order-of-calls rise rearranged = history-by-calls (rw (based-told A cs rise done) rearranged)
+
+-- A PYRAMID LENT WITH ROOM, whatever left it, such as a read of a file with levels: unfolded to level 0, and its operations done again in any order and cut
+pub again-by-calls : (a : After) → LentOn a → (ls : List Kernel) → NoneEmpty ls → length ls ≤ 64 → List·Permᴰ (operationsIn a) (operationsOf ls)
+    → EndsAlike (a .state .darts) a (kernels ls) (callOn (toLevel 0) a)
+again-by-calls a L ls some few = over-by-calls (unfold-based (lent-over a L)) ls some few (lent-over a L)
+
+-- WHATEVER ACCEPTED CALLS ON BOTH SIDES, sweeps and undos too: where their histories tell the same operations, in some order, they end alike
+pub both-by-calls : {D : ℕ} {b : List ℕ} {a y : After} → Based D b a → Based D b y → (cs ds : List Call) → AllDone cs a → AllDone ds y
+    → List·Permᴰ (operationsIn (calls cs a)) (operationsIn (calls ds y)) → EndsAlike D (calls cs a) ds y
+both-by-calls {D} {b} {a} {y} A B cs ds first second rearranged =
+    let O = over-calls (based-over A) cs first in
+    let Z = over-calls (based-over B) ds second in
+    let G = other-order D b (base-count B) (base-size B) (base-permutation B) (operationsIn (calls cs a)) (history-listed O)
+    (operationsIn (calls ds y)) rearranged in
+    ends-alike O ds (alike-ends ds second Z (same-run (Alike D _ _) (sym (G .accepted) ∙ history-listed Z) (G .alike)))
 
 -- THE SAME OF KERNELS ALONE, FROM START TO START
 pub any-order-by-calls : (D : ℕ) (t h w : List ℕ) (ks ls : List Kernel) → AllDone (kernels ks) (start D t h w)

@@ -7,6 +7,8 @@
 --   ground-based            == and whatever else leaves a pyramid without levels, such as unfold to level 0
 --   based-over, over-base   == a base is over itself, and a pyramid over no other base than its own
 --   over-call               == what an accepted call leaves is over the same base
+--   lent-over               == a pyramid lent with room is over its base
+--   unfold-based            == which unfold to level 0 leaves
 use mathlib.Core.List.{List, [], _∷_}
 use mathlib.Core.Path.{_≡_, refl, sym, ap, _∙_}
 use Prim.Native.Nat.{ℕ}
@@ -25,7 +27,7 @@ use Rattle.laws.proofs.runs.Pyramids.{pyramid-built, built-pyramid}
 use Rattle.laws.proofs.runs.Undo.{unfold-returns, unfold-top}
 use Rattle.laws.proofs.claims.Decided.{base-undone}
 use Rattle.laws.proofs.calls.Judging.{Lent}
-use Rattle.laws.proofs.chained.OnLent.{Call, callOn, leads, called-left}
+use Rattle.laws.proofs.chained.OnLent.{Call, toLevel, callOn, leads, called-accepts, called-left}
 use Rattle.laws.proofs.chained.Begins.{start-left, read-left}
 
 abbrev pub LentOn : After → Type 0
@@ -110,6 +112,9 @@ module _ {s : State} {t past : List ℕ} (P : Pyramid s t past) where
   pyramid-ground : unfoldTo 0 s t past ≡ gives (baseState (s .darts) (P .base)) (P .base) []
   pyramid-ground = unfold-returns (base-pyramid (s .darts) (P .base) (P .count) (P .size) (P .permutation)) (P .kernels) (P .built)
 
+pub lent-over : (a : After) (L : LentOn a) → Over (a .state .darts) (L .pyramid .base) a
+lent-over a L = record { darts = refl; lent = L; ground = pyramid-ground (L .pyramid) }
+
 pub based-over : {D : ℕ} {b : List ℕ} {a : After} → Based D b a → Over D b a
 unfolding tableOf pastOf
 based-over {D} {b} B = record { darts = ap (λ s. s .darts) (B .state); lent = B .lent; ground = rw (B .state, B .table) (unfold-top (baseState D b) b []) }
@@ -127,3 +132,15 @@ module _ {D : ℕ} {b : List ℕ} {a : After} (O : Over D b a) where
   over-call c e =
       let A = called-left c (a .state) (a .table) (a .history) (a .work) e in
       record { darts = A .left .darts ∙ O .darts; lent = A .left .lent; ground = leads c .ground (A .before .pyramid) (A .gave) ∙ O .ground }
+
+  -- UNFOLD TO LEVEL 0 LEAVES THE BASE
+  pub unfold-based : Based D b (callOn (toLevel 0) a)
+  unfolding tableOf
+  unfold-based =
+      let zero = called-accepts (toLevel 0) (a .state) (a .table) (a .history) (a .work) (O .lent) (O .ground) in
+      let A = called-left (toLevel 0) (a .state) (a .table) (a .history) (a .work) zero in
+      let z = callOn (toLevel 0) a in
+      let end : gives (z .state) (take (z .state .darts) (z .table)) (pastOf (z .state) (z .history)) ≡ gives (baseState D b) b [] = sym (A .gave) ∙ O .ground in
+      let state : z .state ≡ baseState D b = cc in
+      let table : take (z .state .darts) (z .table) ≡ b = cc in
+      record { answer = zero; state = state; table = ap (λ n. take n (z .table)) (sym (A .left .darts ∙ O .darts)) ∙ table; lent = A .left .lent }

@@ -32,19 +32,19 @@ k7-table = 5 ∷ 2 ∷ 5 ∷ 4 ∷ 6 ∷ 4 ∷ 6 ∷ 7 ∷ 99 ∷ []
 abbrev k7-numbers : List ℕ
 k7-numbers = 1 ∷ 5 ∷ 10 ∷ 94 ∷ 95 ∷ []
 
-abbrev area : List ℕ
+abbrev pub area : List ℕ
 area = replicate 33 9
 
 abbrev output : List ℕ
 output = replicate 100 0
 
-abbrev k12 : List ℕ
+abbrev pub k12 : List ℕ
 k12 = bytes "numbers=0\ndarts=8\nlevels=2\nkernel=contract 2\nkernel=remove 1\npair=4 2\npair=4 5\npair=5 6\npair=6 7\n"
 
 abbrev wrote : Written
 wrote = write k7-state k7-table k7-numbers area output
 
-abbrev readK12 : After
+abbrev pub readK12 : After
 readK12 = read k12 (replicate 9 9) (replicate 5 9) area
 
 -- ---- written, and read again
@@ -61,7 +61,7 @@ k12-read-again =
 
 -- ---- read, and written again
 
-k12-read : (readK12 .answer .number ≡ 0) × ((readK12 .table ≡ 4 ∷ 2 ∷ 4 ∷ 5 ∷ 5 ∷ 6 ∷ 6 ∷ 7 ∷ 9 ∷ []) × (readK12 .history ≡ 1 ∷ 5 ∷ 8 ∷ 9 ∷ 9 ∷ []))
+pub k12-read : (readK12 .answer .number ≡ 0) × ((readK12 .table ≡ 4 ∷ 2 ∷ 4 ∷ 5 ∷ 5 ∷ 6 ∷ 6 ∷ 7 ∷ 9 ∷ []) × (readK12 .history ≡ 1 ∷ 5 ∷ 8 ∷ 9 ∷ 9 ∷ []))
 unfolding partner meetsIn successor faceNext sameVertex sameFace gone survives beforeIn before repeats culprit testFrom permutationTest turned lead wholeEdge remove contract operate number kindOf leadOf edgeOf putBack undoOne undone shared judge passFrom pass run raised levelled reduce dartCount build kernelOf cut kernelsOf sameNumbers sameState isExactly isPyramid room fitting tableOf pastOf over cleared workAfter judged byteAt word isDigit numberOn numberAt field flagAt opening kernelOfKind kernelAt kernelsAt pairsAt endAt body fromFlag endsFrom total fileState numbersFrom historyFrom fileHistory closed opened readFile readInto read kindWord neverBelow lowest cycles countsOf
 k12-read = (refl, (refl, refl))
 

@@ -103,7 +103,7 @@ k7-computed = (refl, (refl, refl))
 
 -- ---- K5 and K6: "Survivors 4 to 7 agree with K5."
 
-abbrev elsewhere : After
+abbrev pub elsewhere : After
 elsewhere = start 8 (take 8 triangle) (replicate 4 0) (replicate 32 7)
 
 k6-alike : EndsAlike 8 k5 (kernels K6) elsewhere

@@ -1,6 +1,6 @@
--- Demand 3 at document 01's map T: K5 and its sweep, against the same operations in another order and cut, from a base that was started and from one that was
+-- Demand 3, at document 01's map T: K5 and its sweep, against the same operations in another order and cut, from a base that was started and from one that was
 -- read.
---   swept           == what K5 and then the sweep leave, from start on
+--   sweptK5         == what K5 and then the sweep leave, from start on
 --   other           == their operations the other way round, each in a level of its own
 --   baseFile, asked == the file of the base T, and what read leaves of it
 use mathlib.Core.List.{List, [], _∷_, _++_, List·Permᴰ·swap, Permᴰ·reverse}
@@ -15,7 +15,7 @@ use Rattle.darts.specs.Map.{successor, faceNext, sameVertex, sameFace, gone, su
 use Rattle.darts.specs.Operation.{contraction, removal, turned, lead, wholeEdge, remove, contract, operate, number, kindOf, leadOf, edgeOf, putBack, undoOne, undone}
 use Rattle.darts.specs.Kernel.{Operation, stands, shared, judge, rising, passFrom, pass, run}
 use Rattle.darts.specs.State.{raised, levelled, reduce}
-use Rattle.darts.specs.Levels.{emptyLoop, takes, endBelow, lowered, undoLevel}
+use Rattle.darts.specs.Levels.{emptyLoop, takes, sweptFrom, swept, sweep, endBelow, lowered, undoLevel}
 use Rattle.darts.specs.Counts.{neverBelow, lowest, cycles, countsOf}
 use Rattle.darts.specs.Pyramid.{Kernel, dartCount, build, kernelOf, cut, kernelsOf, sameNumbers, sameState, isExactly, isPyramid}
 use Rattle.darts.specs.OneByOne.{oneByOne, operationsOf, NoneEmpty}
@@ -23,14 +23,16 @@ use Rattle.darts.specs.Text.{bytes}
 use Rattle.darts.specs.File.{kindWord}
 use Rattle.darts.specs.Scan.{byteAt, word, isDigit, numberOn, numberAt, field}
 use Rattle.darts.specs.Read.{flagAt, opening, kernelOfKind, kernelAt, kernelsAt, pairsAt, endAt, body, fromFlag, endsFrom, total, fileState, numbersFrom, historyFrom, fileHistory, closed, opened, readFile}
-use Rattle.darts.specs.Calls.{After, room, fitting, tableOf, pastOf, cleared, workAfter, judged, begins, start, handsBack, onState, reduceBy, undoBy, readInto, read}
+use Rattle.darts.specs.Calls.{After, room, fitting, tableOf, pastOf, cleared, workAfter, judged, begins, start, handsBack, onState, reduceBy, sweepBy, undoBy, readInto, read}
 use Rattle.slices.specs.Over.{over}
 use Rattle.laws.proofs.runs.Taking.{taken}
-use Rattle.laws.proofs.chained.OnLent.{Call, byKernel, bySweep, byUndo}
+use Rattle.laws.proofs.chained.OnLent.{Call, byKernel, bySweep, byUndo, toLevel, callOn}
+use Rattle.laws.proofs.chained.Begins.{read-left}
 use Rattle.laws.proofs.chained.Based.{Based, start-based, read-based}
 use Rattle.laws.proofs.chained.Chains.{calls, AllDone}
-use Rattle.laws.proofs.chained.AnyOrder.{kernels, kernel, sweeping, operationsBy, operationsIn, EndsAs, EndsAlike, kernels-rise, list-by-calls, history-by-calls, any-order-of-calls}
-use Rattle.laws.proofs.chained.Instances.{triangle, numbers, area, contracting, removing, begun, K6, K7, k7-accepted, k7-undone, k5-swept}
+use Rattle.laws.proofs.chained.AnyOrder.{kernels, kernel, sweeping, operationsBy, operationsIn, EndsAs, EndsAlike, based-told, kernels-rise, list-by-calls, history-by-calls, any-order-of-calls, again-by-calls, both-by-calls}
+use Rattle.laws.proofs.chained.Instances.{triangle, numbers, area, contracting, removing, begun, K6, K7, elsewhere, k7-accepted, k7-undone, k5-swept}
+use Rattle.laws.proofs.chained.FileInstances.{area as fileArea, k12, readK12, k12-read}
 
 abbrev contracted : ℕ → Operation
 contracted e = record { kind = contraction; edge = e }
@@ -41,8 +43,8 @@ removed e = record { kind = removal; edge = e }
 abbrev thenSweep : List Call
 thenSweep = byKernel (contracting (0 ∷ 1 ∷ [])) ∷ bySweep ∷ []
 
-abbrev swept : After
-swept = calls thenSweep begun
+abbrev sweptK5 : After
+sweptK5 = calls thenSweep begun
 
 abbrev other : List Kernel
 other = removing (2 ∷ []) ∷ contracting (1 ∷ []) ∷ contracting (0 ∷ []) ∷ []
@@ -79,7 +81,7 @@ swept-operations : operationsBy thenSweep begun ≡ contracted 0 ∷ contracted 
 unfolding partner meetsIn successor faceNext sameVertex sameFace gone survives beforeIn before repeats culprit testFrom permutationTest turned lead wholeEdge remove contract operate number kindOf leadOf edgeOf putBack undoOne undone shared judge rising passFrom pass run raised levelled reduce emptyLoop takes dartCount build kernelOf cut kernelsOf sameNumbers sameState isExactly isPyramid room fitting tableOf pastOf over cleared workAfter judged begins start handsBack onState reduceBy neverBelow lowest cycles countsOf taken
 swept-operations = refl
 
-swept-alike : EndsAlike 8 swept (kernels other) asked
+swept-alike : EndsAlike 8 sweptK5 (kernels other) asked
 swept-alike =
     any-order-of-calls asked-based other other-some (lit≤ tt) begun-based thenSweep swept-done (kernel, (sweeping, tt))
     (rw swept-operations (Permᴰ·reverse (operationsOf other)))
@@ -94,6 +96,20 @@ other-alike =
 swept-ends : (calls (kernels other) asked .state .vertices ≡ 2) × (calls (kernels other) asked .state .faces ≡ 1)
 unfolding partner meetsIn successor faceNext sameVertex sameFace gone survives beforeIn before repeats culprit testFrom permutationTest turned lead wholeEdge remove contract operate number kindOf leadOf edgeOf putBack undoOne undone shared judge passFrom pass run raised levelled reduce dartCount build kernelOf cut kernelsOf sameNumbers sameState isExactly isPyramid room fitting tableOf pastOf over cleared workAfter judged begins start handsBack onState reduceBy neverBelow lowest cycles countsOf
 swept-ends = (rw k5-swept at (swept-alike .vertices), rw k5-swept at (swept-alike .faces))
+
+-- ---- K6 and its sweep, on other slices
+
+abbrev reversedSweep : List Call
+reversedSweep = byKernel (contracting (1 ∷ 0 ∷ [])) ∷ bySweep ∷ []
+
+reversed-done : AllDone reversedSweep elsewhere × (operationsIn (calls reversedSweep elsewhere) ≡ contracted 1 ∷ contracted 0 ∷ removed 2 ∷ [])
+unfolding partner meetsIn successor faceNext sameVertex sameFace gone survives beforeIn before repeats culprit testFrom permutationTest turned lead wholeEdge remove contract operate number kindOf leadOf edgeOf putBack undoOne undone shared judge passFrom pass run raised levelled reduce dartCount build kernelOf cut kernelsOf sameNumbers sameState isExactly isPyramid room over cleared neverBelow lowest cycles countsOf rising emptyLoop takes fitting tableOf pastOf workAfter judged begins start handsBack onState reduceBy sweptFrom swept sweep sweepBy
+reversed-done = ((refl, (refl, refl)), refl)
+
+reversed-alike : EndsAlike 8 sweptK5 reversedSweep elsewhere
+reversed-alike =
+    both-by-calls begun-based (start-based 8 (take 8 triangle) (replicate 4 0) (replicate 32 7) (reversed-done .0 .0)) thenSweep reversedSweep swept-done (reversed-done .0)
+    (rw (based-told begun-based thenSweep (kernel, (sweeping, tt)) swept-done, swept-operations, reversed-done .1) (List·Permᴰ·swap refl refl))
 
 -- ---- a list of mixed kinds
 
@@ -117,3 +133,14 @@ undone-alike : EndsAlike 8 (calls (kernels K7 ++ (byUndo ∷ [])) begun) (kernel
 undone-alike =
     history-by-calls asked-based K6 (lit≤ tt, (lit≤ tt, tt)) (lit≤ tt) begun-based (kernels K7 ++ (byUndo ∷ [])) undone-done
     (rw undone-told (List·Permᴰ·swap refl refl))
+
+-- ---- K12 read, unfolded to level 0, and its operations done again the other way round
+
+k12-tells : operationsIn readK12 ≡ contracted 0 ∷ contracted 1 ∷ removed 2 ∷ []
+unfolding partner meetsIn successor faceNext sameVertex sameFace gone survives beforeIn before repeats culprit testFrom permutationTest turned lead wholeEdge remove contract operate number kindOf leadOf edgeOf putBack undoOne undone shared judge passFrom pass run raised levelled reduce dartCount build kernelOf cut kernelsOf sameNumbers sameState isExactly isPyramid room fitting tableOf pastOf over cleared workAfter judged byteAt word isDigit numberOn numberAt field flagAt opening kernelOfKind kernelAt kernelsAt pairsAt endAt body fromFlag endsFrom total fileState numbersFrom historyFrom fileHistory closed opened readFile readInto read kindWord neverBelow lowest cycles countsOf
+k12-tells = refl
+
+k12-again : EndsAlike (readK12 .state .darts) readK12 (kernels other) (callOn (toLevel 0) readK12)
+k12-again =
+    again-by-calls readK12 (read-left k12 (replicate 9 9) (replicate 5 9) fileArea (k12-read .0) .left .lent) other other-some (lit≤ tt)
+    (rw k12-tells (Permᴰ·reverse (operationsOf other)))

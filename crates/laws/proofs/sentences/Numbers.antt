@@ -49,7 +49,7 @@ pub record Right (a : After) : Type 0 where
   pub vertices : a .state .vertices ≡ countsOf (a .state .darts) (tableOf (a .state) (a .table)) (pastOf (a .state) (a .history)) .vertices
   pub faces : a .state .faces ≡ countsOf (a .state .darts) (tableOf (a .state) (a .table)) (pastOf (a .state) (a .history)) .faces
   -- "The status line asks for vertices and faces after each operation"
-  pub answered : countsOn a .answer ≡ done
+  pub shown : countsOn a .answer ≡ done
   pub shown-vertices : countsOn a .counts .vertices ≡ a .state .vertices
   pub shown-faces : countsOn a .counts .faces ≡ a .state .faces
 
@@ -57,7 +57,7 @@ lent-right : (a : After) → LentOn a → Right a
 lent-right a L =
     let N = pyramid-built (L .pyramid) .stored in
     let C = lent-counts (a .state) (a .table) (a .history) (a .work) L in
-    record { vertices = N .vertices; faces = N .faces; answered = C .answer; shown-vertices = C .vertices; shown-faces = C .faces }
+    record { vertices = N .vertices; faces = N .faces; shown = C .answer; shown-vertices = C .vertices; shown-faces = C .faces }
 
 pub start-right : (D : ℕ) (t h w : List ℕ) → start D t h w .answer .number ≡ 0 → Right (start D t h w)
 start-right D t h w e = lent-right (start D t h w) (start-left D t h w e .left .lent)
@@ -95,7 +95,7 @@ module _ (s : State) (t past : List ℕ) where
   differ-pyramid d P = differ-stores d (pyramid-built P .stored)
 
 module _ (s : State) (t h w : List ℕ) where
-  -- what is judged neither done nor fit for a step is handed back as it was given
+  -- what is not judged done is handed back as it was given
   judged-called : (c : Call) {a : Answer} → judged s t h w ≡ a → a .number ≢ 0 → called c s t h w ≡ leaves a s t h (workAfter a (s .darts) w)
   unfolding handsBack
   judged-called c j n = rw (called-on c) (on-refused s t h w (stepOf c) (rw j n) ∙ rw j)
