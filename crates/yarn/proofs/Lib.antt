@@ -27,3 +27,5 @@ pub mod Looks
 pub mod ChainedWith
 pub mod StartWith
 pub mod AnyOrderWith
+pub mod PlacesCounted
+pub mod PlacesWorked
