@@ -1,6 +1,5 @@
 -- A place for each vertex, at K1 and K5 of document 01: what the law asks for can be met, and what it says is what the definitions compute.
---   S0               == records of 1, 2, 3 and 4 stitches at the vertices of T
---   started, K5      == T started with them; the kernel "contract 0, 1"
+--   started, K5      == T started with records of 1, 2, 3 and 4 stitches; the kernel "contract 0, 1"
 --   started-done, k5-done == both answer 0
 --   k5-places        == the law there: two places, one for each of the two vertices
 --   four-then-two    == T has four places, and two of them are left
@@ -21,17 +20,14 @@ use Rattle.darts.specs.Calls.{room, fitting as fittingPlain, tableOf, pastOf, c
 use Rattle.laws.proofs.claims.Instances.{triangle, k5-table, k5-past}
 use Rattle.laws.proofs.chained.OnLent.{Call, byKernel}
 use Rattle.sheets.specs.Records.{sameInteger, sameMetres, sameYarn, sameZone}
-use Rattle.sheets.specs.Sheets.{Sheets, lowInto, highOf, merged, mergedBy, lastInto, sound, keptSound, keptRight, sheetRight, right as rightSheets}
+use Rattle.sheets.specs.Sheets.{lowInto, highOf, merged, mergedBy, lastInto, sound, keptSound, keptRight, sheetRight, right as rightSheets}
 use Rattle.yarn.specs.Places.{lowestFrom, lowest, isPlace, joins, zoned, placesAfter, zoneOf, mergeBy, mergesOf, merges}
 use Rattle.yarn.specs.Given.{given}
 use Rattle.yarn.specs.Totals.{summed}
 use Rattle.yarn.specs.Calls.{Costed, fitting, fittingOf, baseOf, judged, unfitFrom, firstUnfit, beginsWith, startWith, carried, carriedTo, sheetsAfter, onSheets, reduceWith}
-use Rattle.yarn.specs.Rows.{half, sheets}
+use Rattle.yarn.specs.OnT.{S0}
 use Rattle.yarn.proofs.ChainedWith.{AllDone}
 use Rattle.yarn.proofs.PlacesCounted.{places, PlaceEach, start-places}
-
-abbrev S0 : Sheets
-S0 = sheets (half 1) (half 2) (half 3) (half 4) []
 
 abbrev started : Costed
 started = startWith 8 triangle (replicate 4 9) (replicate 32 9) S0
