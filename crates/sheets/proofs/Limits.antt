@@ -32,10 +32,10 @@ pub record FromTo (top : ℕ) (x : Float) : Type 0 where
   pub exponent : ℤ
   -- no NaN, and no infinity
   pub number : x ≡ fin sign digits exponent
-  -- a fraction that is not below 0, nor above top; minus zero is zero
-  pub over : ℕ
-  pub from : signed sign (digits * up exponent) ≡ pos over
-  pub to : over ≤ top * down exponent
+  -- it is parts / down exponent, which is not below 0, nor above top; minus zero is zero
+  pub parts : ℕ
+  pub from : signed sign (digits * up exponent) ≡ pos parts
+  pub to : parts ≤ top * down exponent
 
 abbrev pub YarnFrom : ℕ → Yarn → Type 0
 YarnFrom top (Metres m) = FromTo top m
@@ -108,7 +108,7 @@ metres-limits (inf s) = (λ t. absurd (no s t), λ F. absurd (no-number (F .numb
     no-number : {z : Bool} {m : ℕ} {e : ℤ} → inf s ≡ fin z m e → ⊥
     no-number k = let z : _≡_ {A = ℕ} 0 1 = cc in omega arith
 metres-limits (fin s m e) = (
-  λ t. let (n, from, to) = number .0 t in record { sign = s; digits = m; exponent = e; number = refl; over = n; from = from; to = to },
+  λ t. let (n, from, to) = number .0 t in record { sign = s; digits = m; exponent = e; number = refl; parts = n; from = from; to = to },
   λ F. number .1 (told F),
 )
   where
@@ -120,7 +120,7 @@ metres-limits (fin s m e) = (
         let sign : F .sign ≡ s = let k = F .number in cc in
         let digits : F .digits ≡ m = let k = F .number in cc in
         let exponent : F .exponent ≡ e = let k = F .number in cc in
-        (F .over, rw (sign, digits, exponent) at (F .from), rw exponent at (F .to))
+        (F .parts, rw (sign, digits, exponent) at (F .from), rw exponent at (F .to))
 
 yarn-limits : (y : Yarn) → T (yarnFits y) ↔ YarnFrom 100000 y
 yarn-limits (Metres m) = metres-limits m

@@ -1,8 +1,8 @@
 -- "The total of stitches at any level equals the base's." (document 02, request Five): what is added up is one record for each vertex of that level.
---   counted p n      == how many of the numbers below n pass the test p
+--   passing p n      == how many of the numbers below n pass the test p
 --   places D R       == how many records the total adds up, where the places are R
---   counted-less     == one passes less
---   counted-within   == where all that pass one test pass another one, and they are as many, they are the same
+--   passing-less     == one passes less
+--   passing-within   == where all that pass one test pass another one, and they are as many, they are the same
 --   places-kept      == each contraction takes one place, a removal none
 --   Hit live R x     == a live dart has the place x
 --   base-places      == a base has a place for each vertex
@@ -66,51 +66,51 @@ one-some : (b : Bool) → 1 ≤ pick b 1 0 → T b
 one-some true h = tt
 one-some false h = absurd (omega arith)
 
-abbrev counted : (ℕ → Bool) → ℕ → ℕ
-counted p n = summed _+_ 0 (over p 0 (λ x. 1)) n
+abbrev passing : (ℕ → Bool) → ℕ → ℕ
+passing p n = summed _+_ 0 (over p 0 (λ x. 1)) n
 
 -- as many as the list of them is long
-counted-list : (p : ℕ → Bool) (n : ℕ) → counted p n ≡ length (darts p n)
+passing-list : (p : ℕ → Bool) (n : ℕ) → passing p n ≡ length (darts p n)
 unfolding summed darts
-counted-list p zero = refl
-counted-list p (suc n) = go (p n) (counted-list p n)
+passing-list p zero = refl
+passing-list p (suc n) = go (p n) (passing-list p n)
   where
-    go : (b : Bool) → counted p n ≡ length (darts p n) → counted p n + pick b 1 0 ≡ length (pick b (n ∷ darts p n) (darts p n))
+    go : (b : Bool) → passing p n ≡ length (darts p n) → passing p n + pick b 1 0 ≡ length (pick b (n ∷ darts p n) (darts p n))
     go true e = omega arith
     go false e = omega arith
 
 module _ (p q : ℕ → Bool) where
-  counted-less : (j n : ℕ) → j < n → p j ≡ true → q j ≡ false → ((x : ℕ) → x ≢ j → q x ≡ p x) → counted p n ≡ suc (counted q n)
+  passing-less : (j n : ℕ) → j < n → p j ≡ true → q j ≡ false → ((x : ℕ) → x ≢ j → q x ≡ p x) → passing p n ≡ suc (passing q n)
   unfolding summed
-  counted-less j zero h yes-j no-j others = absurd (not-suc-le-zero h)
-  counted-less j (suc n) h yes-j no-j others = go (ℕ-discrete n j) (λ l. counted-less j n l yes-j no-j others)
+  passing-less j zero h yes-j no-j others = absurd (not-suc-le-zero h)
+  passing-less j (suc n) h yes-j no-j others = go (ℕ-discrete n j) (λ l. passing-less j n l yes-j no-j others)
     where
-      go : Dec (n ≡ j) → (j < n → counted p n ≡ suc (counted q n)) → counted p n + pick (p n) 1 0 ≡ suc (counted q n + pick (q n) 1 0)
+      go : Dec (n ≡ j) → (j < n → passing p n ≡ suc (passing q n)) → passing p n + pick (p n) 1 0 ≡ suc (passing q n + pick (q n) 1 0)
       go (yes e) before =
-          let same : counted p n ≡ counted q n = sum-same plus _ _ n (λ x l. ap (λ b. pick b 1 0) (sym (others x (λ z. omega arith)))) in
-          rw (e, yes-j, no-j) (let k : counted p j ≡ counted q j = rw e at same in omega arith)
+          let same : passing p n ≡ passing q n = sum-same plus _ _ n (λ x l. ap (λ b. pick b 1 0) (sym (others x (λ z. omega arith)))) in
+          rw (e, yes-j, no-j) (let k : passing p j ≡ passing q j = rw e at same in omega arith)
       go (no o) before = rw (others n o) (let k = before (omega arith) in omega arith)
 
-  counted-most : (n : ℕ) → ((x : ℕ) → x < n → T (p x) → T (q x)) → counted p n ≤ counted q n
+  passing-most : (n : ℕ) → ((x : ℕ) → x < n → T (p x) → T (q x)) → passing p n ≤ passing q n
   unfolding summed
-  counted-most zero within = omega arith
-  counted-most (suc n) within =
-      let rest = counted-most n (λ x l. within x (omega arith)) in
+  passing-most zero within = omega arith
+  passing-most (suc n) within =
+      let rest = passing-most n (λ x l. within x (omega arith)) in
       let last = one-most (p n) (q n) (within n (omega arith)) in
       omega arith
 
-  counted-within : (n : ℕ) → ((x : ℕ) → x < n → T (p x) → T (q x)) → counted p n ≡ counted q n → (x : ℕ) → x < n → T (q x) → T (p x)
+  passing-within : (n : ℕ) → ((x : ℕ) → x < n → T (p x) → T (q x)) → passing p n ≡ passing q n → (x : ℕ) → x < n → T (q x) → T (p x)
   unfolding summed
-  counted-within zero within e x h t = absurd (not-suc-le-zero h)
-  counted-within (suc n) within e x h t = go (ℕ-discrete n x) (λ k l. counted-within n (λ y m. within y (omega arith)) k x l t)
+  passing-within zero within e x h t = absurd (not-suc-le-zero h)
+  passing-within (suc n) within e x h t = go (ℕ-discrete n x) (λ k l. passing-within n (λ y m. within y (omega arith)) k x l t)
     where
-      rest : counted p n ≤ counted q n
-      rest = counted-most n (λ y l. within y (omega arith))
+      rest : passing p n ≤ passing q n
+      rest = passing-most n (λ y l. within y (omega arith))
 
       last : pick (p n) 1 0 ≤ pick (q n) 1 0
       last = one-most (p n) (q n) (within n (omega arith))
 
-      go : Dec (n ≡ x) → (counted p n ≡ counted q n → x < n → T (p x)) → T (p x)
+      go : Dec (n ≡ x) → (passing p n ≡ passing q n → x < n → T (p x)) → T (p x)
       go (yes k) before =
           let some : _≡_ {A = ℕ} (pick (q n) 1 0) 1 = rw (k, T→true (q x) t) in
           rw (← k) (one-some (p n) (let a = rest in let b = last in omega arith))
@@ -119,7 +119,7 @@ module _ (p q : ℕ → Bool) where
 -- ---- how many places there are
 
 abbrev pub places : ℕ → (ℕ → ℕ) → ℕ
-places D R = counted (own R) D
+places D R = passing (own R) D
 
 -- a history number tells a contraction where it is odd
 module _ {D : ℕ} {R : ℕ → ℕ} (Q : Settled D R) (h : ℕ) (turn : kindOf h ≡ contraction → Turn D R (edgeOf h)) where
@@ -133,7 +133,7 @@ module _ {D : ℕ} {R : ℕ → ℕ} (Q : Settled D R) (h : ℕ) (turn : kindOf 
           let at-turn : Turn D R (edgeOf h) = turn (rw (eqb-other o)) in
           let two = turn-two Q at-turn in
           let less : places D R ≡ suc (places D (joins R (edgeOf h))) =
-          counted-less (own R) (own (joins R (edgeOf h))) (high R (edgeOf h)) D (two .high-dart) (eqb-same (two .high-own)) (high-left Q at-turn)
+          passing-less (own R) (own (joins R (edgeOf h))) (high R (edgeOf h)) D (two .high-dart) (eqb-same (two .high-own)) (high-left Q at-turn)
           (own-stays Q at-turn) in
           rw (eqb-other o) (omega arith)
 
@@ -177,12 +177,12 @@ module _ {D : ℕ} {t past : List ℕ} (S : Standing D t past) {R : ℕ → ℕ}
   inside d l = live-iff D past d .0 l .0
 
   -- the vertices are as many as the places that their darts have
-  vertices-hit : countsOf D t past .vertices ≡ counted (hit D (live D past) R) D
+  vertices-hit : countsOf D t past .vertices ≡ passing (hit D (live D past) R) D
   unfolding vertices
   vertices-hit =
       counts-numbers S .vertices-are
       ∙ cycles-hit (S .good .perm) Λ D (λ d l. let h = inside d l in let r = Q .below d h in omega arith)
-      ∙ sym (counted-list (hit D (live D past) R) D)
+      ∙ sym (passing-list (hit D (live D past) R) D)
 
   hit-own : (x : ℕ) → T (hit D (live D past) R x) → T (own R x)
   hit-own x t =
@@ -244,7 +244,7 @@ module _ {s : State} {t past : List ℕ} (P : Pyramid s t past) where
   place-survives x h e =
       let S = pyramid-built P .standing in
       hit-some D x
-      (counted-within (hit D (live D past) zone) (own zone) D (λ y l t. hit-own S settled labels y t)
+      (passing-within (hit D (live D past) zone) (own zone) D (λ y l t. hit-own S settled labels y t)
       (sym (vertices-hit S settled labels) ∙ sym places-vertices) x h (eqb-iff (zone x) x .1 e))
 
   -- THE TOTAL ADDS UP ONE RECORD FOR EACH VERTEX OF THE LEVEL
