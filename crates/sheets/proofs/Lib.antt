@@ -1,4 +1,5 @@
 pub mod Cell
+pub mod Limits
 pub mod Passes
 pub mod Same
 pub mod Sheets

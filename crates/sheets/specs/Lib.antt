@@ -1,3 +1,4 @@
 pub mod Records
 pub mod Sheets
 pub mod Notes
+pub mod Worked

@@ -31,3 +31,5 @@ pub mod GroundWith
 pub mod AnyOrderWith
 pub mod InstancesWith
 pub mod OrderInstancesWith
+pub mod PlacesCounted
+pub mod PlacesWorked

@@ -104,7 +104,7 @@ onSheets step s t h w S =
     let r : Result = if eqb (a .number) 0 then given else refuses a in
     costed (handsBack s t h w r) (sheetsAfter s (tableOf s t) (pastOf s h) S r)
 
--- "start, reduce, sweep, undo, unfold; both sheets"
+-- "reduce by a kernel; sweep; undo one level; unfold to level k", each lent both sheets
 unfoldable pub reduceWith : Kind → List ℕ → State → List ℕ → List ℕ → List ℕ → Sheets → Costed
 reduceWith k es = onSheets (reduce k es)
 

@@ -3,5 +3,5 @@ pub mod Given
 pub mod Calls
 pub mod Totals
 pub mod Rows
+pub mod OnT
 pub mod Worked
-pub mod WorkedStored

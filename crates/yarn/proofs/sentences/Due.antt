@@ -1,6 +1,6 @@
 -- "then 12, 6, 5, then the kernel's first failing edge": the answers of a call on a pyramid that is lent with room, and with its sheets.
 --   reduce-six, reduce-five, reduce-fails, reduce-zero == reduce, each answer where no earlier one is given
---   sweep-six, sweep-five, sweep-answers               == sweep: "still 5 when nothing is taken"
+--   sweep-six, sweep-five, sweep-answers               == sweep: "A sweep that takes no edge is an empty kernel (answer 5)."
 --   undo-twelve, undo-zero, unfold-twelve, unfold-zero == undo and unfold
 use mathlib.Core.List.{List, [], _∷_, _++_}
 use mathlib.Core.Logic.{_≢_, _⊎_}
