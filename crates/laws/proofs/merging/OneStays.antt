@@ -27,7 +27,7 @@ use Rattle.laws.proofs.merging.Closes.{WholeAt, turns-closes}
 use Rattle.laws.proofs.merging.Pieces.{OnePiece, AllBut, halves, turns-spare, all-but-end}
 use Rattle.laws.proofs.merging.Counts.{vertices-one, turns-vertices}
 
-all-or-one : {A B : ℕ → Type 0} (n : ℕ) → ((e : ℕ) → e < n → A e ⊎ B e) → ((e : ℕ) → e < n → A e) ⊎ ((e : ℕ) × (e < n) × B e)
+pub all-or-one : {A B : ℕ → Type 0} (n : ℕ) → ((e : ℕ) → e < n → A e ⊎ B e) → ((e : ℕ) → e < n → A e) ⊎ ((e : ℕ) × (e < n) × B e)
 all-or-one zero f = inl (λ e h. absurd (omega arith))
 all-or-one {A} {B} (suc n) f = go (all-or-one n (λ e h. f e (omega arith))) (f n (omega arith))
   where
