@@ -21,6 +21,7 @@ pub mod Planning
 pub mod Begun
 pub mod Sentences
 pub mod Five
+pub mod Numbered
 pub mod SecondPlace
 pub mod Alike
 pub mod Lengths
