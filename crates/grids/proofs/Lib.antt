@@ -22,6 +22,7 @@ pub mod Begun
 pub mod Sentences
 pub mod Five
 pub mod Numbered
+pub mod Largest
 pub mod SecondPlace
 pub mod Alike
 pub mod Lengths
