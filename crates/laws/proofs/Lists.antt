@@ -1,6 +1,7 @@
--- A property of each of a list, and map beside take, drop and reverse.
---   Each P xs == P holds of each of xs
-use mathlib.Core.List.{List, [], _∷_, _++_, map, reverse, reverseAux, reverse-append, reverse-reverse}
+-- A property of each of a list, lists in another order, and map beside take, drop and reverse.
+--   Each P xs   == P holds of each of xs
+--   perm-length == another order has the same length
+use mathlib.Core.List.{List, [], _∷_, _++_, map, reverse, reverseAux, reverse-append, reverse-reverse, List·Permᴰ, List·Permᴰ·nil, List·Permᴰ·cons, List·Permᴰ·swap, List·Permᴰ·trans}
 use mathlib.Core.Path.{_≡_, refl, sym, ap, _∙_}
 use mathlib.Mathlib.Data.List.Basic.{map-reverseAux}
 use Prim.Native.Nat.{ℕ, zero, suc, _<_}
@@ -19,6 +20,12 @@ each-at P (x ∷ l) f = (f 0 (omega arith), each-at P l (λ i h. f (suc i) (omeg
 pub each-reverse : (P : ℕ → Type 0) (l r : List ℕ) → Each P l → Each P r → Each P (reverseAux l r)
 each-reverse P [] r a b = b
 each-reverse P (x ∷ l) r a b = each-reverse P l (x ∷ r) (a .1) (a .0, b)
+
+pub perm-length : {A : Type 0} {l k : List A} → List·Permᴰ l k → length l ≡ length k
+perm-length List·Permᴰ·nil = refl
+perm-length (List·Permᴰ·cons e p) = ap suc (perm-length p)
+perm-length (List·Permᴰ·swap e f) = refl
+perm-length (List·Permᴰ·trans p q) = perm-length p ∙ perm-length q
 
 -- the history of a past that goes on
 pub reverse-onto : (numbers past : List ℕ) → reverse (reverse numbers ++ past) ≡ reverse past ++ numbers

@@ -2,10 +2,12 @@ pub mod Steps
 pub mod OnLent
 pub mod Faults
 pub mod Begins
+pub mod Based
 pub mod Undo
 pub mod Unfold
 pub mod Chains
 pub mod AnyOrder
 pub mod File
 pub mod Instances
+pub mod OrderInstances
 pub mod FileInstances

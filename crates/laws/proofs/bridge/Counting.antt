@@ -2,6 +2,7 @@
 --   met-lower      == a live dart meets a lower live one exactly where it is not the lowest of its cycle
 --   Numbers D m c  == the counts c are the numbers of darts, vertices and faces of the map m
 --   counts-numbers == so they are, of every table that stands
+--   counts-same    == one map has one set of counts
 --   counts-operate == what an operation that may be done takes: two darts, and one vertex by a contraction or one face by a removal
 use mathlib.Core.Bool.{Bool, true, false, not}
 use mathlib.Core.List.{List, [], _∷_}
@@ -23,7 +24,7 @@ use Rattle.permutations.proofs.Euler.{vertices, faces, survivors, contracted, r
 use Rattle.darts.specs.Map.{successor, faceNext, survives}
 use Rattle.darts.specs.Operation.{Kind, lead, operate, number}
 use Rattle.darts.specs.Kernel.{judge}
-use Rattle.darts.specs.Counts.{Counts, lowest, cycles, surviving, countsOf}
+use Rattle.darts.specs.Counts.{Counts, countsFrom, lowest, cycles, surviving, countsOf}
 use Rattle.laws.specs.Standing.{mapOf, Standing}
 use Rattle.laws.proofs.bridge.Standing.{live, opOf, next-entry}
 use Rattle.laws.proofs.bridge.Judged.{face-entry, judge-legal}
@@ -109,6 +110,17 @@ module _ {D : ℕ} {t past : List ℕ} (S : Standing D t past) where
     vertices-are = cycles-classes (S .good) past (successor t) alive (λ x h. sym (next-entry S x h)) D (omega arith);
     faces-are = cycles-classes (good-dual (S .good)) past (faceNext t) alive (face-entry S) D (omega arith);
   }
+
+pub counts-same : {D : ℕ} {t past u new : List ℕ} → Standing D t past → Standing D u new → mapOf D u new ≡ mapOf D t past
+    → countsOf D u new ≡ countsOf D t past
+unfolding countsOf
+counts-same {D} S Z same =
+    let was = counts-numbers S in
+    let is = counts-numbers Z in
+    let darts = is .darts-are ∙ ap (survivors D) same ∙ sym (was .darts-are) in
+    let around = is .vertices-are ∙ ap (vertices D) same ∙ sym (was .vertices-are) in
+    let within = is .faces-are ∙ ap (faces D) same ∙ sym (was .faces-are) in
+    λ i. countsFrom (darts i) (around i) (within i)
 
 -- ---- an operation
 

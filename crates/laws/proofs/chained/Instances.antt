@@ -27,32 +27,32 @@ use Rattle.laws.proofs.chained.Unfold.{undosBy, unfold-undos}
 use Rattle.laws.proofs.chained.Chains.{calls, AllDone, start-then-unfold}
 use Rattle.laws.proofs.chained.AnyOrder.{kernels, EndsAlike, any-order-by-calls}
 
-abbrev triangle : List ℕ
+abbrev pub triangle : List ℕ
 triangle = 5 ∷ 2 ∷ 1 ∷ 4 ∷ 6 ∷ 0 ∷ 3 ∷ 7 ∷ 99 ∷ []
 
-abbrev numbers : List ℕ
+abbrev pub numbers : List ℕ
 numbers = 91 ∷ 92 ∷ 93 ∷ 94 ∷ 95 ∷ []
 
-abbrev area : List ℕ
+abbrev pub area : List ℕ
 area = replicate 33 9
 
-abbrev contracting : List ℕ → Kernel
+abbrev pub contracting : List ℕ → Kernel
 contracting es = record { kind = contraction; edges = es }
 
-abbrev removing : List ℕ → Kernel
+abbrev pub removing : List ℕ → Kernel
 removing es = record { kind = removal; edges = es }
 
-abbrev begun : After
+abbrev pub begun : After
 begun = start 8 triangle numbers area
 
 abbrev K5 : List Kernel
 K5 = contracting (0 ∷ 1 ∷ []) ∷ []
 
 -- the operations of K6, in two levels
-abbrev K6 : List Kernel
+abbrev pub K6 : List Kernel
 K6 = contracting (1 ∷ []) ∷ contracting (0 ∷ []) ∷ []
 
-abbrev K7 : List Kernel
+abbrev pub K7 : List Kernel
 K7 = contracting (0 ∷ 1 ∷ []) ∷ removing (2 ∷ []) ∷ []
 
 abbrev k5 : After
@@ -62,13 +62,13 @@ abbrev k7 : After
 k7 = calls (kernels K7) begun
 
 -- K7 is accepted, from start on, and its top is between 0 and 3
-k7-accepted : AllDone (kernels K7) begun × ((0 < k7 .state .levels) × (k7 .state .levels < 3))
+pub k7-accepted : AllDone (kernels K7) begun × ((0 < k7 .state .levels) × (k7 .state .levels < 3))
 unfolding partner meetsIn successor faceNext sameVertex sameFace gone survives beforeIn before repeats culprit testFrom permutationTest turned lead wholeEdge remove contract operate number kindOf leadOf edgeOf putBack undoOne undone shared judge passFrom pass run raised levelled reduce endBelow lowered undoLevel undoLevels unfoldTo dartCount build kernelOf cut kernelsOf sameNumbers sameState isExactly isPyramid room fitting tableOf pastOf over cleared workAfter judged begins start handsBack onState reduceBy undoBy unfoldBy neverBelow lowest cycles countsOf
 k7-accepted = ((refl, (refl, refl)), (lit≤ tt, lit≤ tt))
 
 -- ---- K7 undone, and unfolded
 
-k7-undone : Returned (answered 0 0) (k5 .state) (k5 .table) (k7 .history) (k5 .work) (undoing k7)
+pub k7-undone : Returned (answered 0 0) (k5 .state) (k5 .table) (k7 .history) (k5 .work) (undoing k7)
 k7-undone = reduce-then-undo (k5 .state) (k5 .table) (k5 .history) (k5 .work) removal (2 ∷ []) (k7-accepted .0 .1 .1)
 
 k7-unfolded : callOn (toLevel 0) k7 ≡ undosBy (k7 .state .levels - 0) (leaves done (k7 .state) (k7 .table) (k7 .history) (k7 .work))
@@ -88,7 +88,7 @@ k7-base : Returned (answered 0 0) (baseState 8 (take 8 triangle)) triangle (k7 .
 k7-base = start-then-unfold 8 triangle numbers area (kernels K7) (k7-accepted .0)
 
 -- "an empty loop (r = q or s = p)": the sweep of K5 takes edge 2, and leaves what K7 leaves
-k5-swept : callOn bySweep k5 ≡ k7
+pub k5-swept : callOn bySweep k5 ≡ k7
 unfolding partner meetsIn successor faceNext sameVertex sameFace gone survives beforeIn before repeats culprit testFrom permutationTest turned lead wholeEdge remove contract operate number kindOf leadOf edgeOf putBack undoOne undone shared judge passFrom pass run raised levelled reduce emptyLoop takes rising sweptFrom swept sweep endBelow lowered undoLevel undoLevels unfoldTo dartCount build kernelOf cut kernelsOf sameNumbers sameState isExactly isPyramid room fitting tableOf pastOf over cleared workAfter judged begins start handsBack onState reduceBy sweepBy undoBy unfoldBy neverBelow lowest cycles countsOf
 k5-swept = refl
 

@@ -1,5 +1,6 @@
 -- "Any accepted list of operations is accepted in any other order and in any cut into levels, and every surviving dart ends with the same successor."
---   Alike D t past u new  == the table u and its past have the survivors of the table t and its past, with the same successors
+--   Alike D t past u new  == the table u and its past have the survivors of the table t and its past, with the same successors, by as many operations, and
+--                            the same counts
 --   ListAgrees D t past r == the run r of a list is accepted, and alike
 --   Agrees D t past r     == the result r of kernels is accepted, and alike
 --   other-order           == whatever list holds the operations of an accepted list, in any order, it agrees with it
@@ -10,7 +11,7 @@
 use mathlib.Core.Bool.{true}
 use mathlib.Core.List.{List, [], map, reverse, List·Permᴰ, Permᴰ·map}
 use mathlib.Core.Path.{_≡_, sym, _∙_, ap}
-use Prim.Native.Nat.{ℕ, _≤_, _<_}
+use Prim.Native.Nat.{ℕ, _+_, _≤_, _<_}
 use native.Mathlib.Omega.{arith}
 use lib.Dec.{T, ltb, lt→ltb}
 use lib.ListN.{length}
@@ -21,10 +22,13 @@ use Rattle.darts.specs.Kernel.{Operation, Run, stands}
 use Rattle.darts.specs.State.{State, baseState, Result, gives}
 use Rattle.darts.specs.Pyramid.{Kernel, Pyramid, dartCount, build}
 use Rattle.darts.specs.OneByOne.{oneByOne, operationOf, operationsOf, NoneEmpty}
-use Rattle.laws.specs.Standing.{mapOf}
+use Rattle.darts.specs.Counts.{countsOf}
+use Rattle.laws.specs.Standing.{mapOf, Standing}
+use Rattle.laws.proofs.Lists.{perm-length}
 use Rattle.laws.proofs.bridge.Standing.{live}
 use Rattle.laws.proofs.bridge.Bases.{base-stands}
-use Rattle.laws.proofs.runs.Operations.{stands-iff, done-told, told-history}
+use Rattle.laws.proofs.bridge.Counting.{counts-same}
+use Rattle.laws.proofs.runs.Operations.{stands-iff, done-told, told-longer, told-history}
 use Rattle.laws.proofs.runs.Runs.{ran, legal-accepted}
 use Rattle.laws.proofs.runs.Cuts.{kernels-done, kernels-listed, listed-kernels}
 
@@ -33,6 +37,9 @@ pub record Alike (D : ℕ) (t past u new : List ℕ) : Type 0 where
   pub survivors : (d : ℕ) → d < D → survives new d ≡ survives past d
   -- "every surviving dart ends with the same successor"
   pub successors : (d : ℕ) → d < D → T (survives past d) → successor u d ≡ successor t d
+  pub operations : length new ≡ length past
+  -- surviving darts, vertices, faces and the Euler number
+  pub counts : countsOf D u new ≡ countsOf D t past
 
 pub record ListAgrees (D : ℕ) (t past : List ℕ) (r : Run) : Type 0 where
   -- its own table and past
@@ -55,13 +62,16 @@ live-dart : (D : ℕ) (past : List ℕ) (d : ℕ) → d < D → live D past d �
 unfolding live
 live-dart D past d h = rw (T→true (ltb d D) (lt→ltb d D h))
 
-same-map : (D : ℕ) (t past u new : List ℕ) → mapOf D u new ≡ mapOf D t past → Alike D t past u new
-same-map D t past u new same = record {
+same-map : {D : ℕ} {t past u new : List ℕ} → Standing D t past → Standing D u new → length new ≡ length past → mapOf D u new ≡ mapOf D t past
+    → Alike D t past u new
+same-map {D} {t} {past} {u} {new} S Z many same = record {
   survivors = λ d dart. sym (live-dart D new d dart) ∙ ap (λ m. m .live d) same ∙ live-dart D past d dart;
   successors = λ d dart h.
       let was : live D past d ≡ true = live-dart D past d dart ∙ T→true (survives past d) h in
       let is : live D new d ≡ true = ap (λ m. m .live d) same ∙ was in
       rw (is, was) at (ap (λ m. m .next d) same);
+  operations = many;
+  counts = counts-same S Z same;
 }
 
 -- b is a base of D darts, and the operations os are accepted on it one by one, kinds mixed as they come
@@ -75,12 +85,14 @@ module _ (D : ℕ) (b : List ℕ) (count : T (dartCount D)) (size : length b ≡
       let R = ran S os (stands-iff D b [] os .0 accepted) in
       let same = any-order-of-maps (S .good) (Permᴰ·map _ rearranged) (R .legal) in
       let A = legal-accepted S ns (same .legal) in
-      let maps : mapOf D (A .table) (A .new) ≡ mapOf D t past = ran S ns (A .accepted) .map-after ∙ sym (R .map-after ∙ same .end) in
+      let Z = ran S ns (A .accepted) in
+      let maps : mapOf D (A .table) (A .new) ≡ mapOf D t past = Z .map-after ∙ sym (R .map-after ∙ same .end) in
+      let many = told-longer (Z .tells) ∙ ap (λ n. 0 + n) (sym (perm-length rearranged)) ∙ sym (told-longer (R .tells)) in
       record {
         table = A .table;
         new = A .new;
         accepted = stands-iff D b [] ns .1 (A .accepted);
-        alike = same-map D t past (A .table) (A .new) maps;
+        alike = same-map (R .standing) (Z .standing) many maps;
       }
 
   -- ANY ORDER, ANY CUT INTO LEVELS: the kernels ls hold the same operations in some order; none of them is empty, and they are 64 at most
