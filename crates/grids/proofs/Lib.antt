@@ -23,6 +23,7 @@ pub mod Sentences
 pub mod Five
 pub mod Numbered
 pub mod Largest
+pub mod Chained
 pub mod SecondPlace
 pub mod Alike
 pub mod Lengths
