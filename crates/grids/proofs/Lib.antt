@@ -24,6 +24,7 @@ pub mod Five
 pub mod Numbered
 pub mod Largest
 pub mod Chained
+pub mod ChainedInstances
 pub mod SecondPlace
 pub mod Alike
 pub mod Lengths
