@@ -5,6 +5,7 @@
 --   tree-thin, thin-tree == the cells are one more than the edges in a grid that does not close and is one cell wide or high, and in no other
 --   single-code      == one code on all edges is one code on all cells
 --   Survivor g plan past c == a survivor in the area of cell c
+--   OneEdge g u past == one edge is left, the last, and its two ends are two vertices
 --   Areas g plan u past == the areas, one law a field
 --   areas            == what the first kernel of every sized plan leaves
 use mathlib.Core.Bool.{true}
@@ -19,9 +20,10 @@ use lib.ListN.{length}
 use Rattle.permutations.specs.Choice.{T?, eqb-same, true→T}
 use Rattle.darts.specs.Map.{sameVertex}
 use Rattle.darts.specs.Kernel.{each, stands}
+use Rattle.darts.specs.Counts.{countsOf}
 use Rattle.laws.proofs.bridge.Standing.{live}
 use Rattle.laws.proofs.merging.Turns.{unlessShared, merging}
-use Rattle.laws.proofs.merging.Laws.{one-stays}
+use Rattle.laws.proofs.merging.Laws.{one-stays, all-but-apart, all-but-vertices}
 use Rattle.laws.proofs.merging.Cells.{Area, alone, over, turned, onward, area-least}
 use Rattle.laws.proofs.merging.Areas.{Excepted as Tree, areas as merged-areas, area-survives}
 use Rattle.grids.specs.Grid.{Grid, sized, cells, edges, dartsOf, Beside}
@@ -135,13 +137,23 @@ pub record Survivor (g : Grid) (plan past : List ℕ) (c : ℕ) : Type 0 where
   pub lives : T (live (dartsOf g) past dart)
   pub area : OneArea g plan c (cellOf g dart)
 
+-- "one edge stays": the last, whose darts are the survivors, and its two ends are two vertices, and all of them
+pub record OneEdge (g : Grid) (u past : List ℕ) : Type 0 where
+  pub edge : ℕ
+  pub last : suc edge ≡ edges g
+  pub count : suc (length past) ≡ edges g
+  pub lives : T (live (dartsOf g) past (2 * edge)) × T (live (dartsOf g) past (2 * edge + 1))
+  pub only : (d : ℕ) → T (live (dartsOf g) past d) → (d ≡ 2 * edge) ⊎ (d ≡ 2 * edge + 1)
+  pub apart : ¬ T (sameVertex (dartsOf g) u (2 * edge) (2 * edge + 1))
+  pub vertices : countsOf (dartsOf g) u past .vertices ≡ 2
+
 pub record Areas (g : Grid) (plan u past : List ℕ) : Type 0 where
   -- "Its vertices are exactly the connected areas of one code, save in a plan one cell wide or one cell high with a single code"
   pub shares : ¬ (Excepted g plan) → (a b : ℕ) → T (live (dartsOf g) past a) → T (live (dartsOf g) past b)
       → T (sameVertex (dartsOf g) u a b) ↔ OneArea g plan (cellOf g a) (cellOf g b)
   pub survives : (c : ℕ) → c < cells g → Survivor g plan past c
   -- "where one edge stays"
-  pub stays : Excepted g plan → suc (length past) ≡ edges g
+  pub stays : Excepted g plan → OneEdge g u past
 
 module _ (g : Grid) (s : T (sized g)) (plan : List ℕ) {u past : List ℕ} (stood : firstKernel g plan ≡ stands u past) where
   abbrev D : ℕ
@@ -161,13 +173,21 @@ module _ (g : Grid) (s : T (sized g)) (plan : List ℕ) {u past : List ℕ} (sto
   unfolding oneCode
   single-edges x e h = eqb-same (x .single _ _ (plan-base g s .cell (2 * e) (omega arith)) (plan-base g s .cell (2 * e + 1) (omega arith)))
 
-  one-edge-stays : Excepted g plan → suc (length past) ≡ edges g
+  one-edge-stays : Excepted g plan → OneEdge g u past
   one-edge-stays x =
       let c = cells-counted g s in
       let tree = thin-tree g s (x .flat) (x .thin) in
       let two = plan-base g s .several in
-      let left = one-stays D (oneCode g plan) (baseTable g) (base-stands g) merges (omega arith) (one-piece g s) (single-edges x) (omega arith) in
-      omega arith
+      let (e, A) = one-stays D (oneCode g plan) (baseTable g) (base-stands g) merges (omega arith) (one-piece g s) (single-edges x) (omega arith) in
+      record {
+        edge = e;
+        last = omega (arith, A .last);
+        count = omega (arith, A .last, A .count);
+        lives = A .lives;
+        only = A .only;
+        apart = all-but-apart D (oneCode g plan) (baseTable g) (base-stands g) merges e A;
+        vertices = all-but-vertices D (oneCode g plan) (baseTable g) (base-stands g) merges e A;
+      }
 
   -- THE AREAS OF EVERY SIZED PLAN
   pub areas : Areas g plan u past

@@ -45,7 +45,7 @@ firstEdges g plan = merged (dartsOf g) (oneCode g plan) (baseTable g)
 pub plan-pyramid : (g : Grid) → Limits g → Pyramid (baseState (dartsOf g) (baseTable g)) (baseTable g) []
 plan-pyramid g l = let B = plan-base g (sized-limits g .1 l) in base-pyramid (dartsOf g) (baseTable g) (B .count) (B .size) (B .permutation)
 
-empty-list : (l : List ℕ) → length l ≡ 0 → l ≡ []
+pub empty-list : (l : List ℕ) → length l ≡ 0 → l ≡ []
 empty-list [] e = refl
 empty-list (x ∷ l) e = absurd (omega arith)
 

@@ -2,19 +2,32 @@
 --   Row     == a grid, its base, the cell of each dart, and how many vertices and faces there are
 --   right r == the definitions give what the row says, and a start takes the base
 --   agreed  == so it is with all rows
+--   row-excepted == a row of three cells with one code is an excepted plan
+--   round-taken  == in the least grid that closes, with one code, an edge is taken: its two cells have two edges
 use mathlib.Core.Bool.{Bool, true, _&&_}
 use mathlib.Core.List.{List, [], _∷_, map}
-use mathlib.Core.Path.{_≡_, refl}
-use Prim.Native.Nat.{ℕ}
+use mathlib.Core.Logic.{inr}
+use mathlib.Core.Path.{_≡_, refl, sym, _∙_}
+use Prim.Native.Nat.{ℕ, zero, suc, _<_}
+use native.Mathlib.Omega.{arith}
 use lib.Dec.{eqb}
-use lib.ListN.{length}
+use lib.ListN.{length, replicate}
+use Rattle.slices.specs.Over.{over}
 use Rattle.permutations.specs.Partner.{partner}
-use Rattle.darts.specs.Map.{successor, faceNext, gone, survives, repeats, culprit, testFrom, permutationTest, passed}
-use Rattle.darts.specs.Kernel.{rising}
+use Rattle.permutations.specs.Cycle.{meetsIn}
+use Rattle.darts.specs.Answers.{done}
+use Rattle.darts.specs.Map.{successor, faceNext, sameVertex, gone, survives, beforeIn, before, repeats, culprit, testFrom, permutationTest, passed}
+use Rattle.darts.specs.Operation.{turned, lead, wholeEdge, contract, operate, number}
+use Rattle.darts.specs.Kernel.{shared, judge, rising, passFrom, pass}
+use Rattle.darts.specs.State.{raised, levelled}
 use Rattle.darts.specs.Counts.{Counts, neverBelow, lowest, cycles, surviving, countsOf}
 use Rattle.darts.specs.Pyramid.{dartCount, sameNumbers}
+use Rattle.darts.specs.Calls.{leaves, room, cleared}
 use Rattle.grids.specs.Grid.{Grid, flat, sized, cells, cell, along, rightEdge, upEdge, leftEdge, downEdge, edges, dartsOf}
 use Rattle.grids.specs.Base.{roundOf, rounds, has, nextOr, nextIn, placeOf, cellOf, successorOn, baseTable}
+use Rattle.grids.specs.Plans.{codeAt, oneCode, takesFirst, firstKernel, fittingPlan, begun, onPlan, planAreas}
+use Rattle.grids.specs.Worked.{codes}
+use Rattle.grids.proofs.Areas.{Excepted}
 
 pub record Row : Type 0 where
   grid : Grid
@@ -62,3 +75,23 @@ table =
 pub agreed : allRight table ≡ true
 unfolding partner successor faceNext gone survives repeats culprit testFrom permutationTest rising neverBelow lowest cycles surviving countsOf dartCount sameNumbers sized cells cell along rightEdge upEdge leftEdge downEdge edges roundOf rounds has nextOr nextIn placeOf cellOf successorOn baseTable
 agreed = refl
+
+-- ---- plans
+
+codes-alike : (a : ℕ) → a < cells (flat 3 1) → codeAt (codes 3) a ≡ 97
+unfolding cells codeAt
+codes-alike zero h = refl
+codes-alike (suc zero) h = refl
+codes-alike (suc (suc zero)) h = refl
+codes-alike (suc (suc (suc a))) h = absurd (omega arith)
+
+-- "a plan one cell wide or one cell high with a single code"
+pub row-excepted : Excepted (flat 3 1) (codes 3)
+row-excepted = record { flat = λ z. z; thin = inr refl; single = λ a b h k. codes-alike a h ∙ sym (codes-alike b k) }
+
+-- two cells that are joined on both sides are no pair that one edge joins: with one code, edge 0 is contracted, and edge 1 has one vertex at both ends
+pub round-taken : planAreas (ring 2 1) (codes 2) (replicate 4 9) (replicate 2 8) (replicate 16 7)
+    ≡ leaves done (record { darts = 4; operations = 1; levels = 1; ends = 1 ∷ replicate 63 0; vertices = 1; faces = 2 })
+    (3 ∷ 2 ∷ 3 ∷ 2 ∷ []) (1 ∷ 8 ∷ []) (replicate 16 0)
+unfolding partner meetsIn successor sameVertex gone survives beforeIn before turned lead wholeEdge contract operate number shared judge rising passFrom pass raised levelled room cleared over sized cells cell along rightEdge upEdge leftEdge downEdge edges roundOf rounds has nextOr nextIn placeOf cellOf successorOn baseTable codeAt oneCode takesFirst firstKernel fittingPlan begun onPlan planAreas faceNext neverBelow lowest cycles countsOf
+round-taken = refl

@@ -7,6 +7,7 @@ pub mod Sides
 pub mod Edges
 pub mod Cells
 pub mod Successors
+pub mod Codes
 pub mod Limits
 pub mod PlanBase
 pub mod Turns
@@ -19,6 +20,11 @@ pub mod Areas
 pub mod Planning
 pub mod Begun
 pub mod Sentences
+pub mod Five
+pub mod Numbered
+pub mod Largest
+pub mod Chained
+pub mod ChainedInstances
 pub mod SecondPlace
 pub mod Alike
 pub mod Lengths

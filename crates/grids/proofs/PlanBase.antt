@@ -59,12 +59,12 @@ module _ (g : Grid) where
 
   -- ---- an edge joins neighbours, and neighbours are joined by an edge
 
-  joins-beside : {e a b : ℕ} → Joins g e a b → Beside g a b
+  pub joins-beside : {e a b : ℕ} → Joins g e a b → Beside g a b
   joins-beside (onward x y h k) = right x y h k
   joins-beside (closing y c h k) = round y c k
   joins-beside (upward x y h k) = above x y h k
 
-  beside-joins : {a b : ℕ} → 0 < g .wales → Beside g a b → (e : ℕ) × Joins g e a b
+  pub beside-joins : {a b : ℕ} → 0 < g .wales → Beside g a b → (e : ℕ) × Joins g e a b
   beside-joins some (right x y h k) = (_, onward x y h k)
   beside-joins some (round y c k) = (_, closing y c some k)
   beside-joins some (above x y h k) = (_, upward x y h k)

@@ -6,6 +6,7 @@
 --   plan-refused, areas-refused == what a refusal leaves: "as a refused start"
 --   plan-place, areas-place  == the place is 0, whatever the answer
 --   plan-area, areas-area    == the work area
+--   plan-fitted              == an accepted plan is of a size inside the limits, and lent with room
 --   plan-gives               == an accepted base: the state of a base, the table, the history as it was
 --   plan-alike               == the base does not depend on the codes
 --   first-rises, first-takes == the edges that the first kernel takes
@@ -145,16 +146,19 @@ module _ (g : Grid) (plan t h w : List ℕ) where
   unfolding planBase
   plan-area = on-area g _ plan t h w (λ e. omega arith) (λ e. omega arith)
 
-  -- "Build it": the state of a base, the table's first numbers, and the history as it was
-  pub plan-gives : planBase g plan t h w .answer .number ≡ 0 → planBase g plan t h w ≡ leaves done (baseState (dartsOf g) (baseTable g)) (over (baseTable g) t) h (cleared (dartsOf g) w)
+  -- it was of a size inside the limits, and lent with room
+  pub plan-fitted : planBase g plan t h w .answer .number ≡ 0 → Limits g × Enough g (length plan) (length t) (length h) (length w)
   unfolding planBase
-  plan-gives z = go (planning g (gives (baseState (dartsOf g) (baseTable g)) (baseTable g) []) plan t h w)
+  plan-fitted z = go (planning g (gives (baseState (dartsOf g) (baseTable g)) (baseTable g) []) plan t h w)
     where
-      go : Planning g (gives (baseState (dartsOf g) (baseTable g)) (baseTable g) []) plan t h w
-          → planBase g plan t h w ≡ leaves done (baseState (dartsOf g) (baseTable g)) (over (baseTable g) t) h (cleared (dartsOf g) w)
+      go : Planning g (gives (baseState (dartsOf g) (baseTable g)) (baseTable g) []) plan t h w → Limits g × Enough g (length plan) (length t) (length h) (length w)
       go (outside n e) = absurd (let k : 15 ≡ 0 = rw e at z in omega arith)
       go (cramped l n e) = absurd (let k : 2 ≡ 0 = rw e at z in omega arith)
-      go (begins l k e) = base-leaves g plan t h w l k
+      go (begins l k e) = (l, k)
+
+  -- "Build it": the state of a base, the table's first numbers, and the history as it was
+  pub plan-gives : planBase g plan t h w .answer .number ≡ 0 → planBase g plan t h w ≡ leaves done (baseState (dartsOf g) (baseTable g)) (over (baseTable g) t) h (cleared (dartsOf g) w)
+  plan-gives z = let (l, k) = plan-fitted z in base-leaves g plan t h w l k
 
   -- the codes are not looked at: plans of enough codes are built alike
   pub plan-alike : (other : List ℕ) → length other ≡ length plan → planBase g other t h w ≡ planBase g plan t h w

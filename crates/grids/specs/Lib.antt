@@ -2,3 +2,4 @@ pub mod Grid
 pub mod Base
 pub mod Plans
 pub mod Worked
+pub mod Longest

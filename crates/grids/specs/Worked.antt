@@ -45,23 +45,23 @@ leaves D n s u g z a =
     && (sameNumbers (a .table) (over u (nines D))
     && (sameNumbers (a .history) (over g (eights D)) && sameNumbers (a .work) (over (replicate z 0) (sevens D)))))
 
-abbrev right : Row → Bool
+abbrev pub right : Row → Bool
 right (base W C plan D n s u g z) = leaves D n s u g z (planBase (flat W C) plan (nines D) (eights D) (sevens D))
 right (areas W C plan D n s u g z) = leaves D n s u g z (planAreas (flat W C) plan (nines D) (eights D) (sevens D))
 
-abbrev allRight : List Row → Bool
+abbrev pub allRight : List Row → Bool
 allRight [] = true
 allRight (r ∷ rs) = right r && allRight rs
 
-abbrev nothing : State
+abbrev pub nothing : State
 nothing = zeros
 
 -- one level of so many operations
-abbrev one : ℕ → ℕ → ℕ → ℕ → State
+abbrev pub one : ℕ → ℕ → ℕ → ℕ → State
 one D n v f = record { darts = D; operations = n; levels = 1; ends = n ∷ replicate 63 0; vertices = v; faces = f }
 
 -- no level
-abbrev none : ℕ → ℕ → ℕ → State
+abbrev pub none : ℕ → ℕ → ℕ → State
 none D v f = record { darts = D; operations = 0; levels = 0; ends = replicate 64 0; vertices = v; faces = f }
 
 -- 3 by 2 with two codes, drawn with the highest course first, as in docs/CALLS.md, and its base
@@ -117,6 +117,7 @@ table =
     ∷ base 3 0 [] 2 15 nothing [] [] 0
     ∷ areas 1 1 (97 ∷ []) 2 15 nothing [] [] 0
     ∷ areas 129 1 (codes 129) 2 15 nothing [] [] 0
+    ∷ areas 1 129 [] 2 15 nothing [] [] 0
     -- 2: the plan, and the slices
     ∷ base 2 1 (97 ∷ []) 2 2 nothing [] [] 0
     ∷ base 1 3 (codes 3) 2 2 nothing [] [] 0
@@ -125,6 +126,11 @@ table =
     ∷ areas 2 1 (97 ∷ 98 ∷ []) 2 5 nothing [] [] 8
     ∷ areas 2 1 (codes 2) 2 5 nothing [] [] 8
     ∷ areas 3 2 twoCodes 14 0 (one 14 4 2 3) (8 ∷ 2 ∷ 10 ∷ 5 ∷ 2 ∷ 11 ∷ 5 ∷ 13 ∷ 2 ∷ 4 ∷ 4 ∷ 3 ∷ 3 ∷ 5 ∷ []) (1 ∷ 13 ∷ 17 ∷ 25 ∷ []) 56
+    -- codes that differ in one bit, the highest and the lowest, are two codes
+    ∷ areas 3 1 (65 ∷ 193 ∷ 65 ∷ []) 4 5 nothing [] [] 16
+    ∷ areas 3 1 (64 ∷ 65 ∷ 64 ∷ []) 4 5 nothing [] [] 16
+    ∷ areas 3 1 (65 ∷ 193 ∷ 193 ∷ []) 4 0 (one 4 1 2 1) (0 ∷ 1 ∷ 1 ∷ 3 ∷ []) (5 ∷ []) 16
+    ∷ areas 3 1 (64 ∷ 65 ∷ 65 ∷ []) 4 0 (one 4 1 2 1) (0 ∷ 1 ∷ 1 ∷ 3 ∷ []) (5 ∷ []) 16
     -- one code, 2 by 2: the last edge has one vertex at both ends
     ∷ areas 2 2 (codes 4) 8 0 (one 8 3 1 2) (4 ∷ 6 ∷ 5 ∷ 7 ∷ 6 ∷ 7 ∷ 7 ∷ 6 ∷ []) (1 ∷ 5 ∷ 9 ∷ []) 32
     ∷ base 5 4 brief 62 0 (none 62 20 13) briefBase [] 248

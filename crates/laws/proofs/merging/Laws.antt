@@ -4,12 +4,13 @@
 --   merging-whole    == in one piece, such an edge is the last, all the others were taken, and the base had one vertex more than edges
 --   merging-survives, merging-piece, merging-spare == every dart is joined to a survivor; so every piece keeps one, and an edge survives
 --   merging-counts, merging-vertex == each edge taken takes one vertex, and one at least is left
---   one-stays        == where a base of one piece has one vertex more than edges, and `same` takes them all, exactly one edge survives
+--   one-stays        == where a base of one piece has one vertex more than edges, and `same` takes them all, exactly one edge survives: the last
+--   all-but-apart, all-but-vertices == its two ends are two vertices, and there are no others
 use mathlib.Core.Bool.{Bool, true}
 use mathlib.Core.List.{List, []}
 use mathlib.Core.Logic.{_↔_}
 use mathlib.Core.Path.{_≡_, refl}
-use Prim.Native.Nat.{ℕ, suc, _+_, _/_, _<_, _≤_}
+use Prim.Native.Nat.{ℕ, _+_, _*_, _/_, _<_, _≤_}
 use native.Mathlib.Omega.{arith}
 use lib.Dec.{T}
 use lib.ListN.{length}
@@ -23,9 +24,9 @@ use Rattle.laws.proofs.merging.Taken.{Taken}
 use Rattle.laws.proofs.merging.Stands.{merging-turns}
 use Rattle.laws.proofs.merging.Joined.{Joined}
 use Rattle.laws.proofs.merging.Joins.{Left, turns-standing, turns-joined, turns-left}
-use Rattle.laws.proofs.merging.Closes.{WholeAt, Closed, turns-closes}
+use Rattle.laws.proofs.merging.Closes.{WholeAt, Closed, eleven-whole, turns-closes}
 use Rattle.laws.proofs.merging.Pieces.{OnePiece, AllBut, all-but-end, turns-piece, turns-spare}
-use Rattle.laws.proofs.merging.Counts.{vertices-some, turns-vertices, all-but-tree}
+use Rattle.laws.proofs.merging.Counts.{vertices-some, vertices-two, turns-vertices, all-but-tree}
 use Rattle.laws.proofs.merging.OneStays.{turns-one-stays}
 
 module _ (D : ℕ) (same : ℕ → Bool) (t : List ℕ) (S : Standing D t []) {u past : List ℕ} (stood : merging D same t ≡ stands u past) where
@@ -57,5 +58,13 @@ module _ (D : ℕ) (same : ℕ → Bool) (t : List ℕ) (S : Standing D t []) {u
   pub merging-vertex : 0 < D → 1 ≤ countsOf D u past .vertices
   merging-vertex some = let l = merging-survives 0 some in vertices-some (turns-standing S P) (l .dart) (l .lives)
 
-  pub one-stays : 0 < D → OnePiece D t → ((e : ℕ) → e < D / 2 → same e ≡ true) → countsOf D t [] .vertices ≡ D / 2 + 1 → suc (length past) ≡ D / 2
+  pub one-stays : 0 < D → OnePiece D t → ((e : ℕ) → e < D / 2 → same e ≡ true) → countsOf D t [] .vertices ≡ D / 2 + 1
+      → (e : ℕ) × AllBut D (merged D same t) u past e
   one-stays = turns-one-stays S P
+
+  pub all-but-apart : (e : ℕ) → AllBut D (merged D same t) u past e → ¬ T (sameVertex D u (2 * e) (2 * e + 1))
+  all-but-apart e A = eleven-whole D u past e (A .whole) .0
+
+  pub all-but-vertices : (e : ℕ) → AllBut D (merged D same t) u past e → countsOf D u past .vertices ≡ 2
+  all-but-vertices e A =
+      vertices-two (turns-standing S P) (2 * e) (2 * e + 1) (λ k. omega arith) (A .lives .0) (A .lives .1) (A .only) (all-but-apart e A)

@@ -1,7 +1,7 @@
 -- A base of one piece in which `same` takes every edge: a tree keeps one edge.
 --   all-or-one   == of the numbers below n, each has A, or one has B
 --   all-joined   == in one piece whose edges are all joined, all darts are
---   turns-one-stays == of a tree exactly one edge survives
+--   turns-one-stays == of a tree exactly one edge survives: the last, and it is a whole piece
 use mathlib.Core.Bool.{Bool, true}
 use mathlib.Core.List.{List, []}
 use mathlib.Core.Logic.{_⊎_, inl, inr, ⊎-elim}
@@ -10,7 +10,6 @@ use Prim.Native.Nat.{ℕ, zero, suc, _+_, _*_, _/_, _<_}
 use native.Mathlib.Decide.{ℕ-discrete}
 use native.Mathlib.Omega.{arith}
 use lib.Dec.{T}
-use lib.ListN.{length}
 use Rattle.permutations.specs.Partner.{partner, partner-first, partner-second}
 use Rattle.permutations.specs.Cycle.{meets-next}
 use Rattle.permutations.specs.Map.{mate, mate-live, next-live}
@@ -25,10 +24,10 @@ use Rattle.laws.proofs.merging.Taken.{Taken}
 use Rattle.laws.proofs.merging.Joined.{Joined, itself, vertex, back, further, base-live}
 use Rattle.laws.proofs.merging.Joins.{turns-standing, turns-joined, turns-left}
 use Rattle.laws.proofs.merging.Closes.{WholeAt, turns-closes}
-use Rattle.laws.proofs.merging.Pieces.{OnePiece, halves, turns-spare, all-but-end}
+use Rattle.laws.proofs.merging.Pieces.{OnePiece, AllBut, halves, turns-spare, all-but-end}
 use Rattle.laws.proofs.merging.Counts.{vertices-one, turns-vertices}
 
-all-or-one : {A B : ℕ → Type 0} (n : ℕ) → ((e : ℕ) → e < n → A e ⊎ B e) → ((e : ℕ) → e < n → A e) ⊎ ((e : ℕ) × (e < n) × B e)
+pub all-or-one : {A B : ℕ → Type 0} (n : ℕ) → ((e : ℕ) → e < n → A e ⊎ B e) → ((e : ℕ) → e < n → A e) ⊎ ((e : ℕ) × (e < n) × B e)
 all-or-one zero f = inl (λ e h. absurd (omega arith))
 all-or-one {A} {B} (suc n) f = go (all-or-one n (λ e h. f e (omega arith))) (f n (omega arith))
   where
@@ -65,12 +64,12 @@ module _ {D : ℕ} {t : List ℕ} (S : Standing D t []) (one : OnePiece D t) {P 
 
 -- OF A TREE EXACTLY ONE EDGE SURVIVES
 pub turns-one-stays : {D : ℕ} {same : ℕ → Bool} {t es u past : List ℕ} → Standing D t [] → Turns D same t (D / 2) es u past → 0 < D → OnePiece D t
-    → ((e : ℕ) → e < D / 2 → same e ≡ true) → countsOf D t [] .vertices ≡ D / 2 + 1 → suc (length past) ≡ D / 2
+    → ((e : ℕ) → e < D / 2 → same e ≡ true) → countsOf D t [] .vertices ≡ D / 2 + 1 → (e : ℕ) × AllBut D es u past e
 turns-one-stays {D} {same} {t} {es} {u} {past} S P some one all tree =
     go (all-or-one (D / 2) (λ e h. turns-closes S P (omega arith) e h (all e h)))
   where
-    go : ((e : ℕ) → e < D / 2 → Joined D t (Taken es) (2 * e) (2 * e + 1)) ⊎ ((e : ℕ) × (e < D / 2) × WholeAt D same t e) → suc (length past) ≡ D / 2
-    go (inr (e, h, W)) = let A = all-but-end S one P e h (all e h) W in omega (arith, A .last, A .count)
+    go : ((e : ℕ) → e < D / 2 → Joined D t (Taken es) (2 * e) (2 * e + 1)) ⊎ ((e : ℕ) × (e < D / 2) × WholeAt D same t e) → (e : ℕ) × AllBut D es u past e
+    go (inr (e, h, W)) = (e, all-but-end S one P e h (all e h) W)
     go (inl each) =
         let l = turns-left S P 0 some in
         let small = turns-standing S P .good .small in
@@ -78,4 +77,4 @@ turns-one-stays {D} {same} {t} {es} {u} {past} S P some one all tree =
         (λ a b la lb. turns-joined S P a b la lb .1 (all-joined S one each a b (small a la) (small b lb))) in
         let count = turns-vertices S P in
         let spare = turns-spare S P refl some in
-        omega arith
+        absurd (omega arith)
