@@ -1,5 +1,5 @@
--- "metres not from 0 to 100,000 (a NaN is not) or stitches too many" (document 02, request Five): the limits of a base's records, over the exact values of
--- floats. A float is no number, or plus or minus m * 2 ^ e, and 2 ^ e is the fraction up e / down e.
+-- "metres not from 0 to 100,000 (a NaN is not) or stitches too many" (document 02, request Five): the limits of a base's records, over the exact
+-- values of floats. A float is no number, or plus or minus m * 2 ^ e, and 2 ^ e is the fraction up e / down e.
 --   signed s n       == n, with the sign s
 --   FromTo top x     == x is a number from 0 to top
 --   YarnFrom top y   == metres from 0 to top, or not measured

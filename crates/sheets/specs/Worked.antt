@@ -1,16 +1,16 @@
--- Records worked by hand, as one table under one claim (document 02, request Five): the limits of a base's records, one bit inside and outside; a merge, and
--- what undo returns.
+-- Records worked by hand, as one table under one claim (document 02, request Five): the limits of a base's records, one bit inside and outside; a
+-- merge, and what undo returns.
 --   Row            == one worked example
 --   right r        == the definitions give what the row says
 --   bits n         == the float of the pattern n
 --   table          == the rows
 --   records-worked == all of them are right
-use mathlib.Core.Bool.{Bool, true, false, _&&_, not}
+use mathlib.Core.Bool.{Bool, true, _&&_, not}
 use mathlib.Core.List.{List, [], _∷_}
 use mathlib.Core.Path.{_≡_, refl}
 use Prim.Native.Nat.{ℕ}
 use lib.Ieee as Ieee
-use lib.Ieee.{Float, binary64}
+use lib.Ieee.{binary64}
 use Rattle.sheets.specs.declared.Yarn.{Yarn}
 use Rattle.sheets.specs.declared.Yarn.the-variants.{Metres, NotMeasured}
 use Rattle.sheets.specs.declared.Zone.{Zone}
@@ -103,7 +103,7 @@ table =
     ∷ undoing (zone 1 NotMeasured) (zone 2 fifth)
     ∷ []
 
--- subtraction and comparison below are computed too, so that a definition with these is refused by what it gives
+-- subtraction and the strict comparison are computed too, so that a definition with one of them is refused by what it gives
 pub records-worked : allRight table ≡ true
 unfolding sameInteger sameMetres sameYarn sameZone merged returned Ieee.le Ieee.lt Ieee.add Ieee.sub Ieee.ofBits
 records-worked = refl

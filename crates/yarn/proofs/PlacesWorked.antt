@@ -24,7 +24,8 @@ use Rattle.sheets.specs.Sheets.{lowInto, highOf, merged, mergedBy, lastInto, so
 use Rattle.yarn.specs.Places.{lowestFrom, lowest, isPlace, joins, zoned, placesAfter, zoneOf, mergeBy, mergesOf, merges}
 use Rattle.yarn.specs.Given.{given}
 use Rattle.yarn.specs.Totals.{summed}
-use Rattle.yarn.specs.Calls.{Costed, fitting, fittingOf, baseOf, judged, unfitFrom, firstUnfit, beginsWith, startWith, carried, carriedTo, sheetsAfter, onSheets, reduceWith}
+use Rattle.yarn.specs.Calls.{Costed, fitting, fittingOf, baseOf, judged, unfitFrom, firstUnfit, beginsWith, startWith}
+use Rattle.yarn.specs.Calls.{carried, carriedTo, sheetsAfter, onSheets, reduceWith}
 use Rattle.yarn.specs.OnT.{S0}
 use Rattle.yarn.proofs.ChainedWith.{AllDone}
 use Rattle.yarn.proofs.PlacesCounted.{places, PlaceEach, start-places}
