@@ -1,4 +1,4 @@
--- What one turn of each loop over the sheets does, on lists alone. A loop keeps "what is looked for from the start is what is looked for from here".
+-- What one turn of each loop over the sheets does, on lists alone. A loop keeps that what is looked for from the start is what is looked for from here.
 --   both s k                   == the two sheets s and k
 --   on-sheet, on-kept          == the record at a place of the sheet, and at one of the kept sheet
 --   base-sound, left-sound     == what makes a base's record sound, and one that an operation left

@@ -110,7 +110,7 @@ step-fits A s t h w S L {z} {u} {new} e G =
 
 -- ---- the four calls on a state
 
--- "start, reduce, sweep, undo, unfold; both sheets"
+-- "reduce by a kernel; sweep; undo one level; unfold to level k", with both sheets
 abbrev pub calledWith : Call → State → List ℕ → List ℕ → List ℕ → Sheets → Costed
 calledWith (byKernel k) = reduceWith (k .kind) (k .edges)
 calledWith bySweep = sweepWith
@@ -124,7 +124,7 @@ called-with bySweep = refl
 called-with byUndo = refl
 called-with (toLevel k) = refl
 
--- "both stay", and they agree
+-- the calls with sheets and the plain calls agree
 pub called-plain : (c : Call) (s : State) (t h w : List ℕ) (S : Sheets) → LentWith s t h w S → calledWith c s t h w S .plain ≡ called c s t h w
 called-plain c s t h w S L = rw (called-with c, called-on c) (with-plain s t h w S (stepOf c) L)
 

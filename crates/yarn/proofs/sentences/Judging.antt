@@ -34,7 +34,7 @@ use Rattle.yarn.specs.Calls.{fittingOf, baseOf, judged, onSheets}
 use Rattle.yarn.proofs.Decided.{pyramid-decided as sheets-decided}
 use Rattle.yarn.proofs.sentences.Lengths.{Room, Fits, room?, lengths?, fitting-one, fitting-two, fitting-narrow, fitting-fine}
 
--- "sheets that .. an accepted start and these operations give"
+-- sheets that an accepted start and these operations give
 abbrev pub Right : State → List ℕ → List ℕ → Sheets → Type 0
 Right s t h S = T (given (s .darts) (baseOf s (tableOf s t) (pastOf s h)) (reverse (pastOf s h)) S)
 

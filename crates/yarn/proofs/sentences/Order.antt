@@ -1,4 +1,4 @@
--- "Order: 1, 2, then 4", and the sheets in it: 2 and 4 cover them too.
+-- "Order: 1, 2, then 3 or 4", and the sheets in it: 2 and 4 cover them too.
 --   First D t h w S a  == where D is no count of darts, or something lent is too short for it, a is 1 or 2, whatever else is wrong
 --   Judges s t h w S a == the same for a state; and with room, a is 4 where it is no pyramid, or the sheets are not given
 --   firsts             == each sheet that is too short is a fault by itself

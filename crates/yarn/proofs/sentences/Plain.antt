@@ -1,4 +1,4 @@
--- A call with sheets and the plain call: "both stay", and they agree.
+-- A call with sheets and the plain call: they agree.
 --   First       == the plain call is judged 1 or 2
 --   first-same  == where the plain call is judged 1 or 2, so is the call with sheets
 --   judged-same == with sheets that are long enough, and right where a pyramid is lent, they are judged the same
@@ -48,7 +48,7 @@ module _ (s : State) (t h w : List ℕ) (S : Sheets) where
   unfolding onSheets onState
   same-plain step e = rw e
 
-  -- "the calls of page 01 go on as they are": ONCE THE SHEETS ARE RIGHT, A CALL IS WHAT THE PLAIN CALL IS
+  -- ONCE THE SHEETS ARE RIGHT, A CALL IS WHAT THE PLAIN CALL IS
   module _ (room : Room (s .darts) S) (right : Lent s t h w → Right s t h S) where
     pub state-plain : (step : State → List ℕ → List ℕ → Result) → onSheets step s t h w S .plain ≡ onState step s t h w
     state-plain step = same-plain step (judged-same s t h w S room right)
