@@ -4,6 +4,7 @@
 --   k12-lends        == base and ends are those of the pyramid
 --   level-2 and level-1 == the claim there, for dart 6, and the same by computation
 --   gone-4, above-3, no-dart == the refusals
+--   unfold-1, unfold-3 == the lookup agrees with the call unfold, at level 1 and above the top
 --   other, other-kind == the other number for the edge that survives
 --   no-pyramid       == ends of two parallel edges, both contracted, come from no pyramid
 use mathlib.Core.List.{List, [], _∷_}
@@ -13,6 +14,7 @@ use Prim.Native.Nat.{ℕ, zero, suc, _≤_, _<_}
 use native.Mathlib.Omega.{arith}
 use lib.Dec.{T, lit≤}
 use lib.ListN.{getD, replicate, take}
+use Rattle.slices.specs.Over.{over}
 use Rattle.permutations.specs.Partner.{partner}
 use Rattle.permutations.specs.Cycle.{meetsIn}
 use Rattle.permutations.specs.Live.{any, has}
@@ -22,18 +24,21 @@ use Rattle.darts.specs.Kernel.{shared, judge, rising, passFrom, pass, run}
 use Rattle.darts.specs.State.{State, baseState, gives, raised, levelled, reduce}
 use Rattle.darts.specs.Levels.{endBelow, lowered, undoLevel, undoLevels, unfoldTo}
 use Rattle.darts.specs.Counts.{neverBelow, lowest, cycles, countsOf}
-use Rattle.darts.specs.Pyramid.{Kernel, Pyramid, dartCount, build, kernelOf, cut, kernelsOf}
+use Rattle.darts.specs.Pyramid.{Kernel, Pyramid, dartCount, build, kernelOf, cut, kernelsOf, sameNumbers, sameState, isExactly, isPyramid}
 use Rattle.darts.specs.OneByOne.{oneByOne}
 use Rattle.darts.specs.Tests.{sameKind}
-use Rattle.darts.specs.Calls.{room, fitting}
+use Rattle.darts.specs.Calls.{After, room, fitting, tableOf, pastOf, cleared, workAfter, judged as judgedOn, handsBack, onState, unfoldBy}
 use Rattle.laws.proofs.claims.Instances.{triangle, triangle-base, eight-darts, k5-state, k5-table, k5-past, k7-table}
+use Rattle.laws.proofs.calls.Judging.{Lent}
 use Rattle.laws.proofs.sentences.Order.{Answers}
+use Rattle.laws.proofs.sentences.Tops.{unfold-twelve}
 use Rattle.ends.specs.Ends.{levelOf, endOf, endsBy, goneBy, top, firstAt, inUse, oneKind, shaped, endingFrom, ending}
 use Rattle.ends.specs.Walk.{onwardBy, onward, walkFrom, walk}
 use Rattle.ends.specs.Comes.{endIn, endsIn, endsSo, Comes, operations, accepted, comes}
 use Rattle.ends.specs.Lookup.{judged, successorAt}
 use Rattle.ends.proofs.LookedAt.{AlikeLooked, successor-looks}
 use Rattle.ends.proofs.Call.{Unfolds, Lends, own-ends, pyramid-call, pyramid-gone, pyramid-above, pyramid-outside, call-four}
+use Rattle.ends.proofs.ByUnfold.{pastIn, Entry, by-unfold}
 
 -- ---- the pyramid
 
@@ -120,6 +125,40 @@ above-3 = pyramid-above k12 base ends work k12-lends 3 6 (lit≤ tt)
 
 no-dart : Answers (successorAt 8 2 8 base ends work .answer) 7 0
 no-dart = pyramid-outside k12 base ends work k12-lends 2 8 (lit≤ tt) (lit≤ tt)
+
+-- ---- the call unfold
+
+-- K12 itself, lent; the last number of each is not looked at
+abbrev table : List ℕ
+table = 5 ∷ 2 ∷ 5 ∷ 4 ∷ 6 ∷ 4 ∷ 6 ∷ 7 ∷ 9 ∷ []
+
+abbrev history : List ℕ
+history = 1 ∷ 5 ∷ 10 ∷ 7 ∷ 9 ∷ []
+
+unfoldable k12-lent : Lent top-state table history work
+unfolding tableOf pastOf
+k12-lent = record { pyramid = k12; lengths = record { table = lit≤ tt; history = lit≤ tt; work = lit≤ tt } }
+
+lent-lends : Lends (k12-lent .pyramid) base ends work
+unfolding k12-lent tableOf pastOf
+lent-lends = k12-lends
+
+abbrev level1 : After
+level1 = unfoldBy 1 top-state table history work
+
+level1-done : (level1 .answer .number ≡ 0) × T (survives (pastIn level1) 6)
+unfolding partner meetsIn successor faceNext sameVertex sameFace gone survives beforeIn before repeats culprit testFrom permutationTest turned lead wholeEdge remove contract operate number kindOf leadOf edgeOf putBack undoOne undone shared judge passFrom pass run raised levelled reduce endBelow lowered undoLevel undoLevels unfoldTo dartCount build kernelOf cut kernelsOf sameNumbers sameState isExactly isPyramid room fitting tableOf pastOf over cleared workAfter judgedOn handsBack onState unfoldBy neverBelow lowest cycles countsOf
+level1-done = (refl, tt)
+
+-- the entry of dart 6 in the table that unfold to level 1 leaves is the dart found
+unfold-1 : Entry 6 level1 (successorAt 8 1 6 base ends work)
+unfold-1 = by-unfold k12-lent lent-lends 1 6 .found (level1-done .0) (lit≤ tt) (level1-done .1)
+
+-- and above the top both answer 12
+unfold-3 : Answers (unfoldBy 3 top-state table history work .answer) 12 2 × Answers (successorAt 8 3 6 base ends work .answer) 12 2
+unfold-3 =
+    let u = unfold-twelve top-state table history work k12-lent 3 (lit≤ tt) in
+    (u, rw (u .place) at (by-unfold k12-lent lent-lends 3 6 .twelve (u .number)))
 
 -- ---- what is looked at
 

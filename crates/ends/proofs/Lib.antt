@@ -22,4 +22,5 @@ pub mod Highest
 pub mod Passed
 pub mod DoneBy
 pub mod Call
+pub mod ByUnfold
 pub mod Instances

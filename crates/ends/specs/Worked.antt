@@ -80,14 +80,18 @@ table =
     ∷ looks T K12 33 8 1 3 8 0 0 0 32
     ∷ looks T K12 33 8 2 8 7 0 0 0 32
     ∷ looks T K12 33 8 3 6 12 2 0 0 32
-    -- in this order; without an end the base is the top
+    -- in this order: 12 before 7, and before 8; without an end the base is the top
     ∷ looks T K12 33 8 3 8 12 2 0 0 32
+    ∷ looks T K12 33 8 3 4 12 2 0 0 32
     ∷ looks T (0 ∷ 1 ∷ 0 ∷ 1 ∷ []) 33 8 1 6 12 0 0 0 32
     ∷ looks T (0 ∷ 1 ∷ 0 ∷ 1 ∷ []) 33 8 0 6 0 0 3 0 32
     -- "its kind is not looked at" where an edge survives
     ∷ looks T (3 ∷ 3 ∷ 4 ∷ 1 ∷ []) 33 8 2 6 0 0 6 6 32
-    -- 4: a gap in the levels; two kinds in one level, and in two; level 65; each before 12
+    -- 4: a gap in the levels, before 12, before 7 and before 8; two kinds in one level, and in two; level 65
     ∷ looks T (5 ∷ 5 ∷ 0 ∷ 0 ∷ []) 33 8 0 6 4 0 0 0 32
+    ∷ looks T (5 ∷ 5 ∷ 0 ∷ 0 ∷ []) 33 8 3 6 4 0 0 0 32
+    ∷ looks T (5 ∷ 5 ∷ 0 ∷ 0 ∷ []) 33 8 0 8 4 0 0 0 32
+    ∷ looks T (5 ∷ 5 ∷ 0 ∷ 0 ∷ []) 33 8 2 0 4 0 0 0 32
     ∷ looks T (3 ∷ 2 ∷ 0 ∷ 0 ∷ []) 33 8 0 6 4 0 0 0 32
     ∷ looks T (3 ∷ 4 ∷ 0 ∷ 0 ∷ []) 33 8 0 6 0 0 3 0 32
     ∷ looks T (3 ∷ 3 ∷ 131 ∷ 0 ∷ []) 33 8 9 6 4 0 0 0 32
