@@ -22,7 +22,6 @@ pub mod Begun
 pub mod Sentences
 pub mod Five
 pub mod Numbered
-pub mod Largest
 pub mod Chained
 pub mod ChainedInstances
 pub mod SecondPlace

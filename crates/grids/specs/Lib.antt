@@ -2,4 +2,3 @@ pub mod Grid
 pub mod Base
 pub mod Plans
 pub mod Worked
-pub mod Longest

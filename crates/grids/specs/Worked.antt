@@ -27,6 +27,8 @@ pub data Row : Type 0 where
   -- W wales, C courses, the plan, and how many darts the slices are lent for; then the number, the state, the numbers that are written over the
   -- first ones of table and history, and how many zeros over the first ones of the work area
   base areas : ℕ → ℕ → List ℕ → ℕ → ℕ → State → List ℕ → List ℕ → ℕ → Row
+  -- W wales, C courses, and how many darts the slices are lent for, with a plan of one code: the number that the first call answers
+  size : ℕ → ℕ → ℕ → ℕ → Row
 
 -- each slice is one number longer than D darts need
 abbrev nines : ℕ → List ℕ
@@ -48,6 +50,7 @@ leaves D n s u g z a =
 abbrev pub right : Row → Bool
 right (base W C plan D n s u g z) = leaves D n s u g z (planBase (flat W C) plan (nines D) (eights D) (sevens D))
 right (areas W C plan D n s u g z) = leaves D n s u g z (planAreas (flat W C) plan (nines D) (eights D) (sevens D))
+right (size W C D n) = answers n 0 (planBase (flat W C) (replicate (W * C) 97) (nines D) (eights D) (sevens D) .answer)
 
 abbrev pub allRight : List Row → Bool
 allRight [] = true
@@ -118,6 +121,11 @@ table =
     ∷ areas 1 1 (97 ∷ []) 2 15 nothing [] [] 0
     ∷ areas 129 1 (codes 129) 2 15 nothing [] [] 0
     ∷ areas 1 129 [] 2 15 nothing [] [] 0
+    -- "1 to 128 wales by 1 to 128 courses": 128 are taken, and one more is not, with room for it
+    ∷ size 128 1 254 0
+    ∷ size 1 128 254 0
+    ∷ size 129 1 256 15
+    ∷ size 1 129 256 15
     -- 2: the plan, and the slices
     ∷ base 2 1 (97 ∷ []) 2 2 nothing [] [] 0
     ∷ base 1 3 (codes 3) 2 2 nothing [] [] 0
