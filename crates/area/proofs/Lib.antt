@@ -1,14 +1,5 @@
 pub mod Cleared
-pub mod Fitting
-pub mod Judging
-pub mod Labels
-pub mod Lent
-pub mod Marking
 pub mod Noting
-pub mod Operation
-pub mod Outside
+pub mod OfKind
 pub mod Parts
-pub mod Replay
-pub mod Sound
-pub mod Steps
 pub mod Tried

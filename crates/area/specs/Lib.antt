@@ -1,11 +1,4 @@
 pub mod Area
-pub mod Back
-pub mod Count
-pub mod Cycles
-pub mod Edge
 pub mod Load
-pub mod Operate
-pub mod Replay
 pub mod Shape
-pub mod Trees
 pub mod Verdicts

@@ -1,12 +1,8 @@
-// The work area, function by function: each contract is the same computation on lists.
-pub mod back;
+// The work area: table and history in it, tested, the shape of a state over them, and all of it cleared.
+// Function by function, each contract is the same computation on lists.
 pub mod clear;
-pub mod cycles;
 pub mod load;
-pub mod operate;
 pub mod shape;
-mod step;
-pub mod trees;
 
 // The numbers of a state, in the width of the work area: D, the operations, the levels, and the operation count after each level.
 pub struct Figures {

@@ -8,7 +8,7 @@ ghost use mathlib.Core.Path.{_≡_};
 ghost use Prim.Native.Nat.{_≤_, _<_};
 ghost use lib.ListN.{length};
 ghost use Rattle.darts.specs.Map.{passed};
-ghost use Rattle.area.specs.Area.{Room, bound, tried};
+ghost use Rattle.area.specs.Area.{Room, tried};
 ghost use Rattle.area.specs.Load.{marks, taken, goneIn, notes, besideIn, verdictAt, links, given, blank, relinks, loads, loadsBase};
 ghost use Rattle.area.specs.Verdicts.{verdictOf, said};
 
@@ -22,16 +22,6 @@ impl Verdict {
             Verdict::Culprits(_, _) => false,
         }
     }
-}
-
-// Dart a leads to x, and a is the dart before x.
-pub(crate) fn bind(work: &mut [u32], d: usize, a: usize, x: usize)
-    requires { ⌜ Room d (now work) ⌝ }
-    requires { ⌜ (a < d) × (x < d) ⌝ }
-    ensures { λ _. ⌜ now (work .exit) ≡ bound d (now (work .entry)) a x ⌝ }
-{
-    work[a] = x as u32;
-    work[d + x] = a as u32;
 }
 
 // The darts of the history's edges are marked as gone. No where a number is no dart's or an edge comes twice.

@@ -16,7 +16,7 @@ use Rattle.darts.specs.Choose.{if_then_else_}
 use Rattle.darts.specs.Operation.{undoOne, undone}
 use Rattle.darts.specs.Tests.{numbered, fits as fitsOf, backs as backsOf}
 use Rattle.area.specs.Area.{stamp, tableIn, pastIn, Tried, tried}
-use Rattle.area.specs.Back.{fits, takenBack, backs}
+use Rattle.operations.specs.Back.{fits, takenBack, backs}
 use Rattle.laws.specs.Standing.{Standing}
 use Rattle.engine.specs.Held.{Area}
 use Rattle.engine.proofs.Parts.{past-length}

@@ -16,7 +16,7 @@ use Rattle.permutations.specs.Choice.{T?, T-ext}
 use Rattle.darts.specs.Map.{successor, live, before}
 use Rattle.darts.specs.Tests.{numbered}
 use Rattle.area.specs.Area.{prev, there, stamp, tableIn, pastIn, Room}
-use Rattle.area.specs.Back.{Sound}
+use Rattle.operations.specs.Back.{Sound}
 use Rattle.laws.specs.Standing.{Standing}
 use Rattle.laws.proofs.bridge.Standing.{live-iff, entry-live}
 use Rattle.laws.proofs.bridge.Before.{before-live, before-leads, before-only}

@@ -18,7 +18,7 @@ use Rattle.darts.specs.Map.{successor, live}
 use Rattle.darts.specs.Operation.{Kind, contraction, removal, kindOf}
 use Rattle.area.specs.Area.{there, pastIn, around}
 use Rattle.laws.proofs.bridge.Standing.{live-iff, next-entry}
-use Rattle.area.specs.Cycles.{stepIn}
+use Rattle.operations.specs.Cycles.{stepIn}
 use Rattle.laws.specs.Standing.{cyclesOf}
 use Rattle.engine.specs.Held.{Area, mapIn}
 use Rattle.engine.proofs.Area.{there-live}

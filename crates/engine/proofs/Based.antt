@@ -14,10 +14,10 @@ use Rattle.slices.proofs.Over.{drop-more}
 use Rattle.darts.specs.Map.{gone, Verdict, permutes, permutationTest}
 use Rattle.darts.specs.Tests.{survivorsTest}
 use Rattle.area.specs.Area.{Room}
-use Rattle.area.specs.Trees.{Outside}
 use Rattle.area.specs.Verdicts.{Said, said, passing, verdictOf}
 use Rattle.area.specs.declared.Verdict.{Verdict as Told}
 use Rattle.area.specs.Load.{given, blank, links, marks, linksAfter, relinks, loads, loadsBase}
+use Rattle.operations.specs.Trees.{Outside}
 use Rattle.laws.proofs.bridge.Verdicts.{test-same}
 use Rattle.laws.proofs.tests.NothingGone.{nothing-gone}
 use Rattle.engine.specs.Held.{Area}

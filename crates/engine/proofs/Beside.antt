@@ -10,7 +10,7 @@ use native.Mathlib.Omega.{arith}
 use lib.ListN.{getD, take}
 use lib.Seq.{take-take, getD-take}
 use Rattle.area.specs.Area.{prev, tableIn, pastIn}
-use Rattle.area.specs.Trees.{Outside}
+use Rattle.operations.specs.Trees.{Outside}
 use Rattle.laws.proofs.bridge.Standing.{live-iff}
 use Rattle.engine.specs.Held.{Area, Rooted}
 use Rattle.engine.proofs.Area.{area-of, room-kept}

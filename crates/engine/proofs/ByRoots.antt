@@ -24,12 +24,12 @@ use Rattle.darts.specs.Map.{gone, survives, live}
 use Rattle.darts.specs.Operation.{Kind, contraction, removal, kindOf, wholeEdge}
 use Rattle.darts.specs.Kernel.{judge}
 use Rattle.area.specs.Area.{there, tableIn, pastIn}
-use Rattle.area.specs.Operate.{judged, operated}
+use Rattle.operations.specs.Operate.{judged, operated}
 use Rattle.laws.specs.Standing.{Standing, mapOf}
 use Rattle.laws.proofs.bridge.Standing.{opOf, live-iff}
 use Rattle.laws.proofs.bridge.Judged.{same-vertex, same-face, judge-legal}
 use Rattle.laws.proofs.bridge.Operate.{operate-acts}
-use Rattle.area.specs.Cycles.{stepIn}
+use Rattle.operations.specs.Cycles.{stepIn}
 use Rattle.laws.specs.Standing.{cyclesOf}
 use Rattle.engine.specs.Held.{Area, Rooted}
 use Rattle.engine.proofs.Edges.{not-gone-live}

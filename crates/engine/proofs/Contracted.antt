@@ -24,13 +24,13 @@ use Rattle.laws.proofs.moves.Contractions.{contractions-most, contractions-reve
 use Rattle.laws.proofs.moves.Kept.{vertices-kept}
 use Rattle.laws.proofs.tests.TestsDecide.{baseOf}
 use Rattle.area.specs.Area.{tableIn, pastIn, around, tried}
-use Rattle.area.specs.Back.{backs}
-use Rattle.area.specs.Count.{rootsIn}
-use Rattle.area.specs.Cycles.{Labelled}
 use Rattle.area.specs.Shape.{hasKind, historyIn}
-use Rattle.area.specs.Trees.{Outside}
-use Rattle.area.proofs.Outside.{outside-trans}
-use Rattle.area.proofs.Replay.{has-on}
+use Rattle.area.proofs.OfKind.{has-on}
+use Rattle.operations.specs.Back.{backs}
+use Rattle.operations.specs.Count.{rootsIn}
+use Rattle.operations.specs.Cycles.{Labelled}
+use Rattle.operations.specs.Trees.{Outside}
+use Rattle.operations.proofs.Outside.{outside-trans}
 use Rattle.engine.specs.Held.{Area}
 use Rattle.engine.specs.Checks.{KindTried, BothTried, Decided}
 use Rattle.engine.specs.Counted.{CyclesAre}

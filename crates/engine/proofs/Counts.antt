@@ -26,10 +26,10 @@ use Rattle.laws.proofs.moves.Kept.{vertices-most, faces-most}
 use Rattle.forest.specs.Forest.{parent}
 use Rattle.forest.specs.Lowest.{Lowest}
 use Rattle.area.specs.Area.{there, tableIn, pastIn, forestIn, around}
-use Rattle.area.specs.Count.{rootsIn}
-use Rattle.area.specs.Cycles.{stepIn, Labelled}
-use Rattle.area.specs.Trees.{Outside}
-use Rattle.area.proofs.Outside.{outside-there, forest-at}
+use Rattle.operations.specs.Count.{rootsIn}
+use Rattle.operations.specs.Cycles.{stepIn, Labelled}
+use Rattle.operations.specs.Trees.{Outside}
+use Rattle.operations.proofs.Outside.{outside-there, forest-at}
 use Rattle.engine.specs.Counted.{CyclesAre}
 use Rattle.engine.specs.Held.{Area}
 use Rattle.engine.proofs.Area.{there-live}

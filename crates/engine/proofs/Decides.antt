@@ -41,11 +41,11 @@ use Rattle.laws.proofs.tests.TestsDecide.{baseOf, Passed, passed-iff, figures-d
 use Rattle.laws.specs.Standing.{cyclesOf}
 use Rattle.laws.proofs.tests.TopLabels.{walked, walked-decide, labels-at-top}
 use Rattle.area.specs.Area.{Room, tableIn, pastIn, Tried, tried}
-use Rattle.area.specs.Back.{backs}
-use Rattle.area.specs.Replay.{replayed, Numbered}
 use Rattle.area.specs.Shape.{historyIn}
-use Rattle.area.specs.Trees.{Outside}
-use Rattle.area.proofs.Replay.{Alike, replay-alike, rejoined-alike}
+use Rattle.operations.specs.Back.{backs}
+use Rattle.operations.specs.Replay.{replayed, Numbered}
+use Rattle.operations.specs.Trees.{Outside}
+use Rattle.operations.proofs.Replay.{Alike, replay-alike, rejoined-alike}
 use Rattle.engine.specs.Held.{Area}
 use Rattle.engine.specs.Checks.{BothTried, Decided}
 use Rattle.engine.specs.Counted.{CyclesAre, Takes, Taken}

@@ -11,7 +11,7 @@ use lib.ListN.{length, set}
 use Rattle.permutations.specs.Partner.{partner, partner-ne, End}
 use Rattle.darts.specs.Map.{successor, live}
 use Rattle.area.specs.Area.{tableIn, bound}
-use Rattle.area.specs.Back.{inserted}
+use Rattle.operations.specs.Back.{inserted}
 use Rattle.laws.proofs.bridge.Standing.{live-iff}
 use Rattle.engine.proofs.Parts.{Noted, bound-length, bound-noted, bound-avoids}
 use Rattle.engine.proofs.Rebound.{Rebound, unbound, rebind}

@@ -5,8 +5,8 @@ use mathlib.Core.List.{List}
 use Prim.Native.Nat.{ℕ, _*_, _≤_}
 use native.Mathlib.Omega.{arith}
 use Rattle.slices.proofs.Over.{drop-more}
-use Rattle.area.specs.Cycles.{Labelled}
-use Rattle.area.proofs.Labels.{labelled-falls, labelled-same}
+use Rattle.operations.specs.Cycles.{Labelled}
+use Rattle.operations.proofs.Labels.{labelled-falls, labelled-same}
 use Rattle.engine.specs.Held.{Area, Ready, Beyond}
 use Rattle.engine.proofs.Around.{step-perm}
 use Rattle.engine.proofs.Beside.{beside-area, beside-rooted}

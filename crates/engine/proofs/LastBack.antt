@@ -15,7 +15,7 @@ use Rattle.darts.specs.Pyramid.{Pyramid}
 use Rattle.darts.specs.Tests.{backs as backsOf}
 use Rattle.laws.proofs.tests.Passes.{pyramid-shaped}
 use Rattle.area.specs.Area.{tableIn, pastIn, Tried, tried}
-use Rattle.area.specs.Back.{backs}
+use Rattle.operations.specs.Back.{backs}
 use Rattle.engine.specs.Back.{TookBack}
 use Rattle.engine.specs.Held.{Area}
 use Rattle.engine.proofs.AllBack.{AllBack, backs-right}

@@ -18,7 +18,7 @@ use Rattle.darts.specs.Operation.{Kind, lead, operate, number, kindOf}
 use Rattle.darts.specs.Kernel.{judge}
 use Rattle.darts.specs.Tests.{near, far}
 use Rattle.area.specs.Area.{prev, tableIn, pastIn, forestIn, bound}
-use Rattle.area.specs.Operate.{led, noted, operated}
+use Rattle.operations.specs.Operate.{led, noted, operated}
 use Rattle.laws.specs.Standing.{Standing}
 use Rattle.laws.proofs.bridge.Standing.{live-iff, entry-live}
 use Rattle.laws.proofs.bridge.AnyKind.{near-far, apart-iff}

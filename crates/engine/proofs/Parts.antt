@@ -22,7 +22,7 @@ use Rattle.permutations.specs.Partner.{partner, partner-ne, End}
 use Rattle.slices.specs.Part.{part}
 use Rattle.slices.proofs.Part.{part-length}
 use Rattle.area.specs.Area.{prev, stamp, tableIn, pastIn, forestIn, bound}
-use Rattle.area.specs.Operate.{noted}
+use Rattle.operations.specs.Operate.{noted}
 
 abbrev pub Noted : ℕ → List ℕ → ℕ → Type 0
 Noted D w z = prev D w (successor w z) ≡ z

@@ -24,12 +24,12 @@ use Rattle.darts.specs.declared.Answer.{Answer}
 use Rattle.laws.proofs.bridge.Standing.{live-iff}
 use Rattle.forest.specs.Forest.{Falls, root}
 use Rattle.area.specs.Area.{prev, tableIn, pastIn, forestIn, Room}
-use Rattle.area.specs.Edge.{Says, Judged, Bounds}
-use Rattle.area.specs.Operate.{operated}
-use Rattle.area.specs.Trees.{Outside, rooted, Kept, merged, Joined}
-use Rattle.area.proofs.Outside.{outside-room}
-use Rattle.area.proofs.Operation.{operated-same, outside-bounds, operated-outside}
-use Rattle.area.proofs.Replay.{merged-merges}
+use Rattle.operations.specs.Edge.{Says, Judged, Bounds}
+use Rattle.operations.specs.Operate.{operated}
+use Rattle.operations.specs.Trees.{Outside, rooted, Kept, merged, Joined}
+use Rattle.operations.proofs.Outside.{outside-room}
+use Rattle.operations.proofs.Operation.{operated-same, outside-bounds, operated-outside}
+use Rattle.operations.proofs.Replay.{merged-merges}
 use Rattle.engine.specs.Held.{Area, Ready, Beyond}
 use Rattle.engine.specs.Runs.{Goes, Stays}
 use Rattle.engine.proofs.Allowed.{fine-live, room-for-one-more}

@@ -18,7 +18,7 @@ use Rattle.darts.specs.Map.{successor, gone, live}
 use Rattle.darts.specs.Operation.{Kind, kindOf, leadOf, undoOne}
 use Rattle.darts.specs.Tests.{numbered, near, far, fits as fitsOf}
 use Rattle.area.specs.Area.{prev, there, stamp, tableIn, pastIn}
-use Rattle.area.specs.Back.{fits, inserted, takenBack}
+use Rattle.operations.specs.Back.{fits, inserted, takenBack}
 use Rattle.laws.specs.Standing.{Standing}
 use Rattle.laws.proofs.bridge.Standing.{live-iff}
 use Rattle.laws.proofs.bridge.AnyKind.{near-far, of-near-far, apart-iff, near-of, near-end}

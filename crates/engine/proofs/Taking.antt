@@ -10,7 +10,7 @@ use Rattle.darts.specs.Operation.{wholeEdge}
 use Rattle.darts.specs.Levels.{emptyLoop, takes}
 use Rattle.area.specs.Area.{tableIn, pastIn}
 use Rattle.engine.specs.Held.{Area}
-use Rattle.area.specs.Operate.{takesIn}
+use Rattle.operations.specs.Operate.{takesIn}
 use Rattle.engine.proofs.Area.{there-live}
 use Rattle.engine.proofs.Parts.{successor-in}
 

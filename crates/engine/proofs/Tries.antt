@@ -20,13 +20,13 @@ use lib.ListN.{take}
 use Rattle.permutations.specs.Choice.{pick, true→T, eqb-same, eqb-other}
 use Rattle.darts.specs.Operation.{kindOf}
 use Rattle.laws.proofs.bridge.Walks.{lowestMet, lowest-labels}
-use Rattle.area.specs.Cycles.{Labelled}
-use Rattle.area.specs.Replay.{rejoined, replayed, Numbered, Replayed}
 use Rattle.area.specs.Shape.{hasKind, historyIn}
-use Rattle.area.specs.Trees.{Outside, rooted}
-use Rattle.area.proofs.Labels.{labelled-same}
-use Rattle.area.proofs.Outside.{outside-refl, outside-trans, outside-rest}
-use Rattle.area.proofs.Replay.{none-replayed}
+use Rattle.operations.specs.Cycles.{Labelled}
+use Rattle.operations.specs.Replay.{rejoined, replayed, Numbered, Replayed}
+use Rattle.operations.specs.Trees.{Outside, rooted}
+use Rattle.operations.proofs.Labels.{labelled-same}
+use Rattle.operations.proofs.Outside.{outside-refl, outside-trans, outside-rest}
+use Rattle.operations.proofs.Replay.{none-replayed}
 use Rattle.laws.specs.Standing.{cyclesOf}
 use Rattle.engine.specs.Held.{Area, mapIn, Rooted}
 use Rattle.engine.specs.Checks.{Grown, KindTried, BothTried}

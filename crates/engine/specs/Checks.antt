@@ -19,9 +19,9 @@ use Rattle.darts.specs.Pyramid.{isPyramid}
 use Rattle.darts.specs.State.{State, counted}
 use Rattle.forest.specs.Forest.{Falls}
 use Rattle.area.specs.Area.{tableIn, pastIn, forestIn}
-use Rattle.area.specs.Replay.{rejoined, replayed}
 use Rattle.area.specs.Shape.{historyIn}
-use Rattle.area.specs.Trees.{Outside, rooted}
+use Rattle.operations.specs.Replay.{rejoined, replayed}
+use Rattle.operations.specs.Trees.{Outside, rooted}
 use Rattle.engine.specs.Held.{Area, Rooted, Ready, Beyond}
 
 pub record Grown (D n k : ℕ) (L : ℕ → ℕ) (w w′ : List ℕ) : Type 0 where

@@ -18,7 +18,7 @@ use Rattle.laws.specs.Standing.{Standing, mapOf}
 use Rattle.laws.specs.Standing.{cyclesOf}
 use Rattle.forest.specs.Forest.{Falls}
 use Rattle.area.specs.Area.{prev, tableIn, pastIn, forestIn, Room}
-use Rattle.area.specs.Trees.{rooted}
+use Rattle.operations.specs.Trees.{rooted}
 
 pub record Area (D n : ℕ) (w : List ℕ) : Type 0 where
   pub room : Room D w

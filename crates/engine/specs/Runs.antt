@@ -15,7 +15,7 @@ use Rattle.darts.specs.declared.Answer.{Answer}
 use Rattle.darts.specs.Operation.{kindOf, lead, operate, number}
 use Rattle.darts.specs.Kernel.{judge, Run, stands, stops}
 use Rattle.area.specs.Area.{tableIn, pastIn}
-use Rattle.area.specs.Edge.{Says}
+use Rattle.operations.specs.Edge.{Says}
 use Rattle.engine.specs.Held.{Ready, Beyond}
 use Rattle.engine.specs.declared.Ran.{Ran}
 

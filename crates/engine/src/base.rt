@@ -2,8 +2,8 @@
 use crate::Tested;
 use area::Verdict;
 use area::clear::clear;
-use area::cycles::label;
 use area::load::load_base;
+use operations::cycles::label;
 ghost use mathlib.Core.Path.{_≡_};
 ghost use Prim.Native.Nat.{_≤_};
 ghost use lib.ListN.{length};

@@ -1,8 +1,8 @@
 // A pass in the work area: one operation's turn, and a kernel, which takes every edge that it lists.
 use crate::Ran;
-use area::operate::judge;
-use area::operate::operate;
 use darts::Answer;
+use operations::operate::judge;
+use operations::operate::operate;
 use slices::at;
 ghost use Rattle.darts.specs.Kernel.{run as runOf};
 ghost use Rattle.darts.specs.Operation.{kindOf};

@@ -1,8 +1,8 @@
 // The sweep: a removal kernel that chooses its own edges. None of them is judged: each may be removed.
 use crate::Ran;
-use area::operate::operate;
-use area::operate::takes;
 use darts::Answer;
+use operations::operate::operate;
+use operations::operate::takes;
 ghost use Rattle.darts.specs.Levels.{swept};
 ghost use Rattle.area.specs.Area.{tableIn, pastIn};
 ghost use Rattle.engine.specs.Held.{Area};

@@ -1,5 +1,5 @@
 // Operations undone in the work area.
-use area::back::take_back_last;
+use operations::back::take_back_last;
 ghost use Prim.Native.Nat.{_≤_};
 ghost use lib.Dec.{T};
 ghost use Rattle.darts.specs.Tests.{backs};

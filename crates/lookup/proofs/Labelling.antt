@@ -5,7 +5,7 @@ use Prim.Native.Nat.{ℕ, _≤_}
 use Rattle.darts.specs.Operation.{kindOf}
 use Rattle.darts.specs.Kernel.{run}
 use Rattle.area.specs.Area.{tableIn, pastIn}
-use Rattle.area.specs.Cycles.{Labelled}
+use Rattle.operations.specs.Cycles.{Labelled}
 use Rattle.engine.specs.Held.{Area}
 use Rattle.engine.specs.declared.Ran.{Ran}
 use Rattle.engine.proofs.Beside.{beside-table, beside-past}

@@ -1,8 +1,8 @@
 // The operations that the ends tell, in the work area: those of one kind, by rising number.
-use area::cycles::label;
 use darts::Answer;
 use engine::Ran;
 use engine::kernel::turn;
+use operations::cycles::label;
 use slices::at;
 ghost use mathlib.Core.Path.{_≡_};
 ghost use Prim.Native.Nat.{_≤_, _<_};

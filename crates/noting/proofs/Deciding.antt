@@ -25,9 +25,9 @@ use Rattle.laws.proofs.claims.Decided.{pyramid-decided}
 use Rattle.laws.proofs.moves.Contractions.{contractions-reverse}
 use Rattle.forest.specs.Forest.{Falls, root}
 use Rattle.area.specs.Area.{Room, tableIn, pastIn, tried}
-use Rattle.area.specs.Back.{backs}
 use Rattle.area.specs.Load.{loads}
 use Rattle.area.specs.Shape.{historyIn}
+use Rattle.operations.specs.Back.{backs}
 use Rattle.engine.specs.Held.{Area, Beyond, Rooted}
 use Rattle.engine.specs.Checks.{Decided, Checked}
 use Rattle.engine.specs.Counted.{CyclesAre, FindsCycles, Takes, Taken}

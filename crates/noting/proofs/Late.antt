@@ -20,11 +20,11 @@ use Rattle.laws.proofs.bridge.AnyKind.{near-far}
 use Rattle.laws.proofs.bridge.Standing.{live-iff}
 use Rattle.forest.specs.Forest.{Falls, root}
 use Rattle.area.specs.Area.{prev, tableIn, pastIn, forestIn, bound}
-use Rattle.area.specs.Edge.{Bounds}
-use Rattle.area.specs.Operate.{led, noted, operated}
-use Rattle.area.specs.Trees.{Outside}
-use Rattle.area.proofs.Operation.{lead-bounds}
-use Rattle.area.proofs.Outside.{set-forest}
+use Rattle.operations.specs.Edge.{Bounds}
+use Rattle.operations.specs.Operate.{led, noted, operated}
+use Rattle.operations.specs.Trees.{Outside}
+use Rattle.operations.proofs.Operation.{lead-bounds}
+use Rattle.operations.proofs.Outside.{set-forest}
 use Rattle.engine.specs.Held.{Area, Ready}
 use Rattle.engine.specs.Runs.{Stays}
 use Rattle.engine.proofs.Area.{area-of, room-kept}

@@ -27,10 +27,10 @@ use Rattle.laws.proofs.bridge.Bases.{all-live}
 use Rattle.laws.proofs.bridge.Standing.{live-iff}
 use Rattle.laws.proofs.bridge.Judged.{same-vertex}
 use Rattle.area.specs.Area.{tableIn, pastIn, forestIn}
-use Rattle.area.specs.Cycles.{stepIn, Labelled}
-use Rattle.area.specs.Trees.{rooted}
-use Rattle.area.proofs.Outside.{forest-at}
-use Rattle.area.proofs.Steps.{cycle-classes}
+use Rattle.operations.specs.Cycles.{stepIn, Labelled}
+use Rattle.operations.specs.Trees.{rooted}
+use Rattle.operations.proofs.Outside.{forest-at}
+use Rattle.operations.proofs.Steps.{cycle-classes}
 use Rattle.engine.specs.Held.{Area, Ready}
 use Rattle.engine.proofs.Around.{step-ring, step-perm}
 use Rattle.engine.proofs.Parts.{past-none}

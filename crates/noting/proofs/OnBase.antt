@@ -18,14 +18,14 @@ use Rattle.permutations.specs.Choice.{pick, true→T, eqb-same, eqb-other}
 use Rattle.forest.specs.Forest.{Falls, root}
 use Rattle.slices.proofs.Part.{part-length, part-at}
 use Rattle.area.specs.Area.{Room, tableIn, forestIn}
-use Rattle.area.specs.Cycles.{Labelled}
-use Rattle.area.specs.Replay as area
-use Rattle.area.specs.Replay.{rejoined, replayed, Numbered}
 use Rattle.area.specs.Shape.{historyIn}
-use Rattle.area.specs.Trees.{rooted}
-use Rattle.area.proofs.Labels.{labelled-falls}
-use Rattle.area.proofs.Lent.{lent, lent-outside, lent-forest}
-use Rattle.area.proofs.Outside.{outside-rest, outside-room, forest-length}
+use Rattle.operations.specs.Cycles.{Labelled}
+use Rattle.operations.specs.Replay as area
+use Rattle.operations.specs.Replay.{rejoined, replayed, Numbered}
+use Rattle.operations.specs.Trees.{rooted}
+use Rattle.operations.proofs.Labels.{labelled-falls}
+use Rattle.operations.proofs.Lent.{lent, lent-outside, lent-forest}
+use Rattle.operations.proofs.Outside.{outside-rest, outside-room, forest-length}
 use Rattle.engine.specs.Held.{Area, Beyond}
 use Rattle.engine.specs.Checks.{KindTried, BothTried}
 use Rattle.engine.proofs.Area.{room-kept}

@@ -15,11 +15,11 @@ use lib.Seq.{drop-drop, getD-take}
 use Rattle.permutations.specs.Cycle.{meetsIn}
 use Rattle.darts.specs.Map.{successor, sameVertex, permutes}
 use Rattle.area.specs.Area.{Room}
-use Rattle.area.specs.Cycles.{Labelled}
 use Rattle.area.specs.Load.{loadsBase}
-use Rattle.area.specs.Trees.{Outside}
 use Rattle.area.specs.Verdicts.{said, passing, verdictOf}
 use Rattle.area.specs.declared.Verdict.{Verdict}
+use Rattle.operations.specs.Cycles.{Labelled}
+use Rattle.operations.specs.Trees.{Outside}
 use Rattle.engine.specs.Held.{Area, Beyond}
 use Rattle.engine.proofs.Based.{base-tested, loaded, base-held}
 use Rattle.engine.proofs.Beside.{beside-table}

@@ -24,8 +24,8 @@ use Rattle.permutations.specs.Partner.{partner, partner-cases}
 use Rattle.darts.specs.Choose.{if_then_else_}
 use Rattle.darts.specs.Operation.{Kind, contraction, removal, kindOf, edgeOf}
 use Rattle.forest.specs.Forest.{linked}
-use Rattle.area.specs.Replay.{rejoin, rejoined, replayed}
-use Rattle.area.specs.Trees.{merged}
+use Rattle.operations.specs.Replay.{rejoin, rejoined, replayed}
+use Rattle.operations.specs.Trees.{merged}
 use Rattle.sheets.specs.Sheets.{Merge, none, into, lowInto, lastInto}
 use Rattle.yarn.specs.Places.{joins, zoned, placesAfter, mergeBy, mergesOf}
 

@@ -20,7 +20,7 @@ use lib.Seq.{getD-set-same, getD-set-other, drop-set-lt}
 use borrow.Author.Tests.{eqb-false}
 use Rattle.permutations.specs.Choice.{pick, eqb-same, eqb-other}
 use Rattle.area.specs.Area.{Room, forestIn}
-use Rattle.area.proofs.Outside.{set-forest}
+use Rattle.operations.proofs.Outside.{set-forest}
 use Rattle.sheets.specs.Sheets.{Merge, none, into, lowInto}
 use Rattle.sheets.specs.Notes.{noteOf}
 use Rattle.noting.specs.Links.{cameFrom, recorded}

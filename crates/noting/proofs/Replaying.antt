@@ -24,11 +24,11 @@ use Rattle.forest.specs.Forest.{Falls, root}
 use Rattle.forest.specs.Roots.{root-own}
 use Rattle.slices.specs.Part.{part}
 use Rattle.area.specs.Area.{Room, forestIn}
-use Rattle.area.specs.Replay.{rejoin, replayed, Numbered}
 use Rattle.area.specs.Shape.{historyIn}
-use Rattle.area.specs.Trees.{Outside, rooted}
-use Rattle.area.proofs.Outside.{outside-front, outside-rest, outside-room}
 use Rattle.area.proofs.Parts.{part-cons, part-none}
+use Rattle.operations.specs.Replay.{rejoin, replayed, Numbered}
+use Rattle.operations.specs.Trees.{Outside, rooted}
+use Rattle.operations.proofs.Outside.{outside-front, outside-rest, outside-room}
 use Rattle.sheets.specs.Sheets.{Merge, none, into, lowInto, lastInto}
 use Rattle.sheets.specs.Notes.{noteOf}
 use Rattle.yarn.specs.Places.{zoned, placesAfter, mergeBy, mergesOf}

@@ -22,8 +22,8 @@ use Rattle.darts.specs.Kernel.{Run, always, pass, run}
 use Rattle.laws.proofs.bridge.Numbers.{number-kind, number-edge}
 use Rattle.forest.specs.Forest.{root}
 use Rattle.area.specs.Area.{tableIn, pastIn}
-use Rattle.area.specs.Trees.{rooted}
-use Rattle.area.proofs.Outside.{set-forest}
+use Rattle.operations.specs.Trees.{rooted}
+use Rattle.operations.proofs.Outside.{set-forest}
 use Rattle.engine.specs.Held.{Ready}
 use Rattle.engine.specs.Runs.{Stays}
 use Rattle.engine.proofs.Ready.{beyond-refl}

@@ -21,10 +21,10 @@ use Rattle.darts.specs.Operation.{contraction, removal, kindOf, edgeOf}
 use Rattle.forest.specs.Forest.{Falls, parent, root}
 use Rattle.forest.specs.Roots.{root-up, root-down}
 use Rattle.area.specs.Area.{Room, forestIn}
-use Rattle.area.specs.Replay.{rejoin, replayed}
-use Rattle.area.specs.Trees.{Found, Joined, rooted, merged}
-use Rattle.area.proofs.Lent.{joined-roots, found-kept, found-roots, kept-joined}
-use Rattle.area.proofs.Outside.{outside-refl, outside-room, forest-length}
+use Rattle.operations.specs.Replay.{rejoin, replayed}
+use Rattle.operations.specs.Trees.{Found, Joined, rooted, merged}
+use Rattle.operations.proofs.Lent.{joined-roots, found-kept, found-roots, kept-joined}
+use Rattle.operations.proofs.Outside.{outside-refl, outside-room, forest-length}
 use Rattle.sheets.specs.Sheets.{into}
 use Rattle.yarn.specs.Places.{joins, zoned, mergeBy}
 use Rattle.noting.specs.Links.{recorded, Contracted, Stepped}

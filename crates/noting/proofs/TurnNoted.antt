@@ -20,10 +20,10 @@ use Rattle.darts.specs.Kernel.{judge}
 use Rattle.darts.specs.Operation.{kindOf}
 use Rattle.forest.specs.Forest.{root}
 use Rattle.area.specs.Area.{Room, tableIn, pastIn}
-use Rattle.area.specs.Edge.{Judged, Bounds}
-use Rattle.area.specs.Operate.{operated}
-use Rattle.area.specs.Trees.{Kept, rooted, merged}
-use Rattle.area.proofs.Operation.{operated-same}
+use Rattle.operations.specs.Edge.{Judged, Bounds}
+use Rattle.operations.specs.Operate.{operated}
+use Rattle.operations.specs.Trees.{Kept, rooted, merged}
+use Rattle.operations.proofs.Operation.{operated-same}
 use Rattle.engine.specs.Held.{Ready}
 use Rattle.engine.specs.Runs.{Stays, Turned}
 use Rattle.engine.proofs.Ready.{beyond-refl, beyond-trans, ready-stays, ready-judged, ready-for, ready-did}

@@ -24,7 +24,7 @@ use Rattle.laws.specs.Standing.{mapOf, cyclesOf}
 use Rattle.forest.specs.Forest.{Falls}
 use Rattle.area.specs.Area.{Room, tableIn, pastIn, forestIn}
 use Rattle.area.specs.Shape.{historyIn}
-use Rattle.area.specs.Trees.{rooted}
+use Rattle.operations.specs.Trees.{rooted}
 use Rattle.engine.specs.Held.{Rooted, Ready, Beyond}
 use Rattle.engine.specs.Checks.{BothTried}
 use Rattle.sheets.specs.Sheets.{Merge, lastInto}

@@ -17,9 +17,9 @@ use Rattle.permutations.specs.Choice.{pick}
 use Rattle.darts.specs.Operation.{contraction, kindOf, edgeOf}
 use Rattle.forest.specs.Forest.{Falls}
 use Rattle.area.specs.Area.{forestIn}
-use Rattle.area.specs.Replay.{replayed}
 use Rattle.area.specs.Shape.{historyIn}
-use Rattle.area.specs.Trees.{Outside, rooted}
+use Rattle.operations.specs.Replay.{replayed}
+use Rattle.operations.specs.Trees.{Outside, rooted}
 use Rattle.sheets.specs.Sheets.{Merge, none, into, lastInto}
 use Rattle.sheets.specs.Notes.{noteOf}
 use Rattle.yarn.specs.Places.{joins, zoned, placesAfter, mergeBy, mergesOf}

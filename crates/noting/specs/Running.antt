@@ -13,9 +13,9 @@ use Rattle.darts.specs.Kernel.{run}
 use Rattle.darts.specs.Map.{permutes, permutationTest}
 use Rattle.darts.specs.Operation.{contraction}
 use Rattle.area.specs.Area.{tableIn, pastIn}
-use Rattle.area.specs.Trees.{rooted}
 use Rattle.area.specs.Verdicts.{verdictOf}
 use Rattle.area.specs.declared.Verdict.{Verdict}
+use Rattle.operations.specs.Trees.{rooted}
 use Rattle.engine.specs.Held.{Beyond}
 use Rattle.engine.specs.Runs.{Turned, Went}
 use Rattle.engine.specs.declared.Ran.{Ran}

@@ -1,13 +1,13 @@
 // The history replayed on the vertices of the base, first operation first, with notes and links.
 use crate::note::merge;
 use crate::note::pass;
-use area::trees::find;
-use area::trees::link;
+use operations::trees::find;
+use operations::trees::link;
 use slices::at;
 ghost use Prim.Native.Nat.{_+_, _*_, _/_, _≤_, _<_};
 ghost use Rattle.forest.specs.Forest.{Falls};
 ghost use Rattle.area.specs.Area.{Room, forestIn};
-ghost use Rattle.area.specs.Replay.{Numbered};
+ghost use Rattle.operations.specs.Replay.{Numbered};
 ghost use Rattle.noting.specs.Links.{Contracted, Stepped, Starts, Replayed};
 
 // The contraction of edge e, operation t: its two vertices are joined, and it is noted. No where they are one already.

@@ -1,18 +1,18 @@
 // A kernel of contractions, as `engine::kernel` has it, with the note of what each merges.
 use crate::note::note;
-use area::operate::judge_found;
-use area::operate::operate;
-use area::trees::find;
 use darts::Answer;
 use engine::Ran;
+use operations::operate::judge_found;
+use operations::operate::operate;
+use operations::trees::find;
 use slices::at;
 ghost use mathlib.Core.Path.{_≡_};
 ghost use Prim.Native.Nat.{_+_, _*_, _/_, _<_};
 ghost use lib.ListN.{set};
 ghost use Rattle.area.specs.Area.{Room};
-ghost use Rattle.area.specs.Edge.{Bounds};
-ghost use Rattle.area.specs.Operate.{operated};
-ghost use Rattle.area.specs.Trees.{rooted};
+ghost use Rattle.operations.specs.Edge.{Bounds};
+ghost use Rattle.operations.specs.Operate.{operated};
+ghost use Rattle.operations.specs.Trees.{rooted};
 ghost use Rattle.engine.specs.Held.{Ready};
 ghost use Rattle.sheets.specs.Sheets.{into};
 ghost use Rattle.sheets.specs.Notes.{noteOf};

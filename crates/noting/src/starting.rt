@@ -1,8 +1,8 @@
 // The places of the records that a base has: one for each vertex, at its lowest dart.
 use area::Verdict;
-use area::cycles::label;
 use area::load::load_base;
 use engine::Tested;
+use operations::cycles::label;
 ghost use Prim.Native.Nat.{_≤_};
 ghost use lib.ListN.{length};
 ghost use Rattle.area.specs.Area.{Room};

@@ -13,8 +13,8 @@ use Rattle.darts.specs.Tests.{numbered}
 use Rattle.laws.specs.Standing.{Standing}
 use Rattle.laws.proofs.bridge.Bases.{all-live}
 use Rattle.area.specs.Area.{Room, tableIn}
-use Rattle.area.specs.Cycles.{Labelled}
-use Rattle.area.proofs.Labels.{labelled-falls, labelled-same}
+use Rattle.operations.specs.Cycles.{Labelled}
+use Rattle.operations.proofs.Labels.{labelled-falls, labelled-same}
 use Rattle.engine.specs.Held.{Area, Beyond}
 use Rattle.engine.proofs.Area.{room-kept, area-of, noted-known}
 use Rattle.engine.proofs.Around.{step-perm}

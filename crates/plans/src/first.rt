@@ -1,7 +1,7 @@
 // The first kernel, in the work area.
 use crate::laying::lay_base;
-use area::cycles::label;
 use engine::kernel::turn;
+use operations::cycles::label;
 use slices::at;
 ghost use mathlib.Core.List.{[]};
 ghost use mathlib.Core.Path.{_≡_};

@@ -19,7 +19,7 @@ use Rattle.darts.specs.State.{State}
 use Rattle.laws.specs.Standing.{Standing}
 use Rattle.laws.proofs.calls.Judging.{Judging, uncounted, cramped, other, lent, judging, judged-lent}
 use Rattle.area.specs.Area.{Room, tableIn}
-use Rattle.area.specs.Trees.{rooted}
+use Rattle.operations.specs.Trees.{rooted}
 use Rattle.engine.specs.Held.{Ready}
 use Rattle.engine.proofs.Parts.{past-none}
 use Rattle.sheets.specs.Sheets.{Sheets}

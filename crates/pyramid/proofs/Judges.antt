@@ -41,7 +41,7 @@ use Rattle.engine.specs.declared.Found.{Found}
 use Rattle.engine.specs.Held.{Beyond}
 use Rattle.engine.proofs.Area.{room-kept}
 use Rattle.engine.proofs.Checking.{checked-pyramid}
-use Rattle.area.specs.Cycles.{Labelled}
+use Rattle.operations.specs.Cycles.{Labelled}
 use Rattle.engine.proofs.Beside.{beside-table, beside-past}
 use Rattle.engine.proofs.Labelled.{labelled-ready, labelled-beyond}
 use Rattle.engine.proofs.Ready.{beyond-refl}

@@ -28,7 +28,7 @@ use Rattle.laws.proofs.runs.Ends.{Layered}
 use Rattle.laws.proofs.runs.Pyramids.{pyramid-built, reduce-pyramid}
 use Rattle.laws.proofs.runs.Reduces.{Raises, raises-reduce, reduced, reduced-base}
 use Rattle.area.specs.Area.{Room, tableIn, pastIn}
-use Rattle.area.specs.Trees.{rooted}
+use Rattle.operations.specs.Trees.{rooted}
 use Rattle.engine.specs.Runs.{ranIn}
 use Rattle.engine.specs.declared.Ran.{Ran}
 use Rattle.engine.proofs.Parts.{past-length}

@@ -23,7 +23,7 @@ use Rattle.darts.specs.Operation.{contraction}
 use Rattle.darts.specs.State.{State, zeros, reduce}
 use Rattle.darts.specs.Calls.{tableOf, pastOf, cleared, workAfter, reduceBy}
 use Rattle.area.specs.Area.{Room}
-use Rattle.area.specs.Trees.{rooted}
+use Rattle.operations.specs.Trees.{rooted}
 use Rattle.engine.specs.Held.{Beyond}
 use Rattle.sheets.specs.declared.Zone.{Zone}
 use Rattle.sheets.specs.Sheets.{Sheets, Merge, mergedBy}

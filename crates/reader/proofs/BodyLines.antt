@@ -25,18 +25,19 @@ use Rattle.area.specs.Shape.{historyIn}
 use Rattle.slices.proofs.Over.{drop-more}
 use Rattle.area.proofs.Parts.{part-inner}
 use Rattle.engine.specs.Held.{Beyond}
-use Rattle.reader.specs.declared.scan.Scanned.{Scanned}
-use Rattle.reader.specs.declared.scan.Scanned.the-variants.{Found, Fault}
-use Rattle.reader.specs.declared.kernels.Levels.{Levels}
-use Rattle.reader.specs.Found.{scanOf}
-use Rattle.reader.specs.Lines.{levelsAt, body-levels}
-use Rattle.reader.specs.Kernels.{KernelsRead}
-use Rattle.reader.specs.Parsed.{lastAt, LastRead, bodyOf, linesAt, Holds, BodyRead}
-use Rattle.reader.proofs.Found.{told}
-use Rattle.reader.proofs.After.{made-fault, made-found}
-use Rattle.reader.proofs.PairLines.{pairs-count}
-use Rattle.reader.proofs.KernelLines.{kernels-count, history-length}
-use Rattle.reader.proofs.LastPairs.{last-end, last-found}
+use Rattle.file.specs.declared.scan.Scanned.{Scanned}
+use Rattle.file.specs.declared.scan.Scanned.the-variants.{Found, Fault}
+use Rattle.file.specs.declared.kernels.Levels.{Levels}
+use Rattle.file.specs.Found.{scanOf}
+use Rattle.file.specs.Lines.{levelsAt, body-levels}
+use Rattle.file.specs.Kernels.{KernelsRead}
+use Rattle.file.specs.Pairs.{lastAt, LastRead}
+use Rattle.file.proofs.Found.{told}
+use Rattle.file.proofs.After.{made-fault, made-found}
+use Rattle.file.proofs.PairLines.{pairs-count}
+use Rattle.file.proofs.KernelLines.{kernels-count, history-length}
+use Rattle.file.proofs.LastPairs.{last-end, last-found}
+use Rattle.reader.specs.Parsed.{bodyOf, linesAt, Holds, BodyRead}
 
 module _ {z : Scan Body} {b : List ℕ} {D F : ℕ} {w w′ : List ℕ} (l : ℕ) (ends : List ℕ) (beyond : Beyond D w w′) where
   pub body-wrong : {a : Answer} → z ≡ fault (answerOf a) → BodyRead z b D F w w′ (record { read = Fault a; levels = l; ends = ends })
@@ -107,7 +108,7 @@ module _ {b : List ℕ} {at L D : ℕ} (F : ℕ) {w : List ℕ} (room : Room D w
 
     lines-on : (ks : List KernelLine) → kernelsAt L b at ≡ found ks next → linesAt L D b at ≡ after (lastAt D b next) (λ xs next. found (bodyOf ks xs) next)
     unfolding linesAt
-    lines-on ks whole = rw whole (last-end D b next ks)
+    lines-on ks whole = rw whole (last-end D b next (bodyOf ks))
 
     pub pairs-wrong : {a : Answer} → r ≡ Fault a → BodyRead (linesAt L D b at) b D F w w₂ (record { read = Fault a; levels = L; ends = k .ends })
     pairs-wrong {a} f =

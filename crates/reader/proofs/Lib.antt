@@ -1,12 +1,3 @@
-pub mod After
 pub mod BodyLines
-pub mod Byte
-pub mod Found
-pub mod KernelLines
-pub mod LastPairs
-pub mod Number
-pub mod PairLines
 pub mod ReadEnds
-pub mod Rest
 pub mod Settles
-pub mod Word

@@ -1,6 +1,2 @@
-pub mod Found
-pub mod Kernels
-pub mod Lines
-pub mod Pairs
 pub mod Parsed
 pub mod Settled

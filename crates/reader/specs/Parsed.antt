@@ -1,6 +1,4 @@
 -- What reading the body of a file leaves in the work area.
---   lastAt D b at          == the lines of the pairs, which are the last ones
---   LastRead b at D F t t′ r == r answers for these lines; t′ is the table t with their numbers at the front
 --   linesAt L D b at       == the lines after `levels=L`
 --   Holds s b F p z w       == z found kernels and numbers, of the figures of s; the pairs begin at the place p, and the work area w has the table, and the
 --                             history where it has room
@@ -8,31 +6,16 @@
 use mathlib.Core.Path.{_≡_}
 use mathlib.Core.List.{List, map}
 use Prim.Native.Nat.{ℕ, _/_, _≤_}
-use lib.Dec.{eqb}
-use lib.ListN.{length}
-use Rattle.darts.specs.Choose.{if_then_else_}
-use Rattle.darts.specs.Answers.{noFile}
 use Rattle.darts.specs.Cases.{answerOf}
 use Rattle.darts.specs.declared.Answer.{Answer}
 use Rattle.darts.specs.Scan.{Scan, found, fault, after}
 use Rattle.darts.specs.Read.{KernelLine, Body, kernelsAt, pairsAt, endAt, fromFlag, fileState, fileHistory}
 use Rattle.darts.specs.State.{State, counted}
-use Rattle.slices.specs.Over.{over}
 use Rattle.area.specs.Area.{tableIn}
 use Rattle.area.specs.Shape.{historyIn}
 use Rattle.engine.specs.Held.{Beyond}
-use Rattle.reader.specs.declared.scan.Scanned.{Scanned}
-use Rattle.reader.specs.declared.scan.Scanned.the-variants.{Found, Fault}
+use Rattle.file.specs.declared.scan.Scanned.the-variants.{Found, Fault}
 use Rattle.reader.specs.declared.reading.Parsed.{Parsed}
-use Rattle.reader.specs.Found.{scanOf}
-
--- "nothing after the last"
-unfoldable pub lastAt : ℕ → List ℕ → ℕ → Scan (List ℕ)
-lastAt D b at = after (pairsAt (D / 2) b at) (λ xs next. if eqb next (length b) then found xs next else fault (noFile next))
-
-pub record LastRead (b : List ℕ) (at D F : ℕ) (t t′ : List ℕ) (r : Scanned) : Type 0 where
-  pub answer : scanOf r ≡ after (lastAt D b at) (λ _ next. found 0 next)
-  pub table : (xs : List ℕ) (next : ℕ) → pairsAt (D / 2) b at ≡ found xs next → t′ ≡ over (map (fromFlag F D) xs) t
 
 abbrev pub bodyOf : List KernelLine → List ℕ → Body
 bodyOf ks xs = record { kernels = ks; numbers = xs }

@@ -1,15 +1,16 @@
 // A file read: its body into the work area, and from there, where it is a pyramid, into the lent table and history.
-use crate::kernels::kernels;
-use crate::lines::Line;
-use crate::lines::levels_line;
-use crate::lines::opening;
-use crate::pairs::pairs;
-use crate::scan::Scanned;
 use area::Figures;
 use area::clear::clear;
 use darts::Answer;
 use darts::answers::fit;
 use engine::check::check_laid;
+use file::kernels::kernels;
+use file::lines::Line;
+use file::lines::levels_line;
+use file::lines::opening;
+use file::pairs::last_pairs;
+use file::pairs::pairs;
+use file::scan::Scanned;
 use pyramid::Outcome;
 use pyramid::State;
 use pyramid::starting::unbased;
@@ -23,8 +24,8 @@ ghost use Rattle.area.specs.Area.{Room};
 ghost use Rattle.area.specs.Shape.{stateWith};
 ghost use Rattle.engine.specs.Held.{Beyond};
 ghost use Rattle.pyramid.specs.Values.{left};
-ghost use Rattle.reader.specs.Lines.{startsWith};
-ghost use Rattle.reader.specs.Parsed.{LastRead, linesAt, BodyRead};
+ghost use Rattle.file.specs.Lines.{startsWith};
+ghost use Rattle.reader.specs.Parsed.{linesAt, BodyRead};
 ghost use Rattle.reader.specs.Settled.{Accepted, Settled};
 
 // What the body of a file says: its operations in all with the place where the pairs begin, or the first fault; its levels, and their ends.
@@ -32,22 +33,6 @@ struct Parsed {
     pub read: Scanned,
     pub levels: usize,
     pub ends: [u32; 64],
-}
-
-// The lines of the pairs into a table, with nothing after the last.
-fn last_pairs(bytes: &[u8], at: usize, d: usize, flag: usize, table: &mut [u32]) -> Scanned
-    requires { ⌜ (d ≤ 65536) × (d ≤ length (now table)) ⌝ }
-    ensures { λ r. ⌜ LastRead (now (bytes .entry)) at d flag (now (table .entry)) (now (table .exit)) r ⌝ }
-{
-    match pairs(bytes, at, d, flag, table) {
-        Scanned::Fault(answer) => Scanned::Fault(answer),
-        Scanned::Found(_, next) => {
-            if next != bytes.len() {
-                return Scanned::Fault(Answer::NoFile(next));
-            }
-            Scanned::Found(0, next)
-        }
-    }
 }
 
 // The lines after `levels=L`: the history's part of the work area gets the operations of the kernels, the map's part the numbers of the pairs.

@@ -15,10 +15,10 @@ use Rattle.darts.specs.Map.{successor}
 use Rattle.darts.specs.File.{taken, survivors, fileOrder, fileNumber, fileTable, placeIn}
 use Rattle.slices.proofs.Part.{part-length}
 use Rattle.area.specs.Area.{Room, tableIn, pastIn, forestIn}
-use Rattle.area.specs.Trees.{Outside}
 use Rattle.area.specs.Shape.{historyIn}
+use Rattle.operations.specs.Trees.{Outside}
 use Rattle.slices.proofs.Over.{drop-more}
-use Rattle.area.proofs.Outside.{forest-at}
+use Rattle.operations.proofs.Outside.{forest-at}
 use Rattle.engine.specs.Held.{Area}
 use Rattle.engine.proofs.Beside.{beside-table, beside-past, beside-area}
 use Rattle.engine.proofs.Parts.{rest-from, forest-rest}

@@ -13,8 +13,8 @@ use lib.ListN.{length, getD}
 use borrow.Author.Needs.{needs}
 use Rattle.slices.specs.Part.{part}
 use Rattle.area.specs.Shape.{hasKind}
+use Rattle.area.proofs.OfKind.{has-here, has-on}
 use Rattle.area.proofs.Parts.{part-cons, part-none}
-use Rattle.area.proofs.Replay.{has-here, has-on}
 use Rattle.area.proofs.shape.has_kind.Statement.{statement}
 use Rattle.area.proofs.shape.has_kind.Tie as tie
 

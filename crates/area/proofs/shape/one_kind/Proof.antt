@@ -17,8 +17,8 @@ use Rattle.darts.specs.Operation.{kindOf}
 use Rattle.darts.specs.Tests.{ofKind, oneKind}
 use Rattle.slices.specs.Part.{part}
 use Rattle.area.specs.Shape.{hasKind}
+use Rattle.area.proofs.OfKind.{has-here, has-on, kind-same}
 use Rattle.area.proofs.Parts.{part-cons}
-use Rattle.area.proofs.Replay.{has-here, has-on, kind-same}
 use Rattle.area.proofs.shape.one_kind.Statement.{statement}
 use Rattle.area.proofs.shape.one_kind.Tie as tie
 

@@ -1,7 +1,7 @@
 -- `engine::check::try_kind` meets its contract: the trees are labels of the base, and the replay joins them.
 use borrow.Author.Needs.{needs}
-use Rattle.area.proofs.Labels.{labelled-falls}
-use Rattle.area.proofs.Outside.{outside-room}
+use Rattle.operations.proofs.Labels.{labelled-falls}
+use Rattle.operations.proofs.Outside.{outside-room}
 use Rattle.engine.proofs.Around.{step-perm}
 use Rattle.engine.proofs.Counts.{kind-counted}
 use Rattle.engine.proofs.Tries.{outside-numbered, kind-replayed}

@@ -13,8 +13,8 @@ use Rattle.darts.specs.Kernel.{judge}
 use Rattle.darts.specs.Cases.{answerOf}
 use Rattle.darts.specs.declared.Answer.{Answer}
 use Rattle.area.specs.Area.{tableIn, pastIn}
-use Rattle.area.specs.Edge.{Judged}
-use Rattle.area.specs.Operate.{operated}
+use Rattle.operations.specs.Edge.{Judged}
+use Rattle.operations.specs.Operate.{operated}
 use Rattle.engine.specs.Held.{Ready}
 use Rattle.engine.specs.Runs.{Turned}
 use Rattle.engine.proofs.Ready.{ready-stays, ready-judged, ready-for, ready-did}

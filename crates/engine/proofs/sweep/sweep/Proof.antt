@@ -19,7 +19,7 @@ use Rattle.darts.specs.Kernel.{judge, Run, rising}
 use Rattle.darts.specs.Levels.{takes, sweptFrom, swept}
 use Rattle.laws.proofs.bridge.EmptyLoop.{takes-fine}
 use Rattle.area.specs.Area.{tableIn, pastIn}
-use Rattle.area.specs.Operate.{takesIn, operated}
+use Rattle.operations.specs.Operate.{takesIn, operated}
 use Rattle.engine.specs.Held.{Area, Beyond}
 use Rattle.engine.specs.Runs.{ranIn, Went}
 use Rattle.engine.proofs.Operated.{operated-acts}

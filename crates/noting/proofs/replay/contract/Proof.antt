@@ -2,8 +2,8 @@
 use Prim.Native.Nat.{_+_, _*_}
 use native.Mathlib.Omega.{arith}
 use borrow.Author.Needs.{needs}
-use Rattle.area.proofs.Lent.{found-kept, found-roots, roots-known}
-use Rattle.area.proofs.Outside.{outside-room}
+use Rattle.operations.proofs.Lent.{found-kept, found-roots, roots-known}
+use Rattle.operations.proofs.Outside.{outside-room}
 use Rattle.noting.proofs.Stepping.{both-below, joined-room, contracted-yes, contracted-no}
 use Rattle.noting.proofs.replay.contract.Statement.{statement}
 use Rattle.noting.proofs.replay.contract.Tie as tie

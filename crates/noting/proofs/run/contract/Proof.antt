@@ -3,7 +3,7 @@ use mathlib.Core.Path.{ap, _∙_}
 use Prim.Native.Nat.{_+_, _*_, _/_}
 use lib.ListN.{set}
 use borrow.Author.Needs.{needs}
-use Rattle.area.proofs.Operation.{operated-same, same-room}
+use Rattle.operations.proofs.Operation.{operated-same, same-room}
 use Rattle.sheets.specs.Sheets.{into}
 use Rattle.sheets.specs.Notes.{noteOf}
 use Rattle.noting.proofs.run.contract.Statement.{statement}

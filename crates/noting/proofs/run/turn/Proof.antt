@@ -1,8 +1,8 @@
 -- `noting::run::turn` meets its contract: both finds keep the roots.
 use native.Mathlib.Omega.{arith}
 use borrow.Author.Needs.{needs}
-use Rattle.area.proofs.Lent.{found-kept, found-roots}
-use Rattle.area.proofs.Outside.{outside-room}
+use Rattle.operations.proofs.Lent.{found-kept, found-roots}
+use Rattle.operations.proofs.Outside.{outside-room}
 use Rattle.engine.proofs.Ready.{ready-stays}
 use Rattle.noting.proofs.TurnNoted.{no-edge-noted, kept-noted}
 use Rattle.noting.proofs.run.turn.Statement.{statement}

@@ -1,0 +1,4 @@
+pub mod Found
+pub mod Kernels
+pub mod Lines
+pub mod Pairs

@@ -1,0 +1,10 @@
+pub mod Fitting
+pub mod Judging
+pub mod Labels
+pub mod Lent
+pub mod Marking
+pub mod Operation
+pub mod Outside
+pub mod Replay
+pub mod Sound
+pub mod Steps
