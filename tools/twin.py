@@ -7,7 +7,8 @@
 #   1. makes a TWIN, in target/twin, of the crate that declares the struct and of those that name it above, where a record
 #      is a `[u8; 24]`, no clause says anything, and only functions with a sheet have their bodies;
 #   2. has the toolchain derive the twins (rt check DIR --generated OUT);
-#   3. copies the derivations into each crate's proofs/, with the names of crates/sheets/proofs/Cell.antt for the array.
+#   3. copies the derivations into each crate's proofs/, with the names of crates/sheets/proofs/Cell.antt for the array,
+#      and with a name for each term that a copy repeats.
 # The prover checks the copies like any other proof, against the real code and contracts: nothing done here is trusted.
 #
 #   tools/twin.py            writes, for each function F that has a sheet or lends one:
@@ -218,6 +219,172 @@ def derive(crate, *words):
     (WORK / f"{crate}.log").write_text(ran.stdout + ran.stderr)
     return ran.stdout + ran.stderr
 
+# ---- the names of a copy
+#
+# The toolchain writes a term out wherever it stands, so that half of a derivation is the type of one local, again and
+# again. A copy names what it repeats: `abbrev ty3 : Syntax.Ty`. A term of imported names alone is named above all the
+# rest, and one that has parameters of a section, `module _ (κs : ..) where`, at the head of that section. A term stays
+# written out if it has a λ or a name that the copy declares, or if a name makes the text no shorter.
+
+PIECE = re.compile(r'[()]|(?:"(?:\\.|[^"\\])*"|[^()"])+')  # a bracket, or all that stands between two
+WORD = re.compile(r'"(?:\\.|[^"\\])*"|[{},;]|[^\s{},;"]+')
+TYPES = [  # by the name that a term begins with: its type, and what such a term is called
+    (r"mir\.Syntax\.ty\w+|.*\.Cell\.(?:held|behind)", "mir.Syntax.Ty", "ty"),
+    (r"mir\.Syntax\.tcons", "mir.Syntax.Tys", "fields"),
+    (r"mir\.Syntax\.ttcons", "mir.Syntax.Tyss", "cases"),
+    (r"mir\.Syntax\.(?:valueLocal|memorySlot)", "mir.Syntax.Home", "home"),
+    (r"mir\.Syntax\.(?:field|deref|variant)", "mir.Syntax.Step", "step"),
+    (r"mir\.Syntax\.place", "mir.Syntax.Place", "place"),
+    (r"mir\.Syntax\.(?:copy|int|intBig)", "mir.Syntax.Opd", "opd"),
+    (r"borrow\.Table\.Row\.(?:off|alive|dead|lease)", "borrow.Table.Row.Life", "slot"),
+    (r"borrow\.Table\.Row\.s(?:Int|Bool|Ptr)", "borrow.Table.Row.Sc", "sc"),
+    (r"borrow\.Table\.Referent\.f(?:Int|Bool)", "borrow.Table.Referent.Rf", "rf"),
+    (r"borrow\.Table\.Referent\.rtF|denote\.Array\.Array|denote\.\w+\.Declared\.row|.*\.Cell\.R", "denote.RattleType.RattleType", "held"),
+]
+ENTRY, SYM, LIST = "borrow.Table.Row.Entry", "mir.Syntax.Sym", "mathlib.Core.List"  # a local's number with its row, a name as its letters, lists
+CALLED = {of.rpartition(".")[2]: called for _, of, called in TYPES} | {"Entry": "local", "Sym": "sym", "Claims": "claims"}
+NAME, LINES = 7, 50  # how many bytes a name has, and the two lines that declare it without the term: about
+
+
+def typed(name, lists=0):
+    """the type of what begins with a name, and how many times `List` stands before it; None if it is none of TYPES"""
+    return next(((of, lists) for begin, of, _ in TYPES if re.fullmatch(begin, name)), None)
+
+
+def words(*parts):
+    return [word for part in parts if isinstance(part, str) for word in WORD.findall(part)]
+
+
+def bound(line):
+    """the names that a λ or a type of functions binds in a line"""
+    return {name for names in re.findall(r"λ ([^.]*)\.|[({]([^(){}:]*) :", line) for name in " ".join(names).split()}
+
+
+class Terms:
+    """a copy, with its bracketed terms numbered: equal ones alike, and each after those inside it"""
+
+    def __init__(self, text):
+        self.uses = {alias or path.split(".")[-1]: path for path, alias in re.findall(r"^use (\S+)(?: as (\S+))?$", text, re.M)}
+        self.terms, self.types, self.numbers = [], [], {}  # of a term: what stands between its brackets, text and terms, and its section
+        self.lines, self.open = [], []  # of an open section: its indent, the number of its line, its parameters
+        for line in text.splitlines():
+            indent = len(line) - len(line.lstrip())
+            while line and self.open and self.open[-1][0] >= indent:
+                self.open.pop()
+            self.lines.append(self.read(line, bound(line)))
+            if line.lstrip().startswith("module _ "):
+                self.open.append((indent, len(self.lines), self.parameters(self.lines[-1])))
+            elif line.endswith(" where"):  # a record: its fields may have the names of parameters
+                self.open.append((indent, None, set()))
+
+    def parameters(self, head):
+        """those that the head of a section binds: `(x y : ..)` is a term of it, `{x : ..}` is text"""
+        return {name for part in head for name in bound(part if isinstance(part, str) else self.text(part).partition(" :")[0] + " :")}
+
+    def read(self, line, binds):
+        """a line, as text and terms"""
+        stack = [[]]
+        for piece in PIECE.findall(line):
+            if piece == "(":
+                stack.append([])
+            elif piece == ")":
+                term = tuple(stack.pop())
+                stack[-1].append(self.number(term, binds))
+            else:
+                stack[-1].append(piece)
+        return tuple(stack[0])
+
+    def number(self, term, binds):
+        sections = [self.section(word, binds) for word in words(*term)]
+        sections += [self.terms[part][1] for part in term if isinstance(part, int)]
+        key = term, None if None in sections else max(sections)
+        if key not in self.numbers:
+            self.numbers[key] = len(self.terms)
+            self.terms.append(key)
+            self.types.append(self.type_of(term))
+        return self.numbers[key]
+
+    def section(self, word, binds):
+        """the line of the section that has a word among its parameters, 0 if it is imported, None if it is neither"""
+        if re.fullmatch(r"\d+|tt|,|\.[\w-]+", word) or word.partition(".")[0] in self.uses:
+            return 0
+        for _, line, parameters in reversed([] if word in binds else self.open):
+            if line is None or word in parameters:
+                return line
+        return None
+
+    def type_of(self, term):
+        first, all_ = words(term[0]), words(*term)
+        if not first or any(word.startswith(".") for word in all_):  # a field of a term
+            return None
+        if first[0].endswith(".Asked"):  # what a function is asked and tells, of each one called
+            return next(((path + ".Claims", 0) for path in self.uses.values() if path.endswith(".Proof.Lts")), None)
+        if "," in all_:
+            row = re.match(r"\d+, \S", term[0]) and re.fullmatch(r"borrow\..*|.*\.Cell\.row", self.full(all_[2]))
+            return (ENTRY, 0) if row and all_.count(",") == 1 else None
+        if self.full(first[0]) != LIST + "._∷_":
+            return typed(self.full(first[0]))
+        if len(first) == 1:
+            return self.types[term[1]] and (self.types[term[1]][0], self.types[term[1]][1] + 1)
+        return (SYM, 0) if first[1].isdigit() else typed(self.full(first[1]), 1)
+
+    def full(self, word):
+        alias, _, name = word.partition(".")
+        return f"{self.uses.get(alias)}.{name}"
+
+    def text(self, number, names={}):
+        return names.get(number) or f"({self.inner(self.terms[number][0], names)})"
+
+    def inner(self, parts, names):
+        return "".join(part if isinstance(part, str) else self.text(part, names) for part in parts)
+
+    def repeated(self):
+        """the terms to be named: how long one is hangs on the names inside it, and how often it stands there on those around it"""
+        inside = [collections.Counter(part for part in term if isinstance(part, int)) for term, _ in self.terms]
+        outside = collections.Counter(part for line in self.lines for part in line if isinstance(part, int))
+        could = {i for i, (_, section) in enumerate(self.terms) if section is not None and self.types[i]}
+        named = could
+        for _ in range(4):  # a fifth time would change next to nothing
+            long = []
+            for term, _ in self.terms:
+                long.append(2 + sum(len(part.encode()) if isinstance(part, str) else NAME if part in named else long[part] for part in term))
+            stands, named = [outside[i] for i in range(len(self.terms))], set()
+            for i in reversed(range(len(self.terms))):
+                if i in could and (long[i] - NAME) * (stands[i] - 1) > LINES:
+                    named.add(i)
+                for part, times in inside[i].items():
+                    stands[part] += times * (1 if i in named else stands[i])
+        return sorted(named)
+
+
+def name_terms(text):
+    """a copy, with a name for each term that it repeats"""
+    known = Terms(text)
+    alias = {path: name for name, path in known.uses.items()}
+    names, taken, count = {}, set(WORD.findall(text)), collections.Counter()
+    uses, declared = [], collections.defaultdict(list)  # the modules of types that it does not import, and what each section declares
+    for i in known.repeated():
+        (term, section), (type_, lists) = known.terms[i], known.types[i]
+        module, _, kind = type_.rpartition(".")
+        if module not in alias:
+            alias[module] = module.rpartition(".")[2]
+            uses.append(f"use {module}")
+        said, called = f"{alias[module]}.{kind}", CALLED[kind] + "s" * lists
+        for _ in range(lists):
+            said = f"{alias[LIST]}.List " + (f"({said})" if " " in said else said)
+        while (name := f"{called}{count[called]}") in taken:
+            count[called] += 1
+        taken.add(name)
+        indent = re.match(" *", known.lines[section - 1][0]).group() + "  " if section else ""
+        value = known.text(i, names) if "," in words(*term) else known.inner(term, names)  # a pair keeps its brackets
+        declared[section].append([f"{indent}abbrev {name} : {said}", f"{indent}{name} = {value}"])
+        names[i] = name
+    out = []
+    for number, line in enumerate(known.lines, 1):
+        out += [known.inner(line, names), *(row for rows in declared[number] for row in [*rows, ""])]
+    below = next(k for k, line in enumerate(out) if not line.startswith("use "))
+    return "\n".join([*out[:below], *uses, *(row for rows in declared[0] for row in ["", *rows]), *out[below:]]) + "\n"
+
 
 # ---- the copies
 
@@ -295,7 +462,7 @@ def copy(source, target, crate, sheets):
     if "Cell." in text:
         text = f"use {proofs_of(HOME, crate)}.Cell\n" + text
     target.parent.mkdir(parents=True, exist_ok=True)
-    target.write_text(MARK + text)
+    target.write_text(MARK + name_terms(text))
 
 
 def declare(folder, steps):
