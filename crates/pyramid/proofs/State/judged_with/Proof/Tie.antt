@@ -30,166 +30,169 @@ use borrow.Fn.Run
 use borrow.Fn.Written
 use contract.Running
 
+abbrev claims0 : Lts.Claims
+claims0 = (Reads'3.Asked, Reads'3.Learnt, Reads'7.Asked, Reads'7.Learnt, Reads''.Asked, Reads''.Learnt, Reads.Asked, Reads.Learnt, Reads'6.Asked, Reads'6.Learnt, Reads'.Asked, Reads'.Learnt, Reads'5.Asked, Reads'5.Learnt)
+
 abbrev pub Start : Type 0
-Start = Lts.Start (Reads'3.Asked, Reads'3.Learnt, Reads'7.Asked, Reads'7.Learnt, Reads''.Asked, Reads''.Learnt, Reads.Asked, Reads.Learnt, Reads'6.Asked, Reads'6.Learnt, Reads'.Asked, Reads'.Learnt, Reads'5.Asked, Reads'5.Learnt) Reads'4.Pre Reads'4.Post
+Start = Lts.Start claims0 Reads'4.Pre Reads'4.Post
 
 abbrev pub After-shared-slice-known : Type 0
-After-shared-slice-known = Lts.After-shared-slice-known (Reads'3.Asked, Reads'3.Learnt, Reads'7.Asked, Reads'7.Learnt, Reads''.Asked, Reads''.Learnt, Reads.Asked, Reads.Learnt, Reads'6.Asked, Reads'6.Learnt, Reads'.Asked, Reads'.Learnt, Reads'5.Asked, Reads'5.Learnt) Reads'4.Pre Reads'4.Post
+After-shared-slice-known = Lts.After-shared-slice-known claims0 Reads'4.Pre Reads'4.Post
 
 abbrev pub After-shared-slice-known2 : Type 0
-After-shared-slice-known2 = Lts.After-shared-slice-known2 (Reads'3.Asked, Reads'3.Learnt, Reads'7.Asked, Reads'7.Learnt, Reads''.Asked, Reads''.Learnt, Reads.Asked, Reads.Learnt, Reads'6.Asked, Reads'6.Learnt, Reads'.Asked, Reads'.Learnt, Reads'5.Asked, Reads'5.Learnt) Reads'4.Pre Reads'4.Post
+After-shared-slice-known2 = Lts.After-shared-slice-known2 claims0 Reads'4.Pre Reads'4.Post
 
 abbrev pub After-slice-known : Type 0
-After-slice-known = Lts.After-slice-known (Reads'3.Asked, Reads'3.Learnt, Reads'7.Asked, Reads'7.Learnt, Reads''.Asked, Reads''.Learnt, Reads.Asked, Reads.Learnt, Reads'6.Asked, Reads'6.Learnt, Reads'.Asked, Reads'.Learnt, Reads'5.Asked, Reads'5.Learnt) Reads'4.Pre Reads'4.Post
+After-slice-known = Lts.After-slice-known claims0 Reads'4.Pre Reads'4.Post
 
 abbrev pub After-struct-known : Type 0
-After-struct-known = Lts.After-struct-known (Reads'3.Asked, Reads'3.Learnt, Reads'7.Asked, Reads'7.Learnt, Reads''.Asked, Reads''.Learnt, Reads.Asked, Reads.Learnt, Reads'6.Asked, Reads'6.Learnt, Reads'.Asked, Reads'.Learnt, Reads'5.Asked, Reads'5.Learnt) Reads'4.Pre Reads'4.Post
+After-struct-known = Lts.After-struct-known claims0 Reads'4.Pre Reads'4.Post
 
 abbrev pub Then1 : Type 0
-Then1 = Lts.Then1 (Reads'3.Asked, Reads'3.Learnt, Reads'7.Asked, Reads'7.Learnt, Reads''.Asked, Reads''.Learnt, Reads.Asked, Reads.Learnt, Reads'6.Asked, Reads'6.Learnt, Reads'.Asked, Reads'.Learnt, Reads'5.Asked, Reads'5.Learnt) Reads'4.Pre Reads'4.Post
+Then1 = Lts.Then1 claims0 Reads'4.Pre Reads'4.Post
 
 abbrev pub After-judged-base-arg : Type 0
-After-judged-base-arg = Lts.After-judged-base-arg (Reads'3.Asked, Reads'3.Learnt, Reads'7.Asked, Reads'7.Learnt, Reads''.Asked, Reads''.Learnt, Reads.Asked, Reads.Learnt, Reads'6.Asked, Reads'6.Learnt, Reads'.Asked, Reads'.Learnt, Reads'5.Asked, Reads'5.Learnt) Reads'4.Pre Reads'4.Post
+After-judged-base-arg = Lts.After-judged-base-arg claims0 Reads'4.Pre Reads'4.Post
 
 abbrev pub After-judged-base : Type 0
-After-judged-base = Lts.After-judged-base (Reads'3.Asked, Reads'3.Learnt, Reads'7.Asked, Reads'7.Learnt, Reads''.Asked, Reads''.Learnt, Reads.Asked, Reads.Learnt, Reads'6.Asked, Reads'6.Learnt, Reads'.Asked, Reads'.Learnt, Reads'5.Asked, Reads'5.Learnt) Reads'4.Pre Reads'4.Post
+After-judged-base = Lts.After-judged-base claims0 Reads'4.Pre Reads'4.Post
 
 abbrev pub After-work : Type 0
-After-work = Lts.After-work (Reads'3.Asked, Reads'3.Learnt, Reads'7.Asked, Reads'7.Learnt, Reads''.Asked, Reads''.Learnt, Reads.Asked, Reads.Learnt, Reads'6.Asked, Reads'6.Learnt, Reads'.Asked, Reads'.Learnt, Reads'5.Asked, Reads'5.Learnt) Reads'4.Pre Reads'4.Post
+After-work = Lts.After-work claims0 Reads'4.Pre Reads'4.Post
 
 abbrev pub After-slice-known2 : Type 0
-After-slice-known2 = Lts.After-slice-known2 (Reads'3.Asked, Reads'3.Learnt, Reads'7.Asked, Reads'7.Learnt, Reads''.Asked, Reads''.Learnt, Reads.Asked, Reads.Learnt, Reads'6.Asked, Reads'6.Learnt, Reads'.Asked, Reads'.Learnt, Reads'5.Asked, Reads'5.Learnt) Reads'4.Pre Reads'4.Post
+After-slice-known2 = Lts.After-slice-known2 claims0 Reads'4.Pre Reads'4.Post
 
 abbrev pub Else1 : Type 0
-Else1 = Lts.Else1 (Reads'3.Asked, Reads'3.Learnt, Reads'7.Asked, Reads'7.Learnt, Reads''.Asked, Reads''.Learnt, Reads.Asked, Reads.Learnt, Reads'6.Asked, Reads'6.Learnt, Reads'.Asked, Reads'.Learnt, Reads'5.Asked, Reads'5.Learnt) Reads'4.Pre Reads'4.Post
+Else1 = Lts.Else1 claims0 Reads'4.Pre Reads'4.Post
 
 abbrev pub After-records : Type 0
-After-records = Lts.After-records (Reads'3.Asked, Reads'3.Learnt, Reads'7.Asked, Reads'7.Learnt, Reads''.Asked, Reads''.Learnt, Reads.Asked, Reads.Learnt, Reads'6.Asked, Reads'6.Learnt, Reads'.Asked, Reads'.Learnt, Reads'5.Asked, Reads'5.Learnt) Reads'4.Pre Reads'4.Post
+After-records = Lts.After-records claims0 Reads'4.Pre Reads'4.Post
 
 abbrev pub After-records2 : Type 0
-After-records2 = Lts.After-records2 (Reads'3.Asked, Reads'3.Learnt, Reads'7.Asked, Reads'7.Learnt, Reads''.Asked, Reads''.Learnt, Reads.Asked, Reads.Learnt, Reads'6.Asked, Reads'6.Learnt, Reads'.Asked, Reads'.Learnt, Reads'5.Asked, Reads'5.Learnt) Reads'4.Pre Reads'4.Post
+After-records2 = Lts.After-records2 claims0 Reads'4.Pre Reads'4.Post
 
 abbrev pub After-check-with-arg : Type 0
-After-check-with-arg = Lts.After-check-with-arg (Reads'3.Asked, Reads'3.Learnt, Reads'7.Asked, Reads'7.Learnt, Reads''.Asked, Reads''.Learnt, Reads.Asked, Reads.Learnt, Reads'6.Asked, Reads'6.Learnt, Reads'.Asked, Reads'.Learnt, Reads'5.Asked, Reads'5.Learnt) Reads'4.Pre Reads'4.Post
+After-check-with-arg = Lts.After-check-with-arg claims0 Reads'4.Pre Reads'4.Post
 
 abbrev pub After-check-with : Type 0
-After-check-with = Lts.After-check-with (Reads'3.Asked, Reads'3.Learnt, Reads'7.Asked, Reads'7.Learnt, Reads''.Asked, Reads''.Learnt, Reads.Asked, Reads.Learnt, Reads'6.Asked, Reads'6.Learnt, Reads'.Asked, Reads'.Learnt, Reads'5.Asked, Reads'5.Learnt) Reads'4.Pre Reads'4.Post
+After-check-with = Lts.After-check-with claims0 Reads'4.Pre Reads'4.Post
 
 abbrev pub After-work2 : Type 0
-After-work2 = Lts.After-work2 (Reads'3.Asked, Reads'3.Learnt, Reads'7.Asked, Reads'7.Learnt, Reads''.Asked, Reads''.Learnt, Reads.Asked, Reads.Learnt, Reads'6.Asked, Reads'6.Learnt, Reads'.Asked, Reads'.Learnt, Reads'5.Asked, Reads'5.Learnt) Reads'4.Pre Reads'4.Post
+After-work2 = Lts.After-work2 claims0 Reads'4.Pre Reads'4.Post
 
 abbrev pub After-slice-known3 : Type 0
-After-slice-known3 = Lts.After-slice-known3 (Reads'3.Asked, Reads'3.Learnt, Reads'7.Asked, Reads'7.Learnt, Reads''.Asked, Reads''.Learnt, Reads.Asked, Reads.Learnt, Reads'6.Asked, Reads'6.Learnt, Reads'.Asked, Reads'.Learnt, Reads'5.Asked, Reads'5.Learnt) Reads'4.Pre Reads'4.Post
+After-slice-known3 = Lts.After-slice-known3 claims0 Reads'4.Pre Reads'4.Post
 
 abbrev pub After-number : Type 0
-After-number = Lts.After-number (Reads'3.Asked, Reads'3.Learnt, Reads'7.Asked, Reads'7.Learnt, Reads''.Asked, Reads''.Learnt, Reads.Asked, Reads.Learnt, Reads'6.Asked, Reads'6.Learnt, Reads'.Asked, Reads'.Learnt, Reads'5.Asked, Reads'5.Learnt) Reads'4.Pre Reads'4.Post
+After-number = Lts.After-number claims0 Reads'4.Pre Reads'4.Post
 
 abbrev pub Then2 : Type 0
-Then2 = Lts.Then2 (Reads'3.Asked, Reads'3.Learnt, Reads'7.Asked, Reads'7.Learnt, Reads''.Asked, Reads''.Learnt, Reads.Asked, Reads.Learnt, Reads'6.Asked, Reads'6.Learnt, Reads'.Asked, Reads'.Learnt, Reads'5.Asked, Reads'5.Learnt) Reads'4.Pre Reads'4.Post
+Then2 = Lts.Then2 claims0 Reads'4.Pre Reads'4.Post
 
 abbrev pub Else2 : Type 0
-Else2 = Lts.Else2 (Reads'3.Asked, Reads'3.Learnt, Reads'7.Asked, Reads'7.Learnt, Reads''.Asked, Reads''.Learnt, Reads.Asked, Reads.Learnt, Reads'6.Asked, Reads'6.Learnt, Reads'.Asked, Reads'.Learnt, Reads'5.Asked, Reads'5.Learnt) Reads'4.Pre Reads'4.Post
+Else2 = Lts.Else2 claims0 Reads'4.Pre Reads'4.Post
 
 abbrev pub After-all-right-arg : Type 0
-After-all-right-arg = Lts.After-all-right-arg (Reads'3.Asked, Reads'3.Learnt, Reads'7.Asked, Reads'7.Learnt, Reads''.Asked, Reads''.Learnt, Reads.Asked, Reads.Learnt, Reads'6.Asked, Reads'6.Learnt, Reads'.Asked, Reads'.Learnt, Reads'5.Asked, Reads'5.Learnt) Reads'4.Pre Reads'4.Post
+After-all-right-arg = Lts.After-all-right-arg claims0 Reads'4.Pre Reads'4.Post
 
 abbrev pub After-struct-known2 : Type 0
-After-struct-known2 = Lts.After-struct-known2 (Reads'3.Asked, Reads'3.Learnt, Reads'7.Asked, Reads'7.Learnt, Reads''.Asked, Reads''.Learnt, Reads.Asked, Reads.Learnt, Reads'6.Asked, Reads'6.Learnt, Reads'.Asked, Reads'.Learnt, Reads'5.Asked, Reads'5.Learnt) Reads'4.Pre Reads'4.Post
+After-struct-known2 = Lts.After-struct-known2 claims0 Reads'4.Pre Reads'4.Post
 
 abbrev pub After-struct-known3 : Type 0
-After-struct-known3 = Lts.After-struct-known3 (Reads'3.Asked, Reads'3.Learnt, Reads'7.Asked, Reads'7.Learnt, Reads''.Asked, Reads''.Learnt, Reads.Asked, Reads.Learnt, Reads'6.Asked, Reads'6.Learnt, Reads'.Asked, Reads'.Learnt, Reads'5.Asked, Reads'5.Learnt) Reads'4.Pre Reads'4.Post
+After-struct-known3 = Lts.After-struct-known3 claims0 Reads'4.Pre Reads'4.Post
 
 abbrev pub After-all-right : Type 0
-After-all-right = Lts.After-all-right (Reads'3.Asked, Reads'3.Learnt, Reads'7.Asked, Reads'7.Learnt, Reads''.Asked, Reads''.Learnt, Reads.Asked, Reads.Learnt, Reads'6.Asked, Reads'6.Learnt, Reads'.Asked, Reads'.Learnt, Reads'5.Asked, Reads'5.Learnt) Reads'4.Pre Reads'4.Post
+After-all-right = Lts.After-all-right claims0 Reads'4.Pre Reads'4.Post
 
 abbrev pub Then3 : Type 0
-Then3 = Lts.Then3 (Reads'3.Asked, Reads'3.Learnt, Reads'7.Asked, Reads'7.Learnt, Reads''.Asked, Reads''.Learnt, Reads.Asked, Reads.Learnt, Reads'6.Asked, Reads'6.Learnt, Reads'.Asked, Reads'.Learnt, Reads'5.Asked, Reads'5.Learnt) Reads'4.Pre Reads'4.Post
+Then3 = Lts.Then3 claims0 Reads'4.Pre Reads'4.Post
 
 abbrev pub After-accept-arg : Type 0
-After-accept-arg = Lts.After-accept-arg (Reads'3.Asked, Reads'3.Learnt, Reads'7.Asked, Reads'7.Learnt, Reads''.Asked, Reads''.Learnt, Reads.Asked, Reads.Learnt, Reads'6.Asked, Reads'6.Learnt, Reads'.Asked, Reads'.Learnt, Reads'5.Asked, Reads'5.Learnt) Reads'4.Pre Reads'4.Post
+After-accept-arg = Lts.After-accept-arg claims0 Reads'4.Pre Reads'4.Post
 
 abbrev pub After-accept : Type 0
-After-accept = Lts.After-accept (Reads'3.Asked, Reads'3.Learnt, Reads'7.Asked, Reads'7.Learnt, Reads''.Asked, Reads''.Learnt, Reads.Asked, Reads.Learnt, Reads'6.Asked, Reads'6.Learnt, Reads'.Asked, Reads'.Learnt, Reads'5.Asked, Reads'5.Learnt) Reads'4.Pre Reads'4.Post
+After-accept = Lts.After-accept claims0 Reads'4.Pre Reads'4.Post
 
 abbrev pub After-work3 : Type 0
-After-work3 = Lts.After-work3 (Reads'3.Asked, Reads'3.Learnt, Reads'7.Asked, Reads'7.Learnt, Reads''.Asked, Reads''.Learnt, Reads.Asked, Reads.Learnt, Reads'6.Asked, Reads'6.Learnt, Reads'.Asked, Reads'.Learnt, Reads'5.Asked, Reads'5.Learnt) Reads'4.Pre Reads'4.Post
+After-work3 = Lts.After-work3 claims0 Reads'4.Pre Reads'4.Post
 
 abbrev pub After-slice-known4 : Type 0
-After-slice-known4 = Lts.After-slice-known4 (Reads'3.Asked, Reads'3.Learnt, Reads'7.Asked, Reads'7.Learnt, Reads''.Asked, Reads''.Learnt, Reads.Asked, Reads.Learnt, Reads'6.Asked, Reads'6.Learnt, Reads'.Asked, Reads'.Learnt, Reads'5.Asked, Reads'5.Learnt) Reads'4.Pre Reads'4.Post
+After-slice-known4 = Lts.After-slice-known4 claims0 Reads'4.Pre Reads'4.Post
 
 abbrev pub Else3 : Type 0
-Else3 = Lts.Else3 (Reads'3.Asked, Reads'3.Learnt, Reads'7.Asked, Reads'7.Learnt, Reads''.Asked, Reads''.Learnt, Reads.Asked, Reads.Learnt, Reads'6.Asked, Reads'6.Learnt, Reads'.Asked, Reads'.Learnt, Reads'5.Asked, Reads'5.Learnt) Reads'4.Pre Reads'4.Post
+Else3 = Lts.Else3 claims0 Reads'4.Pre Reads'4.Post
 
 abbrev pub After-refuse-arg : Type 0
-After-refuse-arg = Lts.After-refuse-arg (Reads'3.Asked, Reads'3.Learnt, Reads'7.Asked, Reads'7.Learnt, Reads''.Asked, Reads''.Learnt, Reads.Asked, Reads.Learnt, Reads'6.Asked, Reads'6.Learnt, Reads'.Asked, Reads'.Learnt, Reads'5.Asked, Reads'5.Learnt) Reads'4.Pre Reads'4.Post
+After-refuse-arg = Lts.After-refuse-arg claims0 Reads'4.Pre Reads'4.Post
 
 abbrev pub After-refuse : Type 0
-After-refuse = Lts.After-refuse (Reads'3.Asked, Reads'3.Learnt, Reads'7.Asked, Reads'7.Learnt, Reads''.Asked, Reads''.Learnt, Reads.Asked, Reads.Learnt, Reads'6.Asked, Reads'6.Learnt, Reads'.Asked, Reads'.Learnt, Reads'5.Asked, Reads'5.Learnt) Reads'4.Pre Reads'4.Post
+After-refuse = Lts.After-refuse claims0 Reads'4.Pre Reads'4.Post
 
 abbrev pub After-work4 : Type 0
-After-work4 = Lts.After-work4 (Reads'3.Asked, Reads'3.Learnt, Reads'7.Asked, Reads'7.Learnt, Reads''.Asked, Reads''.Learnt, Reads.Asked, Reads.Learnt, Reads'6.Asked, Reads'6.Learnt, Reads'.Asked, Reads'.Learnt, Reads'5.Asked, Reads'5.Learnt) Reads'4.Pre Reads'4.Post
+After-work4 = Lts.After-work4 claims0 Reads'4.Pre Reads'4.Post
 
 abbrev pub After-slice-known5 : Type 0
-After-slice-known5 = Lts.After-slice-known5 (Reads'3.Asked, Reads'3.Learnt, Reads'7.Asked, Reads'7.Learnt, Reads''.Asked, Reads''.Learnt, Reads.Asked, Reads.Learnt, Reads'6.Asked, Reads'6.Learnt, Reads'.Asked, Reads'.Learnt, Reads'5.Asked, Reads'5.Learnt) Reads'4.Pre Reads'4.Post
+After-slice-known5 = Lts.After-slice-known5 claims0 Reads'4.Pre Reads'4.Post
 
 abbrev pub Need-judged-base-requires : Type 0
-Need-judged-base-requires = Lts.Need-judged-base-requires (Reads'3.Asked, Reads'3.Learnt, Reads'7.Asked, Reads'7.Learnt, Reads''.Asked, Reads''.Learnt, Reads.Asked, Reads.Learnt, Reads'6.Asked, Reads'6.Learnt, Reads'.Asked, Reads'.Learnt, Reads'5.Asked, Reads'5.Learnt) Reads'4.Pre Reads'4.Post
+Need-judged-base-requires = Lts.Need-judged-base-requires claims0 Reads'4.Pre Reads'4.Post
 
 abbrev pub Need-same-length : Type 0
-Need-same-length = Lts.Need-same-length (Reads'3.Asked, Reads'3.Learnt, Reads'7.Asked, Reads'7.Learnt, Reads''.Asked, Reads''.Learnt, Reads.Asked, Reads.Learnt, Reads'6.Asked, Reads'6.Learnt, Reads'.Asked, Reads'.Learnt, Reads'5.Asked, Reads'5.Learnt) Reads'4.Pre Reads'4.Post
+Need-same-length = Lts.Need-same-length claims0 Reads'4.Pre Reads'4.Post
 
 abbrev pub Need-returns : Type 0
-Need-returns = Lts.Need-returns (Reads'3.Asked, Reads'3.Learnt, Reads'7.Asked, Reads'7.Learnt, Reads''.Asked, Reads''.Learnt, Reads.Asked, Reads.Learnt, Reads'6.Asked, Reads'6.Learnt, Reads'.Asked, Reads'.Learnt, Reads'5.Asked, Reads'5.Learnt) Reads'4.Pre Reads'4.Post
+Need-returns = Lts.Need-returns claims0 Reads'4.Pre Reads'4.Post
 
 abbrev pub Need-records-requires : Type 0
-Need-records-requires = Lts.Need-records-requires (Reads'3.Asked, Reads'3.Learnt, Reads'7.Asked, Reads'7.Learnt, Reads''.Asked, Reads''.Learnt, Reads.Asked, Reads.Learnt, Reads'6.Asked, Reads'6.Learnt, Reads'.Asked, Reads'.Learnt, Reads'5.Asked, Reads'5.Learnt) Reads'4.Pre Reads'4.Post
+Need-records-requires = Lts.Need-records-requires claims0 Reads'4.Pre Reads'4.Post
 
 abbrev pub Need-records-requires-2 : Type 0
-Need-records-requires-2 = Lts.Need-records-requires-2 (Reads'3.Asked, Reads'3.Learnt, Reads'7.Asked, Reads'7.Learnt, Reads''.Asked, Reads''.Learnt, Reads.Asked, Reads.Learnt, Reads'6.Asked, Reads'6.Learnt, Reads'.Asked, Reads'.Learnt, Reads'5.Asked, Reads'5.Learnt) Reads'4.Pre Reads'4.Post
+Need-records-requires-2 = Lts.Need-records-requires-2 claims0 Reads'4.Pre Reads'4.Post
 
 abbrev pub Need-check-with-requires : Type 0
-Need-check-with-requires = Lts.Need-check-with-requires (Reads'3.Asked, Reads'3.Learnt, Reads'7.Asked, Reads'7.Learnt, Reads''.Asked, Reads''.Learnt, Reads.Asked, Reads.Learnt, Reads'6.Asked, Reads'6.Learnt, Reads'.Asked, Reads'.Learnt, Reads'5.Asked, Reads'5.Learnt) Reads'4.Pre Reads'4.Post
+Need-check-with-requires = Lts.Need-check-with-requires claims0 Reads'4.Pre Reads'4.Post
 
 abbrev pub Need-number-requires : Type 0
-Need-number-requires = Lts.Need-number-requires (Reads'3.Asked, Reads'3.Learnt, Reads'7.Asked, Reads'7.Learnt, Reads''.Asked, Reads''.Learnt, Reads.Asked, Reads.Learnt, Reads'6.Asked, Reads'6.Learnt, Reads'.Asked, Reads'.Learnt, Reads'5.Asked, Reads'5.Learnt) Reads'4.Pre Reads'4.Post
+Need-number-requires = Lts.Need-number-requires claims0 Reads'4.Pre Reads'4.Post
 
 abbrev pub Need-same-length-2 : Type 0
-Need-same-length-2 = Lts.Need-same-length-2 (Reads'3.Asked, Reads'3.Learnt, Reads'7.Asked, Reads'7.Learnt, Reads''.Asked, Reads''.Learnt, Reads.Asked, Reads.Learnt, Reads'6.Asked, Reads'6.Learnt, Reads'.Asked, Reads'.Learnt, Reads'5.Asked, Reads'5.Learnt) Reads'4.Pre Reads'4.Post
+Need-same-length-2 = Lts.Need-same-length-2 claims0 Reads'4.Pre Reads'4.Post
 
 abbrev pub Need-returns-2 : Type 0
-Need-returns-2 = Lts.Need-returns-2 (Reads'3.Asked, Reads'3.Learnt, Reads'7.Asked, Reads'7.Learnt, Reads''.Asked, Reads''.Learnt, Reads.Asked, Reads.Learnt, Reads'6.Asked, Reads'6.Learnt, Reads'.Asked, Reads'.Learnt, Reads'5.Asked, Reads'5.Learnt) Reads'4.Pre Reads'4.Post
+Need-returns-2 = Lts.Need-returns-2 claims0 Reads'4.Pre Reads'4.Post
 
 abbrev pub Need-cast-all-right : Type 0
-Need-cast-all-right = Lts.Need-cast-all-right (Reads'3.Asked, Reads'3.Learnt, Reads'7.Asked, Reads'7.Learnt, Reads''.Asked, Reads''.Learnt, Reads.Asked, Reads.Learnt, Reads'6.Asked, Reads'6.Learnt, Reads'.Asked, Reads'.Learnt, Reads'5.Asked, Reads'5.Learnt) Reads'4.Pre Reads'4.Post
+Need-cast-all-right = Lts.Need-cast-all-right claims0 Reads'4.Pre Reads'4.Post
 
 abbrev pub Need-cast-all-right-2 : Type 0
-Need-cast-all-right-2 = Lts.Need-cast-all-right-2 (Reads'3.Asked, Reads'3.Learnt, Reads'7.Asked, Reads'7.Learnt, Reads''.Asked, Reads''.Learnt, Reads.Asked, Reads.Learnt, Reads'6.Asked, Reads'6.Learnt, Reads'.Asked, Reads'.Learnt, Reads'5.Asked, Reads'5.Learnt) Reads'4.Pre Reads'4.Post
+Need-cast-all-right-2 = Lts.Need-cast-all-right-2 claims0 Reads'4.Pre Reads'4.Post
 
 abbrev pub Need-all-right-requires : Type 0
-Need-all-right-requires = Lts.Need-all-right-requires (Reads'3.Asked, Reads'3.Learnt, Reads'7.Asked, Reads'7.Learnt, Reads''.Asked, Reads''.Learnt, Reads.Asked, Reads.Learnt, Reads'6.Asked, Reads'6.Learnt, Reads'.Asked, Reads'.Learnt, Reads'5.Asked, Reads'5.Learnt) Reads'4.Pre Reads'4.Post
+Need-all-right-requires = Lts.Need-all-right-requires claims0 Reads'4.Pre Reads'4.Post
 
 abbrev pub Need-accept-requires : Type 0
-Need-accept-requires = Lts.Need-accept-requires (Reads'3.Asked, Reads'3.Learnt, Reads'7.Asked, Reads'7.Learnt, Reads''.Asked, Reads''.Learnt, Reads.Asked, Reads.Learnt, Reads'6.Asked, Reads'6.Learnt, Reads'.Asked, Reads'.Learnt, Reads'5.Asked, Reads'5.Learnt) Reads'4.Pre Reads'4.Post
+Need-accept-requires = Lts.Need-accept-requires claims0 Reads'4.Pre Reads'4.Post
 
 abbrev pub Need-same-length-3 : Type 0
-Need-same-length-3 = Lts.Need-same-length-3 (Reads'3.Asked, Reads'3.Learnt, Reads'7.Asked, Reads'7.Learnt, Reads''.Asked, Reads''.Learnt, Reads.Asked, Reads.Learnt, Reads'6.Asked, Reads'6.Learnt, Reads'.Asked, Reads'.Learnt, Reads'5.Asked, Reads'5.Learnt) Reads'4.Pre Reads'4.Post
+Need-same-length-3 = Lts.Need-same-length-3 claims0 Reads'4.Pre Reads'4.Post
 
 abbrev pub Need-returns-3 : Type 0
-Need-returns-3 = Lts.Need-returns-3 (Reads'3.Asked, Reads'3.Learnt, Reads'7.Asked, Reads'7.Learnt, Reads''.Asked, Reads''.Learnt, Reads.Asked, Reads.Learnt, Reads'6.Asked, Reads'6.Learnt, Reads'.Asked, Reads'.Learnt, Reads'5.Asked, Reads'5.Learnt) Reads'4.Pre Reads'4.Post
+Need-returns-3 = Lts.Need-returns-3 claims0 Reads'4.Pre Reads'4.Post
 
 abbrev pub Need-refuse-requires : Type 0
-Need-refuse-requires = Lts.Need-refuse-requires (Reads'3.Asked, Reads'3.Learnt, Reads'7.Asked, Reads'7.Learnt, Reads''.Asked, Reads''.Learnt, Reads.Asked, Reads.Learnt, Reads'6.Asked, Reads'6.Learnt, Reads'.Asked, Reads'.Learnt, Reads'5.Asked, Reads'5.Learnt) Reads'4.Pre Reads'4.Post
+Need-refuse-requires = Lts.Need-refuse-requires claims0 Reads'4.Pre Reads'4.Post
 
 abbrev pub Need-same-length-4 : Type 0
-Need-same-length-4 = Lts.Need-same-length-4 (Reads'3.Asked, Reads'3.Learnt, Reads'7.Asked, Reads'7.Learnt, Reads''.Asked, Reads''.Learnt, Reads.Asked, Reads.Learnt, Reads'6.Asked, Reads'6.Learnt, Reads'.Asked, Reads'.Learnt, Reads'5.Asked, Reads'5.Learnt) Reads'4.Pre Reads'4.Post
+Need-same-length-4 = Lts.Need-same-length-4 claims0 Reads'4.Pre Reads'4.Post
 
 abbrev pub Need-returns-4 : Type 0
-Need-returns-4 = Lts.Need-returns-4 (Reads'3.Asked, Reads'3.Learnt, Reads'7.Asked, Reads'7.Learnt, Reads''.Asked, Reads''.Learnt, Reads.Asked, Reads.Learnt, Reads'6.Asked, Reads'6.Learnt, Reads'.Asked, Reads'.Learnt, Reads'5.Asked, Reads'5.Learnt) Reads'4.Pre Reads'4.Post
+Need-returns-4 = Lts.Need-returns-4 claims0 Reads'4.Pre Reads'4.Post
 
 module _ {M : Type 1} where
-  pub spec : (answer : Need-judged-base-requires) → (answer : Need-same-length) → (answer : Need-returns) → (answer : Need-records-requires) → (answer : Need-records-requires-2) → (answer : Need-check-with-requires) → (answer : Need-number-requires) → (answer : Need-same-length-2) → (answer : Need-returns-2) → (answer : Need-cast-all-right) → (answer : Need-cast-all-right-2) → (answer : Need-all-right-requires) → (answer : Need-accept-requires) → (answer : Need-same-length-3) → (answer : Need-returns-3) → (answer : Need-refuse-requires) → (answer : Need-same-length-4) → (answer : Need-returns-4) → Lts.Closed (Reads'3.Asked, Reads'3.Learnt, Reads'7.Asked, Reads'7.Learnt, Reads''.Asked, Reads''.Learnt, Reads.Asked, Reads.Learnt, Reads'6.Asked, Reads'6.Learnt, Reads'.Asked, Reads'.Learnt, Reads'5.Asked, Reads'5.Learnt) Reads'4.Pre Reads'4.Post M
-  spec = λ answer answer' answer'' answer'3 answer'4 answer'5 answer'6 answer'7 answer'8 answer'9 answer'10 answer'11 answer'12 answer'13 answer'14 answer'15 answer'16 answer'17. Lts.spec (Reads'3.Asked, Reads'3.Learnt, Reads'7.Asked, Reads'7.Learnt, Reads''.Asked, Reads''.Learnt, Reads.Asked, Reads.Learnt, Reads'6.Asked, Reads'6.Learnt, Reads'.Asked, Reads'.Learnt, Reads'5.Asked, Reads'5.Learnt) Reads'4.Pre Reads'4.Post answer answer' answer'' answer'3 answer'4 answer'5 answer'6 answer'7 answer'8 answer'9 answer'10 answer'11 answer'12 answer'13 answer'14 answer'15 answer'16 answer'17
+  pub spec : (answer : Need-judged-base-requires) → (answer : Need-same-length) → (answer : Need-returns) → (answer : Need-records-requires) → (answer : Need-records-requires-2) → (answer : Need-check-with-requires) → (answer : Need-number-requires) → (answer : Need-same-length-2) → (answer : Need-returns-2) → (answer : Need-cast-all-right) → (answer : Need-cast-all-right-2) → (answer : Need-all-right-requires) → (answer : Need-accept-requires) → (answer : Need-same-length-3) → (answer : Need-returns-3) → (answer : Need-refuse-requires) → (answer : Need-same-length-4) → (answer : Need-returns-4) → Lts.Closed claims0 Reads'4.Pre Reads'4.Post M
+  spec = λ answer answer' answer'' answer'3 answer'4 answer'5 answer'6 answer'7 answer'8 answer'9 answer'10 answer'11 answer'12 answer'13 answer'14 answer'15 answer'16 answer'17. Lts.spec claims0 Reads'4.Pre Reads'4.Post answer answer' answer'' answer'3 answer'4 answer'5 answer'6 answer'7 answer'8 answer'9 answer'10 answer'11 answer'12 answer'13 answer'14 answer'15 answer'16 answer'17
 
-  pub close : Lts.Closed (Reads'3.Asked, Reads'3.Learnt, Reads'7.Asked, Reads'7.Learnt, Reads''.Asked, Reads''.Learnt, Reads.Asked, Reads.Learnt, Reads'6.Asked, Reads'6.Learnt, Reads'.Asked, Reads'.Learnt, Reads'5.Asked, Reads'5.Learnt) Reads'4.Pre Reads'4.Post M → Statement.statement M
+  pub close : Lts.Closed claims0 Reads'4.Pre Reads'4.Post M → Statement.statement M
   unfolding Code.routine Running.tablesOf
   close = λ closed 𝓤 H 𝓜 𝓖 𝓡. Written.close 5 Kinds.ps Kinds.r Reads'4.Ghost Reads'4.requires Reads'4.ensures Reads'4.pre-read Reads'4.Pinned Reads'4.Owned Reads'4.post-read record { M = M; 𝓤 = 𝓤; H = H; 𝓜 = 𝓜; 𝓖 = 𝓖; 𝓡 = 𝓡 } Code.env Key.name Code.function (Code.unfolded 𝓤 H 𝓜 𝓡) (λ κs a g. tt) (λ κs. Reads'4.owns κs record { M = M; 𝓤 = 𝓤; H = H; 𝓜 = 𝓜; 𝓖 = 𝓖; 𝓡 = 𝓡 }) (Reads'4.passes record { M = M; 𝓤 = 𝓤; H = H; 𝓜 = 𝓜; 𝓖 = 𝓖; 𝓡 = 𝓡 }) λ g. closed 𝓤 H (𝓖 .A) (Running.givenOf 𝓤 H 𝓜 𝓖) (Run.Over 𝓤 H 𝓜 𝓖 𝓡 Code.env) (Reads'3.known record { M = M; 𝓤 = 𝓤; H = H; 𝓜 = 𝓜; 𝓖 = 𝓖; 𝓡 = 𝓡 } Code.env Symbol'3.name Symbol'3.routine Code.calls-pyramid·State·judged-base (Met'3.met 𝓤 H 𝓜 𝓖 𝓡)) (Reads'7.known record { M = M; 𝓤 = 𝓤; H = H; 𝓜 = 𝓜; 𝓖 = 𝓖; 𝓡 = 𝓡 } Code.env Symbol'6.name Symbol'6.routine Code.calls-sheets·thin·records (Met'6.met 𝓤 H 𝓜 𝓖 𝓡)) (Reads''.known record { M = M; 𝓤 = 𝓤; H = H; 𝓜 = 𝓜; 𝓖 = 𝓖; 𝓡 = 𝓡 } Code.env Symbol''.name Symbol''.routine Code.calls-pyramid·State·check-with (Met''.met 𝓤 H 𝓜 𝓖 𝓡)) (Reads.known record { M = M; 𝓤 = 𝓤; H = H; 𝓜 = 𝓜; 𝓖 = 𝓖; 𝓡 = 𝓡 } Code.env Symbol.name Symbol.routine Code.calls-darts·Answer·number (Met.met 𝓤 H 𝓜 𝓖 𝓡)) (Reads'6.known record { M = M; 𝓤 = 𝓤; H = H; 𝓜 = 𝓜; 𝓖 = 𝓖; 𝓡 = 𝓡 } Code.env Symbol'5.name Symbol'5.routine Code.calls-sheets·loops·all-right (Met'5.met 𝓤 H 𝓜 𝓖 𝓡)) (Reads'.known record { M = M; 𝓤 = 𝓤; H = H; 𝓜 = 𝓜; 𝓖 = 𝓖; 𝓡 = 𝓡 } Code.env Symbol'.name Symbol'.routine Code.calls-pyramid·State·accept (Met'.met 𝓤 H 𝓜 𝓖 𝓡)) (Reads'5.known record { M = M; 𝓤 = 𝓤; H = H; 𝓜 = 𝓜; 𝓖 = 𝓖; 𝓡 = 𝓡 } Code.env Symbol'4.name Symbol'4.routine Code.calls-pyramid·State·refuse (Met'4.met 𝓤 H 𝓜 𝓖 𝓡))

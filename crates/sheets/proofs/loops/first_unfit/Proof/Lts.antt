@@ -46,21 +46,112 @@ use mir.Syntax
 use mir.Val
 use prog.Wp
 use types.Kit
+use denote.RattleType
+
+abbrev rf0 : Referent.Rf
+rf0 = Referent.fInt Syntax.w32
+
+abbrev held0 : RattleType.RattleType
+held0 = Referent.rtF rf0
+
+abbrev ty0 : Syntax.Ty
+ty0 = Syntax.tyInt Syntax.w64
+
+abbrev place0 : Syntax.Place
+place0 = Syntax.place 4 List.[]
+
+abbrev opd0 : Syntax.Opd
+opd0 = Syntax.copy place0
+
+abbrev opd1 : Syntax.Opd
+opd1 = Syntax.copy (Syntax.place 2 List.[])
+
+abbrev steps0 : List.List Syntax.Step
+steps0 = List._∷_ (Syntax.field 0) List.[]
+
+abbrev local0 : Row.Entry
+local0 = (0, Rows'.any-gone ty0)
+
+abbrev ty1 : Syntax.Ty
+ty1 = Syntax.tyInt Syntax.w32
+
+abbrev ty2 : Syntax.Ty
+ty2 = Syntax.tyRef (Syntax.named 0) Syntax.imm ty1
+
+abbrev local1 : Row.Entry
+local1 = (1, Rows'.sslice held0 ty2 0)
+
+abbrev sc0 : Row.Sc
+sc0 = Row.sInt Syntax.w64
+
+abbrev local2 : Row.Entry
+local2 = (2, Rows'.sc-here sc0)
+
+abbrev ty3 : Syntax.Ty
+ty3 = Syntax.tyRef (Syntax.named 1) Syntax.imm Cell.behind
+
+abbrev local3 : Row.Entry
+local3 = (3, Rows'.sslice Cell.R ty3 1)
+
+abbrev local4 : Row.Entry
+local4 = (5, Rows'.any-gone Syntax.tyBool)
+
+abbrev local5 : Row.Entry
+local5 = (6, Rows'.any-gone Syntax.tyBool)
+
+abbrev local6 : Row.Entry
+local6 = (7, Rows'.any-gone Syntax.tyBool)
+
+abbrev local7 : Row.Entry
+local7 = (8, Rows'.any-gone ty0)
+
+abbrev local8 : Row.Entry
+local8 = (9, Rows'.any-gone Syntax.tyPtr)
+
+abbrev local9 : Row.Entry
+local9 = (10, Rows'.any-gone Cell.held)
+
+abbrev locals0 : List.List Row.Entry
+locals0 = List._∷_ (11, Rows'.any-gone Syntax.tyBool) List.[]
+
+abbrev locals1 : List.List Row.Entry
+locals1 = List._∷_ local7 (List._∷_ local8 (List._∷_ local9 locals0))
+
+abbrev locals2 : List.List Row.Entry
+locals2 = List._∷_ local4 (List._∷_ local5 (List._∷_ local6 locals1))
+
+abbrev locals3 : List.List Row.Entry
+locals3 = List._∷_ local3 (List._∷_ (4, Rows'.any-gone ty0) locals2)
+
+abbrev local10 : Row.Entry
+local10 = (0, Rows'.sc-here sc0)
+
+abbrev local11 : Row.Entry
+local11 = (4, Rows'.sc-here sc0)
+
+abbrev locals4 : List.List Row.Entry
+locals4 = List._∷_ local1 (List._∷_ local2 (List._∷_ local3 (List._∷_ local11 locals2)))
+
+abbrev locals5 : List.List Row.Entry
+locals5 = List._∷_ (10, Cell.row) locals0
+
+abbrev locals6 : List.List Row.Entry
+locals6 = List._∷_ local7 (List._∷_ local8 (List._∷_ local9 (List._∷_ (11, Rows'.sc-here Row.sBool) List.[])))
 
 abbrev pub ps : List.List (Kinds.PK 2)
-ps = List._∷_ (ShrSlice.pShrS (Referent.rtF (Referent.fInt Syntax.w32)) 0 tt) (List._∷_ (Num.pNum Syntax.w64) (List._∷_ (ShrSlice.pShrS Cell.R 1 tt) List.[]))
+ps = List._∷_ (ShrSlice.pShrS held0 0 tt) (List._∷_ (Num.pNum Syntax.w64) (List._∷_ (ShrSlice.pShrS Cell.R 1 tt) List.[]))
 
 abbrev pub r : Kinds.RK 2
 r = Num.rNum Syntax.w64
 
 abbrev pub xs : List.List Syntax.Ty
-xs = List._∷_ (Syntax.tyInt Syntax.w64) (List._∷_ Syntax.tyBool (List._∷_ Syntax.tyBool (List._∷_ Syntax.tyBool (List._∷_ (Syntax.tyInt Syntax.w64) (List._∷_ Syntax.tyPtr (List._∷_ Cell.held (List._∷_ Syntax.tyBool List.[])))))))
+xs = List._∷_ ty0 (List._∷_ Syntax.tyBool (List._∷_ Syntax.tyBool (List._∷_ Syntax.tyBool (List._∷_ ty0 (List._∷_ Syntax.tyPtr (List._∷_ Cell.held (List._∷_ Syntax.tyBool List.[])))))))
 
 abbrev pub m : Nat.ℕ
 m = 0
 
 abbrev pub ps·0 : List.List (Kinds.PK 1)
-ps·0 = List._∷_ (ShrSlice.pShrS (Referent.rtF (Referent.fInt Syntax.w32)) 0 tt) (List._∷_ (Num.pNum Syntax.w64) (List._∷_ (Num.pNum Syntax.w64) List.[]))
+ps·0 = List._∷_ (ShrSlice.pShrS held0 0 tt) (List._∷_ (Num.pNum Syntax.w64) (List._∷_ (Num.pNum Syntax.w64) List.[]))
 
 abbrev pub r·0 : Kinds.RK 1
 r·0 = Bool.rBool
@@ -75,10 +166,10 @@ abbrev pub hs : List.List Syntax.Home
 hs = List._∷_ Syntax.valueLocal (List._∷_ Syntax.valueLocal (List._∷_ Syntax.valueLocal (List._∷_ Syntax.valueLocal (List._∷_ Syntax.valueLocal (List._∷_ Syntax.valueLocal (List._∷_ Syntax.valueLocal (List._∷_ Syntax.valueLocal (List._∷_ Syntax.valueLocal (List._∷_ Syntax.valueLocal (List._∷_ Syntax.valueLocal (List._∷_ Syntax.valueLocal List.[])))))))))))
 
 abbrev b0 : Syntax.Body
-b0 = Syntax.assign (Syntax.place 4 List.[]) (Syntax.rvOpd (Syntax.int Syntax.w64 0))
+b0 = Syntax.assign place0 (Syntax.rvOpd (Syntax.int Syntax.w64 0))
 
 abbrev b1 : Syntax.Body
-b1 = Syntax.assign (Syntax.place 5 List.[]) (Syntax.op2 (Syntax.lt Syntax.unsigned) (Syntax.copy (Syntax.place 4 List.[])) (Syntax.copy (Syntax.place 2 List.[])))
+b1 = Syntax.assign (Syntax.place 5 List.[]) (Syntax.op2 (Syntax.lt Syntax.unsigned) opd0 opd1)
 
 abbrev b2 : Syntax.Body
 b2 = Syntax.skip
@@ -90,13 +181,13 @@ abbrev b4 : Syntax.Body
 b4 = Syntax.cond (Syntax.copy (Syntax.place 5 List.[])) b2 b3
 
 abbrev b5 : Syntax.Body
-b5 = Syntax.call "sheets::loops::own_label" (List._∷_ (Syntax.copy (Syntax.place 1 List.[])) (List._∷_ (Syntax.copy (Syntax.place 2 List.[])) (List._∷_ (Syntax.copy (Syntax.place 4 List.[])) List.[]))) (Syntax.place 6 List.[])
+b5 = Syntax.call "sheets::loops::own_label" (List._∷_ (Syntax.copy (Syntax.place 1 List.[])) (List._∷_ opd1 (List._∷_ opd0 List.[]))) (Syntax.place 6 List.[])
 
 abbrev b6 : Syntax.Body
-b6 = Syntax.assign (Syntax.place 8 List.[]) (Syntax.op2 (Syntax.mul Syntax.unsigned) (Syntax.copy (Syntax.place 4 List.[])) (Syntax.int Syntax.w64 24))
+b6 = Syntax.assign (Syntax.place 8 List.[]) (Syntax.op2 (Syntax.mul Syntax.unsigned) opd0 (Syntax.int Syntax.w64 24))
 
 abbrev b7 : Syntax.Body
-b7 = Syntax.assign (Syntax.place 9 List.[]) (Syntax.op2 Syntax.offset (Syntax.copy (Syntax.place 3 (List._∷_ (Syntax.field 0) List.[]))) (Syntax.copy (Syntax.place 8 List.[])))
+b7 = Syntax.assign (Syntax.place 9 List.[]) (Syntax.op2 Syntax.offset (Syntax.copy (Syntax.place 3 steps0)) (Syntax.copy (Syntax.place 8 List.[])))
 
 abbrev b8 : Syntax.Body
 b8 = Syntax.assign (Syntax.place 10 List.[]) (Syntax.rvOpd (Syntax.copy (Syntax.place 9 (List._∷_ (Syntax.deref Cell.held) List.[]))))
@@ -108,7 +199,7 @@ abbrev b10 : Syntax.Body
 b10 = Syntax.assign (Syntax.place 11 List.[]) (Syntax.op1 Syntax.bitNot (Syntax.copy (Syntax.place 7 List.[])))
 
 abbrev b11 : Syntax.Body
-b11 = Syntax.assign (Syntax.place 0 List.[]) (Syntax.rvOpd (Syntax.copy (Syntax.place 4 List.[])))
+b11 = Syntax.assign (Syntax.place 0 List.[]) (Syntax.rvOpd opd0)
 
 abbrev b12 : Syntax.Body
 b12 = Syntax.return
@@ -123,7 +214,7 @@ abbrev b15 : Syntax.Body
 b15 = Syntax.cond (Syntax.copy (Syntax.place 11 List.[])) b13 b14
 
 abbrev b16 : Syntax.Body
-b16 = Syntax.assign (Syntax.place 4 List.[]) (Syntax.op2 (Syntax.add Syntax.unsigned) (Syntax.copy (Syntax.place 4 List.[])) (Syntax.int Syntax.w64 1))
+b16 = Syntax.assign place0 (Syntax.op2 (Syntax.add Syntax.unsigned) opd0 (Syntax.int Syntax.w64 1))
 
 abbrev b17 : Syntax.Body
 b17 = Syntax.seq b15 b16
@@ -144,7 +235,7 @@ abbrev b22 : Syntax.Body
 b22 = Syntax.seq b6 b21
 
 abbrev b23 : Syntax.Body
-b23 = Syntax.assign (Syntax.place 4 List.[]) (Syntax.op2 (Syntax.add Syntax.unsigned) (Syntax.copy (Syntax.place 4 List.[])) (Syntax.int Syntax.w64 1))
+b23 = Syntax.assign place0 (Syntax.op2 (Syntax.add Syntax.unsigned) opd0 (Syntax.int Syntax.w64 1))
 
 abbrev b24 : Syntax.Body
 b24 = Syntax.cond (Syntax.copy (Syntax.place 6 List.[])) b22 b23
@@ -165,7 +256,7 @@ abbrev b29 : Syntax.Body
 b29 = Syntax.block b28
 
 abbrev b30 : Syntax.Body
-b30 = Syntax.assign (Syntax.place 0 List.[]) (Syntax.rvOpd (Syntax.copy (Syntax.place 2 List.[])))
+b30 = Syntax.assign (Syntax.place 0 List.[]) (Syntax.rvOpd opd1)
 
 abbrev b31 : Syntax.Body
 b31 = Syntax.return
@@ -186,55 +277,55 @@ abbrev pub Claims : Type 1
 Claims = Kinds.In 1 ps·0 × Kinds.Out 1 ps·0 r·0 × Kinds.In 0 ps·1 × Kinds.Out 0 ps·1 r·1
 
 abbrev pub t0 : List.List Row.Entry
-t0 = List._∷_ (0, Rows'.any-gone (Syntax.tyInt Syntax.w64)) (List._∷_ (1, Rows'.sslice (Referent.rtF (Referent.fInt Syntax.w32)) (Syntax.tyRef (Syntax.named 0) Syntax.imm (Syntax.tyInt Syntax.w32)) 0) (List._∷_ (2, Rows'.sc-here (Row.sInt Syntax.w64)) (List._∷_ (3, Rows'.sslice Cell.R (Syntax.tyRef (Syntax.named 1) Syntax.imm Cell.behind) 1) (List._∷_ (4, Rows'.any-gone (Syntax.tyInt Syntax.w64)) (List._∷_ (5, Rows'.any-gone Syntax.tyBool) (List._∷_ (6, Rows'.any-gone Syntax.tyBool) (List._∷_ (7, Rows'.any-gone Syntax.tyBool) (List._∷_ (8, Rows'.any-gone (Syntax.tyInt Syntax.w64)) (List._∷_ (9, Rows'.any-gone Syntax.tyPtr) (List._∷_ (10, Rows'.any-gone Cell.held) (List._∷_ (11, Rows'.any-gone Syntax.tyBool) List.[])))))))))))
+t0 = List._∷_ local0 (List._∷_ local1 (List._∷_ local2 locals3))
 
 abbrev pub t1 : List.List Row.Entry
-t1 = List._∷_ (0, Rows'.sc-here (Row.sInt Syntax.w64)) (List._∷_ (1, Rows'.sslice (Referent.rtF (Referent.fInt Syntax.w32)) (Syntax.tyRef (Syntax.named 0) Syntax.imm (Syntax.tyInt Syntax.w32)) 0) (List._∷_ (2, Rows'.any-gone (Syntax.tyInt Syntax.w64)) (List._∷_ (3, Rows'.sslice Cell.R (Syntax.tyRef (Syntax.named 1) Syntax.imm Cell.behind) 1) (List._∷_ (4, Rows'.any-gone (Syntax.tyInt Syntax.w64)) (List._∷_ (5, Rows'.any-gone Syntax.tyBool) (List._∷_ (6, Rows'.any-gone Syntax.tyBool) (List._∷_ (7, Rows'.any-gone Syntax.tyBool) (List._∷_ (8, Rows'.any-gone (Syntax.tyInt Syntax.w64)) (List._∷_ (9, Rows'.any-gone Syntax.tyPtr) (List._∷_ (10, Rows'.any-gone Cell.held) (List._∷_ (11, Rows'.any-gone Syntax.tyBool) List.[])))))))))))
+t1 = List._∷_ local10 (List._∷_ local1 (List._∷_ (2, Rows'.any-gone ty0) locals3))
 
 abbrev pub t2 : List.List Row.Entry
-t2 = List._∷_ (0, Rows'.any-gone (Syntax.tyInt Syntax.w64)) (List._∷_ (1, Rows'.sslice (Referent.rtF (Referent.fInt Syntax.w32)) (Syntax.tyRef (Syntax.named 0) Syntax.imm (Syntax.tyInt Syntax.w32)) 0) (List._∷_ (2, Rows'.sc-here (Row.sInt Syntax.w64)) (List._∷_ (3, Rows'.sslice Cell.R (Syntax.tyRef (Syntax.named 1) Syntax.imm Cell.behind) 1) (List._∷_ (4, Rows'.sc-here (Row.sInt Syntax.w64)) (List._∷_ (5, Rows'.any-gone Syntax.tyBool) (List._∷_ (6, Rows'.any-gone Syntax.tyBool) (List._∷_ (7, Rows'.any-gone Syntax.tyBool) (List._∷_ (8, Rows'.any-gone (Syntax.tyInt Syntax.w64)) (List._∷_ (9, Rows'.any-gone Syntax.tyPtr) (List._∷_ (10, Rows'.any-gone Cell.held) (List._∷_ (11, Rows'.any-gone Syntax.tyBool) List.[])))))))))))
+t2 = List._∷_ local0 locals4
 
 abbrev pub t3 : List.List Row.Entry
-t3 = List._∷_ (0, Rows'.any-gone (Syntax.tyInt Syntax.w64)) (List._∷_ (1, Rows'.sslice (Referent.rtF (Referent.fInt Syntax.w32)) (Syntax.tyRef (Syntax.named 0) Syntax.imm (Syntax.tyInt Syntax.w32)) 0) (List._∷_ (2, Rows'.sc-here (Row.sInt Syntax.w64)) (List._∷_ (3, Rows'.sslice Cell.R (Syntax.tyRef (Syntax.named 1) Syntax.imm Cell.behind) 1) (List._∷_ (4, Rows'.sc-here (Row.sInt Syntax.w64)) (List._∷_ (5, Rows'.sc-here Row.sBool) (List._∷_ (6, Rows'.any-gone Syntax.tyBool) (List._∷_ (7, Rows'.any-gone Syntax.tyBool) (List._∷_ (8, Rows'.any-gone (Syntax.tyInt Syntax.w64)) (List._∷_ (9, Rows'.any-gone Syntax.tyPtr) (List._∷_ (10, Rows'.any-gone Cell.held) (List._∷_ (11, Rows'.any-gone Syntax.tyBool) List.[])))))))))))
+t3 = List._∷_ local0 (List._∷_ local1 (List._∷_ local2 (List._∷_ local3 (List._∷_ local11 (List._∷_ (5, Rows'.sc-here Row.sBool) (List._∷_ local5 (List._∷_ local6 locals1)))))))
 
 abbrev pub t4 : List.List Row.Entry
-t4 = List._∷_ (0, Rows'.any-gone (Syntax.tyInt Syntax.w64)) (List._∷_ (1, Rows'.sslice (Referent.rtF (Referent.fInt Syntax.w32)) (Syntax.tyRef (Syntax.named 0) Syntax.imm (Syntax.tyInt Syntax.w32)) 0) (List._∷_ (2, Rows'.sc-here (Row.sInt Syntax.w64)) (List._∷_ (3, Rows'.sslice Cell.R (Syntax.tyRef (Syntax.named 1) Syntax.imm Cell.behind) 1) (List._∷_ (4, Rows'.sc-here (Row.sInt Syntax.w64)) (List._∷_ (5, Rows'.any-gone Syntax.tyBool) (List._∷_ (6, Rows'.sc-here Row.sBool) (List._∷_ (7, Rows'.any-gone Syntax.tyBool) (List._∷_ (8, Rows'.any-gone (Syntax.tyInt Syntax.w64)) (List._∷_ (9, Rows'.any-gone Syntax.tyPtr) (List._∷_ (10, Rows'.any-gone Cell.held) (List._∷_ (11, Rows'.any-gone Syntax.tyBool) List.[])))))))))))
+t4 = List._∷_ local0 (List._∷_ local1 (List._∷_ local2 (List._∷_ local3 (List._∷_ local11 (List._∷_ local4 (List._∷_ (6, Rows'.sc-here Row.sBool) (List._∷_ local6 locals1)))))))
 
 abbrev pub t5 : List.List Row.Entry
-t5 = List._∷_ (0, Rows'.any-gone (Syntax.tyInt Syntax.w64)) (List._∷_ (1, Rows'.sslice (Referent.rtF (Referent.fInt Syntax.w32)) (Syntax.tyRef (Syntax.named 0) Syntax.imm (Syntax.tyInt Syntax.w32)) 0) (List._∷_ (2, Rows'.sc-here (Row.sInt Syntax.w64)) (List._∷_ (3, Rows'.sslice Cell.R (Syntax.tyRef (Syntax.named 1) Syntax.imm Cell.behind) 1) (List._∷_ (4, Rows'.sc-here (Row.sInt Syntax.w64)) (List._∷_ (5, Rows'.any-gone Syntax.tyBool) (List._∷_ (6, Rows'.any-gone Syntax.tyBool) (List._∷_ (7, Rows'.any-gone Syntax.tyBool) (List._∷_ (8, Rows'.sc-here (Row.sInt Syntax.w64)) (List._∷_ (9, Rows'.any-gone Syntax.tyPtr) (List._∷_ (10, Rows'.any-gone Cell.held) (List._∷_ (11, Rows'.any-gone Syntax.tyBool) List.[])))))))))))
+t5 = List._∷_ local0 (List._∷_ local1 (List._∷_ local2 (List._∷_ local3 (List._∷_ local11 (List._∷_ local4 (List._∷_ local5 (List._∷_ local6 (List._∷_ (8, Rows'.sc-here sc0) (List._∷_ local8 (List._∷_ local9 locals0))))))))))
 
 abbrev pub t6 : List.List Row.Entry
-t6 = List._∷_ (0, Rows'.any-gone (Syntax.tyInt Syntax.w64)) (List._∷_ (1, Rows'.sslice (Referent.rtF (Referent.fInt Syntax.w32)) (Syntax.tyRef (Syntax.named 0) Syntax.imm (Syntax.tyInt Syntax.w32)) 0) (List._∷_ (2, Rows'.sc-here (Row.sInt Syntax.w64)) (List._∷_ (3, Rows'.sslice Cell.R (Syntax.tyRef (Syntax.named 1) Syntax.imm Cell.behind) 1) (List._∷_ (4, Rows'.sc-here (Row.sInt Syntax.w64)) (List._∷_ (5, Rows'.any-gone Syntax.tyBool) (List._∷_ (6, Rows'.any-gone Syntax.tyBool) (List._∷_ (7, Rows'.any-gone Syntax.tyBool) (List._∷_ (8, Rows'.sc-here (Row.sInt Syntax.w64)) (List._∷_ (9, Rows'.sc-here Row.sPtr) (List._∷_ (10, Rows'.any-gone Cell.held) (List._∷_ (11, Rows'.any-gone Syntax.tyBool) List.[])))))))))))
+t6 = List._∷_ local0 (List._∷_ local1 (List._∷_ local2 (List._∷_ local3 (List._∷_ local11 (List._∷_ local4 (List._∷_ local5 (List._∷_ local6 (List._∷_ (8, Rows'.sc-here sc0) (List._∷_ (9, Rows'.sc-here Row.sPtr) (List._∷_ local9 locals0))))))))))
 
 abbrev pub t7 : List.List Row.Entry
-t7 = List._∷_ (0, Rows'.any-gone (Syntax.tyInt Syntax.w64)) (List._∷_ (1, Rows'.sslice (Referent.rtF (Referent.fInt Syntax.w32)) (Syntax.tyRef (Syntax.named 0) Syntax.imm (Syntax.tyInt Syntax.w32)) 0) (List._∷_ (2, Rows'.sc-here (Row.sInt Syntax.w64)) (List._∷_ (3, Rows'.sslice Cell.R (Syntax.tyRef (Syntax.named 1) Syntax.imm Cell.behind) 1) (List._∷_ (4, Rows'.sc-here (Row.sInt Syntax.w64)) (List._∷_ (5, Rows'.any-gone Syntax.tyBool) (List._∷_ (6, Rows'.any-gone Syntax.tyBool) (List._∷_ (7, Rows'.any-gone Syntax.tyBool) (List._∷_ (8, Rows'.sc-here (Row.sInt Syntax.w64)) (List._∷_ (9, Rows'.sc-here Row.sPtr) (List._∷_ (10, Cell.row) (List._∷_ (11, Rows'.any-gone Syntax.tyBool) List.[])))))))))))
+t7 = List._∷_ local0 (List._∷_ local1 (List._∷_ local2 (List._∷_ local3 (List._∷_ local11 (List._∷_ local4 (List._∷_ local5 (List._∷_ local6 (List._∷_ (8, Rows'.sc-here sc0) (List._∷_ (9, Rows'.sc-here Row.sPtr) locals5)))))))))
 
 abbrev pub t8 : List.List Row.Entry
-t8 = List._∷_ (0, Rows'.any-gone (Syntax.tyInt Syntax.w64)) (List._∷_ (1, Rows'.sslice (Referent.rtF (Referent.fInt Syntax.w32)) (Syntax.tyRef (Syntax.named 0) Syntax.imm (Syntax.tyInt Syntax.w32)) 0) (List._∷_ (2, Rows'.sc-here (Row.sInt Syntax.w64)) (List._∷_ (3, Rows'.sslice Cell.R (Syntax.tyRef (Syntax.named 1) Syntax.imm Cell.behind) 1) (List._∷_ (4, Rows'.sc-here (Row.sInt Syntax.w64)) (List._∷_ (5, Rows'.any-gone Syntax.tyBool) (List._∷_ (6, Rows'.any-gone Syntax.tyBool) (List._∷_ (7, Rows'.any-gone Syntax.tyBool) (List._∷_ (8, Rows'.any-gone (Syntax.tyInt Syntax.w64)) (List._∷_ (9, Rows'.sc-here Row.sPtr) (List._∷_ (10, Cell.row) (List._∷_ (11, Rows'.any-gone Syntax.tyBool) List.[])))))))))))
+t8 = List._∷_ local0 (List._∷_ local1 (List._∷_ local2 (List._∷_ local3 (List._∷_ local11 (List._∷_ local4 (List._∷_ local5 (List._∷_ local6 (List._∷_ local7 (List._∷_ (9, Rows'.sc-here Row.sPtr) locals5)))))))))
 
 abbrev pub t9 : List.List Row.Entry
-t9 = List._∷_ (0, Rows'.any-gone (Syntax.tyInt Syntax.w64)) (List._∷_ (1, Rows'.sslice (Referent.rtF (Referent.fInt Syntax.w32)) (Syntax.tyRef (Syntax.named 0) Syntax.imm (Syntax.tyInt Syntax.w32)) 0) (List._∷_ (2, Rows'.sc-here (Row.sInt Syntax.w64)) (List._∷_ (3, Rows'.sslice Cell.R (Syntax.tyRef (Syntax.named 1) Syntax.imm Cell.behind) 1) (List._∷_ (4, Rows'.sc-here (Row.sInt Syntax.w64)) (List._∷_ (5, Rows'.any-gone Syntax.tyBool) (List._∷_ (6, Rows'.any-gone Syntax.tyBool) (List._∷_ (7, Rows'.any-gone Syntax.tyBool) (List._∷_ (8, Rows'.any-gone (Syntax.tyInt Syntax.w64)) (List._∷_ (9, Rows'.any-gone Syntax.tyPtr) (List._∷_ (10, Cell.row) (List._∷_ (11, Rows'.any-gone Syntax.tyBool) List.[])))))))))))
+t9 = List._∷_ local0 (List._∷_ local1 (List._∷_ local2 (List._∷_ local3 (List._∷_ local11 (List._∷_ local4 (List._∷_ local5 (List._∷_ local6 (List._∷_ local7 (List._∷_ local8 locals5)))))))))
 
 abbrev pub t10 : List.List Row.Entry
-t10 = List._∷_ (0, Rows'.any-gone (Syntax.tyInt Syntax.w64)) (List._∷_ (1, Rows'.sslice (Referent.rtF (Referent.fInt Syntax.w32)) (Syntax.tyRef (Syntax.named 0) Syntax.imm (Syntax.tyInt Syntax.w32)) 0) (List._∷_ (2, Rows'.sc-here (Row.sInt Syntax.w64)) (List._∷_ (3, Rows'.sslice Cell.R (Syntax.tyRef (Syntax.named 1) Syntax.imm Cell.behind) 1) (List._∷_ (4, Rows'.sc-here (Row.sInt Syntax.w64)) (List._∷_ (5, Rows'.any-gone Syntax.tyBool) (List._∷_ (6, Rows'.any-gone Syntax.tyBool) (List._∷_ (7, Rows'.sc-here Row.sBool) (List._∷_ (8, Rows'.any-gone (Syntax.tyInt Syntax.w64)) (List._∷_ (9, Rows'.any-gone Syntax.tyPtr) (List._∷_ (10, Cell.row) (List._∷_ (11, Rows'.any-gone Syntax.tyBool) List.[])))))))))))
+t10 = List._∷_ local0 (List._∷_ local1 (List._∷_ local2 (List._∷_ local3 (List._∷_ local11 (List._∷_ local4 (List._∷_ local5 (List._∷_ (7, Rows'.sc-here Row.sBool) (List._∷_ local7 (List._∷_ local8 locals5)))))))))
 
 abbrev pub t11 : List.List Row.Entry
-t11 = List._∷_ (0, Rows'.any-gone (Syntax.tyInt Syntax.w64)) (List._∷_ (1, Rows'.sslice (Referent.rtF (Referent.fInt Syntax.w32)) (Syntax.tyRef (Syntax.named 0) Syntax.imm (Syntax.tyInt Syntax.w32)) 0) (List._∷_ (2, Rows'.sc-here (Row.sInt Syntax.w64)) (List._∷_ (3, Rows'.sslice Cell.R (Syntax.tyRef (Syntax.named 1) Syntax.imm Cell.behind) 1) (List._∷_ (4, Rows'.sc-here (Row.sInt Syntax.w64)) (List._∷_ (5, Rows'.any-gone Syntax.tyBool) (List._∷_ (6, Rows'.any-gone Syntax.tyBool) (List._∷_ (7, Rows'.sc-here Row.sBool) (List._∷_ (8, Rows'.any-gone (Syntax.tyInt Syntax.w64)) (List._∷_ (9, Rows'.any-gone Syntax.tyPtr) (List._∷_ (10, Rows'.any-gone Cell.held) (List._∷_ (11, Rows'.any-gone Syntax.tyBool) List.[])))))))))))
+t11 = List._∷_ local0 (List._∷_ local1 (List._∷_ local2 (List._∷_ local3 (List._∷_ local11 (List._∷_ local4 (List._∷_ local5 (List._∷_ (7, Rows'.sc-here Row.sBool) locals1)))))))
 
 abbrev pub t12 : List.List Row.Entry
-t12 = List._∷_ (0, Rows'.any-gone (Syntax.tyInt Syntax.w64)) (List._∷_ (1, Rows'.sslice (Referent.rtF (Referent.fInt Syntax.w32)) (Syntax.tyRef (Syntax.named 0) Syntax.imm (Syntax.tyInt Syntax.w32)) 0) (List._∷_ (2, Rows'.sc-here (Row.sInt Syntax.w64)) (List._∷_ (3, Rows'.sslice Cell.R (Syntax.tyRef (Syntax.named 1) Syntax.imm Cell.behind) 1) (List._∷_ (4, Rows'.sc-here (Row.sInt Syntax.w64)) (List._∷_ (5, Rows'.any-gone Syntax.tyBool) (List._∷_ (6, Rows'.any-gone Syntax.tyBool) (List._∷_ (7, Rows'.sc-here Row.sBool) (List._∷_ (8, Rows'.any-gone (Syntax.tyInt Syntax.w64)) (List._∷_ (9, Rows'.any-gone Syntax.tyPtr) (List._∷_ (10, Rows'.any-gone Cell.held) (List._∷_ (11, Rows'.sc-here Row.sBool) List.[])))))))))))
+t12 = List._∷_ local0 (List._∷_ local1 (List._∷_ local2 (List._∷_ local3 (List._∷_ local11 (List._∷_ local4 (List._∷_ local5 (List._∷_ (7, Rows'.sc-here Row.sBool) locals6)))))))
 
 abbrev pub t13 : List.List Row.Entry
-t13 = List._∷_ (0, Rows'.any-gone (Syntax.tyInt Syntax.w64)) (List._∷_ (1, Rows'.sslice (Referent.rtF (Referent.fInt Syntax.w32)) (Syntax.tyRef (Syntax.named 0) Syntax.imm (Syntax.tyInt Syntax.w32)) 0) (List._∷_ (2, Rows'.sc-here (Row.sInt Syntax.w64)) (List._∷_ (3, Rows'.sslice Cell.R (Syntax.tyRef (Syntax.named 1) Syntax.imm Cell.behind) 1) (List._∷_ (4, Rows'.sc-here (Row.sInt Syntax.w64)) (List._∷_ (5, Rows'.any-gone Syntax.tyBool) (List._∷_ (6, Rows'.any-gone Syntax.tyBool) (List._∷_ (7, Rows'.any-gone Syntax.tyBool) (List._∷_ (8, Rows'.any-gone (Syntax.tyInt Syntax.w64)) (List._∷_ (9, Rows'.any-gone Syntax.tyPtr) (List._∷_ (10, Rows'.any-gone Cell.held) (List._∷_ (11, Rows'.sc-here Row.sBool) List.[])))))))))))
+t13 = List._∷_ local0 (List._∷_ local1 (List._∷_ local2 (List._∷_ local3 (List._∷_ local11 (List._∷_ local4 (List._∷_ local5 (List._∷_ local6 locals6)))))))
 
 abbrev pub t14 : List.List Row.Entry
-t14 = List._∷_ (0, Rows'.sc-here (Row.sInt Syntax.w64)) (List._∷_ (1, Rows'.sslice (Referent.rtF (Referent.fInt Syntax.w32)) (Syntax.tyRef (Syntax.named 0) Syntax.imm (Syntax.tyInt Syntax.w32)) 0) (List._∷_ (2, Rows'.sc-here (Row.sInt Syntax.w64)) (List._∷_ (3, Rows'.sslice Cell.R (Syntax.tyRef (Syntax.named 1) Syntax.imm Cell.behind) 1) (List._∷_ (4, Rows'.sc-here (Row.sInt Syntax.w64)) (List._∷_ (5, Rows'.any-gone Syntax.tyBool) (List._∷_ (6, Rows'.any-gone Syntax.tyBool) (List._∷_ (7, Rows'.any-gone Syntax.tyBool) (List._∷_ (8, Rows'.any-gone (Syntax.tyInt Syntax.w64)) (List._∷_ (9, Rows'.any-gone Syntax.tyPtr) (List._∷_ (10, Rows'.any-gone Cell.held) (List._∷_ (11, Rows'.any-gone Syntax.tyBool) List.[])))))))))))
+t14 = List._∷_ local10 locals4
 
 abbrev pub t15 : List.List Row.Entry
-t15 = List._∷_ (0, Rows'.sc-here (Row.sInt Syntax.w64)) (List._∷_ (1, Rows'.sslice (Referent.rtF (Referent.fInt Syntax.w32)) (Syntax.tyRef (Syntax.named 0) Syntax.imm (Syntax.tyInt Syntax.w32)) 0) (List._∷_ (2, Rows'.any-gone (Syntax.tyInt Syntax.w64)) (List._∷_ (3, Rows'.sslice Cell.R (Syntax.tyRef (Syntax.named 1) Syntax.imm Cell.behind) 1) (List._∷_ (4, Rows'.sc-here (Row.sInt Syntax.w64)) (List._∷_ (5, Rows'.any-gone Syntax.tyBool) (List._∷_ (6, Rows'.any-gone Syntax.tyBool) (List._∷_ (7, Rows'.any-gone Syntax.tyBool) (List._∷_ (8, Rows'.any-gone (Syntax.tyInt Syntax.w64)) (List._∷_ (9, Rows'.any-gone Syntax.tyPtr) (List._∷_ (10, Rows'.any-gone Cell.held) (List._∷_ (11, Rows'.any-gone Syntax.tyBool) List.[])))))))))))
+t15 = List._∷_ local10 (List._∷_ local1 (List._∷_ (2, Rows'.any-gone ty0) (List._∷_ local3 (List._∷_ local11 locals2))))
 
 abbrev pub t16 : List.List Row.Entry
-t16 = List._∷_ (0, Rows'.sc-here (Row.sInt Syntax.w64)) (List._∷_ (1, Rows'.sslice (Referent.rtF (Referent.fInt Syntax.w32)) (Syntax.tyRef (Syntax.named 0) Syntax.imm (Syntax.tyInt Syntax.w32)) 0) (List._∷_ (2, Rows'.sc-here (Row.sInt Syntax.w64)) (List._∷_ (3, Rows'.sslice Cell.R (Syntax.tyRef (Syntax.named 1) Syntax.imm Cell.behind) 1) (List._∷_ (4, Rows'.any-gone (Syntax.tyInt Syntax.w64)) (List._∷_ (5, Rows'.any-gone Syntax.tyBool) (List._∷_ (6, Rows'.any-gone Syntax.tyBool) (List._∷_ (7, Rows'.any-gone Syntax.tyBool) (List._∷_ (8, Rows'.any-gone (Syntax.tyInt Syntax.w64)) (List._∷_ (9, Rows'.any-gone Syntax.tyPtr) (List._∷_ (10, Rows'.any-gone Cell.held) (List._∷_ (11, Rows'.any-gone Syntax.tyBool) List.[])))))))))))
+t16 = List._∷_ local10 (List._∷_ local1 (List._∷_ local2 locals3))
 
 abbrev pub T0 : Row.Cx
 T0 = record { locals = t0; slots = List.[] }
@@ -351,20 +442,20 @@ abbrev pub O5 : Typed.Outs
 O5 = Typed.withNext (Option.some T19) O3
 
 abbrev pub InvT-loop : Type 1
-InvT-loop = List.List (Referent.rtF (Referent.fInt Syntax.w32) .Denot) → Rows'.sc-here (Row.sInt Syntax.w64) .Mod → List.List (Cell.R .Denot) → Rows'.sc-here (Row.sInt Syntax.w64) .Mod → Rows'.sc-here (Row.sInt Syntax.w64) .Mod → Type 0
+InvT-loop = List.List (Referent.rtF rf0 .Denot) → Rows'.sc-here sc0 .Mod → List.List (Cell.R .Denot) → Rows'.sc-here sc0 .Mod → Rows'.sc-here sc0 .Mod → Type 0
 
 abbrev pub MeasureT-loop : Type 0
-MeasureT-loop = List.List (Referent.rtF (Referent.fInt Syntax.w32) .Denot) → Rows'.sc-here (Row.sInt Syntax.w64) .Mod → List.List (Cell.R .Denot) → Rows'.sc-here (Row.sInt Syntax.w64) .Mod → Rows'.sc-here (Row.sInt Syntax.w64) .Mod → Nat.ℕ
+MeasureT-loop = List.List (Referent.rtF rf0 .Denot) → Rows'.sc-here sc0 .Mod → List.List (Cell.R .Denot) → Rows'.sc-here sc0 .Mod → Rows'.sc-here sc0 .Mod → Nat.ℕ
 
 module _ (claims· : Claims) where
   abbrev s0 : Typed.Gives T0 T2
-  s0 = Know.k-shs-known (Referent.fInt Syntax.w32) T0 1 0 (Syntax.tyRef (Syntax.named 0) Syntax.imm (Syntax.tyInt Syntax.w32)) Row.off 0 λ x. x
+  s0 = Know.k-shs-known rf0 T0 1 0 ty2 Row.off 0 λ x. x
 
   abbrev s1 : Typed.Mo T2 → Typed.Mo T3
-  s1 = Scalar.n-use T2 (Scalar.oInt Syntax.w64 0) 4 (Rows'.sc-here (Row.sInt Syntax.w64)) (Row.sInt Syntax.w64 .of)
+  s1 = Scalar.n-use T2 (Scalar.oInt Syntax.w64 0) 4 (Rows'.sc-here sc0) (Row.sInt Syntax.w64 .of)
 
   abbrev s2 : Typed.Asks T3 T5
-  s2 = Scalar.k-op2 T3 (Syntax.lt Syntax.unsigned) (Scalar.oAt 4 (Syntax.tyInt Syntax.w64) (Row.valS (Row.sInt Syntax.w64))) (Scalar.oAt 2 (Syntax.tyInt Syntax.w64) (Row.valS (Row.sInt Syntax.w64))) 5 (Rows'.sc-here Row.sBool) (Row.sBool .of)
+  s2 = Scalar.k-op2 T3 (Syntax.lt Syntax.unsigned) (Scalar.oAt 4 ty0 (Row.valS sc0)) (Scalar.oAt 2 ty0 (Row.valS sc0)) 5 (Rows'.sc-here Row.sBool) (Row.sBool .of)
 
   abbrev s3 : Typed.Mo T5 → Typed.Mo T7
   s3 = Scalar.n-room T5 5 Syntax.tyBool
@@ -373,22 +464,22 @@ module _ (claims· : Claims) where
   s4 = Scalar.n-room T5 5 Syntax.tyBool
 
   abbrev s5 : Typed.Both T6 T9
-  s5 = Call.callB ps·0 r·0 (claims· .0) (claims· .1) T6 (record { pos = 1; ty = Syntax.tyRef (Syntax.named 0) Syntax.imm (Syntax.tyInt Syntax.w32); ref = λ x. x }, (Num.vAt 2 λ x. x, (Num.vAt 4 λ x. x, tt))) 6 (List._∷_ 0 List.[]) Syntax.tyBool
+  s5 = Call.callB ps·0 r·0 (claims· .0) (claims· .1) T6 (record { pos = 1; ty = Syntax.tyRef (Syntax.named 0) Syntax.imm ty1; ref = λ x. x }, (Num.vAt 2 λ x. x, (Num.vAt 4 λ x. x, tt))) 6 (List._∷_ 0 List.[]) Syntax.tyBool
 
   abbrev s6 : Typed.Mo T9 → Typed.Mo T10
   s6 = Scalar.n-room T9 6 Syntax.tyBool
 
   abbrev s7 : Typed.Asks T10 T11
-  s7 = Scalar.k-op2 T10 (Syntax.mul Syntax.unsigned) (Scalar.oAt 4 (Syntax.tyInt Syntax.w64) (Row.valS (Row.sInt Syntax.w64))) (Scalar.oInt Syntax.w64 24) 8 (Rows'.sc-here (Row.sInt Syntax.w64)) (Row.sInt Syntax.w64 .of)
+  s7 = Scalar.k-op2 T10 (Syntax.mul Syntax.unsigned) (Scalar.oAt 4 ty0 (Row.valS sc0)) (Scalar.oInt Syntax.w64 24) 8 (Rows'.sc-here sc0) (Row.sInt Syntax.w64 .of)
 
   abbrev s8 : Typed.Asks T11 T12
-  s8 = Scalar.k-op2 T11 Syntax.offset (Scalar.oFld 3 (List._∷_ (Syntax.field 0) List.[]) (Syntax.tyRef (Syntax.named 1) Syntax.imm Cell.behind) 0 Reads.ptrVal) (Scalar.oAt 8 (Syntax.tyInt Syntax.w64) (Row.valS (Row.sInt Syntax.w64))) 9 (Rows'.sc-here Row.sPtr) (Row.sPtr .of)
+  s8 = Scalar.k-op2 T11 Syntax.offset (Scalar.oFld 3 steps0 ty3 0 Reads.ptrVal) (Scalar.oAt 8 ty0 (Row.valS sc0)) 9 (Rows'.sc-here Row.sPtr) (Row.sPtr .of)
 
   abbrev s9 : Typed.Both T12 T13
-  s9 = Move.k-shs-copy-out Cell.R T12 3 9 10 1 (Syntax.tyRef (Syntax.named 1) Syntax.imm Cell.behind) Row.off Cell.row (Shared.bySize 24) (λ u. u .1 .1 .1 .1 .0) (λ x. x) Cell.past (λ x. Unit) (λ x. x) λ x. x
+  s9 = Move.k-shs-copy-out Cell.R T12 3 9 10 1 ty3 Row.off Cell.row (Shared.bySize 24) (λ u. u .1 .1 .1 .1 .0) (λ x. x) Cell.past (λ x. Unit) (λ x. x) λ x. x
 
   abbrev s10 : Typed.Mo T13 → Typed.Mo T14
-  s10 = Scalar.n-room T13 8 (Syntax.tyInt Syntax.w64)
+  s10 = Scalar.n-room T13 8 ty0
 
   abbrev s11 : Typed.Mo T14 → Typed.Mo T15
   s11 = Scalar.n-room T14 9 Syntax.tyPtr
@@ -409,37 +500,37 @@ module _ (claims· : Claims) where
   s16 = Scalar.n-room T20 11 Syntax.tyBool
 
   abbrev s17 : Typed.Mo T21 → Typed.Mo T22
-  s17 = Scalar.n-use T21 (Scalar.oAt 4 (Syntax.tyInt Syntax.w64) (Row.valS (Row.sInt Syntax.w64))) 0 (Rows'.sc-here (Row.sInt Syntax.w64)) (Row.sInt Syntax.w64 .of)
+  s17 = Scalar.n-use T21 (Scalar.oAt 4 ty0 (Row.valS sc0)) 0 (Rows'.sc-here sc0) (Row.sInt Syntax.w64 .of)
 
   abbrev s18 : Typed.Mo T22 → Typed.Mo T23
-  s18 = Scalar.n-room T22 2 (Syntax.tyInt Syntax.w64)
+  s18 = Scalar.n-room T22 2 ty0
 
   abbrev s19 : Typed.Mo T23 → Typed.Mo T24
-  s19 = Scalar.n-room T23 4 (Syntax.tyInt Syntax.w64)
+  s19 = Scalar.n-room T23 4 ty0
 
   abbrev s20 : Typed.Mo T20 → Typed.Mo T25
   s20 = Scalar.n-room T20 11 Syntax.tyBool
 
   abbrev s21 : Typed.Asks T19 T26
-  s21 = Scalar.k-op2 T19 (Syntax.add Syntax.unsigned) (Scalar.oAt 4 (Syntax.tyInt Syntax.w64) (Row.valS (Row.sInt Syntax.w64))) (Scalar.oInt Syntax.w64 1) 4 (Rows'.sc-here (Row.sInt Syntax.w64)) (Row.sInt Syntax.w64 .of)
+  s21 = Scalar.k-op2 T19 (Syntax.add Syntax.unsigned) (Scalar.oAt 4 ty0 (Row.valS sc0)) (Scalar.oInt Syntax.w64 1) 4 (Rows'.sc-here sc0) (Row.sInt Syntax.w64 .of)
 
   abbrev s22 : Typed.Mo T9 → Typed.Mo T27
   s22 = Scalar.n-room T9 6 Syntax.tyBool
 
   abbrev s23 : Typed.Asks T27 T28
-  s23 = Scalar.k-op2 T27 (Syntax.add Syntax.unsigned) (Scalar.oAt 4 (Syntax.tyInt Syntax.w64) (Row.valS (Row.sInt Syntax.w64))) (Scalar.oInt Syntax.w64 1) 4 (Rows'.sc-here (Row.sInt Syntax.w64)) (Row.sInt Syntax.w64 .of)
+  s23 = Scalar.k-op2 T27 (Syntax.add Syntax.unsigned) (Scalar.oAt 4 ty0 (Row.valS sc0)) (Scalar.oInt Syntax.w64 1) 4 (Rows'.sc-here sc0) (Row.sInt Syntax.w64 .of)
 
   abbrev s24 : Typed.Mo T4 → Typed.Mo T29
-  s24 = Scalar.n-use T4 (Scalar.oAt 2 (Syntax.tyInt Syntax.w64) (Row.valS (Row.sInt Syntax.w64))) 0 (Rows'.sc-here (Row.sInt Syntax.w64)) (Row.sInt Syntax.w64 .of)
+  s24 = Scalar.n-use T4 (Scalar.oAt 2 ty0 (Row.valS sc0)) 0 (Rows'.sc-here sc0) (Row.sInt Syntax.w64 .of)
 
   abbrev s25 : Typed.Mo T29 → Typed.Mo T30
-  s25 = Scalar.n-room T29 4 (Syntax.tyInt Syntax.w64)
+  s25 = Scalar.n-room T29 4 ty0
 
   abbrev s26 : Typed.Mo T30 → Typed.Mo T31
-  s26 = Scalar.n-room T30 2 (Syntax.tyInt Syntax.w64)
+  s26 = Scalar.n-room T30 2 ty0
 
-  abbrev put0 : Rows'.sc-here (Row.sInt Syntax.w64) .Mod → Typed.Mo T3 → Typed.Mo T3
-  put0 = λ vs u. Row.set 4 (4, Rows'.sc-here (Row.sInt Syntax.w64)) vs (T3 .locals) u
+  abbrev put0 : Rows'.sc-here sc0 .Mod → Typed.Mo T3 → Typed.Mo T3
+  put0 = λ vs u. Row.set 4 local11 vs (T3 .locals) u
 
   module _ (Pre· : (κs : Lifetimes.Lfts 2) → Kinds.Dens κs ps → Type 0) (Post· : (κs : Lifetimes.Lfts 2) → (a : Kinds.Dens κs ps) → Kinds.Plain 2 ps r κs) where
     module _ (M : Type 1) where
@@ -575,101 +666,107 @@ module _ (claims· : Claims) where
         Knowns = Plain.Known 𝓤 H A W 𝓣 1 ps·0 r·0 (claims· .0) (claims· .1) "sheets::loops::own_label" × Plain.Known 𝓤 H A W 𝓣 0 ps·1 r·1 (claims· .2) (claims· .3) "sheets::record::fit"
 
       module _ (κs : Lifetimes.Lfts 2) (qs : Lifetimes.Shares 2) where
+        abbrev slot0 : Row.Life
+        slot0 = Row.lease (κs .0) (qs .0)
+
+        abbrev slots0 : List.List Row.Life
+        slots0 = List._∷_ (Row.lease (κs .1 .0) (qs .1 .0)) List.[]
+
         abbrev G0 : Row.Cx
-        G0 = record { locals = t0; slots = List._∷_ (Row.lease (κs .0) (qs .0)) (List._∷_ (Row.lease (κs .1 .0) (qs .1 .0)) List.[]) }
+        G0 = record { locals = t0; slots = List._∷_ slot0 slots0 }
 
         abbrev G1 : Row.Cx
-        G1 = record { locals = t1; slots = List._∷_ (Row.lease (κs .0) (qs .0)) (List._∷_ (Row.lease (κs .1 .0) (qs .1 .0)) List.[]) }
+        G1 = record { locals = t1; slots = List._∷_ slot0 slots0 }
 
         abbrev G2 : Row.Cx
-        G2 = record { locals = t0; slots = List._∷_ (Row.lease (κs .0) (qs .0)) (List._∷_ (Row.lease (κs .1 .0) (qs .1 .0)) List.[]) }
+        G2 = record { locals = t0; slots = List._∷_ slot0 slots0 }
 
         abbrev G3 : Row.Cx
-        G3 = record { locals = t2; slots = List._∷_ (Row.lease (κs .0) (qs .0)) (List._∷_ (Row.lease (κs .1 .0) (qs .1 .0)) List.[]) }
+        G3 = record { locals = t2; slots = List._∷_ slot0 slots0 }
 
         abbrev G4 : Row.Cx
-        G4 = record { locals = t2; slots = List._∷_ (Row.lease (κs .0) (qs .0)) (List._∷_ (Row.lease (κs .1 .0) (qs .1 .0)) List.[]) }
+        G4 = record { locals = t2; slots = List._∷_ slot0 slots0 }
 
         abbrev G5 : Row.Cx
-        G5 = record { locals = t3; slots = List._∷_ (Row.lease (κs .0) (qs .0)) (List._∷_ (Row.lease (κs .1 .0) (qs .1 .0)) List.[]) }
+        G5 = record { locals = t3; slots = List._∷_ slot0 slots0 }
 
         abbrev G6 : Row.Cx
-        G6 = record { locals = t2; slots = List._∷_ (Row.lease (κs .0) (qs .0)) (List._∷_ (Row.lease (κs .1 .0) (qs .1 .0)) List.[]) }
+        G6 = record { locals = t2; slots = List._∷_ slot0 slots0 }
 
         abbrev G7 : Row.Cx
-        G7 = record { locals = t2; slots = List._∷_ (Row.lease (κs .0) (qs .0)) (List._∷_ (Row.lease (κs .1 .0) (qs .1 .0)) List.[]) }
+        G7 = record { locals = t2; slots = List._∷_ slot0 slots0 }
 
         abbrev G8 : Row.Cx
-        G8 = record { locals = t2; slots = List._∷_ (Row.lease (κs .0) (qs .0)) (List._∷_ (Row.lease (κs .1 .0) (qs .1 .0)) List.[]) }
+        G8 = record { locals = t2; slots = List._∷_ slot0 slots0 }
 
         abbrev G9 : Row.Cx
-        G9 = record { locals = t4; slots = List._∷_ (Row.lease (κs .0) (qs .0)) (List._∷_ (Row.lease (κs .1 .0) (qs .1 .0)) List.[]) }
+        G9 = record { locals = t4; slots = List._∷_ slot0 slots0 }
 
         abbrev G10 : Row.Cx
-        G10 = record { locals = t2; slots = List._∷_ (Row.lease (κs .0) (qs .0)) (List._∷_ (Row.lease (κs .1 .0) (qs .1 .0)) List.[]) }
+        G10 = record { locals = t2; slots = List._∷_ slot0 slots0 }
 
         abbrev G11 : Row.Cx
-        G11 = record { locals = t5; slots = List._∷_ (Row.lease (κs .0) (qs .0)) (List._∷_ (Row.lease (κs .1 .0) (qs .1 .0)) List.[]) }
+        G11 = record { locals = t5; slots = List._∷_ slot0 slots0 }
 
         abbrev G12 : Row.Cx
-        G12 = record { locals = t6; slots = List._∷_ (Row.lease (κs .0) (qs .0)) (List._∷_ (Row.lease (κs .1 .0) (qs .1 .0)) List.[]) }
+        G12 = record { locals = t6; slots = List._∷_ slot0 slots0 }
 
         abbrev G13 : Row.Cx
-        G13 = record { locals = t7; slots = List._∷_ (Row.lease (κs .0) (qs .0)) (List._∷_ (Row.lease (κs .1 .0) (qs .1 .0)) List.[]) }
+        G13 = record { locals = t7; slots = List._∷_ slot0 slots0 }
 
         abbrev G14 : Row.Cx
-        G14 = record { locals = t8; slots = List._∷_ (Row.lease (κs .0) (qs .0)) (List._∷_ (Row.lease (κs .1 .0) (qs .1 .0)) List.[]) }
+        G14 = record { locals = t8; slots = List._∷_ slot0 slots0 }
 
         abbrev G15 : Row.Cx
-        G15 = record { locals = t9; slots = List._∷_ (Row.lease (κs .0) (qs .0)) (List._∷_ (Row.lease (κs .1 .0) (qs .1 .0)) List.[]) }
+        G15 = record { locals = t9; slots = List._∷_ slot0 slots0 }
 
         abbrev G16 : Row.Cx
-        G16 = record { locals = t10; slots = List._∷_ (Row.lease (κs .0) (qs .0)) (List._∷_ (Row.lease (κs .1 .0) (qs .1 .0)) List.[]) }
+        G16 = record { locals = t10; slots = List._∷_ slot0 slots0 }
 
         abbrev G17 : Row.Cx
-        G17 = record { locals = t11; slots = List._∷_ (Row.lease (κs .0) (qs .0)) (List._∷_ (Row.lease (κs .1 .0) (qs .1 .0)) List.[]) }
+        G17 = record { locals = t11; slots = List._∷_ slot0 slots0 }
 
         abbrev G18 : Row.Cx
-        G18 = record { locals = t12; slots = List._∷_ (Row.lease (κs .0) (qs .0)) (List._∷_ (Row.lease (κs .1 .0) (qs .1 .0)) List.[]) }
+        G18 = record { locals = t12; slots = List._∷_ slot0 slots0 }
 
         abbrev G19 : Row.Cx
-        G19 = record { locals = t2; slots = List._∷_ (Row.lease (κs .0) (qs .0)) (List._∷_ (Row.lease (κs .1 .0) (qs .1 .0)) List.[]) }
+        G19 = record { locals = t2; slots = List._∷_ slot0 slots0 }
 
         abbrev G20 : Row.Cx
-        G20 = record { locals = t13; slots = List._∷_ (Row.lease (κs .0) (qs .0)) (List._∷_ (Row.lease (κs .1 .0) (qs .1 .0)) List.[]) }
+        G20 = record { locals = t13; slots = List._∷_ slot0 slots0 }
 
         abbrev G21 : Row.Cx
-        G21 = record { locals = t2; slots = List._∷_ (Row.lease (κs .0) (qs .0)) (List._∷_ (Row.lease (κs .1 .0) (qs .1 .0)) List.[]) }
+        G21 = record { locals = t2; slots = List._∷_ slot0 slots0 }
 
         abbrev G22 : Row.Cx
-        G22 = record { locals = t14; slots = List._∷_ (Row.lease (κs .0) (qs .0)) (List._∷_ (Row.lease (κs .1 .0) (qs .1 .0)) List.[]) }
+        G22 = record { locals = t14; slots = List._∷_ slot0 slots0 }
 
         abbrev G23 : Row.Cx
-        G23 = record { locals = t15; slots = List._∷_ (Row.lease (κs .0) (qs .0)) (List._∷_ (Row.lease (κs .1 .0) (qs .1 .0)) List.[]) }
+        G23 = record { locals = t15; slots = List._∷_ slot0 slots0 }
 
         abbrev G24 : Row.Cx
-        G24 = record { locals = t1; slots = List._∷_ (Row.lease (κs .0) (qs .0)) (List._∷_ (Row.lease (κs .1 .0) (qs .1 .0)) List.[]) }
+        G24 = record { locals = t1; slots = List._∷_ slot0 slots0 }
 
         abbrev G25 : Row.Cx
-        G25 = record { locals = t2; slots = List._∷_ (Row.lease (κs .0) (qs .0)) (List._∷_ (Row.lease (κs .1 .0) (qs .1 .0)) List.[]) }
+        G25 = record { locals = t2; slots = List._∷_ slot0 slots0 }
 
         abbrev G26 : Row.Cx
-        G26 = record { locals = t2; slots = List._∷_ (Row.lease (κs .0) (qs .0)) (List._∷_ (Row.lease (κs .1 .0) (qs .1 .0)) List.[]) }
+        G26 = record { locals = t2; slots = List._∷_ slot0 slots0 }
 
         abbrev G27 : Row.Cx
-        G27 = record { locals = t2; slots = List._∷_ (Row.lease (κs .0) (qs .0)) (List._∷_ (Row.lease (κs .1 .0) (qs .1 .0)) List.[]) }
+        G27 = record { locals = t2; slots = List._∷_ slot0 slots0 }
 
         abbrev G28 : Row.Cx
-        G28 = record { locals = t2; slots = List._∷_ (Row.lease (κs .0) (qs .0)) (List._∷_ (Row.lease (κs .1 .0) (qs .1 .0)) List.[]) }
+        G28 = record { locals = t2; slots = List._∷_ slot0 slots0 }
 
         abbrev G29 : Row.Cx
-        G29 = record { locals = t14; slots = List._∷_ (Row.lease (κs .0) (qs .0)) (List._∷_ (Row.lease (κs .1 .0) (qs .1 .0)) List.[]) }
+        G29 = record { locals = t14; slots = List._∷_ slot0 slots0 }
 
         abbrev G30 : Row.Cx
-        G30 = record { locals = t16; slots = List._∷_ (Row.lease (κs .0) (qs .0)) (List._∷_ (Row.lease (κs .1 .0) (qs .1 .0)) List.[]) }
+        G30 = record { locals = t16; slots = List._∷_ slot0 slots0 }
 
         abbrev G31 : Row.Cx
-        G31 = record { locals = t1; slots = List._∷_ (Row.lease (κs .0) (qs .0)) (List._∷_ (Row.lease (κs .1 .0) (qs .1 .0)) List.[]) }
+        G31 = record { locals = t1; slots = List._∷_ slot0 slots0 }
 
         abbrev Δ0 : Typed.Outs
         Δ0 = record { next = Option.none; exits = List.[]; returns = Option.some G1 }
@@ -712,13 +809,13 @@ module _ (claims· : Claims) where
           d5 = Typed.t-return 𝓤 H A W 𝓣 E Δ5 tt
 
           d6 : Typed.Typed 𝓤 H A 𝓣 E G23 b12 Δ5 at6
-          d6 = Typed.g-pre 𝓤 H A W 𝓣 E G23 G24 b12 Δ5 (Typed.pass T23 T24 s19) at5 (Scalar.g-room 𝓤 H A W E G23 4 (Syntax.tyInt Syntax.w64) (Scalar.room-sc 𝓤 H A W (Row.sInt Syntax.w64))) d5
+          d6 = Typed.g-pre 𝓤 H A W 𝓣 E G23 G24 b12 Δ5 (Typed.pass T23 T24 s19) at5 (Scalar.g-room 𝓤 H A W E G23 4 ty0 (Scalar.room-sc 𝓤 H A W sc0)) d5
 
           d7 : Typed.Typed 𝓤 H A 𝓣 E G22 b12 Δ5 at7
-          d7 = Typed.g-pre 𝓤 H A W 𝓣 E G22 G23 b12 Δ5 (Typed.pass T22 T23 s18) at6 (Scalar.g-room 𝓤 H A W E G22 2 (Syntax.tyInt Syntax.w64) (Scalar.room-sc 𝓤 H A W (Row.sInt Syntax.w64))) d6
+          d7 = Typed.g-pre 𝓤 H A W 𝓣 E G22 G23 b12 Δ5 (Typed.pass T22 T23 s18) at6 (Scalar.g-room 𝓤 H A W E G22 2 ty0 (Scalar.room-sc 𝓤 H A W sc0)) d6
 
           d8 : Typed.Typed 𝓤 H A 𝓣 E G21 b13 Δ5 at8
-          d8 = Typed.s-seq 𝓤 H A W 𝓣 E G21 G22 b11 b12 Δ5 (Typed.pass T21 T22 s17) at7 (Scalar.t-use 𝓤 H A W E 𝓣 G21 (Scalar.oAt 4 (Syntax.tyInt Syntax.w64) (Row.valS (Row.sInt Syntax.w64))) 0 (Rows'.sc-here (Row.sInt Syntax.w64)) (Syntax.tyInt Syntax.w64) (Row.valS (Row.sInt Syntax.w64)) (Row.sInt Syntax.w64 .of) (Scalar.reads-sc 𝓤 H A W (Row.sInt Syntax.w64), Path'.refl) (Reads.room-gone 𝓤 H A (Syntax.tyInt Syntax.w64)) (Scalar.holds-sc 𝓤 H A W (Row.sInt Syntax.w64)) Path'.refl (λ u. Path'.refl) λ u. tt) d7
+          d8 = Typed.s-seq 𝓤 H A W 𝓣 E G21 G22 b11 b12 Δ5 (Typed.pass T21 T22 s17) at7 (Scalar.t-use 𝓤 H A W E 𝓣 G21 (Scalar.oAt 4 ty0 (Row.valS sc0)) 0 (Rows'.sc-here sc0) ty0 (Row.valS sc0) (Row.sInt Syntax.w64 .of) (Scalar.reads-sc 𝓤 H A W sc0, Path'.refl) (Reads.room-gone 𝓤 H A ty0) (Scalar.holds-sc 𝓤 H A W sc0) Path'.refl (λ u. Path'.refl) λ u. tt) d7
 
           d9 : Typed.Typed 𝓤 H A 𝓣 E G20 b13 Δ5 at9
           d9 = Typed.g-pre 𝓤 H A W 𝓣 E G20 G21 b13 Δ5 (Typed.pass T20 T21 s16) at8 (Scalar.g-room 𝓤 H A W E G20 11 Syntax.tyBool (Scalar.room-sc 𝓤 H A W Row.sBool)) d8
@@ -736,7 +833,7 @@ module _ (claims· : Claims) where
           d13 = Typed.g-pre 𝓤 H A W 𝓣 E G18 G20 b15 Δ5 (Typed.pass T18 T20 s15) at12 (Scalar.g-room 𝓤 H A W E G18 7 Syntax.tyBool (Scalar.room-sc 𝓤 H A W Row.sBool)) d12
 
           d14 : Typed.Typed 𝓤 H A 𝓣 E G19 b16 Δ3 at14
-          d14 = Typed.s-typed 𝓤 H A W 𝓣 E G19 b16 Δ3 (Typed.ask s21) tt (Scalar.t-op2 𝓤 H A W E 𝓣 G19 (Syntax.add Syntax.unsigned) (Scalar.oAt 4 (Syntax.tyInt Syntax.w64) (Row.valS (Row.sInt Syntax.w64))) (Scalar.oInt Syntax.w64 1) 4 (Rows'.sc-here (Row.sInt Syntax.w64)) (Syntax.tyInt Syntax.w64) (Row.valS (Row.sInt Syntax.w64)) (Row.sInt Syntax.w64 .of) (Scalar.reads-sc 𝓤 H A W (Row.sInt Syntax.w64), Path'.refl) tt (Scalar.room-sc 𝓤 H A W (Row.sInt Syntax.w64)) (Scalar.holds-sc 𝓤 H A W (Row.sInt Syntax.w64)) Path'.refl (λ u. Path'.refl) λ u. tt)
+          d14 = Typed.s-typed 𝓤 H A W 𝓣 E G19 b16 Δ3 (Typed.ask s21) tt (Scalar.t-op2 𝓤 H A W E 𝓣 G19 (Syntax.add Syntax.unsigned) (Scalar.oAt 4 ty0 (Row.valS sc0)) (Scalar.oInt Syntax.w64 1) 4 (Rows'.sc-here sc0) ty0 (Row.valS sc0) (Row.sInt Syntax.w64 .of) (Scalar.reads-sc 𝓤 H A W sc0, Path'.refl) tt (Scalar.room-sc 𝓤 H A W sc0) (Scalar.holds-sc 𝓤 H A W sc0) Path'.refl (λ u. Path'.refl) λ u. tt)
 
           d15 : Typed.Typed 𝓤 H A 𝓣 E G18 b17 Δ3 at15
           d15 = Typed.t-seq 𝓤 H A W 𝓣 E G18 G19 b15 b16 Δ3 at13 at14 d13 d14
@@ -754,22 +851,22 @@ module _ (claims· : Claims) where
           d19 = Typed.g-pre 𝓤 H A W 𝓣 E G14 G15 b19 Δ3 (Typed.pass T14 T15 s11) at18 (Scalar.g-room 𝓤 H A W E G14 9 Syntax.tyPtr (Scalar.room-sc 𝓤 H A W Row.sPtr)) d18
 
           d20 : Typed.Typed 𝓤 H A 𝓣 E G13 b19 Δ3 at20
-          d20 = Typed.g-pre 𝓤 H A W 𝓣 E G13 G14 b19 Δ3 (Typed.pass T13 T14 s10) at19 (Scalar.g-room 𝓤 H A W E G13 8 (Syntax.tyInt Syntax.w64) (Scalar.room-sc 𝓤 H A W (Row.sInt Syntax.w64))) d19
+          d20 = Typed.g-pre 𝓤 H A W 𝓣 E G13 G14 b19 Δ3 (Typed.pass T13 T14 s10) at19 (Scalar.g-room 𝓤 H A W E G13 8 ty0 (Scalar.room-sc 𝓤 H A W sc0)) d19
 
           d21 : Typed.Typed 𝓤 H A 𝓣 E G12 b20 Δ3 at21
-          d21 = Typed.s-seq 𝓤 H A W 𝓣 E G12 G13 b8 b19 Δ3 (Typed.both s9) at20 (Move.t-shs-copy-out 𝓤 H A W E Cell.R 𝓣 Path'.refl (Cell.copies .copy 𝓤 H A W) (Copies.halved 𝓤 H A W Cell.copies) (λ ρ. Unit) G12 3 9 10 1 (Syntax.tyRef (Syntax.named 1) Syntax.imm Cell.behind) (Row.lease (κs .1 .0) (qs .1 .0)) Cell.held Cell.held Cell.row (Shared.bySize 24) (λ u. u .1 .1 .1 .1 .0) (λ x. x) Cell.past (λ x. Unit) (λ x. x) (λ x. x) (λ i o. Elements.at-mul o 24 i) Path'.refl Path'.refl (Own.told-none 𝓤 H A (G12 .slots)) (DerefMove.learns-nothing 𝓤 H A Cell.R) (Reads.as-is 𝓤 H A (Rows'.sslice Cell.R (Syntax.tyRef (Syntax.named 1) Syntax.imm Cell.behind) 1)) (Reads.as-is 𝓤 H A (Rows'.sc-here Row.sPtr)) (Reads.room-gone 𝓤 H A Cell.held) (Yields.makes-mem 𝓤 H A W (λ ρ. Unit) Cell.R Path'.refl Cell.row (λ x. x) λ ρ told. Cell.of-mem 𝓤 H A W ρ) Path'.refl tt Path'.refl Path'.refl) d20
+          d21 = Typed.s-seq 𝓤 H A W 𝓣 E G12 G13 b8 b19 Δ3 (Typed.both s9) at20 (Move.t-shs-copy-out 𝓤 H A W E Cell.R 𝓣 Path'.refl (Cell.copies .copy 𝓤 H A W) (Copies.halved 𝓤 H A W Cell.copies) (λ ρ. Unit) G12 3 9 10 1 ty3 (Row.lease (κs .1 .0) (qs .1 .0)) Cell.held Cell.held Cell.row (Shared.bySize 24) (λ u. u .1 .1 .1 .1 .0) (λ x. x) Cell.past (λ x. Unit) (λ x. x) (λ x. x) (λ i o. Elements.at-mul o 24 i) Path'.refl Path'.refl (Own.told-none 𝓤 H A (G12 .slots)) (DerefMove.learns-nothing 𝓤 H A Cell.R) (Reads.as-is 𝓤 H A (Rows'.sslice Cell.R ty3 1)) (Reads.as-is 𝓤 H A (Rows'.sc-here Row.sPtr)) (Reads.room-gone 𝓤 H A Cell.held) (Yields.makes-mem 𝓤 H A W (λ ρ. Unit) Cell.R Path'.refl Cell.row (λ x. x) λ ρ told. Cell.of-mem 𝓤 H A W ρ) Path'.refl tt Path'.refl Path'.refl) d20
 
           d22 : Typed.Typed 𝓤 H A 𝓣 E G11 b21 Δ3 at22
-          d22 = Typed.s-seq 𝓤 H A W 𝓣 E G11 G12 b7 b20 Δ3 (Typed.ask s8) at21 (Scalar.t-op2 𝓤 H A W E 𝓣 G11 Syntax.offset (Scalar.oFld 3 (List._∷_ (Syntax.field 0) List.[]) (Syntax.tyRef (Syntax.named 1) Syntax.imm Cell.behind) 0 Reads.ptrVal) (Scalar.oAt 8 (Syntax.tyInt Syntax.w64) (Row.valS (Row.sInt Syntax.w64))) 9 (Rows'.sc-here Row.sPtr) Syntax.tyPtr (Row.valS Row.sPtr) (Row.sPtr .of) (Shared.reads-sslice-ptr 𝓤 H A W Cell.R (Syntax.tyRef (Syntax.named 1) Syntax.imm Cell.behind) 1 0 Path'.refl, Path'.refl) (Scalar.reads-sc 𝓤 H A W (Row.sInt Syntax.w64), Path'.refl) (Reads.room-gone 𝓤 H A Syntax.tyPtr) (Scalar.holds-sc 𝓤 H A W Row.sPtr) Path'.refl (λ u. Path'.refl) λ u. tt) d21
+          d22 = Typed.s-seq 𝓤 H A W 𝓣 E G11 G12 b7 b20 Δ3 (Typed.ask s8) at21 (Scalar.t-op2 𝓤 H A W E 𝓣 G11 Syntax.offset (Scalar.oFld 3 steps0 ty3 0 Reads.ptrVal) (Scalar.oAt 8 ty0 (Row.valS sc0)) 9 (Rows'.sc-here Row.sPtr) Syntax.tyPtr (Row.valS Row.sPtr) (Row.sPtr .of) (Shared.reads-sslice-ptr 𝓤 H A W Cell.R ty3 1 0 Path'.refl, Path'.refl) (Scalar.reads-sc 𝓤 H A W sc0, Path'.refl) (Reads.room-gone 𝓤 H A Syntax.tyPtr) (Scalar.holds-sc 𝓤 H A W Row.sPtr) Path'.refl (λ u. Path'.refl) λ u. tt) d21
 
           d23 : Typed.Typed 𝓤 H A 𝓣 E G10 b22 Δ3 at23
-          d23 = Typed.s-seq 𝓤 H A W 𝓣 E G10 G11 b6 b21 Δ3 (Typed.ask s7) at22 (Scalar.t-op2 𝓤 H A W E 𝓣 G10 (Syntax.mul Syntax.unsigned) (Scalar.oAt 4 (Syntax.tyInt Syntax.w64) (Row.valS (Row.sInt Syntax.w64))) (Scalar.oInt Syntax.w64 24) 8 (Rows'.sc-here (Row.sInt Syntax.w64)) (Syntax.tyInt Syntax.w64) (Row.valS (Row.sInt Syntax.w64)) (Row.sInt Syntax.w64 .of) (Scalar.reads-sc 𝓤 H A W (Row.sInt Syntax.w64), Path'.refl) tt (Reads.room-gone 𝓤 H A (Syntax.tyInt Syntax.w64)) (Scalar.holds-sc 𝓤 H A W (Row.sInt Syntax.w64)) Path'.refl (λ u. Path'.refl) λ u. tt) d22
+          d23 = Typed.s-seq 𝓤 H A W 𝓣 E G10 G11 b6 b21 Δ3 (Typed.ask s7) at22 (Scalar.t-op2 𝓤 H A W E 𝓣 G10 (Syntax.mul Syntax.unsigned) (Scalar.oAt 4 ty0 (Row.valS sc0)) (Scalar.oInt Syntax.w64 24) 8 (Rows'.sc-here sc0) ty0 (Row.valS sc0) (Row.sInt Syntax.w64 .of) (Scalar.reads-sc 𝓤 H A W sc0, Path'.refl) tt (Reads.room-gone 𝓤 H A ty0) (Scalar.holds-sc 𝓤 H A W sc0) Path'.refl (λ u. Path'.refl) λ u. tt) d22
 
           d24 : Typed.Typed 𝓤 H A 𝓣 E G9 b22 Δ3 at24
           d24 = Typed.g-pre 𝓤 H A W 𝓣 E G9 G10 b22 Δ3 (Typed.pass T9 T10 s6) at23 (Scalar.g-room 𝓤 H A W E G9 6 Syntax.tyBool (Scalar.room-sc 𝓤 H A W Row.sBool)) d23
 
           d25 : Typed.Typed 𝓤 H A 𝓣 E G27 b23 Δ3 at25
-          d25 = Typed.s-typed 𝓤 H A W 𝓣 E G27 b23 Δ3 (Typed.ask s23) tt (Scalar.t-op2 𝓤 H A W E 𝓣 G27 (Syntax.add Syntax.unsigned) (Scalar.oAt 4 (Syntax.tyInt Syntax.w64) (Row.valS (Row.sInt Syntax.w64))) (Scalar.oInt Syntax.w64 1) 4 (Rows'.sc-here (Row.sInt Syntax.w64)) (Syntax.tyInt Syntax.w64) (Row.valS (Row.sInt Syntax.w64)) (Row.sInt Syntax.w64 .of) (Scalar.reads-sc 𝓤 H A W (Row.sInt Syntax.w64), Path'.refl) tt (Scalar.room-sc 𝓤 H A W (Row.sInt Syntax.w64)) (Scalar.holds-sc 𝓤 H A W (Row.sInt Syntax.w64)) Path'.refl (λ u. Path'.refl) λ u. tt)
+          d25 = Typed.s-typed 𝓤 H A W 𝓣 E G27 b23 Δ3 (Typed.ask s23) tt (Scalar.t-op2 𝓤 H A W E 𝓣 G27 (Syntax.add Syntax.unsigned) (Scalar.oAt 4 ty0 (Row.valS sc0)) (Scalar.oInt Syntax.w64 1) 4 (Rows'.sc-here sc0) ty0 (Row.valS sc0) (Row.sInt Syntax.w64 .of) (Scalar.reads-sc 𝓤 H A W sc0, Path'.refl) tt (Scalar.room-sc 𝓤 H A W sc0) (Scalar.holds-sc 𝓤 H A W sc0) Path'.refl (λ u. Path'.refl) λ u. tt)
 
           d26 : Typed.Typed 𝓤 H A 𝓣 E G9 b23 Δ3 at26
           d26 = Typed.g-pre 𝓤 H A W 𝓣 E G9 G27 b23 Δ3 (Typed.pass T9 T27 s22) at25 (Scalar.g-room 𝓤 H A W E G9 6 Syntax.tyBool (Scalar.room-sc 𝓤 H A W Row.sBool)) d25
@@ -778,13 +875,13 @@ module _ (claims· : Claims) where
           d27 = Scalar.t-cond 𝓤 H A W E 𝓣 G9 6 (λ x. x) b22 b23 Δ3 at24 at26 (Scalar.reads-sc 𝓤 H A W Row.sBool) Path'.refl d24 d26
 
           d28 : Typed.Typed 𝓤 H A 𝓣 E G6 b25 Δ3 at28
-          d28 = Typed.s-seq 𝓤 H A W 𝓣 E G6 G9 b5 b24 Δ3 (Typed.both s5) at27 (Plain.t-call-plain 𝓤 H A W 𝓣 1 ps·0 r·0 (claims· .0) (claims· .1) "sheets::loops::own_label" (known .0) E (λ pos β. β) G6 (record { pos = 1; ty = Syntax.tyRef (Syntax.named 0) Syntax.imm (Syntax.tyInt Syntax.w32); ref = λ x. x }, (Num.vAt 2 λ x. x, (Num.vAt 4 λ x. x, tt))) 6 (List._∷_ 0 List.[]) (Call.sub-id 𝓤 H A W (G6 .slots)) (ShrSlice.spares-sslice 𝓤 H A W (Referent.rtF (Referent.fInt Syntax.w32)) (Syntax.tyRef (Syntax.named 0) Syntax.imm (Syntax.tyInt Syntax.w32)) 0, Shared.reads-sslice 𝓤 H A W (Referent.rtF (Referent.fInt Syntax.w32)) (Syntax.tyRef (Syntax.named 0) Syntax.imm (Syntax.tyInt Syntax.w32)) 0, Path'.refl, ((Scalar.reads-sc 𝓤 H A W (Row.sInt Syntax.w64), Path'.refl), ((Scalar.reads-sc 𝓤 H A W (Row.sInt Syntax.w64), Path'.refl), tt))) (Reads.room-gone 𝓤 H A Syntax.tyBool) (tt, tt) Path'.refl) d27
+          d28 = Typed.s-seq 𝓤 H A W 𝓣 E G6 G9 b5 b24 Δ3 (Typed.both s5) at27 (Plain.t-call-plain 𝓤 H A W 𝓣 1 ps·0 r·0 (claims· .0) (claims· .1) "sheets::loops::own_label" (known .0) E (λ pos β. β) G6 (record { pos = 1; ty = Syntax.tyRef (Syntax.named 0) Syntax.imm ty1; ref = λ x. x }, (Num.vAt 2 λ x. x, (Num.vAt 4 λ x. x, tt))) 6 (List._∷_ 0 List.[]) (Call.sub-id 𝓤 H A W (G6 .slots)) (ShrSlice.spares-sslice 𝓤 H A W held0 ty2 0, Shared.reads-sslice 𝓤 H A W held0 ty2 0, Path'.refl, ((Scalar.reads-sc 𝓤 H A W sc0, Path'.refl), ((Scalar.reads-sc 𝓤 H A W sc0, Path'.refl), tt))) (Reads.room-gone 𝓤 H A Syntax.tyBool) (tt, tt) Path'.refl) d27
 
           d29 : Typed.Typed 𝓤 H A 𝓣 E G5 b26 Δ3 at29
           d29 = Typed.t-seq 𝓤 H A W 𝓣 E G5 G6 b4 b25 Δ3 at4 at28 d4 d28
 
           d30 : Typed.Typed 𝓤 H A 𝓣 E G3 b27 Δ3 at30
-          d30 = Typed.s-seq 𝓤 H A W 𝓣 E G3 G5 b1 b26 Δ3 (Typed.ask s2) at29 (Scalar.t-op2 𝓤 H A W E 𝓣 G3 (Syntax.lt Syntax.unsigned) (Scalar.oAt 4 (Syntax.tyInt Syntax.w64) (Row.valS (Row.sInt Syntax.w64))) (Scalar.oAt 2 (Syntax.tyInt Syntax.w64) (Row.valS (Row.sInt Syntax.w64))) 5 (Rows'.sc-here Row.sBool) Syntax.tyBool (Row.valS Row.sBool) (Row.sBool .of) (Scalar.reads-sc 𝓤 H A W (Row.sInt Syntax.w64), Path'.refl) (Scalar.reads-sc 𝓤 H A W (Row.sInt Syntax.w64), Path'.refl) (Reads.room-gone 𝓤 H A Syntax.tyBool) (Scalar.holds-sc 𝓤 H A W Row.sBool) Path'.refl (λ u. Path'.refl) λ u. tt) d29
+          d30 = Typed.s-seq 𝓤 H A W 𝓣 E G3 G5 b1 b26 Δ3 (Typed.ask s2) at29 (Scalar.t-op2 𝓤 H A W E 𝓣 G3 (Syntax.lt Syntax.unsigned) (Scalar.oAt 4 ty0 (Row.valS sc0)) (Scalar.oAt 2 ty0 (Row.valS sc0)) 5 (Rows'.sc-here Row.sBool) Syntax.tyBool (Row.valS Row.sBool) (Row.sBool .of) (Scalar.reads-sc 𝓤 H A W sc0, Path'.refl) (Scalar.reads-sc 𝓤 H A W sc0, Path'.refl) (Reads.room-gone 𝓤 H A Syntax.tyBool) (Scalar.holds-sc 𝓤 H A W Row.sBool) Path'.refl (λ u. Path'.refl) λ u. tt) d29
 
           d31 : Typed.Typed 𝓤 H A 𝓣 E G3 b28 Δ2 at31
           d31 = Typed.t-loop-by 𝓤 H A W 𝓣 E G3 b27 Δ2 put0 (λ u vs. Inv·0 (Row.get 1 (T3 .locals) u .now) (Row.get 2 (T3 .locals) u) (Row.get 3 (T3 .locals) u .now) (Row.get 4 (T3 .locals) u) vs) (λ u vs. μ·0 (Row.get 1 (T3 .locals) u .now) (Row.get 2 (T3 .locals) u) (Row.get 3 (T3 .locals) u .now) (Row.get 4 (T3 .locals) u) vs) at30 d30
@@ -796,29 +893,29 @@ module _ (claims· : Claims) where
           d33 = Typed.t-return 𝓤 H A W 𝓣 E Δ0 tt
 
           d34 : Typed.Typed 𝓤 H A 𝓣 E G30 b31 Δ0 at34
-          d34 = Typed.g-pre 𝓤 H A W 𝓣 E G30 G31 b31 Δ0 (Typed.pass T30 T31 s26) at33 (Scalar.g-room 𝓤 H A W E G30 2 (Syntax.tyInt Syntax.w64) (Scalar.room-sc 𝓤 H A W (Row.sInt Syntax.w64))) d33
+          d34 = Typed.g-pre 𝓤 H A W 𝓣 E G30 G31 b31 Δ0 (Typed.pass T30 T31 s26) at33 (Scalar.g-room 𝓤 H A W E G30 2 ty0 (Scalar.room-sc 𝓤 H A W sc0)) d33
 
           d35 : Typed.Typed 𝓤 H A 𝓣 E G29 b31 Δ0 at35
-          d35 = Typed.g-pre 𝓤 H A W 𝓣 E G29 G30 b31 Δ0 (Typed.pass T29 T30 s25) at34 (Scalar.g-room 𝓤 H A W E G29 4 (Syntax.tyInt Syntax.w64) (Scalar.room-sc 𝓤 H A W (Row.sInt Syntax.w64))) d34
+          d35 = Typed.g-pre 𝓤 H A W 𝓣 E G29 G30 b31 Δ0 (Typed.pass T29 T30 s25) at34 (Scalar.g-room 𝓤 H A W E G29 4 ty0 (Scalar.room-sc 𝓤 H A W sc0)) d34
 
           d36 : Typed.Typed 𝓤 H A 𝓣 E G4 b32 Δ0 at36
-          d36 = Typed.s-seq 𝓤 H A W 𝓣 E G4 G29 b30 b31 Δ0 (Typed.pass T4 T29 s24) at35 (Scalar.t-use 𝓤 H A W E 𝓣 G4 (Scalar.oAt 2 (Syntax.tyInt Syntax.w64) (Row.valS (Row.sInt Syntax.w64))) 0 (Rows'.sc-here (Row.sInt Syntax.w64)) (Syntax.tyInt Syntax.w64) (Row.valS (Row.sInt Syntax.w64)) (Row.sInt Syntax.w64 .of) (Scalar.reads-sc 𝓤 H A W (Row.sInt Syntax.w64), Path'.refl) (Reads.room-gone 𝓤 H A (Syntax.tyInt Syntax.w64)) (Scalar.holds-sc 𝓤 H A W (Row.sInt Syntax.w64)) Path'.refl (λ u. Path'.refl) λ u. tt) d35
+          d36 = Typed.s-seq 𝓤 H A W 𝓣 E G4 G29 b30 b31 Δ0 (Typed.pass T4 T29 s24) at35 (Scalar.t-use 𝓤 H A W E 𝓣 G4 (Scalar.oAt 2 ty0 (Row.valS sc0)) 0 (Rows'.sc-here sc0) ty0 (Row.valS sc0) (Row.sInt Syntax.w64 .of) (Scalar.reads-sc 𝓤 H A W sc0, Path'.refl) (Reads.room-gone 𝓤 H A ty0) (Scalar.holds-sc 𝓤 H A W sc0) Path'.refl (λ u. Path'.refl) λ u. tt) d35
 
           d37 : Typed.Typed 𝓤 H A 𝓣 E G3 b33 Δ0 at37
           d37 = Typed.t-seq 𝓤 H A W 𝓣 E G3 G4 b29 b32 Δ0 at32 at36 d32 d36
 
           d38 : Typed.Typed 𝓤 H A 𝓣 E G2 b34 Δ0 at38
-          d38 = Typed.s-seq 𝓤 H A W 𝓣 E G2 G3 b0 b33 Δ0 (Typed.pass T2 T3 s1) at37 (Scalar.t-use 𝓤 H A W E 𝓣 G2 (Scalar.oInt Syntax.w64 0) 4 (Rows'.sc-here (Row.sInt Syntax.w64)) (Syntax.tyInt Syntax.w64) (Row.valS (Row.sInt Syntax.w64)) (Row.sInt Syntax.w64 .of) tt (Reads.room-gone 𝓤 H A (Syntax.tyInt Syntax.w64)) (Scalar.holds-sc 𝓤 H A W (Row.sInt Syntax.w64)) Path'.refl (λ u. Path'.refl) λ u. tt) d37
+          d38 = Typed.s-seq 𝓤 H A W 𝓣 E G2 G3 b0 b33 Δ0 (Typed.pass T2 T3 s1) at37 (Scalar.t-use 𝓤 H A W E 𝓣 G2 (Scalar.oInt Syntax.w64 0) 4 (Rows'.sc-here sc0) ty0 (Row.valS sc0) (Row.sInt Syntax.w64 .of) tt (Reads.room-gone 𝓤 H A ty0) (Scalar.holds-sc 𝓤 H A W sc0) Path'.refl (λ u. Path'.refl) λ u. tt) d37
 
           d39 : Typed.Typed 𝓤 H A 𝓣 E G0 b34 Δ0 at39
-          d39 = Typed.g-pre 𝓤 H A W 𝓣 E G0 G2 b34 Δ0 (Typed.give s0) at38 (Know.g-shs-known 𝓤 H A W (Referent.fInt Syntax.w32) E G0 1 0 (Syntax.tyRef (Syntax.named 0) Syntax.imm (Syntax.tyInt Syntax.w32)) (Row.lease (κs .0) (qs .0)) 0 (λ x. x) record { fits = Dec'.lit< tt } (Reads.as-is 𝓤 H A (Rows'.sslice (Referent.rtF (Referent.fInt Syntax.w32)) (Syntax.tyRef (Syntax.named 0) Syntax.imm (Syntax.tyInt Syntax.w32)) 0)) Path'.refl tt) d38
+          d39 = Typed.g-pre 𝓤 H A W 𝓣 E G0 G2 b34 Δ0 (Typed.give s0) at38 (Know.g-shs-known 𝓤 H A W rf0 E G0 1 0 ty2 slot0 0 (λ x. x) record { fits = Dec'.lit< tt } (Reads.as-is 𝓤 H A (Rows'.sslice held0 ty2 0)) Path'.refl tt) d38
 
           pub typed : Typed.Typed 𝓤 H A 𝓣 E (Function.Γin 2 ps r xs m κs qs) b34 (Function.Δret 2 ps r xs m κs qs) Φ
           typed = d39
 
       module _ (κs : Lifetimes.Lfts 2) where
         pub record Args : Type 0 where
-          pub work : Kinds.Den {n = 2} κs (ShrSlice.pShrS (Referent.rtF (Referent.fInt Syntax.w32)) 0 tt)
+          pub work : Kinds.Den {n = 2} κs (ShrSlice.pShrS held0 0 tt)
           pub d : Kinds.Den {n = 2} κs (Num.pNum Syntax.w64)
           pub sheet : Kinds.Den {n = 2} κs (ShrSlice.pShrS Cell.R 1 tt)
 
@@ -865,21 +962,21 @@ module _ (claims· : Claims) where
       abbrev pub Need-loop-holds : Type 0
       Need-loop-holds = (c : After-shared-slice-known) → Inv·0 (Row.get 1 (T3 .locals) (m2 (c .before) (c .shared-slice-known .given)) .now) (Row.get 2 (T3 .locals) (m2 (c .before) (c .shared-slice-known .given))) (Row.get 3 (T3 .locals) (m2 (c .before) (c .shared-slice-known .given)) .now) (Row.get 4 (T3 .locals) (m2 (c .before) (c .shared-slice-known .given))) (Row.get 4 (T3 .locals) (m2 (c .before) (c .shared-slice-known .given)))
 
-      abbrev pub m3 : (before : After-shared-slice-known) → (x : Rows'.sc-here (Row.sInt Syntax.w64) .Mod) → Typed.Mo T3
-      m3 = λ before x. Row.set 4 (4, Rows'.sc-here (Row.sInt Syntax.w64)) x (T3 .locals) (m2 (before .before) (before .shared-slice-known .given))
+      abbrev pub m3 : (before : After-shared-slice-known) → (x : Rows'.sc-here sc0 .Mod) → Typed.Mo T3
+      m3 = λ before x. Row.set 4 local11 x (T3 .locals) (m2 (before .before) (before .shared-slice-known .given))
 
-      abbrev W3 : (before : After-shared-slice-known) → (x : Rows'.sc-here (Row.sInt Syntax.w64) .Mod) → Typed.Want O3
+      abbrev W3 : (before : After-shared-slice-known) → (x : Rows'.sc-here sc0 .Mod) → Typed.Want O3
       W3 = λ before x. Typed.inLoop T3 O2 (Typed.Round T3 O2 put0 (λ u vs. Inv·0 (Row.get 1 (T3 .locals) u .now) (Row.get 2 (T3 .locals) u) (Row.get 3 (T3 .locals) u .now) (Row.get 4 (T3 .locals) u) vs) (λ u vs. μ·0 (Row.get 1 (T3 .locals) u .now) (Row.get 2 (T3 .locals) u) (Row.get 3 (T3 .locals) u .now) (Row.get 4 (T3 .locals) u) vs) at30 (m2 (before .before) (before .shared-slice-known .given)) x) (W2 (before .before) (before .shared-slice-known .given))
 
-      abbrev pub m4 : (before : After-shared-slice-known) → (x : Rows'.sc-here (Row.sInt Syntax.w64) .Mod) → Typed.Mo T5
+      abbrev pub m4 : (before : After-shared-slice-known) → (x : Rows'.sc-here sc0 .Mod) → Typed.Mo T5
       m4 = λ before x. s2 .next (m3 before x)
 
-      abbrev W4 : (before : After-shared-slice-known) → (x : Rows'.sc-here (Row.sInt Syntax.w64) .Mod) → Typed.Want O4
+      abbrev W4 : (before : After-shared-slice-known) → (x : Rows'.sc-here sc0 .Mod) → Typed.Want O4
       W4 = λ before x. Typed.wantNext T6 O3 (at28 (W3 before x)) (W3 before x)
 
       module _ (before· : After-shared-slice-known) where
         pub record At-loop·own : Type 0 where
-          pub x : Rows'.sc-here (Row.sInt Syntax.w64) .Mod
+          pub x : Rows'.sc-here sc0 .Mod
           pub inv : Inv·0 (Row.get 1 (T3 .locals) (m2 (before· .before) (before· .shared-slice-known .given)) .now) (Row.get 2 (T3 .locals) (m2 (before· .before) (before· .shared-slice-known .given))) (Row.get 3 (T3 .locals) (m2 (before· .before) (before· .shared-slice-known .given)) .now) (Row.get 4 (T3 .locals) (m2 (before· .before) (before· .shared-slice-known .given))) x
 
       pub record At-loop : Type 0 where
@@ -916,14 +1013,14 @@ module _ (claims· : Claims) where
 
       module _ (before· : In-loop) where
         abbrev pub After-own-label·own : Type 0
-        After-own-label·own = Called.Called ps·0 r·0 (claims· .1) T6 (record { pos = 1; ty = Syntax.tyRef (Syntax.named 0) Syntax.imm (Syntax.tyInt Syntax.w32); ref = λ x. x }, (Num.vAt 2 λ x. x, (Num.vAt 4 λ x. x, tt))) (m5 (before· .before))
+        After-own-label·own = Called.Called ps·0 r·0 (claims· .1) T6 (record { pos = 1; ty = Syntax.tyRef (Syntax.named 0) Syntax.imm ty1; ref = λ x. x }, (Num.vAt 2 λ x. x, (Num.vAt 4 λ x. x, tt))) (m5 (before· .before))
 
       pub record After-own-label : Type 0 where
         pub before : In-loop
         pub own-label : After-own-label·own before
 
       abbrev pub After-own-label·gave : (c : After-own-label) → s5 .gives (m5 (c .before .before))
-      After-own-label·gave = λ c. Called.given ps·0 r·0 (claims· .1) T6 (record { pos = 1; ty = Syntax.tyRef (Syntax.named 0) Syntax.imm (Syntax.tyInt Syntax.w32); ref = λ x. x }, (Num.vAt 2 λ x. x, (Num.vAt 4 λ x. x, tt))) (m5 (c .before .before)) (c .own-label)
+      After-own-label·gave = λ c. Called.given ps·0 r·0 (claims· .1) T6 (record { pos = 1; ty = Syntax.tyRef (Syntax.named 0) Syntax.imm ty1; ref = λ x. x }, (Num.vAt 2 λ x. x, (Num.vAt 4 λ x. x, tt))) (m5 (c .before .before)) (c .own-label)
 
       abbrev pub m8 : (before : After-own-label) → Typed.Mo T10
       m8 = λ before. s6 (m7 (before .before) (After-own-label·gave before))
@@ -1089,7 +1186,7 @@ module _ (claims· : Claims) where
         lay4 = λ c. (λ taken. (mul-fit record { before = record { before = c .before; own-label = c .own-label }; if1 = record { taken = taken } }, (tt, ((Path'.refl, Path'.refl, shared-slice-copy-out-fit record { before = record { before = c .before; own-label = c .own-label }; if1 = record { taken = taken } }), λ g. (fit-requires record { before = record { before = record { before = c .before; own-label = c .own-label }; if1 = record { taken = taken } }; fit-arg = record { given = g } }, λ g'. lay5 record { before = record { before = record { before = record { before = c .before; own-label = c .own-label }; if1 = record { taken = taken } }; fit-arg = record { given = g } }; fit = Called.called ps·1 r·1 (claims· .3) T15 (record { pos = 10; st = List.[]; d = 0; at = λ x. x }, tt) (m13 record { before = record { before = c .before; own-label = c .own-label }; if1 = record { taken = taken } } g) g' })))), λ left. (add-x-2 record { before = record { before = c .before; own-label = c .own-label }; if1 = record { left = left } }, (μ·0 (Row.get 1 (T3 .locals) (m2 (c .before .before .before .before) (c .before .before .before .shared-slice-known .given)) .now) (Row.get 2 (T3 .locals) (m2 (c .before .before .before .before) (c .before .before .before .shared-slice-known .given))) (Row.get 3 (T3 .locals) (m2 (c .before .before .before .before) (c .before .before .before .shared-slice-known .given)) .now) (Row.get 4 (T3 .locals) (m2 (c .before .before .before .before) (c .before .before .before .shared-slice-known .given))) (Row.get 4 (T3 .locals) (m25 record { before = c .before; own-label = c .own-label })), loop-less-2 record { before = record { before = c .before; own-label = c .own-label }; if1 = record { left = left } }, (Row.get 4 (T3 .locals) (m25 record { before = c .before; own-label = c .own-label }), Path'.refl {a = m25 record { before = c .before; own-label = c .own-label }}, loop-again-2 record { before = record { before = c .before; own-label = c .own-label }; if1 = record { left = left } }, Path'.refl {a = μ·0 (Row.get 1 (T3 .locals) (m2 (c .before .before .before .before) (c .before .before .before .shared-slice-known .given)) .now) (Row.get 2 (T3 .locals) (m2 (c .before .before .before .before) (c .before .before .before .shared-slice-known .given))) (Row.get 3 (T3 .locals) (m2 (c .before .before .before .before) (c .before .before .before .shared-slice-known .given)) .now) (Row.get 4 (T3 .locals) (m2 (c .before .before .before .before) (c .before .before .before .shared-slice-known .given))) (Row.get 4 (T3 .locals) (m25 record { before = c .before; own-label = c .own-label }))}))))
 
         lay3 : (c : In-loop) → at28 (W3 (c .before .before) (c .before .loop .x)) (m5 (c .before))
-        lay3 = λ c. (own-label-requires record { before = c .before; loop-test = c .loop-test }, λ g. lay4 record { before = record { before = c .before; loop-test = c .loop-test }; own-label = Called.called ps·0 r·0 (claims· .1) T6 (record { pos = 1; ty = Syntax.tyRef (Syntax.named 0) Syntax.imm (Syntax.tyInt Syntax.w32); ref = λ x. x }, (Num.vAt 2 λ x. x, (Num.vAt 4 λ x. x, tt))) (m5 (c .before)) g })
+        lay3 = λ c. (own-label-requires record { before = c .before; loop-test = c .loop-test }, λ g. lay4 record { before = record { before = c .before; loop-test = c .loop-test }; own-label = Called.called ps·0 r·0 (claims· .1) T6 (record { pos = 1; ty = Syntax.tyRef (Syntax.named 0) Syntax.imm ty1; ref = λ x. x }, (Num.vAt 2 λ x. x, (Num.vAt 4 λ x. x, tt))) (m5 (c .before)) g })
 
         lay2 : (c : After-loop) → at3 (W4 (c .before .before) (c .before .loop .x)) (m4 (c .before .before) (c .before .loop .x))
         lay2 = λ c. lay7 record { before = c .before; loop-test = c .loop-test }

@@ -39,21 +39,181 @@ use mir.Syntax
 use mir.Val
 use prog.Wp
 use types.Kit
+use denote.RattleType
+
+abbrev rf0 : Referent.Rf
+rf0 = Referent.fInt Syntax.w32
+
+abbrev held0 : RattleType.RattleType
+held0 = Referent.rtF rf0
+
+abbrev ty0 : Syntax.Ty
+ty0 = Syntax.tyInt Syntax.w64
+
+abbrev ty1 : Syntax.Ty
+ty1 = Syntax.tyRef Syntax.erased Syntax.mut Cell.behind
+
+abbrev ty2 : Syntax.Ty
+ty2 = Syntax.tyStruct (List._∷_ 38 (List._∷_ 91 (List._∷_ 93 List.[]))) (Syntax.tcons ty1 (Syntax.tcons ty0 Syntax.tnil))
+
+abbrev place0 : Syntax.Place
+place0 = Syntax.place 7 List.[]
+
+abbrev place1 : Syntax.Place
+place1 = Syntax.place 9 List.[]
+
+abbrev opd0 : Syntax.Opd
+opd0 = Syntax.copy place0
+
+abbrev place2 : Syntax.Place
+place2 = Syntax.place 8 List.[]
+
+abbrev steps0 : List.List Syntax.Step
+steps0 = List._∷_ (Syntax.field 0) (List._∷_ (Syntax.deref Cell.held) List.[])
+
+abbrev steps1 : List.List Syntax.Step
+steps1 = List._∷_ (Syntax.field 1) List.[]
+
+abbrev local0 : Row.Entry
+local0 = (0, Rows.any-gone Syntax.tyUnit)
+
+abbrev ty3 : Syntax.Ty
+ty3 = Syntax.tyInt Syntax.w32
+
+abbrev ty4 : Syntax.Ty
+ty4 = Syntax.tyRef (Syntax.named 0) Syntax.imm ty3
+
+abbrev local1 : Row.Entry
+local1 = (1, Rows.sslice held0 ty4 0)
+
+abbrev sc0 : Row.Sc
+sc0 = Row.sInt Syntax.w64
+
+abbrev local2 : Row.Entry
+local2 = (2, Rows.sc-here sc0)
+
+abbrev local3 : Row.Entry
+local3 = (3, Rows.sc-here sc0)
+
+abbrev local4 : Row.Entry
+local4 = (4, Rows.sc-here sc0)
+
+abbrev ty5 : Syntax.Ty
+ty5 = Syntax.tyRef (Syntax.named 1) Syntax.mut Cell.behind
+
+abbrev local5 : Row.Entry
+local5 = (5, Mut.mslice Cell.R ty5 1)
+
+abbrev ty6 : Syntax.Ty
+ty6 = Syntax.tyRef (Syntax.named 2) Syntax.mut Cell.behind
+
+abbrev local6 : Row.Entry
+local6 = (6, Mut.mslice Cell.R ty6 2)
+
+abbrev local7 : Row.Entry
+local7 = (9, Rows.any-gone Syntax.tyBool)
+
+abbrev local8 : Row.Entry
+local8 = (10, Rows.any-gone Syntax.tyUnit)
+
+abbrev local9 : Row.Entry
+local9 = (11, Rows.any-gone ty1)
+
+abbrev local10 : Row.Entry
+local10 = (13, Rows.any-gone ty1)
+
+abbrev locals0 : List.List Row.Entry
+locals0 = List._∷_ (15, Rows.any-gone ty0) List.[]
+
+abbrev locals1 : List.List Row.Entry
+locals1 = List._∷_ local10 (List._∷_ (14, Rows.any-gone ty2) locals0)
+
+abbrev locals2 : List.List Row.Entry
+locals2 = List._∷_ local8 (List._∷_ local9 (List._∷_ (12, Rows.any-gone ty2) locals1))
+
+abbrev locals3 : List.List Row.Entry
+locals3 = List._∷_ (8, Rows.any-gone ty0) (List._∷_ local7 locals2)
+
+abbrev locals4 : List.List Row.Entry
+locals4 = List._∷_ local5 (List._∷_ local6 (List._∷_ (7, Rows.any-gone ty0) locals3))
+
+abbrev locals5 : List.List Row.Entry
+locals5 = List._∷_ local1 (List._∷_ local2 (List._∷_ local3 (List._∷_ local4 locals4)))
+
+abbrev local11 : Row.Entry
+local11 = (0, Rows.sc-here Row.sUnit)
+
+abbrev local12 : Row.Entry
+local12 = (7, Rows.sc-here sc0)
+
+abbrev locals6 : List.List Row.Entry
+locals6 = List._∷_ local1 (List._∷_ local2 (List._∷_ local3 (List._∷_ local4 (List._∷_ local5 (List._∷_ local6 (List._∷_ local12 locals3))))))
+
+abbrev local13 : Row.Entry
+local13 = (8, Rows.sc-here sc0)
+
+abbrev local14 : Row.Entry
+local14 = (5, Relend.mslice-owed Cell.R ty5 1 3 Row.off)
+
+abbrev locals7 : List.List Row.Entry
+locals7 = List._∷_ local6 (List._∷_ local12 (List._∷_ local13 (List._∷_ local7 (List._∷_ local8 (List._∷_ (11, Relend.msptr Cell.R ty1 3) (List._∷_ (12, Rows.any-gone ty2) locals1))))))
+
+abbrev local15 : Row.Entry
+local15 = (12, Mut.mslice Cell.R ty1 3)
+
+abbrev locals8 : List.List Row.Entry
+locals8 = List._∷_ local6 (List._∷_ local12 (List._∷_ local13 (List._∷_ local7 (List._∷_ local8 (List._∷_ local9 (List._∷_ local15 locals1))))))
+
+abbrev local16 : Row.Entry
+local16 = (6, Relend.mslice-owed Cell.R ty6 2 4 Row.off)
+
+abbrev locals9 : List.List Row.Entry
+locals9 = List._∷_ local12 (List._∷_ local13 (List._∷_ local7 (List._∷_ local8 (List._∷_ local9 (List._∷_ local15 (List._∷_ (13, Relend.msptr Cell.R ty1 4) (List._∷_ (14, Rows.any-gone ty2) locals0)))))))
+
+abbrev locals10 : List.List Row.Entry
+locals10 = List._∷_ local12 (List._∷_ local13 (List._∷_ local7 (List._∷_ local8 (List._∷_ local9 (List._∷_ local15 (List._∷_ local10 (List._∷_ (14, Mut.mslice Cell.R ty1 4) locals0)))))))
+
+abbrev locals11 : List.List Row.Entry
+locals11 = List._∷_ local12 (List._∷_ local13 (List._∷_ local7 (List._∷_ local8 (List._∷_ local9 (List._∷_ local15 (List._∷_ local10 (List._∷_ (14, Mut.mslice Cell.R ty1 4) (List._∷_ (15, Rows.sc-here sc0) List.[]))))))))
+
+abbrev locals12 : List.List Row.Entry
+locals12 = List._∷_ local9 (List._∷_ (12, Mut.msleft Cell.R ty1) (List._∷_ local10 (List._∷_ (14, Mut.msleft Cell.R ty1) (List._∷_ (15, Rows.sc-here sc0) List.[]))))
+
+abbrev locals13 : List.List Row.Entry
+locals13 = List._∷_ local12 (List._∷_ local13 (List._∷_ local7 (List._∷_ (10, Rows.sc-here Row.sUnit) locals12)))
+
+abbrev locals14 : List.List Row.Entry
+locals14 = List._∷_ local12 (List._∷_ local13 (List._∷_ local7 (List._∷_ local8 locals12)))
+
+abbrev locals15 : List.List Row.Entry
+locals15 = List._∷_ local10 (List._∷_ (14, Mut.msleft Cell.R ty1) locals0)
+
+abbrev locals16 : List.List Row.Entry
+locals16 = List._∷_ local12 (List._∷_ local13 (List._∷_ local7 (List._∷_ local8 (List._∷_ local9 (List._∷_ (12, Mut.msleft Cell.R ty1) locals15)))))
+
+abbrev locals17 : List.List Row.Entry
+locals17 = List._∷_ local12 (List._∷_ local13 (List._∷_ local7 (List._∷_ local8 (List._∷_ local9 (List._∷_ (12, Rows.any-gone ty2) locals15)))))
+
+abbrev slots2 : List.List Row.Life
+slots2 = List._∷_ Row.alive List.[]
+
+abbrev slots3 : List.List Row.Life
+slots3 = List._∷_ Row.off (List._∷_ Row.off (List._∷_ Row.alive slots2))
 
 abbrev pub ps : List.List (Kinds.PK 3)
-ps = List._∷_ (ShrSlice.pShrS (Referent.rtF (Referent.fInt Syntax.w32)) 0 tt) (List._∷_ (Num.pNum Syntax.w64) (List._∷_ (Num.pNum Syntax.w64) (List._∷_ (Num.pNum Syntax.w64) (List._∷_ (MutSlice.pMutS Cell.R 1 tt) (List._∷_ (MutSlice.pMutS Cell.R 2 tt) List.[])))))
+ps = List._∷_ (ShrSlice.pShrS held0 0 tt) (List._∷_ (Num.pNum Syntax.w64) (List._∷_ (Num.pNum Syntax.w64) (List._∷_ (Num.pNum Syntax.w64) (List._∷_ (MutSlice.pMutS Cell.R 1 tt) (List._∷_ (MutSlice.pMutS Cell.R 2 tt) List.[])))))
 
 abbrev pub r : Kinds.RK 3
 r = Unit'.rUnit
 
 abbrev pub xs : List.List Syntax.Ty
-xs = List._∷_ (Syntax.tyInt Syntax.w64) (List._∷_ (Syntax.tyInt Syntax.w64) (List._∷_ Syntax.tyBool (List._∷_ Syntax.tyUnit (List._∷_ (Syntax.tyRef Syntax.erased Syntax.mut Cell.behind) (List._∷_ (Syntax.tyStruct (List._∷_ 38 (List._∷_ 91 (List._∷_ 93 List.[]))) (Syntax.tcons (Syntax.tyRef Syntax.erased Syntax.mut Cell.behind) (Syntax.tcons (Syntax.tyInt Syntax.w64) Syntax.tnil))) (List._∷_ (Syntax.tyRef Syntax.erased Syntax.mut Cell.behind) (List._∷_ (Syntax.tyStruct (List._∷_ 38 (List._∷_ 91 (List._∷_ 93 List.[]))) (Syntax.tcons (Syntax.tyRef Syntax.erased Syntax.mut Cell.behind) (Syntax.tcons (Syntax.tyInt Syntax.w64) Syntax.tnil))) (List._∷_ (Syntax.tyInt Syntax.w64) (List._∷_ (Syntax.tyInt Syntax.w64) List.[])))))))))
+xs = List._∷_ ty0 (List._∷_ ty0 (List._∷_ Syntax.tyBool (List._∷_ Syntax.tyUnit (List._∷_ ty1 (List._∷_ ty2 (List._∷_ ty1 (List._∷_ ty2 (List._∷_ ty0 (List._∷_ ty0 List.[])))))))))
 
 abbrev pub m : Nat.ℕ
 m = 2
 
 abbrev pub ps·0 : List.List (Kinds.PK 1)
-ps·0 = List._∷_ (ShrSlice.pShrS (Referent.rtF (Referent.fInt Syntax.w32)) 0 tt) (List._∷_ (Num.pNum Syntax.w64) (List._∷_ (Num.pNum Syntax.w64) List.[]))
+ps·0 = List._∷_ (ShrSlice.pShrS held0 0 tt) (List._∷_ (Num.pNum Syntax.w64) (List._∷_ (Num.pNum Syntax.w64) List.[]))
 
 abbrev pub r·0 : Kinds.RK 1
 r·0 = Num.rNum Syntax.w64
@@ -68,10 +228,10 @@ abbrev pub hs : List.List Syntax.Home
 hs = List._∷_ Syntax.valueLocal (List._∷_ Syntax.valueLocal (List._∷_ Syntax.valueLocal (List._∷_ Syntax.valueLocal (List._∷_ Syntax.valueLocal (List._∷_ Syntax.valueLocal (List._∷_ Syntax.valueLocal (List._∷_ Syntax.valueLocal (List._∷_ Syntax.valueLocal (List._∷_ Syntax.valueLocal (List._∷_ Syntax.valueLocal (List._∷_ Syntax.valueLocal (List._∷_ Syntax.valueLocal (List._∷_ Syntax.valueLocal (List._∷_ Syntax.valueLocal (List._∷_ Syntax.valueLocal (List._∷_ Syntax.valueLocal List.[]))))))))))))))))
 
 abbrev b0 : Syntax.Body
-b0 = Syntax.assign (Syntax.place 7 List.[]) (Syntax.rvOpd (Syntax.copy (Syntax.place 3 List.[])))
+b0 = Syntax.assign place0 (Syntax.rvOpd (Syntax.copy (Syntax.place 3 List.[])))
 
 abbrev b1 : Syntax.Body
-b1 = Syntax.assign (Syntax.place 9 List.[]) (Syntax.op2 (Syntax.lt Syntax.unsigned) (Syntax.copy (Syntax.place 7 List.[])) (Syntax.copy (Syntax.place 4 List.[])))
+b1 = Syntax.assign place1 (Syntax.op2 (Syntax.lt Syntax.unsigned) opd0 (Syntax.copy (Syntax.place 4 List.[])))
 
 abbrev b2 : Syntax.Body
 b2 = Syntax.skip
@@ -80,40 +240,40 @@ abbrev b3 : Syntax.Body
 b3 = Syntax.exit 1
 
 abbrev b4 : Syntax.Body
-b4 = Syntax.cond (Syntax.copy (Syntax.place 9 List.[])) b2 b3
+b4 = Syntax.cond (Syntax.copy place1) b2 b3
 
 abbrev b5 : Syntax.Body
-b5 = Syntax.call "sheets::loops::note" (List._∷_ (Syntax.copy (Syntax.place 1 List.[])) (List._∷_ (Syntax.copy (Syntax.place 2 List.[])) (List._∷_ (Syntax.copy (Syntax.place 7 List.[])) List.[]))) (Syntax.place 8 List.[])
+b5 = Syntax.call "sheets::loops::note" (List._∷_ (Syntax.copy (Syntax.place 1 List.[])) (List._∷_ (Syntax.copy (Syntax.place 2 List.[])) (List._∷_ opd0 List.[]))) place2
 
 abbrev b6 : Syntax.Body
-b6 = Syntax.assign (Syntax.place 9 List.[]) (Syntax.op2 Syntax.eq (Syntax.copy (Syntax.place 8 List.[])) (Syntax.int Syntax.w64 0))
+b6 = Syntax.assign place1 (Syntax.op2 Syntax.eq (Syntax.copy place2) (Syntax.int Syntax.w64 0))
 
 abbrev b7 : Syntax.Body
-b7 = Syntax.assign (Syntax.place 7 List.[]) (Syntax.op2 (Syntax.add Syntax.unsigned) (Syntax.copy (Syntax.place 7 List.[])) (Syntax.int Syntax.w64 1))
+b7 = Syntax.assign place0 (Syntax.op2 (Syntax.add Syntax.unsigned) opd0 (Syntax.int Syntax.w64 1))
 
 abbrev b8 : Syntax.Body
-b8 = Syntax.assign (Syntax.place 11 List.[]) (Syntax.addrOf (Syntax.place 5 (List._∷_ (Syntax.field 0) (List._∷_ (Syntax.deref Cell.held) List.[]))))
+b8 = Syntax.assign (Syntax.place 11 List.[]) (Syntax.addrOf (Syntax.place 5 steps0))
 
 abbrev b9 : Syntax.Body
-b9 = Syntax.assign (Syntax.place 12 List.[]) (Syntax.aggregate (List._∷_ (Syntax.copy (Syntax.place 11 List.[])) (List._∷_ (Syntax.copy (Syntax.place 5 (List._∷_ (Syntax.field 1) List.[]))) List.[])))
+b9 = Syntax.assign (Syntax.place 12 List.[]) (Syntax.aggregate (List._∷_ (Syntax.copy (Syntax.place 11 List.[])) (List._∷_ (Syntax.copy (Syntax.place 5 steps1)) List.[])))
 
 abbrev b10 : Syntax.Body
-b10 = Syntax.assign (Syntax.place 13 List.[]) (Syntax.addrOf (Syntax.place 6 (List._∷_ (Syntax.field 0) (List._∷_ (Syntax.deref Cell.held) List.[]))))
+b10 = Syntax.assign (Syntax.place 13 List.[]) (Syntax.addrOf (Syntax.place 6 steps0))
 
 abbrev b11 : Syntax.Body
-b11 = Syntax.assign (Syntax.place 14 List.[]) (Syntax.aggregate (List._∷_ (Syntax.copy (Syntax.place 13 List.[])) (List._∷_ (Syntax.copy (Syntax.place 6 (List._∷_ (Syntax.field 1) List.[]))) List.[])))
+b11 = Syntax.assign (Syntax.place 14 List.[]) (Syntax.aggregate (List._∷_ (Syntax.copy (Syntax.place 13 List.[])) (List._∷_ (Syntax.copy (Syntax.place 6 steps1)) List.[])))
 
 abbrev b12 : Syntax.Body
-b12 = Syntax.assign (Syntax.place 15 List.[]) (Syntax.op2 (Syntax.div Syntax.unsigned) (Syntax.copy (Syntax.place 8 List.[])) (Syntax.intBig Syntax.w64 65536))
+b12 = Syntax.assign (Syntax.place 15 List.[]) (Syntax.op2 (Syntax.div Syntax.unsigned) (Syntax.copy place2) (Syntax.intBig Syntax.w64 65536))
 
 abbrev b13 : Syntax.Body
-b13 = Syntax.assign (Syntax.place 16 List.[]) (Syntax.op2 (Syntax.rem Syntax.unsigned) (Syntax.copy (Syntax.place 8 List.[])) (Syntax.intBig Syntax.w64 65536))
+b13 = Syntax.assign (Syntax.place 16 List.[]) (Syntax.op2 (Syntax.rem Syntax.unsigned) (Syntax.copy place2) (Syntax.intBig Syntax.w64 65536))
 
 abbrev b14 : Syntax.Body
-b14 = Syntax.call "sheets::loops::merge_at" (List._∷_ (Syntax.copy (Syntax.place 12 List.[])) (List._∷_ (Syntax.copy (Syntax.place 14 List.[])) (List._∷_ (Syntax.copy (Syntax.place 15 List.[])) (List._∷_ (Syntax.copy (Syntax.place 16 List.[])) (List._∷_ (Syntax.copy (Syntax.place 7 List.[])) List.[]))))) (Syntax.place 10 List.[])
+b14 = Syntax.call "sheets::loops::merge_at" (List._∷_ (Syntax.copy (Syntax.place 12 List.[])) (List._∷_ (Syntax.copy (Syntax.place 14 List.[])) (List._∷_ (Syntax.copy (Syntax.place 15 List.[])) (List._∷_ (Syntax.copy (Syntax.place 16 List.[])) (List._∷_ opd0 List.[]))))) (Syntax.place 10 List.[])
 
 abbrev b15 : Syntax.Body
-b15 = Syntax.assign (Syntax.place 7 List.[]) (Syntax.op2 (Syntax.add Syntax.unsigned) (Syntax.copy (Syntax.place 7 List.[])) (Syntax.int Syntax.w64 1))
+b15 = Syntax.assign place0 (Syntax.op2 (Syntax.add Syntax.unsigned) opd0 (Syntax.int Syntax.w64 1))
 
 abbrev b16 : Syntax.Body
 b16 = Syntax.seq b14 b15
@@ -137,7 +297,7 @@ abbrev b22 : Syntax.Body
 b22 = Syntax.seq b8 b21
 
 abbrev b23 : Syntax.Body
-b23 = Syntax.cond (Syntax.copy (Syntax.place 9 List.[])) b7 b22
+b23 = Syntax.cond (Syntax.copy place1) b7 b22
 
 abbrev b24 : Syntax.Body
 b24 = Syntax.seq b6 b23
@@ -179,67 +339,67 @@ abbrev pub Claims : Type 1
 Claims = Kinds.In 1 ps·0 × Kinds.Out 1 ps·0 r·0 × Kinds.In 2 ps·1 × Kinds.Out 2 ps·1 r·1
 
 abbrev pub t0 : List.List Row.Entry
-t0 = List._∷_ (0, Rows.any-gone Syntax.tyUnit) (List._∷_ (1, Rows.sslice (Referent.rtF (Referent.fInt Syntax.w32)) (Syntax.tyRef (Syntax.named 0) Syntax.imm (Syntax.tyInt Syntax.w32)) 0) (List._∷_ (2, Rows.sc-here (Row.sInt Syntax.w64)) (List._∷_ (3, Rows.sc-here (Row.sInt Syntax.w64)) (List._∷_ (4, Rows.sc-here (Row.sInt Syntax.w64)) (List._∷_ (5, Mut.mslice Cell.R (Syntax.tyRef (Syntax.named 1) Syntax.mut Cell.behind) 1) (List._∷_ (6, Mut.mslice Cell.R (Syntax.tyRef (Syntax.named 2) Syntax.mut Cell.behind) 2) (List._∷_ (7, Rows.any-gone (Syntax.tyInt Syntax.w64)) (List._∷_ (8, Rows.any-gone (Syntax.tyInt Syntax.w64)) (List._∷_ (9, Rows.any-gone Syntax.tyBool) (List._∷_ (10, Rows.any-gone Syntax.tyUnit) (List._∷_ (11, Rows.any-gone (Syntax.tyRef Syntax.erased Syntax.mut Cell.behind)) (List._∷_ (12, Rows.any-gone (Syntax.tyStruct (List._∷_ 38 (List._∷_ 91 (List._∷_ 93 List.[]))) (Syntax.tcons (Syntax.tyRef Syntax.erased Syntax.mut Cell.behind) (Syntax.tcons (Syntax.tyInt Syntax.w64) Syntax.tnil)))) (List._∷_ (13, Rows.any-gone (Syntax.tyRef Syntax.erased Syntax.mut Cell.behind)) (List._∷_ (14, Rows.any-gone (Syntax.tyStruct (List._∷_ 38 (List._∷_ 91 (List._∷_ 93 List.[]))) (Syntax.tcons (Syntax.tyRef Syntax.erased Syntax.mut Cell.behind) (Syntax.tcons (Syntax.tyInt Syntax.w64) Syntax.tnil)))) (List._∷_ (15, Rows.any-gone (Syntax.tyInt Syntax.w64)) List.[])))))))))))))))
+t0 = List._∷_ local0 locals5
 
 abbrev pub t1 : List.List Row.Entry
-t1 = List._∷_ (16, Rows.any-gone (Syntax.tyInt Syntax.w64)) List.[]
+t1 = List._∷_ (16, Rows.any-gone ty0) List.[]
 
 abbrev pub t2 : List.List Row.Entry
-t2 = List._∷_ (0, Rows.sc-here Row.sUnit) (List._∷_ (1, Rows.sslice (Referent.rtF (Referent.fInt Syntax.w32)) (Syntax.tyRef (Syntax.named 0) Syntax.imm (Syntax.tyInt Syntax.w32)) 0) (List._∷_ (2, Rows.any-gone (Syntax.tyInt Syntax.w64)) (List._∷_ (3, Rows.any-gone (Syntax.tyInt Syntax.w64)) (List._∷_ (4, Rows.any-gone (Syntax.tyInt Syntax.w64)) (List._∷_ (5, Mut.mslice Cell.R (Syntax.tyRef (Syntax.named 1) Syntax.mut Cell.behind) 1) (List._∷_ (6, Mut.mslice Cell.R (Syntax.tyRef (Syntax.named 2) Syntax.mut Cell.behind) 2) (List._∷_ (7, Rows.any-gone (Syntax.tyInt Syntax.w64)) (List._∷_ (8, Rows.any-gone (Syntax.tyInt Syntax.w64)) (List._∷_ (9, Rows.any-gone Syntax.tyBool) (List._∷_ (10, Rows.any-gone Syntax.tyUnit) (List._∷_ (11, Rows.any-gone (Syntax.tyRef Syntax.erased Syntax.mut Cell.behind)) (List._∷_ (12, Rows.any-gone (Syntax.tyStruct (List._∷_ 38 (List._∷_ 91 (List._∷_ 93 List.[]))) (Syntax.tcons (Syntax.tyRef Syntax.erased Syntax.mut Cell.behind) (Syntax.tcons (Syntax.tyInt Syntax.w64) Syntax.tnil)))) (List._∷_ (13, Rows.any-gone (Syntax.tyRef Syntax.erased Syntax.mut Cell.behind)) (List._∷_ (14, Rows.any-gone (Syntax.tyStruct (List._∷_ 38 (List._∷_ 91 (List._∷_ 93 List.[]))) (Syntax.tcons (Syntax.tyRef Syntax.erased Syntax.mut Cell.behind) (Syntax.tcons (Syntax.tyInt Syntax.w64) Syntax.tnil)))) (List._∷_ (15, Rows.any-gone (Syntax.tyInt Syntax.w64)) List.[])))))))))))))))
+t2 = List._∷_ local11 (List._∷_ local1 (List._∷_ (2, Rows.any-gone ty0) (List._∷_ (3, Rows.any-gone ty0) (List._∷_ (4, Rows.any-gone ty0) locals4))))
 
 abbrev pub t3 : List.List Row.Entry
-t3 = List._∷_ (0, Rows.any-gone Syntax.tyUnit) (List._∷_ (1, Rows.sslice (Referent.rtF (Referent.fInt Syntax.w32)) (Syntax.tyRef (Syntax.named 0) Syntax.imm (Syntax.tyInt Syntax.w32)) 0) (List._∷_ (2, Rows.sc-here (Row.sInt Syntax.w64)) (List._∷_ (3, Rows.sc-here (Row.sInt Syntax.w64)) (List._∷_ (4, Rows.sc-here (Row.sInt Syntax.w64)) (List._∷_ (5, Mut.mslice Cell.R (Syntax.tyRef (Syntax.named 1) Syntax.mut Cell.behind) 1) (List._∷_ (6, Mut.mslice Cell.R (Syntax.tyRef (Syntax.named 2) Syntax.mut Cell.behind) 2) (List._∷_ (7, Rows.sc-here (Row.sInt Syntax.w64)) (List._∷_ (8, Rows.any-gone (Syntax.tyInt Syntax.w64)) (List._∷_ (9, Rows.any-gone Syntax.tyBool) (List._∷_ (10, Rows.any-gone Syntax.tyUnit) (List._∷_ (11, Rows.any-gone (Syntax.tyRef Syntax.erased Syntax.mut Cell.behind)) (List._∷_ (12, Rows.any-gone (Syntax.tyStruct (List._∷_ 38 (List._∷_ 91 (List._∷_ 93 List.[]))) (Syntax.tcons (Syntax.tyRef Syntax.erased Syntax.mut Cell.behind) (Syntax.tcons (Syntax.tyInt Syntax.w64) Syntax.tnil)))) (List._∷_ (13, Rows.any-gone (Syntax.tyRef Syntax.erased Syntax.mut Cell.behind)) (List._∷_ (14, Rows.any-gone (Syntax.tyStruct (List._∷_ 38 (List._∷_ 91 (List._∷_ 93 List.[]))) (Syntax.tcons (Syntax.tyRef Syntax.erased Syntax.mut Cell.behind) (Syntax.tcons (Syntax.tyInt Syntax.w64) Syntax.tnil)))) (List._∷_ (15, Rows.any-gone (Syntax.tyInt Syntax.w64)) List.[])))))))))))))))
+t3 = List._∷_ local0 locals6
 
 abbrev pub t4 : List.List Row.Entry
-t4 = List._∷_ (0, Rows.any-gone Syntax.tyUnit) (List._∷_ (1, Rows.sslice (Referent.rtF (Referent.fInt Syntax.w32)) (Syntax.tyRef (Syntax.named 0) Syntax.imm (Syntax.tyInt Syntax.w32)) 0) (List._∷_ (2, Rows.sc-here (Row.sInt Syntax.w64)) (List._∷_ (3, Rows.sc-here (Row.sInt Syntax.w64)) (List._∷_ (4, Rows.sc-here (Row.sInt Syntax.w64)) (List._∷_ (5, Mut.mslice Cell.R (Syntax.tyRef (Syntax.named 1) Syntax.mut Cell.behind) 1) (List._∷_ (6, Mut.mslice Cell.R (Syntax.tyRef (Syntax.named 2) Syntax.mut Cell.behind) 2) (List._∷_ (7, Rows.sc-here (Row.sInt Syntax.w64)) (List._∷_ (8, Rows.any-gone (Syntax.tyInt Syntax.w64)) (List._∷_ (9, Rows.sc-here Row.sBool) (List._∷_ (10, Rows.any-gone Syntax.tyUnit) (List._∷_ (11, Rows.any-gone (Syntax.tyRef Syntax.erased Syntax.mut Cell.behind)) (List._∷_ (12, Rows.any-gone (Syntax.tyStruct (List._∷_ 38 (List._∷_ 91 (List._∷_ 93 List.[]))) (Syntax.tcons (Syntax.tyRef Syntax.erased Syntax.mut Cell.behind) (Syntax.tcons (Syntax.tyInt Syntax.w64) Syntax.tnil)))) (List._∷_ (13, Rows.any-gone (Syntax.tyRef Syntax.erased Syntax.mut Cell.behind)) (List._∷_ (14, Rows.any-gone (Syntax.tyStruct (List._∷_ 38 (List._∷_ 91 (List._∷_ 93 List.[]))) (Syntax.tcons (Syntax.tyRef Syntax.erased Syntax.mut Cell.behind) (Syntax.tcons (Syntax.tyInt Syntax.w64) Syntax.tnil)))) (List._∷_ (15, Rows.any-gone (Syntax.tyInt Syntax.w64)) List.[])))))))))))))))
+t4 = List._∷_ local0 (List._∷_ local1 (List._∷_ local2 (List._∷_ local3 (List._∷_ local4 (List._∷_ local5 (List._∷_ local6 (List._∷_ local12 (List._∷_ (8, Rows.any-gone ty0) (List._∷_ (9, Rows.sc-here Row.sBool) locals2)))))))))
 
 abbrev pub t5 : List.List Row.Entry
-t5 = List._∷_ (0, Rows.any-gone Syntax.tyUnit) (List._∷_ (1, Rows.sslice (Referent.rtF (Referent.fInt Syntax.w32)) (Syntax.tyRef (Syntax.named 0) Syntax.imm (Syntax.tyInt Syntax.w32)) 0) (List._∷_ (2, Rows.sc-here (Row.sInt Syntax.w64)) (List._∷_ (3, Rows.sc-here (Row.sInt Syntax.w64)) (List._∷_ (4, Rows.sc-here (Row.sInt Syntax.w64)) (List._∷_ (5, Mut.mslice Cell.R (Syntax.tyRef (Syntax.named 1) Syntax.mut Cell.behind) 1) (List._∷_ (6, Mut.mslice Cell.R (Syntax.tyRef (Syntax.named 2) Syntax.mut Cell.behind) 2) (List._∷_ (7, Rows.sc-here (Row.sInt Syntax.w64)) (List._∷_ (8, Rows.sc-here (Row.sInt Syntax.w64)) (List._∷_ (9, Rows.any-gone Syntax.tyBool) (List._∷_ (10, Rows.any-gone Syntax.tyUnit) (List._∷_ (11, Rows.any-gone (Syntax.tyRef Syntax.erased Syntax.mut Cell.behind)) (List._∷_ (12, Rows.any-gone (Syntax.tyStruct (List._∷_ 38 (List._∷_ 91 (List._∷_ 93 List.[]))) (Syntax.tcons (Syntax.tyRef Syntax.erased Syntax.mut Cell.behind) (Syntax.tcons (Syntax.tyInt Syntax.w64) Syntax.tnil)))) (List._∷_ (13, Rows.any-gone (Syntax.tyRef Syntax.erased Syntax.mut Cell.behind)) (List._∷_ (14, Rows.any-gone (Syntax.tyStruct (List._∷_ 38 (List._∷_ 91 (List._∷_ 93 List.[]))) (Syntax.tcons (Syntax.tyRef Syntax.erased Syntax.mut Cell.behind) (Syntax.tcons (Syntax.tyInt Syntax.w64) Syntax.tnil)))) (List._∷_ (15, Rows.any-gone (Syntax.tyInt Syntax.w64)) List.[])))))))))))))))
+t5 = List._∷_ local0 (List._∷_ local1 (List._∷_ local2 (List._∷_ local3 (List._∷_ local4 (List._∷_ local5 (List._∷_ local6 (List._∷_ local12 (List._∷_ local13 (List._∷_ local7 locals2)))))))))
 
 abbrev pub t6 : List.List Row.Entry
-t6 = List._∷_ (0, Rows.any-gone Syntax.tyUnit) (List._∷_ (1, Rows.sslice (Referent.rtF (Referent.fInt Syntax.w32)) (Syntax.tyRef (Syntax.named 0) Syntax.imm (Syntax.tyInt Syntax.w32)) 0) (List._∷_ (2, Rows.sc-here (Row.sInt Syntax.w64)) (List._∷_ (3, Rows.sc-here (Row.sInt Syntax.w64)) (List._∷_ (4, Rows.sc-here (Row.sInt Syntax.w64)) (List._∷_ (5, Mut.mslice Cell.R (Syntax.tyRef (Syntax.named 1) Syntax.mut Cell.behind) 1) (List._∷_ (6, Mut.mslice Cell.R (Syntax.tyRef (Syntax.named 2) Syntax.mut Cell.behind) 2) (List._∷_ (7, Rows.sc-here (Row.sInt Syntax.w64)) (List._∷_ (8, Rows.sc-here (Row.sInt Syntax.w64)) (List._∷_ (9, Rows.sc-here Row.sBool) (List._∷_ (10, Rows.any-gone Syntax.tyUnit) (List._∷_ (11, Rows.any-gone (Syntax.tyRef Syntax.erased Syntax.mut Cell.behind)) (List._∷_ (12, Rows.any-gone (Syntax.tyStruct (List._∷_ 38 (List._∷_ 91 (List._∷_ 93 List.[]))) (Syntax.tcons (Syntax.tyRef Syntax.erased Syntax.mut Cell.behind) (Syntax.tcons (Syntax.tyInt Syntax.w64) Syntax.tnil)))) (List._∷_ (13, Rows.any-gone (Syntax.tyRef Syntax.erased Syntax.mut Cell.behind)) (List._∷_ (14, Rows.any-gone (Syntax.tyStruct (List._∷_ 38 (List._∷_ 91 (List._∷_ 93 List.[]))) (Syntax.tcons (Syntax.tyRef Syntax.erased Syntax.mut Cell.behind) (Syntax.tcons (Syntax.tyInt Syntax.w64) Syntax.tnil)))) (List._∷_ (15, Rows.any-gone (Syntax.tyInt Syntax.w64)) List.[])))))))))))))))
+t6 = List._∷_ local0 (List._∷_ local1 (List._∷_ local2 (List._∷_ local3 (List._∷_ local4 (List._∷_ local5 (List._∷_ local6 (List._∷_ local12 (List._∷_ local13 (List._∷_ (9, Rows.sc-here Row.sBool) locals2)))))))))
 
 abbrev pub t7 : List.List Row.Entry
-t7 = List._∷_ (0, Rows.any-gone Syntax.tyUnit) (List._∷_ (1, Rows.sslice (Referent.rtF (Referent.fInt Syntax.w32)) (Syntax.tyRef (Syntax.named 0) Syntax.imm (Syntax.tyInt Syntax.w32)) 0) (List._∷_ (2, Rows.sc-here (Row.sInt Syntax.w64)) (List._∷_ (3, Rows.sc-here (Row.sInt Syntax.w64)) (List._∷_ (4, Rows.sc-here (Row.sInt Syntax.w64)) (List._∷_ (5, Relend.mslice-owed Cell.R (Syntax.tyRef (Syntax.named 1) Syntax.mut Cell.behind) 1 3 Row.off) (List._∷_ (6, Mut.mslice Cell.R (Syntax.tyRef (Syntax.named 2) Syntax.mut Cell.behind) 2) (List._∷_ (7, Rows.sc-here (Row.sInt Syntax.w64)) (List._∷_ (8, Rows.sc-here (Row.sInt Syntax.w64)) (List._∷_ (9, Rows.any-gone Syntax.tyBool) (List._∷_ (10, Rows.any-gone Syntax.tyUnit) (List._∷_ (11, Relend.msptr Cell.R (Syntax.tyRef Syntax.erased Syntax.mut Cell.behind) 3) (List._∷_ (12, Rows.any-gone (Syntax.tyStruct (List._∷_ 38 (List._∷_ 91 (List._∷_ 93 List.[]))) (Syntax.tcons (Syntax.tyRef Syntax.erased Syntax.mut Cell.behind) (Syntax.tcons (Syntax.tyInt Syntax.w64) Syntax.tnil)))) (List._∷_ (13, Rows.any-gone (Syntax.tyRef Syntax.erased Syntax.mut Cell.behind)) (List._∷_ (14, Rows.any-gone (Syntax.tyStruct (List._∷_ 38 (List._∷_ 91 (List._∷_ 93 List.[]))) (Syntax.tcons (Syntax.tyRef Syntax.erased Syntax.mut Cell.behind) (Syntax.tcons (Syntax.tyInt Syntax.w64) Syntax.tnil)))) (List._∷_ (15, Rows.any-gone (Syntax.tyInt Syntax.w64)) List.[])))))))))))))))
+t7 = List._∷_ local0 (List._∷_ local1 (List._∷_ local2 (List._∷_ local3 (List._∷_ local4 (List._∷_ local14 locals7)))))
 
 abbrev pub t8 : List.List Row.Entry
-t8 = List._∷_ (0, Rows.any-gone Syntax.tyUnit) (List._∷_ (1, Rows.sslice (Referent.rtF (Referent.fInt Syntax.w32)) (Syntax.tyRef (Syntax.named 0) Syntax.imm (Syntax.tyInt Syntax.w32)) 0) (List._∷_ (2, Rows.sc-here (Row.sInt Syntax.w64)) (List._∷_ (3, Rows.sc-here (Row.sInt Syntax.w64)) (List._∷_ (4, Rows.sc-here (Row.sInt Syntax.w64)) (List._∷_ (5, Relend.mslice-owed Cell.R (Syntax.tyRef (Syntax.named 1) Syntax.mut Cell.behind) 1 3 Row.off) (List._∷_ (6, Mut.mslice Cell.R (Syntax.tyRef (Syntax.named 2) Syntax.mut Cell.behind) 2) (List._∷_ (7, Rows.sc-here (Row.sInt Syntax.w64)) (List._∷_ (8, Rows.sc-here (Row.sInt Syntax.w64)) (List._∷_ (9, Rows.any-gone Syntax.tyBool) (List._∷_ (10, Rows.any-gone Syntax.tyUnit) (List._∷_ (11, Rows.any-gone (Syntax.tyRef Syntax.erased Syntax.mut Cell.behind)) (List._∷_ (12, Mut.mslice Cell.R (Syntax.tyRef Syntax.erased Syntax.mut Cell.behind) 3) (List._∷_ (13, Rows.any-gone (Syntax.tyRef Syntax.erased Syntax.mut Cell.behind)) (List._∷_ (14, Rows.any-gone (Syntax.tyStruct (List._∷_ 38 (List._∷_ 91 (List._∷_ 93 List.[]))) (Syntax.tcons (Syntax.tyRef Syntax.erased Syntax.mut Cell.behind) (Syntax.tcons (Syntax.tyInt Syntax.w64) Syntax.tnil)))) (List._∷_ (15, Rows.any-gone (Syntax.tyInt Syntax.w64)) List.[])))))))))))))))
+t8 = List._∷_ local0 (List._∷_ local1 (List._∷_ local2 (List._∷_ local3 (List._∷_ local4 (List._∷_ local14 locals8)))))
 
 abbrev pub t9 : List.List Row.Entry
-t9 = List._∷_ (0, Rows.any-gone Syntax.tyUnit) (List._∷_ (1, Rows.sslice (Referent.rtF (Referent.fInt Syntax.w32)) (Syntax.tyRef (Syntax.named 0) Syntax.imm (Syntax.tyInt Syntax.w32)) 0) (List._∷_ (2, Rows.sc-here (Row.sInt Syntax.w64)) (List._∷_ (3, Rows.sc-here (Row.sInt Syntax.w64)) (List._∷_ (4, Rows.sc-here (Row.sInt Syntax.w64)) (List._∷_ (5, Relend.mslice-owed Cell.R (Syntax.tyRef (Syntax.named 1) Syntax.mut Cell.behind) 1 3 Row.off) (List._∷_ (6, Relend.mslice-owed Cell.R (Syntax.tyRef (Syntax.named 2) Syntax.mut Cell.behind) 2 4 Row.off) (List._∷_ (7, Rows.sc-here (Row.sInt Syntax.w64)) (List._∷_ (8, Rows.sc-here (Row.sInt Syntax.w64)) (List._∷_ (9, Rows.any-gone Syntax.tyBool) (List._∷_ (10, Rows.any-gone Syntax.tyUnit) (List._∷_ (11, Rows.any-gone (Syntax.tyRef Syntax.erased Syntax.mut Cell.behind)) (List._∷_ (12, Mut.mslice Cell.R (Syntax.tyRef Syntax.erased Syntax.mut Cell.behind) 3) (List._∷_ (13, Relend.msptr Cell.R (Syntax.tyRef Syntax.erased Syntax.mut Cell.behind) 4) (List._∷_ (14, Rows.any-gone (Syntax.tyStruct (List._∷_ 38 (List._∷_ 91 (List._∷_ 93 List.[]))) (Syntax.tcons (Syntax.tyRef Syntax.erased Syntax.mut Cell.behind) (Syntax.tcons (Syntax.tyInt Syntax.w64) Syntax.tnil)))) (List._∷_ (15, Rows.any-gone (Syntax.tyInt Syntax.w64)) List.[])))))))))))))))
+t9 = List._∷_ local0 (List._∷_ local1 (List._∷_ local2 (List._∷_ local3 (List._∷_ local4 (List._∷_ local14 (List._∷_ local16 locals9))))))
 
 abbrev pub t10 : List.List Row.Entry
-t10 = List._∷_ (0, Rows.any-gone Syntax.tyUnit) (List._∷_ (1, Rows.sslice (Referent.rtF (Referent.fInt Syntax.w32)) (Syntax.tyRef (Syntax.named 0) Syntax.imm (Syntax.tyInt Syntax.w32)) 0) (List._∷_ (2, Rows.sc-here (Row.sInt Syntax.w64)) (List._∷_ (3, Rows.sc-here (Row.sInt Syntax.w64)) (List._∷_ (4, Rows.sc-here (Row.sInt Syntax.w64)) (List._∷_ (5, Relend.mslice-owed Cell.R (Syntax.tyRef (Syntax.named 1) Syntax.mut Cell.behind) 1 3 Row.off) (List._∷_ (6, Relend.mslice-owed Cell.R (Syntax.tyRef (Syntax.named 2) Syntax.mut Cell.behind) 2 4 Row.off) (List._∷_ (7, Rows.sc-here (Row.sInt Syntax.w64)) (List._∷_ (8, Rows.sc-here (Row.sInt Syntax.w64)) (List._∷_ (9, Rows.any-gone Syntax.tyBool) (List._∷_ (10, Rows.any-gone Syntax.tyUnit) (List._∷_ (11, Rows.any-gone (Syntax.tyRef Syntax.erased Syntax.mut Cell.behind)) (List._∷_ (12, Mut.mslice Cell.R (Syntax.tyRef Syntax.erased Syntax.mut Cell.behind) 3) (List._∷_ (13, Rows.any-gone (Syntax.tyRef Syntax.erased Syntax.mut Cell.behind)) (List._∷_ (14, Mut.mslice Cell.R (Syntax.tyRef Syntax.erased Syntax.mut Cell.behind) 4) (List._∷_ (15, Rows.any-gone (Syntax.tyInt Syntax.w64)) List.[])))))))))))))))
+t10 = List._∷_ local0 (List._∷_ local1 (List._∷_ local2 (List._∷_ local3 (List._∷_ local4 (List._∷_ local14 (List._∷_ local16 locals10))))))
 
 abbrev pub t11 : List.List Row.Entry
-t11 = List._∷_ (0, Rows.any-gone Syntax.tyUnit) (List._∷_ (1, Rows.sslice (Referent.rtF (Referent.fInt Syntax.w32)) (Syntax.tyRef (Syntax.named 0) Syntax.imm (Syntax.tyInt Syntax.w32)) 0) (List._∷_ (2, Rows.sc-here (Row.sInt Syntax.w64)) (List._∷_ (3, Rows.sc-here (Row.sInt Syntax.w64)) (List._∷_ (4, Rows.sc-here (Row.sInt Syntax.w64)) (List._∷_ (5, Relend.mslice-owed Cell.R (Syntax.tyRef (Syntax.named 1) Syntax.mut Cell.behind) 1 3 Row.off) (List._∷_ (6, Relend.mslice-owed Cell.R (Syntax.tyRef (Syntax.named 2) Syntax.mut Cell.behind) 2 4 Row.off) (List._∷_ (7, Rows.sc-here (Row.sInt Syntax.w64)) (List._∷_ (8, Rows.sc-here (Row.sInt Syntax.w64)) (List._∷_ (9, Rows.any-gone Syntax.tyBool) (List._∷_ (10, Rows.any-gone Syntax.tyUnit) (List._∷_ (11, Rows.any-gone (Syntax.tyRef Syntax.erased Syntax.mut Cell.behind)) (List._∷_ (12, Mut.mslice Cell.R (Syntax.tyRef Syntax.erased Syntax.mut Cell.behind) 3) (List._∷_ (13, Rows.any-gone (Syntax.tyRef Syntax.erased Syntax.mut Cell.behind)) (List._∷_ (14, Mut.mslice Cell.R (Syntax.tyRef Syntax.erased Syntax.mut Cell.behind) 4) (List._∷_ (15, Rows.sc-here (Row.sInt Syntax.w64)) List.[])))))))))))))))
+t11 = List._∷_ local0 (List._∷_ local1 (List._∷_ local2 (List._∷_ local3 (List._∷_ local4 (List._∷_ local14 (List._∷_ local16 locals11))))))
 
 abbrev pub t12 : List.List Row.Entry
-t12 = List._∷_ (16, Rows.sc-here (Row.sInt Syntax.w64)) List.[]
+t12 = List._∷_ (16, Rows.sc-here sc0) List.[]
 
 abbrev pub t13 : List.List Row.Entry
-t13 = List._∷_ (0, Rows.any-gone Syntax.tyUnit) (List._∷_ (1, Rows.sslice (Referent.rtF (Referent.fInt Syntax.w32)) (Syntax.tyRef (Syntax.named 0) Syntax.imm (Syntax.tyInt Syntax.w32)) 0) (List._∷_ (2, Rows.sc-here (Row.sInt Syntax.w64)) (List._∷_ (3, Rows.sc-here (Row.sInt Syntax.w64)) (List._∷_ (4, Rows.sc-here (Row.sInt Syntax.w64)) (List._∷_ (5, Relend.mslice-owed Cell.R (Syntax.tyRef (Syntax.named 1) Syntax.mut Cell.behind) 1 3 Row.off) (List._∷_ (6, Relend.mslice-owed Cell.R (Syntax.tyRef (Syntax.named 2) Syntax.mut Cell.behind) 2 4 Row.off) (List._∷_ (7, Rows.sc-here (Row.sInt Syntax.w64)) (List._∷_ (8, Rows.sc-here (Row.sInt Syntax.w64)) (List._∷_ (9, Rows.any-gone Syntax.tyBool) (List._∷_ (10, Rows.sc-here Row.sUnit) (List._∷_ (11, Rows.any-gone (Syntax.tyRef Syntax.erased Syntax.mut Cell.behind)) (List._∷_ (12, Mut.msleft Cell.R (Syntax.tyRef Syntax.erased Syntax.mut Cell.behind)) (List._∷_ (13, Rows.any-gone (Syntax.tyRef Syntax.erased Syntax.mut Cell.behind)) (List._∷_ (14, Mut.msleft Cell.R (Syntax.tyRef Syntax.erased Syntax.mut Cell.behind)) (List._∷_ (15, Rows.sc-here (Row.sInt Syntax.w64)) List.[])))))))))))))))
+t13 = List._∷_ local0 (List._∷_ local1 (List._∷_ local2 (List._∷_ local3 (List._∷_ local4 (List._∷_ local14 (List._∷_ local16 locals13))))))
 
 abbrev pub t14 : List.List Row.Entry
-t14 = List._∷_ (0, Rows.any-gone Syntax.tyUnit) (List._∷_ (1, Rows.sslice (Referent.rtF (Referent.fInt Syntax.w32)) (Syntax.tyRef (Syntax.named 0) Syntax.imm (Syntax.tyInt Syntax.w32)) 0) (List._∷_ (2, Rows.sc-here (Row.sInt Syntax.w64)) (List._∷_ (3, Rows.sc-here (Row.sInt Syntax.w64)) (List._∷_ (4, Rows.sc-here (Row.sInt Syntax.w64)) (List._∷_ (5, Relend.mslice-owed Cell.R (Syntax.tyRef (Syntax.named 1) Syntax.mut Cell.behind) 1 3 Row.off) (List._∷_ (6, Relend.mslice-owed Cell.R (Syntax.tyRef (Syntax.named 2) Syntax.mut Cell.behind) 2 4 Row.off) (List._∷_ (7, Rows.sc-here (Row.sInt Syntax.w64)) (List._∷_ (8, Rows.sc-here (Row.sInt Syntax.w64)) (List._∷_ (9, Rows.any-gone Syntax.tyBool) (List._∷_ (10, Rows.any-gone Syntax.tyUnit) (List._∷_ (11, Rows.any-gone (Syntax.tyRef Syntax.erased Syntax.mut Cell.behind)) (List._∷_ (12, Mut.msleft Cell.R (Syntax.tyRef Syntax.erased Syntax.mut Cell.behind)) (List._∷_ (13, Rows.any-gone (Syntax.tyRef Syntax.erased Syntax.mut Cell.behind)) (List._∷_ (14, Mut.msleft Cell.R (Syntax.tyRef Syntax.erased Syntax.mut Cell.behind)) (List._∷_ (15, Rows.sc-here (Row.sInt Syntax.w64)) List.[])))))))))))))))
+t14 = List._∷_ local0 (List._∷_ local1 (List._∷_ local2 (List._∷_ local3 (List._∷_ local4 (List._∷_ local14 (List._∷_ local16 locals14))))))
 
 abbrev pub t15 : List.List Row.Entry
-t15 = List._∷_ (0, Rows.any-gone Syntax.tyUnit) (List._∷_ (1, Rows.sslice (Referent.rtF (Referent.fInt Syntax.w32)) (Syntax.tyRef (Syntax.named 0) Syntax.imm (Syntax.tyInt Syntax.w32)) 0) (List._∷_ (2, Rows.sc-here (Row.sInt Syntax.w64)) (List._∷_ (3, Rows.sc-here (Row.sInt Syntax.w64)) (List._∷_ (4, Rows.sc-here (Row.sInt Syntax.w64)) (List._∷_ (5, Relend.mslice-owed Cell.R (Syntax.tyRef (Syntax.named 1) Syntax.mut Cell.behind) 1 3 Row.off) (List._∷_ (6, Relend.mslice-owed Cell.R (Syntax.tyRef (Syntax.named 2) Syntax.mut Cell.behind) 2 4 Row.off) (List._∷_ (7, Rows.sc-here (Row.sInt Syntax.w64)) (List._∷_ (8, Rows.sc-here (Row.sInt Syntax.w64)) (List._∷_ (9, Rows.any-gone Syntax.tyBool) (List._∷_ (10, Rows.any-gone Syntax.tyUnit) (List._∷_ (11, Rows.any-gone (Syntax.tyRef Syntax.erased Syntax.mut Cell.behind)) (List._∷_ (12, Mut.msleft Cell.R (Syntax.tyRef Syntax.erased Syntax.mut Cell.behind)) (List._∷_ (13, Rows.any-gone (Syntax.tyRef Syntax.erased Syntax.mut Cell.behind)) (List._∷_ (14, Mut.msleft Cell.R (Syntax.tyRef Syntax.erased Syntax.mut Cell.behind)) (List._∷_ (15, Rows.any-gone (Syntax.tyInt Syntax.w64)) List.[])))))))))))))))
+t15 = List._∷_ local0 (List._∷_ local1 (List._∷_ local2 (List._∷_ local3 (List._∷_ local4 (List._∷_ local14 (List._∷_ local16 locals16))))))
 
 abbrev pub t16 : List.List Row.Entry
-t16 = List._∷_ (0, Rows.any-gone Syntax.tyUnit) (List._∷_ (1, Rows.sslice (Referent.rtF (Referent.fInt Syntax.w32)) (Syntax.tyRef (Syntax.named 0) Syntax.imm (Syntax.tyInt Syntax.w32)) 0) (List._∷_ (2, Rows.sc-here (Row.sInt Syntax.w64)) (List._∷_ (3, Rows.sc-here (Row.sInt Syntax.w64)) (List._∷_ (4, Rows.sc-here (Row.sInt Syntax.w64)) (List._∷_ (5, Mut.mslice Cell.R (Syntax.tyRef (Syntax.named 1) Syntax.mut Cell.behind) 1) (List._∷_ (6, Relend.mslice-owed Cell.R (Syntax.tyRef (Syntax.named 2) Syntax.mut Cell.behind) 2 4 Row.off) (List._∷_ (7, Rows.sc-here (Row.sInt Syntax.w64)) (List._∷_ (8, Rows.sc-here (Row.sInt Syntax.w64)) (List._∷_ (9, Rows.any-gone Syntax.tyBool) (List._∷_ (10, Rows.any-gone Syntax.tyUnit) (List._∷_ (11, Rows.any-gone (Syntax.tyRef Syntax.erased Syntax.mut Cell.behind)) (List._∷_ (12, Rows.any-gone (Syntax.tyStruct (List._∷_ 38 (List._∷_ 91 (List._∷_ 93 List.[]))) (Syntax.tcons (Syntax.tyRef Syntax.erased Syntax.mut Cell.behind) (Syntax.tcons (Syntax.tyInt Syntax.w64) Syntax.tnil)))) (List._∷_ (13, Rows.any-gone (Syntax.tyRef Syntax.erased Syntax.mut Cell.behind)) (List._∷_ (14, Mut.msleft Cell.R (Syntax.tyRef Syntax.erased Syntax.mut Cell.behind)) (List._∷_ (15, Rows.any-gone (Syntax.tyInt Syntax.w64)) List.[])))))))))))))))
+t16 = List._∷_ local0 (List._∷_ local1 (List._∷_ local2 (List._∷_ local3 (List._∷_ local4 (List._∷_ local5 (List._∷_ local16 locals17))))))
 
 abbrev pub t17 : List.List Row.Entry
-t17 = List._∷_ (0, Rows.sc-here Row.sUnit) (List._∷_ (1, Rows.sslice (Referent.rtF (Referent.fInt Syntax.w32)) (Syntax.tyRef (Syntax.named 0) Syntax.imm (Syntax.tyInt Syntax.w32)) 0) (List._∷_ (2, Rows.sc-here (Row.sInt Syntax.w64)) (List._∷_ (3, Rows.sc-here (Row.sInt Syntax.w64)) (List._∷_ (4, Rows.sc-here (Row.sInt Syntax.w64)) (List._∷_ (5, Mut.mslice Cell.R (Syntax.tyRef (Syntax.named 1) Syntax.mut Cell.behind) 1) (List._∷_ (6, Mut.mslice Cell.R (Syntax.tyRef (Syntax.named 2) Syntax.mut Cell.behind) 2) (List._∷_ (7, Rows.sc-here (Row.sInt Syntax.w64)) (List._∷_ (8, Rows.any-gone (Syntax.tyInt Syntax.w64)) (List._∷_ (9, Rows.any-gone Syntax.tyBool) (List._∷_ (10, Rows.any-gone Syntax.tyUnit) (List._∷_ (11, Rows.any-gone (Syntax.tyRef Syntax.erased Syntax.mut Cell.behind)) (List._∷_ (12, Rows.any-gone (Syntax.tyStruct (List._∷_ 38 (List._∷_ 91 (List._∷_ 93 List.[]))) (Syntax.tcons (Syntax.tyRef Syntax.erased Syntax.mut Cell.behind) (Syntax.tcons (Syntax.tyInt Syntax.w64) Syntax.tnil)))) (List._∷_ (13, Rows.any-gone (Syntax.tyRef Syntax.erased Syntax.mut Cell.behind)) (List._∷_ (14, Rows.any-gone (Syntax.tyStruct (List._∷_ 38 (List._∷_ 91 (List._∷_ 93 List.[]))) (Syntax.tcons (Syntax.tyRef Syntax.erased Syntax.mut Cell.behind) (Syntax.tcons (Syntax.tyInt Syntax.w64) Syntax.tnil)))) (List._∷_ (15, Rows.any-gone (Syntax.tyInt Syntax.w64)) List.[])))))))))))))))
+t17 = List._∷_ local11 locals6
 
 abbrev pub t18 : List.List Row.Entry
-t18 = List._∷_ (0, Rows.sc-here Row.sUnit) (List._∷_ (1, Rows.sslice (Referent.rtF (Referent.fInt Syntax.w32)) (Syntax.tyRef (Syntax.named 0) Syntax.imm (Syntax.tyInt Syntax.w32)) 0) (List._∷_ (2, Rows.sc-here (Row.sInt Syntax.w64)) (List._∷_ (3, Rows.sc-here (Row.sInt Syntax.w64)) (List._∷_ (4, Rows.sc-here (Row.sInt Syntax.w64)) (List._∷_ (5, Mut.mslice Cell.R (Syntax.tyRef (Syntax.named 1) Syntax.mut Cell.behind) 1) (List._∷_ (6, Mut.mslice Cell.R (Syntax.tyRef (Syntax.named 2) Syntax.mut Cell.behind) 2) (List._∷_ (7, Rows.any-gone (Syntax.tyInt Syntax.w64)) (List._∷_ (8, Rows.any-gone (Syntax.tyInt Syntax.w64)) (List._∷_ (9, Rows.any-gone Syntax.tyBool) (List._∷_ (10, Rows.any-gone Syntax.tyUnit) (List._∷_ (11, Rows.any-gone (Syntax.tyRef Syntax.erased Syntax.mut Cell.behind)) (List._∷_ (12, Rows.any-gone (Syntax.tyStruct (List._∷_ 38 (List._∷_ 91 (List._∷_ 93 List.[]))) (Syntax.tcons (Syntax.tyRef Syntax.erased Syntax.mut Cell.behind) (Syntax.tcons (Syntax.tyInt Syntax.w64) Syntax.tnil)))) (List._∷_ (13, Rows.any-gone (Syntax.tyRef Syntax.erased Syntax.mut Cell.behind)) (List._∷_ (14, Rows.any-gone (Syntax.tyStruct (List._∷_ 38 (List._∷_ 91 (List._∷_ 93 List.[]))) (Syntax.tcons (Syntax.tyRef Syntax.erased Syntax.mut Cell.behind) (Syntax.tcons (Syntax.tyInt Syntax.w64) Syntax.tnil)))) (List._∷_ (15, Rows.any-gone (Syntax.tyInt Syntax.w64)) List.[])))))))))))))))
+t18 = List._∷_ local11 locals5
 
 abbrev pub t19 : List.List Row.Entry
-t19 = List._∷_ (0, Rows.sc-here Row.sUnit) (List._∷_ (1, Rows.sslice (Referent.rtF (Referent.fInt Syntax.w32)) (Syntax.tyRef (Syntax.named 0) Syntax.imm (Syntax.tyInt Syntax.w32)) 0) (List._∷_ (2, Rows.any-gone (Syntax.tyInt Syntax.w64)) (List._∷_ (3, Rows.sc-here (Row.sInt Syntax.w64)) (List._∷_ (4, Rows.sc-here (Row.sInt Syntax.w64)) (List._∷_ (5, Mut.mslice Cell.R (Syntax.tyRef (Syntax.named 1) Syntax.mut Cell.behind) 1) (List._∷_ (6, Mut.mslice Cell.R (Syntax.tyRef (Syntax.named 2) Syntax.mut Cell.behind) 2) (List._∷_ (7, Rows.any-gone (Syntax.tyInt Syntax.w64)) (List._∷_ (8, Rows.any-gone (Syntax.tyInt Syntax.w64)) (List._∷_ (9, Rows.any-gone Syntax.tyBool) (List._∷_ (10, Rows.any-gone Syntax.tyUnit) (List._∷_ (11, Rows.any-gone (Syntax.tyRef Syntax.erased Syntax.mut Cell.behind)) (List._∷_ (12, Rows.any-gone (Syntax.tyStruct (List._∷_ 38 (List._∷_ 91 (List._∷_ 93 List.[]))) (Syntax.tcons (Syntax.tyRef Syntax.erased Syntax.mut Cell.behind) (Syntax.tcons (Syntax.tyInt Syntax.w64) Syntax.tnil)))) (List._∷_ (13, Rows.any-gone (Syntax.tyRef Syntax.erased Syntax.mut Cell.behind)) (List._∷_ (14, Rows.any-gone (Syntax.tyStruct (List._∷_ 38 (List._∷_ 91 (List._∷_ 93 List.[]))) (Syntax.tcons (Syntax.tyRef Syntax.erased Syntax.mut Cell.behind) (Syntax.tcons (Syntax.tyInt Syntax.w64) Syntax.tnil)))) (List._∷_ (15, Rows.any-gone (Syntax.tyInt Syntax.w64)) List.[])))))))))))))))
+t19 = List._∷_ local11 (List._∷_ local1 (List._∷_ (2, Rows.any-gone ty0) (List._∷_ local3 (List._∷_ local4 locals4))))
 
 abbrev pub t20 : List.List Row.Entry
-t20 = List._∷_ (0, Rows.sc-here Row.sUnit) (List._∷_ (1, Rows.sslice (Referent.rtF (Referent.fInt Syntax.w32)) (Syntax.tyRef (Syntax.named 0) Syntax.imm (Syntax.tyInt Syntax.w32)) 0) (List._∷_ (2, Rows.any-gone (Syntax.tyInt Syntax.w64)) (List._∷_ (3, Rows.any-gone (Syntax.tyInt Syntax.w64)) (List._∷_ (4, Rows.sc-here (Row.sInt Syntax.w64)) (List._∷_ (5, Mut.mslice Cell.R (Syntax.tyRef (Syntax.named 1) Syntax.mut Cell.behind) 1) (List._∷_ (6, Mut.mslice Cell.R (Syntax.tyRef (Syntax.named 2) Syntax.mut Cell.behind) 2) (List._∷_ (7, Rows.any-gone (Syntax.tyInt Syntax.w64)) (List._∷_ (8, Rows.any-gone (Syntax.tyInt Syntax.w64)) (List._∷_ (9, Rows.any-gone Syntax.tyBool) (List._∷_ (10, Rows.any-gone Syntax.tyUnit) (List._∷_ (11, Rows.any-gone (Syntax.tyRef Syntax.erased Syntax.mut Cell.behind)) (List._∷_ (12, Rows.any-gone (Syntax.tyStruct (List._∷_ 38 (List._∷_ 91 (List._∷_ 93 List.[]))) (Syntax.tcons (Syntax.tyRef Syntax.erased Syntax.mut Cell.behind) (Syntax.tcons (Syntax.tyInt Syntax.w64) Syntax.tnil)))) (List._∷_ (13, Rows.any-gone (Syntax.tyRef Syntax.erased Syntax.mut Cell.behind)) (List._∷_ (14, Rows.any-gone (Syntax.tyStruct (List._∷_ 38 (List._∷_ 91 (List._∷_ 93 List.[]))) (Syntax.tcons (Syntax.tyRef Syntax.erased Syntax.mut Cell.behind) (Syntax.tcons (Syntax.tyInt Syntax.w64) Syntax.tnil)))) (List._∷_ (15, Rows.any-gone (Syntax.tyInt Syntax.w64)) List.[])))))))))))))))
+t20 = List._∷_ local11 (List._∷_ local1 (List._∷_ (2, Rows.any-gone ty0) (List._∷_ (3, Rows.any-gone ty0) (List._∷_ local4 locals4))))
 
 abbrev pub T0 : Row.Cx
 T0 = record { locals = List._++_ t0 t1; slots = List.[] }
@@ -359,20 +519,20 @@ abbrev pub O4 : Typed.Outs
 O4 = Typed.withNext (Option.some T6) O3
 
 abbrev pub InvT-loop : Type 1
-InvT-loop = List.List (Referent.rtF (Referent.fInt Syntax.w32) .Denot) → Rows.sc-here (Row.sInt Syntax.w64) .Mod → Rows.sc-here (Row.sInt Syntax.w64) .Mod → Rows.sc-here (Row.sInt Syntax.w64) .Mod → List.List (Cell.R .Denot) → List.List (Cell.R .Denot) → Rows.sc-here (Row.sInt Syntax.w64) .Mod → List.List (Cell.R .Denot) → List.List (Cell.R .Denot) → Rows.sc-here (Row.sInt Syntax.w64) .Mod → Type 0
+InvT-loop = List.List (Referent.rtF rf0 .Denot) → Rows.sc-here sc0 .Mod → Rows.sc-here sc0 .Mod → Rows.sc-here sc0 .Mod → List.List (Cell.R .Denot) → List.List (Cell.R .Denot) → Rows.sc-here sc0 .Mod → List.List (Cell.R .Denot) → List.List (Cell.R .Denot) → Rows.sc-here sc0 .Mod → Type 0
 
 abbrev pub MeasureT-loop : Type 0
-MeasureT-loop = List.List (Referent.rtF (Referent.fInt Syntax.w32) .Denot) → Rows.sc-here (Row.sInt Syntax.w64) .Mod → Rows.sc-here (Row.sInt Syntax.w64) .Mod → Rows.sc-here (Row.sInt Syntax.w64) .Mod → List.List (Cell.R .Denot) → List.List (Cell.R .Denot) → Rows.sc-here (Row.sInt Syntax.w64) .Mod → List.List (Cell.R .Denot) → List.List (Cell.R .Denot) → Rows.sc-here (Row.sInt Syntax.w64) .Mod → Nat.ℕ
+MeasureT-loop = List.List (Referent.rtF rf0 .Denot) → Rows.sc-here sc0 .Mod → Rows.sc-here sc0 .Mod → Rows.sc-here sc0 .Mod → List.List (Cell.R .Denot) → List.List (Cell.R .Denot) → Rows.sc-here sc0 .Mod → List.List (Cell.R .Denot) → List.List (Cell.R .Denot) → Rows.sc-here sc0 .Mod → Nat.ℕ
 
 module _ (claims· : Claims) where
   abbrev s0 : Typed.Gives T0 T2
-  s0 = Know.k-shs-known (Referent.fInt Syntax.w32) T0 1 0 (Syntax.tyRef (Syntax.named 0) Syntax.imm (Syntax.tyInt Syntax.w32)) Row.off 0 λ x. x
+  s0 = Know.k-shs-known rf0 T0 1 0 ty4 Row.off 0 λ x. x
 
   abbrev s1 : Typed.Mo T2 → Typed.Mo T3
-  s1 = Scalar.n-use T2 (Scalar.oAt 3 (Syntax.tyInt Syntax.w64) (Row.valS (Row.sInt Syntax.w64))) 7 (Rows.sc-here (Row.sInt Syntax.w64)) (Row.sInt Syntax.w64 .of)
+  s1 = Scalar.n-use T2 (Scalar.oAt 3 ty0 (Row.valS sc0)) 7 (Rows.sc-here sc0) (Row.sInt Syntax.w64 .of)
 
   abbrev s2 : Typed.Asks T3 T5
-  s2 = Scalar.k-op2 T3 (Syntax.lt Syntax.unsigned) (Scalar.oAt 7 (Syntax.tyInt Syntax.w64) (Row.valS (Row.sInt Syntax.w64))) (Scalar.oAt 4 (Syntax.tyInt Syntax.w64) (Row.valS (Row.sInt Syntax.w64))) 9 (Rows.sc-here Row.sBool) (Row.sBool .of)
+  s2 = Scalar.k-op2 T3 (Syntax.lt Syntax.unsigned) (Scalar.oAt 7 ty0 (Row.valS sc0)) (Scalar.oAt 4 ty0 (Row.valS sc0)) 9 (Rows.sc-here Row.sBool) (Row.sBool .of)
 
   abbrev s3 : Typed.Mo T5 → Typed.Mo T7
   s3 = Scalar.n-room T5 9 Syntax.tyBool
@@ -381,40 +541,40 @@ module _ (claims· : Claims) where
   s4 = Scalar.n-room T5 9 Syntax.tyBool
 
   abbrev s5 : Typed.Both T6 T9
-  s5 = Call.callB ps·0 r·0 (claims· .0) (claims· .1) T6 (record { pos = 1; ty = Syntax.tyRef (Syntax.named 0) Syntax.imm (Syntax.tyInt Syntax.w32); ref = λ x. x }, (Num.vAt 2 λ x. x, (Num.vAt 7 λ x. x, tt))) 8 (List._∷_ 0 List.[]) (Syntax.tyInt Syntax.w64)
+  s5 = Call.callB ps·0 r·0 (claims· .0) (claims· .1) T6 (record { pos = 1; ty = Syntax.tyRef (Syntax.named 0) Syntax.imm ty3; ref = λ x. x }, (Num.vAt 2 λ x. x, (Num.vAt 7 λ x. x, tt))) 8 (List._∷_ 0 List.[]) ty0
 
   abbrev s6 : Typed.Asks T9 T10
-  s6 = Scalar.k-op2 T9 Syntax.eq (Scalar.oAt 8 (Syntax.tyInt Syntax.w64) (Row.valS (Row.sInt Syntax.w64))) (Scalar.oInt Syntax.w64 0) 9 (Rows.sc-here Row.sBool) (Row.sBool .of)
+  s6 = Scalar.k-op2 T9 Syntax.eq (Scalar.oAt 8 ty0 (Row.valS sc0)) (Scalar.oInt Syntax.w64 0) 9 (Rows.sc-here Row.sBool) (Row.sBool .of)
 
   abbrev s7 : Typed.Mo T10 → Typed.Mo T11
   s7 = Scalar.n-room T10 9 Syntax.tyBool
 
   abbrev s8 : Typed.Asks T11 T12
-  s8 = Scalar.k-op2 T11 (Syntax.add Syntax.unsigned) (Scalar.oAt 7 (Syntax.tyInt Syntax.w64) (Row.valS (Row.sInt Syntax.w64))) (Scalar.oInt Syntax.w64 1) 7 (Rows.sc-here (Row.sInt Syntax.w64)) (Row.sInt Syntax.w64 .of)
+  s8 = Scalar.k-op2 T11 (Syntax.add Syntax.unsigned) (Scalar.oAt 7 ty0 (Row.valS sc0)) (Scalar.oInt Syntax.w64 1) 7 (Rows.sc-here sc0) (Row.sInt Syntax.w64 .of)
 
   abbrev s9 : Typed.Mo T12 → Typed.Mo T13
-  s9 = Scalar.n-room T12 8 (Syntax.tyInt Syntax.w64)
+  s9 = Scalar.n-room T12 8 ty0
 
   abbrev s10 : Typed.Mo T10 → Typed.Mo T14
   s10 = Scalar.n-room T10 9 Syntax.tyBool
 
   abbrev s12 : Typed.Gives T14 T16
-  s12 = Relend.k-sl-relend Cell.R T14 5 11 1 3 (Syntax.tyRef (Syntax.named 1) Syntax.mut Cell.behind) (Syntax.tyRef Syntax.erased Syntax.mut Cell.behind) Row.off λ x. x
+  s12 = Relend.k-sl-relend Cell.R T14 5 11 1 3 ty5 ty1 Row.off λ x. x
 
   abbrev s13 : Typed.Asks T16 T17
-  s13 = Relend.k-sl-aggregate Cell.R (Relend.asMut Cell.R) T16 11 12 3 (Syntax.tyRef Syntax.erased Syntax.mut Cell.behind) (Syntax.tyRef Syntax.erased Syntax.mut Cell.behind) (λ x. x) (Scalar.oFld 5 (List._∷_ (Syntax.field 1) List.[]) (Syntax.tyInt Syntax.w64) 8 λ v. Shared.lenV (v .0))
+  s13 = Relend.k-sl-aggregate Cell.R (Relend.asMut Cell.R) T16 11 12 3 ty1 ty1 (λ x. x) (Scalar.oFld 5 steps1 ty0 8 λ v. Shared.lenV (v .0))
 
   abbrev s15 : Typed.Gives T17 T19
-  s15 = Relend.k-sl-relend Cell.R T17 6 13 2 4 (Syntax.tyRef (Syntax.named 2) Syntax.mut Cell.behind) (Syntax.tyRef Syntax.erased Syntax.mut Cell.behind) Row.off λ x. x
+  s15 = Relend.k-sl-relend Cell.R T17 6 13 2 4 ty6 ty1 Row.off λ x. x
 
   abbrev s16 : Typed.Asks T19 T20
-  s16 = Relend.k-sl-aggregate Cell.R (Relend.asMut Cell.R) T19 13 14 4 (Syntax.tyRef Syntax.erased Syntax.mut Cell.behind) (Syntax.tyRef Syntax.erased Syntax.mut Cell.behind) (λ x. x) (Scalar.oFld 6 (List._∷_ (Syntax.field 1) List.[]) (Syntax.tyInt Syntax.w64) 8 λ v. Shared.lenV (v .0))
+  s16 = Relend.k-sl-aggregate Cell.R (Relend.asMut Cell.R) T19 13 14 4 ty1 ty1 (λ x. x) (Scalar.oFld 6 steps1 ty0 8 λ v. Shared.lenV (v .0))
 
   abbrev s17 : Typed.Asks T20 T21
-  s17 = Scalar.k-op2 T20 (Syntax.div Syntax.unsigned) (Scalar.oAt 8 (Syntax.tyInt Syntax.w64) (Row.valS (Row.sInt Syntax.w64))) (Scalar.oBig Syntax.w64 65536) 15 (Rows.sc-here (Row.sInt Syntax.w64)) (Row.sInt Syntax.w64 .of)
+  s17 = Scalar.k-op2 T20 (Syntax.div Syntax.unsigned) (Scalar.oAt 8 ty0 (Row.valS sc0)) (Scalar.oBig Syntax.w64 65536) 15 (Rows.sc-here sc0) (Row.sInt Syntax.w64 .of)
 
   abbrev s18 : Typed.Asks T21 T22
-  s18 = Scalar.k-op2 T21 (Syntax.rem Syntax.unsigned) (Scalar.oAt 8 (Syntax.tyInt Syntax.w64) (Row.valS (Row.sInt Syntax.w64))) (Scalar.oBig Syntax.w64 65536) 16 (Rows.sc-here (Row.sInt Syntax.w64)) (Row.sInt Syntax.w64 .of)
+  s18 = Scalar.k-op2 T21 (Syntax.rem Syntax.unsigned) (Scalar.oAt 8 ty0 (Row.valS sc0)) (Scalar.oBig Syntax.w64 65536) 16 (Rows.sc-here sc0) (Row.sInt Syntax.w64 .of)
 
   abbrev s19 : Typed.Both T22 T23
   s19 = Call.callB ps·1 r·1 (claims· .2) (claims· .3) T22 (record { pos = 12; ty = Syntax.tyRef Syntax.erased Syntax.mut Cell.behind; ref = λ x. x }, (record { pos = 14; ty = Syntax.tyRef Syntax.erased Syntax.mut Cell.behind; ref = λ x. x }, (Num.vAt 15 λ x. x, (Num.vAt 16 λ x. x, (Num.vAt 7 λ x. x, tt))))) 10 (List._∷_ 3 (List._∷_ 4 List.[])) Syntax.tyUnit
@@ -423,40 +583,40 @@ module _ (claims· : Claims) where
   s20 = Scalar.n-room T23 10 Syntax.tyUnit
 
   abbrev s21 : Typed.Mo T24 → Typed.Mo T25
-  s21 = Scalar.n-room T24 15 (Syntax.tyInt Syntax.w64)
+  s21 = Scalar.n-room T24 15 ty0
 
   abbrev s22 : Typed.Mo T25 → Typed.Mo T26
-  s22 = Scalar.n-room T25 16 (Syntax.tyInt Syntax.w64)
+  s22 = Scalar.n-room T25 16 ty0
 
   abbrev s24 : Typed.Both T26 T28
-  s24 = Relend.k-back-sl Cell.R T26 12 5 1 3 (Syntax.tyRef (Syntax.named 1) Syntax.mut Cell.behind) (Syntax.tyRef Syntax.erased Syntax.mut Cell.behind) Row.off (λ x. x) λ x. x
+  s24 = Relend.k-back-sl Cell.R T26 12 5 1 3 ty5 ty1 Row.off (λ x. x) λ x. x
 
   abbrev s27 : Typed.Both T28 T31
-  s27 = Relend.k-back-sl Cell.R T28 14 6 2 4 (Syntax.tyRef (Syntax.named 2) Syntax.mut Cell.behind) (Syntax.tyRef Syntax.erased Syntax.mut Cell.behind) Row.off (λ x. x) λ x. x
+  s27 = Relend.k-back-sl Cell.R T28 14 6 2 4 ty6 ty1 Row.off (λ x. x) λ x. x
 
   abbrev s29 : Typed.Asks T31 T33
-  s29 = Scalar.k-op2 T31 (Syntax.add Syntax.unsigned) (Scalar.oAt 7 (Syntax.tyInt Syntax.w64) (Row.valS (Row.sInt Syntax.w64))) (Scalar.oInt Syntax.w64 1) 7 (Rows.sc-here (Row.sInt Syntax.w64)) (Row.sInt Syntax.w64 .of)
+  s29 = Scalar.k-op2 T31 (Syntax.add Syntax.unsigned) (Scalar.oAt 7 ty0 (Row.valS sc0)) (Scalar.oInt Syntax.w64 1) 7 (Rows.sc-here sc0) (Row.sInt Syntax.w64 .of)
 
   abbrev s30 : Typed.Mo T33 → Typed.Mo T34
-  s30 = Scalar.n-room T33 8 (Syntax.tyInt Syntax.w64)
+  s30 = Scalar.n-room T33 8 ty0
 
   abbrev s31 : Typed.Mo T4 → Typed.Mo T35
   s31 = Scalar.n-use T4 Scalar.oUnit 0 (Rows.sc-here Row.sUnit) (Row.sUnit .of)
 
   abbrev s32 : Typed.Mo T35 → Typed.Mo T36
-  s32 = Scalar.n-room T35 7 (Syntax.tyInt Syntax.w64)
+  s32 = Scalar.n-room T35 7 ty0
 
   abbrev s33 : Typed.Mo T36 → Typed.Mo T37
-  s33 = Scalar.n-room T36 2 (Syntax.tyInt Syntax.w64)
+  s33 = Scalar.n-room T36 2 ty0
 
   abbrev s34 : Typed.Mo T37 → Typed.Mo T38
-  s34 = Scalar.n-room T37 3 (Syntax.tyInt Syntax.w64)
+  s34 = Scalar.n-room T37 3 ty0
 
   abbrev s35 : Typed.Mo T38 → Typed.Mo T39
-  s35 = Scalar.n-room T38 4 (Syntax.tyInt Syntax.w64)
+  s35 = Scalar.n-room T38 4 ty0
 
-  abbrev put0 : List.List (Cell.R .Denot) × List.List (Cell.R .Denot) × Rows.sc-here (Row.sInt Syntax.w64) .Mod → Typed.Mo T3 → Typed.Mo T3
-  put0 = λ vs u. Row.set 7 (7, Rows.sc-here (Row.sInt Syntax.w64)) (vs .2) (T3 .locals) (Row.set 6 (6, Mut.mslice Cell.R (Syntax.tyRef (Syntax.named 2) Syntax.mut Cell.behind) 2) record { ptr = Row.get 6 (T3 .locals) u .ptr; name = Row.get 6 (T3 .locals) u .name; now = vs .1 } (T3 .locals) (Row.set 5 (5, Mut.mslice Cell.R (Syntax.tyRef (Syntax.named 1) Syntax.mut Cell.behind) 1) record { ptr = Row.get 5 (T3 .locals) u .ptr; name = Row.get 5 (T3 .locals) u .name; now = vs .0 } (T3 .locals) u))
+  abbrev put0 : List.List (Cell.R .Denot) × List.List (Cell.R .Denot) × Rows.sc-here sc0 .Mod → Typed.Mo T3 → Typed.Mo T3
+  put0 = λ vs u. Row.set 7 local12 (vs .2) (T3 .locals) (Row.set 6 local6 record { ptr = Row.get 6 (T3 .locals) u .ptr; name = Row.get 6 (T3 .locals) u .name; now = vs .1 } (T3 .locals) (Row.set 5 local5 record { ptr = Row.get 5 (T3 .locals) u .ptr; name = Row.get 5 (T3 .locals) u .name; now = vs .0 } (T3 .locals) u))
 
   module _ (Pre· : (κs : Lifetimes.Lfts 3) → Kinds.Dens κs ps → Type 0) (Post· : (κs : Lifetimes.Lfts 3) → (a : Kinds.Dens κs ps) → Kinds.Plain 3 ps r κs) where
     module _ (M : Type 1) where
@@ -601,152 +761,173 @@ module _ (claims· : Claims) where
         Knowns = Plain.Known 𝓤 H A W 𝓣 1 ps·0 r·0 (claims· .0) (claims· .1) "sheets::loops::note" × Plain.Known 𝓤 H A W 𝓣 2 ps·1 r·1 (claims· .2) (claims· .3) "sheets::loops::merge_at"
 
       module _ (κs : Lifetimes.Lfts 3) (qs : Lifetimes.Shares 3) where
+        abbrev slot0 : Row.Life
+        slot0 = Row.lease (κs .1 .0) (qs .1 .0)
+
+        abbrev local17 : Row.Entry
+        local17 = (5, Relend.mslice-owed Cell.R ty5 1 3 slot0)
+
+        abbrev slot1 : Row.Life
+        slot1 = Row.lease (κs .1 .1 .0) (qs .1 .1 .0)
+
+        abbrev local18 : Row.Entry
+        local18 = (6, Relend.mslice-owed Cell.R ty6 2 4 slot1)
+
+        abbrev slot2 : Row.Life
+        slot2 = Row.lease (κs .0) (qs .0)
+
+        abbrev slots0 : List.List Row.Life
+        slots0 = List._∷_ slot0 (List._∷_ slot1 (List._∷_ Row.off (List._∷_ Row.off List.[])))
+
+        abbrev slots1 : List.List Row.Life
+        slots1 = List._∷_ slot1 (List._∷_ Row.alive (List._∷_ Row.off List.[]))
+
         abbrev g7 : List.List Row.Entry
-        g7 = List._∷_ (0, Rows.any-gone Syntax.tyUnit) (List._∷_ (1, Rows.sslice (Referent.rtF (Referent.fInt Syntax.w32)) (Syntax.tyRef (Syntax.named 0) Syntax.imm (Syntax.tyInt Syntax.w32)) 0) (List._∷_ (2, Rows.sc-here (Row.sInt Syntax.w64)) (List._∷_ (3, Rows.sc-here (Row.sInt Syntax.w64)) (List._∷_ (4, Rows.sc-here (Row.sInt Syntax.w64)) (List._∷_ (5, Relend.mslice-owed Cell.R (Syntax.tyRef (Syntax.named 1) Syntax.mut Cell.behind) 1 3 (Row.lease (κs .1 .0) (qs .1 .0))) (List._∷_ (6, Mut.mslice Cell.R (Syntax.tyRef (Syntax.named 2) Syntax.mut Cell.behind) 2) (List._∷_ (7, Rows.sc-here (Row.sInt Syntax.w64)) (List._∷_ (8, Rows.sc-here (Row.sInt Syntax.w64)) (List._∷_ (9, Rows.any-gone Syntax.tyBool) (List._∷_ (10, Rows.any-gone Syntax.tyUnit) (List._∷_ (11, Relend.msptr Cell.R (Syntax.tyRef Syntax.erased Syntax.mut Cell.behind) 3) (List._∷_ (12, Rows.any-gone (Syntax.tyStruct (List._∷_ 38 (List._∷_ 91 (List._∷_ 93 List.[]))) (Syntax.tcons (Syntax.tyRef Syntax.erased Syntax.mut Cell.behind) (Syntax.tcons (Syntax.tyInt Syntax.w64) Syntax.tnil)))) (List._∷_ (13, Rows.any-gone (Syntax.tyRef Syntax.erased Syntax.mut Cell.behind)) (List._∷_ (14, Rows.any-gone (Syntax.tyStruct (List._∷_ 38 (List._∷_ 91 (List._∷_ 93 List.[]))) (Syntax.tcons (Syntax.tyRef Syntax.erased Syntax.mut Cell.behind) (Syntax.tcons (Syntax.tyInt Syntax.w64) Syntax.tnil)))) (List._∷_ (15, Rows.any-gone (Syntax.tyInt Syntax.w64)) List.[])))))))))))))))
+        g7 = List._∷_ local0 (List._∷_ local1 (List._∷_ local2 (List._∷_ local3 (List._∷_ local4 (List._∷_ local17 locals7)))))
 
         abbrev g8 : List.List Row.Entry
-        g8 = List._∷_ (0, Rows.any-gone Syntax.tyUnit) (List._∷_ (1, Rows.sslice (Referent.rtF (Referent.fInt Syntax.w32)) (Syntax.tyRef (Syntax.named 0) Syntax.imm (Syntax.tyInt Syntax.w32)) 0) (List._∷_ (2, Rows.sc-here (Row.sInt Syntax.w64)) (List._∷_ (3, Rows.sc-here (Row.sInt Syntax.w64)) (List._∷_ (4, Rows.sc-here (Row.sInt Syntax.w64)) (List._∷_ (5, Relend.mslice-owed Cell.R (Syntax.tyRef (Syntax.named 1) Syntax.mut Cell.behind) 1 3 (Row.lease (κs .1 .0) (qs .1 .0))) (List._∷_ (6, Mut.mslice Cell.R (Syntax.tyRef (Syntax.named 2) Syntax.mut Cell.behind) 2) (List._∷_ (7, Rows.sc-here (Row.sInt Syntax.w64)) (List._∷_ (8, Rows.sc-here (Row.sInt Syntax.w64)) (List._∷_ (9, Rows.any-gone Syntax.tyBool) (List._∷_ (10, Rows.any-gone Syntax.tyUnit) (List._∷_ (11, Rows.any-gone (Syntax.tyRef Syntax.erased Syntax.mut Cell.behind)) (List._∷_ (12, Mut.mslice Cell.R (Syntax.tyRef Syntax.erased Syntax.mut Cell.behind) 3) (List._∷_ (13, Rows.any-gone (Syntax.tyRef Syntax.erased Syntax.mut Cell.behind)) (List._∷_ (14, Rows.any-gone (Syntax.tyStruct (List._∷_ 38 (List._∷_ 91 (List._∷_ 93 List.[]))) (Syntax.tcons (Syntax.tyRef Syntax.erased Syntax.mut Cell.behind) (Syntax.tcons (Syntax.tyInt Syntax.w64) Syntax.tnil)))) (List._∷_ (15, Rows.any-gone (Syntax.tyInt Syntax.w64)) List.[])))))))))))))))
+        g8 = List._∷_ local0 (List._∷_ local1 (List._∷_ local2 (List._∷_ local3 (List._∷_ local4 (List._∷_ local17 locals8)))))
 
         abbrev g9 : List.List Row.Entry
-        g9 = List._∷_ (0, Rows.any-gone Syntax.tyUnit) (List._∷_ (1, Rows.sslice (Referent.rtF (Referent.fInt Syntax.w32)) (Syntax.tyRef (Syntax.named 0) Syntax.imm (Syntax.tyInt Syntax.w32)) 0) (List._∷_ (2, Rows.sc-here (Row.sInt Syntax.w64)) (List._∷_ (3, Rows.sc-here (Row.sInt Syntax.w64)) (List._∷_ (4, Rows.sc-here (Row.sInt Syntax.w64)) (List._∷_ (5, Relend.mslice-owed Cell.R (Syntax.tyRef (Syntax.named 1) Syntax.mut Cell.behind) 1 3 (Row.lease (κs .1 .0) (qs .1 .0))) (List._∷_ (6, Relend.mslice-owed Cell.R (Syntax.tyRef (Syntax.named 2) Syntax.mut Cell.behind) 2 4 (Row.lease (κs .1 .1 .0) (qs .1 .1 .0))) (List._∷_ (7, Rows.sc-here (Row.sInt Syntax.w64)) (List._∷_ (8, Rows.sc-here (Row.sInt Syntax.w64)) (List._∷_ (9, Rows.any-gone Syntax.tyBool) (List._∷_ (10, Rows.any-gone Syntax.tyUnit) (List._∷_ (11, Rows.any-gone (Syntax.tyRef Syntax.erased Syntax.mut Cell.behind)) (List._∷_ (12, Mut.mslice Cell.R (Syntax.tyRef Syntax.erased Syntax.mut Cell.behind) 3) (List._∷_ (13, Relend.msptr Cell.R (Syntax.tyRef Syntax.erased Syntax.mut Cell.behind) 4) (List._∷_ (14, Rows.any-gone (Syntax.tyStruct (List._∷_ 38 (List._∷_ 91 (List._∷_ 93 List.[]))) (Syntax.tcons (Syntax.tyRef Syntax.erased Syntax.mut Cell.behind) (Syntax.tcons (Syntax.tyInt Syntax.w64) Syntax.tnil)))) (List._∷_ (15, Rows.any-gone (Syntax.tyInt Syntax.w64)) List.[])))))))))))))))
+        g9 = List._∷_ local0 (List._∷_ local1 (List._∷_ local2 (List._∷_ local3 (List._∷_ local4 (List._∷_ local17 (List._∷_ local18 locals9))))))
 
         abbrev g10 : List.List Row.Entry
-        g10 = List._∷_ (0, Rows.any-gone Syntax.tyUnit) (List._∷_ (1, Rows.sslice (Referent.rtF (Referent.fInt Syntax.w32)) (Syntax.tyRef (Syntax.named 0) Syntax.imm (Syntax.tyInt Syntax.w32)) 0) (List._∷_ (2, Rows.sc-here (Row.sInt Syntax.w64)) (List._∷_ (3, Rows.sc-here (Row.sInt Syntax.w64)) (List._∷_ (4, Rows.sc-here (Row.sInt Syntax.w64)) (List._∷_ (5, Relend.mslice-owed Cell.R (Syntax.tyRef (Syntax.named 1) Syntax.mut Cell.behind) 1 3 (Row.lease (κs .1 .0) (qs .1 .0))) (List._∷_ (6, Relend.mslice-owed Cell.R (Syntax.tyRef (Syntax.named 2) Syntax.mut Cell.behind) 2 4 (Row.lease (κs .1 .1 .0) (qs .1 .1 .0))) (List._∷_ (7, Rows.sc-here (Row.sInt Syntax.w64)) (List._∷_ (8, Rows.sc-here (Row.sInt Syntax.w64)) (List._∷_ (9, Rows.any-gone Syntax.tyBool) (List._∷_ (10, Rows.any-gone Syntax.tyUnit) (List._∷_ (11, Rows.any-gone (Syntax.tyRef Syntax.erased Syntax.mut Cell.behind)) (List._∷_ (12, Mut.mslice Cell.R (Syntax.tyRef Syntax.erased Syntax.mut Cell.behind) 3) (List._∷_ (13, Rows.any-gone (Syntax.tyRef Syntax.erased Syntax.mut Cell.behind)) (List._∷_ (14, Mut.mslice Cell.R (Syntax.tyRef Syntax.erased Syntax.mut Cell.behind) 4) (List._∷_ (15, Rows.any-gone (Syntax.tyInt Syntax.w64)) List.[])))))))))))))))
+        g10 = List._∷_ local0 (List._∷_ local1 (List._∷_ local2 (List._∷_ local3 (List._∷_ local4 (List._∷_ local17 (List._∷_ local18 locals10))))))
 
         abbrev g11 : List.List Row.Entry
-        g11 = List._∷_ (0, Rows.any-gone Syntax.tyUnit) (List._∷_ (1, Rows.sslice (Referent.rtF (Referent.fInt Syntax.w32)) (Syntax.tyRef (Syntax.named 0) Syntax.imm (Syntax.tyInt Syntax.w32)) 0) (List._∷_ (2, Rows.sc-here (Row.sInt Syntax.w64)) (List._∷_ (3, Rows.sc-here (Row.sInt Syntax.w64)) (List._∷_ (4, Rows.sc-here (Row.sInt Syntax.w64)) (List._∷_ (5, Relend.mslice-owed Cell.R (Syntax.tyRef (Syntax.named 1) Syntax.mut Cell.behind) 1 3 (Row.lease (κs .1 .0) (qs .1 .0))) (List._∷_ (6, Relend.mslice-owed Cell.R (Syntax.tyRef (Syntax.named 2) Syntax.mut Cell.behind) 2 4 (Row.lease (κs .1 .1 .0) (qs .1 .1 .0))) (List._∷_ (7, Rows.sc-here (Row.sInt Syntax.w64)) (List._∷_ (8, Rows.sc-here (Row.sInt Syntax.w64)) (List._∷_ (9, Rows.any-gone Syntax.tyBool) (List._∷_ (10, Rows.any-gone Syntax.tyUnit) (List._∷_ (11, Rows.any-gone (Syntax.tyRef Syntax.erased Syntax.mut Cell.behind)) (List._∷_ (12, Mut.mslice Cell.R (Syntax.tyRef Syntax.erased Syntax.mut Cell.behind) 3) (List._∷_ (13, Rows.any-gone (Syntax.tyRef Syntax.erased Syntax.mut Cell.behind)) (List._∷_ (14, Mut.mslice Cell.R (Syntax.tyRef Syntax.erased Syntax.mut Cell.behind) 4) (List._∷_ (15, Rows.sc-here (Row.sInt Syntax.w64)) List.[])))))))))))))))
+        g11 = List._∷_ local0 (List._∷_ local1 (List._∷_ local2 (List._∷_ local3 (List._∷_ local4 (List._∷_ local17 (List._∷_ local18 locals11))))))
 
         abbrev g13 : List.List Row.Entry
-        g13 = List._∷_ (0, Rows.any-gone Syntax.tyUnit) (List._∷_ (1, Rows.sslice (Referent.rtF (Referent.fInt Syntax.w32)) (Syntax.tyRef (Syntax.named 0) Syntax.imm (Syntax.tyInt Syntax.w32)) 0) (List._∷_ (2, Rows.sc-here (Row.sInt Syntax.w64)) (List._∷_ (3, Rows.sc-here (Row.sInt Syntax.w64)) (List._∷_ (4, Rows.sc-here (Row.sInt Syntax.w64)) (List._∷_ (5, Relend.mslice-owed Cell.R (Syntax.tyRef (Syntax.named 1) Syntax.mut Cell.behind) 1 3 (Row.lease (κs .1 .0) (qs .1 .0))) (List._∷_ (6, Relend.mslice-owed Cell.R (Syntax.tyRef (Syntax.named 2) Syntax.mut Cell.behind) 2 4 (Row.lease (κs .1 .1 .0) (qs .1 .1 .0))) (List._∷_ (7, Rows.sc-here (Row.sInt Syntax.w64)) (List._∷_ (8, Rows.sc-here (Row.sInt Syntax.w64)) (List._∷_ (9, Rows.any-gone Syntax.tyBool) (List._∷_ (10, Rows.sc-here Row.sUnit) (List._∷_ (11, Rows.any-gone (Syntax.tyRef Syntax.erased Syntax.mut Cell.behind)) (List._∷_ (12, Mut.msleft Cell.R (Syntax.tyRef Syntax.erased Syntax.mut Cell.behind)) (List._∷_ (13, Rows.any-gone (Syntax.tyRef Syntax.erased Syntax.mut Cell.behind)) (List._∷_ (14, Mut.msleft Cell.R (Syntax.tyRef Syntax.erased Syntax.mut Cell.behind)) (List._∷_ (15, Rows.sc-here (Row.sInt Syntax.w64)) List.[])))))))))))))))
+        g13 = List._∷_ local0 (List._∷_ local1 (List._∷_ local2 (List._∷_ local3 (List._∷_ local4 (List._∷_ local17 (List._∷_ local18 locals13))))))
 
         abbrev g14 : List.List Row.Entry
-        g14 = List._∷_ (0, Rows.any-gone Syntax.tyUnit) (List._∷_ (1, Rows.sslice (Referent.rtF (Referent.fInt Syntax.w32)) (Syntax.tyRef (Syntax.named 0) Syntax.imm (Syntax.tyInt Syntax.w32)) 0) (List._∷_ (2, Rows.sc-here (Row.sInt Syntax.w64)) (List._∷_ (3, Rows.sc-here (Row.sInt Syntax.w64)) (List._∷_ (4, Rows.sc-here (Row.sInt Syntax.w64)) (List._∷_ (5, Relend.mslice-owed Cell.R (Syntax.tyRef (Syntax.named 1) Syntax.mut Cell.behind) 1 3 (Row.lease (κs .1 .0) (qs .1 .0))) (List._∷_ (6, Relend.mslice-owed Cell.R (Syntax.tyRef (Syntax.named 2) Syntax.mut Cell.behind) 2 4 (Row.lease (κs .1 .1 .0) (qs .1 .1 .0))) (List._∷_ (7, Rows.sc-here (Row.sInt Syntax.w64)) (List._∷_ (8, Rows.sc-here (Row.sInt Syntax.w64)) (List._∷_ (9, Rows.any-gone Syntax.tyBool) (List._∷_ (10, Rows.any-gone Syntax.tyUnit) (List._∷_ (11, Rows.any-gone (Syntax.tyRef Syntax.erased Syntax.mut Cell.behind)) (List._∷_ (12, Mut.msleft Cell.R (Syntax.tyRef Syntax.erased Syntax.mut Cell.behind)) (List._∷_ (13, Rows.any-gone (Syntax.tyRef Syntax.erased Syntax.mut Cell.behind)) (List._∷_ (14, Mut.msleft Cell.R (Syntax.tyRef Syntax.erased Syntax.mut Cell.behind)) (List._∷_ (15, Rows.sc-here (Row.sInt Syntax.w64)) List.[])))))))))))))))
+        g14 = List._∷_ local0 (List._∷_ local1 (List._∷_ local2 (List._∷_ local3 (List._∷_ local4 (List._∷_ local17 (List._∷_ local18 locals14))))))
 
         abbrev g15 : List.List Row.Entry
-        g15 = List._∷_ (0, Rows.any-gone Syntax.tyUnit) (List._∷_ (1, Rows.sslice (Referent.rtF (Referent.fInt Syntax.w32)) (Syntax.tyRef (Syntax.named 0) Syntax.imm (Syntax.tyInt Syntax.w32)) 0) (List._∷_ (2, Rows.sc-here (Row.sInt Syntax.w64)) (List._∷_ (3, Rows.sc-here (Row.sInt Syntax.w64)) (List._∷_ (4, Rows.sc-here (Row.sInt Syntax.w64)) (List._∷_ (5, Relend.mslice-owed Cell.R (Syntax.tyRef (Syntax.named 1) Syntax.mut Cell.behind) 1 3 (Row.lease (κs .1 .0) (qs .1 .0))) (List._∷_ (6, Relend.mslice-owed Cell.R (Syntax.tyRef (Syntax.named 2) Syntax.mut Cell.behind) 2 4 (Row.lease (κs .1 .1 .0) (qs .1 .1 .0))) (List._∷_ (7, Rows.sc-here (Row.sInt Syntax.w64)) (List._∷_ (8, Rows.sc-here (Row.sInt Syntax.w64)) (List._∷_ (9, Rows.any-gone Syntax.tyBool) (List._∷_ (10, Rows.any-gone Syntax.tyUnit) (List._∷_ (11, Rows.any-gone (Syntax.tyRef Syntax.erased Syntax.mut Cell.behind)) (List._∷_ (12, Mut.msleft Cell.R (Syntax.tyRef Syntax.erased Syntax.mut Cell.behind)) (List._∷_ (13, Rows.any-gone (Syntax.tyRef Syntax.erased Syntax.mut Cell.behind)) (List._∷_ (14, Mut.msleft Cell.R (Syntax.tyRef Syntax.erased Syntax.mut Cell.behind)) (List._∷_ (15, Rows.any-gone (Syntax.tyInt Syntax.w64)) List.[])))))))))))))))
+        g15 = List._∷_ local0 (List._∷_ local1 (List._∷_ local2 (List._∷_ local3 (List._∷_ local4 (List._∷_ local17 (List._∷_ local18 locals16))))))
 
         abbrev g16 : List.List Row.Entry
-        g16 = List._∷_ (0, Rows.any-gone Syntax.tyUnit) (List._∷_ (1, Rows.sslice (Referent.rtF (Referent.fInt Syntax.w32)) (Syntax.tyRef (Syntax.named 0) Syntax.imm (Syntax.tyInt Syntax.w32)) 0) (List._∷_ (2, Rows.sc-here (Row.sInt Syntax.w64)) (List._∷_ (3, Rows.sc-here (Row.sInt Syntax.w64)) (List._∷_ (4, Rows.sc-here (Row.sInt Syntax.w64)) (List._∷_ (5, Mut.mslice Cell.R (Syntax.tyRef (Syntax.named 1) Syntax.mut Cell.behind) 1) (List._∷_ (6, Relend.mslice-owed Cell.R (Syntax.tyRef (Syntax.named 2) Syntax.mut Cell.behind) 2 4 (Row.lease (κs .1 .1 .0) (qs .1 .1 .0))) (List._∷_ (7, Rows.sc-here (Row.sInt Syntax.w64)) (List._∷_ (8, Rows.sc-here (Row.sInt Syntax.w64)) (List._∷_ (9, Rows.any-gone Syntax.tyBool) (List._∷_ (10, Rows.any-gone Syntax.tyUnit) (List._∷_ (11, Rows.any-gone (Syntax.tyRef Syntax.erased Syntax.mut Cell.behind)) (List._∷_ (12, Rows.any-gone (Syntax.tyStruct (List._∷_ 38 (List._∷_ 91 (List._∷_ 93 List.[]))) (Syntax.tcons (Syntax.tyRef Syntax.erased Syntax.mut Cell.behind) (Syntax.tcons (Syntax.tyInt Syntax.w64) Syntax.tnil)))) (List._∷_ (13, Rows.any-gone (Syntax.tyRef Syntax.erased Syntax.mut Cell.behind)) (List._∷_ (14, Mut.msleft Cell.R (Syntax.tyRef Syntax.erased Syntax.mut Cell.behind)) (List._∷_ (15, Rows.any-gone (Syntax.tyInt Syntax.w64)) List.[])))))))))))))))
+        g16 = List._∷_ local0 (List._∷_ local1 (List._∷_ local2 (List._∷_ local3 (List._∷_ local4 (List._∷_ local5 (List._∷_ local18 locals17))))))
 
         abbrev G0 : Row.Cx
-        G0 = record { locals = List._++_ t0 t1; slots = List._∷_ (Row.lease (κs .0) (qs .0)) (List._∷_ (Row.lease (κs .1 .0) (qs .1 .0)) (List._∷_ (Row.lease (κs .1 .1 .0) (qs .1 .1 .0)) (List._∷_ Row.off (List._∷_ Row.off List.[])))) }
+        G0 = record { locals = List._++_ t0 t1; slots = List._∷_ slot2 slots0 }
 
         abbrev G1 : Row.Cx
-        G1 = record { locals = List._++_ t2 t1; slots = List._∷_ (Row.lease (κs .0) (qs .0)) (List._∷_ (Row.lease (κs .1 .0) (qs .1 .0)) (List._∷_ (Row.lease (κs .1 .1 .0) (qs .1 .1 .0)) (List._∷_ Row.off (List._∷_ Row.off List.[])))) }
+        G1 = record { locals = List._++_ t2 t1; slots = List._∷_ slot2 slots0 }
 
         abbrev G2 : Row.Cx
-        G2 = record { locals = List._++_ t0 t1; slots = List._∷_ (Row.lease (κs .0) (qs .0)) (List._∷_ (Row.lease (κs .1 .0) (qs .1 .0)) (List._∷_ (Row.lease (κs .1 .1 .0) (qs .1 .1 .0)) (List._∷_ Row.off (List._∷_ Row.off List.[])))) }
+        G2 = record { locals = List._++_ t0 t1; slots = List._∷_ slot2 slots0 }
 
         abbrev G3 : Row.Cx
-        G3 = record { locals = List._++_ t3 t1; slots = List._∷_ (Row.lease (κs .0) (qs .0)) (List._∷_ (Row.lease (κs .1 .0) (qs .1 .0)) (List._∷_ (Row.lease (κs .1 .1 .0) (qs .1 .1 .0)) (List._∷_ Row.off (List._∷_ Row.off List.[])))) }
+        G3 = record { locals = List._++_ t3 t1; slots = List._∷_ slot2 slots0 }
 
         abbrev G4 : Row.Cx
-        G4 = record { locals = List._++_ t3 t1; slots = List._∷_ (Row.lease (κs .0) (qs .0)) (List._∷_ (Row.lease (κs .1 .0) (qs .1 .0)) (List._∷_ (Row.lease (κs .1 .1 .0) (qs .1 .1 .0)) (List._∷_ Row.off (List._∷_ Row.off List.[])))) }
+        G4 = record { locals = List._++_ t3 t1; slots = List._∷_ slot2 slots0 }
 
         abbrev G5 : Row.Cx
-        G5 = record { locals = List._++_ t4 t1; slots = List._∷_ (Row.lease (κs .0) (qs .0)) (List._∷_ (Row.lease (κs .1 .0) (qs .1 .0)) (List._∷_ (Row.lease (κs .1 .1 .0) (qs .1 .1 .0)) (List._∷_ Row.off (List._∷_ Row.off List.[])))) }
+        G5 = record { locals = List._++_ t4 t1; slots = List._∷_ slot2 slots0 }
 
         abbrev G6 : Row.Cx
-        G6 = record { locals = List._++_ t3 t1; slots = List._∷_ (Row.lease (κs .0) (qs .0)) (List._∷_ (Row.lease (κs .1 .0) (qs .1 .0)) (List._∷_ (Row.lease (κs .1 .1 .0) (qs .1 .1 .0)) (List._∷_ Row.off (List._∷_ Row.off List.[])))) }
+        G6 = record { locals = List._++_ t3 t1; slots = List._∷_ slot2 slots0 }
 
         abbrev G7 : Row.Cx
-        G7 = record { locals = List._++_ t3 t1; slots = List._∷_ (Row.lease (κs .0) (qs .0)) (List._∷_ (Row.lease (κs .1 .0) (qs .1 .0)) (List._∷_ (Row.lease (κs .1 .1 .0) (qs .1 .1 .0)) (List._∷_ Row.off (List._∷_ Row.off List.[])))) }
+        G7 = record { locals = List._++_ t3 t1; slots = List._∷_ slot2 slots0 }
 
         abbrev G8 : Row.Cx
-        G8 = record { locals = List._++_ t3 t1; slots = List._∷_ (Row.lease (κs .0) (qs .0)) (List._∷_ (Row.lease (κs .1 .0) (qs .1 .0)) (List._∷_ (Row.lease (κs .1 .1 .0) (qs .1 .1 .0)) (List._∷_ Row.off (List._∷_ Row.off List.[])))) }
+        G8 = record { locals = List._++_ t3 t1; slots = List._∷_ slot2 slots0 }
 
         abbrev G9 : Row.Cx
-        G9 = record { locals = List._++_ t5 t1; slots = List._∷_ (Row.lease (κs .0) (qs .0)) (List._∷_ (Row.lease (κs .1 .0) (qs .1 .0)) (List._∷_ (Row.lease (κs .1 .1 .0) (qs .1 .1 .0)) (List._∷_ Row.off (List._∷_ Row.off List.[])))) }
+        G9 = record { locals = List._++_ t5 t1; slots = List._∷_ slot2 slots0 }
 
         abbrev G10 : Row.Cx
-        G10 = record { locals = List._++_ t6 t1; slots = List._∷_ (Row.lease (κs .0) (qs .0)) (List._∷_ (Row.lease (κs .1 .0) (qs .1 .0)) (List._∷_ (Row.lease (κs .1 .1 .0) (qs .1 .1 .0)) (List._∷_ Row.off (List._∷_ Row.off List.[])))) }
+        G10 = record { locals = List._++_ t6 t1; slots = List._∷_ slot2 slots0 }
 
         abbrev G11 : Row.Cx
-        G11 = record { locals = List._++_ t5 t1; slots = List._∷_ (Row.lease (κs .0) (qs .0)) (List._∷_ (Row.lease (κs .1 .0) (qs .1 .0)) (List._∷_ (Row.lease (κs .1 .1 .0) (qs .1 .1 .0)) (List._∷_ Row.off (List._∷_ Row.off List.[])))) }
+        G11 = record { locals = List._++_ t5 t1; slots = List._∷_ slot2 slots0 }
 
         abbrev G12 : Row.Cx
-        G12 = record { locals = List._++_ t5 t1; slots = List._∷_ (Row.lease (κs .0) (qs .0)) (List._∷_ (Row.lease (κs .1 .0) (qs .1 .0)) (List._∷_ (Row.lease (κs .1 .1 .0) (qs .1 .1 .0)) (List._∷_ Row.off (List._∷_ Row.off List.[])))) }
+        G12 = record { locals = List._++_ t5 t1; slots = List._∷_ slot2 slots0 }
 
         abbrev G13 : Row.Cx
-        G13 = record { locals = List._++_ t3 t1; slots = List._∷_ (Row.lease (κs .0) (qs .0)) (List._∷_ (Row.lease (κs .1 .0) (qs .1 .0)) (List._∷_ (Row.lease (κs .1 .1 .0) (qs .1 .1 .0)) (List._∷_ Row.off (List._∷_ Row.off List.[])))) }
+        G13 = record { locals = List._++_ t3 t1; slots = List._∷_ slot2 slots0 }
 
         abbrev G14 : Row.Cx
-        G14 = record { locals = List._++_ t5 t1; slots = List._∷_ (Row.lease (κs .0) (qs .0)) (List._∷_ (Row.lease (κs .1 .0) (qs .1 .0)) (List._∷_ (Row.lease (κs .1 .1 .0) (qs .1 .1 .0)) (List._∷_ Row.off (List._∷_ Row.off List.[])))) }
+        G14 = record { locals = List._++_ t5 t1; slots = List._∷_ slot2 slots0 }
 
         abbrev G15 : Row.Cx
-        G15 = record { locals = List._++_ t5 t1; slots = List._∷_ (Row.lease (κs .0) (qs .0)) (List._∷_ (Row.lease (κs .1 .0) (qs .1 .0)) (List._∷_ (Row.lease (κs .1 .1 .0) (qs .1 .1 .0)) (List._∷_ Row.alive (List._∷_ Row.off List.[])))) }
+        G15 = record { locals = List._++_ t5 t1; slots = List._∷_ slot2 (List._∷_ slot0 slots1) }
 
         abbrev G16 : Row.Cx
-        G16 = record { locals = List._++_ g7 t1; slots = List._∷_ (Row.lease (κs .0) (qs .0)) (List._∷_ Row.off (List._∷_ (Row.lease (κs .1 .1 .0) (qs .1 .1 .0)) (List._∷_ Row.alive (List._∷_ Row.off List.[])))) }
+        G16 = record { locals = List._++_ g7 t1; slots = List._∷_ slot2 (List._∷_ Row.off slots1) }
 
         abbrev G17 : Row.Cx
-        G17 = record { locals = List._++_ g8 t1; slots = List._∷_ (Row.lease (κs .0) (qs .0)) (List._∷_ Row.off (List._∷_ (Row.lease (κs .1 .1 .0) (qs .1 .1 .0)) (List._∷_ Row.alive (List._∷_ Row.off List.[])))) }
+        G17 = record { locals = List._++_ g8 t1; slots = List._∷_ slot2 (List._∷_ Row.off slots1) }
 
         abbrev G18 : Row.Cx
-        G18 = record { locals = List._++_ g8 t1; slots = List._∷_ (Row.lease (κs .0) (qs .0)) (List._∷_ Row.off (List._∷_ (Row.lease (κs .1 .1 .0) (qs .1 .1 .0)) (List._∷_ Row.alive (List._∷_ Row.alive List.[])))) }
+        G18 = record { locals = List._++_ g8 t1; slots = List._∷_ slot2 (List._∷_ Row.off (List._∷_ slot1 (List._∷_ Row.alive slots2))) }
 
         abbrev G19 : Row.Cx
-        G19 = record { locals = List._++_ g9 t1; slots = List._∷_ (Row.lease (κs .0) (qs .0)) (List._∷_ Row.off (List._∷_ Row.off (List._∷_ Row.alive (List._∷_ Row.alive List.[])))) }
+        G19 = record { locals = List._++_ g9 t1; slots = List._∷_ slot2 slots3 }
 
         abbrev G20 : Row.Cx
-        G20 = record { locals = List._++_ g10 t1; slots = List._∷_ (Row.lease (κs .0) (qs .0)) (List._∷_ Row.off (List._∷_ Row.off (List._∷_ Row.alive (List._∷_ Row.alive List.[])))) }
+        G20 = record { locals = List._++_ g10 t1; slots = List._∷_ slot2 slots3 }
 
         abbrev G21 : Row.Cx
-        G21 = record { locals = List._++_ g11 t1; slots = List._∷_ (Row.lease (κs .0) (qs .0)) (List._∷_ Row.off (List._∷_ Row.off (List._∷_ Row.alive (List._∷_ Row.alive List.[])))) }
+        G21 = record { locals = List._++_ g11 t1; slots = List._∷_ slot2 slots3 }
 
         abbrev G22 : Row.Cx
-        G22 = record { locals = List._++_ g11 t12; slots = List._∷_ (Row.lease (κs .0) (qs .0)) (List._∷_ Row.off (List._∷_ Row.off (List._∷_ Row.alive (List._∷_ Row.alive List.[])))) }
+        G22 = record { locals = List._++_ g11 t12; slots = List._∷_ slot2 slots3 }
 
         abbrev G23 : Row.Cx
-        G23 = record { locals = List._++_ g13 t12; slots = List._∷_ (Row.lease (κs .0) (qs .0)) (List._∷_ Row.off (List._∷_ Row.off (List._∷_ Row.alive (List._∷_ Row.alive List.[])))) }
+        G23 = record { locals = List._++_ g13 t12; slots = List._∷_ slot2 slots3 }
 
         abbrev G24 : Row.Cx
-        G24 = record { locals = List._++_ g14 t12; slots = List._∷_ (Row.lease (κs .0) (qs .0)) (List._∷_ Row.off (List._∷_ Row.off (List._∷_ Row.alive (List._∷_ Row.alive List.[])))) }
+        G24 = record { locals = List._++_ g14 t12; slots = List._∷_ slot2 slots3 }
 
         abbrev G25 : Row.Cx
-        G25 = record { locals = List._++_ g15 t12; slots = List._∷_ (Row.lease (κs .0) (qs .0)) (List._∷_ Row.off (List._∷_ Row.off (List._∷_ Row.alive (List._∷_ Row.alive List.[])))) }
+        G25 = record { locals = List._++_ g15 t12; slots = List._∷_ slot2 slots3 }
 
         abbrev G26 : Row.Cx
-        G26 = record { locals = List._++_ g15 t1; slots = List._∷_ (Row.lease (κs .0) (qs .0)) (List._∷_ Row.off (List._∷_ Row.off (List._∷_ Row.alive (List._∷_ Row.alive List.[])))) }
+        G26 = record { locals = List._++_ g15 t1; slots = List._∷_ slot2 slots3 }
 
         abbrev G27 : Row.Cx
-        G27 = record { locals = List._++_ g15 t1; slots = List._∷_ (Row.lease (κs .0) (qs .0)) (List._∷_ Row.off (List._∷_ Row.off (List._∷_ Row.dead (List._∷_ Row.alive List.[])))) }
+        G27 = record { locals = List._++_ g15 t1; slots = List._∷_ slot2 (List._∷_ Row.off (List._∷_ Row.off (List._∷_ Row.dead slots2))) }
 
         abbrev G28 : Row.Cx
-        G28 = record { locals = List._++_ g16 t1; slots = List._∷_ (Row.lease (κs .0) (qs .0)) (List._∷_ (Row.lease (κs .1 .0) (qs .1 .0)) (List._∷_ Row.off (List._∷_ Row.dead (List._∷_ Row.alive List.[])))) }
+        G28 = record { locals = List._++_ g16 t1; slots = List._∷_ slot2 (List._∷_ slot0 (List._∷_ Row.off (List._∷_ Row.dead slots2))) }
 
         abbrev G29 : Row.Cx
-        G29 = record { locals = List._++_ g16 t1; slots = List._∷_ (Row.lease (κs .0) (qs .0)) (List._∷_ (Row.lease (κs .1 .0) (qs .1 .0)) (List._∷_ Row.off (List._∷_ Row.off (List._∷_ Row.alive List.[])))) }
+        G29 = record { locals = List._++_ g16 t1; slots = List._∷_ slot2 (List._∷_ slot0 (List._∷_ Row.off (List._∷_ Row.off slots2))) }
 
         abbrev G30 : Row.Cx
-        G30 = record { locals = List._++_ g16 t1; slots = List._∷_ (Row.lease (κs .0) (qs .0)) (List._∷_ (Row.lease (κs .1 .0) (qs .1 .0)) (List._∷_ Row.off (List._∷_ Row.off (List._∷_ Row.dead List.[])))) }
+        G30 = record { locals = List._++_ g16 t1; slots = List._∷_ slot2 (List._∷_ slot0 (List._∷_ Row.off (List._∷_ Row.off (List._∷_ Row.dead List.[])))) }
 
         abbrev G31 : Row.Cx
-        G31 = record { locals = List._++_ t5 t1; slots = List._∷_ (Row.lease (κs .0) (qs .0)) (List._∷_ (Row.lease (κs .1 .0) (qs .1 .0)) (List._∷_ (Row.lease (κs .1 .1 .0) (qs .1 .1 .0)) (List._∷_ Row.off (List._∷_ Row.dead List.[])))) }
+        G31 = record { locals = List._++_ t5 t1; slots = List._∷_ slot2 (List._∷_ slot0 (List._∷_ slot1 (List._∷_ Row.off (List._∷_ Row.dead List.[])))) }
 
         abbrev G32 : Row.Cx
-        G32 = record { locals = List._++_ t5 t1; slots = List._∷_ (Row.lease (κs .0) (qs .0)) (List._∷_ (Row.lease (κs .1 .0) (qs .1 .0)) (List._∷_ (Row.lease (κs .1 .1 .0) (qs .1 .1 .0)) (List._∷_ Row.off (List._∷_ Row.off List.[])))) }
+        G32 = record { locals = List._++_ t5 t1; slots = List._∷_ slot2 slots0 }
 
         abbrev G33 : Row.Cx
-        G33 = record { locals = List._++_ t5 t1; slots = List._∷_ (Row.lease (κs .0) (qs .0)) (List._∷_ (Row.lease (κs .1 .0) (qs .1 .0)) (List._∷_ (Row.lease (κs .1 .1 .0) (qs .1 .1 .0)) (List._∷_ Row.off (List._∷_ Row.off List.[])))) }
+        G33 = record { locals = List._++_ t5 t1; slots = List._∷_ slot2 slots0 }
 
         abbrev G34 : Row.Cx
-        G34 = record { locals = List._++_ t3 t1; slots = List._∷_ (Row.lease (κs .0) (qs .0)) (List._∷_ (Row.lease (κs .1 .0) (qs .1 .0)) (List._∷_ (Row.lease (κs .1 .1 .0) (qs .1 .1 .0)) (List._∷_ Row.off (List._∷_ Row.off List.[])))) }
+        G34 = record { locals = List._++_ t3 t1; slots = List._∷_ slot2 slots0 }
 
         abbrev G35 : Row.Cx
-        G35 = record { locals = List._++_ t17 t1; slots = List._∷_ (Row.lease (κs .0) (qs .0)) (List._∷_ (Row.lease (κs .1 .0) (qs .1 .0)) (List._∷_ (Row.lease (κs .1 .1 .0) (qs .1 .1 .0)) (List._∷_ Row.off (List._∷_ Row.off List.[])))) }
+        G35 = record { locals = List._++_ t17 t1; slots = List._∷_ slot2 slots0 }
 
         abbrev G36 : Row.Cx
-        G36 = record { locals = List._++_ t18 t1; slots = List._∷_ (Row.lease (κs .0) (qs .0)) (List._∷_ (Row.lease (κs .1 .0) (qs .1 .0)) (List._∷_ (Row.lease (κs .1 .1 .0) (qs .1 .1 .0)) (List._∷_ Row.off (List._∷_ Row.off List.[])))) }
+        G36 = record { locals = List._++_ t18 t1; slots = List._∷_ slot2 slots0 }
 
         abbrev G37 : Row.Cx
-        G37 = record { locals = List._++_ t19 t1; slots = List._∷_ (Row.lease (κs .0) (qs .0)) (List._∷_ (Row.lease (κs .1 .0) (qs .1 .0)) (List._∷_ (Row.lease (κs .1 .1 .0) (qs .1 .1 .0)) (List._∷_ Row.off (List._∷_ Row.off List.[])))) }
+        G37 = record { locals = List._++_ t19 t1; slots = List._∷_ slot2 slots0 }
 
         abbrev G38 : Row.Cx
-        G38 = record { locals = List._++_ t20 t1; slots = List._∷_ (Row.lease (κs .0) (qs .0)) (List._∷_ (Row.lease (κs .1 .0) (qs .1 .0)) (List._∷_ (Row.lease (κs .1 .1 .0) (qs .1 .1 .0)) (List._∷_ Row.off (List._∷_ Row.off List.[])))) }
+        G38 = record { locals = List._++_ t20 t1; slots = List._∷_ slot2 slots0 }
 
         abbrev G39 : Row.Cx
-        G39 = record { locals = List._++_ t2 t1; slots = List._∷_ (Row.lease (κs .0) (qs .0)) (List._∷_ (Row.lease (κs .1 .0) (qs .1 .0)) (List._∷_ (Row.lease (κs .1 .1 .0) (qs .1 .1 .0)) (List._∷_ Row.off (List._∷_ Row.off List.[])))) }
+        G39 = record { locals = List._++_ t2 t1; slots = List._∷_ slot2 slots0 }
 
         abbrev Δ0 : Typed.Outs
         Δ0 = record { next = Option.none; exits = List.[]; returns = Option.some G1 }
@@ -783,19 +964,19 @@ module _ (claims· : Claims) where
           d4 = Scalar.t-cond 𝓤 H A W E 𝓣 G5 9 (λ x. x) b2 b3 Δ4 at1 at3 (Scalar.reads-sc 𝓤 H A W Row.sBool) Path'.refl d1 d3
 
           d5 : Typed.Typed 𝓤 H A 𝓣 E G11 b7 Δ3 at5
-          d5 = Typed.s-typed 𝓤 H A W 𝓣 E G11 b7 Δ3 (λ Ψ. Typed.ask s8 (Typed.pass T12 T13 s9 Ψ)) tt (Typed.g-post 𝓤 H A W 𝓣 E G11 G12 G13 b7 (Typed.ask s8) (Typed.pass T12 T13 s9) (Scalar.t-op2 𝓤 H A W E 𝓣 G11 (Syntax.add Syntax.unsigned) (Scalar.oAt 7 (Syntax.tyInt Syntax.w64) (Row.valS (Row.sInt Syntax.w64))) (Scalar.oInt Syntax.w64 1) 7 (Rows.sc-here (Row.sInt Syntax.w64)) (Syntax.tyInt Syntax.w64) (Row.valS (Row.sInt Syntax.w64)) (Row.sInt Syntax.w64 .of) (Scalar.reads-sc 𝓤 H A W (Row.sInt Syntax.w64), Path'.refl) tt (Scalar.room-sc 𝓤 H A W (Row.sInt Syntax.w64)) (Scalar.holds-sc 𝓤 H A W (Row.sInt Syntax.w64)) Path'.refl (λ u. Path'.refl) λ u. tt) (Scalar.g-room 𝓤 H A W E G12 8 (Syntax.tyInt Syntax.w64) (Scalar.room-sc 𝓤 H A W (Row.sInt Syntax.w64))))
+          d5 = Typed.s-typed 𝓤 H A W 𝓣 E G11 b7 Δ3 (λ Ψ. Typed.ask s8 (Typed.pass T12 T13 s9 Ψ)) tt (Typed.g-post 𝓤 H A W 𝓣 E G11 G12 G13 b7 (Typed.ask s8) (Typed.pass T12 T13 s9) (Scalar.t-op2 𝓤 H A W E 𝓣 G11 (Syntax.add Syntax.unsigned) (Scalar.oAt 7 ty0 (Row.valS sc0)) (Scalar.oInt Syntax.w64 1) 7 (Rows.sc-here sc0) ty0 (Row.valS sc0) (Row.sInt Syntax.w64 .of) (Scalar.reads-sc 𝓤 H A W sc0, Path'.refl) tt (Scalar.room-sc 𝓤 H A W sc0) (Scalar.holds-sc 𝓤 H A W sc0) Path'.refl (λ u. Path'.refl) λ u. tt) (Scalar.g-room 𝓤 H A W E G12 8 ty0 (Scalar.room-sc 𝓤 H A W sc0)))
 
           d6 : Typed.Typed 𝓤 H A 𝓣 E G10 b7 Δ3 at6
           d6 = Typed.g-pre 𝓤 H A W 𝓣 E G10 G11 b7 Δ3 (Typed.pass T10 T11 s7) at5 (Scalar.g-room 𝓤 H A W E G10 9 Syntax.tyBool (Scalar.room-sc 𝓤 H A W Row.sBool)) d5
 
           d7 : Typed.Typed 𝓤 H A 𝓣 E G32 b15 Δ3 at7
-          d7 = Typed.s-typed 𝓤 H A W 𝓣 E G32 b15 Δ3 (λ Ψ. Typed.ask s29 (Typed.pass T33 T34 s30 Ψ)) tt (Typed.g-post 𝓤 H A W 𝓣 E G32 G33 G34 b15 (Typed.ask s29) (Typed.pass T33 T34 s30) (Scalar.t-op2 𝓤 H A W E 𝓣 G32 (Syntax.add Syntax.unsigned) (Scalar.oAt 7 (Syntax.tyInt Syntax.w64) (Row.valS (Row.sInt Syntax.w64))) (Scalar.oInt Syntax.w64 1) 7 (Rows.sc-here (Row.sInt Syntax.w64)) (Syntax.tyInt Syntax.w64) (Row.valS (Row.sInt Syntax.w64)) (Row.sInt Syntax.w64 .of) (Scalar.reads-sc 𝓤 H A W (Row.sInt Syntax.w64), Path'.refl) tt (Scalar.room-sc 𝓤 H A W (Row.sInt Syntax.w64)) (Scalar.holds-sc 𝓤 H A W (Row.sInt Syntax.w64)) Path'.refl (λ u. Path'.refl) λ u. tt) (Scalar.g-room 𝓤 H A W E G33 8 (Syntax.tyInt Syntax.w64) (Scalar.room-sc 𝓤 H A W (Row.sInt Syntax.w64))))
+          d7 = Typed.s-typed 𝓤 H A W 𝓣 E G32 b15 Δ3 (λ Ψ. Typed.ask s29 (Typed.pass T33 T34 s30 Ψ)) tt (Typed.g-post 𝓤 H A W 𝓣 E G32 G33 G34 b15 (Typed.ask s29) (Typed.pass T33 T34 s30) (Scalar.t-op2 𝓤 H A W E 𝓣 G32 (Syntax.add Syntax.unsigned) (Scalar.oAt 7 ty0 (Row.valS sc0)) (Scalar.oInt Syntax.w64 1) 7 (Rows.sc-here sc0) ty0 (Row.valS sc0) (Row.sInt Syntax.w64 .of) (Scalar.reads-sc 𝓤 H A W sc0, Path'.refl) tt (Scalar.room-sc 𝓤 H A W sc0) (Scalar.holds-sc 𝓤 H A W sc0) Path'.refl (λ u. Path'.refl) λ u. tt) (Scalar.g-room 𝓤 H A W E G33 8 ty0 (Scalar.room-sc 𝓤 H A W sc0)))
 
           d8 : Typed.Typed 𝓤 H A 𝓣 E G31 b15 Δ3 at8
           d8 = Typed.g-pre 𝓤 H A W 𝓣 E G31 G32 b15 Δ3 (λ Ψ. Ψ) at7 (Lifetime.g-forget 𝓤 H A W E G31 4 Row.dead Path'.refl) d7
 
           d9 : Typed.Typed 𝓤 H A 𝓣 E G30 b15 Δ3 at9
-          d9 = Typed.g-pre 𝓤 H A W 𝓣 E G30 G31 b15 Δ3 (Typed.both s27) at8 (Relend.g-back-sl 𝓤 H A W E Cell.R G30 14 6 2 4 (Syntax.tyRef (Syntax.named 2) Syntax.mut Cell.behind) (Syntax.tyRef Syntax.erased Syntax.mut Cell.behind) (Row.lease (κs .1 .1 .0) (qs .1 .1 .0)) (λ x. x) (λ x. x) (Reads.as-is 𝓤 H A (Mut.msleft Cell.R (Syntax.tyRef Syntax.erased Syntax.mut Cell.behind))) (Reads.as-is 𝓤 H A (Relend.mslice-owed Cell.R (Syntax.tyRef (Syntax.named 2) Syntax.mut Cell.behind) 2 4 (Row.lease (κs .1 .1 .0) (qs .1 .1 .0)))) Path'.refl Path'.refl) d8
+          d9 = Typed.g-pre 𝓤 H A W 𝓣 E G30 G31 b15 Δ3 (Typed.both s27) at8 (Relend.g-back-sl 𝓤 H A W E Cell.R G30 14 6 2 4 ty6 ty1 slot1 (λ x. x) (λ x. x) (Reads.as-is 𝓤 H A (Mut.msleft Cell.R ty1)) (Reads.as-is 𝓤 H A (Relend.mslice-owed Cell.R ty6 2 4 slot1)) Path'.refl Path'.refl) d8
 
           d10 : Typed.Typed 𝓤 H A 𝓣 E G29 b15 Δ3 at10
           d10 = Typed.g-pre 𝓤 H A W 𝓣 E G29 G30 b15 Δ3 (λ Ψ. Ψ) at9 (Lifetime.g-end 𝓤 H A W E G29 4 Path'.refl) d9
@@ -804,43 +985,43 @@ module _ (claims· : Claims) where
           d11 = Typed.g-pre 𝓤 H A W 𝓣 E G28 G29 b15 Δ3 (λ Ψ. Ψ) at10 (Lifetime.g-forget 𝓤 H A W E G28 3 Row.dead Path'.refl) d10
 
           d12 : Typed.Typed 𝓤 H A 𝓣 E G27 b15 Δ3 at12
-          d12 = Typed.g-pre 𝓤 H A W 𝓣 E G27 G28 b15 Δ3 (Typed.both s24) at11 (Relend.g-back-sl 𝓤 H A W E Cell.R G27 12 5 1 3 (Syntax.tyRef (Syntax.named 1) Syntax.mut Cell.behind) (Syntax.tyRef Syntax.erased Syntax.mut Cell.behind) (Row.lease (κs .1 .0) (qs .1 .0)) (λ x. x) (λ x. x) (Reads.as-is 𝓤 H A (Mut.msleft Cell.R (Syntax.tyRef Syntax.erased Syntax.mut Cell.behind))) (Reads.as-is 𝓤 H A (Relend.mslice-owed Cell.R (Syntax.tyRef (Syntax.named 1) Syntax.mut Cell.behind) 1 3 (Row.lease (κs .1 .0) (qs .1 .0)))) Path'.refl Path'.refl) d11
+          d12 = Typed.g-pre 𝓤 H A W 𝓣 E G27 G28 b15 Δ3 (Typed.both s24) at11 (Relend.g-back-sl 𝓤 H A W E Cell.R G27 12 5 1 3 ty5 ty1 slot0 (λ x. x) (λ x. x) (Reads.as-is 𝓤 H A (Mut.msleft Cell.R ty1)) (Reads.as-is 𝓤 H A (Relend.mslice-owed Cell.R ty5 1 3 slot0)) Path'.refl Path'.refl) d11
 
           d13 : Typed.Typed 𝓤 H A 𝓣 E G26 b15 Δ3 at13
           d13 = Typed.g-pre 𝓤 H A W 𝓣 E G26 G27 b15 Δ3 (λ Ψ. Ψ) at12 (Lifetime.g-end 𝓤 H A W E G26 3 Path'.refl) d12
 
           d14 : Typed.Typed 𝓤 H A 𝓣 E G25 b15 Δ3 at14
-          d14 = Typed.g-pre 𝓤 H A W 𝓣 E G25 G26 b15 Δ3 (Typed.pass T25 T26 s22) at13 (Scalar.g-room 𝓤 H A W E G25 16 (Syntax.tyInt Syntax.w64) (Scalar.room-sc 𝓤 H A W (Row.sInt Syntax.w64))) d13
+          d14 = Typed.g-pre 𝓤 H A W 𝓣 E G25 G26 b15 Δ3 (Typed.pass T25 T26 s22) at13 (Scalar.g-room 𝓤 H A W E G25 16 ty0 (Scalar.room-sc 𝓤 H A W sc0)) d13
 
           d15 : Typed.Typed 𝓤 H A 𝓣 E G24 b15 Δ3 at15
-          d15 = Typed.g-pre 𝓤 H A W 𝓣 E G24 G25 b15 Δ3 (Typed.pass T24 T25 s21) at14 (Scalar.g-room 𝓤 H A W E G24 15 (Syntax.tyInt Syntax.w64) (Scalar.room-sc 𝓤 H A W (Row.sInt Syntax.w64))) d14
+          d15 = Typed.g-pre 𝓤 H A W 𝓣 E G24 G25 b15 Δ3 (Typed.pass T24 T25 s21) at14 (Scalar.g-room 𝓤 H A W E G24 15 ty0 (Scalar.room-sc 𝓤 H A W sc0)) d14
 
           d16 : Typed.Typed 𝓤 H A 𝓣 E G23 b15 Δ3 at16
           d16 = Typed.g-pre 𝓤 H A W 𝓣 E G23 G24 b15 Δ3 (Typed.pass T23 T24 s20) at15 (Scalar.g-room 𝓤 H A W E G23 10 Syntax.tyUnit (Scalar.room-sc 𝓤 H A W Row.sUnit)) d15
 
           d17 : Typed.Typed 𝓤 H A 𝓣 E G22 b16 Δ3 at17
-          d17 = Typed.s-seq 𝓤 H A W 𝓣 E G22 G23 b14 b15 Δ3 (Typed.both s19) at16 (Plain.t-call-plain 𝓤 H A W 𝓣 2 ps·1 r·1 (claims· .2) (claims· .3) "sheets::loops::merge_at" (known .1) E (λ pos β. β) G22 (record { pos = 12; ty = Syntax.tyRef Syntax.erased Syntax.mut Cell.behind; ref = λ x. x }, (record { pos = 14; ty = Syntax.tyRef Syntax.erased Syntax.mut Cell.behind; ref = λ x. x }, (Num.vAt 15 λ x. x, (Num.vAt 16 λ x. x, (Num.vAt 7 λ x. x, tt))))) 10 (List._∷_ 3 (List._∷_ 4 List.[])) (Call.sub-id 𝓤 H A W (G22 .slots)) (Reads.as-is 𝓤 H A (Mut.mslice Cell.R (Syntax.tyRef Syntax.erased Syntax.mut Cell.behind) 3), Mut.reads-mslice 𝓤 H A W Cell.R (Syntax.tyRef Syntax.erased Syntax.mut Cell.behind) 3, Path'.refl, (Reads.as-is 𝓤 H A (Mut.mslice Cell.R (Syntax.tyRef Syntax.erased Syntax.mut Cell.behind) 4), Mut.reads-mslice 𝓤 H A W Cell.R (Syntax.tyRef Syntax.erased Syntax.mut Cell.behind) 4, Path'.refl, ((Scalar.reads-sc 𝓤 H A W (Row.sInt Syntax.w64), Path'.refl), ((Scalar.reads-sc 𝓤 H A W (Row.sInt Syntax.w64), Path'.refl), ((Scalar.reads-sc 𝓤 H A W (Row.sInt Syntax.w64), Path'.refl), tt))))) (Reads.room-gone 𝓤 H A Syntax.tyUnit) (tt, (tt, tt)) Path'.refl) d16
+          d17 = Typed.s-seq 𝓤 H A W 𝓣 E G22 G23 b14 b15 Δ3 (Typed.both s19) at16 (Plain.t-call-plain 𝓤 H A W 𝓣 2 ps·1 r·1 (claims· .2) (claims· .3) "sheets::loops::merge_at" (known .1) E (λ pos β. β) G22 (record { pos = 12; ty = Syntax.tyRef Syntax.erased Syntax.mut Cell.behind; ref = λ x. x }, (record { pos = 14; ty = Syntax.tyRef Syntax.erased Syntax.mut Cell.behind; ref = λ x. x }, (Num.vAt 15 λ x. x, (Num.vAt 16 λ x. x, (Num.vAt 7 λ x. x, tt))))) 10 (List._∷_ 3 (List._∷_ 4 List.[])) (Call.sub-id 𝓤 H A W (G22 .slots)) (Reads.as-is 𝓤 H A (Mut.mslice Cell.R ty1 3), Mut.reads-mslice 𝓤 H A W Cell.R ty1 3, Path'.refl, (Reads.as-is 𝓤 H A (Mut.mslice Cell.R ty1 4), Mut.reads-mslice 𝓤 H A W Cell.R ty1 4, Path'.refl, ((Scalar.reads-sc 𝓤 H A W sc0, Path'.refl), ((Scalar.reads-sc 𝓤 H A W sc0, Path'.refl), ((Scalar.reads-sc 𝓤 H A W sc0, Path'.refl), tt))))) (Reads.room-gone 𝓤 H A Syntax.tyUnit) (tt, (tt, tt)) Path'.refl) d16
 
           d18 : Typed.Typed 𝓤 H A 𝓣 E G21 b17 Δ3 at18
-          d18 = Typed.s-seq 𝓤 H A W 𝓣 E G21 G22 b13 b16 Δ3 (Typed.ask s18) at17 (Scalar.t-op2 𝓤 H A W E 𝓣 G21 (Syntax.rem Syntax.unsigned) (Scalar.oAt 8 (Syntax.tyInt Syntax.w64) (Row.valS (Row.sInt Syntax.w64))) (Scalar.oBig Syntax.w64 65536) 16 (Rows.sc-here (Row.sInt Syntax.w64)) (Syntax.tyInt Syntax.w64) (Row.valS (Row.sInt Syntax.w64)) (Row.sInt Syntax.w64 .of) (Scalar.reads-sc 𝓤 H A W (Row.sInt Syntax.w64), Path'.refl) record { lower = record { fits = Dec'.lit< tt } } (Reads.room-gone 𝓤 H A (Syntax.tyInt Syntax.w64)) (Scalar.holds-sc 𝓤 H A W (Row.sInt Syntax.w64)) Path'.refl (λ u. Path'.refl) λ u. tt) d17
+          d18 = Typed.s-seq 𝓤 H A W 𝓣 E G21 G22 b13 b16 Δ3 (Typed.ask s18) at17 (Scalar.t-op2 𝓤 H A W E 𝓣 G21 (Syntax.rem Syntax.unsigned) (Scalar.oAt 8 ty0 (Row.valS sc0)) (Scalar.oBig Syntax.w64 65536) 16 (Rows.sc-here sc0) ty0 (Row.valS sc0) (Row.sInt Syntax.w64 .of) (Scalar.reads-sc 𝓤 H A W sc0, Path'.refl) record { lower = record { fits = Dec'.lit< tt } } (Reads.room-gone 𝓤 H A ty0) (Scalar.holds-sc 𝓤 H A W sc0) Path'.refl (λ u. Path'.refl) λ u. tt) d17
 
           d19 : Typed.Typed 𝓤 H A 𝓣 E G20 b18 Δ3 at19
-          d19 = Typed.s-seq 𝓤 H A W 𝓣 E G20 G21 b12 b17 Δ3 (Typed.ask s17) at18 (Scalar.t-op2 𝓤 H A W E 𝓣 G20 (Syntax.div Syntax.unsigned) (Scalar.oAt 8 (Syntax.tyInt Syntax.w64) (Row.valS (Row.sInt Syntax.w64))) (Scalar.oBig Syntax.w64 65536) 15 (Rows.sc-here (Row.sInt Syntax.w64)) (Syntax.tyInt Syntax.w64) (Row.valS (Row.sInt Syntax.w64)) (Row.sInt Syntax.w64 .of) (Scalar.reads-sc 𝓤 H A W (Row.sInt Syntax.w64), Path'.refl) record { lower = record { fits = Dec'.lit< tt } } (Reads.room-gone 𝓤 H A (Syntax.tyInt Syntax.w64)) (Scalar.holds-sc 𝓤 H A W (Row.sInt Syntax.w64)) Path'.refl (λ u. Path'.refl) λ u. tt) d18
+          d19 = Typed.s-seq 𝓤 H A W 𝓣 E G20 G21 b12 b17 Δ3 (Typed.ask s17) at18 (Scalar.t-op2 𝓤 H A W E 𝓣 G20 (Syntax.div Syntax.unsigned) (Scalar.oAt 8 ty0 (Row.valS sc0)) (Scalar.oBig Syntax.w64 65536) 15 (Rows.sc-here sc0) ty0 (Row.valS sc0) (Row.sInt Syntax.w64 .of) (Scalar.reads-sc 𝓤 H A W sc0, Path'.refl) record { lower = record { fits = Dec'.lit< tt } } (Reads.room-gone 𝓤 H A ty0) (Scalar.holds-sc 𝓤 H A W sc0) Path'.refl (λ u. Path'.refl) λ u. tt) d18
 
           d20 : Typed.Typed 𝓤 H A 𝓣 E G19 b19 Δ3 at20
-          d20 = Typed.s-seq 𝓤 H A W 𝓣 E G19 G20 b11 b18 Δ3 (Typed.ask s16) at19 (Relend.t-sl-aggregate 𝓤 H A W E Cell.R 𝓣 (Relend.asMut Cell.R) G19 13 14 4 (Syntax.tyRef Syntax.erased Syntax.mut Cell.behind) (Syntax.tyRef Syntax.erased Syntax.mut Cell.behind) (λ x. x) (Scalar.oFld 6 (List._∷_ (Syntax.field 1) List.[]) (Syntax.tyInt Syntax.w64) 8 λ v. Shared.lenV (v .0)) (Reads.as-is 𝓤 H A (Relend.msptr Cell.R (Syntax.tyRef Syntax.erased Syntax.mut Cell.behind) 4)) (Reads.room-gone 𝓤 H A (Syntax.tyStruct (List._∷_ 38 (List._∷_ 91 (List._∷_ 93 List.[]))) (Syntax.tcons (Syntax.tyRef Syntax.erased Syntax.mut Cell.behind) (Syntax.tcons (Syntax.tyInt Syntax.w64) Syntax.tnil)))) (Relend.reads-owed-len 𝓤 H A W Cell.R (Syntax.tyRef (Syntax.named 2) Syntax.mut Cell.behind) 2 4 (Row.lease (κs .1 .1 .0) (qs .1 .1 .0)) 8 Path'.refl, Path'.refl) Path'.refl Path'.refl λ b o k. tt) d19
+          d20 = Typed.s-seq 𝓤 H A W 𝓣 E G19 G20 b11 b18 Δ3 (Typed.ask s16) at19 (Relend.t-sl-aggregate 𝓤 H A W E Cell.R 𝓣 (Relend.asMut Cell.R) G19 13 14 4 ty1 ty1 (λ x. x) (Scalar.oFld 6 steps1 ty0 8 λ v. Shared.lenV (v .0)) (Reads.as-is 𝓤 H A (Relend.msptr Cell.R ty1 4)) (Reads.room-gone 𝓤 H A ty2) (Relend.reads-owed-len 𝓤 H A W Cell.R ty6 2 4 slot1 8 Path'.refl, Path'.refl) Path'.refl Path'.refl λ b o k. tt) d19
 
           d21 : Typed.Typed 𝓤 H A 𝓣 E G18 b20 Δ3 at21
-          d21 = Typed.s-seq 𝓤 H A W 𝓣 E G18 G19 b10 b19 Δ3 (Typed.give s15) at20 (Relend.t-sl-relend 𝓤 H A W E Cell.R 𝓣 G18 6 13 2 4 (Syntax.tyRef (Syntax.named 2) Syntax.mut Cell.behind) (Syntax.tyRef Syntax.erased Syntax.mut Cell.behind) (Row.lease (κs .1 .1 .0) (qs .1 .1 .0)) 0 (λ x. x) (Reads.as-is 𝓤 H A (Mut.mslice Cell.R (Syntax.tyRef (Syntax.named 2) Syntax.mut Cell.behind) 2)) (Reads.room-gone 𝓤 H A (Syntax.tyRef Syntax.erased Syntax.mut Cell.behind)) Path'.refl tt Path'.refl Path'.refl Path'.refl λ b o. tt) d20
+          d21 = Typed.s-seq 𝓤 H A W 𝓣 E G18 G19 b10 b19 Δ3 (Typed.give s15) at20 (Relend.t-sl-relend 𝓤 H A W E Cell.R 𝓣 G18 6 13 2 4 ty6 ty1 slot1 0 (λ x. x) (Reads.as-is 𝓤 H A (Mut.mslice Cell.R ty6 2)) (Reads.room-gone 𝓤 H A ty1) Path'.refl tt Path'.refl Path'.refl Path'.refl λ b o. tt) d20
 
           d22 : Typed.Typed 𝓤 H A 𝓣 E G17 b20 Δ3 at22
           d22 = Typed.g-pre 𝓤 H A W 𝓣 E G17 G18 b20 Δ3 (λ Ψ. Ψ) at21 (Lifetime.g-begin 𝓤 H A W E G17 4 (tt, (tt, (tt, (tt, (tt, ((tt, tt), (tt, (tt, (tt, (tt, (tt, (tt, (tt, (tt, (tt, (tt, (tt, tt)))))))))))))))))) d21
 
           d23 : Typed.Typed 𝓤 H A 𝓣 E G16 b21 Δ3 at23
-          d23 = Typed.s-seq 𝓤 H A W 𝓣 E G16 G17 b9 b20 Δ3 (Typed.ask s13) at22 (Relend.t-sl-aggregate 𝓤 H A W E Cell.R 𝓣 (Relend.asMut Cell.R) G16 11 12 3 (Syntax.tyRef Syntax.erased Syntax.mut Cell.behind) (Syntax.tyRef Syntax.erased Syntax.mut Cell.behind) (λ x. x) (Scalar.oFld 5 (List._∷_ (Syntax.field 1) List.[]) (Syntax.tyInt Syntax.w64) 8 λ v. Shared.lenV (v .0)) (Reads.as-is 𝓤 H A (Relend.msptr Cell.R (Syntax.tyRef Syntax.erased Syntax.mut Cell.behind) 3)) (Reads.room-gone 𝓤 H A (Syntax.tyStruct (List._∷_ 38 (List._∷_ 91 (List._∷_ 93 List.[]))) (Syntax.tcons (Syntax.tyRef Syntax.erased Syntax.mut Cell.behind) (Syntax.tcons (Syntax.tyInt Syntax.w64) Syntax.tnil)))) (Relend.reads-owed-len 𝓤 H A W Cell.R (Syntax.tyRef (Syntax.named 1) Syntax.mut Cell.behind) 1 3 (Row.lease (κs .1 .0) (qs .1 .0)) 8 Path'.refl, Path'.refl) Path'.refl Path'.refl λ b o k. tt) d22
+          d23 = Typed.s-seq 𝓤 H A W 𝓣 E G16 G17 b9 b20 Δ3 (Typed.ask s13) at22 (Relend.t-sl-aggregate 𝓤 H A W E Cell.R 𝓣 (Relend.asMut Cell.R) G16 11 12 3 ty1 ty1 (λ x. x) (Scalar.oFld 5 steps1 ty0 8 λ v. Shared.lenV (v .0)) (Reads.as-is 𝓤 H A (Relend.msptr Cell.R ty1 3)) (Reads.room-gone 𝓤 H A ty2) (Relend.reads-owed-len 𝓤 H A W Cell.R ty5 1 3 slot0 8 Path'.refl, Path'.refl) Path'.refl Path'.refl λ b o k. tt) d22
 
           d24 : Typed.Typed 𝓤 H A 𝓣 E G15 b22 Δ3 at24
-          d24 = Typed.s-seq 𝓤 H A W 𝓣 E G15 G16 b8 b21 Δ3 (Typed.give s12) at23 (Relend.t-sl-relend 𝓤 H A W E Cell.R 𝓣 G15 5 11 1 3 (Syntax.tyRef (Syntax.named 1) Syntax.mut Cell.behind) (Syntax.tyRef Syntax.erased Syntax.mut Cell.behind) (Row.lease (κs .1 .0) (qs .1 .0)) 0 (λ x. x) (Reads.as-is 𝓤 H A (Mut.mslice Cell.R (Syntax.tyRef (Syntax.named 1) Syntax.mut Cell.behind) 1)) (Reads.room-gone 𝓤 H A (Syntax.tyRef Syntax.erased Syntax.mut Cell.behind)) Path'.refl tt Path'.refl Path'.refl Path'.refl λ b o. tt) d23
+          d24 = Typed.s-seq 𝓤 H A W 𝓣 E G15 G16 b8 b21 Δ3 (Typed.give s12) at23 (Relend.t-sl-relend 𝓤 H A W E Cell.R 𝓣 G15 5 11 1 3 ty5 ty1 slot0 0 (λ x. x) (Reads.as-is 𝓤 H A (Mut.mslice Cell.R ty5 1)) (Reads.room-gone 𝓤 H A ty1) Path'.refl tt Path'.refl Path'.refl Path'.refl λ b o. tt) d23
 
           d25 : Typed.Typed 𝓤 H A 𝓣 E G14 b22 Δ3 at25
           d25 = Typed.g-pre 𝓤 H A W 𝓣 E G14 G15 b22 Δ3 (λ Ψ. Ψ) at24 (Lifetime.g-begin 𝓤 H A W E G14 3 (tt, (tt, (tt, (tt, (tt, (tt, (tt, (tt, (tt, (tt, (tt, (tt, (tt, (tt, (tt, (tt, (tt, tt)))))))))))))))))) d24
@@ -852,16 +1033,16 @@ module _ (claims· : Claims) where
           d27 = Scalar.t-cond 𝓤 H A W E 𝓣 G10 9 (λ x. x) b7 b22 Δ3 at6 at26 (Scalar.reads-sc 𝓤 H A W Row.sBool) Path'.refl d6 d26
 
           d28 : Typed.Typed 𝓤 H A 𝓣 E G9 b24 Δ3 at28
-          d28 = Typed.s-seq 𝓤 H A W 𝓣 E G9 G10 b6 b23 Δ3 (Typed.ask s6) at27 (Scalar.t-op2 𝓤 H A W E 𝓣 G9 Syntax.eq (Scalar.oAt 8 (Syntax.tyInt Syntax.w64) (Row.valS (Row.sInt Syntax.w64))) (Scalar.oInt Syntax.w64 0) 9 (Rows.sc-here Row.sBool) Syntax.tyBool (Row.valS Row.sBool) (Row.sBool .of) (Scalar.reads-sc 𝓤 H A W (Row.sInt Syntax.w64), Path'.refl) tt (Reads.room-gone 𝓤 H A Syntax.tyBool) (Scalar.holds-sc 𝓤 H A W Row.sBool) Path'.refl (λ u. Path'.refl) λ u. tt) d27
+          d28 = Typed.s-seq 𝓤 H A W 𝓣 E G9 G10 b6 b23 Δ3 (Typed.ask s6) at27 (Scalar.t-op2 𝓤 H A W E 𝓣 G9 Syntax.eq (Scalar.oAt 8 ty0 (Row.valS sc0)) (Scalar.oInt Syntax.w64 0) 9 (Rows.sc-here Row.sBool) Syntax.tyBool (Row.valS Row.sBool) (Row.sBool .of) (Scalar.reads-sc 𝓤 H A W sc0, Path'.refl) tt (Reads.room-gone 𝓤 H A Syntax.tyBool) (Scalar.holds-sc 𝓤 H A W Row.sBool) Path'.refl (λ u. Path'.refl) λ u. tt) d27
 
           d29 : Typed.Typed 𝓤 H A 𝓣 E G6 b25 Δ3 at29
-          d29 = Typed.s-seq 𝓤 H A W 𝓣 E G6 G9 b5 b24 Δ3 (Typed.both s5) at28 (Plain.t-call-plain 𝓤 H A W 𝓣 1 ps·0 r·0 (claims· .0) (claims· .1) "sheets::loops::note" (known .0) E (λ pos β. β) G6 (record { pos = 1; ty = Syntax.tyRef (Syntax.named 0) Syntax.imm (Syntax.tyInt Syntax.w32); ref = λ x. x }, (Num.vAt 2 λ x. x, (Num.vAt 7 λ x. x, tt))) 8 (List._∷_ 0 List.[]) (Call.sub-id 𝓤 H A W (G6 .slots)) (ShrSlice.spares-sslice 𝓤 H A W (Referent.rtF (Referent.fInt Syntax.w32)) (Syntax.tyRef (Syntax.named 0) Syntax.imm (Syntax.tyInt Syntax.w32)) 0, Shared.reads-sslice 𝓤 H A W (Referent.rtF (Referent.fInt Syntax.w32)) (Syntax.tyRef (Syntax.named 0) Syntax.imm (Syntax.tyInt Syntax.w32)) 0, Path'.refl, ((Scalar.reads-sc 𝓤 H A W (Row.sInt Syntax.w64), Path'.refl), ((Scalar.reads-sc 𝓤 H A W (Row.sInt Syntax.w64), Path'.refl), tt))) (Reads.room-gone 𝓤 H A (Syntax.tyInt Syntax.w64)) (tt, tt) Path'.refl) d28
+          d29 = Typed.s-seq 𝓤 H A W 𝓣 E G6 G9 b5 b24 Δ3 (Typed.both s5) at28 (Plain.t-call-plain 𝓤 H A W 𝓣 1 ps·0 r·0 (claims· .0) (claims· .1) "sheets::loops::note" (known .0) E (λ pos β. β) G6 (record { pos = 1; ty = Syntax.tyRef (Syntax.named 0) Syntax.imm ty3; ref = λ x. x }, (Num.vAt 2 λ x. x, (Num.vAt 7 λ x. x, tt))) 8 (List._∷_ 0 List.[]) (Call.sub-id 𝓤 H A W (G6 .slots)) (ShrSlice.spares-sslice 𝓤 H A W held0 ty4 0, Shared.reads-sslice 𝓤 H A W held0 ty4 0, Path'.refl, ((Scalar.reads-sc 𝓤 H A W sc0, Path'.refl), ((Scalar.reads-sc 𝓤 H A W sc0, Path'.refl), tt))) (Reads.room-gone 𝓤 H A ty0) (tt, tt) Path'.refl) d28
 
           d30 : Typed.Typed 𝓤 H A 𝓣 E G5 b26 Δ3 at30
           d30 = Typed.t-seq 𝓤 H A W 𝓣 E G5 G6 b4 b25 Δ3 at4 at29 d4 d29
 
           d31 : Typed.Typed 𝓤 H A 𝓣 E G3 b27 Δ3 at31
-          d31 = Typed.s-seq 𝓤 H A W 𝓣 E G3 G5 b1 b26 Δ3 (Typed.ask s2) at30 (Scalar.t-op2 𝓤 H A W E 𝓣 G3 (Syntax.lt Syntax.unsigned) (Scalar.oAt 7 (Syntax.tyInt Syntax.w64) (Row.valS (Row.sInt Syntax.w64))) (Scalar.oAt 4 (Syntax.tyInt Syntax.w64) (Row.valS (Row.sInt Syntax.w64))) 9 (Rows.sc-here Row.sBool) Syntax.tyBool (Row.valS Row.sBool) (Row.sBool .of) (Scalar.reads-sc 𝓤 H A W (Row.sInt Syntax.w64), Path'.refl) (Scalar.reads-sc 𝓤 H A W (Row.sInt Syntax.w64), Path'.refl) (Reads.room-gone 𝓤 H A Syntax.tyBool) (Scalar.holds-sc 𝓤 H A W Row.sBool) Path'.refl (λ u. Path'.refl) λ u. tt) d30
+          d31 = Typed.s-seq 𝓤 H A W 𝓣 E G3 G5 b1 b26 Δ3 (Typed.ask s2) at30 (Scalar.t-op2 𝓤 H A W E 𝓣 G3 (Syntax.lt Syntax.unsigned) (Scalar.oAt 7 ty0 (Row.valS sc0)) (Scalar.oAt 4 ty0 (Row.valS sc0)) 9 (Rows.sc-here Row.sBool) Syntax.tyBool (Row.valS Row.sBool) (Row.sBool .of) (Scalar.reads-sc 𝓤 H A W sc0, Path'.refl) (Scalar.reads-sc 𝓤 H A W sc0, Path'.refl) (Reads.room-gone 𝓤 H A Syntax.tyBool) (Scalar.holds-sc 𝓤 H A W Row.sBool) Path'.refl (λ u. Path'.refl) λ u. tt) d30
 
           d32 : Typed.Typed 𝓤 H A 𝓣 E G3 b28 Δ2 at32
           d32 = Typed.t-loop-by 𝓤 H A W 𝓣 E G3 b27 Δ2 put0 (λ u vs. Inv·0 (Row.get 1 (T3 .locals) u .now) (Row.get 2 (T3 .locals) u) (Row.get 3 (T3 .locals) u) (Row.get 4 (T3 .locals) u) (Row.get 5 (T3 .locals) u .now) (Row.get 6 (T3 .locals) u .now) (Row.get 7 (T3 .locals) u) (vs .0) (vs .1) (vs .2)) (λ u vs. μ·0 (Row.get 1 (T3 .locals) u .now) (Row.get 2 (T3 .locals) u) (Row.get 3 (T3 .locals) u) (Row.get 4 (T3 .locals) u) (Row.get 5 (T3 .locals) u .now) (Row.get 6 (T3 .locals) u .now) (Row.get 7 (T3 .locals) u) (vs .0) (vs .1) (vs .2)) at31 d31
@@ -873,16 +1054,16 @@ module _ (claims· : Claims) where
           d34 = Typed.t-return 𝓤 H A W 𝓣 E Δ0 tt
 
           d35 : Typed.Typed 𝓤 H A 𝓣 E G38 b31 Δ0 at35
-          d35 = Typed.g-pre 𝓤 H A W 𝓣 E G38 G39 b31 Δ0 (Typed.pass T38 T39 s35) at34 (Scalar.g-room 𝓤 H A W E G38 4 (Syntax.tyInt Syntax.w64) (Scalar.room-sc 𝓤 H A W (Row.sInt Syntax.w64))) d34
+          d35 = Typed.g-pre 𝓤 H A W 𝓣 E G38 G39 b31 Δ0 (Typed.pass T38 T39 s35) at34 (Scalar.g-room 𝓤 H A W E G38 4 ty0 (Scalar.room-sc 𝓤 H A W sc0)) d34
 
           d36 : Typed.Typed 𝓤 H A 𝓣 E G37 b31 Δ0 at36
-          d36 = Typed.g-pre 𝓤 H A W 𝓣 E G37 G38 b31 Δ0 (Typed.pass T37 T38 s34) at35 (Scalar.g-room 𝓤 H A W E G37 3 (Syntax.tyInt Syntax.w64) (Scalar.room-sc 𝓤 H A W (Row.sInt Syntax.w64))) d35
+          d36 = Typed.g-pre 𝓤 H A W 𝓣 E G37 G38 b31 Δ0 (Typed.pass T37 T38 s34) at35 (Scalar.g-room 𝓤 H A W E G37 3 ty0 (Scalar.room-sc 𝓤 H A W sc0)) d35
 
           d37 : Typed.Typed 𝓤 H A 𝓣 E G36 b31 Δ0 at37
-          d37 = Typed.g-pre 𝓤 H A W 𝓣 E G36 G37 b31 Δ0 (Typed.pass T36 T37 s33) at36 (Scalar.g-room 𝓤 H A W E G36 2 (Syntax.tyInt Syntax.w64) (Scalar.room-sc 𝓤 H A W (Row.sInt Syntax.w64))) d36
+          d37 = Typed.g-pre 𝓤 H A W 𝓣 E G36 G37 b31 Δ0 (Typed.pass T36 T37 s33) at36 (Scalar.g-room 𝓤 H A W E G36 2 ty0 (Scalar.room-sc 𝓤 H A W sc0)) d36
 
           d38 : Typed.Typed 𝓤 H A 𝓣 E G35 b31 Δ0 at38
-          d38 = Typed.g-pre 𝓤 H A W 𝓣 E G35 G36 b31 Δ0 (Typed.pass T35 T36 s32) at37 (Scalar.g-room 𝓤 H A W E G35 7 (Syntax.tyInt Syntax.w64) (Scalar.room-sc 𝓤 H A W (Row.sInt Syntax.w64))) d37
+          d38 = Typed.g-pre 𝓤 H A W 𝓣 E G35 G36 b31 Δ0 (Typed.pass T35 T36 s32) at37 (Scalar.g-room 𝓤 H A W E G35 7 ty0 (Scalar.room-sc 𝓤 H A W sc0)) d37
 
           d39 : Typed.Typed 𝓤 H A 𝓣 E G4 b32 Δ0 at39
           d39 = Typed.s-seq 𝓤 H A W 𝓣 E G4 G35 b30 b31 Δ0 (Typed.pass T4 T35 s31) at38 (Scalar.t-use 𝓤 H A W E 𝓣 G4 Scalar.oUnit 0 (Rows.sc-here Row.sUnit) Syntax.tyUnit (Row.valS Row.sUnit) (Row.sUnit .of) tt (Reads.room-gone 𝓤 H A Syntax.tyUnit) (Scalar.holds-sc 𝓤 H A W Row.sUnit) Path'.refl (λ u. Path'.refl) λ u. tt) d38
@@ -891,17 +1072,17 @@ module _ (claims· : Claims) where
           d40 = Typed.t-seq 𝓤 H A W 𝓣 E G3 G4 b29 b32 Δ0 at33 at39 d33 d39
 
           d41 : Typed.Typed 𝓤 H A 𝓣 E G2 b34 Δ0 at41
-          d41 = Typed.s-seq 𝓤 H A W 𝓣 E G2 G3 b0 b33 Δ0 (Typed.pass T2 T3 s1) at40 (Scalar.t-use 𝓤 H A W E 𝓣 G2 (Scalar.oAt 3 (Syntax.tyInt Syntax.w64) (Row.valS (Row.sInt Syntax.w64))) 7 (Rows.sc-here (Row.sInt Syntax.w64)) (Syntax.tyInt Syntax.w64) (Row.valS (Row.sInt Syntax.w64)) (Row.sInt Syntax.w64 .of) (Scalar.reads-sc 𝓤 H A W (Row.sInt Syntax.w64), Path'.refl) (Reads.room-gone 𝓤 H A (Syntax.tyInt Syntax.w64)) (Scalar.holds-sc 𝓤 H A W (Row.sInt Syntax.w64)) Path'.refl (λ u. Path'.refl) λ u. tt) d40
+          d41 = Typed.s-seq 𝓤 H A W 𝓣 E G2 G3 b0 b33 Δ0 (Typed.pass T2 T3 s1) at40 (Scalar.t-use 𝓤 H A W E 𝓣 G2 (Scalar.oAt 3 ty0 (Row.valS sc0)) 7 (Rows.sc-here sc0) ty0 (Row.valS sc0) (Row.sInt Syntax.w64 .of) (Scalar.reads-sc 𝓤 H A W sc0, Path'.refl) (Reads.room-gone 𝓤 H A ty0) (Scalar.holds-sc 𝓤 H A W sc0) Path'.refl (λ u. Path'.refl) λ u. tt) d40
 
           d42 : Typed.Typed 𝓤 H A 𝓣 E G0 b34 Δ0 at42
-          d42 = Typed.g-pre 𝓤 H A W 𝓣 E G0 G2 b34 Δ0 (Typed.give s0) at41 (Know.g-shs-known 𝓤 H A W (Referent.fInt Syntax.w32) E G0 1 0 (Syntax.tyRef (Syntax.named 0) Syntax.imm (Syntax.tyInt Syntax.w32)) (Row.lease (κs .0) (qs .0)) 0 (λ x. x) record { fits = Dec'.lit< tt } (Reads.as-is 𝓤 H A (Rows.sslice (Referent.rtF (Referent.fInt Syntax.w32)) (Syntax.tyRef (Syntax.named 0) Syntax.imm (Syntax.tyInt Syntax.w32)) 0)) Path'.refl tt) d41
+          d42 = Typed.g-pre 𝓤 H A W 𝓣 E G0 G2 b34 Δ0 (Typed.give s0) at41 (Know.g-shs-known 𝓤 H A W rf0 E G0 1 0 ty4 slot2 0 (λ x. x) record { fits = Dec'.lit< tt } (Reads.as-is 𝓤 H A (Rows.sslice held0 ty4 0)) Path'.refl tt) d41
 
           pub typed : Typed.Typed 𝓤 H A 𝓣 E (Function.Γin 3 ps r xs m κs qs) b34 (Function.Δret 3 ps r xs m κs qs) Φ
           typed = d42
 
       module _ (κs : Lifetimes.Lfts 3) where
         pub record Args : Type 0 where
-          pub work : Kinds.Den {n = 3} κs (ShrSlice.pShrS (Referent.rtF (Referent.fInt Syntax.w32)) 0 tt)
+          pub work : Kinds.Den {n = 3} κs (ShrSlice.pShrS held0 0 tt)
           pub d : Kinds.Den {n = 3} κs (Num.pNum Syntax.w64)
           pub n : Kinds.Den {n = 3} κs (Num.pNum Syntax.w64)
           pub m : Kinds.Den {n = 3} κs (Num.pNum Syntax.w64)
@@ -953,23 +1134,23 @@ module _ (claims· : Claims) where
       abbrev pub Need-loop-holds : Type 0
       Need-loop-holds = (c : After-shared-slice-known) → Inv·0 (Row.get 1 (T3 .locals) (m2 (c .before) (c .shared-slice-known .given)) .now) (Row.get 2 (T3 .locals) (m2 (c .before) (c .shared-slice-known .given))) (Row.get 3 (T3 .locals) (m2 (c .before) (c .shared-slice-known .given))) (Row.get 4 (T3 .locals) (m2 (c .before) (c .shared-slice-known .given))) (Row.get 5 (T3 .locals) (m2 (c .before) (c .shared-slice-known .given)) .now) (Row.get 6 (T3 .locals) (m2 (c .before) (c .shared-slice-known .given)) .now) (Row.get 7 (T3 .locals) (m2 (c .before) (c .shared-slice-known .given))) (Row.get 5 (T3 .locals) (m2 (c .before) (c .shared-slice-known .given)) .now) (Row.get 6 (T3 .locals) (m2 (c .before) (c .shared-slice-known .given)) .now) (Row.get 7 (T3 .locals) (m2 (c .before) (c .shared-slice-known .given)))
 
-      abbrev pub m3 : (before : After-shared-slice-known) → (sheet : List.List (Cell.R .Denot)) → (kept : List.List (Cell.R .Denot)) → (t : Rows.sc-here (Row.sInt Syntax.w64) .Mod) → Typed.Mo T3
-      m3 = λ before sheet kept t. Row.set 7 (7, Rows.sc-here (Row.sInt Syntax.w64)) t (Row.setRow 6 (6, Mut.mslice Cell.R (Syntax.tyRef (Syntax.named 2) Syntax.mut Cell.behind) 2) (Row.setRow 5 (5, Mut.mslice Cell.R (Syntax.tyRef (Syntax.named 1) Syntax.mut Cell.behind) 1) (T3 .locals))) (Row.set 6 (6, Mut.mslice Cell.R (Syntax.tyRef (Syntax.named 2) Syntax.mut Cell.behind) 2) record { ptr = Row.get 6 (T3 .locals) (m2 (before .before) (before .shared-slice-known .given)) .ptr; name = Row.get 6 (T3 .locals) (m2 (before .before) (before .shared-slice-known .given)) .name; now = kept } (Row.setRow 5 (5, Mut.mslice Cell.R (Syntax.tyRef (Syntax.named 1) Syntax.mut Cell.behind) 1) (T3 .locals)) (Row.set 5 (5, Mut.mslice Cell.R (Syntax.tyRef (Syntax.named 1) Syntax.mut Cell.behind) 1) record { ptr = Row.get 5 (T3 .locals) (m2 (before .before) (before .shared-slice-known .given)) .ptr; name = Row.get 5 (T3 .locals) (m2 (before .before) (before .shared-slice-known .given)) .name; now = sheet } (T3 .locals) (m2 (before .before) (before .shared-slice-known .given))))
+      abbrev pub m3 : (before : After-shared-slice-known) → (sheet : List.List (Cell.R .Denot)) → (kept : List.List (Cell.R .Denot)) → (t : Rows.sc-here sc0 .Mod) → Typed.Mo T3
+      m3 = λ before sheet kept t. Row.set 7 local12 t (Row.setRow 6 local6 (Row.setRow 5 local5 (T3 .locals))) (Row.set 6 local6 record { ptr = Row.get 6 (T3 .locals) (m2 (before .before) (before .shared-slice-known .given)) .ptr; name = Row.get 6 (T3 .locals) (m2 (before .before) (before .shared-slice-known .given)) .name; now = kept } (Row.setRow 5 local5 (T3 .locals)) (Row.set 5 local5 record { ptr = Row.get 5 (T3 .locals) (m2 (before .before) (before .shared-slice-known .given)) .ptr; name = Row.get 5 (T3 .locals) (m2 (before .before) (before .shared-slice-known .given)) .name; now = sheet } (T3 .locals) (m2 (before .before) (before .shared-slice-known .given))))
 
-      abbrev W3 : (before : After-shared-slice-known) → (sheet : List.List (Cell.R .Denot)) → (kept : List.List (Cell.R .Denot)) → (t : Rows.sc-here (Row.sInt Syntax.w64) .Mod) → Typed.Want O3
+      abbrev W3 : (before : After-shared-slice-known) → (sheet : List.List (Cell.R .Denot)) → (kept : List.List (Cell.R .Denot)) → (t : Rows.sc-here sc0 .Mod) → Typed.Want O3
       W3 = λ before sheet kept t. Typed.inLoop T3 O2 (Typed.Round T3 O2 put0 (λ u vs. Inv·0 (Row.get 1 (T3 .locals) u .now) (Row.get 2 (T3 .locals) u) (Row.get 3 (T3 .locals) u) (Row.get 4 (T3 .locals) u) (Row.get 5 (T3 .locals) u .now) (Row.get 6 (T3 .locals) u .now) (Row.get 7 (T3 .locals) u) (vs .0) (vs .1) (vs .2)) (λ u vs. μ·0 (Row.get 1 (T3 .locals) u .now) (Row.get 2 (T3 .locals) u) (Row.get 3 (T3 .locals) u) (Row.get 4 (T3 .locals) u) (Row.get 5 (T3 .locals) u .now) (Row.get 6 (T3 .locals) u .now) (Row.get 7 (T3 .locals) u) (vs .0) (vs .1) (vs .2)) at31 (m2 (before .before) (before .shared-slice-known .given)) (sheet, kept, t)) (W2 (before .before) (before .shared-slice-known .given))
 
-      abbrev pub m4 : (before : After-shared-slice-known) → (sheet : List.List (Cell.R .Denot)) → (kept : List.List (Cell.R .Denot)) → (t : Rows.sc-here (Row.sInt Syntax.w64) .Mod) → Typed.Mo T5
+      abbrev pub m4 : (before : After-shared-slice-known) → (sheet : List.List (Cell.R .Denot)) → (kept : List.List (Cell.R .Denot)) → (t : Rows.sc-here sc0 .Mod) → Typed.Mo T5
       m4 = λ before sheet kept t. s2 .next (m3 before sheet kept t)
 
-      abbrev W4 : (before : After-shared-slice-known) → (sheet : List.List (Cell.R .Denot)) → (kept : List.List (Cell.R .Denot)) → (t : Rows.sc-here (Row.sInt Syntax.w64) .Mod) → Typed.Want O4
+      abbrev W4 : (before : After-shared-slice-known) → (sheet : List.List (Cell.R .Denot)) → (kept : List.List (Cell.R .Denot)) → (t : Rows.sc-here sc0 .Mod) → Typed.Want O4
       W4 = λ before sheet kept t. Typed.wantNext T6 O3 (at29 (W3 before sheet kept t)) (W3 before sheet kept t)
 
       module _ (before· : After-shared-slice-known) where
         pub record At-loop·own : Type 0 where
           pub sheet : List.List (Cell.R .Denot)
           pub kept : List.List (Cell.R .Denot)
-          pub t : Rows.sc-here (Row.sInt Syntax.w64) .Mod
+          pub t : Rows.sc-here sc0 .Mod
           pub inv : Inv·0 (Row.get 1 (T3 .locals) (m2 (before· .before) (before· .shared-slice-known .given)) .now) (Row.get 2 (T3 .locals) (m2 (before· .before) (before· .shared-slice-known .given))) (Row.get 3 (T3 .locals) (m2 (before· .before) (before· .shared-slice-known .given))) (Row.get 4 (T3 .locals) (m2 (before· .before) (before· .shared-slice-known .given))) (Row.get 5 (T3 .locals) (m2 (before· .before) (before· .shared-slice-known .given)) .now) (Row.get 6 (T3 .locals) (m2 (before· .before) (before· .shared-slice-known .given)) .now) (Row.get 7 (T3 .locals) (m2 (before· .before) (before· .shared-slice-known .given))) sheet kept t
 
       pub record At-loop : Type 0 where
@@ -1006,14 +1187,14 @@ module _ (claims· : Claims) where
 
       module _ (before· : In-loop) where
         abbrev pub After-note·own : Type 0
-        After-note·own = Called.Called ps·0 r·0 (claims· .1) T6 (record { pos = 1; ty = Syntax.tyRef (Syntax.named 0) Syntax.imm (Syntax.tyInt Syntax.w32); ref = λ x. x }, (Num.vAt 2 λ x. x, (Num.vAt 7 λ x. x, tt))) (m5 (before· .before))
+        After-note·own = Called.Called ps·0 r·0 (claims· .1) T6 (record { pos = 1; ty = Syntax.tyRef (Syntax.named 0) Syntax.imm ty3; ref = λ x. x }, (Num.vAt 2 λ x. x, (Num.vAt 7 λ x. x, tt))) (m5 (before· .before))
 
       pub record After-note : Type 0 where
         pub before : In-loop
         pub note : After-note·own before
 
       abbrev pub After-note·gave : (c : After-note) → s5 .gives (m5 (c .before .before))
-      After-note·gave = λ c. Called.given ps·0 r·0 (claims· .1) T6 (record { pos = 1; ty = Syntax.tyRef (Syntax.named 0) Syntax.imm (Syntax.tyInt Syntax.w32); ref = λ x. x }, (Num.vAt 2 λ x. x, (Num.vAt 7 λ x. x, tt))) (m5 (c .before .before)) (c .note)
+      After-note·gave = λ c. Called.given ps·0 r·0 (claims· .1) T6 (record { pos = 1; ty = Syntax.tyRef (Syntax.named 0) Syntax.imm ty3; ref = λ x. x }, (Num.vAt 2 λ x. x, (Num.vAt 7 λ x. x, tt))) (m5 (c .before .before)) (c .note)
 
       abbrev pub m8 : (before : In-loop) → (given : s5 .gives (m5 (before .before))) → Typed.Mo T10
       m8 = λ before given. s6 .next (m7 before given)
@@ -1193,7 +1374,7 @@ module _ (claims· : Claims) where
         lay4 = λ c. (tt, (λ taken. lay5 record { before = record { before = c .before; note = c .note }; if1 = record { taken = Tests.eqb-true (Row.get 8 (T9 .locals) (m7 (c .before) (After-note·gave c))) 0 taken } }, λ left. lay6 record { before = record { before = c .before; note = c .note }; if1 = record { left = Tests.eqb-false (Row.get 8 (T9 .locals) (m7 (c .before) (After-note·gave c))) 0 left } }))
 
         lay3 : (c : In-loop) → at29 (W3 (c .before .before) (c .before .loop .sheet) (c .before .loop .kept) (c .before .loop .t)) (m5 (c .before))
-        lay3 = λ c. (note-requires record { before = c .before; loop-test = c .loop-test }, λ g. lay4 record { before = record { before = c .before; loop-test = c .loop-test }; note = Called.called ps·0 r·0 (claims· .1) T6 (record { pos = 1; ty = Syntax.tyRef (Syntax.named 0) Syntax.imm (Syntax.tyInt Syntax.w32); ref = λ x. x }, (Num.vAt 2 λ x. x, (Num.vAt 7 λ x. x, tt))) (m5 (c .before)) g })
+        lay3 = λ c. (note-requires record { before = c .before; loop-test = c .loop-test }, λ g. lay4 record { before = record { before = c .before; loop-test = c .loop-test }; note = Called.called ps·0 r·0 (claims· .1) T6 (record { pos = 1; ty = Syntax.tyRef (Syntax.named 0) Syntax.imm ty3; ref = λ x. x }, (Num.vAt 2 λ x. x, (Num.vAt 7 λ x. x, tt))) (m5 (c .before)) g })
 
         lay2 : (c : After-loop) → at3 (W4 (c .before .before) (c .before .loop .sheet) (c .before .loop .kept) (c .before .loop .t)) (m4 (c .before .before) (c .before .loop .sheet) (c .before .loop .kept) (c .before .loop .t))
         lay2 = λ c. lay8 record { before = c .before; loop-test = c .loop-test }

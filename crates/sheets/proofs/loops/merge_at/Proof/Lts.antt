@@ -45,6 +45,111 @@ use mir.Val
 use prog.Wp
 use types.Kit
 
+abbrev ty0 : Syntax.Ty
+ty0 = Syntax.tyInt Syntax.w64
+
+abbrev place0 : Syntax.Place
+place0 = Syntax.place 8 List.[]
+
+abbrev opd0 : Syntax.Opd
+opd0 = Syntax.int Syntax.w64 24
+
+abbrev steps0 : List.List Syntax.Step
+steps0 = List._∷_ (Syntax.field 0) List.[]
+
+abbrev opd1 : Syntax.Opd
+opd1 = Syntax.copy (Syntax.place 1 steps0)
+
+abbrev place1 : Syntax.Place
+place1 = Syntax.place 10 List.[]
+
+abbrev steps1 : List.List Syntax.Step
+steps1 = List._∷_ (Syntax.deref Cell.held) List.[]
+
+abbrev local0 : Row.Entry
+local0 = (0, Rows'.any-gone Syntax.tyUnit)
+
+abbrev ty1 : Syntax.Ty
+ty1 = Syntax.tyRef (Syntax.named 0) Syntax.mut Cell.behind
+
+abbrev local1 : Row.Entry
+local1 = (1, Mut.mslice Cell.R ty1 0)
+
+abbrev ty2 : Syntax.Ty
+ty2 = Syntax.tyRef (Syntax.named 1) Syntax.mut Cell.behind
+
+abbrev local2 : Row.Entry
+local2 = (2, Mut.mslice Cell.R ty2 1)
+
+abbrev sc0 : Row.Sc
+sc0 = Row.sInt Syntax.w64
+
+abbrev local3 : Row.Entry
+local3 = (3, Rows'.sc-here sc0)
+
+abbrev local4 : Row.Entry
+local4 = (4, Rows'.sc-here sc0)
+
+abbrev local5 : Row.Entry
+local5 = (5, Rows'.sc-here sc0)
+
+abbrev local6 : Row.Entry
+local6 = (6, Rows'.any-gone Cell.held)
+
+abbrev local7 : Row.Entry
+local7 = (7, Rows'.any-gone Cell.held)
+
+abbrev local8 : Row.Entry
+local8 = (8, Rows'.any-gone ty0)
+
+abbrev local9 : Row.Entry
+local9 = (9, Rows'.any-gone Syntax.tyPtr)
+
+abbrev local10 : Row.Entry
+local10 = (10, Rows'.any-gone Cell.held)
+
+abbrev local11 : Row.Entry
+local11 = (11, Rows'.any-gone Syntax.tyPtr)
+
+abbrev locals0 : List.List Row.Entry
+locals0 = List._∷_ (12, Rows'.any-gone Syntax.tyPtr) (List._∷_ (13, Rows'.any-gone Syntax.tyPtr) List.[])
+
+abbrev locals1 : List.List Row.Entry
+locals1 = List._∷_ local9 (List._∷_ local10 (List._∷_ local11 locals0))
+
+abbrev locals2 : List.List Row.Entry
+locals2 = List._∷_ local8 locals1
+
+abbrev locals3 : List.List Row.Entry
+locals3 = List._∷_ local5 (List._∷_ local6 (List._∷_ local7 locals2))
+
+abbrev locals4 : List.List Row.Entry
+locals4 = List._∷_ local1 (List._∷_ local2 (List._∷_ local3 (List._∷_ local4 locals3)))
+
+abbrev local12 : Row.Entry
+local12 = (0, Rows'.sc-here Row.sUnit)
+
+abbrev local13 : Row.Entry
+local13 = (8, Rows'.sc-here sc0)
+
+abbrev locals5 : List.List Row.Entry
+locals5 = List._∷_ (10, Cell.row) (List._∷_ local11 locals0)
+
+abbrev locals6 : List.List Row.Entry
+locals6 = List._∷_ local8 (List._∷_ local9 locals5)
+
+abbrev local14 : Row.Entry
+local14 = (6, Cell.row)
+
+abbrev locals7 : List.List Row.Entry
+locals7 = List._∷_ local9 (List._∷_ (10, Cell.row) (List._∷_ (11, Rows'.sc-here Row.sPtr) locals0))
+
+abbrev locals8 : List.List Row.Entry
+locals8 = List._∷_ local9 (List._∷_ local10 (List._∷_ local11 (List._∷_ (12, Rows'.sc-here Row.sPtr) (List._∷_ (13, Rows'.any-gone Syntax.tyPtr) List.[]))))
+
+abbrev locals9 : List.List Row.Entry
+locals9 = List._∷_ local11 (List._∷_ (12, Rows'.any-gone Syntax.tyPtr) (List._∷_ (13, Rows'.sc-here Row.sPtr) List.[]))
+
 abbrev pub ps : List.List (Kinds.PK 2)
 ps = List._∷_ (MutSlice.pMutS Cell.R 0 tt) (List._∷_ (MutSlice.pMutS Cell.R 1 tt) (List._∷_ (Num.pNum Syntax.w64) (List._∷_ (Num.pNum Syntax.w64) (List._∷_ (Num.pNum Syntax.w64) List.[]))))
 
@@ -52,7 +157,7 @@ abbrev pub r : Kinds.RK 2
 r = Unit'.rUnit
 
 abbrev pub xs : List.List Syntax.Ty
-xs = List._∷_ Cell.held (List._∷_ Cell.held (List._∷_ (Syntax.tyInt Syntax.w64) (List._∷_ Syntax.tyPtr (List._∷_ Cell.held (List._∷_ Syntax.tyPtr (List._∷_ Syntax.tyPtr (List._∷_ Syntax.tyPtr List.[])))))))
+xs = List._∷_ Cell.held (List._∷_ Cell.held (List._∷_ ty0 (List._∷_ Syntax.tyPtr (List._∷_ Cell.held (List._∷_ Syntax.tyPtr (List._∷_ Syntax.tyPtr (List._∷_ Syntax.tyPtr List.[])))))))
 
 abbrev pub m : Nat.ℕ
 m = 0
@@ -67,49 +172,49 @@ abbrev pub hs : List.List Syntax.Home
 hs = List._∷_ Syntax.valueLocal (List._∷_ Syntax.valueLocal (List._∷_ Syntax.valueLocal (List._∷_ Syntax.valueLocal (List._∷_ Syntax.valueLocal (List._∷_ Syntax.valueLocal (List._∷_ Syntax.valueLocal (List._∷_ Syntax.valueLocal (List._∷_ Syntax.valueLocal (List._∷_ Syntax.valueLocal (List._∷_ Syntax.valueLocal (List._∷_ Syntax.valueLocal (List._∷_ Syntax.valueLocal (List._∷_ Syntax.valueLocal List.[])))))))))))))
 
 abbrev b0 : Syntax.Body
-b0 = Syntax.assign (Syntax.place 8 List.[]) (Syntax.op2 (Syntax.mul Syntax.unsigned) (Syntax.copy (Syntax.place 3 List.[])) (Syntax.int Syntax.w64 24))
+b0 = Syntax.assign place0 (Syntax.op2 (Syntax.mul Syntax.unsigned) (Syntax.copy (Syntax.place 3 List.[])) opd0)
 
 abbrev b1 : Syntax.Body
-b1 = Syntax.assign (Syntax.place 9 List.[]) (Syntax.op2 Syntax.offset (Syntax.copy (Syntax.place 1 (List._∷_ (Syntax.field 0) List.[]))) (Syntax.copy (Syntax.place 8 List.[])))
+b1 = Syntax.assign (Syntax.place 9 List.[]) (Syntax.op2 Syntax.offset opd1 (Syntax.copy place0))
 
 abbrev b2 : Syntax.Body
-b2 = Syntax.assign (Syntax.place 10 List.[]) (Syntax.rvOpd (Syntax.copy (Syntax.place 9 (List._∷_ (Syntax.deref Cell.held) List.[]))))
+b2 = Syntax.assign place1 (Syntax.rvOpd (Syntax.copy (Syntax.place 9 steps1)))
 
 abbrev b3 : Syntax.Body
-b3 = Syntax.assign (Syntax.place 6 List.[]) (Syntax.rvOpd (Syntax.copy (Syntax.place 10 List.[])))
+b3 = Syntax.assign (Syntax.place 6 List.[]) (Syntax.rvOpd (Syntax.copy place1))
 
 abbrev b4 : Syntax.Body
-b4 = Syntax.assign (Syntax.place 8 List.[]) (Syntax.op2 (Syntax.mul Syntax.unsigned) (Syntax.copy (Syntax.place 4 List.[])) (Syntax.int Syntax.w64 24))
+b4 = Syntax.assign place0 (Syntax.op2 (Syntax.mul Syntax.unsigned) (Syntax.copy (Syntax.place 4 List.[])) opd0)
 
 abbrev b5 : Syntax.Body
-b5 = Syntax.assign (Syntax.place 11 List.[]) (Syntax.op2 Syntax.offset (Syntax.copy (Syntax.place 1 (List._∷_ (Syntax.field 0) List.[]))) (Syntax.copy (Syntax.place 8 List.[])))
+b5 = Syntax.assign (Syntax.place 11 List.[]) (Syntax.op2 Syntax.offset opd1 (Syntax.copy place0))
 
 abbrev b6 : Syntax.Body
-b6 = Syntax.assign (Syntax.place 10 List.[]) (Syntax.rvOpd (Syntax.copy (Syntax.place 11 (List._∷_ (Syntax.deref Cell.held) List.[]))))
+b6 = Syntax.assign place1 (Syntax.rvOpd (Syntax.copy (Syntax.place 11 steps1)))
 
 abbrev b7 : Syntax.Body
-b7 = Syntax.assign (Syntax.place 7 List.[]) (Syntax.rvOpd (Syntax.copy (Syntax.place 10 List.[])))
+b7 = Syntax.assign (Syntax.place 7 List.[]) (Syntax.rvOpd (Syntax.copy place1))
 
 abbrev b8 : Syntax.Body
-b8 = Syntax.assign (Syntax.place 8 List.[]) (Syntax.op2 (Syntax.mul Syntax.unsigned) (Syntax.copy (Syntax.place 5 List.[])) (Syntax.int Syntax.w64 24))
+b8 = Syntax.assign place0 (Syntax.op2 (Syntax.mul Syntax.unsigned) (Syntax.copy (Syntax.place 5 List.[])) opd0)
 
 abbrev b9 : Syntax.Body
-b9 = Syntax.assign (Syntax.place 12 List.[]) (Syntax.op2 Syntax.offset (Syntax.copy (Syntax.place 2 (List._∷_ (Syntax.field 0) List.[]))) (Syntax.copy (Syntax.place 8 List.[])))
+b9 = Syntax.assign (Syntax.place 12 List.[]) (Syntax.op2 Syntax.offset (Syntax.copy (Syntax.place 2 steps0)) (Syntax.copy place0))
 
 abbrev b10 : Syntax.Body
-b10 = Syntax.assign (Syntax.place 12 (List._∷_ (Syntax.deref Cell.held) List.[])) (Syntax.rvOpd (Syntax.copy (Syntax.place 6 List.[])))
+b10 = Syntax.assign (Syntax.place 12 steps1) (Syntax.rvOpd (Syntax.copy (Syntax.place 6 List.[])))
 
 abbrev b11 : Syntax.Body
-b11 = Syntax.call "sheets::record::merge" (List._∷_ (Syntax.copy (Syntax.place 6 List.[])) (List._∷_ (Syntax.copy (Syntax.place 7 List.[])) List.[])) (Syntax.place 10 List.[])
+b11 = Syntax.call "sheets::record::merge" (List._∷_ (Syntax.copy (Syntax.place 6 List.[])) (List._∷_ (Syntax.copy (Syntax.place 7 List.[])) List.[])) place1
 
 abbrev b12 : Syntax.Body
-b12 = Syntax.assign (Syntax.place 8 List.[]) (Syntax.op2 (Syntax.mul Syntax.unsigned) (Syntax.copy (Syntax.place 3 List.[])) (Syntax.int Syntax.w64 24))
+b12 = Syntax.assign place0 (Syntax.op2 (Syntax.mul Syntax.unsigned) (Syntax.copy (Syntax.place 3 List.[])) opd0)
 
 abbrev b13 : Syntax.Body
-b13 = Syntax.assign (Syntax.place 13 List.[]) (Syntax.op2 Syntax.offset (Syntax.copy (Syntax.place 1 (List._∷_ (Syntax.field 0) List.[]))) (Syntax.copy (Syntax.place 8 List.[])))
+b13 = Syntax.assign (Syntax.place 13 List.[]) (Syntax.op2 Syntax.offset opd1 (Syntax.copy place0))
 
 abbrev b14 : Syntax.Body
-b14 = Syntax.assign (Syntax.place 13 (List._∷_ (Syntax.deref Cell.held) List.[])) (Syntax.rvOpd (Syntax.copy (Syntax.place 10 List.[])))
+b14 = Syntax.assign (Syntax.place 13 steps1) (Syntax.rvOpd (Syntax.copy place1))
 
 abbrev b15 : Syntax.Body
 b15 = Syntax.assign (Syntax.place 0 List.[]) (Syntax.rvOpd Syntax.opdUnit)
@@ -172,82 +277,82 @@ abbrev pub Claims : Type 1
 Claims = Kinds.In 0 ps·0 × Kinds.Out 0 ps·0 r·0
 
 abbrev pub t0 : List.List Row.Entry
-t0 = List._∷_ (0, Rows'.any-gone Syntax.tyUnit) (List._∷_ (1, Mut.mslice Cell.R (Syntax.tyRef (Syntax.named 0) Syntax.mut Cell.behind) 0) (List._∷_ (2, Mut.mslice Cell.R (Syntax.tyRef (Syntax.named 1) Syntax.mut Cell.behind) 1) (List._∷_ (3, Rows'.sc-here (Row.sInt Syntax.w64)) (List._∷_ (4, Rows'.sc-here (Row.sInt Syntax.w64)) (List._∷_ (5, Rows'.sc-here (Row.sInt Syntax.w64)) (List._∷_ (6, Rows'.any-gone Cell.held) (List._∷_ (7, Rows'.any-gone Cell.held) (List._∷_ (8, Rows'.any-gone (Syntax.tyInt Syntax.w64)) (List._∷_ (9, Rows'.any-gone Syntax.tyPtr) (List._∷_ (10, Rows'.any-gone Cell.held) (List._∷_ (11, Rows'.any-gone Syntax.tyPtr) (List._∷_ (12, Rows'.any-gone Syntax.tyPtr) (List._∷_ (13, Rows'.any-gone Syntax.tyPtr) List.[])))))))))))))
+t0 = List._∷_ local0 locals4
 
 abbrev pub t1 : List.List Row.Entry
-t1 = List._∷_ (0, Rows'.sc-here Row.sUnit) (List._∷_ (1, Mut.mslice Cell.R (Syntax.tyRef (Syntax.named 0) Syntax.mut Cell.behind) 0) (List._∷_ (2, Mut.mslice Cell.R (Syntax.tyRef (Syntax.named 1) Syntax.mut Cell.behind) 1) (List._∷_ (3, Rows'.any-gone (Syntax.tyInt Syntax.w64)) (List._∷_ (4, Rows'.any-gone (Syntax.tyInt Syntax.w64)) (List._∷_ (5, Rows'.any-gone (Syntax.tyInt Syntax.w64)) (List._∷_ (6, Rows'.any-gone Cell.held) (List._∷_ (7, Rows'.any-gone Cell.held) (List._∷_ (8, Rows'.any-gone (Syntax.tyInt Syntax.w64)) (List._∷_ (9, Rows'.any-gone Syntax.tyPtr) (List._∷_ (10, Rows'.any-gone Cell.held) (List._∷_ (11, Rows'.any-gone Syntax.tyPtr) (List._∷_ (12, Rows'.any-gone Syntax.tyPtr) (List._∷_ (13, Rows'.any-gone Syntax.tyPtr) List.[])))))))))))))
+t1 = List._∷_ local12 (List._∷_ local1 (List._∷_ local2 (List._∷_ (3, Rows'.any-gone ty0) (List._∷_ (4, Rows'.any-gone ty0) (List._∷_ (5, Rows'.any-gone ty0) (List._∷_ local6 (List._∷_ local7 locals2)))))))
 
 abbrev pub t2 : List.List Row.Entry
-t2 = List._∷_ (0, Rows'.any-gone Syntax.tyUnit) (List._∷_ (1, Mut.mslice Cell.R (Syntax.tyRef (Syntax.named 0) Syntax.mut Cell.behind) 0) (List._∷_ (2, Mut.mslice Cell.R (Syntax.tyRef (Syntax.named 1) Syntax.mut Cell.behind) 1) (List._∷_ (3, Rows'.sc-here (Row.sInt Syntax.w64)) (List._∷_ (4, Rows'.sc-here (Row.sInt Syntax.w64)) (List._∷_ (5, Rows'.sc-here (Row.sInt Syntax.w64)) (List._∷_ (6, Rows'.any-gone Cell.held) (List._∷_ (7, Rows'.any-gone Cell.held) (List._∷_ (8, Rows'.sc-here (Row.sInt Syntax.w64)) (List._∷_ (9, Rows'.any-gone Syntax.tyPtr) (List._∷_ (10, Rows'.any-gone Cell.held) (List._∷_ (11, Rows'.any-gone Syntax.tyPtr) (List._∷_ (12, Rows'.any-gone Syntax.tyPtr) (List._∷_ (13, Rows'.any-gone Syntax.tyPtr) List.[])))))))))))))
+t2 = List._∷_ local0 (List._∷_ local1 (List._∷_ local2 (List._∷_ local3 (List._∷_ local4 (List._∷_ local5 (List._∷_ local6 (List._∷_ local7 (List._∷_ local13 locals1))))))))
 
 abbrev pub t3 : List.List Row.Entry
-t3 = List._∷_ (0, Rows'.any-gone Syntax.tyUnit) (List._∷_ (1, Mut.mslice Cell.R (Syntax.tyRef (Syntax.named 0) Syntax.mut Cell.behind) 0) (List._∷_ (2, Mut.mslice Cell.R (Syntax.tyRef (Syntax.named 1) Syntax.mut Cell.behind) 1) (List._∷_ (3, Rows'.sc-here (Row.sInt Syntax.w64)) (List._∷_ (4, Rows'.sc-here (Row.sInt Syntax.w64)) (List._∷_ (5, Rows'.sc-here (Row.sInt Syntax.w64)) (List._∷_ (6, Rows'.any-gone Cell.held) (List._∷_ (7, Rows'.any-gone Cell.held) (List._∷_ (8, Rows'.sc-here (Row.sInt Syntax.w64)) (List._∷_ (9, Rows'.sc-here Row.sPtr) (List._∷_ (10, Rows'.any-gone Cell.held) (List._∷_ (11, Rows'.any-gone Syntax.tyPtr) (List._∷_ (12, Rows'.any-gone Syntax.tyPtr) (List._∷_ (13, Rows'.any-gone Syntax.tyPtr) List.[])))))))))))))
+t3 = List._∷_ local0 (List._∷_ local1 (List._∷_ local2 (List._∷_ local3 (List._∷_ local4 (List._∷_ local5 (List._∷_ local6 (List._∷_ local7 (List._∷_ local13 (List._∷_ (9, Rows'.sc-here Row.sPtr) (List._∷_ local10 (List._∷_ local11 locals0)))))))))))
 
 abbrev pub t4 : List.List Row.Entry
-t4 = List._∷_ (0, Rows'.any-gone Syntax.tyUnit) (List._∷_ (1, Mut.mslice Cell.R (Syntax.tyRef (Syntax.named 0) Syntax.mut Cell.behind) 0) (List._∷_ (2, Mut.mslice Cell.R (Syntax.tyRef (Syntax.named 1) Syntax.mut Cell.behind) 1) (List._∷_ (3, Rows'.sc-here (Row.sInt Syntax.w64)) (List._∷_ (4, Rows'.sc-here (Row.sInt Syntax.w64)) (List._∷_ (5, Rows'.sc-here (Row.sInt Syntax.w64)) (List._∷_ (6, Rows'.any-gone Cell.held) (List._∷_ (7, Rows'.any-gone Cell.held) (List._∷_ (8, Rows'.sc-here (Row.sInt Syntax.w64)) (List._∷_ (9, Rows'.sc-here Row.sPtr) (List._∷_ (10, Cell.row) (List._∷_ (11, Rows'.any-gone Syntax.tyPtr) (List._∷_ (12, Rows'.any-gone Syntax.tyPtr) (List._∷_ (13, Rows'.any-gone Syntax.tyPtr) List.[])))))))))))))
+t4 = List._∷_ local0 (List._∷_ local1 (List._∷_ local2 (List._∷_ local3 (List._∷_ local4 (List._∷_ local5 (List._∷_ local6 (List._∷_ local7 (List._∷_ local13 (List._∷_ (9, Rows'.sc-here Row.sPtr) locals5)))))))))
 
 abbrev pub t5 : List.List Row.Entry
-t5 = List._∷_ (0, Rows'.any-gone Syntax.tyUnit) (List._∷_ (1, Mut.mslice Cell.R (Syntax.tyRef (Syntax.named 0) Syntax.mut Cell.behind) 0) (List._∷_ (2, Mut.mslice Cell.R (Syntax.tyRef (Syntax.named 1) Syntax.mut Cell.behind) 1) (List._∷_ (3, Rows'.sc-here (Row.sInt Syntax.w64)) (List._∷_ (4, Rows'.sc-here (Row.sInt Syntax.w64)) (List._∷_ (5, Rows'.sc-here (Row.sInt Syntax.w64)) (List._∷_ (6, Rows'.any-gone Cell.held) (List._∷_ (7, Rows'.any-gone Cell.held) (List._∷_ (8, Rows'.any-gone (Syntax.tyInt Syntax.w64)) (List._∷_ (9, Rows'.sc-here Row.sPtr) (List._∷_ (10, Cell.row) (List._∷_ (11, Rows'.any-gone Syntax.tyPtr) (List._∷_ (12, Rows'.any-gone Syntax.tyPtr) (List._∷_ (13, Rows'.any-gone Syntax.tyPtr) List.[])))))))))))))
+t5 = List._∷_ local0 (List._∷_ local1 (List._∷_ local2 (List._∷_ local3 (List._∷_ local4 (List._∷_ local5 (List._∷_ local6 (List._∷_ local7 (List._∷_ local8 (List._∷_ (9, Rows'.sc-here Row.sPtr) locals5)))))))))
 
 abbrev pub t6 : List.List Row.Entry
-t6 = List._∷_ (0, Rows'.any-gone Syntax.tyUnit) (List._∷_ (1, Mut.mslice Cell.R (Syntax.tyRef (Syntax.named 0) Syntax.mut Cell.behind) 0) (List._∷_ (2, Mut.mslice Cell.R (Syntax.tyRef (Syntax.named 1) Syntax.mut Cell.behind) 1) (List._∷_ (3, Rows'.sc-here (Row.sInt Syntax.w64)) (List._∷_ (4, Rows'.sc-here (Row.sInt Syntax.w64)) (List._∷_ (5, Rows'.sc-here (Row.sInt Syntax.w64)) (List._∷_ (6, Rows'.any-gone Cell.held) (List._∷_ (7, Rows'.any-gone Cell.held) (List._∷_ (8, Rows'.any-gone (Syntax.tyInt Syntax.w64)) (List._∷_ (9, Rows'.any-gone Syntax.tyPtr) (List._∷_ (10, Cell.row) (List._∷_ (11, Rows'.any-gone Syntax.tyPtr) (List._∷_ (12, Rows'.any-gone Syntax.tyPtr) (List._∷_ (13, Rows'.any-gone Syntax.tyPtr) List.[])))))))))))))
+t6 = List._∷_ local0 (List._∷_ local1 (List._∷_ local2 (List._∷_ local3 (List._∷_ local4 (List._∷_ local5 (List._∷_ local6 (List._∷_ local7 locals6)))))))
 
 abbrev pub t7 : List.List Row.Entry
-t7 = List._∷_ (0, Rows'.any-gone Syntax.tyUnit) (List._∷_ (1, Mut.mslice Cell.R (Syntax.tyRef (Syntax.named 0) Syntax.mut Cell.behind) 0) (List._∷_ (2, Mut.mslice Cell.R (Syntax.tyRef (Syntax.named 1) Syntax.mut Cell.behind) 1) (List._∷_ (3, Rows'.sc-here (Row.sInt Syntax.w64)) (List._∷_ (4, Rows'.sc-here (Row.sInt Syntax.w64)) (List._∷_ (5, Rows'.sc-here (Row.sInt Syntax.w64)) (List._∷_ (6, Cell.row) (List._∷_ (7, Rows'.any-gone Cell.held) (List._∷_ (8, Rows'.any-gone (Syntax.tyInt Syntax.w64)) (List._∷_ (9, Rows'.any-gone Syntax.tyPtr) (List._∷_ (10, Cell.row) (List._∷_ (11, Rows'.any-gone Syntax.tyPtr) (List._∷_ (12, Rows'.any-gone Syntax.tyPtr) (List._∷_ (13, Rows'.any-gone Syntax.tyPtr) List.[])))))))))))))
+t7 = List._∷_ local0 (List._∷_ local1 (List._∷_ local2 (List._∷_ local3 (List._∷_ local4 (List._∷_ local5 (List._∷_ local14 (List._∷_ local7 locals6)))))))
 
 abbrev pub t8 : List.List Row.Entry
-t8 = List._∷_ (0, Rows'.any-gone Syntax.tyUnit) (List._∷_ (1, Mut.mslice Cell.R (Syntax.tyRef (Syntax.named 0) Syntax.mut Cell.behind) 0) (List._∷_ (2, Mut.mslice Cell.R (Syntax.tyRef (Syntax.named 1) Syntax.mut Cell.behind) 1) (List._∷_ (3, Rows'.sc-here (Row.sInt Syntax.w64)) (List._∷_ (4, Rows'.sc-here (Row.sInt Syntax.w64)) (List._∷_ (5, Rows'.sc-here (Row.sInt Syntax.w64)) (List._∷_ (6, Cell.row) (List._∷_ (7, Rows'.any-gone Cell.held) (List._∷_ (8, Rows'.any-gone (Syntax.tyInt Syntax.w64)) (List._∷_ (9, Rows'.any-gone Syntax.tyPtr) (List._∷_ (10, Rows'.any-gone Cell.held) (List._∷_ (11, Rows'.any-gone Syntax.tyPtr) (List._∷_ (12, Rows'.any-gone Syntax.tyPtr) (List._∷_ (13, Rows'.any-gone Syntax.tyPtr) List.[])))))))))))))
+t8 = List._∷_ local0 (List._∷_ local1 (List._∷_ local2 (List._∷_ local3 (List._∷_ local4 (List._∷_ local5 (List._∷_ local14 (List._∷_ local7 locals2)))))))
 
 abbrev pub t9 : List.List Row.Entry
-t9 = List._∷_ (0, Rows'.any-gone Syntax.tyUnit) (List._∷_ (1, Mut.mslice Cell.R (Syntax.tyRef (Syntax.named 0) Syntax.mut Cell.behind) 0) (List._∷_ (2, Mut.mslice Cell.R (Syntax.tyRef (Syntax.named 1) Syntax.mut Cell.behind) 1) (List._∷_ (3, Rows'.sc-here (Row.sInt Syntax.w64)) (List._∷_ (4, Rows'.sc-here (Row.sInt Syntax.w64)) (List._∷_ (5, Rows'.sc-here (Row.sInt Syntax.w64)) (List._∷_ (6, Cell.row) (List._∷_ (7, Rows'.any-gone Cell.held) (List._∷_ (8, Rows'.sc-here (Row.sInt Syntax.w64)) (List._∷_ (9, Rows'.any-gone Syntax.tyPtr) (List._∷_ (10, Rows'.any-gone Cell.held) (List._∷_ (11, Rows'.any-gone Syntax.tyPtr) (List._∷_ (12, Rows'.any-gone Syntax.tyPtr) (List._∷_ (13, Rows'.any-gone Syntax.tyPtr) List.[])))))))))))))
+t9 = List._∷_ local0 (List._∷_ local1 (List._∷_ local2 (List._∷_ local3 (List._∷_ local4 (List._∷_ local5 (List._∷_ local14 (List._∷_ local7 (List._∷_ local13 locals1))))))))
 
 abbrev pub t10 : List.List Row.Entry
-t10 = List._∷_ (0, Rows'.any-gone Syntax.tyUnit) (List._∷_ (1, Mut.mslice Cell.R (Syntax.tyRef (Syntax.named 0) Syntax.mut Cell.behind) 0) (List._∷_ (2, Mut.mslice Cell.R (Syntax.tyRef (Syntax.named 1) Syntax.mut Cell.behind) 1) (List._∷_ (3, Rows'.sc-here (Row.sInt Syntax.w64)) (List._∷_ (4, Rows'.sc-here (Row.sInt Syntax.w64)) (List._∷_ (5, Rows'.sc-here (Row.sInt Syntax.w64)) (List._∷_ (6, Cell.row) (List._∷_ (7, Rows'.any-gone Cell.held) (List._∷_ (8, Rows'.sc-here (Row.sInt Syntax.w64)) (List._∷_ (9, Rows'.any-gone Syntax.tyPtr) (List._∷_ (10, Rows'.any-gone Cell.held) (List._∷_ (11, Rows'.sc-here Row.sPtr) (List._∷_ (12, Rows'.any-gone Syntax.tyPtr) (List._∷_ (13, Rows'.any-gone Syntax.tyPtr) List.[])))))))))))))
+t10 = List._∷_ local0 (List._∷_ local1 (List._∷_ local2 (List._∷_ local3 (List._∷_ local4 (List._∷_ local5 (List._∷_ local14 (List._∷_ local7 (List._∷_ local13 (List._∷_ local9 (List._∷_ local10 (List._∷_ (11, Rows'.sc-here Row.sPtr) locals0)))))))))))
 
 abbrev pub t11 : List.List Row.Entry
-t11 = List._∷_ (0, Rows'.any-gone Syntax.tyUnit) (List._∷_ (1, Mut.mslice Cell.R (Syntax.tyRef (Syntax.named 0) Syntax.mut Cell.behind) 0) (List._∷_ (2, Mut.mslice Cell.R (Syntax.tyRef (Syntax.named 1) Syntax.mut Cell.behind) 1) (List._∷_ (3, Rows'.sc-here (Row.sInt Syntax.w64)) (List._∷_ (4, Rows'.sc-here (Row.sInt Syntax.w64)) (List._∷_ (5, Rows'.sc-here (Row.sInt Syntax.w64)) (List._∷_ (6, Cell.row) (List._∷_ (7, Rows'.any-gone Cell.held) (List._∷_ (8, Rows'.sc-here (Row.sInt Syntax.w64)) (List._∷_ (9, Rows'.any-gone Syntax.tyPtr) (List._∷_ (10, Cell.row) (List._∷_ (11, Rows'.sc-here Row.sPtr) (List._∷_ (12, Rows'.any-gone Syntax.tyPtr) (List._∷_ (13, Rows'.any-gone Syntax.tyPtr) List.[])))))))))))))
+t11 = List._∷_ local0 (List._∷_ local1 (List._∷_ local2 (List._∷_ local3 (List._∷_ local4 (List._∷_ local5 (List._∷_ local14 (List._∷_ local7 (List._∷_ local13 locals7))))))))
 
 abbrev pub t12 : List.List Row.Entry
-t12 = List._∷_ (0, Rows'.any-gone Syntax.tyUnit) (List._∷_ (1, Mut.mslice Cell.R (Syntax.tyRef (Syntax.named 0) Syntax.mut Cell.behind) 0) (List._∷_ (2, Mut.mslice Cell.R (Syntax.tyRef (Syntax.named 1) Syntax.mut Cell.behind) 1) (List._∷_ (3, Rows'.sc-here (Row.sInt Syntax.w64)) (List._∷_ (4, Rows'.sc-here (Row.sInt Syntax.w64)) (List._∷_ (5, Rows'.sc-here (Row.sInt Syntax.w64)) (List._∷_ (6, Cell.row) (List._∷_ (7, Rows'.any-gone Cell.held) (List._∷_ (8, Rows'.any-gone (Syntax.tyInt Syntax.w64)) (List._∷_ (9, Rows'.any-gone Syntax.tyPtr) (List._∷_ (10, Cell.row) (List._∷_ (11, Rows'.sc-here Row.sPtr) (List._∷_ (12, Rows'.any-gone Syntax.tyPtr) (List._∷_ (13, Rows'.any-gone Syntax.tyPtr) List.[])))))))))))))
+t12 = List._∷_ local0 (List._∷_ local1 (List._∷_ local2 (List._∷_ local3 (List._∷_ local4 (List._∷_ local5 (List._∷_ local14 (List._∷_ local7 (List._∷_ local8 locals7))))))))
 
 abbrev pub t13 : List.List Row.Entry
-t13 = List._∷_ (0, Rows'.any-gone Syntax.tyUnit) (List._∷_ (1, Mut.mslice Cell.R (Syntax.tyRef (Syntax.named 0) Syntax.mut Cell.behind) 0) (List._∷_ (2, Mut.mslice Cell.R (Syntax.tyRef (Syntax.named 1) Syntax.mut Cell.behind) 1) (List._∷_ (3, Rows'.sc-here (Row.sInt Syntax.w64)) (List._∷_ (4, Rows'.sc-here (Row.sInt Syntax.w64)) (List._∷_ (5, Rows'.sc-here (Row.sInt Syntax.w64)) (List._∷_ (6, Cell.row) (List._∷_ (7, Cell.row) (List._∷_ (8, Rows'.any-gone (Syntax.tyInt Syntax.w64)) (List._∷_ (9, Rows'.any-gone Syntax.tyPtr) (List._∷_ (10, Cell.row) (List._∷_ (11, Rows'.any-gone Syntax.tyPtr) (List._∷_ (12, Rows'.any-gone Syntax.tyPtr) (List._∷_ (13, Rows'.any-gone Syntax.tyPtr) List.[])))))))))))))
+t13 = List._∷_ local0 (List._∷_ local1 (List._∷_ local2 (List._∷_ local3 (List._∷_ local4 (List._∷_ local5 (List._∷_ local14 (List._∷_ (7, Cell.row) locals6)))))))
 
 abbrev pub t14 : List.List Row.Entry
-t14 = List._∷_ (0, Rows'.any-gone Syntax.tyUnit) (List._∷_ (1, Mut.mslice Cell.R (Syntax.tyRef (Syntax.named 0) Syntax.mut Cell.behind) 0) (List._∷_ (2, Mut.mslice Cell.R (Syntax.tyRef (Syntax.named 1) Syntax.mut Cell.behind) 1) (List._∷_ (3, Rows'.sc-here (Row.sInt Syntax.w64)) (List._∷_ (4, Rows'.sc-here (Row.sInt Syntax.w64)) (List._∷_ (5, Rows'.sc-here (Row.sInt Syntax.w64)) (List._∷_ (6, Cell.row) (List._∷_ (7, Cell.row) (List._∷_ (8, Rows'.any-gone (Syntax.tyInt Syntax.w64)) (List._∷_ (9, Rows'.any-gone Syntax.tyPtr) (List._∷_ (10, Rows'.any-gone Cell.held) (List._∷_ (11, Rows'.any-gone Syntax.tyPtr) (List._∷_ (12, Rows'.any-gone Syntax.tyPtr) (List._∷_ (13, Rows'.any-gone Syntax.tyPtr) List.[])))))))))))))
+t14 = List._∷_ local0 (List._∷_ local1 (List._∷_ local2 (List._∷_ local3 (List._∷_ local4 (List._∷_ local5 (List._∷_ local14 (List._∷_ (7, Cell.row) locals2)))))))
 
 abbrev pub t15 : List.List Row.Entry
-t15 = List._∷_ (0, Rows'.any-gone Syntax.tyUnit) (List._∷_ (1, Mut.mslice Cell.R (Syntax.tyRef (Syntax.named 0) Syntax.mut Cell.behind) 0) (List._∷_ (2, Mut.mslice Cell.R (Syntax.tyRef (Syntax.named 1) Syntax.mut Cell.behind) 1) (List._∷_ (3, Rows'.sc-here (Row.sInt Syntax.w64)) (List._∷_ (4, Rows'.sc-here (Row.sInt Syntax.w64)) (List._∷_ (5, Rows'.sc-here (Row.sInt Syntax.w64)) (List._∷_ (6, Cell.row) (List._∷_ (7, Cell.row) (List._∷_ (8, Rows'.sc-here (Row.sInt Syntax.w64)) (List._∷_ (9, Rows'.any-gone Syntax.tyPtr) (List._∷_ (10, Rows'.any-gone Cell.held) (List._∷_ (11, Rows'.any-gone Syntax.tyPtr) (List._∷_ (12, Rows'.any-gone Syntax.tyPtr) (List._∷_ (13, Rows'.any-gone Syntax.tyPtr) List.[])))))))))))))
+t15 = List._∷_ local0 (List._∷_ local1 (List._∷_ local2 (List._∷_ local3 (List._∷_ local4 (List._∷_ local5 (List._∷_ local14 (List._∷_ (7, Cell.row) (List._∷_ local13 locals1))))))))
 
 abbrev pub t16 : List.List Row.Entry
-t16 = List._∷_ (0, Rows'.any-gone Syntax.tyUnit) (List._∷_ (1, Mut.mslice Cell.R (Syntax.tyRef (Syntax.named 0) Syntax.mut Cell.behind) 0) (List._∷_ (2, Mut.mslice Cell.R (Syntax.tyRef (Syntax.named 1) Syntax.mut Cell.behind) 1) (List._∷_ (3, Rows'.sc-here (Row.sInt Syntax.w64)) (List._∷_ (4, Rows'.sc-here (Row.sInt Syntax.w64)) (List._∷_ (5, Rows'.sc-here (Row.sInt Syntax.w64)) (List._∷_ (6, Cell.row) (List._∷_ (7, Cell.row) (List._∷_ (8, Rows'.sc-here (Row.sInt Syntax.w64)) (List._∷_ (9, Rows'.any-gone Syntax.tyPtr) (List._∷_ (10, Rows'.any-gone Cell.held) (List._∷_ (11, Rows'.any-gone Syntax.tyPtr) (List._∷_ (12, Rows'.sc-here Row.sPtr) (List._∷_ (13, Rows'.any-gone Syntax.tyPtr) List.[])))))))))))))
+t16 = List._∷_ local0 (List._∷_ local1 (List._∷_ local2 (List._∷_ local3 (List._∷_ local4 (List._∷_ local5 (List._∷_ local14 (List._∷_ (7, Cell.row) (List._∷_ local13 locals8))))))))
 
 abbrev pub t17 : List.List Row.Entry
-t17 = List._∷_ (0, Rows'.any-gone Syntax.tyUnit) (List._∷_ (1, Mut.mslice Cell.R (Syntax.tyRef (Syntax.named 0) Syntax.mut Cell.behind) 0) (List._∷_ (2, Mut.mslice Cell.R (Syntax.tyRef (Syntax.named 1) Syntax.mut Cell.behind) 1) (List._∷_ (3, Rows'.sc-here (Row.sInt Syntax.w64)) (List._∷_ (4, Rows'.sc-here (Row.sInt Syntax.w64)) (List._∷_ (5, Rows'.sc-here (Row.sInt Syntax.w64)) (List._∷_ (6, Cell.row) (List._∷_ (7, Cell.row) (List._∷_ (8, Rows'.any-gone (Syntax.tyInt Syntax.w64)) (List._∷_ (9, Rows'.any-gone Syntax.tyPtr) (List._∷_ (10, Rows'.any-gone Cell.held) (List._∷_ (11, Rows'.any-gone Syntax.tyPtr) (List._∷_ (12, Rows'.sc-here Row.sPtr) (List._∷_ (13, Rows'.any-gone Syntax.tyPtr) List.[])))))))))))))
+t17 = List._∷_ local0 (List._∷_ local1 (List._∷_ local2 (List._∷_ local3 (List._∷_ local4 (List._∷_ local5 (List._∷_ local14 (List._∷_ (7, Cell.row) (List._∷_ local8 locals8))))))))
 
 abbrev pub t18 : List.List Row.Entry
-t18 = List._∷_ (0, Rows'.any-gone Syntax.tyUnit) (List._∷_ (1, Mut.mslice Cell.R (Syntax.tyRef (Syntax.named 0) Syntax.mut Cell.behind) 0) (List._∷_ (2, Mut.mslice Cell.R (Syntax.tyRef (Syntax.named 1) Syntax.mut Cell.behind) 1) (List._∷_ (3, Rows'.sc-here (Row.sInt Syntax.w64)) (List._∷_ (4, Rows'.sc-here (Row.sInt Syntax.w64)) (List._∷_ (5, Rows'.sc-here (Row.sInt Syntax.w64)) (List._∷_ (6, Rows'.any-gone Cell.held) (List._∷_ (7, Cell.row) (List._∷_ (8, Rows'.any-gone (Syntax.tyInt Syntax.w64)) (List._∷_ (9, Rows'.any-gone Syntax.tyPtr) (List._∷_ (10, Cell.row) (List._∷_ (11, Rows'.any-gone Syntax.tyPtr) (List._∷_ (12, Rows'.any-gone Syntax.tyPtr) (List._∷_ (13, Rows'.any-gone Syntax.tyPtr) List.[])))))))))))))
+t18 = List._∷_ local0 (List._∷_ local1 (List._∷_ local2 (List._∷_ local3 (List._∷_ local4 (List._∷_ local5 (List._∷_ local6 (List._∷_ (7, Cell.row) locals6)))))))
 
 abbrev pub t19 : List.List Row.Entry
-t19 = List._∷_ (0, Rows'.any-gone Syntax.tyUnit) (List._∷_ (1, Mut.mslice Cell.R (Syntax.tyRef (Syntax.named 0) Syntax.mut Cell.behind) 0) (List._∷_ (2, Mut.mslice Cell.R (Syntax.tyRef (Syntax.named 1) Syntax.mut Cell.behind) 1) (List._∷_ (3, Rows'.sc-here (Row.sInt Syntax.w64)) (List._∷_ (4, Rows'.sc-here (Row.sInt Syntax.w64)) (List._∷_ (5, Rows'.sc-here (Row.sInt Syntax.w64)) (List._∷_ (6, Rows'.any-gone Cell.held) (List._∷_ (7, Rows'.any-gone Cell.held) (List._∷_ (8, Rows'.sc-here (Row.sInt Syntax.w64)) (List._∷_ (9, Rows'.any-gone Syntax.tyPtr) (List._∷_ (10, Cell.row) (List._∷_ (11, Rows'.any-gone Syntax.tyPtr) (List._∷_ (12, Rows'.any-gone Syntax.tyPtr) (List._∷_ (13, Rows'.any-gone Syntax.tyPtr) List.[])))))))))))))
+t19 = List._∷_ local0 (List._∷_ local1 (List._∷_ local2 (List._∷_ local3 (List._∷_ local4 (List._∷_ local5 (List._∷_ local6 (List._∷_ local7 (List._∷_ local13 (List._∷_ local9 locals5)))))))))
 
 abbrev pub t20 : List.List Row.Entry
-t20 = List._∷_ (0, Rows'.any-gone Syntax.tyUnit) (List._∷_ (1, Mut.mslice Cell.R (Syntax.tyRef (Syntax.named 0) Syntax.mut Cell.behind) 0) (List._∷_ (2, Mut.mslice Cell.R (Syntax.tyRef (Syntax.named 1) Syntax.mut Cell.behind) 1) (List._∷_ (3, Rows'.sc-here (Row.sInt Syntax.w64)) (List._∷_ (4, Rows'.sc-here (Row.sInt Syntax.w64)) (List._∷_ (5, Rows'.sc-here (Row.sInt Syntax.w64)) (List._∷_ (6, Rows'.any-gone Cell.held) (List._∷_ (7, Rows'.any-gone Cell.held) (List._∷_ (8, Rows'.sc-here (Row.sInt Syntax.w64)) (List._∷_ (9, Rows'.any-gone Syntax.tyPtr) (List._∷_ (10, Cell.row) (List._∷_ (11, Rows'.any-gone Syntax.tyPtr) (List._∷_ (12, Rows'.any-gone Syntax.tyPtr) (List._∷_ (13, Rows'.sc-here Row.sPtr) List.[])))))))))))))
+t20 = List._∷_ local0 (List._∷_ local1 (List._∷_ local2 (List._∷_ local3 (List._∷_ local4 (List._∷_ local5 (List._∷_ local6 (List._∷_ local7 (List._∷_ local13 (List._∷_ local9 (List._∷_ (10, Cell.row) locals9))))))))))
 
 abbrev pub t21 : List.List Row.Entry
-t21 = List._∷_ (0, Rows'.any-gone Syntax.tyUnit) (List._∷_ (1, Mut.mslice Cell.R (Syntax.tyRef (Syntax.named 0) Syntax.mut Cell.behind) 0) (List._∷_ (2, Mut.mslice Cell.R (Syntax.tyRef (Syntax.named 1) Syntax.mut Cell.behind) 1) (List._∷_ (3, Rows'.sc-here (Row.sInt Syntax.w64)) (List._∷_ (4, Rows'.sc-here (Row.sInt Syntax.w64)) (List._∷_ (5, Rows'.sc-here (Row.sInt Syntax.w64)) (List._∷_ (6, Rows'.any-gone Cell.held) (List._∷_ (7, Rows'.any-gone Cell.held) (List._∷_ (8, Rows'.any-gone (Syntax.tyInt Syntax.w64)) (List._∷_ (9, Rows'.any-gone Syntax.tyPtr) (List._∷_ (10, Cell.row) (List._∷_ (11, Rows'.any-gone Syntax.tyPtr) (List._∷_ (12, Rows'.any-gone Syntax.tyPtr) (List._∷_ (13, Rows'.sc-here Row.sPtr) List.[])))))))))))))
+t21 = List._∷_ local0 (List._∷_ local1 (List._∷_ local2 (List._∷_ local3 (List._∷_ local4 (List._∷_ local5 (List._∷_ local6 (List._∷_ local7 (List._∷_ local8 (List._∷_ local9 (List._∷_ (10, Cell.row) locals9))))))))))
 
 abbrev pub t22 : List.List Row.Entry
-t22 = List._∷_ (0, Rows'.any-gone Syntax.tyUnit) (List._∷_ (1, Mut.mslice Cell.R (Syntax.tyRef (Syntax.named 0) Syntax.mut Cell.behind) 0) (List._∷_ (2, Mut.mslice Cell.R (Syntax.tyRef (Syntax.named 1) Syntax.mut Cell.behind) 1) (List._∷_ (3, Rows'.sc-here (Row.sInt Syntax.w64)) (List._∷_ (4, Rows'.sc-here (Row.sInt Syntax.w64)) (List._∷_ (5, Rows'.sc-here (Row.sInt Syntax.w64)) (List._∷_ (6, Rows'.any-gone Cell.held) (List._∷_ (7, Rows'.any-gone Cell.held) (List._∷_ (8, Rows'.any-gone (Syntax.tyInt Syntax.w64)) (List._∷_ (9, Rows'.any-gone Syntax.tyPtr) (List._∷_ (10, Rows'.any-gone Cell.held) (List._∷_ (11, Rows'.any-gone Syntax.tyPtr) (List._∷_ (12, Rows'.any-gone Syntax.tyPtr) (List._∷_ (13, Rows'.sc-here Row.sPtr) List.[])))))))))))))
+t22 = List._∷_ local0 (List._∷_ local1 (List._∷_ local2 (List._∷_ local3 (List._∷_ local4 (List._∷_ local5 (List._∷_ local6 (List._∷_ local7 (List._∷_ local8 (List._∷_ local9 (List._∷_ local10 locals9))))))))))
 
 abbrev pub t23 : List.List Row.Entry
-t23 = List._∷_ (0, Rows'.sc-here Row.sUnit) (List._∷_ (1, Mut.mslice Cell.R (Syntax.tyRef (Syntax.named 0) Syntax.mut Cell.behind) 0) (List._∷_ (2, Mut.mslice Cell.R (Syntax.tyRef (Syntax.named 1) Syntax.mut Cell.behind) 1) (List._∷_ (3, Rows'.sc-here (Row.sInt Syntax.w64)) (List._∷_ (4, Rows'.sc-here (Row.sInt Syntax.w64)) (List._∷_ (5, Rows'.sc-here (Row.sInt Syntax.w64)) (List._∷_ (6, Rows'.any-gone Cell.held) (List._∷_ (7, Rows'.any-gone Cell.held) (List._∷_ (8, Rows'.any-gone (Syntax.tyInt Syntax.w64)) (List._∷_ (9, Rows'.any-gone Syntax.tyPtr) (List._∷_ (10, Rows'.any-gone Cell.held) (List._∷_ (11, Rows'.any-gone Syntax.tyPtr) (List._∷_ (12, Rows'.any-gone Syntax.tyPtr) (List._∷_ (13, Rows'.any-gone Syntax.tyPtr) List.[])))))))))))))
+t23 = List._∷_ local12 locals4
 
 abbrev pub t24 : List.List Row.Entry
-t24 = List._∷_ (0, Rows'.sc-here Row.sUnit) (List._∷_ (1, Mut.mslice Cell.R (Syntax.tyRef (Syntax.named 0) Syntax.mut Cell.behind) 0) (List._∷_ (2, Mut.mslice Cell.R (Syntax.tyRef (Syntax.named 1) Syntax.mut Cell.behind) 1) (List._∷_ (3, Rows'.any-gone (Syntax.tyInt Syntax.w64)) (List._∷_ (4, Rows'.sc-here (Row.sInt Syntax.w64)) (List._∷_ (5, Rows'.sc-here (Row.sInt Syntax.w64)) (List._∷_ (6, Rows'.any-gone Cell.held) (List._∷_ (7, Rows'.any-gone Cell.held) (List._∷_ (8, Rows'.any-gone (Syntax.tyInt Syntax.w64)) (List._∷_ (9, Rows'.any-gone Syntax.tyPtr) (List._∷_ (10, Rows'.any-gone Cell.held) (List._∷_ (11, Rows'.any-gone Syntax.tyPtr) (List._∷_ (12, Rows'.any-gone Syntax.tyPtr) (List._∷_ (13, Rows'.any-gone Syntax.tyPtr) List.[])))))))))))))
+t24 = List._∷_ local12 (List._∷_ local1 (List._∷_ local2 (List._∷_ (3, Rows'.any-gone ty0) (List._∷_ local4 locals3))))
 
 abbrev pub t25 : List.List Row.Entry
-t25 = List._∷_ (0, Rows'.sc-here Row.sUnit) (List._∷_ (1, Mut.mslice Cell.R (Syntax.tyRef (Syntax.named 0) Syntax.mut Cell.behind) 0) (List._∷_ (2, Mut.mslice Cell.R (Syntax.tyRef (Syntax.named 1) Syntax.mut Cell.behind) 1) (List._∷_ (3, Rows'.any-gone (Syntax.tyInt Syntax.w64)) (List._∷_ (4, Rows'.any-gone (Syntax.tyInt Syntax.w64)) (List._∷_ (5, Rows'.sc-here (Row.sInt Syntax.w64)) (List._∷_ (6, Rows'.any-gone Cell.held) (List._∷_ (7, Rows'.any-gone Cell.held) (List._∷_ (8, Rows'.any-gone (Syntax.tyInt Syntax.w64)) (List._∷_ (9, Rows'.any-gone Syntax.tyPtr) (List._∷_ (10, Rows'.any-gone Cell.held) (List._∷_ (11, Rows'.any-gone Syntax.tyPtr) (List._∷_ (12, Rows'.any-gone Syntax.tyPtr) (List._∷_ (13, Rows'.any-gone Syntax.tyPtr) List.[])))))))))))))
+t25 = List._∷_ local12 (List._∷_ local1 (List._∷_ local2 (List._∷_ (3, Rows'.any-gone ty0) (List._∷_ (4, Rows'.any-gone ty0) locals3))))
 
 abbrev pub T0 : Row.Cx
 T0 = record { locals = t0; slots = List.[] }
@@ -356,16 +461,16 @@ O0 = record { next = Option.none; exits = List.[]; returns = Option.some T1 }
 
 module _ (claims· : Claims) where
   abbrev s0 : Typed.Asks T0 T2
-  s0 = Scalar.k-op2 T0 (Syntax.mul Syntax.unsigned) (Scalar.oAt 3 (Syntax.tyInt Syntax.w64) (Row.valS (Row.sInt Syntax.w64))) (Scalar.oInt Syntax.w64 24) 8 (Rows'.sc-here (Row.sInt Syntax.w64)) (Row.sInt Syntax.w64 .of)
+  s0 = Scalar.k-op2 T0 (Syntax.mul Syntax.unsigned) (Scalar.oAt 3 ty0 (Row.valS sc0)) (Scalar.oInt Syntax.w64 24) 8 (Rows'.sc-here sc0) (Row.sInt Syntax.w64 .of)
 
   abbrev s1 : Typed.Asks T2 T3
-  s1 = Scalar.k-op2 T2 Syntax.offset (Scalar.oFld 1 (List._∷_ (Syntax.field 0) List.[]) (Syntax.tyRef (Syntax.named 0) Syntax.mut Cell.behind) 0 Reads.ptrVal) (Scalar.oAt 8 (Syntax.tyInt Syntax.w64) (Row.valS (Row.sInt Syntax.w64))) 9 (Rows'.sc-here Row.sPtr) (Row.sPtr .of)
+  s1 = Scalar.k-op2 T2 Syntax.offset (Scalar.oFld 1 steps0 ty1 0 Reads.ptrVal) (Scalar.oAt 8 ty0 (Row.valS sc0)) 9 (Rows'.sc-here Row.sPtr) (Row.sPtr .of)
 
   abbrev s2 : Typed.Both T3 T4
-  s2 = Move.k-sl-copy-out Cell.R T3 1 9 10 0 (Syntax.tyRef (Syntax.named 0) Syntax.mut Cell.behind) Row.off Cell.row (Shared.bySize 24) (λ u. u .1 .1 .1 .0) (λ x. x) Cell.past (λ x. Unit) (λ x. x) λ x. x
+  s2 = Move.k-sl-copy-out Cell.R T3 1 9 10 0 ty1 Row.off Cell.row (Shared.bySize 24) (λ u. u .1 .1 .1 .0) (λ x. x) Cell.past (λ x. Unit) (λ x. x) λ x. x
 
   abbrev s3 : Typed.Mo T4 → Typed.Mo T5
-  s3 = Scalar.n-room T4 8 (Syntax.tyInt Syntax.w64)
+  s3 = Scalar.n-room T4 8 ty0
 
   abbrev s4 : Typed.Mo T5 → Typed.Mo T6
   s4 = Scalar.n-room T5 9 Syntax.tyPtr
@@ -377,16 +482,16 @@ module _ (claims· : Claims) where
   s6 = Scalar.n-room T7 10 Cell.held
 
   abbrev s7 : Typed.Asks T8 T9
-  s7 = Scalar.k-op2 T8 (Syntax.mul Syntax.unsigned) (Scalar.oAt 4 (Syntax.tyInt Syntax.w64) (Row.valS (Row.sInt Syntax.w64))) (Scalar.oInt Syntax.w64 24) 8 (Rows'.sc-here (Row.sInt Syntax.w64)) (Row.sInt Syntax.w64 .of)
+  s7 = Scalar.k-op2 T8 (Syntax.mul Syntax.unsigned) (Scalar.oAt 4 ty0 (Row.valS sc0)) (Scalar.oInt Syntax.w64 24) 8 (Rows'.sc-here sc0) (Row.sInt Syntax.w64 .of)
 
   abbrev s8 : Typed.Asks T9 T10
-  s8 = Scalar.k-op2 T9 Syntax.offset (Scalar.oFld 1 (List._∷_ (Syntax.field 0) List.[]) (Syntax.tyRef (Syntax.named 0) Syntax.mut Cell.behind) 0 Reads.ptrVal) (Scalar.oAt 8 (Syntax.tyInt Syntax.w64) (Row.valS (Row.sInt Syntax.w64))) 11 (Rows'.sc-here Row.sPtr) (Row.sPtr .of)
+  s8 = Scalar.k-op2 T9 Syntax.offset (Scalar.oFld 1 steps0 ty1 0 Reads.ptrVal) (Scalar.oAt 8 ty0 (Row.valS sc0)) 11 (Rows'.sc-here Row.sPtr) (Row.sPtr .of)
 
   abbrev s9 : Typed.Both T10 T11
-  s9 = Move.k-sl-copy-out Cell.R T10 1 11 10 0 (Syntax.tyRef (Syntax.named 0) Syntax.mut Cell.behind) Row.off Cell.row (Shared.bySize 24) (λ u. u .1 .1 .1 .1 .0) (λ x. x) Cell.past (λ x. Unit) (λ x. x) λ x. x
+  s9 = Move.k-sl-copy-out Cell.R T10 1 11 10 0 ty1 Row.off Cell.row (Shared.bySize 24) (λ u. u .1 .1 .1 .1 .0) (λ x. x) Cell.past (λ x. Unit) (λ x. x) λ x. x
 
   abbrev s10 : Typed.Mo T11 → Typed.Mo T12
-  s10 = Scalar.n-room T11 8 (Syntax.tyInt Syntax.w64)
+  s10 = Scalar.n-room T11 8 ty0
 
   abbrev s11 : Typed.Mo T12 → Typed.Mo T13
   s11 = Scalar.n-room T12 11 Syntax.tyPtr
@@ -398,16 +503,16 @@ module _ (claims· : Claims) where
   s13 = Scalar.n-room T14 10 Cell.held
 
   abbrev s14 : Typed.Asks T15 T16
-  s14 = Scalar.k-op2 T15 (Syntax.mul Syntax.unsigned) (Scalar.oAt 5 (Syntax.tyInt Syntax.w64) (Row.valS (Row.sInt Syntax.w64))) (Scalar.oInt Syntax.w64 24) 8 (Rows'.sc-here (Row.sInt Syntax.w64)) (Row.sInt Syntax.w64 .of)
+  s14 = Scalar.k-op2 T15 (Syntax.mul Syntax.unsigned) (Scalar.oAt 5 ty0 (Row.valS sc0)) (Scalar.oInt Syntax.w64 24) 8 (Rows'.sc-here sc0) (Row.sInt Syntax.w64 .of)
 
   abbrev s15 : Typed.Asks T16 T17
-  s15 = Scalar.k-op2 T16 Syntax.offset (Scalar.oFld 2 (List._∷_ (Syntax.field 0) List.[]) (Syntax.tyRef (Syntax.named 1) Syntax.mut Cell.behind) 0 Reads.ptrVal) (Scalar.oAt 8 (Syntax.tyInt Syntax.w64) (Row.valS (Row.sInt Syntax.w64))) 12 (Rows'.sc-here Row.sPtr) (Row.sPtr .of)
+  s15 = Scalar.k-op2 T16 Syntax.offset (Scalar.oFld 2 steps0 ty2 0 Reads.ptrVal) (Scalar.oAt 8 ty0 (Row.valS sc0)) 12 (Rows'.sc-here Row.sPtr) (Row.sPtr .of)
 
   abbrev s16 : Typed.Asks T17 T18
-  s16 = Move.k-sl-set-from Cell.R T17 2 12 6 1 (Syntax.tyRef (Syntax.named 1) Syntax.mut Cell.behind) Row.off Cell.row (Shared.bySize 24) (λ u. u .1 .1 .1 .1 .1 .0) (λ x. x) (λ x. x) (λ x. x) λ x. x
+  s16 = Move.k-sl-set-from Cell.R T17 2 12 6 1 ty2 Row.off Cell.row (Shared.bySize 24) (λ u. u .1 .1 .1 .1 .1 .0) (λ x. x) (λ x. x) (λ x. x) λ x. x
 
   abbrev s17 : Typed.Mo T18 → Typed.Mo T19
-  s17 = Scalar.n-room T18 8 (Syntax.tyInt Syntax.w64)
+  s17 = Scalar.n-room T18 8 ty0
 
   abbrev s18 : Typed.Mo T19 → Typed.Mo T20
   s18 = Scalar.n-room T19 12 Syntax.tyPtr
@@ -422,16 +527,16 @@ module _ (claims· : Claims) where
   s21 = Scalar.n-room T22 7 Cell.held
 
   abbrev s22 : Typed.Asks T23 T24
-  s22 = Scalar.k-op2 T23 (Syntax.mul Syntax.unsigned) (Scalar.oAt 3 (Syntax.tyInt Syntax.w64) (Row.valS (Row.sInt Syntax.w64))) (Scalar.oInt Syntax.w64 24) 8 (Rows'.sc-here (Row.sInt Syntax.w64)) (Row.sInt Syntax.w64 .of)
+  s22 = Scalar.k-op2 T23 (Syntax.mul Syntax.unsigned) (Scalar.oAt 3 ty0 (Row.valS sc0)) (Scalar.oInt Syntax.w64 24) 8 (Rows'.sc-here sc0) (Row.sInt Syntax.w64 .of)
 
   abbrev s23 : Typed.Asks T24 T25
-  s23 = Scalar.k-op2 T24 Syntax.offset (Scalar.oFld 1 (List._∷_ (Syntax.field 0) List.[]) (Syntax.tyRef (Syntax.named 0) Syntax.mut Cell.behind) 0 Reads.ptrVal) (Scalar.oAt 8 (Syntax.tyInt Syntax.w64) (Row.valS (Row.sInt Syntax.w64))) 13 (Rows'.sc-here Row.sPtr) (Row.sPtr .of)
+  s23 = Scalar.k-op2 T24 Syntax.offset (Scalar.oFld 1 steps0 ty1 0 Reads.ptrVal) (Scalar.oAt 8 ty0 (Row.valS sc0)) 13 (Rows'.sc-here Row.sPtr) (Row.sPtr .of)
 
   abbrev s24 : Typed.Asks T25 T26
-  s24 = Move.k-sl-set-from Cell.R T25 1 13 10 0 (Syntax.tyRef (Syntax.named 0) Syntax.mut Cell.behind) Row.off Cell.row (Shared.bySize 24) (λ u. u .1 .1 .1 .0) (λ x. x) (λ x. x) (λ x. x) λ x. x
+  s24 = Move.k-sl-set-from Cell.R T25 1 13 10 0 ty1 Row.off Cell.row (Shared.bySize 24) (λ u. u .1 .1 .1 .0) (λ x. x) (λ x. x) (λ x. x) λ x. x
 
   abbrev s25 : Typed.Mo T26 → Typed.Mo T27
-  s25 = Scalar.n-room T26 8 (Syntax.tyInt Syntax.w64)
+  s25 = Scalar.n-room T26 8 ty0
 
   abbrev s26 : Typed.Mo T27 → Typed.Mo T28
   s26 = Scalar.n-room T27 10 Cell.held
@@ -443,13 +548,13 @@ module _ (claims· : Claims) where
   s28 = Scalar.n-use T29 Scalar.oUnit 0 (Rows'.sc-here Row.sUnit) (Row.sUnit .of)
 
   abbrev s29 : Typed.Mo T30 → Typed.Mo T31
-  s29 = Scalar.n-room T30 3 (Syntax.tyInt Syntax.w64)
+  s29 = Scalar.n-room T30 3 ty0
 
   abbrev s30 : Typed.Mo T31 → Typed.Mo T32
-  s30 = Scalar.n-room T31 4 (Syntax.tyInt Syntax.w64)
+  s30 = Scalar.n-room T31 4 ty0
 
   abbrev s31 : Typed.Mo T32 → Typed.Mo T33
-  s31 = Scalar.n-room T32 5 (Syntax.tyInt Syntax.w64)
+  s31 = Scalar.n-room T32 5 ty0
 
   module _ (Pre· : (κs : Lifetimes.Lfts 2) → Kinds.Dens κs ps → Type 0) (Post· : (κs : Lifetimes.Lfts 2) → (a : Kinds.Dens κs ps) → Kinds.Plain 2 ps r κs) where
     module _ (M : Type 1) where
@@ -564,107 +669,113 @@ module _ (claims· : Claims) where
         Knowns = Plain.Known 𝓤 H A W 𝓣 0 ps·0 r·0 (claims· .0) (claims· .1) "sheets::record::merge"
 
       module _ (κs : Lifetimes.Lfts 2) (qs : Lifetimes.Shares 2) where
+        abbrev slot0 : Row.Life
+        slot0 = Row.lease (κs .0) (qs .0)
+
+        abbrev slots0 : List.List Row.Life
+        slots0 = List._∷_ (Row.lease (κs .1 .0) (qs .1 .0)) List.[]
+
         abbrev G0 : Row.Cx
-        G0 = record { locals = t0; slots = List._∷_ (Row.lease (κs .0) (qs .0)) (List._∷_ (Row.lease (κs .1 .0) (qs .1 .0)) List.[]) }
+        G0 = record { locals = t0; slots = List._∷_ slot0 slots0 }
 
         abbrev G1 : Row.Cx
-        G1 = record { locals = t1; slots = List._∷_ (Row.lease (κs .0) (qs .0)) (List._∷_ (Row.lease (κs .1 .0) (qs .1 .0)) List.[]) }
+        G1 = record { locals = t1; slots = List._∷_ slot0 slots0 }
 
         abbrev G2 : Row.Cx
-        G2 = record { locals = t2; slots = List._∷_ (Row.lease (κs .0) (qs .0)) (List._∷_ (Row.lease (κs .1 .0) (qs .1 .0)) List.[]) }
+        G2 = record { locals = t2; slots = List._∷_ slot0 slots0 }
 
         abbrev G3 : Row.Cx
-        G3 = record { locals = t3; slots = List._∷_ (Row.lease (κs .0) (qs .0)) (List._∷_ (Row.lease (κs .1 .0) (qs .1 .0)) List.[]) }
+        G3 = record { locals = t3; slots = List._∷_ slot0 slots0 }
 
         abbrev G4 : Row.Cx
-        G4 = record { locals = t4; slots = List._∷_ (Row.lease (κs .0) (qs .0)) (List._∷_ (Row.lease (κs .1 .0) (qs .1 .0)) List.[]) }
+        G4 = record { locals = t4; slots = List._∷_ slot0 slots0 }
 
         abbrev G5 : Row.Cx
-        G5 = record { locals = t5; slots = List._∷_ (Row.lease (κs .0) (qs .0)) (List._∷_ (Row.lease (κs .1 .0) (qs .1 .0)) List.[]) }
+        G5 = record { locals = t5; slots = List._∷_ slot0 slots0 }
 
         abbrev G6 : Row.Cx
-        G6 = record { locals = t6; slots = List._∷_ (Row.lease (κs .0) (qs .0)) (List._∷_ (Row.lease (κs .1 .0) (qs .1 .0)) List.[]) }
+        G6 = record { locals = t6; slots = List._∷_ slot0 slots0 }
 
         abbrev G7 : Row.Cx
-        G7 = record { locals = t7; slots = List._∷_ (Row.lease (κs .0) (qs .0)) (List._∷_ (Row.lease (κs .1 .0) (qs .1 .0)) List.[]) }
+        G7 = record { locals = t7; slots = List._∷_ slot0 slots0 }
 
         abbrev G8 : Row.Cx
-        G8 = record { locals = t8; slots = List._∷_ (Row.lease (κs .0) (qs .0)) (List._∷_ (Row.lease (κs .1 .0) (qs .1 .0)) List.[]) }
+        G8 = record { locals = t8; slots = List._∷_ slot0 slots0 }
 
         abbrev G9 : Row.Cx
-        G9 = record { locals = t9; slots = List._∷_ (Row.lease (κs .0) (qs .0)) (List._∷_ (Row.lease (κs .1 .0) (qs .1 .0)) List.[]) }
+        G9 = record { locals = t9; slots = List._∷_ slot0 slots0 }
 
         abbrev G10 : Row.Cx
-        G10 = record { locals = t10; slots = List._∷_ (Row.lease (κs .0) (qs .0)) (List._∷_ (Row.lease (κs .1 .0) (qs .1 .0)) List.[]) }
+        G10 = record { locals = t10; slots = List._∷_ slot0 slots0 }
 
         abbrev G11 : Row.Cx
-        G11 = record { locals = t11; slots = List._∷_ (Row.lease (κs .0) (qs .0)) (List._∷_ (Row.lease (κs .1 .0) (qs .1 .0)) List.[]) }
+        G11 = record { locals = t11; slots = List._∷_ slot0 slots0 }
 
         abbrev G12 : Row.Cx
-        G12 = record { locals = t12; slots = List._∷_ (Row.lease (κs .0) (qs .0)) (List._∷_ (Row.lease (κs .1 .0) (qs .1 .0)) List.[]) }
+        G12 = record { locals = t12; slots = List._∷_ slot0 slots0 }
 
         abbrev G13 : Row.Cx
-        G13 = record { locals = t7; slots = List._∷_ (Row.lease (κs .0) (qs .0)) (List._∷_ (Row.lease (κs .1 .0) (qs .1 .0)) List.[]) }
+        G13 = record { locals = t7; slots = List._∷_ slot0 slots0 }
 
         abbrev G14 : Row.Cx
-        G14 = record { locals = t13; slots = List._∷_ (Row.lease (κs .0) (qs .0)) (List._∷_ (Row.lease (κs .1 .0) (qs .1 .0)) List.[]) }
+        G14 = record { locals = t13; slots = List._∷_ slot0 slots0 }
 
         abbrev G15 : Row.Cx
-        G15 = record { locals = t14; slots = List._∷_ (Row.lease (κs .0) (qs .0)) (List._∷_ (Row.lease (κs .1 .0) (qs .1 .0)) List.[]) }
+        G15 = record { locals = t14; slots = List._∷_ slot0 slots0 }
 
         abbrev G16 : Row.Cx
-        G16 = record { locals = t15; slots = List._∷_ (Row.lease (κs .0) (qs .0)) (List._∷_ (Row.lease (κs .1 .0) (qs .1 .0)) List.[]) }
+        G16 = record { locals = t15; slots = List._∷_ slot0 slots0 }
 
         abbrev G17 : Row.Cx
-        G17 = record { locals = t16; slots = List._∷_ (Row.lease (κs .0) (qs .0)) (List._∷_ (Row.lease (κs .1 .0) (qs .1 .0)) List.[]) }
+        G17 = record { locals = t16; slots = List._∷_ slot0 slots0 }
 
         abbrev G18 : Row.Cx
-        G18 = record { locals = t16; slots = List._∷_ (Row.lease (κs .0) (qs .0)) (List._∷_ (Row.lease (κs .1 .0) (qs .1 .0)) List.[]) }
+        G18 = record { locals = t16; slots = List._∷_ slot0 slots0 }
 
         abbrev G19 : Row.Cx
-        G19 = record { locals = t17; slots = List._∷_ (Row.lease (κs .0) (qs .0)) (List._∷_ (Row.lease (κs .1 .0) (qs .1 .0)) List.[]) }
+        G19 = record { locals = t17; slots = List._∷_ slot0 slots0 }
 
         abbrev G20 : Row.Cx
-        G20 = record { locals = t14; slots = List._∷_ (Row.lease (κs .0) (qs .0)) (List._∷_ (Row.lease (κs .1 .0) (qs .1 .0)) List.[]) }
+        G20 = record { locals = t14; slots = List._∷_ slot0 slots0 }
 
         abbrev G21 : Row.Cx
-        G21 = record { locals = t13; slots = List._∷_ (Row.lease (κs .0) (qs .0)) (List._∷_ (Row.lease (κs .1 .0) (qs .1 .0)) List.[]) }
+        G21 = record { locals = t13; slots = List._∷_ slot0 slots0 }
 
         abbrev G22 : Row.Cx
-        G22 = record { locals = t18; slots = List._∷_ (Row.lease (κs .0) (qs .0)) (List._∷_ (Row.lease (κs .1 .0) (qs .1 .0)) List.[]) }
+        G22 = record { locals = t18; slots = List._∷_ slot0 slots0 }
 
         abbrev G23 : Row.Cx
-        G23 = record { locals = t6; slots = List._∷_ (Row.lease (κs .0) (qs .0)) (List._∷_ (Row.lease (κs .1 .0) (qs .1 .0)) List.[]) }
+        G23 = record { locals = t6; slots = List._∷_ slot0 slots0 }
 
         abbrev G24 : Row.Cx
-        G24 = record { locals = t19; slots = List._∷_ (Row.lease (κs .0) (qs .0)) (List._∷_ (Row.lease (κs .1 .0) (qs .1 .0)) List.[]) }
+        G24 = record { locals = t19; slots = List._∷_ slot0 slots0 }
 
         abbrev G25 : Row.Cx
-        G25 = record { locals = t20; slots = List._∷_ (Row.lease (κs .0) (qs .0)) (List._∷_ (Row.lease (κs .1 .0) (qs .1 .0)) List.[]) }
+        G25 = record { locals = t20; slots = List._∷_ slot0 slots0 }
 
         abbrev G26 : Row.Cx
-        G26 = record { locals = t20; slots = List._∷_ (Row.lease (κs .0) (qs .0)) (List._∷_ (Row.lease (κs .1 .0) (qs .1 .0)) List.[]) }
+        G26 = record { locals = t20; slots = List._∷_ slot0 slots0 }
 
         abbrev G27 : Row.Cx
-        G27 = record { locals = t21; slots = List._∷_ (Row.lease (κs .0) (qs .0)) (List._∷_ (Row.lease (κs .1 .0) (qs .1 .0)) List.[]) }
+        G27 = record { locals = t21; slots = List._∷_ slot0 slots0 }
 
         abbrev G28 : Row.Cx
-        G28 = record { locals = t22; slots = List._∷_ (Row.lease (κs .0) (qs .0)) (List._∷_ (Row.lease (κs .1 .0) (qs .1 .0)) List.[]) }
+        G28 = record { locals = t22; slots = List._∷_ slot0 slots0 }
 
         abbrev G29 : Row.Cx
-        G29 = record { locals = t0; slots = List._∷_ (Row.lease (κs .0) (qs .0)) (List._∷_ (Row.lease (κs .1 .0) (qs .1 .0)) List.[]) }
+        G29 = record { locals = t0; slots = List._∷_ slot0 slots0 }
 
         abbrev G30 : Row.Cx
-        G30 = record { locals = t23; slots = List._∷_ (Row.lease (κs .0) (qs .0)) (List._∷_ (Row.lease (κs .1 .0) (qs .1 .0)) List.[]) }
+        G30 = record { locals = t23; slots = List._∷_ slot0 slots0 }
 
         abbrev G31 : Row.Cx
-        G31 = record { locals = t24; slots = List._∷_ (Row.lease (κs .0) (qs .0)) (List._∷_ (Row.lease (κs .1 .0) (qs .1 .0)) List.[]) }
+        G31 = record { locals = t24; slots = List._∷_ slot0 slots0 }
 
         abbrev G32 : Row.Cx
-        G32 = record { locals = t25; slots = List._∷_ (Row.lease (κs .0) (qs .0)) (List._∷_ (Row.lease (κs .1 .0) (qs .1 .0)) List.[]) }
+        G32 = record { locals = t25; slots = List._∷_ slot0 slots0 }
 
         abbrev G33 : Row.Cx
-        G33 = record { locals = t1; slots = List._∷_ (Row.lease (κs .0) (qs .0)) (List._∷_ (Row.lease (κs .1 .0) (qs .1 .0)) List.[]) }
+        G33 = record { locals = t1; slots = List._∷_ slot0 slots0 }
 
         abbrev Δ0 : Typed.Outs
         Δ0 = record { next = Option.none; exits = List.[]; returns = Option.some G1 }
@@ -677,13 +788,13 @@ module _ (claims· : Claims) where
           d0 = Typed.t-return 𝓤 H A W 𝓣 E Δ0 tt
 
           d1 : Typed.Typed 𝓤 H A 𝓣 E G32 b16 Δ0 at1
-          d1 = Typed.g-pre 𝓤 H A W 𝓣 E G32 G33 b16 Δ0 (Typed.pass T32 T33 s31) at0 (Scalar.g-room 𝓤 H A W E G32 5 (Syntax.tyInt Syntax.w64) (Scalar.room-sc 𝓤 H A W (Row.sInt Syntax.w64))) d0
+          d1 = Typed.g-pre 𝓤 H A W 𝓣 E G32 G33 b16 Δ0 (Typed.pass T32 T33 s31) at0 (Scalar.g-room 𝓤 H A W E G32 5 ty0 (Scalar.room-sc 𝓤 H A W sc0)) d0
 
           d2 : Typed.Typed 𝓤 H A 𝓣 E G31 b16 Δ0 at2
-          d2 = Typed.g-pre 𝓤 H A W 𝓣 E G31 G32 b16 Δ0 (Typed.pass T31 T32 s30) at1 (Scalar.g-room 𝓤 H A W E G31 4 (Syntax.tyInt Syntax.w64) (Scalar.room-sc 𝓤 H A W (Row.sInt Syntax.w64))) d1
+          d2 = Typed.g-pre 𝓤 H A W 𝓣 E G31 G32 b16 Δ0 (Typed.pass T31 T32 s30) at1 (Scalar.g-room 𝓤 H A W E G31 4 ty0 (Scalar.room-sc 𝓤 H A W sc0)) d1
 
           d3 : Typed.Typed 𝓤 H A 𝓣 E G30 b16 Δ0 at3
-          d3 = Typed.g-pre 𝓤 H A W 𝓣 E G30 G31 b16 Δ0 (Typed.pass T30 T31 s29) at2 (Scalar.g-room 𝓤 H A W E G30 3 (Syntax.tyInt Syntax.w64) (Scalar.room-sc 𝓤 H A W (Row.sInt Syntax.w64))) d2
+          d3 = Typed.g-pre 𝓤 H A W 𝓣 E G30 G31 b16 Δ0 (Typed.pass T30 T31 s29) at2 (Scalar.g-room 𝓤 H A W E G30 3 ty0 (Scalar.room-sc 𝓤 H A W sc0)) d2
 
           d4 : Typed.Typed 𝓤 H A 𝓣 E G29 b17 Δ0 at4
           d4 = Typed.s-seq 𝓤 H A W 𝓣 E G29 G30 b15 b16 Δ0 (Typed.pass T29 T30 s28) at3 (Scalar.t-use 𝓤 H A W E 𝓣 G29 Scalar.oUnit 0 (Rows'.sc-here Row.sUnit) Syntax.tyUnit (Row.valS Row.sUnit) (Row.sUnit .of) tt (Reads.room-gone 𝓤 H A Syntax.tyUnit) (Scalar.holds-sc 𝓤 H A W Row.sUnit) Path'.refl (λ u. Path'.refl) λ u. tt) d3
@@ -695,16 +806,16 @@ module _ (claims· : Claims) where
           d6 = Typed.g-pre 𝓤 H A W 𝓣 E G27 G28 b17 Δ0 (Typed.pass T27 T28 s26) at5 (Scalar.g-room 𝓤 H A W E G27 10 Cell.held (Cell.to-room 𝓤 H A W)) d5
 
           d7 : Typed.Typed 𝓤 H A 𝓣 E G26 b17 Δ0 at7
-          d7 = Typed.g-pre 𝓤 H A W 𝓣 E G26 G27 b17 Δ0 (Typed.pass T26 T27 s25) at6 (Scalar.g-room 𝓤 H A W E G26 8 (Syntax.tyInt Syntax.w64) (Scalar.room-sc 𝓤 H A W (Row.sInt Syntax.w64))) d6
+          d7 = Typed.g-pre 𝓤 H A W 𝓣 E G26 G27 b17 Δ0 (Typed.pass T26 T27 s25) at6 (Scalar.g-room 𝓤 H A W E G26 8 ty0 (Scalar.room-sc 𝓤 H A W sc0)) d6
 
           d8 : Typed.Typed 𝓤 H A 𝓣 E G25 b18 Δ0 at8
-          d8 = Typed.s-seq 𝓤 H A W 𝓣 E G25 G26 b14 b17 Δ0 (Typed.ask s24) at7 (Move.t-sl-set-from 𝓤 H A W E Cell.R 𝓣 Path'.refl (λ ρ. Unit) G25 1 13 10 0 (Syntax.tyRef (Syntax.named 0) Syntax.mut Cell.behind) (Row.lease (κs .0) (qs .0)) Cell.held Cell.held Cell.row (Shared.bySize 24) (λ u. u .1 .1 .1 .0) (λ x. x) (λ x. x) (λ x. x) (λ x. x) (λ i o. Elements.at-mul o 24 i) Path'.refl Path'.refl (Own.told-none 𝓤 H A (G25 .slots)) (Reads.as-is 𝓤 H A (Mut.mslice Cell.R (Syntax.tyRef (Syntax.named 0) Syntax.mut Cell.behind) 0)) (Reads.as-is 𝓤 H A (Rows'.sc-here Row.sPtr)) (Yields.yields-copy 𝓤 H A W (λ ρ. Unit) Cell.R Path'.refl (Cell.copies .copy 𝓤 H A W) Cell.row (λ x. x) (λ x. x) (λ ρ told. Cell.in-mem 𝓤 H A W ρ) λ ρ told. Cell.of-mem 𝓤 H A W ρ) Path'.refl tt Path'.refl Path'.refl) d7
+          d8 = Typed.s-seq 𝓤 H A W 𝓣 E G25 G26 b14 b17 Δ0 (Typed.ask s24) at7 (Move.t-sl-set-from 𝓤 H A W E Cell.R 𝓣 Path'.refl (λ ρ. Unit) G25 1 13 10 0 ty1 slot0 Cell.held Cell.held Cell.row (Shared.bySize 24) (λ u. u .1 .1 .1 .0) (λ x. x) (λ x. x) (λ x. x) (λ x. x) (λ i o. Elements.at-mul o 24 i) Path'.refl Path'.refl (Own.told-none 𝓤 H A (G25 .slots)) (Reads.as-is 𝓤 H A (Mut.mslice Cell.R ty1 0)) (Reads.as-is 𝓤 H A (Rows'.sc-here Row.sPtr)) (Yields.yields-copy 𝓤 H A W (λ ρ. Unit) Cell.R Path'.refl (Cell.copies .copy 𝓤 H A W) Cell.row (λ x. x) (λ x. x) (λ ρ told. Cell.in-mem 𝓤 H A W ρ) λ ρ told. Cell.of-mem 𝓤 H A W ρ) Path'.refl tt Path'.refl Path'.refl) d7
 
           d9 : Typed.Typed 𝓤 H A 𝓣 E G24 b19 Δ0 at9
-          d9 = Typed.s-seq 𝓤 H A W 𝓣 E G24 G25 b13 b18 Δ0 (Typed.ask s23) at8 (Scalar.t-op2 𝓤 H A W E 𝓣 G24 Syntax.offset (Scalar.oFld 1 (List._∷_ (Syntax.field 0) List.[]) (Syntax.tyRef (Syntax.named 0) Syntax.mut Cell.behind) 0 Reads.ptrVal) (Scalar.oAt 8 (Syntax.tyInt Syntax.w64) (Row.valS (Row.sInt Syntax.w64))) 13 (Rows'.sc-here Row.sPtr) Syntax.tyPtr (Row.valS Row.sPtr) (Row.sPtr .of) (Mut.reads-mslice-ptr 𝓤 H A W Cell.R (Syntax.tyRef (Syntax.named 0) Syntax.mut Cell.behind) 0 0 Path'.refl, Path'.refl) (Scalar.reads-sc 𝓤 H A W (Row.sInt Syntax.w64), Path'.refl) (Reads.room-gone 𝓤 H A Syntax.tyPtr) (Scalar.holds-sc 𝓤 H A W Row.sPtr) Path'.refl (λ u. Path'.refl) λ u. tt) d8
+          d9 = Typed.s-seq 𝓤 H A W 𝓣 E G24 G25 b13 b18 Δ0 (Typed.ask s23) at8 (Scalar.t-op2 𝓤 H A W E 𝓣 G24 Syntax.offset (Scalar.oFld 1 steps0 ty1 0 Reads.ptrVal) (Scalar.oAt 8 ty0 (Row.valS sc0)) 13 (Rows'.sc-here Row.sPtr) Syntax.tyPtr (Row.valS Row.sPtr) (Row.sPtr .of) (Mut.reads-mslice-ptr 𝓤 H A W Cell.R ty1 0 0 Path'.refl, Path'.refl) (Scalar.reads-sc 𝓤 H A W sc0, Path'.refl) (Reads.room-gone 𝓤 H A Syntax.tyPtr) (Scalar.holds-sc 𝓤 H A W Row.sPtr) Path'.refl (λ u. Path'.refl) λ u. tt) d8
 
           d10 : Typed.Typed 𝓤 H A 𝓣 E G23 b20 Δ0 at10
-          d10 = Typed.s-seq 𝓤 H A W 𝓣 E G23 G24 b12 b19 Δ0 (Typed.ask s22) at9 (Scalar.t-op2 𝓤 H A W E 𝓣 G23 (Syntax.mul Syntax.unsigned) (Scalar.oAt 3 (Syntax.tyInt Syntax.w64) (Row.valS (Row.sInt Syntax.w64))) (Scalar.oInt Syntax.w64 24) 8 (Rows'.sc-here (Row.sInt Syntax.w64)) (Syntax.tyInt Syntax.w64) (Row.valS (Row.sInt Syntax.w64)) (Row.sInt Syntax.w64 .of) (Scalar.reads-sc 𝓤 H A W (Row.sInt Syntax.w64), Path'.refl) tt (Reads.room-gone 𝓤 H A (Syntax.tyInt Syntax.w64)) (Scalar.holds-sc 𝓤 H A W (Row.sInt Syntax.w64)) Path'.refl (λ u. Path'.refl) λ u. tt) d9
+          d10 = Typed.s-seq 𝓤 H A W 𝓣 E G23 G24 b12 b19 Δ0 (Typed.ask s22) at9 (Scalar.t-op2 𝓤 H A W E 𝓣 G23 (Syntax.mul Syntax.unsigned) (Scalar.oAt 3 ty0 (Row.valS sc0)) (Scalar.oInt Syntax.w64 24) 8 (Rows'.sc-here sc0) ty0 (Row.valS sc0) (Row.sInt Syntax.w64 .of) (Scalar.reads-sc 𝓤 H A W sc0, Path'.refl) tt (Reads.room-gone 𝓤 H A ty0) (Scalar.holds-sc 𝓤 H A W sc0) Path'.refl (λ u. Path'.refl) λ u. tt) d9
 
           d11 : Typed.Typed 𝓤 H A 𝓣 E G22 b20 Δ0 at11
           d11 = Typed.g-pre 𝓤 H A W 𝓣 E G22 G23 b20 Δ0 (Typed.pass T22 T23 s21) at10 (Scalar.g-room 𝓤 H A W E G22 7 Cell.held (Cell.to-room 𝓤 H A W)) d10
@@ -719,16 +830,16 @@ module _ (claims· : Claims) where
           d14 = Typed.g-pre 𝓤 H A W 𝓣 E G19 G20 b21 Δ0 (Typed.pass T19 T20 s18) at13 (Scalar.g-room 𝓤 H A W E G19 12 Syntax.tyPtr (Scalar.room-sc 𝓤 H A W Row.sPtr)) d13
 
           d15 : Typed.Typed 𝓤 H A 𝓣 E G18 b21 Δ0 at15
-          d15 = Typed.g-pre 𝓤 H A W 𝓣 E G18 G19 b21 Δ0 (Typed.pass T18 T19 s17) at14 (Scalar.g-room 𝓤 H A W E G18 8 (Syntax.tyInt Syntax.w64) (Scalar.room-sc 𝓤 H A W (Row.sInt Syntax.w64))) d14
+          d15 = Typed.g-pre 𝓤 H A W 𝓣 E G18 G19 b21 Δ0 (Typed.pass T18 T19 s17) at14 (Scalar.g-room 𝓤 H A W E G18 8 ty0 (Scalar.room-sc 𝓤 H A W sc0)) d14
 
           d16 : Typed.Typed 𝓤 H A 𝓣 E G17 b22 Δ0 at16
-          d16 = Typed.s-seq 𝓤 H A W 𝓣 E G17 G18 b10 b21 Δ0 (Typed.ask s16) at15 (Move.t-sl-set-from 𝓤 H A W E Cell.R 𝓣 Path'.refl (λ ρ. Unit) G17 2 12 6 1 (Syntax.tyRef (Syntax.named 1) Syntax.mut Cell.behind) (Row.lease (κs .1 .0) (qs .1 .0)) Cell.held Cell.held Cell.row (Shared.bySize 24) (λ u. u .1 .1 .1 .1 .1 .0) (λ x. x) (λ x. x) (λ x. x) (λ x. x) (λ i o. Elements.at-mul o 24 i) Path'.refl Path'.refl (Own.told-none 𝓤 H A (G17 .slots)) (Reads.as-is 𝓤 H A (Mut.mslice Cell.R (Syntax.tyRef (Syntax.named 1) Syntax.mut Cell.behind) 1)) (Reads.as-is 𝓤 H A (Rows'.sc-here Row.sPtr)) (Yields.yields-copy 𝓤 H A W (λ ρ. Unit) Cell.R Path'.refl (Cell.copies .copy 𝓤 H A W) Cell.row (λ x. x) (λ x. x) (λ ρ told. Cell.in-mem 𝓤 H A W ρ) λ ρ told. Cell.of-mem 𝓤 H A W ρ) Path'.refl tt Path'.refl Path'.refl) d15
+          d16 = Typed.s-seq 𝓤 H A W 𝓣 E G17 G18 b10 b21 Δ0 (Typed.ask s16) at15 (Move.t-sl-set-from 𝓤 H A W E Cell.R 𝓣 Path'.refl (λ ρ. Unit) G17 2 12 6 1 ty2 (Row.lease (κs .1 .0) (qs .1 .0)) Cell.held Cell.held Cell.row (Shared.bySize 24) (λ u. u .1 .1 .1 .1 .1 .0) (λ x. x) (λ x. x) (λ x. x) (λ x. x) (λ i o. Elements.at-mul o 24 i) Path'.refl Path'.refl (Own.told-none 𝓤 H A (G17 .slots)) (Reads.as-is 𝓤 H A (Mut.mslice Cell.R ty2 1)) (Reads.as-is 𝓤 H A (Rows'.sc-here Row.sPtr)) (Yields.yields-copy 𝓤 H A W (λ ρ. Unit) Cell.R Path'.refl (Cell.copies .copy 𝓤 H A W) Cell.row (λ x. x) (λ x. x) (λ ρ told. Cell.in-mem 𝓤 H A W ρ) λ ρ told. Cell.of-mem 𝓤 H A W ρ) Path'.refl tt Path'.refl Path'.refl) d15
 
           d17 : Typed.Typed 𝓤 H A 𝓣 E G16 b23 Δ0 at17
-          d17 = Typed.s-seq 𝓤 H A W 𝓣 E G16 G17 b9 b22 Δ0 (Typed.ask s15) at16 (Scalar.t-op2 𝓤 H A W E 𝓣 G16 Syntax.offset (Scalar.oFld 2 (List._∷_ (Syntax.field 0) List.[]) (Syntax.tyRef (Syntax.named 1) Syntax.mut Cell.behind) 0 Reads.ptrVal) (Scalar.oAt 8 (Syntax.tyInt Syntax.w64) (Row.valS (Row.sInt Syntax.w64))) 12 (Rows'.sc-here Row.sPtr) Syntax.tyPtr (Row.valS Row.sPtr) (Row.sPtr .of) (Mut.reads-mslice-ptr 𝓤 H A W Cell.R (Syntax.tyRef (Syntax.named 1) Syntax.mut Cell.behind) 1 0 Path'.refl, Path'.refl) (Scalar.reads-sc 𝓤 H A W (Row.sInt Syntax.w64), Path'.refl) (Reads.room-gone 𝓤 H A Syntax.tyPtr) (Scalar.holds-sc 𝓤 H A W Row.sPtr) Path'.refl (λ u. Path'.refl) λ u. tt) d16
+          d17 = Typed.s-seq 𝓤 H A W 𝓣 E G16 G17 b9 b22 Δ0 (Typed.ask s15) at16 (Scalar.t-op2 𝓤 H A W E 𝓣 G16 Syntax.offset (Scalar.oFld 2 steps0 ty2 0 Reads.ptrVal) (Scalar.oAt 8 ty0 (Row.valS sc0)) 12 (Rows'.sc-here Row.sPtr) Syntax.tyPtr (Row.valS Row.sPtr) (Row.sPtr .of) (Mut.reads-mslice-ptr 𝓤 H A W Cell.R ty2 1 0 Path'.refl, Path'.refl) (Scalar.reads-sc 𝓤 H A W sc0, Path'.refl) (Reads.room-gone 𝓤 H A Syntax.tyPtr) (Scalar.holds-sc 𝓤 H A W Row.sPtr) Path'.refl (λ u. Path'.refl) λ u. tt) d16
 
           d18 : Typed.Typed 𝓤 H A 𝓣 E G15 b24 Δ0 at18
-          d18 = Typed.s-seq 𝓤 H A W 𝓣 E G15 G16 b8 b23 Δ0 (Typed.ask s14) at17 (Scalar.t-op2 𝓤 H A W E 𝓣 G15 (Syntax.mul Syntax.unsigned) (Scalar.oAt 5 (Syntax.tyInt Syntax.w64) (Row.valS (Row.sInt Syntax.w64))) (Scalar.oInt Syntax.w64 24) 8 (Rows'.sc-here (Row.sInt Syntax.w64)) (Syntax.tyInt Syntax.w64) (Row.valS (Row.sInt Syntax.w64)) (Row.sInt Syntax.w64 .of) (Scalar.reads-sc 𝓤 H A W (Row.sInt Syntax.w64), Path'.refl) tt (Reads.room-gone 𝓤 H A (Syntax.tyInt Syntax.w64)) (Scalar.holds-sc 𝓤 H A W (Row.sInt Syntax.w64)) Path'.refl (λ u. Path'.refl) λ u. tt) d17
+          d18 = Typed.s-seq 𝓤 H A W 𝓣 E G15 G16 b8 b23 Δ0 (Typed.ask s14) at17 (Scalar.t-op2 𝓤 H A W E 𝓣 G15 (Syntax.mul Syntax.unsigned) (Scalar.oAt 5 ty0 (Row.valS sc0)) (Scalar.oInt Syntax.w64 24) 8 (Rows'.sc-here sc0) ty0 (Row.valS sc0) (Row.sInt Syntax.w64 .of) (Scalar.reads-sc 𝓤 H A W sc0, Path'.refl) tt (Reads.room-gone 𝓤 H A ty0) (Scalar.holds-sc 𝓤 H A W sc0) Path'.refl (λ u. Path'.refl) λ u. tt) d17
 
           d19 : Typed.Typed 𝓤 H A 𝓣 E G14 b24 Δ0 at19
           d19 = Typed.g-pre 𝓤 H A W 𝓣 E G14 G15 b24 Δ0 (Typed.pass T14 T15 s13) at18 (Scalar.g-room 𝓤 H A W E G14 10 Cell.held (Cell.to-room 𝓤 H A W)) d18
@@ -740,16 +851,16 @@ module _ (claims· : Claims) where
           d21 = Typed.g-pre 𝓤 H A W 𝓣 E G12 G13 b25 Δ0 (Typed.pass T12 T13 s11) at20 (Scalar.g-room 𝓤 H A W E G12 11 Syntax.tyPtr (Scalar.room-sc 𝓤 H A W Row.sPtr)) d20
 
           d22 : Typed.Typed 𝓤 H A 𝓣 E G11 b25 Δ0 at22
-          d22 = Typed.g-pre 𝓤 H A W 𝓣 E G11 G12 b25 Δ0 (Typed.pass T11 T12 s10) at21 (Scalar.g-room 𝓤 H A W E G11 8 (Syntax.tyInt Syntax.w64) (Scalar.room-sc 𝓤 H A W (Row.sInt Syntax.w64))) d21
+          d22 = Typed.g-pre 𝓤 H A W 𝓣 E G11 G12 b25 Δ0 (Typed.pass T11 T12 s10) at21 (Scalar.g-room 𝓤 H A W E G11 8 ty0 (Scalar.room-sc 𝓤 H A W sc0)) d21
 
           d23 : Typed.Typed 𝓤 H A 𝓣 E G10 b26 Δ0 at23
-          d23 = Typed.s-seq 𝓤 H A W 𝓣 E G10 G11 b6 b25 Δ0 (Typed.both s9) at22 (Move.t-sl-copy-out 𝓤 H A W E Cell.R 𝓣 Path'.refl (Cell.copies .copy 𝓤 H A W) (λ ρ. Unit) G10 1 11 10 0 (Syntax.tyRef (Syntax.named 0) Syntax.mut Cell.behind) (Row.lease (κs .0) (qs .0)) Cell.held Cell.held Cell.row (Shared.bySize 24) (λ u. u .1 .1 .1 .1 .0) (λ x. x) Cell.past (λ x. Unit) (λ x. x) (λ x. x) (λ i o. Elements.at-mul o 24 i) Path'.refl Path'.refl (Own.told-none 𝓤 H A (G10 .slots)) (DerefMove.learns-nothing 𝓤 H A Cell.R) (Reads.as-is 𝓤 H A (Mut.mslice Cell.R (Syntax.tyRef (Syntax.named 0) Syntax.mut Cell.behind) 0)) (Reads.as-is 𝓤 H A (Rows'.sc-here Row.sPtr)) (Reads.room-gone 𝓤 H A Cell.held) (Yields.makes-mem 𝓤 H A W (λ ρ. Unit) Cell.R Path'.refl Cell.row (λ x. x) λ ρ told. Cell.of-mem 𝓤 H A W ρ) Path'.refl tt Path'.refl Path'.refl) d22
+          d23 = Typed.s-seq 𝓤 H A W 𝓣 E G10 G11 b6 b25 Δ0 (Typed.both s9) at22 (Move.t-sl-copy-out 𝓤 H A W E Cell.R 𝓣 Path'.refl (Cell.copies .copy 𝓤 H A W) (λ ρ. Unit) G10 1 11 10 0 ty1 slot0 Cell.held Cell.held Cell.row (Shared.bySize 24) (λ u. u .1 .1 .1 .1 .0) (λ x. x) Cell.past (λ x. Unit) (λ x. x) (λ x. x) (λ i o. Elements.at-mul o 24 i) Path'.refl Path'.refl (Own.told-none 𝓤 H A (G10 .slots)) (DerefMove.learns-nothing 𝓤 H A Cell.R) (Reads.as-is 𝓤 H A (Mut.mslice Cell.R ty1 0)) (Reads.as-is 𝓤 H A (Rows'.sc-here Row.sPtr)) (Reads.room-gone 𝓤 H A Cell.held) (Yields.makes-mem 𝓤 H A W (λ ρ. Unit) Cell.R Path'.refl Cell.row (λ x. x) λ ρ told. Cell.of-mem 𝓤 H A W ρ) Path'.refl tt Path'.refl Path'.refl) d22
 
           d24 : Typed.Typed 𝓤 H A 𝓣 E G9 b27 Δ0 at24
-          d24 = Typed.s-seq 𝓤 H A W 𝓣 E G9 G10 b5 b26 Δ0 (Typed.ask s8) at23 (Scalar.t-op2 𝓤 H A W E 𝓣 G9 Syntax.offset (Scalar.oFld 1 (List._∷_ (Syntax.field 0) List.[]) (Syntax.tyRef (Syntax.named 0) Syntax.mut Cell.behind) 0 Reads.ptrVal) (Scalar.oAt 8 (Syntax.tyInt Syntax.w64) (Row.valS (Row.sInt Syntax.w64))) 11 (Rows'.sc-here Row.sPtr) Syntax.tyPtr (Row.valS Row.sPtr) (Row.sPtr .of) (Mut.reads-mslice-ptr 𝓤 H A W Cell.R (Syntax.tyRef (Syntax.named 0) Syntax.mut Cell.behind) 0 0 Path'.refl, Path'.refl) (Scalar.reads-sc 𝓤 H A W (Row.sInt Syntax.w64), Path'.refl) (Reads.room-gone 𝓤 H A Syntax.tyPtr) (Scalar.holds-sc 𝓤 H A W Row.sPtr) Path'.refl (λ u. Path'.refl) λ u. tt) d23
+          d24 = Typed.s-seq 𝓤 H A W 𝓣 E G9 G10 b5 b26 Δ0 (Typed.ask s8) at23 (Scalar.t-op2 𝓤 H A W E 𝓣 G9 Syntax.offset (Scalar.oFld 1 steps0 ty1 0 Reads.ptrVal) (Scalar.oAt 8 ty0 (Row.valS sc0)) 11 (Rows'.sc-here Row.sPtr) Syntax.tyPtr (Row.valS Row.sPtr) (Row.sPtr .of) (Mut.reads-mslice-ptr 𝓤 H A W Cell.R ty1 0 0 Path'.refl, Path'.refl) (Scalar.reads-sc 𝓤 H A W sc0, Path'.refl) (Reads.room-gone 𝓤 H A Syntax.tyPtr) (Scalar.holds-sc 𝓤 H A W Row.sPtr) Path'.refl (λ u. Path'.refl) λ u. tt) d23
 
           d25 : Typed.Typed 𝓤 H A 𝓣 E G8 b28 Δ0 at25
-          d25 = Typed.s-seq 𝓤 H A W 𝓣 E G8 G9 b4 b27 Δ0 (Typed.ask s7) at24 (Scalar.t-op2 𝓤 H A W E 𝓣 G8 (Syntax.mul Syntax.unsigned) (Scalar.oAt 4 (Syntax.tyInt Syntax.w64) (Row.valS (Row.sInt Syntax.w64))) (Scalar.oInt Syntax.w64 24) 8 (Rows'.sc-here (Row.sInt Syntax.w64)) (Syntax.tyInt Syntax.w64) (Row.valS (Row.sInt Syntax.w64)) (Row.sInt Syntax.w64 .of) (Scalar.reads-sc 𝓤 H A W (Row.sInt Syntax.w64), Path'.refl) tt (Reads.room-gone 𝓤 H A (Syntax.tyInt Syntax.w64)) (Scalar.holds-sc 𝓤 H A W (Row.sInt Syntax.w64)) Path'.refl (λ u. Path'.refl) λ u. tt) d24
+          d25 = Typed.s-seq 𝓤 H A W 𝓣 E G8 G9 b4 b27 Δ0 (Typed.ask s7) at24 (Scalar.t-op2 𝓤 H A W E 𝓣 G8 (Syntax.mul Syntax.unsigned) (Scalar.oAt 4 ty0 (Row.valS sc0)) (Scalar.oInt Syntax.w64 24) 8 (Rows'.sc-here sc0) ty0 (Row.valS sc0) (Row.sInt Syntax.w64 .of) (Scalar.reads-sc 𝓤 H A W sc0, Path'.refl) tt (Reads.room-gone 𝓤 H A ty0) (Scalar.holds-sc 𝓤 H A W sc0) Path'.refl (λ u. Path'.refl) λ u. tt) d24
 
           d26 : Typed.Typed 𝓤 H A 𝓣 E G7 b28 Δ0 at26
           d26 = Typed.g-pre 𝓤 H A W 𝓣 E G7 G8 b28 Δ0 (Typed.pass T7 T8 s6) at25 (Scalar.g-room 𝓤 H A W E G7 10 Cell.held (Cell.to-room 𝓤 H A W)) d25
@@ -761,16 +872,16 @@ module _ (claims· : Claims) where
           d28 = Typed.g-pre 𝓤 H A W 𝓣 E G5 G6 b29 Δ0 (Typed.pass T5 T6 s4) at27 (Scalar.g-room 𝓤 H A W E G5 9 Syntax.tyPtr (Scalar.room-sc 𝓤 H A W Row.sPtr)) d27
 
           d29 : Typed.Typed 𝓤 H A 𝓣 E G4 b29 Δ0 at29
-          d29 = Typed.g-pre 𝓤 H A W 𝓣 E G4 G5 b29 Δ0 (Typed.pass T4 T5 s3) at28 (Scalar.g-room 𝓤 H A W E G4 8 (Syntax.tyInt Syntax.w64) (Scalar.room-sc 𝓤 H A W (Row.sInt Syntax.w64))) d28
+          d29 = Typed.g-pre 𝓤 H A W 𝓣 E G4 G5 b29 Δ0 (Typed.pass T4 T5 s3) at28 (Scalar.g-room 𝓤 H A W E G4 8 ty0 (Scalar.room-sc 𝓤 H A W sc0)) d28
 
           d30 : Typed.Typed 𝓤 H A 𝓣 E G3 b30 Δ0 at30
-          d30 = Typed.s-seq 𝓤 H A W 𝓣 E G3 G4 b2 b29 Δ0 (Typed.both s2) at29 (Move.t-sl-copy-out 𝓤 H A W E Cell.R 𝓣 Path'.refl (Cell.copies .copy 𝓤 H A W) (λ ρ. Unit) G3 1 9 10 0 (Syntax.tyRef (Syntax.named 0) Syntax.mut Cell.behind) (Row.lease (κs .0) (qs .0)) Cell.held Cell.held Cell.row (Shared.bySize 24) (λ u. u .1 .1 .1 .0) (λ x. x) Cell.past (λ x. Unit) (λ x. x) (λ x. x) (λ i o. Elements.at-mul o 24 i) Path'.refl Path'.refl (Own.told-none 𝓤 H A (G3 .slots)) (DerefMove.learns-nothing 𝓤 H A Cell.R) (Reads.as-is 𝓤 H A (Mut.mslice Cell.R (Syntax.tyRef (Syntax.named 0) Syntax.mut Cell.behind) 0)) (Reads.as-is 𝓤 H A (Rows'.sc-here Row.sPtr)) (Reads.room-gone 𝓤 H A Cell.held) (Yields.makes-mem 𝓤 H A W (λ ρ. Unit) Cell.R Path'.refl Cell.row (λ x. x) λ ρ told. Cell.of-mem 𝓤 H A W ρ) Path'.refl tt Path'.refl Path'.refl) d29
+          d30 = Typed.s-seq 𝓤 H A W 𝓣 E G3 G4 b2 b29 Δ0 (Typed.both s2) at29 (Move.t-sl-copy-out 𝓤 H A W E Cell.R 𝓣 Path'.refl (Cell.copies .copy 𝓤 H A W) (λ ρ. Unit) G3 1 9 10 0 ty1 slot0 Cell.held Cell.held Cell.row (Shared.bySize 24) (λ u. u .1 .1 .1 .0) (λ x. x) Cell.past (λ x. Unit) (λ x. x) (λ x. x) (λ i o. Elements.at-mul o 24 i) Path'.refl Path'.refl (Own.told-none 𝓤 H A (G3 .slots)) (DerefMove.learns-nothing 𝓤 H A Cell.R) (Reads.as-is 𝓤 H A (Mut.mslice Cell.R ty1 0)) (Reads.as-is 𝓤 H A (Rows'.sc-here Row.sPtr)) (Reads.room-gone 𝓤 H A Cell.held) (Yields.makes-mem 𝓤 H A W (λ ρ. Unit) Cell.R Path'.refl Cell.row (λ x. x) λ ρ told. Cell.of-mem 𝓤 H A W ρ) Path'.refl tt Path'.refl Path'.refl) d29
 
           d31 : Typed.Typed 𝓤 H A 𝓣 E G2 b31 Δ0 at31
-          d31 = Typed.s-seq 𝓤 H A W 𝓣 E G2 G3 b1 b30 Δ0 (Typed.ask s1) at30 (Scalar.t-op2 𝓤 H A W E 𝓣 G2 Syntax.offset (Scalar.oFld 1 (List._∷_ (Syntax.field 0) List.[]) (Syntax.tyRef (Syntax.named 0) Syntax.mut Cell.behind) 0 Reads.ptrVal) (Scalar.oAt 8 (Syntax.tyInt Syntax.w64) (Row.valS (Row.sInt Syntax.w64))) 9 (Rows'.sc-here Row.sPtr) Syntax.tyPtr (Row.valS Row.sPtr) (Row.sPtr .of) (Mut.reads-mslice-ptr 𝓤 H A W Cell.R (Syntax.tyRef (Syntax.named 0) Syntax.mut Cell.behind) 0 0 Path'.refl, Path'.refl) (Scalar.reads-sc 𝓤 H A W (Row.sInt Syntax.w64), Path'.refl) (Reads.room-gone 𝓤 H A Syntax.tyPtr) (Scalar.holds-sc 𝓤 H A W Row.sPtr) Path'.refl (λ u. Path'.refl) λ u. tt) d30
+          d31 = Typed.s-seq 𝓤 H A W 𝓣 E G2 G3 b1 b30 Δ0 (Typed.ask s1) at30 (Scalar.t-op2 𝓤 H A W E 𝓣 G2 Syntax.offset (Scalar.oFld 1 steps0 ty1 0 Reads.ptrVal) (Scalar.oAt 8 ty0 (Row.valS sc0)) 9 (Rows'.sc-here Row.sPtr) Syntax.tyPtr (Row.valS Row.sPtr) (Row.sPtr .of) (Mut.reads-mslice-ptr 𝓤 H A W Cell.R ty1 0 0 Path'.refl, Path'.refl) (Scalar.reads-sc 𝓤 H A W sc0, Path'.refl) (Reads.room-gone 𝓤 H A Syntax.tyPtr) (Scalar.holds-sc 𝓤 H A W Row.sPtr) Path'.refl (λ u. Path'.refl) λ u. tt) d30
 
           d32 : Typed.Typed 𝓤 H A 𝓣 E G0 b32 Δ0 at32
-          d32 = Typed.s-seq 𝓤 H A W 𝓣 E G0 G2 b0 b31 Δ0 (Typed.ask s0) at31 (Scalar.t-op2 𝓤 H A W E 𝓣 G0 (Syntax.mul Syntax.unsigned) (Scalar.oAt 3 (Syntax.tyInt Syntax.w64) (Row.valS (Row.sInt Syntax.w64))) (Scalar.oInt Syntax.w64 24) 8 (Rows'.sc-here (Row.sInt Syntax.w64)) (Syntax.tyInt Syntax.w64) (Row.valS (Row.sInt Syntax.w64)) (Row.sInt Syntax.w64 .of) (Scalar.reads-sc 𝓤 H A W (Row.sInt Syntax.w64), Path'.refl) tt (Reads.room-gone 𝓤 H A (Syntax.tyInt Syntax.w64)) (Scalar.holds-sc 𝓤 H A W (Row.sInt Syntax.w64)) Path'.refl (λ u. Path'.refl) λ u. tt) d31
+          d32 = Typed.s-seq 𝓤 H A W 𝓣 E G0 G2 b0 b31 Δ0 (Typed.ask s0) at31 (Scalar.t-op2 𝓤 H A W E 𝓣 G0 (Syntax.mul Syntax.unsigned) (Scalar.oAt 3 ty0 (Row.valS sc0)) (Scalar.oInt Syntax.w64 24) 8 (Rows'.sc-here sc0) ty0 (Row.valS sc0) (Row.sInt Syntax.w64 .of) (Scalar.reads-sc 𝓤 H A W sc0, Path'.refl) tt (Reads.room-gone 𝓤 H A ty0) (Scalar.holds-sc 𝓤 H A W sc0) Path'.refl (λ u. Path'.refl) λ u. tt) d31
 
           pub typed : Typed.Typed 𝓤 H A 𝓣 E (Function.Γin 2 ps r xs m κs qs) b32 (Function.Δret 2 ps r xs m κs qs) Φ
           typed = d32

@@ -42,6 +42,90 @@ use mir.Val
 use prog.Wp
 use types.Kit
 
+abbrev ty0 : Syntax.Ty
+ty0 = Syntax.tyInt Syntax.w64
+
+abbrev opd0 : Syntax.Opd
+opd0 = Syntax.copy (Syntax.place 4 List.[])
+
+abbrev steps0 : List.List Syntax.Step
+steps0 = List._∷_ (Syntax.field 0) List.[]
+
+abbrev local0 : Row.Entry
+local0 = (0, Rows'.any-gone Cell.held)
+
+abbrev ty1 : Syntax.Ty
+ty1 = Syntax.tyRef (Syntax.named 0) Syntax.imm Cell.behind
+
+abbrev local1 : Row.Entry
+local1 = (1, Rows'.sslice Cell.R ty1 0)
+
+abbrev ty2 : Syntax.Ty
+ty2 = Syntax.tyRef (Syntax.named 1) Syntax.imm Cell.behind
+
+abbrev local2 : Row.Entry
+local2 = (2, Rows'.sslice Cell.R ty2 1)
+
+abbrev sc0 : Row.Sc
+sc0 = Row.sInt Syntax.w64
+
+abbrev local3 : Row.Entry
+local3 = (3, Rows'.sc-here sc0)
+
+abbrev local4 : Row.Entry
+local4 = (4, Rows'.sc-here sc0)
+
+abbrev local5 : Row.Entry
+local5 = (5, Rows'.any-gone Syntax.tyBool)
+
+abbrev local6 : Row.Entry
+local6 = (6, Rows'.any-gone ty0)
+
+abbrev local7 : Row.Entry
+local7 = (7, Rows'.any-gone Syntax.tyPtr)
+
+abbrev local8 : Row.Entry
+local8 = (8, Rows'.any-gone Cell.held)
+
+abbrev local9 : Row.Entry
+local9 = (9, Rows'.any-gone ty0)
+
+abbrev local10 : Row.Entry
+local10 = (10, Rows'.any-gone ty0)
+
+abbrev locals0 : List.List Row.Entry
+locals0 = List._∷_ (11, Rows'.any-gone Syntax.tyPtr) (List._∷_ (12, Rows'.any-gone Cell.held) List.[])
+
+abbrev locals1 : List.List Row.Entry
+locals1 = List._∷_ local8 (List._∷_ local9 (List._∷_ local10 locals0))
+
+abbrev locals2 : List.List Row.Entry
+locals2 = List._∷_ local5 (List._∷_ local6 (List._∷_ local7 locals1))
+
+abbrev locals3 : List.List Row.Entry
+locals3 = List._∷_ local1 (List._∷_ local2 (List._∷_ local3 (List._∷_ local4 locals2)))
+
+abbrev locals4 : List.List Row.Entry
+locals4 = List._∷_ (8, Cell.row) (List._∷_ local9 (List._∷_ local10 locals0))
+
+abbrev locals5 : List.List Row.Entry
+locals5 = List._∷_ local1 (List._∷_ local2 (List._∷_ local3 (List._∷_ local4 (List._∷_ local5 (List._∷_ local6 (List._∷_ local7 locals4))))))
+
+abbrev local11 : Row.Entry
+local11 = (9, Rows'.sc-here sc0)
+
+abbrev local12 : Row.Entry
+local12 = (10, Rows'.sc-here sc0)
+
+abbrev local13 : Row.Entry
+local13 = (11, Rows'.sc-here Row.sPtr)
+
+abbrev locals6 : List.List Row.Entry
+locals6 = List._∷_ (12, Cell.row) List.[]
+
+abbrev locals7 : List.List Row.Entry
+locals7 = List._∷_ local1 (List._∷_ local2 (List._∷_ local3 (List._∷_ local4 (List._∷_ local5 (List._∷_ local6 (List._∷_ local7 (List._∷_ local8 (List._∷_ local9 (List._∷_ local10 (List._∷_ (11, Rows'.any-gone Syntax.tyPtr) locals6))))))))))
+
 abbrev pub ps : List.List (Kinds.PK 2)
 ps = List._∷_ (ShrSlice.pShrS Cell.R 0 tt) (List._∷_ (ShrSlice.pShrS Cell.R 1 tt) (List._∷_ (Num.pNum Syntax.w64) (List._∷_ (Num.pNum Syntax.w64) List.[])))
 
@@ -49,7 +133,7 @@ abbrev pub r : Kinds.RK 2
 r = Cell.result
 
 abbrev pub xs : List.List Syntax.Ty
-xs = List._∷_ Syntax.tyBool (List._∷_ (Syntax.tyInt Syntax.w64) (List._∷_ Syntax.tyPtr (List._∷_ Cell.held (List._∷_ (Syntax.tyInt Syntax.w64) (List._∷_ (Syntax.tyInt Syntax.w64) (List._∷_ Syntax.tyPtr (List._∷_ Cell.held List.[])))))))
+xs = List._∷_ Syntax.tyBool (List._∷_ ty0 (List._∷_ Syntax.tyPtr (List._∷_ Cell.held (List._∷_ ty0 (List._∷_ ty0 (List._∷_ Syntax.tyPtr (List._∷_ Cell.held List.[])))))))
 
 abbrev pub m : Nat.ℕ
 m = 0
@@ -58,13 +142,13 @@ abbrev pub hs : List.List Syntax.Home
 hs = List._∷_ Syntax.valueLocal (List._∷_ Syntax.valueLocal (List._∷_ Syntax.valueLocal (List._∷_ Syntax.valueLocal (List._∷_ Syntax.valueLocal (List._∷_ Syntax.valueLocal (List._∷_ Syntax.valueLocal (List._∷_ Syntax.valueLocal (List._∷_ Syntax.valueLocal (List._∷_ Syntax.valueLocal (List._∷_ Syntax.valueLocal (List._∷_ Syntax.valueLocal (List._∷_ Syntax.valueLocal List.[]))))))))))))
 
 abbrev b0 : Syntax.Body
-b0 = Syntax.assign (Syntax.place 5 List.[]) (Syntax.op2 (Syntax.lt Syntax.unsigned) (Syntax.copy (Syntax.place 4 List.[])) (Syntax.copy (Syntax.place 3 List.[])))
+b0 = Syntax.assign (Syntax.place 5 List.[]) (Syntax.op2 (Syntax.lt Syntax.unsigned) opd0 (Syntax.copy (Syntax.place 3 List.[])))
 
 abbrev b1 : Syntax.Body
-b1 = Syntax.assign (Syntax.place 6 List.[]) (Syntax.op2 (Syntax.mul Syntax.unsigned) (Syntax.copy (Syntax.place 4 List.[])) (Syntax.int Syntax.w64 24))
+b1 = Syntax.assign (Syntax.place 6 List.[]) (Syntax.op2 (Syntax.mul Syntax.unsigned) opd0 (Syntax.int Syntax.w64 24))
 
 abbrev b2 : Syntax.Body
-b2 = Syntax.assign (Syntax.place 7 List.[]) (Syntax.op2 Syntax.offset (Syntax.copy (Syntax.place 1 (List._∷_ (Syntax.field 0) List.[]))) (Syntax.copy (Syntax.place 6 List.[])))
+b2 = Syntax.assign (Syntax.place 7 List.[]) (Syntax.op2 Syntax.offset (Syntax.copy (Syntax.place 1 steps0)) (Syntax.copy (Syntax.place 6 List.[])))
 
 abbrev b3 : Syntax.Body
 b3 = Syntax.assign (Syntax.place 8 List.[]) (Syntax.rvOpd (Syntax.copy (Syntax.place 7 (List._∷_ (Syntax.deref Cell.held) List.[]))))
@@ -94,13 +178,13 @@ abbrev b11 : Syntax.Body
 b11 = Syntax.cond (Syntax.copy (Syntax.place 5 List.[])) b9 b10
 
 abbrev b12 : Syntax.Body
-b12 = Syntax.assign (Syntax.place 9 List.[]) (Syntax.op2 (Syntax.sub Syntax.unsigned) (Syntax.copy (Syntax.place 4 List.[])) (Syntax.copy (Syntax.place 3 List.[])))
+b12 = Syntax.assign (Syntax.place 9 List.[]) (Syntax.op2 (Syntax.sub Syntax.unsigned) opd0 (Syntax.copy (Syntax.place 3 List.[])))
 
 abbrev b13 : Syntax.Body
 b13 = Syntax.assign (Syntax.place 10 List.[]) (Syntax.op2 (Syntax.mul Syntax.unsigned) (Syntax.copy (Syntax.place 9 List.[])) (Syntax.int Syntax.w64 24))
 
 abbrev b14 : Syntax.Body
-b14 = Syntax.assign (Syntax.place 11 List.[]) (Syntax.op2 Syntax.offset (Syntax.copy (Syntax.place 2 (List._∷_ (Syntax.field 0) List.[]))) (Syntax.copy (Syntax.place 10 List.[])))
+b14 = Syntax.assign (Syntax.place 11 List.[]) (Syntax.op2 Syntax.offset (Syntax.copy (Syntax.place 2 steps0)) (Syntax.copy (Syntax.place 10 List.[])))
 
 abbrev b15 : Syntax.Body
 b15 = Syntax.assign (Syntax.place 12 List.[]) (Syntax.rvOpd (Syntax.copy (Syntax.place 11 (List._∷_ (Syntax.deref Cell.held) List.[]))))
@@ -136,61 +220,61 @@ abbrev pub body : Syntax.Body
 body = b24
 
 abbrev pub t0 : List.List Row.Entry
-t0 = List._∷_ (0, Rows'.any-gone Cell.held) (List._∷_ (1, Rows'.sslice Cell.R (Syntax.tyRef (Syntax.named 0) Syntax.imm Cell.behind) 0) (List._∷_ (2, Rows'.sslice Cell.R (Syntax.tyRef (Syntax.named 1) Syntax.imm Cell.behind) 1) (List._∷_ (3, Rows'.sc-here (Row.sInt Syntax.w64)) (List._∷_ (4, Rows'.sc-here (Row.sInt Syntax.w64)) (List._∷_ (5, Rows'.any-gone Syntax.tyBool) (List._∷_ (6, Rows'.any-gone (Syntax.tyInt Syntax.w64)) (List._∷_ (7, Rows'.any-gone Syntax.tyPtr) (List._∷_ (8, Rows'.any-gone Cell.held) (List._∷_ (9, Rows'.any-gone (Syntax.tyInt Syntax.w64)) (List._∷_ (10, Rows'.any-gone (Syntax.tyInt Syntax.w64)) (List._∷_ (11, Rows'.any-gone Syntax.tyPtr) (List._∷_ (12, Rows'.any-gone Cell.held) List.[]))))))))))))
+t0 = List._∷_ local0 locals3
 
 abbrev pub t1 : List.List Row.Entry
-t1 = List._∷_ (0, Cell.row) (List._∷_ (1, Rows'.sslice Cell.R (Syntax.tyRef (Syntax.named 0) Syntax.imm Cell.behind) 0) (List._∷_ (2, Rows'.sslice Cell.R (Syntax.tyRef (Syntax.named 1) Syntax.imm Cell.behind) 1) (List._∷_ (3, Rows'.any-gone (Syntax.tyInt Syntax.w64)) (List._∷_ (4, Rows'.any-gone (Syntax.tyInt Syntax.w64)) (List._∷_ (5, Rows'.any-gone Syntax.tyBool) (List._∷_ (6, Rows'.any-gone (Syntax.tyInt Syntax.w64)) (List._∷_ (7, Rows'.any-gone Syntax.tyPtr) (List._∷_ (8, Rows'.any-gone Cell.held) (List._∷_ (9, Rows'.any-gone (Syntax.tyInt Syntax.w64)) (List._∷_ (10, Rows'.any-gone (Syntax.tyInt Syntax.w64)) (List._∷_ (11, Rows'.any-gone Syntax.tyPtr) (List._∷_ (12, Rows'.any-gone Cell.held) List.[]))))))))))))
+t1 = List._∷_ (0, Cell.row) (List._∷_ local1 (List._∷_ local2 (List._∷_ (3, Rows'.any-gone ty0) (List._∷_ (4, Rows'.any-gone ty0) locals2))))
 
 abbrev pub t2 : List.List Row.Entry
-t2 = List._∷_ (0, Rows'.any-gone Cell.held) (List._∷_ (1, Rows'.sslice Cell.R (Syntax.tyRef (Syntax.named 0) Syntax.imm Cell.behind) 0) (List._∷_ (2, Rows'.sslice Cell.R (Syntax.tyRef (Syntax.named 1) Syntax.imm Cell.behind) 1) (List._∷_ (3, Rows'.sc-here (Row.sInt Syntax.w64)) (List._∷_ (4, Rows'.sc-here (Row.sInt Syntax.w64)) (List._∷_ (5, Rows'.sc-here Row.sBool) (List._∷_ (6, Rows'.any-gone (Syntax.tyInt Syntax.w64)) (List._∷_ (7, Rows'.any-gone Syntax.tyPtr) (List._∷_ (8, Rows'.any-gone Cell.held) (List._∷_ (9, Rows'.any-gone (Syntax.tyInt Syntax.w64)) (List._∷_ (10, Rows'.any-gone (Syntax.tyInt Syntax.w64)) (List._∷_ (11, Rows'.any-gone Syntax.tyPtr) (List._∷_ (12, Rows'.any-gone Cell.held) List.[]))))))))))))
+t2 = List._∷_ local0 (List._∷_ local1 (List._∷_ local2 (List._∷_ local3 (List._∷_ local4 (List._∷_ (5, Rows'.sc-here Row.sBool) (List._∷_ local6 (List._∷_ local7 locals1)))))))
 
 abbrev pub t3 : List.List Row.Entry
-t3 = List._∷_ (0, Rows'.any-gone Cell.held) (List._∷_ (1, Rows'.sslice Cell.R (Syntax.tyRef (Syntax.named 0) Syntax.imm Cell.behind) 0) (List._∷_ (2, Rows'.sslice Cell.R (Syntax.tyRef (Syntax.named 1) Syntax.imm Cell.behind) 1) (List._∷_ (3, Rows'.sc-here (Row.sInt Syntax.w64)) (List._∷_ (4, Rows'.sc-here (Row.sInt Syntax.w64)) (List._∷_ (5, Rows'.any-gone Syntax.tyBool) (List._∷_ (6, Rows'.sc-here (Row.sInt Syntax.w64)) (List._∷_ (7, Rows'.any-gone Syntax.tyPtr) (List._∷_ (8, Rows'.any-gone Cell.held) (List._∷_ (9, Rows'.any-gone (Syntax.tyInt Syntax.w64)) (List._∷_ (10, Rows'.any-gone (Syntax.tyInt Syntax.w64)) (List._∷_ (11, Rows'.any-gone Syntax.tyPtr) (List._∷_ (12, Rows'.any-gone Cell.held) List.[]))))))))))))
+t3 = List._∷_ local0 (List._∷_ local1 (List._∷_ local2 (List._∷_ local3 (List._∷_ local4 (List._∷_ local5 (List._∷_ (6, Rows'.sc-here sc0) (List._∷_ local7 locals1)))))))
 
 abbrev pub t4 : List.List Row.Entry
-t4 = List._∷_ (0, Rows'.any-gone Cell.held) (List._∷_ (1, Rows'.sslice Cell.R (Syntax.tyRef (Syntax.named 0) Syntax.imm Cell.behind) 0) (List._∷_ (2, Rows'.sslice Cell.R (Syntax.tyRef (Syntax.named 1) Syntax.imm Cell.behind) 1) (List._∷_ (3, Rows'.sc-here (Row.sInt Syntax.w64)) (List._∷_ (4, Rows'.sc-here (Row.sInt Syntax.w64)) (List._∷_ (5, Rows'.any-gone Syntax.tyBool) (List._∷_ (6, Rows'.sc-here (Row.sInt Syntax.w64)) (List._∷_ (7, Rows'.sc-here Row.sPtr) (List._∷_ (8, Rows'.any-gone Cell.held) (List._∷_ (9, Rows'.any-gone (Syntax.tyInt Syntax.w64)) (List._∷_ (10, Rows'.any-gone (Syntax.tyInt Syntax.w64)) (List._∷_ (11, Rows'.any-gone Syntax.tyPtr) (List._∷_ (12, Rows'.any-gone Cell.held) List.[]))))))))))))
+t4 = List._∷_ local0 (List._∷_ local1 (List._∷_ local2 (List._∷_ local3 (List._∷_ local4 (List._∷_ local5 (List._∷_ (6, Rows'.sc-here sc0) (List._∷_ (7, Rows'.sc-here Row.sPtr) locals1)))))))
 
 abbrev pub t5 : List.List Row.Entry
-t5 = List._∷_ (0, Rows'.any-gone Cell.held) (List._∷_ (1, Rows'.sslice Cell.R (Syntax.tyRef (Syntax.named 0) Syntax.imm Cell.behind) 0) (List._∷_ (2, Rows'.sslice Cell.R (Syntax.tyRef (Syntax.named 1) Syntax.imm Cell.behind) 1) (List._∷_ (3, Rows'.sc-here (Row.sInt Syntax.w64)) (List._∷_ (4, Rows'.sc-here (Row.sInt Syntax.w64)) (List._∷_ (5, Rows'.any-gone Syntax.tyBool) (List._∷_ (6, Rows'.sc-here (Row.sInt Syntax.w64)) (List._∷_ (7, Rows'.sc-here Row.sPtr) (List._∷_ (8, Cell.row) (List._∷_ (9, Rows'.any-gone (Syntax.tyInt Syntax.w64)) (List._∷_ (10, Rows'.any-gone (Syntax.tyInt Syntax.w64)) (List._∷_ (11, Rows'.any-gone Syntax.tyPtr) (List._∷_ (12, Rows'.any-gone Cell.held) List.[]))))))))))))
+t5 = List._∷_ local0 (List._∷_ local1 (List._∷_ local2 (List._∷_ local3 (List._∷_ local4 (List._∷_ local5 (List._∷_ (6, Rows'.sc-here sc0) (List._∷_ (7, Rows'.sc-here Row.sPtr) locals4)))))))
 
 abbrev pub t6 : List.List Row.Entry
-t6 = List._∷_ (0, Rows'.any-gone Cell.held) (List._∷_ (1, Rows'.sslice Cell.R (Syntax.tyRef (Syntax.named 0) Syntax.imm Cell.behind) 0) (List._∷_ (2, Rows'.sslice Cell.R (Syntax.tyRef (Syntax.named 1) Syntax.imm Cell.behind) 1) (List._∷_ (3, Rows'.sc-here (Row.sInt Syntax.w64)) (List._∷_ (4, Rows'.sc-here (Row.sInt Syntax.w64)) (List._∷_ (5, Rows'.any-gone Syntax.tyBool) (List._∷_ (6, Rows'.any-gone (Syntax.tyInt Syntax.w64)) (List._∷_ (7, Rows'.sc-here Row.sPtr) (List._∷_ (8, Cell.row) (List._∷_ (9, Rows'.any-gone (Syntax.tyInt Syntax.w64)) (List._∷_ (10, Rows'.any-gone (Syntax.tyInt Syntax.w64)) (List._∷_ (11, Rows'.any-gone Syntax.tyPtr) (List._∷_ (12, Rows'.any-gone Cell.held) List.[]))))))))))))
+t6 = List._∷_ local0 (List._∷_ local1 (List._∷_ local2 (List._∷_ local3 (List._∷_ local4 (List._∷_ local5 (List._∷_ local6 (List._∷_ (7, Rows'.sc-here Row.sPtr) locals4)))))))
 
 abbrev pub t7 : List.List Row.Entry
-t7 = List._∷_ (0, Rows'.any-gone Cell.held) (List._∷_ (1, Rows'.sslice Cell.R (Syntax.tyRef (Syntax.named 0) Syntax.imm Cell.behind) 0) (List._∷_ (2, Rows'.sslice Cell.R (Syntax.tyRef (Syntax.named 1) Syntax.imm Cell.behind) 1) (List._∷_ (3, Rows'.sc-here (Row.sInt Syntax.w64)) (List._∷_ (4, Rows'.sc-here (Row.sInt Syntax.w64)) (List._∷_ (5, Rows'.any-gone Syntax.tyBool) (List._∷_ (6, Rows'.any-gone (Syntax.tyInt Syntax.w64)) (List._∷_ (7, Rows'.any-gone Syntax.tyPtr) (List._∷_ (8, Cell.row) (List._∷_ (9, Rows'.any-gone (Syntax.tyInt Syntax.w64)) (List._∷_ (10, Rows'.any-gone (Syntax.tyInt Syntax.w64)) (List._∷_ (11, Rows'.any-gone Syntax.tyPtr) (List._∷_ (12, Rows'.any-gone Cell.held) List.[]))))))))))))
+t7 = List._∷_ local0 locals5
 
 abbrev pub t8 : List.List Row.Entry
-t8 = List._∷_ (0, Cell.row) (List._∷_ (1, Rows'.sslice Cell.R (Syntax.tyRef (Syntax.named 0) Syntax.imm Cell.behind) 0) (List._∷_ (2, Rows'.sslice Cell.R (Syntax.tyRef (Syntax.named 1) Syntax.imm Cell.behind) 1) (List._∷_ (3, Rows'.sc-here (Row.sInt Syntax.w64)) (List._∷_ (4, Rows'.sc-here (Row.sInt Syntax.w64)) (List._∷_ (5, Rows'.any-gone Syntax.tyBool) (List._∷_ (6, Rows'.any-gone (Syntax.tyInt Syntax.w64)) (List._∷_ (7, Rows'.any-gone Syntax.tyPtr) (List._∷_ (8, Cell.row) (List._∷_ (9, Rows'.any-gone (Syntax.tyInt Syntax.w64)) (List._∷_ (10, Rows'.any-gone (Syntax.tyInt Syntax.w64)) (List._∷_ (11, Rows'.any-gone Syntax.tyPtr) (List._∷_ (12, Rows'.any-gone Cell.held) List.[]))))))))))))
+t8 = List._∷_ (0, Cell.row) locals5
 
 abbrev pub t9 : List.List Row.Entry
-t9 = List._∷_ (0, Cell.row) (List._∷_ (1, Rows'.sslice Cell.R (Syntax.tyRef (Syntax.named 0) Syntax.imm Cell.behind) 0) (List._∷_ (2, Rows'.sslice Cell.R (Syntax.tyRef (Syntax.named 1) Syntax.imm Cell.behind) 1) (List._∷_ (3, Rows'.sc-here (Row.sInt Syntax.w64)) (List._∷_ (4, Rows'.sc-here (Row.sInt Syntax.w64)) (List._∷_ (5, Rows'.any-gone Syntax.tyBool) (List._∷_ (6, Rows'.any-gone (Syntax.tyInt Syntax.w64)) (List._∷_ (7, Rows'.any-gone Syntax.tyPtr) (List._∷_ (8, Rows'.any-gone Cell.held) (List._∷_ (9, Rows'.any-gone (Syntax.tyInt Syntax.w64)) (List._∷_ (10, Rows'.any-gone (Syntax.tyInt Syntax.w64)) (List._∷_ (11, Rows'.any-gone Syntax.tyPtr) (List._∷_ (12, Rows'.any-gone Cell.held) List.[]))))))))))))
+t9 = List._∷_ (0, Cell.row) locals3
 
 abbrev pub t10 : List.List Row.Entry
-t10 = List._∷_ (0, Cell.row) (List._∷_ (1, Rows'.sslice Cell.R (Syntax.tyRef (Syntax.named 0) Syntax.imm Cell.behind) 0) (List._∷_ (2, Rows'.sslice Cell.R (Syntax.tyRef (Syntax.named 1) Syntax.imm Cell.behind) 1) (List._∷_ (3, Rows'.any-gone (Syntax.tyInt Syntax.w64)) (List._∷_ (4, Rows'.sc-here (Row.sInt Syntax.w64)) (List._∷_ (5, Rows'.any-gone Syntax.tyBool) (List._∷_ (6, Rows'.any-gone (Syntax.tyInt Syntax.w64)) (List._∷_ (7, Rows'.any-gone Syntax.tyPtr) (List._∷_ (8, Rows'.any-gone Cell.held) (List._∷_ (9, Rows'.any-gone (Syntax.tyInt Syntax.w64)) (List._∷_ (10, Rows'.any-gone (Syntax.tyInt Syntax.w64)) (List._∷_ (11, Rows'.any-gone Syntax.tyPtr) (List._∷_ (12, Rows'.any-gone Cell.held) List.[]))))))))))))
+t10 = List._∷_ (0, Cell.row) (List._∷_ local1 (List._∷_ local2 (List._∷_ (3, Rows'.any-gone ty0) (List._∷_ local4 locals2))))
 
 abbrev pub t11 : List.List Row.Entry
-t11 = List._∷_ (0, Rows'.any-gone Cell.held) (List._∷_ (1, Rows'.sslice Cell.R (Syntax.tyRef (Syntax.named 0) Syntax.imm Cell.behind) 0) (List._∷_ (2, Rows'.sslice Cell.R (Syntax.tyRef (Syntax.named 1) Syntax.imm Cell.behind) 1) (List._∷_ (3, Rows'.sc-here (Row.sInt Syntax.w64)) (List._∷_ (4, Rows'.sc-here (Row.sInt Syntax.w64)) (List._∷_ (5, Rows'.any-gone Syntax.tyBool) (List._∷_ (6, Rows'.any-gone (Syntax.tyInt Syntax.w64)) (List._∷_ (7, Rows'.any-gone Syntax.tyPtr) (List._∷_ (8, Rows'.any-gone Cell.held) (List._∷_ (9, Rows'.sc-here (Row.sInt Syntax.w64)) (List._∷_ (10, Rows'.any-gone (Syntax.tyInt Syntax.w64)) (List._∷_ (11, Rows'.any-gone Syntax.tyPtr) (List._∷_ (12, Rows'.any-gone Cell.held) List.[]))))))))))))
+t11 = List._∷_ local0 (List._∷_ local1 (List._∷_ local2 (List._∷_ local3 (List._∷_ local4 (List._∷_ local5 (List._∷_ local6 (List._∷_ local7 (List._∷_ local8 (List._∷_ local11 (List._∷_ local10 locals0))))))))))
 
 abbrev pub t12 : List.List Row.Entry
-t12 = List._∷_ (0, Rows'.any-gone Cell.held) (List._∷_ (1, Rows'.sslice Cell.R (Syntax.tyRef (Syntax.named 0) Syntax.imm Cell.behind) 0) (List._∷_ (2, Rows'.sslice Cell.R (Syntax.tyRef (Syntax.named 1) Syntax.imm Cell.behind) 1) (List._∷_ (3, Rows'.sc-here (Row.sInt Syntax.w64)) (List._∷_ (4, Rows'.sc-here (Row.sInt Syntax.w64)) (List._∷_ (5, Rows'.any-gone Syntax.tyBool) (List._∷_ (6, Rows'.any-gone (Syntax.tyInt Syntax.w64)) (List._∷_ (7, Rows'.any-gone Syntax.tyPtr) (List._∷_ (8, Rows'.any-gone Cell.held) (List._∷_ (9, Rows'.sc-here (Row.sInt Syntax.w64)) (List._∷_ (10, Rows'.sc-here (Row.sInt Syntax.w64)) (List._∷_ (11, Rows'.any-gone Syntax.tyPtr) (List._∷_ (12, Rows'.any-gone Cell.held) List.[]))))))))))))
+t12 = List._∷_ local0 (List._∷_ local1 (List._∷_ local2 (List._∷_ local3 (List._∷_ local4 (List._∷_ local5 (List._∷_ local6 (List._∷_ local7 (List._∷_ local8 (List._∷_ local11 (List._∷_ local12 locals0))))))))))
 
 abbrev pub t13 : List.List Row.Entry
-t13 = List._∷_ (0, Rows'.any-gone Cell.held) (List._∷_ (1, Rows'.sslice Cell.R (Syntax.tyRef (Syntax.named 0) Syntax.imm Cell.behind) 0) (List._∷_ (2, Rows'.sslice Cell.R (Syntax.tyRef (Syntax.named 1) Syntax.imm Cell.behind) 1) (List._∷_ (3, Rows'.sc-here (Row.sInt Syntax.w64)) (List._∷_ (4, Rows'.sc-here (Row.sInt Syntax.w64)) (List._∷_ (5, Rows'.any-gone Syntax.tyBool) (List._∷_ (6, Rows'.any-gone (Syntax.tyInt Syntax.w64)) (List._∷_ (7, Rows'.any-gone Syntax.tyPtr) (List._∷_ (8, Rows'.any-gone Cell.held) (List._∷_ (9, Rows'.sc-here (Row.sInt Syntax.w64)) (List._∷_ (10, Rows'.sc-here (Row.sInt Syntax.w64)) (List._∷_ (11, Rows'.sc-here Row.sPtr) (List._∷_ (12, Rows'.any-gone Cell.held) List.[]))))))))))))
+t13 = List._∷_ local0 (List._∷_ local1 (List._∷_ local2 (List._∷_ local3 (List._∷_ local4 (List._∷_ local5 (List._∷_ local6 (List._∷_ local7 (List._∷_ local8 (List._∷_ local11 (List._∷_ local12 (List._∷_ local13 (List._∷_ (12, Rows'.any-gone Cell.held) List.[]))))))))))))
 
 abbrev pub t14 : List.List Row.Entry
-t14 = List._∷_ (0, Rows'.any-gone Cell.held) (List._∷_ (1, Rows'.sslice Cell.R (Syntax.tyRef (Syntax.named 0) Syntax.imm Cell.behind) 0) (List._∷_ (2, Rows'.sslice Cell.R (Syntax.tyRef (Syntax.named 1) Syntax.imm Cell.behind) 1) (List._∷_ (3, Rows'.sc-here (Row.sInt Syntax.w64)) (List._∷_ (4, Rows'.sc-here (Row.sInt Syntax.w64)) (List._∷_ (5, Rows'.any-gone Syntax.tyBool) (List._∷_ (6, Rows'.any-gone (Syntax.tyInt Syntax.w64)) (List._∷_ (7, Rows'.any-gone Syntax.tyPtr) (List._∷_ (8, Rows'.any-gone Cell.held) (List._∷_ (9, Rows'.sc-here (Row.sInt Syntax.w64)) (List._∷_ (10, Rows'.sc-here (Row.sInt Syntax.w64)) (List._∷_ (11, Rows'.sc-here Row.sPtr) (List._∷_ (12, Cell.row) List.[]))))))))))))
+t14 = List._∷_ local0 (List._∷_ local1 (List._∷_ local2 (List._∷_ local3 (List._∷_ local4 (List._∷_ local5 (List._∷_ local6 (List._∷_ local7 (List._∷_ local8 (List._∷_ local11 (List._∷_ local12 (List._∷_ local13 locals6)))))))))))
 
 abbrev pub t15 : List.List Row.Entry
-t15 = List._∷_ (0, Rows'.any-gone Cell.held) (List._∷_ (1, Rows'.sslice Cell.R (Syntax.tyRef (Syntax.named 0) Syntax.imm Cell.behind) 0) (List._∷_ (2, Rows'.sslice Cell.R (Syntax.tyRef (Syntax.named 1) Syntax.imm Cell.behind) 1) (List._∷_ (3, Rows'.sc-here (Row.sInt Syntax.w64)) (List._∷_ (4, Rows'.sc-here (Row.sInt Syntax.w64)) (List._∷_ (5, Rows'.any-gone Syntax.tyBool) (List._∷_ (6, Rows'.any-gone (Syntax.tyInt Syntax.w64)) (List._∷_ (7, Rows'.any-gone Syntax.tyPtr) (List._∷_ (8, Rows'.any-gone Cell.held) (List._∷_ (9, Rows'.any-gone (Syntax.tyInt Syntax.w64)) (List._∷_ (10, Rows'.sc-here (Row.sInt Syntax.w64)) (List._∷_ (11, Rows'.sc-here Row.sPtr) (List._∷_ (12, Cell.row) List.[]))))))))))))
+t15 = List._∷_ local0 (List._∷_ local1 (List._∷_ local2 (List._∷_ local3 (List._∷_ local4 (List._∷_ local5 (List._∷_ local6 (List._∷_ local7 (List._∷_ local8 (List._∷_ local9 (List._∷_ local12 (List._∷_ local13 locals6)))))))))))
 
 abbrev pub t16 : List.List Row.Entry
-t16 = List._∷_ (0, Rows'.any-gone Cell.held) (List._∷_ (1, Rows'.sslice Cell.R (Syntax.tyRef (Syntax.named 0) Syntax.imm Cell.behind) 0) (List._∷_ (2, Rows'.sslice Cell.R (Syntax.tyRef (Syntax.named 1) Syntax.imm Cell.behind) 1) (List._∷_ (3, Rows'.sc-here (Row.sInt Syntax.w64)) (List._∷_ (4, Rows'.sc-here (Row.sInt Syntax.w64)) (List._∷_ (5, Rows'.any-gone Syntax.tyBool) (List._∷_ (6, Rows'.any-gone (Syntax.tyInt Syntax.w64)) (List._∷_ (7, Rows'.any-gone Syntax.tyPtr) (List._∷_ (8, Rows'.any-gone Cell.held) (List._∷_ (9, Rows'.any-gone (Syntax.tyInt Syntax.w64)) (List._∷_ (10, Rows'.any-gone (Syntax.tyInt Syntax.w64)) (List._∷_ (11, Rows'.sc-here Row.sPtr) (List._∷_ (12, Cell.row) List.[]))))))))))))
+t16 = List._∷_ local0 (List._∷_ local1 (List._∷_ local2 (List._∷_ local3 (List._∷_ local4 (List._∷_ local5 (List._∷_ local6 (List._∷_ local7 (List._∷_ local8 (List._∷_ local9 (List._∷_ local10 (List._∷_ local13 locals6)))))))))))
 
 abbrev pub t17 : List.List Row.Entry
-t17 = List._∷_ (0, Rows'.any-gone Cell.held) (List._∷_ (1, Rows'.sslice Cell.R (Syntax.tyRef (Syntax.named 0) Syntax.imm Cell.behind) 0) (List._∷_ (2, Rows'.sslice Cell.R (Syntax.tyRef (Syntax.named 1) Syntax.imm Cell.behind) 1) (List._∷_ (3, Rows'.sc-here (Row.sInt Syntax.w64)) (List._∷_ (4, Rows'.sc-here (Row.sInt Syntax.w64)) (List._∷_ (5, Rows'.any-gone Syntax.tyBool) (List._∷_ (6, Rows'.any-gone (Syntax.tyInt Syntax.w64)) (List._∷_ (7, Rows'.any-gone Syntax.tyPtr) (List._∷_ (8, Rows'.any-gone Cell.held) (List._∷_ (9, Rows'.any-gone (Syntax.tyInt Syntax.w64)) (List._∷_ (10, Rows'.any-gone (Syntax.tyInt Syntax.w64)) (List._∷_ (11, Rows'.any-gone Syntax.tyPtr) (List._∷_ (12, Cell.row) List.[]))))))))))))
+t17 = List._∷_ local0 locals7
 
 abbrev pub t18 : List.List Row.Entry
-t18 = List._∷_ (0, Cell.row) (List._∷_ (1, Rows'.sslice Cell.R (Syntax.tyRef (Syntax.named 0) Syntax.imm Cell.behind) 0) (List._∷_ (2, Rows'.sslice Cell.R (Syntax.tyRef (Syntax.named 1) Syntax.imm Cell.behind) 1) (List._∷_ (3, Rows'.sc-here (Row.sInt Syntax.w64)) (List._∷_ (4, Rows'.sc-here (Row.sInt Syntax.w64)) (List._∷_ (5, Rows'.any-gone Syntax.tyBool) (List._∷_ (6, Rows'.any-gone (Syntax.tyInt Syntax.w64)) (List._∷_ (7, Rows'.any-gone Syntax.tyPtr) (List._∷_ (8, Rows'.any-gone Cell.held) (List._∷_ (9, Rows'.any-gone (Syntax.tyInt Syntax.w64)) (List._∷_ (10, Rows'.any-gone (Syntax.tyInt Syntax.w64)) (List._∷_ (11, Rows'.any-gone Syntax.tyPtr) (List._∷_ (12, Cell.row) List.[]))))))))))))
+t18 = List._∷_ (0, Cell.row) locals7
 
 abbrev pub T0 : Row.Cx
 T0 = record { locals = t0; slots = List.[] }
@@ -278,22 +362,22 @@ O1 = Typed.withNext (Option.some T3) O0
 
 module _ where
   abbrev s0 : Typed.Asks T0 T2
-  s0 = Scalar.k-op2 T0 (Syntax.lt Syntax.unsigned) (Scalar.oAt 4 (Syntax.tyInt Syntax.w64) (Row.valS (Row.sInt Syntax.w64))) (Scalar.oAt 3 (Syntax.tyInt Syntax.w64) (Row.valS (Row.sInt Syntax.w64))) 5 (Rows'.sc-here Row.sBool) (Row.sBool .of)
+  s0 = Scalar.k-op2 T0 (Syntax.lt Syntax.unsigned) (Scalar.oAt 4 ty0 (Row.valS sc0)) (Scalar.oAt 3 ty0 (Row.valS sc0)) 5 (Rows'.sc-here Row.sBool) (Row.sBool .of)
 
   abbrev s1 : Typed.Mo T2 → Typed.Mo T4
   s1 = Scalar.n-room T2 5 Syntax.tyBool
 
   abbrev s2 : Typed.Asks T4 T5
-  s2 = Scalar.k-op2 T4 (Syntax.mul Syntax.unsigned) (Scalar.oAt 4 (Syntax.tyInt Syntax.w64) (Row.valS (Row.sInt Syntax.w64))) (Scalar.oInt Syntax.w64 24) 6 (Rows'.sc-here (Row.sInt Syntax.w64)) (Row.sInt Syntax.w64 .of)
+  s2 = Scalar.k-op2 T4 (Syntax.mul Syntax.unsigned) (Scalar.oAt 4 ty0 (Row.valS sc0)) (Scalar.oInt Syntax.w64 24) 6 (Rows'.sc-here sc0) (Row.sInt Syntax.w64 .of)
 
   abbrev s3 : Typed.Asks T5 T6
-  s3 = Scalar.k-op2 T5 Syntax.offset (Scalar.oFld 1 (List._∷_ (Syntax.field 0) List.[]) (Syntax.tyRef (Syntax.named 0) Syntax.imm Cell.behind) 0 Reads.ptrVal) (Scalar.oAt 6 (Syntax.tyInt Syntax.w64) (Row.valS (Row.sInt Syntax.w64))) 7 (Rows'.sc-here Row.sPtr) (Row.sPtr .of)
+  s3 = Scalar.k-op2 T5 Syntax.offset (Scalar.oFld 1 steps0 ty1 0 Reads.ptrVal) (Scalar.oAt 6 ty0 (Row.valS sc0)) 7 (Rows'.sc-here Row.sPtr) (Row.sPtr .of)
 
   abbrev s4 : Typed.Both T6 T7
-  s4 = Move.k-shs-copy-out Cell.R T6 1 7 8 0 (Syntax.tyRef (Syntax.named 0) Syntax.imm Cell.behind) Row.off Cell.row (Shared.bySize 24) (λ u. u .1 .1 .1 .1 .0) (λ x. x) Cell.past (λ x. Unit) (λ x. x) λ x. x
+  s4 = Move.k-shs-copy-out Cell.R T6 1 7 8 0 ty1 Row.off Cell.row (Shared.bySize 24) (λ u. u .1 .1 .1 .1 .0) (λ x. x) Cell.past (λ x. Unit) (λ x. x) λ x. x
 
   abbrev s5 : Typed.Mo T7 → Typed.Mo T8
-  s5 = Scalar.n-room T7 6 (Syntax.tyInt Syntax.w64)
+  s5 = Scalar.n-room T7 6 ty0
 
   abbrev s6 : Typed.Mo T8 → Typed.Mo T9
   s6 = Scalar.n-room T8 7 Syntax.tyPtr
@@ -305,31 +389,31 @@ module _ where
   s8 = Scalar.n-room T10 8 Cell.held
 
   abbrev s9 : Typed.Mo T11 → Typed.Mo T12
-  s9 = Scalar.n-room T11 3 (Syntax.tyInt Syntax.w64)
+  s9 = Scalar.n-room T11 3 ty0
 
   abbrev s10 : Typed.Mo T12 → Typed.Mo T13
-  s10 = Scalar.n-room T12 4 (Syntax.tyInt Syntax.w64)
+  s10 = Scalar.n-room T12 4 ty0
 
   abbrev s11 : Typed.Mo T2 → Typed.Mo T14
   s11 = Scalar.n-room T2 5 Syntax.tyBool
 
   abbrev s12 : Typed.Asks T3 T15
-  s12 = Scalar.k-op2 T3 (Syntax.sub Syntax.unsigned) (Scalar.oAt 4 (Syntax.tyInt Syntax.w64) (Row.valS (Row.sInt Syntax.w64))) (Scalar.oAt 3 (Syntax.tyInt Syntax.w64) (Row.valS (Row.sInt Syntax.w64))) 9 (Rows'.sc-here (Row.sInt Syntax.w64)) (Row.sInt Syntax.w64 .of)
+  s12 = Scalar.k-op2 T3 (Syntax.sub Syntax.unsigned) (Scalar.oAt 4 ty0 (Row.valS sc0)) (Scalar.oAt 3 ty0 (Row.valS sc0)) 9 (Rows'.sc-here sc0) (Row.sInt Syntax.w64 .of)
 
   abbrev s13 : Typed.Asks T15 T16
-  s13 = Scalar.k-op2 T15 (Syntax.mul Syntax.unsigned) (Scalar.oAt 9 (Syntax.tyInt Syntax.w64) (Row.valS (Row.sInt Syntax.w64))) (Scalar.oInt Syntax.w64 24) 10 (Rows'.sc-here (Row.sInt Syntax.w64)) (Row.sInt Syntax.w64 .of)
+  s13 = Scalar.k-op2 T15 (Syntax.mul Syntax.unsigned) (Scalar.oAt 9 ty0 (Row.valS sc0)) (Scalar.oInt Syntax.w64 24) 10 (Rows'.sc-here sc0) (Row.sInt Syntax.w64 .of)
 
   abbrev s14 : Typed.Asks T16 T17
-  s14 = Scalar.k-op2 T16 Syntax.offset (Scalar.oFld 2 (List._∷_ (Syntax.field 0) List.[]) (Syntax.tyRef (Syntax.named 1) Syntax.imm Cell.behind) 0 Reads.ptrVal) (Scalar.oAt 10 (Syntax.tyInt Syntax.w64) (Row.valS (Row.sInt Syntax.w64))) 11 (Rows'.sc-here Row.sPtr) (Row.sPtr .of)
+  s14 = Scalar.k-op2 T16 Syntax.offset (Scalar.oFld 2 steps0 ty2 0 Reads.ptrVal) (Scalar.oAt 10 ty0 (Row.valS sc0)) 11 (Rows'.sc-here Row.sPtr) (Row.sPtr .of)
 
   abbrev s15 : Typed.Both T17 T18
-  s15 = Move.k-shs-copy-out Cell.R T17 2 11 12 1 (Syntax.tyRef (Syntax.named 1) Syntax.imm Cell.behind) Row.off Cell.row (Shared.bySize 24) (λ u. u .1 .1 .1 .1 .1 .1 .1 .1 .1 .0) (λ x. x) Cell.past (λ x. Unit) (λ x. x) λ x. x
+  s15 = Move.k-shs-copy-out Cell.R T17 2 11 12 1 ty2 Row.off Cell.row (Shared.bySize 24) (λ u. u .1 .1 .1 .1 .1 .1 .1 .1 .1 .0) (λ x. x) Cell.past (λ x. Unit) (λ x. x) λ x. x
 
   abbrev s16 : Typed.Mo T18 → Typed.Mo T19
-  s16 = Scalar.n-room T18 9 (Syntax.tyInt Syntax.w64)
+  s16 = Scalar.n-room T18 9 ty0
 
   abbrev s17 : Typed.Mo T19 → Typed.Mo T20
-  s17 = Scalar.n-room T19 10 (Syntax.tyInt Syntax.w64)
+  s17 = Scalar.n-room T19 10 ty0
 
   abbrev s18 : Typed.Mo T20 → Typed.Mo T21
   s18 = Scalar.n-room T20 11 Syntax.tyPtr
@@ -341,10 +425,10 @@ module _ where
   s20 = Scalar.n-room T22 12 Cell.held
 
   abbrev s21 : Typed.Mo T23 → Typed.Mo T24
-  s21 = Scalar.n-room T23 3 (Syntax.tyInt Syntax.w64)
+  s21 = Scalar.n-room T23 3 ty0
 
   abbrev s22 : Typed.Mo T24 → Typed.Mo T25
-  s22 = Scalar.n-room T24 4 (Syntax.tyInt Syntax.w64)
+  s22 = Scalar.n-room T24 4 ty0
 
   module _ (Pre· : (κs : Lifetimes.Lfts 2) → Kinds.Dens κs ps → Type 0) (Post· : (κs : Lifetimes.Lfts 2) → (a : Kinds.Dens κs ps) → Kinds.Plain 2 ps r κs) where
     module _ (M : Type 1) where
@@ -440,83 +524,89 @@ module _ where
       Φ = at27
 
       module _ (κs : Lifetimes.Lfts 2) (qs : Lifetimes.Shares 2) where
+        abbrev slot0 : Row.Life
+        slot0 = Row.lease (κs .0) (qs .0)
+
+        abbrev slots0 : List.List Row.Life
+        slots0 = List._∷_ (Row.lease (κs .1 .0) (qs .1 .0)) List.[]
+
         abbrev G0 : Row.Cx
-        G0 = record { locals = t0; slots = List._∷_ (Row.lease (κs .0) (qs .0)) (List._∷_ (Row.lease (κs .1 .0) (qs .1 .0)) List.[]) }
+        G0 = record { locals = t0; slots = List._∷_ slot0 slots0 }
 
         abbrev G1 : Row.Cx
-        G1 = record { locals = t1; slots = List._∷_ (Row.lease (κs .0) (qs .0)) (List._∷_ (Row.lease (κs .1 .0) (qs .1 .0)) List.[]) }
+        G1 = record { locals = t1; slots = List._∷_ slot0 slots0 }
 
         abbrev G2 : Row.Cx
-        G2 = record { locals = t2; slots = List._∷_ (Row.lease (κs .0) (qs .0)) (List._∷_ (Row.lease (κs .1 .0) (qs .1 .0)) List.[]) }
+        G2 = record { locals = t2; slots = List._∷_ slot0 slots0 }
 
         abbrev G3 : Row.Cx
-        G3 = record { locals = t0; slots = List._∷_ (Row.lease (κs .0) (qs .0)) (List._∷_ (Row.lease (κs .1 .0) (qs .1 .0)) List.[]) }
+        G3 = record { locals = t0; slots = List._∷_ slot0 slots0 }
 
         abbrev G4 : Row.Cx
-        G4 = record { locals = t0; slots = List._∷_ (Row.lease (κs .0) (qs .0)) (List._∷_ (Row.lease (κs .1 .0) (qs .1 .0)) List.[]) }
+        G4 = record { locals = t0; slots = List._∷_ slot0 slots0 }
 
         abbrev G5 : Row.Cx
-        G5 = record { locals = t3; slots = List._∷_ (Row.lease (κs .0) (qs .0)) (List._∷_ (Row.lease (κs .1 .0) (qs .1 .0)) List.[]) }
+        G5 = record { locals = t3; slots = List._∷_ slot0 slots0 }
 
         abbrev G6 : Row.Cx
-        G6 = record { locals = t4; slots = List._∷_ (Row.lease (κs .0) (qs .0)) (List._∷_ (Row.lease (κs .1 .0) (qs .1 .0)) List.[]) }
+        G6 = record { locals = t4; slots = List._∷_ slot0 slots0 }
 
         abbrev G7 : Row.Cx
-        G7 = record { locals = t5; slots = List._∷_ (Row.lease (κs .0) (qs .0)) (List._∷_ (Row.lease (κs .1 .0) (qs .1 .0)) List.[]) }
+        G7 = record { locals = t5; slots = List._∷_ slot0 slots0 }
 
         abbrev G8 : Row.Cx
-        G8 = record { locals = t6; slots = List._∷_ (Row.lease (κs .0) (qs .0)) (List._∷_ (Row.lease (κs .1 .0) (qs .1 .0)) List.[]) }
+        G8 = record { locals = t6; slots = List._∷_ slot0 slots0 }
 
         abbrev G9 : Row.Cx
-        G9 = record { locals = t7; slots = List._∷_ (Row.lease (κs .0) (qs .0)) (List._∷_ (Row.lease (κs .1 .0) (qs .1 .0)) List.[]) }
+        G9 = record { locals = t7; slots = List._∷_ slot0 slots0 }
 
         abbrev G10 : Row.Cx
-        G10 = record { locals = t8; slots = List._∷_ (Row.lease (κs .0) (qs .0)) (List._∷_ (Row.lease (κs .1 .0) (qs .1 .0)) List.[]) }
+        G10 = record { locals = t8; slots = List._∷_ slot0 slots0 }
 
         abbrev G11 : Row.Cx
-        G11 = record { locals = t9; slots = List._∷_ (Row.lease (κs .0) (qs .0)) (List._∷_ (Row.lease (κs .1 .0) (qs .1 .0)) List.[]) }
+        G11 = record { locals = t9; slots = List._∷_ slot0 slots0 }
 
         abbrev G12 : Row.Cx
-        G12 = record { locals = t10; slots = List._∷_ (Row.lease (κs .0) (qs .0)) (List._∷_ (Row.lease (κs .1 .0) (qs .1 .0)) List.[]) }
+        G12 = record { locals = t10; slots = List._∷_ slot0 slots0 }
 
         abbrev G13 : Row.Cx
-        G13 = record { locals = t1; slots = List._∷_ (Row.lease (κs .0) (qs .0)) (List._∷_ (Row.lease (κs .1 .0) (qs .1 .0)) List.[]) }
+        G13 = record { locals = t1; slots = List._∷_ slot0 slots0 }
 
         abbrev G14 : Row.Cx
-        G14 = record { locals = t0; slots = List._∷_ (Row.lease (κs .0) (qs .0)) (List._∷_ (Row.lease (κs .1 .0) (qs .1 .0)) List.[]) }
+        G14 = record { locals = t0; slots = List._∷_ slot0 slots0 }
 
         abbrev G15 : Row.Cx
-        G15 = record { locals = t11; slots = List._∷_ (Row.lease (κs .0) (qs .0)) (List._∷_ (Row.lease (κs .1 .0) (qs .1 .0)) List.[]) }
+        G15 = record { locals = t11; slots = List._∷_ slot0 slots0 }
 
         abbrev G16 : Row.Cx
-        G16 = record { locals = t12; slots = List._∷_ (Row.lease (κs .0) (qs .0)) (List._∷_ (Row.lease (κs .1 .0) (qs .1 .0)) List.[]) }
+        G16 = record { locals = t12; slots = List._∷_ slot0 slots0 }
 
         abbrev G17 : Row.Cx
-        G17 = record { locals = t13; slots = List._∷_ (Row.lease (κs .0) (qs .0)) (List._∷_ (Row.lease (κs .1 .0) (qs .1 .0)) List.[]) }
+        G17 = record { locals = t13; slots = List._∷_ slot0 slots0 }
 
         abbrev G18 : Row.Cx
-        G18 = record { locals = t14; slots = List._∷_ (Row.lease (κs .0) (qs .0)) (List._∷_ (Row.lease (κs .1 .0) (qs .1 .0)) List.[]) }
+        G18 = record { locals = t14; slots = List._∷_ slot0 slots0 }
 
         abbrev G19 : Row.Cx
-        G19 = record { locals = t15; slots = List._∷_ (Row.lease (κs .0) (qs .0)) (List._∷_ (Row.lease (κs .1 .0) (qs .1 .0)) List.[]) }
+        G19 = record { locals = t15; slots = List._∷_ slot0 slots0 }
 
         abbrev G20 : Row.Cx
-        G20 = record { locals = t16; slots = List._∷_ (Row.lease (κs .0) (qs .0)) (List._∷_ (Row.lease (κs .1 .0) (qs .1 .0)) List.[]) }
+        G20 = record { locals = t16; slots = List._∷_ slot0 slots0 }
 
         abbrev G21 : Row.Cx
-        G21 = record { locals = t17; slots = List._∷_ (Row.lease (κs .0) (qs .0)) (List._∷_ (Row.lease (κs .1 .0) (qs .1 .0)) List.[]) }
+        G21 = record { locals = t17; slots = List._∷_ slot0 slots0 }
 
         abbrev G22 : Row.Cx
-        G22 = record { locals = t18; slots = List._∷_ (Row.lease (κs .0) (qs .0)) (List._∷_ (Row.lease (κs .1 .0) (qs .1 .0)) List.[]) }
+        G22 = record { locals = t18; slots = List._∷_ slot0 slots0 }
 
         abbrev G23 : Row.Cx
-        G23 = record { locals = t9; slots = List._∷_ (Row.lease (κs .0) (qs .0)) (List._∷_ (Row.lease (κs .1 .0) (qs .1 .0)) List.[]) }
+        G23 = record { locals = t9; slots = List._∷_ slot0 slots0 }
 
         abbrev G24 : Row.Cx
-        G24 = record { locals = t10; slots = List._∷_ (Row.lease (κs .0) (qs .0)) (List._∷_ (Row.lease (κs .1 .0) (qs .1 .0)) List.[]) }
+        G24 = record { locals = t10; slots = List._∷_ slot0 slots0 }
 
         abbrev G25 : Row.Cx
-        G25 = record { locals = t1; slots = List._∷_ (Row.lease (κs .0) (qs .0)) (List._∷_ (Row.lease (κs .1 .0) (qs .1 .0)) List.[]) }
+        G25 = record { locals = t1; slots = List._∷_ slot0 slots0 }
 
         abbrev Δ0 : Typed.Outs
         Δ0 = record { next = Option.none; exits = List.[]; returns = Option.some G1 }
@@ -532,10 +622,10 @@ module _ where
           d0 = Typed.t-return 𝓤 H A W 𝓣 E Δ1 tt
 
           d1 : Typed.Typed 𝓤 H A 𝓣 E G12 b5 Δ1 at1
-          d1 = Typed.g-pre 𝓤 H A W 𝓣 E G12 G13 b5 Δ1 (Typed.pass T12 T13 s10) at0 (Scalar.g-room 𝓤 H A W E G12 4 (Syntax.tyInt Syntax.w64) (Scalar.room-sc 𝓤 H A W (Row.sInt Syntax.w64))) d0
+          d1 = Typed.g-pre 𝓤 H A W 𝓣 E G12 G13 b5 Δ1 (Typed.pass T12 T13 s10) at0 (Scalar.g-room 𝓤 H A W E G12 4 ty0 (Scalar.room-sc 𝓤 H A W sc0)) d0
 
           d2 : Typed.Typed 𝓤 H A 𝓣 E G11 b5 Δ1 at2
-          d2 = Typed.g-pre 𝓤 H A W 𝓣 E G11 G12 b5 Δ1 (Typed.pass T11 T12 s9) at1 (Scalar.g-room 𝓤 H A W E G11 3 (Syntax.tyInt Syntax.w64) (Scalar.room-sc 𝓤 H A W (Row.sInt Syntax.w64))) d1
+          d2 = Typed.g-pre 𝓤 H A W 𝓣 E G11 G12 b5 Δ1 (Typed.pass T11 T12 s9) at1 (Scalar.g-room 𝓤 H A W E G11 3 ty0 (Scalar.room-sc 𝓤 H A W sc0)) d1
 
           d3 : Typed.Typed 𝓤 H A 𝓣 E G10 b5 Δ1 at3
           d3 = Typed.g-pre 𝓤 H A W 𝓣 E G10 G11 b5 Δ1 (Typed.pass T10 T11 s8) at2 (Scalar.g-room 𝓤 H A W E G10 8 Cell.held (Cell.to-room 𝓤 H A W)) d2
@@ -547,16 +637,16 @@ module _ where
           d5 = Typed.g-pre 𝓤 H A W 𝓣 E G8 G9 b6 Δ1 (Typed.pass T8 T9 s6) at4 (Scalar.g-room 𝓤 H A W E G8 7 Syntax.tyPtr (Scalar.room-sc 𝓤 H A W Row.sPtr)) d4
 
           d6 : Typed.Typed 𝓤 H A 𝓣 E G7 b6 Δ1 at6
-          d6 = Typed.g-pre 𝓤 H A W 𝓣 E G7 G8 b6 Δ1 (Typed.pass T7 T8 s5) at5 (Scalar.g-room 𝓤 H A W E G7 6 (Syntax.tyInt Syntax.w64) (Scalar.room-sc 𝓤 H A W (Row.sInt Syntax.w64))) d5
+          d6 = Typed.g-pre 𝓤 H A W 𝓣 E G7 G8 b6 Δ1 (Typed.pass T7 T8 s5) at5 (Scalar.g-room 𝓤 H A W E G7 6 ty0 (Scalar.room-sc 𝓤 H A W sc0)) d5
 
           d7 : Typed.Typed 𝓤 H A 𝓣 E G6 b7 Δ1 at7
-          d7 = Typed.s-seq 𝓤 H A W 𝓣 E G6 G7 b3 b6 Δ1 (Typed.both s4) at6 (Move.t-shs-copy-out 𝓤 H A W E Cell.R 𝓣 Path'.refl (Cell.copies .copy 𝓤 H A W) (Copies.halved 𝓤 H A W Cell.copies) (λ ρ. Unit) G6 1 7 8 0 (Syntax.tyRef (Syntax.named 0) Syntax.imm Cell.behind) (Row.lease (κs .0) (qs .0)) Cell.held Cell.held Cell.row (Shared.bySize 24) (λ u. u .1 .1 .1 .1 .0) (λ x. x) Cell.past (λ x. Unit) (λ x. x) (λ x. x) (λ i o. Elements.at-mul o 24 i) Path'.refl Path'.refl (Own.told-none 𝓤 H A (G6 .slots)) (DerefMove.learns-nothing 𝓤 H A Cell.R) (Reads.as-is 𝓤 H A (Rows'.sslice Cell.R (Syntax.tyRef (Syntax.named 0) Syntax.imm Cell.behind) 0)) (Reads.as-is 𝓤 H A (Rows'.sc-here Row.sPtr)) (Reads.room-gone 𝓤 H A Cell.held) (Yields.makes-mem 𝓤 H A W (λ ρ. Unit) Cell.R Path'.refl Cell.row (λ x. x) λ ρ told. Cell.of-mem 𝓤 H A W ρ) Path'.refl tt Path'.refl Path'.refl) d6
+          d7 = Typed.s-seq 𝓤 H A W 𝓣 E G6 G7 b3 b6 Δ1 (Typed.both s4) at6 (Move.t-shs-copy-out 𝓤 H A W E Cell.R 𝓣 Path'.refl (Cell.copies .copy 𝓤 H A W) (Copies.halved 𝓤 H A W Cell.copies) (λ ρ. Unit) G6 1 7 8 0 ty1 slot0 Cell.held Cell.held Cell.row (Shared.bySize 24) (λ u. u .1 .1 .1 .1 .0) (λ x. x) Cell.past (λ x. Unit) (λ x. x) (λ x. x) (λ i o. Elements.at-mul o 24 i) Path'.refl Path'.refl (Own.told-none 𝓤 H A (G6 .slots)) (DerefMove.learns-nothing 𝓤 H A Cell.R) (Reads.as-is 𝓤 H A (Rows'.sslice Cell.R ty1 0)) (Reads.as-is 𝓤 H A (Rows'.sc-here Row.sPtr)) (Reads.room-gone 𝓤 H A Cell.held) (Yields.makes-mem 𝓤 H A W (λ ρ. Unit) Cell.R Path'.refl Cell.row (λ x. x) λ ρ told. Cell.of-mem 𝓤 H A W ρ) Path'.refl tt Path'.refl Path'.refl) d6
 
           d8 : Typed.Typed 𝓤 H A 𝓣 E G5 b8 Δ1 at8
-          d8 = Typed.s-seq 𝓤 H A W 𝓣 E G5 G6 b2 b7 Δ1 (Typed.ask s3) at7 (Scalar.t-op2 𝓤 H A W E 𝓣 G5 Syntax.offset (Scalar.oFld 1 (List._∷_ (Syntax.field 0) List.[]) (Syntax.tyRef (Syntax.named 0) Syntax.imm Cell.behind) 0 Reads.ptrVal) (Scalar.oAt 6 (Syntax.tyInt Syntax.w64) (Row.valS (Row.sInt Syntax.w64))) 7 (Rows'.sc-here Row.sPtr) Syntax.tyPtr (Row.valS Row.sPtr) (Row.sPtr .of) (Shared.reads-sslice-ptr 𝓤 H A W Cell.R (Syntax.tyRef (Syntax.named 0) Syntax.imm Cell.behind) 0 0 Path'.refl, Path'.refl) (Scalar.reads-sc 𝓤 H A W (Row.sInt Syntax.w64), Path'.refl) (Reads.room-gone 𝓤 H A Syntax.tyPtr) (Scalar.holds-sc 𝓤 H A W Row.sPtr) Path'.refl (λ u. Path'.refl) λ u. tt) d7
+          d8 = Typed.s-seq 𝓤 H A W 𝓣 E G5 G6 b2 b7 Δ1 (Typed.ask s3) at7 (Scalar.t-op2 𝓤 H A W E 𝓣 G5 Syntax.offset (Scalar.oFld 1 steps0 ty1 0 Reads.ptrVal) (Scalar.oAt 6 ty0 (Row.valS sc0)) 7 (Rows'.sc-here Row.sPtr) Syntax.tyPtr (Row.valS Row.sPtr) (Row.sPtr .of) (Shared.reads-sslice-ptr 𝓤 H A W Cell.R ty1 0 0 Path'.refl, Path'.refl) (Scalar.reads-sc 𝓤 H A W sc0, Path'.refl) (Reads.room-gone 𝓤 H A Syntax.tyPtr) (Scalar.holds-sc 𝓤 H A W Row.sPtr) Path'.refl (λ u. Path'.refl) λ u. tt) d7
 
           d9 : Typed.Typed 𝓤 H A 𝓣 E G4 b9 Δ1 at9
-          d9 = Typed.s-seq 𝓤 H A W 𝓣 E G4 G5 b1 b8 Δ1 (Typed.ask s2) at8 (Scalar.t-op2 𝓤 H A W E 𝓣 G4 (Syntax.mul Syntax.unsigned) (Scalar.oAt 4 (Syntax.tyInt Syntax.w64) (Row.valS (Row.sInt Syntax.w64))) (Scalar.oInt Syntax.w64 24) 6 (Rows'.sc-here (Row.sInt Syntax.w64)) (Syntax.tyInt Syntax.w64) (Row.valS (Row.sInt Syntax.w64)) (Row.sInt Syntax.w64 .of) (Scalar.reads-sc 𝓤 H A W (Row.sInt Syntax.w64), Path'.refl) tt (Reads.room-gone 𝓤 H A (Syntax.tyInt Syntax.w64)) (Scalar.holds-sc 𝓤 H A W (Row.sInt Syntax.w64)) Path'.refl (λ u. Path'.refl) λ u. tt) d8
+          d9 = Typed.s-seq 𝓤 H A W 𝓣 E G4 G5 b1 b8 Δ1 (Typed.ask s2) at8 (Scalar.t-op2 𝓤 H A W E 𝓣 G4 (Syntax.mul Syntax.unsigned) (Scalar.oAt 4 ty0 (Row.valS sc0)) (Scalar.oInt Syntax.w64 24) 6 (Rows'.sc-here sc0) ty0 (Row.valS sc0) (Row.sInt Syntax.w64 .of) (Scalar.reads-sc 𝓤 H A W sc0, Path'.refl) tt (Reads.room-gone 𝓤 H A ty0) (Scalar.holds-sc 𝓤 H A W sc0) Path'.refl (λ u. Path'.refl) λ u. tt) d8
 
           d10 : Typed.Typed 𝓤 H A 𝓣 E G2 b9 Δ1 at10
           d10 = Typed.g-pre 𝓤 H A W 𝓣 E G2 G4 b9 Δ1 (Typed.pass T2 T4 s1) at9 (Scalar.g-room 𝓤 H A W E G2 5 Syntax.tyBool (Scalar.room-sc 𝓤 H A W Row.sBool)) d9
@@ -574,10 +664,10 @@ module _ where
           d14 = Typed.t-return 𝓤 H A W 𝓣 E Δ0 tt
 
           d15 : Typed.Typed 𝓤 H A 𝓣 E G24 b17 Δ0 at15
-          d15 = Typed.g-pre 𝓤 H A W 𝓣 E G24 G25 b17 Δ0 (Typed.pass T24 T25 s22) at14 (Scalar.g-room 𝓤 H A W E G24 4 (Syntax.tyInt Syntax.w64) (Scalar.room-sc 𝓤 H A W (Row.sInt Syntax.w64))) d14
+          d15 = Typed.g-pre 𝓤 H A W 𝓣 E G24 G25 b17 Δ0 (Typed.pass T24 T25 s22) at14 (Scalar.g-room 𝓤 H A W E G24 4 ty0 (Scalar.room-sc 𝓤 H A W sc0)) d14
 
           d16 : Typed.Typed 𝓤 H A 𝓣 E G23 b17 Δ0 at16
-          d16 = Typed.g-pre 𝓤 H A W 𝓣 E G23 G24 b17 Δ0 (Typed.pass T23 T24 s21) at15 (Scalar.g-room 𝓤 H A W E G23 3 (Syntax.tyInt Syntax.w64) (Scalar.room-sc 𝓤 H A W (Row.sInt Syntax.w64))) d15
+          d16 = Typed.g-pre 𝓤 H A W 𝓣 E G23 G24 b17 Δ0 (Typed.pass T23 T24 s21) at15 (Scalar.g-room 𝓤 H A W E G23 3 ty0 (Scalar.room-sc 𝓤 H A W sc0)) d15
 
           d17 : Typed.Typed 𝓤 H A 𝓣 E G22 b17 Δ0 at17
           d17 = Typed.g-pre 𝓤 H A W 𝓣 E G22 G23 b17 Δ0 (Typed.pass T22 T23 s20) at16 (Scalar.g-room 𝓤 H A W E G22 12 Cell.held (Cell.to-room 𝓤 H A W)) d16
@@ -589,28 +679,28 @@ module _ where
           d19 = Typed.g-pre 𝓤 H A W 𝓣 E G20 G21 b18 Δ0 (Typed.pass T20 T21 s18) at18 (Scalar.g-room 𝓤 H A W E G20 11 Syntax.tyPtr (Scalar.room-sc 𝓤 H A W Row.sPtr)) d18
 
           d20 : Typed.Typed 𝓤 H A 𝓣 E G19 b18 Δ0 at20
-          d20 = Typed.g-pre 𝓤 H A W 𝓣 E G19 G20 b18 Δ0 (Typed.pass T19 T20 s17) at19 (Scalar.g-room 𝓤 H A W E G19 10 (Syntax.tyInt Syntax.w64) (Scalar.room-sc 𝓤 H A W (Row.sInt Syntax.w64))) d19
+          d20 = Typed.g-pre 𝓤 H A W 𝓣 E G19 G20 b18 Δ0 (Typed.pass T19 T20 s17) at19 (Scalar.g-room 𝓤 H A W E G19 10 ty0 (Scalar.room-sc 𝓤 H A W sc0)) d19
 
           d21 : Typed.Typed 𝓤 H A 𝓣 E G18 b18 Δ0 at21
-          d21 = Typed.g-pre 𝓤 H A W 𝓣 E G18 G19 b18 Δ0 (Typed.pass T18 T19 s16) at20 (Scalar.g-room 𝓤 H A W E G18 9 (Syntax.tyInt Syntax.w64) (Scalar.room-sc 𝓤 H A W (Row.sInt Syntax.w64))) d20
+          d21 = Typed.g-pre 𝓤 H A W 𝓣 E G18 G19 b18 Δ0 (Typed.pass T18 T19 s16) at20 (Scalar.g-room 𝓤 H A W E G18 9 ty0 (Scalar.room-sc 𝓤 H A W sc0)) d20
 
           d22 : Typed.Typed 𝓤 H A 𝓣 E G17 b19 Δ0 at22
-          d22 = Typed.s-seq 𝓤 H A W 𝓣 E G17 G18 b15 b18 Δ0 (Typed.both s15) at21 (Move.t-shs-copy-out 𝓤 H A W E Cell.R 𝓣 Path'.refl (Cell.copies .copy 𝓤 H A W) (Copies.halved 𝓤 H A W Cell.copies) (λ ρ. Unit) G17 2 11 12 1 (Syntax.tyRef (Syntax.named 1) Syntax.imm Cell.behind) (Row.lease (κs .1 .0) (qs .1 .0)) Cell.held Cell.held Cell.row (Shared.bySize 24) (λ u. u .1 .1 .1 .1 .1 .1 .1 .1 .1 .0) (λ x. x) Cell.past (λ x. Unit) (λ x. x) (λ x. x) (λ i o. Elements.at-mul o 24 i) Path'.refl Path'.refl (Own.told-none 𝓤 H A (G17 .slots)) (DerefMove.learns-nothing 𝓤 H A Cell.R) (Reads.as-is 𝓤 H A (Rows'.sslice Cell.R (Syntax.tyRef (Syntax.named 1) Syntax.imm Cell.behind) 1)) (Reads.as-is 𝓤 H A (Rows'.sc-here Row.sPtr)) (Reads.room-gone 𝓤 H A Cell.held) (Yields.makes-mem 𝓤 H A W (λ ρ. Unit) Cell.R Path'.refl Cell.row (λ x. x) λ ρ told. Cell.of-mem 𝓤 H A W ρ) Path'.refl tt Path'.refl Path'.refl) d21
+          d22 = Typed.s-seq 𝓤 H A W 𝓣 E G17 G18 b15 b18 Δ0 (Typed.both s15) at21 (Move.t-shs-copy-out 𝓤 H A W E Cell.R 𝓣 Path'.refl (Cell.copies .copy 𝓤 H A W) (Copies.halved 𝓤 H A W Cell.copies) (λ ρ. Unit) G17 2 11 12 1 ty2 (Row.lease (κs .1 .0) (qs .1 .0)) Cell.held Cell.held Cell.row (Shared.bySize 24) (λ u. u .1 .1 .1 .1 .1 .1 .1 .1 .1 .0) (λ x. x) Cell.past (λ x. Unit) (λ x. x) (λ x. x) (λ i o. Elements.at-mul o 24 i) Path'.refl Path'.refl (Own.told-none 𝓤 H A (G17 .slots)) (DerefMove.learns-nothing 𝓤 H A Cell.R) (Reads.as-is 𝓤 H A (Rows'.sslice Cell.R ty2 1)) (Reads.as-is 𝓤 H A (Rows'.sc-here Row.sPtr)) (Reads.room-gone 𝓤 H A Cell.held) (Yields.makes-mem 𝓤 H A W (λ ρ. Unit) Cell.R Path'.refl Cell.row (λ x. x) λ ρ told. Cell.of-mem 𝓤 H A W ρ) Path'.refl tt Path'.refl Path'.refl) d21
 
           d23 : Typed.Typed 𝓤 H A 𝓣 E G16 b20 Δ0 at23
-          d23 = Typed.s-seq 𝓤 H A W 𝓣 E G16 G17 b14 b19 Δ0 (Typed.ask s14) at22 (Scalar.t-op2 𝓤 H A W E 𝓣 G16 Syntax.offset (Scalar.oFld 2 (List._∷_ (Syntax.field 0) List.[]) (Syntax.tyRef (Syntax.named 1) Syntax.imm Cell.behind) 0 Reads.ptrVal) (Scalar.oAt 10 (Syntax.tyInt Syntax.w64) (Row.valS (Row.sInt Syntax.w64))) 11 (Rows'.sc-here Row.sPtr) Syntax.tyPtr (Row.valS Row.sPtr) (Row.sPtr .of) (Shared.reads-sslice-ptr 𝓤 H A W Cell.R (Syntax.tyRef (Syntax.named 1) Syntax.imm Cell.behind) 1 0 Path'.refl, Path'.refl) (Scalar.reads-sc 𝓤 H A W (Row.sInt Syntax.w64), Path'.refl) (Reads.room-gone 𝓤 H A Syntax.tyPtr) (Scalar.holds-sc 𝓤 H A W Row.sPtr) Path'.refl (λ u. Path'.refl) λ u. tt) d22
+          d23 = Typed.s-seq 𝓤 H A W 𝓣 E G16 G17 b14 b19 Δ0 (Typed.ask s14) at22 (Scalar.t-op2 𝓤 H A W E 𝓣 G16 Syntax.offset (Scalar.oFld 2 steps0 ty2 0 Reads.ptrVal) (Scalar.oAt 10 ty0 (Row.valS sc0)) 11 (Rows'.sc-here Row.sPtr) Syntax.tyPtr (Row.valS Row.sPtr) (Row.sPtr .of) (Shared.reads-sslice-ptr 𝓤 H A W Cell.R ty2 1 0 Path'.refl, Path'.refl) (Scalar.reads-sc 𝓤 H A W sc0, Path'.refl) (Reads.room-gone 𝓤 H A Syntax.tyPtr) (Scalar.holds-sc 𝓤 H A W Row.sPtr) Path'.refl (λ u. Path'.refl) λ u. tt) d22
 
           d24 : Typed.Typed 𝓤 H A 𝓣 E G15 b21 Δ0 at24
-          d24 = Typed.s-seq 𝓤 H A W 𝓣 E G15 G16 b13 b20 Δ0 (Typed.ask s13) at23 (Scalar.t-op2 𝓤 H A W E 𝓣 G15 (Syntax.mul Syntax.unsigned) (Scalar.oAt 9 (Syntax.tyInt Syntax.w64) (Row.valS (Row.sInt Syntax.w64))) (Scalar.oInt Syntax.w64 24) 10 (Rows'.sc-here (Row.sInt Syntax.w64)) (Syntax.tyInt Syntax.w64) (Row.valS (Row.sInt Syntax.w64)) (Row.sInt Syntax.w64 .of) (Scalar.reads-sc 𝓤 H A W (Row.sInt Syntax.w64), Path'.refl) tt (Reads.room-gone 𝓤 H A (Syntax.tyInt Syntax.w64)) (Scalar.holds-sc 𝓤 H A W (Row.sInt Syntax.w64)) Path'.refl (λ u. Path'.refl) λ u. tt) d23
+          d24 = Typed.s-seq 𝓤 H A W 𝓣 E G15 G16 b13 b20 Δ0 (Typed.ask s13) at23 (Scalar.t-op2 𝓤 H A W E 𝓣 G15 (Syntax.mul Syntax.unsigned) (Scalar.oAt 9 ty0 (Row.valS sc0)) (Scalar.oInt Syntax.w64 24) 10 (Rows'.sc-here sc0) ty0 (Row.valS sc0) (Row.sInt Syntax.w64 .of) (Scalar.reads-sc 𝓤 H A W sc0, Path'.refl) tt (Reads.room-gone 𝓤 H A ty0) (Scalar.holds-sc 𝓤 H A W sc0) Path'.refl (λ u. Path'.refl) λ u. tt) d23
 
           d25 : Typed.Typed 𝓤 H A 𝓣 E G3 b22 Δ0 at25
-          d25 = Typed.s-seq 𝓤 H A W 𝓣 E G3 G15 b12 b21 Δ0 (Typed.ask s12) at24 (Scalar.t-op2 𝓤 H A W E 𝓣 G3 (Syntax.sub Syntax.unsigned) (Scalar.oAt 4 (Syntax.tyInt Syntax.w64) (Row.valS (Row.sInt Syntax.w64))) (Scalar.oAt 3 (Syntax.tyInt Syntax.w64) (Row.valS (Row.sInt Syntax.w64))) 9 (Rows'.sc-here (Row.sInt Syntax.w64)) (Syntax.tyInt Syntax.w64) (Row.valS (Row.sInt Syntax.w64)) (Row.sInt Syntax.w64 .of) (Scalar.reads-sc 𝓤 H A W (Row.sInt Syntax.w64), Path'.refl) (Scalar.reads-sc 𝓤 H A W (Row.sInt Syntax.w64), Path'.refl) (Reads.room-gone 𝓤 H A (Syntax.tyInt Syntax.w64)) (Scalar.holds-sc 𝓤 H A W (Row.sInt Syntax.w64)) Path'.refl (λ u. Path'.refl) λ u. tt) d24
+          d25 = Typed.s-seq 𝓤 H A W 𝓣 E G3 G15 b12 b21 Δ0 (Typed.ask s12) at24 (Scalar.t-op2 𝓤 H A W E 𝓣 G3 (Syntax.sub Syntax.unsigned) (Scalar.oAt 4 ty0 (Row.valS sc0)) (Scalar.oAt 3 ty0 (Row.valS sc0)) 9 (Rows'.sc-here sc0) ty0 (Row.valS sc0) (Row.sInt Syntax.w64 .of) (Scalar.reads-sc 𝓤 H A W sc0, Path'.refl) (Scalar.reads-sc 𝓤 H A W sc0, Path'.refl) (Reads.room-gone 𝓤 H A ty0) (Scalar.holds-sc 𝓤 H A W sc0) Path'.refl (λ u. Path'.refl) λ u. tt) d24
 
           d26 : Typed.Typed 𝓤 H A 𝓣 E G2 b23 Δ0 at26
           d26 = Typed.t-seq 𝓤 H A W 𝓣 E G2 G3 b11 b22 Δ0 at13 at25 d13 d25
 
           d27 : Typed.Typed 𝓤 H A 𝓣 E G0 b24 Δ0 at27
-          d27 = Typed.s-seq 𝓤 H A W 𝓣 E G0 G2 b0 b23 Δ0 (Typed.ask s0) at26 (Scalar.t-op2 𝓤 H A W E 𝓣 G0 (Syntax.lt Syntax.unsigned) (Scalar.oAt 4 (Syntax.tyInt Syntax.w64) (Row.valS (Row.sInt Syntax.w64))) (Scalar.oAt 3 (Syntax.tyInt Syntax.w64) (Row.valS (Row.sInt Syntax.w64))) 5 (Rows'.sc-here Row.sBool) Syntax.tyBool (Row.valS Row.sBool) (Row.sBool .of) (Scalar.reads-sc 𝓤 H A W (Row.sInt Syntax.w64), Path'.refl) (Scalar.reads-sc 𝓤 H A W (Row.sInt Syntax.w64), Path'.refl) (Reads.room-gone 𝓤 H A Syntax.tyBool) (Scalar.holds-sc 𝓤 H A W Row.sBool) Path'.refl (λ u. Path'.refl) λ u. tt) d26
+          d27 = Typed.s-seq 𝓤 H A W 𝓣 E G0 G2 b0 b23 Δ0 (Typed.ask s0) at26 (Scalar.t-op2 𝓤 H A W E 𝓣 G0 (Syntax.lt Syntax.unsigned) (Scalar.oAt 4 ty0 (Row.valS sc0)) (Scalar.oAt 3 ty0 (Row.valS sc0)) 5 (Rows'.sc-here Row.sBool) Syntax.tyBool (Row.valS Row.sBool) (Row.sBool .of) (Scalar.reads-sc 𝓤 H A W sc0, Path'.refl) (Scalar.reads-sc 𝓤 H A W sc0, Path'.refl) (Reads.room-gone 𝓤 H A Syntax.tyBool) (Scalar.holds-sc 𝓤 H A W Row.sBool) Path'.refl (λ u. Path'.refl) λ u. tt) d26
 
           pub typed : Typed.Typed 𝓤 H A 𝓣 E (Function.Γin 2 ps r xs m κs qs) b24 (Function.Δret 2 ps r xs m κs qs) Φ
           typed = d27

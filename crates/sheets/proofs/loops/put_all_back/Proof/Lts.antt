@@ -46,21 +46,130 @@ use mir.Syntax
 use mir.Val
 use prog.Wp
 use types.Kit
+use denote.RattleType
+
+abbrev rf0 : Referent.Rf
+rf0 = Referent.fInt Syntax.w32
+
+abbrev held0 : RattleType.RattleType
+held0 = Referent.rtF rf0
+
+abbrev ty0 : Syntax.Ty
+ty0 = Syntax.tyInt Syntax.w64
+
+abbrev place0 : Syntax.Place
+place0 = Syntax.place 7 List.[]
+
+abbrev place1 : Syntax.Place
+place1 = Syntax.place 9 List.[]
+
+abbrev steps0 : List.List Syntax.Step
+steps0 = List._∷_ (Syntax.field 0) List.[]
+
+abbrev local0 : Row.Entry
+local0 = (0, Rows'.any-gone Syntax.tyUnit)
+
+abbrev ty1 : Syntax.Ty
+ty1 = Syntax.tyInt Syntax.w32
+
+abbrev ty2 : Syntax.Ty
+ty2 = Syntax.tyRef (Syntax.named 0) Syntax.imm ty1
+
+abbrev local1 : Row.Entry
+local1 = (1, Rows'.sslice held0 ty2 0)
+
+abbrev sc0 : Row.Sc
+sc0 = Row.sInt Syntax.w64
+
+abbrev local2 : Row.Entry
+local2 = (2, Rows'.sc-here sc0)
+
+abbrev local3 : Row.Entry
+local3 = (3, Rows'.sc-here sc0)
+
+abbrev local4 : Row.Entry
+local4 = (4, Rows'.sc-here sc0)
+
+abbrev ty3 : Syntax.Ty
+ty3 = Syntax.tyRef (Syntax.named 1) Syntax.mut Cell.behind
+
+abbrev local5 : Row.Entry
+local5 = (5, Mut.mslice Cell.R ty3 1)
+
+abbrev ty4 : Syntax.Ty
+ty4 = Syntax.tyRef (Syntax.named 2) Syntax.imm Cell.behind
+
+abbrev local6 : Row.Entry
+local6 = (6, Rows'.sslice Cell.R ty4 2)
+
+abbrev local7 : Row.Entry
+local7 = (8, Rows'.any-gone ty0)
+
+abbrev local8 : Row.Entry
+local8 = (9, Rows'.any-gone Syntax.tyBool)
+
+abbrev local9 : Row.Entry
+local9 = (10, Rows'.any-gone ty0)
+
+abbrev local10 : Row.Entry
+local10 = (11, Rows'.any-gone Syntax.tyPtr)
+
+abbrev local11 : Row.Entry
+local11 = (12, Rows'.any-gone Cell.held)
+
+abbrev locals0 : List.List Row.Entry
+locals0 = List._∷_ (14, Rows'.any-gone ty0) (List._∷_ (15, Rows'.any-gone Syntax.tyPtr) List.[])
+
+abbrev locals1 : List.List Row.Entry
+locals1 = List._∷_ (13, Rows'.any-gone ty0) locals0
+
+abbrev locals2 : List.List Row.Entry
+locals2 = List._∷_ local9 (List._∷_ local10 (List._∷_ local11 locals1))
+
+abbrev locals3 : List.List Row.Entry
+locals3 = List._∷_ local5 (List._∷_ local6 (List._∷_ (7, Rows'.any-gone ty0) (List._∷_ local7 (List._∷_ local8 locals2))))
+
+abbrev locals4 : List.List Row.Entry
+locals4 = List._∷_ local1 (List._∷_ local2 (List._∷_ local3 (List._∷_ local4 locals3)))
+
+abbrev local12 : Row.Entry
+local12 = (0, Rows'.sc-here Row.sUnit)
+
+abbrev local13 : Row.Entry
+local13 = (7, Rows'.sc-here sc0)
+
+abbrev locals5 : List.List Row.Entry
+locals5 = List._∷_ local1 (List._∷_ local2 (List._∷_ local3 (List._∷_ local4 (List._∷_ local5 (List._∷_ local6 (List._∷_ local13 (List._∷_ local7 (List._∷_ local8 locals2))))))))
+
+abbrev local14 : Row.Entry
+local14 = (8, Rows'.sc-here sc0)
+
+abbrev locals6 : List.List Row.Entry
+locals6 = List._∷_ (11, Rows'.sc-here Row.sPtr) (List._∷_ (12, Cell.row) locals1)
+
+abbrev local15 : Row.Entry
+local15 = (13, Rows'.sc-here sc0)
+
+abbrev locals7 : List.List Row.Entry
+locals7 = List._∷_ (14, Rows'.sc-here sc0) (List._∷_ (15, Rows'.sc-here Row.sPtr) List.[])
+
+abbrev locals8 : List.List Row.Entry
+locals8 = List._∷_ local8 (List._∷_ local9 (List._∷_ local10 (List._∷_ (12, Cell.row) (List._∷_ local15 locals7))))
 
 abbrev pub ps : List.List (Kinds.PK 3)
-ps = List._∷_ (ShrSlice.pShrS (Referent.rtF (Referent.fInt Syntax.w32)) 0 tt) (List._∷_ (Num.pNum Syntax.w64) (List._∷_ (Num.pNum Syntax.w64) (List._∷_ (Num.pNum Syntax.w64) (List._∷_ (MutSlice.pMutS Cell.R 1 tt) (List._∷_ (ShrSlice.pShrS Cell.R 2 tt) List.[])))))
+ps = List._∷_ (ShrSlice.pShrS held0 0 tt) (List._∷_ (Num.pNum Syntax.w64) (List._∷_ (Num.pNum Syntax.w64) (List._∷_ (Num.pNum Syntax.w64) (List._∷_ (MutSlice.pMutS Cell.R 1 tt) (List._∷_ (ShrSlice.pShrS Cell.R 2 tt) List.[])))))
 
 abbrev pub r : Kinds.RK 3
 r = Unit'.rUnit
 
 abbrev pub xs : List.List Syntax.Ty
-xs = List._∷_ (Syntax.tyInt Syntax.w64) (List._∷_ (Syntax.tyInt Syntax.w64) (List._∷_ Syntax.tyBool (List._∷_ (Syntax.tyInt Syntax.w64) (List._∷_ Syntax.tyPtr (List._∷_ Cell.held (List._∷_ (Syntax.tyInt Syntax.w64) (List._∷_ (Syntax.tyInt Syntax.w64) (List._∷_ Syntax.tyPtr List.[]))))))))
+xs = List._∷_ ty0 (List._∷_ ty0 (List._∷_ Syntax.tyBool (List._∷_ ty0 (List._∷_ Syntax.tyPtr (List._∷_ Cell.held (List._∷_ ty0 (List._∷_ ty0 (List._∷_ Syntax.tyPtr List.[]))))))))
 
 abbrev pub m : Nat.ℕ
 m = 0
 
 abbrev pub ps·0 : List.List (Kinds.PK 1)
-ps·0 = List._∷_ (ShrSlice.pShrS (Referent.rtF (Referent.fInt Syntax.w32)) 0 tt) (List._∷_ (Num.pNum Syntax.w64) (List._∷_ (Num.pNum Syntax.w64) List.[]))
+ps·0 = List._∷_ (ShrSlice.pShrS held0 0 tt) (List._∷_ (Num.pNum Syntax.w64) (List._∷_ (Num.pNum Syntax.w64) List.[]))
 
 abbrev pub r·0 : Kinds.RK 1
 r·0 = Num.rNum Syntax.w64
@@ -69,10 +178,10 @@ abbrev pub hs : List.List Syntax.Home
 hs = List._∷_ Syntax.valueLocal (List._∷_ Syntax.valueLocal (List._∷_ Syntax.valueLocal (List._∷_ Syntax.valueLocal (List._∷_ Syntax.valueLocal (List._∷_ Syntax.valueLocal (List._∷_ Syntax.valueLocal (List._∷_ Syntax.valueLocal (List._∷_ Syntax.valueLocal (List._∷_ Syntax.valueLocal (List._∷_ Syntax.valueLocal (List._∷_ Syntax.valueLocal (List._∷_ Syntax.valueLocal (List._∷_ Syntax.valueLocal (List._∷_ Syntax.valueLocal (List._∷_ Syntax.valueLocal List.[])))))))))))))))
 
 abbrev b0 : Syntax.Body
-b0 = Syntax.assign (Syntax.place 7 List.[]) (Syntax.rvOpd (Syntax.copy (Syntax.place 4 List.[])))
+b0 = Syntax.assign place0 (Syntax.rvOpd (Syntax.copy (Syntax.place 4 List.[])))
 
 abbrev b1 : Syntax.Body
-b1 = Syntax.assign (Syntax.place 9 List.[]) (Syntax.op2 (Syntax.lt Syntax.unsigned) (Syntax.copy (Syntax.place 3 List.[])) (Syntax.copy (Syntax.place 7 List.[])))
+b1 = Syntax.assign place1 (Syntax.op2 (Syntax.lt Syntax.unsigned) (Syntax.copy (Syntax.place 3 List.[])) (Syntax.copy place0))
 
 abbrev b2 : Syntax.Body
 b2 = Syntax.skip
@@ -81,22 +190,22 @@ abbrev b3 : Syntax.Body
 b3 = Syntax.exit 1
 
 abbrev b4 : Syntax.Body
-b4 = Syntax.cond (Syntax.copy (Syntax.place 9 List.[])) b2 b3
+b4 = Syntax.cond (Syntax.copy place1) b2 b3
 
 abbrev b5 : Syntax.Body
-b5 = Syntax.assign (Syntax.place 7 List.[]) (Syntax.op2 (Syntax.sub Syntax.unsigned) (Syntax.copy (Syntax.place 7 List.[])) (Syntax.int Syntax.w64 1))
+b5 = Syntax.assign place0 (Syntax.op2 (Syntax.sub Syntax.unsigned) (Syntax.copy place0) (Syntax.int Syntax.w64 1))
 
 abbrev b6 : Syntax.Body
-b6 = Syntax.call "sheets::loops::note" (List._∷_ (Syntax.copy (Syntax.place 1 List.[])) (List._∷_ (Syntax.copy (Syntax.place 2 List.[])) (List._∷_ (Syntax.copy (Syntax.place 7 List.[])) List.[]))) (Syntax.place 8 List.[])
+b6 = Syntax.call "sheets::loops::note" (List._∷_ (Syntax.copy (Syntax.place 1 List.[])) (List._∷_ (Syntax.copy (Syntax.place 2 List.[])) (List._∷_ (Syntax.copy place0) List.[]))) (Syntax.place 8 List.[])
 
 abbrev b7 : Syntax.Body
-b7 = Syntax.assign (Syntax.place 9 List.[]) (Syntax.op2 Syntax.ne (Syntax.copy (Syntax.place 8 List.[])) (Syntax.int Syntax.w64 0))
+b7 = Syntax.assign place1 (Syntax.op2 Syntax.ne (Syntax.copy (Syntax.place 8 List.[])) (Syntax.int Syntax.w64 0))
 
 abbrev b8 : Syntax.Body
-b8 = Syntax.assign (Syntax.place 10 List.[]) (Syntax.op2 (Syntax.mul Syntax.unsigned) (Syntax.copy (Syntax.place 7 List.[])) (Syntax.int Syntax.w64 24))
+b8 = Syntax.assign (Syntax.place 10 List.[]) (Syntax.op2 (Syntax.mul Syntax.unsigned) (Syntax.copy place0) (Syntax.int Syntax.w64 24))
 
 abbrev b9 : Syntax.Body
-b9 = Syntax.assign (Syntax.place 11 List.[]) (Syntax.op2 Syntax.offset (Syntax.copy (Syntax.place 6 (List._∷_ (Syntax.field 0) List.[]))) (Syntax.copy (Syntax.place 10 List.[])))
+b9 = Syntax.assign (Syntax.place 11 List.[]) (Syntax.op2 Syntax.offset (Syntax.copy (Syntax.place 6 steps0)) (Syntax.copy (Syntax.place 10 List.[])))
 
 abbrev b10 : Syntax.Body
 b10 = Syntax.assign (Syntax.place 12 List.[]) (Syntax.rvOpd (Syntax.copy (Syntax.place 11 (List._∷_ (Syntax.deref Cell.held) List.[]))))
@@ -108,7 +217,7 @@ abbrev b12 : Syntax.Body
 b12 = Syntax.assign (Syntax.place 14 List.[]) (Syntax.op2 (Syntax.mul Syntax.unsigned) (Syntax.copy (Syntax.place 13 List.[])) (Syntax.int Syntax.w64 24))
 
 abbrev b13 : Syntax.Body
-b13 = Syntax.assign (Syntax.place 15 List.[]) (Syntax.op2 Syntax.offset (Syntax.copy (Syntax.place 5 (List._∷_ (Syntax.field 0) List.[]))) (Syntax.copy (Syntax.place 14 List.[])))
+b13 = Syntax.assign (Syntax.place 15 List.[]) (Syntax.op2 Syntax.offset (Syntax.copy (Syntax.place 5 steps0)) (Syntax.copy (Syntax.place 14 List.[])))
 
 abbrev b14 : Syntax.Body
 b14 = Syntax.assign (Syntax.place 15 (List._∷_ (Syntax.deref Cell.held) List.[])) (Syntax.rvOpd (Syntax.copy (Syntax.place 12 List.[])))
@@ -135,7 +244,7 @@ abbrev b21 : Syntax.Body
 b21 = Syntax.skip
 
 abbrev b22 : Syntax.Body
-b22 = Syntax.cond (Syntax.copy (Syntax.place 9 List.[])) b20 b21
+b22 = Syntax.cond (Syntax.copy place1) b20 b21
 
 abbrev b23 : Syntax.Body
 b23 = Syntax.seq b7 b22
@@ -180,70 +289,70 @@ abbrev pub Claims : Type 1
 Claims = Kinds.In 1 ps·0 × Kinds.Out 1 ps·0 r·0
 
 abbrev pub t0 : List.List Row.Entry
-t0 = List._∷_ (0, Rows'.any-gone Syntax.tyUnit) (List._∷_ (1, Rows'.sslice (Referent.rtF (Referent.fInt Syntax.w32)) (Syntax.tyRef (Syntax.named 0) Syntax.imm (Syntax.tyInt Syntax.w32)) 0) (List._∷_ (2, Rows'.sc-here (Row.sInt Syntax.w64)) (List._∷_ (3, Rows'.sc-here (Row.sInt Syntax.w64)) (List._∷_ (4, Rows'.sc-here (Row.sInt Syntax.w64)) (List._∷_ (5, Mut.mslice Cell.R (Syntax.tyRef (Syntax.named 1) Syntax.mut Cell.behind) 1) (List._∷_ (6, Rows'.sslice Cell.R (Syntax.tyRef (Syntax.named 2) Syntax.imm Cell.behind) 2) (List._∷_ (7, Rows'.any-gone (Syntax.tyInt Syntax.w64)) (List._∷_ (8, Rows'.any-gone (Syntax.tyInt Syntax.w64)) (List._∷_ (9, Rows'.any-gone Syntax.tyBool) (List._∷_ (10, Rows'.any-gone (Syntax.tyInt Syntax.w64)) (List._∷_ (11, Rows'.any-gone Syntax.tyPtr) (List._∷_ (12, Rows'.any-gone Cell.held) (List._∷_ (13, Rows'.any-gone (Syntax.tyInt Syntax.w64)) (List._∷_ (14, Rows'.any-gone (Syntax.tyInt Syntax.w64)) (List._∷_ (15, Rows'.any-gone Syntax.tyPtr) List.[])))))))))))))))
+t0 = List._∷_ local0 locals4
 
 abbrev pub t1 : List.List Row.Entry
-t1 = List._∷_ (0, Rows'.sc-here Row.sUnit) (List._∷_ (1, Rows'.sslice (Referent.rtF (Referent.fInt Syntax.w32)) (Syntax.tyRef (Syntax.named 0) Syntax.imm (Syntax.tyInt Syntax.w32)) 0) (List._∷_ (2, Rows'.any-gone (Syntax.tyInt Syntax.w64)) (List._∷_ (3, Rows'.any-gone (Syntax.tyInt Syntax.w64)) (List._∷_ (4, Rows'.any-gone (Syntax.tyInt Syntax.w64)) (List._∷_ (5, Mut.mslice Cell.R (Syntax.tyRef (Syntax.named 1) Syntax.mut Cell.behind) 1) (List._∷_ (6, Rows'.sslice Cell.R (Syntax.tyRef (Syntax.named 2) Syntax.imm Cell.behind) 2) (List._∷_ (7, Rows'.any-gone (Syntax.tyInt Syntax.w64)) (List._∷_ (8, Rows'.any-gone (Syntax.tyInt Syntax.w64)) (List._∷_ (9, Rows'.any-gone Syntax.tyBool) (List._∷_ (10, Rows'.any-gone (Syntax.tyInt Syntax.w64)) (List._∷_ (11, Rows'.any-gone Syntax.tyPtr) (List._∷_ (12, Rows'.any-gone Cell.held) (List._∷_ (13, Rows'.any-gone (Syntax.tyInt Syntax.w64)) (List._∷_ (14, Rows'.any-gone (Syntax.tyInt Syntax.w64)) (List._∷_ (15, Rows'.any-gone Syntax.tyPtr) List.[])))))))))))))))
+t1 = List._∷_ local12 (List._∷_ local1 (List._∷_ (2, Rows'.any-gone ty0) (List._∷_ (3, Rows'.any-gone ty0) (List._∷_ (4, Rows'.any-gone ty0) locals3))))
 
 abbrev pub t2 : List.List Row.Entry
-t2 = List._∷_ (0, Rows'.any-gone Syntax.tyUnit) (List._∷_ (1, Rows'.sslice (Referent.rtF (Referent.fInt Syntax.w32)) (Syntax.tyRef (Syntax.named 0) Syntax.imm (Syntax.tyInt Syntax.w32)) 0) (List._∷_ (2, Rows'.sc-here (Row.sInt Syntax.w64)) (List._∷_ (3, Rows'.sc-here (Row.sInt Syntax.w64)) (List._∷_ (4, Rows'.sc-here (Row.sInt Syntax.w64)) (List._∷_ (5, Mut.mslice Cell.R (Syntax.tyRef (Syntax.named 1) Syntax.mut Cell.behind) 1) (List._∷_ (6, Rows'.sslice Cell.R (Syntax.tyRef (Syntax.named 2) Syntax.imm Cell.behind) 2) (List._∷_ (7, Rows'.sc-here (Row.sInt Syntax.w64)) (List._∷_ (8, Rows'.any-gone (Syntax.tyInt Syntax.w64)) (List._∷_ (9, Rows'.any-gone Syntax.tyBool) (List._∷_ (10, Rows'.any-gone (Syntax.tyInt Syntax.w64)) (List._∷_ (11, Rows'.any-gone Syntax.tyPtr) (List._∷_ (12, Rows'.any-gone Cell.held) (List._∷_ (13, Rows'.any-gone (Syntax.tyInt Syntax.w64)) (List._∷_ (14, Rows'.any-gone (Syntax.tyInt Syntax.w64)) (List._∷_ (15, Rows'.any-gone Syntax.tyPtr) List.[])))))))))))))))
+t2 = List._∷_ local0 locals5
 
 abbrev pub t3 : List.List Row.Entry
-t3 = List._∷_ (0, Rows'.any-gone Syntax.tyUnit) (List._∷_ (1, Rows'.sslice (Referent.rtF (Referent.fInt Syntax.w32)) (Syntax.tyRef (Syntax.named 0) Syntax.imm (Syntax.tyInt Syntax.w32)) 0) (List._∷_ (2, Rows'.sc-here (Row.sInt Syntax.w64)) (List._∷_ (3, Rows'.sc-here (Row.sInt Syntax.w64)) (List._∷_ (4, Rows'.sc-here (Row.sInt Syntax.w64)) (List._∷_ (5, Mut.mslice Cell.R (Syntax.tyRef (Syntax.named 1) Syntax.mut Cell.behind) 1) (List._∷_ (6, Rows'.sslice Cell.R (Syntax.tyRef (Syntax.named 2) Syntax.imm Cell.behind) 2) (List._∷_ (7, Rows'.sc-here (Row.sInt Syntax.w64)) (List._∷_ (8, Rows'.any-gone (Syntax.tyInt Syntax.w64)) (List._∷_ (9, Rows'.sc-here Row.sBool) (List._∷_ (10, Rows'.any-gone (Syntax.tyInt Syntax.w64)) (List._∷_ (11, Rows'.any-gone Syntax.tyPtr) (List._∷_ (12, Rows'.any-gone Cell.held) (List._∷_ (13, Rows'.any-gone (Syntax.tyInt Syntax.w64)) (List._∷_ (14, Rows'.any-gone (Syntax.tyInt Syntax.w64)) (List._∷_ (15, Rows'.any-gone Syntax.tyPtr) List.[])))))))))))))))
+t3 = List._∷_ local0 (List._∷_ local1 (List._∷_ local2 (List._∷_ local3 (List._∷_ local4 (List._∷_ local5 (List._∷_ local6 (List._∷_ local13 (List._∷_ local7 (List._∷_ (9, Rows'.sc-here Row.sBool) locals2)))))))))
 
 abbrev pub t4 : List.List Row.Entry
-t4 = List._∷_ (0, Rows'.any-gone Syntax.tyUnit) (List._∷_ (1, Rows'.sslice (Referent.rtF (Referent.fInt Syntax.w32)) (Syntax.tyRef (Syntax.named 0) Syntax.imm (Syntax.tyInt Syntax.w32)) 0) (List._∷_ (2, Rows'.sc-here (Row.sInt Syntax.w64)) (List._∷_ (3, Rows'.sc-here (Row.sInt Syntax.w64)) (List._∷_ (4, Rows'.sc-here (Row.sInt Syntax.w64)) (List._∷_ (5, Mut.mslice Cell.R (Syntax.tyRef (Syntax.named 1) Syntax.mut Cell.behind) 1) (List._∷_ (6, Rows'.sslice Cell.R (Syntax.tyRef (Syntax.named 2) Syntax.imm Cell.behind) 2) (List._∷_ (7, Rows'.sc-here (Row.sInt Syntax.w64)) (List._∷_ (8, Rows'.sc-here (Row.sInt Syntax.w64)) (List._∷_ (9, Rows'.any-gone Syntax.tyBool) (List._∷_ (10, Rows'.any-gone (Syntax.tyInt Syntax.w64)) (List._∷_ (11, Rows'.any-gone Syntax.tyPtr) (List._∷_ (12, Rows'.any-gone Cell.held) (List._∷_ (13, Rows'.any-gone (Syntax.tyInt Syntax.w64)) (List._∷_ (14, Rows'.any-gone (Syntax.tyInt Syntax.w64)) (List._∷_ (15, Rows'.any-gone Syntax.tyPtr) List.[])))))))))))))))
+t4 = List._∷_ local0 (List._∷_ local1 (List._∷_ local2 (List._∷_ local3 (List._∷_ local4 (List._∷_ local5 (List._∷_ local6 (List._∷_ local13 (List._∷_ local14 (List._∷_ local8 locals2)))))))))
 
 abbrev pub t5 : List.List Row.Entry
-t5 = List._∷_ (0, Rows'.any-gone Syntax.tyUnit) (List._∷_ (1, Rows'.sslice (Referent.rtF (Referent.fInt Syntax.w32)) (Syntax.tyRef (Syntax.named 0) Syntax.imm (Syntax.tyInt Syntax.w32)) 0) (List._∷_ (2, Rows'.sc-here (Row.sInt Syntax.w64)) (List._∷_ (3, Rows'.sc-here (Row.sInt Syntax.w64)) (List._∷_ (4, Rows'.sc-here (Row.sInt Syntax.w64)) (List._∷_ (5, Mut.mslice Cell.R (Syntax.tyRef (Syntax.named 1) Syntax.mut Cell.behind) 1) (List._∷_ (6, Rows'.sslice Cell.R (Syntax.tyRef (Syntax.named 2) Syntax.imm Cell.behind) 2) (List._∷_ (7, Rows'.sc-here (Row.sInt Syntax.w64)) (List._∷_ (8, Rows'.sc-here (Row.sInt Syntax.w64)) (List._∷_ (9, Rows'.sc-here Row.sBool) (List._∷_ (10, Rows'.any-gone (Syntax.tyInt Syntax.w64)) (List._∷_ (11, Rows'.any-gone Syntax.tyPtr) (List._∷_ (12, Rows'.any-gone Cell.held) (List._∷_ (13, Rows'.any-gone (Syntax.tyInt Syntax.w64)) (List._∷_ (14, Rows'.any-gone (Syntax.tyInt Syntax.w64)) (List._∷_ (15, Rows'.any-gone Syntax.tyPtr) List.[])))))))))))))))
+t5 = List._∷_ local0 (List._∷_ local1 (List._∷_ local2 (List._∷_ local3 (List._∷_ local4 (List._∷_ local5 (List._∷_ local6 (List._∷_ local13 (List._∷_ local14 (List._∷_ (9, Rows'.sc-here Row.sBool) locals2)))))))))
 
 abbrev pub t6 : List.List Row.Entry
-t6 = List._∷_ (0, Rows'.any-gone Syntax.tyUnit) (List._∷_ (1, Rows'.sslice (Referent.rtF (Referent.fInt Syntax.w32)) (Syntax.tyRef (Syntax.named 0) Syntax.imm (Syntax.tyInt Syntax.w32)) 0) (List._∷_ (2, Rows'.sc-here (Row.sInt Syntax.w64)) (List._∷_ (3, Rows'.sc-here (Row.sInt Syntax.w64)) (List._∷_ (4, Rows'.sc-here (Row.sInt Syntax.w64)) (List._∷_ (5, Mut.mslice Cell.R (Syntax.tyRef (Syntax.named 1) Syntax.mut Cell.behind) 1) (List._∷_ (6, Rows'.sslice Cell.R (Syntax.tyRef (Syntax.named 2) Syntax.imm Cell.behind) 2) (List._∷_ (7, Rows'.sc-here (Row.sInt Syntax.w64)) (List._∷_ (8, Rows'.sc-here (Row.sInt Syntax.w64)) (List._∷_ (9, Rows'.any-gone Syntax.tyBool) (List._∷_ (10, Rows'.sc-here (Row.sInt Syntax.w64)) (List._∷_ (11, Rows'.any-gone Syntax.tyPtr) (List._∷_ (12, Rows'.any-gone Cell.held) (List._∷_ (13, Rows'.any-gone (Syntax.tyInt Syntax.w64)) (List._∷_ (14, Rows'.any-gone (Syntax.tyInt Syntax.w64)) (List._∷_ (15, Rows'.any-gone Syntax.tyPtr) List.[])))))))))))))))
+t6 = List._∷_ local0 (List._∷_ local1 (List._∷_ local2 (List._∷_ local3 (List._∷_ local4 (List._∷_ local5 (List._∷_ local6 (List._∷_ local13 (List._∷_ local14 (List._∷_ local8 (List._∷_ (10, Rows'.sc-here sc0) (List._∷_ local10 (List._∷_ local11 locals1))))))))))))
 
 abbrev pub t7 : List.List Row.Entry
-t7 = List._∷_ (0, Rows'.any-gone Syntax.tyUnit) (List._∷_ (1, Rows'.sslice (Referent.rtF (Referent.fInt Syntax.w32)) (Syntax.tyRef (Syntax.named 0) Syntax.imm (Syntax.tyInt Syntax.w32)) 0) (List._∷_ (2, Rows'.sc-here (Row.sInt Syntax.w64)) (List._∷_ (3, Rows'.sc-here (Row.sInt Syntax.w64)) (List._∷_ (4, Rows'.sc-here (Row.sInt Syntax.w64)) (List._∷_ (5, Mut.mslice Cell.R (Syntax.tyRef (Syntax.named 1) Syntax.mut Cell.behind) 1) (List._∷_ (6, Rows'.sslice Cell.R (Syntax.tyRef (Syntax.named 2) Syntax.imm Cell.behind) 2) (List._∷_ (7, Rows'.sc-here (Row.sInt Syntax.w64)) (List._∷_ (8, Rows'.sc-here (Row.sInt Syntax.w64)) (List._∷_ (9, Rows'.any-gone Syntax.tyBool) (List._∷_ (10, Rows'.sc-here (Row.sInt Syntax.w64)) (List._∷_ (11, Rows'.sc-here Row.sPtr) (List._∷_ (12, Rows'.any-gone Cell.held) (List._∷_ (13, Rows'.any-gone (Syntax.tyInt Syntax.w64)) (List._∷_ (14, Rows'.any-gone (Syntax.tyInt Syntax.w64)) (List._∷_ (15, Rows'.any-gone Syntax.tyPtr) List.[])))))))))))))))
+t7 = List._∷_ local0 (List._∷_ local1 (List._∷_ local2 (List._∷_ local3 (List._∷_ local4 (List._∷_ local5 (List._∷_ local6 (List._∷_ local13 (List._∷_ local14 (List._∷_ local8 (List._∷_ (10, Rows'.sc-here sc0) (List._∷_ (11, Rows'.sc-here Row.sPtr) (List._∷_ local11 locals1))))))))))))
 
 abbrev pub t8 : List.List Row.Entry
-t8 = List._∷_ (0, Rows'.any-gone Syntax.tyUnit) (List._∷_ (1, Rows'.sslice (Referent.rtF (Referent.fInt Syntax.w32)) (Syntax.tyRef (Syntax.named 0) Syntax.imm (Syntax.tyInt Syntax.w32)) 0) (List._∷_ (2, Rows'.sc-here (Row.sInt Syntax.w64)) (List._∷_ (3, Rows'.sc-here (Row.sInt Syntax.w64)) (List._∷_ (4, Rows'.sc-here (Row.sInt Syntax.w64)) (List._∷_ (5, Mut.mslice Cell.R (Syntax.tyRef (Syntax.named 1) Syntax.mut Cell.behind) 1) (List._∷_ (6, Rows'.sslice Cell.R (Syntax.tyRef (Syntax.named 2) Syntax.imm Cell.behind) 2) (List._∷_ (7, Rows'.sc-here (Row.sInt Syntax.w64)) (List._∷_ (8, Rows'.sc-here (Row.sInt Syntax.w64)) (List._∷_ (9, Rows'.any-gone Syntax.tyBool) (List._∷_ (10, Rows'.sc-here (Row.sInt Syntax.w64)) (List._∷_ (11, Rows'.sc-here Row.sPtr) (List._∷_ (12, Cell.row) (List._∷_ (13, Rows'.any-gone (Syntax.tyInt Syntax.w64)) (List._∷_ (14, Rows'.any-gone (Syntax.tyInt Syntax.w64)) (List._∷_ (15, Rows'.any-gone Syntax.tyPtr) List.[])))))))))))))))
+t8 = List._∷_ local0 (List._∷_ local1 (List._∷_ local2 (List._∷_ local3 (List._∷_ local4 (List._∷_ local5 (List._∷_ local6 (List._∷_ local13 (List._∷_ local14 (List._∷_ local8 (List._∷_ (10, Rows'.sc-here sc0) locals6))))))))))
 
 abbrev pub t9 : List.List Row.Entry
-t9 = List._∷_ (0, Rows'.any-gone Syntax.tyUnit) (List._∷_ (1, Rows'.sslice (Referent.rtF (Referent.fInt Syntax.w32)) (Syntax.tyRef (Syntax.named 0) Syntax.imm (Syntax.tyInt Syntax.w32)) 0) (List._∷_ (2, Rows'.sc-here (Row.sInt Syntax.w64)) (List._∷_ (3, Rows'.sc-here (Row.sInt Syntax.w64)) (List._∷_ (4, Rows'.sc-here (Row.sInt Syntax.w64)) (List._∷_ (5, Mut.mslice Cell.R (Syntax.tyRef (Syntax.named 1) Syntax.mut Cell.behind) 1) (List._∷_ (6, Rows'.sslice Cell.R (Syntax.tyRef (Syntax.named 2) Syntax.imm Cell.behind) 2) (List._∷_ (7, Rows'.sc-here (Row.sInt Syntax.w64)) (List._∷_ (8, Rows'.sc-here (Row.sInt Syntax.w64)) (List._∷_ (9, Rows'.any-gone Syntax.tyBool) (List._∷_ (10, Rows'.any-gone (Syntax.tyInt Syntax.w64)) (List._∷_ (11, Rows'.sc-here Row.sPtr) (List._∷_ (12, Cell.row) (List._∷_ (13, Rows'.any-gone (Syntax.tyInt Syntax.w64)) (List._∷_ (14, Rows'.any-gone (Syntax.tyInt Syntax.w64)) (List._∷_ (15, Rows'.any-gone Syntax.tyPtr) List.[])))))))))))))))
+t9 = List._∷_ local0 (List._∷_ local1 (List._∷_ local2 (List._∷_ local3 (List._∷_ local4 (List._∷_ local5 (List._∷_ local6 (List._∷_ local13 (List._∷_ local14 (List._∷_ local8 (List._∷_ local9 locals6))))))))))
 
 abbrev pub t10 : List.List Row.Entry
-t10 = List._∷_ (0, Rows'.any-gone Syntax.tyUnit) (List._∷_ (1, Rows'.sslice (Referent.rtF (Referent.fInt Syntax.w32)) (Syntax.tyRef (Syntax.named 0) Syntax.imm (Syntax.tyInt Syntax.w32)) 0) (List._∷_ (2, Rows'.sc-here (Row.sInt Syntax.w64)) (List._∷_ (3, Rows'.sc-here (Row.sInt Syntax.w64)) (List._∷_ (4, Rows'.sc-here (Row.sInt Syntax.w64)) (List._∷_ (5, Mut.mslice Cell.R (Syntax.tyRef (Syntax.named 1) Syntax.mut Cell.behind) 1) (List._∷_ (6, Rows'.sslice Cell.R (Syntax.tyRef (Syntax.named 2) Syntax.imm Cell.behind) 2) (List._∷_ (7, Rows'.sc-here (Row.sInt Syntax.w64)) (List._∷_ (8, Rows'.sc-here (Row.sInt Syntax.w64)) (List._∷_ (9, Rows'.any-gone Syntax.tyBool) (List._∷_ (10, Rows'.any-gone (Syntax.tyInt Syntax.w64)) (List._∷_ (11, Rows'.any-gone Syntax.tyPtr) (List._∷_ (12, Cell.row) (List._∷_ (13, Rows'.any-gone (Syntax.tyInt Syntax.w64)) (List._∷_ (14, Rows'.any-gone (Syntax.tyInt Syntax.w64)) (List._∷_ (15, Rows'.any-gone Syntax.tyPtr) List.[])))))))))))))))
+t10 = List._∷_ local0 (List._∷_ local1 (List._∷_ local2 (List._∷_ local3 (List._∷_ local4 (List._∷_ local5 (List._∷_ local6 (List._∷_ local13 (List._∷_ local14 (List._∷_ local8 (List._∷_ local9 (List._∷_ local10 (List._∷_ (12, Cell.row) locals1))))))))))))
 
 abbrev pub t11 : List.List Row.Entry
-t11 = List._∷_ (0, Rows'.any-gone Syntax.tyUnit) (List._∷_ (1, Rows'.sslice (Referent.rtF (Referent.fInt Syntax.w32)) (Syntax.tyRef (Syntax.named 0) Syntax.imm (Syntax.tyInt Syntax.w32)) 0) (List._∷_ (2, Rows'.sc-here (Row.sInt Syntax.w64)) (List._∷_ (3, Rows'.sc-here (Row.sInt Syntax.w64)) (List._∷_ (4, Rows'.sc-here (Row.sInt Syntax.w64)) (List._∷_ (5, Mut.mslice Cell.R (Syntax.tyRef (Syntax.named 1) Syntax.mut Cell.behind) 1) (List._∷_ (6, Rows'.sslice Cell.R (Syntax.tyRef (Syntax.named 2) Syntax.imm Cell.behind) 2) (List._∷_ (7, Rows'.sc-here (Row.sInt Syntax.w64)) (List._∷_ (8, Rows'.sc-here (Row.sInt Syntax.w64)) (List._∷_ (9, Rows'.any-gone Syntax.tyBool) (List._∷_ (10, Rows'.any-gone (Syntax.tyInt Syntax.w64)) (List._∷_ (11, Rows'.any-gone Syntax.tyPtr) (List._∷_ (12, Cell.row) (List._∷_ (13, Rows'.sc-here (Row.sInt Syntax.w64)) (List._∷_ (14, Rows'.any-gone (Syntax.tyInt Syntax.w64)) (List._∷_ (15, Rows'.any-gone Syntax.tyPtr) List.[])))))))))))))))
+t11 = List._∷_ local0 (List._∷_ local1 (List._∷_ local2 (List._∷_ local3 (List._∷_ local4 (List._∷_ local5 (List._∷_ local6 (List._∷_ local13 (List._∷_ local14 (List._∷_ local8 (List._∷_ local9 (List._∷_ local10 (List._∷_ (12, Cell.row) (List._∷_ local15 locals0)))))))))))))
 
 abbrev pub t12 : List.List Row.Entry
-t12 = List._∷_ (0, Rows'.any-gone Syntax.tyUnit) (List._∷_ (1, Rows'.sslice (Referent.rtF (Referent.fInt Syntax.w32)) (Syntax.tyRef (Syntax.named 0) Syntax.imm (Syntax.tyInt Syntax.w32)) 0) (List._∷_ (2, Rows'.sc-here (Row.sInt Syntax.w64)) (List._∷_ (3, Rows'.sc-here (Row.sInt Syntax.w64)) (List._∷_ (4, Rows'.sc-here (Row.sInt Syntax.w64)) (List._∷_ (5, Mut.mslice Cell.R (Syntax.tyRef (Syntax.named 1) Syntax.mut Cell.behind) 1) (List._∷_ (6, Rows'.sslice Cell.R (Syntax.tyRef (Syntax.named 2) Syntax.imm Cell.behind) 2) (List._∷_ (7, Rows'.sc-here (Row.sInt Syntax.w64)) (List._∷_ (8, Rows'.sc-here (Row.sInt Syntax.w64)) (List._∷_ (9, Rows'.any-gone Syntax.tyBool) (List._∷_ (10, Rows'.any-gone (Syntax.tyInt Syntax.w64)) (List._∷_ (11, Rows'.any-gone Syntax.tyPtr) (List._∷_ (12, Cell.row) (List._∷_ (13, Rows'.sc-here (Row.sInt Syntax.w64)) (List._∷_ (14, Rows'.sc-here (Row.sInt Syntax.w64)) (List._∷_ (15, Rows'.any-gone Syntax.tyPtr) List.[])))))))))))))))
+t12 = List._∷_ local0 (List._∷_ local1 (List._∷_ local2 (List._∷_ local3 (List._∷_ local4 (List._∷_ local5 (List._∷_ local6 (List._∷_ local13 (List._∷_ local14 (List._∷_ local8 (List._∷_ local9 (List._∷_ local10 (List._∷_ (12, Cell.row) (List._∷_ local15 (List._∷_ (14, Rows'.sc-here sc0) (List._∷_ (15, Rows'.any-gone Syntax.tyPtr) List.[])))))))))))))))
 
 abbrev pub t13 : List.List Row.Entry
-t13 = List._∷_ (0, Rows'.any-gone Syntax.tyUnit) (List._∷_ (1, Rows'.sslice (Referent.rtF (Referent.fInt Syntax.w32)) (Syntax.tyRef (Syntax.named 0) Syntax.imm (Syntax.tyInt Syntax.w32)) 0) (List._∷_ (2, Rows'.sc-here (Row.sInt Syntax.w64)) (List._∷_ (3, Rows'.sc-here (Row.sInt Syntax.w64)) (List._∷_ (4, Rows'.sc-here (Row.sInt Syntax.w64)) (List._∷_ (5, Mut.mslice Cell.R (Syntax.tyRef (Syntax.named 1) Syntax.mut Cell.behind) 1) (List._∷_ (6, Rows'.sslice Cell.R (Syntax.tyRef (Syntax.named 2) Syntax.imm Cell.behind) 2) (List._∷_ (7, Rows'.sc-here (Row.sInt Syntax.w64)) (List._∷_ (8, Rows'.sc-here (Row.sInt Syntax.w64)) (List._∷_ (9, Rows'.any-gone Syntax.tyBool) (List._∷_ (10, Rows'.any-gone (Syntax.tyInt Syntax.w64)) (List._∷_ (11, Rows'.any-gone Syntax.tyPtr) (List._∷_ (12, Cell.row) (List._∷_ (13, Rows'.sc-here (Row.sInt Syntax.w64)) (List._∷_ (14, Rows'.sc-here (Row.sInt Syntax.w64)) (List._∷_ (15, Rows'.sc-here Row.sPtr) List.[])))))))))))))))
+t13 = List._∷_ local0 (List._∷_ local1 (List._∷_ local2 (List._∷_ local3 (List._∷_ local4 (List._∷_ local5 (List._∷_ local6 (List._∷_ local13 (List._∷_ local14 locals8))))))))
 
 abbrev pub t14 : List.List Row.Entry
-t14 = List._∷_ (0, Rows'.any-gone Syntax.tyUnit) (List._∷_ (1, Rows'.sslice (Referent.rtF (Referent.fInt Syntax.w32)) (Syntax.tyRef (Syntax.named 0) Syntax.imm (Syntax.tyInt Syntax.w32)) 0) (List._∷_ (2, Rows'.sc-here (Row.sInt Syntax.w64)) (List._∷_ (3, Rows'.sc-here (Row.sInt Syntax.w64)) (List._∷_ (4, Rows'.sc-here (Row.sInt Syntax.w64)) (List._∷_ (5, Mut.mslice Cell.R (Syntax.tyRef (Syntax.named 1) Syntax.mut Cell.behind) 1) (List._∷_ (6, Rows'.sslice Cell.R (Syntax.tyRef (Syntax.named 2) Syntax.imm Cell.behind) 2) (List._∷_ (7, Rows'.sc-here (Row.sInt Syntax.w64)) (List._∷_ (8, Rows'.any-gone (Syntax.tyInt Syntax.w64)) (List._∷_ (9, Rows'.any-gone Syntax.tyBool) (List._∷_ (10, Rows'.any-gone (Syntax.tyInt Syntax.w64)) (List._∷_ (11, Rows'.any-gone Syntax.tyPtr) (List._∷_ (12, Cell.row) (List._∷_ (13, Rows'.sc-here (Row.sInt Syntax.w64)) (List._∷_ (14, Rows'.sc-here (Row.sInt Syntax.w64)) (List._∷_ (15, Rows'.sc-here Row.sPtr) List.[])))))))))))))))
+t14 = List._∷_ local0 (List._∷_ local1 (List._∷_ local2 (List._∷_ local3 (List._∷_ local4 (List._∷_ local5 (List._∷_ local6 (List._∷_ local13 (List._∷_ local7 locals8))))))))
 
 abbrev pub t15 : List.List Row.Entry
-t15 = List._∷_ (0, Rows'.any-gone Syntax.tyUnit) (List._∷_ (1, Rows'.sslice (Referent.rtF (Referent.fInt Syntax.w32)) (Syntax.tyRef (Syntax.named 0) Syntax.imm (Syntax.tyInt Syntax.w32)) 0) (List._∷_ (2, Rows'.sc-here (Row.sInt Syntax.w64)) (List._∷_ (3, Rows'.sc-here (Row.sInt Syntax.w64)) (List._∷_ (4, Rows'.sc-here (Row.sInt Syntax.w64)) (List._∷_ (5, Mut.mslice Cell.R (Syntax.tyRef (Syntax.named 1) Syntax.mut Cell.behind) 1) (List._∷_ (6, Rows'.sslice Cell.R (Syntax.tyRef (Syntax.named 2) Syntax.imm Cell.behind) 2) (List._∷_ (7, Rows'.sc-here (Row.sInt Syntax.w64)) (List._∷_ (8, Rows'.any-gone (Syntax.tyInt Syntax.w64)) (List._∷_ (9, Rows'.any-gone Syntax.tyBool) (List._∷_ (10, Rows'.any-gone (Syntax.tyInt Syntax.w64)) (List._∷_ (11, Rows'.any-gone Syntax.tyPtr) (List._∷_ (12, Rows'.any-gone Cell.held) (List._∷_ (13, Rows'.sc-here (Row.sInt Syntax.w64)) (List._∷_ (14, Rows'.sc-here (Row.sInt Syntax.w64)) (List._∷_ (15, Rows'.sc-here Row.sPtr) List.[])))))))))))))))
+t15 = List._∷_ local0 (List._∷_ local1 (List._∷_ local2 (List._∷_ local3 (List._∷_ local4 (List._∷_ local5 (List._∷_ local6 (List._∷_ local13 (List._∷_ local7 (List._∷_ local8 (List._∷_ local9 (List._∷_ local10 (List._∷_ local11 (List._∷_ local15 locals7)))))))))))))
 
 abbrev pub t16 : List.List Row.Entry
-t16 = List._∷_ (0, Rows'.any-gone Syntax.tyUnit) (List._∷_ (1, Rows'.sslice (Referent.rtF (Referent.fInt Syntax.w32)) (Syntax.tyRef (Syntax.named 0) Syntax.imm (Syntax.tyInt Syntax.w32)) 0) (List._∷_ (2, Rows'.sc-here (Row.sInt Syntax.w64)) (List._∷_ (3, Rows'.sc-here (Row.sInt Syntax.w64)) (List._∷_ (4, Rows'.sc-here (Row.sInt Syntax.w64)) (List._∷_ (5, Mut.mslice Cell.R (Syntax.tyRef (Syntax.named 1) Syntax.mut Cell.behind) 1) (List._∷_ (6, Rows'.sslice Cell.R (Syntax.tyRef (Syntax.named 2) Syntax.imm Cell.behind) 2) (List._∷_ (7, Rows'.sc-here (Row.sInt Syntax.w64)) (List._∷_ (8, Rows'.any-gone (Syntax.tyInt Syntax.w64)) (List._∷_ (9, Rows'.any-gone Syntax.tyBool) (List._∷_ (10, Rows'.any-gone (Syntax.tyInt Syntax.w64)) (List._∷_ (11, Rows'.any-gone Syntax.tyPtr) (List._∷_ (12, Rows'.any-gone Cell.held) (List._∷_ (13, Rows'.any-gone (Syntax.tyInt Syntax.w64)) (List._∷_ (14, Rows'.sc-here (Row.sInt Syntax.w64)) (List._∷_ (15, Rows'.sc-here Row.sPtr) List.[])))))))))))))))
+t16 = List._∷_ local0 (List._∷_ local1 (List._∷_ local2 (List._∷_ local3 (List._∷_ local4 (List._∷_ local5 (List._∷_ local6 (List._∷_ local13 (List._∷_ local7 (List._∷_ local8 (List._∷_ local9 (List._∷_ local10 (List._∷_ local11 (List._∷_ (13, Rows'.any-gone ty0) locals7)))))))))))))
 
 abbrev pub t17 : List.List Row.Entry
-t17 = List._∷_ (0, Rows'.any-gone Syntax.tyUnit) (List._∷_ (1, Rows'.sslice (Referent.rtF (Referent.fInt Syntax.w32)) (Syntax.tyRef (Syntax.named 0) Syntax.imm (Syntax.tyInt Syntax.w32)) 0) (List._∷_ (2, Rows'.sc-here (Row.sInt Syntax.w64)) (List._∷_ (3, Rows'.sc-here (Row.sInt Syntax.w64)) (List._∷_ (4, Rows'.sc-here (Row.sInt Syntax.w64)) (List._∷_ (5, Mut.mslice Cell.R (Syntax.tyRef (Syntax.named 1) Syntax.mut Cell.behind) 1) (List._∷_ (6, Rows'.sslice Cell.R (Syntax.tyRef (Syntax.named 2) Syntax.imm Cell.behind) 2) (List._∷_ (7, Rows'.sc-here (Row.sInt Syntax.w64)) (List._∷_ (8, Rows'.any-gone (Syntax.tyInt Syntax.w64)) (List._∷_ (9, Rows'.any-gone Syntax.tyBool) (List._∷_ (10, Rows'.any-gone (Syntax.tyInt Syntax.w64)) (List._∷_ (11, Rows'.any-gone Syntax.tyPtr) (List._∷_ (12, Rows'.any-gone Cell.held) (List._∷_ (13, Rows'.any-gone (Syntax.tyInt Syntax.w64)) (List._∷_ (14, Rows'.any-gone (Syntax.tyInt Syntax.w64)) (List._∷_ (15, Rows'.sc-here Row.sPtr) List.[])))))))))))))))
+t17 = List._∷_ local0 (List._∷_ local1 (List._∷_ local2 (List._∷_ local3 (List._∷_ local4 (List._∷_ local5 (List._∷_ local6 (List._∷_ local13 (List._∷_ local7 (List._∷_ local8 (List._∷_ local9 (List._∷_ local10 (List._∷_ local11 (List._∷_ (13, Rows'.any-gone ty0) (List._∷_ (14, Rows'.any-gone ty0) (List._∷_ (15, Rows'.sc-here Row.sPtr) List.[])))))))))))))))
 
 abbrev pub t18 : List.List Row.Entry
-t18 = List._∷_ (0, Rows'.sc-here Row.sUnit) (List._∷_ (1, Rows'.sslice (Referent.rtF (Referent.fInt Syntax.w32)) (Syntax.tyRef (Syntax.named 0) Syntax.imm (Syntax.tyInt Syntax.w32)) 0) (List._∷_ (2, Rows'.sc-here (Row.sInt Syntax.w64)) (List._∷_ (3, Rows'.sc-here (Row.sInt Syntax.w64)) (List._∷_ (4, Rows'.sc-here (Row.sInt Syntax.w64)) (List._∷_ (5, Mut.mslice Cell.R (Syntax.tyRef (Syntax.named 1) Syntax.mut Cell.behind) 1) (List._∷_ (6, Rows'.sslice Cell.R (Syntax.tyRef (Syntax.named 2) Syntax.imm Cell.behind) 2) (List._∷_ (7, Rows'.sc-here (Row.sInt Syntax.w64)) (List._∷_ (8, Rows'.any-gone (Syntax.tyInt Syntax.w64)) (List._∷_ (9, Rows'.any-gone Syntax.tyBool) (List._∷_ (10, Rows'.any-gone (Syntax.tyInt Syntax.w64)) (List._∷_ (11, Rows'.any-gone Syntax.tyPtr) (List._∷_ (12, Rows'.any-gone Cell.held) (List._∷_ (13, Rows'.any-gone (Syntax.tyInt Syntax.w64)) (List._∷_ (14, Rows'.any-gone (Syntax.tyInt Syntax.w64)) (List._∷_ (15, Rows'.any-gone Syntax.tyPtr) List.[])))))))))))))))
+t18 = List._∷_ local12 locals5
 
 abbrev pub t19 : List.List Row.Entry
-t19 = List._∷_ (0, Rows'.sc-here Row.sUnit) (List._∷_ (1, Rows'.sslice (Referent.rtF (Referent.fInt Syntax.w32)) (Syntax.tyRef (Syntax.named 0) Syntax.imm (Syntax.tyInt Syntax.w32)) 0) (List._∷_ (2, Rows'.sc-here (Row.sInt Syntax.w64)) (List._∷_ (3, Rows'.sc-here (Row.sInt Syntax.w64)) (List._∷_ (4, Rows'.sc-here (Row.sInt Syntax.w64)) (List._∷_ (5, Mut.mslice Cell.R (Syntax.tyRef (Syntax.named 1) Syntax.mut Cell.behind) 1) (List._∷_ (6, Rows'.sslice Cell.R (Syntax.tyRef (Syntax.named 2) Syntax.imm Cell.behind) 2) (List._∷_ (7, Rows'.any-gone (Syntax.tyInt Syntax.w64)) (List._∷_ (8, Rows'.any-gone (Syntax.tyInt Syntax.w64)) (List._∷_ (9, Rows'.any-gone Syntax.tyBool) (List._∷_ (10, Rows'.any-gone (Syntax.tyInt Syntax.w64)) (List._∷_ (11, Rows'.any-gone Syntax.tyPtr) (List._∷_ (12, Rows'.any-gone Cell.held) (List._∷_ (13, Rows'.any-gone (Syntax.tyInt Syntax.w64)) (List._∷_ (14, Rows'.any-gone (Syntax.tyInt Syntax.w64)) (List._∷_ (15, Rows'.any-gone Syntax.tyPtr) List.[])))))))))))))))
+t19 = List._∷_ local12 locals4
 
 abbrev pub t20 : List.List Row.Entry
-t20 = List._∷_ (0, Rows'.sc-here Row.sUnit) (List._∷_ (1, Rows'.sslice (Referent.rtF (Referent.fInt Syntax.w32)) (Syntax.tyRef (Syntax.named 0) Syntax.imm (Syntax.tyInt Syntax.w32)) 0) (List._∷_ (2, Rows'.any-gone (Syntax.tyInt Syntax.w64)) (List._∷_ (3, Rows'.sc-here (Row.sInt Syntax.w64)) (List._∷_ (4, Rows'.sc-here (Row.sInt Syntax.w64)) (List._∷_ (5, Mut.mslice Cell.R (Syntax.tyRef (Syntax.named 1) Syntax.mut Cell.behind) 1) (List._∷_ (6, Rows'.sslice Cell.R (Syntax.tyRef (Syntax.named 2) Syntax.imm Cell.behind) 2) (List._∷_ (7, Rows'.any-gone (Syntax.tyInt Syntax.w64)) (List._∷_ (8, Rows'.any-gone (Syntax.tyInt Syntax.w64)) (List._∷_ (9, Rows'.any-gone Syntax.tyBool) (List._∷_ (10, Rows'.any-gone (Syntax.tyInt Syntax.w64)) (List._∷_ (11, Rows'.any-gone Syntax.tyPtr) (List._∷_ (12, Rows'.any-gone Cell.held) (List._∷_ (13, Rows'.any-gone (Syntax.tyInt Syntax.w64)) (List._∷_ (14, Rows'.any-gone (Syntax.tyInt Syntax.w64)) (List._∷_ (15, Rows'.any-gone Syntax.tyPtr) List.[])))))))))))))))
+t20 = List._∷_ local12 (List._∷_ local1 (List._∷_ (2, Rows'.any-gone ty0) (List._∷_ local3 (List._∷_ local4 locals3))))
 
 abbrev pub t21 : List.List Row.Entry
-t21 = List._∷_ (0, Rows'.sc-here Row.sUnit) (List._∷_ (1, Rows'.sslice (Referent.rtF (Referent.fInt Syntax.w32)) (Syntax.tyRef (Syntax.named 0) Syntax.imm (Syntax.tyInt Syntax.w32)) 0) (List._∷_ (2, Rows'.any-gone (Syntax.tyInt Syntax.w64)) (List._∷_ (3, Rows'.any-gone (Syntax.tyInt Syntax.w64)) (List._∷_ (4, Rows'.sc-here (Row.sInt Syntax.w64)) (List._∷_ (5, Mut.mslice Cell.R (Syntax.tyRef (Syntax.named 1) Syntax.mut Cell.behind) 1) (List._∷_ (6, Rows'.sslice Cell.R (Syntax.tyRef (Syntax.named 2) Syntax.imm Cell.behind) 2) (List._∷_ (7, Rows'.any-gone (Syntax.tyInt Syntax.w64)) (List._∷_ (8, Rows'.any-gone (Syntax.tyInt Syntax.w64)) (List._∷_ (9, Rows'.any-gone Syntax.tyBool) (List._∷_ (10, Rows'.any-gone (Syntax.tyInt Syntax.w64)) (List._∷_ (11, Rows'.any-gone Syntax.tyPtr) (List._∷_ (12, Rows'.any-gone Cell.held) (List._∷_ (13, Rows'.any-gone (Syntax.tyInt Syntax.w64)) (List._∷_ (14, Rows'.any-gone (Syntax.tyInt Syntax.w64)) (List._∷_ (15, Rows'.any-gone Syntax.tyPtr) List.[])))))))))))))))
+t21 = List._∷_ local12 (List._∷_ local1 (List._∷_ (2, Rows'.any-gone ty0) (List._∷_ (3, Rows'.any-gone ty0) (List._∷_ local4 locals3))))
 
 abbrev pub T0 : Row.Cx
 T0 = record { locals = t0; slots = List.[] }
@@ -363,20 +472,20 @@ abbrev pub O4 : Typed.Outs
 O4 = Typed.withNext (Option.some T6) O3
 
 abbrev pub InvT-loop : Type 1
-InvT-loop = List.List (Referent.rtF (Referent.fInt Syntax.w32) .Denot) → Rows'.sc-here (Row.sInt Syntax.w64) .Mod → Rows'.sc-here (Row.sInt Syntax.w64) .Mod → Rows'.sc-here (Row.sInt Syntax.w64) .Mod → List.List (Cell.R .Denot) → List.List (Cell.R .Denot) → Rows'.sc-here (Row.sInt Syntax.w64) .Mod → List.List (Cell.R .Denot) → Rows'.sc-here (Row.sInt Syntax.w64) .Mod → Type 0
+InvT-loop = List.List (Referent.rtF rf0 .Denot) → Rows'.sc-here sc0 .Mod → Rows'.sc-here sc0 .Mod → Rows'.sc-here sc0 .Mod → List.List (Cell.R .Denot) → List.List (Cell.R .Denot) → Rows'.sc-here sc0 .Mod → List.List (Cell.R .Denot) → Rows'.sc-here sc0 .Mod → Type 0
 
 abbrev pub MeasureT-loop : Type 0
-MeasureT-loop = List.List (Referent.rtF (Referent.fInt Syntax.w32) .Denot) → Rows'.sc-here (Row.sInt Syntax.w64) .Mod → Rows'.sc-here (Row.sInt Syntax.w64) .Mod → Rows'.sc-here (Row.sInt Syntax.w64) .Mod → List.List (Cell.R .Denot) → List.List (Cell.R .Denot) → Rows'.sc-here (Row.sInt Syntax.w64) .Mod → List.List (Cell.R .Denot) → Rows'.sc-here (Row.sInt Syntax.w64) .Mod → Nat.ℕ
+MeasureT-loop = List.List (Referent.rtF rf0 .Denot) → Rows'.sc-here sc0 .Mod → Rows'.sc-here sc0 .Mod → Rows'.sc-here sc0 .Mod → List.List (Cell.R .Denot) → List.List (Cell.R .Denot) → Rows'.sc-here sc0 .Mod → List.List (Cell.R .Denot) → Rows'.sc-here sc0 .Mod → Nat.ℕ
 
 module _ (claims· : Claims) where
   abbrev s0 : Typed.Gives T0 T2
-  s0 = Know.k-shs-known (Referent.fInt Syntax.w32) T0 1 0 (Syntax.tyRef (Syntax.named 0) Syntax.imm (Syntax.tyInt Syntax.w32)) Row.off 0 λ x. x
+  s0 = Know.k-shs-known rf0 T0 1 0 ty2 Row.off 0 λ x. x
 
   abbrev s1 : Typed.Mo T2 → Typed.Mo T3
-  s1 = Scalar.n-use T2 (Scalar.oAt 4 (Syntax.tyInt Syntax.w64) (Row.valS (Row.sInt Syntax.w64))) 7 (Rows'.sc-here (Row.sInt Syntax.w64)) (Row.sInt Syntax.w64 .of)
+  s1 = Scalar.n-use T2 (Scalar.oAt 4 ty0 (Row.valS sc0)) 7 (Rows'.sc-here sc0) (Row.sInt Syntax.w64 .of)
 
   abbrev s2 : Typed.Asks T3 T5
-  s2 = Scalar.k-op2 T3 (Syntax.lt Syntax.unsigned) (Scalar.oAt 3 (Syntax.tyInt Syntax.w64) (Row.valS (Row.sInt Syntax.w64))) (Scalar.oAt 7 (Syntax.tyInt Syntax.w64) (Row.valS (Row.sInt Syntax.w64))) 9 (Rows'.sc-here Row.sBool) (Row.sBool .of)
+  s2 = Scalar.k-op2 T3 (Syntax.lt Syntax.unsigned) (Scalar.oAt 3 ty0 (Row.valS sc0)) (Scalar.oAt 7 ty0 (Row.valS sc0)) 9 (Rows'.sc-here Row.sBool) (Row.sBool .of)
 
   abbrev s3 : Typed.Mo T5 → Typed.Mo T7
   s3 = Scalar.n-room T5 9 Syntax.tyBool
@@ -385,61 +494,61 @@ module _ (claims· : Claims) where
   s4 = Scalar.n-room T5 9 Syntax.tyBool
 
   abbrev s5 : Typed.Asks T6 T9
-  s5 = Scalar.k-op2 T6 (Syntax.sub Syntax.unsigned) (Scalar.oAt 7 (Syntax.tyInt Syntax.w64) (Row.valS (Row.sInt Syntax.w64))) (Scalar.oInt Syntax.w64 1) 7 (Rows'.sc-here (Row.sInt Syntax.w64)) (Row.sInt Syntax.w64 .of)
+  s5 = Scalar.k-op2 T6 (Syntax.sub Syntax.unsigned) (Scalar.oAt 7 ty0 (Row.valS sc0)) (Scalar.oInt Syntax.w64 1) 7 (Rows'.sc-here sc0) (Row.sInt Syntax.w64 .of)
 
   abbrev s6 : Typed.Both T9 T10
-  s6 = Call.callB ps·0 r·0 (claims· .0) (claims· .1) T9 (record { pos = 1; ty = Syntax.tyRef (Syntax.named 0) Syntax.imm (Syntax.tyInt Syntax.w32); ref = λ x. x }, (Num.vAt 2 λ x. x, (Num.vAt 7 λ x. x, tt))) 8 (List._∷_ 0 List.[]) (Syntax.tyInt Syntax.w64)
+  s6 = Call.callB ps·0 r·0 (claims· .0) (claims· .1) T9 (record { pos = 1; ty = Syntax.tyRef (Syntax.named 0) Syntax.imm ty1; ref = λ x. x }, (Num.vAt 2 λ x. x, (Num.vAt 7 λ x. x, tt))) 8 (List._∷_ 0 List.[]) ty0
 
   abbrev s7 : Typed.Asks T10 T11
-  s7 = Scalar.k-op2 T10 Syntax.ne (Scalar.oAt 8 (Syntax.tyInt Syntax.w64) (Row.valS (Row.sInt Syntax.w64))) (Scalar.oInt Syntax.w64 0) 9 (Rows'.sc-here Row.sBool) (Row.sBool .of)
+  s7 = Scalar.k-op2 T10 Syntax.ne (Scalar.oAt 8 ty0 (Row.valS sc0)) (Scalar.oInt Syntax.w64 0) 9 (Rows'.sc-here Row.sBool) (Row.sBool .of)
 
   abbrev s8 : Typed.Mo T11 → Typed.Mo T12
   s8 = Scalar.n-room T11 9 Syntax.tyBool
 
   abbrev s9 : Typed.Asks T12 T13
-  s9 = Scalar.k-op2 T12 (Syntax.mul Syntax.unsigned) (Scalar.oAt 7 (Syntax.tyInt Syntax.w64) (Row.valS (Row.sInt Syntax.w64))) (Scalar.oInt Syntax.w64 24) 10 (Rows'.sc-here (Row.sInt Syntax.w64)) (Row.sInt Syntax.w64 .of)
+  s9 = Scalar.k-op2 T12 (Syntax.mul Syntax.unsigned) (Scalar.oAt 7 ty0 (Row.valS sc0)) (Scalar.oInt Syntax.w64 24) 10 (Rows'.sc-here sc0) (Row.sInt Syntax.w64 .of)
 
   abbrev s10 : Typed.Asks T13 T14
-  s10 = Scalar.k-op2 T13 Syntax.offset (Scalar.oFld 6 (List._∷_ (Syntax.field 0) List.[]) (Syntax.tyRef (Syntax.named 2) Syntax.imm Cell.behind) 0 Reads.ptrVal) (Scalar.oAt 10 (Syntax.tyInt Syntax.w64) (Row.valS (Row.sInt Syntax.w64))) 11 (Rows'.sc-here Row.sPtr) (Row.sPtr .of)
+  s10 = Scalar.k-op2 T13 Syntax.offset (Scalar.oFld 6 steps0 ty4 0 Reads.ptrVal) (Scalar.oAt 10 ty0 (Row.valS sc0)) 11 (Rows'.sc-here Row.sPtr) (Row.sPtr .of)
 
   abbrev s11 : Typed.Both T14 T15
-  s11 = Move.k-shs-copy-out Cell.R T14 6 11 12 2 (Syntax.tyRef (Syntax.named 2) Syntax.imm Cell.behind) Row.off Cell.row (Shared.bySize 24) (λ u. u .1 .1 .1 .1 .1 .1 .1 .0) (λ x. x) Cell.past (λ x. Unit) (λ x. x) λ x. x
+  s11 = Move.k-shs-copy-out Cell.R T14 6 11 12 2 ty4 Row.off Cell.row (Shared.bySize 24) (λ u. u .1 .1 .1 .1 .1 .1 .1 .0) (λ x. x) Cell.past (λ x. Unit) (λ x. x) λ x. x
 
   abbrev s12 : Typed.Mo T15 → Typed.Mo T16
-  s12 = Scalar.n-room T15 10 (Syntax.tyInt Syntax.w64)
+  s12 = Scalar.n-room T15 10 ty0
 
   abbrev s13 : Typed.Mo T16 → Typed.Mo T17
   s13 = Scalar.n-room T16 11 Syntax.tyPtr
 
   abbrev s14 : Typed.Asks T17 T18
-  s14 = Scalar.k-op2 T17 (Syntax.div Syntax.unsigned) (Scalar.oAt 8 (Syntax.tyInt Syntax.w64) (Row.valS (Row.sInt Syntax.w64))) (Scalar.oBig Syntax.w64 65536) 13 (Rows'.sc-here (Row.sInt Syntax.w64)) (Row.sInt Syntax.w64 .of)
+  s14 = Scalar.k-op2 T17 (Syntax.div Syntax.unsigned) (Scalar.oAt 8 ty0 (Row.valS sc0)) (Scalar.oBig Syntax.w64 65536) 13 (Rows'.sc-here sc0) (Row.sInt Syntax.w64 .of)
 
   abbrev s15 : Typed.Asks T18 T19
-  s15 = Scalar.k-op2 T18 (Syntax.mul Syntax.unsigned) (Scalar.oAt 13 (Syntax.tyInt Syntax.w64) (Row.valS (Row.sInt Syntax.w64))) (Scalar.oInt Syntax.w64 24) 14 (Rows'.sc-here (Row.sInt Syntax.w64)) (Row.sInt Syntax.w64 .of)
+  s15 = Scalar.k-op2 T18 (Syntax.mul Syntax.unsigned) (Scalar.oAt 13 ty0 (Row.valS sc0)) (Scalar.oInt Syntax.w64 24) 14 (Rows'.sc-here sc0) (Row.sInt Syntax.w64 .of)
 
   abbrev s16 : Typed.Asks T19 T20
-  s16 = Scalar.k-op2 T19 Syntax.offset (Scalar.oFld 5 (List._∷_ (Syntax.field 0) List.[]) (Syntax.tyRef (Syntax.named 1) Syntax.mut Cell.behind) 0 Reads.ptrVal) (Scalar.oAt 14 (Syntax.tyInt Syntax.w64) (Row.valS (Row.sInt Syntax.w64))) 15 (Rows'.sc-here Row.sPtr) (Row.sPtr .of)
+  s16 = Scalar.k-op2 T19 Syntax.offset (Scalar.oFld 5 steps0 ty3 0 Reads.ptrVal) (Scalar.oAt 14 ty0 (Row.valS sc0)) 15 (Rows'.sc-here Row.sPtr) (Row.sPtr .of)
 
   abbrev s17 : Typed.Asks T20 T21
-  s17 = Move.k-sl-set-from Cell.R T20 5 15 12 1 (Syntax.tyRef (Syntax.named 1) Syntax.mut Cell.behind) Row.off Cell.row (Shared.bySize 24) (λ u. u .1 .1 .1 .1 .1 .1 .1 .1 .1 .1 .1 .1 .1 .0) (λ x. x) (λ x. x) (λ x. x) λ x. x
+  s17 = Move.k-sl-set-from Cell.R T20 5 15 12 1 ty3 Row.off Cell.row (Shared.bySize 24) (λ u. u .1 .1 .1 .1 .1 .1 .1 .1 .1 .1 .1 .1 .1 .0) (λ x. x) (λ x. x) (λ x. x) λ x. x
 
   abbrev s18 : Typed.Mo T21 → Typed.Mo T22
-  s18 = Scalar.n-room T21 8 (Syntax.tyInt Syntax.w64)
+  s18 = Scalar.n-room T21 8 ty0
 
   abbrev s19 : Typed.Mo T22 → Typed.Mo T23
   s19 = Scalar.n-room T22 12 Cell.held
 
   abbrev s20 : Typed.Mo T23 → Typed.Mo T24
-  s20 = Scalar.n-room T23 13 (Syntax.tyInt Syntax.w64)
+  s20 = Scalar.n-room T23 13 ty0
 
   abbrev s21 : Typed.Mo T24 → Typed.Mo T25
-  s21 = Scalar.n-room T24 14 (Syntax.tyInt Syntax.w64)
+  s21 = Scalar.n-room T24 14 ty0
 
   abbrev s22 : Typed.Mo T25 → Typed.Mo T26
   s22 = Scalar.n-room T25 15 Syntax.tyPtr
 
   abbrev s23 : Typed.Mo T11 → Typed.Mo T27
-  s23 = Scalar.n-room T11 8 (Syntax.tyInt Syntax.w64)
+  s23 = Scalar.n-room T11 8 ty0
 
   abbrev s24 : Typed.Mo T27 → Typed.Mo T28
   s24 = Scalar.n-room T27 9 Syntax.tyBool
@@ -448,19 +557,19 @@ module _ (claims· : Claims) where
   s25 = Scalar.n-use T4 Scalar.oUnit 0 (Rows'.sc-here Row.sUnit) (Row.sUnit .of)
 
   abbrev s26 : Typed.Mo T29 → Typed.Mo T30
-  s26 = Scalar.n-room T29 7 (Syntax.tyInt Syntax.w64)
+  s26 = Scalar.n-room T29 7 ty0
 
   abbrev s27 : Typed.Mo T30 → Typed.Mo T31
-  s27 = Scalar.n-room T30 2 (Syntax.tyInt Syntax.w64)
+  s27 = Scalar.n-room T30 2 ty0
 
   abbrev s28 : Typed.Mo T31 → Typed.Mo T32
-  s28 = Scalar.n-room T31 3 (Syntax.tyInt Syntax.w64)
+  s28 = Scalar.n-room T31 3 ty0
 
   abbrev s29 : Typed.Mo T32 → Typed.Mo T33
-  s29 = Scalar.n-room T32 4 (Syntax.tyInt Syntax.w64)
+  s29 = Scalar.n-room T32 4 ty0
 
-  abbrev put0 : List.List (Cell.R .Denot) × Rows'.sc-here (Row.sInt Syntax.w64) .Mod → Typed.Mo T3 → Typed.Mo T3
-  put0 = λ vs u. Row.set 7 (7, Rows'.sc-here (Row.sInt Syntax.w64)) (vs .1) (T3 .locals) (Row.set 5 (5, Mut.mslice Cell.R (Syntax.tyRef (Syntax.named 1) Syntax.mut Cell.behind) 1) record { ptr = Row.get 5 (T3 .locals) u .ptr; name = Row.get 5 (T3 .locals) u .name; now = vs .0 } (T3 .locals) u)
+  abbrev put0 : List.List (Cell.R .Denot) × Rows'.sc-here sc0 .Mod → Typed.Mo T3 → Typed.Mo T3
+  put0 = λ vs u. Row.set 7 local13 (vs .1) (T3 .locals) (Row.set 5 local5 record { ptr = Row.get 5 (T3 .locals) u .ptr; name = Row.get 5 (T3 .locals) u .name; now = vs .0 } (T3 .locals) u)
 
   module _ (Pre· : (κs : Lifetimes.Lfts 3) → Kinds.Dens κs ps → Type 0) (Post· : (κs : Lifetimes.Lfts 3) → (a : Kinds.Dens κs ps) → Kinds.Plain 3 ps r κs) where
     module _ (M : Type 1) where
@@ -581,107 +690,113 @@ module _ (claims· : Claims) where
         Knowns = Plain.Known 𝓤 H A W 𝓣 1 ps·0 r·0 (claims· .0) (claims· .1) "sheets::loops::note"
 
       module _ (κs : Lifetimes.Lfts 3) (qs : Lifetimes.Shares 3) where
+        abbrev slot0 : Row.Life
+        slot0 = Row.lease (κs .0) (qs .0)
+
+        abbrev slots0 : List.List Row.Life
+        slots0 = List._∷_ (Row.lease (κs .1 .0) (qs .1 .0)) (List._∷_ (Row.lease (κs .1 .1 .0) (qs .1 .1 .0)) List.[])
+
         abbrev G0 : Row.Cx
-        G0 = record { locals = t0; slots = List._∷_ (Row.lease (κs .0) (qs .0)) (List._∷_ (Row.lease (κs .1 .0) (qs .1 .0)) (List._∷_ (Row.lease (κs .1 .1 .0) (qs .1 .1 .0)) List.[])) }
+        G0 = record { locals = t0; slots = List._∷_ slot0 slots0 }
 
         abbrev G1 : Row.Cx
-        G1 = record { locals = t1; slots = List._∷_ (Row.lease (κs .0) (qs .0)) (List._∷_ (Row.lease (κs .1 .0) (qs .1 .0)) (List._∷_ (Row.lease (κs .1 .1 .0) (qs .1 .1 .0)) List.[])) }
+        G1 = record { locals = t1; slots = List._∷_ slot0 slots0 }
 
         abbrev G2 : Row.Cx
-        G2 = record { locals = t0; slots = List._∷_ (Row.lease (κs .0) (qs .0)) (List._∷_ (Row.lease (κs .1 .0) (qs .1 .0)) (List._∷_ (Row.lease (κs .1 .1 .0) (qs .1 .1 .0)) List.[])) }
+        G2 = record { locals = t0; slots = List._∷_ slot0 slots0 }
 
         abbrev G3 : Row.Cx
-        G3 = record { locals = t2; slots = List._∷_ (Row.lease (κs .0) (qs .0)) (List._∷_ (Row.lease (κs .1 .0) (qs .1 .0)) (List._∷_ (Row.lease (κs .1 .1 .0) (qs .1 .1 .0)) List.[])) }
+        G3 = record { locals = t2; slots = List._∷_ slot0 slots0 }
 
         abbrev G4 : Row.Cx
-        G4 = record { locals = t2; slots = List._∷_ (Row.lease (κs .0) (qs .0)) (List._∷_ (Row.lease (κs .1 .0) (qs .1 .0)) (List._∷_ (Row.lease (κs .1 .1 .0) (qs .1 .1 .0)) List.[])) }
+        G4 = record { locals = t2; slots = List._∷_ slot0 slots0 }
 
         abbrev G5 : Row.Cx
-        G5 = record { locals = t3; slots = List._∷_ (Row.lease (κs .0) (qs .0)) (List._∷_ (Row.lease (κs .1 .0) (qs .1 .0)) (List._∷_ (Row.lease (κs .1 .1 .0) (qs .1 .1 .0)) List.[])) }
+        G5 = record { locals = t3; slots = List._∷_ slot0 slots0 }
 
         abbrev G6 : Row.Cx
-        G6 = record { locals = t2; slots = List._∷_ (Row.lease (κs .0) (qs .0)) (List._∷_ (Row.lease (κs .1 .0) (qs .1 .0)) (List._∷_ (Row.lease (κs .1 .1 .0) (qs .1 .1 .0)) List.[])) }
+        G6 = record { locals = t2; slots = List._∷_ slot0 slots0 }
 
         abbrev G7 : Row.Cx
-        G7 = record { locals = t2; slots = List._∷_ (Row.lease (κs .0) (qs .0)) (List._∷_ (Row.lease (κs .1 .0) (qs .1 .0)) (List._∷_ (Row.lease (κs .1 .1 .0) (qs .1 .1 .0)) List.[])) }
+        G7 = record { locals = t2; slots = List._∷_ slot0 slots0 }
 
         abbrev G8 : Row.Cx
-        G8 = record { locals = t2; slots = List._∷_ (Row.lease (κs .0) (qs .0)) (List._∷_ (Row.lease (κs .1 .0) (qs .1 .0)) (List._∷_ (Row.lease (κs .1 .1 .0) (qs .1 .1 .0)) List.[])) }
+        G8 = record { locals = t2; slots = List._∷_ slot0 slots0 }
 
         abbrev G9 : Row.Cx
-        G9 = record { locals = t2; slots = List._∷_ (Row.lease (κs .0) (qs .0)) (List._∷_ (Row.lease (κs .1 .0) (qs .1 .0)) (List._∷_ (Row.lease (κs .1 .1 .0) (qs .1 .1 .0)) List.[])) }
+        G9 = record { locals = t2; slots = List._∷_ slot0 slots0 }
 
         abbrev G10 : Row.Cx
-        G10 = record { locals = t4; slots = List._∷_ (Row.lease (κs .0) (qs .0)) (List._∷_ (Row.lease (κs .1 .0) (qs .1 .0)) (List._∷_ (Row.lease (κs .1 .1 .0) (qs .1 .1 .0)) List.[])) }
+        G10 = record { locals = t4; slots = List._∷_ slot0 slots0 }
 
         abbrev G11 : Row.Cx
-        G11 = record { locals = t5; slots = List._∷_ (Row.lease (κs .0) (qs .0)) (List._∷_ (Row.lease (κs .1 .0) (qs .1 .0)) (List._∷_ (Row.lease (κs .1 .1 .0) (qs .1 .1 .0)) List.[])) }
+        G11 = record { locals = t5; slots = List._∷_ slot0 slots0 }
 
         abbrev G12 : Row.Cx
-        G12 = record { locals = t4; slots = List._∷_ (Row.lease (κs .0) (qs .0)) (List._∷_ (Row.lease (κs .1 .0) (qs .1 .0)) (List._∷_ (Row.lease (κs .1 .1 .0) (qs .1 .1 .0)) List.[])) }
+        G12 = record { locals = t4; slots = List._∷_ slot0 slots0 }
 
         abbrev G13 : Row.Cx
-        G13 = record { locals = t6; slots = List._∷_ (Row.lease (κs .0) (qs .0)) (List._∷_ (Row.lease (κs .1 .0) (qs .1 .0)) (List._∷_ (Row.lease (κs .1 .1 .0) (qs .1 .1 .0)) List.[])) }
+        G13 = record { locals = t6; slots = List._∷_ slot0 slots0 }
 
         abbrev G14 : Row.Cx
-        G14 = record { locals = t7; slots = List._∷_ (Row.lease (κs .0) (qs .0)) (List._∷_ (Row.lease (κs .1 .0) (qs .1 .0)) (List._∷_ (Row.lease (κs .1 .1 .0) (qs .1 .1 .0)) List.[])) }
+        G14 = record { locals = t7; slots = List._∷_ slot0 slots0 }
 
         abbrev G15 : Row.Cx
-        G15 = record { locals = t8; slots = List._∷_ (Row.lease (κs .0) (qs .0)) (List._∷_ (Row.lease (κs .1 .0) (qs .1 .0)) (List._∷_ (Row.lease (κs .1 .1 .0) (qs .1 .1 .0)) List.[])) }
+        G15 = record { locals = t8; slots = List._∷_ slot0 slots0 }
 
         abbrev G16 : Row.Cx
-        G16 = record { locals = t9; slots = List._∷_ (Row.lease (κs .0) (qs .0)) (List._∷_ (Row.lease (κs .1 .0) (qs .1 .0)) (List._∷_ (Row.lease (κs .1 .1 .0) (qs .1 .1 .0)) List.[])) }
+        G16 = record { locals = t9; slots = List._∷_ slot0 slots0 }
 
         abbrev G17 : Row.Cx
-        G17 = record { locals = t10; slots = List._∷_ (Row.lease (κs .0) (qs .0)) (List._∷_ (Row.lease (κs .1 .0) (qs .1 .0)) (List._∷_ (Row.lease (κs .1 .1 .0) (qs .1 .1 .0)) List.[])) }
+        G17 = record { locals = t10; slots = List._∷_ slot0 slots0 }
 
         abbrev G18 : Row.Cx
-        G18 = record { locals = t11; slots = List._∷_ (Row.lease (κs .0) (qs .0)) (List._∷_ (Row.lease (κs .1 .0) (qs .1 .0)) (List._∷_ (Row.lease (κs .1 .1 .0) (qs .1 .1 .0)) List.[])) }
+        G18 = record { locals = t11; slots = List._∷_ slot0 slots0 }
 
         abbrev G19 : Row.Cx
-        G19 = record { locals = t12; slots = List._∷_ (Row.lease (κs .0) (qs .0)) (List._∷_ (Row.lease (κs .1 .0) (qs .1 .0)) (List._∷_ (Row.lease (κs .1 .1 .0) (qs .1 .1 .0)) List.[])) }
+        G19 = record { locals = t12; slots = List._∷_ slot0 slots0 }
 
         abbrev G20 : Row.Cx
-        G20 = record { locals = t13; slots = List._∷_ (Row.lease (κs .0) (qs .0)) (List._∷_ (Row.lease (κs .1 .0) (qs .1 .0)) (List._∷_ (Row.lease (κs .1 .1 .0) (qs .1 .1 .0)) List.[])) }
+        G20 = record { locals = t13; slots = List._∷_ slot0 slots0 }
 
         abbrev G21 : Row.Cx
-        G21 = record { locals = t13; slots = List._∷_ (Row.lease (κs .0) (qs .0)) (List._∷_ (Row.lease (κs .1 .0) (qs .1 .0)) (List._∷_ (Row.lease (κs .1 .1 .0) (qs .1 .1 .0)) List.[])) }
+        G21 = record { locals = t13; slots = List._∷_ slot0 slots0 }
 
         abbrev G22 : Row.Cx
-        G22 = record { locals = t14; slots = List._∷_ (Row.lease (κs .0) (qs .0)) (List._∷_ (Row.lease (κs .1 .0) (qs .1 .0)) (List._∷_ (Row.lease (κs .1 .1 .0) (qs .1 .1 .0)) List.[])) }
+        G22 = record { locals = t14; slots = List._∷_ slot0 slots0 }
 
         abbrev G23 : Row.Cx
-        G23 = record { locals = t15; slots = List._∷_ (Row.lease (κs .0) (qs .0)) (List._∷_ (Row.lease (κs .1 .0) (qs .1 .0)) (List._∷_ (Row.lease (κs .1 .1 .0) (qs .1 .1 .0)) List.[])) }
+        G23 = record { locals = t15; slots = List._∷_ slot0 slots0 }
 
         abbrev G24 : Row.Cx
-        G24 = record { locals = t16; slots = List._∷_ (Row.lease (κs .0) (qs .0)) (List._∷_ (Row.lease (κs .1 .0) (qs .1 .0)) (List._∷_ (Row.lease (κs .1 .1 .0) (qs .1 .1 .0)) List.[])) }
+        G24 = record { locals = t16; slots = List._∷_ slot0 slots0 }
 
         abbrev G25 : Row.Cx
-        G25 = record { locals = t17; slots = List._∷_ (Row.lease (κs .0) (qs .0)) (List._∷_ (Row.lease (κs .1 .0) (qs .1 .0)) (List._∷_ (Row.lease (κs .1 .1 .0) (qs .1 .1 .0)) List.[])) }
+        G25 = record { locals = t17; slots = List._∷_ slot0 slots0 }
 
         abbrev G26 : Row.Cx
-        G26 = record { locals = t2; slots = List._∷_ (Row.lease (κs .0) (qs .0)) (List._∷_ (Row.lease (κs .1 .0) (qs .1 .0)) (List._∷_ (Row.lease (κs .1 .1 .0) (qs .1 .1 .0)) List.[])) }
+        G26 = record { locals = t2; slots = List._∷_ slot0 slots0 }
 
         abbrev G27 : Row.Cx
-        G27 = record { locals = t3; slots = List._∷_ (Row.lease (κs .0) (qs .0)) (List._∷_ (Row.lease (κs .1 .0) (qs .1 .0)) (List._∷_ (Row.lease (κs .1 .1 .0) (qs .1 .1 .0)) List.[])) }
+        G27 = record { locals = t3; slots = List._∷_ slot0 slots0 }
 
         abbrev G28 : Row.Cx
-        G28 = record { locals = t2; slots = List._∷_ (Row.lease (κs .0) (qs .0)) (List._∷_ (Row.lease (κs .1 .0) (qs .1 .0)) (List._∷_ (Row.lease (κs .1 .1 .0) (qs .1 .1 .0)) List.[])) }
+        G28 = record { locals = t2; slots = List._∷_ slot0 slots0 }
 
         abbrev G29 : Row.Cx
-        G29 = record { locals = t18; slots = List._∷_ (Row.lease (κs .0) (qs .0)) (List._∷_ (Row.lease (κs .1 .0) (qs .1 .0)) (List._∷_ (Row.lease (κs .1 .1 .0) (qs .1 .1 .0)) List.[])) }
+        G29 = record { locals = t18; slots = List._∷_ slot0 slots0 }
 
         abbrev G30 : Row.Cx
-        G30 = record { locals = t19; slots = List._∷_ (Row.lease (κs .0) (qs .0)) (List._∷_ (Row.lease (κs .1 .0) (qs .1 .0)) (List._∷_ (Row.lease (κs .1 .1 .0) (qs .1 .1 .0)) List.[])) }
+        G30 = record { locals = t19; slots = List._∷_ slot0 slots0 }
 
         abbrev G31 : Row.Cx
-        G31 = record { locals = t20; slots = List._∷_ (Row.lease (κs .0) (qs .0)) (List._∷_ (Row.lease (κs .1 .0) (qs .1 .0)) (List._∷_ (Row.lease (κs .1 .1 .0) (qs .1 .1 .0)) List.[])) }
+        G31 = record { locals = t20; slots = List._∷_ slot0 slots0 }
 
         abbrev G32 : Row.Cx
-        G32 = record { locals = t21; slots = List._∷_ (Row.lease (κs .0) (qs .0)) (List._∷_ (Row.lease (κs .1 .0) (qs .1 .0)) (List._∷_ (Row.lease (κs .1 .1 .0) (qs .1 .1 .0)) List.[])) }
+        G32 = record { locals = t21; slots = List._∷_ slot0 slots0 }
 
         abbrev G33 : Row.Cx
-        G33 = record { locals = t1; slots = List._∷_ (Row.lease (κs .0) (qs .0)) (List._∷_ (Row.lease (κs .1 .0) (qs .1 .0)) (List._∷_ (Row.lease (κs .1 .1 .0) (qs .1 .1 .0)) List.[])) }
+        G33 = record { locals = t1; slots = List._∷_ slot0 slots0 }
 
         abbrev Δ0 : Typed.Outs
         Δ0 = record { next = Option.none; exits = List.[]; returns = Option.some G1 }
@@ -718,31 +833,31 @@ module _ (claims· : Claims) where
           d4 = Scalar.t-cond 𝓤 H A W E 𝓣 G5 9 (λ x. x) b2 b3 Δ4 at1 at3 (Scalar.reads-sc 𝓤 H A W Row.sBool) Path'.refl d1 d3
 
           d5 : Typed.Typed 𝓤 H A 𝓣 E G20 b14 Δ3 at5
-          d5 = Typed.s-typed 𝓤 H A W 𝓣 E G20 b14 Δ3 (λ Ψ. Typed.ask s17 (Typed.pass T21 T22 s18 (Typed.pass T22 T23 s19 (Typed.pass T23 T24 s20 (Typed.pass T24 T25 s21 (Typed.pass T25 T26 s22 Ψ)))))) tt (Typed.g-post 𝓤 H A W 𝓣 E G20 G25 G26 b14 (λ Ψ. Typed.ask s17 (Typed.pass T21 T22 s18 (Typed.pass T22 T23 s19 (Typed.pass T23 T24 s20 (Typed.pass T24 T25 s21 Ψ))))) (Typed.pass T25 T26 s22) (Typed.g-post 𝓤 H A W 𝓣 E G20 G24 G25 b14 (λ Ψ. Typed.ask s17 (Typed.pass T21 T22 s18 (Typed.pass T22 T23 s19 (Typed.pass T23 T24 s20 Ψ)))) (Typed.pass T24 T25 s21) (Typed.g-post 𝓤 H A W 𝓣 E G20 G23 G24 b14 (λ Ψ. Typed.ask s17 (Typed.pass T21 T22 s18 (Typed.pass T22 T23 s19 Ψ))) (Typed.pass T23 T24 s20) (Typed.g-post 𝓤 H A W 𝓣 E G20 G22 G23 b14 (λ Ψ. Typed.ask s17 (Typed.pass T21 T22 s18 Ψ)) (Typed.pass T22 T23 s19) (Typed.g-post 𝓤 H A W 𝓣 E G20 G21 G22 b14 (Typed.ask s17) (Typed.pass T21 T22 s18) (Move.t-sl-set-from 𝓤 H A W E Cell.R 𝓣 Path'.refl (λ ρ. Unit) G20 5 15 12 1 (Syntax.tyRef (Syntax.named 1) Syntax.mut Cell.behind) (Row.lease (κs .1 .0) (qs .1 .0)) Cell.held Cell.held Cell.row (Shared.bySize 24) (λ u. u .1 .1 .1 .1 .1 .1 .1 .1 .1 .1 .1 .1 .1 .0) (λ x. x) (λ x. x) (λ x. x) (λ x. x) (λ i o. Elements.at-mul o 24 i) Path'.refl Path'.refl (Own.told-none 𝓤 H A (G20 .slots)) (Reads.as-is 𝓤 H A (Mut.mslice Cell.R (Syntax.tyRef (Syntax.named 1) Syntax.mut Cell.behind) 1)) (Reads.as-is 𝓤 H A (Rows'.sc-here Row.sPtr)) (Yields.yields-copy 𝓤 H A W (λ ρ. Unit) Cell.R Path'.refl (Cell.copies .copy 𝓤 H A W) Cell.row (λ x. x) (λ x. x) (λ ρ told. Cell.in-mem 𝓤 H A W ρ) λ ρ told. Cell.of-mem 𝓤 H A W ρ) Path'.refl tt Path'.refl Path'.refl) (Scalar.g-room 𝓤 H A W E G21 8 (Syntax.tyInt Syntax.w64) (Scalar.room-sc 𝓤 H A W (Row.sInt Syntax.w64)))) (Scalar.g-room 𝓤 H A W E G22 12 Cell.held (Cell.to-room 𝓤 H A W))) (Scalar.g-room 𝓤 H A W E G23 13 (Syntax.tyInt Syntax.w64) (Scalar.room-sc 𝓤 H A W (Row.sInt Syntax.w64)))) (Scalar.g-room 𝓤 H A W E G24 14 (Syntax.tyInt Syntax.w64) (Scalar.room-sc 𝓤 H A W (Row.sInt Syntax.w64)))) (Scalar.g-room 𝓤 H A W E G25 15 Syntax.tyPtr (Scalar.room-sc 𝓤 H A W Row.sPtr)))
+          d5 = Typed.s-typed 𝓤 H A W 𝓣 E G20 b14 Δ3 (λ Ψ. Typed.ask s17 (Typed.pass T21 T22 s18 (Typed.pass T22 T23 s19 (Typed.pass T23 T24 s20 (Typed.pass T24 T25 s21 (Typed.pass T25 T26 s22 Ψ)))))) tt (Typed.g-post 𝓤 H A W 𝓣 E G20 G25 G26 b14 (λ Ψ. Typed.ask s17 (Typed.pass T21 T22 s18 (Typed.pass T22 T23 s19 (Typed.pass T23 T24 s20 (Typed.pass T24 T25 s21 Ψ))))) (Typed.pass T25 T26 s22) (Typed.g-post 𝓤 H A W 𝓣 E G20 G24 G25 b14 (λ Ψ. Typed.ask s17 (Typed.pass T21 T22 s18 (Typed.pass T22 T23 s19 (Typed.pass T23 T24 s20 Ψ)))) (Typed.pass T24 T25 s21) (Typed.g-post 𝓤 H A W 𝓣 E G20 G23 G24 b14 (λ Ψ. Typed.ask s17 (Typed.pass T21 T22 s18 (Typed.pass T22 T23 s19 Ψ))) (Typed.pass T23 T24 s20) (Typed.g-post 𝓤 H A W 𝓣 E G20 G22 G23 b14 (λ Ψ. Typed.ask s17 (Typed.pass T21 T22 s18 Ψ)) (Typed.pass T22 T23 s19) (Typed.g-post 𝓤 H A W 𝓣 E G20 G21 G22 b14 (Typed.ask s17) (Typed.pass T21 T22 s18) (Move.t-sl-set-from 𝓤 H A W E Cell.R 𝓣 Path'.refl (λ ρ. Unit) G20 5 15 12 1 ty3 (Row.lease (κs .1 .0) (qs .1 .0)) Cell.held Cell.held Cell.row (Shared.bySize 24) (λ u. u .1 .1 .1 .1 .1 .1 .1 .1 .1 .1 .1 .1 .1 .0) (λ x. x) (λ x. x) (λ x. x) (λ x. x) (λ i o. Elements.at-mul o 24 i) Path'.refl Path'.refl (Own.told-none 𝓤 H A (G20 .slots)) (Reads.as-is 𝓤 H A (Mut.mslice Cell.R ty3 1)) (Reads.as-is 𝓤 H A (Rows'.sc-here Row.sPtr)) (Yields.yields-copy 𝓤 H A W (λ ρ. Unit) Cell.R Path'.refl (Cell.copies .copy 𝓤 H A W) Cell.row (λ x. x) (λ x. x) (λ ρ told. Cell.in-mem 𝓤 H A W ρ) λ ρ told. Cell.of-mem 𝓤 H A W ρ) Path'.refl tt Path'.refl Path'.refl) (Scalar.g-room 𝓤 H A W E G21 8 ty0 (Scalar.room-sc 𝓤 H A W sc0))) (Scalar.g-room 𝓤 H A W E G22 12 Cell.held (Cell.to-room 𝓤 H A W))) (Scalar.g-room 𝓤 H A W E G23 13 ty0 (Scalar.room-sc 𝓤 H A W sc0))) (Scalar.g-room 𝓤 H A W E G24 14 ty0 (Scalar.room-sc 𝓤 H A W sc0))) (Scalar.g-room 𝓤 H A W E G25 15 Syntax.tyPtr (Scalar.room-sc 𝓤 H A W Row.sPtr)))
 
           d6 : Typed.Typed 𝓤 H A 𝓣 E G19 b15 Δ3 at6
-          d6 = Typed.s-seq 𝓤 H A W 𝓣 E G19 G20 b13 b14 Δ3 (Typed.ask s16) at5 (Scalar.t-op2 𝓤 H A W E 𝓣 G19 Syntax.offset (Scalar.oFld 5 (List._∷_ (Syntax.field 0) List.[]) (Syntax.tyRef (Syntax.named 1) Syntax.mut Cell.behind) 0 Reads.ptrVal) (Scalar.oAt 14 (Syntax.tyInt Syntax.w64) (Row.valS (Row.sInt Syntax.w64))) 15 (Rows'.sc-here Row.sPtr) Syntax.tyPtr (Row.valS Row.sPtr) (Row.sPtr .of) (Mut.reads-mslice-ptr 𝓤 H A W Cell.R (Syntax.tyRef (Syntax.named 1) Syntax.mut Cell.behind) 1 0 Path'.refl, Path'.refl) (Scalar.reads-sc 𝓤 H A W (Row.sInt Syntax.w64), Path'.refl) (Reads.room-gone 𝓤 H A Syntax.tyPtr) (Scalar.holds-sc 𝓤 H A W Row.sPtr) Path'.refl (λ u. Path'.refl) λ u. tt) d5
+          d6 = Typed.s-seq 𝓤 H A W 𝓣 E G19 G20 b13 b14 Δ3 (Typed.ask s16) at5 (Scalar.t-op2 𝓤 H A W E 𝓣 G19 Syntax.offset (Scalar.oFld 5 steps0 ty3 0 Reads.ptrVal) (Scalar.oAt 14 ty0 (Row.valS sc0)) 15 (Rows'.sc-here Row.sPtr) Syntax.tyPtr (Row.valS Row.sPtr) (Row.sPtr .of) (Mut.reads-mslice-ptr 𝓤 H A W Cell.R ty3 1 0 Path'.refl, Path'.refl) (Scalar.reads-sc 𝓤 H A W sc0, Path'.refl) (Reads.room-gone 𝓤 H A Syntax.tyPtr) (Scalar.holds-sc 𝓤 H A W Row.sPtr) Path'.refl (λ u. Path'.refl) λ u. tt) d5
 
           d7 : Typed.Typed 𝓤 H A 𝓣 E G18 b16 Δ3 at7
-          d7 = Typed.s-seq 𝓤 H A W 𝓣 E G18 G19 b12 b15 Δ3 (Typed.ask s15) at6 (Scalar.t-op2 𝓤 H A W E 𝓣 G18 (Syntax.mul Syntax.unsigned) (Scalar.oAt 13 (Syntax.tyInt Syntax.w64) (Row.valS (Row.sInt Syntax.w64))) (Scalar.oInt Syntax.w64 24) 14 (Rows'.sc-here (Row.sInt Syntax.w64)) (Syntax.tyInt Syntax.w64) (Row.valS (Row.sInt Syntax.w64)) (Row.sInt Syntax.w64 .of) (Scalar.reads-sc 𝓤 H A W (Row.sInt Syntax.w64), Path'.refl) tt (Reads.room-gone 𝓤 H A (Syntax.tyInt Syntax.w64)) (Scalar.holds-sc 𝓤 H A W (Row.sInt Syntax.w64)) Path'.refl (λ u. Path'.refl) λ u. tt) d6
+          d7 = Typed.s-seq 𝓤 H A W 𝓣 E G18 G19 b12 b15 Δ3 (Typed.ask s15) at6 (Scalar.t-op2 𝓤 H A W E 𝓣 G18 (Syntax.mul Syntax.unsigned) (Scalar.oAt 13 ty0 (Row.valS sc0)) (Scalar.oInt Syntax.w64 24) 14 (Rows'.sc-here sc0) ty0 (Row.valS sc0) (Row.sInt Syntax.w64 .of) (Scalar.reads-sc 𝓤 H A W sc0, Path'.refl) tt (Reads.room-gone 𝓤 H A ty0) (Scalar.holds-sc 𝓤 H A W sc0) Path'.refl (λ u. Path'.refl) λ u. tt) d6
 
           d8 : Typed.Typed 𝓤 H A 𝓣 E G17 b17 Δ3 at8
-          d8 = Typed.s-seq 𝓤 H A W 𝓣 E G17 G18 b11 b16 Δ3 (Typed.ask s14) at7 (Scalar.t-op2 𝓤 H A W E 𝓣 G17 (Syntax.div Syntax.unsigned) (Scalar.oAt 8 (Syntax.tyInt Syntax.w64) (Row.valS (Row.sInt Syntax.w64))) (Scalar.oBig Syntax.w64 65536) 13 (Rows'.sc-here (Row.sInt Syntax.w64)) (Syntax.tyInt Syntax.w64) (Row.valS (Row.sInt Syntax.w64)) (Row.sInt Syntax.w64 .of) (Scalar.reads-sc 𝓤 H A W (Row.sInt Syntax.w64), Path'.refl) record { lower = record { fits = Dec'.lit< tt } } (Reads.room-gone 𝓤 H A (Syntax.tyInt Syntax.w64)) (Scalar.holds-sc 𝓤 H A W (Row.sInt Syntax.w64)) Path'.refl (λ u. Path'.refl) λ u. tt) d7
+          d8 = Typed.s-seq 𝓤 H A W 𝓣 E G17 G18 b11 b16 Δ3 (Typed.ask s14) at7 (Scalar.t-op2 𝓤 H A W E 𝓣 G17 (Syntax.div Syntax.unsigned) (Scalar.oAt 8 ty0 (Row.valS sc0)) (Scalar.oBig Syntax.w64 65536) 13 (Rows'.sc-here sc0) ty0 (Row.valS sc0) (Row.sInt Syntax.w64 .of) (Scalar.reads-sc 𝓤 H A W sc0, Path'.refl) record { lower = record { fits = Dec'.lit< tt } } (Reads.room-gone 𝓤 H A ty0) (Scalar.holds-sc 𝓤 H A W sc0) Path'.refl (λ u. Path'.refl) λ u. tt) d7
 
           d9 : Typed.Typed 𝓤 H A 𝓣 E G16 b17 Δ3 at9
           d9 = Typed.g-pre 𝓤 H A W 𝓣 E G16 G17 b17 Δ3 (Typed.pass T16 T17 s13) at8 (Scalar.g-room 𝓤 H A W E G16 11 Syntax.tyPtr (Scalar.room-sc 𝓤 H A W Row.sPtr)) d8
 
           d10 : Typed.Typed 𝓤 H A 𝓣 E G15 b17 Δ3 at10
-          d10 = Typed.g-pre 𝓤 H A W 𝓣 E G15 G16 b17 Δ3 (Typed.pass T15 T16 s12) at9 (Scalar.g-room 𝓤 H A W E G15 10 (Syntax.tyInt Syntax.w64) (Scalar.room-sc 𝓤 H A W (Row.sInt Syntax.w64))) d9
+          d10 = Typed.g-pre 𝓤 H A W 𝓣 E G15 G16 b17 Δ3 (Typed.pass T15 T16 s12) at9 (Scalar.g-room 𝓤 H A W E G15 10 ty0 (Scalar.room-sc 𝓤 H A W sc0)) d9
 
           d11 : Typed.Typed 𝓤 H A 𝓣 E G14 b18 Δ3 at11
-          d11 = Typed.s-seq 𝓤 H A W 𝓣 E G14 G15 b10 b17 Δ3 (Typed.both s11) at10 (Move.t-shs-copy-out 𝓤 H A W E Cell.R 𝓣 Path'.refl (Cell.copies .copy 𝓤 H A W) (Copies.halved 𝓤 H A W Cell.copies) (λ ρ. Unit) G14 6 11 12 2 (Syntax.tyRef (Syntax.named 2) Syntax.imm Cell.behind) (Row.lease (κs .1 .1 .0) (qs .1 .1 .0)) Cell.held Cell.held Cell.row (Shared.bySize 24) (λ u. u .1 .1 .1 .1 .1 .1 .1 .0) (λ x. x) Cell.past (λ x. Unit) (λ x. x) (λ x. x) (λ i o. Elements.at-mul o 24 i) Path'.refl Path'.refl (Own.told-none 𝓤 H A (G14 .slots)) (DerefMove.learns-nothing 𝓤 H A Cell.R) (Reads.as-is 𝓤 H A (Rows'.sslice Cell.R (Syntax.tyRef (Syntax.named 2) Syntax.imm Cell.behind) 2)) (Reads.as-is 𝓤 H A (Rows'.sc-here Row.sPtr)) (Reads.room-gone 𝓤 H A Cell.held) (Yields.makes-mem 𝓤 H A W (λ ρ. Unit) Cell.R Path'.refl Cell.row (λ x. x) λ ρ told. Cell.of-mem 𝓤 H A W ρ) Path'.refl tt Path'.refl Path'.refl) d10
+          d11 = Typed.s-seq 𝓤 H A W 𝓣 E G14 G15 b10 b17 Δ3 (Typed.both s11) at10 (Move.t-shs-copy-out 𝓤 H A W E Cell.R 𝓣 Path'.refl (Cell.copies .copy 𝓤 H A W) (Copies.halved 𝓤 H A W Cell.copies) (λ ρ. Unit) G14 6 11 12 2 ty4 (Row.lease (κs .1 .1 .0) (qs .1 .1 .0)) Cell.held Cell.held Cell.row (Shared.bySize 24) (λ u. u .1 .1 .1 .1 .1 .1 .1 .0) (λ x. x) Cell.past (λ x. Unit) (λ x. x) (λ x. x) (λ i o. Elements.at-mul o 24 i) Path'.refl Path'.refl (Own.told-none 𝓤 H A (G14 .slots)) (DerefMove.learns-nothing 𝓤 H A Cell.R) (Reads.as-is 𝓤 H A (Rows'.sslice Cell.R ty4 2)) (Reads.as-is 𝓤 H A (Rows'.sc-here Row.sPtr)) (Reads.room-gone 𝓤 H A Cell.held) (Yields.makes-mem 𝓤 H A W (λ ρ. Unit) Cell.R Path'.refl Cell.row (λ x. x) λ ρ told. Cell.of-mem 𝓤 H A W ρ) Path'.refl tt Path'.refl Path'.refl) d10
 
           d12 : Typed.Typed 𝓤 H A 𝓣 E G13 b19 Δ3 at12
-          d12 = Typed.s-seq 𝓤 H A W 𝓣 E G13 G14 b9 b18 Δ3 (Typed.ask s10) at11 (Scalar.t-op2 𝓤 H A W E 𝓣 G13 Syntax.offset (Scalar.oFld 6 (List._∷_ (Syntax.field 0) List.[]) (Syntax.tyRef (Syntax.named 2) Syntax.imm Cell.behind) 0 Reads.ptrVal) (Scalar.oAt 10 (Syntax.tyInt Syntax.w64) (Row.valS (Row.sInt Syntax.w64))) 11 (Rows'.sc-here Row.sPtr) Syntax.tyPtr (Row.valS Row.sPtr) (Row.sPtr .of) (Shared.reads-sslice-ptr 𝓤 H A W Cell.R (Syntax.tyRef (Syntax.named 2) Syntax.imm Cell.behind) 2 0 Path'.refl, Path'.refl) (Scalar.reads-sc 𝓤 H A W (Row.sInt Syntax.w64), Path'.refl) (Reads.room-gone 𝓤 H A Syntax.tyPtr) (Scalar.holds-sc 𝓤 H A W Row.sPtr) Path'.refl (λ u. Path'.refl) λ u. tt) d11
+          d12 = Typed.s-seq 𝓤 H A W 𝓣 E G13 G14 b9 b18 Δ3 (Typed.ask s10) at11 (Scalar.t-op2 𝓤 H A W E 𝓣 G13 Syntax.offset (Scalar.oFld 6 steps0 ty4 0 Reads.ptrVal) (Scalar.oAt 10 ty0 (Row.valS sc0)) 11 (Rows'.sc-here Row.sPtr) Syntax.tyPtr (Row.valS Row.sPtr) (Row.sPtr .of) (Shared.reads-sslice-ptr 𝓤 H A W Cell.R ty4 2 0 Path'.refl, Path'.refl) (Scalar.reads-sc 𝓤 H A W sc0, Path'.refl) (Reads.room-gone 𝓤 H A Syntax.tyPtr) (Scalar.holds-sc 𝓤 H A W Row.sPtr) Path'.refl (λ u. Path'.refl) λ u. tt) d11
 
           d13 : Typed.Typed 𝓤 H A 𝓣 E G12 b20 Δ3 at13
-          d13 = Typed.s-seq 𝓤 H A W 𝓣 E G12 G13 b8 b19 Δ3 (Typed.ask s9) at12 (Scalar.t-op2 𝓤 H A W E 𝓣 G12 (Syntax.mul Syntax.unsigned) (Scalar.oAt 7 (Syntax.tyInt Syntax.w64) (Row.valS (Row.sInt Syntax.w64))) (Scalar.oInt Syntax.w64 24) 10 (Rows'.sc-here (Row.sInt Syntax.w64)) (Syntax.tyInt Syntax.w64) (Row.valS (Row.sInt Syntax.w64)) (Row.sInt Syntax.w64 .of) (Scalar.reads-sc 𝓤 H A W (Row.sInt Syntax.w64), Path'.refl) tt (Reads.room-gone 𝓤 H A (Syntax.tyInt Syntax.w64)) (Scalar.holds-sc 𝓤 H A W (Row.sInt Syntax.w64)) Path'.refl (λ u. Path'.refl) λ u. tt) d12
+          d13 = Typed.s-seq 𝓤 H A W 𝓣 E G12 G13 b8 b19 Δ3 (Typed.ask s9) at12 (Scalar.t-op2 𝓤 H A W E 𝓣 G12 (Syntax.mul Syntax.unsigned) (Scalar.oAt 7 ty0 (Row.valS sc0)) (Scalar.oInt Syntax.w64 24) 10 (Rows'.sc-here sc0) ty0 (Row.valS sc0) (Row.sInt Syntax.w64 .of) (Scalar.reads-sc 𝓤 H A W sc0, Path'.refl) tt (Reads.room-gone 𝓤 H A ty0) (Scalar.holds-sc 𝓤 H A W sc0) Path'.refl (λ u. Path'.refl) λ u. tt) d12
 
           d14 : Typed.Typed 𝓤 H A 𝓣 E G11 b20 Δ3 at14
           d14 = Typed.g-pre 𝓤 H A W 𝓣 E G11 G12 b20 Δ3 (Typed.pass T11 T12 s8) at13 (Scalar.g-room 𝓤 H A W E G11 9 Syntax.tyBool (Scalar.room-sc 𝓤 H A W Row.sBool)) d13
@@ -754,25 +869,25 @@ module _ (claims· : Claims) where
           d16 = Typed.g-pre 𝓤 H A W 𝓣 E G27 G28 b21 Δ3 (Typed.pass T27 T28 s24) at15 (Scalar.g-room 𝓤 H A W E G27 9 Syntax.tyBool (Scalar.room-sc 𝓤 H A W Row.sBool)) d15
 
           d17 : Typed.Typed 𝓤 H A 𝓣 E G11 b21 Δ3 at17
-          d17 = Typed.g-pre 𝓤 H A W 𝓣 E G11 G27 b21 Δ3 (Typed.pass T11 T27 s23) at16 (Scalar.g-room 𝓤 H A W E G11 8 (Syntax.tyInt Syntax.w64) (Scalar.room-sc 𝓤 H A W (Row.sInt Syntax.w64))) d16
+          d17 = Typed.g-pre 𝓤 H A W 𝓣 E G11 G27 b21 Δ3 (Typed.pass T11 T27 s23) at16 (Scalar.g-room 𝓤 H A W E G11 8 ty0 (Scalar.room-sc 𝓤 H A W sc0)) d16
 
           d18 : Typed.Typed 𝓤 H A 𝓣 E G11 b22 Δ3 at18
           d18 = Scalar.t-cond 𝓤 H A W E 𝓣 G11 9 (λ x. x) b20 b21 Δ3 at14 at17 (Scalar.reads-sc 𝓤 H A W Row.sBool) Path'.refl d14 d17
 
           d19 : Typed.Typed 𝓤 H A 𝓣 E G10 b23 Δ3 at19
-          d19 = Typed.s-seq 𝓤 H A W 𝓣 E G10 G11 b7 b22 Δ3 (Typed.ask s7) at18 (Scalar.t-op2 𝓤 H A W E 𝓣 G10 Syntax.ne (Scalar.oAt 8 (Syntax.tyInt Syntax.w64) (Row.valS (Row.sInt Syntax.w64))) (Scalar.oInt Syntax.w64 0) 9 (Rows'.sc-here Row.sBool) Syntax.tyBool (Row.valS Row.sBool) (Row.sBool .of) (Scalar.reads-sc 𝓤 H A W (Row.sInt Syntax.w64), Path'.refl) tt (Reads.room-gone 𝓤 H A Syntax.tyBool) (Scalar.holds-sc 𝓤 H A W Row.sBool) Path'.refl (λ u. Path'.refl) λ u. tt) d18
+          d19 = Typed.s-seq 𝓤 H A W 𝓣 E G10 G11 b7 b22 Δ3 (Typed.ask s7) at18 (Scalar.t-op2 𝓤 H A W E 𝓣 G10 Syntax.ne (Scalar.oAt 8 ty0 (Row.valS sc0)) (Scalar.oInt Syntax.w64 0) 9 (Rows'.sc-here Row.sBool) Syntax.tyBool (Row.valS Row.sBool) (Row.sBool .of) (Scalar.reads-sc 𝓤 H A W sc0, Path'.refl) tt (Reads.room-gone 𝓤 H A Syntax.tyBool) (Scalar.holds-sc 𝓤 H A W Row.sBool) Path'.refl (λ u. Path'.refl) λ u. tt) d18
 
           d20 : Typed.Typed 𝓤 H A 𝓣 E G9 b24 Δ3 at20
-          d20 = Typed.s-seq 𝓤 H A W 𝓣 E G9 G10 b6 b23 Δ3 (Typed.both s6) at19 (Plain.t-call-plain 𝓤 H A W 𝓣 1 ps·0 r·0 (claims· .0) (claims· .1) "sheets::loops::note" known E (λ pos β. β) G9 (record { pos = 1; ty = Syntax.tyRef (Syntax.named 0) Syntax.imm (Syntax.tyInt Syntax.w32); ref = λ x. x }, (Num.vAt 2 λ x. x, (Num.vAt 7 λ x. x, tt))) 8 (List._∷_ 0 List.[]) (Call.sub-id 𝓤 H A W (G9 .slots)) (ShrSlice.spares-sslice 𝓤 H A W (Referent.rtF (Referent.fInt Syntax.w32)) (Syntax.tyRef (Syntax.named 0) Syntax.imm (Syntax.tyInt Syntax.w32)) 0, Shared.reads-sslice 𝓤 H A W (Referent.rtF (Referent.fInt Syntax.w32)) (Syntax.tyRef (Syntax.named 0) Syntax.imm (Syntax.tyInt Syntax.w32)) 0, Path'.refl, ((Scalar.reads-sc 𝓤 H A W (Row.sInt Syntax.w64), Path'.refl), ((Scalar.reads-sc 𝓤 H A W (Row.sInt Syntax.w64), Path'.refl), tt))) (Reads.room-gone 𝓤 H A (Syntax.tyInt Syntax.w64)) (tt, tt) Path'.refl) d19
+          d20 = Typed.s-seq 𝓤 H A W 𝓣 E G9 G10 b6 b23 Δ3 (Typed.both s6) at19 (Plain.t-call-plain 𝓤 H A W 𝓣 1 ps·0 r·0 (claims· .0) (claims· .1) "sheets::loops::note" known E (λ pos β. β) G9 (record { pos = 1; ty = Syntax.tyRef (Syntax.named 0) Syntax.imm ty1; ref = λ x. x }, (Num.vAt 2 λ x. x, (Num.vAt 7 λ x. x, tt))) 8 (List._∷_ 0 List.[]) (Call.sub-id 𝓤 H A W (G9 .slots)) (ShrSlice.spares-sslice 𝓤 H A W held0 ty2 0, Shared.reads-sslice 𝓤 H A W held0 ty2 0, Path'.refl, ((Scalar.reads-sc 𝓤 H A W sc0, Path'.refl), ((Scalar.reads-sc 𝓤 H A W sc0, Path'.refl), tt))) (Reads.room-gone 𝓤 H A ty0) (tt, tt) Path'.refl) d19
 
           d21 : Typed.Typed 𝓤 H A 𝓣 E G6 b25 Δ3 at21
-          d21 = Typed.s-seq 𝓤 H A W 𝓣 E G6 G9 b5 b24 Δ3 (Typed.ask s5) at20 (Scalar.t-op2 𝓤 H A W E 𝓣 G6 (Syntax.sub Syntax.unsigned) (Scalar.oAt 7 (Syntax.tyInt Syntax.w64) (Row.valS (Row.sInt Syntax.w64))) (Scalar.oInt Syntax.w64 1) 7 (Rows'.sc-here (Row.sInt Syntax.w64)) (Syntax.tyInt Syntax.w64) (Row.valS (Row.sInt Syntax.w64)) (Row.sInt Syntax.w64 .of) (Scalar.reads-sc 𝓤 H A W (Row.sInt Syntax.w64), Path'.refl) tt (Scalar.room-sc 𝓤 H A W (Row.sInt Syntax.w64)) (Scalar.holds-sc 𝓤 H A W (Row.sInt Syntax.w64)) Path'.refl (λ u. Path'.refl) λ u. tt) d20
+          d21 = Typed.s-seq 𝓤 H A W 𝓣 E G6 G9 b5 b24 Δ3 (Typed.ask s5) at20 (Scalar.t-op2 𝓤 H A W E 𝓣 G6 (Syntax.sub Syntax.unsigned) (Scalar.oAt 7 ty0 (Row.valS sc0)) (Scalar.oInt Syntax.w64 1) 7 (Rows'.sc-here sc0) ty0 (Row.valS sc0) (Row.sInt Syntax.w64 .of) (Scalar.reads-sc 𝓤 H A W sc0, Path'.refl) tt (Scalar.room-sc 𝓤 H A W sc0) (Scalar.holds-sc 𝓤 H A W sc0) Path'.refl (λ u. Path'.refl) λ u. tt) d20
 
           d22 : Typed.Typed 𝓤 H A 𝓣 E G5 b26 Δ3 at22
           d22 = Typed.t-seq 𝓤 H A W 𝓣 E G5 G6 b4 b25 Δ3 at4 at21 d4 d21
 
           d23 : Typed.Typed 𝓤 H A 𝓣 E G3 b27 Δ3 at23
-          d23 = Typed.s-seq 𝓤 H A W 𝓣 E G3 G5 b1 b26 Δ3 (Typed.ask s2) at22 (Scalar.t-op2 𝓤 H A W E 𝓣 G3 (Syntax.lt Syntax.unsigned) (Scalar.oAt 3 (Syntax.tyInt Syntax.w64) (Row.valS (Row.sInt Syntax.w64))) (Scalar.oAt 7 (Syntax.tyInt Syntax.w64) (Row.valS (Row.sInt Syntax.w64))) 9 (Rows'.sc-here Row.sBool) Syntax.tyBool (Row.valS Row.sBool) (Row.sBool .of) (Scalar.reads-sc 𝓤 H A W (Row.sInt Syntax.w64), Path'.refl) (Scalar.reads-sc 𝓤 H A W (Row.sInt Syntax.w64), Path'.refl) (Reads.room-gone 𝓤 H A Syntax.tyBool) (Scalar.holds-sc 𝓤 H A W Row.sBool) Path'.refl (λ u. Path'.refl) λ u. tt) d22
+          d23 = Typed.s-seq 𝓤 H A W 𝓣 E G3 G5 b1 b26 Δ3 (Typed.ask s2) at22 (Scalar.t-op2 𝓤 H A W E 𝓣 G3 (Syntax.lt Syntax.unsigned) (Scalar.oAt 3 ty0 (Row.valS sc0)) (Scalar.oAt 7 ty0 (Row.valS sc0)) 9 (Rows'.sc-here Row.sBool) Syntax.tyBool (Row.valS Row.sBool) (Row.sBool .of) (Scalar.reads-sc 𝓤 H A W sc0, Path'.refl) (Scalar.reads-sc 𝓤 H A W sc0, Path'.refl) (Reads.room-gone 𝓤 H A Syntax.tyBool) (Scalar.holds-sc 𝓤 H A W Row.sBool) Path'.refl (λ u. Path'.refl) λ u. tt) d22
 
           d24 : Typed.Typed 𝓤 H A 𝓣 E G3 b28 Δ2 at24
           d24 = Typed.t-loop-by 𝓤 H A W 𝓣 E G3 b27 Δ2 put0 (λ u vs. Inv·0 (Row.get 1 (T3 .locals) u .now) (Row.get 2 (T3 .locals) u) (Row.get 3 (T3 .locals) u) (Row.get 4 (T3 .locals) u) (Row.get 5 (T3 .locals) u .now) (Row.get 6 (T3 .locals) u .now) (Row.get 7 (T3 .locals) u) (vs .0) (vs .1)) (λ u vs. μ·0 (Row.get 1 (T3 .locals) u .now) (Row.get 2 (T3 .locals) u) (Row.get 3 (T3 .locals) u) (Row.get 4 (T3 .locals) u) (Row.get 5 (T3 .locals) u .now) (Row.get 6 (T3 .locals) u .now) (Row.get 7 (T3 .locals) u) (vs .0) (vs .1)) at23 d23
@@ -784,16 +899,16 @@ module _ (claims· : Claims) where
           d26 = Typed.t-return 𝓤 H A W 𝓣 E Δ0 tt
 
           d27 : Typed.Typed 𝓤 H A 𝓣 E G32 b31 Δ0 at27
-          d27 = Typed.g-pre 𝓤 H A W 𝓣 E G32 G33 b31 Δ0 (Typed.pass T32 T33 s29) at26 (Scalar.g-room 𝓤 H A W E G32 4 (Syntax.tyInt Syntax.w64) (Scalar.room-sc 𝓤 H A W (Row.sInt Syntax.w64))) d26
+          d27 = Typed.g-pre 𝓤 H A W 𝓣 E G32 G33 b31 Δ0 (Typed.pass T32 T33 s29) at26 (Scalar.g-room 𝓤 H A W E G32 4 ty0 (Scalar.room-sc 𝓤 H A W sc0)) d26
 
           d28 : Typed.Typed 𝓤 H A 𝓣 E G31 b31 Δ0 at28
-          d28 = Typed.g-pre 𝓤 H A W 𝓣 E G31 G32 b31 Δ0 (Typed.pass T31 T32 s28) at27 (Scalar.g-room 𝓤 H A W E G31 3 (Syntax.tyInt Syntax.w64) (Scalar.room-sc 𝓤 H A W (Row.sInt Syntax.w64))) d27
+          d28 = Typed.g-pre 𝓤 H A W 𝓣 E G31 G32 b31 Δ0 (Typed.pass T31 T32 s28) at27 (Scalar.g-room 𝓤 H A W E G31 3 ty0 (Scalar.room-sc 𝓤 H A W sc0)) d27
 
           d29 : Typed.Typed 𝓤 H A 𝓣 E G30 b31 Δ0 at29
-          d29 = Typed.g-pre 𝓤 H A W 𝓣 E G30 G31 b31 Δ0 (Typed.pass T30 T31 s27) at28 (Scalar.g-room 𝓤 H A W E G30 2 (Syntax.tyInt Syntax.w64) (Scalar.room-sc 𝓤 H A W (Row.sInt Syntax.w64))) d28
+          d29 = Typed.g-pre 𝓤 H A W 𝓣 E G30 G31 b31 Δ0 (Typed.pass T30 T31 s27) at28 (Scalar.g-room 𝓤 H A W E G30 2 ty0 (Scalar.room-sc 𝓤 H A W sc0)) d28
 
           d30 : Typed.Typed 𝓤 H A 𝓣 E G29 b31 Δ0 at30
-          d30 = Typed.g-pre 𝓤 H A W 𝓣 E G29 G30 b31 Δ0 (Typed.pass T29 T30 s26) at29 (Scalar.g-room 𝓤 H A W E G29 7 (Syntax.tyInt Syntax.w64) (Scalar.room-sc 𝓤 H A W (Row.sInt Syntax.w64))) d29
+          d30 = Typed.g-pre 𝓤 H A W 𝓣 E G29 G30 b31 Δ0 (Typed.pass T29 T30 s26) at29 (Scalar.g-room 𝓤 H A W E G29 7 ty0 (Scalar.room-sc 𝓤 H A W sc0)) d29
 
           d31 : Typed.Typed 𝓤 H A 𝓣 E G4 b32 Δ0 at31
           d31 = Typed.s-seq 𝓤 H A W 𝓣 E G4 G29 b30 b31 Δ0 (Typed.pass T4 T29 s25) at30 (Scalar.t-use 𝓤 H A W E 𝓣 G4 Scalar.oUnit 0 (Rows'.sc-here Row.sUnit) Syntax.tyUnit (Row.valS Row.sUnit) (Row.sUnit .of) tt (Reads.room-gone 𝓤 H A Syntax.tyUnit) (Scalar.holds-sc 𝓤 H A W Row.sUnit) Path'.refl (λ u. Path'.refl) λ u. tt) d30
@@ -802,17 +917,17 @@ module _ (claims· : Claims) where
           d32 = Typed.t-seq 𝓤 H A W 𝓣 E G3 G4 b29 b32 Δ0 at25 at31 d25 d31
 
           d33 : Typed.Typed 𝓤 H A 𝓣 E G2 b34 Δ0 at33
-          d33 = Typed.s-seq 𝓤 H A W 𝓣 E G2 G3 b0 b33 Δ0 (Typed.pass T2 T3 s1) at32 (Scalar.t-use 𝓤 H A W E 𝓣 G2 (Scalar.oAt 4 (Syntax.tyInt Syntax.w64) (Row.valS (Row.sInt Syntax.w64))) 7 (Rows'.sc-here (Row.sInt Syntax.w64)) (Syntax.tyInt Syntax.w64) (Row.valS (Row.sInt Syntax.w64)) (Row.sInt Syntax.w64 .of) (Scalar.reads-sc 𝓤 H A W (Row.sInt Syntax.w64), Path'.refl) (Reads.room-gone 𝓤 H A (Syntax.tyInt Syntax.w64)) (Scalar.holds-sc 𝓤 H A W (Row.sInt Syntax.w64)) Path'.refl (λ u. Path'.refl) λ u. tt) d32
+          d33 = Typed.s-seq 𝓤 H A W 𝓣 E G2 G3 b0 b33 Δ0 (Typed.pass T2 T3 s1) at32 (Scalar.t-use 𝓤 H A W E 𝓣 G2 (Scalar.oAt 4 ty0 (Row.valS sc0)) 7 (Rows'.sc-here sc0) ty0 (Row.valS sc0) (Row.sInt Syntax.w64 .of) (Scalar.reads-sc 𝓤 H A W sc0, Path'.refl) (Reads.room-gone 𝓤 H A ty0) (Scalar.holds-sc 𝓤 H A W sc0) Path'.refl (λ u. Path'.refl) λ u. tt) d32
 
           d34 : Typed.Typed 𝓤 H A 𝓣 E G0 b34 Δ0 at34
-          d34 = Typed.g-pre 𝓤 H A W 𝓣 E G0 G2 b34 Δ0 (Typed.give s0) at33 (Know.g-shs-known 𝓤 H A W (Referent.fInt Syntax.w32) E G0 1 0 (Syntax.tyRef (Syntax.named 0) Syntax.imm (Syntax.tyInt Syntax.w32)) (Row.lease (κs .0) (qs .0)) 0 (λ x. x) record { fits = Dec'.lit< tt } (Reads.as-is 𝓤 H A (Rows'.sslice (Referent.rtF (Referent.fInt Syntax.w32)) (Syntax.tyRef (Syntax.named 0) Syntax.imm (Syntax.tyInt Syntax.w32)) 0)) Path'.refl tt) d33
+          d34 = Typed.g-pre 𝓤 H A W 𝓣 E G0 G2 b34 Δ0 (Typed.give s0) at33 (Know.g-shs-known 𝓤 H A W rf0 E G0 1 0 ty2 slot0 0 (λ x. x) record { fits = Dec'.lit< tt } (Reads.as-is 𝓤 H A (Rows'.sslice held0 ty2 0)) Path'.refl tt) d33
 
           pub typed : Typed.Typed 𝓤 H A 𝓣 E (Function.Γin 3 ps r xs m κs qs) b34 (Function.Δret 3 ps r xs m κs qs) Φ
           typed = d34
 
       module _ (κs : Lifetimes.Lfts 3) where
         pub record Args : Type 0 where
-          pub work : Kinds.Den {n = 3} κs (ShrSlice.pShrS (Referent.rtF (Referent.fInt Syntax.w32)) 0 tt)
+          pub work : Kinds.Den {n = 3} κs (ShrSlice.pShrS held0 0 tt)
           pub d : Kinds.Den {n = 3} κs (Num.pNum Syntax.w64)
           pub m : Kinds.Den {n = 3} κs (Num.pNum Syntax.w64)
           pub n : Kinds.Den {n = 3} κs (Num.pNum Syntax.w64)
@@ -864,22 +979,22 @@ module _ (claims· : Claims) where
       abbrev pub Need-loop-holds : Type 0
       Need-loop-holds = (c : After-shared-slice-known) → Inv·0 (Row.get 1 (T3 .locals) (m2 (c .before) (c .shared-slice-known .given)) .now) (Row.get 2 (T3 .locals) (m2 (c .before) (c .shared-slice-known .given))) (Row.get 3 (T3 .locals) (m2 (c .before) (c .shared-slice-known .given))) (Row.get 4 (T3 .locals) (m2 (c .before) (c .shared-slice-known .given))) (Row.get 5 (T3 .locals) (m2 (c .before) (c .shared-slice-known .given)) .now) (Row.get 6 (T3 .locals) (m2 (c .before) (c .shared-slice-known .given)) .now) (Row.get 7 (T3 .locals) (m2 (c .before) (c .shared-slice-known .given))) (Row.get 5 (T3 .locals) (m2 (c .before) (c .shared-slice-known .given)) .now) (Row.get 7 (T3 .locals) (m2 (c .before) (c .shared-slice-known .given)))
 
-      abbrev pub m3 : (before : After-shared-slice-known) → (sheet : List.List (Cell.R .Denot)) → (t : Rows'.sc-here (Row.sInt Syntax.w64) .Mod) → Typed.Mo T3
-      m3 = λ before sheet t. Row.set 7 (7, Rows'.sc-here (Row.sInt Syntax.w64)) t (Row.setRow 5 (5, Mut.mslice Cell.R (Syntax.tyRef (Syntax.named 1) Syntax.mut Cell.behind) 1) (T3 .locals)) (Row.set 5 (5, Mut.mslice Cell.R (Syntax.tyRef (Syntax.named 1) Syntax.mut Cell.behind) 1) record { ptr = Row.get 5 (T3 .locals) (m2 (before .before) (before .shared-slice-known .given)) .ptr; name = Row.get 5 (T3 .locals) (m2 (before .before) (before .shared-slice-known .given)) .name; now = sheet } (T3 .locals) (m2 (before .before) (before .shared-slice-known .given)))
+      abbrev pub m3 : (before : After-shared-slice-known) → (sheet : List.List (Cell.R .Denot)) → (t : Rows'.sc-here sc0 .Mod) → Typed.Mo T3
+      m3 = λ before sheet t. Row.set 7 local13 t (Row.setRow 5 local5 (T3 .locals)) (Row.set 5 local5 record { ptr = Row.get 5 (T3 .locals) (m2 (before .before) (before .shared-slice-known .given)) .ptr; name = Row.get 5 (T3 .locals) (m2 (before .before) (before .shared-slice-known .given)) .name; now = sheet } (T3 .locals) (m2 (before .before) (before .shared-slice-known .given)))
 
-      abbrev W3 : (before : After-shared-slice-known) → (sheet : List.List (Cell.R .Denot)) → (t : Rows'.sc-here (Row.sInt Syntax.w64) .Mod) → Typed.Want O3
+      abbrev W3 : (before : After-shared-slice-known) → (sheet : List.List (Cell.R .Denot)) → (t : Rows'.sc-here sc0 .Mod) → Typed.Want O3
       W3 = λ before sheet t. Typed.inLoop T3 O2 (Typed.Round T3 O2 put0 (λ u vs. Inv·0 (Row.get 1 (T3 .locals) u .now) (Row.get 2 (T3 .locals) u) (Row.get 3 (T3 .locals) u) (Row.get 4 (T3 .locals) u) (Row.get 5 (T3 .locals) u .now) (Row.get 6 (T3 .locals) u .now) (Row.get 7 (T3 .locals) u) (vs .0) (vs .1)) (λ u vs. μ·0 (Row.get 1 (T3 .locals) u .now) (Row.get 2 (T3 .locals) u) (Row.get 3 (T3 .locals) u) (Row.get 4 (T3 .locals) u) (Row.get 5 (T3 .locals) u .now) (Row.get 6 (T3 .locals) u .now) (Row.get 7 (T3 .locals) u) (vs .0) (vs .1)) at23 (m2 (before .before) (before .shared-slice-known .given)) (sheet, t)) (W2 (before .before) (before .shared-slice-known .given))
 
-      abbrev pub m4 : (before : After-shared-slice-known) → (sheet : List.List (Cell.R .Denot)) → (t : Rows'.sc-here (Row.sInt Syntax.w64) .Mod) → Typed.Mo T5
+      abbrev pub m4 : (before : After-shared-slice-known) → (sheet : List.List (Cell.R .Denot)) → (t : Rows'.sc-here sc0 .Mod) → Typed.Mo T5
       m4 = λ before sheet t. s2 .next (m3 before sheet t)
 
-      abbrev W4 : (before : After-shared-slice-known) → (sheet : List.List (Cell.R .Denot)) → (t : Rows'.sc-here (Row.sInt Syntax.w64) .Mod) → Typed.Want O4
+      abbrev W4 : (before : After-shared-slice-known) → (sheet : List.List (Cell.R .Denot)) → (t : Rows'.sc-here sc0 .Mod) → Typed.Want O4
       W4 = λ before sheet t. Typed.wantNext T6 O3 (at21 (W3 before sheet t)) (W3 before sheet t)
 
       module _ (before· : After-shared-slice-known) where
         pub record At-loop·own : Type 0 where
           pub sheet : List.List (Cell.R .Denot)
-          pub t : Rows'.sc-here (Row.sInt Syntax.w64) .Mod
+          pub t : Rows'.sc-here sc0 .Mod
           pub inv : Inv·0 (Row.get 1 (T3 .locals) (m2 (before· .before) (before· .shared-slice-known .given)) .now) (Row.get 2 (T3 .locals) (m2 (before· .before) (before· .shared-slice-known .given))) (Row.get 3 (T3 .locals) (m2 (before· .before) (before· .shared-slice-known .given))) (Row.get 4 (T3 .locals) (m2 (before· .before) (before· .shared-slice-known .given))) (Row.get 5 (T3 .locals) (m2 (before· .before) (before· .shared-slice-known .given)) .now) (Row.get 6 (T3 .locals) (m2 (before· .before) (before· .shared-slice-known .given)) .now) (Row.get 7 (T3 .locals) (m2 (before· .before) (before· .shared-slice-known .given))) sheet t
 
       pub record At-loop : Type 0 where
@@ -922,14 +1037,14 @@ module _ (claims· : Claims) where
 
       module _ (before· : In-loop) where
         abbrev pub After-note·own : Type 0
-        After-note·own = Called.Called ps·0 r·0 (claims· .1) T9 (record { pos = 1; ty = Syntax.tyRef (Syntax.named 0) Syntax.imm (Syntax.tyInt Syntax.w32); ref = λ x. x }, (Num.vAt 2 λ x. x, (Num.vAt 7 λ x. x, tt))) (m7 (before· .before))
+        After-note·own = Called.Called ps·0 r·0 (claims· .1) T9 (record { pos = 1; ty = Syntax.tyRef (Syntax.named 0) Syntax.imm ty1; ref = λ x. x }, (Num.vAt 2 λ x. x, (Num.vAt 7 λ x. x, tt))) (m7 (before· .before))
 
       pub record After-note : Type 0 where
         pub before : In-loop
         pub note : After-note·own before
 
       abbrev pub After-note·gave : (c : After-note) → s6 .gives (m7 (c .before .before))
-      After-note·gave = λ c. Called.given ps·0 r·0 (claims· .1) T9 (record { pos = 1; ty = Syntax.tyRef (Syntax.named 0) Syntax.imm (Syntax.tyInt Syntax.w32); ref = λ x. x }, (Num.vAt 2 λ x. x, (Num.vAt 7 λ x. x, tt))) (m7 (c .before .before)) (c .note)
+      After-note·gave = λ c. Called.given ps·0 r·0 (claims· .1) T9 (record { pos = 1; ty = Syntax.tyRef (Syntax.named 0) Syntax.imm ty1; ref = λ x. x }, (Num.vAt 2 λ x. x, (Num.vAt 7 λ x. x, tt))) (m7 (c .before .before)) (c .note)
 
       abbrev pub m9 : (before : In-loop) → (given : s6 .gives (m7 (before .before))) → Typed.Mo T11
       m9 = λ before given. s7 .next (m8 before given)
@@ -1068,7 +1183,7 @@ module _ (claims· : Claims) where
         lay4 = λ c. (tt, (λ taken. lay5 record { before = record { before = c .before; note = c .note }; if1 = record { taken = Tests.eqb-false (Row.get 8 (T10 .locals) (m8 (c .before) (After-note·gave c))) 0 (Tests.not-true (Dec'.eqb (Row.get 8 (T10 .locals) (m8 (c .before) (After-note·gave c))) 0) taken) } }, λ left. lay6 record { before = record { before = c .before; note = c .note }; if1 = record { left = Tests.eqb-true (Row.get 8 (T10 .locals) (m8 (c .before) (After-note·gave c))) 0 (Tests.not-false (Dec'.eqb (Row.get 8 (T10 .locals) (m8 (c .before) (After-note·gave c))) 0) left) } }))
 
         lay3 : (c : In-loop) → at21 (W3 (c .before .before) (c .before .loop .sheet) (c .before .loop .t)) (m5 (c .before))
-        lay3 = λ c. (sub-t record { before = c .before; loop-test = c .loop-test }, (note-requires record { before = c .before; loop-test = c .loop-test }, λ g. lay4 record { before = record { before = c .before; loop-test = c .loop-test }; note = Called.called ps·0 r·0 (claims· .1) T9 (record { pos = 1; ty = Syntax.tyRef (Syntax.named 0) Syntax.imm (Syntax.tyInt Syntax.w32); ref = λ x. x }, (Num.vAt 2 λ x. x, (Num.vAt 7 λ x. x, tt))) (m7 (c .before)) g }))
+        lay3 = λ c. (sub-t record { before = c .before; loop-test = c .loop-test }, (note-requires record { before = c .before; loop-test = c .loop-test }, λ g. lay4 record { before = record { before = c .before; loop-test = c .loop-test }; note = Called.called ps·0 r·0 (claims· .1) T9 (record { pos = 1; ty = Syntax.tyRef (Syntax.named 0) Syntax.imm ty1; ref = λ x. x }, (Num.vAt 2 λ x. x, (Num.vAt 7 λ x. x, tt))) (m7 (c .before)) g }))
 
         lay2 : (c : After-loop) → at3 (W4 (c .before .before) (c .before .loop .sheet) (c .before .loop .t)) (m4 (c .before .before) (c .before .loop .sheet) (c .before .loop .t))
         lay2 = λ c. lay7 record { before = c .before; loop-test = c .loop-test }

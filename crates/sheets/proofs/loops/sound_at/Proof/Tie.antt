@@ -18,67 +18,70 @@ use borrow.Fn.Run
 use borrow.Fn.Written
 use contract.Running
 
+abbrev claims0 : Lts.Claims
+claims0 = (Reads''.Asked, Reads''.Learnt, Reads.Asked, Reads.Learnt, Reads'3.Asked, Reads'3.Learnt)
+
 abbrev pub Start : Type 0
-Start = Lts.Start (Reads''.Asked, Reads''.Learnt, Reads.Asked, Reads.Learnt, Reads'3.Asked, Reads'3.Learnt) Reads'.Pre Reads'.Post
+Start = Lts.Start claims0 Reads'.Pre Reads'.Post
 
 abbrev pub After-shared-slice-known : Type 0
-After-shared-slice-known = Lts.After-shared-slice-known (Reads''.Asked, Reads''.Learnt, Reads.Asked, Reads.Learnt, Reads'3.Asked, Reads'3.Learnt) Reads'.Pre Reads'.Post
+After-shared-slice-known = Lts.After-shared-slice-known claims0 Reads'.Pre Reads'.Post
 
 abbrev pub Then1 : Type 0
-Then1 = Lts.Then1 (Reads''.Asked, Reads''.Learnt, Reads.Asked, Reads.Learnt, Reads'3.Asked, Reads'3.Learnt) Reads'.Pre Reads'.Post
+Then1 = Lts.Then1 claims0 Reads'.Pre Reads'.Post
 
 abbrev pub After-fit : Type 0
-After-fit = Lts.After-fit (Reads''.Asked, Reads''.Learnt, Reads.Asked, Reads.Learnt, Reads'3.Asked, Reads'3.Learnt) Reads'.Pre Reads'.Post
+After-fit = Lts.After-fit claims0 Reads'.Pre Reads'.Post
 
 abbrev pub Else1 : Type 0
-Else1 = Lts.Else1 (Reads''.Asked, Reads''.Learnt, Reads.Asked, Reads.Learnt, Reads'3.Asked, Reads'3.Learnt) Reads'.Pre Reads'.Post
+Else1 = Lts.Else1 claims0 Reads'.Pre Reads'.Post
 
 abbrev pub After-note : Type 0
-After-note = Lts.After-note (Reads''.Asked, Reads''.Learnt, Reads.Asked, Reads.Learnt, Reads'3.Asked, Reads'3.Learnt) Reads'.Pre Reads'.Post
+After-note = Lts.After-note claims0 Reads'.Pre Reads'.Post
 
 abbrev pub After-merges-to-arg : Type 0
-After-merges-to-arg = Lts.After-merges-to-arg (Reads''.Asked, Reads''.Learnt, Reads.Asked, Reads.Learnt, Reads'3.Asked, Reads'3.Learnt) Reads'.Pre Reads'.Post
+After-merges-to-arg = Lts.After-merges-to-arg claims0 Reads'.Pre Reads'.Post
 
 abbrev pub After-merges-to-arg2 : Type 0
-After-merges-to-arg2 = Lts.After-merges-to-arg2 (Reads''.Asked, Reads''.Learnt, Reads.Asked, Reads.Learnt, Reads'3.Asked, Reads'3.Learnt) Reads'.Pre Reads'.Post
+After-merges-to-arg2 = Lts.After-merges-to-arg2 claims0 Reads'.Pre Reads'.Post
 
 abbrev pub After-merges-to : Type 0
-After-merges-to = Lts.After-merges-to (Reads''.Asked, Reads''.Learnt, Reads.Asked, Reads.Learnt, Reads'3.Asked, Reads'3.Learnt) Reads'.Pre Reads'.Post
+After-merges-to = Lts.After-merges-to claims0 Reads'.Pre Reads'.Post
 
 abbrev pub Need-fit-requires : Type 0
-Need-fit-requires = Lts.Need-fit-requires (Reads''.Asked, Reads''.Learnt, Reads.Asked, Reads.Learnt, Reads'3.Asked, Reads'3.Learnt) Reads'.Pre Reads'.Post
+Need-fit-requires = Lts.Need-fit-requires claims0 Reads'.Pre Reads'.Post
 
 abbrev pub Need-returns : Type 0
-Need-returns = Lts.Need-returns (Reads''.Asked, Reads''.Learnt, Reads.Asked, Reads.Learnt, Reads'3.Asked, Reads'3.Learnt) Reads'.Pre Reads'.Post
+Need-returns = Lts.Need-returns claims0 Reads'.Pre Reads'.Post
 
 abbrev pub Need-sub-t : Type 0
-Need-sub-t = Lts.Need-sub-t (Reads''.Asked, Reads''.Learnt, Reads.Asked, Reads.Learnt, Reads'3.Asked, Reads'3.Learnt) Reads'.Pre Reads'.Post
+Need-sub-t = Lts.Need-sub-t claims0 Reads'.Pre Reads'.Post
 
 abbrev pub Need-note-requires : Type 0
-Need-note-requires = Lts.Need-note-requires (Reads''.Asked, Reads''.Learnt, Reads.Asked, Reads.Learnt, Reads'3.Asked, Reads'3.Learnt) Reads'.Pre Reads'.Post
+Need-note-requires = Lts.Need-note-requires claims0 Reads'.Pre Reads'.Post
 
 abbrev pub Need-mul-merges-to : Type 0
-Need-mul-merges-to = Lts.Need-mul-merges-to (Reads''.Asked, Reads''.Learnt, Reads.Asked, Reads.Learnt, Reads'3.Asked, Reads'3.Learnt) Reads'.Pre Reads'.Post
+Need-mul-merges-to = Lts.Need-mul-merges-to claims0 Reads'.Pre Reads'.Post
 
 abbrev pub Need-shared-slice-copy-out-merges-to : Type 0
-Need-shared-slice-copy-out-merges-to = Lts.Need-shared-slice-copy-out-merges-to (Reads''.Asked, Reads''.Learnt, Reads.Asked, Reads.Learnt, Reads'3.Asked, Reads'3.Learnt) Reads'.Pre Reads'.Post
+Need-shared-slice-copy-out-merges-to = Lts.Need-shared-slice-copy-out-merges-to claims0 Reads'.Pre Reads'.Post
 
 abbrev pub Need-mul-merges-to-2 : Type 0
-Need-mul-merges-to-2 = Lts.Need-mul-merges-to-2 (Reads''.Asked, Reads''.Learnt, Reads.Asked, Reads.Learnt, Reads'3.Asked, Reads'3.Learnt) Reads'.Pre Reads'.Post
+Need-mul-merges-to-2 = Lts.Need-mul-merges-to-2 claims0 Reads'.Pre Reads'.Post
 
 abbrev pub Need-shared-slice-copy-out-merges-to-2 : Type 0
-Need-shared-slice-copy-out-merges-to-2 = Lts.Need-shared-slice-copy-out-merges-to-2 (Reads''.Asked, Reads''.Learnt, Reads.Asked, Reads.Learnt, Reads'3.Asked, Reads'3.Learnt) Reads'.Pre Reads'.Post
+Need-shared-slice-copy-out-merges-to-2 = Lts.Need-shared-slice-copy-out-merges-to-2 claims0 Reads'.Pre Reads'.Post
 
 abbrev pub Need-merges-to-requires : Type 0
-Need-merges-to-requires = Lts.Need-merges-to-requires (Reads''.Asked, Reads''.Learnt, Reads.Asked, Reads.Learnt, Reads'3.Asked, Reads'3.Learnt) Reads'.Pre Reads'.Post
+Need-merges-to-requires = Lts.Need-merges-to-requires claims0 Reads'.Pre Reads'.Post
 
 abbrev pub Need-returns-2 : Type 0
-Need-returns-2 = Lts.Need-returns-2 (Reads''.Asked, Reads''.Learnt, Reads.Asked, Reads.Learnt, Reads'3.Asked, Reads'3.Learnt) Reads'.Pre Reads'.Post
+Need-returns-2 = Lts.Need-returns-2 claims0 Reads'.Pre Reads'.Post
 
 module _ {M : Type 1} where
-  pub spec : (answer : Need-fit-requires) → (answer : Need-returns) → (answer : Need-sub-t) → (answer : Need-note-requires) → (answer : Need-mul-merges-to) → (answer : Need-shared-slice-copy-out-merges-to) → (answer : Need-mul-merges-to-2) → (answer : Need-shared-slice-copy-out-merges-to-2) → (answer : Need-merges-to-requires) → (answer : Need-returns-2) → Lts.Closed (Reads''.Asked, Reads''.Learnt, Reads.Asked, Reads.Learnt, Reads'3.Asked, Reads'3.Learnt) Reads'.Pre Reads'.Post M
-  spec = λ answer answer' answer'' answer'3 answer'4 answer'5 answer'6 answer'7 answer'8 answer'9. Lts.spec (Reads''.Asked, Reads''.Learnt, Reads.Asked, Reads.Learnt, Reads'3.Asked, Reads'3.Learnt) Reads'.Pre Reads'.Post answer answer' answer'' answer'3 answer'4 answer'5 answer'6 answer'7 answer'8 answer'9
+  pub spec : (answer : Need-fit-requires) → (answer : Need-returns) → (answer : Need-sub-t) → (answer : Need-note-requires) → (answer : Need-mul-merges-to) → (answer : Need-shared-slice-copy-out-merges-to) → (answer : Need-mul-merges-to-2) → (answer : Need-shared-slice-copy-out-merges-to-2) → (answer : Need-merges-to-requires) → (answer : Need-returns-2) → Lts.Closed claims0 Reads'.Pre Reads'.Post M
+  spec = λ answer answer' answer'' answer'3 answer'4 answer'5 answer'6 answer'7 answer'8 answer'9. Lts.spec claims0 Reads'.Pre Reads'.Post answer answer' answer'' answer'3 answer'4 answer'5 answer'6 answer'7 answer'8 answer'9
 
-  pub close : Lts.Closed (Reads''.Asked, Reads''.Learnt, Reads.Asked, Reads.Learnt, Reads'3.Asked, Reads'3.Learnt) Reads'.Pre Reads'.Post M → Statement.statement M
+  pub close : Lts.Closed claims0 Reads'.Pre Reads'.Post M → Statement.statement M
   unfolding Code.routine Running.tablesOf
   close = λ closed 𝓤 H 𝓜 𝓖 𝓡. Written.close 3 Kinds.ps Kinds.r Reads'.Ghost Reads'.requires Reads'.ensures Reads'.pre-read Reads'.Pinned Reads'.Owned Reads'.post-read record { M = M; 𝓤 = 𝓤; H = H; 𝓜 = 𝓜; 𝓖 = 𝓖; 𝓡 = 𝓡 } Code.env Key.name Code.function (Code.unfolded 𝓤 H 𝓜 𝓡) (λ κs a g. tt) (λ κs. Reads'.owns κs record { M = M; 𝓤 = 𝓤; H = H; 𝓜 = 𝓜; 𝓖 = 𝓖; 𝓡 = 𝓡 }) (Reads'.passes record { M = M; 𝓤 = 𝓤; H = H; 𝓜 = 𝓜; 𝓖 = 𝓖; 𝓡 = 𝓡 }) λ g. closed 𝓤 H (𝓖 .A) (Running.givenOf 𝓤 H 𝓜 𝓖) (Run.Over 𝓤 H 𝓜 𝓖 𝓡 Code.env) (Reads''.known record { M = M; 𝓤 = 𝓤; H = H; 𝓜 = 𝓜; 𝓖 = 𝓖; 𝓡 = 𝓡 } Code.env Symbol'.name Symbol'.routine Code.calls-sheets·record·fit (Met'.met 𝓤 H 𝓜 𝓖 𝓡)) (Reads.known record { M = M; 𝓤 = 𝓤; H = H; 𝓜 = 𝓜; 𝓖 = 𝓖; 𝓡 = 𝓡 } Code.env Symbol.name Symbol.routine Code.calls-sheets·loops·note (Met.met 𝓤 H 𝓜 𝓖 𝓡)) (Reads'3.known record { M = M; 𝓤 = 𝓤; H = H; 𝓜 = 𝓜; 𝓖 = 𝓖; 𝓡 = 𝓡 } Code.env Symbol''.name Symbol''.routine Code.calls-sheets·record·merges-to (Met''.met 𝓤 H 𝓜 𝓖 𝓡))

@@ -54,27 +54,142 @@ use mir.Syntax
 use mir.Val
 use prog.Wp
 use types.Kit
+use denote.RattleType
+
+abbrev rf0 : Referent.Rf
+rf0 = Referent.fInt Syntax.w8
+
+abbrev held0 : RattleType.RattleType
+held0 = Referent.rtF rf0
+
+abbrev ty0 : Syntax.Ty
+ty0 = Syntax.tyInt Syntax.w64
+
+abbrev ty1 : Syntax.Ty
+ty1 = Syntax.tyStruct (List._∷_ 122 (List._∷_ 111 (List._∷_ 110 (List._∷_ 101 (List._∷_ 115 (List._∷_ 58 (List._∷_ 58 (List._∷_ 114 (List._∷_ 101 (List._∷_ 99 (List._∷_ 111 (List._∷_ 114 (List._∷_ 100 (List._∷_ 115 (List._∷_ 58 (List._∷_ 58 (List._∷_ 82 (List._∷_ 101 (List._∷_ 99 (List._∷_ 111 (List._∷_ 114 (List._∷_ 100 List.[])))))))))))))))))))))) (Syntax.tcons (Syntax.tyInt Syntax.w32) (Syntax.tcons Syntax.tyBool (Syntax.tcons ty0 (Syntax.tcons ty0 Syntax.tnil))))
+
+abbrev held1 : RattleType.RattleType
+held1 = Declared.row Record.the-type
+
+abbrev place0 : Syntax.Place
+place0 = Syntax.place 7 List.[]
+
+abbrev steps0 : List.List Syntax.Step
+steps0 = List._∷_ (Syntax.field 0) List.[]
+
+abbrev steps1 : List.List Syntax.Step
+steps1 = List._∷_ (Syntax.field 3) List.[]
+
+abbrev local0 : Row.Entry
+local0 = (0, Rows'.any-gone Syntax.tyUnit)
+
+abbrev ty2 : Syntax.Ty
+ty2 = Syntax.tyRef (Syntax.named 0) Syntax.mut Cell.behind
+
+abbrev local1 : Row.Entry
+local1 = (1, Mut.mslice Cell.R ty2 0)
+
+abbrev sc0 : Row.Sc
+sc0 = Row.sInt Syntax.w64
+
+abbrev local2 : Row.Entry
+local2 = (2, Rows'.sc-here sc0)
+
+abbrev ty3 : Syntax.Ty
+ty3 = Syntax.tyInt Syntax.w8
+
+abbrev ty4 : Syntax.Ty
+ty4 = Syntax.tyRef (Syntax.named 1) Syntax.imm ty3
+
+abbrev local3 : Row.Entry
+local3 = (3, Rows'.sslice held0 ty4 1)
+
+abbrev local4 : Row.Entry
+local4 = (4, Rows'.sc-here sc0)
+
+abbrev local5 : Row.Entry
+local5 = (5, Rows'.sc-here sc0)
+
+abbrev local6 : Row.Entry
+local6 = (6, Rows'.any-gone ty0)
+
+abbrev local7 : Row.Entry
+local7 = (9, Rows'.any-gone Syntax.tyBool)
+
+abbrev local8 : Row.Entry
+local8 = (10, Rows'.any-gone Cell.held)
+
+abbrev local9 : Row.Entry
+local9 = (11, Rows'.any-gone ty0)
+
+abbrev local10 : Row.Entry
+local10 = (12, Rows'.any-gone ty0)
+
+abbrev locals0 : List.List Row.Entry
+locals0 = List._∷_ (13, Rows'.any-gone Syntax.tyPtr) List.[]
+
+abbrev locals1 : List.List Row.Entry
+locals1 = List._∷_ local8 (List._∷_ local9 (List._∷_ local10 locals0))
+
+abbrev locals2 : List.List Row.Entry
+locals2 = List._∷_ (8, Rows'.any-gone ty1) (List._∷_ local7 locals1)
+
+abbrev locals3 : List.List Row.Entry
+locals3 = List._∷_ local6 (List._∷_ (7, Rows'.any-gone ty0) locals2)
+
+abbrev locals4 : List.List Row.Entry
+locals4 = List._∷_ local3 (List._∷_ local4 (List._∷_ local5 locals3))
+
+abbrev locals5 : List.List Row.Entry
+locals5 = List._∷_ local1 (List._∷_ local2 locals4)
+
+abbrev local11 : Row.Entry
+local11 = (0, Rows'.sc-here Row.sUnit)
+
+abbrev local12 : Row.Entry
+local12 = (6, Rows'.sc-here sc0)
+
+abbrev local13 : Row.Entry
+local13 = (7, Rows'.sc-here sc0)
+
+abbrev locals6 : List.List Row.Entry
+locals6 = List._∷_ local1 (List._∷_ local2 (List._∷_ local3 (List._∷_ local4 (List._∷_ local5 (List._∷_ local12 (List._∷_ local13 locals2))))))
+
+abbrev local14 : Row.Entry
+local14 = (8, Rows'.whole held1)
+
+abbrev locals7 : List.List Row.Entry
+locals7 = List._∷_ local13 (List._∷_ local14 (List._∷_ local7 locals1))
+
+abbrev local15 : Row.Entry
+local15 = (11, Rows'.sc-here sc0)
+
+abbrev local16 : Row.Entry
+local16 = (12, Rows'.sc-here sc0)
+
+abbrev locals8 : List.List Row.Entry
+locals8 = List._∷_ (13, Rows'.sc-here Row.sPtr) List.[]
 
 abbrev pub ps : List.List (Kinds.PK 2)
-ps = List._∷_ (MutSlice.pMutS Cell.R 0 tt) (List._∷_ (Num.pNum Syntax.w64) (List._∷_ (ShrSlice.pShrS (Referent.rtF (Referent.fInt Syntax.w8)) 1 tt) (List._∷_ (Num.pNum Syntax.w64) (List._∷_ (Num.pNum Syntax.w64) List.[]))))
+ps = List._∷_ (MutSlice.pMutS Cell.R 0 tt) (List._∷_ (Num.pNum Syntax.w64) (List._∷_ (ShrSlice.pShrS held0 1 tt) (List._∷_ (Num.pNum Syntax.w64) (List._∷_ (Num.pNum Syntax.w64) List.[]))))
 
 abbrev pub r : Kinds.RK 2
 r = Unit'.rUnit
 
 abbrev pub xs : List.List Syntax.Ty
-xs = List._∷_ (Syntax.tyInt Syntax.w64) (List._∷_ (Syntax.tyInt Syntax.w64) (List._∷_ (Syntax.tyStruct (List._∷_ 122 (List._∷_ 111 (List._∷_ 110 (List._∷_ 101 (List._∷_ 115 (List._∷_ 58 (List._∷_ 58 (List._∷_ 114 (List._∷_ 101 (List._∷_ 99 (List._∷_ 111 (List._∷_ 114 (List._∷_ 100 (List._∷_ 115 (List._∷_ 58 (List._∷_ 58 (List._∷_ 82 (List._∷_ 101 (List._∷_ 99 (List._∷_ 111 (List._∷_ 114 (List._∷_ 100 List.[])))))))))))))))))))))) (Syntax.tcons (Syntax.tyInt Syntax.w32) (Syntax.tcons Syntax.tyBool (Syntax.tcons (Syntax.tyInt Syntax.w64) (Syntax.tcons (Syntax.tyInt Syntax.w64) Syntax.tnil))))) (List._∷_ Syntax.tyBool (List._∷_ Cell.held (List._∷_ (Syntax.tyInt Syntax.w64) (List._∷_ (Syntax.tyInt Syntax.w64) (List._∷_ Syntax.tyPtr List.[])))))))
+xs = List._∷_ ty0 (List._∷_ ty0 (List._∷_ ty1 (List._∷_ Syntax.tyBool (List._∷_ Cell.held (List._∷_ ty0 (List._∷_ ty0 (List._∷_ Syntax.tyPtr List.[])))))))
 
 abbrev pub m : Nat.ℕ
 m = 0
 
 abbrev pub ps·0 : List.List (Kinds.PK 1)
-ps·0 = List._∷_ (ShrSlice.pShrS (Referent.rtF (Referent.fInt Syntax.w8)) 0 tt) (List._∷_ (Num.pNum Syntax.w64) List.[])
+ps·0 = List._∷_ (ShrSlice.pShrS held0 0 tt) (List._∷_ (Num.pNum Syntax.w64) List.[])
 
 abbrev pub r·0 : Kinds.RK 1
-r·0 = Value.rVal record { ty = Declared.row Record.the-type; one = Path'.refl; val = Laws'.val Record.the-type Laws.the-laws; tells = Laws'.tells Record.the-type Laws.the-laws; still = Laws'.still Record.the-type Laws.the-copy Exit.yes; row = Rows'.whole (Declared.row Record.the-type); rd = λ x. x; mk = λ x. x } λ M 𝓤 H A W. record { copies = Laws'.copy Record.the-type Laws.the-copy 𝓤 H A W; lawful = Laws'.lawful Record.the-type Laws.the-laws 𝓤 H A W; makes = Laws'.makes Record.the-type Laws.the-plain 𝓤 H A; in-mem = Local.mem-whole 𝓤 H A W (Declared.row Record.the-type); of-mem = Local.whole-mem 𝓤 H A W (Declared.row Record.the-type) }
+r·0 = Value.rVal record { ty = Declared.row Record.the-type; one = Path'.refl; val = Laws'.val Record.the-type Laws.the-laws; tells = Laws'.tells Record.the-type Laws.the-laws; still = Laws'.still Record.the-type Laws.the-copy Exit.yes; row = Rows'.whole held1; rd = λ x. x; mk = λ x. x } λ M 𝓤 H A W. record { copies = Laws'.copy Record.the-type Laws.the-copy 𝓤 H A W; lawful = Laws'.lawful Record.the-type Laws.the-laws 𝓤 H A W; makes = Laws'.makes Record.the-type Laws.the-plain 𝓤 H A; in-mem = Local.mem-whole 𝓤 H A W held1; of-mem = Local.whole-mem 𝓤 H A W held1 }
 
 abbrev pub ps·1 : List.List (Kinds.PK 0)
-ps·1 = List._∷_ (Value.pVal record { ty = Declared.row Record.the-type; one = Path'.refl; val = Laws'.val Record.the-type Laws.the-laws; tells = Laws'.tells Record.the-type Laws.the-laws; still = Laws'.still Record.the-type Laws.the-copy Exit.yes; row = Rows'.whole (Declared.row Record.the-type); rd = λ x. x; mk = λ x. x } λ M 𝓤 H A W. record { copies = Laws'.copy Record.the-type Laws.the-copy 𝓤 H A W; lawful = Laws'.lawful Record.the-type Laws.the-laws 𝓤 H A W; makes = Laws'.makes Record.the-type Laws.the-plain 𝓤 H A; in-mem = Local.mem-whole 𝓤 H A W (Declared.row Record.the-type); of-mem = Local.whole-mem 𝓤 H A W (Declared.row Record.the-type) }) List.[]
+ps·1 = List._∷_ (Value.pVal record { ty = Declared.row Record.the-type; one = Path'.refl; val = Laws'.val Record.the-type Laws.the-laws; tells = Laws'.tells Record.the-type Laws.the-laws; still = Laws'.still Record.the-type Laws.the-copy Exit.yes; row = Rows'.whole held1; rd = λ x. x; mk = λ x. x } λ M 𝓤 H A W. record { copies = Laws'.copy Record.the-type Laws.the-copy 𝓤 H A W; lawful = Laws'.lawful Record.the-type Laws.the-laws 𝓤 H A W; makes = Laws'.makes Record.the-type Laws.the-plain 𝓤 H A; in-mem = Local.mem-whole 𝓤 H A W held1; of-mem = Local.whole-mem 𝓤 H A W held1 }) List.[]
 
 abbrev pub r·1 : Kinds.RK 0
 r·1 = Cell.result
@@ -86,10 +201,10 @@ abbrev b0 : Syntax.Body
 b0 = Syntax.assign (Syntax.place 6 List.[]) (Syntax.rvOpd (Syntax.copy (Syntax.place 4 List.[])))
 
 abbrev b1 : Syntax.Body
-b1 = Syntax.assign (Syntax.place 7 List.[]) (Syntax.rvOpd (Syntax.int Syntax.w64 0))
+b1 = Syntax.assign place0 (Syntax.rvOpd (Syntax.int Syntax.w64 0))
 
 abbrev b2 : Syntax.Body
-b2 = Syntax.assign (Syntax.place 9 List.[]) (Syntax.op2 (Syntax.lt Syntax.unsigned) (Syntax.copy (Syntax.place 7 List.[])) (Syntax.copy (Syntax.place 5 List.[])))
+b2 = Syntax.assign (Syntax.place 9 List.[]) (Syntax.op2 (Syntax.lt Syntax.unsigned) (Syntax.copy place0) (Syntax.copy (Syntax.place 5 List.[])))
 
 abbrev b3 : Syntax.Body
 b3 = Syntax.skip
@@ -107,22 +222,22 @@ abbrev b7 : Syntax.Body
 b7 = Syntax.call "zones::records::zone" (List._∷_ (Syntax.copy (Syntax.place 8 List.[])) List.[]) (Syntax.place 10 List.[])
 
 abbrev b8 : Syntax.Body
-b8 = Syntax.assign (Syntax.place 11 List.[]) (Syntax.op2 (Syntax.add Syntax.unsigned) (Syntax.copy (Syntax.place 2 List.[])) (Syntax.copy (Syntax.place 7 List.[])))
+b8 = Syntax.assign (Syntax.place 11 List.[]) (Syntax.op2 (Syntax.add Syntax.unsigned) (Syntax.copy (Syntax.place 2 List.[])) (Syntax.copy place0))
 
 abbrev b9 : Syntax.Body
 b9 = Syntax.assign (Syntax.place 12 List.[]) (Syntax.op2 (Syntax.mul Syntax.unsigned) (Syntax.copy (Syntax.place 11 List.[])) (Syntax.int Syntax.w64 24))
 
 abbrev b10 : Syntax.Body
-b10 = Syntax.assign (Syntax.place 13 List.[]) (Syntax.op2 Syntax.offset (Syntax.copy (Syntax.place 1 (List._∷_ (Syntax.field 0) List.[]))) (Syntax.copy (Syntax.place 12 List.[])))
+b10 = Syntax.assign (Syntax.place 13 List.[]) (Syntax.op2 Syntax.offset (Syntax.copy (Syntax.place 1 steps0)) (Syntax.copy (Syntax.place 12 List.[])))
 
 abbrev b11 : Syntax.Body
 b11 = Syntax.assign (Syntax.place 13 (List._∷_ (Syntax.deref Cell.held) List.[])) (Syntax.rvOpd (Syntax.copy (Syntax.place 10 List.[])))
 
 abbrev b12 : Syntax.Body
-b12 = Syntax.assign (Syntax.place 6 List.[]) (Syntax.rvOpd (Syntax.copy (Syntax.place 8 (List._∷_ (Syntax.field 3) List.[]))))
+b12 = Syntax.assign (Syntax.place 6 List.[]) (Syntax.rvOpd (Syntax.copy (Syntax.place 8 steps1)))
 
 abbrev b13 : Syntax.Body
-b13 = Syntax.assign (Syntax.place 7 List.[]) (Syntax.op2 (Syntax.add Syntax.unsigned) (Syntax.copy (Syntax.place 7 List.[])) (Syntax.int Syntax.w64 1))
+b13 = Syntax.assign place0 (Syntax.op2 (Syntax.add Syntax.unsigned) (Syntax.copy place0) (Syntax.int Syntax.w64 1))
 
 abbrev b14 : Syntax.Body
 b14 = Syntax.seq b12 b13
@@ -182,61 +297,61 @@ abbrev pub Claims : Type 1
 Claims = Kinds.In 1 ps·0 × Kinds.Out 1 ps·0 r·0 × Kinds.In 0 ps·1 × Kinds.Out 0 ps·1 r·1
 
 abbrev pub t0 : List.List Row.Entry
-t0 = List._∷_ (0, Rows'.any-gone Syntax.tyUnit) (List._∷_ (1, Mut.mslice Cell.R (Syntax.tyRef (Syntax.named 0) Syntax.mut Cell.behind) 0) (List._∷_ (2, Rows'.sc-here (Row.sInt Syntax.w64)) (List._∷_ (3, Rows'.sslice (Referent.rtF (Referent.fInt Syntax.w8)) (Syntax.tyRef (Syntax.named 1) Syntax.imm (Syntax.tyInt Syntax.w8)) 1) (List._∷_ (4, Rows'.sc-here (Row.sInt Syntax.w64)) (List._∷_ (5, Rows'.sc-here (Row.sInt Syntax.w64)) (List._∷_ (6, Rows'.any-gone (Syntax.tyInt Syntax.w64)) (List._∷_ (7, Rows'.any-gone (Syntax.tyInt Syntax.w64)) (List._∷_ (8, Rows'.any-gone (Syntax.tyStruct (List._∷_ 122 (List._∷_ 111 (List._∷_ 110 (List._∷_ 101 (List._∷_ 115 (List._∷_ 58 (List._∷_ 58 (List._∷_ 114 (List._∷_ 101 (List._∷_ 99 (List._∷_ 111 (List._∷_ 114 (List._∷_ 100 (List._∷_ 115 (List._∷_ 58 (List._∷_ 58 (List._∷_ 82 (List._∷_ 101 (List._∷_ 99 (List._∷_ 111 (List._∷_ 114 (List._∷_ 100 List.[])))))))))))))))))))))) (Syntax.tcons (Syntax.tyInt Syntax.w32) (Syntax.tcons Syntax.tyBool (Syntax.tcons (Syntax.tyInt Syntax.w64) (Syntax.tcons (Syntax.tyInt Syntax.w64) Syntax.tnil)))))) (List._∷_ (9, Rows'.any-gone Syntax.tyBool) (List._∷_ (10, Rows'.any-gone Cell.held) (List._∷_ (11, Rows'.any-gone (Syntax.tyInt Syntax.w64)) (List._∷_ (12, Rows'.any-gone (Syntax.tyInt Syntax.w64)) (List._∷_ (13, Rows'.any-gone Syntax.tyPtr) List.[])))))))))))))
+t0 = List._∷_ local0 locals5
 
 abbrev pub t1 : List.List Row.Entry
-t1 = List._∷_ (0, Rows'.sc-here Row.sUnit) (List._∷_ (1, Mut.mslice Cell.R (Syntax.tyRef (Syntax.named 0) Syntax.mut Cell.behind) 0) (List._∷_ (2, Rows'.any-gone (Syntax.tyInt Syntax.w64)) (List._∷_ (3, Rows'.sslice (Referent.rtF (Referent.fInt Syntax.w8)) (Syntax.tyRef (Syntax.named 1) Syntax.imm (Syntax.tyInt Syntax.w8)) 1) (List._∷_ (4, Rows'.any-gone (Syntax.tyInt Syntax.w64)) (List._∷_ (5, Rows'.any-gone (Syntax.tyInt Syntax.w64)) (List._∷_ (6, Rows'.any-gone (Syntax.tyInt Syntax.w64)) (List._∷_ (7, Rows'.any-gone (Syntax.tyInt Syntax.w64)) (List._∷_ (8, Rows'.any-gone (Syntax.tyStruct (List._∷_ 122 (List._∷_ 111 (List._∷_ 110 (List._∷_ 101 (List._∷_ 115 (List._∷_ 58 (List._∷_ 58 (List._∷_ 114 (List._∷_ 101 (List._∷_ 99 (List._∷_ 111 (List._∷_ 114 (List._∷_ 100 (List._∷_ 115 (List._∷_ 58 (List._∷_ 58 (List._∷_ 82 (List._∷_ 101 (List._∷_ 99 (List._∷_ 111 (List._∷_ 114 (List._∷_ 100 List.[])))))))))))))))))))))) (Syntax.tcons (Syntax.tyInt Syntax.w32) (Syntax.tcons Syntax.tyBool (Syntax.tcons (Syntax.tyInt Syntax.w64) (Syntax.tcons (Syntax.tyInt Syntax.w64) Syntax.tnil)))))) (List._∷_ (9, Rows'.any-gone Syntax.tyBool) (List._∷_ (10, Rows'.any-gone Cell.held) (List._∷_ (11, Rows'.any-gone (Syntax.tyInt Syntax.w64)) (List._∷_ (12, Rows'.any-gone (Syntax.tyInt Syntax.w64)) (List._∷_ (13, Rows'.any-gone Syntax.tyPtr) List.[])))))))))))))
+t1 = List._∷_ local11 (List._∷_ local1 (List._∷_ (2, Rows'.any-gone ty0) (List._∷_ local3 (List._∷_ (4, Rows'.any-gone ty0) (List._∷_ (5, Rows'.any-gone ty0) locals3)))))
 
 abbrev pub t2 : List.List Row.Entry
-t2 = List._∷_ (0, Rows'.any-gone Syntax.tyUnit) (List._∷_ (1, Mut.mslice Cell.R (Syntax.tyRef (Syntax.named 0) Syntax.mut Cell.behind) 0) (List._∷_ (2, Rows'.sc-here (Row.sInt Syntax.w64)) (List._∷_ (3, Rows'.sslice (Referent.rtF (Referent.fInt Syntax.w8)) (Syntax.tyRef (Syntax.named 1) Syntax.imm (Syntax.tyInt Syntax.w8)) 1) (List._∷_ (4, Rows'.sc-here (Row.sInt Syntax.w64)) (List._∷_ (5, Rows'.sc-here (Row.sInt Syntax.w64)) (List._∷_ (6, Rows'.sc-here (Row.sInt Syntax.w64)) (List._∷_ (7, Rows'.any-gone (Syntax.tyInt Syntax.w64)) (List._∷_ (8, Rows'.any-gone (Syntax.tyStruct (List._∷_ 122 (List._∷_ 111 (List._∷_ 110 (List._∷_ 101 (List._∷_ 115 (List._∷_ 58 (List._∷_ 58 (List._∷_ 114 (List._∷_ 101 (List._∷_ 99 (List._∷_ 111 (List._∷_ 114 (List._∷_ 100 (List._∷_ 115 (List._∷_ 58 (List._∷_ 58 (List._∷_ 82 (List._∷_ 101 (List._∷_ 99 (List._∷_ 111 (List._∷_ 114 (List._∷_ 100 List.[])))))))))))))))))))))) (Syntax.tcons (Syntax.tyInt Syntax.w32) (Syntax.tcons Syntax.tyBool (Syntax.tcons (Syntax.tyInt Syntax.w64) (Syntax.tcons (Syntax.tyInt Syntax.w64) Syntax.tnil)))))) (List._∷_ (9, Rows'.any-gone Syntax.tyBool) (List._∷_ (10, Rows'.any-gone Cell.held) (List._∷_ (11, Rows'.any-gone (Syntax.tyInt Syntax.w64)) (List._∷_ (12, Rows'.any-gone (Syntax.tyInt Syntax.w64)) (List._∷_ (13, Rows'.any-gone Syntax.tyPtr) List.[])))))))))))))
+t2 = List._∷_ local0 (List._∷_ local1 (List._∷_ local2 (List._∷_ local3 (List._∷_ local4 (List._∷_ local5 (List._∷_ local12 (List._∷_ (7, Rows'.any-gone ty0) locals2)))))))
 
 abbrev pub t3 : List.List Row.Entry
-t3 = List._∷_ (0, Rows'.any-gone Syntax.tyUnit) (List._∷_ (1, Mut.mslice Cell.R (Syntax.tyRef (Syntax.named 0) Syntax.mut Cell.behind) 0) (List._∷_ (2, Rows'.sc-here (Row.sInt Syntax.w64)) (List._∷_ (3, Rows'.sslice (Referent.rtF (Referent.fInt Syntax.w8)) (Syntax.tyRef (Syntax.named 1) Syntax.imm (Syntax.tyInt Syntax.w8)) 1) (List._∷_ (4, Rows'.sc-here (Row.sInt Syntax.w64)) (List._∷_ (5, Rows'.sc-here (Row.sInt Syntax.w64)) (List._∷_ (6, Rows'.sc-here (Row.sInt Syntax.w64)) (List._∷_ (7, Rows'.sc-here (Row.sInt Syntax.w64)) (List._∷_ (8, Rows'.any-gone (Syntax.tyStruct (List._∷_ 122 (List._∷_ 111 (List._∷_ 110 (List._∷_ 101 (List._∷_ 115 (List._∷_ 58 (List._∷_ 58 (List._∷_ 114 (List._∷_ 101 (List._∷_ 99 (List._∷_ 111 (List._∷_ 114 (List._∷_ 100 (List._∷_ 115 (List._∷_ 58 (List._∷_ 58 (List._∷_ 82 (List._∷_ 101 (List._∷_ 99 (List._∷_ 111 (List._∷_ 114 (List._∷_ 100 List.[])))))))))))))))))))))) (Syntax.tcons (Syntax.tyInt Syntax.w32) (Syntax.tcons Syntax.tyBool (Syntax.tcons (Syntax.tyInt Syntax.w64) (Syntax.tcons (Syntax.tyInt Syntax.w64) Syntax.tnil)))))) (List._∷_ (9, Rows'.any-gone Syntax.tyBool) (List._∷_ (10, Rows'.any-gone Cell.held) (List._∷_ (11, Rows'.any-gone (Syntax.tyInt Syntax.w64)) (List._∷_ (12, Rows'.any-gone (Syntax.tyInt Syntax.w64)) (List._∷_ (13, Rows'.any-gone Syntax.tyPtr) List.[])))))))))))))
+t3 = List._∷_ local0 locals6
 
 abbrev pub t4 : List.List Row.Entry
-t4 = List._∷_ (0, Rows'.any-gone Syntax.tyUnit) (List._∷_ (1, Mut.mslice Cell.R (Syntax.tyRef (Syntax.named 0) Syntax.mut Cell.behind) 0) (List._∷_ (2, Rows'.sc-here (Row.sInt Syntax.w64)) (List._∷_ (3, Rows'.sslice (Referent.rtF (Referent.fInt Syntax.w8)) (Syntax.tyRef (Syntax.named 1) Syntax.imm (Syntax.tyInt Syntax.w8)) 1) (List._∷_ (4, Rows'.sc-here (Row.sInt Syntax.w64)) (List._∷_ (5, Rows'.sc-here (Row.sInt Syntax.w64)) (List._∷_ (6, Rows'.sc-here (Row.sInt Syntax.w64)) (List._∷_ (7, Rows'.sc-here (Row.sInt Syntax.w64)) (List._∷_ (8, Rows'.any-gone (Syntax.tyStruct (List._∷_ 122 (List._∷_ 111 (List._∷_ 110 (List._∷_ 101 (List._∷_ 115 (List._∷_ 58 (List._∷_ 58 (List._∷_ 114 (List._∷_ 101 (List._∷_ 99 (List._∷_ 111 (List._∷_ 114 (List._∷_ 100 (List._∷_ 115 (List._∷_ 58 (List._∷_ 58 (List._∷_ 82 (List._∷_ 101 (List._∷_ 99 (List._∷_ 111 (List._∷_ 114 (List._∷_ 100 List.[])))))))))))))))))))))) (Syntax.tcons (Syntax.tyInt Syntax.w32) (Syntax.tcons Syntax.tyBool (Syntax.tcons (Syntax.tyInt Syntax.w64) (Syntax.tcons (Syntax.tyInt Syntax.w64) Syntax.tnil)))))) (List._∷_ (9, Rows'.sc-here Row.sBool) (List._∷_ (10, Rows'.any-gone Cell.held) (List._∷_ (11, Rows'.any-gone (Syntax.tyInt Syntax.w64)) (List._∷_ (12, Rows'.any-gone (Syntax.tyInt Syntax.w64)) (List._∷_ (13, Rows'.any-gone Syntax.tyPtr) List.[])))))))))))))
+t4 = List._∷_ local0 (List._∷_ local1 (List._∷_ local2 (List._∷_ local3 (List._∷_ local4 (List._∷_ local5 (List._∷_ local12 (List._∷_ local13 (List._∷_ (8, Rows'.any-gone ty1) (List._∷_ (9, Rows'.sc-here Row.sBool) locals1)))))))))
 
 abbrev pub t5 : List.List Row.Entry
-t5 = List._∷_ (0, Rows'.any-gone Syntax.tyUnit) (List._∷_ (1, Mut.mslice Cell.R (Syntax.tyRef (Syntax.named 0) Syntax.mut Cell.behind) 0) (List._∷_ (2, Rows'.sc-here (Row.sInt Syntax.w64)) (List._∷_ (3, Rows'.sslice (Referent.rtF (Referent.fInt Syntax.w8)) (Syntax.tyRef (Syntax.named 1) Syntax.imm (Syntax.tyInt Syntax.w8)) 1) (List._∷_ (4, Rows'.sc-here (Row.sInt Syntax.w64)) (List._∷_ (5, Rows'.sc-here (Row.sInt Syntax.w64)) (List._∷_ (6, Rows'.sc-here (Row.sInt Syntax.w64)) (List._∷_ (7, Rows'.sc-here (Row.sInt Syntax.w64)) (List._∷_ (8, Rows'.whole (Declared.row Record.the-type)) (List._∷_ (9, Rows'.any-gone Syntax.tyBool) (List._∷_ (10, Rows'.any-gone Cell.held) (List._∷_ (11, Rows'.any-gone (Syntax.tyInt Syntax.w64)) (List._∷_ (12, Rows'.any-gone (Syntax.tyInt Syntax.w64)) (List._∷_ (13, Rows'.any-gone Syntax.tyPtr) List.[])))))))))))))
+t5 = List._∷_ local0 (List._∷_ local1 (List._∷_ local2 (List._∷_ local3 (List._∷_ local4 (List._∷_ local5 (List._∷_ local12 locals7))))))
 
 abbrev pub t6 : List.List Row.Entry
-t6 = List._∷_ (0, Rows'.any-gone Syntax.tyUnit) (List._∷_ (1, Mut.mslice Cell.R (Syntax.tyRef (Syntax.named 0) Syntax.mut Cell.behind) 0) (List._∷_ (2, Rows'.sc-here (Row.sInt Syntax.w64)) (List._∷_ (3, Rows'.sslice (Referent.rtF (Referent.fInt Syntax.w8)) (Syntax.tyRef (Syntax.named 1) Syntax.imm (Syntax.tyInt Syntax.w8)) 1) (List._∷_ (4, Rows'.sc-here (Row.sInt Syntax.w64)) (List._∷_ (5, Rows'.sc-here (Row.sInt Syntax.w64)) (List._∷_ (6, Rows'.any-gone (Syntax.tyInt Syntax.w64)) (List._∷_ (7, Rows'.sc-here (Row.sInt Syntax.w64)) (List._∷_ (8, Rows'.whole (Declared.row Record.the-type)) (List._∷_ (9, Rows'.any-gone Syntax.tyBool) (List._∷_ (10, Rows'.any-gone Cell.held) (List._∷_ (11, Rows'.any-gone (Syntax.tyInt Syntax.w64)) (List._∷_ (12, Rows'.any-gone (Syntax.tyInt Syntax.w64)) (List._∷_ (13, Rows'.any-gone Syntax.tyPtr) List.[])))))))))))))
+t6 = List._∷_ local0 (List._∷_ local1 (List._∷_ local2 (List._∷_ local3 (List._∷_ local4 (List._∷_ local5 (List._∷_ local6 locals7))))))
 
 abbrev pub t7 : List.List Row.Entry
-t7 = List._∷_ (0, Rows'.any-gone Syntax.tyUnit) (List._∷_ (1, Mut.mslice Cell.R (Syntax.tyRef (Syntax.named 0) Syntax.mut Cell.behind) 0) (List._∷_ (2, Rows'.sc-here (Row.sInt Syntax.w64)) (List._∷_ (3, Rows'.sslice (Referent.rtF (Referent.fInt Syntax.w8)) (Syntax.tyRef (Syntax.named 1) Syntax.imm (Syntax.tyInt Syntax.w8)) 1) (List._∷_ (4, Rows'.sc-here (Row.sInt Syntax.w64)) (List._∷_ (5, Rows'.sc-here (Row.sInt Syntax.w64)) (List._∷_ (6, Rows'.any-gone (Syntax.tyInt Syntax.w64)) (List._∷_ (7, Rows'.sc-here (Row.sInt Syntax.w64)) (List._∷_ (8, Rows'.whole (Declared.row Record.the-type)) (List._∷_ (9, Rows'.any-gone Syntax.tyBool) (List._∷_ (10, Cell.row) (List._∷_ (11, Rows'.any-gone (Syntax.tyInt Syntax.w64)) (List._∷_ (12, Rows'.any-gone (Syntax.tyInt Syntax.w64)) (List._∷_ (13, Rows'.any-gone Syntax.tyPtr) List.[])))))))))))))
+t7 = List._∷_ local0 (List._∷_ local1 (List._∷_ local2 (List._∷_ local3 (List._∷_ local4 (List._∷_ local5 (List._∷_ local6 (List._∷_ local13 (List._∷_ local14 (List._∷_ local7 (List._∷_ (10, Cell.row) (List._∷_ local9 (List._∷_ local10 locals0))))))))))))
 
 abbrev pub t8 : List.List Row.Entry
-t8 = List._∷_ (0, Rows'.any-gone Syntax.tyUnit) (List._∷_ (1, Mut.mslice Cell.R (Syntax.tyRef (Syntax.named 0) Syntax.mut Cell.behind) 0) (List._∷_ (2, Rows'.sc-here (Row.sInt Syntax.w64)) (List._∷_ (3, Rows'.sslice (Referent.rtF (Referent.fInt Syntax.w8)) (Syntax.tyRef (Syntax.named 1) Syntax.imm (Syntax.tyInt Syntax.w8)) 1) (List._∷_ (4, Rows'.sc-here (Row.sInt Syntax.w64)) (List._∷_ (5, Rows'.sc-here (Row.sInt Syntax.w64)) (List._∷_ (6, Rows'.any-gone (Syntax.tyInt Syntax.w64)) (List._∷_ (7, Rows'.sc-here (Row.sInt Syntax.w64)) (List._∷_ (8, Rows'.whole (Declared.row Record.the-type)) (List._∷_ (9, Rows'.any-gone Syntax.tyBool) (List._∷_ (10, Cell.row) (List._∷_ (11, Rows'.sc-here (Row.sInt Syntax.w64)) (List._∷_ (12, Rows'.any-gone (Syntax.tyInt Syntax.w64)) (List._∷_ (13, Rows'.any-gone Syntax.tyPtr) List.[])))))))))))))
+t8 = List._∷_ local0 (List._∷_ local1 (List._∷_ local2 (List._∷_ local3 (List._∷_ local4 (List._∷_ local5 (List._∷_ local6 (List._∷_ local13 (List._∷_ local14 (List._∷_ local7 (List._∷_ (10, Cell.row) (List._∷_ local15 (List._∷_ local10 locals0))))))))))))
 
 abbrev pub t9 : List.List Row.Entry
-t9 = List._∷_ (0, Rows'.any-gone Syntax.tyUnit) (List._∷_ (1, Mut.mslice Cell.R (Syntax.tyRef (Syntax.named 0) Syntax.mut Cell.behind) 0) (List._∷_ (2, Rows'.sc-here (Row.sInt Syntax.w64)) (List._∷_ (3, Rows'.sslice (Referent.rtF (Referent.fInt Syntax.w8)) (Syntax.tyRef (Syntax.named 1) Syntax.imm (Syntax.tyInt Syntax.w8)) 1) (List._∷_ (4, Rows'.sc-here (Row.sInt Syntax.w64)) (List._∷_ (5, Rows'.sc-here (Row.sInt Syntax.w64)) (List._∷_ (6, Rows'.any-gone (Syntax.tyInt Syntax.w64)) (List._∷_ (7, Rows'.sc-here (Row.sInt Syntax.w64)) (List._∷_ (8, Rows'.whole (Declared.row Record.the-type)) (List._∷_ (9, Rows'.any-gone Syntax.tyBool) (List._∷_ (10, Cell.row) (List._∷_ (11, Rows'.sc-here (Row.sInt Syntax.w64)) (List._∷_ (12, Rows'.sc-here (Row.sInt Syntax.w64)) (List._∷_ (13, Rows'.any-gone Syntax.tyPtr) List.[])))))))))))))
+t9 = List._∷_ local0 (List._∷_ local1 (List._∷_ local2 (List._∷_ local3 (List._∷_ local4 (List._∷_ local5 (List._∷_ local6 (List._∷_ local13 (List._∷_ local14 (List._∷_ local7 (List._∷_ (10, Cell.row) (List._∷_ local15 (List._∷_ local16 locals0))))))))))))
 
 abbrev pub t10 : List.List Row.Entry
-t10 = List._∷_ (0, Rows'.any-gone Syntax.tyUnit) (List._∷_ (1, Mut.mslice Cell.R (Syntax.tyRef (Syntax.named 0) Syntax.mut Cell.behind) 0) (List._∷_ (2, Rows'.sc-here (Row.sInt Syntax.w64)) (List._∷_ (3, Rows'.sslice (Referent.rtF (Referent.fInt Syntax.w8)) (Syntax.tyRef (Syntax.named 1) Syntax.imm (Syntax.tyInt Syntax.w8)) 1) (List._∷_ (4, Rows'.sc-here (Row.sInt Syntax.w64)) (List._∷_ (5, Rows'.sc-here (Row.sInt Syntax.w64)) (List._∷_ (6, Rows'.any-gone (Syntax.tyInt Syntax.w64)) (List._∷_ (7, Rows'.sc-here (Row.sInt Syntax.w64)) (List._∷_ (8, Rows'.whole (Declared.row Record.the-type)) (List._∷_ (9, Rows'.any-gone Syntax.tyBool) (List._∷_ (10, Cell.row) (List._∷_ (11, Rows'.sc-here (Row.sInt Syntax.w64)) (List._∷_ (12, Rows'.sc-here (Row.sInt Syntax.w64)) (List._∷_ (13, Rows'.sc-here Row.sPtr) List.[])))))))))))))
+t10 = List._∷_ local0 (List._∷_ local1 (List._∷_ local2 (List._∷_ local3 (List._∷_ local4 (List._∷_ local5 (List._∷_ local6 (List._∷_ local13 (List._∷_ local14 (List._∷_ local7 (List._∷_ (10, Cell.row) (List._∷_ local15 (List._∷_ local16 locals8))))))))))))
 
 abbrev pub t11 : List.List Row.Entry
-t11 = List._∷_ (0, Rows'.any-gone Syntax.tyUnit) (List._∷_ (1, Mut.mslice Cell.R (Syntax.tyRef (Syntax.named 0) Syntax.mut Cell.behind) 0) (List._∷_ (2, Rows'.sc-here (Row.sInt Syntax.w64)) (List._∷_ (3, Rows'.sslice (Referent.rtF (Referent.fInt Syntax.w8)) (Syntax.tyRef (Syntax.named 1) Syntax.imm (Syntax.tyInt Syntax.w8)) 1) (List._∷_ (4, Rows'.sc-here (Row.sInt Syntax.w64)) (List._∷_ (5, Rows'.sc-here (Row.sInt Syntax.w64)) (List._∷_ (6, Rows'.any-gone (Syntax.tyInt Syntax.w64)) (List._∷_ (7, Rows'.sc-here (Row.sInt Syntax.w64)) (List._∷_ (8, Rows'.whole (Declared.row Record.the-type)) (List._∷_ (9, Rows'.any-gone Syntax.tyBool) (List._∷_ (10, Rows'.any-gone Cell.held) (List._∷_ (11, Rows'.sc-here (Row.sInt Syntax.w64)) (List._∷_ (12, Rows'.sc-here (Row.sInt Syntax.w64)) (List._∷_ (13, Rows'.sc-here Row.sPtr) List.[])))))))))))))
+t11 = List._∷_ local0 (List._∷_ local1 (List._∷_ local2 (List._∷_ local3 (List._∷_ local4 (List._∷_ local5 (List._∷_ local6 (List._∷_ local13 (List._∷_ local14 (List._∷_ local7 (List._∷_ local8 (List._∷_ local15 (List._∷_ local16 locals8))))))))))))
 
 abbrev pub t12 : List.List Row.Entry
-t12 = List._∷_ (0, Rows'.any-gone Syntax.tyUnit) (List._∷_ (1, Mut.mslice Cell.R (Syntax.tyRef (Syntax.named 0) Syntax.mut Cell.behind) 0) (List._∷_ (2, Rows'.sc-here (Row.sInt Syntax.w64)) (List._∷_ (3, Rows'.sslice (Referent.rtF (Referent.fInt Syntax.w8)) (Syntax.tyRef (Syntax.named 1) Syntax.imm (Syntax.tyInt Syntax.w8)) 1) (List._∷_ (4, Rows'.sc-here (Row.sInt Syntax.w64)) (List._∷_ (5, Rows'.sc-here (Row.sInt Syntax.w64)) (List._∷_ (6, Rows'.any-gone (Syntax.tyInt Syntax.w64)) (List._∷_ (7, Rows'.sc-here (Row.sInt Syntax.w64)) (List._∷_ (8, Rows'.whole (Declared.row Record.the-type)) (List._∷_ (9, Rows'.any-gone Syntax.tyBool) (List._∷_ (10, Rows'.any-gone Cell.held) (List._∷_ (11, Rows'.any-gone (Syntax.tyInt Syntax.w64)) (List._∷_ (12, Rows'.sc-here (Row.sInt Syntax.w64)) (List._∷_ (13, Rows'.sc-here Row.sPtr) List.[])))))))))))))
+t12 = List._∷_ local0 (List._∷_ local1 (List._∷_ local2 (List._∷_ local3 (List._∷_ local4 (List._∷_ local5 (List._∷_ local6 (List._∷_ local13 (List._∷_ local14 (List._∷_ local7 (List._∷_ local8 (List._∷_ local9 (List._∷_ local16 locals8))))))))))))
 
 abbrev pub t13 : List.List Row.Entry
-t13 = List._∷_ (0, Rows'.any-gone Syntax.tyUnit) (List._∷_ (1, Mut.mslice Cell.R (Syntax.tyRef (Syntax.named 0) Syntax.mut Cell.behind) 0) (List._∷_ (2, Rows'.sc-here (Row.sInt Syntax.w64)) (List._∷_ (3, Rows'.sslice (Referent.rtF (Referent.fInt Syntax.w8)) (Syntax.tyRef (Syntax.named 1) Syntax.imm (Syntax.tyInt Syntax.w8)) 1) (List._∷_ (4, Rows'.sc-here (Row.sInt Syntax.w64)) (List._∷_ (5, Rows'.sc-here (Row.sInt Syntax.w64)) (List._∷_ (6, Rows'.any-gone (Syntax.tyInt Syntax.w64)) (List._∷_ (7, Rows'.sc-here (Row.sInt Syntax.w64)) (List._∷_ (8, Rows'.whole (Declared.row Record.the-type)) (List._∷_ (9, Rows'.any-gone Syntax.tyBool) (List._∷_ (10, Rows'.any-gone Cell.held) (List._∷_ (11, Rows'.any-gone (Syntax.tyInt Syntax.w64)) (List._∷_ (12, Rows'.any-gone (Syntax.tyInt Syntax.w64)) (List._∷_ (13, Rows'.sc-here Row.sPtr) List.[])))))))))))))
+t13 = List._∷_ local0 (List._∷_ local1 (List._∷_ local2 (List._∷_ local3 (List._∷_ local4 (List._∷_ local5 (List._∷_ local6 (List._∷_ local13 (List._∷_ local14 (List._∷_ local7 (List._∷_ local8 (List._∷_ local9 (List._∷_ local10 locals8))))))))))))
 
 abbrev pub t14 : List.List Row.Entry
-t14 = List._∷_ (0, Rows'.sc-here Row.sUnit) (List._∷_ (1, Mut.mslice Cell.R (Syntax.tyRef (Syntax.named 0) Syntax.mut Cell.behind) 0) (List._∷_ (2, Rows'.sc-here (Row.sInt Syntax.w64)) (List._∷_ (3, Rows'.sslice (Referent.rtF (Referent.fInt Syntax.w8)) (Syntax.tyRef (Syntax.named 1) Syntax.imm (Syntax.tyInt Syntax.w8)) 1) (List._∷_ (4, Rows'.sc-here (Row.sInt Syntax.w64)) (List._∷_ (5, Rows'.sc-here (Row.sInt Syntax.w64)) (List._∷_ (6, Rows'.sc-here (Row.sInt Syntax.w64)) (List._∷_ (7, Rows'.sc-here (Row.sInt Syntax.w64)) (List._∷_ (8, Rows'.any-gone (Syntax.tyStruct (List._∷_ 122 (List._∷_ 111 (List._∷_ 110 (List._∷_ 101 (List._∷_ 115 (List._∷_ 58 (List._∷_ 58 (List._∷_ 114 (List._∷_ 101 (List._∷_ 99 (List._∷_ 111 (List._∷_ 114 (List._∷_ 100 (List._∷_ 115 (List._∷_ 58 (List._∷_ 58 (List._∷_ 82 (List._∷_ 101 (List._∷_ 99 (List._∷_ 111 (List._∷_ 114 (List._∷_ 100 List.[])))))))))))))))))))))) (Syntax.tcons (Syntax.tyInt Syntax.w32) (Syntax.tcons Syntax.tyBool (Syntax.tcons (Syntax.tyInt Syntax.w64) (Syntax.tcons (Syntax.tyInt Syntax.w64) Syntax.tnil)))))) (List._∷_ (9, Rows'.any-gone Syntax.tyBool) (List._∷_ (10, Rows'.any-gone Cell.held) (List._∷_ (11, Rows'.any-gone (Syntax.tyInt Syntax.w64)) (List._∷_ (12, Rows'.any-gone (Syntax.tyInt Syntax.w64)) (List._∷_ (13, Rows'.any-gone Syntax.tyPtr) List.[])))))))))))))
+t14 = List._∷_ local11 locals6
 
 abbrev pub t15 : List.List Row.Entry
-t15 = List._∷_ (0, Rows'.sc-here Row.sUnit) (List._∷_ (1, Mut.mslice Cell.R (Syntax.tyRef (Syntax.named 0) Syntax.mut Cell.behind) 0) (List._∷_ (2, Rows'.sc-here (Row.sInt Syntax.w64)) (List._∷_ (3, Rows'.sslice (Referent.rtF (Referent.fInt Syntax.w8)) (Syntax.tyRef (Syntax.named 1) Syntax.imm (Syntax.tyInt Syntax.w8)) 1) (List._∷_ (4, Rows'.sc-here (Row.sInt Syntax.w64)) (List._∷_ (5, Rows'.sc-here (Row.sInt Syntax.w64)) (List._∷_ (6, Rows'.any-gone (Syntax.tyInt Syntax.w64)) (List._∷_ (7, Rows'.sc-here (Row.sInt Syntax.w64)) (List._∷_ (8, Rows'.any-gone (Syntax.tyStruct (List._∷_ 122 (List._∷_ 111 (List._∷_ 110 (List._∷_ 101 (List._∷_ 115 (List._∷_ 58 (List._∷_ 58 (List._∷_ 114 (List._∷_ 101 (List._∷_ 99 (List._∷_ 111 (List._∷_ 114 (List._∷_ 100 (List._∷_ 115 (List._∷_ 58 (List._∷_ 58 (List._∷_ 82 (List._∷_ 101 (List._∷_ 99 (List._∷_ 111 (List._∷_ 114 (List._∷_ 100 List.[])))))))))))))))))))))) (Syntax.tcons (Syntax.tyInt Syntax.w32) (Syntax.tcons Syntax.tyBool (Syntax.tcons (Syntax.tyInt Syntax.w64) (Syntax.tcons (Syntax.tyInt Syntax.w64) Syntax.tnil)))))) (List._∷_ (9, Rows'.any-gone Syntax.tyBool) (List._∷_ (10, Rows'.any-gone Cell.held) (List._∷_ (11, Rows'.any-gone (Syntax.tyInt Syntax.w64)) (List._∷_ (12, Rows'.any-gone (Syntax.tyInt Syntax.w64)) (List._∷_ (13, Rows'.any-gone Syntax.tyPtr) List.[])))))))))))))
+t15 = List._∷_ local11 (List._∷_ local1 (List._∷_ local2 (List._∷_ local3 (List._∷_ local4 (List._∷_ local5 (List._∷_ local6 (List._∷_ local13 locals2)))))))
 
 abbrev pub t16 : List.List Row.Entry
-t16 = List._∷_ (0, Rows'.sc-here Row.sUnit) (List._∷_ (1, Mut.mslice Cell.R (Syntax.tyRef (Syntax.named 0) Syntax.mut Cell.behind) 0) (List._∷_ (2, Rows'.sc-here (Row.sInt Syntax.w64)) (List._∷_ (3, Rows'.sslice (Referent.rtF (Referent.fInt Syntax.w8)) (Syntax.tyRef (Syntax.named 1) Syntax.imm (Syntax.tyInt Syntax.w8)) 1) (List._∷_ (4, Rows'.sc-here (Row.sInt Syntax.w64)) (List._∷_ (5, Rows'.sc-here (Row.sInt Syntax.w64)) (List._∷_ (6, Rows'.any-gone (Syntax.tyInt Syntax.w64)) (List._∷_ (7, Rows'.any-gone (Syntax.tyInt Syntax.w64)) (List._∷_ (8, Rows'.any-gone (Syntax.tyStruct (List._∷_ 122 (List._∷_ 111 (List._∷_ 110 (List._∷_ 101 (List._∷_ 115 (List._∷_ 58 (List._∷_ 58 (List._∷_ 114 (List._∷_ 101 (List._∷_ 99 (List._∷_ 111 (List._∷_ 114 (List._∷_ 100 (List._∷_ 115 (List._∷_ 58 (List._∷_ 58 (List._∷_ 82 (List._∷_ 101 (List._∷_ 99 (List._∷_ 111 (List._∷_ 114 (List._∷_ 100 List.[])))))))))))))))))))))) (Syntax.tcons (Syntax.tyInt Syntax.w32) (Syntax.tcons Syntax.tyBool (Syntax.tcons (Syntax.tyInt Syntax.w64) (Syntax.tcons (Syntax.tyInt Syntax.w64) Syntax.tnil)))))) (List._∷_ (9, Rows'.any-gone Syntax.tyBool) (List._∷_ (10, Rows'.any-gone Cell.held) (List._∷_ (11, Rows'.any-gone (Syntax.tyInt Syntax.w64)) (List._∷_ (12, Rows'.any-gone (Syntax.tyInt Syntax.w64)) (List._∷_ (13, Rows'.any-gone Syntax.tyPtr) List.[])))))))))))))
+t16 = List._∷_ local11 locals5
 
 abbrev pub t17 : List.List Row.Entry
-t17 = List._∷_ (0, Rows'.sc-here Row.sUnit) (List._∷_ (1, Mut.mslice Cell.R (Syntax.tyRef (Syntax.named 0) Syntax.mut Cell.behind) 0) (List._∷_ (2, Rows'.any-gone (Syntax.tyInt Syntax.w64)) (List._∷_ (3, Rows'.sslice (Referent.rtF (Referent.fInt Syntax.w8)) (Syntax.tyRef (Syntax.named 1) Syntax.imm (Syntax.tyInt Syntax.w8)) 1) (List._∷_ (4, Rows'.sc-here (Row.sInt Syntax.w64)) (List._∷_ (5, Rows'.sc-here (Row.sInt Syntax.w64)) (List._∷_ (6, Rows'.any-gone (Syntax.tyInt Syntax.w64)) (List._∷_ (7, Rows'.any-gone (Syntax.tyInt Syntax.w64)) (List._∷_ (8, Rows'.any-gone (Syntax.tyStruct (List._∷_ 122 (List._∷_ 111 (List._∷_ 110 (List._∷_ 101 (List._∷_ 115 (List._∷_ 58 (List._∷_ 58 (List._∷_ 114 (List._∷_ 101 (List._∷_ 99 (List._∷_ 111 (List._∷_ 114 (List._∷_ 100 (List._∷_ 115 (List._∷_ 58 (List._∷_ 58 (List._∷_ 82 (List._∷_ 101 (List._∷_ 99 (List._∷_ 111 (List._∷_ 114 (List._∷_ 100 List.[])))))))))))))))))))))) (Syntax.tcons (Syntax.tyInt Syntax.w32) (Syntax.tcons Syntax.tyBool (Syntax.tcons (Syntax.tyInt Syntax.w64) (Syntax.tcons (Syntax.tyInt Syntax.w64) Syntax.tnil)))))) (List._∷_ (9, Rows'.any-gone Syntax.tyBool) (List._∷_ (10, Rows'.any-gone Cell.held) (List._∷_ (11, Rows'.any-gone (Syntax.tyInt Syntax.w64)) (List._∷_ (12, Rows'.any-gone (Syntax.tyInt Syntax.w64)) (List._∷_ (13, Rows'.any-gone Syntax.tyPtr) List.[])))))))))))))
+t17 = List._∷_ local11 (List._∷_ local1 (List._∷_ (2, Rows'.any-gone ty0) locals4))
 
 abbrev pub t18 : List.List Row.Entry
-t18 = List._∷_ (0, Rows'.sc-here Row.sUnit) (List._∷_ (1, Mut.mslice Cell.R (Syntax.tyRef (Syntax.named 0) Syntax.mut Cell.behind) 0) (List._∷_ (2, Rows'.any-gone (Syntax.tyInt Syntax.w64)) (List._∷_ (3, Rows'.sslice (Referent.rtF (Referent.fInt Syntax.w8)) (Syntax.tyRef (Syntax.named 1) Syntax.imm (Syntax.tyInt Syntax.w8)) 1) (List._∷_ (4, Rows'.any-gone (Syntax.tyInt Syntax.w64)) (List._∷_ (5, Rows'.sc-here (Row.sInt Syntax.w64)) (List._∷_ (6, Rows'.any-gone (Syntax.tyInt Syntax.w64)) (List._∷_ (7, Rows'.any-gone (Syntax.tyInt Syntax.w64)) (List._∷_ (8, Rows'.any-gone (Syntax.tyStruct (List._∷_ 122 (List._∷_ 111 (List._∷_ 110 (List._∷_ 101 (List._∷_ 115 (List._∷_ 58 (List._∷_ 58 (List._∷_ 114 (List._∷_ 101 (List._∷_ 99 (List._∷_ 111 (List._∷_ 114 (List._∷_ 100 (List._∷_ 115 (List._∷_ 58 (List._∷_ 58 (List._∷_ 82 (List._∷_ 101 (List._∷_ 99 (List._∷_ 111 (List._∷_ 114 (List._∷_ 100 List.[])))))))))))))))))))))) (Syntax.tcons (Syntax.tyInt Syntax.w32) (Syntax.tcons Syntax.tyBool (Syntax.tcons (Syntax.tyInt Syntax.w64) (Syntax.tcons (Syntax.tyInt Syntax.w64) Syntax.tnil)))))) (List._∷_ (9, Rows'.any-gone Syntax.tyBool) (List._∷_ (10, Rows'.any-gone Cell.held) (List._∷_ (11, Rows'.any-gone (Syntax.tyInt Syntax.w64)) (List._∷_ (12, Rows'.any-gone (Syntax.tyInt Syntax.w64)) (List._∷_ (13, Rows'.any-gone Syntax.tyPtr) List.[])))))))))))))
+t18 = List._∷_ local11 (List._∷_ local1 (List._∷_ (2, Rows'.any-gone ty0) (List._∷_ local3 (List._∷_ (4, Rows'.any-gone ty0) (List._∷_ local5 locals3)))))
 
 abbrev pub T0 : Row.Cx
 T0 = record { locals = t0; slots = List.[] }
@@ -344,23 +459,23 @@ abbrev pub O4 : Typed.Outs
 O4 = Typed.withNext (Option.some T7) O3
 
 abbrev pub InvT-loop : Type 1
-InvT-loop = List.List (Cell.R .Denot) → Rows'.sc-here (Row.sInt Syntax.w64) .Mod → List.List (Referent.rtF (Referent.fInt Syntax.w8) .Denot) → Rows'.sc-here (Row.sInt Syntax.w64) .Mod → Rows'.sc-here (Row.sInt Syntax.w64) .Mod → Rows'.sc-here (Row.sInt Syntax.w64) .Mod → Rows'.sc-here (Row.sInt Syntax.w64) .Mod → List.List (Cell.R .Denot) → Rows'.sc-here (Row.sInt Syntax.w64) .Mod → Rows'.sc-here (Row.sInt Syntax.w64) .Mod → Type 0
+InvT-loop = List.List (Cell.R .Denot) → Rows'.sc-here sc0 .Mod → List.List (Referent.rtF rf0 .Denot) → Rows'.sc-here sc0 .Mod → Rows'.sc-here sc0 .Mod → Rows'.sc-here sc0 .Mod → Rows'.sc-here sc0 .Mod → List.List (Cell.R .Denot) → Rows'.sc-here sc0 .Mod → Rows'.sc-here sc0 .Mod → Type 0
 
 abbrev pub MeasureT-loop : Type 0
-MeasureT-loop = List.List (Cell.R .Denot) → Rows'.sc-here (Row.sInt Syntax.w64) .Mod → List.List (Referent.rtF (Referent.fInt Syntax.w8) .Denot) → Rows'.sc-here (Row.sInt Syntax.w64) .Mod → Rows'.sc-here (Row.sInt Syntax.w64) .Mod → Rows'.sc-here (Row.sInt Syntax.w64) .Mod → Rows'.sc-here (Row.sInt Syntax.w64) .Mod → List.List (Cell.R .Denot) → Rows'.sc-here (Row.sInt Syntax.w64) .Mod → Rows'.sc-here (Row.sInt Syntax.w64) .Mod → Nat.ℕ
+MeasureT-loop = List.List (Cell.R .Denot) → Rows'.sc-here sc0 .Mod → List.List (Referent.rtF rf0 .Denot) → Rows'.sc-here sc0 .Mod → Rows'.sc-here sc0 .Mod → Rows'.sc-here sc0 .Mod → Rows'.sc-here sc0 .Mod → List.List (Cell.R .Denot) → Rows'.sc-here sc0 .Mod → Rows'.sc-here sc0 .Mod → Nat.ℕ
 
 module _ (claims· : Claims) where
   abbrev s0 : Typed.Gives T0 T2
-  s0 = Know.k-shs-known (Referent.fInt Syntax.w8) T0 3 1 (Syntax.tyRef (Syntax.named 1) Syntax.imm (Syntax.tyInt Syntax.w8)) Row.off 0 λ x. x
+  s0 = Know.k-shs-known rf0 T0 3 1 ty4 Row.off 0 λ x. x
 
   abbrev s1 : Typed.Mo T2 → Typed.Mo T3
-  s1 = Scalar.n-use T2 (Scalar.oAt 4 (Syntax.tyInt Syntax.w64) (Row.valS (Row.sInt Syntax.w64))) 6 (Rows'.sc-here (Row.sInt Syntax.w64)) (Row.sInt Syntax.w64 .of)
+  s1 = Scalar.n-use T2 (Scalar.oAt 4 ty0 (Row.valS sc0)) 6 (Rows'.sc-here sc0) (Row.sInt Syntax.w64 .of)
 
   abbrev s2 : Typed.Mo T3 → Typed.Mo T4
-  s2 = Scalar.n-use T3 (Scalar.oInt Syntax.w64 0) 7 (Rows'.sc-here (Row.sInt Syntax.w64)) (Row.sInt Syntax.w64 .of)
+  s2 = Scalar.n-use T3 (Scalar.oInt Syntax.w64 0) 7 (Rows'.sc-here sc0) (Row.sInt Syntax.w64 .of)
 
   abbrev s3 : Typed.Asks T4 T6
-  s3 = Scalar.k-op2 T4 (Syntax.lt Syntax.unsigned) (Scalar.oAt 7 (Syntax.tyInt Syntax.w64) (Row.valS (Row.sInt Syntax.w64))) (Scalar.oAt 5 (Syntax.tyInt Syntax.w64) (Row.valS (Row.sInt Syntax.w64))) 9 (Rows'.sc-here Row.sBool) (Row.sBool .of)
+  s3 = Scalar.k-op2 T4 (Syntax.lt Syntax.unsigned) (Scalar.oAt 7 ty0 (Row.valS sc0)) (Scalar.oAt 5 ty0 (Row.valS sc0)) 9 (Rows'.sc-here Row.sBool) (Row.sBool .of)
 
   abbrev s4 : Typed.Mo T6 → Typed.Mo T8
   s4 = Scalar.n-room T6 9 Syntax.tyBool
@@ -369,67 +484,67 @@ module _ (claims· : Claims) where
   s5 = Scalar.n-room T6 9 Syntax.tyBool
 
   abbrev s6 : Typed.Both T7 T10
-  s6 = Call.callB ps·0 r·0 (claims· .0) (claims· .1) T7 (record { pos = 3; ty = Syntax.tyRef (Syntax.named 1) Syntax.imm (Syntax.tyInt Syntax.w8); ref = λ x. x }, (Num.vAt 6 λ x. x, tt)) 8 (List._∷_ 1 List.[]) (Syntax.tyStruct (List._∷_ 122 (List._∷_ 111 (List._∷_ 110 (List._∷_ 101 (List._∷_ 115 (List._∷_ 58 (List._∷_ 58 (List._∷_ 114 (List._∷_ 101 (List._∷_ 99 (List._∷_ 111 (List._∷_ 114 (List._∷_ 100 (List._∷_ 115 (List._∷_ 58 (List._∷_ 58 (List._∷_ 82 (List._∷_ 101 (List._∷_ 99 (List._∷_ 111 (List._∷_ 114 (List._∷_ 100 List.[])))))))))))))))))))))) (Syntax.tcons (Syntax.tyInt Syntax.w32) (Syntax.tcons Syntax.tyBool (Syntax.tcons (Syntax.tyInt Syntax.w64) (Syntax.tcons (Syntax.tyInt Syntax.w64) Syntax.tnil)))))
+  s6 = Call.callB ps·0 r·0 (claims· .0) (claims· .1) T7 (record { pos = 3; ty = Syntax.tyRef (Syntax.named 1) Syntax.imm ty3; ref = λ x. x }, (Num.vAt 6 λ x. x, tt)) 8 (List._∷_ 1 List.[]) ty1
 
   abbrev s7 : Typed.Mo T10 → Typed.Mo T11
-  s7 = Scalar.n-room T10 6 (Syntax.tyInt Syntax.w64)
+  s7 = Scalar.n-room T10 6 ty0
 
   abbrev s8 : Typed.Both T11 T12
   s8 = Call.callB ps·1 r·1 (claims· .2) (claims· .3) T11 (record { pos = 8; st = List.[]; d = 0; at = λ x. x }, tt) 10 List.[] Cell.held
 
   abbrev s9 : Typed.Asks T12 T13
-  s9 = Scalar.k-op2 T12 (Syntax.add Syntax.unsigned) (Scalar.oAt 2 (Syntax.tyInt Syntax.w64) (Row.valS (Row.sInt Syntax.w64))) (Scalar.oAt 7 (Syntax.tyInt Syntax.w64) (Row.valS (Row.sInt Syntax.w64))) 11 (Rows'.sc-here (Row.sInt Syntax.w64)) (Row.sInt Syntax.w64 .of)
+  s9 = Scalar.k-op2 T12 (Syntax.add Syntax.unsigned) (Scalar.oAt 2 ty0 (Row.valS sc0)) (Scalar.oAt 7 ty0 (Row.valS sc0)) 11 (Rows'.sc-here sc0) (Row.sInt Syntax.w64 .of)
 
   abbrev s10 : Typed.Asks T13 T14
-  s10 = Scalar.k-op2 T13 (Syntax.mul Syntax.unsigned) (Scalar.oAt 11 (Syntax.tyInt Syntax.w64) (Row.valS (Row.sInt Syntax.w64))) (Scalar.oInt Syntax.w64 24) 12 (Rows'.sc-here (Row.sInt Syntax.w64)) (Row.sInt Syntax.w64 .of)
+  s10 = Scalar.k-op2 T13 (Syntax.mul Syntax.unsigned) (Scalar.oAt 11 ty0 (Row.valS sc0)) (Scalar.oInt Syntax.w64 24) 12 (Rows'.sc-here sc0) (Row.sInt Syntax.w64 .of)
 
   abbrev s11 : Typed.Asks T14 T15
-  s11 = Scalar.k-op2 T14 Syntax.offset (Scalar.oFld 1 (List._∷_ (Syntax.field 0) List.[]) (Syntax.tyRef (Syntax.named 0) Syntax.mut Cell.behind) 0 Reads'.ptrVal) (Scalar.oAt 12 (Syntax.tyInt Syntax.w64) (Row.valS (Row.sInt Syntax.w64))) 13 (Rows'.sc-here Row.sPtr) (Row.sPtr .of)
+  s11 = Scalar.k-op2 T14 Syntax.offset (Scalar.oFld 1 steps0 ty2 0 Reads'.ptrVal) (Scalar.oAt 12 ty0 (Row.valS sc0)) 13 (Rows'.sc-here Row.sPtr) (Row.sPtr .of)
 
   abbrev s12 : Typed.Asks T15 T16
-  s12 = Move.k-sl-set-from Cell.R T15 1 13 10 0 (Syntax.tyRef (Syntax.named 0) Syntax.mut Cell.behind) Row.off Cell.row (Shared.bySize 24) (λ u. u .1 .1 .1 .1 .1 .1 .1 .1 .1 .1 .1 .0) (λ x. x) (λ x. x) (λ x. x) λ x. x
+  s12 = Move.k-sl-set-from Cell.R T15 1 13 10 0 ty2 Row.off Cell.row (Shared.bySize 24) (λ u. u .1 .1 .1 .1 .1 .1 .1 .1 .1 .1 .1 .0) (λ x. x) (λ x. x) (λ x. x) λ x. x
 
   abbrev s13 : Typed.Mo T16 → Typed.Mo T17
   s13 = Scalar.n-room T16 10 Cell.held
 
   abbrev s14 : Typed.Mo T17 → Typed.Mo T18
-  s14 = Scalar.n-room T17 11 (Syntax.tyInt Syntax.w64)
+  s14 = Scalar.n-room T17 11 ty0
 
   abbrev s15 : Typed.Mo T18 → Typed.Mo T19
-  s15 = Scalar.n-room T18 12 (Syntax.tyInt Syntax.w64)
+  s15 = Scalar.n-room T18 12 ty0
 
   abbrev s16 : Typed.Mo T19 → Typed.Mo T20
   s16 = Scalar.n-room T19 13 Syntax.tyPtr
 
   abbrev s17 : Typed.Mo T20 → Typed.Mo T21
-  s17 = Scalar.n-use T20 (Scalar.oFld 8 (List._∷_ (Syntax.field 3) List.[]) (Syntax.tyInt Syntax.w64) 16 (Reads.fieldV Record.the-type Laws.the-laws 3)) 6 (Rows'.sc-here (Row.sInt Syntax.w64)) (Row.sInt Syntax.w64 .of)
+  s17 = Scalar.n-use T20 (Scalar.oFld 8 steps1 ty0 16 (Reads.fieldV Record.the-type Laws.the-laws 3)) 6 (Rows'.sc-here sc0) (Row.sInt Syntax.w64 .of)
 
   abbrev s18 : Typed.Mo T21 → Typed.Mo T22
-  s18 = Scalar.n-room T21 8 (Syntax.tyStruct (List._∷_ 122 (List._∷_ 111 (List._∷_ 110 (List._∷_ 101 (List._∷_ 115 (List._∷_ 58 (List._∷_ 58 (List._∷_ 114 (List._∷_ 101 (List._∷_ 99 (List._∷_ 111 (List._∷_ 114 (List._∷_ 100 (List._∷_ 115 (List._∷_ 58 (List._∷_ 58 (List._∷_ 82 (List._∷_ 101 (List._∷_ 99 (List._∷_ 111 (List._∷_ 114 (List._∷_ 100 List.[])))))))))))))))))))))) (Syntax.tcons (Syntax.tyInt Syntax.w32) (Syntax.tcons Syntax.tyBool (Syntax.tcons (Syntax.tyInt Syntax.w64) (Syntax.tcons (Syntax.tyInt Syntax.w64) Syntax.tnil)))))
+  s18 = Scalar.n-room T21 8 ty1
 
   abbrev s19 : Typed.Asks T22 T23
-  s19 = Scalar.k-op2 T22 (Syntax.add Syntax.unsigned) (Scalar.oAt 7 (Syntax.tyInt Syntax.w64) (Row.valS (Row.sInt Syntax.w64))) (Scalar.oInt Syntax.w64 1) 7 (Rows'.sc-here (Row.sInt Syntax.w64)) (Row.sInt Syntax.w64 .of)
+  s19 = Scalar.k-op2 T22 (Syntax.add Syntax.unsigned) (Scalar.oAt 7 ty0 (Row.valS sc0)) (Scalar.oInt Syntax.w64 1) 7 (Rows'.sc-here sc0) (Row.sInt Syntax.w64 .of)
 
   abbrev s20 : Typed.Mo T5 → Typed.Mo T24
   s20 = Scalar.n-use T5 Scalar.oUnit 0 (Rows'.sc-here Row.sUnit) (Row.sUnit .of)
 
   abbrev s21 : Typed.Mo T24 → Typed.Mo T25
-  s21 = Scalar.n-room T24 6 (Syntax.tyInt Syntax.w64)
+  s21 = Scalar.n-room T24 6 ty0
 
   abbrev s22 : Typed.Mo T25 → Typed.Mo T26
-  s22 = Scalar.n-room T25 7 (Syntax.tyInt Syntax.w64)
+  s22 = Scalar.n-room T25 7 ty0
 
   abbrev s23 : Typed.Mo T26 → Typed.Mo T27
-  s23 = Scalar.n-room T26 2 (Syntax.tyInt Syntax.w64)
+  s23 = Scalar.n-room T26 2 ty0
 
   abbrev s24 : Typed.Mo T27 → Typed.Mo T28
-  s24 = Scalar.n-room T27 4 (Syntax.tyInt Syntax.w64)
+  s24 = Scalar.n-room T27 4 ty0
 
   abbrev s25 : Typed.Mo T28 → Typed.Mo T29
-  s25 = Scalar.n-room T28 5 (Syntax.tyInt Syntax.w64)
+  s25 = Scalar.n-room T28 5 ty0
 
-  abbrev put0 : List.List (Cell.R .Denot) × Rows'.sc-here (Row.sInt Syntax.w64) .Mod × Rows'.sc-here (Row.sInt Syntax.w64) .Mod → Typed.Mo T4 → Typed.Mo T4
-  put0 = λ vs u. Row.set 7 (7, Rows'.sc-here (Row.sInt Syntax.w64)) (vs .2) (T4 .locals) (Row.set 6 (6, Rows'.sc-here (Row.sInt Syntax.w64)) (vs .1) (T4 .locals) (Row.set 1 (1, Mut.mslice Cell.R (Syntax.tyRef (Syntax.named 0) Syntax.mut Cell.behind) 0) record { ptr = Row.get 1 (T4 .locals) u .ptr; name = Row.get 1 (T4 .locals) u .name; now = vs .0 } (T4 .locals) u))
+  abbrev put0 : List.List (Cell.R .Denot) × Rows'.sc-here sc0 .Mod × Rows'.sc-here sc0 .Mod → Typed.Mo T4 → Typed.Mo T4
+  put0 = λ vs u. Row.set 7 local13 (vs .2) (T4 .locals) (Row.set 6 local12 (vs .1) (T4 .locals) (Row.set 1 local1 record { ptr = Row.get 1 (T4 .locals) u .ptr; name = Row.get 1 (T4 .locals) u .name; now = vs .0 } (T4 .locals) u))
 
   module _ (Pre· : (κs : Lifetimes.Lfts 2) → Kinds.Dens κs ps → Type 0) (Post· : (κs : Lifetimes.Lfts 2) → (a : Kinds.Dens κs ps) → Kinds.Plain 2 ps r κs) where
     module _ (M : Type 1) where
@@ -547,95 +662,101 @@ module _ (claims· : Claims) where
         Knowns = Plain.Known 𝓤 H A W 𝓣 1 ps·0 r·0 (claims· .0) (claims· .1) "zones::records::next_record" × Plain.Known 𝓤 H A W 𝓣 0 ps·1 r·1 (claims· .2) (claims· .3) "zones::records::zone"
 
       module _ (κs : Lifetimes.Lfts 2) (qs : Lifetimes.Shares 2) where
+        abbrev slot0 : Row.Life
+        slot0 = Row.lease (κs .0) (qs .0)
+
+        abbrev slots0 : List.List Row.Life
+        slots0 = List._∷_ (Row.lease (κs .1 .0) (qs .1 .0)) List.[]
+
         abbrev G0 : Row.Cx
-        G0 = record { locals = t0; slots = List._∷_ (Row.lease (κs .0) (qs .0)) (List._∷_ (Row.lease (κs .1 .0) (qs .1 .0)) List.[]) }
+        G0 = record { locals = t0; slots = List._∷_ slot0 slots0 }
 
         abbrev G1 : Row.Cx
-        G1 = record { locals = t1; slots = List._∷_ (Row.lease (κs .0) (qs .0)) (List._∷_ (Row.lease (κs .1 .0) (qs .1 .0)) List.[]) }
+        G1 = record { locals = t1; slots = List._∷_ slot0 slots0 }
 
         abbrev G2 : Row.Cx
-        G2 = record { locals = t0; slots = List._∷_ (Row.lease (κs .0) (qs .0)) (List._∷_ (Row.lease (κs .1 .0) (qs .1 .0)) List.[]) }
+        G2 = record { locals = t0; slots = List._∷_ slot0 slots0 }
 
         abbrev G3 : Row.Cx
-        G3 = record { locals = t2; slots = List._∷_ (Row.lease (κs .0) (qs .0)) (List._∷_ (Row.lease (κs .1 .0) (qs .1 .0)) List.[]) }
+        G3 = record { locals = t2; slots = List._∷_ slot0 slots0 }
 
         abbrev G4 : Row.Cx
-        G4 = record { locals = t3; slots = List._∷_ (Row.lease (κs .0) (qs .0)) (List._∷_ (Row.lease (κs .1 .0) (qs .1 .0)) List.[]) }
+        G4 = record { locals = t3; slots = List._∷_ slot0 slots0 }
 
         abbrev G5 : Row.Cx
-        G5 = record { locals = t3; slots = List._∷_ (Row.lease (κs .0) (qs .0)) (List._∷_ (Row.lease (κs .1 .0) (qs .1 .0)) List.[]) }
+        G5 = record { locals = t3; slots = List._∷_ slot0 slots0 }
 
         abbrev G6 : Row.Cx
-        G6 = record { locals = t4; slots = List._∷_ (Row.lease (κs .0) (qs .0)) (List._∷_ (Row.lease (κs .1 .0) (qs .1 .0)) List.[]) }
+        G6 = record { locals = t4; slots = List._∷_ slot0 slots0 }
 
         abbrev G7 : Row.Cx
-        G7 = record { locals = t3; slots = List._∷_ (Row.lease (κs .0) (qs .0)) (List._∷_ (Row.lease (κs .1 .0) (qs .1 .0)) List.[]) }
+        G7 = record { locals = t3; slots = List._∷_ slot0 slots0 }
 
         abbrev G8 : Row.Cx
-        G8 = record { locals = t3; slots = List._∷_ (Row.lease (κs .0) (qs .0)) (List._∷_ (Row.lease (κs .1 .0) (qs .1 .0)) List.[]) }
+        G8 = record { locals = t3; slots = List._∷_ slot0 slots0 }
 
         abbrev G9 : Row.Cx
-        G9 = record { locals = t3; slots = List._∷_ (Row.lease (κs .0) (qs .0)) (List._∷_ (Row.lease (κs .1 .0) (qs .1 .0)) List.[]) }
+        G9 = record { locals = t3; slots = List._∷_ slot0 slots0 }
 
         abbrev G10 : Row.Cx
-        G10 = record { locals = t5; slots = List._∷_ (Row.lease (κs .0) (qs .0)) (List._∷_ (Row.lease (κs .1 .0) (qs .1 .0)) List.[]) }
+        G10 = record { locals = t5; slots = List._∷_ slot0 slots0 }
 
         abbrev G11 : Row.Cx
-        G11 = record { locals = t6; slots = List._∷_ (Row.lease (κs .0) (qs .0)) (List._∷_ (Row.lease (κs .1 .0) (qs .1 .0)) List.[]) }
+        G11 = record { locals = t6; slots = List._∷_ slot0 slots0 }
 
         abbrev G12 : Row.Cx
-        G12 = record { locals = t7; slots = List._∷_ (Row.lease (κs .0) (qs .0)) (List._∷_ (Row.lease (κs .1 .0) (qs .1 .0)) List.[]) }
+        G12 = record { locals = t7; slots = List._∷_ slot0 slots0 }
 
         abbrev G13 : Row.Cx
-        G13 = record { locals = t8; slots = List._∷_ (Row.lease (κs .0) (qs .0)) (List._∷_ (Row.lease (κs .1 .0) (qs .1 .0)) List.[]) }
+        G13 = record { locals = t8; slots = List._∷_ slot0 slots0 }
 
         abbrev G14 : Row.Cx
-        G14 = record { locals = t9; slots = List._∷_ (Row.lease (κs .0) (qs .0)) (List._∷_ (Row.lease (κs .1 .0) (qs .1 .0)) List.[]) }
+        G14 = record { locals = t9; slots = List._∷_ slot0 slots0 }
 
         abbrev G15 : Row.Cx
-        G15 = record { locals = t10; slots = List._∷_ (Row.lease (κs .0) (qs .0)) (List._∷_ (Row.lease (κs .1 .0) (qs .1 .0)) List.[]) }
+        G15 = record { locals = t10; slots = List._∷_ slot0 slots0 }
 
         abbrev G16 : Row.Cx
-        G16 = record { locals = t10; slots = List._∷_ (Row.lease (κs .0) (qs .0)) (List._∷_ (Row.lease (κs .1 .0) (qs .1 .0)) List.[]) }
+        G16 = record { locals = t10; slots = List._∷_ slot0 slots0 }
 
         abbrev G17 : Row.Cx
-        G17 = record { locals = t11; slots = List._∷_ (Row.lease (κs .0) (qs .0)) (List._∷_ (Row.lease (κs .1 .0) (qs .1 .0)) List.[]) }
+        G17 = record { locals = t11; slots = List._∷_ slot0 slots0 }
 
         abbrev G18 : Row.Cx
-        G18 = record { locals = t12; slots = List._∷_ (Row.lease (κs .0) (qs .0)) (List._∷_ (Row.lease (κs .1 .0) (qs .1 .0)) List.[]) }
+        G18 = record { locals = t12; slots = List._∷_ slot0 slots0 }
 
         abbrev G19 : Row.Cx
-        G19 = record { locals = t13; slots = List._∷_ (Row.lease (κs .0) (qs .0)) (List._∷_ (Row.lease (κs .1 .0) (qs .1 .0)) List.[]) }
+        G19 = record { locals = t13; slots = List._∷_ slot0 slots0 }
 
         abbrev G20 : Row.Cx
-        G20 = record { locals = t6; slots = List._∷_ (Row.lease (κs .0) (qs .0)) (List._∷_ (Row.lease (κs .1 .0) (qs .1 .0)) List.[]) }
+        G20 = record { locals = t6; slots = List._∷_ slot0 slots0 }
 
         abbrev G21 : Row.Cx
-        G21 = record { locals = t5; slots = List._∷_ (Row.lease (κs .0) (qs .0)) (List._∷_ (Row.lease (κs .1 .0) (qs .1 .0)) List.[]) }
+        G21 = record { locals = t5; slots = List._∷_ slot0 slots0 }
 
         abbrev G22 : Row.Cx
-        G22 = record { locals = t3; slots = List._∷_ (Row.lease (κs .0) (qs .0)) (List._∷_ (Row.lease (κs .1 .0) (qs .1 .0)) List.[]) }
+        G22 = record { locals = t3; slots = List._∷_ slot0 slots0 }
 
         abbrev G23 : Row.Cx
-        G23 = record { locals = t3; slots = List._∷_ (Row.lease (κs .0) (qs .0)) (List._∷_ (Row.lease (κs .1 .0) (qs .1 .0)) List.[]) }
+        G23 = record { locals = t3; slots = List._∷_ slot0 slots0 }
 
         abbrev G24 : Row.Cx
-        G24 = record { locals = t14; slots = List._∷_ (Row.lease (κs .0) (qs .0)) (List._∷_ (Row.lease (κs .1 .0) (qs .1 .0)) List.[]) }
+        G24 = record { locals = t14; slots = List._∷_ slot0 slots0 }
 
         abbrev G25 : Row.Cx
-        G25 = record { locals = t15; slots = List._∷_ (Row.lease (κs .0) (qs .0)) (List._∷_ (Row.lease (κs .1 .0) (qs .1 .0)) List.[]) }
+        G25 = record { locals = t15; slots = List._∷_ slot0 slots0 }
 
         abbrev G26 : Row.Cx
-        G26 = record { locals = t16; slots = List._∷_ (Row.lease (κs .0) (qs .0)) (List._∷_ (Row.lease (κs .1 .0) (qs .1 .0)) List.[]) }
+        G26 = record { locals = t16; slots = List._∷_ slot0 slots0 }
 
         abbrev G27 : Row.Cx
-        G27 = record { locals = t17; slots = List._∷_ (Row.lease (κs .0) (qs .0)) (List._∷_ (Row.lease (κs .1 .0) (qs .1 .0)) List.[]) }
+        G27 = record { locals = t17; slots = List._∷_ slot0 slots0 }
 
         abbrev G28 : Row.Cx
-        G28 = record { locals = t18; slots = List._∷_ (Row.lease (κs .0) (qs .0)) (List._∷_ (Row.lease (κs .1 .0) (qs .1 .0)) List.[]) }
+        G28 = record { locals = t18; slots = List._∷_ slot0 slots0 }
 
         abbrev G29 : Row.Cx
-        G29 = record { locals = t1; slots = List._∷_ (Row.lease (κs .0) (qs .0)) (List._∷_ (Row.lease (κs .1 .0) (qs .1 .0)) List.[]) }
+        G29 = record { locals = t1; slots = List._∷_ slot0 slots0 }
 
         abbrev Δ0 : Typed.Outs
         Δ0 = record { next = Option.none; exits = List.[]; returns = Option.some G1 }
@@ -672,52 +793,52 @@ module _ (claims· : Claims) where
           d4 = Scalar.t-cond 𝓤 H A W E 𝓣 G6 9 (λ x. x) b3 b4 Δ4 at1 at3 (Scalar.reads-sc 𝓤 H A W Row.sBool) Path'.refl d1 d3
 
           d5 : Typed.Typed 𝓤 H A 𝓣 E G22 b13 Δ3 at5
-          d5 = Typed.s-typed 𝓤 H A W 𝓣 E G22 b13 Δ3 (Typed.ask s19) tt (Scalar.t-op2 𝓤 H A W E 𝓣 G22 (Syntax.add Syntax.unsigned) (Scalar.oAt 7 (Syntax.tyInt Syntax.w64) (Row.valS (Row.sInt Syntax.w64))) (Scalar.oInt Syntax.w64 1) 7 (Rows'.sc-here (Row.sInt Syntax.w64)) (Syntax.tyInt Syntax.w64) (Row.valS (Row.sInt Syntax.w64)) (Row.sInt Syntax.w64 .of) (Scalar.reads-sc 𝓤 H A W (Row.sInt Syntax.w64), Path'.refl) tt (Scalar.room-sc 𝓤 H A W (Row.sInt Syntax.w64)) (Scalar.holds-sc 𝓤 H A W (Row.sInt Syntax.w64)) Path'.refl (λ u. Path'.refl) λ u. tt)
+          d5 = Typed.s-typed 𝓤 H A W 𝓣 E G22 b13 Δ3 (Typed.ask s19) tt (Scalar.t-op2 𝓤 H A W E 𝓣 G22 (Syntax.add Syntax.unsigned) (Scalar.oAt 7 ty0 (Row.valS sc0)) (Scalar.oInt Syntax.w64 1) 7 (Rows'.sc-here sc0) ty0 (Row.valS sc0) (Row.sInt Syntax.w64 .of) (Scalar.reads-sc 𝓤 H A W sc0, Path'.refl) tt (Scalar.room-sc 𝓤 H A W sc0) (Scalar.holds-sc 𝓤 H A W sc0) Path'.refl (λ u. Path'.refl) λ u. tt)
 
           d6 : Typed.Typed 𝓤 H A 𝓣 E G21 b13 Δ3 at6
-          d6 = Typed.g-pre 𝓤 H A W 𝓣 E G21 G22 b13 Δ3 (Typed.pass T21 T22 s18) at5 (Scalar.g-room 𝓤 H A W E G21 8 (Syntax.tyStruct (List._∷_ 122 (List._∷_ 111 (List._∷_ 110 (List._∷_ 101 (List._∷_ 115 (List._∷_ 58 (List._∷_ 58 (List._∷_ 114 (List._∷_ 101 (List._∷_ 99 (List._∷_ 111 (List._∷_ 114 (List._∷_ 100 (List._∷_ 115 (List._∷_ 58 (List._∷_ 58 (List._∷_ 82 (List._∷_ 101 (List._∷_ 99 (List._∷_ 111 (List._∷_ 114 (List._∷_ 100 List.[])))))))))))))))))))))) (Syntax.tcons (Syntax.tyInt Syntax.w32) (Syntax.tcons Syntax.tyBool (Syntax.tcons (Syntax.tyInt Syntax.w64) (Syntax.tcons (Syntax.tyInt Syntax.w64) Syntax.tnil))))) (Local.room-whole 𝓤 H A W (Declared.row Record.the-type) (Syntax.tyStruct (List._∷_ 122 (List._∷_ 111 (List._∷_ 110 (List._∷_ 101 (List._∷_ 115 (List._∷_ 58 (List._∷_ 58 (List._∷_ 114 (List._∷_ 101 (List._∷_ 99 (List._∷_ 111 (List._∷_ 114 (List._∷_ 100 (List._∷_ 115 (List._∷_ 58 (List._∷_ 58 (List._∷_ 82 (List._∷_ 101 (List._∷_ 99 (List._∷_ 111 (List._∷_ 114 (List._∷_ 100 List.[])))))))))))))))))))))) (Syntax.tcons (Syntax.tyInt Syntax.w32) (Syntax.tcons Syntax.tyBool (Syntax.tcons (Syntax.tyInt Syntax.w64) (Syntax.tcons (Syntax.tyInt Syntax.w64) Syntax.tnil))))) Path'.refl)) d5
+          d6 = Typed.g-pre 𝓤 H A W 𝓣 E G21 G22 b13 Δ3 (Typed.pass T21 T22 s18) at5 (Scalar.g-room 𝓤 H A W E G21 8 ty1 (Local.room-whole 𝓤 H A W held1 ty1 Path'.refl)) d5
 
           d7 : Typed.Typed 𝓤 H A 𝓣 E G20 b14 Δ3 at7
-          d7 = Typed.s-seq 𝓤 H A W 𝓣 E G20 G21 b12 b13 Δ3 (Typed.pass T20 T21 s17) at6 (Scalar.t-use 𝓤 H A W E 𝓣 G20 (Scalar.oFld 8 (List._∷_ (Syntax.field 3) List.[]) (Syntax.tyInt Syntax.w64) 16 (Reads.fieldV Record.the-type Laws.the-laws 3)) 6 (Rows'.sc-here (Row.sInt Syntax.w64)) (Syntax.tyInt Syntax.w64) (Row.valS (Row.sInt Syntax.w64)) (Row.sInt Syntax.w64 .of) (Reads.reads-field 𝓤 H A W Record.the-type Laws.the-laws 3 (Syntax.tyInt Syntax.w64) 16 Path'.refl, Path'.refl) (Reads'.room-gone 𝓤 H A (Syntax.tyInt Syntax.w64)) (Scalar.holds-sc 𝓤 H A W (Row.sInt Syntax.w64)) Path'.refl (λ u. Path'.refl) λ u. tt) d6
+          d7 = Typed.s-seq 𝓤 H A W 𝓣 E G20 G21 b12 b13 Δ3 (Typed.pass T20 T21 s17) at6 (Scalar.t-use 𝓤 H A W E 𝓣 G20 (Scalar.oFld 8 steps1 ty0 16 (Reads.fieldV Record.the-type Laws.the-laws 3)) 6 (Rows'.sc-here sc0) ty0 (Row.valS sc0) (Row.sInt Syntax.w64 .of) (Reads.reads-field 𝓤 H A W Record.the-type Laws.the-laws 3 ty0 16 Path'.refl, Path'.refl) (Reads'.room-gone 𝓤 H A ty0) (Scalar.holds-sc 𝓤 H A W sc0) Path'.refl (λ u. Path'.refl) λ u. tt) d6
 
           d8 : Typed.Typed 𝓤 H A 𝓣 E G19 b14 Δ3 at8
           d8 = Typed.g-pre 𝓤 H A W 𝓣 E G19 G20 b14 Δ3 (Typed.pass T19 T20 s16) at7 (Scalar.g-room 𝓤 H A W E G19 13 Syntax.tyPtr (Scalar.room-sc 𝓤 H A W Row.sPtr)) d7
 
           d9 : Typed.Typed 𝓤 H A 𝓣 E G18 b14 Δ3 at9
-          d9 = Typed.g-pre 𝓤 H A W 𝓣 E G18 G19 b14 Δ3 (Typed.pass T18 T19 s15) at8 (Scalar.g-room 𝓤 H A W E G18 12 (Syntax.tyInt Syntax.w64) (Scalar.room-sc 𝓤 H A W (Row.sInt Syntax.w64))) d8
+          d9 = Typed.g-pre 𝓤 H A W 𝓣 E G18 G19 b14 Δ3 (Typed.pass T18 T19 s15) at8 (Scalar.g-room 𝓤 H A W E G18 12 ty0 (Scalar.room-sc 𝓤 H A W sc0)) d8
 
           d10 : Typed.Typed 𝓤 H A 𝓣 E G17 b14 Δ3 at10
-          d10 = Typed.g-pre 𝓤 H A W 𝓣 E G17 G18 b14 Δ3 (Typed.pass T17 T18 s14) at9 (Scalar.g-room 𝓤 H A W E G17 11 (Syntax.tyInt Syntax.w64) (Scalar.room-sc 𝓤 H A W (Row.sInt Syntax.w64))) d9
+          d10 = Typed.g-pre 𝓤 H A W 𝓣 E G17 G18 b14 Δ3 (Typed.pass T17 T18 s14) at9 (Scalar.g-room 𝓤 H A W E G17 11 ty0 (Scalar.room-sc 𝓤 H A W sc0)) d9
 
           d11 : Typed.Typed 𝓤 H A 𝓣 E G16 b14 Δ3 at11
           d11 = Typed.g-pre 𝓤 H A W 𝓣 E G16 G17 b14 Δ3 (Typed.pass T16 T17 s13) at10 (Scalar.g-room 𝓤 H A W E G16 10 Cell.held (Cell.to-room 𝓤 H A W)) d10
 
           d12 : Typed.Typed 𝓤 H A 𝓣 E G15 b15 Δ3 at12
-          d12 = Typed.s-seq 𝓤 H A W 𝓣 E G15 G16 b11 b14 Δ3 (Typed.ask s12) at11 (Move.t-sl-set-from 𝓤 H A W E Cell.R 𝓣 Path'.refl (λ ρ. Unit) G15 1 13 10 0 (Syntax.tyRef (Syntax.named 0) Syntax.mut Cell.behind) (Row.lease (κs .0) (qs .0)) Cell.held Cell.held Cell.row (Shared.bySize 24) (λ u. u .1 .1 .1 .1 .1 .1 .1 .1 .1 .1 .1 .0) (λ x. x) (λ x. x) (λ x. x) (λ x. x) (λ i o. Elements.at-mul o 24 i) Path'.refl Path'.refl (Own.told-none 𝓤 H A (G15 .slots)) (Reads'.as-is 𝓤 H A (Mut.mslice Cell.R (Syntax.tyRef (Syntax.named 0) Syntax.mut Cell.behind) 0)) (Reads'.as-is 𝓤 H A (Rows'.sc-here Row.sPtr)) (Yields.yields-copy 𝓤 H A W (λ ρ. Unit) Cell.R Path'.refl (Cell.copies .copy 𝓤 H A W) Cell.row (λ x. x) (λ x. x) (λ ρ told. Cell.in-mem 𝓤 H A W ρ) λ ρ told. Cell.of-mem 𝓤 H A W ρ) Path'.refl tt Path'.refl Path'.refl) d11
+          d12 = Typed.s-seq 𝓤 H A W 𝓣 E G15 G16 b11 b14 Δ3 (Typed.ask s12) at11 (Move.t-sl-set-from 𝓤 H A W E Cell.R 𝓣 Path'.refl (λ ρ. Unit) G15 1 13 10 0 ty2 slot0 Cell.held Cell.held Cell.row (Shared.bySize 24) (λ u. u .1 .1 .1 .1 .1 .1 .1 .1 .1 .1 .1 .0) (λ x. x) (λ x. x) (λ x. x) (λ x. x) (λ i o. Elements.at-mul o 24 i) Path'.refl Path'.refl (Own.told-none 𝓤 H A (G15 .slots)) (Reads'.as-is 𝓤 H A (Mut.mslice Cell.R ty2 0)) (Reads'.as-is 𝓤 H A (Rows'.sc-here Row.sPtr)) (Yields.yields-copy 𝓤 H A W (λ ρ. Unit) Cell.R Path'.refl (Cell.copies .copy 𝓤 H A W) Cell.row (λ x. x) (λ x. x) (λ ρ told. Cell.in-mem 𝓤 H A W ρ) λ ρ told. Cell.of-mem 𝓤 H A W ρ) Path'.refl tt Path'.refl Path'.refl) d11
 
           d13 : Typed.Typed 𝓤 H A 𝓣 E G14 b16 Δ3 at13
-          d13 = Typed.s-seq 𝓤 H A W 𝓣 E G14 G15 b10 b15 Δ3 (Typed.ask s11) at12 (Scalar.t-op2 𝓤 H A W E 𝓣 G14 Syntax.offset (Scalar.oFld 1 (List._∷_ (Syntax.field 0) List.[]) (Syntax.tyRef (Syntax.named 0) Syntax.mut Cell.behind) 0 Reads'.ptrVal) (Scalar.oAt 12 (Syntax.tyInt Syntax.w64) (Row.valS (Row.sInt Syntax.w64))) 13 (Rows'.sc-here Row.sPtr) Syntax.tyPtr (Row.valS Row.sPtr) (Row.sPtr .of) (Mut.reads-mslice-ptr 𝓤 H A W Cell.R (Syntax.tyRef (Syntax.named 0) Syntax.mut Cell.behind) 0 0 Path'.refl, Path'.refl) (Scalar.reads-sc 𝓤 H A W (Row.sInt Syntax.w64), Path'.refl) (Reads'.room-gone 𝓤 H A Syntax.tyPtr) (Scalar.holds-sc 𝓤 H A W Row.sPtr) Path'.refl (λ u. Path'.refl) λ u. tt) d12
+          d13 = Typed.s-seq 𝓤 H A W 𝓣 E G14 G15 b10 b15 Δ3 (Typed.ask s11) at12 (Scalar.t-op2 𝓤 H A W E 𝓣 G14 Syntax.offset (Scalar.oFld 1 steps0 ty2 0 Reads'.ptrVal) (Scalar.oAt 12 ty0 (Row.valS sc0)) 13 (Rows'.sc-here Row.sPtr) Syntax.tyPtr (Row.valS Row.sPtr) (Row.sPtr .of) (Mut.reads-mslice-ptr 𝓤 H A W Cell.R ty2 0 0 Path'.refl, Path'.refl) (Scalar.reads-sc 𝓤 H A W sc0, Path'.refl) (Reads'.room-gone 𝓤 H A Syntax.tyPtr) (Scalar.holds-sc 𝓤 H A W Row.sPtr) Path'.refl (λ u. Path'.refl) λ u. tt) d12
 
           d14 : Typed.Typed 𝓤 H A 𝓣 E G13 b17 Δ3 at14
-          d14 = Typed.s-seq 𝓤 H A W 𝓣 E G13 G14 b9 b16 Δ3 (Typed.ask s10) at13 (Scalar.t-op2 𝓤 H A W E 𝓣 G13 (Syntax.mul Syntax.unsigned) (Scalar.oAt 11 (Syntax.tyInt Syntax.w64) (Row.valS (Row.sInt Syntax.w64))) (Scalar.oInt Syntax.w64 24) 12 (Rows'.sc-here (Row.sInt Syntax.w64)) (Syntax.tyInt Syntax.w64) (Row.valS (Row.sInt Syntax.w64)) (Row.sInt Syntax.w64 .of) (Scalar.reads-sc 𝓤 H A W (Row.sInt Syntax.w64), Path'.refl) tt (Reads'.room-gone 𝓤 H A (Syntax.tyInt Syntax.w64)) (Scalar.holds-sc 𝓤 H A W (Row.sInt Syntax.w64)) Path'.refl (λ u. Path'.refl) λ u. tt) d13
+          d14 = Typed.s-seq 𝓤 H A W 𝓣 E G13 G14 b9 b16 Δ3 (Typed.ask s10) at13 (Scalar.t-op2 𝓤 H A W E 𝓣 G13 (Syntax.mul Syntax.unsigned) (Scalar.oAt 11 ty0 (Row.valS sc0)) (Scalar.oInt Syntax.w64 24) 12 (Rows'.sc-here sc0) ty0 (Row.valS sc0) (Row.sInt Syntax.w64 .of) (Scalar.reads-sc 𝓤 H A W sc0, Path'.refl) tt (Reads'.room-gone 𝓤 H A ty0) (Scalar.holds-sc 𝓤 H A W sc0) Path'.refl (λ u. Path'.refl) λ u. tt) d13
 
           d15 : Typed.Typed 𝓤 H A 𝓣 E G12 b18 Δ3 at15
-          d15 = Typed.s-seq 𝓤 H A W 𝓣 E G12 G13 b8 b17 Δ3 (Typed.ask s9) at14 (Scalar.t-op2 𝓤 H A W E 𝓣 G12 (Syntax.add Syntax.unsigned) (Scalar.oAt 2 (Syntax.tyInt Syntax.w64) (Row.valS (Row.sInt Syntax.w64))) (Scalar.oAt 7 (Syntax.tyInt Syntax.w64) (Row.valS (Row.sInt Syntax.w64))) 11 (Rows'.sc-here (Row.sInt Syntax.w64)) (Syntax.tyInt Syntax.w64) (Row.valS (Row.sInt Syntax.w64)) (Row.sInt Syntax.w64 .of) (Scalar.reads-sc 𝓤 H A W (Row.sInt Syntax.w64), Path'.refl) (Scalar.reads-sc 𝓤 H A W (Row.sInt Syntax.w64), Path'.refl) (Reads'.room-gone 𝓤 H A (Syntax.tyInt Syntax.w64)) (Scalar.holds-sc 𝓤 H A W (Row.sInt Syntax.w64)) Path'.refl (λ u. Path'.refl) λ u. tt) d14
+          d15 = Typed.s-seq 𝓤 H A W 𝓣 E G12 G13 b8 b17 Δ3 (Typed.ask s9) at14 (Scalar.t-op2 𝓤 H A W E 𝓣 G12 (Syntax.add Syntax.unsigned) (Scalar.oAt 2 ty0 (Row.valS sc0)) (Scalar.oAt 7 ty0 (Row.valS sc0)) 11 (Rows'.sc-here sc0) ty0 (Row.valS sc0) (Row.sInt Syntax.w64 .of) (Scalar.reads-sc 𝓤 H A W sc0, Path'.refl) (Scalar.reads-sc 𝓤 H A W sc0, Path'.refl) (Reads'.room-gone 𝓤 H A ty0) (Scalar.holds-sc 𝓤 H A W sc0) Path'.refl (λ u. Path'.refl) λ u. tt) d14
 
           d16 : Typed.Typed 𝓤 H A 𝓣 E G11 b19 Δ3 at16
-          d16 = Typed.s-seq 𝓤 H A W 𝓣 E G11 G12 b7 b18 Δ3 (Typed.both s8) at15 (Plain.t-call-plain 𝓤 H A W 𝓣 0 ps·1 r·1 (claims· .2) (claims· .3) "zones::records::zone" (known .1) E (λ pos β. β) G11 (record { pos = 8; st = List.[]; d = 0; at = λ x. x }, tt) 10 List.[] (Call.sub-id 𝓤 H A W (G11 .slots)) ((Yields.yields-copy 𝓤 H A W (λ ρ. Unit) (Declared.row Record.the-type) Path'.refl (Copies.cStruct Record.the-type Laws.the-laws Laws.the-copy .copy 𝓤 H A W) (Rows'.whole (Declared.row Record.the-type)) (λ x. x) (λ x. x) (λ ρ told. Local.mem-whole 𝓤 H A W (Declared.row Record.the-type) ρ) λ ρ told. Local.whole-mem 𝓤 H A W (Declared.row Record.the-type) ρ, Path'.refl), tt) (Reads'.room-gone 𝓤 H A Cell.held) tt Path'.refl) d15
+          d16 = Typed.s-seq 𝓤 H A W 𝓣 E G11 G12 b7 b18 Δ3 (Typed.both s8) at15 (Plain.t-call-plain 𝓤 H A W 𝓣 0 ps·1 r·1 (claims· .2) (claims· .3) "zones::records::zone" (known .1) E (λ pos β. β) G11 (record { pos = 8; st = List.[]; d = 0; at = λ x. x }, tt) 10 List.[] (Call.sub-id 𝓤 H A W (G11 .slots)) ((Yields.yields-copy 𝓤 H A W (λ ρ. Unit) held1 Path'.refl (Copies.cStruct Record.the-type Laws.the-laws Laws.the-copy .copy 𝓤 H A W) (Rows'.whole held1) (λ x. x) (λ x. x) (λ ρ told. Local.mem-whole 𝓤 H A W held1 ρ) λ ρ told. Local.whole-mem 𝓤 H A W held1 ρ, Path'.refl), tt) (Reads'.room-gone 𝓤 H A Cell.held) tt Path'.refl) d15
 
           d17 : Typed.Typed 𝓤 H A 𝓣 E G10 b19 Δ3 at17
-          d17 = Typed.g-pre 𝓤 H A W 𝓣 E G10 G11 b19 Δ3 (Typed.pass T10 T11 s7) at16 (Scalar.g-room 𝓤 H A W E G10 6 (Syntax.tyInt Syntax.w64) (Scalar.room-sc 𝓤 H A W (Row.sInt Syntax.w64))) d16
+          d17 = Typed.g-pre 𝓤 H A W 𝓣 E G10 G11 b19 Δ3 (Typed.pass T10 T11 s7) at16 (Scalar.g-room 𝓤 H A W E G10 6 ty0 (Scalar.room-sc 𝓤 H A W sc0)) d16
 
           d18 : Typed.Typed 𝓤 H A 𝓣 E G7 b20 Δ3 at18
-          d18 = Typed.s-seq 𝓤 H A W 𝓣 E G7 G10 b6 b19 Δ3 (Typed.both s6) at17 (Plain.t-call-plain 𝓤 H A W 𝓣 1 ps·0 r·0 (claims· .0) (claims· .1) "zones::records::next_record" (known .0) E (λ pos β. β) G7 (record { pos = 3; ty = Syntax.tyRef (Syntax.named 1) Syntax.imm (Syntax.tyInt Syntax.w8); ref = λ x. x }, (Num.vAt 6 λ x. x, tt)) 8 (List._∷_ 1 List.[]) (Call.sub-id 𝓤 H A W (G7 .slots)) (ShrSlice.spares-sslice 𝓤 H A W (Referent.rtF (Referent.fInt Syntax.w8)) (Syntax.tyRef (Syntax.named 1) Syntax.imm (Syntax.tyInt Syntax.w8)) 1, Shared.reads-sslice 𝓤 H A W (Referent.rtF (Referent.fInt Syntax.w8)) (Syntax.tyRef (Syntax.named 1) Syntax.imm (Syntax.tyInt Syntax.w8)) 1, Path'.refl, ((Scalar.reads-sc 𝓤 H A W (Row.sInt Syntax.w64), Path'.refl), tt)) (Reads'.room-gone 𝓤 H A (Syntax.tyStruct (List._∷_ 122 (List._∷_ 111 (List._∷_ 110 (List._∷_ 101 (List._∷_ 115 (List._∷_ 58 (List._∷_ 58 (List._∷_ 114 (List._∷_ 101 (List._∷_ 99 (List._∷_ 111 (List._∷_ 114 (List._∷_ 100 (List._∷_ 115 (List._∷_ 58 (List._∷_ 58 (List._∷_ 82 (List._∷_ 101 (List._∷_ 99 (List._∷_ 111 (List._∷_ 114 (List._∷_ 100 List.[])))))))))))))))))))))) (Syntax.tcons (Syntax.tyInt Syntax.w32) (Syntax.tcons Syntax.tyBool (Syntax.tcons (Syntax.tyInt Syntax.w64) (Syntax.tcons (Syntax.tyInt Syntax.w64) Syntax.tnil)))))) (tt, tt) Path'.refl) d17
+          d18 = Typed.s-seq 𝓤 H A W 𝓣 E G7 G10 b6 b19 Δ3 (Typed.both s6) at17 (Plain.t-call-plain 𝓤 H A W 𝓣 1 ps·0 r·0 (claims· .0) (claims· .1) "zones::records::next_record" (known .0) E (λ pos β. β) G7 (record { pos = 3; ty = Syntax.tyRef (Syntax.named 1) Syntax.imm ty3; ref = λ x. x }, (Num.vAt 6 λ x. x, tt)) 8 (List._∷_ 1 List.[]) (Call.sub-id 𝓤 H A W (G7 .slots)) (ShrSlice.spares-sslice 𝓤 H A W held0 ty4 1, Shared.reads-sslice 𝓤 H A W held0 ty4 1, Path'.refl, ((Scalar.reads-sc 𝓤 H A W sc0, Path'.refl), tt)) (Reads'.room-gone 𝓤 H A ty1) (tt, tt) Path'.refl) d17
 
           d19 : Typed.Typed 𝓤 H A 𝓣 E G6 b21 Δ3 at19
           d19 = Typed.t-seq 𝓤 H A W 𝓣 E G6 G7 b5 b20 Δ3 at4 at18 d4 d18
 
           d20 : Typed.Typed 𝓤 H A 𝓣 E G4 b22 Δ3 at20
-          d20 = Typed.s-seq 𝓤 H A W 𝓣 E G4 G6 b2 b21 Δ3 (Typed.ask s3) at19 (Scalar.t-op2 𝓤 H A W E 𝓣 G4 (Syntax.lt Syntax.unsigned) (Scalar.oAt 7 (Syntax.tyInt Syntax.w64) (Row.valS (Row.sInt Syntax.w64))) (Scalar.oAt 5 (Syntax.tyInt Syntax.w64) (Row.valS (Row.sInt Syntax.w64))) 9 (Rows'.sc-here Row.sBool) Syntax.tyBool (Row.valS Row.sBool) (Row.sBool .of) (Scalar.reads-sc 𝓤 H A W (Row.sInt Syntax.w64), Path'.refl) (Scalar.reads-sc 𝓤 H A W (Row.sInt Syntax.w64), Path'.refl) (Reads'.room-gone 𝓤 H A Syntax.tyBool) (Scalar.holds-sc 𝓤 H A W Row.sBool) Path'.refl (λ u. Path'.refl) λ u. tt) d19
+          d20 = Typed.s-seq 𝓤 H A W 𝓣 E G4 G6 b2 b21 Δ3 (Typed.ask s3) at19 (Scalar.t-op2 𝓤 H A W E 𝓣 G4 (Syntax.lt Syntax.unsigned) (Scalar.oAt 7 ty0 (Row.valS sc0)) (Scalar.oAt 5 ty0 (Row.valS sc0)) 9 (Rows'.sc-here Row.sBool) Syntax.tyBool (Row.valS Row.sBool) (Row.sBool .of) (Scalar.reads-sc 𝓤 H A W sc0, Path'.refl) (Scalar.reads-sc 𝓤 H A W sc0, Path'.refl) (Reads'.room-gone 𝓤 H A Syntax.tyBool) (Scalar.holds-sc 𝓤 H A W Row.sBool) Path'.refl (λ u. Path'.refl) λ u. tt) d19
 
           d21 : Typed.Typed 𝓤 H A 𝓣 E G4 b23 Δ2 at21
           d21 = Typed.t-loop-by 𝓤 H A W 𝓣 E G4 b22 Δ2 put0 (λ u vs. Inv·0 (Row.get 1 (T4 .locals) u .now) (Row.get 2 (T4 .locals) u) (Row.get 3 (T4 .locals) u .now) (Row.get 4 (T4 .locals) u) (Row.get 5 (T4 .locals) u) (Row.get 6 (T4 .locals) u) (Row.get 7 (T4 .locals) u) (vs .0) (vs .1) (vs .2)) (λ u vs. μ·0 (Row.get 1 (T4 .locals) u .now) (Row.get 2 (T4 .locals) u) (Row.get 3 (T4 .locals) u .now) (Row.get 4 (T4 .locals) u) (Row.get 5 (T4 .locals) u) (Row.get 6 (T4 .locals) u) (Row.get 7 (T4 .locals) u) (vs .0) (vs .1) (vs .2)) at20 d20
@@ -729,19 +850,19 @@ module _ (claims· : Claims) where
           d23 = Typed.t-return 𝓤 H A W 𝓣 E Δ0 tt
 
           d24 : Typed.Typed 𝓤 H A 𝓣 E G28 b26 Δ0 at24
-          d24 = Typed.g-pre 𝓤 H A W 𝓣 E G28 G29 b26 Δ0 (Typed.pass T28 T29 s25) at23 (Scalar.g-room 𝓤 H A W E G28 5 (Syntax.tyInt Syntax.w64) (Scalar.room-sc 𝓤 H A W (Row.sInt Syntax.w64))) d23
+          d24 = Typed.g-pre 𝓤 H A W 𝓣 E G28 G29 b26 Δ0 (Typed.pass T28 T29 s25) at23 (Scalar.g-room 𝓤 H A W E G28 5 ty0 (Scalar.room-sc 𝓤 H A W sc0)) d23
 
           d25 : Typed.Typed 𝓤 H A 𝓣 E G27 b26 Δ0 at25
-          d25 = Typed.g-pre 𝓤 H A W 𝓣 E G27 G28 b26 Δ0 (Typed.pass T27 T28 s24) at24 (Scalar.g-room 𝓤 H A W E G27 4 (Syntax.tyInt Syntax.w64) (Scalar.room-sc 𝓤 H A W (Row.sInt Syntax.w64))) d24
+          d25 = Typed.g-pre 𝓤 H A W 𝓣 E G27 G28 b26 Δ0 (Typed.pass T27 T28 s24) at24 (Scalar.g-room 𝓤 H A W E G27 4 ty0 (Scalar.room-sc 𝓤 H A W sc0)) d24
 
           d26 : Typed.Typed 𝓤 H A 𝓣 E G26 b26 Δ0 at26
-          d26 = Typed.g-pre 𝓤 H A W 𝓣 E G26 G27 b26 Δ0 (Typed.pass T26 T27 s23) at25 (Scalar.g-room 𝓤 H A W E G26 2 (Syntax.tyInt Syntax.w64) (Scalar.room-sc 𝓤 H A W (Row.sInt Syntax.w64))) d25
+          d26 = Typed.g-pre 𝓤 H A W 𝓣 E G26 G27 b26 Δ0 (Typed.pass T26 T27 s23) at25 (Scalar.g-room 𝓤 H A W E G26 2 ty0 (Scalar.room-sc 𝓤 H A W sc0)) d25
 
           d27 : Typed.Typed 𝓤 H A 𝓣 E G25 b26 Δ0 at27
-          d27 = Typed.g-pre 𝓤 H A W 𝓣 E G25 G26 b26 Δ0 (Typed.pass T25 T26 s22) at26 (Scalar.g-room 𝓤 H A W E G25 7 (Syntax.tyInt Syntax.w64) (Scalar.room-sc 𝓤 H A W (Row.sInt Syntax.w64))) d26
+          d27 = Typed.g-pre 𝓤 H A W 𝓣 E G25 G26 b26 Δ0 (Typed.pass T25 T26 s22) at26 (Scalar.g-room 𝓤 H A W E G25 7 ty0 (Scalar.room-sc 𝓤 H A W sc0)) d26
 
           d28 : Typed.Typed 𝓤 H A 𝓣 E G24 b26 Δ0 at28
-          d28 = Typed.g-pre 𝓤 H A W 𝓣 E G24 G25 b26 Δ0 (Typed.pass T24 T25 s21) at27 (Scalar.g-room 𝓤 H A W E G24 6 (Syntax.tyInt Syntax.w64) (Scalar.room-sc 𝓤 H A W (Row.sInt Syntax.w64))) d27
+          d28 = Typed.g-pre 𝓤 H A W 𝓣 E G24 G25 b26 Δ0 (Typed.pass T24 T25 s21) at27 (Scalar.g-room 𝓤 H A W E G24 6 ty0 (Scalar.room-sc 𝓤 H A W sc0)) d27
 
           d29 : Typed.Typed 𝓤 H A 𝓣 E G5 b27 Δ0 at29
           d29 = Typed.s-seq 𝓤 H A W 𝓣 E G5 G24 b25 b26 Δ0 (Typed.pass T5 T24 s20) at28 (Scalar.t-use 𝓤 H A W E 𝓣 G5 Scalar.oUnit 0 (Rows'.sc-here Row.sUnit) Syntax.tyUnit (Row.valS Row.sUnit) (Row.sUnit .of) tt (Reads'.room-gone 𝓤 H A Syntax.tyUnit) (Scalar.holds-sc 𝓤 H A W Row.sUnit) Path'.refl (λ u. Path'.refl) λ u. tt) d28
@@ -750,13 +871,13 @@ module _ (claims· : Claims) where
           d30 = Typed.t-seq 𝓤 H A W 𝓣 E G4 G5 b24 b27 Δ0 at22 at29 d22 d29
 
           d31 : Typed.Typed 𝓤 H A 𝓣 E G3 b29 Δ0 at31
-          d31 = Typed.s-seq 𝓤 H A W 𝓣 E G3 G4 b1 b28 Δ0 (Typed.pass T3 T4 s2) at30 (Scalar.t-use 𝓤 H A W E 𝓣 G3 (Scalar.oInt Syntax.w64 0) 7 (Rows'.sc-here (Row.sInt Syntax.w64)) (Syntax.tyInt Syntax.w64) (Row.valS (Row.sInt Syntax.w64)) (Row.sInt Syntax.w64 .of) tt (Reads'.room-gone 𝓤 H A (Syntax.tyInt Syntax.w64)) (Scalar.holds-sc 𝓤 H A W (Row.sInt Syntax.w64)) Path'.refl (λ u. Path'.refl) λ u. tt) d30
+          d31 = Typed.s-seq 𝓤 H A W 𝓣 E G3 G4 b1 b28 Δ0 (Typed.pass T3 T4 s2) at30 (Scalar.t-use 𝓤 H A W E 𝓣 G3 (Scalar.oInt Syntax.w64 0) 7 (Rows'.sc-here sc0) ty0 (Row.valS sc0) (Row.sInt Syntax.w64 .of) tt (Reads'.room-gone 𝓤 H A ty0) (Scalar.holds-sc 𝓤 H A W sc0) Path'.refl (λ u. Path'.refl) λ u. tt) d30
 
           d32 : Typed.Typed 𝓤 H A 𝓣 E G2 b30 Δ0 at32
-          d32 = Typed.s-seq 𝓤 H A W 𝓣 E G2 G3 b0 b29 Δ0 (Typed.pass T2 T3 s1) at31 (Scalar.t-use 𝓤 H A W E 𝓣 G2 (Scalar.oAt 4 (Syntax.tyInt Syntax.w64) (Row.valS (Row.sInt Syntax.w64))) 6 (Rows'.sc-here (Row.sInt Syntax.w64)) (Syntax.tyInt Syntax.w64) (Row.valS (Row.sInt Syntax.w64)) (Row.sInt Syntax.w64 .of) (Scalar.reads-sc 𝓤 H A W (Row.sInt Syntax.w64), Path'.refl) (Reads'.room-gone 𝓤 H A (Syntax.tyInt Syntax.w64)) (Scalar.holds-sc 𝓤 H A W (Row.sInt Syntax.w64)) Path'.refl (λ u. Path'.refl) λ u. tt) d31
+          d32 = Typed.s-seq 𝓤 H A W 𝓣 E G2 G3 b0 b29 Δ0 (Typed.pass T2 T3 s1) at31 (Scalar.t-use 𝓤 H A W E 𝓣 G2 (Scalar.oAt 4 ty0 (Row.valS sc0)) 6 (Rows'.sc-here sc0) ty0 (Row.valS sc0) (Row.sInt Syntax.w64 .of) (Scalar.reads-sc 𝓤 H A W sc0, Path'.refl) (Reads'.room-gone 𝓤 H A ty0) (Scalar.holds-sc 𝓤 H A W sc0) Path'.refl (λ u. Path'.refl) λ u. tt) d31
 
           d33 : Typed.Typed 𝓤 H A 𝓣 E G0 b30 Δ0 at33
-          d33 = Typed.g-pre 𝓤 H A W 𝓣 E G0 G2 b30 Δ0 (Typed.give s0) at32 (Know.g-shs-known 𝓤 H A W (Referent.fInt Syntax.w8) E G0 3 1 (Syntax.tyRef (Syntax.named 1) Syntax.imm (Syntax.tyInt Syntax.w8)) (Row.lease (κs .1 .0) (qs .1 .0)) 0 (λ x. x) record { fits = Dec'.lit< tt } (Reads'.as-is 𝓤 H A (Rows'.sslice (Referent.rtF (Referent.fInt Syntax.w8)) (Syntax.tyRef (Syntax.named 1) Syntax.imm (Syntax.tyInt Syntax.w8)) 1)) Path'.refl tt) d32
+          d33 = Typed.g-pre 𝓤 H A W 𝓣 E G0 G2 b30 Δ0 (Typed.give s0) at32 (Know.g-shs-known 𝓤 H A W rf0 E G0 3 1 ty4 (Row.lease (κs .1 .0) (qs .1 .0)) 0 (λ x. x) record { fits = Dec'.lit< tt } (Reads'.as-is 𝓤 H A (Rows'.sslice held0 ty4 1)) Path'.refl tt) d32
 
           pub typed : Typed.Typed 𝓤 H A 𝓣 E (Function.Γin 2 ps r xs m κs qs) b30 (Function.Δret 2 ps r xs m κs qs) Φ
           typed = d33
@@ -765,7 +886,7 @@ module _ (claims· : Claims) where
         pub record Args : Type 0 where
           pub sheet : Kinds.Den {n = 2} κs (MutSlice.pMutS Cell.R 0 tt)
           pub place : Kinds.Den {n = 2} κs (Num.pNum Syntax.w64)
-          pub script : Kinds.Den {n = 2} κs (ShrSlice.pShrS (Referent.rtF (Referent.fInt Syntax.w8)) 1 tt)
+          pub script : Kinds.Den {n = 2} κs (ShrSlice.pShrS held0 1 tt)
           pub from : Kinds.Den {n = 2} κs (Num.pNum Syntax.w64)
           pub n : Kinds.Den {n = 2} κs (Num.pNum Syntax.w64)
 
@@ -817,23 +938,23 @@ module _ (claims· : Claims) where
       abbrev pub Need-loop-holds : Type 0
       Need-loop-holds = (c : After-shared-slice-known) → Inv·0 (Row.get 1 (T4 .locals) (m3 (c .before) (c .shared-slice-known .given)) .now) (Row.get 2 (T4 .locals) (m3 (c .before) (c .shared-slice-known .given))) (Row.get 3 (T4 .locals) (m3 (c .before) (c .shared-slice-known .given)) .now) (Row.get 4 (T4 .locals) (m3 (c .before) (c .shared-slice-known .given))) (Row.get 5 (T4 .locals) (m3 (c .before) (c .shared-slice-known .given))) (Row.get 6 (T4 .locals) (m3 (c .before) (c .shared-slice-known .given))) (Row.get 7 (T4 .locals) (m3 (c .before) (c .shared-slice-known .given))) (Row.get 1 (T4 .locals) (m3 (c .before) (c .shared-slice-known .given)) .now) (Row.get 6 (T4 .locals) (m3 (c .before) (c .shared-slice-known .given))) (Row.get 7 (T4 .locals) (m3 (c .before) (c .shared-slice-known .given)))
 
-      abbrev pub m4 : (before : After-shared-slice-known) → (sheet : List.List (Cell.R .Denot)) → (at : Rows'.sc-here (Row.sInt Syntax.w64) .Mod) → (i : Rows'.sc-here (Row.sInt Syntax.w64) .Mod) → Typed.Mo T4
-      m4 = λ before sheet at i. Row.set 7 (7, Rows'.sc-here (Row.sInt Syntax.w64)) i (Row.setRow 6 (6, Rows'.sc-here (Row.sInt Syntax.w64)) (Row.setRow 1 (1, Mut.mslice Cell.R (Syntax.tyRef (Syntax.named 0) Syntax.mut Cell.behind) 0) (T4 .locals))) (Row.set 6 (6, Rows'.sc-here (Row.sInt Syntax.w64)) at (Row.setRow 1 (1, Mut.mslice Cell.R (Syntax.tyRef (Syntax.named 0) Syntax.mut Cell.behind) 0) (T4 .locals)) (Row.set 1 (1, Mut.mslice Cell.R (Syntax.tyRef (Syntax.named 0) Syntax.mut Cell.behind) 0) record { ptr = Row.get 1 (T4 .locals) (m3 (before .before) (before .shared-slice-known .given)) .ptr; name = Row.get 1 (T4 .locals) (m3 (before .before) (before .shared-slice-known .given)) .name; now = sheet } (T4 .locals) (m3 (before .before) (before .shared-slice-known .given))))
+      abbrev pub m4 : (before : After-shared-slice-known) → (sheet : List.List (Cell.R .Denot)) → (at : Rows'.sc-here sc0 .Mod) → (i : Rows'.sc-here sc0 .Mod) → Typed.Mo T4
+      m4 = λ before sheet at i. Row.set 7 local13 i (Row.setRow 6 local12 (Row.setRow 1 local1 (T4 .locals))) (Row.set 6 local12 at (Row.setRow 1 local1 (T4 .locals)) (Row.set 1 local1 record { ptr = Row.get 1 (T4 .locals) (m3 (before .before) (before .shared-slice-known .given)) .ptr; name = Row.get 1 (T4 .locals) (m3 (before .before) (before .shared-slice-known .given)) .name; now = sheet } (T4 .locals) (m3 (before .before) (before .shared-slice-known .given))))
 
-      abbrev W3 : (before : After-shared-slice-known) → (sheet : List.List (Cell.R .Denot)) → (at : Rows'.sc-here (Row.sInt Syntax.w64) .Mod) → (i : Rows'.sc-here (Row.sInt Syntax.w64) .Mod) → Typed.Want O3
+      abbrev W3 : (before : After-shared-slice-known) → (sheet : List.List (Cell.R .Denot)) → (at : Rows'.sc-here sc0 .Mod) → (i : Rows'.sc-here sc0 .Mod) → Typed.Want O3
       W3 = λ before sheet at i. Typed.inLoop T4 O2 (Typed.Round T4 O2 put0 (λ u vs. Inv·0 (Row.get 1 (T4 .locals) u .now) (Row.get 2 (T4 .locals) u) (Row.get 3 (T4 .locals) u .now) (Row.get 4 (T4 .locals) u) (Row.get 5 (T4 .locals) u) (Row.get 6 (T4 .locals) u) (Row.get 7 (T4 .locals) u) (vs .0) (vs .1) (vs .2)) (λ u vs. μ·0 (Row.get 1 (T4 .locals) u .now) (Row.get 2 (T4 .locals) u) (Row.get 3 (T4 .locals) u .now) (Row.get 4 (T4 .locals) u) (Row.get 5 (T4 .locals) u) (Row.get 6 (T4 .locals) u) (Row.get 7 (T4 .locals) u) (vs .0) (vs .1) (vs .2)) at20 (m3 (before .before) (before .shared-slice-known .given)) (sheet, at, i)) (W2 (before .before) (before .shared-slice-known .given))
 
-      abbrev pub m5 : (before : After-shared-slice-known) → (sheet : List.List (Cell.R .Denot)) → (at : Rows'.sc-here (Row.sInt Syntax.w64) .Mod) → (i : Rows'.sc-here (Row.sInt Syntax.w64) .Mod) → Typed.Mo T6
+      abbrev pub m5 : (before : After-shared-slice-known) → (sheet : List.List (Cell.R .Denot)) → (at : Rows'.sc-here sc0 .Mod) → (i : Rows'.sc-here sc0 .Mod) → Typed.Mo T6
       m5 = λ before sheet at i. s3 .next (m4 before sheet at i)
 
-      abbrev W4 : (before : After-shared-slice-known) → (sheet : List.List (Cell.R .Denot)) → (at : Rows'.sc-here (Row.sInt Syntax.w64) .Mod) → (i : Rows'.sc-here (Row.sInt Syntax.w64) .Mod) → Typed.Want O4
+      abbrev W4 : (before : After-shared-slice-known) → (sheet : List.List (Cell.R .Denot)) → (at : Rows'.sc-here sc0 .Mod) → (i : Rows'.sc-here sc0 .Mod) → Typed.Want O4
       W4 = λ before sheet at i. Typed.wantNext T7 O3 (at18 (W3 before sheet at i)) (W3 before sheet at i)
 
       module _ (before· : After-shared-slice-known) where
         pub record At-loop·own : Type 0 where
           pub sheet : List.List (Cell.R .Denot)
-          pub at : Rows'.sc-here (Row.sInt Syntax.w64) .Mod
-          pub i : Rows'.sc-here (Row.sInt Syntax.w64) .Mod
+          pub at : Rows'.sc-here sc0 .Mod
+          pub i : Rows'.sc-here sc0 .Mod
           pub inv : Inv·0 (Row.get 1 (T4 .locals) (m3 (before· .before) (before· .shared-slice-known .given)) .now) (Row.get 2 (T4 .locals) (m3 (before· .before) (before· .shared-slice-known .given))) (Row.get 3 (T4 .locals) (m3 (before· .before) (before· .shared-slice-known .given)) .now) (Row.get 4 (T4 .locals) (m3 (before· .before) (before· .shared-slice-known .given))) (Row.get 5 (T4 .locals) (m3 (before· .before) (before· .shared-slice-known .given))) (Row.get 6 (T4 .locals) (m3 (before· .before) (before· .shared-slice-known .given))) (Row.get 7 (T4 .locals) (m3 (before· .before) (before· .shared-slice-known .given))) sheet at i
 
       pub record At-loop : Type 0 where
@@ -870,14 +991,14 @@ module _ (claims· : Claims) where
 
       module _ (before· : In-loop) where
         abbrev pub After-next-record·own : Type 0
-        After-next-record·own = Called.Called ps·0 r·0 (claims· .1) T7 (record { pos = 3; ty = Syntax.tyRef (Syntax.named 1) Syntax.imm (Syntax.tyInt Syntax.w8); ref = λ x. x }, (Num.vAt 6 λ x. x, tt)) (m6 (before· .before))
+        After-next-record·own = Called.Called ps·0 r·0 (claims· .1) T7 (record { pos = 3; ty = Syntax.tyRef (Syntax.named 1) Syntax.imm ty3; ref = λ x. x }, (Num.vAt 6 λ x. x, tt)) (m6 (before· .before))
 
       pub record After-next-record : Type 0 where
         pub before : In-loop
         pub next-record : After-next-record·own before
 
       abbrev pub After-next-record·gave : (c : After-next-record) → s6 .gives (m6 (c .before .before))
-      After-next-record·gave = λ c. Called.given ps·0 r·0 (claims· .1) T7 (record { pos = 3; ty = Syntax.tyRef (Syntax.named 1) Syntax.imm (Syntax.tyInt Syntax.w8); ref = λ x. x }, (Num.vAt 6 λ x. x, tt)) (m6 (c .before .before)) (c .next-record)
+      After-next-record·gave = λ c. Called.given ps·0 r·0 (claims· .1) T7 (record { pos = 3; ty = Syntax.tyRef (Syntax.named 1) Syntax.imm ty3; ref = λ x. x }, (Num.vAt 6 λ x. x, tt)) (m6 (c .before .before)) (c .next-record)
 
       abbrev pub m9 : (before : In-loop) → (given : s6 .gives (m6 (before .before))) → Typed.Mo T11
       m9 = λ before given. s7 (m8 before given)
@@ -985,7 +1106,7 @@ module _ (claims· : Claims) where
         lay4 = λ c. (zone-requires record { before = c .before; next-record = c .next-record }, λ g. lay5 record { before = record { before = c .before; next-record = c .next-record }; zone = Called.called ps·1 r·1 (claims· .3) T11 (record { pos = 8; st = List.[]; d = 0; at = λ x. x }, tt) (m9 (c .before) (After-next-record·gave c)) g })
 
         lay3 : (c : In-loop) → at18 (W3 (c .before .before) (c .before .loop .sheet) (c .before .loop .at) (c .before .loop .i)) (m6 (c .before))
-        lay3 = λ c. (next-record-requires record { before = c .before; loop-test = c .loop-test }, λ g. lay4 record { before = record { before = c .before; loop-test = c .loop-test }; next-record = Called.called ps·0 r·0 (claims· .1) T7 (record { pos = 3; ty = Syntax.tyRef (Syntax.named 1) Syntax.imm (Syntax.tyInt Syntax.w8); ref = λ x. x }, (Num.vAt 6 λ x. x, tt)) (m6 (c .before)) g })
+        lay3 = λ c. (next-record-requires record { before = c .before; loop-test = c .loop-test }, λ g. lay4 record { before = record { before = c .before; loop-test = c .loop-test }; next-record = Called.called ps·0 r·0 (claims· .1) T7 (record { pos = 3; ty = Syntax.tyRef (Syntax.named 1) Syntax.imm ty3; ref = λ x. x }, (Num.vAt 6 λ x. x, tt)) (m6 (c .before)) g })
 
         lay2 : (c : After-loop) → at3 (W4 (c .before .before) (c .before .loop .sheet) (c .before .loop .at) (c .before .loop .i)) (m5 (c .before .before) (c .before .loop .sheet) (c .before .loop .at) (c .before .loop .i))
         lay2 = λ c. lay6 record { before = c .before; loop-test = c .loop-test }

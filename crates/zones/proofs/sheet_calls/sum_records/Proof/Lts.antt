@@ -44,6 +44,72 @@ use mir.Val
 use prog.Wp
 use types.Kit
 
+abbrev ty0 : Syntax.Ty
+ty0 = Syntax.tyInt Syntax.w64
+
+abbrev place0 : Syntax.Place
+place0 = Syntax.place 3 List.[]
+
+abbrev place1 : Syntax.Place
+place1 = Syntax.place 4 List.[]
+
+abbrev steps0 : List.List Syntax.Step
+steps0 = List._∷_ (Syntax.field 0) List.[]
+
+abbrev local0 : Row.Entry
+local0 = (0, Rows'.any-gone ty0)
+
+abbrev ty1 : Syntax.Ty
+ty1 = Syntax.tyRef (Syntax.named 0) Syntax.imm Cell.behind
+
+abbrev local1 : Row.Entry
+local1 = (1, Rows'.sslice Cell.R ty1 0)
+
+abbrev sc0 : Row.Sc
+sc0 = Row.sInt Syntax.w64
+
+abbrev local2 : Row.Entry
+local2 = (2, Rows'.sc-here sc0)
+
+abbrev local3 : Row.Entry
+local3 = (5, Rows'.any-gone Cell.held)
+
+abbrev local4 : Row.Entry
+local4 = (6, Rows'.any-gone Syntax.tyBool)
+
+abbrev local5 : Row.Entry
+local5 = (7, Rows'.any-gone ty0)
+
+abbrev locals0 : List.List Row.Entry
+locals0 = List._∷_ (8, Rows'.any-gone Syntax.tyPtr) (List._∷_ (9, Rows'.any-gone Cell.held) List.[])
+
+abbrev locals1 : List.List Row.Entry
+locals1 = List._∷_ local3 (List._∷_ local4 (List._∷_ local5 locals0))
+
+abbrev locals2 : List.List Row.Entry
+locals2 = List._∷_ (4, Rows'.any-gone ty0) locals1
+
+abbrev locals3 : List.List Row.Entry
+locals3 = List._∷_ local1 (List._∷_ local2 (List._∷_ (3, Rows'.any-gone ty0) locals2))
+
+abbrev local6 : Row.Entry
+local6 = (0, Rows'.sc-here sc0)
+
+abbrev local7 : Row.Entry
+local7 = (3, Rows'.sc-here sc0)
+
+abbrev local8 : Row.Entry
+local8 = (4, Rows'.sc-here sc0)
+
+abbrev locals4 : List.List Row.Entry
+locals4 = List._∷_ local1 (List._∷_ local2 (List._∷_ local7 (List._∷_ local8 locals1)))
+
+abbrev locals5 : List.List Row.Entry
+locals5 = List._∷_ (9, Cell.row) List.[]
+
+abbrev locals6 : List.List Row.Entry
+locals6 = List._∷_ local4 (List._∷_ local5 (List._∷_ (8, Rows'.any-gone Syntax.tyPtr) locals5))
+
 abbrev pub ps : List.List (Kinds.PK 1)
 ps = List._∷_ (ShrSlice.pShrS Cell.R 0 tt) (List._∷_ (Num.pNum Syntax.w64) List.[])
 
@@ -51,7 +117,7 @@ abbrev pub r : Kinds.RK 1
 r = Num.rNum Syntax.w64
 
 abbrev pub xs : List.List Syntax.Ty
-xs = List._∷_ (Syntax.tyInt Syntax.w64) (List._∷_ (Syntax.tyInt Syntax.w64) (List._∷_ Cell.held (List._∷_ Syntax.tyBool (List._∷_ (Syntax.tyInt Syntax.w64) (List._∷_ Syntax.tyPtr (List._∷_ Cell.held List.[]))))))
+xs = List._∷_ ty0 (List._∷_ ty0 (List._∷_ Cell.held (List._∷_ Syntax.tyBool (List._∷_ ty0 (List._∷_ Syntax.tyPtr (List._∷_ Cell.held List.[]))))))
 
 abbrev pub m : Nat.ℕ
 m = 0
@@ -66,13 +132,13 @@ abbrev pub hs : List.List Syntax.Home
 hs = List._∷_ Syntax.valueLocal (List._∷_ Syntax.valueLocal (List._∷_ Syntax.valueLocal (List._∷_ Syntax.valueLocal (List._∷_ Syntax.valueLocal (List._∷_ Syntax.valueLocal (List._∷_ Syntax.valueLocal (List._∷_ Syntax.valueLocal (List._∷_ Syntax.valueLocal (List._∷_ Syntax.valueLocal List.[])))))))))
 
 abbrev b0 : Syntax.Body
-b0 = Syntax.assign (Syntax.place 3 List.[]) (Syntax.rvOpd (Syntax.int Syntax.w64 0))
+b0 = Syntax.assign place0 (Syntax.rvOpd (Syntax.int Syntax.w64 0))
 
 abbrev b1 : Syntax.Body
-b1 = Syntax.assign (Syntax.place 4 List.[]) (Syntax.rvOpd (Syntax.int Syntax.w64 0))
+b1 = Syntax.assign place1 (Syntax.rvOpd (Syntax.int Syntax.w64 0))
 
 abbrev b2 : Syntax.Body
-b2 = Syntax.assign (Syntax.place 6 List.[]) (Syntax.op2 (Syntax.lt Syntax.unsigned) (Syntax.copy (Syntax.place 4 List.[])) (Syntax.copy (Syntax.place 2 List.[])))
+b2 = Syntax.assign (Syntax.place 6 List.[]) (Syntax.op2 (Syntax.lt Syntax.unsigned) (Syntax.copy place1) (Syntax.copy (Syntax.place 2 List.[])))
 
 abbrev b3 : Syntax.Body
 b3 = Syntax.skip
@@ -84,10 +150,10 @@ abbrev b5 : Syntax.Body
 b5 = Syntax.cond (Syntax.copy (Syntax.place 6 List.[])) b3 b4
 
 abbrev b6 : Syntax.Body
-b6 = Syntax.assign (Syntax.place 7 List.[]) (Syntax.op2 (Syntax.mul Syntax.unsigned) (Syntax.copy (Syntax.place 4 List.[])) (Syntax.int Syntax.w64 24))
+b6 = Syntax.assign (Syntax.place 7 List.[]) (Syntax.op2 (Syntax.mul Syntax.unsigned) (Syntax.copy place1) (Syntax.int Syntax.w64 24))
 
 abbrev b7 : Syntax.Body
-b7 = Syntax.assign (Syntax.place 8 List.[]) (Syntax.op2 Syntax.offset (Syntax.copy (Syntax.place 1 (List._∷_ (Syntax.field 0) List.[]))) (Syntax.copy (Syntax.place 7 List.[])))
+b7 = Syntax.assign (Syntax.place 8 List.[]) (Syntax.op2 Syntax.offset (Syntax.copy (Syntax.place 1 steps0)) (Syntax.copy (Syntax.place 7 List.[])))
 
 abbrev b8 : Syntax.Body
 b8 = Syntax.assign (Syntax.place 9 List.[]) (Syntax.rvOpd (Syntax.copy (Syntax.place 8 (List._∷_ (Syntax.deref Cell.held) List.[]))))
@@ -96,10 +162,10 @@ abbrev b9 : Syntax.Body
 b9 = Syntax.assign (Syntax.place 5 List.[]) (Syntax.rvOpd (Syntax.copy (Syntax.place 9 List.[])))
 
 abbrev b10 : Syntax.Body
-b10 = Syntax.call "zones::sums::step_zone" (List._∷_ (Syntax.copy (Syntax.place 3 List.[])) (List._∷_ (Syntax.copy (Syntax.place 5 List.[])) List.[])) (Syntax.place 3 List.[])
+b10 = Syntax.call "zones::sums::step_zone" (List._∷_ (Syntax.copy place0) (List._∷_ (Syntax.copy (Syntax.place 5 List.[])) List.[])) place0
 
 abbrev b11 : Syntax.Body
-b11 = Syntax.assign (Syntax.place 4 List.[]) (Syntax.op2 (Syntax.add Syntax.unsigned) (Syntax.copy (Syntax.place 4 List.[])) (Syntax.int Syntax.w64 1))
+b11 = Syntax.assign place1 (Syntax.op2 (Syntax.add Syntax.unsigned) (Syntax.copy place1) (Syntax.int Syntax.w64 1))
 
 abbrev b12 : Syntax.Body
 b12 = Syntax.seq b10 b11
@@ -129,7 +195,7 @@ abbrev b20 : Syntax.Body
 b20 = Syntax.block b19
 
 abbrev b21 : Syntax.Body
-b21 = Syntax.assign (Syntax.place 0 List.[]) (Syntax.rvOpd (Syntax.copy (Syntax.place 3 List.[])))
+b21 = Syntax.assign (Syntax.place 0 List.[]) (Syntax.rvOpd (Syntax.copy place0))
 
 abbrev b22 : Syntax.Body
 b22 = Syntax.return
@@ -153,49 +219,49 @@ abbrev pub Claims : Type 1
 Claims = Kinds.In 0 ps·0 × Kinds.Out 0 ps·0 r·0
 
 abbrev pub t0 : List.List Row.Entry
-t0 = List._∷_ (0, Rows'.any-gone (Syntax.tyInt Syntax.w64)) (List._∷_ (1, Rows'.sslice Cell.R (Syntax.tyRef (Syntax.named 0) Syntax.imm Cell.behind) 0) (List._∷_ (2, Rows'.sc-here (Row.sInt Syntax.w64)) (List._∷_ (3, Rows'.any-gone (Syntax.tyInt Syntax.w64)) (List._∷_ (4, Rows'.any-gone (Syntax.tyInt Syntax.w64)) (List._∷_ (5, Rows'.any-gone Cell.held) (List._∷_ (6, Rows'.any-gone Syntax.tyBool) (List._∷_ (7, Rows'.any-gone (Syntax.tyInt Syntax.w64)) (List._∷_ (8, Rows'.any-gone Syntax.tyPtr) (List._∷_ (9, Rows'.any-gone Cell.held) List.[])))))))))
+t0 = List._∷_ local0 locals3
 
 abbrev pub t1 : List.List Row.Entry
-t1 = List._∷_ (0, Rows'.sc-here (Row.sInt Syntax.w64)) (List._∷_ (1, Rows'.sslice Cell.R (Syntax.tyRef (Syntax.named 0) Syntax.imm Cell.behind) 0) (List._∷_ (2, Rows'.any-gone (Syntax.tyInt Syntax.w64)) (List._∷_ (3, Rows'.any-gone (Syntax.tyInt Syntax.w64)) (List._∷_ (4, Rows'.any-gone (Syntax.tyInt Syntax.w64)) (List._∷_ (5, Rows'.any-gone Cell.held) (List._∷_ (6, Rows'.any-gone Syntax.tyBool) (List._∷_ (7, Rows'.any-gone (Syntax.tyInt Syntax.w64)) (List._∷_ (8, Rows'.any-gone Syntax.tyPtr) (List._∷_ (9, Rows'.any-gone Cell.held) List.[])))))))))
+t1 = List._∷_ local6 (List._∷_ local1 (List._∷_ (2, Rows'.any-gone ty0) (List._∷_ (3, Rows'.any-gone ty0) locals2)))
 
 abbrev pub t2 : List.List Row.Entry
-t2 = List._∷_ (0, Rows'.any-gone (Syntax.tyInt Syntax.w64)) (List._∷_ (1, Rows'.sslice Cell.R (Syntax.tyRef (Syntax.named 0) Syntax.imm Cell.behind) 0) (List._∷_ (2, Rows'.sc-here (Row.sInt Syntax.w64)) (List._∷_ (3, Rows'.sc-here (Row.sInt Syntax.w64)) (List._∷_ (4, Rows'.any-gone (Syntax.tyInt Syntax.w64)) (List._∷_ (5, Rows'.any-gone Cell.held) (List._∷_ (6, Rows'.any-gone Syntax.tyBool) (List._∷_ (7, Rows'.any-gone (Syntax.tyInt Syntax.w64)) (List._∷_ (8, Rows'.any-gone Syntax.tyPtr) (List._∷_ (9, Rows'.any-gone Cell.held) List.[])))))))))
+t2 = List._∷_ local0 (List._∷_ local1 (List._∷_ local2 (List._∷_ local7 locals2)))
 
 abbrev pub t3 : List.List Row.Entry
-t3 = List._∷_ (0, Rows'.any-gone (Syntax.tyInt Syntax.w64)) (List._∷_ (1, Rows'.sslice Cell.R (Syntax.tyRef (Syntax.named 0) Syntax.imm Cell.behind) 0) (List._∷_ (2, Rows'.sc-here (Row.sInt Syntax.w64)) (List._∷_ (3, Rows'.sc-here (Row.sInt Syntax.w64)) (List._∷_ (4, Rows'.sc-here (Row.sInt Syntax.w64)) (List._∷_ (5, Rows'.any-gone Cell.held) (List._∷_ (6, Rows'.any-gone Syntax.tyBool) (List._∷_ (7, Rows'.any-gone (Syntax.tyInt Syntax.w64)) (List._∷_ (8, Rows'.any-gone Syntax.tyPtr) (List._∷_ (9, Rows'.any-gone Cell.held) List.[])))))))))
+t3 = List._∷_ local0 locals4
 
 abbrev pub t4 : List.List Row.Entry
-t4 = List._∷_ (0, Rows'.any-gone (Syntax.tyInt Syntax.w64)) (List._∷_ (1, Rows'.sslice Cell.R (Syntax.tyRef (Syntax.named 0) Syntax.imm Cell.behind) 0) (List._∷_ (2, Rows'.sc-here (Row.sInt Syntax.w64)) (List._∷_ (3, Rows'.sc-here (Row.sInt Syntax.w64)) (List._∷_ (4, Rows'.sc-here (Row.sInt Syntax.w64)) (List._∷_ (5, Rows'.any-gone Cell.held) (List._∷_ (6, Rows'.sc-here Row.sBool) (List._∷_ (7, Rows'.any-gone (Syntax.tyInt Syntax.w64)) (List._∷_ (8, Rows'.any-gone Syntax.tyPtr) (List._∷_ (9, Rows'.any-gone Cell.held) List.[])))))))))
+t4 = List._∷_ local0 (List._∷_ local1 (List._∷_ local2 (List._∷_ local7 (List._∷_ local8 (List._∷_ local3 (List._∷_ (6, Rows'.sc-here Row.sBool) (List._∷_ local5 locals0)))))))
 
 abbrev pub t5 : List.List Row.Entry
-t5 = List._∷_ (0, Rows'.any-gone (Syntax.tyInt Syntax.w64)) (List._∷_ (1, Rows'.sslice Cell.R (Syntax.tyRef (Syntax.named 0) Syntax.imm Cell.behind) 0) (List._∷_ (2, Rows'.sc-here (Row.sInt Syntax.w64)) (List._∷_ (3, Rows'.sc-here (Row.sInt Syntax.w64)) (List._∷_ (4, Rows'.sc-here (Row.sInt Syntax.w64)) (List._∷_ (5, Rows'.any-gone Cell.held) (List._∷_ (6, Rows'.any-gone Syntax.tyBool) (List._∷_ (7, Rows'.sc-here (Row.sInt Syntax.w64)) (List._∷_ (8, Rows'.any-gone Syntax.tyPtr) (List._∷_ (9, Rows'.any-gone Cell.held) List.[])))))))))
+t5 = List._∷_ local0 (List._∷_ local1 (List._∷_ local2 (List._∷_ local7 (List._∷_ local8 (List._∷_ local3 (List._∷_ local4 (List._∷_ (7, Rows'.sc-here sc0) locals0)))))))
 
 abbrev pub t6 : List.List Row.Entry
-t6 = List._∷_ (0, Rows'.any-gone (Syntax.tyInt Syntax.w64)) (List._∷_ (1, Rows'.sslice Cell.R (Syntax.tyRef (Syntax.named 0) Syntax.imm Cell.behind) 0) (List._∷_ (2, Rows'.sc-here (Row.sInt Syntax.w64)) (List._∷_ (3, Rows'.sc-here (Row.sInt Syntax.w64)) (List._∷_ (4, Rows'.sc-here (Row.sInt Syntax.w64)) (List._∷_ (5, Rows'.any-gone Cell.held) (List._∷_ (6, Rows'.any-gone Syntax.tyBool) (List._∷_ (7, Rows'.sc-here (Row.sInt Syntax.w64)) (List._∷_ (8, Rows'.sc-here Row.sPtr) (List._∷_ (9, Rows'.any-gone Cell.held) List.[])))))))))
+t6 = List._∷_ local0 (List._∷_ local1 (List._∷_ local2 (List._∷_ local7 (List._∷_ local8 (List._∷_ local3 (List._∷_ local4 (List._∷_ (7, Rows'.sc-here sc0) (List._∷_ (8, Rows'.sc-here Row.sPtr) (List._∷_ (9, Rows'.any-gone Cell.held) List.[])))))))))
 
 abbrev pub t7 : List.List Row.Entry
-t7 = List._∷_ (0, Rows'.any-gone (Syntax.tyInt Syntax.w64)) (List._∷_ (1, Rows'.sslice Cell.R (Syntax.tyRef (Syntax.named 0) Syntax.imm Cell.behind) 0) (List._∷_ (2, Rows'.sc-here (Row.sInt Syntax.w64)) (List._∷_ (3, Rows'.sc-here (Row.sInt Syntax.w64)) (List._∷_ (4, Rows'.sc-here (Row.sInt Syntax.w64)) (List._∷_ (5, Rows'.any-gone Cell.held) (List._∷_ (6, Rows'.any-gone Syntax.tyBool) (List._∷_ (7, Rows'.sc-here (Row.sInt Syntax.w64)) (List._∷_ (8, Rows'.sc-here Row.sPtr) (List._∷_ (9, Cell.row) List.[])))))))))
+t7 = List._∷_ local0 (List._∷_ local1 (List._∷_ local2 (List._∷_ local7 (List._∷_ local8 (List._∷_ local3 (List._∷_ local4 (List._∷_ (7, Rows'.sc-here sc0) (List._∷_ (8, Rows'.sc-here Row.sPtr) locals5))))))))
 
 abbrev pub t8 : List.List Row.Entry
-t8 = List._∷_ (0, Rows'.any-gone (Syntax.tyInt Syntax.w64)) (List._∷_ (1, Rows'.sslice Cell.R (Syntax.tyRef (Syntax.named 0) Syntax.imm Cell.behind) 0) (List._∷_ (2, Rows'.sc-here (Row.sInt Syntax.w64)) (List._∷_ (3, Rows'.sc-here (Row.sInt Syntax.w64)) (List._∷_ (4, Rows'.sc-here (Row.sInt Syntax.w64)) (List._∷_ (5, Rows'.any-gone Cell.held) (List._∷_ (6, Rows'.any-gone Syntax.tyBool) (List._∷_ (7, Rows'.any-gone (Syntax.tyInt Syntax.w64)) (List._∷_ (8, Rows'.sc-here Row.sPtr) (List._∷_ (9, Cell.row) List.[])))))))))
+t8 = List._∷_ local0 (List._∷_ local1 (List._∷_ local2 (List._∷_ local7 (List._∷_ local8 (List._∷_ local3 (List._∷_ local4 (List._∷_ local5 (List._∷_ (8, Rows'.sc-here Row.sPtr) locals5))))))))
 
 abbrev pub t9 : List.List Row.Entry
-t9 = List._∷_ (0, Rows'.any-gone (Syntax.tyInt Syntax.w64)) (List._∷_ (1, Rows'.sslice Cell.R (Syntax.tyRef (Syntax.named 0) Syntax.imm Cell.behind) 0) (List._∷_ (2, Rows'.sc-here (Row.sInt Syntax.w64)) (List._∷_ (3, Rows'.sc-here (Row.sInt Syntax.w64)) (List._∷_ (4, Rows'.sc-here (Row.sInt Syntax.w64)) (List._∷_ (5, Rows'.any-gone Cell.held) (List._∷_ (6, Rows'.any-gone Syntax.tyBool) (List._∷_ (7, Rows'.any-gone (Syntax.tyInt Syntax.w64)) (List._∷_ (8, Rows'.any-gone Syntax.tyPtr) (List._∷_ (9, Cell.row) List.[])))))))))
+t9 = List._∷_ local0 (List._∷_ local1 (List._∷_ local2 (List._∷_ local7 (List._∷_ local8 (List._∷_ local3 locals6)))))
 
 abbrev pub t10 : List.List Row.Entry
-t10 = List._∷_ (0, Rows'.any-gone (Syntax.tyInt Syntax.w64)) (List._∷_ (1, Rows'.sslice Cell.R (Syntax.tyRef (Syntax.named 0) Syntax.imm Cell.behind) 0) (List._∷_ (2, Rows'.sc-here (Row.sInt Syntax.w64)) (List._∷_ (3, Rows'.sc-here (Row.sInt Syntax.w64)) (List._∷_ (4, Rows'.sc-here (Row.sInt Syntax.w64)) (List._∷_ (5, Cell.row) (List._∷_ (6, Rows'.any-gone Syntax.tyBool) (List._∷_ (7, Rows'.any-gone (Syntax.tyInt Syntax.w64)) (List._∷_ (8, Rows'.any-gone Syntax.tyPtr) (List._∷_ (9, Cell.row) List.[])))))))))
+t10 = List._∷_ local0 (List._∷_ local1 (List._∷_ local2 (List._∷_ local7 (List._∷_ local8 (List._∷_ (5, Cell.row) locals6)))))
 
 abbrev pub t11 : List.List Row.Entry
-t11 = List._∷_ (0, Rows'.any-gone (Syntax.tyInt Syntax.w64)) (List._∷_ (1, Rows'.sslice Cell.R (Syntax.tyRef (Syntax.named 0) Syntax.imm Cell.behind) 0) (List._∷_ (2, Rows'.sc-here (Row.sInt Syntax.w64)) (List._∷_ (3, Rows'.sc-here (Row.sInt Syntax.w64)) (List._∷_ (4, Rows'.sc-here (Row.sInt Syntax.w64)) (List._∷_ (5, Cell.row) (List._∷_ (6, Rows'.any-gone Syntax.tyBool) (List._∷_ (7, Rows'.any-gone (Syntax.tyInt Syntax.w64)) (List._∷_ (8, Rows'.any-gone Syntax.tyPtr) (List._∷_ (9, Rows'.any-gone Cell.held) List.[])))))))))
+t11 = List._∷_ local0 (List._∷_ local1 (List._∷_ local2 (List._∷_ local7 (List._∷_ local8 (List._∷_ (5, Cell.row) (List._∷_ local4 (List._∷_ local5 locals0)))))))
 
 abbrev pub t12 : List.List Row.Entry
-t12 = List._∷_ (0, Rows'.sc-here (Row.sInt Syntax.w64)) (List._∷_ (1, Rows'.sslice Cell.R (Syntax.tyRef (Syntax.named 0) Syntax.imm Cell.behind) 0) (List._∷_ (2, Rows'.sc-here (Row.sInt Syntax.w64)) (List._∷_ (3, Rows'.sc-here (Row.sInt Syntax.w64)) (List._∷_ (4, Rows'.sc-here (Row.sInt Syntax.w64)) (List._∷_ (5, Rows'.any-gone Cell.held) (List._∷_ (6, Rows'.any-gone Syntax.tyBool) (List._∷_ (7, Rows'.any-gone (Syntax.tyInt Syntax.w64)) (List._∷_ (8, Rows'.any-gone Syntax.tyPtr) (List._∷_ (9, Rows'.any-gone Cell.held) List.[])))))))))
+t12 = List._∷_ local6 locals4
 
 abbrev pub t13 : List.List Row.Entry
-t13 = List._∷_ (0, Rows'.sc-here (Row.sInt Syntax.w64)) (List._∷_ (1, Rows'.sslice Cell.R (Syntax.tyRef (Syntax.named 0) Syntax.imm Cell.behind) 0) (List._∷_ (2, Rows'.sc-here (Row.sInt Syntax.w64)) (List._∷_ (3, Rows'.any-gone (Syntax.tyInt Syntax.w64)) (List._∷_ (4, Rows'.sc-here (Row.sInt Syntax.w64)) (List._∷_ (5, Rows'.any-gone Cell.held) (List._∷_ (6, Rows'.any-gone Syntax.tyBool) (List._∷_ (7, Rows'.any-gone (Syntax.tyInt Syntax.w64)) (List._∷_ (8, Rows'.any-gone Syntax.tyPtr) (List._∷_ (9, Rows'.any-gone Cell.held) List.[])))))))))
+t13 = List._∷_ local6 (List._∷_ local1 (List._∷_ local2 (List._∷_ (3, Rows'.any-gone ty0) (List._∷_ local8 locals1))))
 
 abbrev pub t14 : List.List Row.Entry
-t14 = List._∷_ (0, Rows'.sc-here (Row.sInt Syntax.w64)) (List._∷_ (1, Rows'.sslice Cell.R (Syntax.tyRef (Syntax.named 0) Syntax.imm Cell.behind) 0) (List._∷_ (2, Rows'.sc-here (Row.sInt Syntax.w64)) (List._∷_ (3, Rows'.any-gone (Syntax.tyInt Syntax.w64)) (List._∷_ (4, Rows'.any-gone (Syntax.tyInt Syntax.w64)) (List._∷_ (5, Rows'.any-gone Cell.held) (List._∷_ (6, Rows'.any-gone Syntax.tyBool) (List._∷_ (7, Rows'.any-gone (Syntax.tyInt Syntax.w64)) (List._∷_ (8, Rows'.any-gone Syntax.tyPtr) (List._∷_ (9, Rows'.any-gone Cell.held) List.[])))))))))
+t14 = List._∷_ local6 locals3
 
 abbrev pub T0 : Row.Cx
 T0 = record { locals = t0; slots = List.[] }
@@ -282,20 +348,20 @@ abbrev pub O4 : Typed.Outs
 O4 = Typed.withNext (Option.some T6) O3
 
 abbrev pub InvT-loop : Type 1
-InvT-loop = List.List (Cell.R .Denot) → Rows'.sc-here (Row.sInt Syntax.w64) .Mod → Rows'.sc-here (Row.sInt Syntax.w64) .Mod → Rows'.sc-here (Row.sInt Syntax.w64) .Mod → Rows'.sc-here (Row.sInt Syntax.w64) .Mod → Rows'.sc-here (Row.sInt Syntax.w64) .Mod → Type 0
+InvT-loop = List.List (Cell.R .Denot) → Rows'.sc-here sc0 .Mod → Rows'.sc-here sc0 .Mod → Rows'.sc-here sc0 .Mod → Rows'.sc-here sc0 .Mod → Rows'.sc-here sc0 .Mod → Type 0
 
 abbrev pub MeasureT-loop : Type 0
-MeasureT-loop = List.List (Cell.R .Denot) → Rows'.sc-here (Row.sInt Syntax.w64) .Mod → Rows'.sc-here (Row.sInt Syntax.w64) .Mod → Rows'.sc-here (Row.sInt Syntax.w64) .Mod → Rows'.sc-here (Row.sInt Syntax.w64) .Mod → Rows'.sc-here (Row.sInt Syntax.w64) .Mod → Nat.ℕ
+MeasureT-loop = List.List (Cell.R .Denot) → Rows'.sc-here sc0 .Mod → Rows'.sc-here sc0 .Mod → Rows'.sc-here sc0 .Mod → Rows'.sc-here sc0 .Mod → Rows'.sc-here sc0 .Mod → Nat.ℕ
 
 module _ (claims· : Claims) where
   abbrev s0 : Typed.Mo T0 → Typed.Mo T2
-  s0 = Scalar.n-use T0 (Scalar.oInt Syntax.w64 0) 3 (Rows'.sc-here (Row.sInt Syntax.w64)) (Row.sInt Syntax.w64 .of)
+  s0 = Scalar.n-use T0 (Scalar.oInt Syntax.w64 0) 3 (Rows'.sc-here sc0) (Row.sInt Syntax.w64 .of)
 
   abbrev s1 : Typed.Mo T2 → Typed.Mo T3
-  s1 = Scalar.n-use T2 (Scalar.oInt Syntax.w64 0) 4 (Rows'.sc-here (Row.sInt Syntax.w64)) (Row.sInt Syntax.w64 .of)
+  s1 = Scalar.n-use T2 (Scalar.oInt Syntax.w64 0) 4 (Rows'.sc-here sc0) (Row.sInt Syntax.w64 .of)
 
   abbrev s2 : Typed.Asks T3 T5
-  s2 = Scalar.k-op2 T3 (Syntax.lt Syntax.unsigned) (Scalar.oAt 4 (Syntax.tyInt Syntax.w64) (Row.valS (Row.sInt Syntax.w64))) (Scalar.oAt 2 (Syntax.tyInt Syntax.w64) (Row.valS (Row.sInt Syntax.w64))) 6 (Rows'.sc-here Row.sBool) (Row.sBool .of)
+  s2 = Scalar.k-op2 T3 (Syntax.lt Syntax.unsigned) (Scalar.oAt 4 ty0 (Row.valS sc0)) (Scalar.oAt 2 ty0 (Row.valS sc0)) 6 (Rows'.sc-here Row.sBool) (Row.sBool .of)
 
   abbrev s3 : Typed.Mo T5 → Typed.Mo T7
   s3 = Scalar.n-room T5 6 Syntax.tyBool
@@ -304,16 +370,16 @@ module _ (claims· : Claims) where
   s4 = Scalar.n-room T5 6 Syntax.tyBool
 
   abbrev s5 : Typed.Asks T6 T9
-  s5 = Scalar.k-op2 T6 (Syntax.mul Syntax.unsigned) (Scalar.oAt 4 (Syntax.tyInt Syntax.w64) (Row.valS (Row.sInt Syntax.w64))) (Scalar.oInt Syntax.w64 24) 7 (Rows'.sc-here (Row.sInt Syntax.w64)) (Row.sInt Syntax.w64 .of)
+  s5 = Scalar.k-op2 T6 (Syntax.mul Syntax.unsigned) (Scalar.oAt 4 ty0 (Row.valS sc0)) (Scalar.oInt Syntax.w64 24) 7 (Rows'.sc-here sc0) (Row.sInt Syntax.w64 .of)
 
   abbrev s6 : Typed.Asks T9 T10
-  s6 = Scalar.k-op2 T9 Syntax.offset (Scalar.oFld 1 (List._∷_ (Syntax.field 0) List.[]) (Syntax.tyRef (Syntax.named 0) Syntax.imm Cell.behind) 0 Reads.ptrVal) (Scalar.oAt 7 (Syntax.tyInt Syntax.w64) (Row.valS (Row.sInt Syntax.w64))) 8 (Rows'.sc-here Row.sPtr) (Row.sPtr .of)
+  s6 = Scalar.k-op2 T9 Syntax.offset (Scalar.oFld 1 steps0 ty1 0 Reads.ptrVal) (Scalar.oAt 7 ty0 (Row.valS sc0)) 8 (Rows'.sc-here Row.sPtr) (Row.sPtr .of)
 
   abbrev s7 : Typed.Both T10 T11
-  s7 = Move.k-shs-copy-out Cell.R T10 1 8 9 0 (Syntax.tyRef (Syntax.named 0) Syntax.imm Cell.behind) Row.off Cell.row (Shared.bySize 24) (λ u. u .1 .1 .1 .1 .0) (λ x. x) Cell.past (λ x. Unit) (λ x. x) λ x. x
+  s7 = Move.k-shs-copy-out Cell.R T10 1 8 9 0 ty1 Row.off Cell.row (Shared.bySize 24) (λ u. u .1 .1 .1 .1 .0) (λ x. x) Cell.past (λ x. Unit) (λ x. x) λ x. x
 
   abbrev s8 : Typed.Mo T11 → Typed.Mo T12
-  s8 = Scalar.n-room T11 7 (Syntax.tyInt Syntax.w64)
+  s8 = Scalar.n-room T11 7 ty0
 
   abbrev s9 : Typed.Mo T12 → Typed.Mo T13
   s9 = Scalar.n-room T12 8 Syntax.tyPtr
@@ -325,28 +391,28 @@ module _ (claims· : Claims) where
   s11 = Scalar.n-room T14 9 Cell.held
 
   abbrev s12 : Typed.Both T15 T16
-  s12 = Call.callB ps·0 r·0 (claims· .0) (claims· .1) T15 (Num.vAt 3 λ x. x, (record { pos = 5; st = List.[]; d = 0; at = λ x. x }, tt)) 3 List.[] (Syntax.tyInt Syntax.w64)
+  s12 = Call.callB ps·0 r·0 (claims· .0) (claims· .1) T15 (Num.vAt 3 λ x. x, (record { pos = 5; st = List.[]; d = 0; at = λ x. x }, tt)) 3 List.[] ty0
 
   abbrev s13 : Typed.Mo T16 → Typed.Mo T17
   s13 = Scalar.n-room T16 5 Cell.held
 
   abbrev s14 : Typed.Asks T17 T18
-  s14 = Scalar.k-op2 T17 (Syntax.add Syntax.unsigned) (Scalar.oAt 4 (Syntax.tyInt Syntax.w64) (Row.valS (Row.sInt Syntax.w64))) (Scalar.oInt Syntax.w64 1) 4 (Rows'.sc-here (Row.sInt Syntax.w64)) (Row.sInt Syntax.w64 .of)
+  s14 = Scalar.k-op2 T17 (Syntax.add Syntax.unsigned) (Scalar.oAt 4 ty0 (Row.valS sc0)) (Scalar.oInt Syntax.w64 1) 4 (Rows'.sc-here sc0) (Row.sInt Syntax.w64 .of)
 
   abbrev s15 : Typed.Mo T4 → Typed.Mo T19
-  s15 = Scalar.n-use T4 (Scalar.oAt 3 (Syntax.tyInt Syntax.w64) (Row.valS (Row.sInt Syntax.w64))) 0 (Rows'.sc-here (Row.sInt Syntax.w64)) (Row.sInt Syntax.w64 .of)
+  s15 = Scalar.n-use T4 (Scalar.oAt 3 ty0 (Row.valS sc0)) 0 (Rows'.sc-here sc0) (Row.sInt Syntax.w64 .of)
 
   abbrev s16 : Typed.Mo T19 → Typed.Mo T20
-  s16 = Scalar.n-room T19 3 (Syntax.tyInt Syntax.w64)
+  s16 = Scalar.n-room T19 3 ty0
 
   abbrev s17 : Typed.Mo T20 → Typed.Mo T21
-  s17 = Scalar.n-room T20 4 (Syntax.tyInt Syntax.w64)
+  s17 = Scalar.n-room T20 4 ty0
 
   abbrev s18 : Typed.Mo T21 → Typed.Mo T22
-  s18 = Scalar.n-room T21 2 (Syntax.tyInt Syntax.w64)
+  s18 = Scalar.n-room T21 2 ty0
 
-  abbrev put0 : Rows'.sc-here (Row.sInt Syntax.w64) .Mod × Rows'.sc-here (Row.sInt Syntax.w64) .Mod → Typed.Mo T3 → Typed.Mo T3
-  put0 = λ vs u. Row.set 4 (4, Rows'.sc-here (Row.sInt Syntax.w64)) (vs .1) (T3 .locals) (Row.set 3 (3, Rows'.sc-here (Row.sInt Syntax.w64)) (vs .0) (T3 .locals) u)
+  abbrev put0 : Rows'.sc-here sc0 .Mod × Rows'.sc-here sc0 .Mod → Typed.Mo T3 → Typed.Mo T3
+  put0 = λ vs u. Row.set 4 local8 (vs .1) (T3 .locals) (Row.set 3 local7 (vs .0) (T3 .locals) u)
 
   module _ (Pre· : (κs : Lifetimes.Lfts 1) → Kinds.Dens κs ps → Type 0) (Post· : (κs : Lifetimes.Lfts 1) → (a : Kinds.Dens κs ps) → Kinds.Plain 1 ps r κs) where
     module _ (M : Type 1) where
@@ -443,74 +509,77 @@ module _ (claims· : Claims) where
         Knowns = Plain.Known 𝓤 H A W 𝓣 0 ps·0 r·0 (claims· .0) (claims· .1) "zones::sums::step_zone"
 
       module _ (κs : Lifetimes.Lfts 1) (qs : Lifetimes.Shares 1) where
+        abbrev slot0 : Row.Life
+        slot0 = Row.lease (κs .0) (qs .0)
+
         abbrev G0 : Row.Cx
-        G0 = record { locals = t0; slots = List._∷_ (Row.lease (κs .0) (qs .0)) List.[] }
+        G0 = record { locals = t0; slots = List._∷_ slot0 List.[] }
 
         abbrev G1 : Row.Cx
-        G1 = record { locals = t1; slots = List._∷_ (Row.lease (κs .0) (qs .0)) List.[] }
+        G1 = record { locals = t1; slots = List._∷_ slot0 List.[] }
 
         abbrev G2 : Row.Cx
-        G2 = record { locals = t2; slots = List._∷_ (Row.lease (κs .0) (qs .0)) List.[] }
+        G2 = record { locals = t2; slots = List._∷_ slot0 List.[] }
 
         abbrev G3 : Row.Cx
-        G3 = record { locals = t3; slots = List._∷_ (Row.lease (κs .0) (qs .0)) List.[] }
+        G3 = record { locals = t3; slots = List._∷_ slot0 List.[] }
 
         abbrev G4 : Row.Cx
-        G4 = record { locals = t3; slots = List._∷_ (Row.lease (κs .0) (qs .0)) List.[] }
+        G4 = record { locals = t3; slots = List._∷_ slot0 List.[] }
 
         abbrev G5 : Row.Cx
-        G5 = record { locals = t4; slots = List._∷_ (Row.lease (κs .0) (qs .0)) List.[] }
+        G5 = record { locals = t4; slots = List._∷_ slot0 List.[] }
 
         abbrev G6 : Row.Cx
-        G6 = record { locals = t3; slots = List._∷_ (Row.lease (κs .0) (qs .0)) List.[] }
+        G6 = record { locals = t3; slots = List._∷_ slot0 List.[] }
 
         abbrev G7 : Row.Cx
-        G7 = record { locals = t3; slots = List._∷_ (Row.lease (κs .0) (qs .0)) List.[] }
+        G7 = record { locals = t3; slots = List._∷_ slot0 List.[] }
 
         abbrev G8 : Row.Cx
-        G8 = record { locals = t3; slots = List._∷_ (Row.lease (κs .0) (qs .0)) List.[] }
+        G8 = record { locals = t3; slots = List._∷_ slot0 List.[] }
 
         abbrev G9 : Row.Cx
-        G9 = record { locals = t5; slots = List._∷_ (Row.lease (κs .0) (qs .0)) List.[] }
+        G9 = record { locals = t5; slots = List._∷_ slot0 List.[] }
 
         abbrev G10 : Row.Cx
-        G10 = record { locals = t6; slots = List._∷_ (Row.lease (κs .0) (qs .0)) List.[] }
+        G10 = record { locals = t6; slots = List._∷_ slot0 List.[] }
 
         abbrev G11 : Row.Cx
-        G11 = record { locals = t7; slots = List._∷_ (Row.lease (κs .0) (qs .0)) List.[] }
+        G11 = record { locals = t7; slots = List._∷_ slot0 List.[] }
 
         abbrev G12 : Row.Cx
-        G12 = record { locals = t8; slots = List._∷_ (Row.lease (κs .0) (qs .0)) List.[] }
+        G12 = record { locals = t8; slots = List._∷_ slot0 List.[] }
 
         abbrev G13 : Row.Cx
-        G13 = record { locals = t9; slots = List._∷_ (Row.lease (κs .0) (qs .0)) List.[] }
+        G13 = record { locals = t9; slots = List._∷_ slot0 List.[] }
 
         abbrev G14 : Row.Cx
-        G14 = record { locals = t10; slots = List._∷_ (Row.lease (κs .0) (qs .0)) List.[] }
+        G14 = record { locals = t10; slots = List._∷_ slot0 List.[] }
 
         abbrev G15 : Row.Cx
-        G15 = record { locals = t11; slots = List._∷_ (Row.lease (κs .0) (qs .0)) List.[] }
+        G15 = record { locals = t11; slots = List._∷_ slot0 List.[] }
 
         abbrev G16 : Row.Cx
-        G16 = record { locals = t11; slots = List._∷_ (Row.lease (κs .0) (qs .0)) List.[] }
+        G16 = record { locals = t11; slots = List._∷_ slot0 List.[] }
 
         abbrev G17 : Row.Cx
-        G17 = record { locals = t3; slots = List._∷_ (Row.lease (κs .0) (qs .0)) List.[] }
+        G17 = record { locals = t3; slots = List._∷_ slot0 List.[] }
 
         abbrev G18 : Row.Cx
-        G18 = record { locals = t3; slots = List._∷_ (Row.lease (κs .0) (qs .0)) List.[] }
+        G18 = record { locals = t3; slots = List._∷_ slot0 List.[] }
 
         abbrev G19 : Row.Cx
-        G19 = record { locals = t12; slots = List._∷_ (Row.lease (κs .0) (qs .0)) List.[] }
+        G19 = record { locals = t12; slots = List._∷_ slot0 List.[] }
 
         abbrev G20 : Row.Cx
-        G20 = record { locals = t13; slots = List._∷_ (Row.lease (κs .0) (qs .0)) List.[] }
+        G20 = record { locals = t13; slots = List._∷_ slot0 List.[] }
 
         abbrev G21 : Row.Cx
-        G21 = record { locals = t14; slots = List._∷_ (Row.lease (κs .0) (qs .0)) List.[] }
+        G21 = record { locals = t14; slots = List._∷_ slot0 List.[] }
 
         abbrev G22 : Row.Cx
-        G22 = record { locals = t1; slots = List._∷_ (Row.lease (κs .0) (qs .0)) List.[] }
+        G22 = record { locals = t1; slots = List._∷_ slot0 List.[] }
 
         abbrev Δ0 : Typed.Outs
         Δ0 = record { next = Option.none; exits = List.[]; returns = Option.some G1 }
@@ -547,13 +616,13 @@ module _ (claims· : Claims) where
           d4 = Scalar.t-cond 𝓤 H A W E 𝓣 G5 6 (λ x. x) b3 b4 Δ4 at1 at3 (Scalar.reads-sc 𝓤 H A W Row.sBool) Path'.refl d1 d3
 
           d5 : Typed.Typed 𝓤 H A 𝓣 E G17 b11 Δ3 at5
-          d5 = Typed.s-typed 𝓤 H A W 𝓣 E G17 b11 Δ3 (Typed.ask s14) tt (Scalar.t-op2 𝓤 H A W E 𝓣 G17 (Syntax.add Syntax.unsigned) (Scalar.oAt 4 (Syntax.tyInt Syntax.w64) (Row.valS (Row.sInt Syntax.w64))) (Scalar.oInt Syntax.w64 1) 4 (Rows'.sc-here (Row.sInt Syntax.w64)) (Syntax.tyInt Syntax.w64) (Row.valS (Row.sInt Syntax.w64)) (Row.sInt Syntax.w64 .of) (Scalar.reads-sc 𝓤 H A W (Row.sInt Syntax.w64), Path'.refl) tt (Scalar.room-sc 𝓤 H A W (Row.sInt Syntax.w64)) (Scalar.holds-sc 𝓤 H A W (Row.sInt Syntax.w64)) Path'.refl (λ u. Path'.refl) λ u. tt)
+          d5 = Typed.s-typed 𝓤 H A W 𝓣 E G17 b11 Δ3 (Typed.ask s14) tt (Scalar.t-op2 𝓤 H A W E 𝓣 G17 (Syntax.add Syntax.unsigned) (Scalar.oAt 4 ty0 (Row.valS sc0)) (Scalar.oInt Syntax.w64 1) 4 (Rows'.sc-here sc0) ty0 (Row.valS sc0) (Row.sInt Syntax.w64 .of) (Scalar.reads-sc 𝓤 H A W sc0, Path'.refl) tt (Scalar.room-sc 𝓤 H A W sc0) (Scalar.holds-sc 𝓤 H A W sc0) Path'.refl (λ u. Path'.refl) λ u. tt)
 
           d6 : Typed.Typed 𝓤 H A 𝓣 E G16 b11 Δ3 at6
           d6 = Typed.g-pre 𝓤 H A W 𝓣 E G16 G17 b11 Δ3 (Typed.pass T16 T17 s13) at5 (Scalar.g-room 𝓤 H A W E G16 5 Cell.held (Cell.to-room 𝓤 H A W)) d5
 
           d7 : Typed.Typed 𝓤 H A 𝓣 E G15 b12 Δ3 at7
-          d7 = Typed.s-seq 𝓤 H A W 𝓣 E G15 G16 b10 b11 Δ3 (Typed.both s12) at6 (Plain.t-call-plain 𝓤 H A W 𝓣 0 ps·0 r·0 (claims· .0) (claims· .1) "zones::sums::step_zone" known E (λ pos β. β) G15 (Num.vAt 3 λ x. x, (record { pos = 5; st = List.[]; d = 0; at = λ x. x }, tt)) 3 List.[] (Call.sub-id 𝓤 H A W (G15 .slots)) ((Scalar.reads-sc 𝓤 H A W (Row.sInt Syntax.w64), Path'.refl), ((Cell.yields 𝓤 H A W, Path'.refl), tt)) (Scalar.room-sc 𝓤 H A W (Row.sInt Syntax.w64)) tt Path'.refl) d6
+          d7 = Typed.s-seq 𝓤 H A W 𝓣 E G15 G16 b10 b11 Δ3 (Typed.both s12) at6 (Plain.t-call-plain 𝓤 H A W 𝓣 0 ps·0 r·0 (claims· .0) (claims· .1) "zones::sums::step_zone" known E (λ pos β. β) G15 (Num.vAt 3 λ x. x, (record { pos = 5; st = List.[]; d = 0; at = λ x. x }, tt)) 3 List.[] (Call.sub-id 𝓤 H A W (G15 .slots)) ((Scalar.reads-sc 𝓤 H A W sc0, Path'.refl), ((Cell.yields 𝓤 H A W, Path'.refl), tt)) (Scalar.room-sc 𝓤 H A W sc0) tt Path'.refl) d6
 
           d8 : Typed.Typed 𝓤 H A 𝓣 E G14 b12 Δ3 at8
           d8 = Typed.g-pre 𝓤 H A W 𝓣 E G14 G15 b12 Δ3 (Typed.pass T14 T15 s11) at7 (Scalar.g-room 𝓤 H A W E G14 9 Cell.held (Cell.to-room 𝓤 H A W)) d7
@@ -565,22 +634,22 @@ module _ (claims· : Claims) where
           d10 = Typed.g-pre 𝓤 H A W 𝓣 E G12 G13 b13 Δ3 (Typed.pass T12 T13 s9) at9 (Scalar.g-room 𝓤 H A W E G12 8 Syntax.tyPtr (Scalar.room-sc 𝓤 H A W Row.sPtr)) d9
 
           d11 : Typed.Typed 𝓤 H A 𝓣 E G11 b13 Δ3 at11
-          d11 = Typed.g-pre 𝓤 H A W 𝓣 E G11 G12 b13 Δ3 (Typed.pass T11 T12 s8) at10 (Scalar.g-room 𝓤 H A W E G11 7 (Syntax.tyInt Syntax.w64) (Scalar.room-sc 𝓤 H A W (Row.sInt Syntax.w64))) d10
+          d11 = Typed.g-pre 𝓤 H A W 𝓣 E G11 G12 b13 Δ3 (Typed.pass T11 T12 s8) at10 (Scalar.g-room 𝓤 H A W E G11 7 ty0 (Scalar.room-sc 𝓤 H A W sc0)) d10
 
           d12 : Typed.Typed 𝓤 H A 𝓣 E G10 b14 Δ3 at12
-          d12 = Typed.s-seq 𝓤 H A W 𝓣 E G10 G11 b8 b13 Δ3 (Typed.both s7) at11 (Move.t-shs-copy-out 𝓤 H A W E Cell.R 𝓣 Path'.refl (Cell.copies .copy 𝓤 H A W) (Copies.halved 𝓤 H A W Cell.copies) (λ ρ. Unit) G10 1 8 9 0 (Syntax.tyRef (Syntax.named 0) Syntax.imm Cell.behind) (Row.lease (κs .0) (qs .0)) Cell.held Cell.held Cell.row (Shared.bySize 24) (λ u. u .1 .1 .1 .1 .0) (λ x. x) Cell.past (λ x. Unit) (λ x. x) (λ x. x) (λ i o. Elements.at-mul o 24 i) Path'.refl Path'.refl (Own.told-none 𝓤 H A (G10 .slots)) (DerefMove.learns-nothing 𝓤 H A Cell.R) (Reads.as-is 𝓤 H A (Rows'.sslice Cell.R (Syntax.tyRef (Syntax.named 0) Syntax.imm Cell.behind) 0)) (Reads.as-is 𝓤 H A (Rows'.sc-here Row.sPtr)) (Reads.room-gone 𝓤 H A Cell.held) (Yields.makes-mem 𝓤 H A W (λ ρ. Unit) Cell.R Path'.refl Cell.row (λ x. x) λ ρ told. Cell.of-mem 𝓤 H A W ρ) Path'.refl tt Path'.refl Path'.refl) d11
+          d12 = Typed.s-seq 𝓤 H A W 𝓣 E G10 G11 b8 b13 Δ3 (Typed.both s7) at11 (Move.t-shs-copy-out 𝓤 H A W E Cell.R 𝓣 Path'.refl (Cell.copies .copy 𝓤 H A W) (Copies.halved 𝓤 H A W Cell.copies) (λ ρ. Unit) G10 1 8 9 0 ty1 slot0 Cell.held Cell.held Cell.row (Shared.bySize 24) (λ u. u .1 .1 .1 .1 .0) (λ x. x) Cell.past (λ x. Unit) (λ x. x) (λ x. x) (λ i o. Elements.at-mul o 24 i) Path'.refl Path'.refl (Own.told-none 𝓤 H A (G10 .slots)) (DerefMove.learns-nothing 𝓤 H A Cell.R) (Reads.as-is 𝓤 H A (Rows'.sslice Cell.R ty1 0)) (Reads.as-is 𝓤 H A (Rows'.sc-here Row.sPtr)) (Reads.room-gone 𝓤 H A Cell.held) (Yields.makes-mem 𝓤 H A W (λ ρ. Unit) Cell.R Path'.refl Cell.row (λ x. x) λ ρ told. Cell.of-mem 𝓤 H A W ρ) Path'.refl tt Path'.refl Path'.refl) d11
 
           d13 : Typed.Typed 𝓤 H A 𝓣 E G9 b15 Δ3 at13
-          d13 = Typed.s-seq 𝓤 H A W 𝓣 E G9 G10 b7 b14 Δ3 (Typed.ask s6) at12 (Scalar.t-op2 𝓤 H A W E 𝓣 G9 Syntax.offset (Scalar.oFld 1 (List._∷_ (Syntax.field 0) List.[]) (Syntax.tyRef (Syntax.named 0) Syntax.imm Cell.behind) 0 Reads.ptrVal) (Scalar.oAt 7 (Syntax.tyInt Syntax.w64) (Row.valS (Row.sInt Syntax.w64))) 8 (Rows'.sc-here Row.sPtr) Syntax.tyPtr (Row.valS Row.sPtr) (Row.sPtr .of) (Shared.reads-sslice-ptr 𝓤 H A W Cell.R (Syntax.tyRef (Syntax.named 0) Syntax.imm Cell.behind) 0 0 Path'.refl, Path'.refl) (Scalar.reads-sc 𝓤 H A W (Row.sInt Syntax.w64), Path'.refl) (Reads.room-gone 𝓤 H A Syntax.tyPtr) (Scalar.holds-sc 𝓤 H A W Row.sPtr) Path'.refl (λ u. Path'.refl) λ u. tt) d12
+          d13 = Typed.s-seq 𝓤 H A W 𝓣 E G9 G10 b7 b14 Δ3 (Typed.ask s6) at12 (Scalar.t-op2 𝓤 H A W E 𝓣 G9 Syntax.offset (Scalar.oFld 1 steps0 ty1 0 Reads.ptrVal) (Scalar.oAt 7 ty0 (Row.valS sc0)) 8 (Rows'.sc-here Row.sPtr) Syntax.tyPtr (Row.valS Row.sPtr) (Row.sPtr .of) (Shared.reads-sslice-ptr 𝓤 H A W Cell.R ty1 0 0 Path'.refl, Path'.refl) (Scalar.reads-sc 𝓤 H A W sc0, Path'.refl) (Reads.room-gone 𝓤 H A Syntax.tyPtr) (Scalar.holds-sc 𝓤 H A W Row.sPtr) Path'.refl (λ u. Path'.refl) λ u. tt) d12
 
           d14 : Typed.Typed 𝓤 H A 𝓣 E G6 b16 Δ3 at14
-          d14 = Typed.s-seq 𝓤 H A W 𝓣 E G6 G9 b6 b15 Δ3 (Typed.ask s5) at13 (Scalar.t-op2 𝓤 H A W E 𝓣 G6 (Syntax.mul Syntax.unsigned) (Scalar.oAt 4 (Syntax.tyInt Syntax.w64) (Row.valS (Row.sInt Syntax.w64))) (Scalar.oInt Syntax.w64 24) 7 (Rows'.sc-here (Row.sInt Syntax.w64)) (Syntax.tyInt Syntax.w64) (Row.valS (Row.sInt Syntax.w64)) (Row.sInt Syntax.w64 .of) (Scalar.reads-sc 𝓤 H A W (Row.sInt Syntax.w64), Path'.refl) tt (Reads.room-gone 𝓤 H A (Syntax.tyInt Syntax.w64)) (Scalar.holds-sc 𝓤 H A W (Row.sInt Syntax.w64)) Path'.refl (λ u. Path'.refl) λ u. tt) d13
+          d14 = Typed.s-seq 𝓤 H A W 𝓣 E G6 G9 b6 b15 Δ3 (Typed.ask s5) at13 (Scalar.t-op2 𝓤 H A W E 𝓣 G6 (Syntax.mul Syntax.unsigned) (Scalar.oAt 4 ty0 (Row.valS sc0)) (Scalar.oInt Syntax.w64 24) 7 (Rows'.sc-here sc0) ty0 (Row.valS sc0) (Row.sInt Syntax.w64 .of) (Scalar.reads-sc 𝓤 H A W sc0, Path'.refl) tt (Reads.room-gone 𝓤 H A ty0) (Scalar.holds-sc 𝓤 H A W sc0) Path'.refl (λ u. Path'.refl) λ u. tt) d13
 
           d15 : Typed.Typed 𝓤 H A 𝓣 E G5 b17 Δ3 at15
           d15 = Typed.t-seq 𝓤 H A W 𝓣 E G5 G6 b5 b16 Δ3 at4 at14 d4 d14
 
           d16 : Typed.Typed 𝓤 H A 𝓣 E G3 b18 Δ3 at16
-          d16 = Typed.s-seq 𝓤 H A W 𝓣 E G3 G5 b2 b17 Δ3 (Typed.ask s2) at15 (Scalar.t-op2 𝓤 H A W E 𝓣 G3 (Syntax.lt Syntax.unsigned) (Scalar.oAt 4 (Syntax.tyInt Syntax.w64) (Row.valS (Row.sInt Syntax.w64))) (Scalar.oAt 2 (Syntax.tyInt Syntax.w64) (Row.valS (Row.sInt Syntax.w64))) 6 (Rows'.sc-here Row.sBool) Syntax.tyBool (Row.valS Row.sBool) (Row.sBool .of) (Scalar.reads-sc 𝓤 H A W (Row.sInt Syntax.w64), Path'.refl) (Scalar.reads-sc 𝓤 H A W (Row.sInt Syntax.w64), Path'.refl) (Reads.room-gone 𝓤 H A Syntax.tyBool) (Scalar.holds-sc 𝓤 H A W Row.sBool) Path'.refl (λ u. Path'.refl) λ u. tt) d15
+          d16 = Typed.s-seq 𝓤 H A W 𝓣 E G3 G5 b2 b17 Δ3 (Typed.ask s2) at15 (Scalar.t-op2 𝓤 H A W E 𝓣 G3 (Syntax.lt Syntax.unsigned) (Scalar.oAt 4 ty0 (Row.valS sc0)) (Scalar.oAt 2 ty0 (Row.valS sc0)) 6 (Rows'.sc-here Row.sBool) Syntax.tyBool (Row.valS Row.sBool) (Row.sBool .of) (Scalar.reads-sc 𝓤 H A W sc0, Path'.refl) (Scalar.reads-sc 𝓤 H A W sc0, Path'.refl) (Reads.room-gone 𝓤 H A Syntax.tyBool) (Scalar.holds-sc 𝓤 H A W Row.sBool) Path'.refl (λ u. Path'.refl) λ u. tt) d15
 
           d17 : Typed.Typed 𝓤 H A 𝓣 E G3 b19 Δ2 at17
           d17 = Typed.t-loop-by 𝓤 H A W 𝓣 E G3 b18 Δ2 put0 (λ u vs. Inv·0 (Row.get 1 (T3 .locals) u .now) (Row.get 2 (T3 .locals) u) (Row.get 3 (T3 .locals) u) (Row.get 4 (T3 .locals) u) (vs .0) (vs .1)) (λ u vs. μ·0 (Row.get 1 (T3 .locals) u .now) (Row.get 2 (T3 .locals) u) (Row.get 3 (T3 .locals) u) (Row.get 4 (T3 .locals) u) (vs .0) (vs .1)) at16 d16
@@ -592,25 +661,25 @@ module _ (claims· : Claims) where
           d19 = Typed.t-return 𝓤 H A W 𝓣 E Δ0 tt
 
           d20 : Typed.Typed 𝓤 H A 𝓣 E G21 b22 Δ0 at20
-          d20 = Typed.g-pre 𝓤 H A W 𝓣 E G21 G22 b22 Δ0 (Typed.pass T21 T22 s18) at19 (Scalar.g-room 𝓤 H A W E G21 2 (Syntax.tyInt Syntax.w64) (Scalar.room-sc 𝓤 H A W (Row.sInt Syntax.w64))) d19
+          d20 = Typed.g-pre 𝓤 H A W 𝓣 E G21 G22 b22 Δ0 (Typed.pass T21 T22 s18) at19 (Scalar.g-room 𝓤 H A W E G21 2 ty0 (Scalar.room-sc 𝓤 H A W sc0)) d19
 
           d21 : Typed.Typed 𝓤 H A 𝓣 E G20 b22 Δ0 at21
-          d21 = Typed.g-pre 𝓤 H A W 𝓣 E G20 G21 b22 Δ0 (Typed.pass T20 T21 s17) at20 (Scalar.g-room 𝓤 H A W E G20 4 (Syntax.tyInt Syntax.w64) (Scalar.room-sc 𝓤 H A W (Row.sInt Syntax.w64))) d20
+          d21 = Typed.g-pre 𝓤 H A W 𝓣 E G20 G21 b22 Δ0 (Typed.pass T20 T21 s17) at20 (Scalar.g-room 𝓤 H A W E G20 4 ty0 (Scalar.room-sc 𝓤 H A W sc0)) d20
 
           d22 : Typed.Typed 𝓤 H A 𝓣 E G19 b22 Δ0 at22
-          d22 = Typed.g-pre 𝓤 H A W 𝓣 E G19 G20 b22 Δ0 (Typed.pass T19 T20 s16) at21 (Scalar.g-room 𝓤 H A W E G19 3 (Syntax.tyInt Syntax.w64) (Scalar.room-sc 𝓤 H A W (Row.sInt Syntax.w64))) d21
+          d22 = Typed.g-pre 𝓤 H A W 𝓣 E G19 G20 b22 Δ0 (Typed.pass T19 T20 s16) at21 (Scalar.g-room 𝓤 H A W E G19 3 ty0 (Scalar.room-sc 𝓤 H A W sc0)) d21
 
           d23 : Typed.Typed 𝓤 H A 𝓣 E G4 b23 Δ0 at23
-          d23 = Typed.s-seq 𝓤 H A W 𝓣 E G4 G19 b21 b22 Δ0 (Typed.pass T4 T19 s15) at22 (Scalar.t-use 𝓤 H A W E 𝓣 G4 (Scalar.oAt 3 (Syntax.tyInt Syntax.w64) (Row.valS (Row.sInt Syntax.w64))) 0 (Rows'.sc-here (Row.sInt Syntax.w64)) (Syntax.tyInt Syntax.w64) (Row.valS (Row.sInt Syntax.w64)) (Row.sInt Syntax.w64 .of) (Scalar.reads-sc 𝓤 H A W (Row.sInt Syntax.w64), Path'.refl) (Reads.room-gone 𝓤 H A (Syntax.tyInt Syntax.w64)) (Scalar.holds-sc 𝓤 H A W (Row.sInt Syntax.w64)) Path'.refl (λ u. Path'.refl) λ u. tt) d22
+          d23 = Typed.s-seq 𝓤 H A W 𝓣 E G4 G19 b21 b22 Δ0 (Typed.pass T4 T19 s15) at22 (Scalar.t-use 𝓤 H A W E 𝓣 G4 (Scalar.oAt 3 ty0 (Row.valS sc0)) 0 (Rows'.sc-here sc0) ty0 (Row.valS sc0) (Row.sInt Syntax.w64 .of) (Scalar.reads-sc 𝓤 H A W sc0, Path'.refl) (Reads.room-gone 𝓤 H A ty0) (Scalar.holds-sc 𝓤 H A W sc0) Path'.refl (λ u. Path'.refl) λ u. tt) d22
 
           d24 : Typed.Typed 𝓤 H A 𝓣 E G3 b24 Δ0 at24
           d24 = Typed.t-seq 𝓤 H A W 𝓣 E G3 G4 b20 b23 Δ0 at18 at23 d18 d23
 
           d25 : Typed.Typed 𝓤 H A 𝓣 E G2 b25 Δ0 at25
-          d25 = Typed.s-seq 𝓤 H A W 𝓣 E G2 G3 b1 b24 Δ0 (Typed.pass T2 T3 s1) at24 (Scalar.t-use 𝓤 H A W E 𝓣 G2 (Scalar.oInt Syntax.w64 0) 4 (Rows'.sc-here (Row.sInt Syntax.w64)) (Syntax.tyInt Syntax.w64) (Row.valS (Row.sInt Syntax.w64)) (Row.sInt Syntax.w64 .of) tt (Reads.room-gone 𝓤 H A (Syntax.tyInt Syntax.w64)) (Scalar.holds-sc 𝓤 H A W (Row.sInt Syntax.w64)) Path'.refl (λ u. Path'.refl) λ u. tt) d24
+          d25 = Typed.s-seq 𝓤 H A W 𝓣 E G2 G3 b1 b24 Δ0 (Typed.pass T2 T3 s1) at24 (Scalar.t-use 𝓤 H A W E 𝓣 G2 (Scalar.oInt Syntax.w64 0) 4 (Rows'.sc-here sc0) ty0 (Row.valS sc0) (Row.sInt Syntax.w64 .of) tt (Reads.room-gone 𝓤 H A ty0) (Scalar.holds-sc 𝓤 H A W sc0) Path'.refl (λ u. Path'.refl) λ u. tt) d24
 
           d26 : Typed.Typed 𝓤 H A 𝓣 E G0 b26 Δ0 at26
-          d26 = Typed.s-seq 𝓤 H A W 𝓣 E G0 G2 b0 b25 Δ0 (Typed.pass T0 T2 s0) at25 (Scalar.t-use 𝓤 H A W E 𝓣 G0 (Scalar.oInt Syntax.w64 0) 3 (Rows'.sc-here (Row.sInt Syntax.w64)) (Syntax.tyInt Syntax.w64) (Row.valS (Row.sInt Syntax.w64)) (Row.sInt Syntax.w64 .of) tt (Reads.room-gone 𝓤 H A (Syntax.tyInt Syntax.w64)) (Scalar.holds-sc 𝓤 H A W (Row.sInt Syntax.w64)) Path'.refl (λ u. Path'.refl) λ u. tt) d25
+          d26 = Typed.s-seq 𝓤 H A W 𝓣 E G0 G2 b0 b25 Δ0 (Typed.pass T0 T2 s0) at25 (Scalar.t-use 𝓤 H A W E 𝓣 G0 (Scalar.oInt Syntax.w64 0) 3 (Rows'.sc-here sc0) ty0 (Row.valS sc0) (Row.sInt Syntax.w64 .of) tt (Reads.room-gone 𝓤 H A ty0) (Scalar.holds-sc 𝓤 H A W sc0) Path'.refl (λ u. Path'.refl) λ u. tt) d25
 
           pub typed : Typed.Typed 𝓤 H A 𝓣 E (Function.Γin 1 ps r xs m κs qs) b26 (Function.Δret 1 ps r xs m κs qs) Φ
           typed = d26
@@ -655,22 +724,22 @@ module _ (claims· : Claims) where
       abbrev pub Need-loop-holds : Type 0
       Need-loop-holds = (c : Start) → Inv·0 (Row.get 1 (T3 .locals) (m2 (c .κs) (c .args)) .now) (Row.get 2 (T3 .locals) (m2 (c .κs) (c .args))) (Row.get 3 (T3 .locals) (m2 (c .κs) (c .args))) (Row.get 4 (T3 .locals) (m2 (c .κs) (c .args))) (Row.get 3 (T3 .locals) (m2 (c .κs) (c .args))) (Row.get 4 (T3 .locals) (m2 (c .κs) (c .args)))
 
-      abbrev pub m3 : (before : Start) → (c : Rows'.sc-here (Row.sInt Syntax.w64) .Mod) → (i : Rows'.sc-here (Row.sInt Syntax.w64) .Mod) → Typed.Mo T3
-      m3 = λ before c i. Row.set 4 (4, Rows'.sc-here (Row.sInt Syntax.w64)) i (Row.setRow 3 (3, Rows'.sc-here (Row.sInt Syntax.w64)) (T3 .locals)) (Row.set 3 (3, Rows'.sc-here (Row.sInt Syntax.w64)) c (T3 .locals) (m2 (before .κs) (before .args)))
+      abbrev pub m3 : (before : Start) → (c : Rows'.sc-here sc0 .Mod) → (i : Rows'.sc-here sc0 .Mod) → Typed.Mo T3
+      m3 = λ before c i. Row.set 4 local8 i (Row.setRow 3 local7 (T3 .locals)) (Row.set 3 local7 c (T3 .locals) (m2 (before .κs) (before .args)))
 
-      abbrev W3 : (before : Start) → (c : Rows'.sc-here (Row.sInt Syntax.w64) .Mod) → (i : Rows'.sc-here (Row.sInt Syntax.w64) .Mod) → Typed.Want O3
+      abbrev W3 : (before : Start) → (c : Rows'.sc-here sc0 .Mod) → (i : Rows'.sc-here sc0 .Mod) → Typed.Want O3
       W3 = λ before c i. Typed.inLoop T3 O2 (Typed.Round T3 O2 put0 (λ u vs. Inv·0 (Row.get 1 (T3 .locals) u .now) (Row.get 2 (T3 .locals) u) (Row.get 3 (T3 .locals) u) (Row.get 4 (T3 .locals) u) (vs .0) (vs .1)) (λ u vs. μ·0 (Row.get 1 (T3 .locals) u .now) (Row.get 2 (T3 .locals) u) (Row.get 3 (T3 .locals) u) (Row.get 4 (T3 .locals) u) (vs .0) (vs .1)) at16 (m2 (before .κs) (before .args)) (c, i)) (W2 (before .κs) (before .args))
 
-      abbrev pub m4 : (before : Start) → (c : Rows'.sc-here (Row.sInt Syntax.w64) .Mod) → (i : Rows'.sc-here (Row.sInt Syntax.w64) .Mod) → Typed.Mo T5
+      abbrev pub m4 : (before : Start) → (c : Rows'.sc-here sc0 .Mod) → (i : Rows'.sc-here sc0 .Mod) → Typed.Mo T5
       m4 = λ before c i. s2 .next (m3 before c i)
 
-      abbrev W4 : (before : Start) → (c : Rows'.sc-here (Row.sInt Syntax.w64) .Mod) → (i : Rows'.sc-here (Row.sInt Syntax.w64) .Mod) → Typed.Want O4
+      abbrev W4 : (before : Start) → (c : Rows'.sc-here sc0 .Mod) → (i : Rows'.sc-here sc0 .Mod) → Typed.Want O4
       W4 = λ before c i. Typed.wantNext T6 O3 (at14 (W3 before c i)) (W3 before c i)
 
       module _ (before· : Start) where
         pub record At-loop·own : Type 0 where
-          pub c : Rows'.sc-here (Row.sInt Syntax.w64) .Mod
-          pub i : Rows'.sc-here (Row.sInt Syntax.w64) .Mod
+          pub c : Rows'.sc-here sc0 .Mod
+          pub i : Rows'.sc-here sc0 .Mod
           pub inv : Inv·0 (Row.get 1 (T3 .locals) (m2 (before· .κs) (before· .args)) .now) (Row.get 2 (T3 .locals) (m2 (before· .κs) (before· .args))) (Row.get 3 (T3 .locals) (m2 (before· .κs) (before· .args))) (Row.get 4 (T3 .locals) (m2 (before· .κs) (before· .args))) c i
 
       pub record At-loop : Type 0 where
