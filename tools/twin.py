@@ -320,7 +320,8 @@ class Terms:
         if first[0].endswith(".Asked"):  # what a function is asked and tells, of each one called
             return next(((path + ".Claims", 0) for path in self.uses.values() if path.endswith(".Proof.Lts")), None)
         if "," in all_:
-            return (ENTRY, 0) if re.match(r"\d+, [A-Z]", term[0]) and all_.count(",") == 1 else None
+            row = re.match(r"\d+, \S", term[0]) and re.fullmatch(r"borrow\..*|.*\.Cell\.row", self.full(all_[2]))
+            return (ENTRY, 0) if row and all_.count(",") == 1 else None
         if self.full(first[0]) != LIST + "._∷_":
             return typed(self.full(first[0]))
         if len(first) == 1:
