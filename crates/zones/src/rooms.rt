@@ -5,9 +5,6 @@ use sheets::Zone;
 // The script's bytes, and one more, which says that it is too long.
 pub type ScriptRoom = [u8; 3000001];
 
-// The first numbers of one line: those of a kernel, or of a call. What a line puts into a room is read from the script.
-pub type NumbersRoom = [u32; 32772];
-
 pub type TableRoom = [u32; 65540];
 
 pub type HistoryRoom = [u32; 32772];

@@ -1,10 +1,10 @@
 -- A copy, made by tools/twin.py. The prover checks it.
 use Rattle.sheets.proofs.Cell
 use Prim.Native.Nat
+use Rattle.script.proofs.scan.Line
+use Rattle.script.proofs.scan.Line.Laws
 use Rattle.zones.proofs.held.Held
-use Rattle.zones.proofs.held.Held.Laws
-use Rattle.zones.proofs.scan.Line
-use Rattle.zones.proofs.scan.Line.Laws as Laws'
+use Rattle.zones.proofs.held.Held.Laws as Laws'
 use borrow.Author.Called
 use borrow.Author.Tests
 use borrow.Fn.Any
@@ -59,7 +59,7 @@ abbrev pub r : Kinds.RK 10
 r = Unit'.rUnit
 
 abbrev pub xs : List.List Syntax.Ty
-xs = List._∷_ (Syntax.tyStruct (List._∷_ 122 (List._∷_ 111 (List._∷_ 110 (List._∷_ 101 (List._∷_ 115 (List._∷_ 58 (List._∷_ 58 (List._∷_ 104 (List._∷_ 101 (List._∷_ 108 (List._∷_ 100 (List._∷_ 58 (List._∷_ 58 (List._∷_ 72 (List._∷_ 101 (List._∷_ 108 (List._∷_ 100 List.[]))))))))))))))))) (Syntax.tcons (Syntax.tyStruct (List._∷_ 112 (List._∷_ 121 (List._∷_ 114 (List._∷_ 97 (List._∷_ 109 (List._∷_ 105 (List._∷_ 100 (List._∷_ 58 (List._∷_ 58 (List._∷_ 83 (List._∷_ 116 (List._∷_ 97 (List._∷_ 116 (List._∷_ 101 List.[])))))))))))))) (Syntax.tcons (Syntax.tyInt Syntax.w32) (Syntax.tcons (Syntax.tyInt Syntax.w32) (Syntax.tcons (Syntax.tyInt Syntax.w32) (Syntax.tcons (Syntax.tyInt Syntax.w32) (Syntax.tcons (Syntax.tyInt Syntax.w32) (Syntax.tcons (Syntax.tyArray (Syntax.tyInt Syntax.w32) 64) Syntax.tnil))))))) (Syntax.tcons (Syntax.tyInt Syntax.w64) (Syntax.tcons (Syntax.tyInt Syntax.w64) (Syntax.tcons (Syntax.tyInt Syntax.w64) (Syntax.tcons (Syntax.tyInt Syntax.w64) (Syntax.tcons (Syntax.tyInt Syntax.w64) (Syntax.tcons (Syntax.tyInt Syntax.w64) (Syntax.tcons Syntax.tyBool Syntax.tnil))))))))) (List._∷_ (Syntax.tyInt Syntax.w64) (List._∷_ (Syntax.tyInt Syntax.w64) (List._∷_ (Syntax.tyStruct (List._∷_ 122 (List._∷_ 111 (List._∷_ 110 (List._∷_ 101 (List._∷_ 115 (List._∷_ 58 (List._∷_ 58 (List._∷_ 115 (List._∷_ 99 (List._∷_ 97 (List._∷_ 110 (List._∷_ 58 (List._∷_ 58 (List._∷_ 76 (List._∷_ 105 (List._∷_ 110 (List._∷_ 101 List.[]))))))))))))))))) (Syntax.tcons (Syntax.tyInt Syntax.w32) (Syntax.tcons (Syntax.tyInt Syntax.w64) (Syntax.tcons (Syntax.tyInt Syntax.w64) (Syntax.tcons (Syntax.tyInt Syntax.w64) (Syntax.tcons (Syntax.tyInt Syntax.w64) Syntax.tnil)))))) (List._∷_ (Syntax.tyInt Syntax.w64) (List._∷_ Syntax.tyBool (List._∷_ (Syntax.tyInt Syntax.w64) (List._∷_ (Syntax.tyRef Syntax.erased Syntax.mut (Syntax.tyArray (Syntax.tyInt Syntax.w32) 32772)) (List._∷_ (Syntax.tyRef Syntax.erased Syntax.imm (Syntax.tyArray (Syntax.tyInt Syntax.w32) 32772)) (List._∷_ (Syntax.tyRef Syntax.erased Syntax.mut (Syntax.tyArray (Syntax.tyInt Syntax.w8) 16388)) (List._∷_ (Syntax.tyRef Syntax.erased Syntax.mut (Syntax.tyArray (Syntax.tyInt Syntax.w32) 65540)) (List._∷_ (Syntax.tyRef Syntax.erased Syntax.mut (Syntax.tyArray (Syntax.tyInt Syntax.w32) 32772)) (List._∷_ (Syntax.tyRef Syntax.erased Syntax.mut (Syntax.tyArray (Syntax.tyInt Syntax.w32) 32772)) (List._∷_ (Syntax.tyRef Syntax.erased Syntax.mut (Syntax.tyArray (Syntax.tyInt Syntax.w32) 262160)) (List._∷_ (Syntax.tyRef Syntax.erased Syntax.mut (Syntax.tyArray (Syntax.tyInt Syntax.w8) 600000)) (List._∷_ (Syntax.tyRef Syntax.erased Syntax.mut (Syntax.tyArray Cell.behind 65540)) (List._∷_ (Syntax.tyRef Syntax.erased Syntax.mut (Syntax.tyArray Cell.behind 32772)) (List._∷_ Syntax.tyUnit (List._∷_ (Syntax.tyInt Syntax.w64) List.[]))))))))))))))))))
+xs = List._∷_ (Syntax.tyStruct (List._∷_ 122 (List._∷_ 111 (List._∷_ 110 (List._∷_ 101 (List._∷_ 115 (List._∷_ 58 (List._∷_ 58 (List._∷_ 104 (List._∷_ 101 (List._∷_ 108 (List._∷_ 100 (List._∷_ 58 (List._∷_ 58 (List._∷_ 72 (List._∷_ 101 (List._∷_ 108 (List._∷_ 100 List.[]))))))))))))))))) (Syntax.tcons (Syntax.tyStruct (List._∷_ 112 (List._∷_ 121 (List._∷_ 114 (List._∷_ 97 (List._∷_ 109 (List._∷_ 105 (List._∷_ 100 (List._∷_ 58 (List._∷_ 58 (List._∷_ 83 (List._∷_ 116 (List._∷_ 97 (List._∷_ 116 (List._∷_ 101 List.[])))))))))))))) (Syntax.tcons (Syntax.tyInt Syntax.w32) (Syntax.tcons (Syntax.tyInt Syntax.w32) (Syntax.tcons (Syntax.tyInt Syntax.w32) (Syntax.tcons (Syntax.tyInt Syntax.w32) (Syntax.tcons (Syntax.tyInt Syntax.w32) (Syntax.tcons (Syntax.tyArray (Syntax.tyInt Syntax.w32) 64) Syntax.tnil))))))) (Syntax.tcons (Syntax.tyInt Syntax.w64) (Syntax.tcons (Syntax.tyInt Syntax.w64) (Syntax.tcons (Syntax.tyInt Syntax.w64) (Syntax.tcons (Syntax.tyInt Syntax.w64) (Syntax.tcons (Syntax.tyInt Syntax.w64) (Syntax.tcons (Syntax.tyInt Syntax.w64) (Syntax.tcons Syntax.tyBool Syntax.tnil))))))))) (List._∷_ (Syntax.tyInt Syntax.w64) (List._∷_ (Syntax.tyInt Syntax.w64) (List._∷_ (Syntax.tyStruct (List._∷_ 115 (List._∷_ 99 (List._∷_ 114 (List._∷_ 105 (List._∷_ 112 (List._∷_ 116 (List._∷_ 58 (List._∷_ 58 (List._∷_ 115 (List._∷_ 99 (List._∷_ 97 (List._∷_ 110 (List._∷_ 58 (List._∷_ 58 (List._∷_ 76 (List._∷_ 105 (List._∷_ 110 (List._∷_ 101 List.[])))))))))))))))))) (Syntax.tcons (Syntax.tyInt Syntax.w32) (Syntax.tcons (Syntax.tyInt Syntax.w64) (Syntax.tcons (Syntax.tyInt Syntax.w64) (Syntax.tcons (Syntax.tyInt Syntax.w64) (Syntax.tcons (Syntax.tyInt Syntax.w64) Syntax.tnil)))))) (List._∷_ (Syntax.tyInt Syntax.w64) (List._∷_ Syntax.tyBool (List._∷_ (Syntax.tyInt Syntax.w64) (List._∷_ (Syntax.tyRef Syntax.erased Syntax.mut (Syntax.tyArray (Syntax.tyInt Syntax.w32) 32772)) (List._∷_ (Syntax.tyRef Syntax.erased Syntax.imm (Syntax.tyArray (Syntax.tyInt Syntax.w32) 32772)) (List._∷_ (Syntax.tyRef Syntax.erased Syntax.mut (Syntax.tyArray (Syntax.tyInt Syntax.w8) 16388)) (List._∷_ (Syntax.tyRef Syntax.erased Syntax.mut (Syntax.tyArray (Syntax.tyInt Syntax.w32) 65540)) (List._∷_ (Syntax.tyRef Syntax.erased Syntax.mut (Syntax.tyArray (Syntax.tyInt Syntax.w32) 32772)) (List._∷_ (Syntax.tyRef Syntax.erased Syntax.mut (Syntax.tyArray (Syntax.tyInt Syntax.w32) 32772)) (List._∷_ (Syntax.tyRef Syntax.erased Syntax.mut (Syntax.tyArray (Syntax.tyInt Syntax.w32) 262160)) (List._∷_ (Syntax.tyRef Syntax.erased Syntax.mut (Syntax.tyArray (Syntax.tyInt Syntax.w8) 600000)) (List._∷_ (Syntax.tyRef Syntax.erased Syntax.mut (Syntax.tyArray Cell.behind 65540)) (List._∷_ (Syntax.tyRef Syntax.erased Syntax.mut (Syntax.tyArray Cell.behind 32772)) (List._∷_ Syntax.tyUnit (List._∷_ (Syntax.tyInt Syntax.w64) List.[]))))))))))))))))))
 
 abbrev pub m : Nat.ℕ
 m = 10
@@ -68,19 +68,19 @@ abbrev pub ps·0 : List.List (Kinds.PK 0)
 ps·0 = List.[]
 
 abbrev pub r·0 : Kinds.RK 0
-r·0 = Value.rVal record { ty = Declared.row Held.the-type; one = Path'.refl; val = Laws''.val Held.the-type Laws.the-laws; tells = Laws''.tells Held.the-type Laws.the-laws; still = Laws''.still Held.the-type Laws.the-copy Exit.yes; row = Rows.whole (Declared.row Held.the-type); rd = λ x. x; mk = λ x. x } λ M 𝓤 H A W. record { copies = Laws''.copy Held.the-type Laws.the-copy 𝓤 H A W; lawful = Laws''.lawful Held.the-type Laws.the-laws 𝓤 H A W; makes = Laws''.makes Held.the-type Laws.the-plain 𝓤 H A; in-mem = Local.mem-whole 𝓤 H A W (Declared.row Held.the-type); of-mem = Local.whole-mem 𝓤 H A W (Declared.row Held.the-type) }
+r·0 = Value.rVal record { ty = Declared.row Held.the-type; one = Path'.refl; val = Laws''.val Held.the-type Laws'.the-laws; tells = Laws''.tells Held.the-type Laws'.the-laws; still = Laws''.still Held.the-type Laws'.the-copy Exit.yes; row = Rows.whole (Declared.row Held.the-type); rd = λ x. x; mk = λ x. x } λ M 𝓤 H A W. record { copies = Laws''.copy Held.the-type Laws'.the-copy 𝓤 H A W; lawful = Laws''.lawful Held.the-type Laws'.the-laws 𝓤 H A W; makes = Laws''.makes Held.the-type Laws'.the-plain 𝓤 H A; in-mem = Local.mem-whole 𝓤 H A W (Declared.row Held.the-type); of-mem = Local.whole-mem 𝓤 H A W (Declared.row Held.the-type) }
 
 abbrev pub ps·1 : List.List (Kinds.PK 2)
 ps·1 = List._∷_ (ShrSlice.pShrS (Referent.rtF (Referent.fInt Syntax.w8)) 0 tt) (List._∷_ (Num.pNum Syntax.w64) (List._∷_ (Kinds.pMut (Array.Array (Referent.rtF (Referent.fInt Syntax.w32)) 32772) 1 tt) List.[]))
 
 abbrev pub r·1 : Kinds.RK 2
-r·1 = Value.rVal record { ty = Declared.row Line.the-type; one = Path'.refl; val = Laws''.val Line.the-type Laws'.the-laws; tells = Laws''.tells Line.the-type Laws'.the-laws; still = Laws''.still Line.the-type Laws'.the-copy Exit.yes; row = Rows.whole (Declared.row Line.the-type); rd = λ x. x; mk = λ x. x } λ M 𝓤 H A W. record { copies = Laws''.copy Line.the-type Laws'.the-copy 𝓤 H A W; lawful = Laws''.lawful Line.the-type Laws'.the-laws 𝓤 H A W; makes = Laws''.makes Line.the-type Laws'.the-plain 𝓤 H A; in-mem = Local.mem-whole 𝓤 H A W (Declared.row Line.the-type); of-mem = Local.whole-mem 𝓤 H A W (Declared.row Line.the-type) }
+r·1 = Value.rVal record { ty = Declared.row Line.the-type; one = Path'.refl; val = Laws''.val Line.the-type Laws.the-laws; tells = Laws''.tells Line.the-type Laws.the-laws; still = Laws''.still Line.the-type Laws.the-copy Exit.yes; row = Rows.whole (Declared.row Line.the-type); rd = λ x. x; mk = λ x. x } λ M 𝓤 H A W. record { copies = Laws''.copy Line.the-type Laws.the-copy 𝓤 H A W; lawful = Laws''.lawful Line.the-type Laws.the-laws 𝓤 H A W; makes = Laws''.makes Line.the-type Laws.the-plain 𝓤 H A; in-mem = Local.mem-whole 𝓤 H A W (Declared.row Line.the-type); of-mem = Local.whole-mem 𝓤 H A W (Declared.row Line.the-type) }
 
 abbrev pub ps·2 : List.List (Kinds.PK 10)
-ps·2 = List._∷_ (Value.pVal record { ty = Declared.row Held.the-type; one = Path'.refl; val = Laws''.val Held.the-type Laws.the-laws; tells = Laws''.tells Held.the-type Laws.the-laws; still = Laws''.still Held.the-type Laws.the-copy Exit.yes; row = Rows.whole (Declared.row Held.the-type); rd = λ x. x; mk = λ x. x } λ M 𝓤 H A W. record { copies = Laws''.copy Held.the-type Laws.the-copy 𝓤 H A W; lawful = Laws''.lawful Held.the-type Laws.the-laws 𝓤 H A W; makes = Laws''.makes Held.the-type Laws.the-plain 𝓤 H A; in-mem = Local.mem-whole 𝓤 H A W (Declared.row Held.the-type); of-mem = Local.whole-mem 𝓤 H A W (Declared.row Held.the-type) }) (List._∷_ (Value.pVal record { ty = Declared.row Line.the-type; one = Path'.refl; val = Laws''.val Line.the-type Laws'.the-laws; tells = Laws''.tells Line.the-type Laws'.the-laws; still = Laws''.still Line.the-type Laws'.the-copy Exit.yes; row = Rows.whole (Declared.row Line.the-type); rd = λ x. x; mk = λ x. x } λ M 𝓤 H A W. record { copies = Laws''.copy Line.the-type Laws'.the-copy 𝓤 H A W; lawful = Laws''.lawful Line.the-type Laws'.the-laws 𝓤 H A W; makes = Laws''.makes Line.the-type Laws'.the-plain 𝓤 H A; in-mem = Local.mem-whole 𝓤 H A W (Declared.row Line.the-type); of-mem = Local.whole-mem 𝓤 H A W (Declared.row Line.the-type) }) (List._∷_ (ShrSlice.pShrS (Referent.rtF (Referent.fInt Syntax.w8)) 0 tt) (List._∷_ (ShrRef.pShr (Array.Array (Referent.rtF (Referent.fInt Syntax.w32)) 32772) 1 tt) (List._∷_ (Kinds.pMut (Array.Array (Referent.rtF (Referent.fInt Syntax.w8)) 16388) 2 tt) (List._∷_ (Kinds.pMut (Array.Array (Referent.rtF (Referent.fInt Syntax.w32)) 65540) 3 tt) (List._∷_ (Kinds.pMut (Array.Array (Referent.rtF (Referent.fInt Syntax.w32)) 32772) 4 tt) (List._∷_ (Kinds.pMut (Array.Array (Referent.rtF (Referent.fInt Syntax.w32)) 32772) 5 tt) (List._∷_ (Kinds.pMut (Array.Array (Referent.rtF (Referent.fInt Syntax.w32)) 262160) 6 tt) (List._∷_ (Kinds.pMut (Array.Array (Referent.rtF (Referent.fInt Syntax.w8)) 600000) 7 tt) (List._∷_ (Kinds.pMut (Array.Array Cell.R 65540) 8 tt) (List._∷_ (Kinds.pMut (Array.Array Cell.R 32772) 9 tt) List.[])))))))))))
+ps·2 = List._∷_ (Value.pVal record { ty = Declared.row Held.the-type; one = Path'.refl; val = Laws''.val Held.the-type Laws'.the-laws; tells = Laws''.tells Held.the-type Laws'.the-laws; still = Laws''.still Held.the-type Laws'.the-copy Exit.yes; row = Rows.whole (Declared.row Held.the-type); rd = λ x. x; mk = λ x. x } λ M 𝓤 H A W. record { copies = Laws''.copy Held.the-type Laws'.the-copy 𝓤 H A W; lawful = Laws''.lawful Held.the-type Laws'.the-laws 𝓤 H A W; makes = Laws''.makes Held.the-type Laws'.the-plain 𝓤 H A; in-mem = Local.mem-whole 𝓤 H A W (Declared.row Held.the-type); of-mem = Local.whole-mem 𝓤 H A W (Declared.row Held.the-type) }) (List._∷_ (Value.pVal record { ty = Declared.row Line.the-type; one = Path'.refl; val = Laws''.val Line.the-type Laws.the-laws; tells = Laws''.tells Line.the-type Laws.the-laws; still = Laws''.still Line.the-type Laws.the-copy Exit.yes; row = Rows.whole (Declared.row Line.the-type); rd = λ x. x; mk = λ x. x } λ M 𝓤 H A W. record { copies = Laws''.copy Line.the-type Laws.the-copy 𝓤 H A W; lawful = Laws''.lawful Line.the-type Laws.the-laws 𝓤 H A W; makes = Laws''.makes Line.the-type Laws.the-plain 𝓤 H A; in-mem = Local.mem-whole 𝓤 H A W (Declared.row Line.the-type); of-mem = Local.whole-mem 𝓤 H A W (Declared.row Line.the-type) }) (List._∷_ (ShrSlice.pShrS (Referent.rtF (Referent.fInt Syntax.w8)) 0 tt) (List._∷_ (ShrRef.pShr (Array.Array (Referent.rtF (Referent.fInt Syntax.w32)) 32772) 1 tt) (List._∷_ (Kinds.pMut (Array.Array (Referent.rtF (Referent.fInt Syntax.w8)) 16388) 2 tt) (List._∷_ (Kinds.pMut (Array.Array (Referent.rtF (Referent.fInt Syntax.w32)) 65540) 3 tt) (List._∷_ (Kinds.pMut (Array.Array (Referent.rtF (Referent.fInt Syntax.w32)) 32772) 4 tt) (List._∷_ (Kinds.pMut (Array.Array (Referent.rtF (Referent.fInt Syntax.w32)) 32772) 5 tt) (List._∷_ (Kinds.pMut (Array.Array (Referent.rtF (Referent.fInt Syntax.w32)) 262160) 6 tt) (List._∷_ (Kinds.pMut (Array.Array (Referent.rtF (Referent.fInt Syntax.w8)) 600000) 7 tt) (List._∷_ (Kinds.pMut (Array.Array Cell.R 65540) 8 tt) (List._∷_ (Kinds.pMut (Array.Array Cell.R 32772) 9 tt) List.[])))))))))))
 
 abbrev pub r·2 : Kinds.RK 10
-r·2 = Value.rVal record { ty = Declared.row Held.the-type; one = Path'.refl; val = Laws''.val Held.the-type Laws.the-laws; tells = Laws''.tells Held.the-type Laws.the-laws; still = Laws''.still Held.the-type Laws.the-copy Exit.yes; row = Rows.whole (Declared.row Held.the-type); rd = λ x. x; mk = λ x. x } λ M 𝓤 H A W. record { copies = Laws''.copy Held.the-type Laws.the-copy 𝓤 H A W; lawful = Laws''.lawful Held.the-type Laws.the-laws 𝓤 H A W; makes = Laws''.makes Held.the-type Laws.the-plain 𝓤 H A; in-mem = Local.mem-whole 𝓤 H A W (Declared.row Held.the-type); of-mem = Local.whole-mem 𝓤 H A W (Declared.row Held.the-type) }
+r·2 = Value.rVal record { ty = Declared.row Held.the-type; one = Path'.refl; val = Laws''.val Held.the-type Laws'.the-laws; tells = Laws''.tells Held.the-type Laws'.the-laws; still = Laws''.still Held.the-type Laws'.the-copy Exit.yes; row = Rows.whole (Declared.row Held.the-type); rd = λ x. x; mk = λ x. x } λ M 𝓤 H A W. record { copies = Laws''.copy Held.the-type Laws'.the-copy 𝓤 H A W; lawful = Laws''.lawful Held.the-type Laws'.the-laws 𝓤 H A W; makes = Laws''.makes Held.the-type Laws'.the-plain 𝓤 H A; in-mem = Local.mem-whole 𝓤 H A W (Declared.row Held.the-type); of-mem = Local.whole-mem 𝓤 H A W (Declared.row Held.the-type) }
 
 abbrev pub ps·3 : List.List (Kinds.PK 0)
 ps·3 = List._∷_ (Num.pNum Syntax.w64) List.[]
@@ -140,7 +140,7 @@ abbrev b15 : Syntax.Body
 b15 = Syntax.assign (Syntax.place 18 List.[]) (Syntax.addrOf (Syntax.place 2 (List._∷_ (Syntax.deref (Syntax.tyArray (Syntax.tyInt Syntax.w32) 32772)) List.[])))
 
 abbrev b16 : Syntax.Body
-b16 = Syntax.call "zones::scan::next_line" (List._∷_ (Syntax.copy (Syntax.place 1 List.[])) (List._∷_ (Syntax.copy (Syntax.place 12 List.[])) (List._∷_ (Syntax.copy (Syntax.place 18 List.[])) List.[]))) (Syntax.place 14 List.[])
+b16 = Syntax.call "script::scan::next_line" (List._∷_ (Syntax.copy (Syntax.place 1 List.[])) (List._∷_ (Syntax.copy (Syntax.place 12 List.[])) (List._∷_ (Syntax.copy (Syntax.place 18 List.[])) List.[]))) (Syntax.place 14 List.[])
 
 abbrev b17 : Syntax.Body
 b17 = Syntax.assign (Syntax.place 19 List.[]) (Syntax.addrOf (Syntax.place 2 (List._∷_ (Syntax.deref (Syntax.tyArray (Syntax.tyInt Syntax.w32) 32772)) List.[])))
@@ -179,7 +179,7 @@ abbrev b28 : Syntax.Body
 b28 = Syntax.assign (Syntax.place 29 List.[]) (Syntax.op2 (Syntax.add Syntax.unsigned) (Syntax.copy (Syntax.place 13 List.[])) (Syntax.int Syntax.w64 1))
 
 abbrev b29 : Syntax.Body
-b29 = Syntax.call "zones::prints::error" (List._∷_ (Syntax.copy (Syntax.place 29 List.[])) List.[]) (Syntax.place 28 List.[])
+b29 = Syntax.call "script::prints::error" (List._∷_ (Syntax.copy (Syntax.place 29 List.[])) List.[]) (Syntax.place 28 List.[])
 
 abbrev b30 : Syntax.Body
 b30 = Syntax.assign (Syntax.place 0 List.[]) (Syntax.rvOpd Syntax.opdUnit)
@@ -305,37 +305,37 @@ abbrev pub Claims : Type 1
 Claims = Kinds.In 0 ps·0 × Kinds.Out 0 ps·0 r·0 × Kinds.In 2 ps·1 × Kinds.Out 2 ps·1 r·1 × Kinds.In 10 ps·2 × Kinds.Out 10 ps·2 r·2 × Kinds.In 0 ps·3 × Kinds.Out 0 ps·3 r·3
 
 abbrev pub t0 : List.List Row.Entry
-t0 = List._∷_ (0, Rows.any-gone Syntax.tyUnit) (List._∷_ (1, Rows.sslice (Referent.rtF (Referent.fInt Syntax.w8)) (Syntax.tyRef (Syntax.named 0) Syntax.imm (Syntax.tyInt Syntax.w8)) 0) (List._∷_ (2, Rows.mref (Array.Array (Referent.rtF (Referent.fInt Syntax.w32)) 32772) (Syntax.tyRef (Syntax.named 1) Syntax.mut (Syntax.tyArray (Syntax.tyInt Syntax.w32) 32772)) 1) (List._∷_ (3, Rows.mref (Array.Array (Referent.rtF (Referent.fInt Syntax.w8)) 16388) (Syntax.tyRef (Syntax.named 2) Syntax.mut (Syntax.tyArray (Syntax.tyInt Syntax.w8) 16388)) 2) (List._∷_ (4, Rows.mref (Array.Array (Referent.rtF (Referent.fInt Syntax.w32)) 65540) (Syntax.tyRef (Syntax.named 3) Syntax.mut (Syntax.tyArray (Syntax.tyInt Syntax.w32) 65540)) 3) (List._∷_ (5, Rows.mref (Array.Array (Referent.rtF (Referent.fInt Syntax.w32)) 32772) (Syntax.tyRef (Syntax.named 4) Syntax.mut (Syntax.tyArray (Syntax.tyInt Syntax.w32) 32772)) 4) (List._∷_ (6, Rows.mref (Array.Array (Referent.rtF (Referent.fInt Syntax.w32)) 32772) (Syntax.tyRef (Syntax.named 5) Syntax.mut (Syntax.tyArray (Syntax.tyInt Syntax.w32) 32772)) 5) (List._∷_ (7, Rows.mref (Array.Array (Referent.rtF (Referent.fInt Syntax.w32)) 262160) (Syntax.tyRef (Syntax.named 6) Syntax.mut (Syntax.tyArray (Syntax.tyInt Syntax.w32) 262160)) 6) (List._∷_ (8, Rows.mref (Array.Array (Referent.rtF (Referent.fInt Syntax.w8)) 600000) (Syntax.tyRef (Syntax.named 7) Syntax.mut (Syntax.tyArray (Syntax.tyInt Syntax.w8) 600000)) 7) (List._∷_ (9, Rows.mref (Array.Array Cell.R 65540) (Syntax.tyRef (Syntax.named 8) Syntax.mut (Syntax.tyArray Cell.behind 65540)) 8) (List._∷_ (10, Rows.mref (Array.Array Cell.R 32772) (Syntax.tyRef (Syntax.named 9) Syntax.mut (Syntax.tyArray Cell.behind 32772)) 9) (List._∷_ (11, Rows.any-gone (Syntax.tyStruct (List._∷_ 122 (List._∷_ 111 (List._∷_ 110 (List._∷_ 101 (List._∷_ 115 (List._∷_ 58 (List._∷_ 58 (List._∷_ 104 (List._∷_ 101 (List._∷_ 108 (List._∷_ 100 (List._∷_ 58 (List._∷_ 58 (List._∷_ 72 (List._∷_ 101 (List._∷_ 108 (List._∷_ 100 List.[]))))))))))))))))) (Syntax.tcons (Syntax.tyStruct (List._∷_ 112 (List._∷_ 121 (List._∷_ 114 (List._∷_ 97 (List._∷_ 109 (List._∷_ 105 (List._∷_ 100 (List._∷_ 58 (List._∷_ 58 (List._∷_ 83 (List._∷_ 116 (List._∷_ 97 (List._∷_ 116 (List._∷_ 101 List.[])))))))))))))) (Syntax.tcons (Syntax.tyInt Syntax.w32) (Syntax.tcons (Syntax.tyInt Syntax.w32) (Syntax.tcons (Syntax.tyInt Syntax.w32) (Syntax.tcons (Syntax.tyInt Syntax.w32) (Syntax.tcons (Syntax.tyInt Syntax.w32) (Syntax.tcons (Syntax.tyArray (Syntax.tyInt Syntax.w32) 64) Syntax.tnil))))))) (Syntax.tcons (Syntax.tyInt Syntax.w64) (Syntax.tcons (Syntax.tyInt Syntax.w64) (Syntax.tcons (Syntax.tyInt Syntax.w64) (Syntax.tcons (Syntax.tyInt Syntax.w64) (Syntax.tcons (Syntax.tyInt Syntax.w64) (Syntax.tcons (Syntax.tyInt Syntax.w64) (Syntax.tcons Syntax.tyBool Syntax.tnil)))))))))) (List._∷_ (12, Rows.any-gone (Syntax.tyInt Syntax.w64)) (List._∷_ (13, Rows.any-gone (Syntax.tyInt Syntax.w64)) (List._∷_ (14, Rows.any-gone (Syntax.tyStruct (List._∷_ 122 (List._∷_ 111 (List._∷_ 110 (List._∷_ 101 (List._∷_ 115 (List._∷_ 58 (List._∷_ 58 (List._∷_ 115 (List._∷_ 99 (List._∷_ 97 (List._∷_ 110 (List._∷_ 58 (List._∷_ 58 (List._∷_ 76 (List._∷_ 105 (List._∷_ 110 (List._∷_ 101 List.[]))))))))))))))))) (Syntax.tcons (Syntax.tyInt Syntax.w32) (Syntax.tcons (Syntax.tyInt Syntax.w64) (Syntax.tcons (Syntax.tyInt Syntax.w64) (Syntax.tcons (Syntax.tyInt Syntax.w64) (Syntax.tcons (Syntax.tyInt Syntax.w64) Syntax.tnil))))))) (List._∷_ (15, Rows.any-gone (Syntax.tyInt Syntax.w64)) List.[])))))))))))))))
+t0 = List._∷_ (0, Rows.any-gone Syntax.tyUnit) (List._∷_ (1, Rows.sslice (Referent.rtF (Referent.fInt Syntax.w8)) (Syntax.tyRef (Syntax.named 0) Syntax.imm (Syntax.tyInt Syntax.w8)) 0) (List._∷_ (2, Rows.mref (Array.Array (Referent.rtF (Referent.fInt Syntax.w32)) 32772) (Syntax.tyRef (Syntax.named 1) Syntax.mut (Syntax.tyArray (Syntax.tyInt Syntax.w32) 32772)) 1) (List._∷_ (3, Rows.mref (Array.Array (Referent.rtF (Referent.fInt Syntax.w8)) 16388) (Syntax.tyRef (Syntax.named 2) Syntax.mut (Syntax.tyArray (Syntax.tyInt Syntax.w8) 16388)) 2) (List._∷_ (4, Rows.mref (Array.Array (Referent.rtF (Referent.fInt Syntax.w32)) 65540) (Syntax.tyRef (Syntax.named 3) Syntax.mut (Syntax.tyArray (Syntax.tyInt Syntax.w32) 65540)) 3) (List._∷_ (5, Rows.mref (Array.Array (Referent.rtF (Referent.fInt Syntax.w32)) 32772) (Syntax.tyRef (Syntax.named 4) Syntax.mut (Syntax.tyArray (Syntax.tyInt Syntax.w32) 32772)) 4) (List._∷_ (6, Rows.mref (Array.Array (Referent.rtF (Referent.fInt Syntax.w32)) 32772) (Syntax.tyRef (Syntax.named 5) Syntax.mut (Syntax.tyArray (Syntax.tyInt Syntax.w32) 32772)) 5) (List._∷_ (7, Rows.mref (Array.Array (Referent.rtF (Referent.fInt Syntax.w32)) 262160) (Syntax.tyRef (Syntax.named 6) Syntax.mut (Syntax.tyArray (Syntax.tyInt Syntax.w32) 262160)) 6) (List._∷_ (8, Rows.mref (Array.Array (Referent.rtF (Referent.fInt Syntax.w8)) 600000) (Syntax.tyRef (Syntax.named 7) Syntax.mut (Syntax.tyArray (Syntax.tyInt Syntax.w8) 600000)) 7) (List._∷_ (9, Rows.mref (Array.Array Cell.R 65540) (Syntax.tyRef (Syntax.named 8) Syntax.mut (Syntax.tyArray Cell.behind 65540)) 8) (List._∷_ (10, Rows.mref (Array.Array Cell.R 32772) (Syntax.tyRef (Syntax.named 9) Syntax.mut (Syntax.tyArray Cell.behind 32772)) 9) (List._∷_ (11, Rows.any-gone (Syntax.tyStruct (List._∷_ 122 (List._∷_ 111 (List._∷_ 110 (List._∷_ 101 (List._∷_ 115 (List._∷_ 58 (List._∷_ 58 (List._∷_ 104 (List._∷_ 101 (List._∷_ 108 (List._∷_ 100 (List._∷_ 58 (List._∷_ 58 (List._∷_ 72 (List._∷_ 101 (List._∷_ 108 (List._∷_ 100 List.[]))))))))))))))))) (Syntax.tcons (Syntax.tyStruct (List._∷_ 112 (List._∷_ 121 (List._∷_ 114 (List._∷_ 97 (List._∷_ 109 (List._∷_ 105 (List._∷_ 100 (List._∷_ 58 (List._∷_ 58 (List._∷_ 83 (List._∷_ 116 (List._∷_ 97 (List._∷_ 116 (List._∷_ 101 List.[])))))))))))))) (Syntax.tcons (Syntax.tyInt Syntax.w32) (Syntax.tcons (Syntax.tyInt Syntax.w32) (Syntax.tcons (Syntax.tyInt Syntax.w32) (Syntax.tcons (Syntax.tyInt Syntax.w32) (Syntax.tcons (Syntax.tyInt Syntax.w32) (Syntax.tcons (Syntax.tyArray (Syntax.tyInt Syntax.w32) 64) Syntax.tnil))))))) (Syntax.tcons (Syntax.tyInt Syntax.w64) (Syntax.tcons (Syntax.tyInt Syntax.w64) (Syntax.tcons (Syntax.tyInt Syntax.w64) (Syntax.tcons (Syntax.tyInt Syntax.w64) (Syntax.tcons (Syntax.tyInt Syntax.w64) (Syntax.tcons (Syntax.tyInt Syntax.w64) (Syntax.tcons Syntax.tyBool Syntax.tnil)))))))))) (List._∷_ (12, Rows.any-gone (Syntax.tyInt Syntax.w64)) (List._∷_ (13, Rows.any-gone (Syntax.tyInt Syntax.w64)) (List._∷_ (14, Rows.any-gone (Syntax.tyStruct (List._∷_ 115 (List._∷_ 99 (List._∷_ 114 (List._∷_ 105 (List._∷_ 112 (List._∷_ 116 (List._∷_ 58 (List._∷_ 58 (List._∷_ 115 (List._∷_ 99 (List._∷_ 97 (List._∷_ 110 (List._∷_ 58 (List._∷_ 58 (List._∷_ 76 (List._∷_ 105 (List._∷_ 110 (List._∷_ 101 List.[])))))))))))))))))) (Syntax.tcons (Syntax.tyInt Syntax.w32) (Syntax.tcons (Syntax.tyInt Syntax.w64) (Syntax.tcons (Syntax.tyInt Syntax.w64) (Syntax.tcons (Syntax.tyInt Syntax.w64) (Syntax.tcons (Syntax.tyInt Syntax.w64) Syntax.tnil))))))) (List._∷_ (15, Rows.any-gone (Syntax.tyInt Syntax.w64)) List.[])))))))))))))))
 
 abbrev pub t1 : List.List Row.Entry
 t1 = List._∷_ (16, Rows.any-gone Syntax.tyBool) (List._∷_ (17, Rows.any-gone (Syntax.tyInt Syntax.w64)) (List._∷_ (18, Rows.any-gone (Syntax.tyRef Syntax.erased Syntax.mut (Syntax.tyArray (Syntax.tyInt Syntax.w32) 32772))) (List._∷_ (19, Rows.any-gone (Syntax.tyRef Syntax.erased Syntax.imm (Syntax.tyArray (Syntax.tyInt Syntax.w32) 32772))) (List._∷_ (20, Rows.any-gone (Syntax.tyRef Syntax.erased Syntax.mut (Syntax.tyArray (Syntax.tyInt Syntax.w8) 16388))) (List._∷_ (21, Rows.any-gone (Syntax.tyRef Syntax.erased Syntax.mut (Syntax.tyArray (Syntax.tyInt Syntax.w32) 65540))) (List._∷_ (22, Rows.any-gone (Syntax.tyRef Syntax.erased Syntax.mut (Syntax.tyArray (Syntax.tyInt Syntax.w32) 32772))) (List._∷_ (23, Rows.any-gone (Syntax.tyRef Syntax.erased Syntax.mut (Syntax.tyArray (Syntax.tyInt Syntax.w32) 32772))) (List._∷_ (24, Rows.any-gone (Syntax.tyRef Syntax.erased Syntax.mut (Syntax.tyArray (Syntax.tyInt Syntax.w32) 262160))) (List._∷_ (25, Rows.any-gone (Syntax.tyRef Syntax.erased Syntax.mut (Syntax.tyArray (Syntax.tyInt Syntax.w8) 600000))) (List._∷_ (26, Rows.any-gone (Syntax.tyRef Syntax.erased Syntax.mut (Syntax.tyArray Cell.behind 65540))) (List._∷_ (27, Rows.any-gone (Syntax.tyRef Syntax.erased Syntax.mut (Syntax.tyArray Cell.behind 32772))) (List._∷_ (28, Rows.any-gone Syntax.tyUnit) (List._∷_ (29, Rows.any-gone (Syntax.tyInt Syntax.w64)) List.[])))))))))))))
 
 abbrev pub t2 : List.List Row.Entry
-t2 = List._∷_ (0, Rows.sc-here Row.sUnit) (List._∷_ (1, Rows.sslice (Referent.rtF (Referent.fInt Syntax.w8)) (Syntax.tyRef (Syntax.named 0) Syntax.imm (Syntax.tyInt Syntax.w8)) 0) (List._∷_ (2, Rows.mref (Array.Array (Referent.rtF (Referent.fInt Syntax.w32)) 32772) (Syntax.tyRef (Syntax.named 1) Syntax.mut (Syntax.tyArray (Syntax.tyInt Syntax.w32) 32772)) 1) (List._∷_ (3, Rows.mref (Array.Array (Referent.rtF (Referent.fInt Syntax.w8)) 16388) (Syntax.tyRef (Syntax.named 2) Syntax.mut (Syntax.tyArray (Syntax.tyInt Syntax.w8) 16388)) 2) (List._∷_ (4, Rows.mref (Array.Array (Referent.rtF (Referent.fInt Syntax.w32)) 65540) (Syntax.tyRef (Syntax.named 3) Syntax.mut (Syntax.tyArray (Syntax.tyInt Syntax.w32) 65540)) 3) (List._∷_ (5, Rows.mref (Array.Array (Referent.rtF (Referent.fInt Syntax.w32)) 32772) (Syntax.tyRef (Syntax.named 4) Syntax.mut (Syntax.tyArray (Syntax.tyInt Syntax.w32) 32772)) 4) (List._∷_ (6, Rows.mref (Array.Array (Referent.rtF (Referent.fInt Syntax.w32)) 32772) (Syntax.tyRef (Syntax.named 5) Syntax.mut (Syntax.tyArray (Syntax.tyInt Syntax.w32) 32772)) 5) (List._∷_ (7, Rows.mref (Array.Array (Referent.rtF (Referent.fInt Syntax.w32)) 262160) (Syntax.tyRef (Syntax.named 6) Syntax.mut (Syntax.tyArray (Syntax.tyInt Syntax.w32) 262160)) 6) (List._∷_ (8, Rows.mref (Array.Array (Referent.rtF (Referent.fInt Syntax.w8)) 600000) (Syntax.tyRef (Syntax.named 7) Syntax.mut (Syntax.tyArray (Syntax.tyInt Syntax.w8) 600000)) 7) (List._∷_ (9, Rows.mref (Array.Array Cell.R 65540) (Syntax.tyRef (Syntax.named 8) Syntax.mut (Syntax.tyArray Cell.behind 65540)) 8) (List._∷_ (10, Rows.mref (Array.Array Cell.R 32772) (Syntax.tyRef (Syntax.named 9) Syntax.mut (Syntax.tyArray Cell.behind 32772)) 9) (List._∷_ (11, Rows.any-gone (Syntax.tyStruct (List._∷_ 122 (List._∷_ 111 (List._∷_ 110 (List._∷_ 101 (List._∷_ 115 (List._∷_ 58 (List._∷_ 58 (List._∷_ 104 (List._∷_ 101 (List._∷_ 108 (List._∷_ 100 (List._∷_ 58 (List._∷_ 58 (List._∷_ 72 (List._∷_ 101 (List._∷_ 108 (List._∷_ 100 List.[]))))))))))))))))) (Syntax.tcons (Syntax.tyStruct (List._∷_ 112 (List._∷_ 121 (List._∷_ 114 (List._∷_ 97 (List._∷_ 109 (List._∷_ 105 (List._∷_ 100 (List._∷_ 58 (List._∷_ 58 (List._∷_ 83 (List._∷_ 116 (List._∷_ 97 (List._∷_ 116 (List._∷_ 101 List.[])))))))))))))) (Syntax.tcons (Syntax.tyInt Syntax.w32) (Syntax.tcons (Syntax.tyInt Syntax.w32) (Syntax.tcons (Syntax.tyInt Syntax.w32) (Syntax.tcons (Syntax.tyInt Syntax.w32) (Syntax.tcons (Syntax.tyInt Syntax.w32) (Syntax.tcons (Syntax.tyArray (Syntax.tyInt Syntax.w32) 64) Syntax.tnil))))))) (Syntax.tcons (Syntax.tyInt Syntax.w64) (Syntax.tcons (Syntax.tyInt Syntax.w64) (Syntax.tcons (Syntax.tyInt Syntax.w64) (Syntax.tcons (Syntax.tyInt Syntax.w64) (Syntax.tcons (Syntax.tyInt Syntax.w64) (Syntax.tcons (Syntax.tyInt Syntax.w64) (Syntax.tcons Syntax.tyBool Syntax.tnil)))))))))) (List._∷_ (12, Rows.any-gone (Syntax.tyInt Syntax.w64)) (List._∷_ (13, Rows.any-gone (Syntax.tyInt Syntax.w64)) (List._∷_ (14, Rows.any-gone (Syntax.tyStruct (List._∷_ 122 (List._∷_ 111 (List._∷_ 110 (List._∷_ 101 (List._∷_ 115 (List._∷_ 58 (List._∷_ 58 (List._∷_ 115 (List._∷_ 99 (List._∷_ 97 (List._∷_ 110 (List._∷_ 58 (List._∷_ 58 (List._∷_ 76 (List._∷_ 105 (List._∷_ 110 (List._∷_ 101 List.[]))))))))))))))))) (Syntax.tcons (Syntax.tyInt Syntax.w32) (Syntax.tcons (Syntax.tyInt Syntax.w64) (Syntax.tcons (Syntax.tyInt Syntax.w64) (Syntax.tcons (Syntax.tyInt Syntax.w64) (Syntax.tcons (Syntax.tyInt Syntax.w64) Syntax.tnil))))))) (List._∷_ (15, Rows.any-gone (Syntax.tyInt Syntax.w64)) List.[])))))))))))))))
+t2 = List._∷_ (0, Rows.sc-here Row.sUnit) (List._∷_ (1, Rows.sslice (Referent.rtF (Referent.fInt Syntax.w8)) (Syntax.tyRef (Syntax.named 0) Syntax.imm (Syntax.tyInt Syntax.w8)) 0) (List._∷_ (2, Rows.mref (Array.Array (Referent.rtF (Referent.fInt Syntax.w32)) 32772) (Syntax.tyRef (Syntax.named 1) Syntax.mut (Syntax.tyArray (Syntax.tyInt Syntax.w32) 32772)) 1) (List._∷_ (3, Rows.mref (Array.Array (Referent.rtF (Referent.fInt Syntax.w8)) 16388) (Syntax.tyRef (Syntax.named 2) Syntax.mut (Syntax.tyArray (Syntax.tyInt Syntax.w8) 16388)) 2) (List._∷_ (4, Rows.mref (Array.Array (Referent.rtF (Referent.fInt Syntax.w32)) 65540) (Syntax.tyRef (Syntax.named 3) Syntax.mut (Syntax.tyArray (Syntax.tyInt Syntax.w32) 65540)) 3) (List._∷_ (5, Rows.mref (Array.Array (Referent.rtF (Referent.fInt Syntax.w32)) 32772) (Syntax.tyRef (Syntax.named 4) Syntax.mut (Syntax.tyArray (Syntax.tyInt Syntax.w32) 32772)) 4) (List._∷_ (6, Rows.mref (Array.Array (Referent.rtF (Referent.fInt Syntax.w32)) 32772) (Syntax.tyRef (Syntax.named 5) Syntax.mut (Syntax.tyArray (Syntax.tyInt Syntax.w32) 32772)) 5) (List._∷_ (7, Rows.mref (Array.Array (Referent.rtF (Referent.fInt Syntax.w32)) 262160) (Syntax.tyRef (Syntax.named 6) Syntax.mut (Syntax.tyArray (Syntax.tyInt Syntax.w32) 262160)) 6) (List._∷_ (8, Rows.mref (Array.Array (Referent.rtF (Referent.fInt Syntax.w8)) 600000) (Syntax.tyRef (Syntax.named 7) Syntax.mut (Syntax.tyArray (Syntax.tyInt Syntax.w8) 600000)) 7) (List._∷_ (9, Rows.mref (Array.Array Cell.R 65540) (Syntax.tyRef (Syntax.named 8) Syntax.mut (Syntax.tyArray Cell.behind 65540)) 8) (List._∷_ (10, Rows.mref (Array.Array Cell.R 32772) (Syntax.tyRef (Syntax.named 9) Syntax.mut (Syntax.tyArray Cell.behind 32772)) 9) (List._∷_ (11, Rows.any-gone (Syntax.tyStruct (List._∷_ 122 (List._∷_ 111 (List._∷_ 110 (List._∷_ 101 (List._∷_ 115 (List._∷_ 58 (List._∷_ 58 (List._∷_ 104 (List._∷_ 101 (List._∷_ 108 (List._∷_ 100 (List._∷_ 58 (List._∷_ 58 (List._∷_ 72 (List._∷_ 101 (List._∷_ 108 (List._∷_ 100 List.[]))))))))))))))))) (Syntax.tcons (Syntax.tyStruct (List._∷_ 112 (List._∷_ 121 (List._∷_ 114 (List._∷_ 97 (List._∷_ 109 (List._∷_ 105 (List._∷_ 100 (List._∷_ 58 (List._∷_ 58 (List._∷_ 83 (List._∷_ 116 (List._∷_ 97 (List._∷_ 116 (List._∷_ 101 List.[])))))))))))))) (Syntax.tcons (Syntax.tyInt Syntax.w32) (Syntax.tcons (Syntax.tyInt Syntax.w32) (Syntax.tcons (Syntax.tyInt Syntax.w32) (Syntax.tcons (Syntax.tyInt Syntax.w32) (Syntax.tcons (Syntax.tyInt Syntax.w32) (Syntax.tcons (Syntax.tyArray (Syntax.tyInt Syntax.w32) 64) Syntax.tnil))))))) (Syntax.tcons (Syntax.tyInt Syntax.w64) (Syntax.tcons (Syntax.tyInt Syntax.w64) (Syntax.tcons (Syntax.tyInt Syntax.w64) (Syntax.tcons (Syntax.tyInt Syntax.w64) (Syntax.tcons (Syntax.tyInt Syntax.w64) (Syntax.tcons (Syntax.tyInt Syntax.w64) (Syntax.tcons Syntax.tyBool Syntax.tnil)))))))))) (List._∷_ (12, Rows.any-gone (Syntax.tyInt Syntax.w64)) (List._∷_ (13, Rows.any-gone (Syntax.tyInt Syntax.w64)) (List._∷_ (14, Rows.any-gone (Syntax.tyStruct (List._∷_ 115 (List._∷_ 99 (List._∷_ 114 (List._∷_ 105 (List._∷_ 112 (List._∷_ 116 (List._∷_ 58 (List._∷_ 58 (List._∷_ 115 (List._∷_ 99 (List._∷_ 97 (List._∷_ 110 (List._∷_ 58 (List._∷_ 58 (List._∷_ 76 (List._∷_ 105 (List._∷_ 110 (List._∷_ 101 List.[])))))))))))))))))) (Syntax.tcons (Syntax.tyInt Syntax.w32) (Syntax.tcons (Syntax.tyInt Syntax.w64) (Syntax.tcons (Syntax.tyInt Syntax.w64) (Syntax.tcons (Syntax.tyInt Syntax.w64) (Syntax.tcons (Syntax.tyInt Syntax.w64) Syntax.tnil))))))) (List._∷_ (15, Rows.any-gone (Syntax.tyInt Syntax.w64)) List.[])))))))))))))))
 
 abbrev pub t3 : List.List Row.Entry
-t3 = List._∷_ (0, Rows.any-gone Syntax.tyUnit) (List._∷_ (1, Rows.sslice (Referent.rtF (Referent.fInt Syntax.w8)) (Syntax.tyRef (Syntax.named 0) Syntax.imm (Syntax.tyInt Syntax.w8)) 0) (List._∷_ (2, Rows.mref (Array.Array (Referent.rtF (Referent.fInt Syntax.w32)) 32772) (Syntax.tyRef (Syntax.named 1) Syntax.mut (Syntax.tyArray (Syntax.tyInt Syntax.w32) 32772)) 1) (List._∷_ (3, Rows.mref (Array.Array (Referent.rtF (Referent.fInt Syntax.w8)) 16388) (Syntax.tyRef (Syntax.named 2) Syntax.mut (Syntax.tyArray (Syntax.tyInt Syntax.w8) 16388)) 2) (List._∷_ (4, Rows.mref (Array.Array (Referent.rtF (Referent.fInt Syntax.w32)) 65540) (Syntax.tyRef (Syntax.named 3) Syntax.mut (Syntax.tyArray (Syntax.tyInt Syntax.w32) 65540)) 3) (List._∷_ (5, Rows.mref (Array.Array (Referent.rtF (Referent.fInt Syntax.w32)) 32772) (Syntax.tyRef (Syntax.named 4) Syntax.mut (Syntax.tyArray (Syntax.tyInt Syntax.w32) 32772)) 4) (List._∷_ (6, Rows.mref (Array.Array (Referent.rtF (Referent.fInt Syntax.w32)) 32772) (Syntax.tyRef (Syntax.named 5) Syntax.mut (Syntax.tyArray (Syntax.tyInt Syntax.w32) 32772)) 5) (List._∷_ (7, Rows.mref (Array.Array (Referent.rtF (Referent.fInt Syntax.w32)) 262160) (Syntax.tyRef (Syntax.named 6) Syntax.mut (Syntax.tyArray (Syntax.tyInt Syntax.w32) 262160)) 6) (List._∷_ (8, Rows.mref (Array.Array (Referent.rtF (Referent.fInt Syntax.w8)) 600000) (Syntax.tyRef (Syntax.named 7) Syntax.mut (Syntax.tyArray (Syntax.tyInt Syntax.w8) 600000)) 7) (List._∷_ (9, Rows.mref (Array.Array Cell.R 65540) (Syntax.tyRef (Syntax.named 8) Syntax.mut (Syntax.tyArray Cell.behind 65540)) 8) (List._∷_ (10, Rows.mref (Array.Array Cell.R 32772) (Syntax.tyRef (Syntax.named 9) Syntax.mut (Syntax.tyArray Cell.behind 32772)) 9) (List._∷_ (11, Rows.whole (Declared.row Held.the-type)) (List._∷_ (12, Rows.any-gone (Syntax.tyInt Syntax.w64)) (List._∷_ (13, Rows.any-gone (Syntax.tyInt Syntax.w64)) (List._∷_ (14, Rows.any-gone (Syntax.tyStruct (List._∷_ 122 (List._∷_ 111 (List._∷_ 110 (List._∷_ 101 (List._∷_ 115 (List._∷_ 58 (List._∷_ 58 (List._∷_ 115 (List._∷_ 99 (List._∷_ 97 (List._∷_ 110 (List._∷_ 58 (List._∷_ 58 (List._∷_ 76 (List._∷_ 105 (List._∷_ 110 (List._∷_ 101 List.[]))))))))))))))))) (Syntax.tcons (Syntax.tyInt Syntax.w32) (Syntax.tcons (Syntax.tyInt Syntax.w64) (Syntax.tcons (Syntax.tyInt Syntax.w64) (Syntax.tcons (Syntax.tyInt Syntax.w64) (Syntax.tcons (Syntax.tyInt Syntax.w64) Syntax.tnil))))))) (List._∷_ (15, Rows.any-gone (Syntax.tyInt Syntax.w64)) List.[])))))))))))))))
+t3 = List._∷_ (0, Rows.any-gone Syntax.tyUnit) (List._∷_ (1, Rows.sslice (Referent.rtF (Referent.fInt Syntax.w8)) (Syntax.tyRef (Syntax.named 0) Syntax.imm (Syntax.tyInt Syntax.w8)) 0) (List._∷_ (2, Rows.mref (Array.Array (Referent.rtF (Referent.fInt Syntax.w32)) 32772) (Syntax.tyRef (Syntax.named 1) Syntax.mut (Syntax.tyArray (Syntax.tyInt Syntax.w32) 32772)) 1) (List._∷_ (3, Rows.mref (Array.Array (Referent.rtF (Referent.fInt Syntax.w8)) 16388) (Syntax.tyRef (Syntax.named 2) Syntax.mut (Syntax.tyArray (Syntax.tyInt Syntax.w8) 16388)) 2) (List._∷_ (4, Rows.mref (Array.Array (Referent.rtF (Referent.fInt Syntax.w32)) 65540) (Syntax.tyRef (Syntax.named 3) Syntax.mut (Syntax.tyArray (Syntax.tyInt Syntax.w32) 65540)) 3) (List._∷_ (5, Rows.mref (Array.Array (Referent.rtF (Referent.fInt Syntax.w32)) 32772) (Syntax.tyRef (Syntax.named 4) Syntax.mut (Syntax.tyArray (Syntax.tyInt Syntax.w32) 32772)) 4) (List._∷_ (6, Rows.mref (Array.Array (Referent.rtF (Referent.fInt Syntax.w32)) 32772) (Syntax.tyRef (Syntax.named 5) Syntax.mut (Syntax.tyArray (Syntax.tyInt Syntax.w32) 32772)) 5) (List._∷_ (7, Rows.mref (Array.Array (Referent.rtF (Referent.fInt Syntax.w32)) 262160) (Syntax.tyRef (Syntax.named 6) Syntax.mut (Syntax.tyArray (Syntax.tyInt Syntax.w32) 262160)) 6) (List._∷_ (8, Rows.mref (Array.Array (Referent.rtF (Referent.fInt Syntax.w8)) 600000) (Syntax.tyRef (Syntax.named 7) Syntax.mut (Syntax.tyArray (Syntax.tyInt Syntax.w8) 600000)) 7) (List._∷_ (9, Rows.mref (Array.Array Cell.R 65540) (Syntax.tyRef (Syntax.named 8) Syntax.mut (Syntax.tyArray Cell.behind 65540)) 8) (List._∷_ (10, Rows.mref (Array.Array Cell.R 32772) (Syntax.tyRef (Syntax.named 9) Syntax.mut (Syntax.tyArray Cell.behind 32772)) 9) (List._∷_ (11, Rows.whole (Declared.row Held.the-type)) (List._∷_ (12, Rows.any-gone (Syntax.tyInt Syntax.w64)) (List._∷_ (13, Rows.any-gone (Syntax.tyInt Syntax.w64)) (List._∷_ (14, Rows.any-gone (Syntax.tyStruct (List._∷_ 115 (List._∷_ 99 (List._∷_ 114 (List._∷_ 105 (List._∷_ 112 (List._∷_ 116 (List._∷_ 58 (List._∷_ 58 (List._∷_ 115 (List._∷_ 99 (List._∷_ 97 (List._∷_ 110 (List._∷_ 58 (List._∷_ 58 (List._∷_ 76 (List._∷_ 105 (List._∷_ 110 (List._∷_ 101 List.[])))))))))))))))))) (Syntax.tcons (Syntax.tyInt Syntax.w32) (Syntax.tcons (Syntax.tyInt Syntax.w64) (Syntax.tcons (Syntax.tyInt Syntax.w64) (Syntax.tcons (Syntax.tyInt Syntax.w64) (Syntax.tcons (Syntax.tyInt Syntax.w64) Syntax.tnil))))))) (List._∷_ (15, Rows.any-gone (Syntax.tyInt Syntax.w64)) List.[])))))))))))))))
 
 abbrev pub t4 : List.List Row.Entry
-t4 = List._∷_ (0, Rows.any-gone Syntax.tyUnit) (List._∷_ (1, Rows.sslice (Referent.rtF (Referent.fInt Syntax.w8)) (Syntax.tyRef (Syntax.named 0) Syntax.imm (Syntax.tyInt Syntax.w8)) 0) (List._∷_ (2, Rows.mref (Array.Array (Referent.rtF (Referent.fInt Syntax.w32)) 32772) (Syntax.tyRef (Syntax.named 1) Syntax.mut (Syntax.tyArray (Syntax.tyInt Syntax.w32) 32772)) 1) (List._∷_ (3, Rows.mref (Array.Array (Referent.rtF (Referent.fInt Syntax.w8)) 16388) (Syntax.tyRef (Syntax.named 2) Syntax.mut (Syntax.tyArray (Syntax.tyInt Syntax.w8) 16388)) 2) (List._∷_ (4, Rows.mref (Array.Array (Referent.rtF (Referent.fInt Syntax.w32)) 65540) (Syntax.tyRef (Syntax.named 3) Syntax.mut (Syntax.tyArray (Syntax.tyInt Syntax.w32) 65540)) 3) (List._∷_ (5, Rows.mref (Array.Array (Referent.rtF (Referent.fInt Syntax.w32)) 32772) (Syntax.tyRef (Syntax.named 4) Syntax.mut (Syntax.tyArray (Syntax.tyInt Syntax.w32) 32772)) 4) (List._∷_ (6, Rows.mref (Array.Array (Referent.rtF (Referent.fInt Syntax.w32)) 32772) (Syntax.tyRef (Syntax.named 5) Syntax.mut (Syntax.tyArray (Syntax.tyInt Syntax.w32) 32772)) 5) (List._∷_ (7, Rows.mref (Array.Array (Referent.rtF (Referent.fInt Syntax.w32)) 262160) (Syntax.tyRef (Syntax.named 6) Syntax.mut (Syntax.tyArray (Syntax.tyInt Syntax.w32) 262160)) 6) (List._∷_ (8, Rows.mref (Array.Array (Referent.rtF (Referent.fInt Syntax.w8)) 600000) (Syntax.tyRef (Syntax.named 7) Syntax.mut (Syntax.tyArray (Syntax.tyInt Syntax.w8) 600000)) 7) (List._∷_ (9, Rows.mref (Array.Array Cell.R 65540) (Syntax.tyRef (Syntax.named 8) Syntax.mut (Syntax.tyArray Cell.behind 65540)) 8) (List._∷_ (10, Rows.mref (Array.Array Cell.R 32772) (Syntax.tyRef (Syntax.named 9) Syntax.mut (Syntax.tyArray Cell.behind 32772)) 9) (List._∷_ (11, Rows.whole (Declared.row Held.the-type)) (List._∷_ (12, Rows.sc-here (Row.sInt Syntax.w64)) (List._∷_ (13, Rows.any-gone (Syntax.tyInt Syntax.w64)) (List._∷_ (14, Rows.any-gone (Syntax.tyStruct (List._∷_ 122 (List._∷_ 111 (List._∷_ 110 (List._∷_ 101 (List._∷_ 115 (List._∷_ 58 (List._∷_ 58 (List._∷_ 115 (List._∷_ 99 (List._∷_ 97 (List._∷_ 110 (List._∷_ 58 (List._∷_ 58 (List._∷_ 76 (List._∷_ 105 (List._∷_ 110 (List._∷_ 101 List.[]))))))))))))))))) (Syntax.tcons (Syntax.tyInt Syntax.w32) (Syntax.tcons (Syntax.tyInt Syntax.w64) (Syntax.tcons (Syntax.tyInt Syntax.w64) (Syntax.tcons (Syntax.tyInt Syntax.w64) (Syntax.tcons (Syntax.tyInt Syntax.w64) Syntax.tnil))))))) (List._∷_ (15, Rows.any-gone (Syntax.tyInt Syntax.w64)) List.[])))))))))))))))
+t4 = List._∷_ (0, Rows.any-gone Syntax.tyUnit) (List._∷_ (1, Rows.sslice (Referent.rtF (Referent.fInt Syntax.w8)) (Syntax.tyRef (Syntax.named 0) Syntax.imm (Syntax.tyInt Syntax.w8)) 0) (List._∷_ (2, Rows.mref (Array.Array (Referent.rtF (Referent.fInt Syntax.w32)) 32772) (Syntax.tyRef (Syntax.named 1) Syntax.mut (Syntax.tyArray (Syntax.tyInt Syntax.w32) 32772)) 1) (List._∷_ (3, Rows.mref (Array.Array (Referent.rtF (Referent.fInt Syntax.w8)) 16388) (Syntax.tyRef (Syntax.named 2) Syntax.mut (Syntax.tyArray (Syntax.tyInt Syntax.w8) 16388)) 2) (List._∷_ (4, Rows.mref (Array.Array (Referent.rtF (Referent.fInt Syntax.w32)) 65540) (Syntax.tyRef (Syntax.named 3) Syntax.mut (Syntax.tyArray (Syntax.tyInt Syntax.w32) 65540)) 3) (List._∷_ (5, Rows.mref (Array.Array (Referent.rtF (Referent.fInt Syntax.w32)) 32772) (Syntax.tyRef (Syntax.named 4) Syntax.mut (Syntax.tyArray (Syntax.tyInt Syntax.w32) 32772)) 4) (List._∷_ (6, Rows.mref (Array.Array (Referent.rtF (Referent.fInt Syntax.w32)) 32772) (Syntax.tyRef (Syntax.named 5) Syntax.mut (Syntax.tyArray (Syntax.tyInt Syntax.w32) 32772)) 5) (List._∷_ (7, Rows.mref (Array.Array (Referent.rtF (Referent.fInt Syntax.w32)) 262160) (Syntax.tyRef (Syntax.named 6) Syntax.mut (Syntax.tyArray (Syntax.tyInt Syntax.w32) 262160)) 6) (List._∷_ (8, Rows.mref (Array.Array (Referent.rtF (Referent.fInt Syntax.w8)) 600000) (Syntax.tyRef (Syntax.named 7) Syntax.mut (Syntax.tyArray (Syntax.tyInt Syntax.w8) 600000)) 7) (List._∷_ (9, Rows.mref (Array.Array Cell.R 65540) (Syntax.tyRef (Syntax.named 8) Syntax.mut (Syntax.tyArray Cell.behind 65540)) 8) (List._∷_ (10, Rows.mref (Array.Array Cell.R 32772) (Syntax.tyRef (Syntax.named 9) Syntax.mut (Syntax.tyArray Cell.behind 32772)) 9) (List._∷_ (11, Rows.whole (Declared.row Held.the-type)) (List._∷_ (12, Rows.sc-here (Row.sInt Syntax.w64)) (List._∷_ (13, Rows.any-gone (Syntax.tyInt Syntax.w64)) (List._∷_ (14, Rows.any-gone (Syntax.tyStruct (List._∷_ 115 (List._∷_ 99 (List._∷_ 114 (List._∷_ 105 (List._∷_ 112 (List._∷_ 116 (List._∷_ 58 (List._∷_ 58 (List._∷_ 115 (List._∷_ 99 (List._∷_ 97 (List._∷_ 110 (List._∷_ 58 (List._∷_ 58 (List._∷_ 76 (List._∷_ 105 (List._∷_ 110 (List._∷_ 101 List.[])))))))))))))))))) (Syntax.tcons (Syntax.tyInt Syntax.w32) (Syntax.tcons (Syntax.tyInt Syntax.w64) (Syntax.tcons (Syntax.tyInt Syntax.w64) (Syntax.tcons (Syntax.tyInt Syntax.w64) (Syntax.tcons (Syntax.tyInt Syntax.w64) Syntax.tnil))))))) (List._∷_ (15, Rows.any-gone (Syntax.tyInt Syntax.w64)) List.[])))))))))))))))
 
 abbrev pub t5 : List.List Row.Entry
-t5 = List._∷_ (0, Rows.any-gone Syntax.tyUnit) (List._∷_ (1, Rows.sslice (Referent.rtF (Referent.fInt Syntax.w8)) (Syntax.tyRef (Syntax.named 0) Syntax.imm (Syntax.tyInt Syntax.w8)) 0) (List._∷_ (2, Rows.mref (Array.Array (Referent.rtF (Referent.fInt Syntax.w32)) 32772) (Syntax.tyRef (Syntax.named 1) Syntax.mut (Syntax.tyArray (Syntax.tyInt Syntax.w32) 32772)) 1) (List._∷_ (3, Rows.mref (Array.Array (Referent.rtF (Referent.fInt Syntax.w8)) 16388) (Syntax.tyRef (Syntax.named 2) Syntax.mut (Syntax.tyArray (Syntax.tyInt Syntax.w8) 16388)) 2) (List._∷_ (4, Rows.mref (Array.Array (Referent.rtF (Referent.fInt Syntax.w32)) 65540) (Syntax.tyRef (Syntax.named 3) Syntax.mut (Syntax.tyArray (Syntax.tyInt Syntax.w32) 65540)) 3) (List._∷_ (5, Rows.mref (Array.Array (Referent.rtF (Referent.fInt Syntax.w32)) 32772) (Syntax.tyRef (Syntax.named 4) Syntax.mut (Syntax.tyArray (Syntax.tyInt Syntax.w32) 32772)) 4) (List._∷_ (6, Rows.mref (Array.Array (Referent.rtF (Referent.fInt Syntax.w32)) 32772) (Syntax.tyRef (Syntax.named 5) Syntax.mut (Syntax.tyArray (Syntax.tyInt Syntax.w32) 32772)) 5) (List._∷_ (7, Rows.mref (Array.Array (Referent.rtF (Referent.fInt Syntax.w32)) 262160) (Syntax.tyRef (Syntax.named 6) Syntax.mut (Syntax.tyArray (Syntax.tyInt Syntax.w32) 262160)) 6) (List._∷_ (8, Rows.mref (Array.Array (Referent.rtF (Referent.fInt Syntax.w8)) 600000) (Syntax.tyRef (Syntax.named 7) Syntax.mut (Syntax.tyArray (Syntax.tyInt Syntax.w8) 600000)) 7) (List._∷_ (9, Rows.mref (Array.Array Cell.R 65540) (Syntax.tyRef (Syntax.named 8) Syntax.mut (Syntax.tyArray Cell.behind 65540)) 8) (List._∷_ (10, Rows.mref (Array.Array Cell.R 32772) (Syntax.tyRef (Syntax.named 9) Syntax.mut (Syntax.tyArray Cell.behind 32772)) 9) (List._∷_ (11, Rows.whole (Declared.row Held.the-type)) (List._∷_ (12, Rows.sc-here (Row.sInt Syntax.w64)) (List._∷_ (13, Rows.sc-here (Row.sInt Syntax.w64)) (List._∷_ (14, Rows.any-gone (Syntax.tyStruct (List._∷_ 122 (List._∷_ 111 (List._∷_ 110 (List._∷_ 101 (List._∷_ 115 (List._∷_ 58 (List._∷_ 58 (List._∷_ 115 (List._∷_ 99 (List._∷_ 97 (List._∷_ 110 (List._∷_ 58 (List._∷_ 58 (List._∷_ 76 (List._∷_ 105 (List._∷_ 110 (List._∷_ 101 List.[]))))))))))))))))) (Syntax.tcons (Syntax.tyInt Syntax.w32) (Syntax.tcons (Syntax.tyInt Syntax.w64) (Syntax.tcons (Syntax.tyInt Syntax.w64) (Syntax.tcons (Syntax.tyInt Syntax.w64) (Syntax.tcons (Syntax.tyInt Syntax.w64) Syntax.tnil))))))) (List._∷_ (15, Rows.any-gone (Syntax.tyInt Syntax.w64)) List.[])))))))))))))))
+t5 = List._∷_ (0, Rows.any-gone Syntax.tyUnit) (List._∷_ (1, Rows.sslice (Referent.rtF (Referent.fInt Syntax.w8)) (Syntax.tyRef (Syntax.named 0) Syntax.imm (Syntax.tyInt Syntax.w8)) 0) (List._∷_ (2, Rows.mref (Array.Array (Referent.rtF (Referent.fInt Syntax.w32)) 32772) (Syntax.tyRef (Syntax.named 1) Syntax.mut (Syntax.tyArray (Syntax.tyInt Syntax.w32) 32772)) 1) (List._∷_ (3, Rows.mref (Array.Array (Referent.rtF (Referent.fInt Syntax.w8)) 16388) (Syntax.tyRef (Syntax.named 2) Syntax.mut (Syntax.tyArray (Syntax.tyInt Syntax.w8) 16388)) 2) (List._∷_ (4, Rows.mref (Array.Array (Referent.rtF (Referent.fInt Syntax.w32)) 65540) (Syntax.tyRef (Syntax.named 3) Syntax.mut (Syntax.tyArray (Syntax.tyInt Syntax.w32) 65540)) 3) (List._∷_ (5, Rows.mref (Array.Array (Referent.rtF (Referent.fInt Syntax.w32)) 32772) (Syntax.tyRef (Syntax.named 4) Syntax.mut (Syntax.tyArray (Syntax.tyInt Syntax.w32) 32772)) 4) (List._∷_ (6, Rows.mref (Array.Array (Referent.rtF (Referent.fInt Syntax.w32)) 32772) (Syntax.tyRef (Syntax.named 5) Syntax.mut (Syntax.tyArray (Syntax.tyInt Syntax.w32) 32772)) 5) (List._∷_ (7, Rows.mref (Array.Array (Referent.rtF (Referent.fInt Syntax.w32)) 262160) (Syntax.tyRef (Syntax.named 6) Syntax.mut (Syntax.tyArray (Syntax.tyInt Syntax.w32) 262160)) 6) (List._∷_ (8, Rows.mref (Array.Array (Referent.rtF (Referent.fInt Syntax.w8)) 600000) (Syntax.tyRef (Syntax.named 7) Syntax.mut (Syntax.tyArray (Syntax.tyInt Syntax.w8) 600000)) 7) (List._∷_ (9, Rows.mref (Array.Array Cell.R 65540) (Syntax.tyRef (Syntax.named 8) Syntax.mut (Syntax.tyArray Cell.behind 65540)) 8) (List._∷_ (10, Rows.mref (Array.Array Cell.R 32772) (Syntax.tyRef (Syntax.named 9) Syntax.mut (Syntax.tyArray Cell.behind 32772)) 9) (List._∷_ (11, Rows.whole (Declared.row Held.the-type)) (List._∷_ (12, Rows.sc-here (Row.sInt Syntax.w64)) (List._∷_ (13, Rows.sc-here (Row.sInt Syntax.w64)) (List._∷_ (14, Rows.any-gone (Syntax.tyStruct (List._∷_ 115 (List._∷_ 99 (List._∷_ 114 (List._∷_ 105 (List._∷_ 112 (List._∷_ 116 (List._∷_ 58 (List._∷_ 58 (List._∷_ 115 (List._∷_ 99 (List._∷_ 97 (List._∷_ 110 (List._∷_ 58 (List._∷_ 58 (List._∷_ 76 (List._∷_ 105 (List._∷_ 110 (List._∷_ 101 List.[])))))))))))))))))) (Syntax.tcons (Syntax.tyInt Syntax.w32) (Syntax.tcons (Syntax.tyInt Syntax.w64) (Syntax.tcons (Syntax.tyInt Syntax.w64) (Syntax.tcons (Syntax.tyInt Syntax.w64) (Syntax.tcons (Syntax.tyInt Syntax.w64) Syntax.tnil))))))) (List._∷_ (15, Rows.any-gone (Syntax.tyInt Syntax.w64)) List.[])))))))))))))))
 
 abbrev pub t6 : List.List Row.Entry
-t6 = List._∷_ (0, Rows.any-gone Syntax.tyUnit) (List._∷_ (1, Rows.sslice (Referent.rtF (Referent.fInt Syntax.w8)) (Syntax.tyRef (Syntax.named 0) Syntax.imm (Syntax.tyInt Syntax.w8)) 0) (List._∷_ (2, Rows.mref (Array.Array (Referent.rtF (Referent.fInt Syntax.w32)) 32772) (Syntax.tyRef (Syntax.named 1) Syntax.mut (Syntax.tyArray (Syntax.tyInt Syntax.w32) 32772)) 1) (List._∷_ (3, Rows.mref (Array.Array (Referent.rtF (Referent.fInt Syntax.w8)) 16388) (Syntax.tyRef (Syntax.named 2) Syntax.mut (Syntax.tyArray (Syntax.tyInt Syntax.w8) 16388)) 2) (List._∷_ (4, Rows.mref (Array.Array (Referent.rtF (Referent.fInt Syntax.w32)) 65540) (Syntax.tyRef (Syntax.named 3) Syntax.mut (Syntax.tyArray (Syntax.tyInt Syntax.w32) 65540)) 3) (List._∷_ (5, Rows.mref (Array.Array (Referent.rtF (Referent.fInt Syntax.w32)) 32772) (Syntax.tyRef (Syntax.named 4) Syntax.mut (Syntax.tyArray (Syntax.tyInt Syntax.w32) 32772)) 4) (List._∷_ (6, Rows.mref (Array.Array (Referent.rtF (Referent.fInt Syntax.w32)) 32772) (Syntax.tyRef (Syntax.named 5) Syntax.mut (Syntax.tyArray (Syntax.tyInt Syntax.w32) 32772)) 5) (List._∷_ (7, Rows.mref (Array.Array (Referent.rtF (Referent.fInt Syntax.w32)) 262160) (Syntax.tyRef (Syntax.named 6) Syntax.mut (Syntax.tyArray (Syntax.tyInt Syntax.w32) 262160)) 6) (List._∷_ (8, Rows.mref (Array.Array (Referent.rtF (Referent.fInt Syntax.w8)) 600000) (Syntax.tyRef (Syntax.named 7) Syntax.mut (Syntax.tyArray (Syntax.tyInt Syntax.w8) 600000)) 7) (List._∷_ (9, Rows.mref (Array.Array Cell.R 65540) (Syntax.tyRef (Syntax.named 8) Syntax.mut (Syntax.tyArray Cell.behind 65540)) 8) (List._∷_ (10, Rows.mref (Array.Array Cell.R 32772) (Syntax.tyRef (Syntax.named 9) Syntax.mut (Syntax.tyArray Cell.behind 32772)) 9) (List._∷_ (11, Rows.whole (Declared.row Held.the-type)) (List._∷_ (12, Rows.sc-here (Row.sInt Syntax.w64)) (List._∷_ (13, Rows.sc-here (Row.sInt Syntax.w64)) (List._∷_ (14, Rows.any-gone (Syntax.tyStruct (List._∷_ 122 (List._∷_ 111 (List._∷_ 110 (List._∷_ 101 (List._∷_ 115 (List._∷_ 58 (List._∷_ 58 (List._∷_ 115 (List._∷_ 99 (List._∷_ 97 (List._∷_ 110 (List._∷_ 58 (List._∷_ 58 (List._∷_ 76 (List._∷_ 105 (List._∷_ 110 (List._∷_ 101 List.[]))))))))))))))))) (Syntax.tcons (Syntax.tyInt Syntax.w32) (Syntax.tcons (Syntax.tyInt Syntax.w64) (Syntax.tcons (Syntax.tyInt Syntax.w64) (Syntax.tcons (Syntax.tyInt Syntax.w64) (Syntax.tcons (Syntax.tyInt Syntax.w64) Syntax.tnil))))))) (List._∷_ (15, Rows.sc-here (Row.sInt Syntax.w64)) List.[])))))))))))))))
+t6 = List._∷_ (0, Rows.any-gone Syntax.tyUnit) (List._∷_ (1, Rows.sslice (Referent.rtF (Referent.fInt Syntax.w8)) (Syntax.tyRef (Syntax.named 0) Syntax.imm (Syntax.tyInt Syntax.w8)) 0) (List._∷_ (2, Rows.mref (Array.Array (Referent.rtF (Referent.fInt Syntax.w32)) 32772) (Syntax.tyRef (Syntax.named 1) Syntax.mut (Syntax.tyArray (Syntax.tyInt Syntax.w32) 32772)) 1) (List._∷_ (3, Rows.mref (Array.Array (Referent.rtF (Referent.fInt Syntax.w8)) 16388) (Syntax.tyRef (Syntax.named 2) Syntax.mut (Syntax.tyArray (Syntax.tyInt Syntax.w8) 16388)) 2) (List._∷_ (4, Rows.mref (Array.Array (Referent.rtF (Referent.fInt Syntax.w32)) 65540) (Syntax.tyRef (Syntax.named 3) Syntax.mut (Syntax.tyArray (Syntax.tyInt Syntax.w32) 65540)) 3) (List._∷_ (5, Rows.mref (Array.Array (Referent.rtF (Referent.fInt Syntax.w32)) 32772) (Syntax.tyRef (Syntax.named 4) Syntax.mut (Syntax.tyArray (Syntax.tyInt Syntax.w32) 32772)) 4) (List._∷_ (6, Rows.mref (Array.Array (Referent.rtF (Referent.fInt Syntax.w32)) 32772) (Syntax.tyRef (Syntax.named 5) Syntax.mut (Syntax.tyArray (Syntax.tyInt Syntax.w32) 32772)) 5) (List._∷_ (7, Rows.mref (Array.Array (Referent.rtF (Referent.fInt Syntax.w32)) 262160) (Syntax.tyRef (Syntax.named 6) Syntax.mut (Syntax.tyArray (Syntax.tyInt Syntax.w32) 262160)) 6) (List._∷_ (8, Rows.mref (Array.Array (Referent.rtF (Referent.fInt Syntax.w8)) 600000) (Syntax.tyRef (Syntax.named 7) Syntax.mut (Syntax.tyArray (Syntax.tyInt Syntax.w8) 600000)) 7) (List._∷_ (9, Rows.mref (Array.Array Cell.R 65540) (Syntax.tyRef (Syntax.named 8) Syntax.mut (Syntax.tyArray Cell.behind 65540)) 8) (List._∷_ (10, Rows.mref (Array.Array Cell.R 32772) (Syntax.tyRef (Syntax.named 9) Syntax.mut (Syntax.tyArray Cell.behind 32772)) 9) (List._∷_ (11, Rows.whole (Declared.row Held.the-type)) (List._∷_ (12, Rows.sc-here (Row.sInt Syntax.w64)) (List._∷_ (13, Rows.sc-here (Row.sInt Syntax.w64)) (List._∷_ (14, Rows.any-gone (Syntax.tyStruct (List._∷_ 115 (List._∷_ 99 (List._∷_ 114 (List._∷_ 105 (List._∷_ 112 (List._∷_ 116 (List._∷_ 58 (List._∷_ 58 (List._∷_ 115 (List._∷_ 99 (List._∷_ 97 (List._∷_ 110 (List._∷_ 58 (List._∷_ 58 (List._∷_ 76 (List._∷_ 105 (List._∷_ 110 (List._∷_ 101 List.[])))))))))))))))))) (Syntax.tcons (Syntax.tyInt Syntax.w32) (Syntax.tcons (Syntax.tyInt Syntax.w64) (Syntax.tcons (Syntax.tyInt Syntax.w64) (Syntax.tcons (Syntax.tyInt Syntax.w64) (Syntax.tcons (Syntax.tyInt Syntax.w64) Syntax.tnil))))))) (List._∷_ (15, Rows.sc-here (Row.sInt Syntax.w64)) List.[])))))))))))))))
 
 abbrev pub t7 : List.List Row.Entry
-t7 = List._∷_ (0, Rows.any-gone Syntax.tyUnit) (List._∷_ (1, Rows.sslice (Referent.rtF (Referent.fInt Syntax.w8)) (Syntax.tyRef (Syntax.named 0) Syntax.imm (Syntax.tyInt Syntax.w8)) 0) (List._∷_ (2, Rows.mref (Array.Array (Referent.rtF (Referent.fInt Syntax.w32)) 32772) (Syntax.tyRef (Syntax.named 1) Syntax.mut (Syntax.tyArray (Syntax.tyInt Syntax.w32) 32772)) 1) (List._∷_ (3, Rows.mref (Array.Array (Referent.rtF (Referent.fInt Syntax.w8)) 16388) (Syntax.tyRef (Syntax.named 2) Syntax.mut (Syntax.tyArray (Syntax.tyInt Syntax.w8) 16388)) 2) (List._∷_ (4, Rows.mref (Array.Array (Referent.rtF (Referent.fInt Syntax.w32)) 65540) (Syntax.tyRef (Syntax.named 3) Syntax.mut (Syntax.tyArray (Syntax.tyInt Syntax.w32) 65540)) 3) (List._∷_ (5, Rows.mref (Array.Array (Referent.rtF (Referent.fInt Syntax.w32)) 32772) (Syntax.tyRef (Syntax.named 4) Syntax.mut (Syntax.tyArray (Syntax.tyInt Syntax.w32) 32772)) 4) (List._∷_ (6, Rows.mref (Array.Array (Referent.rtF (Referent.fInt Syntax.w32)) 32772) (Syntax.tyRef (Syntax.named 5) Syntax.mut (Syntax.tyArray (Syntax.tyInt Syntax.w32) 32772)) 5) (List._∷_ (7, Rows.mref (Array.Array (Referent.rtF (Referent.fInt Syntax.w32)) 262160) (Syntax.tyRef (Syntax.named 6) Syntax.mut (Syntax.tyArray (Syntax.tyInt Syntax.w32) 262160)) 6) (List._∷_ (8, Rows.mref (Array.Array (Referent.rtF (Referent.fInt Syntax.w8)) 600000) (Syntax.tyRef (Syntax.named 7) Syntax.mut (Syntax.tyArray (Syntax.tyInt Syntax.w8) 600000)) 7) (List._∷_ (9, Rows.mref (Array.Array Cell.R 65540) (Syntax.tyRef (Syntax.named 8) Syntax.mut (Syntax.tyArray Cell.behind 65540)) 8) (List._∷_ (10, Rows.mref (Array.Array Cell.R 32772) (Syntax.tyRef (Syntax.named 9) Syntax.mut (Syntax.tyArray Cell.behind 32772)) 9) (List._∷_ (11, Rows.any-gone (Syntax.tyStruct (List._∷_ 122 (List._∷_ 111 (List._∷_ 110 (List._∷_ 101 (List._∷_ 115 (List._∷_ 58 (List._∷_ 58 (List._∷_ 104 (List._∷_ 101 (List._∷_ 108 (List._∷_ 100 (List._∷_ 58 (List._∷_ 58 (List._∷_ 72 (List._∷_ 101 (List._∷_ 108 (List._∷_ 100 List.[]))))))))))))))))) (Syntax.tcons (Syntax.tyStruct (List._∷_ 112 (List._∷_ 121 (List._∷_ 114 (List._∷_ 97 (List._∷_ 109 (List._∷_ 105 (List._∷_ 100 (List._∷_ 58 (List._∷_ 58 (List._∷_ 83 (List._∷_ 116 (List._∷_ 97 (List._∷_ 116 (List._∷_ 101 List.[])))))))))))))) (Syntax.tcons (Syntax.tyInt Syntax.w32) (Syntax.tcons (Syntax.tyInt Syntax.w32) (Syntax.tcons (Syntax.tyInt Syntax.w32) (Syntax.tcons (Syntax.tyInt Syntax.w32) (Syntax.tcons (Syntax.tyInt Syntax.w32) (Syntax.tcons (Syntax.tyArray (Syntax.tyInt Syntax.w32) 64) Syntax.tnil))))))) (Syntax.tcons (Syntax.tyInt Syntax.w64) (Syntax.tcons (Syntax.tyInt Syntax.w64) (Syntax.tcons (Syntax.tyInt Syntax.w64) (Syntax.tcons (Syntax.tyInt Syntax.w64) (Syntax.tcons (Syntax.tyInt Syntax.w64) (Syntax.tcons (Syntax.tyInt Syntax.w64) (Syntax.tcons Syntax.tyBool Syntax.tnil)))))))))) (List._∷_ (12, Rows.sc-here (Row.sInt Syntax.w64)) (List._∷_ (13, Rows.any-gone (Syntax.tyInt Syntax.w64)) (List._∷_ (14, Rows.any-gone (Syntax.tyStruct (List._∷_ 122 (List._∷_ 111 (List._∷_ 110 (List._∷_ 101 (List._∷_ 115 (List._∷_ 58 (List._∷_ 58 (List._∷_ 115 (List._∷_ 99 (List._∷_ 97 (List._∷_ 110 (List._∷_ 58 (List._∷_ 58 (List._∷_ 76 (List._∷_ 105 (List._∷_ 110 (List._∷_ 101 List.[]))))))))))))))))) (Syntax.tcons (Syntax.tyInt Syntax.w32) (Syntax.tcons (Syntax.tyInt Syntax.w64) (Syntax.tcons (Syntax.tyInt Syntax.w64) (Syntax.tcons (Syntax.tyInt Syntax.w64) (Syntax.tcons (Syntax.tyInt Syntax.w64) Syntax.tnil))))))) (List._∷_ (15, Rows.any-gone (Syntax.tyInt Syntax.w64)) List.[])))))))))))))))
+t7 = List._∷_ (0, Rows.any-gone Syntax.tyUnit) (List._∷_ (1, Rows.sslice (Referent.rtF (Referent.fInt Syntax.w8)) (Syntax.tyRef (Syntax.named 0) Syntax.imm (Syntax.tyInt Syntax.w8)) 0) (List._∷_ (2, Rows.mref (Array.Array (Referent.rtF (Referent.fInt Syntax.w32)) 32772) (Syntax.tyRef (Syntax.named 1) Syntax.mut (Syntax.tyArray (Syntax.tyInt Syntax.w32) 32772)) 1) (List._∷_ (3, Rows.mref (Array.Array (Referent.rtF (Referent.fInt Syntax.w8)) 16388) (Syntax.tyRef (Syntax.named 2) Syntax.mut (Syntax.tyArray (Syntax.tyInt Syntax.w8) 16388)) 2) (List._∷_ (4, Rows.mref (Array.Array (Referent.rtF (Referent.fInt Syntax.w32)) 65540) (Syntax.tyRef (Syntax.named 3) Syntax.mut (Syntax.tyArray (Syntax.tyInt Syntax.w32) 65540)) 3) (List._∷_ (5, Rows.mref (Array.Array (Referent.rtF (Referent.fInt Syntax.w32)) 32772) (Syntax.tyRef (Syntax.named 4) Syntax.mut (Syntax.tyArray (Syntax.tyInt Syntax.w32) 32772)) 4) (List._∷_ (6, Rows.mref (Array.Array (Referent.rtF (Referent.fInt Syntax.w32)) 32772) (Syntax.tyRef (Syntax.named 5) Syntax.mut (Syntax.tyArray (Syntax.tyInt Syntax.w32) 32772)) 5) (List._∷_ (7, Rows.mref (Array.Array (Referent.rtF (Referent.fInt Syntax.w32)) 262160) (Syntax.tyRef (Syntax.named 6) Syntax.mut (Syntax.tyArray (Syntax.tyInt Syntax.w32) 262160)) 6) (List._∷_ (8, Rows.mref (Array.Array (Referent.rtF (Referent.fInt Syntax.w8)) 600000) (Syntax.tyRef (Syntax.named 7) Syntax.mut (Syntax.tyArray (Syntax.tyInt Syntax.w8) 600000)) 7) (List._∷_ (9, Rows.mref (Array.Array Cell.R 65540) (Syntax.tyRef (Syntax.named 8) Syntax.mut (Syntax.tyArray Cell.behind 65540)) 8) (List._∷_ (10, Rows.mref (Array.Array Cell.R 32772) (Syntax.tyRef (Syntax.named 9) Syntax.mut (Syntax.tyArray Cell.behind 32772)) 9) (List._∷_ (11, Rows.any-gone (Syntax.tyStruct (List._∷_ 122 (List._∷_ 111 (List._∷_ 110 (List._∷_ 101 (List._∷_ 115 (List._∷_ 58 (List._∷_ 58 (List._∷_ 104 (List._∷_ 101 (List._∷_ 108 (List._∷_ 100 (List._∷_ 58 (List._∷_ 58 (List._∷_ 72 (List._∷_ 101 (List._∷_ 108 (List._∷_ 100 List.[]))))))))))))))))) (Syntax.tcons (Syntax.tyStruct (List._∷_ 112 (List._∷_ 121 (List._∷_ 114 (List._∷_ 97 (List._∷_ 109 (List._∷_ 105 (List._∷_ 100 (List._∷_ 58 (List._∷_ 58 (List._∷_ 83 (List._∷_ 116 (List._∷_ 97 (List._∷_ 116 (List._∷_ 101 List.[])))))))))))))) (Syntax.tcons (Syntax.tyInt Syntax.w32) (Syntax.tcons (Syntax.tyInt Syntax.w32) (Syntax.tcons (Syntax.tyInt Syntax.w32) (Syntax.tcons (Syntax.tyInt Syntax.w32) (Syntax.tcons (Syntax.tyInt Syntax.w32) (Syntax.tcons (Syntax.tyArray (Syntax.tyInt Syntax.w32) 64) Syntax.tnil))))))) (Syntax.tcons (Syntax.tyInt Syntax.w64) (Syntax.tcons (Syntax.tyInt Syntax.w64) (Syntax.tcons (Syntax.tyInt Syntax.w64) (Syntax.tcons (Syntax.tyInt Syntax.w64) (Syntax.tcons (Syntax.tyInt Syntax.w64) (Syntax.tcons (Syntax.tyInt Syntax.w64) (Syntax.tcons Syntax.tyBool Syntax.tnil)))))))))) (List._∷_ (12, Rows.sc-here (Row.sInt Syntax.w64)) (List._∷_ (13, Rows.any-gone (Syntax.tyInt Syntax.w64)) (List._∷_ (14, Rows.any-gone (Syntax.tyStruct (List._∷_ 115 (List._∷_ 99 (List._∷_ 114 (List._∷_ 105 (List._∷_ 112 (List._∷_ 116 (List._∷_ 58 (List._∷_ 58 (List._∷_ 115 (List._∷_ 99 (List._∷_ 97 (List._∷_ 110 (List._∷_ 58 (List._∷_ 58 (List._∷_ 76 (List._∷_ 105 (List._∷_ 110 (List._∷_ 101 List.[])))))))))))))))))) (Syntax.tcons (Syntax.tyInt Syntax.w32) (Syntax.tcons (Syntax.tyInt Syntax.w64) (Syntax.tcons (Syntax.tyInt Syntax.w64) (Syntax.tcons (Syntax.tyInt Syntax.w64) (Syntax.tcons (Syntax.tyInt Syntax.w64) Syntax.tnil))))))) (List._∷_ (15, Rows.any-gone (Syntax.tyInt Syntax.w64)) List.[])))))))))))))))
 
 abbrev pub t8 : List.List Row.Entry
 t8 = List._∷_ (16, Rows.sc-here Row.sBool) (List._∷_ (17, Rows.any-gone (Syntax.tyInt Syntax.w64)) (List._∷_ (18, Rows.any-gone (Syntax.tyRef Syntax.erased Syntax.mut (Syntax.tyArray (Syntax.tyInt Syntax.w32) 32772))) (List._∷_ (19, Rows.any-gone (Syntax.tyRef Syntax.erased Syntax.imm (Syntax.tyArray (Syntax.tyInt Syntax.w32) 32772))) (List._∷_ (20, Rows.any-gone (Syntax.tyRef Syntax.erased Syntax.mut (Syntax.tyArray (Syntax.tyInt Syntax.w8) 16388))) (List._∷_ (21, Rows.any-gone (Syntax.tyRef Syntax.erased Syntax.mut (Syntax.tyArray (Syntax.tyInt Syntax.w32) 65540))) (List._∷_ (22, Rows.any-gone (Syntax.tyRef Syntax.erased Syntax.mut (Syntax.tyArray (Syntax.tyInt Syntax.w32) 32772))) (List._∷_ (23, Rows.any-gone (Syntax.tyRef Syntax.erased Syntax.mut (Syntax.tyArray (Syntax.tyInt Syntax.w32) 32772))) (List._∷_ (24, Rows.any-gone (Syntax.tyRef Syntax.erased Syntax.mut (Syntax.tyArray (Syntax.tyInt Syntax.w32) 262160))) (List._∷_ (25, Rows.any-gone (Syntax.tyRef Syntax.erased Syntax.mut (Syntax.tyArray (Syntax.tyInt Syntax.w8) 600000))) (List._∷_ (26, Rows.any-gone (Syntax.tyRef Syntax.erased Syntax.mut (Syntax.tyArray Cell.behind 65540))) (List._∷_ (27, Rows.any-gone (Syntax.tyRef Syntax.erased Syntax.mut (Syntax.tyArray Cell.behind 32772))) (List._∷_ (28, Rows.any-gone Syntax.tyUnit) (List._∷_ (29, Rows.any-gone (Syntax.tyInt Syntax.w64)) List.[])))))))))))))
 
 abbrev pub t9 : List.List Row.Entry
-t9 = List._∷_ (0, Rows.any-gone Syntax.tyUnit) (List._∷_ (1, Rows.sslice (Referent.rtF (Referent.fInt Syntax.w8)) (Syntax.tyRef (Syntax.named 0) Syntax.imm (Syntax.tyInt Syntax.w8)) 0) (List._∷_ (2, Rows.mref (Array.Array (Referent.rtF (Referent.fInt Syntax.w32)) 32772) (Syntax.tyRef (Syntax.named 1) Syntax.mut (Syntax.tyArray (Syntax.tyInt Syntax.w32) 32772)) 1) (List._∷_ (3, Rows.mref (Array.Array (Referent.rtF (Referent.fInt Syntax.w8)) 16388) (Syntax.tyRef (Syntax.named 2) Syntax.mut (Syntax.tyArray (Syntax.tyInt Syntax.w8) 16388)) 2) (List._∷_ (4, Rows.mref (Array.Array (Referent.rtF (Referent.fInt Syntax.w32)) 65540) (Syntax.tyRef (Syntax.named 3) Syntax.mut (Syntax.tyArray (Syntax.tyInt Syntax.w32) 65540)) 3) (List._∷_ (5, Rows.mref (Array.Array (Referent.rtF (Referent.fInt Syntax.w32)) 32772) (Syntax.tyRef (Syntax.named 4) Syntax.mut (Syntax.tyArray (Syntax.tyInt Syntax.w32) 32772)) 4) (List._∷_ (6, Rows.mref (Array.Array (Referent.rtF (Referent.fInt Syntax.w32)) 32772) (Syntax.tyRef (Syntax.named 5) Syntax.mut (Syntax.tyArray (Syntax.tyInt Syntax.w32) 32772)) 5) (List._∷_ (7, Rows.mref (Array.Array (Referent.rtF (Referent.fInt Syntax.w32)) 262160) (Syntax.tyRef (Syntax.named 6) Syntax.mut (Syntax.tyArray (Syntax.tyInt Syntax.w32) 262160)) 6) (List._∷_ (8, Rows.mref (Array.Array (Referent.rtF (Referent.fInt Syntax.w8)) 600000) (Syntax.tyRef (Syntax.named 7) Syntax.mut (Syntax.tyArray (Syntax.tyInt Syntax.w8) 600000)) 7) (List._∷_ (9, Rows.mref (Array.Array Cell.R 65540) (Syntax.tyRef (Syntax.named 8) Syntax.mut (Syntax.tyArray Cell.behind 65540)) 8) (List._∷_ (10, Rows.mref (Array.Array Cell.R 32772) (Syntax.tyRef (Syntax.named 9) Syntax.mut (Syntax.tyArray Cell.behind 32772)) 9) (List._∷_ (11, Rows.any-gone (Syntax.tyStruct (List._∷_ 122 (List._∷_ 111 (List._∷_ 110 (List._∷_ 101 (List._∷_ 115 (List._∷_ 58 (List._∷_ 58 (List._∷_ 104 (List._∷_ 101 (List._∷_ 108 (List._∷_ 100 (List._∷_ 58 (List._∷_ 58 (List._∷_ 72 (List._∷_ 101 (List._∷_ 108 (List._∷_ 100 List.[]))))))))))))))))) (Syntax.tcons (Syntax.tyStruct (List._∷_ 112 (List._∷_ 121 (List._∷_ 114 (List._∷_ 97 (List._∷_ 109 (List._∷_ 105 (List._∷_ 100 (List._∷_ 58 (List._∷_ 58 (List._∷_ 83 (List._∷_ 116 (List._∷_ 97 (List._∷_ 116 (List._∷_ 101 List.[])))))))))))))) (Syntax.tcons (Syntax.tyInt Syntax.w32) (Syntax.tcons (Syntax.tyInt Syntax.w32) (Syntax.tcons (Syntax.tyInt Syntax.w32) (Syntax.tcons (Syntax.tyInt Syntax.w32) (Syntax.tcons (Syntax.tyInt Syntax.w32) (Syntax.tcons (Syntax.tyArray (Syntax.tyInt Syntax.w32) 64) Syntax.tnil))))))) (Syntax.tcons (Syntax.tyInt Syntax.w64) (Syntax.tcons (Syntax.tyInt Syntax.w64) (Syntax.tcons (Syntax.tyInt Syntax.w64) (Syntax.tcons (Syntax.tyInt Syntax.w64) (Syntax.tcons (Syntax.tyInt Syntax.w64) (Syntax.tcons (Syntax.tyInt Syntax.w64) (Syntax.tcons Syntax.tyBool Syntax.tnil)))))))))) (List._∷_ (12, Rows.sc-here (Row.sInt Syntax.w64)) (List._∷_ (13, Rows.sc-here (Row.sInt Syntax.w64)) (List._∷_ (14, Rows.any-gone (Syntax.tyStruct (List._∷_ 122 (List._∷_ 111 (List._∷_ 110 (List._∷_ 101 (List._∷_ 115 (List._∷_ 58 (List._∷_ 58 (List._∷_ 115 (List._∷_ 99 (List._∷_ 97 (List._∷_ 110 (List._∷_ 58 (List._∷_ 58 (List._∷_ 76 (List._∷_ 105 (List._∷_ 110 (List._∷_ 101 List.[]))))))))))))))))) (Syntax.tcons (Syntax.tyInt Syntax.w32) (Syntax.tcons (Syntax.tyInt Syntax.w64) (Syntax.tcons (Syntax.tyInt Syntax.w64) (Syntax.tcons (Syntax.tyInt Syntax.w64) (Syntax.tcons (Syntax.tyInt Syntax.w64) Syntax.tnil))))))) (List._∷_ (15, Rows.sc-here (Row.sInt Syntax.w64)) List.[])))))))))))))))
+t9 = List._∷_ (0, Rows.any-gone Syntax.tyUnit) (List._∷_ (1, Rows.sslice (Referent.rtF (Referent.fInt Syntax.w8)) (Syntax.tyRef (Syntax.named 0) Syntax.imm (Syntax.tyInt Syntax.w8)) 0) (List._∷_ (2, Rows.mref (Array.Array (Referent.rtF (Referent.fInt Syntax.w32)) 32772) (Syntax.tyRef (Syntax.named 1) Syntax.mut (Syntax.tyArray (Syntax.tyInt Syntax.w32) 32772)) 1) (List._∷_ (3, Rows.mref (Array.Array (Referent.rtF (Referent.fInt Syntax.w8)) 16388) (Syntax.tyRef (Syntax.named 2) Syntax.mut (Syntax.tyArray (Syntax.tyInt Syntax.w8) 16388)) 2) (List._∷_ (4, Rows.mref (Array.Array (Referent.rtF (Referent.fInt Syntax.w32)) 65540) (Syntax.tyRef (Syntax.named 3) Syntax.mut (Syntax.tyArray (Syntax.tyInt Syntax.w32) 65540)) 3) (List._∷_ (5, Rows.mref (Array.Array (Referent.rtF (Referent.fInt Syntax.w32)) 32772) (Syntax.tyRef (Syntax.named 4) Syntax.mut (Syntax.tyArray (Syntax.tyInt Syntax.w32) 32772)) 4) (List._∷_ (6, Rows.mref (Array.Array (Referent.rtF (Referent.fInt Syntax.w32)) 32772) (Syntax.tyRef (Syntax.named 5) Syntax.mut (Syntax.tyArray (Syntax.tyInt Syntax.w32) 32772)) 5) (List._∷_ (7, Rows.mref (Array.Array (Referent.rtF (Referent.fInt Syntax.w32)) 262160) (Syntax.tyRef (Syntax.named 6) Syntax.mut (Syntax.tyArray (Syntax.tyInt Syntax.w32) 262160)) 6) (List._∷_ (8, Rows.mref (Array.Array (Referent.rtF (Referent.fInt Syntax.w8)) 600000) (Syntax.tyRef (Syntax.named 7) Syntax.mut (Syntax.tyArray (Syntax.tyInt Syntax.w8) 600000)) 7) (List._∷_ (9, Rows.mref (Array.Array Cell.R 65540) (Syntax.tyRef (Syntax.named 8) Syntax.mut (Syntax.tyArray Cell.behind 65540)) 8) (List._∷_ (10, Rows.mref (Array.Array Cell.R 32772) (Syntax.tyRef (Syntax.named 9) Syntax.mut (Syntax.tyArray Cell.behind 32772)) 9) (List._∷_ (11, Rows.any-gone (Syntax.tyStruct (List._∷_ 122 (List._∷_ 111 (List._∷_ 110 (List._∷_ 101 (List._∷_ 115 (List._∷_ 58 (List._∷_ 58 (List._∷_ 104 (List._∷_ 101 (List._∷_ 108 (List._∷_ 100 (List._∷_ 58 (List._∷_ 58 (List._∷_ 72 (List._∷_ 101 (List._∷_ 108 (List._∷_ 100 List.[]))))))))))))))))) (Syntax.tcons (Syntax.tyStruct (List._∷_ 112 (List._∷_ 121 (List._∷_ 114 (List._∷_ 97 (List._∷_ 109 (List._∷_ 105 (List._∷_ 100 (List._∷_ 58 (List._∷_ 58 (List._∷_ 83 (List._∷_ 116 (List._∷_ 97 (List._∷_ 116 (List._∷_ 101 List.[])))))))))))))) (Syntax.tcons (Syntax.tyInt Syntax.w32) (Syntax.tcons (Syntax.tyInt Syntax.w32) (Syntax.tcons (Syntax.tyInt Syntax.w32) (Syntax.tcons (Syntax.tyInt Syntax.w32) (Syntax.tcons (Syntax.tyInt Syntax.w32) (Syntax.tcons (Syntax.tyArray (Syntax.tyInt Syntax.w32) 64) Syntax.tnil))))))) (Syntax.tcons (Syntax.tyInt Syntax.w64) (Syntax.tcons (Syntax.tyInt Syntax.w64) (Syntax.tcons (Syntax.tyInt Syntax.w64) (Syntax.tcons (Syntax.tyInt Syntax.w64) (Syntax.tcons (Syntax.tyInt Syntax.w64) (Syntax.tcons (Syntax.tyInt Syntax.w64) (Syntax.tcons Syntax.tyBool Syntax.tnil)))))))))) (List._∷_ (12, Rows.sc-here (Row.sInt Syntax.w64)) (List._∷_ (13, Rows.sc-here (Row.sInt Syntax.w64)) (List._∷_ (14, Rows.any-gone (Syntax.tyStruct (List._∷_ 115 (List._∷_ 99 (List._∷_ 114 (List._∷_ 105 (List._∷_ 112 (List._∷_ 116 (List._∷_ 58 (List._∷_ 58 (List._∷_ 115 (List._∷_ 99 (List._∷_ 97 (List._∷_ 110 (List._∷_ 58 (List._∷_ 58 (List._∷_ 76 (List._∷_ 105 (List._∷_ 110 (List._∷_ 101 List.[])))))))))))))))))) (Syntax.tcons (Syntax.tyInt Syntax.w32) (Syntax.tcons (Syntax.tyInt Syntax.w64) (Syntax.tcons (Syntax.tyInt Syntax.w64) (Syntax.tcons (Syntax.tyInt Syntax.w64) (Syntax.tcons (Syntax.tyInt Syntax.w64) Syntax.tnil))))))) (List._∷_ (15, Rows.sc-here (Row.sInt Syntax.w64)) List.[])))))))))))))))
 
 abbrev pub t10 : List.List Row.Entry
-t10 = List._∷_ (0, Rows.any-gone Syntax.tyUnit) (List._∷_ (1, Rows.sslice (Referent.rtF (Referent.fInt Syntax.w8)) (Syntax.tyRef (Syntax.named 0) Syntax.imm (Syntax.tyInt Syntax.w8)) 0) (List._∷_ (2, Rows.mref (Array.Array (Referent.rtF (Referent.fInt Syntax.w32)) 32772) (Syntax.tyRef (Syntax.named 1) Syntax.mut (Syntax.tyArray (Syntax.tyInt Syntax.w32) 32772)) 1) (List._∷_ (3, Rows.mref (Array.Array (Referent.rtF (Referent.fInt Syntax.w8)) 16388) (Syntax.tyRef (Syntax.named 2) Syntax.mut (Syntax.tyArray (Syntax.tyInt Syntax.w8) 16388)) 2) (List._∷_ (4, Rows.mref (Array.Array (Referent.rtF (Referent.fInt Syntax.w32)) 65540) (Syntax.tyRef (Syntax.named 3) Syntax.mut (Syntax.tyArray (Syntax.tyInt Syntax.w32) 65540)) 3) (List._∷_ (5, Rows.mref (Array.Array (Referent.rtF (Referent.fInt Syntax.w32)) 32772) (Syntax.tyRef (Syntax.named 4) Syntax.mut (Syntax.tyArray (Syntax.tyInt Syntax.w32) 32772)) 4) (List._∷_ (6, Rows.mref (Array.Array (Referent.rtF (Referent.fInt Syntax.w32)) 32772) (Syntax.tyRef (Syntax.named 5) Syntax.mut (Syntax.tyArray (Syntax.tyInt Syntax.w32) 32772)) 5) (List._∷_ (7, Rows.mref (Array.Array (Referent.rtF (Referent.fInt Syntax.w32)) 262160) (Syntax.tyRef (Syntax.named 6) Syntax.mut (Syntax.tyArray (Syntax.tyInt Syntax.w32) 262160)) 6) (List._∷_ (8, Rows.mref (Array.Array (Referent.rtF (Referent.fInt Syntax.w8)) 600000) (Syntax.tyRef (Syntax.named 7) Syntax.mut (Syntax.tyArray (Syntax.tyInt Syntax.w8) 600000)) 7) (List._∷_ (9, Rows.mref (Array.Array Cell.R 65540) (Syntax.tyRef (Syntax.named 8) Syntax.mut (Syntax.tyArray Cell.behind 65540)) 8) (List._∷_ (10, Rows.mref (Array.Array Cell.R 32772) (Syntax.tyRef (Syntax.named 9) Syntax.mut (Syntax.tyArray Cell.behind 32772)) 9) (List._∷_ (11, Rows.any-gone (Syntax.tyStruct (List._∷_ 122 (List._∷_ 111 (List._∷_ 110 (List._∷_ 101 (List._∷_ 115 (List._∷_ 58 (List._∷_ 58 (List._∷_ 104 (List._∷_ 101 (List._∷_ 108 (List._∷_ 100 (List._∷_ 58 (List._∷_ 58 (List._∷_ 72 (List._∷_ 101 (List._∷_ 108 (List._∷_ 100 List.[]))))))))))))))))) (Syntax.tcons (Syntax.tyStruct (List._∷_ 112 (List._∷_ 121 (List._∷_ 114 (List._∷_ 97 (List._∷_ 109 (List._∷_ 105 (List._∷_ 100 (List._∷_ 58 (List._∷_ 58 (List._∷_ 83 (List._∷_ 116 (List._∷_ 97 (List._∷_ 116 (List._∷_ 101 List.[])))))))))))))) (Syntax.tcons (Syntax.tyInt Syntax.w32) (Syntax.tcons (Syntax.tyInt Syntax.w32) (Syntax.tcons (Syntax.tyInt Syntax.w32) (Syntax.tcons (Syntax.tyInt Syntax.w32) (Syntax.tcons (Syntax.tyInt Syntax.w32) (Syntax.tcons (Syntax.tyArray (Syntax.tyInt Syntax.w32) 64) Syntax.tnil))))))) (Syntax.tcons (Syntax.tyInt Syntax.w64) (Syntax.tcons (Syntax.tyInt Syntax.w64) (Syntax.tcons (Syntax.tyInt Syntax.w64) (Syntax.tcons (Syntax.tyInt Syntax.w64) (Syntax.tcons (Syntax.tyInt Syntax.w64) (Syntax.tcons (Syntax.tyInt Syntax.w64) (Syntax.tcons Syntax.tyBool Syntax.tnil)))))))))) (List._∷_ (12, Rows.sc-here (Row.sInt Syntax.w64)) (List._∷_ (13, Rows.sc-here (Row.sInt Syntax.w64)) (List._∷_ (14, Rows.any-gone (Syntax.tyStruct (List._∷_ 122 (List._∷_ 111 (List._∷_ 110 (List._∷_ 101 (List._∷_ 115 (List._∷_ 58 (List._∷_ 58 (List._∷_ 115 (List._∷_ 99 (List._∷_ 97 (List._∷_ 110 (List._∷_ 58 (List._∷_ 58 (List._∷_ 76 (List._∷_ 105 (List._∷_ 110 (List._∷_ 101 List.[]))))))))))))))))) (Syntax.tcons (Syntax.tyInt Syntax.w32) (Syntax.tcons (Syntax.tyInt Syntax.w64) (Syntax.tcons (Syntax.tyInt Syntax.w64) (Syntax.tcons (Syntax.tyInt Syntax.w64) (Syntax.tcons (Syntax.tyInt Syntax.w64) Syntax.tnil))))))) (List._∷_ (15, Rows.any-gone (Syntax.tyInt Syntax.w64)) List.[])))))))))))))))
+t10 = List._∷_ (0, Rows.any-gone Syntax.tyUnit) (List._∷_ (1, Rows.sslice (Referent.rtF (Referent.fInt Syntax.w8)) (Syntax.tyRef (Syntax.named 0) Syntax.imm (Syntax.tyInt Syntax.w8)) 0) (List._∷_ (2, Rows.mref (Array.Array (Referent.rtF (Referent.fInt Syntax.w32)) 32772) (Syntax.tyRef (Syntax.named 1) Syntax.mut (Syntax.tyArray (Syntax.tyInt Syntax.w32) 32772)) 1) (List._∷_ (3, Rows.mref (Array.Array (Referent.rtF (Referent.fInt Syntax.w8)) 16388) (Syntax.tyRef (Syntax.named 2) Syntax.mut (Syntax.tyArray (Syntax.tyInt Syntax.w8) 16388)) 2) (List._∷_ (4, Rows.mref (Array.Array (Referent.rtF (Referent.fInt Syntax.w32)) 65540) (Syntax.tyRef (Syntax.named 3) Syntax.mut (Syntax.tyArray (Syntax.tyInt Syntax.w32) 65540)) 3) (List._∷_ (5, Rows.mref (Array.Array (Referent.rtF (Referent.fInt Syntax.w32)) 32772) (Syntax.tyRef (Syntax.named 4) Syntax.mut (Syntax.tyArray (Syntax.tyInt Syntax.w32) 32772)) 4) (List._∷_ (6, Rows.mref (Array.Array (Referent.rtF (Referent.fInt Syntax.w32)) 32772) (Syntax.tyRef (Syntax.named 5) Syntax.mut (Syntax.tyArray (Syntax.tyInt Syntax.w32) 32772)) 5) (List._∷_ (7, Rows.mref (Array.Array (Referent.rtF (Referent.fInt Syntax.w32)) 262160) (Syntax.tyRef (Syntax.named 6) Syntax.mut (Syntax.tyArray (Syntax.tyInt Syntax.w32) 262160)) 6) (List._∷_ (8, Rows.mref (Array.Array (Referent.rtF (Referent.fInt Syntax.w8)) 600000) (Syntax.tyRef (Syntax.named 7) Syntax.mut (Syntax.tyArray (Syntax.tyInt Syntax.w8) 600000)) 7) (List._∷_ (9, Rows.mref (Array.Array Cell.R 65540) (Syntax.tyRef (Syntax.named 8) Syntax.mut (Syntax.tyArray Cell.behind 65540)) 8) (List._∷_ (10, Rows.mref (Array.Array Cell.R 32772) (Syntax.tyRef (Syntax.named 9) Syntax.mut (Syntax.tyArray Cell.behind 32772)) 9) (List._∷_ (11, Rows.any-gone (Syntax.tyStruct (List._∷_ 122 (List._∷_ 111 (List._∷_ 110 (List._∷_ 101 (List._∷_ 115 (List._∷_ 58 (List._∷_ 58 (List._∷_ 104 (List._∷_ 101 (List._∷_ 108 (List._∷_ 100 (List._∷_ 58 (List._∷_ 58 (List._∷_ 72 (List._∷_ 101 (List._∷_ 108 (List._∷_ 100 List.[]))))))))))))))))) (Syntax.tcons (Syntax.tyStruct (List._∷_ 112 (List._∷_ 121 (List._∷_ 114 (List._∷_ 97 (List._∷_ 109 (List._∷_ 105 (List._∷_ 100 (List._∷_ 58 (List._∷_ 58 (List._∷_ 83 (List._∷_ 116 (List._∷_ 97 (List._∷_ 116 (List._∷_ 101 List.[])))))))))))))) (Syntax.tcons (Syntax.tyInt Syntax.w32) (Syntax.tcons (Syntax.tyInt Syntax.w32) (Syntax.tcons (Syntax.tyInt Syntax.w32) (Syntax.tcons (Syntax.tyInt Syntax.w32) (Syntax.tcons (Syntax.tyInt Syntax.w32) (Syntax.tcons (Syntax.tyArray (Syntax.tyInt Syntax.w32) 64) Syntax.tnil))))))) (Syntax.tcons (Syntax.tyInt Syntax.w64) (Syntax.tcons (Syntax.tyInt Syntax.w64) (Syntax.tcons (Syntax.tyInt Syntax.w64) (Syntax.tcons (Syntax.tyInt Syntax.w64) (Syntax.tcons (Syntax.tyInt Syntax.w64) (Syntax.tcons (Syntax.tyInt Syntax.w64) (Syntax.tcons Syntax.tyBool Syntax.tnil)))))))))) (List._∷_ (12, Rows.sc-here (Row.sInt Syntax.w64)) (List._∷_ (13, Rows.sc-here (Row.sInt Syntax.w64)) (List._∷_ (14, Rows.any-gone (Syntax.tyStruct (List._∷_ 115 (List._∷_ 99 (List._∷_ 114 (List._∷_ 105 (List._∷_ 112 (List._∷_ 116 (List._∷_ 58 (List._∷_ 58 (List._∷_ 115 (List._∷_ 99 (List._∷_ 97 (List._∷_ 110 (List._∷_ 58 (List._∷_ 58 (List._∷_ 76 (List._∷_ 105 (List._∷_ 110 (List._∷_ 101 List.[])))))))))))))))))) (Syntax.tcons (Syntax.tyInt Syntax.w32) (Syntax.tcons (Syntax.tyInt Syntax.w64) (Syntax.tcons (Syntax.tyInt Syntax.w64) (Syntax.tcons (Syntax.tyInt Syntax.w64) (Syntax.tcons (Syntax.tyInt Syntax.w64) Syntax.tnil))))))) (List._∷_ (15, Rows.any-gone (Syntax.tyInt Syntax.w64)) List.[])))))))))))))))
 
 abbrev pub t11 : List.List Row.Entry
 t11 = List._∷_ (16, Rows.any-gone Syntax.tyBool) (List._∷_ (17, Rows.sc-here (Row.sInt Syntax.w64)) (List._∷_ (18, Rows.any-gone (Syntax.tyRef Syntax.erased Syntax.mut (Syntax.tyArray (Syntax.tyInt Syntax.w32) 32772))) (List._∷_ (19, Rows.any-gone (Syntax.tyRef Syntax.erased Syntax.imm (Syntax.tyArray (Syntax.tyInt Syntax.w32) 32772))) (List._∷_ (20, Rows.any-gone (Syntax.tyRef Syntax.erased Syntax.mut (Syntax.tyArray (Syntax.tyInt Syntax.w8) 16388))) (List._∷_ (21, Rows.any-gone (Syntax.tyRef Syntax.erased Syntax.mut (Syntax.tyArray (Syntax.tyInt Syntax.w32) 65540))) (List._∷_ (22, Rows.any-gone (Syntax.tyRef Syntax.erased Syntax.mut (Syntax.tyArray (Syntax.tyInt Syntax.w32) 32772))) (List._∷_ (23, Rows.any-gone (Syntax.tyRef Syntax.erased Syntax.mut (Syntax.tyArray (Syntax.tyInt Syntax.w32) 32772))) (List._∷_ (24, Rows.any-gone (Syntax.tyRef Syntax.erased Syntax.mut (Syntax.tyArray (Syntax.tyInt Syntax.w32) 262160))) (List._∷_ (25, Rows.any-gone (Syntax.tyRef Syntax.erased Syntax.mut (Syntax.tyArray (Syntax.tyInt Syntax.w8) 600000))) (List._∷_ (26, Rows.any-gone (Syntax.tyRef Syntax.erased Syntax.mut (Syntax.tyArray Cell.behind 65540))) (List._∷_ (27, Rows.any-gone (Syntax.tyRef Syntax.erased Syntax.mut (Syntax.tyArray Cell.behind 32772))) (List._∷_ (28, Rows.any-gone Syntax.tyUnit) (List._∷_ (29, Rows.any-gone (Syntax.tyInt Syntax.w64)) List.[])))))))))))))
@@ -344,13 +344,13 @@ abbrev pub t12 : List.List Row.Entry
 t12 = List._∷_ (16, Rows.sc-here Row.sBool) (List._∷_ (17, Rows.sc-here (Row.sInt Syntax.w64)) (List._∷_ (18, Rows.any-gone (Syntax.tyRef Syntax.erased Syntax.mut (Syntax.tyArray (Syntax.tyInt Syntax.w32) 32772))) (List._∷_ (19, Rows.any-gone (Syntax.tyRef Syntax.erased Syntax.imm (Syntax.tyArray (Syntax.tyInt Syntax.w32) 32772))) (List._∷_ (20, Rows.any-gone (Syntax.tyRef Syntax.erased Syntax.mut (Syntax.tyArray (Syntax.tyInt Syntax.w8) 16388))) (List._∷_ (21, Rows.any-gone (Syntax.tyRef Syntax.erased Syntax.mut (Syntax.tyArray (Syntax.tyInt Syntax.w32) 65540))) (List._∷_ (22, Rows.any-gone (Syntax.tyRef Syntax.erased Syntax.mut (Syntax.tyArray (Syntax.tyInt Syntax.w32) 32772))) (List._∷_ (23, Rows.any-gone (Syntax.tyRef Syntax.erased Syntax.mut (Syntax.tyArray (Syntax.tyInt Syntax.w32) 32772))) (List._∷_ (24, Rows.any-gone (Syntax.tyRef Syntax.erased Syntax.mut (Syntax.tyArray (Syntax.tyInt Syntax.w32) 262160))) (List._∷_ (25, Rows.any-gone (Syntax.tyRef Syntax.erased Syntax.mut (Syntax.tyArray (Syntax.tyInt Syntax.w8) 600000))) (List._∷_ (26, Rows.any-gone (Syntax.tyRef Syntax.erased Syntax.mut (Syntax.tyArray Cell.behind 65540))) (List._∷_ (27, Rows.any-gone (Syntax.tyRef Syntax.erased Syntax.mut (Syntax.tyArray Cell.behind 32772))) (List._∷_ (28, Rows.any-gone Syntax.tyUnit) (List._∷_ (29, Rows.any-gone (Syntax.tyInt Syntax.w64)) List.[])))))))))))))
 
 abbrev pub t13 : List.List Row.Entry
-t13 = List._∷_ (0, Rows.sc-here Row.sUnit) (List._∷_ (1, Rows.sslice (Referent.rtF (Referent.fInt Syntax.w8)) (Syntax.tyRef (Syntax.named 0) Syntax.imm (Syntax.tyInt Syntax.w8)) 0) (List._∷_ (2, Rows.mref (Array.Array (Referent.rtF (Referent.fInt Syntax.w32)) 32772) (Syntax.tyRef (Syntax.named 1) Syntax.mut (Syntax.tyArray (Syntax.tyInt Syntax.w32) 32772)) 1) (List._∷_ (3, Rows.mref (Array.Array (Referent.rtF (Referent.fInt Syntax.w8)) 16388) (Syntax.tyRef (Syntax.named 2) Syntax.mut (Syntax.tyArray (Syntax.tyInt Syntax.w8) 16388)) 2) (List._∷_ (4, Rows.mref (Array.Array (Referent.rtF (Referent.fInt Syntax.w32)) 65540) (Syntax.tyRef (Syntax.named 3) Syntax.mut (Syntax.tyArray (Syntax.tyInt Syntax.w32) 65540)) 3) (List._∷_ (5, Rows.mref (Array.Array (Referent.rtF (Referent.fInt Syntax.w32)) 32772) (Syntax.tyRef (Syntax.named 4) Syntax.mut (Syntax.tyArray (Syntax.tyInt Syntax.w32) 32772)) 4) (List._∷_ (6, Rows.mref (Array.Array (Referent.rtF (Referent.fInt Syntax.w32)) 32772) (Syntax.tyRef (Syntax.named 5) Syntax.mut (Syntax.tyArray (Syntax.tyInt Syntax.w32) 32772)) 5) (List._∷_ (7, Rows.mref (Array.Array (Referent.rtF (Referent.fInt Syntax.w32)) 262160) (Syntax.tyRef (Syntax.named 6) Syntax.mut (Syntax.tyArray (Syntax.tyInt Syntax.w32) 262160)) 6) (List._∷_ (8, Rows.mref (Array.Array (Referent.rtF (Referent.fInt Syntax.w8)) 600000) (Syntax.tyRef (Syntax.named 7) Syntax.mut (Syntax.tyArray (Syntax.tyInt Syntax.w8) 600000)) 7) (List._∷_ (9, Rows.mref (Array.Array Cell.R 65540) (Syntax.tyRef (Syntax.named 8) Syntax.mut (Syntax.tyArray Cell.behind 65540)) 8) (List._∷_ (10, Rows.mref (Array.Array Cell.R 32772) (Syntax.tyRef (Syntax.named 9) Syntax.mut (Syntax.tyArray Cell.behind 32772)) 9) (List._∷_ (11, Rows.any-gone (Syntax.tyStruct (List._∷_ 122 (List._∷_ 111 (List._∷_ 110 (List._∷_ 101 (List._∷_ 115 (List._∷_ 58 (List._∷_ 58 (List._∷_ 104 (List._∷_ 101 (List._∷_ 108 (List._∷_ 100 (List._∷_ 58 (List._∷_ 58 (List._∷_ 72 (List._∷_ 101 (List._∷_ 108 (List._∷_ 100 List.[]))))))))))))))))) (Syntax.tcons (Syntax.tyStruct (List._∷_ 112 (List._∷_ 121 (List._∷_ 114 (List._∷_ 97 (List._∷_ 109 (List._∷_ 105 (List._∷_ 100 (List._∷_ 58 (List._∷_ 58 (List._∷_ 83 (List._∷_ 116 (List._∷_ 97 (List._∷_ 116 (List._∷_ 101 List.[])))))))))))))) (Syntax.tcons (Syntax.tyInt Syntax.w32) (Syntax.tcons (Syntax.tyInt Syntax.w32) (Syntax.tcons (Syntax.tyInt Syntax.w32) (Syntax.tcons (Syntax.tyInt Syntax.w32) (Syntax.tcons (Syntax.tyInt Syntax.w32) (Syntax.tcons (Syntax.tyArray (Syntax.tyInt Syntax.w32) 64) Syntax.tnil))))))) (Syntax.tcons (Syntax.tyInt Syntax.w64) (Syntax.tcons (Syntax.tyInt Syntax.w64) (Syntax.tcons (Syntax.tyInt Syntax.w64) (Syntax.tcons (Syntax.tyInt Syntax.w64) (Syntax.tcons (Syntax.tyInt Syntax.w64) (Syntax.tcons (Syntax.tyInt Syntax.w64) (Syntax.tcons Syntax.tyBool Syntax.tnil)))))))))) (List._∷_ (12, Rows.sc-here (Row.sInt Syntax.w64)) (List._∷_ (13, Rows.sc-here (Row.sInt Syntax.w64)) (List._∷_ (14, Rows.any-gone (Syntax.tyStruct (List._∷_ 122 (List._∷_ 111 (List._∷_ 110 (List._∷_ 101 (List._∷_ 115 (List._∷_ 58 (List._∷_ 58 (List._∷_ 115 (List._∷_ 99 (List._∷_ 97 (List._∷_ 110 (List._∷_ 58 (List._∷_ 58 (List._∷_ 76 (List._∷_ 105 (List._∷_ 110 (List._∷_ 101 List.[]))))))))))))))))) (Syntax.tcons (Syntax.tyInt Syntax.w32) (Syntax.tcons (Syntax.tyInt Syntax.w64) (Syntax.tcons (Syntax.tyInt Syntax.w64) (Syntax.tcons (Syntax.tyInt Syntax.w64) (Syntax.tcons (Syntax.tyInt Syntax.w64) Syntax.tnil))))))) (List._∷_ (15, Rows.any-gone (Syntax.tyInt Syntax.w64)) List.[])))))))))))))))
+t13 = List._∷_ (0, Rows.sc-here Row.sUnit) (List._∷_ (1, Rows.sslice (Referent.rtF (Referent.fInt Syntax.w8)) (Syntax.tyRef (Syntax.named 0) Syntax.imm (Syntax.tyInt Syntax.w8)) 0) (List._∷_ (2, Rows.mref (Array.Array (Referent.rtF (Referent.fInt Syntax.w32)) 32772) (Syntax.tyRef (Syntax.named 1) Syntax.mut (Syntax.tyArray (Syntax.tyInt Syntax.w32) 32772)) 1) (List._∷_ (3, Rows.mref (Array.Array (Referent.rtF (Referent.fInt Syntax.w8)) 16388) (Syntax.tyRef (Syntax.named 2) Syntax.mut (Syntax.tyArray (Syntax.tyInt Syntax.w8) 16388)) 2) (List._∷_ (4, Rows.mref (Array.Array (Referent.rtF (Referent.fInt Syntax.w32)) 65540) (Syntax.tyRef (Syntax.named 3) Syntax.mut (Syntax.tyArray (Syntax.tyInt Syntax.w32) 65540)) 3) (List._∷_ (5, Rows.mref (Array.Array (Referent.rtF (Referent.fInt Syntax.w32)) 32772) (Syntax.tyRef (Syntax.named 4) Syntax.mut (Syntax.tyArray (Syntax.tyInt Syntax.w32) 32772)) 4) (List._∷_ (6, Rows.mref (Array.Array (Referent.rtF (Referent.fInt Syntax.w32)) 32772) (Syntax.tyRef (Syntax.named 5) Syntax.mut (Syntax.tyArray (Syntax.tyInt Syntax.w32) 32772)) 5) (List._∷_ (7, Rows.mref (Array.Array (Referent.rtF (Referent.fInt Syntax.w32)) 262160) (Syntax.tyRef (Syntax.named 6) Syntax.mut (Syntax.tyArray (Syntax.tyInt Syntax.w32) 262160)) 6) (List._∷_ (8, Rows.mref (Array.Array (Referent.rtF (Referent.fInt Syntax.w8)) 600000) (Syntax.tyRef (Syntax.named 7) Syntax.mut (Syntax.tyArray (Syntax.tyInt Syntax.w8) 600000)) 7) (List._∷_ (9, Rows.mref (Array.Array Cell.R 65540) (Syntax.tyRef (Syntax.named 8) Syntax.mut (Syntax.tyArray Cell.behind 65540)) 8) (List._∷_ (10, Rows.mref (Array.Array Cell.R 32772) (Syntax.tyRef (Syntax.named 9) Syntax.mut (Syntax.tyArray Cell.behind 32772)) 9) (List._∷_ (11, Rows.any-gone (Syntax.tyStruct (List._∷_ 122 (List._∷_ 111 (List._∷_ 110 (List._∷_ 101 (List._∷_ 115 (List._∷_ 58 (List._∷_ 58 (List._∷_ 104 (List._∷_ 101 (List._∷_ 108 (List._∷_ 100 (List._∷_ 58 (List._∷_ 58 (List._∷_ 72 (List._∷_ 101 (List._∷_ 108 (List._∷_ 100 List.[]))))))))))))))))) (Syntax.tcons (Syntax.tyStruct (List._∷_ 112 (List._∷_ 121 (List._∷_ 114 (List._∷_ 97 (List._∷_ 109 (List._∷_ 105 (List._∷_ 100 (List._∷_ 58 (List._∷_ 58 (List._∷_ 83 (List._∷_ 116 (List._∷_ 97 (List._∷_ 116 (List._∷_ 101 List.[])))))))))))))) (Syntax.tcons (Syntax.tyInt Syntax.w32) (Syntax.tcons (Syntax.tyInt Syntax.w32) (Syntax.tcons (Syntax.tyInt Syntax.w32) (Syntax.tcons (Syntax.tyInt Syntax.w32) (Syntax.tcons (Syntax.tyInt Syntax.w32) (Syntax.tcons (Syntax.tyArray (Syntax.tyInt Syntax.w32) 64) Syntax.tnil))))))) (Syntax.tcons (Syntax.tyInt Syntax.w64) (Syntax.tcons (Syntax.tyInt Syntax.w64) (Syntax.tcons (Syntax.tyInt Syntax.w64) (Syntax.tcons (Syntax.tyInt Syntax.w64) (Syntax.tcons (Syntax.tyInt Syntax.w64) (Syntax.tcons (Syntax.tyInt Syntax.w64) (Syntax.tcons Syntax.tyBool Syntax.tnil)))))))))) (List._∷_ (12, Rows.sc-here (Row.sInt Syntax.w64)) (List._∷_ (13, Rows.sc-here (Row.sInt Syntax.w64)) (List._∷_ (14, Rows.any-gone (Syntax.tyStruct (List._∷_ 115 (List._∷_ 99 (List._∷_ 114 (List._∷_ 105 (List._∷_ 112 (List._∷_ 116 (List._∷_ 58 (List._∷_ 58 (List._∷_ 115 (List._∷_ 99 (List._∷_ 97 (List._∷_ 110 (List._∷_ 58 (List._∷_ 58 (List._∷_ 76 (List._∷_ 105 (List._∷_ 110 (List._∷_ 101 List.[])))))))))))))))))) (Syntax.tcons (Syntax.tyInt Syntax.w32) (Syntax.tcons (Syntax.tyInt Syntax.w64) (Syntax.tcons (Syntax.tyInt Syntax.w64) (Syntax.tcons (Syntax.tyInt Syntax.w64) (Syntax.tcons (Syntax.tyInt Syntax.w64) Syntax.tnil))))))) (List._∷_ (15, Rows.any-gone (Syntax.tyInt Syntax.w64)) List.[])))))))))))))))
 
 abbrev pub t14 : List.List Row.Entry
-t14 = List._∷_ (0, Rows.sc-here Row.sUnit) (List._∷_ (1, Rows.sslice (Referent.rtF (Referent.fInt Syntax.w8)) (Syntax.tyRef (Syntax.named 0) Syntax.imm (Syntax.tyInt Syntax.w8)) 0) (List._∷_ (2, Rows.mref (Array.Array (Referent.rtF (Referent.fInt Syntax.w32)) 32772) (Syntax.tyRef (Syntax.named 1) Syntax.mut (Syntax.tyArray (Syntax.tyInt Syntax.w32) 32772)) 1) (List._∷_ (3, Rows.mref (Array.Array (Referent.rtF (Referent.fInt Syntax.w8)) 16388) (Syntax.tyRef (Syntax.named 2) Syntax.mut (Syntax.tyArray (Syntax.tyInt Syntax.w8) 16388)) 2) (List._∷_ (4, Rows.mref (Array.Array (Referent.rtF (Referent.fInt Syntax.w32)) 65540) (Syntax.tyRef (Syntax.named 3) Syntax.mut (Syntax.tyArray (Syntax.tyInt Syntax.w32) 65540)) 3) (List._∷_ (5, Rows.mref (Array.Array (Referent.rtF (Referent.fInt Syntax.w32)) 32772) (Syntax.tyRef (Syntax.named 4) Syntax.mut (Syntax.tyArray (Syntax.tyInt Syntax.w32) 32772)) 4) (List._∷_ (6, Rows.mref (Array.Array (Referent.rtF (Referent.fInt Syntax.w32)) 32772) (Syntax.tyRef (Syntax.named 5) Syntax.mut (Syntax.tyArray (Syntax.tyInt Syntax.w32) 32772)) 5) (List._∷_ (7, Rows.mref (Array.Array (Referent.rtF (Referent.fInt Syntax.w32)) 262160) (Syntax.tyRef (Syntax.named 6) Syntax.mut (Syntax.tyArray (Syntax.tyInt Syntax.w32) 262160)) 6) (List._∷_ (8, Rows.mref (Array.Array (Referent.rtF (Referent.fInt Syntax.w8)) 600000) (Syntax.tyRef (Syntax.named 7) Syntax.mut (Syntax.tyArray (Syntax.tyInt Syntax.w8) 600000)) 7) (List._∷_ (9, Rows.mref (Array.Array Cell.R 65540) (Syntax.tyRef (Syntax.named 8) Syntax.mut (Syntax.tyArray Cell.behind 65540)) 8) (List._∷_ (10, Rows.mref (Array.Array Cell.R 32772) (Syntax.tyRef (Syntax.named 9) Syntax.mut (Syntax.tyArray Cell.behind 32772)) 9) (List._∷_ (11, Rows.any-gone (Syntax.tyStruct (List._∷_ 122 (List._∷_ 111 (List._∷_ 110 (List._∷_ 101 (List._∷_ 115 (List._∷_ 58 (List._∷_ 58 (List._∷_ 104 (List._∷_ 101 (List._∷_ 108 (List._∷_ 100 (List._∷_ 58 (List._∷_ 58 (List._∷_ 72 (List._∷_ 101 (List._∷_ 108 (List._∷_ 100 List.[]))))))))))))))))) (Syntax.tcons (Syntax.tyStruct (List._∷_ 112 (List._∷_ 121 (List._∷_ 114 (List._∷_ 97 (List._∷_ 109 (List._∷_ 105 (List._∷_ 100 (List._∷_ 58 (List._∷_ 58 (List._∷_ 83 (List._∷_ 116 (List._∷_ 97 (List._∷_ 116 (List._∷_ 101 List.[])))))))))))))) (Syntax.tcons (Syntax.tyInt Syntax.w32) (Syntax.tcons (Syntax.tyInt Syntax.w32) (Syntax.tcons (Syntax.tyInt Syntax.w32) (Syntax.tcons (Syntax.tyInt Syntax.w32) (Syntax.tcons (Syntax.tyInt Syntax.w32) (Syntax.tcons (Syntax.tyArray (Syntax.tyInt Syntax.w32) 64) Syntax.tnil))))))) (Syntax.tcons (Syntax.tyInt Syntax.w64) (Syntax.tcons (Syntax.tyInt Syntax.w64) (Syntax.tcons (Syntax.tyInt Syntax.w64) (Syntax.tcons (Syntax.tyInt Syntax.w64) (Syntax.tcons (Syntax.tyInt Syntax.w64) (Syntax.tcons (Syntax.tyInt Syntax.w64) (Syntax.tcons Syntax.tyBool Syntax.tnil)))))))))) (List._∷_ (12, Rows.any-gone (Syntax.tyInt Syntax.w64)) (List._∷_ (13, Rows.sc-here (Row.sInt Syntax.w64)) (List._∷_ (14, Rows.any-gone (Syntax.tyStruct (List._∷_ 122 (List._∷_ 111 (List._∷_ 110 (List._∷_ 101 (List._∷_ 115 (List._∷_ 58 (List._∷_ 58 (List._∷_ 115 (List._∷_ 99 (List._∷_ 97 (List._∷_ 110 (List._∷_ 58 (List._∷_ 58 (List._∷_ 76 (List._∷_ 105 (List._∷_ 110 (List._∷_ 101 List.[]))))))))))))))))) (Syntax.tcons (Syntax.tyInt Syntax.w32) (Syntax.tcons (Syntax.tyInt Syntax.w64) (Syntax.tcons (Syntax.tyInt Syntax.w64) (Syntax.tcons (Syntax.tyInt Syntax.w64) (Syntax.tcons (Syntax.tyInt Syntax.w64) Syntax.tnil))))))) (List._∷_ (15, Rows.any-gone (Syntax.tyInt Syntax.w64)) List.[])))))))))))))))
+t14 = List._∷_ (0, Rows.sc-here Row.sUnit) (List._∷_ (1, Rows.sslice (Referent.rtF (Referent.fInt Syntax.w8)) (Syntax.tyRef (Syntax.named 0) Syntax.imm (Syntax.tyInt Syntax.w8)) 0) (List._∷_ (2, Rows.mref (Array.Array (Referent.rtF (Referent.fInt Syntax.w32)) 32772) (Syntax.tyRef (Syntax.named 1) Syntax.mut (Syntax.tyArray (Syntax.tyInt Syntax.w32) 32772)) 1) (List._∷_ (3, Rows.mref (Array.Array (Referent.rtF (Referent.fInt Syntax.w8)) 16388) (Syntax.tyRef (Syntax.named 2) Syntax.mut (Syntax.tyArray (Syntax.tyInt Syntax.w8) 16388)) 2) (List._∷_ (4, Rows.mref (Array.Array (Referent.rtF (Referent.fInt Syntax.w32)) 65540) (Syntax.tyRef (Syntax.named 3) Syntax.mut (Syntax.tyArray (Syntax.tyInt Syntax.w32) 65540)) 3) (List._∷_ (5, Rows.mref (Array.Array (Referent.rtF (Referent.fInt Syntax.w32)) 32772) (Syntax.tyRef (Syntax.named 4) Syntax.mut (Syntax.tyArray (Syntax.tyInt Syntax.w32) 32772)) 4) (List._∷_ (6, Rows.mref (Array.Array (Referent.rtF (Referent.fInt Syntax.w32)) 32772) (Syntax.tyRef (Syntax.named 5) Syntax.mut (Syntax.tyArray (Syntax.tyInt Syntax.w32) 32772)) 5) (List._∷_ (7, Rows.mref (Array.Array (Referent.rtF (Referent.fInt Syntax.w32)) 262160) (Syntax.tyRef (Syntax.named 6) Syntax.mut (Syntax.tyArray (Syntax.tyInt Syntax.w32) 262160)) 6) (List._∷_ (8, Rows.mref (Array.Array (Referent.rtF (Referent.fInt Syntax.w8)) 600000) (Syntax.tyRef (Syntax.named 7) Syntax.mut (Syntax.tyArray (Syntax.tyInt Syntax.w8) 600000)) 7) (List._∷_ (9, Rows.mref (Array.Array Cell.R 65540) (Syntax.tyRef (Syntax.named 8) Syntax.mut (Syntax.tyArray Cell.behind 65540)) 8) (List._∷_ (10, Rows.mref (Array.Array Cell.R 32772) (Syntax.tyRef (Syntax.named 9) Syntax.mut (Syntax.tyArray Cell.behind 32772)) 9) (List._∷_ (11, Rows.any-gone (Syntax.tyStruct (List._∷_ 122 (List._∷_ 111 (List._∷_ 110 (List._∷_ 101 (List._∷_ 115 (List._∷_ 58 (List._∷_ 58 (List._∷_ 104 (List._∷_ 101 (List._∷_ 108 (List._∷_ 100 (List._∷_ 58 (List._∷_ 58 (List._∷_ 72 (List._∷_ 101 (List._∷_ 108 (List._∷_ 100 List.[]))))))))))))))))) (Syntax.tcons (Syntax.tyStruct (List._∷_ 112 (List._∷_ 121 (List._∷_ 114 (List._∷_ 97 (List._∷_ 109 (List._∷_ 105 (List._∷_ 100 (List._∷_ 58 (List._∷_ 58 (List._∷_ 83 (List._∷_ 116 (List._∷_ 97 (List._∷_ 116 (List._∷_ 101 List.[])))))))))))))) (Syntax.tcons (Syntax.tyInt Syntax.w32) (Syntax.tcons (Syntax.tyInt Syntax.w32) (Syntax.tcons (Syntax.tyInt Syntax.w32) (Syntax.tcons (Syntax.tyInt Syntax.w32) (Syntax.tcons (Syntax.tyInt Syntax.w32) (Syntax.tcons (Syntax.tyArray (Syntax.tyInt Syntax.w32) 64) Syntax.tnil))))))) (Syntax.tcons (Syntax.tyInt Syntax.w64) (Syntax.tcons (Syntax.tyInt Syntax.w64) (Syntax.tcons (Syntax.tyInt Syntax.w64) (Syntax.tcons (Syntax.tyInt Syntax.w64) (Syntax.tcons (Syntax.tyInt Syntax.w64) (Syntax.tcons (Syntax.tyInt Syntax.w64) (Syntax.tcons Syntax.tyBool Syntax.tnil)))))))))) (List._∷_ (12, Rows.any-gone (Syntax.tyInt Syntax.w64)) (List._∷_ (13, Rows.sc-here (Row.sInt Syntax.w64)) (List._∷_ (14, Rows.any-gone (Syntax.tyStruct (List._∷_ 115 (List._∷_ 99 (List._∷_ 114 (List._∷_ 105 (List._∷_ 112 (List._∷_ 116 (List._∷_ 58 (List._∷_ 58 (List._∷_ 115 (List._∷_ 99 (List._∷_ 97 (List._∷_ 110 (List._∷_ 58 (List._∷_ 58 (List._∷_ 76 (List._∷_ 105 (List._∷_ 110 (List._∷_ 101 List.[])))))))))))))))))) (Syntax.tcons (Syntax.tyInt Syntax.w32) (Syntax.tcons (Syntax.tyInt Syntax.w64) (Syntax.tcons (Syntax.tyInt Syntax.w64) (Syntax.tcons (Syntax.tyInt Syntax.w64) (Syntax.tcons (Syntax.tyInt Syntax.w64) Syntax.tnil))))))) (List._∷_ (15, Rows.any-gone (Syntax.tyInt Syntax.w64)) List.[])))))))))))))))
 
 abbrev pub t15 : List.List Row.Entry
-t15 = List._∷_ (0, Rows.any-gone Syntax.tyUnit) (List._∷_ (1, Rows.sslice (Referent.rtF (Referent.fInt Syntax.w8)) (Syntax.tyRef (Syntax.named 0) Syntax.imm (Syntax.tyInt Syntax.w8)) 0) (List._∷_ (2, Rows.mref-owed (Array.Array (Referent.rtF (Referent.fInt Syntax.w32)) 32772) (Syntax.tyRef (Syntax.named 1) Syntax.mut (Syntax.tyArray (Syntax.tyInt Syntax.w32) 32772)) 1 10 Row.off) (List._∷_ (3, Rows.mref (Array.Array (Referent.rtF (Referent.fInt Syntax.w8)) 16388) (Syntax.tyRef (Syntax.named 2) Syntax.mut (Syntax.tyArray (Syntax.tyInt Syntax.w8) 16388)) 2) (List._∷_ (4, Rows.mref (Array.Array (Referent.rtF (Referent.fInt Syntax.w32)) 65540) (Syntax.tyRef (Syntax.named 3) Syntax.mut (Syntax.tyArray (Syntax.tyInt Syntax.w32) 65540)) 3) (List._∷_ (5, Rows.mref (Array.Array (Referent.rtF (Referent.fInt Syntax.w32)) 32772) (Syntax.tyRef (Syntax.named 4) Syntax.mut (Syntax.tyArray (Syntax.tyInt Syntax.w32) 32772)) 4) (List._∷_ (6, Rows.mref (Array.Array (Referent.rtF (Referent.fInt Syntax.w32)) 32772) (Syntax.tyRef (Syntax.named 5) Syntax.mut (Syntax.tyArray (Syntax.tyInt Syntax.w32) 32772)) 5) (List._∷_ (7, Rows.mref (Array.Array (Referent.rtF (Referent.fInt Syntax.w32)) 262160) (Syntax.tyRef (Syntax.named 6) Syntax.mut (Syntax.tyArray (Syntax.tyInt Syntax.w32) 262160)) 6) (List._∷_ (8, Rows.mref (Array.Array (Referent.rtF (Referent.fInt Syntax.w8)) 600000) (Syntax.tyRef (Syntax.named 7) Syntax.mut (Syntax.tyArray (Syntax.tyInt Syntax.w8) 600000)) 7) (List._∷_ (9, Rows.mref (Array.Array Cell.R 65540) (Syntax.tyRef (Syntax.named 8) Syntax.mut (Syntax.tyArray Cell.behind 65540)) 8) (List._∷_ (10, Rows.mref (Array.Array Cell.R 32772) (Syntax.tyRef (Syntax.named 9) Syntax.mut (Syntax.tyArray Cell.behind 32772)) 9) (List._∷_ (11, Rows.whole (Declared.row Held.the-type)) (List._∷_ (12, Rows.sc-here (Row.sInt Syntax.w64)) (List._∷_ (13, Rows.sc-here (Row.sInt Syntax.w64)) (List._∷_ (14, Rows.any-gone (Syntax.tyStruct (List._∷_ 122 (List._∷_ 111 (List._∷_ 110 (List._∷_ 101 (List._∷_ 115 (List._∷_ 58 (List._∷_ 58 (List._∷_ 115 (List._∷_ 99 (List._∷_ 97 (List._∷_ 110 (List._∷_ 58 (List._∷_ 58 (List._∷_ 76 (List._∷_ 105 (List._∷_ 110 (List._∷_ 101 List.[]))))))))))))))))) (Syntax.tcons (Syntax.tyInt Syntax.w32) (Syntax.tcons (Syntax.tyInt Syntax.w64) (Syntax.tcons (Syntax.tyInt Syntax.w64) (Syntax.tcons (Syntax.tyInt Syntax.w64) (Syntax.tcons (Syntax.tyInt Syntax.w64) Syntax.tnil))))))) (List._∷_ (15, Rows.sc-here (Row.sInt Syntax.w64)) List.[])))))))))))))))
+t15 = List._∷_ (0, Rows.any-gone Syntax.tyUnit) (List._∷_ (1, Rows.sslice (Referent.rtF (Referent.fInt Syntax.w8)) (Syntax.tyRef (Syntax.named 0) Syntax.imm (Syntax.tyInt Syntax.w8)) 0) (List._∷_ (2, Rows.mref-owed (Array.Array (Referent.rtF (Referent.fInt Syntax.w32)) 32772) (Syntax.tyRef (Syntax.named 1) Syntax.mut (Syntax.tyArray (Syntax.tyInt Syntax.w32) 32772)) 1 10 Row.off) (List._∷_ (3, Rows.mref (Array.Array (Referent.rtF (Referent.fInt Syntax.w8)) 16388) (Syntax.tyRef (Syntax.named 2) Syntax.mut (Syntax.tyArray (Syntax.tyInt Syntax.w8) 16388)) 2) (List._∷_ (4, Rows.mref (Array.Array (Referent.rtF (Referent.fInt Syntax.w32)) 65540) (Syntax.tyRef (Syntax.named 3) Syntax.mut (Syntax.tyArray (Syntax.tyInt Syntax.w32) 65540)) 3) (List._∷_ (5, Rows.mref (Array.Array (Referent.rtF (Referent.fInt Syntax.w32)) 32772) (Syntax.tyRef (Syntax.named 4) Syntax.mut (Syntax.tyArray (Syntax.tyInt Syntax.w32) 32772)) 4) (List._∷_ (6, Rows.mref (Array.Array (Referent.rtF (Referent.fInt Syntax.w32)) 32772) (Syntax.tyRef (Syntax.named 5) Syntax.mut (Syntax.tyArray (Syntax.tyInt Syntax.w32) 32772)) 5) (List._∷_ (7, Rows.mref (Array.Array (Referent.rtF (Referent.fInt Syntax.w32)) 262160) (Syntax.tyRef (Syntax.named 6) Syntax.mut (Syntax.tyArray (Syntax.tyInt Syntax.w32) 262160)) 6) (List._∷_ (8, Rows.mref (Array.Array (Referent.rtF (Referent.fInt Syntax.w8)) 600000) (Syntax.tyRef (Syntax.named 7) Syntax.mut (Syntax.tyArray (Syntax.tyInt Syntax.w8) 600000)) 7) (List._∷_ (9, Rows.mref (Array.Array Cell.R 65540) (Syntax.tyRef (Syntax.named 8) Syntax.mut (Syntax.tyArray Cell.behind 65540)) 8) (List._∷_ (10, Rows.mref (Array.Array Cell.R 32772) (Syntax.tyRef (Syntax.named 9) Syntax.mut (Syntax.tyArray Cell.behind 32772)) 9) (List._∷_ (11, Rows.whole (Declared.row Held.the-type)) (List._∷_ (12, Rows.sc-here (Row.sInt Syntax.w64)) (List._∷_ (13, Rows.sc-here (Row.sInt Syntax.w64)) (List._∷_ (14, Rows.any-gone (Syntax.tyStruct (List._∷_ 115 (List._∷_ 99 (List._∷_ 114 (List._∷_ 105 (List._∷_ 112 (List._∷_ 116 (List._∷_ 58 (List._∷_ 58 (List._∷_ 115 (List._∷_ 99 (List._∷_ 97 (List._∷_ 110 (List._∷_ 58 (List._∷_ 58 (List._∷_ 76 (List._∷_ 105 (List._∷_ 110 (List._∷_ 101 List.[])))))))))))))))))) (Syntax.tcons (Syntax.tyInt Syntax.w32) (Syntax.tcons (Syntax.tyInt Syntax.w64) (Syntax.tcons (Syntax.tyInt Syntax.w64) (Syntax.tcons (Syntax.tyInt Syntax.w64) (Syntax.tcons (Syntax.tyInt Syntax.w64) Syntax.tnil))))))) (List._∷_ (15, Rows.sc-here (Row.sInt Syntax.w64)) List.[])))))))))))))))
 
 abbrev pub t16 : List.List Row.Entry
 t16 = List._∷_ (16, Rows.any-gone Syntax.tyBool) (List._∷_ (17, Rows.any-gone (Syntax.tyInt Syntax.w64)) (List._∷_ (18, Rows.mref (Array.Array (Referent.rtF (Referent.fInt Syntax.w32)) 32772) (Syntax.tyRef Syntax.erased Syntax.mut (Syntax.tyArray (Syntax.tyInt Syntax.w32) 32772)) 10) (List._∷_ (19, Rows.any-gone (Syntax.tyRef Syntax.erased Syntax.imm (Syntax.tyArray (Syntax.tyInt Syntax.w32) 32772))) (List._∷_ (20, Rows.any-gone (Syntax.tyRef Syntax.erased Syntax.mut (Syntax.tyArray (Syntax.tyInt Syntax.w8) 16388))) (List._∷_ (21, Rows.any-gone (Syntax.tyRef Syntax.erased Syntax.mut (Syntax.tyArray (Syntax.tyInt Syntax.w32) 65540))) (List._∷_ (22, Rows.any-gone (Syntax.tyRef Syntax.erased Syntax.mut (Syntax.tyArray (Syntax.tyInt Syntax.w32) 32772))) (List._∷_ (23, Rows.any-gone (Syntax.tyRef Syntax.erased Syntax.mut (Syntax.tyArray (Syntax.tyInt Syntax.w32) 32772))) (List._∷_ (24, Rows.any-gone (Syntax.tyRef Syntax.erased Syntax.mut (Syntax.tyArray (Syntax.tyInt Syntax.w32) 262160))) (List._∷_ (25, Rows.any-gone (Syntax.tyRef Syntax.erased Syntax.mut (Syntax.tyArray (Syntax.tyInt Syntax.w8) 600000))) (List._∷_ (26, Rows.any-gone (Syntax.tyRef Syntax.erased Syntax.mut (Syntax.tyArray Cell.behind 65540))) (List._∷_ (27, Rows.any-gone (Syntax.tyRef Syntax.erased Syntax.mut (Syntax.tyArray Cell.behind 32772))) (List._∷_ (28, Rows.any-gone Syntax.tyUnit) (List._∷_ (29, Rows.any-gone (Syntax.tyInt Syntax.w64)) List.[])))))))))))))
@@ -482,7 +482,7 @@ abbrev pub t58 : List.List Row.Entry
 t58 = List._∷_ (16, Rows.any-gone Syntax.tyBool) (List._∷_ (17, Rows.any-gone (Syntax.tyInt Syntax.w64)) (List._∷_ (18, Rows.any-gone (Syntax.tyRef Syntax.erased Syntax.mut (Syntax.tyArray (Syntax.tyInt Syntax.w32) 32772))) (List._∷_ (19, Rows.any-gone (Syntax.tyRef Syntax.erased Syntax.imm (Syntax.tyArray (Syntax.tyInt Syntax.w32) 32772))) (List._∷_ (20, Rows.any-gone (Syntax.tyRef Syntax.erased Syntax.mut (Syntax.tyArray (Syntax.tyInt Syntax.w8) 16388))) (List._∷_ (21, Rows.any-gone (Syntax.tyRef Syntax.erased Syntax.mut (Syntax.tyArray (Syntax.tyInt Syntax.w32) 65540))) (List._∷_ (22, Rows.any-gone (Syntax.tyRef Syntax.erased Syntax.mut (Syntax.tyArray (Syntax.tyInt Syntax.w32) 32772))) (List._∷_ (23, Rows.any-gone (Syntax.tyRef Syntax.erased Syntax.mut (Syntax.tyArray (Syntax.tyInt Syntax.w32) 32772))) (List._∷_ (24, Rows.any-gone (Syntax.tyRef Syntax.erased Syntax.mut (Syntax.tyArray (Syntax.tyInt Syntax.w32) 262160))) (List._∷_ (25, Rows.any-gone (Syntax.tyRef Syntax.erased Syntax.mut (Syntax.tyArray (Syntax.tyInt Syntax.w8) 600000))) (List._∷_ (26, Rows.any-gone (Syntax.tyRef Syntax.erased Syntax.mut (Syntax.tyArray Cell.behind 65540))) (List._∷_ (27, Rows.any-gone (Syntax.tyRef Syntax.erased Syntax.mut (Syntax.tyArray Cell.behind 32772))) (List._∷_ (28, Rows.sc-here Row.sUnit) (List._∷_ (29, Rows.sc-here (Row.sInt Syntax.w64)) List.[])))))))))))))
 
 abbrev pub t59 : List.List Row.Entry
-t59 = List._∷_ (0, Rows.sc-here Row.sUnit) (List._∷_ (1, Rows.sslice (Referent.rtF (Referent.fInt Syntax.w8)) (Syntax.tyRef (Syntax.named 0) Syntax.imm (Syntax.tyInt Syntax.w8)) 0) (List._∷_ (2, Rows.mref (Array.Array (Referent.rtF (Referent.fInt Syntax.w32)) 32772) (Syntax.tyRef (Syntax.named 1) Syntax.mut (Syntax.tyArray (Syntax.tyInt Syntax.w32) 32772)) 1) (List._∷_ (3, Rows.mref (Array.Array (Referent.rtF (Referent.fInt Syntax.w8)) 16388) (Syntax.tyRef (Syntax.named 2) Syntax.mut (Syntax.tyArray (Syntax.tyInt Syntax.w8) 16388)) 2) (List._∷_ (4, Rows.mref (Array.Array (Referent.rtF (Referent.fInt Syntax.w32)) 65540) (Syntax.tyRef (Syntax.named 3) Syntax.mut (Syntax.tyArray (Syntax.tyInt Syntax.w32) 65540)) 3) (List._∷_ (5, Rows.mref (Array.Array (Referent.rtF (Referent.fInt Syntax.w32)) 32772) (Syntax.tyRef (Syntax.named 4) Syntax.mut (Syntax.tyArray (Syntax.tyInt Syntax.w32) 32772)) 4) (List._∷_ (6, Rows.mref (Array.Array (Referent.rtF (Referent.fInt Syntax.w32)) 32772) (Syntax.tyRef (Syntax.named 5) Syntax.mut (Syntax.tyArray (Syntax.tyInt Syntax.w32) 32772)) 5) (List._∷_ (7, Rows.mref (Array.Array (Referent.rtF (Referent.fInt Syntax.w32)) 262160) (Syntax.tyRef (Syntax.named 6) Syntax.mut (Syntax.tyArray (Syntax.tyInt Syntax.w32) 262160)) 6) (List._∷_ (8, Rows.mref (Array.Array (Referent.rtF (Referent.fInt Syntax.w8)) 600000) (Syntax.tyRef (Syntax.named 7) Syntax.mut (Syntax.tyArray (Syntax.tyInt Syntax.w8) 600000)) 7) (List._∷_ (9, Rows.mref (Array.Array Cell.R 65540) (Syntax.tyRef (Syntax.named 8) Syntax.mut (Syntax.tyArray Cell.behind 65540)) 8) (List._∷_ (10, Rows.mref (Array.Array Cell.R 32772) (Syntax.tyRef (Syntax.named 9) Syntax.mut (Syntax.tyArray Cell.behind 32772)) 9) (List._∷_ (11, Rows.any-gone (Syntax.tyStruct (List._∷_ 122 (List._∷_ 111 (List._∷_ 110 (List._∷_ 101 (List._∷_ 115 (List._∷_ 58 (List._∷_ 58 (List._∷_ 104 (List._∷_ 101 (List._∷_ 108 (List._∷_ 100 (List._∷_ 58 (List._∷_ 58 (List._∷_ 72 (List._∷_ 101 (List._∷_ 108 (List._∷_ 100 List.[]))))))))))))))))) (Syntax.tcons (Syntax.tyStruct (List._∷_ 112 (List._∷_ 121 (List._∷_ 114 (List._∷_ 97 (List._∷_ 109 (List._∷_ 105 (List._∷_ 100 (List._∷_ 58 (List._∷_ 58 (List._∷_ 83 (List._∷_ 116 (List._∷_ 97 (List._∷_ 116 (List._∷_ 101 List.[])))))))))))))) (Syntax.tcons (Syntax.tyInt Syntax.w32) (Syntax.tcons (Syntax.tyInt Syntax.w32) (Syntax.tcons (Syntax.tyInt Syntax.w32) (Syntax.tcons (Syntax.tyInt Syntax.w32) (Syntax.tcons (Syntax.tyInt Syntax.w32) (Syntax.tcons (Syntax.tyArray (Syntax.tyInt Syntax.w32) 64) Syntax.tnil))))))) (Syntax.tcons (Syntax.tyInt Syntax.w64) (Syntax.tcons (Syntax.tyInt Syntax.w64) (Syntax.tcons (Syntax.tyInt Syntax.w64) (Syntax.tcons (Syntax.tyInt Syntax.w64) (Syntax.tcons (Syntax.tyInt Syntax.w64) (Syntax.tcons (Syntax.tyInt Syntax.w64) (Syntax.tcons Syntax.tyBool Syntax.tnil)))))))))) (List._∷_ (12, Rows.sc-here (Row.sInt Syntax.w64)) (List._∷_ (13, Rows.any-gone (Syntax.tyInt Syntax.w64)) (List._∷_ (14, Rows.any-gone (Syntax.tyStruct (List._∷_ 122 (List._∷_ 111 (List._∷_ 110 (List._∷_ 101 (List._∷_ 115 (List._∷_ 58 (List._∷_ 58 (List._∷_ 115 (List._∷_ 99 (List._∷_ 97 (List._∷_ 110 (List._∷_ 58 (List._∷_ 58 (List._∷_ 76 (List._∷_ 105 (List._∷_ 110 (List._∷_ 101 List.[]))))))))))))))))) (Syntax.tcons (Syntax.tyInt Syntax.w32) (Syntax.tcons (Syntax.tyInt Syntax.w64) (Syntax.tcons (Syntax.tyInt Syntax.w64) (Syntax.tcons (Syntax.tyInt Syntax.w64) (Syntax.tcons (Syntax.tyInt Syntax.w64) Syntax.tnil))))))) (List._∷_ (15, Rows.any-gone (Syntax.tyInt Syntax.w64)) List.[])))))))))))))))
+t59 = List._∷_ (0, Rows.sc-here Row.sUnit) (List._∷_ (1, Rows.sslice (Referent.rtF (Referent.fInt Syntax.w8)) (Syntax.tyRef (Syntax.named 0) Syntax.imm (Syntax.tyInt Syntax.w8)) 0) (List._∷_ (2, Rows.mref (Array.Array (Referent.rtF (Referent.fInt Syntax.w32)) 32772) (Syntax.tyRef (Syntax.named 1) Syntax.mut (Syntax.tyArray (Syntax.tyInt Syntax.w32) 32772)) 1) (List._∷_ (3, Rows.mref (Array.Array (Referent.rtF (Referent.fInt Syntax.w8)) 16388) (Syntax.tyRef (Syntax.named 2) Syntax.mut (Syntax.tyArray (Syntax.tyInt Syntax.w8) 16388)) 2) (List._∷_ (4, Rows.mref (Array.Array (Referent.rtF (Referent.fInt Syntax.w32)) 65540) (Syntax.tyRef (Syntax.named 3) Syntax.mut (Syntax.tyArray (Syntax.tyInt Syntax.w32) 65540)) 3) (List._∷_ (5, Rows.mref (Array.Array (Referent.rtF (Referent.fInt Syntax.w32)) 32772) (Syntax.tyRef (Syntax.named 4) Syntax.mut (Syntax.tyArray (Syntax.tyInt Syntax.w32) 32772)) 4) (List._∷_ (6, Rows.mref (Array.Array (Referent.rtF (Referent.fInt Syntax.w32)) 32772) (Syntax.tyRef (Syntax.named 5) Syntax.mut (Syntax.tyArray (Syntax.tyInt Syntax.w32) 32772)) 5) (List._∷_ (7, Rows.mref (Array.Array (Referent.rtF (Referent.fInt Syntax.w32)) 262160) (Syntax.tyRef (Syntax.named 6) Syntax.mut (Syntax.tyArray (Syntax.tyInt Syntax.w32) 262160)) 6) (List._∷_ (8, Rows.mref (Array.Array (Referent.rtF (Referent.fInt Syntax.w8)) 600000) (Syntax.tyRef (Syntax.named 7) Syntax.mut (Syntax.tyArray (Syntax.tyInt Syntax.w8) 600000)) 7) (List._∷_ (9, Rows.mref (Array.Array Cell.R 65540) (Syntax.tyRef (Syntax.named 8) Syntax.mut (Syntax.tyArray Cell.behind 65540)) 8) (List._∷_ (10, Rows.mref (Array.Array Cell.R 32772) (Syntax.tyRef (Syntax.named 9) Syntax.mut (Syntax.tyArray Cell.behind 32772)) 9) (List._∷_ (11, Rows.any-gone (Syntax.tyStruct (List._∷_ 122 (List._∷_ 111 (List._∷_ 110 (List._∷_ 101 (List._∷_ 115 (List._∷_ 58 (List._∷_ 58 (List._∷_ 104 (List._∷_ 101 (List._∷_ 108 (List._∷_ 100 (List._∷_ 58 (List._∷_ 58 (List._∷_ 72 (List._∷_ 101 (List._∷_ 108 (List._∷_ 100 List.[]))))))))))))))))) (Syntax.tcons (Syntax.tyStruct (List._∷_ 112 (List._∷_ 121 (List._∷_ 114 (List._∷_ 97 (List._∷_ 109 (List._∷_ 105 (List._∷_ 100 (List._∷_ 58 (List._∷_ 58 (List._∷_ 83 (List._∷_ 116 (List._∷_ 97 (List._∷_ 116 (List._∷_ 101 List.[])))))))))))))) (Syntax.tcons (Syntax.tyInt Syntax.w32) (Syntax.tcons (Syntax.tyInt Syntax.w32) (Syntax.tcons (Syntax.tyInt Syntax.w32) (Syntax.tcons (Syntax.tyInt Syntax.w32) (Syntax.tcons (Syntax.tyInt Syntax.w32) (Syntax.tcons (Syntax.tyArray (Syntax.tyInt Syntax.w32) 64) Syntax.tnil))))))) (Syntax.tcons (Syntax.tyInt Syntax.w64) (Syntax.tcons (Syntax.tyInt Syntax.w64) (Syntax.tcons (Syntax.tyInt Syntax.w64) (Syntax.tcons (Syntax.tyInt Syntax.w64) (Syntax.tcons (Syntax.tyInt Syntax.w64) (Syntax.tcons (Syntax.tyInt Syntax.w64) (Syntax.tcons Syntax.tyBool Syntax.tnil)))))))))) (List._∷_ (12, Rows.sc-here (Row.sInt Syntax.w64)) (List._∷_ (13, Rows.any-gone (Syntax.tyInt Syntax.w64)) (List._∷_ (14, Rows.any-gone (Syntax.tyStruct (List._∷_ 115 (List._∷_ 99 (List._∷_ 114 (List._∷_ 105 (List._∷_ 112 (List._∷_ 116 (List._∷_ 58 (List._∷_ 58 (List._∷_ 115 (List._∷_ 99 (List._∷_ 97 (List._∷_ 110 (List._∷_ 58 (List._∷_ 58 (List._∷_ 76 (List._∷_ 105 (List._∷_ 110 (List._∷_ 101 List.[])))))))))))))))))) (Syntax.tcons (Syntax.tyInt Syntax.w32) (Syntax.tcons (Syntax.tyInt Syntax.w64) (Syntax.tcons (Syntax.tyInt Syntax.w64) (Syntax.tcons (Syntax.tyInt Syntax.w64) (Syntax.tcons (Syntax.tyInt Syntax.w64) Syntax.tnil))))))) (List._∷_ (15, Rows.any-gone (Syntax.tyInt Syntax.w64)) List.[])))))))))))))))
 
 abbrev pub T0 : Row.Cx
 T0 = record { locals = List._++_ t0 t1; slots = List.[] }
@@ -786,7 +786,7 @@ module _ (claims· : Claims) where
   s22 = Reborrow.k-mref-relend T17 2 18 1 10 (Array.Array (Referent.rtF (Referent.fInt Syntax.w32)) 32772) (Syntax.tyRef (Syntax.named 1) Syntax.mut (Syntax.tyArray (Syntax.tyInt Syntax.w32) 32772)) (Syntax.tyRef Syntax.erased Syntax.mut (Syntax.tyArray (Syntax.tyInt Syntax.w32) 32772)) Row.off List.[] λ x. x
 
   abbrev s23 : Typed.Both T27 T28
-  s23 = Call.callB ps·1 r·1 (claims· .2) (claims· .3) T27 (record { pos = 1; ty = Syntax.tyRef (Syntax.named 0) Syntax.imm (Syntax.tyInt Syntax.w8); ref = λ x. x }, (Num.vAt 12 λ x. x, (record { pos = 18; ty = Syntax.tyRef Syntax.erased Syntax.mut (Syntax.tyArray (Syntax.tyInt Syntax.w32) 32772); ref = λ x. x }, tt))) 14 (List._∷_ 0 (List._∷_ 10 List.[])) (Syntax.tyStruct (List._∷_ 122 (List._∷_ 111 (List._∷_ 110 (List._∷_ 101 (List._∷_ 115 (List._∷_ 58 (List._∷_ 58 (List._∷_ 115 (List._∷_ 99 (List._∷_ 97 (List._∷_ 110 (List._∷_ 58 (List._∷_ 58 (List._∷_ 76 (List._∷_ 105 (List._∷_ 110 (List._∷_ 101 List.[]))))))))))))))))) (Syntax.tcons (Syntax.tyInt Syntax.w32) (Syntax.tcons (Syntax.tyInt Syntax.w64) (Syntax.tcons (Syntax.tyInt Syntax.w64) (Syntax.tcons (Syntax.tyInt Syntax.w64) (Syntax.tcons (Syntax.tyInt Syntax.w64) Syntax.tnil))))))
+  s23 = Call.callB ps·1 r·1 (claims· .2) (claims· .3) T27 (record { pos = 1; ty = Syntax.tyRef (Syntax.named 0) Syntax.imm (Syntax.tyInt Syntax.w8); ref = λ x. x }, (Num.vAt 12 λ x. x, (record { pos = 18; ty = Syntax.tyRef Syntax.erased Syntax.mut (Syntax.tyArray (Syntax.tyInt Syntax.w32) 32772); ref = λ x. x }, tt))) 14 (List._∷_ 0 (List._∷_ 10 List.[])) (Syntax.tyStruct (List._∷_ 115 (List._∷_ 99 (List._∷_ 114 (List._∷_ 105 (List._∷_ 112 (List._∷_ 116 (List._∷_ 58 (List._∷_ 58 (List._∷_ 115 (List._∷_ 99 (List._∷_ 97 (List._∷_ 110 (List._∷_ 58 (List._∷_ 58 (List._∷_ 76 (List._∷_ 105 (List._∷_ 110 (List._∷_ 101 List.[])))))))))))))))))) (Syntax.tcons (Syntax.tyInt Syntax.w32) (Syntax.tcons (Syntax.tyInt Syntax.w64) (Syntax.tcons (Syntax.tyInt Syntax.w64) (Syntax.tcons (Syntax.tyInt Syntax.w64) (Syntax.tcons (Syntax.tyInt Syntax.w64) Syntax.tnil))))))
 
   abbrev s25 : Typed.Asks T28 T30
   s25 = Reborrow.k-back-mref T28 18 2 1 (Array.Array (Referent.rtF (Referent.fInt Syntax.w32)) 32772) (Syntax.tyRef (Syntax.named 1) Syntax.mut (Syntax.tyArray (Syntax.tyInt Syntax.w32) 32772)) (Syntax.tyRef Syntax.erased Syntax.mut (Syntax.tyArray (Syntax.tyInt Syntax.w32) 32772)) List.[] (λ x. x) λ x. x
@@ -852,13 +852,13 @@ module _ (claims· : Claims) where
   s72 = Reborrow.k-back-mref T74 27 10 9 (Array.Array Cell.R 32772) (Syntax.tyRef (Syntax.named 9) Syntax.mut (Syntax.tyArray Cell.behind 32772)) (Syntax.tyRef Syntax.erased Syntax.mut (Syntax.tyArray Cell.behind 32772)) List.[] (λ x. x) λ x. x
 
   abbrev s74 : Typed.Mo T77 → Typed.Mo T79
-  s74 = Scalar.n-use T77 (Scalar.oFld 11 (List._∷_ (Syntax.field 7) List.[]) Syntax.tyBool 328 (Reads.fieldV Held.the-type Laws.the-laws 7)) 16 (Rows.sc-here Row.sBool) (Row.sBool .of)
+  s74 = Scalar.n-use T77 (Scalar.oFld 11 (List._∷_ (Syntax.field 7) List.[]) Syntax.tyBool 328 (Reads.fieldV Held.the-type Laws'.the-laws 7)) 16 (Rows.sc-here Row.sBool) (Row.sBool .of)
 
   abbrev s75 : Typed.Mo T79 → Typed.Mo T81
   s75 = Scalar.n-room T79 11 (Syntax.tyStruct (List._∷_ 122 (List._∷_ 111 (List._∷_ 110 (List._∷_ 101 (List._∷_ 115 (List._∷_ 58 (List._∷_ 58 (List._∷_ 104 (List._∷_ 101 (List._∷_ 108 (List._∷_ 100 (List._∷_ 58 (List._∷_ 58 (List._∷_ 72 (List._∷_ 101 (List._∷_ 108 (List._∷_ 100 List.[]))))))))))))))))) (Syntax.tcons (Syntax.tyStruct (List._∷_ 112 (List._∷_ 121 (List._∷_ 114 (List._∷_ 97 (List._∷_ 109 (List._∷_ 105 (List._∷_ 100 (List._∷_ 58 (List._∷_ 58 (List._∷_ 83 (List._∷_ 116 (List._∷_ 97 (List._∷_ 116 (List._∷_ 101 List.[])))))))))))))) (Syntax.tcons (Syntax.tyInt Syntax.w32) (Syntax.tcons (Syntax.tyInt Syntax.w32) (Syntax.tcons (Syntax.tyInt Syntax.w32) (Syntax.tcons (Syntax.tyInt Syntax.w32) (Syntax.tcons (Syntax.tyInt Syntax.w32) (Syntax.tcons (Syntax.tyArray (Syntax.tyInt Syntax.w32) 64) Syntax.tnil))))))) (Syntax.tcons (Syntax.tyInt Syntax.w64) (Syntax.tcons (Syntax.tyInt Syntax.w64) (Syntax.tcons (Syntax.tyInt Syntax.w64) (Syntax.tcons (Syntax.tyInt Syntax.w64) (Syntax.tcons (Syntax.tyInt Syntax.w64) (Syntax.tcons (Syntax.tyInt Syntax.w64) (Syntax.tcons Syntax.tyBool Syntax.tnil)))))))))
 
   abbrev s76 : Typed.Mo T81 → Typed.Mo T82
-  s76 = Scalar.n-room T81 14 (Syntax.tyStruct (List._∷_ 122 (List._∷_ 111 (List._∷_ 110 (List._∷_ 101 (List._∷_ 115 (List._∷_ 58 (List._∷_ 58 (List._∷_ 115 (List._∷_ 99 (List._∷_ 97 (List._∷_ 110 (List._∷_ 58 (List._∷_ 58 (List._∷_ 76 (List._∷_ 105 (List._∷_ 110 (List._∷_ 101 List.[]))))))))))))))))) (Syntax.tcons (Syntax.tyInt Syntax.w32) (Syntax.tcons (Syntax.tyInt Syntax.w64) (Syntax.tcons (Syntax.tyInt Syntax.w64) (Syntax.tcons (Syntax.tyInt Syntax.w64) (Syntax.tcons (Syntax.tyInt Syntax.w64) Syntax.tnil))))))
+  s76 = Scalar.n-room T81 14 (Syntax.tyStruct (List._∷_ 115 (List._∷_ 99 (List._∷_ 114 (List._∷_ 105 (List._∷_ 112 (List._∷_ 116 (List._∷_ 58 (List._∷_ 58 (List._∷_ 115 (List._∷_ 99 (List._∷_ 97 (List._∷_ 110 (List._∷_ 58 (List._∷_ 58 (List._∷_ 76 (List._∷_ 105 (List._∷_ 110 (List._∷_ 101 List.[])))))))))))))))))) (Syntax.tcons (Syntax.tyInt Syntax.w32) (Syntax.tcons (Syntax.tyInt Syntax.w64) (Syntax.tcons (Syntax.tyInt Syntax.w64) (Syntax.tcons (Syntax.tyInt Syntax.w64) (Syntax.tcons (Syntax.tyInt Syntax.w64) Syntax.tnil))))))
 
   abbrev s77 : Typed.Mo T82 → Typed.Mo T83
   s77 = Scalar.n-room T82 15 (Syntax.tyInt Syntax.w64)
@@ -894,10 +894,10 @@ module _ (claims· : Claims) where
   s87 = Scalar.n-room T92 16 Syntax.tyBool
 
   abbrev s88 : Typed.Mo T80 → Typed.Mo T94
-  s88 = Scalar.n-use T80 (Scalar.oFld 14 (List._∷_ (Syntax.field 4) List.[]) (Syntax.tyInt Syntax.w64) 32 (Reads.fieldV Line.the-type Laws'.the-laws 4)) 12 (Rows.sc-here (Row.sInt Syntax.w64)) (Row.sInt Syntax.w64 .of)
+  s88 = Scalar.n-use T80 (Scalar.oFld 14 (List._∷_ (Syntax.field 4) List.[]) (Syntax.tyInt Syntax.w64) 32 (Reads.fieldV Line.the-type Laws.the-laws 4)) 12 (Rows.sc-here (Row.sInt Syntax.w64)) (Row.sInt Syntax.w64 .of)
 
   abbrev s89 : Typed.Mo T94 → Typed.Mo T95
-  s89 = Scalar.n-room T94 14 (Syntax.tyStruct (List._∷_ 122 (List._∷_ 111 (List._∷_ 110 (List._∷_ 101 (List._∷_ 115 (List._∷_ 58 (List._∷_ 58 (List._∷_ 115 (List._∷_ 99 (List._∷_ 97 (List._∷_ 110 (List._∷_ 58 (List._∷_ 58 (List._∷_ 76 (List._∷_ 105 (List._∷_ 110 (List._∷_ 101 List.[]))))))))))))))))) (Syntax.tcons (Syntax.tyInt Syntax.w32) (Syntax.tcons (Syntax.tyInt Syntax.w64) (Syntax.tcons (Syntax.tyInt Syntax.w64) (Syntax.tcons (Syntax.tyInt Syntax.w64) (Syntax.tcons (Syntax.tyInt Syntax.w64) Syntax.tnil))))))
+  s89 = Scalar.n-room T94 14 (Syntax.tyStruct (List._∷_ 115 (List._∷_ 99 (List._∷_ 114 (List._∷_ 105 (List._∷_ 112 (List._∷_ 116 (List._∷_ 58 (List._∷_ 58 (List._∷_ 115 (List._∷_ 99 (List._∷_ 97 (List._∷_ 110 (List._∷_ 58 (List._∷_ 58 (List._∷_ 76 (List._∷_ 105 (List._∷_ 110 (List._∷_ 101 List.[])))))))))))))))))) (Syntax.tcons (Syntax.tyInt Syntax.w32) (Syntax.tcons (Syntax.tyInt Syntax.w64) (Syntax.tcons (Syntax.tyInt Syntax.w64) (Syntax.tcons (Syntax.tyInt Syntax.w64) (Syntax.tcons (Syntax.tyInt Syntax.w64) Syntax.tnil))))))
 
   abbrev s90 : Typed.Asks T95 T96
   s90 = Scalar.k-op2 T95 (Syntax.add Syntax.unsigned) (Scalar.oAt 13 (Syntax.tyInt Syntax.w64) (Row.valS (Row.sInt Syntax.w64))) (Scalar.oInt Syntax.w64 1) 13 (Rows.sc-here (Row.sInt Syntax.w64)) (Row.sInt Syntax.w64 .of)
@@ -914,7 +914,7 @@ module _ (claims· : Claims) where
   module _ (Pre· : (κs : Lifetimes.Lfts 10) → Kinds.Dens κs ps → Type 0) (Post· : (κs : Lifetimes.Lfts 10) → (a : Kinds.Dens κs ps) → Kinds.Plain 10 ps r κs) where
     module _ (M : Type 1) where
       abbrev pub Closed : Type 2
-      Closed = (𝓤 : URA.URA M) (H : Wp.Heap 𝓤) (A : Atoms.Atoms 𝓤) (W : Kit.Given 𝓤 H A) (𝓣 : Wp.Tables 𝓤 H) (known0 : Plain.Known 𝓤 H A W 𝓣 0 ps·0 r·0 (claims· .0) (claims· .1) "zones::held::nothing") (known1 : Plain.Known 𝓤 H A W 𝓣 2 ps·1 r·1 (claims· .2) (claims· .3) "zones::scan::next_line") (known2 : Plain.Known 𝓤 H A W 𝓣 10 ps·2 r·2 (claims· .4) (claims· .5) "zones::lines::obey") (known3 : Plain.Known 𝓤 H A W 𝓣 0 ps·3 r·3 (claims· .6) (claims· .7) "zones::prints::error") → Statement.Triple 𝓤 (Wp.WpFn 𝓤 H (𝓣 .C) (𝓣 .Λ) (Function.fnOf 10 ps r xs m hs body)) (Function.plainOf 𝓤 H A 10 ps r Pre· Post·)
+      Closed = (𝓤 : URA.URA M) (H : Wp.Heap 𝓤) (A : Atoms.Atoms 𝓤) (W : Kit.Given 𝓤 H A) (𝓣 : Wp.Tables 𝓤 H) (known0 : Plain.Known 𝓤 H A W 𝓣 0 ps·0 r·0 (claims· .0) (claims· .1) "zones::held::nothing") (known1 : Plain.Known 𝓤 H A W 𝓣 2 ps·1 r·1 (claims· .2) (claims· .3) "script::scan::next_line") (known2 : Plain.Known 𝓤 H A W 𝓣 10 ps·2 r·2 (claims· .4) (claims· .5) "zones::lines::obey") (known3 : Plain.Known 𝓤 H A W 𝓣 0 ps·3 r·3 (claims· .6) (claims· .7) "script::prints::error") → Statement.Triple 𝓤 (Wp.WpFn 𝓤 H (𝓣 .C) (𝓣 .Λ) (Function.fnOf 10 ps r xs m hs body)) (Function.plainOf 𝓤 H A 10 ps r Pre· Post·)
 
     module _ (Inv·0 : InvT-loop) (μ·0 : MeasureT-loop) where
       abbrev at0 : Typed.TF T10 O4
@@ -1249,11 +1249,11 @@ module _ (claims· : Claims) where
 
       module _ {M : Type 1} (𝓤 : URA.URA M) (H : Wp.Heap 𝓤) (A : Atoms.Atoms 𝓤) (W : Kit.Given 𝓤 H A) (𝓣 : Wp.Tables 𝓤 H) where
         abbrev Knowns : Type 1
-        Knowns = Plain.Known 𝓤 H A W 𝓣 0 ps·0 r·0 (claims· .0) (claims· .1) "zones::held::nothing" × Plain.Known 𝓤 H A W 𝓣 2 ps·1 r·1 (claims· .2) (claims· .3) "zones::scan::next_line" × Plain.Known 𝓤 H A W 𝓣 10 ps·2 r·2 (claims· .4) (claims· .5) "zones::lines::obey" × Plain.Known 𝓤 H A W 𝓣 0 ps·3 r·3 (claims· .6) (claims· .7) "zones::prints::error"
+        Knowns = Plain.Known 𝓤 H A W 𝓣 0 ps·0 r·0 (claims· .0) (claims· .1) "zones::held::nothing" × Plain.Known 𝓤 H A W 𝓣 2 ps·1 r·1 (claims· .2) (claims· .3) "script::scan::next_line" × Plain.Known 𝓤 H A W 𝓣 10 ps·2 r·2 (claims· .4) (claims· .5) "zones::lines::obey" × Plain.Known 𝓤 H A W 𝓣 0 ps·3 r·3 (claims· .6) (claims· .7) "script::prints::error"
 
       module _ (κs : Lifetimes.Lfts 10) (qs : Lifetimes.Shares 10) where
         abbrev g15 : List.List Row.Entry
-        g15 = List._∷_ (0, Rows.any-gone Syntax.tyUnit) (List._∷_ (1, Rows.sslice (Referent.rtF (Referent.fInt Syntax.w8)) (Syntax.tyRef (Syntax.named 0) Syntax.imm (Syntax.tyInt Syntax.w8)) 0) (List._∷_ (2, Rows.mref-owed (Array.Array (Referent.rtF (Referent.fInt Syntax.w32)) 32772) (Syntax.tyRef (Syntax.named 1) Syntax.mut (Syntax.tyArray (Syntax.tyInt Syntax.w32) 32772)) 1 10 (Row.lease (κs .1 .0) (qs .1 .0))) (List._∷_ (3, Rows.mref (Array.Array (Referent.rtF (Referent.fInt Syntax.w8)) 16388) (Syntax.tyRef (Syntax.named 2) Syntax.mut (Syntax.tyArray (Syntax.tyInt Syntax.w8) 16388)) 2) (List._∷_ (4, Rows.mref (Array.Array (Referent.rtF (Referent.fInt Syntax.w32)) 65540) (Syntax.tyRef (Syntax.named 3) Syntax.mut (Syntax.tyArray (Syntax.tyInt Syntax.w32) 65540)) 3) (List._∷_ (5, Rows.mref (Array.Array (Referent.rtF (Referent.fInt Syntax.w32)) 32772) (Syntax.tyRef (Syntax.named 4) Syntax.mut (Syntax.tyArray (Syntax.tyInt Syntax.w32) 32772)) 4) (List._∷_ (6, Rows.mref (Array.Array (Referent.rtF (Referent.fInt Syntax.w32)) 32772) (Syntax.tyRef (Syntax.named 5) Syntax.mut (Syntax.tyArray (Syntax.tyInt Syntax.w32) 32772)) 5) (List._∷_ (7, Rows.mref (Array.Array (Referent.rtF (Referent.fInt Syntax.w32)) 262160) (Syntax.tyRef (Syntax.named 6) Syntax.mut (Syntax.tyArray (Syntax.tyInt Syntax.w32) 262160)) 6) (List._∷_ (8, Rows.mref (Array.Array (Referent.rtF (Referent.fInt Syntax.w8)) 600000) (Syntax.tyRef (Syntax.named 7) Syntax.mut (Syntax.tyArray (Syntax.tyInt Syntax.w8) 600000)) 7) (List._∷_ (9, Rows.mref (Array.Array Cell.R 65540) (Syntax.tyRef (Syntax.named 8) Syntax.mut (Syntax.tyArray Cell.behind 65540)) 8) (List._∷_ (10, Rows.mref (Array.Array Cell.R 32772) (Syntax.tyRef (Syntax.named 9) Syntax.mut (Syntax.tyArray Cell.behind 32772)) 9) (List._∷_ (11, Rows.whole (Declared.row Held.the-type)) (List._∷_ (12, Rows.sc-here (Row.sInt Syntax.w64)) (List._∷_ (13, Rows.sc-here (Row.sInt Syntax.w64)) (List._∷_ (14, Rows.any-gone (Syntax.tyStruct (List._∷_ 122 (List._∷_ 111 (List._∷_ 110 (List._∷_ 101 (List._∷_ 115 (List._∷_ 58 (List._∷_ 58 (List._∷_ 115 (List._∷_ 99 (List._∷_ 97 (List._∷_ 110 (List._∷_ 58 (List._∷_ 58 (List._∷_ 76 (List._∷_ 105 (List._∷_ 110 (List._∷_ 101 List.[]))))))))))))))))) (Syntax.tcons (Syntax.tyInt Syntax.w32) (Syntax.tcons (Syntax.tyInt Syntax.w64) (Syntax.tcons (Syntax.tyInt Syntax.w64) (Syntax.tcons (Syntax.tyInt Syntax.w64) (Syntax.tcons (Syntax.tyInt Syntax.w64) Syntax.tnil))))))) (List._∷_ (15, Rows.sc-here (Row.sInt Syntax.w64)) List.[])))))))))))))))
+        g15 = List._∷_ (0, Rows.any-gone Syntax.tyUnit) (List._∷_ (1, Rows.sslice (Referent.rtF (Referent.fInt Syntax.w8)) (Syntax.tyRef (Syntax.named 0) Syntax.imm (Syntax.tyInt Syntax.w8)) 0) (List._∷_ (2, Rows.mref-owed (Array.Array (Referent.rtF (Referent.fInt Syntax.w32)) 32772) (Syntax.tyRef (Syntax.named 1) Syntax.mut (Syntax.tyArray (Syntax.tyInt Syntax.w32) 32772)) 1 10 (Row.lease (κs .1 .0) (qs .1 .0))) (List._∷_ (3, Rows.mref (Array.Array (Referent.rtF (Referent.fInt Syntax.w8)) 16388) (Syntax.tyRef (Syntax.named 2) Syntax.mut (Syntax.tyArray (Syntax.tyInt Syntax.w8) 16388)) 2) (List._∷_ (4, Rows.mref (Array.Array (Referent.rtF (Referent.fInt Syntax.w32)) 65540) (Syntax.tyRef (Syntax.named 3) Syntax.mut (Syntax.tyArray (Syntax.tyInt Syntax.w32) 65540)) 3) (List._∷_ (5, Rows.mref (Array.Array (Referent.rtF (Referent.fInt Syntax.w32)) 32772) (Syntax.tyRef (Syntax.named 4) Syntax.mut (Syntax.tyArray (Syntax.tyInt Syntax.w32) 32772)) 4) (List._∷_ (6, Rows.mref (Array.Array (Referent.rtF (Referent.fInt Syntax.w32)) 32772) (Syntax.tyRef (Syntax.named 5) Syntax.mut (Syntax.tyArray (Syntax.tyInt Syntax.w32) 32772)) 5) (List._∷_ (7, Rows.mref (Array.Array (Referent.rtF (Referent.fInt Syntax.w32)) 262160) (Syntax.tyRef (Syntax.named 6) Syntax.mut (Syntax.tyArray (Syntax.tyInt Syntax.w32) 262160)) 6) (List._∷_ (8, Rows.mref (Array.Array (Referent.rtF (Referent.fInt Syntax.w8)) 600000) (Syntax.tyRef (Syntax.named 7) Syntax.mut (Syntax.tyArray (Syntax.tyInt Syntax.w8) 600000)) 7) (List._∷_ (9, Rows.mref (Array.Array Cell.R 65540) (Syntax.tyRef (Syntax.named 8) Syntax.mut (Syntax.tyArray Cell.behind 65540)) 8) (List._∷_ (10, Rows.mref (Array.Array Cell.R 32772) (Syntax.tyRef (Syntax.named 9) Syntax.mut (Syntax.tyArray Cell.behind 32772)) 9) (List._∷_ (11, Rows.whole (Declared.row Held.the-type)) (List._∷_ (12, Rows.sc-here (Row.sInt Syntax.w64)) (List._∷_ (13, Rows.sc-here (Row.sInt Syntax.w64)) (List._∷_ (14, Rows.any-gone (Syntax.tyStruct (List._∷_ 115 (List._∷_ 99 (List._∷_ 114 (List._∷_ 105 (List._∷_ 112 (List._∷_ 116 (List._∷_ 58 (List._∷_ 58 (List._∷_ 115 (List._∷_ 99 (List._∷_ 97 (List._∷_ 110 (List._∷_ 58 (List._∷_ 58 (List._∷_ 76 (List._∷_ 105 (List._∷_ 110 (List._∷_ 101 List.[])))))))))))))))))) (Syntax.tcons (Syntax.tyInt Syntax.w32) (Syntax.tcons (Syntax.tyInt Syntax.w64) (Syntax.tcons (Syntax.tyInt Syntax.w64) (Syntax.tcons (Syntax.tyInt Syntax.w64) (Syntax.tcons (Syntax.tyInt Syntax.w64) Syntax.tnil))))))) (List._∷_ (15, Rows.sc-here (Row.sInt Syntax.w64)) List.[])))))))))))))))
 
         abbrev g17 : List.List Row.Entry
         g17 = List._∷_ (0, Rows.any-gone Syntax.tyUnit) (List._∷_ (1, Rows.sslice (Referent.rtF (Referent.fInt Syntax.w8)) (Syntax.tyRef (Syntax.named 0) Syntax.imm (Syntax.tyInt Syntax.w8)) 0) (List._∷_ (2, Rows.mref-owed (Array.Array (Referent.rtF (Referent.fInt Syntax.w32)) 32772) (Syntax.tyRef (Syntax.named 1) Syntax.mut (Syntax.tyArray (Syntax.tyInt Syntax.w32) 32772)) 1 10 (Row.lease (κs .1 .0) (qs .1 .0))) (List._∷_ (3, Rows.mref (Array.Array (Referent.rtF (Referent.fInt Syntax.w8)) 16388) (Syntax.tyRef (Syntax.named 2) Syntax.mut (Syntax.tyArray (Syntax.tyInt Syntax.w8) 16388)) 2) (List._∷_ (4, Rows.mref (Array.Array (Referent.rtF (Referent.fInt Syntax.w32)) 65540) (Syntax.tyRef (Syntax.named 3) Syntax.mut (Syntax.tyArray (Syntax.tyInt Syntax.w32) 65540)) 3) (List._∷_ (5, Rows.mref (Array.Array (Referent.rtF (Referent.fInt Syntax.w32)) 32772) (Syntax.tyRef (Syntax.named 4) Syntax.mut (Syntax.tyArray (Syntax.tyInt Syntax.w32) 32772)) 4) (List._∷_ (6, Rows.mref (Array.Array (Referent.rtF (Referent.fInt Syntax.w32)) 32772) (Syntax.tyRef (Syntax.named 5) Syntax.mut (Syntax.tyArray (Syntax.tyInt Syntax.w32) 32772)) 5) (List._∷_ (7, Rows.mref (Array.Array (Referent.rtF (Referent.fInt Syntax.w32)) 262160) (Syntax.tyRef (Syntax.named 6) Syntax.mut (Syntax.tyArray (Syntax.tyInt Syntax.w32) 262160)) 6) (List._∷_ (8, Rows.mref (Array.Array (Referent.rtF (Referent.fInt Syntax.w8)) 600000) (Syntax.tyRef (Syntax.named 7) Syntax.mut (Syntax.tyArray (Syntax.tyInt Syntax.w8) 600000)) 7) (List._∷_ (9, Rows.mref (Array.Array Cell.R 65540) (Syntax.tyRef (Syntax.named 8) Syntax.mut (Syntax.tyArray Cell.behind 65540)) 8) (List._∷_ (10, Rows.mref (Array.Array Cell.R 32772) (Syntax.tyRef (Syntax.named 9) Syntax.mut (Syntax.tyArray Cell.behind 32772)) 9) (List._∷_ (11, Rows.whole (Declared.row Held.the-type)) (List._∷_ (12, Rows.sc-here (Row.sInt Syntax.w64)) (List._∷_ (13, Rows.sc-here (Row.sInt Syntax.w64)) (List._∷_ (14, Rows.whole (Declared.row Line.the-type)) (List._∷_ (15, Rows.sc-here (Row.sInt Syntax.w64)) List.[])))))))))))))))
@@ -1707,7 +1707,7 @@ module _ (claims· : Claims) where
           d24 = Typed.g-pre 𝓤 H A W 𝓣 E G86 G87 b32 Δ6 (Typed.pass T86 T87 s81) at23 (Scalar.g-room 𝓤 H A W E G86 28 Syntax.tyUnit (Scalar.room-sc 𝓤 H A W Row.sUnit)) d23
 
           d25 : Typed.Typed 𝓤 H A 𝓣 E G85 b33 Δ6 at25
-          d25 = Typed.s-seq 𝓤 H A W 𝓣 E G85 G86 b29 b32 Δ6 (Typed.both s80) at24 (Plain.t-call-plain 𝓤 H A W 𝓣 0 ps·3 r·3 (claims· .6) (claims· .7) "zones::prints::error" (known .3) E (λ pos β. β) G85 (Num.vAt 29 λ x. x, tt) 28 List.[] (Call.sub-id 𝓤 H A W (G85 .slots)) ((Scalar.reads-sc 𝓤 H A W (Row.sInt Syntax.w64), Path'.refl), tt) (Reads'.room-gone 𝓤 H A Syntax.tyUnit) tt Path'.refl) d24
+          d25 = Typed.s-seq 𝓤 H A W 𝓣 E G85 G86 b29 b32 Δ6 (Typed.both s80) at24 (Plain.t-call-plain 𝓤 H A W 𝓣 0 ps·3 r·3 (claims· .6) (claims· .7) "script::prints::error" (known .3) E (λ pos β. β) G85 (Num.vAt 29 λ x. x, tt) 28 List.[] (Call.sub-id 𝓤 H A W (G85 .slots)) ((Scalar.reads-sc 𝓤 H A W (Row.sInt Syntax.w64), Path'.refl), tt) (Reads'.room-gone 𝓤 H A Syntax.tyUnit) tt Path'.refl) d24
 
           d26 : Typed.Typed 𝓤 H A 𝓣 E G84 b34 Δ6 at26
           d26 = Typed.s-seq 𝓤 H A W 𝓣 E G84 G85 b28 b33 Δ6 (Typed.ask s79) at25 (Scalar.t-op2 𝓤 H A W E 𝓣 G84 (Syntax.add Syntax.unsigned) (Scalar.oAt 13 (Syntax.tyInt Syntax.w64) (Row.valS (Row.sInt Syntax.w64))) (Scalar.oInt Syntax.w64 1) 29 (Rows.sc-here (Row.sInt Syntax.w64)) (Syntax.tyInt Syntax.w64) (Row.valS (Row.sInt Syntax.w64)) (Row.sInt Syntax.w64 .of) (Scalar.reads-sc 𝓤 H A W (Row.sInt Syntax.w64), Path'.refl) tt (Reads'.room-gone 𝓤 H A (Syntax.tyInt Syntax.w64)) (Scalar.holds-sc 𝓤 H A W (Row.sInt Syntax.w64)) Path'.refl (λ u. Path'.refl) λ u. tt) d25
@@ -1719,7 +1719,7 @@ module _ (claims· : Claims) where
           d28 = Typed.g-pre 𝓤 H A W 𝓣 E G82 G83 b34 Δ6 (Typed.pass T82 T83 s77) at27 (Scalar.g-room 𝓤 H A W E G82 15 (Syntax.tyInt Syntax.w64) (Scalar.room-sc 𝓤 H A W (Row.sInt Syntax.w64))) d27
 
           d29 : Typed.Typed 𝓤 H A 𝓣 E G81 b34 Δ6 at29
-          d29 = Typed.g-pre 𝓤 H A W 𝓣 E G81 G82 b34 Δ6 (Typed.pass T81 T82 s76) at28 (Scalar.g-room 𝓤 H A W E G81 14 (Syntax.tyStruct (List._∷_ 122 (List._∷_ 111 (List._∷_ 110 (List._∷_ 101 (List._∷_ 115 (List._∷_ 58 (List._∷_ 58 (List._∷_ 115 (List._∷_ 99 (List._∷_ 97 (List._∷_ 110 (List._∷_ 58 (List._∷_ 58 (List._∷_ 76 (List._∷_ 105 (List._∷_ 110 (List._∷_ 101 List.[]))))))))))))))))) (Syntax.tcons (Syntax.tyInt Syntax.w32) (Syntax.tcons (Syntax.tyInt Syntax.w64) (Syntax.tcons (Syntax.tyInt Syntax.w64) (Syntax.tcons (Syntax.tyInt Syntax.w64) (Syntax.tcons (Syntax.tyInt Syntax.w64) Syntax.tnil)))))) (Local.room-whole 𝓤 H A W (Declared.row Line.the-type) (Syntax.tyStruct (List._∷_ 122 (List._∷_ 111 (List._∷_ 110 (List._∷_ 101 (List._∷_ 115 (List._∷_ 58 (List._∷_ 58 (List._∷_ 115 (List._∷_ 99 (List._∷_ 97 (List._∷_ 110 (List._∷_ 58 (List._∷_ 58 (List._∷_ 76 (List._∷_ 105 (List._∷_ 110 (List._∷_ 101 List.[]))))))))))))))))) (Syntax.tcons (Syntax.tyInt Syntax.w32) (Syntax.tcons (Syntax.tyInt Syntax.w64) (Syntax.tcons (Syntax.tyInt Syntax.w64) (Syntax.tcons (Syntax.tyInt Syntax.w64) (Syntax.tcons (Syntax.tyInt Syntax.w64) Syntax.tnil)))))) Path'.refl)) d28
+          d29 = Typed.g-pre 𝓤 H A W 𝓣 E G81 G82 b34 Δ6 (Typed.pass T81 T82 s76) at28 (Scalar.g-room 𝓤 H A W E G81 14 (Syntax.tyStruct (List._∷_ 115 (List._∷_ 99 (List._∷_ 114 (List._∷_ 105 (List._∷_ 112 (List._∷_ 116 (List._∷_ 58 (List._∷_ 58 (List._∷_ 115 (List._∷_ 99 (List._∷_ 97 (List._∷_ 110 (List._∷_ 58 (List._∷_ 58 (List._∷_ 76 (List._∷_ 105 (List._∷_ 110 (List._∷_ 101 List.[])))))))))))))))))) (Syntax.tcons (Syntax.tyInt Syntax.w32) (Syntax.tcons (Syntax.tyInt Syntax.w64) (Syntax.tcons (Syntax.tyInt Syntax.w64) (Syntax.tcons (Syntax.tyInt Syntax.w64) (Syntax.tcons (Syntax.tyInt Syntax.w64) Syntax.tnil)))))) (Local.room-whole 𝓤 H A W (Declared.row Line.the-type) (Syntax.tyStruct (List._∷_ 115 (List._∷_ 99 (List._∷_ 114 (List._∷_ 105 (List._∷_ 112 (List._∷_ 116 (List._∷_ 58 (List._∷_ 58 (List._∷_ 115 (List._∷_ 99 (List._∷_ 97 (List._∷_ 110 (List._∷_ 58 (List._∷_ 58 (List._∷_ 76 (List._∷_ 105 (List._∷_ 110 (List._∷_ 101 List.[])))))))))))))))))) (Syntax.tcons (Syntax.tyInt Syntax.w32) (Syntax.tcons (Syntax.tyInt Syntax.w64) (Syntax.tcons (Syntax.tyInt Syntax.w64) (Syntax.tcons (Syntax.tyInt Syntax.w64) (Syntax.tcons (Syntax.tyInt Syntax.w64) Syntax.tnil)))))) Path'.refl)) d28
 
           d30 : Typed.Typed 𝓤 H A 𝓣 E G79 b34 Δ6 at30
           d30 = Typed.g-pre 𝓤 H A W 𝓣 E G79 G81 b34 Δ6 (Typed.pass T79 T81 s75) at29 (Scalar.g-room 𝓤 H A W E G79 11 (Syntax.tyStruct (List._∷_ 122 (List._∷_ 111 (List._∷_ 110 (List._∷_ 101 (List._∷_ 115 (List._∷_ 58 (List._∷_ 58 (List._∷_ 104 (List._∷_ 101 (List._∷_ 108 (List._∷_ 100 (List._∷_ 58 (List._∷_ 58 (List._∷_ 72 (List._∷_ 101 (List._∷_ 108 (List._∷_ 100 List.[]))))))))))))))))) (Syntax.tcons (Syntax.tyStruct (List._∷_ 112 (List._∷_ 121 (List._∷_ 114 (List._∷_ 97 (List._∷_ 109 (List._∷_ 105 (List._∷_ 100 (List._∷_ 58 (List._∷_ 58 (List._∷_ 83 (List._∷_ 116 (List._∷_ 97 (List._∷_ 116 (List._∷_ 101 List.[])))))))))))))) (Syntax.tcons (Syntax.tyInt Syntax.w32) (Syntax.tcons (Syntax.tyInt Syntax.w32) (Syntax.tcons (Syntax.tyInt Syntax.w32) (Syntax.tcons (Syntax.tyInt Syntax.w32) (Syntax.tcons (Syntax.tyInt Syntax.w32) (Syntax.tcons (Syntax.tyArray (Syntax.tyInt Syntax.w32) 64) Syntax.tnil))))))) (Syntax.tcons (Syntax.tyInt Syntax.w64) (Syntax.tcons (Syntax.tyInt Syntax.w64) (Syntax.tcons (Syntax.tyInt Syntax.w64) (Syntax.tcons (Syntax.tyInt Syntax.w64) (Syntax.tcons (Syntax.tyInt Syntax.w64) (Syntax.tcons (Syntax.tyInt Syntax.w64) (Syntax.tcons Syntax.tyBool Syntax.tnil))))))))) (Local.room-whole 𝓤 H A W (Declared.row Held.the-type) (Syntax.tyStruct (List._∷_ 122 (List._∷_ 111 (List._∷_ 110 (List._∷_ 101 (List._∷_ 115 (List._∷_ 58 (List._∷_ 58 (List._∷_ 104 (List._∷_ 101 (List._∷_ 108 (List._∷_ 100 (List._∷_ 58 (List._∷_ 58 (List._∷_ 72 (List._∷_ 101 (List._∷_ 108 (List._∷_ 100 List.[]))))))))))))))))) (Syntax.tcons (Syntax.tyStruct (List._∷_ 112 (List._∷_ 121 (List._∷_ 114 (List._∷_ 97 (List._∷_ 109 (List._∷_ 105 (List._∷_ 100 (List._∷_ 58 (List._∷_ 58 (List._∷_ 83 (List._∷_ 116 (List._∷_ 97 (List._∷_ 116 (List._∷_ 101 List.[])))))))))))))) (Syntax.tcons (Syntax.tyInt Syntax.w32) (Syntax.tcons (Syntax.tyInt Syntax.w32) (Syntax.tcons (Syntax.tyInt Syntax.w32) (Syntax.tcons (Syntax.tyInt Syntax.w32) (Syntax.tcons (Syntax.tyInt Syntax.w32) (Syntax.tcons (Syntax.tyArray (Syntax.tyInt Syntax.w32) 64) Syntax.tnil))))))) (Syntax.tcons (Syntax.tyInt Syntax.w64) (Syntax.tcons (Syntax.tyInt Syntax.w64) (Syntax.tcons (Syntax.tyInt Syntax.w64) (Syntax.tcons (Syntax.tyInt Syntax.w64) (Syntax.tcons (Syntax.tyInt Syntax.w64) (Syntax.tcons (Syntax.tyInt Syntax.w64) (Syntax.tcons Syntax.tyBool Syntax.tnil))))))))) Path'.refl)) d29
@@ -1740,16 +1740,16 @@ module _ (claims· : Claims) where
           d35 = Typed.s-typed 𝓤 H A W 𝓣 E G95 b38 Δ3 (Typed.ask s90) tt (Scalar.t-op2 𝓤 H A W E 𝓣 G95 (Syntax.add Syntax.unsigned) (Scalar.oAt 13 (Syntax.tyInt Syntax.w64) (Row.valS (Row.sInt Syntax.w64))) (Scalar.oInt Syntax.w64 1) 13 (Rows.sc-here (Row.sInt Syntax.w64)) (Syntax.tyInt Syntax.w64) (Row.valS (Row.sInt Syntax.w64)) (Row.sInt Syntax.w64 .of) (Scalar.reads-sc 𝓤 H A W (Row.sInt Syntax.w64), Path'.refl) tt (Scalar.room-sc 𝓤 H A W (Row.sInt Syntax.w64)) (Scalar.holds-sc 𝓤 H A W (Row.sInt Syntax.w64)) Path'.refl (λ u. Path'.refl) λ u. tt)
 
           d36 : Typed.Typed 𝓤 H A 𝓣 E G94 b38 Δ3 at36
-          d36 = Typed.g-pre 𝓤 H A W 𝓣 E G94 G95 b38 Δ3 (Typed.pass T94 T95 s89) at35 (Scalar.g-room 𝓤 H A W E G94 14 (Syntax.tyStruct (List._∷_ 122 (List._∷_ 111 (List._∷_ 110 (List._∷_ 101 (List._∷_ 115 (List._∷_ 58 (List._∷_ 58 (List._∷_ 115 (List._∷_ 99 (List._∷_ 97 (List._∷_ 110 (List._∷_ 58 (List._∷_ 58 (List._∷_ 76 (List._∷_ 105 (List._∷_ 110 (List._∷_ 101 List.[]))))))))))))))))) (Syntax.tcons (Syntax.tyInt Syntax.w32) (Syntax.tcons (Syntax.tyInt Syntax.w64) (Syntax.tcons (Syntax.tyInt Syntax.w64) (Syntax.tcons (Syntax.tyInt Syntax.w64) (Syntax.tcons (Syntax.tyInt Syntax.w64) Syntax.tnil)))))) (Local.room-whole 𝓤 H A W (Declared.row Line.the-type) (Syntax.tyStruct (List._∷_ 122 (List._∷_ 111 (List._∷_ 110 (List._∷_ 101 (List._∷_ 115 (List._∷_ 58 (List._∷_ 58 (List._∷_ 115 (List._∷_ 99 (List._∷_ 97 (List._∷_ 110 (List._∷_ 58 (List._∷_ 58 (List._∷_ 76 (List._∷_ 105 (List._∷_ 110 (List._∷_ 101 List.[]))))))))))))))))) (Syntax.tcons (Syntax.tyInt Syntax.w32) (Syntax.tcons (Syntax.tyInt Syntax.w64) (Syntax.tcons (Syntax.tyInt Syntax.w64) (Syntax.tcons (Syntax.tyInt Syntax.w64) (Syntax.tcons (Syntax.tyInt Syntax.w64) Syntax.tnil)))))) Path'.refl)) d35
+          d36 = Typed.g-pre 𝓤 H A W 𝓣 E G94 G95 b38 Δ3 (Typed.pass T94 T95 s89) at35 (Scalar.g-room 𝓤 H A W E G94 14 (Syntax.tyStruct (List._∷_ 115 (List._∷_ 99 (List._∷_ 114 (List._∷_ 105 (List._∷_ 112 (List._∷_ 116 (List._∷_ 58 (List._∷_ 58 (List._∷_ 115 (List._∷_ 99 (List._∷_ 97 (List._∷_ 110 (List._∷_ 58 (List._∷_ 58 (List._∷_ 76 (List._∷_ 105 (List._∷_ 110 (List._∷_ 101 List.[])))))))))))))))))) (Syntax.tcons (Syntax.tyInt Syntax.w32) (Syntax.tcons (Syntax.tyInt Syntax.w64) (Syntax.tcons (Syntax.tyInt Syntax.w64) (Syntax.tcons (Syntax.tyInt Syntax.w64) (Syntax.tcons (Syntax.tyInt Syntax.w64) Syntax.tnil)))))) (Local.room-whole 𝓤 H A W (Declared.row Line.the-type) (Syntax.tyStruct (List._∷_ 115 (List._∷_ 99 (List._∷_ 114 (List._∷_ 105 (List._∷_ 112 (List._∷_ 116 (List._∷_ 58 (List._∷_ 58 (List._∷_ 115 (List._∷_ 99 (List._∷_ 97 (List._∷_ 110 (List._∷_ 58 (List._∷_ 58 (List._∷_ 76 (List._∷_ 105 (List._∷_ 110 (List._∷_ 101 List.[])))))))))))))))))) (Syntax.tcons (Syntax.tyInt Syntax.w32) (Syntax.tcons (Syntax.tyInt Syntax.w64) (Syntax.tcons (Syntax.tyInt Syntax.w64) (Syntax.tcons (Syntax.tyInt Syntax.w64) (Syntax.tcons (Syntax.tyInt Syntax.w64) Syntax.tnil)))))) Path'.refl)) d35
 
           d37 : Typed.Typed 𝓤 H A 𝓣 E G80 b39 Δ3 at37
-          d37 = Typed.s-seq 𝓤 H A W 𝓣 E G80 G94 b37 b38 Δ3 (Typed.pass T80 T94 s88) at36 (Scalar.t-use 𝓤 H A W E 𝓣 G80 (Scalar.oFld 14 (List._∷_ (Syntax.field 4) List.[]) (Syntax.tyInt Syntax.w64) 32 (Reads.fieldV Line.the-type Laws'.the-laws 4)) 12 (Rows.sc-here (Row.sInt Syntax.w64)) (Syntax.tyInt Syntax.w64) (Row.valS (Row.sInt Syntax.w64)) (Row.sInt Syntax.w64 .of) (Reads.reads-field 𝓤 H A W Line.the-type Laws'.the-laws 4 (Syntax.tyInt Syntax.w64) 32 Path'.refl, Path'.refl) (Reads'.room-gone 𝓤 H A (Syntax.tyInt Syntax.w64)) (Scalar.holds-sc 𝓤 H A W (Row.sInt Syntax.w64)) Path'.refl (λ u. Path'.refl) λ u. tt) d36
+          d37 = Typed.s-seq 𝓤 H A W 𝓣 E G80 G94 b37 b38 Δ3 (Typed.pass T80 T94 s88) at36 (Scalar.t-use 𝓤 H A W E 𝓣 G80 (Scalar.oFld 14 (List._∷_ (Syntax.field 4) List.[]) (Syntax.tyInt Syntax.w64) 32 (Reads.fieldV Line.the-type Laws.the-laws 4)) 12 (Rows.sc-here (Row.sInt Syntax.w64)) (Syntax.tyInt Syntax.w64) (Row.valS (Row.sInt Syntax.w64)) (Row.sInt Syntax.w64 .of) (Reads.reads-field 𝓤 H A W Line.the-type Laws.the-laws 4 (Syntax.tyInt Syntax.w64) 32 Path'.refl, Path'.refl) (Reads'.room-gone 𝓤 H A (Syntax.tyInt Syntax.w64)) (Scalar.holds-sc 𝓤 H A W (Row.sInt Syntax.w64)) Path'.refl (λ u. Path'.refl) λ u. tt) d36
 
           d38 : Typed.Typed 𝓤 H A 𝓣 E G79 b40 Δ3 at38
           d38 = Typed.t-seq 𝓤 H A W 𝓣 E G79 G80 b36 b39 Δ3 at34 at37 d34 d37
 
           d39 : Typed.Typed 𝓤 H A 𝓣 E G78 b41 Δ3 at39
-          d39 = Typed.s-seq 𝓤 H A W 𝓣 E G78 G79 b27 b40 Δ3 (Typed.pass T77 T79 s74) at38 (Scalar.t-use 𝓤 H A W E 𝓣 G78 (Scalar.oFld 11 (List._∷_ (Syntax.field 7) List.[]) Syntax.tyBool 328 (Reads.fieldV Held.the-type Laws.the-laws 7)) 16 (Rows.sc-here Row.sBool) Syntax.tyBool (Row.valS Row.sBool) (Row.sBool .of) (Reads.reads-field 𝓤 H A W Held.the-type Laws.the-laws 7 Syntax.tyBool 328 Path'.refl, Path'.refl) (Reads'.room-gone 𝓤 H A Syntax.tyBool) (Scalar.holds-sc 𝓤 H A W Row.sBool) Path'.refl (λ u. Path'.refl) λ u. tt) d38
+          d39 = Typed.s-seq 𝓤 H A W 𝓣 E G78 G79 b27 b40 Δ3 (Typed.pass T77 T79 s74) at38 (Scalar.t-use 𝓤 H A W E 𝓣 G78 (Scalar.oFld 11 (List._∷_ (Syntax.field 7) List.[]) Syntax.tyBool 328 (Reads.fieldV Held.the-type Laws'.the-laws 7)) 16 (Rows.sc-here Row.sBool) Syntax.tyBool (Row.valS Row.sBool) (Row.sBool .of) (Reads.reads-field 𝓤 H A W Held.the-type Laws'.the-laws 7 Syntax.tyBool 328 Path'.refl, Path'.refl) (Reads'.room-gone 𝓤 H A Syntax.tyBool) (Scalar.holds-sc 𝓤 H A W Row.sBool) Path'.refl (λ u. Path'.refl) λ u. tt) d38
 
           d40 : Typed.Typed 𝓤 H A 𝓣 E G77 b41 Δ3 at40
           d40 = Typed.g-pre 𝓤 H A W 𝓣 E G77 G78 b41 Δ3 (λ Ψ. Ψ) at39 (Lifetime.g-forget 𝓤 H A W E G77 19 Row.dead Path'.refl) d39
@@ -1836,7 +1836,7 @@ module _ (claims· : Claims) where
           d67 = Typed.g-pre 𝓤 H A W 𝓣 E G50 G51 b41 Δ3 (Typed.pass T50 T51 s46) at66 (Local.g-drop-sref 𝓤 H A W E G50 19 11 (Array.Array (Referent.rtF (Referent.fInt Syntax.w32)) 32772) (Syntax.tyRef Syntax.erased Syntax.imm (Syntax.tyArray (Syntax.tyInt Syntax.w32) 32772)) (λ x. x) (Reads'.as-is 𝓤 H A (Rows.sref (Array.Array (Referent.rtF (Referent.fInt Syntax.w32)) 32772) (Syntax.tyRef Syntax.erased Syntax.imm (Syntax.tyArray (Syntax.tyInt Syntax.w32) 32772)) 11))) d66
 
           d68 : Typed.Typed 𝓤 H A 𝓣 E G49 b42 Δ3 at68
-          d68 = Typed.s-seq 𝓤 H A W 𝓣 E G49 G50 b26 b41 Δ3 (Typed.both s45) at67 (Plain.t-call-plain 𝓤 H A W 𝓣 10 ps·2 r·2 (claims· .4) (claims· .5) "zones::lines::obey" (known .2) E (λ pos β. β) G49 (record { pos = 11; st = List.[]; d = 0; at = λ x. x }, (record { pos = 14; st = List.[]; d = 0; at = λ x. x }, (record { pos = 1; ty = Syntax.tyRef (Syntax.named 0) Syntax.imm (Syntax.tyInt Syntax.w8); ref = λ x. x }, (record { pos = 19; ty = Syntax.tyRef Syntax.erased Syntax.imm (Syntax.tyArray (Syntax.tyInt Syntax.w32) 32772); ref = λ x. x }, (record { pos = 20; ty = Syntax.tyRef Syntax.erased Syntax.mut (Syntax.tyArray (Syntax.tyInt Syntax.w8) 16388); ref = λ x. x }, (record { pos = 21; ty = Syntax.tyRef Syntax.erased Syntax.mut (Syntax.tyArray (Syntax.tyInt Syntax.w32) 65540); ref = λ x. x }, (record { pos = 22; ty = Syntax.tyRef Syntax.erased Syntax.mut (Syntax.tyArray (Syntax.tyInt Syntax.w32) 32772); ref = λ x. x }, (record { pos = 23; ty = Syntax.tyRef Syntax.erased Syntax.mut (Syntax.tyArray (Syntax.tyInt Syntax.w32) 32772); ref = λ x. x }, (record { pos = 24; ty = Syntax.tyRef Syntax.erased Syntax.mut (Syntax.tyArray (Syntax.tyInt Syntax.w32) 262160); ref = λ x. x }, (record { pos = 25; ty = Syntax.tyRef Syntax.erased Syntax.mut (Syntax.tyArray (Syntax.tyInt Syntax.w8) 600000); ref = λ x. x }, (record { pos = 26; ty = Syntax.tyRef Syntax.erased Syntax.mut (Syntax.tyArray Cell.behind 65540); ref = λ x. x }, (record { pos = 27; ty = Syntax.tyRef Syntax.erased Syntax.mut (Syntax.tyArray Cell.behind 32772); ref = λ x. x }, tt)))))))))))) 11 (List._∷_ 0 (List._∷_ 11 (List._∷_ 12 (List._∷_ 13 (List._∷_ 14 (List._∷_ 15 (List._∷_ 16 (List._∷_ 17 (List._∷_ 18 (List._∷_ 19 List.[])))))))))) (Call.sub-id 𝓤 H A W (G49 .slots)) ((Yields.yields-copy 𝓤 H A W (λ ρ. Unit) (Declared.row Held.the-type) Path'.refl (Copies.cStruct Held.the-type Laws.the-laws Laws.the-copy .copy 𝓤 H A W) (Rows.whole (Declared.row Held.the-type)) (λ x. x) (λ x. x) (λ ρ told. Local.mem-whole 𝓤 H A W (Declared.row Held.the-type) ρ) λ ρ told. Local.whole-mem 𝓤 H A W (Declared.row Held.the-type) ρ, Path'.refl), ((Yields.yields-copy 𝓤 H A W (λ ρ. Unit) (Declared.row Line.the-type) Path'.refl (Copies.cStruct Line.the-type Laws'.the-laws Laws'.the-copy .copy 𝓤 H A W) (Rows.whole (Declared.row Line.the-type)) (λ x. x) (λ x. x) (λ ρ told. Local.mem-whole 𝓤 H A W (Declared.row Line.the-type) ρ) λ ρ told. Local.whole-mem 𝓤 H A W (Declared.row Line.the-type) ρ, Path'.refl), (ShrSlice.spares-sslice 𝓤 H A W (Referent.rtF (Referent.fInt Syntax.w8)) (Syntax.tyRef (Syntax.named 0) Syntax.imm (Syntax.tyInt Syntax.w8)) 0, Shared.reads-sslice 𝓤 H A W (Referent.rtF (Referent.fInt Syntax.w8)) (Syntax.tyRef (Syntax.named 0) Syntax.imm (Syntax.tyInt Syntax.w8)) 0, Path'.refl, (ShrRef.spares-sref 𝓤 H A W (Array.Array (Referent.rtF (Referent.fInt Syntax.w32)) 32772) (Syntax.tyRef Syntax.erased Syntax.imm (Syntax.tyArray (Syntax.tyInt Syntax.w32) 32772)) 11, Reads'.reads-sref 𝓤 H A W (Array.Array (Referent.rtF (Referent.fInt Syntax.w32)) 32772) (Syntax.tyRef Syntax.erased Syntax.imm (Syntax.tyArray (Syntax.tyInt Syntax.w32) 32772)) 11, Path'.refl, (Reads'.as-is 𝓤 H A (Rows.mref (Array.Array (Referent.rtF (Referent.fInt Syntax.w8)) 16388) (Syntax.tyRef Syntax.erased Syntax.mut (Syntax.tyArray (Syntax.tyInt Syntax.w8) 16388)) 12), Reads'.reads-mref 𝓤 H A W (Array.Array (Referent.rtF (Referent.fInt Syntax.w8)) 16388) (Syntax.tyRef Syntax.erased Syntax.mut (Syntax.tyArray (Syntax.tyInt Syntax.w8) 16388)) 12, Path'.refl, (Reads'.as-is 𝓤 H A (Rows.mref (Array.Array (Referent.rtF (Referent.fInt Syntax.w32)) 65540) (Syntax.tyRef Syntax.erased Syntax.mut (Syntax.tyArray (Syntax.tyInt Syntax.w32) 65540)) 13), Reads'.reads-mref 𝓤 H A W (Array.Array (Referent.rtF (Referent.fInt Syntax.w32)) 65540) (Syntax.tyRef Syntax.erased Syntax.mut (Syntax.tyArray (Syntax.tyInt Syntax.w32) 65540)) 13, Path'.refl, (Reads'.as-is 𝓤 H A (Rows.mref (Array.Array (Referent.rtF (Referent.fInt Syntax.w32)) 32772) (Syntax.tyRef Syntax.erased Syntax.mut (Syntax.tyArray (Syntax.tyInt Syntax.w32) 32772)) 14), Reads'.reads-mref 𝓤 H A W (Array.Array (Referent.rtF (Referent.fInt Syntax.w32)) 32772) (Syntax.tyRef Syntax.erased Syntax.mut (Syntax.tyArray (Syntax.tyInt Syntax.w32) 32772)) 14, Path'.refl, (Reads'.as-is 𝓤 H A (Rows.mref (Array.Array (Referent.rtF (Referent.fInt Syntax.w32)) 32772) (Syntax.tyRef Syntax.erased Syntax.mut (Syntax.tyArray (Syntax.tyInt Syntax.w32) 32772)) 15), Reads'.reads-mref 𝓤 H A W (Array.Array (Referent.rtF (Referent.fInt Syntax.w32)) 32772) (Syntax.tyRef Syntax.erased Syntax.mut (Syntax.tyArray (Syntax.tyInt Syntax.w32) 32772)) 15, Path'.refl, (Reads'.as-is 𝓤 H A (Rows.mref (Array.Array (Referent.rtF (Referent.fInt Syntax.w32)) 262160) (Syntax.tyRef Syntax.erased Syntax.mut (Syntax.tyArray (Syntax.tyInt Syntax.w32) 262160)) 16), Reads'.reads-mref 𝓤 H A W (Array.Array (Referent.rtF (Referent.fInt Syntax.w32)) 262160) (Syntax.tyRef Syntax.erased Syntax.mut (Syntax.tyArray (Syntax.tyInt Syntax.w32) 262160)) 16, Path'.refl, (Reads'.as-is 𝓤 H A (Rows.mref (Array.Array (Referent.rtF (Referent.fInt Syntax.w8)) 600000) (Syntax.tyRef Syntax.erased Syntax.mut (Syntax.tyArray (Syntax.tyInt Syntax.w8) 600000)) 17), Reads'.reads-mref 𝓤 H A W (Array.Array (Referent.rtF (Referent.fInt Syntax.w8)) 600000) (Syntax.tyRef Syntax.erased Syntax.mut (Syntax.tyArray (Syntax.tyInt Syntax.w8) 600000)) 17, Path'.refl, (Reads'.as-is 𝓤 H A (Rows.mref (Array.Array Cell.R 65540) (Syntax.tyRef Syntax.erased Syntax.mut (Syntax.tyArray Cell.behind 65540)) 18), Reads'.reads-mref 𝓤 H A W (Array.Array Cell.R 65540) (Syntax.tyRef Syntax.erased Syntax.mut (Syntax.tyArray Cell.behind 65540)) 18, Path'.refl, (Reads'.as-is 𝓤 H A (Rows.mref (Array.Array Cell.R 32772) (Syntax.tyRef Syntax.erased Syntax.mut (Syntax.tyArray Cell.behind 32772)) 19), Reads'.reads-mref 𝓤 H A W (Array.Array Cell.R 32772) (Syntax.tyRef Syntax.erased Syntax.mut (Syntax.tyArray Cell.behind 32772)) 19, Path'.refl, tt)))))))))))) (Local.room-whole 𝓤 H A W (Declared.row Held.the-type) (Syntax.tyStruct (List._∷_ 122 (List._∷_ 111 (List._∷_ 110 (List._∷_ 101 (List._∷_ 115 (List._∷_ 58 (List._∷_ 58 (List._∷_ 104 (List._∷_ 101 (List._∷_ 108 (List._∷_ 100 (List._∷_ 58 (List._∷_ 58 (List._∷_ 72 (List._∷_ 101 (List._∷_ 108 (List._∷_ 100 List.[]))))))))))))))))) (Syntax.tcons (Syntax.tyStruct (List._∷_ 112 (List._∷_ 121 (List._∷_ 114 (List._∷_ 97 (List._∷_ 109 (List._∷_ 105 (List._∷_ 100 (List._∷_ 58 (List._∷_ 58 (List._∷_ 83 (List._∷_ 116 (List._∷_ 97 (List._∷_ 116 (List._∷_ 101 List.[])))))))))))))) (Syntax.tcons (Syntax.tyInt Syntax.w32) (Syntax.tcons (Syntax.tyInt Syntax.w32) (Syntax.tcons (Syntax.tyInt Syntax.w32) (Syntax.tcons (Syntax.tyInt Syntax.w32) (Syntax.tcons (Syntax.tyInt Syntax.w32) (Syntax.tcons (Syntax.tyArray (Syntax.tyInt Syntax.w32) 64) Syntax.tnil))))))) (Syntax.tcons (Syntax.tyInt Syntax.w64) (Syntax.tcons (Syntax.tyInt Syntax.w64) (Syntax.tcons (Syntax.tyInt Syntax.w64) (Syntax.tcons (Syntax.tyInt Syntax.w64) (Syntax.tcons (Syntax.tyInt Syntax.w64) (Syntax.tcons (Syntax.tyInt Syntax.w64) (Syntax.tcons Syntax.tyBool Syntax.tnil))))))))) Path'.refl) (tt, (tt, (tt, (tt, (tt, (tt, (tt, (tt, (tt, (tt, tt)))))))))) Path'.refl) d67
+          d68 = Typed.s-seq 𝓤 H A W 𝓣 E G49 G50 b26 b41 Δ3 (Typed.both s45) at67 (Plain.t-call-plain 𝓤 H A W 𝓣 10 ps·2 r·2 (claims· .4) (claims· .5) "zones::lines::obey" (known .2) E (λ pos β. β) G49 (record { pos = 11; st = List.[]; d = 0; at = λ x. x }, (record { pos = 14; st = List.[]; d = 0; at = λ x. x }, (record { pos = 1; ty = Syntax.tyRef (Syntax.named 0) Syntax.imm (Syntax.tyInt Syntax.w8); ref = λ x. x }, (record { pos = 19; ty = Syntax.tyRef Syntax.erased Syntax.imm (Syntax.tyArray (Syntax.tyInt Syntax.w32) 32772); ref = λ x. x }, (record { pos = 20; ty = Syntax.tyRef Syntax.erased Syntax.mut (Syntax.tyArray (Syntax.tyInt Syntax.w8) 16388); ref = λ x. x }, (record { pos = 21; ty = Syntax.tyRef Syntax.erased Syntax.mut (Syntax.tyArray (Syntax.tyInt Syntax.w32) 65540); ref = λ x. x }, (record { pos = 22; ty = Syntax.tyRef Syntax.erased Syntax.mut (Syntax.tyArray (Syntax.tyInt Syntax.w32) 32772); ref = λ x. x }, (record { pos = 23; ty = Syntax.tyRef Syntax.erased Syntax.mut (Syntax.tyArray (Syntax.tyInt Syntax.w32) 32772); ref = λ x. x }, (record { pos = 24; ty = Syntax.tyRef Syntax.erased Syntax.mut (Syntax.tyArray (Syntax.tyInt Syntax.w32) 262160); ref = λ x. x }, (record { pos = 25; ty = Syntax.tyRef Syntax.erased Syntax.mut (Syntax.tyArray (Syntax.tyInt Syntax.w8) 600000); ref = λ x. x }, (record { pos = 26; ty = Syntax.tyRef Syntax.erased Syntax.mut (Syntax.tyArray Cell.behind 65540); ref = λ x. x }, (record { pos = 27; ty = Syntax.tyRef Syntax.erased Syntax.mut (Syntax.tyArray Cell.behind 32772); ref = λ x. x }, tt)))))))))))) 11 (List._∷_ 0 (List._∷_ 11 (List._∷_ 12 (List._∷_ 13 (List._∷_ 14 (List._∷_ 15 (List._∷_ 16 (List._∷_ 17 (List._∷_ 18 (List._∷_ 19 List.[])))))))))) (Call.sub-id 𝓤 H A W (G49 .slots)) ((Yields.yields-copy 𝓤 H A W (λ ρ. Unit) (Declared.row Held.the-type) Path'.refl (Copies.cStruct Held.the-type Laws'.the-laws Laws'.the-copy .copy 𝓤 H A W) (Rows.whole (Declared.row Held.the-type)) (λ x. x) (λ x. x) (λ ρ told. Local.mem-whole 𝓤 H A W (Declared.row Held.the-type) ρ) λ ρ told. Local.whole-mem 𝓤 H A W (Declared.row Held.the-type) ρ, Path'.refl), ((Yields.yields-copy 𝓤 H A W (λ ρ. Unit) (Declared.row Line.the-type) Path'.refl (Copies.cStruct Line.the-type Laws.the-laws Laws.the-copy .copy 𝓤 H A W) (Rows.whole (Declared.row Line.the-type)) (λ x. x) (λ x. x) (λ ρ told. Local.mem-whole 𝓤 H A W (Declared.row Line.the-type) ρ) λ ρ told. Local.whole-mem 𝓤 H A W (Declared.row Line.the-type) ρ, Path'.refl), (ShrSlice.spares-sslice 𝓤 H A W (Referent.rtF (Referent.fInt Syntax.w8)) (Syntax.tyRef (Syntax.named 0) Syntax.imm (Syntax.tyInt Syntax.w8)) 0, Shared.reads-sslice 𝓤 H A W (Referent.rtF (Referent.fInt Syntax.w8)) (Syntax.tyRef (Syntax.named 0) Syntax.imm (Syntax.tyInt Syntax.w8)) 0, Path'.refl, (ShrRef.spares-sref 𝓤 H A W (Array.Array (Referent.rtF (Referent.fInt Syntax.w32)) 32772) (Syntax.tyRef Syntax.erased Syntax.imm (Syntax.tyArray (Syntax.tyInt Syntax.w32) 32772)) 11, Reads'.reads-sref 𝓤 H A W (Array.Array (Referent.rtF (Referent.fInt Syntax.w32)) 32772) (Syntax.tyRef Syntax.erased Syntax.imm (Syntax.tyArray (Syntax.tyInt Syntax.w32) 32772)) 11, Path'.refl, (Reads'.as-is 𝓤 H A (Rows.mref (Array.Array (Referent.rtF (Referent.fInt Syntax.w8)) 16388) (Syntax.tyRef Syntax.erased Syntax.mut (Syntax.tyArray (Syntax.tyInt Syntax.w8) 16388)) 12), Reads'.reads-mref 𝓤 H A W (Array.Array (Referent.rtF (Referent.fInt Syntax.w8)) 16388) (Syntax.tyRef Syntax.erased Syntax.mut (Syntax.tyArray (Syntax.tyInt Syntax.w8) 16388)) 12, Path'.refl, (Reads'.as-is 𝓤 H A (Rows.mref (Array.Array (Referent.rtF (Referent.fInt Syntax.w32)) 65540) (Syntax.tyRef Syntax.erased Syntax.mut (Syntax.tyArray (Syntax.tyInt Syntax.w32) 65540)) 13), Reads'.reads-mref 𝓤 H A W (Array.Array (Referent.rtF (Referent.fInt Syntax.w32)) 65540) (Syntax.tyRef Syntax.erased Syntax.mut (Syntax.tyArray (Syntax.tyInt Syntax.w32) 65540)) 13, Path'.refl, (Reads'.as-is 𝓤 H A (Rows.mref (Array.Array (Referent.rtF (Referent.fInt Syntax.w32)) 32772) (Syntax.tyRef Syntax.erased Syntax.mut (Syntax.tyArray (Syntax.tyInt Syntax.w32) 32772)) 14), Reads'.reads-mref 𝓤 H A W (Array.Array (Referent.rtF (Referent.fInt Syntax.w32)) 32772) (Syntax.tyRef Syntax.erased Syntax.mut (Syntax.tyArray (Syntax.tyInt Syntax.w32) 32772)) 14, Path'.refl, (Reads'.as-is 𝓤 H A (Rows.mref (Array.Array (Referent.rtF (Referent.fInt Syntax.w32)) 32772) (Syntax.tyRef Syntax.erased Syntax.mut (Syntax.tyArray (Syntax.tyInt Syntax.w32) 32772)) 15), Reads'.reads-mref 𝓤 H A W (Array.Array (Referent.rtF (Referent.fInt Syntax.w32)) 32772) (Syntax.tyRef Syntax.erased Syntax.mut (Syntax.tyArray (Syntax.tyInt Syntax.w32) 32772)) 15, Path'.refl, (Reads'.as-is 𝓤 H A (Rows.mref (Array.Array (Referent.rtF (Referent.fInt Syntax.w32)) 262160) (Syntax.tyRef Syntax.erased Syntax.mut (Syntax.tyArray (Syntax.tyInt Syntax.w32) 262160)) 16), Reads'.reads-mref 𝓤 H A W (Array.Array (Referent.rtF (Referent.fInt Syntax.w32)) 262160) (Syntax.tyRef Syntax.erased Syntax.mut (Syntax.tyArray (Syntax.tyInt Syntax.w32) 262160)) 16, Path'.refl, (Reads'.as-is 𝓤 H A (Rows.mref (Array.Array (Referent.rtF (Referent.fInt Syntax.w8)) 600000) (Syntax.tyRef Syntax.erased Syntax.mut (Syntax.tyArray (Syntax.tyInt Syntax.w8) 600000)) 17), Reads'.reads-mref 𝓤 H A W (Array.Array (Referent.rtF (Referent.fInt Syntax.w8)) 600000) (Syntax.tyRef Syntax.erased Syntax.mut (Syntax.tyArray (Syntax.tyInt Syntax.w8) 600000)) 17, Path'.refl, (Reads'.as-is 𝓤 H A (Rows.mref (Array.Array Cell.R 65540) (Syntax.tyRef Syntax.erased Syntax.mut (Syntax.tyArray Cell.behind 65540)) 18), Reads'.reads-mref 𝓤 H A W (Array.Array Cell.R 65540) (Syntax.tyRef Syntax.erased Syntax.mut (Syntax.tyArray Cell.behind 65540)) 18, Path'.refl, (Reads'.as-is 𝓤 H A (Rows.mref (Array.Array Cell.R 32772) (Syntax.tyRef Syntax.erased Syntax.mut (Syntax.tyArray Cell.behind 32772)) 19), Reads'.reads-mref 𝓤 H A W (Array.Array Cell.R 32772) (Syntax.tyRef Syntax.erased Syntax.mut (Syntax.tyArray Cell.behind 32772)) 19, Path'.refl, tt)))))))))))) (Local.room-whole 𝓤 H A W (Declared.row Held.the-type) (Syntax.tyStruct (List._∷_ 122 (List._∷_ 111 (List._∷_ 110 (List._∷_ 101 (List._∷_ 115 (List._∷_ 58 (List._∷_ 58 (List._∷_ 104 (List._∷_ 101 (List._∷_ 108 (List._∷_ 100 (List._∷_ 58 (List._∷_ 58 (List._∷_ 72 (List._∷_ 101 (List._∷_ 108 (List._∷_ 100 List.[]))))))))))))))))) (Syntax.tcons (Syntax.tyStruct (List._∷_ 112 (List._∷_ 121 (List._∷_ 114 (List._∷_ 97 (List._∷_ 109 (List._∷_ 105 (List._∷_ 100 (List._∷_ 58 (List._∷_ 58 (List._∷_ 83 (List._∷_ 116 (List._∷_ 97 (List._∷_ 116 (List._∷_ 101 List.[])))))))))))))) (Syntax.tcons (Syntax.tyInt Syntax.w32) (Syntax.tcons (Syntax.tyInt Syntax.w32) (Syntax.tcons (Syntax.tyInt Syntax.w32) (Syntax.tcons (Syntax.tyInt Syntax.w32) (Syntax.tcons (Syntax.tyInt Syntax.w32) (Syntax.tcons (Syntax.tyArray (Syntax.tyInt Syntax.w32) 64) Syntax.tnil))))))) (Syntax.tcons (Syntax.tyInt Syntax.w64) (Syntax.tcons (Syntax.tyInt Syntax.w64) (Syntax.tcons (Syntax.tyInt Syntax.w64) (Syntax.tcons (Syntax.tyInt Syntax.w64) (Syntax.tcons (Syntax.tyInt Syntax.w64) (Syntax.tcons (Syntax.tyInt Syntax.w64) (Syntax.tcons Syntax.tyBool Syntax.tnil))))))))) Path'.refl) (tt, (tt, (tt, (tt, (tt, (tt, (tt, (tt, (tt, (tt, tt)))))))))) Path'.refl) d67
 
           d69 : Typed.Typed 𝓤 H A 𝓣 E G48 b43 Δ3 at69
           d69 = Typed.s-seq 𝓤 H A W 𝓣 E G48 G49 b25 b42 Δ3 (Typed.give s44) at68 (Reborrow.t-mref-relend 𝓤 H A W E 𝓣 G48 10 27 9 19 (Array.Array Cell.R 32772) (Syntax.tyArray Cell.held 32772) (Syntax.tyRef (Syntax.named 9) Syntax.mut (Syntax.tyArray Cell.behind 32772)) (Syntax.tyRef Syntax.erased Syntax.mut (Syntax.tyArray Cell.behind 32772)) (Row.lease (κs .1 .1 .1 .1 .1 .1 .1 .1 .1 .0) (qs .1 .1 .1 .1 .1 .1 .1 .1 .1 .0)) (λ x. x) (Reads'.as-is 𝓤 H A (Rows.mref (Array.Array Cell.R 32772) (Syntax.tyRef (Syntax.named 9) Syntax.mut (Syntax.tyArray Cell.behind 32772)) 9)) (Reads'.room-gone 𝓤 H A (Syntax.tyRef Syntax.erased Syntax.mut (Syntax.tyArray Cell.behind 32772))) Path'.refl tt Path'.refl Path'.refl λ b o. tt) d68
@@ -1902,7 +1902,7 @@ module _ (claims· : Claims) where
           d89 = Typed.g-pre 𝓤 H A W 𝓣 E G28 G29 b51 Δ3 (λ Ψ. Ψ) at88 (Lifetime.g-end 𝓤 H A W E G28 10 Path'.refl) d88
 
           d90 : Typed.Typed 𝓤 H A 𝓣 E G27 b52 Δ3 at90
-          d90 = Typed.s-seq 𝓤 H A W 𝓣 E G27 G28 b16 b51 Δ3 (Typed.both s23) at89 (Plain.t-call-plain 𝓤 H A W 𝓣 2 ps·1 r·1 (claims· .2) (claims· .3) "zones::scan::next_line" (known .1) E (λ pos β. β) G27 (record { pos = 1; ty = Syntax.tyRef (Syntax.named 0) Syntax.imm (Syntax.tyInt Syntax.w8); ref = λ x. x }, (Num.vAt 12 λ x. x, (record { pos = 18; ty = Syntax.tyRef Syntax.erased Syntax.mut (Syntax.tyArray (Syntax.tyInt Syntax.w32) 32772); ref = λ x. x }, tt))) 14 (List._∷_ 0 (List._∷_ 10 List.[])) (Call.sub-id 𝓤 H A W (G27 .slots)) (ShrSlice.spares-sslice 𝓤 H A W (Referent.rtF (Referent.fInt Syntax.w8)) (Syntax.tyRef (Syntax.named 0) Syntax.imm (Syntax.tyInt Syntax.w8)) 0, Shared.reads-sslice 𝓤 H A W (Referent.rtF (Referent.fInt Syntax.w8)) (Syntax.tyRef (Syntax.named 0) Syntax.imm (Syntax.tyInt Syntax.w8)) 0, Path'.refl, ((Scalar.reads-sc 𝓤 H A W (Row.sInt Syntax.w64), Path'.refl), (Reads'.as-is 𝓤 H A (Rows.mref (Array.Array (Referent.rtF (Referent.fInt Syntax.w32)) 32772) (Syntax.tyRef Syntax.erased Syntax.mut (Syntax.tyArray (Syntax.tyInt Syntax.w32) 32772)) 10), Reads'.reads-mref 𝓤 H A W (Array.Array (Referent.rtF (Referent.fInt Syntax.w32)) 32772) (Syntax.tyRef Syntax.erased Syntax.mut (Syntax.tyArray (Syntax.tyInt Syntax.w32) 32772)) 10, Path'.refl, tt))) (Reads'.room-gone 𝓤 H A (Syntax.tyStruct (List._∷_ 122 (List._∷_ 111 (List._∷_ 110 (List._∷_ 101 (List._∷_ 115 (List._∷_ 58 (List._∷_ 58 (List._∷_ 115 (List._∷_ 99 (List._∷_ 97 (List._∷_ 110 (List._∷_ 58 (List._∷_ 58 (List._∷_ 76 (List._∷_ 105 (List._∷_ 110 (List._∷_ 101 List.[]))))))))))))))))) (Syntax.tcons (Syntax.tyInt Syntax.w32) (Syntax.tcons (Syntax.tyInt Syntax.w64) (Syntax.tcons (Syntax.tyInt Syntax.w64) (Syntax.tcons (Syntax.tyInt Syntax.w64) (Syntax.tcons (Syntax.tyInt Syntax.w64) Syntax.tnil))))))) (tt, (tt, tt)) Path'.refl) d89
+          d90 = Typed.s-seq 𝓤 H A W 𝓣 E G27 G28 b16 b51 Δ3 (Typed.both s23) at89 (Plain.t-call-plain 𝓤 H A W 𝓣 2 ps·1 r·1 (claims· .2) (claims· .3) "script::scan::next_line" (known .1) E (λ pos β. β) G27 (record { pos = 1; ty = Syntax.tyRef (Syntax.named 0) Syntax.imm (Syntax.tyInt Syntax.w8); ref = λ x. x }, (Num.vAt 12 λ x. x, (record { pos = 18; ty = Syntax.tyRef Syntax.erased Syntax.mut (Syntax.tyArray (Syntax.tyInt Syntax.w32) 32772); ref = λ x. x }, tt))) 14 (List._∷_ 0 (List._∷_ 10 List.[])) (Call.sub-id 𝓤 H A W (G27 .slots)) (ShrSlice.spares-sslice 𝓤 H A W (Referent.rtF (Referent.fInt Syntax.w8)) (Syntax.tyRef (Syntax.named 0) Syntax.imm (Syntax.tyInt Syntax.w8)) 0, Shared.reads-sslice 𝓤 H A W (Referent.rtF (Referent.fInt Syntax.w8)) (Syntax.tyRef (Syntax.named 0) Syntax.imm (Syntax.tyInt Syntax.w8)) 0, Path'.refl, ((Scalar.reads-sc 𝓤 H A W (Row.sInt Syntax.w64), Path'.refl), (Reads'.as-is 𝓤 H A (Rows.mref (Array.Array (Referent.rtF (Referent.fInt Syntax.w32)) 32772) (Syntax.tyRef Syntax.erased Syntax.mut (Syntax.tyArray (Syntax.tyInt Syntax.w32) 32772)) 10), Reads'.reads-mref 𝓤 H A W (Array.Array (Referent.rtF (Referent.fInt Syntax.w32)) 32772) (Syntax.tyRef Syntax.erased Syntax.mut (Syntax.tyArray (Syntax.tyInt Syntax.w32) 32772)) 10, Path'.refl, tt))) (Reads'.room-gone 𝓤 H A (Syntax.tyStruct (List._∷_ 115 (List._∷_ 99 (List._∷_ 114 (List._∷_ 105 (List._∷_ 112 (List._∷_ 116 (List._∷_ 58 (List._∷_ 58 (List._∷_ 115 (List._∷_ 99 (List._∷_ 97 (List._∷_ 110 (List._∷_ 58 (List._∷_ 58 (List._∷_ 76 (List._∷_ 105 (List._∷_ 110 (List._∷_ 101 List.[])))))))))))))))))) (Syntax.tcons (Syntax.tyInt Syntax.w32) (Syntax.tcons (Syntax.tyInt Syntax.w64) (Syntax.tcons (Syntax.tyInt Syntax.w64) (Syntax.tcons (Syntax.tyInt Syntax.w64) (Syntax.tcons (Syntax.tyInt Syntax.w64) Syntax.tnil))))))) (tt, (tt, tt)) Path'.refl) d89
 
           d91 : Typed.Typed 𝓤 H A 𝓣 E G26 b53 Δ3 at91
           d91 = Typed.s-seq 𝓤 H A W 𝓣 E G26 G27 b15 b52 Δ3 (Typed.give s22) at90 (Reborrow.t-mref-relend 𝓤 H A W E 𝓣 G26 2 18 1 10 (Array.Array (Referent.rtF (Referent.fInt Syntax.w32)) 32772) (Syntax.tyArray (Syntax.tyInt Syntax.w32) 32772) (Syntax.tyRef (Syntax.named 1) Syntax.mut (Syntax.tyArray (Syntax.tyInt Syntax.w32) 32772)) (Syntax.tyRef Syntax.erased Syntax.mut (Syntax.tyArray (Syntax.tyInt Syntax.w32) 32772)) (Row.lease (κs .1 .0) (qs .1 .0)) (λ x. x) (Reads'.as-is 𝓤 H A (Rows.mref (Array.Array (Referent.rtF (Referent.fInt Syntax.w32)) 32772) (Syntax.tyRef (Syntax.named 1) Syntax.mut (Syntax.tyArray (Syntax.tyInt Syntax.w32) 32772)) 1)) (Reads'.room-gone 𝓤 H A (Syntax.tyRef Syntax.erased Syntax.mut (Syntax.tyArray (Syntax.tyInt Syntax.w32) 32772))) Path'.refl tt Path'.refl Path'.refl λ b o. tt) d90
@@ -2482,6 +2482,6 @@ module _ (claims· : Claims) where
           pub asked : (a : Kinds.Dens κs ps) → (good : Kinds.GoodsP κs ps a) → (pre : Pre· κs a) → (bs : List.List Nat.ℕ) → Φ (Any.wantQ 10 ps r xs m κs qs a (Post· κs a)) (Function.init 10 ps r xs m κs qs a)
           asked = λ a good pre bs. laid record { κs = κs; args = record { script = a .0; numbers = a .1 .0; plan = a .1 .1 .0; table = a .1 .1 .1 .0; history = a .1 .1 .1 .1 .0; ends = a .1 .1 .1 .1 .1 .0; work = a .1 .1 .1 .1 .1 .1 .0; output = a .1 .1 .1 .1 .1 .1 .1 .0; sheet = a .1 .1 .1 .1 .1 .1 .1 .1 .0; kept = a .1 .1 .1 .1 .1 .1 .1 .1 .1 .0 }; good = good; pre = pre }
 
-        module _ {M : Type 1} (𝓤 : URA.URA M) (H : Wp.Heap 𝓤) (A : Atoms.Atoms 𝓤) (W : Kit.Given 𝓤 H A) (𝓣 : Wp.Tables 𝓤 H) (known0 : Plain.Known 𝓤 H A W 𝓣 0 ps·0 r·0 (claims· .0) (claims· .1) "zones::held::nothing") (known1 : Plain.Known 𝓤 H A W 𝓣 2 ps·1 r·1 (claims· .2) (claims· .3) "zones::scan::next_line") (known2 : Plain.Known 𝓤 H A W 𝓣 10 ps·2 r·2 (claims· .4) (claims· .5) "zones::lines::obey") (known3 : Plain.Known 𝓤 H A W 𝓣 0 ps·3 r·3 (claims· .6) (claims· .7) "zones::prints::error") where
+        module _ {M : Type 1} (𝓤 : URA.URA M) (H : Wp.Heap 𝓤) (A : Atoms.Atoms 𝓤) (W : Kit.Given 𝓤 H A) (𝓣 : Wp.Tables 𝓤 H) (known0 : Plain.Known 𝓤 H A W 𝓣 0 ps·0 r·0 (claims· .0) (claims· .1) "zones::held::nothing") (known1 : Plain.Known 𝓤 H A W 𝓣 2 ps·1 r·1 (claims· .2) (claims· .3) "script::scan::next_line") (known2 : Plain.Known 𝓤 H A W 𝓣 10 ps·2 r·2 (claims· .4) (claims· .5) "zones::lines::obey") (known3 : Plain.Known 𝓤 H A W 𝓣 0 ps·3 r·3 (claims· .6) (claims· .7) "script::prints::error") where
           pub spec : Statement.Triple 𝓤 (Wp.WpFn 𝓤 H (𝓣 .C) (𝓣 .Λ) (Function.fnOf 10 ps r xs m hs body)) (Function.plainOf 𝓤 H A 10 ps r Pre· Post·)
           spec = Plain.t-fn-plain 𝓤 H A W 𝓣 10 ps r xs m hs body (λ κs qs bs. Φ) (λ κs qs bs bd. typed κs qs 𝓤 H A W 𝓣 (known0, known1, known2, known3) bs bd) Pre· Post· asked

@@ -5,10 +5,10 @@ use Rattle.pyramid.proofs.Outcome
 use Rattle.pyramid.proofs.Outcome.Laws
 use Rattle.pyramid.proofs.State
 use Rattle.pyramid.proofs.State.Laws as Laws'
+use Rattle.script.proofs.scan.Line
+use Rattle.script.proofs.scan.Line.Laws as Laws''
 use Rattle.zones.proofs.held.Held
-use Rattle.zones.proofs.held.Held.Laws as Laws''
-use Rattle.zones.proofs.scan.Line
-use Rattle.zones.proofs.scan.Line.Laws as Laws'3
+use Rattle.zones.proofs.held.Held.Laws as Laws'3
 use borrow.Author.Called
 use borrow.Fn.Any
 use borrow.Fn.Call
@@ -65,7 +65,7 @@ use prog.Wp
 use types.Kit
 
 abbrev pub ps : List.List (Kinds.PK 6)
-ps = List._∷_ (Value.pVal record { ty = Declared.row Held.the-type; one = Path'.refl; val = Laws'4.val Held.the-type Laws''.the-laws; tells = Laws'4.tells Held.the-type Laws''.the-laws; still = Laws'4.still Held.the-type Laws''.the-copy Exit.yes; row = Rows.whole (Declared.row Held.the-type); rd = λ x. x; mk = λ x. x } λ M 𝓤 H A W. record { copies = Laws'4.copy Held.the-type Laws''.the-copy 𝓤 H A W; lawful = Laws'4.lawful Held.the-type Laws''.the-laws 𝓤 H A W; makes = Laws'4.makes Held.the-type Laws''.the-plain 𝓤 H A; in-mem = Local.mem-whole 𝓤 H A W (Declared.row Held.the-type); of-mem = Local.whole-mem 𝓤 H A W (Declared.row Held.the-type) }) (List._∷_ (Value.pVal record { ty = Declared.row Line.the-type; one = Path'.refl; val = Laws'4.val Line.the-type Laws'3.the-laws; tells = Laws'4.tells Line.the-type Laws'3.the-laws; still = Laws'4.still Line.the-type Laws'3.the-copy Exit.yes; row = Rows.whole (Declared.row Line.the-type); rd = λ x. x; mk = λ x. x } λ M 𝓤 H A W. record { copies = Laws'4.copy Line.the-type Laws'3.the-copy 𝓤 H A W; lawful = Laws'4.lawful Line.the-type Laws'3.the-laws 𝓤 H A W; makes = Laws'4.makes Line.the-type Laws'3.the-plain 𝓤 H A; in-mem = Local.mem-whole 𝓤 H A W (Declared.row Line.the-type); of-mem = Local.whole-mem 𝓤 H A W (Declared.row Line.the-type) }) (List._∷_ (ShrSlice.pShrS (Referent.rtF (Referent.fInt Syntax.w32)) 0 tt) (List._∷_ (MutSlice.pMutS (Referent.rtF (Referent.fInt Syntax.w32)) 1 tt) (List._∷_ (MutSlice.pMutS (Referent.rtF (Referent.fInt Syntax.w32)) 2 tt) (List._∷_ (MutSlice.pMutS (Referent.rtF (Referent.fInt Syntax.w32)) 3 tt) (List._∷_ (MutSlice.pMutS Cell.R 4 tt) (List._∷_ (MutSlice.pMutS Cell.R 5 tt) List.[])))))))
+ps = List._∷_ (Value.pVal record { ty = Declared.row Held.the-type; one = Path'.refl; val = Laws'4.val Held.the-type Laws'3.the-laws; tells = Laws'4.tells Held.the-type Laws'3.the-laws; still = Laws'4.still Held.the-type Laws'3.the-copy Exit.yes; row = Rows.whole (Declared.row Held.the-type); rd = λ x. x; mk = λ x. x } λ M 𝓤 H A W. record { copies = Laws'4.copy Held.the-type Laws'3.the-copy 𝓤 H A W; lawful = Laws'4.lawful Held.the-type Laws'3.the-laws 𝓤 H A W; makes = Laws'4.makes Held.the-type Laws'3.the-plain 𝓤 H A; in-mem = Local.mem-whole 𝓤 H A W (Declared.row Held.the-type); of-mem = Local.whole-mem 𝓤 H A W (Declared.row Held.the-type) }) (List._∷_ (Value.pVal record { ty = Declared.row Line.the-type; one = Path'.refl; val = Laws'4.val Line.the-type Laws''.the-laws; tells = Laws'4.tells Line.the-type Laws''.the-laws; still = Laws'4.still Line.the-type Laws''.the-copy Exit.yes; row = Rows.whole (Declared.row Line.the-type); rd = λ x. x; mk = λ x. x } λ M 𝓤 H A W. record { copies = Laws'4.copy Line.the-type Laws''.the-copy 𝓤 H A W; lawful = Laws'4.lawful Line.the-type Laws''.the-laws 𝓤 H A W; makes = Laws'4.makes Line.the-type Laws''.the-plain 𝓤 H A; in-mem = Local.mem-whole 𝓤 H A W (Declared.row Line.the-type); of-mem = Local.whole-mem 𝓤 H A W (Declared.row Line.the-type) }) (List._∷_ (ShrSlice.pShrS (Referent.rtF (Referent.fInt Syntax.w32)) 0 tt) (List._∷_ (MutSlice.pMutS (Referent.rtF (Referent.fInt Syntax.w32)) 1 tt) (List._∷_ (MutSlice.pMutS (Referent.rtF (Referent.fInt Syntax.w32)) 2 tt) (List._∷_ (MutSlice.pMutS (Referent.rtF (Referent.fInt Syntax.w32)) 3 tt) (List._∷_ (MutSlice.pMutS Cell.R 4 tt) (List._∷_ (MutSlice.pMutS Cell.R 5 tt) List.[])))))))
 
 abbrev pub r : Kinds.RK 6
 r = Value.rVal record { ty = Declared.row Outcome.the-type; one = Path'.refl; val = Laws'4.val Outcome.the-type Laws.the-laws; tells = Laws'4.tells Outcome.the-type Laws.the-laws; still = Laws'4.still Outcome.the-type Laws.the-copy Exit.yes; row = Rows.whole (Declared.row Outcome.the-type); rd = λ x. x; mk = λ x. x } λ M 𝓤 H A W. record { copies = Laws'4.copy Outcome.the-type Laws.the-copy 𝓤 H A W; lawful = Laws'4.lawful Outcome.the-type Laws.the-laws 𝓤 H A W; makes = Laws'4.makes Outcome.the-type Laws.the-plain 𝓤 H A; in-mem = Local.mem-whole 𝓤 H A W (Declared.row Outcome.the-type); of-mem = Local.whole-mem 𝓤 H A W (Declared.row Outcome.the-type) }
@@ -110,7 +110,7 @@ abbrev b5 : Syntax.Body
 b5 = Syntax.assign (Syntax.place 14 List.[]) (Syntax.rvOpd (Syntax.copy (Syntax.place 1 (List._∷_ (Syntax.field 5) List.[]))))
 
 abbrev b6 : Syntax.Body
-b6 = Syntax.call "zones::sizes::least" (List._∷_ (Syntax.copy (Syntax.place 2 (List._∷_ (Syntax.field 1) List.[]))) (List._∷_ (Syntax.intBig Syntax.w64 32772) List.[])) (Syntax.place 15 List.[])
+b6 = Syntax.call "script::sizes::least" (List._∷_ (Syntax.copy (Syntax.place 2 (List._∷_ (Syntax.field 1) List.[]))) (List._∷_ (Syntax.intBig Syntax.w64 32772) List.[])) (Syntax.place 15 List.[])
 
 abbrev b7 : Syntax.Body
 b7 = Syntax.assign (Syntax.place 16 List.[]) (Syntax.op2 Syntax.offset (Syntax.copy (Syntax.place 3 (List._∷_ (Syntax.field 0) List.[]))) (Syntax.int Syntax.w64 0))
@@ -239,7 +239,7 @@ abbrev pub t1 : List.List Row.Entry
 t1 = List._∷_ (16, Rows.any-gone Syntax.tyPtr) (List._∷_ (17, Rows.any-gone (Syntax.tyInt Syntax.w32)) (List._∷_ (18, Rows.any-gone (Syntax.tyRef Syntax.erased Syntax.imm (Syntax.tyInt Syntax.w32))) (List._∷_ (19, Rows.any-gone (Syntax.tyStruct (List._∷_ 38 (List._∷_ 91 (List._∷_ 93 List.[]))) (Syntax.tcons (Syntax.tyRef Syntax.erased Syntax.imm (Syntax.tyInt Syntax.w32)) (Syntax.tcons (Syntax.tyInt Syntax.w64) Syntax.tnil)))) (List._∷_ (20, Rows.any-gone (Syntax.tyRef Syntax.erased Syntax.mut (Syntax.tyInt Syntax.w32))) (List._∷_ (21, Rows.any-gone (Syntax.tyStruct (List._∷_ 38 (List._∷_ 91 (List._∷_ 93 List.[]))) (Syntax.tcons (Syntax.tyRef Syntax.erased Syntax.mut (Syntax.tyInt Syntax.w32)) (Syntax.tcons (Syntax.tyInt Syntax.w64) Syntax.tnil)))) (List._∷_ (22, Rows.any-gone (Syntax.tyRef Syntax.erased Syntax.mut (Syntax.tyInt Syntax.w32))) (List._∷_ (23, Rows.any-gone (Syntax.tyStruct (List._∷_ 38 (List._∷_ 91 (List._∷_ 93 List.[]))) (Syntax.tcons (Syntax.tyRef Syntax.erased Syntax.mut (Syntax.tyInt Syntax.w32)) (Syntax.tcons (Syntax.tyInt Syntax.w64) Syntax.tnil)))) (List._∷_ (24, Rows.any-gone (Syntax.tyRef Syntax.erased Syntax.mut (Syntax.tyInt Syntax.w32))) (List._∷_ (25, Rows.any-gone (Syntax.tyStruct (List._∷_ 38 (List._∷_ 91 (List._∷_ 93 List.[]))) (Syntax.tcons (Syntax.tyRef Syntax.erased Syntax.mut (Syntax.tyInt Syntax.w32)) (Syntax.tcons (Syntax.tyInt Syntax.w64) Syntax.tnil)))) (List._∷_ (26, Rows.any-gone (Syntax.tyRef Syntax.erased Syntax.mut Cell.behind)) (List._∷_ (27, Rows.any-gone (Syntax.tyStruct (List._∷_ 38 (List._∷_ 91 (List._∷_ 93 List.[]))) (Syntax.tcons (Syntax.tyRef Syntax.erased Syntax.mut Cell.behind) (Syntax.tcons (Syntax.tyInt Syntax.w64) Syntax.tnil)))) (List._∷_ (28, Rows.any-gone (Syntax.tyRef Syntax.erased Syntax.mut Cell.behind)) (List._∷_ (29, Rows.any-gone (Syntax.tyStruct (List._∷_ 38 (List._∷_ 91 (List._∷_ 93 List.[]))) (Syntax.tcons (Syntax.tyRef Syntax.erased Syntax.mut Cell.behind) (Syntax.tcons (Syntax.tyInt Syntax.w64) Syntax.tnil)))) List.[])))))))))))))
 
 abbrev pub t2 : List.List Row.Entry
-t2 = List._∷_ (0, Rows.whole (Declared.row Outcome.the-type)) (List._∷_ (1, Rows.any-gone (Syntax.tyStruct (List._∷_ 122 (List._∷_ 111 (List._∷_ 110 (List._∷_ 101 (List._∷_ 115 (List._∷_ 58 (List._∷_ 58 (List._∷_ 104 (List._∷_ 101 (List._∷_ 108 (List._∷_ 100 (List._∷_ 58 (List._∷_ 58 (List._∷_ 72 (List._∷_ 101 (List._∷_ 108 (List._∷_ 100 List.[]))))))))))))))))) (Syntax.tcons (Syntax.tyStruct (List._∷_ 112 (List._∷_ 121 (List._∷_ 114 (List._∷_ 97 (List._∷_ 109 (List._∷_ 105 (List._∷_ 100 (List._∷_ 58 (List._∷_ 58 (List._∷_ 83 (List._∷_ 116 (List._∷_ 97 (List._∷_ 116 (List._∷_ 101 List.[])))))))))))))) (Syntax.tcons (Syntax.tyInt Syntax.w32) (Syntax.tcons (Syntax.tyInt Syntax.w32) (Syntax.tcons (Syntax.tyInt Syntax.w32) (Syntax.tcons (Syntax.tyInt Syntax.w32) (Syntax.tcons (Syntax.tyInt Syntax.w32) (Syntax.tcons (Syntax.tyArray (Syntax.tyInt Syntax.w32) 64) Syntax.tnil))))))) (Syntax.tcons (Syntax.tyInt Syntax.w64) (Syntax.tcons (Syntax.tyInt Syntax.w64) (Syntax.tcons (Syntax.tyInt Syntax.w64) (Syntax.tcons (Syntax.tyInt Syntax.w64) (Syntax.tcons (Syntax.tyInt Syntax.w64) (Syntax.tcons (Syntax.tyInt Syntax.w64) (Syntax.tcons Syntax.tyBool Syntax.tnil)))))))))) (List._∷_ (2, Rows.any-gone (Syntax.tyStruct (List._∷_ 122 (List._∷_ 111 (List._∷_ 110 (List._∷_ 101 (List._∷_ 115 (List._∷_ 58 (List._∷_ 58 (List._∷_ 115 (List._∷_ 99 (List._∷_ 97 (List._∷_ 110 (List._∷_ 58 (List._∷_ 58 (List._∷_ 76 (List._∷_ 105 (List._∷_ 110 (List._∷_ 101 List.[]))))))))))))))))) (Syntax.tcons (Syntax.tyInt Syntax.w32) (Syntax.tcons (Syntax.tyInt Syntax.w64) (Syntax.tcons (Syntax.tyInt Syntax.w64) (Syntax.tcons (Syntax.tyInt Syntax.w64) (Syntax.tcons (Syntax.tyInt Syntax.w64) Syntax.tnil))))))) (List._∷_ (3, Rows.sslice (Referent.rtF (Referent.fInt Syntax.w32)) (Syntax.tyRef (Syntax.named 0) Syntax.imm (Syntax.tyInt Syntax.w32)) 0) (List._∷_ (4, Mut.mslice (Referent.rtF (Referent.fInt Syntax.w32)) (Syntax.tyRef (Syntax.named 1) Syntax.mut (Syntax.tyInt Syntax.w32)) 1) (List._∷_ (5, Mut.mslice (Referent.rtF (Referent.fInt Syntax.w32)) (Syntax.tyRef (Syntax.named 2) Syntax.mut (Syntax.tyInt Syntax.w32)) 2) (List._∷_ (6, Mut.mslice (Referent.rtF (Referent.fInt Syntax.w32)) (Syntax.tyRef (Syntax.named 3) Syntax.mut (Syntax.tyInt Syntax.w32)) 3) (List._∷_ (7, Mut.mslice Cell.R (Syntax.tyRef (Syntax.named 4) Syntax.mut Cell.behind) 4) (List._∷_ (8, Mut.mslice Cell.R (Syntax.tyRef (Syntax.named 5) Syntax.mut Cell.behind) 5) (List._∷_ (9, Rows.any-gone (Syntax.tyStruct (List._∷_ 112 (List._∷_ 121 (List._∷_ 114 (List._∷_ 97 (List._∷_ 109 (List._∷_ 105 (List._∷_ 100 (List._∷_ 58 (List._∷_ 58 (List._∷_ 83 (List._∷_ 116 (List._∷_ 97 (List._∷_ 116 (List._∷_ 101 List.[])))))))))))))) (Syntax.tcons (Syntax.tyInt Syntax.w32) (Syntax.tcons (Syntax.tyInt Syntax.w32) (Syntax.tcons (Syntax.tyInt Syntax.w32) (Syntax.tcons (Syntax.tyInt Syntax.w32) (Syntax.tcons (Syntax.tyInt Syntax.w32) (Syntax.tcons (Syntax.tyArray (Syntax.tyInt Syntax.w32) 64) Syntax.tnil)))))))) (List._∷_ (10, Rows.any-gone (Syntax.tyInt Syntax.w64)) (List._∷_ (11, Rows.any-gone (Syntax.tyInt Syntax.w64)) (List._∷_ (12, Rows.any-gone (Syntax.tyInt Syntax.w64)) (List._∷_ (13, Rows.any-gone (Syntax.tyInt Syntax.w64)) (List._∷_ (14, Rows.any-gone (Syntax.tyInt Syntax.w64)) (List._∷_ (15, Rows.any-gone (Syntax.tyInt Syntax.w64)) List.[])))))))))))))))
+t2 = List._∷_ (0, Rows.whole (Declared.row Outcome.the-type)) (List._∷_ (1, Rows.any-gone (Syntax.tyStruct (List._∷_ 122 (List._∷_ 111 (List._∷_ 110 (List._∷_ 101 (List._∷_ 115 (List._∷_ 58 (List._∷_ 58 (List._∷_ 104 (List._∷_ 101 (List._∷_ 108 (List._∷_ 100 (List._∷_ 58 (List._∷_ 58 (List._∷_ 72 (List._∷_ 101 (List._∷_ 108 (List._∷_ 100 List.[]))))))))))))))))) (Syntax.tcons (Syntax.tyStruct (List._∷_ 112 (List._∷_ 121 (List._∷_ 114 (List._∷_ 97 (List._∷_ 109 (List._∷_ 105 (List._∷_ 100 (List._∷_ 58 (List._∷_ 58 (List._∷_ 83 (List._∷_ 116 (List._∷_ 97 (List._∷_ 116 (List._∷_ 101 List.[])))))))))))))) (Syntax.tcons (Syntax.tyInt Syntax.w32) (Syntax.tcons (Syntax.tyInt Syntax.w32) (Syntax.tcons (Syntax.tyInt Syntax.w32) (Syntax.tcons (Syntax.tyInt Syntax.w32) (Syntax.tcons (Syntax.tyInt Syntax.w32) (Syntax.tcons (Syntax.tyArray (Syntax.tyInt Syntax.w32) 64) Syntax.tnil))))))) (Syntax.tcons (Syntax.tyInt Syntax.w64) (Syntax.tcons (Syntax.tyInt Syntax.w64) (Syntax.tcons (Syntax.tyInt Syntax.w64) (Syntax.tcons (Syntax.tyInt Syntax.w64) (Syntax.tcons (Syntax.tyInt Syntax.w64) (Syntax.tcons (Syntax.tyInt Syntax.w64) (Syntax.tcons Syntax.tyBool Syntax.tnil)))))))))) (List._∷_ (2, Rows.any-gone (Syntax.tyStruct (List._∷_ 115 (List._∷_ 99 (List._∷_ 114 (List._∷_ 105 (List._∷_ 112 (List._∷_ 116 (List._∷_ 58 (List._∷_ 58 (List._∷_ 115 (List._∷_ 99 (List._∷_ 97 (List._∷_ 110 (List._∷_ 58 (List._∷_ 58 (List._∷_ 76 (List._∷_ 105 (List._∷_ 110 (List._∷_ 101 List.[])))))))))))))))))) (Syntax.tcons (Syntax.tyInt Syntax.w32) (Syntax.tcons (Syntax.tyInt Syntax.w64) (Syntax.tcons (Syntax.tyInt Syntax.w64) (Syntax.tcons (Syntax.tyInt Syntax.w64) (Syntax.tcons (Syntax.tyInt Syntax.w64) Syntax.tnil))))))) (List._∷_ (3, Rows.sslice (Referent.rtF (Referent.fInt Syntax.w32)) (Syntax.tyRef (Syntax.named 0) Syntax.imm (Syntax.tyInt Syntax.w32)) 0) (List._∷_ (4, Mut.mslice (Referent.rtF (Referent.fInt Syntax.w32)) (Syntax.tyRef (Syntax.named 1) Syntax.mut (Syntax.tyInt Syntax.w32)) 1) (List._∷_ (5, Mut.mslice (Referent.rtF (Referent.fInt Syntax.w32)) (Syntax.tyRef (Syntax.named 2) Syntax.mut (Syntax.tyInt Syntax.w32)) 2) (List._∷_ (6, Mut.mslice (Referent.rtF (Referent.fInt Syntax.w32)) (Syntax.tyRef (Syntax.named 3) Syntax.mut (Syntax.tyInt Syntax.w32)) 3) (List._∷_ (7, Mut.mslice Cell.R (Syntax.tyRef (Syntax.named 4) Syntax.mut Cell.behind) 4) (List._∷_ (8, Mut.mslice Cell.R (Syntax.tyRef (Syntax.named 5) Syntax.mut Cell.behind) 5) (List._∷_ (9, Rows.any-gone (Syntax.tyStruct (List._∷_ 112 (List._∷_ 121 (List._∷_ 114 (List._∷_ 97 (List._∷_ 109 (List._∷_ 105 (List._∷_ 100 (List._∷_ 58 (List._∷_ 58 (List._∷_ 83 (List._∷_ 116 (List._∷_ 97 (List._∷_ 116 (List._∷_ 101 List.[])))))))))))))) (Syntax.tcons (Syntax.tyInt Syntax.w32) (Syntax.tcons (Syntax.tyInt Syntax.w32) (Syntax.tcons (Syntax.tyInt Syntax.w32) (Syntax.tcons (Syntax.tyInt Syntax.w32) (Syntax.tcons (Syntax.tyInt Syntax.w32) (Syntax.tcons (Syntax.tyArray (Syntax.tyInt Syntax.w32) 64) Syntax.tnil)))))))) (List._∷_ (10, Rows.any-gone (Syntax.tyInt Syntax.w64)) (List._∷_ (11, Rows.any-gone (Syntax.tyInt Syntax.w64)) (List._∷_ (12, Rows.any-gone (Syntax.tyInt Syntax.w64)) (List._∷_ (13, Rows.any-gone (Syntax.tyInt Syntax.w64)) (List._∷_ (14, Rows.any-gone (Syntax.tyInt Syntax.w64)) (List._∷_ (15, Rows.any-gone (Syntax.tyInt Syntax.w64)) List.[])))))))))))))))
 
 abbrev pub t3 : List.List Row.Entry
 t3 = List._∷_ (0, Rows.any-gone (Syntax.tyStruct (List._∷_ 112 (List._∷_ 121 (List._∷_ 114 (List._∷_ 97 (List._∷_ 109 (List._∷_ 105 (List._∷_ 100 (List._∷_ 58 (List._∷_ 58 (List._∷_ 79 (List._∷_ 117 (List._∷_ 116 (List._∷_ 99 (List._∷_ 111 (List._∷_ 109 (List._∷_ 101 List.[])))))))))))))))) (Syntax.tcons (Syntax.tyStruct (List._∷_ 112 (List._∷_ 121 (List._∷_ 114 (List._∷_ 97 (List._∷_ 109 (List._∷_ 105 (List._∷_ 100 (List._∷_ 58 (List._∷_ 58 (List._∷_ 83 (List._∷_ 116 (List._∷_ 97 (List._∷_ 116 (List._∷_ 101 List.[])))))))))))))) (Syntax.tcons (Syntax.tyInt Syntax.w32) (Syntax.tcons (Syntax.tyInt Syntax.w32) (Syntax.tcons (Syntax.tyInt Syntax.w32) (Syntax.tcons (Syntax.tyInt Syntax.w32) (Syntax.tcons (Syntax.tyInt Syntax.w32) (Syntax.tcons (Syntax.tyArray (Syntax.tyInt Syntax.w32) 64) Syntax.tnil))))))) (Syntax.tcons (Syntax.tyEnum (List._∷_ 100 (List._∷_ 97 (List._∷_ 114 (List._∷_ 116 (List._∷_ 115 (List._∷_ 58 (List._∷_ 58 (List._∷_ 65 (List._∷_ 110 (List._∷_ 115 (List._∷_ 119 (List._∷_ 101 (List._∷_ 114 List.[]))))))))))))) (Syntax.ttcons (Syntax.tcons (Syntax.tyInt Syntax.w64) Syntax.tnil) (Syntax.ttcons Syntax.tnil (Syntax.ttcons (Syntax.tcons (Syntax.tyInt Syntax.w64) Syntax.tnil) (Syntax.ttcons (Syntax.tcons (Syntax.tyInt Syntax.w64) (Syntax.tcons (Syntax.tyInt Syntax.w64) Syntax.tnil)) (Syntax.ttcons Syntax.tnil (Syntax.ttcons Syntax.tnil (Syntax.ttcons Syntax.tnil (Syntax.ttcons (Syntax.tcons (Syntax.tyInt Syntax.w64) Syntax.tnil) (Syntax.ttcons (Syntax.tcons (Syntax.tyInt Syntax.w64) Syntax.tnil) (Syntax.ttcons (Syntax.tcons (Syntax.tyInt Syntax.w64) Syntax.tnil) (Syntax.ttcons (Syntax.tcons (Syntax.tyInt Syntax.w64) Syntax.tnil) (Syntax.ttcons (Syntax.tcons (Syntax.tyInt Syntax.w64) Syntax.tnil) (Syntax.ttcons (Syntax.tcons (Syntax.tyInt Syntax.w64) Syntax.tnil) (Syntax.ttcons (Syntax.tcons (Syntax.tyInt Syntax.w64) Syntax.tnil) (Syntax.ttcons Syntax.tnil (Syntax.ttcons Syntax.tnil (Syntax.ttcons (Syntax.tcons (Syntax.tyInt Syntax.w64) Syntax.tnil) Syntax.ttnil)))))))))))))))))) Syntax.tnil)))) (List._∷_ (1, Rows.whole (Declared.row Held.the-type)) (List._∷_ (2, Rows.whole (Declared.row Line.the-type)) (List._∷_ (3, Rows.sslice (Referent.rtF (Referent.fInt Syntax.w32)) (Syntax.tyRef (Syntax.named 0) Syntax.imm (Syntax.tyInt Syntax.w32)) 0) (List._∷_ (4, Mut.mslice (Referent.rtF (Referent.fInt Syntax.w32)) (Syntax.tyRef (Syntax.named 1) Syntax.mut (Syntax.tyInt Syntax.w32)) 1) (List._∷_ (5, Mut.mslice (Referent.rtF (Referent.fInt Syntax.w32)) (Syntax.tyRef (Syntax.named 2) Syntax.mut (Syntax.tyInt Syntax.w32)) 2) (List._∷_ (6, Mut.mslice (Referent.rtF (Referent.fInt Syntax.w32)) (Syntax.tyRef (Syntax.named 3) Syntax.mut (Syntax.tyInt Syntax.w32)) 3) (List._∷_ (7, Mut.mslice Cell.R (Syntax.tyRef (Syntax.named 4) Syntax.mut Cell.behind) 4) (List._∷_ (8, Mut.mslice Cell.R (Syntax.tyRef (Syntax.named 5) Syntax.mut Cell.behind) 5) (List._∷_ (9, Rows.whole (Declared.row State.the-type)) (List._∷_ (10, Rows.any-gone (Syntax.tyInt Syntax.w64)) (List._∷_ (11, Rows.any-gone (Syntax.tyInt Syntax.w64)) (List._∷_ (12, Rows.any-gone (Syntax.tyInt Syntax.w64)) (List._∷_ (13, Rows.any-gone (Syntax.tyInt Syntax.w64)) (List._∷_ (14, Rows.any-gone (Syntax.tyInt Syntax.w64)) (List._∷_ (15, Rows.any-gone (Syntax.tyInt Syntax.w64)) List.[])))))))))))))))
@@ -335,52 +335,52 @@ abbrev pub t33 : List.List Row.Entry
 t33 = List._∷_ (16, Rows.any-gone Syntax.tyPtr) (List._∷_ (17, Rows.sc-here (Row.sInt Syntax.w32)) (List._∷_ (18, Rows.any-gone (Syntax.tyRef Syntax.erased Syntax.imm (Syntax.tyInt Syntax.w32))) (List._∷_ (19, Rows.any-gone (Syntax.tyStruct (List._∷_ 38 (List._∷_ 91 (List._∷_ 93 List.[]))) (Syntax.tcons (Syntax.tyRef Syntax.erased Syntax.imm (Syntax.tyInt Syntax.w32)) (Syntax.tcons (Syntax.tyInt Syntax.w64) Syntax.tnil)))) (List._∷_ (20, Rows.any-gone (Syntax.tyRef Syntax.erased Syntax.mut (Syntax.tyInt Syntax.w32))) (List._∷_ (21, Mut.msleft (Referent.rtF (Referent.fInt Syntax.w32)) (Syntax.tyRef Syntax.erased Syntax.mut (Syntax.tyInt Syntax.w32))) (List._∷_ (22, Rows.any-gone (Syntax.tyRef Syntax.erased Syntax.mut (Syntax.tyInt Syntax.w32))) (List._∷_ (23, Mut.msleft (Referent.rtF (Referent.fInt Syntax.w32)) (Syntax.tyRef Syntax.erased Syntax.mut (Syntax.tyInt Syntax.w32))) (List._∷_ (24, Rows.any-gone (Syntax.tyRef Syntax.erased Syntax.mut (Syntax.tyInt Syntax.w32))) (List._∷_ (25, Mut.msleft (Referent.rtF (Referent.fInt Syntax.w32)) (Syntax.tyRef Syntax.erased Syntax.mut (Syntax.tyInt Syntax.w32))) (List._∷_ (26, Rows.any-gone (Syntax.tyRef Syntax.erased Syntax.mut Cell.behind)) (List._∷_ (27, Mut.msleft Cell.R (Syntax.tyRef Syntax.erased Syntax.mut Cell.behind)) (List._∷_ (28, Rows.any-gone (Syntax.tyRef Syntax.erased Syntax.mut Cell.behind)) (List._∷_ (29, Mut.msleft Cell.R (Syntax.tyRef Syntax.erased Syntax.mut Cell.behind)) List.[])))))))))))))
 
 abbrev pub t34 : List.List Row.Entry
-t34 = List._∷_ (0, Rows.whole (Declared.row Outcome.the-type)) (List._∷_ (1, Rows.any-gone (Syntax.tyStruct (List._∷_ 122 (List._∷_ 111 (List._∷_ 110 (List._∷_ 101 (List._∷_ 115 (List._∷_ 58 (List._∷_ 58 (List._∷_ 104 (List._∷_ 101 (List._∷_ 108 (List._∷_ 100 (List._∷_ 58 (List._∷_ 58 (List._∷_ 72 (List._∷_ 101 (List._∷_ 108 (List._∷_ 100 List.[]))))))))))))))))) (Syntax.tcons (Syntax.tyStruct (List._∷_ 112 (List._∷_ 121 (List._∷_ 114 (List._∷_ 97 (List._∷_ 109 (List._∷_ 105 (List._∷_ 100 (List._∷_ 58 (List._∷_ 58 (List._∷_ 83 (List._∷_ 116 (List._∷_ 97 (List._∷_ 116 (List._∷_ 101 List.[])))))))))))))) (Syntax.tcons (Syntax.tyInt Syntax.w32) (Syntax.tcons (Syntax.tyInt Syntax.w32) (Syntax.tcons (Syntax.tyInt Syntax.w32) (Syntax.tcons (Syntax.tyInt Syntax.w32) (Syntax.tcons (Syntax.tyInt Syntax.w32) (Syntax.tcons (Syntax.tyArray (Syntax.tyInt Syntax.w32) 64) Syntax.tnil))))))) (Syntax.tcons (Syntax.tyInt Syntax.w64) (Syntax.tcons (Syntax.tyInt Syntax.w64) (Syntax.tcons (Syntax.tyInt Syntax.w64) (Syntax.tcons (Syntax.tyInt Syntax.w64) (Syntax.tcons (Syntax.tyInt Syntax.w64) (Syntax.tcons (Syntax.tyInt Syntax.w64) (Syntax.tcons Syntax.tyBool Syntax.tnil)))))))))) (List._∷_ (2, Rows.any-gone (Syntax.tyStruct (List._∷_ 122 (List._∷_ 111 (List._∷_ 110 (List._∷_ 101 (List._∷_ 115 (List._∷_ 58 (List._∷_ 58 (List._∷_ 115 (List._∷_ 99 (List._∷_ 97 (List._∷_ 110 (List._∷_ 58 (List._∷_ 58 (List._∷_ 76 (List._∷_ 105 (List._∷_ 110 (List._∷_ 101 List.[]))))))))))))))))) (Syntax.tcons (Syntax.tyInt Syntax.w32) (Syntax.tcons (Syntax.tyInt Syntax.w64) (Syntax.tcons (Syntax.tyInt Syntax.w64) (Syntax.tcons (Syntax.tyInt Syntax.w64) (Syntax.tcons (Syntax.tyInt Syntax.w64) Syntax.tnil))))))) (List._∷_ (3, Rows.sslice (Referent.rtF (Referent.fInt Syntax.w32)) (Syntax.tyRef (Syntax.named 0) Syntax.imm (Syntax.tyInt Syntax.w32)) 0) (List._∷_ (4, Part.mslice-owedP (Referent.rtF (Referent.fInt Syntax.w32)) (Syntax.tyRef (Syntax.named 1) Syntax.mut (Syntax.tyInt Syntax.w32)) 1 6 Row.off) (List._∷_ (5, Part.mslice-owedP (Referent.rtF (Referent.fInt Syntax.w32)) (Syntax.tyRef (Syntax.named 2) Syntax.mut (Syntax.tyInt Syntax.w32)) 2 7 Row.off) (List._∷_ (6, Part.mslice-owedP (Referent.rtF (Referent.fInt Syntax.w32)) (Syntax.tyRef (Syntax.named 3) Syntax.mut (Syntax.tyInt Syntax.w32)) 3 8 Row.off) (List._∷_ (7, Part.mslice-owedP Cell.R (Syntax.tyRef (Syntax.named 4) Syntax.mut Cell.behind) 4 9 Row.off) (List._∷_ (8, Part.mslice-owedP Cell.R (Syntax.tyRef (Syntax.named 5) Syntax.mut Cell.behind) 5 10 Row.off) (List._∷_ (9, Rows.whole (Declared.row State.the-type)) (List._∷_ (10, Rows.sc-here (Row.sInt Syntax.w64)) (List._∷_ (11, Rows.sc-here (Row.sInt Syntax.w64)) (List._∷_ (12, Rows.sc-here (Row.sInt Syntax.w64)) (List._∷_ (13, Rows.sc-here (Row.sInt Syntax.w64)) (List._∷_ (14, Rows.sc-here (Row.sInt Syntax.w64)) (List._∷_ (15, Rows.sc-here (Row.sInt Syntax.w64)) List.[])))))))))))))))
+t34 = List._∷_ (0, Rows.whole (Declared.row Outcome.the-type)) (List._∷_ (1, Rows.any-gone (Syntax.tyStruct (List._∷_ 122 (List._∷_ 111 (List._∷_ 110 (List._∷_ 101 (List._∷_ 115 (List._∷_ 58 (List._∷_ 58 (List._∷_ 104 (List._∷_ 101 (List._∷_ 108 (List._∷_ 100 (List._∷_ 58 (List._∷_ 58 (List._∷_ 72 (List._∷_ 101 (List._∷_ 108 (List._∷_ 100 List.[]))))))))))))))))) (Syntax.tcons (Syntax.tyStruct (List._∷_ 112 (List._∷_ 121 (List._∷_ 114 (List._∷_ 97 (List._∷_ 109 (List._∷_ 105 (List._∷_ 100 (List._∷_ 58 (List._∷_ 58 (List._∷_ 83 (List._∷_ 116 (List._∷_ 97 (List._∷_ 116 (List._∷_ 101 List.[])))))))))))))) (Syntax.tcons (Syntax.tyInt Syntax.w32) (Syntax.tcons (Syntax.tyInt Syntax.w32) (Syntax.tcons (Syntax.tyInt Syntax.w32) (Syntax.tcons (Syntax.tyInt Syntax.w32) (Syntax.tcons (Syntax.tyInt Syntax.w32) (Syntax.tcons (Syntax.tyArray (Syntax.tyInt Syntax.w32) 64) Syntax.tnil))))))) (Syntax.tcons (Syntax.tyInt Syntax.w64) (Syntax.tcons (Syntax.tyInt Syntax.w64) (Syntax.tcons (Syntax.tyInt Syntax.w64) (Syntax.tcons (Syntax.tyInt Syntax.w64) (Syntax.tcons (Syntax.tyInt Syntax.w64) (Syntax.tcons (Syntax.tyInt Syntax.w64) (Syntax.tcons Syntax.tyBool Syntax.tnil)))))))))) (List._∷_ (2, Rows.any-gone (Syntax.tyStruct (List._∷_ 115 (List._∷_ 99 (List._∷_ 114 (List._∷_ 105 (List._∷_ 112 (List._∷_ 116 (List._∷_ 58 (List._∷_ 58 (List._∷_ 115 (List._∷_ 99 (List._∷_ 97 (List._∷_ 110 (List._∷_ 58 (List._∷_ 58 (List._∷_ 76 (List._∷_ 105 (List._∷_ 110 (List._∷_ 101 List.[])))))))))))))))))) (Syntax.tcons (Syntax.tyInt Syntax.w32) (Syntax.tcons (Syntax.tyInt Syntax.w64) (Syntax.tcons (Syntax.tyInt Syntax.w64) (Syntax.tcons (Syntax.tyInt Syntax.w64) (Syntax.tcons (Syntax.tyInt Syntax.w64) Syntax.tnil))))))) (List._∷_ (3, Rows.sslice (Referent.rtF (Referent.fInt Syntax.w32)) (Syntax.tyRef (Syntax.named 0) Syntax.imm (Syntax.tyInt Syntax.w32)) 0) (List._∷_ (4, Part.mslice-owedP (Referent.rtF (Referent.fInt Syntax.w32)) (Syntax.tyRef (Syntax.named 1) Syntax.mut (Syntax.tyInt Syntax.w32)) 1 6 Row.off) (List._∷_ (5, Part.mslice-owedP (Referent.rtF (Referent.fInt Syntax.w32)) (Syntax.tyRef (Syntax.named 2) Syntax.mut (Syntax.tyInt Syntax.w32)) 2 7 Row.off) (List._∷_ (6, Part.mslice-owedP (Referent.rtF (Referent.fInt Syntax.w32)) (Syntax.tyRef (Syntax.named 3) Syntax.mut (Syntax.tyInt Syntax.w32)) 3 8 Row.off) (List._∷_ (7, Part.mslice-owedP Cell.R (Syntax.tyRef (Syntax.named 4) Syntax.mut Cell.behind) 4 9 Row.off) (List._∷_ (8, Part.mslice-owedP Cell.R (Syntax.tyRef (Syntax.named 5) Syntax.mut Cell.behind) 5 10 Row.off) (List._∷_ (9, Rows.whole (Declared.row State.the-type)) (List._∷_ (10, Rows.sc-here (Row.sInt Syntax.w64)) (List._∷_ (11, Rows.sc-here (Row.sInt Syntax.w64)) (List._∷_ (12, Rows.sc-here (Row.sInt Syntax.w64)) (List._∷_ (13, Rows.sc-here (Row.sInt Syntax.w64)) (List._∷_ (14, Rows.sc-here (Row.sInt Syntax.w64)) (List._∷_ (15, Rows.sc-here (Row.sInt Syntax.w64)) List.[])))))))))))))))
 
 abbrev pub t35 : List.List Row.Entry
-t35 = List._∷_ (0, Rows.whole (Declared.row Outcome.the-type)) (List._∷_ (1, Rows.any-gone (Syntax.tyStruct (List._∷_ 122 (List._∷_ 111 (List._∷_ 110 (List._∷_ 101 (List._∷_ 115 (List._∷_ 58 (List._∷_ 58 (List._∷_ 104 (List._∷_ 101 (List._∷_ 108 (List._∷_ 100 (List._∷_ 58 (List._∷_ 58 (List._∷_ 72 (List._∷_ 101 (List._∷_ 108 (List._∷_ 100 List.[]))))))))))))))))) (Syntax.tcons (Syntax.tyStruct (List._∷_ 112 (List._∷_ 121 (List._∷_ 114 (List._∷_ 97 (List._∷_ 109 (List._∷_ 105 (List._∷_ 100 (List._∷_ 58 (List._∷_ 58 (List._∷_ 83 (List._∷_ 116 (List._∷_ 97 (List._∷_ 116 (List._∷_ 101 List.[])))))))))))))) (Syntax.tcons (Syntax.tyInt Syntax.w32) (Syntax.tcons (Syntax.tyInt Syntax.w32) (Syntax.tcons (Syntax.tyInt Syntax.w32) (Syntax.tcons (Syntax.tyInt Syntax.w32) (Syntax.tcons (Syntax.tyInt Syntax.w32) (Syntax.tcons (Syntax.tyArray (Syntax.tyInt Syntax.w32) 64) Syntax.tnil))))))) (Syntax.tcons (Syntax.tyInt Syntax.w64) (Syntax.tcons (Syntax.tyInt Syntax.w64) (Syntax.tcons (Syntax.tyInt Syntax.w64) (Syntax.tcons (Syntax.tyInt Syntax.w64) (Syntax.tcons (Syntax.tyInt Syntax.w64) (Syntax.tcons (Syntax.tyInt Syntax.w64) (Syntax.tcons Syntax.tyBool Syntax.tnil)))))))))) (List._∷_ (2, Rows.any-gone (Syntax.tyStruct (List._∷_ 122 (List._∷_ 111 (List._∷_ 110 (List._∷_ 101 (List._∷_ 115 (List._∷_ 58 (List._∷_ 58 (List._∷_ 115 (List._∷_ 99 (List._∷_ 97 (List._∷_ 110 (List._∷_ 58 (List._∷_ 58 (List._∷_ 76 (List._∷_ 105 (List._∷_ 110 (List._∷_ 101 List.[]))))))))))))))))) (Syntax.tcons (Syntax.tyInt Syntax.w32) (Syntax.tcons (Syntax.tyInt Syntax.w64) (Syntax.tcons (Syntax.tyInt Syntax.w64) (Syntax.tcons (Syntax.tyInt Syntax.w64) (Syntax.tcons (Syntax.tyInt Syntax.w64) Syntax.tnil))))))) (List._∷_ (3, Rows.sslice (Referent.rtF (Referent.fInt Syntax.w32)) (Syntax.tyRef (Syntax.named 0) Syntax.imm (Syntax.tyInt Syntax.w32)) 0) (List._∷_ (4, Part.mslice-owedP (Referent.rtF (Referent.fInt Syntax.w32)) (Syntax.tyRef (Syntax.named 1) Syntax.mut (Syntax.tyInt Syntax.w32)) 1 6 Row.off) (List._∷_ (5, Part.mslice-owedP (Referent.rtF (Referent.fInt Syntax.w32)) (Syntax.tyRef (Syntax.named 2) Syntax.mut (Syntax.tyInt Syntax.w32)) 2 7 Row.off) (List._∷_ (6, Part.mslice-owedP (Referent.rtF (Referent.fInt Syntax.w32)) (Syntax.tyRef (Syntax.named 3) Syntax.mut (Syntax.tyInt Syntax.w32)) 3 8 Row.off) (List._∷_ (7, Part.mslice-owedP Cell.R (Syntax.tyRef (Syntax.named 4) Syntax.mut Cell.behind) 4 9 Row.off) (List._∷_ (8, Part.mslice-owedP Cell.R (Syntax.tyRef (Syntax.named 5) Syntax.mut Cell.behind) 5 10 Row.off) (List._∷_ (9, Rows.any-gone (Syntax.tyStruct (List._∷_ 112 (List._∷_ 121 (List._∷_ 114 (List._∷_ 97 (List._∷_ 109 (List._∷_ 105 (List._∷_ 100 (List._∷_ 58 (List._∷_ 58 (List._∷_ 83 (List._∷_ 116 (List._∷_ 97 (List._∷_ 116 (List._∷_ 101 List.[])))))))))))))) (Syntax.tcons (Syntax.tyInt Syntax.w32) (Syntax.tcons (Syntax.tyInt Syntax.w32) (Syntax.tcons (Syntax.tyInt Syntax.w32) (Syntax.tcons (Syntax.tyInt Syntax.w32) (Syntax.tcons (Syntax.tyInt Syntax.w32) (Syntax.tcons (Syntax.tyArray (Syntax.tyInt Syntax.w32) 64) Syntax.tnil)))))))) (List._∷_ (10, Rows.sc-here (Row.sInt Syntax.w64)) (List._∷_ (11, Rows.sc-here (Row.sInt Syntax.w64)) (List._∷_ (12, Rows.sc-here (Row.sInt Syntax.w64)) (List._∷_ (13, Rows.sc-here (Row.sInt Syntax.w64)) (List._∷_ (14, Rows.sc-here (Row.sInt Syntax.w64)) (List._∷_ (15, Rows.sc-here (Row.sInt Syntax.w64)) List.[])))))))))))))))
+t35 = List._∷_ (0, Rows.whole (Declared.row Outcome.the-type)) (List._∷_ (1, Rows.any-gone (Syntax.tyStruct (List._∷_ 122 (List._∷_ 111 (List._∷_ 110 (List._∷_ 101 (List._∷_ 115 (List._∷_ 58 (List._∷_ 58 (List._∷_ 104 (List._∷_ 101 (List._∷_ 108 (List._∷_ 100 (List._∷_ 58 (List._∷_ 58 (List._∷_ 72 (List._∷_ 101 (List._∷_ 108 (List._∷_ 100 List.[]))))))))))))))))) (Syntax.tcons (Syntax.tyStruct (List._∷_ 112 (List._∷_ 121 (List._∷_ 114 (List._∷_ 97 (List._∷_ 109 (List._∷_ 105 (List._∷_ 100 (List._∷_ 58 (List._∷_ 58 (List._∷_ 83 (List._∷_ 116 (List._∷_ 97 (List._∷_ 116 (List._∷_ 101 List.[])))))))))))))) (Syntax.tcons (Syntax.tyInt Syntax.w32) (Syntax.tcons (Syntax.tyInt Syntax.w32) (Syntax.tcons (Syntax.tyInt Syntax.w32) (Syntax.tcons (Syntax.tyInt Syntax.w32) (Syntax.tcons (Syntax.tyInt Syntax.w32) (Syntax.tcons (Syntax.tyArray (Syntax.tyInt Syntax.w32) 64) Syntax.tnil))))))) (Syntax.tcons (Syntax.tyInt Syntax.w64) (Syntax.tcons (Syntax.tyInt Syntax.w64) (Syntax.tcons (Syntax.tyInt Syntax.w64) (Syntax.tcons (Syntax.tyInt Syntax.w64) (Syntax.tcons (Syntax.tyInt Syntax.w64) (Syntax.tcons (Syntax.tyInt Syntax.w64) (Syntax.tcons Syntax.tyBool Syntax.tnil)))))))))) (List._∷_ (2, Rows.any-gone (Syntax.tyStruct (List._∷_ 115 (List._∷_ 99 (List._∷_ 114 (List._∷_ 105 (List._∷_ 112 (List._∷_ 116 (List._∷_ 58 (List._∷_ 58 (List._∷_ 115 (List._∷_ 99 (List._∷_ 97 (List._∷_ 110 (List._∷_ 58 (List._∷_ 58 (List._∷_ 76 (List._∷_ 105 (List._∷_ 110 (List._∷_ 101 List.[])))))))))))))))))) (Syntax.tcons (Syntax.tyInt Syntax.w32) (Syntax.tcons (Syntax.tyInt Syntax.w64) (Syntax.tcons (Syntax.tyInt Syntax.w64) (Syntax.tcons (Syntax.tyInt Syntax.w64) (Syntax.tcons (Syntax.tyInt Syntax.w64) Syntax.tnil))))))) (List._∷_ (3, Rows.sslice (Referent.rtF (Referent.fInt Syntax.w32)) (Syntax.tyRef (Syntax.named 0) Syntax.imm (Syntax.tyInt Syntax.w32)) 0) (List._∷_ (4, Part.mslice-owedP (Referent.rtF (Referent.fInt Syntax.w32)) (Syntax.tyRef (Syntax.named 1) Syntax.mut (Syntax.tyInt Syntax.w32)) 1 6 Row.off) (List._∷_ (5, Part.mslice-owedP (Referent.rtF (Referent.fInt Syntax.w32)) (Syntax.tyRef (Syntax.named 2) Syntax.mut (Syntax.tyInt Syntax.w32)) 2 7 Row.off) (List._∷_ (6, Part.mslice-owedP (Referent.rtF (Referent.fInt Syntax.w32)) (Syntax.tyRef (Syntax.named 3) Syntax.mut (Syntax.tyInt Syntax.w32)) 3 8 Row.off) (List._∷_ (7, Part.mslice-owedP Cell.R (Syntax.tyRef (Syntax.named 4) Syntax.mut Cell.behind) 4 9 Row.off) (List._∷_ (8, Part.mslice-owedP Cell.R (Syntax.tyRef (Syntax.named 5) Syntax.mut Cell.behind) 5 10 Row.off) (List._∷_ (9, Rows.any-gone (Syntax.tyStruct (List._∷_ 112 (List._∷_ 121 (List._∷_ 114 (List._∷_ 97 (List._∷_ 109 (List._∷_ 105 (List._∷_ 100 (List._∷_ 58 (List._∷_ 58 (List._∷_ 83 (List._∷_ 116 (List._∷_ 97 (List._∷_ 116 (List._∷_ 101 List.[])))))))))))))) (Syntax.tcons (Syntax.tyInt Syntax.w32) (Syntax.tcons (Syntax.tyInt Syntax.w32) (Syntax.tcons (Syntax.tyInt Syntax.w32) (Syntax.tcons (Syntax.tyInt Syntax.w32) (Syntax.tcons (Syntax.tyInt Syntax.w32) (Syntax.tcons (Syntax.tyArray (Syntax.tyInt Syntax.w32) 64) Syntax.tnil)))))))) (List._∷_ (10, Rows.sc-here (Row.sInt Syntax.w64)) (List._∷_ (11, Rows.sc-here (Row.sInt Syntax.w64)) (List._∷_ (12, Rows.sc-here (Row.sInt Syntax.w64)) (List._∷_ (13, Rows.sc-here (Row.sInt Syntax.w64)) (List._∷_ (14, Rows.sc-here (Row.sInt Syntax.w64)) (List._∷_ (15, Rows.sc-here (Row.sInt Syntax.w64)) List.[])))))))))))))))
 
 abbrev pub t36 : List.List Row.Entry
-t36 = List._∷_ (0, Rows.whole (Declared.row Outcome.the-type)) (List._∷_ (1, Rows.any-gone (Syntax.tyStruct (List._∷_ 122 (List._∷_ 111 (List._∷_ 110 (List._∷_ 101 (List._∷_ 115 (List._∷_ 58 (List._∷_ 58 (List._∷_ 104 (List._∷_ 101 (List._∷_ 108 (List._∷_ 100 (List._∷_ 58 (List._∷_ 58 (List._∷_ 72 (List._∷_ 101 (List._∷_ 108 (List._∷_ 100 List.[]))))))))))))))))) (Syntax.tcons (Syntax.tyStruct (List._∷_ 112 (List._∷_ 121 (List._∷_ 114 (List._∷_ 97 (List._∷_ 109 (List._∷_ 105 (List._∷_ 100 (List._∷_ 58 (List._∷_ 58 (List._∷_ 83 (List._∷_ 116 (List._∷_ 97 (List._∷_ 116 (List._∷_ 101 List.[])))))))))))))) (Syntax.tcons (Syntax.tyInt Syntax.w32) (Syntax.tcons (Syntax.tyInt Syntax.w32) (Syntax.tcons (Syntax.tyInt Syntax.w32) (Syntax.tcons (Syntax.tyInt Syntax.w32) (Syntax.tcons (Syntax.tyInt Syntax.w32) (Syntax.tcons (Syntax.tyArray (Syntax.tyInt Syntax.w32) 64) Syntax.tnil))))))) (Syntax.tcons (Syntax.tyInt Syntax.w64) (Syntax.tcons (Syntax.tyInt Syntax.w64) (Syntax.tcons (Syntax.tyInt Syntax.w64) (Syntax.tcons (Syntax.tyInt Syntax.w64) (Syntax.tcons (Syntax.tyInt Syntax.w64) (Syntax.tcons (Syntax.tyInt Syntax.w64) (Syntax.tcons Syntax.tyBool Syntax.tnil)))))))))) (List._∷_ (2, Rows.any-gone (Syntax.tyStruct (List._∷_ 122 (List._∷_ 111 (List._∷_ 110 (List._∷_ 101 (List._∷_ 115 (List._∷_ 58 (List._∷_ 58 (List._∷_ 115 (List._∷_ 99 (List._∷_ 97 (List._∷_ 110 (List._∷_ 58 (List._∷_ 58 (List._∷_ 76 (List._∷_ 105 (List._∷_ 110 (List._∷_ 101 List.[]))))))))))))))))) (Syntax.tcons (Syntax.tyInt Syntax.w32) (Syntax.tcons (Syntax.tyInt Syntax.w64) (Syntax.tcons (Syntax.tyInt Syntax.w64) (Syntax.tcons (Syntax.tyInt Syntax.w64) (Syntax.tcons (Syntax.tyInt Syntax.w64) Syntax.tnil))))))) (List._∷_ (3, Rows.sslice (Referent.rtF (Referent.fInt Syntax.w32)) (Syntax.tyRef (Syntax.named 0) Syntax.imm (Syntax.tyInt Syntax.w32)) 0) (List._∷_ (4, Part.mslice-owedP (Referent.rtF (Referent.fInt Syntax.w32)) (Syntax.tyRef (Syntax.named 1) Syntax.mut (Syntax.tyInt Syntax.w32)) 1 6 Row.off) (List._∷_ (5, Part.mslice-owedP (Referent.rtF (Referent.fInt Syntax.w32)) (Syntax.tyRef (Syntax.named 2) Syntax.mut (Syntax.tyInt Syntax.w32)) 2 7 Row.off) (List._∷_ (6, Part.mslice-owedP (Referent.rtF (Referent.fInt Syntax.w32)) (Syntax.tyRef (Syntax.named 3) Syntax.mut (Syntax.tyInt Syntax.w32)) 3 8 Row.off) (List._∷_ (7, Part.mslice-owedP Cell.R (Syntax.tyRef (Syntax.named 4) Syntax.mut Cell.behind) 4 9 Row.off) (List._∷_ (8, Part.mslice-owedP Cell.R (Syntax.tyRef (Syntax.named 5) Syntax.mut Cell.behind) 5 10 Row.off) (List._∷_ (9, Rows.any-gone (Syntax.tyStruct (List._∷_ 112 (List._∷_ 121 (List._∷_ 114 (List._∷_ 97 (List._∷_ 109 (List._∷_ 105 (List._∷_ 100 (List._∷_ 58 (List._∷_ 58 (List._∷_ 83 (List._∷_ 116 (List._∷_ 97 (List._∷_ 116 (List._∷_ 101 List.[])))))))))))))) (Syntax.tcons (Syntax.tyInt Syntax.w32) (Syntax.tcons (Syntax.tyInt Syntax.w32) (Syntax.tcons (Syntax.tyInt Syntax.w32) (Syntax.tcons (Syntax.tyInt Syntax.w32) (Syntax.tcons (Syntax.tyInt Syntax.w32) (Syntax.tcons (Syntax.tyArray (Syntax.tyInt Syntax.w32) 64) Syntax.tnil)))))))) (List._∷_ (10, Rows.any-gone (Syntax.tyInt Syntax.w64)) (List._∷_ (11, Rows.sc-here (Row.sInt Syntax.w64)) (List._∷_ (12, Rows.sc-here (Row.sInt Syntax.w64)) (List._∷_ (13, Rows.sc-here (Row.sInt Syntax.w64)) (List._∷_ (14, Rows.sc-here (Row.sInt Syntax.w64)) (List._∷_ (15, Rows.sc-here (Row.sInt Syntax.w64)) List.[])))))))))))))))
+t36 = List._∷_ (0, Rows.whole (Declared.row Outcome.the-type)) (List._∷_ (1, Rows.any-gone (Syntax.tyStruct (List._∷_ 122 (List._∷_ 111 (List._∷_ 110 (List._∷_ 101 (List._∷_ 115 (List._∷_ 58 (List._∷_ 58 (List._∷_ 104 (List._∷_ 101 (List._∷_ 108 (List._∷_ 100 (List._∷_ 58 (List._∷_ 58 (List._∷_ 72 (List._∷_ 101 (List._∷_ 108 (List._∷_ 100 List.[]))))))))))))))))) (Syntax.tcons (Syntax.tyStruct (List._∷_ 112 (List._∷_ 121 (List._∷_ 114 (List._∷_ 97 (List._∷_ 109 (List._∷_ 105 (List._∷_ 100 (List._∷_ 58 (List._∷_ 58 (List._∷_ 83 (List._∷_ 116 (List._∷_ 97 (List._∷_ 116 (List._∷_ 101 List.[])))))))))))))) (Syntax.tcons (Syntax.tyInt Syntax.w32) (Syntax.tcons (Syntax.tyInt Syntax.w32) (Syntax.tcons (Syntax.tyInt Syntax.w32) (Syntax.tcons (Syntax.tyInt Syntax.w32) (Syntax.tcons (Syntax.tyInt Syntax.w32) (Syntax.tcons (Syntax.tyArray (Syntax.tyInt Syntax.w32) 64) Syntax.tnil))))))) (Syntax.tcons (Syntax.tyInt Syntax.w64) (Syntax.tcons (Syntax.tyInt Syntax.w64) (Syntax.tcons (Syntax.tyInt Syntax.w64) (Syntax.tcons (Syntax.tyInt Syntax.w64) (Syntax.tcons (Syntax.tyInt Syntax.w64) (Syntax.tcons (Syntax.tyInt Syntax.w64) (Syntax.tcons Syntax.tyBool Syntax.tnil)))))))))) (List._∷_ (2, Rows.any-gone (Syntax.tyStruct (List._∷_ 115 (List._∷_ 99 (List._∷_ 114 (List._∷_ 105 (List._∷_ 112 (List._∷_ 116 (List._∷_ 58 (List._∷_ 58 (List._∷_ 115 (List._∷_ 99 (List._∷_ 97 (List._∷_ 110 (List._∷_ 58 (List._∷_ 58 (List._∷_ 76 (List._∷_ 105 (List._∷_ 110 (List._∷_ 101 List.[])))))))))))))))))) (Syntax.tcons (Syntax.tyInt Syntax.w32) (Syntax.tcons (Syntax.tyInt Syntax.w64) (Syntax.tcons (Syntax.tyInt Syntax.w64) (Syntax.tcons (Syntax.tyInt Syntax.w64) (Syntax.tcons (Syntax.tyInt Syntax.w64) Syntax.tnil))))))) (List._∷_ (3, Rows.sslice (Referent.rtF (Referent.fInt Syntax.w32)) (Syntax.tyRef (Syntax.named 0) Syntax.imm (Syntax.tyInt Syntax.w32)) 0) (List._∷_ (4, Part.mslice-owedP (Referent.rtF (Referent.fInt Syntax.w32)) (Syntax.tyRef (Syntax.named 1) Syntax.mut (Syntax.tyInt Syntax.w32)) 1 6 Row.off) (List._∷_ (5, Part.mslice-owedP (Referent.rtF (Referent.fInt Syntax.w32)) (Syntax.tyRef (Syntax.named 2) Syntax.mut (Syntax.tyInt Syntax.w32)) 2 7 Row.off) (List._∷_ (6, Part.mslice-owedP (Referent.rtF (Referent.fInt Syntax.w32)) (Syntax.tyRef (Syntax.named 3) Syntax.mut (Syntax.tyInt Syntax.w32)) 3 8 Row.off) (List._∷_ (7, Part.mslice-owedP Cell.R (Syntax.tyRef (Syntax.named 4) Syntax.mut Cell.behind) 4 9 Row.off) (List._∷_ (8, Part.mslice-owedP Cell.R (Syntax.tyRef (Syntax.named 5) Syntax.mut Cell.behind) 5 10 Row.off) (List._∷_ (9, Rows.any-gone (Syntax.tyStruct (List._∷_ 112 (List._∷_ 121 (List._∷_ 114 (List._∷_ 97 (List._∷_ 109 (List._∷_ 105 (List._∷_ 100 (List._∷_ 58 (List._∷_ 58 (List._∷_ 83 (List._∷_ 116 (List._∷_ 97 (List._∷_ 116 (List._∷_ 101 List.[])))))))))))))) (Syntax.tcons (Syntax.tyInt Syntax.w32) (Syntax.tcons (Syntax.tyInt Syntax.w32) (Syntax.tcons (Syntax.tyInt Syntax.w32) (Syntax.tcons (Syntax.tyInt Syntax.w32) (Syntax.tcons (Syntax.tyInt Syntax.w32) (Syntax.tcons (Syntax.tyArray (Syntax.tyInt Syntax.w32) 64) Syntax.tnil)))))))) (List._∷_ (10, Rows.any-gone (Syntax.tyInt Syntax.w64)) (List._∷_ (11, Rows.sc-here (Row.sInt Syntax.w64)) (List._∷_ (12, Rows.sc-here (Row.sInt Syntax.w64)) (List._∷_ (13, Rows.sc-here (Row.sInt Syntax.w64)) (List._∷_ (14, Rows.sc-here (Row.sInt Syntax.w64)) (List._∷_ (15, Rows.sc-here (Row.sInt Syntax.w64)) List.[])))))))))))))))
 
 abbrev pub t37 : List.List Row.Entry
-t37 = List._∷_ (0, Rows.whole (Declared.row Outcome.the-type)) (List._∷_ (1, Rows.any-gone (Syntax.tyStruct (List._∷_ 122 (List._∷_ 111 (List._∷_ 110 (List._∷_ 101 (List._∷_ 115 (List._∷_ 58 (List._∷_ 58 (List._∷_ 104 (List._∷_ 101 (List._∷_ 108 (List._∷_ 100 (List._∷_ 58 (List._∷_ 58 (List._∷_ 72 (List._∷_ 101 (List._∷_ 108 (List._∷_ 100 List.[]))))))))))))))))) (Syntax.tcons (Syntax.tyStruct (List._∷_ 112 (List._∷_ 121 (List._∷_ 114 (List._∷_ 97 (List._∷_ 109 (List._∷_ 105 (List._∷_ 100 (List._∷_ 58 (List._∷_ 58 (List._∷_ 83 (List._∷_ 116 (List._∷_ 97 (List._∷_ 116 (List._∷_ 101 List.[])))))))))))))) (Syntax.tcons (Syntax.tyInt Syntax.w32) (Syntax.tcons (Syntax.tyInt Syntax.w32) (Syntax.tcons (Syntax.tyInt Syntax.w32) (Syntax.tcons (Syntax.tyInt Syntax.w32) (Syntax.tcons (Syntax.tyInt Syntax.w32) (Syntax.tcons (Syntax.tyArray (Syntax.tyInt Syntax.w32) 64) Syntax.tnil))))))) (Syntax.tcons (Syntax.tyInt Syntax.w64) (Syntax.tcons (Syntax.tyInt Syntax.w64) (Syntax.tcons (Syntax.tyInt Syntax.w64) (Syntax.tcons (Syntax.tyInt Syntax.w64) (Syntax.tcons (Syntax.tyInt Syntax.w64) (Syntax.tcons (Syntax.tyInt Syntax.w64) (Syntax.tcons Syntax.tyBool Syntax.tnil)))))))))) (List._∷_ (2, Rows.any-gone (Syntax.tyStruct (List._∷_ 122 (List._∷_ 111 (List._∷_ 110 (List._∷_ 101 (List._∷_ 115 (List._∷_ 58 (List._∷_ 58 (List._∷_ 115 (List._∷_ 99 (List._∷_ 97 (List._∷_ 110 (List._∷_ 58 (List._∷_ 58 (List._∷_ 76 (List._∷_ 105 (List._∷_ 110 (List._∷_ 101 List.[]))))))))))))))))) (Syntax.tcons (Syntax.tyInt Syntax.w32) (Syntax.tcons (Syntax.tyInt Syntax.w64) (Syntax.tcons (Syntax.tyInt Syntax.w64) (Syntax.tcons (Syntax.tyInt Syntax.w64) (Syntax.tcons (Syntax.tyInt Syntax.w64) Syntax.tnil))))))) (List._∷_ (3, Rows.sslice (Referent.rtF (Referent.fInt Syntax.w32)) (Syntax.tyRef (Syntax.named 0) Syntax.imm (Syntax.tyInt Syntax.w32)) 0) (List._∷_ (4, Part.mslice-owedP (Referent.rtF (Referent.fInt Syntax.w32)) (Syntax.tyRef (Syntax.named 1) Syntax.mut (Syntax.tyInt Syntax.w32)) 1 6 Row.off) (List._∷_ (5, Part.mslice-owedP (Referent.rtF (Referent.fInt Syntax.w32)) (Syntax.tyRef (Syntax.named 2) Syntax.mut (Syntax.tyInt Syntax.w32)) 2 7 Row.off) (List._∷_ (6, Part.mslice-owedP (Referent.rtF (Referent.fInt Syntax.w32)) (Syntax.tyRef (Syntax.named 3) Syntax.mut (Syntax.tyInt Syntax.w32)) 3 8 Row.off) (List._∷_ (7, Part.mslice-owedP Cell.R (Syntax.tyRef (Syntax.named 4) Syntax.mut Cell.behind) 4 9 Row.off) (List._∷_ (8, Part.mslice-owedP Cell.R (Syntax.tyRef (Syntax.named 5) Syntax.mut Cell.behind) 5 10 Row.off) (List._∷_ (9, Rows.any-gone (Syntax.tyStruct (List._∷_ 112 (List._∷_ 121 (List._∷_ 114 (List._∷_ 97 (List._∷_ 109 (List._∷_ 105 (List._∷_ 100 (List._∷_ 58 (List._∷_ 58 (List._∷_ 83 (List._∷_ 116 (List._∷_ 97 (List._∷_ 116 (List._∷_ 101 List.[])))))))))))))) (Syntax.tcons (Syntax.tyInt Syntax.w32) (Syntax.tcons (Syntax.tyInt Syntax.w32) (Syntax.tcons (Syntax.tyInt Syntax.w32) (Syntax.tcons (Syntax.tyInt Syntax.w32) (Syntax.tcons (Syntax.tyInt Syntax.w32) (Syntax.tcons (Syntax.tyArray (Syntax.tyInt Syntax.w32) 64) Syntax.tnil)))))))) (List._∷_ (10, Rows.any-gone (Syntax.tyInt Syntax.w64)) (List._∷_ (11, Rows.any-gone (Syntax.tyInt Syntax.w64)) (List._∷_ (12, Rows.sc-here (Row.sInt Syntax.w64)) (List._∷_ (13, Rows.sc-here (Row.sInt Syntax.w64)) (List._∷_ (14, Rows.sc-here (Row.sInt Syntax.w64)) (List._∷_ (15, Rows.sc-here (Row.sInt Syntax.w64)) List.[])))))))))))))))
+t37 = List._∷_ (0, Rows.whole (Declared.row Outcome.the-type)) (List._∷_ (1, Rows.any-gone (Syntax.tyStruct (List._∷_ 122 (List._∷_ 111 (List._∷_ 110 (List._∷_ 101 (List._∷_ 115 (List._∷_ 58 (List._∷_ 58 (List._∷_ 104 (List._∷_ 101 (List._∷_ 108 (List._∷_ 100 (List._∷_ 58 (List._∷_ 58 (List._∷_ 72 (List._∷_ 101 (List._∷_ 108 (List._∷_ 100 List.[]))))))))))))))))) (Syntax.tcons (Syntax.tyStruct (List._∷_ 112 (List._∷_ 121 (List._∷_ 114 (List._∷_ 97 (List._∷_ 109 (List._∷_ 105 (List._∷_ 100 (List._∷_ 58 (List._∷_ 58 (List._∷_ 83 (List._∷_ 116 (List._∷_ 97 (List._∷_ 116 (List._∷_ 101 List.[])))))))))))))) (Syntax.tcons (Syntax.tyInt Syntax.w32) (Syntax.tcons (Syntax.tyInt Syntax.w32) (Syntax.tcons (Syntax.tyInt Syntax.w32) (Syntax.tcons (Syntax.tyInt Syntax.w32) (Syntax.tcons (Syntax.tyInt Syntax.w32) (Syntax.tcons (Syntax.tyArray (Syntax.tyInt Syntax.w32) 64) Syntax.tnil))))))) (Syntax.tcons (Syntax.tyInt Syntax.w64) (Syntax.tcons (Syntax.tyInt Syntax.w64) (Syntax.tcons (Syntax.tyInt Syntax.w64) (Syntax.tcons (Syntax.tyInt Syntax.w64) (Syntax.tcons (Syntax.tyInt Syntax.w64) (Syntax.tcons (Syntax.tyInt Syntax.w64) (Syntax.tcons Syntax.tyBool Syntax.tnil)))))))))) (List._∷_ (2, Rows.any-gone (Syntax.tyStruct (List._∷_ 115 (List._∷_ 99 (List._∷_ 114 (List._∷_ 105 (List._∷_ 112 (List._∷_ 116 (List._∷_ 58 (List._∷_ 58 (List._∷_ 115 (List._∷_ 99 (List._∷_ 97 (List._∷_ 110 (List._∷_ 58 (List._∷_ 58 (List._∷_ 76 (List._∷_ 105 (List._∷_ 110 (List._∷_ 101 List.[])))))))))))))))))) (Syntax.tcons (Syntax.tyInt Syntax.w32) (Syntax.tcons (Syntax.tyInt Syntax.w64) (Syntax.tcons (Syntax.tyInt Syntax.w64) (Syntax.tcons (Syntax.tyInt Syntax.w64) (Syntax.tcons (Syntax.tyInt Syntax.w64) Syntax.tnil))))))) (List._∷_ (3, Rows.sslice (Referent.rtF (Referent.fInt Syntax.w32)) (Syntax.tyRef (Syntax.named 0) Syntax.imm (Syntax.tyInt Syntax.w32)) 0) (List._∷_ (4, Part.mslice-owedP (Referent.rtF (Referent.fInt Syntax.w32)) (Syntax.tyRef (Syntax.named 1) Syntax.mut (Syntax.tyInt Syntax.w32)) 1 6 Row.off) (List._∷_ (5, Part.mslice-owedP (Referent.rtF (Referent.fInt Syntax.w32)) (Syntax.tyRef (Syntax.named 2) Syntax.mut (Syntax.tyInt Syntax.w32)) 2 7 Row.off) (List._∷_ (6, Part.mslice-owedP (Referent.rtF (Referent.fInt Syntax.w32)) (Syntax.tyRef (Syntax.named 3) Syntax.mut (Syntax.tyInt Syntax.w32)) 3 8 Row.off) (List._∷_ (7, Part.mslice-owedP Cell.R (Syntax.tyRef (Syntax.named 4) Syntax.mut Cell.behind) 4 9 Row.off) (List._∷_ (8, Part.mslice-owedP Cell.R (Syntax.tyRef (Syntax.named 5) Syntax.mut Cell.behind) 5 10 Row.off) (List._∷_ (9, Rows.any-gone (Syntax.tyStruct (List._∷_ 112 (List._∷_ 121 (List._∷_ 114 (List._∷_ 97 (List._∷_ 109 (List._∷_ 105 (List._∷_ 100 (List._∷_ 58 (List._∷_ 58 (List._∷_ 83 (List._∷_ 116 (List._∷_ 97 (List._∷_ 116 (List._∷_ 101 List.[])))))))))))))) (Syntax.tcons (Syntax.tyInt Syntax.w32) (Syntax.tcons (Syntax.tyInt Syntax.w32) (Syntax.tcons (Syntax.tyInt Syntax.w32) (Syntax.tcons (Syntax.tyInt Syntax.w32) (Syntax.tcons (Syntax.tyInt Syntax.w32) (Syntax.tcons (Syntax.tyArray (Syntax.tyInt Syntax.w32) 64) Syntax.tnil)))))))) (List._∷_ (10, Rows.any-gone (Syntax.tyInt Syntax.w64)) (List._∷_ (11, Rows.any-gone (Syntax.tyInt Syntax.w64)) (List._∷_ (12, Rows.sc-here (Row.sInt Syntax.w64)) (List._∷_ (13, Rows.sc-here (Row.sInt Syntax.w64)) (List._∷_ (14, Rows.sc-here (Row.sInt Syntax.w64)) (List._∷_ (15, Rows.sc-here (Row.sInt Syntax.w64)) List.[])))))))))))))))
 
 abbrev pub t38 : List.List Row.Entry
-t38 = List._∷_ (0, Rows.whole (Declared.row Outcome.the-type)) (List._∷_ (1, Rows.any-gone (Syntax.tyStruct (List._∷_ 122 (List._∷_ 111 (List._∷_ 110 (List._∷_ 101 (List._∷_ 115 (List._∷_ 58 (List._∷_ 58 (List._∷_ 104 (List._∷_ 101 (List._∷_ 108 (List._∷_ 100 (List._∷_ 58 (List._∷_ 58 (List._∷_ 72 (List._∷_ 101 (List._∷_ 108 (List._∷_ 100 List.[]))))))))))))))))) (Syntax.tcons (Syntax.tyStruct (List._∷_ 112 (List._∷_ 121 (List._∷_ 114 (List._∷_ 97 (List._∷_ 109 (List._∷_ 105 (List._∷_ 100 (List._∷_ 58 (List._∷_ 58 (List._∷_ 83 (List._∷_ 116 (List._∷_ 97 (List._∷_ 116 (List._∷_ 101 List.[])))))))))))))) (Syntax.tcons (Syntax.tyInt Syntax.w32) (Syntax.tcons (Syntax.tyInt Syntax.w32) (Syntax.tcons (Syntax.tyInt Syntax.w32) (Syntax.tcons (Syntax.tyInt Syntax.w32) (Syntax.tcons (Syntax.tyInt Syntax.w32) (Syntax.tcons (Syntax.tyArray (Syntax.tyInt Syntax.w32) 64) Syntax.tnil))))))) (Syntax.tcons (Syntax.tyInt Syntax.w64) (Syntax.tcons (Syntax.tyInt Syntax.w64) (Syntax.tcons (Syntax.tyInt Syntax.w64) (Syntax.tcons (Syntax.tyInt Syntax.w64) (Syntax.tcons (Syntax.tyInt Syntax.w64) (Syntax.tcons (Syntax.tyInt Syntax.w64) (Syntax.tcons Syntax.tyBool Syntax.tnil)))))))))) (List._∷_ (2, Rows.any-gone (Syntax.tyStruct (List._∷_ 122 (List._∷_ 111 (List._∷_ 110 (List._∷_ 101 (List._∷_ 115 (List._∷_ 58 (List._∷_ 58 (List._∷_ 115 (List._∷_ 99 (List._∷_ 97 (List._∷_ 110 (List._∷_ 58 (List._∷_ 58 (List._∷_ 76 (List._∷_ 105 (List._∷_ 110 (List._∷_ 101 List.[]))))))))))))))))) (Syntax.tcons (Syntax.tyInt Syntax.w32) (Syntax.tcons (Syntax.tyInt Syntax.w64) (Syntax.tcons (Syntax.tyInt Syntax.w64) (Syntax.tcons (Syntax.tyInt Syntax.w64) (Syntax.tcons (Syntax.tyInt Syntax.w64) Syntax.tnil))))))) (List._∷_ (3, Rows.sslice (Referent.rtF (Referent.fInt Syntax.w32)) (Syntax.tyRef (Syntax.named 0) Syntax.imm (Syntax.tyInt Syntax.w32)) 0) (List._∷_ (4, Part.mslice-owedP (Referent.rtF (Referent.fInt Syntax.w32)) (Syntax.tyRef (Syntax.named 1) Syntax.mut (Syntax.tyInt Syntax.w32)) 1 6 Row.off) (List._∷_ (5, Part.mslice-owedP (Referent.rtF (Referent.fInt Syntax.w32)) (Syntax.tyRef (Syntax.named 2) Syntax.mut (Syntax.tyInt Syntax.w32)) 2 7 Row.off) (List._∷_ (6, Part.mslice-owedP (Referent.rtF (Referent.fInt Syntax.w32)) (Syntax.tyRef (Syntax.named 3) Syntax.mut (Syntax.tyInt Syntax.w32)) 3 8 Row.off) (List._∷_ (7, Part.mslice-owedP Cell.R (Syntax.tyRef (Syntax.named 4) Syntax.mut Cell.behind) 4 9 Row.off) (List._∷_ (8, Part.mslice-owedP Cell.R (Syntax.tyRef (Syntax.named 5) Syntax.mut Cell.behind) 5 10 Row.off) (List._∷_ (9, Rows.any-gone (Syntax.tyStruct (List._∷_ 112 (List._∷_ 121 (List._∷_ 114 (List._∷_ 97 (List._∷_ 109 (List._∷_ 105 (List._∷_ 100 (List._∷_ 58 (List._∷_ 58 (List._∷_ 83 (List._∷_ 116 (List._∷_ 97 (List._∷_ 116 (List._∷_ 101 List.[])))))))))))))) (Syntax.tcons (Syntax.tyInt Syntax.w32) (Syntax.tcons (Syntax.tyInt Syntax.w32) (Syntax.tcons (Syntax.tyInt Syntax.w32) (Syntax.tcons (Syntax.tyInt Syntax.w32) (Syntax.tcons (Syntax.tyInt Syntax.w32) (Syntax.tcons (Syntax.tyArray (Syntax.tyInt Syntax.w32) 64) Syntax.tnil)))))))) (List._∷_ (10, Rows.any-gone (Syntax.tyInt Syntax.w64)) (List._∷_ (11, Rows.any-gone (Syntax.tyInt Syntax.w64)) (List._∷_ (12, Rows.any-gone (Syntax.tyInt Syntax.w64)) (List._∷_ (13, Rows.sc-here (Row.sInt Syntax.w64)) (List._∷_ (14, Rows.sc-here (Row.sInt Syntax.w64)) (List._∷_ (15, Rows.sc-here (Row.sInt Syntax.w64)) List.[])))))))))))))))
+t38 = List._∷_ (0, Rows.whole (Declared.row Outcome.the-type)) (List._∷_ (1, Rows.any-gone (Syntax.tyStruct (List._∷_ 122 (List._∷_ 111 (List._∷_ 110 (List._∷_ 101 (List._∷_ 115 (List._∷_ 58 (List._∷_ 58 (List._∷_ 104 (List._∷_ 101 (List._∷_ 108 (List._∷_ 100 (List._∷_ 58 (List._∷_ 58 (List._∷_ 72 (List._∷_ 101 (List._∷_ 108 (List._∷_ 100 List.[]))))))))))))))))) (Syntax.tcons (Syntax.tyStruct (List._∷_ 112 (List._∷_ 121 (List._∷_ 114 (List._∷_ 97 (List._∷_ 109 (List._∷_ 105 (List._∷_ 100 (List._∷_ 58 (List._∷_ 58 (List._∷_ 83 (List._∷_ 116 (List._∷_ 97 (List._∷_ 116 (List._∷_ 101 List.[])))))))))))))) (Syntax.tcons (Syntax.tyInt Syntax.w32) (Syntax.tcons (Syntax.tyInt Syntax.w32) (Syntax.tcons (Syntax.tyInt Syntax.w32) (Syntax.tcons (Syntax.tyInt Syntax.w32) (Syntax.tcons (Syntax.tyInt Syntax.w32) (Syntax.tcons (Syntax.tyArray (Syntax.tyInt Syntax.w32) 64) Syntax.tnil))))))) (Syntax.tcons (Syntax.tyInt Syntax.w64) (Syntax.tcons (Syntax.tyInt Syntax.w64) (Syntax.tcons (Syntax.tyInt Syntax.w64) (Syntax.tcons (Syntax.tyInt Syntax.w64) (Syntax.tcons (Syntax.tyInt Syntax.w64) (Syntax.tcons (Syntax.tyInt Syntax.w64) (Syntax.tcons Syntax.tyBool Syntax.tnil)))))))))) (List._∷_ (2, Rows.any-gone (Syntax.tyStruct (List._∷_ 115 (List._∷_ 99 (List._∷_ 114 (List._∷_ 105 (List._∷_ 112 (List._∷_ 116 (List._∷_ 58 (List._∷_ 58 (List._∷_ 115 (List._∷_ 99 (List._∷_ 97 (List._∷_ 110 (List._∷_ 58 (List._∷_ 58 (List._∷_ 76 (List._∷_ 105 (List._∷_ 110 (List._∷_ 101 List.[])))))))))))))))))) (Syntax.tcons (Syntax.tyInt Syntax.w32) (Syntax.tcons (Syntax.tyInt Syntax.w64) (Syntax.tcons (Syntax.tyInt Syntax.w64) (Syntax.tcons (Syntax.tyInt Syntax.w64) (Syntax.tcons (Syntax.tyInt Syntax.w64) Syntax.tnil))))))) (List._∷_ (3, Rows.sslice (Referent.rtF (Referent.fInt Syntax.w32)) (Syntax.tyRef (Syntax.named 0) Syntax.imm (Syntax.tyInt Syntax.w32)) 0) (List._∷_ (4, Part.mslice-owedP (Referent.rtF (Referent.fInt Syntax.w32)) (Syntax.tyRef (Syntax.named 1) Syntax.mut (Syntax.tyInt Syntax.w32)) 1 6 Row.off) (List._∷_ (5, Part.mslice-owedP (Referent.rtF (Referent.fInt Syntax.w32)) (Syntax.tyRef (Syntax.named 2) Syntax.mut (Syntax.tyInt Syntax.w32)) 2 7 Row.off) (List._∷_ (6, Part.mslice-owedP (Referent.rtF (Referent.fInt Syntax.w32)) (Syntax.tyRef (Syntax.named 3) Syntax.mut (Syntax.tyInt Syntax.w32)) 3 8 Row.off) (List._∷_ (7, Part.mslice-owedP Cell.R (Syntax.tyRef (Syntax.named 4) Syntax.mut Cell.behind) 4 9 Row.off) (List._∷_ (8, Part.mslice-owedP Cell.R (Syntax.tyRef (Syntax.named 5) Syntax.mut Cell.behind) 5 10 Row.off) (List._∷_ (9, Rows.any-gone (Syntax.tyStruct (List._∷_ 112 (List._∷_ 121 (List._∷_ 114 (List._∷_ 97 (List._∷_ 109 (List._∷_ 105 (List._∷_ 100 (List._∷_ 58 (List._∷_ 58 (List._∷_ 83 (List._∷_ 116 (List._∷_ 97 (List._∷_ 116 (List._∷_ 101 List.[])))))))))))))) (Syntax.tcons (Syntax.tyInt Syntax.w32) (Syntax.tcons (Syntax.tyInt Syntax.w32) (Syntax.tcons (Syntax.tyInt Syntax.w32) (Syntax.tcons (Syntax.tyInt Syntax.w32) (Syntax.tcons (Syntax.tyInt Syntax.w32) (Syntax.tcons (Syntax.tyArray (Syntax.tyInt Syntax.w32) 64) Syntax.tnil)))))))) (List._∷_ (10, Rows.any-gone (Syntax.tyInt Syntax.w64)) (List._∷_ (11, Rows.any-gone (Syntax.tyInt Syntax.w64)) (List._∷_ (12, Rows.any-gone (Syntax.tyInt Syntax.w64)) (List._∷_ (13, Rows.sc-here (Row.sInt Syntax.w64)) (List._∷_ (14, Rows.sc-here (Row.sInt Syntax.w64)) (List._∷_ (15, Rows.sc-here (Row.sInt Syntax.w64)) List.[])))))))))))))))
 
 abbrev pub t39 : List.List Row.Entry
-t39 = List._∷_ (0, Rows.whole (Declared.row Outcome.the-type)) (List._∷_ (1, Rows.any-gone (Syntax.tyStruct (List._∷_ 122 (List._∷_ 111 (List._∷_ 110 (List._∷_ 101 (List._∷_ 115 (List._∷_ 58 (List._∷_ 58 (List._∷_ 104 (List._∷_ 101 (List._∷_ 108 (List._∷_ 100 (List._∷_ 58 (List._∷_ 58 (List._∷_ 72 (List._∷_ 101 (List._∷_ 108 (List._∷_ 100 List.[]))))))))))))))))) (Syntax.tcons (Syntax.tyStruct (List._∷_ 112 (List._∷_ 121 (List._∷_ 114 (List._∷_ 97 (List._∷_ 109 (List._∷_ 105 (List._∷_ 100 (List._∷_ 58 (List._∷_ 58 (List._∷_ 83 (List._∷_ 116 (List._∷_ 97 (List._∷_ 116 (List._∷_ 101 List.[])))))))))))))) (Syntax.tcons (Syntax.tyInt Syntax.w32) (Syntax.tcons (Syntax.tyInt Syntax.w32) (Syntax.tcons (Syntax.tyInt Syntax.w32) (Syntax.tcons (Syntax.tyInt Syntax.w32) (Syntax.tcons (Syntax.tyInt Syntax.w32) (Syntax.tcons (Syntax.tyArray (Syntax.tyInt Syntax.w32) 64) Syntax.tnil))))))) (Syntax.tcons (Syntax.tyInt Syntax.w64) (Syntax.tcons (Syntax.tyInt Syntax.w64) (Syntax.tcons (Syntax.tyInt Syntax.w64) (Syntax.tcons (Syntax.tyInt Syntax.w64) (Syntax.tcons (Syntax.tyInt Syntax.w64) (Syntax.tcons (Syntax.tyInt Syntax.w64) (Syntax.tcons Syntax.tyBool Syntax.tnil)))))))))) (List._∷_ (2, Rows.any-gone (Syntax.tyStruct (List._∷_ 122 (List._∷_ 111 (List._∷_ 110 (List._∷_ 101 (List._∷_ 115 (List._∷_ 58 (List._∷_ 58 (List._∷_ 115 (List._∷_ 99 (List._∷_ 97 (List._∷_ 110 (List._∷_ 58 (List._∷_ 58 (List._∷_ 76 (List._∷_ 105 (List._∷_ 110 (List._∷_ 101 List.[]))))))))))))))))) (Syntax.tcons (Syntax.tyInt Syntax.w32) (Syntax.tcons (Syntax.tyInt Syntax.w64) (Syntax.tcons (Syntax.tyInt Syntax.w64) (Syntax.tcons (Syntax.tyInt Syntax.w64) (Syntax.tcons (Syntax.tyInt Syntax.w64) Syntax.tnil))))))) (List._∷_ (3, Rows.sslice (Referent.rtF (Referent.fInt Syntax.w32)) (Syntax.tyRef (Syntax.named 0) Syntax.imm (Syntax.tyInt Syntax.w32)) 0) (List._∷_ (4, Part.mslice-owedP (Referent.rtF (Referent.fInt Syntax.w32)) (Syntax.tyRef (Syntax.named 1) Syntax.mut (Syntax.tyInt Syntax.w32)) 1 6 Row.off) (List._∷_ (5, Part.mslice-owedP (Referent.rtF (Referent.fInt Syntax.w32)) (Syntax.tyRef (Syntax.named 2) Syntax.mut (Syntax.tyInt Syntax.w32)) 2 7 Row.off) (List._∷_ (6, Part.mslice-owedP (Referent.rtF (Referent.fInt Syntax.w32)) (Syntax.tyRef (Syntax.named 3) Syntax.mut (Syntax.tyInt Syntax.w32)) 3 8 Row.off) (List._∷_ (7, Part.mslice-owedP Cell.R (Syntax.tyRef (Syntax.named 4) Syntax.mut Cell.behind) 4 9 Row.off) (List._∷_ (8, Part.mslice-owedP Cell.R (Syntax.tyRef (Syntax.named 5) Syntax.mut Cell.behind) 5 10 Row.off) (List._∷_ (9, Rows.any-gone (Syntax.tyStruct (List._∷_ 112 (List._∷_ 121 (List._∷_ 114 (List._∷_ 97 (List._∷_ 109 (List._∷_ 105 (List._∷_ 100 (List._∷_ 58 (List._∷_ 58 (List._∷_ 83 (List._∷_ 116 (List._∷_ 97 (List._∷_ 116 (List._∷_ 101 List.[])))))))))))))) (Syntax.tcons (Syntax.tyInt Syntax.w32) (Syntax.tcons (Syntax.tyInt Syntax.w32) (Syntax.tcons (Syntax.tyInt Syntax.w32) (Syntax.tcons (Syntax.tyInt Syntax.w32) (Syntax.tcons (Syntax.tyInt Syntax.w32) (Syntax.tcons (Syntax.tyArray (Syntax.tyInt Syntax.w32) 64) Syntax.tnil)))))))) (List._∷_ (10, Rows.any-gone (Syntax.tyInt Syntax.w64)) (List._∷_ (11, Rows.any-gone (Syntax.tyInt Syntax.w64)) (List._∷_ (12, Rows.any-gone (Syntax.tyInt Syntax.w64)) (List._∷_ (13, Rows.any-gone (Syntax.tyInt Syntax.w64)) (List._∷_ (14, Rows.sc-here (Row.sInt Syntax.w64)) (List._∷_ (15, Rows.sc-here (Row.sInt Syntax.w64)) List.[])))))))))))))))
+t39 = List._∷_ (0, Rows.whole (Declared.row Outcome.the-type)) (List._∷_ (1, Rows.any-gone (Syntax.tyStruct (List._∷_ 122 (List._∷_ 111 (List._∷_ 110 (List._∷_ 101 (List._∷_ 115 (List._∷_ 58 (List._∷_ 58 (List._∷_ 104 (List._∷_ 101 (List._∷_ 108 (List._∷_ 100 (List._∷_ 58 (List._∷_ 58 (List._∷_ 72 (List._∷_ 101 (List._∷_ 108 (List._∷_ 100 List.[]))))))))))))))))) (Syntax.tcons (Syntax.tyStruct (List._∷_ 112 (List._∷_ 121 (List._∷_ 114 (List._∷_ 97 (List._∷_ 109 (List._∷_ 105 (List._∷_ 100 (List._∷_ 58 (List._∷_ 58 (List._∷_ 83 (List._∷_ 116 (List._∷_ 97 (List._∷_ 116 (List._∷_ 101 List.[])))))))))))))) (Syntax.tcons (Syntax.tyInt Syntax.w32) (Syntax.tcons (Syntax.tyInt Syntax.w32) (Syntax.tcons (Syntax.tyInt Syntax.w32) (Syntax.tcons (Syntax.tyInt Syntax.w32) (Syntax.tcons (Syntax.tyInt Syntax.w32) (Syntax.tcons (Syntax.tyArray (Syntax.tyInt Syntax.w32) 64) Syntax.tnil))))))) (Syntax.tcons (Syntax.tyInt Syntax.w64) (Syntax.tcons (Syntax.tyInt Syntax.w64) (Syntax.tcons (Syntax.tyInt Syntax.w64) (Syntax.tcons (Syntax.tyInt Syntax.w64) (Syntax.tcons (Syntax.tyInt Syntax.w64) (Syntax.tcons (Syntax.tyInt Syntax.w64) (Syntax.tcons Syntax.tyBool Syntax.tnil)))))))))) (List._∷_ (2, Rows.any-gone (Syntax.tyStruct (List._∷_ 115 (List._∷_ 99 (List._∷_ 114 (List._∷_ 105 (List._∷_ 112 (List._∷_ 116 (List._∷_ 58 (List._∷_ 58 (List._∷_ 115 (List._∷_ 99 (List._∷_ 97 (List._∷_ 110 (List._∷_ 58 (List._∷_ 58 (List._∷_ 76 (List._∷_ 105 (List._∷_ 110 (List._∷_ 101 List.[])))))))))))))))))) (Syntax.tcons (Syntax.tyInt Syntax.w32) (Syntax.tcons (Syntax.tyInt Syntax.w64) (Syntax.tcons (Syntax.tyInt Syntax.w64) (Syntax.tcons (Syntax.tyInt Syntax.w64) (Syntax.tcons (Syntax.tyInt Syntax.w64) Syntax.tnil))))))) (List._∷_ (3, Rows.sslice (Referent.rtF (Referent.fInt Syntax.w32)) (Syntax.tyRef (Syntax.named 0) Syntax.imm (Syntax.tyInt Syntax.w32)) 0) (List._∷_ (4, Part.mslice-owedP (Referent.rtF (Referent.fInt Syntax.w32)) (Syntax.tyRef (Syntax.named 1) Syntax.mut (Syntax.tyInt Syntax.w32)) 1 6 Row.off) (List._∷_ (5, Part.mslice-owedP (Referent.rtF (Referent.fInt Syntax.w32)) (Syntax.tyRef (Syntax.named 2) Syntax.mut (Syntax.tyInt Syntax.w32)) 2 7 Row.off) (List._∷_ (6, Part.mslice-owedP (Referent.rtF (Referent.fInt Syntax.w32)) (Syntax.tyRef (Syntax.named 3) Syntax.mut (Syntax.tyInt Syntax.w32)) 3 8 Row.off) (List._∷_ (7, Part.mslice-owedP Cell.R (Syntax.tyRef (Syntax.named 4) Syntax.mut Cell.behind) 4 9 Row.off) (List._∷_ (8, Part.mslice-owedP Cell.R (Syntax.tyRef (Syntax.named 5) Syntax.mut Cell.behind) 5 10 Row.off) (List._∷_ (9, Rows.any-gone (Syntax.tyStruct (List._∷_ 112 (List._∷_ 121 (List._∷_ 114 (List._∷_ 97 (List._∷_ 109 (List._∷_ 105 (List._∷_ 100 (List._∷_ 58 (List._∷_ 58 (List._∷_ 83 (List._∷_ 116 (List._∷_ 97 (List._∷_ 116 (List._∷_ 101 List.[])))))))))))))) (Syntax.tcons (Syntax.tyInt Syntax.w32) (Syntax.tcons (Syntax.tyInt Syntax.w32) (Syntax.tcons (Syntax.tyInt Syntax.w32) (Syntax.tcons (Syntax.tyInt Syntax.w32) (Syntax.tcons (Syntax.tyInt Syntax.w32) (Syntax.tcons (Syntax.tyArray (Syntax.tyInt Syntax.w32) 64) Syntax.tnil)))))))) (List._∷_ (10, Rows.any-gone (Syntax.tyInt Syntax.w64)) (List._∷_ (11, Rows.any-gone (Syntax.tyInt Syntax.w64)) (List._∷_ (12, Rows.any-gone (Syntax.tyInt Syntax.w64)) (List._∷_ (13, Rows.any-gone (Syntax.tyInt Syntax.w64)) (List._∷_ (14, Rows.sc-here (Row.sInt Syntax.w64)) (List._∷_ (15, Rows.sc-here (Row.sInt Syntax.w64)) List.[])))))))))))))))
 
 abbrev pub t40 : List.List Row.Entry
-t40 = List._∷_ (0, Rows.whole (Declared.row Outcome.the-type)) (List._∷_ (1, Rows.any-gone (Syntax.tyStruct (List._∷_ 122 (List._∷_ 111 (List._∷_ 110 (List._∷_ 101 (List._∷_ 115 (List._∷_ 58 (List._∷_ 58 (List._∷_ 104 (List._∷_ 101 (List._∷_ 108 (List._∷_ 100 (List._∷_ 58 (List._∷_ 58 (List._∷_ 72 (List._∷_ 101 (List._∷_ 108 (List._∷_ 100 List.[]))))))))))))))))) (Syntax.tcons (Syntax.tyStruct (List._∷_ 112 (List._∷_ 121 (List._∷_ 114 (List._∷_ 97 (List._∷_ 109 (List._∷_ 105 (List._∷_ 100 (List._∷_ 58 (List._∷_ 58 (List._∷_ 83 (List._∷_ 116 (List._∷_ 97 (List._∷_ 116 (List._∷_ 101 List.[])))))))))))))) (Syntax.tcons (Syntax.tyInt Syntax.w32) (Syntax.tcons (Syntax.tyInt Syntax.w32) (Syntax.tcons (Syntax.tyInt Syntax.w32) (Syntax.tcons (Syntax.tyInt Syntax.w32) (Syntax.tcons (Syntax.tyInt Syntax.w32) (Syntax.tcons (Syntax.tyArray (Syntax.tyInt Syntax.w32) 64) Syntax.tnil))))))) (Syntax.tcons (Syntax.tyInt Syntax.w64) (Syntax.tcons (Syntax.tyInt Syntax.w64) (Syntax.tcons (Syntax.tyInt Syntax.w64) (Syntax.tcons (Syntax.tyInt Syntax.w64) (Syntax.tcons (Syntax.tyInt Syntax.w64) (Syntax.tcons (Syntax.tyInt Syntax.w64) (Syntax.tcons Syntax.tyBool Syntax.tnil)))))))))) (List._∷_ (2, Rows.any-gone (Syntax.tyStruct (List._∷_ 122 (List._∷_ 111 (List._∷_ 110 (List._∷_ 101 (List._∷_ 115 (List._∷_ 58 (List._∷_ 58 (List._∷_ 115 (List._∷_ 99 (List._∷_ 97 (List._∷_ 110 (List._∷_ 58 (List._∷_ 58 (List._∷_ 76 (List._∷_ 105 (List._∷_ 110 (List._∷_ 101 List.[]))))))))))))))))) (Syntax.tcons (Syntax.tyInt Syntax.w32) (Syntax.tcons (Syntax.tyInt Syntax.w64) (Syntax.tcons (Syntax.tyInt Syntax.w64) (Syntax.tcons (Syntax.tyInt Syntax.w64) (Syntax.tcons (Syntax.tyInt Syntax.w64) Syntax.tnil))))))) (List._∷_ (3, Rows.sslice (Referent.rtF (Referent.fInt Syntax.w32)) (Syntax.tyRef (Syntax.named 0) Syntax.imm (Syntax.tyInt Syntax.w32)) 0) (List._∷_ (4, Part.mslice-owedP (Referent.rtF (Referent.fInt Syntax.w32)) (Syntax.tyRef (Syntax.named 1) Syntax.mut (Syntax.tyInt Syntax.w32)) 1 6 Row.off) (List._∷_ (5, Part.mslice-owedP (Referent.rtF (Referent.fInt Syntax.w32)) (Syntax.tyRef (Syntax.named 2) Syntax.mut (Syntax.tyInt Syntax.w32)) 2 7 Row.off) (List._∷_ (6, Part.mslice-owedP (Referent.rtF (Referent.fInt Syntax.w32)) (Syntax.tyRef (Syntax.named 3) Syntax.mut (Syntax.tyInt Syntax.w32)) 3 8 Row.off) (List._∷_ (7, Part.mslice-owedP Cell.R (Syntax.tyRef (Syntax.named 4) Syntax.mut Cell.behind) 4 9 Row.off) (List._∷_ (8, Part.mslice-owedP Cell.R (Syntax.tyRef (Syntax.named 5) Syntax.mut Cell.behind) 5 10 Row.off) (List._∷_ (9, Rows.any-gone (Syntax.tyStruct (List._∷_ 112 (List._∷_ 121 (List._∷_ 114 (List._∷_ 97 (List._∷_ 109 (List._∷_ 105 (List._∷_ 100 (List._∷_ 58 (List._∷_ 58 (List._∷_ 83 (List._∷_ 116 (List._∷_ 97 (List._∷_ 116 (List._∷_ 101 List.[])))))))))))))) (Syntax.tcons (Syntax.tyInt Syntax.w32) (Syntax.tcons (Syntax.tyInt Syntax.w32) (Syntax.tcons (Syntax.tyInt Syntax.w32) (Syntax.tcons (Syntax.tyInt Syntax.w32) (Syntax.tcons (Syntax.tyInt Syntax.w32) (Syntax.tcons (Syntax.tyArray (Syntax.tyInt Syntax.w32) 64) Syntax.tnil)))))))) (List._∷_ (10, Rows.any-gone (Syntax.tyInt Syntax.w64)) (List._∷_ (11, Rows.any-gone (Syntax.tyInt Syntax.w64)) (List._∷_ (12, Rows.any-gone (Syntax.tyInt Syntax.w64)) (List._∷_ (13, Rows.any-gone (Syntax.tyInt Syntax.w64)) (List._∷_ (14, Rows.any-gone (Syntax.tyInt Syntax.w64)) (List._∷_ (15, Rows.sc-here (Row.sInt Syntax.w64)) List.[])))))))))))))))
+t40 = List._∷_ (0, Rows.whole (Declared.row Outcome.the-type)) (List._∷_ (1, Rows.any-gone (Syntax.tyStruct (List._∷_ 122 (List._∷_ 111 (List._∷_ 110 (List._∷_ 101 (List._∷_ 115 (List._∷_ 58 (List._∷_ 58 (List._∷_ 104 (List._∷_ 101 (List._∷_ 108 (List._∷_ 100 (List._∷_ 58 (List._∷_ 58 (List._∷_ 72 (List._∷_ 101 (List._∷_ 108 (List._∷_ 100 List.[]))))))))))))))))) (Syntax.tcons (Syntax.tyStruct (List._∷_ 112 (List._∷_ 121 (List._∷_ 114 (List._∷_ 97 (List._∷_ 109 (List._∷_ 105 (List._∷_ 100 (List._∷_ 58 (List._∷_ 58 (List._∷_ 83 (List._∷_ 116 (List._∷_ 97 (List._∷_ 116 (List._∷_ 101 List.[])))))))))))))) (Syntax.tcons (Syntax.tyInt Syntax.w32) (Syntax.tcons (Syntax.tyInt Syntax.w32) (Syntax.tcons (Syntax.tyInt Syntax.w32) (Syntax.tcons (Syntax.tyInt Syntax.w32) (Syntax.tcons (Syntax.tyInt Syntax.w32) (Syntax.tcons (Syntax.tyArray (Syntax.tyInt Syntax.w32) 64) Syntax.tnil))))))) (Syntax.tcons (Syntax.tyInt Syntax.w64) (Syntax.tcons (Syntax.tyInt Syntax.w64) (Syntax.tcons (Syntax.tyInt Syntax.w64) (Syntax.tcons (Syntax.tyInt Syntax.w64) (Syntax.tcons (Syntax.tyInt Syntax.w64) (Syntax.tcons (Syntax.tyInt Syntax.w64) (Syntax.tcons Syntax.tyBool Syntax.tnil)))))))))) (List._∷_ (2, Rows.any-gone (Syntax.tyStruct (List._∷_ 115 (List._∷_ 99 (List._∷_ 114 (List._∷_ 105 (List._∷_ 112 (List._∷_ 116 (List._∷_ 58 (List._∷_ 58 (List._∷_ 115 (List._∷_ 99 (List._∷_ 97 (List._∷_ 110 (List._∷_ 58 (List._∷_ 58 (List._∷_ 76 (List._∷_ 105 (List._∷_ 110 (List._∷_ 101 List.[])))))))))))))))))) (Syntax.tcons (Syntax.tyInt Syntax.w32) (Syntax.tcons (Syntax.tyInt Syntax.w64) (Syntax.tcons (Syntax.tyInt Syntax.w64) (Syntax.tcons (Syntax.tyInt Syntax.w64) (Syntax.tcons (Syntax.tyInt Syntax.w64) Syntax.tnil))))))) (List._∷_ (3, Rows.sslice (Referent.rtF (Referent.fInt Syntax.w32)) (Syntax.tyRef (Syntax.named 0) Syntax.imm (Syntax.tyInt Syntax.w32)) 0) (List._∷_ (4, Part.mslice-owedP (Referent.rtF (Referent.fInt Syntax.w32)) (Syntax.tyRef (Syntax.named 1) Syntax.mut (Syntax.tyInt Syntax.w32)) 1 6 Row.off) (List._∷_ (5, Part.mslice-owedP (Referent.rtF (Referent.fInt Syntax.w32)) (Syntax.tyRef (Syntax.named 2) Syntax.mut (Syntax.tyInt Syntax.w32)) 2 7 Row.off) (List._∷_ (6, Part.mslice-owedP (Referent.rtF (Referent.fInt Syntax.w32)) (Syntax.tyRef (Syntax.named 3) Syntax.mut (Syntax.tyInt Syntax.w32)) 3 8 Row.off) (List._∷_ (7, Part.mslice-owedP Cell.R (Syntax.tyRef (Syntax.named 4) Syntax.mut Cell.behind) 4 9 Row.off) (List._∷_ (8, Part.mslice-owedP Cell.R (Syntax.tyRef (Syntax.named 5) Syntax.mut Cell.behind) 5 10 Row.off) (List._∷_ (9, Rows.any-gone (Syntax.tyStruct (List._∷_ 112 (List._∷_ 121 (List._∷_ 114 (List._∷_ 97 (List._∷_ 109 (List._∷_ 105 (List._∷_ 100 (List._∷_ 58 (List._∷_ 58 (List._∷_ 83 (List._∷_ 116 (List._∷_ 97 (List._∷_ 116 (List._∷_ 101 List.[])))))))))))))) (Syntax.tcons (Syntax.tyInt Syntax.w32) (Syntax.tcons (Syntax.tyInt Syntax.w32) (Syntax.tcons (Syntax.tyInt Syntax.w32) (Syntax.tcons (Syntax.tyInt Syntax.w32) (Syntax.tcons (Syntax.tyInt Syntax.w32) (Syntax.tcons (Syntax.tyArray (Syntax.tyInt Syntax.w32) 64) Syntax.tnil)))))))) (List._∷_ (10, Rows.any-gone (Syntax.tyInt Syntax.w64)) (List._∷_ (11, Rows.any-gone (Syntax.tyInt Syntax.w64)) (List._∷_ (12, Rows.any-gone (Syntax.tyInt Syntax.w64)) (List._∷_ (13, Rows.any-gone (Syntax.tyInt Syntax.w64)) (List._∷_ (14, Rows.any-gone (Syntax.tyInt Syntax.w64)) (List._∷_ (15, Rows.sc-here (Row.sInt Syntax.w64)) List.[])))))))))))))))
 
 abbrev pub t41 : List.List Row.Entry
-t41 = List._∷_ (0, Rows.whole (Declared.row Outcome.the-type)) (List._∷_ (1, Rows.any-gone (Syntax.tyStruct (List._∷_ 122 (List._∷_ 111 (List._∷_ 110 (List._∷_ 101 (List._∷_ 115 (List._∷_ 58 (List._∷_ 58 (List._∷_ 104 (List._∷_ 101 (List._∷_ 108 (List._∷_ 100 (List._∷_ 58 (List._∷_ 58 (List._∷_ 72 (List._∷_ 101 (List._∷_ 108 (List._∷_ 100 List.[]))))))))))))))))) (Syntax.tcons (Syntax.tyStruct (List._∷_ 112 (List._∷_ 121 (List._∷_ 114 (List._∷_ 97 (List._∷_ 109 (List._∷_ 105 (List._∷_ 100 (List._∷_ 58 (List._∷_ 58 (List._∷_ 83 (List._∷_ 116 (List._∷_ 97 (List._∷_ 116 (List._∷_ 101 List.[])))))))))))))) (Syntax.tcons (Syntax.tyInt Syntax.w32) (Syntax.tcons (Syntax.tyInt Syntax.w32) (Syntax.tcons (Syntax.tyInt Syntax.w32) (Syntax.tcons (Syntax.tyInt Syntax.w32) (Syntax.tcons (Syntax.tyInt Syntax.w32) (Syntax.tcons (Syntax.tyArray (Syntax.tyInt Syntax.w32) 64) Syntax.tnil))))))) (Syntax.tcons (Syntax.tyInt Syntax.w64) (Syntax.tcons (Syntax.tyInt Syntax.w64) (Syntax.tcons (Syntax.tyInt Syntax.w64) (Syntax.tcons (Syntax.tyInt Syntax.w64) (Syntax.tcons (Syntax.tyInt Syntax.w64) (Syntax.tcons (Syntax.tyInt Syntax.w64) (Syntax.tcons Syntax.tyBool Syntax.tnil)))))))))) (List._∷_ (2, Rows.any-gone (Syntax.tyStruct (List._∷_ 122 (List._∷_ 111 (List._∷_ 110 (List._∷_ 101 (List._∷_ 115 (List._∷_ 58 (List._∷_ 58 (List._∷_ 115 (List._∷_ 99 (List._∷_ 97 (List._∷_ 110 (List._∷_ 58 (List._∷_ 58 (List._∷_ 76 (List._∷_ 105 (List._∷_ 110 (List._∷_ 101 List.[]))))))))))))))))) (Syntax.tcons (Syntax.tyInt Syntax.w32) (Syntax.tcons (Syntax.tyInt Syntax.w64) (Syntax.tcons (Syntax.tyInt Syntax.w64) (Syntax.tcons (Syntax.tyInt Syntax.w64) (Syntax.tcons (Syntax.tyInt Syntax.w64) Syntax.tnil))))))) (List._∷_ (3, Rows.sslice (Referent.rtF (Referent.fInt Syntax.w32)) (Syntax.tyRef (Syntax.named 0) Syntax.imm (Syntax.tyInt Syntax.w32)) 0) (List._∷_ (4, Part.mslice-owedP (Referent.rtF (Referent.fInt Syntax.w32)) (Syntax.tyRef (Syntax.named 1) Syntax.mut (Syntax.tyInt Syntax.w32)) 1 6 Row.off) (List._∷_ (5, Part.mslice-owedP (Referent.rtF (Referent.fInt Syntax.w32)) (Syntax.tyRef (Syntax.named 2) Syntax.mut (Syntax.tyInt Syntax.w32)) 2 7 Row.off) (List._∷_ (6, Part.mslice-owedP (Referent.rtF (Referent.fInt Syntax.w32)) (Syntax.tyRef (Syntax.named 3) Syntax.mut (Syntax.tyInt Syntax.w32)) 3 8 Row.off) (List._∷_ (7, Part.mslice-owedP Cell.R (Syntax.tyRef (Syntax.named 4) Syntax.mut Cell.behind) 4 9 Row.off) (List._∷_ (8, Part.mslice-owedP Cell.R (Syntax.tyRef (Syntax.named 5) Syntax.mut Cell.behind) 5 10 Row.off) (List._∷_ (9, Rows.any-gone (Syntax.tyStruct (List._∷_ 112 (List._∷_ 121 (List._∷_ 114 (List._∷_ 97 (List._∷_ 109 (List._∷_ 105 (List._∷_ 100 (List._∷_ 58 (List._∷_ 58 (List._∷_ 83 (List._∷_ 116 (List._∷_ 97 (List._∷_ 116 (List._∷_ 101 List.[])))))))))))))) (Syntax.tcons (Syntax.tyInt Syntax.w32) (Syntax.tcons (Syntax.tyInt Syntax.w32) (Syntax.tcons (Syntax.tyInt Syntax.w32) (Syntax.tcons (Syntax.tyInt Syntax.w32) (Syntax.tcons (Syntax.tyInt Syntax.w32) (Syntax.tcons (Syntax.tyArray (Syntax.tyInt Syntax.w32) 64) Syntax.tnil)))))))) (List._∷_ (10, Rows.any-gone (Syntax.tyInt Syntax.w64)) (List._∷_ (11, Rows.any-gone (Syntax.tyInt Syntax.w64)) (List._∷_ (12, Rows.any-gone (Syntax.tyInt Syntax.w64)) (List._∷_ (13, Rows.any-gone (Syntax.tyInt Syntax.w64)) (List._∷_ (14, Rows.any-gone (Syntax.tyInt Syntax.w64)) (List._∷_ (15, Rows.any-gone (Syntax.tyInt Syntax.w64)) List.[])))))))))))))))
+t41 = List._∷_ (0, Rows.whole (Declared.row Outcome.the-type)) (List._∷_ (1, Rows.any-gone (Syntax.tyStruct (List._∷_ 122 (List._∷_ 111 (List._∷_ 110 (List._∷_ 101 (List._∷_ 115 (List._∷_ 58 (List._∷_ 58 (List._∷_ 104 (List._∷_ 101 (List._∷_ 108 (List._∷_ 100 (List._∷_ 58 (List._∷_ 58 (List._∷_ 72 (List._∷_ 101 (List._∷_ 108 (List._∷_ 100 List.[]))))))))))))))))) (Syntax.tcons (Syntax.tyStruct (List._∷_ 112 (List._∷_ 121 (List._∷_ 114 (List._∷_ 97 (List._∷_ 109 (List._∷_ 105 (List._∷_ 100 (List._∷_ 58 (List._∷_ 58 (List._∷_ 83 (List._∷_ 116 (List._∷_ 97 (List._∷_ 116 (List._∷_ 101 List.[])))))))))))))) (Syntax.tcons (Syntax.tyInt Syntax.w32) (Syntax.tcons (Syntax.tyInt Syntax.w32) (Syntax.tcons (Syntax.tyInt Syntax.w32) (Syntax.tcons (Syntax.tyInt Syntax.w32) (Syntax.tcons (Syntax.tyInt Syntax.w32) (Syntax.tcons (Syntax.tyArray (Syntax.tyInt Syntax.w32) 64) Syntax.tnil))))))) (Syntax.tcons (Syntax.tyInt Syntax.w64) (Syntax.tcons (Syntax.tyInt Syntax.w64) (Syntax.tcons (Syntax.tyInt Syntax.w64) (Syntax.tcons (Syntax.tyInt Syntax.w64) (Syntax.tcons (Syntax.tyInt Syntax.w64) (Syntax.tcons (Syntax.tyInt Syntax.w64) (Syntax.tcons Syntax.tyBool Syntax.tnil)))))))))) (List._∷_ (2, Rows.any-gone (Syntax.tyStruct (List._∷_ 115 (List._∷_ 99 (List._∷_ 114 (List._∷_ 105 (List._∷_ 112 (List._∷_ 116 (List._∷_ 58 (List._∷_ 58 (List._∷_ 115 (List._∷_ 99 (List._∷_ 97 (List._∷_ 110 (List._∷_ 58 (List._∷_ 58 (List._∷_ 76 (List._∷_ 105 (List._∷_ 110 (List._∷_ 101 List.[])))))))))))))))))) (Syntax.tcons (Syntax.tyInt Syntax.w32) (Syntax.tcons (Syntax.tyInt Syntax.w64) (Syntax.tcons (Syntax.tyInt Syntax.w64) (Syntax.tcons (Syntax.tyInt Syntax.w64) (Syntax.tcons (Syntax.tyInt Syntax.w64) Syntax.tnil))))))) (List._∷_ (3, Rows.sslice (Referent.rtF (Referent.fInt Syntax.w32)) (Syntax.tyRef (Syntax.named 0) Syntax.imm (Syntax.tyInt Syntax.w32)) 0) (List._∷_ (4, Part.mslice-owedP (Referent.rtF (Referent.fInt Syntax.w32)) (Syntax.tyRef (Syntax.named 1) Syntax.mut (Syntax.tyInt Syntax.w32)) 1 6 Row.off) (List._∷_ (5, Part.mslice-owedP (Referent.rtF (Referent.fInt Syntax.w32)) (Syntax.tyRef (Syntax.named 2) Syntax.mut (Syntax.tyInt Syntax.w32)) 2 7 Row.off) (List._∷_ (6, Part.mslice-owedP (Referent.rtF (Referent.fInt Syntax.w32)) (Syntax.tyRef (Syntax.named 3) Syntax.mut (Syntax.tyInt Syntax.w32)) 3 8 Row.off) (List._∷_ (7, Part.mslice-owedP Cell.R (Syntax.tyRef (Syntax.named 4) Syntax.mut Cell.behind) 4 9 Row.off) (List._∷_ (8, Part.mslice-owedP Cell.R (Syntax.tyRef (Syntax.named 5) Syntax.mut Cell.behind) 5 10 Row.off) (List._∷_ (9, Rows.any-gone (Syntax.tyStruct (List._∷_ 112 (List._∷_ 121 (List._∷_ 114 (List._∷_ 97 (List._∷_ 109 (List._∷_ 105 (List._∷_ 100 (List._∷_ 58 (List._∷_ 58 (List._∷_ 83 (List._∷_ 116 (List._∷_ 97 (List._∷_ 116 (List._∷_ 101 List.[])))))))))))))) (Syntax.tcons (Syntax.tyInt Syntax.w32) (Syntax.tcons (Syntax.tyInt Syntax.w32) (Syntax.tcons (Syntax.tyInt Syntax.w32) (Syntax.tcons (Syntax.tyInt Syntax.w32) (Syntax.tcons (Syntax.tyInt Syntax.w32) (Syntax.tcons (Syntax.tyArray (Syntax.tyInt Syntax.w32) 64) Syntax.tnil)))))))) (List._∷_ (10, Rows.any-gone (Syntax.tyInt Syntax.w64)) (List._∷_ (11, Rows.any-gone (Syntax.tyInt Syntax.w64)) (List._∷_ (12, Rows.any-gone (Syntax.tyInt Syntax.w64)) (List._∷_ (13, Rows.any-gone (Syntax.tyInt Syntax.w64)) (List._∷_ (14, Rows.any-gone (Syntax.tyInt Syntax.w64)) (List._∷_ (15, Rows.any-gone (Syntax.tyInt Syntax.w64)) List.[])))))))))))))))
 
 abbrev pub t42 : List.List Row.Entry
 t42 = List._∷_ (16, Rows.any-gone Syntax.tyPtr) (List._∷_ (17, Rows.any-gone (Syntax.tyInt Syntax.w32)) (List._∷_ (18, Rows.any-gone (Syntax.tyRef Syntax.erased Syntax.imm (Syntax.tyInt Syntax.w32))) (List._∷_ (19, Rows.any-gone (Syntax.tyStruct (List._∷_ 38 (List._∷_ 91 (List._∷_ 93 List.[]))) (Syntax.tcons (Syntax.tyRef Syntax.erased Syntax.imm (Syntax.tyInt Syntax.w32)) (Syntax.tcons (Syntax.tyInt Syntax.w64) Syntax.tnil)))) (List._∷_ (20, Rows.any-gone (Syntax.tyRef Syntax.erased Syntax.mut (Syntax.tyInt Syntax.w32))) (List._∷_ (21, Mut.msleft (Referent.rtF (Referent.fInt Syntax.w32)) (Syntax.tyRef Syntax.erased Syntax.mut (Syntax.tyInt Syntax.w32))) (List._∷_ (22, Rows.any-gone (Syntax.tyRef Syntax.erased Syntax.mut (Syntax.tyInt Syntax.w32))) (List._∷_ (23, Mut.msleft (Referent.rtF (Referent.fInt Syntax.w32)) (Syntax.tyRef Syntax.erased Syntax.mut (Syntax.tyInt Syntax.w32))) (List._∷_ (24, Rows.any-gone (Syntax.tyRef Syntax.erased Syntax.mut (Syntax.tyInt Syntax.w32))) (List._∷_ (25, Mut.msleft (Referent.rtF (Referent.fInt Syntax.w32)) (Syntax.tyRef Syntax.erased Syntax.mut (Syntax.tyInt Syntax.w32))) (List._∷_ (26, Rows.any-gone (Syntax.tyRef Syntax.erased Syntax.mut Cell.behind)) (List._∷_ (27, Mut.msleft Cell.R (Syntax.tyRef Syntax.erased Syntax.mut Cell.behind)) (List._∷_ (28, Rows.any-gone (Syntax.tyRef Syntax.erased Syntax.mut Cell.behind)) (List._∷_ (29, Mut.msleft Cell.R (Syntax.tyRef Syntax.erased Syntax.mut Cell.behind)) List.[])))))))))))))
 
 abbrev pub t43 : List.List Row.Entry
-t43 = List._∷_ (0, Rows.whole (Declared.row Outcome.the-type)) (List._∷_ (1, Rows.any-gone (Syntax.tyStruct (List._∷_ 122 (List._∷_ 111 (List._∷_ 110 (List._∷_ 101 (List._∷_ 115 (List._∷_ 58 (List._∷_ 58 (List._∷_ 104 (List._∷_ 101 (List._∷_ 108 (List._∷_ 100 (List._∷_ 58 (List._∷_ 58 (List._∷_ 72 (List._∷_ 101 (List._∷_ 108 (List._∷_ 100 List.[]))))))))))))))))) (Syntax.tcons (Syntax.tyStruct (List._∷_ 112 (List._∷_ 121 (List._∷_ 114 (List._∷_ 97 (List._∷_ 109 (List._∷_ 105 (List._∷_ 100 (List._∷_ 58 (List._∷_ 58 (List._∷_ 83 (List._∷_ 116 (List._∷_ 97 (List._∷_ 116 (List._∷_ 101 List.[])))))))))))))) (Syntax.tcons (Syntax.tyInt Syntax.w32) (Syntax.tcons (Syntax.tyInt Syntax.w32) (Syntax.tcons (Syntax.tyInt Syntax.w32) (Syntax.tcons (Syntax.tyInt Syntax.w32) (Syntax.tcons (Syntax.tyInt Syntax.w32) (Syntax.tcons (Syntax.tyArray (Syntax.tyInt Syntax.w32) 64) Syntax.tnil))))))) (Syntax.tcons (Syntax.tyInt Syntax.w64) (Syntax.tcons (Syntax.tyInt Syntax.w64) (Syntax.tcons (Syntax.tyInt Syntax.w64) (Syntax.tcons (Syntax.tyInt Syntax.w64) (Syntax.tcons (Syntax.tyInt Syntax.w64) (Syntax.tcons (Syntax.tyInt Syntax.w64) (Syntax.tcons Syntax.tyBool Syntax.tnil)))))))))) (List._∷_ (2, Rows.any-gone (Syntax.tyStruct (List._∷_ 122 (List._∷_ 111 (List._∷_ 110 (List._∷_ 101 (List._∷_ 115 (List._∷_ 58 (List._∷_ 58 (List._∷_ 115 (List._∷_ 99 (List._∷_ 97 (List._∷_ 110 (List._∷_ 58 (List._∷_ 58 (List._∷_ 76 (List._∷_ 105 (List._∷_ 110 (List._∷_ 101 List.[]))))))))))))))))) (Syntax.tcons (Syntax.tyInt Syntax.w32) (Syntax.tcons (Syntax.tyInt Syntax.w64) (Syntax.tcons (Syntax.tyInt Syntax.w64) (Syntax.tcons (Syntax.tyInt Syntax.w64) (Syntax.tcons (Syntax.tyInt Syntax.w64) Syntax.tnil))))))) (List._∷_ (3, Rows.sslice (Referent.rtF (Referent.fInt Syntax.w32)) (Syntax.tyRef (Syntax.named 0) Syntax.imm (Syntax.tyInt Syntax.w32)) 0) (List._∷_ (4, Mut.mslice (Referent.rtF (Referent.fInt Syntax.w32)) (Syntax.tyRef (Syntax.named 1) Syntax.mut (Syntax.tyInt Syntax.w32)) 1) (List._∷_ (5, Part.mslice-owedP (Referent.rtF (Referent.fInt Syntax.w32)) (Syntax.tyRef (Syntax.named 2) Syntax.mut (Syntax.tyInt Syntax.w32)) 2 7 Row.off) (List._∷_ (6, Part.mslice-owedP (Referent.rtF (Referent.fInt Syntax.w32)) (Syntax.tyRef (Syntax.named 3) Syntax.mut (Syntax.tyInt Syntax.w32)) 3 8 Row.off) (List._∷_ (7, Part.mslice-owedP Cell.R (Syntax.tyRef (Syntax.named 4) Syntax.mut Cell.behind) 4 9 Row.off) (List._∷_ (8, Part.mslice-owedP Cell.R (Syntax.tyRef (Syntax.named 5) Syntax.mut Cell.behind) 5 10 Row.off) (List._∷_ (9, Rows.any-gone (Syntax.tyStruct (List._∷_ 112 (List._∷_ 121 (List._∷_ 114 (List._∷_ 97 (List._∷_ 109 (List._∷_ 105 (List._∷_ 100 (List._∷_ 58 (List._∷_ 58 (List._∷_ 83 (List._∷_ 116 (List._∷_ 97 (List._∷_ 116 (List._∷_ 101 List.[])))))))))))))) (Syntax.tcons (Syntax.tyInt Syntax.w32) (Syntax.tcons (Syntax.tyInt Syntax.w32) (Syntax.tcons (Syntax.tyInt Syntax.w32) (Syntax.tcons (Syntax.tyInt Syntax.w32) (Syntax.tcons (Syntax.tyInt Syntax.w32) (Syntax.tcons (Syntax.tyArray (Syntax.tyInt Syntax.w32) 64) Syntax.tnil)))))))) (List._∷_ (10, Rows.any-gone (Syntax.tyInt Syntax.w64)) (List._∷_ (11, Rows.any-gone (Syntax.tyInt Syntax.w64)) (List._∷_ (12, Rows.any-gone (Syntax.tyInt Syntax.w64)) (List._∷_ (13, Rows.any-gone (Syntax.tyInt Syntax.w64)) (List._∷_ (14, Rows.any-gone (Syntax.tyInt Syntax.w64)) (List._∷_ (15, Rows.any-gone (Syntax.tyInt Syntax.w64)) List.[])))))))))))))))
+t43 = List._∷_ (0, Rows.whole (Declared.row Outcome.the-type)) (List._∷_ (1, Rows.any-gone (Syntax.tyStruct (List._∷_ 122 (List._∷_ 111 (List._∷_ 110 (List._∷_ 101 (List._∷_ 115 (List._∷_ 58 (List._∷_ 58 (List._∷_ 104 (List._∷_ 101 (List._∷_ 108 (List._∷_ 100 (List._∷_ 58 (List._∷_ 58 (List._∷_ 72 (List._∷_ 101 (List._∷_ 108 (List._∷_ 100 List.[]))))))))))))))))) (Syntax.tcons (Syntax.tyStruct (List._∷_ 112 (List._∷_ 121 (List._∷_ 114 (List._∷_ 97 (List._∷_ 109 (List._∷_ 105 (List._∷_ 100 (List._∷_ 58 (List._∷_ 58 (List._∷_ 83 (List._∷_ 116 (List._∷_ 97 (List._∷_ 116 (List._∷_ 101 List.[])))))))))))))) (Syntax.tcons (Syntax.tyInt Syntax.w32) (Syntax.tcons (Syntax.tyInt Syntax.w32) (Syntax.tcons (Syntax.tyInt Syntax.w32) (Syntax.tcons (Syntax.tyInt Syntax.w32) (Syntax.tcons (Syntax.tyInt Syntax.w32) (Syntax.tcons (Syntax.tyArray (Syntax.tyInt Syntax.w32) 64) Syntax.tnil))))))) (Syntax.tcons (Syntax.tyInt Syntax.w64) (Syntax.tcons (Syntax.tyInt Syntax.w64) (Syntax.tcons (Syntax.tyInt Syntax.w64) (Syntax.tcons (Syntax.tyInt Syntax.w64) (Syntax.tcons (Syntax.tyInt Syntax.w64) (Syntax.tcons (Syntax.tyInt Syntax.w64) (Syntax.tcons Syntax.tyBool Syntax.tnil)))))))))) (List._∷_ (2, Rows.any-gone (Syntax.tyStruct (List._∷_ 115 (List._∷_ 99 (List._∷_ 114 (List._∷_ 105 (List._∷_ 112 (List._∷_ 116 (List._∷_ 58 (List._∷_ 58 (List._∷_ 115 (List._∷_ 99 (List._∷_ 97 (List._∷_ 110 (List._∷_ 58 (List._∷_ 58 (List._∷_ 76 (List._∷_ 105 (List._∷_ 110 (List._∷_ 101 List.[])))))))))))))))))) (Syntax.tcons (Syntax.tyInt Syntax.w32) (Syntax.tcons (Syntax.tyInt Syntax.w64) (Syntax.tcons (Syntax.tyInt Syntax.w64) (Syntax.tcons (Syntax.tyInt Syntax.w64) (Syntax.tcons (Syntax.tyInt Syntax.w64) Syntax.tnil))))))) (List._∷_ (3, Rows.sslice (Referent.rtF (Referent.fInt Syntax.w32)) (Syntax.tyRef (Syntax.named 0) Syntax.imm (Syntax.tyInt Syntax.w32)) 0) (List._∷_ (4, Mut.mslice (Referent.rtF (Referent.fInt Syntax.w32)) (Syntax.tyRef (Syntax.named 1) Syntax.mut (Syntax.tyInt Syntax.w32)) 1) (List._∷_ (5, Part.mslice-owedP (Referent.rtF (Referent.fInt Syntax.w32)) (Syntax.tyRef (Syntax.named 2) Syntax.mut (Syntax.tyInt Syntax.w32)) 2 7 Row.off) (List._∷_ (6, Part.mslice-owedP (Referent.rtF (Referent.fInt Syntax.w32)) (Syntax.tyRef (Syntax.named 3) Syntax.mut (Syntax.tyInt Syntax.w32)) 3 8 Row.off) (List._∷_ (7, Part.mslice-owedP Cell.R (Syntax.tyRef (Syntax.named 4) Syntax.mut Cell.behind) 4 9 Row.off) (List._∷_ (8, Part.mslice-owedP Cell.R (Syntax.tyRef (Syntax.named 5) Syntax.mut Cell.behind) 5 10 Row.off) (List._∷_ (9, Rows.any-gone (Syntax.tyStruct (List._∷_ 112 (List._∷_ 121 (List._∷_ 114 (List._∷_ 97 (List._∷_ 109 (List._∷_ 105 (List._∷_ 100 (List._∷_ 58 (List._∷_ 58 (List._∷_ 83 (List._∷_ 116 (List._∷_ 97 (List._∷_ 116 (List._∷_ 101 List.[])))))))))))))) (Syntax.tcons (Syntax.tyInt Syntax.w32) (Syntax.tcons (Syntax.tyInt Syntax.w32) (Syntax.tcons (Syntax.tyInt Syntax.w32) (Syntax.tcons (Syntax.tyInt Syntax.w32) (Syntax.tcons (Syntax.tyInt Syntax.w32) (Syntax.tcons (Syntax.tyArray (Syntax.tyInt Syntax.w32) 64) Syntax.tnil)))))))) (List._∷_ (10, Rows.any-gone (Syntax.tyInt Syntax.w64)) (List._∷_ (11, Rows.any-gone (Syntax.tyInt Syntax.w64)) (List._∷_ (12, Rows.any-gone (Syntax.tyInt Syntax.w64)) (List._∷_ (13, Rows.any-gone (Syntax.tyInt Syntax.w64)) (List._∷_ (14, Rows.any-gone (Syntax.tyInt Syntax.w64)) (List._∷_ (15, Rows.any-gone (Syntax.tyInt Syntax.w64)) List.[])))))))))))))))
 
 abbrev pub t44 : List.List Row.Entry
 t44 = List._∷_ (16, Rows.any-gone Syntax.tyPtr) (List._∷_ (17, Rows.any-gone (Syntax.tyInt Syntax.w32)) (List._∷_ (18, Rows.any-gone (Syntax.tyRef Syntax.erased Syntax.imm (Syntax.tyInt Syntax.w32))) (List._∷_ (19, Rows.any-gone (Syntax.tyStruct (List._∷_ 38 (List._∷_ 91 (List._∷_ 93 List.[]))) (Syntax.tcons (Syntax.tyRef Syntax.erased Syntax.imm (Syntax.tyInt Syntax.w32)) (Syntax.tcons (Syntax.tyInt Syntax.w64) Syntax.tnil)))) (List._∷_ (20, Rows.any-gone (Syntax.tyRef Syntax.erased Syntax.mut (Syntax.tyInt Syntax.w32))) (List._∷_ (21, Rows.any-gone (Syntax.tyStruct (List._∷_ 38 (List._∷_ 91 (List._∷_ 93 List.[]))) (Syntax.tcons (Syntax.tyRef Syntax.erased Syntax.mut (Syntax.tyInt Syntax.w32)) (Syntax.tcons (Syntax.tyInt Syntax.w64) Syntax.tnil)))) (List._∷_ (22, Rows.any-gone (Syntax.tyRef Syntax.erased Syntax.mut (Syntax.tyInt Syntax.w32))) (List._∷_ (23, Mut.msleft (Referent.rtF (Referent.fInt Syntax.w32)) (Syntax.tyRef Syntax.erased Syntax.mut (Syntax.tyInt Syntax.w32))) (List._∷_ (24, Rows.any-gone (Syntax.tyRef Syntax.erased Syntax.mut (Syntax.tyInt Syntax.w32))) (List._∷_ (25, Mut.msleft (Referent.rtF (Referent.fInt Syntax.w32)) (Syntax.tyRef Syntax.erased Syntax.mut (Syntax.tyInt Syntax.w32))) (List._∷_ (26, Rows.any-gone (Syntax.tyRef Syntax.erased Syntax.mut Cell.behind)) (List._∷_ (27, Mut.msleft Cell.R (Syntax.tyRef Syntax.erased Syntax.mut Cell.behind)) (List._∷_ (28, Rows.any-gone (Syntax.tyRef Syntax.erased Syntax.mut Cell.behind)) (List._∷_ (29, Mut.msleft Cell.R (Syntax.tyRef Syntax.erased Syntax.mut Cell.behind)) List.[])))))))))))))
 
 abbrev pub t45 : List.List Row.Entry
-t45 = List._∷_ (0, Rows.whole (Declared.row Outcome.the-type)) (List._∷_ (1, Rows.any-gone (Syntax.tyStruct (List._∷_ 122 (List._∷_ 111 (List._∷_ 110 (List._∷_ 101 (List._∷_ 115 (List._∷_ 58 (List._∷_ 58 (List._∷_ 104 (List._∷_ 101 (List._∷_ 108 (List._∷_ 100 (List._∷_ 58 (List._∷_ 58 (List._∷_ 72 (List._∷_ 101 (List._∷_ 108 (List._∷_ 100 List.[]))))))))))))))))) (Syntax.tcons (Syntax.tyStruct (List._∷_ 112 (List._∷_ 121 (List._∷_ 114 (List._∷_ 97 (List._∷_ 109 (List._∷_ 105 (List._∷_ 100 (List._∷_ 58 (List._∷_ 58 (List._∷_ 83 (List._∷_ 116 (List._∷_ 97 (List._∷_ 116 (List._∷_ 101 List.[])))))))))))))) (Syntax.tcons (Syntax.tyInt Syntax.w32) (Syntax.tcons (Syntax.tyInt Syntax.w32) (Syntax.tcons (Syntax.tyInt Syntax.w32) (Syntax.tcons (Syntax.tyInt Syntax.w32) (Syntax.tcons (Syntax.tyInt Syntax.w32) (Syntax.tcons (Syntax.tyArray (Syntax.tyInt Syntax.w32) 64) Syntax.tnil))))))) (Syntax.tcons (Syntax.tyInt Syntax.w64) (Syntax.tcons (Syntax.tyInt Syntax.w64) (Syntax.tcons (Syntax.tyInt Syntax.w64) (Syntax.tcons (Syntax.tyInt Syntax.w64) (Syntax.tcons (Syntax.tyInt Syntax.w64) (Syntax.tcons (Syntax.tyInt Syntax.w64) (Syntax.tcons Syntax.tyBool Syntax.tnil)))))))))) (List._∷_ (2, Rows.any-gone (Syntax.tyStruct (List._∷_ 122 (List._∷_ 111 (List._∷_ 110 (List._∷_ 101 (List._∷_ 115 (List._∷_ 58 (List._∷_ 58 (List._∷_ 115 (List._∷_ 99 (List._∷_ 97 (List._∷_ 110 (List._∷_ 58 (List._∷_ 58 (List._∷_ 76 (List._∷_ 105 (List._∷_ 110 (List._∷_ 101 List.[]))))))))))))))))) (Syntax.tcons (Syntax.tyInt Syntax.w32) (Syntax.tcons (Syntax.tyInt Syntax.w64) (Syntax.tcons (Syntax.tyInt Syntax.w64) (Syntax.tcons (Syntax.tyInt Syntax.w64) (Syntax.tcons (Syntax.tyInt Syntax.w64) Syntax.tnil))))))) (List._∷_ (3, Rows.sslice (Referent.rtF (Referent.fInt Syntax.w32)) (Syntax.tyRef (Syntax.named 0) Syntax.imm (Syntax.tyInt Syntax.w32)) 0) (List._∷_ (4, Mut.mslice (Referent.rtF (Referent.fInt Syntax.w32)) (Syntax.tyRef (Syntax.named 1) Syntax.mut (Syntax.tyInt Syntax.w32)) 1) (List._∷_ (5, Mut.mslice (Referent.rtF (Referent.fInt Syntax.w32)) (Syntax.tyRef (Syntax.named 2) Syntax.mut (Syntax.tyInt Syntax.w32)) 2) (List._∷_ (6, Part.mslice-owedP (Referent.rtF (Referent.fInt Syntax.w32)) (Syntax.tyRef (Syntax.named 3) Syntax.mut (Syntax.tyInt Syntax.w32)) 3 8 Row.off) (List._∷_ (7, Part.mslice-owedP Cell.R (Syntax.tyRef (Syntax.named 4) Syntax.mut Cell.behind) 4 9 Row.off) (List._∷_ (8, Part.mslice-owedP Cell.R (Syntax.tyRef (Syntax.named 5) Syntax.mut Cell.behind) 5 10 Row.off) (List._∷_ (9, Rows.any-gone (Syntax.tyStruct (List._∷_ 112 (List._∷_ 121 (List._∷_ 114 (List._∷_ 97 (List._∷_ 109 (List._∷_ 105 (List._∷_ 100 (List._∷_ 58 (List._∷_ 58 (List._∷_ 83 (List._∷_ 116 (List._∷_ 97 (List._∷_ 116 (List._∷_ 101 List.[])))))))))))))) (Syntax.tcons (Syntax.tyInt Syntax.w32) (Syntax.tcons (Syntax.tyInt Syntax.w32) (Syntax.tcons (Syntax.tyInt Syntax.w32) (Syntax.tcons (Syntax.tyInt Syntax.w32) (Syntax.tcons (Syntax.tyInt Syntax.w32) (Syntax.tcons (Syntax.tyArray (Syntax.tyInt Syntax.w32) 64) Syntax.tnil)))))))) (List._∷_ (10, Rows.any-gone (Syntax.tyInt Syntax.w64)) (List._∷_ (11, Rows.any-gone (Syntax.tyInt Syntax.w64)) (List._∷_ (12, Rows.any-gone (Syntax.tyInt Syntax.w64)) (List._∷_ (13, Rows.any-gone (Syntax.tyInt Syntax.w64)) (List._∷_ (14, Rows.any-gone (Syntax.tyInt Syntax.w64)) (List._∷_ (15, Rows.any-gone (Syntax.tyInt Syntax.w64)) List.[])))))))))))))))
+t45 = List._∷_ (0, Rows.whole (Declared.row Outcome.the-type)) (List._∷_ (1, Rows.any-gone (Syntax.tyStruct (List._∷_ 122 (List._∷_ 111 (List._∷_ 110 (List._∷_ 101 (List._∷_ 115 (List._∷_ 58 (List._∷_ 58 (List._∷_ 104 (List._∷_ 101 (List._∷_ 108 (List._∷_ 100 (List._∷_ 58 (List._∷_ 58 (List._∷_ 72 (List._∷_ 101 (List._∷_ 108 (List._∷_ 100 List.[]))))))))))))))))) (Syntax.tcons (Syntax.tyStruct (List._∷_ 112 (List._∷_ 121 (List._∷_ 114 (List._∷_ 97 (List._∷_ 109 (List._∷_ 105 (List._∷_ 100 (List._∷_ 58 (List._∷_ 58 (List._∷_ 83 (List._∷_ 116 (List._∷_ 97 (List._∷_ 116 (List._∷_ 101 List.[])))))))))))))) (Syntax.tcons (Syntax.tyInt Syntax.w32) (Syntax.tcons (Syntax.tyInt Syntax.w32) (Syntax.tcons (Syntax.tyInt Syntax.w32) (Syntax.tcons (Syntax.tyInt Syntax.w32) (Syntax.tcons (Syntax.tyInt Syntax.w32) (Syntax.tcons (Syntax.tyArray (Syntax.tyInt Syntax.w32) 64) Syntax.tnil))))))) (Syntax.tcons (Syntax.tyInt Syntax.w64) (Syntax.tcons (Syntax.tyInt Syntax.w64) (Syntax.tcons (Syntax.tyInt Syntax.w64) (Syntax.tcons (Syntax.tyInt Syntax.w64) (Syntax.tcons (Syntax.tyInt Syntax.w64) (Syntax.tcons (Syntax.tyInt Syntax.w64) (Syntax.tcons Syntax.tyBool Syntax.tnil)))))))))) (List._∷_ (2, Rows.any-gone (Syntax.tyStruct (List._∷_ 115 (List._∷_ 99 (List._∷_ 114 (List._∷_ 105 (List._∷_ 112 (List._∷_ 116 (List._∷_ 58 (List._∷_ 58 (List._∷_ 115 (List._∷_ 99 (List._∷_ 97 (List._∷_ 110 (List._∷_ 58 (List._∷_ 58 (List._∷_ 76 (List._∷_ 105 (List._∷_ 110 (List._∷_ 101 List.[])))))))))))))))))) (Syntax.tcons (Syntax.tyInt Syntax.w32) (Syntax.tcons (Syntax.tyInt Syntax.w64) (Syntax.tcons (Syntax.tyInt Syntax.w64) (Syntax.tcons (Syntax.tyInt Syntax.w64) (Syntax.tcons (Syntax.tyInt Syntax.w64) Syntax.tnil))))))) (List._∷_ (3, Rows.sslice (Referent.rtF (Referent.fInt Syntax.w32)) (Syntax.tyRef (Syntax.named 0) Syntax.imm (Syntax.tyInt Syntax.w32)) 0) (List._∷_ (4, Mut.mslice (Referent.rtF (Referent.fInt Syntax.w32)) (Syntax.tyRef (Syntax.named 1) Syntax.mut (Syntax.tyInt Syntax.w32)) 1) (List._∷_ (5, Mut.mslice (Referent.rtF (Referent.fInt Syntax.w32)) (Syntax.tyRef (Syntax.named 2) Syntax.mut (Syntax.tyInt Syntax.w32)) 2) (List._∷_ (6, Part.mslice-owedP (Referent.rtF (Referent.fInt Syntax.w32)) (Syntax.tyRef (Syntax.named 3) Syntax.mut (Syntax.tyInt Syntax.w32)) 3 8 Row.off) (List._∷_ (7, Part.mslice-owedP Cell.R (Syntax.tyRef (Syntax.named 4) Syntax.mut Cell.behind) 4 9 Row.off) (List._∷_ (8, Part.mslice-owedP Cell.R (Syntax.tyRef (Syntax.named 5) Syntax.mut Cell.behind) 5 10 Row.off) (List._∷_ (9, Rows.any-gone (Syntax.tyStruct (List._∷_ 112 (List._∷_ 121 (List._∷_ 114 (List._∷_ 97 (List._∷_ 109 (List._∷_ 105 (List._∷_ 100 (List._∷_ 58 (List._∷_ 58 (List._∷_ 83 (List._∷_ 116 (List._∷_ 97 (List._∷_ 116 (List._∷_ 101 List.[])))))))))))))) (Syntax.tcons (Syntax.tyInt Syntax.w32) (Syntax.tcons (Syntax.tyInt Syntax.w32) (Syntax.tcons (Syntax.tyInt Syntax.w32) (Syntax.tcons (Syntax.tyInt Syntax.w32) (Syntax.tcons (Syntax.tyInt Syntax.w32) (Syntax.tcons (Syntax.tyArray (Syntax.tyInt Syntax.w32) 64) Syntax.tnil)))))))) (List._∷_ (10, Rows.any-gone (Syntax.tyInt Syntax.w64)) (List._∷_ (11, Rows.any-gone (Syntax.tyInt Syntax.w64)) (List._∷_ (12, Rows.any-gone (Syntax.tyInt Syntax.w64)) (List._∷_ (13, Rows.any-gone (Syntax.tyInt Syntax.w64)) (List._∷_ (14, Rows.any-gone (Syntax.tyInt Syntax.w64)) (List._∷_ (15, Rows.any-gone (Syntax.tyInt Syntax.w64)) List.[])))))))))))))))
 
 abbrev pub t46 : List.List Row.Entry
 t46 = List._∷_ (16, Rows.any-gone Syntax.tyPtr) (List._∷_ (17, Rows.any-gone (Syntax.tyInt Syntax.w32)) (List._∷_ (18, Rows.any-gone (Syntax.tyRef Syntax.erased Syntax.imm (Syntax.tyInt Syntax.w32))) (List._∷_ (19, Rows.any-gone (Syntax.tyStruct (List._∷_ 38 (List._∷_ 91 (List._∷_ 93 List.[]))) (Syntax.tcons (Syntax.tyRef Syntax.erased Syntax.imm (Syntax.tyInt Syntax.w32)) (Syntax.tcons (Syntax.tyInt Syntax.w64) Syntax.tnil)))) (List._∷_ (20, Rows.any-gone (Syntax.tyRef Syntax.erased Syntax.mut (Syntax.tyInt Syntax.w32))) (List._∷_ (21, Rows.any-gone (Syntax.tyStruct (List._∷_ 38 (List._∷_ 91 (List._∷_ 93 List.[]))) (Syntax.tcons (Syntax.tyRef Syntax.erased Syntax.mut (Syntax.tyInt Syntax.w32)) (Syntax.tcons (Syntax.tyInt Syntax.w64) Syntax.tnil)))) (List._∷_ (22, Rows.any-gone (Syntax.tyRef Syntax.erased Syntax.mut (Syntax.tyInt Syntax.w32))) (List._∷_ (23, Rows.any-gone (Syntax.tyStruct (List._∷_ 38 (List._∷_ 91 (List._∷_ 93 List.[]))) (Syntax.tcons (Syntax.tyRef Syntax.erased Syntax.mut (Syntax.tyInt Syntax.w32)) (Syntax.tcons (Syntax.tyInt Syntax.w64) Syntax.tnil)))) (List._∷_ (24, Rows.any-gone (Syntax.tyRef Syntax.erased Syntax.mut (Syntax.tyInt Syntax.w32))) (List._∷_ (25, Mut.msleft (Referent.rtF (Referent.fInt Syntax.w32)) (Syntax.tyRef Syntax.erased Syntax.mut (Syntax.tyInt Syntax.w32))) (List._∷_ (26, Rows.any-gone (Syntax.tyRef Syntax.erased Syntax.mut Cell.behind)) (List._∷_ (27, Mut.msleft Cell.R (Syntax.tyRef Syntax.erased Syntax.mut Cell.behind)) (List._∷_ (28, Rows.any-gone (Syntax.tyRef Syntax.erased Syntax.mut Cell.behind)) (List._∷_ (29, Mut.msleft Cell.R (Syntax.tyRef Syntax.erased Syntax.mut Cell.behind)) List.[])))))))))))))
 
 abbrev pub t47 : List.List Row.Entry
-t47 = List._∷_ (0, Rows.whole (Declared.row Outcome.the-type)) (List._∷_ (1, Rows.any-gone (Syntax.tyStruct (List._∷_ 122 (List._∷_ 111 (List._∷_ 110 (List._∷_ 101 (List._∷_ 115 (List._∷_ 58 (List._∷_ 58 (List._∷_ 104 (List._∷_ 101 (List._∷_ 108 (List._∷_ 100 (List._∷_ 58 (List._∷_ 58 (List._∷_ 72 (List._∷_ 101 (List._∷_ 108 (List._∷_ 100 List.[]))))))))))))))))) (Syntax.tcons (Syntax.tyStruct (List._∷_ 112 (List._∷_ 121 (List._∷_ 114 (List._∷_ 97 (List._∷_ 109 (List._∷_ 105 (List._∷_ 100 (List._∷_ 58 (List._∷_ 58 (List._∷_ 83 (List._∷_ 116 (List._∷_ 97 (List._∷_ 116 (List._∷_ 101 List.[])))))))))))))) (Syntax.tcons (Syntax.tyInt Syntax.w32) (Syntax.tcons (Syntax.tyInt Syntax.w32) (Syntax.tcons (Syntax.tyInt Syntax.w32) (Syntax.tcons (Syntax.tyInt Syntax.w32) (Syntax.tcons (Syntax.tyInt Syntax.w32) (Syntax.tcons (Syntax.tyArray (Syntax.tyInt Syntax.w32) 64) Syntax.tnil))))))) (Syntax.tcons (Syntax.tyInt Syntax.w64) (Syntax.tcons (Syntax.tyInt Syntax.w64) (Syntax.tcons (Syntax.tyInt Syntax.w64) (Syntax.tcons (Syntax.tyInt Syntax.w64) (Syntax.tcons (Syntax.tyInt Syntax.w64) (Syntax.tcons (Syntax.tyInt Syntax.w64) (Syntax.tcons Syntax.tyBool Syntax.tnil)))))))))) (List._∷_ (2, Rows.any-gone (Syntax.tyStruct (List._∷_ 122 (List._∷_ 111 (List._∷_ 110 (List._∷_ 101 (List._∷_ 115 (List._∷_ 58 (List._∷_ 58 (List._∷_ 115 (List._∷_ 99 (List._∷_ 97 (List._∷_ 110 (List._∷_ 58 (List._∷_ 58 (List._∷_ 76 (List._∷_ 105 (List._∷_ 110 (List._∷_ 101 List.[]))))))))))))))))) (Syntax.tcons (Syntax.tyInt Syntax.w32) (Syntax.tcons (Syntax.tyInt Syntax.w64) (Syntax.tcons (Syntax.tyInt Syntax.w64) (Syntax.tcons (Syntax.tyInt Syntax.w64) (Syntax.tcons (Syntax.tyInt Syntax.w64) Syntax.tnil))))))) (List._∷_ (3, Rows.sslice (Referent.rtF (Referent.fInt Syntax.w32)) (Syntax.tyRef (Syntax.named 0) Syntax.imm (Syntax.tyInt Syntax.w32)) 0) (List._∷_ (4, Mut.mslice (Referent.rtF (Referent.fInt Syntax.w32)) (Syntax.tyRef (Syntax.named 1) Syntax.mut (Syntax.tyInt Syntax.w32)) 1) (List._∷_ (5, Mut.mslice (Referent.rtF (Referent.fInt Syntax.w32)) (Syntax.tyRef (Syntax.named 2) Syntax.mut (Syntax.tyInt Syntax.w32)) 2) (List._∷_ (6, Mut.mslice (Referent.rtF (Referent.fInt Syntax.w32)) (Syntax.tyRef (Syntax.named 3) Syntax.mut (Syntax.tyInt Syntax.w32)) 3) (List._∷_ (7, Part.mslice-owedP Cell.R (Syntax.tyRef (Syntax.named 4) Syntax.mut Cell.behind) 4 9 Row.off) (List._∷_ (8, Part.mslice-owedP Cell.R (Syntax.tyRef (Syntax.named 5) Syntax.mut Cell.behind) 5 10 Row.off) (List._∷_ (9, Rows.any-gone (Syntax.tyStruct (List._∷_ 112 (List._∷_ 121 (List._∷_ 114 (List._∷_ 97 (List._∷_ 109 (List._∷_ 105 (List._∷_ 100 (List._∷_ 58 (List._∷_ 58 (List._∷_ 83 (List._∷_ 116 (List._∷_ 97 (List._∷_ 116 (List._∷_ 101 List.[])))))))))))))) (Syntax.tcons (Syntax.tyInt Syntax.w32) (Syntax.tcons (Syntax.tyInt Syntax.w32) (Syntax.tcons (Syntax.tyInt Syntax.w32) (Syntax.tcons (Syntax.tyInt Syntax.w32) (Syntax.tcons (Syntax.tyInt Syntax.w32) (Syntax.tcons (Syntax.tyArray (Syntax.tyInt Syntax.w32) 64) Syntax.tnil)))))))) (List._∷_ (10, Rows.any-gone (Syntax.tyInt Syntax.w64)) (List._∷_ (11, Rows.any-gone (Syntax.tyInt Syntax.w64)) (List._∷_ (12, Rows.any-gone (Syntax.tyInt Syntax.w64)) (List._∷_ (13, Rows.any-gone (Syntax.tyInt Syntax.w64)) (List._∷_ (14, Rows.any-gone (Syntax.tyInt Syntax.w64)) (List._∷_ (15, Rows.any-gone (Syntax.tyInt Syntax.w64)) List.[])))))))))))))))
+t47 = List._∷_ (0, Rows.whole (Declared.row Outcome.the-type)) (List._∷_ (1, Rows.any-gone (Syntax.tyStruct (List._∷_ 122 (List._∷_ 111 (List._∷_ 110 (List._∷_ 101 (List._∷_ 115 (List._∷_ 58 (List._∷_ 58 (List._∷_ 104 (List._∷_ 101 (List._∷_ 108 (List._∷_ 100 (List._∷_ 58 (List._∷_ 58 (List._∷_ 72 (List._∷_ 101 (List._∷_ 108 (List._∷_ 100 List.[]))))))))))))))))) (Syntax.tcons (Syntax.tyStruct (List._∷_ 112 (List._∷_ 121 (List._∷_ 114 (List._∷_ 97 (List._∷_ 109 (List._∷_ 105 (List._∷_ 100 (List._∷_ 58 (List._∷_ 58 (List._∷_ 83 (List._∷_ 116 (List._∷_ 97 (List._∷_ 116 (List._∷_ 101 List.[])))))))))))))) (Syntax.tcons (Syntax.tyInt Syntax.w32) (Syntax.tcons (Syntax.tyInt Syntax.w32) (Syntax.tcons (Syntax.tyInt Syntax.w32) (Syntax.tcons (Syntax.tyInt Syntax.w32) (Syntax.tcons (Syntax.tyInt Syntax.w32) (Syntax.tcons (Syntax.tyArray (Syntax.tyInt Syntax.w32) 64) Syntax.tnil))))))) (Syntax.tcons (Syntax.tyInt Syntax.w64) (Syntax.tcons (Syntax.tyInt Syntax.w64) (Syntax.tcons (Syntax.tyInt Syntax.w64) (Syntax.tcons (Syntax.tyInt Syntax.w64) (Syntax.tcons (Syntax.tyInt Syntax.w64) (Syntax.tcons (Syntax.tyInt Syntax.w64) (Syntax.tcons Syntax.tyBool Syntax.tnil)))))))))) (List._∷_ (2, Rows.any-gone (Syntax.tyStruct (List._∷_ 115 (List._∷_ 99 (List._∷_ 114 (List._∷_ 105 (List._∷_ 112 (List._∷_ 116 (List._∷_ 58 (List._∷_ 58 (List._∷_ 115 (List._∷_ 99 (List._∷_ 97 (List._∷_ 110 (List._∷_ 58 (List._∷_ 58 (List._∷_ 76 (List._∷_ 105 (List._∷_ 110 (List._∷_ 101 List.[])))))))))))))))))) (Syntax.tcons (Syntax.tyInt Syntax.w32) (Syntax.tcons (Syntax.tyInt Syntax.w64) (Syntax.tcons (Syntax.tyInt Syntax.w64) (Syntax.tcons (Syntax.tyInt Syntax.w64) (Syntax.tcons (Syntax.tyInt Syntax.w64) Syntax.tnil))))))) (List._∷_ (3, Rows.sslice (Referent.rtF (Referent.fInt Syntax.w32)) (Syntax.tyRef (Syntax.named 0) Syntax.imm (Syntax.tyInt Syntax.w32)) 0) (List._∷_ (4, Mut.mslice (Referent.rtF (Referent.fInt Syntax.w32)) (Syntax.tyRef (Syntax.named 1) Syntax.mut (Syntax.tyInt Syntax.w32)) 1) (List._∷_ (5, Mut.mslice (Referent.rtF (Referent.fInt Syntax.w32)) (Syntax.tyRef (Syntax.named 2) Syntax.mut (Syntax.tyInt Syntax.w32)) 2) (List._∷_ (6, Mut.mslice (Referent.rtF (Referent.fInt Syntax.w32)) (Syntax.tyRef (Syntax.named 3) Syntax.mut (Syntax.tyInt Syntax.w32)) 3) (List._∷_ (7, Part.mslice-owedP Cell.R (Syntax.tyRef (Syntax.named 4) Syntax.mut Cell.behind) 4 9 Row.off) (List._∷_ (8, Part.mslice-owedP Cell.R (Syntax.tyRef (Syntax.named 5) Syntax.mut Cell.behind) 5 10 Row.off) (List._∷_ (9, Rows.any-gone (Syntax.tyStruct (List._∷_ 112 (List._∷_ 121 (List._∷_ 114 (List._∷_ 97 (List._∷_ 109 (List._∷_ 105 (List._∷_ 100 (List._∷_ 58 (List._∷_ 58 (List._∷_ 83 (List._∷_ 116 (List._∷_ 97 (List._∷_ 116 (List._∷_ 101 List.[])))))))))))))) (Syntax.tcons (Syntax.tyInt Syntax.w32) (Syntax.tcons (Syntax.tyInt Syntax.w32) (Syntax.tcons (Syntax.tyInt Syntax.w32) (Syntax.tcons (Syntax.tyInt Syntax.w32) (Syntax.tcons (Syntax.tyInt Syntax.w32) (Syntax.tcons (Syntax.tyArray (Syntax.tyInt Syntax.w32) 64) Syntax.tnil)))))))) (List._∷_ (10, Rows.any-gone (Syntax.tyInt Syntax.w64)) (List._∷_ (11, Rows.any-gone (Syntax.tyInt Syntax.w64)) (List._∷_ (12, Rows.any-gone (Syntax.tyInt Syntax.w64)) (List._∷_ (13, Rows.any-gone (Syntax.tyInt Syntax.w64)) (List._∷_ (14, Rows.any-gone (Syntax.tyInt Syntax.w64)) (List._∷_ (15, Rows.any-gone (Syntax.tyInt Syntax.w64)) List.[])))))))))))))))
 
 abbrev pub t48 : List.List Row.Entry
 t48 = List._∷_ (16, Rows.any-gone Syntax.tyPtr) (List._∷_ (17, Rows.any-gone (Syntax.tyInt Syntax.w32)) (List._∷_ (18, Rows.any-gone (Syntax.tyRef Syntax.erased Syntax.imm (Syntax.tyInt Syntax.w32))) (List._∷_ (19, Rows.any-gone (Syntax.tyStruct (List._∷_ 38 (List._∷_ 91 (List._∷_ 93 List.[]))) (Syntax.tcons (Syntax.tyRef Syntax.erased Syntax.imm (Syntax.tyInt Syntax.w32)) (Syntax.tcons (Syntax.tyInt Syntax.w64) Syntax.tnil)))) (List._∷_ (20, Rows.any-gone (Syntax.tyRef Syntax.erased Syntax.mut (Syntax.tyInt Syntax.w32))) (List._∷_ (21, Rows.any-gone (Syntax.tyStruct (List._∷_ 38 (List._∷_ 91 (List._∷_ 93 List.[]))) (Syntax.tcons (Syntax.tyRef Syntax.erased Syntax.mut (Syntax.tyInt Syntax.w32)) (Syntax.tcons (Syntax.tyInt Syntax.w64) Syntax.tnil)))) (List._∷_ (22, Rows.any-gone (Syntax.tyRef Syntax.erased Syntax.mut (Syntax.tyInt Syntax.w32))) (List._∷_ (23, Rows.any-gone (Syntax.tyStruct (List._∷_ 38 (List._∷_ 91 (List._∷_ 93 List.[]))) (Syntax.tcons (Syntax.tyRef Syntax.erased Syntax.mut (Syntax.tyInt Syntax.w32)) (Syntax.tcons (Syntax.tyInt Syntax.w64) Syntax.tnil)))) (List._∷_ (24, Rows.any-gone (Syntax.tyRef Syntax.erased Syntax.mut (Syntax.tyInt Syntax.w32))) (List._∷_ (25, Rows.any-gone (Syntax.tyStruct (List._∷_ 38 (List._∷_ 91 (List._∷_ 93 List.[]))) (Syntax.tcons (Syntax.tyRef Syntax.erased Syntax.mut (Syntax.tyInt Syntax.w32)) (Syntax.tcons (Syntax.tyInt Syntax.w64) Syntax.tnil)))) (List._∷_ (26, Rows.any-gone (Syntax.tyRef Syntax.erased Syntax.mut Cell.behind)) (List._∷_ (27, Mut.msleft Cell.R (Syntax.tyRef Syntax.erased Syntax.mut Cell.behind)) (List._∷_ (28, Rows.any-gone (Syntax.tyRef Syntax.erased Syntax.mut Cell.behind)) (List._∷_ (29, Mut.msleft Cell.R (Syntax.tyRef Syntax.erased Syntax.mut Cell.behind)) List.[])))))))))))))
 
 abbrev pub t49 : List.List Row.Entry
-t49 = List._∷_ (0, Rows.whole (Declared.row Outcome.the-type)) (List._∷_ (1, Rows.any-gone (Syntax.tyStruct (List._∷_ 122 (List._∷_ 111 (List._∷_ 110 (List._∷_ 101 (List._∷_ 115 (List._∷_ 58 (List._∷_ 58 (List._∷_ 104 (List._∷_ 101 (List._∷_ 108 (List._∷_ 100 (List._∷_ 58 (List._∷_ 58 (List._∷_ 72 (List._∷_ 101 (List._∷_ 108 (List._∷_ 100 List.[]))))))))))))))))) (Syntax.tcons (Syntax.tyStruct (List._∷_ 112 (List._∷_ 121 (List._∷_ 114 (List._∷_ 97 (List._∷_ 109 (List._∷_ 105 (List._∷_ 100 (List._∷_ 58 (List._∷_ 58 (List._∷_ 83 (List._∷_ 116 (List._∷_ 97 (List._∷_ 116 (List._∷_ 101 List.[])))))))))))))) (Syntax.tcons (Syntax.tyInt Syntax.w32) (Syntax.tcons (Syntax.tyInt Syntax.w32) (Syntax.tcons (Syntax.tyInt Syntax.w32) (Syntax.tcons (Syntax.tyInt Syntax.w32) (Syntax.tcons (Syntax.tyInt Syntax.w32) (Syntax.tcons (Syntax.tyArray (Syntax.tyInt Syntax.w32) 64) Syntax.tnil))))))) (Syntax.tcons (Syntax.tyInt Syntax.w64) (Syntax.tcons (Syntax.tyInt Syntax.w64) (Syntax.tcons (Syntax.tyInt Syntax.w64) (Syntax.tcons (Syntax.tyInt Syntax.w64) (Syntax.tcons (Syntax.tyInt Syntax.w64) (Syntax.tcons (Syntax.tyInt Syntax.w64) (Syntax.tcons Syntax.tyBool Syntax.tnil)))))))))) (List._∷_ (2, Rows.any-gone (Syntax.tyStruct (List._∷_ 122 (List._∷_ 111 (List._∷_ 110 (List._∷_ 101 (List._∷_ 115 (List._∷_ 58 (List._∷_ 58 (List._∷_ 115 (List._∷_ 99 (List._∷_ 97 (List._∷_ 110 (List._∷_ 58 (List._∷_ 58 (List._∷_ 76 (List._∷_ 105 (List._∷_ 110 (List._∷_ 101 List.[]))))))))))))))))) (Syntax.tcons (Syntax.tyInt Syntax.w32) (Syntax.tcons (Syntax.tyInt Syntax.w64) (Syntax.tcons (Syntax.tyInt Syntax.w64) (Syntax.tcons (Syntax.tyInt Syntax.w64) (Syntax.tcons (Syntax.tyInt Syntax.w64) Syntax.tnil))))))) (List._∷_ (3, Rows.sslice (Referent.rtF (Referent.fInt Syntax.w32)) (Syntax.tyRef (Syntax.named 0) Syntax.imm (Syntax.tyInt Syntax.w32)) 0) (List._∷_ (4, Mut.mslice (Referent.rtF (Referent.fInt Syntax.w32)) (Syntax.tyRef (Syntax.named 1) Syntax.mut (Syntax.tyInt Syntax.w32)) 1) (List._∷_ (5, Mut.mslice (Referent.rtF (Referent.fInt Syntax.w32)) (Syntax.tyRef (Syntax.named 2) Syntax.mut (Syntax.tyInt Syntax.w32)) 2) (List._∷_ (6, Mut.mslice (Referent.rtF (Referent.fInt Syntax.w32)) (Syntax.tyRef (Syntax.named 3) Syntax.mut (Syntax.tyInt Syntax.w32)) 3) (List._∷_ (7, Mut.mslice Cell.R (Syntax.tyRef (Syntax.named 4) Syntax.mut Cell.behind) 4) (List._∷_ (8, Part.mslice-owedP Cell.R (Syntax.tyRef (Syntax.named 5) Syntax.mut Cell.behind) 5 10 Row.off) (List._∷_ (9, Rows.any-gone (Syntax.tyStruct (List._∷_ 112 (List._∷_ 121 (List._∷_ 114 (List._∷_ 97 (List._∷_ 109 (List._∷_ 105 (List._∷_ 100 (List._∷_ 58 (List._∷_ 58 (List._∷_ 83 (List._∷_ 116 (List._∷_ 97 (List._∷_ 116 (List._∷_ 101 List.[])))))))))))))) (Syntax.tcons (Syntax.tyInt Syntax.w32) (Syntax.tcons (Syntax.tyInt Syntax.w32) (Syntax.tcons (Syntax.tyInt Syntax.w32) (Syntax.tcons (Syntax.tyInt Syntax.w32) (Syntax.tcons (Syntax.tyInt Syntax.w32) (Syntax.tcons (Syntax.tyArray (Syntax.tyInt Syntax.w32) 64) Syntax.tnil)))))))) (List._∷_ (10, Rows.any-gone (Syntax.tyInt Syntax.w64)) (List._∷_ (11, Rows.any-gone (Syntax.tyInt Syntax.w64)) (List._∷_ (12, Rows.any-gone (Syntax.tyInt Syntax.w64)) (List._∷_ (13, Rows.any-gone (Syntax.tyInt Syntax.w64)) (List._∷_ (14, Rows.any-gone (Syntax.tyInt Syntax.w64)) (List._∷_ (15, Rows.any-gone (Syntax.tyInt Syntax.w64)) List.[])))))))))))))))
+t49 = List._∷_ (0, Rows.whole (Declared.row Outcome.the-type)) (List._∷_ (1, Rows.any-gone (Syntax.tyStruct (List._∷_ 122 (List._∷_ 111 (List._∷_ 110 (List._∷_ 101 (List._∷_ 115 (List._∷_ 58 (List._∷_ 58 (List._∷_ 104 (List._∷_ 101 (List._∷_ 108 (List._∷_ 100 (List._∷_ 58 (List._∷_ 58 (List._∷_ 72 (List._∷_ 101 (List._∷_ 108 (List._∷_ 100 List.[]))))))))))))))))) (Syntax.tcons (Syntax.tyStruct (List._∷_ 112 (List._∷_ 121 (List._∷_ 114 (List._∷_ 97 (List._∷_ 109 (List._∷_ 105 (List._∷_ 100 (List._∷_ 58 (List._∷_ 58 (List._∷_ 83 (List._∷_ 116 (List._∷_ 97 (List._∷_ 116 (List._∷_ 101 List.[])))))))))))))) (Syntax.tcons (Syntax.tyInt Syntax.w32) (Syntax.tcons (Syntax.tyInt Syntax.w32) (Syntax.tcons (Syntax.tyInt Syntax.w32) (Syntax.tcons (Syntax.tyInt Syntax.w32) (Syntax.tcons (Syntax.tyInt Syntax.w32) (Syntax.tcons (Syntax.tyArray (Syntax.tyInt Syntax.w32) 64) Syntax.tnil))))))) (Syntax.tcons (Syntax.tyInt Syntax.w64) (Syntax.tcons (Syntax.tyInt Syntax.w64) (Syntax.tcons (Syntax.tyInt Syntax.w64) (Syntax.tcons (Syntax.tyInt Syntax.w64) (Syntax.tcons (Syntax.tyInt Syntax.w64) (Syntax.tcons (Syntax.tyInt Syntax.w64) (Syntax.tcons Syntax.tyBool Syntax.tnil)))))))))) (List._∷_ (2, Rows.any-gone (Syntax.tyStruct (List._∷_ 115 (List._∷_ 99 (List._∷_ 114 (List._∷_ 105 (List._∷_ 112 (List._∷_ 116 (List._∷_ 58 (List._∷_ 58 (List._∷_ 115 (List._∷_ 99 (List._∷_ 97 (List._∷_ 110 (List._∷_ 58 (List._∷_ 58 (List._∷_ 76 (List._∷_ 105 (List._∷_ 110 (List._∷_ 101 List.[])))))))))))))))))) (Syntax.tcons (Syntax.tyInt Syntax.w32) (Syntax.tcons (Syntax.tyInt Syntax.w64) (Syntax.tcons (Syntax.tyInt Syntax.w64) (Syntax.tcons (Syntax.tyInt Syntax.w64) (Syntax.tcons (Syntax.tyInt Syntax.w64) Syntax.tnil))))))) (List._∷_ (3, Rows.sslice (Referent.rtF (Referent.fInt Syntax.w32)) (Syntax.tyRef (Syntax.named 0) Syntax.imm (Syntax.tyInt Syntax.w32)) 0) (List._∷_ (4, Mut.mslice (Referent.rtF (Referent.fInt Syntax.w32)) (Syntax.tyRef (Syntax.named 1) Syntax.mut (Syntax.tyInt Syntax.w32)) 1) (List._∷_ (5, Mut.mslice (Referent.rtF (Referent.fInt Syntax.w32)) (Syntax.tyRef (Syntax.named 2) Syntax.mut (Syntax.tyInt Syntax.w32)) 2) (List._∷_ (6, Mut.mslice (Referent.rtF (Referent.fInt Syntax.w32)) (Syntax.tyRef (Syntax.named 3) Syntax.mut (Syntax.tyInt Syntax.w32)) 3) (List._∷_ (7, Mut.mslice Cell.R (Syntax.tyRef (Syntax.named 4) Syntax.mut Cell.behind) 4) (List._∷_ (8, Part.mslice-owedP Cell.R (Syntax.tyRef (Syntax.named 5) Syntax.mut Cell.behind) 5 10 Row.off) (List._∷_ (9, Rows.any-gone (Syntax.tyStruct (List._∷_ 112 (List._∷_ 121 (List._∷_ 114 (List._∷_ 97 (List._∷_ 109 (List._∷_ 105 (List._∷_ 100 (List._∷_ 58 (List._∷_ 58 (List._∷_ 83 (List._∷_ 116 (List._∷_ 97 (List._∷_ 116 (List._∷_ 101 List.[])))))))))))))) (Syntax.tcons (Syntax.tyInt Syntax.w32) (Syntax.tcons (Syntax.tyInt Syntax.w32) (Syntax.tcons (Syntax.tyInt Syntax.w32) (Syntax.tcons (Syntax.tyInt Syntax.w32) (Syntax.tcons (Syntax.tyInt Syntax.w32) (Syntax.tcons (Syntax.tyArray (Syntax.tyInt Syntax.w32) 64) Syntax.tnil)))))))) (List._∷_ (10, Rows.any-gone (Syntax.tyInt Syntax.w64)) (List._∷_ (11, Rows.any-gone (Syntax.tyInt Syntax.w64)) (List._∷_ (12, Rows.any-gone (Syntax.tyInt Syntax.w64)) (List._∷_ (13, Rows.any-gone (Syntax.tyInt Syntax.w64)) (List._∷_ (14, Rows.any-gone (Syntax.tyInt Syntax.w64)) (List._∷_ (15, Rows.any-gone (Syntax.tyInt Syntax.w64)) List.[])))))))))))))))
 
 abbrev pub t50 : List.List Row.Entry
 t50 = List._∷_ (16, Rows.any-gone Syntax.tyPtr) (List._∷_ (17, Rows.any-gone (Syntax.tyInt Syntax.w32)) (List._∷_ (18, Rows.any-gone (Syntax.tyRef Syntax.erased Syntax.imm (Syntax.tyInt Syntax.w32))) (List._∷_ (19, Rows.any-gone (Syntax.tyStruct (List._∷_ 38 (List._∷_ 91 (List._∷_ 93 List.[]))) (Syntax.tcons (Syntax.tyRef Syntax.erased Syntax.imm (Syntax.tyInt Syntax.w32)) (Syntax.tcons (Syntax.tyInt Syntax.w64) Syntax.tnil)))) (List._∷_ (20, Rows.any-gone (Syntax.tyRef Syntax.erased Syntax.mut (Syntax.tyInt Syntax.w32))) (List._∷_ (21, Rows.any-gone (Syntax.tyStruct (List._∷_ 38 (List._∷_ 91 (List._∷_ 93 List.[]))) (Syntax.tcons (Syntax.tyRef Syntax.erased Syntax.mut (Syntax.tyInt Syntax.w32)) (Syntax.tcons (Syntax.tyInt Syntax.w64) Syntax.tnil)))) (List._∷_ (22, Rows.any-gone (Syntax.tyRef Syntax.erased Syntax.mut (Syntax.tyInt Syntax.w32))) (List._∷_ (23, Rows.any-gone (Syntax.tyStruct (List._∷_ 38 (List._∷_ 91 (List._∷_ 93 List.[]))) (Syntax.tcons (Syntax.tyRef Syntax.erased Syntax.mut (Syntax.tyInt Syntax.w32)) (Syntax.tcons (Syntax.tyInt Syntax.w64) Syntax.tnil)))) (List._∷_ (24, Rows.any-gone (Syntax.tyRef Syntax.erased Syntax.mut (Syntax.tyInt Syntax.w32))) (List._∷_ (25, Rows.any-gone (Syntax.tyStruct (List._∷_ 38 (List._∷_ 91 (List._∷_ 93 List.[]))) (Syntax.tcons (Syntax.tyRef Syntax.erased Syntax.mut (Syntax.tyInt Syntax.w32)) (Syntax.tcons (Syntax.tyInt Syntax.w64) Syntax.tnil)))) (List._∷_ (26, Rows.any-gone (Syntax.tyRef Syntax.erased Syntax.mut Cell.behind)) (List._∷_ (27, Rows.any-gone (Syntax.tyStruct (List._∷_ 38 (List._∷_ 91 (List._∷_ 93 List.[]))) (Syntax.tcons (Syntax.tyRef Syntax.erased Syntax.mut Cell.behind) (Syntax.tcons (Syntax.tyInt Syntax.w64) Syntax.tnil)))) (List._∷_ (28, Rows.any-gone (Syntax.tyRef Syntax.erased Syntax.mut Cell.behind)) (List._∷_ (29, Mut.msleft Cell.R (Syntax.tyRef Syntax.erased Syntax.mut Cell.behind)) List.[])))))))))))))
@@ -552,19 +552,19 @@ module _ (claims· : Claims) where
   s4 = λ bs. WayStmt.k-way-copy-out T5 (Row.out 1 (T5 .locals)) (λ u. Row.drop 1 (T5 .locals) u) 9 (Rows.whole (Declared.row State.the-type)) (λ u. At.getAt (Held.the-type .parts) 0 (Held.struct .as-values (u .1 .0))) (λ T′. record { locals = Row.setRow 1 (1, Rows.whole (Declared.row Held.the-type)) T′; slots = List.[] }) (λ u T′ m′. Row.set 1 (1, Rows.whole (Declared.row Held.the-type)) (u .1 .0) T′ m′) (λ u. Unit) λ u. Unit
 
   abbrev s5 : (bs : List.List Nat.ℕ) → Typed.Mo T6 → Typed.Mo T7
-  s5 = λ bs. Scalar.n-use T6 (Scalar.oFld 1 (List._∷_ (Syntax.field 1) List.[]) (Syntax.tyInt Syntax.w64) 280 (Reads.fieldV Held.the-type Laws''.the-laws 1)) 10 (Rows.sc-here (Row.sInt Syntax.w64)) (Row.sInt Syntax.w64 .of)
+  s5 = λ bs. Scalar.n-use T6 (Scalar.oFld 1 (List._∷_ (Syntax.field 1) List.[]) (Syntax.tyInt Syntax.w64) 280 (Reads.fieldV Held.the-type Laws'3.the-laws 1)) 10 (Rows.sc-here (Row.sInt Syntax.w64)) (Row.sInt Syntax.w64 .of)
 
   abbrev s6 : (bs : List.List Nat.ℕ) → Typed.Mo T7 → Typed.Mo T8
-  s6 = λ bs. Scalar.n-use T7 (Scalar.oFld 1 (List._∷_ (Syntax.field 2) List.[]) (Syntax.tyInt Syntax.w64) 288 (Reads.fieldV Held.the-type Laws''.the-laws 2)) 11 (Rows.sc-here (Row.sInt Syntax.w64)) (Row.sInt Syntax.w64 .of)
+  s6 = λ bs. Scalar.n-use T7 (Scalar.oFld 1 (List._∷_ (Syntax.field 2) List.[]) (Syntax.tyInt Syntax.w64) 288 (Reads.fieldV Held.the-type Laws'3.the-laws 2)) 11 (Rows.sc-here (Row.sInt Syntax.w64)) (Row.sInt Syntax.w64 .of)
 
   abbrev s7 : (bs : List.List Nat.ℕ) → Typed.Mo T8 → Typed.Mo T9
-  s7 = λ bs. Scalar.n-use T8 (Scalar.oFld 1 (List._∷_ (Syntax.field 3) List.[]) (Syntax.tyInt Syntax.w64) 296 (Reads.fieldV Held.the-type Laws''.the-laws 3)) 12 (Rows.sc-here (Row.sInt Syntax.w64)) (Row.sInt Syntax.w64 .of)
+  s7 = λ bs. Scalar.n-use T8 (Scalar.oFld 1 (List._∷_ (Syntax.field 3) List.[]) (Syntax.tyInt Syntax.w64) 296 (Reads.fieldV Held.the-type Laws'3.the-laws 3)) 12 (Rows.sc-here (Row.sInt Syntax.w64)) (Row.sInt Syntax.w64 .of)
 
   abbrev s8 : (bs : List.List Nat.ℕ) → Typed.Mo T9 → Typed.Mo T10
-  s8 = λ bs. Scalar.n-use T9 (Scalar.oFld 1 (List._∷_ (Syntax.field 4) List.[]) (Syntax.tyInt Syntax.w64) 304 (Reads.fieldV Held.the-type Laws''.the-laws 4)) 13 (Rows.sc-here (Row.sInt Syntax.w64)) (Row.sInt Syntax.w64 .of)
+  s8 = λ bs. Scalar.n-use T9 (Scalar.oFld 1 (List._∷_ (Syntax.field 4) List.[]) (Syntax.tyInt Syntax.w64) 304 (Reads.fieldV Held.the-type Laws'3.the-laws 4)) 13 (Rows.sc-here (Row.sInt Syntax.w64)) (Row.sInt Syntax.w64 .of)
 
   abbrev s9 : (bs : List.List Nat.ℕ) → Typed.Mo T10 → Typed.Mo T11
-  s9 = λ bs. Scalar.n-use T10 (Scalar.oFld 1 (List._∷_ (Syntax.field 5) List.[]) (Syntax.tyInt Syntax.w64) 312 (Reads.fieldV Held.the-type Laws''.the-laws 5)) 14 (Rows.sc-here (Row.sInt Syntax.w64)) (Row.sInt Syntax.w64 .of)
+  s9 = λ bs. Scalar.n-use T10 (Scalar.oFld 1 (List._∷_ (Syntax.field 5) List.[]) (Syntax.tyInt Syntax.w64) 312 (Reads.fieldV Held.the-type Laws'3.the-laws 5)) 14 (Rows.sc-here (Row.sInt Syntax.w64)) (Row.sInt Syntax.w64 .of)
 
   abbrev s10 : (bs : List.List Nat.ℕ) → Typed.Mo T11 → Typed.Mo T12
   s10 = λ bs. Scalar.n-room T11 1 (Syntax.tyStruct (List._∷_ 122 (List._∷_ 111 (List._∷_ 110 (List._∷_ 101 (List._∷_ 115 (List._∷_ 58 (List._∷_ 58 (List._∷_ 104 (List._∷_ 101 (List._∷_ 108 (List._∷_ 100 (List._∷_ 58 (List._∷_ 58 (List._∷_ 72 (List._∷_ 101 (List._∷_ 108 (List._∷_ 100 List.[]))))))))))))))))) (Syntax.tcons (Syntax.tyStruct (List._∷_ 112 (List._∷_ 121 (List._∷_ 114 (List._∷_ 97 (List._∷_ 109 (List._∷_ 105 (List._∷_ 100 (List._∷_ 58 (List._∷_ 58 (List._∷_ 83 (List._∷_ 116 (List._∷_ 97 (List._∷_ 116 (List._∷_ 101 List.[])))))))))))))) (Syntax.tcons (Syntax.tyInt Syntax.w32) (Syntax.tcons (Syntax.tyInt Syntax.w32) (Syntax.tcons (Syntax.tyInt Syntax.w32) (Syntax.tcons (Syntax.tyInt Syntax.w32) (Syntax.tcons (Syntax.tyInt Syntax.w32) (Syntax.tcons (Syntax.tyArray (Syntax.tyInt Syntax.w32) 64) Syntax.tnil))))))) (Syntax.tcons (Syntax.tyInt Syntax.w64) (Syntax.tcons (Syntax.tyInt Syntax.w64) (Syntax.tcons (Syntax.tyInt Syntax.w64) (Syntax.tcons (Syntax.tyInt Syntax.w64) (Syntax.tcons (Syntax.tyInt Syntax.w64) (Syntax.tcons (Syntax.tyInt Syntax.w64) (Syntax.tcons Syntax.tyBool Syntax.tnil)))))))))
@@ -627,7 +627,7 @@ module _ (claims· : Claims) where
   s34 = λ bs. Scalar.n-room T35 19 (Syntax.tyStruct (List._∷_ 38 (List._∷_ 91 (List._∷_ 93 List.[]))) (Syntax.tcons (Syntax.tyRef Syntax.erased Syntax.imm (Syntax.tyInt Syntax.w32)) (Syntax.tcons (Syntax.tyInt Syntax.w64) Syntax.tnil)))
 
   abbrev s35 : (bs : List.List Nat.ℕ) → Typed.Mo T36 → Typed.Mo T37
-  s35 = λ bs. Scalar.n-room T36 2 (Syntax.tyStruct (List._∷_ 122 (List._∷_ 111 (List._∷_ 110 (List._∷_ 101 (List._∷_ 115 (List._∷_ 58 (List._∷_ 58 (List._∷_ 115 (List._∷_ 99 (List._∷_ 97 (List._∷_ 110 (List._∷_ 58 (List._∷_ 58 (List._∷_ 76 (List._∷_ 105 (List._∷_ 110 (List._∷_ 101 List.[]))))))))))))))))) (Syntax.tcons (Syntax.tyInt Syntax.w32) (Syntax.tcons (Syntax.tyInt Syntax.w64) (Syntax.tcons (Syntax.tyInt Syntax.w64) (Syntax.tcons (Syntax.tyInt Syntax.w64) (Syntax.tcons (Syntax.tyInt Syntax.w64) Syntax.tnil))))))
+  s35 = λ bs. Scalar.n-room T36 2 (Syntax.tyStruct (List._∷_ 115 (List._∷_ 99 (List._∷_ 114 (List._∷_ 105 (List._∷_ 112 (List._∷_ 116 (List._∷_ 58 (List._∷_ 58 (List._∷_ 115 (List._∷_ 99 (List._∷_ 97 (List._∷_ 110 (List._∷_ 58 (List._∷_ 58 (List._∷_ 76 (List._∷_ 105 (List._∷_ 110 (List._∷_ 101 List.[])))))))))))))))))) (Syntax.tcons (Syntax.tyInt Syntax.w32) (Syntax.tcons (Syntax.tyInt Syntax.w64) (Syntax.tcons (Syntax.tyInt Syntax.w64) (Syntax.tcons (Syntax.tyInt Syntax.w64) (Syntax.tcons (Syntax.tyInt Syntax.w64) Syntax.tnil))))))
 
   abbrev s36 : (bs : List.List Nat.ℕ) → Typed.Mo T37 → Typed.Mo T38
   s36 = λ bs. Scalar.n-room T37 9 (Syntax.tyStruct (List._∷_ 112 (List._∷_ 121 (List._∷_ 114 (List._∷_ 97 (List._∷_ 109 (List._∷_ 105 (List._∷_ 100 (List._∷_ 58 (List._∷_ 58 (List._∷_ 83 (List._∷_ 116 (List._∷_ 97 (List._∷_ 116 (List._∷_ 101 List.[])))))))))))))) (Syntax.tcons (Syntax.tyInt Syntax.w32) (Syntax.tcons (Syntax.tyInt Syntax.w32) (Syntax.tcons (Syntax.tyInt Syntax.w32) (Syntax.tcons (Syntax.tyInt Syntax.w32) (Syntax.tcons (Syntax.tyInt Syntax.w32) (Syntax.tcons (Syntax.tyArray (Syntax.tyInt Syntax.w32) 64) Syntax.tnil)))))))
@@ -680,7 +680,7 @@ module _ (claims· : Claims) where
   module _ (Pre· : (κs : Lifetimes.Lfts 6) → Kinds.Dens κs ps → Type 0) (Post· : (κs : Lifetimes.Lfts 6) → (a : Kinds.Dens κs ps) → Kinds.Plain 6 ps r κs) where
     module _ (M : Type 1) where
       abbrev pub Closed : Type 2
-      Closed = (𝓤 : URA.URA M) (H : Wp.Heap 𝓤) (A : Atoms.Atoms 𝓤) (W : Kit.Given 𝓤 H A) (𝓣 : Wp.Tables 𝓤 H) (known0 : Plain.Known 𝓤 H A W 𝓣 0 ps·0 r·0 (claims· .0) (claims· .1) "zones::sizes::least") (known1 : Plain.Known 𝓤 H A W 𝓣 6 ps·1 r·1 (claims· .2) (claims· .3) "zones::sheet_calls::handed_with") → Statement.Triple 𝓤 (Wp.WpFn 𝓤 H (𝓣 .C) (𝓣 .Λ) (Function.fnOf 6 ps r xs m hs body)) (Function.plainOf 𝓤 H A 6 ps r Pre· Post·)
+      Closed = (𝓤 : URA.URA M) (H : Wp.Heap 𝓤) (A : Atoms.Atoms 𝓤) (W : Kit.Given 𝓤 H A) (𝓣 : Wp.Tables 𝓤 H) (known0 : Plain.Known 𝓤 H A W 𝓣 0 ps·0 r·0 (claims· .0) (claims· .1) "script::sizes::least") (known1 : Plain.Known 𝓤 H A W 𝓣 6 ps·1 r·1 (claims· .2) (claims· .3) "zones::sheet_calls::handed_with") → Statement.Triple 𝓤 (Wp.WpFn 𝓤 H (𝓣 .C) (𝓣 .Λ) (Function.fnOf 6 ps r xs m hs body)) (Function.plainOf 𝓤 H A 6 ps r Pre· Post·)
 
     module _ where
       abbrev at0 : (bs : List.List Nat.ℕ) → Typed.TF T62 O0
@@ -877,7 +877,7 @@ module _ (claims· : Claims) where
 
       module _ {M : Type 1} (𝓤 : URA.URA M) (H : Wp.Heap 𝓤) (A : Atoms.Atoms 𝓤) (W : Kit.Given 𝓤 H A) (𝓣 : Wp.Tables 𝓤 H) where
         abbrev Knowns : Type 1
-        Knowns = Plain.Known 𝓤 H A W 𝓣 0 ps·0 r·0 (claims· .0) (claims· .1) "zones::sizes::least" × Plain.Known 𝓤 H A W 𝓣 6 ps·1 r·1 (claims· .2) (claims· .3) "zones::sheet_calls::handed_with"
+        Knowns = Plain.Known 𝓤 H A W 𝓣 0 ps·0 r·0 (claims· .0) (claims· .1) "script::sizes::least" × Plain.Known 𝓤 H A W 𝓣 6 ps·1 r·1 (claims· .2) (claims· .3) "zones::sheet_calls::handed_with"
 
       module _ (κs : Lifetimes.Lfts 6) (qs : Lifetimes.Shares 6) where
         abbrev g16 : List.List Row.Entry
@@ -899,40 +899,40 @@ module _ (claims· : Claims) where
         g31 = List._∷_ (0, Rows.whole (Declared.row Outcome.the-type)) (List._∷_ (1, Rows.any-gone (Syntax.tyStruct (List._∷_ 122 (List._∷_ 111 (List._∷_ 110 (List._∷_ 101 (List._∷_ 115 (List._∷_ 58 (List._∷_ 58 (List._∷_ 104 (List._∷_ 101 (List._∷_ 108 (List._∷_ 100 (List._∷_ 58 (List._∷_ 58 (List._∷_ 72 (List._∷_ 101 (List._∷_ 108 (List._∷_ 100 List.[]))))))))))))))))) (Syntax.tcons (Syntax.tyStruct (List._∷_ 112 (List._∷_ 121 (List._∷_ 114 (List._∷_ 97 (List._∷_ 109 (List._∷_ 105 (List._∷_ 100 (List._∷_ 58 (List._∷_ 58 (List._∷_ 83 (List._∷_ 116 (List._∷_ 97 (List._∷_ 116 (List._∷_ 101 List.[])))))))))))))) (Syntax.tcons (Syntax.tyInt Syntax.w32) (Syntax.tcons (Syntax.tyInt Syntax.w32) (Syntax.tcons (Syntax.tyInt Syntax.w32) (Syntax.tcons (Syntax.tyInt Syntax.w32) (Syntax.tcons (Syntax.tyInt Syntax.w32) (Syntax.tcons (Syntax.tyArray (Syntax.tyInt Syntax.w32) 64) Syntax.tnil))))))) (Syntax.tcons (Syntax.tyInt Syntax.w64) (Syntax.tcons (Syntax.tyInt Syntax.w64) (Syntax.tcons (Syntax.tyInt Syntax.w64) (Syntax.tcons (Syntax.tyInt Syntax.w64) (Syntax.tcons (Syntax.tyInt Syntax.w64) (Syntax.tcons (Syntax.tyInt Syntax.w64) (Syntax.tcons Syntax.tyBool Syntax.tnil)))))))))) (List._∷_ (2, Rows.whole (Declared.row Line.the-type)) (List._∷_ (3, Rows.sslice (Referent.rtF (Referent.fInt Syntax.w32)) (Syntax.tyRef (Syntax.named 0) Syntax.imm (Syntax.tyInt Syntax.w32)) 0) (List._∷_ (4, Part.mslice-owedP (Referent.rtF (Referent.fInt Syntax.w32)) (Syntax.tyRef (Syntax.named 1) Syntax.mut (Syntax.tyInt Syntax.w32)) 1 6 (Row.lease (κs .1 .0) (qs .1 .0))) (List._∷_ (5, Part.mslice-owedP (Referent.rtF (Referent.fInt Syntax.w32)) (Syntax.tyRef (Syntax.named 2) Syntax.mut (Syntax.tyInt Syntax.w32)) 2 7 (Row.lease (κs .1 .1 .0) (qs .1 .1 .0))) (List._∷_ (6, Part.mslice-owedP (Referent.rtF (Referent.fInt Syntax.w32)) (Syntax.tyRef (Syntax.named 3) Syntax.mut (Syntax.tyInt Syntax.w32)) 3 8 (Row.lease (κs .1 .1 .1 .0) (qs .1 .1 .1 .0))) (List._∷_ (7, Part.mslice-owedP Cell.R (Syntax.tyRef (Syntax.named 4) Syntax.mut Cell.behind) 4 9 (Row.lease (κs .1 .1 .1 .1 .0) (qs .1 .1 .1 .1 .0))) (List._∷_ (8, Part.mslice-owedP Cell.R (Syntax.tyRef (Syntax.named 5) Syntax.mut Cell.behind) 5 10 (Row.lease (κs .1 .1 .1 .1 .1 .0) (qs .1 .1 .1 .1 .1 .0))) (List._∷_ (9, Rows.whole (Declared.row State.the-type)) (List._∷_ (10, Rows.sc-here (Row.sInt Syntax.w64)) (List._∷_ (11, Rows.sc-here (Row.sInt Syntax.w64)) (List._∷_ (12, Rows.sc-here (Row.sInt Syntax.w64)) (List._∷_ (13, Rows.sc-here (Row.sInt Syntax.w64)) (List._∷_ (14, Rows.sc-here (Row.sInt Syntax.w64)) (List._∷_ (15, Rows.sc-here (Row.sInt Syntax.w64)) List.[])))))))))))))))
 
         abbrev g34 : List.List Row.Entry
-        g34 = List._∷_ (0, Rows.whole (Declared.row Outcome.the-type)) (List._∷_ (1, Rows.any-gone (Syntax.tyStruct (List._∷_ 122 (List._∷_ 111 (List._∷_ 110 (List._∷_ 101 (List._∷_ 115 (List._∷_ 58 (List._∷_ 58 (List._∷_ 104 (List._∷_ 101 (List._∷_ 108 (List._∷_ 100 (List._∷_ 58 (List._∷_ 58 (List._∷_ 72 (List._∷_ 101 (List._∷_ 108 (List._∷_ 100 List.[]))))))))))))))))) (Syntax.tcons (Syntax.tyStruct (List._∷_ 112 (List._∷_ 121 (List._∷_ 114 (List._∷_ 97 (List._∷_ 109 (List._∷_ 105 (List._∷_ 100 (List._∷_ 58 (List._∷_ 58 (List._∷_ 83 (List._∷_ 116 (List._∷_ 97 (List._∷_ 116 (List._∷_ 101 List.[])))))))))))))) (Syntax.tcons (Syntax.tyInt Syntax.w32) (Syntax.tcons (Syntax.tyInt Syntax.w32) (Syntax.tcons (Syntax.tyInt Syntax.w32) (Syntax.tcons (Syntax.tyInt Syntax.w32) (Syntax.tcons (Syntax.tyInt Syntax.w32) (Syntax.tcons (Syntax.tyArray (Syntax.tyInt Syntax.w32) 64) Syntax.tnil))))))) (Syntax.tcons (Syntax.tyInt Syntax.w64) (Syntax.tcons (Syntax.tyInt Syntax.w64) (Syntax.tcons (Syntax.tyInt Syntax.w64) (Syntax.tcons (Syntax.tyInt Syntax.w64) (Syntax.tcons (Syntax.tyInt Syntax.w64) (Syntax.tcons (Syntax.tyInt Syntax.w64) (Syntax.tcons Syntax.tyBool Syntax.tnil)))))))))) (List._∷_ (2, Rows.any-gone (Syntax.tyStruct (List._∷_ 122 (List._∷_ 111 (List._∷_ 110 (List._∷_ 101 (List._∷_ 115 (List._∷_ 58 (List._∷_ 58 (List._∷_ 115 (List._∷_ 99 (List._∷_ 97 (List._∷_ 110 (List._∷_ 58 (List._∷_ 58 (List._∷_ 76 (List._∷_ 105 (List._∷_ 110 (List._∷_ 101 List.[]))))))))))))))))) (Syntax.tcons (Syntax.tyInt Syntax.w32) (Syntax.tcons (Syntax.tyInt Syntax.w64) (Syntax.tcons (Syntax.tyInt Syntax.w64) (Syntax.tcons (Syntax.tyInt Syntax.w64) (Syntax.tcons (Syntax.tyInt Syntax.w64) Syntax.tnil))))))) (List._∷_ (3, Rows.sslice (Referent.rtF (Referent.fInt Syntax.w32)) (Syntax.tyRef (Syntax.named 0) Syntax.imm (Syntax.tyInt Syntax.w32)) 0) (List._∷_ (4, Part.mslice-owedP (Referent.rtF (Referent.fInt Syntax.w32)) (Syntax.tyRef (Syntax.named 1) Syntax.mut (Syntax.tyInt Syntax.w32)) 1 6 (Row.lease (κs .1 .0) (qs .1 .0))) (List._∷_ (5, Part.mslice-owedP (Referent.rtF (Referent.fInt Syntax.w32)) (Syntax.tyRef (Syntax.named 2) Syntax.mut (Syntax.tyInt Syntax.w32)) 2 7 (Row.lease (κs .1 .1 .0) (qs .1 .1 .0))) (List._∷_ (6, Part.mslice-owedP (Referent.rtF (Referent.fInt Syntax.w32)) (Syntax.tyRef (Syntax.named 3) Syntax.mut (Syntax.tyInt Syntax.w32)) 3 8 (Row.lease (κs .1 .1 .1 .0) (qs .1 .1 .1 .0))) (List._∷_ (7, Part.mslice-owedP Cell.R (Syntax.tyRef (Syntax.named 4) Syntax.mut Cell.behind) 4 9 (Row.lease (κs .1 .1 .1 .1 .0) (qs .1 .1 .1 .1 .0))) (List._∷_ (8, Part.mslice-owedP Cell.R (Syntax.tyRef (Syntax.named 5) Syntax.mut Cell.behind) 5 10 (Row.lease (κs .1 .1 .1 .1 .1 .0) (qs .1 .1 .1 .1 .1 .0))) (List._∷_ (9, Rows.whole (Declared.row State.the-type)) (List._∷_ (10, Rows.sc-here (Row.sInt Syntax.w64)) (List._∷_ (11, Rows.sc-here (Row.sInt Syntax.w64)) (List._∷_ (12, Rows.sc-here (Row.sInt Syntax.w64)) (List._∷_ (13, Rows.sc-here (Row.sInt Syntax.w64)) (List._∷_ (14, Rows.sc-here (Row.sInt Syntax.w64)) (List._∷_ (15, Rows.sc-here (Row.sInt Syntax.w64)) List.[])))))))))))))))
+        g34 = List._∷_ (0, Rows.whole (Declared.row Outcome.the-type)) (List._∷_ (1, Rows.any-gone (Syntax.tyStruct (List._∷_ 122 (List._∷_ 111 (List._∷_ 110 (List._∷_ 101 (List._∷_ 115 (List._∷_ 58 (List._∷_ 58 (List._∷_ 104 (List._∷_ 101 (List._∷_ 108 (List._∷_ 100 (List._∷_ 58 (List._∷_ 58 (List._∷_ 72 (List._∷_ 101 (List._∷_ 108 (List._∷_ 100 List.[]))))))))))))))))) (Syntax.tcons (Syntax.tyStruct (List._∷_ 112 (List._∷_ 121 (List._∷_ 114 (List._∷_ 97 (List._∷_ 109 (List._∷_ 105 (List._∷_ 100 (List._∷_ 58 (List._∷_ 58 (List._∷_ 83 (List._∷_ 116 (List._∷_ 97 (List._∷_ 116 (List._∷_ 101 List.[])))))))))))))) (Syntax.tcons (Syntax.tyInt Syntax.w32) (Syntax.tcons (Syntax.tyInt Syntax.w32) (Syntax.tcons (Syntax.tyInt Syntax.w32) (Syntax.tcons (Syntax.tyInt Syntax.w32) (Syntax.tcons (Syntax.tyInt Syntax.w32) (Syntax.tcons (Syntax.tyArray (Syntax.tyInt Syntax.w32) 64) Syntax.tnil))))))) (Syntax.tcons (Syntax.tyInt Syntax.w64) (Syntax.tcons (Syntax.tyInt Syntax.w64) (Syntax.tcons (Syntax.tyInt Syntax.w64) (Syntax.tcons (Syntax.tyInt Syntax.w64) (Syntax.tcons (Syntax.tyInt Syntax.w64) (Syntax.tcons (Syntax.tyInt Syntax.w64) (Syntax.tcons Syntax.tyBool Syntax.tnil)))))))))) (List._∷_ (2, Rows.any-gone (Syntax.tyStruct (List._∷_ 115 (List._∷_ 99 (List._∷_ 114 (List._∷_ 105 (List._∷_ 112 (List._∷_ 116 (List._∷_ 58 (List._∷_ 58 (List._∷_ 115 (List._∷_ 99 (List._∷_ 97 (List._∷_ 110 (List._∷_ 58 (List._∷_ 58 (List._∷_ 76 (List._∷_ 105 (List._∷_ 110 (List._∷_ 101 List.[])))))))))))))))))) (Syntax.tcons (Syntax.tyInt Syntax.w32) (Syntax.tcons (Syntax.tyInt Syntax.w64) (Syntax.tcons (Syntax.tyInt Syntax.w64) (Syntax.tcons (Syntax.tyInt Syntax.w64) (Syntax.tcons (Syntax.tyInt Syntax.w64) Syntax.tnil))))))) (List._∷_ (3, Rows.sslice (Referent.rtF (Referent.fInt Syntax.w32)) (Syntax.tyRef (Syntax.named 0) Syntax.imm (Syntax.tyInt Syntax.w32)) 0) (List._∷_ (4, Part.mslice-owedP (Referent.rtF (Referent.fInt Syntax.w32)) (Syntax.tyRef (Syntax.named 1) Syntax.mut (Syntax.tyInt Syntax.w32)) 1 6 (Row.lease (κs .1 .0) (qs .1 .0))) (List._∷_ (5, Part.mslice-owedP (Referent.rtF (Referent.fInt Syntax.w32)) (Syntax.tyRef (Syntax.named 2) Syntax.mut (Syntax.tyInt Syntax.w32)) 2 7 (Row.lease (κs .1 .1 .0) (qs .1 .1 .0))) (List._∷_ (6, Part.mslice-owedP (Referent.rtF (Referent.fInt Syntax.w32)) (Syntax.tyRef (Syntax.named 3) Syntax.mut (Syntax.tyInt Syntax.w32)) 3 8 (Row.lease (κs .1 .1 .1 .0) (qs .1 .1 .1 .0))) (List._∷_ (7, Part.mslice-owedP Cell.R (Syntax.tyRef (Syntax.named 4) Syntax.mut Cell.behind) 4 9 (Row.lease (κs .1 .1 .1 .1 .0) (qs .1 .1 .1 .1 .0))) (List._∷_ (8, Part.mslice-owedP Cell.R (Syntax.tyRef (Syntax.named 5) Syntax.mut Cell.behind) 5 10 (Row.lease (κs .1 .1 .1 .1 .1 .0) (qs .1 .1 .1 .1 .1 .0))) (List._∷_ (9, Rows.whole (Declared.row State.the-type)) (List._∷_ (10, Rows.sc-here (Row.sInt Syntax.w64)) (List._∷_ (11, Rows.sc-here (Row.sInt Syntax.w64)) (List._∷_ (12, Rows.sc-here (Row.sInt Syntax.w64)) (List._∷_ (13, Rows.sc-here (Row.sInt Syntax.w64)) (List._∷_ (14, Rows.sc-here (Row.sInt Syntax.w64)) (List._∷_ (15, Rows.sc-here (Row.sInt Syntax.w64)) List.[])))))))))))))))
 
         abbrev g35 : List.List Row.Entry
-        g35 = List._∷_ (0, Rows.whole (Declared.row Outcome.the-type)) (List._∷_ (1, Rows.any-gone (Syntax.tyStruct (List._∷_ 122 (List._∷_ 111 (List._∷_ 110 (List._∷_ 101 (List._∷_ 115 (List._∷_ 58 (List._∷_ 58 (List._∷_ 104 (List._∷_ 101 (List._∷_ 108 (List._∷_ 100 (List._∷_ 58 (List._∷_ 58 (List._∷_ 72 (List._∷_ 101 (List._∷_ 108 (List._∷_ 100 List.[]))))))))))))))))) (Syntax.tcons (Syntax.tyStruct (List._∷_ 112 (List._∷_ 121 (List._∷_ 114 (List._∷_ 97 (List._∷_ 109 (List._∷_ 105 (List._∷_ 100 (List._∷_ 58 (List._∷_ 58 (List._∷_ 83 (List._∷_ 116 (List._∷_ 97 (List._∷_ 116 (List._∷_ 101 List.[])))))))))))))) (Syntax.tcons (Syntax.tyInt Syntax.w32) (Syntax.tcons (Syntax.tyInt Syntax.w32) (Syntax.tcons (Syntax.tyInt Syntax.w32) (Syntax.tcons (Syntax.tyInt Syntax.w32) (Syntax.tcons (Syntax.tyInt Syntax.w32) (Syntax.tcons (Syntax.tyArray (Syntax.tyInt Syntax.w32) 64) Syntax.tnil))))))) (Syntax.tcons (Syntax.tyInt Syntax.w64) (Syntax.tcons (Syntax.tyInt Syntax.w64) (Syntax.tcons (Syntax.tyInt Syntax.w64) (Syntax.tcons (Syntax.tyInt Syntax.w64) (Syntax.tcons (Syntax.tyInt Syntax.w64) (Syntax.tcons (Syntax.tyInt Syntax.w64) (Syntax.tcons Syntax.tyBool Syntax.tnil)))))))))) (List._∷_ (2, Rows.any-gone (Syntax.tyStruct (List._∷_ 122 (List._∷_ 111 (List._∷_ 110 (List._∷_ 101 (List._∷_ 115 (List._∷_ 58 (List._∷_ 58 (List._∷_ 115 (List._∷_ 99 (List._∷_ 97 (List._∷_ 110 (List._∷_ 58 (List._∷_ 58 (List._∷_ 76 (List._∷_ 105 (List._∷_ 110 (List._∷_ 101 List.[]))))))))))))))))) (Syntax.tcons (Syntax.tyInt Syntax.w32) (Syntax.tcons (Syntax.tyInt Syntax.w64) (Syntax.tcons (Syntax.tyInt Syntax.w64) (Syntax.tcons (Syntax.tyInt Syntax.w64) (Syntax.tcons (Syntax.tyInt Syntax.w64) Syntax.tnil))))))) (List._∷_ (3, Rows.sslice (Referent.rtF (Referent.fInt Syntax.w32)) (Syntax.tyRef (Syntax.named 0) Syntax.imm (Syntax.tyInt Syntax.w32)) 0) (List._∷_ (4, Part.mslice-owedP (Referent.rtF (Referent.fInt Syntax.w32)) (Syntax.tyRef (Syntax.named 1) Syntax.mut (Syntax.tyInt Syntax.w32)) 1 6 (Row.lease (κs .1 .0) (qs .1 .0))) (List._∷_ (5, Part.mslice-owedP (Referent.rtF (Referent.fInt Syntax.w32)) (Syntax.tyRef (Syntax.named 2) Syntax.mut (Syntax.tyInt Syntax.w32)) 2 7 (Row.lease (κs .1 .1 .0) (qs .1 .1 .0))) (List._∷_ (6, Part.mslice-owedP (Referent.rtF (Referent.fInt Syntax.w32)) (Syntax.tyRef (Syntax.named 3) Syntax.mut (Syntax.tyInt Syntax.w32)) 3 8 (Row.lease (κs .1 .1 .1 .0) (qs .1 .1 .1 .0))) (List._∷_ (7, Part.mslice-owedP Cell.R (Syntax.tyRef (Syntax.named 4) Syntax.mut Cell.behind) 4 9 (Row.lease (κs .1 .1 .1 .1 .0) (qs .1 .1 .1 .1 .0))) (List._∷_ (8, Part.mslice-owedP Cell.R (Syntax.tyRef (Syntax.named 5) Syntax.mut Cell.behind) 5 10 (Row.lease (κs .1 .1 .1 .1 .1 .0) (qs .1 .1 .1 .1 .1 .0))) (List._∷_ (9, Rows.any-gone (Syntax.tyStruct (List._∷_ 112 (List._∷_ 121 (List._∷_ 114 (List._∷_ 97 (List._∷_ 109 (List._∷_ 105 (List._∷_ 100 (List._∷_ 58 (List._∷_ 58 (List._∷_ 83 (List._∷_ 116 (List._∷_ 97 (List._∷_ 116 (List._∷_ 101 List.[])))))))))))))) (Syntax.tcons (Syntax.tyInt Syntax.w32) (Syntax.tcons (Syntax.tyInt Syntax.w32) (Syntax.tcons (Syntax.tyInt Syntax.w32) (Syntax.tcons (Syntax.tyInt Syntax.w32) (Syntax.tcons (Syntax.tyInt Syntax.w32) (Syntax.tcons (Syntax.tyArray (Syntax.tyInt Syntax.w32) 64) Syntax.tnil)))))))) (List._∷_ (10, Rows.sc-here (Row.sInt Syntax.w64)) (List._∷_ (11, Rows.sc-here (Row.sInt Syntax.w64)) (List._∷_ (12, Rows.sc-here (Row.sInt Syntax.w64)) (List._∷_ (13, Rows.sc-here (Row.sInt Syntax.w64)) (List._∷_ (14, Rows.sc-here (Row.sInt Syntax.w64)) (List._∷_ (15, Rows.sc-here (Row.sInt Syntax.w64)) List.[])))))))))))))))
+        g35 = List._∷_ (0, Rows.whole (Declared.row Outcome.the-type)) (List._∷_ (1, Rows.any-gone (Syntax.tyStruct (List._∷_ 122 (List._∷_ 111 (List._∷_ 110 (List._∷_ 101 (List._∷_ 115 (List._∷_ 58 (List._∷_ 58 (List._∷_ 104 (List._∷_ 101 (List._∷_ 108 (List._∷_ 100 (List._∷_ 58 (List._∷_ 58 (List._∷_ 72 (List._∷_ 101 (List._∷_ 108 (List._∷_ 100 List.[]))))))))))))))))) (Syntax.tcons (Syntax.tyStruct (List._∷_ 112 (List._∷_ 121 (List._∷_ 114 (List._∷_ 97 (List._∷_ 109 (List._∷_ 105 (List._∷_ 100 (List._∷_ 58 (List._∷_ 58 (List._∷_ 83 (List._∷_ 116 (List._∷_ 97 (List._∷_ 116 (List._∷_ 101 List.[])))))))))))))) (Syntax.tcons (Syntax.tyInt Syntax.w32) (Syntax.tcons (Syntax.tyInt Syntax.w32) (Syntax.tcons (Syntax.tyInt Syntax.w32) (Syntax.tcons (Syntax.tyInt Syntax.w32) (Syntax.tcons (Syntax.tyInt Syntax.w32) (Syntax.tcons (Syntax.tyArray (Syntax.tyInt Syntax.w32) 64) Syntax.tnil))))))) (Syntax.tcons (Syntax.tyInt Syntax.w64) (Syntax.tcons (Syntax.tyInt Syntax.w64) (Syntax.tcons (Syntax.tyInt Syntax.w64) (Syntax.tcons (Syntax.tyInt Syntax.w64) (Syntax.tcons (Syntax.tyInt Syntax.w64) (Syntax.tcons (Syntax.tyInt Syntax.w64) (Syntax.tcons Syntax.tyBool Syntax.tnil)))))))))) (List._∷_ (2, Rows.any-gone (Syntax.tyStruct (List._∷_ 115 (List._∷_ 99 (List._∷_ 114 (List._∷_ 105 (List._∷_ 112 (List._∷_ 116 (List._∷_ 58 (List._∷_ 58 (List._∷_ 115 (List._∷_ 99 (List._∷_ 97 (List._∷_ 110 (List._∷_ 58 (List._∷_ 58 (List._∷_ 76 (List._∷_ 105 (List._∷_ 110 (List._∷_ 101 List.[])))))))))))))))))) (Syntax.tcons (Syntax.tyInt Syntax.w32) (Syntax.tcons (Syntax.tyInt Syntax.w64) (Syntax.tcons (Syntax.tyInt Syntax.w64) (Syntax.tcons (Syntax.tyInt Syntax.w64) (Syntax.tcons (Syntax.tyInt Syntax.w64) Syntax.tnil))))))) (List._∷_ (3, Rows.sslice (Referent.rtF (Referent.fInt Syntax.w32)) (Syntax.tyRef (Syntax.named 0) Syntax.imm (Syntax.tyInt Syntax.w32)) 0) (List._∷_ (4, Part.mslice-owedP (Referent.rtF (Referent.fInt Syntax.w32)) (Syntax.tyRef (Syntax.named 1) Syntax.mut (Syntax.tyInt Syntax.w32)) 1 6 (Row.lease (κs .1 .0) (qs .1 .0))) (List._∷_ (5, Part.mslice-owedP (Referent.rtF (Referent.fInt Syntax.w32)) (Syntax.tyRef (Syntax.named 2) Syntax.mut (Syntax.tyInt Syntax.w32)) 2 7 (Row.lease (κs .1 .1 .0) (qs .1 .1 .0))) (List._∷_ (6, Part.mslice-owedP (Referent.rtF (Referent.fInt Syntax.w32)) (Syntax.tyRef (Syntax.named 3) Syntax.mut (Syntax.tyInt Syntax.w32)) 3 8 (Row.lease (κs .1 .1 .1 .0) (qs .1 .1 .1 .0))) (List._∷_ (7, Part.mslice-owedP Cell.R (Syntax.tyRef (Syntax.named 4) Syntax.mut Cell.behind) 4 9 (Row.lease (κs .1 .1 .1 .1 .0) (qs .1 .1 .1 .1 .0))) (List._∷_ (8, Part.mslice-owedP Cell.R (Syntax.tyRef (Syntax.named 5) Syntax.mut Cell.behind) 5 10 (Row.lease (κs .1 .1 .1 .1 .1 .0) (qs .1 .1 .1 .1 .1 .0))) (List._∷_ (9, Rows.any-gone (Syntax.tyStruct (List._∷_ 112 (List._∷_ 121 (List._∷_ 114 (List._∷_ 97 (List._∷_ 109 (List._∷_ 105 (List._∷_ 100 (List._∷_ 58 (List._∷_ 58 (List._∷_ 83 (List._∷_ 116 (List._∷_ 97 (List._∷_ 116 (List._∷_ 101 List.[])))))))))))))) (Syntax.tcons (Syntax.tyInt Syntax.w32) (Syntax.tcons (Syntax.tyInt Syntax.w32) (Syntax.tcons (Syntax.tyInt Syntax.w32) (Syntax.tcons (Syntax.tyInt Syntax.w32) (Syntax.tcons (Syntax.tyInt Syntax.w32) (Syntax.tcons (Syntax.tyArray (Syntax.tyInt Syntax.w32) 64) Syntax.tnil)))))))) (List._∷_ (10, Rows.sc-here (Row.sInt Syntax.w64)) (List._∷_ (11, Rows.sc-here (Row.sInt Syntax.w64)) (List._∷_ (12, Rows.sc-here (Row.sInt Syntax.w64)) (List._∷_ (13, Rows.sc-here (Row.sInt Syntax.w64)) (List._∷_ (14, Rows.sc-here (Row.sInt Syntax.w64)) (List._∷_ (15, Rows.sc-here (Row.sInt Syntax.w64)) List.[])))))))))))))))
 
         abbrev g36 : List.List Row.Entry
-        g36 = List._∷_ (0, Rows.whole (Declared.row Outcome.the-type)) (List._∷_ (1, Rows.any-gone (Syntax.tyStruct (List._∷_ 122 (List._∷_ 111 (List._∷_ 110 (List._∷_ 101 (List._∷_ 115 (List._∷_ 58 (List._∷_ 58 (List._∷_ 104 (List._∷_ 101 (List._∷_ 108 (List._∷_ 100 (List._∷_ 58 (List._∷_ 58 (List._∷_ 72 (List._∷_ 101 (List._∷_ 108 (List._∷_ 100 List.[]))))))))))))))))) (Syntax.tcons (Syntax.tyStruct (List._∷_ 112 (List._∷_ 121 (List._∷_ 114 (List._∷_ 97 (List._∷_ 109 (List._∷_ 105 (List._∷_ 100 (List._∷_ 58 (List._∷_ 58 (List._∷_ 83 (List._∷_ 116 (List._∷_ 97 (List._∷_ 116 (List._∷_ 101 List.[])))))))))))))) (Syntax.tcons (Syntax.tyInt Syntax.w32) (Syntax.tcons (Syntax.tyInt Syntax.w32) (Syntax.tcons (Syntax.tyInt Syntax.w32) (Syntax.tcons (Syntax.tyInt Syntax.w32) (Syntax.tcons (Syntax.tyInt Syntax.w32) (Syntax.tcons (Syntax.tyArray (Syntax.tyInt Syntax.w32) 64) Syntax.tnil))))))) (Syntax.tcons (Syntax.tyInt Syntax.w64) (Syntax.tcons (Syntax.tyInt Syntax.w64) (Syntax.tcons (Syntax.tyInt Syntax.w64) (Syntax.tcons (Syntax.tyInt Syntax.w64) (Syntax.tcons (Syntax.tyInt Syntax.w64) (Syntax.tcons (Syntax.tyInt Syntax.w64) (Syntax.tcons Syntax.tyBool Syntax.tnil)))))))))) (List._∷_ (2, Rows.any-gone (Syntax.tyStruct (List._∷_ 122 (List._∷_ 111 (List._∷_ 110 (List._∷_ 101 (List._∷_ 115 (List._∷_ 58 (List._∷_ 58 (List._∷_ 115 (List._∷_ 99 (List._∷_ 97 (List._∷_ 110 (List._∷_ 58 (List._∷_ 58 (List._∷_ 76 (List._∷_ 105 (List._∷_ 110 (List._∷_ 101 List.[]))))))))))))))))) (Syntax.tcons (Syntax.tyInt Syntax.w32) (Syntax.tcons (Syntax.tyInt Syntax.w64) (Syntax.tcons (Syntax.tyInt Syntax.w64) (Syntax.tcons (Syntax.tyInt Syntax.w64) (Syntax.tcons (Syntax.tyInt Syntax.w64) Syntax.tnil))))))) (List._∷_ (3, Rows.sslice (Referent.rtF (Referent.fInt Syntax.w32)) (Syntax.tyRef (Syntax.named 0) Syntax.imm (Syntax.tyInt Syntax.w32)) 0) (List._∷_ (4, Part.mslice-owedP (Referent.rtF (Referent.fInt Syntax.w32)) (Syntax.tyRef (Syntax.named 1) Syntax.mut (Syntax.tyInt Syntax.w32)) 1 6 (Row.lease (κs .1 .0) (qs .1 .0))) (List._∷_ (5, Part.mslice-owedP (Referent.rtF (Referent.fInt Syntax.w32)) (Syntax.tyRef (Syntax.named 2) Syntax.mut (Syntax.tyInt Syntax.w32)) 2 7 (Row.lease (κs .1 .1 .0) (qs .1 .1 .0))) (List._∷_ (6, Part.mslice-owedP (Referent.rtF (Referent.fInt Syntax.w32)) (Syntax.tyRef (Syntax.named 3) Syntax.mut (Syntax.tyInt Syntax.w32)) 3 8 (Row.lease (κs .1 .1 .1 .0) (qs .1 .1 .1 .0))) (List._∷_ (7, Part.mslice-owedP Cell.R (Syntax.tyRef (Syntax.named 4) Syntax.mut Cell.behind) 4 9 (Row.lease (κs .1 .1 .1 .1 .0) (qs .1 .1 .1 .1 .0))) (List._∷_ (8, Part.mslice-owedP Cell.R (Syntax.tyRef (Syntax.named 5) Syntax.mut Cell.behind) 5 10 (Row.lease (κs .1 .1 .1 .1 .1 .0) (qs .1 .1 .1 .1 .1 .0))) (List._∷_ (9, Rows.any-gone (Syntax.tyStruct (List._∷_ 112 (List._∷_ 121 (List._∷_ 114 (List._∷_ 97 (List._∷_ 109 (List._∷_ 105 (List._∷_ 100 (List._∷_ 58 (List._∷_ 58 (List._∷_ 83 (List._∷_ 116 (List._∷_ 97 (List._∷_ 116 (List._∷_ 101 List.[])))))))))))))) (Syntax.tcons (Syntax.tyInt Syntax.w32) (Syntax.tcons (Syntax.tyInt Syntax.w32) (Syntax.tcons (Syntax.tyInt Syntax.w32) (Syntax.tcons (Syntax.tyInt Syntax.w32) (Syntax.tcons (Syntax.tyInt Syntax.w32) (Syntax.tcons (Syntax.tyArray (Syntax.tyInt Syntax.w32) 64) Syntax.tnil)))))))) (List._∷_ (10, Rows.any-gone (Syntax.tyInt Syntax.w64)) (List._∷_ (11, Rows.sc-here (Row.sInt Syntax.w64)) (List._∷_ (12, Rows.sc-here (Row.sInt Syntax.w64)) (List._∷_ (13, Rows.sc-here (Row.sInt Syntax.w64)) (List._∷_ (14, Rows.sc-here (Row.sInt Syntax.w64)) (List._∷_ (15, Rows.sc-here (Row.sInt Syntax.w64)) List.[])))))))))))))))
+        g36 = List._∷_ (0, Rows.whole (Declared.row Outcome.the-type)) (List._∷_ (1, Rows.any-gone (Syntax.tyStruct (List._∷_ 122 (List._∷_ 111 (List._∷_ 110 (List._∷_ 101 (List._∷_ 115 (List._∷_ 58 (List._∷_ 58 (List._∷_ 104 (List._∷_ 101 (List._∷_ 108 (List._∷_ 100 (List._∷_ 58 (List._∷_ 58 (List._∷_ 72 (List._∷_ 101 (List._∷_ 108 (List._∷_ 100 List.[]))))))))))))))))) (Syntax.tcons (Syntax.tyStruct (List._∷_ 112 (List._∷_ 121 (List._∷_ 114 (List._∷_ 97 (List._∷_ 109 (List._∷_ 105 (List._∷_ 100 (List._∷_ 58 (List._∷_ 58 (List._∷_ 83 (List._∷_ 116 (List._∷_ 97 (List._∷_ 116 (List._∷_ 101 List.[])))))))))))))) (Syntax.tcons (Syntax.tyInt Syntax.w32) (Syntax.tcons (Syntax.tyInt Syntax.w32) (Syntax.tcons (Syntax.tyInt Syntax.w32) (Syntax.tcons (Syntax.tyInt Syntax.w32) (Syntax.tcons (Syntax.tyInt Syntax.w32) (Syntax.tcons (Syntax.tyArray (Syntax.tyInt Syntax.w32) 64) Syntax.tnil))))))) (Syntax.tcons (Syntax.tyInt Syntax.w64) (Syntax.tcons (Syntax.tyInt Syntax.w64) (Syntax.tcons (Syntax.tyInt Syntax.w64) (Syntax.tcons (Syntax.tyInt Syntax.w64) (Syntax.tcons (Syntax.tyInt Syntax.w64) (Syntax.tcons (Syntax.tyInt Syntax.w64) (Syntax.tcons Syntax.tyBool Syntax.tnil)))))))))) (List._∷_ (2, Rows.any-gone (Syntax.tyStruct (List._∷_ 115 (List._∷_ 99 (List._∷_ 114 (List._∷_ 105 (List._∷_ 112 (List._∷_ 116 (List._∷_ 58 (List._∷_ 58 (List._∷_ 115 (List._∷_ 99 (List._∷_ 97 (List._∷_ 110 (List._∷_ 58 (List._∷_ 58 (List._∷_ 76 (List._∷_ 105 (List._∷_ 110 (List._∷_ 101 List.[])))))))))))))))))) (Syntax.tcons (Syntax.tyInt Syntax.w32) (Syntax.tcons (Syntax.tyInt Syntax.w64) (Syntax.tcons (Syntax.tyInt Syntax.w64) (Syntax.tcons (Syntax.tyInt Syntax.w64) (Syntax.tcons (Syntax.tyInt Syntax.w64) Syntax.tnil))))))) (List._∷_ (3, Rows.sslice (Referent.rtF (Referent.fInt Syntax.w32)) (Syntax.tyRef (Syntax.named 0) Syntax.imm (Syntax.tyInt Syntax.w32)) 0) (List._∷_ (4, Part.mslice-owedP (Referent.rtF (Referent.fInt Syntax.w32)) (Syntax.tyRef (Syntax.named 1) Syntax.mut (Syntax.tyInt Syntax.w32)) 1 6 (Row.lease (κs .1 .0) (qs .1 .0))) (List._∷_ (5, Part.mslice-owedP (Referent.rtF (Referent.fInt Syntax.w32)) (Syntax.tyRef (Syntax.named 2) Syntax.mut (Syntax.tyInt Syntax.w32)) 2 7 (Row.lease (κs .1 .1 .0) (qs .1 .1 .0))) (List._∷_ (6, Part.mslice-owedP (Referent.rtF (Referent.fInt Syntax.w32)) (Syntax.tyRef (Syntax.named 3) Syntax.mut (Syntax.tyInt Syntax.w32)) 3 8 (Row.lease (κs .1 .1 .1 .0) (qs .1 .1 .1 .0))) (List._∷_ (7, Part.mslice-owedP Cell.R (Syntax.tyRef (Syntax.named 4) Syntax.mut Cell.behind) 4 9 (Row.lease (κs .1 .1 .1 .1 .0) (qs .1 .1 .1 .1 .0))) (List._∷_ (8, Part.mslice-owedP Cell.R (Syntax.tyRef (Syntax.named 5) Syntax.mut Cell.behind) 5 10 (Row.lease (κs .1 .1 .1 .1 .1 .0) (qs .1 .1 .1 .1 .1 .0))) (List._∷_ (9, Rows.any-gone (Syntax.tyStruct (List._∷_ 112 (List._∷_ 121 (List._∷_ 114 (List._∷_ 97 (List._∷_ 109 (List._∷_ 105 (List._∷_ 100 (List._∷_ 58 (List._∷_ 58 (List._∷_ 83 (List._∷_ 116 (List._∷_ 97 (List._∷_ 116 (List._∷_ 101 List.[])))))))))))))) (Syntax.tcons (Syntax.tyInt Syntax.w32) (Syntax.tcons (Syntax.tyInt Syntax.w32) (Syntax.tcons (Syntax.tyInt Syntax.w32) (Syntax.tcons (Syntax.tyInt Syntax.w32) (Syntax.tcons (Syntax.tyInt Syntax.w32) (Syntax.tcons (Syntax.tyArray (Syntax.tyInt Syntax.w32) 64) Syntax.tnil)))))))) (List._∷_ (10, Rows.any-gone (Syntax.tyInt Syntax.w64)) (List._∷_ (11, Rows.sc-here (Row.sInt Syntax.w64)) (List._∷_ (12, Rows.sc-here (Row.sInt Syntax.w64)) (List._∷_ (13, Rows.sc-here (Row.sInt Syntax.w64)) (List._∷_ (14, Rows.sc-here (Row.sInt Syntax.w64)) (List._∷_ (15, Rows.sc-here (Row.sInt Syntax.w64)) List.[])))))))))))))))
 
         abbrev g37 : List.List Row.Entry
-        g37 = List._∷_ (0, Rows.whole (Declared.row Outcome.the-type)) (List._∷_ (1, Rows.any-gone (Syntax.tyStruct (List._∷_ 122 (List._∷_ 111 (List._∷_ 110 (List._∷_ 101 (List._∷_ 115 (List._∷_ 58 (List._∷_ 58 (List._∷_ 104 (List._∷_ 101 (List._∷_ 108 (List._∷_ 100 (List._∷_ 58 (List._∷_ 58 (List._∷_ 72 (List._∷_ 101 (List._∷_ 108 (List._∷_ 100 List.[]))))))))))))))))) (Syntax.tcons (Syntax.tyStruct (List._∷_ 112 (List._∷_ 121 (List._∷_ 114 (List._∷_ 97 (List._∷_ 109 (List._∷_ 105 (List._∷_ 100 (List._∷_ 58 (List._∷_ 58 (List._∷_ 83 (List._∷_ 116 (List._∷_ 97 (List._∷_ 116 (List._∷_ 101 List.[])))))))))))))) (Syntax.tcons (Syntax.tyInt Syntax.w32) (Syntax.tcons (Syntax.tyInt Syntax.w32) (Syntax.tcons (Syntax.tyInt Syntax.w32) (Syntax.tcons (Syntax.tyInt Syntax.w32) (Syntax.tcons (Syntax.tyInt Syntax.w32) (Syntax.tcons (Syntax.tyArray (Syntax.tyInt Syntax.w32) 64) Syntax.tnil))))))) (Syntax.tcons (Syntax.tyInt Syntax.w64) (Syntax.tcons (Syntax.tyInt Syntax.w64) (Syntax.tcons (Syntax.tyInt Syntax.w64) (Syntax.tcons (Syntax.tyInt Syntax.w64) (Syntax.tcons (Syntax.tyInt Syntax.w64) (Syntax.tcons (Syntax.tyInt Syntax.w64) (Syntax.tcons Syntax.tyBool Syntax.tnil)))))))))) (List._∷_ (2, Rows.any-gone (Syntax.tyStruct (List._∷_ 122 (List._∷_ 111 (List._∷_ 110 (List._∷_ 101 (List._∷_ 115 (List._∷_ 58 (List._∷_ 58 (List._∷_ 115 (List._∷_ 99 (List._∷_ 97 (List._∷_ 110 (List._∷_ 58 (List._∷_ 58 (List._∷_ 76 (List._∷_ 105 (List._∷_ 110 (List._∷_ 101 List.[]))))))))))))))))) (Syntax.tcons (Syntax.tyInt Syntax.w32) (Syntax.tcons (Syntax.tyInt Syntax.w64) (Syntax.tcons (Syntax.tyInt Syntax.w64) (Syntax.tcons (Syntax.tyInt Syntax.w64) (Syntax.tcons (Syntax.tyInt Syntax.w64) Syntax.tnil))))))) (List._∷_ (3, Rows.sslice (Referent.rtF (Referent.fInt Syntax.w32)) (Syntax.tyRef (Syntax.named 0) Syntax.imm (Syntax.tyInt Syntax.w32)) 0) (List._∷_ (4, Part.mslice-owedP (Referent.rtF (Referent.fInt Syntax.w32)) (Syntax.tyRef (Syntax.named 1) Syntax.mut (Syntax.tyInt Syntax.w32)) 1 6 (Row.lease (κs .1 .0) (qs .1 .0))) (List._∷_ (5, Part.mslice-owedP (Referent.rtF (Referent.fInt Syntax.w32)) (Syntax.tyRef (Syntax.named 2) Syntax.mut (Syntax.tyInt Syntax.w32)) 2 7 (Row.lease (κs .1 .1 .0) (qs .1 .1 .0))) (List._∷_ (6, Part.mslice-owedP (Referent.rtF (Referent.fInt Syntax.w32)) (Syntax.tyRef (Syntax.named 3) Syntax.mut (Syntax.tyInt Syntax.w32)) 3 8 (Row.lease (κs .1 .1 .1 .0) (qs .1 .1 .1 .0))) (List._∷_ (7, Part.mslice-owedP Cell.R (Syntax.tyRef (Syntax.named 4) Syntax.mut Cell.behind) 4 9 (Row.lease (κs .1 .1 .1 .1 .0) (qs .1 .1 .1 .1 .0))) (List._∷_ (8, Part.mslice-owedP Cell.R (Syntax.tyRef (Syntax.named 5) Syntax.mut Cell.behind) 5 10 (Row.lease (κs .1 .1 .1 .1 .1 .0) (qs .1 .1 .1 .1 .1 .0))) (List._∷_ (9, Rows.any-gone (Syntax.tyStruct (List._∷_ 112 (List._∷_ 121 (List._∷_ 114 (List._∷_ 97 (List._∷_ 109 (List._∷_ 105 (List._∷_ 100 (List._∷_ 58 (List._∷_ 58 (List._∷_ 83 (List._∷_ 116 (List._∷_ 97 (List._∷_ 116 (List._∷_ 101 List.[])))))))))))))) (Syntax.tcons (Syntax.tyInt Syntax.w32) (Syntax.tcons (Syntax.tyInt Syntax.w32) (Syntax.tcons (Syntax.tyInt Syntax.w32) (Syntax.tcons (Syntax.tyInt Syntax.w32) (Syntax.tcons (Syntax.tyInt Syntax.w32) (Syntax.tcons (Syntax.tyArray (Syntax.tyInt Syntax.w32) 64) Syntax.tnil)))))))) (List._∷_ (10, Rows.any-gone (Syntax.tyInt Syntax.w64)) (List._∷_ (11, Rows.any-gone (Syntax.tyInt Syntax.w64)) (List._∷_ (12, Rows.sc-here (Row.sInt Syntax.w64)) (List._∷_ (13, Rows.sc-here (Row.sInt Syntax.w64)) (List._∷_ (14, Rows.sc-here (Row.sInt Syntax.w64)) (List._∷_ (15, Rows.sc-here (Row.sInt Syntax.w64)) List.[])))))))))))))))
+        g37 = List._∷_ (0, Rows.whole (Declared.row Outcome.the-type)) (List._∷_ (1, Rows.any-gone (Syntax.tyStruct (List._∷_ 122 (List._∷_ 111 (List._∷_ 110 (List._∷_ 101 (List._∷_ 115 (List._∷_ 58 (List._∷_ 58 (List._∷_ 104 (List._∷_ 101 (List._∷_ 108 (List._∷_ 100 (List._∷_ 58 (List._∷_ 58 (List._∷_ 72 (List._∷_ 101 (List._∷_ 108 (List._∷_ 100 List.[]))))))))))))))))) (Syntax.tcons (Syntax.tyStruct (List._∷_ 112 (List._∷_ 121 (List._∷_ 114 (List._∷_ 97 (List._∷_ 109 (List._∷_ 105 (List._∷_ 100 (List._∷_ 58 (List._∷_ 58 (List._∷_ 83 (List._∷_ 116 (List._∷_ 97 (List._∷_ 116 (List._∷_ 101 List.[])))))))))))))) (Syntax.tcons (Syntax.tyInt Syntax.w32) (Syntax.tcons (Syntax.tyInt Syntax.w32) (Syntax.tcons (Syntax.tyInt Syntax.w32) (Syntax.tcons (Syntax.tyInt Syntax.w32) (Syntax.tcons (Syntax.tyInt Syntax.w32) (Syntax.tcons (Syntax.tyArray (Syntax.tyInt Syntax.w32) 64) Syntax.tnil))))))) (Syntax.tcons (Syntax.tyInt Syntax.w64) (Syntax.tcons (Syntax.tyInt Syntax.w64) (Syntax.tcons (Syntax.tyInt Syntax.w64) (Syntax.tcons (Syntax.tyInt Syntax.w64) (Syntax.tcons (Syntax.tyInt Syntax.w64) (Syntax.tcons (Syntax.tyInt Syntax.w64) (Syntax.tcons Syntax.tyBool Syntax.tnil)))))))))) (List._∷_ (2, Rows.any-gone (Syntax.tyStruct (List._∷_ 115 (List._∷_ 99 (List._∷_ 114 (List._∷_ 105 (List._∷_ 112 (List._∷_ 116 (List._∷_ 58 (List._∷_ 58 (List._∷_ 115 (List._∷_ 99 (List._∷_ 97 (List._∷_ 110 (List._∷_ 58 (List._∷_ 58 (List._∷_ 76 (List._∷_ 105 (List._∷_ 110 (List._∷_ 101 List.[])))))))))))))))))) (Syntax.tcons (Syntax.tyInt Syntax.w32) (Syntax.tcons (Syntax.tyInt Syntax.w64) (Syntax.tcons (Syntax.tyInt Syntax.w64) (Syntax.tcons (Syntax.tyInt Syntax.w64) (Syntax.tcons (Syntax.tyInt Syntax.w64) Syntax.tnil))))))) (List._∷_ (3, Rows.sslice (Referent.rtF (Referent.fInt Syntax.w32)) (Syntax.tyRef (Syntax.named 0) Syntax.imm (Syntax.tyInt Syntax.w32)) 0) (List._∷_ (4, Part.mslice-owedP (Referent.rtF (Referent.fInt Syntax.w32)) (Syntax.tyRef (Syntax.named 1) Syntax.mut (Syntax.tyInt Syntax.w32)) 1 6 (Row.lease (κs .1 .0) (qs .1 .0))) (List._∷_ (5, Part.mslice-owedP (Referent.rtF (Referent.fInt Syntax.w32)) (Syntax.tyRef (Syntax.named 2) Syntax.mut (Syntax.tyInt Syntax.w32)) 2 7 (Row.lease (κs .1 .1 .0) (qs .1 .1 .0))) (List._∷_ (6, Part.mslice-owedP (Referent.rtF (Referent.fInt Syntax.w32)) (Syntax.tyRef (Syntax.named 3) Syntax.mut (Syntax.tyInt Syntax.w32)) 3 8 (Row.lease (κs .1 .1 .1 .0) (qs .1 .1 .1 .0))) (List._∷_ (7, Part.mslice-owedP Cell.R (Syntax.tyRef (Syntax.named 4) Syntax.mut Cell.behind) 4 9 (Row.lease (κs .1 .1 .1 .1 .0) (qs .1 .1 .1 .1 .0))) (List._∷_ (8, Part.mslice-owedP Cell.R (Syntax.tyRef (Syntax.named 5) Syntax.mut Cell.behind) 5 10 (Row.lease (κs .1 .1 .1 .1 .1 .0) (qs .1 .1 .1 .1 .1 .0))) (List._∷_ (9, Rows.any-gone (Syntax.tyStruct (List._∷_ 112 (List._∷_ 121 (List._∷_ 114 (List._∷_ 97 (List._∷_ 109 (List._∷_ 105 (List._∷_ 100 (List._∷_ 58 (List._∷_ 58 (List._∷_ 83 (List._∷_ 116 (List._∷_ 97 (List._∷_ 116 (List._∷_ 101 List.[])))))))))))))) (Syntax.tcons (Syntax.tyInt Syntax.w32) (Syntax.tcons (Syntax.tyInt Syntax.w32) (Syntax.tcons (Syntax.tyInt Syntax.w32) (Syntax.tcons (Syntax.tyInt Syntax.w32) (Syntax.tcons (Syntax.tyInt Syntax.w32) (Syntax.tcons (Syntax.tyArray (Syntax.tyInt Syntax.w32) 64) Syntax.tnil)))))))) (List._∷_ (10, Rows.any-gone (Syntax.tyInt Syntax.w64)) (List._∷_ (11, Rows.any-gone (Syntax.tyInt Syntax.w64)) (List._∷_ (12, Rows.sc-here (Row.sInt Syntax.w64)) (List._∷_ (13, Rows.sc-here (Row.sInt Syntax.w64)) (List._∷_ (14, Rows.sc-here (Row.sInt Syntax.w64)) (List._∷_ (15, Rows.sc-here (Row.sInt Syntax.w64)) List.[])))))))))))))))
 
         abbrev g38 : List.List Row.Entry
-        g38 = List._∷_ (0, Rows.whole (Declared.row Outcome.the-type)) (List._∷_ (1, Rows.any-gone (Syntax.tyStruct (List._∷_ 122 (List._∷_ 111 (List._∷_ 110 (List._∷_ 101 (List._∷_ 115 (List._∷_ 58 (List._∷_ 58 (List._∷_ 104 (List._∷_ 101 (List._∷_ 108 (List._∷_ 100 (List._∷_ 58 (List._∷_ 58 (List._∷_ 72 (List._∷_ 101 (List._∷_ 108 (List._∷_ 100 List.[]))))))))))))))))) (Syntax.tcons (Syntax.tyStruct (List._∷_ 112 (List._∷_ 121 (List._∷_ 114 (List._∷_ 97 (List._∷_ 109 (List._∷_ 105 (List._∷_ 100 (List._∷_ 58 (List._∷_ 58 (List._∷_ 83 (List._∷_ 116 (List._∷_ 97 (List._∷_ 116 (List._∷_ 101 List.[])))))))))))))) (Syntax.tcons (Syntax.tyInt Syntax.w32) (Syntax.tcons (Syntax.tyInt Syntax.w32) (Syntax.tcons (Syntax.tyInt Syntax.w32) (Syntax.tcons (Syntax.tyInt Syntax.w32) (Syntax.tcons (Syntax.tyInt Syntax.w32) (Syntax.tcons (Syntax.tyArray (Syntax.tyInt Syntax.w32) 64) Syntax.tnil))))))) (Syntax.tcons (Syntax.tyInt Syntax.w64) (Syntax.tcons (Syntax.tyInt Syntax.w64) (Syntax.tcons (Syntax.tyInt Syntax.w64) (Syntax.tcons (Syntax.tyInt Syntax.w64) (Syntax.tcons (Syntax.tyInt Syntax.w64) (Syntax.tcons (Syntax.tyInt Syntax.w64) (Syntax.tcons Syntax.tyBool Syntax.tnil)))))))))) (List._∷_ (2, Rows.any-gone (Syntax.tyStruct (List._∷_ 122 (List._∷_ 111 (List._∷_ 110 (List._∷_ 101 (List._∷_ 115 (List._∷_ 58 (List._∷_ 58 (List._∷_ 115 (List._∷_ 99 (List._∷_ 97 (List._∷_ 110 (List._∷_ 58 (List._∷_ 58 (List._∷_ 76 (List._∷_ 105 (List._∷_ 110 (List._∷_ 101 List.[]))))))))))))))))) (Syntax.tcons (Syntax.tyInt Syntax.w32) (Syntax.tcons (Syntax.tyInt Syntax.w64) (Syntax.tcons (Syntax.tyInt Syntax.w64) (Syntax.tcons (Syntax.tyInt Syntax.w64) (Syntax.tcons (Syntax.tyInt Syntax.w64) Syntax.tnil))))))) (List._∷_ (3, Rows.sslice (Referent.rtF (Referent.fInt Syntax.w32)) (Syntax.tyRef (Syntax.named 0) Syntax.imm (Syntax.tyInt Syntax.w32)) 0) (List._∷_ (4, Part.mslice-owedP (Referent.rtF (Referent.fInt Syntax.w32)) (Syntax.tyRef (Syntax.named 1) Syntax.mut (Syntax.tyInt Syntax.w32)) 1 6 (Row.lease (κs .1 .0) (qs .1 .0))) (List._∷_ (5, Part.mslice-owedP (Referent.rtF (Referent.fInt Syntax.w32)) (Syntax.tyRef (Syntax.named 2) Syntax.mut (Syntax.tyInt Syntax.w32)) 2 7 (Row.lease (κs .1 .1 .0) (qs .1 .1 .0))) (List._∷_ (6, Part.mslice-owedP (Referent.rtF (Referent.fInt Syntax.w32)) (Syntax.tyRef (Syntax.named 3) Syntax.mut (Syntax.tyInt Syntax.w32)) 3 8 (Row.lease (κs .1 .1 .1 .0) (qs .1 .1 .1 .0))) (List._∷_ (7, Part.mslice-owedP Cell.R (Syntax.tyRef (Syntax.named 4) Syntax.mut Cell.behind) 4 9 (Row.lease (κs .1 .1 .1 .1 .0) (qs .1 .1 .1 .1 .0))) (List._∷_ (8, Part.mslice-owedP Cell.R (Syntax.tyRef (Syntax.named 5) Syntax.mut Cell.behind) 5 10 (Row.lease (κs .1 .1 .1 .1 .1 .0) (qs .1 .1 .1 .1 .1 .0))) (List._∷_ (9, Rows.any-gone (Syntax.tyStruct (List._∷_ 112 (List._∷_ 121 (List._∷_ 114 (List._∷_ 97 (List._∷_ 109 (List._∷_ 105 (List._∷_ 100 (List._∷_ 58 (List._∷_ 58 (List._∷_ 83 (List._∷_ 116 (List._∷_ 97 (List._∷_ 116 (List._∷_ 101 List.[])))))))))))))) (Syntax.tcons (Syntax.tyInt Syntax.w32) (Syntax.tcons (Syntax.tyInt Syntax.w32) (Syntax.tcons (Syntax.tyInt Syntax.w32) (Syntax.tcons (Syntax.tyInt Syntax.w32) (Syntax.tcons (Syntax.tyInt Syntax.w32) (Syntax.tcons (Syntax.tyArray (Syntax.tyInt Syntax.w32) 64) Syntax.tnil)))))))) (List._∷_ (10, Rows.any-gone (Syntax.tyInt Syntax.w64)) (List._∷_ (11, Rows.any-gone (Syntax.tyInt Syntax.w64)) (List._∷_ (12, Rows.any-gone (Syntax.tyInt Syntax.w64)) (List._∷_ (13, Rows.sc-here (Row.sInt Syntax.w64)) (List._∷_ (14, Rows.sc-here (Row.sInt Syntax.w64)) (List._∷_ (15, Rows.sc-here (Row.sInt Syntax.w64)) List.[])))))))))))))))
+        g38 = List._∷_ (0, Rows.whole (Declared.row Outcome.the-type)) (List._∷_ (1, Rows.any-gone (Syntax.tyStruct (List._∷_ 122 (List._∷_ 111 (List._∷_ 110 (List._∷_ 101 (List._∷_ 115 (List._∷_ 58 (List._∷_ 58 (List._∷_ 104 (List._∷_ 101 (List._∷_ 108 (List._∷_ 100 (List._∷_ 58 (List._∷_ 58 (List._∷_ 72 (List._∷_ 101 (List._∷_ 108 (List._∷_ 100 List.[]))))))))))))))))) (Syntax.tcons (Syntax.tyStruct (List._∷_ 112 (List._∷_ 121 (List._∷_ 114 (List._∷_ 97 (List._∷_ 109 (List._∷_ 105 (List._∷_ 100 (List._∷_ 58 (List._∷_ 58 (List._∷_ 83 (List._∷_ 116 (List._∷_ 97 (List._∷_ 116 (List._∷_ 101 List.[])))))))))))))) (Syntax.tcons (Syntax.tyInt Syntax.w32) (Syntax.tcons (Syntax.tyInt Syntax.w32) (Syntax.tcons (Syntax.tyInt Syntax.w32) (Syntax.tcons (Syntax.tyInt Syntax.w32) (Syntax.tcons (Syntax.tyInt Syntax.w32) (Syntax.tcons (Syntax.tyArray (Syntax.tyInt Syntax.w32) 64) Syntax.tnil))))))) (Syntax.tcons (Syntax.tyInt Syntax.w64) (Syntax.tcons (Syntax.tyInt Syntax.w64) (Syntax.tcons (Syntax.tyInt Syntax.w64) (Syntax.tcons (Syntax.tyInt Syntax.w64) (Syntax.tcons (Syntax.tyInt Syntax.w64) (Syntax.tcons (Syntax.tyInt Syntax.w64) (Syntax.tcons Syntax.tyBool Syntax.tnil)))))))))) (List._∷_ (2, Rows.any-gone (Syntax.tyStruct (List._∷_ 115 (List._∷_ 99 (List._∷_ 114 (List._∷_ 105 (List._∷_ 112 (List._∷_ 116 (List._∷_ 58 (List._∷_ 58 (List._∷_ 115 (List._∷_ 99 (List._∷_ 97 (List._∷_ 110 (List._∷_ 58 (List._∷_ 58 (List._∷_ 76 (List._∷_ 105 (List._∷_ 110 (List._∷_ 101 List.[])))))))))))))))))) (Syntax.tcons (Syntax.tyInt Syntax.w32) (Syntax.tcons (Syntax.tyInt Syntax.w64) (Syntax.tcons (Syntax.tyInt Syntax.w64) (Syntax.tcons (Syntax.tyInt Syntax.w64) (Syntax.tcons (Syntax.tyInt Syntax.w64) Syntax.tnil))))))) (List._∷_ (3, Rows.sslice (Referent.rtF (Referent.fInt Syntax.w32)) (Syntax.tyRef (Syntax.named 0) Syntax.imm (Syntax.tyInt Syntax.w32)) 0) (List._∷_ (4, Part.mslice-owedP (Referent.rtF (Referent.fInt Syntax.w32)) (Syntax.tyRef (Syntax.named 1) Syntax.mut (Syntax.tyInt Syntax.w32)) 1 6 (Row.lease (κs .1 .0) (qs .1 .0))) (List._∷_ (5, Part.mslice-owedP (Referent.rtF (Referent.fInt Syntax.w32)) (Syntax.tyRef (Syntax.named 2) Syntax.mut (Syntax.tyInt Syntax.w32)) 2 7 (Row.lease (κs .1 .1 .0) (qs .1 .1 .0))) (List._∷_ (6, Part.mslice-owedP (Referent.rtF (Referent.fInt Syntax.w32)) (Syntax.tyRef (Syntax.named 3) Syntax.mut (Syntax.tyInt Syntax.w32)) 3 8 (Row.lease (κs .1 .1 .1 .0) (qs .1 .1 .1 .0))) (List._∷_ (7, Part.mslice-owedP Cell.R (Syntax.tyRef (Syntax.named 4) Syntax.mut Cell.behind) 4 9 (Row.lease (κs .1 .1 .1 .1 .0) (qs .1 .1 .1 .1 .0))) (List._∷_ (8, Part.mslice-owedP Cell.R (Syntax.tyRef (Syntax.named 5) Syntax.mut Cell.behind) 5 10 (Row.lease (κs .1 .1 .1 .1 .1 .0) (qs .1 .1 .1 .1 .1 .0))) (List._∷_ (9, Rows.any-gone (Syntax.tyStruct (List._∷_ 112 (List._∷_ 121 (List._∷_ 114 (List._∷_ 97 (List._∷_ 109 (List._∷_ 105 (List._∷_ 100 (List._∷_ 58 (List._∷_ 58 (List._∷_ 83 (List._∷_ 116 (List._∷_ 97 (List._∷_ 116 (List._∷_ 101 List.[])))))))))))))) (Syntax.tcons (Syntax.tyInt Syntax.w32) (Syntax.tcons (Syntax.tyInt Syntax.w32) (Syntax.tcons (Syntax.tyInt Syntax.w32) (Syntax.tcons (Syntax.tyInt Syntax.w32) (Syntax.tcons (Syntax.tyInt Syntax.w32) (Syntax.tcons (Syntax.tyArray (Syntax.tyInt Syntax.w32) 64) Syntax.tnil)))))))) (List._∷_ (10, Rows.any-gone (Syntax.tyInt Syntax.w64)) (List._∷_ (11, Rows.any-gone (Syntax.tyInt Syntax.w64)) (List._∷_ (12, Rows.any-gone (Syntax.tyInt Syntax.w64)) (List._∷_ (13, Rows.sc-here (Row.sInt Syntax.w64)) (List._∷_ (14, Rows.sc-here (Row.sInt Syntax.w64)) (List._∷_ (15, Rows.sc-here (Row.sInt Syntax.w64)) List.[])))))))))))))))
 
         abbrev g39 : List.List Row.Entry
-        g39 = List._∷_ (0, Rows.whole (Declared.row Outcome.the-type)) (List._∷_ (1, Rows.any-gone (Syntax.tyStruct (List._∷_ 122 (List._∷_ 111 (List._∷_ 110 (List._∷_ 101 (List._∷_ 115 (List._∷_ 58 (List._∷_ 58 (List._∷_ 104 (List._∷_ 101 (List._∷_ 108 (List._∷_ 100 (List._∷_ 58 (List._∷_ 58 (List._∷_ 72 (List._∷_ 101 (List._∷_ 108 (List._∷_ 100 List.[]))))))))))))))))) (Syntax.tcons (Syntax.tyStruct (List._∷_ 112 (List._∷_ 121 (List._∷_ 114 (List._∷_ 97 (List._∷_ 109 (List._∷_ 105 (List._∷_ 100 (List._∷_ 58 (List._∷_ 58 (List._∷_ 83 (List._∷_ 116 (List._∷_ 97 (List._∷_ 116 (List._∷_ 101 List.[])))))))))))))) (Syntax.tcons (Syntax.tyInt Syntax.w32) (Syntax.tcons (Syntax.tyInt Syntax.w32) (Syntax.tcons (Syntax.tyInt Syntax.w32) (Syntax.tcons (Syntax.tyInt Syntax.w32) (Syntax.tcons (Syntax.tyInt Syntax.w32) (Syntax.tcons (Syntax.tyArray (Syntax.tyInt Syntax.w32) 64) Syntax.tnil))))))) (Syntax.tcons (Syntax.tyInt Syntax.w64) (Syntax.tcons (Syntax.tyInt Syntax.w64) (Syntax.tcons (Syntax.tyInt Syntax.w64) (Syntax.tcons (Syntax.tyInt Syntax.w64) (Syntax.tcons (Syntax.tyInt Syntax.w64) (Syntax.tcons (Syntax.tyInt Syntax.w64) (Syntax.tcons Syntax.tyBool Syntax.tnil)))))))))) (List._∷_ (2, Rows.any-gone (Syntax.tyStruct (List._∷_ 122 (List._∷_ 111 (List._∷_ 110 (List._∷_ 101 (List._∷_ 115 (List._∷_ 58 (List._∷_ 58 (List._∷_ 115 (List._∷_ 99 (List._∷_ 97 (List._∷_ 110 (List._∷_ 58 (List._∷_ 58 (List._∷_ 76 (List._∷_ 105 (List._∷_ 110 (List._∷_ 101 List.[]))))))))))))))))) (Syntax.tcons (Syntax.tyInt Syntax.w32) (Syntax.tcons (Syntax.tyInt Syntax.w64) (Syntax.tcons (Syntax.tyInt Syntax.w64) (Syntax.tcons (Syntax.tyInt Syntax.w64) (Syntax.tcons (Syntax.tyInt Syntax.w64) Syntax.tnil))))))) (List._∷_ (3, Rows.sslice (Referent.rtF (Referent.fInt Syntax.w32)) (Syntax.tyRef (Syntax.named 0) Syntax.imm (Syntax.tyInt Syntax.w32)) 0) (List._∷_ (4, Part.mslice-owedP (Referent.rtF (Referent.fInt Syntax.w32)) (Syntax.tyRef (Syntax.named 1) Syntax.mut (Syntax.tyInt Syntax.w32)) 1 6 (Row.lease (κs .1 .0) (qs .1 .0))) (List._∷_ (5, Part.mslice-owedP (Referent.rtF (Referent.fInt Syntax.w32)) (Syntax.tyRef (Syntax.named 2) Syntax.mut (Syntax.tyInt Syntax.w32)) 2 7 (Row.lease (κs .1 .1 .0) (qs .1 .1 .0))) (List._∷_ (6, Part.mslice-owedP (Referent.rtF (Referent.fInt Syntax.w32)) (Syntax.tyRef (Syntax.named 3) Syntax.mut (Syntax.tyInt Syntax.w32)) 3 8 (Row.lease (κs .1 .1 .1 .0) (qs .1 .1 .1 .0))) (List._∷_ (7, Part.mslice-owedP Cell.R (Syntax.tyRef (Syntax.named 4) Syntax.mut Cell.behind) 4 9 (Row.lease (κs .1 .1 .1 .1 .0) (qs .1 .1 .1 .1 .0))) (List._∷_ (8, Part.mslice-owedP Cell.R (Syntax.tyRef (Syntax.named 5) Syntax.mut Cell.behind) 5 10 (Row.lease (κs .1 .1 .1 .1 .1 .0) (qs .1 .1 .1 .1 .1 .0))) (List._∷_ (9, Rows.any-gone (Syntax.tyStruct (List._∷_ 112 (List._∷_ 121 (List._∷_ 114 (List._∷_ 97 (List._∷_ 109 (List._∷_ 105 (List._∷_ 100 (List._∷_ 58 (List._∷_ 58 (List._∷_ 83 (List._∷_ 116 (List._∷_ 97 (List._∷_ 116 (List._∷_ 101 List.[])))))))))))))) (Syntax.tcons (Syntax.tyInt Syntax.w32) (Syntax.tcons (Syntax.tyInt Syntax.w32) (Syntax.tcons (Syntax.tyInt Syntax.w32) (Syntax.tcons (Syntax.tyInt Syntax.w32) (Syntax.tcons (Syntax.tyInt Syntax.w32) (Syntax.tcons (Syntax.tyArray (Syntax.tyInt Syntax.w32) 64) Syntax.tnil)))))))) (List._∷_ (10, Rows.any-gone (Syntax.tyInt Syntax.w64)) (List._∷_ (11, Rows.any-gone (Syntax.tyInt Syntax.w64)) (List._∷_ (12, Rows.any-gone (Syntax.tyInt Syntax.w64)) (List._∷_ (13, Rows.any-gone (Syntax.tyInt Syntax.w64)) (List._∷_ (14, Rows.sc-here (Row.sInt Syntax.w64)) (List._∷_ (15, Rows.sc-here (Row.sInt Syntax.w64)) List.[])))))))))))))))
+        g39 = List._∷_ (0, Rows.whole (Declared.row Outcome.the-type)) (List._∷_ (1, Rows.any-gone (Syntax.tyStruct (List._∷_ 122 (List._∷_ 111 (List._∷_ 110 (List._∷_ 101 (List._∷_ 115 (List._∷_ 58 (List._∷_ 58 (List._∷_ 104 (List._∷_ 101 (List._∷_ 108 (List._∷_ 100 (List._∷_ 58 (List._∷_ 58 (List._∷_ 72 (List._∷_ 101 (List._∷_ 108 (List._∷_ 100 List.[]))))))))))))))))) (Syntax.tcons (Syntax.tyStruct (List._∷_ 112 (List._∷_ 121 (List._∷_ 114 (List._∷_ 97 (List._∷_ 109 (List._∷_ 105 (List._∷_ 100 (List._∷_ 58 (List._∷_ 58 (List._∷_ 83 (List._∷_ 116 (List._∷_ 97 (List._∷_ 116 (List._∷_ 101 List.[])))))))))))))) (Syntax.tcons (Syntax.tyInt Syntax.w32) (Syntax.tcons (Syntax.tyInt Syntax.w32) (Syntax.tcons (Syntax.tyInt Syntax.w32) (Syntax.tcons (Syntax.tyInt Syntax.w32) (Syntax.tcons (Syntax.tyInt Syntax.w32) (Syntax.tcons (Syntax.tyArray (Syntax.tyInt Syntax.w32) 64) Syntax.tnil))))))) (Syntax.tcons (Syntax.tyInt Syntax.w64) (Syntax.tcons (Syntax.tyInt Syntax.w64) (Syntax.tcons (Syntax.tyInt Syntax.w64) (Syntax.tcons (Syntax.tyInt Syntax.w64) (Syntax.tcons (Syntax.tyInt Syntax.w64) (Syntax.tcons (Syntax.tyInt Syntax.w64) (Syntax.tcons Syntax.tyBool Syntax.tnil)))))))))) (List._∷_ (2, Rows.any-gone (Syntax.tyStruct (List._∷_ 115 (List._∷_ 99 (List._∷_ 114 (List._∷_ 105 (List._∷_ 112 (List._∷_ 116 (List._∷_ 58 (List._∷_ 58 (List._∷_ 115 (List._∷_ 99 (List._∷_ 97 (List._∷_ 110 (List._∷_ 58 (List._∷_ 58 (List._∷_ 76 (List._∷_ 105 (List._∷_ 110 (List._∷_ 101 List.[])))))))))))))))))) (Syntax.tcons (Syntax.tyInt Syntax.w32) (Syntax.tcons (Syntax.tyInt Syntax.w64) (Syntax.tcons (Syntax.tyInt Syntax.w64) (Syntax.tcons (Syntax.tyInt Syntax.w64) (Syntax.tcons (Syntax.tyInt Syntax.w64) Syntax.tnil))))))) (List._∷_ (3, Rows.sslice (Referent.rtF (Referent.fInt Syntax.w32)) (Syntax.tyRef (Syntax.named 0) Syntax.imm (Syntax.tyInt Syntax.w32)) 0) (List._∷_ (4, Part.mslice-owedP (Referent.rtF (Referent.fInt Syntax.w32)) (Syntax.tyRef (Syntax.named 1) Syntax.mut (Syntax.tyInt Syntax.w32)) 1 6 (Row.lease (κs .1 .0) (qs .1 .0))) (List._∷_ (5, Part.mslice-owedP (Referent.rtF (Referent.fInt Syntax.w32)) (Syntax.tyRef (Syntax.named 2) Syntax.mut (Syntax.tyInt Syntax.w32)) 2 7 (Row.lease (κs .1 .1 .0) (qs .1 .1 .0))) (List._∷_ (6, Part.mslice-owedP (Referent.rtF (Referent.fInt Syntax.w32)) (Syntax.tyRef (Syntax.named 3) Syntax.mut (Syntax.tyInt Syntax.w32)) 3 8 (Row.lease (κs .1 .1 .1 .0) (qs .1 .1 .1 .0))) (List._∷_ (7, Part.mslice-owedP Cell.R (Syntax.tyRef (Syntax.named 4) Syntax.mut Cell.behind) 4 9 (Row.lease (κs .1 .1 .1 .1 .0) (qs .1 .1 .1 .1 .0))) (List._∷_ (8, Part.mslice-owedP Cell.R (Syntax.tyRef (Syntax.named 5) Syntax.mut Cell.behind) 5 10 (Row.lease (κs .1 .1 .1 .1 .1 .0) (qs .1 .1 .1 .1 .1 .0))) (List._∷_ (9, Rows.any-gone (Syntax.tyStruct (List._∷_ 112 (List._∷_ 121 (List._∷_ 114 (List._∷_ 97 (List._∷_ 109 (List._∷_ 105 (List._∷_ 100 (List._∷_ 58 (List._∷_ 58 (List._∷_ 83 (List._∷_ 116 (List._∷_ 97 (List._∷_ 116 (List._∷_ 101 List.[])))))))))))))) (Syntax.tcons (Syntax.tyInt Syntax.w32) (Syntax.tcons (Syntax.tyInt Syntax.w32) (Syntax.tcons (Syntax.tyInt Syntax.w32) (Syntax.tcons (Syntax.tyInt Syntax.w32) (Syntax.tcons (Syntax.tyInt Syntax.w32) (Syntax.tcons (Syntax.tyArray (Syntax.tyInt Syntax.w32) 64) Syntax.tnil)))))))) (List._∷_ (10, Rows.any-gone (Syntax.tyInt Syntax.w64)) (List._∷_ (11, Rows.any-gone (Syntax.tyInt Syntax.w64)) (List._∷_ (12, Rows.any-gone (Syntax.tyInt Syntax.w64)) (List._∷_ (13, Rows.any-gone (Syntax.tyInt Syntax.w64)) (List._∷_ (14, Rows.sc-here (Row.sInt Syntax.w64)) (List._∷_ (15, Rows.sc-here (Row.sInt Syntax.w64)) List.[])))))))))))))))
 
         abbrev g40 : List.List Row.Entry
-        g40 = List._∷_ (0, Rows.whole (Declared.row Outcome.the-type)) (List._∷_ (1, Rows.any-gone (Syntax.tyStruct (List._∷_ 122 (List._∷_ 111 (List._∷_ 110 (List._∷_ 101 (List._∷_ 115 (List._∷_ 58 (List._∷_ 58 (List._∷_ 104 (List._∷_ 101 (List._∷_ 108 (List._∷_ 100 (List._∷_ 58 (List._∷_ 58 (List._∷_ 72 (List._∷_ 101 (List._∷_ 108 (List._∷_ 100 List.[]))))))))))))))))) (Syntax.tcons (Syntax.tyStruct (List._∷_ 112 (List._∷_ 121 (List._∷_ 114 (List._∷_ 97 (List._∷_ 109 (List._∷_ 105 (List._∷_ 100 (List._∷_ 58 (List._∷_ 58 (List._∷_ 83 (List._∷_ 116 (List._∷_ 97 (List._∷_ 116 (List._∷_ 101 List.[])))))))))))))) (Syntax.tcons (Syntax.tyInt Syntax.w32) (Syntax.tcons (Syntax.tyInt Syntax.w32) (Syntax.tcons (Syntax.tyInt Syntax.w32) (Syntax.tcons (Syntax.tyInt Syntax.w32) (Syntax.tcons (Syntax.tyInt Syntax.w32) (Syntax.tcons (Syntax.tyArray (Syntax.tyInt Syntax.w32) 64) Syntax.tnil))))))) (Syntax.tcons (Syntax.tyInt Syntax.w64) (Syntax.tcons (Syntax.tyInt Syntax.w64) (Syntax.tcons (Syntax.tyInt Syntax.w64) (Syntax.tcons (Syntax.tyInt Syntax.w64) (Syntax.tcons (Syntax.tyInt Syntax.w64) (Syntax.tcons (Syntax.tyInt Syntax.w64) (Syntax.tcons Syntax.tyBool Syntax.tnil)))))))))) (List._∷_ (2, Rows.any-gone (Syntax.tyStruct (List._∷_ 122 (List._∷_ 111 (List._∷_ 110 (List._∷_ 101 (List._∷_ 115 (List._∷_ 58 (List._∷_ 58 (List._∷_ 115 (List._∷_ 99 (List._∷_ 97 (List._∷_ 110 (List._∷_ 58 (List._∷_ 58 (List._∷_ 76 (List._∷_ 105 (List._∷_ 110 (List._∷_ 101 List.[]))))))))))))))))) (Syntax.tcons (Syntax.tyInt Syntax.w32) (Syntax.tcons (Syntax.tyInt Syntax.w64) (Syntax.tcons (Syntax.tyInt Syntax.w64) (Syntax.tcons (Syntax.tyInt Syntax.w64) (Syntax.tcons (Syntax.tyInt Syntax.w64) Syntax.tnil))))))) (List._∷_ (3, Rows.sslice (Referent.rtF (Referent.fInt Syntax.w32)) (Syntax.tyRef (Syntax.named 0) Syntax.imm (Syntax.tyInt Syntax.w32)) 0) (List._∷_ (4, Part.mslice-owedP (Referent.rtF (Referent.fInt Syntax.w32)) (Syntax.tyRef (Syntax.named 1) Syntax.mut (Syntax.tyInt Syntax.w32)) 1 6 (Row.lease (κs .1 .0) (qs .1 .0))) (List._∷_ (5, Part.mslice-owedP (Referent.rtF (Referent.fInt Syntax.w32)) (Syntax.tyRef (Syntax.named 2) Syntax.mut (Syntax.tyInt Syntax.w32)) 2 7 (Row.lease (κs .1 .1 .0) (qs .1 .1 .0))) (List._∷_ (6, Part.mslice-owedP (Referent.rtF (Referent.fInt Syntax.w32)) (Syntax.tyRef (Syntax.named 3) Syntax.mut (Syntax.tyInt Syntax.w32)) 3 8 (Row.lease (κs .1 .1 .1 .0) (qs .1 .1 .1 .0))) (List._∷_ (7, Part.mslice-owedP Cell.R (Syntax.tyRef (Syntax.named 4) Syntax.mut Cell.behind) 4 9 (Row.lease (κs .1 .1 .1 .1 .0) (qs .1 .1 .1 .1 .0))) (List._∷_ (8, Part.mslice-owedP Cell.R (Syntax.tyRef (Syntax.named 5) Syntax.mut Cell.behind) 5 10 (Row.lease (κs .1 .1 .1 .1 .1 .0) (qs .1 .1 .1 .1 .1 .0))) (List._∷_ (9, Rows.any-gone (Syntax.tyStruct (List._∷_ 112 (List._∷_ 121 (List._∷_ 114 (List._∷_ 97 (List._∷_ 109 (List._∷_ 105 (List._∷_ 100 (List._∷_ 58 (List._∷_ 58 (List._∷_ 83 (List._∷_ 116 (List._∷_ 97 (List._∷_ 116 (List._∷_ 101 List.[])))))))))))))) (Syntax.tcons (Syntax.tyInt Syntax.w32) (Syntax.tcons (Syntax.tyInt Syntax.w32) (Syntax.tcons (Syntax.tyInt Syntax.w32) (Syntax.tcons (Syntax.tyInt Syntax.w32) (Syntax.tcons (Syntax.tyInt Syntax.w32) (Syntax.tcons (Syntax.tyArray (Syntax.tyInt Syntax.w32) 64) Syntax.tnil)))))))) (List._∷_ (10, Rows.any-gone (Syntax.tyInt Syntax.w64)) (List._∷_ (11, Rows.any-gone (Syntax.tyInt Syntax.w64)) (List._∷_ (12, Rows.any-gone (Syntax.tyInt Syntax.w64)) (List._∷_ (13, Rows.any-gone (Syntax.tyInt Syntax.w64)) (List._∷_ (14, Rows.any-gone (Syntax.tyInt Syntax.w64)) (List._∷_ (15, Rows.sc-here (Row.sInt Syntax.w64)) List.[])))))))))))))))
+        g40 = List._∷_ (0, Rows.whole (Declared.row Outcome.the-type)) (List._∷_ (1, Rows.any-gone (Syntax.tyStruct (List._∷_ 122 (List._∷_ 111 (List._∷_ 110 (List._∷_ 101 (List._∷_ 115 (List._∷_ 58 (List._∷_ 58 (List._∷_ 104 (List._∷_ 101 (List._∷_ 108 (List._∷_ 100 (List._∷_ 58 (List._∷_ 58 (List._∷_ 72 (List._∷_ 101 (List._∷_ 108 (List._∷_ 100 List.[]))))))))))))))))) (Syntax.tcons (Syntax.tyStruct (List._∷_ 112 (List._∷_ 121 (List._∷_ 114 (List._∷_ 97 (List._∷_ 109 (List._∷_ 105 (List._∷_ 100 (List._∷_ 58 (List._∷_ 58 (List._∷_ 83 (List._∷_ 116 (List._∷_ 97 (List._∷_ 116 (List._∷_ 101 List.[])))))))))))))) (Syntax.tcons (Syntax.tyInt Syntax.w32) (Syntax.tcons (Syntax.tyInt Syntax.w32) (Syntax.tcons (Syntax.tyInt Syntax.w32) (Syntax.tcons (Syntax.tyInt Syntax.w32) (Syntax.tcons (Syntax.tyInt Syntax.w32) (Syntax.tcons (Syntax.tyArray (Syntax.tyInt Syntax.w32) 64) Syntax.tnil))))))) (Syntax.tcons (Syntax.tyInt Syntax.w64) (Syntax.tcons (Syntax.tyInt Syntax.w64) (Syntax.tcons (Syntax.tyInt Syntax.w64) (Syntax.tcons (Syntax.tyInt Syntax.w64) (Syntax.tcons (Syntax.tyInt Syntax.w64) (Syntax.tcons (Syntax.tyInt Syntax.w64) (Syntax.tcons Syntax.tyBool Syntax.tnil)))))))))) (List._∷_ (2, Rows.any-gone (Syntax.tyStruct (List._∷_ 115 (List._∷_ 99 (List._∷_ 114 (List._∷_ 105 (List._∷_ 112 (List._∷_ 116 (List._∷_ 58 (List._∷_ 58 (List._∷_ 115 (List._∷_ 99 (List._∷_ 97 (List._∷_ 110 (List._∷_ 58 (List._∷_ 58 (List._∷_ 76 (List._∷_ 105 (List._∷_ 110 (List._∷_ 101 List.[])))))))))))))))))) (Syntax.tcons (Syntax.tyInt Syntax.w32) (Syntax.tcons (Syntax.tyInt Syntax.w64) (Syntax.tcons (Syntax.tyInt Syntax.w64) (Syntax.tcons (Syntax.tyInt Syntax.w64) (Syntax.tcons (Syntax.tyInt Syntax.w64) Syntax.tnil))))))) (List._∷_ (3, Rows.sslice (Referent.rtF (Referent.fInt Syntax.w32)) (Syntax.tyRef (Syntax.named 0) Syntax.imm (Syntax.tyInt Syntax.w32)) 0) (List._∷_ (4, Part.mslice-owedP (Referent.rtF (Referent.fInt Syntax.w32)) (Syntax.tyRef (Syntax.named 1) Syntax.mut (Syntax.tyInt Syntax.w32)) 1 6 (Row.lease (κs .1 .0) (qs .1 .0))) (List._∷_ (5, Part.mslice-owedP (Referent.rtF (Referent.fInt Syntax.w32)) (Syntax.tyRef (Syntax.named 2) Syntax.mut (Syntax.tyInt Syntax.w32)) 2 7 (Row.lease (κs .1 .1 .0) (qs .1 .1 .0))) (List._∷_ (6, Part.mslice-owedP (Referent.rtF (Referent.fInt Syntax.w32)) (Syntax.tyRef (Syntax.named 3) Syntax.mut (Syntax.tyInt Syntax.w32)) 3 8 (Row.lease (κs .1 .1 .1 .0) (qs .1 .1 .1 .0))) (List._∷_ (7, Part.mslice-owedP Cell.R (Syntax.tyRef (Syntax.named 4) Syntax.mut Cell.behind) 4 9 (Row.lease (κs .1 .1 .1 .1 .0) (qs .1 .1 .1 .1 .0))) (List._∷_ (8, Part.mslice-owedP Cell.R (Syntax.tyRef (Syntax.named 5) Syntax.mut Cell.behind) 5 10 (Row.lease (κs .1 .1 .1 .1 .1 .0) (qs .1 .1 .1 .1 .1 .0))) (List._∷_ (9, Rows.any-gone (Syntax.tyStruct (List._∷_ 112 (List._∷_ 121 (List._∷_ 114 (List._∷_ 97 (List._∷_ 109 (List._∷_ 105 (List._∷_ 100 (List._∷_ 58 (List._∷_ 58 (List._∷_ 83 (List._∷_ 116 (List._∷_ 97 (List._∷_ 116 (List._∷_ 101 List.[])))))))))))))) (Syntax.tcons (Syntax.tyInt Syntax.w32) (Syntax.tcons (Syntax.tyInt Syntax.w32) (Syntax.tcons (Syntax.tyInt Syntax.w32) (Syntax.tcons (Syntax.tyInt Syntax.w32) (Syntax.tcons (Syntax.tyInt Syntax.w32) (Syntax.tcons (Syntax.tyArray (Syntax.tyInt Syntax.w32) 64) Syntax.tnil)))))))) (List._∷_ (10, Rows.any-gone (Syntax.tyInt Syntax.w64)) (List._∷_ (11, Rows.any-gone (Syntax.tyInt Syntax.w64)) (List._∷_ (12, Rows.any-gone (Syntax.tyInt Syntax.w64)) (List._∷_ (13, Rows.any-gone (Syntax.tyInt Syntax.w64)) (List._∷_ (14, Rows.any-gone (Syntax.tyInt Syntax.w64)) (List._∷_ (15, Rows.sc-here (Row.sInt Syntax.w64)) List.[])))))))))))))))
 
         abbrev g41 : List.List Row.Entry
-        g41 = List._∷_ (0, Rows.whole (Declared.row Outcome.the-type)) (List._∷_ (1, Rows.any-gone (Syntax.tyStruct (List._∷_ 122 (List._∷_ 111 (List._∷_ 110 (List._∷_ 101 (List._∷_ 115 (List._∷_ 58 (List._∷_ 58 (List._∷_ 104 (List._∷_ 101 (List._∷_ 108 (List._∷_ 100 (List._∷_ 58 (List._∷_ 58 (List._∷_ 72 (List._∷_ 101 (List._∷_ 108 (List._∷_ 100 List.[]))))))))))))))))) (Syntax.tcons (Syntax.tyStruct (List._∷_ 112 (List._∷_ 121 (List._∷_ 114 (List._∷_ 97 (List._∷_ 109 (List._∷_ 105 (List._∷_ 100 (List._∷_ 58 (List._∷_ 58 (List._∷_ 83 (List._∷_ 116 (List._∷_ 97 (List._∷_ 116 (List._∷_ 101 List.[])))))))))))))) (Syntax.tcons (Syntax.tyInt Syntax.w32) (Syntax.tcons (Syntax.tyInt Syntax.w32) (Syntax.tcons (Syntax.tyInt Syntax.w32) (Syntax.tcons (Syntax.tyInt Syntax.w32) (Syntax.tcons (Syntax.tyInt Syntax.w32) (Syntax.tcons (Syntax.tyArray (Syntax.tyInt Syntax.w32) 64) Syntax.tnil))))))) (Syntax.tcons (Syntax.tyInt Syntax.w64) (Syntax.tcons (Syntax.tyInt Syntax.w64) (Syntax.tcons (Syntax.tyInt Syntax.w64) (Syntax.tcons (Syntax.tyInt Syntax.w64) (Syntax.tcons (Syntax.tyInt Syntax.w64) (Syntax.tcons (Syntax.tyInt Syntax.w64) (Syntax.tcons Syntax.tyBool Syntax.tnil)))))))))) (List._∷_ (2, Rows.any-gone (Syntax.tyStruct (List._∷_ 122 (List._∷_ 111 (List._∷_ 110 (List._∷_ 101 (List._∷_ 115 (List._∷_ 58 (List._∷_ 58 (List._∷_ 115 (List._∷_ 99 (List._∷_ 97 (List._∷_ 110 (List._∷_ 58 (List._∷_ 58 (List._∷_ 76 (List._∷_ 105 (List._∷_ 110 (List._∷_ 101 List.[]))))))))))))))))) (Syntax.tcons (Syntax.tyInt Syntax.w32) (Syntax.tcons (Syntax.tyInt Syntax.w64) (Syntax.tcons (Syntax.tyInt Syntax.w64) (Syntax.tcons (Syntax.tyInt Syntax.w64) (Syntax.tcons (Syntax.tyInt Syntax.w64) Syntax.tnil))))))) (List._∷_ (3, Rows.sslice (Referent.rtF (Referent.fInt Syntax.w32)) (Syntax.tyRef (Syntax.named 0) Syntax.imm (Syntax.tyInt Syntax.w32)) 0) (List._∷_ (4, Part.mslice-owedP (Referent.rtF (Referent.fInt Syntax.w32)) (Syntax.tyRef (Syntax.named 1) Syntax.mut (Syntax.tyInt Syntax.w32)) 1 6 (Row.lease (κs .1 .0) (qs .1 .0))) (List._∷_ (5, Part.mslice-owedP (Referent.rtF (Referent.fInt Syntax.w32)) (Syntax.tyRef (Syntax.named 2) Syntax.mut (Syntax.tyInt Syntax.w32)) 2 7 (Row.lease (κs .1 .1 .0) (qs .1 .1 .0))) (List._∷_ (6, Part.mslice-owedP (Referent.rtF (Referent.fInt Syntax.w32)) (Syntax.tyRef (Syntax.named 3) Syntax.mut (Syntax.tyInt Syntax.w32)) 3 8 (Row.lease (κs .1 .1 .1 .0) (qs .1 .1 .1 .0))) (List._∷_ (7, Part.mslice-owedP Cell.R (Syntax.tyRef (Syntax.named 4) Syntax.mut Cell.behind) 4 9 (Row.lease (κs .1 .1 .1 .1 .0) (qs .1 .1 .1 .1 .0))) (List._∷_ (8, Part.mslice-owedP Cell.R (Syntax.tyRef (Syntax.named 5) Syntax.mut Cell.behind) 5 10 (Row.lease (κs .1 .1 .1 .1 .1 .0) (qs .1 .1 .1 .1 .1 .0))) (List._∷_ (9, Rows.any-gone (Syntax.tyStruct (List._∷_ 112 (List._∷_ 121 (List._∷_ 114 (List._∷_ 97 (List._∷_ 109 (List._∷_ 105 (List._∷_ 100 (List._∷_ 58 (List._∷_ 58 (List._∷_ 83 (List._∷_ 116 (List._∷_ 97 (List._∷_ 116 (List._∷_ 101 List.[])))))))))))))) (Syntax.tcons (Syntax.tyInt Syntax.w32) (Syntax.tcons (Syntax.tyInt Syntax.w32) (Syntax.tcons (Syntax.tyInt Syntax.w32) (Syntax.tcons (Syntax.tyInt Syntax.w32) (Syntax.tcons (Syntax.tyInt Syntax.w32) (Syntax.tcons (Syntax.tyArray (Syntax.tyInt Syntax.w32) 64) Syntax.tnil)))))))) (List._∷_ (10, Rows.any-gone (Syntax.tyInt Syntax.w64)) (List._∷_ (11, Rows.any-gone (Syntax.tyInt Syntax.w64)) (List._∷_ (12, Rows.any-gone (Syntax.tyInt Syntax.w64)) (List._∷_ (13, Rows.any-gone (Syntax.tyInt Syntax.w64)) (List._∷_ (14, Rows.any-gone (Syntax.tyInt Syntax.w64)) (List._∷_ (15, Rows.any-gone (Syntax.tyInt Syntax.w64)) List.[])))))))))))))))
+        g41 = List._∷_ (0, Rows.whole (Declared.row Outcome.the-type)) (List._∷_ (1, Rows.any-gone (Syntax.tyStruct (List._∷_ 122 (List._∷_ 111 (List._∷_ 110 (List._∷_ 101 (List._∷_ 115 (List._∷_ 58 (List._∷_ 58 (List._∷_ 104 (List._∷_ 101 (List._∷_ 108 (List._∷_ 100 (List._∷_ 58 (List._∷_ 58 (List._∷_ 72 (List._∷_ 101 (List._∷_ 108 (List._∷_ 100 List.[]))))))))))))))))) (Syntax.tcons (Syntax.tyStruct (List._∷_ 112 (List._∷_ 121 (List._∷_ 114 (List._∷_ 97 (List._∷_ 109 (List._∷_ 105 (List._∷_ 100 (List._∷_ 58 (List._∷_ 58 (List._∷_ 83 (List._∷_ 116 (List._∷_ 97 (List._∷_ 116 (List._∷_ 101 List.[])))))))))))))) (Syntax.tcons (Syntax.tyInt Syntax.w32) (Syntax.tcons (Syntax.tyInt Syntax.w32) (Syntax.tcons (Syntax.tyInt Syntax.w32) (Syntax.tcons (Syntax.tyInt Syntax.w32) (Syntax.tcons (Syntax.tyInt Syntax.w32) (Syntax.tcons (Syntax.tyArray (Syntax.tyInt Syntax.w32) 64) Syntax.tnil))))))) (Syntax.tcons (Syntax.tyInt Syntax.w64) (Syntax.tcons (Syntax.tyInt Syntax.w64) (Syntax.tcons (Syntax.tyInt Syntax.w64) (Syntax.tcons (Syntax.tyInt Syntax.w64) (Syntax.tcons (Syntax.tyInt Syntax.w64) (Syntax.tcons (Syntax.tyInt Syntax.w64) (Syntax.tcons Syntax.tyBool Syntax.tnil)))))))))) (List._∷_ (2, Rows.any-gone (Syntax.tyStruct (List._∷_ 115 (List._∷_ 99 (List._∷_ 114 (List._∷_ 105 (List._∷_ 112 (List._∷_ 116 (List._∷_ 58 (List._∷_ 58 (List._∷_ 115 (List._∷_ 99 (List._∷_ 97 (List._∷_ 110 (List._∷_ 58 (List._∷_ 58 (List._∷_ 76 (List._∷_ 105 (List._∷_ 110 (List._∷_ 101 List.[])))))))))))))))))) (Syntax.tcons (Syntax.tyInt Syntax.w32) (Syntax.tcons (Syntax.tyInt Syntax.w64) (Syntax.tcons (Syntax.tyInt Syntax.w64) (Syntax.tcons (Syntax.tyInt Syntax.w64) (Syntax.tcons (Syntax.tyInt Syntax.w64) Syntax.tnil))))))) (List._∷_ (3, Rows.sslice (Referent.rtF (Referent.fInt Syntax.w32)) (Syntax.tyRef (Syntax.named 0) Syntax.imm (Syntax.tyInt Syntax.w32)) 0) (List._∷_ (4, Part.mslice-owedP (Referent.rtF (Referent.fInt Syntax.w32)) (Syntax.tyRef (Syntax.named 1) Syntax.mut (Syntax.tyInt Syntax.w32)) 1 6 (Row.lease (κs .1 .0) (qs .1 .0))) (List._∷_ (5, Part.mslice-owedP (Referent.rtF (Referent.fInt Syntax.w32)) (Syntax.tyRef (Syntax.named 2) Syntax.mut (Syntax.tyInt Syntax.w32)) 2 7 (Row.lease (κs .1 .1 .0) (qs .1 .1 .0))) (List._∷_ (6, Part.mslice-owedP (Referent.rtF (Referent.fInt Syntax.w32)) (Syntax.tyRef (Syntax.named 3) Syntax.mut (Syntax.tyInt Syntax.w32)) 3 8 (Row.lease (κs .1 .1 .1 .0) (qs .1 .1 .1 .0))) (List._∷_ (7, Part.mslice-owedP Cell.R (Syntax.tyRef (Syntax.named 4) Syntax.mut Cell.behind) 4 9 (Row.lease (κs .1 .1 .1 .1 .0) (qs .1 .1 .1 .1 .0))) (List._∷_ (8, Part.mslice-owedP Cell.R (Syntax.tyRef (Syntax.named 5) Syntax.mut Cell.behind) 5 10 (Row.lease (κs .1 .1 .1 .1 .1 .0) (qs .1 .1 .1 .1 .1 .0))) (List._∷_ (9, Rows.any-gone (Syntax.tyStruct (List._∷_ 112 (List._∷_ 121 (List._∷_ 114 (List._∷_ 97 (List._∷_ 109 (List._∷_ 105 (List._∷_ 100 (List._∷_ 58 (List._∷_ 58 (List._∷_ 83 (List._∷_ 116 (List._∷_ 97 (List._∷_ 116 (List._∷_ 101 List.[])))))))))))))) (Syntax.tcons (Syntax.tyInt Syntax.w32) (Syntax.tcons (Syntax.tyInt Syntax.w32) (Syntax.tcons (Syntax.tyInt Syntax.w32) (Syntax.tcons (Syntax.tyInt Syntax.w32) (Syntax.tcons (Syntax.tyInt Syntax.w32) (Syntax.tcons (Syntax.tyArray (Syntax.tyInt Syntax.w32) 64) Syntax.tnil)))))))) (List._∷_ (10, Rows.any-gone (Syntax.tyInt Syntax.w64)) (List._∷_ (11, Rows.any-gone (Syntax.tyInt Syntax.w64)) (List._∷_ (12, Rows.any-gone (Syntax.tyInt Syntax.w64)) (List._∷_ (13, Rows.any-gone (Syntax.tyInt Syntax.w64)) (List._∷_ (14, Rows.any-gone (Syntax.tyInt Syntax.w64)) (List._∷_ (15, Rows.any-gone (Syntax.tyInt Syntax.w64)) List.[])))))))))))))))
 
         abbrev g43 : List.List Row.Entry
-        g43 = List._∷_ (0, Rows.whole (Declared.row Outcome.the-type)) (List._∷_ (1, Rows.any-gone (Syntax.tyStruct (List._∷_ 122 (List._∷_ 111 (List._∷_ 110 (List._∷_ 101 (List._∷_ 115 (List._∷_ 58 (List._∷_ 58 (List._∷_ 104 (List._∷_ 101 (List._∷_ 108 (List._∷_ 100 (List._∷_ 58 (List._∷_ 58 (List._∷_ 72 (List._∷_ 101 (List._∷_ 108 (List._∷_ 100 List.[]))))))))))))))))) (Syntax.tcons (Syntax.tyStruct (List._∷_ 112 (List._∷_ 121 (List._∷_ 114 (List._∷_ 97 (List._∷_ 109 (List._∷_ 105 (List._∷_ 100 (List._∷_ 58 (List._∷_ 58 (List._∷_ 83 (List._∷_ 116 (List._∷_ 97 (List._∷_ 116 (List._∷_ 101 List.[])))))))))))))) (Syntax.tcons (Syntax.tyInt Syntax.w32) (Syntax.tcons (Syntax.tyInt Syntax.w32) (Syntax.tcons (Syntax.tyInt Syntax.w32) (Syntax.tcons (Syntax.tyInt Syntax.w32) (Syntax.tcons (Syntax.tyInt Syntax.w32) (Syntax.tcons (Syntax.tyArray (Syntax.tyInt Syntax.w32) 64) Syntax.tnil))))))) (Syntax.tcons (Syntax.tyInt Syntax.w64) (Syntax.tcons (Syntax.tyInt Syntax.w64) (Syntax.tcons (Syntax.tyInt Syntax.w64) (Syntax.tcons (Syntax.tyInt Syntax.w64) (Syntax.tcons (Syntax.tyInt Syntax.w64) (Syntax.tcons (Syntax.tyInt Syntax.w64) (Syntax.tcons Syntax.tyBool Syntax.tnil)))))))))) (List._∷_ (2, Rows.any-gone (Syntax.tyStruct (List._∷_ 122 (List._∷_ 111 (List._∷_ 110 (List._∷_ 101 (List._∷_ 115 (List._∷_ 58 (List._∷_ 58 (List._∷_ 115 (List._∷_ 99 (List._∷_ 97 (List._∷_ 110 (List._∷_ 58 (List._∷_ 58 (List._∷_ 76 (List._∷_ 105 (List._∷_ 110 (List._∷_ 101 List.[]))))))))))))))))) (Syntax.tcons (Syntax.tyInt Syntax.w32) (Syntax.tcons (Syntax.tyInt Syntax.w64) (Syntax.tcons (Syntax.tyInt Syntax.w64) (Syntax.tcons (Syntax.tyInt Syntax.w64) (Syntax.tcons (Syntax.tyInt Syntax.w64) Syntax.tnil))))))) (List._∷_ (3, Rows.sslice (Referent.rtF (Referent.fInt Syntax.w32)) (Syntax.tyRef (Syntax.named 0) Syntax.imm (Syntax.tyInt Syntax.w32)) 0) (List._∷_ (4, Mut.mslice (Referent.rtF (Referent.fInt Syntax.w32)) (Syntax.tyRef (Syntax.named 1) Syntax.mut (Syntax.tyInt Syntax.w32)) 1) (List._∷_ (5, Part.mslice-owedP (Referent.rtF (Referent.fInt Syntax.w32)) (Syntax.tyRef (Syntax.named 2) Syntax.mut (Syntax.tyInt Syntax.w32)) 2 7 (Row.lease (κs .1 .1 .0) (qs .1 .1 .0))) (List._∷_ (6, Part.mslice-owedP (Referent.rtF (Referent.fInt Syntax.w32)) (Syntax.tyRef (Syntax.named 3) Syntax.mut (Syntax.tyInt Syntax.w32)) 3 8 (Row.lease (κs .1 .1 .1 .0) (qs .1 .1 .1 .0))) (List._∷_ (7, Part.mslice-owedP Cell.R (Syntax.tyRef (Syntax.named 4) Syntax.mut Cell.behind) 4 9 (Row.lease (κs .1 .1 .1 .1 .0) (qs .1 .1 .1 .1 .0))) (List._∷_ (8, Part.mslice-owedP Cell.R (Syntax.tyRef (Syntax.named 5) Syntax.mut Cell.behind) 5 10 (Row.lease (κs .1 .1 .1 .1 .1 .0) (qs .1 .1 .1 .1 .1 .0))) (List._∷_ (9, Rows.any-gone (Syntax.tyStruct (List._∷_ 112 (List._∷_ 121 (List._∷_ 114 (List._∷_ 97 (List._∷_ 109 (List._∷_ 105 (List._∷_ 100 (List._∷_ 58 (List._∷_ 58 (List._∷_ 83 (List._∷_ 116 (List._∷_ 97 (List._∷_ 116 (List._∷_ 101 List.[])))))))))))))) (Syntax.tcons (Syntax.tyInt Syntax.w32) (Syntax.tcons (Syntax.tyInt Syntax.w32) (Syntax.tcons (Syntax.tyInt Syntax.w32) (Syntax.tcons (Syntax.tyInt Syntax.w32) (Syntax.tcons (Syntax.tyInt Syntax.w32) (Syntax.tcons (Syntax.tyArray (Syntax.tyInt Syntax.w32) 64) Syntax.tnil)))))))) (List._∷_ (10, Rows.any-gone (Syntax.tyInt Syntax.w64)) (List._∷_ (11, Rows.any-gone (Syntax.tyInt Syntax.w64)) (List._∷_ (12, Rows.any-gone (Syntax.tyInt Syntax.w64)) (List._∷_ (13, Rows.any-gone (Syntax.tyInt Syntax.w64)) (List._∷_ (14, Rows.any-gone (Syntax.tyInt Syntax.w64)) (List._∷_ (15, Rows.any-gone (Syntax.tyInt Syntax.w64)) List.[])))))))))))))))
+        g43 = List._∷_ (0, Rows.whole (Declared.row Outcome.the-type)) (List._∷_ (1, Rows.any-gone (Syntax.tyStruct (List._∷_ 122 (List._∷_ 111 (List._∷_ 110 (List._∷_ 101 (List._∷_ 115 (List._∷_ 58 (List._∷_ 58 (List._∷_ 104 (List._∷_ 101 (List._∷_ 108 (List._∷_ 100 (List._∷_ 58 (List._∷_ 58 (List._∷_ 72 (List._∷_ 101 (List._∷_ 108 (List._∷_ 100 List.[]))))))))))))))))) (Syntax.tcons (Syntax.tyStruct (List._∷_ 112 (List._∷_ 121 (List._∷_ 114 (List._∷_ 97 (List._∷_ 109 (List._∷_ 105 (List._∷_ 100 (List._∷_ 58 (List._∷_ 58 (List._∷_ 83 (List._∷_ 116 (List._∷_ 97 (List._∷_ 116 (List._∷_ 101 List.[])))))))))))))) (Syntax.tcons (Syntax.tyInt Syntax.w32) (Syntax.tcons (Syntax.tyInt Syntax.w32) (Syntax.tcons (Syntax.tyInt Syntax.w32) (Syntax.tcons (Syntax.tyInt Syntax.w32) (Syntax.tcons (Syntax.tyInt Syntax.w32) (Syntax.tcons (Syntax.tyArray (Syntax.tyInt Syntax.w32) 64) Syntax.tnil))))))) (Syntax.tcons (Syntax.tyInt Syntax.w64) (Syntax.tcons (Syntax.tyInt Syntax.w64) (Syntax.tcons (Syntax.tyInt Syntax.w64) (Syntax.tcons (Syntax.tyInt Syntax.w64) (Syntax.tcons (Syntax.tyInt Syntax.w64) (Syntax.tcons (Syntax.tyInt Syntax.w64) (Syntax.tcons Syntax.tyBool Syntax.tnil)))))))))) (List._∷_ (2, Rows.any-gone (Syntax.tyStruct (List._∷_ 115 (List._∷_ 99 (List._∷_ 114 (List._∷_ 105 (List._∷_ 112 (List._∷_ 116 (List._∷_ 58 (List._∷_ 58 (List._∷_ 115 (List._∷_ 99 (List._∷_ 97 (List._∷_ 110 (List._∷_ 58 (List._∷_ 58 (List._∷_ 76 (List._∷_ 105 (List._∷_ 110 (List._∷_ 101 List.[])))))))))))))))))) (Syntax.tcons (Syntax.tyInt Syntax.w32) (Syntax.tcons (Syntax.tyInt Syntax.w64) (Syntax.tcons (Syntax.tyInt Syntax.w64) (Syntax.tcons (Syntax.tyInt Syntax.w64) (Syntax.tcons (Syntax.tyInt Syntax.w64) Syntax.tnil))))))) (List._∷_ (3, Rows.sslice (Referent.rtF (Referent.fInt Syntax.w32)) (Syntax.tyRef (Syntax.named 0) Syntax.imm (Syntax.tyInt Syntax.w32)) 0) (List._∷_ (4, Mut.mslice (Referent.rtF (Referent.fInt Syntax.w32)) (Syntax.tyRef (Syntax.named 1) Syntax.mut (Syntax.tyInt Syntax.w32)) 1) (List._∷_ (5, Part.mslice-owedP (Referent.rtF (Referent.fInt Syntax.w32)) (Syntax.tyRef (Syntax.named 2) Syntax.mut (Syntax.tyInt Syntax.w32)) 2 7 (Row.lease (κs .1 .1 .0) (qs .1 .1 .0))) (List._∷_ (6, Part.mslice-owedP (Referent.rtF (Referent.fInt Syntax.w32)) (Syntax.tyRef (Syntax.named 3) Syntax.mut (Syntax.tyInt Syntax.w32)) 3 8 (Row.lease (κs .1 .1 .1 .0) (qs .1 .1 .1 .0))) (List._∷_ (7, Part.mslice-owedP Cell.R (Syntax.tyRef (Syntax.named 4) Syntax.mut Cell.behind) 4 9 (Row.lease (κs .1 .1 .1 .1 .0) (qs .1 .1 .1 .1 .0))) (List._∷_ (8, Part.mslice-owedP Cell.R (Syntax.tyRef (Syntax.named 5) Syntax.mut Cell.behind) 5 10 (Row.lease (κs .1 .1 .1 .1 .1 .0) (qs .1 .1 .1 .1 .1 .0))) (List._∷_ (9, Rows.any-gone (Syntax.tyStruct (List._∷_ 112 (List._∷_ 121 (List._∷_ 114 (List._∷_ 97 (List._∷_ 109 (List._∷_ 105 (List._∷_ 100 (List._∷_ 58 (List._∷_ 58 (List._∷_ 83 (List._∷_ 116 (List._∷_ 97 (List._∷_ 116 (List._∷_ 101 List.[])))))))))))))) (Syntax.tcons (Syntax.tyInt Syntax.w32) (Syntax.tcons (Syntax.tyInt Syntax.w32) (Syntax.tcons (Syntax.tyInt Syntax.w32) (Syntax.tcons (Syntax.tyInt Syntax.w32) (Syntax.tcons (Syntax.tyInt Syntax.w32) (Syntax.tcons (Syntax.tyArray (Syntax.tyInt Syntax.w32) 64) Syntax.tnil)))))))) (List._∷_ (10, Rows.any-gone (Syntax.tyInt Syntax.w64)) (List._∷_ (11, Rows.any-gone (Syntax.tyInt Syntax.w64)) (List._∷_ (12, Rows.any-gone (Syntax.tyInt Syntax.w64)) (List._∷_ (13, Rows.any-gone (Syntax.tyInt Syntax.w64)) (List._∷_ (14, Rows.any-gone (Syntax.tyInt Syntax.w64)) (List._∷_ (15, Rows.any-gone (Syntax.tyInt Syntax.w64)) List.[])))))))))))))))
 
         abbrev g45 : List.List Row.Entry
-        g45 = List._∷_ (0, Rows.whole (Declared.row Outcome.the-type)) (List._∷_ (1, Rows.any-gone (Syntax.tyStruct (List._∷_ 122 (List._∷_ 111 (List._∷_ 110 (List._∷_ 101 (List._∷_ 115 (List._∷_ 58 (List._∷_ 58 (List._∷_ 104 (List._∷_ 101 (List._∷_ 108 (List._∷_ 100 (List._∷_ 58 (List._∷_ 58 (List._∷_ 72 (List._∷_ 101 (List._∷_ 108 (List._∷_ 100 List.[]))))))))))))))))) (Syntax.tcons (Syntax.tyStruct (List._∷_ 112 (List._∷_ 121 (List._∷_ 114 (List._∷_ 97 (List._∷_ 109 (List._∷_ 105 (List._∷_ 100 (List._∷_ 58 (List._∷_ 58 (List._∷_ 83 (List._∷_ 116 (List._∷_ 97 (List._∷_ 116 (List._∷_ 101 List.[])))))))))))))) (Syntax.tcons (Syntax.tyInt Syntax.w32) (Syntax.tcons (Syntax.tyInt Syntax.w32) (Syntax.tcons (Syntax.tyInt Syntax.w32) (Syntax.tcons (Syntax.tyInt Syntax.w32) (Syntax.tcons (Syntax.tyInt Syntax.w32) (Syntax.tcons (Syntax.tyArray (Syntax.tyInt Syntax.w32) 64) Syntax.tnil))))))) (Syntax.tcons (Syntax.tyInt Syntax.w64) (Syntax.tcons (Syntax.tyInt Syntax.w64) (Syntax.tcons (Syntax.tyInt Syntax.w64) (Syntax.tcons (Syntax.tyInt Syntax.w64) (Syntax.tcons (Syntax.tyInt Syntax.w64) (Syntax.tcons (Syntax.tyInt Syntax.w64) (Syntax.tcons Syntax.tyBool Syntax.tnil)))))))))) (List._∷_ (2, Rows.any-gone (Syntax.tyStruct (List._∷_ 122 (List._∷_ 111 (List._∷_ 110 (List._∷_ 101 (List._∷_ 115 (List._∷_ 58 (List._∷_ 58 (List._∷_ 115 (List._∷_ 99 (List._∷_ 97 (List._∷_ 110 (List._∷_ 58 (List._∷_ 58 (List._∷_ 76 (List._∷_ 105 (List._∷_ 110 (List._∷_ 101 List.[]))))))))))))))))) (Syntax.tcons (Syntax.tyInt Syntax.w32) (Syntax.tcons (Syntax.tyInt Syntax.w64) (Syntax.tcons (Syntax.tyInt Syntax.w64) (Syntax.tcons (Syntax.tyInt Syntax.w64) (Syntax.tcons (Syntax.tyInt Syntax.w64) Syntax.tnil))))))) (List._∷_ (3, Rows.sslice (Referent.rtF (Referent.fInt Syntax.w32)) (Syntax.tyRef (Syntax.named 0) Syntax.imm (Syntax.tyInt Syntax.w32)) 0) (List._∷_ (4, Mut.mslice (Referent.rtF (Referent.fInt Syntax.w32)) (Syntax.tyRef (Syntax.named 1) Syntax.mut (Syntax.tyInt Syntax.w32)) 1) (List._∷_ (5, Mut.mslice (Referent.rtF (Referent.fInt Syntax.w32)) (Syntax.tyRef (Syntax.named 2) Syntax.mut (Syntax.tyInt Syntax.w32)) 2) (List._∷_ (6, Part.mslice-owedP (Referent.rtF (Referent.fInt Syntax.w32)) (Syntax.tyRef (Syntax.named 3) Syntax.mut (Syntax.tyInt Syntax.w32)) 3 8 (Row.lease (κs .1 .1 .1 .0) (qs .1 .1 .1 .0))) (List._∷_ (7, Part.mslice-owedP Cell.R (Syntax.tyRef (Syntax.named 4) Syntax.mut Cell.behind) 4 9 (Row.lease (κs .1 .1 .1 .1 .0) (qs .1 .1 .1 .1 .0))) (List._∷_ (8, Part.mslice-owedP Cell.R (Syntax.tyRef (Syntax.named 5) Syntax.mut Cell.behind) 5 10 (Row.lease (κs .1 .1 .1 .1 .1 .0) (qs .1 .1 .1 .1 .1 .0))) (List._∷_ (9, Rows.any-gone (Syntax.tyStruct (List._∷_ 112 (List._∷_ 121 (List._∷_ 114 (List._∷_ 97 (List._∷_ 109 (List._∷_ 105 (List._∷_ 100 (List._∷_ 58 (List._∷_ 58 (List._∷_ 83 (List._∷_ 116 (List._∷_ 97 (List._∷_ 116 (List._∷_ 101 List.[])))))))))))))) (Syntax.tcons (Syntax.tyInt Syntax.w32) (Syntax.tcons (Syntax.tyInt Syntax.w32) (Syntax.tcons (Syntax.tyInt Syntax.w32) (Syntax.tcons (Syntax.tyInt Syntax.w32) (Syntax.tcons (Syntax.tyInt Syntax.w32) (Syntax.tcons (Syntax.tyArray (Syntax.tyInt Syntax.w32) 64) Syntax.tnil)))))))) (List._∷_ (10, Rows.any-gone (Syntax.tyInt Syntax.w64)) (List._∷_ (11, Rows.any-gone (Syntax.tyInt Syntax.w64)) (List._∷_ (12, Rows.any-gone (Syntax.tyInt Syntax.w64)) (List._∷_ (13, Rows.any-gone (Syntax.tyInt Syntax.w64)) (List._∷_ (14, Rows.any-gone (Syntax.tyInt Syntax.w64)) (List._∷_ (15, Rows.any-gone (Syntax.tyInt Syntax.w64)) List.[])))))))))))))))
+        g45 = List._∷_ (0, Rows.whole (Declared.row Outcome.the-type)) (List._∷_ (1, Rows.any-gone (Syntax.tyStruct (List._∷_ 122 (List._∷_ 111 (List._∷_ 110 (List._∷_ 101 (List._∷_ 115 (List._∷_ 58 (List._∷_ 58 (List._∷_ 104 (List._∷_ 101 (List._∷_ 108 (List._∷_ 100 (List._∷_ 58 (List._∷_ 58 (List._∷_ 72 (List._∷_ 101 (List._∷_ 108 (List._∷_ 100 List.[]))))))))))))))))) (Syntax.tcons (Syntax.tyStruct (List._∷_ 112 (List._∷_ 121 (List._∷_ 114 (List._∷_ 97 (List._∷_ 109 (List._∷_ 105 (List._∷_ 100 (List._∷_ 58 (List._∷_ 58 (List._∷_ 83 (List._∷_ 116 (List._∷_ 97 (List._∷_ 116 (List._∷_ 101 List.[])))))))))))))) (Syntax.tcons (Syntax.tyInt Syntax.w32) (Syntax.tcons (Syntax.tyInt Syntax.w32) (Syntax.tcons (Syntax.tyInt Syntax.w32) (Syntax.tcons (Syntax.tyInt Syntax.w32) (Syntax.tcons (Syntax.tyInt Syntax.w32) (Syntax.tcons (Syntax.tyArray (Syntax.tyInt Syntax.w32) 64) Syntax.tnil))))))) (Syntax.tcons (Syntax.tyInt Syntax.w64) (Syntax.tcons (Syntax.tyInt Syntax.w64) (Syntax.tcons (Syntax.tyInt Syntax.w64) (Syntax.tcons (Syntax.tyInt Syntax.w64) (Syntax.tcons (Syntax.tyInt Syntax.w64) (Syntax.tcons (Syntax.tyInt Syntax.w64) (Syntax.tcons Syntax.tyBool Syntax.tnil)))))))))) (List._∷_ (2, Rows.any-gone (Syntax.tyStruct (List._∷_ 115 (List._∷_ 99 (List._∷_ 114 (List._∷_ 105 (List._∷_ 112 (List._∷_ 116 (List._∷_ 58 (List._∷_ 58 (List._∷_ 115 (List._∷_ 99 (List._∷_ 97 (List._∷_ 110 (List._∷_ 58 (List._∷_ 58 (List._∷_ 76 (List._∷_ 105 (List._∷_ 110 (List._∷_ 101 List.[])))))))))))))))))) (Syntax.tcons (Syntax.tyInt Syntax.w32) (Syntax.tcons (Syntax.tyInt Syntax.w64) (Syntax.tcons (Syntax.tyInt Syntax.w64) (Syntax.tcons (Syntax.tyInt Syntax.w64) (Syntax.tcons (Syntax.tyInt Syntax.w64) Syntax.tnil))))))) (List._∷_ (3, Rows.sslice (Referent.rtF (Referent.fInt Syntax.w32)) (Syntax.tyRef (Syntax.named 0) Syntax.imm (Syntax.tyInt Syntax.w32)) 0) (List._∷_ (4, Mut.mslice (Referent.rtF (Referent.fInt Syntax.w32)) (Syntax.tyRef (Syntax.named 1) Syntax.mut (Syntax.tyInt Syntax.w32)) 1) (List._∷_ (5, Mut.mslice (Referent.rtF (Referent.fInt Syntax.w32)) (Syntax.tyRef (Syntax.named 2) Syntax.mut (Syntax.tyInt Syntax.w32)) 2) (List._∷_ (6, Part.mslice-owedP (Referent.rtF (Referent.fInt Syntax.w32)) (Syntax.tyRef (Syntax.named 3) Syntax.mut (Syntax.tyInt Syntax.w32)) 3 8 (Row.lease (κs .1 .1 .1 .0) (qs .1 .1 .1 .0))) (List._∷_ (7, Part.mslice-owedP Cell.R (Syntax.tyRef (Syntax.named 4) Syntax.mut Cell.behind) 4 9 (Row.lease (κs .1 .1 .1 .1 .0) (qs .1 .1 .1 .1 .0))) (List._∷_ (8, Part.mslice-owedP Cell.R (Syntax.tyRef (Syntax.named 5) Syntax.mut Cell.behind) 5 10 (Row.lease (κs .1 .1 .1 .1 .1 .0) (qs .1 .1 .1 .1 .1 .0))) (List._∷_ (9, Rows.any-gone (Syntax.tyStruct (List._∷_ 112 (List._∷_ 121 (List._∷_ 114 (List._∷_ 97 (List._∷_ 109 (List._∷_ 105 (List._∷_ 100 (List._∷_ 58 (List._∷_ 58 (List._∷_ 83 (List._∷_ 116 (List._∷_ 97 (List._∷_ 116 (List._∷_ 101 List.[])))))))))))))) (Syntax.tcons (Syntax.tyInt Syntax.w32) (Syntax.tcons (Syntax.tyInt Syntax.w32) (Syntax.tcons (Syntax.tyInt Syntax.w32) (Syntax.tcons (Syntax.tyInt Syntax.w32) (Syntax.tcons (Syntax.tyInt Syntax.w32) (Syntax.tcons (Syntax.tyArray (Syntax.tyInt Syntax.w32) 64) Syntax.tnil)))))))) (List._∷_ (10, Rows.any-gone (Syntax.tyInt Syntax.w64)) (List._∷_ (11, Rows.any-gone (Syntax.tyInt Syntax.w64)) (List._∷_ (12, Rows.any-gone (Syntax.tyInt Syntax.w64)) (List._∷_ (13, Rows.any-gone (Syntax.tyInt Syntax.w64)) (List._∷_ (14, Rows.any-gone (Syntax.tyInt Syntax.w64)) (List._∷_ (15, Rows.any-gone (Syntax.tyInt Syntax.w64)) List.[])))))))))))))))
 
         abbrev g47 : List.List Row.Entry
-        g47 = List._∷_ (0, Rows.whole (Declared.row Outcome.the-type)) (List._∷_ (1, Rows.any-gone (Syntax.tyStruct (List._∷_ 122 (List._∷_ 111 (List._∷_ 110 (List._∷_ 101 (List._∷_ 115 (List._∷_ 58 (List._∷_ 58 (List._∷_ 104 (List._∷_ 101 (List._∷_ 108 (List._∷_ 100 (List._∷_ 58 (List._∷_ 58 (List._∷_ 72 (List._∷_ 101 (List._∷_ 108 (List._∷_ 100 List.[]))))))))))))))))) (Syntax.tcons (Syntax.tyStruct (List._∷_ 112 (List._∷_ 121 (List._∷_ 114 (List._∷_ 97 (List._∷_ 109 (List._∷_ 105 (List._∷_ 100 (List._∷_ 58 (List._∷_ 58 (List._∷_ 83 (List._∷_ 116 (List._∷_ 97 (List._∷_ 116 (List._∷_ 101 List.[])))))))))))))) (Syntax.tcons (Syntax.tyInt Syntax.w32) (Syntax.tcons (Syntax.tyInt Syntax.w32) (Syntax.tcons (Syntax.tyInt Syntax.w32) (Syntax.tcons (Syntax.tyInt Syntax.w32) (Syntax.tcons (Syntax.tyInt Syntax.w32) (Syntax.tcons (Syntax.tyArray (Syntax.tyInt Syntax.w32) 64) Syntax.tnil))))))) (Syntax.tcons (Syntax.tyInt Syntax.w64) (Syntax.tcons (Syntax.tyInt Syntax.w64) (Syntax.tcons (Syntax.tyInt Syntax.w64) (Syntax.tcons (Syntax.tyInt Syntax.w64) (Syntax.tcons (Syntax.tyInt Syntax.w64) (Syntax.tcons (Syntax.tyInt Syntax.w64) (Syntax.tcons Syntax.tyBool Syntax.tnil)))))))))) (List._∷_ (2, Rows.any-gone (Syntax.tyStruct (List._∷_ 122 (List._∷_ 111 (List._∷_ 110 (List._∷_ 101 (List._∷_ 115 (List._∷_ 58 (List._∷_ 58 (List._∷_ 115 (List._∷_ 99 (List._∷_ 97 (List._∷_ 110 (List._∷_ 58 (List._∷_ 58 (List._∷_ 76 (List._∷_ 105 (List._∷_ 110 (List._∷_ 101 List.[]))))))))))))))))) (Syntax.tcons (Syntax.tyInt Syntax.w32) (Syntax.tcons (Syntax.tyInt Syntax.w64) (Syntax.tcons (Syntax.tyInt Syntax.w64) (Syntax.tcons (Syntax.tyInt Syntax.w64) (Syntax.tcons (Syntax.tyInt Syntax.w64) Syntax.tnil))))))) (List._∷_ (3, Rows.sslice (Referent.rtF (Referent.fInt Syntax.w32)) (Syntax.tyRef (Syntax.named 0) Syntax.imm (Syntax.tyInt Syntax.w32)) 0) (List._∷_ (4, Mut.mslice (Referent.rtF (Referent.fInt Syntax.w32)) (Syntax.tyRef (Syntax.named 1) Syntax.mut (Syntax.tyInt Syntax.w32)) 1) (List._∷_ (5, Mut.mslice (Referent.rtF (Referent.fInt Syntax.w32)) (Syntax.tyRef (Syntax.named 2) Syntax.mut (Syntax.tyInt Syntax.w32)) 2) (List._∷_ (6, Mut.mslice (Referent.rtF (Referent.fInt Syntax.w32)) (Syntax.tyRef (Syntax.named 3) Syntax.mut (Syntax.tyInt Syntax.w32)) 3) (List._∷_ (7, Part.mslice-owedP Cell.R (Syntax.tyRef (Syntax.named 4) Syntax.mut Cell.behind) 4 9 (Row.lease (κs .1 .1 .1 .1 .0) (qs .1 .1 .1 .1 .0))) (List._∷_ (8, Part.mslice-owedP Cell.R (Syntax.tyRef (Syntax.named 5) Syntax.mut Cell.behind) 5 10 (Row.lease (κs .1 .1 .1 .1 .1 .0) (qs .1 .1 .1 .1 .1 .0))) (List._∷_ (9, Rows.any-gone (Syntax.tyStruct (List._∷_ 112 (List._∷_ 121 (List._∷_ 114 (List._∷_ 97 (List._∷_ 109 (List._∷_ 105 (List._∷_ 100 (List._∷_ 58 (List._∷_ 58 (List._∷_ 83 (List._∷_ 116 (List._∷_ 97 (List._∷_ 116 (List._∷_ 101 List.[])))))))))))))) (Syntax.tcons (Syntax.tyInt Syntax.w32) (Syntax.tcons (Syntax.tyInt Syntax.w32) (Syntax.tcons (Syntax.tyInt Syntax.w32) (Syntax.tcons (Syntax.tyInt Syntax.w32) (Syntax.tcons (Syntax.tyInt Syntax.w32) (Syntax.tcons (Syntax.tyArray (Syntax.tyInt Syntax.w32) 64) Syntax.tnil)))))))) (List._∷_ (10, Rows.any-gone (Syntax.tyInt Syntax.w64)) (List._∷_ (11, Rows.any-gone (Syntax.tyInt Syntax.w64)) (List._∷_ (12, Rows.any-gone (Syntax.tyInt Syntax.w64)) (List._∷_ (13, Rows.any-gone (Syntax.tyInt Syntax.w64)) (List._∷_ (14, Rows.any-gone (Syntax.tyInt Syntax.w64)) (List._∷_ (15, Rows.any-gone (Syntax.tyInt Syntax.w64)) List.[])))))))))))))))
+        g47 = List._∷_ (0, Rows.whole (Declared.row Outcome.the-type)) (List._∷_ (1, Rows.any-gone (Syntax.tyStruct (List._∷_ 122 (List._∷_ 111 (List._∷_ 110 (List._∷_ 101 (List._∷_ 115 (List._∷_ 58 (List._∷_ 58 (List._∷_ 104 (List._∷_ 101 (List._∷_ 108 (List._∷_ 100 (List._∷_ 58 (List._∷_ 58 (List._∷_ 72 (List._∷_ 101 (List._∷_ 108 (List._∷_ 100 List.[]))))))))))))))))) (Syntax.tcons (Syntax.tyStruct (List._∷_ 112 (List._∷_ 121 (List._∷_ 114 (List._∷_ 97 (List._∷_ 109 (List._∷_ 105 (List._∷_ 100 (List._∷_ 58 (List._∷_ 58 (List._∷_ 83 (List._∷_ 116 (List._∷_ 97 (List._∷_ 116 (List._∷_ 101 List.[])))))))))))))) (Syntax.tcons (Syntax.tyInt Syntax.w32) (Syntax.tcons (Syntax.tyInt Syntax.w32) (Syntax.tcons (Syntax.tyInt Syntax.w32) (Syntax.tcons (Syntax.tyInt Syntax.w32) (Syntax.tcons (Syntax.tyInt Syntax.w32) (Syntax.tcons (Syntax.tyArray (Syntax.tyInt Syntax.w32) 64) Syntax.tnil))))))) (Syntax.tcons (Syntax.tyInt Syntax.w64) (Syntax.tcons (Syntax.tyInt Syntax.w64) (Syntax.tcons (Syntax.tyInt Syntax.w64) (Syntax.tcons (Syntax.tyInt Syntax.w64) (Syntax.tcons (Syntax.tyInt Syntax.w64) (Syntax.tcons (Syntax.tyInt Syntax.w64) (Syntax.tcons Syntax.tyBool Syntax.tnil)))))))))) (List._∷_ (2, Rows.any-gone (Syntax.tyStruct (List._∷_ 115 (List._∷_ 99 (List._∷_ 114 (List._∷_ 105 (List._∷_ 112 (List._∷_ 116 (List._∷_ 58 (List._∷_ 58 (List._∷_ 115 (List._∷_ 99 (List._∷_ 97 (List._∷_ 110 (List._∷_ 58 (List._∷_ 58 (List._∷_ 76 (List._∷_ 105 (List._∷_ 110 (List._∷_ 101 List.[])))))))))))))))))) (Syntax.tcons (Syntax.tyInt Syntax.w32) (Syntax.tcons (Syntax.tyInt Syntax.w64) (Syntax.tcons (Syntax.tyInt Syntax.w64) (Syntax.tcons (Syntax.tyInt Syntax.w64) (Syntax.tcons (Syntax.tyInt Syntax.w64) Syntax.tnil))))))) (List._∷_ (3, Rows.sslice (Referent.rtF (Referent.fInt Syntax.w32)) (Syntax.tyRef (Syntax.named 0) Syntax.imm (Syntax.tyInt Syntax.w32)) 0) (List._∷_ (4, Mut.mslice (Referent.rtF (Referent.fInt Syntax.w32)) (Syntax.tyRef (Syntax.named 1) Syntax.mut (Syntax.tyInt Syntax.w32)) 1) (List._∷_ (5, Mut.mslice (Referent.rtF (Referent.fInt Syntax.w32)) (Syntax.tyRef (Syntax.named 2) Syntax.mut (Syntax.tyInt Syntax.w32)) 2) (List._∷_ (6, Mut.mslice (Referent.rtF (Referent.fInt Syntax.w32)) (Syntax.tyRef (Syntax.named 3) Syntax.mut (Syntax.tyInt Syntax.w32)) 3) (List._∷_ (7, Part.mslice-owedP Cell.R (Syntax.tyRef (Syntax.named 4) Syntax.mut Cell.behind) 4 9 (Row.lease (κs .1 .1 .1 .1 .0) (qs .1 .1 .1 .1 .0))) (List._∷_ (8, Part.mslice-owedP Cell.R (Syntax.tyRef (Syntax.named 5) Syntax.mut Cell.behind) 5 10 (Row.lease (κs .1 .1 .1 .1 .1 .0) (qs .1 .1 .1 .1 .1 .0))) (List._∷_ (9, Rows.any-gone (Syntax.tyStruct (List._∷_ 112 (List._∷_ 121 (List._∷_ 114 (List._∷_ 97 (List._∷_ 109 (List._∷_ 105 (List._∷_ 100 (List._∷_ 58 (List._∷_ 58 (List._∷_ 83 (List._∷_ 116 (List._∷_ 97 (List._∷_ 116 (List._∷_ 101 List.[])))))))))))))) (Syntax.tcons (Syntax.tyInt Syntax.w32) (Syntax.tcons (Syntax.tyInt Syntax.w32) (Syntax.tcons (Syntax.tyInt Syntax.w32) (Syntax.tcons (Syntax.tyInt Syntax.w32) (Syntax.tcons (Syntax.tyInt Syntax.w32) (Syntax.tcons (Syntax.tyArray (Syntax.tyInt Syntax.w32) 64) Syntax.tnil)))))))) (List._∷_ (10, Rows.any-gone (Syntax.tyInt Syntax.w64)) (List._∷_ (11, Rows.any-gone (Syntax.tyInt Syntax.w64)) (List._∷_ (12, Rows.any-gone (Syntax.tyInt Syntax.w64)) (List._∷_ (13, Rows.any-gone (Syntax.tyInt Syntax.w64)) (List._∷_ (14, Rows.any-gone (Syntax.tyInt Syntax.w64)) (List._∷_ (15, Rows.any-gone (Syntax.tyInt Syntax.w64)) List.[])))))))))))))))
 
         abbrev g49 : List.List Row.Entry
-        g49 = List._∷_ (0, Rows.whole (Declared.row Outcome.the-type)) (List._∷_ (1, Rows.any-gone (Syntax.tyStruct (List._∷_ 122 (List._∷_ 111 (List._∷_ 110 (List._∷_ 101 (List._∷_ 115 (List._∷_ 58 (List._∷_ 58 (List._∷_ 104 (List._∷_ 101 (List._∷_ 108 (List._∷_ 100 (List._∷_ 58 (List._∷_ 58 (List._∷_ 72 (List._∷_ 101 (List._∷_ 108 (List._∷_ 100 List.[]))))))))))))))))) (Syntax.tcons (Syntax.tyStruct (List._∷_ 112 (List._∷_ 121 (List._∷_ 114 (List._∷_ 97 (List._∷_ 109 (List._∷_ 105 (List._∷_ 100 (List._∷_ 58 (List._∷_ 58 (List._∷_ 83 (List._∷_ 116 (List._∷_ 97 (List._∷_ 116 (List._∷_ 101 List.[])))))))))))))) (Syntax.tcons (Syntax.tyInt Syntax.w32) (Syntax.tcons (Syntax.tyInt Syntax.w32) (Syntax.tcons (Syntax.tyInt Syntax.w32) (Syntax.tcons (Syntax.tyInt Syntax.w32) (Syntax.tcons (Syntax.tyInt Syntax.w32) (Syntax.tcons (Syntax.tyArray (Syntax.tyInt Syntax.w32) 64) Syntax.tnil))))))) (Syntax.tcons (Syntax.tyInt Syntax.w64) (Syntax.tcons (Syntax.tyInt Syntax.w64) (Syntax.tcons (Syntax.tyInt Syntax.w64) (Syntax.tcons (Syntax.tyInt Syntax.w64) (Syntax.tcons (Syntax.tyInt Syntax.w64) (Syntax.tcons (Syntax.tyInt Syntax.w64) (Syntax.tcons Syntax.tyBool Syntax.tnil)))))))))) (List._∷_ (2, Rows.any-gone (Syntax.tyStruct (List._∷_ 122 (List._∷_ 111 (List._∷_ 110 (List._∷_ 101 (List._∷_ 115 (List._∷_ 58 (List._∷_ 58 (List._∷_ 115 (List._∷_ 99 (List._∷_ 97 (List._∷_ 110 (List._∷_ 58 (List._∷_ 58 (List._∷_ 76 (List._∷_ 105 (List._∷_ 110 (List._∷_ 101 List.[]))))))))))))))))) (Syntax.tcons (Syntax.tyInt Syntax.w32) (Syntax.tcons (Syntax.tyInt Syntax.w64) (Syntax.tcons (Syntax.tyInt Syntax.w64) (Syntax.tcons (Syntax.tyInt Syntax.w64) (Syntax.tcons (Syntax.tyInt Syntax.w64) Syntax.tnil))))))) (List._∷_ (3, Rows.sslice (Referent.rtF (Referent.fInt Syntax.w32)) (Syntax.tyRef (Syntax.named 0) Syntax.imm (Syntax.tyInt Syntax.w32)) 0) (List._∷_ (4, Mut.mslice (Referent.rtF (Referent.fInt Syntax.w32)) (Syntax.tyRef (Syntax.named 1) Syntax.mut (Syntax.tyInt Syntax.w32)) 1) (List._∷_ (5, Mut.mslice (Referent.rtF (Referent.fInt Syntax.w32)) (Syntax.tyRef (Syntax.named 2) Syntax.mut (Syntax.tyInt Syntax.w32)) 2) (List._∷_ (6, Mut.mslice (Referent.rtF (Referent.fInt Syntax.w32)) (Syntax.tyRef (Syntax.named 3) Syntax.mut (Syntax.tyInt Syntax.w32)) 3) (List._∷_ (7, Mut.mslice Cell.R (Syntax.tyRef (Syntax.named 4) Syntax.mut Cell.behind) 4) (List._∷_ (8, Part.mslice-owedP Cell.R (Syntax.tyRef (Syntax.named 5) Syntax.mut Cell.behind) 5 10 (Row.lease (κs .1 .1 .1 .1 .1 .0) (qs .1 .1 .1 .1 .1 .0))) (List._∷_ (9, Rows.any-gone (Syntax.tyStruct (List._∷_ 112 (List._∷_ 121 (List._∷_ 114 (List._∷_ 97 (List._∷_ 109 (List._∷_ 105 (List._∷_ 100 (List._∷_ 58 (List._∷_ 58 (List._∷_ 83 (List._∷_ 116 (List._∷_ 97 (List._∷_ 116 (List._∷_ 101 List.[])))))))))))))) (Syntax.tcons (Syntax.tyInt Syntax.w32) (Syntax.tcons (Syntax.tyInt Syntax.w32) (Syntax.tcons (Syntax.tyInt Syntax.w32) (Syntax.tcons (Syntax.tyInt Syntax.w32) (Syntax.tcons (Syntax.tyInt Syntax.w32) (Syntax.tcons (Syntax.tyArray (Syntax.tyInt Syntax.w32) 64) Syntax.tnil)))))))) (List._∷_ (10, Rows.any-gone (Syntax.tyInt Syntax.w64)) (List._∷_ (11, Rows.any-gone (Syntax.tyInt Syntax.w64)) (List._∷_ (12, Rows.any-gone (Syntax.tyInt Syntax.w64)) (List._∷_ (13, Rows.any-gone (Syntax.tyInt Syntax.w64)) (List._∷_ (14, Rows.any-gone (Syntax.tyInt Syntax.w64)) (List._∷_ (15, Rows.any-gone (Syntax.tyInt Syntax.w64)) List.[])))))))))))))))
+        g49 = List._∷_ (0, Rows.whole (Declared.row Outcome.the-type)) (List._∷_ (1, Rows.any-gone (Syntax.tyStruct (List._∷_ 122 (List._∷_ 111 (List._∷_ 110 (List._∷_ 101 (List._∷_ 115 (List._∷_ 58 (List._∷_ 58 (List._∷_ 104 (List._∷_ 101 (List._∷_ 108 (List._∷_ 100 (List._∷_ 58 (List._∷_ 58 (List._∷_ 72 (List._∷_ 101 (List._∷_ 108 (List._∷_ 100 List.[]))))))))))))))))) (Syntax.tcons (Syntax.tyStruct (List._∷_ 112 (List._∷_ 121 (List._∷_ 114 (List._∷_ 97 (List._∷_ 109 (List._∷_ 105 (List._∷_ 100 (List._∷_ 58 (List._∷_ 58 (List._∷_ 83 (List._∷_ 116 (List._∷_ 97 (List._∷_ 116 (List._∷_ 101 List.[])))))))))))))) (Syntax.tcons (Syntax.tyInt Syntax.w32) (Syntax.tcons (Syntax.tyInt Syntax.w32) (Syntax.tcons (Syntax.tyInt Syntax.w32) (Syntax.tcons (Syntax.tyInt Syntax.w32) (Syntax.tcons (Syntax.tyInt Syntax.w32) (Syntax.tcons (Syntax.tyArray (Syntax.tyInt Syntax.w32) 64) Syntax.tnil))))))) (Syntax.tcons (Syntax.tyInt Syntax.w64) (Syntax.tcons (Syntax.tyInt Syntax.w64) (Syntax.tcons (Syntax.tyInt Syntax.w64) (Syntax.tcons (Syntax.tyInt Syntax.w64) (Syntax.tcons (Syntax.tyInt Syntax.w64) (Syntax.tcons (Syntax.tyInt Syntax.w64) (Syntax.tcons Syntax.tyBool Syntax.tnil)))))))))) (List._∷_ (2, Rows.any-gone (Syntax.tyStruct (List._∷_ 115 (List._∷_ 99 (List._∷_ 114 (List._∷_ 105 (List._∷_ 112 (List._∷_ 116 (List._∷_ 58 (List._∷_ 58 (List._∷_ 115 (List._∷_ 99 (List._∷_ 97 (List._∷_ 110 (List._∷_ 58 (List._∷_ 58 (List._∷_ 76 (List._∷_ 105 (List._∷_ 110 (List._∷_ 101 List.[])))))))))))))))))) (Syntax.tcons (Syntax.tyInt Syntax.w32) (Syntax.tcons (Syntax.tyInt Syntax.w64) (Syntax.tcons (Syntax.tyInt Syntax.w64) (Syntax.tcons (Syntax.tyInt Syntax.w64) (Syntax.tcons (Syntax.tyInt Syntax.w64) Syntax.tnil))))))) (List._∷_ (3, Rows.sslice (Referent.rtF (Referent.fInt Syntax.w32)) (Syntax.tyRef (Syntax.named 0) Syntax.imm (Syntax.tyInt Syntax.w32)) 0) (List._∷_ (4, Mut.mslice (Referent.rtF (Referent.fInt Syntax.w32)) (Syntax.tyRef (Syntax.named 1) Syntax.mut (Syntax.tyInt Syntax.w32)) 1) (List._∷_ (5, Mut.mslice (Referent.rtF (Referent.fInt Syntax.w32)) (Syntax.tyRef (Syntax.named 2) Syntax.mut (Syntax.tyInt Syntax.w32)) 2) (List._∷_ (6, Mut.mslice (Referent.rtF (Referent.fInt Syntax.w32)) (Syntax.tyRef (Syntax.named 3) Syntax.mut (Syntax.tyInt Syntax.w32)) 3) (List._∷_ (7, Mut.mslice Cell.R (Syntax.tyRef (Syntax.named 4) Syntax.mut Cell.behind) 4) (List._∷_ (8, Part.mslice-owedP Cell.R (Syntax.tyRef (Syntax.named 5) Syntax.mut Cell.behind) 5 10 (Row.lease (κs .1 .1 .1 .1 .1 .0) (qs .1 .1 .1 .1 .1 .0))) (List._∷_ (9, Rows.any-gone (Syntax.tyStruct (List._∷_ 112 (List._∷_ 121 (List._∷_ 114 (List._∷_ 97 (List._∷_ 109 (List._∷_ 105 (List._∷_ 100 (List._∷_ 58 (List._∷_ 58 (List._∷_ 83 (List._∷_ 116 (List._∷_ 97 (List._∷_ 116 (List._∷_ 101 List.[])))))))))))))) (Syntax.tcons (Syntax.tyInt Syntax.w32) (Syntax.tcons (Syntax.tyInt Syntax.w32) (Syntax.tcons (Syntax.tyInt Syntax.w32) (Syntax.tcons (Syntax.tyInt Syntax.w32) (Syntax.tcons (Syntax.tyInt Syntax.w32) (Syntax.tcons (Syntax.tyArray (Syntax.tyInt Syntax.w32) 64) Syntax.tnil)))))))) (List._∷_ (10, Rows.any-gone (Syntax.tyInt Syntax.w64)) (List._∷_ (11, Rows.any-gone (Syntax.tyInt Syntax.w64)) (List._∷_ (12, Rows.any-gone (Syntax.tyInt Syntax.w64)) (List._∷_ (13, Rows.any-gone (Syntax.tyInt Syntax.w64)) (List._∷_ (14, Rows.any-gone (Syntax.tyInt Syntax.w64)) (List._∷_ (15, Rows.any-gone (Syntax.tyInt Syntax.w64)) List.[])))))))))))))))
 
         abbrev G0 : Row.Cx
         G0 = record { locals = List._++_ t0 t1; slots = List._∷_ (Row.lease (κs .0) (qs .0)) (List._∷_ (Row.lease (κs .1 .0) (qs .1 .0)) (List._∷_ (Row.lease (κs .1 .1 .0) (qs .1 .1 .0)) (List._∷_ (Row.lease (κs .1 .1 .1 .0) (qs .1 .1 .1 .0)) (List._∷_ (Row.lease (κs .1 .1 .1 .1 .0) (qs .1 .1 .1 .1 .0)) (List._∷_ (Row.lease (κs .1 .1 .1 .1 .1 .0) (qs .1 .1 .1 .1 .1 .0)) (List._∷_ Row.off (List._∷_ Row.off (List._∷_ Row.off (List._∷_ Row.off (List._∷_ Row.off List.[])))))))))) }
@@ -1215,13 +1215,13 @@ module _ (claims· : Claims) where
           d26 = Typed.g-pre 𝓤 H A W 𝓣 E G37 G38 b22 Δ0 (Typed.pass T37 T38 (s36 bs)) (at25 bs) (Scalar.g-room 𝓤 H A W E G37 9 (Syntax.tyStruct (List._∷_ 112 (List._∷_ 121 (List._∷_ 114 (List._∷_ 97 (List._∷_ 109 (List._∷_ 105 (List._∷_ 100 (List._∷_ 58 (List._∷_ 58 (List._∷_ 83 (List._∷_ 116 (List._∷_ 97 (List._∷_ 116 (List._∷_ 101 List.[])))))))))))))) (Syntax.tcons (Syntax.tyInt Syntax.w32) (Syntax.tcons (Syntax.tyInt Syntax.w32) (Syntax.tcons (Syntax.tyInt Syntax.w32) (Syntax.tcons (Syntax.tyInt Syntax.w32) (Syntax.tcons (Syntax.tyInt Syntax.w32) (Syntax.tcons (Syntax.tyArray (Syntax.tyInt Syntax.w32) 64) Syntax.tnil))))))) (Local.room-whole 𝓤 H A W (Declared.row State.the-type) (Syntax.tyStruct (List._∷_ 112 (List._∷_ 121 (List._∷_ 114 (List._∷_ 97 (List._∷_ 109 (List._∷_ 105 (List._∷_ 100 (List._∷_ 58 (List._∷_ 58 (List._∷_ 83 (List._∷_ 116 (List._∷_ 97 (List._∷_ 116 (List._∷_ 101 List.[])))))))))))))) (Syntax.tcons (Syntax.tyInt Syntax.w32) (Syntax.tcons (Syntax.tyInt Syntax.w32) (Syntax.tcons (Syntax.tyInt Syntax.w32) (Syntax.tcons (Syntax.tyInt Syntax.w32) (Syntax.tcons (Syntax.tyInt Syntax.w32) (Syntax.tcons (Syntax.tyArray (Syntax.tyInt Syntax.w32) 64) Syntax.tnil))))))) Path'.refl)) d25
 
           d27 : Typed.Typed 𝓤 H A 𝓣 E G36 b22 Δ0 (at27 bs)
-          d27 = Typed.g-pre 𝓤 H A W 𝓣 E G36 G37 b22 Δ0 (Typed.pass T36 T37 (s35 bs)) (at26 bs) (Scalar.g-room 𝓤 H A W E G36 2 (Syntax.tyStruct (List._∷_ 122 (List._∷_ 111 (List._∷_ 110 (List._∷_ 101 (List._∷_ 115 (List._∷_ 58 (List._∷_ 58 (List._∷_ 115 (List._∷_ 99 (List._∷_ 97 (List._∷_ 110 (List._∷_ 58 (List._∷_ 58 (List._∷_ 76 (List._∷_ 105 (List._∷_ 110 (List._∷_ 101 List.[]))))))))))))))))) (Syntax.tcons (Syntax.tyInt Syntax.w32) (Syntax.tcons (Syntax.tyInt Syntax.w64) (Syntax.tcons (Syntax.tyInt Syntax.w64) (Syntax.tcons (Syntax.tyInt Syntax.w64) (Syntax.tcons (Syntax.tyInt Syntax.w64) Syntax.tnil)))))) (Local.room-whole 𝓤 H A W (Declared.row Line.the-type) (Syntax.tyStruct (List._∷_ 122 (List._∷_ 111 (List._∷_ 110 (List._∷_ 101 (List._∷_ 115 (List._∷_ 58 (List._∷_ 58 (List._∷_ 115 (List._∷_ 99 (List._∷_ 97 (List._∷_ 110 (List._∷_ 58 (List._∷_ 58 (List._∷_ 76 (List._∷_ 105 (List._∷_ 110 (List._∷_ 101 List.[]))))))))))))))))) (Syntax.tcons (Syntax.tyInt Syntax.w32) (Syntax.tcons (Syntax.tyInt Syntax.w64) (Syntax.tcons (Syntax.tyInt Syntax.w64) (Syntax.tcons (Syntax.tyInt Syntax.w64) (Syntax.tcons (Syntax.tyInt Syntax.w64) Syntax.tnil)))))) Path'.refl)) d26
+          d27 = Typed.g-pre 𝓤 H A W 𝓣 E G36 G37 b22 Δ0 (Typed.pass T36 T37 (s35 bs)) (at26 bs) (Scalar.g-room 𝓤 H A W E G36 2 (Syntax.tyStruct (List._∷_ 115 (List._∷_ 99 (List._∷_ 114 (List._∷_ 105 (List._∷_ 112 (List._∷_ 116 (List._∷_ 58 (List._∷_ 58 (List._∷_ 115 (List._∷_ 99 (List._∷_ 97 (List._∷_ 110 (List._∷_ 58 (List._∷_ 58 (List._∷_ 76 (List._∷_ 105 (List._∷_ 110 (List._∷_ 101 List.[])))))))))))))))))) (Syntax.tcons (Syntax.tyInt Syntax.w32) (Syntax.tcons (Syntax.tyInt Syntax.w64) (Syntax.tcons (Syntax.tyInt Syntax.w64) (Syntax.tcons (Syntax.tyInt Syntax.w64) (Syntax.tcons (Syntax.tyInt Syntax.w64) Syntax.tnil)))))) (Local.room-whole 𝓤 H A W (Declared.row Line.the-type) (Syntax.tyStruct (List._∷_ 115 (List._∷_ 99 (List._∷_ 114 (List._∷_ 105 (List._∷_ 112 (List._∷_ 116 (List._∷_ 58 (List._∷_ 58 (List._∷_ 115 (List._∷_ 99 (List._∷_ 97 (List._∷_ 110 (List._∷_ 58 (List._∷_ 58 (List._∷_ 76 (List._∷_ 105 (List._∷_ 110 (List._∷_ 101 List.[])))))))))))))))))) (Syntax.tcons (Syntax.tyInt Syntax.w32) (Syntax.tcons (Syntax.tyInt Syntax.w64) (Syntax.tcons (Syntax.tyInt Syntax.w64) (Syntax.tcons (Syntax.tyInt Syntax.w64) (Syntax.tcons (Syntax.tyInt Syntax.w64) Syntax.tnil)))))) Path'.refl)) d26
 
           d28 : Typed.Typed 𝓤 H A 𝓣 E G35 b22 Δ0 (at28 bs)
           d28 = Typed.g-pre 𝓤 H A W 𝓣 E G35 G36 b22 Δ0 (Typed.pass T35 T36 (s34 bs)) (at27 bs) (Scalar.g-room 𝓤 H A W E G35 19 (Syntax.tyStruct (List._∷_ 38 (List._∷_ 91 (List._∷_ 93 List.[]))) (Syntax.tcons (Syntax.tyRef Syntax.erased Syntax.imm (Syntax.tyInt Syntax.w32)) (Syntax.tcons (Syntax.tyInt Syntax.w64) Syntax.tnil))) (Shared.room-sslice 𝓤 H A W (Referent.rtF (Referent.fInt Syntax.w32)) (Syntax.tyRef Syntax.erased Syntax.imm (Syntax.tyInt Syntax.w32)) 0)) d27
 
           d29 : Typed.Typed 𝓤 H A 𝓣 E G34 b23 Δ0 (at29 bs)
-          d29 = Typed.s-seq 𝓤 H A W 𝓣 E G34 G35 b21 b22 Δ0 (Typed.both (s33 bs)) (at28 bs) (Plain.t-call-plain 𝓤 H A W 𝓣 6 ps·1 r·1 (claims· .2) (claims· .3) "zones::sheet_calls::handed_with" (known .1) E (λ pos β. β) G34 (record { pos = 9; st = List.[]; d = 0; at = λ x. x }, (Num.vFld 2 (List._∷_ (Syntax.field 0) List.[]) 0 λ x. Line.struct .as-values x .0, (Num.vAt 17 λ x. x, (record { pos = 19; ty = Syntax.tyRef Syntax.erased Syntax.imm (Syntax.tyInt Syntax.w32); ref = λ x. x }, (record { pos = 21; ty = Syntax.tyRef Syntax.erased Syntax.mut (Syntax.tyInt Syntax.w32); ref = λ x. x }, (record { pos = 23; ty = Syntax.tyRef Syntax.erased Syntax.mut (Syntax.tyInt Syntax.w32); ref = λ x. x }, (record { pos = 25; ty = Syntax.tyRef Syntax.erased Syntax.mut (Syntax.tyInt Syntax.w32); ref = λ x. x }, (record { pos = 27; ty = Syntax.tyRef Syntax.erased Syntax.mut Cell.behind; ref = λ x. x }, (record { pos = 29; ty = Syntax.tyRef Syntax.erased Syntax.mut Cell.behind; ref = λ x. x }, tt))))))))) 0 (List._∷_ 0 (List._∷_ 6 (List._∷_ 7 (List._∷_ 8 (List._∷_ 9 (List._∷_ 10 List.[])))))) (Call.sub-id 𝓤 H A W (G34 .slots)) ((Yields.yields-copy 𝓤 H A W (λ ρ. Unit) (Declared.row State.the-type) Path'.refl (Copies.cStruct State.the-type Laws'.the-laws Laws'.the-copy .copy 𝓤 H A W) (Rows.whole (Declared.row State.the-type)) (λ x. x) (λ x. x) (λ ρ told. Local.mem-whole 𝓤 H A W (Declared.row State.the-type) ρ) λ ρ told. Local.whole-mem 𝓤 H A W (Declared.row State.the-type) ρ, Path'.refl), ((Reads.reads-field 𝓤 H A W Line.the-type Laws'3.the-laws 0 (Syntax.tyInt Syntax.w32) 0 Path'.refl, Path'.refl), ((Scalar.reads-sc 𝓤 H A W (Row.sInt Syntax.w32), Path'.refl), (ShrSlice.spares-sslice 𝓤 H A W (Referent.rtF (Referent.fInt Syntax.w32)) (Syntax.tyRef Syntax.erased Syntax.imm (Syntax.tyInt Syntax.w32)) 0, Shared.reads-sslice 𝓤 H A W (Referent.rtF (Referent.fInt Syntax.w32)) (Syntax.tyRef Syntax.erased Syntax.imm (Syntax.tyInt Syntax.w32)) 0, Path'.refl, (Reads'.as-is 𝓤 H A (Mut.mslice (Referent.rtF (Referent.fInt Syntax.w32)) (Syntax.tyRef Syntax.erased Syntax.mut (Syntax.tyInt Syntax.w32)) 6), Mut.reads-mslice 𝓤 H A W (Referent.rtF (Referent.fInt Syntax.w32)) (Syntax.tyRef Syntax.erased Syntax.mut (Syntax.tyInt Syntax.w32)) 6, Path'.refl, (Reads'.as-is 𝓤 H A (Mut.mslice (Referent.rtF (Referent.fInt Syntax.w32)) (Syntax.tyRef Syntax.erased Syntax.mut (Syntax.tyInt Syntax.w32)) 7), Mut.reads-mslice 𝓤 H A W (Referent.rtF (Referent.fInt Syntax.w32)) (Syntax.tyRef Syntax.erased Syntax.mut (Syntax.tyInt Syntax.w32)) 7, Path'.refl, (Reads'.as-is 𝓤 H A (Mut.mslice (Referent.rtF (Referent.fInt Syntax.w32)) (Syntax.tyRef Syntax.erased Syntax.mut (Syntax.tyInt Syntax.w32)) 8), Mut.reads-mslice 𝓤 H A W (Referent.rtF (Referent.fInt Syntax.w32)) (Syntax.tyRef Syntax.erased Syntax.mut (Syntax.tyInt Syntax.w32)) 8, Path'.refl, (Reads'.as-is 𝓤 H A (Mut.mslice Cell.R (Syntax.tyRef Syntax.erased Syntax.mut Cell.behind) 9), Mut.reads-mslice 𝓤 H A W Cell.R (Syntax.tyRef Syntax.erased Syntax.mut Cell.behind) 9, Path'.refl, (Reads'.as-is 𝓤 H A (Mut.mslice Cell.R (Syntax.tyRef Syntax.erased Syntax.mut Cell.behind) 10), Mut.reads-mslice 𝓤 H A W Cell.R (Syntax.tyRef Syntax.erased Syntax.mut Cell.behind) 10, Path'.refl, tt))))))))) (Reads'.room-gone 𝓤 H A (Syntax.tyStruct (List._∷_ 112 (List._∷_ 121 (List._∷_ 114 (List._∷_ 97 (List._∷_ 109 (List._∷_ 105 (List._∷_ 100 (List._∷_ 58 (List._∷_ 58 (List._∷_ 79 (List._∷_ 117 (List._∷_ 116 (List._∷_ 99 (List._∷_ 111 (List._∷_ 109 (List._∷_ 101 List.[])))))))))))))))) (Syntax.tcons (Syntax.tyStruct (List._∷_ 112 (List._∷_ 121 (List._∷_ 114 (List._∷_ 97 (List._∷_ 109 (List._∷_ 105 (List._∷_ 100 (List._∷_ 58 (List._∷_ 58 (List._∷_ 83 (List._∷_ 116 (List._∷_ 97 (List._∷_ 116 (List._∷_ 101 List.[])))))))))))))) (Syntax.tcons (Syntax.tyInt Syntax.w32) (Syntax.tcons (Syntax.tyInt Syntax.w32) (Syntax.tcons (Syntax.tyInt Syntax.w32) (Syntax.tcons (Syntax.tyInt Syntax.w32) (Syntax.tcons (Syntax.tyInt Syntax.w32) (Syntax.tcons (Syntax.tyArray (Syntax.tyInt Syntax.w32) 64) Syntax.tnil))))))) (Syntax.tcons (Syntax.tyEnum (List._∷_ 100 (List._∷_ 97 (List._∷_ 114 (List._∷_ 116 (List._∷_ 115 (List._∷_ 58 (List._∷_ 58 (List._∷_ 65 (List._∷_ 110 (List._∷_ 115 (List._∷_ 119 (List._∷_ 101 (List._∷_ 114 List.[]))))))))))))) (Syntax.ttcons (Syntax.tcons (Syntax.tyInt Syntax.w64) Syntax.tnil) (Syntax.ttcons Syntax.tnil (Syntax.ttcons (Syntax.tcons (Syntax.tyInt Syntax.w64) Syntax.tnil) (Syntax.ttcons (Syntax.tcons (Syntax.tyInt Syntax.w64) (Syntax.tcons (Syntax.tyInt Syntax.w64) Syntax.tnil)) (Syntax.ttcons Syntax.tnil (Syntax.ttcons Syntax.tnil (Syntax.ttcons Syntax.tnil (Syntax.ttcons (Syntax.tcons (Syntax.tyInt Syntax.w64) Syntax.tnil) (Syntax.ttcons (Syntax.tcons (Syntax.tyInt Syntax.w64) Syntax.tnil) (Syntax.ttcons (Syntax.tcons (Syntax.tyInt Syntax.w64) Syntax.tnil) (Syntax.ttcons (Syntax.tcons (Syntax.tyInt Syntax.w64) Syntax.tnil) (Syntax.ttcons (Syntax.tcons (Syntax.tyInt Syntax.w64) Syntax.tnil) (Syntax.ttcons (Syntax.tcons (Syntax.tyInt Syntax.w64) Syntax.tnil) (Syntax.ttcons (Syntax.tcons (Syntax.tyInt Syntax.w64) Syntax.tnil) (Syntax.ttcons Syntax.tnil (Syntax.ttcons Syntax.tnil (Syntax.ttcons (Syntax.tcons (Syntax.tyInt Syntax.w64) Syntax.tnil) Syntax.ttnil)))))))))))))))))) Syntax.tnil)))) (tt, (tt, (tt, (tt, (tt, (tt, tt)))))) Path'.refl) d28
+          d29 = Typed.s-seq 𝓤 H A W 𝓣 E G34 G35 b21 b22 Δ0 (Typed.both (s33 bs)) (at28 bs) (Plain.t-call-plain 𝓤 H A W 𝓣 6 ps·1 r·1 (claims· .2) (claims· .3) "zones::sheet_calls::handed_with" (known .1) E (λ pos β. β) G34 (record { pos = 9; st = List.[]; d = 0; at = λ x. x }, (Num.vFld 2 (List._∷_ (Syntax.field 0) List.[]) 0 λ x. Line.struct .as-values x .0, (Num.vAt 17 λ x. x, (record { pos = 19; ty = Syntax.tyRef Syntax.erased Syntax.imm (Syntax.tyInt Syntax.w32); ref = λ x. x }, (record { pos = 21; ty = Syntax.tyRef Syntax.erased Syntax.mut (Syntax.tyInt Syntax.w32); ref = λ x. x }, (record { pos = 23; ty = Syntax.tyRef Syntax.erased Syntax.mut (Syntax.tyInt Syntax.w32); ref = λ x. x }, (record { pos = 25; ty = Syntax.tyRef Syntax.erased Syntax.mut (Syntax.tyInt Syntax.w32); ref = λ x. x }, (record { pos = 27; ty = Syntax.tyRef Syntax.erased Syntax.mut Cell.behind; ref = λ x. x }, (record { pos = 29; ty = Syntax.tyRef Syntax.erased Syntax.mut Cell.behind; ref = λ x. x }, tt))))))))) 0 (List._∷_ 0 (List._∷_ 6 (List._∷_ 7 (List._∷_ 8 (List._∷_ 9 (List._∷_ 10 List.[])))))) (Call.sub-id 𝓤 H A W (G34 .slots)) ((Yields.yields-copy 𝓤 H A W (λ ρ. Unit) (Declared.row State.the-type) Path'.refl (Copies.cStruct State.the-type Laws'.the-laws Laws'.the-copy .copy 𝓤 H A W) (Rows.whole (Declared.row State.the-type)) (λ x. x) (λ x. x) (λ ρ told. Local.mem-whole 𝓤 H A W (Declared.row State.the-type) ρ) λ ρ told. Local.whole-mem 𝓤 H A W (Declared.row State.the-type) ρ, Path'.refl), ((Reads.reads-field 𝓤 H A W Line.the-type Laws''.the-laws 0 (Syntax.tyInt Syntax.w32) 0 Path'.refl, Path'.refl), ((Scalar.reads-sc 𝓤 H A W (Row.sInt Syntax.w32), Path'.refl), (ShrSlice.spares-sslice 𝓤 H A W (Referent.rtF (Referent.fInt Syntax.w32)) (Syntax.tyRef Syntax.erased Syntax.imm (Syntax.tyInt Syntax.w32)) 0, Shared.reads-sslice 𝓤 H A W (Referent.rtF (Referent.fInt Syntax.w32)) (Syntax.tyRef Syntax.erased Syntax.imm (Syntax.tyInt Syntax.w32)) 0, Path'.refl, (Reads'.as-is 𝓤 H A (Mut.mslice (Referent.rtF (Referent.fInt Syntax.w32)) (Syntax.tyRef Syntax.erased Syntax.mut (Syntax.tyInt Syntax.w32)) 6), Mut.reads-mslice 𝓤 H A W (Referent.rtF (Referent.fInt Syntax.w32)) (Syntax.tyRef Syntax.erased Syntax.mut (Syntax.tyInt Syntax.w32)) 6, Path'.refl, (Reads'.as-is 𝓤 H A (Mut.mslice (Referent.rtF (Referent.fInt Syntax.w32)) (Syntax.tyRef Syntax.erased Syntax.mut (Syntax.tyInt Syntax.w32)) 7), Mut.reads-mslice 𝓤 H A W (Referent.rtF (Referent.fInt Syntax.w32)) (Syntax.tyRef Syntax.erased Syntax.mut (Syntax.tyInt Syntax.w32)) 7, Path'.refl, (Reads'.as-is 𝓤 H A (Mut.mslice (Referent.rtF (Referent.fInt Syntax.w32)) (Syntax.tyRef Syntax.erased Syntax.mut (Syntax.tyInt Syntax.w32)) 8), Mut.reads-mslice 𝓤 H A W (Referent.rtF (Referent.fInt Syntax.w32)) (Syntax.tyRef Syntax.erased Syntax.mut (Syntax.tyInt Syntax.w32)) 8, Path'.refl, (Reads'.as-is 𝓤 H A (Mut.mslice Cell.R (Syntax.tyRef Syntax.erased Syntax.mut Cell.behind) 9), Mut.reads-mslice 𝓤 H A W Cell.R (Syntax.tyRef Syntax.erased Syntax.mut Cell.behind) 9, Path'.refl, (Reads'.as-is 𝓤 H A (Mut.mslice Cell.R (Syntax.tyRef Syntax.erased Syntax.mut Cell.behind) 10), Mut.reads-mslice 𝓤 H A W Cell.R (Syntax.tyRef Syntax.erased Syntax.mut Cell.behind) 10, Path'.refl, tt))))))))) (Reads'.room-gone 𝓤 H A (Syntax.tyStruct (List._∷_ 112 (List._∷_ 121 (List._∷_ 114 (List._∷_ 97 (List._∷_ 109 (List._∷_ 105 (List._∷_ 100 (List._∷_ 58 (List._∷_ 58 (List._∷_ 79 (List._∷_ 117 (List._∷_ 116 (List._∷_ 99 (List._∷_ 111 (List._∷_ 109 (List._∷_ 101 List.[])))))))))))))))) (Syntax.tcons (Syntax.tyStruct (List._∷_ 112 (List._∷_ 121 (List._∷_ 114 (List._∷_ 97 (List._∷_ 109 (List._∷_ 105 (List._∷_ 100 (List._∷_ 58 (List._∷_ 58 (List._∷_ 83 (List._∷_ 116 (List._∷_ 97 (List._∷_ 116 (List._∷_ 101 List.[])))))))))))))) (Syntax.tcons (Syntax.tyInt Syntax.w32) (Syntax.tcons (Syntax.tyInt Syntax.w32) (Syntax.tcons (Syntax.tyInt Syntax.w32) (Syntax.tcons (Syntax.tyInt Syntax.w32) (Syntax.tcons (Syntax.tyInt Syntax.w32) (Syntax.tcons (Syntax.tyArray (Syntax.tyInt Syntax.w32) 64) Syntax.tnil))))))) (Syntax.tcons (Syntax.tyEnum (List._∷_ 100 (List._∷_ 97 (List._∷_ 114 (List._∷_ 116 (List._∷_ 115 (List._∷_ 58 (List._∷_ 58 (List._∷_ 65 (List._∷_ 110 (List._∷_ 115 (List._∷_ 119 (List._∷_ 101 (List._∷_ 114 List.[]))))))))))))) (Syntax.ttcons (Syntax.tcons (Syntax.tyInt Syntax.w64) Syntax.tnil) (Syntax.ttcons Syntax.tnil (Syntax.ttcons (Syntax.tcons (Syntax.tyInt Syntax.w64) Syntax.tnil) (Syntax.ttcons (Syntax.tcons (Syntax.tyInt Syntax.w64) (Syntax.tcons (Syntax.tyInt Syntax.w64) Syntax.tnil)) (Syntax.ttcons Syntax.tnil (Syntax.ttcons Syntax.tnil (Syntax.ttcons Syntax.tnil (Syntax.ttcons (Syntax.tcons (Syntax.tyInt Syntax.w64) Syntax.tnil) (Syntax.ttcons (Syntax.tcons (Syntax.tyInt Syntax.w64) Syntax.tnil) (Syntax.ttcons (Syntax.tcons (Syntax.tyInt Syntax.w64) Syntax.tnil) (Syntax.ttcons (Syntax.tcons (Syntax.tyInt Syntax.w64) Syntax.tnil) (Syntax.ttcons (Syntax.tcons (Syntax.tyInt Syntax.w64) Syntax.tnil) (Syntax.ttcons (Syntax.tcons (Syntax.tyInt Syntax.w64) Syntax.tnil) (Syntax.ttcons (Syntax.tcons (Syntax.tyInt Syntax.w64) Syntax.tnil) (Syntax.ttcons Syntax.tnil (Syntax.ttcons Syntax.tnil (Syntax.ttcons (Syntax.tcons (Syntax.tyInt Syntax.w64) Syntax.tnil) Syntax.ttnil)))))))))))))))))) Syntax.tnil)))) (tt, (tt, (tt, (tt, (tt, (tt, tt)))))) Path'.refl) d28
 
           d30 : Typed.Typed 𝓤 H A 𝓣 E G33 b24 Δ0 (at30 bs)
           d30 = Typed.s-seq 𝓤 H A W 𝓣 E G33 G34 b20 b23 Δ0 (Typed.ask (s32 bs)) (at29 bs) (Relend.t-sl-aggregate 𝓤 H A W E Cell.R 𝓣 (Relend.asMut Cell.R) G33 28 29 10 (Syntax.tyRef Syntax.erased Syntax.mut Cell.behind) (Syntax.tyRef Syntax.erased Syntax.mut Cell.behind) (λ x. x) (Scalar.oAt 14 (Syntax.tyInt Syntax.w64) (Row.valS (Row.sInt Syntax.w64))) (Reads'.as-is 𝓤 H A (Relend.msptr Cell.R (Syntax.tyRef Syntax.erased Syntax.mut Cell.behind) 10)) (Reads'.room-gone 𝓤 H A (Syntax.tyStruct (List._∷_ 38 (List._∷_ 91 (List._∷_ 93 List.[]))) (Syntax.tcons (Syntax.tyRef Syntax.erased Syntax.mut Cell.behind) (Syntax.tcons (Syntax.tyInt Syntax.w64) Syntax.tnil)))) (Scalar.reads-sc 𝓤 H A W (Row.sInt Syntax.w64), Path'.refl) Path'.refl Path'.refl λ b o k. tt) d29
@@ -1287,28 +1287,28 @@ module _ (claims· : Claims) where
           d50 = Typed.s-seq 𝓤 H A W 𝓣 E G13 G14 b7 b36 Δ0 (Typed.ask (s12 bs)) (at49 bs) (Scalar.t-op2 𝓤 H A W E 𝓣 G13 Syntax.offset (Scalar.oFld 3 (List._∷_ (Syntax.field 0) List.[]) (Syntax.tyRef (Syntax.named 0) Syntax.imm (Syntax.tyInt Syntax.w32)) 0 Reads'.ptrVal) (Scalar.oInt Syntax.w64 0) 16 (Rows.sc-here Row.sPtr) Syntax.tyPtr (Row.valS Row.sPtr) (Row.sPtr .of) (Shared.reads-sslice-ptr 𝓤 H A W (Referent.rtF (Referent.fInt Syntax.w32)) (Syntax.tyRef (Syntax.named 0) Syntax.imm (Syntax.tyInt Syntax.w32)) 0 0 Path'.refl, Path'.refl) tt (Reads'.room-gone 𝓤 H A Syntax.tyPtr) (Scalar.holds-sc 𝓤 H A W Row.sPtr) Path'.refl (λ u. Path'.refl) λ u. tt) d49
 
           d51 : Typed.Typed 𝓤 H A 𝓣 E G12 b38 Δ0 (at51 bs)
-          d51 = Typed.s-seq 𝓤 H A W 𝓣 E G12 G13 b6 b37 Δ0 (Typed.both (s11 bs)) (at50 bs) (Plain.t-call-plain 𝓤 H A W 𝓣 0 ps·0 r·0 (claims· .0) (claims· .1) "zones::sizes::least" (known .0) E (λ pos β. β) G12 (Num.vFld 2 (List._∷_ (Syntax.field 1) List.[]) 8 λ x. Line.struct .as-values x .1 .0, (Num.vBig 32772, tt)) 15 List.[] (Call.sub-id 𝓤 H A W (G12 .slots)) ((Reads.reads-field 𝓤 H A W Line.the-type Laws'3.the-laws 1 (Syntax.tyInt Syntax.w64) 8 Path'.refl, Path'.refl), (record { lower = record { fits = Dec'.lit< tt } }, tt)) (Reads'.room-gone 𝓤 H A (Syntax.tyInt Syntax.w64)) tt Path'.refl) d50
+          d51 = Typed.s-seq 𝓤 H A W 𝓣 E G12 G13 b6 b37 Δ0 (Typed.both (s11 bs)) (at50 bs) (Plain.t-call-plain 𝓤 H A W 𝓣 0 ps·0 r·0 (claims· .0) (claims· .1) "script::sizes::least" (known .0) E (λ pos β. β) G12 (Num.vFld 2 (List._∷_ (Syntax.field 1) List.[]) 8 λ x. Line.struct .as-values x .1 .0, (Num.vBig 32772, tt)) 15 List.[] (Call.sub-id 𝓤 H A W (G12 .slots)) ((Reads.reads-field 𝓤 H A W Line.the-type Laws''.the-laws 1 (Syntax.tyInt Syntax.w64) 8 Path'.refl, Path'.refl), (record { lower = record { fits = Dec'.lit< tt } }, tt)) (Reads'.room-gone 𝓤 H A (Syntax.tyInt Syntax.w64)) tt Path'.refl) d50
 
           d52 : Typed.Typed 𝓤 H A 𝓣 E G11 b38 Δ0 (at52 bs)
           d52 = Typed.g-pre 𝓤 H A W 𝓣 E G11 G12 b38 Δ0 (Typed.pass T11 T12 (s10 bs)) (at51 bs) (Scalar.g-room 𝓤 H A W E G11 1 (Syntax.tyStruct (List._∷_ 122 (List._∷_ 111 (List._∷_ 110 (List._∷_ 101 (List._∷_ 115 (List._∷_ 58 (List._∷_ 58 (List._∷_ 104 (List._∷_ 101 (List._∷_ 108 (List._∷_ 100 (List._∷_ 58 (List._∷_ 58 (List._∷_ 72 (List._∷_ 101 (List._∷_ 108 (List._∷_ 100 List.[]))))))))))))))))) (Syntax.tcons (Syntax.tyStruct (List._∷_ 112 (List._∷_ 121 (List._∷_ 114 (List._∷_ 97 (List._∷_ 109 (List._∷_ 105 (List._∷_ 100 (List._∷_ 58 (List._∷_ 58 (List._∷_ 83 (List._∷_ 116 (List._∷_ 97 (List._∷_ 116 (List._∷_ 101 List.[])))))))))))))) (Syntax.tcons (Syntax.tyInt Syntax.w32) (Syntax.tcons (Syntax.tyInt Syntax.w32) (Syntax.tcons (Syntax.tyInt Syntax.w32) (Syntax.tcons (Syntax.tyInt Syntax.w32) (Syntax.tcons (Syntax.tyInt Syntax.w32) (Syntax.tcons (Syntax.tyArray (Syntax.tyInt Syntax.w32) 64) Syntax.tnil))))))) (Syntax.tcons (Syntax.tyInt Syntax.w64) (Syntax.tcons (Syntax.tyInt Syntax.w64) (Syntax.tcons (Syntax.tyInt Syntax.w64) (Syntax.tcons (Syntax.tyInt Syntax.w64) (Syntax.tcons (Syntax.tyInt Syntax.w64) (Syntax.tcons (Syntax.tyInt Syntax.w64) (Syntax.tcons Syntax.tyBool Syntax.tnil))))))))) (Local.room-whole 𝓤 H A W (Declared.row Held.the-type) (Syntax.tyStruct (List._∷_ 122 (List._∷_ 111 (List._∷_ 110 (List._∷_ 101 (List._∷_ 115 (List._∷_ 58 (List._∷_ 58 (List._∷_ 104 (List._∷_ 101 (List._∷_ 108 (List._∷_ 100 (List._∷_ 58 (List._∷_ 58 (List._∷_ 72 (List._∷_ 101 (List._∷_ 108 (List._∷_ 100 List.[]))))))))))))))))) (Syntax.tcons (Syntax.tyStruct (List._∷_ 112 (List._∷_ 121 (List._∷_ 114 (List._∷_ 97 (List._∷_ 109 (List._∷_ 105 (List._∷_ 100 (List._∷_ 58 (List._∷_ 58 (List._∷_ 83 (List._∷_ 116 (List._∷_ 97 (List._∷_ 116 (List._∷_ 101 List.[])))))))))))))) (Syntax.tcons (Syntax.tyInt Syntax.w32) (Syntax.tcons (Syntax.tyInt Syntax.w32) (Syntax.tcons (Syntax.tyInt Syntax.w32) (Syntax.tcons (Syntax.tyInt Syntax.w32) (Syntax.tcons (Syntax.tyInt Syntax.w32) (Syntax.tcons (Syntax.tyArray (Syntax.tyInt Syntax.w32) 64) Syntax.tnil))))))) (Syntax.tcons (Syntax.tyInt Syntax.w64) (Syntax.tcons (Syntax.tyInt Syntax.w64) (Syntax.tcons (Syntax.tyInt Syntax.w64) (Syntax.tcons (Syntax.tyInt Syntax.w64) (Syntax.tcons (Syntax.tyInt Syntax.w64) (Syntax.tcons (Syntax.tyInt Syntax.w64) (Syntax.tcons Syntax.tyBool Syntax.tnil))))))))) Path'.refl)) d51
 
           d53 : Typed.Typed 𝓤 H A 𝓣 E G10 b39 Δ0 (at53 bs)
-          d53 = Typed.s-seq 𝓤 H A W 𝓣 E G10 G11 b5 b38 Δ0 (Typed.pass T10 T11 (s9 bs)) (at52 bs) (Scalar.t-use 𝓤 H A W E 𝓣 G10 (Scalar.oFld 1 (List._∷_ (Syntax.field 5) List.[]) (Syntax.tyInt Syntax.w64) 312 (Reads.fieldV Held.the-type Laws''.the-laws 5)) 14 (Rows.sc-here (Row.sInt Syntax.w64)) (Syntax.tyInt Syntax.w64) (Row.valS (Row.sInt Syntax.w64)) (Row.sInt Syntax.w64 .of) (Reads.reads-field 𝓤 H A W Held.the-type Laws''.the-laws 5 (Syntax.tyInt Syntax.w64) 312 Path'.refl, Path'.refl) (Reads'.room-gone 𝓤 H A (Syntax.tyInt Syntax.w64)) (Scalar.holds-sc 𝓤 H A W (Row.sInt Syntax.w64)) Path'.refl (λ u. Path'.refl) λ u. tt) d52
+          d53 = Typed.s-seq 𝓤 H A W 𝓣 E G10 G11 b5 b38 Δ0 (Typed.pass T10 T11 (s9 bs)) (at52 bs) (Scalar.t-use 𝓤 H A W E 𝓣 G10 (Scalar.oFld 1 (List._∷_ (Syntax.field 5) List.[]) (Syntax.tyInt Syntax.w64) 312 (Reads.fieldV Held.the-type Laws'3.the-laws 5)) 14 (Rows.sc-here (Row.sInt Syntax.w64)) (Syntax.tyInt Syntax.w64) (Row.valS (Row.sInt Syntax.w64)) (Row.sInt Syntax.w64 .of) (Reads.reads-field 𝓤 H A W Held.the-type Laws'3.the-laws 5 (Syntax.tyInt Syntax.w64) 312 Path'.refl, Path'.refl) (Reads'.room-gone 𝓤 H A (Syntax.tyInt Syntax.w64)) (Scalar.holds-sc 𝓤 H A W (Row.sInt Syntax.w64)) Path'.refl (λ u. Path'.refl) λ u. tt) d52
 
           d54 : Typed.Typed 𝓤 H A 𝓣 E G9 b40 Δ0 (at54 bs)
-          d54 = Typed.s-seq 𝓤 H A W 𝓣 E G9 G10 b4 b39 Δ0 (Typed.pass T9 T10 (s8 bs)) (at53 bs) (Scalar.t-use 𝓤 H A W E 𝓣 G9 (Scalar.oFld 1 (List._∷_ (Syntax.field 4) List.[]) (Syntax.tyInt Syntax.w64) 304 (Reads.fieldV Held.the-type Laws''.the-laws 4)) 13 (Rows.sc-here (Row.sInt Syntax.w64)) (Syntax.tyInt Syntax.w64) (Row.valS (Row.sInt Syntax.w64)) (Row.sInt Syntax.w64 .of) (Reads.reads-field 𝓤 H A W Held.the-type Laws''.the-laws 4 (Syntax.tyInt Syntax.w64) 304 Path'.refl, Path'.refl) (Reads'.room-gone 𝓤 H A (Syntax.tyInt Syntax.w64)) (Scalar.holds-sc 𝓤 H A W (Row.sInt Syntax.w64)) Path'.refl (λ u. Path'.refl) λ u. tt) d53
+          d54 = Typed.s-seq 𝓤 H A W 𝓣 E G9 G10 b4 b39 Δ0 (Typed.pass T9 T10 (s8 bs)) (at53 bs) (Scalar.t-use 𝓤 H A W E 𝓣 G9 (Scalar.oFld 1 (List._∷_ (Syntax.field 4) List.[]) (Syntax.tyInt Syntax.w64) 304 (Reads.fieldV Held.the-type Laws'3.the-laws 4)) 13 (Rows.sc-here (Row.sInt Syntax.w64)) (Syntax.tyInt Syntax.w64) (Row.valS (Row.sInt Syntax.w64)) (Row.sInt Syntax.w64 .of) (Reads.reads-field 𝓤 H A W Held.the-type Laws'3.the-laws 4 (Syntax.tyInt Syntax.w64) 304 Path'.refl, Path'.refl) (Reads'.room-gone 𝓤 H A (Syntax.tyInt Syntax.w64)) (Scalar.holds-sc 𝓤 H A W (Row.sInt Syntax.w64)) Path'.refl (λ u. Path'.refl) λ u. tt) d53
 
           d55 : Typed.Typed 𝓤 H A 𝓣 E G8 b41 Δ0 (at55 bs)
-          d55 = Typed.s-seq 𝓤 H A W 𝓣 E G8 G9 b3 b40 Δ0 (Typed.pass T8 T9 (s7 bs)) (at54 bs) (Scalar.t-use 𝓤 H A W E 𝓣 G8 (Scalar.oFld 1 (List._∷_ (Syntax.field 3) List.[]) (Syntax.tyInt Syntax.w64) 296 (Reads.fieldV Held.the-type Laws''.the-laws 3)) 12 (Rows.sc-here (Row.sInt Syntax.w64)) (Syntax.tyInt Syntax.w64) (Row.valS (Row.sInt Syntax.w64)) (Row.sInt Syntax.w64 .of) (Reads.reads-field 𝓤 H A W Held.the-type Laws''.the-laws 3 (Syntax.tyInt Syntax.w64) 296 Path'.refl, Path'.refl) (Reads'.room-gone 𝓤 H A (Syntax.tyInt Syntax.w64)) (Scalar.holds-sc 𝓤 H A W (Row.sInt Syntax.w64)) Path'.refl (λ u. Path'.refl) λ u. tt) d54
+          d55 = Typed.s-seq 𝓤 H A W 𝓣 E G8 G9 b3 b40 Δ0 (Typed.pass T8 T9 (s7 bs)) (at54 bs) (Scalar.t-use 𝓤 H A W E 𝓣 G8 (Scalar.oFld 1 (List._∷_ (Syntax.field 3) List.[]) (Syntax.tyInt Syntax.w64) 296 (Reads.fieldV Held.the-type Laws'3.the-laws 3)) 12 (Rows.sc-here (Row.sInt Syntax.w64)) (Syntax.tyInt Syntax.w64) (Row.valS (Row.sInt Syntax.w64)) (Row.sInt Syntax.w64 .of) (Reads.reads-field 𝓤 H A W Held.the-type Laws'3.the-laws 3 (Syntax.tyInt Syntax.w64) 296 Path'.refl, Path'.refl) (Reads'.room-gone 𝓤 H A (Syntax.tyInt Syntax.w64)) (Scalar.holds-sc 𝓤 H A W (Row.sInt Syntax.w64)) Path'.refl (λ u. Path'.refl) λ u. tt) d54
 
           d56 : Typed.Typed 𝓤 H A 𝓣 E G7 b42 Δ0 (at56 bs)
-          d56 = Typed.s-seq 𝓤 H A W 𝓣 E G7 G8 b2 b41 Δ0 (Typed.pass T7 T8 (s6 bs)) (at55 bs) (Scalar.t-use 𝓤 H A W E 𝓣 G7 (Scalar.oFld 1 (List._∷_ (Syntax.field 2) List.[]) (Syntax.tyInt Syntax.w64) 288 (Reads.fieldV Held.the-type Laws''.the-laws 2)) 11 (Rows.sc-here (Row.sInt Syntax.w64)) (Syntax.tyInt Syntax.w64) (Row.valS (Row.sInt Syntax.w64)) (Row.sInt Syntax.w64 .of) (Reads.reads-field 𝓤 H A W Held.the-type Laws''.the-laws 2 (Syntax.tyInt Syntax.w64) 288 Path'.refl, Path'.refl) (Reads'.room-gone 𝓤 H A (Syntax.tyInt Syntax.w64)) (Scalar.holds-sc 𝓤 H A W (Row.sInt Syntax.w64)) Path'.refl (λ u. Path'.refl) λ u. tt) d55
+          d56 = Typed.s-seq 𝓤 H A W 𝓣 E G7 G8 b2 b41 Δ0 (Typed.pass T7 T8 (s6 bs)) (at55 bs) (Scalar.t-use 𝓤 H A W E 𝓣 G7 (Scalar.oFld 1 (List._∷_ (Syntax.field 2) List.[]) (Syntax.tyInt Syntax.w64) 288 (Reads.fieldV Held.the-type Laws'3.the-laws 2)) 11 (Rows.sc-here (Row.sInt Syntax.w64)) (Syntax.tyInt Syntax.w64) (Row.valS (Row.sInt Syntax.w64)) (Row.sInt Syntax.w64 .of) (Reads.reads-field 𝓤 H A W Held.the-type Laws'3.the-laws 2 (Syntax.tyInt Syntax.w64) 288 Path'.refl, Path'.refl) (Reads'.room-gone 𝓤 H A (Syntax.tyInt Syntax.w64)) (Scalar.holds-sc 𝓤 H A W (Row.sInt Syntax.w64)) Path'.refl (λ u. Path'.refl) λ u. tt) d55
 
           d57 : Typed.Typed 𝓤 H A 𝓣 E G6 b43 Δ0 (at57 bs)
-          d57 = Typed.s-seq 𝓤 H A W 𝓣 E G6 G7 b1 b42 Δ0 (Typed.pass T6 T7 (s5 bs)) (at56 bs) (Scalar.t-use 𝓤 H A W E 𝓣 G6 (Scalar.oFld 1 (List._∷_ (Syntax.field 1) List.[]) (Syntax.tyInt Syntax.w64) 280 (Reads.fieldV Held.the-type Laws''.the-laws 1)) 10 (Rows.sc-here (Row.sInt Syntax.w64)) (Syntax.tyInt Syntax.w64) (Row.valS (Row.sInt Syntax.w64)) (Row.sInt Syntax.w64 .of) (Reads.reads-field 𝓤 H A W Held.the-type Laws''.the-laws 1 (Syntax.tyInt Syntax.w64) 280 Path'.refl, Path'.refl) (Reads'.room-gone 𝓤 H A (Syntax.tyInt Syntax.w64)) (Scalar.holds-sc 𝓤 H A W (Row.sInt Syntax.w64)) Path'.refl (λ u. Path'.refl) λ u. tt) d56
+          d57 = Typed.s-seq 𝓤 H A W 𝓣 E G6 G7 b1 b42 Δ0 (Typed.pass T6 T7 (s5 bs)) (at56 bs) (Scalar.t-use 𝓤 H A W E 𝓣 G6 (Scalar.oFld 1 (List._∷_ (Syntax.field 1) List.[]) (Syntax.tyInt Syntax.w64) 280 (Reads.fieldV Held.the-type Laws'3.the-laws 1)) 10 (Rows.sc-here (Row.sInt Syntax.w64)) (Syntax.tyInt Syntax.w64) (Row.valS (Row.sInt Syntax.w64)) (Row.sInt Syntax.w64 .of) (Reads.reads-field 𝓤 H A W Held.the-type Laws'3.the-laws 1 (Syntax.tyInt Syntax.w64) 280 Path'.refl, Path'.refl) (Reads'.room-gone 𝓤 H A (Syntax.tyInt Syntax.w64)) (Scalar.holds-sc 𝓤 H A W (Row.sInt Syntax.w64)) Path'.refl (λ u. Path'.refl) λ u. tt) d56
 
           d58 : Typed.Typed 𝓤 H A 𝓣 E G5 b44 Δ0 (at58 bs)
-          d58 = Typed.s-seq 𝓤 H A W 𝓣 E G5 G6 b0 b43 Δ0 (Typed.both (s4 bs)) (at57 bs) (WayStmt.t-way-copy-out 𝓤 H A W E 𝓣 (Declared.row State.the-type) Path'.refl (Copies.cStruct State.the-type Laws'.the-laws Laws'.the-copy .copy 𝓤 H A W) (λ ρ. Unit) G5 (Row.out 1 (G5 .locals)) (λ u. Row.drop 1 (G5 .locals) u) (G5 .slots) 1 (λ t. List._∷_ (Syntax.field 0) t) (Syntax.tyStruct (List._∷_ 112 (List._∷_ 121 (List._∷_ 114 (List._∷_ 97 (List._∷_ 109 (List._∷_ 105 (List._∷_ 100 (List._∷_ 58 (List._∷_ 58 (List._∷_ 83 (List._∷_ 116 (List._∷_ 97 (List._∷_ 116 (List._∷_ 101 List.[])))))))))))))) (Syntax.tcons (Syntax.tyInt Syntax.w32) (Syntax.tcons (Syntax.tyInt Syntax.w32) (Syntax.tcons (Syntax.tyInt Syntax.w32) (Syntax.tcons (Syntax.tyInt Syntax.w32) (Syntax.tcons (Syntax.tyInt Syntax.w32) (Syntax.tcons (Syntax.tyArray (Syntax.tyInt Syntax.w32) 64) Syntax.tnil))))))) (Syntax.tyStruct (List._∷_ 112 (List._∷_ 121 (List._∷_ 114 (List._∷_ 97 (List._∷_ 109 (List._∷_ 105 (List._∷_ 100 (List._∷_ 58 (List._∷_ 58 (List._∷_ 83 (List._∷_ 116 (List._∷_ 97 (List._∷_ 116 (List._∷_ 101 List.[])))))))))))))) (Syntax.tcons (Syntax.tyInt Syntax.w32) (Syntax.tcons (Syntax.tyInt Syntax.w32) (Syntax.tcons (Syntax.tyInt Syntax.w32) (Syntax.tcons (Syntax.tyInt Syntax.w32) (Syntax.tcons (Syntax.tyInt Syntax.w32) (Syntax.tcons (Syntax.tyArray (Syntax.tyInt Syntax.w32) 64) Syntax.tnil))))))) 9 (Rows.whole (Declared.row State.the-type)) (λ x. x) (λ u. At.getAt (Held.the-type .parts) 0 (Held.struct .as-values (u .1 .0))) (λ u. (Row.hd 0 (Row.tl bs), Nat._+_ 0 0)) (λ T′. record { locals = Row.setRow 1 (1, Rows.whole (Declared.row Held.the-type)) T′; slots = G5 .slots }) (λ u T′ m′. Row.set 1 (1, Rows.whole (Declared.row Held.the-type)) (u .1 .0) T′ m′) (λ u. Unit) (λ x. Unit) (Own.told-none 𝓤 H A (G5 .slots)) (DerefMove.learns-nothing 𝓤 H A (Declared.row State.the-type)) (λ ρ told u asked. Way'.w-partˢ 𝓤 H A W E (Declared.row Held.the-type) (Declared.row State.the-type) (Syntax.tyStruct (List._∷_ 122 (List._∷_ 111 (List._∷_ 110 (List._∷_ 101 (List._∷_ 115 (List._∷_ 58 (List._∷_ 58 (List._∷_ 104 (List._∷_ 101 (List._∷_ 108 (List._∷_ 100 (List._∷_ 58 (List._∷_ 58 (List._∷_ 72 (List._∷_ 101 (List._∷_ 108 (List._∷_ 100 List.[]))))))))))))))))) (Syntax.tcons (Syntax.tyStruct (List._∷_ 112 (List._∷_ 121 (List._∷_ 114 (List._∷_ 97 (List._∷_ 109 (List._∷_ 105 (List._∷_ 100 (List._∷_ 58 (List._∷_ 58 (List._∷_ 83 (List._∷_ 116 (List._∷_ 97 (List._∷_ 116 (List._∷_ 101 List.[])))))))))))))) (Syntax.tcons (Syntax.tyInt Syntax.w32) (Syntax.tcons (Syntax.tyInt Syntax.w32) (Syntax.tcons (Syntax.tyInt Syntax.w32) (Syntax.tcons (Syntax.tyInt Syntax.w32) (Syntax.tcons (Syntax.tyInt Syntax.w32) (Syntax.tcons (Syntax.tyArray (Syntax.tyInt Syntax.w32) 64) Syntax.tnil))))))) (Syntax.tcons (Syntax.tyInt Syntax.w64) (Syntax.tcons (Syntax.tyInt Syntax.w64) (Syntax.tcons (Syntax.tyInt Syntax.w64) (Syntax.tcons (Syntax.tyInt Syntax.w64) (Syntax.tcons (Syntax.tyInt Syntax.w64) (Syntax.tcons (Syntax.tyInt Syntax.w64) (Syntax.tcons Syntax.tyBool Syntax.tnil))))))))) (Syntax.tyStruct (List._∷_ 112 (List._∷_ 121 (List._∷_ 114 (List._∷_ 97 (List._∷_ 109 (List._∷_ 105 (List._∷_ 100 (List._∷_ 58 (List._∷_ 58 (List._∷_ 83 (List._∷_ 116 (List._∷_ 97 (List._∷_ 116 (List._∷_ 101 List.[])))))))))))))) (Syntax.tcons (Syntax.tyInt Syntax.w32) (Syntax.tcons (Syntax.tyInt Syntax.w32) (Syntax.tcons (Syntax.tyInt Syntax.w32) (Syntax.tcons (Syntax.tyInt Syntax.w32) (Syntax.tcons (Syntax.tyInt Syntax.w32) (Syntax.tcons (Syntax.tyArray (Syntax.tyInt Syntax.w32) 64) Syntax.tnil))))))) 0 0 (u .1 .0) (At.getAt (Held.the-type .parts) 0 (Held.struct .as-values (u .1 .0))) (Row.hd 0 (Row.tl bs), 0) (Way.w-look 𝓤 H A W E (Way.w-local 𝓤 H A W E G5 ρ u (G5 .slots) 1 (Declared.row Held.the-type) (Rows.whole (Declared.row Held.the-type)) (λ x. x) (λ x. x) (u .1 .0) (Local.mem-whole 𝓤 H A W (Declared.row Held.the-type) ρ (u .1 .0) (Row.hd 0 (Row.tl bs))) (Local.whole-mem 𝓤 H A W (Declared.row Held.the-type) ρ (u .1 .0) (Row.hd 0 (Row.tl bs))))) Path'.refl λ q. Inner.cut-record 𝓤 H A q (Declared.row Held.the-type) State.the-type 0 (u .1 .0) (u .1 .0) (At.getAt (Held.the-type .parts) 0 (Held.struct .as-values (u .1 .0))) (At.getAt (Held.the-type .parts) 0 (Held.struct .as-values (u .1 .0))) (Row.hd 0 (Row.tl bs), 0) (Behind.look-at 𝓤 H A W q Held.the-type Laws''.the-laws 0 0 Path'.refl Path'.refl (Row.hd 0 (Row.tl bs), 0) (u .1 .0) (Held.struct .as-values (u .1 .0)) Path'.refl)) (Reads'.room-gone 𝓤 H A (Syntax.tyStruct (List._∷_ 112 (List._∷_ 121 (List._∷_ 114 (List._∷_ 97 (List._∷_ 109 (List._∷_ 105 (List._∷_ 100 (List._∷_ 58 (List._∷_ 58 (List._∷_ 83 (List._∷_ 116 (List._∷_ 97 (List._∷_ 116 (List._∷_ 101 List.[])))))))))))))) (Syntax.tcons (Syntax.tyInt Syntax.w32) (Syntax.tcons (Syntax.tyInt Syntax.w32) (Syntax.tcons (Syntax.tyInt Syntax.w32) (Syntax.tcons (Syntax.tyInt Syntax.w32) (Syntax.tcons (Syntax.tyInt Syntax.w32) (Syntax.tcons (Syntax.tyArray (Syntax.tyInt Syntax.w32) 64) Syntax.tnil)))))))) (Yields.makes-mem 𝓤 H A W (λ ρ. Unit) (Declared.row State.the-type) Path'.refl (Rows.whole (Declared.row State.the-type)) (λ x. x) λ ρ told. Local.whole-mem 𝓤 H A W (Declared.row State.the-type) ρ) Path'.refl Path'.refl Path'.refl) d57
+          d58 = Typed.s-seq 𝓤 H A W 𝓣 E G5 G6 b0 b43 Δ0 (Typed.both (s4 bs)) (at57 bs) (WayStmt.t-way-copy-out 𝓤 H A W E 𝓣 (Declared.row State.the-type) Path'.refl (Copies.cStruct State.the-type Laws'.the-laws Laws'.the-copy .copy 𝓤 H A W) (λ ρ. Unit) G5 (Row.out 1 (G5 .locals)) (λ u. Row.drop 1 (G5 .locals) u) (G5 .slots) 1 (λ t. List._∷_ (Syntax.field 0) t) (Syntax.tyStruct (List._∷_ 112 (List._∷_ 121 (List._∷_ 114 (List._∷_ 97 (List._∷_ 109 (List._∷_ 105 (List._∷_ 100 (List._∷_ 58 (List._∷_ 58 (List._∷_ 83 (List._∷_ 116 (List._∷_ 97 (List._∷_ 116 (List._∷_ 101 List.[])))))))))))))) (Syntax.tcons (Syntax.tyInt Syntax.w32) (Syntax.tcons (Syntax.tyInt Syntax.w32) (Syntax.tcons (Syntax.tyInt Syntax.w32) (Syntax.tcons (Syntax.tyInt Syntax.w32) (Syntax.tcons (Syntax.tyInt Syntax.w32) (Syntax.tcons (Syntax.tyArray (Syntax.tyInt Syntax.w32) 64) Syntax.tnil))))))) (Syntax.tyStruct (List._∷_ 112 (List._∷_ 121 (List._∷_ 114 (List._∷_ 97 (List._∷_ 109 (List._∷_ 105 (List._∷_ 100 (List._∷_ 58 (List._∷_ 58 (List._∷_ 83 (List._∷_ 116 (List._∷_ 97 (List._∷_ 116 (List._∷_ 101 List.[])))))))))))))) (Syntax.tcons (Syntax.tyInt Syntax.w32) (Syntax.tcons (Syntax.tyInt Syntax.w32) (Syntax.tcons (Syntax.tyInt Syntax.w32) (Syntax.tcons (Syntax.tyInt Syntax.w32) (Syntax.tcons (Syntax.tyInt Syntax.w32) (Syntax.tcons (Syntax.tyArray (Syntax.tyInt Syntax.w32) 64) Syntax.tnil))))))) 9 (Rows.whole (Declared.row State.the-type)) (λ x. x) (λ u. At.getAt (Held.the-type .parts) 0 (Held.struct .as-values (u .1 .0))) (λ u. (Row.hd 0 (Row.tl bs), Nat._+_ 0 0)) (λ T′. record { locals = Row.setRow 1 (1, Rows.whole (Declared.row Held.the-type)) T′; slots = G5 .slots }) (λ u T′ m′. Row.set 1 (1, Rows.whole (Declared.row Held.the-type)) (u .1 .0) T′ m′) (λ u. Unit) (λ x. Unit) (Own.told-none 𝓤 H A (G5 .slots)) (DerefMove.learns-nothing 𝓤 H A (Declared.row State.the-type)) (λ ρ told u asked. Way'.w-partˢ 𝓤 H A W E (Declared.row Held.the-type) (Declared.row State.the-type) (Syntax.tyStruct (List._∷_ 122 (List._∷_ 111 (List._∷_ 110 (List._∷_ 101 (List._∷_ 115 (List._∷_ 58 (List._∷_ 58 (List._∷_ 104 (List._∷_ 101 (List._∷_ 108 (List._∷_ 100 (List._∷_ 58 (List._∷_ 58 (List._∷_ 72 (List._∷_ 101 (List._∷_ 108 (List._∷_ 100 List.[]))))))))))))))))) (Syntax.tcons (Syntax.tyStruct (List._∷_ 112 (List._∷_ 121 (List._∷_ 114 (List._∷_ 97 (List._∷_ 109 (List._∷_ 105 (List._∷_ 100 (List._∷_ 58 (List._∷_ 58 (List._∷_ 83 (List._∷_ 116 (List._∷_ 97 (List._∷_ 116 (List._∷_ 101 List.[])))))))))))))) (Syntax.tcons (Syntax.tyInt Syntax.w32) (Syntax.tcons (Syntax.tyInt Syntax.w32) (Syntax.tcons (Syntax.tyInt Syntax.w32) (Syntax.tcons (Syntax.tyInt Syntax.w32) (Syntax.tcons (Syntax.tyInt Syntax.w32) (Syntax.tcons (Syntax.tyArray (Syntax.tyInt Syntax.w32) 64) Syntax.tnil))))))) (Syntax.tcons (Syntax.tyInt Syntax.w64) (Syntax.tcons (Syntax.tyInt Syntax.w64) (Syntax.tcons (Syntax.tyInt Syntax.w64) (Syntax.tcons (Syntax.tyInt Syntax.w64) (Syntax.tcons (Syntax.tyInt Syntax.w64) (Syntax.tcons (Syntax.tyInt Syntax.w64) (Syntax.tcons Syntax.tyBool Syntax.tnil))))))))) (Syntax.tyStruct (List._∷_ 112 (List._∷_ 121 (List._∷_ 114 (List._∷_ 97 (List._∷_ 109 (List._∷_ 105 (List._∷_ 100 (List._∷_ 58 (List._∷_ 58 (List._∷_ 83 (List._∷_ 116 (List._∷_ 97 (List._∷_ 116 (List._∷_ 101 List.[])))))))))))))) (Syntax.tcons (Syntax.tyInt Syntax.w32) (Syntax.tcons (Syntax.tyInt Syntax.w32) (Syntax.tcons (Syntax.tyInt Syntax.w32) (Syntax.tcons (Syntax.tyInt Syntax.w32) (Syntax.tcons (Syntax.tyInt Syntax.w32) (Syntax.tcons (Syntax.tyArray (Syntax.tyInt Syntax.w32) 64) Syntax.tnil))))))) 0 0 (u .1 .0) (At.getAt (Held.the-type .parts) 0 (Held.struct .as-values (u .1 .0))) (Row.hd 0 (Row.tl bs), 0) (Way.w-look 𝓤 H A W E (Way.w-local 𝓤 H A W E G5 ρ u (G5 .slots) 1 (Declared.row Held.the-type) (Rows.whole (Declared.row Held.the-type)) (λ x. x) (λ x. x) (u .1 .0) (Local.mem-whole 𝓤 H A W (Declared.row Held.the-type) ρ (u .1 .0) (Row.hd 0 (Row.tl bs))) (Local.whole-mem 𝓤 H A W (Declared.row Held.the-type) ρ (u .1 .0) (Row.hd 0 (Row.tl bs))))) Path'.refl λ q. Inner.cut-record 𝓤 H A q (Declared.row Held.the-type) State.the-type 0 (u .1 .0) (u .1 .0) (At.getAt (Held.the-type .parts) 0 (Held.struct .as-values (u .1 .0))) (At.getAt (Held.the-type .parts) 0 (Held.struct .as-values (u .1 .0))) (Row.hd 0 (Row.tl bs), 0) (Behind.look-at 𝓤 H A W q Held.the-type Laws'3.the-laws 0 0 Path'.refl Path'.refl (Row.hd 0 (Row.tl bs), 0) (u .1 .0) (Held.struct .as-values (u .1 .0)) Path'.refl)) (Reads'.room-gone 𝓤 H A (Syntax.tyStruct (List._∷_ 112 (List._∷_ 121 (List._∷_ 114 (List._∷_ 97 (List._∷_ 109 (List._∷_ 105 (List._∷_ 100 (List._∷_ 58 (List._∷_ 58 (List._∷_ 83 (List._∷_ 116 (List._∷_ 97 (List._∷_ 116 (List._∷_ 101 List.[])))))))))))))) (Syntax.tcons (Syntax.tyInt Syntax.w32) (Syntax.tcons (Syntax.tyInt Syntax.w32) (Syntax.tcons (Syntax.tyInt Syntax.w32) (Syntax.tcons (Syntax.tyInt Syntax.w32) (Syntax.tcons (Syntax.tyInt Syntax.w32) (Syntax.tcons (Syntax.tyArray (Syntax.tyInt Syntax.w32) 64) Syntax.tnil)))))))) (Yields.makes-mem 𝓤 H A W (λ ρ. Unit) (Declared.row State.the-type) Path'.refl (Rows.whole (Declared.row State.the-type)) (λ x. x) λ ρ told. Local.whole-mem 𝓤 H A W (Declared.row State.the-type) ρ) Path'.refl Path'.refl Path'.refl) d57
 
           d59 : Typed.Typed 𝓤 H A 𝓣 E G4 b44 Δ0 (at59 bs)
           d59 = Typed.g-pre 𝓤 H A W 𝓣 E G4 G5 b44 Δ0 (Typed.give (s3 bs)) (at58 bs) (Know.g-sl-known 𝓤 H A W (Referent.fInt Syntax.w32) E G4 6 3 (Syntax.tyRef (Syntax.named 3) Syntax.mut (Syntax.tyInt Syntax.w32)) (Row.lease (κs .1 .1 .1 .0) (qs .1 .1 .1 .0)) 0 (λ x. x) record { fits = Dec'.lit< tt } (Reads'.as-is 𝓤 H A (Mut.mslice (Referent.rtF (Referent.fInt Syntax.w32)) (Syntax.tyRef (Syntax.named 3) Syntax.mut (Syntax.tyInt Syntax.w32)) 3)) Path'.refl tt) d58
@@ -1327,8 +1327,8 @@ module _ (claims· : Claims) where
 
       module _ (κs : Lifetimes.Lfts 6) where
         pub record Args : Type 0 where
-          pub held : Kinds.Den {n = 6} κs (Value.pVal record { ty = Declared.row Held.the-type; one = Path'.refl; val = Laws'4.val Held.the-type Laws''.the-laws; tells = Laws'4.tells Held.the-type Laws''.the-laws; still = Laws'4.still Held.the-type Laws''.the-copy Exit.yes; row = Rows.whole (Declared.row Held.the-type); rd = λ x. x; mk = λ x. x } λ M 𝓤 H A W. record { copies = Laws'4.copy Held.the-type Laws''.the-copy 𝓤 H A W; lawful = Laws'4.lawful Held.the-type Laws''.the-laws 𝓤 H A W; makes = Laws'4.makes Held.the-type Laws''.the-plain 𝓤 H A; in-mem = Local.mem-whole 𝓤 H A W (Declared.row Held.the-type); of-mem = Local.whole-mem 𝓤 H A W (Declared.row Held.the-type) })
-          pub line : Kinds.Den {n = 6} κs (Value.pVal record { ty = Declared.row Line.the-type; one = Path'.refl; val = Laws'4.val Line.the-type Laws'3.the-laws; tells = Laws'4.tells Line.the-type Laws'3.the-laws; still = Laws'4.still Line.the-type Laws'3.the-copy Exit.yes; row = Rows.whole (Declared.row Line.the-type); rd = λ x. x; mk = λ x. x } λ M 𝓤 H A W. record { copies = Laws'4.copy Line.the-type Laws'3.the-copy 𝓤 H A W; lawful = Laws'4.lawful Line.the-type Laws'3.the-laws 𝓤 H A W; makes = Laws'4.makes Line.the-type Laws'3.the-plain 𝓤 H A; in-mem = Local.mem-whole 𝓤 H A W (Declared.row Line.the-type); of-mem = Local.whole-mem 𝓤 H A W (Declared.row Line.the-type) })
+          pub held : Kinds.Den {n = 6} κs (Value.pVal record { ty = Declared.row Held.the-type; one = Path'.refl; val = Laws'4.val Held.the-type Laws'3.the-laws; tells = Laws'4.tells Held.the-type Laws'3.the-laws; still = Laws'4.still Held.the-type Laws'3.the-copy Exit.yes; row = Rows.whole (Declared.row Held.the-type); rd = λ x. x; mk = λ x. x } λ M 𝓤 H A W. record { copies = Laws'4.copy Held.the-type Laws'3.the-copy 𝓤 H A W; lawful = Laws'4.lawful Held.the-type Laws'3.the-laws 𝓤 H A W; makes = Laws'4.makes Held.the-type Laws'3.the-plain 𝓤 H A; in-mem = Local.mem-whole 𝓤 H A W (Declared.row Held.the-type); of-mem = Local.whole-mem 𝓤 H A W (Declared.row Held.the-type) })
+          pub line : Kinds.Den {n = 6} κs (Value.pVal record { ty = Declared.row Line.the-type; one = Path'.refl; val = Laws'4.val Line.the-type Laws''.the-laws; tells = Laws'4.tells Line.the-type Laws''.the-laws; still = Laws'4.still Line.the-type Laws''.the-copy Exit.yes; row = Rows.whole (Declared.row Line.the-type); rd = λ x. x; mk = λ x. x } λ M 𝓤 H A W. record { copies = Laws'4.copy Line.the-type Laws''.the-copy 𝓤 H A W; lawful = Laws'4.lawful Line.the-type Laws''.the-laws 𝓤 H A W; makes = Laws'4.makes Line.the-type Laws''.the-plain 𝓤 H A; in-mem = Local.mem-whole 𝓤 H A W (Declared.row Line.the-type); of-mem = Local.whole-mem 𝓤 H A W (Declared.row Line.the-type) })
           pub numbers : Kinds.Den {n = 6} κs (ShrSlice.pShrS (Referent.rtF (Referent.fInt Syntax.w32)) 0 tt)
           pub table : Kinds.Den {n = 6} κs (MutSlice.pMutS (Referent.rtF (Referent.fInt Syntax.w32)) 1 tt)
           pub history : Kinds.Den {n = 6} κs (MutSlice.pMutS (Referent.rtF (Referent.fInt Syntax.w32)) 2 tt)
@@ -1749,6 +1749,6 @@ module _ (claims· : Claims) where
           pub asked : (a : Kinds.Dens κs ps) → (good : Kinds.GoodsP κs ps a) → (pre : Pre· κs a) → (bs : List.List Nat.ℕ) → Φ bs (Any.wantQ 6 ps r xs m κs qs a (Post· κs a)) (Function.init 6 ps r xs m κs qs a)
           asked = λ a good pre bs. laid record { κs = κs; args = record { held = a .0; line = a .1 .0; numbers = a .1 .1 .0; table = a .1 .1 .1 .0; history = a .1 .1 .1 .1 .0; work = a .1 .1 .1 .1 .1 .0; sheet = a .1 .1 .1 .1 .1 .1 .0; kept = a .1 .1 .1 .1 .1 .1 .1 .0 }; blocks = bs; good = good; pre = pre }
 
-        module _ {M : Type 1} (𝓤 : URA.URA M) (H : Wp.Heap 𝓤) (A : Atoms.Atoms 𝓤) (W : Kit.Given 𝓤 H A) (𝓣 : Wp.Tables 𝓤 H) (known0 : Plain.Known 𝓤 H A W 𝓣 0 ps·0 r·0 (claims· .0) (claims· .1) "zones::sizes::least") (known1 : Plain.Known 𝓤 H A W 𝓣 6 ps·1 r·1 (claims· .2) (claims· .3) "zones::sheet_calls::handed_with") where
+        module _ {M : Type 1} (𝓤 : URA.URA M) (H : Wp.Heap 𝓤) (A : Atoms.Atoms 𝓤) (W : Kit.Given 𝓤 H A) (𝓣 : Wp.Tables 𝓤 H) (known0 : Plain.Known 𝓤 H A W 𝓣 0 ps·0 r·0 (claims· .0) (claims· .1) "script::sizes::least") (known1 : Plain.Known 𝓤 H A W 𝓣 6 ps·1 r·1 (claims· .2) (claims· .3) "zones::sheet_calls::handed_with") where
           pub spec : Statement.Triple 𝓤 (Wp.WpFn 𝓤 H (𝓣 .C) (𝓣 .Λ) (Function.fnOf 6 ps r xs m hs body)) (Function.plainOf 𝓤 H A 6 ps r Pre· Post·)
           spec = Plain.t-fn-plain 𝓤 H A W 𝓣 6 ps r xs m hs body (λ κs qs bs. Φ bs) (λ κs qs bs bd. typed κs qs 𝓤 H A W 𝓣 (known0, known1) bs bd) Pre· Post· asked

@@ -3,10 +3,10 @@ use Rattle.sheets.proofs.Cell
 use Prim.Native.Nat
 use Rattle.pyramid.proofs.Outcome
 use Rattle.pyramid.proofs.Outcome.Laws
+use Rattle.script.proofs.scan.Line
+use Rattle.script.proofs.scan.Line.Laws as Laws'
 use Rattle.zones.proofs.held.Held
-use Rattle.zones.proofs.held.Held.Laws as Laws'
-use Rattle.zones.proofs.scan.Line
-use Rattle.zones.proofs.scan.Line.Laws as Laws''
+use Rattle.zones.proofs.held.Held.Laws as Laws''
 use borrow.Author.Called
 use borrow.Fn.Any
 use borrow.Fn.Call
@@ -59,10 +59,10 @@ use prog.Wp
 use types.Kit
 
 abbrev pub ps : List.List (Kinds.PK 7)
-ps = List._∷_ (Value.pVal record { ty = Declared.row Held.the-type; one = Path'.refl; val = Laws'3.val Held.the-type Laws'.the-laws; tells = Laws'3.tells Held.the-type Laws'.the-laws; still = Laws'3.still Held.the-type Laws'.the-copy Exit.yes; row = Rows.whole (Declared.row Held.the-type); rd = λ x. x; mk = λ x. x } λ M 𝓤 H A W. record { copies = Laws'3.copy Held.the-type Laws'.the-copy 𝓤 H A W; lawful = Laws'3.lawful Held.the-type Laws'.the-laws 𝓤 H A W; makes = Laws'3.makes Held.the-type Laws'.the-plain 𝓤 H A; in-mem = Local.mem-whole 𝓤 H A W (Declared.row Held.the-type); of-mem = Local.whole-mem 𝓤 H A W (Declared.row Held.the-type) }) (List._∷_ (Value.pVal record { ty = Declared.row Line.the-type; one = Path'.refl; val = Laws'3.val Line.the-type Laws''.the-laws; tells = Laws'3.tells Line.the-type Laws''.the-laws; still = Laws'3.still Line.the-type Laws''.the-copy Exit.yes; row = Rows.whole (Declared.row Line.the-type); rd = λ x. x; mk = λ x. x } λ M 𝓤 H A W. record { copies = Laws'3.copy Line.the-type Laws''.the-copy 𝓤 H A W; lawful = Laws'3.lawful Line.the-type Laws''.the-laws 𝓤 H A W; makes = Laws'3.makes Line.the-type Laws''.the-plain 𝓤 H A; in-mem = Local.mem-whole 𝓤 H A W (Declared.row Line.the-type); of-mem = Local.whole-mem 𝓤 H A W (Declared.row Line.the-type) }) (List._∷_ (ShrRef.pShr (Array.Array (Referent.rtF (Referent.fInt Syntax.w32)) 32772) 0 tt) (List._∷_ (Kinds.pMut (Array.Array (Referent.rtF (Referent.fInt Syntax.w32)) 65540) 1 tt) (List._∷_ (Kinds.pMut (Array.Array (Referent.rtF (Referent.fInt Syntax.w32)) 32772) 2 tt) (List._∷_ (Kinds.pMut (Array.Array (Referent.rtF (Referent.fInt Syntax.w32)) 262160) 3 tt) (List._∷_ (ShrRef.pShr (Array.Array (Referent.rtF (Referent.fInt Syntax.w8)) 600000) 4 tt) (List._∷_ (Kinds.pMut (Array.Array Cell.R 65540) 5 tt) (List._∷_ (Kinds.pMut (Array.Array Cell.R 32772) 6 tt) List.[]))))))))
+ps = List._∷_ (Value.pVal record { ty = Declared.row Held.the-type; one = Path'.refl; val = Laws'3.val Held.the-type Laws''.the-laws; tells = Laws'3.tells Held.the-type Laws''.the-laws; still = Laws'3.still Held.the-type Laws''.the-copy Exit.yes; row = Rows.whole (Declared.row Held.the-type); rd = λ x. x; mk = λ x. x } λ M 𝓤 H A W. record { copies = Laws'3.copy Held.the-type Laws''.the-copy 𝓤 H A W; lawful = Laws'3.lawful Held.the-type Laws''.the-laws 𝓤 H A W; makes = Laws'3.makes Held.the-type Laws''.the-plain 𝓤 H A; in-mem = Local.mem-whole 𝓤 H A W (Declared.row Held.the-type); of-mem = Local.whole-mem 𝓤 H A W (Declared.row Held.the-type) }) (List._∷_ (Value.pVal record { ty = Declared.row Line.the-type; one = Path'.refl; val = Laws'3.val Line.the-type Laws'.the-laws; tells = Laws'3.tells Line.the-type Laws'.the-laws; still = Laws'3.still Line.the-type Laws'.the-copy Exit.yes; row = Rows.whole (Declared.row Line.the-type); rd = λ x. x; mk = λ x. x } λ M 𝓤 H A W. record { copies = Laws'3.copy Line.the-type Laws'.the-copy 𝓤 H A W; lawful = Laws'3.lawful Line.the-type Laws'.the-laws 𝓤 H A W; makes = Laws'3.makes Line.the-type Laws'.the-plain 𝓤 H A; in-mem = Local.mem-whole 𝓤 H A W (Declared.row Line.the-type); of-mem = Local.whole-mem 𝓤 H A W (Declared.row Line.the-type) }) (List._∷_ (ShrRef.pShr (Array.Array (Referent.rtF (Referent.fInt Syntax.w32)) 32772) 0 tt) (List._∷_ (Kinds.pMut (Array.Array (Referent.rtF (Referent.fInt Syntax.w32)) 65540) 1 tt) (List._∷_ (Kinds.pMut (Array.Array (Referent.rtF (Referent.fInt Syntax.w32)) 32772) 2 tt) (List._∷_ (Kinds.pMut (Array.Array (Referent.rtF (Referent.fInt Syntax.w32)) 262160) 3 tt) (List._∷_ (ShrRef.pShr (Array.Array (Referent.rtF (Referent.fInt Syntax.w8)) 600000) 4 tt) (List._∷_ (Kinds.pMut (Array.Array Cell.R 65540) 5 tt) (List._∷_ (Kinds.pMut (Array.Array Cell.R 32772) 6 tt) List.[]))))))))
 
 abbrev pub r : Kinds.RK 7
-r = Value.rVal record { ty = Declared.row Held.the-type; one = Path'.refl; val = Laws'3.val Held.the-type Laws'.the-laws; tells = Laws'3.tells Held.the-type Laws'.the-laws; still = Laws'3.still Held.the-type Laws'.the-copy Exit.yes; row = Rows.whole (Declared.row Held.the-type); rd = λ x. x; mk = λ x. x } λ M 𝓤 H A W. record { copies = Laws'3.copy Held.the-type Laws'.the-copy 𝓤 H A W; lawful = Laws'3.lawful Held.the-type Laws'.the-laws 𝓤 H A W; makes = Laws'3.makes Held.the-type Laws'.the-plain 𝓤 H A; in-mem = Local.mem-whole 𝓤 H A W (Declared.row Held.the-type); of-mem = Local.whole-mem 𝓤 H A W (Declared.row Held.the-type) }
+r = Value.rVal record { ty = Declared.row Held.the-type; one = Path'.refl; val = Laws'3.val Held.the-type Laws''.the-laws; tells = Laws'3.tells Held.the-type Laws''.the-laws; still = Laws'3.still Held.the-type Laws''.the-copy Exit.yes; row = Rows.whole (Declared.row Held.the-type); rd = λ x. x; mk = λ x. x } λ M 𝓤 H A W. record { copies = Laws'3.copy Held.the-type Laws''.the-copy 𝓤 H A W; lawful = Laws'3.lawful Held.the-type Laws''.the-laws 𝓤 H A W; makes = Laws'3.makes Held.the-type Laws''.the-plain 𝓤 H A; in-mem = Local.mem-whole 𝓤 H A W (Declared.row Held.the-type); of-mem = Local.whole-mem 𝓤 H A W (Declared.row Held.the-type) }
 
 abbrev pub xs : List.List Syntax.Ty
 xs = List._∷_ (Syntax.tyStruct (List._∷_ 112 (List._∷_ 121 (List._∷_ 114 (List._∷_ 97 (List._∷_ 109 (List._∷_ 105 (List._∷_ 100 (List._∷_ 58 (List._∷_ 58 (List._∷_ 79 (List._∷_ 117 (List._∷_ 116 (List._∷_ 99 (List._∷_ 111 (List._∷_ 109 (List._∷_ 101 List.[])))))))))))))))) (Syntax.tcons (Syntax.tyStruct (List._∷_ 112 (List._∷_ 121 (List._∷_ 114 (List._∷_ 97 (List._∷_ 109 (List._∷_ 105 (List._∷_ 100 (List._∷_ 58 (List._∷_ 58 (List._∷_ 83 (List._∷_ 116 (List._∷_ 97 (List._∷_ 116 (List._∷_ 101 List.[])))))))))))))) (Syntax.tcons (Syntax.tyInt Syntax.w32) (Syntax.tcons (Syntax.tyInt Syntax.w32) (Syntax.tcons (Syntax.tyInt Syntax.w32) (Syntax.tcons (Syntax.tyInt Syntax.w32) (Syntax.tcons (Syntax.tyInt Syntax.w32) (Syntax.tcons (Syntax.tyArray (Syntax.tyInt Syntax.w32) 64) Syntax.tnil))))))) (Syntax.tcons (Syntax.tyEnum (List._∷_ 100 (List._∷_ 97 (List._∷_ 114 (List._∷_ 116 (List._∷_ 115 (List._∷_ 58 (List._∷_ 58 (List._∷_ 65 (List._∷_ 110 (List._∷_ 115 (List._∷_ 119 (List._∷_ 101 (List._∷_ 114 List.[]))))))))))))) (Syntax.ttcons (Syntax.tcons (Syntax.tyInt Syntax.w64) Syntax.tnil) (Syntax.ttcons Syntax.tnil (Syntax.ttcons (Syntax.tcons (Syntax.tyInt Syntax.w64) Syntax.tnil) (Syntax.ttcons (Syntax.tcons (Syntax.tyInt Syntax.w64) (Syntax.tcons (Syntax.tyInt Syntax.w64) Syntax.tnil)) (Syntax.ttcons Syntax.tnil (Syntax.ttcons Syntax.tnil (Syntax.ttcons Syntax.tnil (Syntax.ttcons (Syntax.tcons (Syntax.tyInt Syntax.w64) Syntax.tnil) (Syntax.ttcons (Syntax.tcons (Syntax.tyInt Syntax.w64) Syntax.tnil) (Syntax.ttcons (Syntax.tcons (Syntax.tyInt Syntax.w64) Syntax.tnil) (Syntax.ttcons (Syntax.tcons (Syntax.tyInt Syntax.w64) Syntax.tnil) (Syntax.ttcons (Syntax.tcons (Syntax.tyInt Syntax.w64) Syntax.tnil) (Syntax.ttcons (Syntax.tcons (Syntax.tyInt Syntax.w64) Syntax.tnil) (Syntax.ttcons (Syntax.tcons (Syntax.tyInt Syntax.w64) Syntax.tnil) (Syntax.ttcons Syntax.tnil (Syntax.ttcons Syntax.tnil (Syntax.ttcons (Syntax.tcons (Syntax.tyInt Syntax.w64) Syntax.tnil) Syntax.ttnil)))))))))))))))))) Syntax.tnil))) (List._∷_ (Syntax.tyInt Syntax.w64) (List._∷_ (Syntax.tyInt Syntax.w64) (List._∷_ (Syntax.tyRef Syntax.erased Syntax.imm (Syntax.tyInt Syntax.w32)) (List._∷_ (Syntax.tyStruct (List._∷_ 38 (List._∷_ 91 (List._∷_ 93 List.[]))) (Syntax.tcons (Syntax.tyRef Syntax.erased Syntax.imm (Syntax.tyInt Syntax.w32)) (Syntax.tcons (Syntax.tyInt Syntax.w64) Syntax.tnil))) (List._∷_ (Syntax.tyRef Syntax.erased Syntax.mut (Syntax.tyInt Syntax.w32)) (List._∷_ (Syntax.tyStruct (List._∷_ 38 (List._∷_ 91 (List._∷_ 93 List.[]))) (Syntax.tcons (Syntax.tyRef Syntax.erased Syntax.mut (Syntax.tyInt Syntax.w32)) (Syntax.tcons (Syntax.tyInt Syntax.w64) Syntax.tnil))) (List._∷_ (Syntax.tyRef Syntax.erased Syntax.mut (Syntax.tyInt Syntax.w32)) (List._∷_ (Syntax.tyStruct (List._∷_ 38 (List._∷_ 91 (List._∷_ 93 List.[]))) (Syntax.tcons (Syntax.tyRef Syntax.erased Syntax.mut (Syntax.tyInt Syntax.w32)) (Syntax.tcons (Syntax.tyInt Syntax.w64) Syntax.tnil))) (List._∷_ (Syntax.tyRef Syntax.erased Syntax.mut (Syntax.tyInt Syntax.w32)) (List._∷_ (Syntax.tyStruct (List._∷_ 38 (List._∷_ 91 (List._∷_ 93 List.[]))) (Syntax.tcons (Syntax.tyRef Syntax.erased Syntax.mut (Syntax.tyInt Syntax.w32)) (Syntax.tcons (Syntax.tyInt Syntax.w64) Syntax.tnil))) (List._∷_ (Syntax.tyRef Syntax.erased Syntax.mut Cell.behind) (List._∷_ (Syntax.tyStruct (List._∷_ 38 (List._∷_ 91 (List._∷_ 93 List.[]))) (Syntax.tcons (Syntax.tyRef Syntax.erased Syntax.mut Cell.behind) (Syntax.tcons (Syntax.tyInt Syntax.w64) Syntax.tnil))) (List._∷_ (Syntax.tyRef Syntax.erased Syntax.mut Cell.behind) (List._∷_ (Syntax.tyStruct (List._∷_ 38 (List._∷_ 91 (List._∷_ 93 List.[]))) (Syntax.tcons (Syntax.tyRef Syntax.erased Syntax.mut Cell.behind) (Syntax.tcons (Syntax.tyInt Syntax.w64) Syntax.tnil))) (List._∷_ (Syntax.tyRef Syntax.erased Syntax.imm Cell.behind) (List._∷_ (Syntax.tyStruct (List._∷_ 38 (List._∷_ 91 (List._∷_ 93 List.[]))) (Syntax.tcons (Syntax.tyRef Syntax.erased Syntax.imm Cell.behind) (Syntax.tcons (Syntax.tyInt Syntax.w64) Syntax.tnil))) (List._∷_ (Syntax.tyInt Syntax.w64) (List._∷_ (Syntax.tyRef Syntax.erased Syntax.imm Cell.behind) (List._∷_ (Syntax.tyStruct (List._∷_ 38 (List._∷_ 91 (List._∷_ 93 List.[]))) (Syntax.tcons (Syntax.tyRef Syntax.erased Syntax.imm Cell.behind) (Syntax.tcons (Syntax.tyInt Syntax.w64) Syntax.tnil))) (List._∷_ (Syntax.tyRef Syntax.erased Syntax.imm (Syntax.tyArray (Syntax.tyInt Syntax.w32) 65540)) (List._∷_ (Syntax.tyRef Syntax.erased Syntax.imm (Syntax.tyArray (Syntax.tyInt Syntax.w32) 32772)) (List._∷_ (Syntax.tyRef Syntax.erased Syntax.imm (Syntax.tyArray (Syntax.tyInt Syntax.w32) 262160)) List.[]))))))))))))))))))))))
@@ -71,7 +71,7 @@ abbrev pub m : Nat.ℕ
 m = 10
 
 abbrev pub ps·0 : List.List (Kinds.PK 6)
-ps·0 = List._∷_ (Value.pVal record { ty = Declared.row Held.the-type; one = Path'.refl; val = Laws'3.val Held.the-type Laws'.the-laws; tells = Laws'3.tells Held.the-type Laws'.the-laws; still = Laws'3.still Held.the-type Laws'.the-copy Exit.yes; row = Rows.whole (Declared.row Held.the-type); rd = λ x. x; mk = λ x. x } λ M 𝓤 H A W. record { copies = Laws'3.copy Held.the-type Laws'.the-copy 𝓤 H A W; lawful = Laws'3.lawful Held.the-type Laws'.the-laws 𝓤 H A W; makes = Laws'3.makes Held.the-type Laws'.the-plain 𝓤 H A; in-mem = Local.mem-whole 𝓤 H A W (Declared.row Held.the-type); of-mem = Local.whole-mem 𝓤 H A W (Declared.row Held.the-type) }) (List._∷_ (Value.pVal record { ty = Declared.row Line.the-type; one = Path'.refl; val = Laws'3.val Line.the-type Laws''.the-laws; tells = Laws'3.tells Line.the-type Laws''.the-laws; still = Laws'3.still Line.the-type Laws''.the-copy Exit.yes; row = Rows.whole (Declared.row Line.the-type); rd = λ x. x; mk = λ x. x } λ M 𝓤 H A W. record { copies = Laws'3.copy Line.the-type Laws''.the-copy 𝓤 H A W; lawful = Laws'3.lawful Line.the-type Laws''.the-laws 𝓤 H A W; makes = Laws'3.makes Line.the-type Laws''.the-plain 𝓤 H A; in-mem = Local.mem-whole 𝓤 H A W (Declared.row Line.the-type); of-mem = Local.whole-mem 𝓤 H A W (Declared.row Line.the-type) }) (List._∷_ (ShrSlice.pShrS (Referent.rtF (Referent.fInt Syntax.w32)) 0 tt) (List._∷_ (MutSlice.pMutS (Referent.rtF (Referent.fInt Syntax.w32)) 1 tt) (List._∷_ (MutSlice.pMutS (Referent.rtF (Referent.fInt Syntax.w32)) 2 tt) (List._∷_ (MutSlice.pMutS (Referent.rtF (Referent.fInt Syntax.w32)) 3 tt) (List._∷_ (MutSlice.pMutS Cell.R 4 tt) (List._∷_ (MutSlice.pMutS Cell.R 5 tt) List.[])))))))
+ps·0 = List._∷_ (Value.pVal record { ty = Declared.row Held.the-type; one = Path'.refl; val = Laws'3.val Held.the-type Laws''.the-laws; tells = Laws'3.tells Held.the-type Laws''.the-laws; still = Laws'3.still Held.the-type Laws''.the-copy Exit.yes; row = Rows.whole (Declared.row Held.the-type); rd = λ x. x; mk = λ x. x } λ M 𝓤 H A W. record { copies = Laws'3.copy Held.the-type Laws''.the-copy 𝓤 H A W; lawful = Laws'3.lawful Held.the-type Laws''.the-laws 𝓤 H A W; makes = Laws'3.makes Held.the-type Laws''.the-plain 𝓤 H A; in-mem = Local.mem-whole 𝓤 H A W (Declared.row Held.the-type); of-mem = Local.whole-mem 𝓤 H A W (Declared.row Held.the-type) }) (List._∷_ (Value.pVal record { ty = Declared.row Line.the-type; one = Path'.refl; val = Laws'3.val Line.the-type Laws'.the-laws; tells = Laws'3.tells Line.the-type Laws'.the-laws; still = Laws'3.still Line.the-type Laws'.the-copy Exit.yes; row = Rows.whole (Declared.row Line.the-type); rd = λ x. x; mk = λ x. x } λ M 𝓤 H A W. record { copies = Laws'3.copy Line.the-type Laws'.the-copy 𝓤 H A W; lawful = Laws'3.lawful Line.the-type Laws'.the-laws 𝓤 H A W; makes = Laws'3.makes Line.the-type Laws'.the-plain 𝓤 H A; in-mem = Local.mem-whole 𝓤 H A W (Declared.row Line.the-type); of-mem = Local.whole-mem 𝓤 H A W (Declared.row Line.the-type) }) (List._∷_ (ShrSlice.pShrS (Referent.rtF (Referent.fInt Syntax.w32)) 0 tt) (List._∷_ (MutSlice.pMutS (Referent.rtF (Referent.fInt Syntax.w32)) 1 tt) (List._∷_ (MutSlice.pMutS (Referent.rtF (Referent.fInt Syntax.w32)) 2 tt) (List._∷_ (MutSlice.pMutS (Referent.rtF (Referent.fInt Syntax.w32)) 3 tt) (List._∷_ (MutSlice.pMutS Cell.R 4 tt) (List._∷_ (MutSlice.pMutS Cell.R 5 tt) List.[])))))))
 
 abbrev pub r·0 : Kinds.RK 6
 r·0 = Value.rVal record { ty = Declared.row Outcome.the-type; one = Path'.refl; val = Laws'3.val Outcome.the-type Laws.the-laws; tells = Laws'3.tells Outcome.the-type Laws.the-laws; still = Laws'3.still Outcome.the-type Laws.the-copy Exit.yes; row = Rows.whole (Declared.row Outcome.the-type); rd = λ x. x; mk = λ x. x } λ M 𝓤 H A W. record { copies = Laws'3.copy Outcome.the-type Laws.the-copy 𝓤 H A W; lawful = Laws'3.lawful Outcome.the-type Laws.the-laws 𝓤 H A W; makes = Laws'3.makes Outcome.the-type Laws.the-plain 𝓤 H A; in-mem = Local.mem-whole 𝓤 H A W (Declared.row Outcome.the-type); of-mem = Local.whole-mem 𝓤 H A W (Declared.row Outcome.the-type) }
@@ -83,10 +83,10 @@ abbrev pub r·1 : Kinds.RK 1
 r·1 = Num.rNum Syntax.w64
 
 abbrev pub ps·2 : List.List (Kinds.PK 4)
-ps·2 = List._∷_ (Value.pVal record { ty = Declared.row Held.the-type; one = Path'.refl; val = Laws'3.val Held.the-type Laws'.the-laws; tells = Laws'3.tells Held.the-type Laws'.the-laws; still = Laws'3.still Held.the-type Laws'.the-copy Exit.yes; row = Rows.whole (Declared.row Held.the-type); rd = λ x. x; mk = λ x. x } λ M 𝓤 H A W. record { copies = Laws'3.copy Held.the-type Laws'.the-copy 𝓤 H A W; lawful = Laws'3.lawful Held.the-type Laws'.the-laws 𝓤 H A W; makes = Laws'3.makes Held.the-type Laws'.the-plain 𝓤 H A; in-mem = Local.mem-whole 𝓤 H A W (Declared.row Held.the-type); of-mem = Local.whole-mem 𝓤 H A W (Declared.row Held.the-type) }) (List._∷_ (Value.pVal record { ty = Declared.row Outcome.the-type; one = Path'.refl; val = Laws'3.val Outcome.the-type Laws.the-laws; tells = Laws'3.tells Outcome.the-type Laws.the-laws; still = Laws'3.still Outcome.the-type Laws.the-copy Exit.yes; row = Rows.whole (Declared.row Outcome.the-type); rd = λ x. x; mk = λ x. x } λ M 𝓤 H A W. record { copies = Laws'3.copy Outcome.the-type Laws.the-copy 𝓤 H A W; lawful = Laws'3.lawful Outcome.the-type Laws.the-laws 𝓤 H A W; makes = Laws'3.makes Outcome.the-type Laws.the-plain 𝓤 H A; in-mem = Local.mem-whole 𝓤 H A W (Declared.row Outcome.the-type); of-mem = Local.whole-mem 𝓤 H A W (Declared.row Outcome.the-type) }) (List._∷_ (Num.pNum Syntax.w64) (List._∷_ (Num.pNum Syntax.w64) (List._∷_ (ShrRef.pShr (Array.Array (Referent.rtF (Referent.fInt Syntax.w32)) 65540) 0 tt) (List._∷_ (ShrRef.pShr (Array.Array (Referent.rtF (Referent.fInt Syntax.w32)) 32772) 1 tt) (List._∷_ (ShrRef.pShr (Array.Array (Referent.rtF (Referent.fInt Syntax.w32)) 262160) 2 tt) (List._∷_ (ShrRef.pShr (Array.Array (Referent.rtF (Referent.fInt Syntax.w8)) 600000) 3 tt) List.[])))))))
+ps·2 = List._∷_ (Value.pVal record { ty = Declared.row Held.the-type; one = Path'.refl; val = Laws'3.val Held.the-type Laws''.the-laws; tells = Laws'3.tells Held.the-type Laws''.the-laws; still = Laws'3.still Held.the-type Laws''.the-copy Exit.yes; row = Rows.whole (Declared.row Held.the-type); rd = λ x. x; mk = λ x. x } λ M 𝓤 H A W. record { copies = Laws'3.copy Held.the-type Laws''.the-copy 𝓤 H A W; lawful = Laws'3.lawful Held.the-type Laws''.the-laws 𝓤 H A W; makes = Laws'3.makes Held.the-type Laws''.the-plain 𝓤 H A; in-mem = Local.mem-whole 𝓤 H A W (Declared.row Held.the-type); of-mem = Local.whole-mem 𝓤 H A W (Declared.row Held.the-type) }) (List._∷_ (Value.pVal record { ty = Declared.row Outcome.the-type; one = Path'.refl; val = Laws'3.val Outcome.the-type Laws.the-laws; tells = Laws'3.tells Outcome.the-type Laws.the-laws; still = Laws'3.still Outcome.the-type Laws.the-copy Exit.yes; row = Rows.whole (Declared.row Outcome.the-type); rd = λ x. x; mk = λ x. x } λ M 𝓤 H A W. record { copies = Laws'3.copy Outcome.the-type Laws.the-copy 𝓤 H A W; lawful = Laws'3.lawful Outcome.the-type Laws.the-laws 𝓤 H A W; makes = Laws'3.makes Outcome.the-type Laws.the-plain 𝓤 H A; in-mem = Local.mem-whole 𝓤 H A W (Declared.row Outcome.the-type); of-mem = Local.whole-mem 𝓤 H A W (Declared.row Outcome.the-type) }) (List._∷_ (Num.pNum Syntax.w64) (List._∷_ (Num.pNum Syntax.w64) (List._∷_ (ShrRef.pShr (Array.Array (Referent.rtF (Referent.fInt Syntax.w32)) 65540) 0 tt) (List._∷_ (ShrRef.pShr (Array.Array (Referent.rtF (Referent.fInt Syntax.w32)) 32772) 1 tt) (List._∷_ (ShrRef.pShr (Array.Array (Referent.rtF (Referent.fInt Syntax.w32)) 262160) 2 tt) (List._∷_ (ShrRef.pShr (Array.Array (Referent.rtF (Referent.fInt Syntax.w8)) 600000) 3 tt) List.[])))))))
 
 abbrev pub r·2 : Kinds.RK 4
-r·2 = Value.rVal record { ty = Declared.row Held.the-type; one = Path'.refl; val = Laws'3.val Held.the-type Laws'.the-laws; tells = Laws'3.tells Held.the-type Laws'.the-laws; still = Laws'3.still Held.the-type Laws'.the-copy Exit.yes; row = Rows.whole (Declared.row Held.the-type); rd = λ x. x; mk = λ x. x } λ M 𝓤 H A W. record { copies = Laws'3.copy Held.the-type Laws'.the-copy 𝓤 H A W; lawful = Laws'3.lawful Held.the-type Laws'.the-laws 𝓤 H A W; makes = Laws'3.makes Held.the-type Laws'.the-plain 𝓤 H A; in-mem = Local.mem-whole 𝓤 H A W (Declared.row Held.the-type); of-mem = Local.whole-mem 𝓤 H A W (Declared.row Held.the-type) }
+r·2 = Value.rVal record { ty = Declared.row Held.the-type; one = Path'.refl; val = Laws'3.val Held.the-type Laws''.the-laws; tells = Laws'3.tells Held.the-type Laws''.the-laws; still = Laws'3.still Held.the-type Laws''.the-copy Exit.yes; row = Rows.whole (Declared.row Held.the-type); rd = λ x. x; mk = λ x. x } λ M 𝓤 H A W. record { copies = Laws'3.copy Held.the-type Laws''.the-copy 𝓤 H A W; lawful = Laws'3.lawful Held.the-type Laws''.the-laws 𝓤 H A W; makes = Laws'3.makes Held.the-type Laws''.the-plain 𝓤 H A; in-mem = Local.mem-whole 𝓤 H A W (Declared.row Held.the-type); of-mem = Local.whole-mem 𝓤 H A W (Declared.row Held.the-type) }
 
 abbrev pub hs : List.List Syntax.Home
 hs = List._∷_ Syntax.valueLocal (List._∷_ Syntax.valueLocal (List._∷_ Syntax.valueLocal (List._∷_ Syntax.valueLocal (List._∷_ Syntax.valueLocal (List._∷_ Syntax.valueLocal (List._∷_ Syntax.valueLocal (List._∷_ Syntax.valueLocal (List._∷_ Syntax.valueLocal (List._∷_ Syntax.valueLocal (List._∷_ Syntax.valueLocal (List._∷_ Syntax.valueLocal (List._∷_ Syntax.valueLocal (List._∷_ Syntax.valueLocal (List._∷_ Syntax.valueLocal (List._∷_ Syntax.valueLocal (List._∷_ Syntax.valueLocal (List._∷_ Syntax.valueLocal (List._∷_ Syntax.valueLocal (List._∷_ Syntax.valueLocal (List._∷_ Syntax.valueLocal (List._∷_ Syntax.valueLocal (List._∷_ Syntax.valueLocal (List._∷_ Syntax.valueLocal (List._∷_ Syntax.valueLocal (List._∷_ Syntax.valueLocal (List._∷_ Syntax.valueLocal (List._∷_ Syntax.valueLocal (List._∷_ Syntax.valueLocal (List._∷_ Syntax.valueLocal (List._∷_ Syntax.valueLocal (List._∷_ Syntax.valueLocal (List._∷_ Syntax.valueLocal List.[]))))))))))))))))))))))))))))))))
@@ -140,7 +140,7 @@ abbrev b15 : Syntax.Body
 b15 = Syntax.assign (Syntax.place 27 List.[]) (Syntax.op2 (Syntax.add Syntax.unsigned) (Syntax.copy (Syntax.place 1 (List._∷_ (Syntax.field 4) List.[]))) (Syntax.int Syntax.w64 4))
 
 abbrev b16 : Syntax.Body
-b16 = Syntax.call "zones::sheet_calls::sum_records" (List._∷_ (Syntax.copy (Syntax.place 26 List.[])) (List._∷_ (Syntax.copy (Syntax.place 27 List.[])) List.[])) (Syntax.place 11 List.[])
+b16 = Syntax.call "script::sums::sum_records" (List._∷_ (Syntax.copy (Syntax.place 26 List.[])) (List._∷_ (Syntax.copy (Syntax.place 27 List.[])) List.[])) (Syntax.place 11 List.[])
 
 abbrev b17 : Syntax.Body
 b17 = Syntax.assign (Syntax.place 28 List.[]) (Syntax.addrOf (Syntax.place 9 (List._∷_ (Syntax.deref Cell.held) List.[])))
@@ -152,7 +152,7 @@ abbrev b19 : Syntax.Body
 b19 = Syntax.assign (Syntax.place 27 List.[]) (Syntax.op2 (Syntax.add Syntax.unsigned) (Syntax.copy (Syntax.place 1 (List._∷_ (Syntax.field 5) List.[]))) (Syntax.int Syntax.w64 4))
 
 abbrev b20 : Syntax.Body
-b20 = Syntax.call "zones::sheet_calls::sum_records" (List._∷_ (Syntax.copy (Syntax.place 29 List.[])) (List._∷_ (Syntax.copy (Syntax.place 27 List.[])) List.[])) (Syntax.place 12 List.[])
+b20 = Syntax.call "script::sums::sum_records" (List._∷_ (Syntax.copy (Syntax.place 29 List.[])) (List._∷_ (Syntax.copy (Syntax.place 27 List.[])) List.[])) (Syntax.place 12 List.[])
 
 abbrev b21 : Syntax.Body
 b21 = Syntax.assign (Syntax.place 30 List.[]) (Syntax.addrOf (Syntax.place 4 (List._∷_ (Syntax.deref (Syntax.tyArray (Syntax.tyInt Syntax.w32) 65540)) List.[])))
@@ -260,7 +260,7 @@ abbrev pub t2 : List.List Row.Entry
 t2 = List._∷_ (32, Rows.any-gone (Syntax.tyRef Syntax.erased Syntax.imm (Syntax.tyArray (Syntax.tyInt Syntax.w32) 262160))) List.[]
 
 abbrev pub t3 : List.List Row.Entry
-t3 = List._∷_ (0, Rows.whole (Declared.row Held.the-type)) (List._∷_ (1, Rows.any-gone (Syntax.tyStruct (List._∷_ 122 (List._∷_ 111 (List._∷_ 110 (List._∷_ 101 (List._∷_ 115 (List._∷_ 58 (List._∷_ 58 (List._∷_ 104 (List._∷_ 101 (List._∷_ 108 (List._∷_ 100 (List._∷_ 58 (List._∷_ 58 (List._∷_ 72 (List._∷_ 101 (List._∷_ 108 (List._∷_ 100 List.[]))))))))))))))))) (Syntax.tcons (Syntax.tyStruct (List._∷_ 112 (List._∷_ 121 (List._∷_ 114 (List._∷_ 97 (List._∷_ 109 (List._∷_ 105 (List._∷_ 100 (List._∷_ 58 (List._∷_ 58 (List._∷_ 83 (List._∷_ 116 (List._∷_ 97 (List._∷_ 116 (List._∷_ 101 List.[])))))))))))))) (Syntax.tcons (Syntax.tyInt Syntax.w32) (Syntax.tcons (Syntax.tyInt Syntax.w32) (Syntax.tcons (Syntax.tyInt Syntax.w32) (Syntax.tcons (Syntax.tyInt Syntax.w32) (Syntax.tcons (Syntax.tyInt Syntax.w32) (Syntax.tcons (Syntax.tyArray (Syntax.tyInt Syntax.w32) 64) Syntax.tnil))))))) (Syntax.tcons (Syntax.tyInt Syntax.w64) (Syntax.tcons (Syntax.tyInt Syntax.w64) (Syntax.tcons (Syntax.tyInt Syntax.w64) (Syntax.tcons (Syntax.tyInt Syntax.w64) (Syntax.tcons (Syntax.tyInt Syntax.w64) (Syntax.tcons (Syntax.tyInt Syntax.w64) (Syntax.tcons Syntax.tyBool Syntax.tnil)))))))))) (List._∷_ (2, Rows.any-gone (Syntax.tyStruct (List._∷_ 122 (List._∷_ 111 (List._∷_ 110 (List._∷_ 101 (List._∷_ 115 (List._∷_ 58 (List._∷_ 58 (List._∷_ 115 (List._∷_ 99 (List._∷_ 97 (List._∷_ 110 (List._∷_ 58 (List._∷_ 58 (List._∷_ 76 (List._∷_ 105 (List._∷_ 110 (List._∷_ 101 List.[]))))))))))))))))) (Syntax.tcons (Syntax.tyInt Syntax.w32) (Syntax.tcons (Syntax.tyInt Syntax.w64) (Syntax.tcons (Syntax.tyInt Syntax.w64) (Syntax.tcons (Syntax.tyInt Syntax.w64) (Syntax.tcons (Syntax.tyInt Syntax.w64) Syntax.tnil))))))) (List._∷_ (3, Rows.sref (Array.Array (Referent.rtF (Referent.fInt Syntax.w32)) 32772) (Syntax.tyRef (Syntax.named 0) Syntax.imm (Syntax.tyArray (Syntax.tyInt Syntax.w32) 32772)) 0) (List._∷_ (4, Rows.mref (Array.Array (Referent.rtF (Referent.fInt Syntax.w32)) 65540) (Syntax.tyRef (Syntax.named 1) Syntax.mut (Syntax.tyArray (Syntax.tyInt Syntax.w32) 65540)) 1) (List._∷_ (5, Rows.mref (Array.Array (Referent.rtF (Referent.fInt Syntax.w32)) 32772) (Syntax.tyRef (Syntax.named 2) Syntax.mut (Syntax.tyArray (Syntax.tyInt Syntax.w32) 32772)) 2) (List._∷_ (6, Rows.mref (Array.Array (Referent.rtF (Referent.fInt Syntax.w32)) 262160) (Syntax.tyRef (Syntax.named 3) Syntax.mut (Syntax.tyArray (Syntax.tyInt Syntax.w32) 262160)) 3) (List._∷_ (7, Rows.sref (Array.Array (Referent.rtF (Referent.fInt Syntax.w8)) 600000) (Syntax.tyRef (Syntax.named 4) Syntax.imm (Syntax.tyArray (Syntax.tyInt Syntax.w8) 600000)) 4) (List._∷_ (8, Rows.mref (Array.Array Cell.R 65540) (Syntax.tyRef (Syntax.named 5) Syntax.mut (Syntax.tyArray Cell.behind 65540)) 5) (List._∷_ (9, Rows.mref (Array.Array Cell.R 32772) (Syntax.tyRef (Syntax.named 6) Syntax.mut (Syntax.tyArray Cell.behind 32772)) 6) (List._∷_ (10, Rows.any-gone (Syntax.tyStruct (List._∷_ 112 (List._∷_ 121 (List._∷_ 114 (List._∷_ 97 (List._∷_ 109 (List._∷_ 105 (List._∷_ 100 (List._∷_ 58 (List._∷_ 58 (List._∷_ 79 (List._∷_ 117 (List._∷_ 116 (List._∷_ 99 (List._∷_ 111 (List._∷_ 109 (List._∷_ 101 List.[])))))))))))))))) (Syntax.tcons (Syntax.tyStruct (List._∷_ 112 (List._∷_ 121 (List._∷_ 114 (List._∷_ 97 (List._∷_ 109 (List._∷_ 105 (List._∷_ 100 (List._∷_ 58 (List._∷_ 58 (List._∷_ 83 (List._∷_ 116 (List._∷_ 97 (List._∷_ 116 (List._∷_ 101 List.[])))))))))))))) (Syntax.tcons (Syntax.tyInt Syntax.w32) (Syntax.tcons (Syntax.tyInt Syntax.w32) (Syntax.tcons (Syntax.tyInt Syntax.w32) (Syntax.tcons (Syntax.tyInt Syntax.w32) (Syntax.tcons (Syntax.tyInt Syntax.w32) (Syntax.tcons (Syntax.tyArray (Syntax.tyInt Syntax.w32) 64) Syntax.tnil))))))) (Syntax.tcons (Syntax.tyEnum (List._∷_ 100 (List._∷_ 97 (List._∷_ 114 (List._∷_ 116 (List._∷_ 115 (List._∷_ 58 (List._∷_ 58 (List._∷_ 65 (List._∷_ 110 (List._∷_ 115 (List._∷_ 119 (List._∷_ 101 (List._∷_ 114 List.[]))))))))))))) (Syntax.ttcons (Syntax.tcons (Syntax.tyInt Syntax.w64) Syntax.tnil) (Syntax.ttcons Syntax.tnil (Syntax.ttcons (Syntax.tcons (Syntax.tyInt Syntax.w64) Syntax.tnil) (Syntax.ttcons (Syntax.tcons (Syntax.tyInt Syntax.w64) (Syntax.tcons (Syntax.tyInt Syntax.w64) Syntax.tnil)) (Syntax.ttcons Syntax.tnil (Syntax.ttcons Syntax.tnil (Syntax.ttcons Syntax.tnil (Syntax.ttcons (Syntax.tcons (Syntax.tyInt Syntax.w64) Syntax.tnil) (Syntax.ttcons (Syntax.tcons (Syntax.tyInt Syntax.w64) Syntax.tnil) (Syntax.ttcons (Syntax.tcons (Syntax.tyInt Syntax.w64) Syntax.tnil) (Syntax.ttcons (Syntax.tcons (Syntax.tyInt Syntax.w64) Syntax.tnil) (Syntax.ttcons (Syntax.tcons (Syntax.tyInt Syntax.w64) Syntax.tnil) (Syntax.ttcons (Syntax.tcons (Syntax.tyInt Syntax.w64) Syntax.tnil) (Syntax.ttcons (Syntax.tcons (Syntax.tyInt Syntax.w64) Syntax.tnil) (Syntax.ttcons Syntax.tnil (Syntax.ttcons Syntax.tnil (Syntax.ttcons (Syntax.tcons (Syntax.tyInt Syntax.w64) Syntax.tnil) Syntax.ttnil)))))))))))))))))) Syntax.tnil)))) (List._∷_ (11, Rows.any-gone (Syntax.tyInt Syntax.w64)) (List._∷_ (12, Rows.any-gone (Syntax.tyInt Syntax.w64)) (List._∷_ (13, Rows.any-gone (Syntax.tyRef Syntax.erased Syntax.imm (Syntax.tyInt Syntax.w32))) (List._∷_ (14, Rows.any-gone (Syntax.tyStruct (List._∷_ 38 (List._∷_ 91 (List._∷_ 93 List.[]))) (Syntax.tcons (Syntax.tyRef Syntax.erased Syntax.imm (Syntax.tyInt Syntax.w32)) (Syntax.tcons (Syntax.tyInt Syntax.w64) Syntax.tnil)))) (List._∷_ (15, Rows.any-gone (Syntax.tyRef Syntax.erased Syntax.mut (Syntax.tyInt Syntax.w32))) List.[])))))))))))))))
+t3 = List._∷_ (0, Rows.whole (Declared.row Held.the-type)) (List._∷_ (1, Rows.any-gone (Syntax.tyStruct (List._∷_ 122 (List._∷_ 111 (List._∷_ 110 (List._∷_ 101 (List._∷_ 115 (List._∷_ 58 (List._∷_ 58 (List._∷_ 104 (List._∷_ 101 (List._∷_ 108 (List._∷_ 100 (List._∷_ 58 (List._∷_ 58 (List._∷_ 72 (List._∷_ 101 (List._∷_ 108 (List._∷_ 100 List.[]))))))))))))))))) (Syntax.tcons (Syntax.tyStruct (List._∷_ 112 (List._∷_ 121 (List._∷_ 114 (List._∷_ 97 (List._∷_ 109 (List._∷_ 105 (List._∷_ 100 (List._∷_ 58 (List._∷_ 58 (List._∷_ 83 (List._∷_ 116 (List._∷_ 97 (List._∷_ 116 (List._∷_ 101 List.[])))))))))))))) (Syntax.tcons (Syntax.tyInt Syntax.w32) (Syntax.tcons (Syntax.tyInt Syntax.w32) (Syntax.tcons (Syntax.tyInt Syntax.w32) (Syntax.tcons (Syntax.tyInt Syntax.w32) (Syntax.tcons (Syntax.tyInt Syntax.w32) (Syntax.tcons (Syntax.tyArray (Syntax.tyInt Syntax.w32) 64) Syntax.tnil))))))) (Syntax.tcons (Syntax.tyInt Syntax.w64) (Syntax.tcons (Syntax.tyInt Syntax.w64) (Syntax.tcons (Syntax.tyInt Syntax.w64) (Syntax.tcons (Syntax.tyInt Syntax.w64) (Syntax.tcons (Syntax.tyInt Syntax.w64) (Syntax.tcons (Syntax.tyInt Syntax.w64) (Syntax.tcons Syntax.tyBool Syntax.tnil)))))))))) (List._∷_ (2, Rows.any-gone (Syntax.tyStruct (List._∷_ 115 (List._∷_ 99 (List._∷_ 114 (List._∷_ 105 (List._∷_ 112 (List._∷_ 116 (List._∷_ 58 (List._∷_ 58 (List._∷_ 115 (List._∷_ 99 (List._∷_ 97 (List._∷_ 110 (List._∷_ 58 (List._∷_ 58 (List._∷_ 76 (List._∷_ 105 (List._∷_ 110 (List._∷_ 101 List.[])))))))))))))))))) (Syntax.tcons (Syntax.tyInt Syntax.w32) (Syntax.tcons (Syntax.tyInt Syntax.w64) (Syntax.tcons (Syntax.tyInt Syntax.w64) (Syntax.tcons (Syntax.tyInt Syntax.w64) (Syntax.tcons (Syntax.tyInt Syntax.w64) Syntax.tnil))))))) (List._∷_ (3, Rows.sref (Array.Array (Referent.rtF (Referent.fInt Syntax.w32)) 32772) (Syntax.tyRef (Syntax.named 0) Syntax.imm (Syntax.tyArray (Syntax.tyInt Syntax.w32) 32772)) 0) (List._∷_ (4, Rows.mref (Array.Array (Referent.rtF (Referent.fInt Syntax.w32)) 65540) (Syntax.tyRef (Syntax.named 1) Syntax.mut (Syntax.tyArray (Syntax.tyInt Syntax.w32) 65540)) 1) (List._∷_ (5, Rows.mref (Array.Array (Referent.rtF (Referent.fInt Syntax.w32)) 32772) (Syntax.tyRef (Syntax.named 2) Syntax.mut (Syntax.tyArray (Syntax.tyInt Syntax.w32) 32772)) 2) (List._∷_ (6, Rows.mref (Array.Array (Referent.rtF (Referent.fInt Syntax.w32)) 262160) (Syntax.tyRef (Syntax.named 3) Syntax.mut (Syntax.tyArray (Syntax.tyInt Syntax.w32) 262160)) 3) (List._∷_ (7, Rows.sref (Array.Array (Referent.rtF (Referent.fInt Syntax.w8)) 600000) (Syntax.tyRef (Syntax.named 4) Syntax.imm (Syntax.tyArray (Syntax.tyInt Syntax.w8) 600000)) 4) (List._∷_ (8, Rows.mref (Array.Array Cell.R 65540) (Syntax.tyRef (Syntax.named 5) Syntax.mut (Syntax.tyArray Cell.behind 65540)) 5) (List._∷_ (9, Rows.mref (Array.Array Cell.R 32772) (Syntax.tyRef (Syntax.named 6) Syntax.mut (Syntax.tyArray Cell.behind 32772)) 6) (List._∷_ (10, Rows.any-gone (Syntax.tyStruct (List._∷_ 112 (List._∷_ 121 (List._∷_ 114 (List._∷_ 97 (List._∷_ 109 (List._∷_ 105 (List._∷_ 100 (List._∷_ 58 (List._∷_ 58 (List._∷_ 79 (List._∷_ 117 (List._∷_ 116 (List._∷_ 99 (List._∷_ 111 (List._∷_ 109 (List._∷_ 101 List.[])))))))))))))))) (Syntax.tcons (Syntax.tyStruct (List._∷_ 112 (List._∷_ 121 (List._∷_ 114 (List._∷_ 97 (List._∷_ 109 (List._∷_ 105 (List._∷_ 100 (List._∷_ 58 (List._∷_ 58 (List._∷_ 83 (List._∷_ 116 (List._∷_ 97 (List._∷_ 116 (List._∷_ 101 List.[])))))))))))))) (Syntax.tcons (Syntax.tyInt Syntax.w32) (Syntax.tcons (Syntax.tyInt Syntax.w32) (Syntax.tcons (Syntax.tyInt Syntax.w32) (Syntax.tcons (Syntax.tyInt Syntax.w32) (Syntax.tcons (Syntax.tyInt Syntax.w32) (Syntax.tcons (Syntax.tyArray (Syntax.tyInt Syntax.w32) 64) Syntax.tnil))))))) (Syntax.tcons (Syntax.tyEnum (List._∷_ 100 (List._∷_ 97 (List._∷_ 114 (List._∷_ 116 (List._∷_ 115 (List._∷_ 58 (List._∷_ 58 (List._∷_ 65 (List._∷_ 110 (List._∷_ 115 (List._∷_ 119 (List._∷_ 101 (List._∷_ 114 List.[]))))))))))))) (Syntax.ttcons (Syntax.tcons (Syntax.tyInt Syntax.w64) Syntax.tnil) (Syntax.ttcons Syntax.tnil (Syntax.ttcons (Syntax.tcons (Syntax.tyInt Syntax.w64) Syntax.tnil) (Syntax.ttcons (Syntax.tcons (Syntax.tyInt Syntax.w64) (Syntax.tcons (Syntax.tyInt Syntax.w64) Syntax.tnil)) (Syntax.ttcons Syntax.tnil (Syntax.ttcons Syntax.tnil (Syntax.ttcons Syntax.tnil (Syntax.ttcons (Syntax.tcons (Syntax.tyInt Syntax.w64) Syntax.tnil) (Syntax.ttcons (Syntax.tcons (Syntax.tyInt Syntax.w64) Syntax.tnil) (Syntax.ttcons (Syntax.tcons (Syntax.tyInt Syntax.w64) Syntax.tnil) (Syntax.ttcons (Syntax.tcons (Syntax.tyInt Syntax.w64) Syntax.tnil) (Syntax.ttcons (Syntax.tcons (Syntax.tyInt Syntax.w64) Syntax.tnil) (Syntax.ttcons (Syntax.tcons (Syntax.tyInt Syntax.w64) Syntax.tnil) (Syntax.ttcons (Syntax.tcons (Syntax.tyInt Syntax.w64) Syntax.tnil) (Syntax.ttcons Syntax.tnil (Syntax.ttcons Syntax.tnil (Syntax.ttcons (Syntax.tcons (Syntax.tyInt Syntax.w64) Syntax.tnil) Syntax.ttnil)))))))))))))))))) Syntax.tnil)))) (List._∷_ (11, Rows.any-gone (Syntax.tyInt Syntax.w64)) (List._∷_ (12, Rows.any-gone (Syntax.tyInt Syntax.w64)) (List._∷_ (13, Rows.any-gone (Syntax.tyRef Syntax.erased Syntax.imm (Syntax.tyInt Syntax.w32))) (List._∷_ (14, Rows.any-gone (Syntax.tyStruct (List._∷_ 38 (List._∷_ 91 (List._∷_ 93 List.[]))) (Syntax.tcons (Syntax.tyRef Syntax.erased Syntax.imm (Syntax.tyInt Syntax.w32)) (Syntax.tcons (Syntax.tyInt Syntax.w64) Syntax.tnil)))) (List._∷_ (15, Rows.any-gone (Syntax.tyRef Syntax.erased Syntax.mut (Syntax.tyInt Syntax.w32))) List.[])))))))))))))))
 
 abbrev pub t4 : List.List Row.Entry
 t4 = List._∷_ (0, Rows.any-gone (Syntax.tyStruct (List._∷_ 122 (List._∷_ 111 (List._∷_ 110 (List._∷_ 101 (List._∷_ 115 (List._∷_ 58 (List._∷_ 58 (List._∷_ 104 (List._∷_ 101 (List._∷_ 108 (List._∷_ 100 (List._∷_ 58 (List._∷_ 58 (List._∷_ 72 (List._∷_ 101 (List._∷_ 108 (List._∷_ 100 List.[]))))))))))))))))) (Syntax.tcons (Syntax.tyStruct (List._∷_ 112 (List._∷_ 121 (List._∷_ 114 (List._∷_ 97 (List._∷_ 109 (List._∷_ 105 (List._∷_ 100 (List._∷_ 58 (List._∷_ 58 (List._∷_ 83 (List._∷_ 116 (List._∷_ 97 (List._∷_ 116 (List._∷_ 101 List.[])))))))))))))) (Syntax.tcons (Syntax.tyInt Syntax.w32) (Syntax.tcons (Syntax.tyInt Syntax.w32) (Syntax.tcons (Syntax.tyInt Syntax.w32) (Syntax.tcons (Syntax.tyInt Syntax.w32) (Syntax.tcons (Syntax.tyInt Syntax.w32) (Syntax.tcons (Syntax.tyArray (Syntax.tyInt Syntax.w32) 64) Syntax.tnil))))))) (Syntax.tcons (Syntax.tyInt Syntax.w64) (Syntax.tcons (Syntax.tyInt Syntax.w64) (Syntax.tcons (Syntax.tyInt Syntax.w64) (Syntax.tcons (Syntax.tyInt Syntax.w64) (Syntax.tcons (Syntax.tyInt Syntax.w64) (Syntax.tcons (Syntax.tyInt Syntax.w64) (Syntax.tcons Syntax.tyBool Syntax.tnil)))))))))) (List._∷_ (1, Rows.whole (Declared.row Held.the-type)) (List._∷_ (2, Rows.whole (Declared.row Line.the-type)) (List._∷_ (3, Rows.sref (Array.Array (Referent.rtF (Referent.fInt Syntax.w32)) 32772) (Syntax.tyRef (Syntax.named 0) Syntax.imm (Syntax.tyArray (Syntax.tyInt Syntax.w32) 32772)) 0) (List._∷_ (4, Rows.mref (Array.Array (Referent.rtF (Referent.fInt Syntax.w32)) 65540) (Syntax.tyRef (Syntax.named 1) Syntax.mut (Syntax.tyArray (Syntax.tyInt Syntax.w32) 65540)) 1) (List._∷_ (5, Rows.mref (Array.Array (Referent.rtF (Referent.fInt Syntax.w32)) 32772) (Syntax.tyRef (Syntax.named 2) Syntax.mut (Syntax.tyArray (Syntax.tyInt Syntax.w32) 32772)) 2) (List._∷_ (6, Rows.mref (Array.Array (Referent.rtF (Referent.fInt Syntax.w32)) 262160) (Syntax.tyRef (Syntax.named 3) Syntax.mut (Syntax.tyArray (Syntax.tyInt Syntax.w32) 262160)) 3) (List._∷_ (7, Rows.sref (Array.Array (Referent.rtF (Referent.fInt Syntax.w8)) 600000) (Syntax.tyRef (Syntax.named 4) Syntax.imm (Syntax.tyArray (Syntax.tyInt Syntax.w8) 600000)) 4) (List._∷_ (8, Rows.mref (Array.Array Cell.R 65540) (Syntax.tyRef (Syntax.named 5) Syntax.mut (Syntax.tyArray Cell.behind 65540)) 5) (List._∷_ (9, Rows.mref (Array.Array Cell.R 32772) (Syntax.tyRef (Syntax.named 6) Syntax.mut (Syntax.tyArray Cell.behind 32772)) 6) (List._∷_ (10, Rows.any-gone (Syntax.tyStruct (List._∷_ 112 (List._∷_ 121 (List._∷_ 114 (List._∷_ 97 (List._∷_ 109 (List._∷_ 105 (List._∷_ 100 (List._∷_ 58 (List._∷_ 58 (List._∷_ 79 (List._∷_ 117 (List._∷_ 116 (List._∷_ 99 (List._∷_ 111 (List._∷_ 109 (List._∷_ 101 List.[])))))))))))))))) (Syntax.tcons (Syntax.tyStruct (List._∷_ 112 (List._∷_ 121 (List._∷_ 114 (List._∷_ 97 (List._∷_ 109 (List._∷_ 105 (List._∷_ 100 (List._∷_ 58 (List._∷_ 58 (List._∷_ 83 (List._∷_ 116 (List._∷_ 97 (List._∷_ 116 (List._∷_ 101 List.[])))))))))))))) (Syntax.tcons (Syntax.tyInt Syntax.w32) (Syntax.tcons (Syntax.tyInt Syntax.w32) (Syntax.tcons (Syntax.tyInt Syntax.w32) (Syntax.tcons (Syntax.tyInt Syntax.w32) (Syntax.tcons (Syntax.tyInt Syntax.w32) (Syntax.tcons (Syntax.tyArray (Syntax.tyInt Syntax.w32) 64) Syntax.tnil))))))) (Syntax.tcons (Syntax.tyEnum (List._∷_ 100 (List._∷_ 97 (List._∷_ 114 (List._∷_ 116 (List._∷_ 115 (List._∷_ 58 (List._∷_ 58 (List._∷_ 65 (List._∷_ 110 (List._∷_ 115 (List._∷_ 119 (List._∷_ 101 (List._∷_ 114 List.[]))))))))))))) (Syntax.ttcons (Syntax.tcons (Syntax.tyInt Syntax.w64) Syntax.tnil) (Syntax.ttcons Syntax.tnil (Syntax.ttcons (Syntax.tcons (Syntax.tyInt Syntax.w64) Syntax.tnil) (Syntax.ttcons (Syntax.tcons (Syntax.tyInt Syntax.w64) (Syntax.tcons (Syntax.tyInt Syntax.w64) Syntax.tnil)) (Syntax.ttcons Syntax.tnil (Syntax.ttcons Syntax.tnil (Syntax.ttcons Syntax.tnil (Syntax.ttcons (Syntax.tcons (Syntax.tyInt Syntax.w64) Syntax.tnil) (Syntax.ttcons (Syntax.tcons (Syntax.tyInt Syntax.w64) Syntax.tnil) (Syntax.ttcons (Syntax.tcons (Syntax.tyInt Syntax.w64) Syntax.tnil) (Syntax.ttcons (Syntax.tcons (Syntax.tyInt Syntax.w64) Syntax.tnil) (Syntax.ttcons (Syntax.tcons (Syntax.tyInt Syntax.w64) Syntax.tnil) (Syntax.ttcons (Syntax.tcons (Syntax.tyInt Syntax.w64) Syntax.tnil) (Syntax.ttcons (Syntax.tcons (Syntax.tyInt Syntax.w64) Syntax.tnil) (Syntax.ttcons Syntax.tnil (Syntax.ttcons Syntax.tnil (Syntax.ttcons (Syntax.tcons (Syntax.tyInt Syntax.w64) Syntax.tnil) Syntax.ttnil)))))))))))))))))) Syntax.tnil)))) (List._∷_ (11, Rows.any-gone (Syntax.tyInt Syntax.w64)) (List._∷_ (12, Rows.any-gone (Syntax.tyInt Syntax.w64)) (List._∷_ (13, Rows.sref (Array.Array (Referent.rtF (Referent.fInt Syntax.w32)) 32772) (Syntax.tyRef Syntax.erased Syntax.imm (Syntax.tyInt Syntax.w32)) 0) (List._∷_ (14, Rows.any-gone (Syntax.tyStruct (List._∷_ 38 (List._∷_ 91 (List._∷_ 93 List.[]))) (Syntax.tcons (Syntax.tyRef Syntax.erased Syntax.imm (Syntax.tyInt Syntax.w32)) (Syntax.tcons (Syntax.tyInt Syntax.w64) Syntax.tnil)))) (List._∷_ (15, Rows.any-gone (Syntax.tyRef Syntax.erased Syntax.mut (Syntax.tyInt Syntax.w32))) List.[])))))))))))))))
@@ -326,37 +326,37 @@ abbrev pub t24 : List.List Row.Entry
 t24 = List._∷_ (0, Rows.any-gone (Syntax.tyStruct (List._∷_ 122 (List._∷_ 111 (List._∷_ 110 (List._∷_ 101 (List._∷_ 115 (List._∷_ 58 (List._∷_ 58 (List._∷_ 104 (List._∷_ 101 (List._∷_ 108 (List._∷_ 100 (List._∷_ 58 (List._∷_ 58 (List._∷_ 72 (List._∷_ 101 (List._∷_ 108 (List._∷_ 100 List.[]))))))))))))))))) (Syntax.tcons (Syntax.tyStruct (List._∷_ 112 (List._∷_ 121 (List._∷_ 114 (List._∷_ 97 (List._∷_ 109 (List._∷_ 105 (List._∷_ 100 (List._∷_ 58 (List._∷_ 58 (List._∷_ 83 (List._∷_ 116 (List._∷_ 97 (List._∷_ 116 (List._∷_ 101 List.[])))))))))))))) (Syntax.tcons (Syntax.tyInt Syntax.w32) (Syntax.tcons (Syntax.tyInt Syntax.w32) (Syntax.tcons (Syntax.tyInt Syntax.w32) (Syntax.tcons (Syntax.tyInt Syntax.w32) (Syntax.tcons (Syntax.tyInt Syntax.w32) (Syntax.tcons (Syntax.tyArray (Syntax.tyInt Syntax.w32) 64) Syntax.tnil))))))) (Syntax.tcons (Syntax.tyInt Syntax.w64) (Syntax.tcons (Syntax.tyInt Syntax.w64) (Syntax.tcons (Syntax.tyInt Syntax.w64) (Syntax.tcons (Syntax.tyInt Syntax.w64) (Syntax.tcons (Syntax.tyInt Syntax.w64) (Syntax.tcons (Syntax.tyInt Syntax.w64) (Syntax.tcons Syntax.tyBool Syntax.tnil)))))))))) (List._∷_ (1, Rows.whole (Declared.row Held.the-type)) (List._∷_ (2, Rows.whole (Declared.row Line.the-type)) (List._∷_ (3, Rows.sref (Array.Array (Referent.rtF (Referent.fInt Syntax.w32)) 32772) (Syntax.tyRef (Syntax.named 0) Syntax.imm (Syntax.tyArray (Syntax.tyInt Syntax.w32) 32772)) 0) (List._∷_ (4, Frozen.held (Frozen.fz-open Syntax.erased 1 List.[] Row.off (AsSlice.fz-lent-sl (Referent.rtF (Referent.fInt Syntax.w32)) 65540 7))) (List._∷_ (5, Frozen.held (Frozen.fz-open Syntax.erased 2 List.[] Row.off (AsSlice.fz-lent-sl (Referent.rtF (Referent.fInt Syntax.w32)) 32772 8))) (List._∷_ (6, Frozen.held (Frozen.fz-open Syntax.erased 3 List.[] Row.off (AsSlice.fz-lent-sl (Referent.rtF (Referent.fInt Syntax.w32)) 262160 9))) (List._∷_ (7, Rows.sref (Array.Array (Referent.rtF (Referent.fInt Syntax.w8)) 600000) (Syntax.tyRef (Syntax.named 4) Syntax.imm (Syntax.tyArray (Syntax.tyInt Syntax.w8) 600000)) 4) (List._∷_ (8, Frozen.held (Frozen.fz-open Syntax.erased 5 List.[] Row.off (AsSlice.fz-lent-sl Cell.R 65540 10))) (List._∷_ (9, Frozen.held (Frozen.fz-open Syntax.erased 6 List.[] Row.off (AsSlice.fz-lent-sl Cell.R 32772 11))) (List._∷_ (10, Rows.whole (Declared.row Outcome.the-type)) (List._∷_ (11, Rows.any-gone (Syntax.tyInt Syntax.w64)) (List._∷_ (12, Rows.any-gone (Syntax.tyInt Syntax.w64)) (List._∷_ (13, Rows.any-gone (Syntax.tyRef Syntax.erased Syntax.imm (Syntax.tyInt Syntax.w32))) (List._∷_ (14, Rows.any-gone (Syntax.tyStruct (List._∷_ 38 (List._∷_ 91 (List._∷_ 93 List.[]))) (Syntax.tcons (Syntax.tyRef Syntax.erased Syntax.imm (Syntax.tyInt Syntax.w32)) (Syntax.tcons (Syntax.tyInt Syntax.w64) Syntax.tnil)))) (List._∷_ (15, Rows.any-gone (Syntax.tyRef Syntax.erased Syntax.mut (Syntax.tyInt Syntax.w32))) List.[])))))))))))))))
 
 abbrev pub t25 : List.List Row.Entry
-t25 = List._∷_ (0, Rows.any-gone (Syntax.tyStruct (List._∷_ 122 (List._∷_ 111 (List._∷_ 110 (List._∷_ 101 (List._∷_ 115 (List._∷_ 58 (List._∷_ 58 (List._∷_ 104 (List._∷_ 101 (List._∷_ 108 (List._∷_ 100 (List._∷_ 58 (List._∷_ 58 (List._∷_ 72 (List._∷_ 101 (List._∷_ 108 (List._∷_ 100 List.[]))))))))))))))))) (Syntax.tcons (Syntax.tyStruct (List._∷_ 112 (List._∷_ 121 (List._∷_ 114 (List._∷_ 97 (List._∷_ 109 (List._∷_ 105 (List._∷_ 100 (List._∷_ 58 (List._∷_ 58 (List._∷_ 83 (List._∷_ 116 (List._∷_ 97 (List._∷_ 116 (List._∷_ 101 List.[])))))))))))))) (Syntax.tcons (Syntax.tyInt Syntax.w32) (Syntax.tcons (Syntax.tyInt Syntax.w32) (Syntax.tcons (Syntax.tyInt Syntax.w32) (Syntax.tcons (Syntax.tyInt Syntax.w32) (Syntax.tcons (Syntax.tyInt Syntax.w32) (Syntax.tcons (Syntax.tyArray (Syntax.tyInt Syntax.w32) 64) Syntax.tnil))))))) (Syntax.tcons (Syntax.tyInt Syntax.w64) (Syntax.tcons (Syntax.tyInt Syntax.w64) (Syntax.tcons (Syntax.tyInt Syntax.w64) (Syntax.tcons (Syntax.tyInt Syntax.w64) (Syntax.tcons (Syntax.tyInt Syntax.w64) (Syntax.tcons (Syntax.tyInt Syntax.w64) (Syntax.tcons Syntax.tyBool Syntax.tnil)))))))))) (List._∷_ (1, Rows.whole (Declared.row Held.the-type)) (List._∷_ (2, Rows.any-gone (Syntax.tyStruct (List._∷_ 122 (List._∷_ 111 (List._∷_ 110 (List._∷_ 101 (List._∷_ 115 (List._∷_ 58 (List._∷_ 58 (List._∷_ 115 (List._∷_ 99 (List._∷_ 97 (List._∷_ 110 (List._∷_ 58 (List._∷_ 58 (List._∷_ 76 (List._∷_ 105 (List._∷_ 110 (List._∷_ 101 List.[]))))))))))))))))) (Syntax.tcons (Syntax.tyInt Syntax.w32) (Syntax.tcons (Syntax.tyInt Syntax.w64) (Syntax.tcons (Syntax.tyInt Syntax.w64) (Syntax.tcons (Syntax.tyInt Syntax.w64) (Syntax.tcons (Syntax.tyInt Syntax.w64) Syntax.tnil))))))) (List._∷_ (3, Rows.sref (Array.Array (Referent.rtF (Referent.fInt Syntax.w32)) 32772) (Syntax.tyRef (Syntax.named 0) Syntax.imm (Syntax.tyArray (Syntax.tyInt Syntax.w32) 32772)) 0) (List._∷_ (4, Frozen.held (Frozen.fz-open Syntax.erased 1 List.[] Row.off (AsSlice.fz-lent-sl (Referent.rtF (Referent.fInt Syntax.w32)) 65540 7))) (List._∷_ (5, Frozen.held (Frozen.fz-open Syntax.erased 2 List.[] Row.off (AsSlice.fz-lent-sl (Referent.rtF (Referent.fInt Syntax.w32)) 32772 8))) (List._∷_ (6, Frozen.held (Frozen.fz-open Syntax.erased 3 List.[] Row.off (AsSlice.fz-lent-sl (Referent.rtF (Referent.fInt Syntax.w32)) 262160 9))) (List._∷_ (7, Rows.sref (Array.Array (Referent.rtF (Referent.fInt Syntax.w8)) 600000) (Syntax.tyRef (Syntax.named 4) Syntax.imm (Syntax.tyArray (Syntax.tyInt Syntax.w8) 600000)) 4) (List._∷_ (8, Frozen.held (Frozen.fz-open Syntax.erased 5 List.[] Row.off (AsSlice.fz-lent-sl Cell.R 65540 10))) (List._∷_ (9, Frozen.held (Frozen.fz-open Syntax.erased 6 List.[] Row.off (AsSlice.fz-lent-sl Cell.R 32772 11))) (List._∷_ (10, Rows.whole (Declared.row Outcome.the-type)) (List._∷_ (11, Rows.any-gone (Syntax.tyInt Syntax.w64)) (List._∷_ (12, Rows.any-gone (Syntax.tyInt Syntax.w64)) (List._∷_ (13, Rows.any-gone (Syntax.tyRef Syntax.erased Syntax.imm (Syntax.tyInt Syntax.w32))) (List._∷_ (14, Rows.any-gone (Syntax.tyStruct (List._∷_ 38 (List._∷_ 91 (List._∷_ 93 List.[]))) (Syntax.tcons (Syntax.tyRef Syntax.erased Syntax.imm (Syntax.tyInt Syntax.w32)) (Syntax.tcons (Syntax.tyInt Syntax.w64) Syntax.tnil)))) (List._∷_ (15, Rows.any-gone (Syntax.tyRef Syntax.erased Syntax.mut (Syntax.tyInt Syntax.w32))) List.[])))))))))))))))
+t25 = List._∷_ (0, Rows.any-gone (Syntax.tyStruct (List._∷_ 122 (List._∷_ 111 (List._∷_ 110 (List._∷_ 101 (List._∷_ 115 (List._∷_ 58 (List._∷_ 58 (List._∷_ 104 (List._∷_ 101 (List._∷_ 108 (List._∷_ 100 (List._∷_ 58 (List._∷_ 58 (List._∷_ 72 (List._∷_ 101 (List._∷_ 108 (List._∷_ 100 List.[]))))))))))))))))) (Syntax.tcons (Syntax.tyStruct (List._∷_ 112 (List._∷_ 121 (List._∷_ 114 (List._∷_ 97 (List._∷_ 109 (List._∷_ 105 (List._∷_ 100 (List._∷_ 58 (List._∷_ 58 (List._∷_ 83 (List._∷_ 116 (List._∷_ 97 (List._∷_ 116 (List._∷_ 101 List.[])))))))))))))) (Syntax.tcons (Syntax.tyInt Syntax.w32) (Syntax.tcons (Syntax.tyInt Syntax.w32) (Syntax.tcons (Syntax.tyInt Syntax.w32) (Syntax.tcons (Syntax.tyInt Syntax.w32) (Syntax.tcons (Syntax.tyInt Syntax.w32) (Syntax.tcons (Syntax.tyArray (Syntax.tyInt Syntax.w32) 64) Syntax.tnil))))))) (Syntax.tcons (Syntax.tyInt Syntax.w64) (Syntax.tcons (Syntax.tyInt Syntax.w64) (Syntax.tcons (Syntax.tyInt Syntax.w64) (Syntax.tcons (Syntax.tyInt Syntax.w64) (Syntax.tcons (Syntax.tyInt Syntax.w64) (Syntax.tcons (Syntax.tyInt Syntax.w64) (Syntax.tcons Syntax.tyBool Syntax.tnil)))))))))) (List._∷_ (1, Rows.whole (Declared.row Held.the-type)) (List._∷_ (2, Rows.any-gone (Syntax.tyStruct (List._∷_ 115 (List._∷_ 99 (List._∷_ 114 (List._∷_ 105 (List._∷_ 112 (List._∷_ 116 (List._∷_ 58 (List._∷_ 58 (List._∷_ 115 (List._∷_ 99 (List._∷_ 97 (List._∷_ 110 (List._∷_ 58 (List._∷_ 58 (List._∷_ 76 (List._∷_ 105 (List._∷_ 110 (List._∷_ 101 List.[])))))))))))))))))) (Syntax.tcons (Syntax.tyInt Syntax.w32) (Syntax.tcons (Syntax.tyInt Syntax.w64) (Syntax.tcons (Syntax.tyInt Syntax.w64) (Syntax.tcons (Syntax.tyInt Syntax.w64) (Syntax.tcons (Syntax.tyInt Syntax.w64) Syntax.tnil))))))) (List._∷_ (3, Rows.sref (Array.Array (Referent.rtF (Referent.fInt Syntax.w32)) 32772) (Syntax.tyRef (Syntax.named 0) Syntax.imm (Syntax.tyArray (Syntax.tyInt Syntax.w32) 32772)) 0) (List._∷_ (4, Frozen.held (Frozen.fz-open Syntax.erased 1 List.[] Row.off (AsSlice.fz-lent-sl (Referent.rtF (Referent.fInt Syntax.w32)) 65540 7))) (List._∷_ (5, Frozen.held (Frozen.fz-open Syntax.erased 2 List.[] Row.off (AsSlice.fz-lent-sl (Referent.rtF (Referent.fInt Syntax.w32)) 32772 8))) (List._∷_ (6, Frozen.held (Frozen.fz-open Syntax.erased 3 List.[] Row.off (AsSlice.fz-lent-sl (Referent.rtF (Referent.fInt Syntax.w32)) 262160 9))) (List._∷_ (7, Rows.sref (Array.Array (Referent.rtF (Referent.fInt Syntax.w8)) 600000) (Syntax.tyRef (Syntax.named 4) Syntax.imm (Syntax.tyArray (Syntax.tyInt Syntax.w8) 600000)) 4) (List._∷_ (8, Frozen.held (Frozen.fz-open Syntax.erased 5 List.[] Row.off (AsSlice.fz-lent-sl Cell.R 65540 10))) (List._∷_ (9, Frozen.held (Frozen.fz-open Syntax.erased 6 List.[] Row.off (AsSlice.fz-lent-sl Cell.R 32772 11))) (List._∷_ (10, Rows.whole (Declared.row Outcome.the-type)) (List._∷_ (11, Rows.any-gone (Syntax.tyInt Syntax.w64)) (List._∷_ (12, Rows.any-gone (Syntax.tyInt Syntax.w64)) (List._∷_ (13, Rows.any-gone (Syntax.tyRef Syntax.erased Syntax.imm (Syntax.tyInt Syntax.w32))) (List._∷_ (14, Rows.any-gone (Syntax.tyStruct (List._∷_ 38 (List._∷_ 91 (List._∷_ 93 List.[]))) (Syntax.tcons (Syntax.tyRef Syntax.erased Syntax.imm (Syntax.tyInt Syntax.w32)) (Syntax.tcons (Syntax.tyInt Syntax.w64) Syntax.tnil)))) (List._∷_ (15, Rows.any-gone (Syntax.tyRef Syntax.erased Syntax.mut (Syntax.tyInt Syntax.w32))) List.[])))))))))))))))
 
 abbrev pub t26 : List.List Row.Entry
-t26 = List._∷_ (0, Rows.any-gone (Syntax.tyStruct (List._∷_ 122 (List._∷_ 111 (List._∷_ 110 (List._∷_ 101 (List._∷_ 115 (List._∷_ 58 (List._∷_ 58 (List._∷_ 104 (List._∷_ 101 (List._∷_ 108 (List._∷_ 100 (List._∷_ 58 (List._∷_ 58 (List._∷_ 72 (List._∷_ 101 (List._∷_ 108 (List._∷_ 100 List.[]))))))))))))))))) (Syntax.tcons (Syntax.tyStruct (List._∷_ 112 (List._∷_ 121 (List._∷_ 114 (List._∷_ 97 (List._∷_ 109 (List._∷_ 105 (List._∷_ 100 (List._∷_ 58 (List._∷_ 58 (List._∷_ 83 (List._∷_ 116 (List._∷_ 97 (List._∷_ 116 (List._∷_ 101 List.[])))))))))))))) (Syntax.tcons (Syntax.tyInt Syntax.w32) (Syntax.tcons (Syntax.tyInt Syntax.w32) (Syntax.tcons (Syntax.tyInt Syntax.w32) (Syntax.tcons (Syntax.tyInt Syntax.w32) (Syntax.tcons (Syntax.tyInt Syntax.w32) (Syntax.tcons (Syntax.tyArray (Syntax.tyInt Syntax.w32) 64) Syntax.tnil))))))) (Syntax.tcons (Syntax.tyInt Syntax.w64) (Syntax.tcons (Syntax.tyInt Syntax.w64) (Syntax.tcons (Syntax.tyInt Syntax.w64) (Syntax.tcons (Syntax.tyInt Syntax.w64) (Syntax.tcons (Syntax.tyInt Syntax.w64) (Syntax.tcons (Syntax.tyInt Syntax.w64) (Syntax.tcons Syntax.tyBool Syntax.tnil)))))))))) (List._∷_ (1, Rows.whole (Declared.row Held.the-type)) (List._∷_ (2, Rows.any-gone (Syntax.tyStruct (List._∷_ 122 (List._∷_ 111 (List._∷_ 110 (List._∷_ 101 (List._∷_ 115 (List._∷_ 58 (List._∷_ 58 (List._∷_ 115 (List._∷_ 99 (List._∷_ 97 (List._∷_ 110 (List._∷_ 58 (List._∷_ 58 (List._∷_ 76 (List._∷_ 105 (List._∷_ 110 (List._∷_ 101 List.[]))))))))))))))))) (Syntax.tcons (Syntax.tyInt Syntax.w32) (Syntax.tcons (Syntax.tyInt Syntax.w64) (Syntax.tcons (Syntax.tyInt Syntax.w64) (Syntax.tcons (Syntax.tyInt Syntax.w64) (Syntax.tcons (Syntax.tyInt Syntax.w64) Syntax.tnil))))))) (List._∷_ (3, Rows.sref (Array.Array (Referent.rtF (Referent.fInt Syntax.w32)) 32772) (Syntax.tyRef (Syntax.named 0) Syntax.imm (Syntax.tyArray (Syntax.tyInt Syntax.w32) 32772)) 0) (List._∷_ (4, Rows.mref (Array.Array (Referent.rtF (Referent.fInt Syntax.w32)) 65540) (Syntax.tyRef (Syntax.named 1) Syntax.mut (Syntax.tyArray (Syntax.tyInt Syntax.w32) 65540)) 1) (List._∷_ (5, Frozen.held (Frozen.fz-open Syntax.erased 2 List.[] Row.off (AsSlice.fz-lent-sl (Referent.rtF (Referent.fInt Syntax.w32)) 32772 8))) (List._∷_ (6, Frozen.held (Frozen.fz-open Syntax.erased 3 List.[] Row.off (AsSlice.fz-lent-sl (Referent.rtF (Referent.fInt Syntax.w32)) 262160 9))) (List._∷_ (7, Rows.sref (Array.Array (Referent.rtF (Referent.fInt Syntax.w8)) 600000) (Syntax.tyRef (Syntax.named 4) Syntax.imm (Syntax.tyArray (Syntax.tyInt Syntax.w8) 600000)) 4) (List._∷_ (8, Frozen.held (Frozen.fz-open Syntax.erased 5 List.[] Row.off (AsSlice.fz-lent-sl Cell.R 65540 10))) (List._∷_ (9, Frozen.held (Frozen.fz-open Syntax.erased 6 List.[] Row.off (AsSlice.fz-lent-sl Cell.R 32772 11))) (List._∷_ (10, Rows.whole (Declared.row Outcome.the-type)) (List._∷_ (11, Rows.any-gone (Syntax.tyInt Syntax.w64)) (List._∷_ (12, Rows.any-gone (Syntax.tyInt Syntax.w64)) (List._∷_ (13, Rows.any-gone (Syntax.tyRef Syntax.erased Syntax.imm (Syntax.tyInt Syntax.w32))) (List._∷_ (14, Rows.any-gone (Syntax.tyStruct (List._∷_ 38 (List._∷_ 91 (List._∷_ 93 List.[]))) (Syntax.tcons (Syntax.tyRef Syntax.erased Syntax.imm (Syntax.tyInt Syntax.w32)) (Syntax.tcons (Syntax.tyInt Syntax.w64) Syntax.tnil)))) (List._∷_ (15, Rows.any-gone (Syntax.tyRef Syntax.erased Syntax.mut (Syntax.tyInt Syntax.w32))) List.[])))))))))))))))
+t26 = List._∷_ (0, Rows.any-gone (Syntax.tyStruct (List._∷_ 122 (List._∷_ 111 (List._∷_ 110 (List._∷_ 101 (List._∷_ 115 (List._∷_ 58 (List._∷_ 58 (List._∷_ 104 (List._∷_ 101 (List._∷_ 108 (List._∷_ 100 (List._∷_ 58 (List._∷_ 58 (List._∷_ 72 (List._∷_ 101 (List._∷_ 108 (List._∷_ 100 List.[]))))))))))))))))) (Syntax.tcons (Syntax.tyStruct (List._∷_ 112 (List._∷_ 121 (List._∷_ 114 (List._∷_ 97 (List._∷_ 109 (List._∷_ 105 (List._∷_ 100 (List._∷_ 58 (List._∷_ 58 (List._∷_ 83 (List._∷_ 116 (List._∷_ 97 (List._∷_ 116 (List._∷_ 101 List.[])))))))))))))) (Syntax.tcons (Syntax.tyInt Syntax.w32) (Syntax.tcons (Syntax.tyInt Syntax.w32) (Syntax.tcons (Syntax.tyInt Syntax.w32) (Syntax.tcons (Syntax.tyInt Syntax.w32) (Syntax.tcons (Syntax.tyInt Syntax.w32) (Syntax.tcons (Syntax.tyArray (Syntax.tyInt Syntax.w32) 64) Syntax.tnil))))))) (Syntax.tcons (Syntax.tyInt Syntax.w64) (Syntax.tcons (Syntax.tyInt Syntax.w64) (Syntax.tcons (Syntax.tyInt Syntax.w64) (Syntax.tcons (Syntax.tyInt Syntax.w64) (Syntax.tcons (Syntax.tyInt Syntax.w64) (Syntax.tcons (Syntax.tyInt Syntax.w64) (Syntax.tcons Syntax.tyBool Syntax.tnil)))))))))) (List._∷_ (1, Rows.whole (Declared.row Held.the-type)) (List._∷_ (2, Rows.any-gone (Syntax.tyStruct (List._∷_ 115 (List._∷_ 99 (List._∷_ 114 (List._∷_ 105 (List._∷_ 112 (List._∷_ 116 (List._∷_ 58 (List._∷_ 58 (List._∷_ 115 (List._∷_ 99 (List._∷_ 97 (List._∷_ 110 (List._∷_ 58 (List._∷_ 58 (List._∷_ 76 (List._∷_ 105 (List._∷_ 110 (List._∷_ 101 List.[])))))))))))))))))) (Syntax.tcons (Syntax.tyInt Syntax.w32) (Syntax.tcons (Syntax.tyInt Syntax.w64) (Syntax.tcons (Syntax.tyInt Syntax.w64) (Syntax.tcons (Syntax.tyInt Syntax.w64) (Syntax.tcons (Syntax.tyInt Syntax.w64) Syntax.tnil))))))) (List._∷_ (3, Rows.sref (Array.Array (Referent.rtF (Referent.fInt Syntax.w32)) 32772) (Syntax.tyRef (Syntax.named 0) Syntax.imm (Syntax.tyArray (Syntax.tyInt Syntax.w32) 32772)) 0) (List._∷_ (4, Rows.mref (Array.Array (Referent.rtF (Referent.fInt Syntax.w32)) 65540) (Syntax.tyRef (Syntax.named 1) Syntax.mut (Syntax.tyArray (Syntax.tyInt Syntax.w32) 65540)) 1) (List._∷_ (5, Frozen.held (Frozen.fz-open Syntax.erased 2 List.[] Row.off (AsSlice.fz-lent-sl (Referent.rtF (Referent.fInt Syntax.w32)) 32772 8))) (List._∷_ (6, Frozen.held (Frozen.fz-open Syntax.erased 3 List.[] Row.off (AsSlice.fz-lent-sl (Referent.rtF (Referent.fInt Syntax.w32)) 262160 9))) (List._∷_ (7, Rows.sref (Array.Array (Referent.rtF (Referent.fInt Syntax.w8)) 600000) (Syntax.tyRef (Syntax.named 4) Syntax.imm (Syntax.tyArray (Syntax.tyInt Syntax.w8) 600000)) 4) (List._∷_ (8, Frozen.held (Frozen.fz-open Syntax.erased 5 List.[] Row.off (AsSlice.fz-lent-sl Cell.R 65540 10))) (List._∷_ (9, Frozen.held (Frozen.fz-open Syntax.erased 6 List.[] Row.off (AsSlice.fz-lent-sl Cell.R 32772 11))) (List._∷_ (10, Rows.whole (Declared.row Outcome.the-type)) (List._∷_ (11, Rows.any-gone (Syntax.tyInt Syntax.w64)) (List._∷_ (12, Rows.any-gone (Syntax.tyInt Syntax.w64)) (List._∷_ (13, Rows.any-gone (Syntax.tyRef Syntax.erased Syntax.imm (Syntax.tyInt Syntax.w32))) (List._∷_ (14, Rows.any-gone (Syntax.tyStruct (List._∷_ 38 (List._∷_ 91 (List._∷_ 93 List.[]))) (Syntax.tcons (Syntax.tyRef Syntax.erased Syntax.imm (Syntax.tyInt Syntax.w32)) (Syntax.tcons (Syntax.tyInt Syntax.w64) Syntax.tnil)))) (List._∷_ (15, Rows.any-gone (Syntax.tyRef Syntax.erased Syntax.mut (Syntax.tyInt Syntax.w32))) List.[])))))))))))))))
 
 abbrev pub t27 : List.List Row.Entry
 t27 = List._∷_ (16, Rows.any-gone (Syntax.tyStruct (List._∷_ 38 (List._∷_ 91 (List._∷_ 93 List.[]))) (Syntax.tcons (Syntax.tyRef Syntax.erased Syntax.mut (Syntax.tyInt Syntax.w32)) (Syntax.tcons (Syntax.tyInt Syntax.w64) Syntax.tnil)))) (List._∷_ (17, Rows.any-gone (Syntax.tyRef Syntax.erased Syntax.mut (Syntax.tyInt Syntax.w32))) (List._∷_ (18, Mut.msleft (Referent.rtF (Referent.fInt Syntax.w32)) (Syntax.tyRef Syntax.erased Syntax.mut (Syntax.tyInt Syntax.w32))) (List._∷_ (19, Rows.any-gone (Syntax.tyRef Syntax.erased Syntax.mut (Syntax.tyInt Syntax.w32))) (List._∷_ (20, Mut.msleft (Referent.rtF (Referent.fInt Syntax.w32)) (Syntax.tyRef Syntax.erased Syntax.mut (Syntax.tyInt Syntax.w32))) (List._∷_ (21, Rows.any-gone (Syntax.tyRef Syntax.erased Syntax.mut Cell.behind)) (List._∷_ (22, Mut.msleft Cell.R (Syntax.tyRef Syntax.erased Syntax.mut Cell.behind)) (List._∷_ (23, Rows.any-gone (Syntax.tyRef Syntax.erased Syntax.mut Cell.behind)) (List._∷_ (24, Mut.msleft Cell.R (Syntax.tyRef Syntax.erased Syntax.mut Cell.behind)) (List._∷_ (25, Rows.any-gone (Syntax.tyRef Syntax.erased Syntax.imm Cell.behind)) (List._∷_ (26, Rows.any-gone (Syntax.tyStruct (List._∷_ 38 (List._∷_ 91 (List._∷_ 93 List.[]))) (Syntax.tcons (Syntax.tyRef Syntax.erased Syntax.imm Cell.behind) (Syntax.tcons (Syntax.tyInt Syntax.w64) Syntax.tnil)))) (List._∷_ (27, Rows.any-gone (Syntax.tyInt Syntax.w64)) (List._∷_ (28, Rows.any-gone (Syntax.tyRef Syntax.erased Syntax.imm Cell.behind)) (List._∷_ (29, Rows.any-gone (Syntax.tyStruct (List._∷_ 38 (List._∷_ 91 (List._∷_ 93 List.[]))) (Syntax.tcons (Syntax.tyRef Syntax.erased Syntax.imm Cell.behind) (Syntax.tcons (Syntax.tyInt Syntax.w64) Syntax.tnil)))) (List._∷_ (30, Rows.any-gone (Syntax.tyRef Syntax.erased Syntax.imm (Syntax.tyArray (Syntax.tyInt Syntax.w32) 65540))) (List._∷_ (31, Rows.any-gone (Syntax.tyRef Syntax.erased Syntax.imm (Syntax.tyArray (Syntax.tyInt Syntax.w32) 32772))) List.[])))))))))))))))
 
 abbrev pub t28 : List.List Row.Entry
-t28 = List._∷_ (0, Rows.any-gone (Syntax.tyStruct (List._∷_ 122 (List._∷_ 111 (List._∷_ 110 (List._∷_ 101 (List._∷_ 115 (List._∷_ 58 (List._∷_ 58 (List._∷_ 104 (List._∷_ 101 (List._∷_ 108 (List._∷_ 100 (List._∷_ 58 (List._∷_ 58 (List._∷_ 72 (List._∷_ 101 (List._∷_ 108 (List._∷_ 100 List.[]))))))))))))))))) (Syntax.tcons (Syntax.tyStruct (List._∷_ 112 (List._∷_ 121 (List._∷_ 114 (List._∷_ 97 (List._∷_ 109 (List._∷_ 105 (List._∷_ 100 (List._∷_ 58 (List._∷_ 58 (List._∷_ 83 (List._∷_ 116 (List._∷_ 97 (List._∷_ 116 (List._∷_ 101 List.[])))))))))))))) (Syntax.tcons (Syntax.tyInt Syntax.w32) (Syntax.tcons (Syntax.tyInt Syntax.w32) (Syntax.tcons (Syntax.tyInt Syntax.w32) (Syntax.tcons (Syntax.tyInt Syntax.w32) (Syntax.tcons (Syntax.tyInt Syntax.w32) (Syntax.tcons (Syntax.tyArray (Syntax.tyInt Syntax.w32) 64) Syntax.tnil))))))) (Syntax.tcons (Syntax.tyInt Syntax.w64) (Syntax.tcons (Syntax.tyInt Syntax.w64) (Syntax.tcons (Syntax.tyInt Syntax.w64) (Syntax.tcons (Syntax.tyInt Syntax.w64) (Syntax.tcons (Syntax.tyInt Syntax.w64) (Syntax.tcons (Syntax.tyInt Syntax.w64) (Syntax.tcons Syntax.tyBool Syntax.tnil)))))))))) (List._∷_ (1, Rows.whole (Declared.row Held.the-type)) (List._∷_ (2, Rows.any-gone (Syntax.tyStruct (List._∷_ 122 (List._∷_ 111 (List._∷_ 110 (List._∷_ 101 (List._∷_ 115 (List._∷_ 58 (List._∷_ 58 (List._∷_ 115 (List._∷_ 99 (List._∷_ 97 (List._∷_ 110 (List._∷_ 58 (List._∷_ 58 (List._∷_ 76 (List._∷_ 105 (List._∷_ 110 (List._∷_ 101 List.[]))))))))))))))))) (Syntax.tcons (Syntax.tyInt Syntax.w32) (Syntax.tcons (Syntax.tyInt Syntax.w64) (Syntax.tcons (Syntax.tyInt Syntax.w64) (Syntax.tcons (Syntax.tyInt Syntax.w64) (Syntax.tcons (Syntax.tyInt Syntax.w64) Syntax.tnil))))))) (List._∷_ (3, Rows.sref (Array.Array (Referent.rtF (Referent.fInt Syntax.w32)) 32772) (Syntax.tyRef (Syntax.named 0) Syntax.imm (Syntax.tyArray (Syntax.tyInt Syntax.w32) 32772)) 0) (List._∷_ (4, Rows.mref (Array.Array (Referent.rtF (Referent.fInt Syntax.w32)) 65540) (Syntax.tyRef (Syntax.named 1) Syntax.mut (Syntax.tyArray (Syntax.tyInt Syntax.w32) 65540)) 1) (List._∷_ (5, Rows.mref (Array.Array (Referent.rtF (Referent.fInt Syntax.w32)) 32772) (Syntax.tyRef (Syntax.named 2) Syntax.mut (Syntax.tyArray (Syntax.tyInt Syntax.w32) 32772)) 2) (List._∷_ (6, Frozen.held (Frozen.fz-open Syntax.erased 3 List.[] Row.off (AsSlice.fz-lent-sl (Referent.rtF (Referent.fInt Syntax.w32)) 262160 9))) (List._∷_ (7, Rows.sref (Array.Array (Referent.rtF (Referent.fInt Syntax.w8)) 600000) (Syntax.tyRef (Syntax.named 4) Syntax.imm (Syntax.tyArray (Syntax.tyInt Syntax.w8) 600000)) 4) (List._∷_ (8, Frozen.held (Frozen.fz-open Syntax.erased 5 List.[] Row.off (AsSlice.fz-lent-sl Cell.R 65540 10))) (List._∷_ (9, Frozen.held (Frozen.fz-open Syntax.erased 6 List.[] Row.off (AsSlice.fz-lent-sl Cell.R 32772 11))) (List._∷_ (10, Rows.whole (Declared.row Outcome.the-type)) (List._∷_ (11, Rows.any-gone (Syntax.tyInt Syntax.w64)) (List._∷_ (12, Rows.any-gone (Syntax.tyInt Syntax.w64)) (List._∷_ (13, Rows.any-gone (Syntax.tyRef Syntax.erased Syntax.imm (Syntax.tyInt Syntax.w32))) (List._∷_ (14, Rows.any-gone (Syntax.tyStruct (List._∷_ 38 (List._∷_ 91 (List._∷_ 93 List.[]))) (Syntax.tcons (Syntax.tyRef Syntax.erased Syntax.imm (Syntax.tyInt Syntax.w32)) (Syntax.tcons (Syntax.tyInt Syntax.w64) Syntax.tnil)))) (List._∷_ (15, Rows.any-gone (Syntax.tyRef Syntax.erased Syntax.mut (Syntax.tyInt Syntax.w32))) List.[])))))))))))))))
+t28 = List._∷_ (0, Rows.any-gone (Syntax.tyStruct (List._∷_ 122 (List._∷_ 111 (List._∷_ 110 (List._∷_ 101 (List._∷_ 115 (List._∷_ 58 (List._∷_ 58 (List._∷_ 104 (List._∷_ 101 (List._∷_ 108 (List._∷_ 100 (List._∷_ 58 (List._∷_ 58 (List._∷_ 72 (List._∷_ 101 (List._∷_ 108 (List._∷_ 100 List.[]))))))))))))))))) (Syntax.tcons (Syntax.tyStruct (List._∷_ 112 (List._∷_ 121 (List._∷_ 114 (List._∷_ 97 (List._∷_ 109 (List._∷_ 105 (List._∷_ 100 (List._∷_ 58 (List._∷_ 58 (List._∷_ 83 (List._∷_ 116 (List._∷_ 97 (List._∷_ 116 (List._∷_ 101 List.[])))))))))))))) (Syntax.tcons (Syntax.tyInt Syntax.w32) (Syntax.tcons (Syntax.tyInt Syntax.w32) (Syntax.tcons (Syntax.tyInt Syntax.w32) (Syntax.tcons (Syntax.tyInt Syntax.w32) (Syntax.tcons (Syntax.tyInt Syntax.w32) (Syntax.tcons (Syntax.tyArray (Syntax.tyInt Syntax.w32) 64) Syntax.tnil))))))) (Syntax.tcons (Syntax.tyInt Syntax.w64) (Syntax.tcons (Syntax.tyInt Syntax.w64) (Syntax.tcons (Syntax.tyInt Syntax.w64) (Syntax.tcons (Syntax.tyInt Syntax.w64) (Syntax.tcons (Syntax.tyInt Syntax.w64) (Syntax.tcons (Syntax.tyInt Syntax.w64) (Syntax.tcons Syntax.tyBool Syntax.tnil)))))))))) (List._∷_ (1, Rows.whole (Declared.row Held.the-type)) (List._∷_ (2, Rows.any-gone (Syntax.tyStruct (List._∷_ 115 (List._∷_ 99 (List._∷_ 114 (List._∷_ 105 (List._∷_ 112 (List._∷_ 116 (List._∷_ 58 (List._∷_ 58 (List._∷_ 115 (List._∷_ 99 (List._∷_ 97 (List._∷_ 110 (List._∷_ 58 (List._∷_ 58 (List._∷_ 76 (List._∷_ 105 (List._∷_ 110 (List._∷_ 101 List.[])))))))))))))))))) (Syntax.tcons (Syntax.tyInt Syntax.w32) (Syntax.tcons (Syntax.tyInt Syntax.w64) (Syntax.tcons (Syntax.tyInt Syntax.w64) (Syntax.tcons (Syntax.tyInt Syntax.w64) (Syntax.tcons (Syntax.tyInt Syntax.w64) Syntax.tnil))))))) (List._∷_ (3, Rows.sref (Array.Array (Referent.rtF (Referent.fInt Syntax.w32)) 32772) (Syntax.tyRef (Syntax.named 0) Syntax.imm (Syntax.tyArray (Syntax.tyInt Syntax.w32) 32772)) 0) (List._∷_ (4, Rows.mref (Array.Array (Referent.rtF (Referent.fInt Syntax.w32)) 65540) (Syntax.tyRef (Syntax.named 1) Syntax.mut (Syntax.tyArray (Syntax.tyInt Syntax.w32) 65540)) 1) (List._∷_ (5, Rows.mref (Array.Array (Referent.rtF (Referent.fInt Syntax.w32)) 32772) (Syntax.tyRef (Syntax.named 2) Syntax.mut (Syntax.tyArray (Syntax.tyInt Syntax.w32) 32772)) 2) (List._∷_ (6, Frozen.held (Frozen.fz-open Syntax.erased 3 List.[] Row.off (AsSlice.fz-lent-sl (Referent.rtF (Referent.fInt Syntax.w32)) 262160 9))) (List._∷_ (7, Rows.sref (Array.Array (Referent.rtF (Referent.fInt Syntax.w8)) 600000) (Syntax.tyRef (Syntax.named 4) Syntax.imm (Syntax.tyArray (Syntax.tyInt Syntax.w8) 600000)) 4) (List._∷_ (8, Frozen.held (Frozen.fz-open Syntax.erased 5 List.[] Row.off (AsSlice.fz-lent-sl Cell.R 65540 10))) (List._∷_ (9, Frozen.held (Frozen.fz-open Syntax.erased 6 List.[] Row.off (AsSlice.fz-lent-sl Cell.R 32772 11))) (List._∷_ (10, Rows.whole (Declared.row Outcome.the-type)) (List._∷_ (11, Rows.any-gone (Syntax.tyInt Syntax.w64)) (List._∷_ (12, Rows.any-gone (Syntax.tyInt Syntax.w64)) (List._∷_ (13, Rows.any-gone (Syntax.tyRef Syntax.erased Syntax.imm (Syntax.tyInt Syntax.w32))) (List._∷_ (14, Rows.any-gone (Syntax.tyStruct (List._∷_ 38 (List._∷_ 91 (List._∷_ 93 List.[]))) (Syntax.tcons (Syntax.tyRef Syntax.erased Syntax.imm (Syntax.tyInt Syntax.w32)) (Syntax.tcons (Syntax.tyInt Syntax.w64) Syntax.tnil)))) (List._∷_ (15, Rows.any-gone (Syntax.tyRef Syntax.erased Syntax.mut (Syntax.tyInt Syntax.w32))) List.[])))))))))))))))
 
 abbrev pub t29 : List.List Row.Entry
 t29 = List._∷_ (16, Rows.any-gone (Syntax.tyStruct (List._∷_ 38 (List._∷_ 91 (List._∷_ 93 List.[]))) (Syntax.tcons (Syntax.tyRef Syntax.erased Syntax.mut (Syntax.tyInt Syntax.w32)) (Syntax.tcons (Syntax.tyInt Syntax.w64) Syntax.tnil)))) (List._∷_ (17, Rows.any-gone (Syntax.tyRef Syntax.erased Syntax.mut (Syntax.tyInt Syntax.w32))) (List._∷_ (18, Rows.any-gone (Syntax.tyStruct (List._∷_ 38 (List._∷_ 91 (List._∷_ 93 List.[]))) (Syntax.tcons (Syntax.tyRef Syntax.erased Syntax.mut (Syntax.tyInt Syntax.w32)) (Syntax.tcons (Syntax.tyInt Syntax.w64) Syntax.tnil)))) (List._∷_ (19, Rows.any-gone (Syntax.tyRef Syntax.erased Syntax.mut (Syntax.tyInt Syntax.w32))) (List._∷_ (20, Mut.msleft (Referent.rtF (Referent.fInt Syntax.w32)) (Syntax.tyRef Syntax.erased Syntax.mut (Syntax.tyInt Syntax.w32))) (List._∷_ (21, Rows.any-gone (Syntax.tyRef Syntax.erased Syntax.mut Cell.behind)) (List._∷_ (22, Mut.msleft Cell.R (Syntax.tyRef Syntax.erased Syntax.mut Cell.behind)) (List._∷_ (23, Rows.any-gone (Syntax.tyRef Syntax.erased Syntax.mut Cell.behind)) (List._∷_ (24, Mut.msleft Cell.R (Syntax.tyRef Syntax.erased Syntax.mut Cell.behind)) (List._∷_ (25, Rows.any-gone (Syntax.tyRef Syntax.erased Syntax.imm Cell.behind)) (List._∷_ (26, Rows.any-gone (Syntax.tyStruct (List._∷_ 38 (List._∷_ 91 (List._∷_ 93 List.[]))) (Syntax.tcons (Syntax.tyRef Syntax.erased Syntax.imm Cell.behind) (Syntax.tcons (Syntax.tyInt Syntax.w64) Syntax.tnil)))) (List._∷_ (27, Rows.any-gone (Syntax.tyInt Syntax.w64)) (List._∷_ (28, Rows.any-gone (Syntax.tyRef Syntax.erased Syntax.imm Cell.behind)) (List._∷_ (29, Rows.any-gone (Syntax.tyStruct (List._∷_ 38 (List._∷_ 91 (List._∷_ 93 List.[]))) (Syntax.tcons (Syntax.tyRef Syntax.erased Syntax.imm Cell.behind) (Syntax.tcons (Syntax.tyInt Syntax.w64) Syntax.tnil)))) (List._∷_ (30, Rows.any-gone (Syntax.tyRef Syntax.erased Syntax.imm (Syntax.tyArray (Syntax.tyInt Syntax.w32) 65540))) (List._∷_ (31, Rows.any-gone (Syntax.tyRef Syntax.erased Syntax.imm (Syntax.tyArray (Syntax.tyInt Syntax.w32) 32772))) List.[])))))))))))))))
 
 abbrev pub t30 : List.List Row.Entry
-t30 = List._∷_ (0, Rows.any-gone (Syntax.tyStruct (List._∷_ 122 (List._∷_ 111 (List._∷_ 110 (List._∷_ 101 (List._∷_ 115 (List._∷_ 58 (List._∷_ 58 (List._∷_ 104 (List._∷_ 101 (List._∷_ 108 (List._∷_ 100 (List._∷_ 58 (List._∷_ 58 (List._∷_ 72 (List._∷_ 101 (List._∷_ 108 (List._∷_ 100 List.[]))))))))))))))))) (Syntax.tcons (Syntax.tyStruct (List._∷_ 112 (List._∷_ 121 (List._∷_ 114 (List._∷_ 97 (List._∷_ 109 (List._∷_ 105 (List._∷_ 100 (List._∷_ 58 (List._∷_ 58 (List._∷_ 83 (List._∷_ 116 (List._∷_ 97 (List._∷_ 116 (List._∷_ 101 List.[])))))))))))))) (Syntax.tcons (Syntax.tyInt Syntax.w32) (Syntax.tcons (Syntax.tyInt Syntax.w32) (Syntax.tcons (Syntax.tyInt Syntax.w32) (Syntax.tcons (Syntax.tyInt Syntax.w32) (Syntax.tcons (Syntax.tyInt Syntax.w32) (Syntax.tcons (Syntax.tyArray (Syntax.tyInt Syntax.w32) 64) Syntax.tnil))))))) (Syntax.tcons (Syntax.tyInt Syntax.w64) (Syntax.tcons (Syntax.tyInt Syntax.w64) (Syntax.tcons (Syntax.tyInt Syntax.w64) (Syntax.tcons (Syntax.tyInt Syntax.w64) (Syntax.tcons (Syntax.tyInt Syntax.w64) (Syntax.tcons (Syntax.tyInt Syntax.w64) (Syntax.tcons Syntax.tyBool Syntax.tnil)))))))))) (List._∷_ (1, Rows.whole (Declared.row Held.the-type)) (List._∷_ (2, Rows.any-gone (Syntax.tyStruct (List._∷_ 122 (List._∷_ 111 (List._∷_ 110 (List._∷_ 101 (List._∷_ 115 (List._∷_ 58 (List._∷_ 58 (List._∷_ 115 (List._∷_ 99 (List._∷_ 97 (List._∷_ 110 (List._∷_ 58 (List._∷_ 58 (List._∷_ 76 (List._∷_ 105 (List._∷_ 110 (List._∷_ 101 List.[]))))))))))))))))) (Syntax.tcons (Syntax.tyInt Syntax.w32) (Syntax.tcons (Syntax.tyInt Syntax.w64) (Syntax.tcons (Syntax.tyInt Syntax.w64) (Syntax.tcons (Syntax.tyInt Syntax.w64) (Syntax.tcons (Syntax.tyInt Syntax.w64) Syntax.tnil))))))) (List._∷_ (3, Rows.sref (Array.Array (Referent.rtF (Referent.fInt Syntax.w32)) 32772) (Syntax.tyRef (Syntax.named 0) Syntax.imm (Syntax.tyArray (Syntax.tyInt Syntax.w32) 32772)) 0) (List._∷_ (4, Rows.mref (Array.Array (Referent.rtF (Referent.fInt Syntax.w32)) 65540) (Syntax.tyRef (Syntax.named 1) Syntax.mut (Syntax.tyArray (Syntax.tyInt Syntax.w32) 65540)) 1) (List._∷_ (5, Rows.mref (Array.Array (Referent.rtF (Referent.fInt Syntax.w32)) 32772) (Syntax.tyRef (Syntax.named 2) Syntax.mut (Syntax.tyArray (Syntax.tyInt Syntax.w32) 32772)) 2) (List._∷_ (6, Rows.mref (Array.Array (Referent.rtF (Referent.fInt Syntax.w32)) 262160) (Syntax.tyRef (Syntax.named 3) Syntax.mut (Syntax.tyArray (Syntax.tyInt Syntax.w32) 262160)) 3) (List._∷_ (7, Rows.sref (Array.Array (Referent.rtF (Referent.fInt Syntax.w8)) 600000) (Syntax.tyRef (Syntax.named 4) Syntax.imm (Syntax.tyArray (Syntax.tyInt Syntax.w8) 600000)) 4) (List._∷_ (8, Frozen.held (Frozen.fz-open Syntax.erased 5 List.[] Row.off (AsSlice.fz-lent-sl Cell.R 65540 10))) (List._∷_ (9, Frozen.held (Frozen.fz-open Syntax.erased 6 List.[] Row.off (AsSlice.fz-lent-sl Cell.R 32772 11))) (List._∷_ (10, Rows.whole (Declared.row Outcome.the-type)) (List._∷_ (11, Rows.any-gone (Syntax.tyInt Syntax.w64)) (List._∷_ (12, Rows.any-gone (Syntax.tyInt Syntax.w64)) (List._∷_ (13, Rows.any-gone (Syntax.tyRef Syntax.erased Syntax.imm (Syntax.tyInt Syntax.w32))) (List._∷_ (14, Rows.any-gone (Syntax.tyStruct (List._∷_ 38 (List._∷_ 91 (List._∷_ 93 List.[]))) (Syntax.tcons (Syntax.tyRef Syntax.erased Syntax.imm (Syntax.tyInt Syntax.w32)) (Syntax.tcons (Syntax.tyInt Syntax.w64) Syntax.tnil)))) (List._∷_ (15, Rows.any-gone (Syntax.tyRef Syntax.erased Syntax.mut (Syntax.tyInt Syntax.w32))) List.[])))))))))))))))
+t30 = List._∷_ (0, Rows.any-gone (Syntax.tyStruct (List._∷_ 122 (List._∷_ 111 (List._∷_ 110 (List._∷_ 101 (List._∷_ 115 (List._∷_ 58 (List._∷_ 58 (List._∷_ 104 (List._∷_ 101 (List._∷_ 108 (List._∷_ 100 (List._∷_ 58 (List._∷_ 58 (List._∷_ 72 (List._∷_ 101 (List._∷_ 108 (List._∷_ 100 List.[]))))))))))))))))) (Syntax.tcons (Syntax.tyStruct (List._∷_ 112 (List._∷_ 121 (List._∷_ 114 (List._∷_ 97 (List._∷_ 109 (List._∷_ 105 (List._∷_ 100 (List._∷_ 58 (List._∷_ 58 (List._∷_ 83 (List._∷_ 116 (List._∷_ 97 (List._∷_ 116 (List._∷_ 101 List.[])))))))))))))) (Syntax.tcons (Syntax.tyInt Syntax.w32) (Syntax.tcons (Syntax.tyInt Syntax.w32) (Syntax.tcons (Syntax.tyInt Syntax.w32) (Syntax.tcons (Syntax.tyInt Syntax.w32) (Syntax.tcons (Syntax.tyInt Syntax.w32) (Syntax.tcons (Syntax.tyArray (Syntax.tyInt Syntax.w32) 64) Syntax.tnil))))))) (Syntax.tcons (Syntax.tyInt Syntax.w64) (Syntax.tcons (Syntax.tyInt Syntax.w64) (Syntax.tcons (Syntax.tyInt Syntax.w64) (Syntax.tcons (Syntax.tyInt Syntax.w64) (Syntax.tcons (Syntax.tyInt Syntax.w64) (Syntax.tcons (Syntax.tyInt Syntax.w64) (Syntax.tcons Syntax.tyBool Syntax.tnil)))))))))) (List._∷_ (1, Rows.whole (Declared.row Held.the-type)) (List._∷_ (2, Rows.any-gone (Syntax.tyStruct (List._∷_ 115 (List._∷_ 99 (List._∷_ 114 (List._∷_ 105 (List._∷_ 112 (List._∷_ 116 (List._∷_ 58 (List._∷_ 58 (List._∷_ 115 (List._∷_ 99 (List._∷_ 97 (List._∷_ 110 (List._∷_ 58 (List._∷_ 58 (List._∷_ 76 (List._∷_ 105 (List._∷_ 110 (List._∷_ 101 List.[])))))))))))))))))) (Syntax.tcons (Syntax.tyInt Syntax.w32) (Syntax.tcons (Syntax.tyInt Syntax.w64) (Syntax.tcons (Syntax.tyInt Syntax.w64) (Syntax.tcons (Syntax.tyInt Syntax.w64) (Syntax.tcons (Syntax.tyInt Syntax.w64) Syntax.tnil))))))) (List._∷_ (3, Rows.sref (Array.Array (Referent.rtF (Referent.fInt Syntax.w32)) 32772) (Syntax.tyRef (Syntax.named 0) Syntax.imm (Syntax.tyArray (Syntax.tyInt Syntax.w32) 32772)) 0) (List._∷_ (4, Rows.mref (Array.Array (Referent.rtF (Referent.fInt Syntax.w32)) 65540) (Syntax.tyRef (Syntax.named 1) Syntax.mut (Syntax.tyArray (Syntax.tyInt Syntax.w32) 65540)) 1) (List._∷_ (5, Rows.mref (Array.Array (Referent.rtF (Referent.fInt Syntax.w32)) 32772) (Syntax.tyRef (Syntax.named 2) Syntax.mut (Syntax.tyArray (Syntax.tyInt Syntax.w32) 32772)) 2) (List._∷_ (6, Rows.mref (Array.Array (Referent.rtF (Referent.fInt Syntax.w32)) 262160) (Syntax.tyRef (Syntax.named 3) Syntax.mut (Syntax.tyArray (Syntax.tyInt Syntax.w32) 262160)) 3) (List._∷_ (7, Rows.sref (Array.Array (Referent.rtF (Referent.fInt Syntax.w8)) 600000) (Syntax.tyRef (Syntax.named 4) Syntax.imm (Syntax.tyArray (Syntax.tyInt Syntax.w8) 600000)) 4) (List._∷_ (8, Frozen.held (Frozen.fz-open Syntax.erased 5 List.[] Row.off (AsSlice.fz-lent-sl Cell.R 65540 10))) (List._∷_ (9, Frozen.held (Frozen.fz-open Syntax.erased 6 List.[] Row.off (AsSlice.fz-lent-sl Cell.R 32772 11))) (List._∷_ (10, Rows.whole (Declared.row Outcome.the-type)) (List._∷_ (11, Rows.any-gone (Syntax.tyInt Syntax.w64)) (List._∷_ (12, Rows.any-gone (Syntax.tyInt Syntax.w64)) (List._∷_ (13, Rows.any-gone (Syntax.tyRef Syntax.erased Syntax.imm (Syntax.tyInt Syntax.w32))) (List._∷_ (14, Rows.any-gone (Syntax.tyStruct (List._∷_ 38 (List._∷_ 91 (List._∷_ 93 List.[]))) (Syntax.tcons (Syntax.tyRef Syntax.erased Syntax.imm (Syntax.tyInt Syntax.w32)) (Syntax.tcons (Syntax.tyInt Syntax.w64) Syntax.tnil)))) (List._∷_ (15, Rows.any-gone (Syntax.tyRef Syntax.erased Syntax.mut (Syntax.tyInt Syntax.w32))) List.[])))))))))))))))
 
 abbrev pub t31 : List.List Row.Entry
 t31 = List._∷_ (16, Rows.any-gone (Syntax.tyStruct (List._∷_ 38 (List._∷_ 91 (List._∷_ 93 List.[]))) (Syntax.tcons (Syntax.tyRef Syntax.erased Syntax.mut (Syntax.tyInt Syntax.w32)) (Syntax.tcons (Syntax.tyInt Syntax.w64) Syntax.tnil)))) (List._∷_ (17, Rows.any-gone (Syntax.tyRef Syntax.erased Syntax.mut (Syntax.tyInt Syntax.w32))) (List._∷_ (18, Rows.any-gone (Syntax.tyStruct (List._∷_ 38 (List._∷_ 91 (List._∷_ 93 List.[]))) (Syntax.tcons (Syntax.tyRef Syntax.erased Syntax.mut (Syntax.tyInt Syntax.w32)) (Syntax.tcons (Syntax.tyInt Syntax.w64) Syntax.tnil)))) (List._∷_ (19, Rows.any-gone (Syntax.tyRef Syntax.erased Syntax.mut (Syntax.tyInt Syntax.w32))) (List._∷_ (20, Rows.any-gone (Syntax.tyStruct (List._∷_ 38 (List._∷_ 91 (List._∷_ 93 List.[]))) (Syntax.tcons (Syntax.tyRef Syntax.erased Syntax.mut (Syntax.tyInt Syntax.w32)) (Syntax.tcons (Syntax.tyInt Syntax.w64) Syntax.tnil)))) (List._∷_ (21, Rows.any-gone (Syntax.tyRef Syntax.erased Syntax.mut Cell.behind)) (List._∷_ (22, Mut.msleft Cell.R (Syntax.tyRef Syntax.erased Syntax.mut Cell.behind)) (List._∷_ (23, Rows.any-gone (Syntax.tyRef Syntax.erased Syntax.mut Cell.behind)) (List._∷_ (24, Mut.msleft Cell.R (Syntax.tyRef Syntax.erased Syntax.mut Cell.behind)) (List._∷_ (25, Rows.any-gone (Syntax.tyRef Syntax.erased Syntax.imm Cell.behind)) (List._∷_ (26, Rows.any-gone (Syntax.tyStruct (List._∷_ 38 (List._∷_ 91 (List._∷_ 93 List.[]))) (Syntax.tcons (Syntax.tyRef Syntax.erased Syntax.imm Cell.behind) (Syntax.tcons (Syntax.tyInt Syntax.w64) Syntax.tnil)))) (List._∷_ (27, Rows.any-gone (Syntax.tyInt Syntax.w64)) (List._∷_ (28, Rows.any-gone (Syntax.tyRef Syntax.erased Syntax.imm Cell.behind)) (List._∷_ (29, Rows.any-gone (Syntax.tyStruct (List._∷_ 38 (List._∷_ 91 (List._∷_ 93 List.[]))) (Syntax.tcons (Syntax.tyRef Syntax.erased Syntax.imm Cell.behind) (Syntax.tcons (Syntax.tyInt Syntax.w64) Syntax.tnil)))) (List._∷_ (30, Rows.any-gone (Syntax.tyRef Syntax.erased Syntax.imm (Syntax.tyArray (Syntax.tyInt Syntax.w32) 65540))) (List._∷_ (31, Rows.any-gone (Syntax.tyRef Syntax.erased Syntax.imm (Syntax.tyArray (Syntax.tyInt Syntax.w32) 32772))) List.[])))))))))))))))
 
 abbrev pub t32 : List.List Row.Entry
-t32 = List._∷_ (0, Rows.any-gone (Syntax.tyStruct (List._∷_ 122 (List._∷_ 111 (List._∷_ 110 (List._∷_ 101 (List._∷_ 115 (List._∷_ 58 (List._∷_ 58 (List._∷_ 104 (List._∷_ 101 (List._∷_ 108 (List._∷_ 100 (List._∷_ 58 (List._∷_ 58 (List._∷_ 72 (List._∷_ 101 (List._∷_ 108 (List._∷_ 100 List.[]))))))))))))))))) (Syntax.tcons (Syntax.tyStruct (List._∷_ 112 (List._∷_ 121 (List._∷_ 114 (List._∷_ 97 (List._∷_ 109 (List._∷_ 105 (List._∷_ 100 (List._∷_ 58 (List._∷_ 58 (List._∷_ 83 (List._∷_ 116 (List._∷_ 97 (List._∷_ 116 (List._∷_ 101 List.[])))))))))))))) (Syntax.tcons (Syntax.tyInt Syntax.w32) (Syntax.tcons (Syntax.tyInt Syntax.w32) (Syntax.tcons (Syntax.tyInt Syntax.w32) (Syntax.tcons (Syntax.tyInt Syntax.w32) (Syntax.tcons (Syntax.tyInt Syntax.w32) (Syntax.tcons (Syntax.tyArray (Syntax.tyInt Syntax.w32) 64) Syntax.tnil))))))) (Syntax.tcons (Syntax.tyInt Syntax.w64) (Syntax.tcons (Syntax.tyInt Syntax.w64) (Syntax.tcons (Syntax.tyInt Syntax.w64) (Syntax.tcons (Syntax.tyInt Syntax.w64) (Syntax.tcons (Syntax.tyInt Syntax.w64) (Syntax.tcons (Syntax.tyInt Syntax.w64) (Syntax.tcons Syntax.tyBool Syntax.tnil)))))))))) (List._∷_ (1, Rows.whole (Declared.row Held.the-type)) (List._∷_ (2, Rows.any-gone (Syntax.tyStruct (List._∷_ 122 (List._∷_ 111 (List._∷_ 110 (List._∷_ 101 (List._∷_ 115 (List._∷_ 58 (List._∷_ 58 (List._∷_ 115 (List._∷_ 99 (List._∷_ 97 (List._∷_ 110 (List._∷_ 58 (List._∷_ 58 (List._∷_ 76 (List._∷_ 105 (List._∷_ 110 (List._∷_ 101 List.[]))))))))))))))))) (Syntax.tcons (Syntax.tyInt Syntax.w32) (Syntax.tcons (Syntax.tyInt Syntax.w64) (Syntax.tcons (Syntax.tyInt Syntax.w64) (Syntax.tcons (Syntax.tyInt Syntax.w64) (Syntax.tcons (Syntax.tyInt Syntax.w64) Syntax.tnil))))))) (List._∷_ (3, Rows.sref (Array.Array (Referent.rtF (Referent.fInt Syntax.w32)) 32772) (Syntax.tyRef (Syntax.named 0) Syntax.imm (Syntax.tyArray (Syntax.tyInt Syntax.w32) 32772)) 0) (List._∷_ (4, Rows.mref (Array.Array (Referent.rtF (Referent.fInt Syntax.w32)) 65540) (Syntax.tyRef (Syntax.named 1) Syntax.mut (Syntax.tyArray (Syntax.tyInt Syntax.w32) 65540)) 1) (List._∷_ (5, Rows.mref (Array.Array (Referent.rtF (Referent.fInt Syntax.w32)) 32772) (Syntax.tyRef (Syntax.named 2) Syntax.mut (Syntax.tyArray (Syntax.tyInt Syntax.w32) 32772)) 2) (List._∷_ (6, Rows.mref (Array.Array (Referent.rtF (Referent.fInt Syntax.w32)) 262160) (Syntax.tyRef (Syntax.named 3) Syntax.mut (Syntax.tyArray (Syntax.tyInt Syntax.w32) 262160)) 3) (List._∷_ (7, Rows.sref (Array.Array (Referent.rtF (Referent.fInt Syntax.w8)) 600000) (Syntax.tyRef (Syntax.named 4) Syntax.imm (Syntax.tyArray (Syntax.tyInt Syntax.w8) 600000)) 4) (List._∷_ (8, Rows.mref (Array.Array Cell.R 65540) (Syntax.tyRef (Syntax.named 5) Syntax.mut (Syntax.tyArray Cell.behind 65540)) 5) (List._∷_ (9, Frozen.held (Frozen.fz-open Syntax.erased 6 List.[] Row.off (AsSlice.fz-lent-sl Cell.R 32772 11))) (List._∷_ (10, Rows.whole (Declared.row Outcome.the-type)) (List._∷_ (11, Rows.any-gone (Syntax.tyInt Syntax.w64)) (List._∷_ (12, Rows.any-gone (Syntax.tyInt Syntax.w64)) (List._∷_ (13, Rows.any-gone (Syntax.tyRef Syntax.erased Syntax.imm (Syntax.tyInt Syntax.w32))) (List._∷_ (14, Rows.any-gone (Syntax.tyStruct (List._∷_ 38 (List._∷_ 91 (List._∷_ 93 List.[]))) (Syntax.tcons (Syntax.tyRef Syntax.erased Syntax.imm (Syntax.tyInt Syntax.w32)) (Syntax.tcons (Syntax.tyInt Syntax.w64) Syntax.tnil)))) (List._∷_ (15, Rows.any-gone (Syntax.tyRef Syntax.erased Syntax.mut (Syntax.tyInt Syntax.w32))) List.[])))))))))))))))
+t32 = List._∷_ (0, Rows.any-gone (Syntax.tyStruct (List._∷_ 122 (List._∷_ 111 (List._∷_ 110 (List._∷_ 101 (List._∷_ 115 (List._∷_ 58 (List._∷_ 58 (List._∷_ 104 (List._∷_ 101 (List._∷_ 108 (List._∷_ 100 (List._∷_ 58 (List._∷_ 58 (List._∷_ 72 (List._∷_ 101 (List._∷_ 108 (List._∷_ 100 List.[]))))))))))))))))) (Syntax.tcons (Syntax.tyStruct (List._∷_ 112 (List._∷_ 121 (List._∷_ 114 (List._∷_ 97 (List._∷_ 109 (List._∷_ 105 (List._∷_ 100 (List._∷_ 58 (List._∷_ 58 (List._∷_ 83 (List._∷_ 116 (List._∷_ 97 (List._∷_ 116 (List._∷_ 101 List.[])))))))))))))) (Syntax.tcons (Syntax.tyInt Syntax.w32) (Syntax.tcons (Syntax.tyInt Syntax.w32) (Syntax.tcons (Syntax.tyInt Syntax.w32) (Syntax.tcons (Syntax.tyInt Syntax.w32) (Syntax.tcons (Syntax.tyInt Syntax.w32) (Syntax.tcons (Syntax.tyArray (Syntax.tyInt Syntax.w32) 64) Syntax.tnil))))))) (Syntax.tcons (Syntax.tyInt Syntax.w64) (Syntax.tcons (Syntax.tyInt Syntax.w64) (Syntax.tcons (Syntax.tyInt Syntax.w64) (Syntax.tcons (Syntax.tyInt Syntax.w64) (Syntax.tcons (Syntax.tyInt Syntax.w64) (Syntax.tcons (Syntax.tyInt Syntax.w64) (Syntax.tcons Syntax.tyBool Syntax.tnil)))))))))) (List._∷_ (1, Rows.whole (Declared.row Held.the-type)) (List._∷_ (2, Rows.any-gone (Syntax.tyStruct (List._∷_ 115 (List._∷_ 99 (List._∷_ 114 (List._∷_ 105 (List._∷_ 112 (List._∷_ 116 (List._∷_ 58 (List._∷_ 58 (List._∷_ 115 (List._∷_ 99 (List._∷_ 97 (List._∷_ 110 (List._∷_ 58 (List._∷_ 58 (List._∷_ 76 (List._∷_ 105 (List._∷_ 110 (List._∷_ 101 List.[])))))))))))))))))) (Syntax.tcons (Syntax.tyInt Syntax.w32) (Syntax.tcons (Syntax.tyInt Syntax.w64) (Syntax.tcons (Syntax.tyInt Syntax.w64) (Syntax.tcons (Syntax.tyInt Syntax.w64) (Syntax.tcons (Syntax.tyInt Syntax.w64) Syntax.tnil))))))) (List._∷_ (3, Rows.sref (Array.Array (Referent.rtF (Referent.fInt Syntax.w32)) 32772) (Syntax.tyRef (Syntax.named 0) Syntax.imm (Syntax.tyArray (Syntax.tyInt Syntax.w32) 32772)) 0) (List._∷_ (4, Rows.mref (Array.Array (Referent.rtF (Referent.fInt Syntax.w32)) 65540) (Syntax.tyRef (Syntax.named 1) Syntax.mut (Syntax.tyArray (Syntax.tyInt Syntax.w32) 65540)) 1) (List._∷_ (5, Rows.mref (Array.Array (Referent.rtF (Referent.fInt Syntax.w32)) 32772) (Syntax.tyRef (Syntax.named 2) Syntax.mut (Syntax.tyArray (Syntax.tyInt Syntax.w32) 32772)) 2) (List._∷_ (6, Rows.mref (Array.Array (Referent.rtF (Referent.fInt Syntax.w32)) 262160) (Syntax.tyRef (Syntax.named 3) Syntax.mut (Syntax.tyArray (Syntax.tyInt Syntax.w32) 262160)) 3) (List._∷_ (7, Rows.sref (Array.Array (Referent.rtF (Referent.fInt Syntax.w8)) 600000) (Syntax.tyRef (Syntax.named 4) Syntax.imm (Syntax.tyArray (Syntax.tyInt Syntax.w8) 600000)) 4) (List._∷_ (8, Rows.mref (Array.Array Cell.R 65540) (Syntax.tyRef (Syntax.named 5) Syntax.mut (Syntax.tyArray Cell.behind 65540)) 5) (List._∷_ (9, Frozen.held (Frozen.fz-open Syntax.erased 6 List.[] Row.off (AsSlice.fz-lent-sl Cell.R 32772 11))) (List._∷_ (10, Rows.whole (Declared.row Outcome.the-type)) (List._∷_ (11, Rows.any-gone (Syntax.tyInt Syntax.w64)) (List._∷_ (12, Rows.any-gone (Syntax.tyInt Syntax.w64)) (List._∷_ (13, Rows.any-gone (Syntax.tyRef Syntax.erased Syntax.imm (Syntax.tyInt Syntax.w32))) (List._∷_ (14, Rows.any-gone (Syntax.tyStruct (List._∷_ 38 (List._∷_ 91 (List._∷_ 93 List.[]))) (Syntax.tcons (Syntax.tyRef Syntax.erased Syntax.imm (Syntax.tyInt Syntax.w32)) (Syntax.tcons (Syntax.tyInt Syntax.w64) Syntax.tnil)))) (List._∷_ (15, Rows.any-gone (Syntax.tyRef Syntax.erased Syntax.mut (Syntax.tyInt Syntax.w32))) List.[])))))))))))))))
 
 abbrev pub t33 : List.List Row.Entry
 t33 = List._∷_ (16, Rows.any-gone (Syntax.tyStruct (List._∷_ 38 (List._∷_ 91 (List._∷_ 93 List.[]))) (Syntax.tcons (Syntax.tyRef Syntax.erased Syntax.mut (Syntax.tyInt Syntax.w32)) (Syntax.tcons (Syntax.tyInt Syntax.w64) Syntax.tnil)))) (List._∷_ (17, Rows.any-gone (Syntax.tyRef Syntax.erased Syntax.mut (Syntax.tyInt Syntax.w32))) (List._∷_ (18, Rows.any-gone (Syntax.tyStruct (List._∷_ 38 (List._∷_ 91 (List._∷_ 93 List.[]))) (Syntax.tcons (Syntax.tyRef Syntax.erased Syntax.mut (Syntax.tyInt Syntax.w32)) (Syntax.tcons (Syntax.tyInt Syntax.w64) Syntax.tnil)))) (List._∷_ (19, Rows.any-gone (Syntax.tyRef Syntax.erased Syntax.mut (Syntax.tyInt Syntax.w32))) (List._∷_ (20, Rows.any-gone (Syntax.tyStruct (List._∷_ 38 (List._∷_ 91 (List._∷_ 93 List.[]))) (Syntax.tcons (Syntax.tyRef Syntax.erased Syntax.mut (Syntax.tyInt Syntax.w32)) (Syntax.tcons (Syntax.tyInt Syntax.w64) Syntax.tnil)))) (List._∷_ (21, Rows.any-gone (Syntax.tyRef Syntax.erased Syntax.mut Cell.behind)) (List._∷_ (22, Rows.any-gone (Syntax.tyStruct (List._∷_ 38 (List._∷_ 91 (List._∷_ 93 List.[]))) (Syntax.tcons (Syntax.tyRef Syntax.erased Syntax.mut Cell.behind) (Syntax.tcons (Syntax.tyInt Syntax.w64) Syntax.tnil)))) (List._∷_ (23, Rows.any-gone (Syntax.tyRef Syntax.erased Syntax.mut Cell.behind)) (List._∷_ (24, Mut.msleft Cell.R (Syntax.tyRef Syntax.erased Syntax.mut Cell.behind)) (List._∷_ (25, Rows.any-gone (Syntax.tyRef Syntax.erased Syntax.imm Cell.behind)) (List._∷_ (26, Rows.any-gone (Syntax.tyStruct (List._∷_ 38 (List._∷_ 91 (List._∷_ 93 List.[]))) (Syntax.tcons (Syntax.tyRef Syntax.erased Syntax.imm Cell.behind) (Syntax.tcons (Syntax.tyInt Syntax.w64) Syntax.tnil)))) (List._∷_ (27, Rows.any-gone (Syntax.tyInt Syntax.w64)) (List._∷_ (28, Rows.any-gone (Syntax.tyRef Syntax.erased Syntax.imm Cell.behind)) (List._∷_ (29, Rows.any-gone (Syntax.tyStruct (List._∷_ 38 (List._∷_ 91 (List._∷_ 93 List.[]))) (Syntax.tcons (Syntax.tyRef Syntax.erased Syntax.imm Cell.behind) (Syntax.tcons (Syntax.tyInt Syntax.w64) Syntax.tnil)))) (List._∷_ (30, Rows.any-gone (Syntax.tyRef Syntax.erased Syntax.imm (Syntax.tyArray (Syntax.tyInt Syntax.w32) 65540))) (List._∷_ (31, Rows.any-gone (Syntax.tyRef Syntax.erased Syntax.imm (Syntax.tyArray (Syntax.tyInt Syntax.w32) 32772))) List.[])))))))))))))))
 
 abbrev pub t34 : List.List Row.Entry
-t34 = List._∷_ (0, Rows.any-gone (Syntax.tyStruct (List._∷_ 122 (List._∷_ 111 (List._∷_ 110 (List._∷_ 101 (List._∷_ 115 (List._∷_ 58 (List._∷_ 58 (List._∷_ 104 (List._∷_ 101 (List._∷_ 108 (List._∷_ 100 (List._∷_ 58 (List._∷_ 58 (List._∷_ 72 (List._∷_ 101 (List._∷_ 108 (List._∷_ 100 List.[]))))))))))))))))) (Syntax.tcons (Syntax.tyStruct (List._∷_ 112 (List._∷_ 121 (List._∷_ 114 (List._∷_ 97 (List._∷_ 109 (List._∷_ 105 (List._∷_ 100 (List._∷_ 58 (List._∷_ 58 (List._∷_ 83 (List._∷_ 116 (List._∷_ 97 (List._∷_ 116 (List._∷_ 101 List.[])))))))))))))) (Syntax.tcons (Syntax.tyInt Syntax.w32) (Syntax.tcons (Syntax.tyInt Syntax.w32) (Syntax.tcons (Syntax.tyInt Syntax.w32) (Syntax.tcons (Syntax.tyInt Syntax.w32) (Syntax.tcons (Syntax.tyInt Syntax.w32) (Syntax.tcons (Syntax.tyArray (Syntax.tyInt Syntax.w32) 64) Syntax.tnil))))))) (Syntax.tcons (Syntax.tyInt Syntax.w64) (Syntax.tcons (Syntax.tyInt Syntax.w64) (Syntax.tcons (Syntax.tyInt Syntax.w64) (Syntax.tcons (Syntax.tyInt Syntax.w64) (Syntax.tcons (Syntax.tyInt Syntax.w64) (Syntax.tcons (Syntax.tyInt Syntax.w64) (Syntax.tcons Syntax.tyBool Syntax.tnil)))))))))) (List._∷_ (1, Rows.whole (Declared.row Held.the-type)) (List._∷_ (2, Rows.any-gone (Syntax.tyStruct (List._∷_ 122 (List._∷_ 111 (List._∷_ 110 (List._∷_ 101 (List._∷_ 115 (List._∷_ 58 (List._∷_ 58 (List._∷_ 115 (List._∷_ 99 (List._∷_ 97 (List._∷_ 110 (List._∷_ 58 (List._∷_ 58 (List._∷_ 76 (List._∷_ 105 (List._∷_ 110 (List._∷_ 101 List.[]))))))))))))))))) (Syntax.tcons (Syntax.tyInt Syntax.w32) (Syntax.tcons (Syntax.tyInt Syntax.w64) (Syntax.tcons (Syntax.tyInt Syntax.w64) (Syntax.tcons (Syntax.tyInt Syntax.w64) (Syntax.tcons (Syntax.tyInt Syntax.w64) Syntax.tnil))))))) (List._∷_ (3, Rows.sref (Array.Array (Referent.rtF (Referent.fInt Syntax.w32)) 32772) (Syntax.tyRef (Syntax.named 0) Syntax.imm (Syntax.tyArray (Syntax.tyInt Syntax.w32) 32772)) 0) (List._∷_ (4, Rows.mref (Array.Array (Referent.rtF (Referent.fInt Syntax.w32)) 65540) (Syntax.tyRef (Syntax.named 1) Syntax.mut (Syntax.tyArray (Syntax.tyInt Syntax.w32) 65540)) 1) (List._∷_ (5, Rows.mref (Array.Array (Referent.rtF (Referent.fInt Syntax.w32)) 32772) (Syntax.tyRef (Syntax.named 2) Syntax.mut (Syntax.tyArray (Syntax.tyInt Syntax.w32) 32772)) 2) (List._∷_ (6, Rows.mref (Array.Array (Referent.rtF (Referent.fInt Syntax.w32)) 262160) (Syntax.tyRef (Syntax.named 3) Syntax.mut (Syntax.tyArray (Syntax.tyInt Syntax.w32) 262160)) 3) (List._∷_ (7, Rows.sref (Array.Array (Referent.rtF (Referent.fInt Syntax.w8)) 600000) (Syntax.tyRef (Syntax.named 4) Syntax.imm (Syntax.tyArray (Syntax.tyInt Syntax.w8) 600000)) 4) (List._∷_ (8, Rows.mref (Array.Array Cell.R 65540) (Syntax.tyRef (Syntax.named 5) Syntax.mut (Syntax.tyArray Cell.behind 65540)) 5) (List._∷_ (9, Rows.mref (Array.Array Cell.R 32772) (Syntax.tyRef (Syntax.named 6) Syntax.mut (Syntax.tyArray Cell.behind 32772)) 6) (List._∷_ (10, Rows.whole (Declared.row Outcome.the-type)) (List._∷_ (11, Rows.any-gone (Syntax.tyInt Syntax.w64)) (List._∷_ (12, Rows.any-gone (Syntax.tyInt Syntax.w64)) (List._∷_ (13, Rows.any-gone (Syntax.tyRef Syntax.erased Syntax.imm (Syntax.tyInt Syntax.w32))) (List._∷_ (14, Rows.any-gone (Syntax.tyStruct (List._∷_ 38 (List._∷_ 91 (List._∷_ 93 List.[]))) (Syntax.tcons (Syntax.tyRef Syntax.erased Syntax.imm (Syntax.tyInt Syntax.w32)) (Syntax.tcons (Syntax.tyInt Syntax.w64) Syntax.tnil)))) (List._∷_ (15, Rows.any-gone (Syntax.tyRef Syntax.erased Syntax.mut (Syntax.tyInt Syntax.w32))) List.[])))))))))))))))
+t34 = List._∷_ (0, Rows.any-gone (Syntax.tyStruct (List._∷_ 122 (List._∷_ 111 (List._∷_ 110 (List._∷_ 101 (List._∷_ 115 (List._∷_ 58 (List._∷_ 58 (List._∷_ 104 (List._∷_ 101 (List._∷_ 108 (List._∷_ 100 (List._∷_ 58 (List._∷_ 58 (List._∷_ 72 (List._∷_ 101 (List._∷_ 108 (List._∷_ 100 List.[]))))))))))))))))) (Syntax.tcons (Syntax.tyStruct (List._∷_ 112 (List._∷_ 121 (List._∷_ 114 (List._∷_ 97 (List._∷_ 109 (List._∷_ 105 (List._∷_ 100 (List._∷_ 58 (List._∷_ 58 (List._∷_ 83 (List._∷_ 116 (List._∷_ 97 (List._∷_ 116 (List._∷_ 101 List.[])))))))))))))) (Syntax.tcons (Syntax.tyInt Syntax.w32) (Syntax.tcons (Syntax.tyInt Syntax.w32) (Syntax.tcons (Syntax.tyInt Syntax.w32) (Syntax.tcons (Syntax.tyInt Syntax.w32) (Syntax.tcons (Syntax.tyInt Syntax.w32) (Syntax.tcons (Syntax.tyArray (Syntax.tyInt Syntax.w32) 64) Syntax.tnil))))))) (Syntax.tcons (Syntax.tyInt Syntax.w64) (Syntax.tcons (Syntax.tyInt Syntax.w64) (Syntax.tcons (Syntax.tyInt Syntax.w64) (Syntax.tcons (Syntax.tyInt Syntax.w64) (Syntax.tcons (Syntax.tyInt Syntax.w64) (Syntax.tcons (Syntax.tyInt Syntax.w64) (Syntax.tcons Syntax.tyBool Syntax.tnil)))))))))) (List._∷_ (1, Rows.whole (Declared.row Held.the-type)) (List._∷_ (2, Rows.any-gone (Syntax.tyStruct (List._∷_ 115 (List._∷_ 99 (List._∷_ 114 (List._∷_ 105 (List._∷_ 112 (List._∷_ 116 (List._∷_ 58 (List._∷_ 58 (List._∷_ 115 (List._∷_ 99 (List._∷_ 97 (List._∷_ 110 (List._∷_ 58 (List._∷_ 58 (List._∷_ 76 (List._∷_ 105 (List._∷_ 110 (List._∷_ 101 List.[])))))))))))))))))) (Syntax.tcons (Syntax.tyInt Syntax.w32) (Syntax.tcons (Syntax.tyInt Syntax.w64) (Syntax.tcons (Syntax.tyInt Syntax.w64) (Syntax.tcons (Syntax.tyInt Syntax.w64) (Syntax.tcons (Syntax.tyInt Syntax.w64) Syntax.tnil))))))) (List._∷_ (3, Rows.sref (Array.Array (Referent.rtF (Referent.fInt Syntax.w32)) 32772) (Syntax.tyRef (Syntax.named 0) Syntax.imm (Syntax.tyArray (Syntax.tyInt Syntax.w32) 32772)) 0) (List._∷_ (4, Rows.mref (Array.Array (Referent.rtF (Referent.fInt Syntax.w32)) 65540) (Syntax.tyRef (Syntax.named 1) Syntax.mut (Syntax.tyArray (Syntax.tyInt Syntax.w32) 65540)) 1) (List._∷_ (5, Rows.mref (Array.Array (Referent.rtF (Referent.fInt Syntax.w32)) 32772) (Syntax.tyRef (Syntax.named 2) Syntax.mut (Syntax.tyArray (Syntax.tyInt Syntax.w32) 32772)) 2) (List._∷_ (6, Rows.mref (Array.Array (Referent.rtF (Referent.fInt Syntax.w32)) 262160) (Syntax.tyRef (Syntax.named 3) Syntax.mut (Syntax.tyArray (Syntax.tyInt Syntax.w32) 262160)) 3) (List._∷_ (7, Rows.sref (Array.Array (Referent.rtF (Referent.fInt Syntax.w8)) 600000) (Syntax.tyRef (Syntax.named 4) Syntax.imm (Syntax.tyArray (Syntax.tyInt Syntax.w8) 600000)) 4) (List._∷_ (8, Rows.mref (Array.Array Cell.R 65540) (Syntax.tyRef (Syntax.named 5) Syntax.mut (Syntax.tyArray Cell.behind 65540)) 5) (List._∷_ (9, Rows.mref (Array.Array Cell.R 32772) (Syntax.tyRef (Syntax.named 6) Syntax.mut (Syntax.tyArray Cell.behind 32772)) 6) (List._∷_ (10, Rows.whole (Declared.row Outcome.the-type)) (List._∷_ (11, Rows.any-gone (Syntax.tyInt Syntax.w64)) (List._∷_ (12, Rows.any-gone (Syntax.tyInt Syntax.w64)) (List._∷_ (13, Rows.any-gone (Syntax.tyRef Syntax.erased Syntax.imm (Syntax.tyInt Syntax.w32))) (List._∷_ (14, Rows.any-gone (Syntax.tyStruct (List._∷_ 38 (List._∷_ 91 (List._∷_ 93 List.[]))) (Syntax.tcons (Syntax.tyRef Syntax.erased Syntax.imm (Syntax.tyInt Syntax.w32)) (Syntax.tcons (Syntax.tyInt Syntax.w64) Syntax.tnil)))) (List._∷_ (15, Rows.any-gone (Syntax.tyRef Syntax.erased Syntax.mut (Syntax.tyInt Syntax.w32))) List.[])))))))))))))))
 
 abbrev pub t35 : List.List Row.Entry
-t35 = List._∷_ (0, Rows.any-gone (Syntax.tyStruct (List._∷_ 122 (List._∷_ 111 (List._∷_ 110 (List._∷_ 101 (List._∷_ 115 (List._∷_ 58 (List._∷_ 58 (List._∷_ 104 (List._∷_ 101 (List._∷_ 108 (List._∷_ 100 (List._∷_ 58 (List._∷_ 58 (List._∷_ 72 (List._∷_ 101 (List._∷_ 108 (List._∷_ 100 List.[]))))))))))))))))) (Syntax.tcons (Syntax.tyStruct (List._∷_ 112 (List._∷_ 121 (List._∷_ 114 (List._∷_ 97 (List._∷_ 109 (List._∷_ 105 (List._∷_ 100 (List._∷_ 58 (List._∷_ 58 (List._∷_ 83 (List._∷_ 116 (List._∷_ 97 (List._∷_ 116 (List._∷_ 101 List.[])))))))))))))) (Syntax.tcons (Syntax.tyInt Syntax.w32) (Syntax.tcons (Syntax.tyInt Syntax.w32) (Syntax.tcons (Syntax.tyInt Syntax.w32) (Syntax.tcons (Syntax.tyInt Syntax.w32) (Syntax.tcons (Syntax.tyInt Syntax.w32) (Syntax.tcons (Syntax.tyArray (Syntax.tyInt Syntax.w32) 64) Syntax.tnil))))))) (Syntax.tcons (Syntax.tyInt Syntax.w64) (Syntax.tcons (Syntax.tyInt Syntax.w64) (Syntax.tcons (Syntax.tyInt Syntax.w64) (Syntax.tcons (Syntax.tyInt Syntax.w64) (Syntax.tcons (Syntax.tyInt Syntax.w64) (Syntax.tcons (Syntax.tyInt Syntax.w64) (Syntax.tcons Syntax.tyBool Syntax.tnil)))))))))) (List._∷_ (1, Rows.whole (Declared.row Held.the-type)) (List._∷_ (2, Rows.any-gone (Syntax.tyStruct (List._∷_ 122 (List._∷_ 111 (List._∷_ 110 (List._∷_ 101 (List._∷_ 115 (List._∷_ 58 (List._∷_ 58 (List._∷_ 115 (List._∷_ 99 (List._∷_ 97 (List._∷_ 110 (List._∷_ 58 (List._∷_ 58 (List._∷_ 76 (List._∷_ 105 (List._∷_ 110 (List._∷_ 101 List.[]))))))))))))))))) (Syntax.tcons (Syntax.tyInt Syntax.w32) (Syntax.tcons (Syntax.tyInt Syntax.w64) (Syntax.tcons (Syntax.tyInt Syntax.w64) (Syntax.tcons (Syntax.tyInt Syntax.w64) (Syntax.tcons (Syntax.tyInt Syntax.w64) Syntax.tnil))))))) (List._∷_ (3, Rows.sref (Array.Array (Referent.rtF (Referent.fInt Syntax.w32)) 32772) (Syntax.tyRef (Syntax.named 0) Syntax.imm (Syntax.tyArray (Syntax.tyInt Syntax.w32) 32772)) 0) (List._∷_ (4, Rows.mref (Array.Array (Referent.rtF (Referent.fInt Syntax.w32)) 65540) (Syntax.tyRef (Syntax.named 1) Syntax.mut (Syntax.tyArray (Syntax.tyInt Syntax.w32) 65540)) 1) (List._∷_ (5, Rows.mref (Array.Array (Referent.rtF (Referent.fInt Syntax.w32)) 32772) (Syntax.tyRef (Syntax.named 2) Syntax.mut (Syntax.tyArray (Syntax.tyInt Syntax.w32) 32772)) 2) (List._∷_ (6, Rows.mref (Array.Array (Referent.rtF (Referent.fInt Syntax.w32)) 262160) (Syntax.tyRef (Syntax.named 3) Syntax.mut (Syntax.tyArray (Syntax.tyInt Syntax.w32) 262160)) 3) (List._∷_ (7, Rows.sref (Array.Array (Referent.rtF (Referent.fInt Syntax.w8)) 600000) (Syntax.tyRef (Syntax.named 4) Syntax.imm (Syntax.tyArray (Syntax.tyInt Syntax.w8) 600000)) 4) (List._∷_ (8, Frozen.held (Frozen.fz-open Syntax.erased 5 List.[] Row.off (LendAt.fz-shr (Array.Array Cell.R 65540) 12))) (List._∷_ (9, Rows.mref (Array.Array Cell.R 32772) (Syntax.tyRef (Syntax.named 6) Syntax.mut (Syntax.tyArray Cell.behind 32772)) 6) (List._∷_ (10, Rows.whole (Declared.row Outcome.the-type)) (List._∷_ (11, Rows.any-gone (Syntax.tyInt Syntax.w64)) (List._∷_ (12, Rows.any-gone (Syntax.tyInt Syntax.w64)) (List._∷_ (13, Rows.any-gone (Syntax.tyRef Syntax.erased Syntax.imm (Syntax.tyInt Syntax.w32))) (List._∷_ (14, Rows.any-gone (Syntax.tyStruct (List._∷_ 38 (List._∷_ 91 (List._∷_ 93 List.[]))) (Syntax.tcons (Syntax.tyRef Syntax.erased Syntax.imm (Syntax.tyInt Syntax.w32)) (Syntax.tcons (Syntax.tyInt Syntax.w64) Syntax.tnil)))) (List._∷_ (15, Rows.any-gone (Syntax.tyRef Syntax.erased Syntax.mut (Syntax.tyInt Syntax.w32))) List.[])))))))))))))))
+t35 = List._∷_ (0, Rows.any-gone (Syntax.tyStruct (List._∷_ 122 (List._∷_ 111 (List._∷_ 110 (List._∷_ 101 (List._∷_ 115 (List._∷_ 58 (List._∷_ 58 (List._∷_ 104 (List._∷_ 101 (List._∷_ 108 (List._∷_ 100 (List._∷_ 58 (List._∷_ 58 (List._∷_ 72 (List._∷_ 101 (List._∷_ 108 (List._∷_ 100 List.[]))))))))))))))))) (Syntax.tcons (Syntax.tyStruct (List._∷_ 112 (List._∷_ 121 (List._∷_ 114 (List._∷_ 97 (List._∷_ 109 (List._∷_ 105 (List._∷_ 100 (List._∷_ 58 (List._∷_ 58 (List._∷_ 83 (List._∷_ 116 (List._∷_ 97 (List._∷_ 116 (List._∷_ 101 List.[])))))))))))))) (Syntax.tcons (Syntax.tyInt Syntax.w32) (Syntax.tcons (Syntax.tyInt Syntax.w32) (Syntax.tcons (Syntax.tyInt Syntax.w32) (Syntax.tcons (Syntax.tyInt Syntax.w32) (Syntax.tcons (Syntax.tyInt Syntax.w32) (Syntax.tcons (Syntax.tyArray (Syntax.tyInt Syntax.w32) 64) Syntax.tnil))))))) (Syntax.tcons (Syntax.tyInt Syntax.w64) (Syntax.tcons (Syntax.tyInt Syntax.w64) (Syntax.tcons (Syntax.tyInt Syntax.w64) (Syntax.tcons (Syntax.tyInt Syntax.w64) (Syntax.tcons (Syntax.tyInt Syntax.w64) (Syntax.tcons (Syntax.tyInt Syntax.w64) (Syntax.tcons Syntax.tyBool Syntax.tnil)))))))))) (List._∷_ (1, Rows.whole (Declared.row Held.the-type)) (List._∷_ (2, Rows.any-gone (Syntax.tyStruct (List._∷_ 115 (List._∷_ 99 (List._∷_ 114 (List._∷_ 105 (List._∷_ 112 (List._∷_ 116 (List._∷_ 58 (List._∷_ 58 (List._∷_ 115 (List._∷_ 99 (List._∷_ 97 (List._∷_ 110 (List._∷_ 58 (List._∷_ 58 (List._∷_ 76 (List._∷_ 105 (List._∷_ 110 (List._∷_ 101 List.[])))))))))))))))))) (Syntax.tcons (Syntax.tyInt Syntax.w32) (Syntax.tcons (Syntax.tyInt Syntax.w64) (Syntax.tcons (Syntax.tyInt Syntax.w64) (Syntax.tcons (Syntax.tyInt Syntax.w64) (Syntax.tcons (Syntax.tyInt Syntax.w64) Syntax.tnil))))))) (List._∷_ (3, Rows.sref (Array.Array (Referent.rtF (Referent.fInt Syntax.w32)) 32772) (Syntax.tyRef (Syntax.named 0) Syntax.imm (Syntax.tyArray (Syntax.tyInt Syntax.w32) 32772)) 0) (List._∷_ (4, Rows.mref (Array.Array (Referent.rtF (Referent.fInt Syntax.w32)) 65540) (Syntax.tyRef (Syntax.named 1) Syntax.mut (Syntax.tyArray (Syntax.tyInt Syntax.w32) 65540)) 1) (List._∷_ (5, Rows.mref (Array.Array (Referent.rtF (Referent.fInt Syntax.w32)) 32772) (Syntax.tyRef (Syntax.named 2) Syntax.mut (Syntax.tyArray (Syntax.tyInt Syntax.w32) 32772)) 2) (List._∷_ (6, Rows.mref (Array.Array (Referent.rtF (Referent.fInt Syntax.w32)) 262160) (Syntax.tyRef (Syntax.named 3) Syntax.mut (Syntax.tyArray (Syntax.tyInt Syntax.w32) 262160)) 3) (List._∷_ (7, Rows.sref (Array.Array (Referent.rtF (Referent.fInt Syntax.w8)) 600000) (Syntax.tyRef (Syntax.named 4) Syntax.imm (Syntax.tyArray (Syntax.tyInt Syntax.w8) 600000)) 4) (List._∷_ (8, Frozen.held (Frozen.fz-open Syntax.erased 5 List.[] Row.off (LendAt.fz-shr (Array.Array Cell.R 65540) 12))) (List._∷_ (9, Rows.mref (Array.Array Cell.R 32772) (Syntax.tyRef (Syntax.named 6) Syntax.mut (Syntax.tyArray Cell.behind 32772)) 6) (List._∷_ (10, Rows.whole (Declared.row Outcome.the-type)) (List._∷_ (11, Rows.any-gone (Syntax.tyInt Syntax.w64)) (List._∷_ (12, Rows.any-gone (Syntax.tyInt Syntax.w64)) (List._∷_ (13, Rows.any-gone (Syntax.tyRef Syntax.erased Syntax.imm (Syntax.tyInt Syntax.w32))) (List._∷_ (14, Rows.any-gone (Syntax.tyStruct (List._∷_ 38 (List._∷_ 91 (List._∷_ 93 List.[]))) (Syntax.tcons (Syntax.tyRef Syntax.erased Syntax.imm (Syntax.tyInt Syntax.w32)) (Syntax.tcons (Syntax.tyInt Syntax.w64) Syntax.tnil)))) (List._∷_ (15, Rows.any-gone (Syntax.tyRef Syntax.erased Syntax.mut (Syntax.tyInt Syntax.w32))) List.[])))))))))))))))
 
 abbrev pub t36 : List.List Row.Entry
 t36 = List._∷_ (16, Rows.any-gone (Syntax.tyStruct (List._∷_ 38 (List._∷_ 91 (List._∷_ 93 List.[]))) (Syntax.tcons (Syntax.tyRef Syntax.erased Syntax.mut (Syntax.tyInt Syntax.w32)) (Syntax.tcons (Syntax.tyInt Syntax.w64) Syntax.tnil)))) (List._∷_ (17, Rows.any-gone (Syntax.tyRef Syntax.erased Syntax.mut (Syntax.tyInt Syntax.w32))) (List._∷_ (18, Rows.any-gone (Syntax.tyStruct (List._∷_ 38 (List._∷_ 91 (List._∷_ 93 List.[]))) (Syntax.tcons (Syntax.tyRef Syntax.erased Syntax.mut (Syntax.tyInt Syntax.w32)) (Syntax.tcons (Syntax.tyInt Syntax.w64) Syntax.tnil)))) (List._∷_ (19, Rows.any-gone (Syntax.tyRef Syntax.erased Syntax.mut (Syntax.tyInt Syntax.w32))) (List._∷_ (20, Rows.any-gone (Syntax.tyStruct (List._∷_ 38 (List._∷_ 91 (List._∷_ 93 List.[]))) (Syntax.tcons (Syntax.tyRef Syntax.erased Syntax.mut (Syntax.tyInt Syntax.w32)) (Syntax.tcons (Syntax.tyInt Syntax.w64) Syntax.tnil)))) (List._∷_ (21, Rows.any-gone (Syntax.tyRef Syntax.erased Syntax.mut Cell.behind)) (List._∷_ (22, Rows.any-gone (Syntax.tyStruct (List._∷_ 38 (List._∷_ 91 (List._∷_ 93 List.[]))) (Syntax.tcons (Syntax.tyRef Syntax.erased Syntax.mut Cell.behind) (Syntax.tcons (Syntax.tyInt Syntax.w64) Syntax.tnil)))) (List._∷_ (23, Rows.any-gone (Syntax.tyRef Syntax.erased Syntax.mut Cell.behind)) (List._∷_ (24, Rows.any-gone (Syntax.tyStruct (List._∷_ 38 (List._∷_ 91 (List._∷_ 93 List.[]))) (Syntax.tcons (Syntax.tyRef Syntax.erased Syntax.mut Cell.behind) (Syntax.tcons (Syntax.tyInt Syntax.w64) Syntax.tnil)))) (List._∷_ (25, Rows.sref (Array.Array Cell.R 65540) (Syntax.tyRef Syntax.erased Syntax.imm Cell.behind) 12) (List._∷_ (26, Rows.any-gone (Syntax.tyStruct (List._∷_ 38 (List._∷_ 91 (List._∷_ 93 List.[]))) (Syntax.tcons (Syntax.tyRef Syntax.erased Syntax.imm Cell.behind) (Syntax.tcons (Syntax.tyInt Syntax.w64) Syntax.tnil)))) (List._∷_ (27, Rows.any-gone (Syntax.tyInt Syntax.w64)) (List._∷_ (28, Rows.any-gone (Syntax.tyRef Syntax.erased Syntax.imm Cell.behind)) (List._∷_ (29, Rows.any-gone (Syntax.tyStruct (List._∷_ 38 (List._∷_ 91 (List._∷_ 93 List.[]))) (Syntax.tcons (Syntax.tyRef Syntax.erased Syntax.imm Cell.behind) (Syntax.tcons (Syntax.tyInt Syntax.w64) Syntax.tnil)))) (List._∷_ (30, Rows.any-gone (Syntax.tyRef Syntax.erased Syntax.imm (Syntax.tyArray (Syntax.tyInt Syntax.w32) 65540))) (List._∷_ (31, Rows.any-gone (Syntax.tyRef Syntax.erased Syntax.imm (Syntax.tyArray (Syntax.tyInt Syntax.w32) 32772))) List.[])))))))))))))))
@@ -371,16 +371,16 @@ abbrev pub t39 : List.List Row.Entry
 t39 = List._∷_ (16, Rows.any-gone (Syntax.tyStruct (List._∷_ 38 (List._∷_ 91 (List._∷_ 93 List.[]))) (Syntax.tcons (Syntax.tyRef Syntax.erased Syntax.mut (Syntax.tyInt Syntax.w32)) (Syntax.tcons (Syntax.tyInt Syntax.w64) Syntax.tnil)))) (List._∷_ (17, Rows.any-gone (Syntax.tyRef Syntax.erased Syntax.mut (Syntax.tyInt Syntax.w32))) (List._∷_ (18, Rows.any-gone (Syntax.tyStruct (List._∷_ 38 (List._∷_ 91 (List._∷_ 93 List.[]))) (Syntax.tcons (Syntax.tyRef Syntax.erased Syntax.mut (Syntax.tyInt Syntax.w32)) (Syntax.tcons (Syntax.tyInt Syntax.w64) Syntax.tnil)))) (List._∷_ (19, Rows.any-gone (Syntax.tyRef Syntax.erased Syntax.mut (Syntax.tyInt Syntax.w32))) (List._∷_ (20, Rows.any-gone (Syntax.tyStruct (List._∷_ 38 (List._∷_ 91 (List._∷_ 93 List.[]))) (Syntax.tcons (Syntax.tyRef Syntax.erased Syntax.mut (Syntax.tyInt Syntax.w32)) (Syntax.tcons (Syntax.tyInt Syntax.w64) Syntax.tnil)))) (List._∷_ (21, Rows.any-gone (Syntax.tyRef Syntax.erased Syntax.mut Cell.behind)) (List._∷_ (22, Rows.any-gone (Syntax.tyStruct (List._∷_ 38 (List._∷_ 91 (List._∷_ 93 List.[]))) (Syntax.tcons (Syntax.tyRef Syntax.erased Syntax.mut Cell.behind) (Syntax.tcons (Syntax.tyInt Syntax.w64) Syntax.tnil)))) (List._∷_ (23, Rows.any-gone (Syntax.tyRef Syntax.erased Syntax.mut Cell.behind)) (List._∷_ (24, Rows.any-gone (Syntax.tyStruct (List._∷_ 38 (List._∷_ 91 (List._∷_ 93 List.[]))) (Syntax.tcons (Syntax.tyRef Syntax.erased Syntax.mut Cell.behind) (Syntax.tcons (Syntax.tyInt Syntax.w64) Syntax.tnil)))) (List._∷_ (25, Rows.any-gone (Syntax.tyRef Syntax.erased Syntax.imm Cell.behind)) (List._∷_ (26, Rows.sslice Cell.R (Syntax.tyRef Syntax.erased Syntax.imm Cell.behind) 12) (List._∷_ (27, Rows.sc-here (Row.sInt Syntax.w64)) (List._∷_ (28, Rows.any-gone (Syntax.tyRef Syntax.erased Syntax.imm Cell.behind)) (List._∷_ (29, Rows.any-gone (Syntax.tyStruct (List._∷_ 38 (List._∷_ 91 (List._∷_ 93 List.[]))) (Syntax.tcons (Syntax.tyRef Syntax.erased Syntax.imm Cell.behind) (Syntax.tcons (Syntax.tyInt Syntax.w64) Syntax.tnil)))) (List._∷_ (30, Rows.any-gone (Syntax.tyRef Syntax.erased Syntax.imm (Syntax.tyArray (Syntax.tyInt Syntax.w32) 65540))) (List._∷_ (31, Rows.any-gone (Syntax.tyRef Syntax.erased Syntax.imm (Syntax.tyArray (Syntax.tyInt Syntax.w32) 32772))) List.[])))))))))))))))
 
 abbrev pub t40 : List.List Row.Entry
-t40 = List._∷_ (0, Rows.any-gone (Syntax.tyStruct (List._∷_ 122 (List._∷_ 111 (List._∷_ 110 (List._∷_ 101 (List._∷_ 115 (List._∷_ 58 (List._∷_ 58 (List._∷_ 104 (List._∷_ 101 (List._∷_ 108 (List._∷_ 100 (List._∷_ 58 (List._∷_ 58 (List._∷_ 72 (List._∷_ 101 (List._∷_ 108 (List._∷_ 100 List.[]))))))))))))))))) (Syntax.tcons (Syntax.tyStruct (List._∷_ 112 (List._∷_ 121 (List._∷_ 114 (List._∷_ 97 (List._∷_ 109 (List._∷_ 105 (List._∷_ 100 (List._∷_ 58 (List._∷_ 58 (List._∷_ 83 (List._∷_ 116 (List._∷_ 97 (List._∷_ 116 (List._∷_ 101 List.[])))))))))))))) (Syntax.tcons (Syntax.tyInt Syntax.w32) (Syntax.tcons (Syntax.tyInt Syntax.w32) (Syntax.tcons (Syntax.tyInt Syntax.w32) (Syntax.tcons (Syntax.tyInt Syntax.w32) (Syntax.tcons (Syntax.tyInt Syntax.w32) (Syntax.tcons (Syntax.tyArray (Syntax.tyInt Syntax.w32) 64) Syntax.tnil))))))) (Syntax.tcons (Syntax.tyInt Syntax.w64) (Syntax.tcons (Syntax.tyInt Syntax.w64) (Syntax.tcons (Syntax.tyInt Syntax.w64) (Syntax.tcons (Syntax.tyInt Syntax.w64) (Syntax.tcons (Syntax.tyInt Syntax.w64) (Syntax.tcons (Syntax.tyInt Syntax.w64) (Syntax.tcons Syntax.tyBool Syntax.tnil)))))))))) (List._∷_ (1, Rows.whole (Declared.row Held.the-type)) (List._∷_ (2, Rows.any-gone (Syntax.tyStruct (List._∷_ 122 (List._∷_ 111 (List._∷_ 110 (List._∷_ 101 (List._∷_ 115 (List._∷_ 58 (List._∷_ 58 (List._∷_ 115 (List._∷_ 99 (List._∷_ 97 (List._∷_ 110 (List._∷_ 58 (List._∷_ 58 (List._∷_ 76 (List._∷_ 105 (List._∷_ 110 (List._∷_ 101 List.[]))))))))))))))))) (Syntax.tcons (Syntax.tyInt Syntax.w32) (Syntax.tcons (Syntax.tyInt Syntax.w64) (Syntax.tcons (Syntax.tyInt Syntax.w64) (Syntax.tcons (Syntax.tyInt Syntax.w64) (Syntax.tcons (Syntax.tyInt Syntax.w64) Syntax.tnil))))))) (List._∷_ (3, Rows.sref (Array.Array (Referent.rtF (Referent.fInt Syntax.w32)) 32772) (Syntax.tyRef (Syntax.named 0) Syntax.imm (Syntax.tyArray (Syntax.tyInt Syntax.w32) 32772)) 0) (List._∷_ (4, Rows.mref (Array.Array (Referent.rtF (Referent.fInt Syntax.w32)) 65540) (Syntax.tyRef (Syntax.named 1) Syntax.mut (Syntax.tyArray (Syntax.tyInt Syntax.w32) 65540)) 1) (List._∷_ (5, Rows.mref (Array.Array (Referent.rtF (Referent.fInt Syntax.w32)) 32772) (Syntax.tyRef (Syntax.named 2) Syntax.mut (Syntax.tyArray (Syntax.tyInt Syntax.w32) 32772)) 2) (List._∷_ (6, Rows.mref (Array.Array (Referent.rtF (Referent.fInt Syntax.w32)) 262160) (Syntax.tyRef (Syntax.named 3) Syntax.mut (Syntax.tyArray (Syntax.tyInt Syntax.w32) 262160)) 3) (List._∷_ (7, Rows.sref (Array.Array (Referent.rtF (Referent.fInt Syntax.w8)) 600000) (Syntax.tyRef (Syntax.named 4) Syntax.imm (Syntax.tyArray (Syntax.tyInt Syntax.w8) 600000)) 4) (List._∷_ (8, Frozen.held (Frozen.fz-open Syntax.erased 5 List.[] Row.off (LendAt.fz-shr (Array.Array Cell.R 65540) 12))) (List._∷_ (9, Rows.mref (Array.Array Cell.R 32772) (Syntax.tyRef (Syntax.named 6) Syntax.mut (Syntax.tyArray Cell.behind 32772)) 6) (List._∷_ (10, Rows.whole (Declared.row Outcome.the-type)) (List._∷_ (11, Rows.sc-here (Row.sInt Syntax.w64)) (List._∷_ (12, Rows.any-gone (Syntax.tyInt Syntax.w64)) (List._∷_ (13, Rows.any-gone (Syntax.tyRef Syntax.erased Syntax.imm (Syntax.tyInt Syntax.w32))) (List._∷_ (14, Rows.any-gone (Syntax.tyStruct (List._∷_ 38 (List._∷_ 91 (List._∷_ 93 List.[]))) (Syntax.tcons (Syntax.tyRef Syntax.erased Syntax.imm (Syntax.tyInt Syntax.w32)) (Syntax.tcons (Syntax.tyInt Syntax.w64) Syntax.tnil)))) (List._∷_ (15, Rows.any-gone (Syntax.tyRef Syntax.erased Syntax.mut (Syntax.tyInt Syntax.w32))) List.[])))))))))))))))
+t40 = List._∷_ (0, Rows.any-gone (Syntax.tyStruct (List._∷_ 122 (List._∷_ 111 (List._∷_ 110 (List._∷_ 101 (List._∷_ 115 (List._∷_ 58 (List._∷_ 58 (List._∷_ 104 (List._∷_ 101 (List._∷_ 108 (List._∷_ 100 (List._∷_ 58 (List._∷_ 58 (List._∷_ 72 (List._∷_ 101 (List._∷_ 108 (List._∷_ 100 List.[]))))))))))))))))) (Syntax.tcons (Syntax.tyStruct (List._∷_ 112 (List._∷_ 121 (List._∷_ 114 (List._∷_ 97 (List._∷_ 109 (List._∷_ 105 (List._∷_ 100 (List._∷_ 58 (List._∷_ 58 (List._∷_ 83 (List._∷_ 116 (List._∷_ 97 (List._∷_ 116 (List._∷_ 101 List.[])))))))))))))) (Syntax.tcons (Syntax.tyInt Syntax.w32) (Syntax.tcons (Syntax.tyInt Syntax.w32) (Syntax.tcons (Syntax.tyInt Syntax.w32) (Syntax.tcons (Syntax.tyInt Syntax.w32) (Syntax.tcons (Syntax.tyInt Syntax.w32) (Syntax.tcons (Syntax.tyArray (Syntax.tyInt Syntax.w32) 64) Syntax.tnil))))))) (Syntax.tcons (Syntax.tyInt Syntax.w64) (Syntax.tcons (Syntax.tyInt Syntax.w64) (Syntax.tcons (Syntax.tyInt Syntax.w64) (Syntax.tcons (Syntax.tyInt Syntax.w64) (Syntax.tcons (Syntax.tyInt Syntax.w64) (Syntax.tcons (Syntax.tyInt Syntax.w64) (Syntax.tcons Syntax.tyBool Syntax.tnil)))))))))) (List._∷_ (1, Rows.whole (Declared.row Held.the-type)) (List._∷_ (2, Rows.any-gone (Syntax.tyStruct (List._∷_ 115 (List._∷_ 99 (List._∷_ 114 (List._∷_ 105 (List._∷_ 112 (List._∷_ 116 (List._∷_ 58 (List._∷_ 58 (List._∷_ 115 (List._∷_ 99 (List._∷_ 97 (List._∷_ 110 (List._∷_ 58 (List._∷_ 58 (List._∷_ 76 (List._∷_ 105 (List._∷_ 110 (List._∷_ 101 List.[])))))))))))))))))) (Syntax.tcons (Syntax.tyInt Syntax.w32) (Syntax.tcons (Syntax.tyInt Syntax.w64) (Syntax.tcons (Syntax.tyInt Syntax.w64) (Syntax.tcons (Syntax.tyInt Syntax.w64) (Syntax.tcons (Syntax.tyInt Syntax.w64) Syntax.tnil))))))) (List._∷_ (3, Rows.sref (Array.Array (Referent.rtF (Referent.fInt Syntax.w32)) 32772) (Syntax.tyRef (Syntax.named 0) Syntax.imm (Syntax.tyArray (Syntax.tyInt Syntax.w32) 32772)) 0) (List._∷_ (4, Rows.mref (Array.Array (Referent.rtF (Referent.fInt Syntax.w32)) 65540) (Syntax.tyRef (Syntax.named 1) Syntax.mut (Syntax.tyArray (Syntax.tyInt Syntax.w32) 65540)) 1) (List._∷_ (5, Rows.mref (Array.Array (Referent.rtF (Referent.fInt Syntax.w32)) 32772) (Syntax.tyRef (Syntax.named 2) Syntax.mut (Syntax.tyArray (Syntax.tyInt Syntax.w32) 32772)) 2) (List._∷_ (6, Rows.mref (Array.Array (Referent.rtF (Referent.fInt Syntax.w32)) 262160) (Syntax.tyRef (Syntax.named 3) Syntax.mut (Syntax.tyArray (Syntax.tyInt Syntax.w32) 262160)) 3) (List._∷_ (7, Rows.sref (Array.Array (Referent.rtF (Referent.fInt Syntax.w8)) 600000) (Syntax.tyRef (Syntax.named 4) Syntax.imm (Syntax.tyArray (Syntax.tyInt Syntax.w8) 600000)) 4) (List._∷_ (8, Frozen.held (Frozen.fz-open Syntax.erased 5 List.[] Row.off (LendAt.fz-shr (Array.Array Cell.R 65540) 12))) (List._∷_ (9, Rows.mref (Array.Array Cell.R 32772) (Syntax.tyRef (Syntax.named 6) Syntax.mut (Syntax.tyArray Cell.behind 32772)) 6) (List._∷_ (10, Rows.whole (Declared.row Outcome.the-type)) (List._∷_ (11, Rows.sc-here (Row.sInt Syntax.w64)) (List._∷_ (12, Rows.any-gone (Syntax.tyInt Syntax.w64)) (List._∷_ (13, Rows.any-gone (Syntax.tyRef Syntax.erased Syntax.imm (Syntax.tyInt Syntax.w32))) (List._∷_ (14, Rows.any-gone (Syntax.tyStruct (List._∷_ 38 (List._∷_ 91 (List._∷_ 93 List.[]))) (Syntax.tcons (Syntax.tyRef Syntax.erased Syntax.imm (Syntax.tyInt Syntax.w32)) (Syntax.tcons (Syntax.tyInt Syntax.w64) Syntax.tnil)))) (List._∷_ (15, Rows.any-gone (Syntax.tyRef Syntax.erased Syntax.mut (Syntax.tyInt Syntax.w32))) List.[])))))))))))))))
 
 abbrev pub t41 : List.List Row.Entry
 t41 = List._∷_ (16, Rows.any-gone (Syntax.tyStruct (List._∷_ 38 (List._∷_ 91 (List._∷_ 93 List.[]))) (Syntax.tcons (Syntax.tyRef Syntax.erased Syntax.mut (Syntax.tyInt Syntax.w32)) (Syntax.tcons (Syntax.tyInt Syntax.w64) Syntax.tnil)))) (List._∷_ (17, Rows.any-gone (Syntax.tyRef Syntax.erased Syntax.mut (Syntax.tyInt Syntax.w32))) (List._∷_ (18, Rows.any-gone (Syntax.tyStruct (List._∷_ 38 (List._∷_ 91 (List._∷_ 93 List.[]))) (Syntax.tcons (Syntax.tyRef Syntax.erased Syntax.mut (Syntax.tyInt Syntax.w32)) (Syntax.tcons (Syntax.tyInt Syntax.w64) Syntax.tnil)))) (List._∷_ (19, Rows.any-gone (Syntax.tyRef Syntax.erased Syntax.mut (Syntax.tyInt Syntax.w32))) (List._∷_ (20, Rows.any-gone (Syntax.tyStruct (List._∷_ 38 (List._∷_ 91 (List._∷_ 93 List.[]))) (Syntax.tcons (Syntax.tyRef Syntax.erased Syntax.mut (Syntax.tyInt Syntax.w32)) (Syntax.tcons (Syntax.tyInt Syntax.w64) Syntax.tnil)))) (List._∷_ (21, Rows.any-gone (Syntax.tyRef Syntax.erased Syntax.mut Cell.behind)) (List._∷_ (22, Rows.any-gone (Syntax.tyStruct (List._∷_ 38 (List._∷_ 91 (List._∷_ 93 List.[]))) (Syntax.tcons (Syntax.tyRef Syntax.erased Syntax.mut Cell.behind) (Syntax.tcons (Syntax.tyInt Syntax.w64) Syntax.tnil)))) (List._∷_ (23, Rows.any-gone (Syntax.tyRef Syntax.erased Syntax.mut Cell.behind)) (List._∷_ (24, Rows.any-gone (Syntax.tyStruct (List._∷_ 38 (List._∷_ 91 (List._∷_ 93 List.[]))) (Syntax.tcons (Syntax.tyRef Syntax.erased Syntax.mut Cell.behind) (Syntax.tcons (Syntax.tyInt Syntax.w64) Syntax.tnil)))) (List._∷_ (25, Rows.any-gone (Syntax.tyRef Syntax.erased Syntax.imm Cell.behind)) (List._∷_ (26, Rows.any-gone (Syntax.tyStruct (List._∷_ 38 (List._∷_ 91 (List._∷_ 93 List.[]))) (Syntax.tcons (Syntax.tyRef Syntax.erased Syntax.imm Cell.behind) (Syntax.tcons (Syntax.tyInt Syntax.w64) Syntax.tnil)))) (List._∷_ (27, Rows.sc-here (Row.sInt Syntax.w64)) (List._∷_ (28, Rows.any-gone (Syntax.tyRef Syntax.erased Syntax.imm Cell.behind)) (List._∷_ (29, Rows.any-gone (Syntax.tyStruct (List._∷_ 38 (List._∷_ 91 (List._∷_ 93 List.[]))) (Syntax.tcons (Syntax.tyRef Syntax.erased Syntax.imm Cell.behind) (Syntax.tcons (Syntax.tyInt Syntax.w64) Syntax.tnil)))) (List._∷_ (30, Rows.any-gone (Syntax.tyRef Syntax.erased Syntax.imm (Syntax.tyArray (Syntax.tyInt Syntax.w32) 65540))) (List._∷_ (31, Rows.any-gone (Syntax.tyRef Syntax.erased Syntax.imm (Syntax.tyArray (Syntax.tyInt Syntax.w32) 32772))) List.[])))))))))))))))
 
 abbrev pub t42 : List.List Row.Entry
-t42 = List._∷_ (0, Rows.any-gone (Syntax.tyStruct (List._∷_ 122 (List._∷_ 111 (List._∷_ 110 (List._∷_ 101 (List._∷_ 115 (List._∷_ 58 (List._∷_ 58 (List._∷_ 104 (List._∷_ 101 (List._∷_ 108 (List._∷_ 100 (List._∷_ 58 (List._∷_ 58 (List._∷_ 72 (List._∷_ 101 (List._∷_ 108 (List._∷_ 100 List.[]))))))))))))))))) (Syntax.tcons (Syntax.tyStruct (List._∷_ 112 (List._∷_ 121 (List._∷_ 114 (List._∷_ 97 (List._∷_ 109 (List._∷_ 105 (List._∷_ 100 (List._∷_ 58 (List._∷_ 58 (List._∷_ 83 (List._∷_ 116 (List._∷_ 97 (List._∷_ 116 (List._∷_ 101 List.[])))))))))))))) (Syntax.tcons (Syntax.tyInt Syntax.w32) (Syntax.tcons (Syntax.tyInt Syntax.w32) (Syntax.tcons (Syntax.tyInt Syntax.w32) (Syntax.tcons (Syntax.tyInt Syntax.w32) (Syntax.tcons (Syntax.tyInt Syntax.w32) (Syntax.tcons (Syntax.tyArray (Syntax.tyInt Syntax.w32) 64) Syntax.tnil))))))) (Syntax.tcons (Syntax.tyInt Syntax.w64) (Syntax.tcons (Syntax.tyInt Syntax.w64) (Syntax.tcons (Syntax.tyInt Syntax.w64) (Syntax.tcons (Syntax.tyInt Syntax.w64) (Syntax.tcons (Syntax.tyInt Syntax.w64) (Syntax.tcons (Syntax.tyInt Syntax.w64) (Syntax.tcons Syntax.tyBool Syntax.tnil)))))))))) (List._∷_ (1, Rows.whole (Declared.row Held.the-type)) (List._∷_ (2, Rows.any-gone (Syntax.tyStruct (List._∷_ 122 (List._∷_ 111 (List._∷_ 110 (List._∷_ 101 (List._∷_ 115 (List._∷_ 58 (List._∷_ 58 (List._∷_ 115 (List._∷_ 99 (List._∷_ 97 (List._∷_ 110 (List._∷_ 58 (List._∷_ 58 (List._∷_ 76 (List._∷_ 105 (List._∷_ 110 (List._∷_ 101 List.[]))))))))))))))))) (Syntax.tcons (Syntax.tyInt Syntax.w32) (Syntax.tcons (Syntax.tyInt Syntax.w64) (Syntax.tcons (Syntax.tyInt Syntax.w64) (Syntax.tcons (Syntax.tyInt Syntax.w64) (Syntax.tcons (Syntax.tyInt Syntax.w64) Syntax.tnil))))))) (List._∷_ (3, Rows.sref (Array.Array (Referent.rtF (Referent.fInt Syntax.w32)) 32772) (Syntax.tyRef (Syntax.named 0) Syntax.imm (Syntax.tyArray (Syntax.tyInt Syntax.w32) 32772)) 0) (List._∷_ (4, Rows.mref (Array.Array (Referent.rtF (Referent.fInt Syntax.w32)) 65540) (Syntax.tyRef (Syntax.named 1) Syntax.mut (Syntax.tyArray (Syntax.tyInt Syntax.w32) 65540)) 1) (List._∷_ (5, Rows.mref (Array.Array (Referent.rtF (Referent.fInt Syntax.w32)) 32772) (Syntax.tyRef (Syntax.named 2) Syntax.mut (Syntax.tyArray (Syntax.tyInt Syntax.w32) 32772)) 2) (List._∷_ (6, Rows.mref (Array.Array (Referent.rtF (Referent.fInt Syntax.w32)) 262160) (Syntax.tyRef (Syntax.named 3) Syntax.mut (Syntax.tyArray (Syntax.tyInt Syntax.w32) 262160)) 3) (List._∷_ (7, Rows.sref (Array.Array (Referent.rtF (Referent.fInt Syntax.w8)) 600000) (Syntax.tyRef (Syntax.named 4) Syntax.imm (Syntax.tyArray (Syntax.tyInt Syntax.w8) 600000)) 4) (List._∷_ (8, Rows.mref (Array.Array Cell.R 65540) (Syntax.tyRef (Syntax.named 5) Syntax.mut (Syntax.tyArray Cell.behind 65540)) 5) (List._∷_ (9, Rows.mref (Array.Array Cell.R 32772) (Syntax.tyRef (Syntax.named 6) Syntax.mut (Syntax.tyArray Cell.behind 32772)) 6) (List._∷_ (10, Rows.whole (Declared.row Outcome.the-type)) (List._∷_ (11, Rows.sc-here (Row.sInt Syntax.w64)) (List._∷_ (12, Rows.any-gone (Syntax.tyInt Syntax.w64)) (List._∷_ (13, Rows.any-gone (Syntax.tyRef Syntax.erased Syntax.imm (Syntax.tyInt Syntax.w32))) (List._∷_ (14, Rows.any-gone (Syntax.tyStruct (List._∷_ 38 (List._∷_ 91 (List._∷_ 93 List.[]))) (Syntax.tcons (Syntax.tyRef Syntax.erased Syntax.imm (Syntax.tyInt Syntax.w32)) (Syntax.tcons (Syntax.tyInt Syntax.w64) Syntax.tnil)))) (List._∷_ (15, Rows.any-gone (Syntax.tyRef Syntax.erased Syntax.mut (Syntax.tyInt Syntax.w32))) List.[])))))))))))))))
+t42 = List._∷_ (0, Rows.any-gone (Syntax.tyStruct (List._∷_ 122 (List._∷_ 111 (List._∷_ 110 (List._∷_ 101 (List._∷_ 115 (List._∷_ 58 (List._∷_ 58 (List._∷_ 104 (List._∷_ 101 (List._∷_ 108 (List._∷_ 100 (List._∷_ 58 (List._∷_ 58 (List._∷_ 72 (List._∷_ 101 (List._∷_ 108 (List._∷_ 100 List.[]))))))))))))))))) (Syntax.tcons (Syntax.tyStruct (List._∷_ 112 (List._∷_ 121 (List._∷_ 114 (List._∷_ 97 (List._∷_ 109 (List._∷_ 105 (List._∷_ 100 (List._∷_ 58 (List._∷_ 58 (List._∷_ 83 (List._∷_ 116 (List._∷_ 97 (List._∷_ 116 (List._∷_ 101 List.[])))))))))))))) (Syntax.tcons (Syntax.tyInt Syntax.w32) (Syntax.tcons (Syntax.tyInt Syntax.w32) (Syntax.tcons (Syntax.tyInt Syntax.w32) (Syntax.tcons (Syntax.tyInt Syntax.w32) (Syntax.tcons (Syntax.tyInt Syntax.w32) (Syntax.tcons (Syntax.tyArray (Syntax.tyInt Syntax.w32) 64) Syntax.tnil))))))) (Syntax.tcons (Syntax.tyInt Syntax.w64) (Syntax.tcons (Syntax.tyInt Syntax.w64) (Syntax.tcons (Syntax.tyInt Syntax.w64) (Syntax.tcons (Syntax.tyInt Syntax.w64) (Syntax.tcons (Syntax.tyInt Syntax.w64) (Syntax.tcons (Syntax.tyInt Syntax.w64) (Syntax.tcons Syntax.tyBool Syntax.tnil)))))))))) (List._∷_ (1, Rows.whole (Declared.row Held.the-type)) (List._∷_ (2, Rows.any-gone (Syntax.tyStruct (List._∷_ 115 (List._∷_ 99 (List._∷_ 114 (List._∷_ 105 (List._∷_ 112 (List._∷_ 116 (List._∷_ 58 (List._∷_ 58 (List._∷_ 115 (List._∷_ 99 (List._∷_ 97 (List._∷_ 110 (List._∷_ 58 (List._∷_ 58 (List._∷_ 76 (List._∷_ 105 (List._∷_ 110 (List._∷_ 101 List.[])))))))))))))))))) (Syntax.tcons (Syntax.tyInt Syntax.w32) (Syntax.tcons (Syntax.tyInt Syntax.w64) (Syntax.tcons (Syntax.tyInt Syntax.w64) (Syntax.tcons (Syntax.tyInt Syntax.w64) (Syntax.tcons (Syntax.tyInt Syntax.w64) Syntax.tnil))))))) (List._∷_ (3, Rows.sref (Array.Array (Referent.rtF (Referent.fInt Syntax.w32)) 32772) (Syntax.tyRef (Syntax.named 0) Syntax.imm (Syntax.tyArray (Syntax.tyInt Syntax.w32) 32772)) 0) (List._∷_ (4, Rows.mref (Array.Array (Referent.rtF (Referent.fInt Syntax.w32)) 65540) (Syntax.tyRef (Syntax.named 1) Syntax.mut (Syntax.tyArray (Syntax.tyInt Syntax.w32) 65540)) 1) (List._∷_ (5, Rows.mref (Array.Array (Referent.rtF (Referent.fInt Syntax.w32)) 32772) (Syntax.tyRef (Syntax.named 2) Syntax.mut (Syntax.tyArray (Syntax.tyInt Syntax.w32) 32772)) 2) (List._∷_ (6, Rows.mref (Array.Array (Referent.rtF (Referent.fInt Syntax.w32)) 262160) (Syntax.tyRef (Syntax.named 3) Syntax.mut (Syntax.tyArray (Syntax.tyInt Syntax.w32) 262160)) 3) (List._∷_ (7, Rows.sref (Array.Array (Referent.rtF (Referent.fInt Syntax.w8)) 600000) (Syntax.tyRef (Syntax.named 4) Syntax.imm (Syntax.tyArray (Syntax.tyInt Syntax.w8) 600000)) 4) (List._∷_ (8, Rows.mref (Array.Array Cell.R 65540) (Syntax.tyRef (Syntax.named 5) Syntax.mut (Syntax.tyArray Cell.behind 65540)) 5) (List._∷_ (9, Rows.mref (Array.Array Cell.R 32772) (Syntax.tyRef (Syntax.named 6) Syntax.mut (Syntax.tyArray Cell.behind 32772)) 6) (List._∷_ (10, Rows.whole (Declared.row Outcome.the-type)) (List._∷_ (11, Rows.sc-here (Row.sInt Syntax.w64)) (List._∷_ (12, Rows.any-gone (Syntax.tyInt Syntax.w64)) (List._∷_ (13, Rows.any-gone (Syntax.tyRef Syntax.erased Syntax.imm (Syntax.tyInt Syntax.w32))) (List._∷_ (14, Rows.any-gone (Syntax.tyStruct (List._∷_ 38 (List._∷_ 91 (List._∷_ 93 List.[]))) (Syntax.tcons (Syntax.tyRef Syntax.erased Syntax.imm (Syntax.tyInt Syntax.w32)) (Syntax.tcons (Syntax.tyInt Syntax.w64) Syntax.tnil)))) (List._∷_ (15, Rows.any-gone (Syntax.tyRef Syntax.erased Syntax.mut (Syntax.tyInt Syntax.w32))) List.[])))))))))))))))
 
 abbrev pub t43 : List.List Row.Entry
-t43 = List._∷_ (0, Rows.any-gone (Syntax.tyStruct (List._∷_ 122 (List._∷_ 111 (List._∷_ 110 (List._∷_ 101 (List._∷_ 115 (List._∷_ 58 (List._∷_ 58 (List._∷_ 104 (List._∷_ 101 (List._∷_ 108 (List._∷_ 100 (List._∷_ 58 (List._∷_ 58 (List._∷_ 72 (List._∷_ 101 (List._∷_ 108 (List._∷_ 100 List.[]))))))))))))))))) (Syntax.tcons (Syntax.tyStruct (List._∷_ 112 (List._∷_ 121 (List._∷_ 114 (List._∷_ 97 (List._∷_ 109 (List._∷_ 105 (List._∷_ 100 (List._∷_ 58 (List._∷_ 58 (List._∷_ 83 (List._∷_ 116 (List._∷_ 97 (List._∷_ 116 (List._∷_ 101 List.[])))))))))))))) (Syntax.tcons (Syntax.tyInt Syntax.w32) (Syntax.tcons (Syntax.tyInt Syntax.w32) (Syntax.tcons (Syntax.tyInt Syntax.w32) (Syntax.tcons (Syntax.tyInt Syntax.w32) (Syntax.tcons (Syntax.tyInt Syntax.w32) (Syntax.tcons (Syntax.tyArray (Syntax.tyInt Syntax.w32) 64) Syntax.tnil))))))) (Syntax.tcons (Syntax.tyInt Syntax.w64) (Syntax.tcons (Syntax.tyInt Syntax.w64) (Syntax.tcons (Syntax.tyInt Syntax.w64) (Syntax.tcons (Syntax.tyInt Syntax.w64) (Syntax.tcons (Syntax.tyInt Syntax.w64) (Syntax.tcons (Syntax.tyInt Syntax.w64) (Syntax.tcons Syntax.tyBool Syntax.tnil)))))))))) (List._∷_ (1, Rows.whole (Declared.row Held.the-type)) (List._∷_ (2, Rows.any-gone (Syntax.tyStruct (List._∷_ 122 (List._∷_ 111 (List._∷_ 110 (List._∷_ 101 (List._∷_ 115 (List._∷_ 58 (List._∷_ 58 (List._∷_ 115 (List._∷_ 99 (List._∷_ 97 (List._∷_ 110 (List._∷_ 58 (List._∷_ 58 (List._∷_ 76 (List._∷_ 105 (List._∷_ 110 (List._∷_ 101 List.[]))))))))))))))))) (Syntax.tcons (Syntax.tyInt Syntax.w32) (Syntax.tcons (Syntax.tyInt Syntax.w64) (Syntax.tcons (Syntax.tyInt Syntax.w64) (Syntax.tcons (Syntax.tyInt Syntax.w64) (Syntax.tcons (Syntax.tyInt Syntax.w64) Syntax.tnil))))))) (List._∷_ (3, Rows.sref (Array.Array (Referent.rtF (Referent.fInt Syntax.w32)) 32772) (Syntax.tyRef (Syntax.named 0) Syntax.imm (Syntax.tyArray (Syntax.tyInt Syntax.w32) 32772)) 0) (List._∷_ (4, Rows.mref (Array.Array (Referent.rtF (Referent.fInt Syntax.w32)) 65540) (Syntax.tyRef (Syntax.named 1) Syntax.mut (Syntax.tyArray (Syntax.tyInt Syntax.w32) 65540)) 1) (List._∷_ (5, Rows.mref (Array.Array (Referent.rtF (Referent.fInt Syntax.w32)) 32772) (Syntax.tyRef (Syntax.named 2) Syntax.mut (Syntax.tyArray (Syntax.tyInt Syntax.w32) 32772)) 2) (List._∷_ (6, Rows.mref (Array.Array (Referent.rtF (Referent.fInt Syntax.w32)) 262160) (Syntax.tyRef (Syntax.named 3) Syntax.mut (Syntax.tyArray (Syntax.tyInt Syntax.w32) 262160)) 3) (List._∷_ (7, Rows.sref (Array.Array (Referent.rtF (Referent.fInt Syntax.w8)) 600000) (Syntax.tyRef (Syntax.named 4) Syntax.imm (Syntax.tyArray (Syntax.tyInt Syntax.w8) 600000)) 4) (List._∷_ (8, Rows.mref (Array.Array Cell.R 65540) (Syntax.tyRef (Syntax.named 5) Syntax.mut (Syntax.tyArray Cell.behind 65540)) 5) (List._∷_ (9, Frozen.held (Frozen.fz-open Syntax.erased 6 List.[] Row.off (LendAt.fz-shr (Array.Array Cell.R 32772) 13))) (List._∷_ (10, Rows.whole (Declared.row Outcome.the-type)) (List._∷_ (11, Rows.sc-here (Row.sInt Syntax.w64)) (List._∷_ (12, Rows.any-gone (Syntax.tyInt Syntax.w64)) (List._∷_ (13, Rows.any-gone (Syntax.tyRef Syntax.erased Syntax.imm (Syntax.tyInt Syntax.w32))) (List._∷_ (14, Rows.any-gone (Syntax.tyStruct (List._∷_ 38 (List._∷_ 91 (List._∷_ 93 List.[]))) (Syntax.tcons (Syntax.tyRef Syntax.erased Syntax.imm (Syntax.tyInt Syntax.w32)) (Syntax.tcons (Syntax.tyInt Syntax.w64) Syntax.tnil)))) (List._∷_ (15, Rows.any-gone (Syntax.tyRef Syntax.erased Syntax.mut (Syntax.tyInt Syntax.w32))) List.[])))))))))))))))
+t43 = List._∷_ (0, Rows.any-gone (Syntax.tyStruct (List._∷_ 122 (List._∷_ 111 (List._∷_ 110 (List._∷_ 101 (List._∷_ 115 (List._∷_ 58 (List._∷_ 58 (List._∷_ 104 (List._∷_ 101 (List._∷_ 108 (List._∷_ 100 (List._∷_ 58 (List._∷_ 58 (List._∷_ 72 (List._∷_ 101 (List._∷_ 108 (List._∷_ 100 List.[]))))))))))))))))) (Syntax.tcons (Syntax.tyStruct (List._∷_ 112 (List._∷_ 121 (List._∷_ 114 (List._∷_ 97 (List._∷_ 109 (List._∷_ 105 (List._∷_ 100 (List._∷_ 58 (List._∷_ 58 (List._∷_ 83 (List._∷_ 116 (List._∷_ 97 (List._∷_ 116 (List._∷_ 101 List.[])))))))))))))) (Syntax.tcons (Syntax.tyInt Syntax.w32) (Syntax.tcons (Syntax.tyInt Syntax.w32) (Syntax.tcons (Syntax.tyInt Syntax.w32) (Syntax.tcons (Syntax.tyInt Syntax.w32) (Syntax.tcons (Syntax.tyInt Syntax.w32) (Syntax.tcons (Syntax.tyArray (Syntax.tyInt Syntax.w32) 64) Syntax.tnil))))))) (Syntax.tcons (Syntax.tyInt Syntax.w64) (Syntax.tcons (Syntax.tyInt Syntax.w64) (Syntax.tcons (Syntax.tyInt Syntax.w64) (Syntax.tcons (Syntax.tyInt Syntax.w64) (Syntax.tcons (Syntax.tyInt Syntax.w64) (Syntax.tcons (Syntax.tyInt Syntax.w64) (Syntax.tcons Syntax.tyBool Syntax.tnil)))))))))) (List._∷_ (1, Rows.whole (Declared.row Held.the-type)) (List._∷_ (2, Rows.any-gone (Syntax.tyStruct (List._∷_ 115 (List._∷_ 99 (List._∷_ 114 (List._∷_ 105 (List._∷_ 112 (List._∷_ 116 (List._∷_ 58 (List._∷_ 58 (List._∷_ 115 (List._∷_ 99 (List._∷_ 97 (List._∷_ 110 (List._∷_ 58 (List._∷_ 58 (List._∷_ 76 (List._∷_ 105 (List._∷_ 110 (List._∷_ 101 List.[])))))))))))))))))) (Syntax.tcons (Syntax.tyInt Syntax.w32) (Syntax.tcons (Syntax.tyInt Syntax.w64) (Syntax.tcons (Syntax.tyInt Syntax.w64) (Syntax.tcons (Syntax.tyInt Syntax.w64) (Syntax.tcons (Syntax.tyInt Syntax.w64) Syntax.tnil))))))) (List._∷_ (3, Rows.sref (Array.Array (Referent.rtF (Referent.fInt Syntax.w32)) 32772) (Syntax.tyRef (Syntax.named 0) Syntax.imm (Syntax.tyArray (Syntax.tyInt Syntax.w32) 32772)) 0) (List._∷_ (4, Rows.mref (Array.Array (Referent.rtF (Referent.fInt Syntax.w32)) 65540) (Syntax.tyRef (Syntax.named 1) Syntax.mut (Syntax.tyArray (Syntax.tyInt Syntax.w32) 65540)) 1) (List._∷_ (5, Rows.mref (Array.Array (Referent.rtF (Referent.fInt Syntax.w32)) 32772) (Syntax.tyRef (Syntax.named 2) Syntax.mut (Syntax.tyArray (Syntax.tyInt Syntax.w32) 32772)) 2) (List._∷_ (6, Rows.mref (Array.Array (Referent.rtF (Referent.fInt Syntax.w32)) 262160) (Syntax.tyRef (Syntax.named 3) Syntax.mut (Syntax.tyArray (Syntax.tyInt Syntax.w32) 262160)) 3) (List._∷_ (7, Rows.sref (Array.Array (Referent.rtF (Referent.fInt Syntax.w8)) 600000) (Syntax.tyRef (Syntax.named 4) Syntax.imm (Syntax.tyArray (Syntax.tyInt Syntax.w8) 600000)) 4) (List._∷_ (8, Rows.mref (Array.Array Cell.R 65540) (Syntax.tyRef (Syntax.named 5) Syntax.mut (Syntax.tyArray Cell.behind 65540)) 5) (List._∷_ (9, Frozen.held (Frozen.fz-open Syntax.erased 6 List.[] Row.off (LendAt.fz-shr (Array.Array Cell.R 32772) 13))) (List._∷_ (10, Rows.whole (Declared.row Outcome.the-type)) (List._∷_ (11, Rows.sc-here (Row.sInt Syntax.w64)) (List._∷_ (12, Rows.any-gone (Syntax.tyInt Syntax.w64)) (List._∷_ (13, Rows.any-gone (Syntax.tyRef Syntax.erased Syntax.imm (Syntax.tyInt Syntax.w32))) (List._∷_ (14, Rows.any-gone (Syntax.tyStruct (List._∷_ 38 (List._∷_ 91 (List._∷_ 93 List.[]))) (Syntax.tcons (Syntax.tyRef Syntax.erased Syntax.imm (Syntax.tyInt Syntax.w32)) (Syntax.tcons (Syntax.tyInt Syntax.w64) Syntax.tnil)))) (List._∷_ (15, Rows.any-gone (Syntax.tyRef Syntax.erased Syntax.mut (Syntax.tyInt Syntax.w32))) List.[])))))))))))))))
 
 abbrev pub t44 : List.List Row.Entry
 t44 = List._∷_ (16, Rows.any-gone (Syntax.tyStruct (List._∷_ 38 (List._∷_ 91 (List._∷_ 93 List.[]))) (Syntax.tcons (Syntax.tyRef Syntax.erased Syntax.mut (Syntax.tyInt Syntax.w32)) (Syntax.tcons (Syntax.tyInt Syntax.w64) Syntax.tnil)))) (List._∷_ (17, Rows.any-gone (Syntax.tyRef Syntax.erased Syntax.mut (Syntax.tyInt Syntax.w32))) (List._∷_ (18, Rows.any-gone (Syntax.tyStruct (List._∷_ 38 (List._∷_ 91 (List._∷_ 93 List.[]))) (Syntax.tcons (Syntax.tyRef Syntax.erased Syntax.mut (Syntax.tyInt Syntax.w32)) (Syntax.tcons (Syntax.tyInt Syntax.w64) Syntax.tnil)))) (List._∷_ (19, Rows.any-gone (Syntax.tyRef Syntax.erased Syntax.mut (Syntax.tyInt Syntax.w32))) (List._∷_ (20, Rows.any-gone (Syntax.tyStruct (List._∷_ 38 (List._∷_ 91 (List._∷_ 93 List.[]))) (Syntax.tcons (Syntax.tyRef Syntax.erased Syntax.mut (Syntax.tyInt Syntax.w32)) (Syntax.tcons (Syntax.tyInt Syntax.w64) Syntax.tnil)))) (List._∷_ (21, Rows.any-gone (Syntax.tyRef Syntax.erased Syntax.mut Cell.behind)) (List._∷_ (22, Rows.any-gone (Syntax.tyStruct (List._∷_ 38 (List._∷_ 91 (List._∷_ 93 List.[]))) (Syntax.tcons (Syntax.tyRef Syntax.erased Syntax.mut Cell.behind) (Syntax.tcons (Syntax.tyInt Syntax.w64) Syntax.tnil)))) (List._∷_ (23, Rows.any-gone (Syntax.tyRef Syntax.erased Syntax.mut Cell.behind)) (List._∷_ (24, Rows.any-gone (Syntax.tyStruct (List._∷_ 38 (List._∷_ 91 (List._∷_ 93 List.[]))) (Syntax.tcons (Syntax.tyRef Syntax.erased Syntax.mut Cell.behind) (Syntax.tcons (Syntax.tyInt Syntax.w64) Syntax.tnil)))) (List._∷_ (25, Rows.any-gone (Syntax.tyRef Syntax.erased Syntax.imm Cell.behind)) (List._∷_ (26, Rows.any-gone (Syntax.tyStruct (List._∷_ 38 (List._∷_ 91 (List._∷_ 93 List.[]))) (Syntax.tcons (Syntax.tyRef Syntax.erased Syntax.imm Cell.behind) (Syntax.tcons (Syntax.tyInt Syntax.w64) Syntax.tnil)))) (List._∷_ (27, Rows.any-gone (Syntax.tyInt Syntax.w64)) (List._∷_ (28, Rows.sref (Array.Array Cell.R 32772) (Syntax.tyRef Syntax.erased Syntax.imm Cell.behind) 13) (List._∷_ (29, Rows.any-gone (Syntax.tyStruct (List._∷_ 38 (List._∷_ 91 (List._∷_ 93 List.[]))) (Syntax.tcons (Syntax.tyRef Syntax.erased Syntax.imm Cell.behind) (Syntax.tcons (Syntax.tyInt Syntax.w64) Syntax.tnil)))) (List._∷_ (30, Rows.any-gone (Syntax.tyRef Syntax.erased Syntax.imm (Syntax.tyArray (Syntax.tyInt Syntax.w32) 65540))) (List._∷_ (31, Rows.any-gone (Syntax.tyRef Syntax.erased Syntax.imm (Syntax.tyArray (Syntax.tyInt Syntax.w32) 32772))) List.[])))))))))))))))
@@ -395,52 +395,52 @@ abbrev pub t47 : List.List Row.Entry
 t47 = List._∷_ (16, Rows.any-gone (Syntax.tyStruct (List._∷_ 38 (List._∷_ 91 (List._∷_ 93 List.[]))) (Syntax.tcons (Syntax.tyRef Syntax.erased Syntax.mut (Syntax.tyInt Syntax.w32)) (Syntax.tcons (Syntax.tyInt Syntax.w64) Syntax.tnil)))) (List._∷_ (17, Rows.any-gone (Syntax.tyRef Syntax.erased Syntax.mut (Syntax.tyInt Syntax.w32))) (List._∷_ (18, Rows.any-gone (Syntax.tyStruct (List._∷_ 38 (List._∷_ 91 (List._∷_ 93 List.[]))) (Syntax.tcons (Syntax.tyRef Syntax.erased Syntax.mut (Syntax.tyInt Syntax.w32)) (Syntax.tcons (Syntax.tyInt Syntax.w64) Syntax.tnil)))) (List._∷_ (19, Rows.any-gone (Syntax.tyRef Syntax.erased Syntax.mut (Syntax.tyInt Syntax.w32))) (List._∷_ (20, Rows.any-gone (Syntax.tyStruct (List._∷_ 38 (List._∷_ 91 (List._∷_ 93 List.[]))) (Syntax.tcons (Syntax.tyRef Syntax.erased Syntax.mut (Syntax.tyInt Syntax.w32)) (Syntax.tcons (Syntax.tyInt Syntax.w64) Syntax.tnil)))) (List._∷_ (21, Rows.any-gone (Syntax.tyRef Syntax.erased Syntax.mut Cell.behind)) (List._∷_ (22, Rows.any-gone (Syntax.tyStruct (List._∷_ 38 (List._∷_ 91 (List._∷_ 93 List.[]))) (Syntax.tcons (Syntax.tyRef Syntax.erased Syntax.mut Cell.behind) (Syntax.tcons (Syntax.tyInt Syntax.w64) Syntax.tnil)))) (List._∷_ (23, Rows.any-gone (Syntax.tyRef Syntax.erased Syntax.mut Cell.behind)) (List._∷_ (24, Rows.any-gone (Syntax.tyStruct (List._∷_ 38 (List._∷_ 91 (List._∷_ 93 List.[]))) (Syntax.tcons (Syntax.tyRef Syntax.erased Syntax.mut Cell.behind) (Syntax.tcons (Syntax.tyInt Syntax.w64) Syntax.tnil)))) (List._∷_ (25, Rows.any-gone (Syntax.tyRef Syntax.erased Syntax.imm Cell.behind)) (List._∷_ (26, Rows.any-gone (Syntax.tyStruct (List._∷_ 38 (List._∷_ 91 (List._∷_ 93 List.[]))) (Syntax.tcons (Syntax.tyRef Syntax.erased Syntax.imm Cell.behind) (Syntax.tcons (Syntax.tyInt Syntax.w64) Syntax.tnil)))) (List._∷_ (27, Rows.sc-here (Row.sInt Syntax.w64)) (List._∷_ (28, Rows.any-gone (Syntax.tyRef Syntax.erased Syntax.imm Cell.behind)) (List._∷_ (29, Rows.sslice Cell.R (Syntax.tyRef Syntax.erased Syntax.imm Cell.behind) 13) (List._∷_ (30, Rows.any-gone (Syntax.tyRef Syntax.erased Syntax.imm (Syntax.tyArray (Syntax.tyInt Syntax.w32) 65540))) (List._∷_ (31, Rows.any-gone (Syntax.tyRef Syntax.erased Syntax.imm (Syntax.tyArray (Syntax.tyInt Syntax.w32) 32772))) List.[])))))))))))))))
 
 abbrev pub t48 : List.List Row.Entry
-t48 = List._∷_ (0, Rows.any-gone (Syntax.tyStruct (List._∷_ 122 (List._∷_ 111 (List._∷_ 110 (List._∷_ 101 (List._∷_ 115 (List._∷_ 58 (List._∷_ 58 (List._∷_ 104 (List._∷_ 101 (List._∷_ 108 (List._∷_ 100 (List._∷_ 58 (List._∷_ 58 (List._∷_ 72 (List._∷_ 101 (List._∷_ 108 (List._∷_ 100 List.[]))))))))))))))))) (Syntax.tcons (Syntax.tyStruct (List._∷_ 112 (List._∷_ 121 (List._∷_ 114 (List._∷_ 97 (List._∷_ 109 (List._∷_ 105 (List._∷_ 100 (List._∷_ 58 (List._∷_ 58 (List._∷_ 83 (List._∷_ 116 (List._∷_ 97 (List._∷_ 116 (List._∷_ 101 List.[])))))))))))))) (Syntax.tcons (Syntax.tyInt Syntax.w32) (Syntax.tcons (Syntax.tyInt Syntax.w32) (Syntax.tcons (Syntax.tyInt Syntax.w32) (Syntax.tcons (Syntax.tyInt Syntax.w32) (Syntax.tcons (Syntax.tyInt Syntax.w32) (Syntax.tcons (Syntax.tyArray (Syntax.tyInt Syntax.w32) 64) Syntax.tnil))))))) (Syntax.tcons (Syntax.tyInt Syntax.w64) (Syntax.tcons (Syntax.tyInt Syntax.w64) (Syntax.tcons (Syntax.tyInt Syntax.w64) (Syntax.tcons (Syntax.tyInt Syntax.w64) (Syntax.tcons (Syntax.tyInt Syntax.w64) (Syntax.tcons (Syntax.tyInt Syntax.w64) (Syntax.tcons Syntax.tyBool Syntax.tnil)))))))))) (List._∷_ (1, Rows.whole (Declared.row Held.the-type)) (List._∷_ (2, Rows.any-gone (Syntax.tyStruct (List._∷_ 122 (List._∷_ 111 (List._∷_ 110 (List._∷_ 101 (List._∷_ 115 (List._∷_ 58 (List._∷_ 58 (List._∷_ 115 (List._∷_ 99 (List._∷_ 97 (List._∷_ 110 (List._∷_ 58 (List._∷_ 58 (List._∷_ 76 (List._∷_ 105 (List._∷_ 110 (List._∷_ 101 List.[]))))))))))))))))) (Syntax.tcons (Syntax.tyInt Syntax.w32) (Syntax.tcons (Syntax.tyInt Syntax.w64) (Syntax.tcons (Syntax.tyInt Syntax.w64) (Syntax.tcons (Syntax.tyInt Syntax.w64) (Syntax.tcons (Syntax.tyInt Syntax.w64) Syntax.tnil))))))) (List._∷_ (3, Rows.sref (Array.Array (Referent.rtF (Referent.fInt Syntax.w32)) 32772) (Syntax.tyRef (Syntax.named 0) Syntax.imm (Syntax.tyArray (Syntax.tyInt Syntax.w32) 32772)) 0) (List._∷_ (4, Rows.mref (Array.Array (Referent.rtF (Referent.fInt Syntax.w32)) 65540) (Syntax.tyRef (Syntax.named 1) Syntax.mut (Syntax.tyArray (Syntax.tyInt Syntax.w32) 65540)) 1) (List._∷_ (5, Rows.mref (Array.Array (Referent.rtF (Referent.fInt Syntax.w32)) 32772) (Syntax.tyRef (Syntax.named 2) Syntax.mut (Syntax.tyArray (Syntax.tyInt Syntax.w32) 32772)) 2) (List._∷_ (6, Rows.mref (Array.Array (Referent.rtF (Referent.fInt Syntax.w32)) 262160) (Syntax.tyRef (Syntax.named 3) Syntax.mut (Syntax.tyArray (Syntax.tyInt Syntax.w32) 262160)) 3) (List._∷_ (7, Rows.sref (Array.Array (Referent.rtF (Referent.fInt Syntax.w8)) 600000) (Syntax.tyRef (Syntax.named 4) Syntax.imm (Syntax.tyArray (Syntax.tyInt Syntax.w8) 600000)) 4) (List._∷_ (8, Rows.mref (Array.Array Cell.R 65540) (Syntax.tyRef (Syntax.named 5) Syntax.mut (Syntax.tyArray Cell.behind 65540)) 5) (List._∷_ (9, Frozen.held (Frozen.fz-open Syntax.erased 6 List.[] Row.off (LendAt.fz-shr (Array.Array Cell.R 32772) 13))) (List._∷_ (10, Rows.whole (Declared.row Outcome.the-type)) (List._∷_ (11, Rows.sc-here (Row.sInt Syntax.w64)) (List._∷_ (12, Rows.sc-here (Row.sInt Syntax.w64)) (List._∷_ (13, Rows.any-gone (Syntax.tyRef Syntax.erased Syntax.imm (Syntax.tyInt Syntax.w32))) (List._∷_ (14, Rows.any-gone (Syntax.tyStruct (List._∷_ 38 (List._∷_ 91 (List._∷_ 93 List.[]))) (Syntax.tcons (Syntax.tyRef Syntax.erased Syntax.imm (Syntax.tyInt Syntax.w32)) (Syntax.tcons (Syntax.tyInt Syntax.w64) Syntax.tnil)))) (List._∷_ (15, Rows.any-gone (Syntax.tyRef Syntax.erased Syntax.mut (Syntax.tyInt Syntax.w32))) List.[])))))))))))))))
+t48 = List._∷_ (0, Rows.any-gone (Syntax.tyStruct (List._∷_ 122 (List._∷_ 111 (List._∷_ 110 (List._∷_ 101 (List._∷_ 115 (List._∷_ 58 (List._∷_ 58 (List._∷_ 104 (List._∷_ 101 (List._∷_ 108 (List._∷_ 100 (List._∷_ 58 (List._∷_ 58 (List._∷_ 72 (List._∷_ 101 (List._∷_ 108 (List._∷_ 100 List.[]))))))))))))))))) (Syntax.tcons (Syntax.tyStruct (List._∷_ 112 (List._∷_ 121 (List._∷_ 114 (List._∷_ 97 (List._∷_ 109 (List._∷_ 105 (List._∷_ 100 (List._∷_ 58 (List._∷_ 58 (List._∷_ 83 (List._∷_ 116 (List._∷_ 97 (List._∷_ 116 (List._∷_ 101 List.[])))))))))))))) (Syntax.tcons (Syntax.tyInt Syntax.w32) (Syntax.tcons (Syntax.tyInt Syntax.w32) (Syntax.tcons (Syntax.tyInt Syntax.w32) (Syntax.tcons (Syntax.tyInt Syntax.w32) (Syntax.tcons (Syntax.tyInt Syntax.w32) (Syntax.tcons (Syntax.tyArray (Syntax.tyInt Syntax.w32) 64) Syntax.tnil))))))) (Syntax.tcons (Syntax.tyInt Syntax.w64) (Syntax.tcons (Syntax.tyInt Syntax.w64) (Syntax.tcons (Syntax.tyInt Syntax.w64) (Syntax.tcons (Syntax.tyInt Syntax.w64) (Syntax.tcons (Syntax.tyInt Syntax.w64) (Syntax.tcons (Syntax.tyInt Syntax.w64) (Syntax.tcons Syntax.tyBool Syntax.tnil)))))))))) (List._∷_ (1, Rows.whole (Declared.row Held.the-type)) (List._∷_ (2, Rows.any-gone (Syntax.tyStruct (List._∷_ 115 (List._∷_ 99 (List._∷_ 114 (List._∷_ 105 (List._∷_ 112 (List._∷_ 116 (List._∷_ 58 (List._∷_ 58 (List._∷_ 115 (List._∷_ 99 (List._∷_ 97 (List._∷_ 110 (List._∷_ 58 (List._∷_ 58 (List._∷_ 76 (List._∷_ 105 (List._∷_ 110 (List._∷_ 101 List.[])))))))))))))))))) (Syntax.tcons (Syntax.tyInt Syntax.w32) (Syntax.tcons (Syntax.tyInt Syntax.w64) (Syntax.tcons (Syntax.tyInt Syntax.w64) (Syntax.tcons (Syntax.tyInt Syntax.w64) (Syntax.tcons (Syntax.tyInt Syntax.w64) Syntax.tnil))))))) (List._∷_ (3, Rows.sref (Array.Array (Referent.rtF (Referent.fInt Syntax.w32)) 32772) (Syntax.tyRef (Syntax.named 0) Syntax.imm (Syntax.tyArray (Syntax.tyInt Syntax.w32) 32772)) 0) (List._∷_ (4, Rows.mref (Array.Array (Referent.rtF (Referent.fInt Syntax.w32)) 65540) (Syntax.tyRef (Syntax.named 1) Syntax.mut (Syntax.tyArray (Syntax.tyInt Syntax.w32) 65540)) 1) (List._∷_ (5, Rows.mref (Array.Array (Referent.rtF (Referent.fInt Syntax.w32)) 32772) (Syntax.tyRef (Syntax.named 2) Syntax.mut (Syntax.tyArray (Syntax.tyInt Syntax.w32) 32772)) 2) (List._∷_ (6, Rows.mref (Array.Array (Referent.rtF (Referent.fInt Syntax.w32)) 262160) (Syntax.tyRef (Syntax.named 3) Syntax.mut (Syntax.tyArray (Syntax.tyInt Syntax.w32) 262160)) 3) (List._∷_ (7, Rows.sref (Array.Array (Referent.rtF (Referent.fInt Syntax.w8)) 600000) (Syntax.tyRef (Syntax.named 4) Syntax.imm (Syntax.tyArray (Syntax.tyInt Syntax.w8) 600000)) 4) (List._∷_ (8, Rows.mref (Array.Array Cell.R 65540) (Syntax.tyRef (Syntax.named 5) Syntax.mut (Syntax.tyArray Cell.behind 65540)) 5) (List._∷_ (9, Frozen.held (Frozen.fz-open Syntax.erased 6 List.[] Row.off (LendAt.fz-shr (Array.Array Cell.R 32772) 13))) (List._∷_ (10, Rows.whole (Declared.row Outcome.the-type)) (List._∷_ (11, Rows.sc-here (Row.sInt Syntax.w64)) (List._∷_ (12, Rows.sc-here (Row.sInt Syntax.w64)) (List._∷_ (13, Rows.any-gone (Syntax.tyRef Syntax.erased Syntax.imm (Syntax.tyInt Syntax.w32))) (List._∷_ (14, Rows.any-gone (Syntax.tyStruct (List._∷_ 38 (List._∷_ 91 (List._∷_ 93 List.[]))) (Syntax.tcons (Syntax.tyRef Syntax.erased Syntax.imm (Syntax.tyInt Syntax.w32)) (Syntax.tcons (Syntax.tyInt Syntax.w64) Syntax.tnil)))) (List._∷_ (15, Rows.any-gone (Syntax.tyRef Syntax.erased Syntax.mut (Syntax.tyInt Syntax.w32))) List.[])))))))))))))))
 
 abbrev pub t49 : List.List Row.Entry
-t49 = List._∷_ (0, Rows.any-gone (Syntax.tyStruct (List._∷_ 122 (List._∷_ 111 (List._∷_ 110 (List._∷_ 101 (List._∷_ 115 (List._∷_ 58 (List._∷_ 58 (List._∷_ 104 (List._∷_ 101 (List._∷_ 108 (List._∷_ 100 (List._∷_ 58 (List._∷_ 58 (List._∷_ 72 (List._∷_ 101 (List._∷_ 108 (List._∷_ 100 List.[]))))))))))))))))) (Syntax.tcons (Syntax.tyStruct (List._∷_ 112 (List._∷_ 121 (List._∷_ 114 (List._∷_ 97 (List._∷_ 109 (List._∷_ 105 (List._∷_ 100 (List._∷_ 58 (List._∷_ 58 (List._∷_ 83 (List._∷_ 116 (List._∷_ 97 (List._∷_ 116 (List._∷_ 101 List.[])))))))))))))) (Syntax.tcons (Syntax.tyInt Syntax.w32) (Syntax.tcons (Syntax.tyInt Syntax.w32) (Syntax.tcons (Syntax.tyInt Syntax.w32) (Syntax.tcons (Syntax.tyInt Syntax.w32) (Syntax.tcons (Syntax.tyInt Syntax.w32) (Syntax.tcons (Syntax.tyArray (Syntax.tyInt Syntax.w32) 64) Syntax.tnil))))))) (Syntax.tcons (Syntax.tyInt Syntax.w64) (Syntax.tcons (Syntax.tyInt Syntax.w64) (Syntax.tcons (Syntax.tyInt Syntax.w64) (Syntax.tcons (Syntax.tyInt Syntax.w64) (Syntax.tcons (Syntax.tyInt Syntax.w64) (Syntax.tcons (Syntax.tyInt Syntax.w64) (Syntax.tcons Syntax.tyBool Syntax.tnil)))))))))) (List._∷_ (1, Rows.whole (Declared.row Held.the-type)) (List._∷_ (2, Rows.any-gone (Syntax.tyStruct (List._∷_ 122 (List._∷_ 111 (List._∷_ 110 (List._∷_ 101 (List._∷_ 115 (List._∷_ 58 (List._∷_ 58 (List._∷_ 115 (List._∷_ 99 (List._∷_ 97 (List._∷_ 110 (List._∷_ 58 (List._∷_ 58 (List._∷_ 76 (List._∷_ 105 (List._∷_ 110 (List._∷_ 101 List.[]))))))))))))))))) (Syntax.tcons (Syntax.tyInt Syntax.w32) (Syntax.tcons (Syntax.tyInt Syntax.w64) (Syntax.tcons (Syntax.tyInt Syntax.w64) (Syntax.tcons (Syntax.tyInt Syntax.w64) (Syntax.tcons (Syntax.tyInt Syntax.w64) Syntax.tnil))))))) (List._∷_ (3, Rows.sref (Array.Array (Referent.rtF (Referent.fInt Syntax.w32)) 32772) (Syntax.tyRef (Syntax.named 0) Syntax.imm (Syntax.tyArray (Syntax.tyInt Syntax.w32) 32772)) 0) (List._∷_ (4, Rows.mref (Array.Array (Referent.rtF (Referent.fInt Syntax.w32)) 65540) (Syntax.tyRef (Syntax.named 1) Syntax.mut (Syntax.tyArray (Syntax.tyInt Syntax.w32) 65540)) 1) (List._∷_ (5, Rows.mref (Array.Array (Referent.rtF (Referent.fInt Syntax.w32)) 32772) (Syntax.tyRef (Syntax.named 2) Syntax.mut (Syntax.tyArray (Syntax.tyInt Syntax.w32) 32772)) 2) (List._∷_ (6, Rows.mref (Array.Array (Referent.rtF (Referent.fInt Syntax.w32)) 262160) (Syntax.tyRef (Syntax.named 3) Syntax.mut (Syntax.tyArray (Syntax.tyInt Syntax.w32) 262160)) 3) (List._∷_ (7, Rows.sref (Array.Array (Referent.rtF (Referent.fInt Syntax.w8)) 600000) (Syntax.tyRef (Syntax.named 4) Syntax.imm (Syntax.tyArray (Syntax.tyInt Syntax.w8) 600000)) 4) (List._∷_ (8, Rows.mref (Array.Array Cell.R 65540) (Syntax.tyRef (Syntax.named 5) Syntax.mut (Syntax.tyArray Cell.behind 65540)) 5) (List._∷_ (9, Rows.mref (Array.Array Cell.R 32772) (Syntax.tyRef (Syntax.named 6) Syntax.mut (Syntax.tyArray Cell.behind 32772)) 6) (List._∷_ (10, Rows.whole (Declared.row Outcome.the-type)) (List._∷_ (11, Rows.sc-here (Row.sInt Syntax.w64)) (List._∷_ (12, Rows.sc-here (Row.sInt Syntax.w64)) (List._∷_ (13, Rows.any-gone (Syntax.tyRef Syntax.erased Syntax.imm (Syntax.tyInt Syntax.w32))) (List._∷_ (14, Rows.any-gone (Syntax.tyStruct (List._∷_ 38 (List._∷_ 91 (List._∷_ 93 List.[]))) (Syntax.tcons (Syntax.tyRef Syntax.erased Syntax.imm (Syntax.tyInt Syntax.w32)) (Syntax.tcons (Syntax.tyInt Syntax.w64) Syntax.tnil)))) (List._∷_ (15, Rows.any-gone (Syntax.tyRef Syntax.erased Syntax.mut (Syntax.tyInt Syntax.w32))) List.[])))))))))))))))
+t49 = List._∷_ (0, Rows.any-gone (Syntax.tyStruct (List._∷_ 122 (List._∷_ 111 (List._∷_ 110 (List._∷_ 101 (List._∷_ 115 (List._∷_ 58 (List._∷_ 58 (List._∷_ 104 (List._∷_ 101 (List._∷_ 108 (List._∷_ 100 (List._∷_ 58 (List._∷_ 58 (List._∷_ 72 (List._∷_ 101 (List._∷_ 108 (List._∷_ 100 List.[]))))))))))))))))) (Syntax.tcons (Syntax.tyStruct (List._∷_ 112 (List._∷_ 121 (List._∷_ 114 (List._∷_ 97 (List._∷_ 109 (List._∷_ 105 (List._∷_ 100 (List._∷_ 58 (List._∷_ 58 (List._∷_ 83 (List._∷_ 116 (List._∷_ 97 (List._∷_ 116 (List._∷_ 101 List.[])))))))))))))) (Syntax.tcons (Syntax.tyInt Syntax.w32) (Syntax.tcons (Syntax.tyInt Syntax.w32) (Syntax.tcons (Syntax.tyInt Syntax.w32) (Syntax.tcons (Syntax.tyInt Syntax.w32) (Syntax.tcons (Syntax.tyInt Syntax.w32) (Syntax.tcons (Syntax.tyArray (Syntax.tyInt Syntax.w32) 64) Syntax.tnil))))))) (Syntax.tcons (Syntax.tyInt Syntax.w64) (Syntax.tcons (Syntax.tyInt Syntax.w64) (Syntax.tcons (Syntax.tyInt Syntax.w64) (Syntax.tcons (Syntax.tyInt Syntax.w64) (Syntax.tcons (Syntax.tyInt Syntax.w64) (Syntax.tcons (Syntax.tyInt Syntax.w64) (Syntax.tcons Syntax.tyBool Syntax.tnil)))))))))) (List._∷_ (1, Rows.whole (Declared.row Held.the-type)) (List._∷_ (2, Rows.any-gone (Syntax.tyStruct (List._∷_ 115 (List._∷_ 99 (List._∷_ 114 (List._∷_ 105 (List._∷_ 112 (List._∷_ 116 (List._∷_ 58 (List._∷_ 58 (List._∷_ 115 (List._∷_ 99 (List._∷_ 97 (List._∷_ 110 (List._∷_ 58 (List._∷_ 58 (List._∷_ 76 (List._∷_ 105 (List._∷_ 110 (List._∷_ 101 List.[])))))))))))))))))) (Syntax.tcons (Syntax.tyInt Syntax.w32) (Syntax.tcons (Syntax.tyInt Syntax.w64) (Syntax.tcons (Syntax.tyInt Syntax.w64) (Syntax.tcons (Syntax.tyInt Syntax.w64) (Syntax.tcons (Syntax.tyInt Syntax.w64) Syntax.tnil))))))) (List._∷_ (3, Rows.sref (Array.Array (Referent.rtF (Referent.fInt Syntax.w32)) 32772) (Syntax.tyRef (Syntax.named 0) Syntax.imm (Syntax.tyArray (Syntax.tyInt Syntax.w32) 32772)) 0) (List._∷_ (4, Rows.mref (Array.Array (Referent.rtF (Referent.fInt Syntax.w32)) 65540) (Syntax.tyRef (Syntax.named 1) Syntax.mut (Syntax.tyArray (Syntax.tyInt Syntax.w32) 65540)) 1) (List._∷_ (5, Rows.mref (Array.Array (Referent.rtF (Referent.fInt Syntax.w32)) 32772) (Syntax.tyRef (Syntax.named 2) Syntax.mut (Syntax.tyArray (Syntax.tyInt Syntax.w32) 32772)) 2) (List._∷_ (6, Rows.mref (Array.Array (Referent.rtF (Referent.fInt Syntax.w32)) 262160) (Syntax.tyRef (Syntax.named 3) Syntax.mut (Syntax.tyArray (Syntax.tyInt Syntax.w32) 262160)) 3) (List._∷_ (7, Rows.sref (Array.Array (Referent.rtF (Referent.fInt Syntax.w8)) 600000) (Syntax.tyRef (Syntax.named 4) Syntax.imm (Syntax.tyArray (Syntax.tyInt Syntax.w8) 600000)) 4) (List._∷_ (8, Rows.mref (Array.Array Cell.R 65540) (Syntax.tyRef (Syntax.named 5) Syntax.mut (Syntax.tyArray Cell.behind 65540)) 5) (List._∷_ (9, Rows.mref (Array.Array Cell.R 32772) (Syntax.tyRef (Syntax.named 6) Syntax.mut (Syntax.tyArray Cell.behind 32772)) 6) (List._∷_ (10, Rows.whole (Declared.row Outcome.the-type)) (List._∷_ (11, Rows.sc-here (Row.sInt Syntax.w64)) (List._∷_ (12, Rows.sc-here (Row.sInt Syntax.w64)) (List._∷_ (13, Rows.any-gone (Syntax.tyRef Syntax.erased Syntax.imm (Syntax.tyInt Syntax.w32))) (List._∷_ (14, Rows.any-gone (Syntax.tyStruct (List._∷_ 38 (List._∷_ 91 (List._∷_ 93 List.[]))) (Syntax.tcons (Syntax.tyRef Syntax.erased Syntax.imm (Syntax.tyInt Syntax.w32)) (Syntax.tcons (Syntax.tyInt Syntax.w64) Syntax.tnil)))) (List._∷_ (15, Rows.any-gone (Syntax.tyRef Syntax.erased Syntax.mut (Syntax.tyInt Syntax.w32))) List.[])))))))))))))))
 
 abbrev pub t50 : List.List Row.Entry
-t50 = List._∷_ (0, Rows.any-gone (Syntax.tyStruct (List._∷_ 122 (List._∷_ 111 (List._∷_ 110 (List._∷_ 101 (List._∷_ 115 (List._∷_ 58 (List._∷_ 58 (List._∷_ 104 (List._∷_ 101 (List._∷_ 108 (List._∷_ 100 (List._∷_ 58 (List._∷_ 58 (List._∷_ 72 (List._∷_ 101 (List._∷_ 108 (List._∷_ 100 List.[]))))))))))))))))) (Syntax.tcons (Syntax.tyStruct (List._∷_ 112 (List._∷_ 121 (List._∷_ 114 (List._∷_ 97 (List._∷_ 109 (List._∷_ 105 (List._∷_ 100 (List._∷_ 58 (List._∷_ 58 (List._∷_ 83 (List._∷_ 116 (List._∷_ 97 (List._∷_ 116 (List._∷_ 101 List.[])))))))))))))) (Syntax.tcons (Syntax.tyInt Syntax.w32) (Syntax.tcons (Syntax.tyInt Syntax.w32) (Syntax.tcons (Syntax.tyInt Syntax.w32) (Syntax.tcons (Syntax.tyInt Syntax.w32) (Syntax.tcons (Syntax.tyInt Syntax.w32) (Syntax.tcons (Syntax.tyArray (Syntax.tyInt Syntax.w32) 64) Syntax.tnil))))))) (Syntax.tcons (Syntax.tyInt Syntax.w64) (Syntax.tcons (Syntax.tyInt Syntax.w64) (Syntax.tcons (Syntax.tyInt Syntax.w64) (Syntax.tcons (Syntax.tyInt Syntax.w64) (Syntax.tcons (Syntax.tyInt Syntax.w64) (Syntax.tcons (Syntax.tyInt Syntax.w64) (Syntax.tcons Syntax.tyBool Syntax.tnil)))))))))) (List._∷_ (1, Rows.whole (Declared.row Held.the-type)) (List._∷_ (2, Rows.any-gone (Syntax.tyStruct (List._∷_ 122 (List._∷_ 111 (List._∷_ 110 (List._∷_ 101 (List._∷_ 115 (List._∷_ 58 (List._∷_ 58 (List._∷_ 115 (List._∷_ 99 (List._∷_ 97 (List._∷_ 110 (List._∷_ 58 (List._∷_ 58 (List._∷_ 76 (List._∷_ 105 (List._∷_ 110 (List._∷_ 101 List.[]))))))))))))))))) (Syntax.tcons (Syntax.tyInt Syntax.w32) (Syntax.tcons (Syntax.tyInt Syntax.w64) (Syntax.tcons (Syntax.tyInt Syntax.w64) (Syntax.tcons (Syntax.tyInt Syntax.w64) (Syntax.tcons (Syntax.tyInt Syntax.w64) Syntax.tnil))))))) (List._∷_ (3, Rows.sref (Array.Array (Referent.rtF (Referent.fInt Syntax.w32)) 32772) (Syntax.tyRef (Syntax.named 0) Syntax.imm (Syntax.tyArray (Syntax.tyInt Syntax.w32) 32772)) 0) (List._∷_ (4, Reshare.mref-owedS (Array.Array (Referent.rtF (Referent.fInt Syntax.w32)) 65540) (Syntax.tyRef (Syntax.named 1) Syntax.mut (Syntax.tyArray (Syntax.tyInt Syntax.w32) 65540)) 1 14 Row.off) (List._∷_ (5, Rows.mref (Array.Array (Referent.rtF (Referent.fInt Syntax.w32)) 32772) (Syntax.tyRef (Syntax.named 2) Syntax.mut (Syntax.tyArray (Syntax.tyInt Syntax.w32) 32772)) 2) (List._∷_ (6, Rows.mref (Array.Array (Referent.rtF (Referent.fInt Syntax.w32)) 262160) (Syntax.tyRef (Syntax.named 3) Syntax.mut (Syntax.tyArray (Syntax.tyInt Syntax.w32) 262160)) 3) (List._∷_ (7, Rows.sref (Array.Array (Referent.rtF (Referent.fInt Syntax.w8)) 600000) (Syntax.tyRef (Syntax.named 4) Syntax.imm (Syntax.tyArray (Syntax.tyInt Syntax.w8) 600000)) 4) (List._∷_ (8, Rows.mref (Array.Array Cell.R 65540) (Syntax.tyRef (Syntax.named 5) Syntax.mut (Syntax.tyArray Cell.behind 65540)) 5) (List._∷_ (9, Rows.mref (Array.Array Cell.R 32772) (Syntax.tyRef (Syntax.named 6) Syntax.mut (Syntax.tyArray Cell.behind 32772)) 6) (List._∷_ (10, Rows.whole (Declared.row Outcome.the-type)) (List._∷_ (11, Rows.sc-here (Row.sInt Syntax.w64)) (List._∷_ (12, Rows.sc-here (Row.sInt Syntax.w64)) (List._∷_ (13, Rows.any-gone (Syntax.tyRef Syntax.erased Syntax.imm (Syntax.tyInt Syntax.w32))) (List._∷_ (14, Rows.any-gone (Syntax.tyStruct (List._∷_ 38 (List._∷_ 91 (List._∷_ 93 List.[]))) (Syntax.tcons (Syntax.tyRef Syntax.erased Syntax.imm (Syntax.tyInt Syntax.w32)) (Syntax.tcons (Syntax.tyInt Syntax.w64) Syntax.tnil)))) (List._∷_ (15, Rows.any-gone (Syntax.tyRef Syntax.erased Syntax.mut (Syntax.tyInt Syntax.w32))) List.[])))))))))))))))
+t50 = List._∷_ (0, Rows.any-gone (Syntax.tyStruct (List._∷_ 122 (List._∷_ 111 (List._∷_ 110 (List._∷_ 101 (List._∷_ 115 (List._∷_ 58 (List._∷_ 58 (List._∷_ 104 (List._∷_ 101 (List._∷_ 108 (List._∷_ 100 (List._∷_ 58 (List._∷_ 58 (List._∷_ 72 (List._∷_ 101 (List._∷_ 108 (List._∷_ 100 List.[]))))))))))))))))) (Syntax.tcons (Syntax.tyStruct (List._∷_ 112 (List._∷_ 121 (List._∷_ 114 (List._∷_ 97 (List._∷_ 109 (List._∷_ 105 (List._∷_ 100 (List._∷_ 58 (List._∷_ 58 (List._∷_ 83 (List._∷_ 116 (List._∷_ 97 (List._∷_ 116 (List._∷_ 101 List.[])))))))))))))) (Syntax.tcons (Syntax.tyInt Syntax.w32) (Syntax.tcons (Syntax.tyInt Syntax.w32) (Syntax.tcons (Syntax.tyInt Syntax.w32) (Syntax.tcons (Syntax.tyInt Syntax.w32) (Syntax.tcons (Syntax.tyInt Syntax.w32) (Syntax.tcons (Syntax.tyArray (Syntax.tyInt Syntax.w32) 64) Syntax.tnil))))))) (Syntax.tcons (Syntax.tyInt Syntax.w64) (Syntax.tcons (Syntax.tyInt Syntax.w64) (Syntax.tcons (Syntax.tyInt Syntax.w64) (Syntax.tcons (Syntax.tyInt Syntax.w64) (Syntax.tcons (Syntax.tyInt Syntax.w64) (Syntax.tcons (Syntax.tyInt Syntax.w64) (Syntax.tcons Syntax.tyBool Syntax.tnil)))))))))) (List._∷_ (1, Rows.whole (Declared.row Held.the-type)) (List._∷_ (2, Rows.any-gone (Syntax.tyStruct (List._∷_ 115 (List._∷_ 99 (List._∷_ 114 (List._∷_ 105 (List._∷_ 112 (List._∷_ 116 (List._∷_ 58 (List._∷_ 58 (List._∷_ 115 (List._∷_ 99 (List._∷_ 97 (List._∷_ 110 (List._∷_ 58 (List._∷_ 58 (List._∷_ 76 (List._∷_ 105 (List._∷_ 110 (List._∷_ 101 List.[])))))))))))))))))) (Syntax.tcons (Syntax.tyInt Syntax.w32) (Syntax.tcons (Syntax.tyInt Syntax.w64) (Syntax.tcons (Syntax.tyInt Syntax.w64) (Syntax.tcons (Syntax.tyInt Syntax.w64) (Syntax.tcons (Syntax.tyInt Syntax.w64) Syntax.tnil))))))) (List._∷_ (3, Rows.sref (Array.Array (Referent.rtF (Referent.fInt Syntax.w32)) 32772) (Syntax.tyRef (Syntax.named 0) Syntax.imm (Syntax.tyArray (Syntax.tyInt Syntax.w32) 32772)) 0) (List._∷_ (4, Reshare.mref-owedS (Array.Array (Referent.rtF (Referent.fInt Syntax.w32)) 65540) (Syntax.tyRef (Syntax.named 1) Syntax.mut (Syntax.tyArray (Syntax.tyInt Syntax.w32) 65540)) 1 14 Row.off) (List._∷_ (5, Rows.mref (Array.Array (Referent.rtF (Referent.fInt Syntax.w32)) 32772) (Syntax.tyRef (Syntax.named 2) Syntax.mut (Syntax.tyArray (Syntax.tyInt Syntax.w32) 32772)) 2) (List._∷_ (6, Rows.mref (Array.Array (Referent.rtF (Referent.fInt Syntax.w32)) 262160) (Syntax.tyRef (Syntax.named 3) Syntax.mut (Syntax.tyArray (Syntax.tyInt Syntax.w32) 262160)) 3) (List._∷_ (7, Rows.sref (Array.Array (Referent.rtF (Referent.fInt Syntax.w8)) 600000) (Syntax.tyRef (Syntax.named 4) Syntax.imm (Syntax.tyArray (Syntax.tyInt Syntax.w8) 600000)) 4) (List._∷_ (8, Rows.mref (Array.Array Cell.R 65540) (Syntax.tyRef (Syntax.named 5) Syntax.mut (Syntax.tyArray Cell.behind 65540)) 5) (List._∷_ (9, Rows.mref (Array.Array Cell.R 32772) (Syntax.tyRef (Syntax.named 6) Syntax.mut (Syntax.tyArray Cell.behind 32772)) 6) (List._∷_ (10, Rows.whole (Declared.row Outcome.the-type)) (List._∷_ (11, Rows.sc-here (Row.sInt Syntax.w64)) (List._∷_ (12, Rows.sc-here (Row.sInt Syntax.w64)) (List._∷_ (13, Rows.any-gone (Syntax.tyRef Syntax.erased Syntax.imm (Syntax.tyInt Syntax.w32))) (List._∷_ (14, Rows.any-gone (Syntax.tyStruct (List._∷_ 38 (List._∷_ 91 (List._∷_ 93 List.[]))) (Syntax.tcons (Syntax.tyRef Syntax.erased Syntax.imm (Syntax.tyInt Syntax.w32)) (Syntax.tcons (Syntax.tyInt Syntax.w64) Syntax.tnil)))) (List._∷_ (15, Rows.any-gone (Syntax.tyRef Syntax.erased Syntax.mut (Syntax.tyInt Syntax.w32))) List.[])))))))))))))))
 
 abbrev pub t51 : List.List Row.Entry
 t51 = List._∷_ (16, Rows.any-gone (Syntax.tyStruct (List._∷_ 38 (List._∷_ 91 (List._∷_ 93 List.[]))) (Syntax.tcons (Syntax.tyRef Syntax.erased Syntax.mut (Syntax.tyInt Syntax.w32)) (Syntax.tcons (Syntax.tyInt Syntax.w64) Syntax.tnil)))) (List._∷_ (17, Rows.any-gone (Syntax.tyRef Syntax.erased Syntax.mut (Syntax.tyInt Syntax.w32))) (List._∷_ (18, Rows.any-gone (Syntax.tyStruct (List._∷_ 38 (List._∷_ 91 (List._∷_ 93 List.[]))) (Syntax.tcons (Syntax.tyRef Syntax.erased Syntax.mut (Syntax.tyInt Syntax.w32)) (Syntax.tcons (Syntax.tyInt Syntax.w64) Syntax.tnil)))) (List._∷_ (19, Rows.any-gone (Syntax.tyRef Syntax.erased Syntax.mut (Syntax.tyInt Syntax.w32))) (List._∷_ (20, Rows.any-gone (Syntax.tyStruct (List._∷_ 38 (List._∷_ 91 (List._∷_ 93 List.[]))) (Syntax.tcons (Syntax.tyRef Syntax.erased Syntax.mut (Syntax.tyInt Syntax.w32)) (Syntax.tcons (Syntax.tyInt Syntax.w64) Syntax.tnil)))) (List._∷_ (21, Rows.any-gone (Syntax.tyRef Syntax.erased Syntax.mut Cell.behind)) (List._∷_ (22, Rows.any-gone (Syntax.tyStruct (List._∷_ 38 (List._∷_ 91 (List._∷_ 93 List.[]))) (Syntax.tcons (Syntax.tyRef Syntax.erased Syntax.mut Cell.behind) (Syntax.tcons (Syntax.tyInt Syntax.w64) Syntax.tnil)))) (List._∷_ (23, Rows.any-gone (Syntax.tyRef Syntax.erased Syntax.mut Cell.behind)) (List._∷_ (24, Rows.any-gone (Syntax.tyStruct (List._∷_ 38 (List._∷_ 91 (List._∷_ 93 List.[]))) (Syntax.tcons (Syntax.tyRef Syntax.erased Syntax.mut Cell.behind) (Syntax.tcons (Syntax.tyInt Syntax.w64) Syntax.tnil)))) (List._∷_ (25, Rows.any-gone (Syntax.tyRef Syntax.erased Syntax.imm Cell.behind)) (List._∷_ (26, Rows.any-gone (Syntax.tyStruct (List._∷_ 38 (List._∷_ 91 (List._∷_ 93 List.[]))) (Syntax.tcons (Syntax.tyRef Syntax.erased Syntax.imm Cell.behind) (Syntax.tcons (Syntax.tyInt Syntax.w64) Syntax.tnil)))) (List._∷_ (27, Rows.any-gone (Syntax.tyInt Syntax.w64)) (List._∷_ (28, Rows.any-gone (Syntax.tyRef Syntax.erased Syntax.imm Cell.behind)) (List._∷_ (29, Rows.any-gone (Syntax.tyStruct (List._∷_ 38 (List._∷_ 91 (List._∷_ 93 List.[]))) (Syntax.tcons (Syntax.tyRef Syntax.erased Syntax.imm Cell.behind) (Syntax.tcons (Syntax.tyInt Syntax.w64) Syntax.tnil)))) (List._∷_ (30, Rows.sref (Array.Array (Referent.rtF (Referent.fInt Syntax.w32)) 65540) (Syntax.tyRef Syntax.erased Syntax.imm (Syntax.tyArray (Syntax.tyInt Syntax.w32) 65540)) 14) (List._∷_ (31, Rows.any-gone (Syntax.tyRef Syntax.erased Syntax.imm (Syntax.tyArray (Syntax.tyInt Syntax.w32) 32772))) List.[])))))))))))))))
 
 abbrev pub t52 : List.List Row.Entry
-t52 = List._∷_ (0, Rows.any-gone (Syntax.tyStruct (List._∷_ 122 (List._∷_ 111 (List._∷_ 110 (List._∷_ 101 (List._∷_ 115 (List._∷_ 58 (List._∷_ 58 (List._∷_ 104 (List._∷_ 101 (List._∷_ 108 (List._∷_ 100 (List._∷_ 58 (List._∷_ 58 (List._∷_ 72 (List._∷_ 101 (List._∷_ 108 (List._∷_ 100 List.[]))))))))))))))))) (Syntax.tcons (Syntax.tyStruct (List._∷_ 112 (List._∷_ 121 (List._∷_ 114 (List._∷_ 97 (List._∷_ 109 (List._∷_ 105 (List._∷_ 100 (List._∷_ 58 (List._∷_ 58 (List._∷_ 83 (List._∷_ 116 (List._∷_ 97 (List._∷_ 116 (List._∷_ 101 List.[])))))))))))))) (Syntax.tcons (Syntax.tyInt Syntax.w32) (Syntax.tcons (Syntax.tyInt Syntax.w32) (Syntax.tcons (Syntax.tyInt Syntax.w32) (Syntax.tcons (Syntax.tyInt Syntax.w32) (Syntax.tcons (Syntax.tyInt Syntax.w32) (Syntax.tcons (Syntax.tyArray (Syntax.tyInt Syntax.w32) 64) Syntax.tnil))))))) (Syntax.tcons (Syntax.tyInt Syntax.w64) (Syntax.tcons (Syntax.tyInt Syntax.w64) (Syntax.tcons (Syntax.tyInt Syntax.w64) (Syntax.tcons (Syntax.tyInt Syntax.w64) (Syntax.tcons (Syntax.tyInt Syntax.w64) (Syntax.tcons (Syntax.tyInt Syntax.w64) (Syntax.tcons Syntax.tyBool Syntax.tnil)))))))))) (List._∷_ (1, Rows.whole (Declared.row Held.the-type)) (List._∷_ (2, Rows.any-gone (Syntax.tyStruct (List._∷_ 122 (List._∷_ 111 (List._∷_ 110 (List._∷_ 101 (List._∷_ 115 (List._∷_ 58 (List._∷_ 58 (List._∷_ 115 (List._∷_ 99 (List._∷_ 97 (List._∷_ 110 (List._∷_ 58 (List._∷_ 58 (List._∷_ 76 (List._∷_ 105 (List._∷_ 110 (List._∷_ 101 List.[]))))))))))))))))) (Syntax.tcons (Syntax.tyInt Syntax.w32) (Syntax.tcons (Syntax.tyInt Syntax.w64) (Syntax.tcons (Syntax.tyInt Syntax.w64) (Syntax.tcons (Syntax.tyInt Syntax.w64) (Syntax.tcons (Syntax.tyInt Syntax.w64) Syntax.tnil))))))) (List._∷_ (3, Rows.sref (Array.Array (Referent.rtF (Referent.fInt Syntax.w32)) 32772) (Syntax.tyRef (Syntax.named 0) Syntax.imm (Syntax.tyArray (Syntax.tyInt Syntax.w32) 32772)) 0) (List._∷_ (4, Reshare.mref-owedS (Array.Array (Referent.rtF (Referent.fInt Syntax.w32)) 65540) (Syntax.tyRef (Syntax.named 1) Syntax.mut (Syntax.tyArray (Syntax.tyInt Syntax.w32) 65540)) 1 14 Row.off) (List._∷_ (5, Reshare.mref-owedS (Array.Array (Referent.rtF (Referent.fInt Syntax.w32)) 32772) (Syntax.tyRef (Syntax.named 2) Syntax.mut (Syntax.tyArray (Syntax.tyInt Syntax.w32) 32772)) 2 15 Row.off) (List._∷_ (6, Rows.mref (Array.Array (Referent.rtF (Referent.fInt Syntax.w32)) 262160) (Syntax.tyRef (Syntax.named 3) Syntax.mut (Syntax.tyArray (Syntax.tyInt Syntax.w32) 262160)) 3) (List._∷_ (7, Rows.sref (Array.Array (Referent.rtF (Referent.fInt Syntax.w8)) 600000) (Syntax.tyRef (Syntax.named 4) Syntax.imm (Syntax.tyArray (Syntax.tyInt Syntax.w8) 600000)) 4) (List._∷_ (8, Rows.mref (Array.Array Cell.R 65540) (Syntax.tyRef (Syntax.named 5) Syntax.mut (Syntax.tyArray Cell.behind 65540)) 5) (List._∷_ (9, Rows.mref (Array.Array Cell.R 32772) (Syntax.tyRef (Syntax.named 6) Syntax.mut (Syntax.tyArray Cell.behind 32772)) 6) (List._∷_ (10, Rows.whole (Declared.row Outcome.the-type)) (List._∷_ (11, Rows.sc-here (Row.sInt Syntax.w64)) (List._∷_ (12, Rows.sc-here (Row.sInt Syntax.w64)) (List._∷_ (13, Rows.any-gone (Syntax.tyRef Syntax.erased Syntax.imm (Syntax.tyInt Syntax.w32))) (List._∷_ (14, Rows.any-gone (Syntax.tyStruct (List._∷_ 38 (List._∷_ 91 (List._∷_ 93 List.[]))) (Syntax.tcons (Syntax.tyRef Syntax.erased Syntax.imm (Syntax.tyInt Syntax.w32)) (Syntax.tcons (Syntax.tyInt Syntax.w64) Syntax.tnil)))) (List._∷_ (15, Rows.any-gone (Syntax.tyRef Syntax.erased Syntax.mut (Syntax.tyInt Syntax.w32))) List.[])))))))))))))))
+t52 = List._∷_ (0, Rows.any-gone (Syntax.tyStruct (List._∷_ 122 (List._∷_ 111 (List._∷_ 110 (List._∷_ 101 (List._∷_ 115 (List._∷_ 58 (List._∷_ 58 (List._∷_ 104 (List._∷_ 101 (List._∷_ 108 (List._∷_ 100 (List._∷_ 58 (List._∷_ 58 (List._∷_ 72 (List._∷_ 101 (List._∷_ 108 (List._∷_ 100 List.[]))))))))))))))))) (Syntax.tcons (Syntax.tyStruct (List._∷_ 112 (List._∷_ 121 (List._∷_ 114 (List._∷_ 97 (List._∷_ 109 (List._∷_ 105 (List._∷_ 100 (List._∷_ 58 (List._∷_ 58 (List._∷_ 83 (List._∷_ 116 (List._∷_ 97 (List._∷_ 116 (List._∷_ 101 List.[])))))))))))))) (Syntax.tcons (Syntax.tyInt Syntax.w32) (Syntax.tcons (Syntax.tyInt Syntax.w32) (Syntax.tcons (Syntax.tyInt Syntax.w32) (Syntax.tcons (Syntax.tyInt Syntax.w32) (Syntax.tcons (Syntax.tyInt Syntax.w32) (Syntax.tcons (Syntax.tyArray (Syntax.tyInt Syntax.w32) 64) Syntax.tnil))))))) (Syntax.tcons (Syntax.tyInt Syntax.w64) (Syntax.tcons (Syntax.tyInt Syntax.w64) (Syntax.tcons (Syntax.tyInt Syntax.w64) (Syntax.tcons (Syntax.tyInt Syntax.w64) (Syntax.tcons (Syntax.tyInt Syntax.w64) (Syntax.tcons (Syntax.tyInt Syntax.w64) (Syntax.tcons Syntax.tyBool Syntax.tnil)))))))))) (List._∷_ (1, Rows.whole (Declared.row Held.the-type)) (List._∷_ (2, Rows.any-gone (Syntax.tyStruct (List._∷_ 115 (List._∷_ 99 (List._∷_ 114 (List._∷_ 105 (List._∷_ 112 (List._∷_ 116 (List._∷_ 58 (List._∷_ 58 (List._∷_ 115 (List._∷_ 99 (List._∷_ 97 (List._∷_ 110 (List._∷_ 58 (List._∷_ 58 (List._∷_ 76 (List._∷_ 105 (List._∷_ 110 (List._∷_ 101 List.[])))))))))))))))))) (Syntax.tcons (Syntax.tyInt Syntax.w32) (Syntax.tcons (Syntax.tyInt Syntax.w64) (Syntax.tcons (Syntax.tyInt Syntax.w64) (Syntax.tcons (Syntax.tyInt Syntax.w64) (Syntax.tcons (Syntax.tyInt Syntax.w64) Syntax.tnil))))))) (List._∷_ (3, Rows.sref (Array.Array (Referent.rtF (Referent.fInt Syntax.w32)) 32772) (Syntax.tyRef (Syntax.named 0) Syntax.imm (Syntax.tyArray (Syntax.tyInt Syntax.w32) 32772)) 0) (List._∷_ (4, Reshare.mref-owedS (Array.Array (Referent.rtF (Referent.fInt Syntax.w32)) 65540) (Syntax.tyRef (Syntax.named 1) Syntax.mut (Syntax.tyArray (Syntax.tyInt Syntax.w32) 65540)) 1 14 Row.off) (List._∷_ (5, Reshare.mref-owedS (Array.Array (Referent.rtF (Referent.fInt Syntax.w32)) 32772) (Syntax.tyRef (Syntax.named 2) Syntax.mut (Syntax.tyArray (Syntax.tyInt Syntax.w32) 32772)) 2 15 Row.off) (List._∷_ (6, Rows.mref (Array.Array (Referent.rtF (Referent.fInt Syntax.w32)) 262160) (Syntax.tyRef (Syntax.named 3) Syntax.mut (Syntax.tyArray (Syntax.tyInt Syntax.w32) 262160)) 3) (List._∷_ (7, Rows.sref (Array.Array (Referent.rtF (Referent.fInt Syntax.w8)) 600000) (Syntax.tyRef (Syntax.named 4) Syntax.imm (Syntax.tyArray (Syntax.tyInt Syntax.w8) 600000)) 4) (List._∷_ (8, Rows.mref (Array.Array Cell.R 65540) (Syntax.tyRef (Syntax.named 5) Syntax.mut (Syntax.tyArray Cell.behind 65540)) 5) (List._∷_ (9, Rows.mref (Array.Array Cell.R 32772) (Syntax.tyRef (Syntax.named 6) Syntax.mut (Syntax.tyArray Cell.behind 32772)) 6) (List._∷_ (10, Rows.whole (Declared.row Outcome.the-type)) (List._∷_ (11, Rows.sc-here (Row.sInt Syntax.w64)) (List._∷_ (12, Rows.sc-here (Row.sInt Syntax.w64)) (List._∷_ (13, Rows.any-gone (Syntax.tyRef Syntax.erased Syntax.imm (Syntax.tyInt Syntax.w32))) (List._∷_ (14, Rows.any-gone (Syntax.tyStruct (List._∷_ 38 (List._∷_ 91 (List._∷_ 93 List.[]))) (Syntax.tcons (Syntax.tyRef Syntax.erased Syntax.imm (Syntax.tyInt Syntax.w32)) (Syntax.tcons (Syntax.tyInt Syntax.w64) Syntax.tnil)))) (List._∷_ (15, Rows.any-gone (Syntax.tyRef Syntax.erased Syntax.mut (Syntax.tyInt Syntax.w32))) List.[])))))))))))))))
 
 abbrev pub t53 : List.List Row.Entry
 t53 = List._∷_ (16, Rows.any-gone (Syntax.tyStruct (List._∷_ 38 (List._∷_ 91 (List._∷_ 93 List.[]))) (Syntax.tcons (Syntax.tyRef Syntax.erased Syntax.mut (Syntax.tyInt Syntax.w32)) (Syntax.tcons (Syntax.tyInt Syntax.w64) Syntax.tnil)))) (List._∷_ (17, Rows.any-gone (Syntax.tyRef Syntax.erased Syntax.mut (Syntax.tyInt Syntax.w32))) (List._∷_ (18, Rows.any-gone (Syntax.tyStruct (List._∷_ 38 (List._∷_ 91 (List._∷_ 93 List.[]))) (Syntax.tcons (Syntax.tyRef Syntax.erased Syntax.mut (Syntax.tyInt Syntax.w32)) (Syntax.tcons (Syntax.tyInt Syntax.w64) Syntax.tnil)))) (List._∷_ (19, Rows.any-gone (Syntax.tyRef Syntax.erased Syntax.mut (Syntax.tyInt Syntax.w32))) (List._∷_ (20, Rows.any-gone (Syntax.tyStruct (List._∷_ 38 (List._∷_ 91 (List._∷_ 93 List.[]))) (Syntax.tcons (Syntax.tyRef Syntax.erased Syntax.mut (Syntax.tyInt Syntax.w32)) (Syntax.tcons (Syntax.tyInt Syntax.w64) Syntax.tnil)))) (List._∷_ (21, Rows.any-gone (Syntax.tyRef Syntax.erased Syntax.mut Cell.behind)) (List._∷_ (22, Rows.any-gone (Syntax.tyStruct (List._∷_ 38 (List._∷_ 91 (List._∷_ 93 List.[]))) (Syntax.tcons (Syntax.tyRef Syntax.erased Syntax.mut Cell.behind) (Syntax.tcons (Syntax.tyInt Syntax.w64) Syntax.tnil)))) (List._∷_ (23, Rows.any-gone (Syntax.tyRef Syntax.erased Syntax.mut Cell.behind)) (List._∷_ (24, Rows.any-gone (Syntax.tyStruct (List._∷_ 38 (List._∷_ 91 (List._∷_ 93 List.[]))) (Syntax.tcons (Syntax.tyRef Syntax.erased Syntax.mut Cell.behind) (Syntax.tcons (Syntax.tyInt Syntax.w64) Syntax.tnil)))) (List._∷_ (25, Rows.any-gone (Syntax.tyRef Syntax.erased Syntax.imm Cell.behind)) (List._∷_ (26, Rows.any-gone (Syntax.tyStruct (List._∷_ 38 (List._∷_ 91 (List._∷_ 93 List.[]))) (Syntax.tcons (Syntax.tyRef Syntax.erased Syntax.imm Cell.behind) (Syntax.tcons (Syntax.tyInt Syntax.w64) Syntax.tnil)))) (List._∷_ (27, Rows.any-gone (Syntax.tyInt Syntax.w64)) (List._∷_ (28, Rows.any-gone (Syntax.tyRef Syntax.erased Syntax.imm Cell.behind)) (List._∷_ (29, Rows.any-gone (Syntax.tyStruct (List._∷_ 38 (List._∷_ 91 (List._∷_ 93 List.[]))) (Syntax.tcons (Syntax.tyRef Syntax.erased Syntax.imm Cell.behind) (Syntax.tcons (Syntax.tyInt Syntax.w64) Syntax.tnil)))) (List._∷_ (30, Rows.sref (Array.Array (Referent.rtF (Referent.fInt Syntax.w32)) 65540) (Syntax.tyRef Syntax.erased Syntax.imm (Syntax.tyArray (Syntax.tyInt Syntax.w32) 65540)) 14) (List._∷_ (31, Rows.sref (Array.Array (Referent.rtF (Referent.fInt Syntax.w32)) 32772) (Syntax.tyRef Syntax.erased Syntax.imm (Syntax.tyArray (Syntax.tyInt Syntax.w32) 32772)) 15) List.[])))))))))))))))
 
 abbrev pub t54 : List.List Row.Entry
-t54 = List._∷_ (0, Rows.any-gone (Syntax.tyStruct (List._∷_ 122 (List._∷_ 111 (List._∷_ 110 (List._∷_ 101 (List._∷_ 115 (List._∷_ 58 (List._∷_ 58 (List._∷_ 104 (List._∷_ 101 (List._∷_ 108 (List._∷_ 100 (List._∷_ 58 (List._∷_ 58 (List._∷_ 72 (List._∷_ 101 (List._∷_ 108 (List._∷_ 100 List.[]))))))))))))))))) (Syntax.tcons (Syntax.tyStruct (List._∷_ 112 (List._∷_ 121 (List._∷_ 114 (List._∷_ 97 (List._∷_ 109 (List._∷_ 105 (List._∷_ 100 (List._∷_ 58 (List._∷_ 58 (List._∷_ 83 (List._∷_ 116 (List._∷_ 97 (List._∷_ 116 (List._∷_ 101 List.[])))))))))))))) (Syntax.tcons (Syntax.tyInt Syntax.w32) (Syntax.tcons (Syntax.tyInt Syntax.w32) (Syntax.tcons (Syntax.tyInt Syntax.w32) (Syntax.tcons (Syntax.tyInt Syntax.w32) (Syntax.tcons (Syntax.tyInt Syntax.w32) (Syntax.tcons (Syntax.tyArray (Syntax.tyInt Syntax.w32) 64) Syntax.tnil))))))) (Syntax.tcons (Syntax.tyInt Syntax.w64) (Syntax.tcons (Syntax.tyInt Syntax.w64) (Syntax.tcons (Syntax.tyInt Syntax.w64) (Syntax.tcons (Syntax.tyInt Syntax.w64) (Syntax.tcons (Syntax.tyInt Syntax.w64) (Syntax.tcons (Syntax.tyInt Syntax.w64) (Syntax.tcons Syntax.tyBool Syntax.tnil)))))))))) (List._∷_ (1, Rows.whole (Declared.row Held.the-type)) (List._∷_ (2, Rows.any-gone (Syntax.tyStruct (List._∷_ 122 (List._∷_ 111 (List._∷_ 110 (List._∷_ 101 (List._∷_ 115 (List._∷_ 58 (List._∷_ 58 (List._∷_ 115 (List._∷_ 99 (List._∷_ 97 (List._∷_ 110 (List._∷_ 58 (List._∷_ 58 (List._∷_ 76 (List._∷_ 105 (List._∷_ 110 (List._∷_ 101 List.[]))))))))))))))))) (Syntax.tcons (Syntax.tyInt Syntax.w32) (Syntax.tcons (Syntax.tyInt Syntax.w64) (Syntax.tcons (Syntax.tyInt Syntax.w64) (Syntax.tcons (Syntax.tyInt Syntax.w64) (Syntax.tcons (Syntax.tyInt Syntax.w64) Syntax.tnil))))))) (List._∷_ (3, Rows.sref (Array.Array (Referent.rtF (Referent.fInt Syntax.w32)) 32772) (Syntax.tyRef (Syntax.named 0) Syntax.imm (Syntax.tyArray (Syntax.tyInt Syntax.w32) 32772)) 0) (List._∷_ (4, Reshare.mref-owedS (Array.Array (Referent.rtF (Referent.fInt Syntax.w32)) 65540) (Syntax.tyRef (Syntax.named 1) Syntax.mut (Syntax.tyArray (Syntax.tyInt Syntax.w32) 65540)) 1 14 Row.off) (List._∷_ (5, Reshare.mref-owedS (Array.Array (Referent.rtF (Referent.fInt Syntax.w32)) 32772) (Syntax.tyRef (Syntax.named 2) Syntax.mut (Syntax.tyArray (Syntax.tyInt Syntax.w32) 32772)) 2 15 Row.off) (List._∷_ (6, Reshare.mref-owedS (Array.Array (Referent.rtF (Referent.fInt Syntax.w32)) 262160) (Syntax.tyRef (Syntax.named 3) Syntax.mut (Syntax.tyArray (Syntax.tyInt Syntax.w32) 262160)) 3 16 Row.off) (List._∷_ (7, Rows.sref (Array.Array (Referent.rtF (Referent.fInt Syntax.w8)) 600000) (Syntax.tyRef (Syntax.named 4) Syntax.imm (Syntax.tyArray (Syntax.tyInt Syntax.w8) 600000)) 4) (List._∷_ (8, Rows.mref (Array.Array Cell.R 65540) (Syntax.tyRef (Syntax.named 5) Syntax.mut (Syntax.tyArray Cell.behind 65540)) 5) (List._∷_ (9, Rows.mref (Array.Array Cell.R 32772) (Syntax.tyRef (Syntax.named 6) Syntax.mut (Syntax.tyArray Cell.behind 32772)) 6) (List._∷_ (10, Rows.whole (Declared.row Outcome.the-type)) (List._∷_ (11, Rows.sc-here (Row.sInt Syntax.w64)) (List._∷_ (12, Rows.sc-here (Row.sInt Syntax.w64)) (List._∷_ (13, Rows.any-gone (Syntax.tyRef Syntax.erased Syntax.imm (Syntax.tyInt Syntax.w32))) (List._∷_ (14, Rows.any-gone (Syntax.tyStruct (List._∷_ 38 (List._∷_ 91 (List._∷_ 93 List.[]))) (Syntax.tcons (Syntax.tyRef Syntax.erased Syntax.imm (Syntax.tyInt Syntax.w32)) (Syntax.tcons (Syntax.tyInt Syntax.w64) Syntax.tnil)))) (List._∷_ (15, Rows.any-gone (Syntax.tyRef Syntax.erased Syntax.mut (Syntax.tyInt Syntax.w32))) List.[])))))))))))))))
+t54 = List._∷_ (0, Rows.any-gone (Syntax.tyStruct (List._∷_ 122 (List._∷_ 111 (List._∷_ 110 (List._∷_ 101 (List._∷_ 115 (List._∷_ 58 (List._∷_ 58 (List._∷_ 104 (List._∷_ 101 (List._∷_ 108 (List._∷_ 100 (List._∷_ 58 (List._∷_ 58 (List._∷_ 72 (List._∷_ 101 (List._∷_ 108 (List._∷_ 100 List.[]))))))))))))))))) (Syntax.tcons (Syntax.tyStruct (List._∷_ 112 (List._∷_ 121 (List._∷_ 114 (List._∷_ 97 (List._∷_ 109 (List._∷_ 105 (List._∷_ 100 (List._∷_ 58 (List._∷_ 58 (List._∷_ 83 (List._∷_ 116 (List._∷_ 97 (List._∷_ 116 (List._∷_ 101 List.[])))))))))))))) (Syntax.tcons (Syntax.tyInt Syntax.w32) (Syntax.tcons (Syntax.tyInt Syntax.w32) (Syntax.tcons (Syntax.tyInt Syntax.w32) (Syntax.tcons (Syntax.tyInt Syntax.w32) (Syntax.tcons (Syntax.tyInt Syntax.w32) (Syntax.tcons (Syntax.tyArray (Syntax.tyInt Syntax.w32) 64) Syntax.tnil))))))) (Syntax.tcons (Syntax.tyInt Syntax.w64) (Syntax.tcons (Syntax.tyInt Syntax.w64) (Syntax.tcons (Syntax.tyInt Syntax.w64) (Syntax.tcons (Syntax.tyInt Syntax.w64) (Syntax.tcons (Syntax.tyInt Syntax.w64) (Syntax.tcons (Syntax.tyInt Syntax.w64) (Syntax.tcons Syntax.tyBool Syntax.tnil)))))))))) (List._∷_ (1, Rows.whole (Declared.row Held.the-type)) (List._∷_ (2, Rows.any-gone (Syntax.tyStruct (List._∷_ 115 (List._∷_ 99 (List._∷_ 114 (List._∷_ 105 (List._∷_ 112 (List._∷_ 116 (List._∷_ 58 (List._∷_ 58 (List._∷_ 115 (List._∷_ 99 (List._∷_ 97 (List._∷_ 110 (List._∷_ 58 (List._∷_ 58 (List._∷_ 76 (List._∷_ 105 (List._∷_ 110 (List._∷_ 101 List.[])))))))))))))))))) (Syntax.tcons (Syntax.tyInt Syntax.w32) (Syntax.tcons (Syntax.tyInt Syntax.w64) (Syntax.tcons (Syntax.tyInt Syntax.w64) (Syntax.tcons (Syntax.tyInt Syntax.w64) (Syntax.tcons (Syntax.tyInt Syntax.w64) Syntax.tnil))))))) (List._∷_ (3, Rows.sref (Array.Array (Referent.rtF (Referent.fInt Syntax.w32)) 32772) (Syntax.tyRef (Syntax.named 0) Syntax.imm (Syntax.tyArray (Syntax.tyInt Syntax.w32) 32772)) 0) (List._∷_ (4, Reshare.mref-owedS (Array.Array (Referent.rtF (Referent.fInt Syntax.w32)) 65540) (Syntax.tyRef (Syntax.named 1) Syntax.mut (Syntax.tyArray (Syntax.tyInt Syntax.w32) 65540)) 1 14 Row.off) (List._∷_ (5, Reshare.mref-owedS (Array.Array (Referent.rtF (Referent.fInt Syntax.w32)) 32772) (Syntax.tyRef (Syntax.named 2) Syntax.mut (Syntax.tyArray (Syntax.tyInt Syntax.w32) 32772)) 2 15 Row.off) (List._∷_ (6, Reshare.mref-owedS (Array.Array (Referent.rtF (Referent.fInt Syntax.w32)) 262160) (Syntax.tyRef (Syntax.named 3) Syntax.mut (Syntax.tyArray (Syntax.tyInt Syntax.w32) 262160)) 3 16 Row.off) (List._∷_ (7, Rows.sref (Array.Array (Referent.rtF (Referent.fInt Syntax.w8)) 600000) (Syntax.tyRef (Syntax.named 4) Syntax.imm (Syntax.tyArray (Syntax.tyInt Syntax.w8) 600000)) 4) (List._∷_ (8, Rows.mref (Array.Array Cell.R 65540) (Syntax.tyRef (Syntax.named 5) Syntax.mut (Syntax.tyArray Cell.behind 65540)) 5) (List._∷_ (9, Rows.mref (Array.Array Cell.R 32772) (Syntax.tyRef (Syntax.named 6) Syntax.mut (Syntax.tyArray Cell.behind 32772)) 6) (List._∷_ (10, Rows.whole (Declared.row Outcome.the-type)) (List._∷_ (11, Rows.sc-here (Row.sInt Syntax.w64)) (List._∷_ (12, Rows.sc-here (Row.sInt Syntax.w64)) (List._∷_ (13, Rows.any-gone (Syntax.tyRef Syntax.erased Syntax.imm (Syntax.tyInt Syntax.w32))) (List._∷_ (14, Rows.any-gone (Syntax.tyStruct (List._∷_ 38 (List._∷_ 91 (List._∷_ 93 List.[]))) (Syntax.tcons (Syntax.tyRef Syntax.erased Syntax.imm (Syntax.tyInt Syntax.w32)) (Syntax.tcons (Syntax.tyInt Syntax.w64) Syntax.tnil)))) (List._∷_ (15, Rows.any-gone (Syntax.tyRef Syntax.erased Syntax.mut (Syntax.tyInt Syntax.w32))) List.[])))))))))))))))
 
 abbrev pub t55 : List.List Row.Entry
 t55 = List._∷_ (32, Rows.sref (Array.Array (Referent.rtF (Referent.fInt Syntax.w32)) 262160) (Syntax.tyRef Syntax.erased Syntax.imm (Syntax.tyArray (Syntax.tyInt Syntax.w32) 262160)) 16) List.[]
 
 abbrev pub t56 : List.List Row.Entry
-t56 = List._∷_ (0, Rows.whole (Declared.row Held.the-type)) (List._∷_ (1, Rows.whole (Declared.row Held.the-type)) (List._∷_ (2, Rows.any-gone (Syntax.tyStruct (List._∷_ 122 (List._∷_ 111 (List._∷_ 110 (List._∷_ 101 (List._∷_ 115 (List._∷_ 58 (List._∷_ 58 (List._∷_ 115 (List._∷_ 99 (List._∷_ 97 (List._∷_ 110 (List._∷_ 58 (List._∷_ 58 (List._∷_ 76 (List._∷_ 105 (List._∷_ 110 (List._∷_ 101 List.[]))))))))))))))))) (Syntax.tcons (Syntax.tyInt Syntax.w32) (Syntax.tcons (Syntax.tyInt Syntax.w64) (Syntax.tcons (Syntax.tyInt Syntax.w64) (Syntax.tcons (Syntax.tyInt Syntax.w64) (Syntax.tcons (Syntax.tyInt Syntax.w64) Syntax.tnil))))))) (List._∷_ (3, Rows.sref (Array.Array (Referent.rtF (Referent.fInt Syntax.w32)) 32772) (Syntax.tyRef (Syntax.named 0) Syntax.imm (Syntax.tyArray (Syntax.tyInt Syntax.w32) 32772)) 0) (List._∷_ (4, Reshare.mref-owedS (Array.Array (Referent.rtF (Referent.fInt Syntax.w32)) 65540) (Syntax.tyRef (Syntax.named 1) Syntax.mut (Syntax.tyArray (Syntax.tyInt Syntax.w32) 65540)) 1 14 Row.off) (List._∷_ (5, Reshare.mref-owedS (Array.Array (Referent.rtF (Referent.fInt Syntax.w32)) 32772) (Syntax.tyRef (Syntax.named 2) Syntax.mut (Syntax.tyArray (Syntax.tyInt Syntax.w32) 32772)) 2 15 Row.off) (List._∷_ (6, Reshare.mref-owedS (Array.Array (Referent.rtF (Referent.fInt Syntax.w32)) 262160) (Syntax.tyRef (Syntax.named 3) Syntax.mut (Syntax.tyArray (Syntax.tyInt Syntax.w32) 262160)) 3 16 Row.off) (List._∷_ (7, Rows.sref (Array.Array (Referent.rtF (Referent.fInt Syntax.w8)) 600000) (Syntax.tyRef (Syntax.named 4) Syntax.imm (Syntax.tyArray (Syntax.tyInt Syntax.w8) 600000)) 4) (List._∷_ (8, Rows.mref (Array.Array Cell.R 65540) (Syntax.tyRef (Syntax.named 5) Syntax.mut (Syntax.tyArray Cell.behind 65540)) 5) (List._∷_ (9, Rows.mref (Array.Array Cell.R 32772) (Syntax.tyRef (Syntax.named 6) Syntax.mut (Syntax.tyArray Cell.behind 32772)) 6) (List._∷_ (10, Rows.whole (Declared.row Outcome.the-type)) (List._∷_ (11, Rows.sc-here (Row.sInt Syntax.w64)) (List._∷_ (12, Rows.sc-here (Row.sInt Syntax.w64)) (List._∷_ (13, Rows.any-gone (Syntax.tyRef Syntax.erased Syntax.imm (Syntax.tyInt Syntax.w32))) (List._∷_ (14, Rows.any-gone (Syntax.tyStruct (List._∷_ 38 (List._∷_ 91 (List._∷_ 93 List.[]))) (Syntax.tcons (Syntax.tyRef Syntax.erased Syntax.imm (Syntax.tyInt Syntax.w32)) (Syntax.tcons (Syntax.tyInt Syntax.w64) Syntax.tnil)))) (List._∷_ (15, Rows.any-gone (Syntax.tyRef Syntax.erased Syntax.mut (Syntax.tyInt Syntax.w32))) List.[])))))))))))))))
+t56 = List._∷_ (0, Rows.whole (Declared.row Held.the-type)) (List._∷_ (1, Rows.whole (Declared.row Held.the-type)) (List._∷_ (2, Rows.any-gone (Syntax.tyStruct (List._∷_ 115 (List._∷_ 99 (List._∷_ 114 (List._∷_ 105 (List._∷_ 112 (List._∷_ 116 (List._∷_ 58 (List._∷_ 58 (List._∷_ 115 (List._∷_ 99 (List._∷_ 97 (List._∷_ 110 (List._∷_ 58 (List._∷_ 58 (List._∷_ 76 (List._∷_ 105 (List._∷_ 110 (List._∷_ 101 List.[])))))))))))))))))) (Syntax.tcons (Syntax.tyInt Syntax.w32) (Syntax.tcons (Syntax.tyInt Syntax.w64) (Syntax.tcons (Syntax.tyInt Syntax.w64) (Syntax.tcons (Syntax.tyInt Syntax.w64) (Syntax.tcons (Syntax.tyInt Syntax.w64) Syntax.tnil))))))) (List._∷_ (3, Rows.sref (Array.Array (Referent.rtF (Referent.fInt Syntax.w32)) 32772) (Syntax.tyRef (Syntax.named 0) Syntax.imm (Syntax.tyArray (Syntax.tyInt Syntax.w32) 32772)) 0) (List._∷_ (4, Reshare.mref-owedS (Array.Array (Referent.rtF (Referent.fInt Syntax.w32)) 65540) (Syntax.tyRef (Syntax.named 1) Syntax.mut (Syntax.tyArray (Syntax.tyInt Syntax.w32) 65540)) 1 14 Row.off) (List._∷_ (5, Reshare.mref-owedS (Array.Array (Referent.rtF (Referent.fInt Syntax.w32)) 32772) (Syntax.tyRef (Syntax.named 2) Syntax.mut (Syntax.tyArray (Syntax.tyInt Syntax.w32) 32772)) 2 15 Row.off) (List._∷_ (6, Reshare.mref-owedS (Array.Array (Referent.rtF (Referent.fInt Syntax.w32)) 262160) (Syntax.tyRef (Syntax.named 3) Syntax.mut (Syntax.tyArray (Syntax.tyInt Syntax.w32) 262160)) 3 16 Row.off) (List._∷_ (7, Rows.sref (Array.Array (Referent.rtF (Referent.fInt Syntax.w8)) 600000) (Syntax.tyRef (Syntax.named 4) Syntax.imm (Syntax.tyArray (Syntax.tyInt Syntax.w8) 600000)) 4) (List._∷_ (8, Rows.mref (Array.Array Cell.R 65540) (Syntax.tyRef (Syntax.named 5) Syntax.mut (Syntax.tyArray Cell.behind 65540)) 5) (List._∷_ (9, Rows.mref (Array.Array Cell.R 32772) (Syntax.tyRef (Syntax.named 6) Syntax.mut (Syntax.tyArray Cell.behind 32772)) 6) (List._∷_ (10, Rows.whole (Declared.row Outcome.the-type)) (List._∷_ (11, Rows.sc-here (Row.sInt Syntax.w64)) (List._∷_ (12, Rows.sc-here (Row.sInt Syntax.w64)) (List._∷_ (13, Rows.any-gone (Syntax.tyRef Syntax.erased Syntax.imm (Syntax.tyInt Syntax.w32))) (List._∷_ (14, Rows.any-gone (Syntax.tyStruct (List._∷_ 38 (List._∷_ 91 (List._∷_ 93 List.[]))) (Syntax.tcons (Syntax.tyRef Syntax.erased Syntax.imm (Syntax.tyInt Syntax.w32)) (Syntax.tcons (Syntax.tyInt Syntax.w64) Syntax.tnil)))) (List._∷_ (15, Rows.any-gone (Syntax.tyRef Syntax.erased Syntax.mut (Syntax.tyInt Syntax.w32))) List.[])))))))))))))))
 
 abbrev pub t57 : List.List Row.Entry
 t57 = List._∷_ (16, Rows.any-gone (Syntax.tyStruct (List._∷_ 38 (List._∷_ 91 (List._∷_ 93 List.[]))) (Syntax.tcons (Syntax.tyRef Syntax.erased Syntax.mut (Syntax.tyInt Syntax.w32)) (Syntax.tcons (Syntax.tyInt Syntax.w64) Syntax.tnil)))) (List._∷_ (17, Rows.any-gone (Syntax.tyRef Syntax.erased Syntax.mut (Syntax.tyInt Syntax.w32))) (List._∷_ (18, Rows.any-gone (Syntax.tyStruct (List._∷_ 38 (List._∷_ 91 (List._∷_ 93 List.[]))) (Syntax.tcons (Syntax.tyRef Syntax.erased Syntax.mut (Syntax.tyInt Syntax.w32)) (Syntax.tcons (Syntax.tyInt Syntax.w64) Syntax.tnil)))) (List._∷_ (19, Rows.any-gone (Syntax.tyRef Syntax.erased Syntax.mut (Syntax.tyInt Syntax.w32))) (List._∷_ (20, Rows.any-gone (Syntax.tyStruct (List._∷_ 38 (List._∷_ 91 (List._∷_ 93 List.[]))) (Syntax.tcons (Syntax.tyRef Syntax.erased Syntax.mut (Syntax.tyInt Syntax.w32)) (Syntax.tcons (Syntax.tyInt Syntax.w64) Syntax.tnil)))) (List._∷_ (21, Rows.any-gone (Syntax.tyRef Syntax.erased Syntax.mut Cell.behind)) (List._∷_ (22, Rows.any-gone (Syntax.tyStruct (List._∷_ 38 (List._∷_ 91 (List._∷_ 93 List.[]))) (Syntax.tcons (Syntax.tyRef Syntax.erased Syntax.mut Cell.behind) (Syntax.tcons (Syntax.tyInt Syntax.w64) Syntax.tnil)))) (List._∷_ (23, Rows.any-gone (Syntax.tyRef Syntax.erased Syntax.mut Cell.behind)) (List._∷_ (24, Rows.any-gone (Syntax.tyStruct (List._∷_ 38 (List._∷_ 91 (List._∷_ 93 List.[]))) (Syntax.tcons (Syntax.tyRef Syntax.erased Syntax.mut Cell.behind) (Syntax.tcons (Syntax.tyInt Syntax.w64) Syntax.tnil)))) (List._∷_ (25, Rows.any-gone (Syntax.tyRef Syntax.erased Syntax.imm Cell.behind)) (List._∷_ (26, Rows.any-gone (Syntax.tyStruct (List._∷_ 38 (List._∷_ 91 (List._∷_ 93 List.[]))) (Syntax.tcons (Syntax.tyRef Syntax.erased Syntax.imm Cell.behind) (Syntax.tcons (Syntax.tyInt Syntax.w64) Syntax.tnil)))) (List._∷_ (27, Rows.any-gone (Syntax.tyInt Syntax.w64)) (List._∷_ (28, Rows.any-gone (Syntax.tyRef Syntax.erased Syntax.imm Cell.behind)) (List._∷_ (29, Rows.any-gone (Syntax.tyStruct (List._∷_ 38 (List._∷_ 91 (List._∷_ 93 List.[]))) (Syntax.tcons (Syntax.tyRef Syntax.erased Syntax.imm Cell.behind) (Syntax.tcons (Syntax.tyInt Syntax.w64) Syntax.tnil)))) (List._∷_ (30, Rows.any-gone (Syntax.tyRef Syntax.erased Syntax.imm (Syntax.tyArray (Syntax.tyInt Syntax.w32) 65540))) (List._∷_ (31, Rows.sref (Array.Array (Referent.rtF (Referent.fInt Syntax.w32)) 32772) (Syntax.tyRef Syntax.erased Syntax.imm (Syntax.tyArray (Syntax.tyInt Syntax.w32) 32772)) 15) List.[])))))))))))))))
 
 abbrev pub t58 : List.List Row.Entry
-t58 = List._∷_ (0, Rows.whole (Declared.row Held.the-type)) (List._∷_ (1, Rows.any-gone (Syntax.tyStruct (List._∷_ 122 (List._∷_ 111 (List._∷_ 110 (List._∷_ 101 (List._∷_ 115 (List._∷_ 58 (List._∷_ 58 (List._∷_ 104 (List._∷_ 101 (List._∷_ 108 (List._∷_ 100 (List._∷_ 58 (List._∷_ 58 (List._∷_ 72 (List._∷_ 101 (List._∷_ 108 (List._∷_ 100 List.[]))))))))))))))))) (Syntax.tcons (Syntax.tyStruct (List._∷_ 112 (List._∷_ 121 (List._∷_ 114 (List._∷_ 97 (List._∷_ 109 (List._∷_ 105 (List._∷_ 100 (List._∷_ 58 (List._∷_ 58 (List._∷_ 83 (List._∷_ 116 (List._∷_ 97 (List._∷_ 116 (List._∷_ 101 List.[])))))))))))))) (Syntax.tcons (Syntax.tyInt Syntax.w32) (Syntax.tcons (Syntax.tyInt Syntax.w32) (Syntax.tcons (Syntax.tyInt Syntax.w32) (Syntax.tcons (Syntax.tyInt Syntax.w32) (Syntax.tcons (Syntax.tyInt Syntax.w32) (Syntax.tcons (Syntax.tyArray (Syntax.tyInt Syntax.w32) 64) Syntax.tnil))))))) (Syntax.tcons (Syntax.tyInt Syntax.w64) (Syntax.tcons (Syntax.tyInt Syntax.w64) (Syntax.tcons (Syntax.tyInt Syntax.w64) (Syntax.tcons (Syntax.tyInt Syntax.w64) (Syntax.tcons (Syntax.tyInt Syntax.w64) (Syntax.tcons (Syntax.tyInt Syntax.w64) (Syntax.tcons Syntax.tyBool Syntax.tnil)))))))))) (List._∷_ (2, Rows.any-gone (Syntax.tyStruct (List._∷_ 122 (List._∷_ 111 (List._∷_ 110 (List._∷_ 101 (List._∷_ 115 (List._∷_ 58 (List._∷_ 58 (List._∷_ 115 (List._∷_ 99 (List._∷_ 97 (List._∷_ 110 (List._∷_ 58 (List._∷_ 58 (List._∷_ 76 (List._∷_ 105 (List._∷_ 110 (List._∷_ 101 List.[]))))))))))))))))) (Syntax.tcons (Syntax.tyInt Syntax.w32) (Syntax.tcons (Syntax.tyInt Syntax.w64) (Syntax.tcons (Syntax.tyInt Syntax.w64) (Syntax.tcons (Syntax.tyInt Syntax.w64) (Syntax.tcons (Syntax.tyInt Syntax.w64) Syntax.tnil))))))) (List._∷_ (3, Rows.sref (Array.Array (Referent.rtF (Referent.fInt Syntax.w32)) 32772) (Syntax.tyRef (Syntax.named 0) Syntax.imm (Syntax.tyArray (Syntax.tyInt Syntax.w32) 32772)) 0) (List._∷_ (4, Reshare.mref-owedS (Array.Array (Referent.rtF (Referent.fInt Syntax.w32)) 65540) (Syntax.tyRef (Syntax.named 1) Syntax.mut (Syntax.tyArray (Syntax.tyInt Syntax.w32) 65540)) 1 14 Row.off) (List._∷_ (5, Reshare.mref-owedS (Array.Array (Referent.rtF (Referent.fInt Syntax.w32)) 32772) (Syntax.tyRef (Syntax.named 2) Syntax.mut (Syntax.tyArray (Syntax.tyInt Syntax.w32) 32772)) 2 15 Row.off) (List._∷_ (6, Reshare.mref-owedS (Array.Array (Referent.rtF (Referent.fInt Syntax.w32)) 262160) (Syntax.tyRef (Syntax.named 3) Syntax.mut (Syntax.tyArray (Syntax.tyInt Syntax.w32) 262160)) 3 16 Row.off) (List._∷_ (7, Rows.sref (Array.Array (Referent.rtF (Referent.fInt Syntax.w8)) 600000) (Syntax.tyRef (Syntax.named 4) Syntax.imm (Syntax.tyArray (Syntax.tyInt Syntax.w8) 600000)) 4) (List._∷_ (8, Rows.mref (Array.Array Cell.R 65540) (Syntax.tyRef (Syntax.named 5) Syntax.mut (Syntax.tyArray Cell.behind 65540)) 5) (List._∷_ (9, Rows.mref (Array.Array Cell.R 32772) (Syntax.tyRef (Syntax.named 6) Syntax.mut (Syntax.tyArray Cell.behind 32772)) 6) (List._∷_ (10, Rows.whole (Declared.row Outcome.the-type)) (List._∷_ (11, Rows.sc-here (Row.sInt Syntax.w64)) (List._∷_ (12, Rows.sc-here (Row.sInt Syntax.w64)) (List._∷_ (13, Rows.any-gone (Syntax.tyRef Syntax.erased Syntax.imm (Syntax.tyInt Syntax.w32))) (List._∷_ (14, Rows.any-gone (Syntax.tyStruct (List._∷_ 38 (List._∷_ 91 (List._∷_ 93 List.[]))) (Syntax.tcons (Syntax.tyRef Syntax.erased Syntax.imm (Syntax.tyInt Syntax.w32)) (Syntax.tcons (Syntax.tyInt Syntax.w64) Syntax.tnil)))) (List._∷_ (15, Rows.any-gone (Syntax.tyRef Syntax.erased Syntax.mut (Syntax.tyInt Syntax.w32))) List.[])))))))))))))))
+t58 = List._∷_ (0, Rows.whole (Declared.row Held.the-type)) (List._∷_ (1, Rows.any-gone (Syntax.tyStruct (List._∷_ 122 (List._∷_ 111 (List._∷_ 110 (List._∷_ 101 (List._∷_ 115 (List._∷_ 58 (List._∷_ 58 (List._∷_ 104 (List._∷_ 101 (List._∷_ 108 (List._∷_ 100 (List._∷_ 58 (List._∷_ 58 (List._∷_ 72 (List._∷_ 101 (List._∷_ 108 (List._∷_ 100 List.[]))))))))))))))))) (Syntax.tcons (Syntax.tyStruct (List._∷_ 112 (List._∷_ 121 (List._∷_ 114 (List._∷_ 97 (List._∷_ 109 (List._∷_ 105 (List._∷_ 100 (List._∷_ 58 (List._∷_ 58 (List._∷_ 83 (List._∷_ 116 (List._∷_ 97 (List._∷_ 116 (List._∷_ 101 List.[])))))))))))))) (Syntax.tcons (Syntax.tyInt Syntax.w32) (Syntax.tcons (Syntax.tyInt Syntax.w32) (Syntax.tcons (Syntax.tyInt Syntax.w32) (Syntax.tcons (Syntax.tyInt Syntax.w32) (Syntax.tcons (Syntax.tyInt Syntax.w32) (Syntax.tcons (Syntax.tyArray (Syntax.tyInt Syntax.w32) 64) Syntax.tnil))))))) (Syntax.tcons (Syntax.tyInt Syntax.w64) (Syntax.tcons (Syntax.tyInt Syntax.w64) (Syntax.tcons (Syntax.tyInt Syntax.w64) (Syntax.tcons (Syntax.tyInt Syntax.w64) (Syntax.tcons (Syntax.tyInt Syntax.w64) (Syntax.tcons (Syntax.tyInt Syntax.w64) (Syntax.tcons Syntax.tyBool Syntax.tnil)))))))))) (List._∷_ (2, Rows.any-gone (Syntax.tyStruct (List._∷_ 115 (List._∷_ 99 (List._∷_ 114 (List._∷_ 105 (List._∷_ 112 (List._∷_ 116 (List._∷_ 58 (List._∷_ 58 (List._∷_ 115 (List._∷_ 99 (List._∷_ 97 (List._∷_ 110 (List._∷_ 58 (List._∷_ 58 (List._∷_ 76 (List._∷_ 105 (List._∷_ 110 (List._∷_ 101 List.[])))))))))))))))))) (Syntax.tcons (Syntax.tyInt Syntax.w32) (Syntax.tcons (Syntax.tyInt Syntax.w64) (Syntax.tcons (Syntax.tyInt Syntax.w64) (Syntax.tcons (Syntax.tyInt Syntax.w64) (Syntax.tcons (Syntax.tyInt Syntax.w64) Syntax.tnil))))))) (List._∷_ (3, Rows.sref (Array.Array (Referent.rtF (Referent.fInt Syntax.w32)) 32772) (Syntax.tyRef (Syntax.named 0) Syntax.imm (Syntax.tyArray (Syntax.tyInt Syntax.w32) 32772)) 0) (List._∷_ (4, Reshare.mref-owedS (Array.Array (Referent.rtF (Referent.fInt Syntax.w32)) 65540) (Syntax.tyRef (Syntax.named 1) Syntax.mut (Syntax.tyArray (Syntax.tyInt Syntax.w32) 65540)) 1 14 Row.off) (List._∷_ (5, Reshare.mref-owedS (Array.Array (Referent.rtF (Referent.fInt Syntax.w32)) 32772) (Syntax.tyRef (Syntax.named 2) Syntax.mut (Syntax.tyArray (Syntax.tyInt Syntax.w32) 32772)) 2 15 Row.off) (List._∷_ (6, Reshare.mref-owedS (Array.Array (Referent.rtF (Referent.fInt Syntax.w32)) 262160) (Syntax.tyRef (Syntax.named 3) Syntax.mut (Syntax.tyArray (Syntax.tyInt Syntax.w32) 262160)) 3 16 Row.off) (List._∷_ (7, Rows.sref (Array.Array (Referent.rtF (Referent.fInt Syntax.w8)) 600000) (Syntax.tyRef (Syntax.named 4) Syntax.imm (Syntax.tyArray (Syntax.tyInt Syntax.w8) 600000)) 4) (List._∷_ (8, Rows.mref (Array.Array Cell.R 65540) (Syntax.tyRef (Syntax.named 5) Syntax.mut (Syntax.tyArray Cell.behind 65540)) 5) (List._∷_ (9, Rows.mref (Array.Array Cell.R 32772) (Syntax.tyRef (Syntax.named 6) Syntax.mut (Syntax.tyArray Cell.behind 32772)) 6) (List._∷_ (10, Rows.whole (Declared.row Outcome.the-type)) (List._∷_ (11, Rows.sc-here (Row.sInt Syntax.w64)) (List._∷_ (12, Rows.sc-here (Row.sInt Syntax.w64)) (List._∷_ (13, Rows.any-gone (Syntax.tyRef Syntax.erased Syntax.imm (Syntax.tyInt Syntax.w32))) (List._∷_ (14, Rows.any-gone (Syntax.tyStruct (List._∷_ 38 (List._∷_ 91 (List._∷_ 93 List.[]))) (Syntax.tcons (Syntax.tyRef Syntax.erased Syntax.imm (Syntax.tyInt Syntax.w32)) (Syntax.tcons (Syntax.tyInt Syntax.w64) Syntax.tnil)))) (List._∷_ (15, Rows.any-gone (Syntax.tyRef Syntax.erased Syntax.mut (Syntax.tyInt Syntax.w32))) List.[])))))))))))))))
 
 abbrev pub t59 : List.List Row.Entry
-t59 = List._∷_ (0, Rows.whole (Declared.row Held.the-type)) (List._∷_ (1, Rows.any-gone (Syntax.tyStruct (List._∷_ 122 (List._∷_ 111 (List._∷_ 110 (List._∷_ 101 (List._∷_ 115 (List._∷_ 58 (List._∷_ 58 (List._∷_ 104 (List._∷_ 101 (List._∷_ 108 (List._∷_ 100 (List._∷_ 58 (List._∷_ 58 (List._∷_ 72 (List._∷_ 101 (List._∷_ 108 (List._∷_ 100 List.[]))))))))))))))))) (Syntax.tcons (Syntax.tyStruct (List._∷_ 112 (List._∷_ 121 (List._∷_ 114 (List._∷_ 97 (List._∷_ 109 (List._∷_ 105 (List._∷_ 100 (List._∷_ 58 (List._∷_ 58 (List._∷_ 83 (List._∷_ 116 (List._∷_ 97 (List._∷_ 116 (List._∷_ 101 List.[])))))))))))))) (Syntax.tcons (Syntax.tyInt Syntax.w32) (Syntax.tcons (Syntax.tyInt Syntax.w32) (Syntax.tcons (Syntax.tyInt Syntax.w32) (Syntax.tcons (Syntax.tyInt Syntax.w32) (Syntax.tcons (Syntax.tyInt Syntax.w32) (Syntax.tcons (Syntax.tyArray (Syntax.tyInt Syntax.w32) 64) Syntax.tnil))))))) (Syntax.tcons (Syntax.tyInt Syntax.w64) (Syntax.tcons (Syntax.tyInt Syntax.w64) (Syntax.tcons (Syntax.tyInt Syntax.w64) (Syntax.tcons (Syntax.tyInt Syntax.w64) (Syntax.tcons (Syntax.tyInt Syntax.w64) (Syntax.tcons (Syntax.tyInt Syntax.w64) (Syntax.tcons Syntax.tyBool Syntax.tnil)))))))))) (List._∷_ (2, Rows.any-gone (Syntax.tyStruct (List._∷_ 122 (List._∷_ 111 (List._∷_ 110 (List._∷_ 101 (List._∷_ 115 (List._∷_ 58 (List._∷_ 58 (List._∷_ 115 (List._∷_ 99 (List._∷_ 97 (List._∷_ 110 (List._∷_ 58 (List._∷_ 58 (List._∷_ 76 (List._∷_ 105 (List._∷_ 110 (List._∷_ 101 List.[]))))))))))))))))) (Syntax.tcons (Syntax.tyInt Syntax.w32) (Syntax.tcons (Syntax.tyInt Syntax.w64) (Syntax.tcons (Syntax.tyInt Syntax.w64) (Syntax.tcons (Syntax.tyInt Syntax.w64) (Syntax.tcons (Syntax.tyInt Syntax.w64) Syntax.tnil))))))) (List._∷_ (3, Rows.sref (Array.Array (Referent.rtF (Referent.fInt Syntax.w32)) 32772) (Syntax.tyRef (Syntax.named 0) Syntax.imm (Syntax.tyArray (Syntax.tyInt Syntax.w32) 32772)) 0) (List._∷_ (4, Reshare.mref-owedS (Array.Array (Referent.rtF (Referent.fInt Syntax.w32)) 65540) (Syntax.tyRef (Syntax.named 1) Syntax.mut (Syntax.tyArray (Syntax.tyInt Syntax.w32) 65540)) 1 14 Row.off) (List._∷_ (5, Reshare.mref-owedS (Array.Array (Referent.rtF (Referent.fInt Syntax.w32)) 32772) (Syntax.tyRef (Syntax.named 2) Syntax.mut (Syntax.tyArray (Syntax.tyInt Syntax.w32) 32772)) 2 15 Row.off) (List._∷_ (6, Reshare.mref-owedS (Array.Array (Referent.rtF (Referent.fInt Syntax.w32)) 262160) (Syntax.tyRef (Syntax.named 3) Syntax.mut (Syntax.tyArray (Syntax.tyInt Syntax.w32) 262160)) 3 16 Row.off) (List._∷_ (7, Rows.sref (Array.Array (Referent.rtF (Referent.fInt Syntax.w8)) 600000) (Syntax.tyRef (Syntax.named 4) Syntax.imm (Syntax.tyArray (Syntax.tyInt Syntax.w8) 600000)) 4) (List._∷_ (8, Rows.mref (Array.Array Cell.R 65540) (Syntax.tyRef (Syntax.named 5) Syntax.mut (Syntax.tyArray Cell.behind 65540)) 5) (List._∷_ (9, Rows.mref (Array.Array Cell.R 32772) (Syntax.tyRef (Syntax.named 6) Syntax.mut (Syntax.tyArray Cell.behind 32772)) 6) (List._∷_ (10, Rows.any-gone (Syntax.tyStruct (List._∷_ 112 (List._∷_ 121 (List._∷_ 114 (List._∷_ 97 (List._∷_ 109 (List._∷_ 105 (List._∷_ 100 (List._∷_ 58 (List._∷_ 58 (List._∷_ 79 (List._∷_ 117 (List._∷_ 116 (List._∷_ 99 (List._∷_ 111 (List._∷_ 109 (List._∷_ 101 List.[])))))))))))))))) (Syntax.tcons (Syntax.tyStruct (List._∷_ 112 (List._∷_ 121 (List._∷_ 114 (List._∷_ 97 (List._∷_ 109 (List._∷_ 105 (List._∷_ 100 (List._∷_ 58 (List._∷_ 58 (List._∷_ 83 (List._∷_ 116 (List._∷_ 97 (List._∷_ 116 (List._∷_ 101 List.[])))))))))))))) (Syntax.tcons (Syntax.tyInt Syntax.w32) (Syntax.tcons (Syntax.tyInt Syntax.w32) (Syntax.tcons (Syntax.tyInt Syntax.w32) (Syntax.tcons (Syntax.tyInt Syntax.w32) (Syntax.tcons (Syntax.tyInt Syntax.w32) (Syntax.tcons (Syntax.tyArray (Syntax.tyInt Syntax.w32) 64) Syntax.tnil))))))) (Syntax.tcons (Syntax.tyEnum (List._∷_ 100 (List._∷_ 97 (List._∷_ 114 (List._∷_ 116 (List._∷_ 115 (List._∷_ 58 (List._∷_ 58 (List._∷_ 65 (List._∷_ 110 (List._∷_ 115 (List._∷_ 119 (List._∷_ 101 (List._∷_ 114 List.[]))))))))))))) (Syntax.ttcons (Syntax.tcons (Syntax.tyInt Syntax.w64) Syntax.tnil) (Syntax.ttcons Syntax.tnil (Syntax.ttcons (Syntax.tcons (Syntax.tyInt Syntax.w64) Syntax.tnil) (Syntax.ttcons (Syntax.tcons (Syntax.tyInt Syntax.w64) (Syntax.tcons (Syntax.tyInt Syntax.w64) Syntax.tnil)) (Syntax.ttcons Syntax.tnil (Syntax.ttcons Syntax.tnil (Syntax.ttcons Syntax.tnil (Syntax.ttcons (Syntax.tcons (Syntax.tyInt Syntax.w64) Syntax.tnil) (Syntax.ttcons (Syntax.tcons (Syntax.tyInt Syntax.w64) Syntax.tnil) (Syntax.ttcons (Syntax.tcons (Syntax.tyInt Syntax.w64) Syntax.tnil) (Syntax.ttcons (Syntax.tcons (Syntax.tyInt Syntax.w64) Syntax.tnil) (Syntax.ttcons (Syntax.tcons (Syntax.tyInt Syntax.w64) Syntax.tnil) (Syntax.ttcons (Syntax.tcons (Syntax.tyInt Syntax.w64) Syntax.tnil) (Syntax.ttcons (Syntax.tcons (Syntax.tyInt Syntax.w64) Syntax.tnil) (Syntax.ttcons Syntax.tnil (Syntax.ttcons Syntax.tnil (Syntax.ttcons (Syntax.tcons (Syntax.tyInt Syntax.w64) Syntax.tnil) Syntax.ttnil)))))))))))))))))) Syntax.tnil)))) (List._∷_ (11, Rows.sc-here (Row.sInt Syntax.w64)) (List._∷_ (12, Rows.sc-here (Row.sInt Syntax.w64)) (List._∷_ (13, Rows.any-gone (Syntax.tyRef Syntax.erased Syntax.imm (Syntax.tyInt Syntax.w32))) (List._∷_ (14, Rows.any-gone (Syntax.tyStruct (List._∷_ 38 (List._∷_ 91 (List._∷_ 93 List.[]))) (Syntax.tcons (Syntax.tyRef Syntax.erased Syntax.imm (Syntax.tyInt Syntax.w32)) (Syntax.tcons (Syntax.tyInt Syntax.w64) Syntax.tnil)))) (List._∷_ (15, Rows.any-gone (Syntax.tyRef Syntax.erased Syntax.mut (Syntax.tyInt Syntax.w32))) List.[])))))))))))))))
+t59 = List._∷_ (0, Rows.whole (Declared.row Held.the-type)) (List._∷_ (1, Rows.any-gone (Syntax.tyStruct (List._∷_ 122 (List._∷_ 111 (List._∷_ 110 (List._∷_ 101 (List._∷_ 115 (List._∷_ 58 (List._∷_ 58 (List._∷_ 104 (List._∷_ 101 (List._∷_ 108 (List._∷_ 100 (List._∷_ 58 (List._∷_ 58 (List._∷_ 72 (List._∷_ 101 (List._∷_ 108 (List._∷_ 100 List.[]))))))))))))))))) (Syntax.tcons (Syntax.tyStruct (List._∷_ 112 (List._∷_ 121 (List._∷_ 114 (List._∷_ 97 (List._∷_ 109 (List._∷_ 105 (List._∷_ 100 (List._∷_ 58 (List._∷_ 58 (List._∷_ 83 (List._∷_ 116 (List._∷_ 97 (List._∷_ 116 (List._∷_ 101 List.[])))))))))))))) (Syntax.tcons (Syntax.tyInt Syntax.w32) (Syntax.tcons (Syntax.tyInt Syntax.w32) (Syntax.tcons (Syntax.tyInt Syntax.w32) (Syntax.tcons (Syntax.tyInt Syntax.w32) (Syntax.tcons (Syntax.tyInt Syntax.w32) (Syntax.tcons (Syntax.tyArray (Syntax.tyInt Syntax.w32) 64) Syntax.tnil))))))) (Syntax.tcons (Syntax.tyInt Syntax.w64) (Syntax.tcons (Syntax.tyInt Syntax.w64) (Syntax.tcons (Syntax.tyInt Syntax.w64) (Syntax.tcons (Syntax.tyInt Syntax.w64) (Syntax.tcons (Syntax.tyInt Syntax.w64) (Syntax.tcons (Syntax.tyInt Syntax.w64) (Syntax.tcons Syntax.tyBool Syntax.tnil)))))))))) (List._∷_ (2, Rows.any-gone (Syntax.tyStruct (List._∷_ 115 (List._∷_ 99 (List._∷_ 114 (List._∷_ 105 (List._∷_ 112 (List._∷_ 116 (List._∷_ 58 (List._∷_ 58 (List._∷_ 115 (List._∷_ 99 (List._∷_ 97 (List._∷_ 110 (List._∷_ 58 (List._∷_ 58 (List._∷_ 76 (List._∷_ 105 (List._∷_ 110 (List._∷_ 101 List.[])))))))))))))))))) (Syntax.tcons (Syntax.tyInt Syntax.w32) (Syntax.tcons (Syntax.tyInt Syntax.w64) (Syntax.tcons (Syntax.tyInt Syntax.w64) (Syntax.tcons (Syntax.tyInt Syntax.w64) (Syntax.tcons (Syntax.tyInt Syntax.w64) Syntax.tnil))))))) (List._∷_ (3, Rows.sref (Array.Array (Referent.rtF (Referent.fInt Syntax.w32)) 32772) (Syntax.tyRef (Syntax.named 0) Syntax.imm (Syntax.tyArray (Syntax.tyInt Syntax.w32) 32772)) 0) (List._∷_ (4, Reshare.mref-owedS (Array.Array (Referent.rtF (Referent.fInt Syntax.w32)) 65540) (Syntax.tyRef (Syntax.named 1) Syntax.mut (Syntax.tyArray (Syntax.tyInt Syntax.w32) 65540)) 1 14 Row.off) (List._∷_ (5, Reshare.mref-owedS (Array.Array (Referent.rtF (Referent.fInt Syntax.w32)) 32772) (Syntax.tyRef (Syntax.named 2) Syntax.mut (Syntax.tyArray (Syntax.tyInt Syntax.w32) 32772)) 2 15 Row.off) (List._∷_ (6, Reshare.mref-owedS (Array.Array (Referent.rtF (Referent.fInt Syntax.w32)) 262160) (Syntax.tyRef (Syntax.named 3) Syntax.mut (Syntax.tyArray (Syntax.tyInt Syntax.w32) 262160)) 3 16 Row.off) (List._∷_ (7, Rows.sref (Array.Array (Referent.rtF (Referent.fInt Syntax.w8)) 600000) (Syntax.tyRef (Syntax.named 4) Syntax.imm (Syntax.tyArray (Syntax.tyInt Syntax.w8) 600000)) 4) (List._∷_ (8, Rows.mref (Array.Array Cell.R 65540) (Syntax.tyRef (Syntax.named 5) Syntax.mut (Syntax.tyArray Cell.behind 65540)) 5) (List._∷_ (9, Rows.mref (Array.Array Cell.R 32772) (Syntax.tyRef (Syntax.named 6) Syntax.mut (Syntax.tyArray Cell.behind 32772)) 6) (List._∷_ (10, Rows.any-gone (Syntax.tyStruct (List._∷_ 112 (List._∷_ 121 (List._∷_ 114 (List._∷_ 97 (List._∷_ 109 (List._∷_ 105 (List._∷_ 100 (List._∷_ 58 (List._∷_ 58 (List._∷_ 79 (List._∷_ 117 (List._∷_ 116 (List._∷_ 99 (List._∷_ 111 (List._∷_ 109 (List._∷_ 101 List.[])))))))))))))))) (Syntax.tcons (Syntax.tyStruct (List._∷_ 112 (List._∷_ 121 (List._∷_ 114 (List._∷_ 97 (List._∷_ 109 (List._∷_ 105 (List._∷_ 100 (List._∷_ 58 (List._∷_ 58 (List._∷_ 83 (List._∷_ 116 (List._∷_ 97 (List._∷_ 116 (List._∷_ 101 List.[])))))))))))))) (Syntax.tcons (Syntax.tyInt Syntax.w32) (Syntax.tcons (Syntax.tyInt Syntax.w32) (Syntax.tcons (Syntax.tyInt Syntax.w32) (Syntax.tcons (Syntax.tyInt Syntax.w32) (Syntax.tcons (Syntax.tyInt Syntax.w32) (Syntax.tcons (Syntax.tyArray (Syntax.tyInt Syntax.w32) 64) Syntax.tnil))))))) (Syntax.tcons (Syntax.tyEnum (List._∷_ 100 (List._∷_ 97 (List._∷_ 114 (List._∷_ 116 (List._∷_ 115 (List._∷_ 58 (List._∷_ 58 (List._∷_ 65 (List._∷_ 110 (List._∷_ 115 (List._∷_ 119 (List._∷_ 101 (List._∷_ 114 List.[]))))))))))))) (Syntax.ttcons (Syntax.tcons (Syntax.tyInt Syntax.w64) Syntax.tnil) (Syntax.ttcons Syntax.tnil (Syntax.ttcons (Syntax.tcons (Syntax.tyInt Syntax.w64) Syntax.tnil) (Syntax.ttcons (Syntax.tcons (Syntax.tyInt Syntax.w64) (Syntax.tcons (Syntax.tyInt Syntax.w64) Syntax.tnil)) (Syntax.ttcons Syntax.tnil (Syntax.ttcons Syntax.tnil (Syntax.ttcons Syntax.tnil (Syntax.ttcons (Syntax.tcons (Syntax.tyInt Syntax.w64) Syntax.tnil) (Syntax.ttcons (Syntax.tcons (Syntax.tyInt Syntax.w64) Syntax.tnil) (Syntax.ttcons (Syntax.tcons (Syntax.tyInt Syntax.w64) Syntax.tnil) (Syntax.ttcons (Syntax.tcons (Syntax.tyInt Syntax.w64) Syntax.tnil) (Syntax.ttcons (Syntax.tcons (Syntax.tyInt Syntax.w64) Syntax.tnil) (Syntax.ttcons (Syntax.tcons (Syntax.tyInt Syntax.w64) Syntax.tnil) (Syntax.ttcons (Syntax.tcons (Syntax.tyInt Syntax.w64) Syntax.tnil) (Syntax.ttcons Syntax.tnil (Syntax.ttcons Syntax.tnil (Syntax.ttcons (Syntax.tcons (Syntax.tyInt Syntax.w64) Syntax.tnil) Syntax.ttnil)))))))))))))))))) Syntax.tnil)))) (List._∷_ (11, Rows.sc-here (Row.sInt Syntax.w64)) (List._∷_ (12, Rows.sc-here (Row.sInt Syntax.w64)) (List._∷_ (13, Rows.any-gone (Syntax.tyRef Syntax.erased Syntax.imm (Syntax.tyInt Syntax.w32))) (List._∷_ (14, Rows.any-gone (Syntax.tyStruct (List._∷_ 38 (List._∷_ 91 (List._∷_ 93 List.[]))) (Syntax.tcons (Syntax.tyRef Syntax.erased Syntax.imm (Syntax.tyInt Syntax.w32)) (Syntax.tcons (Syntax.tyInt Syntax.w64) Syntax.tnil)))) (List._∷_ (15, Rows.any-gone (Syntax.tyRef Syntax.erased Syntax.mut (Syntax.tyInt Syntax.w32))) List.[])))))))))))))))
 
 abbrev pub t60 : List.List Row.Entry
-t60 = List._∷_ (0, Rows.whole (Declared.row Held.the-type)) (List._∷_ (1, Rows.any-gone (Syntax.tyStruct (List._∷_ 122 (List._∷_ 111 (List._∷_ 110 (List._∷_ 101 (List._∷_ 115 (List._∷_ 58 (List._∷_ 58 (List._∷_ 104 (List._∷_ 101 (List._∷_ 108 (List._∷_ 100 (List._∷_ 58 (List._∷_ 58 (List._∷_ 72 (List._∷_ 101 (List._∷_ 108 (List._∷_ 100 List.[]))))))))))))))))) (Syntax.tcons (Syntax.tyStruct (List._∷_ 112 (List._∷_ 121 (List._∷_ 114 (List._∷_ 97 (List._∷_ 109 (List._∷_ 105 (List._∷_ 100 (List._∷_ 58 (List._∷_ 58 (List._∷_ 83 (List._∷_ 116 (List._∷_ 97 (List._∷_ 116 (List._∷_ 101 List.[])))))))))))))) (Syntax.tcons (Syntax.tyInt Syntax.w32) (Syntax.tcons (Syntax.tyInt Syntax.w32) (Syntax.tcons (Syntax.tyInt Syntax.w32) (Syntax.tcons (Syntax.tyInt Syntax.w32) (Syntax.tcons (Syntax.tyInt Syntax.w32) (Syntax.tcons (Syntax.tyArray (Syntax.tyInt Syntax.w32) 64) Syntax.tnil))))))) (Syntax.tcons (Syntax.tyInt Syntax.w64) (Syntax.tcons (Syntax.tyInt Syntax.w64) (Syntax.tcons (Syntax.tyInt Syntax.w64) (Syntax.tcons (Syntax.tyInt Syntax.w64) (Syntax.tcons (Syntax.tyInt Syntax.w64) (Syntax.tcons (Syntax.tyInt Syntax.w64) (Syntax.tcons Syntax.tyBool Syntax.tnil)))))))))) (List._∷_ (2, Rows.any-gone (Syntax.tyStruct (List._∷_ 122 (List._∷_ 111 (List._∷_ 110 (List._∷_ 101 (List._∷_ 115 (List._∷_ 58 (List._∷_ 58 (List._∷_ 115 (List._∷_ 99 (List._∷_ 97 (List._∷_ 110 (List._∷_ 58 (List._∷_ 58 (List._∷_ 76 (List._∷_ 105 (List._∷_ 110 (List._∷_ 101 List.[]))))))))))))))))) (Syntax.tcons (Syntax.tyInt Syntax.w32) (Syntax.tcons (Syntax.tyInt Syntax.w64) (Syntax.tcons (Syntax.tyInt Syntax.w64) (Syntax.tcons (Syntax.tyInt Syntax.w64) (Syntax.tcons (Syntax.tyInt Syntax.w64) Syntax.tnil))))))) (List._∷_ (3, Rows.sref (Array.Array (Referent.rtF (Referent.fInt Syntax.w32)) 32772) (Syntax.tyRef (Syntax.named 0) Syntax.imm (Syntax.tyArray (Syntax.tyInt Syntax.w32) 32772)) 0) (List._∷_ (4, Reshare.mref-owedS (Array.Array (Referent.rtF (Referent.fInt Syntax.w32)) 65540) (Syntax.tyRef (Syntax.named 1) Syntax.mut (Syntax.tyArray (Syntax.tyInt Syntax.w32) 65540)) 1 14 Row.off) (List._∷_ (5, Reshare.mref-owedS (Array.Array (Referent.rtF (Referent.fInt Syntax.w32)) 32772) (Syntax.tyRef (Syntax.named 2) Syntax.mut (Syntax.tyArray (Syntax.tyInt Syntax.w32) 32772)) 2 15 Row.off) (List._∷_ (6, Reshare.mref-owedS (Array.Array (Referent.rtF (Referent.fInt Syntax.w32)) 262160) (Syntax.tyRef (Syntax.named 3) Syntax.mut (Syntax.tyArray (Syntax.tyInt Syntax.w32) 262160)) 3 16 Row.off) (List._∷_ (7, Rows.sref (Array.Array (Referent.rtF (Referent.fInt Syntax.w8)) 600000) (Syntax.tyRef (Syntax.named 4) Syntax.imm (Syntax.tyArray (Syntax.tyInt Syntax.w8) 600000)) 4) (List._∷_ (8, Rows.mref (Array.Array Cell.R 65540) (Syntax.tyRef (Syntax.named 5) Syntax.mut (Syntax.tyArray Cell.behind 65540)) 5) (List._∷_ (9, Rows.mref (Array.Array Cell.R 32772) (Syntax.tyRef (Syntax.named 6) Syntax.mut (Syntax.tyArray Cell.behind 32772)) 6) (List._∷_ (10, Rows.any-gone (Syntax.tyStruct (List._∷_ 112 (List._∷_ 121 (List._∷_ 114 (List._∷_ 97 (List._∷_ 109 (List._∷_ 105 (List._∷_ 100 (List._∷_ 58 (List._∷_ 58 (List._∷_ 79 (List._∷_ 117 (List._∷_ 116 (List._∷_ 99 (List._∷_ 111 (List._∷_ 109 (List._∷_ 101 List.[])))))))))))))))) (Syntax.tcons (Syntax.tyStruct (List._∷_ 112 (List._∷_ 121 (List._∷_ 114 (List._∷_ 97 (List._∷_ 109 (List._∷_ 105 (List._∷_ 100 (List._∷_ 58 (List._∷_ 58 (List._∷_ 83 (List._∷_ 116 (List._∷_ 97 (List._∷_ 116 (List._∷_ 101 List.[])))))))))))))) (Syntax.tcons (Syntax.tyInt Syntax.w32) (Syntax.tcons (Syntax.tyInt Syntax.w32) (Syntax.tcons (Syntax.tyInt Syntax.w32) (Syntax.tcons (Syntax.tyInt Syntax.w32) (Syntax.tcons (Syntax.tyInt Syntax.w32) (Syntax.tcons (Syntax.tyArray (Syntax.tyInt Syntax.w32) 64) Syntax.tnil))))))) (Syntax.tcons (Syntax.tyEnum (List._∷_ 100 (List._∷_ 97 (List._∷_ 114 (List._∷_ 116 (List._∷_ 115 (List._∷_ 58 (List._∷_ 58 (List._∷_ 65 (List._∷_ 110 (List._∷_ 115 (List._∷_ 119 (List._∷_ 101 (List._∷_ 114 List.[]))))))))))))) (Syntax.ttcons (Syntax.tcons (Syntax.tyInt Syntax.w64) Syntax.tnil) (Syntax.ttcons Syntax.tnil (Syntax.ttcons (Syntax.tcons (Syntax.tyInt Syntax.w64) Syntax.tnil) (Syntax.ttcons (Syntax.tcons (Syntax.tyInt Syntax.w64) (Syntax.tcons (Syntax.tyInt Syntax.w64) Syntax.tnil)) (Syntax.ttcons Syntax.tnil (Syntax.ttcons Syntax.tnil (Syntax.ttcons Syntax.tnil (Syntax.ttcons (Syntax.tcons (Syntax.tyInt Syntax.w64) Syntax.tnil) (Syntax.ttcons (Syntax.tcons (Syntax.tyInt Syntax.w64) Syntax.tnil) (Syntax.ttcons (Syntax.tcons (Syntax.tyInt Syntax.w64) Syntax.tnil) (Syntax.ttcons (Syntax.tcons (Syntax.tyInt Syntax.w64) Syntax.tnil) (Syntax.ttcons (Syntax.tcons (Syntax.tyInt Syntax.w64) Syntax.tnil) (Syntax.ttcons (Syntax.tcons (Syntax.tyInt Syntax.w64) Syntax.tnil) (Syntax.ttcons (Syntax.tcons (Syntax.tyInt Syntax.w64) Syntax.tnil) (Syntax.ttcons Syntax.tnil (Syntax.ttcons Syntax.tnil (Syntax.ttcons (Syntax.tcons (Syntax.tyInt Syntax.w64) Syntax.tnil) Syntax.ttnil)))))))))))))))))) Syntax.tnil)))) (List._∷_ (11, Rows.any-gone (Syntax.tyInt Syntax.w64)) (List._∷_ (12, Rows.sc-here (Row.sInt Syntax.w64)) (List._∷_ (13, Rows.any-gone (Syntax.tyRef Syntax.erased Syntax.imm (Syntax.tyInt Syntax.w32))) (List._∷_ (14, Rows.any-gone (Syntax.tyStruct (List._∷_ 38 (List._∷_ 91 (List._∷_ 93 List.[]))) (Syntax.tcons (Syntax.tyRef Syntax.erased Syntax.imm (Syntax.tyInt Syntax.w32)) (Syntax.tcons (Syntax.tyInt Syntax.w64) Syntax.tnil)))) (List._∷_ (15, Rows.any-gone (Syntax.tyRef Syntax.erased Syntax.mut (Syntax.tyInt Syntax.w32))) List.[])))))))))))))))
+t60 = List._∷_ (0, Rows.whole (Declared.row Held.the-type)) (List._∷_ (1, Rows.any-gone (Syntax.tyStruct (List._∷_ 122 (List._∷_ 111 (List._∷_ 110 (List._∷_ 101 (List._∷_ 115 (List._∷_ 58 (List._∷_ 58 (List._∷_ 104 (List._∷_ 101 (List._∷_ 108 (List._∷_ 100 (List._∷_ 58 (List._∷_ 58 (List._∷_ 72 (List._∷_ 101 (List._∷_ 108 (List._∷_ 100 List.[]))))))))))))))))) (Syntax.tcons (Syntax.tyStruct (List._∷_ 112 (List._∷_ 121 (List._∷_ 114 (List._∷_ 97 (List._∷_ 109 (List._∷_ 105 (List._∷_ 100 (List._∷_ 58 (List._∷_ 58 (List._∷_ 83 (List._∷_ 116 (List._∷_ 97 (List._∷_ 116 (List._∷_ 101 List.[])))))))))))))) (Syntax.tcons (Syntax.tyInt Syntax.w32) (Syntax.tcons (Syntax.tyInt Syntax.w32) (Syntax.tcons (Syntax.tyInt Syntax.w32) (Syntax.tcons (Syntax.tyInt Syntax.w32) (Syntax.tcons (Syntax.tyInt Syntax.w32) (Syntax.tcons (Syntax.tyArray (Syntax.tyInt Syntax.w32) 64) Syntax.tnil))))))) (Syntax.tcons (Syntax.tyInt Syntax.w64) (Syntax.tcons (Syntax.tyInt Syntax.w64) (Syntax.tcons (Syntax.tyInt Syntax.w64) (Syntax.tcons (Syntax.tyInt Syntax.w64) (Syntax.tcons (Syntax.tyInt Syntax.w64) (Syntax.tcons (Syntax.tyInt Syntax.w64) (Syntax.tcons Syntax.tyBool Syntax.tnil)))))))))) (List._∷_ (2, Rows.any-gone (Syntax.tyStruct (List._∷_ 115 (List._∷_ 99 (List._∷_ 114 (List._∷_ 105 (List._∷_ 112 (List._∷_ 116 (List._∷_ 58 (List._∷_ 58 (List._∷_ 115 (List._∷_ 99 (List._∷_ 97 (List._∷_ 110 (List._∷_ 58 (List._∷_ 58 (List._∷_ 76 (List._∷_ 105 (List._∷_ 110 (List._∷_ 101 List.[])))))))))))))))))) (Syntax.tcons (Syntax.tyInt Syntax.w32) (Syntax.tcons (Syntax.tyInt Syntax.w64) (Syntax.tcons (Syntax.tyInt Syntax.w64) (Syntax.tcons (Syntax.tyInt Syntax.w64) (Syntax.tcons (Syntax.tyInt Syntax.w64) Syntax.tnil))))))) (List._∷_ (3, Rows.sref (Array.Array (Referent.rtF (Referent.fInt Syntax.w32)) 32772) (Syntax.tyRef (Syntax.named 0) Syntax.imm (Syntax.tyArray (Syntax.tyInt Syntax.w32) 32772)) 0) (List._∷_ (4, Reshare.mref-owedS (Array.Array (Referent.rtF (Referent.fInt Syntax.w32)) 65540) (Syntax.tyRef (Syntax.named 1) Syntax.mut (Syntax.tyArray (Syntax.tyInt Syntax.w32) 65540)) 1 14 Row.off) (List._∷_ (5, Reshare.mref-owedS (Array.Array (Referent.rtF (Referent.fInt Syntax.w32)) 32772) (Syntax.tyRef (Syntax.named 2) Syntax.mut (Syntax.tyArray (Syntax.tyInt Syntax.w32) 32772)) 2 15 Row.off) (List._∷_ (6, Reshare.mref-owedS (Array.Array (Referent.rtF (Referent.fInt Syntax.w32)) 262160) (Syntax.tyRef (Syntax.named 3) Syntax.mut (Syntax.tyArray (Syntax.tyInt Syntax.w32) 262160)) 3 16 Row.off) (List._∷_ (7, Rows.sref (Array.Array (Referent.rtF (Referent.fInt Syntax.w8)) 600000) (Syntax.tyRef (Syntax.named 4) Syntax.imm (Syntax.tyArray (Syntax.tyInt Syntax.w8) 600000)) 4) (List._∷_ (8, Rows.mref (Array.Array Cell.R 65540) (Syntax.tyRef (Syntax.named 5) Syntax.mut (Syntax.tyArray Cell.behind 65540)) 5) (List._∷_ (9, Rows.mref (Array.Array Cell.R 32772) (Syntax.tyRef (Syntax.named 6) Syntax.mut (Syntax.tyArray Cell.behind 32772)) 6) (List._∷_ (10, Rows.any-gone (Syntax.tyStruct (List._∷_ 112 (List._∷_ 121 (List._∷_ 114 (List._∷_ 97 (List._∷_ 109 (List._∷_ 105 (List._∷_ 100 (List._∷_ 58 (List._∷_ 58 (List._∷_ 79 (List._∷_ 117 (List._∷_ 116 (List._∷_ 99 (List._∷_ 111 (List._∷_ 109 (List._∷_ 101 List.[])))))))))))))))) (Syntax.tcons (Syntax.tyStruct (List._∷_ 112 (List._∷_ 121 (List._∷_ 114 (List._∷_ 97 (List._∷_ 109 (List._∷_ 105 (List._∷_ 100 (List._∷_ 58 (List._∷_ 58 (List._∷_ 83 (List._∷_ 116 (List._∷_ 97 (List._∷_ 116 (List._∷_ 101 List.[])))))))))))))) (Syntax.tcons (Syntax.tyInt Syntax.w32) (Syntax.tcons (Syntax.tyInt Syntax.w32) (Syntax.tcons (Syntax.tyInt Syntax.w32) (Syntax.tcons (Syntax.tyInt Syntax.w32) (Syntax.tcons (Syntax.tyInt Syntax.w32) (Syntax.tcons (Syntax.tyArray (Syntax.tyInt Syntax.w32) 64) Syntax.tnil))))))) (Syntax.tcons (Syntax.tyEnum (List._∷_ 100 (List._∷_ 97 (List._∷_ 114 (List._∷_ 116 (List._∷_ 115 (List._∷_ 58 (List._∷_ 58 (List._∷_ 65 (List._∷_ 110 (List._∷_ 115 (List._∷_ 119 (List._∷_ 101 (List._∷_ 114 List.[]))))))))))))) (Syntax.ttcons (Syntax.tcons (Syntax.tyInt Syntax.w64) Syntax.tnil) (Syntax.ttcons Syntax.tnil (Syntax.ttcons (Syntax.tcons (Syntax.tyInt Syntax.w64) Syntax.tnil) (Syntax.ttcons (Syntax.tcons (Syntax.tyInt Syntax.w64) (Syntax.tcons (Syntax.tyInt Syntax.w64) Syntax.tnil)) (Syntax.ttcons Syntax.tnil (Syntax.ttcons Syntax.tnil (Syntax.ttcons Syntax.tnil (Syntax.ttcons (Syntax.tcons (Syntax.tyInt Syntax.w64) Syntax.tnil) (Syntax.ttcons (Syntax.tcons (Syntax.tyInt Syntax.w64) Syntax.tnil) (Syntax.ttcons (Syntax.tcons (Syntax.tyInt Syntax.w64) Syntax.tnil) (Syntax.ttcons (Syntax.tcons (Syntax.tyInt Syntax.w64) Syntax.tnil) (Syntax.ttcons (Syntax.tcons (Syntax.tyInt Syntax.w64) Syntax.tnil) (Syntax.ttcons (Syntax.tcons (Syntax.tyInt Syntax.w64) Syntax.tnil) (Syntax.ttcons (Syntax.tcons (Syntax.tyInt Syntax.w64) Syntax.tnil) (Syntax.ttcons Syntax.tnil (Syntax.ttcons Syntax.tnil (Syntax.ttcons (Syntax.tcons (Syntax.tyInt Syntax.w64) Syntax.tnil) Syntax.ttnil)))))))))))))))))) Syntax.tnil)))) (List._∷_ (11, Rows.any-gone (Syntax.tyInt Syntax.w64)) (List._∷_ (12, Rows.sc-here (Row.sInt Syntax.w64)) (List._∷_ (13, Rows.any-gone (Syntax.tyRef Syntax.erased Syntax.imm (Syntax.tyInt Syntax.w32))) (List._∷_ (14, Rows.any-gone (Syntax.tyStruct (List._∷_ 38 (List._∷_ 91 (List._∷_ 93 List.[]))) (Syntax.tcons (Syntax.tyRef Syntax.erased Syntax.imm (Syntax.tyInt Syntax.w32)) (Syntax.tcons (Syntax.tyInt Syntax.w64) Syntax.tnil)))) (List._∷_ (15, Rows.any-gone (Syntax.tyRef Syntax.erased Syntax.mut (Syntax.tyInt Syntax.w32))) List.[])))))))))))))))
 
 abbrev pub t61 : List.List Row.Entry
-t61 = List._∷_ (0, Rows.whole (Declared.row Held.the-type)) (List._∷_ (1, Rows.any-gone (Syntax.tyStruct (List._∷_ 122 (List._∷_ 111 (List._∷_ 110 (List._∷_ 101 (List._∷_ 115 (List._∷_ 58 (List._∷_ 58 (List._∷_ 104 (List._∷_ 101 (List._∷_ 108 (List._∷_ 100 (List._∷_ 58 (List._∷_ 58 (List._∷_ 72 (List._∷_ 101 (List._∷_ 108 (List._∷_ 100 List.[]))))))))))))))))) (Syntax.tcons (Syntax.tyStruct (List._∷_ 112 (List._∷_ 121 (List._∷_ 114 (List._∷_ 97 (List._∷_ 109 (List._∷_ 105 (List._∷_ 100 (List._∷_ 58 (List._∷_ 58 (List._∷_ 83 (List._∷_ 116 (List._∷_ 97 (List._∷_ 116 (List._∷_ 101 List.[])))))))))))))) (Syntax.tcons (Syntax.tyInt Syntax.w32) (Syntax.tcons (Syntax.tyInt Syntax.w32) (Syntax.tcons (Syntax.tyInt Syntax.w32) (Syntax.tcons (Syntax.tyInt Syntax.w32) (Syntax.tcons (Syntax.tyInt Syntax.w32) (Syntax.tcons (Syntax.tyArray (Syntax.tyInt Syntax.w32) 64) Syntax.tnil))))))) (Syntax.tcons (Syntax.tyInt Syntax.w64) (Syntax.tcons (Syntax.tyInt Syntax.w64) (Syntax.tcons (Syntax.tyInt Syntax.w64) (Syntax.tcons (Syntax.tyInt Syntax.w64) (Syntax.tcons (Syntax.tyInt Syntax.w64) (Syntax.tcons (Syntax.tyInt Syntax.w64) (Syntax.tcons Syntax.tyBool Syntax.tnil)))))))))) (List._∷_ (2, Rows.any-gone (Syntax.tyStruct (List._∷_ 122 (List._∷_ 111 (List._∷_ 110 (List._∷_ 101 (List._∷_ 115 (List._∷_ 58 (List._∷_ 58 (List._∷_ 115 (List._∷_ 99 (List._∷_ 97 (List._∷_ 110 (List._∷_ 58 (List._∷_ 58 (List._∷_ 76 (List._∷_ 105 (List._∷_ 110 (List._∷_ 101 List.[]))))))))))))))))) (Syntax.tcons (Syntax.tyInt Syntax.w32) (Syntax.tcons (Syntax.tyInt Syntax.w64) (Syntax.tcons (Syntax.tyInt Syntax.w64) (Syntax.tcons (Syntax.tyInt Syntax.w64) (Syntax.tcons (Syntax.tyInt Syntax.w64) Syntax.tnil))))))) (List._∷_ (3, Rows.sref (Array.Array (Referent.rtF (Referent.fInt Syntax.w32)) 32772) (Syntax.tyRef (Syntax.named 0) Syntax.imm (Syntax.tyArray (Syntax.tyInt Syntax.w32) 32772)) 0) (List._∷_ (4, Reshare.mref-owedS (Array.Array (Referent.rtF (Referent.fInt Syntax.w32)) 65540) (Syntax.tyRef (Syntax.named 1) Syntax.mut (Syntax.tyArray (Syntax.tyInt Syntax.w32) 65540)) 1 14 Row.off) (List._∷_ (5, Reshare.mref-owedS (Array.Array (Referent.rtF (Referent.fInt Syntax.w32)) 32772) (Syntax.tyRef (Syntax.named 2) Syntax.mut (Syntax.tyArray (Syntax.tyInt Syntax.w32) 32772)) 2 15 Row.off) (List._∷_ (6, Reshare.mref-owedS (Array.Array (Referent.rtF (Referent.fInt Syntax.w32)) 262160) (Syntax.tyRef (Syntax.named 3) Syntax.mut (Syntax.tyArray (Syntax.tyInt Syntax.w32) 262160)) 3 16 Row.off) (List._∷_ (7, Rows.sref (Array.Array (Referent.rtF (Referent.fInt Syntax.w8)) 600000) (Syntax.tyRef (Syntax.named 4) Syntax.imm (Syntax.tyArray (Syntax.tyInt Syntax.w8) 600000)) 4) (List._∷_ (8, Rows.mref (Array.Array Cell.R 65540) (Syntax.tyRef (Syntax.named 5) Syntax.mut (Syntax.tyArray Cell.behind 65540)) 5) (List._∷_ (9, Rows.mref (Array.Array Cell.R 32772) (Syntax.tyRef (Syntax.named 6) Syntax.mut (Syntax.tyArray Cell.behind 32772)) 6) (List._∷_ (10, Rows.any-gone (Syntax.tyStruct (List._∷_ 112 (List._∷_ 121 (List._∷_ 114 (List._∷_ 97 (List._∷_ 109 (List._∷_ 105 (List._∷_ 100 (List._∷_ 58 (List._∷_ 58 (List._∷_ 79 (List._∷_ 117 (List._∷_ 116 (List._∷_ 99 (List._∷_ 111 (List._∷_ 109 (List._∷_ 101 List.[])))))))))))))))) (Syntax.tcons (Syntax.tyStruct (List._∷_ 112 (List._∷_ 121 (List._∷_ 114 (List._∷_ 97 (List._∷_ 109 (List._∷_ 105 (List._∷_ 100 (List._∷_ 58 (List._∷_ 58 (List._∷_ 83 (List._∷_ 116 (List._∷_ 97 (List._∷_ 116 (List._∷_ 101 List.[])))))))))))))) (Syntax.tcons (Syntax.tyInt Syntax.w32) (Syntax.tcons (Syntax.tyInt Syntax.w32) (Syntax.tcons (Syntax.tyInt Syntax.w32) (Syntax.tcons (Syntax.tyInt Syntax.w32) (Syntax.tcons (Syntax.tyInt Syntax.w32) (Syntax.tcons (Syntax.tyArray (Syntax.tyInt Syntax.w32) 64) Syntax.tnil))))))) (Syntax.tcons (Syntax.tyEnum (List._∷_ 100 (List._∷_ 97 (List._∷_ 114 (List._∷_ 116 (List._∷_ 115 (List._∷_ 58 (List._∷_ 58 (List._∷_ 65 (List._∷_ 110 (List._∷_ 115 (List._∷_ 119 (List._∷_ 101 (List._∷_ 114 List.[]))))))))))))) (Syntax.ttcons (Syntax.tcons (Syntax.tyInt Syntax.w64) Syntax.tnil) (Syntax.ttcons Syntax.tnil (Syntax.ttcons (Syntax.tcons (Syntax.tyInt Syntax.w64) Syntax.tnil) (Syntax.ttcons (Syntax.tcons (Syntax.tyInt Syntax.w64) (Syntax.tcons (Syntax.tyInt Syntax.w64) Syntax.tnil)) (Syntax.ttcons Syntax.tnil (Syntax.ttcons Syntax.tnil (Syntax.ttcons Syntax.tnil (Syntax.ttcons (Syntax.tcons (Syntax.tyInt Syntax.w64) Syntax.tnil) (Syntax.ttcons (Syntax.tcons (Syntax.tyInt Syntax.w64) Syntax.tnil) (Syntax.ttcons (Syntax.tcons (Syntax.tyInt Syntax.w64) Syntax.tnil) (Syntax.ttcons (Syntax.tcons (Syntax.tyInt Syntax.w64) Syntax.tnil) (Syntax.ttcons (Syntax.tcons (Syntax.tyInt Syntax.w64) Syntax.tnil) (Syntax.ttcons (Syntax.tcons (Syntax.tyInt Syntax.w64) Syntax.tnil) (Syntax.ttcons (Syntax.tcons (Syntax.tyInt Syntax.w64) Syntax.tnil) (Syntax.ttcons Syntax.tnil (Syntax.ttcons Syntax.tnil (Syntax.ttcons (Syntax.tcons (Syntax.tyInt Syntax.w64) Syntax.tnil) Syntax.ttnil)))))))))))))))))) Syntax.tnil)))) (List._∷_ (11, Rows.any-gone (Syntax.tyInt Syntax.w64)) (List._∷_ (12, Rows.any-gone (Syntax.tyInt Syntax.w64)) (List._∷_ (13, Rows.any-gone (Syntax.tyRef Syntax.erased Syntax.imm (Syntax.tyInt Syntax.w32))) (List._∷_ (14, Rows.any-gone (Syntax.tyStruct (List._∷_ 38 (List._∷_ 91 (List._∷_ 93 List.[]))) (Syntax.tcons (Syntax.tyRef Syntax.erased Syntax.imm (Syntax.tyInt Syntax.w32)) (Syntax.tcons (Syntax.tyInt Syntax.w64) Syntax.tnil)))) (List._∷_ (15, Rows.any-gone (Syntax.tyRef Syntax.erased Syntax.mut (Syntax.tyInt Syntax.w32))) List.[])))))))))))))))
+t61 = List._∷_ (0, Rows.whole (Declared.row Held.the-type)) (List._∷_ (1, Rows.any-gone (Syntax.tyStruct (List._∷_ 122 (List._∷_ 111 (List._∷_ 110 (List._∷_ 101 (List._∷_ 115 (List._∷_ 58 (List._∷_ 58 (List._∷_ 104 (List._∷_ 101 (List._∷_ 108 (List._∷_ 100 (List._∷_ 58 (List._∷_ 58 (List._∷_ 72 (List._∷_ 101 (List._∷_ 108 (List._∷_ 100 List.[]))))))))))))))))) (Syntax.tcons (Syntax.tyStruct (List._∷_ 112 (List._∷_ 121 (List._∷_ 114 (List._∷_ 97 (List._∷_ 109 (List._∷_ 105 (List._∷_ 100 (List._∷_ 58 (List._∷_ 58 (List._∷_ 83 (List._∷_ 116 (List._∷_ 97 (List._∷_ 116 (List._∷_ 101 List.[])))))))))))))) (Syntax.tcons (Syntax.tyInt Syntax.w32) (Syntax.tcons (Syntax.tyInt Syntax.w32) (Syntax.tcons (Syntax.tyInt Syntax.w32) (Syntax.tcons (Syntax.tyInt Syntax.w32) (Syntax.tcons (Syntax.tyInt Syntax.w32) (Syntax.tcons (Syntax.tyArray (Syntax.tyInt Syntax.w32) 64) Syntax.tnil))))))) (Syntax.tcons (Syntax.tyInt Syntax.w64) (Syntax.tcons (Syntax.tyInt Syntax.w64) (Syntax.tcons (Syntax.tyInt Syntax.w64) (Syntax.tcons (Syntax.tyInt Syntax.w64) (Syntax.tcons (Syntax.tyInt Syntax.w64) (Syntax.tcons (Syntax.tyInt Syntax.w64) (Syntax.tcons Syntax.tyBool Syntax.tnil)))))))))) (List._∷_ (2, Rows.any-gone (Syntax.tyStruct (List._∷_ 115 (List._∷_ 99 (List._∷_ 114 (List._∷_ 105 (List._∷_ 112 (List._∷_ 116 (List._∷_ 58 (List._∷_ 58 (List._∷_ 115 (List._∷_ 99 (List._∷_ 97 (List._∷_ 110 (List._∷_ 58 (List._∷_ 58 (List._∷_ 76 (List._∷_ 105 (List._∷_ 110 (List._∷_ 101 List.[])))))))))))))))))) (Syntax.tcons (Syntax.tyInt Syntax.w32) (Syntax.tcons (Syntax.tyInt Syntax.w64) (Syntax.tcons (Syntax.tyInt Syntax.w64) (Syntax.tcons (Syntax.tyInt Syntax.w64) (Syntax.tcons (Syntax.tyInt Syntax.w64) Syntax.tnil))))))) (List._∷_ (3, Rows.sref (Array.Array (Referent.rtF (Referent.fInt Syntax.w32)) 32772) (Syntax.tyRef (Syntax.named 0) Syntax.imm (Syntax.tyArray (Syntax.tyInt Syntax.w32) 32772)) 0) (List._∷_ (4, Reshare.mref-owedS (Array.Array (Referent.rtF (Referent.fInt Syntax.w32)) 65540) (Syntax.tyRef (Syntax.named 1) Syntax.mut (Syntax.tyArray (Syntax.tyInt Syntax.w32) 65540)) 1 14 Row.off) (List._∷_ (5, Reshare.mref-owedS (Array.Array (Referent.rtF (Referent.fInt Syntax.w32)) 32772) (Syntax.tyRef (Syntax.named 2) Syntax.mut (Syntax.tyArray (Syntax.tyInt Syntax.w32) 32772)) 2 15 Row.off) (List._∷_ (6, Reshare.mref-owedS (Array.Array (Referent.rtF (Referent.fInt Syntax.w32)) 262160) (Syntax.tyRef (Syntax.named 3) Syntax.mut (Syntax.tyArray (Syntax.tyInt Syntax.w32) 262160)) 3 16 Row.off) (List._∷_ (7, Rows.sref (Array.Array (Referent.rtF (Referent.fInt Syntax.w8)) 600000) (Syntax.tyRef (Syntax.named 4) Syntax.imm (Syntax.tyArray (Syntax.tyInt Syntax.w8) 600000)) 4) (List._∷_ (8, Rows.mref (Array.Array Cell.R 65540) (Syntax.tyRef (Syntax.named 5) Syntax.mut (Syntax.tyArray Cell.behind 65540)) 5) (List._∷_ (9, Rows.mref (Array.Array Cell.R 32772) (Syntax.tyRef (Syntax.named 6) Syntax.mut (Syntax.tyArray Cell.behind 32772)) 6) (List._∷_ (10, Rows.any-gone (Syntax.tyStruct (List._∷_ 112 (List._∷_ 121 (List._∷_ 114 (List._∷_ 97 (List._∷_ 109 (List._∷_ 105 (List._∷_ 100 (List._∷_ 58 (List._∷_ 58 (List._∷_ 79 (List._∷_ 117 (List._∷_ 116 (List._∷_ 99 (List._∷_ 111 (List._∷_ 109 (List._∷_ 101 List.[])))))))))))))))) (Syntax.tcons (Syntax.tyStruct (List._∷_ 112 (List._∷_ 121 (List._∷_ 114 (List._∷_ 97 (List._∷_ 109 (List._∷_ 105 (List._∷_ 100 (List._∷_ 58 (List._∷_ 58 (List._∷_ 83 (List._∷_ 116 (List._∷_ 97 (List._∷_ 116 (List._∷_ 101 List.[])))))))))))))) (Syntax.tcons (Syntax.tyInt Syntax.w32) (Syntax.tcons (Syntax.tyInt Syntax.w32) (Syntax.tcons (Syntax.tyInt Syntax.w32) (Syntax.tcons (Syntax.tyInt Syntax.w32) (Syntax.tcons (Syntax.tyInt Syntax.w32) (Syntax.tcons (Syntax.tyArray (Syntax.tyInt Syntax.w32) 64) Syntax.tnil))))))) (Syntax.tcons (Syntax.tyEnum (List._∷_ 100 (List._∷_ 97 (List._∷_ 114 (List._∷_ 116 (List._∷_ 115 (List._∷_ 58 (List._∷_ 58 (List._∷_ 65 (List._∷_ 110 (List._∷_ 115 (List._∷_ 119 (List._∷_ 101 (List._∷_ 114 List.[]))))))))))))) (Syntax.ttcons (Syntax.tcons (Syntax.tyInt Syntax.w64) Syntax.tnil) (Syntax.ttcons Syntax.tnil (Syntax.ttcons (Syntax.tcons (Syntax.tyInt Syntax.w64) Syntax.tnil) (Syntax.ttcons (Syntax.tcons (Syntax.tyInt Syntax.w64) (Syntax.tcons (Syntax.tyInt Syntax.w64) Syntax.tnil)) (Syntax.ttcons Syntax.tnil (Syntax.ttcons Syntax.tnil (Syntax.ttcons Syntax.tnil (Syntax.ttcons (Syntax.tcons (Syntax.tyInt Syntax.w64) Syntax.tnil) (Syntax.ttcons (Syntax.tcons (Syntax.tyInt Syntax.w64) Syntax.tnil) (Syntax.ttcons (Syntax.tcons (Syntax.tyInt Syntax.w64) Syntax.tnil) (Syntax.ttcons (Syntax.tcons (Syntax.tyInt Syntax.w64) Syntax.tnil) (Syntax.ttcons (Syntax.tcons (Syntax.tyInt Syntax.w64) Syntax.tnil) (Syntax.ttcons (Syntax.tcons (Syntax.tyInt Syntax.w64) Syntax.tnil) (Syntax.ttcons (Syntax.tcons (Syntax.tyInt Syntax.w64) Syntax.tnil) (Syntax.ttcons Syntax.tnil (Syntax.ttcons Syntax.tnil (Syntax.ttcons (Syntax.tcons (Syntax.tyInt Syntax.w64) Syntax.tnil) Syntax.ttnil)))))))))))))))))) Syntax.tnil)))) (List._∷_ (11, Rows.any-gone (Syntax.tyInt Syntax.w64)) (List._∷_ (12, Rows.any-gone (Syntax.tyInt Syntax.w64)) (List._∷_ (13, Rows.any-gone (Syntax.tyRef Syntax.erased Syntax.imm (Syntax.tyInt Syntax.w32))) (List._∷_ (14, Rows.any-gone (Syntax.tyStruct (List._∷_ 38 (List._∷_ 91 (List._∷_ 93 List.[]))) (Syntax.tcons (Syntax.tyRef Syntax.erased Syntax.imm (Syntax.tyInt Syntax.w32)) (Syntax.tcons (Syntax.tyInt Syntax.w64) Syntax.tnil)))) (List._∷_ (15, Rows.any-gone (Syntax.tyRef Syntax.erased Syntax.mut (Syntax.tyInt Syntax.w32))) List.[])))))))))))))))
 
 abbrev pub t62 : List.List Row.Entry
-t62 = List._∷_ (0, Rows.whole (Declared.row Held.the-type)) (List._∷_ (1, Rows.any-gone (Syntax.tyStruct (List._∷_ 122 (List._∷_ 111 (List._∷_ 110 (List._∷_ 101 (List._∷_ 115 (List._∷_ 58 (List._∷_ 58 (List._∷_ 104 (List._∷_ 101 (List._∷_ 108 (List._∷_ 100 (List._∷_ 58 (List._∷_ 58 (List._∷_ 72 (List._∷_ 101 (List._∷_ 108 (List._∷_ 100 List.[]))))))))))))))))) (Syntax.tcons (Syntax.tyStruct (List._∷_ 112 (List._∷_ 121 (List._∷_ 114 (List._∷_ 97 (List._∷_ 109 (List._∷_ 105 (List._∷_ 100 (List._∷_ 58 (List._∷_ 58 (List._∷_ 83 (List._∷_ 116 (List._∷_ 97 (List._∷_ 116 (List._∷_ 101 List.[])))))))))))))) (Syntax.tcons (Syntax.tyInt Syntax.w32) (Syntax.tcons (Syntax.tyInt Syntax.w32) (Syntax.tcons (Syntax.tyInt Syntax.w32) (Syntax.tcons (Syntax.tyInt Syntax.w32) (Syntax.tcons (Syntax.tyInt Syntax.w32) (Syntax.tcons (Syntax.tyArray (Syntax.tyInt Syntax.w32) 64) Syntax.tnil))))))) (Syntax.tcons (Syntax.tyInt Syntax.w64) (Syntax.tcons (Syntax.tyInt Syntax.w64) (Syntax.tcons (Syntax.tyInt Syntax.w64) (Syntax.tcons (Syntax.tyInt Syntax.w64) (Syntax.tcons (Syntax.tyInt Syntax.w64) (Syntax.tcons (Syntax.tyInt Syntax.w64) (Syntax.tcons Syntax.tyBool Syntax.tnil)))))))))) (List._∷_ (2, Rows.any-gone (Syntax.tyStruct (List._∷_ 122 (List._∷_ 111 (List._∷_ 110 (List._∷_ 101 (List._∷_ 115 (List._∷_ 58 (List._∷_ 58 (List._∷_ 115 (List._∷_ 99 (List._∷_ 97 (List._∷_ 110 (List._∷_ 58 (List._∷_ 58 (List._∷_ 76 (List._∷_ 105 (List._∷_ 110 (List._∷_ 101 List.[]))))))))))))))))) (Syntax.tcons (Syntax.tyInt Syntax.w32) (Syntax.tcons (Syntax.tyInt Syntax.w64) (Syntax.tcons (Syntax.tyInt Syntax.w64) (Syntax.tcons (Syntax.tyInt Syntax.w64) (Syntax.tcons (Syntax.tyInt Syntax.w64) Syntax.tnil))))))) (List._∷_ (3, Rows.sref (Array.Array (Referent.rtF (Referent.fInt Syntax.w32)) 32772) (Syntax.tyRef (Syntax.named 0) Syntax.imm (Syntax.tyArray (Syntax.tyInt Syntax.w32) 32772)) 0) (List._∷_ (4, Rows.mref (Array.Array (Referent.rtF (Referent.fInt Syntax.w32)) 65540) (Syntax.tyRef (Syntax.named 1) Syntax.mut (Syntax.tyArray (Syntax.tyInt Syntax.w32) 65540)) 1) (List._∷_ (5, Reshare.mref-owedS (Array.Array (Referent.rtF (Referent.fInt Syntax.w32)) 32772) (Syntax.tyRef (Syntax.named 2) Syntax.mut (Syntax.tyArray (Syntax.tyInt Syntax.w32) 32772)) 2 15 Row.off) (List._∷_ (6, Reshare.mref-owedS (Array.Array (Referent.rtF (Referent.fInt Syntax.w32)) 262160) (Syntax.tyRef (Syntax.named 3) Syntax.mut (Syntax.tyArray (Syntax.tyInt Syntax.w32) 262160)) 3 16 Row.off) (List._∷_ (7, Rows.sref (Array.Array (Referent.rtF (Referent.fInt Syntax.w8)) 600000) (Syntax.tyRef (Syntax.named 4) Syntax.imm (Syntax.tyArray (Syntax.tyInt Syntax.w8) 600000)) 4) (List._∷_ (8, Rows.mref (Array.Array Cell.R 65540) (Syntax.tyRef (Syntax.named 5) Syntax.mut (Syntax.tyArray Cell.behind 65540)) 5) (List._∷_ (9, Rows.mref (Array.Array Cell.R 32772) (Syntax.tyRef (Syntax.named 6) Syntax.mut (Syntax.tyArray Cell.behind 32772)) 6) (List._∷_ (10, Rows.any-gone (Syntax.tyStruct (List._∷_ 112 (List._∷_ 121 (List._∷_ 114 (List._∷_ 97 (List._∷_ 109 (List._∷_ 105 (List._∷_ 100 (List._∷_ 58 (List._∷_ 58 (List._∷_ 79 (List._∷_ 117 (List._∷_ 116 (List._∷_ 99 (List._∷_ 111 (List._∷_ 109 (List._∷_ 101 List.[])))))))))))))))) (Syntax.tcons (Syntax.tyStruct (List._∷_ 112 (List._∷_ 121 (List._∷_ 114 (List._∷_ 97 (List._∷_ 109 (List._∷_ 105 (List._∷_ 100 (List._∷_ 58 (List._∷_ 58 (List._∷_ 83 (List._∷_ 116 (List._∷_ 97 (List._∷_ 116 (List._∷_ 101 List.[])))))))))))))) (Syntax.tcons (Syntax.tyInt Syntax.w32) (Syntax.tcons (Syntax.tyInt Syntax.w32) (Syntax.tcons (Syntax.tyInt Syntax.w32) (Syntax.tcons (Syntax.tyInt Syntax.w32) (Syntax.tcons (Syntax.tyInt Syntax.w32) (Syntax.tcons (Syntax.tyArray (Syntax.tyInt Syntax.w32) 64) Syntax.tnil))))))) (Syntax.tcons (Syntax.tyEnum (List._∷_ 100 (List._∷_ 97 (List._∷_ 114 (List._∷_ 116 (List._∷_ 115 (List._∷_ 58 (List._∷_ 58 (List._∷_ 65 (List._∷_ 110 (List._∷_ 115 (List._∷_ 119 (List._∷_ 101 (List._∷_ 114 List.[]))))))))))))) (Syntax.ttcons (Syntax.tcons (Syntax.tyInt Syntax.w64) Syntax.tnil) (Syntax.ttcons Syntax.tnil (Syntax.ttcons (Syntax.tcons (Syntax.tyInt Syntax.w64) Syntax.tnil) (Syntax.ttcons (Syntax.tcons (Syntax.tyInt Syntax.w64) (Syntax.tcons (Syntax.tyInt Syntax.w64) Syntax.tnil)) (Syntax.ttcons Syntax.tnil (Syntax.ttcons Syntax.tnil (Syntax.ttcons Syntax.tnil (Syntax.ttcons (Syntax.tcons (Syntax.tyInt Syntax.w64) Syntax.tnil) (Syntax.ttcons (Syntax.tcons (Syntax.tyInt Syntax.w64) Syntax.tnil) (Syntax.ttcons (Syntax.tcons (Syntax.tyInt Syntax.w64) Syntax.tnil) (Syntax.ttcons (Syntax.tcons (Syntax.tyInt Syntax.w64) Syntax.tnil) (Syntax.ttcons (Syntax.tcons (Syntax.tyInt Syntax.w64) Syntax.tnil) (Syntax.ttcons (Syntax.tcons (Syntax.tyInt Syntax.w64) Syntax.tnil) (Syntax.ttcons (Syntax.tcons (Syntax.tyInt Syntax.w64) Syntax.tnil) (Syntax.ttcons Syntax.tnil (Syntax.ttcons Syntax.tnil (Syntax.ttcons (Syntax.tcons (Syntax.tyInt Syntax.w64) Syntax.tnil) Syntax.ttnil)))))))))))))))))) Syntax.tnil)))) (List._∷_ (11, Rows.any-gone (Syntax.tyInt Syntax.w64)) (List._∷_ (12, Rows.any-gone (Syntax.tyInt Syntax.w64)) (List._∷_ (13, Rows.any-gone (Syntax.tyRef Syntax.erased Syntax.imm (Syntax.tyInt Syntax.w32))) (List._∷_ (14, Rows.any-gone (Syntax.tyStruct (List._∷_ 38 (List._∷_ 91 (List._∷_ 93 List.[]))) (Syntax.tcons (Syntax.tyRef Syntax.erased Syntax.imm (Syntax.tyInt Syntax.w32)) (Syntax.tcons (Syntax.tyInt Syntax.w64) Syntax.tnil)))) (List._∷_ (15, Rows.any-gone (Syntax.tyRef Syntax.erased Syntax.mut (Syntax.tyInt Syntax.w32))) List.[])))))))))))))))
+t62 = List._∷_ (0, Rows.whole (Declared.row Held.the-type)) (List._∷_ (1, Rows.any-gone (Syntax.tyStruct (List._∷_ 122 (List._∷_ 111 (List._∷_ 110 (List._∷_ 101 (List._∷_ 115 (List._∷_ 58 (List._∷_ 58 (List._∷_ 104 (List._∷_ 101 (List._∷_ 108 (List._∷_ 100 (List._∷_ 58 (List._∷_ 58 (List._∷_ 72 (List._∷_ 101 (List._∷_ 108 (List._∷_ 100 List.[]))))))))))))))))) (Syntax.tcons (Syntax.tyStruct (List._∷_ 112 (List._∷_ 121 (List._∷_ 114 (List._∷_ 97 (List._∷_ 109 (List._∷_ 105 (List._∷_ 100 (List._∷_ 58 (List._∷_ 58 (List._∷_ 83 (List._∷_ 116 (List._∷_ 97 (List._∷_ 116 (List._∷_ 101 List.[])))))))))))))) (Syntax.tcons (Syntax.tyInt Syntax.w32) (Syntax.tcons (Syntax.tyInt Syntax.w32) (Syntax.tcons (Syntax.tyInt Syntax.w32) (Syntax.tcons (Syntax.tyInt Syntax.w32) (Syntax.tcons (Syntax.tyInt Syntax.w32) (Syntax.tcons (Syntax.tyArray (Syntax.tyInt Syntax.w32) 64) Syntax.tnil))))))) (Syntax.tcons (Syntax.tyInt Syntax.w64) (Syntax.tcons (Syntax.tyInt Syntax.w64) (Syntax.tcons (Syntax.tyInt Syntax.w64) (Syntax.tcons (Syntax.tyInt Syntax.w64) (Syntax.tcons (Syntax.tyInt Syntax.w64) (Syntax.tcons (Syntax.tyInt Syntax.w64) (Syntax.tcons Syntax.tyBool Syntax.tnil)))))))))) (List._∷_ (2, Rows.any-gone (Syntax.tyStruct (List._∷_ 115 (List._∷_ 99 (List._∷_ 114 (List._∷_ 105 (List._∷_ 112 (List._∷_ 116 (List._∷_ 58 (List._∷_ 58 (List._∷_ 115 (List._∷_ 99 (List._∷_ 97 (List._∷_ 110 (List._∷_ 58 (List._∷_ 58 (List._∷_ 76 (List._∷_ 105 (List._∷_ 110 (List._∷_ 101 List.[])))))))))))))))))) (Syntax.tcons (Syntax.tyInt Syntax.w32) (Syntax.tcons (Syntax.tyInt Syntax.w64) (Syntax.tcons (Syntax.tyInt Syntax.w64) (Syntax.tcons (Syntax.tyInt Syntax.w64) (Syntax.tcons (Syntax.tyInt Syntax.w64) Syntax.tnil))))))) (List._∷_ (3, Rows.sref (Array.Array (Referent.rtF (Referent.fInt Syntax.w32)) 32772) (Syntax.tyRef (Syntax.named 0) Syntax.imm (Syntax.tyArray (Syntax.tyInt Syntax.w32) 32772)) 0) (List._∷_ (4, Rows.mref (Array.Array (Referent.rtF (Referent.fInt Syntax.w32)) 65540) (Syntax.tyRef (Syntax.named 1) Syntax.mut (Syntax.tyArray (Syntax.tyInt Syntax.w32) 65540)) 1) (List._∷_ (5, Reshare.mref-owedS (Array.Array (Referent.rtF (Referent.fInt Syntax.w32)) 32772) (Syntax.tyRef (Syntax.named 2) Syntax.mut (Syntax.tyArray (Syntax.tyInt Syntax.w32) 32772)) 2 15 Row.off) (List._∷_ (6, Reshare.mref-owedS (Array.Array (Referent.rtF (Referent.fInt Syntax.w32)) 262160) (Syntax.tyRef (Syntax.named 3) Syntax.mut (Syntax.tyArray (Syntax.tyInt Syntax.w32) 262160)) 3 16 Row.off) (List._∷_ (7, Rows.sref (Array.Array (Referent.rtF (Referent.fInt Syntax.w8)) 600000) (Syntax.tyRef (Syntax.named 4) Syntax.imm (Syntax.tyArray (Syntax.tyInt Syntax.w8) 600000)) 4) (List._∷_ (8, Rows.mref (Array.Array Cell.R 65540) (Syntax.tyRef (Syntax.named 5) Syntax.mut (Syntax.tyArray Cell.behind 65540)) 5) (List._∷_ (9, Rows.mref (Array.Array Cell.R 32772) (Syntax.tyRef (Syntax.named 6) Syntax.mut (Syntax.tyArray Cell.behind 32772)) 6) (List._∷_ (10, Rows.any-gone (Syntax.tyStruct (List._∷_ 112 (List._∷_ 121 (List._∷_ 114 (List._∷_ 97 (List._∷_ 109 (List._∷_ 105 (List._∷_ 100 (List._∷_ 58 (List._∷_ 58 (List._∷_ 79 (List._∷_ 117 (List._∷_ 116 (List._∷_ 99 (List._∷_ 111 (List._∷_ 109 (List._∷_ 101 List.[])))))))))))))))) (Syntax.tcons (Syntax.tyStruct (List._∷_ 112 (List._∷_ 121 (List._∷_ 114 (List._∷_ 97 (List._∷_ 109 (List._∷_ 105 (List._∷_ 100 (List._∷_ 58 (List._∷_ 58 (List._∷_ 83 (List._∷_ 116 (List._∷_ 97 (List._∷_ 116 (List._∷_ 101 List.[])))))))))))))) (Syntax.tcons (Syntax.tyInt Syntax.w32) (Syntax.tcons (Syntax.tyInt Syntax.w32) (Syntax.tcons (Syntax.tyInt Syntax.w32) (Syntax.tcons (Syntax.tyInt Syntax.w32) (Syntax.tcons (Syntax.tyInt Syntax.w32) (Syntax.tcons (Syntax.tyArray (Syntax.tyInt Syntax.w32) 64) Syntax.tnil))))))) (Syntax.tcons (Syntax.tyEnum (List._∷_ 100 (List._∷_ 97 (List._∷_ 114 (List._∷_ 116 (List._∷_ 115 (List._∷_ 58 (List._∷_ 58 (List._∷_ 65 (List._∷_ 110 (List._∷_ 115 (List._∷_ 119 (List._∷_ 101 (List._∷_ 114 List.[]))))))))))))) (Syntax.ttcons (Syntax.tcons (Syntax.tyInt Syntax.w64) Syntax.tnil) (Syntax.ttcons Syntax.tnil (Syntax.ttcons (Syntax.tcons (Syntax.tyInt Syntax.w64) Syntax.tnil) (Syntax.ttcons (Syntax.tcons (Syntax.tyInt Syntax.w64) (Syntax.tcons (Syntax.tyInt Syntax.w64) Syntax.tnil)) (Syntax.ttcons Syntax.tnil (Syntax.ttcons Syntax.tnil (Syntax.ttcons Syntax.tnil (Syntax.ttcons (Syntax.tcons (Syntax.tyInt Syntax.w64) Syntax.tnil) (Syntax.ttcons (Syntax.tcons (Syntax.tyInt Syntax.w64) Syntax.tnil) (Syntax.ttcons (Syntax.tcons (Syntax.tyInt Syntax.w64) Syntax.tnil) (Syntax.ttcons (Syntax.tcons (Syntax.tyInt Syntax.w64) Syntax.tnil) (Syntax.ttcons (Syntax.tcons (Syntax.tyInt Syntax.w64) Syntax.tnil) (Syntax.ttcons (Syntax.tcons (Syntax.tyInt Syntax.w64) Syntax.tnil) (Syntax.ttcons (Syntax.tcons (Syntax.tyInt Syntax.w64) Syntax.tnil) (Syntax.ttcons Syntax.tnil (Syntax.ttcons Syntax.tnil (Syntax.ttcons (Syntax.tcons (Syntax.tyInt Syntax.w64) Syntax.tnil) Syntax.ttnil)))))))))))))))))) Syntax.tnil)))) (List._∷_ (11, Rows.any-gone (Syntax.tyInt Syntax.w64)) (List._∷_ (12, Rows.any-gone (Syntax.tyInt Syntax.w64)) (List._∷_ (13, Rows.any-gone (Syntax.tyRef Syntax.erased Syntax.imm (Syntax.tyInt Syntax.w32))) (List._∷_ (14, Rows.any-gone (Syntax.tyStruct (List._∷_ 38 (List._∷_ 91 (List._∷_ 93 List.[]))) (Syntax.tcons (Syntax.tyRef Syntax.erased Syntax.imm (Syntax.tyInt Syntax.w32)) (Syntax.tcons (Syntax.tyInt Syntax.w64) Syntax.tnil)))) (List._∷_ (15, Rows.any-gone (Syntax.tyRef Syntax.erased Syntax.mut (Syntax.tyInt Syntax.w32))) List.[])))))))))))))))
 
 abbrev pub t63 : List.List Row.Entry
-t63 = List._∷_ (0, Rows.whole (Declared.row Held.the-type)) (List._∷_ (1, Rows.any-gone (Syntax.tyStruct (List._∷_ 122 (List._∷_ 111 (List._∷_ 110 (List._∷_ 101 (List._∷_ 115 (List._∷_ 58 (List._∷_ 58 (List._∷_ 104 (List._∷_ 101 (List._∷_ 108 (List._∷_ 100 (List._∷_ 58 (List._∷_ 58 (List._∷_ 72 (List._∷_ 101 (List._∷_ 108 (List._∷_ 100 List.[]))))))))))))))))) (Syntax.tcons (Syntax.tyStruct (List._∷_ 112 (List._∷_ 121 (List._∷_ 114 (List._∷_ 97 (List._∷_ 109 (List._∷_ 105 (List._∷_ 100 (List._∷_ 58 (List._∷_ 58 (List._∷_ 83 (List._∷_ 116 (List._∷_ 97 (List._∷_ 116 (List._∷_ 101 List.[])))))))))))))) (Syntax.tcons (Syntax.tyInt Syntax.w32) (Syntax.tcons (Syntax.tyInt Syntax.w32) (Syntax.tcons (Syntax.tyInt Syntax.w32) (Syntax.tcons (Syntax.tyInt Syntax.w32) (Syntax.tcons (Syntax.tyInt Syntax.w32) (Syntax.tcons (Syntax.tyArray (Syntax.tyInt Syntax.w32) 64) Syntax.tnil))))))) (Syntax.tcons (Syntax.tyInt Syntax.w64) (Syntax.tcons (Syntax.tyInt Syntax.w64) (Syntax.tcons (Syntax.tyInt Syntax.w64) (Syntax.tcons (Syntax.tyInt Syntax.w64) (Syntax.tcons (Syntax.tyInt Syntax.w64) (Syntax.tcons (Syntax.tyInt Syntax.w64) (Syntax.tcons Syntax.tyBool Syntax.tnil)))))))))) (List._∷_ (2, Rows.any-gone (Syntax.tyStruct (List._∷_ 122 (List._∷_ 111 (List._∷_ 110 (List._∷_ 101 (List._∷_ 115 (List._∷_ 58 (List._∷_ 58 (List._∷_ 115 (List._∷_ 99 (List._∷_ 97 (List._∷_ 110 (List._∷_ 58 (List._∷_ 58 (List._∷_ 76 (List._∷_ 105 (List._∷_ 110 (List._∷_ 101 List.[]))))))))))))))))) (Syntax.tcons (Syntax.tyInt Syntax.w32) (Syntax.tcons (Syntax.tyInt Syntax.w64) (Syntax.tcons (Syntax.tyInt Syntax.w64) (Syntax.tcons (Syntax.tyInt Syntax.w64) (Syntax.tcons (Syntax.tyInt Syntax.w64) Syntax.tnil))))))) (List._∷_ (3, Rows.sref (Array.Array (Referent.rtF (Referent.fInt Syntax.w32)) 32772) (Syntax.tyRef (Syntax.named 0) Syntax.imm (Syntax.tyArray (Syntax.tyInt Syntax.w32) 32772)) 0) (List._∷_ (4, Rows.mref (Array.Array (Referent.rtF (Referent.fInt Syntax.w32)) 65540) (Syntax.tyRef (Syntax.named 1) Syntax.mut (Syntax.tyArray (Syntax.tyInt Syntax.w32) 65540)) 1) (List._∷_ (5, Rows.mref (Array.Array (Referent.rtF (Referent.fInt Syntax.w32)) 32772) (Syntax.tyRef (Syntax.named 2) Syntax.mut (Syntax.tyArray (Syntax.tyInt Syntax.w32) 32772)) 2) (List._∷_ (6, Reshare.mref-owedS (Array.Array (Referent.rtF (Referent.fInt Syntax.w32)) 262160) (Syntax.tyRef (Syntax.named 3) Syntax.mut (Syntax.tyArray (Syntax.tyInt Syntax.w32) 262160)) 3 16 Row.off) (List._∷_ (7, Rows.sref (Array.Array (Referent.rtF (Referent.fInt Syntax.w8)) 600000) (Syntax.tyRef (Syntax.named 4) Syntax.imm (Syntax.tyArray (Syntax.tyInt Syntax.w8) 600000)) 4) (List._∷_ (8, Rows.mref (Array.Array Cell.R 65540) (Syntax.tyRef (Syntax.named 5) Syntax.mut (Syntax.tyArray Cell.behind 65540)) 5) (List._∷_ (9, Rows.mref (Array.Array Cell.R 32772) (Syntax.tyRef (Syntax.named 6) Syntax.mut (Syntax.tyArray Cell.behind 32772)) 6) (List._∷_ (10, Rows.any-gone (Syntax.tyStruct (List._∷_ 112 (List._∷_ 121 (List._∷_ 114 (List._∷_ 97 (List._∷_ 109 (List._∷_ 105 (List._∷_ 100 (List._∷_ 58 (List._∷_ 58 (List._∷_ 79 (List._∷_ 117 (List._∷_ 116 (List._∷_ 99 (List._∷_ 111 (List._∷_ 109 (List._∷_ 101 List.[])))))))))))))))) (Syntax.tcons (Syntax.tyStruct (List._∷_ 112 (List._∷_ 121 (List._∷_ 114 (List._∷_ 97 (List._∷_ 109 (List._∷_ 105 (List._∷_ 100 (List._∷_ 58 (List._∷_ 58 (List._∷_ 83 (List._∷_ 116 (List._∷_ 97 (List._∷_ 116 (List._∷_ 101 List.[])))))))))))))) (Syntax.tcons (Syntax.tyInt Syntax.w32) (Syntax.tcons (Syntax.tyInt Syntax.w32) (Syntax.tcons (Syntax.tyInt Syntax.w32) (Syntax.tcons (Syntax.tyInt Syntax.w32) (Syntax.tcons (Syntax.tyInt Syntax.w32) (Syntax.tcons (Syntax.tyArray (Syntax.tyInt Syntax.w32) 64) Syntax.tnil))))))) (Syntax.tcons (Syntax.tyEnum (List._∷_ 100 (List._∷_ 97 (List._∷_ 114 (List._∷_ 116 (List._∷_ 115 (List._∷_ 58 (List._∷_ 58 (List._∷_ 65 (List._∷_ 110 (List._∷_ 115 (List._∷_ 119 (List._∷_ 101 (List._∷_ 114 List.[]))))))))))))) (Syntax.ttcons (Syntax.tcons (Syntax.tyInt Syntax.w64) Syntax.tnil) (Syntax.ttcons Syntax.tnil (Syntax.ttcons (Syntax.tcons (Syntax.tyInt Syntax.w64) Syntax.tnil) (Syntax.ttcons (Syntax.tcons (Syntax.tyInt Syntax.w64) (Syntax.tcons (Syntax.tyInt Syntax.w64) Syntax.tnil)) (Syntax.ttcons Syntax.tnil (Syntax.ttcons Syntax.tnil (Syntax.ttcons Syntax.tnil (Syntax.ttcons (Syntax.tcons (Syntax.tyInt Syntax.w64) Syntax.tnil) (Syntax.ttcons (Syntax.tcons (Syntax.tyInt Syntax.w64) Syntax.tnil) (Syntax.ttcons (Syntax.tcons (Syntax.tyInt Syntax.w64) Syntax.tnil) (Syntax.ttcons (Syntax.tcons (Syntax.tyInt Syntax.w64) Syntax.tnil) (Syntax.ttcons (Syntax.tcons (Syntax.tyInt Syntax.w64) Syntax.tnil) (Syntax.ttcons (Syntax.tcons (Syntax.tyInt Syntax.w64) Syntax.tnil) (Syntax.ttcons (Syntax.tcons (Syntax.tyInt Syntax.w64) Syntax.tnil) (Syntax.ttcons Syntax.tnil (Syntax.ttcons Syntax.tnil (Syntax.ttcons (Syntax.tcons (Syntax.tyInt Syntax.w64) Syntax.tnil) Syntax.ttnil)))))))))))))))))) Syntax.tnil)))) (List._∷_ (11, Rows.any-gone (Syntax.tyInt Syntax.w64)) (List._∷_ (12, Rows.any-gone (Syntax.tyInt Syntax.w64)) (List._∷_ (13, Rows.any-gone (Syntax.tyRef Syntax.erased Syntax.imm (Syntax.tyInt Syntax.w32))) (List._∷_ (14, Rows.any-gone (Syntax.tyStruct (List._∷_ 38 (List._∷_ 91 (List._∷_ 93 List.[]))) (Syntax.tcons (Syntax.tyRef Syntax.erased Syntax.imm (Syntax.tyInt Syntax.w32)) (Syntax.tcons (Syntax.tyInt Syntax.w64) Syntax.tnil)))) (List._∷_ (15, Rows.any-gone (Syntax.tyRef Syntax.erased Syntax.mut (Syntax.tyInt Syntax.w32))) List.[])))))))))))))))
+t63 = List._∷_ (0, Rows.whole (Declared.row Held.the-type)) (List._∷_ (1, Rows.any-gone (Syntax.tyStruct (List._∷_ 122 (List._∷_ 111 (List._∷_ 110 (List._∷_ 101 (List._∷_ 115 (List._∷_ 58 (List._∷_ 58 (List._∷_ 104 (List._∷_ 101 (List._∷_ 108 (List._∷_ 100 (List._∷_ 58 (List._∷_ 58 (List._∷_ 72 (List._∷_ 101 (List._∷_ 108 (List._∷_ 100 List.[]))))))))))))))))) (Syntax.tcons (Syntax.tyStruct (List._∷_ 112 (List._∷_ 121 (List._∷_ 114 (List._∷_ 97 (List._∷_ 109 (List._∷_ 105 (List._∷_ 100 (List._∷_ 58 (List._∷_ 58 (List._∷_ 83 (List._∷_ 116 (List._∷_ 97 (List._∷_ 116 (List._∷_ 101 List.[])))))))))))))) (Syntax.tcons (Syntax.tyInt Syntax.w32) (Syntax.tcons (Syntax.tyInt Syntax.w32) (Syntax.tcons (Syntax.tyInt Syntax.w32) (Syntax.tcons (Syntax.tyInt Syntax.w32) (Syntax.tcons (Syntax.tyInt Syntax.w32) (Syntax.tcons (Syntax.tyArray (Syntax.tyInt Syntax.w32) 64) Syntax.tnil))))))) (Syntax.tcons (Syntax.tyInt Syntax.w64) (Syntax.tcons (Syntax.tyInt Syntax.w64) (Syntax.tcons (Syntax.tyInt Syntax.w64) (Syntax.tcons (Syntax.tyInt Syntax.w64) (Syntax.tcons (Syntax.tyInt Syntax.w64) (Syntax.tcons (Syntax.tyInt Syntax.w64) (Syntax.tcons Syntax.tyBool Syntax.tnil)))))))))) (List._∷_ (2, Rows.any-gone (Syntax.tyStruct (List._∷_ 115 (List._∷_ 99 (List._∷_ 114 (List._∷_ 105 (List._∷_ 112 (List._∷_ 116 (List._∷_ 58 (List._∷_ 58 (List._∷_ 115 (List._∷_ 99 (List._∷_ 97 (List._∷_ 110 (List._∷_ 58 (List._∷_ 58 (List._∷_ 76 (List._∷_ 105 (List._∷_ 110 (List._∷_ 101 List.[])))))))))))))))))) (Syntax.tcons (Syntax.tyInt Syntax.w32) (Syntax.tcons (Syntax.tyInt Syntax.w64) (Syntax.tcons (Syntax.tyInt Syntax.w64) (Syntax.tcons (Syntax.tyInt Syntax.w64) (Syntax.tcons (Syntax.tyInt Syntax.w64) Syntax.tnil))))))) (List._∷_ (3, Rows.sref (Array.Array (Referent.rtF (Referent.fInt Syntax.w32)) 32772) (Syntax.tyRef (Syntax.named 0) Syntax.imm (Syntax.tyArray (Syntax.tyInt Syntax.w32) 32772)) 0) (List._∷_ (4, Rows.mref (Array.Array (Referent.rtF (Referent.fInt Syntax.w32)) 65540) (Syntax.tyRef (Syntax.named 1) Syntax.mut (Syntax.tyArray (Syntax.tyInt Syntax.w32) 65540)) 1) (List._∷_ (5, Rows.mref (Array.Array (Referent.rtF (Referent.fInt Syntax.w32)) 32772) (Syntax.tyRef (Syntax.named 2) Syntax.mut (Syntax.tyArray (Syntax.tyInt Syntax.w32) 32772)) 2) (List._∷_ (6, Reshare.mref-owedS (Array.Array (Referent.rtF (Referent.fInt Syntax.w32)) 262160) (Syntax.tyRef (Syntax.named 3) Syntax.mut (Syntax.tyArray (Syntax.tyInt Syntax.w32) 262160)) 3 16 Row.off) (List._∷_ (7, Rows.sref (Array.Array (Referent.rtF (Referent.fInt Syntax.w8)) 600000) (Syntax.tyRef (Syntax.named 4) Syntax.imm (Syntax.tyArray (Syntax.tyInt Syntax.w8) 600000)) 4) (List._∷_ (8, Rows.mref (Array.Array Cell.R 65540) (Syntax.tyRef (Syntax.named 5) Syntax.mut (Syntax.tyArray Cell.behind 65540)) 5) (List._∷_ (9, Rows.mref (Array.Array Cell.R 32772) (Syntax.tyRef (Syntax.named 6) Syntax.mut (Syntax.tyArray Cell.behind 32772)) 6) (List._∷_ (10, Rows.any-gone (Syntax.tyStruct (List._∷_ 112 (List._∷_ 121 (List._∷_ 114 (List._∷_ 97 (List._∷_ 109 (List._∷_ 105 (List._∷_ 100 (List._∷_ 58 (List._∷_ 58 (List._∷_ 79 (List._∷_ 117 (List._∷_ 116 (List._∷_ 99 (List._∷_ 111 (List._∷_ 109 (List._∷_ 101 List.[])))))))))))))))) (Syntax.tcons (Syntax.tyStruct (List._∷_ 112 (List._∷_ 121 (List._∷_ 114 (List._∷_ 97 (List._∷_ 109 (List._∷_ 105 (List._∷_ 100 (List._∷_ 58 (List._∷_ 58 (List._∷_ 83 (List._∷_ 116 (List._∷_ 97 (List._∷_ 116 (List._∷_ 101 List.[])))))))))))))) (Syntax.tcons (Syntax.tyInt Syntax.w32) (Syntax.tcons (Syntax.tyInt Syntax.w32) (Syntax.tcons (Syntax.tyInt Syntax.w32) (Syntax.tcons (Syntax.tyInt Syntax.w32) (Syntax.tcons (Syntax.tyInt Syntax.w32) (Syntax.tcons (Syntax.tyArray (Syntax.tyInt Syntax.w32) 64) Syntax.tnil))))))) (Syntax.tcons (Syntax.tyEnum (List._∷_ 100 (List._∷_ 97 (List._∷_ 114 (List._∷_ 116 (List._∷_ 115 (List._∷_ 58 (List._∷_ 58 (List._∷_ 65 (List._∷_ 110 (List._∷_ 115 (List._∷_ 119 (List._∷_ 101 (List._∷_ 114 List.[]))))))))))))) (Syntax.ttcons (Syntax.tcons (Syntax.tyInt Syntax.w64) Syntax.tnil) (Syntax.ttcons Syntax.tnil (Syntax.ttcons (Syntax.tcons (Syntax.tyInt Syntax.w64) Syntax.tnil) (Syntax.ttcons (Syntax.tcons (Syntax.tyInt Syntax.w64) (Syntax.tcons (Syntax.tyInt Syntax.w64) Syntax.tnil)) (Syntax.ttcons Syntax.tnil (Syntax.ttcons Syntax.tnil (Syntax.ttcons Syntax.tnil (Syntax.ttcons (Syntax.tcons (Syntax.tyInt Syntax.w64) Syntax.tnil) (Syntax.ttcons (Syntax.tcons (Syntax.tyInt Syntax.w64) Syntax.tnil) (Syntax.ttcons (Syntax.tcons (Syntax.tyInt Syntax.w64) Syntax.tnil) (Syntax.ttcons (Syntax.tcons (Syntax.tyInt Syntax.w64) Syntax.tnil) (Syntax.ttcons (Syntax.tcons (Syntax.tyInt Syntax.w64) Syntax.tnil) (Syntax.ttcons (Syntax.tcons (Syntax.tyInt Syntax.w64) Syntax.tnil) (Syntax.ttcons (Syntax.tcons (Syntax.tyInt Syntax.w64) Syntax.tnil) (Syntax.ttcons Syntax.tnil (Syntax.ttcons Syntax.tnil (Syntax.ttcons (Syntax.tcons (Syntax.tyInt Syntax.w64) Syntax.tnil) Syntax.ttnil)))))))))))))))))) Syntax.tnil)))) (List._∷_ (11, Rows.any-gone (Syntax.tyInt Syntax.w64)) (List._∷_ (12, Rows.any-gone (Syntax.tyInt Syntax.w64)) (List._∷_ (13, Rows.any-gone (Syntax.tyRef Syntax.erased Syntax.imm (Syntax.tyInt Syntax.w32))) (List._∷_ (14, Rows.any-gone (Syntax.tyStruct (List._∷_ 38 (List._∷_ 91 (List._∷_ 93 List.[]))) (Syntax.tcons (Syntax.tyRef Syntax.erased Syntax.imm (Syntax.tyInt Syntax.w32)) (Syntax.tcons (Syntax.tyInt Syntax.w64) Syntax.tnil)))) (List._∷_ (15, Rows.any-gone (Syntax.tyRef Syntax.erased Syntax.mut (Syntax.tyInt Syntax.w32))) List.[])))))))))))))))
 
 abbrev pub T0 : Row.Cx
 T0 = record { locals = List._++_ t0 (List._++_ t1 t2); slots = List.[] }
@@ -657,7 +657,7 @@ module _ (claims· : Claims) where
   s19 = Scalar.n-room T20 14 (Syntax.tyStruct (List._∷_ 38 (List._∷_ 91 (List._∷_ 93 List.[]))) (Syntax.tcons (Syntax.tyRef Syntax.erased Syntax.imm (Syntax.tyInt Syntax.w32)) (Syntax.tcons (Syntax.tyInt Syntax.w64) Syntax.tnil)))
 
   abbrev s20 : Typed.Mo T21 → Typed.Mo T22
-  s20 = Scalar.n-room T21 2 (Syntax.tyStruct (List._∷_ 122 (List._∷_ 111 (List._∷_ 110 (List._∷_ 101 (List._∷_ 115 (List._∷_ 58 (List._∷_ 58 (List._∷_ 115 (List._∷_ 99 (List._∷_ 97 (List._∷_ 110 (List._∷_ 58 (List._∷_ 58 (List._∷_ 76 (List._∷_ 105 (List._∷_ 110 (List._∷_ 101 List.[]))))))))))))))))) (Syntax.tcons (Syntax.tyInt Syntax.w32) (Syntax.tcons (Syntax.tyInt Syntax.w64) (Syntax.tcons (Syntax.tyInt Syntax.w64) (Syntax.tcons (Syntax.tyInt Syntax.w64) (Syntax.tcons (Syntax.tyInt Syntax.w64) Syntax.tnil))))))
+  s20 = Scalar.n-room T21 2 (Syntax.tyStruct (List._∷_ 115 (List._∷_ 99 (List._∷_ 114 (List._∷_ 105 (List._∷_ 112 (List._∷_ 116 (List._∷_ 58 (List._∷_ 58 (List._∷_ 115 (List._∷_ 99 (List._∷_ 97 (List._∷_ 110 (List._∷_ 58 (List._∷_ 58 (List._∷_ 76 (List._∷_ 105 (List._∷_ 110 (List._∷_ 101 List.[])))))))))))))))))) (Syntax.tcons (Syntax.tyInt Syntax.w32) (Syntax.tcons (Syntax.tyInt Syntax.w64) (Syntax.tcons (Syntax.tyInt Syntax.w64) (Syntax.tcons (Syntax.tyInt Syntax.w64) (Syntax.tcons (Syntax.tyInt Syntax.w64) Syntax.tnil))))))
 
   abbrev s22 : Typed.Asks T22 T24
   s22 = WayLend.k-way-back (Frozen.fz-open Syntax.erased 1 List.[] Row.off (AsSlice.fz-lent-sl (Referent.rtF (Referent.fInt Syntax.w32)) 65540 7)) T22 16 4 (Rows.mref (Array.Array (Referent.rtF (Referent.fInt Syntax.w32)) 65540) (Syntax.tyRef (Syntax.named 1) Syntax.mut (Syntax.tyArray (Syntax.tyInt Syntax.w32) 65540)) 1) (Syntax.tyRef Syntax.erased Syntax.mut (Syntax.tyInt Syntax.w32)) List.[] (λ x. x) (λ x. x) λ x. x
@@ -684,10 +684,10 @@ module _ (claims· : Claims) where
   s39 = Relend.k-sl-aggregate Cell.R (Relend.asShr Cell.R) T40 25 26 12 (Syntax.tyRef Syntax.erased Syntax.imm Cell.behind) (Syntax.tyRef Syntax.erased Syntax.imm Cell.behind) (λ x. x) (Scalar.oBig Syntax.w64 65540)
 
   abbrev s40 : Typed.Gives T41 T42
-  s40 = Know.k-struct-known Held.the-type Laws'.the-laws T41 1 λ x. x
+  s40 = Know.k-struct-known Held.the-type Laws''.the-laws T41 1 λ x. x
 
   abbrev s41 : Typed.Asks T42 T43
-  s41 = Scalar.k-op2 T42 (Syntax.add Syntax.unsigned) (Scalar.oFld 1 (List._∷_ (Syntax.field 4) List.[]) (Syntax.tyInt Syntax.w64) 304 (Reads.fieldV Held.the-type Laws'.the-laws 4)) (Scalar.oInt Syntax.w64 4) 27 (Rows.sc-here (Row.sInt Syntax.w64)) (Row.sInt Syntax.w64 .of)
+  s41 = Scalar.k-op2 T42 (Syntax.add Syntax.unsigned) (Scalar.oFld 1 (List._∷_ (Syntax.field 4) List.[]) (Syntax.tyInt Syntax.w64) 304 (Reads.fieldV Held.the-type Laws''.the-laws 4)) (Scalar.oInt Syntax.w64 4) 27 (Rows.sc-here (Row.sInt Syntax.w64)) (Row.sInt Syntax.w64 .of)
 
   abbrev s42 : Typed.Both T43 T44
   s42 = Call.callB ps·1 r·1 (claims· .2) (claims· .3) T43 (record { pos = 26; ty = Syntax.tyRef Syntax.erased Syntax.imm Cell.behind; ref = λ x. x }, (Num.vAt 27 λ x. x, tt)) 11 (List._∷_ 12 List.[]) (Syntax.tyInt Syntax.w64)
@@ -711,10 +711,10 @@ module _ (claims· : Claims) where
   s51 = Relend.k-sl-aggregate Cell.R (Relend.asShr Cell.R) T52 28 29 13 (Syntax.tyRef Syntax.erased Syntax.imm Cell.behind) (Syntax.tyRef Syntax.erased Syntax.imm Cell.behind) (λ x. x) (Scalar.oBig Syntax.w64 32772)
 
   abbrev s52 : Typed.Gives T53 T54
-  s52 = Know.k-struct-known Held.the-type Laws'.the-laws T53 1 λ x. x
+  s52 = Know.k-struct-known Held.the-type Laws''.the-laws T53 1 λ x. x
 
   abbrev s53 : Typed.Asks T54 T55
-  s53 = Scalar.k-op2 T54 (Syntax.add Syntax.unsigned) (Scalar.oFld 1 (List._∷_ (Syntax.field 5) List.[]) (Syntax.tyInt Syntax.w64) 312 (Reads.fieldV Held.the-type Laws'.the-laws 5)) (Scalar.oInt Syntax.w64 4) 27 (Rows.sc-here (Row.sInt Syntax.w64)) (Row.sInt Syntax.w64 .of)
+  s53 = Scalar.k-op2 T54 (Syntax.add Syntax.unsigned) (Scalar.oFld 1 (List._∷_ (Syntax.field 5) List.[]) (Syntax.tyInt Syntax.w64) 312 (Reads.fieldV Held.the-type Laws''.the-laws 5)) (Scalar.oInt Syntax.w64 4) 27 (Rows.sc-here (Row.sInt Syntax.w64)) (Row.sInt Syntax.w64 .of)
 
   abbrev s54 : Typed.Both T55 T56
   s54 = Call.callB ps·1 r·1 (claims· .2) (claims· .3) T55 (record { pos = 29; ty = Syntax.tyRef Syntax.erased Syntax.imm Cell.behind; ref = λ x. x }, (Num.vAt 27 λ x. x, tt)) 12 (List._∷_ 13 List.[]) (Syntax.tyInt Syntax.w64)
@@ -773,7 +773,7 @@ module _ (claims· : Claims) where
   module _ (Pre· : (κs : Lifetimes.Lfts 7) → Kinds.Dens κs ps → Type 0) (Post· : (κs : Lifetimes.Lfts 7) → (a : Kinds.Dens κs ps) → Kinds.Plain 7 ps r κs) where
     module _ (M : Type 1) where
       abbrev pub Closed : Type 2
-      Closed = (𝓤 : URA.URA M) (H : Wp.Heap 𝓤) (A : Atoms.Atoms 𝓤) (W : Kit.Given 𝓤 H A) (𝓣 : Wp.Tables 𝓤 H) (known0 : Plain.Known 𝓤 H A W 𝓣 6 ps·0 r·0 (claims· .0) (claims· .1) "zones::sheet_calls::lent_with") (known1 : Plain.Known 𝓤 H A W 𝓣 1 ps·1 r·1 (claims· .2) (claims· .3) "zones::sheet_calls::sum_records") (known2 : Plain.Known 𝓤 H A W 𝓣 4 ps·2 r·2 (claims· .4) (claims· .5) "zones::prints::print_yarn") → Statement.Triple 𝓤 (Wp.WpFn 𝓤 H (𝓣 .C) (𝓣 .Λ) (Function.fnOf 7 ps r xs m hs body)) (Function.plainOf 𝓤 H A 7 ps r Pre· Post·)
+      Closed = (𝓤 : URA.URA M) (H : Wp.Heap 𝓤) (A : Atoms.Atoms 𝓤) (W : Kit.Given 𝓤 H A) (𝓣 : Wp.Tables 𝓤 H) (known0 : Plain.Known 𝓤 H A W 𝓣 6 ps·0 r·0 (claims· .0) (claims· .1) "zones::sheet_calls::lent_with") (known1 : Plain.Known 𝓤 H A W 𝓣 1 ps·1 r·1 (claims· .2) (claims· .3) "script::sums::sum_records") (known2 : Plain.Known 𝓤 H A W 𝓣 4 ps·2 r·2 (claims· .4) (claims· .5) "zones::prints::print_yarn") → Statement.Triple 𝓤 (Wp.WpFn 𝓤 H (𝓣 .C) (𝓣 .Λ) (Function.fnOf 7 ps r xs m hs body)) (Function.plainOf 𝓤 H A 7 ps r Pre· Post·)
 
     module _ where
       abbrev at0 : Typed.TF T83 O0
@@ -1033,7 +1033,7 @@ module _ (claims· : Claims) where
 
       module _ {M : Type 1} (𝓤 : URA.URA M) (H : Wp.Heap 𝓤) (A : Atoms.Atoms 𝓤) (W : Kit.Given 𝓤 H A) (𝓣 : Wp.Tables 𝓤 H) where
         abbrev Knowns : Type 1
-        Knowns = Plain.Known 𝓤 H A W 𝓣 6 ps·0 r·0 (claims· .0) (claims· .1) "zones::sheet_calls::lent_with" × Plain.Known 𝓤 H A W 𝓣 1 ps·1 r·1 (claims· .2) (claims· .3) "zones::sheet_calls::sum_records" × Plain.Known 𝓤 H A W 𝓣 4 ps·2 r·2 (claims· .4) (claims· .5) "zones::prints::print_yarn"
+        Knowns = Plain.Known 𝓤 H A W 𝓣 6 ps·0 r·0 (claims· .0) (claims· .1) "zones::sheet_calls::lent_with" × Plain.Known 𝓤 H A W 𝓣 1 ps·1 r·1 (claims· .2) (claims· .3) "script::sums::sum_records" × Plain.Known 𝓤 H A W 𝓣 4 ps·2 r·2 (claims· .4) (claims· .5) "zones::prints::print_yarn"
 
       module _ (κs : Lifetimes.Lfts 7) (qs : Lifetimes.Shares 7) where
         abbrev g7 : List.List Row.Entry
@@ -1061,61 +1061,61 @@ module _ (claims· : Claims) where
         g24 = List._∷_ (0, Rows.any-gone (Syntax.tyStruct (List._∷_ 122 (List._∷_ 111 (List._∷_ 110 (List._∷_ 101 (List._∷_ 115 (List._∷_ 58 (List._∷_ 58 (List._∷_ 104 (List._∷_ 101 (List._∷_ 108 (List._∷_ 100 (List._∷_ 58 (List._∷_ 58 (List._∷_ 72 (List._∷_ 101 (List._∷_ 108 (List._∷_ 100 List.[]))))))))))))))))) (Syntax.tcons (Syntax.tyStruct (List._∷_ 112 (List._∷_ 121 (List._∷_ 114 (List._∷_ 97 (List._∷_ 109 (List._∷_ 105 (List._∷_ 100 (List._∷_ 58 (List._∷_ 58 (List._∷_ 83 (List._∷_ 116 (List._∷_ 97 (List._∷_ 116 (List._∷_ 101 List.[])))))))))))))) (Syntax.tcons (Syntax.tyInt Syntax.w32) (Syntax.tcons (Syntax.tyInt Syntax.w32) (Syntax.tcons (Syntax.tyInt Syntax.w32) (Syntax.tcons (Syntax.tyInt Syntax.w32) (Syntax.tcons (Syntax.tyInt Syntax.w32) (Syntax.tcons (Syntax.tyArray (Syntax.tyInt Syntax.w32) 64) Syntax.tnil))))))) (Syntax.tcons (Syntax.tyInt Syntax.w64) (Syntax.tcons (Syntax.tyInt Syntax.w64) (Syntax.tcons (Syntax.tyInt Syntax.w64) (Syntax.tcons (Syntax.tyInt Syntax.w64) (Syntax.tcons (Syntax.tyInt Syntax.w64) (Syntax.tcons (Syntax.tyInt Syntax.w64) (Syntax.tcons Syntax.tyBool Syntax.tnil)))))))))) (List._∷_ (1, Rows.whole (Declared.row Held.the-type)) (List._∷_ (2, Rows.whole (Declared.row Line.the-type)) (List._∷_ (3, Rows.sref (Array.Array (Referent.rtF (Referent.fInt Syntax.w32)) 32772) (Syntax.tyRef (Syntax.named 0) Syntax.imm (Syntax.tyArray (Syntax.tyInt Syntax.w32) 32772)) 0) (List._∷_ (4, Frozen.held (Frozen.fz-open Syntax.erased 1 (κs .1 .0) (Row.lease (κs .1 .0) (qs .1 .0)) (AsSlice.fz-lent-sl (Referent.rtF (Referent.fInt Syntax.w32)) 65540 7))) (List._∷_ (5, Frozen.held (Frozen.fz-open Syntax.erased 2 (κs .1 .1 .0) (Row.lease (κs .1 .1 .0) (qs .1 .1 .0)) (AsSlice.fz-lent-sl (Referent.rtF (Referent.fInt Syntax.w32)) 32772 8))) (List._∷_ (6, Frozen.held (Frozen.fz-open Syntax.erased 3 (κs .1 .1 .1 .0) (Row.lease (κs .1 .1 .1 .0) (qs .1 .1 .1 .0)) (AsSlice.fz-lent-sl (Referent.rtF (Referent.fInt Syntax.w32)) 262160 9))) (List._∷_ (7, Rows.sref (Array.Array (Referent.rtF (Referent.fInt Syntax.w8)) 600000) (Syntax.tyRef (Syntax.named 4) Syntax.imm (Syntax.tyArray (Syntax.tyInt Syntax.w8) 600000)) 4) (List._∷_ (8, Frozen.held (Frozen.fz-open Syntax.erased 5 (κs .1 .1 .1 .1 .1 .0) (Row.lease (κs .1 .1 .1 .1 .1 .0) (qs .1 .1 .1 .1 .1 .0)) (AsSlice.fz-lent-sl Cell.R 65540 10))) (List._∷_ (9, Frozen.held (Frozen.fz-open Syntax.erased 6 (κs .1 .1 .1 .1 .1 .1 .0) (Row.lease (κs .1 .1 .1 .1 .1 .1 .0) (qs .1 .1 .1 .1 .1 .1 .0)) (AsSlice.fz-lent-sl Cell.R 32772 11))) (List._∷_ (10, Rows.whole (Declared.row Outcome.the-type)) (List._∷_ (11, Rows.any-gone (Syntax.tyInt Syntax.w64)) (List._∷_ (12, Rows.any-gone (Syntax.tyInt Syntax.w64)) (List._∷_ (13, Rows.any-gone (Syntax.tyRef Syntax.erased Syntax.imm (Syntax.tyInt Syntax.w32))) (List._∷_ (14, Rows.any-gone (Syntax.tyStruct (List._∷_ 38 (List._∷_ 91 (List._∷_ 93 List.[]))) (Syntax.tcons (Syntax.tyRef Syntax.erased Syntax.imm (Syntax.tyInt Syntax.w32)) (Syntax.tcons (Syntax.tyInt Syntax.w64) Syntax.tnil)))) (List._∷_ (15, Rows.any-gone (Syntax.tyRef Syntax.erased Syntax.mut (Syntax.tyInt Syntax.w32))) List.[])))))))))))))))
 
         abbrev g25 : List.List Row.Entry
-        g25 = List._∷_ (0, Rows.any-gone (Syntax.tyStruct (List._∷_ 122 (List._∷_ 111 (List._∷_ 110 (List._∷_ 101 (List._∷_ 115 (List._∷_ 58 (List._∷_ 58 (List._∷_ 104 (List._∷_ 101 (List._∷_ 108 (List._∷_ 100 (List._∷_ 58 (List._∷_ 58 (List._∷_ 72 (List._∷_ 101 (List._∷_ 108 (List._∷_ 100 List.[]))))))))))))))))) (Syntax.tcons (Syntax.tyStruct (List._∷_ 112 (List._∷_ 121 (List._∷_ 114 (List._∷_ 97 (List._∷_ 109 (List._∷_ 105 (List._∷_ 100 (List._∷_ 58 (List._∷_ 58 (List._∷_ 83 (List._∷_ 116 (List._∷_ 97 (List._∷_ 116 (List._∷_ 101 List.[])))))))))))))) (Syntax.tcons (Syntax.tyInt Syntax.w32) (Syntax.tcons (Syntax.tyInt Syntax.w32) (Syntax.tcons (Syntax.tyInt Syntax.w32) (Syntax.tcons (Syntax.tyInt Syntax.w32) (Syntax.tcons (Syntax.tyInt Syntax.w32) (Syntax.tcons (Syntax.tyArray (Syntax.tyInt Syntax.w32) 64) Syntax.tnil))))))) (Syntax.tcons (Syntax.tyInt Syntax.w64) (Syntax.tcons (Syntax.tyInt Syntax.w64) (Syntax.tcons (Syntax.tyInt Syntax.w64) (Syntax.tcons (Syntax.tyInt Syntax.w64) (Syntax.tcons (Syntax.tyInt Syntax.w64) (Syntax.tcons (Syntax.tyInt Syntax.w64) (Syntax.tcons Syntax.tyBool Syntax.tnil)))))))))) (List._∷_ (1, Rows.whole (Declared.row Held.the-type)) (List._∷_ (2, Rows.any-gone (Syntax.tyStruct (List._∷_ 122 (List._∷_ 111 (List._∷_ 110 (List._∷_ 101 (List._∷_ 115 (List._∷_ 58 (List._∷_ 58 (List._∷_ 115 (List._∷_ 99 (List._∷_ 97 (List._∷_ 110 (List._∷_ 58 (List._∷_ 58 (List._∷_ 76 (List._∷_ 105 (List._∷_ 110 (List._∷_ 101 List.[]))))))))))))))))) (Syntax.tcons (Syntax.tyInt Syntax.w32) (Syntax.tcons (Syntax.tyInt Syntax.w64) (Syntax.tcons (Syntax.tyInt Syntax.w64) (Syntax.tcons (Syntax.tyInt Syntax.w64) (Syntax.tcons (Syntax.tyInt Syntax.w64) Syntax.tnil))))))) (List._∷_ (3, Rows.sref (Array.Array (Referent.rtF (Referent.fInt Syntax.w32)) 32772) (Syntax.tyRef (Syntax.named 0) Syntax.imm (Syntax.tyArray (Syntax.tyInt Syntax.w32) 32772)) 0) (List._∷_ (4, Frozen.held (Frozen.fz-open Syntax.erased 1 (κs .1 .0) (Row.lease (κs .1 .0) (qs .1 .0)) (AsSlice.fz-lent-sl (Referent.rtF (Referent.fInt Syntax.w32)) 65540 7))) (List._∷_ (5, Frozen.held (Frozen.fz-open Syntax.erased 2 (κs .1 .1 .0) (Row.lease (κs .1 .1 .0) (qs .1 .1 .0)) (AsSlice.fz-lent-sl (Referent.rtF (Referent.fInt Syntax.w32)) 32772 8))) (List._∷_ (6, Frozen.held (Frozen.fz-open Syntax.erased 3 (κs .1 .1 .1 .0) (Row.lease (κs .1 .1 .1 .0) (qs .1 .1 .1 .0)) (AsSlice.fz-lent-sl (Referent.rtF (Referent.fInt Syntax.w32)) 262160 9))) (List._∷_ (7, Rows.sref (Array.Array (Referent.rtF (Referent.fInt Syntax.w8)) 600000) (Syntax.tyRef (Syntax.named 4) Syntax.imm (Syntax.tyArray (Syntax.tyInt Syntax.w8) 600000)) 4) (List._∷_ (8, Frozen.held (Frozen.fz-open Syntax.erased 5 (κs .1 .1 .1 .1 .1 .0) (Row.lease (κs .1 .1 .1 .1 .1 .0) (qs .1 .1 .1 .1 .1 .0)) (AsSlice.fz-lent-sl Cell.R 65540 10))) (List._∷_ (9, Frozen.held (Frozen.fz-open Syntax.erased 6 (κs .1 .1 .1 .1 .1 .1 .0) (Row.lease (κs .1 .1 .1 .1 .1 .1 .0) (qs .1 .1 .1 .1 .1 .1 .0)) (AsSlice.fz-lent-sl Cell.R 32772 11))) (List._∷_ (10, Rows.whole (Declared.row Outcome.the-type)) (List._∷_ (11, Rows.any-gone (Syntax.tyInt Syntax.w64)) (List._∷_ (12, Rows.any-gone (Syntax.tyInt Syntax.w64)) (List._∷_ (13, Rows.any-gone (Syntax.tyRef Syntax.erased Syntax.imm (Syntax.tyInt Syntax.w32))) (List._∷_ (14, Rows.any-gone (Syntax.tyStruct (List._∷_ 38 (List._∷_ 91 (List._∷_ 93 List.[]))) (Syntax.tcons (Syntax.tyRef Syntax.erased Syntax.imm (Syntax.tyInt Syntax.w32)) (Syntax.tcons (Syntax.tyInt Syntax.w64) Syntax.tnil)))) (List._∷_ (15, Rows.any-gone (Syntax.tyRef Syntax.erased Syntax.mut (Syntax.tyInt Syntax.w32))) List.[])))))))))))))))
+        g25 = List._∷_ (0, Rows.any-gone (Syntax.tyStruct (List._∷_ 122 (List._∷_ 111 (List._∷_ 110 (List._∷_ 101 (List._∷_ 115 (List._∷_ 58 (List._∷_ 58 (List._∷_ 104 (List._∷_ 101 (List._∷_ 108 (List._∷_ 100 (List._∷_ 58 (List._∷_ 58 (List._∷_ 72 (List._∷_ 101 (List._∷_ 108 (List._∷_ 100 List.[]))))))))))))))))) (Syntax.tcons (Syntax.tyStruct (List._∷_ 112 (List._∷_ 121 (List._∷_ 114 (List._∷_ 97 (List._∷_ 109 (List._∷_ 105 (List._∷_ 100 (List._∷_ 58 (List._∷_ 58 (List._∷_ 83 (List._∷_ 116 (List._∷_ 97 (List._∷_ 116 (List._∷_ 101 List.[])))))))))))))) (Syntax.tcons (Syntax.tyInt Syntax.w32) (Syntax.tcons (Syntax.tyInt Syntax.w32) (Syntax.tcons (Syntax.tyInt Syntax.w32) (Syntax.tcons (Syntax.tyInt Syntax.w32) (Syntax.tcons (Syntax.tyInt Syntax.w32) (Syntax.tcons (Syntax.tyArray (Syntax.tyInt Syntax.w32) 64) Syntax.tnil))))))) (Syntax.tcons (Syntax.tyInt Syntax.w64) (Syntax.tcons (Syntax.tyInt Syntax.w64) (Syntax.tcons (Syntax.tyInt Syntax.w64) (Syntax.tcons (Syntax.tyInt Syntax.w64) (Syntax.tcons (Syntax.tyInt Syntax.w64) (Syntax.tcons (Syntax.tyInt Syntax.w64) (Syntax.tcons Syntax.tyBool Syntax.tnil)))))))))) (List._∷_ (1, Rows.whole (Declared.row Held.the-type)) (List._∷_ (2, Rows.any-gone (Syntax.tyStruct (List._∷_ 115 (List._∷_ 99 (List._∷_ 114 (List._∷_ 105 (List._∷_ 112 (List._∷_ 116 (List._∷_ 58 (List._∷_ 58 (List._∷_ 115 (List._∷_ 99 (List._∷_ 97 (List._∷_ 110 (List._∷_ 58 (List._∷_ 58 (List._∷_ 76 (List._∷_ 105 (List._∷_ 110 (List._∷_ 101 List.[])))))))))))))))))) (Syntax.tcons (Syntax.tyInt Syntax.w32) (Syntax.tcons (Syntax.tyInt Syntax.w64) (Syntax.tcons (Syntax.tyInt Syntax.w64) (Syntax.tcons (Syntax.tyInt Syntax.w64) (Syntax.tcons (Syntax.tyInt Syntax.w64) Syntax.tnil))))))) (List._∷_ (3, Rows.sref (Array.Array (Referent.rtF (Referent.fInt Syntax.w32)) 32772) (Syntax.tyRef (Syntax.named 0) Syntax.imm (Syntax.tyArray (Syntax.tyInt Syntax.w32) 32772)) 0) (List._∷_ (4, Frozen.held (Frozen.fz-open Syntax.erased 1 (κs .1 .0) (Row.lease (κs .1 .0) (qs .1 .0)) (AsSlice.fz-lent-sl (Referent.rtF (Referent.fInt Syntax.w32)) 65540 7))) (List._∷_ (5, Frozen.held (Frozen.fz-open Syntax.erased 2 (κs .1 .1 .0) (Row.lease (κs .1 .1 .0) (qs .1 .1 .0)) (AsSlice.fz-lent-sl (Referent.rtF (Referent.fInt Syntax.w32)) 32772 8))) (List._∷_ (6, Frozen.held (Frozen.fz-open Syntax.erased 3 (κs .1 .1 .1 .0) (Row.lease (κs .1 .1 .1 .0) (qs .1 .1 .1 .0)) (AsSlice.fz-lent-sl (Referent.rtF (Referent.fInt Syntax.w32)) 262160 9))) (List._∷_ (7, Rows.sref (Array.Array (Referent.rtF (Referent.fInt Syntax.w8)) 600000) (Syntax.tyRef (Syntax.named 4) Syntax.imm (Syntax.tyArray (Syntax.tyInt Syntax.w8) 600000)) 4) (List._∷_ (8, Frozen.held (Frozen.fz-open Syntax.erased 5 (κs .1 .1 .1 .1 .1 .0) (Row.lease (κs .1 .1 .1 .1 .1 .0) (qs .1 .1 .1 .1 .1 .0)) (AsSlice.fz-lent-sl Cell.R 65540 10))) (List._∷_ (9, Frozen.held (Frozen.fz-open Syntax.erased 6 (κs .1 .1 .1 .1 .1 .1 .0) (Row.lease (κs .1 .1 .1 .1 .1 .1 .0) (qs .1 .1 .1 .1 .1 .1 .0)) (AsSlice.fz-lent-sl Cell.R 32772 11))) (List._∷_ (10, Rows.whole (Declared.row Outcome.the-type)) (List._∷_ (11, Rows.any-gone (Syntax.tyInt Syntax.w64)) (List._∷_ (12, Rows.any-gone (Syntax.tyInt Syntax.w64)) (List._∷_ (13, Rows.any-gone (Syntax.tyRef Syntax.erased Syntax.imm (Syntax.tyInt Syntax.w32))) (List._∷_ (14, Rows.any-gone (Syntax.tyStruct (List._∷_ 38 (List._∷_ 91 (List._∷_ 93 List.[]))) (Syntax.tcons (Syntax.tyRef Syntax.erased Syntax.imm (Syntax.tyInt Syntax.w32)) (Syntax.tcons (Syntax.tyInt Syntax.w64) Syntax.tnil)))) (List._∷_ (15, Rows.any-gone (Syntax.tyRef Syntax.erased Syntax.mut (Syntax.tyInt Syntax.w32))) List.[])))))))))))))))
 
         abbrev g26 : List.List Row.Entry
-        g26 = List._∷_ (0, Rows.any-gone (Syntax.tyStruct (List._∷_ 122 (List._∷_ 111 (List._∷_ 110 (List._∷_ 101 (List._∷_ 115 (List._∷_ 58 (List._∷_ 58 (List._∷_ 104 (List._∷_ 101 (List._∷_ 108 (List._∷_ 100 (List._∷_ 58 (List._∷_ 58 (List._∷_ 72 (List._∷_ 101 (List._∷_ 108 (List._∷_ 100 List.[]))))))))))))))))) (Syntax.tcons (Syntax.tyStruct (List._∷_ 112 (List._∷_ 121 (List._∷_ 114 (List._∷_ 97 (List._∷_ 109 (List._∷_ 105 (List._∷_ 100 (List._∷_ 58 (List._∷_ 58 (List._∷_ 83 (List._∷_ 116 (List._∷_ 97 (List._∷_ 116 (List._∷_ 101 List.[])))))))))))))) (Syntax.tcons (Syntax.tyInt Syntax.w32) (Syntax.tcons (Syntax.tyInt Syntax.w32) (Syntax.tcons (Syntax.tyInt Syntax.w32) (Syntax.tcons (Syntax.tyInt Syntax.w32) (Syntax.tcons (Syntax.tyInt Syntax.w32) (Syntax.tcons (Syntax.tyArray (Syntax.tyInt Syntax.w32) 64) Syntax.tnil))))))) (Syntax.tcons (Syntax.tyInt Syntax.w64) (Syntax.tcons (Syntax.tyInt Syntax.w64) (Syntax.tcons (Syntax.tyInt Syntax.w64) (Syntax.tcons (Syntax.tyInt Syntax.w64) (Syntax.tcons (Syntax.tyInt Syntax.w64) (Syntax.tcons (Syntax.tyInt Syntax.w64) (Syntax.tcons Syntax.tyBool Syntax.tnil)))))))))) (List._∷_ (1, Rows.whole (Declared.row Held.the-type)) (List._∷_ (2, Rows.any-gone (Syntax.tyStruct (List._∷_ 122 (List._∷_ 111 (List._∷_ 110 (List._∷_ 101 (List._∷_ 115 (List._∷_ 58 (List._∷_ 58 (List._∷_ 115 (List._∷_ 99 (List._∷_ 97 (List._∷_ 110 (List._∷_ 58 (List._∷_ 58 (List._∷_ 76 (List._∷_ 105 (List._∷_ 110 (List._∷_ 101 List.[]))))))))))))))))) (Syntax.tcons (Syntax.tyInt Syntax.w32) (Syntax.tcons (Syntax.tyInt Syntax.w64) (Syntax.tcons (Syntax.tyInt Syntax.w64) (Syntax.tcons (Syntax.tyInt Syntax.w64) (Syntax.tcons (Syntax.tyInt Syntax.w64) Syntax.tnil))))))) (List._∷_ (3, Rows.sref (Array.Array (Referent.rtF (Referent.fInt Syntax.w32)) 32772) (Syntax.tyRef (Syntax.named 0) Syntax.imm (Syntax.tyArray (Syntax.tyInt Syntax.w32) 32772)) 0) (List._∷_ (4, Rows.mref (Array.Array (Referent.rtF (Referent.fInt Syntax.w32)) 65540) (Syntax.tyRef (Syntax.named 1) Syntax.mut (Syntax.tyArray (Syntax.tyInt Syntax.w32) 65540)) 1) (List._∷_ (5, Frozen.held (Frozen.fz-open Syntax.erased 2 (κs .1 .1 .0) (Row.lease (κs .1 .1 .0) (qs .1 .1 .0)) (AsSlice.fz-lent-sl (Referent.rtF (Referent.fInt Syntax.w32)) 32772 8))) (List._∷_ (6, Frozen.held (Frozen.fz-open Syntax.erased 3 (κs .1 .1 .1 .0) (Row.lease (κs .1 .1 .1 .0) (qs .1 .1 .1 .0)) (AsSlice.fz-lent-sl (Referent.rtF (Referent.fInt Syntax.w32)) 262160 9))) (List._∷_ (7, Rows.sref (Array.Array (Referent.rtF (Referent.fInt Syntax.w8)) 600000) (Syntax.tyRef (Syntax.named 4) Syntax.imm (Syntax.tyArray (Syntax.tyInt Syntax.w8) 600000)) 4) (List._∷_ (8, Frozen.held (Frozen.fz-open Syntax.erased 5 (κs .1 .1 .1 .1 .1 .0) (Row.lease (κs .1 .1 .1 .1 .1 .0) (qs .1 .1 .1 .1 .1 .0)) (AsSlice.fz-lent-sl Cell.R 65540 10))) (List._∷_ (9, Frozen.held (Frozen.fz-open Syntax.erased 6 (κs .1 .1 .1 .1 .1 .1 .0) (Row.lease (κs .1 .1 .1 .1 .1 .1 .0) (qs .1 .1 .1 .1 .1 .1 .0)) (AsSlice.fz-lent-sl Cell.R 32772 11))) (List._∷_ (10, Rows.whole (Declared.row Outcome.the-type)) (List._∷_ (11, Rows.any-gone (Syntax.tyInt Syntax.w64)) (List._∷_ (12, Rows.any-gone (Syntax.tyInt Syntax.w64)) (List._∷_ (13, Rows.any-gone (Syntax.tyRef Syntax.erased Syntax.imm (Syntax.tyInt Syntax.w32))) (List._∷_ (14, Rows.any-gone (Syntax.tyStruct (List._∷_ 38 (List._∷_ 91 (List._∷_ 93 List.[]))) (Syntax.tcons (Syntax.tyRef Syntax.erased Syntax.imm (Syntax.tyInt Syntax.w32)) (Syntax.tcons (Syntax.tyInt Syntax.w64) Syntax.tnil)))) (List._∷_ (15, Rows.any-gone (Syntax.tyRef Syntax.erased Syntax.mut (Syntax.tyInt Syntax.w32))) List.[])))))))))))))))
+        g26 = List._∷_ (0, Rows.any-gone (Syntax.tyStruct (List._∷_ 122 (List._∷_ 111 (List._∷_ 110 (List._∷_ 101 (List._∷_ 115 (List._∷_ 58 (List._∷_ 58 (List._∷_ 104 (List._∷_ 101 (List._∷_ 108 (List._∷_ 100 (List._∷_ 58 (List._∷_ 58 (List._∷_ 72 (List._∷_ 101 (List._∷_ 108 (List._∷_ 100 List.[]))))))))))))))))) (Syntax.tcons (Syntax.tyStruct (List._∷_ 112 (List._∷_ 121 (List._∷_ 114 (List._∷_ 97 (List._∷_ 109 (List._∷_ 105 (List._∷_ 100 (List._∷_ 58 (List._∷_ 58 (List._∷_ 83 (List._∷_ 116 (List._∷_ 97 (List._∷_ 116 (List._∷_ 101 List.[])))))))))))))) (Syntax.tcons (Syntax.tyInt Syntax.w32) (Syntax.tcons (Syntax.tyInt Syntax.w32) (Syntax.tcons (Syntax.tyInt Syntax.w32) (Syntax.tcons (Syntax.tyInt Syntax.w32) (Syntax.tcons (Syntax.tyInt Syntax.w32) (Syntax.tcons (Syntax.tyArray (Syntax.tyInt Syntax.w32) 64) Syntax.tnil))))))) (Syntax.tcons (Syntax.tyInt Syntax.w64) (Syntax.tcons (Syntax.tyInt Syntax.w64) (Syntax.tcons (Syntax.tyInt Syntax.w64) (Syntax.tcons (Syntax.tyInt Syntax.w64) (Syntax.tcons (Syntax.tyInt Syntax.w64) (Syntax.tcons (Syntax.tyInt Syntax.w64) (Syntax.tcons Syntax.tyBool Syntax.tnil)))))))))) (List._∷_ (1, Rows.whole (Declared.row Held.the-type)) (List._∷_ (2, Rows.any-gone (Syntax.tyStruct (List._∷_ 115 (List._∷_ 99 (List._∷_ 114 (List._∷_ 105 (List._∷_ 112 (List._∷_ 116 (List._∷_ 58 (List._∷_ 58 (List._∷_ 115 (List._∷_ 99 (List._∷_ 97 (List._∷_ 110 (List._∷_ 58 (List._∷_ 58 (List._∷_ 76 (List._∷_ 105 (List._∷_ 110 (List._∷_ 101 List.[])))))))))))))))))) (Syntax.tcons (Syntax.tyInt Syntax.w32) (Syntax.tcons (Syntax.tyInt Syntax.w64) (Syntax.tcons (Syntax.tyInt Syntax.w64) (Syntax.tcons (Syntax.tyInt Syntax.w64) (Syntax.tcons (Syntax.tyInt Syntax.w64) Syntax.tnil))))))) (List._∷_ (3, Rows.sref (Array.Array (Referent.rtF (Referent.fInt Syntax.w32)) 32772) (Syntax.tyRef (Syntax.named 0) Syntax.imm (Syntax.tyArray (Syntax.tyInt Syntax.w32) 32772)) 0) (List._∷_ (4, Rows.mref (Array.Array (Referent.rtF (Referent.fInt Syntax.w32)) 65540) (Syntax.tyRef (Syntax.named 1) Syntax.mut (Syntax.tyArray (Syntax.tyInt Syntax.w32) 65540)) 1) (List._∷_ (5, Frozen.held (Frozen.fz-open Syntax.erased 2 (κs .1 .1 .0) (Row.lease (κs .1 .1 .0) (qs .1 .1 .0)) (AsSlice.fz-lent-sl (Referent.rtF (Referent.fInt Syntax.w32)) 32772 8))) (List._∷_ (6, Frozen.held (Frozen.fz-open Syntax.erased 3 (κs .1 .1 .1 .0) (Row.lease (κs .1 .1 .1 .0) (qs .1 .1 .1 .0)) (AsSlice.fz-lent-sl (Referent.rtF (Referent.fInt Syntax.w32)) 262160 9))) (List._∷_ (7, Rows.sref (Array.Array (Referent.rtF (Referent.fInt Syntax.w8)) 600000) (Syntax.tyRef (Syntax.named 4) Syntax.imm (Syntax.tyArray (Syntax.tyInt Syntax.w8) 600000)) 4) (List._∷_ (8, Frozen.held (Frozen.fz-open Syntax.erased 5 (κs .1 .1 .1 .1 .1 .0) (Row.lease (κs .1 .1 .1 .1 .1 .0) (qs .1 .1 .1 .1 .1 .0)) (AsSlice.fz-lent-sl Cell.R 65540 10))) (List._∷_ (9, Frozen.held (Frozen.fz-open Syntax.erased 6 (κs .1 .1 .1 .1 .1 .1 .0) (Row.lease (κs .1 .1 .1 .1 .1 .1 .0) (qs .1 .1 .1 .1 .1 .1 .0)) (AsSlice.fz-lent-sl Cell.R 32772 11))) (List._∷_ (10, Rows.whole (Declared.row Outcome.the-type)) (List._∷_ (11, Rows.any-gone (Syntax.tyInt Syntax.w64)) (List._∷_ (12, Rows.any-gone (Syntax.tyInt Syntax.w64)) (List._∷_ (13, Rows.any-gone (Syntax.tyRef Syntax.erased Syntax.imm (Syntax.tyInt Syntax.w32))) (List._∷_ (14, Rows.any-gone (Syntax.tyStruct (List._∷_ 38 (List._∷_ 91 (List._∷_ 93 List.[]))) (Syntax.tcons (Syntax.tyRef Syntax.erased Syntax.imm (Syntax.tyInt Syntax.w32)) (Syntax.tcons (Syntax.tyInt Syntax.w64) Syntax.tnil)))) (List._∷_ (15, Rows.any-gone (Syntax.tyRef Syntax.erased Syntax.mut (Syntax.tyInt Syntax.w32))) List.[])))))))))))))))
 
         abbrev g28 : List.List Row.Entry
-        g28 = List._∷_ (0, Rows.any-gone (Syntax.tyStruct (List._∷_ 122 (List._∷_ 111 (List._∷_ 110 (List._∷_ 101 (List._∷_ 115 (List._∷_ 58 (List._∷_ 58 (List._∷_ 104 (List._∷_ 101 (List._∷_ 108 (List._∷_ 100 (List._∷_ 58 (List._∷_ 58 (List._∷_ 72 (List._∷_ 101 (List._∷_ 108 (List._∷_ 100 List.[]))))))))))))))))) (Syntax.tcons (Syntax.tyStruct (List._∷_ 112 (List._∷_ 121 (List._∷_ 114 (List._∷_ 97 (List._∷_ 109 (List._∷_ 105 (List._∷_ 100 (List._∷_ 58 (List._∷_ 58 (List._∷_ 83 (List._∷_ 116 (List._∷_ 97 (List._∷_ 116 (List._∷_ 101 List.[])))))))))))))) (Syntax.tcons (Syntax.tyInt Syntax.w32) (Syntax.tcons (Syntax.tyInt Syntax.w32) (Syntax.tcons (Syntax.tyInt Syntax.w32) (Syntax.tcons (Syntax.tyInt Syntax.w32) (Syntax.tcons (Syntax.tyInt Syntax.w32) (Syntax.tcons (Syntax.tyArray (Syntax.tyInt Syntax.w32) 64) Syntax.tnil))))))) (Syntax.tcons (Syntax.tyInt Syntax.w64) (Syntax.tcons (Syntax.tyInt Syntax.w64) (Syntax.tcons (Syntax.tyInt Syntax.w64) (Syntax.tcons (Syntax.tyInt Syntax.w64) (Syntax.tcons (Syntax.tyInt Syntax.w64) (Syntax.tcons (Syntax.tyInt Syntax.w64) (Syntax.tcons Syntax.tyBool Syntax.tnil)))))))))) (List._∷_ (1, Rows.whole (Declared.row Held.the-type)) (List._∷_ (2, Rows.any-gone (Syntax.tyStruct (List._∷_ 122 (List._∷_ 111 (List._∷_ 110 (List._∷_ 101 (List._∷_ 115 (List._∷_ 58 (List._∷_ 58 (List._∷_ 115 (List._∷_ 99 (List._∷_ 97 (List._∷_ 110 (List._∷_ 58 (List._∷_ 58 (List._∷_ 76 (List._∷_ 105 (List._∷_ 110 (List._∷_ 101 List.[]))))))))))))))))) (Syntax.tcons (Syntax.tyInt Syntax.w32) (Syntax.tcons (Syntax.tyInt Syntax.w64) (Syntax.tcons (Syntax.tyInt Syntax.w64) (Syntax.tcons (Syntax.tyInt Syntax.w64) (Syntax.tcons (Syntax.tyInt Syntax.w64) Syntax.tnil))))))) (List._∷_ (3, Rows.sref (Array.Array (Referent.rtF (Referent.fInt Syntax.w32)) 32772) (Syntax.tyRef (Syntax.named 0) Syntax.imm (Syntax.tyArray (Syntax.tyInt Syntax.w32) 32772)) 0) (List._∷_ (4, Rows.mref (Array.Array (Referent.rtF (Referent.fInt Syntax.w32)) 65540) (Syntax.tyRef (Syntax.named 1) Syntax.mut (Syntax.tyArray (Syntax.tyInt Syntax.w32) 65540)) 1) (List._∷_ (5, Rows.mref (Array.Array (Referent.rtF (Referent.fInt Syntax.w32)) 32772) (Syntax.tyRef (Syntax.named 2) Syntax.mut (Syntax.tyArray (Syntax.tyInt Syntax.w32) 32772)) 2) (List._∷_ (6, Frozen.held (Frozen.fz-open Syntax.erased 3 (κs .1 .1 .1 .0) (Row.lease (κs .1 .1 .1 .0) (qs .1 .1 .1 .0)) (AsSlice.fz-lent-sl (Referent.rtF (Referent.fInt Syntax.w32)) 262160 9))) (List._∷_ (7, Rows.sref (Array.Array (Referent.rtF (Referent.fInt Syntax.w8)) 600000) (Syntax.tyRef (Syntax.named 4) Syntax.imm (Syntax.tyArray (Syntax.tyInt Syntax.w8) 600000)) 4) (List._∷_ (8, Frozen.held (Frozen.fz-open Syntax.erased 5 (κs .1 .1 .1 .1 .1 .0) (Row.lease (κs .1 .1 .1 .1 .1 .0) (qs .1 .1 .1 .1 .1 .0)) (AsSlice.fz-lent-sl Cell.R 65540 10))) (List._∷_ (9, Frozen.held (Frozen.fz-open Syntax.erased 6 (κs .1 .1 .1 .1 .1 .1 .0) (Row.lease (κs .1 .1 .1 .1 .1 .1 .0) (qs .1 .1 .1 .1 .1 .1 .0)) (AsSlice.fz-lent-sl Cell.R 32772 11))) (List._∷_ (10, Rows.whole (Declared.row Outcome.the-type)) (List._∷_ (11, Rows.any-gone (Syntax.tyInt Syntax.w64)) (List._∷_ (12, Rows.any-gone (Syntax.tyInt Syntax.w64)) (List._∷_ (13, Rows.any-gone (Syntax.tyRef Syntax.erased Syntax.imm (Syntax.tyInt Syntax.w32))) (List._∷_ (14, Rows.any-gone (Syntax.tyStruct (List._∷_ 38 (List._∷_ 91 (List._∷_ 93 List.[]))) (Syntax.tcons (Syntax.tyRef Syntax.erased Syntax.imm (Syntax.tyInt Syntax.w32)) (Syntax.tcons (Syntax.tyInt Syntax.w64) Syntax.tnil)))) (List._∷_ (15, Rows.any-gone (Syntax.tyRef Syntax.erased Syntax.mut (Syntax.tyInt Syntax.w32))) List.[])))))))))))))))
+        g28 = List._∷_ (0, Rows.any-gone (Syntax.tyStruct (List._∷_ 122 (List._∷_ 111 (List._∷_ 110 (List._∷_ 101 (List._∷_ 115 (List._∷_ 58 (List._∷_ 58 (List._∷_ 104 (List._∷_ 101 (List._∷_ 108 (List._∷_ 100 (List._∷_ 58 (List._∷_ 58 (List._∷_ 72 (List._∷_ 101 (List._∷_ 108 (List._∷_ 100 List.[]))))))))))))))))) (Syntax.tcons (Syntax.tyStruct (List._∷_ 112 (List._∷_ 121 (List._∷_ 114 (List._∷_ 97 (List._∷_ 109 (List._∷_ 105 (List._∷_ 100 (List._∷_ 58 (List._∷_ 58 (List._∷_ 83 (List._∷_ 116 (List._∷_ 97 (List._∷_ 116 (List._∷_ 101 List.[])))))))))))))) (Syntax.tcons (Syntax.tyInt Syntax.w32) (Syntax.tcons (Syntax.tyInt Syntax.w32) (Syntax.tcons (Syntax.tyInt Syntax.w32) (Syntax.tcons (Syntax.tyInt Syntax.w32) (Syntax.tcons (Syntax.tyInt Syntax.w32) (Syntax.tcons (Syntax.tyArray (Syntax.tyInt Syntax.w32) 64) Syntax.tnil))))))) (Syntax.tcons (Syntax.tyInt Syntax.w64) (Syntax.tcons (Syntax.tyInt Syntax.w64) (Syntax.tcons (Syntax.tyInt Syntax.w64) (Syntax.tcons (Syntax.tyInt Syntax.w64) (Syntax.tcons (Syntax.tyInt Syntax.w64) (Syntax.tcons (Syntax.tyInt Syntax.w64) (Syntax.tcons Syntax.tyBool Syntax.tnil)))))))))) (List._∷_ (1, Rows.whole (Declared.row Held.the-type)) (List._∷_ (2, Rows.any-gone (Syntax.tyStruct (List._∷_ 115 (List._∷_ 99 (List._∷_ 114 (List._∷_ 105 (List._∷_ 112 (List._∷_ 116 (List._∷_ 58 (List._∷_ 58 (List._∷_ 115 (List._∷_ 99 (List._∷_ 97 (List._∷_ 110 (List._∷_ 58 (List._∷_ 58 (List._∷_ 76 (List._∷_ 105 (List._∷_ 110 (List._∷_ 101 List.[])))))))))))))))))) (Syntax.tcons (Syntax.tyInt Syntax.w32) (Syntax.tcons (Syntax.tyInt Syntax.w64) (Syntax.tcons (Syntax.tyInt Syntax.w64) (Syntax.tcons (Syntax.tyInt Syntax.w64) (Syntax.tcons (Syntax.tyInt Syntax.w64) Syntax.tnil))))))) (List._∷_ (3, Rows.sref (Array.Array (Referent.rtF (Referent.fInt Syntax.w32)) 32772) (Syntax.tyRef (Syntax.named 0) Syntax.imm (Syntax.tyArray (Syntax.tyInt Syntax.w32) 32772)) 0) (List._∷_ (4, Rows.mref (Array.Array (Referent.rtF (Referent.fInt Syntax.w32)) 65540) (Syntax.tyRef (Syntax.named 1) Syntax.mut (Syntax.tyArray (Syntax.tyInt Syntax.w32) 65540)) 1) (List._∷_ (5, Rows.mref (Array.Array (Referent.rtF (Referent.fInt Syntax.w32)) 32772) (Syntax.tyRef (Syntax.named 2) Syntax.mut (Syntax.tyArray (Syntax.tyInt Syntax.w32) 32772)) 2) (List._∷_ (6, Frozen.held (Frozen.fz-open Syntax.erased 3 (κs .1 .1 .1 .0) (Row.lease (κs .1 .1 .1 .0) (qs .1 .1 .1 .0)) (AsSlice.fz-lent-sl (Referent.rtF (Referent.fInt Syntax.w32)) 262160 9))) (List._∷_ (7, Rows.sref (Array.Array (Referent.rtF (Referent.fInt Syntax.w8)) 600000) (Syntax.tyRef (Syntax.named 4) Syntax.imm (Syntax.tyArray (Syntax.tyInt Syntax.w8) 600000)) 4) (List._∷_ (8, Frozen.held (Frozen.fz-open Syntax.erased 5 (κs .1 .1 .1 .1 .1 .0) (Row.lease (κs .1 .1 .1 .1 .1 .0) (qs .1 .1 .1 .1 .1 .0)) (AsSlice.fz-lent-sl Cell.R 65540 10))) (List._∷_ (9, Frozen.held (Frozen.fz-open Syntax.erased 6 (κs .1 .1 .1 .1 .1 .1 .0) (Row.lease (κs .1 .1 .1 .1 .1 .1 .0) (qs .1 .1 .1 .1 .1 .1 .0)) (AsSlice.fz-lent-sl Cell.R 32772 11))) (List._∷_ (10, Rows.whole (Declared.row Outcome.the-type)) (List._∷_ (11, Rows.any-gone (Syntax.tyInt Syntax.w64)) (List._∷_ (12, Rows.any-gone (Syntax.tyInt Syntax.w64)) (List._∷_ (13, Rows.any-gone (Syntax.tyRef Syntax.erased Syntax.imm (Syntax.tyInt Syntax.w32))) (List._∷_ (14, Rows.any-gone (Syntax.tyStruct (List._∷_ 38 (List._∷_ 91 (List._∷_ 93 List.[]))) (Syntax.tcons (Syntax.tyRef Syntax.erased Syntax.imm (Syntax.tyInt Syntax.w32)) (Syntax.tcons (Syntax.tyInt Syntax.w64) Syntax.tnil)))) (List._∷_ (15, Rows.any-gone (Syntax.tyRef Syntax.erased Syntax.mut (Syntax.tyInt Syntax.w32))) List.[])))))))))))))))
 
         abbrev g30 : List.List Row.Entry
-        g30 = List._∷_ (0, Rows.any-gone (Syntax.tyStruct (List._∷_ 122 (List._∷_ 111 (List._∷_ 110 (List._∷_ 101 (List._∷_ 115 (List._∷_ 58 (List._∷_ 58 (List._∷_ 104 (List._∷_ 101 (List._∷_ 108 (List._∷_ 100 (List._∷_ 58 (List._∷_ 58 (List._∷_ 72 (List._∷_ 101 (List._∷_ 108 (List._∷_ 100 List.[]))))))))))))))))) (Syntax.tcons (Syntax.tyStruct (List._∷_ 112 (List._∷_ 121 (List._∷_ 114 (List._∷_ 97 (List._∷_ 109 (List._∷_ 105 (List._∷_ 100 (List._∷_ 58 (List._∷_ 58 (List._∷_ 83 (List._∷_ 116 (List._∷_ 97 (List._∷_ 116 (List._∷_ 101 List.[])))))))))))))) (Syntax.tcons (Syntax.tyInt Syntax.w32) (Syntax.tcons (Syntax.tyInt Syntax.w32) (Syntax.tcons (Syntax.tyInt Syntax.w32) (Syntax.tcons (Syntax.tyInt Syntax.w32) (Syntax.tcons (Syntax.tyInt Syntax.w32) (Syntax.tcons (Syntax.tyArray (Syntax.tyInt Syntax.w32) 64) Syntax.tnil))))))) (Syntax.tcons (Syntax.tyInt Syntax.w64) (Syntax.tcons (Syntax.tyInt Syntax.w64) (Syntax.tcons (Syntax.tyInt Syntax.w64) (Syntax.tcons (Syntax.tyInt Syntax.w64) (Syntax.tcons (Syntax.tyInt Syntax.w64) (Syntax.tcons (Syntax.tyInt Syntax.w64) (Syntax.tcons Syntax.tyBool Syntax.tnil)))))))))) (List._∷_ (1, Rows.whole (Declared.row Held.the-type)) (List._∷_ (2, Rows.any-gone (Syntax.tyStruct (List._∷_ 122 (List._∷_ 111 (List._∷_ 110 (List._∷_ 101 (List._∷_ 115 (List._∷_ 58 (List._∷_ 58 (List._∷_ 115 (List._∷_ 99 (List._∷_ 97 (List._∷_ 110 (List._∷_ 58 (List._∷_ 58 (List._∷_ 76 (List._∷_ 105 (List._∷_ 110 (List._∷_ 101 List.[]))))))))))))))))) (Syntax.tcons (Syntax.tyInt Syntax.w32) (Syntax.tcons (Syntax.tyInt Syntax.w64) (Syntax.tcons (Syntax.tyInt Syntax.w64) (Syntax.tcons (Syntax.tyInt Syntax.w64) (Syntax.tcons (Syntax.tyInt Syntax.w64) Syntax.tnil))))))) (List._∷_ (3, Rows.sref (Array.Array (Referent.rtF (Referent.fInt Syntax.w32)) 32772) (Syntax.tyRef (Syntax.named 0) Syntax.imm (Syntax.tyArray (Syntax.tyInt Syntax.w32) 32772)) 0) (List._∷_ (4, Rows.mref (Array.Array (Referent.rtF (Referent.fInt Syntax.w32)) 65540) (Syntax.tyRef (Syntax.named 1) Syntax.mut (Syntax.tyArray (Syntax.tyInt Syntax.w32) 65540)) 1) (List._∷_ (5, Rows.mref (Array.Array (Referent.rtF (Referent.fInt Syntax.w32)) 32772) (Syntax.tyRef (Syntax.named 2) Syntax.mut (Syntax.tyArray (Syntax.tyInt Syntax.w32) 32772)) 2) (List._∷_ (6, Rows.mref (Array.Array (Referent.rtF (Referent.fInt Syntax.w32)) 262160) (Syntax.tyRef (Syntax.named 3) Syntax.mut (Syntax.tyArray (Syntax.tyInt Syntax.w32) 262160)) 3) (List._∷_ (7, Rows.sref (Array.Array (Referent.rtF (Referent.fInt Syntax.w8)) 600000) (Syntax.tyRef (Syntax.named 4) Syntax.imm (Syntax.tyArray (Syntax.tyInt Syntax.w8) 600000)) 4) (List._∷_ (8, Frozen.held (Frozen.fz-open Syntax.erased 5 (κs .1 .1 .1 .1 .1 .0) (Row.lease (κs .1 .1 .1 .1 .1 .0) (qs .1 .1 .1 .1 .1 .0)) (AsSlice.fz-lent-sl Cell.R 65540 10))) (List._∷_ (9, Frozen.held (Frozen.fz-open Syntax.erased 6 (κs .1 .1 .1 .1 .1 .1 .0) (Row.lease (κs .1 .1 .1 .1 .1 .1 .0) (qs .1 .1 .1 .1 .1 .1 .0)) (AsSlice.fz-lent-sl Cell.R 32772 11))) (List._∷_ (10, Rows.whole (Declared.row Outcome.the-type)) (List._∷_ (11, Rows.any-gone (Syntax.tyInt Syntax.w64)) (List._∷_ (12, Rows.any-gone (Syntax.tyInt Syntax.w64)) (List._∷_ (13, Rows.any-gone (Syntax.tyRef Syntax.erased Syntax.imm (Syntax.tyInt Syntax.w32))) (List._∷_ (14, Rows.any-gone (Syntax.tyStruct (List._∷_ 38 (List._∷_ 91 (List._∷_ 93 List.[]))) (Syntax.tcons (Syntax.tyRef Syntax.erased Syntax.imm (Syntax.tyInt Syntax.w32)) (Syntax.tcons (Syntax.tyInt Syntax.w64) Syntax.tnil)))) (List._∷_ (15, Rows.any-gone (Syntax.tyRef Syntax.erased Syntax.mut (Syntax.tyInt Syntax.w32))) List.[])))))))))))))))
+        g30 = List._∷_ (0, Rows.any-gone (Syntax.tyStruct (List._∷_ 122 (List._∷_ 111 (List._∷_ 110 (List._∷_ 101 (List._∷_ 115 (List._∷_ 58 (List._∷_ 58 (List._∷_ 104 (List._∷_ 101 (List._∷_ 108 (List._∷_ 100 (List._∷_ 58 (List._∷_ 58 (List._∷_ 72 (List._∷_ 101 (List._∷_ 108 (List._∷_ 100 List.[]))))))))))))))))) (Syntax.tcons (Syntax.tyStruct (List._∷_ 112 (List._∷_ 121 (List._∷_ 114 (List._∷_ 97 (List._∷_ 109 (List._∷_ 105 (List._∷_ 100 (List._∷_ 58 (List._∷_ 58 (List._∷_ 83 (List._∷_ 116 (List._∷_ 97 (List._∷_ 116 (List._∷_ 101 List.[])))))))))))))) (Syntax.tcons (Syntax.tyInt Syntax.w32) (Syntax.tcons (Syntax.tyInt Syntax.w32) (Syntax.tcons (Syntax.tyInt Syntax.w32) (Syntax.tcons (Syntax.tyInt Syntax.w32) (Syntax.tcons (Syntax.tyInt Syntax.w32) (Syntax.tcons (Syntax.tyArray (Syntax.tyInt Syntax.w32) 64) Syntax.tnil))))))) (Syntax.tcons (Syntax.tyInt Syntax.w64) (Syntax.tcons (Syntax.tyInt Syntax.w64) (Syntax.tcons (Syntax.tyInt Syntax.w64) (Syntax.tcons (Syntax.tyInt Syntax.w64) (Syntax.tcons (Syntax.tyInt Syntax.w64) (Syntax.tcons (Syntax.tyInt Syntax.w64) (Syntax.tcons Syntax.tyBool Syntax.tnil)))))))))) (List._∷_ (1, Rows.whole (Declared.row Held.the-type)) (List._∷_ (2, Rows.any-gone (Syntax.tyStruct (List._∷_ 115 (List._∷_ 99 (List._∷_ 114 (List._∷_ 105 (List._∷_ 112 (List._∷_ 116 (List._∷_ 58 (List._∷_ 58 (List._∷_ 115 (List._∷_ 99 (List._∷_ 97 (List._∷_ 110 (List._∷_ 58 (List._∷_ 58 (List._∷_ 76 (List._∷_ 105 (List._∷_ 110 (List._∷_ 101 List.[])))))))))))))))))) (Syntax.tcons (Syntax.tyInt Syntax.w32) (Syntax.tcons (Syntax.tyInt Syntax.w64) (Syntax.tcons (Syntax.tyInt Syntax.w64) (Syntax.tcons (Syntax.tyInt Syntax.w64) (Syntax.tcons (Syntax.tyInt Syntax.w64) Syntax.tnil))))))) (List._∷_ (3, Rows.sref (Array.Array (Referent.rtF (Referent.fInt Syntax.w32)) 32772) (Syntax.tyRef (Syntax.named 0) Syntax.imm (Syntax.tyArray (Syntax.tyInt Syntax.w32) 32772)) 0) (List._∷_ (4, Rows.mref (Array.Array (Referent.rtF (Referent.fInt Syntax.w32)) 65540) (Syntax.tyRef (Syntax.named 1) Syntax.mut (Syntax.tyArray (Syntax.tyInt Syntax.w32) 65540)) 1) (List._∷_ (5, Rows.mref (Array.Array (Referent.rtF (Referent.fInt Syntax.w32)) 32772) (Syntax.tyRef (Syntax.named 2) Syntax.mut (Syntax.tyArray (Syntax.tyInt Syntax.w32) 32772)) 2) (List._∷_ (6, Rows.mref (Array.Array (Referent.rtF (Referent.fInt Syntax.w32)) 262160) (Syntax.tyRef (Syntax.named 3) Syntax.mut (Syntax.tyArray (Syntax.tyInt Syntax.w32) 262160)) 3) (List._∷_ (7, Rows.sref (Array.Array (Referent.rtF (Referent.fInt Syntax.w8)) 600000) (Syntax.tyRef (Syntax.named 4) Syntax.imm (Syntax.tyArray (Syntax.tyInt Syntax.w8) 600000)) 4) (List._∷_ (8, Frozen.held (Frozen.fz-open Syntax.erased 5 (κs .1 .1 .1 .1 .1 .0) (Row.lease (κs .1 .1 .1 .1 .1 .0) (qs .1 .1 .1 .1 .1 .0)) (AsSlice.fz-lent-sl Cell.R 65540 10))) (List._∷_ (9, Frozen.held (Frozen.fz-open Syntax.erased 6 (κs .1 .1 .1 .1 .1 .1 .0) (Row.lease (κs .1 .1 .1 .1 .1 .1 .0) (qs .1 .1 .1 .1 .1 .1 .0)) (AsSlice.fz-lent-sl Cell.R 32772 11))) (List._∷_ (10, Rows.whole (Declared.row Outcome.the-type)) (List._∷_ (11, Rows.any-gone (Syntax.tyInt Syntax.w64)) (List._∷_ (12, Rows.any-gone (Syntax.tyInt Syntax.w64)) (List._∷_ (13, Rows.any-gone (Syntax.tyRef Syntax.erased Syntax.imm (Syntax.tyInt Syntax.w32))) (List._∷_ (14, Rows.any-gone (Syntax.tyStruct (List._∷_ 38 (List._∷_ 91 (List._∷_ 93 List.[]))) (Syntax.tcons (Syntax.tyRef Syntax.erased Syntax.imm (Syntax.tyInt Syntax.w32)) (Syntax.tcons (Syntax.tyInt Syntax.w64) Syntax.tnil)))) (List._∷_ (15, Rows.any-gone (Syntax.tyRef Syntax.erased Syntax.mut (Syntax.tyInt Syntax.w32))) List.[])))))))))))))))
 
         abbrev g32 : List.List Row.Entry
-        g32 = List._∷_ (0, Rows.any-gone (Syntax.tyStruct (List._∷_ 122 (List._∷_ 111 (List._∷_ 110 (List._∷_ 101 (List._∷_ 115 (List._∷_ 58 (List._∷_ 58 (List._∷_ 104 (List._∷_ 101 (List._∷_ 108 (List._∷_ 100 (List._∷_ 58 (List._∷_ 58 (List._∷_ 72 (List._∷_ 101 (List._∷_ 108 (List._∷_ 100 List.[]))))))))))))))))) (Syntax.tcons (Syntax.tyStruct (List._∷_ 112 (List._∷_ 121 (List._∷_ 114 (List._∷_ 97 (List._∷_ 109 (List._∷_ 105 (List._∷_ 100 (List._∷_ 58 (List._∷_ 58 (List._∷_ 83 (List._∷_ 116 (List._∷_ 97 (List._∷_ 116 (List._∷_ 101 List.[])))))))))))))) (Syntax.tcons (Syntax.tyInt Syntax.w32) (Syntax.tcons (Syntax.tyInt Syntax.w32) (Syntax.tcons (Syntax.tyInt Syntax.w32) (Syntax.tcons (Syntax.tyInt Syntax.w32) (Syntax.tcons (Syntax.tyInt Syntax.w32) (Syntax.tcons (Syntax.tyArray (Syntax.tyInt Syntax.w32) 64) Syntax.tnil))))))) (Syntax.tcons (Syntax.tyInt Syntax.w64) (Syntax.tcons (Syntax.tyInt Syntax.w64) (Syntax.tcons (Syntax.tyInt Syntax.w64) (Syntax.tcons (Syntax.tyInt Syntax.w64) (Syntax.tcons (Syntax.tyInt Syntax.w64) (Syntax.tcons (Syntax.tyInt Syntax.w64) (Syntax.tcons Syntax.tyBool Syntax.tnil)))))))))) (List._∷_ (1, Rows.whole (Declared.row Held.the-type)) (List._∷_ (2, Rows.any-gone (Syntax.tyStruct (List._∷_ 122 (List._∷_ 111 (List._∷_ 110 (List._∷_ 101 (List._∷_ 115 (List._∷_ 58 (List._∷_ 58 (List._∷_ 115 (List._∷_ 99 (List._∷_ 97 (List._∷_ 110 (List._∷_ 58 (List._∷_ 58 (List._∷_ 76 (List._∷_ 105 (List._∷_ 110 (List._∷_ 101 List.[]))))))))))))))))) (Syntax.tcons (Syntax.tyInt Syntax.w32) (Syntax.tcons (Syntax.tyInt Syntax.w64) (Syntax.tcons (Syntax.tyInt Syntax.w64) (Syntax.tcons (Syntax.tyInt Syntax.w64) (Syntax.tcons (Syntax.tyInt Syntax.w64) Syntax.tnil))))))) (List._∷_ (3, Rows.sref (Array.Array (Referent.rtF (Referent.fInt Syntax.w32)) 32772) (Syntax.tyRef (Syntax.named 0) Syntax.imm (Syntax.tyArray (Syntax.tyInt Syntax.w32) 32772)) 0) (List._∷_ (4, Rows.mref (Array.Array (Referent.rtF (Referent.fInt Syntax.w32)) 65540) (Syntax.tyRef (Syntax.named 1) Syntax.mut (Syntax.tyArray (Syntax.tyInt Syntax.w32) 65540)) 1) (List._∷_ (5, Rows.mref (Array.Array (Referent.rtF (Referent.fInt Syntax.w32)) 32772) (Syntax.tyRef (Syntax.named 2) Syntax.mut (Syntax.tyArray (Syntax.tyInt Syntax.w32) 32772)) 2) (List._∷_ (6, Rows.mref (Array.Array (Referent.rtF (Referent.fInt Syntax.w32)) 262160) (Syntax.tyRef (Syntax.named 3) Syntax.mut (Syntax.tyArray (Syntax.tyInt Syntax.w32) 262160)) 3) (List._∷_ (7, Rows.sref (Array.Array (Referent.rtF (Referent.fInt Syntax.w8)) 600000) (Syntax.tyRef (Syntax.named 4) Syntax.imm (Syntax.tyArray (Syntax.tyInt Syntax.w8) 600000)) 4) (List._∷_ (8, Rows.mref (Array.Array Cell.R 65540) (Syntax.tyRef (Syntax.named 5) Syntax.mut (Syntax.tyArray Cell.behind 65540)) 5) (List._∷_ (9, Frozen.held (Frozen.fz-open Syntax.erased 6 (κs .1 .1 .1 .1 .1 .1 .0) (Row.lease (κs .1 .1 .1 .1 .1 .1 .0) (qs .1 .1 .1 .1 .1 .1 .0)) (AsSlice.fz-lent-sl Cell.R 32772 11))) (List._∷_ (10, Rows.whole (Declared.row Outcome.the-type)) (List._∷_ (11, Rows.any-gone (Syntax.tyInt Syntax.w64)) (List._∷_ (12, Rows.any-gone (Syntax.tyInt Syntax.w64)) (List._∷_ (13, Rows.any-gone (Syntax.tyRef Syntax.erased Syntax.imm (Syntax.tyInt Syntax.w32))) (List._∷_ (14, Rows.any-gone (Syntax.tyStruct (List._∷_ 38 (List._∷_ 91 (List._∷_ 93 List.[]))) (Syntax.tcons (Syntax.tyRef Syntax.erased Syntax.imm (Syntax.tyInt Syntax.w32)) (Syntax.tcons (Syntax.tyInt Syntax.w64) Syntax.tnil)))) (List._∷_ (15, Rows.any-gone (Syntax.tyRef Syntax.erased Syntax.mut (Syntax.tyInt Syntax.w32))) List.[])))))))))))))))
+        g32 = List._∷_ (0, Rows.any-gone (Syntax.tyStruct (List._∷_ 122 (List._∷_ 111 (List._∷_ 110 (List._∷_ 101 (List._∷_ 115 (List._∷_ 58 (List._∷_ 58 (List._∷_ 104 (List._∷_ 101 (List._∷_ 108 (List._∷_ 100 (List._∷_ 58 (List._∷_ 58 (List._∷_ 72 (List._∷_ 101 (List._∷_ 108 (List._∷_ 100 List.[]))))))))))))))))) (Syntax.tcons (Syntax.tyStruct (List._∷_ 112 (List._∷_ 121 (List._∷_ 114 (List._∷_ 97 (List._∷_ 109 (List._∷_ 105 (List._∷_ 100 (List._∷_ 58 (List._∷_ 58 (List._∷_ 83 (List._∷_ 116 (List._∷_ 97 (List._∷_ 116 (List._∷_ 101 List.[])))))))))))))) (Syntax.tcons (Syntax.tyInt Syntax.w32) (Syntax.tcons (Syntax.tyInt Syntax.w32) (Syntax.tcons (Syntax.tyInt Syntax.w32) (Syntax.tcons (Syntax.tyInt Syntax.w32) (Syntax.tcons (Syntax.tyInt Syntax.w32) (Syntax.tcons (Syntax.tyArray (Syntax.tyInt Syntax.w32) 64) Syntax.tnil))))))) (Syntax.tcons (Syntax.tyInt Syntax.w64) (Syntax.tcons (Syntax.tyInt Syntax.w64) (Syntax.tcons (Syntax.tyInt Syntax.w64) (Syntax.tcons (Syntax.tyInt Syntax.w64) (Syntax.tcons (Syntax.tyInt Syntax.w64) (Syntax.tcons (Syntax.tyInt Syntax.w64) (Syntax.tcons Syntax.tyBool Syntax.tnil)))))))))) (List._∷_ (1, Rows.whole (Declared.row Held.the-type)) (List._∷_ (2, Rows.any-gone (Syntax.tyStruct (List._∷_ 115 (List._∷_ 99 (List._∷_ 114 (List._∷_ 105 (List._∷_ 112 (List._∷_ 116 (List._∷_ 58 (List._∷_ 58 (List._∷_ 115 (List._∷_ 99 (List._∷_ 97 (List._∷_ 110 (List._∷_ 58 (List._∷_ 58 (List._∷_ 76 (List._∷_ 105 (List._∷_ 110 (List._∷_ 101 List.[])))))))))))))))))) (Syntax.tcons (Syntax.tyInt Syntax.w32) (Syntax.tcons (Syntax.tyInt Syntax.w64) (Syntax.tcons (Syntax.tyInt Syntax.w64) (Syntax.tcons (Syntax.tyInt Syntax.w64) (Syntax.tcons (Syntax.tyInt Syntax.w64) Syntax.tnil))))))) (List._∷_ (3, Rows.sref (Array.Array (Referent.rtF (Referent.fInt Syntax.w32)) 32772) (Syntax.tyRef (Syntax.named 0) Syntax.imm (Syntax.tyArray (Syntax.tyInt Syntax.w32) 32772)) 0) (List._∷_ (4, Rows.mref (Array.Array (Referent.rtF (Referent.fInt Syntax.w32)) 65540) (Syntax.tyRef (Syntax.named 1) Syntax.mut (Syntax.tyArray (Syntax.tyInt Syntax.w32) 65540)) 1) (List._∷_ (5, Rows.mref (Array.Array (Referent.rtF (Referent.fInt Syntax.w32)) 32772) (Syntax.tyRef (Syntax.named 2) Syntax.mut (Syntax.tyArray (Syntax.tyInt Syntax.w32) 32772)) 2) (List._∷_ (6, Rows.mref (Array.Array (Referent.rtF (Referent.fInt Syntax.w32)) 262160) (Syntax.tyRef (Syntax.named 3) Syntax.mut (Syntax.tyArray (Syntax.tyInt Syntax.w32) 262160)) 3) (List._∷_ (7, Rows.sref (Array.Array (Referent.rtF (Referent.fInt Syntax.w8)) 600000) (Syntax.tyRef (Syntax.named 4) Syntax.imm (Syntax.tyArray (Syntax.tyInt Syntax.w8) 600000)) 4) (List._∷_ (8, Rows.mref (Array.Array Cell.R 65540) (Syntax.tyRef (Syntax.named 5) Syntax.mut (Syntax.tyArray Cell.behind 65540)) 5) (List._∷_ (9, Frozen.held (Frozen.fz-open Syntax.erased 6 (κs .1 .1 .1 .1 .1 .1 .0) (Row.lease (κs .1 .1 .1 .1 .1 .1 .0) (qs .1 .1 .1 .1 .1 .1 .0)) (AsSlice.fz-lent-sl Cell.R 32772 11))) (List._∷_ (10, Rows.whole (Declared.row Outcome.the-type)) (List._∷_ (11, Rows.any-gone (Syntax.tyInt Syntax.w64)) (List._∷_ (12, Rows.any-gone (Syntax.tyInt Syntax.w64)) (List._∷_ (13, Rows.any-gone (Syntax.tyRef Syntax.erased Syntax.imm (Syntax.tyInt Syntax.w32))) (List._∷_ (14, Rows.any-gone (Syntax.tyStruct (List._∷_ 38 (List._∷_ 91 (List._∷_ 93 List.[]))) (Syntax.tcons (Syntax.tyRef Syntax.erased Syntax.imm (Syntax.tyInt Syntax.w32)) (Syntax.tcons (Syntax.tyInt Syntax.w64) Syntax.tnil)))) (List._∷_ (15, Rows.any-gone (Syntax.tyRef Syntax.erased Syntax.mut (Syntax.tyInt Syntax.w32))) List.[])))))))))))))))
 
         abbrev g35 : List.List Row.Entry
-        g35 = List._∷_ (0, Rows.any-gone (Syntax.tyStruct (List._∷_ 122 (List._∷_ 111 (List._∷_ 110 (List._∷_ 101 (List._∷_ 115 (List._∷_ 58 (List._∷_ 58 (List._∷_ 104 (List._∷_ 101 (List._∷_ 108 (List._∷_ 100 (List._∷_ 58 (List._∷_ 58 (List._∷_ 72 (List._∷_ 101 (List._∷_ 108 (List._∷_ 100 List.[]))))))))))))))))) (Syntax.tcons (Syntax.tyStruct (List._∷_ 112 (List._∷_ 121 (List._∷_ 114 (List._∷_ 97 (List._∷_ 109 (List._∷_ 105 (List._∷_ 100 (List._∷_ 58 (List._∷_ 58 (List._∷_ 83 (List._∷_ 116 (List._∷_ 97 (List._∷_ 116 (List._∷_ 101 List.[])))))))))))))) (Syntax.tcons (Syntax.tyInt Syntax.w32) (Syntax.tcons (Syntax.tyInt Syntax.w32) (Syntax.tcons (Syntax.tyInt Syntax.w32) (Syntax.tcons (Syntax.tyInt Syntax.w32) (Syntax.tcons (Syntax.tyInt Syntax.w32) (Syntax.tcons (Syntax.tyArray (Syntax.tyInt Syntax.w32) 64) Syntax.tnil))))))) (Syntax.tcons (Syntax.tyInt Syntax.w64) (Syntax.tcons (Syntax.tyInt Syntax.w64) (Syntax.tcons (Syntax.tyInt Syntax.w64) (Syntax.tcons (Syntax.tyInt Syntax.w64) (Syntax.tcons (Syntax.tyInt Syntax.w64) (Syntax.tcons (Syntax.tyInt Syntax.w64) (Syntax.tcons Syntax.tyBool Syntax.tnil)))))))))) (List._∷_ (1, Rows.whole (Declared.row Held.the-type)) (List._∷_ (2, Rows.any-gone (Syntax.tyStruct (List._∷_ 122 (List._∷_ 111 (List._∷_ 110 (List._∷_ 101 (List._∷_ 115 (List._∷_ 58 (List._∷_ 58 (List._∷_ 115 (List._∷_ 99 (List._∷_ 97 (List._∷_ 110 (List._∷_ 58 (List._∷_ 58 (List._∷_ 76 (List._∷_ 105 (List._∷_ 110 (List._∷_ 101 List.[]))))))))))))))))) (Syntax.tcons (Syntax.tyInt Syntax.w32) (Syntax.tcons (Syntax.tyInt Syntax.w64) (Syntax.tcons (Syntax.tyInt Syntax.w64) (Syntax.tcons (Syntax.tyInt Syntax.w64) (Syntax.tcons (Syntax.tyInt Syntax.w64) Syntax.tnil))))))) (List._∷_ (3, Rows.sref (Array.Array (Referent.rtF (Referent.fInt Syntax.w32)) 32772) (Syntax.tyRef (Syntax.named 0) Syntax.imm (Syntax.tyArray (Syntax.tyInt Syntax.w32) 32772)) 0) (List._∷_ (4, Rows.mref (Array.Array (Referent.rtF (Referent.fInt Syntax.w32)) 65540) (Syntax.tyRef (Syntax.named 1) Syntax.mut (Syntax.tyArray (Syntax.tyInt Syntax.w32) 65540)) 1) (List._∷_ (5, Rows.mref (Array.Array (Referent.rtF (Referent.fInt Syntax.w32)) 32772) (Syntax.tyRef (Syntax.named 2) Syntax.mut (Syntax.tyArray (Syntax.tyInt Syntax.w32) 32772)) 2) (List._∷_ (6, Rows.mref (Array.Array (Referent.rtF (Referent.fInt Syntax.w32)) 262160) (Syntax.tyRef (Syntax.named 3) Syntax.mut (Syntax.tyArray (Syntax.tyInt Syntax.w32) 262160)) 3) (List._∷_ (7, Rows.sref (Array.Array (Referent.rtF (Referent.fInt Syntax.w8)) 600000) (Syntax.tyRef (Syntax.named 4) Syntax.imm (Syntax.tyArray (Syntax.tyInt Syntax.w8) 600000)) 4) (List._∷_ (8, Frozen.held (Frozen.fz-open Syntax.erased 5 (κs .1 .1 .1 .1 .1 .0) (Row.lease (κs .1 .1 .1 .1 .1 .0) (qs .1 .1 .1 .1 .1 .0)) (LendAt.fz-shr (Array.Array Cell.R 65540) 12))) (List._∷_ (9, Rows.mref (Array.Array Cell.R 32772) (Syntax.tyRef (Syntax.named 6) Syntax.mut (Syntax.tyArray Cell.behind 32772)) 6) (List._∷_ (10, Rows.whole (Declared.row Outcome.the-type)) (List._∷_ (11, Rows.any-gone (Syntax.tyInt Syntax.w64)) (List._∷_ (12, Rows.any-gone (Syntax.tyInt Syntax.w64)) (List._∷_ (13, Rows.any-gone (Syntax.tyRef Syntax.erased Syntax.imm (Syntax.tyInt Syntax.w32))) (List._∷_ (14, Rows.any-gone (Syntax.tyStruct (List._∷_ 38 (List._∷_ 91 (List._∷_ 93 List.[]))) (Syntax.tcons (Syntax.tyRef Syntax.erased Syntax.imm (Syntax.tyInt Syntax.w32)) (Syntax.tcons (Syntax.tyInt Syntax.w64) Syntax.tnil)))) (List._∷_ (15, Rows.any-gone (Syntax.tyRef Syntax.erased Syntax.mut (Syntax.tyInt Syntax.w32))) List.[])))))))))))))))
+        g35 = List._∷_ (0, Rows.any-gone (Syntax.tyStruct (List._∷_ 122 (List._∷_ 111 (List._∷_ 110 (List._∷_ 101 (List._∷_ 115 (List._∷_ 58 (List._∷_ 58 (List._∷_ 104 (List._∷_ 101 (List._∷_ 108 (List._∷_ 100 (List._∷_ 58 (List._∷_ 58 (List._∷_ 72 (List._∷_ 101 (List._∷_ 108 (List._∷_ 100 List.[]))))))))))))))))) (Syntax.tcons (Syntax.tyStruct (List._∷_ 112 (List._∷_ 121 (List._∷_ 114 (List._∷_ 97 (List._∷_ 109 (List._∷_ 105 (List._∷_ 100 (List._∷_ 58 (List._∷_ 58 (List._∷_ 83 (List._∷_ 116 (List._∷_ 97 (List._∷_ 116 (List._∷_ 101 List.[])))))))))))))) (Syntax.tcons (Syntax.tyInt Syntax.w32) (Syntax.tcons (Syntax.tyInt Syntax.w32) (Syntax.tcons (Syntax.tyInt Syntax.w32) (Syntax.tcons (Syntax.tyInt Syntax.w32) (Syntax.tcons (Syntax.tyInt Syntax.w32) (Syntax.tcons (Syntax.tyArray (Syntax.tyInt Syntax.w32) 64) Syntax.tnil))))))) (Syntax.tcons (Syntax.tyInt Syntax.w64) (Syntax.tcons (Syntax.tyInt Syntax.w64) (Syntax.tcons (Syntax.tyInt Syntax.w64) (Syntax.tcons (Syntax.tyInt Syntax.w64) (Syntax.tcons (Syntax.tyInt Syntax.w64) (Syntax.tcons (Syntax.tyInt Syntax.w64) (Syntax.tcons Syntax.tyBool Syntax.tnil)))))))))) (List._∷_ (1, Rows.whole (Declared.row Held.the-type)) (List._∷_ (2, Rows.any-gone (Syntax.tyStruct (List._∷_ 115 (List._∷_ 99 (List._∷_ 114 (List._∷_ 105 (List._∷_ 112 (List._∷_ 116 (List._∷_ 58 (List._∷_ 58 (List._∷_ 115 (List._∷_ 99 (List._∷_ 97 (List._∷_ 110 (List._∷_ 58 (List._∷_ 58 (List._∷_ 76 (List._∷_ 105 (List._∷_ 110 (List._∷_ 101 List.[])))))))))))))))))) (Syntax.tcons (Syntax.tyInt Syntax.w32) (Syntax.tcons (Syntax.tyInt Syntax.w64) (Syntax.tcons (Syntax.tyInt Syntax.w64) (Syntax.tcons (Syntax.tyInt Syntax.w64) (Syntax.tcons (Syntax.tyInt Syntax.w64) Syntax.tnil))))))) (List._∷_ (3, Rows.sref (Array.Array (Referent.rtF (Referent.fInt Syntax.w32)) 32772) (Syntax.tyRef (Syntax.named 0) Syntax.imm (Syntax.tyArray (Syntax.tyInt Syntax.w32) 32772)) 0) (List._∷_ (4, Rows.mref (Array.Array (Referent.rtF (Referent.fInt Syntax.w32)) 65540) (Syntax.tyRef (Syntax.named 1) Syntax.mut (Syntax.tyArray (Syntax.tyInt Syntax.w32) 65540)) 1) (List._∷_ (5, Rows.mref (Array.Array (Referent.rtF (Referent.fInt Syntax.w32)) 32772) (Syntax.tyRef (Syntax.named 2) Syntax.mut (Syntax.tyArray (Syntax.tyInt Syntax.w32) 32772)) 2) (List._∷_ (6, Rows.mref (Array.Array (Referent.rtF (Referent.fInt Syntax.w32)) 262160) (Syntax.tyRef (Syntax.named 3) Syntax.mut (Syntax.tyArray (Syntax.tyInt Syntax.w32) 262160)) 3) (List._∷_ (7, Rows.sref (Array.Array (Referent.rtF (Referent.fInt Syntax.w8)) 600000) (Syntax.tyRef (Syntax.named 4) Syntax.imm (Syntax.tyArray (Syntax.tyInt Syntax.w8) 600000)) 4) (List._∷_ (8, Frozen.held (Frozen.fz-open Syntax.erased 5 (κs .1 .1 .1 .1 .1 .0) (Row.lease (κs .1 .1 .1 .1 .1 .0) (qs .1 .1 .1 .1 .1 .0)) (LendAt.fz-shr (Array.Array Cell.R 65540) 12))) (List._∷_ (9, Rows.mref (Array.Array Cell.R 32772) (Syntax.tyRef (Syntax.named 6) Syntax.mut (Syntax.tyArray Cell.behind 32772)) 6) (List._∷_ (10, Rows.whole (Declared.row Outcome.the-type)) (List._∷_ (11, Rows.any-gone (Syntax.tyInt Syntax.w64)) (List._∷_ (12, Rows.any-gone (Syntax.tyInt Syntax.w64)) (List._∷_ (13, Rows.any-gone (Syntax.tyRef Syntax.erased Syntax.imm (Syntax.tyInt Syntax.w32))) (List._∷_ (14, Rows.any-gone (Syntax.tyStruct (List._∷_ 38 (List._∷_ 91 (List._∷_ 93 List.[]))) (Syntax.tcons (Syntax.tyRef Syntax.erased Syntax.imm (Syntax.tyInt Syntax.w32)) (Syntax.tcons (Syntax.tyInt Syntax.w64) Syntax.tnil)))) (List._∷_ (15, Rows.any-gone (Syntax.tyRef Syntax.erased Syntax.mut (Syntax.tyInt Syntax.w32))) List.[])))))))))))))))
 
         abbrev g40 : List.List Row.Entry
-        g40 = List._∷_ (0, Rows.any-gone (Syntax.tyStruct (List._∷_ 122 (List._∷_ 111 (List._∷_ 110 (List._∷_ 101 (List._∷_ 115 (List._∷_ 58 (List._∷_ 58 (List._∷_ 104 (List._∷_ 101 (List._∷_ 108 (List._∷_ 100 (List._∷_ 58 (List._∷_ 58 (List._∷_ 72 (List._∷_ 101 (List._∷_ 108 (List._∷_ 100 List.[]))))))))))))))))) (Syntax.tcons (Syntax.tyStruct (List._∷_ 112 (List._∷_ 121 (List._∷_ 114 (List._∷_ 97 (List._∷_ 109 (List._∷_ 105 (List._∷_ 100 (List._∷_ 58 (List._∷_ 58 (List._∷_ 83 (List._∷_ 116 (List._∷_ 97 (List._∷_ 116 (List._∷_ 101 List.[])))))))))))))) (Syntax.tcons (Syntax.tyInt Syntax.w32) (Syntax.tcons (Syntax.tyInt Syntax.w32) (Syntax.tcons (Syntax.tyInt Syntax.w32) (Syntax.tcons (Syntax.tyInt Syntax.w32) (Syntax.tcons (Syntax.tyInt Syntax.w32) (Syntax.tcons (Syntax.tyArray (Syntax.tyInt Syntax.w32) 64) Syntax.tnil))))))) (Syntax.tcons (Syntax.tyInt Syntax.w64) (Syntax.tcons (Syntax.tyInt Syntax.w64) (Syntax.tcons (Syntax.tyInt Syntax.w64) (Syntax.tcons (Syntax.tyInt Syntax.w64) (Syntax.tcons (Syntax.tyInt Syntax.w64) (Syntax.tcons (Syntax.tyInt Syntax.w64) (Syntax.tcons Syntax.tyBool Syntax.tnil)))))))))) (List._∷_ (1, Rows.whole (Declared.row Held.the-type)) (List._∷_ (2, Rows.any-gone (Syntax.tyStruct (List._∷_ 122 (List._∷_ 111 (List._∷_ 110 (List._∷_ 101 (List._∷_ 115 (List._∷_ 58 (List._∷_ 58 (List._∷_ 115 (List._∷_ 99 (List._∷_ 97 (List._∷_ 110 (List._∷_ 58 (List._∷_ 58 (List._∷_ 76 (List._∷_ 105 (List._∷_ 110 (List._∷_ 101 List.[]))))))))))))))))) (Syntax.tcons (Syntax.tyInt Syntax.w32) (Syntax.tcons (Syntax.tyInt Syntax.w64) (Syntax.tcons (Syntax.tyInt Syntax.w64) (Syntax.tcons (Syntax.tyInt Syntax.w64) (Syntax.tcons (Syntax.tyInt Syntax.w64) Syntax.tnil))))))) (List._∷_ (3, Rows.sref (Array.Array (Referent.rtF (Referent.fInt Syntax.w32)) 32772) (Syntax.tyRef (Syntax.named 0) Syntax.imm (Syntax.tyArray (Syntax.tyInt Syntax.w32) 32772)) 0) (List._∷_ (4, Rows.mref (Array.Array (Referent.rtF (Referent.fInt Syntax.w32)) 65540) (Syntax.tyRef (Syntax.named 1) Syntax.mut (Syntax.tyArray (Syntax.tyInt Syntax.w32) 65540)) 1) (List._∷_ (5, Rows.mref (Array.Array (Referent.rtF (Referent.fInt Syntax.w32)) 32772) (Syntax.tyRef (Syntax.named 2) Syntax.mut (Syntax.tyArray (Syntax.tyInt Syntax.w32) 32772)) 2) (List._∷_ (6, Rows.mref (Array.Array (Referent.rtF (Referent.fInt Syntax.w32)) 262160) (Syntax.tyRef (Syntax.named 3) Syntax.mut (Syntax.tyArray (Syntax.tyInt Syntax.w32) 262160)) 3) (List._∷_ (7, Rows.sref (Array.Array (Referent.rtF (Referent.fInt Syntax.w8)) 600000) (Syntax.tyRef (Syntax.named 4) Syntax.imm (Syntax.tyArray (Syntax.tyInt Syntax.w8) 600000)) 4) (List._∷_ (8, Frozen.held (Frozen.fz-open Syntax.erased 5 (κs .1 .1 .1 .1 .1 .0) (Row.lease (κs .1 .1 .1 .1 .1 .0) (qs .1 .1 .1 .1 .1 .0)) (LendAt.fz-shr (Array.Array Cell.R 65540) 12))) (List._∷_ (9, Rows.mref (Array.Array Cell.R 32772) (Syntax.tyRef (Syntax.named 6) Syntax.mut (Syntax.tyArray Cell.behind 32772)) 6) (List._∷_ (10, Rows.whole (Declared.row Outcome.the-type)) (List._∷_ (11, Rows.sc-here (Row.sInt Syntax.w64)) (List._∷_ (12, Rows.any-gone (Syntax.tyInt Syntax.w64)) (List._∷_ (13, Rows.any-gone (Syntax.tyRef Syntax.erased Syntax.imm (Syntax.tyInt Syntax.w32))) (List._∷_ (14, Rows.any-gone (Syntax.tyStruct (List._∷_ 38 (List._∷_ 91 (List._∷_ 93 List.[]))) (Syntax.tcons (Syntax.tyRef Syntax.erased Syntax.imm (Syntax.tyInt Syntax.w32)) (Syntax.tcons (Syntax.tyInt Syntax.w64) Syntax.tnil)))) (List._∷_ (15, Rows.any-gone (Syntax.tyRef Syntax.erased Syntax.mut (Syntax.tyInt Syntax.w32))) List.[])))))))))))))))
+        g40 = List._∷_ (0, Rows.any-gone (Syntax.tyStruct (List._∷_ 122 (List._∷_ 111 (List._∷_ 110 (List._∷_ 101 (List._∷_ 115 (List._∷_ 58 (List._∷_ 58 (List._∷_ 104 (List._∷_ 101 (List._∷_ 108 (List._∷_ 100 (List._∷_ 58 (List._∷_ 58 (List._∷_ 72 (List._∷_ 101 (List._∷_ 108 (List._∷_ 100 List.[]))))))))))))))))) (Syntax.tcons (Syntax.tyStruct (List._∷_ 112 (List._∷_ 121 (List._∷_ 114 (List._∷_ 97 (List._∷_ 109 (List._∷_ 105 (List._∷_ 100 (List._∷_ 58 (List._∷_ 58 (List._∷_ 83 (List._∷_ 116 (List._∷_ 97 (List._∷_ 116 (List._∷_ 101 List.[])))))))))))))) (Syntax.tcons (Syntax.tyInt Syntax.w32) (Syntax.tcons (Syntax.tyInt Syntax.w32) (Syntax.tcons (Syntax.tyInt Syntax.w32) (Syntax.tcons (Syntax.tyInt Syntax.w32) (Syntax.tcons (Syntax.tyInt Syntax.w32) (Syntax.tcons (Syntax.tyArray (Syntax.tyInt Syntax.w32) 64) Syntax.tnil))))))) (Syntax.tcons (Syntax.tyInt Syntax.w64) (Syntax.tcons (Syntax.tyInt Syntax.w64) (Syntax.tcons (Syntax.tyInt Syntax.w64) (Syntax.tcons (Syntax.tyInt Syntax.w64) (Syntax.tcons (Syntax.tyInt Syntax.w64) (Syntax.tcons (Syntax.tyInt Syntax.w64) (Syntax.tcons Syntax.tyBool Syntax.tnil)))))))))) (List._∷_ (1, Rows.whole (Declared.row Held.the-type)) (List._∷_ (2, Rows.any-gone (Syntax.tyStruct (List._∷_ 115 (List._∷_ 99 (List._∷_ 114 (List._∷_ 105 (List._∷_ 112 (List._∷_ 116 (List._∷_ 58 (List._∷_ 58 (List._∷_ 115 (List._∷_ 99 (List._∷_ 97 (List._∷_ 110 (List._∷_ 58 (List._∷_ 58 (List._∷_ 76 (List._∷_ 105 (List._∷_ 110 (List._∷_ 101 List.[])))))))))))))))))) (Syntax.tcons (Syntax.tyInt Syntax.w32) (Syntax.tcons (Syntax.tyInt Syntax.w64) (Syntax.tcons (Syntax.tyInt Syntax.w64) (Syntax.tcons (Syntax.tyInt Syntax.w64) (Syntax.tcons (Syntax.tyInt Syntax.w64) Syntax.tnil))))))) (List._∷_ (3, Rows.sref (Array.Array (Referent.rtF (Referent.fInt Syntax.w32)) 32772) (Syntax.tyRef (Syntax.named 0) Syntax.imm (Syntax.tyArray (Syntax.tyInt Syntax.w32) 32772)) 0) (List._∷_ (4, Rows.mref (Array.Array (Referent.rtF (Referent.fInt Syntax.w32)) 65540) (Syntax.tyRef (Syntax.named 1) Syntax.mut (Syntax.tyArray (Syntax.tyInt Syntax.w32) 65540)) 1) (List._∷_ (5, Rows.mref (Array.Array (Referent.rtF (Referent.fInt Syntax.w32)) 32772) (Syntax.tyRef (Syntax.named 2) Syntax.mut (Syntax.tyArray (Syntax.tyInt Syntax.w32) 32772)) 2) (List._∷_ (6, Rows.mref (Array.Array (Referent.rtF (Referent.fInt Syntax.w32)) 262160) (Syntax.tyRef (Syntax.named 3) Syntax.mut (Syntax.tyArray (Syntax.tyInt Syntax.w32) 262160)) 3) (List._∷_ (7, Rows.sref (Array.Array (Referent.rtF (Referent.fInt Syntax.w8)) 600000) (Syntax.tyRef (Syntax.named 4) Syntax.imm (Syntax.tyArray (Syntax.tyInt Syntax.w8) 600000)) 4) (List._∷_ (8, Frozen.held (Frozen.fz-open Syntax.erased 5 (κs .1 .1 .1 .1 .1 .0) (Row.lease (κs .1 .1 .1 .1 .1 .0) (qs .1 .1 .1 .1 .1 .0)) (LendAt.fz-shr (Array.Array Cell.R 65540) 12))) (List._∷_ (9, Rows.mref (Array.Array Cell.R 32772) (Syntax.tyRef (Syntax.named 6) Syntax.mut (Syntax.tyArray Cell.behind 32772)) 6) (List._∷_ (10, Rows.whole (Declared.row Outcome.the-type)) (List._∷_ (11, Rows.sc-here (Row.sInt Syntax.w64)) (List._∷_ (12, Rows.any-gone (Syntax.tyInt Syntax.w64)) (List._∷_ (13, Rows.any-gone (Syntax.tyRef Syntax.erased Syntax.imm (Syntax.tyInt Syntax.w32))) (List._∷_ (14, Rows.any-gone (Syntax.tyStruct (List._∷_ 38 (List._∷_ 91 (List._∷_ 93 List.[]))) (Syntax.tcons (Syntax.tyRef Syntax.erased Syntax.imm (Syntax.tyInt Syntax.w32)) (Syntax.tcons (Syntax.tyInt Syntax.w64) Syntax.tnil)))) (List._∷_ (15, Rows.any-gone (Syntax.tyRef Syntax.erased Syntax.mut (Syntax.tyInt Syntax.w32))) List.[])))))))))))))))
 
         abbrev g43 : List.List Row.Entry
-        g43 = List._∷_ (0, Rows.any-gone (Syntax.tyStruct (List._∷_ 122 (List._∷_ 111 (List._∷_ 110 (List._∷_ 101 (List._∷_ 115 (List._∷_ 58 (List._∷_ 58 (List._∷_ 104 (List._∷_ 101 (List._∷_ 108 (List._∷_ 100 (List._∷_ 58 (List._∷_ 58 (List._∷_ 72 (List._∷_ 101 (List._∷_ 108 (List._∷_ 100 List.[]))))))))))))))))) (Syntax.tcons (Syntax.tyStruct (List._∷_ 112 (List._∷_ 121 (List._∷_ 114 (List._∷_ 97 (List._∷_ 109 (List._∷_ 105 (List._∷_ 100 (List._∷_ 58 (List._∷_ 58 (List._∷_ 83 (List._∷_ 116 (List._∷_ 97 (List._∷_ 116 (List._∷_ 101 List.[])))))))))))))) (Syntax.tcons (Syntax.tyInt Syntax.w32) (Syntax.tcons (Syntax.tyInt Syntax.w32) (Syntax.tcons (Syntax.tyInt Syntax.w32) (Syntax.tcons (Syntax.tyInt Syntax.w32) (Syntax.tcons (Syntax.tyInt Syntax.w32) (Syntax.tcons (Syntax.tyArray (Syntax.tyInt Syntax.w32) 64) Syntax.tnil))))))) (Syntax.tcons (Syntax.tyInt Syntax.w64) (Syntax.tcons (Syntax.tyInt Syntax.w64) (Syntax.tcons (Syntax.tyInt Syntax.w64) (Syntax.tcons (Syntax.tyInt Syntax.w64) (Syntax.tcons (Syntax.tyInt Syntax.w64) (Syntax.tcons (Syntax.tyInt Syntax.w64) (Syntax.tcons Syntax.tyBool Syntax.tnil)))))))))) (List._∷_ (1, Rows.whole (Declared.row Held.the-type)) (List._∷_ (2, Rows.any-gone (Syntax.tyStruct (List._∷_ 122 (List._∷_ 111 (List._∷_ 110 (List._∷_ 101 (List._∷_ 115 (List._∷_ 58 (List._∷_ 58 (List._∷_ 115 (List._∷_ 99 (List._∷_ 97 (List._∷_ 110 (List._∷_ 58 (List._∷_ 58 (List._∷_ 76 (List._∷_ 105 (List._∷_ 110 (List._∷_ 101 List.[]))))))))))))))))) (Syntax.tcons (Syntax.tyInt Syntax.w32) (Syntax.tcons (Syntax.tyInt Syntax.w64) (Syntax.tcons (Syntax.tyInt Syntax.w64) (Syntax.tcons (Syntax.tyInt Syntax.w64) (Syntax.tcons (Syntax.tyInt Syntax.w64) Syntax.tnil))))))) (List._∷_ (3, Rows.sref (Array.Array (Referent.rtF (Referent.fInt Syntax.w32)) 32772) (Syntax.tyRef (Syntax.named 0) Syntax.imm (Syntax.tyArray (Syntax.tyInt Syntax.w32) 32772)) 0) (List._∷_ (4, Rows.mref (Array.Array (Referent.rtF (Referent.fInt Syntax.w32)) 65540) (Syntax.tyRef (Syntax.named 1) Syntax.mut (Syntax.tyArray (Syntax.tyInt Syntax.w32) 65540)) 1) (List._∷_ (5, Rows.mref (Array.Array (Referent.rtF (Referent.fInt Syntax.w32)) 32772) (Syntax.tyRef (Syntax.named 2) Syntax.mut (Syntax.tyArray (Syntax.tyInt Syntax.w32) 32772)) 2) (List._∷_ (6, Rows.mref (Array.Array (Referent.rtF (Referent.fInt Syntax.w32)) 262160) (Syntax.tyRef (Syntax.named 3) Syntax.mut (Syntax.tyArray (Syntax.tyInt Syntax.w32) 262160)) 3) (List._∷_ (7, Rows.sref (Array.Array (Referent.rtF (Referent.fInt Syntax.w8)) 600000) (Syntax.tyRef (Syntax.named 4) Syntax.imm (Syntax.tyArray (Syntax.tyInt Syntax.w8) 600000)) 4) (List._∷_ (8, Rows.mref (Array.Array Cell.R 65540) (Syntax.tyRef (Syntax.named 5) Syntax.mut (Syntax.tyArray Cell.behind 65540)) 5) (List._∷_ (9, Frozen.held (Frozen.fz-open Syntax.erased 6 (κs .1 .1 .1 .1 .1 .1 .0) (Row.lease (κs .1 .1 .1 .1 .1 .1 .0) (qs .1 .1 .1 .1 .1 .1 .0)) (LendAt.fz-shr (Array.Array Cell.R 32772) 13))) (List._∷_ (10, Rows.whole (Declared.row Outcome.the-type)) (List._∷_ (11, Rows.sc-here (Row.sInt Syntax.w64)) (List._∷_ (12, Rows.any-gone (Syntax.tyInt Syntax.w64)) (List._∷_ (13, Rows.any-gone (Syntax.tyRef Syntax.erased Syntax.imm (Syntax.tyInt Syntax.w32))) (List._∷_ (14, Rows.any-gone (Syntax.tyStruct (List._∷_ 38 (List._∷_ 91 (List._∷_ 93 List.[]))) (Syntax.tcons (Syntax.tyRef Syntax.erased Syntax.imm (Syntax.tyInt Syntax.w32)) (Syntax.tcons (Syntax.tyInt Syntax.w64) Syntax.tnil)))) (List._∷_ (15, Rows.any-gone (Syntax.tyRef Syntax.erased Syntax.mut (Syntax.tyInt Syntax.w32))) List.[])))))))))))))))
+        g43 = List._∷_ (0, Rows.any-gone (Syntax.tyStruct (List._∷_ 122 (List._∷_ 111 (List._∷_ 110 (List._∷_ 101 (List._∷_ 115 (List._∷_ 58 (List._∷_ 58 (List._∷_ 104 (List._∷_ 101 (List._∷_ 108 (List._∷_ 100 (List._∷_ 58 (List._∷_ 58 (List._∷_ 72 (List._∷_ 101 (List._∷_ 108 (List._∷_ 100 List.[]))))))))))))))))) (Syntax.tcons (Syntax.tyStruct (List._∷_ 112 (List._∷_ 121 (List._∷_ 114 (List._∷_ 97 (List._∷_ 109 (List._∷_ 105 (List._∷_ 100 (List._∷_ 58 (List._∷_ 58 (List._∷_ 83 (List._∷_ 116 (List._∷_ 97 (List._∷_ 116 (List._∷_ 101 List.[])))))))))))))) (Syntax.tcons (Syntax.tyInt Syntax.w32) (Syntax.tcons (Syntax.tyInt Syntax.w32) (Syntax.tcons (Syntax.tyInt Syntax.w32) (Syntax.tcons (Syntax.tyInt Syntax.w32) (Syntax.tcons (Syntax.tyInt Syntax.w32) (Syntax.tcons (Syntax.tyArray (Syntax.tyInt Syntax.w32) 64) Syntax.tnil))))))) (Syntax.tcons (Syntax.tyInt Syntax.w64) (Syntax.tcons (Syntax.tyInt Syntax.w64) (Syntax.tcons (Syntax.tyInt Syntax.w64) (Syntax.tcons (Syntax.tyInt Syntax.w64) (Syntax.tcons (Syntax.tyInt Syntax.w64) (Syntax.tcons (Syntax.tyInt Syntax.w64) (Syntax.tcons Syntax.tyBool Syntax.tnil)))))))))) (List._∷_ (1, Rows.whole (Declared.row Held.the-type)) (List._∷_ (2, Rows.any-gone (Syntax.tyStruct (List._∷_ 115 (List._∷_ 99 (List._∷_ 114 (List._∷_ 105 (List._∷_ 112 (List._∷_ 116 (List._∷_ 58 (List._∷_ 58 (List._∷_ 115 (List._∷_ 99 (List._∷_ 97 (List._∷_ 110 (List._∷_ 58 (List._∷_ 58 (List._∷_ 76 (List._∷_ 105 (List._∷_ 110 (List._∷_ 101 List.[])))))))))))))))))) (Syntax.tcons (Syntax.tyInt Syntax.w32) (Syntax.tcons (Syntax.tyInt Syntax.w64) (Syntax.tcons (Syntax.tyInt Syntax.w64) (Syntax.tcons (Syntax.tyInt Syntax.w64) (Syntax.tcons (Syntax.tyInt Syntax.w64) Syntax.tnil))))))) (List._∷_ (3, Rows.sref (Array.Array (Referent.rtF (Referent.fInt Syntax.w32)) 32772) (Syntax.tyRef (Syntax.named 0) Syntax.imm (Syntax.tyArray (Syntax.tyInt Syntax.w32) 32772)) 0) (List._∷_ (4, Rows.mref (Array.Array (Referent.rtF (Referent.fInt Syntax.w32)) 65540) (Syntax.tyRef (Syntax.named 1) Syntax.mut (Syntax.tyArray (Syntax.tyInt Syntax.w32) 65540)) 1) (List._∷_ (5, Rows.mref (Array.Array (Referent.rtF (Referent.fInt Syntax.w32)) 32772) (Syntax.tyRef (Syntax.named 2) Syntax.mut (Syntax.tyArray (Syntax.tyInt Syntax.w32) 32772)) 2) (List._∷_ (6, Rows.mref (Array.Array (Referent.rtF (Referent.fInt Syntax.w32)) 262160) (Syntax.tyRef (Syntax.named 3) Syntax.mut (Syntax.tyArray (Syntax.tyInt Syntax.w32) 262160)) 3) (List._∷_ (7, Rows.sref (Array.Array (Referent.rtF (Referent.fInt Syntax.w8)) 600000) (Syntax.tyRef (Syntax.named 4) Syntax.imm (Syntax.tyArray (Syntax.tyInt Syntax.w8) 600000)) 4) (List._∷_ (8, Rows.mref (Array.Array Cell.R 65540) (Syntax.tyRef (Syntax.named 5) Syntax.mut (Syntax.tyArray Cell.behind 65540)) 5) (List._∷_ (9, Frozen.held (Frozen.fz-open Syntax.erased 6 (κs .1 .1 .1 .1 .1 .1 .0) (Row.lease (κs .1 .1 .1 .1 .1 .1 .0) (qs .1 .1 .1 .1 .1 .1 .0)) (LendAt.fz-shr (Array.Array Cell.R 32772) 13))) (List._∷_ (10, Rows.whole (Declared.row Outcome.the-type)) (List._∷_ (11, Rows.sc-here (Row.sInt Syntax.w64)) (List._∷_ (12, Rows.any-gone (Syntax.tyInt Syntax.w64)) (List._∷_ (13, Rows.any-gone (Syntax.tyRef Syntax.erased Syntax.imm (Syntax.tyInt Syntax.w32))) (List._∷_ (14, Rows.any-gone (Syntax.tyStruct (List._∷_ 38 (List._∷_ 91 (List._∷_ 93 List.[]))) (Syntax.tcons (Syntax.tyRef Syntax.erased Syntax.imm (Syntax.tyInt Syntax.w32)) (Syntax.tcons (Syntax.tyInt Syntax.w64) Syntax.tnil)))) (List._∷_ (15, Rows.any-gone (Syntax.tyRef Syntax.erased Syntax.mut (Syntax.tyInt Syntax.w32))) List.[])))))))))))))))
 
         abbrev g48 : List.List Row.Entry
-        g48 = List._∷_ (0, Rows.any-gone (Syntax.tyStruct (List._∷_ 122 (List._∷_ 111 (List._∷_ 110 (List._∷_ 101 (List._∷_ 115 (List._∷_ 58 (List._∷_ 58 (List._∷_ 104 (List._∷_ 101 (List._∷_ 108 (List._∷_ 100 (List._∷_ 58 (List._∷_ 58 (List._∷_ 72 (List._∷_ 101 (List._∷_ 108 (List._∷_ 100 List.[]))))))))))))))))) (Syntax.tcons (Syntax.tyStruct (List._∷_ 112 (List._∷_ 121 (List._∷_ 114 (List._∷_ 97 (List._∷_ 109 (List._∷_ 105 (List._∷_ 100 (List._∷_ 58 (List._∷_ 58 (List._∷_ 83 (List._∷_ 116 (List._∷_ 97 (List._∷_ 116 (List._∷_ 101 List.[])))))))))))))) (Syntax.tcons (Syntax.tyInt Syntax.w32) (Syntax.tcons (Syntax.tyInt Syntax.w32) (Syntax.tcons (Syntax.tyInt Syntax.w32) (Syntax.tcons (Syntax.tyInt Syntax.w32) (Syntax.tcons (Syntax.tyInt Syntax.w32) (Syntax.tcons (Syntax.tyArray (Syntax.tyInt Syntax.w32) 64) Syntax.tnil))))))) (Syntax.tcons (Syntax.tyInt Syntax.w64) (Syntax.tcons (Syntax.tyInt Syntax.w64) (Syntax.tcons (Syntax.tyInt Syntax.w64) (Syntax.tcons (Syntax.tyInt Syntax.w64) (Syntax.tcons (Syntax.tyInt Syntax.w64) (Syntax.tcons (Syntax.tyInt Syntax.w64) (Syntax.tcons Syntax.tyBool Syntax.tnil)))))))))) (List._∷_ (1, Rows.whole (Declared.row Held.the-type)) (List._∷_ (2, Rows.any-gone (Syntax.tyStruct (List._∷_ 122 (List._∷_ 111 (List._∷_ 110 (List._∷_ 101 (List._∷_ 115 (List._∷_ 58 (List._∷_ 58 (List._∷_ 115 (List._∷_ 99 (List._∷_ 97 (List._∷_ 110 (List._∷_ 58 (List._∷_ 58 (List._∷_ 76 (List._∷_ 105 (List._∷_ 110 (List._∷_ 101 List.[]))))))))))))))))) (Syntax.tcons (Syntax.tyInt Syntax.w32) (Syntax.tcons (Syntax.tyInt Syntax.w64) (Syntax.tcons (Syntax.tyInt Syntax.w64) (Syntax.tcons (Syntax.tyInt Syntax.w64) (Syntax.tcons (Syntax.tyInt Syntax.w64) Syntax.tnil))))))) (List._∷_ (3, Rows.sref (Array.Array (Referent.rtF (Referent.fInt Syntax.w32)) 32772) (Syntax.tyRef (Syntax.named 0) Syntax.imm (Syntax.tyArray (Syntax.tyInt Syntax.w32) 32772)) 0) (List._∷_ (4, Rows.mref (Array.Array (Referent.rtF (Referent.fInt Syntax.w32)) 65540) (Syntax.tyRef (Syntax.named 1) Syntax.mut (Syntax.tyArray (Syntax.tyInt Syntax.w32) 65540)) 1) (List._∷_ (5, Rows.mref (Array.Array (Referent.rtF (Referent.fInt Syntax.w32)) 32772) (Syntax.tyRef (Syntax.named 2) Syntax.mut (Syntax.tyArray (Syntax.tyInt Syntax.w32) 32772)) 2) (List._∷_ (6, Rows.mref (Array.Array (Referent.rtF (Referent.fInt Syntax.w32)) 262160) (Syntax.tyRef (Syntax.named 3) Syntax.mut (Syntax.tyArray (Syntax.tyInt Syntax.w32) 262160)) 3) (List._∷_ (7, Rows.sref (Array.Array (Referent.rtF (Referent.fInt Syntax.w8)) 600000) (Syntax.tyRef (Syntax.named 4) Syntax.imm (Syntax.tyArray (Syntax.tyInt Syntax.w8) 600000)) 4) (List._∷_ (8, Rows.mref (Array.Array Cell.R 65540) (Syntax.tyRef (Syntax.named 5) Syntax.mut (Syntax.tyArray Cell.behind 65540)) 5) (List._∷_ (9, Frozen.held (Frozen.fz-open Syntax.erased 6 (κs .1 .1 .1 .1 .1 .1 .0) (Row.lease (κs .1 .1 .1 .1 .1 .1 .0) (qs .1 .1 .1 .1 .1 .1 .0)) (LendAt.fz-shr (Array.Array Cell.R 32772) 13))) (List._∷_ (10, Rows.whole (Declared.row Outcome.the-type)) (List._∷_ (11, Rows.sc-here (Row.sInt Syntax.w64)) (List._∷_ (12, Rows.sc-here (Row.sInt Syntax.w64)) (List._∷_ (13, Rows.any-gone (Syntax.tyRef Syntax.erased Syntax.imm (Syntax.tyInt Syntax.w32))) (List._∷_ (14, Rows.any-gone (Syntax.tyStruct (List._∷_ 38 (List._∷_ 91 (List._∷_ 93 List.[]))) (Syntax.tcons (Syntax.tyRef Syntax.erased Syntax.imm (Syntax.tyInt Syntax.w32)) (Syntax.tcons (Syntax.tyInt Syntax.w64) Syntax.tnil)))) (List._∷_ (15, Rows.any-gone (Syntax.tyRef Syntax.erased Syntax.mut (Syntax.tyInt Syntax.w32))) List.[])))))))))))))))
+        g48 = List._∷_ (0, Rows.any-gone (Syntax.tyStruct (List._∷_ 122 (List._∷_ 111 (List._∷_ 110 (List._∷_ 101 (List._∷_ 115 (List._∷_ 58 (List._∷_ 58 (List._∷_ 104 (List._∷_ 101 (List._∷_ 108 (List._∷_ 100 (List._∷_ 58 (List._∷_ 58 (List._∷_ 72 (List._∷_ 101 (List._∷_ 108 (List._∷_ 100 List.[]))))))))))))))))) (Syntax.tcons (Syntax.tyStruct (List._∷_ 112 (List._∷_ 121 (List._∷_ 114 (List._∷_ 97 (List._∷_ 109 (List._∷_ 105 (List._∷_ 100 (List._∷_ 58 (List._∷_ 58 (List._∷_ 83 (List._∷_ 116 (List._∷_ 97 (List._∷_ 116 (List._∷_ 101 List.[])))))))))))))) (Syntax.tcons (Syntax.tyInt Syntax.w32) (Syntax.tcons (Syntax.tyInt Syntax.w32) (Syntax.tcons (Syntax.tyInt Syntax.w32) (Syntax.tcons (Syntax.tyInt Syntax.w32) (Syntax.tcons (Syntax.tyInt Syntax.w32) (Syntax.tcons (Syntax.tyArray (Syntax.tyInt Syntax.w32) 64) Syntax.tnil))))))) (Syntax.tcons (Syntax.tyInt Syntax.w64) (Syntax.tcons (Syntax.tyInt Syntax.w64) (Syntax.tcons (Syntax.tyInt Syntax.w64) (Syntax.tcons (Syntax.tyInt Syntax.w64) (Syntax.tcons (Syntax.tyInt Syntax.w64) (Syntax.tcons (Syntax.tyInt Syntax.w64) (Syntax.tcons Syntax.tyBool Syntax.tnil)))))))))) (List._∷_ (1, Rows.whole (Declared.row Held.the-type)) (List._∷_ (2, Rows.any-gone (Syntax.tyStruct (List._∷_ 115 (List._∷_ 99 (List._∷_ 114 (List._∷_ 105 (List._∷_ 112 (List._∷_ 116 (List._∷_ 58 (List._∷_ 58 (List._∷_ 115 (List._∷_ 99 (List._∷_ 97 (List._∷_ 110 (List._∷_ 58 (List._∷_ 58 (List._∷_ 76 (List._∷_ 105 (List._∷_ 110 (List._∷_ 101 List.[])))))))))))))))))) (Syntax.tcons (Syntax.tyInt Syntax.w32) (Syntax.tcons (Syntax.tyInt Syntax.w64) (Syntax.tcons (Syntax.tyInt Syntax.w64) (Syntax.tcons (Syntax.tyInt Syntax.w64) (Syntax.tcons (Syntax.tyInt Syntax.w64) Syntax.tnil))))))) (List._∷_ (3, Rows.sref (Array.Array (Referent.rtF (Referent.fInt Syntax.w32)) 32772) (Syntax.tyRef (Syntax.named 0) Syntax.imm (Syntax.tyArray (Syntax.tyInt Syntax.w32) 32772)) 0) (List._∷_ (4, Rows.mref (Array.Array (Referent.rtF (Referent.fInt Syntax.w32)) 65540) (Syntax.tyRef (Syntax.named 1) Syntax.mut (Syntax.tyArray (Syntax.tyInt Syntax.w32) 65540)) 1) (List._∷_ (5, Rows.mref (Array.Array (Referent.rtF (Referent.fInt Syntax.w32)) 32772) (Syntax.tyRef (Syntax.named 2) Syntax.mut (Syntax.tyArray (Syntax.tyInt Syntax.w32) 32772)) 2) (List._∷_ (6, Rows.mref (Array.Array (Referent.rtF (Referent.fInt Syntax.w32)) 262160) (Syntax.tyRef (Syntax.named 3) Syntax.mut (Syntax.tyArray (Syntax.tyInt Syntax.w32) 262160)) 3) (List._∷_ (7, Rows.sref (Array.Array (Referent.rtF (Referent.fInt Syntax.w8)) 600000) (Syntax.tyRef (Syntax.named 4) Syntax.imm (Syntax.tyArray (Syntax.tyInt Syntax.w8) 600000)) 4) (List._∷_ (8, Rows.mref (Array.Array Cell.R 65540) (Syntax.tyRef (Syntax.named 5) Syntax.mut (Syntax.tyArray Cell.behind 65540)) 5) (List._∷_ (9, Frozen.held (Frozen.fz-open Syntax.erased 6 (κs .1 .1 .1 .1 .1 .1 .0) (Row.lease (κs .1 .1 .1 .1 .1 .1 .0) (qs .1 .1 .1 .1 .1 .1 .0)) (LendAt.fz-shr (Array.Array Cell.R 32772) 13))) (List._∷_ (10, Rows.whole (Declared.row Outcome.the-type)) (List._∷_ (11, Rows.sc-here (Row.sInt Syntax.w64)) (List._∷_ (12, Rows.sc-here (Row.sInt Syntax.w64)) (List._∷_ (13, Rows.any-gone (Syntax.tyRef Syntax.erased Syntax.imm (Syntax.tyInt Syntax.w32))) (List._∷_ (14, Rows.any-gone (Syntax.tyStruct (List._∷_ 38 (List._∷_ 91 (List._∷_ 93 List.[]))) (Syntax.tcons (Syntax.tyRef Syntax.erased Syntax.imm (Syntax.tyInt Syntax.w32)) (Syntax.tcons (Syntax.tyInt Syntax.w64) Syntax.tnil)))) (List._∷_ (15, Rows.any-gone (Syntax.tyRef Syntax.erased Syntax.mut (Syntax.tyInt Syntax.w32))) List.[])))))))))))))))
 
         abbrev g50 : List.List Row.Entry
-        g50 = List._∷_ (0, Rows.any-gone (Syntax.tyStruct (List._∷_ 122 (List._∷_ 111 (List._∷_ 110 (List._∷_ 101 (List._∷_ 115 (List._∷_ 58 (List._∷_ 58 (List._∷_ 104 (List._∷_ 101 (List._∷_ 108 (List._∷_ 100 (List._∷_ 58 (List._∷_ 58 (List._∷_ 72 (List._∷_ 101 (List._∷_ 108 (List._∷_ 100 List.[]))))))))))))))))) (Syntax.tcons (Syntax.tyStruct (List._∷_ 112 (List._∷_ 121 (List._∷_ 114 (List._∷_ 97 (List._∷_ 109 (List._∷_ 105 (List._∷_ 100 (List._∷_ 58 (List._∷_ 58 (List._∷_ 83 (List._∷_ 116 (List._∷_ 97 (List._∷_ 116 (List._∷_ 101 List.[])))))))))))))) (Syntax.tcons (Syntax.tyInt Syntax.w32) (Syntax.tcons (Syntax.tyInt Syntax.w32) (Syntax.tcons (Syntax.tyInt Syntax.w32) (Syntax.tcons (Syntax.tyInt Syntax.w32) (Syntax.tcons (Syntax.tyInt Syntax.w32) (Syntax.tcons (Syntax.tyArray (Syntax.tyInt Syntax.w32) 64) Syntax.tnil))))))) (Syntax.tcons (Syntax.tyInt Syntax.w64) (Syntax.tcons (Syntax.tyInt Syntax.w64) (Syntax.tcons (Syntax.tyInt Syntax.w64) (Syntax.tcons (Syntax.tyInt Syntax.w64) (Syntax.tcons (Syntax.tyInt Syntax.w64) (Syntax.tcons (Syntax.tyInt Syntax.w64) (Syntax.tcons Syntax.tyBool Syntax.tnil)))))))))) (List._∷_ (1, Rows.whole (Declared.row Held.the-type)) (List._∷_ (2, Rows.any-gone (Syntax.tyStruct (List._∷_ 122 (List._∷_ 111 (List._∷_ 110 (List._∷_ 101 (List._∷_ 115 (List._∷_ 58 (List._∷_ 58 (List._∷_ 115 (List._∷_ 99 (List._∷_ 97 (List._∷_ 110 (List._∷_ 58 (List._∷_ 58 (List._∷_ 76 (List._∷_ 105 (List._∷_ 110 (List._∷_ 101 List.[]))))))))))))))))) (Syntax.tcons (Syntax.tyInt Syntax.w32) (Syntax.tcons (Syntax.tyInt Syntax.w64) (Syntax.tcons (Syntax.tyInt Syntax.w64) (Syntax.tcons (Syntax.tyInt Syntax.w64) (Syntax.tcons (Syntax.tyInt Syntax.w64) Syntax.tnil))))))) (List._∷_ (3, Rows.sref (Array.Array (Referent.rtF (Referent.fInt Syntax.w32)) 32772) (Syntax.tyRef (Syntax.named 0) Syntax.imm (Syntax.tyArray (Syntax.tyInt Syntax.w32) 32772)) 0) (List._∷_ (4, Reshare.mref-owedS (Array.Array (Referent.rtF (Referent.fInt Syntax.w32)) 65540) (Syntax.tyRef (Syntax.named 1) Syntax.mut (Syntax.tyArray (Syntax.tyInt Syntax.w32) 65540)) 1 14 (Row.lease (κs .1 .0) (qs .1 .0))) (List._∷_ (5, Rows.mref (Array.Array (Referent.rtF (Referent.fInt Syntax.w32)) 32772) (Syntax.tyRef (Syntax.named 2) Syntax.mut (Syntax.tyArray (Syntax.tyInt Syntax.w32) 32772)) 2) (List._∷_ (6, Rows.mref (Array.Array (Referent.rtF (Referent.fInt Syntax.w32)) 262160) (Syntax.tyRef (Syntax.named 3) Syntax.mut (Syntax.tyArray (Syntax.tyInt Syntax.w32) 262160)) 3) (List._∷_ (7, Rows.sref (Array.Array (Referent.rtF (Referent.fInt Syntax.w8)) 600000) (Syntax.tyRef (Syntax.named 4) Syntax.imm (Syntax.tyArray (Syntax.tyInt Syntax.w8) 600000)) 4) (List._∷_ (8, Rows.mref (Array.Array Cell.R 65540) (Syntax.tyRef (Syntax.named 5) Syntax.mut (Syntax.tyArray Cell.behind 65540)) 5) (List._∷_ (9, Rows.mref (Array.Array Cell.R 32772) (Syntax.tyRef (Syntax.named 6) Syntax.mut (Syntax.tyArray Cell.behind 32772)) 6) (List._∷_ (10, Rows.whole (Declared.row Outcome.the-type)) (List._∷_ (11, Rows.sc-here (Row.sInt Syntax.w64)) (List._∷_ (12, Rows.sc-here (Row.sInt Syntax.w64)) (List._∷_ (13, Rows.any-gone (Syntax.tyRef Syntax.erased Syntax.imm (Syntax.tyInt Syntax.w32))) (List._∷_ (14, Rows.any-gone (Syntax.tyStruct (List._∷_ 38 (List._∷_ 91 (List._∷_ 93 List.[]))) (Syntax.tcons (Syntax.tyRef Syntax.erased Syntax.imm (Syntax.tyInt Syntax.w32)) (Syntax.tcons (Syntax.tyInt Syntax.w64) Syntax.tnil)))) (List._∷_ (15, Rows.any-gone (Syntax.tyRef Syntax.erased Syntax.mut (Syntax.tyInt Syntax.w32))) List.[])))))))))))))))
+        g50 = List._∷_ (0, Rows.any-gone (Syntax.tyStruct (List._∷_ 122 (List._∷_ 111 (List._∷_ 110 (List._∷_ 101 (List._∷_ 115 (List._∷_ 58 (List._∷_ 58 (List._∷_ 104 (List._∷_ 101 (List._∷_ 108 (List._∷_ 100 (List._∷_ 58 (List._∷_ 58 (List._∷_ 72 (List._∷_ 101 (List._∷_ 108 (List._∷_ 100 List.[]))))))))))))))))) (Syntax.tcons (Syntax.tyStruct (List._∷_ 112 (List._∷_ 121 (List._∷_ 114 (List._∷_ 97 (List._∷_ 109 (List._∷_ 105 (List._∷_ 100 (List._∷_ 58 (List._∷_ 58 (List._∷_ 83 (List._∷_ 116 (List._∷_ 97 (List._∷_ 116 (List._∷_ 101 List.[])))))))))))))) (Syntax.tcons (Syntax.tyInt Syntax.w32) (Syntax.tcons (Syntax.tyInt Syntax.w32) (Syntax.tcons (Syntax.tyInt Syntax.w32) (Syntax.tcons (Syntax.tyInt Syntax.w32) (Syntax.tcons (Syntax.tyInt Syntax.w32) (Syntax.tcons (Syntax.tyArray (Syntax.tyInt Syntax.w32) 64) Syntax.tnil))))))) (Syntax.tcons (Syntax.tyInt Syntax.w64) (Syntax.tcons (Syntax.tyInt Syntax.w64) (Syntax.tcons (Syntax.tyInt Syntax.w64) (Syntax.tcons (Syntax.tyInt Syntax.w64) (Syntax.tcons (Syntax.tyInt Syntax.w64) (Syntax.tcons (Syntax.tyInt Syntax.w64) (Syntax.tcons Syntax.tyBool Syntax.tnil)))))))))) (List._∷_ (1, Rows.whole (Declared.row Held.the-type)) (List._∷_ (2, Rows.any-gone (Syntax.tyStruct (List._∷_ 115 (List._∷_ 99 (List._∷_ 114 (List._∷_ 105 (List._∷_ 112 (List._∷_ 116 (List._∷_ 58 (List._∷_ 58 (List._∷_ 115 (List._∷_ 99 (List._∷_ 97 (List._∷_ 110 (List._∷_ 58 (List._∷_ 58 (List._∷_ 76 (List._∷_ 105 (List._∷_ 110 (List._∷_ 101 List.[])))))))))))))))))) (Syntax.tcons (Syntax.tyInt Syntax.w32) (Syntax.tcons (Syntax.tyInt Syntax.w64) (Syntax.tcons (Syntax.tyInt Syntax.w64) (Syntax.tcons (Syntax.tyInt Syntax.w64) (Syntax.tcons (Syntax.tyInt Syntax.w64) Syntax.tnil))))))) (List._∷_ (3, Rows.sref (Array.Array (Referent.rtF (Referent.fInt Syntax.w32)) 32772) (Syntax.tyRef (Syntax.named 0) Syntax.imm (Syntax.tyArray (Syntax.tyInt Syntax.w32) 32772)) 0) (List._∷_ (4, Reshare.mref-owedS (Array.Array (Referent.rtF (Referent.fInt Syntax.w32)) 65540) (Syntax.tyRef (Syntax.named 1) Syntax.mut (Syntax.tyArray (Syntax.tyInt Syntax.w32) 65540)) 1 14 (Row.lease (κs .1 .0) (qs .1 .0))) (List._∷_ (5, Rows.mref (Array.Array (Referent.rtF (Referent.fInt Syntax.w32)) 32772) (Syntax.tyRef (Syntax.named 2) Syntax.mut (Syntax.tyArray (Syntax.tyInt Syntax.w32) 32772)) 2) (List._∷_ (6, Rows.mref (Array.Array (Referent.rtF (Referent.fInt Syntax.w32)) 262160) (Syntax.tyRef (Syntax.named 3) Syntax.mut (Syntax.tyArray (Syntax.tyInt Syntax.w32) 262160)) 3) (List._∷_ (7, Rows.sref (Array.Array (Referent.rtF (Referent.fInt Syntax.w8)) 600000) (Syntax.tyRef (Syntax.named 4) Syntax.imm (Syntax.tyArray (Syntax.tyInt Syntax.w8) 600000)) 4) (List._∷_ (8, Rows.mref (Array.Array Cell.R 65540) (Syntax.tyRef (Syntax.named 5) Syntax.mut (Syntax.tyArray Cell.behind 65540)) 5) (List._∷_ (9, Rows.mref (Array.Array Cell.R 32772) (Syntax.tyRef (Syntax.named 6) Syntax.mut (Syntax.tyArray Cell.behind 32772)) 6) (List._∷_ (10, Rows.whole (Declared.row Outcome.the-type)) (List._∷_ (11, Rows.sc-here (Row.sInt Syntax.w64)) (List._∷_ (12, Rows.sc-here (Row.sInt Syntax.w64)) (List._∷_ (13, Rows.any-gone (Syntax.tyRef Syntax.erased Syntax.imm (Syntax.tyInt Syntax.w32))) (List._∷_ (14, Rows.any-gone (Syntax.tyStruct (List._∷_ 38 (List._∷_ 91 (List._∷_ 93 List.[]))) (Syntax.tcons (Syntax.tyRef Syntax.erased Syntax.imm (Syntax.tyInt Syntax.w32)) (Syntax.tcons (Syntax.tyInt Syntax.w64) Syntax.tnil)))) (List._∷_ (15, Rows.any-gone (Syntax.tyRef Syntax.erased Syntax.mut (Syntax.tyInt Syntax.w32))) List.[])))))))))))))))
 
         abbrev g52 : List.List Row.Entry
-        g52 = List._∷_ (0, Rows.any-gone (Syntax.tyStruct (List._∷_ 122 (List._∷_ 111 (List._∷_ 110 (List._∷_ 101 (List._∷_ 115 (List._∷_ 58 (List._∷_ 58 (List._∷_ 104 (List._∷_ 101 (List._∷_ 108 (List._∷_ 100 (List._∷_ 58 (List._∷_ 58 (List._∷_ 72 (List._∷_ 101 (List._∷_ 108 (List._∷_ 100 List.[]))))))))))))))))) (Syntax.tcons (Syntax.tyStruct (List._∷_ 112 (List._∷_ 121 (List._∷_ 114 (List._∷_ 97 (List._∷_ 109 (List._∷_ 105 (List._∷_ 100 (List._∷_ 58 (List._∷_ 58 (List._∷_ 83 (List._∷_ 116 (List._∷_ 97 (List._∷_ 116 (List._∷_ 101 List.[])))))))))))))) (Syntax.tcons (Syntax.tyInt Syntax.w32) (Syntax.tcons (Syntax.tyInt Syntax.w32) (Syntax.tcons (Syntax.tyInt Syntax.w32) (Syntax.tcons (Syntax.tyInt Syntax.w32) (Syntax.tcons (Syntax.tyInt Syntax.w32) (Syntax.tcons (Syntax.tyArray (Syntax.tyInt Syntax.w32) 64) Syntax.tnil))))))) (Syntax.tcons (Syntax.tyInt Syntax.w64) (Syntax.tcons (Syntax.tyInt Syntax.w64) (Syntax.tcons (Syntax.tyInt Syntax.w64) (Syntax.tcons (Syntax.tyInt Syntax.w64) (Syntax.tcons (Syntax.tyInt Syntax.w64) (Syntax.tcons (Syntax.tyInt Syntax.w64) (Syntax.tcons Syntax.tyBool Syntax.tnil)))))))))) (List._∷_ (1, Rows.whole (Declared.row Held.the-type)) (List._∷_ (2, Rows.any-gone (Syntax.tyStruct (List._∷_ 122 (List._∷_ 111 (List._∷_ 110 (List._∷_ 101 (List._∷_ 115 (List._∷_ 58 (List._∷_ 58 (List._∷_ 115 (List._∷_ 99 (List._∷_ 97 (List._∷_ 110 (List._∷_ 58 (List._∷_ 58 (List._∷_ 76 (List._∷_ 105 (List._∷_ 110 (List._∷_ 101 List.[]))))))))))))))))) (Syntax.tcons (Syntax.tyInt Syntax.w32) (Syntax.tcons (Syntax.tyInt Syntax.w64) (Syntax.tcons (Syntax.tyInt Syntax.w64) (Syntax.tcons (Syntax.tyInt Syntax.w64) (Syntax.tcons (Syntax.tyInt Syntax.w64) Syntax.tnil))))))) (List._∷_ (3, Rows.sref (Array.Array (Referent.rtF (Referent.fInt Syntax.w32)) 32772) (Syntax.tyRef (Syntax.named 0) Syntax.imm (Syntax.tyArray (Syntax.tyInt Syntax.w32) 32772)) 0) (List._∷_ (4, Reshare.mref-owedS (Array.Array (Referent.rtF (Referent.fInt Syntax.w32)) 65540) (Syntax.tyRef (Syntax.named 1) Syntax.mut (Syntax.tyArray (Syntax.tyInt Syntax.w32) 65540)) 1 14 (Row.lease (κs .1 .0) (qs .1 .0))) (List._∷_ (5, Reshare.mref-owedS (Array.Array (Referent.rtF (Referent.fInt Syntax.w32)) 32772) (Syntax.tyRef (Syntax.named 2) Syntax.mut (Syntax.tyArray (Syntax.tyInt Syntax.w32) 32772)) 2 15 (Row.lease (κs .1 .1 .0) (qs .1 .1 .0))) (List._∷_ (6, Rows.mref (Array.Array (Referent.rtF (Referent.fInt Syntax.w32)) 262160) (Syntax.tyRef (Syntax.named 3) Syntax.mut (Syntax.tyArray (Syntax.tyInt Syntax.w32) 262160)) 3) (List._∷_ (7, Rows.sref (Array.Array (Referent.rtF (Referent.fInt Syntax.w8)) 600000) (Syntax.tyRef (Syntax.named 4) Syntax.imm (Syntax.tyArray (Syntax.tyInt Syntax.w8) 600000)) 4) (List._∷_ (8, Rows.mref (Array.Array Cell.R 65540) (Syntax.tyRef (Syntax.named 5) Syntax.mut (Syntax.tyArray Cell.behind 65540)) 5) (List._∷_ (9, Rows.mref (Array.Array Cell.R 32772) (Syntax.tyRef (Syntax.named 6) Syntax.mut (Syntax.tyArray Cell.behind 32772)) 6) (List._∷_ (10, Rows.whole (Declared.row Outcome.the-type)) (List._∷_ (11, Rows.sc-here (Row.sInt Syntax.w64)) (List._∷_ (12, Rows.sc-here (Row.sInt Syntax.w64)) (List._∷_ (13, Rows.any-gone (Syntax.tyRef Syntax.erased Syntax.imm (Syntax.tyInt Syntax.w32))) (List._∷_ (14, Rows.any-gone (Syntax.tyStruct (List._∷_ 38 (List._∷_ 91 (List._∷_ 93 List.[]))) (Syntax.tcons (Syntax.tyRef Syntax.erased Syntax.imm (Syntax.tyInt Syntax.w32)) (Syntax.tcons (Syntax.tyInt Syntax.w64) Syntax.tnil)))) (List._∷_ (15, Rows.any-gone (Syntax.tyRef Syntax.erased Syntax.mut (Syntax.tyInt Syntax.w32))) List.[])))))))))))))))
+        g52 = List._∷_ (0, Rows.any-gone (Syntax.tyStruct (List._∷_ 122 (List._∷_ 111 (List._∷_ 110 (List._∷_ 101 (List._∷_ 115 (List._∷_ 58 (List._∷_ 58 (List._∷_ 104 (List._∷_ 101 (List._∷_ 108 (List._∷_ 100 (List._∷_ 58 (List._∷_ 58 (List._∷_ 72 (List._∷_ 101 (List._∷_ 108 (List._∷_ 100 List.[]))))))))))))))))) (Syntax.tcons (Syntax.tyStruct (List._∷_ 112 (List._∷_ 121 (List._∷_ 114 (List._∷_ 97 (List._∷_ 109 (List._∷_ 105 (List._∷_ 100 (List._∷_ 58 (List._∷_ 58 (List._∷_ 83 (List._∷_ 116 (List._∷_ 97 (List._∷_ 116 (List._∷_ 101 List.[])))))))))))))) (Syntax.tcons (Syntax.tyInt Syntax.w32) (Syntax.tcons (Syntax.tyInt Syntax.w32) (Syntax.tcons (Syntax.tyInt Syntax.w32) (Syntax.tcons (Syntax.tyInt Syntax.w32) (Syntax.tcons (Syntax.tyInt Syntax.w32) (Syntax.tcons (Syntax.tyArray (Syntax.tyInt Syntax.w32) 64) Syntax.tnil))))))) (Syntax.tcons (Syntax.tyInt Syntax.w64) (Syntax.tcons (Syntax.tyInt Syntax.w64) (Syntax.tcons (Syntax.tyInt Syntax.w64) (Syntax.tcons (Syntax.tyInt Syntax.w64) (Syntax.tcons (Syntax.tyInt Syntax.w64) (Syntax.tcons (Syntax.tyInt Syntax.w64) (Syntax.tcons Syntax.tyBool Syntax.tnil)))))))))) (List._∷_ (1, Rows.whole (Declared.row Held.the-type)) (List._∷_ (2, Rows.any-gone (Syntax.tyStruct (List._∷_ 115 (List._∷_ 99 (List._∷_ 114 (List._∷_ 105 (List._∷_ 112 (List._∷_ 116 (List._∷_ 58 (List._∷_ 58 (List._∷_ 115 (List._∷_ 99 (List._∷_ 97 (List._∷_ 110 (List._∷_ 58 (List._∷_ 58 (List._∷_ 76 (List._∷_ 105 (List._∷_ 110 (List._∷_ 101 List.[])))))))))))))))))) (Syntax.tcons (Syntax.tyInt Syntax.w32) (Syntax.tcons (Syntax.tyInt Syntax.w64) (Syntax.tcons (Syntax.tyInt Syntax.w64) (Syntax.tcons (Syntax.tyInt Syntax.w64) (Syntax.tcons (Syntax.tyInt Syntax.w64) Syntax.tnil))))))) (List._∷_ (3, Rows.sref (Array.Array (Referent.rtF (Referent.fInt Syntax.w32)) 32772) (Syntax.tyRef (Syntax.named 0) Syntax.imm (Syntax.tyArray (Syntax.tyInt Syntax.w32) 32772)) 0) (List._∷_ (4, Reshare.mref-owedS (Array.Array (Referent.rtF (Referent.fInt Syntax.w32)) 65540) (Syntax.tyRef (Syntax.named 1) Syntax.mut (Syntax.tyArray (Syntax.tyInt Syntax.w32) 65540)) 1 14 (Row.lease (κs .1 .0) (qs .1 .0))) (List._∷_ (5, Reshare.mref-owedS (Array.Array (Referent.rtF (Referent.fInt Syntax.w32)) 32772) (Syntax.tyRef (Syntax.named 2) Syntax.mut (Syntax.tyArray (Syntax.tyInt Syntax.w32) 32772)) 2 15 (Row.lease (κs .1 .1 .0) (qs .1 .1 .0))) (List._∷_ (6, Rows.mref (Array.Array (Referent.rtF (Referent.fInt Syntax.w32)) 262160) (Syntax.tyRef (Syntax.named 3) Syntax.mut (Syntax.tyArray (Syntax.tyInt Syntax.w32) 262160)) 3) (List._∷_ (7, Rows.sref (Array.Array (Referent.rtF (Referent.fInt Syntax.w8)) 600000) (Syntax.tyRef (Syntax.named 4) Syntax.imm (Syntax.tyArray (Syntax.tyInt Syntax.w8) 600000)) 4) (List._∷_ (8, Rows.mref (Array.Array Cell.R 65540) (Syntax.tyRef (Syntax.named 5) Syntax.mut (Syntax.tyArray Cell.behind 65540)) 5) (List._∷_ (9, Rows.mref (Array.Array Cell.R 32772) (Syntax.tyRef (Syntax.named 6) Syntax.mut (Syntax.tyArray Cell.behind 32772)) 6) (List._∷_ (10, Rows.whole (Declared.row Outcome.the-type)) (List._∷_ (11, Rows.sc-here (Row.sInt Syntax.w64)) (List._∷_ (12, Rows.sc-here (Row.sInt Syntax.w64)) (List._∷_ (13, Rows.any-gone (Syntax.tyRef Syntax.erased Syntax.imm (Syntax.tyInt Syntax.w32))) (List._∷_ (14, Rows.any-gone (Syntax.tyStruct (List._∷_ 38 (List._∷_ 91 (List._∷_ 93 List.[]))) (Syntax.tcons (Syntax.tyRef Syntax.erased Syntax.imm (Syntax.tyInt Syntax.w32)) (Syntax.tcons (Syntax.tyInt Syntax.w64) Syntax.tnil)))) (List._∷_ (15, Rows.any-gone (Syntax.tyRef Syntax.erased Syntax.mut (Syntax.tyInt Syntax.w32))) List.[])))))))))))))))
 
         abbrev g54 : List.List Row.Entry
-        g54 = List._∷_ (0, Rows.any-gone (Syntax.tyStruct (List._∷_ 122 (List._∷_ 111 (List._∷_ 110 (List._∷_ 101 (List._∷_ 115 (List._∷_ 58 (List._∷_ 58 (List._∷_ 104 (List._∷_ 101 (List._∷_ 108 (List._∷_ 100 (List._∷_ 58 (List._∷_ 58 (List._∷_ 72 (List._∷_ 101 (List._∷_ 108 (List._∷_ 100 List.[]))))))))))))))))) (Syntax.tcons (Syntax.tyStruct (List._∷_ 112 (List._∷_ 121 (List._∷_ 114 (List._∷_ 97 (List._∷_ 109 (List._∷_ 105 (List._∷_ 100 (List._∷_ 58 (List._∷_ 58 (List._∷_ 83 (List._∷_ 116 (List._∷_ 97 (List._∷_ 116 (List._∷_ 101 List.[])))))))))))))) (Syntax.tcons (Syntax.tyInt Syntax.w32) (Syntax.tcons (Syntax.tyInt Syntax.w32) (Syntax.tcons (Syntax.tyInt Syntax.w32) (Syntax.tcons (Syntax.tyInt Syntax.w32) (Syntax.tcons (Syntax.tyInt Syntax.w32) (Syntax.tcons (Syntax.tyArray (Syntax.tyInt Syntax.w32) 64) Syntax.tnil))))))) (Syntax.tcons (Syntax.tyInt Syntax.w64) (Syntax.tcons (Syntax.tyInt Syntax.w64) (Syntax.tcons (Syntax.tyInt Syntax.w64) (Syntax.tcons (Syntax.tyInt Syntax.w64) (Syntax.tcons (Syntax.tyInt Syntax.w64) (Syntax.tcons (Syntax.tyInt Syntax.w64) (Syntax.tcons Syntax.tyBool Syntax.tnil)))))))))) (List._∷_ (1, Rows.whole (Declared.row Held.the-type)) (List._∷_ (2, Rows.any-gone (Syntax.tyStruct (List._∷_ 122 (List._∷_ 111 (List._∷_ 110 (List._∷_ 101 (List._∷_ 115 (List._∷_ 58 (List._∷_ 58 (List._∷_ 115 (List._∷_ 99 (List._∷_ 97 (List._∷_ 110 (List._∷_ 58 (List._∷_ 58 (List._∷_ 76 (List._∷_ 105 (List._∷_ 110 (List._∷_ 101 List.[]))))))))))))))))) (Syntax.tcons (Syntax.tyInt Syntax.w32) (Syntax.tcons (Syntax.tyInt Syntax.w64) (Syntax.tcons (Syntax.tyInt Syntax.w64) (Syntax.tcons (Syntax.tyInt Syntax.w64) (Syntax.tcons (Syntax.tyInt Syntax.w64) Syntax.tnil))))))) (List._∷_ (3, Rows.sref (Array.Array (Referent.rtF (Referent.fInt Syntax.w32)) 32772) (Syntax.tyRef (Syntax.named 0) Syntax.imm (Syntax.tyArray (Syntax.tyInt Syntax.w32) 32772)) 0) (List._∷_ (4, Reshare.mref-owedS (Array.Array (Referent.rtF (Referent.fInt Syntax.w32)) 65540) (Syntax.tyRef (Syntax.named 1) Syntax.mut (Syntax.tyArray (Syntax.tyInt Syntax.w32) 65540)) 1 14 (Row.lease (κs .1 .0) (qs .1 .0))) (List._∷_ (5, Reshare.mref-owedS (Array.Array (Referent.rtF (Referent.fInt Syntax.w32)) 32772) (Syntax.tyRef (Syntax.named 2) Syntax.mut (Syntax.tyArray (Syntax.tyInt Syntax.w32) 32772)) 2 15 (Row.lease (κs .1 .1 .0) (qs .1 .1 .0))) (List._∷_ (6, Reshare.mref-owedS (Array.Array (Referent.rtF (Referent.fInt Syntax.w32)) 262160) (Syntax.tyRef (Syntax.named 3) Syntax.mut (Syntax.tyArray (Syntax.tyInt Syntax.w32) 262160)) 3 16 (Row.lease (κs .1 .1 .1 .0) (qs .1 .1 .1 .0))) (List._∷_ (7, Rows.sref (Array.Array (Referent.rtF (Referent.fInt Syntax.w8)) 600000) (Syntax.tyRef (Syntax.named 4) Syntax.imm (Syntax.tyArray (Syntax.tyInt Syntax.w8) 600000)) 4) (List._∷_ (8, Rows.mref (Array.Array Cell.R 65540) (Syntax.tyRef (Syntax.named 5) Syntax.mut (Syntax.tyArray Cell.behind 65540)) 5) (List._∷_ (9, Rows.mref (Array.Array Cell.R 32772) (Syntax.tyRef (Syntax.named 6) Syntax.mut (Syntax.tyArray Cell.behind 32772)) 6) (List._∷_ (10, Rows.whole (Declared.row Outcome.the-type)) (List._∷_ (11, Rows.sc-here (Row.sInt Syntax.w64)) (List._∷_ (12, Rows.sc-here (Row.sInt Syntax.w64)) (List._∷_ (13, Rows.any-gone (Syntax.tyRef Syntax.erased Syntax.imm (Syntax.tyInt Syntax.w32))) (List._∷_ (14, Rows.any-gone (Syntax.tyStruct (List._∷_ 38 (List._∷_ 91 (List._∷_ 93 List.[]))) (Syntax.tcons (Syntax.tyRef Syntax.erased Syntax.imm (Syntax.tyInt Syntax.w32)) (Syntax.tcons (Syntax.tyInt Syntax.w64) Syntax.tnil)))) (List._∷_ (15, Rows.any-gone (Syntax.tyRef Syntax.erased Syntax.mut (Syntax.tyInt Syntax.w32))) List.[])))))))))))))))
+        g54 = List._∷_ (0, Rows.any-gone (Syntax.tyStruct (List._∷_ 122 (List._∷_ 111 (List._∷_ 110 (List._∷_ 101 (List._∷_ 115 (List._∷_ 58 (List._∷_ 58 (List._∷_ 104 (List._∷_ 101 (List._∷_ 108 (List._∷_ 100 (List._∷_ 58 (List._∷_ 58 (List._∷_ 72 (List._∷_ 101 (List._∷_ 108 (List._∷_ 100 List.[]))))))))))))))))) (Syntax.tcons (Syntax.tyStruct (List._∷_ 112 (List._∷_ 121 (List._∷_ 114 (List._∷_ 97 (List._∷_ 109 (List._∷_ 105 (List._∷_ 100 (List._∷_ 58 (List._∷_ 58 (List._∷_ 83 (List._∷_ 116 (List._∷_ 97 (List._∷_ 116 (List._∷_ 101 List.[])))))))))))))) (Syntax.tcons (Syntax.tyInt Syntax.w32) (Syntax.tcons (Syntax.tyInt Syntax.w32) (Syntax.tcons (Syntax.tyInt Syntax.w32) (Syntax.tcons (Syntax.tyInt Syntax.w32) (Syntax.tcons (Syntax.tyInt Syntax.w32) (Syntax.tcons (Syntax.tyArray (Syntax.tyInt Syntax.w32) 64) Syntax.tnil))))))) (Syntax.tcons (Syntax.tyInt Syntax.w64) (Syntax.tcons (Syntax.tyInt Syntax.w64) (Syntax.tcons (Syntax.tyInt Syntax.w64) (Syntax.tcons (Syntax.tyInt Syntax.w64) (Syntax.tcons (Syntax.tyInt Syntax.w64) (Syntax.tcons (Syntax.tyInt Syntax.w64) (Syntax.tcons Syntax.tyBool Syntax.tnil)))))))))) (List._∷_ (1, Rows.whole (Declared.row Held.the-type)) (List._∷_ (2, Rows.any-gone (Syntax.tyStruct (List._∷_ 115 (List._∷_ 99 (List._∷_ 114 (List._∷_ 105 (List._∷_ 112 (List._∷_ 116 (List._∷_ 58 (List._∷_ 58 (List._∷_ 115 (List._∷_ 99 (List._∷_ 97 (List._∷_ 110 (List._∷_ 58 (List._∷_ 58 (List._∷_ 76 (List._∷_ 105 (List._∷_ 110 (List._∷_ 101 List.[])))))))))))))))))) (Syntax.tcons (Syntax.tyInt Syntax.w32) (Syntax.tcons (Syntax.tyInt Syntax.w64) (Syntax.tcons (Syntax.tyInt Syntax.w64) (Syntax.tcons (Syntax.tyInt Syntax.w64) (Syntax.tcons (Syntax.tyInt Syntax.w64) Syntax.tnil))))))) (List._∷_ (3, Rows.sref (Array.Array (Referent.rtF (Referent.fInt Syntax.w32)) 32772) (Syntax.tyRef (Syntax.named 0) Syntax.imm (Syntax.tyArray (Syntax.tyInt Syntax.w32) 32772)) 0) (List._∷_ (4, Reshare.mref-owedS (Array.Array (Referent.rtF (Referent.fInt Syntax.w32)) 65540) (Syntax.tyRef (Syntax.named 1) Syntax.mut (Syntax.tyArray (Syntax.tyInt Syntax.w32) 65540)) 1 14 (Row.lease (κs .1 .0) (qs .1 .0))) (List._∷_ (5, Reshare.mref-owedS (Array.Array (Referent.rtF (Referent.fInt Syntax.w32)) 32772) (Syntax.tyRef (Syntax.named 2) Syntax.mut (Syntax.tyArray (Syntax.tyInt Syntax.w32) 32772)) 2 15 (Row.lease (κs .1 .1 .0) (qs .1 .1 .0))) (List._∷_ (6, Reshare.mref-owedS (Array.Array (Referent.rtF (Referent.fInt Syntax.w32)) 262160) (Syntax.tyRef (Syntax.named 3) Syntax.mut (Syntax.tyArray (Syntax.tyInt Syntax.w32) 262160)) 3 16 (Row.lease (κs .1 .1 .1 .0) (qs .1 .1 .1 .0))) (List._∷_ (7, Rows.sref (Array.Array (Referent.rtF (Referent.fInt Syntax.w8)) 600000) (Syntax.tyRef (Syntax.named 4) Syntax.imm (Syntax.tyArray (Syntax.tyInt Syntax.w8) 600000)) 4) (List._∷_ (8, Rows.mref (Array.Array Cell.R 65540) (Syntax.tyRef (Syntax.named 5) Syntax.mut (Syntax.tyArray Cell.behind 65540)) 5) (List._∷_ (9, Rows.mref (Array.Array Cell.R 32772) (Syntax.tyRef (Syntax.named 6) Syntax.mut (Syntax.tyArray Cell.behind 32772)) 6) (List._∷_ (10, Rows.whole (Declared.row Outcome.the-type)) (List._∷_ (11, Rows.sc-here (Row.sInt Syntax.w64)) (List._∷_ (12, Rows.sc-here (Row.sInt Syntax.w64)) (List._∷_ (13, Rows.any-gone (Syntax.tyRef Syntax.erased Syntax.imm (Syntax.tyInt Syntax.w32))) (List._∷_ (14, Rows.any-gone (Syntax.tyStruct (List._∷_ 38 (List._∷_ 91 (List._∷_ 93 List.[]))) (Syntax.tcons (Syntax.tyRef Syntax.erased Syntax.imm (Syntax.tyInt Syntax.w32)) (Syntax.tcons (Syntax.tyInt Syntax.w64) Syntax.tnil)))) (List._∷_ (15, Rows.any-gone (Syntax.tyRef Syntax.erased Syntax.mut (Syntax.tyInt Syntax.w32))) List.[])))))))))))))))
 
         abbrev g56 : List.List Row.Entry
-        g56 = List._∷_ (0, Rows.whole (Declared.row Held.the-type)) (List._∷_ (1, Rows.whole (Declared.row Held.the-type)) (List._∷_ (2, Rows.any-gone (Syntax.tyStruct (List._∷_ 122 (List._∷_ 111 (List._∷_ 110 (List._∷_ 101 (List._∷_ 115 (List._∷_ 58 (List._∷_ 58 (List._∷_ 115 (List._∷_ 99 (List._∷_ 97 (List._∷_ 110 (List._∷_ 58 (List._∷_ 58 (List._∷_ 76 (List._∷_ 105 (List._∷_ 110 (List._∷_ 101 List.[]))))))))))))))))) (Syntax.tcons (Syntax.tyInt Syntax.w32) (Syntax.tcons (Syntax.tyInt Syntax.w64) (Syntax.tcons (Syntax.tyInt Syntax.w64) (Syntax.tcons (Syntax.tyInt Syntax.w64) (Syntax.tcons (Syntax.tyInt Syntax.w64) Syntax.tnil))))))) (List._∷_ (3, Rows.sref (Array.Array (Referent.rtF (Referent.fInt Syntax.w32)) 32772) (Syntax.tyRef (Syntax.named 0) Syntax.imm (Syntax.tyArray (Syntax.tyInt Syntax.w32) 32772)) 0) (List._∷_ (4, Reshare.mref-owedS (Array.Array (Referent.rtF (Referent.fInt Syntax.w32)) 65540) (Syntax.tyRef (Syntax.named 1) Syntax.mut (Syntax.tyArray (Syntax.tyInt Syntax.w32) 65540)) 1 14 (Row.lease (κs .1 .0) (qs .1 .0))) (List._∷_ (5, Reshare.mref-owedS (Array.Array (Referent.rtF (Referent.fInt Syntax.w32)) 32772) (Syntax.tyRef (Syntax.named 2) Syntax.mut (Syntax.tyArray (Syntax.tyInt Syntax.w32) 32772)) 2 15 (Row.lease (κs .1 .1 .0) (qs .1 .1 .0))) (List._∷_ (6, Reshare.mref-owedS (Array.Array (Referent.rtF (Referent.fInt Syntax.w32)) 262160) (Syntax.tyRef (Syntax.named 3) Syntax.mut (Syntax.tyArray (Syntax.tyInt Syntax.w32) 262160)) 3 16 (Row.lease (κs .1 .1 .1 .0) (qs .1 .1 .1 .0))) (List._∷_ (7, Rows.sref (Array.Array (Referent.rtF (Referent.fInt Syntax.w8)) 600000) (Syntax.tyRef (Syntax.named 4) Syntax.imm (Syntax.tyArray (Syntax.tyInt Syntax.w8) 600000)) 4) (List._∷_ (8, Rows.mref (Array.Array Cell.R 65540) (Syntax.tyRef (Syntax.named 5) Syntax.mut (Syntax.tyArray Cell.behind 65540)) 5) (List._∷_ (9, Rows.mref (Array.Array Cell.R 32772) (Syntax.tyRef (Syntax.named 6) Syntax.mut (Syntax.tyArray Cell.behind 32772)) 6) (List._∷_ (10, Rows.whole (Declared.row Outcome.the-type)) (List._∷_ (11, Rows.sc-here (Row.sInt Syntax.w64)) (List._∷_ (12, Rows.sc-here (Row.sInt Syntax.w64)) (List._∷_ (13, Rows.any-gone (Syntax.tyRef Syntax.erased Syntax.imm (Syntax.tyInt Syntax.w32))) (List._∷_ (14, Rows.any-gone (Syntax.tyStruct (List._∷_ 38 (List._∷_ 91 (List._∷_ 93 List.[]))) (Syntax.tcons (Syntax.tyRef Syntax.erased Syntax.imm (Syntax.tyInt Syntax.w32)) (Syntax.tcons (Syntax.tyInt Syntax.w64) Syntax.tnil)))) (List._∷_ (15, Rows.any-gone (Syntax.tyRef Syntax.erased Syntax.mut (Syntax.tyInt Syntax.w32))) List.[])))))))))))))))
+        g56 = List._∷_ (0, Rows.whole (Declared.row Held.the-type)) (List._∷_ (1, Rows.whole (Declared.row Held.the-type)) (List._∷_ (2, Rows.any-gone (Syntax.tyStruct (List._∷_ 115 (List._∷_ 99 (List._∷_ 114 (List._∷_ 105 (List._∷_ 112 (List._∷_ 116 (List._∷_ 58 (List._∷_ 58 (List._∷_ 115 (List._∷_ 99 (List._∷_ 97 (List._∷_ 110 (List._∷_ 58 (List._∷_ 58 (List._∷_ 76 (List._∷_ 105 (List._∷_ 110 (List._∷_ 101 List.[])))))))))))))))))) (Syntax.tcons (Syntax.tyInt Syntax.w32) (Syntax.tcons (Syntax.tyInt Syntax.w64) (Syntax.tcons (Syntax.tyInt Syntax.w64) (Syntax.tcons (Syntax.tyInt Syntax.w64) (Syntax.tcons (Syntax.tyInt Syntax.w64) Syntax.tnil))))))) (List._∷_ (3, Rows.sref (Array.Array (Referent.rtF (Referent.fInt Syntax.w32)) 32772) (Syntax.tyRef (Syntax.named 0) Syntax.imm (Syntax.tyArray (Syntax.tyInt Syntax.w32) 32772)) 0) (List._∷_ (4, Reshare.mref-owedS (Array.Array (Referent.rtF (Referent.fInt Syntax.w32)) 65540) (Syntax.tyRef (Syntax.named 1) Syntax.mut (Syntax.tyArray (Syntax.tyInt Syntax.w32) 65540)) 1 14 (Row.lease (κs .1 .0) (qs .1 .0))) (List._∷_ (5, Reshare.mref-owedS (Array.Array (Referent.rtF (Referent.fInt Syntax.w32)) 32772) (Syntax.tyRef (Syntax.named 2) Syntax.mut (Syntax.tyArray (Syntax.tyInt Syntax.w32) 32772)) 2 15 (Row.lease (κs .1 .1 .0) (qs .1 .1 .0))) (List._∷_ (6, Reshare.mref-owedS (Array.Array (Referent.rtF (Referent.fInt Syntax.w32)) 262160) (Syntax.tyRef (Syntax.named 3) Syntax.mut (Syntax.tyArray (Syntax.tyInt Syntax.w32) 262160)) 3 16 (Row.lease (κs .1 .1 .1 .0) (qs .1 .1 .1 .0))) (List._∷_ (7, Rows.sref (Array.Array (Referent.rtF (Referent.fInt Syntax.w8)) 600000) (Syntax.tyRef (Syntax.named 4) Syntax.imm (Syntax.tyArray (Syntax.tyInt Syntax.w8) 600000)) 4) (List._∷_ (8, Rows.mref (Array.Array Cell.R 65540) (Syntax.tyRef (Syntax.named 5) Syntax.mut (Syntax.tyArray Cell.behind 65540)) 5) (List._∷_ (9, Rows.mref (Array.Array Cell.R 32772) (Syntax.tyRef (Syntax.named 6) Syntax.mut (Syntax.tyArray Cell.behind 32772)) 6) (List._∷_ (10, Rows.whole (Declared.row Outcome.the-type)) (List._∷_ (11, Rows.sc-here (Row.sInt Syntax.w64)) (List._∷_ (12, Rows.sc-here (Row.sInt Syntax.w64)) (List._∷_ (13, Rows.any-gone (Syntax.tyRef Syntax.erased Syntax.imm (Syntax.tyInt Syntax.w32))) (List._∷_ (14, Rows.any-gone (Syntax.tyStruct (List._∷_ 38 (List._∷_ 91 (List._∷_ 93 List.[]))) (Syntax.tcons (Syntax.tyRef Syntax.erased Syntax.imm (Syntax.tyInt Syntax.w32)) (Syntax.tcons (Syntax.tyInt Syntax.w64) Syntax.tnil)))) (List._∷_ (15, Rows.any-gone (Syntax.tyRef Syntax.erased Syntax.mut (Syntax.tyInt Syntax.w32))) List.[])))))))))))))))
 
         abbrev g58 : List.List Row.Entry
-        g58 = List._∷_ (0, Rows.whole (Declared.row Held.the-type)) (List._∷_ (1, Rows.any-gone (Syntax.tyStruct (List._∷_ 122 (List._∷_ 111 (List._∷_ 110 (List._∷_ 101 (List._∷_ 115 (List._∷_ 58 (List._∷_ 58 (List._∷_ 104 (List._∷_ 101 (List._∷_ 108 (List._∷_ 100 (List._∷_ 58 (List._∷_ 58 (List._∷_ 72 (List._∷_ 101 (List._∷_ 108 (List._∷_ 100 List.[]))))))))))))))))) (Syntax.tcons (Syntax.tyStruct (List._∷_ 112 (List._∷_ 121 (List._∷_ 114 (List._∷_ 97 (List._∷_ 109 (List._∷_ 105 (List._∷_ 100 (List._∷_ 58 (List._∷_ 58 (List._∷_ 83 (List._∷_ 116 (List._∷_ 97 (List._∷_ 116 (List._∷_ 101 List.[])))))))))))))) (Syntax.tcons (Syntax.tyInt Syntax.w32) (Syntax.tcons (Syntax.tyInt Syntax.w32) (Syntax.tcons (Syntax.tyInt Syntax.w32) (Syntax.tcons (Syntax.tyInt Syntax.w32) (Syntax.tcons (Syntax.tyInt Syntax.w32) (Syntax.tcons (Syntax.tyArray (Syntax.tyInt Syntax.w32) 64) Syntax.tnil))))))) (Syntax.tcons (Syntax.tyInt Syntax.w64) (Syntax.tcons (Syntax.tyInt Syntax.w64) (Syntax.tcons (Syntax.tyInt Syntax.w64) (Syntax.tcons (Syntax.tyInt Syntax.w64) (Syntax.tcons (Syntax.tyInt Syntax.w64) (Syntax.tcons (Syntax.tyInt Syntax.w64) (Syntax.tcons Syntax.tyBool Syntax.tnil)))))))))) (List._∷_ (2, Rows.any-gone (Syntax.tyStruct (List._∷_ 122 (List._∷_ 111 (List._∷_ 110 (List._∷_ 101 (List._∷_ 115 (List._∷_ 58 (List._∷_ 58 (List._∷_ 115 (List._∷_ 99 (List._∷_ 97 (List._∷_ 110 (List._∷_ 58 (List._∷_ 58 (List._∷_ 76 (List._∷_ 105 (List._∷_ 110 (List._∷_ 101 List.[]))))))))))))))))) (Syntax.tcons (Syntax.tyInt Syntax.w32) (Syntax.tcons (Syntax.tyInt Syntax.w64) (Syntax.tcons (Syntax.tyInt Syntax.w64) (Syntax.tcons (Syntax.tyInt Syntax.w64) (Syntax.tcons (Syntax.tyInt Syntax.w64) Syntax.tnil))))))) (List._∷_ (3, Rows.sref (Array.Array (Referent.rtF (Referent.fInt Syntax.w32)) 32772) (Syntax.tyRef (Syntax.named 0) Syntax.imm (Syntax.tyArray (Syntax.tyInt Syntax.w32) 32772)) 0) (List._∷_ (4, Reshare.mref-owedS (Array.Array (Referent.rtF (Referent.fInt Syntax.w32)) 65540) (Syntax.tyRef (Syntax.named 1) Syntax.mut (Syntax.tyArray (Syntax.tyInt Syntax.w32) 65540)) 1 14 (Row.lease (κs .1 .0) (qs .1 .0))) (List._∷_ (5, Reshare.mref-owedS (Array.Array (Referent.rtF (Referent.fInt Syntax.w32)) 32772) (Syntax.tyRef (Syntax.named 2) Syntax.mut (Syntax.tyArray (Syntax.tyInt Syntax.w32) 32772)) 2 15 (Row.lease (κs .1 .1 .0) (qs .1 .1 .0))) (List._∷_ (6, Reshare.mref-owedS (Array.Array (Referent.rtF (Referent.fInt Syntax.w32)) 262160) (Syntax.tyRef (Syntax.named 3) Syntax.mut (Syntax.tyArray (Syntax.tyInt Syntax.w32) 262160)) 3 16 (Row.lease (κs .1 .1 .1 .0) (qs .1 .1 .1 .0))) (List._∷_ (7, Rows.sref (Array.Array (Referent.rtF (Referent.fInt Syntax.w8)) 600000) (Syntax.tyRef (Syntax.named 4) Syntax.imm (Syntax.tyArray (Syntax.tyInt Syntax.w8) 600000)) 4) (List._∷_ (8, Rows.mref (Array.Array Cell.R 65540) (Syntax.tyRef (Syntax.named 5) Syntax.mut (Syntax.tyArray Cell.behind 65540)) 5) (List._∷_ (9, Rows.mref (Array.Array Cell.R 32772) (Syntax.tyRef (Syntax.named 6) Syntax.mut (Syntax.tyArray Cell.behind 32772)) 6) (List._∷_ (10, Rows.whole (Declared.row Outcome.the-type)) (List._∷_ (11, Rows.sc-here (Row.sInt Syntax.w64)) (List._∷_ (12, Rows.sc-here (Row.sInt Syntax.w64)) (List._∷_ (13, Rows.any-gone (Syntax.tyRef Syntax.erased Syntax.imm (Syntax.tyInt Syntax.w32))) (List._∷_ (14, Rows.any-gone (Syntax.tyStruct (List._∷_ 38 (List._∷_ 91 (List._∷_ 93 List.[]))) (Syntax.tcons (Syntax.tyRef Syntax.erased Syntax.imm (Syntax.tyInt Syntax.w32)) (Syntax.tcons (Syntax.tyInt Syntax.w64) Syntax.tnil)))) (List._∷_ (15, Rows.any-gone (Syntax.tyRef Syntax.erased Syntax.mut (Syntax.tyInt Syntax.w32))) List.[])))))))))))))))
+        g58 = List._∷_ (0, Rows.whole (Declared.row Held.the-type)) (List._∷_ (1, Rows.any-gone (Syntax.tyStruct (List._∷_ 122 (List._∷_ 111 (List._∷_ 110 (List._∷_ 101 (List._∷_ 115 (List._∷_ 58 (List._∷_ 58 (List._∷_ 104 (List._∷_ 101 (List._∷_ 108 (List._∷_ 100 (List._∷_ 58 (List._∷_ 58 (List._∷_ 72 (List._∷_ 101 (List._∷_ 108 (List._∷_ 100 List.[]))))))))))))))))) (Syntax.tcons (Syntax.tyStruct (List._∷_ 112 (List._∷_ 121 (List._∷_ 114 (List._∷_ 97 (List._∷_ 109 (List._∷_ 105 (List._∷_ 100 (List._∷_ 58 (List._∷_ 58 (List._∷_ 83 (List._∷_ 116 (List._∷_ 97 (List._∷_ 116 (List._∷_ 101 List.[])))))))))))))) (Syntax.tcons (Syntax.tyInt Syntax.w32) (Syntax.tcons (Syntax.tyInt Syntax.w32) (Syntax.tcons (Syntax.tyInt Syntax.w32) (Syntax.tcons (Syntax.tyInt Syntax.w32) (Syntax.tcons (Syntax.tyInt Syntax.w32) (Syntax.tcons (Syntax.tyArray (Syntax.tyInt Syntax.w32) 64) Syntax.tnil))))))) (Syntax.tcons (Syntax.tyInt Syntax.w64) (Syntax.tcons (Syntax.tyInt Syntax.w64) (Syntax.tcons (Syntax.tyInt Syntax.w64) (Syntax.tcons (Syntax.tyInt Syntax.w64) (Syntax.tcons (Syntax.tyInt Syntax.w64) (Syntax.tcons (Syntax.tyInt Syntax.w64) (Syntax.tcons Syntax.tyBool Syntax.tnil)))))))))) (List._∷_ (2, Rows.any-gone (Syntax.tyStruct (List._∷_ 115 (List._∷_ 99 (List._∷_ 114 (List._∷_ 105 (List._∷_ 112 (List._∷_ 116 (List._∷_ 58 (List._∷_ 58 (List._∷_ 115 (List._∷_ 99 (List._∷_ 97 (List._∷_ 110 (List._∷_ 58 (List._∷_ 58 (List._∷_ 76 (List._∷_ 105 (List._∷_ 110 (List._∷_ 101 List.[])))))))))))))))))) (Syntax.tcons (Syntax.tyInt Syntax.w32) (Syntax.tcons (Syntax.tyInt Syntax.w64) (Syntax.tcons (Syntax.tyInt Syntax.w64) (Syntax.tcons (Syntax.tyInt Syntax.w64) (Syntax.tcons (Syntax.tyInt Syntax.w64) Syntax.tnil))))))) (List._∷_ (3, Rows.sref (Array.Array (Referent.rtF (Referent.fInt Syntax.w32)) 32772) (Syntax.tyRef (Syntax.named 0) Syntax.imm (Syntax.tyArray (Syntax.tyInt Syntax.w32) 32772)) 0) (List._∷_ (4, Reshare.mref-owedS (Array.Array (Referent.rtF (Referent.fInt Syntax.w32)) 65540) (Syntax.tyRef (Syntax.named 1) Syntax.mut (Syntax.tyArray (Syntax.tyInt Syntax.w32) 65540)) 1 14 (Row.lease (κs .1 .0) (qs .1 .0))) (List._∷_ (5, Reshare.mref-owedS (Array.Array (Referent.rtF (Referent.fInt Syntax.w32)) 32772) (Syntax.tyRef (Syntax.named 2) Syntax.mut (Syntax.tyArray (Syntax.tyInt Syntax.w32) 32772)) 2 15 (Row.lease (κs .1 .1 .0) (qs .1 .1 .0))) (List._∷_ (6, Reshare.mref-owedS (Array.Array (Referent.rtF (Referent.fInt Syntax.w32)) 262160) (Syntax.tyRef (Syntax.named 3) Syntax.mut (Syntax.tyArray (Syntax.tyInt Syntax.w32) 262160)) 3 16 (Row.lease (κs .1 .1 .1 .0) (qs .1 .1 .1 .0))) (List._∷_ (7, Rows.sref (Array.Array (Referent.rtF (Referent.fInt Syntax.w8)) 600000) (Syntax.tyRef (Syntax.named 4) Syntax.imm (Syntax.tyArray (Syntax.tyInt Syntax.w8) 600000)) 4) (List._∷_ (8, Rows.mref (Array.Array Cell.R 65540) (Syntax.tyRef (Syntax.named 5) Syntax.mut (Syntax.tyArray Cell.behind 65540)) 5) (List._∷_ (9, Rows.mref (Array.Array Cell.R 32772) (Syntax.tyRef (Syntax.named 6) Syntax.mut (Syntax.tyArray Cell.behind 32772)) 6) (List._∷_ (10, Rows.whole (Declared.row Outcome.the-type)) (List._∷_ (11, Rows.sc-here (Row.sInt Syntax.w64)) (List._∷_ (12, Rows.sc-here (Row.sInt Syntax.w64)) (List._∷_ (13, Rows.any-gone (Syntax.tyRef Syntax.erased Syntax.imm (Syntax.tyInt Syntax.w32))) (List._∷_ (14, Rows.any-gone (Syntax.tyStruct (List._∷_ 38 (List._∷_ 91 (List._∷_ 93 List.[]))) (Syntax.tcons (Syntax.tyRef Syntax.erased Syntax.imm (Syntax.tyInt Syntax.w32)) (Syntax.tcons (Syntax.tyInt Syntax.w64) Syntax.tnil)))) (List._∷_ (15, Rows.any-gone (Syntax.tyRef Syntax.erased Syntax.mut (Syntax.tyInt Syntax.w32))) List.[])))))))))))))))
 
         abbrev g59 : List.List Row.Entry
-        g59 = List._∷_ (0, Rows.whole (Declared.row Held.the-type)) (List._∷_ (1, Rows.any-gone (Syntax.tyStruct (List._∷_ 122 (List._∷_ 111 (List._∷_ 110 (List._∷_ 101 (List._∷_ 115 (List._∷_ 58 (List._∷_ 58 (List._∷_ 104 (List._∷_ 101 (List._∷_ 108 (List._∷_ 100 (List._∷_ 58 (List._∷_ 58 (List._∷_ 72 (List._∷_ 101 (List._∷_ 108 (List._∷_ 100 List.[]))))))))))))))))) (Syntax.tcons (Syntax.tyStruct (List._∷_ 112 (List._∷_ 121 (List._∷_ 114 (List._∷_ 97 (List._∷_ 109 (List._∷_ 105 (List._∷_ 100 (List._∷_ 58 (List._∷_ 58 (List._∷_ 83 (List._∷_ 116 (List._∷_ 97 (List._∷_ 116 (List._∷_ 101 List.[])))))))))))))) (Syntax.tcons (Syntax.tyInt Syntax.w32) (Syntax.tcons (Syntax.tyInt Syntax.w32) (Syntax.tcons (Syntax.tyInt Syntax.w32) (Syntax.tcons (Syntax.tyInt Syntax.w32) (Syntax.tcons (Syntax.tyInt Syntax.w32) (Syntax.tcons (Syntax.tyArray (Syntax.tyInt Syntax.w32) 64) Syntax.tnil))))))) (Syntax.tcons (Syntax.tyInt Syntax.w64) (Syntax.tcons (Syntax.tyInt Syntax.w64) (Syntax.tcons (Syntax.tyInt Syntax.w64) (Syntax.tcons (Syntax.tyInt Syntax.w64) (Syntax.tcons (Syntax.tyInt Syntax.w64) (Syntax.tcons (Syntax.tyInt Syntax.w64) (Syntax.tcons Syntax.tyBool Syntax.tnil)))))))))) (List._∷_ (2, Rows.any-gone (Syntax.tyStruct (List._∷_ 122 (List._∷_ 111 (List._∷_ 110 (List._∷_ 101 (List._∷_ 115 (List._∷_ 58 (List._∷_ 58 (List._∷_ 115 (List._∷_ 99 (List._∷_ 97 (List._∷_ 110 (List._∷_ 58 (List._∷_ 58 (List._∷_ 76 (List._∷_ 105 (List._∷_ 110 (List._∷_ 101 List.[]))))))))))))))))) (Syntax.tcons (Syntax.tyInt Syntax.w32) (Syntax.tcons (Syntax.tyInt Syntax.w64) (Syntax.tcons (Syntax.tyInt Syntax.w64) (Syntax.tcons (Syntax.tyInt Syntax.w64) (Syntax.tcons (Syntax.tyInt Syntax.w64) Syntax.tnil))))))) (List._∷_ (3, Rows.sref (Array.Array (Referent.rtF (Referent.fInt Syntax.w32)) 32772) (Syntax.tyRef (Syntax.named 0) Syntax.imm (Syntax.tyArray (Syntax.tyInt Syntax.w32) 32772)) 0) (List._∷_ (4, Reshare.mref-owedS (Array.Array (Referent.rtF (Referent.fInt Syntax.w32)) 65540) (Syntax.tyRef (Syntax.named 1) Syntax.mut (Syntax.tyArray (Syntax.tyInt Syntax.w32) 65540)) 1 14 (Row.lease (κs .1 .0) (qs .1 .0))) (List._∷_ (5, Reshare.mref-owedS (Array.Array (Referent.rtF (Referent.fInt Syntax.w32)) 32772) (Syntax.tyRef (Syntax.named 2) Syntax.mut (Syntax.tyArray (Syntax.tyInt Syntax.w32) 32772)) 2 15 (Row.lease (κs .1 .1 .0) (qs .1 .1 .0))) (List._∷_ (6, Reshare.mref-owedS (Array.Array (Referent.rtF (Referent.fInt Syntax.w32)) 262160) (Syntax.tyRef (Syntax.named 3) Syntax.mut (Syntax.tyArray (Syntax.tyInt Syntax.w32) 262160)) 3 16 (Row.lease (κs .1 .1 .1 .0) (qs .1 .1 .1 .0))) (List._∷_ (7, Rows.sref (Array.Array (Referent.rtF (Referent.fInt Syntax.w8)) 600000) (Syntax.tyRef (Syntax.named 4) Syntax.imm (Syntax.tyArray (Syntax.tyInt Syntax.w8) 600000)) 4) (List._∷_ (8, Rows.mref (Array.Array Cell.R 65540) (Syntax.tyRef (Syntax.named 5) Syntax.mut (Syntax.tyArray Cell.behind 65540)) 5) (List._∷_ (9, Rows.mref (Array.Array Cell.R 32772) (Syntax.tyRef (Syntax.named 6) Syntax.mut (Syntax.tyArray Cell.behind 32772)) 6) (List._∷_ (10, Rows.any-gone (Syntax.tyStruct (List._∷_ 112 (List._∷_ 121 (List._∷_ 114 (List._∷_ 97 (List._∷_ 109 (List._∷_ 105 (List._∷_ 100 (List._∷_ 58 (List._∷_ 58 (List._∷_ 79 (List._∷_ 117 (List._∷_ 116 (List._∷_ 99 (List._∷_ 111 (List._∷_ 109 (List._∷_ 101 List.[])))))))))))))))) (Syntax.tcons (Syntax.tyStruct (List._∷_ 112 (List._∷_ 121 (List._∷_ 114 (List._∷_ 97 (List._∷_ 109 (List._∷_ 105 (List._∷_ 100 (List._∷_ 58 (List._∷_ 58 (List._∷_ 83 (List._∷_ 116 (List._∷_ 97 (List._∷_ 116 (List._∷_ 101 List.[])))))))))))))) (Syntax.tcons (Syntax.tyInt Syntax.w32) (Syntax.tcons (Syntax.tyInt Syntax.w32) (Syntax.tcons (Syntax.tyInt Syntax.w32) (Syntax.tcons (Syntax.tyInt Syntax.w32) (Syntax.tcons (Syntax.tyInt Syntax.w32) (Syntax.tcons (Syntax.tyArray (Syntax.tyInt Syntax.w32) 64) Syntax.tnil))))))) (Syntax.tcons (Syntax.tyEnum (List._∷_ 100 (List._∷_ 97 (List._∷_ 114 (List._∷_ 116 (List._∷_ 115 (List._∷_ 58 (List._∷_ 58 (List._∷_ 65 (List._∷_ 110 (List._∷_ 115 (List._∷_ 119 (List._∷_ 101 (List._∷_ 114 List.[]))))))))))))) (Syntax.ttcons (Syntax.tcons (Syntax.tyInt Syntax.w64) Syntax.tnil) (Syntax.ttcons Syntax.tnil (Syntax.ttcons (Syntax.tcons (Syntax.tyInt Syntax.w64) Syntax.tnil) (Syntax.ttcons (Syntax.tcons (Syntax.tyInt Syntax.w64) (Syntax.tcons (Syntax.tyInt Syntax.w64) Syntax.tnil)) (Syntax.ttcons Syntax.tnil (Syntax.ttcons Syntax.tnil (Syntax.ttcons Syntax.tnil (Syntax.ttcons (Syntax.tcons (Syntax.tyInt Syntax.w64) Syntax.tnil) (Syntax.ttcons (Syntax.tcons (Syntax.tyInt Syntax.w64) Syntax.tnil) (Syntax.ttcons (Syntax.tcons (Syntax.tyInt Syntax.w64) Syntax.tnil) (Syntax.ttcons (Syntax.tcons (Syntax.tyInt Syntax.w64) Syntax.tnil) (Syntax.ttcons (Syntax.tcons (Syntax.tyInt Syntax.w64) Syntax.tnil) (Syntax.ttcons (Syntax.tcons (Syntax.tyInt Syntax.w64) Syntax.tnil) (Syntax.ttcons (Syntax.tcons (Syntax.tyInt Syntax.w64) Syntax.tnil) (Syntax.ttcons Syntax.tnil (Syntax.ttcons Syntax.tnil (Syntax.ttcons (Syntax.tcons (Syntax.tyInt Syntax.w64) Syntax.tnil) Syntax.ttnil)))))))))))))))))) Syntax.tnil)))) (List._∷_ (11, Rows.sc-here (Row.sInt Syntax.w64)) (List._∷_ (12, Rows.sc-here (Row.sInt Syntax.w64)) (List._∷_ (13, Rows.any-gone (Syntax.tyRef Syntax.erased Syntax.imm (Syntax.tyInt Syntax.w32))) (List._∷_ (14, Rows.any-gone (Syntax.tyStruct (List._∷_ 38 (List._∷_ 91 (List._∷_ 93 List.[]))) (Syntax.tcons (Syntax.tyRef Syntax.erased Syntax.imm (Syntax.tyInt Syntax.w32)) (Syntax.tcons (Syntax.tyInt Syntax.w64) Syntax.tnil)))) (List._∷_ (15, Rows.any-gone (Syntax.tyRef Syntax.erased Syntax.mut (Syntax.tyInt Syntax.w32))) List.[])))))))))))))))
+        g59 = List._∷_ (0, Rows.whole (Declared.row Held.the-type)) (List._∷_ (1, Rows.any-gone (Syntax.tyStruct (List._∷_ 122 (List._∷_ 111 (List._∷_ 110 (List._∷_ 101 (List._∷_ 115 (List._∷_ 58 (List._∷_ 58 (List._∷_ 104 (List._∷_ 101 (List._∷_ 108 (List._∷_ 100 (List._∷_ 58 (List._∷_ 58 (List._∷_ 72 (List._∷_ 101 (List._∷_ 108 (List._∷_ 100 List.[]))))))))))))))))) (Syntax.tcons (Syntax.tyStruct (List._∷_ 112 (List._∷_ 121 (List._∷_ 114 (List._∷_ 97 (List._∷_ 109 (List._∷_ 105 (List._∷_ 100 (List._∷_ 58 (List._∷_ 58 (List._∷_ 83 (List._∷_ 116 (List._∷_ 97 (List._∷_ 116 (List._∷_ 101 List.[])))))))))))))) (Syntax.tcons (Syntax.tyInt Syntax.w32) (Syntax.tcons (Syntax.tyInt Syntax.w32) (Syntax.tcons (Syntax.tyInt Syntax.w32) (Syntax.tcons (Syntax.tyInt Syntax.w32) (Syntax.tcons (Syntax.tyInt Syntax.w32) (Syntax.tcons (Syntax.tyArray (Syntax.tyInt Syntax.w32) 64) Syntax.tnil))))))) (Syntax.tcons (Syntax.tyInt Syntax.w64) (Syntax.tcons (Syntax.tyInt Syntax.w64) (Syntax.tcons (Syntax.tyInt Syntax.w64) (Syntax.tcons (Syntax.tyInt Syntax.w64) (Syntax.tcons (Syntax.tyInt Syntax.w64) (Syntax.tcons (Syntax.tyInt Syntax.w64) (Syntax.tcons Syntax.tyBool Syntax.tnil)))))))))) (List._∷_ (2, Rows.any-gone (Syntax.tyStruct (List._∷_ 115 (List._∷_ 99 (List._∷_ 114 (List._∷_ 105 (List._∷_ 112 (List._∷_ 116 (List._∷_ 58 (List._∷_ 58 (List._∷_ 115 (List._∷_ 99 (List._∷_ 97 (List._∷_ 110 (List._∷_ 58 (List._∷_ 58 (List._∷_ 76 (List._∷_ 105 (List._∷_ 110 (List._∷_ 101 List.[])))))))))))))))))) (Syntax.tcons (Syntax.tyInt Syntax.w32) (Syntax.tcons (Syntax.tyInt Syntax.w64) (Syntax.tcons (Syntax.tyInt Syntax.w64) (Syntax.tcons (Syntax.tyInt Syntax.w64) (Syntax.tcons (Syntax.tyInt Syntax.w64) Syntax.tnil))))))) (List._∷_ (3, Rows.sref (Array.Array (Referent.rtF (Referent.fInt Syntax.w32)) 32772) (Syntax.tyRef (Syntax.named 0) Syntax.imm (Syntax.tyArray (Syntax.tyInt Syntax.w32) 32772)) 0) (List._∷_ (4, Reshare.mref-owedS (Array.Array (Referent.rtF (Referent.fInt Syntax.w32)) 65540) (Syntax.tyRef (Syntax.named 1) Syntax.mut (Syntax.tyArray (Syntax.tyInt Syntax.w32) 65540)) 1 14 (Row.lease (κs .1 .0) (qs .1 .0))) (List._∷_ (5, Reshare.mref-owedS (Array.Array (Referent.rtF (Referent.fInt Syntax.w32)) 32772) (Syntax.tyRef (Syntax.named 2) Syntax.mut (Syntax.tyArray (Syntax.tyInt Syntax.w32) 32772)) 2 15 (Row.lease (κs .1 .1 .0) (qs .1 .1 .0))) (List._∷_ (6, Reshare.mref-owedS (Array.Array (Referent.rtF (Referent.fInt Syntax.w32)) 262160) (Syntax.tyRef (Syntax.named 3) Syntax.mut (Syntax.tyArray (Syntax.tyInt Syntax.w32) 262160)) 3 16 (Row.lease (κs .1 .1 .1 .0) (qs .1 .1 .1 .0))) (List._∷_ (7, Rows.sref (Array.Array (Referent.rtF (Referent.fInt Syntax.w8)) 600000) (Syntax.tyRef (Syntax.named 4) Syntax.imm (Syntax.tyArray (Syntax.tyInt Syntax.w8) 600000)) 4) (List._∷_ (8, Rows.mref (Array.Array Cell.R 65540) (Syntax.tyRef (Syntax.named 5) Syntax.mut (Syntax.tyArray Cell.behind 65540)) 5) (List._∷_ (9, Rows.mref (Array.Array Cell.R 32772) (Syntax.tyRef (Syntax.named 6) Syntax.mut (Syntax.tyArray Cell.behind 32772)) 6) (List._∷_ (10, Rows.any-gone (Syntax.tyStruct (List._∷_ 112 (List._∷_ 121 (List._∷_ 114 (List._∷_ 97 (List._∷_ 109 (List._∷_ 105 (List._∷_ 100 (List._∷_ 58 (List._∷_ 58 (List._∷_ 79 (List._∷_ 117 (List._∷_ 116 (List._∷_ 99 (List._∷_ 111 (List._∷_ 109 (List._∷_ 101 List.[])))))))))))))))) (Syntax.tcons (Syntax.tyStruct (List._∷_ 112 (List._∷_ 121 (List._∷_ 114 (List._∷_ 97 (List._∷_ 109 (List._∷_ 105 (List._∷_ 100 (List._∷_ 58 (List._∷_ 58 (List._∷_ 83 (List._∷_ 116 (List._∷_ 97 (List._∷_ 116 (List._∷_ 101 List.[])))))))))))))) (Syntax.tcons (Syntax.tyInt Syntax.w32) (Syntax.tcons (Syntax.tyInt Syntax.w32) (Syntax.tcons (Syntax.tyInt Syntax.w32) (Syntax.tcons (Syntax.tyInt Syntax.w32) (Syntax.tcons (Syntax.tyInt Syntax.w32) (Syntax.tcons (Syntax.tyArray (Syntax.tyInt Syntax.w32) 64) Syntax.tnil))))))) (Syntax.tcons (Syntax.tyEnum (List._∷_ 100 (List._∷_ 97 (List._∷_ 114 (List._∷_ 116 (List._∷_ 115 (List._∷_ 58 (List._∷_ 58 (List._∷_ 65 (List._∷_ 110 (List._∷_ 115 (List._∷_ 119 (List._∷_ 101 (List._∷_ 114 List.[]))))))))))))) (Syntax.ttcons (Syntax.tcons (Syntax.tyInt Syntax.w64) Syntax.tnil) (Syntax.ttcons Syntax.tnil (Syntax.ttcons (Syntax.tcons (Syntax.tyInt Syntax.w64) Syntax.tnil) (Syntax.ttcons (Syntax.tcons (Syntax.tyInt Syntax.w64) (Syntax.tcons (Syntax.tyInt Syntax.w64) Syntax.tnil)) (Syntax.ttcons Syntax.tnil (Syntax.ttcons Syntax.tnil (Syntax.ttcons Syntax.tnil (Syntax.ttcons (Syntax.tcons (Syntax.tyInt Syntax.w64) Syntax.tnil) (Syntax.ttcons (Syntax.tcons (Syntax.tyInt Syntax.w64) Syntax.tnil) (Syntax.ttcons (Syntax.tcons (Syntax.tyInt Syntax.w64) Syntax.tnil) (Syntax.ttcons (Syntax.tcons (Syntax.tyInt Syntax.w64) Syntax.tnil) (Syntax.ttcons (Syntax.tcons (Syntax.tyInt Syntax.w64) Syntax.tnil) (Syntax.ttcons (Syntax.tcons (Syntax.tyInt Syntax.w64) Syntax.tnil) (Syntax.ttcons (Syntax.tcons (Syntax.tyInt Syntax.w64) Syntax.tnil) (Syntax.ttcons Syntax.tnil (Syntax.ttcons Syntax.tnil (Syntax.ttcons (Syntax.tcons (Syntax.tyInt Syntax.w64) Syntax.tnil) Syntax.ttnil)))))))))))))))))) Syntax.tnil)))) (List._∷_ (11, Rows.sc-here (Row.sInt Syntax.w64)) (List._∷_ (12, Rows.sc-here (Row.sInt Syntax.w64)) (List._∷_ (13, Rows.any-gone (Syntax.tyRef Syntax.erased Syntax.imm (Syntax.tyInt Syntax.w32))) (List._∷_ (14, Rows.any-gone (Syntax.tyStruct (List._∷_ 38 (List._∷_ 91 (List._∷_ 93 List.[]))) (Syntax.tcons (Syntax.tyRef Syntax.erased Syntax.imm (Syntax.tyInt Syntax.w32)) (Syntax.tcons (Syntax.tyInt Syntax.w64) Syntax.tnil)))) (List._∷_ (15, Rows.any-gone (Syntax.tyRef Syntax.erased Syntax.mut (Syntax.tyInt Syntax.w32))) List.[])))))))))))))))
 
         abbrev g60 : List.List Row.Entry
-        g60 = List._∷_ (0, Rows.whole (Declared.row Held.the-type)) (List._∷_ (1, Rows.any-gone (Syntax.tyStruct (List._∷_ 122 (List._∷_ 111 (List._∷_ 110 (List._∷_ 101 (List._∷_ 115 (List._∷_ 58 (List._∷_ 58 (List._∷_ 104 (List._∷_ 101 (List._∷_ 108 (List._∷_ 100 (List._∷_ 58 (List._∷_ 58 (List._∷_ 72 (List._∷_ 101 (List._∷_ 108 (List._∷_ 100 List.[]))))))))))))))))) (Syntax.tcons (Syntax.tyStruct (List._∷_ 112 (List._∷_ 121 (List._∷_ 114 (List._∷_ 97 (List._∷_ 109 (List._∷_ 105 (List._∷_ 100 (List._∷_ 58 (List._∷_ 58 (List._∷_ 83 (List._∷_ 116 (List._∷_ 97 (List._∷_ 116 (List._∷_ 101 List.[])))))))))))))) (Syntax.tcons (Syntax.tyInt Syntax.w32) (Syntax.tcons (Syntax.tyInt Syntax.w32) (Syntax.tcons (Syntax.tyInt Syntax.w32) (Syntax.tcons (Syntax.tyInt Syntax.w32) (Syntax.tcons (Syntax.tyInt Syntax.w32) (Syntax.tcons (Syntax.tyArray (Syntax.tyInt Syntax.w32) 64) Syntax.tnil))))))) (Syntax.tcons (Syntax.tyInt Syntax.w64) (Syntax.tcons (Syntax.tyInt Syntax.w64) (Syntax.tcons (Syntax.tyInt Syntax.w64) (Syntax.tcons (Syntax.tyInt Syntax.w64) (Syntax.tcons (Syntax.tyInt Syntax.w64) (Syntax.tcons (Syntax.tyInt Syntax.w64) (Syntax.tcons Syntax.tyBool Syntax.tnil)))))))))) (List._∷_ (2, Rows.any-gone (Syntax.tyStruct (List._∷_ 122 (List._∷_ 111 (List._∷_ 110 (List._∷_ 101 (List._∷_ 115 (List._∷_ 58 (List._∷_ 58 (List._∷_ 115 (List._∷_ 99 (List._∷_ 97 (List._∷_ 110 (List._∷_ 58 (List._∷_ 58 (List._∷_ 76 (List._∷_ 105 (List._∷_ 110 (List._∷_ 101 List.[]))))))))))))))))) (Syntax.tcons (Syntax.tyInt Syntax.w32) (Syntax.tcons (Syntax.tyInt Syntax.w64) (Syntax.tcons (Syntax.tyInt Syntax.w64) (Syntax.tcons (Syntax.tyInt Syntax.w64) (Syntax.tcons (Syntax.tyInt Syntax.w64) Syntax.tnil))))))) (List._∷_ (3, Rows.sref (Array.Array (Referent.rtF (Referent.fInt Syntax.w32)) 32772) (Syntax.tyRef (Syntax.named 0) Syntax.imm (Syntax.tyArray (Syntax.tyInt Syntax.w32) 32772)) 0) (List._∷_ (4, Reshare.mref-owedS (Array.Array (Referent.rtF (Referent.fInt Syntax.w32)) 65540) (Syntax.tyRef (Syntax.named 1) Syntax.mut (Syntax.tyArray (Syntax.tyInt Syntax.w32) 65540)) 1 14 (Row.lease (κs .1 .0) (qs .1 .0))) (List._∷_ (5, Reshare.mref-owedS (Array.Array (Referent.rtF (Referent.fInt Syntax.w32)) 32772) (Syntax.tyRef (Syntax.named 2) Syntax.mut (Syntax.tyArray (Syntax.tyInt Syntax.w32) 32772)) 2 15 (Row.lease (κs .1 .1 .0) (qs .1 .1 .0))) (List._∷_ (6, Reshare.mref-owedS (Array.Array (Referent.rtF (Referent.fInt Syntax.w32)) 262160) (Syntax.tyRef (Syntax.named 3) Syntax.mut (Syntax.tyArray (Syntax.tyInt Syntax.w32) 262160)) 3 16 (Row.lease (κs .1 .1 .1 .0) (qs .1 .1 .1 .0))) (List._∷_ (7, Rows.sref (Array.Array (Referent.rtF (Referent.fInt Syntax.w8)) 600000) (Syntax.tyRef (Syntax.named 4) Syntax.imm (Syntax.tyArray (Syntax.tyInt Syntax.w8) 600000)) 4) (List._∷_ (8, Rows.mref (Array.Array Cell.R 65540) (Syntax.tyRef (Syntax.named 5) Syntax.mut (Syntax.tyArray Cell.behind 65540)) 5) (List._∷_ (9, Rows.mref (Array.Array Cell.R 32772) (Syntax.tyRef (Syntax.named 6) Syntax.mut (Syntax.tyArray Cell.behind 32772)) 6) (List._∷_ (10, Rows.any-gone (Syntax.tyStruct (List._∷_ 112 (List._∷_ 121 (List._∷_ 114 (List._∷_ 97 (List._∷_ 109 (List._∷_ 105 (List._∷_ 100 (List._∷_ 58 (List._∷_ 58 (List._∷_ 79 (List._∷_ 117 (List._∷_ 116 (List._∷_ 99 (List._∷_ 111 (List._∷_ 109 (List._∷_ 101 List.[])))))))))))))))) (Syntax.tcons (Syntax.tyStruct (List._∷_ 112 (List._∷_ 121 (List._∷_ 114 (List._∷_ 97 (List._∷_ 109 (List._∷_ 105 (List._∷_ 100 (List._∷_ 58 (List._∷_ 58 (List._∷_ 83 (List._∷_ 116 (List._∷_ 97 (List._∷_ 116 (List._∷_ 101 List.[])))))))))))))) (Syntax.tcons (Syntax.tyInt Syntax.w32) (Syntax.tcons (Syntax.tyInt Syntax.w32) (Syntax.tcons (Syntax.tyInt Syntax.w32) (Syntax.tcons (Syntax.tyInt Syntax.w32) (Syntax.tcons (Syntax.tyInt Syntax.w32) (Syntax.tcons (Syntax.tyArray (Syntax.tyInt Syntax.w32) 64) Syntax.tnil))))))) (Syntax.tcons (Syntax.tyEnum (List._∷_ 100 (List._∷_ 97 (List._∷_ 114 (List._∷_ 116 (List._∷_ 115 (List._∷_ 58 (List._∷_ 58 (List._∷_ 65 (List._∷_ 110 (List._∷_ 115 (List._∷_ 119 (List._∷_ 101 (List._∷_ 114 List.[]))))))))))))) (Syntax.ttcons (Syntax.tcons (Syntax.tyInt Syntax.w64) Syntax.tnil) (Syntax.ttcons Syntax.tnil (Syntax.ttcons (Syntax.tcons (Syntax.tyInt Syntax.w64) Syntax.tnil) (Syntax.ttcons (Syntax.tcons (Syntax.tyInt Syntax.w64) (Syntax.tcons (Syntax.tyInt Syntax.w64) Syntax.tnil)) (Syntax.ttcons Syntax.tnil (Syntax.ttcons Syntax.tnil (Syntax.ttcons Syntax.tnil (Syntax.ttcons (Syntax.tcons (Syntax.tyInt Syntax.w64) Syntax.tnil) (Syntax.ttcons (Syntax.tcons (Syntax.tyInt Syntax.w64) Syntax.tnil) (Syntax.ttcons (Syntax.tcons (Syntax.tyInt Syntax.w64) Syntax.tnil) (Syntax.ttcons (Syntax.tcons (Syntax.tyInt Syntax.w64) Syntax.tnil) (Syntax.ttcons (Syntax.tcons (Syntax.tyInt Syntax.w64) Syntax.tnil) (Syntax.ttcons (Syntax.tcons (Syntax.tyInt Syntax.w64) Syntax.tnil) (Syntax.ttcons (Syntax.tcons (Syntax.tyInt Syntax.w64) Syntax.tnil) (Syntax.ttcons Syntax.tnil (Syntax.ttcons Syntax.tnil (Syntax.ttcons (Syntax.tcons (Syntax.tyInt Syntax.w64) Syntax.tnil) Syntax.ttnil)))))))))))))))))) Syntax.tnil)))) (List._∷_ (11, Rows.any-gone (Syntax.tyInt Syntax.w64)) (List._∷_ (12, Rows.sc-here (Row.sInt Syntax.w64)) (List._∷_ (13, Rows.any-gone (Syntax.tyRef Syntax.erased Syntax.imm (Syntax.tyInt Syntax.w32))) (List._∷_ (14, Rows.any-gone (Syntax.tyStruct (List._∷_ 38 (List._∷_ 91 (List._∷_ 93 List.[]))) (Syntax.tcons (Syntax.tyRef Syntax.erased Syntax.imm (Syntax.tyInt Syntax.w32)) (Syntax.tcons (Syntax.tyInt Syntax.w64) Syntax.tnil)))) (List._∷_ (15, Rows.any-gone (Syntax.tyRef Syntax.erased Syntax.mut (Syntax.tyInt Syntax.w32))) List.[])))))))))))))))
+        g60 = List._∷_ (0, Rows.whole (Declared.row Held.the-type)) (List._∷_ (1, Rows.any-gone (Syntax.tyStruct (List._∷_ 122 (List._∷_ 111 (List._∷_ 110 (List._∷_ 101 (List._∷_ 115 (List._∷_ 58 (List._∷_ 58 (List._∷_ 104 (List._∷_ 101 (List._∷_ 108 (List._∷_ 100 (List._∷_ 58 (List._∷_ 58 (List._∷_ 72 (List._∷_ 101 (List._∷_ 108 (List._∷_ 100 List.[]))))))))))))))))) (Syntax.tcons (Syntax.tyStruct (List._∷_ 112 (List._∷_ 121 (List._∷_ 114 (List._∷_ 97 (List._∷_ 109 (List._∷_ 105 (List._∷_ 100 (List._∷_ 58 (List._∷_ 58 (List._∷_ 83 (List._∷_ 116 (List._∷_ 97 (List._∷_ 116 (List._∷_ 101 List.[])))))))))))))) (Syntax.tcons (Syntax.tyInt Syntax.w32) (Syntax.tcons (Syntax.tyInt Syntax.w32) (Syntax.tcons (Syntax.tyInt Syntax.w32) (Syntax.tcons (Syntax.tyInt Syntax.w32) (Syntax.tcons (Syntax.tyInt Syntax.w32) (Syntax.tcons (Syntax.tyArray (Syntax.tyInt Syntax.w32) 64) Syntax.tnil))))))) (Syntax.tcons (Syntax.tyInt Syntax.w64) (Syntax.tcons (Syntax.tyInt Syntax.w64) (Syntax.tcons (Syntax.tyInt Syntax.w64) (Syntax.tcons (Syntax.tyInt Syntax.w64) (Syntax.tcons (Syntax.tyInt Syntax.w64) (Syntax.tcons (Syntax.tyInt Syntax.w64) (Syntax.tcons Syntax.tyBool Syntax.tnil)))))))))) (List._∷_ (2, Rows.any-gone (Syntax.tyStruct (List._∷_ 115 (List._∷_ 99 (List._∷_ 114 (List._∷_ 105 (List._∷_ 112 (List._∷_ 116 (List._∷_ 58 (List._∷_ 58 (List._∷_ 115 (List._∷_ 99 (List._∷_ 97 (List._∷_ 110 (List._∷_ 58 (List._∷_ 58 (List._∷_ 76 (List._∷_ 105 (List._∷_ 110 (List._∷_ 101 List.[])))))))))))))))))) (Syntax.tcons (Syntax.tyInt Syntax.w32) (Syntax.tcons (Syntax.tyInt Syntax.w64) (Syntax.tcons (Syntax.tyInt Syntax.w64) (Syntax.tcons (Syntax.tyInt Syntax.w64) (Syntax.tcons (Syntax.tyInt Syntax.w64) Syntax.tnil))))))) (List._∷_ (3, Rows.sref (Array.Array (Referent.rtF (Referent.fInt Syntax.w32)) 32772) (Syntax.tyRef (Syntax.named 0) Syntax.imm (Syntax.tyArray (Syntax.tyInt Syntax.w32) 32772)) 0) (List._∷_ (4, Reshare.mref-owedS (Array.Array (Referent.rtF (Referent.fInt Syntax.w32)) 65540) (Syntax.tyRef (Syntax.named 1) Syntax.mut (Syntax.tyArray (Syntax.tyInt Syntax.w32) 65540)) 1 14 (Row.lease (κs .1 .0) (qs .1 .0))) (List._∷_ (5, Reshare.mref-owedS (Array.Array (Referent.rtF (Referent.fInt Syntax.w32)) 32772) (Syntax.tyRef (Syntax.named 2) Syntax.mut (Syntax.tyArray (Syntax.tyInt Syntax.w32) 32772)) 2 15 (Row.lease (κs .1 .1 .0) (qs .1 .1 .0))) (List._∷_ (6, Reshare.mref-owedS (Array.Array (Referent.rtF (Referent.fInt Syntax.w32)) 262160) (Syntax.tyRef (Syntax.named 3) Syntax.mut (Syntax.tyArray (Syntax.tyInt Syntax.w32) 262160)) 3 16 (Row.lease (κs .1 .1 .1 .0) (qs .1 .1 .1 .0))) (List._∷_ (7, Rows.sref (Array.Array (Referent.rtF (Referent.fInt Syntax.w8)) 600000) (Syntax.tyRef (Syntax.named 4) Syntax.imm (Syntax.tyArray (Syntax.tyInt Syntax.w8) 600000)) 4) (List._∷_ (8, Rows.mref (Array.Array Cell.R 65540) (Syntax.tyRef (Syntax.named 5) Syntax.mut (Syntax.tyArray Cell.behind 65540)) 5) (List._∷_ (9, Rows.mref (Array.Array Cell.R 32772) (Syntax.tyRef (Syntax.named 6) Syntax.mut (Syntax.tyArray Cell.behind 32772)) 6) (List._∷_ (10, Rows.any-gone (Syntax.tyStruct (List._∷_ 112 (List._∷_ 121 (List._∷_ 114 (List._∷_ 97 (List._∷_ 109 (List._∷_ 105 (List._∷_ 100 (List._∷_ 58 (List._∷_ 58 (List._∷_ 79 (List._∷_ 117 (List._∷_ 116 (List._∷_ 99 (List._∷_ 111 (List._∷_ 109 (List._∷_ 101 List.[])))))))))))))))) (Syntax.tcons (Syntax.tyStruct (List._∷_ 112 (List._∷_ 121 (List._∷_ 114 (List._∷_ 97 (List._∷_ 109 (List._∷_ 105 (List._∷_ 100 (List._∷_ 58 (List._∷_ 58 (List._∷_ 83 (List._∷_ 116 (List._∷_ 97 (List._∷_ 116 (List._∷_ 101 List.[])))))))))))))) (Syntax.tcons (Syntax.tyInt Syntax.w32) (Syntax.tcons (Syntax.tyInt Syntax.w32) (Syntax.tcons (Syntax.tyInt Syntax.w32) (Syntax.tcons (Syntax.tyInt Syntax.w32) (Syntax.tcons (Syntax.tyInt Syntax.w32) (Syntax.tcons (Syntax.tyArray (Syntax.tyInt Syntax.w32) 64) Syntax.tnil))))))) (Syntax.tcons (Syntax.tyEnum (List._∷_ 100 (List._∷_ 97 (List._∷_ 114 (List._∷_ 116 (List._∷_ 115 (List._∷_ 58 (List._∷_ 58 (List._∷_ 65 (List._∷_ 110 (List._∷_ 115 (List._∷_ 119 (List._∷_ 101 (List._∷_ 114 List.[]))))))))))))) (Syntax.ttcons (Syntax.tcons (Syntax.tyInt Syntax.w64) Syntax.tnil) (Syntax.ttcons Syntax.tnil (Syntax.ttcons (Syntax.tcons (Syntax.tyInt Syntax.w64) Syntax.tnil) (Syntax.ttcons (Syntax.tcons (Syntax.tyInt Syntax.w64) (Syntax.tcons (Syntax.tyInt Syntax.w64) Syntax.tnil)) (Syntax.ttcons Syntax.tnil (Syntax.ttcons Syntax.tnil (Syntax.ttcons Syntax.tnil (Syntax.ttcons (Syntax.tcons (Syntax.tyInt Syntax.w64) Syntax.tnil) (Syntax.ttcons (Syntax.tcons (Syntax.tyInt Syntax.w64) Syntax.tnil) (Syntax.ttcons (Syntax.tcons (Syntax.tyInt Syntax.w64) Syntax.tnil) (Syntax.ttcons (Syntax.tcons (Syntax.tyInt Syntax.w64) Syntax.tnil) (Syntax.ttcons (Syntax.tcons (Syntax.tyInt Syntax.w64) Syntax.tnil) (Syntax.ttcons (Syntax.tcons (Syntax.tyInt Syntax.w64) Syntax.tnil) (Syntax.ttcons (Syntax.tcons (Syntax.tyInt Syntax.w64) Syntax.tnil) (Syntax.ttcons Syntax.tnil (Syntax.ttcons Syntax.tnil (Syntax.ttcons (Syntax.tcons (Syntax.tyInt Syntax.w64) Syntax.tnil) Syntax.ttnil)))))))))))))))))) Syntax.tnil)))) (List._∷_ (11, Rows.any-gone (Syntax.tyInt Syntax.w64)) (List._∷_ (12, Rows.sc-here (Row.sInt Syntax.w64)) (List._∷_ (13, Rows.any-gone (Syntax.tyRef Syntax.erased Syntax.imm (Syntax.tyInt Syntax.w32))) (List._∷_ (14, Rows.any-gone (Syntax.tyStruct (List._∷_ 38 (List._∷_ 91 (List._∷_ 93 List.[]))) (Syntax.tcons (Syntax.tyRef Syntax.erased Syntax.imm (Syntax.tyInt Syntax.w32)) (Syntax.tcons (Syntax.tyInt Syntax.w64) Syntax.tnil)))) (List._∷_ (15, Rows.any-gone (Syntax.tyRef Syntax.erased Syntax.mut (Syntax.tyInt Syntax.w32))) List.[])))))))))))))))
 
         abbrev g61 : List.List Row.Entry
-        g61 = List._∷_ (0, Rows.whole (Declared.row Held.the-type)) (List._∷_ (1, Rows.any-gone (Syntax.tyStruct (List._∷_ 122 (List._∷_ 111 (List._∷_ 110 (List._∷_ 101 (List._∷_ 115 (List._∷_ 58 (List._∷_ 58 (List._∷_ 104 (List._∷_ 101 (List._∷_ 108 (List._∷_ 100 (List._∷_ 58 (List._∷_ 58 (List._∷_ 72 (List._∷_ 101 (List._∷_ 108 (List._∷_ 100 List.[]))))))))))))))))) (Syntax.tcons (Syntax.tyStruct (List._∷_ 112 (List._∷_ 121 (List._∷_ 114 (List._∷_ 97 (List._∷_ 109 (List._∷_ 105 (List._∷_ 100 (List._∷_ 58 (List._∷_ 58 (List._∷_ 83 (List._∷_ 116 (List._∷_ 97 (List._∷_ 116 (List._∷_ 101 List.[])))))))))))))) (Syntax.tcons (Syntax.tyInt Syntax.w32) (Syntax.tcons (Syntax.tyInt Syntax.w32) (Syntax.tcons (Syntax.tyInt Syntax.w32) (Syntax.tcons (Syntax.tyInt Syntax.w32) (Syntax.tcons (Syntax.tyInt Syntax.w32) (Syntax.tcons (Syntax.tyArray (Syntax.tyInt Syntax.w32) 64) Syntax.tnil))))))) (Syntax.tcons (Syntax.tyInt Syntax.w64) (Syntax.tcons (Syntax.tyInt Syntax.w64) (Syntax.tcons (Syntax.tyInt Syntax.w64) (Syntax.tcons (Syntax.tyInt Syntax.w64) (Syntax.tcons (Syntax.tyInt Syntax.w64) (Syntax.tcons (Syntax.tyInt Syntax.w64) (Syntax.tcons Syntax.tyBool Syntax.tnil)))))))))) (List._∷_ (2, Rows.any-gone (Syntax.tyStruct (List._∷_ 122 (List._∷_ 111 (List._∷_ 110 (List._∷_ 101 (List._∷_ 115 (List._∷_ 58 (List._∷_ 58 (List._∷_ 115 (List._∷_ 99 (List._∷_ 97 (List._∷_ 110 (List._∷_ 58 (List._∷_ 58 (List._∷_ 76 (List._∷_ 105 (List._∷_ 110 (List._∷_ 101 List.[]))))))))))))))))) (Syntax.tcons (Syntax.tyInt Syntax.w32) (Syntax.tcons (Syntax.tyInt Syntax.w64) (Syntax.tcons (Syntax.tyInt Syntax.w64) (Syntax.tcons (Syntax.tyInt Syntax.w64) (Syntax.tcons (Syntax.tyInt Syntax.w64) Syntax.tnil))))))) (List._∷_ (3, Rows.sref (Array.Array (Referent.rtF (Referent.fInt Syntax.w32)) 32772) (Syntax.tyRef (Syntax.named 0) Syntax.imm (Syntax.tyArray (Syntax.tyInt Syntax.w32) 32772)) 0) (List._∷_ (4, Reshare.mref-owedS (Array.Array (Referent.rtF (Referent.fInt Syntax.w32)) 65540) (Syntax.tyRef (Syntax.named 1) Syntax.mut (Syntax.tyArray (Syntax.tyInt Syntax.w32) 65540)) 1 14 (Row.lease (κs .1 .0) (qs .1 .0))) (List._∷_ (5, Reshare.mref-owedS (Array.Array (Referent.rtF (Referent.fInt Syntax.w32)) 32772) (Syntax.tyRef (Syntax.named 2) Syntax.mut (Syntax.tyArray (Syntax.tyInt Syntax.w32) 32772)) 2 15 (Row.lease (κs .1 .1 .0) (qs .1 .1 .0))) (List._∷_ (6, Reshare.mref-owedS (Array.Array (Referent.rtF (Referent.fInt Syntax.w32)) 262160) (Syntax.tyRef (Syntax.named 3) Syntax.mut (Syntax.tyArray (Syntax.tyInt Syntax.w32) 262160)) 3 16 (Row.lease (κs .1 .1 .1 .0) (qs .1 .1 .1 .0))) (List._∷_ (7, Rows.sref (Array.Array (Referent.rtF (Referent.fInt Syntax.w8)) 600000) (Syntax.tyRef (Syntax.named 4) Syntax.imm (Syntax.tyArray (Syntax.tyInt Syntax.w8) 600000)) 4) (List._∷_ (8, Rows.mref (Array.Array Cell.R 65540) (Syntax.tyRef (Syntax.named 5) Syntax.mut (Syntax.tyArray Cell.behind 65540)) 5) (List._∷_ (9, Rows.mref (Array.Array Cell.R 32772) (Syntax.tyRef (Syntax.named 6) Syntax.mut (Syntax.tyArray Cell.behind 32772)) 6) (List._∷_ (10, Rows.any-gone (Syntax.tyStruct (List._∷_ 112 (List._∷_ 121 (List._∷_ 114 (List._∷_ 97 (List._∷_ 109 (List._∷_ 105 (List._∷_ 100 (List._∷_ 58 (List._∷_ 58 (List._∷_ 79 (List._∷_ 117 (List._∷_ 116 (List._∷_ 99 (List._∷_ 111 (List._∷_ 109 (List._∷_ 101 List.[])))))))))))))))) (Syntax.tcons (Syntax.tyStruct (List._∷_ 112 (List._∷_ 121 (List._∷_ 114 (List._∷_ 97 (List._∷_ 109 (List._∷_ 105 (List._∷_ 100 (List._∷_ 58 (List._∷_ 58 (List._∷_ 83 (List._∷_ 116 (List._∷_ 97 (List._∷_ 116 (List._∷_ 101 List.[])))))))))))))) (Syntax.tcons (Syntax.tyInt Syntax.w32) (Syntax.tcons (Syntax.tyInt Syntax.w32) (Syntax.tcons (Syntax.tyInt Syntax.w32) (Syntax.tcons (Syntax.tyInt Syntax.w32) (Syntax.tcons (Syntax.tyInt Syntax.w32) (Syntax.tcons (Syntax.tyArray (Syntax.tyInt Syntax.w32) 64) Syntax.tnil))))))) (Syntax.tcons (Syntax.tyEnum (List._∷_ 100 (List._∷_ 97 (List._∷_ 114 (List._∷_ 116 (List._∷_ 115 (List._∷_ 58 (List._∷_ 58 (List._∷_ 65 (List._∷_ 110 (List._∷_ 115 (List._∷_ 119 (List._∷_ 101 (List._∷_ 114 List.[]))))))))))))) (Syntax.ttcons (Syntax.tcons (Syntax.tyInt Syntax.w64) Syntax.tnil) (Syntax.ttcons Syntax.tnil (Syntax.ttcons (Syntax.tcons (Syntax.tyInt Syntax.w64) Syntax.tnil) (Syntax.ttcons (Syntax.tcons (Syntax.tyInt Syntax.w64) (Syntax.tcons (Syntax.tyInt Syntax.w64) Syntax.tnil)) (Syntax.ttcons Syntax.tnil (Syntax.ttcons Syntax.tnil (Syntax.ttcons Syntax.tnil (Syntax.ttcons (Syntax.tcons (Syntax.tyInt Syntax.w64) Syntax.tnil) (Syntax.ttcons (Syntax.tcons (Syntax.tyInt Syntax.w64) Syntax.tnil) (Syntax.ttcons (Syntax.tcons (Syntax.tyInt Syntax.w64) Syntax.tnil) (Syntax.ttcons (Syntax.tcons (Syntax.tyInt Syntax.w64) Syntax.tnil) (Syntax.ttcons (Syntax.tcons (Syntax.tyInt Syntax.w64) Syntax.tnil) (Syntax.ttcons (Syntax.tcons (Syntax.tyInt Syntax.w64) Syntax.tnil) (Syntax.ttcons (Syntax.tcons (Syntax.tyInt Syntax.w64) Syntax.tnil) (Syntax.ttcons Syntax.tnil (Syntax.ttcons Syntax.tnil (Syntax.ttcons (Syntax.tcons (Syntax.tyInt Syntax.w64) Syntax.tnil) Syntax.ttnil)))))))))))))))))) Syntax.tnil)))) (List._∷_ (11, Rows.any-gone (Syntax.tyInt Syntax.w64)) (List._∷_ (12, Rows.any-gone (Syntax.tyInt Syntax.w64)) (List._∷_ (13, Rows.any-gone (Syntax.tyRef Syntax.erased Syntax.imm (Syntax.tyInt Syntax.w32))) (List._∷_ (14, Rows.any-gone (Syntax.tyStruct (List._∷_ 38 (List._∷_ 91 (List._∷_ 93 List.[]))) (Syntax.tcons (Syntax.tyRef Syntax.erased Syntax.imm (Syntax.tyInt Syntax.w32)) (Syntax.tcons (Syntax.tyInt Syntax.w64) Syntax.tnil)))) (List._∷_ (15, Rows.any-gone (Syntax.tyRef Syntax.erased Syntax.mut (Syntax.tyInt Syntax.w32))) List.[])))))))))))))))
+        g61 = List._∷_ (0, Rows.whole (Declared.row Held.the-type)) (List._∷_ (1, Rows.any-gone (Syntax.tyStruct (List._∷_ 122 (List._∷_ 111 (List._∷_ 110 (List._∷_ 101 (List._∷_ 115 (List._∷_ 58 (List._∷_ 58 (List._∷_ 104 (List._∷_ 101 (List._∷_ 108 (List._∷_ 100 (List._∷_ 58 (List._∷_ 58 (List._∷_ 72 (List._∷_ 101 (List._∷_ 108 (List._∷_ 100 List.[]))))))))))))))))) (Syntax.tcons (Syntax.tyStruct (List._∷_ 112 (List._∷_ 121 (List._∷_ 114 (List._∷_ 97 (List._∷_ 109 (List._∷_ 105 (List._∷_ 100 (List._∷_ 58 (List._∷_ 58 (List._∷_ 83 (List._∷_ 116 (List._∷_ 97 (List._∷_ 116 (List._∷_ 101 List.[])))))))))))))) (Syntax.tcons (Syntax.tyInt Syntax.w32) (Syntax.tcons (Syntax.tyInt Syntax.w32) (Syntax.tcons (Syntax.tyInt Syntax.w32) (Syntax.tcons (Syntax.tyInt Syntax.w32) (Syntax.tcons (Syntax.tyInt Syntax.w32) (Syntax.tcons (Syntax.tyArray (Syntax.tyInt Syntax.w32) 64) Syntax.tnil))))))) (Syntax.tcons (Syntax.tyInt Syntax.w64) (Syntax.tcons (Syntax.tyInt Syntax.w64) (Syntax.tcons (Syntax.tyInt Syntax.w64) (Syntax.tcons (Syntax.tyInt Syntax.w64) (Syntax.tcons (Syntax.tyInt Syntax.w64) (Syntax.tcons (Syntax.tyInt Syntax.w64) (Syntax.tcons Syntax.tyBool Syntax.tnil)))))))))) (List._∷_ (2, Rows.any-gone (Syntax.tyStruct (List._∷_ 115 (List._∷_ 99 (List._∷_ 114 (List._∷_ 105 (List._∷_ 112 (List._∷_ 116 (List._∷_ 58 (List._∷_ 58 (List._∷_ 115 (List._∷_ 99 (List._∷_ 97 (List._∷_ 110 (List._∷_ 58 (List._∷_ 58 (List._∷_ 76 (List._∷_ 105 (List._∷_ 110 (List._∷_ 101 List.[])))))))))))))))))) (Syntax.tcons (Syntax.tyInt Syntax.w32) (Syntax.tcons (Syntax.tyInt Syntax.w64) (Syntax.tcons (Syntax.tyInt Syntax.w64) (Syntax.tcons (Syntax.tyInt Syntax.w64) (Syntax.tcons (Syntax.tyInt Syntax.w64) Syntax.tnil))))))) (List._∷_ (3, Rows.sref (Array.Array (Referent.rtF (Referent.fInt Syntax.w32)) 32772) (Syntax.tyRef (Syntax.named 0) Syntax.imm (Syntax.tyArray (Syntax.tyInt Syntax.w32) 32772)) 0) (List._∷_ (4, Reshare.mref-owedS (Array.Array (Referent.rtF (Referent.fInt Syntax.w32)) 65540) (Syntax.tyRef (Syntax.named 1) Syntax.mut (Syntax.tyArray (Syntax.tyInt Syntax.w32) 65540)) 1 14 (Row.lease (κs .1 .0) (qs .1 .0))) (List._∷_ (5, Reshare.mref-owedS (Array.Array (Referent.rtF (Referent.fInt Syntax.w32)) 32772) (Syntax.tyRef (Syntax.named 2) Syntax.mut (Syntax.tyArray (Syntax.tyInt Syntax.w32) 32772)) 2 15 (Row.lease (κs .1 .1 .0) (qs .1 .1 .0))) (List._∷_ (6, Reshare.mref-owedS (Array.Array (Referent.rtF (Referent.fInt Syntax.w32)) 262160) (Syntax.tyRef (Syntax.named 3) Syntax.mut (Syntax.tyArray (Syntax.tyInt Syntax.w32) 262160)) 3 16 (Row.lease (κs .1 .1 .1 .0) (qs .1 .1 .1 .0))) (List._∷_ (7, Rows.sref (Array.Array (Referent.rtF (Referent.fInt Syntax.w8)) 600000) (Syntax.tyRef (Syntax.named 4) Syntax.imm (Syntax.tyArray (Syntax.tyInt Syntax.w8) 600000)) 4) (List._∷_ (8, Rows.mref (Array.Array Cell.R 65540) (Syntax.tyRef (Syntax.named 5) Syntax.mut (Syntax.tyArray Cell.behind 65540)) 5) (List._∷_ (9, Rows.mref (Array.Array Cell.R 32772) (Syntax.tyRef (Syntax.named 6) Syntax.mut (Syntax.tyArray Cell.behind 32772)) 6) (List._∷_ (10, Rows.any-gone (Syntax.tyStruct (List._∷_ 112 (List._∷_ 121 (List._∷_ 114 (List._∷_ 97 (List._∷_ 109 (List._∷_ 105 (List._∷_ 100 (List._∷_ 58 (List._∷_ 58 (List._∷_ 79 (List._∷_ 117 (List._∷_ 116 (List._∷_ 99 (List._∷_ 111 (List._∷_ 109 (List._∷_ 101 List.[])))))))))))))))) (Syntax.tcons (Syntax.tyStruct (List._∷_ 112 (List._∷_ 121 (List._∷_ 114 (List._∷_ 97 (List._∷_ 109 (List._∷_ 105 (List._∷_ 100 (List._∷_ 58 (List._∷_ 58 (List._∷_ 83 (List._∷_ 116 (List._∷_ 97 (List._∷_ 116 (List._∷_ 101 List.[])))))))))))))) (Syntax.tcons (Syntax.tyInt Syntax.w32) (Syntax.tcons (Syntax.tyInt Syntax.w32) (Syntax.tcons (Syntax.tyInt Syntax.w32) (Syntax.tcons (Syntax.tyInt Syntax.w32) (Syntax.tcons (Syntax.tyInt Syntax.w32) (Syntax.tcons (Syntax.tyArray (Syntax.tyInt Syntax.w32) 64) Syntax.tnil))))))) (Syntax.tcons (Syntax.tyEnum (List._∷_ 100 (List._∷_ 97 (List._∷_ 114 (List._∷_ 116 (List._∷_ 115 (List._∷_ 58 (List._∷_ 58 (List._∷_ 65 (List._∷_ 110 (List._∷_ 115 (List._∷_ 119 (List._∷_ 101 (List._∷_ 114 List.[]))))))))))))) (Syntax.ttcons (Syntax.tcons (Syntax.tyInt Syntax.w64) Syntax.tnil) (Syntax.ttcons Syntax.tnil (Syntax.ttcons (Syntax.tcons (Syntax.tyInt Syntax.w64) Syntax.tnil) (Syntax.ttcons (Syntax.tcons (Syntax.tyInt Syntax.w64) (Syntax.tcons (Syntax.tyInt Syntax.w64) Syntax.tnil)) (Syntax.ttcons Syntax.tnil (Syntax.ttcons Syntax.tnil (Syntax.ttcons Syntax.tnil (Syntax.ttcons (Syntax.tcons (Syntax.tyInt Syntax.w64) Syntax.tnil) (Syntax.ttcons (Syntax.tcons (Syntax.tyInt Syntax.w64) Syntax.tnil) (Syntax.ttcons (Syntax.tcons (Syntax.tyInt Syntax.w64) Syntax.tnil) (Syntax.ttcons (Syntax.tcons (Syntax.tyInt Syntax.w64) Syntax.tnil) (Syntax.ttcons (Syntax.tcons (Syntax.tyInt Syntax.w64) Syntax.tnil) (Syntax.ttcons (Syntax.tcons (Syntax.tyInt Syntax.w64) Syntax.tnil) (Syntax.ttcons (Syntax.tcons (Syntax.tyInt Syntax.w64) Syntax.tnil) (Syntax.ttcons Syntax.tnil (Syntax.ttcons Syntax.tnil (Syntax.ttcons (Syntax.tcons (Syntax.tyInt Syntax.w64) Syntax.tnil) Syntax.ttnil)))))))))))))))))) Syntax.tnil)))) (List._∷_ (11, Rows.any-gone (Syntax.tyInt Syntax.w64)) (List._∷_ (12, Rows.any-gone (Syntax.tyInt Syntax.w64)) (List._∷_ (13, Rows.any-gone (Syntax.tyRef Syntax.erased Syntax.imm (Syntax.tyInt Syntax.w32))) (List._∷_ (14, Rows.any-gone (Syntax.tyStruct (List._∷_ 38 (List._∷_ 91 (List._∷_ 93 List.[]))) (Syntax.tcons (Syntax.tyRef Syntax.erased Syntax.imm (Syntax.tyInt Syntax.w32)) (Syntax.tcons (Syntax.tyInt Syntax.w64) Syntax.tnil)))) (List._∷_ (15, Rows.any-gone (Syntax.tyRef Syntax.erased Syntax.mut (Syntax.tyInt Syntax.w32))) List.[])))))))))))))))
 
         abbrev g62 : List.List Row.Entry
-        g62 = List._∷_ (0, Rows.whole (Declared.row Held.the-type)) (List._∷_ (1, Rows.any-gone (Syntax.tyStruct (List._∷_ 122 (List._∷_ 111 (List._∷_ 110 (List._∷_ 101 (List._∷_ 115 (List._∷_ 58 (List._∷_ 58 (List._∷_ 104 (List._∷_ 101 (List._∷_ 108 (List._∷_ 100 (List._∷_ 58 (List._∷_ 58 (List._∷_ 72 (List._∷_ 101 (List._∷_ 108 (List._∷_ 100 List.[]))))))))))))))))) (Syntax.tcons (Syntax.tyStruct (List._∷_ 112 (List._∷_ 121 (List._∷_ 114 (List._∷_ 97 (List._∷_ 109 (List._∷_ 105 (List._∷_ 100 (List._∷_ 58 (List._∷_ 58 (List._∷_ 83 (List._∷_ 116 (List._∷_ 97 (List._∷_ 116 (List._∷_ 101 List.[])))))))))))))) (Syntax.tcons (Syntax.tyInt Syntax.w32) (Syntax.tcons (Syntax.tyInt Syntax.w32) (Syntax.tcons (Syntax.tyInt Syntax.w32) (Syntax.tcons (Syntax.tyInt Syntax.w32) (Syntax.tcons (Syntax.tyInt Syntax.w32) (Syntax.tcons (Syntax.tyArray (Syntax.tyInt Syntax.w32) 64) Syntax.tnil))))))) (Syntax.tcons (Syntax.tyInt Syntax.w64) (Syntax.tcons (Syntax.tyInt Syntax.w64) (Syntax.tcons (Syntax.tyInt Syntax.w64) (Syntax.tcons (Syntax.tyInt Syntax.w64) (Syntax.tcons (Syntax.tyInt Syntax.w64) (Syntax.tcons (Syntax.tyInt Syntax.w64) (Syntax.tcons Syntax.tyBool Syntax.tnil)))))))))) (List._∷_ (2, Rows.any-gone (Syntax.tyStruct (List._∷_ 122 (List._∷_ 111 (List._∷_ 110 (List._∷_ 101 (List._∷_ 115 (List._∷_ 58 (List._∷_ 58 (List._∷_ 115 (List._∷_ 99 (List._∷_ 97 (List._∷_ 110 (List._∷_ 58 (List._∷_ 58 (List._∷_ 76 (List._∷_ 105 (List._∷_ 110 (List._∷_ 101 List.[]))))))))))))))))) (Syntax.tcons (Syntax.tyInt Syntax.w32) (Syntax.tcons (Syntax.tyInt Syntax.w64) (Syntax.tcons (Syntax.tyInt Syntax.w64) (Syntax.tcons (Syntax.tyInt Syntax.w64) (Syntax.tcons (Syntax.tyInt Syntax.w64) Syntax.tnil))))))) (List._∷_ (3, Rows.sref (Array.Array (Referent.rtF (Referent.fInt Syntax.w32)) 32772) (Syntax.tyRef (Syntax.named 0) Syntax.imm (Syntax.tyArray (Syntax.tyInt Syntax.w32) 32772)) 0) (List._∷_ (4, Rows.mref (Array.Array (Referent.rtF (Referent.fInt Syntax.w32)) 65540) (Syntax.tyRef (Syntax.named 1) Syntax.mut (Syntax.tyArray (Syntax.tyInt Syntax.w32) 65540)) 1) (List._∷_ (5, Reshare.mref-owedS (Array.Array (Referent.rtF (Referent.fInt Syntax.w32)) 32772) (Syntax.tyRef (Syntax.named 2) Syntax.mut (Syntax.tyArray (Syntax.tyInt Syntax.w32) 32772)) 2 15 (Row.lease (κs .1 .1 .0) (qs .1 .1 .0))) (List._∷_ (6, Reshare.mref-owedS (Array.Array (Referent.rtF (Referent.fInt Syntax.w32)) 262160) (Syntax.tyRef (Syntax.named 3) Syntax.mut (Syntax.tyArray (Syntax.tyInt Syntax.w32) 262160)) 3 16 (Row.lease (κs .1 .1 .1 .0) (qs .1 .1 .1 .0))) (List._∷_ (7, Rows.sref (Array.Array (Referent.rtF (Referent.fInt Syntax.w8)) 600000) (Syntax.tyRef (Syntax.named 4) Syntax.imm (Syntax.tyArray (Syntax.tyInt Syntax.w8) 600000)) 4) (List._∷_ (8, Rows.mref (Array.Array Cell.R 65540) (Syntax.tyRef (Syntax.named 5) Syntax.mut (Syntax.tyArray Cell.behind 65540)) 5) (List._∷_ (9, Rows.mref (Array.Array Cell.R 32772) (Syntax.tyRef (Syntax.named 6) Syntax.mut (Syntax.tyArray Cell.behind 32772)) 6) (List._∷_ (10, Rows.any-gone (Syntax.tyStruct (List._∷_ 112 (List._∷_ 121 (List._∷_ 114 (List._∷_ 97 (List._∷_ 109 (List._∷_ 105 (List._∷_ 100 (List._∷_ 58 (List._∷_ 58 (List._∷_ 79 (List._∷_ 117 (List._∷_ 116 (List._∷_ 99 (List._∷_ 111 (List._∷_ 109 (List._∷_ 101 List.[])))))))))))))))) (Syntax.tcons (Syntax.tyStruct (List._∷_ 112 (List._∷_ 121 (List._∷_ 114 (List._∷_ 97 (List._∷_ 109 (List._∷_ 105 (List._∷_ 100 (List._∷_ 58 (List._∷_ 58 (List._∷_ 83 (List._∷_ 116 (List._∷_ 97 (List._∷_ 116 (List._∷_ 101 List.[])))))))))))))) (Syntax.tcons (Syntax.tyInt Syntax.w32) (Syntax.tcons (Syntax.tyInt Syntax.w32) (Syntax.tcons (Syntax.tyInt Syntax.w32) (Syntax.tcons (Syntax.tyInt Syntax.w32) (Syntax.tcons (Syntax.tyInt Syntax.w32) (Syntax.tcons (Syntax.tyArray (Syntax.tyInt Syntax.w32) 64) Syntax.tnil))))))) (Syntax.tcons (Syntax.tyEnum (List._∷_ 100 (List._∷_ 97 (List._∷_ 114 (List._∷_ 116 (List._∷_ 115 (List._∷_ 58 (List._∷_ 58 (List._∷_ 65 (List._∷_ 110 (List._∷_ 115 (List._∷_ 119 (List._∷_ 101 (List._∷_ 114 List.[]))))))))))))) (Syntax.ttcons (Syntax.tcons (Syntax.tyInt Syntax.w64) Syntax.tnil) (Syntax.ttcons Syntax.tnil (Syntax.ttcons (Syntax.tcons (Syntax.tyInt Syntax.w64) Syntax.tnil) (Syntax.ttcons (Syntax.tcons (Syntax.tyInt Syntax.w64) (Syntax.tcons (Syntax.tyInt Syntax.w64) Syntax.tnil)) (Syntax.ttcons Syntax.tnil (Syntax.ttcons Syntax.tnil (Syntax.ttcons Syntax.tnil (Syntax.ttcons (Syntax.tcons (Syntax.tyInt Syntax.w64) Syntax.tnil) (Syntax.ttcons (Syntax.tcons (Syntax.tyInt Syntax.w64) Syntax.tnil) (Syntax.ttcons (Syntax.tcons (Syntax.tyInt Syntax.w64) Syntax.tnil) (Syntax.ttcons (Syntax.tcons (Syntax.tyInt Syntax.w64) Syntax.tnil) (Syntax.ttcons (Syntax.tcons (Syntax.tyInt Syntax.w64) Syntax.tnil) (Syntax.ttcons (Syntax.tcons (Syntax.tyInt Syntax.w64) Syntax.tnil) (Syntax.ttcons (Syntax.tcons (Syntax.tyInt Syntax.w64) Syntax.tnil) (Syntax.ttcons Syntax.tnil (Syntax.ttcons Syntax.tnil (Syntax.ttcons (Syntax.tcons (Syntax.tyInt Syntax.w64) Syntax.tnil) Syntax.ttnil)))))))))))))))))) Syntax.tnil)))) (List._∷_ (11, Rows.any-gone (Syntax.tyInt Syntax.w64)) (List._∷_ (12, Rows.any-gone (Syntax.tyInt Syntax.w64)) (List._∷_ (13, Rows.any-gone (Syntax.tyRef Syntax.erased Syntax.imm (Syntax.tyInt Syntax.w32))) (List._∷_ (14, Rows.any-gone (Syntax.tyStruct (List._∷_ 38 (List._∷_ 91 (List._∷_ 93 List.[]))) (Syntax.tcons (Syntax.tyRef Syntax.erased Syntax.imm (Syntax.tyInt Syntax.w32)) (Syntax.tcons (Syntax.tyInt Syntax.w64) Syntax.tnil)))) (List._∷_ (15, Rows.any-gone (Syntax.tyRef Syntax.erased Syntax.mut (Syntax.tyInt Syntax.w32))) List.[])))))))))))))))
+        g62 = List._∷_ (0, Rows.whole (Declared.row Held.the-type)) (List._∷_ (1, Rows.any-gone (Syntax.tyStruct (List._∷_ 122 (List._∷_ 111 (List._∷_ 110 (List._∷_ 101 (List._∷_ 115 (List._∷_ 58 (List._∷_ 58 (List._∷_ 104 (List._∷_ 101 (List._∷_ 108 (List._∷_ 100 (List._∷_ 58 (List._∷_ 58 (List._∷_ 72 (List._∷_ 101 (List._∷_ 108 (List._∷_ 100 List.[]))))))))))))))))) (Syntax.tcons (Syntax.tyStruct (List._∷_ 112 (List._∷_ 121 (List._∷_ 114 (List._∷_ 97 (List._∷_ 109 (List._∷_ 105 (List._∷_ 100 (List._∷_ 58 (List._∷_ 58 (List._∷_ 83 (List._∷_ 116 (List._∷_ 97 (List._∷_ 116 (List._∷_ 101 List.[])))))))))))))) (Syntax.tcons (Syntax.tyInt Syntax.w32) (Syntax.tcons (Syntax.tyInt Syntax.w32) (Syntax.tcons (Syntax.tyInt Syntax.w32) (Syntax.tcons (Syntax.tyInt Syntax.w32) (Syntax.tcons (Syntax.tyInt Syntax.w32) (Syntax.tcons (Syntax.tyArray (Syntax.tyInt Syntax.w32) 64) Syntax.tnil))))))) (Syntax.tcons (Syntax.tyInt Syntax.w64) (Syntax.tcons (Syntax.tyInt Syntax.w64) (Syntax.tcons (Syntax.tyInt Syntax.w64) (Syntax.tcons (Syntax.tyInt Syntax.w64) (Syntax.tcons (Syntax.tyInt Syntax.w64) (Syntax.tcons (Syntax.tyInt Syntax.w64) (Syntax.tcons Syntax.tyBool Syntax.tnil)))))))))) (List._∷_ (2, Rows.any-gone (Syntax.tyStruct (List._∷_ 115 (List._∷_ 99 (List._∷_ 114 (List._∷_ 105 (List._∷_ 112 (List._∷_ 116 (List._∷_ 58 (List._∷_ 58 (List._∷_ 115 (List._∷_ 99 (List._∷_ 97 (List._∷_ 110 (List._∷_ 58 (List._∷_ 58 (List._∷_ 76 (List._∷_ 105 (List._∷_ 110 (List._∷_ 101 List.[])))))))))))))))))) (Syntax.tcons (Syntax.tyInt Syntax.w32) (Syntax.tcons (Syntax.tyInt Syntax.w64) (Syntax.tcons (Syntax.tyInt Syntax.w64) (Syntax.tcons (Syntax.tyInt Syntax.w64) (Syntax.tcons (Syntax.tyInt Syntax.w64) Syntax.tnil))))))) (List._∷_ (3, Rows.sref (Array.Array (Referent.rtF (Referent.fInt Syntax.w32)) 32772) (Syntax.tyRef (Syntax.named 0) Syntax.imm (Syntax.tyArray (Syntax.tyInt Syntax.w32) 32772)) 0) (List._∷_ (4, Rows.mref (Array.Array (Referent.rtF (Referent.fInt Syntax.w32)) 65540) (Syntax.tyRef (Syntax.named 1) Syntax.mut (Syntax.tyArray (Syntax.tyInt Syntax.w32) 65540)) 1) (List._∷_ (5, Reshare.mref-owedS (Array.Array (Referent.rtF (Referent.fInt Syntax.w32)) 32772) (Syntax.tyRef (Syntax.named 2) Syntax.mut (Syntax.tyArray (Syntax.tyInt Syntax.w32) 32772)) 2 15 (Row.lease (κs .1 .1 .0) (qs .1 .1 .0))) (List._∷_ (6, Reshare.mref-owedS (Array.Array (Referent.rtF (Referent.fInt Syntax.w32)) 262160) (Syntax.tyRef (Syntax.named 3) Syntax.mut (Syntax.tyArray (Syntax.tyInt Syntax.w32) 262160)) 3 16 (Row.lease (κs .1 .1 .1 .0) (qs .1 .1 .1 .0))) (List._∷_ (7, Rows.sref (Array.Array (Referent.rtF (Referent.fInt Syntax.w8)) 600000) (Syntax.tyRef (Syntax.named 4) Syntax.imm (Syntax.tyArray (Syntax.tyInt Syntax.w8) 600000)) 4) (List._∷_ (8, Rows.mref (Array.Array Cell.R 65540) (Syntax.tyRef (Syntax.named 5) Syntax.mut (Syntax.tyArray Cell.behind 65540)) 5) (List._∷_ (9, Rows.mref (Array.Array Cell.R 32772) (Syntax.tyRef (Syntax.named 6) Syntax.mut (Syntax.tyArray Cell.behind 32772)) 6) (List._∷_ (10, Rows.any-gone (Syntax.tyStruct (List._∷_ 112 (List._∷_ 121 (List._∷_ 114 (List._∷_ 97 (List._∷_ 109 (List._∷_ 105 (List._∷_ 100 (List._∷_ 58 (List._∷_ 58 (List._∷_ 79 (List._∷_ 117 (List._∷_ 116 (List._∷_ 99 (List._∷_ 111 (List._∷_ 109 (List._∷_ 101 List.[])))))))))))))))) (Syntax.tcons (Syntax.tyStruct (List._∷_ 112 (List._∷_ 121 (List._∷_ 114 (List._∷_ 97 (List._∷_ 109 (List._∷_ 105 (List._∷_ 100 (List._∷_ 58 (List._∷_ 58 (List._∷_ 83 (List._∷_ 116 (List._∷_ 97 (List._∷_ 116 (List._∷_ 101 List.[])))))))))))))) (Syntax.tcons (Syntax.tyInt Syntax.w32) (Syntax.tcons (Syntax.tyInt Syntax.w32) (Syntax.tcons (Syntax.tyInt Syntax.w32) (Syntax.tcons (Syntax.tyInt Syntax.w32) (Syntax.tcons (Syntax.tyInt Syntax.w32) (Syntax.tcons (Syntax.tyArray (Syntax.tyInt Syntax.w32) 64) Syntax.tnil))))))) (Syntax.tcons (Syntax.tyEnum (List._∷_ 100 (List._∷_ 97 (List._∷_ 114 (List._∷_ 116 (List._∷_ 115 (List._∷_ 58 (List._∷_ 58 (List._∷_ 65 (List._∷_ 110 (List._∷_ 115 (List._∷_ 119 (List._∷_ 101 (List._∷_ 114 List.[]))))))))))))) (Syntax.ttcons (Syntax.tcons (Syntax.tyInt Syntax.w64) Syntax.tnil) (Syntax.ttcons Syntax.tnil (Syntax.ttcons (Syntax.tcons (Syntax.tyInt Syntax.w64) Syntax.tnil) (Syntax.ttcons (Syntax.tcons (Syntax.tyInt Syntax.w64) (Syntax.tcons (Syntax.tyInt Syntax.w64) Syntax.tnil)) (Syntax.ttcons Syntax.tnil (Syntax.ttcons Syntax.tnil (Syntax.ttcons Syntax.tnil (Syntax.ttcons (Syntax.tcons (Syntax.tyInt Syntax.w64) Syntax.tnil) (Syntax.ttcons (Syntax.tcons (Syntax.tyInt Syntax.w64) Syntax.tnil) (Syntax.ttcons (Syntax.tcons (Syntax.tyInt Syntax.w64) Syntax.tnil) (Syntax.ttcons (Syntax.tcons (Syntax.tyInt Syntax.w64) Syntax.tnil) (Syntax.ttcons (Syntax.tcons (Syntax.tyInt Syntax.w64) Syntax.tnil) (Syntax.ttcons (Syntax.tcons (Syntax.tyInt Syntax.w64) Syntax.tnil) (Syntax.ttcons (Syntax.tcons (Syntax.tyInt Syntax.w64) Syntax.tnil) (Syntax.ttcons Syntax.tnil (Syntax.ttcons Syntax.tnil (Syntax.ttcons (Syntax.tcons (Syntax.tyInt Syntax.w64) Syntax.tnil) Syntax.ttnil)))))))))))))))))) Syntax.tnil)))) (List._∷_ (11, Rows.any-gone (Syntax.tyInt Syntax.w64)) (List._∷_ (12, Rows.any-gone (Syntax.tyInt Syntax.w64)) (List._∷_ (13, Rows.any-gone (Syntax.tyRef Syntax.erased Syntax.imm (Syntax.tyInt Syntax.w32))) (List._∷_ (14, Rows.any-gone (Syntax.tyStruct (List._∷_ 38 (List._∷_ 91 (List._∷_ 93 List.[]))) (Syntax.tcons (Syntax.tyRef Syntax.erased Syntax.imm (Syntax.tyInt Syntax.w32)) (Syntax.tcons (Syntax.tyInt Syntax.w64) Syntax.tnil)))) (List._∷_ (15, Rows.any-gone (Syntax.tyRef Syntax.erased Syntax.mut (Syntax.tyInt Syntax.w32))) List.[])))))))))))))))
 
         abbrev g63 : List.List Row.Entry
-        g63 = List._∷_ (0, Rows.whole (Declared.row Held.the-type)) (List._∷_ (1, Rows.any-gone (Syntax.tyStruct (List._∷_ 122 (List._∷_ 111 (List._∷_ 110 (List._∷_ 101 (List._∷_ 115 (List._∷_ 58 (List._∷_ 58 (List._∷_ 104 (List._∷_ 101 (List._∷_ 108 (List._∷_ 100 (List._∷_ 58 (List._∷_ 58 (List._∷_ 72 (List._∷_ 101 (List._∷_ 108 (List._∷_ 100 List.[]))))))))))))))))) (Syntax.tcons (Syntax.tyStruct (List._∷_ 112 (List._∷_ 121 (List._∷_ 114 (List._∷_ 97 (List._∷_ 109 (List._∷_ 105 (List._∷_ 100 (List._∷_ 58 (List._∷_ 58 (List._∷_ 83 (List._∷_ 116 (List._∷_ 97 (List._∷_ 116 (List._∷_ 101 List.[])))))))))))))) (Syntax.tcons (Syntax.tyInt Syntax.w32) (Syntax.tcons (Syntax.tyInt Syntax.w32) (Syntax.tcons (Syntax.tyInt Syntax.w32) (Syntax.tcons (Syntax.tyInt Syntax.w32) (Syntax.tcons (Syntax.tyInt Syntax.w32) (Syntax.tcons (Syntax.tyArray (Syntax.tyInt Syntax.w32) 64) Syntax.tnil))))))) (Syntax.tcons (Syntax.tyInt Syntax.w64) (Syntax.tcons (Syntax.tyInt Syntax.w64) (Syntax.tcons (Syntax.tyInt Syntax.w64) (Syntax.tcons (Syntax.tyInt Syntax.w64) (Syntax.tcons (Syntax.tyInt Syntax.w64) (Syntax.tcons (Syntax.tyInt Syntax.w64) (Syntax.tcons Syntax.tyBool Syntax.tnil)))))))))) (List._∷_ (2, Rows.any-gone (Syntax.tyStruct (List._∷_ 122 (List._∷_ 111 (List._∷_ 110 (List._∷_ 101 (List._∷_ 115 (List._∷_ 58 (List._∷_ 58 (List._∷_ 115 (List._∷_ 99 (List._∷_ 97 (List._∷_ 110 (List._∷_ 58 (List._∷_ 58 (List._∷_ 76 (List._∷_ 105 (List._∷_ 110 (List._∷_ 101 List.[]))))))))))))))))) (Syntax.tcons (Syntax.tyInt Syntax.w32) (Syntax.tcons (Syntax.tyInt Syntax.w64) (Syntax.tcons (Syntax.tyInt Syntax.w64) (Syntax.tcons (Syntax.tyInt Syntax.w64) (Syntax.tcons (Syntax.tyInt Syntax.w64) Syntax.tnil))))))) (List._∷_ (3, Rows.sref (Array.Array (Referent.rtF (Referent.fInt Syntax.w32)) 32772) (Syntax.tyRef (Syntax.named 0) Syntax.imm (Syntax.tyArray (Syntax.tyInt Syntax.w32) 32772)) 0) (List._∷_ (4, Rows.mref (Array.Array (Referent.rtF (Referent.fInt Syntax.w32)) 65540) (Syntax.tyRef (Syntax.named 1) Syntax.mut (Syntax.tyArray (Syntax.tyInt Syntax.w32) 65540)) 1) (List._∷_ (5, Rows.mref (Array.Array (Referent.rtF (Referent.fInt Syntax.w32)) 32772) (Syntax.tyRef (Syntax.named 2) Syntax.mut (Syntax.tyArray (Syntax.tyInt Syntax.w32) 32772)) 2) (List._∷_ (6, Reshare.mref-owedS (Array.Array (Referent.rtF (Referent.fInt Syntax.w32)) 262160) (Syntax.tyRef (Syntax.named 3) Syntax.mut (Syntax.tyArray (Syntax.tyInt Syntax.w32) 262160)) 3 16 (Row.lease (κs .1 .1 .1 .0) (qs .1 .1 .1 .0))) (List._∷_ (7, Rows.sref (Array.Array (Referent.rtF (Referent.fInt Syntax.w8)) 600000) (Syntax.tyRef (Syntax.named 4) Syntax.imm (Syntax.tyArray (Syntax.tyInt Syntax.w8) 600000)) 4) (List._∷_ (8, Rows.mref (Array.Array Cell.R 65540) (Syntax.tyRef (Syntax.named 5) Syntax.mut (Syntax.tyArray Cell.behind 65540)) 5) (List._∷_ (9, Rows.mref (Array.Array Cell.R 32772) (Syntax.tyRef (Syntax.named 6) Syntax.mut (Syntax.tyArray Cell.behind 32772)) 6) (List._∷_ (10, Rows.any-gone (Syntax.tyStruct (List._∷_ 112 (List._∷_ 121 (List._∷_ 114 (List._∷_ 97 (List._∷_ 109 (List._∷_ 105 (List._∷_ 100 (List._∷_ 58 (List._∷_ 58 (List._∷_ 79 (List._∷_ 117 (List._∷_ 116 (List._∷_ 99 (List._∷_ 111 (List._∷_ 109 (List._∷_ 101 List.[])))))))))))))))) (Syntax.tcons (Syntax.tyStruct (List._∷_ 112 (List._∷_ 121 (List._∷_ 114 (List._∷_ 97 (List._∷_ 109 (List._∷_ 105 (List._∷_ 100 (List._∷_ 58 (List._∷_ 58 (List._∷_ 83 (List._∷_ 116 (List._∷_ 97 (List._∷_ 116 (List._∷_ 101 List.[])))))))))))))) (Syntax.tcons (Syntax.tyInt Syntax.w32) (Syntax.tcons (Syntax.tyInt Syntax.w32) (Syntax.tcons (Syntax.tyInt Syntax.w32) (Syntax.tcons (Syntax.tyInt Syntax.w32) (Syntax.tcons (Syntax.tyInt Syntax.w32) (Syntax.tcons (Syntax.tyArray (Syntax.tyInt Syntax.w32) 64) Syntax.tnil))))))) (Syntax.tcons (Syntax.tyEnum (List._∷_ 100 (List._∷_ 97 (List._∷_ 114 (List._∷_ 116 (List._∷_ 115 (List._∷_ 58 (List._∷_ 58 (List._∷_ 65 (List._∷_ 110 (List._∷_ 115 (List._∷_ 119 (List._∷_ 101 (List._∷_ 114 List.[]))))))))))))) (Syntax.ttcons (Syntax.tcons (Syntax.tyInt Syntax.w64) Syntax.tnil) (Syntax.ttcons Syntax.tnil (Syntax.ttcons (Syntax.tcons (Syntax.tyInt Syntax.w64) Syntax.tnil) (Syntax.ttcons (Syntax.tcons (Syntax.tyInt Syntax.w64) (Syntax.tcons (Syntax.tyInt Syntax.w64) Syntax.tnil)) (Syntax.ttcons Syntax.tnil (Syntax.ttcons Syntax.tnil (Syntax.ttcons Syntax.tnil (Syntax.ttcons (Syntax.tcons (Syntax.tyInt Syntax.w64) Syntax.tnil) (Syntax.ttcons (Syntax.tcons (Syntax.tyInt Syntax.w64) Syntax.tnil) (Syntax.ttcons (Syntax.tcons (Syntax.tyInt Syntax.w64) Syntax.tnil) (Syntax.ttcons (Syntax.tcons (Syntax.tyInt Syntax.w64) Syntax.tnil) (Syntax.ttcons (Syntax.tcons (Syntax.tyInt Syntax.w64) Syntax.tnil) (Syntax.ttcons (Syntax.tcons (Syntax.tyInt Syntax.w64) Syntax.tnil) (Syntax.ttcons (Syntax.tcons (Syntax.tyInt Syntax.w64) Syntax.tnil) (Syntax.ttcons Syntax.tnil (Syntax.ttcons Syntax.tnil (Syntax.ttcons (Syntax.tcons (Syntax.tyInt Syntax.w64) Syntax.tnil) Syntax.ttnil)))))))))))))))))) Syntax.tnil)))) (List._∷_ (11, Rows.any-gone (Syntax.tyInt Syntax.w64)) (List._∷_ (12, Rows.any-gone (Syntax.tyInt Syntax.w64)) (List._∷_ (13, Rows.any-gone (Syntax.tyRef Syntax.erased Syntax.imm (Syntax.tyInt Syntax.w32))) (List._∷_ (14, Rows.any-gone (Syntax.tyStruct (List._∷_ 38 (List._∷_ 91 (List._∷_ 93 List.[]))) (Syntax.tcons (Syntax.tyRef Syntax.erased Syntax.imm (Syntax.tyInt Syntax.w32)) (Syntax.tcons (Syntax.tyInt Syntax.w64) Syntax.tnil)))) (List._∷_ (15, Rows.any-gone (Syntax.tyRef Syntax.erased Syntax.mut (Syntax.tyInt Syntax.w32))) List.[])))))))))))))))
+        g63 = List._∷_ (0, Rows.whole (Declared.row Held.the-type)) (List._∷_ (1, Rows.any-gone (Syntax.tyStruct (List._∷_ 122 (List._∷_ 111 (List._∷_ 110 (List._∷_ 101 (List._∷_ 115 (List._∷_ 58 (List._∷_ 58 (List._∷_ 104 (List._∷_ 101 (List._∷_ 108 (List._∷_ 100 (List._∷_ 58 (List._∷_ 58 (List._∷_ 72 (List._∷_ 101 (List._∷_ 108 (List._∷_ 100 List.[]))))))))))))))))) (Syntax.tcons (Syntax.tyStruct (List._∷_ 112 (List._∷_ 121 (List._∷_ 114 (List._∷_ 97 (List._∷_ 109 (List._∷_ 105 (List._∷_ 100 (List._∷_ 58 (List._∷_ 58 (List._∷_ 83 (List._∷_ 116 (List._∷_ 97 (List._∷_ 116 (List._∷_ 101 List.[])))))))))))))) (Syntax.tcons (Syntax.tyInt Syntax.w32) (Syntax.tcons (Syntax.tyInt Syntax.w32) (Syntax.tcons (Syntax.tyInt Syntax.w32) (Syntax.tcons (Syntax.tyInt Syntax.w32) (Syntax.tcons (Syntax.tyInt Syntax.w32) (Syntax.tcons (Syntax.tyArray (Syntax.tyInt Syntax.w32) 64) Syntax.tnil))))))) (Syntax.tcons (Syntax.tyInt Syntax.w64) (Syntax.tcons (Syntax.tyInt Syntax.w64) (Syntax.tcons (Syntax.tyInt Syntax.w64) (Syntax.tcons (Syntax.tyInt Syntax.w64) (Syntax.tcons (Syntax.tyInt Syntax.w64) (Syntax.tcons (Syntax.tyInt Syntax.w64) (Syntax.tcons Syntax.tyBool Syntax.tnil)))))))))) (List._∷_ (2, Rows.any-gone (Syntax.tyStruct (List._∷_ 115 (List._∷_ 99 (List._∷_ 114 (List._∷_ 105 (List._∷_ 112 (List._∷_ 116 (List._∷_ 58 (List._∷_ 58 (List._∷_ 115 (List._∷_ 99 (List._∷_ 97 (List._∷_ 110 (List._∷_ 58 (List._∷_ 58 (List._∷_ 76 (List._∷_ 105 (List._∷_ 110 (List._∷_ 101 List.[])))))))))))))))))) (Syntax.tcons (Syntax.tyInt Syntax.w32) (Syntax.tcons (Syntax.tyInt Syntax.w64) (Syntax.tcons (Syntax.tyInt Syntax.w64) (Syntax.tcons (Syntax.tyInt Syntax.w64) (Syntax.tcons (Syntax.tyInt Syntax.w64) Syntax.tnil))))))) (List._∷_ (3, Rows.sref (Array.Array (Referent.rtF (Referent.fInt Syntax.w32)) 32772) (Syntax.tyRef (Syntax.named 0) Syntax.imm (Syntax.tyArray (Syntax.tyInt Syntax.w32) 32772)) 0) (List._∷_ (4, Rows.mref (Array.Array (Referent.rtF (Referent.fInt Syntax.w32)) 65540) (Syntax.tyRef (Syntax.named 1) Syntax.mut (Syntax.tyArray (Syntax.tyInt Syntax.w32) 65540)) 1) (List._∷_ (5, Rows.mref (Array.Array (Referent.rtF (Referent.fInt Syntax.w32)) 32772) (Syntax.tyRef (Syntax.named 2) Syntax.mut (Syntax.tyArray (Syntax.tyInt Syntax.w32) 32772)) 2) (List._∷_ (6, Reshare.mref-owedS (Array.Array (Referent.rtF (Referent.fInt Syntax.w32)) 262160) (Syntax.tyRef (Syntax.named 3) Syntax.mut (Syntax.tyArray (Syntax.tyInt Syntax.w32) 262160)) 3 16 (Row.lease (κs .1 .1 .1 .0) (qs .1 .1 .1 .0))) (List._∷_ (7, Rows.sref (Array.Array (Referent.rtF (Referent.fInt Syntax.w8)) 600000) (Syntax.tyRef (Syntax.named 4) Syntax.imm (Syntax.tyArray (Syntax.tyInt Syntax.w8) 600000)) 4) (List._∷_ (8, Rows.mref (Array.Array Cell.R 65540) (Syntax.tyRef (Syntax.named 5) Syntax.mut (Syntax.tyArray Cell.behind 65540)) 5) (List._∷_ (9, Rows.mref (Array.Array Cell.R 32772) (Syntax.tyRef (Syntax.named 6) Syntax.mut (Syntax.tyArray Cell.behind 32772)) 6) (List._∷_ (10, Rows.any-gone (Syntax.tyStruct (List._∷_ 112 (List._∷_ 121 (List._∷_ 114 (List._∷_ 97 (List._∷_ 109 (List._∷_ 105 (List._∷_ 100 (List._∷_ 58 (List._∷_ 58 (List._∷_ 79 (List._∷_ 117 (List._∷_ 116 (List._∷_ 99 (List._∷_ 111 (List._∷_ 109 (List._∷_ 101 List.[])))))))))))))))) (Syntax.tcons (Syntax.tyStruct (List._∷_ 112 (List._∷_ 121 (List._∷_ 114 (List._∷_ 97 (List._∷_ 109 (List._∷_ 105 (List._∷_ 100 (List._∷_ 58 (List._∷_ 58 (List._∷_ 83 (List._∷_ 116 (List._∷_ 97 (List._∷_ 116 (List._∷_ 101 List.[])))))))))))))) (Syntax.tcons (Syntax.tyInt Syntax.w32) (Syntax.tcons (Syntax.tyInt Syntax.w32) (Syntax.tcons (Syntax.tyInt Syntax.w32) (Syntax.tcons (Syntax.tyInt Syntax.w32) (Syntax.tcons (Syntax.tyInt Syntax.w32) (Syntax.tcons (Syntax.tyArray (Syntax.tyInt Syntax.w32) 64) Syntax.tnil))))))) (Syntax.tcons (Syntax.tyEnum (List._∷_ 100 (List._∷_ 97 (List._∷_ 114 (List._∷_ 116 (List._∷_ 115 (List._∷_ 58 (List._∷_ 58 (List._∷_ 65 (List._∷_ 110 (List._∷_ 115 (List._∷_ 119 (List._∷_ 101 (List._∷_ 114 List.[]))))))))))))) (Syntax.ttcons (Syntax.tcons (Syntax.tyInt Syntax.w64) Syntax.tnil) (Syntax.ttcons Syntax.tnil (Syntax.ttcons (Syntax.tcons (Syntax.tyInt Syntax.w64) Syntax.tnil) (Syntax.ttcons (Syntax.tcons (Syntax.tyInt Syntax.w64) (Syntax.tcons (Syntax.tyInt Syntax.w64) Syntax.tnil)) (Syntax.ttcons Syntax.tnil (Syntax.ttcons Syntax.tnil (Syntax.ttcons Syntax.tnil (Syntax.ttcons (Syntax.tcons (Syntax.tyInt Syntax.w64) Syntax.tnil) (Syntax.ttcons (Syntax.tcons (Syntax.tyInt Syntax.w64) Syntax.tnil) (Syntax.ttcons (Syntax.tcons (Syntax.tyInt Syntax.w64) Syntax.tnil) (Syntax.ttcons (Syntax.tcons (Syntax.tyInt Syntax.w64) Syntax.tnil) (Syntax.ttcons (Syntax.tcons (Syntax.tyInt Syntax.w64) Syntax.tnil) (Syntax.ttcons (Syntax.tcons (Syntax.tyInt Syntax.w64) Syntax.tnil) (Syntax.ttcons (Syntax.tcons (Syntax.tyInt Syntax.w64) Syntax.tnil) (Syntax.ttcons Syntax.tnil (Syntax.ttcons Syntax.tnil (Syntax.ttcons (Syntax.tcons (Syntax.tyInt Syntax.w64) Syntax.tnil) Syntax.ttnil)))))))))))))))))) Syntax.tnil)))) (List._∷_ (11, Rows.any-gone (Syntax.tyInt Syntax.w64)) (List._∷_ (12, Rows.any-gone (Syntax.tyInt Syntax.w64)) (List._∷_ (13, Rows.any-gone (Syntax.tyRef Syntax.erased Syntax.imm (Syntax.tyInt Syntax.w32))) (List._∷_ (14, Rows.any-gone (Syntax.tyStruct (List._∷_ 38 (List._∷_ 91 (List._∷_ 93 List.[]))) (Syntax.tcons (Syntax.tyRef Syntax.erased Syntax.imm (Syntax.tyInt Syntax.w32)) (Syntax.tcons (Syntax.tyInt Syntax.w64) Syntax.tnil)))) (List._∷_ (15, Rows.any-gone (Syntax.tyRef Syntax.erased Syntax.mut (Syntax.tyInt Syntax.w32))) List.[])))))))))))))))
 
         abbrev G0 : Row.Cx
         G0 = record { locals = List._++_ t0 (List._++_ t1 t2); slots = List._∷_ (Row.lease (κs .0) (qs .0)) (List._∷_ (Row.lease (κs .1 .0) (qs .1 .0)) (List._∷_ (Row.lease (κs .1 .1 .0) (qs .1 .1 .0)) (List._∷_ (Row.lease (κs .1 .1 .1 .0) (qs .1 .1 .1 .0)) (List._∷_ (Row.lease (κs .1 .1 .1 .1 .0) (qs .1 .1 .1 .1 .0)) (List._∷_ (Row.lease (κs .1 .1 .1 .1 .1 .0) (qs .1 .1 .1 .1 .1 .0)) (List._∷_ (Row.lease (κs .1 .1 .1 .1 .1 .1 .0) (qs .1 .1 .1 .1 .1 .1 .0)) (List._∷_ Row.off (List._∷_ Row.off (List._∷_ Row.off (List._∷_ Row.off (List._∷_ Row.off (List._∷_ Row.off (List._∷_ Row.off (List._∷_ Row.off (List._∷_ Row.off (List._∷_ Row.off List.[])))))))))))))))) }
@@ -1431,7 +1431,7 @@ module _ (claims· : Claims) where
           d16 = Typed.g-pre 𝓤 H A W 𝓣 E G68 G69 b25 Δ0 (Typed.pass T68 T69 s67) at15 (Local.g-drop-sref 𝓤 H A W E G68 30 14 (Array.Array (Referent.rtF (Referent.fInt Syntax.w32)) 65540) (Syntax.tyRef Syntax.erased Syntax.imm (Syntax.tyArray (Syntax.tyInt Syntax.w32) 65540)) (λ x. x) (Reads'.as-is 𝓤 H A (Rows.sref (Array.Array (Referent.rtF (Referent.fInt Syntax.w32)) 65540) (Syntax.tyRef Syntax.erased Syntax.imm (Syntax.tyArray (Syntax.tyInt Syntax.w32) 65540)) 14))) d15
 
           d17 : Typed.Typed 𝓤 H A 𝓣 E G67 b26 Δ0 at17
-          d17 = Typed.s-seq 𝓤 H A W 𝓣 E G67 G68 b24 b25 Δ0 (Typed.both s66) at16 (Plain.t-call-plain 𝓤 H A W 𝓣 4 ps·2 r·2 (claims· .4) (claims· .5) "zones::prints::print_yarn" (known .2) E (λ pos β. β) G67 (record { pos = 1; st = List.[]; d = 0; at = λ x. x }, (record { pos = 10; st = List.[]; d = 0; at = λ x. x }, (Num.vAt 11 λ x. x, (Num.vAt 12 λ x. x, (record { pos = 30; ty = Syntax.tyRef Syntax.erased Syntax.imm (Syntax.tyArray (Syntax.tyInt Syntax.w32) 65540); ref = λ x. x }, (record { pos = 31; ty = Syntax.tyRef Syntax.erased Syntax.imm (Syntax.tyArray (Syntax.tyInt Syntax.w32) 32772); ref = λ x. x }, (record { pos = 32; ty = Syntax.tyRef Syntax.erased Syntax.imm (Syntax.tyArray (Syntax.tyInt Syntax.w32) 262160); ref = λ x. x }, (record { pos = 7; ty = Syntax.tyRef (Syntax.named 4) Syntax.imm (Syntax.tyArray (Syntax.tyInt Syntax.w8) 600000); ref = λ x. x }, tt)))))))) 0 (List._∷_ 14 (List._∷_ 15 (List._∷_ 16 (List._∷_ 4 List.[])))) (Call.sub-id 𝓤 H A W (G67 .slots)) ((Yields.yields-copy 𝓤 H A W (λ ρ. Unit) (Declared.row Held.the-type) Path'.refl (Copies.cStruct Held.the-type Laws'.the-laws Laws'.the-copy .copy 𝓤 H A W) (Rows.whole (Declared.row Held.the-type)) (λ x. x) (λ x. x) (λ ρ told. Local.mem-whole 𝓤 H A W (Declared.row Held.the-type) ρ) λ ρ told. Local.whole-mem 𝓤 H A W (Declared.row Held.the-type) ρ, Path'.refl), ((Yields.yields-copy 𝓤 H A W (λ ρ. Unit) (Declared.row Outcome.the-type) Path'.refl (Copies.cStruct Outcome.the-type Laws.the-laws Laws.the-copy .copy 𝓤 H A W) (Rows.whole (Declared.row Outcome.the-type)) (λ x. x) (λ x. x) (λ ρ told. Local.mem-whole 𝓤 H A W (Declared.row Outcome.the-type) ρ) λ ρ told. Local.whole-mem 𝓤 H A W (Declared.row Outcome.the-type) ρ, Path'.refl), ((Scalar.reads-sc 𝓤 H A W (Row.sInt Syntax.w64), Path'.refl), ((Scalar.reads-sc 𝓤 H A W (Row.sInt Syntax.w64), Path'.refl), (ShrRef.spares-sref 𝓤 H A W (Array.Array (Referent.rtF (Referent.fInt Syntax.w32)) 65540) (Syntax.tyRef Syntax.erased Syntax.imm (Syntax.tyArray (Syntax.tyInt Syntax.w32) 65540)) 14, Reads'.reads-sref 𝓤 H A W (Array.Array (Referent.rtF (Referent.fInt Syntax.w32)) 65540) (Syntax.tyRef Syntax.erased Syntax.imm (Syntax.tyArray (Syntax.tyInt Syntax.w32) 65540)) 14, Path'.refl, (ShrRef.spares-sref 𝓤 H A W (Array.Array (Referent.rtF (Referent.fInt Syntax.w32)) 32772) (Syntax.tyRef Syntax.erased Syntax.imm (Syntax.tyArray (Syntax.tyInt Syntax.w32) 32772)) 15, Reads'.reads-sref 𝓤 H A W (Array.Array (Referent.rtF (Referent.fInt Syntax.w32)) 32772) (Syntax.tyRef Syntax.erased Syntax.imm (Syntax.tyArray (Syntax.tyInt Syntax.w32) 32772)) 15, Path'.refl, (ShrRef.spares-sref 𝓤 H A W (Array.Array (Referent.rtF (Referent.fInt Syntax.w32)) 262160) (Syntax.tyRef Syntax.erased Syntax.imm (Syntax.tyArray (Syntax.tyInt Syntax.w32) 262160)) 16, Reads'.reads-sref 𝓤 H A W (Array.Array (Referent.rtF (Referent.fInt Syntax.w32)) 262160) (Syntax.tyRef Syntax.erased Syntax.imm (Syntax.tyArray (Syntax.tyInt Syntax.w32) 262160)) 16, Path'.refl, (ShrRef.spares-sref 𝓤 H A W (Array.Array (Referent.rtF (Referent.fInt Syntax.w8)) 600000) (Syntax.tyRef (Syntax.named 4) Syntax.imm (Syntax.tyArray (Syntax.tyInt Syntax.w8) 600000)) 4, Reads'.reads-sref 𝓤 H A W (Array.Array (Referent.rtF (Referent.fInt Syntax.w8)) 600000) (Syntax.tyRef (Syntax.named 4) Syntax.imm (Syntax.tyArray (Syntax.tyInt Syntax.w8) 600000)) 4, Path'.refl, tt)))))))) (Reads'.room-gone 𝓤 H A (Syntax.tyStruct (List._∷_ 122 (List._∷_ 111 (List._∷_ 110 (List._∷_ 101 (List._∷_ 115 (List._∷_ 58 (List._∷_ 58 (List._∷_ 104 (List._∷_ 101 (List._∷_ 108 (List._∷_ 100 (List._∷_ 58 (List._∷_ 58 (List._∷_ 72 (List._∷_ 101 (List._∷_ 108 (List._∷_ 100 List.[]))))))))))))))))) (Syntax.tcons (Syntax.tyStruct (List._∷_ 112 (List._∷_ 121 (List._∷_ 114 (List._∷_ 97 (List._∷_ 109 (List._∷_ 105 (List._∷_ 100 (List._∷_ 58 (List._∷_ 58 (List._∷_ 83 (List._∷_ 116 (List._∷_ 97 (List._∷_ 116 (List._∷_ 101 List.[])))))))))))))) (Syntax.tcons (Syntax.tyInt Syntax.w32) (Syntax.tcons (Syntax.tyInt Syntax.w32) (Syntax.tcons (Syntax.tyInt Syntax.w32) (Syntax.tcons (Syntax.tyInt Syntax.w32) (Syntax.tcons (Syntax.tyInt Syntax.w32) (Syntax.tcons (Syntax.tyArray (Syntax.tyInt Syntax.w32) 64) Syntax.tnil))))))) (Syntax.tcons (Syntax.tyInt Syntax.w64) (Syntax.tcons (Syntax.tyInt Syntax.w64) (Syntax.tcons (Syntax.tyInt Syntax.w64) (Syntax.tcons (Syntax.tyInt Syntax.w64) (Syntax.tcons (Syntax.tyInt Syntax.w64) (Syntax.tcons (Syntax.tyInt Syntax.w64) (Syntax.tcons Syntax.tyBool Syntax.tnil)))))))))) (tt, (tt, (tt, (tt, tt)))) Path'.refl) d16
+          d17 = Typed.s-seq 𝓤 H A W 𝓣 E G67 G68 b24 b25 Δ0 (Typed.both s66) at16 (Plain.t-call-plain 𝓤 H A W 𝓣 4 ps·2 r·2 (claims· .4) (claims· .5) "zones::prints::print_yarn" (known .2) E (λ pos β. β) G67 (record { pos = 1; st = List.[]; d = 0; at = λ x. x }, (record { pos = 10; st = List.[]; d = 0; at = λ x. x }, (Num.vAt 11 λ x. x, (Num.vAt 12 λ x. x, (record { pos = 30; ty = Syntax.tyRef Syntax.erased Syntax.imm (Syntax.tyArray (Syntax.tyInt Syntax.w32) 65540); ref = λ x. x }, (record { pos = 31; ty = Syntax.tyRef Syntax.erased Syntax.imm (Syntax.tyArray (Syntax.tyInt Syntax.w32) 32772); ref = λ x. x }, (record { pos = 32; ty = Syntax.tyRef Syntax.erased Syntax.imm (Syntax.tyArray (Syntax.tyInt Syntax.w32) 262160); ref = λ x. x }, (record { pos = 7; ty = Syntax.tyRef (Syntax.named 4) Syntax.imm (Syntax.tyArray (Syntax.tyInt Syntax.w8) 600000); ref = λ x. x }, tt)))))))) 0 (List._∷_ 14 (List._∷_ 15 (List._∷_ 16 (List._∷_ 4 List.[])))) (Call.sub-id 𝓤 H A W (G67 .slots)) ((Yields.yields-copy 𝓤 H A W (λ ρ. Unit) (Declared.row Held.the-type) Path'.refl (Copies.cStruct Held.the-type Laws''.the-laws Laws''.the-copy .copy 𝓤 H A W) (Rows.whole (Declared.row Held.the-type)) (λ x. x) (λ x. x) (λ ρ told. Local.mem-whole 𝓤 H A W (Declared.row Held.the-type) ρ) λ ρ told. Local.whole-mem 𝓤 H A W (Declared.row Held.the-type) ρ, Path'.refl), ((Yields.yields-copy 𝓤 H A W (λ ρ. Unit) (Declared.row Outcome.the-type) Path'.refl (Copies.cStruct Outcome.the-type Laws.the-laws Laws.the-copy .copy 𝓤 H A W) (Rows.whole (Declared.row Outcome.the-type)) (λ x. x) (λ x. x) (λ ρ told. Local.mem-whole 𝓤 H A W (Declared.row Outcome.the-type) ρ) λ ρ told. Local.whole-mem 𝓤 H A W (Declared.row Outcome.the-type) ρ, Path'.refl), ((Scalar.reads-sc 𝓤 H A W (Row.sInt Syntax.w64), Path'.refl), ((Scalar.reads-sc 𝓤 H A W (Row.sInt Syntax.w64), Path'.refl), (ShrRef.spares-sref 𝓤 H A W (Array.Array (Referent.rtF (Referent.fInt Syntax.w32)) 65540) (Syntax.tyRef Syntax.erased Syntax.imm (Syntax.tyArray (Syntax.tyInt Syntax.w32) 65540)) 14, Reads'.reads-sref 𝓤 H A W (Array.Array (Referent.rtF (Referent.fInt Syntax.w32)) 65540) (Syntax.tyRef Syntax.erased Syntax.imm (Syntax.tyArray (Syntax.tyInt Syntax.w32) 65540)) 14, Path'.refl, (ShrRef.spares-sref 𝓤 H A W (Array.Array (Referent.rtF (Referent.fInt Syntax.w32)) 32772) (Syntax.tyRef Syntax.erased Syntax.imm (Syntax.tyArray (Syntax.tyInt Syntax.w32) 32772)) 15, Reads'.reads-sref 𝓤 H A W (Array.Array (Referent.rtF (Referent.fInt Syntax.w32)) 32772) (Syntax.tyRef Syntax.erased Syntax.imm (Syntax.tyArray (Syntax.tyInt Syntax.w32) 32772)) 15, Path'.refl, (ShrRef.spares-sref 𝓤 H A W (Array.Array (Referent.rtF (Referent.fInt Syntax.w32)) 262160) (Syntax.tyRef Syntax.erased Syntax.imm (Syntax.tyArray (Syntax.tyInt Syntax.w32) 262160)) 16, Reads'.reads-sref 𝓤 H A W (Array.Array (Referent.rtF (Referent.fInt Syntax.w32)) 262160) (Syntax.tyRef Syntax.erased Syntax.imm (Syntax.tyArray (Syntax.tyInt Syntax.w32) 262160)) 16, Path'.refl, (ShrRef.spares-sref 𝓤 H A W (Array.Array (Referent.rtF (Referent.fInt Syntax.w8)) 600000) (Syntax.tyRef (Syntax.named 4) Syntax.imm (Syntax.tyArray (Syntax.tyInt Syntax.w8) 600000)) 4, Reads'.reads-sref 𝓤 H A W (Array.Array (Referent.rtF (Referent.fInt Syntax.w8)) 600000) (Syntax.tyRef (Syntax.named 4) Syntax.imm (Syntax.tyArray (Syntax.tyInt Syntax.w8) 600000)) 4, Path'.refl, tt)))))))) (Reads'.room-gone 𝓤 H A (Syntax.tyStruct (List._∷_ 122 (List._∷_ 111 (List._∷_ 110 (List._∷_ 101 (List._∷_ 115 (List._∷_ 58 (List._∷_ 58 (List._∷_ 104 (List._∷_ 101 (List._∷_ 108 (List._∷_ 100 (List._∷_ 58 (List._∷_ 58 (List._∷_ 72 (List._∷_ 101 (List._∷_ 108 (List._∷_ 100 List.[]))))))))))))))))) (Syntax.tcons (Syntax.tyStruct (List._∷_ 112 (List._∷_ 121 (List._∷_ 114 (List._∷_ 97 (List._∷_ 109 (List._∷_ 105 (List._∷_ 100 (List._∷_ 58 (List._∷_ 58 (List._∷_ 83 (List._∷_ 116 (List._∷_ 97 (List._∷_ 116 (List._∷_ 101 List.[])))))))))))))) (Syntax.tcons (Syntax.tyInt Syntax.w32) (Syntax.tcons (Syntax.tyInt Syntax.w32) (Syntax.tcons (Syntax.tyInt Syntax.w32) (Syntax.tcons (Syntax.tyInt Syntax.w32) (Syntax.tcons (Syntax.tyInt Syntax.w32) (Syntax.tcons (Syntax.tyArray (Syntax.tyInt Syntax.w32) 64) Syntax.tnil))))))) (Syntax.tcons (Syntax.tyInt Syntax.w64) (Syntax.tcons (Syntax.tyInt Syntax.w64) (Syntax.tcons (Syntax.tyInt Syntax.w64) (Syntax.tcons (Syntax.tyInt Syntax.w64) (Syntax.tcons (Syntax.tyInt Syntax.w64) (Syntax.tcons (Syntax.tyInt Syntax.w64) (Syntax.tcons Syntax.tyBool Syntax.tnil)))))))))) (tt, (tt, (tt, (tt, tt)))) Path'.refl) d16
 
           d18 : Typed.Typed 𝓤 H A 𝓣 E G66 b27 Δ0 at18
           d18 = Typed.s-seq 𝓤 H A W 𝓣 E G66 G67 b23 b26 Δ0 (Typed.give s65) at17 (Reshare.t-mref-reshare 𝓤 H A W E 𝓣 G66 6 32 3 16 (Array.Array (Referent.rtF (Referent.fInt Syntax.w32)) 262160) (Syntax.tyArray (Syntax.tyInt Syntax.w32) 262160) (Syntax.tyRef (Syntax.named 3) Syntax.mut (Syntax.tyArray (Syntax.tyInt Syntax.w32) 262160)) (Syntax.tyRef Syntax.erased Syntax.imm (Syntax.tyArray (Syntax.tyInt Syntax.w32) 262160)) (Row.lease (κs .1 .1 .1 .0) (qs .1 .1 .1 .0)) (λ x. x) (Reads'.as-is 𝓤 H A (Rows.mref (Array.Array (Referent.rtF (Referent.fInt Syntax.w32)) 262160) (Syntax.tyRef (Syntax.named 3) Syntax.mut (Syntax.tyArray (Syntax.tyInt Syntax.w32) 262160)) 3)) (Reads'.room-gone 𝓤 H A (Syntax.tyRef Syntax.erased Syntax.imm (Syntax.tyArray (Syntax.tyInt Syntax.w32) 262160))) Path'.refl tt Path'.refl Path'.refl λ b o. tt) d17
@@ -1467,13 +1467,13 @@ module _ (claims· : Claims) where
           d28 = Typed.g-pre 𝓤 H A W 𝓣 E G56 G57 b29 Δ0 (Typed.pass T56 T57 s55) at27 (Scalar.g-room 𝓤 H A W E G56 29 (Syntax.tyStruct (List._∷_ 38 (List._∷_ 91 (List._∷_ 93 List.[]))) (Syntax.tcons (Syntax.tyRef Syntax.erased Syntax.imm Cell.behind) (Syntax.tcons (Syntax.tyInt Syntax.w64) Syntax.tnil))) (Shared.room-sslice 𝓤 H A W Cell.R (Syntax.tyRef Syntax.erased Syntax.imm Cell.behind) 13)) d27
 
           d29 : Typed.Typed 𝓤 H A 𝓣 E G55 b30 Δ0 at29
-          d29 = Typed.s-seq 𝓤 H A W 𝓣 E G55 G56 b20 b29 Δ0 (Typed.both s54) at28 (Plain.t-call-plain 𝓤 H A W 𝓣 1 ps·1 r·1 (claims· .2) (claims· .3) "zones::sheet_calls::sum_records" (known .1) E (λ pos β. β) G55 (record { pos = 29; ty = Syntax.tyRef Syntax.erased Syntax.imm Cell.behind; ref = λ x. x }, (Num.vAt 27 λ x. x, tt)) 12 (List._∷_ 13 List.[]) (Call.sub-id 𝓤 H A W (G55 .slots)) (ShrSlice.spares-sslice 𝓤 H A W Cell.R (Syntax.tyRef Syntax.erased Syntax.imm Cell.behind) 13, Shared.reads-sslice 𝓤 H A W Cell.R (Syntax.tyRef Syntax.erased Syntax.imm Cell.behind) 13, Path'.refl, ((Scalar.reads-sc 𝓤 H A W (Row.sInt Syntax.w64), Path'.refl), tt)) (Reads'.room-gone 𝓤 H A (Syntax.tyInt Syntax.w64)) (tt, tt) Path'.refl) d28
+          d29 = Typed.s-seq 𝓤 H A W 𝓣 E G55 G56 b20 b29 Δ0 (Typed.both s54) at28 (Plain.t-call-plain 𝓤 H A W 𝓣 1 ps·1 r·1 (claims· .2) (claims· .3) "script::sums::sum_records" (known .1) E (λ pos β. β) G55 (record { pos = 29; ty = Syntax.tyRef Syntax.erased Syntax.imm Cell.behind; ref = λ x. x }, (Num.vAt 27 λ x. x, tt)) 12 (List._∷_ 13 List.[]) (Call.sub-id 𝓤 H A W (G55 .slots)) (ShrSlice.spares-sslice 𝓤 H A W Cell.R (Syntax.tyRef Syntax.erased Syntax.imm Cell.behind) 13, Shared.reads-sslice 𝓤 H A W Cell.R (Syntax.tyRef Syntax.erased Syntax.imm Cell.behind) 13, Path'.refl, ((Scalar.reads-sc 𝓤 H A W (Row.sInt Syntax.w64), Path'.refl), tt)) (Reads'.room-gone 𝓤 H A (Syntax.tyInt Syntax.w64)) (tt, tt) Path'.refl) d28
 
           d30 : Typed.Typed 𝓤 H A 𝓣 E G54 b31 Δ0 at30
-          d30 = Typed.s-seq 𝓤 H A W 𝓣 E G54 G55 b19 b30 Δ0 (Typed.ask s53) at29 (Scalar.t-op2 𝓤 H A W E 𝓣 G54 (Syntax.add Syntax.unsigned) (Scalar.oFld 1 (List._∷_ (Syntax.field 5) List.[]) (Syntax.tyInt Syntax.w64) 312 (Reads.fieldV Held.the-type Laws'.the-laws 5)) (Scalar.oInt Syntax.w64 4) 27 (Rows.sc-here (Row.sInt Syntax.w64)) (Syntax.tyInt Syntax.w64) (Row.valS (Row.sInt Syntax.w64)) (Row.sInt Syntax.w64 .of) (Reads.reads-field 𝓤 H A W Held.the-type Laws'.the-laws 5 (Syntax.tyInt Syntax.w64) 312 Path'.refl, Path'.refl) tt (Reads'.room-gone 𝓤 H A (Syntax.tyInt Syntax.w64)) (Scalar.holds-sc 𝓤 H A W (Row.sInt Syntax.w64)) Path'.refl (λ u. Path'.refl) λ u. tt) d29
+          d30 = Typed.s-seq 𝓤 H A W 𝓣 E G54 G55 b19 b30 Δ0 (Typed.ask s53) at29 (Scalar.t-op2 𝓤 H A W E 𝓣 G54 (Syntax.add Syntax.unsigned) (Scalar.oFld 1 (List._∷_ (Syntax.field 5) List.[]) (Syntax.tyInt Syntax.w64) 312 (Reads.fieldV Held.the-type Laws''.the-laws 5)) (Scalar.oInt Syntax.w64 4) 27 (Rows.sc-here (Row.sInt Syntax.w64)) (Syntax.tyInt Syntax.w64) (Row.valS (Row.sInt Syntax.w64)) (Row.sInt Syntax.w64 .of) (Reads.reads-field 𝓤 H A W Held.the-type Laws''.the-laws 5 (Syntax.tyInt Syntax.w64) 312 Path'.refl, Path'.refl) tt (Reads'.room-gone 𝓤 H A (Syntax.tyInt Syntax.w64)) (Scalar.holds-sc 𝓤 H A W (Row.sInt Syntax.w64)) Path'.refl (λ u. Path'.refl) λ u. tt) d29
 
           d31 : Typed.Typed 𝓤 H A 𝓣 E G53 b31 Δ0 at31
-          d31 = Typed.g-pre 𝓤 H A W 𝓣 E G53 G54 b31 Δ0 (Typed.give s52) at30 (Know.g-struct-known 𝓤 H A W E Held.the-type Laws'.the-laws G53 1 (λ x. x) (Reads'.as-is 𝓤 H A (Rows.whole (Declared.row Held.the-type)))) d30
+          d31 = Typed.g-pre 𝓤 H A W 𝓣 E G53 G54 b31 Δ0 (Typed.give s52) at30 (Know.g-struct-known 𝓤 H A W E Held.the-type Laws''.the-laws G53 1 (λ x. x) (Reads'.as-is 𝓤 H A (Rows.whole (Declared.row Held.the-type)))) d30
 
           d32 : Typed.Typed 𝓤 H A 𝓣 E G52 b32 Δ0 at32
           d32 = Typed.s-seq 𝓤 H A W 𝓣 E G52 G53 b18 b31 Δ0 (Typed.ask s51) at31 (Relend.t-sl-aggregate 𝓤 H A W E Cell.R 𝓣 (Relend.asShr Cell.R) G52 28 29 13 (Syntax.tyRef Syntax.erased Syntax.imm Cell.behind) (Syntax.tyRef Syntax.erased Syntax.imm Cell.behind) (λ x. x) (Scalar.oBig Syntax.w64 32772) (Reads'.as-is 𝓤 H A (Relend.ssptr Cell.R (Syntax.tyRef Syntax.erased Syntax.imm Cell.behind) 13)) (Reads'.room-gone 𝓤 H A (Syntax.tyStruct (List._∷_ 38 (List._∷_ 91 (List._∷_ 93 List.[]))) (Syntax.tcons (Syntax.tyRef Syntax.erased Syntax.imm Cell.behind) (Syntax.tcons (Syntax.tyInt Syntax.w64) Syntax.tnil)))) record { lower = record { fits = Dec'.lit< tt } } Path'.refl Path'.refl λ b o k. tt) d31
@@ -1503,13 +1503,13 @@ module _ (claims· : Claims) where
           d40 = Typed.g-pre 𝓤 H A W 𝓣 E G44 G45 b33 Δ0 (Typed.pass T44 T45 s43) at39 (Scalar.g-room 𝓤 H A W E G44 26 (Syntax.tyStruct (List._∷_ 38 (List._∷_ 91 (List._∷_ 93 List.[]))) (Syntax.tcons (Syntax.tyRef Syntax.erased Syntax.imm Cell.behind) (Syntax.tcons (Syntax.tyInt Syntax.w64) Syntax.tnil))) (Shared.room-sslice 𝓤 H A W Cell.R (Syntax.tyRef Syntax.erased Syntax.imm Cell.behind) 12)) d39
 
           d41 : Typed.Typed 𝓤 H A 𝓣 E G43 b34 Δ0 at41
-          d41 = Typed.s-seq 𝓤 H A W 𝓣 E G43 G44 b16 b33 Δ0 (Typed.both s42) at40 (Plain.t-call-plain 𝓤 H A W 𝓣 1 ps·1 r·1 (claims· .2) (claims· .3) "zones::sheet_calls::sum_records" (known .1) E (λ pos β. β) G43 (record { pos = 26; ty = Syntax.tyRef Syntax.erased Syntax.imm Cell.behind; ref = λ x. x }, (Num.vAt 27 λ x. x, tt)) 11 (List._∷_ 12 List.[]) (Call.sub-id 𝓤 H A W (G43 .slots)) (ShrSlice.spares-sslice 𝓤 H A W Cell.R (Syntax.tyRef Syntax.erased Syntax.imm Cell.behind) 12, Shared.reads-sslice 𝓤 H A W Cell.R (Syntax.tyRef Syntax.erased Syntax.imm Cell.behind) 12, Path'.refl, ((Scalar.reads-sc 𝓤 H A W (Row.sInt Syntax.w64), Path'.refl), tt)) (Reads'.room-gone 𝓤 H A (Syntax.tyInt Syntax.w64)) (tt, tt) Path'.refl) d40
+          d41 = Typed.s-seq 𝓤 H A W 𝓣 E G43 G44 b16 b33 Δ0 (Typed.both s42) at40 (Plain.t-call-plain 𝓤 H A W 𝓣 1 ps·1 r·1 (claims· .2) (claims· .3) "script::sums::sum_records" (known .1) E (λ pos β. β) G43 (record { pos = 26; ty = Syntax.tyRef Syntax.erased Syntax.imm Cell.behind; ref = λ x. x }, (Num.vAt 27 λ x. x, tt)) 11 (List._∷_ 12 List.[]) (Call.sub-id 𝓤 H A W (G43 .slots)) (ShrSlice.spares-sslice 𝓤 H A W Cell.R (Syntax.tyRef Syntax.erased Syntax.imm Cell.behind) 12, Shared.reads-sslice 𝓤 H A W Cell.R (Syntax.tyRef Syntax.erased Syntax.imm Cell.behind) 12, Path'.refl, ((Scalar.reads-sc 𝓤 H A W (Row.sInt Syntax.w64), Path'.refl), tt)) (Reads'.room-gone 𝓤 H A (Syntax.tyInt Syntax.w64)) (tt, tt) Path'.refl) d40
 
           d42 : Typed.Typed 𝓤 H A 𝓣 E G42 b35 Δ0 at42
-          d42 = Typed.s-seq 𝓤 H A W 𝓣 E G42 G43 b15 b34 Δ0 (Typed.ask s41) at41 (Scalar.t-op2 𝓤 H A W E 𝓣 G42 (Syntax.add Syntax.unsigned) (Scalar.oFld 1 (List._∷_ (Syntax.field 4) List.[]) (Syntax.tyInt Syntax.w64) 304 (Reads.fieldV Held.the-type Laws'.the-laws 4)) (Scalar.oInt Syntax.w64 4) 27 (Rows.sc-here (Row.sInt Syntax.w64)) (Syntax.tyInt Syntax.w64) (Row.valS (Row.sInt Syntax.w64)) (Row.sInt Syntax.w64 .of) (Reads.reads-field 𝓤 H A W Held.the-type Laws'.the-laws 4 (Syntax.tyInt Syntax.w64) 304 Path'.refl, Path'.refl) tt (Reads'.room-gone 𝓤 H A (Syntax.tyInt Syntax.w64)) (Scalar.holds-sc 𝓤 H A W (Row.sInt Syntax.w64)) Path'.refl (λ u. Path'.refl) λ u. tt) d41
+          d42 = Typed.s-seq 𝓤 H A W 𝓣 E G42 G43 b15 b34 Δ0 (Typed.ask s41) at41 (Scalar.t-op2 𝓤 H A W E 𝓣 G42 (Syntax.add Syntax.unsigned) (Scalar.oFld 1 (List._∷_ (Syntax.field 4) List.[]) (Syntax.tyInt Syntax.w64) 304 (Reads.fieldV Held.the-type Laws''.the-laws 4)) (Scalar.oInt Syntax.w64 4) 27 (Rows.sc-here (Row.sInt Syntax.w64)) (Syntax.tyInt Syntax.w64) (Row.valS (Row.sInt Syntax.w64)) (Row.sInt Syntax.w64 .of) (Reads.reads-field 𝓤 H A W Held.the-type Laws''.the-laws 4 (Syntax.tyInt Syntax.w64) 304 Path'.refl, Path'.refl) tt (Reads'.room-gone 𝓤 H A (Syntax.tyInt Syntax.w64)) (Scalar.holds-sc 𝓤 H A W (Row.sInt Syntax.w64)) Path'.refl (λ u. Path'.refl) λ u. tt) d41
 
           d43 : Typed.Typed 𝓤 H A 𝓣 E G41 b35 Δ0 at43
-          d43 = Typed.g-pre 𝓤 H A W 𝓣 E G41 G42 b35 Δ0 (Typed.give s40) at42 (Know.g-struct-known 𝓤 H A W E Held.the-type Laws'.the-laws G41 1 (λ x. x) (Reads'.as-is 𝓤 H A (Rows.whole (Declared.row Held.the-type)))) d42
+          d43 = Typed.g-pre 𝓤 H A W 𝓣 E G41 G42 b35 Δ0 (Typed.give s40) at42 (Know.g-struct-known 𝓤 H A W E Held.the-type Laws''.the-laws G41 1 (λ x. x) (Reads'.as-is 𝓤 H A (Rows.whole (Declared.row Held.the-type)))) d42
 
           d44 : Typed.Typed 𝓤 H A 𝓣 E G40 b36 Δ0 at44
           d44 = Typed.s-seq 𝓤 H A W 𝓣 E G40 G41 b14 b35 Δ0 (Typed.ask s39) at43 (Relend.t-sl-aggregate 𝓤 H A W E Cell.R 𝓣 (Relend.asShr Cell.R) G40 25 26 12 (Syntax.tyRef Syntax.erased Syntax.imm Cell.behind) (Syntax.tyRef Syntax.erased Syntax.imm Cell.behind) (λ x. x) (Scalar.oBig Syntax.w64 65540) (Reads'.as-is 𝓤 H A (Relend.ssptr Cell.R (Syntax.tyRef Syntax.erased Syntax.imm Cell.behind) 12)) (Reads'.room-gone 𝓤 H A (Syntax.tyStruct (List._∷_ 38 (List._∷_ 91 (List._∷_ 93 List.[]))) (Syntax.tcons (Syntax.tyRef Syntax.erased Syntax.imm Cell.behind) (Syntax.tcons (Syntax.tyInt Syntax.w64) Syntax.tnil)))) record { lower = record { fits = Dec'.lit< tt } } Path'.refl Path'.refl λ b o k. tt) d43
@@ -1569,13 +1569,13 @@ module _ (claims· : Claims) where
           d62 = Typed.g-pre 𝓤 H A W 𝓣 E G22 G23 b37 Δ0 (λ Ψ. Ψ) at61 (Lifetime.g-end 𝓤 H A W E G22 7 Path'.refl) d61
 
           d63 : Typed.Typed 𝓤 H A 𝓣 E G21 b37 Δ0 at63
-          d63 = Typed.g-pre 𝓤 H A W 𝓣 E G21 G22 b37 Δ0 (Typed.pass T21 T22 s20) at62 (Scalar.g-room 𝓤 H A W E G21 2 (Syntax.tyStruct (List._∷_ 122 (List._∷_ 111 (List._∷_ 110 (List._∷_ 101 (List._∷_ 115 (List._∷_ 58 (List._∷_ 58 (List._∷_ 115 (List._∷_ 99 (List._∷_ 97 (List._∷_ 110 (List._∷_ 58 (List._∷_ 58 (List._∷_ 76 (List._∷_ 105 (List._∷_ 110 (List._∷_ 101 List.[]))))))))))))))))) (Syntax.tcons (Syntax.tyInt Syntax.w32) (Syntax.tcons (Syntax.tyInt Syntax.w64) (Syntax.tcons (Syntax.tyInt Syntax.w64) (Syntax.tcons (Syntax.tyInt Syntax.w64) (Syntax.tcons (Syntax.tyInt Syntax.w64) Syntax.tnil)))))) (Local.room-whole 𝓤 H A W (Declared.row Line.the-type) (Syntax.tyStruct (List._∷_ 122 (List._∷_ 111 (List._∷_ 110 (List._∷_ 101 (List._∷_ 115 (List._∷_ 58 (List._∷_ 58 (List._∷_ 115 (List._∷_ 99 (List._∷_ 97 (List._∷_ 110 (List._∷_ 58 (List._∷_ 58 (List._∷_ 76 (List._∷_ 105 (List._∷_ 110 (List._∷_ 101 List.[]))))))))))))))))) (Syntax.tcons (Syntax.tyInt Syntax.w32) (Syntax.tcons (Syntax.tyInt Syntax.w64) (Syntax.tcons (Syntax.tyInt Syntax.w64) (Syntax.tcons (Syntax.tyInt Syntax.w64) (Syntax.tcons (Syntax.tyInt Syntax.w64) Syntax.tnil)))))) Path'.refl)) d62
+          d63 = Typed.g-pre 𝓤 H A W 𝓣 E G21 G22 b37 Δ0 (Typed.pass T21 T22 s20) at62 (Scalar.g-room 𝓤 H A W E G21 2 (Syntax.tyStruct (List._∷_ 115 (List._∷_ 99 (List._∷_ 114 (List._∷_ 105 (List._∷_ 112 (List._∷_ 116 (List._∷_ 58 (List._∷_ 58 (List._∷_ 115 (List._∷_ 99 (List._∷_ 97 (List._∷_ 110 (List._∷_ 58 (List._∷_ 58 (List._∷_ 76 (List._∷_ 105 (List._∷_ 110 (List._∷_ 101 List.[])))))))))))))))))) (Syntax.tcons (Syntax.tyInt Syntax.w32) (Syntax.tcons (Syntax.tyInt Syntax.w64) (Syntax.tcons (Syntax.tyInt Syntax.w64) (Syntax.tcons (Syntax.tyInt Syntax.w64) (Syntax.tcons (Syntax.tyInt Syntax.w64) Syntax.tnil)))))) (Local.room-whole 𝓤 H A W (Declared.row Line.the-type) (Syntax.tyStruct (List._∷_ 115 (List._∷_ 99 (List._∷_ 114 (List._∷_ 105 (List._∷_ 112 (List._∷_ 116 (List._∷_ 58 (List._∷_ 58 (List._∷_ 115 (List._∷_ 99 (List._∷_ 97 (List._∷_ 110 (List._∷_ 58 (List._∷_ 58 (List._∷_ 76 (List._∷_ 105 (List._∷_ 110 (List._∷_ 101 List.[])))))))))))))))))) (Syntax.tcons (Syntax.tyInt Syntax.w32) (Syntax.tcons (Syntax.tyInt Syntax.w64) (Syntax.tcons (Syntax.tyInt Syntax.w64) (Syntax.tcons (Syntax.tyInt Syntax.w64) (Syntax.tcons (Syntax.tyInt Syntax.w64) Syntax.tnil)))))) Path'.refl)) d62
 
           d64 : Typed.Typed 𝓤 H A 𝓣 E G20 b37 Δ0 at64
           d64 = Typed.g-pre 𝓤 H A W 𝓣 E G20 G21 b37 Δ0 (Typed.pass T20 T21 s19) at63 (Scalar.g-room 𝓤 H A W E G20 14 (Syntax.tyStruct (List._∷_ 38 (List._∷_ 91 (List._∷_ 93 List.[]))) (Syntax.tcons (Syntax.tyRef Syntax.erased Syntax.imm (Syntax.tyInt Syntax.w32)) (Syntax.tcons (Syntax.tyInt Syntax.w64) Syntax.tnil))) (Shared.room-sslice 𝓤 H A W (Referent.rtF (Referent.fInt Syntax.w32)) (Syntax.tyRef Syntax.erased Syntax.imm (Syntax.tyInt Syntax.w32)) 0)) d63
 
           d65 : Typed.Typed 𝓤 H A 𝓣 E G19 b38 Δ0 at65
-          d65 = Typed.s-seq 𝓤 H A W 𝓣 E G19 G20 b12 b37 Δ0 (Typed.both s18) at64 (Plain.t-call-plain 𝓤 H A W 𝓣 6 ps·0 r·0 (claims· .0) (claims· .1) "zones::sheet_calls::lent_with" (known .0) E (λ pos β. β) G19 (record { pos = 1; st = List.[]; d = 0; at = λ x. x }, (record { pos = 2; st = List.[]; d = 0; at = λ x. x }, (record { pos = 14; ty = Syntax.tyRef Syntax.erased Syntax.imm (Syntax.tyInt Syntax.w32); ref = λ x. x }, (record { pos = 16; ty = Syntax.tyRef Syntax.erased Syntax.mut (Syntax.tyInt Syntax.w32); ref = λ x. x }, (record { pos = 18; ty = Syntax.tyRef Syntax.erased Syntax.mut (Syntax.tyInt Syntax.w32); ref = λ x. x }, (record { pos = 20; ty = Syntax.tyRef Syntax.erased Syntax.mut (Syntax.tyInt Syntax.w32); ref = λ x. x }, (record { pos = 22; ty = Syntax.tyRef Syntax.erased Syntax.mut Cell.behind; ref = λ x. x }, (record { pos = 24; ty = Syntax.tyRef Syntax.erased Syntax.mut Cell.behind; ref = λ x. x }, tt)))))))) 10 (List._∷_ 0 (List._∷_ 7 (List._∷_ 8 (List._∷_ 9 (List._∷_ 10 (List._∷_ 11 List.[])))))) (Call.sub-id 𝓤 H A W (G19 .slots)) ((Yields.yields-copy 𝓤 H A W (λ ρ. Unit) (Declared.row Held.the-type) Path'.refl (Copies.cStruct Held.the-type Laws'.the-laws Laws'.the-copy .copy 𝓤 H A W) (Rows.whole (Declared.row Held.the-type)) (λ x. x) (λ x. x) (λ ρ told. Local.mem-whole 𝓤 H A W (Declared.row Held.the-type) ρ) λ ρ told. Local.whole-mem 𝓤 H A W (Declared.row Held.the-type) ρ, Path'.refl), ((Yields.yields-copy 𝓤 H A W (λ ρ. Unit) (Declared.row Line.the-type) Path'.refl (Copies.cStruct Line.the-type Laws''.the-laws Laws''.the-copy .copy 𝓤 H A W) (Rows.whole (Declared.row Line.the-type)) (λ x. x) (λ x. x) (λ ρ told. Local.mem-whole 𝓤 H A W (Declared.row Line.the-type) ρ) λ ρ told. Local.whole-mem 𝓤 H A W (Declared.row Line.the-type) ρ, Path'.refl), (ShrSlice.spares-sslice 𝓤 H A W (Referent.rtF (Referent.fInt Syntax.w32)) (Syntax.tyRef Syntax.erased Syntax.imm (Syntax.tyInt Syntax.w32)) 0, Shared.reads-sslice 𝓤 H A W (Referent.rtF (Referent.fInt Syntax.w32)) (Syntax.tyRef Syntax.erased Syntax.imm (Syntax.tyInt Syntax.w32)) 0, Path'.refl, (Reads'.as-is 𝓤 H A (Mut.mslice (Referent.rtF (Referent.fInt Syntax.w32)) (Syntax.tyRef Syntax.erased Syntax.mut (Syntax.tyInt Syntax.w32)) 7), Mut.reads-mslice 𝓤 H A W (Referent.rtF (Referent.fInt Syntax.w32)) (Syntax.tyRef Syntax.erased Syntax.mut (Syntax.tyInt Syntax.w32)) 7, Path'.refl, (Reads'.as-is 𝓤 H A (Mut.mslice (Referent.rtF (Referent.fInt Syntax.w32)) (Syntax.tyRef Syntax.erased Syntax.mut (Syntax.tyInt Syntax.w32)) 8), Mut.reads-mslice 𝓤 H A W (Referent.rtF (Referent.fInt Syntax.w32)) (Syntax.tyRef Syntax.erased Syntax.mut (Syntax.tyInt Syntax.w32)) 8, Path'.refl, (Reads'.as-is 𝓤 H A (Mut.mslice (Referent.rtF (Referent.fInt Syntax.w32)) (Syntax.tyRef Syntax.erased Syntax.mut (Syntax.tyInt Syntax.w32)) 9), Mut.reads-mslice 𝓤 H A W (Referent.rtF (Referent.fInt Syntax.w32)) (Syntax.tyRef Syntax.erased Syntax.mut (Syntax.tyInt Syntax.w32)) 9, Path'.refl, (Reads'.as-is 𝓤 H A (Mut.mslice Cell.R (Syntax.tyRef Syntax.erased Syntax.mut Cell.behind) 10), Mut.reads-mslice 𝓤 H A W Cell.R (Syntax.tyRef Syntax.erased Syntax.mut Cell.behind) 10, Path'.refl, (Reads'.as-is 𝓤 H A (Mut.mslice Cell.R (Syntax.tyRef Syntax.erased Syntax.mut Cell.behind) 11), Mut.reads-mslice 𝓤 H A W Cell.R (Syntax.tyRef Syntax.erased Syntax.mut Cell.behind) 11, Path'.refl, tt)))))))) (Reads'.room-gone 𝓤 H A (Syntax.tyStruct (List._∷_ 112 (List._∷_ 121 (List._∷_ 114 (List._∷_ 97 (List._∷_ 109 (List._∷_ 105 (List._∷_ 100 (List._∷_ 58 (List._∷_ 58 (List._∷_ 79 (List._∷_ 117 (List._∷_ 116 (List._∷_ 99 (List._∷_ 111 (List._∷_ 109 (List._∷_ 101 List.[])))))))))))))))) (Syntax.tcons (Syntax.tyStruct (List._∷_ 112 (List._∷_ 121 (List._∷_ 114 (List._∷_ 97 (List._∷_ 109 (List._∷_ 105 (List._∷_ 100 (List._∷_ 58 (List._∷_ 58 (List._∷_ 83 (List._∷_ 116 (List._∷_ 97 (List._∷_ 116 (List._∷_ 101 List.[])))))))))))))) (Syntax.tcons (Syntax.tyInt Syntax.w32) (Syntax.tcons (Syntax.tyInt Syntax.w32) (Syntax.tcons (Syntax.tyInt Syntax.w32) (Syntax.tcons (Syntax.tyInt Syntax.w32) (Syntax.tcons (Syntax.tyInt Syntax.w32) (Syntax.tcons (Syntax.tyArray (Syntax.tyInt Syntax.w32) 64) Syntax.tnil))))))) (Syntax.tcons (Syntax.tyEnum (List._∷_ 100 (List._∷_ 97 (List._∷_ 114 (List._∷_ 116 (List._∷_ 115 (List._∷_ 58 (List._∷_ 58 (List._∷_ 65 (List._∷_ 110 (List._∷_ 115 (List._∷_ 119 (List._∷_ 101 (List._∷_ 114 List.[]))))))))))))) (Syntax.ttcons (Syntax.tcons (Syntax.tyInt Syntax.w64) Syntax.tnil) (Syntax.ttcons Syntax.tnil (Syntax.ttcons (Syntax.tcons (Syntax.tyInt Syntax.w64) Syntax.tnil) (Syntax.ttcons (Syntax.tcons (Syntax.tyInt Syntax.w64) (Syntax.tcons (Syntax.tyInt Syntax.w64) Syntax.tnil)) (Syntax.ttcons Syntax.tnil (Syntax.ttcons Syntax.tnil (Syntax.ttcons Syntax.tnil (Syntax.ttcons (Syntax.tcons (Syntax.tyInt Syntax.w64) Syntax.tnil) (Syntax.ttcons (Syntax.tcons (Syntax.tyInt Syntax.w64) Syntax.tnil) (Syntax.ttcons (Syntax.tcons (Syntax.tyInt Syntax.w64) Syntax.tnil) (Syntax.ttcons (Syntax.tcons (Syntax.tyInt Syntax.w64) Syntax.tnil) (Syntax.ttcons (Syntax.tcons (Syntax.tyInt Syntax.w64) Syntax.tnil) (Syntax.ttcons (Syntax.tcons (Syntax.tyInt Syntax.w64) Syntax.tnil) (Syntax.ttcons (Syntax.tcons (Syntax.tyInt Syntax.w64) Syntax.tnil) (Syntax.ttcons Syntax.tnil (Syntax.ttcons Syntax.tnil (Syntax.ttcons (Syntax.tcons (Syntax.tyInt Syntax.w64) Syntax.tnil) Syntax.ttnil)))))))))))))))))) Syntax.tnil)))) (tt, (tt, (tt, (tt, (tt, (tt, tt)))))) Path'.refl) d64
+          d65 = Typed.s-seq 𝓤 H A W 𝓣 E G19 G20 b12 b37 Δ0 (Typed.both s18) at64 (Plain.t-call-plain 𝓤 H A W 𝓣 6 ps·0 r·0 (claims· .0) (claims· .1) "zones::sheet_calls::lent_with" (known .0) E (λ pos β. β) G19 (record { pos = 1; st = List.[]; d = 0; at = λ x. x }, (record { pos = 2; st = List.[]; d = 0; at = λ x. x }, (record { pos = 14; ty = Syntax.tyRef Syntax.erased Syntax.imm (Syntax.tyInt Syntax.w32); ref = λ x. x }, (record { pos = 16; ty = Syntax.tyRef Syntax.erased Syntax.mut (Syntax.tyInt Syntax.w32); ref = λ x. x }, (record { pos = 18; ty = Syntax.tyRef Syntax.erased Syntax.mut (Syntax.tyInt Syntax.w32); ref = λ x. x }, (record { pos = 20; ty = Syntax.tyRef Syntax.erased Syntax.mut (Syntax.tyInt Syntax.w32); ref = λ x. x }, (record { pos = 22; ty = Syntax.tyRef Syntax.erased Syntax.mut Cell.behind; ref = λ x. x }, (record { pos = 24; ty = Syntax.tyRef Syntax.erased Syntax.mut Cell.behind; ref = λ x. x }, tt)))))))) 10 (List._∷_ 0 (List._∷_ 7 (List._∷_ 8 (List._∷_ 9 (List._∷_ 10 (List._∷_ 11 List.[])))))) (Call.sub-id 𝓤 H A W (G19 .slots)) ((Yields.yields-copy 𝓤 H A W (λ ρ. Unit) (Declared.row Held.the-type) Path'.refl (Copies.cStruct Held.the-type Laws''.the-laws Laws''.the-copy .copy 𝓤 H A W) (Rows.whole (Declared.row Held.the-type)) (λ x. x) (λ x. x) (λ ρ told. Local.mem-whole 𝓤 H A W (Declared.row Held.the-type) ρ) λ ρ told. Local.whole-mem 𝓤 H A W (Declared.row Held.the-type) ρ, Path'.refl), ((Yields.yields-copy 𝓤 H A W (λ ρ. Unit) (Declared.row Line.the-type) Path'.refl (Copies.cStruct Line.the-type Laws'.the-laws Laws'.the-copy .copy 𝓤 H A W) (Rows.whole (Declared.row Line.the-type)) (λ x. x) (λ x. x) (λ ρ told. Local.mem-whole 𝓤 H A W (Declared.row Line.the-type) ρ) λ ρ told. Local.whole-mem 𝓤 H A W (Declared.row Line.the-type) ρ, Path'.refl), (ShrSlice.spares-sslice 𝓤 H A W (Referent.rtF (Referent.fInt Syntax.w32)) (Syntax.tyRef Syntax.erased Syntax.imm (Syntax.tyInt Syntax.w32)) 0, Shared.reads-sslice 𝓤 H A W (Referent.rtF (Referent.fInt Syntax.w32)) (Syntax.tyRef Syntax.erased Syntax.imm (Syntax.tyInt Syntax.w32)) 0, Path'.refl, (Reads'.as-is 𝓤 H A (Mut.mslice (Referent.rtF (Referent.fInt Syntax.w32)) (Syntax.tyRef Syntax.erased Syntax.mut (Syntax.tyInt Syntax.w32)) 7), Mut.reads-mslice 𝓤 H A W (Referent.rtF (Referent.fInt Syntax.w32)) (Syntax.tyRef Syntax.erased Syntax.mut (Syntax.tyInt Syntax.w32)) 7, Path'.refl, (Reads'.as-is 𝓤 H A (Mut.mslice (Referent.rtF (Referent.fInt Syntax.w32)) (Syntax.tyRef Syntax.erased Syntax.mut (Syntax.tyInt Syntax.w32)) 8), Mut.reads-mslice 𝓤 H A W (Referent.rtF (Referent.fInt Syntax.w32)) (Syntax.tyRef Syntax.erased Syntax.mut (Syntax.tyInt Syntax.w32)) 8, Path'.refl, (Reads'.as-is 𝓤 H A (Mut.mslice (Referent.rtF (Referent.fInt Syntax.w32)) (Syntax.tyRef Syntax.erased Syntax.mut (Syntax.tyInt Syntax.w32)) 9), Mut.reads-mslice 𝓤 H A W (Referent.rtF (Referent.fInt Syntax.w32)) (Syntax.tyRef Syntax.erased Syntax.mut (Syntax.tyInt Syntax.w32)) 9, Path'.refl, (Reads'.as-is 𝓤 H A (Mut.mslice Cell.R (Syntax.tyRef Syntax.erased Syntax.mut Cell.behind) 10), Mut.reads-mslice 𝓤 H A W Cell.R (Syntax.tyRef Syntax.erased Syntax.mut Cell.behind) 10, Path'.refl, (Reads'.as-is 𝓤 H A (Mut.mslice Cell.R (Syntax.tyRef Syntax.erased Syntax.mut Cell.behind) 11), Mut.reads-mslice 𝓤 H A W Cell.R (Syntax.tyRef Syntax.erased Syntax.mut Cell.behind) 11, Path'.refl, tt)))))))) (Reads'.room-gone 𝓤 H A (Syntax.tyStruct (List._∷_ 112 (List._∷_ 121 (List._∷_ 114 (List._∷_ 97 (List._∷_ 109 (List._∷_ 105 (List._∷_ 100 (List._∷_ 58 (List._∷_ 58 (List._∷_ 79 (List._∷_ 117 (List._∷_ 116 (List._∷_ 99 (List._∷_ 111 (List._∷_ 109 (List._∷_ 101 List.[])))))))))))))))) (Syntax.tcons (Syntax.tyStruct (List._∷_ 112 (List._∷_ 121 (List._∷_ 114 (List._∷_ 97 (List._∷_ 109 (List._∷_ 105 (List._∷_ 100 (List._∷_ 58 (List._∷_ 58 (List._∷_ 83 (List._∷_ 116 (List._∷_ 97 (List._∷_ 116 (List._∷_ 101 List.[])))))))))))))) (Syntax.tcons (Syntax.tyInt Syntax.w32) (Syntax.tcons (Syntax.tyInt Syntax.w32) (Syntax.tcons (Syntax.tyInt Syntax.w32) (Syntax.tcons (Syntax.tyInt Syntax.w32) (Syntax.tcons (Syntax.tyInt Syntax.w32) (Syntax.tcons (Syntax.tyArray (Syntax.tyInt Syntax.w32) 64) Syntax.tnil))))))) (Syntax.tcons (Syntax.tyEnum (List._∷_ 100 (List._∷_ 97 (List._∷_ 114 (List._∷_ 116 (List._∷_ 115 (List._∷_ 58 (List._∷_ 58 (List._∷_ 65 (List._∷_ 110 (List._∷_ 115 (List._∷_ 119 (List._∷_ 101 (List._∷_ 114 List.[]))))))))))))) (Syntax.ttcons (Syntax.tcons (Syntax.tyInt Syntax.w64) Syntax.tnil) (Syntax.ttcons Syntax.tnil (Syntax.ttcons (Syntax.tcons (Syntax.tyInt Syntax.w64) Syntax.tnil) (Syntax.ttcons (Syntax.tcons (Syntax.tyInt Syntax.w64) (Syntax.tcons (Syntax.tyInt Syntax.w64) Syntax.tnil)) (Syntax.ttcons Syntax.tnil (Syntax.ttcons Syntax.tnil (Syntax.ttcons Syntax.tnil (Syntax.ttcons (Syntax.tcons (Syntax.tyInt Syntax.w64) Syntax.tnil) (Syntax.ttcons (Syntax.tcons (Syntax.tyInt Syntax.w64) Syntax.tnil) (Syntax.ttcons (Syntax.tcons (Syntax.tyInt Syntax.w64) Syntax.tnil) (Syntax.ttcons (Syntax.tcons (Syntax.tyInt Syntax.w64) Syntax.tnil) (Syntax.ttcons (Syntax.tcons (Syntax.tyInt Syntax.w64) Syntax.tnil) (Syntax.ttcons (Syntax.tcons (Syntax.tyInt Syntax.w64) Syntax.tnil) (Syntax.ttcons (Syntax.tcons (Syntax.tyInt Syntax.w64) Syntax.tnil) (Syntax.ttcons Syntax.tnil (Syntax.ttcons Syntax.tnil (Syntax.ttcons (Syntax.tcons (Syntax.tyInt Syntax.w64) Syntax.tnil) Syntax.ttnil)))))))))))))))))) Syntax.tnil)))) (tt, (tt, (tt, (tt, (tt, (tt, tt)))))) Path'.refl) d64
 
           d66 : Typed.Typed 𝓤 H A 𝓣 E G18 b39 Δ0 at66
           d66 = Typed.s-seq 𝓤 H A W 𝓣 E G18 G19 b11 b38 Δ0 (Typed.ask s17) at65 (Relend.t-sl-aggregate 𝓤 H A W E Cell.R 𝓣 (Relend.asMut Cell.R) G18 23 24 11 (Syntax.tyRef Syntax.erased Syntax.mut Cell.behind) (Syntax.tyRef Syntax.erased Syntax.mut Cell.behind) (λ x. x) (Scalar.oBig Syntax.w64 32772) (Reads'.as-is 𝓤 H A (Relend.msptr Cell.R (Syntax.tyRef Syntax.erased Syntax.mut Cell.behind) 11)) (Reads'.room-gone 𝓤 H A (Syntax.tyStruct (List._∷_ 38 (List._∷_ 91 (List._∷_ 93 List.[]))) (Syntax.tcons (Syntax.tyRef Syntax.erased Syntax.mut Cell.behind) (Syntax.tcons (Syntax.tyInt Syntax.w64) Syntax.tnil)))) record { lower = record { fits = Dec'.lit< tt } } Path'.refl Path'.refl λ b o k. tt) d65
@@ -1636,8 +1636,8 @@ module _ (claims· : Claims) where
 
       module _ (κs : Lifetimes.Lfts 7) where
         pub record Args : Type 0 where
-          pub held : Kinds.Den {n = 7} κs (Value.pVal record { ty = Declared.row Held.the-type; one = Path'.refl; val = Laws'3.val Held.the-type Laws'.the-laws; tells = Laws'3.tells Held.the-type Laws'.the-laws; still = Laws'3.still Held.the-type Laws'.the-copy Exit.yes; row = Rows.whole (Declared.row Held.the-type); rd = λ x. x; mk = λ x. x } λ M 𝓤 H A W. record { copies = Laws'3.copy Held.the-type Laws'.the-copy 𝓤 H A W; lawful = Laws'3.lawful Held.the-type Laws'.the-laws 𝓤 H A W; makes = Laws'3.makes Held.the-type Laws'.the-plain 𝓤 H A; in-mem = Local.mem-whole 𝓤 H A W (Declared.row Held.the-type); of-mem = Local.whole-mem 𝓤 H A W (Declared.row Held.the-type) })
-          pub line : Kinds.Den {n = 7} κs (Value.pVal record { ty = Declared.row Line.the-type; one = Path'.refl; val = Laws'3.val Line.the-type Laws''.the-laws; tells = Laws'3.tells Line.the-type Laws''.the-laws; still = Laws'3.still Line.the-type Laws''.the-copy Exit.yes; row = Rows.whole (Declared.row Line.the-type); rd = λ x. x; mk = λ x. x } λ M 𝓤 H A W. record { copies = Laws'3.copy Line.the-type Laws''.the-copy 𝓤 H A W; lawful = Laws'3.lawful Line.the-type Laws''.the-laws 𝓤 H A W; makes = Laws'3.makes Line.the-type Laws''.the-plain 𝓤 H A; in-mem = Local.mem-whole 𝓤 H A W (Declared.row Line.the-type); of-mem = Local.whole-mem 𝓤 H A W (Declared.row Line.the-type) })
+          pub held : Kinds.Den {n = 7} κs (Value.pVal record { ty = Declared.row Held.the-type; one = Path'.refl; val = Laws'3.val Held.the-type Laws''.the-laws; tells = Laws'3.tells Held.the-type Laws''.the-laws; still = Laws'3.still Held.the-type Laws''.the-copy Exit.yes; row = Rows.whole (Declared.row Held.the-type); rd = λ x. x; mk = λ x. x } λ M 𝓤 H A W. record { copies = Laws'3.copy Held.the-type Laws''.the-copy 𝓤 H A W; lawful = Laws'3.lawful Held.the-type Laws''.the-laws 𝓤 H A W; makes = Laws'3.makes Held.the-type Laws''.the-plain 𝓤 H A; in-mem = Local.mem-whole 𝓤 H A W (Declared.row Held.the-type); of-mem = Local.whole-mem 𝓤 H A W (Declared.row Held.the-type) })
+          pub line : Kinds.Den {n = 7} κs (Value.pVal record { ty = Declared.row Line.the-type; one = Path'.refl; val = Laws'3.val Line.the-type Laws'.the-laws; tells = Laws'3.tells Line.the-type Laws'.the-laws; still = Laws'3.still Line.the-type Laws'.the-copy Exit.yes; row = Rows.whole (Declared.row Line.the-type); rd = λ x. x; mk = λ x. x } λ M 𝓤 H A W. record { copies = Laws'3.copy Line.the-type Laws'.the-copy 𝓤 H A W; lawful = Laws'3.lawful Line.the-type Laws'.the-laws 𝓤 H A W; makes = Laws'3.makes Line.the-type Laws'.the-plain 𝓤 H A; in-mem = Local.mem-whole 𝓤 H A W (Declared.row Line.the-type); of-mem = Local.whole-mem 𝓤 H A W (Declared.row Line.the-type) })
           pub numbers : Kinds.Den {n = 7} κs (ShrRef.pShr (Array.Array (Referent.rtF (Referent.fInt Syntax.w32)) 32772) 0 tt)
           pub table : Kinds.Den {n = 7} κs (Kinds.pMut (Array.Array (Referent.rtF (Referent.fInt Syntax.w32)) 65540) 1 tt)
           pub history : Kinds.Den {n = 7} κs (Kinds.pMut (Array.Array (Referent.rtF (Referent.fInt Syntax.w32)) 32772) 2 tt)
@@ -2025,6 +2025,6 @@ module _ (claims· : Claims) where
           pub asked : (a : Kinds.Dens κs ps) → (good : Kinds.GoodsP κs ps a) → (pre : Pre· κs a) → (bs : List.List Nat.ℕ) → Φ (Any.wantQ 7 ps r xs m κs qs a (Post· κs a)) (Function.init 7 ps r xs m κs qs a)
           asked = λ a good pre bs. laid record { κs = κs; args = record { held = a .0; line = a .1 .0; numbers = a .1 .1 .0; table = a .1 .1 .1 .0; history = a .1 .1 .1 .1 .0; work = a .1 .1 .1 .1 .1 .0; output = a .1 .1 .1 .1 .1 .1 .0; sheet = a .1 .1 .1 .1 .1 .1 .1 .0; kept = a .1 .1 .1 .1 .1 .1 .1 .1 .0 }; good = good; pre = pre }
 
-        module _ {M : Type 1} (𝓤 : URA.URA M) (H : Wp.Heap 𝓤) (A : Atoms.Atoms 𝓤) (W : Kit.Given 𝓤 H A) (𝓣 : Wp.Tables 𝓤 H) (known0 : Plain.Known 𝓤 H A W 𝓣 6 ps·0 r·0 (claims· .0) (claims· .1) "zones::sheet_calls::lent_with") (known1 : Plain.Known 𝓤 H A W 𝓣 1 ps·1 r·1 (claims· .2) (claims· .3) "zones::sheet_calls::sum_records") (known2 : Plain.Known 𝓤 H A W 𝓣 4 ps·2 r·2 (claims· .4) (claims· .5) "zones::prints::print_yarn") where
+        module _ {M : Type 1} (𝓤 : URA.URA M) (H : Wp.Heap 𝓤) (A : Atoms.Atoms 𝓤) (W : Kit.Given 𝓤 H A) (𝓣 : Wp.Tables 𝓤 H) (known0 : Plain.Known 𝓤 H A W 𝓣 6 ps·0 r·0 (claims· .0) (claims· .1) "zones::sheet_calls::lent_with") (known1 : Plain.Known 𝓤 H A W 𝓣 1 ps·1 r·1 (claims· .2) (claims· .3) "script::sums::sum_records") (known2 : Plain.Known 𝓤 H A W 𝓣 4 ps·2 r·2 (claims· .4) (claims· .5) "zones::prints::print_yarn") where
           pub spec : Statement.Triple 𝓤 (Wp.WpFn 𝓤 H (𝓣 .C) (𝓣 .Λ) (Function.fnOf 7 ps r xs m hs body)) (Function.plainOf 𝓤 H A 7 ps r Pre· Post·)
           spec = Plain.t-fn-plain 𝓤 H A W 𝓣 7 ps r xs m hs body (λ κs qs bs. Φ) (λ κs qs bs bd. typed κs qs 𝓤 H A W 𝓣 (known0, known1, known2) bs bd) Pre· Post· asked
