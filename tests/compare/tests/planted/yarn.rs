@@ -120,11 +120,8 @@ const MINUS_ZERO_IS_NONE: Edit = (
 );
 
 /// "prints nothing" where too few records are lent: it prints those zones whose records are.
-const SHORT_SHEET_SHOWN: Edit = (
-    "costs.rs",
-    "sheets.sheet.get(..darts))",
-    "Some(&sheets.sheet[..darts.min(sheets.sheet.len())]))",
-);
+const SHORT_SHEET_SHOWN: Edit =
+    ("costs.rs", "sheets.sheet.get(..darts))", "Some(&sheets.sheet[..darts.min(sheets.sheet.len())]))");
 
 /// Both groups that have sheets must find the fault.
 fn both_find(faults: &[(&str, Edit)]) {

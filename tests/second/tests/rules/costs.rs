@@ -28,7 +28,8 @@ fn words(numbers: &[u32]) -> String {
     })
 }
 
-const T_COSTED: &str = "lend 8 4 32\nsheets 8 4\ntable 0 5 2 1 4 6 0 3 7\nsheet 0 1:4602678819172646912 2:4602678819172646912\n\
+const T_COSTED: &str =
+    "lend 8 4 32\nsheets 8 4\ntable 0 5 2 1 4 6 0 3 7\nsheet 0 1:4602678819172646912 2:4602678819172646912\n\
     sheet 3 3:-\nsheet 7 4:4602678819172646912\nyarnstart 8\n";
 
 #[test]
@@ -36,8 +37,9 @@ fn t_s_zones_merge_and_come_back() {
     let base = "zone=0 stitches=1 metres=0.500\nzone=1 stitches=2 metres=0.500\nzone=3 stitches=3 metres=-\nzone=7 stitches=4 metres=0.500\n";
     let first = "zone=0 stitches=3 metres=1.000\nzone=3 stitches=3 metres=-\nzone=7 stitches=4 metres=0.500\n";
     let second = "zone=0 stitches=6 metres=-\nzone=7 stitches=4 metres=0.500\n";
-    let script =
-        format!("{T_COSTED}costs\nyarncontract 0\ncosts\nyarncontract 1\ncosts\nyarnremove 2\ncosts\nyarnunfold 0\ncosts\n");
+    let script = format!(
+        "{T_COSTED}costs\nyarncontract 0\ncosts\nyarncontract 1\ncosts\nyarnremove 2\ncosts\nyarnunfold 0\ncosts\n"
+    );
     let lines: String =
         printed(&script).lines().filter(|line| line.starts_with("zone=")).map(|line| format!("{line}\n")).collect();
     assert_eq!(lines, [base, first, second, second, base].concat());
