@@ -51,4 +51,21 @@ returns-5 : tie.Need-returns-5
 returns-5 c = search needs
 
 pub obey-spec : {M : Type 1} → statement M
-obey-spec = tie.close (tie.spec plain-requires returns put-records-requires with-wrong-requires returns-2 put-records-requires-2 with-wrong-requires-2 returns-3 slice-aggregate-find-zones find-zones-requires slice-aggregate-print-costs print-costs-requires returns-4 step-with-requires returns-5)
+obey-spec =
+    tie.close
+    (tie.spec
+    plain-requires
+    returns
+    put-records-requires
+    with-wrong-requires
+    returns-2
+    put-records-requires-2
+    with-wrong-requires-2
+    returns-3
+    slice-aggregate-find-zones
+    find-zones-requires
+    slice-aggregate-print-costs
+    print-costs-requires
+    returns-4
+    step-with-requires
+    returns-5)
