@@ -5,34 +5,34 @@ use crate::prints::print_call;
 use crate::prints::print_counts;
 use crate::rooms::EndsRoom;
 use crate::rooms::HistoryRoom;
-use crate::rooms::NumbersRoom;
 use crate::rooms::OutputRoom;
 use crate::rooms::PlanRoom;
 use crate::rooms::TableRoom;
 use crate::rooms::WorkRoom;
-use crate::scan::Line;
-use crate::sizes::least;
-use crate::sizes::size;
-use crate::words::CONTRACT;
-use crate::words::COUNTS;
-use crate::words::FLAT;
-use crate::words::FLATAREAS;
-use crate::words::READ;
-use crate::words::REMOVE;
-use crate::words::START;
-use crate::words::SUCCESSOR;
-use crate::words::UNDO;
-use crate::words::UNFOLD;
-use crate::words::WRITE;
 use pyramid::Answer;
 use pyramid::Counted;
 use pyramid::Kind;
 use pyramid::Outcome;
 use pyramid::State;
+use script::scan::Line;
+use script::scan::NumbersRoom;
+use script::sizes::least;
+use script::sizes::size;
+use script::words::CONTRACT;
+use script::words::COUNTS;
+use script::words::FLAT;
+use script::words::FLATAREAS;
+use script::words::READ;
+use script::words::REMOVE;
+use script::words::START;
+use script::words::SUCCESSOR;
+use script::words::UNDO;
+use script::words::UNFOLD;
+use script::words::WRITE;
 ghost use Prim.Native.Nat.{_≤_};
 ghost use lib.ListN.{length};
 ghost use Rattle.zones.specs.Lent.{Lent};
-ghost use Rattle.zones.specs.Scanned.{Scanned};
+ghost use Rattle.script.specs.Scanned.{Scanned};
 ghost use Rattle.zones.specs.Within.{Within};
 
 // A call that adds a level: `contract`, `remove`, `sweep`.
@@ -187,7 +187,7 @@ fn write(
     ensures { λ r. ⌜ Within r ⌝ }
 {
     if 599996 < n {
-        return held.judged(true);
+        return held.with_wrong(true);
     }
     let answer = filed(held, n, table, history, work, output);
     print_call(held, answer, n, table, history, work, output);
@@ -232,7 +232,7 @@ fn flat(
 {
     let n = size(numbers[2]);
     if 16384 < n {
-        return held.judged(true);
+        return held.with_wrong(true);
     }
     let outcome = planned(
         held,

@@ -78,7 +78,7 @@ impl Held {
     }
 
     // The same, with whether the line was an error line.
-    pub fn judged(mut self, wrong: bool) -> Held
+    pub fn with_wrong(mut self, wrong: bool) -> Held
         requires { ⌜ Within self ⌝ }
         ensures { λ r. ⌜ Within r ⌝ }
     {

@@ -1,29 +1,33 @@
 // The lines of a script, one after another.
 use crate::calls::call;
+use crate::costs::find_zones;
 use crate::held::Held;
 use crate::held::nothing;
-use crate::prints;
-use crate::records::no_yarn;
+use crate::prints::show;
 use crate::rooms::EndsRoom;
 use crate::rooms::HistoryRoom;
 use crate::rooms::KeptRoom;
-use crate::rooms::NumbersRoom;
 use crate::rooms::OutputRoom;
 use crate::rooms::PlanRoom;
 use crate::rooms::SheetRoom;
 use crate::rooms::TableRoom;
 use crate::rooms::WorkRoom;
-use crate::scan::Line;
-use crate::scan::next_line;
 use crate::settings::set;
-use crate::sheet_calls::put_records;
 use crate::sheet_calls::step_with;
-use crate::words::BYTES;
-use crate::words::KEPT;
-use crate::words::SHEET;
-use crate::words::SHOW;
-use crate::words::START;
-ghost use Rattle.zones.specs.Scanned.{Scanned};
+use script::costs::print_costs;
+use script::laying::put_records;
+use script::prints;
+use script::records::no_yarn;
+use script::scan::Line;
+use script::scan::NumbersRoom;
+use script::scan::next_line;
+use script::words::BYTES;
+use script::words::COSTS;
+use script::words::KEPT;
+use script::words::SHEET;
+use script::words::SHOW;
+use script::words::START;
+ghost use Rattle.script.specs.Scanned.{Scanned};
 ghost use Rattle.zones.specs.Within.{Within};
 
 // Does what a line without sheets asks for, by its group: what is held after it.
@@ -43,7 +47,7 @@ fn plain(
     ensures { λ r. ⌜ Within r ⌝ }
 {
     if line.command == 0 {
-        return held.judged(true);
+        return held.with_wrong(true);
     }
     if line.command < START {
         return set(
@@ -76,7 +80,7 @@ fn plain(
         prints::bytes(output, held.written);
         return held;
     }
-    prints::show(held, table, history);
+    show(held, table, history);
     held
 }
 
@@ -114,11 +118,17 @@ pub fn obey(
     }
     if line.command == SHEET {
         let outside = put_records(sheet, script, line);
-        return held.judged(outside);
+        return held.with_wrong(outside);
     }
     if line.command == KEPT {
         let outside = put_records(kept, script, line);
-        return held.judged(outside);
+        return held.with_wrong(outside);
+    }
+    if line.command == COSTS {
+        let mut zones = [0u32; 65536];
+        let n = find_zones(held, &mut zones, table, history);
+        print_costs(sheet, &zones, n);
+        return held;
     }
     step_with(
         held,

@@ -2,10 +2,10 @@
 use crate::held::Held;
 use crate::prints::print_found;
 use crate::rooms::EndsRoom;
-use crate::rooms::NumbersRoom;
 use crate::rooms::TableRoom;
 use crate::rooms::WorkRoom;
 use lookup::Looked;
+use script::scan::NumbersRoom;
 ghost use Rattle.zones.specs.Lent.{Lent};
 ghost use Rattle.zones.specs.Within.{Within};
 

@@ -1,18 +1,14 @@
 // The program `zones`: runs a script of the library's calls from standard input, and prints a line for each call.
 mod calls;
+mod costs;
 mod held;
 mod lines;
 mod lookups;
-mod numbers;
 mod prints;
-mod records;
 mod rooms;
-mod scan;
 mod settings;
 mod sheet_calls;
-mod sizes;
 mod sums;
-mod words;
 
 use libc::STDIN_FILENO;
 use libc::STDOUT_FILENO;

@@ -1,12 +1,9 @@
 // The rooms: table, history, ends, work, output and the plan, "all zero at the start", with the sheet, the kept records, the script and the numbers of
-// a line. Together they have 7,679,941 bytes, less than the 8,388,608 of stack that a program is given as a rule.
+// a line. Together they have 7,679,941 bytes, and `costs` takes 262,144 more: less than the 8,388,608 of stack that a program is given as a rule.
 use sheets::Zone;
 
 // The script's bytes, and one more, which says that it is too long.
 pub type ScriptRoom = [u8; 3000001];
-
-// The first numbers of one line: those of a kernel, or of a call. What a line puts into a room is read from the script.
-pub type NumbersRoom = [u32; 32772];
 
 pub type TableRoom = [u32; 65540];
 

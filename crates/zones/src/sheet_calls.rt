@@ -1,79 +1,29 @@
-// The lines with sheets: records that are put into their rooms, and the calls that are lent them.
+// The calls with sheets.
 use crate::held::Held;
-use crate::numbers::next_number;
 use crate::prints::print_yarn;
-use crate::records::next_record;
-use crate::records::zone;
 use crate::rooms::HistoryRoom;
 use crate::rooms::KeptRoom;
-use crate::rooms::NumbersRoom;
 use crate::rooms::OutputRoom;
 use crate::rooms::SheetRoom;
 use crate::rooms::TableRoom;
 use crate::rooms::WorkRoom;
-use crate::scan::Line;
-use crate::sizes::least;
-use crate::sizes::size;
-use crate::sums::step_zone;
-use crate::words::YARNCONTRACT;
-use crate::words::YARNREMOVE;
-use crate::words::YARNSTART;
-use crate::words::YARNUNDO;
-use crate::words::YARNUNFOLD;
 use pyramid::Kind;
 use pyramid::Outcome;
 use pyramid::State;
+use script::scan::Line;
+use script::scan::NumbersRoom;
+use script::sizes::least;
+use script::sums::sum_records;
+use script::words::YARNCONTRACT;
+use script::words::YARNREMOVE;
+use script::words::YARNSTART;
+use script::words::YARNUNDO;
+use script::words::YARNUNFOLD;
 use sheets::Zone;
-ghost use Prim.Native.Nat.{_+_, _≤_};
+ghost use Prim.Native.Nat.{_≤_};
 ghost use lib.ListN.{length};
 ghost use Rattle.zones.specs.Lent.{Lent, LentSheets};
-ghost use Rattle.zones.specs.Scanned.{Scanned};
 ghost use Rattle.zones.specs.Within.{Within};
-
-// The next n records of a line go into a sheet, from a place on.
-pub fn lay_records(sheet: &mut [Zone], place: usize, script: &[u8], from: usize, n: usize)
-    requires { ⌜ (place + n ≤ length (now sheet)) × (from ≤ length (now script)) ⌝ }
-{
-    let mut at = from;
-    let mut i = 0;
-    while i < n {
-        let record = next_record(script, at);
-        sheet[place + i] = zone(record);
-        at = record.next;
-        i += 1;
-    }
-}
-
-// "puts records into the sheet's room": answers whether one would lie outside it, where none is put.
-pub fn put_records(sheet: &mut [Zone], script: &[u8], line: Line) -> bool
-    requires { ⌜ Scanned (now script) line ⌝ }
-{
-    if line.count <= 1 {
-        return false;
-    }
-    let first = next_number(script, line.from);
-    let place = size(first.value);
-    let n = line.count - 1;
-    if sheet.len() < place + n {
-        return true;
-    }
-    lay_records(sheet, place, script, first.next, n);
-    false
-}
-
-// The checksum of the first n records.
-pub fn sum_records(sheet: &[Zone], n: usize) -> u64
-    requires { ⌜ n ≤ length (now sheet) ⌝ }
-{
-    let mut c = 0;
-    let mut i = 0;
-    while i < n {
-        let record = sheet[i];
-        c = step_zone(c, record);
-        i += 1;
-    }
-    c
-}
 
 // A call that adds a level: `yarncontract`, `yarnremove`, `yarnsweep`.
 pub fn reduced_with(

@@ -61,6 +61,9 @@ pub fn damaged(scene: &mut Scene, chance: &mut Chance) {
         if chance.one_in(8) {
             scene.script.word("show");
         }
+        if scene.sheets.is_some() {
+            scene.script.word("costs");
+        }
     }
     scene.all_again();
 }

@@ -13,15 +13,16 @@ const BEFORE: &str = "lend 2 1 8\ntable 0 1 0\nstart 2\n";
 /// What stands after it, and is done only where that line was none in error.
 const AFTER: &str = "counts\nsuccessor 2 0 0\nshow\n";
 
-pub const SCRIPTS: usize = LINES.len() + BARE.len() + LONG;
+pub const SCRIPTS: usize = LINES.len() + COSTS.len() + BARE.len() + LONG;
 
 pub fn input(script: usize) -> Input {
-    let bytes = if let Some(line) = LINES.get(script) {
+    let lines = LINES.iter().chain(&COSTS);
+    let bytes = if let Some(line) = lines.clone().nth(script) {
         format!("{BEFORE}{line}{AFTER}").into_bytes()
-    } else if let Some(text) = BARE.get(script - LINES.len()) {
+    } else if let Some(text) = BARE.get(script - lines.count()) {
         text.as_bytes().to_vec()
     } else {
-        long(script - LINES.len() - BARE.len())
+        long(script - LINES.len() - COSTS.len() - BARE.len())
     };
     Input::text(Program::Zones, &bytes)
 }
@@ -75,6 +76,39 @@ const LINES: [&str; 211] = [
     "stored 1 2 \n", "stored  1 2\n", "stored 1  2\n", "store 1 2\n", "Stored 1 2\n", "storeds 1 2\n",
     "stored 1 2\nstate 2 0 0\n",
 ];
+
+/// The zones' costs: how much is lent, numbers that are no dart, an odd number of darts, and metres at their limits.
+const COSTS: [&str; 22] = [
+    "costs\n",
+    "costs 1\n",
+    "costs \n",
+    "cost\n",
+    "costss\n",
+    "Costs\n",
+    "sheets 2 0\ncosts\n",
+    "sheets 1 1\ncosts\n",
+    "sheets 2 0\nlend 1 1 8\ncosts\n",
+    "sheets 2 0\nlend 2 0 0\ncosts\n",
+    "sheets 2 0\nstate 2 1 1 1\ncosts\n",
+    "sheets 2 0\nstate 2 2 1 1\ncosts\n",
+    "sheets 2 0\nlend 2 0 0\nstate 2 1 1 1\ncosts\n",
+    "sheets 65536 0\nstate 4294967295 0 0\ncosts\n",
+    "sheets 65536 0\nlend 65536 0 0\nstate 65536 0 0\ncosts\n",
+    "sheets 3 0\nlend 3 0 0\ntable 0 2 1 2\nstate 3 0 0\ncosts\n",
+    "sheets 2 0\ntable 0 2 4294967295\ncosts\n",
+    "sheets 3 0\nlend 3 1 0\ntable 0 0 1 2\nhistory 0 5\nstate 3 1 0\ncosts\n",
+    "sheets 3 0\nlend 3 1 0\ntable 0 0 1 2\nhistory 0 3\nstate 3 1 0\ncosts\n",
+    "sheets 3 0\nlend 3 1 0\ntable 0 0 1 2\nhistory 0 2\nstate 3 1 0\ncosts\n",
+    "sheets 3 0\nlend 3 1 0\ntable 0 0 1 2\nhistory 0 4294967295\nstate 3 1 0\ncosts\n",
+    METRES,
+];
+
+/// 0.0, -0.0, the smallest, 2^-10 and the number below, 0.001 and below, 0.1234567, 0.9999999, 12, 10^12, below and above,
+/// infinity, a NaN, -5e-324
+const METRES: &str = "sheets 16 0\nlend 16 0 0\nstate 16 0 0\ntable 0 0 1 2 3 4 5 6 7 8 9 10 11 12 13 14 15\n\
+    sheet 0 1:0 2:9223372036854775808 3:1 4:4562146422526312448 5:4562146422526312447 6:4562254508917369340 7:4562254508917369339\n\
+    sheet 7 8:4593560413433027186 9:4607182417899297483 10:4622945017495814144 11:4786511204640096256 12:4786511204640096255\n\
+    sheet 12 13:4786511204640096257 14:9218868437227405312 15:9221120237041090560 4294967295:9223372036854775809\ncosts\n";
 
 /// Scripts that are in error at their end, or that hold nothing to print.
 const BARE: [&str; 8] = [

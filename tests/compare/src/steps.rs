@@ -99,6 +99,11 @@ pub fn counts(scene: &mut Scene, _: &mut Chance) {
     scene.script.word("counts");
 }
 
+/// The stitches and the yarn of each zone.
+pub fn costs(scene: &mut Scene, _chance: &mut Chance) {
+    scene.script.word("costs");
+}
+
 /// Into what is needed, one byte less, nothing, more, or all there is.
 pub fn write(scene: &mut Scene, chance: &mut Chance) {
     let length = bytes_of(&scene.pyramid).len() as u32;

@@ -36,7 +36,7 @@ pub fn input(script: usize) -> Input {
 }
 
 /// What a map's life has, and how often.
-const STEPS: [(u32, Step); 20] = [
+const STEPS: [(u32, Step); 21] = [
     (500, fine_kernel),
     (200, failing_kernel),
     (60, any_kernel),
@@ -47,6 +47,7 @@ const STEPS: [(u32, Step); 20] = [
     (150, undo),
     (100, unfold),
     (20, counts),
+    (150, costs),
     (20, write),
     (80, one_short),
     (50, damaged),
@@ -60,8 +61,16 @@ const STEPS: [(u32, Step); 20] = [
 ];
 
 /// The calls with sheets that are made on what stands there, damaged or not.
-const CALLS: [(u32, Step); 7] =
-    [(3, fine_kernel), (2, failing_kernel), (1, empty_kernel), (1, sweep), (2, undo), (2, unfold), (1, start_again)];
+const CALLS: [(u32, Step); 8] = [
+    (3, fine_kernel),
+    (2, failing_kernel),
+    (1, empty_kernel),
+    (1, sweep),
+    (2, undo),
+    (2, unfold),
+    (1, start_again),
+    (2, costs),
+];
 
 fn some_calls(scene: &mut Scene, chance: &mut Chance) {
     for _ in 0..chance.between(1, 3) {
@@ -213,6 +222,7 @@ fn a_start(script: &mut Script, chance: &mut Chance, base: &[u32]) {
         script.numbers("fill", &[chance.pick(&[1, 7, u32::MAX])]);
     }
     script.numbers("yarnstart", &[darts]);
+    script.word("costs");
 }
 
 /// Straight up to the last level but two, then a while about the limit.
@@ -230,6 +240,7 @@ fn sixty_four_levels(script: &mut Script, chance: &mut Chance) {
                 (10, failing_kernel),
                 (6, empty_kernel),
                 (8, sweep),
+                (8, costs),
                 (12, undo),
                 (6, unfold_a_little),
                 (4, one_short),
@@ -278,6 +289,7 @@ fn a_large_life(script: &mut Script, chance: &mut Chance, darts: u32, record: fn
     scene.undo();
     scene.unfold(chance.below(scene.top() + 1));
     scene.script.word("counts");
+    scene.script.word("costs");
 }
 
 /// One record, a call, and the record as it was.

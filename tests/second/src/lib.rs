@@ -17,6 +17,7 @@
 //! - [`lookup`]     a dart's successor at a level: from the level as it is stored, and by a walk
 //! - [`record`]     the stitches and the yarn of one zone
 //! - [`merges`]     which two records each operation merges: zones as sets of base vertices
+//! - [`costs`]      what each zone of the present level costs, from the numbers as they stand
 //! - [`sheets`]     the lent sheets: do an accepted start and these operations give them?
 //! - [`calls`]      the eleven calls
 //! - [`yarn`]       five of them with the sheets
@@ -31,6 +32,7 @@
 
 pub mod answer;
 pub mod calls;
+pub mod costs;
 pub mod counts;
 pub mod decide;
 pub mod drawing;

@@ -1,7 +1,8 @@
-//! places == for each dart the place of its base vertex's record: "the place of its lowest dart among D places"
-//! Merge  == the places of the two records that a contraction merges, the lower one and the other
-//! Zones  == each zone as the set of the base vertices that went into it, a vertex told by its place
-//! merges == what each operation of a pyramid merges; none for a removal
+//! places  == for each dart the place of its base vertex's record: "the place of its lowest dart among D places"
+//! Merge   == the places of the two records that a contraction merges, the lower one and the other
+//! Zones   == each zone as the set of the base vertices that went into it, a vertex told by its place
+//! merges  == what each operation of a pyramid merges; none for a removal
+//! present == the places of the records of the zones of the present level
 //!
 //! A zone's record is at the lowest of its base vertices' places, also when that dart is gone.
 
@@ -69,12 +70,23 @@ impl Zones {
     }
 }
 
-/// Operation by operation, from the base on. A removal joins no zones.
-pub fn merges(pyramid: &Pyramid) -> Vec<Option<Merge>> {
+/// Operation by operation, from the base on: what each one merges, and the zones after the last. A removal joins no zones.
+fn joined(pyramid: &Pyramid) -> (Vec<Option<Merge>>, Zones) {
     let mut zones = Zones::of(&pyramid.levels()[0].map);
     let merge = |&number: &u32| match kind_of(number) {
         Kind::Contract => Some(zones.join(dart_of(number))),
         Kind::Remove => None,
     };
-    pyramid.history().iter().map(merge).collect()
+    let merges = pyramid.history().iter().map(merge).collect();
+    (merges, zones)
+}
+
+pub fn merges(pyramid: &Pyramid) -> Vec<Option<Merge>> {
+    joined(pyramid).0
+}
+
+/// Each vertex of the present level has a surviving dart, which is in its zone.
+pub fn present(pyramid: &Pyramid) -> BTreeSet<usize> {
+    let (_, zones) = joined(pyramid);
+    pyramid.map().survivors().map(|dart| zones.place(zones.zone_of(dart))).collect()
 }

@@ -2,6 +2,7 @@
 
 use crate::answer::Answer;
 use crate::calls;
+use crate::costs;
 use crate::counts::Counts;
 use crate::ends::Built;
 use crate::kept::Kept;
@@ -98,6 +99,7 @@ impl Zones {
             Command::YarnUnfold(k) => {
                 self.call_with_sheets(|state, lent, sheets, kept| yarn::unfold(state, k, lent, sheets, kept));
             }
+            Command::Costs => self.costs(),
             Command::Read(file) => self.call(|_, lent, kept| calls::read(file, lent, kept)),
             Command::Write(length) => self.write(length)?,
             Command::Show => self.show(),
@@ -186,6 +188,13 @@ impl Zones {
         let Found { dart, passed } = found;
         let rooms = self.rooms.checksums_with_ends();
         self.print(&format!("answer={number} place={place} second={second} dart={dart} passed={passed} {rooms}\n"));
+    }
+
+    /// "`costs` prints, for each zone of the present level": "nothing is judged and nothing changes"
+    fn costs(&mut self) {
+        let (lent, sheets) = self.rooms.lend_sheets();
+        let lines = costs::lines(&self.state, &lent, &sheets);
+        self.print(&lines);
     }
 
     /// "write a file into N bytes of output"

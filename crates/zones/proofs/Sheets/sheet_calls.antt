@@ -1,7 +1,4 @@
 -- A copy, made by tools/twin.py. The prover checks it.
-pub mod lay_records
-pub mod put_records
-pub mod sum_records
 pub mod reduced_with
 pub mod handed_with
 pub mod lent_with

@@ -105,6 +105,24 @@ const A_NAN: Edit =
 const KEPT_NOT_ASKED_FOR: Edit =
     ("sheets.rs", "self.sheet.len() < darts || self.kept.len() < darts / 2", "self.sheet.len() < darts");
 
+/// "M in decimal with three places, cut off": rounded.
+const ROUNDED: Edit = (
+    "costs.rs",
+    "(u128::from(significand) * 1000).checked_shr(halvings)",
+    "(u128::from(significand) * 1000 + (1 << (halvings.min(100) - 1))).checked_shr(halvings)",
+);
+
+/// "`?` where it is no number from 0 to 10^12": minus zero is one.
+const MINUS_ZERO_IS_NONE: Edit = (
+    "costs.rs",
+    "if (0.0..=MOST_METRES).contains(&metres) =>",
+    "if metres.is_sign_positive() && metres <= MOST_METRES =>",
+);
+
+/// "prints nothing" where too few records are lent: it prints those zones whose records are.
+const SHORT_SHEET_SHOWN: Edit =
+    ("costs.rs", "sheets.sheet.get(..darts))", "Some(&sheets.sheet[..darts.min(sheets.sheet.len())]))");
+
 /// Both groups that have sheets must find the fault.
 fn both_find(faults: &[(&str, Edit)]) {
     for &(name, edit) in faults {
@@ -151,4 +169,15 @@ fn other_limits_are_found() {
         ("no-minus-zero", NO_MINUS_ZERO),
         ("a-nan", A_NAN),
     ]);
+}
+
+#[test]
+fn costs_printed_wrong_are_found() {
+    for (name, edit) in [("rounded", ROUNDED), ("minus-zero-is-none", MINUS_ZERO_IS_NONE)] {
+        let copy = second_with(name, &[edit]);
+        found(&copy, "yarn", "zones", 2_000);
+        found(&copy, "lines", "zones", 2_000);
+    }
+    let copy = second_with("short-sheet-shown", &[SHORT_SHEET_SHOWN]);
+    found(&copy, "yarn", "zones", 2_000);
 }

@@ -14,6 +14,7 @@
 //! - `ends`        tables and edges' ends that come from no pyramid; every one of up to 6 darts
 //! - `yarn`        the calls with sheets: merges, undo, each answer and their order
 //! - `merging`     the same on random pyramids: zones and places, stitches of every level, undo, any order, damage
+//! - `costs`       what a script shows of each zone, of any numbers
 //! - `closed_form` sheets judged a second way, without undoing
 //! - `plans`       the calls on a plan: bases, first kernels against areas found by flooding, answers
 //! - `drawings`    the program `plan`
@@ -29,6 +30,7 @@ mod accepted;
 mod any_order;
 mod closed_form;
 mod commands;
+mod costs;
 mod culprits;
 mod cycles;
 mod drawings;

@@ -454,7 +454,7 @@ abbrev b6 : Syntax.Body
 b6 = Syntax.assign (Syntax.place 8 List.[]) (Syntax.repeat (Syntax.int Syntax.w8 0) 16388)
 
 abbrev b7 : Syntax.Body
-b7 = Syntax.call "zones::records::no_yarn" List.[] (Syntax.place 9 List.[])
+b7 = Syntax.call "script::records::no_yarn" List.[] (Syntax.place 9 List.[])
 
 abbrev b8 : Syntax.Body
 b8 = Syntax.assign (Syntax.place 10 List.[]) (Syntax.repeat (Syntax.copy (Syntax.place 9 List.[])) 65540)
@@ -1075,7 +1075,7 @@ module _ (claims· : Claims) where
   module _ (Pre· : (κs : Lifetimes.Lfts 1) → Kinds.Dens κs ps → Type 0) (Post· : (κs : Lifetimes.Lfts 1) → (a : Kinds.Dens κs ps) → Kinds.Plain 1 ps r κs) where
     module _ (M : Type 1) where
       abbrev pub Closed : Type 2
-      Closed = (𝓤 : URA.URA M) (H : Wp.Heap 𝓤) (A : Atoms.Atoms 𝓤) (W : Kit.Given 𝓤 H A) (𝓣 : Wp.Tables 𝓤 H) (known0 : Plain.Known 𝓤 H A W 𝓣 0 ps·0 r·0 (claims· .0) (claims· .1) "zones::records::no_yarn") (known1 : Plain.Known 𝓤 H A W 𝓣 10 ps·1 r·1 (claims· .2) (claims· .3) "zones::lines::each") → Statement.Triple 𝓤 (Wp.WpFn 𝓤 H (𝓣 .C) (𝓣 .Λ) (Function.fnOf 1 ps r xs m hs body)) (Function.plainOf 𝓤 H A 1 ps r Pre· Post·)
+      Closed = (𝓤 : URA.URA M) (H : Wp.Heap 𝓤) (A : Atoms.Atoms 𝓤) (W : Kit.Given 𝓤 H A) (𝓣 : Wp.Tables 𝓤 H) (known0 : Plain.Known 𝓤 H A W 𝓣 0 ps·0 r·0 (claims· .0) (claims· .1) "script::records::no_yarn") (known1 : Plain.Known 𝓤 H A W 𝓣 10 ps·1 r·1 (claims· .2) (claims· .3) "zones::lines::each") → Statement.Triple 𝓤 (Wp.WpFn 𝓤 H (𝓣 .C) (𝓣 .Λ) (Function.fnOf 1 ps r xs m hs body)) (Function.plainOf 𝓤 H A 1 ps r Pre· Post·)
 
     module _ where
       abbrev at0 : Typed.TF T79 O0
@@ -1320,7 +1320,7 @@ module _ (claims· : Claims) where
 
       module _ {M : Type 1} (𝓤 : URA.URA M) (H : Wp.Heap 𝓤) (A : Atoms.Atoms 𝓤) (W : Kit.Given 𝓤 H A) (𝓣 : Wp.Tables 𝓤 H) where
         abbrev Knowns : Type 1
-        Knowns = Plain.Known 𝓤 H A W 𝓣 0 ps·0 r·0 (claims· .0) (claims· .1) "zones::records::no_yarn" × Plain.Known 𝓤 H A W 𝓣 10 ps·1 r·1 (claims· .2) (claims· .3) "zones::lines::each"
+        Knowns = Plain.Known 𝓤 H A W 𝓣 0 ps·0 r·0 (claims· .0) (claims· .1) "script::records::no_yarn" × Plain.Known 𝓤 H A W 𝓣 10 ps·1 r·1 (claims· .2) (claims· .3) "zones::lines::each"
 
       module _ (κs : Lifetimes.Lfts 1) (qs : Lifetimes.Shares 1) where
         abbrev slot0 : Row.Life
@@ -1763,7 +1763,7 @@ module _ (claims· : Claims) where
           d62 = Typed.s-seq 𝓤 H A W 𝓣 E G17 G18 b8 b33 Δ0 (Typed.pass T17 T18 s16) at61 (Repeat.t-repeat-by 𝓤 H A W E 𝓣 Cell.R (Cell.lawful 𝓤 H A W) (Cell.copies .copy 𝓤 H A W) 65540 G17 10 (Scalar.oAt 9 Cell.held λ x. Steps.only (Cell.copies .vals x)) (λ m. m .1 .1 .1 .1 .1 .1 .1 .1 .1 .0) (λ ρ. Unit) (Reads.room-gone 𝓤 H A ty6) (Cell.reads 𝓤 H A W, Path'.refl) Path'.refl (Own.told-none 𝓤 H A (G17 .slots)) λ ρ m pf wa. Gives.elem-local 𝓤 H A W E ρ Cell.R (λ x. Steps.only (Cell.copies .vals x)) (Cell.copies .tells) (Row.out 10 (G17 .locals)) m (λ ρ. Unit) pf 9 Cell.held (λ x. x) (Yields.yields-copy 𝓤 H A W (λ ρ. Unit) Cell.R Path'.refl (Cell.copies .copy 𝓤 H A W) Cell.row (λ x. x) (λ x. x) (λ ρ told. Cell.in-mem 𝓤 H A W ρ) λ ρ told. Cell.of-mem 𝓤 H A W ρ)) d61
 
           d63 : Typed.Typed 𝓤 H A 𝓣 E G16 b35 Δ0 at63
-          d63 = Typed.s-seq 𝓤 H A W 𝓣 E G16 G17 b7 b34 Δ0 (Typed.both s15) at62 (Plain.t-call-plain 𝓤 H A W 𝓣 0 ps·0 r·0 (claims· .0) (claims· .1) "zones::records::no_yarn" (known .0) E (λ pos β. β) G16 tt 9 List.[] (Call.sub-id 𝓤 H A W (G16 .slots)) tt (Reads.room-gone 𝓤 H A Cell.held) tt Path'.refl) d62
+          d63 = Typed.s-seq 𝓤 H A W 𝓣 E G16 G17 b7 b34 Δ0 (Typed.both s15) at62 (Plain.t-call-plain 𝓤 H A W 𝓣 0 ps·0 r·0 (claims· .0) (claims· .1) "script::records::no_yarn" (known .0) E (λ pos β. β) G16 tt 9 List.[] (Call.sub-id 𝓤 H A W (G16 .slots)) tt (Reads.room-gone 𝓤 H A Cell.held) tt Path'.refl) d62
 
           d64 : Typed.Typed 𝓤 H A 𝓣 E G15 b35 Δ0 at64
           d64 = Typed.g-pre 𝓤 H A W 𝓣 E G15 G16 b35 Δ0 (Typed.pass T15 T16 s14) at63 (AtSlots.g-as-by 𝓤 H A W E (λ ρ. Unit) G15 8 (Rows.arrF held0 16388 0) (λ x. x) (Own.told-none 𝓤 H A (G15 .slots)) λ ρ told. Repeat.whole-arr 𝓤 H A W held0 16388 tt ρ) d63
@@ -2113,6 +2113,6 @@ module _ (claims· : Claims) where
           pub asked : (a : Kinds.Dens κs ps) → (good : Kinds.GoodsP κs ps a) → (pre : Pre· κs a) → (bs : List.List Nat.ℕ) → Φ (Any.wantQ 1 ps r xs m κs qs a (Post· κs a)) (Function.init 1 ps r xs m κs qs a)
           asked = λ a good pre bs. laid record { κs = κs; args = record { script = a .0 }; good = good; pre = pre }
 
-        module _ {M : Type 1} (𝓤 : URA.URA M) (H : Wp.Heap 𝓤) (A : Atoms.Atoms 𝓤) (W : Kit.Given 𝓤 H A) (𝓣 : Wp.Tables 𝓤 H) (known0 : Plain.Known 𝓤 H A W 𝓣 0 ps·0 r·0 (claims· .0) (claims· .1) "zones::records::no_yarn") (known1 : Plain.Known 𝓤 H A W 𝓣 10 ps·1 r·1 (claims· .2) (claims· .3) "zones::lines::each") where
+        module _ {M : Type 1} (𝓤 : URA.URA M) (H : Wp.Heap 𝓤) (A : Atoms.Atoms 𝓤) (W : Kit.Given 𝓤 H A) (𝓣 : Wp.Tables 𝓤 H) (known0 : Plain.Known 𝓤 H A W 𝓣 0 ps·0 r·0 (claims· .0) (claims· .1) "script::records::no_yarn") (known1 : Plain.Known 𝓤 H A W 𝓣 10 ps·1 r·1 (claims· .2) (claims· .3) "zones::lines::each") where
           pub spec : Statement.Triple 𝓤 (Wp.WpFn 𝓤 H (𝓣 .C) (𝓣 .Λ) (Function.fnOf 1 ps r xs m hs body)) (Function.plainOf 𝓤 H A 1 ps r Pre· Post·)
           spec = Plain.t-fn-plain 𝓤 H A W 𝓣 1 ps r xs m hs body (λ κs qs bs. Φ) (λ κs qs bs bd. typed κs qs 𝓤 H A W 𝓣 (known0, known1) bs bd) Pre· Post· asked

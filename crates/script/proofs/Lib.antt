@@ -1,0 +1,2 @@
+pub mod NoNan
+pub mod Sheets

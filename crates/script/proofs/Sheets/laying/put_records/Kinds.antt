@@ -1,0 +1,24 @@
+-- A copy, made by tools/twin.py. The prover checks it.
+use Rattle.sheets.proofs.Cell
+use Rattle.script.proofs.scan.Line
+use Rattle.script.proofs.scan.Line.Laws
+use borrow.Fn.Kinds
+use borrow.Kind.MutSlice
+use borrow.Kind.ShrSlice
+use borrow.Kind.Value
+use borrow.Rule.Local
+use borrow.Table.Referent
+use borrow.Table.Rows
+use denote.Array
+use denote.Exit
+use denote.Struct.Declared
+use denote.Struct.Laws as Laws'
+use mathlib.Core.List
+use mathlib.Core.Path as Path'
+use mir.Syntax
+
+abbrev pub ps : List.List (Kinds.PK 2)
+ps = List._∷_ (MutSlice.pMutS Cell.R 0 tt) (List._∷_ (ShrSlice.pShrS (Referent.rtF (Referent.fInt Syntax.w8)) 1 tt) (List._∷_ (Value.pVal record { ty = Declared.row Line.the-type; one = Path'.refl; val = Laws'.val Line.the-type Laws.the-laws; tells = Laws'.tells Line.the-type Laws.the-laws; still = Laws'.still Line.the-type Laws.the-copy Exit.yes; row = Rows.whole (Declared.row Line.the-type); rd = λ x. x; mk = λ x. x } λ M 𝓤 H A W. record { copies = Laws'.copy Line.the-type Laws.the-copy 𝓤 H A W; lawful = Laws'.lawful Line.the-type Laws.the-laws 𝓤 H A W; makes = Laws'.makes Line.the-type Laws.the-plain 𝓤 H A; in-mem = Local.mem-whole 𝓤 H A W (Declared.row Line.the-type); of-mem = Local.whole-mem 𝓤 H A W (Declared.row Line.the-type) }) List.[]))
+
+abbrev pub r : Kinds.RK 2
+r = Kinds.rBool

@@ -1,0 +1,2 @@
+-- Scanned == a line lies within the script
+pub mod Scanned
