@@ -25,18 +25,18 @@ use Rattle.area.specs.Shape.{historyIn}
 use Rattle.slices.proofs.Over.{drop-more}
 use Rattle.area.proofs.Parts.{part-inner}
 use Rattle.engine.specs.Held.{Beyond}
-use Rattle.file.specs.declared.scan.Scanned.{Scanned}
-use Rattle.file.specs.declared.scan.Scanned.the-variants.{Found, Fault}
-use Rattle.file.specs.declared.kernels.Levels.{Levels}
-use Rattle.file.specs.Found.{scanOf}
-use Rattle.file.specs.Lines.{levelsAt, body-levels}
-use Rattle.file.specs.Kernels.{KernelsRead}
-use Rattle.file.specs.Pairs.{lastAt, LastRead}
-use Rattle.file.proofs.Found.{told}
-use Rattle.file.proofs.After.{made-fault, made-found}
-use Rattle.file.proofs.PairLines.{pairs-count}
-use Rattle.file.proofs.KernelLines.{kernels-count, history-length}
-use Rattle.file.proofs.LastPairs.{last-end, last-found}
+use Rattle.file_lines.specs.declared.scan.Scanned.{Scanned}
+use Rattle.file_lines.specs.declared.scan.Scanned.the-variants.{Found, Fault}
+use Rattle.file_lines.specs.declared.kernels.Levels.{Levels}
+use Rattle.file_lines.specs.Found.{scanOf}
+use Rattle.file_lines.specs.Lines.{levelsAt, body-levels}
+use Rattle.file_lines.specs.Kernels.{KernelsRead}
+use Rattle.file_lines.specs.Pairs.{lastAt, LastRead}
+use Rattle.file_lines.proofs.Found.{told}
+use Rattle.file_lines.proofs.After.{made-fault, made-found}
+use Rattle.file_lines.proofs.PairLines.{pairs-count}
+use Rattle.file_lines.proofs.KernelLines.{kernels-count, history-length}
+use Rattle.file_lines.proofs.LastPairs.{last-end, last-found}
 use Rattle.reader.specs.Parsed.{bodyOf, linesAt, Holds, BodyRead}
 
 module _ {z : Scan Body} {b : List ℕ} {D F : ℕ} {w w′ : List ℕ} (l : ℕ) (ends : List ℕ) (beyond : Beyond D w w′) where

@@ -27,9 +27,9 @@ use Rattle.darts.specs.Calls.{After, leaves, room, fitting, cleared, readInto, 
 use Rattle.slices.specs.Over.{over}
 use Rattle.laws.proofs.claims.Decided.{pyramid-decided}
 use Rattle.laws.proofs.tests.Room.{pyramid-room}
-use Rattle.file.specs.Lines.{startsWith}
-use Rattle.file.proofs.After.{through, field-small}
-use Rattle.file.proofs.KernelLines.{history-length}
+use Rattle.file_lines.specs.Lines.{startsWith}
+use Rattle.file_lines.proofs.After.{through, field-small}
+use Rattle.file_lines.proofs.KernelLines.{history-length}
 
 pub darts-small : (b : List ℕ) {o : Opening} {at : ℕ} → opening b ≡ found o at → o .darts ≤ 99999
 unfolding opening

@@ -19,7 +19,7 @@ use Rattle.area.specs.Area.{tableIn, pastIn}
 use Rattle.engine.specs.Checks.{CheckedLaid}
 use Rattle.engine.specs.Counted.{CyclesAre}
 use Rattle.pyramid.specs.Values.{figuresWith}
-use Rattle.file.specs.Lines.{startsWith}
+use Rattle.file_lines.specs.Lines.{startsWith}
 use Rattle.reader.specs.Parsed.{Holds}
 use Rattle.reader.specs.Settled.{Accepted}
 use Rattle.reader.proofs.ReadEnds.{closed-none, closed-many, closed-all}

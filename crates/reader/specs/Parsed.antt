@@ -14,7 +14,7 @@ use Rattle.darts.specs.State.{State, counted}
 use Rattle.area.specs.Area.{tableIn}
 use Rattle.area.specs.Shape.{historyIn}
 use Rattle.engine.specs.Held.{Beyond}
-use Rattle.file.specs.declared.scan.Scanned.the-variants.{Found, Fault}
+use Rattle.file_lines.specs.declared.scan.Scanned.the-variants.{Found, Fault}
 use Rattle.reader.specs.declared.reading.Parsed.{Parsed}
 
 abbrev pub bodyOf : List KernelLine → List ℕ → Body

@@ -13,7 +13,7 @@ use Rattle.area.specs.Shape.{historyIn}
 use Rattle.engine.specs.Held.{Beyond}
 use Rattle.pyramid.specs.declared.Outcome.{Outcome}
 use Rattle.pyramid.specs.Values.{left}
-use Rattle.file.specs.Lines.{startsWith}
+use Rattle.file_lines.specs.Lines.{startsWith}
 use Rattle.reader.specs.Parsed.{Holds}
 
 pub record Accepted (b : List ℕ) (p D F n : ℕ) (t t′ h h′ w : List ℕ) : Type 0 where

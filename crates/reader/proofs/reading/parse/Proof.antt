@@ -1,9 +1,9 @@
 -- `reader::reading::parse` meets its contract: the line of the levels, and then the lines after it.
 use lib.ListN.{replicate}
 use borrow.Author.Needs.{needs}
-use Rattle.file.specs.Found.{scanOf}
-use Rattle.file.specs.Lines.{levels-few}
-use Rattle.file.proofs.Found.{told}
+use Rattle.file_lines.specs.Found.{scanOf}
+use Rattle.file_lines.specs.Lines.{levels-few}
+use Rattle.file_lines.proofs.Found.{told}
 use Rattle.reader.proofs.BodyLines.{level-wrong, level-right}
 use Rattle.reader.proofs.reading.parse.Statement.{statement}
 use Rattle.reader.proofs.reading.parse.Tie as tie

@@ -11,9 +11,9 @@ use Rattle.laws.proofs.calls.Cleared.{cleared-kept}
 use Rattle.engine.proofs.Area.{room-kept}
 use Rattle.darts.proofs.Fitting.{Fits, fits}
 use Rattle.pyramid.proofs.Started.{hands}
-use Rattle.file.specs.Found.{lineOf}
-use Rattle.file.specs.Lines.{startsWith}
-use Rattle.file.proofs.Found.{told}
+use Rattle.file_lines.specs.Found.{lineOf}
+use Rattle.file_lines.specs.Lines.{startsWith}
+use Rattle.file_lines.proofs.Found.{told}
 use Rattle.reader.proofs.ReadEnds.{darts-small, read-unopened, read-unfit, read-on}
 use Rattle.reader.proofs.reading.read.Statement.{statement}
 use Rattle.reader.proofs.reading.read.Tie as tie

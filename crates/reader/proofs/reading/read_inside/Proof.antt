@@ -4,7 +4,7 @@ use borrow.Author.Needs.{needs}
 use Rattle.engine.proofs.Area.{room-kept}
 use Rattle.engine.proofs.Ready.{beyond-trans}
 use Rattle.pyramid.proofs.Started.{hands}
-use Rattle.file.specs.Lines.{startsWith}
+use Rattle.file_lines.specs.Lines.{startsWith}
 use Rattle.reader.proofs.ReadEnds.{closed-fault}
 use Rattle.reader.proofs.reading.read_inside.Statement.{statement}
 use Rattle.reader.proofs.reading.read_inside.Tie as tie
