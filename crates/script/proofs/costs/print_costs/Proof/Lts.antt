@@ -38,21 +38,85 @@ use mir.Syntax
 use mir.Val
 use prog.Wp
 use types.Kit
+use denote.RattleType
+
+abbrev rf0 : Referent.Rf
+rf0 = Referent.fInt Syntax.w32
+
+abbrev held0 : RattleType.RattleType
+held0 = Referent.rtF rf0
+
+abbrev ty0 : Syntax.Ty
+ty0 = Syntax.tyInt Syntax.w64
+
+abbrev place0 : Syntax.Place
+place0 = Syntax.place 4 List.[]
+
+abbrev place1 : Syntax.Place
+place1 = Syntax.place 5 List.[]
+
+abbrev opd0 : Syntax.Opd
+opd0 = Syntax.copy place0
+
+abbrev local0 : Row.Entry
+local0 = (0, Rows'.any-gone Syntax.tyUnit)
+
+abbrev ty1 : Syntax.Ty
+ty1 = Syntax.tyRef (Syntax.named 0) Syntax.imm Cell.behind
+
+abbrev local1 : Row.Entry
+local1 = (1, Rows'.sslice Cell.R ty1 0)
+
+abbrev ty2 : Syntax.Ty
+ty2 = Syntax.tyInt Syntax.w32
+
+abbrev ty3 : Syntax.Ty
+ty3 = Syntax.tyRef (Syntax.named 1) Syntax.imm ty2
+
+abbrev local2 : Row.Entry
+local2 = (2, Rows'.sslice held0 ty3 1)
+
+abbrev sc0 : Row.Sc
+sc0 = Row.sInt Syntax.w64
+
+abbrev local3 : Row.Entry
+local3 = (3, Rows'.sc-here sc0)
+
+abbrev local4 : Row.Entry
+local4 = (5, Rows'.any-gone Syntax.tyBool)
+
+abbrev local5 : Row.Entry
+local5 = (6, Rows'.any-gone ty0)
+
+abbrev locals0 : List.List Row.Entry
+locals0 = List._∷_ (7, Rows'.any-gone Syntax.tyUnit) (List._∷_ (8, Rows'.any-gone Cell.held) List.[])
+
+abbrev locals1 : List.List Row.Entry
+locals1 = List._∷_ local4 (List._∷_ local5 locals0)
+
+abbrev locals2 : List.List Row.Entry
+locals2 = List._∷_ local1 (List._∷_ local2 (List._∷_ local3 (List._∷_ (4, Rows'.any-gone ty0) locals1)))
+
+abbrev local6 : Row.Entry
+local6 = (4, Rows'.sc-here sc0)
+
+abbrev locals3 : List.List Row.Entry
+locals3 = List._∷_ local1 (List._∷_ local2 (List._∷_ local3 (List._∷_ local6 locals1)))
 
 abbrev pub ps : List.List (Kinds.PK 2)
-ps = List._∷_ (ShrSlice.pShrS Cell.R 0 tt) (List._∷_ (ShrSlice.pShrS (Referent.rtF (Referent.fInt Syntax.w32)) 1 tt) (List._∷_ (Num.pNum Syntax.w64) List.[]))
+ps = List._∷_ (ShrSlice.pShrS Cell.R 0 tt) (List._∷_ (ShrSlice.pShrS held0 1 tt) (List._∷_ (Num.pNum Syntax.w64) List.[]))
 
 abbrev pub r : Kinds.RK 2
 r = Unit'.rUnit
 
 abbrev pub xs : List.List Syntax.Ty
-xs = List._∷_ (Syntax.tyInt Syntax.w64) (List._∷_ Syntax.tyBool (List._∷_ (Syntax.tyInt Syntax.w64) (List._∷_ Syntax.tyUnit (List._∷_ Cell.held List.[]))))
+xs = List._∷_ ty0 (List._∷_ Syntax.tyBool (List._∷_ ty0 (List._∷_ Syntax.tyUnit (List._∷_ Cell.held List.[]))))
 
 abbrev pub m : Nat.ℕ
 m = 0
 
 abbrev pub ps·0 : List.List (Kinds.PK 1)
-ps·0 = List._∷_ (ShrSlice.pShrS (Referent.rtF (Referent.fInt Syntax.w32)) 0 tt) (List._∷_ (Num.pNum Syntax.w64) List.[])
+ps·0 = List._∷_ (ShrSlice.pShrS held0 0 tt) (List._∷_ (Num.pNum Syntax.w64) List.[])
 
 abbrev pub r·0 : Kinds.RK 1
 r·0 = Num.rNum Syntax.w64
@@ -73,10 +137,10 @@ abbrev pub hs : List.List Syntax.Home
 hs = List._∷_ Syntax.valueLocal (List._∷_ Syntax.valueLocal (List._∷_ Syntax.valueLocal (List._∷_ Syntax.valueLocal (List._∷_ Syntax.valueLocal (List._∷_ Syntax.valueLocal (List._∷_ Syntax.valueLocal (List._∷_ Syntax.valueLocal (List._∷_ Syntax.valueLocal List.[]))))))))
 
 abbrev b0 : Syntax.Body
-b0 = Syntax.assign (Syntax.place 4 List.[]) (Syntax.rvOpd (Syntax.int Syntax.w64 0))
+b0 = Syntax.assign place0 (Syntax.rvOpd (Syntax.int Syntax.w64 0))
 
 abbrev b1 : Syntax.Body
-b1 = Syntax.assign (Syntax.place 5 List.[]) (Syntax.op2 (Syntax.lt Syntax.unsigned) (Syntax.copy (Syntax.place 4 List.[])) (Syntax.copy (Syntax.place 3 List.[])))
+b1 = Syntax.assign place1 (Syntax.op2 (Syntax.lt Syntax.unsigned) opd0 (Syntax.copy (Syntax.place 3 List.[])))
 
 abbrev b2 : Syntax.Body
 b2 = Syntax.skip
@@ -85,22 +149,22 @@ abbrev b3 : Syntax.Body
 b3 = Syntax.exit 1
 
 abbrev b4 : Syntax.Body
-b4 = Syntax.cond (Syntax.copy (Syntax.place 5 List.[])) b2 b3
+b4 = Syntax.cond (Syntax.copy place1) b2 b3
 
 abbrev b5 : Syntax.Body
-b5 = Syntax.call "slices::at" (List._∷_ (Syntax.copy (Syntax.place 2 List.[])) (List._∷_ (Syntax.copy (Syntax.place 4 List.[])) List.[])) (Syntax.place 6 List.[])
+b5 = Syntax.call "slices::at" (List._∷_ (Syntax.copy (Syntax.place 2 List.[])) (List._∷_ opd0 List.[])) (Syntax.place 6 List.[])
 
 abbrev b6 : Syntax.Body
-b6 = Syntax.assign (Syntax.place 5 List.[]) (Syntax.op2 Syntax.eq (Syntax.copy (Syntax.place 6 List.[])) (Syntax.copy (Syntax.place 4 List.[])))
+b6 = Syntax.assign place1 (Syntax.op2 Syntax.eq (Syntax.copy (Syntax.place 6 List.[])) opd0)
 
 abbrev b7 : Syntax.Body
-b7 = Syntax.call "sheets::thin::record_at" (List._∷_ (Syntax.copy (Syntax.place 1 List.[])) (List._∷_ (Syntax.copy (Syntax.place 4 List.[])) List.[])) (Syntax.place 8 List.[])
+b7 = Syntax.call "sheets::thin::record_at" (List._∷_ (Syntax.copy (Syntax.place 1 List.[])) (List._∷_ opd0 List.[])) (Syntax.place 8 List.[])
 
 abbrev b8 : Syntax.Body
-b8 = Syntax.call "script::costs::print_cost" (List._∷_ (Syntax.copy (Syntax.place 4 List.[])) (List._∷_ (Syntax.copy (Syntax.place 8 List.[])) List.[])) (Syntax.place 7 List.[])
+b8 = Syntax.call "script::costs::print_cost" (List._∷_ opd0 (List._∷_ (Syntax.copy (Syntax.place 8 List.[])) List.[])) (Syntax.place 7 List.[])
 
 abbrev b9 : Syntax.Body
-b9 = Syntax.assign (Syntax.place 4 List.[]) (Syntax.op2 (Syntax.add Syntax.unsigned) (Syntax.copy (Syntax.place 4 List.[])) (Syntax.int Syntax.w64 1))
+b9 = Syntax.assign place0 (Syntax.op2 (Syntax.add Syntax.unsigned) opd0 (Syntax.int Syntax.w64 1))
 
 abbrev b10 : Syntax.Body
 b10 = Syntax.seq b8 b9
@@ -109,10 +173,10 @@ abbrev b11 : Syntax.Body
 b11 = Syntax.seq b7 b10
 
 abbrev b12 : Syntax.Body
-b12 = Syntax.assign (Syntax.place 4 List.[]) (Syntax.op2 (Syntax.add Syntax.unsigned) (Syntax.copy (Syntax.place 4 List.[])) (Syntax.int Syntax.w64 1))
+b12 = Syntax.assign place0 (Syntax.op2 (Syntax.add Syntax.unsigned) opd0 (Syntax.int Syntax.w64 1))
 
 abbrev b13 : Syntax.Body
-b13 = Syntax.cond (Syntax.copy (Syntax.place 5 List.[])) b11 b12
+b13 = Syntax.cond (Syntax.copy place1) b11 b12
 
 abbrev b14 : Syntax.Body
 b14 = Syntax.seq b6 b13
@@ -154,34 +218,34 @@ abbrev pub Claims : Type 1
 Claims = Kinds.In 1 ps·0 × Kinds.Out 1 ps·0 r·0 × Kinds.In 1 ps·1 × Kinds.Out 1 ps·1 r·1 × Kinds.In 0 ps·2 × Kinds.Out 0 ps·2 r·2
 
 abbrev pub t0 : List.List Row.Entry
-t0 = List._∷_ (0, Rows'.any-gone Syntax.tyUnit) (List._∷_ (1, Rows'.sslice Cell.R (Syntax.tyRef (Syntax.named 0) Syntax.imm Cell.behind) 0) (List._∷_ (2, Rows'.sslice (Referent.rtF (Referent.fInt Syntax.w32)) (Syntax.tyRef (Syntax.named 1) Syntax.imm (Syntax.tyInt Syntax.w32)) 1) (List._∷_ (3, Rows'.sc-here (Row.sInt Syntax.w64)) (List._∷_ (4, Rows'.any-gone (Syntax.tyInt Syntax.w64)) (List._∷_ (5, Rows'.any-gone Syntax.tyBool) (List._∷_ (6, Rows'.any-gone (Syntax.tyInt Syntax.w64)) (List._∷_ (7, Rows'.any-gone Syntax.tyUnit) (List._∷_ (8, Rows'.any-gone Cell.held) List.[]))))))))
+t0 = List._∷_ local0 locals2
 
 abbrev pub t1 : List.List Row.Entry
-t1 = List._∷_ (0, Rows'.sc-here Row.sUnit) (List._∷_ (1, Rows'.sslice Cell.R (Syntax.tyRef (Syntax.named 0) Syntax.imm Cell.behind) 0) (List._∷_ (2, Rows'.sslice (Referent.rtF (Referent.fInt Syntax.w32)) (Syntax.tyRef (Syntax.named 1) Syntax.imm (Syntax.tyInt Syntax.w32)) 1) (List._∷_ (3, Rows'.any-gone (Syntax.tyInt Syntax.w64)) (List._∷_ (4, Rows'.any-gone (Syntax.tyInt Syntax.w64)) (List._∷_ (5, Rows'.any-gone Syntax.tyBool) (List._∷_ (6, Rows'.any-gone (Syntax.tyInt Syntax.w64)) (List._∷_ (7, Rows'.any-gone Syntax.tyUnit) (List._∷_ (8, Rows'.any-gone Cell.held) List.[]))))))))
+t1 = List._∷_ (0, Rows'.sc-here Row.sUnit) (List._∷_ local1 (List._∷_ local2 (List._∷_ (3, Rows'.any-gone ty0) (List._∷_ (4, Rows'.any-gone ty0) locals1))))
 
 abbrev pub t2 : List.List Row.Entry
-t2 = List._∷_ (0, Rows'.any-gone Syntax.tyUnit) (List._∷_ (1, Rows'.sslice Cell.R (Syntax.tyRef (Syntax.named 0) Syntax.imm Cell.behind) 0) (List._∷_ (2, Rows'.sslice (Referent.rtF (Referent.fInt Syntax.w32)) (Syntax.tyRef (Syntax.named 1) Syntax.imm (Syntax.tyInt Syntax.w32)) 1) (List._∷_ (3, Rows'.sc-here (Row.sInt Syntax.w64)) (List._∷_ (4, Rows'.sc-here (Row.sInt Syntax.w64)) (List._∷_ (5, Rows'.any-gone Syntax.tyBool) (List._∷_ (6, Rows'.any-gone (Syntax.tyInt Syntax.w64)) (List._∷_ (7, Rows'.any-gone Syntax.tyUnit) (List._∷_ (8, Rows'.any-gone Cell.held) List.[]))))))))
+t2 = List._∷_ local0 locals3
 
 abbrev pub t3 : List.List Row.Entry
-t3 = List._∷_ (0, Rows'.any-gone Syntax.tyUnit) (List._∷_ (1, Rows'.sslice Cell.R (Syntax.tyRef (Syntax.named 0) Syntax.imm Cell.behind) 0) (List._∷_ (2, Rows'.sslice (Referent.rtF (Referent.fInt Syntax.w32)) (Syntax.tyRef (Syntax.named 1) Syntax.imm (Syntax.tyInt Syntax.w32)) 1) (List._∷_ (3, Rows'.sc-here (Row.sInt Syntax.w64)) (List._∷_ (4, Rows'.sc-here (Row.sInt Syntax.w64)) (List._∷_ (5, Rows'.sc-here Row.sBool) (List._∷_ (6, Rows'.any-gone (Syntax.tyInt Syntax.w64)) (List._∷_ (7, Rows'.any-gone Syntax.tyUnit) (List._∷_ (8, Rows'.any-gone Cell.held) List.[]))))))))
+t3 = List._∷_ local0 (List._∷_ local1 (List._∷_ local2 (List._∷_ local3 (List._∷_ local6 (List._∷_ (5, Rows'.sc-here Row.sBool) (List._∷_ local5 locals0))))))
 
 abbrev pub t4 : List.List Row.Entry
-t4 = List._∷_ (0, Rows'.any-gone Syntax.tyUnit) (List._∷_ (1, Rows'.sslice Cell.R (Syntax.tyRef (Syntax.named 0) Syntax.imm Cell.behind) 0) (List._∷_ (2, Rows'.sslice (Referent.rtF (Referent.fInt Syntax.w32)) (Syntax.tyRef (Syntax.named 1) Syntax.imm (Syntax.tyInt Syntax.w32)) 1) (List._∷_ (3, Rows'.sc-here (Row.sInt Syntax.w64)) (List._∷_ (4, Rows'.sc-here (Row.sInt Syntax.w64)) (List._∷_ (5, Rows'.any-gone Syntax.tyBool) (List._∷_ (6, Rows'.sc-here (Row.sInt Syntax.w64)) (List._∷_ (7, Rows'.any-gone Syntax.tyUnit) (List._∷_ (8, Rows'.any-gone Cell.held) List.[]))))))))
+t4 = List._∷_ local0 (List._∷_ local1 (List._∷_ local2 (List._∷_ local3 (List._∷_ local6 (List._∷_ local4 (List._∷_ (6, Rows'.sc-here sc0) locals0))))))
 
 abbrev pub t5 : List.List Row.Entry
-t5 = List._∷_ (0, Rows'.any-gone Syntax.tyUnit) (List._∷_ (1, Rows'.sslice Cell.R (Syntax.tyRef (Syntax.named 0) Syntax.imm Cell.behind) 0) (List._∷_ (2, Rows'.sslice (Referent.rtF (Referent.fInt Syntax.w32)) (Syntax.tyRef (Syntax.named 1) Syntax.imm (Syntax.tyInt Syntax.w32)) 1) (List._∷_ (3, Rows'.sc-here (Row.sInt Syntax.w64)) (List._∷_ (4, Rows'.sc-here (Row.sInt Syntax.w64)) (List._∷_ (5, Rows'.sc-here Row.sBool) (List._∷_ (6, Rows'.sc-here (Row.sInt Syntax.w64)) (List._∷_ (7, Rows'.any-gone Syntax.tyUnit) (List._∷_ (8, Rows'.any-gone Cell.held) List.[]))))))))
+t5 = List._∷_ local0 (List._∷_ local1 (List._∷_ local2 (List._∷_ local3 (List._∷_ local6 (List._∷_ (5, Rows'.sc-here Row.sBool) (List._∷_ (6, Rows'.sc-here sc0) locals0))))))
 
 abbrev pub t6 : List.List Row.Entry
-t6 = List._∷_ (0, Rows'.any-gone Syntax.tyUnit) (List._∷_ (1, Rows'.sslice Cell.R (Syntax.tyRef (Syntax.named 0) Syntax.imm Cell.behind) 0) (List._∷_ (2, Rows'.sslice (Referent.rtF (Referent.fInt Syntax.w32)) (Syntax.tyRef (Syntax.named 1) Syntax.imm (Syntax.tyInt Syntax.w32)) 1) (List._∷_ (3, Rows'.sc-here (Row.sInt Syntax.w64)) (List._∷_ (4, Rows'.sc-here (Row.sInt Syntax.w64)) (List._∷_ (5, Rows'.any-gone Syntax.tyBool) (List._∷_ (6, Rows'.any-gone (Syntax.tyInt Syntax.w64)) (List._∷_ (7, Rows'.any-gone Syntax.tyUnit) (List._∷_ (8, Cell.row) List.[]))))))))
+t6 = List._∷_ local0 (List._∷_ local1 (List._∷_ local2 (List._∷_ local3 (List._∷_ local6 (List._∷_ local4 (List._∷_ local5 (List._∷_ (7, Rows'.any-gone Syntax.tyUnit) (List._∷_ (8, Cell.row) List.[]))))))))
 
 abbrev pub t7 : List.List Row.Entry
-t7 = List._∷_ (0, Rows'.any-gone Syntax.tyUnit) (List._∷_ (1, Rows'.sslice Cell.R (Syntax.tyRef (Syntax.named 0) Syntax.imm Cell.behind) 0) (List._∷_ (2, Rows'.sslice (Referent.rtF (Referent.fInt Syntax.w32)) (Syntax.tyRef (Syntax.named 1) Syntax.imm (Syntax.tyInt Syntax.w32)) 1) (List._∷_ (3, Rows'.sc-here (Row.sInt Syntax.w64)) (List._∷_ (4, Rows'.sc-here (Row.sInt Syntax.w64)) (List._∷_ (5, Rows'.any-gone Syntax.tyBool) (List._∷_ (6, Rows'.any-gone (Syntax.tyInt Syntax.w64)) (List._∷_ (7, Rows'.sc-here Row.sUnit) (List._∷_ (8, Cell.row) List.[]))))))))
+t7 = List._∷_ local0 (List._∷_ local1 (List._∷_ local2 (List._∷_ local3 (List._∷_ local6 (List._∷_ local4 (List._∷_ local5 (List._∷_ (7, Rows'.sc-here Row.sUnit) (List._∷_ (8, Cell.row) List.[]))))))))
 
 abbrev pub t8 : List.List Row.Entry
-t8 = List._∷_ (0, Rows'.sc-here Row.sUnit) (List._∷_ (1, Rows'.sslice Cell.R (Syntax.tyRef (Syntax.named 0) Syntax.imm Cell.behind) 0) (List._∷_ (2, Rows'.sslice (Referent.rtF (Referent.fInt Syntax.w32)) (Syntax.tyRef (Syntax.named 1) Syntax.imm (Syntax.tyInt Syntax.w32)) 1) (List._∷_ (3, Rows'.sc-here (Row.sInt Syntax.w64)) (List._∷_ (4, Rows'.sc-here (Row.sInt Syntax.w64)) (List._∷_ (5, Rows'.any-gone Syntax.tyBool) (List._∷_ (6, Rows'.any-gone (Syntax.tyInt Syntax.w64)) (List._∷_ (7, Rows'.any-gone Syntax.tyUnit) (List._∷_ (8, Rows'.any-gone Cell.held) List.[]))))))))
+t8 = List._∷_ (0, Rows'.sc-here Row.sUnit) locals3
 
 abbrev pub t9 : List.List Row.Entry
-t9 = List._∷_ (0, Rows'.sc-here Row.sUnit) (List._∷_ (1, Rows'.sslice Cell.R (Syntax.tyRef (Syntax.named 0) Syntax.imm Cell.behind) 0) (List._∷_ (2, Rows'.sslice (Referent.rtF (Referent.fInt Syntax.w32)) (Syntax.tyRef (Syntax.named 1) Syntax.imm (Syntax.tyInt Syntax.w32)) 1) (List._∷_ (3, Rows'.sc-here (Row.sInt Syntax.w64)) (List._∷_ (4, Rows'.any-gone (Syntax.tyInt Syntax.w64)) (List._∷_ (5, Rows'.any-gone Syntax.tyBool) (List._∷_ (6, Rows'.any-gone (Syntax.tyInt Syntax.w64)) (List._∷_ (7, Rows'.any-gone Syntax.tyUnit) (List._∷_ (8, Rows'.any-gone Cell.held) List.[]))))))))
+t9 = List._∷_ (0, Rows'.sc-here Row.sUnit) locals2
 
 abbrev pub T0 : Row.Cx
 T0 = record { locals = t0; slots = List.[] }
@@ -268,20 +332,20 @@ abbrev pub O4 : Typed.Outs
 O4 = Typed.withNext (Option.some T6) O3
 
 abbrev pub InvT-loop : Type 1
-InvT-loop = List.List (Cell.R .Denot) → List.List (Referent.rtF (Referent.fInt Syntax.w32) .Denot) → Rows'.sc-here (Row.sInt Syntax.w64) .Mod → Rows'.sc-here (Row.sInt Syntax.w64) .Mod → Rows'.sc-here (Row.sInt Syntax.w64) .Mod → Type 0
+InvT-loop = List.List (Cell.R .Denot) → List.List (Referent.rtF rf0 .Denot) → Rows'.sc-here sc0 .Mod → Rows'.sc-here sc0 .Mod → Rows'.sc-here sc0 .Mod → Type 0
 
 abbrev pub MeasureT-loop : Type 0
-MeasureT-loop = List.List (Cell.R .Denot) → List.List (Referent.rtF (Referent.fInt Syntax.w32) .Denot) → Rows'.sc-here (Row.sInt Syntax.w64) .Mod → Rows'.sc-here (Row.sInt Syntax.w64) .Mod → Rows'.sc-here (Row.sInt Syntax.w64) .Mod → Nat.ℕ
+MeasureT-loop = List.List (Cell.R .Denot) → List.List (Referent.rtF rf0 .Denot) → Rows'.sc-here sc0 .Mod → Rows'.sc-here sc0 .Mod → Rows'.sc-here sc0 .Mod → Nat.ℕ
 
 module _ (claims· : Claims) where
   abbrev s0 : Typed.Gives T0 T2
-  s0 = Know.k-shs-known (Referent.fInt Syntax.w32) T0 2 1 (Syntax.tyRef (Syntax.named 1) Syntax.imm (Syntax.tyInt Syntax.w32)) Row.off 0 λ x. x
+  s0 = Know.k-shs-known rf0 T0 2 1 ty3 Row.off 0 λ x. x
 
   abbrev s1 : Typed.Mo T2 → Typed.Mo T3
-  s1 = Scalar.n-use T2 (Scalar.oInt Syntax.w64 0) 4 (Rows'.sc-here (Row.sInt Syntax.w64)) (Row.sInt Syntax.w64 .of)
+  s1 = Scalar.n-use T2 (Scalar.oInt Syntax.w64 0) 4 (Rows'.sc-here sc0) (Row.sInt Syntax.w64 .of)
 
   abbrev s2 : Typed.Asks T3 T5
-  s2 = Scalar.k-op2 T3 (Syntax.lt Syntax.unsigned) (Scalar.oAt 4 (Syntax.tyInt Syntax.w64) (Row.valS (Row.sInt Syntax.w64))) (Scalar.oAt 3 (Syntax.tyInt Syntax.w64) (Row.valS (Row.sInt Syntax.w64))) 5 (Rows'.sc-here Row.sBool) (Row.sBool .of)
+  s2 = Scalar.k-op2 T3 (Syntax.lt Syntax.unsigned) (Scalar.oAt 4 ty0 (Row.valS sc0)) (Scalar.oAt 3 ty0 (Row.valS sc0)) 5 (Rows'.sc-here Row.sBool) (Row.sBool .of)
 
   abbrev s3 : Typed.Mo T5 → Typed.Mo T7
   s3 = Scalar.n-room T5 5 Syntax.tyBool
@@ -290,13 +354,13 @@ module _ (claims· : Claims) where
   s4 = Scalar.n-room T5 5 Syntax.tyBool
 
   abbrev s5 : Typed.Both T6 T9
-  s5 = Call.callB ps·0 r·0 (claims· .0) (claims· .1) T6 (record { pos = 2; ty = Syntax.tyRef (Syntax.named 1) Syntax.imm (Syntax.tyInt Syntax.w32); ref = λ x. x }, (Num.vAt 4 λ x. x, tt)) 6 (List._∷_ 1 List.[]) (Syntax.tyInt Syntax.w64)
+  s5 = Call.callB ps·0 r·0 (claims· .0) (claims· .1) T6 (record { pos = 2; ty = Syntax.tyRef (Syntax.named 1) Syntax.imm ty2; ref = λ x. x }, (Num.vAt 4 λ x. x, tt)) 6 (List._∷_ 1 List.[]) ty0
 
   abbrev s6 : Typed.Asks T9 T10
-  s6 = Scalar.k-op2 T9 Syntax.eq (Scalar.oAt 6 (Syntax.tyInt Syntax.w64) (Row.valS (Row.sInt Syntax.w64))) (Scalar.oAt 4 (Syntax.tyInt Syntax.w64) (Row.valS (Row.sInt Syntax.w64))) 5 (Rows'.sc-here Row.sBool) (Row.sBool .of)
+  s6 = Scalar.k-op2 T9 Syntax.eq (Scalar.oAt 6 ty0 (Row.valS sc0)) (Scalar.oAt 4 ty0 (Row.valS sc0)) 5 (Rows'.sc-here Row.sBool) (Row.sBool .of)
 
   abbrev s7 : Typed.Mo T10 → Typed.Mo T11
-  s7 = Scalar.n-room T10 6 (Syntax.tyInt Syntax.w64)
+  s7 = Scalar.n-room T10 6 ty0
 
   abbrev s8 : Typed.Mo T11 → Typed.Mo T12
   s8 = Scalar.n-room T11 5 Syntax.tyBool
@@ -314,25 +378,25 @@ module _ (claims· : Claims) where
   s12 = Scalar.n-room T15 8 Cell.held
 
   abbrev s13 : Typed.Asks T16 T17
-  s13 = Scalar.k-op2 T16 (Syntax.add Syntax.unsigned) (Scalar.oAt 4 (Syntax.tyInt Syntax.w64) (Row.valS (Row.sInt Syntax.w64))) (Scalar.oInt Syntax.w64 1) 4 (Rows'.sc-here (Row.sInt Syntax.w64)) (Row.sInt Syntax.w64 .of)
+  s13 = Scalar.k-op2 T16 (Syntax.add Syntax.unsigned) (Scalar.oAt 4 ty0 (Row.valS sc0)) (Scalar.oInt Syntax.w64 1) 4 (Rows'.sc-here sc0) (Row.sInt Syntax.w64 .of)
 
   abbrev s14 : Typed.Mo T11 → Typed.Mo T18
   s14 = Scalar.n-room T11 5 Syntax.tyBool
 
   abbrev s15 : Typed.Asks T18 T19
-  s15 = Scalar.k-op2 T18 (Syntax.add Syntax.unsigned) (Scalar.oAt 4 (Syntax.tyInt Syntax.w64) (Row.valS (Row.sInt Syntax.w64))) (Scalar.oInt Syntax.w64 1) 4 (Rows'.sc-here (Row.sInt Syntax.w64)) (Row.sInt Syntax.w64 .of)
+  s15 = Scalar.k-op2 T18 (Syntax.add Syntax.unsigned) (Scalar.oAt 4 ty0 (Row.valS sc0)) (Scalar.oInt Syntax.w64 1) 4 (Rows'.sc-here sc0) (Row.sInt Syntax.w64 .of)
 
   abbrev s16 : Typed.Mo T4 → Typed.Mo T20
   s16 = Scalar.n-use T4 Scalar.oUnit 0 (Rows'.sc-here Row.sUnit) (Row.sUnit .of)
 
   abbrev s17 : Typed.Mo T20 → Typed.Mo T21
-  s17 = Scalar.n-room T20 4 (Syntax.tyInt Syntax.w64)
+  s17 = Scalar.n-room T20 4 ty0
 
   abbrev s18 : Typed.Mo T21 → Typed.Mo T22
-  s18 = Scalar.n-room T21 3 (Syntax.tyInt Syntax.w64)
+  s18 = Scalar.n-room T21 3 ty0
 
-  abbrev put0 : Rows'.sc-here (Row.sInt Syntax.w64) .Mod → Typed.Mo T3 → Typed.Mo T3
-  put0 = λ vs u. Row.set 4 (4, Rows'.sc-here (Row.sInt Syntax.w64)) vs (T3 .locals) u
+  abbrev put0 : Rows'.sc-here sc0 .Mod → Typed.Mo T3 → Typed.Mo T3
+  put0 = λ vs u. Row.set 4 local6 vs (T3 .locals) u
 
   module _ (Pre· : (κs : Lifetimes.Lfts 2) → Kinds.Dens κs ps → Type 0) (Post· : (κs : Lifetimes.Lfts 2) → (a : Kinds.Dens κs ps) → Kinds.Plain 2 ps r κs) where
     module _ (M : Type 1) where
@@ -432,74 +496,80 @@ module _ (claims· : Claims) where
         Knowns = Plain.Known 𝓤 H A W 𝓣 1 ps·0 r·0 (claims· .0) (claims· .1) "slices::at" × Plain.Known 𝓤 H A W 𝓣 1 ps·1 r·1 (claims· .2) (claims· .3) "sheets::thin::record_at" × Plain.Known 𝓤 H A W 𝓣 0 ps·2 r·2 (claims· .4) (claims· .5) "script::costs::print_cost"
 
       module _ (κs : Lifetimes.Lfts 2) (qs : Lifetimes.Shares 2) where
+        abbrev slot0 : Row.Life
+        slot0 = Row.lease (κs .0) (qs .0)
+
+        abbrev slots0 : List.List Row.Life
+        slots0 = List._∷_ (Row.lease (κs .1 .0) (qs .1 .0)) List.[]
+
         abbrev G0 : Row.Cx
-        G0 = record { locals = t0; slots = List._∷_ (Row.lease (κs .0) (qs .0)) (List._∷_ (Row.lease (κs .1 .0) (qs .1 .0)) List.[]) }
+        G0 = record { locals = t0; slots = List._∷_ slot0 slots0 }
 
         abbrev G1 : Row.Cx
-        G1 = record { locals = t1; slots = List._∷_ (Row.lease (κs .0) (qs .0)) (List._∷_ (Row.lease (κs .1 .0) (qs .1 .0)) List.[]) }
+        G1 = record { locals = t1; slots = List._∷_ slot0 slots0 }
 
         abbrev G2 : Row.Cx
-        G2 = record { locals = t0; slots = List._∷_ (Row.lease (κs .0) (qs .0)) (List._∷_ (Row.lease (κs .1 .0) (qs .1 .0)) List.[]) }
+        G2 = record { locals = t0; slots = List._∷_ slot0 slots0 }
 
         abbrev G3 : Row.Cx
-        G3 = record { locals = t2; slots = List._∷_ (Row.lease (κs .0) (qs .0)) (List._∷_ (Row.lease (κs .1 .0) (qs .1 .0)) List.[]) }
+        G3 = record { locals = t2; slots = List._∷_ slot0 slots0 }
 
         abbrev G4 : Row.Cx
-        G4 = record { locals = t2; slots = List._∷_ (Row.lease (κs .0) (qs .0)) (List._∷_ (Row.lease (κs .1 .0) (qs .1 .0)) List.[]) }
+        G4 = record { locals = t2; slots = List._∷_ slot0 slots0 }
 
         abbrev G5 : Row.Cx
-        G5 = record { locals = t3; slots = List._∷_ (Row.lease (κs .0) (qs .0)) (List._∷_ (Row.lease (κs .1 .0) (qs .1 .0)) List.[]) }
+        G5 = record { locals = t3; slots = List._∷_ slot0 slots0 }
 
         abbrev G6 : Row.Cx
-        G6 = record { locals = t2; slots = List._∷_ (Row.lease (κs .0) (qs .0)) (List._∷_ (Row.lease (κs .1 .0) (qs .1 .0)) List.[]) }
+        G6 = record { locals = t2; slots = List._∷_ slot0 slots0 }
 
         abbrev G7 : Row.Cx
-        G7 = record { locals = t2; slots = List._∷_ (Row.lease (κs .0) (qs .0)) (List._∷_ (Row.lease (κs .1 .0) (qs .1 .0)) List.[]) }
+        G7 = record { locals = t2; slots = List._∷_ slot0 slots0 }
 
         abbrev G8 : Row.Cx
-        G8 = record { locals = t2; slots = List._∷_ (Row.lease (κs .0) (qs .0)) (List._∷_ (Row.lease (κs .1 .0) (qs .1 .0)) List.[]) }
+        G8 = record { locals = t2; slots = List._∷_ slot0 slots0 }
 
         abbrev G9 : Row.Cx
-        G9 = record { locals = t4; slots = List._∷_ (Row.lease (κs .0) (qs .0)) (List._∷_ (Row.lease (κs .1 .0) (qs .1 .0)) List.[]) }
+        G9 = record { locals = t4; slots = List._∷_ slot0 slots0 }
 
         abbrev G10 : Row.Cx
-        G10 = record { locals = t5; slots = List._∷_ (Row.lease (κs .0) (qs .0)) (List._∷_ (Row.lease (κs .1 .0) (qs .1 .0)) List.[]) }
+        G10 = record { locals = t5; slots = List._∷_ slot0 slots0 }
 
         abbrev G11 : Row.Cx
-        G11 = record { locals = t3; slots = List._∷_ (Row.lease (κs .0) (qs .0)) (List._∷_ (Row.lease (κs .1 .0) (qs .1 .0)) List.[]) }
+        G11 = record { locals = t3; slots = List._∷_ slot0 slots0 }
 
         abbrev G12 : Row.Cx
-        G12 = record { locals = t2; slots = List._∷_ (Row.lease (κs .0) (qs .0)) (List._∷_ (Row.lease (κs .1 .0) (qs .1 .0)) List.[]) }
+        G12 = record { locals = t2; slots = List._∷_ slot0 slots0 }
 
         abbrev G13 : Row.Cx
-        G13 = record { locals = t6; slots = List._∷_ (Row.lease (κs .0) (qs .0)) (List._∷_ (Row.lease (κs .1 .0) (qs .1 .0)) List.[]) }
+        G13 = record { locals = t6; slots = List._∷_ slot0 slots0 }
 
         abbrev G14 : Row.Cx
-        G14 = record { locals = t7; slots = List._∷_ (Row.lease (κs .0) (qs .0)) (List._∷_ (Row.lease (κs .1 .0) (qs .1 .0)) List.[]) }
+        G14 = record { locals = t7; slots = List._∷_ slot0 slots0 }
 
         abbrev G15 : Row.Cx
-        G15 = record { locals = t6; slots = List._∷_ (Row.lease (κs .0) (qs .0)) (List._∷_ (Row.lease (κs .1 .0) (qs .1 .0)) List.[]) }
+        G15 = record { locals = t6; slots = List._∷_ slot0 slots0 }
 
         abbrev G16 : Row.Cx
-        G16 = record { locals = t2; slots = List._∷_ (Row.lease (κs .0) (qs .0)) (List._∷_ (Row.lease (κs .1 .0) (qs .1 .0)) List.[]) }
+        G16 = record { locals = t2; slots = List._∷_ slot0 slots0 }
 
         abbrev G17 : Row.Cx
-        G17 = record { locals = t2; slots = List._∷_ (Row.lease (κs .0) (qs .0)) (List._∷_ (Row.lease (κs .1 .0) (qs .1 .0)) List.[]) }
+        G17 = record { locals = t2; slots = List._∷_ slot0 slots0 }
 
         abbrev G18 : Row.Cx
-        G18 = record { locals = t2; slots = List._∷_ (Row.lease (κs .0) (qs .0)) (List._∷_ (Row.lease (κs .1 .0) (qs .1 .0)) List.[]) }
+        G18 = record { locals = t2; slots = List._∷_ slot0 slots0 }
 
         abbrev G19 : Row.Cx
-        G19 = record { locals = t2; slots = List._∷_ (Row.lease (κs .0) (qs .0)) (List._∷_ (Row.lease (κs .1 .0) (qs .1 .0)) List.[]) }
+        G19 = record { locals = t2; slots = List._∷_ slot0 slots0 }
 
         abbrev G20 : Row.Cx
-        G20 = record { locals = t8; slots = List._∷_ (Row.lease (κs .0) (qs .0)) (List._∷_ (Row.lease (κs .1 .0) (qs .1 .0)) List.[]) }
+        G20 = record { locals = t8; slots = List._∷_ slot0 slots0 }
 
         abbrev G21 : Row.Cx
-        G21 = record { locals = t9; slots = List._∷_ (Row.lease (κs .0) (qs .0)) (List._∷_ (Row.lease (κs .1 .0) (qs .1 .0)) List.[]) }
+        G21 = record { locals = t9; slots = List._∷_ slot0 slots0 }
 
         abbrev G22 : Row.Cx
-        G22 = record { locals = t1; slots = List._∷_ (Row.lease (κs .0) (qs .0)) (List._∷_ (Row.lease (κs .1 .0) (qs .1 .0)) List.[]) }
+        G22 = record { locals = t1; slots = List._∷_ slot0 slots0 }
 
         abbrev Δ0 : Typed.Outs
         Δ0 = record { next = Option.none; exits = List.[]; returns = Option.some G1 }
@@ -536,7 +606,7 @@ module _ (claims· : Claims) where
           d4 = Scalar.t-cond 𝓤 H A W E 𝓣 G5 5 (λ x. x) b2 b3 Δ4 at1 at3 (Scalar.reads-sc 𝓤 H A W Row.sBool) Path'.refl d1 d3
 
           d5 : Typed.Typed 𝓤 H A 𝓣 E G16 b9 Δ3 at5
-          d5 = Typed.s-typed 𝓤 H A W 𝓣 E G16 b9 Δ3 (Typed.ask s13) tt (Scalar.t-op2 𝓤 H A W E 𝓣 G16 (Syntax.add Syntax.unsigned) (Scalar.oAt 4 (Syntax.tyInt Syntax.w64) (Row.valS (Row.sInt Syntax.w64))) (Scalar.oInt Syntax.w64 1) 4 (Rows'.sc-here (Row.sInt Syntax.w64)) (Syntax.tyInt Syntax.w64) (Row.valS (Row.sInt Syntax.w64)) (Row.sInt Syntax.w64 .of) (Scalar.reads-sc 𝓤 H A W (Row.sInt Syntax.w64), Path'.refl) tt (Scalar.room-sc 𝓤 H A W (Row.sInt Syntax.w64)) (Scalar.holds-sc 𝓤 H A W (Row.sInt Syntax.w64)) Path'.refl (λ u. Path'.refl) λ u. tt)
+          d5 = Typed.s-typed 𝓤 H A W 𝓣 E G16 b9 Δ3 (Typed.ask s13) tt (Scalar.t-op2 𝓤 H A W E 𝓣 G16 (Syntax.add Syntax.unsigned) (Scalar.oAt 4 ty0 (Row.valS sc0)) (Scalar.oInt Syntax.w64 1) 4 (Rows'.sc-here sc0) ty0 (Row.valS sc0) (Row.sInt Syntax.w64 .of) (Scalar.reads-sc 𝓤 H A W sc0, Path'.refl) tt (Scalar.room-sc 𝓤 H A W sc0) (Scalar.holds-sc 𝓤 H A W sc0) Path'.refl (λ u. Path'.refl) λ u. tt)
 
           d6 : Typed.Typed 𝓤 H A 𝓣 E G15 b9 Δ3 at6
           d6 = Typed.g-pre 𝓤 H A W 𝓣 E G15 G16 b9 Δ3 (Typed.pass T15 T16 s12) at5 (Scalar.g-room 𝓤 H A W E G15 8 Cell.held (Cell.to-room 𝓤 H A W)) d5
@@ -545,16 +615,16 @@ module _ (claims· : Claims) where
           d7 = Typed.g-pre 𝓤 H A W 𝓣 E G14 G15 b9 Δ3 (Typed.pass T14 T15 s11) at6 (Scalar.g-room 𝓤 H A W E G14 7 Syntax.tyUnit (Scalar.room-sc 𝓤 H A W Row.sUnit)) d6
 
           d8 : Typed.Typed 𝓤 H A 𝓣 E G13 b10 Δ3 at8
-          d8 = Typed.s-seq 𝓤 H A W 𝓣 E G13 G14 b8 b9 Δ3 (Typed.both s10) at7 (Plain.t-call-plain 𝓤 H A W 𝓣 0 ps·2 r·2 (claims· .4) (claims· .5) "script::costs::print_cost" (known .2) E (λ pos β. β) G13 (Num.vAt 4 λ x. x, (record { pos = 8; st = List.[]; d = 0; at = λ x. x }, tt)) 7 List.[] (Call.sub-id 𝓤 H A W (G13 .slots)) ((Scalar.reads-sc 𝓤 H A W (Row.sInt Syntax.w64), Path'.refl), ((Cell.yields 𝓤 H A W, Path'.refl), tt)) (Reads.room-gone 𝓤 H A Syntax.tyUnit) tt Path'.refl) d7
+          d8 = Typed.s-seq 𝓤 H A W 𝓣 E G13 G14 b8 b9 Δ3 (Typed.both s10) at7 (Plain.t-call-plain 𝓤 H A W 𝓣 0 ps·2 r·2 (claims· .4) (claims· .5) "script::costs::print_cost" (known .2) E (λ pos β. β) G13 (Num.vAt 4 λ x. x, (record { pos = 8; st = List.[]; d = 0; at = λ x. x }, tt)) 7 List.[] (Call.sub-id 𝓤 H A W (G13 .slots)) ((Scalar.reads-sc 𝓤 H A W sc0, Path'.refl), ((Cell.yields 𝓤 H A W, Path'.refl), tt)) (Reads.room-gone 𝓤 H A Syntax.tyUnit) tt Path'.refl) d7
 
           d9 : Typed.Typed 𝓤 H A 𝓣 E G12 b11 Δ3 at9
-          d9 = Typed.s-seq 𝓤 H A W 𝓣 E G12 G13 b7 b10 Δ3 (Typed.both s9) at8 (Plain.t-call-plain 𝓤 H A W 𝓣 1 ps·1 r·1 (claims· .2) (claims· .3) "sheets::thin::record_at" (known .1) E (λ pos β. β) G12 (record { pos = 1; ty = Syntax.tyRef (Syntax.named 0) Syntax.imm Cell.behind; ref = λ x. x }, (Num.vAt 4 λ x. x, tt)) 8 (List._∷_ 0 List.[]) (Call.sub-id 𝓤 H A W (G12 .slots)) (ShrSlice.spares-sslice 𝓤 H A W Cell.R (Syntax.tyRef (Syntax.named 0) Syntax.imm Cell.behind) 0, Shared.reads-sslice 𝓤 H A W Cell.R (Syntax.tyRef (Syntax.named 0) Syntax.imm Cell.behind) 0, Path'.refl, ((Scalar.reads-sc 𝓤 H A W (Row.sInt Syntax.w64), Path'.refl), tt)) (Reads.room-gone 𝓤 H A Cell.held) (tt, tt) Path'.refl) d8
+          d9 = Typed.s-seq 𝓤 H A W 𝓣 E G12 G13 b7 b10 Δ3 (Typed.both s9) at8 (Plain.t-call-plain 𝓤 H A W 𝓣 1 ps·1 r·1 (claims· .2) (claims· .3) "sheets::thin::record_at" (known .1) E (λ pos β. β) G12 (record { pos = 1; ty = Syntax.tyRef (Syntax.named 0) Syntax.imm Cell.behind; ref = λ x. x }, (Num.vAt 4 λ x. x, tt)) 8 (List._∷_ 0 List.[]) (Call.sub-id 𝓤 H A W (G12 .slots)) (ShrSlice.spares-sslice 𝓤 H A W Cell.R ty1 0, Shared.reads-sslice 𝓤 H A W Cell.R ty1 0, Path'.refl, ((Scalar.reads-sc 𝓤 H A W sc0, Path'.refl), tt)) (Reads.room-gone 𝓤 H A Cell.held) (tt, tt) Path'.refl) d8
 
           d10 : Typed.Typed 𝓤 H A 𝓣 E G11 b11 Δ3 at10
           d10 = Typed.g-pre 𝓤 H A W 𝓣 E G11 G12 b11 Δ3 (Typed.pass T11 T12 s8) at9 (Scalar.g-room 𝓤 H A W E G11 5 Syntax.tyBool (Scalar.room-sc 𝓤 H A W Row.sBool)) d9
 
           d11 : Typed.Typed 𝓤 H A 𝓣 E G18 b12 Δ3 at11
-          d11 = Typed.s-typed 𝓤 H A W 𝓣 E G18 b12 Δ3 (Typed.ask s15) tt (Scalar.t-op2 𝓤 H A W E 𝓣 G18 (Syntax.add Syntax.unsigned) (Scalar.oAt 4 (Syntax.tyInt Syntax.w64) (Row.valS (Row.sInt Syntax.w64))) (Scalar.oInt Syntax.w64 1) 4 (Rows'.sc-here (Row.sInt Syntax.w64)) (Syntax.tyInt Syntax.w64) (Row.valS (Row.sInt Syntax.w64)) (Row.sInt Syntax.w64 .of) (Scalar.reads-sc 𝓤 H A W (Row.sInt Syntax.w64), Path'.refl) tt (Scalar.room-sc 𝓤 H A W (Row.sInt Syntax.w64)) (Scalar.holds-sc 𝓤 H A W (Row.sInt Syntax.w64)) Path'.refl (λ u. Path'.refl) λ u. tt)
+          d11 = Typed.s-typed 𝓤 H A W 𝓣 E G18 b12 Δ3 (Typed.ask s15) tt (Scalar.t-op2 𝓤 H A W E 𝓣 G18 (Syntax.add Syntax.unsigned) (Scalar.oAt 4 ty0 (Row.valS sc0)) (Scalar.oInt Syntax.w64 1) 4 (Rows'.sc-here sc0) ty0 (Row.valS sc0) (Row.sInt Syntax.w64 .of) (Scalar.reads-sc 𝓤 H A W sc0, Path'.refl) tt (Scalar.room-sc 𝓤 H A W sc0) (Scalar.holds-sc 𝓤 H A W sc0) Path'.refl (λ u. Path'.refl) λ u. tt)
 
           d12 : Typed.Typed 𝓤 H A 𝓣 E G11 b12 Δ3 at12
           d12 = Typed.g-pre 𝓤 H A W 𝓣 E G11 G18 b12 Δ3 (Typed.pass T11 T18 s14) at11 (Scalar.g-room 𝓤 H A W E G11 5 Syntax.tyBool (Scalar.room-sc 𝓤 H A W Row.sBool)) d11
@@ -563,19 +633,19 @@ module _ (claims· : Claims) where
           d13 = Scalar.t-cond 𝓤 H A W E 𝓣 G11 5 (λ x. x) b11 b12 Δ3 at10 at12 (Scalar.reads-sc 𝓤 H A W Row.sBool) Path'.refl d10 d12
 
           d14 : Typed.Typed 𝓤 H A 𝓣 E G10 b13 Δ3 at14
-          d14 = Typed.g-pre 𝓤 H A W 𝓣 E G10 G11 b13 Δ3 (Typed.pass T10 T11 s7) at13 (Scalar.g-room 𝓤 H A W E G10 6 (Syntax.tyInt Syntax.w64) (Scalar.room-sc 𝓤 H A W (Row.sInt Syntax.w64))) d13
+          d14 = Typed.g-pre 𝓤 H A W 𝓣 E G10 G11 b13 Δ3 (Typed.pass T10 T11 s7) at13 (Scalar.g-room 𝓤 H A W E G10 6 ty0 (Scalar.room-sc 𝓤 H A W sc0)) d13
 
           d15 : Typed.Typed 𝓤 H A 𝓣 E G9 b14 Δ3 at15
-          d15 = Typed.s-seq 𝓤 H A W 𝓣 E G9 G10 b6 b13 Δ3 (Typed.ask s6) at14 (Scalar.t-op2 𝓤 H A W E 𝓣 G9 Syntax.eq (Scalar.oAt 6 (Syntax.tyInt Syntax.w64) (Row.valS (Row.sInt Syntax.w64))) (Scalar.oAt 4 (Syntax.tyInt Syntax.w64) (Row.valS (Row.sInt Syntax.w64))) 5 (Rows'.sc-here Row.sBool) Syntax.tyBool (Row.valS Row.sBool) (Row.sBool .of) (Scalar.reads-sc 𝓤 H A W (Row.sInt Syntax.w64), Path'.refl) (Scalar.reads-sc 𝓤 H A W (Row.sInt Syntax.w64), Path'.refl) (Reads.room-gone 𝓤 H A Syntax.tyBool) (Scalar.holds-sc 𝓤 H A W Row.sBool) Path'.refl (λ u. Path'.refl) λ u. tt) d14
+          d15 = Typed.s-seq 𝓤 H A W 𝓣 E G9 G10 b6 b13 Δ3 (Typed.ask s6) at14 (Scalar.t-op2 𝓤 H A W E 𝓣 G9 Syntax.eq (Scalar.oAt 6 ty0 (Row.valS sc0)) (Scalar.oAt 4 ty0 (Row.valS sc0)) 5 (Rows'.sc-here Row.sBool) Syntax.tyBool (Row.valS Row.sBool) (Row.sBool .of) (Scalar.reads-sc 𝓤 H A W sc0, Path'.refl) (Scalar.reads-sc 𝓤 H A W sc0, Path'.refl) (Reads.room-gone 𝓤 H A Syntax.tyBool) (Scalar.holds-sc 𝓤 H A W Row.sBool) Path'.refl (λ u. Path'.refl) λ u. tt) d14
 
           d16 : Typed.Typed 𝓤 H A 𝓣 E G6 b15 Δ3 at16
-          d16 = Typed.s-seq 𝓤 H A W 𝓣 E G6 G9 b5 b14 Δ3 (Typed.both s5) at15 (Plain.t-call-plain 𝓤 H A W 𝓣 1 ps·0 r·0 (claims· .0) (claims· .1) "slices::at" (known .0) E (λ pos β. β) G6 (record { pos = 2; ty = Syntax.tyRef (Syntax.named 1) Syntax.imm (Syntax.tyInt Syntax.w32); ref = λ x. x }, (Num.vAt 4 λ x. x, tt)) 6 (List._∷_ 1 List.[]) (Call.sub-id 𝓤 H A W (G6 .slots)) (ShrSlice.spares-sslice 𝓤 H A W (Referent.rtF (Referent.fInt Syntax.w32)) (Syntax.tyRef (Syntax.named 1) Syntax.imm (Syntax.tyInt Syntax.w32)) 1, Shared.reads-sslice 𝓤 H A W (Referent.rtF (Referent.fInt Syntax.w32)) (Syntax.tyRef (Syntax.named 1) Syntax.imm (Syntax.tyInt Syntax.w32)) 1, Path'.refl, ((Scalar.reads-sc 𝓤 H A W (Row.sInt Syntax.w64), Path'.refl), tt)) (Reads.room-gone 𝓤 H A (Syntax.tyInt Syntax.w64)) (tt, tt) Path'.refl) d15
+          d16 = Typed.s-seq 𝓤 H A W 𝓣 E G6 G9 b5 b14 Δ3 (Typed.both s5) at15 (Plain.t-call-plain 𝓤 H A W 𝓣 1 ps·0 r·0 (claims· .0) (claims· .1) "slices::at" (known .0) E (λ pos β. β) G6 (record { pos = 2; ty = Syntax.tyRef (Syntax.named 1) Syntax.imm ty2; ref = λ x. x }, (Num.vAt 4 λ x. x, tt)) 6 (List._∷_ 1 List.[]) (Call.sub-id 𝓤 H A W (G6 .slots)) (ShrSlice.spares-sslice 𝓤 H A W held0 ty3 1, Shared.reads-sslice 𝓤 H A W held0 ty3 1, Path'.refl, ((Scalar.reads-sc 𝓤 H A W sc0, Path'.refl), tt)) (Reads.room-gone 𝓤 H A ty0) (tt, tt) Path'.refl) d15
 
           d17 : Typed.Typed 𝓤 H A 𝓣 E G5 b16 Δ3 at17
           d17 = Typed.t-seq 𝓤 H A W 𝓣 E G5 G6 b4 b15 Δ3 at4 at16 d4 d16
 
           d18 : Typed.Typed 𝓤 H A 𝓣 E G3 b17 Δ3 at18
-          d18 = Typed.s-seq 𝓤 H A W 𝓣 E G3 G5 b1 b16 Δ3 (Typed.ask s2) at17 (Scalar.t-op2 𝓤 H A W E 𝓣 G3 (Syntax.lt Syntax.unsigned) (Scalar.oAt 4 (Syntax.tyInt Syntax.w64) (Row.valS (Row.sInt Syntax.w64))) (Scalar.oAt 3 (Syntax.tyInt Syntax.w64) (Row.valS (Row.sInt Syntax.w64))) 5 (Rows'.sc-here Row.sBool) Syntax.tyBool (Row.valS Row.sBool) (Row.sBool .of) (Scalar.reads-sc 𝓤 H A W (Row.sInt Syntax.w64), Path'.refl) (Scalar.reads-sc 𝓤 H A W (Row.sInt Syntax.w64), Path'.refl) (Reads.room-gone 𝓤 H A Syntax.tyBool) (Scalar.holds-sc 𝓤 H A W Row.sBool) Path'.refl (λ u. Path'.refl) λ u. tt) d17
+          d18 = Typed.s-seq 𝓤 H A W 𝓣 E G3 G5 b1 b16 Δ3 (Typed.ask s2) at17 (Scalar.t-op2 𝓤 H A W E 𝓣 G3 (Syntax.lt Syntax.unsigned) (Scalar.oAt 4 ty0 (Row.valS sc0)) (Scalar.oAt 3 ty0 (Row.valS sc0)) 5 (Rows'.sc-here Row.sBool) Syntax.tyBool (Row.valS Row.sBool) (Row.sBool .of) (Scalar.reads-sc 𝓤 H A W sc0, Path'.refl) (Scalar.reads-sc 𝓤 H A W sc0, Path'.refl) (Reads.room-gone 𝓤 H A Syntax.tyBool) (Scalar.holds-sc 𝓤 H A W Row.sBool) Path'.refl (λ u. Path'.refl) λ u. tt) d17
 
           d19 : Typed.Typed 𝓤 H A 𝓣 E G3 b18 Δ2 at19
           d19 = Typed.t-loop-by 𝓤 H A W 𝓣 E G3 b17 Δ2 put0 (λ u vs. Inv·0 (Row.get 1 (T3 .locals) u .now) (Row.get 2 (T3 .locals) u .now) (Row.get 3 (T3 .locals) u) (Row.get 4 (T3 .locals) u) vs) (λ u vs. μ·0 (Row.get 1 (T3 .locals) u .now) (Row.get 2 (T3 .locals) u .now) (Row.get 3 (T3 .locals) u) (Row.get 4 (T3 .locals) u) vs) at18 d18
@@ -587,10 +657,10 @@ module _ (claims· : Claims) where
           d21 = Typed.t-return 𝓤 H A W 𝓣 E Δ0 tt
 
           d22 : Typed.Typed 𝓤 H A 𝓣 E G21 b21 Δ0 at22
-          d22 = Typed.g-pre 𝓤 H A W 𝓣 E G21 G22 b21 Δ0 (Typed.pass T21 T22 s18) at21 (Scalar.g-room 𝓤 H A W E G21 3 (Syntax.tyInt Syntax.w64) (Scalar.room-sc 𝓤 H A W (Row.sInt Syntax.w64))) d21
+          d22 = Typed.g-pre 𝓤 H A W 𝓣 E G21 G22 b21 Δ0 (Typed.pass T21 T22 s18) at21 (Scalar.g-room 𝓤 H A W E G21 3 ty0 (Scalar.room-sc 𝓤 H A W sc0)) d21
 
           d23 : Typed.Typed 𝓤 H A 𝓣 E G20 b21 Δ0 at23
-          d23 = Typed.g-pre 𝓤 H A W 𝓣 E G20 G21 b21 Δ0 (Typed.pass T20 T21 s17) at22 (Scalar.g-room 𝓤 H A W E G20 4 (Syntax.tyInt Syntax.w64) (Scalar.room-sc 𝓤 H A W (Row.sInt Syntax.w64))) d22
+          d23 = Typed.g-pre 𝓤 H A W 𝓣 E G20 G21 b21 Δ0 (Typed.pass T20 T21 s17) at22 (Scalar.g-room 𝓤 H A W E G20 4 ty0 (Scalar.room-sc 𝓤 H A W sc0)) d22
 
           d24 : Typed.Typed 𝓤 H A 𝓣 E G4 b22 Δ0 at24
           d24 = Typed.s-seq 𝓤 H A W 𝓣 E G4 G20 b20 b21 Δ0 (Typed.pass T4 T20 s16) at23 (Scalar.t-use 𝓤 H A W E 𝓣 G4 Scalar.oUnit 0 (Rows'.sc-here Row.sUnit) Syntax.tyUnit (Row.valS Row.sUnit) (Row.sUnit .of) tt (Reads.room-gone 𝓤 H A Syntax.tyUnit) (Scalar.holds-sc 𝓤 H A W Row.sUnit) Path'.refl (λ u. Path'.refl) λ u. tt) d23
@@ -599,10 +669,10 @@ module _ (claims· : Claims) where
           d25 = Typed.t-seq 𝓤 H A W 𝓣 E G3 G4 b19 b22 Δ0 at20 at24 d20 d24
 
           d26 : Typed.Typed 𝓤 H A 𝓣 E G2 b24 Δ0 at26
-          d26 = Typed.s-seq 𝓤 H A W 𝓣 E G2 G3 b0 b23 Δ0 (Typed.pass T2 T3 s1) at25 (Scalar.t-use 𝓤 H A W E 𝓣 G2 (Scalar.oInt Syntax.w64 0) 4 (Rows'.sc-here (Row.sInt Syntax.w64)) (Syntax.tyInt Syntax.w64) (Row.valS (Row.sInt Syntax.w64)) (Row.sInt Syntax.w64 .of) tt (Reads.room-gone 𝓤 H A (Syntax.tyInt Syntax.w64)) (Scalar.holds-sc 𝓤 H A W (Row.sInt Syntax.w64)) Path'.refl (λ u. Path'.refl) λ u. tt) d25
+          d26 = Typed.s-seq 𝓤 H A W 𝓣 E G2 G3 b0 b23 Δ0 (Typed.pass T2 T3 s1) at25 (Scalar.t-use 𝓤 H A W E 𝓣 G2 (Scalar.oInt Syntax.w64 0) 4 (Rows'.sc-here sc0) ty0 (Row.valS sc0) (Row.sInt Syntax.w64 .of) tt (Reads.room-gone 𝓤 H A ty0) (Scalar.holds-sc 𝓤 H A W sc0) Path'.refl (λ u. Path'.refl) λ u. tt) d25
 
           d27 : Typed.Typed 𝓤 H A 𝓣 E G0 b24 Δ0 at27
-          d27 = Typed.g-pre 𝓤 H A W 𝓣 E G0 G2 b24 Δ0 (Typed.give s0) at26 (Know.g-shs-known 𝓤 H A W (Referent.fInt Syntax.w32) E G0 2 1 (Syntax.tyRef (Syntax.named 1) Syntax.imm (Syntax.tyInt Syntax.w32)) (Row.lease (κs .1 .0) (qs .1 .0)) 0 (λ x. x) record { fits = Dec'.lit< tt } (Reads.as-is 𝓤 H A (Rows'.sslice (Referent.rtF (Referent.fInt Syntax.w32)) (Syntax.tyRef (Syntax.named 1) Syntax.imm (Syntax.tyInt Syntax.w32)) 1)) Path'.refl tt) d26
+          d27 = Typed.g-pre 𝓤 H A W 𝓣 E G0 G2 b24 Δ0 (Typed.give s0) at26 (Know.g-shs-known 𝓤 H A W rf0 E G0 2 1 ty3 (Row.lease (κs .1 .0) (qs .1 .0)) 0 (λ x. x) record { fits = Dec'.lit< tt } (Reads.as-is 𝓤 H A (Rows'.sslice held0 ty3 1)) Path'.refl tt) d26
 
           pub typed : Typed.Typed 𝓤 H A 𝓣 E (Function.Γin 2 ps r xs m κs qs) b24 (Function.Δret 2 ps r xs m κs qs) Φ
           typed = d27
@@ -610,7 +680,7 @@ module _ (claims· : Claims) where
       module _ (κs : Lifetimes.Lfts 2) where
         pub record Args : Type 0 where
           pub sheet : Kinds.Den {n = 2} κs (ShrSlice.pShrS Cell.R 0 tt)
-          pub roots : Kinds.Den {n = 2} κs (ShrSlice.pShrS (Referent.rtF (Referent.fInt Syntax.w32)) 1 tt)
+          pub roots : Kinds.Den {n = 2} κs (ShrSlice.pShrS held0 1 tt)
           pub n : Kinds.Den {n = 2} κs (Num.pNum Syntax.w64)
 
         abbrev pub dens : (a : Args) → Kinds.Dens κs ps
@@ -656,21 +726,21 @@ module _ (claims· : Claims) where
       abbrev pub Need-loop-holds : Type 0
       Need-loop-holds = (c : After-shared-slice-known) → Inv·0 (Row.get 1 (T3 .locals) (m2 (c .before) (c .shared-slice-known .given)) .now) (Row.get 2 (T3 .locals) (m2 (c .before) (c .shared-slice-known .given)) .now) (Row.get 3 (T3 .locals) (m2 (c .before) (c .shared-slice-known .given))) (Row.get 4 (T3 .locals) (m2 (c .before) (c .shared-slice-known .given))) (Row.get 4 (T3 .locals) (m2 (c .before) (c .shared-slice-known .given)))
 
-      abbrev pub m3 : (before : After-shared-slice-known) → (x : Rows'.sc-here (Row.sInt Syntax.w64) .Mod) → Typed.Mo T3
-      m3 = λ before x. Row.set 4 (4, Rows'.sc-here (Row.sInt Syntax.w64)) x (T3 .locals) (m2 (before .before) (before .shared-slice-known .given))
+      abbrev pub m3 : (before : After-shared-slice-known) → (x : Rows'.sc-here sc0 .Mod) → Typed.Mo T3
+      m3 = λ before x. Row.set 4 local6 x (T3 .locals) (m2 (before .before) (before .shared-slice-known .given))
 
-      abbrev W3 : (before : After-shared-slice-known) → (x : Rows'.sc-here (Row.sInt Syntax.w64) .Mod) → Typed.Want O3
+      abbrev W3 : (before : After-shared-slice-known) → (x : Rows'.sc-here sc0 .Mod) → Typed.Want O3
       W3 = λ before x. Typed.inLoop T3 O2 (Typed.Round T3 O2 put0 (λ u vs. Inv·0 (Row.get 1 (T3 .locals) u .now) (Row.get 2 (T3 .locals) u .now) (Row.get 3 (T3 .locals) u) (Row.get 4 (T3 .locals) u) vs) (λ u vs. μ·0 (Row.get 1 (T3 .locals) u .now) (Row.get 2 (T3 .locals) u .now) (Row.get 3 (T3 .locals) u) (Row.get 4 (T3 .locals) u) vs) at18 (m2 (before .before) (before .shared-slice-known .given)) x) (W2 (before .before) (before .shared-slice-known .given))
 
-      abbrev pub m4 : (before : After-shared-slice-known) → (x : Rows'.sc-here (Row.sInt Syntax.w64) .Mod) → Typed.Mo T5
+      abbrev pub m4 : (before : After-shared-slice-known) → (x : Rows'.sc-here sc0 .Mod) → Typed.Mo T5
       m4 = λ before x. s2 .next (m3 before x)
 
-      abbrev W4 : (before : After-shared-slice-known) → (x : Rows'.sc-here (Row.sInt Syntax.w64) .Mod) → Typed.Want O4
+      abbrev W4 : (before : After-shared-slice-known) → (x : Rows'.sc-here sc0 .Mod) → Typed.Want O4
       W4 = λ before x. Typed.wantNext T6 O3 (at16 (W3 before x)) (W3 before x)
 
       module _ (before· : After-shared-slice-known) where
         pub record At-loop·own : Type 0 where
-          pub x : Rows'.sc-here (Row.sInt Syntax.w64) .Mod
+          pub x : Rows'.sc-here sc0 .Mod
           pub inv : Inv·0 (Row.get 1 (T3 .locals) (m2 (before· .before) (before· .shared-slice-known .given)) .now) (Row.get 2 (T3 .locals) (m2 (before· .before) (before· .shared-slice-known .given)) .now) (Row.get 3 (T3 .locals) (m2 (before· .before) (before· .shared-slice-known .given))) (Row.get 4 (T3 .locals) (m2 (before· .before) (before· .shared-slice-known .given))) x
 
       pub record At-loop : Type 0 where
@@ -707,14 +777,14 @@ module _ (claims· : Claims) where
 
       module _ (before· : In-loop) where
         abbrev pub After-at·own : Type 0
-        After-at·own = Called.Called ps·0 r·0 (claims· .1) T6 (record { pos = 2; ty = Syntax.tyRef (Syntax.named 1) Syntax.imm (Syntax.tyInt Syntax.w32); ref = λ x. x }, (Num.vAt 4 λ x. x, tt)) (m5 (before· .before))
+        After-at·own = Called.Called ps·0 r·0 (claims· .1) T6 (record { pos = 2; ty = Syntax.tyRef (Syntax.named 1) Syntax.imm ty2; ref = λ x. x }, (Num.vAt 4 λ x. x, tt)) (m5 (before· .before))
 
       pub record After-at : Type 0 where
         pub before : In-loop
         pub at : After-at·own before
 
       abbrev pub After-at·gave : (c : After-at) → s5 .gives (m5 (c .before .before))
-      After-at·gave = λ c. Called.given ps·0 r·0 (claims· .1) T6 (record { pos = 2; ty = Syntax.tyRef (Syntax.named 1) Syntax.imm (Syntax.tyInt Syntax.w32); ref = λ x. x }, (Num.vAt 4 λ x. x, tt)) (m5 (c .before .before)) (c .at)
+      After-at·gave = λ c. Called.given ps·0 r·0 (claims· .1) T6 (record { pos = 2; ty = Syntax.tyRef (Syntax.named 1) Syntax.imm ty2; ref = λ x. x }, (Num.vAt 4 λ x. x, tt)) (m5 (c .before .before)) (c .at)
 
       abbrev pub m8 : (before : In-loop) → (given : s5 .gives (m5 (before .before))) → Typed.Mo T10
       m8 = λ before given. s6 .next (m7 before given)
@@ -840,7 +910,7 @@ module _ (claims· : Claims) where
         lay4 = λ c. (tt, (λ taken. lay5 record { before = record { before = c .before; at = c .at }; if1 = record { taken = Tests.eqb-true (Row.get 6 (T9 .locals) (m7 (c .before) (After-at·gave c))) (Row.get 4 (T9 .locals) (m7 (c .before) (After-at·gave c))) taken } }, λ left. lay8 record { before = record { before = c .before; at = c .at }; if1 = record { left = Tests.eqb-false (Row.get 6 (T9 .locals) (m7 (c .before) (After-at·gave c))) (Row.get 4 (T9 .locals) (m7 (c .before) (After-at·gave c))) left } }))
 
         lay3 : (c : In-loop) → at16 (W3 (c .before .before) (c .before .loop .x)) (m5 (c .before))
-        lay3 = λ c. (at-requires record { before = c .before; loop-test = c .loop-test }, λ g. lay4 record { before = record { before = c .before; loop-test = c .loop-test }; at = Called.called ps·0 r·0 (claims· .1) T6 (record { pos = 2; ty = Syntax.tyRef (Syntax.named 1) Syntax.imm (Syntax.tyInt Syntax.w32); ref = λ x. x }, (Num.vAt 4 λ x. x, tt)) (m5 (c .before)) g })
+        lay3 = λ c. (at-requires record { before = c .before; loop-test = c .loop-test }, λ g. lay4 record { before = record { before = c .before; loop-test = c .loop-test }; at = Called.called ps·0 r·0 (claims· .1) T6 (record { pos = 2; ty = Syntax.tyRef (Syntax.named 1) Syntax.imm ty2; ref = λ x. x }, (Num.vAt 4 λ x. x, tt)) (m5 (c .before)) g })
 
         lay2 : (c : After-loop) → at3 (W4 (c .before .before) (c .before .loop .x)) (m4 (c .before .before) (c .before .loop .x))
         lay2 = λ c. lay9 record { before = c .before; loop-test = c .loop-test }

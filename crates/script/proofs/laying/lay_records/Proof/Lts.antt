@@ -52,27 +52,172 @@ use mir.Syntax
 use mir.Val
 use prog.Wp
 use types.Kit
+use denote.RattleType
+
+abbrev rf0 : Referent.Rf
+rf0 = Referent.fInt Syntax.w8
+
+abbrev held0 : RattleType.RattleType
+held0 = Referent.rtF rf0
+
+abbrev ty0 : Syntax.Ty
+ty0 = Syntax.tyInt Syntax.w64
+
+abbrev ty1 : Syntax.Ty
+ty1 = Syntax.tyStruct (List._∷_ 115 (List._∷_ 99 (List._∷_ 114 (List._∷_ 105 (List._∷_ 112 (List._∷_ 116 (List._∷_ 58 (List._∷_ 58 (List._∷_ 114 (List._∷_ 101 (List._∷_ 99 (List._∷_ 111 (List._∷_ 114 (List._∷_ 100 (List._∷_ 115 (List._∷_ 58 (List._∷_ 58 (List._∷_ 82 (List._∷_ 101 (List._∷_ 99 (List._∷_ 111 (List._∷_ 114 (List._∷_ 100 List.[]))))))))))))))))))))))) (Syntax.tcons (Syntax.tyInt Syntax.w32) (Syntax.tcons Syntax.tyBool (Syntax.tcons ty0 (Syntax.tcons ty0 Syntax.tnil))))
+
+abbrev ty2 : Syntax.Ty
+ty2 = Syntax.tyRef Syntax.erased Syntax.mut Cell.behind
+
+abbrev ty3 : Syntax.Ty
+ty3 = Syntax.tyStruct (List._∷_ 38 (List._∷_ 91 (List._∷_ 93 List.[]))) (Syntax.tcons ty2 (Syntax.tcons ty0 Syntax.tnil))
+
+abbrev held1 : RattleType.RattleType
+held1 = Declared.row Record.the-type
+
+abbrev place0 : Syntax.Place
+place0 = Syntax.place 7 List.[]
+
+abbrev steps0 : List.List Syntax.Step
+steps0 = List._∷_ (Syntax.field 1) List.[]
+
+abbrev steps1 : List.List Syntax.Step
+steps1 = List._∷_ (Syntax.field 3) List.[]
+
+abbrev local0 : Row.Entry
+local0 = (0, Rows'.any-gone Syntax.tyUnit)
+
+abbrev ty4 : Syntax.Ty
+ty4 = Syntax.tyRef (Syntax.named 0) Syntax.mut Cell.behind
+
+abbrev local1 : Row.Entry
+local1 = (1, Mut.mslice Cell.R ty4 0)
+
+abbrev sc0 : Row.Sc
+sc0 = Row.sInt Syntax.w64
+
+abbrev local2 : Row.Entry
+local2 = (2, Rows'.sc-here sc0)
+
+abbrev ty5 : Syntax.Ty
+ty5 = Syntax.tyInt Syntax.w8
+
+abbrev ty6 : Syntax.Ty
+ty6 = Syntax.tyRef (Syntax.named 1) Syntax.imm ty5
+
+abbrev local3 : Row.Entry
+local3 = (3, Rows'.sslice held0 ty6 1)
+
+abbrev local4 : Row.Entry
+local4 = (4, Rows'.sc-here sc0)
+
+abbrev local5 : Row.Entry
+local5 = (5, Rows'.sc-here sc0)
+
+abbrev local6 : Row.Entry
+local6 = (6, Rows'.any-gone ty0)
+
+abbrev local7 : Row.Entry
+local7 = (9, Rows'.any-gone Syntax.tyBool)
+
+abbrev local8 : Row.Entry
+local8 = (10, Rows'.any-gone Syntax.tyUnit)
+
+abbrev local9 : Row.Entry
+local9 = (11, Rows'.any-gone ty2)
+
+abbrev locals0 : List.List Row.Entry
+locals0 = List._∷_ (13, Rows'.any-gone ty0) (List._∷_ (14, Rows'.any-gone Cell.held) List.[])
+
+abbrev locals1 : List.List Row.Entry
+locals1 = List._∷_ local8 (List._∷_ local9 (List._∷_ (12, Rows'.any-gone ty3) locals0))
+
+abbrev locals2 : List.List Row.Entry
+locals2 = List._∷_ (8, Rows'.any-gone ty1) (List._∷_ local7 locals1)
+
+abbrev locals3 : List.List Row.Entry
+locals3 = List._∷_ local6 (List._∷_ (7, Rows'.any-gone ty0) locals2)
+
+abbrev locals4 : List.List Row.Entry
+locals4 = List._∷_ local3 (List._∷_ local4 (List._∷_ local5 locals3))
+
+abbrev locals5 : List.List Row.Entry
+locals5 = List._∷_ local1 (List._∷_ local2 locals4)
+
+abbrev local10 : Row.Entry
+local10 = (0, Rows'.sc-here Row.sUnit)
+
+abbrev local11 : Row.Entry
+local11 = (6, Rows'.sc-here sc0)
+
+abbrev local12 : Row.Entry
+local12 = (7, Rows'.sc-here sc0)
+
+abbrev locals6 : List.List Row.Entry
+locals6 = List._∷_ local1 (List._∷_ local2 (List._∷_ local3 (List._∷_ local4 (List._∷_ local5 (List._∷_ local11 (List._∷_ local12 locals2))))))
+
+abbrev local13 : Row.Entry
+local13 = (8, Rows'.whole held1)
+
+abbrev locals7 : List.List Row.Entry
+locals7 = List._∷_ local12 (List._∷_ local13 (List._∷_ local7 locals1))
+
+abbrev local14 : Row.Entry
+local14 = (1, Relend.mslice-owed Cell.R ty4 0 2 Row.off)
+
+abbrev locals8 : List.List Row.Entry
+locals8 = List._∷_ local2 (List._∷_ local3 (List._∷_ local4 (List._∷_ local5 (List._∷_ local6 (List._∷_ local12 (List._∷_ local13 (List._∷_ local7 (List._∷_ local8 (List._∷_ (11, Relend.msptr Cell.R ty2 2) (List._∷_ (12, Rows'.any-gone ty3) locals0))))))))))
+
+abbrev local15 : Row.Entry
+local15 = (12, Mut.mslice Cell.R ty2 2)
+
+abbrev locals9 : List.List Row.Entry
+locals9 = List._∷_ local2 (List._∷_ local3 (List._∷_ local4 (List._∷_ local5 (List._∷_ local6 (List._∷_ local12 (List._∷_ local13 (List._∷_ local7 (List._∷_ local8 (List._∷_ local9 (List._∷_ local15 locals0))))))))))
+
+abbrev locals10 : List.List Row.Entry
+locals10 = List._∷_ local2 (List._∷_ local3 (List._∷_ local4 (List._∷_ local5 (List._∷_ local6 (List._∷_ local12 (List._∷_ local13 (List._∷_ local7 (List._∷_ local8 (List._∷_ local9 (List._∷_ local15 (List._∷_ (13, Rows'.sc-here sc0) (List._∷_ (14, Rows'.any-gone Cell.held) List.[]))))))))))))
+
+abbrev locals11 : List.List Row.Entry
+locals11 = List._∷_ (14, Cell.row) List.[]
+
+abbrev locals12 : List.List Row.Entry
+locals12 = List._∷_ local2 (List._∷_ local3 (List._∷_ local4 (List._∷_ local5 (List._∷_ local6 (List._∷_ local12 (List._∷_ local13 (List._∷_ local7 (List._∷_ local8 (List._∷_ local9 (List._∷_ local15 (List._∷_ (13, Rows'.sc-here sc0) locals11)))))))))))
+
+abbrev locals13 : List.List Row.Entry
+locals13 = List._∷_ local9 (List._∷_ (12, Mut.msleft Cell.R ty2) (List._∷_ (13, Rows'.sc-here sc0) locals11))
+
+abbrev locals14 : List.List Row.Entry
+locals14 = List._∷_ local2 (List._∷_ local3 (List._∷_ local4 (List._∷_ local5 (List._∷_ local6 (List._∷_ local12 (List._∷_ local13 (List._∷_ local7 (List._∷_ (10, Rows'.sc-here Row.sUnit) locals13))))))))
+
+abbrev locals15 : List.List Row.Entry
+locals15 = List._∷_ local2 (List._∷_ local3 (List._∷_ local4 (List._∷_ local5 (List._∷_ local6 (List._∷_ local12 (List._∷_ local13 (List._∷_ local7 (List._∷_ local8 locals13))))))))
+
+abbrev locals16 : List.List Row.Entry
+locals16 = List._∷_ local2 (List._∷_ local3 (List._∷_ local4 (List._∷_ local5 (List._∷_ local6 (List._∷_ local12 (List._∷_ local13 (List._∷_ local7 (List._∷_ local8 (List._∷_ local9 (List._∷_ (12, Mut.msleft Cell.R ty2) (List._∷_ (13, Rows'.any-gone ty0) locals11)))))))))))
+
+abbrev locals17 : List.List Row.Entry
+locals17 = List._∷_ local2 (List._∷_ local3 (List._∷_ local4 (List._∷_ local5 (List._∷_ local6 (List._∷_ local12 (List._∷_ local13 (List._∷_ local7 (List._∷_ local8 (List._∷_ local9 (List._∷_ (12, Mut.msleft Cell.R ty2) locals0))))))))))
 
 abbrev pub ps : List.List (Kinds.PK 2)
-ps = List._∷_ (MutSlice.pMutS Cell.R 0 tt) (List._∷_ (Num.pNum Syntax.w64) (List._∷_ (ShrSlice.pShrS (Referent.rtF (Referent.fInt Syntax.w8)) 1 tt) (List._∷_ (Num.pNum Syntax.w64) (List._∷_ (Num.pNum Syntax.w64) List.[]))))
+ps = List._∷_ (MutSlice.pMutS Cell.R 0 tt) (List._∷_ (Num.pNum Syntax.w64) (List._∷_ (ShrSlice.pShrS held0 1 tt) (List._∷_ (Num.pNum Syntax.w64) (List._∷_ (Num.pNum Syntax.w64) List.[]))))
 
 abbrev pub r : Kinds.RK 2
 r = Unit'.rUnit
 
 abbrev pub xs : List.List Syntax.Ty
-xs = List._∷_ (Syntax.tyInt Syntax.w64) (List._∷_ (Syntax.tyInt Syntax.w64) (List._∷_ (Syntax.tyStruct (List._∷_ 115 (List._∷_ 99 (List._∷_ 114 (List._∷_ 105 (List._∷_ 112 (List._∷_ 116 (List._∷_ 58 (List._∷_ 58 (List._∷_ 114 (List._∷_ 101 (List._∷_ 99 (List._∷_ 111 (List._∷_ 114 (List._∷_ 100 (List._∷_ 115 (List._∷_ 58 (List._∷_ 58 (List._∷_ 82 (List._∷_ 101 (List._∷_ 99 (List._∷_ 111 (List._∷_ 114 (List._∷_ 100 List.[]))))))))))))))))))))))) (Syntax.tcons (Syntax.tyInt Syntax.w32) (Syntax.tcons Syntax.tyBool (Syntax.tcons (Syntax.tyInt Syntax.w64) (Syntax.tcons (Syntax.tyInt Syntax.w64) Syntax.tnil))))) (List._∷_ Syntax.tyBool (List._∷_ Syntax.tyUnit (List._∷_ (Syntax.tyRef Syntax.erased Syntax.mut Cell.behind) (List._∷_ (Syntax.tyStruct (List._∷_ 38 (List._∷_ 91 (List._∷_ 93 List.[]))) (Syntax.tcons (Syntax.tyRef Syntax.erased Syntax.mut Cell.behind) (Syntax.tcons (Syntax.tyInt Syntax.w64) Syntax.tnil))) (List._∷_ (Syntax.tyInt Syntax.w64) (List._∷_ Cell.held List.[]))))))))
+xs = List._∷_ ty0 (List._∷_ ty0 (List._∷_ ty1 (List._∷_ Syntax.tyBool (List._∷_ Syntax.tyUnit (List._∷_ ty2 (List._∷_ ty3 (List._∷_ ty0 (List._∷_ Cell.held List.[]))))))))
 
 abbrev pub m : Nat.ℕ
 m = 1
 
 abbrev pub ps·0 : List.List (Kinds.PK 1)
-ps·0 = List._∷_ (ShrSlice.pShrS (Referent.rtF (Referent.fInt Syntax.w8)) 0 tt) (List._∷_ (Num.pNum Syntax.w64) List.[])
+ps·0 = List._∷_ (ShrSlice.pShrS held0 0 tt) (List._∷_ (Num.pNum Syntax.w64) List.[])
 
 abbrev pub r·0 : Kinds.RK 1
-r·0 = Value.rVal record { ty = Declared.row Record.the-type; one = Path'.refl; val = Laws'.val Record.the-type Laws.the-laws; tells = Laws'.tells Record.the-type Laws.the-laws; still = Laws'.still Record.the-type Laws.the-copy Exit.yes; row = Rows'.whole (Declared.row Record.the-type); rd = λ x. x; mk = λ x. x } λ M 𝓤 H A W. record { copies = Laws'.copy Record.the-type Laws.the-copy 𝓤 H A W; lawful = Laws'.lawful Record.the-type Laws.the-laws 𝓤 H A W; makes = Laws'.makes Record.the-type Laws.the-plain 𝓤 H A; in-mem = Local.mem-whole 𝓤 H A W (Declared.row Record.the-type); of-mem = Local.whole-mem 𝓤 H A W (Declared.row Record.the-type) }
+r·0 = Value.rVal record { ty = Declared.row Record.the-type; one = Path'.refl; val = Laws'.val Record.the-type Laws.the-laws; tells = Laws'.tells Record.the-type Laws.the-laws; still = Laws'.still Record.the-type Laws.the-copy Exit.yes; row = Rows'.whole held1; rd = λ x. x; mk = λ x. x } λ M 𝓤 H A W. record { copies = Laws'.copy Record.the-type Laws.the-copy 𝓤 H A W; lawful = Laws'.lawful Record.the-type Laws.the-laws 𝓤 H A W; makes = Laws'.makes Record.the-type Laws.the-plain 𝓤 H A; in-mem = Local.mem-whole 𝓤 H A W held1; of-mem = Local.whole-mem 𝓤 H A W held1 }
 
 abbrev pub ps·1 : List.List (Kinds.PK 0)
-ps·1 = List._∷_ (Value.pVal record { ty = Declared.row Record.the-type; one = Path'.refl; val = Laws'.val Record.the-type Laws.the-laws; tells = Laws'.tells Record.the-type Laws.the-laws; still = Laws'.still Record.the-type Laws.the-copy Exit.yes; row = Rows'.whole (Declared.row Record.the-type); rd = λ x. x; mk = λ x. x } λ M 𝓤 H A W. record { copies = Laws'.copy Record.the-type Laws.the-copy 𝓤 H A W; lawful = Laws'.lawful Record.the-type Laws.the-laws 𝓤 H A W; makes = Laws'.makes Record.the-type Laws.the-plain 𝓤 H A; in-mem = Local.mem-whole 𝓤 H A W (Declared.row Record.the-type); of-mem = Local.whole-mem 𝓤 H A W (Declared.row Record.the-type) }) List.[]
+ps·1 = List._∷_ (Value.pVal record { ty = Declared.row Record.the-type; one = Path'.refl; val = Laws'.val Record.the-type Laws.the-laws; tells = Laws'.tells Record.the-type Laws.the-laws; still = Laws'.still Record.the-type Laws.the-copy Exit.yes; row = Rows'.whole held1; rd = λ x. x; mk = λ x. x } λ M 𝓤 H A W. record { copies = Laws'.copy Record.the-type Laws.the-copy 𝓤 H A W; lawful = Laws'.lawful Record.the-type Laws.the-laws 𝓤 H A W; makes = Laws'.makes Record.the-type Laws.the-plain 𝓤 H A; in-mem = Local.mem-whole 𝓤 H A W held1; of-mem = Local.whole-mem 𝓤 H A W held1 }) List.[]
 
 abbrev pub r·1 : Kinds.RK 0
 r·1 = Cell.result
@@ -90,10 +235,10 @@ abbrev b0 : Syntax.Body
 b0 = Syntax.assign (Syntax.place 6 List.[]) (Syntax.rvOpd (Syntax.copy (Syntax.place 4 List.[])))
 
 abbrev b1 : Syntax.Body
-b1 = Syntax.assign (Syntax.place 7 List.[]) (Syntax.rvOpd (Syntax.int Syntax.w64 0))
+b1 = Syntax.assign place0 (Syntax.rvOpd (Syntax.int Syntax.w64 0))
 
 abbrev b2 : Syntax.Body
-b2 = Syntax.assign (Syntax.place 9 List.[]) (Syntax.op2 (Syntax.lt Syntax.unsigned) (Syntax.copy (Syntax.place 7 List.[])) (Syntax.copy (Syntax.place 5 List.[])))
+b2 = Syntax.assign (Syntax.place 9 List.[]) (Syntax.op2 (Syntax.lt Syntax.unsigned) (Syntax.copy place0) (Syntax.copy (Syntax.place 5 List.[])))
 
 abbrev b3 : Syntax.Body
 b3 = Syntax.skip
@@ -111,10 +256,10 @@ abbrev b7 : Syntax.Body
 b7 = Syntax.assign (Syntax.place 11 List.[]) (Syntax.addrOf (Syntax.place 1 (List._∷_ (Syntax.field 0) (List._∷_ (Syntax.deref Cell.held) List.[]))))
 
 abbrev b8 : Syntax.Body
-b8 = Syntax.assign (Syntax.place 12 List.[]) (Syntax.aggregate (List._∷_ (Syntax.copy (Syntax.place 11 List.[])) (List._∷_ (Syntax.copy (Syntax.place 1 (List._∷_ (Syntax.field 1) List.[]))) List.[])))
+b8 = Syntax.assign (Syntax.place 12 List.[]) (Syntax.aggregate (List._∷_ (Syntax.copy (Syntax.place 11 List.[])) (List._∷_ (Syntax.copy (Syntax.place 1 steps0)) List.[])))
 
 abbrev b9 : Syntax.Body
-b9 = Syntax.assign (Syntax.place 13 List.[]) (Syntax.op2 (Syntax.add Syntax.unsigned) (Syntax.copy (Syntax.place 2 List.[])) (Syntax.copy (Syntax.place 7 List.[])))
+b9 = Syntax.assign (Syntax.place 13 List.[]) (Syntax.op2 (Syntax.add Syntax.unsigned) (Syntax.copy (Syntax.place 2 List.[])) (Syntax.copy place0))
 
 abbrev b10 : Syntax.Body
 b10 = Syntax.call "script::records::zone" (List._∷_ (Syntax.copy (Syntax.place 8 List.[])) List.[]) (Syntax.place 14 List.[])
@@ -123,10 +268,10 @@ abbrev b11 : Syntax.Body
 b11 = Syntax.call "sheets::thin::put_record" (List._∷_ (Syntax.copy (Syntax.place 12 List.[])) (List._∷_ (Syntax.copy (Syntax.place 13 List.[])) (List._∷_ (Syntax.copy (Syntax.place 14 List.[])) List.[]))) (Syntax.place 10 List.[])
 
 abbrev b12 : Syntax.Body
-b12 = Syntax.assign (Syntax.place 6 List.[]) (Syntax.rvOpd (Syntax.copy (Syntax.place 8 (List._∷_ (Syntax.field 3) List.[]))))
+b12 = Syntax.assign (Syntax.place 6 List.[]) (Syntax.rvOpd (Syntax.copy (Syntax.place 8 steps1)))
 
 abbrev b13 : Syntax.Body
-b13 = Syntax.assign (Syntax.place 7 List.[]) (Syntax.op2 (Syntax.add Syntax.unsigned) (Syntax.copy (Syntax.place 7 List.[])) (Syntax.int Syntax.w64 1))
+b13 = Syntax.assign place0 (Syntax.op2 (Syntax.add Syntax.unsigned) (Syntax.copy place0) (Syntax.int Syntax.w64 1))
 
 abbrev b14 : Syntax.Body
 b14 = Syntax.seq b12 b13
@@ -186,64 +331,64 @@ abbrev pub Claims : Type 1
 Claims = Kinds.In 1 ps·0 × Kinds.Out 1 ps·0 r·0 × Kinds.In 0 ps·1 × Kinds.Out 0 ps·1 r·1 × Kinds.In 1 ps·2 × Kinds.Out 1 ps·2 r·2
 
 abbrev pub t0 : List.List Row.Entry
-t0 = List._∷_ (0, Rows'.any-gone Syntax.tyUnit) (List._∷_ (1, Mut.mslice Cell.R (Syntax.tyRef (Syntax.named 0) Syntax.mut Cell.behind) 0) (List._∷_ (2, Rows'.sc-here (Row.sInt Syntax.w64)) (List._∷_ (3, Rows'.sslice (Referent.rtF (Referent.fInt Syntax.w8)) (Syntax.tyRef (Syntax.named 1) Syntax.imm (Syntax.tyInt Syntax.w8)) 1) (List._∷_ (4, Rows'.sc-here (Row.sInt Syntax.w64)) (List._∷_ (5, Rows'.sc-here (Row.sInt Syntax.w64)) (List._∷_ (6, Rows'.any-gone (Syntax.tyInt Syntax.w64)) (List._∷_ (7, Rows'.any-gone (Syntax.tyInt Syntax.w64)) (List._∷_ (8, Rows'.any-gone (Syntax.tyStruct (List._∷_ 115 (List._∷_ 99 (List._∷_ 114 (List._∷_ 105 (List._∷_ 112 (List._∷_ 116 (List._∷_ 58 (List._∷_ 58 (List._∷_ 114 (List._∷_ 101 (List._∷_ 99 (List._∷_ 111 (List._∷_ 114 (List._∷_ 100 (List._∷_ 115 (List._∷_ 58 (List._∷_ 58 (List._∷_ 82 (List._∷_ 101 (List._∷_ 99 (List._∷_ 111 (List._∷_ 114 (List._∷_ 100 List.[]))))))))))))))))))))))) (Syntax.tcons (Syntax.tyInt Syntax.w32) (Syntax.tcons Syntax.tyBool (Syntax.tcons (Syntax.tyInt Syntax.w64) (Syntax.tcons (Syntax.tyInt Syntax.w64) Syntax.tnil)))))) (List._∷_ (9, Rows'.any-gone Syntax.tyBool) (List._∷_ (10, Rows'.any-gone Syntax.tyUnit) (List._∷_ (11, Rows'.any-gone (Syntax.tyRef Syntax.erased Syntax.mut Cell.behind)) (List._∷_ (12, Rows'.any-gone (Syntax.tyStruct (List._∷_ 38 (List._∷_ 91 (List._∷_ 93 List.[]))) (Syntax.tcons (Syntax.tyRef Syntax.erased Syntax.mut Cell.behind) (Syntax.tcons (Syntax.tyInt Syntax.w64) Syntax.tnil)))) (List._∷_ (13, Rows'.any-gone (Syntax.tyInt Syntax.w64)) (List._∷_ (14, Rows'.any-gone Cell.held) List.[]))))))))))))))
+t0 = List._∷_ local0 locals5
 
 abbrev pub t1 : List.List Row.Entry
-t1 = List._∷_ (0, Rows'.sc-here Row.sUnit) (List._∷_ (1, Mut.mslice Cell.R (Syntax.tyRef (Syntax.named 0) Syntax.mut Cell.behind) 0) (List._∷_ (2, Rows'.any-gone (Syntax.tyInt Syntax.w64)) (List._∷_ (3, Rows'.sslice (Referent.rtF (Referent.fInt Syntax.w8)) (Syntax.tyRef (Syntax.named 1) Syntax.imm (Syntax.tyInt Syntax.w8)) 1) (List._∷_ (4, Rows'.any-gone (Syntax.tyInt Syntax.w64)) (List._∷_ (5, Rows'.any-gone (Syntax.tyInt Syntax.w64)) (List._∷_ (6, Rows'.any-gone (Syntax.tyInt Syntax.w64)) (List._∷_ (7, Rows'.any-gone (Syntax.tyInt Syntax.w64)) (List._∷_ (8, Rows'.any-gone (Syntax.tyStruct (List._∷_ 115 (List._∷_ 99 (List._∷_ 114 (List._∷_ 105 (List._∷_ 112 (List._∷_ 116 (List._∷_ 58 (List._∷_ 58 (List._∷_ 114 (List._∷_ 101 (List._∷_ 99 (List._∷_ 111 (List._∷_ 114 (List._∷_ 100 (List._∷_ 115 (List._∷_ 58 (List._∷_ 58 (List._∷_ 82 (List._∷_ 101 (List._∷_ 99 (List._∷_ 111 (List._∷_ 114 (List._∷_ 100 List.[]))))))))))))))))))))))) (Syntax.tcons (Syntax.tyInt Syntax.w32) (Syntax.tcons Syntax.tyBool (Syntax.tcons (Syntax.tyInt Syntax.w64) (Syntax.tcons (Syntax.tyInt Syntax.w64) Syntax.tnil)))))) (List._∷_ (9, Rows'.any-gone Syntax.tyBool) (List._∷_ (10, Rows'.any-gone Syntax.tyUnit) (List._∷_ (11, Rows'.any-gone (Syntax.tyRef Syntax.erased Syntax.mut Cell.behind)) (List._∷_ (12, Rows'.any-gone (Syntax.tyStruct (List._∷_ 38 (List._∷_ 91 (List._∷_ 93 List.[]))) (Syntax.tcons (Syntax.tyRef Syntax.erased Syntax.mut Cell.behind) (Syntax.tcons (Syntax.tyInt Syntax.w64) Syntax.tnil)))) (List._∷_ (13, Rows'.any-gone (Syntax.tyInt Syntax.w64)) (List._∷_ (14, Rows'.any-gone Cell.held) List.[]))))))))))))))
+t1 = List._∷_ local10 (List._∷_ local1 (List._∷_ (2, Rows'.any-gone ty0) (List._∷_ local3 (List._∷_ (4, Rows'.any-gone ty0) (List._∷_ (5, Rows'.any-gone ty0) locals3)))))
 
 abbrev pub t2 : List.List Row.Entry
-t2 = List._∷_ (0, Rows'.any-gone Syntax.tyUnit) (List._∷_ (1, Mut.mslice Cell.R (Syntax.tyRef (Syntax.named 0) Syntax.mut Cell.behind) 0) (List._∷_ (2, Rows'.sc-here (Row.sInt Syntax.w64)) (List._∷_ (3, Rows'.sslice (Referent.rtF (Referent.fInt Syntax.w8)) (Syntax.tyRef (Syntax.named 1) Syntax.imm (Syntax.tyInt Syntax.w8)) 1) (List._∷_ (4, Rows'.sc-here (Row.sInt Syntax.w64)) (List._∷_ (5, Rows'.sc-here (Row.sInt Syntax.w64)) (List._∷_ (6, Rows'.sc-here (Row.sInt Syntax.w64)) (List._∷_ (7, Rows'.any-gone (Syntax.tyInt Syntax.w64)) (List._∷_ (8, Rows'.any-gone (Syntax.tyStruct (List._∷_ 115 (List._∷_ 99 (List._∷_ 114 (List._∷_ 105 (List._∷_ 112 (List._∷_ 116 (List._∷_ 58 (List._∷_ 58 (List._∷_ 114 (List._∷_ 101 (List._∷_ 99 (List._∷_ 111 (List._∷_ 114 (List._∷_ 100 (List._∷_ 115 (List._∷_ 58 (List._∷_ 58 (List._∷_ 82 (List._∷_ 101 (List._∷_ 99 (List._∷_ 111 (List._∷_ 114 (List._∷_ 100 List.[]))))))))))))))))))))))) (Syntax.tcons (Syntax.tyInt Syntax.w32) (Syntax.tcons Syntax.tyBool (Syntax.tcons (Syntax.tyInt Syntax.w64) (Syntax.tcons (Syntax.tyInt Syntax.w64) Syntax.tnil)))))) (List._∷_ (9, Rows'.any-gone Syntax.tyBool) (List._∷_ (10, Rows'.any-gone Syntax.tyUnit) (List._∷_ (11, Rows'.any-gone (Syntax.tyRef Syntax.erased Syntax.mut Cell.behind)) (List._∷_ (12, Rows'.any-gone (Syntax.tyStruct (List._∷_ 38 (List._∷_ 91 (List._∷_ 93 List.[]))) (Syntax.tcons (Syntax.tyRef Syntax.erased Syntax.mut Cell.behind) (Syntax.tcons (Syntax.tyInt Syntax.w64) Syntax.tnil)))) (List._∷_ (13, Rows'.any-gone (Syntax.tyInt Syntax.w64)) (List._∷_ (14, Rows'.any-gone Cell.held) List.[]))))))))))))))
+t2 = List._∷_ local0 (List._∷_ local1 (List._∷_ local2 (List._∷_ local3 (List._∷_ local4 (List._∷_ local5 (List._∷_ local11 (List._∷_ (7, Rows'.any-gone ty0) locals2)))))))
 
 abbrev pub t3 : List.List Row.Entry
-t3 = List._∷_ (0, Rows'.any-gone Syntax.tyUnit) (List._∷_ (1, Mut.mslice Cell.R (Syntax.tyRef (Syntax.named 0) Syntax.mut Cell.behind) 0) (List._∷_ (2, Rows'.sc-here (Row.sInt Syntax.w64)) (List._∷_ (3, Rows'.sslice (Referent.rtF (Referent.fInt Syntax.w8)) (Syntax.tyRef (Syntax.named 1) Syntax.imm (Syntax.tyInt Syntax.w8)) 1) (List._∷_ (4, Rows'.sc-here (Row.sInt Syntax.w64)) (List._∷_ (5, Rows'.sc-here (Row.sInt Syntax.w64)) (List._∷_ (6, Rows'.sc-here (Row.sInt Syntax.w64)) (List._∷_ (7, Rows'.sc-here (Row.sInt Syntax.w64)) (List._∷_ (8, Rows'.any-gone (Syntax.tyStruct (List._∷_ 115 (List._∷_ 99 (List._∷_ 114 (List._∷_ 105 (List._∷_ 112 (List._∷_ 116 (List._∷_ 58 (List._∷_ 58 (List._∷_ 114 (List._∷_ 101 (List._∷_ 99 (List._∷_ 111 (List._∷_ 114 (List._∷_ 100 (List._∷_ 115 (List._∷_ 58 (List._∷_ 58 (List._∷_ 82 (List._∷_ 101 (List._∷_ 99 (List._∷_ 111 (List._∷_ 114 (List._∷_ 100 List.[]))))))))))))))))))))))) (Syntax.tcons (Syntax.tyInt Syntax.w32) (Syntax.tcons Syntax.tyBool (Syntax.tcons (Syntax.tyInt Syntax.w64) (Syntax.tcons (Syntax.tyInt Syntax.w64) Syntax.tnil)))))) (List._∷_ (9, Rows'.any-gone Syntax.tyBool) (List._∷_ (10, Rows'.any-gone Syntax.tyUnit) (List._∷_ (11, Rows'.any-gone (Syntax.tyRef Syntax.erased Syntax.mut Cell.behind)) (List._∷_ (12, Rows'.any-gone (Syntax.tyStruct (List._∷_ 38 (List._∷_ 91 (List._∷_ 93 List.[]))) (Syntax.tcons (Syntax.tyRef Syntax.erased Syntax.mut Cell.behind) (Syntax.tcons (Syntax.tyInt Syntax.w64) Syntax.tnil)))) (List._∷_ (13, Rows'.any-gone (Syntax.tyInt Syntax.w64)) (List._∷_ (14, Rows'.any-gone Cell.held) List.[]))))))))))))))
+t3 = List._∷_ local0 locals6
 
 abbrev pub t4 : List.List Row.Entry
-t4 = List._∷_ (0, Rows'.any-gone Syntax.tyUnit) (List._∷_ (1, Mut.mslice Cell.R (Syntax.tyRef (Syntax.named 0) Syntax.mut Cell.behind) 0) (List._∷_ (2, Rows'.sc-here (Row.sInt Syntax.w64)) (List._∷_ (3, Rows'.sslice (Referent.rtF (Referent.fInt Syntax.w8)) (Syntax.tyRef (Syntax.named 1) Syntax.imm (Syntax.tyInt Syntax.w8)) 1) (List._∷_ (4, Rows'.sc-here (Row.sInt Syntax.w64)) (List._∷_ (5, Rows'.sc-here (Row.sInt Syntax.w64)) (List._∷_ (6, Rows'.sc-here (Row.sInt Syntax.w64)) (List._∷_ (7, Rows'.sc-here (Row.sInt Syntax.w64)) (List._∷_ (8, Rows'.any-gone (Syntax.tyStruct (List._∷_ 115 (List._∷_ 99 (List._∷_ 114 (List._∷_ 105 (List._∷_ 112 (List._∷_ 116 (List._∷_ 58 (List._∷_ 58 (List._∷_ 114 (List._∷_ 101 (List._∷_ 99 (List._∷_ 111 (List._∷_ 114 (List._∷_ 100 (List._∷_ 115 (List._∷_ 58 (List._∷_ 58 (List._∷_ 82 (List._∷_ 101 (List._∷_ 99 (List._∷_ 111 (List._∷_ 114 (List._∷_ 100 List.[]))))))))))))))))))))))) (Syntax.tcons (Syntax.tyInt Syntax.w32) (Syntax.tcons Syntax.tyBool (Syntax.tcons (Syntax.tyInt Syntax.w64) (Syntax.tcons (Syntax.tyInt Syntax.w64) Syntax.tnil)))))) (List._∷_ (9, Rows'.sc-here Row.sBool) (List._∷_ (10, Rows'.any-gone Syntax.tyUnit) (List._∷_ (11, Rows'.any-gone (Syntax.tyRef Syntax.erased Syntax.mut Cell.behind)) (List._∷_ (12, Rows'.any-gone (Syntax.tyStruct (List._∷_ 38 (List._∷_ 91 (List._∷_ 93 List.[]))) (Syntax.tcons (Syntax.tyRef Syntax.erased Syntax.mut Cell.behind) (Syntax.tcons (Syntax.tyInt Syntax.w64) Syntax.tnil)))) (List._∷_ (13, Rows'.any-gone (Syntax.tyInt Syntax.w64)) (List._∷_ (14, Rows'.any-gone Cell.held) List.[]))))))))))))))
+t4 = List._∷_ local0 (List._∷_ local1 (List._∷_ local2 (List._∷_ local3 (List._∷_ local4 (List._∷_ local5 (List._∷_ local11 (List._∷_ local12 (List._∷_ (8, Rows'.any-gone ty1) (List._∷_ (9, Rows'.sc-here Row.sBool) locals1)))))))))
 
 abbrev pub t5 : List.List Row.Entry
-t5 = List._∷_ (0, Rows'.any-gone Syntax.tyUnit) (List._∷_ (1, Mut.mslice Cell.R (Syntax.tyRef (Syntax.named 0) Syntax.mut Cell.behind) 0) (List._∷_ (2, Rows'.sc-here (Row.sInt Syntax.w64)) (List._∷_ (3, Rows'.sslice (Referent.rtF (Referent.fInt Syntax.w8)) (Syntax.tyRef (Syntax.named 1) Syntax.imm (Syntax.tyInt Syntax.w8)) 1) (List._∷_ (4, Rows'.sc-here (Row.sInt Syntax.w64)) (List._∷_ (5, Rows'.sc-here (Row.sInt Syntax.w64)) (List._∷_ (6, Rows'.sc-here (Row.sInt Syntax.w64)) (List._∷_ (7, Rows'.sc-here (Row.sInt Syntax.w64)) (List._∷_ (8, Rows'.whole (Declared.row Record.the-type)) (List._∷_ (9, Rows'.any-gone Syntax.tyBool) (List._∷_ (10, Rows'.any-gone Syntax.tyUnit) (List._∷_ (11, Rows'.any-gone (Syntax.tyRef Syntax.erased Syntax.mut Cell.behind)) (List._∷_ (12, Rows'.any-gone (Syntax.tyStruct (List._∷_ 38 (List._∷_ 91 (List._∷_ 93 List.[]))) (Syntax.tcons (Syntax.tyRef Syntax.erased Syntax.mut Cell.behind) (Syntax.tcons (Syntax.tyInt Syntax.w64) Syntax.tnil)))) (List._∷_ (13, Rows'.any-gone (Syntax.tyInt Syntax.w64)) (List._∷_ (14, Rows'.any-gone Cell.held) List.[]))))))))))))))
+t5 = List._∷_ local0 (List._∷_ local1 (List._∷_ local2 (List._∷_ local3 (List._∷_ local4 (List._∷_ local5 (List._∷_ local11 locals7))))))
 
 abbrev pub t6 : List.List Row.Entry
-t6 = List._∷_ (0, Rows'.any-gone Syntax.tyUnit) (List._∷_ (1, Mut.mslice Cell.R (Syntax.tyRef (Syntax.named 0) Syntax.mut Cell.behind) 0) (List._∷_ (2, Rows'.sc-here (Row.sInt Syntax.w64)) (List._∷_ (3, Rows'.sslice (Referent.rtF (Referent.fInt Syntax.w8)) (Syntax.tyRef (Syntax.named 1) Syntax.imm (Syntax.tyInt Syntax.w8)) 1) (List._∷_ (4, Rows'.sc-here (Row.sInt Syntax.w64)) (List._∷_ (5, Rows'.sc-here (Row.sInt Syntax.w64)) (List._∷_ (6, Rows'.any-gone (Syntax.tyInt Syntax.w64)) (List._∷_ (7, Rows'.sc-here (Row.sInt Syntax.w64)) (List._∷_ (8, Rows'.whole (Declared.row Record.the-type)) (List._∷_ (9, Rows'.any-gone Syntax.tyBool) (List._∷_ (10, Rows'.any-gone Syntax.tyUnit) (List._∷_ (11, Rows'.any-gone (Syntax.tyRef Syntax.erased Syntax.mut Cell.behind)) (List._∷_ (12, Rows'.any-gone (Syntax.tyStruct (List._∷_ 38 (List._∷_ 91 (List._∷_ 93 List.[]))) (Syntax.tcons (Syntax.tyRef Syntax.erased Syntax.mut Cell.behind) (Syntax.tcons (Syntax.tyInt Syntax.w64) Syntax.tnil)))) (List._∷_ (13, Rows'.any-gone (Syntax.tyInt Syntax.w64)) (List._∷_ (14, Rows'.any-gone Cell.held) List.[]))))))))))))))
+t6 = List._∷_ local0 (List._∷_ local1 (List._∷_ local2 (List._∷_ local3 (List._∷_ local4 (List._∷_ local5 (List._∷_ local6 locals7))))))
 
 abbrev pub t7 : List.List Row.Entry
-t7 = List._∷_ (0, Rows'.any-gone Syntax.tyUnit) (List._∷_ (1, Relend.mslice-owed Cell.R (Syntax.tyRef (Syntax.named 0) Syntax.mut Cell.behind) 0 2 Row.off) (List._∷_ (2, Rows'.sc-here (Row.sInt Syntax.w64)) (List._∷_ (3, Rows'.sslice (Referent.rtF (Referent.fInt Syntax.w8)) (Syntax.tyRef (Syntax.named 1) Syntax.imm (Syntax.tyInt Syntax.w8)) 1) (List._∷_ (4, Rows'.sc-here (Row.sInt Syntax.w64)) (List._∷_ (5, Rows'.sc-here (Row.sInt Syntax.w64)) (List._∷_ (6, Rows'.any-gone (Syntax.tyInt Syntax.w64)) (List._∷_ (7, Rows'.sc-here (Row.sInt Syntax.w64)) (List._∷_ (8, Rows'.whole (Declared.row Record.the-type)) (List._∷_ (9, Rows'.any-gone Syntax.tyBool) (List._∷_ (10, Rows'.any-gone Syntax.tyUnit) (List._∷_ (11, Relend.msptr Cell.R (Syntax.tyRef Syntax.erased Syntax.mut Cell.behind) 2) (List._∷_ (12, Rows'.any-gone (Syntax.tyStruct (List._∷_ 38 (List._∷_ 91 (List._∷_ 93 List.[]))) (Syntax.tcons (Syntax.tyRef Syntax.erased Syntax.mut Cell.behind) (Syntax.tcons (Syntax.tyInt Syntax.w64) Syntax.tnil)))) (List._∷_ (13, Rows'.any-gone (Syntax.tyInt Syntax.w64)) (List._∷_ (14, Rows'.any-gone Cell.held) List.[]))))))))))))))
+t7 = List._∷_ local0 (List._∷_ local14 locals8)
 
 abbrev pub t8 : List.List Row.Entry
-t8 = List._∷_ (0, Rows'.any-gone Syntax.tyUnit) (List._∷_ (1, Relend.mslice-owed Cell.R (Syntax.tyRef (Syntax.named 0) Syntax.mut Cell.behind) 0 2 Row.off) (List._∷_ (2, Rows'.sc-here (Row.sInt Syntax.w64)) (List._∷_ (3, Rows'.sslice (Referent.rtF (Referent.fInt Syntax.w8)) (Syntax.tyRef (Syntax.named 1) Syntax.imm (Syntax.tyInt Syntax.w8)) 1) (List._∷_ (4, Rows'.sc-here (Row.sInt Syntax.w64)) (List._∷_ (5, Rows'.sc-here (Row.sInt Syntax.w64)) (List._∷_ (6, Rows'.any-gone (Syntax.tyInt Syntax.w64)) (List._∷_ (7, Rows'.sc-here (Row.sInt Syntax.w64)) (List._∷_ (8, Rows'.whole (Declared.row Record.the-type)) (List._∷_ (9, Rows'.any-gone Syntax.tyBool) (List._∷_ (10, Rows'.any-gone Syntax.tyUnit) (List._∷_ (11, Rows'.any-gone (Syntax.tyRef Syntax.erased Syntax.mut Cell.behind)) (List._∷_ (12, Mut.mslice Cell.R (Syntax.tyRef Syntax.erased Syntax.mut Cell.behind) 2) (List._∷_ (13, Rows'.any-gone (Syntax.tyInt Syntax.w64)) (List._∷_ (14, Rows'.any-gone Cell.held) List.[]))))))))))))))
+t8 = List._∷_ local0 (List._∷_ local14 locals9)
 
 abbrev pub t9 : List.List Row.Entry
-t9 = List._∷_ (0, Rows'.any-gone Syntax.tyUnit) (List._∷_ (1, Relend.mslice-owed Cell.R (Syntax.tyRef (Syntax.named 0) Syntax.mut Cell.behind) 0 2 Row.off) (List._∷_ (2, Rows'.sc-here (Row.sInt Syntax.w64)) (List._∷_ (3, Rows'.sslice (Referent.rtF (Referent.fInt Syntax.w8)) (Syntax.tyRef (Syntax.named 1) Syntax.imm (Syntax.tyInt Syntax.w8)) 1) (List._∷_ (4, Rows'.sc-here (Row.sInt Syntax.w64)) (List._∷_ (5, Rows'.sc-here (Row.sInt Syntax.w64)) (List._∷_ (6, Rows'.any-gone (Syntax.tyInt Syntax.w64)) (List._∷_ (7, Rows'.sc-here (Row.sInt Syntax.w64)) (List._∷_ (8, Rows'.whole (Declared.row Record.the-type)) (List._∷_ (9, Rows'.any-gone Syntax.tyBool) (List._∷_ (10, Rows'.any-gone Syntax.tyUnit) (List._∷_ (11, Rows'.any-gone (Syntax.tyRef Syntax.erased Syntax.mut Cell.behind)) (List._∷_ (12, Mut.mslice Cell.R (Syntax.tyRef Syntax.erased Syntax.mut Cell.behind) 2) (List._∷_ (13, Rows'.sc-here (Row.sInt Syntax.w64)) (List._∷_ (14, Rows'.any-gone Cell.held) List.[]))))))))))))))
+t9 = List._∷_ local0 (List._∷_ local14 locals10)
 
 abbrev pub t10 : List.List Row.Entry
-t10 = List._∷_ (0, Rows'.any-gone Syntax.tyUnit) (List._∷_ (1, Relend.mslice-owed Cell.R (Syntax.tyRef (Syntax.named 0) Syntax.mut Cell.behind) 0 2 Row.off) (List._∷_ (2, Rows'.sc-here (Row.sInt Syntax.w64)) (List._∷_ (3, Rows'.sslice (Referent.rtF (Referent.fInt Syntax.w8)) (Syntax.tyRef (Syntax.named 1) Syntax.imm (Syntax.tyInt Syntax.w8)) 1) (List._∷_ (4, Rows'.sc-here (Row.sInt Syntax.w64)) (List._∷_ (5, Rows'.sc-here (Row.sInt Syntax.w64)) (List._∷_ (6, Rows'.any-gone (Syntax.tyInt Syntax.w64)) (List._∷_ (7, Rows'.sc-here (Row.sInt Syntax.w64)) (List._∷_ (8, Rows'.whole (Declared.row Record.the-type)) (List._∷_ (9, Rows'.any-gone Syntax.tyBool) (List._∷_ (10, Rows'.any-gone Syntax.tyUnit) (List._∷_ (11, Rows'.any-gone (Syntax.tyRef Syntax.erased Syntax.mut Cell.behind)) (List._∷_ (12, Mut.mslice Cell.R (Syntax.tyRef Syntax.erased Syntax.mut Cell.behind) 2) (List._∷_ (13, Rows'.sc-here (Row.sInt Syntax.w64)) (List._∷_ (14, Cell.row) List.[]))))))))))))))
+t10 = List._∷_ local0 (List._∷_ local14 locals12)
 
 abbrev pub t11 : List.List Row.Entry
-t11 = List._∷_ (0, Rows'.any-gone Syntax.tyUnit) (List._∷_ (1, Relend.mslice-owed Cell.R (Syntax.tyRef (Syntax.named 0) Syntax.mut Cell.behind) 0 2 Row.off) (List._∷_ (2, Rows'.sc-here (Row.sInt Syntax.w64)) (List._∷_ (3, Rows'.sslice (Referent.rtF (Referent.fInt Syntax.w8)) (Syntax.tyRef (Syntax.named 1) Syntax.imm (Syntax.tyInt Syntax.w8)) 1) (List._∷_ (4, Rows'.sc-here (Row.sInt Syntax.w64)) (List._∷_ (5, Rows'.sc-here (Row.sInt Syntax.w64)) (List._∷_ (6, Rows'.any-gone (Syntax.tyInt Syntax.w64)) (List._∷_ (7, Rows'.sc-here (Row.sInt Syntax.w64)) (List._∷_ (8, Rows'.whole (Declared.row Record.the-type)) (List._∷_ (9, Rows'.any-gone Syntax.tyBool) (List._∷_ (10, Rows'.sc-here Row.sUnit) (List._∷_ (11, Rows'.any-gone (Syntax.tyRef Syntax.erased Syntax.mut Cell.behind)) (List._∷_ (12, Mut.msleft Cell.R (Syntax.tyRef Syntax.erased Syntax.mut Cell.behind)) (List._∷_ (13, Rows'.sc-here (Row.sInt Syntax.w64)) (List._∷_ (14, Cell.row) List.[]))))))))))))))
+t11 = List._∷_ local0 (List._∷_ local14 locals14)
 
 abbrev pub t12 : List.List Row.Entry
-t12 = List._∷_ (0, Rows'.any-gone Syntax.tyUnit) (List._∷_ (1, Relend.mslice-owed Cell.R (Syntax.tyRef (Syntax.named 0) Syntax.mut Cell.behind) 0 2 Row.off) (List._∷_ (2, Rows'.sc-here (Row.sInt Syntax.w64)) (List._∷_ (3, Rows'.sslice (Referent.rtF (Referent.fInt Syntax.w8)) (Syntax.tyRef (Syntax.named 1) Syntax.imm (Syntax.tyInt Syntax.w8)) 1) (List._∷_ (4, Rows'.sc-here (Row.sInt Syntax.w64)) (List._∷_ (5, Rows'.sc-here (Row.sInt Syntax.w64)) (List._∷_ (6, Rows'.any-gone (Syntax.tyInt Syntax.w64)) (List._∷_ (7, Rows'.sc-here (Row.sInt Syntax.w64)) (List._∷_ (8, Rows'.whole (Declared.row Record.the-type)) (List._∷_ (9, Rows'.any-gone Syntax.tyBool) (List._∷_ (10, Rows'.any-gone Syntax.tyUnit) (List._∷_ (11, Rows'.any-gone (Syntax.tyRef Syntax.erased Syntax.mut Cell.behind)) (List._∷_ (12, Mut.msleft Cell.R (Syntax.tyRef Syntax.erased Syntax.mut Cell.behind)) (List._∷_ (13, Rows'.sc-here (Row.sInt Syntax.w64)) (List._∷_ (14, Cell.row) List.[]))))))))))))))
+t12 = List._∷_ local0 (List._∷_ local14 locals15)
 
 abbrev pub t13 : List.List Row.Entry
-t13 = List._∷_ (0, Rows'.any-gone Syntax.tyUnit) (List._∷_ (1, Relend.mslice-owed Cell.R (Syntax.tyRef (Syntax.named 0) Syntax.mut Cell.behind) 0 2 Row.off) (List._∷_ (2, Rows'.sc-here (Row.sInt Syntax.w64)) (List._∷_ (3, Rows'.sslice (Referent.rtF (Referent.fInt Syntax.w8)) (Syntax.tyRef (Syntax.named 1) Syntax.imm (Syntax.tyInt Syntax.w8)) 1) (List._∷_ (4, Rows'.sc-here (Row.sInt Syntax.w64)) (List._∷_ (5, Rows'.sc-here (Row.sInt Syntax.w64)) (List._∷_ (6, Rows'.any-gone (Syntax.tyInt Syntax.w64)) (List._∷_ (7, Rows'.sc-here (Row.sInt Syntax.w64)) (List._∷_ (8, Rows'.whole (Declared.row Record.the-type)) (List._∷_ (9, Rows'.any-gone Syntax.tyBool) (List._∷_ (10, Rows'.any-gone Syntax.tyUnit) (List._∷_ (11, Rows'.any-gone (Syntax.tyRef Syntax.erased Syntax.mut Cell.behind)) (List._∷_ (12, Mut.msleft Cell.R (Syntax.tyRef Syntax.erased Syntax.mut Cell.behind)) (List._∷_ (13, Rows'.any-gone (Syntax.tyInt Syntax.w64)) (List._∷_ (14, Cell.row) List.[]))))))))))))))
+t13 = List._∷_ local0 (List._∷_ local14 locals16)
 
 abbrev pub t14 : List.List Row.Entry
-t14 = List._∷_ (0, Rows'.any-gone Syntax.tyUnit) (List._∷_ (1, Relend.mslice-owed Cell.R (Syntax.tyRef (Syntax.named 0) Syntax.mut Cell.behind) 0 2 Row.off) (List._∷_ (2, Rows'.sc-here (Row.sInt Syntax.w64)) (List._∷_ (3, Rows'.sslice (Referent.rtF (Referent.fInt Syntax.w8)) (Syntax.tyRef (Syntax.named 1) Syntax.imm (Syntax.tyInt Syntax.w8)) 1) (List._∷_ (4, Rows'.sc-here (Row.sInt Syntax.w64)) (List._∷_ (5, Rows'.sc-here (Row.sInt Syntax.w64)) (List._∷_ (6, Rows'.any-gone (Syntax.tyInt Syntax.w64)) (List._∷_ (7, Rows'.sc-here (Row.sInt Syntax.w64)) (List._∷_ (8, Rows'.whole (Declared.row Record.the-type)) (List._∷_ (9, Rows'.any-gone Syntax.tyBool) (List._∷_ (10, Rows'.any-gone Syntax.tyUnit) (List._∷_ (11, Rows'.any-gone (Syntax.tyRef Syntax.erased Syntax.mut Cell.behind)) (List._∷_ (12, Mut.msleft Cell.R (Syntax.tyRef Syntax.erased Syntax.mut Cell.behind)) (List._∷_ (13, Rows'.any-gone (Syntax.tyInt Syntax.w64)) (List._∷_ (14, Rows'.any-gone Cell.held) List.[]))))))))))))))
+t14 = List._∷_ local0 (List._∷_ local14 locals17)
 
 abbrev pub t15 : List.List Row.Entry
-t15 = List._∷_ (0, Rows'.sc-here Row.sUnit) (List._∷_ (1, Mut.mslice Cell.R (Syntax.tyRef (Syntax.named 0) Syntax.mut Cell.behind) 0) (List._∷_ (2, Rows'.sc-here (Row.sInt Syntax.w64)) (List._∷_ (3, Rows'.sslice (Referent.rtF (Referent.fInt Syntax.w8)) (Syntax.tyRef (Syntax.named 1) Syntax.imm (Syntax.tyInt Syntax.w8)) 1) (List._∷_ (4, Rows'.sc-here (Row.sInt Syntax.w64)) (List._∷_ (5, Rows'.sc-here (Row.sInt Syntax.w64)) (List._∷_ (6, Rows'.sc-here (Row.sInt Syntax.w64)) (List._∷_ (7, Rows'.sc-here (Row.sInt Syntax.w64)) (List._∷_ (8, Rows'.any-gone (Syntax.tyStruct (List._∷_ 115 (List._∷_ 99 (List._∷_ 114 (List._∷_ 105 (List._∷_ 112 (List._∷_ 116 (List._∷_ 58 (List._∷_ 58 (List._∷_ 114 (List._∷_ 101 (List._∷_ 99 (List._∷_ 111 (List._∷_ 114 (List._∷_ 100 (List._∷_ 115 (List._∷_ 58 (List._∷_ 58 (List._∷_ 82 (List._∷_ 101 (List._∷_ 99 (List._∷_ 111 (List._∷_ 114 (List._∷_ 100 List.[]))))))))))))))))))))))) (Syntax.tcons (Syntax.tyInt Syntax.w32) (Syntax.tcons Syntax.tyBool (Syntax.tcons (Syntax.tyInt Syntax.w64) (Syntax.tcons (Syntax.tyInt Syntax.w64) Syntax.tnil)))))) (List._∷_ (9, Rows'.any-gone Syntax.tyBool) (List._∷_ (10, Rows'.any-gone Syntax.tyUnit) (List._∷_ (11, Rows'.any-gone (Syntax.tyRef Syntax.erased Syntax.mut Cell.behind)) (List._∷_ (12, Rows'.any-gone (Syntax.tyStruct (List._∷_ 38 (List._∷_ 91 (List._∷_ 93 List.[]))) (Syntax.tcons (Syntax.tyRef Syntax.erased Syntax.mut Cell.behind) (Syntax.tcons (Syntax.tyInt Syntax.w64) Syntax.tnil)))) (List._∷_ (13, Rows'.any-gone (Syntax.tyInt Syntax.w64)) (List._∷_ (14, Rows'.any-gone Cell.held) List.[]))))))))))))))
+t15 = List._∷_ local10 locals6
 
 abbrev pub t16 : List.List Row.Entry
-t16 = List._∷_ (0, Rows'.sc-here Row.sUnit) (List._∷_ (1, Mut.mslice Cell.R (Syntax.tyRef (Syntax.named 0) Syntax.mut Cell.behind) 0) (List._∷_ (2, Rows'.sc-here (Row.sInt Syntax.w64)) (List._∷_ (3, Rows'.sslice (Referent.rtF (Referent.fInt Syntax.w8)) (Syntax.tyRef (Syntax.named 1) Syntax.imm (Syntax.tyInt Syntax.w8)) 1) (List._∷_ (4, Rows'.sc-here (Row.sInt Syntax.w64)) (List._∷_ (5, Rows'.sc-here (Row.sInt Syntax.w64)) (List._∷_ (6, Rows'.any-gone (Syntax.tyInt Syntax.w64)) (List._∷_ (7, Rows'.sc-here (Row.sInt Syntax.w64)) (List._∷_ (8, Rows'.any-gone (Syntax.tyStruct (List._∷_ 115 (List._∷_ 99 (List._∷_ 114 (List._∷_ 105 (List._∷_ 112 (List._∷_ 116 (List._∷_ 58 (List._∷_ 58 (List._∷_ 114 (List._∷_ 101 (List._∷_ 99 (List._∷_ 111 (List._∷_ 114 (List._∷_ 100 (List._∷_ 115 (List._∷_ 58 (List._∷_ 58 (List._∷_ 82 (List._∷_ 101 (List._∷_ 99 (List._∷_ 111 (List._∷_ 114 (List._∷_ 100 List.[]))))))))))))))))))))))) (Syntax.tcons (Syntax.tyInt Syntax.w32) (Syntax.tcons Syntax.tyBool (Syntax.tcons (Syntax.tyInt Syntax.w64) (Syntax.tcons (Syntax.tyInt Syntax.w64) Syntax.tnil)))))) (List._∷_ (9, Rows'.any-gone Syntax.tyBool) (List._∷_ (10, Rows'.any-gone Syntax.tyUnit) (List._∷_ (11, Rows'.any-gone (Syntax.tyRef Syntax.erased Syntax.mut Cell.behind)) (List._∷_ (12, Rows'.any-gone (Syntax.tyStruct (List._∷_ 38 (List._∷_ 91 (List._∷_ 93 List.[]))) (Syntax.tcons (Syntax.tyRef Syntax.erased Syntax.mut Cell.behind) (Syntax.tcons (Syntax.tyInt Syntax.w64) Syntax.tnil)))) (List._∷_ (13, Rows'.any-gone (Syntax.tyInt Syntax.w64)) (List._∷_ (14, Rows'.any-gone Cell.held) List.[]))))))))))))))
+t16 = List._∷_ local10 (List._∷_ local1 (List._∷_ local2 (List._∷_ local3 (List._∷_ local4 (List._∷_ local5 (List._∷_ local6 (List._∷_ local12 locals2)))))))
 
 abbrev pub t17 : List.List Row.Entry
-t17 = List._∷_ (0, Rows'.sc-here Row.sUnit) (List._∷_ (1, Mut.mslice Cell.R (Syntax.tyRef (Syntax.named 0) Syntax.mut Cell.behind) 0) (List._∷_ (2, Rows'.sc-here (Row.sInt Syntax.w64)) (List._∷_ (3, Rows'.sslice (Referent.rtF (Referent.fInt Syntax.w8)) (Syntax.tyRef (Syntax.named 1) Syntax.imm (Syntax.tyInt Syntax.w8)) 1) (List._∷_ (4, Rows'.sc-here (Row.sInt Syntax.w64)) (List._∷_ (5, Rows'.sc-here (Row.sInt Syntax.w64)) (List._∷_ (6, Rows'.any-gone (Syntax.tyInt Syntax.w64)) (List._∷_ (7, Rows'.any-gone (Syntax.tyInt Syntax.w64)) (List._∷_ (8, Rows'.any-gone (Syntax.tyStruct (List._∷_ 115 (List._∷_ 99 (List._∷_ 114 (List._∷_ 105 (List._∷_ 112 (List._∷_ 116 (List._∷_ 58 (List._∷_ 58 (List._∷_ 114 (List._∷_ 101 (List._∷_ 99 (List._∷_ 111 (List._∷_ 114 (List._∷_ 100 (List._∷_ 115 (List._∷_ 58 (List._∷_ 58 (List._∷_ 82 (List._∷_ 101 (List._∷_ 99 (List._∷_ 111 (List._∷_ 114 (List._∷_ 100 List.[]))))))))))))))))))))))) (Syntax.tcons (Syntax.tyInt Syntax.w32) (Syntax.tcons Syntax.tyBool (Syntax.tcons (Syntax.tyInt Syntax.w64) (Syntax.tcons (Syntax.tyInt Syntax.w64) Syntax.tnil)))))) (List._∷_ (9, Rows'.any-gone Syntax.tyBool) (List._∷_ (10, Rows'.any-gone Syntax.tyUnit) (List._∷_ (11, Rows'.any-gone (Syntax.tyRef Syntax.erased Syntax.mut Cell.behind)) (List._∷_ (12, Rows'.any-gone (Syntax.tyStruct (List._∷_ 38 (List._∷_ 91 (List._∷_ 93 List.[]))) (Syntax.tcons (Syntax.tyRef Syntax.erased Syntax.mut Cell.behind) (Syntax.tcons (Syntax.tyInt Syntax.w64) Syntax.tnil)))) (List._∷_ (13, Rows'.any-gone (Syntax.tyInt Syntax.w64)) (List._∷_ (14, Rows'.any-gone Cell.held) List.[]))))))))))))))
+t17 = List._∷_ local10 locals5
 
 abbrev pub t18 : List.List Row.Entry
-t18 = List._∷_ (0, Rows'.sc-here Row.sUnit) (List._∷_ (1, Mut.mslice Cell.R (Syntax.tyRef (Syntax.named 0) Syntax.mut Cell.behind) 0) (List._∷_ (2, Rows'.any-gone (Syntax.tyInt Syntax.w64)) (List._∷_ (3, Rows'.sslice (Referent.rtF (Referent.fInt Syntax.w8)) (Syntax.tyRef (Syntax.named 1) Syntax.imm (Syntax.tyInt Syntax.w8)) 1) (List._∷_ (4, Rows'.sc-here (Row.sInt Syntax.w64)) (List._∷_ (5, Rows'.sc-here (Row.sInt Syntax.w64)) (List._∷_ (6, Rows'.any-gone (Syntax.tyInt Syntax.w64)) (List._∷_ (7, Rows'.any-gone (Syntax.tyInt Syntax.w64)) (List._∷_ (8, Rows'.any-gone (Syntax.tyStruct (List._∷_ 115 (List._∷_ 99 (List._∷_ 114 (List._∷_ 105 (List._∷_ 112 (List._∷_ 116 (List._∷_ 58 (List._∷_ 58 (List._∷_ 114 (List._∷_ 101 (List._∷_ 99 (List._∷_ 111 (List._∷_ 114 (List._∷_ 100 (List._∷_ 115 (List._∷_ 58 (List._∷_ 58 (List._∷_ 82 (List._∷_ 101 (List._∷_ 99 (List._∷_ 111 (List._∷_ 114 (List._∷_ 100 List.[]))))))))))))))))))))))) (Syntax.tcons (Syntax.tyInt Syntax.w32) (Syntax.tcons Syntax.tyBool (Syntax.tcons (Syntax.tyInt Syntax.w64) (Syntax.tcons (Syntax.tyInt Syntax.w64) Syntax.tnil)))))) (List._∷_ (9, Rows'.any-gone Syntax.tyBool) (List._∷_ (10, Rows'.any-gone Syntax.tyUnit) (List._∷_ (11, Rows'.any-gone (Syntax.tyRef Syntax.erased Syntax.mut Cell.behind)) (List._∷_ (12, Rows'.any-gone (Syntax.tyStruct (List._∷_ 38 (List._∷_ 91 (List._∷_ 93 List.[]))) (Syntax.tcons (Syntax.tyRef Syntax.erased Syntax.mut Cell.behind) (Syntax.tcons (Syntax.tyInt Syntax.w64) Syntax.tnil)))) (List._∷_ (13, Rows'.any-gone (Syntax.tyInt Syntax.w64)) (List._∷_ (14, Rows'.any-gone Cell.held) List.[]))))))))))))))
+t18 = List._∷_ local10 (List._∷_ local1 (List._∷_ (2, Rows'.any-gone ty0) locals4))
 
 abbrev pub t19 : List.List Row.Entry
-t19 = List._∷_ (0, Rows'.sc-here Row.sUnit) (List._∷_ (1, Mut.mslice Cell.R (Syntax.tyRef (Syntax.named 0) Syntax.mut Cell.behind) 0) (List._∷_ (2, Rows'.any-gone (Syntax.tyInt Syntax.w64)) (List._∷_ (3, Rows'.sslice (Referent.rtF (Referent.fInt Syntax.w8)) (Syntax.tyRef (Syntax.named 1) Syntax.imm (Syntax.tyInt Syntax.w8)) 1) (List._∷_ (4, Rows'.any-gone (Syntax.tyInt Syntax.w64)) (List._∷_ (5, Rows'.sc-here (Row.sInt Syntax.w64)) (List._∷_ (6, Rows'.any-gone (Syntax.tyInt Syntax.w64)) (List._∷_ (7, Rows'.any-gone (Syntax.tyInt Syntax.w64)) (List._∷_ (8, Rows'.any-gone (Syntax.tyStruct (List._∷_ 115 (List._∷_ 99 (List._∷_ 114 (List._∷_ 105 (List._∷_ 112 (List._∷_ 116 (List._∷_ 58 (List._∷_ 58 (List._∷_ 114 (List._∷_ 101 (List._∷_ 99 (List._∷_ 111 (List._∷_ 114 (List._∷_ 100 (List._∷_ 115 (List._∷_ 58 (List._∷_ 58 (List._∷_ 82 (List._∷_ 101 (List._∷_ 99 (List._∷_ 111 (List._∷_ 114 (List._∷_ 100 List.[]))))))))))))))))))))))) (Syntax.tcons (Syntax.tyInt Syntax.w32) (Syntax.tcons Syntax.tyBool (Syntax.tcons (Syntax.tyInt Syntax.w64) (Syntax.tcons (Syntax.tyInt Syntax.w64) Syntax.tnil)))))) (List._∷_ (9, Rows'.any-gone Syntax.tyBool) (List._∷_ (10, Rows'.any-gone Syntax.tyUnit) (List._∷_ (11, Rows'.any-gone (Syntax.tyRef Syntax.erased Syntax.mut Cell.behind)) (List._∷_ (12, Rows'.any-gone (Syntax.tyStruct (List._∷_ 38 (List._∷_ 91 (List._∷_ 93 List.[]))) (Syntax.tcons (Syntax.tyRef Syntax.erased Syntax.mut Cell.behind) (Syntax.tcons (Syntax.tyInt Syntax.w64) Syntax.tnil)))) (List._∷_ (13, Rows'.any-gone (Syntax.tyInt Syntax.w64)) (List._∷_ (14, Rows'.any-gone Cell.held) List.[]))))))))))))))
+t19 = List._∷_ local10 (List._∷_ local1 (List._∷_ (2, Rows'.any-gone ty0) (List._∷_ local3 (List._∷_ (4, Rows'.any-gone ty0) (List._∷_ local5 locals3)))))
 
 abbrev pub T0 : Row.Cx
 T0 = record { locals = t0; slots = List.[] }
@@ -351,23 +496,23 @@ abbrev pub O4 : Typed.Outs
 O4 = Typed.withNext (Option.some T7) O3
 
 abbrev pub InvT-loop : Type 1
-InvT-loop = List.List (Cell.R .Denot) → Rows'.sc-here (Row.sInt Syntax.w64) .Mod → List.List (Referent.rtF (Referent.fInt Syntax.w8) .Denot) → Rows'.sc-here (Row.sInt Syntax.w64) .Mod → Rows'.sc-here (Row.sInt Syntax.w64) .Mod → Rows'.sc-here (Row.sInt Syntax.w64) .Mod → Rows'.sc-here (Row.sInt Syntax.w64) .Mod → List.List (Cell.R .Denot) → Rows'.sc-here (Row.sInt Syntax.w64) .Mod → Rows'.sc-here (Row.sInt Syntax.w64) .Mod → Type 0
+InvT-loop = List.List (Cell.R .Denot) → Rows'.sc-here sc0 .Mod → List.List (Referent.rtF rf0 .Denot) → Rows'.sc-here sc0 .Mod → Rows'.sc-here sc0 .Mod → Rows'.sc-here sc0 .Mod → Rows'.sc-here sc0 .Mod → List.List (Cell.R .Denot) → Rows'.sc-here sc0 .Mod → Rows'.sc-here sc0 .Mod → Type 0
 
 abbrev pub MeasureT-loop : Type 0
-MeasureT-loop = List.List (Cell.R .Denot) → Rows'.sc-here (Row.sInt Syntax.w64) .Mod → List.List (Referent.rtF (Referent.fInt Syntax.w8) .Denot) → Rows'.sc-here (Row.sInt Syntax.w64) .Mod → Rows'.sc-here (Row.sInt Syntax.w64) .Mod → Rows'.sc-here (Row.sInt Syntax.w64) .Mod → Rows'.sc-here (Row.sInt Syntax.w64) .Mod → List.List (Cell.R .Denot) → Rows'.sc-here (Row.sInt Syntax.w64) .Mod → Rows'.sc-here (Row.sInt Syntax.w64) .Mod → Nat.ℕ
+MeasureT-loop = List.List (Cell.R .Denot) → Rows'.sc-here sc0 .Mod → List.List (Referent.rtF rf0 .Denot) → Rows'.sc-here sc0 .Mod → Rows'.sc-here sc0 .Mod → Rows'.sc-here sc0 .Mod → Rows'.sc-here sc0 .Mod → List.List (Cell.R .Denot) → Rows'.sc-here sc0 .Mod → Rows'.sc-here sc0 .Mod → Nat.ℕ
 
 module _ (claims· : Claims) where
   abbrev s0 : Typed.Gives T0 T2
-  s0 = Know.k-shs-known (Referent.fInt Syntax.w8) T0 3 1 (Syntax.tyRef (Syntax.named 1) Syntax.imm (Syntax.tyInt Syntax.w8)) Row.off 0 λ x. x
+  s0 = Know.k-shs-known rf0 T0 3 1 ty6 Row.off 0 λ x. x
 
   abbrev s1 : Typed.Mo T2 → Typed.Mo T3
-  s1 = Scalar.n-use T2 (Scalar.oAt 4 (Syntax.tyInt Syntax.w64) (Row.valS (Row.sInt Syntax.w64))) 6 (Rows'.sc-here (Row.sInt Syntax.w64)) (Row.sInt Syntax.w64 .of)
+  s1 = Scalar.n-use T2 (Scalar.oAt 4 ty0 (Row.valS sc0)) 6 (Rows'.sc-here sc0) (Row.sInt Syntax.w64 .of)
 
   abbrev s2 : Typed.Mo T3 → Typed.Mo T4
-  s2 = Scalar.n-use T3 (Scalar.oInt Syntax.w64 0) 7 (Rows'.sc-here (Row.sInt Syntax.w64)) (Row.sInt Syntax.w64 .of)
+  s2 = Scalar.n-use T3 (Scalar.oInt Syntax.w64 0) 7 (Rows'.sc-here sc0) (Row.sInt Syntax.w64 .of)
 
   abbrev s3 : Typed.Asks T4 T6
-  s3 = Scalar.k-op2 T4 (Syntax.lt Syntax.unsigned) (Scalar.oAt 7 (Syntax.tyInt Syntax.w64) (Row.valS (Row.sInt Syntax.w64))) (Scalar.oAt 5 (Syntax.tyInt Syntax.w64) (Row.valS (Row.sInt Syntax.w64))) 9 (Rows'.sc-here Row.sBool) (Row.sBool .of)
+  s3 = Scalar.k-op2 T4 (Syntax.lt Syntax.unsigned) (Scalar.oAt 7 ty0 (Row.valS sc0)) (Scalar.oAt 5 ty0 (Row.valS sc0)) 9 (Rows'.sc-here Row.sBool) (Row.sBool .of)
 
   abbrev s4 : Typed.Mo T6 → Typed.Mo T8
   s4 = Scalar.n-room T6 9 Syntax.tyBool
@@ -376,19 +521,19 @@ module _ (claims· : Claims) where
   s5 = Scalar.n-room T6 9 Syntax.tyBool
 
   abbrev s6 : Typed.Both T7 T10
-  s6 = Call.callB ps·0 r·0 (claims· .0) (claims· .1) T7 (record { pos = 3; ty = Syntax.tyRef (Syntax.named 1) Syntax.imm (Syntax.tyInt Syntax.w8); ref = λ x. x }, (Num.vAt 6 λ x. x, tt)) 8 (List._∷_ 1 List.[]) (Syntax.tyStruct (List._∷_ 115 (List._∷_ 99 (List._∷_ 114 (List._∷_ 105 (List._∷_ 112 (List._∷_ 116 (List._∷_ 58 (List._∷_ 58 (List._∷_ 114 (List._∷_ 101 (List._∷_ 99 (List._∷_ 111 (List._∷_ 114 (List._∷_ 100 (List._∷_ 115 (List._∷_ 58 (List._∷_ 58 (List._∷_ 82 (List._∷_ 101 (List._∷_ 99 (List._∷_ 111 (List._∷_ 114 (List._∷_ 100 List.[]))))))))))))))))))))))) (Syntax.tcons (Syntax.tyInt Syntax.w32) (Syntax.tcons Syntax.tyBool (Syntax.tcons (Syntax.tyInt Syntax.w64) (Syntax.tcons (Syntax.tyInt Syntax.w64) Syntax.tnil)))))
+  s6 = Call.callB ps·0 r·0 (claims· .0) (claims· .1) T7 (record { pos = 3; ty = Syntax.tyRef (Syntax.named 1) Syntax.imm ty5; ref = λ x. x }, (Num.vAt 6 λ x. x, tt)) 8 (List._∷_ 1 List.[]) ty1
 
   abbrev s7 : Typed.Mo T10 → Typed.Mo T11
-  s7 = Scalar.n-room T10 6 (Syntax.tyInt Syntax.w64)
+  s7 = Scalar.n-room T10 6 ty0
 
   abbrev s9 : Typed.Gives T11 T13
-  s9 = Relend.k-sl-relend Cell.R T11 1 11 0 2 (Syntax.tyRef (Syntax.named 0) Syntax.mut Cell.behind) (Syntax.tyRef Syntax.erased Syntax.mut Cell.behind) Row.off λ x. x
+  s9 = Relend.k-sl-relend Cell.R T11 1 11 0 2 ty4 ty2 Row.off λ x. x
 
   abbrev s10 : Typed.Asks T13 T14
-  s10 = Relend.k-sl-aggregate Cell.R (Relend.asMut Cell.R) T13 11 12 2 (Syntax.tyRef Syntax.erased Syntax.mut Cell.behind) (Syntax.tyRef Syntax.erased Syntax.mut Cell.behind) (λ x. x) (Scalar.oFld 1 (List._∷_ (Syntax.field 1) List.[]) (Syntax.tyInt Syntax.w64) 8 λ v. Shared.lenV (v .0))
+  s10 = Relend.k-sl-aggregate Cell.R (Relend.asMut Cell.R) T13 11 12 2 ty2 ty2 (λ x. x) (Scalar.oFld 1 steps0 ty0 8 λ v. Shared.lenV (v .0))
 
   abbrev s11 : Typed.Asks T14 T15
-  s11 = Scalar.k-op2 T14 (Syntax.add Syntax.unsigned) (Scalar.oAt 2 (Syntax.tyInt Syntax.w64) (Row.valS (Row.sInt Syntax.w64))) (Scalar.oAt 7 (Syntax.tyInt Syntax.w64) (Row.valS (Row.sInt Syntax.w64))) 13 (Rows'.sc-here (Row.sInt Syntax.w64)) (Row.sInt Syntax.w64 .of)
+  s11 = Scalar.k-op2 T14 (Syntax.add Syntax.unsigned) (Scalar.oAt 2 ty0 (Row.valS sc0)) (Scalar.oAt 7 ty0 (Row.valS sc0)) 13 (Rows'.sc-here sc0) (Row.sInt Syntax.w64 .of)
 
   abbrev s12 : Typed.Both T15 T16
   s12 = Call.callB ps·1 r·1 (claims· .2) (claims· .3) T15 (record { pos = 8; st = List.[]; d = 0; at = λ x. x }, tt) 14 List.[] Cell.held
@@ -400,43 +545,43 @@ module _ (claims· : Claims) where
   s14 = Scalar.n-room T17 10 Syntax.tyUnit
 
   abbrev s15 : Typed.Mo T18 → Typed.Mo T19
-  s15 = Scalar.n-room T18 13 (Syntax.tyInt Syntax.w64)
+  s15 = Scalar.n-room T18 13 ty0
 
   abbrev s16 : Typed.Mo T19 → Typed.Mo T20
   s16 = Scalar.n-room T19 14 Cell.held
 
   abbrev s18 : Typed.Both T20 T22
-  s18 = Relend.k-back-sl Cell.R T20 12 1 0 2 (Syntax.tyRef (Syntax.named 0) Syntax.mut Cell.behind) (Syntax.tyRef Syntax.erased Syntax.mut Cell.behind) Row.off (λ x. x) λ x. x
+  s18 = Relend.k-back-sl Cell.R T20 12 1 0 2 ty4 ty2 Row.off (λ x. x) λ x. x
 
   abbrev s20 : Typed.Mo T22 → Typed.Mo T24
-  s20 = Scalar.n-use T22 (Scalar.oFld 8 (List._∷_ (Syntax.field 3) List.[]) (Syntax.tyInt Syntax.w64) 16 (Reads.fieldV Record.the-type Laws.the-laws 3)) 6 (Rows'.sc-here (Row.sInt Syntax.w64)) (Row.sInt Syntax.w64 .of)
+  s20 = Scalar.n-use T22 (Scalar.oFld 8 steps1 ty0 16 (Reads.fieldV Record.the-type Laws.the-laws 3)) 6 (Rows'.sc-here sc0) (Row.sInt Syntax.w64 .of)
 
   abbrev s21 : Typed.Mo T24 → Typed.Mo T25
-  s21 = Scalar.n-room T24 8 (Syntax.tyStruct (List._∷_ 115 (List._∷_ 99 (List._∷_ 114 (List._∷_ 105 (List._∷_ 112 (List._∷_ 116 (List._∷_ 58 (List._∷_ 58 (List._∷_ 114 (List._∷_ 101 (List._∷_ 99 (List._∷_ 111 (List._∷_ 114 (List._∷_ 100 (List._∷_ 115 (List._∷_ 58 (List._∷_ 58 (List._∷_ 82 (List._∷_ 101 (List._∷_ 99 (List._∷_ 111 (List._∷_ 114 (List._∷_ 100 List.[]))))))))))))))))))))))) (Syntax.tcons (Syntax.tyInt Syntax.w32) (Syntax.tcons Syntax.tyBool (Syntax.tcons (Syntax.tyInt Syntax.w64) (Syntax.tcons (Syntax.tyInt Syntax.w64) Syntax.tnil)))))
+  s21 = Scalar.n-room T24 8 ty1
 
   abbrev s22 : Typed.Asks T25 T26
-  s22 = Scalar.k-op2 T25 (Syntax.add Syntax.unsigned) (Scalar.oAt 7 (Syntax.tyInt Syntax.w64) (Row.valS (Row.sInt Syntax.w64))) (Scalar.oInt Syntax.w64 1) 7 (Rows'.sc-here (Row.sInt Syntax.w64)) (Row.sInt Syntax.w64 .of)
+  s22 = Scalar.k-op2 T25 (Syntax.add Syntax.unsigned) (Scalar.oAt 7 ty0 (Row.valS sc0)) (Scalar.oInt Syntax.w64 1) 7 (Rows'.sc-here sc0) (Row.sInt Syntax.w64 .of)
 
   abbrev s23 : Typed.Mo T5 → Typed.Mo T27
   s23 = Scalar.n-use T5 Scalar.oUnit 0 (Rows'.sc-here Row.sUnit) (Row.sUnit .of)
 
   abbrev s24 : Typed.Mo T27 → Typed.Mo T28
-  s24 = Scalar.n-room T27 6 (Syntax.tyInt Syntax.w64)
+  s24 = Scalar.n-room T27 6 ty0
 
   abbrev s25 : Typed.Mo T28 → Typed.Mo T29
-  s25 = Scalar.n-room T28 7 (Syntax.tyInt Syntax.w64)
+  s25 = Scalar.n-room T28 7 ty0
 
   abbrev s26 : Typed.Mo T29 → Typed.Mo T30
-  s26 = Scalar.n-room T29 2 (Syntax.tyInt Syntax.w64)
+  s26 = Scalar.n-room T29 2 ty0
 
   abbrev s27 : Typed.Mo T30 → Typed.Mo T31
-  s27 = Scalar.n-room T30 4 (Syntax.tyInt Syntax.w64)
+  s27 = Scalar.n-room T30 4 ty0
 
   abbrev s28 : Typed.Mo T31 → Typed.Mo T32
-  s28 = Scalar.n-room T31 5 (Syntax.tyInt Syntax.w64)
+  s28 = Scalar.n-room T31 5 ty0
 
-  abbrev put0 : List.List (Cell.R .Denot) × Rows'.sc-here (Row.sInt Syntax.w64) .Mod × Rows'.sc-here (Row.sInt Syntax.w64) .Mod → Typed.Mo T4 → Typed.Mo T4
-  put0 = λ vs u. Row.set 7 (7, Rows'.sc-here (Row.sInt Syntax.w64)) (vs .2) (T4 .locals) (Row.set 6 (6, Rows'.sc-here (Row.sInt Syntax.w64)) (vs .1) (T4 .locals) (Row.set 1 (1, Mut.mslice Cell.R (Syntax.tyRef (Syntax.named 0) Syntax.mut Cell.behind) 0) record { ptr = Row.get 1 (T4 .locals) u .ptr; name = Row.get 1 (T4 .locals) u .name; now = vs .0 } (T4 .locals) u))
+  abbrev put0 : List.List (Cell.R .Denot) × Rows'.sc-here sc0 .Mod × Rows'.sc-here sc0 .Mod → Typed.Mo T4 → Typed.Mo T4
+  put0 = λ vs u. Row.set 7 local12 (vs .2) (T4 .locals) (Row.set 6 local11 (vs .1) (T4 .locals) (Row.set 1 local1 record { ptr = Row.get 1 (T4 .locals) u .ptr; name = Row.get 1 (T4 .locals) u .name; now = vs .0 } (T4 .locals) u))
 
   module _ (Pre· : (κs : Lifetimes.Lfts 2) → Kinds.Dens κs ps → Type 0) (Post· : (κs : Lifetimes.Lfts 2) → (a : Kinds.Dens κs ps) → Kinds.Plain 2 ps r κs) where
     module _ (M : Type 1) where
@@ -563,128 +708,143 @@ module _ (claims· : Claims) where
         Knowns = Plain.Known 𝓤 H A W 𝓣 1 ps·0 r·0 (claims· .0) (claims· .1) "script::records::next_record" × Plain.Known 𝓤 H A W 𝓣 0 ps·1 r·1 (claims· .2) (claims· .3) "script::records::zone" × Plain.Known 𝓤 H A W 𝓣 1 ps·2 r·2 (claims· .4) (claims· .5) "sheets::thin::put_record"
 
       module _ (κs : Lifetimes.Lfts 2) (qs : Lifetimes.Shares 2) where
+        abbrev slot0 : Row.Life
+        slot0 = Row.lease (κs .0) (qs .0)
+
+        abbrev local16 : Row.Entry
+        local16 = (1, Relend.mslice-owed Cell.R ty4 0 2 slot0)
+
+        abbrev slot1 : Row.Life
+        slot1 = Row.lease (κs .1 .0) (qs .1 .0)
+
+        abbrev slots0 : List.List Row.Life
+        slots0 = List._∷_ slot1 (List._∷_ Row.off List.[])
+
+        abbrev slots1 : List.List Row.Life
+        slots1 = List._∷_ slot1 (List._∷_ Row.alive List.[])
+
         abbrev g7 : List.List Row.Entry
-        g7 = List._∷_ (0, Rows'.any-gone Syntax.tyUnit) (List._∷_ (1, Relend.mslice-owed Cell.R (Syntax.tyRef (Syntax.named 0) Syntax.mut Cell.behind) 0 2 (Row.lease (κs .0) (qs .0))) (List._∷_ (2, Rows'.sc-here (Row.sInt Syntax.w64)) (List._∷_ (3, Rows'.sslice (Referent.rtF (Referent.fInt Syntax.w8)) (Syntax.tyRef (Syntax.named 1) Syntax.imm (Syntax.tyInt Syntax.w8)) 1) (List._∷_ (4, Rows'.sc-here (Row.sInt Syntax.w64)) (List._∷_ (5, Rows'.sc-here (Row.sInt Syntax.w64)) (List._∷_ (6, Rows'.any-gone (Syntax.tyInt Syntax.w64)) (List._∷_ (7, Rows'.sc-here (Row.sInt Syntax.w64)) (List._∷_ (8, Rows'.whole (Declared.row Record.the-type)) (List._∷_ (9, Rows'.any-gone Syntax.tyBool) (List._∷_ (10, Rows'.any-gone Syntax.tyUnit) (List._∷_ (11, Relend.msptr Cell.R (Syntax.tyRef Syntax.erased Syntax.mut Cell.behind) 2) (List._∷_ (12, Rows'.any-gone (Syntax.tyStruct (List._∷_ 38 (List._∷_ 91 (List._∷_ 93 List.[]))) (Syntax.tcons (Syntax.tyRef Syntax.erased Syntax.mut Cell.behind) (Syntax.tcons (Syntax.tyInt Syntax.w64) Syntax.tnil)))) (List._∷_ (13, Rows'.any-gone (Syntax.tyInt Syntax.w64)) (List._∷_ (14, Rows'.any-gone Cell.held) List.[]))))))))))))))
+        g7 = List._∷_ local0 (List._∷_ local16 locals8)
 
         abbrev g8 : List.List Row.Entry
-        g8 = List._∷_ (0, Rows'.any-gone Syntax.tyUnit) (List._∷_ (1, Relend.mslice-owed Cell.R (Syntax.tyRef (Syntax.named 0) Syntax.mut Cell.behind) 0 2 (Row.lease (κs .0) (qs .0))) (List._∷_ (2, Rows'.sc-here (Row.sInt Syntax.w64)) (List._∷_ (3, Rows'.sslice (Referent.rtF (Referent.fInt Syntax.w8)) (Syntax.tyRef (Syntax.named 1) Syntax.imm (Syntax.tyInt Syntax.w8)) 1) (List._∷_ (4, Rows'.sc-here (Row.sInt Syntax.w64)) (List._∷_ (5, Rows'.sc-here (Row.sInt Syntax.w64)) (List._∷_ (6, Rows'.any-gone (Syntax.tyInt Syntax.w64)) (List._∷_ (7, Rows'.sc-here (Row.sInt Syntax.w64)) (List._∷_ (8, Rows'.whole (Declared.row Record.the-type)) (List._∷_ (9, Rows'.any-gone Syntax.tyBool) (List._∷_ (10, Rows'.any-gone Syntax.tyUnit) (List._∷_ (11, Rows'.any-gone (Syntax.tyRef Syntax.erased Syntax.mut Cell.behind)) (List._∷_ (12, Mut.mslice Cell.R (Syntax.tyRef Syntax.erased Syntax.mut Cell.behind) 2) (List._∷_ (13, Rows'.any-gone (Syntax.tyInt Syntax.w64)) (List._∷_ (14, Rows'.any-gone Cell.held) List.[]))))))))))))))
+        g8 = List._∷_ local0 (List._∷_ local16 locals9)
 
         abbrev g9 : List.List Row.Entry
-        g9 = List._∷_ (0, Rows'.any-gone Syntax.tyUnit) (List._∷_ (1, Relend.mslice-owed Cell.R (Syntax.tyRef (Syntax.named 0) Syntax.mut Cell.behind) 0 2 (Row.lease (κs .0) (qs .0))) (List._∷_ (2, Rows'.sc-here (Row.sInt Syntax.w64)) (List._∷_ (3, Rows'.sslice (Referent.rtF (Referent.fInt Syntax.w8)) (Syntax.tyRef (Syntax.named 1) Syntax.imm (Syntax.tyInt Syntax.w8)) 1) (List._∷_ (4, Rows'.sc-here (Row.sInt Syntax.w64)) (List._∷_ (5, Rows'.sc-here (Row.sInt Syntax.w64)) (List._∷_ (6, Rows'.any-gone (Syntax.tyInt Syntax.w64)) (List._∷_ (7, Rows'.sc-here (Row.sInt Syntax.w64)) (List._∷_ (8, Rows'.whole (Declared.row Record.the-type)) (List._∷_ (9, Rows'.any-gone Syntax.tyBool) (List._∷_ (10, Rows'.any-gone Syntax.tyUnit) (List._∷_ (11, Rows'.any-gone (Syntax.tyRef Syntax.erased Syntax.mut Cell.behind)) (List._∷_ (12, Mut.mslice Cell.R (Syntax.tyRef Syntax.erased Syntax.mut Cell.behind) 2) (List._∷_ (13, Rows'.sc-here (Row.sInt Syntax.w64)) (List._∷_ (14, Rows'.any-gone Cell.held) List.[]))))))))))))))
+        g9 = List._∷_ local0 (List._∷_ local16 locals10)
 
         abbrev g10 : List.List Row.Entry
-        g10 = List._∷_ (0, Rows'.any-gone Syntax.tyUnit) (List._∷_ (1, Relend.mslice-owed Cell.R (Syntax.tyRef (Syntax.named 0) Syntax.mut Cell.behind) 0 2 (Row.lease (κs .0) (qs .0))) (List._∷_ (2, Rows'.sc-here (Row.sInt Syntax.w64)) (List._∷_ (3, Rows'.sslice (Referent.rtF (Referent.fInt Syntax.w8)) (Syntax.tyRef (Syntax.named 1) Syntax.imm (Syntax.tyInt Syntax.w8)) 1) (List._∷_ (4, Rows'.sc-here (Row.sInt Syntax.w64)) (List._∷_ (5, Rows'.sc-here (Row.sInt Syntax.w64)) (List._∷_ (6, Rows'.any-gone (Syntax.tyInt Syntax.w64)) (List._∷_ (7, Rows'.sc-here (Row.sInt Syntax.w64)) (List._∷_ (8, Rows'.whole (Declared.row Record.the-type)) (List._∷_ (9, Rows'.any-gone Syntax.tyBool) (List._∷_ (10, Rows'.any-gone Syntax.tyUnit) (List._∷_ (11, Rows'.any-gone (Syntax.tyRef Syntax.erased Syntax.mut Cell.behind)) (List._∷_ (12, Mut.mslice Cell.R (Syntax.tyRef Syntax.erased Syntax.mut Cell.behind) 2) (List._∷_ (13, Rows'.sc-here (Row.sInt Syntax.w64)) (List._∷_ (14, Cell.row) List.[]))))))))))))))
+        g10 = List._∷_ local0 (List._∷_ local16 locals12)
 
         abbrev g11 : List.List Row.Entry
-        g11 = List._∷_ (0, Rows'.any-gone Syntax.tyUnit) (List._∷_ (1, Relend.mslice-owed Cell.R (Syntax.tyRef (Syntax.named 0) Syntax.mut Cell.behind) 0 2 (Row.lease (κs .0) (qs .0))) (List._∷_ (2, Rows'.sc-here (Row.sInt Syntax.w64)) (List._∷_ (3, Rows'.sslice (Referent.rtF (Referent.fInt Syntax.w8)) (Syntax.tyRef (Syntax.named 1) Syntax.imm (Syntax.tyInt Syntax.w8)) 1) (List._∷_ (4, Rows'.sc-here (Row.sInt Syntax.w64)) (List._∷_ (5, Rows'.sc-here (Row.sInt Syntax.w64)) (List._∷_ (6, Rows'.any-gone (Syntax.tyInt Syntax.w64)) (List._∷_ (7, Rows'.sc-here (Row.sInt Syntax.w64)) (List._∷_ (8, Rows'.whole (Declared.row Record.the-type)) (List._∷_ (9, Rows'.any-gone Syntax.tyBool) (List._∷_ (10, Rows'.sc-here Row.sUnit) (List._∷_ (11, Rows'.any-gone (Syntax.tyRef Syntax.erased Syntax.mut Cell.behind)) (List._∷_ (12, Mut.msleft Cell.R (Syntax.tyRef Syntax.erased Syntax.mut Cell.behind)) (List._∷_ (13, Rows'.sc-here (Row.sInt Syntax.w64)) (List._∷_ (14, Cell.row) List.[]))))))))))))))
+        g11 = List._∷_ local0 (List._∷_ local16 locals14)
 
         abbrev g12 : List.List Row.Entry
-        g12 = List._∷_ (0, Rows'.any-gone Syntax.tyUnit) (List._∷_ (1, Relend.mslice-owed Cell.R (Syntax.tyRef (Syntax.named 0) Syntax.mut Cell.behind) 0 2 (Row.lease (κs .0) (qs .0))) (List._∷_ (2, Rows'.sc-here (Row.sInt Syntax.w64)) (List._∷_ (3, Rows'.sslice (Referent.rtF (Referent.fInt Syntax.w8)) (Syntax.tyRef (Syntax.named 1) Syntax.imm (Syntax.tyInt Syntax.w8)) 1) (List._∷_ (4, Rows'.sc-here (Row.sInt Syntax.w64)) (List._∷_ (5, Rows'.sc-here (Row.sInt Syntax.w64)) (List._∷_ (6, Rows'.any-gone (Syntax.tyInt Syntax.w64)) (List._∷_ (7, Rows'.sc-here (Row.sInt Syntax.w64)) (List._∷_ (8, Rows'.whole (Declared.row Record.the-type)) (List._∷_ (9, Rows'.any-gone Syntax.tyBool) (List._∷_ (10, Rows'.any-gone Syntax.tyUnit) (List._∷_ (11, Rows'.any-gone (Syntax.tyRef Syntax.erased Syntax.mut Cell.behind)) (List._∷_ (12, Mut.msleft Cell.R (Syntax.tyRef Syntax.erased Syntax.mut Cell.behind)) (List._∷_ (13, Rows'.sc-here (Row.sInt Syntax.w64)) (List._∷_ (14, Cell.row) List.[]))))))))))))))
+        g12 = List._∷_ local0 (List._∷_ local16 locals15)
 
         abbrev g13 : List.List Row.Entry
-        g13 = List._∷_ (0, Rows'.any-gone Syntax.tyUnit) (List._∷_ (1, Relend.mslice-owed Cell.R (Syntax.tyRef (Syntax.named 0) Syntax.mut Cell.behind) 0 2 (Row.lease (κs .0) (qs .0))) (List._∷_ (2, Rows'.sc-here (Row.sInt Syntax.w64)) (List._∷_ (3, Rows'.sslice (Referent.rtF (Referent.fInt Syntax.w8)) (Syntax.tyRef (Syntax.named 1) Syntax.imm (Syntax.tyInt Syntax.w8)) 1) (List._∷_ (4, Rows'.sc-here (Row.sInt Syntax.w64)) (List._∷_ (5, Rows'.sc-here (Row.sInt Syntax.w64)) (List._∷_ (6, Rows'.any-gone (Syntax.tyInt Syntax.w64)) (List._∷_ (7, Rows'.sc-here (Row.sInt Syntax.w64)) (List._∷_ (8, Rows'.whole (Declared.row Record.the-type)) (List._∷_ (9, Rows'.any-gone Syntax.tyBool) (List._∷_ (10, Rows'.any-gone Syntax.tyUnit) (List._∷_ (11, Rows'.any-gone (Syntax.tyRef Syntax.erased Syntax.mut Cell.behind)) (List._∷_ (12, Mut.msleft Cell.R (Syntax.tyRef Syntax.erased Syntax.mut Cell.behind)) (List._∷_ (13, Rows'.any-gone (Syntax.tyInt Syntax.w64)) (List._∷_ (14, Cell.row) List.[]))))))))))))))
+        g13 = List._∷_ local0 (List._∷_ local16 locals16)
 
         abbrev g14 : List.List Row.Entry
-        g14 = List._∷_ (0, Rows'.any-gone Syntax.tyUnit) (List._∷_ (1, Relend.mslice-owed Cell.R (Syntax.tyRef (Syntax.named 0) Syntax.mut Cell.behind) 0 2 (Row.lease (κs .0) (qs .0))) (List._∷_ (2, Rows'.sc-here (Row.sInt Syntax.w64)) (List._∷_ (3, Rows'.sslice (Referent.rtF (Referent.fInt Syntax.w8)) (Syntax.tyRef (Syntax.named 1) Syntax.imm (Syntax.tyInt Syntax.w8)) 1) (List._∷_ (4, Rows'.sc-here (Row.sInt Syntax.w64)) (List._∷_ (5, Rows'.sc-here (Row.sInt Syntax.w64)) (List._∷_ (6, Rows'.any-gone (Syntax.tyInt Syntax.w64)) (List._∷_ (7, Rows'.sc-here (Row.sInt Syntax.w64)) (List._∷_ (8, Rows'.whole (Declared.row Record.the-type)) (List._∷_ (9, Rows'.any-gone Syntax.tyBool) (List._∷_ (10, Rows'.any-gone Syntax.tyUnit) (List._∷_ (11, Rows'.any-gone (Syntax.tyRef Syntax.erased Syntax.mut Cell.behind)) (List._∷_ (12, Mut.msleft Cell.R (Syntax.tyRef Syntax.erased Syntax.mut Cell.behind)) (List._∷_ (13, Rows'.any-gone (Syntax.tyInt Syntax.w64)) (List._∷_ (14, Rows'.any-gone Cell.held) List.[]))))))))))))))
+        g14 = List._∷_ local0 (List._∷_ local16 locals17)
 
         abbrev G0 : Row.Cx
-        G0 = record { locals = t0; slots = List._∷_ (Row.lease (κs .0) (qs .0)) (List._∷_ (Row.lease (κs .1 .0) (qs .1 .0)) (List._∷_ Row.off List.[])) }
+        G0 = record { locals = t0; slots = List._∷_ slot0 slots0 }
 
         abbrev G1 : Row.Cx
-        G1 = record { locals = t1; slots = List._∷_ (Row.lease (κs .0) (qs .0)) (List._∷_ (Row.lease (κs .1 .0) (qs .1 .0)) (List._∷_ Row.off List.[])) }
+        G1 = record { locals = t1; slots = List._∷_ slot0 slots0 }
 
         abbrev G2 : Row.Cx
-        G2 = record { locals = t0; slots = List._∷_ (Row.lease (κs .0) (qs .0)) (List._∷_ (Row.lease (κs .1 .0) (qs .1 .0)) (List._∷_ Row.off List.[])) }
+        G2 = record { locals = t0; slots = List._∷_ slot0 slots0 }
 
         abbrev G3 : Row.Cx
-        G3 = record { locals = t2; slots = List._∷_ (Row.lease (κs .0) (qs .0)) (List._∷_ (Row.lease (κs .1 .0) (qs .1 .0)) (List._∷_ Row.off List.[])) }
+        G3 = record { locals = t2; slots = List._∷_ slot0 slots0 }
 
         abbrev G4 : Row.Cx
-        G4 = record { locals = t3; slots = List._∷_ (Row.lease (κs .0) (qs .0)) (List._∷_ (Row.lease (κs .1 .0) (qs .1 .0)) (List._∷_ Row.off List.[])) }
+        G4 = record { locals = t3; slots = List._∷_ slot0 slots0 }
 
         abbrev G5 : Row.Cx
-        G5 = record { locals = t3; slots = List._∷_ (Row.lease (κs .0) (qs .0)) (List._∷_ (Row.lease (κs .1 .0) (qs .1 .0)) (List._∷_ Row.off List.[])) }
+        G5 = record { locals = t3; slots = List._∷_ slot0 slots0 }
 
         abbrev G6 : Row.Cx
-        G6 = record { locals = t4; slots = List._∷_ (Row.lease (κs .0) (qs .0)) (List._∷_ (Row.lease (κs .1 .0) (qs .1 .0)) (List._∷_ Row.off List.[])) }
+        G6 = record { locals = t4; slots = List._∷_ slot0 slots0 }
 
         abbrev G7 : Row.Cx
-        G7 = record { locals = t3; slots = List._∷_ (Row.lease (κs .0) (qs .0)) (List._∷_ (Row.lease (κs .1 .0) (qs .1 .0)) (List._∷_ Row.off List.[])) }
+        G7 = record { locals = t3; slots = List._∷_ slot0 slots0 }
 
         abbrev G8 : Row.Cx
-        G8 = record { locals = t3; slots = List._∷_ (Row.lease (κs .0) (qs .0)) (List._∷_ (Row.lease (κs .1 .0) (qs .1 .0)) (List._∷_ Row.off List.[])) }
+        G8 = record { locals = t3; slots = List._∷_ slot0 slots0 }
 
         abbrev G9 : Row.Cx
-        G9 = record { locals = t3; slots = List._∷_ (Row.lease (κs .0) (qs .0)) (List._∷_ (Row.lease (κs .1 .0) (qs .1 .0)) (List._∷_ Row.off List.[])) }
+        G9 = record { locals = t3; slots = List._∷_ slot0 slots0 }
 
         abbrev G10 : Row.Cx
-        G10 = record { locals = t5; slots = List._∷_ (Row.lease (κs .0) (qs .0)) (List._∷_ (Row.lease (κs .1 .0) (qs .1 .0)) (List._∷_ Row.off List.[])) }
+        G10 = record { locals = t5; slots = List._∷_ slot0 slots0 }
 
         abbrev G11 : Row.Cx
-        G11 = record { locals = t6; slots = List._∷_ (Row.lease (κs .0) (qs .0)) (List._∷_ (Row.lease (κs .1 .0) (qs .1 .0)) (List._∷_ Row.off List.[])) }
+        G11 = record { locals = t6; slots = List._∷_ slot0 slots0 }
 
         abbrev G12 : Row.Cx
-        G12 = record { locals = t6; slots = List._∷_ (Row.lease (κs .0) (qs .0)) (List._∷_ (Row.lease (κs .1 .0) (qs .1 .0)) (List._∷_ Row.alive List.[])) }
+        G12 = record { locals = t6; slots = List._∷_ slot0 slots1 }
 
         abbrev G13 : Row.Cx
-        G13 = record { locals = g7; slots = List._∷_ Row.off (List._∷_ (Row.lease (κs .1 .0) (qs .1 .0)) (List._∷_ Row.alive List.[])) }
+        G13 = record { locals = g7; slots = List._∷_ Row.off slots1 }
 
         abbrev G14 : Row.Cx
-        G14 = record { locals = g8; slots = List._∷_ Row.off (List._∷_ (Row.lease (κs .1 .0) (qs .1 .0)) (List._∷_ Row.alive List.[])) }
+        G14 = record { locals = g8; slots = List._∷_ Row.off slots1 }
 
         abbrev G15 : Row.Cx
-        G15 = record { locals = g9; slots = List._∷_ Row.off (List._∷_ (Row.lease (κs .1 .0) (qs .1 .0)) (List._∷_ Row.alive List.[])) }
+        G15 = record { locals = g9; slots = List._∷_ Row.off slots1 }
 
         abbrev G16 : Row.Cx
-        G16 = record { locals = g10; slots = List._∷_ Row.off (List._∷_ (Row.lease (κs .1 .0) (qs .1 .0)) (List._∷_ Row.alive List.[])) }
+        G16 = record { locals = g10; slots = List._∷_ Row.off slots1 }
 
         abbrev G17 : Row.Cx
-        G17 = record { locals = g11; slots = List._∷_ Row.off (List._∷_ (Row.lease (κs .1 .0) (qs .1 .0)) (List._∷_ Row.alive List.[])) }
+        G17 = record { locals = g11; slots = List._∷_ Row.off slots1 }
 
         abbrev G18 : Row.Cx
-        G18 = record { locals = g12; slots = List._∷_ Row.off (List._∷_ (Row.lease (κs .1 .0) (qs .1 .0)) (List._∷_ Row.alive List.[])) }
+        G18 = record { locals = g12; slots = List._∷_ Row.off slots1 }
 
         abbrev G19 : Row.Cx
-        G19 = record { locals = g13; slots = List._∷_ Row.off (List._∷_ (Row.lease (κs .1 .0) (qs .1 .0)) (List._∷_ Row.alive List.[])) }
+        G19 = record { locals = g13; slots = List._∷_ Row.off slots1 }
 
         abbrev G20 : Row.Cx
-        G20 = record { locals = g14; slots = List._∷_ Row.off (List._∷_ (Row.lease (κs .1 .0) (qs .1 .0)) (List._∷_ Row.alive List.[])) }
+        G20 = record { locals = g14; slots = List._∷_ Row.off slots1 }
 
         abbrev G21 : Row.Cx
-        G21 = record { locals = g14; slots = List._∷_ Row.off (List._∷_ (Row.lease (κs .1 .0) (qs .1 .0)) (List._∷_ Row.dead List.[])) }
+        G21 = record { locals = g14; slots = List._∷_ Row.off (List._∷_ slot1 (List._∷_ Row.dead List.[])) }
 
         abbrev G22 : Row.Cx
-        G22 = record { locals = t6; slots = List._∷_ (Row.lease (κs .0) (qs .0)) (List._∷_ (Row.lease (κs .1 .0) (qs .1 .0)) (List._∷_ Row.dead List.[])) }
+        G22 = record { locals = t6; slots = List._∷_ slot0 (List._∷_ slot1 (List._∷_ Row.dead List.[])) }
 
         abbrev G23 : Row.Cx
-        G23 = record { locals = t6; slots = List._∷_ (Row.lease (κs .0) (qs .0)) (List._∷_ (Row.lease (κs .1 .0) (qs .1 .0)) (List._∷_ Row.off List.[])) }
+        G23 = record { locals = t6; slots = List._∷_ slot0 slots0 }
 
         abbrev G24 : Row.Cx
-        G24 = record { locals = t5; slots = List._∷_ (Row.lease (κs .0) (qs .0)) (List._∷_ (Row.lease (κs .1 .0) (qs .1 .0)) (List._∷_ Row.off List.[])) }
+        G24 = record { locals = t5; slots = List._∷_ slot0 slots0 }
 
         abbrev G25 : Row.Cx
-        G25 = record { locals = t3; slots = List._∷_ (Row.lease (κs .0) (qs .0)) (List._∷_ (Row.lease (κs .1 .0) (qs .1 .0)) (List._∷_ Row.off List.[])) }
+        G25 = record { locals = t3; slots = List._∷_ slot0 slots0 }
 
         abbrev G26 : Row.Cx
-        G26 = record { locals = t3; slots = List._∷_ (Row.lease (κs .0) (qs .0)) (List._∷_ (Row.lease (κs .1 .0) (qs .1 .0)) (List._∷_ Row.off List.[])) }
+        G26 = record { locals = t3; slots = List._∷_ slot0 slots0 }
 
         abbrev G27 : Row.Cx
-        G27 = record { locals = t15; slots = List._∷_ (Row.lease (κs .0) (qs .0)) (List._∷_ (Row.lease (κs .1 .0) (qs .1 .0)) (List._∷_ Row.off List.[])) }
+        G27 = record { locals = t15; slots = List._∷_ slot0 slots0 }
 
         abbrev G28 : Row.Cx
-        G28 = record { locals = t16; slots = List._∷_ (Row.lease (κs .0) (qs .0)) (List._∷_ (Row.lease (κs .1 .0) (qs .1 .0)) (List._∷_ Row.off List.[])) }
+        G28 = record { locals = t16; slots = List._∷_ slot0 slots0 }
 
         abbrev G29 : Row.Cx
-        G29 = record { locals = t17; slots = List._∷_ (Row.lease (κs .0) (qs .0)) (List._∷_ (Row.lease (κs .1 .0) (qs .1 .0)) (List._∷_ Row.off List.[])) }
+        G29 = record { locals = t17; slots = List._∷_ slot0 slots0 }
 
         abbrev G30 : Row.Cx
-        G30 = record { locals = t18; slots = List._∷_ (Row.lease (κs .0) (qs .0)) (List._∷_ (Row.lease (κs .1 .0) (qs .1 .0)) (List._∷_ Row.off List.[])) }
+        G30 = record { locals = t18; slots = List._∷_ slot0 slots0 }
 
         abbrev G31 : Row.Cx
-        G31 = record { locals = t19; slots = List._∷_ (Row.lease (κs .0) (qs .0)) (List._∷_ (Row.lease (κs .1 .0) (qs .1 .0)) (List._∷_ Row.off List.[])) }
+        G31 = record { locals = t19; slots = List._∷_ slot0 slots0 }
 
         abbrev G32 : Row.Cx
-        G32 = record { locals = t1; slots = List._∷_ (Row.lease (κs .0) (qs .0)) (List._∷_ (Row.lease (κs .1 .0) (qs .1 .0)) (List._∷_ Row.off List.[])) }
+        G32 = record { locals = t1; slots = List._∷_ slot0 slots0 }
 
         abbrev Δ0 : Typed.Outs
         Δ0 = record { next = Option.none; exits = List.[]; returns = Option.some G1 }
@@ -721,19 +881,19 @@ module _ (claims· : Claims) where
           d4 = Scalar.t-cond 𝓤 H A W E 𝓣 G6 9 (λ x. x) b3 b4 Δ4 at1 at3 (Scalar.reads-sc 𝓤 H A W Row.sBool) Path'.refl d1 d3
 
           d5 : Typed.Typed 𝓤 H A 𝓣 E G25 b13 Δ3 at5
-          d5 = Typed.s-typed 𝓤 H A W 𝓣 E G25 b13 Δ3 (Typed.ask s22) tt (Scalar.t-op2 𝓤 H A W E 𝓣 G25 (Syntax.add Syntax.unsigned) (Scalar.oAt 7 (Syntax.tyInt Syntax.w64) (Row.valS (Row.sInt Syntax.w64))) (Scalar.oInt Syntax.w64 1) 7 (Rows'.sc-here (Row.sInt Syntax.w64)) (Syntax.tyInt Syntax.w64) (Row.valS (Row.sInt Syntax.w64)) (Row.sInt Syntax.w64 .of) (Scalar.reads-sc 𝓤 H A W (Row.sInt Syntax.w64), Path'.refl) tt (Scalar.room-sc 𝓤 H A W (Row.sInt Syntax.w64)) (Scalar.holds-sc 𝓤 H A W (Row.sInt Syntax.w64)) Path'.refl (λ u. Path'.refl) λ u. tt)
+          d5 = Typed.s-typed 𝓤 H A W 𝓣 E G25 b13 Δ3 (Typed.ask s22) tt (Scalar.t-op2 𝓤 H A W E 𝓣 G25 (Syntax.add Syntax.unsigned) (Scalar.oAt 7 ty0 (Row.valS sc0)) (Scalar.oInt Syntax.w64 1) 7 (Rows'.sc-here sc0) ty0 (Row.valS sc0) (Row.sInt Syntax.w64 .of) (Scalar.reads-sc 𝓤 H A W sc0, Path'.refl) tt (Scalar.room-sc 𝓤 H A W sc0) (Scalar.holds-sc 𝓤 H A W sc0) Path'.refl (λ u. Path'.refl) λ u. tt)
 
           d6 : Typed.Typed 𝓤 H A 𝓣 E G24 b13 Δ3 at6
-          d6 = Typed.g-pre 𝓤 H A W 𝓣 E G24 G25 b13 Δ3 (Typed.pass T24 T25 s21) at5 (Scalar.g-room 𝓤 H A W E G24 8 (Syntax.tyStruct (List._∷_ 115 (List._∷_ 99 (List._∷_ 114 (List._∷_ 105 (List._∷_ 112 (List._∷_ 116 (List._∷_ 58 (List._∷_ 58 (List._∷_ 114 (List._∷_ 101 (List._∷_ 99 (List._∷_ 111 (List._∷_ 114 (List._∷_ 100 (List._∷_ 115 (List._∷_ 58 (List._∷_ 58 (List._∷_ 82 (List._∷_ 101 (List._∷_ 99 (List._∷_ 111 (List._∷_ 114 (List._∷_ 100 List.[]))))))))))))))))))))))) (Syntax.tcons (Syntax.tyInt Syntax.w32) (Syntax.tcons Syntax.tyBool (Syntax.tcons (Syntax.tyInt Syntax.w64) (Syntax.tcons (Syntax.tyInt Syntax.w64) Syntax.tnil))))) (Local.room-whole 𝓤 H A W (Declared.row Record.the-type) (Syntax.tyStruct (List._∷_ 115 (List._∷_ 99 (List._∷_ 114 (List._∷_ 105 (List._∷_ 112 (List._∷_ 116 (List._∷_ 58 (List._∷_ 58 (List._∷_ 114 (List._∷_ 101 (List._∷_ 99 (List._∷_ 111 (List._∷_ 114 (List._∷_ 100 (List._∷_ 115 (List._∷_ 58 (List._∷_ 58 (List._∷_ 82 (List._∷_ 101 (List._∷_ 99 (List._∷_ 111 (List._∷_ 114 (List._∷_ 100 List.[]))))))))))))))))))))))) (Syntax.tcons (Syntax.tyInt Syntax.w32) (Syntax.tcons Syntax.tyBool (Syntax.tcons (Syntax.tyInt Syntax.w64) (Syntax.tcons (Syntax.tyInt Syntax.w64) Syntax.tnil))))) Path'.refl)) d5
+          d6 = Typed.g-pre 𝓤 H A W 𝓣 E G24 G25 b13 Δ3 (Typed.pass T24 T25 s21) at5 (Scalar.g-room 𝓤 H A W E G24 8 ty1 (Local.room-whole 𝓤 H A W held1 ty1 Path'.refl)) d5
 
           d7 : Typed.Typed 𝓤 H A 𝓣 E G23 b14 Δ3 at7
-          d7 = Typed.s-seq 𝓤 H A W 𝓣 E G23 G24 b12 b13 Δ3 (Typed.pass T22 T24 s20) at6 (Scalar.t-use 𝓤 H A W E 𝓣 G23 (Scalar.oFld 8 (List._∷_ (Syntax.field 3) List.[]) (Syntax.tyInt Syntax.w64) 16 (Reads.fieldV Record.the-type Laws.the-laws 3)) 6 (Rows'.sc-here (Row.sInt Syntax.w64)) (Syntax.tyInt Syntax.w64) (Row.valS (Row.sInt Syntax.w64)) (Row.sInt Syntax.w64 .of) (Reads.reads-field 𝓤 H A W Record.the-type Laws.the-laws 3 (Syntax.tyInt Syntax.w64) 16 Path'.refl, Path'.refl) (Reads'.room-gone 𝓤 H A (Syntax.tyInt Syntax.w64)) (Scalar.holds-sc 𝓤 H A W (Row.sInt Syntax.w64)) Path'.refl (λ u. Path'.refl) λ u. tt) d6
+          d7 = Typed.s-seq 𝓤 H A W 𝓣 E G23 G24 b12 b13 Δ3 (Typed.pass T22 T24 s20) at6 (Scalar.t-use 𝓤 H A W E 𝓣 G23 (Scalar.oFld 8 steps1 ty0 16 (Reads.fieldV Record.the-type Laws.the-laws 3)) 6 (Rows'.sc-here sc0) ty0 (Row.valS sc0) (Row.sInt Syntax.w64 .of) (Reads.reads-field 𝓤 H A W Record.the-type Laws.the-laws 3 ty0 16 Path'.refl, Path'.refl) (Reads'.room-gone 𝓤 H A ty0) (Scalar.holds-sc 𝓤 H A W sc0) Path'.refl (λ u. Path'.refl) λ u. tt) d6
 
           d8 : Typed.Typed 𝓤 H A 𝓣 E G22 b14 Δ3 at8
           d8 = Typed.g-pre 𝓤 H A W 𝓣 E G22 G23 b14 Δ3 (λ Ψ. Ψ) at7 (Lifetime.g-forget 𝓤 H A W E G22 2 Row.dead Path'.refl) d7
 
           d9 : Typed.Typed 𝓤 H A 𝓣 E G21 b14 Δ3 at9
-          d9 = Typed.g-pre 𝓤 H A W 𝓣 E G21 G22 b14 Δ3 (Typed.both s18) at8 (Relend.g-back-sl 𝓤 H A W E Cell.R G21 12 1 0 2 (Syntax.tyRef (Syntax.named 0) Syntax.mut Cell.behind) (Syntax.tyRef Syntax.erased Syntax.mut Cell.behind) (Row.lease (κs .0) (qs .0)) (λ x. x) (λ x. x) (Reads'.as-is 𝓤 H A (Mut.msleft Cell.R (Syntax.tyRef Syntax.erased Syntax.mut Cell.behind))) (Reads'.as-is 𝓤 H A (Relend.mslice-owed Cell.R (Syntax.tyRef (Syntax.named 0) Syntax.mut Cell.behind) 0 2 (Row.lease (κs .0) (qs .0)))) Path'.refl Path'.refl) d8
+          d9 = Typed.g-pre 𝓤 H A W 𝓣 E G21 G22 b14 Δ3 (Typed.both s18) at8 (Relend.g-back-sl 𝓤 H A W E Cell.R G21 12 1 0 2 ty4 ty2 slot0 (λ x. x) (λ x. x) (Reads'.as-is 𝓤 H A (Mut.msleft Cell.R ty2)) (Reads'.as-is 𝓤 H A (Relend.mslice-owed Cell.R ty4 0 2 slot0)) Path'.refl Path'.refl) d8
 
           d10 : Typed.Typed 𝓤 H A 𝓣 E G20 b14 Δ3 at10
           d10 = Typed.g-pre 𝓤 H A W 𝓣 E G20 G21 b14 Δ3 (λ Ψ. Ψ) at9 (Lifetime.g-end 𝓤 H A W E G20 2 Path'.refl) d9
@@ -742,40 +902,40 @@ module _ (claims· : Claims) where
           d11 = Typed.g-pre 𝓤 H A W 𝓣 E G19 G20 b14 Δ3 (Typed.pass T19 T20 s16) at10 (Scalar.g-room 𝓤 H A W E G19 14 Cell.held (Cell.to-room 𝓤 H A W)) d10
 
           d12 : Typed.Typed 𝓤 H A 𝓣 E G18 b14 Δ3 at12
-          d12 = Typed.g-pre 𝓤 H A W 𝓣 E G18 G19 b14 Δ3 (Typed.pass T18 T19 s15) at11 (Scalar.g-room 𝓤 H A W E G18 13 (Syntax.tyInt Syntax.w64) (Scalar.room-sc 𝓤 H A W (Row.sInt Syntax.w64))) d11
+          d12 = Typed.g-pre 𝓤 H A W 𝓣 E G18 G19 b14 Δ3 (Typed.pass T18 T19 s15) at11 (Scalar.g-room 𝓤 H A W E G18 13 ty0 (Scalar.room-sc 𝓤 H A W sc0)) d11
 
           d13 : Typed.Typed 𝓤 H A 𝓣 E G17 b14 Δ3 at13
           d13 = Typed.g-pre 𝓤 H A W 𝓣 E G17 G18 b14 Δ3 (Typed.pass T17 T18 s14) at12 (Scalar.g-room 𝓤 H A W E G17 10 Syntax.tyUnit (Scalar.room-sc 𝓤 H A W Row.sUnit)) d12
 
           d14 : Typed.Typed 𝓤 H A 𝓣 E G16 b15 Δ3 at14
-          d14 = Typed.s-seq 𝓤 H A W 𝓣 E G16 G17 b11 b14 Δ3 (Typed.both s13) at13 (Plain.t-call-plain 𝓤 H A W 𝓣 1 ps·2 r·2 (claims· .4) (claims· .5) "sheets::thin::put_record" (known .2) E (λ pos β. β) G16 (record { pos = 12; ty = Syntax.tyRef Syntax.erased Syntax.mut Cell.behind; ref = λ x. x }, (Num.vAt 13 λ x. x, (record { pos = 14; st = List.[]; d = 0; at = λ x. x }, tt))) 10 (List._∷_ 2 List.[]) (Call.sub-id 𝓤 H A W (G16 .slots)) (Reads'.as-is 𝓤 H A (Mut.mslice Cell.R (Syntax.tyRef Syntax.erased Syntax.mut Cell.behind) 2), Mut.reads-mslice 𝓤 H A W Cell.R (Syntax.tyRef Syntax.erased Syntax.mut Cell.behind) 2, Path'.refl, ((Scalar.reads-sc 𝓤 H A W (Row.sInt Syntax.w64), Path'.refl), ((Cell.yields 𝓤 H A W, Path'.refl), tt))) (Reads'.room-gone 𝓤 H A Syntax.tyUnit) (tt, tt) Path'.refl) d13
+          d14 = Typed.s-seq 𝓤 H A W 𝓣 E G16 G17 b11 b14 Δ3 (Typed.both s13) at13 (Plain.t-call-plain 𝓤 H A W 𝓣 1 ps·2 r·2 (claims· .4) (claims· .5) "sheets::thin::put_record" (known .2) E (λ pos β. β) G16 (record { pos = 12; ty = Syntax.tyRef Syntax.erased Syntax.mut Cell.behind; ref = λ x. x }, (Num.vAt 13 λ x. x, (record { pos = 14; st = List.[]; d = 0; at = λ x. x }, tt))) 10 (List._∷_ 2 List.[]) (Call.sub-id 𝓤 H A W (G16 .slots)) (Reads'.as-is 𝓤 H A (Mut.mslice Cell.R ty2 2), Mut.reads-mslice 𝓤 H A W Cell.R ty2 2, Path'.refl, ((Scalar.reads-sc 𝓤 H A W sc0, Path'.refl), ((Cell.yields 𝓤 H A W, Path'.refl), tt))) (Reads'.room-gone 𝓤 H A Syntax.tyUnit) (tt, tt) Path'.refl) d13
 
           d15 : Typed.Typed 𝓤 H A 𝓣 E G15 b16 Δ3 at15
-          d15 = Typed.s-seq 𝓤 H A W 𝓣 E G15 G16 b10 b15 Δ3 (Typed.both s12) at14 (Plain.t-call-plain 𝓤 H A W 𝓣 0 ps·1 r·1 (claims· .2) (claims· .3) "script::records::zone" (known .1) E (λ pos β. β) G15 (record { pos = 8; st = List.[]; d = 0; at = λ x. x }, tt) 14 List.[] (Call.sub-id 𝓤 H A W (G15 .slots)) ((Yields.yields-copy 𝓤 H A W (λ ρ. Unit) (Declared.row Record.the-type) Path'.refl (Copies.cStruct Record.the-type Laws.the-laws Laws.the-copy .copy 𝓤 H A W) (Rows'.whole (Declared.row Record.the-type)) (λ x. x) (λ x. x) (λ ρ told. Local.mem-whole 𝓤 H A W (Declared.row Record.the-type) ρ) λ ρ told. Local.whole-mem 𝓤 H A W (Declared.row Record.the-type) ρ, Path'.refl), tt) (Reads'.room-gone 𝓤 H A Cell.held) tt Path'.refl) d14
+          d15 = Typed.s-seq 𝓤 H A W 𝓣 E G15 G16 b10 b15 Δ3 (Typed.both s12) at14 (Plain.t-call-plain 𝓤 H A W 𝓣 0 ps·1 r·1 (claims· .2) (claims· .3) "script::records::zone" (known .1) E (λ pos β. β) G15 (record { pos = 8; st = List.[]; d = 0; at = λ x. x }, tt) 14 List.[] (Call.sub-id 𝓤 H A W (G15 .slots)) ((Yields.yields-copy 𝓤 H A W (λ ρ. Unit) held1 Path'.refl (Copies.cStruct Record.the-type Laws.the-laws Laws.the-copy .copy 𝓤 H A W) (Rows'.whole held1) (λ x. x) (λ x. x) (λ ρ told. Local.mem-whole 𝓤 H A W held1 ρ) λ ρ told. Local.whole-mem 𝓤 H A W held1 ρ, Path'.refl), tt) (Reads'.room-gone 𝓤 H A Cell.held) tt Path'.refl) d14
 
           d16 : Typed.Typed 𝓤 H A 𝓣 E G14 b17 Δ3 at16
-          d16 = Typed.s-seq 𝓤 H A W 𝓣 E G14 G15 b9 b16 Δ3 (Typed.ask s11) at15 (Scalar.t-op2 𝓤 H A W E 𝓣 G14 (Syntax.add Syntax.unsigned) (Scalar.oAt 2 (Syntax.tyInt Syntax.w64) (Row.valS (Row.sInt Syntax.w64))) (Scalar.oAt 7 (Syntax.tyInt Syntax.w64) (Row.valS (Row.sInt Syntax.w64))) 13 (Rows'.sc-here (Row.sInt Syntax.w64)) (Syntax.tyInt Syntax.w64) (Row.valS (Row.sInt Syntax.w64)) (Row.sInt Syntax.w64 .of) (Scalar.reads-sc 𝓤 H A W (Row.sInt Syntax.w64), Path'.refl) (Scalar.reads-sc 𝓤 H A W (Row.sInt Syntax.w64), Path'.refl) (Reads'.room-gone 𝓤 H A (Syntax.tyInt Syntax.w64)) (Scalar.holds-sc 𝓤 H A W (Row.sInt Syntax.w64)) Path'.refl (λ u. Path'.refl) λ u. tt) d15
+          d16 = Typed.s-seq 𝓤 H A W 𝓣 E G14 G15 b9 b16 Δ3 (Typed.ask s11) at15 (Scalar.t-op2 𝓤 H A W E 𝓣 G14 (Syntax.add Syntax.unsigned) (Scalar.oAt 2 ty0 (Row.valS sc0)) (Scalar.oAt 7 ty0 (Row.valS sc0)) 13 (Rows'.sc-here sc0) ty0 (Row.valS sc0) (Row.sInt Syntax.w64 .of) (Scalar.reads-sc 𝓤 H A W sc0, Path'.refl) (Scalar.reads-sc 𝓤 H A W sc0, Path'.refl) (Reads'.room-gone 𝓤 H A ty0) (Scalar.holds-sc 𝓤 H A W sc0) Path'.refl (λ u. Path'.refl) λ u. tt) d15
 
           d17 : Typed.Typed 𝓤 H A 𝓣 E G13 b18 Δ3 at17
-          d17 = Typed.s-seq 𝓤 H A W 𝓣 E G13 G14 b8 b17 Δ3 (Typed.ask s10) at16 (Relend.t-sl-aggregate 𝓤 H A W E Cell.R 𝓣 (Relend.asMut Cell.R) G13 11 12 2 (Syntax.tyRef Syntax.erased Syntax.mut Cell.behind) (Syntax.tyRef Syntax.erased Syntax.mut Cell.behind) (λ x. x) (Scalar.oFld 1 (List._∷_ (Syntax.field 1) List.[]) (Syntax.tyInt Syntax.w64) 8 λ v. Shared.lenV (v .0)) (Reads'.as-is 𝓤 H A (Relend.msptr Cell.R (Syntax.tyRef Syntax.erased Syntax.mut Cell.behind) 2)) (Reads'.room-gone 𝓤 H A (Syntax.tyStruct (List._∷_ 38 (List._∷_ 91 (List._∷_ 93 List.[]))) (Syntax.tcons (Syntax.tyRef Syntax.erased Syntax.mut Cell.behind) (Syntax.tcons (Syntax.tyInt Syntax.w64) Syntax.tnil)))) (Relend.reads-owed-len 𝓤 H A W Cell.R (Syntax.tyRef (Syntax.named 0) Syntax.mut Cell.behind) 0 2 (Row.lease (κs .0) (qs .0)) 8 Path'.refl, Path'.refl) Path'.refl Path'.refl λ b o k. tt) d16
+          d17 = Typed.s-seq 𝓤 H A W 𝓣 E G13 G14 b8 b17 Δ3 (Typed.ask s10) at16 (Relend.t-sl-aggregate 𝓤 H A W E Cell.R 𝓣 (Relend.asMut Cell.R) G13 11 12 2 ty2 ty2 (λ x. x) (Scalar.oFld 1 steps0 ty0 8 λ v. Shared.lenV (v .0)) (Reads'.as-is 𝓤 H A (Relend.msptr Cell.R ty2 2)) (Reads'.room-gone 𝓤 H A ty3) (Relend.reads-owed-len 𝓤 H A W Cell.R ty4 0 2 slot0 8 Path'.refl, Path'.refl) Path'.refl Path'.refl λ b o k. tt) d16
 
           d18 : Typed.Typed 𝓤 H A 𝓣 E G12 b19 Δ3 at18
-          d18 = Typed.s-seq 𝓤 H A W 𝓣 E G12 G13 b7 b18 Δ3 (Typed.give s9) at17 (Relend.t-sl-relend 𝓤 H A W E Cell.R 𝓣 G12 1 11 0 2 (Syntax.tyRef (Syntax.named 0) Syntax.mut Cell.behind) (Syntax.tyRef Syntax.erased Syntax.mut Cell.behind) (Row.lease (κs .0) (qs .0)) 0 (λ x. x) (Reads'.as-is 𝓤 H A (Mut.mslice Cell.R (Syntax.tyRef (Syntax.named 0) Syntax.mut Cell.behind) 0)) (Reads'.room-gone 𝓤 H A (Syntax.tyRef Syntax.erased Syntax.mut Cell.behind)) Path'.refl tt Path'.refl Path'.refl Path'.refl λ b o. tt) d17
+          d18 = Typed.s-seq 𝓤 H A W 𝓣 E G12 G13 b7 b18 Δ3 (Typed.give s9) at17 (Relend.t-sl-relend 𝓤 H A W E Cell.R 𝓣 G12 1 11 0 2 ty4 ty2 slot0 0 (λ x. x) (Reads'.as-is 𝓤 H A (Mut.mslice Cell.R ty4 0)) (Reads'.room-gone 𝓤 H A ty2) Path'.refl tt Path'.refl Path'.refl Path'.refl λ b o. tt) d17
 
           d19 : Typed.Typed 𝓤 H A 𝓣 E G11 b19 Δ3 at19
           d19 = Typed.g-pre 𝓤 H A W 𝓣 E G11 G12 b19 Δ3 (λ Ψ. Ψ) at18 (Lifetime.g-begin 𝓤 H A W E G11 2 (tt, (tt, (tt, (tt, (tt, (tt, (tt, (tt, (tt, (tt, (tt, (tt, (tt, (tt, (tt, tt)))))))))))))))) d18
 
           d20 : Typed.Typed 𝓤 H A 𝓣 E G10 b19 Δ3 at20
-          d20 = Typed.g-pre 𝓤 H A W 𝓣 E G10 G11 b19 Δ3 (Typed.pass T10 T11 s7) at19 (Scalar.g-room 𝓤 H A W E G10 6 (Syntax.tyInt Syntax.w64) (Scalar.room-sc 𝓤 H A W (Row.sInt Syntax.w64))) d19
+          d20 = Typed.g-pre 𝓤 H A W 𝓣 E G10 G11 b19 Δ3 (Typed.pass T10 T11 s7) at19 (Scalar.g-room 𝓤 H A W E G10 6 ty0 (Scalar.room-sc 𝓤 H A W sc0)) d19
 
           d21 : Typed.Typed 𝓤 H A 𝓣 E G7 b20 Δ3 at21
-          d21 = Typed.s-seq 𝓤 H A W 𝓣 E G7 G10 b6 b19 Δ3 (Typed.both s6) at20 (Plain.t-call-plain 𝓤 H A W 𝓣 1 ps·0 r·0 (claims· .0) (claims· .1) "script::records::next_record" (known .0) E (λ pos β. β) G7 (record { pos = 3; ty = Syntax.tyRef (Syntax.named 1) Syntax.imm (Syntax.tyInt Syntax.w8); ref = λ x. x }, (Num.vAt 6 λ x. x, tt)) 8 (List._∷_ 1 List.[]) (Call.sub-id 𝓤 H A W (G7 .slots)) (ShrSlice.spares-sslice 𝓤 H A W (Referent.rtF (Referent.fInt Syntax.w8)) (Syntax.tyRef (Syntax.named 1) Syntax.imm (Syntax.tyInt Syntax.w8)) 1, Shared.reads-sslice 𝓤 H A W (Referent.rtF (Referent.fInt Syntax.w8)) (Syntax.tyRef (Syntax.named 1) Syntax.imm (Syntax.tyInt Syntax.w8)) 1, Path'.refl, ((Scalar.reads-sc 𝓤 H A W (Row.sInt Syntax.w64), Path'.refl), tt)) (Reads'.room-gone 𝓤 H A (Syntax.tyStruct (List._∷_ 115 (List._∷_ 99 (List._∷_ 114 (List._∷_ 105 (List._∷_ 112 (List._∷_ 116 (List._∷_ 58 (List._∷_ 58 (List._∷_ 114 (List._∷_ 101 (List._∷_ 99 (List._∷_ 111 (List._∷_ 114 (List._∷_ 100 (List._∷_ 115 (List._∷_ 58 (List._∷_ 58 (List._∷_ 82 (List._∷_ 101 (List._∷_ 99 (List._∷_ 111 (List._∷_ 114 (List._∷_ 100 List.[]))))))))))))))))))))))) (Syntax.tcons (Syntax.tyInt Syntax.w32) (Syntax.tcons Syntax.tyBool (Syntax.tcons (Syntax.tyInt Syntax.w64) (Syntax.tcons (Syntax.tyInt Syntax.w64) Syntax.tnil)))))) (tt, tt) Path'.refl) d20
+          d21 = Typed.s-seq 𝓤 H A W 𝓣 E G7 G10 b6 b19 Δ3 (Typed.both s6) at20 (Plain.t-call-plain 𝓤 H A W 𝓣 1 ps·0 r·0 (claims· .0) (claims· .1) "script::records::next_record" (known .0) E (λ pos β. β) G7 (record { pos = 3; ty = Syntax.tyRef (Syntax.named 1) Syntax.imm ty5; ref = λ x. x }, (Num.vAt 6 λ x. x, tt)) 8 (List._∷_ 1 List.[]) (Call.sub-id 𝓤 H A W (G7 .slots)) (ShrSlice.spares-sslice 𝓤 H A W held0 ty6 1, Shared.reads-sslice 𝓤 H A W held0 ty6 1, Path'.refl, ((Scalar.reads-sc 𝓤 H A W sc0, Path'.refl), tt)) (Reads'.room-gone 𝓤 H A ty1) (tt, tt) Path'.refl) d20
 
           d22 : Typed.Typed 𝓤 H A 𝓣 E G6 b21 Δ3 at22
           d22 = Typed.t-seq 𝓤 H A W 𝓣 E G6 G7 b5 b20 Δ3 at4 at21 d4 d21
 
           d23 : Typed.Typed 𝓤 H A 𝓣 E G4 b22 Δ3 at23
-          d23 = Typed.s-seq 𝓤 H A W 𝓣 E G4 G6 b2 b21 Δ3 (Typed.ask s3) at22 (Scalar.t-op2 𝓤 H A W E 𝓣 G4 (Syntax.lt Syntax.unsigned) (Scalar.oAt 7 (Syntax.tyInt Syntax.w64) (Row.valS (Row.sInt Syntax.w64))) (Scalar.oAt 5 (Syntax.tyInt Syntax.w64) (Row.valS (Row.sInt Syntax.w64))) 9 (Rows'.sc-here Row.sBool) Syntax.tyBool (Row.valS Row.sBool) (Row.sBool .of) (Scalar.reads-sc 𝓤 H A W (Row.sInt Syntax.w64), Path'.refl) (Scalar.reads-sc 𝓤 H A W (Row.sInt Syntax.w64), Path'.refl) (Reads'.room-gone 𝓤 H A Syntax.tyBool) (Scalar.holds-sc 𝓤 H A W Row.sBool) Path'.refl (λ u. Path'.refl) λ u. tt) d22
+          d23 = Typed.s-seq 𝓤 H A W 𝓣 E G4 G6 b2 b21 Δ3 (Typed.ask s3) at22 (Scalar.t-op2 𝓤 H A W E 𝓣 G4 (Syntax.lt Syntax.unsigned) (Scalar.oAt 7 ty0 (Row.valS sc0)) (Scalar.oAt 5 ty0 (Row.valS sc0)) 9 (Rows'.sc-here Row.sBool) Syntax.tyBool (Row.valS Row.sBool) (Row.sBool .of) (Scalar.reads-sc 𝓤 H A W sc0, Path'.refl) (Scalar.reads-sc 𝓤 H A W sc0, Path'.refl) (Reads'.room-gone 𝓤 H A Syntax.tyBool) (Scalar.holds-sc 𝓤 H A W Row.sBool) Path'.refl (λ u. Path'.refl) λ u. tt) d22
 
           d24 : Typed.Typed 𝓤 H A 𝓣 E G4 b23 Δ2 at24
           d24 = Typed.t-loop-by 𝓤 H A W 𝓣 E G4 b22 Δ2 put0 (λ u vs. Inv·0 (Row.get 1 (T4 .locals) u .now) (Row.get 2 (T4 .locals) u) (Row.get 3 (T4 .locals) u .now) (Row.get 4 (T4 .locals) u) (Row.get 5 (T4 .locals) u) (Row.get 6 (T4 .locals) u) (Row.get 7 (T4 .locals) u) (vs .0) (vs .1) (vs .2)) (λ u vs. μ·0 (Row.get 1 (T4 .locals) u .now) (Row.get 2 (T4 .locals) u) (Row.get 3 (T4 .locals) u .now) (Row.get 4 (T4 .locals) u) (Row.get 5 (T4 .locals) u) (Row.get 6 (T4 .locals) u) (Row.get 7 (T4 .locals) u) (vs .0) (vs .1) (vs .2)) at23 d23
@@ -787,19 +947,19 @@ module _ (claims· : Claims) where
           d26 = Typed.t-return 𝓤 H A W 𝓣 E Δ0 tt
 
           d27 : Typed.Typed 𝓤 H A 𝓣 E G31 b26 Δ0 at27
-          d27 = Typed.g-pre 𝓤 H A W 𝓣 E G31 G32 b26 Δ0 (Typed.pass T31 T32 s28) at26 (Scalar.g-room 𝓤 H A W E G31 5 (Syntax.tyInt Syntax.w64) (Scalar.room-sc 𝓤 H A W (Row.sInt Syntax.w64))) d26
+          d27 = Typed.g-pre 𝓤 H A W 𝓣 E G31 G32 b26 Δ0 (Typed.pass T31 T32 s28) at26 (Scalar.g-room 𝓤 H A W E G31 5 ty0 (Scalar.room-sc 𝓤 H A W sc0)) d26
 
           d28 : Typed.Typed 𝓤 H A 𝓣 E G30 b26 Δ0 at28
-          d28 = Typed.g-pre 𝓤 H A W 𝓣 E G30 G31 b26 Δ0 (Typed.pass T30 T31 s27) at27 (Scalar.g-room 𝓤 H A W E G30 4 (Syntax.tyInt Syntax.w64) (Scalar.room-sc 𝓤 H A W (Row.sInt Syntax.w64))) d27
+          d28 = Typed.g-pre 𝓤 H A W 𝓣 E G30 G31 b26 Δ0 (Typed.pass T30 T31 s27) at27 (Scalar.g-room 𝓤 H A W E G30 4 ty0 (Scalar.room-sc 𝓤 H A W sc0)) d27
 
           d29 : Typed.Typed 𝓤 H A 𝓣 E G29 b26 Δ0 at29
-          d29 = Typed.g-pre 𝓤 H A W 𝓣 E G29 G30 b26 Δ0 (Typed.pass T29 T30 s26) at28 (Scalar.g-room 𝓤 H A W E G29 2 (Syntax.tyInt Syntax.w64) (Scalar.room-sc 𝓤 H A W (Row.sInt Syntax.w64))) d28
+          d29 = Typed.g-pre 𝓤 H A W 𝓣 E G29 G30 b26 Δ0 (Typed.pass T29 T30 s26) at28 (Scalar.g-room 𝓤 H A W E G29 2 ty0 (Scalar.room-sc 𝓤 H A W sc0)) d28
 
           d30 : Typed.Typed 𝓤 H A 𝓣 E G28 b26 Δ0 at30
-          d30 = Typed.g-pre 𝓤 H A W 𝓣 E G28 G29 b26 Δ0 (Typed.pass T28 T29 s25) at29 (Scalar.g-room 𝓤 H A W E G28 7 (Syntax.tyInt Syntax.w64) (Scalar.room-sc 𝓤 H A W (Row.sInt Syntax.w64))) d29
+          d30 = Typed.g-pre 𝓤 H A W 𝓣 E G28 G29 b26 Δ0 (Typed.pass T28 T29 s25) at29 (Scalar.g-room 𝓤 H A W E G28 7 ty0 (Scalar.room-sc 𝓤 H A W sc0)) d29
 
           d31 : Typed.Typed 𝓤 H A 𝓣 E G27 b26 Δ0 at31
-          d31 = Typed.g-pre 𝓤 H A W 𝓣 E G27 G28 b26 Δ0 (Typed.pass T27 T28 s24) at30 (Scalar.g-room 𝓤 H A W E G27 6 (Syntax.tyInt Syntax.w64) (Scalar.room-sc 𝓤 H A W (Row.sInt Syntax.w64))) d30
+          d31 = Typed.g-pre 𝓤 H A W 𝓣 E G27 G28 b26 Δ0 (Typed.pass T27 T28 s24) at30 (Scalar.g-room 𝓤 H A W E G27 6 ty0 (Scalar.room-sc 𝓤 H A W sc0)) d30
 
           d32 : Typed.Typed 𝓤 H A 𝓣 E G5 b27 Δ0 at32
           d32 = Typed.s-seq 𝓤 H A W 𝓣 E G5 G27 b25 b26 Δ0 (Typed.pass T5 T27 s23) at31 (Scalar.t-use 𝓤 H A W E 𝓣 G5 Scalar.oUnit 0 (Rows'.sc-here Row.sUnit) Syntax.tyUnit (Row.valS Row.sUnit) (Row.sUnit .of) tt (Reads'.room-gone 𝓤 H A Syntax.tyUnit) (Scalar.holds-sc 𝓤 H A W Row.sUnit) Path'.refl (λ u. Path'.refl) λ u. tt) d31
@@ -808,13 +968,13 @@ module _ (claims· : Claims) where
           d33 = Typed.t-seq 𝓤 H A W 𝓣 E G4 G5 b24 b27 Δ0 at25 at32 d25 d32
 
           d34 : Typed.Typed 𝓤 H A 𝓣 E G3 b29 Δ0 at34
-          d34 = Typed.s-seq 𝓤 H A W 𝓣 E G3 G4 b1 b28 Δ0 (Typed.pass T3 T4 s2) at33 (Scalar.t-use 𝓤 H A W E 𝓣 G3 (Scalar.oInt Syntax.w64 0) 7 (Rows'.sc-here (Row.sInt Syntax.w64)) (Syntax.tyInt Syntax.w64) (Row.valS (Row.sInt Syntax.w64)) (Row.sInt Syntax.w64 .of) tt (Reads'.room-gone 𝓤 H A (Syntax.tyInt Syntax.w64)) (Scalar.holds-sc 𝓤 H A W (Row.sInt Syntax.w64)) Path'.refl (λ u. Path'.refl) λ u. tt) d33
+          d34 = Typed.s-seq 𝓤 H A W 𝓣 E G3 G4 b1 b28 Δ0 (Typed.pass T3 T4 s2) at33 (Scalar.t-use 𝓤 H A W E 𝓣 G3 (Scalar.oInt Syntax.w64 0) 7 (Rows'.sc-here sc0) ty0 (Row.valS sc0) (Row.sInt Syntax.w64 .of) tt (Reads'.room-gone 𝓤 H A ty0) (Scalar.holds-sc 𝓤 H A W sc0) Path'.refl (λ u. Path'.refl) λ u. tt) d33
 
           d35 : Typed.Typed 𝓤 H A 𝓣 E G2 b30 Δ0 at35
-          d35 = Typed.s-seq 𝓤 H A W 𝓣 E G2 G3 b0 b29 Δ0 (Typed.pass T2 T3 s1) at34 (Scalar.t-use 𝓤 H A W E 𝓣 G2 (Scalar.oAt 4 (Syntax.tyInt Syntax.w64) (Row.valS (Row.sInt Syntax.w64))) 6 (Rows'.sc-here (Row.sInt Syntax.w64)) (Syntax.tyInt Syntax.w64) (Row.valS (Row.sInt Syntax.w64)) (Row.sInt Syntax.w64 .of) (Scalar.reads-sc 𝓤 H A W (Row.sInt Syntax.w64), Path'.refl) (Reads'.room-gone 𝓤 H A (Syntax.tyInt Syntax.w64)) (Scalar.holds-sc 𝓤 H A W (Row.sInt Syntax.w64)) Path'.refl (λ u. Path'.refl) λ u. tt) d34
+          d35 = Typed.s-seq 𝓤 H A W 𝓣 E G2 G3 b0 b29 Δ0 (Typed.pass T2 T3 s1) at34 (Scalar.t-use 𝓤 H A W E 𝓣 G2 (Scalar.oAt 4 ty0 (Row.valS sc0)) 6 (Rows'.sc-here sc0) ty0 (Row.valS sc0) (Row.sInt Syntax.w64 .of) (Scalar.reads-sc 𝓤 H A W sc0, Path'.refl) (Reads'.room-gone 𝓤 H A ty0) (Scalar.holds-sc 𝓤 H A W sc0) Path'.refl (λ u. Path'.refl) λ u. tt) d34
 
           d36 : Typed.Typed 𝓤 H A 𝓣 E G0 b30 Δ0 at36
-          d36 = Typed.g-pre 𝓤 H A W 𝓣 E G0 G2 b30 Δ0 (Typed.give s0) at35 (Know.g-shs-known 𝓤 H A W (Referent.fInt Syntax.w8) E G0 3 1 (Syntax.tyRef (Syntax.named 1) Syntax.imm (Syntax.tyInt Syntax.w8)) (Row.lease (κs .1 .0) (qs .1 .0)) 0 (λ x. x) record { fits = Dec'.lit< tt } (Reads'.as-is 𝓤 H A (Rows'.sslice (Referent.rtF (Referent.fInt Syntax.w8)) (Syntax.tyRef (Syntax.named 1) Syntax.imm (Syntax.tyInt Syntax.w8)) 1)) Path'.refl tt) d35
+          d36 = Typed.g-pre 𝓤 H A W 𝓣 E G0 G2 b30 Δ0 (Typed.give s0) at35 (Know.g-shs-known 𝓤 H A W rf0 E G0 3 1 ty6 slot1 0 (λ x. x) record { fits = Dec'.lit< tt } (Reads'.as-is 𝓤 H A (Rows'.sslice held0 ty6 1)) Path'.refl tt) d35
 
           pub typed : Typed.Typed 𝓤 H A 𝓣 E (Function.Γin 2 ps r xs m κs qs) b30 (Function.Δret 2 ps r xs m κs qs) Φ
           typed = d36
@@ -823,7 +983,7 @@ module _ (claims· : Claims) where
         pub record Args : Type 0 where
           pub sheet : Kinds.Den {n = 2} κs (MutSlice.pMutS Cell.R 0 tt)
           pub place : Kinds.Den {n = 2} κs (Num.pNum Syntax.w64)
-          pub script : Kinds.Den {n = 2} κs (ShrSlice.pShrS (Referent.rtF (Referent.fInt Syntax.w8)) 1 tt)
+          pub script : Kinds.Den {n = 2} κs (ShrSlice.pShrS held0 1 tt)
           pub from : Kinds.Den {n = 2} κs (Num.pNum Syntax.w64)
           pub n : Kinds.Den {n = 2} κs (Num.pNum Syntax.w64)
 
@@ -875,23 +1035,23 @@ module _ (claims· : Claims) where
       abbrev pub Need-loop-holds : Type 0
       Need-loop-holds = (c : After-shared-slice-known) → Inv·0 (Row.get 1 (T4 .locals) (m3 (c .before) (c .shared-slice-known .given)) .now) (Row.get 2 (T4 .locals) (m3 (c .before) (c .shared-slice-known .given))) (Row.get 3 (T4 .locals) (m3 (c .before) (c .shared-slice-known .given)) .now) (Row.get 4 (T4 .locals) (m3 (c .before) (c .shared-slice-known .given))) (Row.get 5 (T4 .locals) (m3 (c .before) (c .shared-slice-known .given))) (Row.get 6 (T4 .locals) (m3 (c .before) (c .shared-slice-known .given))) (Row.get 7 (T4 .locals) (m3 (c .before) (c .shared-slice-known .given))) (Row.get 1 (T4 .locals) (m3 (c .before) (c .shared-slice-known .given)) .now) (Row.get 6 (T4 .locals) (m3 (c .before) (c .shared-slice-known .given))) (Row.get 7 (T4 .locals) (m3 (c .before) (c .shared-slice-known .given)))
 
-      abbrev pub m4 : (before : After-shared-slice-known) → (sheet : List.List (Cell.R .Denot)) → (at : Rows'.sc-here (Row.sInt Syntax.w64) .Mod) → (i : Rows'.sc-here (Row.sInt Syntax.w64) .Mod) → Typed.Mo T4
-      m4 = λ before sheet at i. Row.set 7 (7, Rows'.sc-here (Row.sInt Syntax.w64)) i (Row.setRow 6 (6, Rows'.sc-here (Row.sInt Syntax.w64)) (Row.setRow 1 (1, Mut.mslice Cell.R (Syntax.tyRef (Syntax.named 0) Syntax.mut Cell.behind) 0) (T4 .locals))) (Row.set 6 (6, Rows'.sc-here (Row.sInt Syntax.w64)) at (Row.setRow 1 (1, Mut.mslice Cell.R (Syntax.tyRef (Syntax.named 0) Syntax.mut Cell.behind) 0) (T4 .locals)) (Row.set 1 (1, Mut.mslice Cell.R (Syntax.tyRef (Syntax.named 0) Syntax.mut Cell.behind) 0) record { ptr = Row.get 1 (T4 .locals) (m3 (before .before) (before .shared-slice-known .given)) .ptr; name = Row.get 1 (T4 .locals) (m3 (before .before) (before .shared-slice-known .given)) .name; now = sheet } (T4 .locals) (m3 (before .before) (before .shared-slice-known .given))))
+      abbrev pub m4 : (before : After-shared-slice-known) → (sheet : List.List (Cell.R .Denot)) → (at : Rows'.sc-here sc0 .Mod) → (i : Rows'.sc-here sc0 .Mod) → Typed.Mo T4
+      m4 = λ before sheet at i. Row.set 7 local12 i (Row.setRow 6 local11 (Row.setRow 1 local1 (T4 .locals))) (Row.set 6 local11 at (Row.setRow 1 local1 (T4 .locals)) (Row.set 1 local1 record { ptr = Row.get 1 (T4 .locals) (m3 (before .before) (before .shared-slice-known .given)) .ptr; name = Row.get 1 (T4 .locals) (m3 (before .before) (before .shared-slice-known .given)) .name; now = sheet } (T4 .locals) (m3 (before .before) (before .shared-slice-known .given))))
 
-      abbrev W3 : (before : After-shared-slice-known) → (sheet : List.List (Cell.R .Denot)) → (at : Rows'.sc-here (Row.sInt Syntax.w64) .Mod) → (i : Rows'.sc-here (Row.sInt Syntax.w64) .Mod) → Typed.Want O3
+      abbrev W3 : (before : After-shared-slice-known) → (sheet : List.List (Cell.R .Denot)) → (at : Rows'.sc-here sc0 .Mod) → (i : Rows'.sc-here sc0 .Mod) → Typed.Want O3
       W3 = λ before sheet at i. Typed.inLoop T4 O2 (Typed.Round T4 O2 put0 (λ u vs. Inv·0 (Row.get 1 (T4 .locals) u .now) (Row.get 2 (T4 .locals) u) (Row.get 3 (T4 .locals) u .now) (Row.get 4 (T4 .locals) u) (Row.get 5 (T4 .locals) u) (Row.get 6 (T4 .locals) u) (Row.get 7 (T4 .locals) u) (vs .0) (vs .1) (vs .2)) (λ u vs. μ·0 (Row.get 1 (T4 .locals) u .now) (Row.get 2 (T4 .locals) u) (Row.get 3 (T4 .locals) u .now) (Row.get 4 (T4 .locals) u) (Row.get 5 (T4 .locals) u) (Row.get 6 (T4 .locals) u) (Row.get 7 (T4 .locals) u) (vs .0) (vs .1) (vs .2)) at23 (m3 (before .before) (before .shared-slice-known .given)) (sheet, at, i)) (W2 (before .before) (before .shared-slice-known .given))
 
-      abbrev pub m5 : (before : After-shared-slice-known) → (sheet : List.List (Cell.R .Denot)) → (at : Rows'.sc-here (Row.sInt Syntax.w64) .Mod) → (i : Rows'.sc-here (Row.sInt Syntax.w64) .Mod) → Typed.Mo T6
+      abbrev pub m5 : (before : After-shared-slice-known) → (sheet : List.List (Cell.R .Denot)) → (at : Rows'.sc-here sc0 .Mod) → (i : Rows'.sc-here sc0 .Mod) → Typed.Mo T6
       m5 = λ before sheet at i. s3 .next (m4 before sheet at i)
 
-      abbrev W4 : (before : After-shared-slice-known) → (sheet : List.List (Cell.R .Denot)) → (at : Rows'.sc-here (Row.sInt Syntax.w64) .Mod) → (i : Rows'.sc-here (Row.sInt Syntax.w64) .Mod) → Typed.Want O4
+      abbrev W4 : (before : After-shared-slice-known) → (sheet : List.List (Cell.R .Denot)) → (at : Rows'.sc-here sc0 .Mod) → (i : Rows'.sc-here sc0 .Mod) → Typed.Want O4
       W4 = λ before sheet at i. Typed.wantNext T7 O3 (at21 (W3 before sheet at i)) (W3 before sheet at i)
 
       module _ (before· : After-shared-slice-known) where
         pub record At-loop·own : Type 0 where
           pub sheet : List.List (Cell.R .Denot)
-          pub at : Rows'.sc-here (Row.sInt Syntax.w64) .Mod
-          pub i : Rows'.sc-here (Row.sInt Syntax.w64) .Mod
+          pub at : Rows'.sc-here sc0 .Mod
+          pub i : Rows'.sc-here sc0 .Mod
           pub inv : Inv·0 (Row.get 1 (T4 .locals) (m3 (before· .before) (before· .shared-slice-known .given)) .now) (Row.get 2 (T4 .locals) (m3 (before· .before) (before· .shared-slice-known .given))) (Row.get 3 (T4 .locals) (m3 (before· .before) (before· .shared-slice-known .given)) .now) (Row.get 4 (T4 .locals) (m3 (before· .before) (before· .shared-slice-known .given))) (Row.get 5 (T4 .locals) (m3 (before· .before) (before· .shared-slice-known .given))) (Row.get 6 (T4 .locals) (m3 (before· .before) (before· .shared-slice-known .given))) (Row.get 7 (T4 .locals) (m3 (before· .before) (before· .shared-slice-known .given))) sheet at i
 
       pub record At-loop : Type 0 where
@@ -928,14 +1088,14 @@ module _ (claims· : Claims) where
 
       module _ (before· : In-loop) where
         abbrev pub After-next-record·own : Type 0
-        After-next-record·own = Called.Called ps·0 r·0 (claims· .1) T7 (record { pos = 3; ty = Syntax.tyRef (Syntax.named 1) Syntax.imm (Syntax.tyInt Syntax.w8); ref = λ x. x }, (Num.vAt 6 λ x. x, tt)) (m6 (before· .before))
+        After-next-record·own = Called.Called ps·0 r·0 (claims· .1) T7 (record { pos = 3; ty = Syntax.tyRef (Syntax.named 1) Syntax.imm ty5; ref = λ x. x }, (Num.vAt 6 λ x. x, tt)) (m6 (before· .before))
 
       pub record After-next-record : Type 0 where
         pub before : In-loop
         pub next-record : After-next-record·own before
 
       abbrev pub After-next-record·gave : (c : After-next-record) → s6 .gives (m6 (c .before .before))
-      After-next-record·gave = λ c. Called.given ps·0 r·0 (claims· .1) T7 (record { pos = 3; ty = Syntax.tyRef (Syntax.named 1) Syntax.imm (Syntax.tyInt Syntax.w8); ref = λ x. x }, (Num.vAt 6 λ x. x, tt)) (m6 (c .before .before)) (c .next-record)
+      After-next-record·gave = λ c. Called.given ps·0 r·0 (claims· .1) T7 (record { pos = 3; ty = Syntax.tyRef (Syntax.named 1) Syntax.imm ty5; ref = λ x. x }, (Num.vAt 6 λ x. x, tt)) (m6 (c .before .before)) (c .next-record)
 
       abbrev pub m9 : (before : In-loop) → (given : s6 .gives (m6 (before .before))) → Typed.Mo T11
       m9 = λ before given. s7 (m8 before given)
@@ -1070,7 +1230,7 @@ module _ (claims· : Claims) where
         lay4 = λ c. λ g. (Path'.refl, (add-put-record record { before = record { before = c .before; next-record = c .next-record }; put-record-arg = record { given = g } }, (zone-requires record { before = record { before = c .before; next-record = c .next-record }; put-record-arg = record { given = g } }, λ g'. lay5 record { before = record { before = record { before = c .before; next-record = c .next-record }; put-record-arg = record { given = g } }; zone = Called.called ps·1 r·1 (claims· .3) T15 (record { pos = 8; st = List.[]; d = 0; at = λ x. x }, tt) (m12 record { before = c .before; next-record = c .next-record } g) g' })))
 
         lay3 : (c : In-loop) → at21 (W3 (c .before .before) (c .before .loop .sheet) (c .before .loop .at) (c .before .loop .i)) (m6 (c .before))
-        lay3 = λ c. (next-record-requires record { before = c .before; loop-test = c .loop-test }, λ g. lay4 record { before = record { before = c .before; loop-test = c .loop-test }; next-record = Called.called ps·0 r·0 (claims· .1) T7 (record { pos = 3; ty = Syntax.tyRef (Syntax.named 1) Syntax.imm (Syntax.tyInt Syntax.w8); ref = λ x. x }, (Num.vAt 6 λ x. x, tt)) (m6 (c .before)) g })
+        lay3 = λ c. (next-record-requires record { before = c .before; loop-test = c .loop-test }, λ g. lay4 record { before = record { before = c .before; loop-test = c .loop-test }; next-record = Called.called ps·0 r·0 (claims· .1) T7 (record { pos = 3; ty = Syntax.tyRef (Syntax.named 1) Syntax.imm ty5; ref = λ x. x }, (Num.vAt 6 λ x. x, tt)) (m6 (c .before)) g })
 
         lay2 : (c : After-loop) → at3 (W4 (c .before .before) (c .before .loop .sheet) (c .before .loop .at) (c .before .loop .i)) (m5 (c .before .before) (c .before .loop .sheet) (c .before .loop .at) (c .before .loop .i))
         lay2 = λ c. lay7 record { before = c .before; loop-test = c .loop-test }

@@ -36,6 +36,51 @@ use mir.Val
 use prog.Wp
 use types.Kit
 
+abbrev ty0 : Syntax.Ty
+ty0 = Syntax.tyInt Syntax.w64
+
+abbrev place0 : Syntax.Place
+place0 = Syntax.place 3 List.[]
+
+abbrev place1 : Syntax.Place
+place1 = Syntax.place 4 List.[]
+
+abbrev local0 : Row.Entry
+local0 = (0, Rows'.any-gone ty0)
+
+abbrev ty1 : Syntax.Ty
+ty1 = Syntax.tyRef (Syntax.named 0) Syntax.imm Cell.behind
+
+abbrev local1 : Row.Entry
+local1 = (1, Rows'.sslice Cell.R ty1 0)
+
+abbrev sc0 : Row.Sc
+sc0 = Row.sInt Syntax.w64
+
+abbrev local2 : Row.Entry
+local2 = (2, Rows'.sc-here sc0)
+
+abbrev locals0 : List.List Row.Entry
+locals0 = List._∷_ (5, Rows'.any-gone Cell.held) (List._∷_ (6, Rows'.any-gone Syntax.tyBool) List.[])
+
+abbrev locals1 : List.List Row.Entry
+locals1 = List._∷_ (4, Rows'.any-gone ty0) locals0
+
+abbrev locals2 : List.List Row.Entry
+locals2 = List._∷_ local1 (List._∷_ local2 (List._∷_ (3, Rows'.any-gone ty0) locals1))
+
+abbrev local3 : Row.Entry
+local3 = (0, Rows'.sc-here sc0)
+
+abbrev local4 : Row.Entry
+local4 = (3, Rows'.sc-here sc0)
+
+abbrev local5 : Row.Entry
+local5 = (4, Rows'.sc-here sc0)
+
+abbrev locals3 : List.List Row.Entry
+locals3 = List._∷_ local1 (List._∷_ local2 (List._∷_ local4 (List._∷_ local5 locals0)))
+
 abbrev pub ps : List.List (Kinds.PK 1)
 ps = List._∷_ (ShrSlice.pShrS Cell.R 0 tt) (List._∷_ (Num.pNum Syntax.w64) List.[])
 
@@ -43,7 +88,7 @@ abbrev pub r : Kinds.RK 1
 r = Num.rNum Syntax.w64
 
 abbrev pub xs : List.List Syntax.Ty
-xs = List._∷_ (Syntax.tyInt Syntax.w64) (List._∷_ (Syntax.tyInt Syntax.w64) (List._∷_ Cell.held (List._∷_ Syntax.tyBool List.[])))
+xs = List._∷_ ty0 (List._∷_ ty0 (List._∷_ Cell.held (List._∷_ Syntax.tyBool List.[])))
 
 abbrev pub m : Nat.ℕ
 m = 0
@@ -64,13 +109,13 @@ abbrev pub hs : List.List Syntax.Home
 hs = List._∷_ Syntax.valueLocal (List._∷_ Syntax.valueLocal (List._∷_ Syntax.valueLocal (List._∷_ Syntax.valueLocal (List._∷_ Syntax.valueLocal (List._∷_ Syntax.valueLocal (List._∷_ Syntax.valueLocal List.[]))))))
 
 abbrev b0 : Syntax.Body
-b0 = Syntax.assign (Syntax.place 3 List.[]) (Syntax.rvOpd (Syntax.int Syntax.w64 0))
+b0 = Syntax.assign place0 (Syntax.rvOpd (Syntax.int Syntax.w64 0))
 
 abbrev b1 : Syntax.Body
-b1 = Syntax.assign (Syntax.place 4 List.[]) (Syntax.rvOpd (Syntax.int Syntax.w64 0))
+b1 = Syntax.assign place1 (Syntax.rvOpd (Syntax.int Syntax.w64 0))
 
 abbrev b2 : Syntax.Body
-b2 = Syntax.assign (Syntax.place 6 List.[]) (Syntax.op2 (Syntax.lt Syntax.unsigned) (Syntax.copy (Syntax.place 4 List.[])) (Syntax.copy (Syntax.place 2 List.[])))
+b2 = Syntax.assign (Syntax.place 6 List.[]) (Syntax.op2 (Syntax.lt Syntax.unsigned) (Syntax.copy place1) (Syntax.copy (Syntax.place 2 List.[])))
 
 abbrev b3 : Syntax.Body
 b3 = Syntax.skip
@@ -82,13 +127,13 @@ abbrev b5 : Syntax.Body
 b5 = Syntax.cond (Syntax.copy (Syntax.place 6 List.[])) b3 b4
 
 abbrev b6 : Syntax.Body
-b6 = Syntax.call "sheets::thin::record_at" (List._∷_ (Syntax.copy (Syntax.place 1 List.[])) (List._∷_ (Syntax.copy (Syntax.place 4 List.[])) List.[])) (Syntax.place 5 List.[])
+b6 = Syntax.call "sheets::thin::record_at" (List._∷_ (Syntax.copy (Syntax.place 1 List.[])) (List._∷_ (Syntax.copy place1) List.[])) (Syntax.place 5 List.[])
 
 abbrev b7 : Syntax.Body
-b7 = Syntax.call "script::sums::step_zone" (List._∷_ (Syntax.copy (Syntax.place 3 List.[])) (List._∷_ (Syntax.copy (Syntax.place 5 List.[])) List.[])) (Syntax.place 3 List.[])
+b7 = Syntax.call "script::sums::step_zone" (List._∷_ (Syntax.copy place0) (List._∷_ (Syntax.copy (Syntax.place 5 List.[])) List.[])) place0
 
 abbrev b8 : Syntax.Body
-b8 = Syntax.assign (Syntax.place 4 List.[]) (Syntax.op2 (Syntax.add Syntax.unsigned) (Syntax.copy (Syntax.place 4 List.[])) (Syntax.int Syntax.w64 1))
+b8 = Syntax.assign place1 (Syntax.op2 (Syntax.add Syntax.unsigned) (Syntax.copy place1) (Syntax.int Syntax.w64 1))
 
 abbrev b9 : Syntax.Body
 b9 = Syntax.seq b7 b8
@@ -109,7 +154,7 @@ abbrev b14 : Syntax.Body
 b14 = Syntax.block b13
 
 abbrev b15 : Syntax.Body
-b15 = Syntax.assign (Syntax.place 0 List.[]) (Syntax.rvOpd (Syntax.copy (Syntax.place 3 List.[])))
+b15 = Syntax.assign (Syntax.place 0 List.[]) (Syntax.rvOpd (Syntax.copy place0))
 
 abbrev b16 : Syntax.Body
 b16 = Syntax.return
@@ -133,31 +178,31 @@ abbrev pub Claims : Type 1
 Claims = Kinds.In 1 ps·0 × Kinds.Out 1 ps·0 r·0 × Kinds.In 0 ps·1 × Kinds.Out 0 ps·1 r·1
 
 abbrev pub t0 : List.List Row.Entry
-t0 = List._∷_ (0, Rows'.any-gone (Syntax.tyInt Syntax.w64)) (List._∷_ (1, Rows'.sslice Cell.R (Syntax.tyRef (Syntax.named 0) Syntax.imm Cell.behind) 0) (List._∷_ (2, Rows'.sc-here (Row.sInt Syntax.w64)) (List._∷_ (3, Rows'.any-gone (Syntax.tyInt Syntax.w64)) (List._∷_ (4, Rows'.any-gone (Syntax.tyInt Syntax.w64)) (List._∷_ (5, Rows'.any-gone Cell.held) (List._∷_ (6, Rows'.any-gone Syntax.tyBool) List.[]))))))
+t0 = List._∷_ local0 locals2
 
 abbrev pub t1 : List.List Row.Entry
-t1 = List._∷_ (0, Rows'.sc-here (Row.sInt Syntax.w64)) (List._∷_ (1, Rows'.sslice Cell.R (Syntax.tyRef (Syntax.named 0) Syntax.imm Cell.behind) 0) (List._∷_ (2, Rows'.any-gone (Syntax.tyInt Syntax.w64)) (List._∷_ (3, Rows'.any-gone (Syntax.tyInt Syntax.w64)) (List._∷_ (4, Rows'.any-gone (Syntax.tyInt Syntax.w64)) (List._∷_ (5, Rows'.any-gone Cell.held) (List._∷_ (6, Rows'.any-gone Syntax.tyBool) List.[]))))))
+t1 = List._∷_ local3 (List._∷_ local1 (List._∷_ (2, Rows'.any-gone ty0) (List._∷_ (3, Rows'.any-gone ty0) locals1)))
 
 abbrev pub t2 : List.List Row.Entry
-t2 = List._∷_ (0, Rows'.any-gone (Syntax.tyInt Syntax.w64)) (List._∷_ (1, Rows'.sslice Cell.R (Syntax.tyRef (Syntax.named 0) Syntax.imm Cell.behind) 0) (List._∷_ (2, Rows'.sc-here (Row.sInt Syntax.w64)) (List._∷_ (3, Rows'.sc-here (Row.sInt Syntax.w64)) (List._∷_ (4, Rows'.any-gone (Syntax.tyInt Syntax.w64)) (List._∷_ (5, Rows'.any-gone Cell.held) (List._∷_ (6, Rows'.any-gone Syntax.tyBool) List.[]))))))
+t2 = List._∷_ local0 (List._∷_ local1 (List._∷_ local2 (List._∷_ local4 locals1)))
 
 abbrev pub t3 : List.List Row.Entry
-t3 = List._∷_ (0, Rows'.any-gone (Syntax.tyInt Syntax.w64)) (List._∷_ (1, Rows'.sslice Cell.R (Syntax.tyRef (Syntax.named 0) Syntax.imm Cell.behind) 0) (List._∷_ (2, Rows'.sc-here (Row.sInt Syntax.w64)) (List._∷_ (3, Rows'.sc-here (Row.sInt Syntax.w64)) (List._∷_ (4, Rows'.sc-here (Row.sInt Syntax.w64)) (List._∷_ (5, Rows'.any-gone Cell.held) (List._∷_ (6, Rows'.any-gone Syntax.tyBool) List.[]))))))
+t3 = List._∷_ local0 locals3
 
 abbrev pub t4 : List.List Row.Entry
-t4 = List._∷_ (0, Rows'.any-gone (Syntax.tyInt Syntax.w64)) (List._∷_ (1, Rows'.sslice Cell.R (Syntax.tyRef (Syntax.named 0) Syntax.imm Cell.behind) 0) (List._∷_ (2, Rows'.sc-here (Row.sInt Syntax.w64)) (List._∷_ (3, Rows'.sc-here (Row.sInt Syntax.w64)) (List._∷_ (4, Rows'.sc-here (Row.sInt Syntax.w64)) (List._∷_ (5, Rows'.any-gone Cell.held) (List._∷_ (6, Rows'.sc-here Row.sBool) List.[]))))))
+t4 = List._∷_ local0 (List._∷_ local1 (List._∷_ local2 (List._∷_ local4 (List._∷_ local5 (List._∷_ (5, Rows'.any-gone Cell.held) (List._∷_ (6, Rows'.sc-here Row.sBool) List.[]))))))
 
 abbrev pub t5 : List.List Row.Entry
-t5 = List._∷_ (0, Rows'.any-gone (Syntax.tyInt Syntax.w64)) (List._∷_ (1, Rows'.sslice Cell.R (Syntax.tyRef (Syntax.named 0) Syntax.imm Cell.behind) 0) (List._∷_ (2, Rows'.sc-here (Row.sInt Syntax.w64)) (List._∷_ (3, Rows'.sc-here (Row.sInt Syntax.w64)) (List._∷_ (4, Rows'.sc-here (Row.sInt Syntax.w64)) (List._∷_ (5, Cell.row) (List._∷_ (6, Rows'.any-gone Syntax.tyBool) List.[]))))))
+t5 = List._∷_ local0 (List._∷_ local1 (List._∷_ local2 (List._∷_ local4 (List._∷_ local5 (List._∷_ (5, Cell.row) (List._∷_ (6, Rows'.any-gone Syntax.tyBool) List.[]))))))
 
 abbrev pub t6 : List.List Row.Entry
-t6 = List._∷_ (0, Rows'.sc-here (Row.sInt Syntax.w64)) (List._∷_ (1, Rows'.sslice Cell.R (Syntax.tyRef (Syntax.named 0) Syntax.imm Cell.behind) 0) (List._∷_ (2, Rows'.sc-here (Row.sInt Syntax.w64)) (List._∷_ (3, Rows'.sc-here (Row.sInt Syntax.w64)) (List._∷_ (4, Rows'.sc-here (Row.sInt Syntax.w64)) (List._∷_ (5, Rows'.any-gone Cell.held) (List._∷_ (6, Rows'.any-gone Syntax.tyBool) List.[]))))))
+t6 = List._∷_ local3 locals3
 
 abbrev pub t7 : List.List Row.Entry
-t7 = List._∷_ (0, Rows'.sc-here (Row.sInt Syntax.w64)) (List._∷_ (1, Rows'.sslice Cell.R (Syntax.tyRef (Syntax.named 0) Syntax.imm Cell.behind) 0) (List._∷_ (2, Rows'.sc-here (Row.sInt Syntax.w64)) (List._∷_ (3, Rows'.any-gone (Syntax.tyInt Syntax.w64)) (List._∷_ (4, Rows'.sc-here (Row.sInt Syntax.w64)) (List._∷_ (5, Rows'.any-gone Cell.held) (List._∷_ (6, Rows'.any-gone Syntax.tyBool) List.[]))))))
+t7 = List._∷_ local3 (List._∷_ local1 (List._∷_ local2 (List._∷_ (3, Rows'.any-gone ty0) (List._∷_ local5 locals0))))
 
 abbrev pub t8 : List.List Row.Entry
-t8 = List._∷_ (0, Rows'.sc-here (Row.sInt Syntax.w64)) (List._∷_ (1, Rows'.sslice Cell.R (Syntax.tyRef (Syntax.named 0) Syntax.imm Cell.behind) 0) (List._∷_ (2, Rows'.sc-here (Row.sInt Syntax.w64)) (List._∷_ (3, Rows'.any-gone (Syntax.tyInt Syntax.w64)) (List._∷_ (4, Rows'.any-gone (Syntax.tyInt Syntax.w64)) (List._∷_ (5, Rows'.any-gone Cell.held) (List._∷_ (6, Rows'.any-gone Syntax.tyBool) List.[]))))))
+t8 = List._∷_ local3 locals2
 
 abbrev pub T0 : Row.Cx
 T0 = record { locals = t0; slots = List.[] }
@@ -226,20 +271,20 @@ abbrev pub O4 : Typed.Outs
 O4 = Typed.withNext (Option.some T6) O3
 
 abbrev pub InvT-loop : Type 1
-InvT-loop = List.List (Cell.R .Denot) → Rows'.sc-here (Row.sInt Syntax.w64) .Mod → Rows'.sc-here (Row.sInt Syntax.w64) .Mod → Rows'.sc-here (Row.sInt Syntax.w64) .Mod → Rows'.sc-here (Row.sInt Syntax.w64) .Mod → Rows'.sc-here (Row.sInt Syntax.w64) .Mod → Type 0
+InvT-loop = List.List (Cell.R .Denot) → Rows'.sc-here sc0 .Mod → Rows'.sc-here sc0 .Mod → Rows'.sc-here sc0 .Mod → Rows'.sc-here sc0 .Mod → Rows'.sc-here sc0 .Mod → Type 0
 
 abbrev pub MeasureT-loop : Type 0
-MeasureT-loop = List.List (Cell.R .Denot) → Rows'.sc-here (Row.sInt Syntax.w64) .Mod → Rows'.sc-here (Row.sInt Syntax.w64) .Mod → Rows'.sc-here (Row.sInt Syntax.w64) .Mod → Rows'.sc-here (Row.sInt Syntax.w64) .Mod → Rows'.sc-here (Row.sInt Syntax.w64) .Mod → Nat.ℕ
+MeasureT-loop = List.List (Cell.R .Denot) → Rows'.sc-here sc0 .Mod → Rows'.sc-here sc0 .Mod → Rows'.sc-here sc0 .Mod → Rows'.sc-here sc0 .Mod → Rows'.sc-here sc0 .Mod → Nat.ℕ
 
 module _ (claims· : Claims) where
   abbrev s0 : Typed.Mo T0 → Typed.Mo T2
-  s0 = Scalar.n-use T0 (Scalar.oInt Syntax.w64 0) 3 (Rows'.sc-here (Row.sInt Syntax.w64)) (Row.sInt Syntax.w64 .of)
+  s0 = Scalar.n-use T0 (Scalar.oInt Syntax.w64 0) 3 (Rows'.sc-here sc0) (Row.sInt Syntax.w64 .of)
 
   abbrev s1 : Typed.Mo T2 → Typed.Mo T3
-  s1 = Scalar.n-use T2 (Scalar.oInt Syntax.w64 0) 4 (Rows'.sc-here (Row.sInt Syntax.w64)) (Row.sInt Syntax.w64 .of)
+  s1 = Scalar.n-use T2 (Scalar.oInt Syntax.w64 0) 4 (Rows'.sc-here sc0) (Row.sInt Syntax.w64 .of)
 
   abbrev s2 : Typed.Asks T3 T5
-  s2 = Scalar.k-op2 T3 (Syntax.lt Syntax.unsigned) (Scalar.oAt 4 (Syntax.tyInt Syntax.w64) (Row.valS (Row.sInt Syntax.w64))) (Scalar.oAt 2 (Syntax.tyInt Syntax.w64) (Row.valS (Row.sInt Syntax.w64))) 6 (Rows'.sc-here Row.sBool) (Row.sBool .of)
+  s2 = Scalar.k-op2 T3 (Syntax.lt Syntax.unsigned) (Scalar.oAt 4 ty0 (Row.valS sc0)) (Scalar.oAt 2 ty0 (Row.valS sc0)) 6 (Rows'.sc-here Row.sBool) (Row.sBool .of)
 
   abbrev s3 : Typed.Mo T5 → Typed.Mo T7
   s3 = Scalar.n-room T5 6 Syntax.tyBool
@@ -251,28 +296,28 @@ module _ (claims· : Claims) where
   s5 = Call.callB ps·0 r·0 (claims· .0) (claims· .1) T6 (record { pos = 1; ty = Syntax.tyRef (Syntax.named 0) Syntax.imm Cell.behind; ref = λ x. x }, (Num.vAt 4 λ x. x, tt)) 5 (List._∷_ 0 List.[]) Cell.held
 
   abbrev s6 : Typed.Both T9 T10
-  s6 = Call.callB ps·1 r·1 (claims· .2) (claims· .3) T9 (Num.vAt 3 λ x. x, (record { pos = 5; st = List.[]; d = 0; at = λ x. x }, tt)) 3 List.[] (Syntax.tyInt Syntax.w64)
+  s6 = Call.callB ps·1 r·1 (claims· .2) (claims· .3) T9 (Num.vAt 3 λ x. x, (record { pos = 5; st = List.[]; d = 0; at = λ x. x }, tt)) 3 List.[] ty0
 
   abbrev s7 : Typed.Mo T10 → Typed.Mo T11
   s7 = Scalar.n-room T10 5 Cell.held
 
   abbrev s8 : Typed.Asks T11 T12
-  s8 = Scalar.k-op2 T11 (Syntax.add Syntax.unsigned) (Scalar.oAt 4 (Syntax.tyInt Syntax.w64) (Row.valS (Row.sInt Syntax.w64))) (Scalar.oInt Syntax.w64 1) 4 (Rows'.sc-here (Row.sInt Syntax.w64)) (Row.sInt Syntax.w64 .of)
+  s8 = Scalar.k-op2 T11 (Syntax.add Syntax.unsigned) (Scalar.oAt 4 ty0 (Row.valS sc0)) (Scalar.oInt Syntax.w64 1) 4 (Rows'.sc-here sc0) (Row.sInt Syntax.w64 .of)
 
   abbrev s9 : Typed.Mo T4 → Typed.Mo T13
-  s9 = Scalar.n-use T4 (Scalar.oAt 3 (Syntax.tyInt Syntax.w64) (Row.valS (Row.sInt Syntax.w64))) 0 (Rows'.sc-here (Row.sInt Syntax.w64)) (Row.sInt Syntax.w64 .of)
+  s9 = Scalar.n-use T4 (Scalar.oAt 3 ty0 (Row.valS sc0)) 0 (Rows'.sc-here sc0) (Row.sInt Syntax.w64 .of)
 
   abbrev s10 : Typed.Mo T13 → Typed.Mo T14
-  s10 = Scalar.n-room T13 3 (Syntax.tyInt Syntax.w64)
+  s10 = Scalar.n-room T13 3 ty0
 
   abbrev s11 : Typed.Mo T14 → Typed.Mo T15
-  s11 = Scalar.n-room T14 4 (Syntax.tyInt Syntax.w64)
+  s11 = Scalar.n-room T14 4 ty0
 
   abbrev s12 : Typed.Mo T15 → Typed.Mo T16
-  s12 = Scalar.n-room T15 2 (Syntax.tyInt Syntax.w64)
+  s12 = Scalar.n-room T15 2 ty0
 
-  abbrev put0 : Rows'.sc-here (Row.sInt Syntax.w64) .Mod × Rows'.sc-here (Row.sInt Syntax.w64) .Mod → Typed.Mo T3 → Typed.Mo T3
-  put0 = λ vs u. Row.set 4 (4, Rows'.sc-here (Row.sInt Syntax.w64)) (vs .1) (T3 .locals) (Row.set 3 (3, Rows'.sc-here (Row.sInt Syntax.w64)) (vs .0) (T3 .locals) u)
+  abbrev put0 : Rows'.sc-here sc0 .Mod × Rows'.sc-here sc0 .Mod → Typed.Mo T3 → Typed.Mo T3
+  put0 = λ vs u. Row.set 4 local5 (vs .1) (T3 .locals) (Row.set 3 local4 (vs .0) (T3 .locals) u)
 
   module _ (Pre· : (κs : Lifetimes.Lfts 1) → Kinds.Dens κs ps → Type 0) (Post· : (κs : Lifetimes.Lfts 1) → (a : Kinds.Dens κs ps) → Kinds.Plain 1 ps r κs) where
     module _ (M : Type 1) where
@@ -351,56 +396,59 @@ module _ (claims· : Claims) where
         Knowns = Plain.Known 𝓤 H A W 𝓣 1 ps·0 r·0 (claims· .0) (claims· .1) "sheets::thin::record_at" × Plain.Known 𝓤 H A W 𝓣 0 ps·1 r·1 (claims· .2) (claims· .3) "script::sums::step_zone"
 
       module _ (κs : Lifetimes.Lfts 1) (qs : Lifetimes.Shares 1) where
+        abbrev slot0 : Row.Life
+        slot0 = Row.lease (κs .0) (qs .0)
+
         abbrev G0 : Row.Cx
-        G0 = record { locals = t0; slots = List._∷_ (Row.lease (κs .0) (qs .0)) List.[] }
+        G0 = record { locals = t0; slots = List._∷_ slot0 List.[] }
 
         abbrev G1 : Row.Cx
-        G1 = record { locals = t1; slots = List._∷_ (Row.lease (κs .0) (qs .0)) List.[] }
+        G1 = record { locals = t1; slots = List._∷_ slot0 List.[] }
 
         abbrev G2 : Row.Cx
-        G2 = record { locals = t2; slots = List._∷_ (Row.lease (κs .0) (qs .0)) List.[] }
+        G2 = record { locals = t2; slots = List._∷_ slot0 List.[] }
 
         abbrev G3 : Row.Cx
-        G3 = record { locals = t3; slots = List._∷_ (Row.lease (κs .0) (qs .0)) List.[] }
+        G3 = record { locals = t3; slots = List._∷_ slot0 List.[] }
 
         abbrev G4 : Row.Cx
-        G4 = record { locals = t3; slots = List._∷_ (Row.lease (κs .0) (qs .0)) List.[] }
+        G4 = record { locals = t3; slots = List._∷_ slot0 List.[] }
 
         abbrev G5 : Row.Cx
-        G5 = record { locals = t4; slots = List._∷_ (Row.lease (κs .0) (qs .0)) List.[] }
+        G5 = record { locals = t4; slots = List._∷_ slot0 List.[] }
 
         abbrev G6 : Row.Cx
-        G6 = record { locals = t3; slots = List._∷_ (Row.lease (κs .0) (qs .0)) List.[] }
+        G6 = record { locals = t3; slots = List._∷_ slot0 List.[] }
 
         abbrev G7 : Row.Cx
-        G7 = record { locals = t3; slots = List._∷_ (Row.lease (κs .0) (qs .0)) List.[] }
+        G7 = record { locals = t3; slots = List._∷_ slot0 List.[] }
 
         abbrev G8 : Row.Cx
-        G8 = record { locals = t3; slots = List._∷_ (Row.lease (κs .0) (qs .0)) List.[] }
+        G8 = record { locals = t3; slots = List._∷_ slot0 List.[] }
 
         abbrev G9 : Row.Cx
-        G9 = record { locals = t5; slots = List._∷_ (Row.lease (κs .0) (qs .0)) List.[] }
+        G9 = record { locals = t5; slots = List._∷_ slot0 List.[] }
 
         abbrev G10 : Row.Cx
-        G10 = record { locals = t5; slots = List._∷_ (Row.lease (κs .0) (qs .0)) List.[] }
+        G10 = record { locals = t5; slots = List._∷_ slot0 List.[] }
 
         abbrev G11 : Row.Cx
-        G11 = record { locals = t3; slots = List._∷_ (Row.lease (κs .0) (qs .0)) List.[] }
+        G11 = record { locals = t3; slots = List._∷_ slot0 List.[] }
 
         abbrev G12 : Row.Cx
-        G12 = record { locals = t3; slots = List._∷_ (Row.lease (κs .0) (qs .0)) List.[] }
+        G12 = record { locals = t3; slots = List._∷_ slot0 List.[] }
 
         abbrev G13 : Row.Cx
-        G13 = record { locals = t6; slots = List._∷_ (Row.lease (κs .0) (qs .0)) List.[] }
+        G13 = record { locals = t6; slots = List._∷_ slot0 List.[] }
 
         abbrev G14 : Row.Cx
-        G14 = record { locals = t7; slots = List._∷_ (Row.lease (κs .0) (qs .0)) List.[] }
+        G14 = record { locals = t7; slots = List._∷_ slot0 List.[] }
 
         abbrev G15 : Row.Cx
-        G15 = record { locals = t8; slots = List._∷_ (Row.lease (κs .0) (qs .0)) List.[] }
+        G15 = record { locals = t8; slots = List._∷_ slot0 List.[] }
 
         abbrev G16 : Row.Cx
-        G16 = record { locals = t1; slots = List._∷_ (Row.lease (κs .0) (qs .0)) List.[] }
+        G16 = record { locals = t1; slots = List._∷_ slot0 List.[] }
 
         abbrev Δ0 : Typed.Outs
         Δ0 = record { next = Option.none; exits = List.[]; returns = Option.some G1 }
@@ -437,22 +485,22 @@ module _ (claims· : Claims) where
           d4 = Scalar.t-cond 𝓤 H A W E 𝓣 G5 6 (λ x. x) b3 b4 Δ4 at1 at3 (Scalar.reads-sc 𝓤 H A W Row.sBool) Path'.refl d1 d3
 
           d5 : Typed.Typed 𝓤 H A 𝓣 E G11 b8 Δ3 at5
-          d5 = Typed.s-typed 𝓤 H A W 𝓣 E G11 b8 Δ3 (Typed.ask s8) tt (Scalar.t-op2 𝓤 H A W E 𝓣 G11 (Syntax.add Syntax.unsigned) (Scalar.oAt 4 (Syntax.tyInt Syntax.w64) (Row.valS (Row.sInt Syntax.w64))) (Scalar.oInt Syntax.w64 1) 4 (Rows'.sc-here (Row.sInt Syntax.w64)) (Syntax.tyInt Syntax.w64) (Row.valS (Row.sInt Syntax.w64)) (Row.sInt Syntax.w64 .of) (Scalar.reads-sc 𝓤 H A W (Row.sInt Syntax.w64), Path'.refl) tt (Scalar.room-sc 𝓤 H A W (Row.sInt Syntax.w64)) (Scalar.holds-sc 𝓤 H A W (Row.sInt Syntax.w64)) Path'.refl (λ u. Path'.refl) λ u. tt)
+          d5 = Typed.s-typed 𝓤 H A W 𝓣 E G11 b8 Δ3 (Typed.ask s8) tt (Scalar.t-op2 𝓤 H A W E 𝓣 G11 (Syntax.add Syntax.unsigned) (Scalar.oAt 4 ty0 (Row.valS sc0)) (Scalar.oInt Syntax.w64 1) 4 (Rows'.sc-here sc0) ty0 (Row.valS sc0) (Row.sInt Syntax.w64 .of) (Scalar.reads-sc 𝓤 H A W sc0, Path'.refl) tt (Scalar.room-sc 𝓤 H A W sc0) (Scalar.holds-sc 𝓤 H A W sc0) Path'.refl (λ u. Path'.refl) λ u. tt)
 
           d6 : Typed.Typed 𝓤 H A 𝓣 E G10 b8 Δ3 at6
           d6 = Typed.g-pre 𝓤 H A W 𝓣 E G10 G11 b8 Δ3 (Typed.pass T10 T11 s7) at5 (Scalar.g-room 𝓤 H A W E G10 5 Cell.held (Cell.to-room 𝓤 H A W)) d5
 
           d7 : Typed.Typed 𝓤 H A 𝓣 E G9 b9 Δ3 at7
-          d7 = Typed.s-seq 𝓤 H A W 𝓣 E G9 G10 b7 b8 Δ3 (Typed.both s6) at6 (Plain.t-call-plain 𝓤 H A W 𝓣 0 ps·1 r·1 (claims· .2) (claims· .3) "script::sums::step_zone" (known .1) E (λ pos β. β) G9 (Num.vAt 3 λ x. x, (record { pos = 5; st = List.[]; d = 0; at = λ x. x }, tt)) 3 List.[] (Call.sub-id 𝓤 H A W (G9 .slots)) ((Scalar.reads-sc 𝓤 H A W (Row.sInt Syntax.w64), Path'.refl), ((Cell.yields 𝓤 H A W, Path'.refl), tt)) (Scalar.room-sc 𝓤 H A W (Row.sInt Syntax.w64)) tt Path'.refl) d6
+          d7 = Typed.s-seq 𝓤 H A W 𝓣 E G9 G10 b7 b8 Δ3 (Typed.both s6) at6 (Plain.t-call-plain 𝓤 H A W 𝓣 0 ps·1 r·1 (claims· .2) (claims· .3) "script::sums::step_zone" (known .1) E (λ pos β. β) G9 (Num.vAt 3 λ x. x, (record { pos = 5; st = List.[]; d = 0; at = λ x. x }, tt)) 3 List.[] (Call.sub-id 𝓤 H A W (G9 .slots)) ((Scalar.reads-sc 𝓤 H A W sc0, Path'.refl), ((Cell.yields 𝓤 H A W, Path'.refl), tt)) (Scalar.room-sc 𝓤 H A W sc0) tt Path'.refl) d6
 
           d8 : Typed.Typed 𝓤 H A 𝓣 E G6 b10 Δ3 at8
-          d8 = Typed.s-seq 𝓤 H A W 𝓣 E G6 G9 b6 b9 Δ3 (Typed.both s5) at7 (Plain.t-call-plain 𝓤 H A W 𝓣 1 ps·0 r·0 (claims· .0) (claims· .1) "sheets::thin::record_at" (known .0) E (λ pos β. β) G6 (record { pos = 1; ty = Syntax.tyRef (Syntax.named 0) Syntax.imm Cell.behind; ref = λ x. x }, (Num.vAt 4 λ x. x, tt)) 5 (List._∷_ 0 List.[]) (Call.sub-id 𝓤 H A W (G6 .slots)) (ShrSlice.spares-sslice 𝓤 H A W Cell.R (Syntax.tyRef (Syntax.named 0) Syntax.imm Cell.behind) 0, Shared.reads-sslice 𝓤 H A W Cell.R (Syntax.tyRef (Syntax.named 0) Syntax.imm Cell.behind) 0, Path'.refl, ((Scalar.reads-sc 𝓤 H A W (Row.sInt Syntax.w64), Path'.refl), tt)) (Reads.room-gone 𝓤 H A Cell.held) (tt, tt) Path'.refl) d7
+          d8 = Typed.s-seq 𝓤 H A W 𝓣 E G6 G9 b6 b9 Δ3 (Typed.both s5) at7 (Plain.t-call-plain 𝓤 H A W 𝓣 1 ps·0 r·0 (claims· .0) (claims· .1) "sheets::thin::record_at" (known .0) E (λ pos β. β) G6 (record { pos = 1; ty = Syntax.tyRef (Syntax.named 0) Syntax.imm Cell.behind; ref = λ x. x }, (Num.vAt 4 λ x. x, tt)) 5 (List._∷_ 0 List.[]) (Call.sub-id 𝓤 H A W (G6 .slots)) (ShrSlice.spares-sslice 𝓤 H A W Cell.R ty1 0, Shared.reads-sslice 𝓤 H A W Cell.R ty1 0, Path'.refl, ((Scalar.reads-sc 𝓤 H A W sc0, Path'.refl), tt)) (Reads.room-gone 𝓤 H A Cell.held) (tt, tt) Path'.refl) d7
 
           d9 : Typed.Typed 𝓤 H A 𝓣 E G5 b11 Δ3 at9
           d9 = Typed.t-seq 𝓤 H A W 𝓣 E G5 G6 b5 b10 Δ3 at4 at8 d4 d8
 
           d10 : Typed.Typed 𝓤 H A 𝓣 E G3 b12 Δ3 at10
-          d10 = Typed.s-seq 𝓤 H A W 𝓣 E G3 G5 b2 b11 Δ3 (Typed.ask s2) at9 (Scalar.t-op2 𝓤 H A W E 𝓣 G3 (Syntax.lt Syntax.unsigned) (Scalar.oAt 4 (Syntax.tyInt Syntax.w64) (Row.valS (Row.sInt Syntax.w64))) (Scalar.oAt 2 (Syntax.tyInt Syntax.w64) (Row.valS (Row.sInt Syntax.w64))) 6 (Rows'.sc-here Row.sBool) Syntax.tyBool (Row.valS Row.sBool) (Row.sBool .of) (Scalar.reads-sc 𝓤 H A W (Row.sInt Syntax.w64), Path'.refl) (Scalar.reads-sc 𝓤 H A W (Row.sInt Syntax.w64), Path'.refl) (Reads.room-gone 𝓤 H A Syntax.tyBool) (Scalar.holds-sc 𝓤 H A W Row.sBool) Path'.refl (λ u. Path'.refl) λ u. tt) d9
+          d10 = Typed.s-seq 𝓤 H A W 𝓣 E G3 G5 b2 b11 Δ3 (Typed.ask s2) at9 (Scalar.t-op2 𝓤 H A W E 𝓣 G3 (Syntax.lt Syntax.unsigned) (Scalar.oAt 4 ty0 (Row.valS sc0)) (Scalar.oAt 2 ty0 (Row.valS sc0)) 6 (Rows'.sc-here Row.sBool) Syntax.tyBool (Row.valS Row.sBool) (Row.sBool .of) (Scalar.reads-sc 𝓤 H A W sc0, Path'.refl) (Scalar.reads-sc 𝓤 H A W sc0, Path'.refl) (Reads.room-gone 𝓤 H A Syntax.tyBool) (Scalar.holds-sc 𝓤 H A W Row.sBool) Path'.refl (λ u. Path'.refl) λ u. tt) d9
 
           d11 : Typed.Typed 𝓤 H A 𝓣 E G3 b13 Δ2 at11
           d11 = Typed.t-loop-by 𝓤 H A W 𝓣 E G3 b12 Δ2 put0 (λ u vs. Inv·0 (Row.get 1 (T3 .locals) u .now) (Row.get 2 (T3 .locals) u) (Row.get 3 (T3 .locals) u) (Row.get 4 (T3 .locals) u) (vs .0) (vs .1)) (λ u vs. μ·0 (Row.get 1 (T3 .locals) u .now) (Row.get 2 (T3 .locals) u) (Row.get 3 (T3 .locals) u) (Row.get 4 (T3 .locals) u) (vs .0) (vs .1)) at10 d10
@@ -464,25 +512,25 @@ module _ (claims· : Claims) where
           d13 = Typed.t-return 𝓤 H A W 𝓣 E Δ0 tt
 
           d14 : Typed.Typed 𝓤 H A 𝓣 E G15 b16 Δ0 at14
-          d14 = Typed.g-pre 𝓤 H A W 𝓣 E G15 G16 b16 Δ0 (Typed.pass T15 T16 s12) at13 (Scalar.g-room 𝓤 H A W E G15 2 (Syntax.tyInt Syntax.w64) (Scalar.room-sc 𝓤 H A W (Row.sInt Syntax.w64))) d13
+          d14 = Typed.g-pre 𝓤 H A W 𝓣 E G15 G16 b16 Δ0 (Typed.pass T15 T16 s12) at13 (Scalar.g-room 𝓤 H A W E G15 2 ty0 (Scalar.room-sc 𝓤 H A W sc0)) d13
 
           d15 : Typed.Typed 𝓤 H A 𝓣 E G14 b16 Δ0 at15
-          d15 = Typed.g-pre 𝓤 H A W 𝓣 E G14 G15 b16 Δ0 (Typed.pass T14 T15 s11) at14 (Scalar.g-room 𝓤 H A W E G14 4 (Syntax.tyInt Syntax.w64) (Scalar.room-sc 𝓤 H A W (Row.sInt Syntax.w64))) d14
+          d15 = Typed.g-pre 𝓤 H A W 𝓣 E G14 G15 b16 Δ0 (Typed.pass T14 T15 s11) at14 (Scalar.g-room 𝓤 H A W E G14 4 ty0 (Scalar.room-sc 𝓤 H A W sc0)) d14
 
           d16 : Typed.Typed 𝓤 H A 𝓣 E G13 b16 Δ0 at16
-          d16 = Typed.g-pre 𝓤 H A W 𝓣 E G13 G14 b16 Δ0 (Typed.pass T13 T14 s10) at15 (Scalar.g-room 𝓤 H A W E G13 3 (Syntax.tyInt Syntax.w64) (Scalar.room-sc 𝓤 H A W (Row.sInt Syntax.w64))) d15
+          d16 = Typed.g-pre 𝓤 H A W 𝓣 E G13 G14 b16 Δ0 (Typed.pass T13 T14 s10) at15 (Scalar.g-room 𝓤 H A W E G13 3 ty0 (Scalar.room-sc 𝓤 H A W sc0)) d15
 
           d17 : Typed.Typed 𝓤 H A 𝓣 E G4 b17 Δ0 at17
-          d17 = Typed.s-seq 𝓤 H A W 𝓣 E G4 G13 b15 b16 Δ0 (Typed.pass T4 T13 s9) at16 (Scalar.t-use 𝓤 H A W E 𝓣 G4 (Scalar.oAt 3 (Syntax.tyInt Syntax.w64) (Row.valS (Row.sInt Syntax.w64))) 0 (Rows'.sc-here (Row.sInt Syntax.w64)) (Syntax.tyInt Syntax.w64) (Row.valS (Row.sInt Syntax.w64)) (Row.sInt Syntax.w64 .of) (Scalar.reads-sc 𝓤 H A W (Row.sInt Syntax.w64), Path'.refl) (Reads.room-gone 𝓤 H A (Syntax.tyInt Syntax.w64)) (Scalar.holds-sc 𝓤 H A W (Row.sInt Syntax.w64)) Path'.refl (λ u. Path'.refl) λ u. tt) d16
+          d17 = Typed.s-seq 𝓤 H A W 𝓣 E G4 G13 b15 b16 Δ0 (Typed.pass T4 T13 s9) at16 (Scalar.t-use 𝓤 H A W E 𝓣 G4 (Scalar.oAt 3 ty0 (Row.valS sc0)) 0 (Rows'.sc-here sc0) ty0 (Row.valS sc0) (Row.sInt Syntax.w64 .of) (Scalar.reads-sc 𝓤 H A W sc0, Path'.refl) (Reads.room-gone 𝓤 H A ty0) (Scalar.holds-sc 𝓤 H A W sc0) Path'.refl (λ u. Path'.refl) λ u. tt) d16
 
           d18 : Typed.Typed 𝓤 H A 𝓣 E G3 b18 Δ0 at18
           d18 = Typed.t-seq 𝓤 H A W 𝓣 E G3 G4 b14 b17 Δ0 at12 at17 d12 d17
 
           d19 : Typed.Typed 𝓤 H A 𝓣 E G2 b19 Δ0 at19
-          d19 = Typed.s-seq 𝓤 H A W 𝓣 E G2 G3 b1 b18 Δ0 (Typed.pass T2 T3 s1) at18 (Scalar.t-use 𝓤 H A W E 𝓣 G2 (Scalar.oInt Syntax.w64 0) 4 (Rows'.sc-here (Row.sInt Syntax.w64)) (Syntax.tyInt Syntax.w64) (Row.valS (Row.sInt Syntax.w64)) (Row.sInt Syntax.w64 .of) tt (Reads.room-gone 𝓤 H A (Syntax.tyInt Syntax.w64)) (Scalar.holds-sc 𝓤 H A W (Row.sInt Syntax.w64)) Path'.refl (λ u. Path'.refl) λ u. tt) d18
+          d19 = Typed.s-seq 𝓤 H A W 𝓣 E G2 G3 b1 b18 Δ0 (Typed.pass T2 T3 s1) at18 (Scalar.t-use 𝓤 H A W E 𝓣 G2 (Scalar.oInt Syntax.w64 0) 4 (Rows'.sc-here sc0) ty0 (Row.valS sc0) (Row.sInt Syntax.w64 .of) tt (Reads.room-gone 𝓤 H A ty0) (Scalar.holds-sc 𝓤 H A W sc0) Path'.refl (λ u. Path'.refl) λ u. tt) d18
 
           d20 : Typed.Typed 𝓤 H A 𝓣 E G0 b20 Δ0 at20
-          d20 = Typed.s-seq 𝓤 H A W 𝓣 E G0 G2 b0 b19 Δ0 (Typed.pass T0 T2 s0) at19 (Scalar.t-use 𝓤 H A W E 𝓣 G0 (Scalar.oInt Syntax.w64 0) 3 (Rows'.sc-here (Row.sInt Syntax.w64)) (Syntax.tyInt Syntax.w64) (Row.valS (Row.sInt Syntax.w64)) (Row.sInt Syntax.w64 .of) tt (Reads.room-gone 𝓤 H A (Syntax.tyInt Syntax.w64)) (Scalar.holds-sc 𝓤 H A W (Row.sInt Syntax.w64)) Path'.refl (λ u. Path'.refl) λ u. tt) d19
+          d20 = Typed.s-seq 𝓤 H A W 𝓣 E G0 G2 b0 b19 Δ0 (Typed.pass T0 T2 s0) at19 (Scalar.t-use 𝓤 H A W E 𝓣 G0 (Scalar.oInt Syntax.w64 0) 3 (Rows'.sc-here sc0) ty0 (Row.valS sc0) (Row.sInt Syntax.w64 .of) tt (Reads.room-gone 𝓤 H A ty0) (Scalar.holds-sc 𝓤 H A W sc0) Path'.refl (λ u. Path'.refl) λ u. tt) d19
 
           pub typed : Typed.Typed 𝓤 H A 𝓣 E (Function.Γin 1 ps r xs m κs qs) b20 (Function.Δret 1 ps r xs m κs qs) Φ
           typed = d20
@@ -527,22 +575,22 @@ module _ (claims· : Claims) where
       abbrev pub Need-loop-holds : Type 0
       Need-loop-holds = (c : Start) → Inv·0 (Row.get 1 (T3 .locals) (m2 (c .κs) (c .args)) .now) (Row.get 2 (T3 .locals) (m2 (c .κs) (c .args))) (Row.get 3 (T3 .locals) (m2 (c .κs) (c .args))) (Row.get 4 (T3 .locals) (m2 (c .κs) (c .args))) (Row.get 3 (T3 .locals) (m2 (c .κs) (c .args))) (Row.get 4 (T3 .locals) (m2 (c .κs) (c .args)))
 
-      abbrev pub m3 : (before : Start) → (c : Rows'.sc-here (Row.sInt Syntax.w64) .Mod) → (i : Rows'.sc-here (Row.sInt Syntax.w64) .Mod) → Typed.Mo T3
-      m3 = λ before c i. Row.set 4 (4, Rows'.sc-here (Row.sInt Syntax.w64)) i (Row.setRow 3 (3, Rows'.sc-here (Row.sInt Syntax.w64)) (T3 .locals)) (Row.set 3 (3, Rows'.sc-here (Row.sInt Syntax.w64)) c (T3 .locals) (m2 (before .κs) (before .args)))
+      abbrev pub m3 : (before : Start) → (c : Rows'.sc-here sc0 .Mod) → (i : Rows'.sc-here sc0 .Mod) → Typed.Mo T3
+      m3 = λ before c i. Row.set 4 local5 i (Row.setRow 3 local4 (T3 .locals)) (Row.set 3 local4 c (T3 .locals) (m2 (before .κs) (before .args)))
 
-      abbrev W3 : (before : Start) → (c : Rows'.sc-here (Row.sInt Syntax.w64) .Mod) → (i : Rows'.sc-here (Row.sInt Syntax.w64) .Mod) → Typed.Want O3
+      abbrev W3 : (before : Start) → (c : Rows'.sc-here sc0 .Mod) → (i : Rows'.sc-here sc0 .Mod) → Typed.Want O3
       W3 = λ before c i. Typed.inLoop T3 O2 (Typed.Round T3 O2 put0 (λ u vs. Inv·0 (Row.get 1 (T3 .locals) u .now) (Row.get 2 (T3 .locals) u) (Row.get 3 (T3 .locals) u) (Row.get 4 (T3 .locals) u) (vs .0) (vs .1)) (λ u vs. μ·0 (Row.get 1 (T3 .locals) u .now) (Row.get 2 (T3 .locals) u) (Row.get 3 (T3 .locals) u) (Row.get 4 (T3 .locals) u) (vs .0) (vs .1)) at10 (m2 (before .κs) (before .args)) (c, i)) (W2 (before .κs) (before .args))
 
-      abbrev pub m4 : (before : Start) → (c : Rows'.sc-here (Row.sInt Syntax.w64) .Mod) → (i : Rows'.sc-here (Row.sInt Syntax.w64) .Mod) → Typed.Mo T5
+      abbrev pub m4 : (before : Start) → (c : Rows'.sc-here sc0 .Mod) → (i : Rows'.sc-here sc0 .Mod) → Typed.Mo T5
       m4 = λ before c i. s2 .next (m3 before c i)
 
-      abbrev W4 : (before : Start) → (c : Rows'.sc-here (Row.sInt Syntax.w64) .Mod) → (i : Rows'.sc-here (Row.sInt Syntax.w64) .Mod) → Typed.Want O4
+      abbrev W4 : (before : Start) → (c : Rows'.sc-here sc0 .Mod) → (i : Rows'.sc-here sc0 .Mod) → Typed.Want O4
       W4 = λ before c i. Typed.wantNext T6 O3 (at8 (W3 before c i)) (W3 before c i)
 
       module _ (before· : Start) where
         pub record At-loop·own : Type 0 where
-          pub c : Rows'.sc-here (Row.sInt Syntax.w64) .Mod
-          pub i : Rows'.sc-here (Row.sInt Syntax.w64) .Mod
+          pub c : Rows'.sc-here sc0 .Mod
+          pub i : Rows'.sc-here sc0 .Mod
           pub inv : Inv·0 (Row.get 1 (T3 .locals) (m2 (before· .κs) (before· .args)) .now) (Row.get 2 (T3 .locals) (m2 (before· .κs) (before· .args))) (Row.get 3 (T3 .locals) (m2 (before· .κs) (before· .args))) (Row.get 4 (T3 .locals) (m2 (before· .κs) (before· .args))) c i
 
       pub record At-loop : Type 0 where

@@ -21,8 +21,11 @@ use mathlib.Core.List
 use mathlib.Core.Path as Path'
 use mir.Syntax
 
+abbrev rf0 : Referent.Rf
+rf0 = Referent.fInt Syntax.w32
+
 abbrev pub ps : List.List (Kinds.PK 6)
-ps = List._∷_ (Value.pVal record { ty = Declared.row Held.the-type; one = Path'.refl; val = Laws'3.val Held.the-type Laws''.the-laws; tells = Laws'3.tells Held.the-type Laws''.the-laws; still = Laws'3.still Held.the-type Laws''.the-copy Exit.yes; row = Rows.whole (Declared.row Held.the-type); rd = λ x. x; mk = λ x. x } λ M 𝓤 H A W. record { copies = Laws'3.copy Held.the-type Laws''.the-copy 𝓤 H A W; lawful = Laws'3.lawful Held.the-type Laws''.the-laws 𝓤 H A W; makes = Laws'3.makes Held.the-type Laws''.the-plain 𝓤 H A; in-mem = Local.mem-whole 𝓤 H A W (Declared.row Held.the-type); of-mem = Local.whole-mem 𝓤 H A W (Declared.row Held.the-type) }) (List._∷_ (Value.pVal record { ty = Declared.row Line.the-type; one = Path'.refl; val = Laws'3.val Line.the-type Laws'.the-laws; tells = Laws'3.tells Line.the-type Laws'.the-laws; still = Laws'3.still Line.the-type Laws'.the-copy Exit.yes; row = Rows.whole (Declared.row Line.the-type); rd = λ x. x; mk = λ x. x } λ M 𝓤 H A W. record { copies = Laws'3.copy Line.the-type Laws'.the-copy 𝓤 H A W; lawful = Laws'3.lawful Line.the-type Laws'.the-laws 𝓤 H A W; makes = Laws'3.makes Line.the-type Laws'.the-plain 𝓤 H A; in-mem = Local.mem-whole 𝓤 H A W (Declared.row Line.the-type); of-mem = Local.whole-mem 𝓤 H A W (Declared.row Line.the-type) }) (List._∷_ (ShrSlice.pShrS (Referent.rtF (Referent.fInt Syntax.w32)) 0 tt) (List._∷_ (MutSlice.pMutS (Referent.rtF (Referent.fInt Syntax.w32)) 1 tt) (List._∷_ (MutSlice.pMutS (Referent.rtF (Referent.fInt Syntax.w32)) 2 tt) (List._∷_ (MutSlice.pMutS (Referent.rtF (Referent.fInt Syntax.w32)) 3 tt) (List._∷_ (MutSlice.pMutS Cell.R 4 tt) (List._∷_ (MutSlice.pMutS Cell.R 5 tt) List.[])))))))
+ps = List._∷_ (Value.pVal record { ty = Declared.row Held.the-type; one = Path'.refl; val = Laws'3.val Held.the-type Laws''.the-laws; tells = Laws'3.tells Held.the-type Laws''.the-laws; still = Laws'3.still Held.the-type Laws''.the-copy Exit.yes; row = Rows.whole (Declared.row Held.the-type); rd = λ x. x; mk = λ x. x } λ M 𝓤 H A W. record { copies = Laws'3.copy Held.the-type Laws''.the-copy 𝓤 H A W; lawful = Laws'3.lawful Held.the-type Laws''.the-laws 𝓤 H A W; makes = Laws'3.makes Held.the-type Laws''.the-plain 𝓤 H A; in-mem = Local.mem-whole 𝓤 H A W (Declared.row Held.the-type); of-mem = Local.whole-mem 𝓤 H A W (Declared.row Held.the-type) }) (List._∷_ (Value.pVal record { ty = Declared.row Line.the-type; one = Path'.refl; val = Laws'3.val Line.the-type Laws'.the-laws; tells = Laws'3.tells Line.the-type Laws'.the-laws; still = Laws'3.still Line.the-type Laws'.the-copy Exit.yes; row = Rows.whole (Declared.row Line.the-type); rd = λ x. x; mk = λ x. x } λ M 𝓤 H A W. record { copies = Laws'3.copy Line.the-type Laws'.the-copy 𝓤 H A W; lawful = Laws'3.lawful Line.the-type Laws'.the-laws 𝓤 H A W; makes = Laws'3.makes Line.the-type Laws'.the-plain 𝓤 H A; in-mem = Local.mem-whole 𝓤 H A W (Declared.row Line.the-type); of-mem = Local.whole-mem 𝓤 H A W (Declared.row Line.the-type) }) (List._∷_ (ShrSlice.pShrS (Referent.rtF rf0) 0 tt) (List._∷_ (MutSlice.pMutS (Referent.rtF rf0) 1 tt) (List._∷_ (MutSlice.pMutS (Referent.rtF rf0) 2 tt) (List._∷_ (MutSlice.pMutS (Referent.rtF rf0) 3 tt) (List._∷_ (MutSlice.pMutS Cell.R 4 tt) (List._∷_ (MutSlice.pMutS Cell.R 5 tt) List.[])))))))
 
 abbrev pub r : Kinds.RK 6
 r = Value.rVal record { ty = Declared.row Outcome.the-type; one = Path'.refl; val = Laws'3.val Outcome.the-type Laws.the-laws; tells = Laws'3.tells Outcome.the-type Laws.the-laws; still = Laws'3.still Outcome.the-type Laws.the-copy Exit.yes; row = Rows.whole (Declared.row Outcome.the-type); rd = λ x. x; mk = λ x. x } λ M 𝓤 H A W. record { copies = Laws'3.copy Outcome.the-type Laws.the-copy 𝓤 H A W; lawful = Laws'3.lawful Outcome.the-type Laws.the-laws 𝓤 H A W; makes = Laws'3.makes Outcome.the-type Laws.the-plain 𝓤 H A; in-mem = Local.mem-whole 𝓤 H A W (Declared.row Outcome.the-type); of-mem = Local.whole-mem 𝓤 H A W (Declared.row Outcome.the-type) }

@@ -51,15 +51,433 @@ use mathlib.Core.Path as Path'
 use mir.Syntax
 use prog.Wp
 use types.Kit
+use denote.RattleType
+
+abbrev rf0 : Referent.Rf
+rf0 = Referent.fInt Syntax.w8
+
+abbrev held0 : RattleType.RattleType
+held0 = Referent.rtF rf0
+
+abbrev held1 : RattleType.RattleType
+held1 = Referent.rtF (Referent.fInt Syntax.w32)
+
+abbrev held2 : RattleType.RattleType
+held2 = Array.Array held1 32772
+
+abbrev held3 : RattleType.RattleType
+held3 = Array.Array held0 16388
+
+abbrev held4 : RattleType.RattleType
+held4 = Array.Array held1 65540
+
+abbrev held5 : RattleType.RattleType
+held5 = Array.Array held1 262160
+
+abbrev held6 : RattleType.RattleType
+held6 = Array.Array held0 600000
+
+abbrev held7 : RattleType.RattleType
+held7 = Array.Array Cell.R 65540
+
+abbrev held8 : RattleType.RattleType
+held8 = Array.Array Cell.R 32772
+
+abbrev ty0 : Syntax.Ty
+ty0 = Syntax.tyInt Syntax.w32
+
+abbrev ty1 : Syntax.Ty
+ty1 = Syntax.tyInt Syntax.w64
+
+abbrev ty2 : Syntax.Ty
+ty2 = Syntax.tyStruct (List._∷_ 122 (List._∷_ 111 (List._∷_ 110 (List._∷_ 101 (List._∷_ 115 (List._∷_ 58 (List._∷_ 58 (List._∷_ 104 (List._∷_ 101 (List._∷_ 108 (List._∷_ 100 (List._∷_ 58 (List._∷_ 58 (List._∷_ 72 (List._∷_ 101 (List._∷_ 108 (List._∷_ 100 List.[]))))))))))))))))) (Syntax.tcons (Syntax.tyStruct (List._∷_ 112 (List._∷_ 121 (List._∷_ 114 (List._∷_ 97 (List._∷_ 109 (List._∷_ 105 (List._∷_ 100 (List._∷_ 58 (List._∷_ 58 (List._∷_ 83 (List._∷_ 116 (List._∷_ 97 (List._∷_ 116 (List._∷_ 101 List.[])))))))))))))) (Syntax.tcons ty0 (Syntax.tcons ty0 (Syntax.tcons ty0 (Syntax.tcons ty0 (Syntax.tcons ty0 (Syntax.tcons (Syntax.tyArray ty0 64) Syntax.tnil))))))) (Syntax.tcons ty1 (Syntax.tcons ty1 (Syntax.tcons ty1 (Syntax.tcons ty1 (Syntax.tcons ty1 (Syntax.tcons ty1 (Syntax.tcons Syntax.tyBool Syntax.tnil))))))))
+
+abbrev ty3 : Syntax.Ty
+ty3 = Syntax.tyStruct (List._∷_ 115 (List._∷_ 99 (List._∷_ 114 (List._∷_ 105 (List._∷_ 112 (List._∷_ 116 (List._∷_ 58 (List._∷_ 58 (List._∷_ 115 (List._∷_ 99 (List._∷_ 97 (List._∷_ 110 (List._∷_ 58 (List._∷_ 58 (List._∷_ 76 (List._∷_ 105 (List._∷_ 110 (List._∷_ 101 List.[])))))))))))))))))) (Syntax.tcons ty0 (Syntax.tcons ty1 (Syntax.tcons ty1 (Syntax.tcons ty1 (Syntax.tcons ty1 Syntax.tnil)))))
+
+abbrev ty4 : Syntax.Ty
+ty4 = Syntax.tyArray ty0 32772
+
+abbrev ty5 : Syntax.Ty
+ty5 = Syntax.tyRef Syntax.erased Syntax.mut ty4
+
+abbrev ty6 : Syntax.Ty
+ty6 = Syntax.tyRef Syntax.erased Syntax.imm ty4
+
+abbrev ty7 : Syntax.Ty
+ty7 = Syntax.tyInt Syntax.w8
+
+abbrev ty8 : Syntax.Ty
+ty8 = Syntax.tyArray ty7 16388
+
+abbrev ty9 : Syntax.Ty
+ty9 = Syntax.tyRef Syntax.erased Syntax.mut ty8
+
+abbrev ty10 : Syntax.Ty
+ty10 = Syntax.tyArray ty0 65540
+
+abbrev ty11 : Syntax.Ty
+ty11 = Syntax.tyRef Syntax.erased Syntax.mut ty10
+
+abbrev ty12 : Syntax.Ty
+ty12 = Syntax.tyArray ty0 262160
+
+abbrev ty13 : Syntax.Ty
+ty13 = Syntax.tyRef Syntax.erased Syntax.mut ty12
+
+abbrev ty14 : Syntax.Ty
+ty14 = Syntax.tyArray ty7 600000
+
+abbrev ty15 : Syntax.Ty
+ty15 = Syntax.tyRef Syntax.erased Syntax.mut ty14
+
+abbrev ty16 : Syntax.Ty
+ty16 = Syntax.tyArray Cell.behind 65540
+
+abbrev ty17 : Syntax.Ty
+ty17 = Syntax.tyRef Syntax.erased Syntax.mut ty16
+
+abbrev ty18 : Syntax.Ty
+ty18 = Syntax.tyArray Cell.behind 32772
+
+abbrev ty19 : Syntax.Ty
+ty19 = Syntax.tyRef Syntax.erased Syntax.mut ty18
+
+abbrev held9 : RattleType.RattleType
+held9 = Declared.row Held.the-type
+
+abbrev held10 : RattleType.RattleType
+held10 = Declared.row Line.the-type
+
+abbrev place0 : Syntax.Place
+place0 = Syntax.place 12 List.[]
+
+abbrev place1 : Syntax.Place
+place1 = Syntax.place 13 List.[]
+
+abbrev steps0 : List.List Syntax.Step
+steps0 = List._∷_ (Syntax.field 1) List.[]
+
+abbrev place2 : Syntax.Place
+place2 = Syntax.place 16 List.[]
+
+abbrev steps1 : List.List Syntax.Step
+steps1 = List._∷_ (Syntax.deref ty4) List.[]
+
+abbrev steps2 : List.List Syntax.Step
+steps2 = List._∷_ (Syntax.field 7) List.[]
+
+abbrev steps3 : List.List Syntax.Step
+steps3 = List._∷_ (Syntax.field 4) List.[]
+
+abbrev local0 : Row.Entry
+local0 = (0, Rows.any-gone Syntax.tyUnit)
+
+abbrev ty20 : Syntax.Ty
+ty20 = Syntax.tyRef (Syntax.named 0) Syntax.imm ty7
+
+abbrev local1 : Row.Entry
+local1 = (1, Rows.sslice held0 ty20 0)
+
+abbrev ty21 : Syntax.Ty
+ty21 = Syntax.tyRef (Syntax.named 1) Syntax.mut ty4
+
+abbrev local2 : Row.Entry
+local2 = (2, Rows.mref held2 ty21 1)
+
+abbrev ty22 : Syntax.Ty
+ty22 = Syntax.tyRef (Syntax.named 2) Syntax.mut ty8
+
+abbrev local3 : Row.Entry
+local3 = (3, Rows.mref held3 ty22 2)
+
+abbrev ty23 : Syntax.Ty
+ty23 = Syntax.tyRef (Syntax.named 3) Syntax.mut ty10
+
+abbrev local4 : Row.Entry
+local4 = (4, Rows.mref held4 ty23 3)
+
+abbrev ty24 : Syntax.Ty
+ty24 = Syntax.tyRef (Syntax.named 4) Syntax.mut ty4
+
+abbrev local5 : Row.Entry
+local5 = (5, Rows.mref held2 ty24 4)
+
+abbrev ty25 : Syntax.Ty
+ty25 = Syntax.tyRef (Syntax.named 5) Syntax.mut ty4
+
+abbrev local6 : Row.Entry
+local6 = (6, Rows.mref held2 ty25 5)
+
+abbrev ty26 : Syntax.Ty
+ty26 = Syntax.tyRef (Syntax.named 6) Syntax.mut ty12
+
+abbrev local7 : Row.Entry
+local7 = (7, Rows.mref held5 ty26 6)
+
+abbrev ty27 : Syntax.Ty
+ty27 = Syntax.tyRef (Syntax.named 7) Syntax.mut ty14
+
+abbrev local8 : Row.Entry
+local8 = (8, Rows.mref held6 ty27 7)
+
+abbrev ty28 : Syntax.Ty
+ty28 = Syntax.tyRef (Syntax.named 8) Syntax.mut ty16
+
+abbrev local9 : Row.Entry
+local9 = (9, Rows.mref held7 ty28 8)
+
+abbrev ty29 : Syntax.Ty
+ty29 = Syntax.tyRef (Syntax.named 9) Syntax.mut ty18
+
+abbrev local10 : Row.Entry
+local10 = (10, Rows.mref held8 ty29 9)
+
+abbrev local11 : Row.Entry
+local11 = (11, Rows.any-gone ty2)
+
+abbrev local12 : Row.Entry
+local12 = (12, Rows.any-gone ty1)
+
+abbrev locals0 : List.List Row.Entry
+locals0 = List._∷_ (14, Rows.any-gone ty3) (List._∷_ (15, Rows.any-gone ty1) List.[])
+
+abbrev locals1 : List.List Row.Entry
+locals1 = List._∷_ (13, Rows.any-gone ty1) locals0
+
+abbrev locals2 : List.List Row.Entry
+locals2 = List._∷_ local1 (List._∷_ local2 (List._∷_ local3 (List._∷_ local4 (List._∷_ local5 (List._∷_ local6 (List._∷_ local7 (List._∷_ local8 (List._∷_ local9 (List._∷_ local10 (List._∷_ local11 (List._∷_ local12 locals1)))))))))))
+
+abbrev local13 : Row.Entry
+local13 = (16, Rows.any-gone Syntax.tyBool)
+
+abbrev local14 : Row.Entry
+local14 = (17, Rows.any-gone ty1)
+
+abbrev local15 : Row.Entry
+local15 = (18, Rows.any-gone ty5)
+
+abbrev local16 : Row.Entry
+local16 = (19, Rows.any-gone ty6)
+
+abbrev local17 : Row.Entry
+local17 = (20, Rows.any-gone ty9)
+
+abbrev local18 : Row.Entry
+local18 = (21, Rows.any-gone ty11)
+
+abbrev local19 : Row.Entry
+local19 = (22, Rows.any-gone ty5)
+
+abbrev local20 : Row.Entry
+local20 = (23, Rows.any-gone ty5)
+
+abbrev local21 : Row.Entry
+local21 = (24, Rows.any-gone ty13)
+
+abbrev local22 : Row.Entry
+local22 = (25, Rows.any-gone ty15)
+
+abbrev local23 : Row.Entry
+local23 = (26, Rows.any-gone ty17)
+
+abbrev local24 : Row.Entry
+local24 = (27, Rows.any-gone ty19)
+
+abbrev locals3 : List.List Row.Entry
+locals3 = List._∷_ (28, Rows.any-gone Syntax.tyUnit) (List._∷_ (29, Rows.any-gone ty1) List.[])
+
+abbrev locals4 : List.List Row.Entry
+locals4 = List._∷_ local23 (List._∷_ local24 locals3)
+
+abbrev locals5 : List.List Row.Entry
+locals5 = List._∷_ local20 (List._∷_ local21 (List._∷_ local22 locals4))
+
+abbrev locals6 : List.List Row.Entry
+locals6 = List._∷_ local17 (List._∷_ local18 (List._∷_ local19 locals5))
+
+abbrev locals7 : List.List Row.Entry
+locals7 = List._∷_ local15 (List._∷_ local16 locals6)
+
+abbrev local25 : Row.Entry
+local25 = (0, Rows.sc-here Row.sUnit)
+
+abbrev local26 : Row.Entry
+local26 = (11, Rows.whole held9)
+
+abbrev sc0 : Row.Sc
+sc0 = Row.sInt Syntax.w64
+
+abbrev local27 : Row.Entry
+local27 = (12, Rows.sc-here sc0)
+
+abbrev local28 : Row.Entry
+local28 = (13, Rows.sc-here sc0)
+
+abbrev locals8 : List.List Row.Entry
+locals8 = List._∷_ local27 (List._∷_ local28 (List._∷_ (14, Rows.any-gone ty3) (List._∷_ (15, Rows.sc-here sc0) List.[])))
+
+abbrev locals9 : List.List Row.Entry
+locals9 = List._∷_ local3 (List._∷_ local4 (List._∷_ local5 (List._∷_ local6 (List._∷_ local7 (List._∷_ local8 (List._∷_ local9 (List._∷_ local10 (List._∷_ local26 locals8))))))))
+
+abbrev locals10 : List.List Row.Entry
+locals10 = List._∷_ local1 (List._∷_ local2 (List._∷_ local3 (List._∷_ local4 (List._∷_ local5 (List._∷_ local6 (List._∷_ local7 (List._∷_ local8 (List._∷_ local9 (List._∷_ local10 (List._∷_ local11 (List._∷_ local27 locals1)))))))))))
+
+abbrev locals11 : List.List Row.Entry
+locals11 = List._∷_ local1 (List._∷_ local2 (List._∷_ local3 (List._∷_ local4 (List._∷_ local5 (List._∷_ local6 (List._∷_ local7 (List._∷_ local8 (List._∷_ local9 (List._∷_ local10 (List._∷_ local11 (List._∷_ local27 (List._∷_ local28 locals0))))))))))))
+
+abbrev locals12 : List.List Row.Entry
+locals12 = List._∷_ local28 (List._∷_ (14, Rows.whole held10) (List._∷_ (15, Rows.sc-here sc0) List.[]))
+
+abbrev locals13 : List.List Row.Entry
+locals13 = List._∷_ local26 (List._∷_ local27 locals12)
+
+abbrev locals14 : List.List Row.Entry
+locals14 = List._∷_ local9 (List._∷_ local10 locals13)
+
+abbrev locals15 : List.List Row.Entry
+locals15 = List._∷_ local7 (List._∷_ local8 locals14)
+
+abbrev locals16 : List.List Row.Entry
+locals16 = List._∷_ local5 (List._∷_ local6 locals15)
+
+abbrev locals17 : List.List Row.Entry
+locals17 = List._∷_ local3 (List._∷_ local4 locals16)
+
+abbrev local29 : Row.Entry
+local29 = (2, Reshare.mref-owedS held2 ty21 1 11 Row.off)
+
+abbrev local30 : Row.Entry
+local30 = (19, Rows.sref held2 ty6 11)
+
+abbrev local31 : Row.Entry
+local31 = (3, Rows.mref-owed held3 ty22 2 12 Row.off)
+
+abbrev local32 : Row.Entry
+local32 = (20, Rows.mref held3 ty9 12)
+
+abbrev local33 : Row.Entry
+local33 = (4, Rows.mref-owed held4 ty23 3 13 Row.off)
+
+abbrev local34 : Row.Entry
+local34 = (21, Rows.mref held4 ty11 13)
+
+abbrev local35 : Row.Entry
+local35 = (5, Rows.mref-owed held2 ty24 4 14 Row.off)
+
+abbrev local36 : Row.Entry
+local36 = (22, Rows.mref held2 ty5 14)
+
+abbrev local37 : Row.Entry
+local37 = (6, Rows.mref-owed held2 ty25 5 15 Row.off)
+
+abbrev local38 : Row.Entry
+local38 = (23, Rows.mref held2 ty5 15)
+
+abbrev local39 : Row.Entry
+local39 = (7, Rows.mref-owed held5 ty26 6 16 Row.off)
+
+abbrev local40 : Row.Entry
+local40 = (24, Rows.mref held5 ty13 16)
+
+abbrev local41 : Row.Entry
+local41 = (8, Rows.mref-owed held6 ty27 7 17 Row.off)
+
+abbrev local42 : Row.Entry
+local42 = (25, Rows.mref held6 ty15 17)
+
+abbrev local43 : Row.Entry
+local43 = (9, Rows.mref-owed held7 ty28 8 18 Row.off)
+
+abbrev local44 : Row.Entry
+local44 = (10, Rows.mref-owed held8 ty29 9 19 Row.off)
+
+abbrev locals18 : List.List Row.Entry
+locals18 = List._∷_ local41 (List._∷_ local43 (List._∷_ local44 locals13))
+
+abbrev locals19 : List.List Row.Entry
+locals19 = List._∷_ local35 (List._∷_ local37 (List._∷_ local39 locals18))
+
+abbrev locals20 : List.List Row.Entry
+locals20 = List._∷_ (26, Rows.mleft held7 ty17) (List._∷_ (27, Rows.mleft held8 ty19) locals3)
+
+abbrev locals21 : List.List Row.Entry
+locals21 = List._∷_ (25, Rows.mleft held6 ty15) locals20
+
+abbrev locals22 : List.List Row.Entry
+locals22 = List._∷_ (23, Rows.mleft held2 ty5) (List._∷_ (24, Rows.mleft held5 ty13) locals21)
+
+abbrev locals23 : List.List Row.Entry
+locals23 = List._∷_ (22, Rows.mleft held2 ty5) locals22
+
+abbrev locals24 : List.List Row.Entry
+locals24 = List._∷_ (20, Rows.mleft held3 ty9) (List._∷_ (21, Rows.mleft held4 ty11) locals23)
+
+abbrev sym0 : Syntax.Sym
+sym0 = List._∷_ 0 (List._∷_ 11 (List._∷_ 12 (List._∷_ 13 (List._∷_ 14 (List._∷_ 15 (List._∷_ 16 (List._∷_ 17 (List._∷_ 18 (List._∷_ 19 List.[])))))))))
+
+abbrev slots0 : List.List Row.Life
+slots0 = List._∷_ Row.off (List._∷_ Row.off (List._∷_ Row.off List.[]))
+
+abbrev slots1 : List.List Row.Life
+slots1 = List._∷_ Row.off (List._∷_ Row.off slots0)
+
+abbrev slots2 : List.List Row.Life
+slots2 = List._∷_ Row.off (List._∷_ Row.off slots1)
+
+abbrev slots3 : List.List Row.Life
+slots3 = List._∷_ Row.off (List._∷_ Row.off slots2)
+
+abbrev slots15 : List.List Row.Life
+slots15 = List._∷_ Row.alive (List._∷_ Row.alive List.[])
+
+abbrev slots16 : List.List Row.Life
+slots16 = List._∷_ Row.alive (List._∷_ Row.alive slots15)
+
+abbrev slots17 : List.List Row.Life
+slots17 = List._∷_ Row.alive (List._∷_ Row.alive slots16)
+
+abbrev slots18 : List.List Row.Life
+slots18 = List._∷_ Row.alive (List._∷_ Row.alive slots17)
+
+abbrev slots19 : List.List Row.Life
+slots19 = List._∷_ Row.off (List._∷_ Row.off (List._∷_ Row.off (List._∷_ Row.off (List._∷_ Row.off (List._∷_ Row.off (List._∷_ Row.off (List._∷_ Row.off (List._∷_ Row.off (List._∷_ Row.off (List._∷_ Row.alive slots18))))))))))
+
+abbrev slots20 : List.List Row.Life
+slots20 = List._∷_ Row.off (List._∷_ Row.off (List._∷_ Row.off (List._∷_ Row.off (List._∷_ Row.off (List._∷_ Row.off (List._∷_ Row.off (List._∷_ Row.off (List._∷_ Row.off (List._∷_ Row.dead slots18)))))))))
+
+abbrev slots21 : List.List Row.Life
+slots21 = List._∷_ Row.off (List._∷_ Row.off (List._∷_ Row.off (List._∷_ Row.off (List._∷_ Row.off (List._∷_ Row.off (List._∷_ Row.off (List._∷_ Row.off (List._∷_ Row.off (List._∷_ Row.dead (List._∷_ Row.alive slots17))))))))))
+
+abbrev slots22 : List.List Row.Life
+slots22 = List._∷_ Row.off (List._∷_ Row.off (List._∷_ Row.off (List._∷_ Row.off (List._∷_ Row.off (List._∷_ Row.off (List._∷_ Row.off (List._∷_ Row.off (List._∷_ Row.off (List._∷_ Row.dead slots17)))))))))
+
+abbrev slots23 : List.List Row.Life
+slots23 = List._∷_ Row.off (List._∷_ Row.off (List._∷_ Row.off (List._∷_ Row.off (List._∷_ Row.off (List._∷_ Row.off (List._∷_ Row.off (List._∷_ Row.off (List._∷_ Row.off (List._∷_ Row.dead (List._∷_ Row.alive slots16))))))))))
+
+abbrev slots24 : List.List Row.Life
+slots24 = List._∷_ Row.off (List._∷_ Row.off (List._∷_ Row.off (List._∷_ Row.off (List._∷_ Row.off (List._∷_ Row.off (List._∷_ Row.off (List._∷_ Row.off (List._∷_ Row.off (List._∷_ Row.dead slots16)))))))))
+
+abbrev slots25 : List.List Row.Life
+slots25 = List._∷_ Row.off (List._∷_ Row.off (List._∷_ Row.off (List._∷_ Row.off (List._∷_ Row.off (List._∷_ Row.off (List._∷_ Row.off (List._∷_ Row.off (List._∷_ Row.off (List._∷_ Row.dead (List._∷_ Row.alive slots15))))))))))
+
+abbrev slots26 : List.List Row.Life
+slots26 = List._∷_ Row.off (List._∷_ Row.off (List._∷_ Row.off (List._∷_ Row.off (List._∷_ Row.off (List._∷_ Row.off (List._∷_ Row.off (List._∷_ Row.off (List._∷_ Row.off (List._∷_ Row.dead slots15)))))))))
+
+abbrev slots27 : List.List Row.Life
+slots27 = List._∷_ Row.off (List._∷_ Row.off (List._∷_ Row.off (List._∷_ Row.off (List._∷_ Row.off (List._∷_ Row.off (List._∷_ Row.off (List._∷_ Row.off (List._∷_ Row.off (List._∷_ Row.dead (List._∷_ Row.alive List.[]))))))))))
+
+abbrev slots28 : List.List Row.Life
+slots28 = List._∷_ Row.off (List._∷_ Row.off (List._∷_ Row.off (List._∷_ Row.off (List._∷_ Row.off (List._∷_ Row.off (List._∷_ Row.off (List._∷_ Row.off (List._∷_ Row.off (List._∷_ Row.dead List.[])))))))))
 
 abbrev pub ps : List.List (Kinds.PK 10)
-ps = List._∷_ (ShrSlice.pShrS (Referent.rtF (Referent.fInt Syntax.w8)) 0 tt) (List._∷_ (Kinds.pMut (Array.Array (Referent.rtF (Referent.fInt Syntax.w32)) 32772) 1 tt) (List._∷_ (Kinds.pMut (Array.Array (Referent.rtF (Referent.fInt Syntax.w8)) 16388) 2 tt) (List._∷_ (Kinds.pMut (Array.Array (Referent.rtF (Referent.fInt Syntax.w32)) 65540) 3 tt) (List._∷_ (Kinds.pMut (Array.Array (Referent.rtF (Referent.fInt Syntax.w32)) 32772) 4 tt) (List._∷_ (Kinds.pMut (Array.Array (Referent.rtF (Referent.fInt Syntax.w32)) 32772) 5 tt) (List._∷_ (Kinds.pMut (Array.Array (Referent.rtF (Referent.fInt Syntax.w32)) 262160) 6 tt) (List._∷_ (Kinds.pMut (Array.Array (Referent.rtF (Referent.fInt Syntax.w8)) 600000) 7 tt) (List._∷_ (Kinds.pMut (Array.Array Cell.R 65540) 8 tt) (List._∷_ (Kinds.pMut (Array.Array Cell.R 32772) 9 tt) List.[])))))))))
+ps = List._∷_ (ShrSlice.pShrS held0 0 tt) (List._∷_ (Kinds.pMut held2 1 tt) (List._∷_ (Kinds.pMut held3 2 tt) (List._∷_ (Kinds.pMut held4 3 tt) (List._∷_ (Kinds.pMut held2 4 tt) (List._∷_ (Kinds.pMut held2 5 tt) (List._∷_ (Kinds.pMut held5 6 tt) (List._∷_ (Kinds.pMut held6 7 tt) (List._∷_ (Kinds.pMut held7 8 tt) (List._∷_ (Kinds.pMut held8 9 tt) List.[])))))))))
 
 abbrev pub r : Kinds.RK 10
 r = Unit'.rUnit
 
 abbrev pub xs : List.List Syntax.Ty
-xs = List._∷_ (Syntax.tyStruct (List._∷_ 122 (List._∷_ 111 (List._∷_ 110 (List._∷_ 101 (List._∷_ 115 (List._∷_ 58 (List._∷_ 58 (List._∷_ 104 (List._∷_ 101 (List._∷_ 108 (List._∷_ 100 (List._∷_ 58 (List._∷_ 58 (List._∷_ 72 (List._∷_ 101 (List._∷_ 108 (List._∷_ 100 List.[]))))))))))))))))) (Syntax.tcons (Syntax.tyStruct (List._∷_ 112 (List._∷_ 121 (List._∷_ 114 (List._∷_ 97 (List._∷_ 109 (List._∷_ 105 (List._∷_ 100 (List._∷_ 58 (List._∷_ 58 (List._∷_ 83 (List._∷_ 116 (List._∷_ 97 (List._∷_ 116 (List._∷_ 101 List.[])))))))))))))) (Syntax.tcons (Syntax.tyInt Syntax.w32) (Syntax.tcons (Syntax.tyInt Syntax.w32) (Syntax.tcons (Syntax.tyInt Syntax.w32) (Syntax.tcons (Syntax.tyInt Syntax.w32) (Syntax.tcons (Syntax.tyInt Syntax.w32) (Syntax.tcons (Syntax.tyArray (Syntax.tyInt Syntax.w32) 64) Syntax.tnil))))))) (Syntax.tcons (Syntax.tyInt Syntax.w64) (Syntax.tcons (Syntax.tyInt Syntax.w64) (Syntax.tcons (Syntax.tyInt Syntax.w64) (Syntax.tcons (Syntax.tyInt Syntax.w64) (Syntax.tcons (Syntax.tyInt Syntax.w64) (Syntax.tcons (Syntax.tyInt Syntax.w64) (Syntax.tcons Syntax.tyBool Syntax.tnil))))))))) (List._∷_ (Syntax.tyInt Syntax.w64) (List._∷_ (Syntax.tyInt Syntax.w64) (List._∷_ (Syntax.tyStruct (List._∷_ 115 (List._∷_ 99 (List._∷_ 114 (List._∷_ 105 (List._∷_ 112 (List._∷_ 116 (List._∷_ 58 (List._∷_ 58 (List._∷_ 115 (List._∷_ 99 (List._∷_ 97 (List._∷_ 110 (List._∷_ 58 (List._∷_ 58 (List._∷_ 76 (List._∷_ 105 (List._∷_ 110 (List._∷_ 101 List.[])))))))))))))))))) (Syntax.tcons (Syntax.tyInt Syntax.w32) (Syntax.tcons (Syntax.tyInt Syntax.w64) (Syntax.tcons (Syntax.tyInt Syntax.w64) (Syntax.tcons (Syntax.tyInt Syntax.w64) (Syntax.tcons (Syntax.tyInt Syntax.w64) Syntax.tnil)))))) (List._∷_ (Syntax.tyInt Syntax.w64) (List._∷_ Syntax.tyBool (List._∷_ (Syntax.tyInt Syntax.w64) (List._∷_ (Syntax.tyRef Syntax.erased Syntax.mut (Syntax.tyArray (Syntax.tyInt Syntax.w32) 32772)) (List._∷_ (Syntax.tyRef Syntax.erased Syntax.imm (Syntax.tyArray (Syntax.tyInt Syntax.w32) 32772)) (List._∷_ (Syntax.tyRef Syntax.erased Syntax.mut (Syntax.tyArray (Syntax.tyInt Syntax.w8) 16388)) (List._∷_ (Syntax.tyRef Syntax.erased Syntax.mut (Syntax.tyArray (Syntax.tyInt Syntax.w32) 65540)) (List._∷_ (Syntax.tyRef Syntax.erased Syntax.mut (Syntax.tyArray (Syntax.tyInt Syntax.w32) 32772)) (List._∷_ (Syntax.tyRef Syntax.erased Syntax.mut (Syntax.tyArray (Syntax.tyInt Syntax.w32) 32772)) (List._∷_ (Syntax.tyRef Syntax.erased Syntax.mut (Syntax.tyArray (Syntax.tyInt Syntax.w32) 262160)) (List._∷_ (Syntax.tyRef Syntax.erased Syntax.mut (Syntax.tyArray (Syntax.tyInt Syntax.w8) 600000)) (List._∷_ (Syntax.tyRef Syntax.erased Syntax.mut (Syntax.tyArray Cell.behind 65540)) (List._∷_ (Syntax.tyRef Syntax.erased Syntax.mut (Syntax.tyArray Cell.behind 32772)) (List._∷_ Syntax.tyUnit (List._∷_ (Syntax.tyInt Syntax.w64) List.[]))))))))))))))))))
+xs = List._∷_ ty2 (List._∷_ ty1 (List._∷_ ty1 (List._∷_ ty3 (List._∷_ ty1 (List._∷_ Syntax.tyBool (List._∷_ ty1 (List._∷_ ty5 (List._∷_ ty6 (List._∷_ ty9 (List._∷_ ty11 (List._∷_ ty5 (List._∷_ ty5 (List._∷_ ty13 (List._∷_ ty15 (List._∷_ ty17 (List._∷_ ty19 (List._∷_ Syntax.tyUnit (List._∷_ ty1 List.[]))))))))))))))))))
 
 abbrev pub m : Nat.ℕ
 m = 10
@@ -68,19 +486,19 @@ abbrev pub ps·0 : List.List (Kinds.PK 0)
 ps·0 = List.[]
 
 abbrev pub r·0 : Kinds.RK 0
-r·0 = Value.rVal record { ty = Declared.row Held.the-type; one = Path'.refl; val = Laws''.val Held.the-type Laws'.the-laws; tells = Laws''.tells Held.the-type Laws'.the-laws; still = Laws''.still Held.the-type Laws'.the-copy Exit.yes; row = Rows.whole (Declared.row Held.the-type); rd = λ x. x; mk = λ x. x } λ M 𝓤 H A W. record { copies = Laws''.copy Held.the-type Laws'.the-copy 𝓤 H A W; lawful = Laws''.lawful Held.the-type Laws'.the-laws 𝓤 H A W; makes = Laws''.makes Held.the-type Laws'.the-plain 𝓤 H A; in-mem = Local.mem-whole 𝓤 H A W (Declared.row Held.the-type); of-mem = Local.whole-mem 𝓤 H A W (Declared.row Held.the-type) }
+r·0 = Value.rVal record { ty = Declared.row Held.the-type; one = Path'.refl; val = Laws''.val Held.the-type Laws'.the-laws; tells = Laws''.tells Held.the-type Laws'.the-laws; still = Laws''.still Held.the-type Laws'.the-copy Exit.yes; row = Rows.whole held9; rd = λ x. x; mk = λ x. x } λ M 𝓤 H A W. record { copies = Laws''.copy Held.the-type Laws'.the-copy 𝓤 H A W; lawful = Laws''.lawful Held.the-type Laws'.the-laws 𝓤 H A W; makes = Laws''.makes Held.the-type Laws'.the-plain 𝓤 H A; in-mem = Local.mem-whole 𝓤 H A W held9; of-mem = Local.whole-mem 𝓤 H A W held9 }
 
 abbrev pub ps·1 : List.List (Kinds.PK 2)
-ps·1 = List._∷_ (ShrSlice.pShrS (Referent.rtF (Referent.fInt Syntax.w8)) 0 tt) (List._∷_ (Num.pNum Syntax.w64) (List._∷_ (Kinds.pMut (Array.Array (Referent.rtF (Referent.fInt Syntax.w32)) 32772) 1 tt) List.[]))
+ps·1 = List._∷_ (ShrSlice.pShrS held0 0 tt) (List._∷_ (Num.pNum Syntax.w64) (List._∷_ (Kinds.pMut held2 1 tt) List.[]))
 
 abbrev pub r·1 : Kinds.RK 2
-r·1 = Value.rVal record { ty = Declared.row Line.the-type; one = Path'.refl; val = Laws''.val Line.the-type Laws.the-laws; tells = Laws''.tells Line.the-type Laws.the-laws; still = Laws''.still Line.the-type Laws.the-copy Exit.yes; row = Rows.whole (Declared.row Line.the-type); rd = λ x. x; mk = λ x. x } λ M 𝓤 H A W. record { copies = Laws''.copy Line.the-type Laws.the-copy 𝓤 H A W; lawful = Laws''.lawful Line.the-type Laws.the-laws 𝓤 H A W; makes = Laws''.makes Line.the-type Laws.the-plain 𝓤 H A; in-mem = Local.mem-whole 𝓤 H A W (Declared.row Line.the-type); of-mem = Local.whole-mem 𝓤 H A W (Declared.row Line.the-type) }
+r·1 = Value.rVal record { ty = Declared.row Line.the-type; one = Path'.refl; val = Laws''.val Line.the-type Laws.the-laws; tells = Laws''.tells Line.the-type Laws.the-laws; still = Laws''.still Line.the-type Laws.the-copy Exit.yes; row = Rows.whole held10; rd = λ x. x; mk = λ x. x } λ M 𝓤 H A W. record { copies = Laws''.copy Line.the-type Laws.the-copy 𝓤 H A W; lawful = Laws''.lawful Line.the-type Laws.the-laws 𝓤 H A W; makes = Laws''.makes Line.the-type Laws.the-plain 𝓤 H A; in-mem = Local.mem-whole 𝓤 H A W held10; of-mem = Local.whole-mem 𝓤 H A W held10 }
 
 abbrev pub ps·2 : List.List (Kinds.PK 10)
-ps·2 = List._∷_ (Value.pVal record { ty = Declared.row Held.the-type; one = Path'.refl; val = Laws''.val Held.the-type Laws'.the-laws; tells = Laws''.tells Held.the-type Laws'.the-laws; still = Laws''.still Held.the-type Laws'.the-copy Exit.yes; row = Rows.whole (Declared.row Held.the-type); rd = λ x. x; mk = λ x. x } λ M 𝓤 H A W. record { copies = Laws''.copy Held.the-type Laws'.the-copy 𝓤 H A W; lawful = Laws''.lawful Held.the-type Laws'.the-laws 𝓤 H A W; makes = Laws''.makes Held.the-type Laws'.the-plain 𝓤 H A; in-mem = Local.mem-whole 𝓤 H A W (Declared.row Held.the-type); of-mem = Local.whole-mem 𝓤 H A W (Declared.row Held.the-type) }) (List._∷_ (Value.pVal record { ty = Declared.row Line.the-type; one = Path'.refl; val = Laws''.val Line.the-type Laws.the-laws; tells = Laws''.tells Line.the-type Laws.the-laws; still = Laws''.still Line.the-type Laws.the-copy Exit.yes; row = Rows.whole (Declared.row Line.the-type); rd = λ x. x; mk = λ x. x } λ M 𝓤 H A W. record { copies = Laws''.copy Line.the-type Laws.the-copy 𝓤 H A W; lawful = Laws''.lawful Line.the-type Laws.the-laws 𝓤 H A W; makes = Laws''.makes Line.the-type Laws.the-plain 𝓤 H A; in-mem = Local.mem-whole 𝓤 H A W (Declared.row Line.the-type); of-mem = Local.whole-mem 𝓤 H A W (Declared.row Line.the-type) }) (List._∷_ (ShrSlice.pShrS (Referent.rtF (Referent.fInt Syntax.w8)) 0 tt) (List._∷_ (ShrRef.pShr (Array.Array (Referent.rtF (Referent.fInt Syntax.w32)) 32772) 1 tt) (List._∷_ (Kinds.pMut (Array.Array (Referent.rtF (Referent.fInt Syntax.w8)) 16388) 2 tt) (List._∷_ (Kinds.pMut (Array.Array (Referent.rtF (Referent.fInt Syntax.w32)) 65540) 3 tt) (List._∷_ (Kinds.pMut (Array.Array (Referent.rtF (Referent.fInt Syntax.w32)) 32772) 4 tt) (List._∷_ (Kinds.pMut (Array.Array (Referent.rtF (Referent.fInt Syntax.w32)) 32772) 5 tt) (List._∷_ (Kinds.pMut (Array.Array (Referent.rtF (Referent.fInt Syntax.w32)) 262160) 6 tt) (List._∷_ (Kinds.pMut (Array.Array (Referent.rtF (Referent.fInt Syntax.w8)) 600000) 7 tt) (List._∷_ (Kinds.pMut (Array.Array Cell.R 65540) 8 tt) (List._∷_ (Kinds.pMut (Array.Array Cell.R 32772) 9 tt) List.[])))))))))))
+ps·2 = List._∷_ (Value.pVal record { ty = Declared.row Held.the-type; one = Path'.refl; val = Laws''.val Held.the-type Laws'.the-laws; tells = Laws''.tells Held.the-type Laws'.the-laws; still = Laws''.still Held.the-type Laws'.the-copy Exit.yes; row = Rows.whole held9; rd = λ x. x; mk = λ x. x } λ M 𝓤 H A W. record { copies = Laws''.copy Held.the-type Laws'.the-copy 𝓤 H A W; lawful = Laws''.lawful Held.the-type Laws'.the-laws 𝓤 H A W; makes = Laws''.makes Held.the-type Laws'.the-plain 𝓤 H A; in-mem = Local.mem-whole 𝓤 H A W held9; of-mem = Local.whole-mem 𝓤 H A W held9 }) (List._∷_ (Value.pVal record { ty = Declared.row Line.the-type; one = Path'.refl; val = Laws''.val Line.the-type Laws.the-laws; tells = Laws''.tells Line.the-type Laws.the-laws; still = Laws''.still Line.the-type Laws.the-copy Exit.yes; row = Rows.whole held10; rd = λ x. x; mk = λ x. x } λ M 𝓤 H A W. record { copies = Laws''.copy Line.the-type Laws.the-copy 𝓤 H A W; lawful = Laws''.lawful Line.the-type Laws.the-laws 𝓤 H A W; makes = Laws''.makes Line.the-type Laws.the-plain 𝓤 H A; in-mem = Local.mem-whole 𝓤 H A W held10; of-mem = Local.whole-mem 𝓤 H A W held10 }) (List._∷_ (ShrSlice.pShrS held0 0 tt) (List._∷_ (ShrRef.pShr held2 1 tt) (List._∷_ (Kinds.pMut held3 2 tt) (List._∷_ (Kinds.pMut held4 3 tt) (List._∷_ (Kinds.pMut held2 4 tt) (List._∷_ (Kinds.pMut held2 5 tt) (List._∷_ (Kinds.pMut held5 6 tt) (List._∷_ (Kinds.pMut held6 7 tt) (List._∷_ (Kinds.pMut held7 8 tt) (List._∷_ (Kinds.pMut held8 9 tt) List.[])))))))))))
 
 abbrev pub r·2 : Kinds.RK 10
-r·2 = Value.rVal record { ty = Declared.row Held.the-type; one = Path'.refl; val = Laws''.val Held.the-type Laws'.the-laws; tells = Laws''.tells Held.the-type Laws'.the-laws; still = Laws''.still Held.the-type Laws'.the-copy Exit.yes; row = Rows.whole (Declared.row Held.the-type); rd = λ x. x; mk = λ x. x } λ M 𝓤 H A W. record { copies = Laws''.copy Held.the-type Laws'.the-copy 𝓤 H A W; lawful = Laws''.lawful Held.the-type Laws'.the-laws 𝓤 H A W; makes = Laws''.makes Held.the-type Laws'.the-plain 𝓤 H A; in-mem = Local.mem-whole 𝓤 H A W (Declared.row Held.the-type); of-mem = Local.whole-mem 𝓤 H A W (Declared.row Held.the-type) }
+r·2 = Value.rVal record { ty = Declared.row Held.the-type; one = Path'.refl; val = Laws''.val Held.the-type Laws'.the-laws; tells = Laws''.tells Held.the-type Laws'.the-laws; still = Laws''.still Held.the-type Laws'.the-copy Exit.yes; row = Rows.whole held9; rd = λ x. x; mk = λ x. x } λ M 𝓤 H A W. record { copies = Laws''.copy Held.the-type Laws'.the-copy 𝓤 H A W; lawful = Laws''.lawful Held.the-type Laws'.the-laws 𝓤 H A W; makes = Laws''.makes Held.the-type Laws'.the-plain 𝓤 H A; in-mem = Local.mem-whole 𝓤 H A W held9; of-mem = Local.whole-mem 𝓤 H A W held9 }
 
 abbrev pub ps·3 : List.List (Kinds.PK 0)
 ps·3 = List._∷_ (Num.pNum Syntax.w64) List.[]
@@ -95,16 +513,16 @@ abbrev b0 : Syntax.Body
 b0 = Syntax.call "zones::held::nothing" List.[] (Syntax.place 11 List.[])
 
 abbrev b1 : Syntax.Body
-b1 = Syntax.assign (Syntax.place 12 List.[]) (Syntax.rvOpd (Syntax.int Syntax.w64 0))
+b1 = Syntax.assign place0 (Syntax.rvOpd (Syntax.int Syntax.w64 0))
 
 abbrev b2 : Syntax.Body
-b2 = Syntax.assign (Syntax.place 13 List.[]) (Syntax.rvOpd (Syntax.int Syntax.w64 0))
+b2 = Syntax.assign place1 (Syntax.rvOpd (Syntax.int Syntax.w64 0))
 
 abbrev b3 : Syntax.Body
-b3 = Syntax.assign (Syntax.place 15 List.[]) (Syntax.rvOpd (Syntax.copy (Syntax.place 1 (List._∷_ (Syntax.field 1) List.[]))))
+b3 = Syntax.assign (Syntax.place 15 List.[]) (Syntax.rvOpd (Syntax.copy (Syntax.place 1 steps0)))
 
 abbrev b4 : Syntax.Body
-b4 = Syntax.assign (Syntax.place 16 List.[]) (Syntax.op2 (Syntax.lt Syntax.unsigned) (Syntax.copy (Syntax.place 13 List.[])) (Syntax.copy (Syntax.place 15 List.[])))
+b4 = Syntax.assign place2 (Syntax.op2 (Syntax.lt Syntax.unsigned) (Syntax.copy place1) (Syntax.copy (Syntax.place 15 List.[])))
 
 abbrev b5 : Syntax.Body
 b5 = Syntax.skip
@@ -113,13 +531,13 @@ abbrev b6 : Syntax.Body
 b6 = Syntax.exit 1
 
 abbrev b7 : Syntax.Body
-b7 = Syntax.cond (Syntax.copy (Syntax.place 16 List.[])) b5 b6
+b7 = Syntax.cond (Syntax.copy place2) b5 b6
 
 abbrev b8 : Syntax.Body
-b8 = Syntax.assign (Syntax.place 17 List.[]) (Syntax.rvOpd (Syntax.copy (Syntax.place 1 (List._∷_ (Syntax.field 1) List.[]))))
+b8 = Syntax.assign (Syntax.place 17 List.[]) (Syntax.rvOpd (Syntax.copy (Syntax.place 1 steps0)))
 
 abbrev b9 : Syntax.Body
-b9 = Syntax.assign (Syntax.place 16 List.[]) (Syntax.op2 Syntax.eq (Syntax.copy (Syntax.place 12 List.[])) (Syntax.copy (Syntax.place 17 List.[])))
+b9 = Syntax.assign place2 (Syntax.op2 Syntax.eq (Syntax.copy place0) (Syntax.copy (Syntax.place 17 List.[])))
 
 abbrev b10 : Syntax.Body
 b10 = Syntax.assign (Syntax.place 0 List.[]) (Syntax.rvOpd Syntax.opdUnit)
@@ -134,34 +552,34 @@ abbrev b13 : Syntax.Body
 b13 = Syntax.skip
 
 abbrev b14 : Syntax.Body
-b14 = Syntax.cond (Syntax.copy (Syntax.place 16 List.[])) b12 b13
+b14 = Syntax.cond (Syntax.copy place2) b12 b13
 
 abbrev b15 : Syntax.Body
-b15 = Syntax.assign (Syntax.place 18 List.[]) (Syntax.addrOf (Syntax.place 2 (List._∷_ (Syntax.deref (Syntax.tyArray (Syntax.tyInt Syntax.w32) 32772)) List.[])))
+b15 = Syntax.assign (Syntax.place 18 List.[]) (Syntax.addrOf (Syntax.place 2 steps1))
 
 abbrev b16 : Syntax.Body
-b16 = Syntax.call "script::scan::next_line" (List._∷_ (Syntax.copy (Syntax.place 1 List.[])) (List._∷_ (Syntax.copy (Syntax.place 12 List.[])) (List._∷_ (Syntax.copy (Syntax.place 18 List.[])) List.[]))) (Syntax.place 14 List.[])
+b16 = Syntax.call "script::scan::next_line" (List._∷_ (Syntax.copy (Syntax.place 1 List.[])) (List._∷_ (Syntax.copy place0) (List._∷_ (Syntax.copy (Syntax.place 18 List.[])) List.[]))) (Syntax.place 14 List.[])
 
 abbrev b17 : Syntax.Body
-b17 = Syntax.assign (Syntax.place 19 List.[]) (Syntax.addrOf (Syntax.place 2 (List._∷_ (Syntax.deref (Syntax.tyArray (Syntax.tyInt Syntax.w32) 32772)) List.[])))
+b17 = Syntax.assign (Syntax.place 19 List.[]) (Syntax.addrOf (Syntax.place 2 steps1))
 
 abbrev b18 : Syntax.Body
-b18 = Syntax.assign (Syntax.place 20 List.[]) (Syntax.addrOf (Syntax.place 3 (List._∷_ (Syntax.deref (Syntax.tyArray (Syntax.tyInt Syntax.w8) 16388)) List.[])))
+b18 = Syntax.assign (Syntax.place 20 List.[]) (Syntax.addrOf (Syntax.place 3 (List._∷_ (Syntax.deref ty8) List.[])))
 
 abbrev b19 : Syntax.Body
-b19 = Syntax.assign (Syntax.place 21 List.[]) (Syntax.addrOf (Syntax.place 4 (List._∷_ (Syntax.deref (Syntax.tyArray (Syntax.tyInt Syntax.w32) 65540)) List.[])))
+b19 = Syntax.assign (Syntax.place 21 List.[]) (Syntax.addrOf (Syntax.place 4 (List._∷_ (Syntax.deref ty10) List.[])))
 
 abbrev b20 : Syntax.Body
-b20 = Syntax.assign (Syntax.place 22 List.[]) (Syntax.addrOf (Syntax.place 5 (List._∷_ (Syntax.deref (Syntax.tyArray (Syntax.tyInt Syntax.w32) 32772)) List.[])))
+b20 = Syntax.assign (Syntax.place 22 List.[]) (Syntax.addrOf (Syntax.place 5 steps1))
 
 abbrev b21 : Syntax.Body
-b21 = Syntax.assign (Syntax.place 23 List.[]) (Syntax.addrOf (Syntax.place 6 (List._∷_ (Syntax.deref (Syntax.tyArray (Syntax.tyInt Syntax.w32) 32772)) List.[])))
+b21 = Syntax.assign (Syntax.place 23 List.[]) (Syntax.addrOf (Syntax.place 6 steps1))
 
 abbrev b22 : Syntax.Body
-b22 = Syntax.assign (Syntax.place 24 List.[]) (Syntax.addrOf (Syntax.place 7 (List._∷_ (Syntax.deref (Syntax.tyArray (Syntax.tyInt Syntax.w32) 262160)) List.[])))
+b22 = Syntax.assign (Syntax.place 24 List.[]) (Syntax.addrOf (Syntax.place 7 (List._∷_ (Syntax.deref ty12) List.[])))
 
 abbrev b23 : Syntax.Body
-b23 = Syntax.assign (Syntax.place 25 List.[]) (Syntax.addrOf (Syntax.place 8 (List._∷_ (Syntax.deref (Syntax.tyArray (Syntax.tyInt Syntax.w8) 600000)) List.[])))
+b23 = Syntax.assign (Syntax.place 25 List.[]) (Syntax.addrOf (Syntax.place 8 (List._∷_ (Syntax.deref ty14) List.[])))
 
 abbrev b24 : Syntax.Body
 b24 = Syntax.assign (Syntax.place 26 List.[]) (Syntax.addrOf (Syntax.place 9 (List._∷_ (Syntax.deref (Syntax.tyArray Cell.held 65540)) List.[])))
@@ -173,10 +591,10 @@ abbrev b26 : Syntax.Body
 b26 = Syntax.call "zones::lines::obey" (List._∷_ (Syntax.copy (Syntax.place 11 List.[])) (List._∷_ (Syntax.copy (Syntax.place 14 List.[])) (List._∷_ (Syntax.copy (Syntax.place 1 List.[])) (List._∷_ (Syntax.copy (Syntax.place 19 List.[])) (List._∷_ (Syntax.copy (Syntax.place 20 List.[])) (List._∷_ (Syntax.copy (Syntax.place 21 List.[])) (List._∷_ (Syntax.copy (Syntax.place 22 List.[])) (List._∷_ (Syntax.copy (Syntax.place 23 List.[])) (List._∷_ (Syntax.copy (Syntax.place 24 List.[])) (List._∷_ (Syntax.copy (Syntax.place 25 List.[])) (List._∷_ (Syntax.copy (Syntax.place 26 List.[])) (List._∷_ (Syntax.copy (Syntax.place 27 List.[])) List.[])))))))))))) (Syntax.place 11 List.[])
 
 abbrev b27 : Syntax.Body
-b27 = Syntax.assign (Syntax.place 16 List.[]) (Syntax.rvOpd (Syntax.copy (Syntax.place 11 (List._∷_ (Syntax.field 7) List.[]))))
+b27 = Syntax.assign place2 (Syntax.rvOpd (Syntax.copy (Syntax.place 11 steps2)))
 
 abbrev b28 : Syntax.Body
-b28 = Syntax.assign (Syntax.place 29 List.[]) (Syntax.op2 (Syntax.add Syntax.unsigned) (Syntax.copy (Syntax.place 13 List.[])) (Syntax.int Syntax.w64 1))
+b28 = Syntax.assign (Syntax.place 29 List.[]) (Syntax.op2 (Syntax.add Syntax.unsigned) (Syntax.copy place1) (Syntax.int Syntax.w64 1))
 
 abbrev b29 : Syntax.Body
 b29 = Syntax.call "script::prints::error" (List._∷_ (Syntax.copy (Syntax.place 29 List.[])) List.[]) (Syntax.place 28 List.[])
@@ -200,13 +618,13 @@ abbrev b35 : Syntax.Body
 b35 = Syntax.skip
 
 abbrev b36 : Syntax.Body
-b36 = Syntax.cond (Syntax.copy (Syntax.place 16 List.[])) b34 b35
+b36 = Syntax.cond (Syntax.copy place2) b34 b35
 
 abbrev b37 : Syntax.Body
-b37 = Syntax.assign (Syntax.place 12 List.[]) (Syntax.rvOpd (Syntax.copy (Syntax.place 14 (List._∷_ (Syntax.field 4) List.[]))))
+b37 = Syntax.assign place0 (Syntax.rvOpd (Syntax.copy (Syntax.place 14 steps3)))
 
 abbrev b38 : Syntax.Body
-b38 = Syntax.assign (Syntax.place 13 List.[]) (Syntax.op2 (Syntax.add Syntax.unsigned) (Syntax.copy (Syntax.place 13 List.[])) (Syntax.int Syntax.w64 1))
+b38 = Syntax.assign place1 (Syntax.op2 (Syntax.add Syntax.unsigned) (Syntax.copy place1) (Syntax.int Syntax.w64 1))
 
 abbrev b39 : Syntax.Body
 b39 = Syntax.seq b37 b38
@@ -305,184 +723,184 @@ abbrev pub Claims : Type 1
 Claims = Kinds.In 0 ps·0 × Kinds.Out 0 ps·0 r·0 × Kinds.In 2 ps·1 × Kinds.Out 2 ps·1 r·1 × Kinds.In 10 ps·2 × Kinds.Out 10 ps·2 r·2 × Kinds.In 0 ps·3 × Kinds.Out 0 ps·3 r·3
 
 abbrev pub t0 : List.List Row.Entry
-t0 = List._∷_ (0, Rows.any-gone Syntax.tyUnit) (List._∷_ (1, Rows.sslice (Referent.rtF (Referent.fInt Syntax.w8)) (Syntax.tyRef (Syntax.named 0) Syntax.imm (Syntax.tyInt Syntax.w8)) 0) (List._∷_ (2, Rows.mref (Array.Array (Referent.rtF (Referent.fInt Syntax.w32)) 32772) (Syntax.tyRef (Syntax.named 1) Syntax.mut (Syntax.tyArray (Syntax.tyInt Syntax.w32) 32772)) 1) (List._∷_ (3, Rows.mref (Array.Array (Referent.rtF (Referent.fInt Syntax.w8)) 16388) (Syntax.tyRef (Syntax.named 2) Syntax.mut (Syntax.tyArray (Syntax.tyInt Syntax.w8) 16388)) 2) (List._∷_ (4, Rows.mref (Array.Array (Referent.rtF (Referent.fInt Syntax.w32)) 65540) (Syntax.tyRef (Syntax.named 3) Syntax.mut (Syntax.tyArray (Syntax.tyInt Syntax.w32) 65540)) 3) (List._∷_ (5, Rows.mref (Array.Array (Referent.rtF (Referent.fInt Syntax.w32)) 32772) (Syntax.tyRef (Syntax.named 4) Syntax.mut (Syntax.tyArray (Syntax.tyInt Syntax.w32) 32772)) 4) (List._∷_ (6, Rows.mref (Array.Array (Referent.rtF (Referent.fInt Syntax.w32)) 32772) (Syntax.tyRef (Syntax.named 5) Syntax.mut (Syntax.tyArray (Syntax.tyInt Syntax.w32) 32772)) 5) (List._∷_ (7, Rows.mref (Array.Array (Referent.rtF (Referent.fInt Syntax.w32)) 262160) (Syntax.tyRef (Syntax.named 6) Syntax.mut (Syntax.tyArray (Syntax.tyInt Syntax.w32) 262160)) 6) (List._∷_ (8, Rows.mref (Array.Array (Referent.rtF (Referent.fInt Syntax.w8)) 600000) (Syntax.tyRef (Syntax.named 7) Syntax.mut (Syntax.tyArray (Syntax.tyInt Syntax.w8) 600000)) 7) (List._∷_ (9, Rows.mref (Array.Array Cell.R 65540) (Syntax.tyRef (Syntax.named 8) Syntax.mut (Syntax.tyArray Cell.behind 65540)) 8) (List._∷_ (10, Rows.mref (Array.Array Cell.R 32772) (Syntax.tyRef (Syntax.named 9) Syntax.mut (Syntax.tyArray Cell.behind 32772)) 9) (List._∷_ (11, Rows.any-gone (Syntax.tyStruct (List._∷_ 122 (List._∷_ 111 (List._∷_ 110 (List._∷_ 101 (List._∷_ 115 (List._∷_ 58 (List._∷_ 58 (List._∷_ 104 (List._∷_ 101 (List._∷_ 108 (List._∷_ 100 (List._∷_ 58 (List._∷_ 58 (List._∷_ 72 (List._∷_ 101 (List._∷_ 108 (List._∷_ 100 List.[]))))))))))))))))) (Syntax.tcons (Syntax.tyStruct (List._∷_ 112 (List._∷_ 121 (List._∷_ 114 (List._∷_ 97 (List._∷_ 109 (List._∷_ 105 (List._∷_ 100 (List._∷_ 58 (List._∷_ 58 (List._∷_ 83 (List._∷_ 116 (List._∷_ 97 (List._∷_ 116 (List._∷_ 101 List.[])))))))))))))) (Syntax.tcons (Syntax.tyInt Syntax.w32) (Syntax.tcons (Syntax.tyInt Syntax.w32) (Syntax.tcons (Syntax.tyInt Syntax.w32) (Syntax.tcons (Syntax.tyInt Syntax.w32) (Syntax.tcons (Syntax.tyInt Syntax.w32) (Syntax.tcons (Syntax.tyArray (Syntax.tyInt Syntax.w32) 64) Syntax.tnil))))))) (Syntax.tcons (Syntax.tyInt Syntax.w64) (Syntax.tcons (Syntax.tyInt Syntax.w64) (Syntax.tcons (Syntax.tyInt Syntax.w64) (Syntax.tcons (Syntax.tyInt Syntax.w64) (Syntax.tcons (Syntax.tyInt Syntax.w64) (Syntax.tcons (Syntax.tyInt Syntax.w64) (Syntax.tcons Syntax.tyBool Syntax.tnil)))))))))) (List._∷_ (12, Rows.any-gone (Syntax.tyInt Syntax.w64)) (List._∷_ (13, Rows.any-gone (Syntax.tyInt Syntax.w64)) (List._∷_ (14, Rows.any-gone (Syntax.tyStruct (List._∷_ 115 (List._∷_ 99 (List._∷_ 114 (List._∷_ 105 (List._∷_ 112 (List._∷_ 116 (List._∷_ 58 (List._∷_ 58 (List._∷_ 115 (List._∷_ 99 (List._∷_ 97 (List._∷_ 110 (List._∷_ 58 (List._∷_ 58 (List._∷_ 76 (List._∷_ 105 (List._∷_ 110 (List._∷_ 101 List.[])))))))))))))))))) (Syntax.tcons (Syntax.tyInt Syntax.w32) (Syntax.tcons (Syntax.tyInt Syntax.w64) (Syntax.tcons (Syntax.tyInt Syntax.w64) (Syntax.tcons (Syntax.tyInt Syntax.w64) (Syntax.tcons (Syntax.tyInt Syntax.w64) Syntax.tnil))))))) (List._∷_ (15, Rows.any-gone (Syntax.tyInt Syntax.w64)) List.[])))))))))))))))
+t0 = List._∷_ local0 locals2
 
 abbrev pub t1 : List.List Row.Entry
-t1 = List._∷_ (16, Rows.any-gone Syntax.tyBool) (List._∷_ (17, Rows.any-gone (Syntax.tyInt Syntax.w64)) (List._∷_ (18, Rows.any-gone (Syntax.tyRef Syntax.erased Syntax.mut (Syntax.tyArray (Syntax.tyInt Syntax.w32) 32772))) (List._∷_ (19, Rows.any-gone (Syntax.tyRef Syntax.erased Syntax.imm (Syntax.tyArray (Syntax.tyInt Syntax.w32) 32772))) (List._∷_ (20, Rows.any-gone (Syntax.tyRef Syntax.erased Syntax.mut (Syntax.tyArray (Syntax.tyInt Syntax.w8) 16388))) (List._∷_ (21, Rows.any-gone (Syntax.tyRef Syntax.erased Syntax.mut (Syntax.tyArray (Syntax.tyInt Syntax.w32) 65540))) (List._∷_ (22, Rows.any-gone (Syntax.tyRef Syntax.erased Syntax.mut (Syntax.tyArray (Syntax.tyInt Syntax.w32) 32772))) (List._∷_ (23, Rows.any-gone (Syntax.tyRef Syntax.erased Syntax.mut (Syntax.tyArray (Syntax.tyInt Syntax.w32) 32772))) (List._∷_ (24, Rows.any-gone (Syntax.tyRef Syntax.erased Syntax.mut (Syntax.tyArray (Syntax.tyInt Syntax.w32) 262160))) (List._∷_ (25, Rows.any-gone (Syntax.tyRef Syntax.erased Syntax.mut (Syntax.tyArray (Syntax.tyInt Syntax.w8) 600000))) (List._∷_ (26, Rows.any-gone (Syntax.tyRef Syntax.erased Syntax.mut (Syntax.tyArray Cell.behind 65540))) (List._∷_ (27, Rows.any-gone (Syntax.tyRef Syntax.erased Syntax.mut (Syntax.tyArray Cell.behind 32772))) (List._∷_ (28, Rows.any-gone Syntax.tyUnit) (List._∷_ (29, Rows.any-gone (Syntax.tyInt Syntax.w64)) List.[])))))))))))))
+t1 = List._∷_ local13 (List._∷_ local14 locals7)
 
 abbrev pub t2 : List.List Row.Entry
-t2 = List._∷_ (0, Rows.sc-here Row.sUnit) (List._∷_ (1, Rows.sslice (Referent.rtF (Referent.fInt Syntax.w8)) (Syntax.tyRef (Syntax.named 0) Syntax.imm (Syntax.tyInt Syntax.w8)) 0) (List._∷_ (2, Rows.mref (Array.Array (Referent.rtF (Referent.fInt Syntax.w32)) 32772) (Syntax.tyRef (Syntax.named 1) Syntax.mut (Syntax.tyArray (Syntax.tyInt Syntax.w32) 32772)) 1) (List._∷_ (3, Rows.mref (Array.Array (Referent.rtF (Referent.fInt Syntax.w8)) 16388) (Syntax.tyRef (Syntax.named 2) Syntax.mut (Syntax.tyArray (Syntax.tyInt Syntax.w8) 16388)) 2) (List._∷_ (4, Rows.mref (Array.Array (Referent.rtF (Referent.fInt Syntax.w32)) 65540) (Syntax.tyRef (Syntax.named 3) Syntax.mut (Syntax.tyArray (Syntax.tyInt Syntax.w32) 65540)) 3) (List._∷_ (5, Rows.mref (Array.Array (Referent.rtF (Referent.fInt Syntax.w32)) 32772) (Syntax.tyRef (Syntax.named 4) Syntax.mut (Syntax.tyArray (Syntax.tyInt Syntax.w32) 32772)) 4) (List._∷_ (6, Rows.mref (Array.Array (Referent.rtF (Referent.fInt Syntax.w32)) 32772) (Syntax.tyRef (Syntax.named 5) Syntax.mut (Syntax.tyArray (Syntax.tyInt Syntax.w32) 32772)) 5) (List._∷_ (7, Rows.mref (Array.Array (Referent.rtF (Referent.fInt Syntax.w32)) 262160) (Syntax.tyRef (Syntax.named 6) Syntax.mut (Syntax.tyArray (Syntax.tyInt Syntax.w32) 262160)) 6) (List._∷_ (8, Rows.mref (Array.Array (Referent.rtF (Referent.fInt Syntax.w8)) 600000) (Syntax.tyRef (Syntax.named 7) Syntax.mut (Syntax.tyArray (Syntax.tyInt Syntax.w8) 600000)) 7) (List._∷_ (9, Rows.mref (Array.Array Cell.R 65540) (Syntax.tyRef (Syntax.named 8) Syntax.mut (Syntax.tyArray Cell.behind 65540)) 8) (List._∷_ (10, Rows.mref (Array.Array Cell.R 32772) (Syntax.tyRef (Syntax.named 9) Syntax.mut (Syntax.tyArray Cell.behind 32772)) 9) (List._∷_ (11, Rows.any-gone (Syntax.tyStruct (List._∷_ 122 (List._∷_ 111 (List._∷_ 110 (List._∷_ 101 (List._∷_ 115 (List._∷_ 58 (List._∷_ 58 (List._∷_ 104 (List._∷_ 101 (List._∷_ 108 (List._∷_ 100 (List._∷_ 58 (List._∷_ 58 (List._∷_ 72 (List._∷_ 101 (List._∷_ 108 (List._∷_ 100 List.[]))))))))))))))))) (Syntax.tcons (Syntax.tyStruct (List._∷_ 112 (List._∷_ 121 (List._∷_ 114 (List._∷_ 97 (List._∷_ 109 (List._∷_ 105 (List._∷_ 100 (List._∷_ 58 (List._∷_ 58 (List._∷_ 83 (List._∷_ 116 (List._∷_ 97 (List._∷_ 116 (List._∷_ 101 List.[])))))))))))))) (Syntax.tcons (Syntax.tyInt Syntax.w32) (Syntax.tcons (Syntax.tyInt Syntax.w32) (Syntax.tcons (Syntax.tyInt Syntax.w32) (Syntax.tcons (Syntax.tyInt Syntax.w32) (Syntax.tcons (Syntax.tyInt Syntax.w32) (Syntax.tcons (Syntax.tyArray (Syntax.tyInt Syntax.w32) 64) Syntax.tnil))))))) (Syntax.tcons (Syntax.tyInt Syntax.w64) (Syntax.tcons (Syntax.tyInt Syntax.w64) (Syntax.tcons (Syntax.tyInt Syntax.w64) (Syntax.tcons (Syntax.tyInt Syntax.w64) (Syntax.tcons (Syntax.tyInt Syntax.w64) (Syntax.tcons (Syntax.tyInt Syntax.w64) (Syntax.tcons Syntax.tyBool Syntax.tnil)))))))))) (List._∷_ (12, Rows.any-gone (Syntax.tyInt Syntax.w64)) (List._∷_ (13, Rows.any-gone (Syntax.tyInt Syntax.w64)) (List._∷_ (14, Rows.any-gone (Syntax.tyStruct (List._∷_ 115 (List._∷_ 99 (List._∷_ 114 (List._∷_ 105 (List._∷_ 112 (List._∷_ 116 (List._∷_ 58 (List._∷_ 58 (List._∷_ 115 (List._∷_ 99 (List._∷_ 97 (List._∷_ 110 (List._∷_ 58 (List._∷_ 58 (List._∷_ 76 (List._∷_ 105 (List._∷_ 110 (List._∷_ 101 List.[])))))))))))))))))) (Syntax.tcons (Syntax.tyInt Syntax.w32) (Syntax.tcons (Syntax.tyInt Syntax.w64) (Syntax.tcons (Syntax.tyInt Syntax.w64) (Syntax.tcons (Syntax.tyInt Syntax.w64) (Syntax.tcons (Syntax.tyInt Syntax.w64) Syntax.tnil))))))) (List._∷_ (15, Rows.any-gone (Syntax.tyInt Syntax.w64)) List.[])))))))))))))))
+t2 = List._∷_ local25 locals2
 
 abbrev pub t3 : List.List Row.Entry
-t3 = List._∷_ (0, Rows.any-gone Syntax.tyUnit) (List._∷_ (1, Rows.sslice (Referent.rtF (Referent.fInt Syntax.w8)) (Syntax.tyRef (Syntax.named 0) Syntax.imm (Syntax.tyInt Syntax.w8)) 0) (List._∷_ (2, Rows.mref (Array.Array (Referent.rtF (Referent.fInt Syntax.w32)) 32772) (Syntax.tyRef (Syntax.named 1) Syntax.mut (Syntax.tyArray (Syntax.tyInt Syntax.w32) 32772)) 1) (List._∷_ (3, Rows.mref (Array.Array (Referent.rtF (Referent.fInt Syntax.w8)) 16388) (Syntax.tyRef (Syntax.named 2) Syntax.mut (Syntax.tyArray (Syntax.tyInt Syntax.w8) 16388)) 2) (List._∷_ (4, Rows.mref (Array.Array (Referent.rtF (Referent.fInt Syntax.w32)) 65540) (Syntax.tyRef (Syntax.named 3) Syntax.mut (Syntax.tyArray (Syntax.tyInt Syntax.w32) 65540)) 3) (List._∷_ (5, Rows.mref (Array.Array (Referent.rtF (Referent.fInt Syntax.w32)) 32772) (Syntax.tyRef (Syntax.named 4) Syntax.mut (Syntax.tyArray (Syntax.tyInt Syntax.w32) 32772)) 4) (List._∷_ (6, Rows.mref (Array.Array (Referent.rtF (Referent.fInt Syntax.w32)) 32772) (Syntax.tyRef (Syntax.named 5) Syntax.mut (Syntax.tyArray (Syntax.tyInt Syntax.w32) 32772)) 5) (List._∷_ (7, Rows.mref (Array.Array (Referent.rtF (Referent.fInt Syntax.w32)) 262160) (Syntax.tyRef (Syntax.named 6) Syntax.mut (Syntax.tyArray (Syntax.tyInt Syntax.w32) 262160)) 6) (List._∷_ (8, Rows.mref (Array.Array (Referent.rtF (Referent.fInt Syntax.w8)) 600000) (Syntax.tyRef (Syntax.named 7) Syntax.mut (Syntax.tyArray (Syntax.tyInt Syntax.w8) 600000)) 7) (List._∷_ (9, Rows.mref (Array.Array Cell.R 65540) (Syntax.tyRef (Syntax.named 8) Syntax.mut (Syntax.tyArray Cell.behind 65540)) 8) (List._∷_ (10, Rows.mref (Array.Array Cell.R 32772) (Syntax.tyRef (Syntax.named 9) Syntax.mut (Syntax.tyArray Cell.behind 32772)) 9) (List._∷_ (11, Rows.whole (Declared.row Held.the-type)) (List._∷_ (12, Rows.any-gone (Syntax.tyInt Syntax.w64)) (List._∷_ (13, Rows.any-gone (Syntax.tyInt Syntax.w64)) (List._∷_ (14, Rows.any-gone (Syntax.tyStruct (List._∷_ 115 (List._∷_ 99 (List._∷_ 114 (List._∷_ 105 (List._∷_ 112 (List._∷_ 116 (List._∷_ 58 (List._∷_ 58 (List._∷_ 115 (List._∷_ 99 (List._∷_ 97 (List._∷_ 110 (List._∷_ 58 (List._∷_ 58 (List._∷_ 76 (List._∷_ 105 (List._∷_ 110 (List._∷_ 101 List.[])))))))))))))))))) (Syntax.tcons (Syntax.tyInt Syntax.w32) (Syntax.tcons (Syntax.tyInt Syntax.w64) (Syntax.tcons (Syntax.tyInt Syntax.w64) (Syntax.tcons (Syntax.tyInt Syntax.w64) (Syntax.tcons (Syntax.tyInt Syntax.w64) Syntax.tnil))))))) (List._∷_ (15, Rows.any-gone (Syntax.tyInt Syntax.w64)) List.[])))))))))))))))
+t3 = List._∷_ local0 (List._∷_ local1 (List._∷_ local2 (List._∷_ local3 (List._∷_ local4 (List._∷_ local5 (List._∷_ local6 (List._∷_ local7 (List._∷_ local8 (List._∷_ local9 (List._∷_ local10 (List._∷_ local26 (List._∷_ local12 locals1))))))))))))
 
 abbrev pub t4 : List.List Row.Entry
-t4 = List._∷_ (0, Rows.any-gone Syntax.tyUnit) (List._∷_ (1, Rows.sslice (Referent.rtF (Referent.fInt Syntax.w8)) (Syntax.tyRef (Syntax.named 0) Syntax.imm (Syntax.tyInt Syntax.w8)) 0) (List._∷_ (2, Rows.mref (Array.Array (Referent.rtF (Referent.fInt Syntax.w32)) 32772) (Syntax.tyRef (Syntax.named 1) Syntax.mut (Syntax.tyArray (Syntax.tyInt Syntax.w32) 32772)) 1) (List._∷_ (3, Rows.mref (Array.Array (Referent.rtF (Referent.fInt Syntax.w8)) 16388) (Syntax.tyRef (Syntax.named 2) Syntax.mut (Syntax.tyArray (Syntax.tyInt Syntax.w8) 16388)) 2) (List._∷_ (4, Rows.mref (Array.Array (Referent.rtF (Referent.fInt Syntax.w32)) 65540) (Syntax.tyRef (Syntax.named 3) Syntax.mut (Syntax.tyArray (Syntax.tyInt Syntax.w32) 65540)) 3) (List._∷_ (5, Rows.mref (Array.Array (Referent.rtF (Referent.fInt Syntax.w32)) 32772) (Syntax.tyRef (Syntax.named 4) Syntax.mut (Syntax.tyArray (Syntax.tyInt Syntax.w32) 32772)) 4) (List._∷_ (6, Rows.mref (Array.Array (Referent.rtF (Referent.fInt Syntax.w32)) 32772) (Syntax.tyRef (Syntax.named 5) Syntax.mut (Syntax.tyArray (Syntax.tyInt Syntax.w32) 32772)) 5) (List._∷_ (7, Rows.mref (Array.Array (Referent.rtF (Referent.fInt Syntax.w32)) 262160) (Syntax.tyRef (Syntax.named 6) Syntax.mut (Syntax.tyArray (Syntax.tyInt Syntax.w32) 262160)) 6) (List._∷_ (8, Rows.mref (Array.Array (Referent.rtF (Referent.fInt Syntax.w8)) 600000) (Syntax.tyRef (Syntax.named 7) Syntax.mut (Syntax.tyArray (Syntax.tyInt Syntax.w8) 600000)) 7) (List._∷_ (9, Rows.mref (Array.Array Cell.R 65540) (Syntax.tyRef (Syntax.named 8) Syntax.mut (Syntax.tyArray Cell.behind 65540)) 8) (List._∷_ (10, Rows.mref (Array.Array Cell.R 32772) (Syntax.tyRef (Syntax.named 9) Syntax.mut (Syntax.tyArray Cell.behind 32772)) 9) (List._∷_ (11, Rows.whole (Declared.row Held.the-type)) (List._∷_ (12, Rows.sc-here (Row.sInt Syntax.w64)) (List._∷_ (13, Rows.any-gone (Syntax.tyInt Syntax.w64)) (List._∷_ (14, Rows.any-gone (Syntax.tyStruct (List._∷_ 115 (List._∷_ 99 (List._∷_ 114 (List._∷_ 105 (List._∷_ 112 (List._∷_ 116 (List._∷_ 58 (List._∷_ 58 (List._∷_ 115 (List._∷_ 99 (List._∷_ 97 (List._∷_ 110 (List._∷_ 58 (List._∷_ 58 (List._∷_ 76 (List._∷_ 105 (List._∷_ 110 (List._∷_ 101 List.[])))))))))))))))))) (Syntax.tcons (Syntax.tyInt Syntax.w32) (Syntax.tcons (Syntax.tyInt Syntax.w64) (Syntax.tcons (Syntax.tyInt Syntax.w64) (Syntax.tcons (Syntax.tyInt Syntax.w64) (Syntax.tcons (Syntax.tyInt Syntax.w64) Syntax.tnil))))))) (List._∷_ (15, Rows.any-gone (Syntax.tyInt Syntax.w64)) List.[])))))))))))))))
+t4 = List._∷_ local0 (List._∷_ local1 (List._∷_ local2 (List._∷_ local3 (List._∷_ local4 (List._∷_ local5 (List._∷_ local6 (List._∷_ local7 (List._∷_ local8 (List._∷_ local9 (List._∷_ local10 (List._∷_ local26 (List._∷_ local27 locals1))))))))))))
 
 abbrev pub t5 : List.List Row.Entry
-t5 = List._∷_ (0, Rows.any-gone Syntax.tyUnit) (List._∷_ (1, Rows.sslice (Referent.rtF (Referent.fInt Syntax.w8)) (Syntax.tyRef (Syntax.named 0) Syntax.imm (Syntax.tyInt Syntax.w8)) 0) (List._∷_ (2, Rows.mref (Array.Array (Referent.rtF (Referent.fInt Syntax.w32)) 32772) (Syntax.tyRef (Syntax.named 1) Syntax.mut (Syntax.tyArray (Syntax.tyInt Syntax.w32) 32772)) 1) (List._∷_ (3, Rows.mref (Array.Array (Referent.rtF (Referent.fInt Syntax.w8)) 16388) (Syntax.tyRef (Syntax.named 2) Syntax.mut (Syntax.tyArray (Syntax.tyInt Syntax.w8) 16388)) 2) (List._∷_ (4, Rows.mref (Array.Array (Referent.rtF (Referent.fInt Syntax.w32)) 65540) (Syntax.tyRef (Syntax.named 3) Syntax.mut (Syntax.tyArray (Syntax.tyInt Syntax.w32) 65540)) 3) (List._∷_ (5, Rows.mref (Array.Array (Referent.rtF (Referent.fInt Syntax.w32)) 32772) (Syntax.tyRef (Syntax.named 4) Syntax.mut (Syntax.tyArray (Syntax.tyInt Syntax.w32) 32772)) 4) (List._∷_ (6, Rows.mref (Array.Array (Referent.rtF (Referent.fInt Syntax.w32)) 32772) (Syntax.tyRef (Syntax.named 5) Syntax.mut (Syntax.tyArray (Syntax.tyInt Syntax.w32) 32772)) 5) (List._∷_ (7, Rows.mref (Array.Array (Referent.rtF (Referent.fInt Syntax.w32)) 262160) (Syntax.tyRef (Syntax.named 6) Syntax.mut (Syntax.tyArray (Syntax.tyInt Syntax.w32) 262160)) 6) (List._∷_ (8, Rows.mref (Array.Array (Referent.rtF (Referent.fInt Syntax.w8)) 600000) (Syntax.tyRef (Syntax.named 7) Syntax.mut (Syntax.tyArray (Syntax.tyInt Syntax.w8) 600000)) 7) (List._∷_ (9, Rows.mref (Array.Array Cell.R 65540) (Syntax.tyRef (Syntax.named 8) Syntax.mut (Syntax.tyArray Cell.behind 65540)) 8) (List._∷_ (10, Rows.mref (Array.Array Cell.R 32772) (Syntax.tyRef (Syntax.named 9) Syntax.mut (Syntax.tyArray Cell.behind 32772)) 9) (List._∷_ (11, Rows.whole (Declared.row Held.the-type)) (List._∷_ (12, Rows.sc-here (Row.sInt Syntax.w64)) (List._∷_ (13, Rows.sc-here (Row.sInt Syntax.w64)) (List._∷_ (14, Rows.any-gone (Syntax.tyStruct (List._∷_ 115 (List._∷_ 99 (List._∷_ 114 (List._∷_ 105 (List._∷_ 112 (List._∷_ 116 (List._∷_ 58 (List._∷_ 58 (List._∷_ 115 (List._∷_ 99 (List._∷_ 97 (List._∷_ 110 (List._∷_ 58 (List._∷_ 58 (List._∷_ 76 (List._∷_ 105 (List._∷_ 110 (List._∷_ 101 List.[])))))))))))))))))) (Syntax.tcons (Syntax.tyInt Syntax.w32) (Syntax.tcons (Syntax.tyInt Syntax.w64) (Syntax.tcons (Syntax.tyInt Syntax.w64) (Syntax.tcons (Syntax.tyInt Syntax.w64) (Syntax.tcons (Syntax.tyInt Syntax.w64) Syntax.tnil))))))) (List._∷_ (15, Rows.any-gone (Syntax.tyInt Syntax.w64)) List.[])))))))))))))))
+t5 = List._∷_ local0 (List._∷_ local1 (List._∷_ local2 (List._∷_ local3 (List._∷_ local4 (List._∷_ local5 (List._∷_ local6 (List._∷_ local7 (List._∷_ local8 (List._∷_ local9 (List._∷_ local10 (List._∷_ local26 (List._∷_ local27 (List._∷_ local28 locals0)))))))))))))
 
 abbrev pub t6 : List.List Row.Entry
-t6 = List._∷_ (0, Rows.any-gone Syntax.tyUnit) (List._∷_ (1, Rows.sslice (Referent.rtF (Referent.fInt Syntax.w8)) (Syntax.tyRef (Syntax.named 0) Syntax.imm (Syntax.tyInt Syntax.w8)) 0) (List._∷_ (2, Rows.mref (Array.Array (Referent.rtF (Referent.fInt Syntax.w32)) 32772) (Syntax.tyRef (Syntax.named 1) Syntax.mut (Syntax.tyArray (Syntax.tyInt Syntax.w32) 32772)) 1) (List._∷_ (3, Rows.mref (Array.Array (Referent.rtF (Referent.fInt Syntax.w8)) 16388) (Syntax.tyRef (Syntax.named 2) Syntax.mut (Syntax.tyArray (Syntax.tyInt Syntax.w8) 16388)) 2) (List._∷_ (4, Rows.mref (Array.Array (Referent.rtF (Referent.fInt Syntax.w32)) 65540) (Syntax.tyRef (Syntax.named 3) Syntax.mut (Syntax.tyArray (Syntax.tyInt Syntax.w32) 65540)) 3) (List._∷_ (5, Rows.mref (Array.Array (Referent.rtF (Referent.fInt Syntax.w32)) 32772) (Syntax.tyRef (Syntax.named 4) Syntax.mut (Syntax.tyArray (Syntax.tyInt Syntax.w32) 32772)) 4) (List._∷_ (6, Rows.mref (Array.Array (Referent.rtF (Referent.fInt Syntax.w32)) 32772) (Syntax.tyRef (Syntax.named 5) Syntax.mut (Syntax.tyArray (Syntax.tyInt Syntax.w32) 32772)) 5) (List._∷_ (7, Rows.mref (Array.Array (Referent.rtF (Referent.fInt Syntax.w32)) 262160) (Syntax.tyRef (Syntax.named 6) Syntax.mut (Syntax.tyArray (Syntax.tyInt Syntax.w32) 262160)) 6) (List._∷_ (8, Rows.mref (Array.Array (Referent.rtF (Referent.fInt Syntax.w8)) 600000) (Syntax.tyRef (Syntax.named 7) Syntax.mut (Syntax.tyArray (Syntax.tyInt Syntax.w8) 600000)) 7) (List._∷_ (9, Rows.mref (Array.Array Cell.R 65540) (Syntax.tyRef (Syntax.named 8) Syntax.mut (Syntax.tyArray Cell.behind 65540)) 8) (List._∷_ (10, Rows.mref (Array.Array Cell.R 32772) (Syntax.tyRef (Syntax.named 9) Syntax.mut (Syntax.tyArray Cell.behind 32772)) 9) (List._∷_ (11, Rows.whole (Declared.row Held.the-type)) (List._∷_ (12, Rows.sc-here (Row.sInt Syntax.w64)) (List._∷_ (13, Rows.sc-here (Row.sInt Syntax.w64)) (List._∷_ (14, Rows.any-gone (Syntax.tyStruct (List._∷_ 115 (List._∷_ 99 (List._∷_ 114 (List._∷_ 105 (List._∷_ 112 (List._∷_ 116 (List._∷_ 58 (List._∷_ 58 (List._∷_ 115 (List._∷_ 99 (List._∷_ 97 (List._∷_ 110 (List._∷_ 58 (List._∷_ 58 (List._∷_ 76 (List._∷_ 105 (List._∷_ 110 (List._∷_ 101 List.[])))))))))))))))))) (Syntax.tcons (Syntax.tyInt Syntax.w32) (Syntax.tcons (Syntax.tyInt Syntax.w64) (Syntax.tcons (Syntax.tyInt Syntax.w64) (Syntax.tcons (Syntax.tyInt Syntax.w64) (Syntax.tcons (Syntax.tyInt Syntax.w64) Syntax.tnil))))))) (List._∷_ (15, Rows.sc-here (Row.sInt Syntax.w64)) List.[])))))))))))))))
+t6 = List._∷_ local0 (List._∷_ local1 (List._∷_ local2 locals9))
 
 abbrev pub t7 : List.List Row.Entry
-t7 = List._∷_ (0, Rows.any-gone Syntax.tyUnit) (List._∷_ (1, Rows.sslice (Referent.rtF (Referent.fInt Syntax.w8)) (Syntax.tyRef (Syntax.named 0) Syntax.imm (Syntax.tyInt Syntax.w8)) 0) (List._∷_ (2, Rows.mref (Array.Array (Referent.rtF (Referent.fInt Syntax.w32)) 32772) (Syntax.tyRef (Syntax.named 1) Syntax.mut (Syntax.tyArray (Syntax.tyInt Syntax.w32) 32772)) 1) (List._∷_ (3, Rows.mref (Array.Array (Referent.rtF (Referent.fInt Syntax.w8)) 16388) (Syntax.tyRef (Syntax.named 2) Syntax.mut (Syntax.tyArray (Syntax.tyInt Syntax.w8) 16388)) 2) (List._∷_ (4, Rows.mref (Array.Array (Referent.rtF (Referent.fInt Syntax.w32)) 65540) (Syntax.tyRef (Syntax.named 3) Syntax.mut (Syntax.tyArray (Syntax.tyInt Syntax.w32) 65540)) 3) (List._∷_ (5, Rows.mref (Array.Array (Referent.rtF (Referent.fInt Syntax.w32)) 32772) (Syntax.tyRef (Syntax.named 4) Syntax.mut (Syntax.tyArray (Syntax.tyInt Syntax.w32) 32772)) 4) (List._∷_ (6, Rows.mref (Array.Array (Referent.rtF (Referent.fInt Syntax.w32)) 32772) (Syntax.tyRef (Syntax.named 5) Syntax.mut (Syntax.tyArray (Syntax.tyInt Syntax.w32) 32772)) 5) (List._∷_ (7, Rows.mref (Array.Array (Referent.rtF (Referent.fInt Syntax.w32)) 262160) (Syntax.tyRef (Syntax.named 6) Syntax.mut (Syntax.tyArray (Syntax.tyInt Syntax.w32) 262160)) 6) (List._∷_ (8, Rows.mref (Array.Array (Referent.rtF (Referent.fInt Syntax.w8)) 600000) (Syntax.tyRef (Syntax.named 7) Syntax.mut (Syntax.tyArray (Syntax.tyInt Syntax.w8) 600000)) 7) (List._∷_ (9, Rows.mref (Array.Array Cell.R 65540) (Syntax.tyRef (Syntax.named 8) Syntax.mut (Syntax.tyArray Cell.behind 65540)) 8) (List._∷_ (10, Rows.mref (Array.Array Cell.R 32772) (Syntax.tyRef (Syntax.named 9) Syntax.mut (Syntax.tyArray Cell.behind 32772)) 9) (List._∷_ (11, Rows.any-gone (Syntax.tyStruct (List._∷_ 122 (List._∷_ 111 (List._∷_ 110 (List._∷_ 101 (List._∷_ 115 (List._∷_ 58 (List._∷_ 58 (List._∷_ 104 (List._∷_ 101 (List._∷_ 108 (List._∷_ 100 (List._∷_ 58 (List._∷_ 58 (List._∷_ 72 (List._∷_ 101 (List._∷_ 108 (List._∷_ 100 List.[]))))))))))))))))) (Syntax.tcons (Syntax.tyStruct (List._∷_ 112 (List._∷_ 121 (List._∷_ 114 (List._∷_ 97 (List._∷_ 109 (List._∷_ 105 (List._∷_ 100 (List._∷_ 58 (List._∷_ 58 (List._∷_ 83 (List._∷_ 116 (List._∷_ 97 (List._∷_ 116 (List._∷_ 101 List.[])))))))))))))) (Syntax.tcons (Syntax.tyInt Syntax.w32) (Syntax.tcons (Syntax.tyInt Syntax.w32) (Syntax.tcons (Syntax.tyInt Syntax.w32) (Syntax.tcons (Syntax.tyInt Syntax.w32) (Syntax.tcons (Syntax.tyInt Syntax.w32) (Syntax.tcons (Syntax.tyArray (Syntax.tyInt Syntax.w32) 64) Syntax.tnil))))))) (Syntax.tcons (Syntax.tyInt Syntax.w64) (Syntax.tcons (Syntax.tyInt Syntax.w64) (Syntax.tcons (Syntax.tyInt Syntax.w64) (Syntax.tcons (Syntax.tyInt Syntax.w64) (Syntax.tcons (Syntax.tyInt Syntax.w64) (Syntax.tcons (Syntax.tyInt Syntax.w64) (Syntax.tcons Syntax.tyBool Syntax.tnil)))))))))) (List._∷_ (12, Rows.sc-here (Row.sInt Syntax.w64)) (List._∷_ (13, Rows.any-gone (Syntax.tyInt Syntax.w64)) (List._∷_ (14, Rows.any-gone (Syntax.tyStruct (List._∷_ 115 (List._∷_ 99 (List._∷_ 114 (List._∷_ 105 (List._∷_ 112 (List._∷_ 116 (List._∷_ 58 (List._∷_ 58 (List._∷_ 115 (List._∷_ 99 (List._∷_ 97 (List._∷_ 110 (List._∷_ 58 (List._∷_ 58 (List._∷_ 76 (List._∷_ 105 (List._∷_ 110 (List._∷_ 101 List.[])))))))))))))))))) (Syntax.tcons (Syntax.tyInt Syntax.w32) (Syntax.tcons (Syntax.tyInt Syntax.w64) (Syntax.tcons (Syntax.tyInt Syntax.w64) (Syntax.tcons (Syntax.tyInt Syntax.w64) (Syntax.tcons (Syntax.tyInt Syntax.w64) Syntax.tnil))))))) (List._∷_ (15, Rows.any-gone (Syntax.tyInt Syntax.w64)) List.[])))))))))))))))
+t7 = List._∷_ local0 locals10
 
 abbrev pub t8 : List.List Row.Entry
-t8 = List._∷_ (16, Rows.sc-here Row.sBool) (List._∷_ (17, Rows.any-gone (Syntax.tyInt Syntax.w64)) (List._∷_ (18, Rows.any-gone (Syntax.tyRef Syntax.erased Syntax.mut (Syntax.tyArray (Syntax.tyInt Syntax.w32) 32772))) (List._∷_ (19, Rows.any-gone (Syntax.tyRef Syntax.erased Syntax.imm (Syntax.tyArray (Syntax.tyInt Syntax.w32) 32772))) (List._∷_ (20, Rows.any-gone (Syntax.tyRef Syntax.erased Syntax.mut (Syntax.tyArray (Syntax.tyInt Syntax.w8) 16388))) (List._∷_ (21, Rows.any-gone (Syntax.tyRef Syntax.erased Syntax.mut (Syntax.tyArray (Syntax.tyInt Syntax.w32) 65540))) (List._∷_ (22, Rows.any-gone (Syntax.tyRef Syntax.erased Syntax.mut (Syntax.tyArray (Syntax.tyInt Syntax.w32) 32772))) (List._∷_ (23, Rows.any-gone (Syntax.tyRef Syntax.erased Syntax.mut (Syntax.tyArray (Syntax.tyInt Syntax.w32) 32772))) (List._∷_ (24, Rows.any-gone (Syntax.tyRef Syntax.erased Syntax.mut (Syntax.tyArray (Syntax.tyInt Syntax.w32) 262160))) (List._∷_ (25, Rows.any-gone (Syntax.tyRef Syntax.erased Syntax.mut (Syntax.tyArray (Syntax.tyInt Syntax.w8) 600000))) (List._∷_ (26, Rows.any-gone (Syntax.tyRef Syntax.erased Syntax.mut (Syntax.tyArray Cell.behind 65540))) (List._∷_ (27, Rows.any-gone (Syntax.tyRef Syntax.erased Syntax.mut (Syntax.tyArray Cell.behind 32772))) (List._∷_ (28, Rows.any-gone Syntax.tyUnit) (List._∷_ (29, Rows.any-gone (Syntax.tyInt Syntax.w64)) List.[])))))))))))))
+t8 = List._∷_ (16, Rows.sc-here Row.sBool) (List._∷_ local14 locals7)
 
 abbrev pub t9 : List.List Row.Entry
-t9 = List._∷_ (0, Rows.any-gone Syntax.tyUnit) (List._∷_ (1, Rows.sslice (Referent.rtF (Referent.fInt Syntax.w8)) (Syntax.tyRef (Syntax.named 0) Syntax.imm (Syntax.tyInt Syntax.w8)) 0) (List._∷_ (2, Rows.mref (Array.Array (Referent.rtF (Referent.fInt Syntax.w32)) 32772) (Syntax.tyRef (Syntax.named 1) Syntax.mut (Syntax.tyArray (Syntax.tyInt Syntax.w32) 32772)) 1) (List._∷_ (3, Rows.mref (Array.Array (Referent.rtF (Referent.fInt Syntax.w8)) 16388) (Syntax.tyRef (Syntax.named 2) Syntax.mut (Syntax.tyArray (Syntax.tyInt Syntax.w8) 16388)) 2) (List._∷_ (4, Rows.mref (Array.Array (Referent.rtF (Referent.fInt Syntax.w32)) 65540) (Syntax.tyRef (Syntax.named 3) Syntax.mut (Syntax.tyArray (Syntax.tyInt Syntax.w32) 65540)) 3) (List._∷_ (5, Rows.mref (Array.Array (Referent.rtF (Referent.fInt Syntax.w32)) 32772) (Syntax.tyRef (Syntax.named 4) Syntax.mut (Syntax.tyArray (Syntax.tyInt Syntax.w32) 32772)) 4) (List._∷_ (6, Rows.mref (Array.Array (Referent.rtF (Referent.fInt Syntax.w32)) 32772) (Syntax.tyRef (Syntax.named 5) Syntax.mut (Syntax.tyArray (Syntax.tyInt Syntax.w32) 32772)) 5) (List._∷_ (7, Rows.mref (Array.Array (Referent.rtF (Referent.fInt Syntax.w32)) 262160) (Syntax.tyRef (Syntax.named 6) Syntax.mut (Syntax.tyArray (Syntax.tyInt Syntax.w32) 262160)) 6) (List._∷_ (8, Rows.mref (Array.Array (Referent.rtF (Referent.fInt Syntax.w8)) 600000) (Syntax.tyRef (Syntax.named 7) Syntax.mut (Syntax.tyArray (Syntax.tyInt Syntax.w8) 600000)) 7) (List._∷_ (9, Rows.mref (Array.Array Cell.R 65540) (Syntax.tyRef (Syntax.named 8) Syntax.mut (Syntax.tyArray Cell.behind 65540)) 8) (List._∷_ (10, Rows.mref (Array.Array Cell.R 32772) (Syntax.tyRef (Syntax.named 9) Syntax.mut (Syntax.tyArray Cell.behind 32772)) 9) (List._∷_ (11, Rows.any-gone (Syntax.tyStruct (List._∷_ 122 (List._∷_ 111 (List._∷_ 110 (List._∷_ 101 (List._∷_ 115 (List._∷_ 58 (List._∷_ 58 (List._∷_ 104 (List._∷_ 101 (List._∷_ 108 (List._∷_ 100 (List._∷_ 58 (List._∷_ 58 (List._∷_ 72 (List._∷_ 101 (List._∷_ 108 (List._∷_ 100 List.[]))))))))))))))))) (Syntax.tcons (Syntax.tyStruct (List._∷_ 112 (List._∷_ 121 (List._∷_ 114 (List._∷_ 97 (List._∷_ 109 (List._∷_ 105 (List._∷_ 100 (List._∷_ 58 (List._∷_ 58 (List._∷_ 83 (List._∷_ 116 (List._∷_ 97 (List._∷_ 116 (List._∷_ 101 List.[])))))))))))))) (Syntax.tcons (Syntax.tyInt Syntax.w32) (Syntax.tcons (Syntax.tyInt Syntax.w32) (Syntax.tcons (Syntax.tyInt Syntax.w32) (Syntax.tcons (Syntax.tyInt Syntax.w32) (Syntax.tcons (Syntax.tyInt Syntax.w32) (Syntax.tcons (Syntax.tyArray (Syntax.tyInt Syntax.w32) 64) Syntax.tnil))))))) (Syntax.tcons (Syntax.tyInt Syntax.w64) (Syntax.tcons (Syntax.tyInt Syntax.w64) (Syntax.tcons (Syntax.tyInt Syntax.w64) (Syntax.tcons (Syntax.tyInt Syntax.w64) (Syntax.tcons (Syntax.tyInt Syntax.w64) (Syntax.tcons (Syntax.tyInt Syntax.w64) (Syntax.tcons Syntax.tyBool Syntax.tnil)))))))))) (List._∷_ (12, Rows.sc-here (Row.sInt Syntax.w64)) (List._∷_ (13, Rows.sc-here (Row.sInt Syntax.w64)) (List._∷_ (14, Rows.any-gone (Syntax.tyStruct (List._∷_ 115 (List._∷_ 99 (List._∷_ 114 (List._∷_ 105 (List._∷_ 112 (List._∷_ 116 (List._∷_ 58 (List._∷_ 58 (List._∷_ 115 (List._∷_ 99 (List._∷_ 97 (List._∷_ 110 (List._∷_ 58 (List._∷_ 58 (List._∷_ 76 (List._∷_ 105 (List._∷_ 110 (List._∷_ 101 List.[])))))))))))))))))) (Syntax.tcons (Syntax.tyInt Syntax.w32) (Syntax.tcons (Syntax.tyInt Syntax.w64) (Syntax.tcons (Syntax.tyInt Syntax.w64) (Syntax.tcons (Syntax.tyInt Syntax.w64) (Syntax.tcons (Syntax.tyInt Syntax.w64) Syntax.tnil))))))) (List._∷_ (15, Rows.sc-here (Row.sInt Syntax.w64)) List.[])))))))))))))))
+t9 = List._∷_ local0 (List._∷_ local1 (List._∷_ local2 (List._∷_ local3 (List._∷_ local4 (List._∷_ local5 (List._∷_ local6 (List._∷_ local7 (List._∷_ local8 (List._∷_ local9 (List._∷_ local10 (List._∷_ local11 locals8)))))))))))
 
 abbrev pub t10 : List.List Row.Entry
-t10 = List._∷_ (0, Rows.any-gone Syntax.tyUnit) (List._∷_ (1, Rows.sslice (Referent.rtF (Referent.fInt Syntax.w8)) (Syntax.tyRef (Syntax.named 0) Syntax.imm (Syntax.tyInt Syntax.w8)) 0) (List._∷_ (2, Rows.mref (Array.Array (Referent.rtF (Referent.fInt Syntax.w32)) 32772) (Syntax.tyRef (Syntax.named 1) Syntax.mut (Syntax.tyArray (Syntax.tyInt Syntax.w32) 32772)) 1) (List._∷_ (3, Rows.mref (Array.Array (Referent.rtF (Referent.fInt Syntax.w8)) 16388) (Syntax.tyRef (Syntax.named 2) Syntax.mut (Syntax.tyArray (Syntax.tyInt Syntax.w8) 16388)) 2) (List._∷_ (4, Rows.mref (Array.Array (Referent.rtF (Referent.fInt Syntax.w32)) 65540) (Syntax.tyRef (Syntax.named 3) Syntax.mut (Syntax.tyArray (Syntax.tyInt Syntax.w32) 65540)) 3) (List._∷_ (5, Rows.mref (Array.Array (Referent.rtF (Referent.fInt Syntax.w32)) 32772) (Syntax.tyRef (Syntax.named 4) Syntax.mut (Syntax.tyArray (Syntax.tyInt Syntax.w32) 32772)) 4) (List._∷_ (6, Rows.mref (Array.Array (Referent.rtF (Referent.fInt Syntax.w32)) 32772) (Syntax.tyRef (Syntax.named 5) Syntax.mut (Syntax.tyArray (Syntax.tyInt Syntax.w32) 32772)) 5) (List._∷_ (7, Rows.mref (Array.Array (Referent.rtF (Referent.fInt Syntax.w32)) 262160) (Syntax.tyRef (Syntax.named 6) Syntax.mut (Syntax.tyArray (Syntax.tyInt Syntax.w32) 262160)) 6) (List._∷_ (8, Rows.mref (Array.Array (Referent.rtF (Referent.fInt Syntax.w8)) 600000) (Syntax.tyRef (Syntax.named 7) Syntax.mut (Syntax.tyArray (Syntax.tyInt Syntax.w8) 600000)) 7) (List._∷_ (9, Rows.mref (Array.Array Cell.R 65540) (Syntax.tyRef (Syntax.named 8) Syntax.mut (Syntax.tyArray Cell.behind 65540)) 8) (List._∷_ (10, Rows.mref (Array.Array Cell.R 32772) (Syntax.tyRef (Syntax.named 9) Syntax.mut (Syntax.tyArray Cell.behind 32772)) 9) (List._∷_ (11, Rows.any-gone (Syntax.tyStruct (List._∷_ 122 (List._∷_ 111 (List._∷_ 110 (List._∷_ 101 (List._∷_ 115 (List._∷_ 58 (List._∷_ 58 (List._∷_ 104 (List._∷_ 101 (List._∷_ 108 (List._∷_ 100 (List._∷_ 58 (List._∷_ 58 (List._∷_ 72 (List._∷_ 101 (List._∷_ 108 (List._∷_ 100 List.[]))))))))))))))))) (Syntax.tcons (Syntax.tyStruct (List._∷_ 112 (List._∷_ 121 (List._∷_ 114 (List._∷_ 97 (List._∷_ 109 (List._∷_ 105 (List._∷_ 100 (List._∷_ 58 (List._∷_ 58 (List._∷_ 83 (List._∷_ 116 (List._∷_ 97 (List._∷_ 116 (List._∷_ 101 List.[])))))))))))))) (Syntax.tcons (Syntax.tyInt Syntax.w32) (Syntax.tcons (Syntax.tyInt Syntax.w32) (Syntax.tcons (Syntax.tyInt Syntax.w32) (Syntax.tcons (Syntax.tyInt Syntax.w32) (Syntax.tcons (Syntax.tyInt Syntax.w32) (Syntax.tcons (Syntax.tyArray (Syntax.tyInt Syntax.w32) 64) Syntax.tnil))))))) (Syntax.tcons (Syntax.tyInt Syntax.w64) (Syntax.tcons (Syntax.tyInt Syntax.w64) (Syntax.tcons (Syntax.tyInt Syntax.w64) (Syntax.tcons (Syntax.tyInt Syntax.w64) (Syntax.tcons (Syntax.tyInt Syntax.w64) (Syntax.tcons (Syntax.tyInt Syntax.w64) (Syntax.tcons Syntax.tyBool Syntax.tnil)))))))))) (List._∷_ (12, Rows.sc-here (Row.sInt Syntax.w64)) (List._∷_ (13, Rows.sc-here (Row.sInt Syntax.w64)) (List._∷_ (14, Rows.any-gone (Syntax.tyStruct (List._∷_ 115 (List._∷_ 99 (List._∷_ 114 (List._∷_ 105 (List._∷_ 112 (List._∷_ 116 (List._∷_ 58 (List._∷_ 58 (List._∷_ 115 (List._∷_ 99 (List._∷_ 97 (List._∷_ 110 (List._∷_ 58 (List._∷_ 58 (List._∷_ 76 (List._∷_ 105 (List._∷_ 110 (List._∷_ 101 List.[])))))))))))))))))) (Syntax.tcons (Syntax.tyInt Syntax.w32) (Syntax.tcons (Syntax.tyInt Syntax.w64) (Syntax.tcons (Syntax.tyInt Syntax.w64) (Syntax.tcons (Syntax.tyInt Syntax.w64) (Syntax.tcons (Syntax.tyInt Syntax.w64) Syntax.tnil))))))) (List._∷_ (15, Rows.any-gone (Syntax.tyInt Syntax.w64)) List.[])))))))))))))))
+t10 = List._∷_ local0 locals11
 
 abbrev pub t11 : List.List Row.Entry
-t11 = List._∷_ (16, Rows.any-gone Syntax.tyBool) (List._∷_ (17, Rows.sc-here (Row.sInt Syntax.w64)) (List._∷_ (18, Rows.any-gone (Syntax.tyRef Syntax.erased Syntax.mut (Syntax.tyArray (Syntax.tyInt Syntax.w32) 32772))) (List._∷_ (19, Rows.any-gone (Syntax.tyRef Syntax.erased Syntax.imm (Syntax.tyArray (Syntax.tyInt Syntax.w32) 32772))) (List._∷_ (20, Rows.any-gone (Syntax.tyRef Syntax.erased Syntax.mut (Syntax.tyArray (Syntax.tyInt Syntax.w8) 16388))) (List._∷_ (21, Rows.any-gone (Syntax.tyRef Syntax.erased Syntax.mut (Syntax.tyArray (Syntax.tyInt Syntax.w32) 65540))) (List._∷_ (22, Rows.any-gone (Syntax.tyRef Syntax.erased Syntax.mut (Syntax.tyArray (Syntax.tyInt Syntax.w32) 32772))) (List._∷_ (23, Rows.any-gone (Syntax.tyRef Syntax.erased Syntax.mut (Syntax.tyArray (Syntax.tyInt Syntax.w32) 32772))) (List._∷_ (24, Rows.any-gone (Syntax.tyRef Syntax.erased Syntax.mut (Syntax.tyArray (Syntax.tyInt Syntax.w32) 262160))) (List._∷_ (25, Rows.any-gone (Syntax.tyRef Syntax.erased Syntax.mut (Syntax.tyArray (Syntax.tyInt Syntax.w8) 600000))) (List._∷_ (26, Rows.any-gone (Syntax.tyRef Syntax.erased Syntax.mut (Syntax.tyArray Cell.behind 65540))) (List._∷_ (27, Rows.any-gone (Syntax.tyRef Syntax.erased Syntax.mut (Syntax.tyArray Cell.behind 32772))) (List._∷_ (28, Rows.any-gone Syntax.tyUnit) (List._∷_ (29, Rows.any-gone (Syntax.tyInt Syntax.w64)) List.[])))))))))))))
+t11 = List._∷_ local13 (List._∷_ (17, Rows.sc-here sc0) locals7)
 
 abbrev pub t12 : List.List Row.Entry
-t12 = List._∷_ (16, Rows.sc-here Row.sBool) (List._∷_ (17, Rows.sc-here (Row.sInt Syntax.w64)) (List._∷_ (18, Rows.any-gone (Syntax.tyRef Syntax.erased Syntax.mut (Syntax.tyArray (Syntax.tyInt Syntax.w32) 32772))) (List._∷_ (19, Rows.any-gone (Syntax.tyRef Syntax.erased Syntax.imm (Syntax.tyArray (Syntax.tyInt Syntax.w32) 32772))) (List._∷_ (20, Rows.any-gone (Syntax.tyRef Syntax.erased Syntax.mut (Syntax.tyArray (Syntax.tyInt Syntax.w8) 16388))) (List._∷_ (21, Rows.any-gone (Syntax.tyRef Syntax.erased Syntax.mut (Syntax.tyArray (Syntax.tyInt Syntax.w32) 65540))) (List._∷_ (22, Rows.any-gone (Syntax.tyRef Syntax.erased Syntax.mut (Syntax.tyArray (Syntax.tyInt Syntax.w32) 32772))) (List._∷_ (23, Rows.any-gone (Syntax.tyRef Syntax.erased Syntax.mut (Syntax.tyArray (Syntax.tyInt Syntax.w32) 32772))) (List._∷_ (24, Rows.any-gone (Syntax.tyRef Syntax.erased Syntax.mut (Syntax.tyArray (Syntax.tyInt Syntax.w32) 262160))) (List._∷_ (25, Rows.any-gone (Syntax.tyRef Syntax.erased Syntax.mut (Syntax.tyArray (Syntax.tyInt Syntax.w8) 600000))) (List._∷_ (26, Rows.any-gone (Syntax.tyRef Syntax.erased Syntax.mut (Syntax.tyArray Cell.behind 65540))) (List._∷_ (27, Rows.any-gone (Syntax.tyRef Syntax.erased Syntax.mut (Syntax.tyArray Cell.behind 32772))) (List._∷_ (28, Rows.any-gone Syntax.tyUnit) (List._∷_ (29, Rows.any-gone (Syntax.tyInt Syntax.w64)) List.[])))))))))))))
+t12 = List._∷_ (16, Rows.sc-here Row.sBool) (List._∷_ (17, Rows.sc-here sc0) locals7)
 
 abbrev pub t13 : List.List Row.Entry
-t13 = List._∷_ (0, Rows.sc-here Row.sUnit) (List._∷_ (1, Rows.sslice (Referent.rtF (Referent.fInt Syntax.w8)) (Syntax.tyRef (Syntax.named 0) Syntax.imm (Syntax.tyInt Syntax.w8)) 0) (List._∷_ (2, Rows.mref (Array.Array (Referent.rtF (Referent.fInt Syntax.w32)) 32772) (Syntax.tyRef (Syntax.named 1) Syntax.mut (Syntax.tyArray (Syntax.tyInt Syntax.w32) 32772)) 1) (List._∷_ (3, Rows.mref (Array.Array (Referent.rtF (Referent.fInt Syntax.w8)) 16388) (Syntax.tyRef (Syntax.named 2) Syntax.mut (Syntax.tyArray (Syntax.tyInt Syntax.w8) 16388)) 2) (List._∷_ (4, Rows.mref (Array.Array (Referent.rtF (Referent.fInt Syntax.w32)) 65540) (Syntax.tyRef (Syntax.named 3) Syntax.mut (Syntax.tyArray (Syntax.tyInt Syntax.w32) 65540)) 3) (List._∷_ (5, Rows.mref (Array.Array (Referent.rtF (Referent.fInt Syntax.w32)) 32772) (Syntax.tyRef (Syntax.named 4) Syntax.mut (Syntax.tyArray (Syntax.tyInt Syntax.w32) 32772)) 4) (List._∷_ (6, Rows.mref (Array.Array (Referent.rtF (Referent.fInt Syntax.w32)) 32772) (Syntax.tyRef (Syntax.named 5) Syntax.mut (Syntax.tyArray (Syntax.tyInt Syntax.w32) 32772)) 5) (List._∷_ (7, Rows.mref (Array.Array (Referent.rtF (Referent.fInt Syntax.w32)) 262160) (Syntax.tyRef (Syntax.named 6) Syntax.mut (Syntax.tyArray (Syntax.tyInt Syntax.w32) 262160)) 6) (List._∷_ (8, Rows.mref (Array.Array (Referent.rtF (Referent.fInt Syntax.w8)) 600000) (Syntax.tyRef (Syntax.named 7) Syntax.mut (Syntax.tyArray (Syntax.tyInt Syntax.w8) 600000)) 7) (List._∷_ (9, Rows.mref (Array.Array Cell.R 65540) (Syntax.tyRef (Syntax.named 8) Syntax.mut (Syntax.tyArray Cell.behind 65540)) 8) (List._∷_ (10, Rows.mref (Array.Array Cell.R 32772) (Syntax.tyRef (Syntax.named 9) Syntax.mut (Syntax.tyArray Cell.behind 32772)) 9) (List._∷_ (11, Rows.any-gone (Syntax.tyStruct (List._∷_ 122 (List._∷_ 111 (List._∷_ 110 (List._∷_ 101 (List._∷_ 115 (List._∷_ 58 (List._∷_ 58 (List._∷_ 104 (List._∷_ 101 (List._∷_ 108 (List._∷_ 100 (List._∷_ 58 (List._∷_ 58 (List._∷_ 72 (List._∷_ 101 (List._∷_ 108 (List._∷_ 100 List.[]))))))))))))))))) (Syntax.tcons (Syntax.tyStruct (List._∷_ 112 (List._∷_ 121 (List._∷_ 114 (List._∷_ 97 (List._∷_ 109 (List._∷_ 105 (List._∷_ 100 (List._∷_ 58 (List._∷_ 58 (List._∷_ 83 (List._∷_ 116 (List._∷_ 97 (List._∷_ 116 (List._∷_ 101 List.[])))))))))))))) (Syntax.tcons (Syntax.tyInt Syntax.w32) (Syntax.tcons (Syntax.tyInt Syntax.w32) (Syntax.tcons (Syntax.tyInt Syntax.w32) (Syntax.tcons (Syntax.tyInt Syntax.w32) (Syntax.tcons (Syntax.tyInt Syntax.w32) (Syntax.tcons (Syntax.tyArray (Syntax.tyInt Syntax.w32) 64) Syntax.tnil))))))) (Syntax.tcons (Syntax.tyInt Syntax.w64) (Syntax.tcons (Syntax.tyInt Syntax.w64) (Syntax.tcons (Syntax.tyInt Syntax.w64) (Syntax.tcons (Syntax.tyInt Syntax.w64) (Syntax.tcons (Syntax.tyInt Syntax.w64) (Syntax.tcons (Syntax.tyInt Syntax.w64) (Syntax.tcons Syntax.tyBool Syntax.tnil)))))))))) (List._∷_ (12, Rows.sc-here (Row.sInt Syntax.w64)) (List._∷_ (13, Rows.sc-here (Row.sInt Syntax.w64)) (List._∷_ (14, Rows.any-gone (Syntax.tyStruct (List._∷_ 115 (List._∷_ 99 (List._∷_ 114 (List._∷_ 105 (List._∷_ 112 (List._∷_ 116 (List._∷_ 58 (List._∷_ 58 (List._∷_ 115 (List._∷_ 99 (List._∷_ 97 (List._∷_ 110 (List._∷_ 58 (List._∷_ 58 (List._∷_ 76 (List._∷_ 105 (List._∷_ 110 (List._∷_ 101 List.[])))))))))))))))))) (Syntax.tcons (Syntax.tyInt Syntax.w32) (Syntax.tcons (Syntax.tyInt Syntax.w64) (Syntax.tcons (Syntax.tyInt Syntax.w64) (Syntax.tcons (Syntax.tyInt Syntax.w64) (Syntax.tcons (Syntax.tyInt Syntax.w64) Syntax.tnil))))))) (List._∷_ (15, Rows.any-gone (Syntax.tyInt Syntax.w64)) List.[])))))))))))))))
+t13 = List._∷_ local25 locals11
 
 abbrev pub t14 : List.List Row.Entry
-t14 = List._∷_ (0, Rows.sc-here Row.sUnit) (List._∷_ (1, Rows.sslice (Referent.rtF (Referent.fInt Syntax.w8)) (Syntax.tyRef (Syntax.named 0) Syntax.imm (Syntax.tyInt Syntax.w8)) 0) (List._∷_ (2, Rows.mref (Array.Array (Referent.rtF (Referent.fInt Syntax.w32)) 32772) (Syntax.tyRef (Syntax.named 1) Syntax.mut (Syntax.tyArray (Syntax.tyInt Syntax.w32) 32772)) 1) (List._∷_ (3, Rows.mref (Array.Array (Referent.rtF (Referent.fInt Syntax.w8)) 16388) (Syntax.tyRef (Syntax.named 2) Syntax.mut (Syntax.tyArray (Syntax.tyInt Syntax.w8) 16388)) 2) (List._∷_ (4, Rows.mref (Array.Array (Referent.rtF (Referent.fInt Syntax.w32)) 65540) (Syntax.tyRef (Syntax.named 3) Syntax.mut (Syntax.tyArray (Syntax.tyInt Syntax.w32) 65540)) 3) (List._∷_ (5, Rows.mref (Array.Array (Referent.rtF (Referent.fInt Syntax.w32)) 32772) (Syntax.tyRef (Syntax.named 4) Syntax.mut (Syntax.tyArray (Syntax.tyInt Syntax.w32) 32772)) 4) (List._∷_ (6, Rows.mref (Array.Array (Referent.rtF (Referent.fInt Syntax.w32)) 32772) (Syntax.tyRef (Syntax.named 5) Syntax.mut (Syntax.tyArray (Syntax.tyInt Syntax.w32) 32772)) 5) (List._∷_ (7, Rows.mref (Array.Array (Referent.rtF (Referent.fInt Syntax.w32)) 262160) (Syntax.tyRef (Syntax.named 6) Syntax.mut (Syntax.tyArray (Syntax.tyInt Syntax.w32) 262160)) 6) (List._∷_ (8, Rows.mref (Array.Array (Referent.rtF (Referent.fInt Syntax.w8)) 600000) (Syntax.tyRef (Syntax.named 7) Syntax.mut (Syntax.tyArray (Syntax.tyInt Syntax.w8) 600000)) 7) (List._∷_ (9, Rows.mref (Array.Array Cell.R 65540) (Syntax.tyRef (Syntax.named 8) Syntax.mut (Syntax.tyArray Cell.behind 65540)) 8) (List._∷_ (10, Rows.mref (Array.Array Cell.R 32772) (Syntax.tyRef (Syntax.named 9) Syntax.mut (Syntax.tyArray Cell.behind 32772)) 9) (List._∷_ (11, Rows.any-gone (Syntax.tyStruct (List._∷_ 122 (List._∷_ 111 (List._∷_ 110 (List._∷_ 101 (List._∷_ 115 (List._∷_ 58 (List._∷_ 58 (List._∷_ 104 (List._∷_ 101 (List._∷_ 108 (List._∷_ 100 (List._∷_ 58 (List._∷_ 58 (List._∷_ 72 (List._∷_ 101 (List._∷_ 108 (List._∷_ 100 List.[]))))))))))))))))) (Syntax.tcons (Syntax.tyStruct (List._∷_ 112 (List._∷_ 121 (List._∷_ 114 (List._∷_ 97 (List._∷_ 109 (List._∷_ 105 (List._∷_ 100 (List._∷_ 58 (List._∷_ 58 (List._∷_ 83 (List._∷_ 116 (List._∷_ 97 (List._∷_ 116 (List._∷_ 101 List.[])))))))))))))) (Syntax.tcons (Syntax.tyInt Syntax.w32) (Syntax.tcons (Syntax.tyInt Syntax.w32) (Syntax.tcons (Syntax.tyInt Syntax.w32) (Syntax.tcons (Syntax.tyInt Syntax.w32) (Syntax.tcons (Syntax.tyInt Syntax.w32) (Syntax.tcons (Syntax.tyArray (Syntax.tyInt Syntax.w32) 64) Syntax.tnil))))))) (Syntax.tcons (Syntax.tyInt Syntax.w64) (Syntax.tcons (Syntax.tyInt Syntax.w64) (Syntax.tcons (Syntax.tyInt Syntax.w64) (Syntax.tcons (Syntax.tyInt Syntax.w64) (Syntax.tcons (Syntax.tyInt Syntax.w64) (Syntax.tcons (Syntax.tyInt Syntax.w64) (Syntax.tcons Syntax.tyBool Syntax.tnil)))))))))) (List._∷_ (12, Rows.any-gone (Syntax.tyInt Syntax.w64)) (List._∷_ (13, Rows.sc-here (Row.sInt Syntax.w64)) (List._∷_ (14, Rows.any-gone (Syntax.tyStruct (List._∷_ 115 (List._∷_ 99 (List._∷_ 114 (List._∷_ 105 (List._∷_ 112 (List._∷_ 116 (List._∷_ 58 (List._∷_ 58 (List._∷_ 115 (List._∷_ 99 (List._∷_ 97 (List._∷_ 110 (List._∷_ 58 (List._∷_ 58 (List._∷_ 76 (List._∷_ 105 (List._∷_ 110 (List._∷_ 101 List.[])))))))))))))))))) (Syntax.tcons (Syntax.tyInt Syntax.w32) (Syntax.tcons (Syntax.tyInt Syntax.w64) (Syntax.tcons (Syntax.tyInt Syntax.w64) (Syntax.tcons (Syntax.tyInt Syntax.w64) (Syntax.tcons (Syntax.tyInt Syntax.w64) Syntax.tnil))))))) (List._∷_ (15, Rows.any-gone (Syntax.tyInt Syntax.w64)) List.[])))))))))))))))
+t14 = List._∷_ local25 (List._∷_ local1 (List._∷_ local2 (List._∷_ local3 (List._∷_ local4 (List._∷_ local5 (List._∷_ local6 (List._∷_ local7 (List._∷_ local8 (List._∷_ local9 (List._∷_ local10 (List._∷_ local11 (List._∷_ local12 (List._∷_ local28 locals0)))))))))))))
 
 abbrev pub t15 : List.List Row.Entry
-t15 = List._∷_ (0, Rows.any-gone Syntax.tyUnit) (List._∷_ (1, Rows.sslice (Referent.rtF (Referent.fInt Syntax.w8)) (Syntax.tyRef (Syntax.named 0) Syntax.imm (Syntax.tyInt Syntax.w8)) 0) (List._∷_ (2, Rows.mref-owed (Array.Array (Referent.rtF (Referent.fInt Syntax.w32)) 32772) (Syntax.tyRef (Syntax.named 1) Syntax.mut (Syntax.tyArray (Syntax.tyInt Syntax.w32) 32772)) 1 10 Row.off) (List._∷_ (3, Rows.mref (Array.Array (Referent.rtF (Referent.fInt Syntax.w8)) 16388) (Syntax.tyRef (Syntax.named 2) Syntax.mut (Syntax.tyArray (Syntax.tyInt Syntax.w8) 16388)) 2) (List._∷_ (4, Rows.mref (Array.Array (Referent.rtF (Referent.fInt Syntax.w32)) 65540) (Syntax.tyRef (Syntax.named 3) Syntax.mut (Syntax.tyArray (Syntax.tyInt Syntax.w32) 65540)) 3) (List._∷_ (5, Rows.mref (Array.Array (Referent.rtF (Referent.fInt Syntax.w32)) 32772) (Syntax.tyRef (Syntax.named 4) Syntax.mut (Syntax.tyArray (Syntax.tyInt Syntax.w32) 32772)) 4) (List._∷_ (6, Rows.mref (Array.Array (Referent.rtF (Referent.fInt Syntax.w32)) 32772) (Syntax.tyRef (Syntax.named 5) Syntax.mut (Syntax.tyArray (Syntax.tyInt Syntax.w32) 32772)) 5) (List._∷_ (7, Rows.mref (Array.Array (Referent.rtF (Referent.fInt Syntax.w32)) 262160) (Syntax.tyRef (Syntax.named 6) Syntax.mut (Syntax.tyArray (Syntax.tyInt Syntax.w32) 262160)) 6) (List._∷_ (8, Rows.mref (Array.Array (Referent.rtF (Referent.fInt Syntax.w8)) 600000) (Syntax.tyRef (Syntax.named 7) Syntax.mut (Syntax.tyArray (Syntax.tyInt Syntax.w8) 600000)) 7) (List._∷_ (9, Rows.mref (Array.Array Cell.R 65540) (Syntax.tyRef (Syntax.named 8) Syntax.mut (Syntax.tyArray Cell.behind 65540)) 8) (List._∷_ (10, Rows.mref (Array.Array Cell.R 32772) (Syntax.tyRef (Syntax.named 9) Syntax.mut (Syntax.tyArray Cell.behind 32772)) 9) (List._∷_ (11, Rows.whole (Declared.row Held.the-type)) (List._∷_ (12, Rows.sc-here (Row.sInt Syntax.w64)) (List._∷_ (13, Rows.sc-here (Row.sInt Syntax.w64)) (List._∷_ (14, Rows.any-gone (Syntax.tyStruct (List._∷_ 115 (List._∷_ 99 (List._∷_ 114 (List._∷_ 105 (List._∷_ 112 (List._∷_ 116 (List._∷_ 58 (List._∷_ 58 (List._∷_ 115 (List._∷_ 99 (List._∷_ 97 (List._∷_ 110 (List._∷_ 58 (List._∷_ 58 (List._∷_ 76 (List._∷_ 105 (List._∷_ 110 (List._∷_ 101 List.[])))))))))))))))))) (Syntax.tcons (Syntax.tyInt Syntax.w32) (Syntax.tcons (Syntax.tyInt Syntax.w64) (Syntax.tcons (Syntax.tyInt Syntax.w64) (Syntax.tcons (Syntax.tyInt Syntax.w64) (Syntax.tcons (Syntax.tyInt Syntax.w64) Syntax.tnil))))))) (List._∷_ (15, Rows.sc-here (Row.sInt Syntax.w64)) List.[])))))))))))))))
+t15 = List._∷_ local0 (List._∷_ local1 (List._∷_ (2, Rows.mref-owed held2 ty21 1 10 Row.off) locals9))
 
 abbrev pub t16 : List.List Row.Entry
-t16 = List._∷_ (16, Rows.any-gone Syntax.tyBool) (List._∷_ (17, Rows.any-gone (Syntax.tyInt Syntax.w64)) (List._∷_ (18, Rows.mref (Array.Array (Referent.rtF (Referent.fInt Syntax.w32)) 32772) (Syntax.tyRef Syntax.erased Syntax.mut (Syntax.tyArray (Syntax.tyInt Syntax.w32) 32772)) 10) (List._∷_ (19, Rows.any-gone (Syntax.tyRef Syntax.erased Syntax.imm (Syntax.tyArray (Syntax.tyInt Syntax.w32) 32772))) (List._∷_ (20, Rows.any-gone (Syntax.tyRef Syntax.erased Syntax.mut (Syntax.tyArray (Syntax.tyInt Syntax.w8) 16388))) (List._∷_ (21, Rows.any-gone (Syntax.tyRef Syntax.erased Syntax.mut (Syntax.tyArray (Syntax.tyInt Syntax.w32) 65540))) (List._∷_ (22, Rows.any-gone (Syntax.tyRef Syntax.erased Syntax.mut (Syntax.tyArray (Syntax.tyInt Syntax.w32) 32772))) (List._∷_ (23, Rows.any-gone (Syntax.tyRef Syntax.erased Syntax.mut (Syntax.tyArray (Syntax.tyInt Syntax.w32) 32772))) (List._∷_ (24, Rows.any-gone (Syntax.tyRef Syntax.erased Syntax.mut (Syntax.tyArray (Syntax.tyInt Syntax.w32) 262160))) (List._∷_ (25, Rows.any-gone (Syntax.tyRef Syntax.erased Syntax.mut (Syntax.tyArray (Syntax.tyInt Syntax.w8) 600000))) (List._∷_ (26, Rows.any-gone (Syntax.tyRef Syntax.erased Syntax.mut (Syntax.tyArray Cell.behind 65540))) (List._∷_ (27, Rows.any-gone (Syntax.tyRef Syntax.erased Syntax.mut (Syntax.tyArray Cell.behind 32772))) (List._∷_ (28, Rows.any-gone Syntax.tyUnit) (List._∷_ (29, Rows.any-gone (Syntax.tyInt Syntax.w64)) List.[])))))))))))))
+t16 = List._∷_ local13 (List._∷_ local14 (List._∷_ (18, Rows.mref held2 ty5 10) (List._∷_ local16 locals6)))
 
 abbrev pub t17 : List.List Row.Entry
-t17 = List._∷_ (0, Rows.any-gone Syntax.tyUnit) (List._∷_ (1, Rows.sslice (Referent.rtF (Referent.fInt Syntax.w8)) (Syntax.tyRef (Syntax.named 0) Syntax.imm (Syntax.tyInt Syntax.w8)) 0) (List._∷_ (2, Rows.mref-owed (Array.Array (Referent.rtF (Referent.fInt Syntax.w32)) 32772) (Syntax.tyRef (Syntax.named 1) Syntax.mut (Syntax.tyArray (Syntax.tyInt Syntax.w32) 32772)) 1 10 Row.off) (List._∷_ (3, Rows.mref (Array.Array (Referent.rtF (Referent.fInt Syntax.w8)) 16388) (Syntax.tyRef (Syntax.named 2) Syntax.mut (Syntax.tyArray (Syntax.tyInt Syntax.w8) 16388)) 2) (List._∷_ (4, Rows.mref (Array.Array (Referent.rtF (Referent.fInt Syntax.w32)) 65540) (Syntax.tyRef (Syntax.named 3) Syntax.mut (Syntax.tyArray (Syntax.tyInt Syntax.w32) 65540)) 3) (List._∷_ (5, Rows.mref (Array.Array (Referent.rtF (Referent.fInt Syntax.w32)) 32772) (Syntax.tyRef (Syntax.named 4) Syntax.mut (Syntax.tyArray (Syntax.tyInt Syntax.w32) 32772)) 4) (List._∷_ (6, Rows.mref (Array.Array (Referent.rtF (Referent.fInt Syntax.w32)) 32772) (Syntax.tyRef (Syntax.named 5) Syntax.mut (Syntax.tyArray (Syntax.tyInt Syntax.w32) 32772)) 5) (List._∷_ (7, Rows.mref (Array.Array (Referent.rtF (Referent.fInt Syntax.w32)) 262160) (Syntax.tyRef (Syntax.named 6) Syntax.mut (Syntax.tyArray (Syntax.tyInt Syntax.w32) 262160)) 6) (List._∷_ (8, Rows.mref (Array.Array (Referent.rtF (Referent.fInt Syntax.w8)) 600000) (Syntax.tyRef (Syntax.named 7) Syntax.mut (Syntax.tyArray (Syntax.tyInt Syntax.w8) 600000)) 7) (List._∷_ (9, Rows.mref (Array.Array Cell.R 65540) (Syntax.tyRef (Syntax.named 8) Syntax.mut (Syntax.tyArray Cell.behind 65540)) 8) (List._∷_ (10, Rows.mref (Array.Array Cell.R 32772) (Syntax.tyRef (Syntax.named 9) Syntax.mut (Syntax.tyArray Cell.behind 32772)) 9) (List._∷_ (11, Rows.whole (Declared.row Held.the-type)) (List._∷_ (12, Rows.sc-here (Row.sInt Syntax.w64)) (List._∷_ (13, Rows.sc-here (Row.sInt Syntax.w64)) (List._∷_ (14, Rows.whole (Declared.row Line.the-type)) (List._∷_ (15, Rows.sc-here (Row.sInt Syntax.w64)) List.[])))))))))))))))
+t17 = List._∷_ local0 (List._∷_ local1 (List._∷_ (2, Rows.mref-owed held2 ty21 1 10 Row.off) locals17))
 
 abbrev pub t18 : List.List Row.Entry
-t18 = List._∷_ (16, Rows.any-gone Syntax.tyBool) (List._∷_ (17, Rows.any-gone (Syntax.tyInt Syntax.w64)) (List._∷_ (18, Rows.mleft (Array.Array (Referent.rtF (Referent.fInt Syntax.w32)) 32772) (Syntax.tyRef Syntax.erased Syntax.mut (Syntax.tyArray (Syntax.tyInt Syntax.w32) 32772))) (List._∷_ (19, Rows.any-gone (Syntax.tyRef Syntax.erased Syntax.imm (Syntax.tyArray (Syntax.tyInt Syntax.w32) 32772))) (List._∷_ (20, Rows.any-gone (Syntax.tyRef Syntax.erased Syntax.mut (Syntax.tyArray (Syntax.tyInt Syntax.w8) 16388))) (List._∷_ (21, Rows.any-gone (Syntax.tyRef Syntax.erased Syntax.mut (Syntax.tyArray (Syntax.tyInt Syntax.w32) 65540))) (List._∷_ (22, Rows.any-gone (Syntax.tyRef Syntax.erased Syntax.mut (Syntax.tyArray (Syntax.tyInt Syntax.w32) 32772))) (List._∷_ (23, Rows.any-gone (Syntax.tyRef Syntax.erased Syntax.mut (Syntax.tyArray (Syntax.tyInt Syntax.w32) 32772))) (List._∷_ (24, Rows.any-gone (Syntax.tyRef Syntax.erased Syntax.mut (Syntax.tyArray (Syntax.tyInt Syntax.w32) 262160))) (List._∷_ (25, Rows.any-gone (Syntax.tyRef Syntax.erased Syntax.mut (Syntax.tyArray (Syntax.tyInt Syntax.w8) 600000))) (List._∷_ (26, Rows.any-gone (Syntax.tyRef Syntax.erased Syntax.mut (Syntax.tyArray Cell.behind 65540))) (List._∷_ (27, Rows.any-gone (Syntax.tyRef Syntax.erased Syntax.mut (Syntax.tyArray Cell.behind 32772))) (List._∷_ (28, Rows.any-gone Syntax.tyUnit) (List._∷_ (29, Rows.any-gone (Syntax.tyInt Syntax.w64)) List.[])))))))))))))
+t18 = List._∷_ local13 (List._∷_ local14 (List._∷_ (18, Rows.mleft held2 ty5) (List._∷_ local16 locals6)))
 
 abbrev pub t19 : List.List Row.Entry
-t19 = List._∷_ (0, Rows.any-gone Syntax.tyUnit) (List._∷_ (1, Rows.sslice (Referent.rtF (Referent.fInt Syntax.w8)) (Syntax.tyRef (Syntax.named 0) Syntax.imm (Syntax.tyInt Syntax.w8)) 0) (List._∷_ (2, Rows.mref (Array.Array (Referent.rtF (Referent.fInt Syntax.w32)) 32772) (Syntax.tyRef (Syntax.named 1) Syntax.mut (Syntax.tyArray (Syntax.tyInt Syntax.w32) 32772)) 1) (List._∷_ (3, Rows.mref (Array.Array (Referent.rtF (Referent.fInt Syntax.w8)) 16388) (Syntax.tyRef (Syntax.named 2) Syntax.mut (Syntax.tyArray (Syntax.tyInt Syntax.w8) 16388)) 2) (List._∷_ (4, Rows.mref (Array.Array (Referent.rtF (Referent.fInt Syntax.w32)) 65540) (Syntax.tyRef (Syntax.named 3) Syntax.mut (Syntax.tyArray (Syntax.tyInt Syntax.w32) 65540)) 3) (List._∷_ (5, Rows.mref (Array.Array (Referent.rtF (Referent.fInt Syntax.w32)) 32772) (Syntax.tyRef (Syntax.named 4) Syntax.mut (Syntax.tyArray (Syntax.tyInt Syntax.w32) 32772)) 4) (List._∷_ (6, Rows.mref (Array.Array (Referent.rtF (Referent.fInt Syntax.w32)) 32772) (Syntax.tyRef (Syntax.named 5) Syntax.mut (Syntax.tyArray (Syntax.tyInt Syntax.w32) 32772)) 5) (List._∷_ (7, Rows.mref (Array.Array (Referent.rtF (Referent.fInt Syntax.w32)) 262160) (Syntax.tyRef (Syntax.named 6) Syntax.mut (Syntax.tyArray (Syntax.tyInt Syntax.w32) 262160)) 6) (List._∷_ (8, Rows.mref (Array.Array (Referent.rtF (Referent.fInt Syntax.w8)) 600000) (Syntax.tyRef (Syntax.named 7) Syntax.mut (Syntax.tyArray (Syntax.tyInt Syntax.w8) 600000)) 7) (List._∷_ (9, Rows.mref (Array.Array Cell.R 65540) (Syntax.tyRef (Syntax.named 8) Syntax.mut (Syntax.tyArray Cell.behind 65540)) 8) (List._∷_ (10, Rows.mref (Array.Array Cell.R 32772) (Syntax.tyRef (Syntax.named 9) Syntax.mut (Syntax.tyArray Cell.behind 32772)) 9) (List._∷_ (11, Rows.whole (Declared.row Held.the-type)) (List._∷_ (12, Rows.sc-here (Row.sInt Syntax.w64)) (List._∷_ (13, Rows.sc-here (Row.sInt Syntax.w64)) (List._∷_ (14, Rows.whole (Declared.row Line.the-type)) (List._∷_ (15, Rows.sc-here (Row.sInt Syntax.w64)) List.[])))))))))))))))
+t19 = List._∷_ local0 (List._∷_ local1 (List._∷_ local2 locals17))
 
 abbrev pub t20 : List.List Row.Entry
-t20 = List._∷_ (0, Rows.any-gone Syntax.tyUnit) (List._∷_ (1, Rows.sslice (Referent.rtF (Referent.fInt Syntax.w8)) (Syntax.tyRef (Syntax.named 0) Syntax.imm (Syntax.tyInt Syntax.w8)) 0) (List._∷_ (2, Reshare.mref-owedS (Array.Array (Referent.rtF (Referent.fInt Syntax.w32)) 32772) (Syntax.tyRef (Syntax.named 1) Syntax.mut (Syntax.tyArray (Syntax.tyInt Syntax.w32) 32772)) 1 11 Row.off) (List._∷_ (3, Rows.mref (Array.Array (Referent.rtF (Referent.fInt Syntax.w8)) 16388) (Syntax.tyRef (Syntax.named 2) Syntax.mut (Syntax.tyArray (Syntax.tyInt Syntax.w8) 16388)) 2) (List._∷_ (4, Rows.mref (Array.Array (Referent.rtF (Referent.fInt Syntax.w32)) 65540) (Syntax.tyRef (Syntax.named 3) Syntax.mut (Syntax.tyArray (Syntax.tyInt Syntax.w32) 65540)) 3) (List._∷_ (5, Rows.mref (Array.Array (Referent.rtF (Referent.fInt Syntax.w32)) 32772) (Syntax.tyRef (Syntax.named 4) Syntax.mut (Syntax.tyArray (Syntax.tyInt Syntax.w32) 32772)) 4) (List._∷_ (6, Rows.mref (Array.Array (Referent.rtF (Referent.fInt Syntax.w32)) 32772) (Syntax.tyRef (Syntax.named 5) Syntax.mut (Syntax.tyArray (Syntax.tyInt Syntax.w32) 32772)) 5) (List._∷_ (7, Rows.mref (Array.Array (Referent.rtF (Referent.fInt Syntax.w32)) 262160) (Syntax.tyRef (Syntax.named 6) Syntax.mut (Syntax.tyArray (Syntax.tyInt Syntax.w32) 262160)) 6) (List._∷_ (8, Rows.mref (Array.Array (Referent.rtF (Referent.fInt Syntax.w8)) 600000) (Syntax.tyRef (Syntax.named 7) Syntax.mut (Syntax.tyArray (Syntax.tyInt Syntax.w8) 600000)) 7) (List._∷_ (9, Rows.mref (Array.Array Cell.R 65540) (Syntax.tyRef (Syntax.named 8) Syntax.mut (Syntax.tyArray Cell.behind 65540)) 8) (List._∷_ (10, Rows.mref (Array.Array Cell.R 32772) (Syntax.tyRef (Syntax.named 9) Syntax.mut (Syntax.tyArray Cell.behind 32772)) 9) (List._∷_ (11, Rows.whole (Declared.row Held.the-type)) (List._∷_ (12, Rows.sc-here (Row.sInt Syntax.w64)) (List._∷_ (13, Rows.sc-here (Row.sInt Syntax.w64)) (List._∷_ (14, Rows.whole (Declared.row Line.the-type)) (List._∷_ (15, Rows.sc-here (Row.sInt Syntax.w64)) List.[])))))))))))))))
+t20 = List._∷_ local0 (List._∷_ local1 (List._∷_ local29 locals17))
 
 abbrev pub t21 : List.List Row.Entry
-t21 = List._∷_ (16, Rows.any-gone Syntax.tyBool) (List._∷_ (17, Rows.any-gone (Syntax.tyInt Syntax.w64)) (List._∷_ (18, Rows.any-gone (Syntax.tyRef Syntax.erased Syntax.mut (Syntax.tyArray (Syntax.tyInt Syntax.w32) 32772))) (List._∷_ (19, Rows.sref (Array.Array (Referent.rtF (Referent.fInt Syntax.w32)) 32772) (Syntax.tyRef Syntax.erased Syntax.imm (Syntax.tyArray (Syntax.tyInt Syntax.w32) 32772)) 11) (List._∷_ (20, Rows.any-gone (Syntax.tyRef Syntax.erased Syntax.mut (Syntax.tyArray (Syntax.tyInt Syntax.w8) 16388))) (List._∷_ (21, Rows.any-gone (Syntax.tyRef Syntax.erased Syntax.mut (Syntax.tyArray (Syntax.tyInt Syntax.w32) 65540))) (List._∷_ (22, Rows.any-gone (Syntax.tyRef Syntax.erased Syntax.mut (Syntax.tyArray (Syntax.tyInt Syntax.w32) 32772))) (List._∷_ (23, Rows.any-gone (Syntax.tyRef Syntax.erased Syntax.mut (Syntax.tyArray (Syntax.tyInt Syntax.w32) 32772))) (List._∷_ (24, Rows.any-gone (Syntax.tyRef Syntax.erased Syntax.mut (Syntax.tyArray (Syntax.tyInt Syntax.w32) 262160))) (List._∷_ (25, Rows.any-gone (Syntax.tyRef Syntax.erased Syntax.mut (Syntax.tyArray (Syntax.tyInt Syntax.w8) 600000))) (List._∷_ (26, Rows.any-gone (Syntax.tyRef Syntax.erased Syntax.mut (Syntax.tyArray Cell.behind 65540))) (List._∷_ (27, Rows.any-gone (Syntax.tyRef Syntax.erased Syntax.mut (Syntax.tyArray Cell.behind 32772))) (List._∷_ (28, Rows.any-gone Syntax.tyUnit) (List._∷_ (29, Rows.any-gone (Syntax.tyInt Syntax.w64)) List.[])))))))))))))
+t21 = List._∷_ local13 (List._∷_ local14 (List._∷_ local15 (List._∷_ local30 locals6)))
 
 abbrev pub t22 : List.List Row.Entry
-t22 = List._∷_ (0, Rows.any-gone Syntax.tyUnit) (List._∷_ (1, Rows.sslice (Referent.rtF (Referent.fInt Syntax.w8)) (Syntax.tyRef (Syntax.named 0) Syntax.imm (Syntax.tyInt Syntax.w8)) 0) (List._∷_ (2, Reshare.mref-owedS (Array.Array (Referent.rtF (Referent.fInt Syntax.w32)) 32772) (Syntax.tyRef (Syntax.named 1) Syntax.mut (Syntax.tyArray (Syntax.tyInt Syntax.w32) 32772)) 1 11 Row.off) (List._∷_ (3, Rows.mref-owed (Array.Array (Referent.rtF (Referent.fInt Syntax.w8)) 16388) (Syntax.tyRef (Syntax.named 2) Syntax.mut (Syntax.tyArray (Syntax.tyInt Syntax.w8) 16388)) 2 12 Row.off) (List._∷_ (4, Rows.mref (Array.Array (Referent.rtF (Referent.fInt Syntax.w32)) 65540) (Syntax.tyRef (Syntax.named 3) Syntax.mut (Syntax.tyArray (Syntax.tyInt Syntax.w32) 65540)) 3) (List._∷_ (5, Rows.mref (Array.Array (Referent.rtF (Referent.fInt Syntax.w32)) 32772) (Syntax.tyRef (Syntax.named 4) Syntax.mut (Syntax.tyArray (Syntax.tyInt Syntax.w32) 32772)) 4) (List._∷_ (6, Rows.mref (Array.Array (Referent.rtF (Referent.fInt Syntax.w32)) 32772) (Syntax.tyRef (Syntax.named 5) Syntax.mut (Syntax.tyArray (Syntax.tyInt Syntax.w32) 32772)) 5) (List._∷_ (7, Rows.mref (Array.Array (Referent.rtF (Referent.fInt Syntax.w32)) 262160) (Syntax.tyRef (Syntax.named 6) Syntax.mut (Syntax.tyArray (Syntax.tyInt Syntax.w32) 262160)) 6) (List._∷_ (8, Rows.mref (Array.Array (Referent.rtF (Referent.fInt Syntax.w8)) 600000) (Syntax.tyRef (Syntax.named 7) Syntax.mut (Syntax.tyArray (Syntax.tyInt Syntax.w8) 600000)) 7) (List._∷_ (9, Rows.mref (Array.Array Cell.R 65540) (Syntax.tyRef (Syntax.named 8) Syntax.mut (Syntax.tyArray Cell.behind 65540)) 8) (List._∷_ (10, Rows.mref (Array.Array Cell.R 32772) (Syntax.tyRef (Syntax.named 9) Syntax.mut (Syntax.tyArray Cell.behind 32772)) 9) (List._∷_ (11, Rows.whole (Declared.row Held.the-type)) (List._∷_ (12, Rows.sc-here (Row.sInt Syntax.w64)) (List._∷_ (13, Rows.sc-here (Row.sInt Syntax.w64)) (List._∷_ (14, Rows.whole (Declared.row Line.the-type)) (List._∷_ (15, Rows.sc-here (Row.sInt Syntax.w64)) List.[])))))))))))))))
+t22 = List._∷_ local0 (List._∷_ local1 (List._∷_ local29 (List._∷_ local31 (List._∷_ local4 locals16))))
 
 abbrev pub t23 : List.List Row.Entry
-t23 = List._∷_ (16, Rows.any-gone Syntax.tyBool) (List._∷_ (17, Rows.any-gone (Syntax.tyInt Syntax.w64)) (List._∷_ (18, Rows.any-gone (Syntax.tyRef Syntax.erased Syntax.mut (Syntax.tyArray (Syntax.tyInt Syntax.w32) 32772))) (List._∷_ (19, Rows.sref (Array.Array (Referent.rtF (Referent.fInt Syntax.w32)) 32772) (Syntax.tyRef Syntax.erased Syntax.imm (Syntax.tyArray (Syntax.tyInt Syntax.w32) 32772)) 11) (List._∷_ (20, Rows.mref (Array.Array (Referent.rtF (Referent.fInt Syntax.w8)) 16388) (Syntax.tyRef Syntax.erased Syntax.mut (Syntax.tyArray (Syntax.tyInt Syntax.w8) 16388)) 12) (List._∷_ (21, Rows.any-gone (Syntax.tyRef Syntax.erased Syntax.mut (Syntax.tyArray (Syntax.tyInt Syntax.w32) 65540))) (List._∷_ (22, Rows.any-gone (Syntax.tyRef Syntax.erased Syntax.mut (Syntax.tyArray (Syntax.tyInt Syntax.w32) 32772))) (List._∷_ (23, Rows.any-gone (Syntax.tyRef Syntax.erased Syntax.mut (Syntax.tyArray (Syntax.tyInt Syntax.w32) 32772))) (List._∷_ (24, Rows.any-gone (Syntax.tyRef Syntax.erased Syntax.mut (Syntax.tyArray (Syntax.tyInt Syntax.w32) 262160))) (List._∷_ (25, Rows.any-gone (Syntax.tyRef Syntax.erased Syntax.mut (Syntax.tyArray (Syntax.tyInt Syntax.w8) 600000))) (List._∷_ (26, Rows.any-gone (Syntax.tyRef Syntax.erased Syntax.mut (Syntax.tyArray Cell.behind 65540))) (List._∷_ (27, Rows.any-gone (Syntax.tyRef Syntax.erased Syntax.mut (Syntax.tyArray Cell.behind 32772))) (List._∷_ (28, Rows.any-gone Syntax.tyUnit) (List._∷_ (29, Rows.any-gone (Syntax.tyInt Syntax.w64)) List.[])))))))))))))
+t23 = List._∷_ local13 (List._∷_ local14 (List._∷_ local15 (List._∷_ local30 (List._∷_ local32 (List._∷_ local18 (List._∷_ local19 locals5))))))
 
 abbrev pub t24 : List.List Row.Entry
-t24 = List._∷_ (0, Rows.any-gone Syntax.tyUnit) (List._∷_ (1, Rows.sslice (Referent.rtF (Referent.fInt Syntax.w8)) (Syntax.tyRef (Syntax.named 0) Syntax.imm (Syntax.tyInt Syntax.w8)) 0) (List._∷_ (2, Reshare.mref-owedS (Array.Array (Referent.rtF (Referent.fInt Syntax.w32)) 32772) (Syntax.tyRef (Syntax.named 1) Syntax.mut (Syntax.tyArray (Syntax.tyInt Syntax.w32) 32772)) 1 11 Row.off) (List._∷_ (3, Rows.mref-owed (Array.Array (Referent.rtF (Referent.fInt Syntax.w8)) 16388) (Syntax.tyRef (Syntax.named 2) Syntax.mut (Syntax.tyArray (Syntax.tyInt Syntax.w8) 16388)) 2 12 Row.off) (List._∷_ (4, Rows.mref-owed (Array.Array (Referent.rtF (Referent.fInt Syntax.w32)) 65540) (Syntax.tyRef (Syntax.named 3) Syntax.mut (Syntax.tyArray (Syntax.tyInt Syntax.w32) 65540)) 3 13 Row.off) (List._∷_ (5, Rows.mref (Array.Array (Referent.rtF (Referent.fInt Syntax.w32)) 32772) (Syntax.tyRef (Syntax.named 4) Syntax.mut (Syntax.tyArray (Syntax.tyInt Syntax.w32) 32772)) 4) (List._∷_ (6, Rows.mref (Array.Array (Referent.rtF (Referent.fInt Syntax.w32)) 32772) (Syntax.tyRef (Syntax.named 5) Syntax.mut (Syntax.tyArray (Syntax.tyInt Syntax.w32) 32772)) 5) (List._∷_ (7, Rows.mref (Array.Array (Referent.rtF (Referent.fInt Syntax.w32)) 262160) (Syntax.tyRef (Syntax.named 6) Syntax.mut (Syntax.tyArray (Syntax.tyInt Syntax.w32) 262160)) 6) (List._∷_ (8, Rows.mref (Array.Array (Referent.rtF (Referent.fInt Syntax.w8)) 600000) (Syntax.tyRef (Syntax.named 7) Syntax.mut (Syntax.tyArray (Syntax.tyInt Syntax.w8) 600000)) 7) (List._∷_ (9, Rows.mref (Array.Array Cell.R 65540) (Syntax.tyRef (Syntax.named 8) Syntax.mut (Syntax.tyArray Cell.behind 65540)) 8) (List._∷_ (10, Rows.mref (Array.Array Cell.R 32772) (Syntax.tyRef (Syntax.named 9) Syntax.mut (Syntax.tyArray Cell.behind 32772)) 9) (List._∷_ (11, Rows.whole (Declared.row Held.the-type)) (List._∷_ (12, Rows.sc-here (Row.sInt Syntax.w64)) (List._∷_ (13, Rows.sc-here (Row.sInt Syntax.w64)) (List._∷_ (14, Rows.whole (Declared.row Line.the-type)) (List._∷_ (15, Rows.sc-here (Row.sInt Syntax.w64)) List.[])))))))))))))))
+t24 = List._∷_ local0 (List._∷_ local1 (List._∷_ local29 (List._∷_ local31 (List._∷_ local33 locals16))))
 
 abbrev pub t25 : List.List Row.Entry
-t25 = List._∷_ (16, Rows.any-gone Syntax.tyBool) (List._∷_ (17, Rows.any-gone (Syntax.tyInt Syntax.w64)) (List._∷_ (18, Rows.any-gone (Syntax.tyRef Syntax.erased Syntax.mut (Syntax.tyArray (Syntax.tyInt Syntax.w32) 32772))) (List._∷_ (19, Rows.sref (Array.Array (Referent.rtF (Referent.fInt Syntax.w32)) 32772) (Syntax.tyRef Syntax.erased Syntax.imm (Syntax.tyArray (Syntax.tyInt Syntax.w32) 32772)) 11) (List._∷_ (20, Rows.mref (Array.Array (Referent.rtF (Referent.fInt Syntax.w8)) 16388) (Syntax.tyRef Syntax.erased Syntax.mut (Syntax.tyArray (Syntax.tyInt Syntax.w8) 16388)) 12) (List._∷_ (21, Rows.mref (Array.Array (Referent.rtF (Referent.fInt Syntax.w32)) 65540) (Syntax.tyRef Syntax.erased Syntax.mut (Syntax.tyArray (Syntax.tyInt Syntax.w32) 65540)) 13) (List._∷_ (22, Rows.any-gone (Syntax.tyRef Syntax.erased Syntax.mut (Syntax.tyArray (Syntax.tyInt Syntax.w32) 32772))) (List._∷_ (23, Rows.any-gone (Syntax.tyRef Syntax.erased Syntax.mut (Syntax.tyArray (Syntax.tyInt Syntax.w32) 32772))) (List._∷_ (24, Rows.any-gone (Syntax.tyRef Syntax.erased Syntax.mut (Syntax.tyArray (Syntax.tyInt Syntax.w32) 262160))) (List._∷_ (25, Rows.any-gone (Syntax.tyRef Syntax.erased Syntax.mut (Syntax.tyArray (Syntax.tyInt Syntax.w8) 600000))) (List._∷_ (26, Rows.any-gone (Syntax.tyRef Syntax.erased Syntax.mut (Syntax.tyArray Cell.behind 65540))) (List._∷_ (27, Rows.any-gone (Syntax.tyRef Syntax.erased Syntax.mut (Syntax.tyArray Cell.behind 32772))) (List._∷_ (28, Rows.any-gone Syntax.tyUnit) (List._∷_ (29, Rows.any-gone (Syntax.tyInt Syntax.w64)) List.[])))))))))))))
+t25 = List._∷_ local13 (List._∷_ local14 (List._∷_ local15 (List._∷_ local30 (List._∷_ local32 (List._∷_ local34 (List._∷_ local19 locals5))))))
 
 abbrev pub t26 : List.List Row.Entry
-t26 = List._∷_ (0, Rows.any-gone Syntax.tyUnit) (List._∷_ (1, Rows.sslice (Referent.rtF (Referent.fInt Syntax.w8)) (Syntax.tyRef (Syntax.named 0) Syntax.imm (Syntax.tyInt Syntax.w8)) 0) (List._∷_ (2, Reshare.mref-owedS (Array.Array (Referent.rtF (Referent.fInt Syntax.w32)) 32772) (Syntax.tyRef (Syntax.named 1) Syntax.mut (Syntax.tyArray (Syntax.tyInt Syntax.w32) 32772)) 1 11 Row.off) (List._∷_ (3, Rows.mref-owed (Array.Array (Referent.rtF (Referent.fInt Syntax.w8)) 16388) (Syntax.tyRef (Syntax.named 2) Syntax.mut (Syntax.tyArray (Syntax.tyInt Syntax.w8) 16388)) 2 12 Row.off) (List._∷_ (4, Rows.mref-owed (Array.Array (Referent.rtF (Referent.fInt Syntax.w32)) 65540) (Syntax.tyRef (Syntax.named 3) Syntax.mut (Syntax.tyArray (Syntax.tyInt Syntax.w32) 65540)) 3 13 Row.off) (List._∷_ (5, Rows.mref-owed (Array.Array (Referent.rtF (Referent.fInt Syntax.w32)) 32772) (Syntax.tyRef (Syntax.named 4) Syntax.mut (Syntax.tyArray (Syntax.tyInt Syntax.w32) 32772)) 4 14 Row.off) (List._∷_ (6, Rows.mref (Array.Array (Referent.rtF (Referent.fInt Syntax.w32)) 32772) (Syntax.tyRef (Syntax.named 5) Syntax.mut (Syntax.tyArray (Syntax.tyInt Syntax.w32) 32772)) 5) (List._∷_ (7, Rows.mref (Array.Array (Referent.rtF (Referent.fInt Syntax.w32)) 262160) (Syntax.tyRef (Syntax.named 6) Syntax.mut (Syntax.tyArray (Syntax.tyInt Syntax.w32) 262160)) 6) (List._∷_ (8, Rows.mref (Array.Array (Referent.rtF (Referent.fInt Syntax.w8)) 600000) (Syntax.tyRef (Syntax.named 7) Syntax.mut (Syntax.tyArray (Syntax.tyInt Syntax.w8) 600000)) 7) (List._∷_ (9, Rows.mref (Array.Array Cell.R 65540) (Syntax.tyRef (Syntax.named 8) Syntax.mut (Syntax.tyArray Cell.behind 65540)) 8) (List._∷_ (10, Rows.mref (Array.Array Cell.R 32772) (Syntax.tyRef (Syntax.named 9) Syntax.mut (Syntax.tyArray Cell.behind 32772)) 9) (List._∷_ (11, Rows.whole (Declared.row Held.the-type)) (List._∷_ (12, Rows.sc-here (Row.sInt Syntax.w64)) (List._∷_ (13, Rows.sc-here (Row.sInt Syntax.w64)) (List._∷_ (14, Rows.whole (Declared.row Line.the-type)) (List._∷_ (15, Rows.sc-here (Row.sInt Syntax.w64)) List.[])))))))))))))))
+t26 = List._∷_ local0 (List._∷_ local1 (List._∷_ local29 (List._∷_ local31 (List._∷_ local33 (List._∷_ local35 (List._∷_ local6 locals15))))))
 
 abbrev pub t27 : List.List Row.Entry
-t27 = List._∷_ (16, Rows.any-gone Syntax.tyBool) (List._∷_ (17, Rows.any-gone (Syntax.tyInt Syntax.w64)) (List._∷_ (18, Rows.any-gone (Syntax.tyRef Syntax.erased Syntax.mut (Syntax.tyArray (Syntax.tyInt Syntax.w32) 32772))) (List._∷_ (19, Rows.sref (Array.Array (Referent.rtF (Referent.fInt Syntax.w32)) 32772) (Syntax.tyRef Syntax.erased Syntax.imm (Syntax.tyArray (Syntax.tyInt Syntax.w32) 32772)) 11) (List._∷_ (20, Rows.mref (Array.Array (Referent.rtF (Referent.fInt Syntax.w8)) 16388) (Syntax.tyRef Syntax.erased Syntax.mut (Syntax.tyArray (Syntax.tyInt Syntax.w8) 16388)) 12) (List._∷_ (21, Rows.mref (Array.Array (Referent.rtF (Referent.fInt Syntax.w32)) 65540) (Syntax.tyRef Syntax.erased Syntax.mut (Syntax.tyArray (Syntax.tyInt Syntax.w32) 65540)) 13) (List._∷_ (22, Rows.mref (Array.Array (Referent.rtF (Referent.fInt Syntax.w32)) 32772) (Syntax.tyRef Syntax.erased Syntax.mut (Syntax.tyArray (Syntax.tyInt Syntax.w32) 32772)) 14) (List._∷_ (23, Rows.any-gone (Syntax.tyRef Syntax.erased Syntax.mut (Syntax.tyArray (Syntax.tyInt Syntax.w32) 32772))) (List._∷_ (24, Rows.any-gone (Syntax.tyRef Syntax.erased Syntax.mut (Syntax.tyArray (Syntax.tyInt Syntax.w32) 262160))) (List._∷_ (25, Rows.any-gone (Syntax.tyRef Syntax.erased Syntax.mut (Syntax.tyArray (Syntax.tyInt Syntax.w8) 600000))) (List._∷_ (26, Rows.any-gone (Syntax.tyRef Syntax.erased Syntax.mut (Syntax.tyArray Cell.behind 65540))) (List._∷_ (27, Rows.any-gone (Syntax.tyRef Syntax.erased Syntax.mut (Syntax.tyArray Cell.behind 32772))) (List._∷_ (28, Rows.any-gone Syntax.tyUnit) (List._∷_ (29, Rows.any-gone (Syntax.tyInt Syntax.w64)) List.[])))))))))))))
+t27 = List._∷_ local13 (List._∷_ local14 (List._∷_ local15 (List._∷_ local30 (List._∷_ local32 (List._∷_ local34 (List._∷_ local36 locals5))))))
 
 abbrev pub t28 : List.List Row.Entry
-t28 = List._∷_ (0, Rows.any-gone Syntax.tyUnit) (List._∷_ (1, Rows.sslice (Referent.rtF (Referent.fInt Syntax.w8)) (Syntax.tyRef (Syntax.named 0) Syntax.imm (Syntax.tyInt Syntax.w8)) 0) (List._∷_ (2, Reshare.mref-owedS (Array.Array (Referent.rtF (Referent.fInt Syntax.w32)) 32772) (Syntax.tyRef (Syntax.named 1) Syntax.mut (Syntax.tyArray (Syntax.tyInt Syntax.w32) 32772)) 1 11 Row.off) (List._∷_ (3, Rows.mref-owed (Array.Array (Referent.rtF (Referent.fInt Syntax.w8)) 16388) (Syntax.tyRef (Syntax.named 2) Syntax.mut (Syntax.tyArray (Syntax.tyInt Syntax.w8) 16388)) 2 12 Row.off) (List._∷_ (4, Rows.mref-owed (Array.Array (Referent.rtF (Referent.fInt Syntax.w32)) 65540) (Syntax.tyRef (Syntax.named 3) Syntax.mut (Syntax.tyArray (Syntax.tyInt Syntax.w32) 65540)) 3 13 Row.off) (List._∷_ (5, Rows.mref-owed (Array.Array (Referent.rtF (Referent.fInt Syntax.w32)) 32772) (Syntax.tyRef (Syntax.named 4) Syntax.mut (Syntax.tyArray (Syntax.tyInt Syntax.w32) 32772)) 4 14 Row.off) (List._∷_ (6, Rows.mref-owed (Array.Array (Referent.rtF (Referent.fInt Syntax.w32)) 32772) (Syntax.tyRef (Syntax.named 5) Syntax.mut (Syntax.tyArray (Syntax.tyInt Syntax.w32) 32772)) 5 15 Row.off) (List._∷_ (7, Rows.mref (Array.Array (Referent.rtF (Referent.fInt Syntax.w32)) 262160) (Syntax.tyRef (Syntax.named 6) Syntax.mut (Syntax.tyArray (Syntax.tyInt Syntax.w32) 262160)) 6) (List._∷_ (8, Rows.mref (Array.Array (Referent.rtF (Referent.fInt Syntax.w8)) 600000) (Syntax.tyRef (Syntax.named 7) Syntax.mut (Syntax.tyArray (Syntax.tyInt Syntax.w8) 600000)) 7) (List._∷_ (9, Rows.mref (Array.Array Cell.R 65540) (Syntax.tyRef (Syntax.named 8) Syntax.mut (Syntax.tyArray Cell.behind 65540)) 8) (List._∷_ (10, Rows.mref (Array.Array Cell.R 32772) (Syntax.tyRef (Syntax.named 9) Syntax.mut (Syntax.tyArray Cell.behind 32772)) 9) (List._∷_ (11, Rows.whole (Declared.row Held.the-type)) (List._∷_ (12, Rows.sc-here (Row.sInt Syntax.w64)) (List._∷_ (13, Rows.sc-here (Row.sInt Syntax.w64)) (List._∷_ (14, Rows.whole (Declared.row Line.the-type)) (List._∷_ (15, Rows.sc-here (Row.sInt Syntax.w64)) List.[])))))))))))))))
+t28 = List._∷_ local0 (List._∷_ local1 (List._∷_ local29 (List._∷_ local31 (List._∷_ local33 (List._∷_ local35 (List._∷_ local37 locals15))))))
 
 abbrev pub t29 : List.List Row.Entry
-t29 = List._∷_ (16, Rows.any-gone Syntax.tyBool) (List._∷_ (17, Rows.any-gone (Syntax.tyInt Syntax.w64)) (List._∷_ (18, Rows.any-gone (Syntax.tyRef Syntax.erased Syntax.mut (Syntax.tyArray (Syntax.tyInt Syntax.w32) 32772))) (List._∷_ (19, Rows.sref (Array.Array (Referent.rtF (Referent.fInt Syntax.w32)) 32772) (Syntax.tyRef Syntax.erased Syntax.imm (Syntax.tyArray (Syntax.tyInt Syntax.w32) 32772)) 11) (List._∷_ (20, Rows.mref (Array.Array (Referent.rtF (Referent.fInt Syntax.w8)) 16388) (Syntax.tyRef Syntax.erased Syntax.mut (Syntax.tyArray (Syntax.tyInt Syntax.w8) 16388)) 12) (List._∷_ (21, Rows.mref (Array.Array (Referent.rtF (Referent.fInt Syntax.w32)) 65540) (Syntax.tyRef Syntax.erased Syntax.mut (Syntax.tyArray (Syntax.tyInt Syntax.w32) 65540)) 13) (List._∷_ (22, Rows.mref (Array.Array (Referent.rtF (Referent.fInt Syntax.w32)) 32772) (Syntax.tyRef Syntax.erased Syntax.mut (Syntax.tyArray (Syntax.tyInt Syntax.w32) 32772)) 14) (List._∷_ (23, Rows.mref (Array.Array (Referent.rtF (Referent.fInt Syntax.w32)) 32772) (Syntax.tyRef Syntax.erased Syntax.mut (Syntax.tyArray (Syntax.tyInt Syntax.w32) 32772)) 15) (List._∷_ (24, Rows.any-gone (Syntax.tyRef Syntax.erased Syntax.mut (Syntax.tyArray (Syntax.tyInt Syntax.w32) 262160))) (List._∷_ (25, Rows.any-gone (Syntax.tyRef Syntax.erased Syntax.mut (Syntax.tyArray (Syntax.tyInt Syntax.w8) 600000))) (List._∷_ (26, Rows.any-gone (Syntax.tyRef Syntax.erased Syntax.mut (Syntax.tyArray Cell.behind 65540))) (List._∷_ (27, Rows.any-gone (Syntax.tyRef Syntax.erased Syntax.mut (Syntax.tyArray Cell.behind 32772))) (List._∷_ (28, Rows.any-gone Syntax.tyUnit) (List._∷_ (29, Rows.any-gone (Syntax.tyInt Syntax.w64)) List.[])))))))))))))
+t29 = List._∷_ local13 (List._∷_ local14 (List._∷_ local15 (List._∷_ local30 (List._∷_ local32 (List._∷_ local34 (List._∷_ local36 (List._∷_ local38 (List._∷_ local21 (List._∷_ local22 locals4)))))))))
 
 abbrev pub t30 : List.List Row.Entry
-t30 = List._∷_ (0, Rows.any-gone Syntax.tyUnit) (List._∷_ (1, Rows.sslice (Referent.rtF (Referent.fInt Syntax.w8)) (Syntax.tyRef (Syntax.named 0) Syntax.imm (Syntax.tyInt Syntax.w8)) 0) (List._∷_ (2, Reshare.mref-owedS (Array.Array (Referent.rtF (Referent.fInt Syntax.w32)) 32772) (Syntax.tyRef (Syntax.named 1) Syntax.mut (Syntax.tyArray (Syntax.tyInt Syntax.w32) 32772)) 1 11 Row.off) (List._∷_ (3, Rows.mref-owed (Array.Array (Referent.rtF (Referent.fInt Syntax.w8)) 16388) (Syntax.tyRef (Syntax.named 2) Syntax.mut (Syntax.tyArray (Syntax.tyInt Syntax.w8) 16388)) 2 12 Row.off) (List._∷_ (4, Rows.mref-owed (Array.Array (Referent.rtF (Referent.fInt Syntax.w32)) 65540) (Syntax.tyRef (Syntax.named 3) Syntax.mut (Syntax.tyArray (Syntax.tyInt Syntax.w32) 65540)) 3 13 Row.off) (List._∷_ (5, Rows.mref-owed (Array.Array (Referent.rtF (Referent.fInt Syntax.w32)) 32772) (Syntax.tyRef (Syntax.named 4) Syntax.mut (Syntax.tyArray (Syntax.tyInt Syntax.w32) 32772)) 4 14 Row.off) (List._∷_ (6, Rows.mref-owed (Array.Array (Referent.rtF (Referent.fInt Syntax.w32)) 32772) (Syntax.tyRef (Syntax.named 5) Syntax.mut (Syntax.tyArray (Syntax.tyInt Syntax.w32) 32772)) 5 15 Row.off) (List._∷_ (7, Rows.mref-owed (Array.Array (Referent.rtF (Referent.fInt Syntax.w32)) 262160) (Syntax.tyRef (Syntax.named 6) Syntax.mut (Syntax.tyArray (Syntax.tyInt Syntax.w32) 262160)) 6 16 Row.off) (List._∷_ (8, Rows.mref (Array.Array (Referent.rtF (Referent.fInt Syntax.w8)) 600000) (Syntax.tyRef (Syntax.named 7) Syntax.mut (Syntax.tyArray (Syntax.tyInt Syntax.w8) 600000)) 7) (List._∷_ (9, Rows.mref (Array.Array Cell.R 65540) (Syntax.tyRef (Syntax.named 8) Syntax.mut (Syntax.tyArray Cell.behind 65540)) 8) (List._∷_ (10, Rows.mref (Array.Array Cell.R 32772) (Syntax.tyRef (Syntax.named 9) Syntax.mut (Syntax.tyArray Cell.behind 32772)) 9) (List._∷_ (11, Rows.whole (Declared.row Held.the-type)) (List._∷_ (12, Rows.sc-here (Row.sInt Syntax.w64)) (List._∷_ (13, Rows.sc-here (Row.sInt Syntax.w64)) (List._∷_ (14, Rows.whole (Declared.row Line.the-type)) (List._∷_ (15, Rows.sc-here (Row.sInt Syntax.w64)) List.[])))))))))))))))
+t30 = List._∷_ local0 (List._∷_ local1 (List._∷_ local29 (List._∷_ local31 (List._∷_ local33 (List._∷_ local35 (List._∷_ local37 (List._∷_ local39 (List._∷_ local8 locals14))))))))
 
 abbrev pub t31 : List.List Row.Entry
-t31 = List._∷_ (16, Rows.any-gone Syntax.tyBool) (List._∷_ (17, Rows.any-gone (Syntax.tyInt Syntax.w64)) (List._∷_ (18, Rows.any-gone (Syntax.tyRef Syntax.erased Syntax.mut (Syntax.tyArray (Syntax.tyInt Syntax.w32) 32772))) (List._∷_ (19, Rows.sref (Array.Array (Referent.rtF (Referent.fInt Syntax.w32)) 32772) (Syntax.tyRef Syntax.erased Syntax.imm (Syntax.tyArray (Syntax.tyInt Syntax.w32) 32772)) 11) (List._∷_ (20, Rows.mref (Array.Array (Referent.rtF (Referent.fInt Syntax.w8)) 16388) (Syntax.tyRef Syntax.erased Syntax.mut (Syntax.tyArray (Syntax.tyInt Syntax.w8) 16388)) 12) (List._∷_ (21, Rows.mref (Array.Array (Referent.rtF (Referent.fInt Syntax.w32)) 65540) (Syntax.tyRef Syntax.erased Syntax.mut (Syntax.tyArray (Syntax.tyInt Syntax.w32) 65540)) 13) (List._∷_ (22, Rows.mref (Array.Array (Referent.rtF (Referent.fInt Syntax.w32)) 32772) (Syntax.tyRef Syntax.erased Syntax.mut (Syntax.tyArray (Syntax.tyInt Syntax.w32) 32772)) 14) (List._∷_ (23, Rows.mref (Array.Array (Referent.rtF (Referent.fInt Syntax.w32)) 32772) (Syntax.tyRef Syntax.erased Syntax.mut (Syntax.tyArray (Syntax.tyInt Syntax.w32) 32772)) 15) (List._∷_ (24, Rows.mref (Array.Array (Referent.rtF (Referent.fInt Syntax.w32)) 262160) (Syntax.tyRef Syntax.erased Syntax.mut (Syntax.tyArray (Syntax.tyInt Syntax.w32) 262160)) 16) (List._∷_ (25, Rows.any-gone (Syntax.tyRef Syntax.erased Syntax.mut (Syntax.tyArray (Syntax.tyInt Syntax.w8) 600000))) (List._∷_ (26, Rows.any-gone (Syntax.tyRef Syntax.erased Syntax.mut (Syntax.tyArray Cell.behind 65540))) (List._∷_ (27, Rows.any-gone (Syntax.tyRef Syntax.erased Syntax.mut (Syntax.tyArray Cell.behind 32772))) (List._∷_ (28, Rows.any-gone Syntax.tyUnit) (List._∷_ (29, Rows.any-gone (Syntax.tyInt Syntax.w64)) List.[])))))))))))))
+t31 = List._∷_ local13 (List._∷_ local14 (List._∷_ local15 (List._∷_ local30 (List._∷_ local32 (List._∷_ local34 (List._∷_ local36 (List._∷_ local38 (List._∷_ local40 (List._∷_ local22 locals4)))))))))
 
 abbrev pub t32 : List.List Row.Entry
-t32 = List._∷_ (0, Rows.any-gone Syntax.tyUnit) (List._∷_ (1, Rows.sslice (Referent.rtF (Referent.fInt Syntax.w8)) (Syntax.tyRef (Syntax.named 0) Syntax.imm (Syntax.tyInt Syntax.w8)) 0) (List._∷_ (2, Reshare.mref-owedS (Array.Array (Referent.rtF (Referent.fInt Syntax.w32)) 32772) (Syntax.tyRef (Syntax.named 1) Syntax.mut (Syntax.tyArray (Syntax.tyInt Syntax.w32) 32772)) 1 11 Row.off) (List._∷_ (3, Rows.mref-owed (Array.Array (Referent.rtF (Referent.fInt Syntax.w8)) 16388) (Syntax.tyRef (Syntax.named 2) Syntax.mut (Syntax.tyArray (Syntax.tyInt Syntax.w8) 16388)) 2 12 Row.off) (List._∷_ (4, Rows.mref-owed (Array.Array (Referent.rtF (Referent.fInt Syntax.w32)) 65540) (Syntax.tyRef (Syntax.named 3) Syntax.mut (Syntax.tyArray (Syntax.tyInt Syntax.w32) 65540)) 3 13 Row.off) (List._∷_ (5, Rows.mref-owed (Array.Array (Referent.rtF (Referent.fInt Syntax.w32)) 32772) (Syntax.tyRef (Syntax.named 4) Syntax.mut (Syntax.tyArray (Syntax.tyInt Syntax.w32) 32772)) 4 14 Row.off) (List._∷_ (6, Rows.mref-owed (Array.Array (Referent.rtF (Referent.fInt Syntax.w32)) 32772) (Syntax.tyRef (Syntax.named 5) Syntax.mut (Syntax.tyArray (Syntax.tyInt Syntax.w32) 32772)) 5 15 Row.off) (List._∷_ (7, Rows.mref-owed (Array.Array (Referent.rtF (Referent.fInt Syntax.w32)) 262160) (Syntax.tyRef (Syntax.named 6) Syntax.mut (Syntax.tyArray (Syntax.tyInt Syntax.w32) 262160)) 6 16 Row.off) (List._∷_ (8, Rows.mref-owed (Array.Array (Referent.rtF (Referent.fInt Syntax.w8)) 600000) (Syntax.tyRef (Syntax.named 7) Syntax.mut (Syntax.tyArray (Syntax.tyInt Syntax.w8) 600000)) 7 17 Row.off) (List._∷_ (9, Rows.mref (Array.Array Cell.R 65540) (Syntax.tyRef (Syntax.named 8) Syntax.mut (Syntax.tyArray Cell.behind 65540)) 8) (List._∷_ (10, Rows.mref (Array.Array Cell.R 32772) (Syntax.tyRef (Syntax.named 9) Syntax.mut (Syntax.tyArray Cell.behind 32772)) 9) (List._∷_ (11, Rows.whole (Declared.row Held.the-type)) (List._∷_ (12, Rows.sc-here (Row.sInt Syntax.w64)) (List._∷_ (13, Rows.sc-here (Row.sInt Syntax.w64)) (List._∷_ (14, Rows.whole (Declared.row Line.the-type)) (List._∷_ (15, Rows.sc-here (Row.sInt Syntax.w64)) List.[])))))))))))))))
+t32 = List._∷_ local0 (List._∷_ local1 (List._∷_ local29 (List._∷_ local31 (List._∷_ local33 (List._∷_ local35 (List._∷_ local37 (List._∷_ local39 (List._∷_ local41 locals14))))))))
 
 abbrev pub t33 : List.List Row.Entry
-t33 = List._∷_ (16, Rows.any-gone Syntax.tyBool) (List._∷_ (17, Rows.any-gone (Syntax.tyInt Syntax.w64)) (List._∷_ (18, Rows.any-gone (Syntax.tyRef Syntax.erased Syntax.mut (Syntax.tyArray (Syntax.tyInt Syntax.w32) 32772))) (List._∷_ (19, Rows.sref (Array.Array (Referent.rtF (Referent.fInt Syntax.w32)) 32772) (Syntax.tyRef Syntax.erased Syntax.imm (Syntax.tyArray (Syntax.tyInt Syntax.w32) 32772)) 11) (List._∷_ (20, Rows.mref (Array.Array (Referent.rtF (Referent.fInt Syntax.w8)) 16388) (Syntax.tyRef Syntax.erased Syntax.mut (Syntax.tyArray (Syntax.tyInt Syntax.w8) 16388)) 12) (List._∷_ (21, Rows.mref (Array.Array (Referent.rtF (Referent.fInt Syntax.w32)) 65540) (Syntax.tyRef Syntax.erased Syntax.mut (Syntax.tyArray (Syntax.tyInt Syntax.w32) 65540)) 13) (List._∷_ (22, Rows.mref (Array.Array (Referent.rtF (Referent.fInt Syntax.w32)) 32772) (Syntax.tyRef Syntax.erased Syntax.mut (Syntax.tyArray (Syntax.tyInt Syntax.w32) 32772)) 14) (List._∷_ (23, Rows.mref (Array.Array (Referent.rtF (Referent.fInt Syntax.w32)) 32772) (Syntax.tyRef Syntax.erased Syntax.mut (Syntax.tyArray (Syntax.tyInt Syntax.w32) 32772)) 15) (List._∷_ (24, Rows.mref (Array.Array (Referent.rtF (Referent.fInt Syntax.w32)) 262160) (Syntax.tyRef Syntax.erased Syntax.mut (Syntax.tyArray (Syntax.tyInt Syntax.w32) 262160)) 16) (List._∷_ (25, Rows.mref (Array.Array (Referent.rtF (Referent.fInt Syntax.w8)) 600000) (Syntax.tyRef Syntax.erased Syntax.mut (Syntax.tyArray (Syntax.tyInt Syntax.w8) 600000)) 17) (List._∷_ (26, Rows.any-gone (Syntax.tyRef Syntax.erased Syntax.mut (Syntax.tyArray Cell.behind 65540))) (List._∷_ (27, Rows.any-gone (Syntax.tyRef Syntax.erased Syntax.mut (Syntax.tyArray Cell.behind 32772))) (List._∷_ (28, Rows.any-gone Syntax.tyUnit) (List._∷_ (29, Rows.any-gone (Syntax.tyInt Syntax.w64)) List.[])))))))))))))
+t33 = List._∷_ local13 (List._∷_ local14 (List._∷_ local15 (List._∷_ local30 (List._∷_ local32 (List._∷_ local34 (List._∷_ local36 (List._∷_ local38 (List._∷_ local40 (List._∷_ local42 locals4)))))))))
 
 abbrev pub t34 : List.List Row.Entry
-t34 = List._∷_ (0, Rows.any-gone Syntax.tyUnit) (List._∷_ (1, Rows.sslice (Referent.rtF (Referent.fInt Syntax.w8)) (Syntax.tyRef (Syntax.named 0) Syntax.imm (Syntax.tyInt Syntax.w8)) 0) (List._∷_ (2, Reshare.mref-owedS (Array.Array (Referent.rtF (Referent.fInt Syntax.w32)) 32772) (Syntax.tyRef (Syntax.named 1) Syntax.mut (Syntax.tyArray (Syntax.tyInt Syntax.w32) 32772)) 1 11 Row.off) (List._∷_ (3, Rows.mref-owed (Array.Array (Referent.rtF (Referent.fInt Syntax.w8)) 16388) (Syntax.tyRef (Syntax.named 2) Syntax.mut (Syntax.tyArray (Syntax.tyInt Syntax.w8) 16388)) 2 12 Row.off) (List._∷_ (4, Rows.mref-owed (Array.Array (Referent.rtF (Referent.fInt Syntax.w32)) 65540) (Syntax.tyRef (Syntax.named 3) Syntax.mut (Syntax.tyArray (Syntax.tyInt Syntax.w32) 65540)) 3 13 Row.off) (List._∷_ (5, Rows.mref-owed (Array.Array (Referent.rtF (Referent.fInt Syntax.w32)) 32772) (Syntax.tyRef (Syntax.named 4) Syntax.mut (Syntax.tyArray (Syntax.tyInt Syntax.w32) 32772)) 4 14 Row.off) (List._∷_ (6, Rows.mref-owed (Array.Array (Referent.rtF (Referent.fInt Syntax.w32)) 32772) (Syntax.tyRef (Syntax.named 5) Syntax.mut (Syntax.tyArray (Syntax.tyInt Syntax.w32) 32772)) 5 15 Row.off) (List._∷_ (7, Rows.mref-owed (Array.Array (Referent.rtF (Referent.fInt Syntax.w32)) 262160) (Syntax.tyRef (Syntax.named 6) Syntax.mut (Syntax.tyArray (Syntax.tyInt Syntax.w32) 262160)) 6 16 Row.off) (List._∷_ (8, Rows.mref-owed (Array.Array (Referent.rtF (Referent.fInt Syntax.w8)) 600000) (Syntax.tyRef (Syntax.named 7) Syntax.mut (Syntax.tyArray (Syntax.tyInt Syntax.w8) 600000)) 7 17 Row.off) (List._∷_ (9, Rows.mref-owed (Array.Array Cell.R 65540) (Syntax.tyRef (Syntax.named 8) Syntax.mut (Syntax.tyArray Cell.behind 65540)) 8 18 Row.off) (List._∷_ (10, Rows.mref (Array.Array Cell.R 32772) (Syntax.tyRef (Syntax.named 9) Syntax.mut (Syntax.tyArray Cell.behind 32772)) 9) (List._∷_ (11, Rows.whole (Declared.row Held.the-type)) (List._∷_ (12, Rows.sc-here (Row.sInt Syntax.w64)) (List._∷_ (13, Rows.sc-here (Row.sInt Syntax.w64)) (List._∷_ (14, Rows.whole (Declared.row Line.the-type)) (List._∷_ (15, Rows.sc-here (Row.sInt Syntax.w64)) List.[])))))))))))))))
+t34 = List._∷_ local0 (List._∷_ local1 (List._∷_ local29 (List._∷_ local31 (List._∷_ local33 (List._∷_ local35 (List._∷_ local37 (List._∷_ local39 (List._∷_ local41 (List._∷_ local43 (List._∷_ local10 locals13))))))))))
 
 abbrev pub t35 : List.List Row.Entry
-t35 = List._∷_ (16, Rows.any-gone Syntax.tyBool) (List._∷_ (17, Rows.any-gone (Syntax.tyInt Syntax.w64)) (List._∷_ (18, Rows.any-gone (Syntax.tyRef Syntax.erased Syntax.mut (Syntax.tyArray (Syntax.tyInt Syntax.w32) 32772))) (List._∷_ (19, Rows.sref (Array.Array (Referent.rtF (Referent.fInt Syntax.w32)) 32772) (Syntax.tyRef Syntax.erased Syntax.imm (Syntax.tyArray (Syntax.tyInt Syntax.w32) 32772)) 11) (List._∷_ (20, Rows.mref (Array.Array (Referent.rtF (Referent.fInt Syntax.w8)) 16388) (Syntax.tyRef Syntax.erased Syntax.mut (Syntax.tyArray (Syntax.tyInt Syntax.w8) 16388)) 12) (List._∷_ (21, Rows.mref (Array.Array (Referent.rtF (Referent.fInt Syntax.w32)) 65540) (Syntax.tyRef Syntax.erased Syntax.mut (Syntax.tyArray (Syntax.tyInt Syntax.w32) 65540)) 13) (List._∷_ (22, Rows.mref (Array.Array (Referent.rtF (Referent.fInt Syntax.w32)) 32772) (Syntax.tyRef Syntax.erased Syntax.mut (Syntax.tyArray (Syntax.tyInt Syntax.w32) 32772)) 14) (List._∷_ (23, Rows.mref (Array.Array (Referent.rtF (Referent.fInt Syntax.w32)) 32772) (Syntax.tyRef Syntax.erased Syntax.mut (Syntax.tyArray (Syntax.tyInt Syntax.w32) 32772)) 15) (List._∷_ (24, Rows.mref (Array.Array (Referent.rtF (Referent.fInt Syntax.w32)) 262160) (Syntax.tyRef Syntax.erased Syntax.mut (Syntax.tyArray (Syntax.tyInt Syntax.w32) 262160)) 16) (List._∷_ (25, Rows.mref (Array.Array (Referent.rtF (Referent.fInt Syntax.w8)) 600000) (Syntax.tyRef Syntax.erased Syntax.mut (Syntax.tyArray (Syntax.tyInt Syntax.w8) 600000)) 17) (List._∷_ (26, Rows.mref (Array.Array Cell.R 65540) (Syntax.tyRef Syntax.erased Syntax.mut (Syntax.tyArray Cell.behind 65540)) 18) (List._∷_ (27, Rows.any-gone (Syntax.tyRef Syntax.erased Syntax.mut (Syntax.tyArray Cell.behind 32772))) (List._∷_ (28, Rows.any-gone Syntax.tyUnit) (List._∷_ (29, Rows.any-gone (Syntax.tyInt Syntax.w64)) List.[])))))))))))))
+t35 = List._∷_ local13 (List._∷_ local14 (List._∷_ local15 (List._∷_ local30 (List._∷_ local32 (List._∷_ local34 (List._∷_ local36 (List._∷_ local38 (List._∷_ local40 (List._∷_ local42 (List._∷_ (26, Rows.mref held7 ty17 18) (List._∷_ local24 locals3)))))))))))
 
 abbrev pub t36 : List.List Row.Entry
-t36 = List._∷_ (0, Rows.any-gone Syntax.tyUnit) (List._∷_ (1, Rows.sslice (Referent.rtF (Referent.fInt Syntax.w8)) (Syntax.tyRef (Syntax.named 0) Syntax.imm (Syntax.tyInt Syntax.w8)) 0) (List._∷_ (2, Reshare.mref-owedS (Array.Array (Referent.rtF (Referent.fInt Syntax.w32)) 32772) (Syntax.tyRef (Syntax.named 1) Syntax.mut (Syntax.tyArray (Syntax.tyInt Syntax.w32) 32772)) 1 11 Row.off) (List._∷_ (3, Rows.mref-owed (Array.Array (Referent.rtF (Referent.fInt Syntax.w8)) 16388) (Syntax.tyRef (Syntax.named 2) Syntax.mut (Syntax.tyArray (Syntax.tyInt Syntax.w8) 16388)) 2 12 Row.off) (List._∷_ (4, Rows.mref-owed (Array.Array (Referent.rtF (Referent.fInt Syntax.w32)) 65540) (Syntax.tyRef (Syntax.named 3) Syntax.mut (Syntax.tyArray (Syntax.tyInt Syntax.w32) 65540)) 3 13 Row.off) (List._∷_ (5, Rows.mref-owed (Array.Array (Referent.rtF (Referent.fInt Syntax.w32)) 32772) (Syntax.tyRef (Syntax.named 4) Syntax.mut (Syntax.tyArray (Syntax.tyInt Syntax.w32) 32772)) 4 14 Row.off) (List._∷_ (6, Rows.mref-owed (Array.Array (Referent.rtF (Referent.fInt Syntax.w32)) 32772) (Syntax.tyRef (Syntax.named 5) Syntax.mut (Syntax.tyArray (Syntax.tyInt Syntax.w32) 32772)) 5 15 Row.off) (List._∷_ (7, Rows.mref-owed (Array.Array (Referent.rtF (Referent.fInt Syntax.w32)) 262160) (Syntax.tyRef (Syntax.named 6) Syntax.mut (Syntax.tyArray (Syntax.tyInt Syntax.w32) 262160)) 6 16 Row.off) (List._∷_ (8, Rows.mref-owed (Array.Array (Referent.rtF (Referent.fInt Syntax.w8)) 600000) (Syntax.tyRef (Syntax.named 7) Syntax.mut (Syntax.tyArray (Syntax.tyInt Syntax.w8) 600000)) 7 17 Row.off) (List._∷_ (9, Rows.mref-owed (Array.Array Cell.R 65540) (Syntax.tyRef (Syntax.named 8) Syntax.mut (Syntax.tyArray Cell.behind 65540)) 8 18 Row.off) (List._∷_ (10, Rows.mref-owed (Array.Array Cell.R 32772) (Syntax.tyRef (Syntax.named 9) Syntax.mut (Syntax.tyArray Cell.behind 32772)) 9 19 Row.off) (List._∷_ (11, Rows.whole (Declared.row Held.the-type)) (List._∷_ (12, Rows.sc-here (Row.sInt Syntax.w64)) (List._∷_ (13, Rows.sc-here (Row.sInt Syntax.w64)) (List._∷_ (14, Rows.whole (Declared.row Line.the-type)) (List._∷_ (15, Rows.sc-here (Row.sInt Syntax.w64)) List.[])))))))))))))))
+t36 = List._∷_ local0 (List._∷_ local1 (List._∷_ local29 (List._∷_ local31 (List._∷_ local33 locals19))))
 
 abbrev pub t37 : List.List Row.Entry
-t37 = List._∷_ (16, Rows.any-gone Syntax.tyBool) (List._∷_ (17, Rows.any-gone (Syntax.tyInt Syntax.w64)) (List._∷_ (18, Rows.any-gone (Syntax.tyRef Syntax.erased Syntax.mut (Syntax.tyArray (Syntax.tyInt Syntax.w32) 32772))) (List._∷_ (19, Rows.sref (Array.Array (Referent.rtF (Referent.fInt Syntax.w32)) 32772) (Syntax.tyRef Syntax.erased Syntax.imm (Syntax.tyArray (Syntax.tyInt Syntax.w32) 32772)) 11) (List._∷_ (20, Rows.mref (Array.Array (Referent.rtF (Referent.fInt Syntax.w8)) 16388) (Syntax.tyRef Syntax.erased Syntax.mut (Syntax.tyArray (Syntax.tyInt Syntax.w8) 16388)) 12) (List._∷_ (21, Rows.mref (Array.Array (Referent.rtF (Referent.fInt Syntax.w32)) 65540) (Syntax.tyRef Syntax.erased Syntax.mut (Syntax.tyArray (Syntax.tyInt Syntax.w32) 65540)) 13) (List._∷_ (22, Rows.mref (Array.Array (Referent.rtF (Referent.fInt Syntax.w32)) 32772) (Syntax.tyRef Syntax.erased Syntax.mut (Syntax.tyArray (Syntax.tyInt Syntax.w32) 32772)) 14) (List._∷_ (23, Rows.mref (Array.Array (Referent.rtF (Referent.fInt Syntax.w32)) 32772) (Syntax.tyRef Syntax.erased Syntax.mut (Syntax.tyArray (Syntax.tyInt Syntax.w32) 32772)) 15) (List._∷_ (24, Rows.mref (Array.Array (Referent.rtF (Referent.fInt Syntax.w32)) 262160) (Syntax.tyRef Syntax.erased Syntax.mut (Syntax.tyArray (Syntax.tyInt Syntax.w32) 262160)) 16) (List._∷_ (25, Rows.mref (Array.Array (Referent.rtF (Referent.fInt Syntax.w8)) 600000) (Syntax.tyRef Syntax.erased Syntax.mut (Syntax.tyArray (Syntax.tyInt Syntax.w8) 600000)) 17) (List._∷_ (26, Rows.mref (Array.Array Cell.R 65540) (Syntax.tyRef Syntax.erased Syntax.mut (Syntax.tyArray Cell.behind 65540)) 18) (List._∷_ (27, Rows.mref (Array.Array Cell.R 32772) (Syntax.tyRef Syntax.erased Syntax.mut (Syntax.tyArray Cell.behind 32772)) 19) (List._∷_ (28, Rows.any-gone Syntax.tyUnit) (List._∷_ (29, Rows.any-gone (Syntax.tyInt Syntax.w64)) List.[])))))))))))))
+t37 = List._∷_ local13 (List._∷_ local14 (List._∷_ local15 (List._∷_ local30 (List._∷_ local32 (List._∷_ local34 (List._∷_ local36 (List._∷_ local38 (List._∷_ local40 (List._∷_ local42 (List._∷_ (26, Rows.mref held7 ty17 18) (List._∷_ (27, Rows.mref held8 ty19 19) locals3)))))))))))
 
 abbrev pub t38 : List.List Row.Entry
-t38 = List._∷_ (16, Rows.any-gone Syntax.tyBool) (List._∷_ (17, Rows.any-gone (Syntax.tyInt Syntax.w64)) (List._∷_ (18, Rows.any-gone (Syntax.tyRef Syntax.erased Syntax.mut (Syntax.tyArray (Syntax.tyInt Syntax.w32) 32772))) (List._∷_ (19, Rows.sref (Array.Array (Referent.rtF (Referent.fInt Syntax.w32)) 32772) (Syntax.tyRef Syntax.erased Syntax.imm (Syntax.tyArray (Syntax.tyInt Syntax.w32) 32772)) 11) (List._∷_ (20, Rows.mleft (Array.Array (Referent.rtF (Referent.fInt Syntax.w8)) 16388) (Syntax.tyRef Syntax.erased Syntax.mut (Syntax.tyArray (Syntax.tyInt Syntax.w8) 16388))) (List._∷_ (21, Rows.mleft (Array.Array (Referent.rtF (Referent.fInt Syntax.w32)) 65540) (Syntax.tyRef Syntax.erased Syntax.mut (Syntax.tyArray (Syntax.tyInt Syntax.w32) 65540))) (List._∷_ (22, Rows.mleft (Array.Array (Referent.rtF (Referent.fInt Syntax.w32)) 32772) (Syntax.tyRef Syntax.erased Syntax.mut (Syntax.tyArray (Syntax.tyInt Syntax.w32) 32772))) (List._∷_ (23, Rows.mleft (Array.Array (Referent.rtF (Referent.fInt Syntax.w32)) 32772) (Syntax.tyRef Syntax.erased Syntax.mut (Syntax.tyArray (Syntax.tyInt Syntax.w32) 32772))) (List._∷_ (24, Rows.mleft (Array.Array (Referent.rtF (Referent.fInt Syntax.w32)) 262160) (Syntax.tyRef Syntax.erased Syntax.mut (Syntax.tyArray (Syntax.tyInt Syntax.w32) 262160))) (List._∷_ (25, Rows.mleft (Array.Array (Referent.rtF (Referent.fInt Syntax.w8)) 600000) (Syntax.tyRef Syntax.erased Syntax.mut (Syntax.tyArray (Syntax.tyInt Syntax.w8) 600000))) (List._∷_ (26, Rows.mleft (Array.Array Cell.R 65540) (Syntax.tyRef Syntax.erased Syntax.mut (Syntax.tyArray Cell.behind 65540))) (List._∷_ (27, Rows.mleft (Array.Array Cell.R 32772) (Syntax.tyRef Syntax.erased Syntax.mut (Syntax.tyArray Cell.behind 32772))) (List._∷_ (28, Rows.any-gone Syntax.tyUnit) (List._∷_ (29, Rows.any-gone (Syntax.tyInt Syntax.w64)) List.[])))))))))))))
+t38 = List._∷_ local13 (List._∷_ local14 (List._∷_ local15 (List._∷_ local30 locals24)))
 
 abbrev pub t39 : List.List Row.Entry
-t39 = List._∷_ (16, Rows.any-gone Syntax.tyBool) (List._∷_ (17, Rows.any-gone (Syntax.tyInt Syntax.w64)) (List._∷_ (18, Rows.any-gone (Syntax.tyRef Syntax.erased Syntax.mut (Syntax.tyArray (Syntax.tyInt Syntax.w32) 32772))) (List._∷_ (19, Rows.any-gone (Syntax.tyRef Syntax.erased Syntax.imm (Syntax.tyArray (Syntax.tyInt Syntax.w32) 32772))) (List._∷_ (20, Rows.mleft (Array.Array (Referent.rtF (Referent.fInt Syntax.w8)) 16388) (Syntax.tyRef Syntax.erased Syntax.mut (Syntax.tyArray (Syntax.tyInt Syntax.w8) 16388))) (List._∷_ (21, Rows.mleft (Array.Array (Referent.rtF (Referent.fInt Syntax.w32)) 65540) (Syntax.tyRef Syntax.erased Syntax.mut (Syntax.tyArray (Syntax.tyInt Syntax.w32) 65540))) (List._∷_ (22, Rows.mleft (Array.Array (Referent.rtF (Referent.fInt Syntax.w32)) 32772) (Syntax.tyRef Syntax.erased Syntax.mut (Syntax.tyArray (Syntax.tyInt Syntax.w32) 32772))) (List._∷_ (23, Rows.mleft (Array.Array (Referent.rtF (Referent.fInt Syntax.w32)) 32772) (Syntax.tyRef Syntax.erased Syntax.mut (Syntax.tyArray (Syntax.tyInt Syntax.w32) 32772))) (List._∷_ (24, Rows.mleft (Array.Array (Referent.rtF (Referent.fInt Syntax.w32)) 262160) (Syntax.tyRef Syntax.erased Syntax.mut (Syntax.tyArray (Syntax.tyInt Syntax.w32) 262160))) (List._∷_ (25, Rows.mleft (Array.Array (Referent.rtF (Referent.fInt Syntax.w8)) 600000) (Syntax.tyRef Syntax.erased Syntax.mut (Syntax.tyArray (Syntax.tyInt Syntax.w8) 600000))) (List._∷_ (26, Rows.mleft (Array.Array Cell.R 65540) (Syntax.tyRef Syntax.erased Syntax.mut (Syntax.tyArray Cell.behind 65540))) (List._∷_ (27, Rows.mleft (Array.Array Cell.R 32772) (Syntax.tyRef Syntax.erased Syntax.mut (Syntax.tyArray Cell.behind 32772))) (List._∷_ (28, Rows.any-gone Syntax.tyUnit) (List._∷_ (29, Rows.any-gone (Syntax.tyInt Syntax.w64)) List.[])))))))))))))
+t39 = List._∷_ local13 (List._∷_ local14 (List._∷_ local15 (List._∷_ local16 locals24)))
 
 abbrev pub t40 : List.List Row.Entry
-t40 = List._∷_ (0, Rows.any-gone Syntax.tyUnit) (List._∷_ (1, Rows.sslice (Referent.rtF (Referent.fInt Syntax.w8)) (Syntax.tyRef (Syntax.named 0) Syntax.imm (Syntax.tyInt Syntax.w8)) 0) (List._∷_ (2, Rows.mref (Array.Array (Referent.rtF (Referent.fInt Syntax.w32)) 32772) (Syntax.tyRef (Syntax.named 1) Syntax.mut (Syntax.tyArray (Syntax.tyInt Syntax.w32) 32772)) 1) (List._∷_ (3, Rows.mref-owed (Array.Array (Referent.rtF (Referent.fInt Syntax.w8)) 16388) (Syntax.tyRef (Syntax.named 2) Syntax.mut (Syntax.tyArray (Syntax.tyInt Syntax.w8) 16388)) 2 12 Row.off) (List._∷_ (4, Rows.mref-owed (Array.Array (Referent.rtF (Referent.fInt Syntax.w32)) 65540) (Syntax.tyRef (Syntax.named 3) Syntax.mut (Syntax.tyArray (Syntax.tyInt Syntax.w32) 65540)) 3 13 Row.off) (List._∷_ (5, Rows.mref-owed (Array.Array (Referent.rtF (Referent.fInt Syntax.w32)) 32772) (Syntax.tyRef (Syntax.named 4) Syntax.mut (Syntax.tyArray (Syntax.tyInt Syntax.w32) 32772)) 4 14 Row.off) (List._∷_ (6, Rows.mref-owed (Array.Array (Referent.rtF (Referent.fInt Syntax.w32)) 32772) (Syntax.tyRef (Syntax.named 5) Syntax.mut (Syntax.tyArray (Syntax.tyInt Syntax.w32) 32772)) 5 15 Row.off) (List._∷_ (7, Rows.mref-owed (Array.Array (Referent.rtF (Referent.fInt Syntax.w32)) 262160) (Syntax.tyRef (Syntax.named 6) Syntax.mut (Syntax.tyArray (Syntax.tyInt Syntax.w32) 262160)) 6 16 Row.off) (List._∷_ (8, Rows.mref-owed (Array.Array (Referent.rtF (Referent.fInt Syntax.w8)) 600000) (Syntax.tyRef (Syntax.named 7) Syntax.mut (Syntax.tyArray (Syntax.tyInt Syntax.w8) 600000)) 7 17 Row.off) (List._∷_ (9, Rows.mref-owed (Array.Array Cell.R 65540) (Syntax.tyRef (Syntax.named 8) Syntax.mut (Syntax.tyArray Cell.behind 65540)) 8 18 Row.off) (List._∷_ (10, Rows.mref-owed (Array.Array Cell.R 32772) (Syntax.tyRef (Syntax.named 9) Syntax.mut (Syntax.tyArray Cell.behind 32772)) 9 19 Row.off) (List._∷_ (11, Rows.whole (Declared.row Held.the-type)) (List._∷_ (12, Rows.sc-here (Row.sInt Syntax.w64)) (List._∷_ (13, Rows.sc-here (Row.sInt Syntax.w64)) (List._∷_ (14, Rows.whole (Declared.row Line.the-type)) (List._∷_ (15, Rows.sc-here (Row.sInt Syntax.w64)) List.[])))))))))))))))
+t40 = List._∷_ local0 (List._∷_ local1 (List._∷_ local2 (List._∷_ local31 (List._∷_ local33 locals19))))
 
 abbrev pub t41 : List.List Row.Entry
-t41 = List._∷_ (0, Rows.any-gone Syntax.tyUnit) (List._∷_ (1, Rows.sslice (Referent.rtF (Referent.fInt Syntax.w8)) (Syntax.tyRef (Syntax.named 0) Syntax.imm (Syntax.tyInt Syntax.w8)) 0) (List._∷_ (2, Rows.mref (Array.Array (Referent.rtF (Referent.fInt Syntax.w32)) 32772) (Syntax.tyRef (Syntax.named 1) Syntax.mut (Syntax.tyArray (Syntax.tyInt Syntax.w32) 32772)) 1) (List._∷_ (3, Rows.mref (Array.Array (Referent.rtF (Referent.fInt Syntax.w8)) 16388) (Syntax.tyRef (Syntax.named 2) Syntax.mut (Syntax.tyArray (Syntax.tyInt Syntax.w8) 16388)) 2) (List._∷_ (4, Rows.mref-owed (Array.Array (Referent.rtF (Referent.fInt Syntax.w32)) 65540) (Syntax.tyRef (Syntax.named 3) Syntax.mut (Syntax.tyArray (Syntax.tyInt Syntax.w32) 65540)) 3 13 Row.off) (List._∷_ (5, Rows.mref-owed (Array.Array (Referent.rtF (Referent.fInt Syntax.w32)) 32772) (Syntax.tyRef (Syntax.named 4) Syntax.mut (Syntax.tyArray (Syntax.tyInt Syntax.w32) 32772)) 4 14 Row.off) (List._∷_ (6, Rows.mref-owed (Array.Array (Referent.rtF (Referent.fInt Syntax.w32)) 32772) (Syntax.tyRef (Syntax.named 5) Syntax.mut (Syntax.tyArray (Syntax.tyInt Syntax.w32) 32772)) 5 15 Row.off) (List._∷_ (7, Rows.mref-owed (Array.Array (Referent.rtF (Referent.fInt Syntax.w32)) 262160) (Syntax.tyRef (Syntax.named 6) Syntax.mut (Syntax.tyArray (Syntax.tyInt Syntax.w32) 262160)) 6 16 Row.off) (List._∷_ (8, Rows.mref-owed (Array.Array (Referent.rtF (Referent.fInt Syntax.w8)) 600000) (Syntax.tyRef (Syntax.named 7) Syntax.mut (Syntax.tyArray (Syntax.tyInt Syntax.w8) 600000)) 7 17 Row.off) (List._∷_ (9, Rows.mref-owed (Array.Array Cell.R 65540) (Syntax.tyRef (Syntax.named 8) Syntax.mut (Syntax.tyArray Cell.behind 65540)) 8 18 Row.off) (List._∷_ (10, Rows.mref-owed (Array.Array Cell.R 32772) (Syntax.tyRef (Syntax.named 9) Syntax.mut (Syntax.tyArray Cell.behind 32772)) 9 19 Row.off) (List._∷_ (11, Rows.whole (Declared.row Held.the-type)) (List._∷_ (12, Rows.sc-here (Row.sInt Syntax.w64)) (List._∷_ (13, Rows.sc-here (Row.sInt Syntax.w64)) (List._∷_ (14, Rows.whole (Declared.row Line.the-type)) (List._∷_ (15, Rows.sc-here (Row.sInt Syntax.w64)) List.[])))))))))))))))
+t41 = List._∷_ local0 (List._∷_ local1 (List._∷_ local2 (List._∷_ local3 (List._∷_ local33 locals19))))
 
 abbrev pub t42 : List.List Row.Entry
-t42 = List._∷_ (16, Rows.any-gone Syntax.tyBool) (List._∷_ (17, Rows.any-gone (Syntax.tyInt Syntax.w64)) (List._∷_ (18, Rows.any-gone (Syntax.tyRef Syntax.erased Syntax.mut (Syntax.tyArray (Syntax.tyInt Syntax.w32) 32772))) (List._∷_ (19, Rows.any-gone (Syntax.tyRef Syntax.erased Syntax.imm (Syntax.tyArray (Syntax.tyInt Syntax.w32) 32772))) (List._∷_ (20, Rows.any-gone (Syntax.tyRef Syntax.erased Syntax.mut (Syntax.tyArray (Syntax.tyInt Syntax.w8) 16388))) (List._∷_ (21, Rows.mleft (Array.Array (Referent.rtF (Referent.fInt Syntax.w32)) 65540) (Syntax.tyRef Syntax.erased Syntax.mut (Syntax.tyArray (Syntax.tyInt Syntax.w32) 65540))) (List._∷_ (22, Rows.mleft (Array.Array (Referent.rtF (Referent.fInt Syntax.w32)) 32772) (Syntax.tyRef Syntax.erased Syntax.mut (Syntax.tyArray (Syntax.tyInt Syntax.w32) 32772))) (List._∷_ (23, Rows.mleft (Array.Array (Referent.rtF (Referent.fInt Syntax.w32)) 32772) (Syntax.tyRef Syntax.erased Syntax.mut (Syntax.tyArray (Syntax.tyInt Syntax.w32) 32772))) (List._∷_ (24, Rows.mleft (Array.Array (Referent.rtF (Referent.fInt Syntax.w32)) 262160) (Syntax.tyRef Syntax.erased Syntax.mut (Syntax.tyArray (Syntax.tyInt Syntax.w32) 262160))) (List._∷_ (25, Rows.mleft (Array.Array (Referent.rtF (Referent.fInt Syntax.w8)) 600000) (Syntax.tyRef Syntax.erased Syntax.mut (Syntax.tyArray (Syntax.tyInt Syntax.w8) 600000))) (List._∷_ (26, Rows.mleft (Array.Array Cell.R 65540) (Syntax.tyRef Syntax.erased Syntax.mut (Syntax.tyArray Cell.behind 65540))) (List._∷_ (27, Rows.mleft (Array.Array Cell.R 32772) (Syntax.tyRef Syntax.erased Syntax.mut (Syntax.tyArray Cell.behind 32772))) (List._∷_ (28, Rows.any-gone Syntax.tyUnit) (List._∷_ (29, Rows.any-gone (Syntax.tyInt Syntax.w64)) List.[])))))))))))))
+t42 = List._∷_ local13 (List._∷_ local14 (List._∷_ local15 (List._∷_ local16 (List._∷_ local17 (List._∷_ (21, Rows.mleft held4 ty11) locals23)))))
 
 abbrev pub t43 : List.List Row.Entry
-t43 = List._∷_ (0, Rows.any-gone Syntax.tyUnit) (List._∷_ (1, Rows.sslice (Referent.rtF (Referent.fInt Syntax.w8)) (Syntax.tyRef (Syntax.named 0) Syntax.imm (Syntax.tyInt Syntax.w8)) 0) (List._∷_ (2, Rows.mref (Array.Array (Referent.rtF (Referent.fInt Syntax.w32)) 32772) (Syntax.tyRef (Syntax.named 1) Syntax.mut (Syntax.tyArray (Syntax.tyInt Syntax.w32) 32772)) 1) (List._∷_ (3, Rows.mref (Array.Array (Referent.rtF (Referent.fInt Syntax.w8)) 16388) (Syntax.tyRef (Syntax.named 2) Syntax.mut (Syntax.tyArray (Syntax.tyInt Syntax.w8) 16388)) 2) (List._∷_ (4, Rows.mref (Array.Array (Referent.rtF (Referent.fInt Syntax.w32)) 65540) (Syntax.tyRef (Syntax.named 3) Syntax.mut (Syntax.tyArray (Syntax.tyInt Syntax.w32) 65540)) 3) (List._∷_ (5, Rows.mref-owed (Array.Array (Referent.rtF (Referent.fInt Syntax.w32)) 32772) (Syntax.tyRef (Syntax.named 4) Syntax.mut (Syntax.tyArray (Syntax.tyInt Syntax.w32) 32772)) 4 14 Row.off) (List._∷_ (6, Rows.mref-owed (Array.Array (Referent.rtF (Referent.fInt Syntax.w32)) 32772) (Syntax.tyRef (Syntax.named 5) Syntax.mut (Syntax.tyArray (Syntax.tyInt Syntax.w32) 32772)) 5 15 Row.off) (List._∷_ (7, Rows.mref-owed (Array.Array (Referent.rtF (Referent.fInt Syntax.w32)) 262160) (Syntax.tyRef (Syntax.named 6) Syntax.mut (Syntax.tyArray (Syntax.tyInt Syntax.w32) 262160)) 6 16 Row.off) (List._∷_ (8, Rows.mref-owed (Array.Array (Referent.rtF (Referent.fInt Syntax.w8)) 600000) (Syntax.tyRef (Syntax.named 7) Syntax.mut (Syntax.tyArray (Syntax.tyInt Syntax.w8) 600000)) 7 17 Row.off) (List._∷_ (9, Rows.mref-owed (Array.Array Cell.R 65540) (Syntax.tyRef (Syntax.named 8) Syntax.mut (Syntax.tyArray Cell.behind 65540)) 8 18 Row.off) (List._∷_ (10, Rows.mref-owed (Array.Array Cell.R 32772) (Syntax.tyRef (Syntax.named 9) Syntax.mut (Syntax.tyArray Cell.behind 32772)) 9 19 Row.off) (List._∷_ (11, Rows.whole (Declared.row Held.the-type)) (List._∷_ (12, Rows.sc-here (Row.sInt Syntax.w64)) (List._∷_ (13, Rows.sc-here (Row.sInt Syntax.w64)) (List._∷_ (14, Rows.whole (Declared.row Line.the-type)) (List._∷_ (15, Rows.sc-here (Row.sInt Syntax.w64)) List.[])))))))))))))))
+t43 = List._∷_ local0 (List._∷_ local1 (List._∷_ local2 (List._∷_ local3 (List._∷_ local4 locals19))))
 
 abbrev pub t44 : List.List Row.Entry
-t44 = List._∷_ (16, Rows.any-gone Syntax.tyBool) (List._∷_ (17, Rows.any-gone (Syntax.tyInt Syntax.w64)) (List._∷_ (18, Rows.any-gone (Syntax.tyRef Syntax.erased Syntax.mut (Syntax.tyArray (Syntax.tyInt Syntax.w32) 32772))) (List._∷_ (19, Rows.any-gone (Syntax.tyRef Syntax.erased Syntax.imm (Syntax.tyArray (Syntax.tyInt Syntax.w32) 32772))) (List._∷_ (20, Rows.any-gone (Syntax.tyRef Syntax.erased Syntax.mut (Syntax.tyArray (Syntax.tyInt Syntax.w8) 16388))) (List._∷_ (21, Rows.any-gone (Syntax.tyRef Syntax.erased Syntax.mut (Syntax.tyArray (Syntax.tyInt Syntax.w32) 65540))) (List._∷_ (22, Rows.mleft (Array.Array (Referent.rtF (Referent.fInt Syntax.w32)) 32772) (Syntax.tyRef Syntax.erased Syntax.mut (Syntax.tyArray (Syntax.tyInt Syntax.w32) 32772))) (List._∷_ (23, Rows.mleft (Array.Array (Referent.rtF (Referent.fInt Syntax.w32)) 32772) (Syntax.tyRef Syntax.erased Syntax.mut (Syntax.tyArray (Syntax.tyInt Syntax.w32) 32772))) (List._∷_ (24, Rows.mleft (Array.Array (Referent.rtF (Referent.fInt Syntax.w32)) 262160) (Syntax.tyRef Syntax.erased Syntax.mut (Syntax.tyArray (Syntax.tyInt Syntax.w32) 262160))) (List._∷_ (25, Rows.mleft (Array.Array (Referent.rtF (Referent.fInt Syntax.w8)) 600000) (Syntax.tyRef Syntax.erased Syntax.mut (Syntax.tyArray (Syntax.tyInt Syntax.w8) 600000))) (List._∷_ (26, Rows.mleft (Array.Array Cell.R 65540) (Syntax.tyRef Syntax.erased Syntax.mut (Syntax.tyArray Cell.behind 65540))) (List._∷_ (27, Rows.mleft (Array.Array Cell.R 32772) (Syntax.tyRef Syntax.erased Syntax.mut (Syntax.tyArray Cell.behind 32772))) (List._∷_ (28, Rows.any-gone Syntax.tyUnit) (List._∷_ (29, Rows.any-gone (Syntax.tyInt Syntax.w64)) List.[])))))))))))))
+t44 = List._∷_ local13 (List._∷_ local14 (List._∷_ local15 (List._∷_ local16 (List._∷_ local17 (List._∷_ local18 locals23)))))
 
 abbrev pub t45 : List.List Row.Entry
-t45 = List._∷_ (0, Rows.any-gone Syntax.tyUnit) (List._∷_ (1, Rows.sslice (Referent.rtF (Referent.fInt Syntax.w8)) (Syntax.tyRef (Syntax.named 0) Syntax.imm (Syntax.tyInt Syntax.w8)) 0) (List._∷_ (2, Rows.mref (Array.Array (Referent.rtF (Referent.fInt Syntax.w32)) 32772) (Syntax.tyRef (Syntax.named 1) Syntax.mut (Syntax.tyArray (Syntax.tyInt Syntax.w32) 32772)) 1) (List._∷_ (3, Rows.mref (Array.Array (Referent.rtF (Referent.fInt Syntax.w8)) 16388) (Syntax.tyRef (Syntax.named 2) Syntax.mut (Syntax.tyArray (Syntax.tyInt Syntax.w8) 16388)) 2) (List._∷_ (4, Rows.mref (Array.Array (Referent.rtF (Referent.fInt Syntax.w32)) 65540) (Syntax.tyRef (Syntax.named 3) Syntax.mut (Syntax.tyArray (Syntax.tyInt Syntax.w32) 65540)) 3) (List._∷_ (5, Rows.mref (Array.Array (Referent.rtF (Referent.fInt Syntax.w32)) 32772) (Syntax.tyRef (Syntax.named 4) Syntax.mut (Syntax.tyArray (Syntax.tyInt Syntax.w32) 32772)) 4) (List._∷_ (6, Rows.mref-owed (Array.Array (Referent.rtF (Referent.fInt Syntax.w32)) 32772) (Syntax.tyRef (Syntax.named 5) Syntax.mut (Syntax.tyArray (Syntax.tyInt Syntax.w32) 32772)) 5 15 Row.off) (List._∷_ (7, Rows.mref-owed (Array.Array (Referent.rtF (Referent.fInt Syntax.w32)) 262160) (Syntax.tyRef (Syntax.named 6) Syntax.mut (Syntax.tyArray (Syntax.tyInt Syntax.w32) 262160)) 6 16 Row.off) (List._∷_ (8, Rows.mref-owed (Array.Array (Referent.rtF (Referent.fInt Syntax.w8)) 600000) (Syntax.tyRef (Syntax.named 7) Syntax.mut (Syntax.tyArray (Syntax.tyInt Syntax.w8) 600000)) 7 17 Row.off) (List._∷_ (9, Rows.mref-owed (Array.Array Cell.R 65540) (Syntax.tyRef (Syntax.named 8) Syntax.mut (Syntax.tyArray Cell.behind 65540)) 8 18 Row.off) (List._∷_ (10, Rows.mref-owed (Array.Array Cell.R 32772) (Syntax.tyRef (Syntax.named 9) Syntax.mut (Syntax.tyArray Cell.behind 32772)) 9 19 Row.off) (List._∷_ (11, Rows.whole (Declared.row Held.the-type)) (List._∷_ (12, Rows.sc-here (Row.sInt Syntax.w64)) (List._∷_ (13, Rows.sc-here (Row.sInt Syntax.w64)) (List._∷_ (14, Rows.whole (Declared.row Line.the-type)) (List._∷_ (15, Rows.sc-here (Row.sInt Syntax.w64)) List.[])))))))))))))))
+t45 = List._∷_ local0 (List._∷_ local1 (List._∷_ local2 (List._∷_ local3 (List._∷_ local4 (List._∷_ local5 (List._∷_ local37 (List._∷_ local39 locals18)))))))
 
 abbrev pub t46 : List.List Row.Entry
-t46 = List._∷_ (16, Rows.any-gone Syntax.tyBool) (List._∷_ (17, Rows.any-gone (Syntax.tyInt Syntax.w64)) (List._∷_ (18, Rows.any-gone (Syntax.tyRef Syntax.erased Syntax.mut (Syntax.tyArray (Syntax.tyInt Syntax.w32) 32772))) (List._∷_ (19, Rows.any-gone (Syntax.tyRef Syntax.erased Syntax.imm (Syntax.tyArray (Syntax.tyInt Syntax.w32) 32772))) (List._∷_ (20, Rows.any-gone (Syntax.tyRef Syntax.erased Syntax.mut (Syntax.tyArray (Syntax.tyInt Syntax.w8) 16388))) (List._∷_ (21, Rows.any-gone (Syntax.tyRef Syntax.erased Syntax.mut (Syntax.tyArray (Syntax.tyInt Syntax.w32) 65540))) (List._∷_ (22, Rows.any-gone (Syntax.tyRef Syntax.erased Syntax.mut (Syntax.tyArray (Syntax.tyInt Syntax.w32) 32772))) (List._∷_ (23, Rows.mleft (Array.Array (Referent.rtF (Referent.fInt Syntax.w32)) 32772) (Syntax.tyRef Syntax.erased Syntax.mut (Syntax.tyArray (Syntax.tyInt Syntax.w32) 32772))) (List._∷_ (24, Rows.mleft (Array.Array (Referent.rtF (Referent.fInt Syntax.w32)) 262160) (Syntax.tyRef Syntax.erased Syntax.mut (Syntax.tyArray (Syntax.tyInt Syntax.w32) 262160))) (List._∷_ (25, Rows.mleft (Array.Array (Referent.rtF (Referent.fInt Syntax.w8)) 600000) (Syntax.tyRef Syntax.erased Syntax.mut (Syntax.tyArray (Syntax.tyInt Syntax.w8) 600000))) (List._∷_ (26, Rows.mleft (Array.Array Cell.R 65540) (Syntax.tyRef Syntax.erased Syntax.mut (Syntax.tyArray Cell.behind 65540))) (List._∷_ (27, Rows.mleft (Array.Array Cell.R 32772) (Syntax.tyRef Syntax.erased Syntax.mut (Syntax.tyArray Cell.behind 32772))) (List._∷_ (28, Rows.any-gone Syntax.tyUnit) (List._∷_ (29, Rows.any-gone (Syntax.tyInt Syntax.w64)) List.[])))))))))))))
+t46 = List._∷_ local13 (List._∷_ local14 (List._∷_ local15 (List._∷_ local16 (List._∷_ local17 (List._∷_ local18 (List._∷_ local19 locals22))))))
 
 abbrev pub t47 : List.List Row.Entry
-t47 = List._∷_ (0, Rows.any-gone Syntax.tyUnit) (List._∷_ (1, Rows.sslice (Referent.rtF (Referent.fInt Syntax.w8)) (Syntax.tyRef (Syntax.named 0) Syntax.imm (Syntax.tyInt Syntax.w8)) 0) (List._∷_ (2, Rows.mref (Array.Array (Referent.rtF (Referent.fInt Syntax.w32)) 32772) (Syntax.tyRef (Syntax.named 1) Syntax.mut (Syntax.tyArray (Syntax.tyInt Syntax.w32) 32772)) 1) (List._∷_ (3, Rows.mref (Array.Array (Referent.rtF (Referent.fInt Syntax.w8)) 16388) (Syntax.tyRef (Syntax.named 2) Syntax.mut (Syntax.tyArray (Syntax.tyInt Syntax.w8) 16388)) 2) (List._∷_ (4, Rows.mref (Array.Array (Referent.rtF (Referent.fInt Syntax.w32)) 65540) (Syntax.tyRef (Syntax.named 3) Syntax.mut (Syntax.tyArray (Syntax.tyInt Syntax.w32) 65540)) 3) (List._∷_ (5, Rows.mref (Array.Array (Referent.rtF (Referent.fInt Syntax.w32)) 32772) (Syntax.tyRef (Syntax.named 4) Syntax.mut (Syntax.tyArray (Syntax.tyInt Syntax.w32) 32772)) 4) (List._∷_ (6, Rows.mref (Array.Array (Referent.rtF (Referent.fInt Syntax.w32)) 32772) (Syntax.tyRef (Syntax.named 5) Syntax.mut (Syntax.tyArray (Syntax.tyInt Syntax.w32) 32772)) 5) (List._∷_ (7, Rows.mref-owed (Array.Array (Referent.rtF (Referent.fInt Syntax.w32)) 262160) (Syntax.tyRef (Syntax.named 6) Syntax.mut (Syntax.tyArray (Syntax.tyInt Syntax.w32) 262160)) 6 16 Row.off) (List._∷_ (8, Rows.mref-owed (Array.Array (Referent.rtF (Referent.fInt Syntax.w8)) 600000) (Syntax.tyRef (Syntax.named 7) Syntax.mut (Syntax.tyArray (Syntax.tyInt Syntax.w8) 600000)) 7 17 Row.off) (List._∷_ (9, Rows.mref-owed (Array.Array Cell.R 65540) (Syntax.tyRef (Syntax.named 8) Syntax.mut (Syntax.tyArray Cell.behind 65540)) 8 18 Row.off) (List._∷_ (10, Rows.mref-owed (Array.Array Cell.R 32772) (Syntax.tyRef (Syntax.named 9) Syntax.mut (Syntax.tyArray Cell.behind 32772)) 9 19 Row.off) (List._∷_ (11, Rows.whole (Declared.row Held.the-type)) (List._∷_ (12, Rows.sc-here (Row.sInt Syntax.w64)) (List._∷_ (13, Rows.sc-here (Row.sInt Syntax.w64)) (List._∷_ (14, Rows.whole (Declared.row Line.the-type)) (List._∷_ (15, Rows.sc-here (Row.sInt Syntax.w64)) List.[])))))))))))))))
+t47 = List._∷_ local0 (List._∷_ local1 (List._∷_ local2 (List._∷_ local3 (List._∷_ local4 (List._∷_ local5 (List._∷_ local6 (List._∷_ local39 locals18)))))))
 
 abbrev pub t48 : List.List Row.Entry
-t48 = List._∷_ (16, Rows.any-gone Syntax.tyBool) (List._∷_ (17, Rows.any-gone (Syntax.tyInt Syntax.w64)) (List._∷_ (18, Rows.any-gone (Syntax.tyRef Syntax.erased Syntax.mut (Syntax.tyArray (Syntax.tyInt Syntax.w32) 32772))) (List._∷_ (19, Rows.any-gone (Syntax.tyRef Syntax.erased Syntax.imm (Syntax.tyArray (Syntax.tyInt Syntax.w32) 32772))) (List._∷_ (20, Rows.any-gone (Syntax.tyRef Syntax.erased Syntax.mut (Syntax.tyArray (Syntax.tyInt Syntax.w8) 16388))) (List._∷_ (21, Rows.any-gone (Syntax.tyRef Syntax.erased Syntax.mut (Syntax.tyArray (Syntax.tyInt Syntax.w32) 65540))) (List._∷_ (22, Rows.any-gone (Syntax.tyRef Syntax.erased Syntax.mut (Syntax.tyArray (Syntax.tyInt Syntax.w32) 32772))) (List._∷_ (23, Rows.any-gone (Syntax.tyRef Syntax.erased Syntax.mut (Syntax.tyArray (Syntax.tyInt Syntax.w32) 32772))) (List._∷_ (24, Rows.mleft (Array.Array (Referent.rtF (Referent.fInt Syntax.w32)) 262160) (Syntax.tyRef Syntax.erased Syntax.mut (Syntax.tyArray (Syntax.tyInt Syntax.w32) 262160))) (List._∷_ (25, Rows.mleft (Array.Array (Referent.rtF (Referent.fInt Syntax.w8)) 600000) (Syntax.tyRef Syntax.erased Syntax.mut (Syntax.tyArray (Syntax.tyInt Syntax.w8) 600000))) (List._∷_ (26, Rows.mleft (Array.Array Cell.R 65540) (Syntax.tyRef Syntax.erased Syntax.mut (Syntax.tyArray Cell.behind 65540))) (List._∷_ (27, Rows.mleft (Array.Array Cell.R 32772) (Syntax.tyRef Syntax.erased Syntax.mut (Syntax.tyArray Cell.behind 32772))) (List._∷_ (28, Rows.any-gone Syntax.tyUnit) (List._∷_ (29, Rows.any-gone (Syntax.tyInt Syntax.w64)) List.[])))))))))))))
+t48 = List._∷_ local13 (List._∷_ local14 (List._∷_ local15 (List._∷_ local16 (List._∷_ local17 (List._∷_ local18 (List._∷_ local19 (List._∷_ local20 (List._∷_ (24, Rows.mleft held5 ty13) locals21))))))))
 
 abbrev pub t49 : List.List Row.Entry
-t49 = List._∷_ (0, Rows.any-gone Syntax.tyUnit) (List._∷_ (1, Rows.sslice (Referent.rtF (Referent.fInt Syntax.w8)) (Syntax.tyRef (Syntax.named 0) Syntax.imm (Syntax.tyInt Syntax.w8)) 0) (List._∷_ (2, Rows.mref (Array.Array (Referent.rtF (Referent.fInt Syntax.w32)) 32772) (Syntax.tyRef (Syntax.named 1) Syntax.mut (Syntax.tyArray (Syntax.tyInt Syntax.w32) 32772)) 1) (List._∷_ (3, Rows.mref (Array.Array (Referent.rtF (Referent.fInt Syntax.w8)) 16388) (Syntax.tyRef (Syntax.named 2) Syntax.mut (Syntax.tyArray (Syntax.tyInt Syntax.w8) 16388)) 2) (List._∷_ (4, Rows.mref (Array.Array (Referent.rtF (Referent.fInt Syntax.w32)) 65540) (Syntax.tyRef (Syntax.named 3) Syntax.mut (Syntax.tyArray (Syntax.tyInt Syntax.w32) 65540)) 3) (List._∷_ (5, Rows.mref (Array.Array (Referent.rtF (Referent.fInt Syntax.w32)) 32772) (Syntax.tyRef (Syntax.named 4) Syntax.mut (Syntax.tyArray (Syntax.tyInt Syntax.w32) 32772)) 4) (List._∷_ (6, Rows.mref (Array.Array (Referent.rtF (Referent.fInt Syntax.w32)) 32772) (Syntax.tyRef (Syntax.named 5) Syntax.mut (Syntax.tyArray (Syntax.tyInt Syntax.w32) 32772)) 5) (List._∷_ (7, Rows.mref (Array.Array (Referent.rtF (Referent.fInt Syntax.w32)) 262160) (Syntax.tyRef (Syntax.named 6) Syntax.mut (Syntax.tyArray (Syntax.tyInt Syntax.w32) 262160)) 6) (List._∷_ (8, Rows.mref-owed (Array.Array (Referent.rtF (Referent.fInt Syntax.w8)) 600000) (Syntax.tyRef (Syntax.named 7) Syntax.mut (Syntax.tyArray (Syntax.tyInt Syntax.w8) 600000)) 7 17 Row.off) (List._∷_ (9, Rows.mref-owed (Array.Array Cell.R 65540) (Syntax.tyRef (Syntax.named 8) Syntax.mut (Syntax.tyArray Cell.behind 65540)) 8 18 Row.off) (List._∷_ (10, Rows.mref-owed (Array.Array Cell.R 32772) (Syntax.tyRef (Syntax.named 9) Syntax.mut (Syntax.tyArray Cell.behind 32772)) 9 19 Row.off) (List._∷_ (11, Rows.whole (Declared.row Held.the-type)) (List._∷_ (12, Rows.sc-here (Row.sInt Syntax.w64)) (List._∷_ (13, Rows.sc-here (Row.sInt Syntax.w64)) (List._∷_ (14, Rows.whole (Declared.row Line.the-type)) (List._∷_ (15, Rows.sc-here (Row.sInt Syntax.w64)) List.[])))))))))))))))
+t49 = List._∷_ local0 (List._∷_ local1 (List._∷_ local2 (List._∷_ local3 (List._∷_ local4 (List._∷_ local5 (List._∷_ local6 (List._∷_ local7 locals18)))))))
 
 abbrev pub t50 : List.List Row.Entry
-t50 = List._∷_ (16, Rows.any-gone Syntax.tyBool) (List._∷_ (17, Rows.any-gone (Syntax.tyInt Syntax.w64)) (List._∷_ (18, Rows.any-gone (Syntax.tyRef Syntax.erased Syntax.mut (Syntax.tyArray (Syntax.tyInt Syntax.w32) 32772))) (List._∷_ (19, Rows.any-gone (Syntax.tyRef Syntax.erased Syntax.imm (Syntax.tyArray (Syntax.tyInt Syntax.w32) 32772))) (List._∷_ (20, Rows.any-gone (Syntax.tyRef Syntax.erased Syntax.mut (Syntax.tyArray (Syntax.tyInt Syntax.w8) 16388))) (List._∷_ (21, Rows.any-gone (Syntax.tyRef Syntax.erased Syntax.mut (Syntax.tyArray (Syntax.tyInt Syntax.w32) 65540))) (List._∷_ (22, Rows.any-gone (Syntax.tyRef Syntax.erased Syntax.mut (Syntax.tyArray (Syntax.tyInt Syntax.w32) 32772))) (List._∷_ (23, Rows.any-gone (Syntax.tyRef Syntax.erased Syntax.mut (Syntax.tyArray (Syntax.tyInt Syntax.w32) 32772))) (List._∷_ (24, Rows.any-gone (Syntax.tyRef Syntax.erased Syntax.mut (Syntax.tyArray (Syntax.tyInt Syntax.w32) 262160))) (List._∷_ (25, Rows.mleft (Array.Array (Referent.rtF (Referent.fInt Syntax.w8)) 600000) (Syntax.tyRef Syntax.erased Syntax.mut (Syntax.tyArray (Syntax.tyInt Syntax.w8) 600000))) (List._∷_ (26, Rows.mleft (Array.Array Cell.R 65540) (Syntax.tyRef Syntax.erased Syntax.mut (Syntax.tyArray Cell.behind 65540))) (List._∷_ (27, Rows.mleft (Array.Array Cell.R 32772) (Syntax.tyRef Syntax.erased Syntax.mut (Syntax.tyArray Cell.behind 32772))) (List._∷_ (28, Rows.any-gone Syntax.tyUnit) (List._∷_ (29, Rows.any-gone (Syntax.tyInt Syntax.w64)) List.[])))))))))))))
+t50 = List._∷_ local13 (List._∷_ local14 (List._∷_ local15 (List._∷_ local16 (List._∷_ local17 (List._∷_ local18 (List._∷_ local19 (List._∷_ local20 (List._∷_ local21 locals21))))))))
 
 abbrev pub t51 : List.List Row.Entry
-t51 = List._∷_ (0, Rows.any-gone Syntax.tyUnit) (List._∷_ (1, Rows.sslice (Referent.rtF (Referent.fInt Syntax.w8)) (Syntax.tyRef (Syntax.named 0) Syntax.imm (Syntax.tyInt Syntax.w8)) 0) (List._∷_ (2, Rows.mref (Array.Array (Referent.rtF (Referent.fInt Syntax.w32)) 32772) (Syntax.tyRef (Syntax.named 1) Syntax.mut (Syntax.tyArray (Syntax.tyInt Syntax.w32) 32772)) 1) (List._∷_ (3, Rows.mref (Array.Array (Referent.rtF (Referent.fInt Syntax.w8)) 16388) (Syntax.tyRef (Syntax.named 2) Syntax.mut (Syntax.tyArray (Syntax.tyInt Syntax.w8) 16388)) 2) (List._∷_ (4, Rows.mref (Array.Array (Referent.rtF (Referent.fInt Syntax.w32)) 65540) (Syntax.tyRef (Syntax.named 3) Syntax.mut (Syntax.tyArray (Syntax.tyInt Syntax.w32) 65540)) 3) (List._∷_ (5, Rows.mref (Array.Array (Referent.rtF (Referent.fInt Syntax.w32)) 32772) (Syntax.tyRef (Syntax.named 4) Syntax.mut (Syntax.tyArray (Syntax.tyInt Syntax.w32) 32772)) 4) (List._∷_ (6, Rows.mref (Array.Array (Referent.rtF (Referent.fInt Syntax.w32)) 32772) (Syntax.tyRef (Syntax.named 5) Syntax.mut (Syntax.tyArray (Syntax.tyInt Syntax.w32) 32772)) 5) (List._∷_ (7, Rows.mref (Array.Array (Referent.rtF (Referent.fInt Syntax.w32)) 262160) (Syntax.tyRef (Syntax.named 6) Syntax.mut (Syntax.tyArray (Syntax.tyInt Syntax.w32) 262160)) 6) (List._∷_ (8, Rows.mref (Array.Array (Referent.rtF (Referent.fInt Syntax.w8)) 600000) (Syntax.tyRef (Syntax.named 7) Syntax.mut (Syntax.tyArray (Syntax.tyInt Syntax.w8) 600000)) 7) (List._∷_ (9, Rows.mref-owed (Array.Array Cell.R 65540) (Syntax.tyRef (Syntax.named 8) Syntax.mut (Syntax.tyArray Cell.behind 65540)) 8 18 Row.off) (List._∷_ (10, Rows.mref-owed (Array.Array Cell.R 32772) (Syntax.tyRef (Syntax.named 9) Syntax.mut (Syntax.tyArray Cell.behind 32772)) 9 19 Row.off) (List._∷_ (11, Rows.whole (Declared.row Held.the-type)) (List._∷_ (12, Rows.sc-here (Row.sInt Syntax.w64)) (List._∷_ (13, Rows.sc-here (Row.sInt Syntax.w64)) (List._∷_ (14, Rows.whole (Declared.row Line.the-type)) (List._∷_ (15, Rows.sc-here (Row.sInt Syntax.w64)) List.[])))))))))))))))
+t51 = List._∷_ local0 (List._∷_ local1 (List._∷_ local2 (List._∷_ local3 (List._∷_ local4 (List._∷_ local5 (List._∷_ local6 (List._∷_ local7 (List._∷_ local8 (List._∷_ local43 (List._∷_ local44 locals13))))))))))
 
 abbrev pub t52 : List.List Row.Entry
-t52 = List._∷_ (16, Rows.any-gone Syntax.tyBool) (List._∷_ (17, Rows.any-gone (Syntax.tyInt Syntax.w64)) (List._∷_ (18, Rows.any-gone (Syntax.tyRef Syntax.erased Syntax.mut (Syntax.tyArray (Syntax.tyInt Syntax.w32) 32772))) (List._∷_ (19, Rows.any-gone (Syntax.tyRef Syntax.erased Syntax.imm (Syntax.tyArray (Syntax.tyInt Syntax.w32) 32772))) (List._∷_ (20, Rows.any-gone (Syntax.tyRef Syntax.erased Syntax.mut (Syntax.tyArray (Syntax.tyInt Syntax.w8) 16388))) (List._∷_ (21, Rows.any-gone (Syntax.tyRef Syntax.erased Syntax.mut (Syntax.tyArray (Syntax.tyInt Syntax.w32) 65540))) (List._∷_ (22, Rows.any-gone (Syntax.tyRef Syntax.erased Syntax.mut (Syntax.tyArray (Syntax.tyInt Syntax.w32) 32772))) (List._∷_ (23, Rows.any-gone (Syntax.tyRef Syntax.erased Syntax.mut (Syntax.tyArray (Syntax.tyInt Syntax.w32) 32772))) (List._∷_ (24, Rows.any-gone (Syntax.tyRef Syntax.erased Syntax.mut (Syntax.tyArray (Syntax.tyInt Syntax.w32) 262160))) (List._∷_ (25, Rows.any-gone (Syntax.tyRef Syntax.erased Syntax.mut (Syntax.tyArray (Syntax.tyInt Syntax.w8) 600000))) (List._∷_ (26, Rows.mleft (Array.Array Cell.R 65540) (Syntax.tyRef Syntax.erased Syntax.mut (Syntax.tyArray Cell.behind 65540))) (List._∷_ (27, Rows.mleft (Array.Array Cell.R 32772) (Syntax.tyRef Syntax.erased Syntax.mut (Syntax.tyArray Cell.behind 32772))) (List._∷_ (28, Rows.any-gone Syntax.tyUnit) (List._∷_ (29, Rows.any-gone (Syntax.tyInt Syntax.w64)) List.[])))))))))))))
+t52 = List._∷_ local13 (List._∷_ local14 (List._∷_ local15 (List._∷_ local16 (List._∷_ local17 (List._∷_ local18 (List._∷_ local19 (List._∷_ local20 (List._∷_ local21 (List._∷_ local22 locals20)))))))))
 
 abbrev pub t53 : List.List Row.Entry
-t53 = List._∷_ (0, Rows.any-gone Syntax.tyUnit) (List._∷_ (1, Rows.sslice (Referent.rtF (Referent.fInt Syntax.w8)) (Syntax.tyRef (Syntax.named 0) Syntax.imm (Syntax.tyInt Syntax.w8)) 0) (List._∷_ (2, Rows.mref (Array.Array (Referent.rtF (Referent.fInt Syntax.w32)) 32772) (Syntax.tyRef (Syntax.named 1) Syntax.mut (Syntax.tyArray (Syntax.tyInt Syntax.w32) 32772)) 1) (List._∷_ (3, Rows.mref (Array.Array (Referent.rtF (Referent.fInt Syntax.w8)) 16388) (Syntax.tyRef (Syntax.named 2) Syntax.mut (Syntax.tyArray (Syntax.tyInt Syntax.w8) 16388)) 2) (List._∷_ (4, Rows.mref (Array.Array (Referent.rtF (Referent.fInt Syntax.w32)) 65540) (Syntax.tyRef (Syntax.named 3) Syntax.mut (Syntax.tyArray (Syntax.tyInt Syntax.w32) 65540)) 3) (List._∷_ (5, Rows.mref (Array.Array (Referent.rtF (Referent.fInt Syntax.w32)) 32772) (Syntax.tyRef (Syntax.named 4) Syntax.mut (Syntax.tyArray (Syntax.tyInt Syntax.w32) 32772)) 4) (List._∷_ (6, Rows.mref (Array.Array (Referent.rtF (Referent.fInt Syntax.w32)) 32772) (Syntax.tyRef (Syntax.named 5) Syntax.mut (Syntax.tyArray (Syntax.tyInt Syntax.w32) 32772)) 5) (List._∷_ (7, Rows.mref (Array.Array (Referent.rtF (Referent.fInt Syntax.w32)) 262160) (Syntax.tyRef (Syntax.named 6) Syntax.mut (Syntax.tyArray (Syntax.tyInt Syntax.w32) 262160)) 6) (List._∷_ (8, Rows.mref (Array.Array (Referent.rtF (Referent.fInt Syntax.w8)) 600000) (Syntax.tyRef (Syntax.named 7) Syntax.mut (Syntax.tyArray (Syntax.tyInt Syntax.w8) 600000)) 7) (List._∷_ (9, Rows.mref (Array.Array Cell.R 65540) (Syntax.tyRef (Syntax.named 8) Syntax.mut (Syntax.tyArray Cell.behind 65540)) 8) (List._∷_ (10, Rows.mref-owed (Array.Array Cell.R 32772) (Syntax.tyRef (Syntax.named 9) Syntax.mut (Syntax.tyArray Cell.behind 32772)) 9 19 Row.off) (List._∷_ (11, Rows.whole (Declared.row Held.the-type)) (List._∷_ (12, Rows.sc-here (Row.sInt Syntax.w64)) (List._∷_ (13, Rows.sc-here (Row.sInt Syntax.w64)) (List._∷_ (14, Rows.whole (Declared.row Line.the-type)) (List._∷_ (15, Rows.sc-here (Row.sInt Syntax.w64)) List.[])))))))))))))))
+t53 = List._∷_ local0 (List._∷_ local1 (List._∷_ local2 (List._∷_ local3 (List._∷_ local4 (List._∷_ local5 (List._∷_ local6 (List._∷_ local7 (List._∷_ local8 (List._∷_ local9 (List._∷_ local44 locals13))))))))))
 
 abbrev pub t54 : List.List Row.Entry
-t54 = List._∷_ (16, Rows.any-gone Syntax.tyBool) (List._∷_ (17, Rows.any-gone (Syntax.tyInt Syntax.w64)) (List._∷_ (18, Rows.any-gone (Syntax.tyRef Syntax.erased Syntax.mut (Syntax.tyArray (Syntax.tyInt Syntax.w32) 32772))) (List._∷_ (19, Rows.any-gone (Syntax.tyRef Syntax.erased Syntax.imm (Syntax.tyArray (Syntax.tyInt Syntax.w32) 32772))) (List._∷_ (20, Rows.any-gone (Syntax.tyRef Syntax.erased Syntax.mut (Syntax.tyArray (Syntax.tyInt Syntax.w8) 16388))) (List._∷_ (21, Rows.any-gone (Syntax.tyRef Syntax.erased Syntax.mut (Syntax.tyArray (Syntax.tyInt Syntax.w32) 65540))) (List._∷_ (22, Rows.any-gone (Syntax.tyRef Syntax.erased Syntax.mut (Syntax.tyArray (Syntax.tyInt Syntax.w32) 32772))) (List._∷_ (23, Rows.any-gone (Syntax.tyRef Syntax.erased Syntax.mut (Syntax.tyArray (Syntax.tyInt Syntax.w32) 32772))) (List._∷_ (24, Rows.any-gone (Syntax.tyRef Syntax.erased Syntax.mut (Syntax.tyArray (Syntax.tyInt Syntax.w32) 262160))) (List._∷_ (25, Rows.any-gone (Syntax.tyRef Syntax.erased Syntax.mut (Syntax.tyArray (Syntax.tyInt Syntax.w8) 600000))) (List._∷_ (26, Rows.any-gone (Syntax.tyRef Syntax.erased Syntax.mut (Syntax.tyArray Cell.behind 65540))) (List._∷_ (27, Rows.mleft (Array.Array Cell.R 32772) (Syntax.tyRef Syntax.erased Syntax.mut (Syntax.tyArray Cell.behind 32772))) (List._∷_ (28, Rows.any-gone Syntax.tyUnit) (List._∷_ (29, Rows.any-gone (Syntax.tyInt Syntax.w64)) List.[])))))))))))))
+t54 = List._∷_ local13 (List._∷_ local14 (List._∷_ local15 (List._∷_ local16 (List._∷_ local17 (List._∷_ local18 (List._∷_ local19 (List._∷_ local20 (List._∷_ local21 (List._∷_ local22 (List._∷_ local23 (List._∷_ (27, Rows.mleft held8 ty19) locals3)))))))))))
 
 abbrev pub t55 : List.List Row.Entry
-t55 = List._∷_ (0, Rows.any-gone Syntax.tyUnit) (List._∷_ (1, Rows.sslice (Referent.rtF (Referent.fInt Syntax.w8)) (Syntax.tyRef (Syntax.named 0) Syntax.imm (Syntax.tyInt Syntax.w8)) 0) (List._∷_ (2, Rows.mref (Array.Array (Referent.rtF (Referent.fInt Syntax.w32)) 32772) (Syntax.tyRef (Syntax.named 1) Syntax.mut (Syntax.tyArray (Syntax.tyInt Syntax.w32) 32772)) 1) (List._∷_ (3, Rows.mref (Array.Array (Referent.rtF (Referent.fInt Syntax.w8)) 16388) (Syntax.tyRef (Syntax.named 2) Syntax.mut (Syntax.tyArray (Syntax.tyInt Syntax.w8) 16388)) 2) (List._∷_ (4, Rows.mref (Array.Array (Referent.rtF (Referent.fInt Syntax.w32)) 65540) (Syntax.tyRef (Syntax.named 3) Syntax.mut (Syntax.tyArray (Syntax.tyInt Syntax.w32) 65540)) 3) (List._∷_ (5, Rows.mref (Array.Array (Referent.rtF (Referent.fInt Syntax.w32)) 32772) (Syntax.tyRef (Syntax.named 4) Syntax.mut (Syntax.tyArray (Syntax.tyInt Syntax.w32) 32772)) 4) (List._∷_ (6, Rows.mref (Array.Array (Referent.rtF (Referent.fInt Syntax.w32)) 32772) (Syntax.tyRef (Syntax.named 5) Syntax.mut (Syntax.tyArray (Syntax.tyInt Syntax.w32) 32772)) 5) (List._∷_ (7, Rows.mref (Array.Array (Referent.rtF (Referent.fInt Syntax.w32)) 262160) (Syntax.tyRef (Syntax.named 6) Syntax.mut (Syntax.tyArray (Syntax.tyInt Syntax.w32) 262160)) 6) (List._∷_ (8, Rows.mref (Array.Array (Referent.rtF (Referent.fInt Syntax.w8)) 600000) (Syntax.tyRef (Syntax.named 7) Syntax.mut (Syntax.tyArray (Syntax.tyInt Syntax.w8) 600000)) 7) (List._∷_ (9, Rows.mref (Array.Array Cell.R 65540) (Syntax.tyRef (Syntax.named 8) Syntax.mut (Syntax.tyArray Cell.behind 65540)) 8) (List._∷_ (10, Rows.mref (Array.Array Cell.R 32772) (Syntax.tyRef (Syntax.named 9) Syntax.mut (Syntax.tyArray Cell.behind 32772)) 9) (List._∷_ (11, Rows.whole (Declared.row Held.the-type)) (List._∷_ (12, Rows.any-gone (Syntax.tyInt Syntax.w64)) (List._∷_ (13, Rows.sc-here (Row.sInt Syntax.w64)) (List._∷_ (14, Rows.whole (Declared.row Line.the-type)) (List._∷_ (15, Rows.sc-here (Row.sInt Syntax.w64)) List.[])))))))))))))))
+t55 = List._∷_ local0 (List._∷_ local1 (List._∷_ local2 (List._∷_ local3 (List._∷_ local4 (List._∷_ local5 (List._∷_ local6 (List._∷_ local7 (List._∷_ local8 (List._∷_ local9 (List._∷_ local10 (List._∷_ local26 (List._∷_ local12 locals12))))))))))))
 
 abbrev pub t56 : List.List Row.Entry
-t56 = List._∷_ (0, Rows.any-gone Syntax.tyUnit) (List._∷_ (1, Rows.sslice (Referent.rtF (Referent.fInt Syntax.w8)) (Syntax.tyRef (Syntax.named 0) Syntax.imm (Syntax.tyInt Syntax.w8)) 0) (List._∷_ (2, Rows.mref (Array.Array (Referent.rtF (Referent.fInt Syntax.w32)) 32772) (Syntax.tyRef (Syntax.named 1) Syntax.mut (Syntax.tyArray (Syntax.tyInt Syntax.w32) 32772)) 1) (List._∷_ (3, Rows.mref (Array.Array (Referent.rtF (Referent.fInt Syntax.w8)) 16388) (Syntax.tyRef (Syntax.named 2) Syntax.mut (Syntax.tyArray (Syntax.tyInt Syntax.w8) 16388)) 2) (List._∷_ (4, Rows.mref (Array.Array (Referent.rtF (Referent.fInt Syntax.w32)) 65540) (Syntax.tyRef (Syntax.named 3) Syntax.mut (Syntax.tyArray (Syntax.tyInt Syntax.w32) 65540)) 3) (List._∷_ (5, Rows.mref (Array.Array (Referent.rtF (Referent.fInt Syntax.w32)) 32772) (Syntax.tyRef (Syntax.named 4) Syntax.mut (Syntax.tyArray (Syntax.tyInt Syntax.w32) 32772)) 4) (List._∷_ (6, Rows.mref (Array.Array (Referent.rtF (Referent.fInt Syntax.w32)) 32772) (Syntax.tyRef (Syntax.named 5) Syntax.mut (Syntax.tyArray (Syntax.tyInt Syntax.w32) 32772)) 5) (List._∷_ (7, Rows.mref (Array.Array (Referent.rtF (Referent.fInt Syntax.w32)) 262160) (Syntax.tyRef (Syntax.named 6) Syntax.mut (Syntax.tyArray (Syntax.tyInt Syntax.w32) 262160)) 6) (List._∷_ (8, Rows.mref (Array.Array (Referent.rtF (Referent.fInt Syntax.w8)) 600000) (Syntax.tyRef (Syntax.named 7) Syntax.mut (Syntax.tyArray (Syntax.tyInt Syntax.w8) 600000)) 7) (List._∷_ (9, Rows.mref (Array.Array Cell.R 65540) (Syntax.tyRef (Syntax.named 8) Syntax.mut (Syntax.tyArray Cell.behind 65540)) 8) (List._∷_ (10, Rows.mref (Array.Array Cell.R 32772) (Syntax.tyRef (Syntax.named 9) Syntax.mut (Syntax.tyArray Cell.behind 32772)) 9) (List._∷_ (11, Rows.any-gone (Syntax.tyStruct (List._∷_ 122 (List._∷_ 111 (List._∷_ 110 (List._∷_ 101 (List._∷_ 115 (List._∷_ 58 (List._∷_ 58 (List._∷_ 104 (List._∷_ 101 (List._∷_ 108 (List._∷_ 100 (List._∷_ 58 (List._∷_ 58 (List._∷_ 72 (List._∷_ 101 (List._∷_ 108 (List._∷_ 100 List.[]))))))))))))))))) (Syntax.tcons (Syntax.tyStruct (List._∷_ 112 (List._∷_ 121 (List._∷_ 114 (List._∷_ 97 (List._∷_ 109 (List._∷_ 105 (List._∷_ 100 (List._∷_ 58 (List._∷_ 58 (List._∷_ 83 (List._∷_ 116 (List._∷_ 97 (List._∷_ 116 (List._∷_ 101 List.[])))))))))))))) (Syntax.tcons (Syntax.tyInt Syntax.w32) (Syntax.tcons (Syntax.tyInt Syntax.w32) (Syntax.tcons (Syntax.tyInt Syntax.w32) (Syntax.tcons (Syntax.tyInt Syntax.w32) (Syntax.tcons (Syntax.tyInt Syntax.w32) (Syntax.tcons (Syntax.tyArray (Syntax.tyInt Syntax.w32) 64) Syntax.tnil))))))) (Syntax.tcons (Syntax.tyInt Syntax.w64) (Syntax.tcons (Syntax.tyInt Syntax.w64) (Syntax.tcons (Syntax.tyInt Syntax.w64) (Syntax.tcons (Syntax.tyInt Syntax.w64) (Syntax.tcons (Syntax.tyInt Syntax.w64) (Syntax.tcons (Syntax.tyInt Syntax.w64) (Syntax.tcons Syntax.tyBool Syntax.tnil)))))))))) (List._∷_ (12, Rows.sc-here (Row.sInt Syntax.w64)) (List._∷_ (13, Rows.sc-here (Row.sInt Syntax.w64)) (List._∷_ (14, Rows.whole (Declared.row Line.the-type)) (List._∷_ (15, Rows.sc-here (Row.sInt Syntax.w64)) List.[])))))))))))))))
+t56 = List._∷_ local0 (List._∷_ local1 (List._∷_ local2 (List._∷_ local3 (List._∷_ local4 (List._∷_ local5 (List._∷_ local6 (List._∷_ local7 (List._∷_ local8 (List._∷_ local9 (List._∷_ local10 (List._∷_ local11 (List._∷_ local27 locals12))))))))))))
 
 abbrev pub t57 : List.List Row.Entry
-t57 = List._∷_ (16, Rows.any-gone Syntax.tyBool) (List._∷_ (17, Rows.any-gone (Syntax.tyInt Syntax.w64)) (List._∷_ (18, Rows.any-gone (Syntax.tyRef Syntax.erased Syntax.mut (Syntax.tyArray (Syntax.tyInt Syntax.w32) 32772))) (List._∷_ (19, Rows.any-gone (Syntax.tyRef Syntax.erased Syntax.imm (Syntax.tyArray (Syntax.tyInt Syntax.w32) 32772))) (List._∷_ (20, Rows.any-gone (Syntax.tyRef Syntax.erased Syntax.mut (Syntax.tyArray (Syntax.tyInt Syntax.w8) 16388))) (List._∷_ (21, Rows.any-gone (Syntax.tyRef Syntax.erased Syntax.mut (Syntax.tyArray (Syntax.tyInt Syntax.w32) 65540))) (List._∷_ (22, Rows.any-gone (Syntax.tyRef Syntax.erased Syntax.mut (Syntax.tyArray (Syntax.tyInt Syntax.w32) 32772))) (List._∷_ (23, Rows.any-gone (Syntax.tyRef Syntax.erased Syntax.mut (Syntax.tyArray (Syntax.tyInt Syntax.w32) 32772))) (List._∷_ (24, Rows.any-gone (Syntax.tyRef Syntax.erased Syntax.mut (Syntax.tyArray (Syntax.tyInt Syntax.w32) 262160))) (List._∷_ (25, Rows.any-gone (Syntax.tyRef Syntax.erased Syntax.mut (Syntax.tyArray (Syntax.tyInt Syntax.w8) 600000))) (List._∷_ (26, Rows.any-gone (Syntax.tyRef Syntax.erased Syntax.mut (Syntax.tyArray Cell.behind 65540))) (List._∷_ (27, Rows.any-gone (Syntax.tyRef Syntax.erased Syntax.mut (Syntax.tyArray Cell.behind 32772))) (List._∷_ (28, Rows.any-gone Syntax.tyUnit) (List._∷_ (29, Rows.sc-here (Row.sInt Syntax.w64)) List.[])))))))))))))
+t57 = List._∷_ local13 (List._∷_ local14 (List._∷_ local15 (List._∷_ local16 (List._∷_ local17 (List._∷_ local18 (List._∷_ local19 (List._∷_ local20 (List._∷_ local21 (List._∷_ local22 (List._∷_ local23 (List._∷_ local24 (List._∷_ (28, Rows.any-gone Syntax.tyUnit) (List._∷_ (29, Rows.sc-here sc0) List.[])))))))))))))
 
 abbrev pub t58 : List.List Row.Entry
-t58 = List._∷_ (16, Rows.any-gone Syntax.tyBool) (List._∷_ (17, Rows.any-gone (Syntax.tyInt Syntax.w64)) (List._∷_ (18, Rows.any-gone (Syntax.tyRef Syntax.erased Syntax.mut (Syntax.tyArray (Syntax.tyInt Syntax.w32) 32772))) (List._∷_ (19, Rows.any-gone (Syntax.tyRef Syntax.erased Syntax.imm (Syntax.tyArray (Syntax.tyInt Syntax.w32) 32772))) (List._∷_ (20, Rows.any-gone (Syntax.tyRef Syntax.erased Syntax.mut (Syntax.tyArray (Syntax.tyInt Syntax.w8) 16388))) (List._∷_ (21, Rows.any-gone (Syntax.tyRef Syntax.erased Syntax.mut (Syntax.tyArray (Syntax.tyInt Syntax.w32) 65540))) (List._∷_ (22, Rows.any-gone (Syntax.tyRef Syntax.erased Syntax.mut (Syntax.tyArray (Syntax.tyInt Syntax.w32) 32772))) (List._∷_ (23, Rows.any-gone (Syntax.tyRef Syntax.erased Syntax.mut (Syntax.tyArray (Syntax.tyInt Syntax.w32) 32772))) (List._∷_ (24, Rows.any-gone (Syntax.tyRef Syntax.erased Syntax.mut (Syntax.tyArray (Syntax.tyInt Syntax.w32) 262160))) (List._∷_ (25, Rows.any-gone (Syntax.tyRef Syntax.erased Syntax.mut (Syntax.tyArray (Syntax.tyInt Syntax.w8) 600000))) (List._∷_ (26, Rows.any-gone (Syntax.tyRef Syntax.erased Syntax.mut (Syntax.tyArray Cell.behind 65540))) (List._∷_ (27, Rows.any-gone (Syntax.tyRef Syntax.erased Syntax.mut (Syntax.tyArray Cell.behind 32772))) (List._∷_ (28, Rows.sc-here Row.sUnit) (List._∷_ (29, Rows.sc-here (Row.sInt Syntax.w64)) List.[])))))))))))))
+t58 = List._∷_ local13 (List._∷_ local14 (List._∷_ local15 (List._∷_ local16 (List._∷_ local17 (List._∷_ local18 (List._∷_ local19 (List._∷_ local20 (List._∷_ local21 (List._∷_ local22 (List._∷_ local23 (List._∷_ local24 (List._∷_ (28, Rows.sc-here Row.sUnit) (List._∷_ (29, Rows.sc-here sc0) List.[])))))))))))))
 
 abbrev pub t59 : List.List Row.Entry
-t59 = List._∷_ (0, Rows.sc-here Row.sUnit) (List._∷_ (1, Rows.sslice (Referent.rtF (Referent.fInt Syntax.w8)) (Syntax.tyRef (Syntax.named 0) Syntax.imm (Syntax.tyInt Syntax.w8)) 0) (List._∷_ (2, Rows.mref (Array.Array (Referent.rtF (Referent.fInt Syntax.w32)) 32772) (Syntax.tyRef (Syntax.named 1) Syntax.mut (Syntax.tyArray (Syntax.tyInt Syntax.w32) 32772)) 1) (List._∷_ (3, Rows.mref (Array.Array (Referent.rtF (Referent.fInt Syntax.w8)) 16388) (Syntax.tyRef (Syntax.named 2) Syntax.mut (Syntax.tyArray (Syntax.tyInt Syntax.w8) 16388)) 2) (List._∷_ (4, Rows.mref (Array.Array (Referent.rtF (Referent.fInt Syntax.w32)) 65540) (Syntax.tyRef (Syntax.named 3) Syntax.mut (Syntax.tyArray (Syntax.tyInt Syntax.w32) 65540)) 3) (List._∷_ (5, Rows.mref (Array.Array (Referent.rtF (Referent.fInt Syntax.w32)) 32772) (Syntax.tyRef (Syntax.named 4) Syntax.mut (Syntax.tyArray (Syntax.tyInt Syntax.w32) 32772)) 4) (List._∷_ (6, Rows.mref (Array.Array (Referent.rtF (Referent.fInt Syntax.w32)) 32772) (Syntax.tyRef (Syntax.named 5) Syntax.mut (Syntax.tyArray (Syntax.tyInt Syntax.w32) 32772)) 5) (List._∷_ (7, Rows.mref (Array.Array (Referent.rtF (Referent.fInt Syntax.w32)) 262160) (Syntax.tyRef (Syntax.named 6) Syntax.mut (Syntax.tyArray (Syntax.tyInt Syntax.w32) 262160)) 6) (List._∷_ (8, Rows.mref (Array.Array (Referent.rtF (Referent.fInt Syntax.w8)) 600000) (Syntax.tyRef (Syntax.named 7) Syntax.mut (Syntax.tyArray (Syntax.tyInt Syntax.w8) 600000)) 7) (List._∷_ (9, Rows.mref (Array.Array Cell.R 65540) (Syntax.tyRef (Syntax.named 8) Syntax.mut (Syntax.tyArray Cell.behind 65540)) 8) (List._∷_ (10, Rows.mref (Array.Array Cell.R 32772) (Syntax.tyRef (Syntax.named 9) Syntax.mut (Syntax.tyArray Cell.behind 32772)) 9) (List._∷_ (11, Rows.any-gone (Syntax.tyStruct (List._∷_ 122 (List._∷_ 111 (List._∷_ 110 (List._∷_ 101 (List._∷_ 115 (List._∷_ 58 (List._∷_ 58 (List._∷_ 104 (List._∷_ 101 (List._∷_ 108 (List._∷_ 100 (List._∷_ 58 (List._∷_ 58 (List._∷_ 72 (List._∷_ 101 (List._∷_ 108 (List._∷_ 100 List.[]))))))))))))))))) (Syntax.tcons (Syntax.tyStruct (List._∷_ 112 (List._∷_ 121 (List._∷_ 114 (List._∷_ 97 (List._∷_ 109 (List._∷_ 105 (List._∷_ 100 (List._∷_ 58 (List._∷_ 58 (List._∷_ 83 (List._∷_ 116 (List._∷_ 97 (List._∷_ 116 (List._∷_ 101 List.[])))))))))))))) (Syntax.tcons (Syntax.tyInt Syntax.w32) (Syntax.tcons (Syntax.tyInt Syntax.w32) (Syntax.tcons (Syntax.tyInt Syntax.w32) (Syntax.tcons (Syntax.tyInt Syntax.w32) (Syntax.tcons (Syntax.tyInt Syntax.w32) (Syntax.tcons (Syntax.tyArray (Syntax.tyInt Syntax.w32) 64) Syntax.tnil))))))) (Syntax.tcons (Syntax.tyInt Syntax.w64) (Syntax.tcons (Syntax.tyInt Syntax.w64) (Syntax.tcons (Syntax.tyInt Syntax.w64) (Syntax.tcons (Syntax.tyInt Syntax.w64) (Syntax.tcons (Syntax.tyInt Syntax.w64) (Syntax.tcons (Syntax.tyInt Syntax.w64) (Syntax.tcons Syntax.tyBool Syntax.tnil)))))))))) (List._∷_ (12, Rows.sc-here (Row.sInt Syntax.w64)) (List._∷_ (13, Rows.any-gone (Syntax.tyInt Syntax.w64)) (List._∷_ (14, Rows.any-gone (Syntax.tyStruct (List._∷_ 115 (List._∷_ 99 (List._∷_ 114 (List._∷_ 105 (List._∷_ 112 (List._∷_ 116 (List._∷_ 58 (List._∷_ 58 (List._∷_ 115 (List._∷_ 99 (List._∷_ 97 (List._∷_ 110 (List._∷_ 58 (List._∷_ 58 (List._∷_ 76 (List._∷_ 105 (List._∷_ 110 (List._∷_ 101 List.[])))))))))))))))))) (Syntax.tcons (Syntax.tyInt Syntax.w32) (Syntax.tcons (Syntax.tyInt Syntax.w64) (Syntax.tcons (Syntax.tyInt Syntax.w64) (Syntax.tcons (Syntax.tyInt Syntax.w64) (Syntax.tcons (Syntax.tyInt Syntax.w64) Syntax.tnil))))))) (List._∷_ (15, Rows.any-gone (Syntax.tyInt Syntax.w64)) List.[])))))))))))))))
+t59 = List._∷_ local25 locals10
 
 abbrev pub T0 : Row.Cx
 T0 = record { locals = List._++_ t0 t1; slots = List.[] }
@@ -713,59 +1131,59 @@ abbrev pub O6 : Typed.Outs
 O6 = Typed.withNext (Option.some T80) O3
 
 abbrev pub InvT-loop : Type 1
-InvT-loop = List.List (Referent.rtF (Referent.fInt Syntax.w8) .Denot) → Array.Array (Referent.rtF (Referent.fInt Syntax.w32)) 32772 .Denot → Array.Array (Referent.rtF (Referent.fInt Syntax.w8)) 16388 .Denot → Array.Array (Referent.rtF (Referent.fInt Syntax.w32)) 65540 .Denot → Array.Array (Referent.rtF (Referent.fInt Syntax.w32)) 32772 .Denot → Array.Array (Referent.rtF (Referent.fInt Syntax.w32)) 32772 .Denot → Array.Array (Referent.rtF (Referent.fInt Syntax.w32)) 262160 .Denot → Array.Array (Referent.rtF (Referent.fInt Syntax.w8)) 600000 .Denot → Array.Array Cell.R 65540 .Denot → Array.Array Cell.R 32772 .Denot → Rows.whole (Declared.row Held.the-type) .Mod → Rows.sc-here (Row.sInt Syntax.w64) .Mod → Rows.sc-here (Row.sInt Syntax.w64) .Mod → Rows.sc-here (Row.sInt Syntax.w64) .Mod → Array.Array (Referent.rtF (Referent.fInt Syntax.w32)) 32772 .Denot → Array.Array (Referent.rtF (Referent.fInt Syntax.w8)) 16388 .Denot → Array.Array (Referent.rtF (Referent.fInt Syntax.w32)) 65540 .Denot → Array.Array (Referent.rtF (Referent.fInt Syntax.w32)) 32772 .Denot → Array.Array (Referent.rtF (Referent.fInt Syntax.w32)) 32772 .Denot → Array.Array (Referent.rtF (Referent.fInt Syntax.w32)) 262160 .Denot → Array.Array (Referent.rtF (Referent.fInt Syntax.w8)) 600000 .Denot → Array.Array Cell.R 65540 .Denot → Array.Array Cell.R 32772 .Denot → Rows.whole (Declared.row Held.the-type) .Mod → Rows.sc-here (Row.sInt Syntax.w64) .Mod → Rows.sc-here (Row.sInt Syntax.w64) .Mod → Type 0
+InvT-loop = List.List (Referent.rtF rf0 .Denot) → Array.Array held1 32772 .Denot → Array.Array held0 16388 .Denot → Array.Array held1 65540 .Denot → Array.Array held1 32772 .Denot → Array.Array held1 32772 .Denot → Array.Array held1 262160 .Denot → Array.Array held0 600000 .Denot → Array.Array Cell.R 65540 .Denot → Array.Array Cell.R 32772 .Denot → Rows.whole held9 .Mod → Rows.sc-here sc0 .Mod → Rows.sc-here sc0 .Mod → Rows.sc-here sc0 .Mod → Array.Array held1 32772 .Denot → Array.Array held0 16388 .Denot → Array.Array held1 65540 .Denot → Array.Array held1 32772 .Denot → Array.Array held1 32772 .Denot → Array.Array held1 262160 .Denot → Array.Array held0 600000 .Denot → Array.Array Cell.R 65540 .Denot → Array.Array Cell.R 32772 .Denot → Rows.whole held9 .Mod → Rows.sc-here sc0 .Mod → Rows.sc-here sc0 .Mod → Type 0
 
 abbrev pub MeasureT-loop : Type 0
-MeasureT-loop = List.List (Referent.rtF (Referent.fInt Syntax.w8) .Denot) → Array.Array (Referent.rtF (Referent.fInt Syntax.w32)) 32772 .Denot → Array.Array (Referent.rtF (Referent.fInt Syntax.w8)) 16388 .Denot → Array.Array (Referent.rtF (Referent.fInt Syntax.w32)) 65540 .Denot → Array.Array (Referent.rtF (Referent.fInt Syntax.w32)) 32772 .Denot → Array.Array (Referent.rtF (Referent.fInt Syntax.w32)) 32772 .Denot → Array.Array (Referent.rtF (Referent.fInt Syntax.w32)) 262160 .Denot → Array.Array (Referent.rtF (Referent.fInt Syntax.w8)) 600000 .Denot → Array.Array Cell.R 65540 .Denot → Array.Array Cell.R 32772 .Denot → Rows.whole (Declared.row Held.the-type) .Mod → Rows.sc-here (Row.sInt Syntax.w64) .Mod → Rows.sc-here (Row.sInt Syntax.w64) .Mod → Rows.sc-here (Row.sInt Syntax.w64) .Mod → Array.Array (Referent.rtF (Referent.fInt Syntax.w32)) 32772 .Denot → Array.Array (Referent.rtF (Referent.fInt Syntax.w8)) 16388 .Denot → Array.Array (Referent.rtF (Referent.fInt Syntax.w32)) 65540 .Denot → Array.Array (Referent.rtF (Referent.fInt Syntax.w32)) 32772 .Denot → Array.Array (Referent.rtF (Referent.fInt Syntax.w32)) 32772 .Denot → Array.Array (Referent.rtF (Referent.fInt Syntax.w32)) 262160 .Denot → Array.Array (Referent.rtF (Referent.fInt Syntax.w8)) 600000 .Denot → Array.Array Cell.R 65540 .Denot → Array.Array Cell.R 32772 .Denot → Rows.whole (Declared.row Held.the-type) .Mod → Rows.sc-here (Row.sInt Syntax.w64) .Mod → Rows.sc-here (Row.sInt Syntax.w64) .Mod → Nat.ℕ
+MeasureT-loop = List.List (Referent.rtF rf0 .Denot) → Array.Array held1 32772 .Denot → Array.Array held0 16388 .Denot → Array.Array held1 65540 .Denot → Array.Array held1 32772 .Denot → Array.Array held1 32772 .Denot → Array.Array held1 262160 .Denot → Array.Array held0 600000 .Denot → Array.Array Cell.R 65540 .Denot → Array.Array Cell.R 32772 .Denot → Rows.whole held9 .Mod → Rows.sc-here sc0 .Mod → Rows.sc-here sc0 .Mod → Rows.sc-here sc0 .Mod → Array.Array held1 32772 .Denot → Array.Array held0 16388 .Denot → Array.Array held1 65540 .Denot → Array.Array held1 32772 .Denot → Array.Array held1 32772 .Denot → Array.Array held1 262160 .Denot → Array.Array held0 600000 .Denot → Array.Array Cell.R 65540 .Denot → Array.Array Cell.R 32772 .Denot → Rows.whole held9 .Mod → Rows.sc-here sc0 .Mod → Rows.sc-here sc0 .Mod → Nat.ℕ
 
 module _ (claims· : Claims) where
   abbrev s0 : Typed.Gives T0 T2
-  s0 = Know.k-shs-known (Referent.fInt Syntax.w8) T0 1 0 (Syntax.tyRef (Syntax.named 0) Syntax.imm (Syntax.tyInt Syntax.w8)) Row.off 0 λ x. x
+  s0 = Know.k-shs-known rf0 T0 1 0 ty20 Row.off 0 λ x. x
 
   abbrev s1 : Typed.Both T2 T3
-  s1 = Call.callB ps·0 r·0 (claims· .0) (claims· .1) T2 tt 11 List.[] (Syntax.tyStruct (List._∷_ 122 (List._∷_ 111 (List._∷_ 110 (List._∷_ 101 (List._∷_ 115 (List._∷_ 58 (List._∷_ 58 (List._∷_ 104 (List._∷_ 101 (List._∷_ 108 (List._∷_ 100 (List._∷_ 58 (List._∷_ 58 (List._∷_ 72 (List._∷_ 101 (List._∷_ 108 (List._∷_ 100 List.[]))))))))))))))))) (Syntax.tcons (Syntax.tyStruct (List._∷_ 112 (List._∷_ 121 (List._∷_ 114 (List._∷_ 97 (List._∷_ 109 (List._∷_ 105 (List._∷_ 100 (List._∷_ 58 (List._∷_ 58 (List._∷_ 83 (List._∷_ 116 (List._∷_ 97 (List._∷_ 116 (List._∷_ 101 List.[])))))))))))))) (Syntax.tcons (Syntax.tyInt Syntax.w32) (Syntax.tcons (Syntax.tyInt Syntax.w32) (Syntax.tcons (Syntax.tyInt Syntax.w32) (Syntax.tcons (Syntax.tyInt Syntax.w32) (Syntax.tcons (Syntax.tyInt Syntax.w32) (Syntax.tcons (Syntax.tyArray (Syntax.tyInt Syntax.w32) 64) Syntax.tnil))))))) (Syntax.tcons (Syntax.tyInt Syntax.w64) (Syntax.tcons (Syntax.tyInt Syntax.w64) (Syntax.tcons (Syntax.tyInt Syntax.w64) (Syntax.tcons (Syntax.tyInt Syntax.w64) (Syntax.tcons (Syntax.tyInt Syntax.w64) (Syntax.tcons (Syntax.tyInt Syntax.w64) (Syntax.tcons Syntax.tyBool Syntax.tnil)))))))))
+  s1 = Call.callB ps·0 r·0 (claims· .0) (claims· .1) T2 tt 11 List.[] ty2
 
   abbrev s2 : Typed.Mo T3 → Typed.Mo T4
-  s2 = Scalar.n-use T3 (Scalar.oInt Syntax.w64 0) 12 (Rows.sc-here (Row.sInt Syntax.w64)) (Row.sInt Syntax.w64 .of)
+  s2 = Scalar.n-use T3 (Scalar.oInt Syntax.w64 0) 12 (Rows.sc-here sc0) (Row.sInt Syntax.w64 .of)
 
   abbrev s3 : Typed.Mo T4 → Typed.Mo T5
-  s3 = Scalar.n-use T4 (Scalar.oInt Syntax.w64 0) 13 (Rows.sc-here (Row.sInt Syntax.w64)) (Row.sInt Syntax.w64 .of)
+  s3 = Scalar.n-use T4 (Scalar.oInt Syntax.w64 0) 13 (Rows.sc-here sc0) (Row.sInt Syntax.w64 .of)
 
   abbrev s4 : Typed.Mo T5 → Typed.Mo T6
-  s4 = Scalar.n-use T5 (Scalar.oFld 1 (List._∷_ (Syntax.field 1) List.[]) (Syntax.tyInt Syntax.w64) 8 Shared.lenV) 15 (Rows.sc-here (Row.sInt Syntax.w64)) (Row.sInt Syntax.w64 .of)
+  s4 = Scalar.n-use T5 (Scalar.oFld 1 steps0 ty1 8 Shared.lenV) 15 (Rows.sc-here sc0) (Row.sInt Syntax.w64 .of)
 
   abbrev s5 : Typed.Asks T6 T8
-  s5 = Scalar.k-op2 T6 (Syntax.lt Syntax.unsigned) (Scalar.oAt 13 (Syntax.tyInt Syntax.w64) (Row.valS (Row.sInt Syntax.w64))) (Scalar.oAt 15 (Syntax.tyInt Syntax.w64) (Row.valS (Row.sInt Syntax.w64))) 16 (Rows.sc-here Row.sBool) (Row.sBool .of)
+  s5 = Scalar.k-op2 T6 (Syntax.lt Syntax.unsigned) (Scalar.oAt 13 ty1 (Row.valS sc0)) (Scalar.oAt 15 ty1 (Row.valS sc0)) 16 (Rows.sc-here Row.sBool) (Row.sBool .of)
 
   abbrev s6 : Typed.Mo T8 → Typed.Mo T10
   s6 = Scalar.n-room T8 16 Syntax.tyBool
 
   abbrev s7 : Typed.Mo T8 → Typed.Mo T11
-  s7 = Scalar.n-room T8 11 (Syntax.tyStruct (List._∷_ 122 (List._∷_ 111 (List._∷_ 110 (List._∷_ 101 (List._∷_ 115 (List._∷_ 58 (List._∷_ 58 (List._∷_ 104 (List._∷_ 101 (List._∷_ 108 (List._∷_ 100 (List._∷_ 58 (List._∷_ 58 (List._∷_ 72 (List._∷_ 101 (List._∷_ 108 (List._∷_ 100 List.[]))))))))))))))))) (Syntax.tcons (Syntax.tyStruct (List._∷_ 112 (List._∷_ 121 (List._∷_ 114 (List._∷_ 97 (List._∷_ 109 (List._∷_ 105 (List._∷_ 100 (List._∷_ 58 (List._∷_ 58 (List._∷_ 83 (List._∷_ 116 (List._∷_ 97 (List._∷_ 116 (List._∷_ 101 List.[])))))))))))))) (Syntax.tcons (Syntax.tyInt Syntax.w32) (Syntax.tcons (Syntax.tyInt Syntax.w32) (Syntax.tcons (Syntax.tyInt Syntax.w32) (Syntax.tcons (Syntax.tyInt Syntax.w32) (Syntax.tcons (Syntax.tyInt Syntax.w32) (Syntax.tcons (Syntax.tyArray (Syntax.tyInt Syntax.w32) 64) Syntax.tnil))))))) (Syntax.tcons (Syntax.tyInt Syntax.w64) (Syntax.tcons (Syntax.tyInt Syntax.w64) (Syntax.tcons (Syntax.tyInt Syntax.w64) (Syntax.tcons (Syntax.tyInt Syntax.w64) (Syntax.tcons (Syntax.tyInt Syntax.w64) (Syntax.tcons (Syntax.tyInt Syntax.w64) (Syntax.tcons Syntax.tyBool Syntax.tnil)))))))))
+  s7 = Scalar.n-room T8 11 ty2
 
   abbrev s8 : Typed.Mo T11 → Typed.Mo T12
-  s8 = Scalar.n-room T11 15 (Syntax.tyInt Syntax.w64)
+  s8 = Scalar.n-room T11 15 ty1
 
   abbrev s9 : Typed.Mo T12 → Typed.Mo T13
   s9 = Scalar.n-room T12 16 Syntax.tyBool
 
   abbrev s10 : Typed.Mo T13 → Typed.Mo T14
-  s10 = Scalar.n-room T13 13 (Syntax.tyInt Syntax.w64)
+  s10 = Scalar.n-room T13 13 ty1
 
   abbrev s11 : Typed.Mo T9 → Typed.Mo T15
-  s11 = Scalar.n-use T9 (Scalar.oFld 1 (List._∷_ (Syntax.field 1) List.[]) (Syntax.tyInt Syntax.w64) 8 Shared.lenV) 17 (Rows.sc-here (Row.sInt Syntax.w64)) (Row.sInt Syntax.w64 .of)
+  s11 = Scalar.n-use T9 (Scalar.oFld 1 steps0 ty1 8 Shared.lenV) 17 (Rows.sc-here sc0) (Row.sInt Syntax.w64 .of)
 
   abbrev s12 : Typed.Asks T15 T16
-  s12 = Scalar.k-op2 T15 Syntax.eq (Scalar.oAt 12 (Syntax.tyInt Syntax.w64) (Row.valS (Row.sInt Syntax.w64))) (Scalar.oAt 17 (Syntax.tyInt Syntax.w64) (Row.valS (Row.sInt Syntax.w64))) 16 (Rows.sc-here Row.sBool) (Row.sBool .of)
+  s12 = Scalar.k-op2 T15 Syntax.eq (Scalar.oAt 12 ty1 (Row.valS sc0)) (Scalar.oAt 17 ty1 (Row.valS sc0)) 16 (Rows.sc-here Row.sBool) (Row.sBool .of)
 
   abbrev s13 : Typed.Mo T16 → Typed.Mo T18
-  s13 = Scalar.n-room T16 17 (Syntax.tyInt Syntax.w64)
+  s13 = Scalar.n-room T16 17 ty1
 
   abbrev s14 : Typed.Mo T18 → Typed.Mo T19
-  s14 = Scalar.n-room T18 11 (Syntax.tyStruct (List._∷_ 122 (List._∷_ 111 (List._∷_ 110 (List._∷_ 101 (List._∷_ 115 (List._∷_ 58 (List._∷_ 58 (List._∷_ 104 (List._∷_ 101 (List._∷_ 108 (List._∷_ 100 (List._∷_ 58 (List._∷_ 58 (List._∷_ 72 (List._∷_ 101 (List._∷_ 108 (List._∷_ 100 List.[]))))))))))))))))) (Syntax.tcons (Syntax.tyStruct (List._∷_ 112 (List._∷_ 121 (List._∷_ 114 (List._∷_ 97 (List._∷_ 109 (List._∷_ 105 (List._∷_ 100 (List._∷_ 58 (List._∷_ 58 (List._∷_ 83 (List._∷_ 116 (List._∷_ 97 (List._∷_ 116 (List._∷_ 101 List.[])))))))))))))) (Syntax.tcons (Syntax.tyInt Syntax.w32) (Syntax.tcons (Syntax.tyInt Syntax.w32) (Syntax.tcons (Syntax.tyInt Syntax.w32) (Syntax.tcons (Syntax.tyInt Syntax.w32) (Syntax.tcons (Syntax.tyInt Syntax.w32) (Syntax.tcons (Syntax.tyArray (Syntax.tyInt Syntax.w32) 64) Syntax.tnil))))))) (Syntax.tcons (Syntax.tyInt Syntax.w64) (Syntax.tcons (Syntax.tyInt Syntax.w64) (Syntax.tcons (Syntax.tyInt Syntax.w64) (Syntax.tcons (Syntax.tyInt Syntax.w64) (Syntax.tcons (Syntax.tyInt Syntax.w64) (Syntax.tcons (Syntax.tyInt Syntax.w64) (Syntax.tcons Syntax.tyBool Syntax.tnil)))))))))
+  s14 = Scalar.n-room T18 11 ty2
 
   abbrev s15 : Typed.Mo T19 → Typed.Mo T20
-  s15 = Scalar.n-room T19 15 (Syntax.tyInt Syntax.w64)
+  s15 = Scalar.n-room T19 15 ty1
 
   abbrev s16 : Typed.Mo T20 → Typed.Mo T21
   s16 = Scalar.n-room T20 16 Syntax.tyBool
@@ -774,100 +1192,100 @@ module _ (claims· : Claims) where
   s17 = Scalar.n-use T21 Scalar.oUnit 0 (Rows.sc-here Row.sUnit) (Row.sUnit .of)
 
   abbrev s18 : Typed.Mo T22 → Typed.Mo T23
-  s18 = Scalar.n-room T22 12 (Syntax.tyInt Syntax.w64)
+  s18 = Scalar.n-room T22 12 ty1
 
   abbrev s19 : Typed.Mo T23 → Typed.Mo T24
-  s19 = Scalar.n-room T23 13 (Syntax.tyInt Syntax.w64)
+  s19 = Scalar.n-room T23 13 ty1
 
   abbrev s20 : Typed.Mo T18 → Typed.Mo T25
   s20 = Scalar.n-room T18 16 Syntax.tyBool
 
   abbrev s22 : Typed.Gives T17 T27
-  s22 = Reborrow.k-mref-relend T17 2 18 1 10 (Array.Array (Referent.rtF (Referent.fInt Syntax.w32)) 32772) (Syntax.tyRef (Syntax.named 1) Syntax.mut (Syntax.tyArray (Syntax.tyInt Syntax.w32) 32772)) (Syntax.tyRef Syntax.erased Syntax.mut (Syntax.tyArray (Syntax.tyInt Syntax.w32) 32772)) Row.off List.[] λ x. x
+  s22 = Reborrow.k-mref-relend T17 2 18 1 10 held2 ty21 ty5 Row.off List.[] λ x. x
 
   abbrev s23 : Typed.Both T27 T28
-  s23 = Call.callB ps·1 r·1 (claims· .2) (claims· .3) T27 (record { pos = 1; ty = Syntax.tyRef (Syntax.named 0) Syntax.imm (Syntax.tyInt Syntax.w8); ref = λ x. x }, (Num.vAt 12 λ x. x, (record { pos = 18; ty = Syntax.tyRef Syntax.erased Syntax.mut (Syntax.tyArray (Syntax.tyInt Syntax.w32) 32772); ref = λ x. x }, tt))) 14 (List._∷_ 0 (List._∷_ 10 List.[])) (Syntax.tyStruct (List._∷_ 115 (List._∷_ 99 (List._∷_ 114 (List._∷_ 105 (List._∷_ 112 (List._∷_ 116 (List._∷_ 58 (List._∷_ 58 (List._∷_ 115 (List._∷_ 99 (List._∷_ 97 (List._∷_ 110 (List._∷_ 58 (List._∷_ 58 (List._∷_ 76 (List._∷_ 105 (List._∷_ 110 (List._∷_ 101 List.[])))))))))))))))))) (Syntax.tcons (Syntax.tyInt Syntax.w32) (Syntax.tcons (Syntax.tyInt Syntax.w64) (Syntax.tcons (Syntax.tyInt Syntax.w64) (Syntax.tcons (Syntax.tyInt Syntax.w64) (Syntax.tcons (Syntax.tyInt Syntax.w64) Syntax.tnil))))))
+  s23 = Call.callB ps·1 r·1 (claims· .2) (claims· .3) T27 (record { pos = 1; ty = Syntax.tyRef (Syntax.named 0) Syntax.imm ty7; ref = λ x. x }, (Num.vAt 12 λ x. x, (record { pos = 18; ty = Syntax.tyRef Syntax.erased Syntax.mut ty4; ref = λ x. x }, tt))) 14 (List._∷_ 0 (List._∷_ 10 List.[])) ty3
 
   abbrev s25 : Typed.Asks T28 T30
-  s25 = Reborrow.k-back-mref T28 18 2 1 (Array.Array (Referent.rtF (Referent.fInt Syntax.w32)) 32772) (Syntax.tyRef (Syntax.named 1) Syntax.mut (Syntax.tyArray (Syntax.tyInt Syntax.w32) 32772)) (Syntax.tyRef Syntax.erased Syntax.mut (Syntax.tyArray (Syntax.tyInt Syntax.w32) 32772)) List.[] (λ x. x) λ x. x
+  s25 = Reborrow.k-back-mref T28 18 2 1 held2 ty21 ty5 List.[] (λ x. x) λ x. x
 
   abbrev s28 : Typed.Gives T30 T33
-  s28 = Reshare.k-mref-reshare T30 2 19 1 11 (Array.Array (Referent.rtF (Referent.fInt Syntax.w32)) 32772) (Syntax.tyRef (Syntax.named 1) Syntax.mut (Syntax.tyArray (Syntax.tyInt Syntax.w32) 32772)) (Syntax.tyRef Syntax.erased Syntax.imm (Syntax.tyArray (Syntax.tyInt Syntax.w32) 32772)) Row.off List.[] λ x. x
+  s28 = Reshare.k-mref-reshare T30 2 19 1 11 held2 ty21 ty6 Row.off List.[] λ x. x
 
   abbrev s30 : Typed.Gives T33 T35
-  s30 = Reborrow.k-mref-relend T33 3 20 2 12 (Array.Array (Referent.rtF (Referent.fInt Syntax.w8)) 16388) (Syntax.tyRef (Syntax.named 2) Syntax.mut (Syntax.tyArray (Syntax.tyInt Syntax.w8) 16388)) (Syntax.tyRef Syntax.erased Syntax.mut (Syntax.tyArray (Syntax.tyInt Syntax.w8) 16388)) Row.off List.[] λ x. x
+  s30 = Reborrow.k-mref-relend T33 3 20 2 12 held3 ty22 ty9 Row.off List.[] λ x. x
 
   abbrev s32 : Typed.Gives T35 T37
-  s32 = Reborrow.k-mref-relend T35 4 21 3 13 (Array.Array (Referent.rtF (Referent.fInt Syntax.w32)) 65540) (Syntax.tyRef (Syntax.named 3) Syntax.mut (Syntax.tyArray (Syntax.tyInt Syntax.w32) 65540)) (Syntax.tyRef Syntax.erased Syntax.mut (Syntax.tyArray (Syntax.tyInt Syntax.w32) 65540)) Row.off List.[] λ x. x
+  s32 = Reborrow.k-mref-relend T35 4 21 3 13 held4 ty23 ty11 Row.off List.[] λ x. x
 
   abbrev s34 : Typed.Gives T37 T39
-  s34 = Reborrow.k-mref-relend T37 5 22 4 14 (Array.Array (Referent.rtF (Referent.fInt Syntax.w32)) 32772) (Syntax.tyRef (Syntax.named 4) Syntax.mut (Syntax.tyArray (Syntax.tyInt Syntax.w32) 32772)) (Syntax.tyRef Syntax.erased Syntax.mut (Syntax.tyArray (Syntax.tyInt Syntax.w32) 32772)) Row.off List.[] λ x. x
+  s34 = Reborrow.k-mref-relend T37 5 22 4 14 held2 ty24 ty5 Row.off List.[] λ x. x
 
   abbrev s36 : Typed.Gives T39 T41
-  s36 = Reborrow.k-mref-relend T39 6 23 5 15 (Array.Array (Referent.rtF (Referent.fInt Syntax.w32)) 32772) (Syntax.tyRef (Syntax.named 5) Syntax.mut (Syntax.tyArray (Syntax.tyInt Syntax.w32) 32772)) (Syntax.tyRef Syntax.erased Syntax.mut (Syntax.tyArray (Syntax.tyInt Syntax.w32) 32772)) Row.off List.[] λ x. x
+  s36 = Reborrow.k-mref-relend T39 6 23 5 15 held2 ty25 ty5 Row.off List.[] λ x. x
 
   abbrev s38 : Typed.Gives T41 T43
-  s38 = Reborrow.k-mref-relend T41 7 24 6 16 (Array.Array (Referent.rtF (Referent.fInt Syntax.w32)) 262160) (Syntax.tyRef (Syntax.named 6) Syntax.mut (Syntax.tyArray (Syntax.tyInt Syntax.w32) 262160)) (Syntax.tyRef Syntax.erased Syntax.mut (Syntax.tyArray (Syntax.tyInt Syntax.w32) 262160)) Row.off List.[] λ x. x
+  s38 = Reborrow.k-mref-relend T41 7 24 6 16 held5 ty26 ty13 Row.off List.[] λ x. x
 
   abbrev s40 : Typed.Gives T43 T45
-  s40 = Reborrow.k-mref-relend T43 8 25 7 17 (Array.Array (Referent.rtF (Referent.fInt Syntax.w8)) 600000) (Syntax.tyRef (Syntax.named 7) Syntax.mut (Syntax.tyArray (Syntax.tyInt Syntax.w8) 600000)) (Syntax.tyRef Syntax.erased Syntax.mut (Syntax.tyArray (Syntax.tyInt Syntax.w8) 600000)) Row.off List.[] λ x. x
+  s40 = Reborrow.k-mref-relend T43 8 25 7 17 held6 ty27 ty15 Row.off List.[] λ x. x
 
   abbrev s42 : Typed.Gives T45 T47
-  s42 = Reborrow.k-mref-relend T45 9 26 8 18 (Array.Array Cell.R 65540) (Syntax.tyRef (Syntax.named 8) Syntax.mut (Syntax.tyArray Cell.behind 65540)) (Syntax.tyRef Syntax.erased Syntax.mut (Syntax.tyArray Cell.behind 65540)) Row.off List.[] λ x. x
+  s42 = Reborrow.k-mref-relend T45 9 26 8 18 held7 ty28 ty17 Row.off List.[] λ x. x
 
   abbrev s44 : Typed.Gives T47 T49
-  s44 = Reborrow.k-mref-relend T47 10 27 9 19 (Array.Array Cell.R 32772) (Syntax.tyRef (Syntax.named 9) Syntax.mut (Syntax.tyArray Cell.behind 32772)) (Syntax.tyRef Syntax.erased Syntax.mut (Syntax.tyArray Cell.behind 32772)) Row.off List.[] λ x. x
+  s44 = Reborrow.k-mref-relend T47 10 27 9 19 held8 ty29 ty19 Row.off List.[] λ x. x
 
   abbrev s45 : Typed.Both T49 T50
-  s45 = Call.callB ps·2 r·2 (claims· .4) (claims· .5) T49 (record { pos = 11; st = List.[]; d = 0; at = λ x. x }, (record { pos = 14; st = List.[]; d = 0; at = λ x. x }, (record { pos = 1; ty = Syntax.tyRef (Syntax.named 0) Syntax.imm (Syntax.tyInt Syntax.w8); ref = λ x. x }, (record { pos = 19; ty = Syntax.tyRef Syntax.erased Syntax.imm (Syntax.tyArray (Syntax.tyInt Syntax.w32) 32772); ref = λ x. x }, (record { pos = 20; ty = Syntax.tyRef Syntax.erased Syntax.mut (Syntax.tyArray (Syntax.tyInt Syntax.w8) 16388); ref = λ x. x }, (record { pos = 21; ty = Syntax.tyRef Syntax.erased Syntax.mut (Syntax.tyArray (Syntax.tyInt Syntax.w32) 65540); ref = λ x. x }, (record { pos = 22; ty = Syntax.tyRef Syntax.erased Syntax.mut (Syntax.tyArray (Syntax.tyInt Syntax.w32) 32772); ref = λ x. x }, (record { pos = 23; ty = Syntax.tyRef Syntax.erased Syntax.mut (Syntax.tyArray (Syntax.tyInt Syntax.w32) 32772); ref = λ x. x }, (record { pos = 24; ty = Syntax.tyRef Syntax.erased Syntax.mut (Syntax.tyArray (Syntax.tyInt Syntax.w32) 262160); ref = λ x. x }, (record { pos = 25; ty = Syntax.tyRef Syntax.erased Syntax.mut (Syntax.tyArray (Syntax.tyInt Syntax.w8) 600000); ref = λ x. x }, (record { pos = 26; ty = Syntax.tyRef Syntax.erased Syntax.mut (Syntax.tyArray Cell.behind 65540); ref = λ x. x }, (record { pos = 27; ty = Syntax.tyRef Syntax.erased Syntax.mut (Syntax.tyArray Cell.behind 32772); ref = λ x. x }, tt)))))))))))) 11 (List._∷_ 0 (List._∷_ 11 (List._∷_ 12 (List._∷_ 13 (List._∷_ 14 (List._∷_ 15 (List._∷_ 16 (List._∷_ 17 (List._∷_ 18 (List._∷_ 19 List.[])))))))))) (Syntax.tyStruct (List._∷_ 122 (List._∷_ 111 (List._∷_ 110 (List._∷_ 101 (List._∷_ 115 (List._∷_ 58 (List._∷_ 58 (List._∷_ 104 (List._∷_ 101 (List._∷_ 108 (List._∷_ 100 (List._∷_ 58 (List._∷_ 58 (List._∷_ 72 (List._∷_ 101 (List._∷_ 108 (List._∷_ 100 List.[]))))))))))))))))) (Syntax.tcons (Syntax.tyStruct (List._∷_ 112 (List._∷_ 121 (List._∷_ 114 (List._∷_ 97 (List._∷_ 109 (List._∷_ 105 (List._∷_ 100 (List._∷_ 58 (List._∷_ 58 (List._∷_ 83 (List._∷_ 116 (List._∷_ 97 (List._∷_ 116 (List._∷_ 101 List.[])))))))))))))) (Syntax.tcons (Syntax.tyInt Syntax.w32) (Syntax.tcons (Syntax.tyInt Syntax.w32) (Syntax.tcons (Syntax.tyInt Syntax.w32) (Syntax.tcons (Syntax.tyInt Syntax.w32) (Syntax.tcons (Syntax.tyInt Syntax.w32) (Syntax.tcons (Syntax.tyArray (Syntax.tyInt Syntax.w32) 64) Syntax.tnil))))))) (Syntax.tcons (Syntax.tyInt Syntax.w64) (Syntax.tcons (Syntax.tyInt Syntax.w64) (Syntax.tcons (Syntax.tyInt Syntax.w64) (Syntax.tcons (Syntax.tyInt Syntax.w64) (Syntax.tcons (Syntax.tyInt Syntax.w64) (Syntax.tcons (Syntax.tyInt Syntax.w64) (Syntax.tcons Syntax.tyBool Syntax.tnil)))))))))
+  s45 = Call.callB ps·2 r·2 (claims· .4) (claims· .5) T49 (record { pos = 11; st = List.[]; d = 0; at = λ x. x }, (record { pos = 14; st = List.[]; d = 0; at = λ x. x }, (record { pos = 1; ty = Syntax.tyRef (Syntax.named 0) Syntax.imm ty7; ref = λ x. x }, (record { pos = 19; ty = Syntax.tyRef Syntax.erased Syntax.imm ty4; ref = λ x. x }, (record { pos = 20; ty = Syntax.tyRef Syntax.erased Syntax.mut ty8; ref = λ x. x }, (record { pos = 21; ty = Syntax.tyRef Syntax.erased Syntax.mut ty10; ref = λ x. x }, (record { pos = 22; ty = Syntax.tyRef Syntax.erased Syntax.mut ty4; ref = λ x. x }, (record { pos = 23; ty = Syntax.tyRef Syntax.erased Syntax.mut ty4; ref = λ x. x }, (record { pos = 24; ty = Syntax.tyRef Syntax.erased Syntax.mut ty12; ref = λ x. x }, (record { pos = 25; ty = Syntax.tyRef Syntax.erased Syntax.mut ty14; ref = λ x. x }, (record { pos = 26; ty = Syntax.tyRef Syntax.erased Syntax.mut ty16; ref = λ x. x }, (record { pos = 27; ty = Syntax.tyRef Syntax.erased Syntax.mut ty18; ref = λ x. x }, tt)))))))))))) 11 sym0 ty2
 
   abbrev s46 : Typed.Mo T50 → Typed.Mo T51
-  s46 = Scalar.n-room T50 19 (Syntax.tyRef Syntax.erased Syntax.imm (Syntax.tyArray (Syntax.tyInt Syntax.w32) 32772))
+  s46 = Scalar.n-room T50 19 ty6
 
   abbrev s48 : Typed.Mo T51 → Typed.Mo T53
-  s48 = Reshare.n-back-mref-shr T51 2 1 (Array.Array (Referent.rtF (Referent.fInt Syntax.w32)) 32772) (Syntax.tyRef (Syntax.named 1) Syntax.mut (Syntax.tyArray (Syntax.tyInt Syntax.w32) 32772)) List.[] λ x. x
+  s48 = Reshare.n-back-mref-shr T51 2 1 held2 ty21 List.[] λ x. x
 
   abbrev s51 : Typed.Asks T53 T56
-  s51 = Reborrow.k-back-mref T53 20 3 2 (Array.Array (Referent.rtF (Referent.fInt Syntax.w8)) 16388) (Syntax.tyRef (Syntax.named 2) Syntax.mut (Syntax.tyArray (Syntax.tyInt Syntax.w8) 16388)) (Syntax.tyRef Syntax.erased Syntax.mut (Syntax.tyArray (Syntax.tyInt Syntax.w8) 16388)) List.[] (λ x. x) λ x. x
+  s51 = Reborrow.k-back-mref T53 20 3 2 held3 ty22 ty9 List.[] (λ x. x) λ x. x
 
   abbrev s54 : Typed.Asks T56 T59
-  s54 = Reborrow.k-back-mref T56 21 4 3 (Array.Array (Referent.rtF (Referent.fInt Syntax.w32)) 65540) (Syntax.tyRef (Syntax.named 3) Syntax.mut (Syntax.tyArray (Syntax.tyInt Syntax.w32) 65540)) (Syntax.tyRef Syntax.erased Syntax.mut (Syntax.tyArray (Syntax.tyInt Syntax.w32) 65540)) List.[] (λ x. x) λ x. x
+  s54 = Reborrow.k-back-mref T56 21 4 3 held4 ty23 ty11 List.[] (λ x. x) λ x. x
 
   abbrev s57 : Typed.Asks T59 T62
-  s57 = Reborrow.k-back-mref T59 22 5 4 (Array.Array (Referent.rtF (Referent.fInt Syntax.w32)) 32772) (Syntax.tyRef (Syntax.named 4) Syntax.mut (Syntax.tyArray (Syntax.tyInt Syntax.w32) 32772)) (Syntax.tyRef Syntax.erased Syntax.mut (Syntax.tyArray (Syntax.tyInt Syntax.w32) 32772)) List.[] (λ x. x) λ x. x
+  s57 = Reborrow.k-back-mref T59 22 5 4 held2 ty24 ty5 List.[] (λ x. x) λ x. x
 
   abbrev s60 : Typed.Asks T62 T65
-  s60 = Reborrow.k-back-mref T62 23 6 5 (Array.Array (Referent.rtF (Referent.fInt Syntax.w32)) 32772) (Syntax.tyRef (Syntax.named 5) Syntax.mut (Syntax.tyArray (Syntax.tyInt Syntax.w32) 32772)) (Syntax.tyRef Syntax.erased Syntax.mut (Syntax.tyArray (Syntax.tyInt Syntax.w32) 32772)) List.[] (λ x. x) λ x. x
+  s60 = Reborrow.k-back-mref T62 23 6 5 held2 ty25 ty5 List.[] (λ x. x) λ x. x
 
   abbrev s63 : Typed.Asks T65 T68
-  s63 = Reborrow.k-back-mref T65 24 7 6 (Array.Array (Referent.rtF (Referent.fInt Syntax.w32)) 262160) (Syntax.tyRef (Syntax.named 6) Syntax.mut (Syntax.tyArray (Syntax.tyInt Syntax.w32) 262160)) (Syntax.tyRef Syntax.erased Syntax.mut (Syntax.tyArray (Syntax.tyInt Syntax.w32) 262160)) List.[] (λ x. x) λ x. x
+  s63 = Reborrow.k-back-mref T65 24 7 6 held5 ty26 ty13 List.[] (λ x. x) λ x. x
 
   abbrev s66 : Typed.Asks T68 T71
-  s66 = Reborrow.k-back-mref T68 25 8 7 (Array.Array (Referent.rtF (Referent.fInt Syntax.w8)) 600000) (Syntax.tyRef (Syntax.named 7) Syntax.mut (Syntax.tyArray (Syntax.tyInt Syntax.w8) 600000)) (Syntax.tyRef Syntax.erased Syntax.mut (Syntax.tyArray (Syntax.tyInt Syntax.w8) 600000)) List.[] (λ x. x) λ x. x
+  s66 = Reborrow.k-back-mref T68 25 8 7 held6 ty27 ty15 List.[] (λ x. x) λ x. x
 
   abbrev s69 : Typed.Asks T71 T74
-  s69 = Reborrow.k-back-mref T71 26 9 8 (Array.Array Cell.R 65540) (Syntax.tyRef (Syntax.named 8) Syntax.mut (Syntax.tyArray Cell.behind 65540)) (Syntax.tyRef Syntax.erased Syntax.mut (Syntax.tyArray Cell.behind 65540)) List.[] (λ x. x) λ x. x
+  s69 = Reborrow.k-back-mref T71 26 9 8 held7 ty28 ty17 List.[] (λ x. x) λ x. x
 
   abbrev s72 : Typed.Asks T74 T77
-  s72 = Reborrow.k-back-mref T74 27 10 9 (Array.Array Cell.R 32772) (Syntax.tyRef (Syntax.named 9) Syntax.mut (Syntax.tyArray Cell.behind 32772)) (Syntax.tyRef Syntax.erased Syntax.mut (Syntax.tyArray Cell.behind 32772)) List.[] (λ x. x) λ x. x
+  s72 = Reborrow.k-back-mref T74 27 10 9 held8 ty29 ty19 List.[] (λ x. x) λ x. x
 
   abbrev s74 : Typed.Mo T77 → Typed.Mo T79
-  s74 = Scalar.n-use T77 (Scalar.oFld 11 (List._∷_ (Syntax.field 7) List.[]) Syntax.tyBool 328 (Reads.fieldV Held.the-type Laws'.the-laws 7)) 16 (Rows.sc-here Row.sBool) (Row.sBool .of)
+  s74 = Scalar.n-use T77 (Scalar.oFld 11 steps2 Syntax.tyBool 328 (Reads.fieldV Held.the-type Laws'.the-laws 7)) 16 (Rows.sc-here Row.sBool) (Row.sBool .of)
 
   abbrev s75 : Typed.Mo T79 → Typed.Mo T81
-  s75 = Scalar.n-room T79 11 (Syntax.tyStruct (List._∷_ 122 (List._∷_ 111 (List._∷_ 110 (List._∷_ 101 (List._∷_ 115 (List._∷_ 58 (List._∷_ 58 (List._∷_ 104 (List._∷_ 101 (List._∷_ 108 (List._∷_ 100 (List._∷_ 58 (List._∷_ 58 (List._∷_ 72 (List._∷_ 101 (List._∷_ 108 (List._∷_ 100 List.[]))))))))))))))))) (Syntax.tcons (Syntax.tyStruct (List._∷_ 112 (List._∷_ 121 (List._∷_ 114 (List._∷_ 97 (List._∷_ 109 (List._∷_ 105 (List._∷_ 100 (List._∷_ 58 (List._∷_ 58 (List._∷_ 83 (List._∷_ 116 (List._∷_ 97 (List._∷_ 116 (List._∷_ 101 List.[])))))))))))))) (Syntax.tcons (Syntax.tyInt Syntax.w32) (Syntax.tcons (Syntax.tyInt Syntax.w32) (Syntax.tcons (Syntax.tyInt Syntax.w32) (Syntax.tcons (Syntax.tyInt Syntax.w32) (Syntax.tcons (Syntax.tyInt Syntax.w32) (Syntax.tcons (Syntax.tyArray (Syntax.tyInt Syntax.w32) 64) Syntax.tnil))))))) (Syntax.tcons (Syntax.tyInt Syntax.w64) (Syntax.tcons (Syntax.tyInt Syntax.w64) (Syntax.tcons (Syntax.tyInt Syntax.w64) (Syntax.tcons (Syntax.tyInt Syntax.w64) (Syntax.tcons (Syntax.tyInt Syntax.w64) (Syntax.tcons (Syntax.tyInt Syntax.w64) (Syntax.tcons Syntax.tyBool Syntax.tnil)))))))))
+  s75 = Scalar.n-room T79 11 ty2
 
   abbrev s76 : Typed.Mo T81 → Typed.Mo T82
-  s76 = Scalar.n-room T81 14 (Syntax.tyStruct (List._∷_ 115 (List._∷_ 99 (List._∷_ 114 (List._∷_ 105 (List._∷_ 112 (List._∷_ 116 (List._∷_ 58 (List._∷_ 58 (List._∷_ 115 (List._∷_ 99 (List._∷_ 97 (List._∷_ 110 (List._∷_ 58 (List._∷_ 58 (List._∷_ 76 (List._∷_ 105 (List._∷_ 110 (List._∷_ 101 List.[])))))))))))))))))) (Syntax.tcons (Syntax.tyInt Syntax.w32) (Syntax.tcons (Syntax.tyInt Syntax.w64) (Syntax.tcons (Syntax.tyInt Syntax.w64) (Syntax.tcons (Syntax.tyInt Syntax.w64) (Syntax.tcons (Syntax.tyInt Syntax.w64) Syntax.tnil))))))
+  s76 = Scalar.n-room T81 14 ty3
 
   abbrev s77 : Typed.Mo T82 → Typed.Mo T83
-  s77 = Scalar.n-room T82 15 (Syntax.tyInt Syntax.w64)
+  s77 = Scalar.n-room T82 15 ty1
 
   abbrev s78 : Typed.Mo T83 → Typed.Mo T84
   s78 = Scalar.n-room T83 16 Syntax.tyBool
 
   abbrev s79 : Typed.Asks T84 T85
-  s79 = Scalar.k-op2 T84 (Syntax.add Syntax.unsigned) (Scalar.oAt 13 (Syntax.tyInt Syntax.w64) (Row.valS (Row.sInt Syntax.w64))) (Scalar.oInt Syntax.w64 1) 29 (Rows.sc-here (Row.sInt Syntax.w64)) (Row.sInt Syntax.w64 .of)
+  s79 = Scalar.k-op2 T84 (Syntax.add Syntax.unsigned) (Scalar.oAt 13 ty1 (Row.valS sc0)) (Scalar.oInt Syntax.w64 1) 29 (Rows.sc-here sc0) (Row.sInt Syntax.w64 .of)
 
   abbrev s80 : Typed.Both T85 T86
   s80 = Call.callB ps·3 r·3 (claims· .6) (claims· .7) T85 (Num.vAt 29 λ x. x, tt) 28 List.[] Syntax.tyUnit
@@ -876,40 +1294,40 @@ module _ (claims· : Claims) where
   s81 = Scalar.n-room T86 28 Syntax.tyUnit
 
   abbrev s82 : Typed.Mo T87 → Typed.Mo T88
-  s82 = Scalar.n-room T87 29 (Syntax.tyInt Syntax.w64)
+  s82 = Scalar.n-room T87 29 ty1
 
   abbrev s83 : Typed.Mo T88 → Typed.Mo T89
   s83 = Scalar.n-use T88 Scalar.oUnit 0 (Rows.sc-here Row.sUnit) (Row.sUnit .of)
 
   abbrev s84 : Typed.Mo T89 → Typed.Mo T90
-  s84 = Scalar.n-room T89 12 (Syntax.tyInt Syntax.w64)
+  s84 = Scalar.n-room T89 12 ty1
 
   abbrev s85 : Typed.Mo T90 → Typed.Mo T91
-  s85 = Scalar.n-room T90 13 (Syntax.tyInt Syntax.w64)
+  s85 = Scalar.n-room T90 13 ty1
 
   abbrev s86 : Typed.Mo T79 → Typed.Mo T92
-  s86 = Scalar.n-room T79 12 (Syntax.tyInt Syntax.w64)
+  s86 = Scalar.n-room T79 12 ty1
 
   abbrev s87 : Typed.Mo T92 → Typed.Mo T93
   s87 = Scalar.n-room T92 16 Syntax.tyBool
 
   abbrev s88 : Typed.Mo T80 → Typed.Mo T94
-  s88 = Scalar.n-use T80 (Scalar.oFld 14 (List._∷_ (Syntax.field 4) List.[]) (Syntax.tyInt Syntax.w64) 32 (Reads.fieldV Line.the-type Laws.the-laws 4)) 12 (Rows.sc-here (Row.sInt Syntax.w64)) (Row.sInt Syntax.w64 .of)
+  s88 = Scalar.n-use T80 (Scalar.oFld 14 steps3 ty1 32 (Reads.fieldV Line.the-type Laws.the-laws 4)) 12 (Rows.sc-here sc0) (Row.sInt Syntax.w64 .of)
 
   abbrev s89 : Typed.Mo T94 → Typed.Mo T95
-  s89 = Scalar.n-room T94 14 (Syntax.tyStruct (List._∷_ 115 (List._∷_ 99 (List._∷_ 114 (List._∷_ 105 (List._∷_ 112 (List._∷_ 116 (List._∷_ 58 (List._∷_ 58 (List._∷_ 115 (List._∷_ 99 (List._∷_ 97 (List._∷_ 110 (List._∷_ 58 (List._∷_ 58 (List._∷_ 76 (List._∷_ 105 (List._∷_ 110 (List._∷_ 101 List.[])))))))))))))))))) (Syntax.tcons (Syntax.tyInt Syntax.w32) (Syntax.tcons (Syntax.tyInt Syntax.w64) (Syntax.tcons (Syntax.tyInt Syntax.w64) (Syntax.tcons (Syntax.tyInt Syntax.w64) (Syntax.tcons (Syntax.tyInt Syntax.w64) Syntax.tnil))))))
+  s89 = Scalar.n-room T94 14 ty3
 
   abbrev s90 : Typed.Asks T95 T96
-  s90 = Scalar.k-op2 T95 (Syntax.add Syntax.unsigned) (Scalar.oAt 13 (Syntax.tyInt Syntax.w64) (Row.valS (Row.sInt Syntax.w64))) (Scalar.oInt Syntax.w64 1) 13 (Rows.sc-here (Row.sInt Syntax.w64)) (Row.sInt Syntax.w64 .of)
+  s90 = Scalar.k-op2 T95 (Syntax.add Syntax.unsigned) (Scalar.oAt 13 ty1 (Row.valS sc0)) (Scalar.oInt Syntax.w64 1) 13 (Rows.sc-here sc0) (Row.sInt Syntax.w64 .of)
 
   abbrev s91 : Typed.Mo T7 → Typed.Mo T97
   s91 = Scalar.n-use T7 Scalar.oUnit 0 (Rows.sc-here Row.sUnit) (Row.sUnit .of)
 
   abbrev s92 : Typed.Mo T97 → Typed.Mo T98
-  s92 = Scalar.n-room T97 12 (Syntax.tyInt Syntax.w64)
+  s92 = Scalar.n-room T97 12 ty1
 
-  abbrev put0 : Array.Array (Referent.rtF (Referent.fInt Syntax.w32)) 32772 .Denot × Array.Array (Referent.rtF (Referent.fInt Syntax.w8)) 16388 .Denot × Array.Array (Referent.rtF (Referent.fInt Syntax.w32)) 65540 .Denot × Array.Array (Referent.rtF (Referent.fInt Syntax.w32)) 32772 .Denot × Array.Array (Referent.rtF (Referent.fInt Syntax.w32)) 32772 .Denot × Array.Array (Referent.rtF (Referent.fInt Syntax.w32)) 262160 .Denot × Array.Array (Referent.rtF (Referent.fInt Syntax.w8)) 600000 .Denot × Array.Array Cell.R 65540 .Denot × Array.Array Cell.R 32772 .Denot × Rows.whole (Declared.row Held.the-type) .Mod × Rows.sc-here (Row.sInt Syntax.w64) .Mod × Rows.sc-here (Row.sInt Syntax.w64) .Mod → Typed.Mo T6 → Typed.Mo T6
-  put0 = λ vs u. Row.set 13 (13, Rows.sc-here (Row.sInt Syntax.w64)) (vs .11) (T6 .locals) (Row.set 12 (12, Rows.sc-here (Row.sInt Syntax.w64)) (vs .10) (T6 .locals) (Row.set 11 (11, Rows.whole (Declared.row Held.the-type)) (vs .9) (T6 .locals) (Row.set 10 (10, Rows.mref (Array.Array Cell.R 32772) (Syntax.tyRef (Syntax.named 9) Syntax.mut (Syntax.tyArray Cell.behind 32772)) 9) record { ptr = Row.get 10 (T6 .locals) u .ptr; name = Row.get 10 (T6 .locals) u .name; now = vs .8 } (T6 .locals) (Row.set 9 (9, Rows.mref (Array.Array Cell.R 65540) (Syntax.tyRef (Syntax.named 8) Syntax.mut (Syntax.tyArray Cell.behind 65540)) 8) record { ptr = Row.get 9 (T6 .locals) u .ptr; name = Row.get 9 (T6 .locals) u .name; now = vs .7 } (T6 .locals) (Row.set 8 (8, Rows.mref (Array.Array (Referent.rtF (Referent.fInt Syntax.w8)) 600000) (Syntax.tyRef (Syntax.named 7) Syntax.mut (Syntax.tyArray (Syntax.tyInt Syntax.w8) 600000)) 7) record { ptr = Row.get 8 (T6 .locals) u .ptr; name = Row.get 8 (T6 .locals) u .name; now = vs .6 } (T6 .locals) (Row.set 7 (7, Rows.mref (Array.Array (Referent.rtF (Referent.fInt Syntax.w32)) 262160) (Syntax.tyRef (Syntax.named 6) Syntax.mut (Syntax.tyArray (Syntax.tyInt Syntax.w32) 262160)) 6) record { ptr = Row.get 7 (T6 .locals) u .ptr; name = Row.get 7 (T6 .locals) u .name; now = vs .5 } (T6 .locals) (Row.set 6 (6, Rows.mref (Array.Array (Referent.rtF (Referent.fInt Syntax.w32)) 32772) (Syntax.tyRef (Syntax.named 5) Syntax.mut (Syntax.tyArray (Syntax.tyInt Syntax.w32) 32772)) 5) record { ptr = Row.get 6 (T6 .locals) u .ptr; name = Row.get 6 (T6 .locals) u .name; now = vs .4 } (T6 .locals) (Row.set 5 (5, Rows.mref (Array.Array (Referent.rtF (Referent.fInt Syntax.w32)) 32772) (Syntax.tyRef (Syntax.named 4) Syntax.mut (Syntax.tyArray (Syntax.tyInt Syntax.w32) 32772)) 4) record { ptr = Row.get 5 (T6 .locals) u .ptr; name = Row.get 5 (T6 .locals) u .name; now = vs .3 } (T6 .locals) (Row.set 4 (4, Rows.mref (Array.Array (Referent.rtF (Referent.fInt Syntax.w32)) 65540) (Syntax.tyRef (Syntax.named 3) Syntax.mut (Syntax.tyArray (Syntax.tyInt Syntax.w32) 65540)) 3) record { ptr = Row.get 4 (T6 .locals) u .ptr; name = Row.get 4 (T6 .locals) u .name; now = vs .2 } (T6 .locals) (Row.set 3 (3, Rows.mref (Array.Array (Referent.rtF (Referent.fInt Syntax.w8)) 16388) (Syntax.tyRef (Syntax.named 2) Syntax.mut (Syntax.tyArray (Syntax.tyInt Syntax.w8) 16388)) 2) record { ptr = Row.get 3 (T6 .locals) u .ptr; name = Row.get 3 (T6 .locals) u .name; now = vs .1 } (T6 .locals) (Row.set 2 (2, Rows.mref (Array.Array (Referent.rtF (Referent.fInt Syntax.w32)) 32772) (Syntax.tyRef (Syntax.named 1) Syntax.mut (Syntax.tyArray (Syntax.tyInt Syntax.w32) 32772)) 1) record { ptr = Row.get 2 (T6 .locals) u .ptr; name = Row.get 2 (T6 .locals) u .name; now = vs .0 } (T6 .locals) u)))))))))))
+  abbrev put0 : Array.Array held1 32772 .Denot × Array.Array held0 16388 .Denot × Array.Array held1 65540 .Denot × Array.Array held1 32772 .Denot × Array.Array held1 32772 .Denot × Array.Array held1 262160 .Denot × Array.Array held0 600000 .Denot × Array.Array Cell.R 65540 .Denot × Array.Array Cell.R 32772 .Denot × Rows.whole held9 .Mod × Rows.sc-here sc0 .Mod × Rows.sc-here sc0 .Mod → Typed.Mo T6 → Typed.Mo T6
+  put0 = λ vs u. Row.set 13 local28 (vs .11) (T6 .locals) (Row.set 12 local27 (vs .10) (T6 .locals) (Row.set 11 local26 (vs .9) (T6 .locals) (Row.set 10 local10 record { ptr = Row.get 10 (T6 .locals) u .ptr; name = Row.get 10 (T6 .locals) u .name; now = vs .8 } (T6 .locals) (Row.set 9 local9 record { ptr = Row.get 9 (T6 .locals) u .ptr; name = Row.get 9 (T6 .locals) u .name; now = vs .7 } (T6 .locals) (Row.set 8 local8 record { ptr = Row.get 8 (T6 .locals) u .ptr; name = Row.get 8 (T6 .locals) u .name; now = vs .6 } (T6 .locals) (Row.set 7 local7 record { ptr = Row.get 7 (T6 .locals) u .ptr; name = Row.get 7 (T6 .locals) u .name; now = vs .5 } (T6 .locals) (Row.set 6 local6 record { ptr = Row.get 6 (T6 .locals) u .ptr; name = Row.get 6 (T6 .locals) u .name; now = vs .4 } (T6 .locals) (Row.set 5 local5 record { ptr = Row.get 5 (T6 .locals) u .ptr; name = Row.get 5 (T6 .locals) u .name; now = vs .3 } (T6 .locals) (Row.set 4 local4 record { ptr = Row.get 4 (T6 .locals) u .ptr; name = Row.get 4 (T6 .locals) u .name; now = vs .2 } (T6 .locals) (Row.set 3 local3 record { ptr = Row.get 3 (T6 .locals) u .ptr; name = Row.get 3 (T6 .locals) u .name; now = vs .1 } (T6 .locals) (Row.set 2 local2 record { ptr = Row.get 2 (T6 .locals) u .ptr; name = Row.get 2 (T6 .locals) u .name; now = vs .0 } (T6 .locals) u)))))))))))
 
   module _ (Pre· : (κs : Lifetimes.Lfts 10) → Kinds.Dens κs ps → Type 0) (Post· : (κs : Lifetimes.Lfts 10) → (a : Kinds.Dens κs ps) → Kinds.Plain 10 ps r κs) where
     module _ (M : Type 1) where
@@ -1252,359 +1670,455 @@ module _ (claims· : Claims) where
         Knowns = Plain.Known 𝓤 H A W 𝓣 0 ps·0 r·0 (claims· .0) (claims· .1) "zones::held::nothing" × Plain.Known 𝓤 H A W 𝓣 2 ps·1 r·1 (claims· .2) (claims· .3) "script::scan::next_line" × Plain.Known 𝓤 H A W 𝓣 10 ps·2 r·2 (claims· .4) (claims· .5) "zones::lines::obey" × Plain.Known 𝓤 H A W 𝓣 0 ps·3 r·3 (claims· .6) (claims· .7) "script::prints::error"
 
       module _ (κs : Lifetimes.Lfts 10) (qs : Lifetimes.Shares 10) where
+        abbrev slot0 : Row.Life
+        slot0 = Row.lease (κs .1 .0) (qs .1 .0)
+
+        abbrev local45 : Row.Entry
+        local45 = (2, Reshare.mref-owedS held2 ty21 1 11 slot0)
+
+        abbrev slot1 : Row.Life
+        slot1 = Row.lease (κs .1 .1 .0) (qs .1 .1 .0)
+
+        abbrev local46 : Row.Entry
+        local46 = (3, Rows.mref-owed held3 ty22 2 12 slot1)
+
+        abbrev slot2 : Row.Life
+        slot2 = Row.lease (κs .1 .1 .1 .0) (qs .1 .1 .1 .0)
+
+        abbrev local47 : Row.Entry
+        local47 = (4, Rows.mref-owed held4 ty23 3 13 slot2)
+
+        abbrev slot3 : Row.Life
+        slot3 = Row.lease (κs .1 .1 .1 .1 .0) (qs .1 .1 .1 .1 .0)
+
+        abbrev local48 : Row.Entry
+        local48 = (5, Rows.mref-owed held2 ty24 4 14 slot3)
+
+        abbrev slot4 : Row.Life
+        slot4 = Row.lease (κs .1 .1 .1 .1 .1 .0) (qs .1 .1 .1 .1 .1 .0)
+
+        abbrev local49 : Row.Entry
+        local49 = (6, Rows.mref-owed held2 ty25 5 15 slot4)
+
+        abbrev slot5 : Row.Life
+        slot5 = Row.lease (κs .1 .1 .1 .1 .1 .1 .0) (qs .1 .1 .1 .1 .1 .1 .0)
+
+        abbrev local50 : Row.Entry
+        local50 = (7, Rows.mref-owed held5 ty26 6 16 slot5)
+
+        abbrev slot6 : Row.Life
+        slot6 = Row.lease (κs .1 .1 .1 .1 .1 .1 .1 .0) (qs .1 .1 .1 .1 .1 .1 .1 .0)
+
+        abbrev local51 : Row.Entry
+        local51 = (8, Rows.mref-owed held6 ty27 7 17 slot6)
+
+        abbrev slot7 : Row.Life
+        slot7 = Row.lease (κs .1 .1 .1 .1 .1 .1 .1 .1 .0) (qs .1 .1 .1 .1 .1 .1 .1 .1 .0)
+
+        abbrev local52 : Row.Entry
+        local52 = (9, Rows.mref-owed held7 ty28 8 18 slot7)
+
+        abbrev slot8 : Row.Life
+        slot8 = Row.lease (κs .1 .1 .1 .1 .1 .1 .1 .1 .1 .0) (qs .1 .1 .1 .1 .1 .1 .1 .1 .1 .0)
+
+        abbrev local53 : Row.Entry
+        local53 = (10, Rows.mref-owed held8 ty29 9 19 slot8)
+
+        abbrev locals25 : List.List Row.Entry
+        locals25 = List._∷_ local51 (List._∷_ local52 (List._∷_ local53 locals13))
+
+        abbrev locals26 : List.List Row.Entry
+        locals26 = List._∷_ local48 (List._∷_ local49 (List._∷_ local50 locals25))
+
+        abbrev slot9 : Row.Life
+        slot9 = Row.lease (κs .0) (qs .0)
+
+        abbrev slots4 : List.List Row.Life
+        slots4 = List._∷_ slot0 (List._∷_ slot1 (List._∷_ slot2 (List._∷_ slot3 (List._∷_ slot4 (List._∷_ slot5 (List._∷_ slot6 (List._∷_ slot7 (List._∷_ slot8 (List._∷_ Row.off slots3)))))))))
+
+        abbrev slots5 : List.List Row.Life
+        slots5 = List._∷_ slot1 (List._∷_ slot2 (List._∷_ slot3 (List._∷_ slot4 (List._∷_ slot5 (List._∷_ slot6 (List._∷_ slot7 (List._∷_ slot8 (List._∷_ Row.alive slots3))))))))
+
+        abbrev slots6 : List.List Row.Life
+        slots6 = List._∷_ slot1 (List._∷_ slot2 (List._∷_ slot3 (List._∷_ slot4 (List._∷_ slot5 (List._∷_ slot6 (List._∷_ slot7 (List._∷_ slot8 (List._∷_ Row.dead slots3))))))))
+
+        abbrev slots7 : List.List Row.Life
+        slots7 = List._∷_ slot1 (List._∷_ slot2 (List._∷_ slot3 (List._∷_ slot4 (List._∷_ slot5 (List._∷_ slot6 (List._∷_ slot7 (List._∷_ slot8 (List._∷_ Row.off (List._∷_ Row.alive (List._∷_ Row.off slots2))))))))))
+
+        abbrev slots8 : List.List Row.Life
+        slots8 = List._∷_ slot2 (List._∷_ slot3 (List._∷_ slot4 (List._∷_ slot5 (List._∷_ slot6 (List._∷_ slot7 (List._∷_ slot8 (List._∷_ Row.off (List._∷_ Row.alive (List._∷_ Row.alive slots2)))))))))
+
+        abbrev slots9 : List.List Row.Life
+        slots9 = List._∷_ slot3 (List._∷_ slot4 (List._∷_ slot5 (List._∷_ slot6 (List._∷_ slot7 (List._∷_ slot8 (List._∷_ Row.off (List._∷_ Row.alive (List._∷_ Row.alive (List._∷_ Row.alive (List._∷_ Row.off slots1))))))))))
+
+        abbrev slots10 : List.List Row.Life
+        slots10 = List._∷_ slot4 (List._∷_ slot5 (List._∷_ slot6 (List._∷_ slot7 (List._∷_ slot8 (List._∷_ Row.off (List._∷_ Row.alive (List._∷_ Row.alive (List._∷_ Row.alive (List._∷_ Row.alive slots1)))))))))
+
+        abbrev slots11 : List.List Row.Life
+        slots11 = List._∷_ slot5 (List._∷_ slot6 (List._∷_ slot7 (List._∷_ slot8 (List._∷_ Row.off (List._∷_ Row.alive (List._∷_ Row.alive (List._∷_ Row.alive (List._∷_ Row.alive (List._∷_ Row.alive (List._∷_ Row.off slots0))))))))))
+
+        abbrev slots12 : List.List Row.Life
+        slots12 = List._∷_ slot6 (List._∷_ slot7 (List._∷_ slot8 (List._∷_ Row.off (List._∷_ Row.alive (List._∷_ Row.alive (List._∷_ Row.alive (List._∷_ Row.alive (List._∷_ Row.alive (List._∷_ Row.alive slots0)))))))))
+
+        abbrev slots13 : List.List Row.Life
+        slots13 = List._∷_ slot7 (List._∷_ slot8 (List._∷_ Row.off (List._∷_ Row.alive (List._∷_ Row.alive (List._∷_ Row.alive (List._∷_ Row.alive (List._∷_ Row.alive (List._∷_ Row.alive (List._∷_ Row.alive (List._∷_ Row.off (List._∷_ Row.off List.[])))))))))))
+
+        abbrev slots14 : List.List Row.Life
+        slots14 = List._∷_ slot8 (List._∷_ Row.off (List._∷_ Row.alive (List._∷_ Row.alive (List._∷_ Row.alive (List._∷_ Row.alive (List._∷_ Row.alive (List._∷_ Row.alive (List._∷_ Row.alive (List._∷_ Row.alive (List._∷_ Row.off List.[]))))))))))
+
         abbrev g15 : List.List Row.Entry
-        g15 = List._∷_ (0, Rows.any-gone Syntax.tyUnit) (List._∷_ (1, Rows.sslice (Referent.rtF (Referent.fInt Syntax.w8)) (Syntax.tyRef (Syntax.named 0) Syntax.imm (Syntax.tyInt Syntax.w8)) 0) (List._∷_ (2, Rows.mref-owed (Array.Array (Referent.rtF (Referent.fInt Syntax.w32)) 32772) (Syntax.tyRef (Syntax.named 1) Syntax.mut (Syntax.tyArray (Syntax.tyInt Syntax.w32) 32772)) 1 10 (Row.lease (κs .1 .0) (qs .1 .0))) (List._∷_ (3, Rows.mref (Array.Array (Referent.rtF (Referent.fInt Syntax.w8)) 16388) (Syntax.tyRef (Syntax.named 2) Syntax.mut (Syntax.tyArray (Syntax.tyInt Syntax.w8) 16388)) 2) (List._∷_ (4, Rows.mref (Array.Array (Referent.rtF (Referent.fInt Syntax.w32)) 65540) (Syntax.tyRef (Syntax.named 3) Syntax.mut (Syntax.tyArray (Syntax.tyInt Syntax.w32) 65540)) 3) (List._∷_ (5, Rows.mref (Array.Array (Referent.rtF (Referent.fInt Syntax.w32)) 32772) (Syntax.tyRef (Syntax.named 4) Syntax.mut (Syntax.tyArray (Syntax.tyInt Syntax.w32) 32772)) 4) (List._∷_ (6, Rows.mref (Array.Array (Referent.rtF (Referent.fInt Syntax.w32)) 32772) (Syntax.tyRef (Syntax.named 5) Syntax.mut (Syntax.tyArray (Syntax.tyInt Syntax.w32) 32772)) 5) (List._∷_ (7, Rows.mref (Array.Array (Referent.rtF (Referent.fInt Syntax.w32)) 262160) (Syntax.tyRef (Syntax.named 6) Syntax.mut (Syntax.tyArray (Syntax.tyInt Syntax.w32) 262160)) 6) (List._∷_ (8, Rows.mref (Array.Array (Referent.rtF (Referent.fInt Syntax.w8)) 600000) (Syntax.tyRef (Syntax.named 7) Syntax.mut (Syntax.tyArray (Syntax.tyInt Syntax.w8) 600000)) 7) (List._∷_ (9, Rows.mref (Array.Array Cell.R 65540) (Syntax.tyRef (Syntax.named 8) Syntax.mut (Syntax.tyArray Cell.behind 65540)) 8) (List._∷_ (10, Rows.mref (Array.Array Cell.R 32772) (Syntax.tyRef (Syntax.named 9) Syntax.mut (Syntax.tyArray Cell.behind 32772)) 9) (List._∷_ (11, Rows.whole (Declared.row Held.the-type)) (List._∷_ (12, Rows.sc-here (Row.sInt Syntax.w64)) (List._∷_ (13, Rows.sc-here (Row.sInt Syntax.w64)) (List._∷_ (14, Rows.any-gone (Syntax.tyStruct (List._∷_ 115 (List._∷_ 99 (List._∷_ 114 (List._∷_ 105 (List._∷_ 112 (List._∷_ 116 (List._∷_ 58 (List._∷_ 58 (List._∷_ 115 (List._∷_ 99 (List._∷_ 97 (List._∷_ 110 (List._∷_ 58 (List._∷_ 58 (List._∷_ 76 (List._∷_ 105 (List._∷_ 110 (List._∷_ 101 List.[])))))))))))))))))) (Syntax.tcons (Syntax.tyInt Syntax.w32) (Syntax.tcons (Syntax.tyInt Syntax.w64) (Syntax.tcons (Syntax.tyInt Syntax.w64) (Syntax.tcons (Syntax.tyInt Syntax.w64) (Syntax.tcons (Syntax.tyInt Syntax.w64) Syntax.tnil))))))) (List._∷_ (15, Rows.sc-here (Row.sInt Syntax.w64)) List.[])))))))))))))))
+        g15 = List._∷_ local0 (List._∷_ local1 (List._∷_ (2, Rows.mref-owed held2 ty21 1 10 slot0) locals9))
 
         abbrev g17 : List.List Row.Entry
-        g17 = List._∷_ (0, Rows.any-gone Syntax.tyUnit) (List._∷_ (1, Rows.sslice (Referent.rtF (Referent.fInt Syntax.w8)) (Syntax.tyRef (Syntax.named 0) Syntax.imm (Syntax.tyInt Syntax.w8)) 0) (List._∷_ (2, Rows.mref-owed (Array.Array (Referent.rtF (Referent.fInt Syntax.w32)) 32772) (Syntax.tyRef (Syntax.named 1) Syntax.mut (Syntax.tyArray (Syntax.tyInt Syntax.w32) 32772)) 1 10 (Row.lease (κs .1 .0) (qs .1 .0))) (List._∷_ (3, Rows.mref (Array.Array (Referent.rtF (Referent.fInt Syntax.w8)) 16388) (Syntax.tyRef (Syntax.named 2) Syntax.mut (Syntax.tyArray (Syntax.tyInt Syntax.w8) 16388)) 2) (List._∷_ (4, Rows.mref (Array.Array (Referent.rtF (Referent.fInt Syntax.w32)) 65540) (Syntax.tyRef (Syntax.named 3) Syntax.mut (Syntax.tyArray (Syntax.tyInt Syntax.w32) 65540)) 3) (List._∷_ (5, Rows.mref (Array.Array (Referent.rtF (Referent.fInt Syntax.w32)) 32772) (Syntax.tyRef (Syntax.named 4) Syntax.mut (Syntax.tyArray (Syntax.tyInt Syntax.w32) 32772)) 4) (List._∷_ (6, Rows.mref (Array.Array (Referent.rtF (Referent.fInt Syntax.w32)) 32772) (Syntax.tyRef (Syntax.named 5) Syntax.mut (Syntax.tyArray (Syntax.tyInt Syntax.w32) 32772)) 5) (List._∷_ (7, Rows.mref (Array.Array (Referent.rtF (Referent.fInt Syntax.w32)) 262160) (Syntax.tyRef (Syntax.named 6) Syntax.mut (Syntax.tyArray (Syntax.tyInt Syntax.w32) 262160)) 6) (List._∷_ (8, Rows.mref (Array.Array (Referent.rtF (Referent.fInt Syntax.w8)) 600000) (Syntax.tyRef (Syntax.named 7) Syntax.mut (Syntax.tyArray (Syntax.tyInt Syntax.w8) 600000)) 7) (List._∷_ (9, Rows.mref (Array.Array Cell.R 65540) (Syntax.tyRef (Syntax.named 8) Syntax.mut (Syntax.tyArray Cell.behind 65540)) 8) (List._∷_ (10, Rows.mref (Array.Array Cell.R 32772) (Syntax.tyRef (Syntax.named 9) Syntax.mut (Syntax.tyArray Cell.behind 32772)) 9) (List._∷_ (11, Rows.whole (Declared.row Held.the-type)) (List._∷_ (12, Rows.sc-here (Row.sInt Syntax.w64)) (List._∷_ (13, Rows.sc-here (Row.sInt Syntax.w64)) (List._∷_ (14, Rows.whole (Declared.row Line.the-type)) (List._∷_ (15, Rows.sc-here (Row.sInt Syntax.w64)) List.[])))))))))))))))
+        g17 = List._∷_ local0 (List._∷_ local1 (List._∷_ (2, Rows.mref-owed held2 ty21 1 10 slot0) locals17))
 
         abbrev g20 : List.List Row.Entry
-        g20 = List._∷_ (0, Rows.any-gone Syntax.tyUnit) (List._∷_ (1, Rows.sslice (Referent.rtF (Referent.fInt Syntax.w8)) (Syntax.tyRef (Syntax.named 0) Syntax.imm (Syntax.tyInt Syntax.w8)) 0) (List._∷_ (2, Reshare.mref-owedS (Array.Array (Referent.rtF (Referent.fInt Syntax.w32)) 32772) (Syntax.tyRef (Syntax.named 1) Syntax.mut (Syntax.tyArray (Syntax.tyInt Syntax.w32) 32772)) 1 11 (Row.lease (κs .1 .0) (qs .1 .0))) (List._∷_ (3, Rows.mref (Array.Array (Referent.rtF (Referent.fInt Syntax.w8)) 16388) (Syntax.tyRef (Syntax.named 2) Syntax.mut (Syntax.tyArray (Syntax.tyInt Syntax.w8) 16388)) 2) (List._∷_ (4, Rows.mref (Array.Array (Referent.rtF (Referent.fInt Syntax.w32)) 65540) (Syntax.tyRef (Syntax.named 3) Syntax.mut (Syntax.tyArray (Syntax.tyInt Syntax.w32) 65540)) 3) (List._∷_ (5, Rows.mref (Array.Array (Referent.rtF (Referent.fInt Syntax.w32)) 32772) (Syntax.tyRef (Syntax.named 4) Syntax.mut (Syntax.tyArray (Syntax.tyInt Syntax.w32) 32772)) 4) (List._∷_ (6, Rows.mref (Array.Array (Referent.rtF (Referent.fInt Syntax.w32)) 32772) (Syntax.tyRef (Syntax.named 5) Syntax.mut (Syntax.tyArray (Syntax.tyInt Syntax.w32) 32772)) 5) (List._∷_ (7, Rows.mref (Array.Array (Referent.rtF (Referent.fInt Syntax.w32)) 262160) (Syntax.tyRef (Syntax.named 6) Syntax.mut (Syntax.tyArray (Syntax.tyInt Syntax.w32) 262160)) 6) (List._∷_ (8, Rows.mref (Array.Array (Referent.rtF (Referent.fInt Syntax.w8)) 600000) (Syntax.tyRef (Syntax.named 7) Syntax.mut (Syntax.tyArray (Syntax.tyInt Syntax.w8) 600000)) 7) (List._∷_ (9, Rows.mref (Array.Array Cell.R 65540) (Syntax.tyRef (Syntax.named 8) Syntax.mut (Syntax.tyArray Cell.behind 65540)) 8) (List._∷_ (10, Rows.mref (Array.Array Cell.R 32772) (Syntax.tyRef (Syntax.named 9) Syntax.mut (Syntax.tyArray Cell.behind 32772)) 9) (List._∷_ (11, Rows.whole (Declared.row Held.the-type)) (List._∷_ (12, Rows.sc-here (Row.sInt Syntax.w64)) (List._∷_ (13, Rows.sc-here (Row.sInt Syntax.w64)) (List._∷_ (14, Rows.whole (Declared.row Line.the-type)) (List._∷_ (15, Rows.sc-here (Row.sInt Syntax.w64)) List.[])))))))))))))))
+        g20 = List._∷_ local0 (List._∷_ local1 (List._∷_ local45 locals17))
 
         abbrev g22 : List.List Row.Entry
-        g22 = List._∷_ (0, Rows.any-gone Syntax.tyUnit) (List._∷_ (1, Rows.sslice (Referent.rtF (Referent.fInt Syntax.w8)) (Syntax.tyRef (Syntax.named 0) Syntax.imm (Syntax.tyInt Syntax.w8)) 0) (List._∷_ (2, Reshare.mref-owedS (Array.Array (Referent.rtF (Referent.fInt Syntax.w32)) 32772) (Syntax.tyRef (Syntax.named 1) Syntax.mut (Syntax.tyArray (Syntax.tyInt Syntax.w32) 32772)) 1 11 (Row.lease (κs .1 .0) (qs .1 .0))) (List._∷_ (3, Rows.mref-owed (Array.Array (Referent.rtF (Referent.fInt Syntax.w8)) 16388) (Syntax.tyRef (Syntax.named 2) Syntax.mut (Syntax.tyArray (Syntax.tyInt Syntax.w8) 16388)) 2 12 (Row.lease (κs .1 .1 .0) (qs .1 .1 .0))) (List._∷_ (4, Rows.mref (Array.Array (Referent.rtF (Referent.fInt Syntax.w32)) 65540) (Syntax.tyRef (Syntax.named 3) Syntax.mut (Syntax.tyArray (Syntax.tyInt Syntax.w32) 65540)) 3) (List._∷_ (5, Rows.mref (Array.Array (Referent.rtF (Referent.fInt Syntax.w32)) 32772) (Syntax.tyRef (Syntax.named 4) Syntax.mut (Syntax.tyArray (Syntax.tyInt Syntax.w32) 32772)) 4) (List._∷_ (6, Rows.mref (Array.Array (Referent.rtF (Referent.fInt Syntax.w32)) 32772) (Syntax.tyRef (Syntax.named 5) Syntax.mut (Syntax.tyArray (Syntax.tyInt Syntax.w32) 32772)) 5) (List._∷_ (7, Rows.mref (Array.Array (Referent.rtF (Referent.fInt Syntax.w32)) 262160) (Syntax.tyRef (Syntax.named 6) Syntax.mut (Syntax.tyArray (Syntax.tyInt Syntax.w32) 262160)) 6) (List._∷_ (8, Rows.mref (Array.Array (Referent.rtF (Referent.fInt Syntax.w8)) 600000) (Syntax.tyRef (Syntax.named 7) Syntax.mut (Syntax.tyArray (Syntax.tyInt Syntax.w8) 600000)) 7) (List._∷_ (9, Rows.mref (Array.Array Cell.R 65540) (Syntax.tyRef (Syntax.named 8) Syntax.mut (Syntax.tyArray Cell.behind 65540)) 8) (List._∷_ (10, Rows.mref (Array.Array Cell.R 32772) (Syntax.tyRef (Syntax.named 9) Syntax.mut (Syntax.tyArray Cell.behind 32772)) 9) (List._∷_ (11, Rows.whole (Declared.row Held.the-type)) (List._∷_ (12, Rows.sc-here (Row.sInt Syntax.w64)) (List._∷_ (13, Rows.sc-here (Row.sInt Syntax.w64)) (List._∷_ (14, Rows.whole (Declared.row Line.the-type)) (List._∷_ (15, Rows.sc-here (Row.sInt Syntax.w64)) List.[])))))))))))))))
+        g22 = List._∷_ local0 (List._∷_ local1 (List._∷_ local45 (List._∷_ local46 (List._∷_ local4 locals16))))
 
         abbrev g24 : List.List Row.Entry
-        g24 = List._∷_ (0, Rows.any-gone Syntax.tyUnit) (List._∷_ (1, Rows.sslice (Referent.rtF (Referent.fInt Syntax.w8)) (Syntax.tyRef (Syntax.named 0) Syntax.imm (Syntax.tyInt Syntax.w8)) 0) (List._∷_ (2, Reshare.mref-owedS (Array.Array (Referent.rtF (Referent.fInt Syntax.w32)) 32772) (Syntax.tyRef (Syntax.named 1) Syntax.mut (Syntax.tyArray (Syntax.tyInt Syntax.w32) 32772)) 1 11 (Row.lease (κs .1 .0) (qs .1 .0))) (List._∷_ (3, Rows.mref-owed (Array.Array (Referent.rtF (Referent.fInt Syntax.w8)) 16388) (Syntax.tyRef (Syntax.named 2) Syntax.mut (Syntax.tyArray (Syntax.tyInt Syntax.w8) 16388)) 2 12 (Row.lease (κs .1 .1 .0) (qs .1 .1 .0))) (List._∷_ (4, Rows.mref-owed (Array.Array (Referent.rtF (Referent.fInt Syntax.w32)) 65540) (Syntax.tyRef (Syntax.named 3) Syntax.mut (Syntax.tyArray (Syntax.tyInt Syntax.w32) 65540)) 3 13 (Row.lease (κs .1 .1 .1 .0) (qs .1 .1 .1 .0))) (List._∷_ (5, Rows.mref (Array.Array (Referent.rtF (Referent.fInt Syntax.w32)) 32772) (Syntax.tyRef (Syntax.named 4) Syntax.mut (Syntax.tyArray (Syntax.tyInt Syntax.w32) 32772)) 4) (List._∷_ (6, Rows.mref (Array.Array (Referent.rtF (Referent.fInt Syntax.w32)) 32772) (Syntax.tyRef (Syntax.named 5) Syntax.mut (Syntax.tyArray (Syntax.tyInt Syntax.w32) 32772)) 5) (List._∷_ (7, Rows.mref (Array.Array (Referent.rtF (Referent.fInt Syntax.w32)) 262160) (Syntax.tyRef (Syntax.named 6) Syntax.mut (Syntax.tyArray (Syntax.tyInt Syntax.w32) 262160)) 6) (List._∷_ (8, Rows.mref (Array.Array (Referent.rtF (Referent.fInt Syntax.w8)) 600000) (Syntax.tyRef (Syntax.named 7) Syntax.mut (Syntax.tyArray (Syntax.tyInt Syntax.w8) 600000)) 7) (List._∷_ (9, Rows.mref (Array.Array Cell.R 65540) (Syntax.tyRef (Syntax.named 8) Syntax.mut (Syntax.tyArray Cell.behind 65540)) 8) (List._∷_ (10, Rows.mref (Array.Array Cell.R 32772) (Syntax.tyRef (Syntax.named 9) Syntax.mut (Syntax.tyArray Cell.behind 32772)) 9) (List._∷_ (11, Rows.whole (Declared.row Held.the-type)) (List._∷_ (12, Rows.sc-here (Row.sInt Syntax.w64)) (List._∷_ (13, Rows.sc-here (Row.sInt Syntax.w64)) (List._∷_ (14, Rows.whole (Declared.row Line.the-type)) (List._∷_ (15, Rows.sc-here (Row.sInt Syntax.w64)) List.[])))))))))))))))
+        g24 = List._∷_ local0 (List._∷_ local1 (List._∷_ local45 (List._∷_ local46 (List._∷_ local47 locals16))))
 
         abbrev g26 : List.List Row.Entry
-        g26 = List._∷_ (0, Rows.any-gone Syntax.tyUnit) (List._∷_ (1, Rows.sslice (Referent.rtF (Referent.fInt Syntax.w8)) (Syntax.tyRef (Syntax.named 0) Syntax.imm (Syntax.tyInt Syntax.w8)) 0) (List._∷_ (2, Reshare.mref-owedS (Array.Array (Referent.rtF (Referent.fInt Syntax.w32)) 32772) (Syntax.tyRef (Syntax.named 1) Syntax.mut (Syntax.tyArray (Syntax.tyInt Syntax.w32) 32772)) 1 11 (Row.lease (κs .1 .0) (qs .1 .0))) (List._∷_ (3, Rows.mref-owed (Array.Array (Referent.rtF (Referent.fInt Syntax.w8)) 16388) (Syntax.tyRef (Syntax.named 2) Syntax.mut (Syntax.tyArray (Syntax.tyInt Syntax.w8) 16388)) 2 12 (Row.lease (κs .1 .1 .0) (qs .1 .1 .0))) (List._∷_ (4, Rows.mref-owed (Array.Array (Referent.rtF (Referent.fInt Syntax.w32)) 65540) (Syntax.tyRef (Syntax.named 3) Syntax.mut (Syntax.tyArray (Syntax.tyInt Syntax.w32) 65540)) 3 13 (Row.lease (κs .1 .1 .1 .0) (qs .1 .1 .1 .0))) (List._∷_ (5, Rows.mref-owed (Array.Array (Referent.rtF (Referent.fInt Syntax.w32)) 32772) (Syntax.tyRef (Syntax.named 4) Syntax.mut (Syntax.tyArray (Syntax.tyInt Syntax.w32) 32772)) 4 14 (Row.lease (κs .1 .1 .1 .1 .0) (qs .1 .1 .1 .1 .0))) (List._∷_ (6, Rows.mref (Array.Array (Referent.rtF (Referent.fInt Syntax.w32)) 32772) (Syntax.tyRef (Syntax.named 5) Syntax.mut (Syntax.tyArray (Syntax.tyInt Syntax.w32) 32772)) 5) (List._∷_ (7, Rows.mref (Array.Array (Referent.rtF (Referent.fInt Syntax.w32)) 262160) (Syntax.tyRef (Syntax.named 6) Syntax.mut (Syntax.tyArray (Syntax.tyInt Syntax.w32) 262160)) 6) (List._∷_ (8, Rows.mref (Array.Array (Referent.rtF (Referent.fInt Syntax.w8)) 600000) (Syntax.tyRef (Syntax.named 7) Syntax.mut (Syntax.tyArray (Syntax.tyInt Syntax.w8) 600000)) 7) (List._∷_ (9, Rows.mref (Array.Array Cell.R 65540) (Syntax.tyRef (Syntax.named 8) Syntax.mut (Syntax.tyArray Cell.behind 65540)) 8) (List._∷_ (10, Rows.mref (Array.Array Cell.R 32772) (Syntax.tyRef (Syntax.named 9) Syntax.mut (Syntax.tyArray Cell.behind 32772)) 9) (List._∷_ (11, Rows.whole (Declared.row Held.the-type)) (List._∷_ (12, Rows.sc-here (Row.sInt Syntax.w64)) (List._∷_ (13, Rows.sc-here (Row.sInt Syntax.w64)) (List._∷_ (14, Rows.whole (Declared.row Line.the-type)) (List._∷_ (15, Rows.sc-here (Row.sInt Syntax.w64)) List.[])))))))))))))))
+        g26 = List._∷_ local0 (List._∷_ local1 (List._∷_ local45 (List._∷_ local46 (List._∷_ local47 (List._∷_ local48 (List._∷_ local6 locals15))))))
 
         abbrev g28 : List.List Row.Entry
-        g28 = List._∷_ (0, Rows.any-gone Syntax.tyUnit) (List._∷_ (1, Rows.sslice (Referent.rtF (Referent.fInt Syntax.w8)) (Syntax.tyRef (Syntax.named 0) Syntax.imm (Syntax.tyInt Syntax.w8)) 0) (List._∷_ (2, Reshare.mref-owedS (Array.Array (Referent.rtF (Referent.fInt Syntax.w32)) 32772) (Syntax.tyRef (Syntax.named 1) Syntax.mut (Syntax.tyArray (Syntax.tyInt Syntax.w32) 32772)) 1 11 (Row.lease (κs .1 .0) (qs .1 .0))) (List._∷_ (3, Rows.mref-owed (Array.Array (Referent.rtF (Referent.fInt Syntax.w8)) 16388) (Syntax.tyRef (Syntax.named 2) Syntax.mut (Syntax.tyArray (Syntax.tyInt Syntax.w8) 16388)) 2 12 (Row.lease (κs .1 .1 .0) (qs .1 .1 .0))) (List._∷_ (4, Rows.mref-owed (Array.Array (Referent.rtF (Referent.fInt Syntax.w32)) 65540) (Syntax.tyRef (Syntax.named 3) Syntax.mut (Syntax.tyArray (Syntax.tyInt Syntax.w32) 65540)) 3 13 (Row.lease (κs .1 .1 .1 .0) (qs .1 .1 .1 .0))) (List._∷_ (5, Rows.mref-owed (Array.Array (Referent.rtF (Referent.fInt Syntax.w32)) 32772) (Syntax.tyRef (Syntax.named 4) Syntax.mut (Syntax.tyArray (Syntax.tyInt Syntax.w32) 32772)) 4 14 (Row.lease (κs .1 .1 .1 .1 .0) (qs .1 .1 .1 .1 .0))) (List._∷_ (6, Rows.mref-owed (Array.Array (Referent.rtF (Referent.fInt Syntax.w32)) 32772) (Syntax.tyRef (Syntax.named 5) Syntax.mut (Syntax.tyArray (Syntax.tyInt Syntax.w32) 32772)) 5 15 (Row.lease (κs .1 .1 .1 .1 .1 .0) (qs .1 .1 .1 .1 .1 .0))) (List._∷_ (7, Rows.mref (Array.Array (Referent.rtF (Referent.fInt Syntax.w32)) 262160) (Syntax.tyRef (Syntax.named 6) Syntax.mut (Syntax.tyArray (Syntax.tyInt Syntax.w32) 262160)) 6) (List._∷_ (8, Rows.mref (Array.Array (Referent.rtF (Referent.fInt Syntax.w8)) 600000) (Syntax.tyRef (Syntax.named 7) Syntax.mut (Syntax.tyArray (Syntax.tyInt Syntax.w8) 600000)) 7) (List._∷_ (9, Rows.mref (Array.Array Cell.R 65540) (Syntax.tyRef (Syntax.named 8) Syntax.mut (Syntax.tyArray Cell.behind 65540)) 8) (List._∷_ (10, Rows.mref (Array.Array Cell.R 32772) (Syntax.tyRef (Syntax.named 9) Syntax.mut (Syntax.tyArray Cell.behind 32772)) 9) (List._∷_ (11, Rows.whole (Declared.row Held.the-type)) (List._∷_ (12, Rows.sc-here (Row.sInt Syntax.w64)) (List._∷_ (13, Rows.sc-here (Row.sInt Syntax.w64)) (List._∷_ (14, Rows.whole (Declared.row Line.the-type)) (List._∷_ (15, Rows.sc-here (Row.sInt Syntax.w64)) List.[])))))))))))))))
+        g28 = List._∷_ local0 (List._∷_ local1 (List._∷_ local45 (List._∷_ local46 (List._∷_ local47 (List._∷_ local48 (List._∷_ local49 locals15))))))
 
         abbrev g30 : List.List Row.Entry
-        g30 = List._∷_ (0, Rows.any-gone Syntax.tyUnit) (List._∷_ (1, Rows.sslice (Referent.rtF (Referent.fInt Syntax.w8)) (Syntax.tyRef (Syntax.named 0) Syntax.imm (Syntax.tyInt Syntax.w8)) 0) (List._∷_ (2, Reshare.mref-owedS (Array.Array (Referent.rtF (Referent.fInt Syntax.w32)) 32772) (Syntax.tyRef (Syntax.named 1) Syntax.mut (Syntax.tyArray (Syntax.tyInt Syntax.w32) 32772)) 1 11 (Row.lease (κs .1 .0) (qs .1 .0))) (List._∷_ (3, Rows.mref-owed (Array.Array (Referent.rtF (Referent.fInt Syntax.w8)) 16388) (Syntax.tyRef (Syntax.named 2) Syntax.mut (Syntax.tyArray (Syntax.tyInt Syntax.w8) 16388)) 2 12 (Row.lease (κs .1 .1 .0) (qs .1 .1 .0))) (List._∷_ (4, Rows.mref-owed (Array.Array (Referent.rtF (Referent.fInt Syntax.w32)) 65540) (Syntax.tyRef (Syntax.named 3) Syntax.mut (Syntax.tyArray (Syntax.tyInt Syntax.w32) 65540)) 3 13 (Row.lease (κs .1 .1 .1 .0) (qs .1 .1 .1 .0))) (List._∷_ (5, Rows.mref-owed (Array.Array (Referent.rtF (Referent.fInt Syntax.w32)) 32772) (Syntax.tyRef (Syntax.named 4) Syntax.mut (Syntax.tyArray (Syntax.tyInt Syntax.w32) 32772)) 4 14 (Row.lease (κs .1 .1 .1 .1 .0) (qs .1 .1 .1 .1 .0))) (List._∷_ (6, Rows.mref-owed (Array.Array (Referent.rtF (Referent.fInt Syntax.w32)) 32772) (Syntax.tyRef (Syntax.named 5) Syntax.mut (Syntax.tyArray (Syntax.tyInt Syntax.w32) 32772)) 5 15 (Row.lease (κs .1 .1 .1 .1 .1 .0) (qs .1 .1 .1 .1 .1 .0))) (List._∷_ (7, Rows.mref-owed (Array.Array (Referent.rtF (Referent.fInt Syntax.w32)) 262160) (Syntax.tyRef (Syntax.named 6) Syntax.mut (Syntax.tyArray (Syntax.tyInt Syntax.w32) 262160)) 6 16 (Row.lease (κs .1 .1 .1 .1 .1 .1 .0) (qs .1 .1 .1 .1 .1 .1 .0))) (List._∷_ (8, Rows.mref (Array.Array (Referent.rtF (Referent.fInt Syntax.w8)) 600000) (Syntax.tyRef (Syntax.named 7) Syntax.mut (Syntax.tyArray (Syntax.tyInt Syntax.w8) 600000)) 7) (List._∷_ (9, Rows.mref (Array.Array Cell.R 65540) (Syntax.tyRef (Syntax.named 8) Syntax.mut (Syntax.tyArray Cell.behind 65540)) 8) (List._∷_ (10, Rows.mref (Array.Array Cell.R 32772) (Syntax.tyRef (Syntax.named 9) Syntax.mut (Syntax.tyArray Cell.behind 32772)) 9) (List._∷_ (11, Rows.whole (Declared.row Held.the-type)) (List._∷_ (12, Rows.sc-here (Row.sInt Syntax.w64)) (List._∷_ (13, Rows.sc-here (Row.sInt Syntax.w64)) (List._∷_ (14, Rows.whole (Declared.row Line.the-type)) (List._∷_ (15, Rows.sc-here (Row.sInt Syntax.w64)) List.[])))))))))))))))
+        g30 = List._∷_ local0 (List._∷_ local1 (List._∷_ local45 (List._∷_ local46 (List._∷_ local47 (List._∷_ local48 (List._∷_ local49 (List._∷_ local50 (List._∷_ local8 locals14))))))))
 
         abbrev g32 : List.List Row.Entry
-        g32 = List._∷_ (0, Rows.any-gone Syntax.tyUnit) (List._∷_ (1, Rows.sslice (Referent.rtF (Referent.fInt Syntax.w8)) (Syntax.tyRef (Syntax.named 0) Syntax.imm (Syntax.tyInt Syntax.w8)) 0) (List._∷_ (2, Reshare.mref-owedS (Array.Array (Referent.rtF (Referent.fInt Syntax.w32)) 32772) (Syntax.tyRef (Syntax.named 1) Syntax.mut (Syntax.tyArray (Syntax.tyInt Syntax.w32) 32772)) 1 11 (Row.lease (κs .1 .0) (qs .1 .0))) (List._∷_ (3, Rows.mref-owed (Array.Array (Referent.rtF (Referent.fInt Syntax.w8)) 16388) (Syntax.tyRef (Syntax.named 2) Syntax.mut (Syntax.tyArray (Syntax.tyInt Syntax.w8) 16388)) 2 12 (Row.lease (κs .1 .1 .0) (qs .1 .1 .0))) (List._∷_ (4, Rows.mref-owed (Array.Array (Referent.rtF (Referent.fInt Syntax.w32)) 65540) (Syntax.tyRef (Syntax.named 3) Syntax.mut (Syntax.tyArray (Syntax.tyInt Syntax.w32) 65540)) 3 13 (Row.lease (κs .1 .1 .1 .0) (qs .1 .1 .1 .0))) (List._∷_ (5, Rows.mref-owed (Array.Array (Referent.rtF (Referent.fInt Syntax.w32)) 32772) (Syntax.tyRef (Syntax.named 4) Syntax.mut (Syntax.tyArray (Syntax.tyInt Syntax.w32) 32772)) 4 14 (Row.lease (κs .1 .1 .1 .1 .0) (qs .1 .1 .1 .1 .0))) (List._∷_ (6, Rows.mref-owed (Array.Array (Referent.rtF (Referent.fInt Syntax.w32)) 32772) (Syntax.tyRef (Syntax.named 5) Syntax.mut (Syntax.tyArray (Syntax.tyInt Syntax.w32) 32772)) 5 15 (Row.lease (κs .1 .1 .1 .1 .1 .0) (qs .1 .1 .1 .1 .1 .0))) (List._∷_ (7, Rows.mref-owed (Array.Array (Referent.rtF (Referent.fInt Syntax.w32)) 262160) (Syntax.tyRef (Syntax.named 6) Syntax.mut (Syntax.tyArray (Syntax.tyInt Syntax.w32) 262160)) 6 16 (Row.lease (κs .1 .1 .1 .1 .1 .1 .0) (qs .1 .1 .1 .1 .1 .1 .0))) (List._∷_ (8, Rows.mref-owed (Array.Array (Referent.rtF (Referent.fInt Syntax.w8)) 600000) (Syntax.tyRef (Syntax.named 7) Syntax.mut (Syntax.tyArray (Syntax.tyInt Syntax.w8) 600000)) 7 17 (Row.lease (κs .1 .1 .1 .1 .1 .1 .1 .0) (qs .1 .1 .1 .1 .1 .1 .1 .0))) (List._∷_ (9, Rows.mref (Array.Array Cell.R 65540) (Syntax.tyRef (Syntax.named 8) Syntax.mut (Syntax.tyArray Cell.behind 65540)) 8) (List._∷_ (10, Rows.mref (Array.Array Cell.R 32772) (Syntax.tyRef (Syntax.named 9) Syntax.mut (Syntax.tyArray Cell.behind 32772)) 9) (List._∷_ (11, Rows.whole (Declared.row Held.the-type)) (List._∷_ (12, Rows.sc-here (Row.sInt Syntax.w64)) (List._∷_ (13, Rows.sc-here (Row.sInt Syntax.w64)) (List._∷_ (14, Rows.whole (Declared.row Line.the-type)) (List._∷_ (15, Rows.sc-here (Row.sInt Syntax.w64)) List.[])))))))))))))))
+        g32 = List._∷_ local0 (List._∷_ local1 (List._∷_ local45 (List._∷_ local46 (List._∷_ local47 (List._∷_ local48 (List._∷_ local49 (List._∷_ local50 (List._∷_ local51 locals14))))))))
 
         abbrev g34 : List.List Row.Entry
-        g34 = List._∷_ (0, Rows.any-gone Syntax.tyUnit) (List._∷_ (1, Rows.sslice (Referent.rtF (Referent.fInt Syntax.w8)) (Syntax.tyRef (Syntax.named 0) Syntax.imm (Syntax.tyInt Syntax.w8)) 0) (List._∷_ (2, Reshare.mref-owedS (Array.Array (Referent.rtF (Referent.fInt Syntax.w32)) 32772) (Syntax.tyRef (Syntax.named 1) Syntax.mut (Syntax.tyArray (Syntax.tyInt Syntax.w32) 32772)) 1 11 (Row.lease (κs .1 .0) (qs .1 .0))) (List._∷_ (3, Rows.mref-owed (Array.Array (Referent.rtF (Referent.fInt Syntax.w8)) 16388) (Syntax.tyRef (Syntax.named 2) Syntax.mut (Syntax.tyArray (Syntax.tyInt Syntax.w8) 16388)) 2 12 (Row.lease (κs .1 .1 .0) (qs .1 .1 .0))) (List._∷_ (4, Rows.mref-owed (Array.Array (Referent.rtF (Referent.fInt Syntax.w32)) 65540) (Syntax.tyRef (Syntax.named 3) Syntax.mut (Syntax.tyArray (Syntax.tyInt Syntax.w32) 65540)) 3 13 (Row.lease (κs .1 .1 .1 .0) (qs .1 .1 .1 .0))) (List._∷_ (5, Rows.mref-owed (Array.Array (Referent.rtF (Referent.fInt Syntax.w32)) 32772) (Syntax.tyRef (Syntax.named 4) Syntax.mut (Syntax.tyArray (Syntax.tyInt Syntax.w32) 32772)) 4 14 (Row.lease (κs .1 .1 .1 .1 .0) (qs .1 .1 .1 .1 .0))) (List._∷_ (6, Rows.mref-owed (Array.Array (Referent.rtF (Referent.fInt Syntax.w32)) 32772) (Syntax.tyRef (Syntax.named 5) Syntax.mut (Syntax.tyArray (Syntax.tyInt Syntax.w32) 32772)) 5 15 (Row.lease (κs .1 .1 .1 .1 .1 .0) (qs .1 .1 .1 .1 .1 .0))) (List._∷_ (7, Rows.mref-owed (Array.Array (Referent.rtF (Referent.fInt Syntax.w32)) 262160) (Syntax.tyRef (Syntax.named 6) Syntax.mut (Syntax.tyArray (Syntax.tyInt Syntax.w32) 262160)) 6 16 (Row.lease (κs .1 .1 .1 .1 .1 .1 .0) (qs .1 .1 .1 .1 .1 .1 .0))) (List._∷_ (8, Rows.mref-owed (Array.Array (Referent.rtF (Referent.fInt Syntax.w8)) 600000) (Syntax.tyRef (Syntax.named 7) Syntax.mut (Syntax.tyArray (Syntax.tyInt Syntax.w8) 600000)) 7 17 (Row.lease (κs .1 .1 .1 .1 .1 .1 .1 .0) (qs .1 .1 .1 .1 .1 .1 .1 .0))) (List._∷_ (9, Rows.mref-owed (Array.Array Cell.R 65540) (Syntax.tyRef (Syntax.named 8) Syntax.mut (Syntax.tyArray Cell.behind 65540)) 8 18 (Row.lease (κs .1 .1 .1 .1 .1 .1 .1 .1 .0) (qs .1 .1 .1 .1 .1 .1 .1 .1 .0))) (List._∷_ (10, Rows.mref (Array.Array Cell.R 32772) (Syntax.tyRef (Syntax.named 9) Syntax.mut (Syntax.tyArray Cell.behind 32772)) 9) (List._∷_ (11, Rows.whole (Declared.row Held.the-type)) (List._∷_ (12, Rows.sc-here (Row.sInt Syntax.w64)) (List._∷_ (13, Rows.sc-here (Row.sInt Syntax.w64)) (List._∷_ (14, Rows.whole (Declared.row Line.the-type)) (List._∷_ (15, Rows.sc-here (Row.sInt Syntax.w64)) List.[])))))))))))))))
+        g34 = List._∷_ local0 (List._∷_ local1 (List._∷_ local45 (List._∷_ local46 (List._∷_ local47 (List._∷_ local48 (List._∷_ local49 (List._∷_ local50 (List._∷_ local51 (List._∷_ local52 (List._∷_ local10 locals13))))))))))
 
         abbrev g36 : List.List Row.Entry
-        g36 = List._∷_ (0, Rows.any-gone Syntax.tyUnit) (List._∷_ (1, Rows.sslice (Referent.rtF (Referent.fInt Syntax.w8)) (Syntax.tyRef (Syntax.named 0) Syntax.imm (Syntax.tyInt Syntax.w8)) 0) (List._∷_ (2, Reshare.mref-owedS (Array.Array (Referent.rtF (Referent.fInt Syntax.w32)) 32772) (Syntax.tyRef (Syntax.named 1) Syntax.mut (Syntax.tyArray (Syntax.tyInt Syntax.w32) 32772)) 1 11 (Row.lease (κs .1 .0) (qs .1 .0))) (List._∷_ (3, Rows.mref-owed (Array.Array (Referent.rtF (Referent.fInt Syntax.w8)) 16388) (Syntax.tyRef (Syntax.named 2) Syntax.mut (Syntax.tyArray (Syntax.tyInt Syntax.w8) 16388)) 2 12 (Row.lease (κs .1 .1 .0) (qs .1 .1 .0))) (List._∷_ (4, Rows.mref-owed (Array.Array (Referent.rtF (Referent.fInt Syntax.w32)) 65540) (Syntax.tyRef (Syntax.named 3) Syntax.mut (Syntax.tyArray (Syntax.tyInt Syntax.w32) 65540)) 3 13 (Row.lease (κs .1 .1 .1 .0) (qs .1 .1 .1 .0))) (List._∷_ (5, Rows.mref-owed (Array.Array (Referent.rtF (Referent.fInt Syntax.w32)) 32772) (Syntax.tyRef (Syntax.named 4) Syntax.mut (Syntax.tyArray (Syntax.tyInt Syntax.w32) 32772)) 4 14 (Row.lease (κs .1 .1 .1 .1 .0) (qs .1 .1 .1 .1 .0))) (List._∷_ (6, Rows.mref-owed (Array.Array (Referent.rtF (Referent.fInt Syntax.w32)) 32772) (Syntax.tyRef (Syntax.named 5) Syntax.mut (Syntax.tyArray (Syntax.tyInt Syntax.w32) 32772)) 5 15 (Row.lease (κs .1 .1 .1 .1 .1 .0) (qs .1 .1 .1 .1 .1 .0))) (List._∷_ (7, Rows.mref-owed (Array.Array (Referent.rtF (Referent.fInt Syntax.w32)) 262160) (Syntax.tyRef (Syntax.named 6) Syntax.mut (Syntax.tyArray (Syntax.tyInt Syntax.w32) 262160)) 6 16 (Row.lease (κs .1 .1 .1 .1 .1 .1 .0) (qs .1 .1 .1 .1 .1 .1 .0))) (List._∷_ (8, Rows.mref-owed (Array.Array (Referent.rtF (Referent.fInt Syntax.w8)) 600000) (Syntax.tyRef (Syntax.named 7) Syntax.mut (Syntax.tyArray (Syntax.tyInt Syntax.w8) 600000)) 7 17 (Row.lease (κs .1 .1 .1 .1 .1 .1 .1 .0) (qs .1 .1 .1 .1 .1 .1 .1 .0))) (List._∷_ (9, Rows.mref-owed (Array.Array Cell.R 65540) (Syntax.tyRef (Syntax.named 8) Syntax.mut (Syntax.tyArray Cell.behind 65540)) 8 18 (Row.lease (κs .1 .1 .1 .1 .1 .1 .1 .1 .0) (qs .1 .1 .1 .1 .1 .1 .1 .1 .0))) (List._∷_ (10, Rows.mref-owed (Array.Array Cell.R 32772) (Syntax.tyRef (Syntax.named 9) Syntax.mut (Syntax.tyArray Cell.behind 32772)) 9 19 (Row.lease (κs .1 .1 .1 .1 .1 .1 .1 .1 .1 .0) (qs .1 .1 .1 .1 .1 .1 .1 .1 .1 .0))) (List._∷_ (11, Rows.whole (Declared.row Held.the-type)) (List._∷_ (12, Rows.sc-here (Row.sInt Syntax.w64)) (List._∷_ (13, Rows.sc-here (Row.sInt Syntax.w64)) (List._∷_ (14, Rows.whole (Declared.row Line.the-type)) (List._∷_ (15, Rows.sc-here (Row.sInt Syntax.w64)) List.[])))))))))))))))
+        g36 = List._∷_ local0 (List._∷_ local1 (List._∷_ local45 (List._∷_ local46 (List._∷_ local47 locals26))))
 
         abbrev g40 : List.List Row.Entry
-        g40 = List._∷_ (0, Rows.any-gone Syntax.tyUnit) (List._∷_ (1, Rows.sslice (Referent.rtF (Referent.fInt Syntax.w8)) (Syntax.tyRef (Syntax.named 0) Syntax.imm (Syntax.tyInt Syntax.w8)) 0) (List._∷_ (2, Rows.mref (Array.Array (Referent.rtF (Referent.fInt Syntax.w32)) 32772) (Syntax.tyRef (Syntax.named 1) Syntax.mut (Syntax.tyArray (Syntax.tyInt Syntax.w32) 32772)) 1) (List._∷_ (3, Rows.mref-owed (Array.Array (Referent.rtF (Referent.fInt Syntax.w8)) 16388) (Syntax.tyRef (Syntax.named 2) Syntax.mut (Syntax.tyArray (Syntax.tyInt Syntax.w8) 16388)) 2 12 (Row.lease (κs .1 .1 .0) (qs .1 .1 .0))) (List._∷_ (4, Rows.mref-owed (Array.Array (Referent.rtF (Referent.fInt Syntax.w32)) 65540) (Syntax.tyRef (Syntax.named 3) Syntax.mut (Syntax.tyArray (Syntax.tyInt Syntax.w32) 65540)) 3 13 (Row.lease (κs .1 .1 .1 .0) (qs .1 .1 .1 .0))) (List._∷_ (5, Rows.mref-owed (Array.Array (Referent.rtF (Referent.fInt Syntax.w32)) 32772) (Syntax.tyRef (Syntax.named 4) Syntax.mut (Syntax.tyArray (Syntax.tyInt Syntax.w32) 32772)) 4 14 (Row.lease (κs .1 .1 .1 .1 .0) (qs .1 .1 .1 .1 .0))) (List._∷_ (6, Rows.mref-owed (Array.Array (Referent.rtF (Referent.fInt Syntax.w32)) 32772) (Syntax.tyRef (Syntax.named 5) Syntax.mut (Syntax.tyArray (Syntax.tyInt Syntax.w32) 32772)) 5 15 (Row.lease (κs .1 .1 .1 .1 .1 .0) (qs .1 .1 .1 .1 .1 .0))) (List._∷_ (7, Rows.mref-owed (Array.Array (Referent.rtF (Referent.fInt Syntax.w32)) 262160) (Syntax.tyRef (Syntax.named 6) Syntax.mut (Syntax.tyArray (Syntax.tyInt Syntax.w32) 262160)) 6 16 (Row.lease (κs .1 .1 .1 .1 .1 .1 .0) (qs .1 .1 .1 .1 .1 .1 .0))) (List._∷_ (8, Rows.mref-owed (Array.Array (Referent.rtF (Referent.fInt Syntax.w8)) 600000) (Syntax.tyRef (Syntax.named 7) Syntax.mut (Syntax.tyArray (Syntax.tyInt Syntax.w8) 600000)) 7 17 (Row.lease (κs .1 .1 .1 .1 .1 .1 .1 .0) (qs .1 .1 .1 .1 .1 .1 .1 .0))) (List._∷_ (9, Rows.mref-owed (Array.Array Cell.R 65540) (Syntax.tyRef (Syntax.named 8) Syntax.mut (Syntax.tyArray Cell.behind 65540)) 8 18 (Row.lease (κs .1 .1 .1 .1 .1 .1 .1 .1 .0) (qs .1 .1 .1 .1 .1 .1 .1 .1 .0))) (List._∷_ (10, Rows.mref-owed (Array.Array Cell.R 32772) (Syntax.tyRef (Syntax.named 9) Syntax.mut (Syntax.tyArray Cell.behind 32772)) 9 19 (Row.lease (κs .1 .1 .1 .1 .1 .1 .1 .1 .1 .0) (qs .1 .1 .1 .1 .1 .1 .1 .1 .1 .0))) (List._∷_ (11, Rows.whole (Declared.row Held.the-type)) (List._∷_ (12, Rows.sc-here (Row.sInt Syntax.w64)) (List._∷_ (13, Rows.sc-here (Row.sInt Syntax.w64)) (List._∷_ (14, Rows.whole (Declared.row Line.the-type)) (List._∷_ (15, Rows.sc-here (Row.sInt Syntax.w64)) List.[])))))))))))))))
+        g40 = List._∷_ local0 (List._∷_ local1 (List._∷_ local2 (List._∷_ local46 (List._∷_ local47 locals26))))
 
         abbrev g41 : List.List Row.Entry
-        g41 = List._∷_ (0, Rows.any-gone Syntax.tyUnit) (List._∷_ (1, Rows.sslice (Referent.rtF (Referent.fInt Syntax.w8)) (Syntax.tyRef (Syntax.named 0) Syntax.imm (Syntax.tyInt Syntax.w8)) 0) (List._∷_ (2, Rows.mref (Array.Array (Referent.rtF (Referent.fInt Syntax.w32)) 32772) (Syntax.tyRef (Syntax.named 1) Syntax.mut (Syntax.tyArray (Syntax.tyInt Syntax.w32) 32772)) 1) (List._∷_ (3, Rows.mref (Array.Array (Referent.rtF (Referent.fInt Syntax.w8)) 16388) (Syntax.tyRef (Syntax.named 2) Syntax.mut (Syntax.tyArray (Syntax.tyInt Syntax.w8) 16388)) 2) (List._∷_ (4, Rows.mref-owed (Array.Array (Referent.rtF (Referent.fInt Syntax.w32)) 65540) (Syntax.tyRef (Syntax.named 3) Syntax.mut (Syntax.tyArray (Syntax.tyInt Syntax.w32) 65540)) 3 13 (Row.lease (κs .1 .1 .1 .0) (qs .1 .1 .1 .0))) (List._∷_ (5, Rows.mref-owed (Array.Array (Referent.rtF (Referent.fInt Syntax.w32)) 32772) (Syntax.tyRef (Syntax.named 4) Syntax.mut (Syntax.tyArray (Syntax.tyInt Syntax.w32) 32772)) 4 14 (Row.lease (κs .1 .1 .1 .1 .0) (qs .1 .1 .1 .1 .0))) (List._∷_ (6, Rows.mref-owed (Array.Array (Referent.rtF (Referent.fInt Syntax.w32)) 32772) (Syntax.tyRef (Syntax.named 5) Syntax.mut (Syntax.tyArray (Syntax.tyInt Syntax.w32) 32772)) 5 15 (Row.lease (κs .1 .1 .1 .1 .1 .0) (qs .1 .1 .1 .1 .1 .0))) (List._∷_ (7, Rows.mref-owed (Array.Array (Referent.rtF (Referent.fInt Syntax.w32)) 262160) (Syntax.tyRef (Syntax.named 6) Syntax.mut (Syntax.tyArray (Syntax.tyInt Syntax.w32) 262160)) 6 16 (Row.lease (κs .1 .1 .1 .1 .1 .1 .0) (qs .1 .1 .1 .1 .1 .1 .0))) (List._∷_ (8, Rows.mref-owed (Array.Array (Referent.rtF (Referent.fInt Syntax.w8)) 600000) (Syntax.tyRef (Syntax.named 7) Syntax.mut (Syntax.tyArray (Syntax.tyInt Syntax.w8) 600000)) 7 17 (Row.lease (κs .1 .1 .1 .1 .1 .1 .1 .0) (qs .1 .1 .1 .1 .1 .1 .1 .0))) (List._∷_ (9, Rows.mref-owed (Array.Array Cell.R 65540) (Syntax.tyRef (Syntax.named 8) Syntax.mut (Syntax.tyArray Cell.behind 65540)) 8 18 (Row.lease (κs .1 .1 .1 .1 .1 .1 .1 .1 .0) (qs .1 .1 .1 .1 .1 .1 .1 .1 .0))) (List._∷_ (10, Rows.mref-owed (Array.Array Cell.R 32772) (Syntax.tyRef (Syntax.named 9) Syntax.mut (Syntax.tyArray Cell.behind 32772)) 9 19 (Row.lease (κs .1 .1 .1 .1 .1 .1 .1 .1 .1 .0) (qs .1 .1 .1 .1 .1 .1 .1 .1 .1 .0))) (List._∷_ (11, Rows.whole (Declared.row Held.the-type)) (List._∷_ (12, Rows.sc-here (Row.sInt Syntax.w64)) (List._∷_ (13, Rows.sc-here (Row.sInt Syntax.w64)) (List._∷_ (14, Rows.whole (Declared.row Line.the-type)) (List._∷_ (15, Rows.sc-here (Row.sInt Syntax.w64)) List.[])))))))))))))))
+        g41 = List._∷_ local0 (List._∷_ local1 (List._∷_ local2 (List._∷_ local3 (List._∷_ local47 locals26))))
 
         abbrev g43 : List.List Row.Entry
-        g43 = List._∷_ (0, Rows.any-gone Syntax.tyUnit) (List._∷_ (1, Rows.sslice (Referent.rtF (Referent.fInt Syntax.w8)) (Syntax.tyRef (Syntax.named 0) Syntax.imm (Syntax.tyInt Syntax.w8)) 0) (List._∷_ (2, Rows.mref (Array.Array (Referent.rtF (Referent.fInt Syntax.w32)) 32772) (Syntax.tyRef (Syntax.named 1) Syntax.mut (Syntax.tyArray (Syntax.tyInt Syntax.w32) 32772)) 1) (List._∷_ (3, Rows.mref (Array.Array (Referent.rtF (Referent.fInt Syntax.w8)) 16388) (Syntax.tyRef (Syntax.named 2) Syntax.mut (Syntax.tyArray (Syntax.tyInt Syntax.w8) 16388)) 2) (List._∷_ (4, Rows.mref (Array.Array (Referent.rtF (Referent.fInt Syntax.w32)) 65540) (Syntax.tyRef (Syntax.named 3) Syntax.mut (Syntax.tyArray (Syntax.tyInt Syntax.w32) 65540)) 3) (List._∷_ (5, Rows.mref-owed (Array.Array (Referent.rtF (Referent.fInt Syntax.w32)) 32772) (Syntax.tyRef (Syntax.named 4) Syntax.mut (Syntax.tyArray (Syntax.tyInt Syntax.w32) 32772)) 4 14 (Row.lease (κs .1 .1 .1 .1 .0) (qs .1 .1 .1 .1 .0))) (List._∷_ (6, Rows.mref-owed (Array.Array (Referent.rtF (Referent.fInt Syntax.w32)) 32772) (Syntax.tyRef (Syntax.named 5) Syntax.mut (Syntax.tyArray (Syntax.tyInt Syntax.w32) 32772)) 5 15 (Row.lease (κs .1 .1 .1 .1 .1 .0) (qs .1 .1 .1 .1 .1 .0))) (List._∷_ (7, Rows.mref-owed (Array.Array (Referent.rtF (Referent.fInt Syntax.w32)) 262160) (Syntax.tyRef (Syntax.named 6) Syntax.mut (Syntax.tyArray (Syntax.tyInt Syntax.w32) 262160)) 6 16 (Row.lease (κs .1 .1 .1 .1 .1 .1 .0) (qs .1 .1 .1 .1 .1 .1 .0))) (List._∷_ (8, Rows.mref-owed (Array.Array (Referent.rtF (Referent.fInt Syntax.w8)) 600000) (Syntax.tyRef (Syntax.named 7) Syntax.mut (Syntax.tyArray (Syntax.tyInt Syntax.w8) 600000)) 7 17 (Row.lease (κs .1 .1 .1 .1 .1 .1 .1 .0) (qs .1 .1 .1 .1 .1 .1 .1 .0))) (List._∷_ (9, Rows.mref-owed (Array.Array Cell.R 65540) (Syntax.tyRef (Syntax.named 8) Syntax.mut (Syntax.tyArray Cell.behind 65540)) 8 18 (Row.lease (κs .1 .1 .1 .1 .1 .1 .1 .1 .0) (qs .1 .1 .1 .1 .1 .1 .1 .1 .0))) (List._∷_ (10, Rows.mref-owed (Array.Array Cell.R 32772) (Syntax.tyRef (Syntax.named 9) Syntax.mut (Syntax.tyArray Cell.behind 32772)) 9 19 (Row.lease (κs .1 .1 .1 .1 .1 .1 .1 .1 .1 .0) (qs .1 .1 .1 .1 .1 .1 .1 .1 .1 .0))) (List._∷_ (11, Rows.whole (Declared.row Held.the-type)) (List._∷_ (12, Rows.sc-here (Row.sInt Syntax.w64)) (List._∷_ (13, Rows.sc-here (Row.sInt Syntax.w64)) (List._∷_ (14, Rows.whole (Declared.row Line.the-type)) (List._∷_ (15, Rows.sc-here (Row.sInt Syntax.w64)) List.[])))))))))))))))
+        g43 = List._∷_ local0 (List._∷_ local1 (List._∷_ local2 (List._∷_ local3 (List._∷_ local4 locals26))))
 
         abbrev g45 : List.List Row.Entry
-        g45 = List._∷_ (0, Rows.any-gone Syntax.tyUnit) (List._∷_ (1, Rows.sslice (Referent.rtF (Referent.fInt Syntax.w8)) (Syntax.tyRef (Syntax.named 0) Syntax.imm (Syntax.tyInt Syntax.w8)) 0) (List._∷_ (2, Rows.mref (Array.Array (Referent.rtF (Referent.fInt Syntax.w32)) 32772) (Syntax.tyRef (Syntax.named 1) Syntax.mut (Syntax.tyArray (Syntax.tyInt Syntax.w32) 32772)) 1) (List._∷_ (3, Rows.mref (Array.Array (Referent.rtF (Referent.fInt Syntax.w8)) 16388) (Syntax.tyRef (Syntax.named 2) Syntax.mut (Syntax.tyArray (Syntax.tyInt Syntax.w8) 16388)) 2) (List._∷_ (4, Rows.mref (Array.Array (Referent.rtF (Referent.fInt Syntax.w32)) 65540) (Syntax.tyRef (Syntax.named 3) Syntax.mut (Syntax.tyArray (Syntax.tyInt Syntax.w32) 65540)) 3) (List._∷_ (5, Rows.mref (Array.Array (Referent.rtF (Referent.fInt Syntax.w32)) 32772) (Syntax.tyRef (Syntax.named 4) Syntax.mut (Syntax.tyArray (Syntax.tyInt Syntax.w32) 32772)) 4) (List._∷_ (6, Rows.mref-owed (Array.Array (Referent.rtF (Referent.fInt Syntax.w32)) 32772) (Syntax.tyRef (Syntax.named 5) Syntax.mut (Syntax.tyArray (Syntax.tyInt Syntax.w32) 32772)) 5 15 (Row.lease (κs .1 .1 .1 .1 .1 .0) (qs .1 .1 .1 .1 .1 .0))) (List._∷_ (7, Rows.mref-owed (Array.Array (Referent.rtF (Referent.fInt Syntax.w32)) 262160) (Syntax.tyRef (Syntax.named 6) Syntax.mut (Syntax.tyArray (Syntax.tyInt Syntax.w32) 262160)) 6 16 (Row.lease (κs .1 .1 .1 .1 .1 .1 .0) (qs .1 .1 .1 .1 .1 .1 .0))) (List._∷_ (8, Rows.mref-owed (Array.Array (Referent.rtF (Referent.fInt Syntax.w8)) 600000) (Syntax.tyRef (Syntax.named 7) Syntax.mut (Syntax.tyArray (Syntax.tyInt Syntax.w8) 600000)) 7 17 (Row.lease (κs .1 .1 .1 .1 .1 .1 .1 .0) (qs .1 .1 .1 .1 .1 .1 .1 .0))) (List._∷_ (9, Rows.mref-owed (Array.Array Cell.R 65540) (Syntax.tyRef (Syntax.named 8) Syntax.mut (Syntax.tyArray Cell.behind 65540)) 8 18 (Row.lease (κs .1 .1 .1 .1 .1 .1 .1 .1 .0) (qs .1 .1 .1 .1 .1 .1 .1 .1 .0))) (List._∷_ (10, Rows.mref-owed (Array.Array Cell.R 32772) (Syntax.tyRef (Syntax.named 9) Syntax.mut (Syntax.tyArray Cell.behind 32772)) 9 19 (Row.lease (κs .1 .1 .1 .1 .1 .1 .1 .1 .1 .0) (qs .1 .1 .1 .1 .1 .1 .1 .1 .1 .0))) (List._∷_ (11, Rows.whole (Declared.row Held.the-type)) (List._∷_ (12, Rows.sc-here (Row.sInt Syntax.w64)) (List._∷_ (13, Rows.sc-here (Row.sInt Syntax.w64)) (List._∷_ (14, Rows.whole (Declared.row Line.the-type)) (List._∷_ (15, Rows.sc-here (Row.sInt Syntax.w64)) List.[])))))))))))))))
+        g45 = List._∷_ local0 (List._∷_ local1 (List._∷_ local2 (List._∷_ local3 (List._∷_ local4 (List._∷_ local5 (List._∷_ local49 (List._∷_ local50 locals25)))))))
 
         abbrev g47 : List.List Row.Entry
-        g47 = List._∷_ (0, Rows.any-gone Syntax.tyUnit) (List._∷_ (1, Rows.sslice (Referent.rtF (Referent.fInt Syntax.w8)) (Syntax.tyRef (Syntax.named 0) Syntax.imm (Syntax.tyInt Syntax.w8)) 0) (List._∷_ (2, Rows.mref (Array.Array (Referent.rtF (Referent.fInt Syntax.w32)) 32772) (Syntax.tyRef (Syntax.named 1) Syntax.mut (Syntax.tyArray (Syntax.tyInt Syntax.w32) 32772)) 1) (List._∷_ (3, Rows.mref (Array.Array (Referent.rtF (Referent.fInt Syntax.w8)) 16388) (Syntax.tyRef (Syntax.named 2) Syntax.mut (Syntax.tyArray (Syntax.tyInt Syntax.w8) 16388)) 2) (List._∷_ (4, Rows.mref (Array.Array (Referent.rtF (Referent.fInt Syntax.w32)) 65540) (Syntax.tyRef (Syntax.named 3) Syntax.mut (Syntax.tyArray (Syntax.tyInt Syntax.w32) 65540)) 3) (List._∷_ (5, Rows.mref (Array.Array (Referent.rtF (Referent.fInt Syntax.w32)) 32772) (Syntax.tyRef (Syntax.named 4) Syntax.mut (Syntax.tyArray (Syntax.tyInt Syntax.w32) 32772)) 4) (List._∷_ (6, Rows.mref (Array.Array (Referent.rtF (Referent.fInt Syntax.w32)) 32772) (Syntax.tyRef (Syntax.named 5) Syntax.mut (Syntax.tyArray (Syntax.tyInt Syntax.w32) 32772)) 5) (List._∷_ (7, Rows.mref-owed (Array.Array (Referent.rtF (Referent.fInt Syntax.w32)) 262160) (Syntax.tyRef (Syntax.named 6) Syntax.mut (Syntax.tyArray (Syntax.tyInt Syntax.w32) 262160)) 6 16 (Row.lease (κs .1 .1 .1 .1 .1 .1 .0) (qs .1 .1 .1 .1 .1 .1 .0))) (List._∷_ (8, Rows.mref-owed (Array.Array (Referent.rtF (Referent.fInt Syntax.w8)) 600000) (Syntax.tyRef (Syntax.named 7) Syntax.mut (Syntax.tyArray (Syntax.tyInt Syntax.w8) 600000)) 7 17 (Row.lease (κs .1 .1 .1 .1 .1 .1 .1 .0) (qs .1 .1 .1 .1 .1 .1 .1 .0))) (List._∷_ (9, Rows.mref-owed (Array.Array Cell.R 65540) (Syntax.tyRef (Syntax.named 8) Syntax.mut (Syntax.tyArray Cell.behind 65540)) 8 18 (Row.lease (κs .1 .1 .1 .1 .1 .1 .1 .1 .0) (qs .1 .1 .1 .1 .1 .1 .1 .1 .0))) (List._∷_ (10, Rows.mref-owed (Array.Array Cell.R 32772) (Syntax.tyRef (Syntax.named 9) Syntax.mut (Syntax.tyArray Cell.behind 32772)) 9 19 (Row.lease (κs .1 .1 .1 .1 .1 .1 .1 .1 .1 .0) (qs .1 .1 .1 .1 .1 .1 .1 .1 .1 .0))) (List._∷_ (11, Rows.whole (Declared.row Held.the-type)) (List._∷_ (12, Rows.sc-here (Row.sInt Syntax.w64)) (List._∷_ (13, Rows.sc-here (Row.sInt Syntax.w64)) (List._∷_ (14, Rows.whole (Declared.row Line.the-type)) (List._∷_ (15, Rows.sc-here (Row.sInt Syntax.w64)) List.[])))))))))))))))
+        g47 = List._∷_ local0 (List._∷_ local1 (List._∷_ local2 (List._∷_ local3 (List._∷_ local4 (List._∷_ local5 (List._∷_ local6 (List._∷_ local50 locals25)))))))
 
         abbrev g49 : List.List Row.Entry
-        g49 = List._∷_ (0, Rows.any-gone Syntax.tyUnit) (List._∷_ (1, Rows.sslice (Referent.rtF (Referent.fInt Syntax.w8)) (Syntax.tyRef (Syntax.named 0) Syntax.imm (Syntax.tyInt Syntax.w8)) 0) (List._∷_ (2, Rows.mref (Array.Array (Referent.rtF (Referent.fInt Syntax.w32)) 32772) (Syntax.tyRef (Syntax.named 1) Syntax.mut (Syntax.tyArray (Syntax.tyInt Syntax.w32) 32772)) 1) (List._∷_ (3, Rows.mref (Array.Array (Referent.rtF (Referent.fInt Syntax.w8)) 16388) (Syntax.tyRef (Syntax.named 2) Syntax.mut (Syntax.tyArray (Syntax.tyInt Syntax.w8) 16388)) 2) (List._∷_ (4, Rows.mref (Array.Array (Referent.rtF (Referent.fInt Syntax.w32)) 65540) (Syntax.tyRef (Syntax.named 3) Syntax.mut (Syntax.tyArray (Syntax.tyInt Syntax.w32) 65540)) 3) (List._∷_ (5, Rows.mref (Array.Array (Referent.rtF (Referent.fInt Syntax.w32)) 32772) (Syntax.tyRef (Syntax.named 4) Syntax.mut (Syntax.tyArray (Syntax.tyInt Syntax.w32) 32772)) 4) (List._∷_ (6, Rows.mref (Array.Array (Referent.rtF (Referent.fInt Syntax.w32)) 32772) (Syntax.tyRef (Syntax.named 5) Syntax.mut (Syntax.tyArray (Syntax.tyInt Syntax.w32) 32772)) 5) (List._∷_ (7, Rows.mref (Array.Array (Referent.rtF (Referent.fInt Syntax.w32)) 262160) (Syntax.tyRef (Syntax.named 6) Syntax.mut (Syntax.tyArray (Syntax.tyInt Syntax.w32) 262160)) 6) (List._∷_ (8, Rows.mref-owed (Array.Array (Referent.rtF (Referent.fInt Syntax.w8)) 600000) (Syntax.tyRef (Syntax.named 7) Syntax.mut (Syntax.tyArray (Syntax.tyInt Syntax.w8) 600000)) 7 17 (Row.lease (κs .1 .1 .1 .1 .1 .1 .1 .0) (qs .1 .1 .1 .1 .1 .1 .1 .0))) (List._∷_ (9, Rows.mref-owed (Array.Array Cell.R 65540) (Syntax.tyRef (Syntax.named 8) Syntax.mut (Syntax.tyArray Cell.behind 65540)) 8 18 (Row.lease (κs .1 .1 .1 .1 .1 .1 .1 .1 .0) (qs .1 .1 .1 .1 .1 .1 .1 .1 .0))) (List._∷_ (10, Rows.mref-owed (Array.Array Cell.R 32772) (Syntax.tyRef (Syntax.named 9) Syntax.mut (Syntax.tyArray Cell.behind 32772)) 9 19 (Row.lease (κs .1 .1 .1 .1 .1 .1 .1 .1 .1 .0) (qs .1 .1 .1 .1 .1 .1 .1 .1 .1 .0))) (List._∷_ (11, Rows.whole (Declared.row Held.the-type)) (List._∷_ (12, Rows.sc-here (Row.sInt Syntax.w64)) (List._∷_ (13, Rows.sc-here (Row.sInt Syntax.w64)) (List._∷_ (14, Rows.whole (Declared.row Line.the-type)) (List._∷_ (15, Rows.sc-here (Row.sInt Syntax.w64)) List.[])))))))))))))))
+        g49 = List._∷_ local0 (List._∷_ local1 (List._∷_ local2 (List._∷_ local3 (List._∷_ local4 (List._∷_ local5 (List._∷_ local6 (List._∷_ local7 locals25)))))))
 
         abbrev g51 : List.List Row.Entry
-        g51 = List._∷_ (0, Rows.any-gone Syntax.tyUnit) (List._∷_ (1, Rows.sslice (Referent.rtF (Referent.fInt Syntax.w8)) (Syntax.tyRef (Syntax.named 0) Syntax.imm (Syntax.tyInt Syntax.w8)) 0) (List._∷_ (2, Rows.mref (Array.Array (Referent.rtF (Referent.fInt Syntax.w32)) 32772) (Syntax.tyRef (Syntax.named 1) Syntax.mut (Syntax.tyArray (Syntax.tyInt Syntax.w32) 32772)) 1) (List._∷_ (3, Rows.mref (Array.Array (Referent.rtF (Referent.fInt Syntax.w8)) 16388) (Syntax.tyRef (Syntax.named 2) Syntax.mut (Syntax.tyArray (Syntax.tyInt Syntax.w8) 16388)) 2) (List._∷_ (4, Rows.mref (Array.Array (Referent.rtF (Referent.fInt Syntax.w32)) 65540) (Syntax.tyRef (Syntax.named 3) Syntax.mut (Syntax.tyArray (Syntax.tyInt Syntax.w32) 65540)) 3) (List._∷_ (5, Rows.mref (Array.Array (Referent.rtF (Referent.fInt Syntax.w32)) 32772) (Syntax.tyRef (Syntax.named 4) Syntax.mut (Syntax.tyArray (Syntax.tyInt Syntax.w32) 32772)) 4) (List._∷_ (6, Rows.mref (Array.Array (Referent.rtF (Referent.fInt Syntax.w32)) 32772) (Syntax.tyRef (Syntax.named 5) Syntax.mut (Syntax.tyArray (Syntax.tyInt Syntax.w32) 32772)) 5) (List._∷_ (7, Rows.mref (Array.Array (Referent.rtF (Referent.fInt Syntax.w32)) 262160) (Syntax.tyRef (Syntax.named 6) Syntax.mut (Syntax.tyArray (Syntax.tyInt Syntax.w32) 262160)) 6) (List._∷_ (8, Rows.mref (Array.Array (Referent.rtF (Referent.fInt Syntax.w8)) 600000) (Syntax.tyRef (Syntax.named 7) Syntax.mut (Syntax.tyArray (Syntax.tyInt Syntax.w8) 600000)) 7) (List._∷_ (9, Rows.mref-owed (Array.Array Cell.R 65540) (Syntax.tyRef (Syntax.named 8) Syntax.mut (Syntax.tyArray Cell.behind 65540)) 8 18 (Row.lease (κs .1 .1 .1 .1 .1 .1 .1 .1 .0) (qs .1 .1 .1 .1 .1 .1 .1 .1 .0))) (List._∷_ (10, Rows.mref-owed (Array.Array Cell.R 32772) (Syntax.tyRef (Syntax.named 9) Syntax.mut (Syntax.tyArray Cell.behind 32772)) 9 19 (Row.lease (κs .1 .1 .1 .1 .1 .1 .1 .1 .1 .0) (qs .1 .1 .1 .1 .1 .1 .1 .1 .1 .0))) (List._∷_ (11, Rows.whole (Declared.row Held.the-type)) (List._∷_ (12, Rows.sc-here (Row.sInt Syntax.w64)) (List._∷_ (13, Rows.sc-here (Row.sInt Syntax.w64)) (List._∷_ (14, Rows.whole (Declared.row Line.the-type)) (List._∷_ (15, Rows.sc-here (Row.sInt Syntax.w64)) List.[])))))))))))))))
+        g51 = List._∷_ local0 (List._∷_ local1 (List._∷_ local2 (List._∷_ local3 (List._∷_ local4 (List._∷_ local5 (List._∷_ local6 (List._∷_ local7 (List._∷_ local8 (List._∷_ local52 (List._∷_ local53 locals13))))))))))
 
         abbrev g53 : List.List Row.Entry
-        g53 = List._∷_ (0, Rows.any-gone Syntax.tyUnit) (List._∷_ (1, Rows.sslice (Referent.rtF (Referent.fInt Syntax.w8)) (Syntax.tyRef (Syntax.named 0) Syntax.imm (Syntax.tyInt Syntax.w8)) 0) (List._∷_ (2, Rows.mref (Array.Array (Referent.rtF (Referent.fInt Syntax.w32)) 32772) (Syntax.tyRef (Syntax.named 1) Syntax.mut (Syntax.tyArray (Syntax.tyInt Syntax.w32) 32772)) 1) (List._∷_ (3, Rows.mref (Array.Array (Referent.rtF (Referent.fInt Syntax.w8)) 16388) (Syntax.tyRef (Syntax.named 2) Syntax.mut (Syntax.tyArray (Syntax.tyInt Syntax.w8) 16388)) 2) (List._∷_ (4, Rows.mref (Array.Array (Referent.rtF (Referent.fInt Syntax.w32)) 65540) (Syntax.tyRef (Syntax.named 3) Syntax.mut (Syntax.tyArray (Syntax.tyInt Syntax.w32) 65540)) 3) (List._∷_ (5, Rows.mref (Array.Array (Referent.rtF (Referent.fInt Syntax.w32)) 32772) (Syntax.tyRef (Syntax.named 4) Syntax.mut (Syntax.tyArray (Syntax.tyInt Syntax.w32) 32772)) 4) (List._∷_ (6, Rows.mref (Array.Array (Referent.rtF (Referent.fInt Syntax.w32)) 32772) (Syntax.tyRef (Syntax.named 5) Syntax.mut (Syntax.tyArray (Syntax.tyInt Syntax.w32) 32772)) 5) (List._∷_ (7, Rows.mref (Array.Array (Referent.rtF (Referent.fInt Syntax.w32)) 262160) (Syntax.tyRef (Syntax.named 6) Syntax.mut (Syntax.tyArray (Syntax.tyInt Syntax.w32) 262160)) 6) (List._∷_ (8, Rows.mref (Array.Array (Referent.rtF (Referent.fInt Syntax.w8)) 600000) (Syntax.tyRef (Syntax.named 7) Syntax.mut (Syntax.tyArray (Syntax.tyInt Syntax.w8) 600000)) 7) (List._∷_ (9, Rows.mref (Array.Array Cell.R 65540) (Syntax.tyRef (Syntax.named 8) Syntax.mut (Syntax.tyArray Cell.behind 65540)) 8) (List._∷_ (10, Rows.mref-owed (Array.Array Cell.R 32772) (Syntax.tyRef (Syntax.named 9) Syntax.mut (Syntax.tyArray Cell.behind 32772)) 9 19 (Row.lease (κs .1 .1 .1 .1 .1 .1 .1 .1 .1 .0) (qs .1 .1 .1 .1 .1 .1 .1 .1 .1 .0))) (List._∷_ (11, Rows.whole (Declared.row Held.the-type)) (List._∷_ (12, Rows.sc-here (Row.sInt Syntax.w64)) (List._∷_ (13, Rows.sc-here (Row.sInt Syntax.w64)) (List._∷_ (14, Rows.whole (Declared.row Line.the-type)) (List._∷_ (15, Rows.sc-here (Row.sInt Syntax.w64)) List.[])))))))))))))))
+        g53 = List._∷_ local0 (List._∷_ local1 (List._∷_ local2 (List._∷_ local3 (List._∷_ local4 (List._∷_ local5 (List._∷_ local6 (List._∷_ local7 (List._∷_ local8 (List._∷_ local9 (List._∷_ local53 locals13))))))))))
 
         abbrev G0 : Row.Cx
-        G0 = record { locals = List._++_ t0 t1; slots = List._∷_ (Row.lease (κs .0) (qs .0)) (List._∷_ (Row.lease (κs .1 .0) (qs .1 .0)) (List._∷_ (Row.lease (κs .1 .1 .0) (qs .1 .1 .0)) (List._∷_ (Row.lease (κs .1 .1 .1 .0) (qs .1 .1 .1 .0)) (List._∷_ (Row.lease (κs .1 .1 .1 .1 .0) (qs .1 .1 .1 .1 .0)) (List._∷_ (Row.lease (κs .1 .1 .1 .1 .1 .0) (qs .1 .1 .1 .1 .1 .0)) (List._∷_ (Row.lease (κs .1 .1 .1 .1 .1 .1 .0) (qs .1 .1 .1 .1 .1 .1 .0)) (List._∷_ (Row.lease (κs .1 .1 .1 .1 .1 .1 .1 .0) (qs .1 .1 .1 .1 .1 .1 .1 .0)) (List._∷_ (Row.lease (κs .1 .1 .1 .1 .1 .1 .1 .1 .0) (qs .1 .1 .1 .1 .1 .1 .1 .1 .0)) (List._∷_ (Row.lease (κs .1 .1 .1 .1 .1 .1 .1 .1 .1 .0) (qs .1 .1 .1 .1 .1 .1 .1 .1 .1 .0)) (List._∷_ Row.off (List._∷_ Row.off (List._∷_ Row.off (List._∷_ Row.off (List._∷_ Row.off (List._∷_ Row.off (List._∷_ Row.off (List._∷_ Row.off (List._∷_ Row.off (List._∷_ Row.off List.[]))))))))))))))))))) }
+        G0 = record { locals = List._++_ t0 t1; slots = List._∷_ slot9 slots4 }
 
         abbrev G1 : Row.Cx
-        G1 = record { locals = List._++_ t2 t1; slots = List._∷_ (Row.lease (κs .0) (qs .0)) (List._∷_ (Row.lease (κs .1 .0) (qs .1 .0)) (List._∷_ (Row.lease (κs .1 .1 .0) (qs .1 .1 .0)) (List._∷_ (Row.lease (κs .1 .1 .1 .0) (qs .1 .1 .1 .0)) (List._∷_ (Row.lease (κs .1 .1 .1 .1 .0) (qs .1 .1 .1 .1 .0)) (List._∷_ (Row.lease (κs .1 .1 .1 .1 .1 .0) (qs .1 .1 .1 .1 .1 .0)) (List._∷_ (Row.lease (κs .1 .1 .1 .1 .1 .1 .0) (qs .1 .1 .1 .1 .1 .1 .0)) (List._∷_ (Row.lease (κs .1 .1 .1 .1 .1 .1 .1 .0) (qs .1 .1 .1 .1 .1 .1 .1 .0)) (List._∷_ (Row.lease (κs .1 .1 .1 .1 .1 .1 .1 .1 .0) (qs .1 .1 .1 .1 .1 .1 .1 .1 .0)) (List._∷_ (Row.lease (κs .1 .1 .1 .1 .1 .1 .1 .1 .1 .0) (qs .1 .1 .1 .1 .1 .1 .1 .1 .1 .0)) (List._∷_ Row.off (List._∷_ Row.off (List._∷_ Row.off (List._∷_ Row.off (List._∷_ Row.off (List._∷_ Row.off (List._∷_ Row.off (List._∷_ Row.off (List._∷_ Row.off (List._∷_ Row.off List.[]))))))))))))))))))) }
+        G1 = record { locals = List._++_ t2 t1; slots = List._∷_ slot9 slots4 }
 
         abbrev G2 : Row.Cx
-        G2 = record { locals = List._++_ t0 t1; slots = List._∷_ (Row.lease (κs .0) (qs .0)) (List._∷_ (Row.lease (κs .1 .0) (qs .1 .0)) (List._∷_ (Row.lease (κs .1 .1 .0) (qs .1 .1 .0)) (List._∷_ (Row.lease (κs .1 .1 .1 .0) (qs .1 .1 .1 .0)) (List._∷_ (Row.lease (κs .1 .1 .1 .1 .0) (qs .1 .1 .1 .1 .0)) (List._∷_ (Row.lease (κs .1 .1 .1 .1 .1 .0) (qs .1 .1 .1 .1 .1 .0)) (List._∷_ (Row.lease (κs .1 .1 .1 .1 .1 .1 .0) (qs .1 .1 .1 .1 .1 .1 .0)) (List._∷_ (Row.lease (κs .1 .1 .1 .1 .1 .1 .1 .0) (qs .1 .1 .1 .1 .1 .1 .1 .0)) (List._∷_ (Row.lease (κs .1 .1 .1 .1 .1 .1 .1 .1 .0) (qs .1 .1 .1 .1 .1 .1 .1 .1 .0)) (List._∷_ (Row.lease (κs .1 .1 .1 .1 .1 .1 .1 .1 .1 .0) (qs .1 .1 .1 .1 .1 .1 .1 .1 .1 .0)) (List._∷_ Row.off (List._∷_ Row.off (List._∷_ Row.off (List._∷_ Row.off (List._∷_ Row.off (List._∷_ Row.off (List._∷_ Row.off (List._∷_ Row.off (List._∷_ Row.off (List._∷_ Row.off List.[]))))))))))))))))))) }
+        G2 = record { locals = List._++_ t0 t1; slots = List._∷_ slot9 slots4 }
 
         abbrev G3 : Row.Cx
-        G3 = record { locals = List._++_ t3 t1; slots = List._∷_ (Row.lease (κs .0) (qs .0)) (List._∷_ (Row.lease (κs .1 .0) (qs .1 .0)) (List._∷_ (Row.lease (κs .1 .1 .0) (qs .1 .1 .0)) (List._∷_ (Row.lease (κs .1 .1 .1 .0) (qs .1 .1 .1 .0)) (List._∷_ (Row.lease (κs .1 .1 .1 .1 .0) (qs .1 .1 .1 .1 .0)) (List._∷_ (Row.lease (κs .1 .1 .1 .1 .1 .0) (qs .1 .1 .1 .1 .1 .0)) (List._∷_ (Row.lease (κs .1 .1 .1 .1 .1 .1 .0) (qs .1 .1 .1 .1 .1 .1 .0)) (List._∷_ (Row.lease (κs .1 .1 .1 .1 .1 .1 .1 .0) (qs .1 .1 .1 .1 .1 .1 .1 .0)) (List._∷_ (Row.lease (κs .1 .1 .1 .1 .1 .1 .1 .1 .0) (qs .1 .1 .1 .1 .1 .1 .1 .1 .0)) (List._∷_ (Row.lease (κs .1 .1 .1 .1 .1 .1 .1 .1 .1 .0) (qs .1 .1 .1 .1 .1 .1 .1 .1 .1 .0)) (List._∷_ Row.off (List._∷_ Row.off (List._∷_ Row.off (List._∷_ Row.off (List._∷_ Row.off (List._∷_ Row.off (List._∷_ Row.off (List._∷_ Row.off (List._∷_ Row.off (List._∷_ Row.off List.[]))))))))))))))))))) }
+        G3 = record { locals = List._++_ t3 t1; slots = List._∷_ slot9 slots4 }
 
         abbrev G4 : Row.Cx
-        G4 = record { locals = List._++_ t4 t1; slots = List._∷_ (Row.lease (κs .0) (qs .0)) (List._∷_ (Row.lease (κs .1 .0) (qs .1 .0)) (List._∷_ (Row.lease (κs .1 .1 .0) (qs .1 .1 .0)) (List._∷_ (Row.lease (κs .1 .1 .1 .0) (qs .1 .1 .1 .0)) (List._∷_ (Row.lease (κs .1 .1 .1 .1 .0) (qs .1 .1 .1 .1 .0)) (List._∷_ (Row.lease (κs .1 .1 .1 .1 .1 .0) (qs .1 .1 .1 .1 .1 .0)) (List._∷_ (Row.lease (κs .1 .1 .1 .1 .1 .1 .0) (qs .1 .1 .1 .1 .1 .1 .0)) (List._∷_ (Row.lease (κs .1 .1 .1 .1 .1 .1 .1 .0) (qs .1 .1 .1 .1 .1 .1 .1 .0)) (List._∷_ (Row.lease (κs .1 .1 .1 .1 .1 .1 .1 .1 .0) (qs .1 .1 .1 .1 .1 .1 .1 .1 .0)) (List._∷_ (Row.lease (κs .1 .1 .1 .1 .1 .1 .1 .1 .1 .0) (qs .1 .1 .1 .1 .1 .1 .1 .1 .1 .0)) (List._∷_ Row.off (List._∷_ Row.off (List._∷_ Row.off (List._∷_ Row.off (List._∷_ Row.off (List._∷_ Row.off (List._∷_ Row.off (List._∷_ Row.off (List._∷_ Row.off (List._∷_ Row.off List.[]))))))))))))))))))) }
+        G4 = record { locals = List._++_ t4 t1; slots = List._∷_ slot9 slots4 }
 
         abbrev G5 : Row.Cx
-        G5 = record { locals = List._++_ t5 t1; slots = List._∷_ (Row.lease (κs .0) (qs .0)) (List._∷_ (Row.lease (κs .1 .0) (qs .1 .0)) (List._∷_ (Row.lease (κs .1 .1 .0) (qs .1 .1 .0)) (List._∷_ (Row.lease (κs .1 .1 .1 .0) (qs .1 .1 .1 .0)) (List._∷_ (Row.lease (κs .1 .1 .1 .1 .0) (qs .1 .1 .1 .1 .0)) (List._∷_ (Row.lease (κs .1 .1 .1 .1 .1 .0) (qs .1 .1 .1 .1 .1 .0)) (List._∷_ (Row.lease (κs .1 .1 .1 .1 .1 .1 .0) (qs .1 .1 .1 .1 .1 .1 .0)) (List._∷_ (Row.lease (κs .1 .1 .1 .1 .1 .1 .1 .0) (qs .1 .1 .1 .1 .1 .1 .1 .0)) (List._∷_ (Row.lease (κs .1 .1 .1 .1 .1 .1 .1 .1 .0) (qs .1 .1 .1 .1 .1 .1 .1 .1 .0)) (List._∷_ (Row.lease (κs .1 .1 .1 .1 .1 .1 .1 .1 .1 .0) (qs .1 .1 .1 .1 .1 .1 .1 .1 .1 .0)) (List._∷_ Row.off (List._∷_ Row.off (List._∷_ Row.off (List._∷_ Row.off (List._∷_ Row.off (List._∷_ Row.off (List._∷_ Row.off (List._∷_ Row.off (List._∷_ Row.off (List._∷_ Row.off List.[]))))))))))))))))))) }
+        G5 = record { locals = List._++_ t5 t1; slots = List._∷_ slot9 slots4 }
 
         abbrev G6 : Row.Cx
-        G6 = record { locals = List._++_ t6 t1; slots = List._∷_ (Row.lease (κs .0) (qs .0)) (List._∷_ (Row.lease (κs .1 .0) (qs .1 .0)) (List._∷_ (Row.lease (κs .1 .1 .0) (qs .1 .1 .0)) (List._∷_ (Row.lease (κs .1 .1 .1 .0) (qs .1 .1 .1 .0)) (List._∷_ (Row.lease (κs .1 .1 .1 .1 .0) (qs .1 .1 .1 .1 .0)) (List._∷_ (Row.lease (κs .1 .1 .1 .1 .1 .0) (qs .1 .1 .1 .1 .1 .0)) (List._∷_ (Row.lease (κs .1 .1 .1 .1 .1 .1 .0) (qs .1 .1 .1 .1 .1 .1 .0)) (List._∷_ (Row.lease (κs .1 .1 .1 .1 .1 .1 .1 .0) (qs .1 .1 .1 .1 .1 .1 .1 .0)) (List._∷_ (Row.lease (κs .1 .1 .1 .1 .1 .1 .1 .1 .0) (qs .1 .1 .1 .1 .1 .1 .1 .1 .0)) (List._∷_ (Row.lease (κs .1 .1 .1 .1 .1 .1 .1 .1 .1 .0) (qs .1 .1 .1 .1 .1 .1 .1 .1 .1 .0)) (List._∷_ Row.off (List._∷_ Row.off (List._∷_ Row.off (List._∷_ Row.off (List._∷_ Row.off (List._∷_ Row.off (List._∷_ Row.off (List._∷_ Row.off (List._∷_ Row.off (List._∷_ Row.off List.[]))))))))))))))))))) }
+        G6 = record { locals = List._++_ t6 t1; slots = List._∷_ slot9 slots4 }
 
         abbrev G7 : Row.Cx
-        G7 = record { locals = List._++_ t7 t1; slots = List._∷_ (Row.lease (κs .0) (qs .0)) (List._∷_ (Row.lease (κs .1 .0) (qs .1 .0)) (List._∷_ (Row.lease (κs .1 .1 .0) (qs .1 .1 .0)) (List._∷_ (Row.lease (κs .1 .1 .1 .0) (qs .1 .1 .1 .0)) (List._∷_ (Row.lease (κs .1 .1 .1 .1 .0) (qs .1 .1 .1 .1 .0)) (List._∷_ (Row.lease (κs .1 .1 .1 .1 .1 .0) (qs .1 .1 .1 .1 .1 .0)) (List._∷_ (Row.lease (κs .1 .1 .1 .1 .1 .1 .0) (qs .1 .1 .1 .1 .1 .1 .0)) (List._∷_ (Row.lease (κs .1 .1 .1 .1 .1 .1 .1 .0) (qs .1 .1 .1 .1 .1 .1 .1 .0)) (List._∷_ (Row.lease (κs .1 .1 .1 .1 .1 .1 .1 .1 .0) (qs .1 .1 .1 .1 .1 .1 .1 .1 .0)) (List._∷_ (Row.lease (κs .1 .1 .1 .1 .1 .1 .1 .1 .1 .0) (qs .1 .1 .1 .1 .1 .1 .1 .1 .1 .0)) (List._∷_ Row.off (List._∷_ Row.off (List._∷_ Row.off (List._∷_ Row.off (List._∷_ Row.off (List._∷_ Row.off (List._∷_ Row.off (List._∷_ Row.off (List._∷_ Row.off (List._∷_ Row.off List.[]))))))))))))))))))) }
+        G7 = record { locals = List._++_ t7 t1; slots = List._∷_ slot9 slots4 }
 
         abbrev G8 : Row.Cx
-        G8 = record { locals = List._++_ t6 t8; slots = List._∷_ (Row.lease (κs .0) (qs .0)) (List._∷_ (Row.lease (κs .1 .0) (qs .1 .0)) (List._∷_ (Row.lease (κs .1 .1 .0) (qs .1 .1 .0)) (List._∷_ (Row.lease (κs .1 .1 .1 .0) (qs .1 .1 .1 .0)) (List._∷_ (Row.lease (κs .1 .1 .1 .1 .0) (qs .1 .1 .1 .1 .0)) (List._∷_ (Row.lease (κs .1 .1 .1 .1 .1 .0) (qs .1 .1 .1 .1 .1 .0)) (List._∷_ (Row.lease (κs .1 .1 .1 .1 .1 .1 .0) (qs .1 .1 .1 .1 .1 .1 .0)) (List._∷_ (Row.lease (κs .1 .1 .1 .1 .1 .1 .1 .0) (qs .1 .1 .1 .1 .1 .1 .1 .0)) (List._∷_ (Row.lease (κs .1 .1 .1 .1 .1 .1 .1 .1 .0) (qs .1 .1 .1 .1 .1 .1 .1 .1 .0)) (List._∷_ (Row.lease (κs .1 .1 .1 .1 .1 .1 .1 .1 .1 .0) (qs .1 .1 .1 .1 .1 .1 .1 .1 .1 .0)) (List._∷_ Row.off (List._∷_ Row.off (List._∷_ Row.off (List._∷_ Row.off (List._∷_ Row.off (List._∷_ Row.off (List._∷_ Row.off (List._∷_ Row.off (List._∷_ Row.off (List._∷_ Row.off List.[]))))))))))))))))))) }
+        G8 = record { locals = List._++_ t6 t8; slots = List._∷_ slot9 slots4 }
 
         abbrev G9 : Row.Cx
-        G9 = record { locals = List._++_ t6 t1; slots = List._∷_ (Row.lease (κs .0) (qs .0)) (List._∷_ (Row.lease (κs .1 .0) (qs .1 .0)) (List._∷_ (Row.lease (κs .1 .1 .0) (qs .1 .1 .0)) (List._∷_ (Row.lease (κs .1 .1 .1 .0) (qs .1 .1 .1 .0)) (List._∷_ (Row.lease (κs .1 .1 .1 .1 .0) (qs .1 .1 .1 .1 .0)) (List._∷_ (Row.lease (κs .1 .1 .1 .1 .1 .0) (qs .1 .1 .1 .1 .1 .0)) (List._∷_ (Row.lease (κs .1 .1 .1 .1 .1 .1 .0) (qs .1 .1 .1 .1 .1 .1 .0)) (List._∷_ (Row.lease (κs .1 .1 .1 .1 .1 .1 .1 .0) (qs .1 .1 .1 .1 .1 .1 .1 .0)) (List._∷_ (Row.lease (κs .1 .1 .1 .1 .1 .1 .1 .1 .0) (qs .1 .1 .1 .1 .1 .1 .1 .1 .0)) (List._∷_ (Row.lease (κs .1 .1 .1 .1 .1 .1 .1 .1 .1 .0) (qs .1 .1 .1 .1 .1 .1 .1 .1 .1 .0)) (List._∷_ Row.off (List._∷_ Row.off (List._∷_ Row.off (List._∷_ Row.off (List._∷_ Row.off (List._∷_ Row.off (List._∷_ Row.off (List._∷_ Row.off (List._∷_ Row.off (List._∷_ Row.off List.[]))))))))))))))))))) }
+        G9 = record { locals = List._++_ t6 t1; slots = List._∷_ slot9 slots4 }
 
         abbrev G10 : Row.Cx
-        G10 = record { locals = List._++_ t6 t1; slots = List._∷_ (Row.lease (κs .0) (qs .0)) (List._∷_ (Row.lease (κs .1 .0) (qs .1 .0)) (List._∷_ (Row.lease (κs .1 .1 .0) (qs .1 .1 .0)) (List._∷_ (Row.lease (κs .1 .1 .1 .0) (qs .1 .1 .1 .0)) (List._∷_ (Row.lease (κs .1 .1 .1 .1 .0) (qs .1 .1 .1 .1 .0)) (List._∷_ (Row.lease (κs .1 .1 .1 .1 .1 .0) (qs .1 .1 .1 .1 .1 .0)) (List._∷_ (Row.lease (κs .1 .1 .1 .1 .1 .1 .0) (qs .1 .1 .1 .1 .1 .1 .0)) (List._∷_ (Row.lease (κs .1 .1 .1 .1 .1 .1 .1 .0) (qs .1 .1 .1 .1 .1 .1 .1 .0)) (List._∷_ (Row.lease (κs .1 .1 .1 .1 .1 .1 .1 .1 .0) (qs .1 .1 .1 .1 .1 .1 .1 .1 .0)) (List._∷_ (Row.lease (κs .1 .1 .1 .1 .1 .1 .1 .1 .1 .0) (qs .1 .1 .1 .1 .1 .1 .1 .1 .1 .0)) (List._∷_ Row.off (List._∷_ Row.off (List._∷_ Row.off (List._∷_ Row.off (List._∷_ Row.off (List._∷_ Row.off (List._∷_ Row.off (List._∷_ Row.off (List._∷_ Row.off (List._∷_ Row.off List.[]))))))))))))))))))) }
+        G10 = record { locals = List._++_ t6 t1; slots = List._∷_ slot9 slots4 }
 
         abbrev G11 : Row.Cx
-        G11 = record { locals = List._++_ t9 t8; slots = List._∷_ (Row.lease (κs .0) (qs .0)) (List._∷_ (Row.lease (κs .1 .0) (qs .1 .0)) (List._∷_ (Row.lease (κs .1 .1 .0) (qs .1 .1 .0)) (List._∷_ (Row.lease (κs .1 .1 .1 .0) (qs .1 .1 .1 .0)) (List._∷_ (Row.lease (κs .1 .1 .1 .1 .0) (qs .1 .1 .1 .1 .0)) (List._∷_ (Row.lease (κs .1 .1 .1 .1 .1 .0) (qs .1 .1 .1 .1 .1 .0)) (List._∷_ (Row.lease (κs .1 .1 .1 .1 .1 .1 .0) (qs .1 .1 .1 .1 .1 .1 .0)) (List._∷_ (Row.lease (κs .1 .1 .1 .1 .1 .1 .1 .0) (qs .1 .1 .1 .1 .1 .1 .1 .0)) (List._∷_ (Row.lease (κs .1 .1 .1 .1 .1 .1 .1 .1 .0) (qs .1 .1 .1 .1 .1 .1 .1 .1 .0)) (List._∷_ (Row.lease (κs .1 .1 .1 .1 .1 .1 .1 .1 .1 .0) (qs .1 .1 .1 .1 .1 .1 .1 .1 .1 .0)) (List._∷_ Row.off (List._∷_ Row.off (List._∷_ Row.off (List._∷_ Row.off (List._∷_ Row.off (List._∷_ Row.off (List._∷_ Row.off (List._∷_ Row.off (List._∷_ Row.off (List._∷_ Row.off List.[]))))))))))))))))))) }
+        G11 = record { locals = List._++_ t9 t8; slots = List._∷_ slot9 slots4 }
 
         abbrev G12 : Row.Cx
-        G12 = record { locals = List._++_ t10 t8; slots = List._∷_ (Row.lease (κs .0) (qs .0)) (List._∷_ (Row.lease (κs .1 .0) (qs .1 .0)) (List._∷_ (Row.lease (κs .1 .1 .0) (qs .1 .1 .0)) (List._∷_ (Row.lease (κs .1 .1 .1 .0) (qs .1 .1 .1 .0)) (List._∷_ (Row.lease (κs .1 .1 .1 .1 .0) (qs .1 .1 .1 .1 .0)) (List._∷_ (Row.lease (κs .1 .1 .1 .1 .1 .0) (qs .1 .1 .1 .1 .1 .0)) (List._∷_ (Row.lease (κs .1 .1 .1 .1 .1 .1 .0) (qs .1 .1 .1 .1 .1 .1 .0)) (List._∷_ (Row.lease (κs .1 .1 .1 .1 .1 .1 .1 .0) (qs .1 .1 .1 .1 .1 .1 .1 .0)) (List._∷_ (Row.lease (κs .1 .1 .1 .1 .1 .1 .1 .1 .0) (qs .1 .1 .1 .1 .1 .1 .1 .1 .0)) (List._∷_ (Row.lease (κs .1 .1 .1 .1 .1 .1 .1 .1 .1 .0) (qs .1 .1 .1 .1 .1 .1 .1 .1 .1 .0)) (List._∷_ Row.off (List._∷_ Row.off (List._∷_ Row.off (List._∷_ Row.off (List._∷_ Row.off (List._∷_ Row.off (List._∷_ Row.off (List._∷_ Row.off (List._∷_ Row.off (List._∷_ Row.off List.[]))))))))))))))))))) }
+        G12 = record { locals = List._++_ t10 t8; slots = List._∷_ slot9 slots4 }
 
         abbrev G13 : Row.Cx
-        G13 = record { locals = List._++_ t10 t1; slots = List._∷_ (Row.lease (κs .0) (qs .0)) (List._∷_ (Row.lease (κs .1 .0) (qs .1 .0)) (List._∷_ (Row.lease (κs .1 .1 .0) (qs .1 .1 .0)) (List._∷_ (Row.lease (κs .1 .1 .1 .0) (qs .1 .1 .1 .0)) (List._∷_ (Row.lease (κs .1 .1 .1 .1 .0) (qs .1 .1 .1 .1 .0)) (List._∷_ (Row.lease (κs .1 .1 .1 .1 .1 .0) (qs .1 .1 .1 .1 .1 .0)) (List._∷_ (Row.lease (κs .1 .1 .1 .1 .1 .1 .0) (qs .1 .1 .1 .1 .1 .1 .0)) (List._∷_ (Row.lease (κs .1 .1 .1 .1 .1 .1 .1 .0) (qs .1 .1 .1 .1 .1 .1 .1 .0)) (List._∷_ (Row.lease (κs .1 .1 .1 .1 .1 .1 .1 .1 .0) (qs .1 .1 .1 .1 .1 .1 .1 .1 .0)) (List._∷_ (Row.lease (κs .1 .1 .1 .1 .1 .1 .1 .1 .1 .0) (qs .1 .1 .1 .1 .1 .1 .1 .1 .1 .0)) (List._∷_ Row.off (List._∷_ Row.off (List._∷_ Row.off (List._∷_ Row.off (List._∷_ Row.off (List._∷_ Row.off (List._∷_ Row.off (List._∷_ Row.off (List._∷_ Row.off (List._∷_ Row.off List.[]))))))))))))))))))) }
+        G13 = record { locals = List._++_ t10 t1; slots = List._∷_ slot9 slots4 }
 
         abbrev G14 : Row.Cx
-        G14 = record { locals = List._++_ t7 t1; slots = List._∷_ (Row.lease (κs .0) (qs .0)) (List._∷_ (Row.lease (κs .1 .0) (qs .1 .0)) (List._∷_ (Row.lease (κs .1 .1 .0) (qs .1 .1 .0)) (List._∷_ (Row.lease (κs .1 .1 .1 .0) (qs .1 .1 .1 .0)) (List._∷_ (Row.lease (κs .1 .1 .1 .1 .0) (qs .1 .1 .1 .1 .0)) (List._∷_ (Row.lease (κs .1 .1 .1 .1 .1 .0) (qs .1 .1 .1 .1 .1 .0)) (List._∷_ (Row.lease (κs .1 .1 .1 .1 .1 .1 .0) (qs .1 .1 .1 .1 .1 .1 .0)) (List._∷_ (Row.lease (κs .1 .1 .1 .1 .1 .1 .1 .0) (qs .1 .1 .1 .1 .1 .1 .1 .0)) (List._∷_ (Row.lease (κs .1 .1 .1 .1 .1 .1 .1 .1 .0) (qs .1 .1 .1 .1 .1 .1 .1 .1 .0)) (List._∷_ (Row.lease (κs .1 .1 .1 .1 .1 .1 .1 .1 .1 .0) (qs .1 .1 .1 .1 .1 .1 .1 .1 .1 .0)) (List._∷_ Row.off (List._∷_ Row.off (List._∷_ Row.off (List._∷_ Row.off (List._∷_ Row.off (List._∷_ Row.off (List._∷_ Row.off (List._∷_ Row.off (List._∷_ Row.off (List._∷_ Row.off List.[]))))))))))))))))))) }
+        G14 = record { locals = List._++_ t7 t1; slots = List._∷_ slot9 slots4 }
 
         abbrev G15 : Row.Cx
-        G15 = record { locals = List._++_ t6 t11; slots = List._∷_ (Row.lease (κs .0) (qs .0)) (List._∷_ (Row.lease (κs .1 .0) (qs .1 .0)) (List._∷_ (Row.lease (κs .1 .1 .0) (qs .1 .1 .0)) (List._∷_ (Row.lease (κs .1 .1 .1 .0) (qs .1 .1 .1 .0)) (List._∷_ (Row.lease (κs .1 .1 .1 .1 .0) (qs .1 .1 .1 .1 .0)) (List._∷_ (Row.lease (κs .1 .1 .1 .1 .1 .0) (qs .1 .1 .1 .1 .1 .0)) (List._∷_ (Row.lease (κs .1 .1 .1 .1 .1 .1 .0) (qs .1 .1 .1 .1 .1 .1 .0)) (List._∷_ (Row.lease (κs .1 .1 .1 .1 .1 .1 .1 .0) (qs .1 .1 .1 .1 .1 .1 .1 .0)) (List._∷_ (Row.lease (κs .1 .1 .1 .1 .1 .1 .1 .1 .0) (qs .1 .1 .1 .1 .1 .1 .1 .1 .0)) (List._∷_ (Row.lease (κs .1 .1 .1 .1 .1 .1 .1 .1 .1 .0) (qs .1 .1 .1 .1 .1 .1 .1 .1 .1 .0)) (List._∷_ Row.off (List._∷_ Row.off (List._∷_ Row.off (List._∷_ Row.off (List._∷_ Row.off (List._∷_ Row.off (List._∷_ Row.off (List._∷_ Row.off (List._∷_ Row.off (List._∷_ Row.off List.[]))))))))))))))))))) }
+        G15 = record { locals = List._++_ t6 t11; slots = List._∷_ slot9 slots4 }
 
         abbrev G16 : Row.Cx
-        G16 = record { locals = List._++_ t6 t12; slots = List._∷_ (Row.lease (κs .0) (qs .0)) (List._∷_ (Row.lease (κs .1 .0) (qs .1 .0)) (List._∷_ (Row.lease (κs .1 .1 .0) (qs .1 .1 .0)) (List._∷_ (Row.lease (κs .1 .1 .1 .0) (qs .1 .1 .1 .0)) (List._∷_ (Row.lease (κs .1 .1 .1 .1 .0) (qs .1 .1 .1 .1 .0)) (List._∷_ (Row.lease (κs .1 .1 .1 .1 .1 .0) (qs .1 .1 .1 .1 .1 .0)) (List._∷_ (Row.lease (κs .1 .1 .1 .1 .1 .1 .0) (qs .1 .1 .1 .1 .1 .1 .0)) (List._∷_ (Row.lease (κs .1 .1 .1 .1 .1 .1 .1 .0) (qs .1 .1 .1 .1 .1 .1 .1 .0)) (List._∷_ (Row.lease (κs .1 .1 .1 .1 .1 .1 .1 .1 .0) (qs .1 .1 .1 .1 .1 .1 .1 .1 .0)) (List._∷_ (Row.lease (κs .1 .1 .1 .1 .1 .1 .1 .1 .1 .0) (qs .1 .1 .1 .1 .1 .1 .1 .1 .1 .0)) (List._∷_ Row.off (List._∷_ Row.off (List._∷_ Row.off (List._∷_ Row.off (List._∷_ Row.off (List._∷_ Row.off (List._∷_ Row.off (List._∷_ Row.off (List._∷_ Row.off (List._∷_ Row.off List.[]))))))))))))))))))) }
+        G16 = record { locals = List._++_ t6 t12; slots = List._∷_ slot9 slots4 }
 
         abbrev G17 : Row.Cx
-        G17 = record { locals = List._++_ t6 t1; slots = List._∷_ (Row.lease (κs .0) (qs .0)) (List._∷_ (Row.lease (κs .1 .0) (qs .1 .0)) (List._∷_ (Row.lease (κs .1 .1 .0) (qs .1 .1 .0)) (List._∷_ (Row.lease (κs .1 .1 .1 .0) (qs .1 .1 .1 .0)) (List._∷_ (Row.lease (κs .1 .1 .1 .1 .0) (qs .1 .1 .1 .1 .0)) (List._∷_ (Row.lease (κs .1 .1 .1 .1 .1 .0) (qs .1 .1 .1 .1 .1 .0)) (List._∷_ (Row.lease (κs .1 .1 .1 .1 .1 .1 .0) (qs .1 .1 .1 .1 .1 .1 .0)) (List._∷_ (Row.lease (κs .1 .1 .1 .1 .1 .1 .1 .0) (qs .1 .1 .1 .1 .1 .1 .1 .0)) (List._∷_ (Row.lease (κs .1 .1 .1 .1 .1 .1 .1 .1 .0) (qs .1 .1 .1 .1 .1 .1 .1 .1 .0)) (List._∷_ (Row.lease (κs .1 .1 .1 .1 .1 .1 .1 .1 .1 .0) (qs .1 .1 .1 .1 .1 .1 .1 .1 .1 .0)) (List._∷_ Row.off (List._∷_ Row.off (List._∷_ Row.off (List._∷_ Row.off (List._∷_ Row.off (List._∷_ Row.off (List._∷_ Row.off (List._∷_ Row.off (List._∷_ Row.off (List._∷_ Row.off List.[]))))))))))))))))))) }
+        G17 = record { locals = List._++_ t6 t1; slots = List._∷_ slot9 slots4 }
 
         abbrev G18 : Row.Cx
-        G18 = record { locals = List._++_ t6 t8; slots = List._∷_ (Row.lease (κs .0) (qs .0)) (List._∷_ (Row.lease (κs .1 .0) (qs .1 .0)) (List._∷_ (Row.lease (κs .1 .1 .0) (qs .1 .1 .0)) (List._∷_ (Row.lease (κs .1 .1 .1 .0) (qs .1 .1 .1 .0)) (List._∷_ (Row.lease (κs .1 .1 .1 .1 .0) (qs .1 .1 .1 .1 .0)) (List._∷_ (Row.lease (κs .1 .1 .1 .1 .1 .0) (qs .1 .1 .1 .1 .1 .0)) (List._∷_ (Row.lease (κs .1 .1 .1 .1 .1 .1 .0) (qs .1 .1 .1 .1 .1 .1 .0)) (List._∷_ (Row.lease (κs .1 .1 .1 .1 .1 .1 .1 .0) (qs .1 .1 .1 .1 .1 .1 .1 .0)) (List._∷_ (Row.lease (κs .1 .1 .1 .1 .1 .1 .1 .1 .0) (qs .1 .1 .1 .1 .1 .1 .1 .1 .0)) (List._∷_ (Row.lease (κs .1 .1 .1 .1 .1 .1 .1 .1 .1 .0) (qs .1 .1 .1 .1 .1 .1 .1 .1 .1 .0)) (List._∷_ Row.off (List._∷_ Row.off (List._∷_ Row.off (List._∷_ Row.off (List._∷_ Row.off (List._∷_ Row.off (List._∷_ Row.off (List._∷_ Row.off (List._∷_ Row.off (List._∷_ Row.off List.[]))))))))))))))))))) }
+        G18 = record { locals = List._++_ t6 t8; slots = List._∷_ slot9 slots4 }
 
         abbrev G19 : Row.Cx
-        G19 = record { locals = List._++_ t9 t8; slots = List._∷_ (Row.lease (κs .0) (qs .0)) (List._∷_ (Row.lease (κs .1 .0) (qs .1 .0)) (List._∷_ (Row.lease (κs .1 .1 .0) (qs .1 .1 .0)) (List._∷_ (Row.lease (κs .1 .1 .1 .0) (qs .1 .1 .1 .0)) (List._∷_ (Row.lease (κs .1 .1 .1 .1 .0) (qs .1 .1 .1 .1 .0)) (List._∷_ (Row.lease (κs .1 .1 .1 .1 .1 .0) (qs .1 .1 .1 .1 .1 .0)) (List._∷_ (Row.lease (κs .1 .1 .1 .1 .1 .1 .0) (qs .1 .1 .1 .1 .1 .1 .0)) (List._∷_ (Row.lease (κs .1 .1 .1 .1 .1 .1 .1 .0) (qs .1 .1 .1 .1 .1 .1 .1 .0)) (List._∷_ (Row.lease (κs .1 .1 .1 .1 .1 .1 .1 .1 .0) (qs .1 .1 .1 .1 .1 .1 .1 .1 .0)) (List._∷_ (Row.lease (κs .1 .1 .1 .1 .1 .1 .1 .1 .1 .0) (qs .1 .1 .1 .1 .1 .1 .1 .1 .1 .0)) (List._∷_ Row.off (List._∷_ Row.off (List._∷_ Row.off (List._∷_ Row.off (List._∷_ Row.off (List._∷_ Row.off (List._∷_ Row.off (List._∷_ Row.off (List._∷_ Row.off (List._∷_ Row.off List.[]))))))))))))))))))) }
+        G19 = record { locals = List._++_ t9 t8; slots = List._∷_ slot9 slots4 }
 
         abbrev G20 : Row.Cx
-        G20 = record { locals = List._++_ t10 t8; slots = List._∷_ (Row.lease (κs .0) (qs .0)) (List._∷_ (Row.lease (κs .1 .0) (qs .1 .0)) (List._∷_ (Row.lease (κs .1 .1 .0) (qs .1 .1 .0)) (List._∷_ (Row.lease (κs .1 .1 .1 .0) (qs .1 .1 .1 .0)) (List._∷_ (Row.lease (κs .1 .1 .1 .1 .0) (qs .1 .1 .1 .1 .0)) (List._∷_ (Row.lease (κs .1 .1 .1 .1 .1 .0) (qs .1 .1 .1 .1 .1 .0)) (List._∷_ (Row.lease (κs .1 .1 .1 .1 .1 .1 .0) (qs .1 .1 .1 .1 .1 .1 .0)) (List._∷_ (Row.lease (κs .1 .1 .1 .1 .1 .1 .1 .0) (qs .1 .1 .1 .1 .1 .1 .1 .0)) (List._∷_ (Row.lease (κs .1 .1 .1 .1 .1 .1 .1 .1 .0) (qs .1 .1 .1 .1 .1 .1 .1 .1 .0)) (List._∷_ (Row.lease (κs .1 .1 .1 .1 .1 .1 .1 .1 .1 .0) (qs .1 .1 .1 .1 .1 .1 .1 .1 .1 .0)) (List._∷_ Row.off (List._∷_ Row.off (List._∷_ Row.off (List._∷_ Row.off (List._∷_ Row.off (List._∷_ Row.off (List._∷_ Row.off (List._∷_ Row.off (List._∷_ Row.off (List._∷_ Row.off List.[]))))))))))))))))))) }
+        G20 = record { locals = List._++_ t10 t8; slots = List._∷_ slot9 slots4 }
 
         abbrev G21 : Row.Cx
-        G21 = record { locals = List._++_ t10 t1; slots = List._∷_ (Row.lease (κs .0) (qs .0)) (List._∷_ (Row.lease (κs .1 .0) (qs .1 .0)) (List._∷_ (Row.lease (κs .1 .1 .0) (qs .1 .1 .0)) (List._∷_ (Row.lease (κs .1 .1 .1 .0) (qs .1 .1 .1 .0)) (List._∷_ (Row.lease (κs .1 .1 .1 .1 .0) (qs .1 .1 .1 .1 .0)) (List._∷_ (Row.lease (κs .1 .1 .1 .1 .1 .0) (qs .1 .1 .1 .1 .1 .0)) (List._∷_ (Row.lease (κs .1 .1 .1 .1 .1 .1 .0) (qs .1 .1 .1 .1 .1 .1 .0)) (List._∷_ (Row.lease (κs .1 .1 .1 .1 .1 .1 .1 .0) (qs .1 .1 .1 .1 .1 .1 .1 .0)) (List._∷_ (Row.lease (κs .1 .1 .1 .1 .1 .1 .1 .1 .0) (qs .1 .1 .1 .1 .1 .1 .1 .1 .0)) (List._∷_ (Row.lease (κs .1 .1 .1 .1 .1 .1 .1 .1 .1 .0) (qs .1 .1 .1 .1 .1 .1 .1 .1 .1 .0)) (List._∷_ Row.off (List._∷_ Row.off (List._∷_ Row.off (List._∷_ Row.off (List._∷_ Row.off (List._∷_ Row.off (List._∷_ Row.off (List._∷_ Row.off (List._∷_ Row.off (List._∷_ Row.off List.[]))))))))))))))))))) }
+        G21 = record { locals = List._++_ t10 t1; slots = List._∷_ slot9 slots4 }
 
         abbrev G22 : Row.Cx
-        G22 = record { locals = List._++_ t13 t1; slots = List._∷_ (Row.lease (κs .0) (qs .0)) (List._∷_ (Row.lease (κs .1 .0) (qs .1 .0)) (List._∷_ (Row.lease (κs .1 .1 .0) (qs .1 .1 .0)) (List._∷_ (Row.lease (κs .1 .1 .1 .0) (qs .1 .1 .1 .0)) (List._∷_ (Row.lease (κs .1 .1 .1 .1 .0) (qs .1 .1 .1 .1 .0)) (List._∷_ (Row.lease (κs .1 .1 .1 .1 .1 .0) (qs .1 .1 .1 .1 .1 .0)) (List._∷_ (Row.lease (κs .1 .1 .1 .1 .1 .1 .0) (qs .1 .1 .1 .1 .1 .1 .0)) (List._∷_ (Row.lease (κs .1 .1 .1 .1 .1 .1 .1 .0) (qs .1 .1 .1 .1 .1 .1 .1 .0)) (List._∷_ (Row.lease (κs .1 .1 .1 .1 .1 .1 .1 .1 .0) (qs .1 .1 .1 .1 .1 .1 .1 .1 .0)) (List._∷_ (Row.lease (κs .1 .1 .1 .1 .1 .1 .1 .1 .1 .0) (qs .1 .1 .1 .1 .1 .1 .1 .1 .1 .0)) (List._∷_ Row.off (List._∷_ Row.off (List._∷_ Row.off (List._∷_ Row.off (List._∷_ Row.off (List._∷_ Row.off (List._∷_ Row.off (List._∷_ Row.off (List._∷_ Row.off (List._∷_ Row.off List.[]))))))))))))))))))) }
+        G22 = record { locals = List._++_ t13 t1; slots = List._∷_ slot9 slots4 }
 
         abbrev G23 : Row.Cx
-        G23 = record { locals = List._++_ t14 t1; slots = List._∷_ (Row.lease (κs .0) (qs .0)) (List._∷_ (Row.lease (κs .1 .0) (qs .1 .0)) (List._∷_ (Row.lease (κs .1 .1 .0) (qs .1 .1 .0)) (List._∷_ (Row.lease (κs .1 .1 .1 .0) (qs .1 .1 .1 .0)) (List._∷_ (Row.lease (κs .1 .1 .1 .1 .0) (qs .1 .1 .1 .1 .0)) (List._∷_ (Row.lease (κs .1 .1 .1 .1 .1 .0) (qs .1 .1 .1 .1 .1 .0)) (List._∷_ (Row.lease (κs .1 .1 .1 .1 .1 .1 .0) (qs .1 .1 .1 .1 .1 .1 .0)) (List._∷_ (Row.lease (κs .1 .1 .1 .1 .1 .1 .1 .0) (qs .1 .1 .1 .1 .1 .1 .1 .0)) (List._∷_ (Row.lease (κs .1 .1 .1 .1 .1 .1 .1 .1 .0) (qs .1 .1 .1 .1 .1 .1 .1 .1 .0)) (List._∷_ (Row.lease (κs .1 .1 .1 .1 .1 .1 .1 .1 .1 .0) (qs .1 .1 .1 .1 .1 .1 .1 .1 .1 .0)) (List._∷_ Row.off (List._∷_ Row.off (List._∷_ Row.off (List._∷_ Row.off (List._∷_ Row.off (List._∷_ Row.off (List._∷_ Row.off (List._∷_ Row.off (List._∷_ Row.off (List._∷_ Row.off List.[]))))))))))))))))))) }
+        G23 = record { locals = List._++_ t14 t1; slots = List._∷_ slot9 slots4 }
 
         abbrev G24 : Row.Cx
-        G24 = record { locals = List._++_ t2 t1; slots = List._∷_ (Row.lease (κs .0) (qs .0)) (List._∷_ (Row.lease (κs .1 .0) (qs .1 .0)) (List._∷_ (Row.lease (κs .1 .1 .0) (qs .1 .1 .0)) (List._∷_ (Row.lease (κs .1 .1 .1 .0) (qs .1 .1 .1 .0)) (List._∷_ (Row.lease (κs .1 .1 .1 .1 .0) (qs .1 .1 .1 .1 .0)) (List._∷_ (Row.lease (κs .1 .1 .1 .1 .1 .0) (qs .1 .1 .1 .1 .1 .0)) (List._∷_ (Row.lease (κs .1 .1 .1 .1 .1 .1 .0) (qs .1 .1 .1 .1 .1 .1 .0)) (List._∷_ (Row.lease (κs .1 .1 .1 .1 .1 .1 .1 .0) (qs .1 .1 .1 .1 .1 .1 .1 .0)) (List._∷_ (Row.lease (κs .1 .1 .1 .1 .1 .1 .1 .1 .0) (qs .1 .1 .1 .1 .1 .1 .1 .1 .0)) (List._∷_ (Row.lease (κs .1 .1 .1 .1 .1 .1 .1 .1 .1 .0) (qs .1 .1 .1 .1 .1 .1 .1 .1 .1 .0)) (List._∷_ Row.off (List._∷_ Row.off (List._∷_ Row.off (List._∷_ Row.off (List._∷_ Row.off (List._∷_ Row.off (List._∷_ Row.off (List._∷_ Row.off (List._∷_ Row.off (List._∷_ Row.off List.[]))))))))))))))))))) }
+        G24 = record { locals = List._++_ t2 t1; slots = List._∷_ slot9 slots4 }
 
         abbrev G25 : Row.Cx
-        G25 = record { locals = List._++_ t6 t1; slots = List._∷_ (Row.lease (κs .0) (qs .0)) (List._∷_ (Row.lease (κs .1 .0) (qs .1 .0)) (List._∷_ (Row.lease (κs .1 .1 .0) (qs .1 .1 .0)) (List._∷_ (Row.lease (κs .1 .1 .1 .0) (qs .1 .1 .1 .0)) (List._∷_ (Row.lease (κs .1 .1 .1 .1 .0) (qs .1 .1 .1 .1 .0)) (List._∷_ (Row.lease (κs .1 .1 .1 .1 .1 .0) (qs .1 .1 .1 .1 .1 .0)) (List._∷_ (Row.lease (κs .1 .1 .1 .1 .1 .1 .0) (qs .1 .1 .1 .1 .1 .1 .0)) (List._∷_ (Row.lease (κs .1 .1 .1 .1 .1 .1 .1 .0) (qs .1 .1 .1 .1 .1 .1 .1 .0)) (List._∷_ (Row.lease (κs .1 .1 .1 .1 .1 .1 .1 .1 .0) (qs .1 .1 .1 .1 .1 .1 .1 .1 .0)) (List._∷_ (Row.lease (κs .1 .1 .1 .1 .1 .1 .1 .1 .1 .0) (qs .1 .1 .1 .1 .1 .1 .1 .1 .1 .0)) (List._∷_ Row.off (List._∷_ Row.off (List._∷_ Row.off (List._∷_ Row.off (List._∷_ Row.off (List._∷_ Row.off (List._∷_ Row.off (List._∷_ Row.off (List._∷_ Row.off (List._∷_ Row.off List.[]))))))))))))))))))) }
+        G25 = record { locals = List._++_ t6 t1; slots = List._∷_ slot9 slots4 }
 
         abbrev G26 : Row.Cx
-        G26 = record { locals = List._++_ t6 t1; slots = List._∷_ (Row.lease (κs .0) (qs .0)) (List._∷_ (Row.lease (κs .1 .0) (qs .1 .0)) (List._∷_ (Row.lease (κs .1 .1 .0) (qs .1 .1 .0)) (List._∷_ (Row.lease (κs .1 .1 .1 .0) (qs .1 .1 .1 .0)) (List._∷_ (Row.lease (κs .1 .1 .1 .1 .0) (qs .1 .1 .1 .1 .0)) (List._∷_ (Row.lease (κs .1 .1 .1 .1 .1 .0) (qs .1 .1 .1 .1 .1 .0)) (List._∷_ (Row.lease (κs .1 .1 .1 .1 .1 .1 .0) (qs .1 .1 .1 .1 .1 .1 .0)) (List._∷_ (Row.lease (κs .1 .1 .1 .1 .1 .1 .1 .0) (qs .1 .1 .1 .1 .1 .1 .1 .0)) (List._∷_ (Row.lease (κs .1 .1 .1 .1 .1 .1 .1 .1 .0) (qs .1 .1 .1 .1 .1 .1 .1 .1 .0)) (List._∷_ (Row.lease (κs .1 .1 .1 .1 .1 .1 .1 .1 .1 .0) (qs .1 .1 .1 .1 .1 .1 .1 .1 .1 .0)) (List._∷_ Row.alive (List._∷_ Row.off (List._∷_ Row.off (List._∷_ Row.off (List._∷_ Row.off (List._∷_ Row.off (List._∷_ Row.off (List._∷_ Row.off (List._∷_ Row.off (List._∷_ Row.off List.[]))))))))))))))))))) }
+        G26 = record { locals = List._++_ t6 t1; slots = List._∷_ slot9 (List._∷_ slot0 slots5) }
 
         abbrev G27 : Row.Cx
-        G27 = record { locals = List._++_ g15 t16; slots = List._∷_ (Row.lease (κs .0) (qs .0)) (List._∷_ Row.off (List._∷_ (Row.lease (κs .1 .1 .0) (qs .1 .1 .0)) (List._∷_ (Row.lease (κs .1 .1 .1 .0) (qs .1 .1 .1 .0)) (List._∷_ (Row.lease (κs .1 .1 .1 .1 .0) (qs .1 .1 .1 .1 .0)) (List._∷_ (Row.lease (κs .1 .1 .1 .1 .1 .0) (qs .1 .1 .1 .1 .1 .0)) (List._∷_ (Row.lease (κs .1 .1 .1 .1 .1 .1 .0) (qs .1 .1 .1 .1 .1 .1 .0)) (List._∷_ (Row.lease (κs .1 .1 .1 .1 .1 .1 .1 .0) (qs .1 .1 .1 .1 .1 .1 .1 .0)) (List._∷_ (Row.lease (κs .1 .1 .1 .1 .1 .1 .1 .1 .0) (qs .1 .1 .1 .1 .1 .1 .1 .1 .0)) (List._∷_ (Row.lease (κs .1 .1 .1 .1 .1 .1 .1 .1 .1 .0) (qs .1 .1 .1 .1 .1 .1 .1 .1 .1 .0)) (List._∷_ Row.alive (List._∷_ Row.off (List._∷_ Row.off (List._∷_ Row.off (List._∷_ Row.off (List._∷_ Row.off (List._∷_ Row.off (List._∷_ Row.off (List._∷_ Row.off (List._∷_ Row.off List.[]))))))))))))))))))) }
+        G27 = record { locals = List._++_ g15 t16; slots = List._∷_ slot9 (List._∷_ Row.off slots5) }
 
         abbrev G28 : Row.Cx
-        G28 = record { locals = List._++_ g17 t18; slots = List._∷_ (Row.lease (κs .0) (qs .0)) (List._∷_ Row.off (List._∷_ (Row.lease (κs .1 .1 .0) (qs .1 .1 .0)) (List._∷_ (Row.lease (κs .1 .1 .1 .0) (qs .1 .1 .1 .0)) (List._∷_ (Row.lease (κs .1 .1 .1 .1 .0) (qs .1 .1 .1 .1 .0)) (List._∷_ (Row.lease (κs .1 .1 .1 .1 .1 .0) (qs .1 .1 .1 .1 .1 .0)) (List._∷_ (Row.lease (κs .1 .1 .1 .1 .1 .1 .0) (qs .1 .1 .1 .1 .1 .1 .0)) (List._∷_ (Row.lease (κs .1 .1 .1 .1 .1 .1 .1 .0) (qs .1 .1 .1 .1 .1 .1 .1 .0)) (List._∷_ (Row.lease (κs .1 .1 .1 .1 .1 .1 .1 .1 .0) (qs .1 .1 .1 .1 .1 .1 .1 .1 .0)) (List._∷_ (Row.lease (κs .1 .1 .1 .1 .1 .1 .1 .1 .1 .0) (qs .1 .1 .1 .1 .1 .1 .1 .1 .1 .0)) (List._∷_ Row.alive (List._∷_ Row.off (List._∷_ Row.off (List._∷_ Row.off (List._∷_ Row.off (List._∷_ Row.off (List._∷_ Row.off (List._∷_ Row.off (List._∷_ Row.off (List._∷_ Row.off List.[]))))))))))))))))))) }
+        G28 = record { locals = List._++_ g17 t18; slots = List._∷_ slot9 (List._∷_ Row.off slots5) }
 
         abbrev G29 : Row.Cx
-        G29 = record { locals = List._++_ g17 t18; slots = List._∷_ (Row.lease (κs .0) (qs .0)) (List._∷_ Row.off (List._∷_ (Row.lease (κs .1 .1 .0) (qs .1 .1 .0)) (List._∷_ (Row.lease (κs .1 .1 .1 .0) (qs .1 .1 .1 .0)) (List._∷_ (Row.lease (κs .1 .1 .1 .1 .0) (qs .1 .1 .1 .1 .0)) (List._∷_ (Row.lease (κs .1 .1 .1 .1 .1 .0) (qs .1 .1 .1 .1 .1 .0)) (List._∷_ (Row.lease (κs .1 .1 .1 .1 .1 .1 .0) (qs .1 .1 .1 .1 .1 .1 .0)) (List._∷_ (Row.lease (κs .1 .1 .1 .1 .1 .1 .1 .0) (qs .1 .1 .1 .1 .1 .1 .1 .0)) (List._∷_ (Row.lease (κs .1 .1 .1 .1 .1 .1 .1 .1 .0) (qs .1 .1 .1 .1 .1 .1 .1 .1 .0)) (List._∷_ (Row.lease (κs .1 .1 .1 .1 .1 .1 .1 .1 .1 .0) (qs .1 .1 .1 .1 .1 .1 .1 .1 .1 .0)) (List._∷_ Row.dead (List._∷_ Row.off (List._∷_ Row.off (List._∷_ Row.off (List._∷_ Row.off (List._∷_ Row.off (List._∷_ Row.off (List._∷_ Row.off (List._∷_ Row.off (List._∷_ Row.off List.[]))))))))))))))))))) }
+        G29 = record { locals = List._++_ g17 t18; slots = List._∷_ slot9 (List._∷_ Row.off slots6) }
 
         abbrev G30 : Row.Cx
-        G30 = record { locals = List._++_ t19 t1; slots = List._∷_ (Row.lease (κs .0) (qs .0)) (List._∷_ (Row.lease (κs .1 .0) (qs .1 .0)) (List._∷_ (Row.lease (κs .1 .1 .0) (qs .1 .1 .0)) (List._∷_ (Row.lease (κs .1 .1 .1 .0) (qs .1 .1 .1 .0)) (List._∷_ (Row.lease (κs .1 .1 .1 .1 .0) (qs .1 .1 .1 .1 .0)) (List._∷_ (Row.lease (κs .1 .1 .1 .1 .1 .0) (qs .1 .1 .1 .1 .1 .0)) (List._∷_ (Row.lease (κs .1 .1 .1 .1 .1 .1 .0) (qs .1 .1 .1 .1 .1 .1 .0)) (List._∷_ (Row.lease (κs .1 .1 .1 .1 .1 .1 .1 .0) (qs .1 .1 .1 .1 .1 .1 .1 .0)) (List._∷_ (Row.lease (κs .1 .1 .1 .1 .1 .1 .1 .1 .0) (qs .1 .1 .1 .1 .1 .1 .1 .1 .0)) (List._∷_ (Row.lease (κs .1 .1 .1 .1 .1 .1 .1 .1 .1 .0) (qs .1 .1 .1 .1 .1 .1 .1 .1 .1 .0)) (List._∷_ Row.dead (List._∷_ Row.off (List._∷_ Row.off (List._∷_ Row.off (List._∷_ Row.off (List._∷_ Row.off (List._∷_ Row.off (List._∷_ Row.off (List._∷_ Row.off (List._∷_ Row.off List.[]))))))))))))))))))) }
+        G30 = record { locals = List._++_ t19 t1; slots = List._∷_ slot9 (List._∷_ slot0 slots6) }
 
         abbrev G31 : Row.Cx
-        G31 = record { locals = List._++_ t19 t1; slots = List._∷_ (Row.lease (κs .0) (qs .0)) (List._∷_ (Row.lease (κs .1 .0) (qs .1 .0)) (List._∷_ (Row.lease (κs .1 .1 .0) (qs .1 .1 .0)) (List._∷_ (Row.lease (κs .1 .1 .1 .0) (qs .1 .1 .1 .0)) (List._∷_ (Row.lease (κs .1 .1 .1 .1 .0) (qs .1 .1 .1 .1 .0)) (List._∷_ (Row.lease (κs .1 .1 .1 .1 .1 .0) (qs .1 .1 .1 .1 .1 .0)) (List._∷_ (Row.lease (κs .1 .1 .1 .1 .1 .1 .0) (qs .1 .1 .1 .1 .1 .1 .0)) (List._∷_ (Row.lease (κs .1 .1 .1 .1 .1 .1 .1 .0) (qs .1 .1 .1 .1 .1 .1 .1 .0)) (List._∷_ (Row.lease (κs .1 .1 .1 .1 .1 .1 .1 .1 .0) (qs .1 .1 .1 .1 .1 .1 .1 .1 .0)) (List._∷_ (Row.lease (κs .1 .1 .1 .1 .1 .1 .1 .1 .1 .0) (qs .1 .1 .1 .1 .1 .1 .1 .1 .1 .0)) (List._∷_ Row.off (List._∷_ Row.off (List._∷_ Row.off (List._∷_ Row.off (List._∷_ Row.off (List._∷_ Row.off (List._∷_ Row.off (List._∷_ Row.off (List._∷_ Row.off (List._∷_ Row.off List.[]))))))))))))))))))) }
+        G31 = record { locals = List._++_ t19 t1; slots = List._∷_ slot9 slots4 }
 
         abbrev G32 : Row.Cx
-        G32 = record { locals = List._++_ t19 t1; slots = List._∷_ (Row.lease (κs .0) (qs .0)) (List._∷_ (Row.lease (κs .1 .0) (qs .1 .0)) (List._∷_ (Row.lease (κs .1 .1 .0) (qs .1 .1 .0)) (List._∷_ (Row.lease (κs .1 .1 .1 .0) (qs .1 .1 .1 .0)) (List._∷_ (Row.lease (κs .1 .1 .1 .1 .0) (qs .1 .1 .1 .1 .0)) (List._∷_ (Row.lease (κs .1 .1 .1 .1 .1 .0) (qs .1 .1 .1 .1 .1 .0)) (List._∷_ (Row.lease (κs .1 .1 .1 .1 .1 .1 .0) (qs .1 .1 .1 .1 .1 .1 .0)) (List._∷_ (Row.lease (κs .1 .1 .1 .1 .1 .1 .1 .0) (qs .1 .1 .1 .1 .1 .1 .1 .0)) (List._∷_ (Row.lease (κs .1 .1 .1 .1 .1 .1 .1 .1 .0) (qs .1 .1 .1 .1 .1 .1 .1 .1 .0)) (List._∷_ (Row.lease (κs .1 .1 .1 .1 .1 .1 .1 .1 .1 .0) (qs .1 .1 .1 .1 .1 .1 .1 .1 .1 .0)) (List._∷_ Row.off (List._∷_ Row.alive (List._∷_ Row.off (List._∷_ Row.off (List._∷_ Row.off (List._∷_ Row.off (List._∷_ Row.off (List._∷_ Row.off (List._∷_ Row.off (List._∷_ Row.off List.[]))))))))))))))))))) }
+        G32 = record { locals = List._++_ t19 t1; slots = List._∷_ slot9 (List._∷_ slot0 slots7) }
 
         abbrev G33 : Row.Cx
-        G33 = record { locals = List._++_ g20 t21; slots = List._∷_ (Row.lease (κs .0) (qs .0)) (List._∷_ Row.off (List._∷_ (Row.lease (κs .1 .1 .0) (qs .1 .1 .0)) (List._∷_ (Row.lease (κs .1 .1 .1 .0) (qs .1 .1 .1 .0)) (List._∷_ (Row.lease (κs .1 .1 .1 .1 .0) (qs .1 .1 .1 .1 .0)) (List._∷_ (Row.lease (κs .1 .1 .1 .1 .1 .0) (qs .1 .1 .1 .1 .1 .0)) (List._∷_ (Row.lease (κs .1 .1 .1 .1 .1 .1 .0) (qs .1 .1 .1 .1 .1 .1 .0)) (List._∷_ (Row.lease (κs .1 .1 .1 .1 .1 .1 .1 .0) (qs .1 .1 .1 .1 .1 .1 .1 .0)) (List._∷_ (Row.lease (κs .1 .1 .1 .1 .1 .1 .1 .1 .0) (qs .1 .1 .1 .1 .1 .1 .1 .1 .0)) (List._∷_ (Row.lease (κs .1 .1 .1 .1 .1 .1 .1 .1 .1 .0) (qs .1 .1 .1 .1 .1 .1 .1 .1 .1 .0)) (List._∷_ Row.off (List._∷_ Row.alive (List._∷_ Row.off (List._∷_ Row.off (List._∷_ Row.off (List._∷_ Row.off (List._∷_ Row.off (List._∷_ Row.off (List._∷_ Row.off (List._∷_ Row.off List.[]))))))))))))))))))) }
+        G33 = record { locals = List._++_ g20 t21; slots = List._∷_ slot9 (List._∷_ Row.off slots7) }
 
         abbrev G34 : Row.Cx
-        G34 = record { locals = List._++_ g20 t21; slots = List._∷_ (Row.lease (κs .0) (qs .0)) (List._∷_ Row.off (List._∷_ (Row.lease (κs .1 .1 .0) (qs .1 .1 .0)) (List._∷_ (Row.lease (κs .1 .1 .1 .0) (qs .1 .1 .1 .0)) (List._∷_ (Row.lease (κs .1 .1 .1 .1 .0) (qs .1 .1 .1 .1 .0)) (List._∷_ (Row.lease (κs .1 .1 .1 .1 .1 .0) (qs .1 .1 .1 .1 .1 .0)) (List._∷_ (Row.lease (κs .1 .1 .1 .1 .1 .1 .0) (qs .1 .1 .1 .1 .1 .1 .0)) (List._∷_ (Row.lease (κs .1 .1 .1 .1 .1 .1 .1 .0) (qs .1 .1 .1 .1 .1 .1 .1 .0)) (List._∷_ (Row.lease (κs .1 .1 .1 .1 .1 .1 .1 .1 .0) (qs .1 .1 .1 .1 .1 .1 .1 .1 .0)) (List._∷_ (Row.lease (κs .1 .1 .1 .1 .1 .1 .1 .1 .1 .0) (qs .1 .1 .1 .1 .1 .1 .1 .1 .1 .0)) (List._∷_ Row.off (List._∷_ Row.alive (List._∷_ Row.alive (List._∷_ Row.off (List._∷_ Row.off (List._∷_ Row.off (List._∷_ Row.off (List._∷_ Row.off (List._∷_ Row.off (List._∷_ Row.off List.[]))))))))))))))))))) }
+        G34 = record { locals = List._++_ g20 t21; slots = List._∷_ slot9 (List._∷_ Row.off (List._∷_ slot1 slots8)) }
 
         abbrev G35 : Row.Cx
-        G35 = record { locals = List._++_ g22 t23; slots = List._∷_ (Row.lease (κs .0) (qs .0)) (List._∷_ Row.off (List._∷_ Row.off (List._∷_ (Row.lease (κs .1 .1 .1 .0) (qs .1 .1 .1 .0)) (List._∷_ (Row.lease (κs .1 .1 .1 .1 .0) (qs .1 .1 .1 .1 .0)) (List._∷_ (Row.lease (κs .1 .1 .1 .1 .1 .0) (qs .1 .1 .1 .1 .1 .0)) (List._∷_ (Row.lease (κs .1 .1 .1 .1 .1 .1 .0) (qs .1 .1 .1 .1 .1 .1 .0)) (List._∷_ (Row.lease (κs .1 .1 .1 .1 .1 .1 .1 .0) (qs .1 .1 .1 .1 .1 .1 .1 .0)) (List._∷_ (Row.lease (κs .1 .1 .1 .1 .1 .1 .1 .1 .0) (qs .1 .1 .1 .1 .1 .1 .1 .1 .0)) (List._∷_ (Row.lease (κs .1 .1 .1 .1 .1 .1 .1 .1 .1 .0) (qs .1 .1 .1 .1 .1 .1 .1 .1 .1 .0)) (List._∷_ Row.off (List._∷_ Row.alive (List._∷_ Row.alive (List._∷_ Row.off (List._∷_ Row.off (List._∷_ Row.off (List._∷_ Row.off (List._∷_ Row.off (List._∷_ Row.off (List._∷_ Row.off List.[]))))))))))))))))))) }
+        G35 = record { locals = List._++_ g22 t23; slots = List._∷_ slot9 (List._∷_ Row.off (List._∷_ Row.off slots8)) }
 
         abbrev G36 : Row.Cx
-        G36 = record { locals = List._++_ g22 t23; slots = List._∷_ (Row.lease (κs .0) (qs .0)) (List._∷_ Row.off (List._∷_ Row.off (List._∷_ (Row.lease (κs .1 .1 .1 .0) (qs .1 .1 .1 .0)) (List._∷_ (Row.lease (κs .1 .1 .1 .1 .0) (qs .1 .1 .1 .1 .0)) (List._∷_ (Row.lease (κs .1 .1 .1 .1 .1 .0) (qs .1 .1 .1 .1 .1 .0)) (List._∷_ (Row.lease (κs .1 .1 .1 .1 .1 .1 .0) (qs .1 .1 .1 .1 .1 .1 .0)) (List._∷_ (Row.lease (κs .1 .1 .1 .1 .1 .1 .1 .0) (qs .1 .1 .1 .1 .1 .1 .1 .0)) (List._∷_ (Row.lease (κs .1 .1 .1 .1 .1 .1 .1 .1 .0) (qs .1 .1 .1 .1 .1 .1 .1 .1 .0)) (List._∷_ (Row.lease (κs .1 .1 .1 .1 .1 .1 .1 .1 .1 .0) (qs .1 .1 .1 .1 .1 .1 .1 .1 .1 .0)) (List._∷_ Row.off (List._∷_ Row.alive (List._∷_ Row.alive (List._∷_ Row.alive (List._∷_ Row.off (List._∷_ Row.off (List._∷_ Row.off (List._∷_ Row.off (List._∷_ Row.off (List._∷_ Row.off List.[]))))))))))))))))))) }
+        G36 = record { locals = List._++_ g22 t23; slots = List._∷_ slot9 (List._∷_ Row.off (List._∷_ Row.off (List._∷_ slot2 slots9))) }
 
         abbrev G37 : Row.Cx
-        G37 = record { locals = List._++_ g24 t25; slots = List._∷_ (Row.lease (κs .0) (qs .0)) (List._∷_ Row.off (List._∷_ Row.off (List._∷_ Row.off (List._∷_ (Row.lease (κs .1 .1 .1 .1 .0) (qs .1 .1 .1 .1 .0)) (List._∷_ (Row.lease (κs .1 .1 .1 .1 .1 .0) (qs .1 .1 .1 .1 .1 .0)) (List._∷_ (Row.lease (κs .1 .1 .1 .1 .1 .1 .0) (qs .1 .1 .1 .1 .1 .1 .0)) (List._∷_ (Row.lease (κs .1 .1 .1 .1 .1 .1 .1 .0) (qs .1 .1 .1 .1 .1 .1 .1 .0)) (List._∷_ (Row.lease (κs .1 .1 .1 .1 .1 .1 .1 .1 .0) (qs .1 .1 .1 .1 .1 .1 .1 .1 .0)) (List._∷_ (Row.lease (κs .1 .1 .1 .1 .1 .1 .1 .1 .1 .0) (qs .1 .1 .1 .1 .1 .1 .1 .1 .1 .0)) (List._∷_ Row.off (List._∷_ Row.alive (List._∷_ Row.alive (List._∷_ Row.alive (List._∷_ Row.off (List._∷_ Row.off (List._∷_ Row.off (List._∷_ Row.off (List._∷_ Row.off (List._∷_ Row.off List.[]))))))))))))))))))) }
+        G37 = record { locals = List._++_ g24 t25; slots = List._∷_ slot9 (List._∷_ Row.off (List._∷_ Row.off (List._∷_ Row.off slots9))) }
 
         abbrev G38 : Row.Cx
-        G38 = record { locals = List._++_ g24 t25; slots = List._∷_ (Row.lease (κs .0) (qs .0)) (List._∷_ Row.off (List._∷_ Row.off (List._∷_ Row.off (List._∷_ (Row.lease (κs .1 .1 .1 .1 .0) (qs .1 .1 .1 .1 .0)) (List._∷_ (Row.lease (κs .1 .1 .1 .1 .1 .0) (qs .1 .1 .1 .1 .1 .0)) (List._∷_ (Row.lease (κs .1 .1 .1 .1 .1 .1 .0) (qs .1 .1 .1 .1 .1 .1 .0)) (List._∷_ (Row.lease (κs .1 .1 .1 .1 .1 .1 .1 .0) (qs .1 .1 .1 .1 .1 .1 .1 .0)) (List._∷_ (Row.lease (κs .1 .1 .1 .1 .1 .1 .1 .1 .0) (qs .1 .1 .1 .1 .1 .1 .1 .1 .0)) (List._∷_ (Row.lease (κs .1 .1 .1 .1 .1 .1 .1 .1 .1 .0) (qs .1 .1 .1 .1 .1 .1 .1 .1 .1 .0)) (List._∷_ Row.off (List._∷_ Row.alive (List._∷_ Row.alive (List._∷_ Row.alive (List._∷_ Row.alive (List._∷_ Row.off (List._∷_ Row.off (List._∷_ Row.off (List._∷_ Row.off (List._∷_ Row.off List.[]))))))))))))))))))) }
+        G38 = record { locals = List._++_ g24 t25; slots = List._∷_ slot9 (List._∷_ Row.off (List._∷_ Row.off (List._∷_ Row.off (List._∷_ slot3 slots10)))) }
 
         abbrev G39 : Row.Cx
-        G39 = record { locals = List._++_ g26 t27; slots = List._∷_ (Row.lease (κs .0) (qs .0)) (List._∷_ Row.off (List._∷_ Row.off (List._∷_ Row.off (List._∷_ Row.off (List._∷_ (Row.lease (κs .1 .1 .1 .1 .1 .0) (qs .1 .1 .1 .1 .1 .0)) (List._∷_ (Row.lease (κs .1 .1 .1 .1 .1 .1 .0) (qs .1 .1 .1 .1 .1 .1 .0)) (List._∷_ (Row.lease (κs .1 .1 .1 .1 .1 .1 .1 .0) (qs .1 .1 .1 .1 .1 .1 .1 .0)) (List._∷_ (Row.lease (κs .1 .1 .1 .1 .1 .1 .1 .1 .0) (qs .1 .1 .1 .1 .1 .1 .1 .1 .0)) (List._∷_ (Row.lease (κs .1 .1 .1 .1 .1 .1 .1 .1 .1 .0) (qs .1 .1 .1 .1 .1 .1 .1 .1 .1 .0)) (List._∷_ Row.off (List._∷_ Row.alive (List._∷_ Row.alive (List._∷_ Row.alive (List._∷_ Row.alive (List._∷_ Row.off (List._∷_ Row.off (List._∷_ Row.off (List._∷_ Row.off (List._∷_ Row.off List.[]))))))))))))))))))) }
+        G39 = record { locals = List._++_ g26 t27; slots = List._∷_ slot9 (List._∷_ Row.off (List._∷_ Row.off (List._∷_ Row.off (List._∷_ Row.off slots10)))) }
 
         abbrev G40 : Row.Cx
-        G40 = record { locals = List._++_ g26 t27; slots = List._∷_ (Row.lease (κs .0) (qs .0)) (List._∷_ Row.off (List._∷_ Row.off (List._∷_ Row.off (List._∷_ Row.off (List._∷_ (Row.lease (κs .1 .1 .1 .1 .1 .0) (qs .1 .1 .1 .1 .1 .0)) (List._∷_ (Row.lease (κs .1 .1 .1 .1 .1 .1 .0) (qs .1 .1 .1 .1 .1 .1 .0)) (List._∷_ (Row.lease (κs .1 .1 .1 .1 .1 .1 .1 .0) (qs .1 .1 .1 .1 .1 .1 .1 .0)) (List._∷_ (Row.lease (κs .1 .1 .1 .1 .1 .1 .1 .1 .0) (qs .1 .1 .1 .1 .1 .1 .1 .1 .0)) (List._∷_ (Row.lease (κs .1 .1 .1 .1 .1 .1 .1 .1 .1 .0) (qs .1 .1 .1 .1 .1 .1 .1 .1 .1 .0)) (List._∷_ Row.off (List._∷_ Row.alive (List._∷_ Row.alive (List._∷_ Row.alive (List._∷_ Row.alive (List._∷_ Row.alive (List._∷_ Row.off (List._∷_ Row.off (List._∷_ Row.off (List._∷_ Row.off List.[]))))))))))))))))))) }
+        G40 = record { locals = List._++_ g26 t27; slots = List._∷_ slot9 (List._∷_ Row.off (List._∷_ Row.off (List._∷_ Row.off (List._∷_ Row.off (List._∷_ slot4 slots11))))) }
 
         abbrev G41 : Row.Cx
-        G41 = record { locals = List._++_ g28 t29; slots = List._∷_ (Row.lease (κs .0) (qs .0)) (List._∷_ Row.off (List._∷_ Row.off (List._∷_ Row.off (List._∷_ Row.off (List._∷_ Row.off (List._∷_ (Row.lease (κs .1 .1 .1 .1 .1 .1 .0) (qs .1 .1 .1 .1 .1 .1 .0)) (List._∷_ (Row.lease (κs .1 .1 .1 .1 .1 .1 .1 .0) (qs .1 .1 .1 .1 .1 .1 .1 .0)) (List._∷_ (Row.lease (κs .1 .1 .1 .1 .1 .1 .1 .1 .0) (qs .1 .1 .1 .1 .1 .1 .1 .1 .0)) (List._∷_ (Row.lease (κs .1 .1 .1 .1 .1 .1 .1 .1 .1 .0) (qs .1 .1 .1 .1 .1 .1 .1 .1 .1 .0)) (List._∷_ Row.off (List._∷_ Row.alive (List._∷_ Row.alive (List._∷_ Row.alive (List._∷_ Row.alive (List._∷_ Row.alive (List._∷_ Row.off (List._∷_ Row.off (List._∷_ Row.off (List._∷_ Row.off List.[]))))))))))))))))))) }
+        G41 = record { locals = List._++_ g28 t29; slots = List._∷_ slot9 (List._∷_ Row.off (List._∷_ Row.off (List._∷_ Row.off (List._∷_ Row.off (List._∷_ Row.off slots11))))) }
 
         abbrev G42 : Row.Cx
-        G42 = record { locals = List._++_ g28 t29; slots = List._∷_ (Row.lease (κs .0) (qs .0)) (List._∷_ Row.off (List._∷_ Row.off (List._∷_ Row.off (List._∷_ Row.off (List._∷_ Row.off (List._∷_ (Row.lease (κs .1 .1 .1 .1 .1 .1 .0) (qs .1 .1 .1 .1 .1 .1 .0)) (List._∷_ (Row.lease (κs .1 .1 .1 .1 .1 .1 .1 .0) (qs .1 .1 .1 .1 .1 .1 .1 .0)) (List._∷_ (Row.lease (κs .1 .1 .1 .1 .1 .1 .1 .1 .0) (qs .1 .1 .1 .1 .1 .1 .1 .1 .0)) (List._∷_ (Row.lease (κs .1 .1 .1 .1 .1 .1 .1 .1 .1 .0) (qs .1 .1 .1 .1 .1 .1 .1 .1 .1 .0)) (List._∷_ Row.off (List._∷_ Row.alive (List._∷_ Row.alive (List._∷_ Row.alive (List._∷_ Row.alive (List._∷_ Row.alive (List._∷_ Row.alive (List._∷_ Row.off (List._∷_ Row.off (List._∷_ Row.off List.[]))))))))))))))))))) }
+        G42 = record { locals = List._++_ g28 t29; slots = List._∷_ slot9 (List._∷_ Row.off (List._∷_ Row.off (List._∷_ Row.off (List._∷_ Row.off (List._∷_ Row.off (List._∷_ slot5 slots12)))))) }
 
         abbrev G43 : Row.Cx
-        G43 = record { locals = List._++_ g30 t31; slots = List._∷_ (Row.lease (κs .0) (qs .0)) (List._∷_ Row.off (List._∷_ Row.off (List._∷_ Row.off (List._∷_ Row.off (List._∷_ Row.off (List._∷_ Row.off (List._∷_ (Row.lease (κs .1 .1 .1 .1 .1 .1 .1 .0) (qs .1 .1 .1 .1 .1 .1 .1 .0)) (List._∷_ (Row.lease (κs .1 .1 .1 .1 .1 .1 .1 .1 .0) (qs .1 .1 .1 .1 .1 .1 .1 .1 .0)) (List._∷_ (Row.lease (κs .1 .1 .1 .1 .1 .1 .1 .1 .1 .0) (qs .1 .1 .1 .1 .1 .1 .1 .1 .1 .0)) (List._∷_ Row.off (List._∷_ Row.alive (List._∷_ Row.alive (List._∷_ Row.alive (List._∷_ Row.alive (List._∷_ Row.alive (List._∷_ Row.alive (List._∷_ Row.off (List._∷_ Row.off (List._∷_ Row.off List.[]))))))))))))))))))) }
+        G43 = record { locals = List._++_ g30 t31; slots = List._∷_ slot9 (List._∷_ Row.off (List._∷_ Row.off (List._∷_ Row.off (List._∷_ Row.off (List._∷_ Row.off (List._∷_ Row.off slots12)))))) }
 
         abbrev G44 : Row.Cx
-        G44 = record { locals = List._++_ g30 t31; slots = List._∷_ (Row.lease (κs .0) (qs .0)) (List._∷_ Row.off (List._∷_ Row.off (List._∷_ Row.off (List._∷_ Row.off (List._∷_ Row.off (List._∷_ Row.off (List._∷_ (Row.lease (κs .1 .1 .1 .1 .1 .1 .1 .0) (qs .1 .1 .1 .1 .1 .1 .1 .0)) (List._∷_ (Row.lease (κs .1 .1 .1 .1 .1 .1 .1 .1 .0) (qs .1 .1 .1 .1 .1 .1 .1 .1 .0)) (List._∷_ (Row.lease (κs .1 .1 .1 .1 .1 .1 .1 .1 .1 .0) (qs .1 .1 .1 .1 .1 .1 .1 .1 .1 .0)) (List._∷_ Row.off (List._∷_ Row.alive (List._∷_ Row.alive (List._∷_ Row.alive (List._∷_ Row.alive (List._∷_ Row.alive (List._∷_ Row.alive (List._∷_ Row.alive (List._∷_ Row.off (List._∷_ Row.off List.[]))))))))))))))))))) }
+        G44 = record { locals = List._++_ g30 t31; slots = List._∷_ slot9 (List._∷_ Row.off (List._∷_ Row.off (List._∷_ Row.off (List._∷_ Row.off (List._∷_ Row.off (List._∷_ Row.off (List._∷_ slot6 slots13))))))) }
 
         abbrev G45 : Row.Cx
-        G45 = record { locals = List._++_ g32 t33; slots = List._∷_ (Row.lease (κs .0) (qs .0)) (List._∷_ Row.off (List._∷_ Row.off (List._∷_ Row.off (List._∷_ Row.off (List._∷_ Row.off (List._∷_ Row.off (List._∷_ Row.off (List._∷_ (Row.lease (κs .1 .1 .1 .1 .1 .1 .1 .1 .0) (qs .1 .1 .1 .1 .1 .1 .1 .1 .0)) (List._∷_ (Row.lease (κs .1 .1 .1 .1 .1 .1 .1 .1 .1 .0) (qs .1 .1 .1 .1 .1 .1 .1 .1 .1 .0)) (List._∷_ Row.off (List._∷_ Row.alive (List._∷_ Row.alive (List._∷_ Row.alive (List._∷_ Row.alive (List._∷_ Row.alive (List._∷_ Row.alive (List._∷_ Row.alive (List._∷_ Row.off (List._∷_ Row.off List.[]))))))))))))))))))) }
+        G45 = record { locals = List._++_ g32 t33; slots = List._∷_ slot9 (List._∷_ Row.off (List._∷_ Row.off (List._∷_ Row.off (List._∷_ Row.off (List._∷_ Row.off (List._∷_ Row.off (List._∷_ Row.off slots13))))))) }
 
         abbrev G46 : Row.Cx
-        G46 = record { locals = List._++_ g32 t33; slots = List._∷_ (Row.lease (κs .0) (qs .0)) (List._∷_ Row.off (List._∷_ Row.off (List._∷_ Row.off (List._∷_ Row.off (List._∷_ Row.off (List._∷_ Row.off (List._∷_ Row.off (List._∷_ (Row.lease (κs .1 .1 .1 .1 .1 .1 .1 .1 .0) (qs .1 .1 .1 .1 .1 .1 .1 .1 .0)) (List._∷_ (Row.lease (κs .1 .1 .1 .1 .1 .1 .1 .1 .1 .0) (qs .1 .1 .1 .1 .1 .1 .1 .1 .1 .0)) (List._∷_ Row.off (List._∷_ Row.alive (List._∷_ Row.alive (List._∷_ Row.alive (List._∷_ Row.alive (List._∷_ Row.alive (List._∷_ Row.alive (List._∷_ Row.alive (List._∷_ Row.alive (List._∷_ Row.off List.[]))))))))))))))))))) }
+        G46 = record { locals = List._++_ g32 t33; slots = List._∷_ slot9 (List._∷_ Row.off (List._∷_ Row.off (List._∷_ Row.off (List._∷_ Row.off (List._∷_ Row.off (List._∷_ Row.off (List._∷_ Row.off (List._∷_ slot7 slots14)))))))) }
 
         abbrev G47 : Row.Cx
-        G47 = record { locals = List._++_ g34 t35; slots = List._∷_ (Row.lease (κs .0) (qs .0)) (List._∷_ Row.off (List._∷_ Row.off (List._∷_ Row.off (List._∷_ Row.off (List._∷_ Row.off (List._∷_ Row.off (List._∷_ Row.off (List._∷_ Row.off (List._∷_ (Row.lease (κs .1 .1 .1 .1 .1 .1 .1 .1 .1 .0) (qs .1 .1 .1 .1 .1 .1 .1 .1 .1 .0)) (List._∷_ Row.off (List._∷_ Row.alive (List._∷_ Row.alive (List._∷_ Row.alive (List._∷_ Row.alive (List._∷_ Row.alive (List._∷_ Row.alive (List._∷_ Row.alive (List._∷_ Row.alive (List._∷_ Row.off List.[]))))))))))))))))))) }
+        G47 = record { locals = List._++_ g34 t35; slots = List._∷_ slot9 (List._∷_ Row.off (List._∷_ Row.off (List._∷_ Row.off (List._∷_ Row.off (List._∷_ Row.off (List._∷_ Row.off (List._∷_ Row.off (List._∷_ Row.off slots14)))))))) }
 
         abbrev G48 : Row.Cx
-        G48 = record { locals = List._++_ g34 t35; slots = List._∷_ (Row.lease (κs .0) (qs .0)) (List._∷_ Row.off (List._∷_ Row.off (List._∷_ Row.off (List._∷_ Row.off (List._∷_ Row.off (List._∷_ Row.off (List._∷_ Row.off (List._∷_ Row.off (List._∷_ (Row.lease (κs .1 .1 .1 .1 .1 .1 .1 .1 .1 .0) (qs .1 .1 .1 .1 .1 .1 .1 .1 .1 .0)) (List._∷_ Row.off (List._∷_ Row.alive (List._∷_ Row.alive (List._∷_ Row.alive (List._∷_ Row.alive (List._∷_ Row.alive (List._∷_ Row.alive (List._∷_ Row.alive (List._∷_ Row.alive (List._∷_ Row.alive List.[]))))))))))))))))))) }
+        G48 = record { locals = List._++_ g34 t35; slots = List._∷_ slot9 (List._∷_ Row.off (List._∷_ Row.off (List._∷_ Row.off (List._∷_ Row.off (List._∷_ Row.off (List._∷_ Row.off (List._∷_ Row.off (List._∷_ Row.off (List._∷_ slot8 (List._∷_ Row.off (List._∷_ Row.alive slots18))))))))))) }
 
         abbrev G49 : Row.Cx
-        G49 = record { locals = List._++_ g36 t37; slots = List._∷_ (Row.lease (κs .0) (qs .0)) (List._∷_ Row.off (List._∷_ Row.off (List._∷_ Row.off (List._∷_ Row.off (List._∷_ Row.off (List._∷_ Row.off (List._∷_ Row.off (List._∷_ Row.off (List._∷_ Row.off (List._∷_ Row.off (List._∷_ Row.alive (List._∷_ Row.alive (List._∷_ Row.alive (List._∷_ Row.alive (List._∷_ Row.alive (List._∷_ Row.alive (List._∷_ Row.alive (List._∷_ Row.alive (List._∷_ Row.alive List.[]))))))))))))))))))) }
+        G49 = record { locals = List._++_ g36 t37; slots = List._∷_ slot9 slots19 }
 
         abbrev G50 : Row.Cx
-        G50 = record { locals = List._++_ g36 t38; slots = List._∷_ (Row.lease (κs .0) (qs .0)) (List._∷_ Row.off (List._∷_ Row.off (List._∷_ Row.off (List._∷_ Row.off (List._∷_ Row.off (List._∷_ Row.off (List._∷_ Row.off (List._∷_ Row.off (List._∷_ Row.off (List._∷_ Row.off (List._∷_ Row.alive (List._∷_ Row.alive (List._∷_ Row.alive (List._∷_ Row.alive (List._∷_ Row.alive (List._∷_ Row.alive (List._∷_ Row.alive (List._∷_ Row.alive (List._∷_ Row.alive List.[]))))))))))))))))))) }
+        G50 = record { locals = List._++_ g36 t38; slots = List._∷_ slot9 slots19 }
 
         abbrev G51 : Row.Cx
-        G51 = record { locals = List._++_ g36 t39; slots = List._∷_ (Row.lease (κs .0) (qs .0)) (List._∷_ Row.off (List._∷_ Row.off (List._∷_ Row.off (List._∷_ Row.off (List._∷_ Row.off (List._∷_ Row.off (List._∷_ Row.off (List._∷_ Row.off (List._∷_ Row.off (List._∷_ Row.off (List._∷_ Row.alive (List._∷_ Row.alive (List._∷_ Row.alive (List._∷_ Row.alive (List._∷_ Row.alive (List._∷_ Row.alive (List._∷_ Row.alive (List._∷_ Row.alive (List._∷_ Row.alive List.[]))))))))))))))))))) }
+        G51 = record { locals = List._++_ g36 t39; slots = List._∷_ slot9 slots19 }
 
         abbrev G52 : Row.Cx
-        G52 = record { locals = List._++_ g36 t39; slots = List._∷_ (Row.lease (κs .0) (qs .0)) (List._∷_ Row.off (List._∷_ Row.off (List._∷_ Row.off (List._∷_ Row.off (List._∷_ Row.off (List._∷_ Row.off (List._∷_ Row.off (List._∷_ Row.off (List._∷_ Row.off (List._∷_ Row.off (List._∷_ Row.dead (List._∷_ Row.alive (List._∷_ Row.alive (List._∷_ Row.alive (List._∷_ Row.alive (List._∷_ Row.alive (List._∷_ Row.alive (List._∷_ Row.alive (List._∷_ Row.alive List.[]))))))))))))))))))) }
+        G52 = record { locals = List._++_ g36 t39; slots = List._∷_ slot9 (List._∷_ Row.off slots20) }
 
         abbrev G53 : Row.Cx
-        G53 = record { locals = List._++_ g40 t39; slots = List._∷_ (Row.lease (κs .0) (qs .0)) (List._∷_ (Row.lease (κs .1 .0) (qs .1 .0)) (List._∷_ Row.off (List._∷_ Row.off (List._∷_ Row.off (List._∷_ Row.off (List._∷_ Row.off (List._∷_ Row.off (List._∷_ Row.off (List._∷_ Row.off (List._∷_ Row.off (List._∷_ Row.dead (List._∷_ Row.alive (List._∷_ Row.alive (List._∷_ Row.alive (List._∷_ Row.alive (List._∷_ Row.alive (List._∷_ Row.alive (List._∷_ Row.alive (List._∷_ Row.alive List.[]))))))))))))))))))) }
+        G53 = record { locals = List._++_ g40 t39; slots = List._∷_ slot9 (List._∷_ slot0 slots20) }
 
         abbrev G54 : Row.Cx
-        G54 = record { locals = List._++_ g40 t39; slots = List._∷_ (Row.lease (κs .0) (qs .0)) (List._∷_ (Row.lease (κs .1 .0) (qs .1 .0)) (List._∷_ Row.off (List._∷_ Row.off (List._∷_ Row.off (List._∷_ Row.off (List._∷_ Row.off (List._∷_ Row.off (List._∷_ Row.off (List._∷_ Row.off (List._∷_ Row.off (List._∷_ Row.off (List._∷_ Row.alive (List._∷_ Row.alive (List._∷_ Row.alive (List._∷_ Row.alive (List._∷_ Row.alive (List._∷_ Row.alive (List._∷_ Row.alive (List._∷_ Row.alive List.[]))))))))))))))))))) }
+        G54 = record { locals = List._++_ g40 t39; slots = List._∷_ slot9 (List._∷_ slot0 (List._∷_ Row.off (List._∷_ Row.off (List._∷_ Row.off (List._∷_ Row.off (List._∷_ Row.off (List._∷_ Row.off (List._∷_ Row.off (List._∷_ Row.off (List._∷_ Row.off (List._∷_ Row.off slots18))))))))))) }
 
         abbrev G55 : Row.Cx
-        G55 = record { locals = List._++_ g40 t39; slots = List._∷_ (Row.lease (κs .0) (qs .0)) (List._∷_ (Row.lease (κs .1 .0) (qs .1 .0)) (List._∷_ Row.off (List._∷_ Row.off (List._∷_ Row.off (List._∷_ Row.off (List._∷_ Row.off (List._∷_ Row.off (List._∷_ Row.off (List._∷_ Row.off (List._∷_ Row.off (List._∷_ Row.off (List._∷_ Row.dead (List._∷_ Row.alive (List._∷_ Row.alive (List._∷_ Row.alive (List._∷_ Row.alive (List._∷_ Row.alive (List._∷_ Row.alive (List._∷_ Row.alive List.[]))))))))))))))))))) }
+        G55 = record { locals = List._++_ g40 t39; slots = List._∷_ slot9 (List._∷_ slot0 (List._∷_ Row.off slots21)) }
 
         abbrev G56 : Row.Cx
-        G56 = record { locals = List._++_ g41 t42; slots = List._∷_ (Row.lease (κs .0) (qs .0)) (List._∷_ (Row.lease (κs .1 .0) (qs .1 .0)) (List._∷_ (Row.lease (κs .1 .1 .0) (qs .1 .1 .0)) (List._∷_ Row.off (List._∷_ Row.off (List._∷_ Row.off (List._∷_ Row.off (List._∷_ Row.off (List._∷_ Row.off (List._∷_ Row.off (List._∷_ Row.off (List._∷_ Row.off (List._∷_ Row.dead (List._∷_ Row.alive (List._∷_ Row.alive (List._∷_ Row.alive (List._∷_ Row.alive (List._∷_ Row.alive (List._∷_ Row.alive (List._∷_ Row.alive List.[]))))))))))))))))))) }
+        G56 = record { locals = List._++_ g41 t42; slots = List._∷_ slot9 (List._∷_ slot0 (List._∷_ slot1 slots21)) }
 
         abbrev G57 : Row.Cx
-        G57 = record { locals = List._++_ g41 t42; slots = List._∷_ (Row.lease (κs .0) (qs .0)) (List._∷_ (Row.lease (κs .1 .0) (qs .1 .0)) (List._∷_ (Row.lease (κs .1 .1 .0) (qs .1 .1 .0)) (List._∷_ Row.off (List._∷_ Row.off (List._∷_ Row.off (List._∷_ Row.off (List._∷_ Row.off (List._∷_ Row.off (List._∷_ Row.off (List._∷_ Row.off (List._∷_ Row.off (List._∷_ Row.off (List._∷_ Row.alive (List._∷_ Row.alive (List._∷_ Row.alive (List._∷_ Row.alive (List._∷_ Row.alive (List._∷_ Row.alive (List._∷_ Row.alive List.[]))))))))))))))))))) }
+        G57 = record { locals = List._++_ g41 t42; slots = List._∷_ slot9 (List._∷_ slot0 (List._∷_ slot1 (List._∷_ Row.off (List._∷_ Row.off (List._∷_ Row.off (List._∷_ Row.off (List._∷_ Row.off (List._∷_ Row.off (List._∷_ Row.off (List._∷_ Row.off (List._∷_ Row.off (List._∷_ Row.off (List._∷_ Row.alive slots17))))))))))))) }
 
         abbrev G58 : Row.Cx
-        G58 = record { locals = List._++_ g41 t42; slots = List._∷_ (Row.lease (κs .0) (qs .0)) (List._∷_ (Row.lease (κs .1 .0) (qs .1 .0)) (List._∷_ (Row.lease (κs .1 .1 .0) (qs .1 .1 .0)) (List._∷_ Row.off (List._∷_ Row.off (List._∷_ Row.off (List._∷_ Row.off (List._∷_ Row.off (List._∷_ Row.off (List._∷_ Row.off (List._∷_ Row.off (List._∷_ Row.off (List._∷_ Row.off (List._∷_ Row.dead (List._∷_ Row.alive (List._∷_ Row.alive (List._∷_ Row.alive (List._∷_ Row.alive (List._∷_ Row.alive (List._∷_ Row.alive List.[]))))))))))))))))))) }
+        G58 = record { locals = List._++_ g41 t42; slots = List._∷_ slot9 (List._∷_ slot0 (List._∷_ slot1 (List._∷_ Row.off slots22))) }
 
         abbrev G59 : Row.Cx
-        G59 = record { locals = List._++_ g43 t44; slots = List._∷_ (Row.lease (κs .0) (qs .0)) (List._∷_ (Row.lease (κs .1 .0) (qs .1 .0)) (List._∷_ (Row.lease (κs .1 .1 .0) (qs .1 .1 .0)) (List._∷_ (Row.lease (κs .1 .1 .1 .0) (qs .1 .1 .1 .0)) (List._∷_ Row.off (List._∷_ Row.off (List._∷_ Row.off (List._∷_ Row.off (List._∷_ Row.off (List._∷_ Row.off (List._∷_ Row.off (List._∷_ Row.off (List._∷_ Row.off (List._∷_ Row.dead (List._∷_ Row.alive (List._∷_ Row.alive (List._∷_ Row.alive (List._∷_ Row.alive (List._∷_ Row.alive (List._∷_ Row.alive List.[]))))))))))))))))))) }
+        G59 = record { locals = List._++_ g43 t44; slots = List._∷_ slot9 (List._∷_ slot0 (List._∷_ slot1 (List._∷_ slot2 slots22))) }
 
         abbrev G60 : Row.Cx
-        G60 = record { locals = List._++_ g43 t44; slots = List._∷_ (Row.lease (κs .0) (qs .0)) (List._∷_ (Row.lease (κs .1 .0) (qs .1 .0)) (List._∷_ (Row.lease (κs .1 .1 .0) (qs .1 .1 .0)) (List._∷_ (Row.lease (κs .1 .1 .1 .0) (qs .1 .1 .1 .0)) (List._∷_ Row.off (List._∷_ Row.off (List._∷_ Row.off (List._∷_ Row.off (List._∷_ Row.off (List._∷_ Row.off (List._∷_ Row.off (List._∷_ Row.off (List._∷_ Row.off (List._∷_ Row.off (List._∷_ Row.alive (List._∷_ Row.alive (List._∷_ Row.alive (List._∷_ Row.alive (List._∷_ Row.alive (List._∷_ Row.alive List.[]))))))))))))))))))) }
+        G60 = record { locals = List._++_ g43 t44; slots = List._∷_ slot9 (List._∷_ slot0 (List._∷_ slot1 (List._∷_ slot2 (List._∷_ Row.off (List._∷_ Row.off (List._∷_ Row.off (List._∷_ Row.off (List._∷_ Row.off (List._∷_ Row.off (List._∷_ Row.off (List._∷_ Row.off (List._∷_ Row.off (List._∷_ Row.off slots17))))))))))))) }
 
         abbrev G61 : Row.Cx
-        G61 = record { locals = List._++_ g43 t44; slots = List._∷_ (Row.lease (κs .0) (qs .0)) (List._∷_ (Row.lease (κs .1 .0) (qs .1 .0)) (List._∷_ (Row.lease (κs .1 .1 .0) (qs .1 .1 .0)) (List._∷_ (Row.lease (κs .1 .1 .1 .0) (qs .1 .1 .1 .0)) (List._∷_ Row.off (List._∷_ Row.off (List._∷_ Row.off (List._∷_ Row.off (List._∷_ Row.off (List._∷_ Row.off (List._∷_ Row.off (List._∷_ Row.off (List._∷_ Row.off (List._∷_ Row.off (List._∷_ Row.dead (List._∷_ Row.alive (List._∷_ Row.alive (List._∷_ Row.alive (List._∷_ Row.alive (List._∷_ Row.alive List.[]))))))))))))))))))) }
+        G61 = record { locals = List._++_ g43 t44; slots = List._∷_ slot9 (List._∷_ slot0 (List._∷_ slot1 (List._∷_ slot2 (List._∷_ Row.off slots23)))) }
 
         abbrev G62 : Row.Cx
-        G62 = record { locals = List._++_ g45 t46; slots = List._∷_ (Row.lease (κs .0) (qs .0)) (List._∷_ (Row.lease (κs .1 .0) (qs .1 .0)) (List._∷_ (Row.lease (κs .1 .1 .0) (qs .1 .1 .0)) (List._∷_ (Row.lease (κs .1 .1 .1 .0) (qs .1 .1 .1 .0)) (List._∷_ (Row.lease (κs .1 .1 .1 .1 .0) (qs .1 .1 .1 .1 .0)) (List._∷_ Row.off (List._∷_ Row.off (List._∷_ Row.off (List._∷_ Row.off (List._∷_ Row.off (List._∷_ Row.off (List._∷_ Row.off (List._∷_ Row.off (List._∷_ Row.off (List._∷_ Row.dead (List._∷_ Row.alive (List._∷_ Row.alive (List._∷_ Row.alive (List._∷_ Row.alive (List._∷_ Row.alive List.[]))))))))))))))))))) }
+        G62 = record { locals = List._++_ g45 t46; slots = List._∷_ slot9 (List._∷_ slot0 (List._∷_ slot1 (List._∷_ slot2 (List._∷_ slot3 slots23)))) }
 
         abbrev G63 : Row.Cx
-        G63 = record { locals = List._++_ g45 t46; slots = List._∷_ (Row.lease (κs .0) (qs .0)) (List._∷_ (Row.lease (κs .1 .0) (qs .1 .0)) (List._∷_ (Row.lease (κs .1 .1 .0) (qs .1 .1 .0)) (List._∷_ (Row.lease (κs .1 .1 .1 .0) (qs .1 .1 .1 .0)) (List._∷_ (Row.lease (κs .1 .1 .1 .1 .0) (qs .1 .1 .1 .1 .0)) (List._∷_ Row.off (List._∷_ Row.off (List._∷_ Row.off (List._∷_ Row.off (List._∷_ Row.off (List._∷_ Row.off (List._∷_ Row.off (List._∷_ Row.off (List._∷_ Row.off (List._∷_ Row.off (List._∷_ Row.alive (List._∷_ Row.alive (List._∷_ Row.alive (List._∷_ Row.alive (List._∷_ Row.alive List.[]))))))))))))))))))) }
+        G63 = record { locals = List._++_ g45 t46; slots = List._∷_ slot9 (List._∷_ slot0 (List._∷_ slot1 (List._∷_ slot2 (List._∷_ slot3 (List._∷_ Row.off (List._∷_ Row.off (List._∷_ Row.off (List._∷_ Row.off (List._∷_ Row.off (List._∷_ Row.off (List._∷_ Row.off (List._∷_ Row.off (List._∷_ Row.off (List._∷_ Row.off (List._∷_ Row.alive slots16))))))))))))))) }
 
         abbrev G64 : Row.Cx
-        G64 = record { locals = List._++_ g45 t46; slots = List._∷_ (Row.lease (κs .0) (qs .0)) (List._∷_ (Row.lease (κs .1 .0) (qs .1 .0)) (List._∷_ (Row.lease (κs .1 .1 .0) (qs .1 .1 .0)) (List._∷_ (Row.lease (κs .1 .1 .1 .0) (qs .1 .1 .1 .0)) (List._∷_ (Row.lease (κs .1 .1 .1 .1 .0) (qs .1 .1 .1 .1 .0)) (List._∷_ Row.off (List._∷_ Row.off (List._∷_ Row.off (List._∷_ Row.off (List._∷_ Row.off (List._∷_ Row.off (List._∷_ Row.off (List._∷_ Row.off (List._∷_ Row.off (List._∷_ Row.off (List._∷_ Row.dead (List._∷_ Row.alive (List._∷_ Row.alive (List._∷_ Row.alive (List._∷_ Row.alive List.[]))))))))))))))))))) }
+        G64 = record { locals = List._++_ g45 t46; slots = List._∷_ slot9 (List._∷_ slot0 (List._∷_ slot1 (List._∷_ slot2 (List._∷_ slot3 (List._∷_ Row.off slots24))))) }
 
         abbrev G65 : Row.Cx
-        G65 = record { locals = List._++_ g47 t48; slots = List._∷_ (Row.lease (κs .0) (qs .0)) (List._∷_ (Row.lease (κs .1 .0) (qs .1 .0)) (List._∷_ (Row.lease (κs .1 .1 .0) (qs .1 .1 .0)) (List._∷_ (Row.lease (κs .1 .1 .1 .0) (qs .1 .1 .1 .0)) (List._∷_ (Row.lease (κs .1 .1 .1 .1 .0) (qs .1 .1 .1 .1 .0)) (List._∷_ (Row.lease (κs .1 .1 .1 .1 .1 .0) (qs .1 .1 .1 .1 .1 .0)) (List._∷_ Row.off (List._∷_ Row.off (List._∷_ Row.off (List._∷_ Row.off (List._∷_ Row.off (List._∷_ Row.off (List._∷_ Row.off (List._∷_ Row.off (List._∷_ Row.off (List._∷_ Row.dead (List._∷_ Row.alive (List._∷_ Row.alive (List._∷_ Row.alive (List._∷_ Row.alive List.[]))))))))))))))))))) }
+        G65 = record { locals = List._++_ g47 t48; slots = List._∷_ slot9 (List._∷_ slot0 (List._∷_ slot1 (List._∷_ slot2 (List._∷_ slot3 (List._∷_ slot4 slots24))))) }
 
         abbrev G66 : Row.Cx
-        G66 = record { locals = List._++_ g47 t48; slots = List._∷_ (Row.lease (κs .0) (qs .0)) (List._∷_ (Row.lease (κs .1 .0) (qs .1 .0)) (List._∷_ (Row.lease (κs .1 .1 .0) (qs .1 .1 .0)) (List._∷_ (Row.lease (κs .1 .1 .1 .0) (qs .1 .1 .1 .0)) (List._∷_ (Row.lease (κs .1 .1 .1 .1 .0) (qs .1 .1 .1 .1 .0)) (List._∷_ (Row.lease (κs .1 .1 .1 .1 .1 .0) (qs .1 .1 .1 .1 .1 .0)) (List._∷_ Row.off (List._∷_ Row.off (List._∷_ Row.off (List._∷_ Row.off (List._∷_ Row.off (List._∷_ Row.off (List._∷_ Row.off (List._∷_ Row.off (List._∷_ Row.off (List._∷_ Row.off (List._∷_ Row.alive (List._∷_ Row.alive (List._∷_ Row.alive (List._∷_ Row.alive List.[]))))))))))))))))))) }
+        G66 = record { locals = List._++_ g47 t48; slots = List._∷_ slot9 (List._∷_ slot0 (List._∷_ slot1 (List._∷_ slot2 (List._∷_ slot3 (List._∷_ slot4 (List._∷_ Row.off (List._∷_ Row.off (List._∷_ Row.off (List._∷_ Row.off (List._∷_ Row.off (List._∷_ Row.off (List._∷_ Row.off (List._∷_ Row.off (List._∷_ Row.off (List._∷_ Row.off slots16))))))))))))))) }
 
         abbrev G67 : Row.Cx
-        G67 = record { locals = List._++_ g47 t48; slots = List._∷_ (Row.lease (κs .0) (qs .0)) (List._∷_ (Row.lease (κs .1 .0) (qs .1 .0)) (List._∷_ (Row.lease (κs .1 .1 .0) (qs .1 .1 .0)) (List._∷_ (Row.lease (κs .1 .1 .1 .0) (qs .1 .1 .1 .0)) (List._∷_ (Row.lease (κs .1 .1 .1 .1 .0) (qs .1 .1 .1 .1 .0)) (List._∷_ (Row.lease (κs .1 .1 .1 .1 .1 .0) (qs .1 .1 .1 .1 .1 .0)) (List._∷_ Row.off (List._∷_ Row.off (List._∷_ Row.off (List._∷_ Row.off (List._∷_ Row.off (List._∷_ Row.off (List._∷_ Row.off (List._∷_ Row.off (List._∷_ Row.off (List._∷_ Row.off (List._∷_ Row.dead (List._∷_ Row.alive (List._∷_ Row.alive (List._∷_ Row.alive List.[]))))))))))))))))))) }
+        G67 = record { locals = List._++_ g47 t48; slots = List._∷_ slot9 (List._∷_ slot0 (List._∷_ slot1 (List._∷_ slot2 (List._∷_ slot3 (List._∷_ slot4 (List._∷_ Row.off slots25)))))) }
 
         abbrev G68 : Row.Cx
-        G68 = record { locals = List._++_ g49 t50; slots = List._∷_ (Row.lease (κs .0) (qs .0)) (List._∷_ (Row.lease (κs .1 .0) (qs .1 .0)) (List._∷_ (Row.lease (κs .1 .1 .0) (qs .1 .1 .0)) (List._∷_ (Row.lease (κs .1 .1 .1 .0) (qs .1 .1 .1 .0)) (List._∷_ (Row.lease (κs .1 .1 .1 .1 .0) (qs .1 .1 .1 .1 .0)) (List._∷_ (Row.lease (κs .1 .1 .1 .1 .1 .0) (qs .1 .1 .1 .1 .1 .0)) (List._∷_ (Row.lease (κs .1 .1 .1 .1 .1 .1 .0) (qs .1 .1 .1 .1 .1 .1 .0)) (List._∷_ Row.off (List._∷_ Row.off (List._∷_ Row.off (List._∷_ Row.off (List._∷_ Row.off (List._∷_ Row.off (List._∷_ Row.off (List._∷_ Row.off (List._∷_ Row.off (List._∷_ Row.dead (List._∷_ Row.alive (List._∷_ Row.alive (List._∷_ Row.alive List.[]))))))))))))))))))) }
+        G68 = record { locals = List._++_ g49 t50; slots = List._∷_ slot9 (List._∷_ slot0 (List._∷_ slot1 (List._∷_ slot2 (List._∷_ slot3 (List._∷_ slot4 (List._∷_ slot5 slots25)))))) }
 
         abbrev G69 : Row.Cx
-        G69 = record { locals = List._++_ g49 t50; slots = List._∷_ (Row.lease (κs .0) (qs .0)) (List._∷_ (Row.lease (κs .1 .0) (qs .1 .0)) (List._∷_ (Row.lease (κs .1 .1 .0) (qs .1 .1 .0)) (List._∷_ (Row.lease (κs .1 .1 .1 .0) (qs .1 .1 .1 .0)) (List._∷_ (Row.lease (κs .1 .1 .1 .1 .0) (qs .1 .1 .1 .1 .0)) (List._∷_ (Row.lease (κs .1 .1 .1 .1 .1 .0) (qs .1 .1 .1 .1 .1 .0)) (List._∷_ (Row.lease (κs .1 .1 .1 .1 .1 .1 .0) (qs .1 .1 .1 .1 .1 .1 .0)) (List._∷_ Row.off (List._∷_ Row.off (List._∷_ Row.off (List._∷_ Row.off (List._∷_ Row.off (List._∷_ Row.off (List._∷_ Row.off (List._∷_ Row.off (List._∷_ Row.off (List._∷_ Row.off (List._∷_ Row.alive (List._∷_ Row.alive (List._∷_ Row.alive List.[]))))))))))))))))))) }
+        G69 = record { locals = List._++_ g49 t50; slots = List._∷_ slot9 (List._∷_ slot0 (List._∷_ slot1 (List._∷_ slot2 (List._∷_ slot3 (List._∷_ slot4 (List._∷_ slot5 (List._∷_ Row.off (List._∷_ Row.off (List._∷_ Row.off (List._∷_ Row.off (List._∷_ Row.off (List._∷_ Row.off (List._∷_ Row.off (List._∷_ Row.off (List._∷_ Row.off (List._∷_ Row.off (List._∷_ Row.alive slots15))))))))))))))))) }
 
         abbrev G70 : Row.Cx
-        G70 = record { locals = List._++_ g49 t50; slots = List._∷_ (Row.lease (κs .0) (qs .0)) (List._∷_ (Row.lease (κs .1 .0) (qs .1 .0)) (List._∷_ (Row.lease (κs .1 .1 .0) (qs .1 .1 .0)) (List._∷_ (Row.lease (κs .1 .1 .1 .0) (qs .1 .1 .1 .0)) (List._∷_ (Row.lease (κs .1 .1 .1 .1 .0) (qs .1 .1 .1 .1 .0)) (List._∷_ (Row.lease (κs .1 .1 .1 .1 .1 .0) (qs .1 .1 .1 .1 .1 .0)) (List._∷_ (Row.lease (κs .1 .1 .1 .1 .1 .1 .0) (qs .1 .1 .1 .1 .1 .1 .0)) (List._∷_ Row.off (List._∷_ Row.off (List._∷_ Row.off (List._∷_ Row.off (List._∷_ Row.off (List._∷_ Row.off (List._∷_ Row.off (List._∷_ Row.off (List._∷_ Row.off (List._∷_ Row.off (List._∷_ Row.dead (List._∷_ Row.alive (List._∷_ Row.alive List.[]))))))))))))))))))) }
+        G70 = record { locals = List._++_ g49 t50; slots = List._∷_ slot9 (List._∷_ slot0 (List._∷_ slot1 (List._∷_ slot2 (List._∷_ slot3 (List._∷_ slot4 (List._∷_ slot5 (List._∷_ Row.off slots26))))))) }
 
         abbrev G71 : Row.Cx
-        G71 = record { locals = List._++_ g51 t52; slots = List._∷_ (Row.lease (κs .0) (qs .0)) (List._∷_ (Row.lease (κs .1 .0) (qs .1 .0)) (List._∷_ (Row.lease (κs .1 .1 .0) (qs .1 .1 .0)) (List._∷_ (Row.lease (κs .1 .1 .1 .0) (qs .1 .1 .1 .0)) (List._∷_ (Row.lease (κs .1 .1 .1 .1 .0) (qs .1 .1 .1 .1 .0)) (List._∷_ (Row.lease (κs .1 .1 .1 .1 .1 .0) (qs .1 .1 .1 .1 .1 .0)) (List._∷_ (Row.lease (κs .1 .1 .1 .1 .1 .1 .0) (qs .1 .1 .1 .1 .1 .1 .0)) (List._∷_ (Row.lease (κs .1 .1 .1 .1 .1 .1 .1 .0) (qs .1 .1 .1 .1 .1 .1 .1 .0)) (List._∷_ Row.off (List._∷_ Row.off (List._∷_ Row.off (List._∷_ Row.off (List._∷_ Row.off (List._∷_ Row.off (List._∷_ Row.off (List._∷_ Row.off (List._∷_ Row.off (List._∷_ Row.dead (List._∷_ Row.alive (List._∷_ Row.alive List.[]))))))))))))))))))) }
+        G71 = record { locals = List._++_ g51 t52; slots = List._∷_ slot9 (List._∷_ slot0 (List._∷_ slot1 (List._∷_ slot2 (List._∷_ slot3 (List._∷_ slot4 (List._∷_ slot5 (List._∷_ slot6 slots26))))))) }
 
         abbrev G72 : Row.Cx
-        G72 = record { locals = List._++_ g51 t52; slots = List._∷_ (Row.lease (κs .0) (qs .0)) (List._∷_ (Row.lease (κs .1 .0) (qs .1 .0)) (List._∷_ (Row.lease (κs .1 .1 .0) (qs .1 .1 .0)) (List._∷_ (Row.lease (κs .1 .1 .1 .0) (qs .1 .1 .1 .0)) (List._∷_ (Row.lease (κs .1 .1 .1 .1 .0) (qs .1 .1 .1 .1 .0)) (List._∷_ (Row.lease (κs .1 .1 .1 .1 .1 .0) (qs .1 .1 .1 .1 .1 .0)) (List._∷_ (Row.lease (κs .1 .1 .1 .1 .1 .1 .0) (qs .1 .1 .1 .1 .1 .1 .0)) (List._∷_ (Row.lease (κs .1 .1 .1 .1 .1 .1 .1 .0) (qs .1 .1 .1 .1 .1 .1 .1 .0)) (List._∷_ Row.off (List._∷_ Row.off (List._∷_ Row.off (List._∷_ Row.off (List._∷_ Row.off (List._∷_ Row.off (List._∷_ Row.off (List._∷_ Row.off (List._∷_ Row.off (List._∷_ Row.off (List._∷_ Row.alive (List._∷_ Row.alive List.[]))))))))))))))))))) }
+        G72 = record { locals = List._++_ g51 t52; slots = List._∷_ slot9 (List._∷_ slot0 (List._∷_ slot1 (List._∷_ slot2 (List._∷_ slot3 (List._∷_ slot4 (List._∷_ slot5 (List._∷_ slot6 (List._∷_ Row.off (List._∷_ Row.off (List._∷_ Row.off (List._∷_ Row.off (List._∷_ Row.off (List._∷_ Row.off (List._∷_ Row.off (List._∷_ Row.off (List._∷_ Row.off (List._∷_ Row.off slots15))))))))))))))))) }
 
         abbrev G73 : Row.Cx
-        G73 = record { locals = List._++_ g51 t52; slots = List._∷_ (Row.lease (κs .0) (qs .0)) (List._∷_ (Row.lease (κs .1 .0) (qs .1 .0)) (List._∷_ (Row.lease (κs .1 .1 .0) (qs .1 .1 .0)) (List._∷_ (Row.lease (κs .1 .1 .1 .0) (qs .1 .1 .1 .0)) (List._∷_ (Row.lease (κs .1 .1 .1 .1 .0) (qs .1 .1 .1 .1 .0)) (List._∷_ (Row.lease (κs .1 .1 .1 .1 .1 .0) (qs .1 .1 .1 .1 .1 .0)) (List._∷_ (Row.lease (κs .1 .1 .1 .1 .1 .1 .0) (qs .1 .1 .1 .1 .1 .1 .0)) (List._∷_ (Row.lease (κs .1 .1 .1 .1 .1 .1 .1 .0) (qs .1 .1 .1 .1 .1 .1 .1 .0)) (List._∷_ Row.off (List._∷_ Row.off (List._∷_ Row.off (List._∷_ Row.off (List._∷_ Row.off (List._∷_ Row.off (List._∷_ Row.off (List._∷_ Row.off (List._∷_ Row.off (List._∷_ Row.off (List._∷_ Row.dead (List._∷_ Row.alive List.[]))))))))))))))))))) }
+        G73 = record { locals = List._++_ g51 t52; slots = List._∷_ slot9 (List._∷_ slot0 (List._∷_ slot1 (List._∷_ slot2 (List._∷_ slot3 (List._∷_ slot4 (List._∷_ slot5 (List._∷_ slot6 (List._∷_ Row.off slots27)))))))) }
 
         abbrev G74 : Row.Cx
-        G74 = record { locals = List._++_ g53 t54; slots = List._∷_ (Row.lease (κs .0) (qs .0)) (List._∷_ (Row.lease (κs .1 .0) (qs .1 .0)) (List._∷_ (Row.lease (κs .1 .1 .0) (qs .1 .1 .0)) (List._∷_ (Row.lease (κs .1 .1 .1 .0) (qs .1 .1 .1 .0)) (List._∷_ (Row.lease (κs .1 .1 .1 .1 .0) (qs .1 .1 .1 .1 .0)) (List._∷_ (Row.lease (κs .1 .1 .1 .1 .1 .0) (qs .1 .1 .1 .1 .1 .0)) (List._∷_ (Row.lease (κs .1 .1 .1 .1 .1 .1 .0) (qs .1 .1 .1 .1 .1 .1 .0)) (List._∷_ (Row.lease (κs .1 .1 .1 .1 .1 .1 .1 .0) (qs .1 .1 .1 .1 .1 .1 .1 .0)) (List._∷_ (Row.lease (κs .1 .1 .1 .1 .1 .1 .1 .1 .0) (qs .1 .1 .1 .1 .1 .1 .1 .1 .0)) (List._∷_ Row.off (List._∷_ Row.off (List._∷_ Row.off (List._∷_ Row.off (List._∷_ Row.off (List._∷_ Row.off (List._∷_ Row.off (List._∷_ Row.off (List._∷_ Row.off (List._∷_ Row.dead (List._∷_ Row.alive List.[]))))))))))))))))))) }
+        G74 = record { locals = List._++_ g53 t54; slots = List._∷_ slot9 (List._∷_ slot0 (List._∷_ slot1 (List._∷_ slot2 (List._∷_ slot3 (List._∷_ slot4 (List._∷_ slot5 (List._∷_ slot6 (List._∷_ slot7 slots27)))))))) }
 
         abbrev G75 : Row.Cx
-        G75 = record { locals = List._++_ g53 t54; slots = List._∷_ (Row.lease (κs .0) (qs .0)) (List._∷_ (Row.lease (κs .1 .0) (qs .1 .0)) (List._∷_ (Row.lease (κs .1 .1 .0) (qs .1 .1 .0)) (List._∷_ (Row.lease (κs .1 .1 .1 .0) (qs .1 .1 .1 .0)) (List._∷_ (Row.lease (κs .1 .1 .1 .1 .0) (qs .1 .1 .1 .1 .0)) (List._∷_ (Row.lease (κs .1 .1 .1 .1 .1 .0) (qs .1 .1 .1 .1 .1 .0)) (List._∷_ (Row.lease (κs .1 .1 .1 .1 .1 .1 .0) (qs .1 .1 .1 .1 .1 .1 .0)) (List._∷_ (Row.lease (κs .1 .1 .1 .1 .1 .1 .1 .0) (qs .1 .1 .1 .1 .1 .1 .1 .0)) (List._∷_ (Row.lease (κs .1 .1 .1 .1 .1 .1 .1 .1 .0) (qs .1 .1 .1 .1 .1 .1 .1 .1 .0)) (List._∷_ Row.off (List._∷_ Row.off (List._∷_ Row.off (List._∷_ Row.off (List._∷_ Row.off (List._∷_ Row.off (List._∷_ Row.off (List._∷_ Row.off (List._∷_ Row.off (List._∷_ Row.off (List._∷_ Row.alive List.[]))))))))))))))))))) }
+        G75 = record { locals = List._++_ g53 t54; slots = List._∷_ slot9 (List._∷_ slot0 (List._∷_ slot1 (List._∷_ slot2 (List._∷_ slot3 (List._∷_ slot4 (List._∷_ slot5 (List._∷_ slot6 (List._∷_ slot7 (List._∷_ Row.off (List._∷_ Row.off (List._∷_ Row.off (List._∷_ Row.off (List._∷_ Row.off (List._∷_ Row.off (List._∷_ Row.off (List._∷_ Row.off (List._∷_ Row.off (List._∷_ Row.off (List._∷_ Row.alive List.[]))))))))))))))))))) }
 
         abbrev G76 : Row.Cx
-        G76 = record { locals = List._++_ g53 t54; slots = List._∷_ (Row.lease (κs .0) (qs .0)) (List._∷_ (Row.lease (κs .1 .0) (qs .1 .0)) (List._∷_ (Row.lease (κs .1 .1 .0) (qs .1 .1 .0)) (List._∷_ (Row.lease (κs .1 .1 .1 .0) (qs .1 .1 .1 .0)) (List._∷_ (Row.lease (κs .1 .1 .1 .1 .0) (qs .1 .1 .1 .1 .0)) (List._∷_ (Row.lease (κs .1 .1 .1 .1 .1 .0) (qs .1 .1 .1 .1 .1 .0)) (List._∷_ (Row.lease (κs .1 .1 .1 .1 .1 .1 .0) (qs .1 .1 .1 .1 .1 .1 .0)) (List._∷_ (Row.lease (κs .1 .1 .1 .1 .1 .1 .1 .0) (qs .1 .1 .1 .1 .1 .1 .1 .0)) (List._∷_ (Row.lease (κs .1 .1 .1 .1 .1 .1 .1 .1 .0) (qs .1 .1 .1 .1 .1 .1 .1 .1 .0)) (List._∷_ Row.off (List._∷_ Row.off (List._∷_ Row.off (List._∷_ Row.off (List._∷_ Row.off (List._∷_ Row.off (List._∷_ Row.off (List._∷_ Row.off (List._∷_ Row.off (List._∷_ Row.off (List._∷_ Row.dead List.[]))))))))))))))))))) }
+        G76 = record { locals = List._++_ g53 t54; slots = List._∷_ slot9 (List._∷_ slot0 (List._∷_ slot1 (List._∷_ slot2 (List._∷_ slot3 (List._∷_ slot4 (List._∷_ slot5 (List._∷_ slot6 (List._∷_ slot7 (List._∷_ Row.off slots28))))))))) }
 
         abbrev G77 : Row.Cx
-        G77 = record { locals = List._++_ t19 t1; slots = List._∷_ (Row.lease (κs .0) (qs .0)) (List._∷_ (Row.lease (κs .1 .0) (qs .1 .0)) (List._∷_ (Row.lease (κs .1 .1 .0) (qs .1 .1 .0)) (List._∷_ (Row.lease (κs .1 .1 .1 .0) (qs .1 .1 .1 .0)) (List._∷_ (Row.lease (κs .1 .1 .1 .1 .0) (qs .1 .1 .1 .1 .0)) (List._∷_ (Row.lease (κs .1 .1 .1 .1 .1 .0) (qs .1 .1 .1 .1 .1 .0)) (List._∷_ (Row.lease (κs .1 .1 .1 .1 .1 .1 .0) (qs .1 .1 .1 .1 .1 .1 .0)) (List._∷_ (Row.lease (κs .1 .1 .1 .1 .1 .1 .1 .0) (qs .1 .1 .1 .1 .1 .1 .1 .0)) (List._∷_ (Row.lease (κs .1 .1 .1 .1 .1 .1 .1 .1 .0) (qs .1 .1 .1 .1 .1 .1 .1 .1 .0)) (List._∷_ (Row.lease (κs .1 .1 .1 .1 .1 .1 .1 .1 .1 .0) (qs .1 .1 .1 .1 .1 .1 .1 .1 .1 .0)) (List._∷_ Row.off (List._∷_ Row.off (List._∷_ Row.off (List._∷_ Row.off (List._∷_ Row.off (List._∷_ Row.off (List._∷_ Row.off (List._∷_ Row.off (List._∷_ Row.off (List._∷_ Row.dead List.[]))))))))))))))))))) }
+        G77 = record { locals = List._++_ t19 t1; slots = List._∷_ slot9 (List._∷_ slot0 (List._∷_ slot1 (List._∷_ slot2 (List._∷_ slot3 (List._∷_ slot4 (List._∷_ slot5 (List._∷_ slot6 (List._∷_ slot7 (List._∷_ slot8 slots28))))))))) }
 
         abbrev G78 : Row.Cx
-        G78 = record { locals = List._++_ t19 t1; slots = List._∷_ (Row.lease (κs .0) (qs .0)) (List._∷_ (Row.lease (κs .1 .0) (qs .1 .0)) (List._∷_ (Row.lease (κs .1 .1 .0) (qs .1 .1 .0)) (List._∷_ (Row.lease (κs .1 .1 .1 .0) (qs .1 .1 .1 .0)) (List._∷_ (Row.lease (κs .1 .1 .1 .1 .0) (qs .1 .1 .1 .1 .0)) (List._∷_ (Row.lease (κs .1 .1 .1 .1 .1 .0) (qs .1 .1 .1 .1 .1 .0)) (List._∷_ (Row.lease (κs .1 .1 .1 .1 .1 .1 .0) (qs .1 .1 .1 .1 .1 .1 .0)) (List._∷_ (Row.lease (κs .1 .1 .1 .1 .1 .1 .1 .0) (qs .1 .1 .1 .1 .1 .1 .1 .0)) (List._∷_ (Row.lease (κs .1 .1 .1 .1 .1 .1 .1 .1 .0) (qs .1 .1 .1 .1 .1 .1 .1 .1 .0)) (List._∷_ (Row.lease (κs .1 .1 .1 .1 .1 .1 .1 .1 .1 .0) (qs .1 .1 .1 .1 .1 .1 .1 .1 .1 .0)) (List._∷_ Row.off (List._∷_ Row.off (List._∷_ Row.off (List._∷_ Row.off (List._∷_ Row.off (List._∷_ Row.off (List._∷_ Row.off (List._∷_ Row.off (List._∷_ Row.off (List._∷_ Row.off List.[]))))))))))))))))))) }
+        G78 = record { locals = List._++_ t19 t1; slots = List._∷_ slot9 slots4 }
 
         abbrev G79 : Row.Cx
-        G79 = record { locals = List._++_ t19 t8; slots = List._∷_ (Row.lease (κs .0) (qs .0)) (List._∷_ (Row.lease (κs .1 .0) (qs .1 .0)) (List._∷_ (Row.lease (κs .1 .1 .0) (qs .1 .1 .0)) (List._∷_ (Row.lease (κs .1 .1 .1 .0) (qs .1 .1 .1 .0)) (List._∷_ (Row.lease (κs .1 .1 .1 .1 .0) (qs .1 .1 .1 .1 .0)) (List._∷_ (Row.lease (κs .1 .1 .1 .1 .1 .0) (qs .1 .1 .1 .1 .1 .0)) (List._∷_ (Row.lease (κs .1 .1 .1 .1 .1 .1 .0) (qs .1 .1 .1 .1 .1 .1 .0)) (List._∷_ (Row.lease (κs .1 .1 .1 .1 .1 .1 .1 .0) (qs .1 .1 .1 .1 .1 .1 .1 .0)) (List._∷_ (Row.lease (κs .1 .1 .1 .1 .1 .1 .1 .1 .0) (qs .1 .1 .1 .1 .1 .1 .1 .1 .0)) (List._∷_ (Row.lease (κs .1 .1 .1 .1 .1 .1 .1 .1 .1 .0) (qs .1 .1 .1 .1 .1 .1 .1 .1 .1 .0)) (List._∷_ Row.off (List._∷_ Row.off (List._∷_ Row.off (List._∷_ Row.off (List._∷_ Row.off (List._∷_ Row.off (List._∷_ Row.off (List._∷_ Row.off (List._∷_ Row.off (List._∷_ Row.off List.[]))))))))))))))))))) }
+        G79 = record { locals = List._++_ t19 t8; slots = List._∷_ slot9 slots4 }
 
         abbrev G80 : Row.Cx
-        G80 = record { locals = List._++_ t55 t1; slots = List._∷_ (Row.lease (κs .0) (qs .0)) (List._∷_ (Row.lease (κs .1 .0) (qs .1 .0)) (List._∷_ (Row.lease (κs .1 .1 .0) (qs .1 .1 .0)) (List._∷_ (Row.lease (κs .1 .1 .1 .0) (qs .1 .1 .1 .0)) (List._∷_ (Row.lease (κs .1 .1 .1 .1 .0) (qs .1 .1 .1 .1 .0)) (List._∷_ (Row.lease (κs .1 .1 .1 .1 .1 .0) (qs .1 .1 .1 .1 .1 .0)) (List._∷_ (Row.lease (κs .1 .1 .1 .1 .1 .1 .0) (qs .1 .1 .1 .1 .1 .1 .0)) (List._∷_ (Row.lease (κs .1 .1 .1 .1 .1 .1 .1 .0) (qs .1 .1 .1 .1 .1 .1 .1 .0)) (List._∷_ (Row.lease (κs .1 .1 .1 .1 .1 .1 .1 .1 .0) (qs .1 .1 .1 .1 .1 .1 .1 .1 .0)) (List._∷_ (Row.lease (κs .1 .1 .1 .1 .1 .1 .1 .1 .1 .0) (qs .1 .1 .1 .1 .1 .1 .1 .1 .1 .0)) (List._∷_ Row.off (List._∷_ Row.off (List._∷_ Row.off (List._∷_ Row.off (List._∷_ Row.off (List._∷_ Row.off (List._∷_ Row.off (List._∷_ Row.off (List._∷_ Row.off (List._∷_ Row.off List.[]))))))))))))))))))) }
+        G80 = record { locals = List._++_ t55 t1; slots = List._∷_ slot9 slots4 }
 
         abbrev G81 : Row.Cx
-        G81 = record { locals = List._++_ t56 t8; slots = List._∷_ (Row.lease (κs .0) (qs .0)) (List._∷_ (Row.lease (κs .1 .0) (qs .1 .0)) (List._∷_ (Row.lease (κs .1 .1 .0) (qs .1 .1 .0)) (List._∷_ (Row.lease (κs .1 .1 .1 .0) (qs .1 .1 .1 .0)) (List._∷_ (Row.lease (κs .1 .1 .1 .1 .0) (qs .1 .1 .1 .1 .0)) (List._∷_ (Row.lease (κs .1 .1 .1 .1 .1 .0) (qs .1 .1 .1 .1 .1 .0)) (List._∷_ (Row.lease (κs .1 .1 .1 .1 .1 .1 .0) (qs .1 .1 .1 .1 .1 .1 .0)) (List._∷_ (Row.lease (κs .1 .1 .1 .1 .1 .1 .1 .0) (qs .1 .1 .1 .1 .1 .1 .1 .0)) (List._∷_ (Row.lease (κs .1 .1 .1 .1 .1 .1 .1 .1 .0) (qs .1 .1 .1 .1 .1 .1 .1 .1 .0)) (List._∷_ (Row.lease (κs .1 .1 .1 .1 .1 .1 .1 .1 .1 .0) (qs .1 .1 .1 .1 .1 .1 .1 .1 .1 .0)) (List._∷_ Row.off (List._∷_ Row.off (List._∷_ Row.off (List._∷_ Row.off (List._∷_ Row.off (List._∷_ Row.off (List._∷_ Row.off (List._∷_ Row.off (List._∷_ Row.off (List._∷_ Row.off List.[]))))))))))))))))))) }
+        G81 = record { locals = List._++_ t56 t8; slots = List._∷_ slot9 slots4 }
 
         abbrev G82 : Row.Cx
-        G82 = record { locals = List._++_ t9 t8; slots = List._∷_ (Row.lease (κs .0) (qs .0)) (List._∷_ (Row.lease (κs .1 .0) (qs .1 .0)) (List._∷_ (Row.lease (κs .1 .1 .0) (qs .1 .1 .0)) (List._∷_ (Row.lease (κs .1 .1 .1 .0) (qs .1 .1 .1 .0)) (List._∷_ (Row.lease (κs .1 .1 .1 .1 .0) (qs .1 .1 .1 .1 .0)) (List._∷_ (Row.lease (κs .1 .1 .1 .1 .1 .0) (qs .1 .1 .1 .1 .1 .0)) (List._∷_ (Row.lease (κs .1 .1 .1 .1 .1 .1 .0) (qs .1 .1 .1 .1 .1 .1 .0)) (List._∷_ (Row.lease (κs .1 .1 .1 .1 .1 .1 .1 .0) (qs .1 .1 .1 .1 .1 .1 .1 .0)) (List._∷_ (Row.lease (κs .1 .1 .1 .1 .1 .1 .1 .1 .0) (qs .1 .1 .1 .1 .1 .1 .1 .1 .0)) (List._∷_ (Row.lease (κs .1 .1 .1 .1 .1 .1 .1 .1 .1 .0) (qs .1 .1 .1 .1 .1 .1 .1 .1 .1 .0)) (List._∷_ Row.off (List._∷_ Row.off (List._∷_ Row.off (List._∷_ Row.off (List._∷_ Row.off (List._∷_ Row.off (List._∷_ Row.off (List._∷_ Row.off (List._∷_ Row.off (List._∷_ Row.off List.[]))))))))))))))))))) }
+        G82 = record { locals = List._++_ t9 t8; slots = List._∷_ slot9 slots4 }
 
         abbrev G83 : Row.Cx
-        G83 = record { locals = List._++_ t10 t8; slots = List._∷_ (Row.lease (κs .0) (qs .0)) (List._∷_ (Row.lease (κs .1 .0) (qs .1 .0)) (List._∷_ (Row.lease (κs .1 .1 .0) (qs .1 .1 .0)) (List._∷_ (Row.lease (κs .1 .1 .1 .0) (qs .1 .1 .1 .0)) (List._∷_ (Row.lease (κs .1 .1 .1 .1 .0) (qs .1 .1 .1 .1 .0)) (List._∷_ (Row.lease (κs .1 .1 .1 .1 .1 .0) (qs .1 .1 .1 .1 .1 .0)) (List._∷_ (Row.lease (κs .1 .1 .1 .1 .1 .1 .0) (qs .1 .1 .1 .1 .1 .1 .0)) (List._∷_ (Row.lease (κs .1 .1 .1 .1 .1 .1 .1 .0) (qs .1 .1 .1 .1 .1 .1 .1 .0)) (List._∷_ (Row.lease (κs .1 .1 .1 .1 .1 .1 .1 .1 .0) (qs .1 .1 .1 .1 .1 .1 .1 .1 .0)) (List._∷_ (Row.lease (κs .1 .1 .1 .1 .1 .1 .1 .1 .1 .0) (qs .1 .1 .1 .1 .1 .1 .1 .1 .1 .0)) (List._∷_ Row.off (List._∷_ Row.off (List._∷_ Row.off (List._∷_ Row.off (List._∷_ Row.off (List._∷_ Row.off (List._∷_ Row.off (List._∷_ Row.off (List._∷_ Row.off (List._∷_ Row.off List.[]))))))))))))))))))) }
+        G83 = record { locals = List._++_ t10 t8; slots = List._∷_ slot9 slots4 }
 
         abbrev G84 : Row.Cx
-        G84 = record { locals = List._++_ t10 t1; slots = List._∷_ (Row.lease (κs .0) (qs .0)) (List._∷_ (Row.lease (κs .1 .0) (qs .1 .0)) (List._∷_ (Row.lease (κs .1 .1 .0) (qs .1 .1 .0)) (List._∷_ (Row.lease (κs .1 .1 .1 .0) (qs .1 .1 .1 .0)) (List._∷_ (Row.lease (κs .1 .1 .1 .1 .0) (qs .1 .1 .1 .1 .0)) (List._∷_ (Row.lease (κs .1 .1 .1 .1 .1 .0) (qs .1 .1 .1 .1 .1 .0)) (List._∷_ (Row.lease (κs .1 .1 .1 .1 .1 .1 .0) (qs .1 .1 .1 .1 .1 .1 .0)) (List._∷_ (Row.lease (κs .1 .1 .1 .1 .1 .1 .1 .0) (qs .1 .1 .1 .1 .1 .1 .1 .0)) (List._∷_ (Row.lease (κs .1 .1 .1 .1 .1 .1 .1 .1 .0) (qs .1 .1 .1 .1 .1 .1 .1 .1 .0)) (List._∷_ (Row.lease (κs .1 .1 .1 .1 .1 .1 .1 .1 .1 .0) (qs .1 .1 .1 .1 .1 .1 .1 .1 .1 .0)) (List._∷_ Row.off (List._∷_ Row.off (List._∷_ Row.off (List._∷_ Row.off (List._∷_ Row.off (List._∷_ Row.off (List._∷_ Row.off (List._∷_ Row.off (List._∷_ Row.off (List._∷_ Row.off List.[]))))))))))))))))))) }
+        G84 = record { locals = List._++_ t10 t1; slots = List._∷_ slot9 slots4 }
 
         abbrev G85 : Row.Cx
-        G85 = record { locals = List._++_ t10 t57; slots = List._∷_ (Row.lease (κs .0) (qs .0)) (List._∷_ (Row.lease (κs .1 .0) (qs .1 .0)) (List._∷_ (Row.lease (κs .1 .1 .0) (qs .1 .1 .0)) (List._∷_ (Row.lease (κs .1 .1 .1 .0) (qs .1 .1 .1 .0)) (List._∷_ (Row.lease (κs .1 .1 .1 .1 .0) (qs .1 .1 .1 .1 .0)) (List._∷_ (Row.lease (κs .1 .1 .1 .1 .1 .0) (qs .1 .1 .1 .1 .1 .0)) (List._∷_ (Row.lease (κs .1 .1 .1 .1 .1 .1 .0) (qs .1 .1 .1 .1 .1 .1 .0)) (List._∷_ (Row.lease (κs .1 .1 .1 .1 .1 .1 .1 .0) (qs .1 .1 .1 .1 .1 .1 .1 .0)) (List._∷_ (Row.lease (κs .1 .1 .1 .1 .1 .1 .1 .1 .0) (qs .1 .1 .1 .1 .1 .1 .1 .1 .0)) (List._∷_ (Row.lease (κs .1 .1 .1 .1 .1 .1 .1 .1 .1 .0) (qs .1 .1 .1 .1 .1 .1 .1 .1 .1 .0)) (List._∷_ Row.off (List._∷_ Row.off (List._∷_ Row.off (List._∷_ Row.off (List._∷_ Row.off (List._∷_ Row.off (List._∷_ Row.off (List._∷_ Row.off (List._∷_ Row.off (List._∷_ Row.off List.[]))))))))))))))))))) }
+        G85 = record { locals = List._++_ t10 t57; slots = List._∷_ slot9 slots4 }
 
         abbrev G86 : Row.Cx
-        G86 = record { locals = List._++_ t10 t58; slots = List._∷_ (Row.lease (κs .0) (qs .0)) (List._∷_ (Row.lease (κs .1 .0) (qs .1 .0)) (List._∷_ (Row.lease (κs .1 .1 .0) (qs .1 .1 .0)) (List._∷_ (Row.lease (κs .1 .1 .1 .0) (qs .1 .1 .1 .0)) (List._∷_ (Row.lease (κs .1 .1 .1 .1 .0) (qs .1 .1 .1 .1 .0)) (List._∷_ (Row.lease (κs .1 .1 .1 .1 .1 .0) (qs .1 .1 .1 .1 .1 .0)) (List._∷_ (Row.lease (κs .1 .1 .1 .1 .1 .1 .0) (qs .1 .1 .1 .1 .1 .1 .0)) (List._∷_ (Row.lease (κs .1 .1 .1 .1 .1 .1 .1 .0) (qs .1 .1 .1 .1 .1 .1 .1 .0)) (List._∷_ (Row.lease (κs .1 .1 .1 .1 .1 .1 .1 .1 .0) (qs .1 .1 .1 .1 .1 .1 .1 .1 .0)) (List._∷_ (Row.lease (κs .1 .1 .1 .1 .1 .1 .1 .1 .1 .0) (qs .1 .1 .1 .1 .1 .1 .1 .1 .1 .0)) (List._∷_ Row.off (List._∷_ Row.off (List._∷_ Row.off (List._∷_ Row.off (List._∷_ Row.off (List._∷_ Row.off (List._∷_ Row.off (List._∷_ Row.off (List._∷_ Row.off (List._∷_ Row.off List.[]))))))))))))))))))) }
+        G86 = record { locals = List._++_ t10 t58; slots = List._∷_ slot9 slots4 }
 
         abbrev G87 : Row.Cx
-        G87 = record { locals = List._++_ t10 t57; slots = List._∷_ (Row.lease (κs .0) (qs .0)) (List._∷_ (Row.lease (κs .1 .0) (qs .1 .0)) (List._∷_ (Row.lease (κs .1 .1 .0) (qs .1 .1 .0)) (List._∷_ (Row.lease (κs .1 .1 .1 .0) (qs .1 .1 .1 .0)) (List._∷_ (Row.lease (κs .1 .1 .1 .1 .0) (qs .1 .1 .1 .1 .0)) (List._∷_ (Row.lease (κs .1 .1 .1 .1 .1 .0) (qs .1 .1 .1 .1 .1 .0)) (List._∷_ (Row.lease (κs .1 .1 .1 .1 .1 .1 .0) (qs .1 .1 .1 .1 .1 .1 .0)) (List._∷_ (Row.lease (κs .1 .1 .1 .1 .1 .1 .1 .0) (qs .1 .1 .1 .1 .1 .1 .1 .0)) (List._∷_ (Row.lease (κs .1 .1 .1 .1 .1 .1 .1 .1 .0) (qs .1 .1 .1 .1 .1 .1 .1 .1 .0)) (List._∷_ (Row.lease (κs .1 .1 .1 .1 .1 .1 .1 .1 .1 .0) (qs .1 .1 .1 .1 .1 .1 .1 .1 .1 .0)) (List._∷_ Row.off (List._∷_ Row.off (List._∷_ Row.off (List._∷_ Row.off (List._∷_ Row.off (List._∷_ Row.off (List._∷_ Row.off (List._∷_ Row.off (List._∷_ Row.off (List._∷_ Row.off List.[]))))))))))))))))))) }
+        G87 = record { locals = List._++_ t10 t57; slots = List._∷_ slot9 slots4 }
 
         abbrev G88 : Row.Cx
-        G88 = record { locals = List._++_ t10 t1; slots = List._∷_ (Row.lease (κs .0) (qs .0)) (List._∷_ (Row.lease (κs .1 .0) (qs .1 .0)) (List._∷_ (Row.lease (κs .1 .1 .0) (qs .1 .1 .0)) (List._∷_ (Row.lease (κs .1 .1 .1 .0) (qs .1 .1 .1 .0)) (List._∷_ (Row.lease (κs .1 .1 .1 .1 .0) (qs .1 .1 .1 .1 .0)) (List._∷_ (Row.lease (κs .1 .1 .1 .1 .1 .0) (qs .1 .1 .1 .1 .1 .0)) (List._∷_ (Row.lease (κs .1 .1 .1 .1 .1 .1 .0) (qs .1 .1 .1 .1 .1 .1 .0)) (List._∷_ (Row.lease (κs .1 .1 .1 .1 .1 .1 .1 .0) (qs .1 .1 .1 .1 .1 .1 .1 .0)) (List._∷_ (Row.lease (κs .1 .1 .1 .1 .1 .1 .1 .1 .0) (qs .1 .1 .1 .1 .1 .1 .1 .1 .0)) (List._∷_ (Row.lease (κs .1 .1 .1 .1 .1 .1 .1 .1 .1 .0) (qs .1 .1 .1 .1 .1 .1 .1 .1 .1 .0)) (List._∷_ Row.off (List._∷_ Row.off (List._∷_ Row.off (List._∷_ Row.off (List._∷_ Row.off (List._∷_ Row.off (List._∷_ Row.off (List._∷_ Row.off (List._∷_ Row.off (List._∷_ Row.off List.[]))))))))))))))))))) }
+        G88 = record { locals = List._++_ t10 t1; slots = List._∷_ slot9 slots4 }
 
         abbrev G89 : Row.Cx
-        G89 = record { locals = List._++_ t13 t1; slots = List._∷_ (Row.lease (κs .0) (qs .0)) (List._∷_ (Row.lease (κs .1 .0) (qs .1 .0)) (List._∷_ (Row.lease (κs .1 .1 .0) (qs .1 .1 .0)) (List._∷_ (Row.lease (κs .1 .1 .1 .0) (qs .1 .1 .1 .0)) (List._∷_ (Row.lease (κs .1 .1 .1 .1 .0) (qs .1 .1 .1 .1 .0)) (List._∷_ (Row.lease (κs .1 .1 .1 .1 .1 .0) (qs .1 .1 .1 .1 .1 .0)) (List._∷_ (Row.lease (κs .1 .1 .1 .1 .1 .1 .0) (qs .1 .1 .1 .1 .1 .1 .0)) (List._∷_ (Row.lease (κs .1 .1 .1 .1 .1 .1 .1 .0) (qs .1 .1 .1 .1 .1 .1 .1 .0)) (List._∷_ (Row.lease (κs .1 .1 .1 .1 .1 .1 .1 .1 .0) (qs .1 .1 .1 .1 .1 .1 .1 .1 .0)) (List._∷_ (Row.lease (κs .1 .1 .1 .1 .1 .1 .1 .1 .1 .0) (qs .1 .1 .1 .1 .1 .1 .1 .1 .1 .0)) (List._∷_ Row.off (List._∷_ Row.off (List._∷_ Row.off (List._∷_ Row.off (List._∷_ Row.off (List._∷_ Row.off (List._∷_ Row.off (List._∷_ Row.off (List._∷_ Row.off (List._∷_ Row.off List.[]))))))))))))))))))) }
+        G89 = record { locals = List._++_ t13 t1; slots = List._∷_ slot9 slots4 }
 
         abbrev G90 : Row.Cx
-        G90 = record { locals = List._++_ t14 t1; slots = List._∷_ (Row.lease (κs .0) (qs .0)) (List._∷_ (Row.lease (κs .1 .0) (qs .1 .0)) (List._∷_ (Row.lease (κs .1 .1 .0) (qs .1 .1 .0)) (List._∷_ (Row.lease (κs .1 .1 .1 .0) (qs .1 .1 .1 .0)) (List._∷_ (Row.lease (κs .1 .1 .1 .1 .0) (qs .1 .1 .1 .1 .0)) (List._∷_ (Row.lease (κs .1 .1 .1 .1 .1 .0) (qs .1 .1 .1 .1 .1 .0)) (List._∷_ (Row.lease (κs .1 .1 .1 .1 .1 .1 .0) (qs .1 .1 .1 .1 .1 .1 .0)) (List._∷_ (Row.lease (κs .1 .1 .1 .1 .1 .1 .1 .0) (qs .1 .1 .1 .1 .1 .1 .1 .0)) (List._∷_ (Row.lease (κs .1 .1 .1 .1 .1 .1 .1 .1 .0) (qs .1 .1 .1 .1 .1 .1 .1 .1 .0)) (List._∷_ (Row.lease (κs .1 .1 .1 .1 .1 .1 .1 .1 .1 .0) (qs .1 .1 .1 .1 .1 .1 .1 .1 .1 .0)) (List._∷_ Row.off (List._∷_ Row.off (List._∷_ Row.off (List._∷_ Row.off (List._∷_ Row.off (List._∷_ Row.off (List._∷_ Row.off (List._∷_ Row.off (List._∷_ Row.off (List._∷_ Row.off List.[]))))))))))))))))))) }
+        G90 = record { locals = List._++_ t14 t1; slots = List._∷_ slot9 slots4 }
 
         abbrev G91 : Row.Cx
-        G91 = record { locals = List._++_ t2 t1; slots = List._∷_ (Row.lease (κs .0) (qs .0)) (List._∷_ (Row.lease (κs .1 .0) (qs .1 .0)) (List._∷_ (Row.lease (κs .1 .1 .0) (qs .1 .1 .0)) (List._∷_ (Row.lease (κs .1 .1 .1 .0) (qs .1 .1 .1 .0)) (List._∷_ (Row.lease (κs .1 .1 .1 .1 .0) (qs .1 .1 .1 .1 .0)) (List._∷_ (Row.lease (κs .1 .1 .1 .1 .1 .0) (qs .1 .1 .1 .1 .1 .0)) (List._∷_ (Row.lease (κs .1 .1 .1 .1 .1 .1 .0) (qs .1 .1 .1 .1 .1 .1 .0)) (List._∷_ (Row.lease (κs .1 .1 .1 .1 .1 .1 .1 .0) (qs .1 .1 .1 .1 .1 .1 .1 .0)) (List._∷_ (Row.lease (κs .1 .1 .1 .1 .1 .1 .1 .1 .0) (qs .1 .1 .1 .1 .1 .1 .1 .1 .0)) (List._∷_ (Row.lease (κs .1 .1 .1 .1 .1 .1 .1 .1 .1 .0) (qs .1 .1 .1 .1 .1 .1 .1 .1 .1 .0)) (List._∷_ Row.off (List._∷_ Row.off (List._∷_ Row.off (List._∷_ Row.off (List._∷_ Row.off (List._∷_ Row.off (List._∷_ Row.off (List._∷_ Row.off (List._∷_ Row.off (List._∷_ Row.off List.[]))))))))))))))))))) }
+        G91 = record { locals = List._++_ t2 t1; slots = List._∷_ slot9 slots4 }
 
         abbrev G92 : Row.Cx
-        G92 = record { locals = List._++_ t55 t8; slots = List._∷_ (Row.lease (κs .0) (qs .0)) (List._∷_ (Row.lease (κs .1 .0) (qs .1 .0)) (List._∷_ (Row.lease (κs .1 .1 .0) (qs .1 .1 .0)) (List._∷_ (Row.lease (κs .1 .1 .1 .0) (qs .1 .1 .1 .0)) (List._∷_ (Row.lease (κs .1 .1 .1 .1 .0) (qs .1 .1 .1 .1 .0)) (List._∷_ (Row.lease (κs .1 .1 .1 .1 .1 .0) (qs .1 .1 .1 .1 .1 .0)) (List._∷_ (Row.lease (κs .1 .1 .1 .1 .1 .1 .0) (qs .1 .1 .1 .1 .1 .1 .0)) (List._∷_ (Row.lease (κs .1 .1 .1 .1 .1 .1 .1 .0) (qs .1 .1 .1 .1 .1 .1 .1 .0)) (List._∷_ (Row.lease (κs .1 .1 .1 .1 .1 .1 .1 .1 .0) (qs .1 .1 .1 .1 .1 .1 .1 .1 .0)) (List._∷_ (Row.lease (κs .1 .1 .1 .1 .1 .1 .1 .1 .1 .0) (qs .1 .1 .1 .1 .1 .1 .1 .1 .1 .0)) (List._∷_ Row.off (List._∷_ Row.off (List._∷_ Row.off (List._∷_ Row.off (List._∷_ Row.off (List._∷_ Row.off (List._∷_ Row.off (List._∷_ Row.off (List._∷_ Row.off (List._∷_ Row.off List.[]))))))))))))))))))) }
+        G92 = record { locals = List._++_ t55 t8; slots = List._∷_ slot9 slots4 }
 
         abbrev G93 : Row.Cx
-        G93 = record { locals = List._++_ t55 t1; slots = List._∷_ (Row.lease (κs .0) (qs .0)) (List._∷_ (Row.lease (κs .1 .0) (qs .1 .0)) (List._∷_ (Row.lease (κs .1 .1 .0) (qs .1 .1 .0)) (List._∷_ (Row.lease (κs .1 .1 .1 .0) (qs .1 .1 .1 .0)) (List._∷_ (Row.lease (κs .1 .1 .1 .1 .0) (qs .1 .1 .1 .1 .0)) (List._∷_ (Row.lease (κs .1 .1 .1 .1 .1 .0) (qs .1 .1 .1 .1 .1 .0)) (List._∷_ (Row.lease (κs .1 .1 .1 .1 .1 .1 .0) (qs .1 .1 .1 .1 .1 .1 .0)) (List._∷_ (Row.lease (κs .1 .1 .1 .1 .1 .1 .1 .0) (qs .1 .1 .1 .1 .1 .1 .1 .0)) (List._∷_ (Row.lease (κs .1 .1 .1 .1 .1 .1 .1 .1 .0) (qs .1 .1 .1 .1 .1 .1 .1 .1 .0)) (List._∷_ (Row.lease (κs .1 .1 .1 .1 .1 .1 .1 .1 .1 .0) (qs .1 .1 .1 .1 .1 .1 .1 .1 .1 .0)) (List._∷_ Row.off (List._∷_ Row.off (List._∷_ Row.off (List._∷_ Row.off (List._∷_ Row.off (List._∷_ Row.off (List._∷_ Row.off (List._∷_ Row.off (List._∷_ Row.off (List._∷_ Row.off List.[]))))))))))))))))))) }
+        G93 = record { locals = List._++_ t55 t1; slots = List._∷_ slot9 slots4 }
 
         abbrev G94 : Row.Cx
-        G94 = record { locals = List._++_ t19 t1; slots = List._∷_ (Row.lease (κs .0) (qs .0)) (List._∷_ (Row.lease (κs .1 .0) (qs .1 .0)) (List._∷_ (Row.lease (κs .1 .1 .0) (qs .1 .1 .0)) (List._∷_ (Row.lease (κs .1 .1 .1 .0) (qs .1 .1 .1 .0)) (List._∷_ (Row.lease (κs .1 .1 .1 .1 .0) (qs .1 .1 .1 .1 .0)) (List._∷_ (Row.lease (κs .1 .1 .1 .1 .1 .0) (qs .1 .1 .1 .1 .1 .0)) (List._∷_ (Row.lease (κs .1 .1 .1 .1 .1 .1 .0) (qs .1 .1 .1 .1 .1 .1 .0)) (List._∷_ (Row.lease (κs .1 .1 .1 .1 .1 .1 .1 .0) (qs .1 .1 .1 .1 .1 .1 .1 .0)) (List._∷_ (Row.lease (κs .1 .1 .1 .1 .1 .1 .1 .1 .0) (qs .1 .1 .1 .1 .1 .1 .1 .1 .0)) (List._∷_ (Row.lease (κs .1 .1 .1 .1 .1 .1 .1 .1 .1 .0) (qs .1 .1 .1 .1 .1 .1 .1 .1 .1 .0)) (List._∷_ Row.off (List._∷_ Row.off (List._∷_ Row.off (List._∷_ Row.off (List._∷_ Row.off (List._∷_ Row.off (List._∷_ Row.off (List._∷_ Row.off (List._∷_ Row.off (List._∷_ Row.off List.[]))))))))))))))))))) }
+        G94 = record { locals = List._++_ t19 t1; slots = List._∷_ slot9 slots4 }
 
         abbrev G95 : Row.Cx
-        G95 = record { locals = List._++_ t6 t1; slots = List._∷_ (Row.lease (κs .0) (qs .0)) (List._∷_ (Row.lease (κs .1 .0) (qs .1 .0)) (List._∷_ (Row.lease (κs .1 .1 .0) (qs .1 .1 .0)) (List._∷_ (Row.lease (κs .1 .1 .1 .0) (qs .1 .1 .1 .0)) (List._∷_ (Row.lease (κs .1 .1 .1 .1 .0) (qs .1 .1 .1 .1 .0)) (List._∷_ (Row.lease (κs .1 .1 .1 .1 .1 .0) (qs .1 .1 .1 .1 .1 .0)) (List._∷_ (Row.lease (κs .1 .1 .1 .1 .1 .1 .0) (qs .1 .1 .1 .1 .1 .1 .0)) (List._∷_ (Row.lease (κs .1 .1 .1 .1 .1 .1 .1 .0) (qs .1 .1 .1 .1 .1 .1 .1 .0)) (List._∷_ (Row.lease (κs .1 .1 .1 .1 .1 .1 .1 .1 .0) (qs .1 .1 .1 .1 .1 .1 .1 .1 .0)) (List._∷_ (Row.lease (κs .1 .1 .1 .1 .1 .1 .1 .1 .1 .0) (qs .1 .1 .1 .1 .1 .1 .1 .1 .1 .0)) (List._∷_ Row.off (List._∷_ Row.off (List._∷_ Row.off (List._∷_ Row.off (List._∷_ Row.off (List._∷_ Row.off (List._∷_ Row.off (List._∷_ Row.off (List._∷_ Row.off (List._∷_ Row.off List.[]))))))))))))))))))) }
+        G95 = record { locals = List._++_ t6 t1; slots = List._∷_ slot9 slots4 }
 
         abbrev G96 : Row.Cx
-        G96 = record { locals = List._++_ t6 t1; slots = List._∷_ (Row.lease (κs .0) (qs .0)) (List._∷_ (Row.lease (κs .1 .0) (qs .1 .0)) (List._∷_ (Row.lease (κs .1 .1 .0) (qs .1 .1 .0)) (List._∷_ (Row.lease (κs .1 .1 .1 .0) (qs .1 .1 .1 .0)) (List._∷_ (Row.lease (κs .1 .1 .1 .1 .0) (qs .1 .1 .1 .1 .0)) (List._∷_ (Row.lease (κs .1 .1 .1 .1 .1 .0) (qs .1 .1 .1 .1 .1 .0)) (List._∷_ (Row.lease (κs .1 .1 .1 .1 .1 .1 .0) (qs .1 .1 .1 .1 .1 .1 .0)) (List._∷_ (Row.lease (κs .1 .1 .1 .1 .1 .1 .1 .0) (qs .1 .1 .1 .1 .1 .1 .1 .0)) (List._∷_ (Row.lease (κs .1 .1 .1 .1 .1 .1 .1 .1 .0) (qs .1 .1 .1 .1 .1 .1 .1 .1 .0)) (List._∷_ (Row.lease (κs .1 .1 .1 .1 .1 .1 .1 .1 .1 .0) (qs .1 .1 .1 .1 .1 .1 .1 .1 .1 .0)) (List._∷_ Row.off (List._∷_ Row.off (List._∷_ Row.off (List._∷_ Row.off (List._∷_ Row.off (List._∷_ Row.off (List._∷_ Row.off (List._∷_ Row.off (List._∷_ Row.off (List._∷_ Row.off List.[]))))))))))))))))))) }
+        G96 = record { locals = List._++_ t6 t1; slots = List._∷_ slot9 slots4 }
 
         abbrev G97 : Row.Cx
-        G97 = record { locals = List._++_ t59 t1; slots = List._∷_ (Row.lease (κs .0) (qs .0)) (List._∷_ (Row.lease (κs .1 .0) (qs .1 .0)) (List._∷_ (Row.lease (κs .1 .1 .0) (qs .1 .1 .0)) (List._∷_ (Row.lease (κs .1 .1 .1 .0) (qs .1 .1 .1 .0)) (List._∷_ (Row.lease (κs .1 .1 .1 .1 .0) (qs .1 .1 .1 .1 .0)) (List._∷_ (Row.lease (κs .1 .1 .1 .1 .1 .0) (qs .1 .1 .1 .1 .1 .0)) (List._∷_ (Row.lease (κs .1 .1 .1 .1 .1 .1 .0) (qs .1 .1 .1 .1 .1 .1 .0)) (List._∷_ (Row.lease (κs .1 .1 .1 .1 .1 .1 .1 .0) (qs .1 .1 .1 .1 .1 .1 .1 .0)) (List._∷_ (Row.lease (κs .1 .1 .1 .1 .1 .1 .1 .1 .0) (qs .1 .1 .1 .1 .1 .1 .1 .1 .0)) (List._∷_ (Row.lease (κs .1 .1 .1 .1 .1 .1 .1 .1 .1 .0) (qs .1 .1 .1 .1 .1 .1 .1 .1 .1 .0)) (List._∷_ Row.off (List._∷_ Row.off (List._∷_ Row.off (List._∷_ Row.off (List._∷_ Row.off (List._∷_ Row.off (List._∷_ Row.off (List._∷_ Row.off (List._∷_ Row.off (List._∷_ Row.off List.[]))))))))))))))))))) }
+        G97 = record { locals = List._++_ t59 t1; slots = List._∷_ slot9 slots4 }
 
         abbrev G98 : Row.Cx
-        G98 = record { locals = List._++_ t2 t1; slots = List._∷_ (Row.lease (κs .0) (qs .0)) (List._∷_ (Row.lease (κs .1 .0) (qs .1 .0)) (List._∷_ (Row.lease (κs .1 .1 .0) (qs .1 .1 .0)) (List._∷_ (Row.lease (κs .1 .1 .1 .0) (qs .1 .1 .1 .0)) (List._∷_ (Row.lease (κs .1 .1 .1 .1 .0) (qs .1 .1 .1 .1 .0)) (List._∷_ (Row.lease (κs .1 .1 .1 .1 .1 .0) (qs .1 .1 .1 .1 .1 .0)) (List._∷_ (Row.lease (κs .1 .1 .1 .1 .1 .1 .0) (qs .1 .1 .1 .1 .1 .1 .0)) (List._∷_ (Row.lease (κs .1 .1 .1 .1 .1 .1 .1 .0) (qs .1 .1 .1 .1 .1 .1 .1 .0)) (List._∷_ (Row.lease (κs .1 .1 .1 .1 .1 .1 .1 .1 .0) (qs .1 .1 .1 .1 .1 .1 .1 .1 .0)) (List._∷_ (Row.lease (κs .1 .1 .1 .1 .1 .1 .1 .1 .1 .0) (qs .1 .1 .1 .1 .1 .1 .1 .1 .1 .0)) (List._∷_ Row.off (List._∷_ Row.off (List._∷_ Row.off (List._∷_ Row.off (List._∷_ Row.off (List._∷_ Row.off (List._∷_ Row.off (List._∷_ Row.off (List._∷_ Row.off (List._∷_ Row.off List.[]))))))))))))))))))) }
+        G98 = record { locals = List._++_ t2 t1; slots = List._∷_ slot9 slots4 }
 
         abbrev Δ0 : Typed.Outs
         Δ0 = record { next = Option.none; exits = List.[]; returns = Option.some G1 }
@@ -1641,16 +2155,16 @@ module _ (claims· : Claims) where
           d2 = Typed.t-exit 𝓤 H A W 𝓣 E 1 Δ4 tt
 
           d3 : Typed.Typed 𝓤 H A 𝓣 E G13 b6 Δ4 at3
-          d3 = Typed.g-pre 𝓤 H A W 𝓣 E G13 G14 b6 Δ4 (Typed.pass T13 T14 s10) at2 (Scalar.g-room 𝓤 H A W E G13 13 (Syntax.tyInt Syntax.w64) (Scalar.room-sc 𝓤 H A W (Row.sInt Syntax.w64))) d2
+          d3 = Typed.g-pre 𝓤 H A W 𝓣 E G13 G14 b6 Δ4 (Typed.pass T13 T14 s10) at2 (Scalar.g-room 𝓤 H A W E G13 13 ty1 (Scalar.room-sc 𝓤 H A W sc0)) d2
 
           d4 : Typed.Typed 𝓤 H A 𝓣 E G12 b6 Δ4 at4
           d4 = Typed.g-pre 𝓤 H A W 𝓣 E G12 G13 b6 Δ4 (Typed.pass T12 T13 s9) at3 (Scalar.g-room 𝓤 H A W E G12 16 Syntax.tyBool (Scalar.room-sc 𝓤 H A W Row.sBool)) d3
 
           d5 : Typed.Typed 𝓤 H A 𝓣 E G11 b6 Δ4 at5
-          d5 = Typed.g-pre 𝓤 H A W 𝓣 E G11 G12 b6 Δ4 (Typed.pass T11 T12 s8) at4 (Scalar.g-room 𝓤 H A W E G11 15 (Syntax.tyInt Syntax.w64) (Scalar.room-sc 𝓤 H A W (Row.sInt Syntax.w64))) d4
+          d5 = Typed.g-pre 𝓤 H A W 𝓣 E G11 G12 b6 Δ4 (Typed.pass T11 T12 s8) at4 (Scalar.g-room 𝓤 H A W E G11 15 ty1 (Scalar.room-sc 𝓤 H A W sc0)) d4
 
           d6 : Typed.Typed 𝓤 H A 𝓣 E G8 b6 Δ4 at6
-          d6 = Typed.g-pre 𝓤 H A W 𝓣 E G8 G11 b6 Δ4 (Typed.pass T8 T11 s7) at5 (Scalar.g-room 𝓤 H A W E G8 11 (Syntax.tyStruct (List._∷_ 122 (List._∷_ 111 (List._∷_ 110 (List._∷_ 101 (List._∷_ 115 (List._∷_ 58 (List._∷_ 58 (List._∷_ 104 (List._∷_ 101 (List._∷_ 108 (List._∷_ 100 (List._∷_ 58 (List._∷_ 58 (List._∷_ 72 (List._∷_ 101 (List._∷_ 108 (List._∷_ 100 List.[]))))))))))))))))) (Syntax.tcons (Syntax.tyStruct (List._∷_ 112 (List._∷_ 121 (List._∷_ 114 (List._∷_ 97 (List._∷_ 109 (List._∷_ 105 (List._∷_ 100 (List._∷_ 58 (List._∷_ 58 (List._∷_ 83 (List._∷_ 116 (List._∷_ 97 (List._∷_ 116 (List._∷_ 101 List.[])))))))))))))) (Syntax.tcons (Syntax.tyInt Syntax.w32) (Syntax.tcons (Syntax.tyInt Syntax.w32) (Syntax.tcons (Syntax.tyInt Syntax.w32) (Syntax.tcons (Syntax.tyInt Syntax.w32) (Syntax.tcons (Syntax.tyInt Syntax.w32) (Syntax.tcons (Syntax.tyArray (Syntax.tyInt Syntax.w32) 64) Syntax.tnil))))))) (Syntax.tcons (Syntax.tyInt Syntax.w64) (Syntax.tcons (Syntax.tyInt Syntax.w64) (Syntax.tcons (Syntax.tyInt Syntax.w64) (Syntax.tcons (Syntax.tyInt Syntax.w64) (Syntax.tcons (Syntax.tyInt Syntax.w64) (Syntax.tcons (Syntax.tyInt Syntax.w64) (Syntax.tcons Syntax.tyBool Syntax.tnil))))))))) (Local.room-whole 𝓤 H A W (Declared.row Held.the-type) (Syntax.tyStruct (List._∷_ 122 (List._∷_ 111 (List._∷_ 110 (List._∷_ 101 (List._∷_ 115 (List._∷_ 58 (List._∷_ 58 (List._∷_ 104 (List._∷_ 101 (List._∷_ 108 (List._∷_ 100 (List._∷_ 58 (List._∷_ 58 (List._∷_ 72 (List._∷_ 101 (List._∷_ 108 (List._∷_ 100 List.[]))))))))))))))))) (Syntax.tcons (Syntax.tyStruct (List._∷_ 112 (List._∷_ 121 (List._∷_ 114 (List._∷_ 97 (List._∷_ 109 (List._∷_ 105 (List._∷_ 100 (List._∷_ 58 (List._∷_ 58 (List._∷_ 83 (List._∷_ 116 (List._∷_ 97 (List._∷_ 116 (List._∷_ 101 List.[])))))))))))))) (Syntax.tcons (Syntax.tyInt Syntax.w32) (Syntax.tcons (Syntax.tyInt Syntax.w32) (Syntax.tcons (Syntax.tyInt Syntax.w32) (Syntax.tcons (Syntax.tyInt Syntax.w32) (Syntax.tcons (Syntax.tyInt Syntax.w32) (Syntax.tcons (Syntax.tyArray (Syntax.tyInt Syntax.w32) 64) Syntax.tnil))))))) (Syntax.tcons (Syntax.tyInt Syntax.w64) (Syntax.tcons (Syntax.tyInt Syntax.w64) (Syntax.tcons (Syntax.tyInt Syntax.w64) (Syntax.tcons (Syntax.tyInt Syntax.w64) (Syntax.tcons (Syntax.tyInt Syntax.w64) (Syntax.tcons (Syntax.tyInt Syntax.w64) (Syntax.tcons Syntax.tyBool Syntax.tnil))))))))) Path'.refl)) d5
+          d6 = Typed.g-pre 𝓤 H A W 𝓣 E G8 G11 b6 Δ4 (Typed.pass T8 T11 s7) at5 (Scalar.g-room 𝓤 H A W E G8 11 ty2 (Local.room-whole 𝓤 H A W held9 ty2 Path'.refl)) d5
 
           d7 : Typed.Typed 𝓤 H A 𝓣 E G8 b7 Δ4 at7
           d7 = Scalar.t-cond 𝓤 H A W E 𝓣 G8 16 (λ x. x) b5 b6 Δ4 at1 at6 (Scalar.reads-sc 𝓤 H A W Row.sBool) Path'.refl d1 d6
@@ -1659,10 +2173,10 @@ module _ (claims· : Claims) where
           d8 = Typed.t-return 𝓤 H A W 𝓣 E Δ5 tt
 
           d9 : Typed.Typed 𝓤 H A 𝓣 E G23 b11 Δ5 at9
-          d9 = Typed.g-pre 𝓤 H A W 𝓣 E G23 G24 b11 Δ5 (Typed.pass T23 T24 s19) at8 (Scalar.g-room 𝓤 H A W E G23 13 (Syntax.tyInt Syntax.w64) (Scalar.room-sc 𝓤 H A W (Row.sInt Syntax.w64))) d8
+          d9 = Typed.g-pre 𝓤 H A W 𝓣 E G23 G24 b11 Δ5 (Typed.pass T23 T24 s19) at8 (Scalar.g-room 𝓤 H A W E G23 13 ty1 (Scalar.room-sc 𝓤 H A W sc0)) d8
 
           d10 : Typed.Typed 𝓤 H A 𝓣 E G22 b11 Δ5 at10
-          d10 = Typed.g-pre 𝓤 H A W 𝓣 E G22 G23 b11 Δ5 (Typed.pass T22 T23 s18) at9 (Scalar.g-room 𝓤 H A W E G22 12 (Syntax.tyInt Syntax.w64) (Scalar.room-sc 𝓤 H A W (Row.sInt Syntax.w64))) d9
+          d10 = Typed.g-pre 𝓤 H A W 𝓣 E G22 G23 b11 Δ5 (Typed.pass T22 T23 s18) at9 (Scalar.g-room 𝓤 H A W E G22 12 ty1 (Scalar.room-sc 𝓤 H A W sc0)) d9
 
           d11 : Typed.Typed 𝓤 H A 𝓣 E G21 b12 Δ5 at11
           d11 = Typed.s-seq 𝓤 H A W 𝓣 E G21 G22 b10 b11 Δ5 (Typed.pass T21 T22 s17) at10 (Scalar.t-use 𝓤 H A W E 𝓣 G21 Scalar.oUnit 0 (Rows.sc-here Row.sUnit) Syntax.tyUnit (Row.valS Row.sUnit) (Row.sUnit .of) tt (Reads'.room-gone 𝓤 H A Syntax.tyUnit) (Scalar.holds-sc 𝓤 H A W Row.sUnit) Path'.refl (λ u. Path'.refl) λ u. tt) d10
@@ -1671,10 +2185,10 @@ module _ (claims· : Claims) where
           d12 = Typed.g-pre 𝓤 H A W 𝓣 E G20 G21 b12 Δ5 (Typed.pass T20 T21 s16) at11 (Scalar.g-room 𝓤 H A W E G20 16 Syntax.tyBool (Scalar.room-sc 𝓤 H A W Row.sBool)) d11
 
           d13 : Typed.Typed 𝓤 H A 𝓣 E G19 b12 Δ5 at13
-          d13 = Typed.g-pre 𝓤 H A W 𝓣 E G19 G20 b12 Δ5 (Typed.pass T19 T20 s15) at12 (Scalar.g-room 𝓤 H A W E G19 15 (Syntax.tyInt Syntax.w64) (Scalar.room-sc 𝓤 H A W (Row.sInt Syntax.w64))) d12
+          d13 = Typed.g-pre 𝓤 H A W 𝓣 E G19 G20 b12 Δ5 (Typed.pass T19 T20 s15) at12 (Scalar.g-room 𝓤 H A W E G19 15 ty1 (Scalar.room-sc 𝓤 H A W sc0)) d12
 
           d14 : Typed.Typed 𝓤 H A 𝓣 E G18 b12 Δ5 at14
-          d14 = Typed.g-pre 𝓤 H A W 𝓣 E G18 G19 b12 Δ5 (Typed.pass T18 T19 s14) at13 (Scalar.g-room 𝓤 H A W E G18 11 (Syntax.tyStruct (List._∷_ 122 (List._∷_ 111 (List._∷_ 110 (List._∷_ 101 (List._∷_ 115 (List._∷_ 58 (List._∷_ 58 (List._∷_ 104 (List._∷_ 101 (List._∷_ 108 (List._∷_ 100 (List._∷_ 58 (List._∷_ 58 (List._∷_ 72 (List._∷_ 101 (List._∷_ 108 (List._∷_ 100 List.[]))))))))))))))))) (Syntax.tcons (Syntax.tyStruct (List._∷_ 112 (List._∷_ 121 (List._∷_ 114 (List._∷_ 97 (List._∷_ 109 (List._∷_ 105 (List._∷_ 100 (List._∷_ 58 (List._∷_ 58 (List._∷_ 83 (List._∷_ 116 (List._∷_ 97 (List._∷_ 116 (List._∷_ 101 List.[])))))))))))))) (Syntax.tcons (Syntax.tyInt Syntax.w32) (Syntax.tcons (Syntax.tyInt Syntax.w32) (Syntax.tcons (Syntax.tyInt Syntax.w32) (Syntax.tcons (Syntax.tyInt Syntax.w32) (Syntax.tcons (Syntax.tyInt Syntax.w32) (Syntax.tcons (Syntax.tyArray (Syntax.tyInt Syntax.w32) 64) Syntax.tnil))))))) (Syntax.tcons (Syntax.tyInt Syntax.w64) (Syntax.tcons (Syntax.tyInt Syntax.w64) (Syntax.tcons (Syntax.tyInt Syntax.w64) (Syntax.tcons (Syntax.tyInt Syntax.w64) (Syntax.tcons (Syntax.tyInt Syntax.w64) (Syntax.tcons (Syntax.tyInt Syntax.w64) (Syntax.tcons Syntax.tyBool Syntax.tnil))))))))) (Local.room-whole 𝓤 H A W (Declared.row Held.the-type) (Syntax.tyStruct (List._∷_ 122 (List._∷_ 111 (List._∷_ 110 (List._∷_ 101 (List._∷_ 115 (List._∷_ 58 (List._∷_ 58 (List._∷_ 104 (List._∷_ 101 (List._∷_ 108 (List._∷_ 100 (List._∷_ 58 (List._∷_ 58 (List._∷_ 72 (List._∷_ 101 (List._∷_ 108 (List._∷_ 100 List.[]))))))))))))))))) (Syntax.tcons (Syntax.tyStruct (List._∷_ 112 (List._∷_ 121 (List._∷_ 114 (List._∷_ 97 (List._∷_ 109 (List._∷_ 105 (List._∷_ 100 (List._∷_ 58 (List._∷_ 58 (List._∷_ 83 (List._∷_ 116 (List._∷_ 97 (List._∷_ 116 (List._∷_ 101 List.[])))))))))))))) (Syntax.tcons (Syntax.tyInt Syntax.w32) (Syntax.tcons (Syntax.tyInt Syntax.w32) (Syntax.tcons (Syntax.tyInt Syntax.w32) (Syntax.tcons (Syntax.tyInt Syntax.w32) (Syntax.tcons (Syntax.tyInt Syntax.w32) (Syntax.tcons (Syntax.tyArray (Syntax.tyInt Syntax.w32) 64) Syntax.tnil))))))) (Syntax.tcons (Syntax.tyInt Syntax.w64) (Syntax.tcons (Syntax.tyInt Syntax.w64) (Syntax.tcons (Syntax.tyInt Syntax.w64) (Syntax.tcons (Syntax.tyInt Syntax.w64) (Syntax.tcons (Syntax.tyInt Syntax.w64) (Syntax.tcons (Syntax.tyInt Syntax.w64) (Syntax.tcons Syntax.tyBool Syntax.tnil))))))))) Path'.refl)) d13
+          d14 = Typed.g-pre 𝓤 H A W 𝓣 E G18 G19 b12 Δ5 (Typed.pass T18 T19 s14) at13 (Scalar.g-room 𝓤 H A W E G18 11 ty2 (Local.room-whole 𝓤 H A W held9 ty2 Path'.refl)) d13
 
           d15 : Typed.Typed 𝓤 H A 𝓣 E G25 b13 Δ5 at15
           d15 = Typed.t-skip 𝓤 H A W 𝓣 E Δ5 tt
@@ -1686,43 +2200,43 @@ module _ (claims· : Claims) where
           d17 = Scalar.t-cond 𝓤 H A W E 𝓣 G18 16 (λ x. x) b12 b13 Δ5 at14 at16 (Scalar.reads-sc 𝓤 H A W Row.sBool) Path'.refl d14 d16
 
           d18 : Typed.Typed 𝓤 H A 𝓣 E G16 b14 Δ5 at18
-          d18 = Typed.g-pre 𝓤 H A W 𝓣 E G16 G18 b14 Δ5 (Typed.pass T16 T18 s13) at17 (Scalar.g-room 𝓤 H A W E G16 17 (Syntax.tyInt Syntax.w64) (Scalar.room-sc 𝓤 H A W (Row.sInt Syntax.w64))) d17
+          d18 = Typed.g-pre 𝓤 H A W 𝓣 E G16 G18 b14 Δ5 (Typed.pass T16 T18 s13) at17 (Scalar.g-room 𝓤 H A W E G16 17 ty1 (Scalar.room-sc 𝓤 H A W sc0)) d17
 
           d19 : Typed.Typed 𝓤 H A 𝓣 E G91 b31 Δ6 at19
           d19 = Typed.t-return 𝓤 H A W 𝓣 E Δ6 tt
 
           d20 : Typed.Typed 𝓤 H A 𝓣 E G90 b31 Δ6 at20
-          d20 = Typed.g-pre 𝓤 H A W 𝓣 E G90 G91 b31 Δ6 (Typed.pass T90 T91 s85) at19 (Scalar.g-room 𝓤 H A W E G90 13 (Syntax.tyInt Syntax.w64) (Scalar.room-sc 𝓤 H A W (Row.sInt Syntax.w64))) d19
+          d20 = Typed.g-pre 𝓤 H A W 𝓣 E G90 G91 b31 Δ6 (Typed.pass T90 T91 s85) at19 (Scalar.g-room 𝓤 H A W E G90 13 ty1 (Scalar.room-sc 𝓤 H A W sc0)) d19
 
           d21 : Typed.Typed 𝓤 H A 𝓣 E G89 b31 Δ6 at21
-          d21 = Typed.g-pre 𝓤 H A W 𝓣 E G89 G90 b31 Δ6 (Typed.pass T89 T90 s84) at20 (Scalar.g-room 𝓤 H A W E G89 12 (Syntax.tyInt Syntax.w64) (Scalar.room-sc 𝓤 H A W (Row.sInt Syntax.w64))) d20
+          d21 = Typed.g-pre 𝓤 H A W 𝓣 E G89 G90 b31 Δ6 (Typed.pass T89 T90 s84) at20 (Scalar.g-room 𝓤 H A W E G89 12 ty1 (Scalar.room-sc 𝓤 H A W sc0)) d20
 
           d22 : Typed.Typed 𝓤 H A 𝓣 E G88 b32 Δ6 at22
           d22 = Typed.s-seq 𝓤 H A W 𝓣 E G88 G89 b30 b31 Δ6 (Typed.pass T88 T89 s83) at21 (Scalar.t-use 𝓤 H A W E 𝓣 G88 Scalar.oUnit 0 (Rows.sc-here Row.sUnit) Syntax.tyUnit (Row.valS Row.sUnit) (Row.sUnit .of) tt (Reads'.room-gone 𝓤 H A Syntax.tyUnit) (Scalar.holds-sc 𝓤 H A W Row.sUnit) Path'.refl (λ u. Path'.refl) λ u. tt) d21
 
           d23 : Typed.Typed 𝓤 H A 𝓣 E G87 b32 Δ6 at23
-          d23 = Typed.g-pre 𝓤 H A W 𝓣 E G87 G88 b32 Δ6 (Typed.pass T87 T88 s82) at22 (Scalar.g-room 𝓤 H A W E G87 29 (Syntax.tyInt Syntax.w64) (Scalar.room-sc 𝓤 H A W (Row.sInt Syntax.w64))) d22
+          d23 = Typed.g-pre 𝓤 H A W 𝓣 E G87 G88 b32 Δ6 (Typed.pass T87 T88 s82) at22 (Scalar.g-room 𝓤 H A W E G87 29 ty1 (Scalar.room-sc 𝓤 H A W sc0)) d22
 
           d24 : Typed.Typed 𝓤 H A 𝓣 E G86 b32 Δ6 at24
           d24 = Typed.g-pre 𝓤 H A W 𝓣 E G86 G87 b32 Δ6 (Typed.pass T86 T87 s81) at23 (Scalar.g-room 𝓤 H A W E G86 28 Syntax.tyUnit (Scalar.room-sc 𝓤 H A W Row.sUnit)) d23
 
           d25 : Typed.Typed 𝓤 H A 𝓣 E G85 b33 Δ6 at25
-          d25 = Typed.s-seq 𝓤 H A W 𝓣 E G85 G86 b29 b32 Δ6 (Typed.both s80) at24 (Plain.t-call-plain 𝓤 H A W 𝓣 0 ps·3 r·3 (claims· .6) (claims· .7) "script::prints::error" (known .3) E (λ pos β. β) G85 (Num.vAt 29 λ x. x, tt) 28 List.[] (Call.sub-id 𝓤 H A W (G85 .slots)) ((Scalar.reads-sc 𝓤 H A W (Row.sInt Syntax.w64), Path'.refl), tt) (Reads'.room-gone 𝓤 H A Syntax.tyUnit) tt Path'.refl) d24
+          d25 = Typed.s-seq 𝓤 H A W 𝓣 E G85 G86 b29 b32 Δ6 (Typed.both s80) at24 (Plain.t-call-plain 𝓤 H A W 𝓣 0 ps·3 r·3 (claims· .6) (claims· .7) "script::prints::error" (known .3) E (λ pos β. β) G85 (Num.vAt 29 λ x. x, tt) 28 List.[] (Call.sub-id 𝓤 H A W (G85 .slots)) ((Scalar.reads-sc 𝓤 H A W sc0, Path'.refl), tt) (Reads'.room-gone 𝓤 H A Syntax.tyUnit) tt Path'.refl) d24
 
           d26 : Typed.Typed 𝓤 H A 𝓣 E G84 b34 Δ6 at26
-          d26 = Typed.s-seq 𝓤 H A W 𝓣 E G84 G85 b28 b33 Δ6 (Typed.ask s79) at25 (Scalar.t-op2 𝓤 H A W E 𝓣 G84 (Syntax.add Syntax.unsigned) (Scalar.oAt 13 (Syntax.tyInt Syntax.w64) (Row.valS (Row.sInt Syntax.w64))) (Scalar.oInt Syntax.w64 1) 29 (Rows.sc-here (Row.sInt Syntax.w64)) (Syntax.tyInt Syntax.w64) (Row.valS (Row.sInt Syntax.w64)) (Row.sInt Syntax.w64 .of) (Scalar.reads-sc 𝓤 H A W (Row.sInt Syntax.w64), Path'.refl) tt (Reads'.room-gone 𝓤 H A (Syntax.tyInt Syntax.w64)) (Scalar.holds-sc 𝓤 H A W (Row.sInt Syntax.w64)) Path'.refl (λ u. Path'.refl) λ u. tt) d25
+          d26 = Typed.s-seq 𝓤 H A W 𝓣 E G84 G85 b28 b33 Δ6 (Typed.ask s79) at25 (Scalar.t-op2 𝓤 H A W E 𝓣 G84 (Syntax.add Syntax.unsigned) (Scalar.oAt 13 ty1 (Row.valS sc0)) (Scalar.oInt Syntax.w64 1) 29 (Rows.sc-here sc0) ty1 (Row.valS sc0) (Row.sInt Syntax.w64 .of) (Scalar.reads-sc 𝓤 H A W sc0, Path'.refl) tt (Reads'.room-gone 𝓤 H A ty1) (Scalar.holds-sc 𝓤 H A W sc0) Path'.refl (λ u. Path'.refl) λ u. tt) d25
 
           d27 : Typed.Typed 𝓤 H A 𝓣 E G83 b34 Δ6 at27
           d27 = Typed.g-pre 𝓤 H A W 𝓣 E G83 G84 b34 Δ6 (Typed.pass T83 T84 s78) at26 (Scalar.g-room 𝓤 H A W E G83 16 Syntax.tyBool (Scalar.room-sc 𝓤 H A W Row.sBool)) d26
 
           d28 : Typed.Typed 𝓤 H A 𝓣 E G82 b34 Δ6 at28
-          d28 = Typed.g-pre 𝓤 H A W 𝓣 E G82 G83 b34 Δ6 (Typed.pass T82 T83 s77) at27 (Scalar.g-room 𝓤 H A W E G82 15 (Syntax.tyInt Syntax.w64) (Scalar.room-sc 𝓤 H A W (Row.sInt Syntax.w64))) d27
+          d28 = Typed.g-pre 𝓤 H A W 𝓣 E G82 G83 b34 Δ6 (Typed.pass T82 T83 s77) at27 (Scalar.g-room 𝓤 H A W E G82 15 ty1 (Scalar.room-sc 𝓤 H A W sc0)) d27
 
           d29 : Typed.Typed 𝓤 H A 𝓣 E G81 b34 Δ6 at29
-          d29 = Typed.g-pre 𝓤 H A W 𝓣 E G81 G82 b34 Δ6 (Typed.pass T81 T82 s76) at28 (Scalar.g-room 𝓤 H A W E G81 14 (Syntax.tyStruct (List._∷_ 115 (List._∷_ 99 (List._∷_ 114 (List._∷_ 105 (List._∷_ 112 (List._∷_ 116 (List._∷_ 58 (List._∷_ 58 (List._∷_ 115 (List._∷_ 99 (List._∷_ 97 (List._∷_ 110 (List._∷_ 58 (List._∷_ 58 (List._∷_ 76 (List._∷_ 105 (List._∷_ 110 (List._∷_ 101 List.[])))))))))))))))))) (Syntax.tcons (Syntax.tyInt Syntax.w32) (Syntax.tcons (Syntax.tyInt Syntax.w64) (Syntax.tcons (Syntax.tyInt Syntax.w64) (Syntax.tcons (Syntax.tyInt Syntax.w64) (Syntax.tcons (Syntax.tyInt Syntax.w64) Syntax.tnil)))))) (Local.room-whole 𝓤 H A W (Declared.row Line.the-type) (Syntax.tyStruct (List._∷_ 115 (List._∷_ 99 (List._∷_ 114 (List._∷_ 105 (List._∷_ 112 (List._∷_ 116 (List._∷_ 58 (List._∷_ 58 (List._∷_ 115 (List._∷_ 99 (List._∷_ 97 (List._∷_ 110 (List._∷_ 58 (List._∷_ 58 (List._∷_ 76 (List._∷_ 105 (List._∷_ 110 (List._∷_ 101 List.[])))))))))))))))))) (Syntax.tcons (Syntax.tyInt Syntax.w32) (Syntax.tcons (Syntax.tyInt Syntax.w64) (Syntax.tcons (Syntax.tyInt Syntax.w64) (Syntax.tcons (Syntax.tyInt Syntax.w64) (Syntax.tcons (Syntax.tyInt Syntax.w64) Syntax.tnil)))))) Path'.refl)) d28
+          d29 = Typed.g-pre 𝓤 H A W 𝓣 E G81 G82 b34 Δ6 (Typed.pass T81 T82 s76) at28 (Scalar.g-room 𝓤 H A W E G81 14 ty3 (Local.room-whole 𝓤 H A W held10 ty3 Path'.refl)) d28
 
           d30 : Typed.Typed 𝓤 H A 𝓣 E G79 b34 Δ6 at30
-          d30 = Typed.g-pre 𝓤 H A W 𝓣 E G79 G81 b34 Δ6 (Typed.pass T79 T81 s75) at29 (Scalar.g-room 𝓤 H A W E G79 11 (Syntax.tyStruct (List._∷_ 122 (List._∷_ 111 (List._∷_ 110 (List._∷_ 101 (List._∷_ 115 (List._∷_ 58 (List._∷_ 58 (List._∷_ 104 (List._∷_ 101 (List._∷_ 108 (List._∷_ 100 (List._∷_ 58 (List._∷_ 58 (List._∷_ 72 (List._∷_ 101 (List._∷_ 108 (List._∷_ 100 List.[]))))))))))))))))) (Syntax.tcons (Syntax.tyStruct (List._∷_ 112 (List._∷_ 121 (List._∷_ 114 (List._∷_ 97 (List._∷_ 109 (List._∷_ 105 (List._∷_ 100 (List._∷_ 58 (List._∷_ 58 (List._∷_ 83 (List._∷_ 116 (List._∷_ 97 (List._∷_ 116 (List._∷_ 101 List.[])))))))))))))) (Syntax.tcons (Syntax.tyInt Syntax.w32) (Syntax.tcons (Syntax.tyInt Syntax.w32) (Syntax.tcons (Syntax.tyInt Syntax.w32) (Syntax.tcons (Syntax.tyInt Syntax.w32) (Syntax.tcons (Syntax.tyInt Syntax.w32) (Syntax.tcons (Syntax.tyArray (Syntax.tyInt Syntax.w32) 64) Syntax.tnil))))))) (Syntax.tcons (Syntax.tyInt Syntax.w64) (Syntax.tcons (Syntax.tyInt Syntax.w64) (Syntax.tcons (Syntax.tyInt Syntax.w64) (Syntax.tcons (Syntax.tyInt Syntax.w64) (Syntax.tcons (Syntax.tyInt Syntax.w64) (Syntax.tcons (Syntax.tyInt Syntax.w64) (Syntax.tcons Syntax.tyBool Syntax.tnil))))))))) (Local.room-whole 𝓤 H A W (Declared.row Held.the-type) (Syntax.tyStruct (List._∷_ 122 (List._∷_ 111 (List._∷_ 110 (List._∷_ 101 (List._∷_ 115 (List._∷_ 58 (List._∷_ 58 (List._∷_ 104 (List._∷_ 101 (List._∷_ 108 (List._∷_ 100 (List._∷_ 58 (List._∷_ 58 (List._∷_ 72 (List._∷_ 101 (List._∷_ 108 (List._∷_ 100 List.[]))))))))))))))))) (Syntax.tcons (Syntax.tyStruct (List._∷_ 112 (List._∷_ 121 (List._∷_ 114 (List._∷_ 97 (List._∷_ 109 (List._∷_ 105 (List._∷_ 100 (List._∷_ 58 (List._∷_ 58 (List._∷_ 83 (List._∷_ 116 (List._∷_ 97 (List._∷_ 116 (List._∷_ 101 List.[])))))))))))))) (Syntax.tcons (Syntax.tyInt Syntax.w32) (Syntax.tcons (Syntax.tyInt Syntax.w32) (Syntax.tcons (Syntax.tyInt Syntax.w32) (Syntax.tcons (Syntax.tyInt Syntax.w32) (Syntax.tcons (Syntax.tyInt Syntax.w32) (Syntax.tcons (Syntax.tyArray (Syntax.tyInt Syntax.w32) 64) Syntax.tnil))))))) (Syntax.tcons (Syntax.tyInt Syntax.w64) (Syntax.tcons (Syntax.tyInt Syntax.w64) (Syntax.tcons (Syntax.tyInt Syntax.w64) (Syntax.tcons (Syntax.tyInt Syntax.w64) (Syntax.tcons (Syntax.tyInt Syntax.w64) (Syntax.tcons (Syntax.tyInt Syntax.w64) (Syntax.tcons Syntax.tyBool Syntax.tnil))))))))) Path'.refl)) d29
+          d30 = Typed.g-pre 𝓤 H A W 𝓣 E G79 G81 b34 Δ6 (Typed.pass T79 T81 s75) at29 (Scalar.g-room 𝓤 H A W E G79 11 ty2 (Local.room-whole 𝓤 H A W held9 ty2 Path'.refl)) d29
 
           d31 : Typed.Typed 𝓤 H A 𝓣 E G93 b35 Δ6 at31
           d31 = Typed.t-skip 𝓤 H A W 𝓣 E Δ6 tt
@@ -1731,31 +2245,31 @@ module _ (claims· : Claims) where
           d32 = Typed.g-pre 𝓤 H A W 𝓣 E G92 G93 b35 Δ6 (Typed.pass T92 T93 s87) at31 (Scalar.g-room 𝓤 H A W E G92 16 Syntax.tyBool (Scalar.room-sc 𝓤 H A W Row.sBool)) d31
 
           d33 : Typed.Typed 𝓤 H A 𝓣 E G79 b35 Δ6 at33
-          d33 = Typed.g-pre 𝓤 H A W 𝓣 E G79 G92 b35 Δ6 (Typed.pass T79 T92 s86) at32 (Scalar.g-room 𝓤 H A W E G79 12 (Syntax.tyInt Syntax.w64) (Scalar.room-sc 𝓤 H A W (Row.sInt Syntax.w64))) d32
+          d33 = Typed.g-pre 𝓤 H A W 𝓣 E G79 G92 b35 Δ6 (Typed.pass T79 T92 s86) at32 (Scalar.g-room 𝓤 H A W E G79 12 ty1 (Scalar.room-sc 𝓤 H A W sc0)) d32
 
           d34 : Typed.Typed 𝓤 H A 𝓣 E G79 b36 Δ6 at34
           d34 = Scalar.t-cond 𝓤 H A W E 𝓣 G79 16 (λ x. x) b34 b35 Δ6 at30 at33 (Scalar.reads-sc 𝓤 H A W Row.sBool) Path'.refl d30 d33
 
           d35 : Typed.Typed 𝓤 H A 𝓣 E G95 b38 Δ3 at35
-          d35 = Typed.s-typed 𝓤 H A W 𝓣 E G95 b38 Δ3 (Typed.ask s90) tt (Scalar.t-op2 𝓤 H A W E 𝓣 G95 (Syntax.add Syntax.unsigned) (Scalar.oAt 13 (Syntax.tyInt Syntax.w64) (Row.valS (Row.sInt Syntax.w64))) (Scalar.oInt Syntax.w64 1) 13 (Rows.sc-here (Row.sInt Syntax.w64)) (Syntax.tyInt Syntax.w64) (Row.valS (Row.sInt Syntax.w64)) (Row.sInt Syntax.w64 .of) (Scalar.reads-sc 𝓤 H A W (Row.sInt Syntax.w64), Path'.refl) tt (Scalar.room-sc 𝓤 H A W (Row.sInt Syntax.w64)) (Scalar.holds-sc 𝓤 H A W (Row.sInt Syntax.w64)) Path'.refl (λ u. Path'.refl) λ u. tt)
+          d35 = Typed.s-typed 𝓤 H A W 𝓣 E G95 b38 Δ3 (Typed.ask s90) tt (Scalar.t-op2 𝓤 H A W E 𝓣 G95 (Syntax.add Syntax.unsigned) (Scalar.oAt 13 ty1 (Row.valS sc0)) (Scalar.oInt Syntax.w64 1) 13 (Rows.sc-here sc0) ty1 (Row.valS sc0) (Row.sInt Syntax.w64 .of) (Scalar.reads-sc 𝓤 H A W sc0, Path'.refl) tt (Scalar.room-sc 𝓤 H A W sc0) (Scalar.holds-sc 𝓤 H A W sc0) Path'.refl (λ u. Path'.refl) λ u. tt)
 
           d36 : Typed.Typed 𝓤 H A 𝓣 E G94 b38 Δ3 at36
-          d36 = Typed.g-pre 𝓤 H A W 𝓣 E G94 G95 b38 Δ3 (Typed.pass T94 T95 s89) at35 (Scalar.g-room 𝓤 H A W E G94 14 (Syntax.tyStruct (List._∷_ 115 (List._∷_ 99 (List._∷_ 114 (List._∷_ 105 (List._∷_ 112 (List._∷_ 116 (List._∷_ 58 (List._∷_ 58 (List._∷_ 115 (List._∷_ 99 (List._∷_ 97 (List._∷_ 110 (List._∷_ 58 (List._∷_ 58 (List._∷_ 76 (List._∷_ 105 (List._∷_ 110 (List._∷_ 101 List.[])))))))))))))))))) (Syntax.tcons (Syntax.tyInt Syntax.w32) (Syntax.tcons (Syntax.tyInt Syntax.w64) (Syntax.tcons (Syntax.tyInt Syntax.w64) (Syntax.tcons (Syntax.tyInt Syntax.w64) (Syntax.tcons (Syntax.tyInt Syntax.w64) Syntax.tnil)))))) (Local.room-whole 𝓤 H A W (Declared.row Line.the-type) (Syntax.tyStruct (List._∷_ 115 (List._∷_ 99 (List._∷_ 114 (List._∷_ 105 (List._∷_ 112 (List._∷_ 116 (List._∷_ 58 (List._∷_ 58 (List._∷_ 115 (List._∷_ 99 (List._∷_ 97 (List._∷_ 110 (List._∷_ 58 (List._∷_ 58 (List._∷_ 76 (List._∷_ 105 (List._∷_ 110 (List._∷_ 101 List.[])))))))))))))))))) (Syntax.tcons (Syntax.tyInt Syntax.w32) (Syntax.tcons (Syntax.tyInt Syntax.w64) (Syntax.tcons (Syntax.tyInt Syntax.w64) (Syntax.tcons (Syntax.tyInt Syntax.w64) (Syntax.tcons (Syntax.tyInt Syntax.w64) Syntax.tnil)))))) Path'.refl)) d35
+          d36 = Typed.g-pre 𝓤 H A W 𝓣 E G94 G95 b38 Δ3 (Typed.pass T94 T95 s89) at35 (Scalar.g-room 𝓤 H A W E G94 14 ty3 (Local.room-whole 𝓤 H A W held10 ty3 Path'.refl)) d35
 
           d37 : Typed.Typed 𝓤 H A 𝓣 E G80 b39 Δ3 at37
-          d37 = Typed.s-seq 𝓤 H A W 𝓣 E G80 G94 b37 b38 Δ3 (Typed.pass T80 T94 s88) at36 (Scalar.t-use 𝓤 H A W E 𝓣 G80 (Scalar.oFld 14 (List._∷_ (Syntax.field 4) List.[]) (Syntax.tyInt Syntax.w64) 32 (Reads.fieldV Line.the-type Laws.the-laws 4)) 12 (Rows.sc-here (Row.sInt Syntax.w64)) (Syntax.tyInt Syntax.w64) (Row.valS (Row.sInt Syntax.w64)) (Row.sInt Syntax.w64 .of) (Reads.reads-field 𝓤 H A W Line.the-type Laws.the-laws 4 (Syntax.tyInt Syntax.w64) 32 Path'.refl, Path'.refl) (Reads'.room-gone 𝓤 H A (Syntax.tyInt Syntax.w64)) (Scalar.holds-sc 𝓤 H A W (Row.sInt Syntax.w64)) Path'.refl (λ u. Path'.refl) λ u. tt) d36
+          d37 = Typed.s-seq 𝓤 H A W 𝓣 E G80 G94 b37 b38 Δ3 (Typed.pass T80 T94 s88) at36 (Scalar.t-use 𝓤 H A W E 𝓣 G80 (Scalar.oFld 14 steps3 ty1 32 (Reads.fieldV Line.the-type Laws.the-laws 4)) 12 (Rows.sc-here sc0) ty1 (Row.valS sc0) (Row.sInt Syntax.w64 .of) (Reads.reads-field 𝓤 H A W Line.the-type Laws.the-laws 4 ty1 32 Path'.refl, Path'.refl) (Reads'.room-gone 𝓤 H A ty1) (Scalar.holds-sc 𝓤 H A W sc0) Path'.refl (λ u. Path'.refl) λ u. tt) d36
 
           d38 : Typed.Typed 𝓤 H A 𝓣 E G79 b40 Δ3 at38
           d38 = Typed.t-seq 𝓤 H A W 𝓣 E G79 G80 b36 b39 Δ3 at34 at37 d34 d37
 
           d39 : Typed.Typed 𝓤 H A 𝓣 E G78 b41 Δ3 at39
-          d39 = Typed.s-seq 𝓤 H A W 𝓣 E G78 G79 b27 b40 Δ3 (Typed.pass T77 T79 s74) at38 (Scalar.t-use 𝓤 H A W E 𝓣 G78 (Scalar.oFld 11 (List._∷_ (Syntax.field 7) List.[]) Syntax.tyBool 328 (Reads.fieldV Held.the-type Laws'.the-laws 7)) 16 (Rows.sc-here Row.sBool) Syntax.tyBool (Row.valS Row.sBool) (Row.sBool .of) (Reads.reads-field 𝓤 H A W Held.the-type Laws'.the-laws 7 Syntax.tyBool 328 Path'.refl, Path'.refl) (Reads'.room-gone 𝓤 H A Syntax.tyBool) (Scalar.holds-sc 𝓤 H A W Row.sBool) Path'.refl (λ u. Path'.refl) λ u. tt) d38
+          d39 = Typed.s-seq 𝓤 H A W 𝓣 E G78 G79 b27 b40 Δ3 (Typed.pass T77 T79 s74) at38 (Scalar.t-use 𝓤 H A W E 𝓣 G78 (Scalar.oFld 11 steps2 Syntax.tyBool 328 (Reads.fieldV Held.the-type Laws'.the-laws 7)) 16 (Rows.sc-here Row.sBool) Syntax.tyBool (Row.valS Row.sBool) (Row.sBool .of) (Reads.reads-field 𝓤 H A W Held.the-type Laws'.the-laws 7 Syntax.tyBool 328 Path'.refl, Path'.refl) (Reads'.room-gone 𝓤 H A Syntax.tyBool) (Scalar.holds-sc 𝓤 H A W Row.sBool) Path'.refl (λ u. Path'.refl) λ u. tt) d38
 
           d40 : Typed.Typed 𝓤 H A 𝓣 E G77 b41 Δ3 at40
           d40 = Typed.g-pre 𝓤 H A W 𝓣 E G77 G78 b41 Δ3 (λ Ψ. Ψ) at39 (Lifetime.g-forget 𝓤 H A W E G77 19 Row.dead Path'.refl) d39
 
           d41 : Typed.Typed 𝓤 H A 𝓣 E G76 b41 Δ3 at41
-          d41 = Typed.g-pre 𝓤 H A W 𝓣 E G76 G77 b41 Δ3 (Typed.ask s72) at40 (Reborrow.g-back-mref 𝓤 H A W E G76 27 10 9 19 (Array.Array Cell.R 32772) (Syntax.tyRef (Syntax.named 9) Syntax.mut (Syntax.tyArray Cell.behind 32772)) (Syntax.tyRef Syntax.erased Syntax.mut (Syntax.tyArray Cell.behind 32772)) (Row.lease (κs .1 .1 .1 .1 .1 .1 .1 .1 .1 .0) (qs .1 .1 .1 .1 .1 .1 .1 .1 .1 .0)) (λ x. x) (λ x. x) (Reads'.as-is 𝓤 H A (Rows.mleft (Array.Array Cell.R 32772) (Syntax.tyRef Syntax.erased Syntax.mut (Syntax.tyArray Cell.behind 32772)))) (Reads'.as-is 𝓤 H A (Rows.mref-owed (Array.Array Cell.R 32772) (Syntax.tyRef (Syntax.named 9) Syntax.mut (Syntax.tyArray Cell.behind 32772)) 9 19 (Row.lease (κs .1 .1 .1 .1 .1 .1 .1 .1 .1 .0) (qs .1 .1 .1 .1 .1 .1 .1 .1 .1 .0)))) Path'.refl Path'.refl) d40
+          d41 = Typed.g-pre 𝓤 H A W 𝓣 E G76 G77 b41 Δ3 (Typed.ask s72) at40 (Reborrow.g-back-mref 𝓤 H A W E G76 27 10 9 19 held8 ty29 ty19 slot8 (λ x. x) (λ x. x) (Reads'.as-is 𝓤 H A (Rows.mleft held8 ty19)) (Reads'.as-is 𝓤 H A (Rows.mref-owed held8 ty29 9 19 slot8)) Path'.refl Path'.refl) d40
 
           d42 : Typed.Typed 𝓤 H A 𝓣 E G75 b41 Δ3 at42
           d42 = Typed.g-pre 𝓤 H A W 𝓣 E G75 G76 b41 Δ3 (λ Ψ. Ψ) at41 (Lifetime.g-end 𝓤 H A W E G75 19 Path'.refl) d41
@@ -1764,7 +2278,7 @@ module _ (claims· : Claims) where
           d43 = Typed.g-pre 𝓤 H A W 𝓣 E G74 G75 b41 Δ3 (λ Ψ. Ψ) at42 (Lifetime.g-forget 𝓤 H A W E G74 18 Row.dead Path'.refl) d42
 
           d44 : Typed.Typed 𝓤 H A 𝓣 E G73 b41 Δ3 at44
-          d44 = Typed.g-pre 𝓤 H A W 𝓣 E G73 G74 b41 Δ3 (Typed.ask s69) at43 (Reborrow.g-back-mref 𝓤 H A W E G73 26 9 8 18 (Array.Array Cell.R 65540) (Syntax.tyRef (Syntax.named 8) Syntax.mut (Syntax.tyArray Cell.behind 65540)) (Syntax.tyRef Syntax.erased Syntax.mut (Syntax.tyArray Cell.behind 65540)) (Row.lease (κs .1 .1 .1 .1 .1 .1 .1 .1 .0) (qs .1 .1 .1 .1 .1 .1 .1 .1 .0)) (λ x. x) (λ x. x) (Reads'.as-is 𝓤 H A (Rows.mleft (Array.Array Cell.R 65540) (Syntax.tyRef Syntax.erased Syntax.mut (Syntax.tyArray Cell.behind 65540)))) (Reads'.as-is 𝓤 H A (Rows.mref-owed (Array.Array Cell.R 65540) (Syntax.tyRef (Syntax.named 8) Syntax.mut (Syntax.tyArray Cell.behind 65540)) 8 18 (Row.lease (κs .1 .1 .1 .1 .1 .1 .1 .1 .0) (qs .1 .1 .1 .1 .1 .1 .1 .1 .0)))) Path'.refl Path'.refl) d43
+          d44 = Typed.g-pre 𝓤 H A W 𝓣 E G73 G74 b41 Δ3 (Typed.ask s69) at43 (Reborrow.g-back-mref 𝓤 H A W E G73 26 9 8 18 held7 ty28 ty17 slot7 (λ x. x) (λ x. x) (Reads'.as-is 𝓤 H A (Rows.mleft held7 ty17)) (Reads'.as-is 𝓤 H A (Rows.mref-owed held7 ty28 8 18 slot7)) Path'.refl Path'.refl) d43
 
           d45 : Typed.Typed 𝓤 H A 𝓣 E G72 b41 Δ3 at45
           d45 = Typed.g-pre 𝓤 H A W 𝓣 E G72 G73 b41 Δ3 (λ Ψ. Ψ) at44 (Lifetime.g-end 𝓤 H A W E G72 18 Path'.refl) d44
@@ -1773,7 +2287,7 @@ module _ (claims· : Claims) where
           d46 = Typed.g-pre 𝓤 H A W 𝓣 E G71 G72 b41 Δ3 (λ Ψ. Ψ) at45 (Lifetime.g-forget 𝓤 H A W E G71 17 Row.dead Path'.refl) d45
 
           d47 : Typed.Typed 𝓤 H A 𝓣 E G70 b41 Δ3 at47
-          d47 = Typed.g-pre 𝓤 H A W 𝓣 E G70 G71 b41 Δ3 (Typed.ask s66) at46 (Reborrow.g-back-mref 𝓤 H A W E G70 25 8 7 17 (Array.Array (Referent.rtF (Referent.fInt Syntax.w8)) 600000) (Syntax.tyRef (Syntax.named 7) Syntax.mut (Syntax.tyArray (Syntax.tyInt Syntax.w8) 600000)) (Syntax.tyRef Syntax.erased Syntax.mut (Syntax.tyArray (Syntax.tyInt Syntax.w8) 600000)) (Row.lease (κs .1 .1 .1 .1 .1 .1 .1 .0) (qs .1 .1 .1 .1 .1 .1 .1 .0)) (λ x. x) (λ x. x) (Reads'.as-is 𝓤 H A (Rows.mleft (Array.Array (Referent.rtF (Referent.fInt Syntax.w8)) 600000) (Syntax.tyRef Syntax.erased Syntax.mut (Syntax.tyArray (Syntax.tyInt Syntax.w8) 600000)))) (Reads'.as-is 𝓤 H A (Rows.mref-owed (Array.Array (Referent.rtF (Referent.fInt Syntax.w8)) 600000) (Syntax.tyRef (Syntax.named 7) Syntax.mut (Syntax.tyArray (Syntax.tyInt Syntax.w8) 600000)) 7 17 (Row.lease (κs .1 .1 .1 .1 .1 .1 .1 .0) (qs .1 .1 .1 .1 .1 .1 .1 .0)))) Path'.refl Path'.refl) d46
+          d47 = Typed.g-pre 𝓤 H A W 𝓣 E G70 G71 b41 Δ3 (Typed.ask s66) at46 (Reborrow.g-back-mref 𝓤 H A W E G70 25 8 7 17 held6 ty27 ty15 slot6 (λ x. x) (λ x. x) (Reads'.as-is 𝓤 H A (Rows.mleft held6 ty15)) (Reads'.as-is 𝓤 H A (Rows.mref-owed held6 ty27 7 17 slot6)) Path'.refl Path'.refl) d46
 
           d48 : Typed.Typed 𝓤 H A 𝓣 E G69 b41 Δ3 at48
           d48 = Typed.g-pre 𝓤 H A W 𝓣 E G69 G70 b41 Δ3 (λ Ψ. Ψ) at47 (Lifetime.g-end 𝓤 H A W E G69 17 Path'.refl) d47
@@ -1782,7 +2296,7 @@ module _ (claims· : Claims) where
           d49 = Typed.g-pre 𝓤 H A W 𝓣 E G68 G69 b41 Δ3 (λ Ψ. Ψ) at48 (Lifetime.g-forget 𝓤 H A W E G68 16 Row.dead Path'.refl) d48
 
           d50 : Typed.Typed 𝓤 H A 𝓣 E G67 b41 Δ3 at50
-          d50 = Typed.g-pre 𝓤 H A W 𝓣 E G67 G68 b41 Δ3 (Typed.ask s63) at49 (Reborrow.g-back-mref 𝓤 H A W E G67 24 7 6 16 (Array.Array (Referent.rtF (Referent.fInt Syntax.w32)) 262160) (Syntax.tyRef (Syntax.named 6) Syntax.mut (Syntax.tyArray (Syntax.tyInt Syntax.w32) 262160)) (Syntax.tyRef Syntax.erased Syntax.mut (Syntax.tyArray (Syntax.tyInt Syntax.w32) 262160)) (Row.lease (κs .1 .1 .1 .1 .1 .1 .0) (qs .1 .1 .1 .1 .1 .1 .0)) (λ x. x) (λ x. x) (Reads'.as-is 𝓤 H A (Rows.mleft (Array.Array (Referent.rtF (Referent.fInt Syntax.w32)) 262160) (Syntax.tyRef Syntax.erased Syntax.mut (Syntax.tyArray (Syntax.tyInt Syntax.w32) 262160)))) (Reads'.as-is 𝓤 H A (Rows.mref-owed (Array.Array (Referent.rtF (Referent.fInt Syntax.w32)) 262160) (Syntax.tyRef (Syntax.named 6) Syntax.mut (Syntax.tyArray (Syntax.tyInt Syntax.w32) 262160)) 6 16 (Row.lease (κs .1 .1 .1 .1 .1 .1 .0) (qs .1 .1 .1 .1 .1 .1 .0)))) Path'.refl Path'.refl) d49
+          d50 = Typed.g-pre 𝓤 H A W 𝓣 E G67 G68 b41 Δ3 (Typed.ask s63) at49 (Reborrow.g-back-mref 𝓤 H A W E G67 24 7 6 16 held5 ty26 ty13 slot5 (λ x. x) (λ x. x) (Reads'.as-is 𝓤 H A (Rows.mleft held5 ty13)) (Reads'.as-is 𝓤 H A (Rows.mref-owed held5 ty26 6 16 slot5)) Path'.refl Path'.refl) d49
 
           d51 : Typed.Typed 𝓤 H A 𝓣 E G66 b41 Δ3 at51
           d51 = Typed.g-pre 𝓤 H A W 𝓣 E G66 G67 b41 Δ3 (λ Ψ. Ψ) at50 (Lifetime.g-end 𝓤 H A W E G66 16 Path'.refl) d50
@@ -1791,7 +2305,7 @@ module _ (claims· : Claims) where
           d52 = Typed.g-pre 𝓤 H A W 𝓣 E G65 G66 b41 Δ3 (λ Ψ. Ψ) at51 (Lifetime.g-forget 𝓤 H A W E G65 15 Row.dead Path'.refl) d51
 
           d53 : Typed.Typed 𝓤 H A 𝓣 E G64 b41 Δ3 at53
-          d53 = Typed.g-pre 𝓤 H A W 𝓣 E G64 G65 b41 Δ3 (Typed.ask s60) at52 (Reborrow.g-back-mref 𝓤 H A W E G64 23 6 5 15 (Array.Array (Referent.rtF (Referent.fInt Syntax.w32)) 32772) (Syntax.tyRef (Syntax.named 5) Syntax.mut (Syntax.tyArray (Syntax.tyInt Syntax.w32) 32772)) (Syntax.tyRef Syntax.erased Syntax.mut (Syntax.tyArray (Syntax.tyInt Syntax.w32) 32772)) (Row.lease (κs .1 .1 .1 .1 .1 .0) (qs .1 .1 .1 .1 .1 .0)) (λ x. x) (λ x. x) (Reads'.as-is 𝓤 H A (Rows.mleft (Array.Array (Referent.rtF (Referent.fInt Syntax.w32)) 32772) (Syntax.tyRef Syntax.erased Syntax.mut (Syntax.tyArray (Syntax.tyInt Syntax.w32) 32772)))) (Reads'.as-is 𝓤 H A (Rows.mref-owed (Array.Array (Referent.rtF (Referent.fInt Syntax.w32)) 32772) (Syntax.tyRef (Syntax.named 5) Syntax.mut (Syntax.tyArray (Syntax.tyInt Syntax.w32) 32772)) 5 15 (Row.lease (κs .1 .1 .1 .1 .1 .0) (qs .1 .1 .1 .1 .1 .0)))) Path'.refl Path'.refl) d52
+          d53 = Typed.g-pre 𝓤 H A W 𝓣 E G64 G65 b41 Δ3 (Typed.ask s60) at52 (Reborrow.g-back-mref 𝓤 H A W E G64 23 6 5 15 held2 ty25 ty5 slot4 (λ x. x) (λ x. x) (Reads'.as-is 𝓤 H A (Rows.mleft held2 ty5)) (Reads'.as-is 𝓤 H A (Rows.mref-owed held2 ty25 5 15 slot4)) Path'.refl Path'.refl) d52
 
           d54 : Typed.Typed 𝓤 H A 𝓣 E G63 b41 Δ3 at54
           d54 = Typed.g-pre 𝓤 H A W 𝓣 E G63 G64 b41 Δ3 (λ Ψ. Ψ) at53 (Lifetime.g-end 𝓤 H A W E G63 15 Path'.refl) d53
@@ -1800,7 +2314,7 @@ module _ (claims· : Claims) where
           d55 = Typed.g-pre 𝓤 H A W 𝓣 E G62 G63 b41 Δ3 (λ Ψ. Ψ) at54 (Lifetime.g-forget 𝓤 H A W E G62 14 Row.dead Path'.refl) d54
 
           d56 : Typed.Typed 𝓤 H A 𝓣 E G61 b41 Δ3 at56
-          d56 = Typed.g-pre 𝓤 H A W 𝓣 E G61 G62 b41 Δ3 (Typed.ask s57) at55 (Reborrow.g-back-mref 𝓤 H A W E G61 22 5 4 14 (Array.Array (Referent.rtF (Referent.fInt Syntax.w32)) 32772) (Syntax.tyRef (Syntax.named 4) Syntax.mut (Syntax.tyArray (Syntax.tyInt Syntax.w32) 32772)) (Syntax.tyRef Syntax.erased Syntax.mut (Syntax.tyArray (Syntax.tyInt Syntax.w32) 32772)) (Row.lease (κs .1 .1 .1 .1 .0) (qs .1 .1 .1 .1 .0)) (λ x. x) (λ x. x) (Reads'.as-is 𝓤 H A (Rows.mleft (Array.Array (Referent.rtF (Referent.fInt Syntax.w32)) 32772) (Syntax.tyRef Syntax.erased Syntax.mut (Syntax.tyArray (Syntax.tyInt Syntax.w32) 32772)))) (Reads'.as-is 𝓤 H A (Rows.mref-owed (Array.Array (Referent.rtF (Referent.fInt Syntax.w32)) 32772) (Syntax.tyRef (Syntax.named 4) Syntax.mut (Syntax.tyArray (Syntax.tyInt Syntax.w32) 32772)) 4 14 (Row.lease (κs .1 .1 .1 .1 .0) (qs .1 .1 .1 .1 .0)))) Path'.refl Path'.refl) d55
+          d56 = Typed.g-pre 𝓤 H A W 𝓣 E G61 G62 b41 Δ3 (Typed.ask s57) at55 (Reborrow.g-back-mref 𝓤 H A W E G61 22 5 4 14 held2 ty24 ty5 slot3 (λ x. x) (λ x. x) (Reads'.as-is 𝓤 H A (Rows.mleft held2 ty5)) (Reads'.as-is 𝓤 H A (Rows.mref-owed held2 ty24 4 14 slot3)) Path'.refl Path'.refl) d55
 
           d57 : Typed.Typed 𝓤 H A 𝓣 E G60 b41 Δ3 at57
           d57 = Typed.g-pre 𝓤 H A W 𝓣 E G60 G61 b41 Δ3 (λ Ψ. Ψ) at56 (Lifetime.g-end 𝓤 H A W E G60 14 Path'.refl) d56
@@ -1809,7 +2323,7 @@ module _ (claims· : Claims) where
           d58 = Typed.g-pre 𝓤 H A W 𝓣 E G59 G60 b41 Δ3 (λ Ψ. Ψ) at57 (Lifetime.g-forget 𝓤 H A W E G59 13 Row.dead Path'.refl) d57
 
           d59 : Typed.Typed 𝓤 H A 𝓣 E G58 b41 Δ3 at59
-          d59 = Typed.g-pre 𝓤 H A W 𝓣 E G58 G59 b41 Δ3 (Typed.ask s54) at58 (Reborrow.g-back-mref 𝓤 H A W E G58 21 4 3 13 (Array.Array (Referent.rtF (Referent.fInt Syntax.w32)) 65540) (Syntax.tyRef (Syntax.named 3) Syntax.mut (Syntax.tyArray (Syntax.tyInt Syntax.w32) 65540)) (Syntax.tyRef Syntax.erased Syntax.mut (Syntax.tyArray (Syntax.tyInt Syntax.w32) 65540)) (Row.lease (κs .1 .1 .1 .0) (qs .1 .1 .1 .0)) (λ x. x) (λ x. x) (Reads'.as-is 𝓤 H A (Rows.mleft (Array.Array (Referent.rtF (Referent.fInt Syntax.w32)) 65540) (Syntax.tyRef Syntax.erased Syntax.mut (Syntax.tyArray (Syntax.tyInt Syntax.w32) 65540)))) (Reads'.as-is 𝓤 H A (Rows.mref-owed (Array.Array (Referent.rtF (Referent.fInt Syntax.w32)) 65540) (Syntax.tyRef (Syntax.named 3) Syntax.mut (Syntax.tyArray (Syntax.tyInt Syntax.w32) 65540)) 3 13 (Row.lease (κs .1 .1 .1 .0) (qs .1 .1 .1 .0)))) Path'.refl Path'.refl) d58
+          d59 = Typed.g-pre 𝓤 H A W 𝓣 E G58 G59 b41 Δ3 (Typed.ask s54) at58 (Reborrow.g-back-mref 𝓤 H A W E G58 21 4 3 13 held4 ty23 ty11 slot2 (λ x. x) (λ x. x) (Reads'.as-is 𝓤 H A (Rows.mleft held4 ty11)) (Reads'.as-is 𝓤 H A (Rows.mref-owed held4 ty23 3 13 slot2)) Path'.refl Path'.refl) d58
 
           d60 : Typed.Typed 𝓤 H A 𝓣 E G57 b41 Δ3 at60
           d60 = Typed.g-pre 𝓤 H A W 𝓣 E G57 G58 b41 Δ3 (λ Ψ. Ψ) at59 (Lifetime.g-end 𝓤 H A W E G57 13 Path'.refl) d59
@@ -1818,7 +2332,7 @@ module _ (claims· : Claims) where
           d61 = Typed.g-pre 𝓤 H A W 𝓣 E G56 G57 b41 Δ3 (λ Ψ. Ψ) at60 (Lifetime.g-forget 𝓤 H A W E G56 12 Row.dead Path'.refl) d60
 
           d62 : Typed.Typed 𝓤 H A 𝓣 E G55 b41 Δ3 at62
-          d62 = Typed.g-pre 𝓤 H A W 𝓣 E G55 G56 b41 Δ3 (Typed.ask s51) at61 (Reborrow.g-back-mref 𝓤 H A W E G55 20 3 2 12 (Array.Array (Referent.rtF (Referent.fInt Syntax.w8)) 16388) (Syntax.tyRef (Syntax.named 2) Syntax.mut (Syntax.tyArray (Syntax.tyInt Syntax.w8) 16388)) (Syntax.tyRef Syntax.erased Syntax.mut (Syntax.tyArray (Syntax.tyInt Syntax.w8) 16388)) (Row.lease (κs .1 .1 .0) (qs .1 .1 .0)) (λ x. x) (λ x. x) (Reads'.as-is 𝓤 H A (Rows.mleft (Array.Array (Referent.rtF (Referent.fInt Syntax.w8)) 16388) (Syntax.tyRef Syntax.erased Syntax.mut (Syntax.tyArray (Syntax.tyInt Syntax.w8) 16388)))) (Reads'.as-is 𝓤 H A (Rows.mref-owed (Array.Array (Referent.rtF (Referent.fInt Syntax.w8)) 16388) (Syntax.tyRef (Syntax.named 2) Syntax.mut (Syntax.tyArray (Syntax.tyInt Syntax.w8) 16388)) 2 12 (Row.lease (κs .1 .1 .0) (qs .1 .1 .0)))) Path'.refl Path'.refl) d61
+          d62 = Typed.g-pre 𝓤 H A W 𝓣 E G55 G56 b41 Δ3 (Typed.ask s51) at61 (Reborrow.g-back-mref 𝓤 H A W E G55 20 3 2 12 held3 ty22 ty9 slot1 (λ x. x) (λ x. x) (Reads'.as-is 𝓤 H A (Rows.mleft held3 ty9)) (Reads'.as-is 𝓤 H A (Rows.mref-owed held3 ty22 2 12 slot1)) Path'.refl Path'.refl) d61
 
           d63 : Typed.Typed 𝓤 H A 𝓣 E G54 b41 Δ3 at63
           d63 = Typed.g-pre 𝓤 H A W 𝓣 E G54 G55 b41 Δ3 (λ Ψ. Ψ) at62 (Lifetime.g-end 𝓤 H A W E G54 12 Path'.refl) d62
@@ -1827,67 +2341,67 @@ module _ (claims· : Claims) where
           d64 = Typed.g-pre 𝓤 H A W 𝓣 E G53 G54 b41 Δ3 (λ Ψ. Ψ) at63 (Lifetime.g-forget 𝓤 H A W E G53 11 Row.dead Path'.refl) d63
 
           d65 : Typed.Typed 𝓤 H A 𝓣 E G52 b41 Δ3 at65
-          d65 = Typed.g-pre 𝓤 H A W 𝓣 E G52 G53 b41 Δ3 (Typed.pass T51 T53 s48) at64 (Reshare.g-back-mref-shr 𝓤 H A W E G52 2 1 11 (Array.Array (Referent.rtF (Referent.fInt Syntax.w32)) 32772) (Syntax.tyRef (Syntax.named 1) Syntax.mut (Syntax.tyArray (Syntax.tyInt Syntax.w32) 32772)) (Row.lease (κs .1 .0) (qs .1 .0)) (λ x. x) (Reads'.as-is 𝓤 H A (Reshare.mref-owedS (Array.Array (Referent.rtF (Referent.fInt Syntax.w32)) 32772) (Syntax.tyRef (Syntax.named 1) Syntax.mut (Syntax.tyArray (Syntax.tyInt Syntax.w32) 32772)) 1 11 (Row.lease (κs .1 .0) (qs .1 .0)))) Path'.refl Path'.refl) d64
+          d65 = Typed.g-pre 𝓤 H A W 𝓣 E G52 G53 b41 Δ3 (Typed.pass T51 T53 s48) at64 (Reshare.g-back-mref-shr 𝓤 H A W E G52 2 1 11 held2 ty21 slot0 (λ x. x) (Reads'.as-is 𝓤 H A (Reshare.mref-owedS held2 ty21 1 11 slot0)) Path'.refl Path'.refl) d64
 
           d66 : Typed.Typed 𝓤 H A 𝓣 E G51 b41 Δ3 at66
           d66 = Typed.g-pre 𝓤 H A W 𝓣 E G51 G52 b41 Δ3 (λ Ψ. Ψ) at65 (Lifetime.g-end 𝓤 H A W E G51 11 Path'.refl) d65
 
           d67 : Typed.Typed 𝓤 H A 𝓣 E G50 b41 Δ3 at67
-          d67 = Typed.g-pre 𝓤 H A W 𝓣 E G50 G51 b41 Δ3 (Typed.pass T50 T51 s46) at66 (Local.g-drop-sref 𝓤 H A W E G50 19 11 (Array.Array (Referent.rtF (Referent.fInt Syntax.w32)) 32772) (Syntax.tyRef Syntax.erased Syntax.imm (Syntax.tyArray (Syntax.tyInt Syntax.w32) 32772)) (λ x. x) (Reads'.as-is 𝓤 H A (Rows.sref (Array.Array (Referent.rtF (Referent.fInt Syntax.w32)) 32772) (Syntax.tyRef Syntax.erased Syntax.imm (Syntax.tyArray (Syntax.tyInt Syntax.w32) 32772)) 11))) d66
+          d67 = Typed.g-pre 𝓤 H A W 𝓣 E G50 G51 b41 Δ3 (Typed.pass T50 T51 s46) at66 (Local.g-drop-sref 𝓤 H A W E G50 19 11 held2 ty6 (λ x. x) (Reads'.as-is 𝓤 H A (Rows.sref held2 ty6 11))) d66
 
           d68 : Typed.Typed 𝓤 H A 𝓣 E G49 b42 Δ3 at68
-          d68 = Typed.s-seq 𝓤 H A W 𝓣 E G49 G50 b26 b41 Δ3 (Typed.both s45) at67 (Plain.t-call-plain 𝓤 H A W 𝓣 10 ps·2 r·2 (claims· .4) (claims· .5) "zones::lines::obey" (known .2) E (λ pos β. β) G49 (record { pos = 11; st = List.[]; d = 0; at = λ x. x }, (record { pos = 14; st = List.[]; d = 0; at = λ x. x }, (record { pos = 1; ty = Syntax.tyRef (Syntax.named 0) Syntax.imm (Syntax.tyInt Syntax.w8); ref = λ x. x }, (record { pos = 19; ty = Syntax.tyRef Syntax.erased Syntax.imm (Syntax.tyArray (Syntax.tyInt Syntax.w32) 32772); ref = λ x. x }, (record { pos = 20; ty = Syntax.tyRef Syntax.erased Syntax.mut (Syntax.tyArray (Syntax.tyInt Syntax.w8) 16388); ref = λ x. x }, (record { pos = 21; ty = Syntax.tyRef Syntax.erased Syntax.mut (Syntax.tyArray (Syntax.tyInt Syntax.w32) 65540); ref = λ x. x }, (record { pos = 22; ty = Syntax.tyRef Syntax.erased Syntax.mut (Syntax.tyArray (Syntax.tyInt Syntax.w32) 32772); ref = λ x. x }, (record { pos = 23; ty = Syntax.tyRef Syntax.erased Syntax.mut (Syntax.tyArray (Syntax.tyInt Syntax.w32) 32772); ref = λ x. x }, (record { pos = 24; ty = Syntax.tyRef Syntax.erased Syntax.mut (Syntax.tyArray (Syntax.tyInt Syntax.w32) 262160); ref = λ x. x }, (record { pos = 25; ty = Syntax.tyRef Syntax.erased Syntax.mut (Syntax.tyArray (Syntax.tyInt Syntax.w8) 600000); ref = λ x. x }, (record { pos = 26; ty = Syntax.tyRef Syntax.erased Syntax.mut (Syntax.tyArray Cell.behind 65540); ref = λ x. x }, (record { pos = 27; ty = Syntax.tyRef Syntax.erased Syntax.mut (Syntax.tyArray Cell.behind 32772); ref = λ x. x }, tt)))))))))))) 11 (List._∷_ 0 (List._∷_ 11 (List._∷_ 12 (List._∷_ 13 (List._∷_ 14 (List._∷_ 15 (List._∷_ 16 (List._∷_ 17 (List._∷_ 18 (List._∷_ 19 List.[])))))))))) (Call.sub-id 𝓤 H A W (G49 .slots)) ((Yields.yields-copy 𝓤 H A W (λ ρ. Unit) (Declared.row Held.the-type) Path'.refl (Copies.cStruct Held.the-type Laws'.the-laws Laws'.the-copy .copy 𝓤 H A W) (Rows.whole (Declared.row Held.the-type)) (λ x. x) (λ x. x) (λ ρ told. Local.mem-whole 𝓤 H A W (Declared.row Held.the-type) ρ) λ ρ told. Local.whole-mem 𝓤 H A W (Declared.row Held.the-type) ρ, Path'.refl), ((Yields.yields-copy 𝓤 H A W (λ ρ. Unit) (Declared.row Line.the-type) Path'.refl (Copies.cStruct Line.the-type Laws.the-laws Laws.the-copy .copy 𝓤 H A W) (Rows.whole (Declared.row Line.the-type)) (λ x. x) (λ x. x) (λ ρ told. Local.mem-whole 𝓤 H A W (Declared.row Line.the-type) ρ) λ ρ told. Local.whole-mem 𝓤 H A W (Declared.row Line.the-type) ρ, Path'.refl), (ShrSlice.spares-sslice 𝓤 H A W (Referent.rtF (Referent.fInt Syntax.w8)) (Syntax.tyRef (Syntax.named 0) Syntax.imm (Syntax.tyInt Syntax.w8)) 0, Shared.reads-sslice 𝓤 H A W (Referent.rtF (Referent.fInt Syntax.w8)) (Syntax.tyRef (Syntax.named 0) Syntax.imm (Syntax.tyInt Syntax.w8)) 0, Path'.refl, (ShrRef.spares-sref 𝓤 H A W (Array.Array (Referent.rtF (Referent.fInt Syntax.w32)) 32772) (Syntax.tyRef Syntax.erased Syntax.imm (Syntax.tyArray (Syntax.tyInt Syntax.w32) 32772)) 11, Reads'.reads-sref 𝓤 H A W (Array.Array (Referent.rtF (Referent.fInt Syntax.w32)) 32772) (Syntax.tyRef Syntax.erased Syntax.imm (Syntax.tyArray (Syntax.tyInt Syntax.w32) 32772)) 11, Path'.refl, (Reads'.as-is 𝓤 H A (Rows.mref (Array.Array (Referent.rtF (Referent.fInt Syntax.w8)) 16388) (Syntax.tyRef Syntax.erased Syntax.mut (Syntax.tyArray (Syntax.tyInt Syntax.w8) 16388)) 12), Reads'.reads-mref 𝓤 H A W (Array.Array (Referent.rtF (Referent.fInt Syntax.w8)) 16388) (Syntax.tyRef Syntax.erased Syntax.mut (Syntax.tyArray (Syntax.tyInt Syntax.w8) 16388)) 12, Path'.refl, (Reads'.as-is 𝓤 H A (Rows.mref (Array.Array (Referent.rtF (Referent.fInt Syntax.w32)) 65540) (Syntax.tyRef Syntax.erased Syntax.mut (Syntax.tyArray (Syntax.tyInt Syntax.w32) 65540)) 13), Reads'.reads-mref 𝓤 H A W (Array.Array (Referent.rtF (Referent.fInt Syntax.w32)) 65540) (Syntax.tyRef Syntax.erased Syntax.mut (Syntax.tyArray (Syntax.tyInt Syntax.w32) 65540)) 13, Path'.refl, (Reads'.as-is 𝓤 H A (Rows.mref (Array.Array (Referent.rtF (Referent.fInt Syntax.w32)) 32772) (Syntax.tyRef Syntax.erased Syntax.mut (Syntax.tyArray (Syntax.tyInt Syntax.w32) 32772)) 14), Reads'.reads-mref 𝓤 H A W (Array.Array (Referent.rtF (Referent.fInt Syntax.w32)) 32772) (Syntax.tyRef Syntax.erased Syntax.mut (Syntax.tyArray (Syntax.tyInt Syntax.w32) 32772)) 14, Path'.refl, (Reads'.as-is 𝓤 H A (Rows.mref (Array.Array (Referent.rtF (Referent.fInt Syntax.w32)) 32772) (Syntax.tyRef Syntax.erased Syntax.mut (Syntax.tyArray (Syntax.tyInt Syntax.w32) 32772)) 15), Reads'.reads-mref 𝓤 H A W (Array.Array (Referent.rtF (Referent.fInt Syntax.w32)) 32772) (Syntax.tyRef Syntax.erased Syntax.mut (Syntax.tyArray (Syntax.tyInt Syntax.w32) 32772)) 15, Path'.refl, (Reads'.as-is 𝓤 H A (Rows.mref (Array.Array (Referent.rtF (Referent.fInt Syntax.w32)) 262160) (Syntax.tyRef Syntax.erased Syntax.mut (Syntax.tyArray (Syntax.tyInt Syntax.w32) 262160)) 16), Reads'.reads-mref 𝓤 H A W (Array.Array (Referent.rtF (Referent.fInt Syntax.w32)) 262160) (Syntax.tyRef Syntax.erased Syntax.mut (Syntax.tyArray (Syntax.tyInt Syntax.w32) 262160)) 16, Path'.refl, (Reads'.as-is 𝓤 H A (Rows.mref (Array.Array (Referent.rtF (Referent.fInt Syntax.w8)) 600000) (Syntax.tyRef Syntax.erased Syntax.mut (Syntax.tyArray (Syntax.tyInt Syntax.w8) 600000)) 17), Reads'.reads-mref 𝓤 H A W (Array.Array (Referent.rtF (Referent.fInt Syntax.w8)) 600000) (Syntax.tyRef Syntax.erased Syntax.mut (Syntax.tyArray (Syntax.tyInt Syntax.w8) 600000)) 17, Path'.refl, (Reads'.as-is 𝓤 H A (Rows.mref (Array.Array Cell.R 65540) (Syntax.tyRef Syntax.erased Syntax.mut (Syntax.tyArray Cell.behind 65540)) 18), Reads'.reads-mref 𝓤 H A W (Array.Array Cell.R 65540) (Syntax.tyRef Syntax.erased Syntax.mut (Syntax.tyArray Cell.behind 65540)) 18, Path'.refl, (Reads'.as-is 𝓤 H A (Rows.mref (Array.Array Cell.R 32772) (Syntax.tyRef Syntax.erased Syntax.mut (Syntax.tyArray Cell.behind 32772)) 19), Reads'.reads-mref 𝓤 H A W (Array.Array Cell.R 32772) (Syntax.tyRef Syntax.erased Syntax.mut (Syntax.tyArray Cell.behind 32772)) 19, Path'.refl, tt)))))))))))) (Local.room-whole 𝓤 H A W (Declared.row Held.the-type) (Syntax.tyStruct (List._∷_ 122 (List._∷_ 111 (List._∷_ 110 (List._∷_ 101 (List._∷_ 115 (List._∷_ 58 (List._∷_ 58 (List._∷_ 104 (List._∷_ 101 (List._∷_ 108 (List._∷_ 100 (List._∷_ 58 (List._∷_ 58 (List._∷_ 72 (List._∷_ 101 (List._∷_ 108 (List._∷_ 100 List.[]))))))))))))))))) (Syntax.tcons (Syntax.tyStruct (List._∷_ 112 (List._∷_ 121 (List._∷_ 114 (List._∷_ 97 (List._∷_ 109 (List._∷_ 105 (List._∷_ 100 (List._∷_ 58 (List._∷_ 58 (List._∷_ 83 (List._∷_ 116 (List._∷_ 97 (List._∷_ 116 (List._∷_ 101 List.[])))))))))))))) (Syntax.tcons (Syntax.tyInt Syntax.w32) (Syntax.tcons (Syntax.tyInt Syntax.w32) (Syntax.tcons (Syntax.tyInt Syntax.w32) (Syntax.tcons (Syntax.tyInt Syntax.w32) (Syntax.tcons (Syntax.tyInt Syntax.w32) (Syntax.tcons (Syntax.tyArray (Syntax.tyInt Syntax.w32) 64) Syntax.tnil))))))) (Syntax.tcons (Syntax.tyInt Syntax.w64) (Syntax.tcons (Syntax.tyInt Syntax.w64) (Syntax.tcons (Syntax.tyInt Syntax.w64) (Syntax.tcons (Syntax.tyInt Syntax.w64) (Syntax.tcons (Syntax.tyInt Syntax.w64) (Syntax.tcons (Syntax.tyInt Syntax.w64) (Syntax.tcons Syntax.tyBool Syntax.tnil))))))))) Path'.refl) (tt, (tt, (tt, (tt, (tt, (tt, (tt, (tt, (tt, (tt, tt)))))))))) Path'.refl) d67
+          d68 = Typed.s-seq 𝓤 H A W 𝓣 E G49 G50 b26 b41 Δ3 (Typed.both s45) at67 (Plain.t-call-plain 𝓤 H A W 𝓣 10 ps·2 r·2 (claims· .4) (claims· .5) "zones::lines::obey" (known .2) E (λ pos β. β) G49 (record { pos = 11; st = List.[]; d = 0; at = λ x. x }, (record { pos = 14; st = List.[]; d = 0; at = λ x. x }, (record { pos = 1; ty = Syntax.tyRef (Syntax.named 0) Syntax.imm ty7; ref = λ x. x }, (record { pos = 19; ty = Syntax.tyRef Syntax.erased Syntax.imm ty4; ref = λ x. x }, (record { pos = 20; ty = Syntax.tyRef Syntax.erased Syntax.mut ty8; ref = λ x. x }, (record { pos = 21; ty = Syntax.tyRef Syntax.erased Syntax.mut ty10; ref = λ x. x }, (record { pos = 22; ty = Syntax.tyRef Syntax.erased Syntax.mut ty4; ref = λ x. x }, (record { pos = 23; ty = Syntax.tyRef Syntax.erased Syntax.mut ty4; ref = λ x. x }, (record { pos = 24; ty = Syntax.tyRef Syntax.erased Syntax.mut ty12; ref = λ x. x }, (record { pos = 25; ty = Syntax.tyRef Syntax.erased Syntax.mut ty14; ref = λ x. x }, (record { pos = 26; ty = Syntax.tyRef Syntax.erased Syntax.mut ty16; ref = λ x. x }, (record { pos = 27; ty = Syntax.tyRef Syntax.erased Syntax.mut ty18; ref = λ x. x }, tt)))))))))))) 11 sym0 (Call.sub-id 𝓤 H A W (G49 .slots)) ((Yields.yields-copy 𝓤 H A W (λ ρ. Unit) held9 Path'.refl (Copies.cStruct Held.the-type Laws'.the-laws Laws'.the-copy .copy 𝓤 H A W) (Rows.whole held9) (λ x. x) (λ x. x) (λ ρ told. Local.mem-whole 𝓤 H A W held9 ρ) λ ρ told. Local.whole-mem 𝓤 H A W held9 ρ, Path'.refl), ((Yields.yields-copy 𝓤 H A W (λ ρ. Unit) held10 Path'.refl (Copies.cStruct Line.the-type Laws.the-laws Laws.the-copy .copy 𝓤 H A W) (Rows.whole held10) (λ x. x) (λ x. x) (λ ρ told. Local.mem-whole 𝓤 H A W held10 ρ) λ ρ told. Local.whole-mem 𝓤 H A W held10 ρ, Path'.refl), (ShrSlice.spares-sslice 𝓤 H A W held0 ty20 0, Shared.reads-sslice 𝓤 H A W held0 ty20 0, Path'.refl, (ShrRef.spares-sref 𝓤 H A W held2 ty6 11, Reads'.reads-sref 𝓤 H A W held2 ty6 11, Path'.refl, (Reads'.as-is 𝓤 H A (Rows.mref held3 ty9 12), Reads'.reads-mref 𝓤 H A W held3 ty9 12, Path'.refl, (Reads'.as-is 𝓤 H A (Rows.mref held4 ty11 13), Reads'.reads-mref 𝓤 H A W held4 ty11 13, Path'.refl, (Reads'.as-is 𝓤 H A (Rows.mref held2 ty5 14), Reads'.reads-mref 𝓤 H A W held2 ty5 14, Path'.refl, (Reads'.as-is 𝓤 H A (Rows.mref held2 ty5 15), Reads'.reads-mref 𝓤 H A W held2 ty5 15, Path'.refl, (Reads'.as-is 𝓤 H A (Rows.mref held5 ty13 16), Reads'.reads-mref 𝓤 H A W held5 ty13 16, Path'.refl, (Reads'.as-is 𝓤 H A (Rows.mref held6 ty15 17), Reads'.reads-mref 𝓤 H A W held6 ty15 17, Path'.refl, (Reads'.as-is 𝓤 H A (Rows.mref held7 ty17 18), Reads'.reads-mref 𝓤 H A W held7 ty17 18, Path'.refl, (Reads'.as-is 𝓤 H A (Rows.mref held8 ty19 19), Reads'.reads-mref 𝓤 H A W held8 ty19 19, Path'.refl, tt)))))))))))) (Local.room-whole 𝓤 H A W held9 ty2 Path'.refl) (tt, (tt, (tt, (tt, (tt, (tt, (tt, (tt, (tt, (tt, tt)))))))))) Path'.refl) d67
 
           d69 : Typed.Typed 𝓤 H A 𝓣 E G48 b43 Δ3 at69
-          d69 = Typed.s-seq 𝓤 H A W 𝓣 E G48 G49 b25 b42 Δ3 (Typed.give s44) at68 (Reborrow.t-mref-relend 𝓤 H A W E 𝓣 G48 10 27 9 19 (Array.Array Cell.R 32772) (Syntax.tyArray Cell.held 32772) (Syntax.tyRef (Syntax.named 9) Syntax.mut (Syntax.tyArray Cell.behind 32772)) (Syntax.tyRef Syntax.erased Syntax.mut (Syntax.tyArray Cell.behind 32772)) (Row.lease (κs .1 .1 .1 .1 .1 .1 .1 .1 .1 .0) (qs .1 .1 .1 .1 .1 .1 .1 .1 .1 .0)) (λ x. x) (Reads'.as-is 𝓤 H A (Rows.mref (Array.Array Cell.R 32772) (Syntax.tyRef (Syntax.named 9) Syntax.mut (Syntax.tyArray Cell.behind 32772)) 9)) (Reads'.room-gone 𝓤 H A (Syntax.tyRef Syntax.erased Syntax.mut (Syntax.tyArray Cell.behind 32772))) Path'.refl tt Path'.refl Path'.refl λ b o. tt) d68
+          d69 = Typed.s-seq 𝓤 H A W 𝓣 E G48 G49 b25 b42 Δ3 (Typed.give s44) at68 (Reborrow.t-mref-relend 𝓤 H A W E 𝓣 G48 10 27 9 19 held8 (Syntax.tyArray Cell.held 32772) ty29 ty19 slot8 (λ x. x) (Reads'.as-is 𝓤 H A (Rows.mref held8 ty29 9)) (Reads'.room-gone 𝓤 H A ty19) Path'.refl tt Path'.refl Path'.refl λ b o. tt) d68
 
           d70 : Typed.Typed 𝓤 H A 𝓣 E G47 b43 Δ3 at70
           d70 = Typed.g-pre 𝓤 H A W 𝓣 E G47 G48 b43 Δ3 (λ Ψ. Ψ) at69 (Lifetime.g-begin 𝓤 H A W E G47 19 (tt, (tt, ((tt, tt), ((tt, tt), ((tt, tt), ((tt, tt), ((tt, tt), ((tt, tt), ((tt, tt), ((tt, tt), (tt, (tt, (tt, (tt, (tt, (tt, (tt, (tt, (tt, (tt, (tt, (tt, (tt, (tt, (tt, (tt, (tt, (tt, (tt, (tt, tt))))))))))))))))))))))))))))))) d69
 
           d71 : Typed.Typed 𝓤 H A 𝓣 E G46 b44 Δ3 at71
-          d71 = Typed.s-seq 𝓤 H A W 𝓣 E G46 G47 b24 b43 Δ3 (Typed.give s42) at70 (Reborrow.t-mref-relend 𝓤 H A W E 𝓣 G46 9 26 8 18 (Array.Array Cell.R 65540) (Syntax.tyArray Cell.held 65540) (Syntax.tyRef (Syntax.named 8) Syntax.mut (Syntax.tyArray Cell.behind 65540)) (Syntax.tyRef Syntax.erased Syntax.mut (Syntax.tyArray Cell.behind 65540)) (Row.lease (κs .1 .1 .1 .1 .1 .1 .1 .1 .0) (qs .1 .1 .1 .1 .1 .1 .1 .1 .0)) (λ x. x) (Reads'.as-is 𝓤 H A (Rows.mref (Array.Array Cell.R 65540) (Syntax.tyRef (Syntax.named 8) Syntax.mut (Syntax.tyArray Cell.behind 65540)) 8)) (Reads'.room-gone 𝓤 H A (Syntax.tyRef Syntax.erased Syntax.mut (Syntax.tyArray Cell.behind 65540))) Path'.refl tt Path'.refl Path'.refl λ b o. tt) d70
+          d71 = Typed.s-seq 𝓤 H A W 𝓣 E G46 G47 b24 b43 Δ3 (Typed.give s42) at70 (Reborrow.t-mref-relend 𝓤 H A W E 𝓣 G46 9 26 8 18 held7 (Syntax.tyArray Cell.held 65540) ty28 ty17 slot7 (λ x. x) (Reads'.as-is 𝓤 H A (Rows.mref held7 ty28 8)) (Reads'.room-gone 𝓤 H A ty17) Path'.refl tt Path'.refl Path'.refl λ b o. tt) d70
 
           d72 : Typed.Typed 𝓤 H A 𝓣 E G45 b44 Δ3 at72
           d72 = Typed.g-pre 𝓤 H A W 𝓣 E G45 G46 b44 Δ3 (λ Ψ. Ψ) at71 (Lifetime.g-begin 𝓤 H A W E G45 18 (tt, (tt, ((tt, tt), ((tt, tt), ((tt, tt), ((tt, tt), ((tt, tt), ((tt, tt), ((tt, tt), (tt, (tt, (tt, (tt, (tt, (tt, (tt, (tt, (tt, (tt, (tt, (tt, (tt, (tt, (tt, (tt, (tt, (tt, (tt, (tt, (tt, tt))))))))))))))))))))))))))))))) d71
 
           d73 : Typed.Typed 𝓤 H A 𝓣 E G44 b45 Δ3 at73
-          d73 = Typed.s-seq 𝓤 H A W 𝓣 E G44 G45 b23 b44 Δ3 (Typed.give s40) at72 (Reborrow.t-mref-relend 𝓤 H A W E 𝓣 G44 8 25 7 17 (Array.Array (Referent.rtF (Referent.fInt Syntax.w8)) 600000) (Syntax.tyArray (Syntax.tyInt Syntax.w8) 600000) (Syntax.tyRef (Syntax.named 7) Syntax.mut (Syntax.tyArray (Syntax.tyInt Syntax.w8) 600000)) (Syntax.tyRef Syntax.erased Syntax.mut (Syntax.tyArray (Syntax.tyInt Syntax.w8) 600000)) (Row.lease (κs .1 .1 .1 .1 .1 .1 .1 .0) (qs .1 .1 .1 .1 .1 .1 .1 .0)) (λ x. x) (Reads'.as-is 𝓤 H A (Rows.mref (Array.Array (Referent.rtF (Referent.fInt Syntax.w8)) 600000) (Syntax.tyRef (Syntax.named 7) Syntax.mut (Syntax.tyArray (Syntax.tyInt Syntax.w8) 600000)) 7)) (Reads'.room-gone 𝓤 H A (Syntax.tyRef Syntax.erased Syntax.mut (Syntax.tyArray (Syntax.tyInt Syntax.w8) 600000))) Path'.refl tt Path'.refl Path'.refl λ b o. tt) d72
+          d73 = Typed.s-seq 𝓤 H A W 𝓣 E G44 G45 b23 b44 Δ3 (Typed.give s40) at72 (Reborrow.t-mref-relend 𝓤 H A W E 𝓣 G44 8 25 7 17 held6 ty14 ty27 ty15 slot6 (λ x. x) (Reads'.as-is 𝓤 H A (Rows.mref held6 ty27 7)) (Reads'.room-gone 𝓤 H A ty15) Path'.refl tt Path'.refl Path'.refl λ b o. tt) d72
 
           d74 : Typed.Typed 𝓤 H A 𝓣 E G43 b45 Δ3 at74
           d74 = Typed.g-pre 𝓤 H A W 𝓣 E G43 G44 b45 Δ3 (λ Ψ. Ψ) at73 (Lifetime.g-begin 𝓤 H A W E G43 17 (tt, (tt, ((tt, tt), ((tt, tt), ((tt, tt), ((tt, tt), ((tt, tt), ((tt, tt), (tt, (tt, (tt, (tt, (tt, (tt, (tt, (tt, (tt, (tt, (tt, (tt, (tt, (tt, (tt, (tt, (tt, (tt, (tt, (tt, (tt, (tt, tt))))))))))))))))))))))))))))))) d73
 
           d75 : Typed.Typed 𝓤 H A 𝓣 E G42 b46 Δ3 at75
-          d75 = Typed.s-seq 𝓤 H A W 𝓣 E G42 G43 b22 b45 Δ3 (Typed.give s38) at74 (Reborrow.t-mref-relend 𝓤 H A W E 𝓣 G42 7 24 6 16 (Array.Array (Referent.rtF (Referent.fInt Syntax.w32)) 262160) (Syntax.tyArray (Syntax.tyInt Syntax.w32) 262160) (Syntax.tyRef (Syntax.named 6) Syntax.mut (Syntax.tyArray (Syntax.tyInt Syntax.w32) 262160)) (Syntax.tyRef Syntax.erased Syntax.mut (Syntax.tyArray (Syntax.tyInt Syntax.w32) 262160)) (Row.lease (κs .1 .1 .1 .1 .1 .1 .0) (qs .1 .1 .1 .1 .1 .1 .0)) (λ x. x) (Reads'.as-is 𝓤 H A (Rows.mref (Array.Array (Referent.rtF (Referent.fInt Syntax.w32)) 262160) (Syntax.tyRef (Syntax.named 6) Syntax.mut (Syntax.tyArray (Syntax.tyInt Syntax.w32) 262160)) 6)) (Reads'.room-gone 𝓤 H A (Syntax.tyRef Syntax.erased Syntax.mut (Syntax.tyArray (Syntax.tyInt Syntax.w32) 262160))) Path'.refl tt Path'.refl Path'.refl λ b o. tt) d74
+          d75 = Typed.s-seq 𝓤 H A W 𝓣 E G42 G43 b22 b45 Δ3 (Typed.give s38) at74 (Reborrow.t-mref-relend 𝓤 H A W E 𝓣 G42 7 24 6 16 held5 ty12 ty26 ty13 slot5 (λ x. x) (Reads'.as-is 𝓤 H A (Rows.mref held5 ty26 6)) (Reads'.room-gone 𝓤 H A ty13) Path'.refl tt Path'.refl Path'.refl λ b o. tt) d74
 
           d76 : Typed.Typed 𝓤 H A 𝓣 E G41 b46 Δ3 at76
           d76 = Typed.g-pre 𝓤 H A W 𝓣 E G41 G42 b46 Δ3 (λ Ψ. Ψ) at75 (Lifetime.g-begin 𝓤 H A W E G41 16 (tt, (tt, ((tt, tt), ((tt, tt), ((tt, tt), ((tt, tt), ((tt, tt), (tt, (tt, (tt, (tt, (tt, (tt, (tt, (tt, (tt, (tt, (tt, (tt, (tt, (tt, (tt, (tt, (tt, (tt, (tt, (tt, (tt, (tt, (tt, tt))))))))))))))))))))))))))))))) d75
 
           d77 : Typed.Typed 𝓤 H A 𝓣 E G40 b47 Δ3 at77
-          d77 = Typed.s-seq 𝓤 H A W 𝓣 E G40 G41 b21 b46 Δ3 (Typed.give s36) at76 (Reborrow.t-mref-relend 𝓤 H A W E 𝓣 G40 6 23 5 15 (Array.Array (Referent.rtF (Referent.fInt Syntax.w32)) 32772) (Syntax.tyArray (Syntax.tyInt Syntax.w32) 32772) (Syntax.tyRef (Syntax.named 5) Syntax.mut (Syntax.tyArray (Syntax.tyInt Syntax.w32) 32772)) (Syntax.tyRef Syntax.erased Syntax.mut (Syntax.tyArray (Syntax.tyInt Syntax.w32) 32772)) (Row.lease (κs .1 .1 .1 .1 .1 .0) (qs .1 .1 .1 .1 .1 .0)) (λ x. x) (Reads'.as-is 𝓤 H A (Rows.mref (Array.Array (Referent.rtF (Referent.fInt Syntax.w32)) 32772) (Syntax.tyRef (Syntax.named 5) Syntax.mut (Syntax.tyArray (Syntax.tyInt Syntax.w32) 32772)) 5)) (Reads'.room-gone 𝓤 H A (Syntax.tyRef Syntax.erased Syntax.mut (Syntax.tyArray (Syntax.tyInt Syntax.w32) 32772))) Path'.refl tt Path'.refl Path'.refl λ b o. tt) d76
+          d77 = Typed.s-seq 𝓤 H A W 𝓣 E G40 G41 b21 b46 Δ3 (Typed.give s36) at76 (Reborrow.t-mref-relend 𝓤 H A W E 𝓣 G40 6 23 5 15 held2 ty4 ty25 ty5 slot4 (λ x. x) (Reads'.as-is 𝓤 H A (Rows.mref held2 ty25 5)) (Reads'.room-gone 𝓤 H A ty5) Path'.refl tt Path'.refl Path'.refl λ b o. tt) d76
 
           d78 : Typed.Typed 𝓤 H A 𝓣 E G39 b47 Δ3 at78
           d78 = Typed.g-pre 𝓤 H A W 𝓣 E G39 G40 b47 Δ3 (λ Ψ. Ψ) at77 (Lifetime.g-begin 𝓤 H A W E G39 15 (tt, (tt, ((tt, tt), ((tt, tt), ((tt, tt), ((tt, tt), (tt, (tt, (tt, (tt, (tt, (tt, (tt, (tt, (tt, (tt, (tt, (tt, (tt, (tt, (tt, (tt, (tt, (tt, (tt, (tt, (tt, (tt, (tt, (tt, tt))))))))))))))))))))))))))))))) d77
 
           d79 : Typed.Typed 𝓤 H A 𝓣 E G38 b48 Δ3 at79
-          d79 = Typed.s-seq 𝓤 H A W 𝓣 E G38 G39 b20 b47 Δ3 (Typed.give s34) at78 (Reborrow.t-mref-relend 𝓤 H A W E 𝓣 G38 5 22 4 14 (Array.Array (Referent.rtF (Referent.fInt Syntax.w32)) 32772) (Syntax.tyArray (Syntax.tyInt Syntax.w32) 32772) (Syntax.tyRef (Syntax.named 4) Syntax.mut (Syntax.tyArray (Syntax.tyInt Syntax.w32) 32772)) (Syntax.tyRef Syntax.erased Syntax.mut (Syntax.tyArray (Syntax.tyInt Syntax.w32) 32772)) (Row.lease (κs .1 .1 .1 .1 .0) (qs .1 .1 .1 .1 .0)) (λ x. x) (Reads'.as-is 𝓤 H A (Rows.mref (Array.Array (Referent.rtF (Referent.fInt Syntax.w32)) 32772) (Syntax.tyRef (Syntax.named 4) Syntax.mut (Syntax.tyArray (Syntax.tyInt Syntax.w32) 32772)) 4)) (Reads'.room-gone 𝓤 H A (Syntax.tyRef Syntax.erased Syntax.mut (Syntax.tyArray (Syntax.tyInt Syntax.w32) 32772))) Path'.refl tt Path'.refl Path'.refl λ b o. tt) d78
+          d79 = Typed.s-seq 𝓤 H A W 𝓣 E G38 G39 b20 b47 Δ3 (Typed.give s34) at78 (Reborrow.t-mref-relend 𝓤 H A W E 𝓣 G38 5 22 4 14 held2 ty4 ty24 ty5 slot3 (λ x. x) (Reads'.as-is 𝓤 H A (Rows.mref held2 ty24 4)) (Reads'.room-gone 𝓤 H A ty5) Path'.refl tt Path'.refl Path'.refl λ b o. tt) d78
 
           d80 : Typed.Typed 𝓤 H A 𝓣 E G37 b48 Δ3 at80
           d80 = Typed.g-pre 𝓤 H A W 𝓣 E G37 G38 b48 Δ3 (λ Ψ. Ψ) at79 (Lifetime.g-begin 𝓤 H A W E G37 14 (tt, (tt, ((tt, tt), ((tt, tt), ((tt, tt), (tt, (tt, (tt, (tt, (tt, (tt, (tt, (tt, (tt, (tt, (tt, (tt, (tt, (tt, (tt, (tt, (tt, (tt, (tt, (tt, (tt, (tt, (tt, (tt, (tt, tt))))))))))))))))))))))))))))))) d79
 
           d81 : Typed.Typed 𝓤 H A 𝓣 E G36 b49 Δ3 at81
-          d81 = Typed.s-seq 𝓤 H A W 𝓣 E G36 G37 b19 b48 Δ3 (Typed.give s32) at80 (Reborrow.t-mref-relend 𝓤 H A W E 𝓣 G36 4 21 3 13 (Array.Array (Referent.rtF (Referent.fInt Syntax.w32)) 65540) (Syntax.tyArray (Syntax.tyInt Syntax.w32) 65540) (Syntax.tyRef (Syntax.named 3) Syntax.mut (Syntax.tyArray (Syntax.tyInt Syntax.w32) 65540)) (Syntax.tyRef Syntax.erased Syntax.mut (Syntax.tyArray (Syntax.tyInt Syntax.w32) 65540)) (Row.lease (κs .1 .1 .1 .0) (qs .1 .1 .1 .0)) (λ x. x) (Reads'.as-is 𝓤 H A (Rows.mref (Array.Array (Referent.rtF (Referent.fInt Syntax.w32)) 65540) (Syntax.tyRef (Syntax.named 3) Syntax.mut (Syntax.tyArray (Syntax.tyInt Syntax.w32) 65540)) 3)) (Reads'.room-gone 𝓤 H A (Syntax.tyRef Syntax.erased Syntax.mut (Syntax.tyArray (Syntax.tyInt Syntax.w32) 65540))) Path'.refl tt Path'.refl Path'.refl λ b o. tt) d80
+          d81 = Typed.s-seq 𝓤 H A W 𝓣 E G36 G37 b19 b48 Δ3 (Typed.give s32) at80 (Reborrow.t-mref-relend 𝓤 H A W E 𝓣 G36 4 21 3 13 held4 ty10 ty23 ty11 slot2 (λ x. x) (Reads'.as-is 𝓤 H A (Rows.mref held4 ty23 3)) (Reads'.room-gone 𝓤 H A ty11) Path'.refl tt Path'.refl Path'.refl λ b o. tt) d80
 
           d82 : Typed.Typed 𝓤 H A 𝓣 E G35 b49 Δ3 at82
           d82 = Typed.g-pre 𝓤 H A W 𝓣 E G35 G36 b49 Δ3 (λ Ψ. Ψ) at81 (Lifetime.g-begin 𝓤 H A W E G35 13 (tt, (tt, ((tt, tt), ((tt, tt), (tt, (tt, (tt, (tt, (tt, (tt, (tt, (tt, (tt, (tt, (tt, (tt, (tt, (tt, (tt, (tt, (tt, (tt, (tt, (tt, (tt, (tt, (tt, (tt, (tt, (tt, tt))))))))))))))))))))))))))))))) d81
 
           d83 : Typed.Typed 𝓤 H A 𝓣 E G34 b50 Δ3 at83
-          d83 = Typed.s-seq 𝓤 H A W 𝓣 E G34 G35 b18 b49 Δ3 (Typed.give s30) at82 (Reborrow.t-mref-relend 𝓤 H A W E 𝓣 G34 3 20 2 12 (Array.Array (Referent.rtF (Referent.fInt Syntax.w8)) 16388) (Syntax.tyArray (Syntax.tyInt Syntax.w8) 16388) (Syntax.tyRef (Syntax.named 2) Syntax.mut (Syntax.tyArray (Syntax.tyInt Syntax.w8) 16388)) (Syntax.tyRef Syntax.erased Syntax.mut (Syntax.tyArray (Syntax.tyInt Syntax.w8) 16388)) (Row.lease (κs .1 .1 .0) (qs .1 .1 .0)) (λ x. x) (Reads'.as-is 𝓤 H A (Rows.mref (Array.Array (Referent.rtF (Referent.fInt Syntax.w8)) 16388) (Syntax.tyRef (Syntax.named 2) Syntax.mut (Syntax.tyArray (Syntax.tyInt Syntax.w8) 16388)) 2)) (Reads'.room-gone 𝓤 H A (Syntax.tyRef Syntax.erased Syntax.mut (Syntax.tyArray (Syntax.tyInt Syntax.w8) 16388))) Path'.refl tt Path'.refl Path'.refl λ b o. tt) d82
+          d83 = Typed.s-seq 𝓤 H A W 𝓣 E G34 G35 b18 b49 Δ3 (Typed.give s30) at82 (Reborrow.t-mref-relend 𝓤 H A W E 𝓣 G34 3 20 2 12 held3 ty8 ty22 ty9 slot1 (λ x. x) (Reads'.as-is 𝓤 H A (Rows.mref held3 ty22 2)) (Reads'.room-gone 𝓤 H A ty9) Path'.refl tt Path'.refl Path'.refl λ b o. tt) d82
 
           d84 : Typed.Typed 𝓤 H A 𝓣 E G33 b50 Δ3 at84
           d84 = Typed.g-pre 𝓤 H A W 𝓣 E G33 G34 b50 Δ3 (λ Ψ. Ψ) at83 (Lifetime.g-begin 𝓤 H A W E G33 12 (tt, (tt, ((tt, tt), (tt, (tt, (tt, (tt, (tt, (tt, (tt, (tt, (tt, (tt, (tt, (tt, (tt, (tt, (tt, (tt, (tt, (tt, (tt, (tt, (tt, (tt, (tt, (tt, (tt, (tt, (tt, tt))))))))))))))))))))))))))))))) d83
 
           d85 : Typed.Typed 𝓤 H A 𝓣 E G32 b51 Δ3 at85
-          d85 = Typed.s-seq 𝓤 H A W 𝓣 E G32 G33 b17 b50 Δ3 (Typed.give s28) at84 (Reshare.t-mref-reshare 𝓤 H A W E 𝓣 G32 2 19 1 11 (Array.Array (Referent.rtF (Referent.fInt Syntax.w32)) 32772) (Syntax.tyArray (Syntax.tyInt Syntax.w32) 32772) (Syntax.tyRef (Syntax.named 1) Syntax.mut (Syntax.tyArray (Syntax.tyInt Syntax.w32) 32772)) (Syntax.tyRef Syntax.erased Syntax.imm (Syntax.tyArray (Syntax.tyInt Syntax.w32) 32772)) (Row.lease (κs .1 .0) (qs .1 .0)) (λ x. x) (Reads'.as-is 𝓤 H A (Rows.mref (Array.Array (Referent.rtF (Referent.fInt Syntax.w32)) 32772) (Syntax.tyRef (Syntax.named 1) Syntax.mut (Syntax.tyArray (Syntax.tyInt Syntax.w32) 32772)) 1)) (Reads'.room-gone 𝓤 H A (Syntax.tyRef Syntax.erased Syntax.imm (Syntax.tyArray (Syntax.tyInt Syntax.w32) 32772))) Path'.refl tt Path'.refl Path'.refl λ b o. tt) d84
+          d85 = Typed.s-seq 𝓤 H A W 𝓣 E G32 G33 b17 b50 Δ3 (Typed.give s28) at84 (Reshare.t-mref-reshare 𝓤 H A W E 𝓣 G32 2 19 1 11 held2 ty4 ty21 ty6 slot0 (λ x. x) (Reads'.as-is 𝓤 H A (Rows.mref held2 ty21 1)) (Reads'.room-gone 𝓤 H A ty6) Path'.refl tt Path'.refl Path'.refl λ b o. tt) d84
 
           d86 : Typed.Typed 𝓤 H A 𝓣 E G31 b51 Δ3 at86
           d86 = Typed.g-pre 𝓤 H A W 𝓣 E G31 G32 b51 Δ3 (λ Ψ. Ψ) at85 (Lifetime.g-begin 𝓤 H A W E G31 11 (tt, (tt, (tt, (tt, (tt, (tt, (tt, (tt, (tt, (tt, (tt, (tt, (tt, (tt, (tt, (tt, (tt, (tt, (tt, (tt, (tt, (tt, (tt, (tt, (tt, (tt, (tt, (tt, (tt, (tt, tt))))))))))))))))))))))))))))))) d85
@@ -1896,16 +2410,16 @@ module _ (claims· : Claims) where
           d87 = Typed.g-pre 𝓤 H A W 𝓣 E G30 G31 b51 Δ3 (λ Ψ. Ψ) at86 (Lifetime.g-forget 𝓤 H A W E G30 10 Row.dead Path'.refl) d86
 
           d88 : Typed.Typed 𝓤 H A 𝓣 E G29 b51 Δ3 at88
-          d88 = Typed.g-pre 𝓤 H A W 𝓣 E G29 G30 b51 Δ3 (Typed.ask s25) at87 (Reborrow.g-back-mref 𝓤 H A W E G29 18 2 1 10 (Array.Array (Referent.rtF (Referent.fInt Syntax.w32)) 32772) (Syntax.tyRef (Syntax.named 1) Syntax.mut (Syntax.tyArray (Syntax.tyInt Syntax.w32) 32772)) (Syntax.tyRef Syntax.erased Syntax.mut (Syntax.tyArray (Syntax.tyInt Syntax.w32) 32772)) (Row.lease (κs .1 .0) (qs .1 .0)) (λ x. x) (λ x. x) (Reads'.as-is 𝓤 H A (Rows.mleft (Array.Array (Referent.rtF (Referent.fInt Syntax.w32)) 32772) (Syntax.tyRef Syntax.erased Syntax.mut (Syntax.tyArray (Syntax.tyInt Syntax.w32) 32772)))) (Reads'.as-is 𝓤 H A (Rows.mref-owed (Array.Array (Referent.rtF (Referent.fInt Syntax.w32)) 32772) (Syntax.tyRef (Syntax.named 1) Syntax.mut (Syntax.tyArray (Syntax.tyInt Syntax.w32) 32772)) 1 10 (Row.lease (κs .1 .0) (qs .1 .0)))) Path'.refl Path'.refl) d87
+          d88 = Typed.g-pre 𝓤 H A W 𝓣 E G29 G30 b51 Δ3 (Typed.ask s25) at87 (Reborrow.g-back-mref 𝓤 H A W E G29 18 2 1 10 held2 ty21 ty5 slot0 (λ x. x) (λ x. x) (Reads'.as-is 𝓤 H A (Rows.mleft held2 ty5)) (Reads'.as-is 𝓤 H A (Rows.mref-owed held2 ty21 1 10 slot0)) Path'.refl Path'.refl) d87
 
           d89 : Typed.Typed 𝓤 H A 𝓣 E G28 b51 Δ3 at89
           d89 = Typed.g-pre 𝓤 H A W 𝓣 E G28 G29 b51 Δ3 (λ Ψ. Ψ) at88 (Lifetime.g-end 𝓤 H A W E G28 10 Path'.refl) d88
 
           d90 : Typed.Typed 𝓤 H A 𝓣 E G27 b52 Δ3 at90
-          d90 = Typed.s-seq 𝓤 H A W 𝓣 E G27 G28 b16 b51 Δ3 (Typed.both s23) at89 (Plain.t-call-plain 𝓤 H A W 𝓣 2 ps·1 r·1 (claims· .2) (claims· .3) "script::scan::next_line" (known .1) E (λ pos β. β) G27 (record { pos = 1; ty = Syntax.tyRef (Syntax.named 0) Syntax.imm (Syntax.tyInt Syntax.w8); ref = λ x. x }, (Num.vAt 12 λ x. x, (record { pos = 18; ty = Syntax.tyRef Syntax.erased Syntax.mut (Syntax.tyArray (Syntax.tyInt Syntax.w32) 32772); ref = λ x. x }, tt))) 14 (List._∷_ 0 (List._∷_ 10 List.[])) (Call.sub-id 𝓤 H A W (G27 .slots)) (ShrSlice.spares-sslice 𝓤 H A W (Referent.rtF (Referent.fInt Syntax.w8)) (Syntax.tyRef (Syntax.named 0) Syntax.imm (Syntax.tyInt Syntax.w8)) 0, Shared.reads-sslice 𝓤 H A W (Referent.rtF (Referent.fInt Syntax.w8)) (Syntax.tyRef (Syntax.named 0) Syntax.imm (Syntax.tyInt Syntax.w8)) 0, Path'.refl, ((Scalar.reads-sc 𝓤 H A W (Row.sInt Syntax.w64), Path'.refl), (Reads'.as-is 𝓤 H A (Rows.mref (Array.Array (Referent.rtF (Referent.fInt Syntax.w32)) 32772) (Syntax.tyRef Syntax.erased Syntax.mut (Syntax.tyArray (Syntax.tyInt Syntax.w32) 32772)) 10), Reads'.reads-mref 𝓤 H A W (Array.Array (Referent.rtF (Referent.fInt Syntax.w32)) 32772) (Syntax.tyRef Syntax.erased Syntax.mut (Syntax.tyArray (Syntax.tyInt Syntax.w32) 32772)) 10, Path'.refl, tt))) (Reads'.room-gone 𝓤 H A (Syntax.tyStruct (List._∷_ 115 (List._∷_ 99 (List._∷_ 114 (List._∷_ 105 (List._∷_ 112 (List._∷_ 116 (List._∷_ 58 (List._∷_ 58 (List._∷_ 115 (List._∷_ 99 (List._∷_ 97 (List._∷_ 110 (List._∷_ 58 (List._∷_ 58 (List._∷_ 76 (List._∷_ 105 (List._∷_ 110 (List._∷_ 101 List.[])))))))))))))))))) (Syntax.tcons (Syntax.tyInt Syntax.w32) (Syntax.tcons (Syntax.tyInt Syntax.w64) (Syntax.tcons (Syntax.tyInt Syntax.w64) (Syntax.tcons (Syntax.tyInt Syntax.w64) (Syntax.tcons (Syntax.tyInt Syntax.w64) Syntax.tnil))))))) (tt, (tt, tt)) Path'.refl) d89
+          d90 = Typed.s-seq 𝓤 H A W 𝓣 E G27 G28 b16 b51 Δ3 (Typed.both s23) at89 (Plain.t-call-plain 𝓤 H A W 𝓣 2 ps·1 r·1 (claims· .2) (claims· .3) "script::scan::next_line" (known .1) E (λ pos β. β) G27 (record { pos = 1; ty = Syntax.tyRef (Syntax.named 0) Syntax.imm ty7; ref = λ x. x }, (Num.vAt 12 λ x. x, (record { pos = 18; ty = Syntax.tyRef Syntax.erased Syntax.mut ty4; ref = λ x. x }, tt))) 14 (List._∷_ 0 (List._∷_ 10 List.[])) (Call.sub-id 𝓤 H A W (G27 .slots)) (ShrSlice.spares-sslice 𝓤 H A W held0 ty20 0, Shared.reads-sslice 𝓤 H A W held0 ty20 0, Path'.refl, ((Scalar.reads-sc 𝓤 H A W sc0, Path'.refl), (Reads'.as-is 𝓤 H A (Rows.mref held2 ty5 10), Reads'.reads-mref 𝓤 H A W held2 ty5 10, Path'.refl, tt))) (Reads'.room-gone 𝓤 H A ty3) (tt, (tt, tt)) Path'.refl) d89
 
           d91 : Typed.Typed 𝓤 H A 𝓣 E G26 b53 Δ3 at91
-          d91 = Typed.s-seq 𝓤 H A W 𝓣 E G26 G27 b15 b52 Δ3 (Typed.give s22) at90 (Reborrow.t-mref-relend 𝓤 H A W E 𝓣 G26 2 18 1 10 (Array.Array (Referent.rtF (Referent.fInt Syntax.w32)) 32772) (Syntax.tyArray (Syntax.tyInt Syntax.w32) 32772) (Syntax.tyRef (Syntax.named 1) Syntax.mut (Syntax.tyArray (Syntax.tyInt Syntax.w32) 32772)) (Syntax.tyRef Syntax.erased Syntax.mut (Syntax.tyArray (Syntax.tyInt Syntax.w32) 32772)) (Row.lease (κs .1 .0) (qs .1 .0)) (λ x. x) (Reads'.as-is 𝓤 H A (Rows.mref (Array.Array (Referent.rtF (Referent.fInt Syntax.w32)) 32772) (Syntax.tyRef (Syntax.named 1) Syntax.mut (Syntax.tyArray (Syntax.tyInt Syntax.w32) 32772)) 1)) (Reads'.room-gone 𝓤 H A (Syntax.tyRef Syntax.erased Syntax.mut (Syntax.tyArray (Syntax.tyInt Syntax.w32) 32772))) Path'.refl tt Path'.refl Path'.refl λ b o. tt) d90
+          d91 = Typed.s-seq 𝓤 H A W 𝓣 E G26 G27 b15 b52 Δ3 (Typed.give s22) at90 (Reborrow.t-mref-relend 𝓤 H A W E 𝓣 G26 2 18 1 10 held2 ty4 ty21 ty5 slot0 (λ x. x) (Reads'.as-is 𝓤 H A (Rows.mref held2 ty21 1)) (Reads'.room-gone 𝓤 H A ty5) Path'.refl tt Path'.refl Path'.refl λ b o. tt) d90
 
           d92 : Typed.Typed 𝓤 H A 𝓣 E G17 b53 Δ3 at92
           d92 = Typed.g-pre 𝓤 H A W 𝓣 E G17 G26 b53 Δ3 (λ Ψ. Ψ) at91 (Lifetime.g-begin 𝓤 H A W E G17 10 (tt, (tt, (tt, (tt, (tt, (tt, (tt, (tt, (tt, (tt, (tt, (tt, (tt, (tt, (tt, (tt, (tt, (tt, (tt, (tt, (tt, (tt, (tt, (tt, (tt, (tt, (tt, (tt, (tt, (tt, tt))))))))))))))))))))))))))))))) d91
@@ -1914,16 +2428,16 @@ module _ (claims· : Claims) where
           d93 = Typed.t-seq 𝓤 H A W 𝓣 E G16 G17 b14 b53 Δ3 at18 at92 d18 d92
 
           d94 : Typed.Typed 𝓤 H A 𝓣 E G15 b55 Δ3 at94
-          d94 = Typed.s-seq 𝓤 H A W 𝓣 E G15 G16 b9 b54 Δ3 (Typed.ask s12) at93 (Scalar.t-op2 𝓤 H A W E 𝓣 G15 Syntax.eq (Scalar.oAt 12 (Syntax.tyInt Syntax.w64) (Row.valS (Row.sInt Syntax.w64))) (Scalar.oAt 17 (Syntax.tyInt Syntax.w64) (Row.valS (Row.sInt Syntax.w64))) 16 (Rows.sc-here Row.sBool) Syntax.tyBool (Row.valS Row.sBool) (Row.sBool .of) (Scalar.reads-sc 𝓤 H A W (Row.sInt Syntax.w64), Path'.refl) (Scalar.reads-sc 𝓤 H A W (Row.sInt Syntax.w64), Path'.refl) (Reads'.room-gone 𝓤 H A Syntax.tyBool) (Scalar.holds-sc 𝓤 H A W Row.sBool) Path'.refl (λ u. Path'.refl) λ u. tt) d93
+          d94 = Typed.s-seq 𝓤 H A W 𝓣 E G15 G16 b9 b54 Δ3 (Typed.ask s12) at93 (Scalar.t-op2 𝓤 H A W E 𝓣 G15 Syntax.eq (Scalar.oAt 12 ty1 (Row.valS sc0)) (Scalar.oAt 17 ty1 (Row.valS sc0)) 16 (Rows.sc-here Row.sBool) Syntax.tyBool (Row.valS Row.sBool) (Row.sBool .of) (Scalar.reads-sc 𝓤 H A W sc0, Path'.refl) (Scalar.reads-sc 𝓤 H A W sc0, Path'.refl) (Reads'.room-gone 𝓤 H A Syntax.tyBool) (Scalar.holds-sc 𝓤 H A W Row.sBool) Path'.refl (λ u. Path'.refl) λ u. tt) d93
 
           d95 : Typed.Typed 𝓤 H A 𝓣 E G9 b56 Δ3 at95
-          d95 = Typed.s-seq 𝓤 H A W 𝓣 E G9 G15 b8 b55 Δ3 (Typed.pass T9 T15 s11) at94 (Scalar.t-use 𝓤 H A W E 𝓣 G9 (Scalar.oFld 1 (List._∷_ (Syntax.field 1) List.[]) (Syntax.tyInt Syntax.w64) 8 Shared.lenV) 17 (Rows.sc-here (Row.sInt Syntax.w64)) (Syntax.tyInt Syntax.w64) (Row.valS (Row.sInt Syntax.w64)) (Row.sInt Syntax.w64 .of) (Shared.reads-sslice-len 𝓤 H A W (Referent.rtF (Referent.fInt Syntax.w8)) (Syntax.tyRef (Syntax.named 0) Syntax.imm (Syntax.tyInt Syntax.w8)) 0 8 Path'.refl, Path'.refl) (Reads'.room-gone 𝓤 H A (Syntax.tyInt Syntax.w64)) (Scalar.holds-sc 𝓤 H A W (Row.sInt Syntax.w64)) Path'.refl (λ u. Path'.refl) λ u. tt) d94
+          d95 = Typed.s-seq 𝓤 H A W 𝓣 E G9 G15 b8 b55 Δ3 (Typed.pass T9 T15 s11) at94 (Scalar.t-use 𝓤 H A W E 𝓣 G9 (Scalar.oFld 1 steps0 ty1 8 Shared.lenV) 17 (Rows.sc-here sc0) ty1 (Row.valS sc0) (Row.sInt Syntax.w64 .of) (Shared.reads-sslice-len 𝓤 H A W held0 ty20 0 8 Path'.refl, Path'.refl) (Reads'.room-gone 𝓤 H A ty1) (Scalar.holds-sc 𝓤 H A W sc0) Path'.refl (λ u. Path'.refl) λ u. tt) d94
 
           d96 : Typed.Typed 𝓤 H A 𝓣 E G8 b57 Δ3 at96
           d96 = Typed.t-seq 𝓤 H A W 𝓣 E G8 G9 b7 b56 Δ3 at7 at95 d7 d95
 
           d97 : Typed.Typed 𝓤 H A 𝓣 E G6 b58 Δ3 at97
-          d97 = Typed.s-seq 𝓤 H A W 𝓣 E G6 G8 b4 b57 Δ3 (Typed.ask s5) at96 (Scalar.t-op2 𝓤 H A W E 𝓣 G6 (Syntax.lt Syntax.unsigned) (Scalar.oAt 13 (Syntax.tyInt Syntax.w64) (Row.valS (Row.sInt Syntax.w64))) (Scalar.oAt 15 (Syntax.tyInt Syntax.w64) (Row.valS (Row.sInt Syntax.w64))) 16 (Rows.sc-here Row.sBool) Syntax.tyBool (Row.valS Row.sBool) (Row.sBool .of) (Scalar.reads-sc 𝓤 H A W (Row.sInt Syntax.w64), Path'.refl) (Scalar.reads-sc 𝓤 H A W (Row.sInt Syntax.w64), Path'.refl) (Reads'.room-gone 𝓤 H A Syntax.tyBool) (Scalar.holds-sc 𝓤 H A W Row.sBool) Path'.refl (λ u. Path'.refl) λ u. tt) d96
+          d97 = Typed.s-seq 𝓤 H A W 𝓣 E G6 G8 b4 b57 Δ3 (Typed.ask s5) at96 (Scalar.t-op2 𝓤 H A W E 𝓣 G6 (Syntax.lt Syntax.unsigned) (Scalar.oAt 13 ty1 (Row.valS sc0)) (Scalar.oAt 15 ty1 (Row.valS sc0)) 16 (Rows.sc-here Row.sBool) Syntax.tyBool (Row.valS Row.sBool) (Row.sBool .of) (Scalar.reads-sc 𝓤 H A W sc0, Path'.refl) (Scalar.reads-sc 𝓤 H A W sc0, Path'.refl) (Reads'.room-gone 𝓤 H A Syntax.tyBool) (Scalar.holds-sc 𝓤 H A W Row.sBool) Path'.refl (λ u. Path'.refl) λ u. tt) d96
 
           d98 : Typed.Typed 𝓤 H A 𝓣 E G6 b59 Δ2 at98
           d98 = Typed.t-loop-by 𝓤 H A W 𝓣 E G6 b58 Δ2 put0 (λ u vs. Inv·0 (Row.get 1 (T6 .locals) u .now) (Row.get 2 (T6 .locals) u .now) (Row.get 3 (T6 .locals) u .now) (Row.get 4 (T6 .locals) u .now) (Row.get 5 (T6 .locals) u .now) (Row.get 6 (T6 .locals) u .now) (Row.get 7 (T6 .locals) u .now) (Row.get 8 (T6 .locals) u .now) (Row.get 9 (T6 .locals) u .now) (Row.get 10 (T6 .locals) u .now) (Row.get 11 (T6 .locals) u) (Row.get 12 (T6 .locals) u) (Row.get 13 (T6 .locals) u) (Row.get 15 (T6 .locals) u) (vs .0) (vs .1) (vs .2) (vs .3) (vs .4) (vs .5) (vs .6) (vs .7) (vs .8) (vs .9) (vs .10) (vs .11)) (λ u vs. μ·0 (Row.get 1 (T6 .locals) u .now) (Row.get 2 (T6 .locals) u .now) (Row.get 3 (T6 .locals) u .now) (Row.get 4 (T6 .locals) u .now) (Row.get 5 (T6 .locals) u .now) (Row.get 6 (T6 .locals) u .now) (Row.get 7 (T6 .locals) u .now) (Row.get 8 (T6 .locals) u .now) (Row.get 9 (T6 .locals) u .now) (Row.get 10 (T6 .locals) u .now) (Row.get 11 (T6 .locals) u) (Row.get 12 (T6 .locals) u) (Row.get 13 (T6 .locals) u) (Row.get 15 (T6 .locals) u) (vs .0) (vs .1) (vs .2) (vs .3) (vs .4) (vs .5) (vs .6) (vs .7) (vs .8) (vs .9) (vs .10) (vs .11)) at97 d97
@@ -1935,7 +2449,7 @@ module _ (claims· : Claims) where
           d100 = Typed.t-return 𝓤 H A W 𝓣 E Δ0 tt
 
           d101 : Typed.Typed 𝓤 H A 𝓣 E G97 b62 Δ0 at101
-          d101 = Typed.g-pre 𝓤 H A W 𝓣 E G97 G98 b62 Δ0 (Typed.pass T97 T98 s92) at100 (Scalar.g-room 𝓤 H A W E G97 12 (Syntax.tyInt Syntax.w64) (Scalar.room-sc 𝓤 H A W (Row.sInt Syntax.w64))) d100
+          d101 = Typed.g-pre 𝓤 H A W 𝓣 E G97 G98 b62 Δ0 (Typed.pass T97 T98 s92) at100 (Scalar.g-room 𝓤 H A W E G97 12 ty1 (Scalar.room-sc 𝓤 H A W sc0)) d100
 
           d102 : Typed.Typed 𝓤 H A 𝓣 E G7 b63 Δ0 at102
           d102 = Typed.s-seq 𝓤 H A W 𝓣 E G7 G97 b61 b62 Δ0 (Typed.pass T7 T97 s91) at101 (Scalar.t-use 𝓤 H A W E 𝓣 G7 Scalar.oUnit 0 (Rows.sc-here Row.sUnit) Syntax.tyUnit (Row.valS Row.sUnit) (Row.sUnit .of) tt (Reads'.room-gone 𝓤 H A Syntax.tyUnit) (Scalar.holds-sc 𝓤 H A W Row.sUnit) Path'.refl (λ u. Path'.refl) λ u. tt) d101
@@ -1944,35 +2458,35 @@ module _ (claims· : Claims) where
           d103 = Typed.t-seq 𝓤 H A W 𝓣 E G6 G7 b60 b63 Δ0 at99 at102 d99 d102
 
           d104 : Typed.Typed 𝓤 H A 𝓣 E G5 b65 Δ0 at104
-          d104 = Typed.s-seq 𝓤 H A W 𝓣 E G5 G6 b3 b64 Δ0 (Typed.pass T5 T6 s4) at103 (Scalar.t-use 𝓤 H A W E 𝓣 G5 (Scalar.oFld 1 (List._∷_ (Syntax.field 1) List.[]) (Syntax.tyInt Syntax.w64) 8 Shared.lenV) 15 (Rows.sc-here (Row.sInt Syntax.w64)) (Syntax.tyInt Syntax.w64) (Row.valS (Row.sInt Syntax.w64)) (Row.sInt Syntax.w64 .of) (Shared.reads-sslice-len 𝓤 H A W (Referent.rtF (Referent.fInt Syntax.w8)) (Syntax.tyRef (Syntax.named 0) Syntax.imm (Syntax.tyInt Syntax.w8)) 0 8 Path'.refl, Path'.refl) (Reads'.room-gone 𝓤 H A (Syntax.tyInt Syntax.w64)) (Scalar.holds-sc 𝓤 H A W (Row.sInt Syntax.w64)) Path'.refl (λ u. Path'.refl) λ u. tt) d103
+          d104 = Typed.s-seq 𝓤 H A W 𝓣 E G5 G6 b3 b64 Δ0 (Typed.pass T5 T6 s4) at103 (Scalar.t-use 𝓤 H A W E 𝓣 G5 (Scalar.oFld 1 steps0 ty1 8 Shared.lenV) 15 (Rows.sc-here sc0) ty1 (Row.valS sc0) (Row.sInt Syntax.w64 .of) (Shared.reads-sslice-len 𝓤 H A W held0 ty20 0 8 Path'.refl, Path'.refl) (Reads'.room-gone 𝓤 H A ty1) (Scalar.holds-sc 𝓤 H A W sc0) Path'.refl (λ u. Path'.refl) λ u. tt) d103
 
           d105 : Typed.Typed 𝓤 H A 𝓣 E G4 b66 Δ0 at105
-          d105 = Typed.s-seq 𝓤 H A W 𝓣 E G4 G5 b2 b65 Δ0 (Typed.pass T4 T5 s3) at104 (Scalar.t-use 𝓤 H A W E 𝓣 G4 (Scalar.oInt Syntax.w64 0) 13 (Rows.sc-here (Row.sInt Syntax.w64)) (Syntax.tyInt Syntax.w64) (Row.valS (Row.sInt Syntax.w64)) (Row.sInt Syntax.w64 .of) tt (Reads'.room-gone 𝓤 H A (Syntax.tyInt Syntax.w64)) (Scalar.holds-sc 𝓤 H A W (Row.sInt Syntax.w64)) Path'.refl (λ u. Path'.refl) λ u. tt) d104
+          d105 = Typed.s-seq 𝓤 H A W 𝓣 E G4 G5 b2 b65 Δ0 (Typed.pass T4 T5 s3) at104 (Scalar.t-use 𝓤 H A W E 𝓣 G4 (Scalar.oInt Syntax.w64 0) 13 (Rows.sc-here sc0) ty1 (Row.valS sc0) (Row.sInt Syntax.w64 .of) tt (Reads'.room-gone 𝓤 H A ty1) (Scalar.holds-sc 𝓤 H A W sc0) Path'.refl (λ u. Path'.refl) λ u. tt) d104
 
           d106 : Typed.Typed 𝓤 H A 𝓣 E G3 b67 Δ0 at106
-          d106 = Typed.s-seq 𝓤 H A W 𝓣 E G3 G4 b1 b66 Δ0 (Typed.pass T3 T4 s2) at105 (Scalar.t-use 𝓤 H A W E 𝓣 G3 (Scalar.oInt Syntax.w64 0) 12 (Rows.sc-here (Row.sInt Syntax.w64)) (Syntax.tyInt Syntax.w64) (Row.valS (Row.sInt Syntax.w64)) (Row.sInt Syntax.w64 .of) tt (Reads'.room-gone 𝓤 H A (Syntax.tyInt Syntax.w64)) (Scalar.holds-sc 𝓤 H A W (Row.sInt Syntax.w64)) Path'.refl (λ u. Path'.refl) λ u. tt) d105
+          d106 = Typed.s-seq 𝓤 H A W 𝓣 E G3 G4 b1 b66 Δ0 (Typed.pass T3 T4 s2) at105 (Scalar.t-use 𝓤 H A W E 𝓣 G3 (Scalar.oInt Syntax.w64 0) 12 (Rows.sc-here sc0) ty1 (Row.valS sc0) (Row.sInt Syntax.w64 .of) tt (Reads'.room-gone 𝓤 H A ty1) (Scalar.holds-sc 𝓤 H A W sc0) Path'.refl (λ u. Path'.refl) λ u. tt) d105
 
           d107 : Typed.Typed 𝓤 H A 𝓣 E G2 b68 Δ0 at107
-          d107 = Typed.s-seq 𝓤 H A W 𝓣 E G2 G3 b0 b67 Δ0 (Typed.both s1) at106 (Plain.t-call-plain 𝓤 H A W 𝓣 0 ps·0 r·0 (claims· .0) (claims· .1) "zones::held::nothing" (known .0) E (λ pos β. β) G2 tt 11 List.[] (Call.sub-id 𝓤 H A W (G2 .slots)) tt (Reads'.room-gone 𝓤 H A (Syntax.tyStruct (List._∷_ 122 (List._∷_ 111 (List._∷_ 110 (List._∷_ 101 (List._∷_ 115 (List._∷_ 58 (List._∷_ 58 (List._∷_ 104 (List._∷_ 101 (List._∷_ 108 (List._∷_ 100 (List._∷_ 58 (List._∷_ 58 (List._∷_ 72 (List._∷_ 101 (List._∷_ 108 (List._∷_ 100 List.[]))))))))))))))))) (Syntax.tcons (Syntax.tyStruct (List._∷_ 112 (List._∷_ 121 (List._∷_ 114 (List._∷_ 97 (List._∷_ 109 (List._∷_ 105 (List._∷_ 100 (List._∷_ 58 (List._∷_ 58 (List._∷_ 83 (List._∷_ 116 (List._∷_ 97 (List._∷_ 116 (List._∷_ 101 List.[])))))))))))))) (Syntax.tcons (Syntax.tyInt Syntax.w32) (Syntax.tcons (Syntax.tyInt Syntax.w32) (Syntax.tcons (Syntax.tyInt Syntax.w32) (Syntax.tcons (Syntax.tyInt Syntax.w32) (Syntax.tcons (Syntax.tyInt Syntax.w32) (Syntax.tcons (Syntax.tyArray (Syntax.tyInt Syntax.w32) 64) Syntax.tnil))))))) (Syntax.tcons (Syntax.tyInt Syntax.w64) (Syntax.tcons (Syntax.tyInt Syntax.w64) (Syntax.tcons (Syntax.tyInt Syntax.w64) (Syntax.tcons (Syntax.tyInt Syntax.w64) (Syntax.tcons (Syntax.tyInt Syntax.w64) (Syntax.tcons (Syntax.tyInt Syntax.w64) (Syntax.tcons Syntax.tyBool Syntax.tnil)))))))))) tt Path'.refl) d106
+          d107 = Typed.s-seq 𝓤 H A W 𝓣 E G2 G3 b0 b67 Δ0 (Typed.both s1) at106 (Plain.t-call-plain 𝓤 H A W 𝓣 0 ps·0 r·0 (claims· .0) (claims· .1) "zones::held::nothing" (known .0) E (λ pos β. β) G2 tt 11 List.[] (Call.sub-id 𝓤 H A W (G2 .slots)) tt (Reads'.room-gone 𝓤 H A ty2) tt Path'.refl) d106
 
           d108 : Typed.Typed 𝓤 H A 𝓣 E G0 b68 Δ0 at108
-          d108 = Typed.g-pre 𝓤 H A W 𝓣 E G0 G2 b68 Δ0 (Typed.give s0) at107 (Know.g-shs-known 𝓤 H A W (Referent.fInt Syntax.w8) E G0 1 0 (Syntax.tyRef (Syntax.named 0) Syntax.imm (Syntax.tyInt Syntax.w8)) (Row.lease (κs .0) (qs .0)) 0 (λ x. x) record { fits = Dec'.lit< tt } (Reads'.as-is 𝓤 H A (Rows.sslice (Referent.rtF (Referent.fInt Syntax.w8)) (Syntax.tyRef (Syntax.named 0) Syntax.imm (Syntax.tyInt Syntax.w8)) 0)) Path'.refl tt) d107
+          d108 = Typed.g-pre 𝓤 H A W 𝓣 E G0 G2 b68 Δ0 (Typed.give s0) at107 (Know.g-shs-known 𝓤 H A W rf0 E G0 1 0 ty20 slot9 0 (λ x. x) record { fits = Dec'.lit< tt } (Reads'.as-is 𝓤 H A (Rows.sslice held0 ty20 0)) Path'.refl tt) d107
 
           pub typed : Typed.Typed 𝓤 H A 𝓣 E (Function.Γin 10 ps r xs m κs qs) b68 (Function.Δret 10 ps r xs m κs qs) Φ
           typed = d108
 
       module _ (κs : Lifetimes.Lfts 10) where
         pub record Args : Type 0 where
-          pub script : Kinds.Den {n = 10} κs (ShrSlice.pShrS (Referent.rtF (Referent.fInt Syntax.w8)) 0 tt)
-          pub numbers : Kinds.Den {n = 10} κs (Kinds.pMut (Array.Array (Referent.rtF (Referent.fInt Syntax.w32)) 32772) 1 tt)
-          pub plan : Kinds.Den {n = 10} κs (Kinds.pMut (Array.Array (Referent.rtF (Referent.fInt Syntax.w8)) 16388) 2 tt)
-          pub table : Kinds.Den {n = 10} κs (Kinds.pMut (Array.Array (Referent.rtF (Referent.fInt Syntax.w32)) 65540) 3 tt)
-          pub history : Kinds.Den {n = 10} κs (Kinds.pMut (Array.Array (Referent.rtF (Referent.fInt Syntax.w32)) 32772) 4 tt)
-          pub ends : Kinds.Den {n = 10} κs (Kinds.pMut (Array.Array (Referent.rtF (Referent.fInt Syntax.w32)) 32772) 5 tt)
-          pub work : Kinds.Den {n = 10} κs (Kinds.pMut (Array.Array (Referent.rtF (Referent.fInt Syntax.w32)) 262160) 6 tt)
-          pub output : Kinds.Den {n = 10} κs (Kinds.pMut (Array.Array (Referent.rtF (Referent.fInt Syntax.w8)) 600000) 7 tt)
-          pub sheet : Kinds.Den {n = 10} κs (Kinds.pMut (Array.Array Cell.R 65540) 8 tt)
-          pub kept : Kinds.Den {n = 10} κs (Kinds.pMut (Array.Array Cell.R 32772) 9 tt)
+          pub script : Kinds.Den {n = 10} κs (ShrSlice.pShrS held0 0 tt)
+          pub numbers : Kinds.Den {n = 10} κs (Kinds.pMut held2 1 tt)
+          pub plan : Kinds.Den {n = 10} κs (Kinds.pMut held3 2 tt)
+          pub table : Kinds.Den {n = 10} κs (Kinds.pMut held4 3 tt)
+          pub history : Kinds.Den {n = 10} κs (Kinds.pMut held2 4 tt)
+          pub ends : Kinds.Den {n = 10} κs (Kinds.pMut held2 5 tt)
+          pub work : Kinds.Den {n = 10} κs (Kinds.pMut held5 6 tt)
+          pub output : Kinds.Den {n = 10} κs (Kinds.pMut held6 7 tt)
+          pub sheet : Kinds.Den {n = 10} κs (Kinds.pMut held7 8 tt)
+          pub kept : Kinds.Den {n = 10} κs (Kinds.pMut held8 9 tt)
 
         abbrev pub dens : (a : Args) → Kinds.Dens κs ps
         dens = λ a. (a .script, (a .numbers, (a .plan, (a .table, (a .history, (a .ends, (a .work, (a .output, (a .sheet, (a .kept, tt))))))))))
@@ -2035,32 +2549,32 @@ module _ (claims· : Claims) where
       abbrev pub Need-loop-holds : Type 0
       Need-loop-holds = (c : After-nothing) → Inv·0 (Row.get 1 (T6 .locals) (m5 (c .before) (After-nothing·gave c)) .now) (Row.get 2 (T6 .locals) (m5 (c .before) (After-nothing·gave c)) .now) (Row.get 3 (T6 .locals) (m5 (c .before) (After-nothing·gave c)) .now) (Row.get 4 (T6 .locals) (m5 (c .before) (After-nothing·gave c)) .now) (Row.get 5 (T6 .locals) (m5 (c .before) (After-nothing·gave c)) .now) (Row.get 6 (T6 .locals) (m5 (c .before) (After-nothing·gave c)) .now) (Row.get 7 (T6 .locals) (m5 (c .before) (After-nothing·gave c)) .now) (Row.get 8 (T6 .locals) (m5 (c .before) (After-nothing·gave c)) .now) (Row.get 9 (T6 .locals) (m5 (c .before) (After-nothing·gave c)) .now) (Row.get 10 (T6 .locals) (m5 (c .before) (After-nothing·gave c)) .now) (Row.get 11 (T6 .locals) (m5 (c .before) (After-nothing·gave c))) (Row.get 12 (T6 .locals) (m5 (c .before) (After-nothing·gave c))) (Row.get 13 (T6 .locals) (m5 (c .before) (After-nothing·gave c))) (Row.get 15 (T6 .locals) (m5 (c .before) (After-nothing·gave c))) (Row.get 2 (T6 .locals) (m5 (c .before) (After-nothing·gave c)) .now) (Row.get 3 (T6 .locals) (m5 (c .before) (After-nothing·gave c)) .now) (Row.get 4 (T6 .locals) (m5 (c .before) (After-nothing·gave c)) .now) (Row.get 5 (T6 .locals) (m5 (c .before) (After-nothing·gave c)) .now) (Row.get 6 (T6 .locals) (m5 (c .before) (After-nothing·gave c)) .now) (Row.get 7 (T6 .locals) (m5 (c .before) (After-nothing·gave c)) .now) (Row.get 8 (T6 .locals) (m5 (c .before) (After-nothing·gave c)) .now) (Row.get 9 (T6 .locals) (m5 (c .before) (After-nothing·gave c)) .now) (Row.get 10 (T6 .locals) (m5 (c .before) (After-nothing·gave c)) .now) (Row.get 11 (T6 .locals) (m5 (c .before) (After-nothing·gave c))) (Row.get 12 (T6 .locals) (m5 (c .before) (After-nothing·gave c))) (Row.get 13 (T6 .locals) (m5 (c .before) (After-nothing·gave c)))
 
-      abbrev pub m6 : (before : After-nothing) → (numbers : Array.Array (Referent.rtF (Referent.fInt Syntax.w32)) 32772 .Denot) → (plan : Array.Array (Referent.rtF (Referent.fInt Syntax.w8)) 16388 .Denot) → (table : Array.Array (Referent.rtF (Referent.fInt Syntax.w32)) 65540 .Denot) → (history : Array.Array (Referent.rtF (Referent.fInt Syntax.w32)) 32772 .Denot) → (ends : Array.Array (Referent.rtF (Referent.fInt Syntax.w32)) 32772 .Denot) → (work : Array.Array (Referent.rtF (Referent.fInt Syntax.w32)) 262160 .Denot) → (output : Array.Array (Referent.rtF (Referent.fInt Syntax.w8)) 600000 .Denot) → (sheet : Array.Array Cell.R 65540 .Denot) → (kept : Array.Array Cell.R 32772 .Denot) → (held : Rows.whole (Declared.row Held.the-type) .Mod) → (at : Rows.sc-here (Row.sInt Syntax.w64) .Mod) → (k : Rows.sc-here (Row.sInt Syntax.w64) .Mod) → Typed.Mo T6
-      m6 = λ before numbers plan table history ends work output sheet kept held at k. Row.set 13 (13, Rows.sc-here (Row.sInt Syntax.w64)) k (Row.setRow 12 (12, Rows.sc-here (Row.sInt Syntax.w64)) (Row.setRow 11 (11, Rows.whole (Declared.row Held.the-type)) (Row.setRow 10 (10, Rows.mref (Array.Array Cell.R 32772) (Syntax.tyRef (Syntax.named 9) Syntax.mut (Syntax.tyArray Cell.behind 32772)) 9) (Row.setRow 9 (9, Rows.mref (Array.Array Cell.R 65540) (Syntax.tyRef (Syntax.named 8) Syntax.mut (Syntax.tyArray Cell.behind 65540)) 8) (Row.setRow 8 (8, Rows.mref (Array.Array (Referent.rtF (Referent.fInt Syntax.w8)) 600000) (Syntax.tyRef (Syntax.named 7) Syntax.mut (Syntax.tyArray (Syntax.tyInt Syntax.w8) 600000)) 7) (Row.setRow 7 (7, Rows.mref (Array.Array (Referent.rtF (Referent.fInt Syntax.w32)) 262160) (Syntax.tyRef (Syntax.named 6) Syntax.mut (Syntax.tyArray (Syntax.tyInt Syntax.w32) 262160)) 6) (Row.setRow 6 (6, Rows.mref (Array.Array (Referent.rtF (Referent.fInt Syntax.w32)) 32772) (Syntax.tyRef (Syntax.named 5) Syntax.mut (Syntax.tyArray (Syntax.tyInt Syntax.w32) 32772)) 5) (Row.setRow 5 (5, Rows.mref (Array.Array (Referent.rtF (Referent.fInt Syntax.w32)) 32772) (Syntax.tyRef (Syntax.named 4) Syntax.mut (Syntax.tyArray (Syntax.tyInt Syntax.w32) 32772)) 4) (Row.setRow 4 (4, Rows.mref (Array.Array (Referent.rtF (Referent.fInt Syntax.w32)) 65540) (Syntax.tyRef (Syntax.named 3) Syntax.mut (Syntax.tyArray (Syntax.tyInt Syntax.w32) 65540)) 3) (Row.setRow 3 (3, Rows.mref (Array.Array (Referent.rtF (Referent.fInt Syntax.w8)) 16388) (Syntax.tyRef (Syntax.named 2) Syntax.mut (Syntax.tyArray (Syntax.tyInt Syntax.w8) 16388)) 2) (Row.setRow 2 (2, Rows.mref (Array.Array (Referent.rtF (Referent.fInt Syntax.w32)) 32772) (Syntax.tyRef (Syntax.named 1) Syntax.mut (Syntax.tyArray (Syntax.tyInt Syntax.w32) 32772)) 1) (T6 .locals)))))))))))) (Row.set 12 (12, Rows.sc-here (Row.sInt Syntax.w64)) at (Row.setRow 11 (11, Rows.whole (Declared.row Held.the-type)) (Row.setRow 10 (10, Rows.mref (Array.Array Cell.R 32772) (Syntax.tyRef (Syntax.named 9) Syntax.mut (Syntax.tyArray Cell.behind 32772)) 9) (Row.setRow 9 (9, Rows.mref (Array.Array Cell.R 65540) (Syntax.tyRef (Syntax.named 8) Syntax.mut (Syntax.tyArray Cell.behind 65540)) 8) (Row.setRow 8 (8, Rows.mref (Array.Array (Referent.rtF (Referent.fInt Syntax.w8)) 600000) (Syntax.tyRef (Syntax.named 7) Syntax.mut (Syntax.tyArray (Syntax.tyInt Syntax.w8) 600000)) 7) (Row.setRow 7 (7, Rows.mref (Array.Array (Referent.rtF (Referent.fInt Syntax.w32)) 262160) (Syntax.tyRef (Syntax.named 6) Syntax.mut (Syntax.tyArray (Syntax.tyInt Syntax.w32) 262160)) 6) (Row.setRow 6 (6, Rows.mref (Array.Array (Referent.rtF (Referent.fInt Syntax.w32)) 32772) (Syntax.tyRef (Syntax.named 5) Syntax.mut (Syntax.tyArray (Syntax.tyInt Syntax.w32) 32772)) 5) (Row.setRow 5 (5, Rows.mref (Array.Array (Referent.rtF (Referent.fInt Syntax.w32)) 32772) (Syntax.tyRef (Syntax.named 4) Syntax.mut (Syntax.tyArray (Syntax.tyInt Syntax.w32) 32772)) 4) (Row.setRow 4 (4, Rows.mref (Array.Array (Referent.rtF (Referent.fInt Syntax.w32)) 65540) (Syntax.tyRef (Syntax.named 3) Syntax.mut (Syntax.tyArray (Syntax.tyInt Syntax.w32) 65540)) 3) (Row.setRow 3 (3, Rows.mref (Array.Array (Referent.rtF (Referent.fInt Syntax.w8)) 16388) (Syntax.tyRef (Syntax.named 2) Syntax.mut (Syntax.tyArray (Syntax.tyInt Syntax.w8) 16388)) 2) (Row.setRow 2 (2, Rows.mref (Array.Array (Referent.rtF (Referent.fInt Syntax.w32)) 32772) (Syntax.tyRef (Syntax.named 1) Syntax.mut (Syntax.tyArray (Syntax.tyInt Syntax.w32) 32772)) 1) (T6 .locals))))))))))) (Row.set 11 (11, Rows.whole (Declared.row Held.the-type)) held (Row.setRow 10 (10, Rows.mref (Array.Array Cell.R 32772) (Syntax.tyRef (Syntax.named 9) Syntax.mut (Syntax.tyArray Cell.behind 32772)) 9) (Row.setRow 9 (9, Rows.mref (Array.Array Cell.R 65540) (Syntax.tyRef (Syntax.named 8) Syntax.mut (Syntax.tyArray Cell.behind 65540)) 8) (Row.setRow 8 (8, Rows.mref (Array.Array (Referent.rtF (Referent.fInt Syntax.w8)) 600000) (Syntax.tyRef (Syntax.named 7) Syntax.mut (Syntax.tyArray (Syntax.tyInt Syntax.w8) 600000)) 7) (Row.setRow 7 (7, Rows.mref (Array.Array (Referent.rtF (Referent.fInt Syntax.w32)) 262160) (Syntax.tyRef (Syntax.named 6) Syntax.mut (Syntax.tyArray (Syntax.tyInt Syntax.w32) 262160)) 6) (Row.setRow 6 (6, Rows.mref (Array.Array (Referent.rtF (Referent.fInt Syntax.w32)) 32772) (Syntax.tyRef (Syntax.named 5) Syntax.mut (Syntax.tyArray (Syntax.tyInt Syntax.w32) 32772)) 5) (Row.setRow 5 (5, Rows.mref (Array.Array (Referent.rtF (Referent.fInt Syntax.w32)) 32772) (Syntax.tyRef (Syntax.named 4) Syntax.mut (Syntax.tyArray (Syntax.tyInt Syntax.w32) 32772)) 4) (Row.setRow 4 (4, Rows.mref (Array.Array (Referent.rtF (Referent.fInt Syntax.w32)) 65540) (Syntax.tyRef (Syntax.named 3) Syntax.mut (Syntax.tyArray (Syntax.tyInt Syntax.w32) 65540)) 3) (Row.setRow 3 (3, Rows.mref (Array.Array (Referent.rtF (Referent.fInt Syntax.w8)) 16388) (Syntax.tyRef (Syntax.named 2) Syntax.mut (Syntax.tyArray (Syntax.tyInt Syntax.w8) 16388)) 2) (Row.setRow 2 (2, Rows.mref (Array.Array (Referent.rtF (Referent.fInt Syntax.w32)) 32772) (Syntax.tyRef (Syntax.named 1) Syntax.mut (Syntax.tyArray (Syntax.tyInt Syntax.w32) 32772)) 1) (T6 .locals)))))))))) (Row.set 10 (10, Rows.mref (Array.Array Cell.R 32772) (Syntax.tyRef (Syntax.named 9) Syntax.mut (Syntax.tyArray Cell.behind 32772)) 9) record { ptr = Row.get 10 (T6 .locals) (m5 (before .before) (After-nothing·gave before)) .ptr; name = Row.get 10 (T6 .locals) (m5 (before .before) (After-nothing·gave before)) .name; now = kept } (Row.setRow 9 (9, Rows.mref (Array.Array Cell.R 65540) (Syntax.tyRef (Syntax.named 8) Syntax.mut (Syntax.tyArray Cell.behind 65540)) 8) (Row.setRow 8 (8, Rows.mref (Array.Array (Referent.rtF (Referent.fInt Syntax.w8)) 600000) (Syntax.tyRef (Syntax.named 7) Syntax.mut (Syntax.tyArray (Syntax.tyInt Syntax.w8) 600000)) 7) (Row.setRow 7 (7, Rows.mref (Array.Array (Referent.rtF (Referent.fInt Syntax.w32)) 262160) (Syntax.tyRef (Syntax.named 6) Syntax.mut (Syntax.tyArray (Syntax.tyInt Syntax.w32) 262160)) 6) (Row.setRow 6 (6, Rows.mref (Array.Array (Referent.rtF (Referent.fInt Syntax.w32)) 32772) (Syntax.tyRef (Syntax.named 5) Syntax.mut (Syntax.tyArray (Syntax.tyInt Syntax.w32) 32772)) 5) (Row.setRow 5 (5, Rows.mref (Array.Array (Referent.rtF (Referent.fInt Syntax.w32)) 32772) (Syntax.tyRef (Syntax.named 4) Syntax.mut (Syntax.tyArray (Syntax.tyInt Syntax.w32) 32772)) 4) (Row.setRow 4 (4, Rows.mref (Array.Array (Referent.rtF (Referent.fInt Syntax.w32)) 65540) (Syntax.tyRef (Syntax.named 3) Syntax.mut (Syntax.tyArray (Syntax.tyInt Syntax.w32) 65540)) 3) (Row.setRow 3 (3, Rows.mref (Array.Array (Referent.rtF (Referent.fInt Syntax.w8)) 16388) (Syntax.tyRef (Syntax.named 2) Syntax.mut (Syntax.tyArray (Syntax.tyInt Syntax.w8) 16388)) 2) (Row.setRow 2 (2, Rows.mref (Array.Array (Referent.rtF (Referent.fInt Syntax.w32)) 32772) (Syntax.tyRef (Syntax.named 1) Syntax.mut (Syntax.tyArray (Syntax.tyInt Syntax.w32) 32772)) 1) (T6 .locals))))))))) (Row.set 9 (9, Rows.mref (Array.Array Cell.R 65540) (Syntax.tyRef (Syntax.named 8) Syntax.mut (Syntax.tyArray Cell.behind 65540)) 8) record { ptr = Row.get 9 (T6 .locals) (m5 (before .before) (After-nothing·gave before)) .ptr; name = Row.get 9 (T6 .locals) (m5 (before .before) (After-nothing·gave before)) .name; now = sheet } (Row.setRow 8 (8, Rows.mref (Array.Array (Referent.rtF (Referent.fInt Syntax.w8)) 600000) (Syntax.tyRef (Syntax.named 7) Syntax.mut (Syntax.tyArray (Syntax.tyInt Syntax.w8) 600000)) 7) (Row.setRow 7 (7, Rows.mref (Array.Array (Referent.rtF (Referent.fInt Syntax.w32)) 262160) (Syntax.tyRef (Syntax.named 6) Syntax.mut (Syntax.tyArray (Syntax.tyInt Syntax.w32) 262160)) 6) (Row.setRow 6 (6, Rows.mref (Array.Array (Referent.rtF (Referent.fInt Syntax.w32)) 32772) (Syntax.tyRef (Syntax.named 5) Syntax.mut (Syntax.tyArray (Syntax.tyInt Syntax.w32) 32772)) 5) (Row.setRow 5 (5, Rows.mref (Array.Array (Referent.rtF (Referent.fInt Syntax.w32)) 32772) (Syntax.tyRef (Syntax.named 4) Syntax.mut (Syntax.tyArray (Syntax.tyInt Syntax.w32) 32772)) 4) (Row.setRow 4 (4, Rows.mref (Array.Array (Referent.rtF (Referent.fInt Syntax.w32)) 65540) (Syntax.tyRef (Syntax.named 3) Syntax.mut (Syntax.tyArray (Syntax.tyInt Syntax.w32) 65540)) 3) (Row.setRow 3 (3, Rows.mref (Array.Array (Referent.rtF (Referent.fInt Syntax.w8)) 16388) (Syntax.tyRef (Syntax.named 2) Syntax.mut (Syntax.tyArray (Syntax.tyInt Syntax.w8) 16388)) 2) (Row.setRow 2 (2, Rows.mref (Array.Array (Referent.rtF (Referent.fInt Syntax.w32)) 32772) (Syntax.tyRef (Syntax.named 1) Syntax.mut (Syntax.tyArray (Syntax.tyInt Syntax.w32) 32772)) 1) (T6 .locals)))))))) (Row.set 8 (8, Rows.mref (Array.Array (Referent.rtF (Referent.fInt Syntax.w8)) 600000) (Syntax.tyRef (Syntax.named 7) Syntax.mut (Syntax.tyArray (Syntax.tyInt Syntax.w8) 600000)) 7) record { ptr = Row.get 8 (T6 .locals) (m5 (before .before) (After-nothing·gave before)) .ptr; name = Row.get 8 (T6 .locals) (m5 (before .before) (After-nothing·gave before)) .name; now = output } (Row.setRow 7 (7, Rows.mref (Array.Array (Referent.rtF (Referent.fInt Syntax.w32)) 262160) (Syntax.tyRef (Syntax.named 6) Syntax.mut (Syntax.tyArray (Syntax.tyInt Syntax.w32) 262160)) 6) (Row.setRow 6 (6, Rows.mref (Array.Array (Referent.rtF (Referent.fInt Syntax.w32)) 32772) (Syntax.tyRef (Syntax.named 5) Syntax.mut (Syntax.tyArray (Syntax.tyInt Syntax.w32) 32772)) 5) (Row.setRow 5 (5, Rows.mref (Array.Array (Referent.rtF (Referent.fInt Syntax.w32)) 32772) (Syntax.tyRef (Syntax.named 4) Syntax.mut (Syntax.tyArray (Syntax.tyInt Syntax.w32) 32772)) 4) (Row.setRow 4 (4, Rows.mref (Array.Array (Referent.rtF (Referent.fInt Syntax.w32)) 65540) (Syntax.tyRef (Syntax.named 3) Syntax.mut (Syntax.tyArray (Syntax.tyInt Syntax.w32) 65540)) 3) (Row.setRow 3 (3, Rows.mref (Array.Array (Referent.rtF (Referent.fInt Syntax.w8)) 16388) (Syntax.tyRef (Syntax.named 2) Syntax.mut (Syntax.tyArray (Syntax.tyInt Syntax.w8) 16388)) 2) (Row.setRow 2 (2, Rows.mref (Array.Array (Referent.rtF (Referent.fInt Syntax.w32)) 32772) (Syntax.tyRef (Syntax.named 1) Syntax.mut (Syntax.tyArray (Syntax.tyInt Syntax.w32) 32772)) 1) (T6 .locals))))))) (Row.set 7 (7, Rows.mref (Array.Array (Referent.rtF (Referent.fInt Syntax.w32)) 262160) (Syntax.tyRef (Syntax.named 6) Syntax.mut (Syntax.tyArray (Syntax.tyInt Syntax.w32) 262160)) 6) record { ptr = Row.get 7 (T6 .locals) (m5 (before .before) (After-nothing·gave before)) .ptr; name = Row.get 7 (T6 .locals) (m5 (before .before) (After-nothing·gave before)) .name; now = work } (Row.setRow 6 (6, Rows.mref (Array.Array (Referent.rtF (Referent.fInt Syntax.w32)) 32772) (Syntax.tyRef (Syntax.named 5) Syntax.mut (Syntax.tyArray (Syntax.tyInt Syntax.w32) 32772)) 5) (Row.setRow 5 (5, Rows.mref (Array.Array (Referent.rtF (Referent.fInt Syntax.w32)) 32772) (Syntax.tyRef (Syntax.named 4) Syntax.mut (Syntax.tyArray (Syntax.tyInt Syntax.w32) 32772)) 4) (Row.setRow 4 (4, Rows.mref (Array.Array (Referent.rtF (Referent.fInt Syntax.w32)) 65540) (Syntax.tyRef (Syntax.named 3) Syntax.mut (Syntax.tyArray (Syntax.tyInt Syntax.w32) 65540)) 3) (Row.setRow 3 (3, Rows.mref (Array.Array (Referent.rtF (Referent.fInt Syntax.w8)) 16388) (Syntax.tyRef (Syntax.named 2) Syntax.mut (Syntax.tyArray (Syntax.tyInt Syntax.w8) 16388)) 2) (Row.setRow 2 (2, Rows.mref (Array.Array (Referent.rtF (Referent.fInt Syntax.w32)) 32772) (Syntax.tyRef (Syntax.named 1) Syntax.mut (Syntax.tyArray (Syntax.tyInt Syntax.w32) 32772)) 1) (T6 .locals)))))) (Row.set 6 (6, Rows.mref (Array.Array (Referent.rtF (Referent.fInt Syntax.w32)) 32772) (Syntax.tyRef (Syntax.named 5) Syntax.mut (Syntax.tyArray (Syntax.tyInt Syntax.w32) 32772)) 5) record { ptr = Row.get 6 (T6 .locals) (m5 (before .before) (After-nothing·gave before)) .ptr; name = Row.get 6 (T6 .locals) (m5 (before .before) (After-nothing·gave before)) .name; now = ends } (Row.setRow 5 (5, Rows.mref (Array.Array (Referent.rtF (Referent.fInt Syntax.w32)) 32772) (Syntax.tyRef (Syntax.named 4) Syntax.mut (Syntax.tyArray (Syntax.tyInt Syntax.w32) 32772)) 4) (Row.setRow 4 (4, Rows.mref (Array.Array (Referent.rtF (Referent.fInt Syntax.w32)) 65540) (Syntax.tyRef (Syntax.named 3) Syntax.mut (Syntax.tyArray (Syntax.tyInt Syntax.w32) 65540)) 3) (Row.setRow 3 (3, Rows.mref (Array.Array (Referent.rtF (Referent.fInt Syntax.w8)) 16388) (Syntax.tyRef (Syntax.named 2) Syntax.mut (Syntax.tyArray (Syntax.tyInt Syntax.w8) 16388)) 2) (Row.setRow 2 (2, Rows.mref (Array.Array (Referent.rtF (Referent.fInt Syntax.w32)) 32772) (Syntax.tyRef (Syntax.named 1) Syntax.mut (Syntax.tyArray (Syntax.tyInt Syntax.w32) 32772)) 1) (T6 .locals))))) (Row.set 5 (5, Rows.mref (Array.Array (Referent.rtF (Referent.fInt Syntax.w32)) 32772) (Syntax.tyRef (Syntax.named 4) Syntax.mut (Syntax.tyArray (Syntax.tyInt Syntax.w32) 32772)) 4) record { ptr = Row.get 5 (T6 .locals) (m5 (before .before) (After-nothing·gave before)) .ptr; name = Row.get 5 (T6 .locals) (m5 (before .before) (After-nothing·gave before)) .name; now = history } (Row.setRow 4 (4, Rows.mref (Array.Array (Referent.rtF (Referent.fInt Syntax.w32)) 65540) (Syntax.tyRef (Syntax.named 3) Syntax.mut (Syntax.tyArray (Syntax.tyInt Syntax.w32) 65540)) 3) (Row.setRow 3 (3, Rows.mref (Array.Array (Referent.rtF (Referent.fInt Syntax.w8)) 16388) (Syntax.tyRef (Syntax.named 2) Syntax.mut (Syntax.tyArray (Syntax.tyInt Syntax.w8) 16388)) 2) (Row.setRow 2 (2, Rows.mref (Array.Array (Referent.rtF (Referent.fInt Syntax.w32)) 32772) (Syntax.tyRef (Syntax.named 1) Syntax.mut (Syntax.tyArray (Syntax.tyInt Syntax.w32) 32772)) 1) (T6 .locals)))) (Row.set 4 (4, Rows.mref (Array.Array (Referent.rtF (Referent.fInt Syntax.w32)) 65540) (Syntax.tyRef (Syntax.named 3) Syntax.mut (Syntax.tyArray (Syntax.tyInt Syntax.w32) 65540)) 3) record { ptr = Row.get 4 (T6 .locals) (m5 (before .before) (After-nothing·gave before)) .ptr; name = Row.get 4 (T6 .locals) (m5 (before .before) (After-nothing·gave before)) .name; now = table } (Row.setRow 3 (3, Rows.mref (Array.Array (Referent.rtF (Referent.fInt Syntax.w8)) 16388) (Syntax.tyRef (Syntax.named 2) Syntax.mut (Syntax.tyArray (Syntax.tyInt Syntax.w8) 16388)) 2) (Row.setRow 2 (2, Rows.mref (Array.Array (Referent.rtF (Referent.fInt Syntax.w32)) 32772) (Syntax.tyRef (Syntax.named 1) Syntax.mut (Syntax.tyArray (Syntax.tyInt Syntax.w32) 32772)) 1) (T6 .locals))) (Row.set 3 (3, Rows.mref (Array.Array (Referent.rtF (Referent.fInt Syntax.w8)) 16388) (Syntax.tyRef (Syntax.named 2) Syntax.mut (Syntax.tyArray (Syntax.tyInt Syntax.w8) 16388)) 2) record { ptr = Row.get 3 (T6 .locals) (m5 (before .before) (After-nothing·gave before)) .ptr; name = Row.get 3 (T6 .locals) (m5 (before .before) (After-nothing·gave before)) .name; now = plan } (Row.setRow 2 (2, Rows.mref (Array.Array (Referent.rtF (Referent.fInt Syntax.w32)) 32772) (Syntax.tyRef (Syntax.named 1) Syntax.mut (Syntax.tyArray (Syntax.tyInt Syntax.w32) 32772)) 1) (T6 .locals)) (Row.set 2 (2, Rows.mref (Array.Array (Referent.rtF (Referent.fInt Syntax.w32)) 32772) (Syntax.tyRef (Syntax.named 1) Syntax.mut (Syntax.tyArray (Syntax.tyInt Syntax.w32) 32772)) 1) record { ptr = Row.get 2 (T6 .locals) (m5 (before .before) (After-nothing·gave before)) .ptr; name = Row.get 2 (T6 .locals) (m5 (before .before) (After-nothing·gave before)) .name; now = numbers } (T6 .locals) (m5 (before .before) (After-nothing·gave before)))))))))))))
+      abbrev pub m6 : (before : After-nothing) → (numbers : Array.Array held1 32772 .Denot) → (plan : Array.Array held0 16388 .Denot) → (table : Array.Array held1 65540 .Denot) → (history : Array.Array held1 32772 .Denot) → (ends : Array.Array held1 32772 .Denot) → (work : Array.Array held1 262160 .Denot) → (output : Array.Array held0 600000 .Denot) → (sheet : Array.Array Cell.R 65540 .Denot) → (kept : Array.Array Cell.R 32772 .Denot) → (held : Rows.whole held9 .Mod) → (at : Rows.sc-here sc0 .Mod) → (k : Rows.sc-here sc0 .Mod) → Typed.Mo T6
+      m6 = λ before numbers plan table history ends work output sheet kept held at k. Row.set 13 local28 k (Row.setRow 12 local27 (Row.setRow 11 local26 (Row.setRow 10 local10 (Row.setRow 9 local9 (Row.setRow 8 local8 (Row.setRow 7 local7 (Row.setRow 6 local6 (Row.setRow 5 local5 (Row.setRow 4 local4 (Row.setRow 3 local3 (Row.setRow 2 local2 (T6 .locals)))))))))))) (Row.set 12 local27 at (Row.setRow 11 local26 (Row.setRow 10 local10 (Row.setRow 9 local9 (Row.setRow 8 local8 (Row.setRow 7 local7 (Row.setRow 6 local6 (Row.setRow 5 local5 (Row.setRow 4 local4 (Row.setRow 3 local3 (Row.setRow 2 local2 (T6 .locals))))))))))) (Row.set 11 local26 held (Row.setRow 10 local10 (Row.setRow 9 local9 (Row.setRow 8 local8 (Row.setRow 7 local7 (Row.setRow 6 local6 (Row.setRow 5 local5 (Row.setRow 4 local4 (Row.setRow 3 local3 (Row.setRow 2 local2 (T6 .locals)))))))))) (Row.set 10 local10 record { ptr = Row.get 10 (T6 .locals) (m5 (before .before) (After-nothing·gave before)) .ptr; name = Row.get 10 (T6 .locals) (m5 (before .before) (After-nothing·gave before)) .name; now = kept } (Row.setRow 9 local9 (Row.setRow 8 local8 (Row.setRow 7 local7 (Row.setRow 6 local6 (Row.setRow 5 local5 (Row.setRow 4 local4 (Row.setRow 3 local3 (Row.setRow 2 local2 (T6 .locals))))))))) (Row.set 9 local9 record { ptr = Row.get 9 (T6 .locals) (m5 (before .before) (After-nothing·gave before)) .ptr; name = Row.get 9 (T6 .locals) (m5 (before .before) (After-nothing·gave before)) .name; now = sheet } (Row.setRow 8 local8 (Row.setRow 7 local7 (Row.setRow 6 local6 (Row.setRow 5 local5 (Row.setRow 4 local4 (Row.setRow 3 local3 (Row.setRow 2 local2 (T6 .locals)))))))) (Row.set 8 local8 record { ptr = Row.get 8 (T6 .locals) (m5 (before .before) (After-nothing·gave before)) .ptr; name = Row.get 8 (T6 .locals) (m5 (before .before) (After-nothing·gave before)) .name; now = output } (Row.setRow 7 local7 (Row.setRow 6 local6 (Row.setRow 5 local5 (Row.setRow 4 local4 (Row.setRow 3 local3 (Row.setRow 2 local2 (T6 .locals))))))) (Row.set 7 local7 record { ptr = Row.get 7 (T6 .locals) (m5 (before .before) (After-nothing·gave before)) .ptr; name = Row.get 7 (T6 .locals) (m5 (before .before) (After-nothing·gave before)) .name; now = work } (Row.setRow 6 local6 (Row.setRow 5 local5 (Row.setRow 4 local4 (Row.setRow 3 local3 (Row.setRow 2 local2 (T6 .locals)))))) (Row.set 6 local6 record { ptr = Row.get 6 (T6 .locals) (m5 (before .before) (After-nothing·gave before)) .ptr; name = Row.get 6 (T6 .locals) (m5 (before .before) (After-nothing·gave before)) .name; now = ends } (Row.setRow 5 local5 (Row.setRow 4 local4 (Row.setRow 3 local3 (Row.setRow 2 local2 (T6 .locals))))) (Row.set 5 local5 record { ptr = Row.get 5 (T6 .locals) (m5 (before .before) (After-nothing·gave before)) .ptr; name = Row.get 5 (T6 .locals) (m5 (before .before) (After-nothing·gave before)) .name; now = history } (Row.setRow 4 local4 (Row.setRow 3 local3 (Row.setRow 2 local2 (T6 .locals)))) (Row.set 4 local4 record { ptr = Row.get 4 (T6 .locals) (m5 (before .before) (After-nothing·gave before)) .ptr; name = Row.get 4 (T6 .locals) (m5 (before .before) (After-nothing·gave before)) .name; now = table } (Row.setRow 3 local3 (Row.setRow 2 local2 (T6 .locals))) (Row.set 3 local3 record { ptr = Row.get 3 (T6 .locals) (m5 (before .before) (After-nothing·gave before)) .ptr; name = Row.get 3 (T6 .locals) (m5 (before .before) (After-nothing·gave before)) .name; now = plan } (Row.setRow 2 local2 (T6 .locals)) (Row.set 2 local2 record { ptr = Row.get 2 (T6 .locals) (m5 (before .before) (After-nothing·gave before)) .ptr; name = Row.get 2 (T6 .locals) (m5 (before .before) (After-nothing·gave before)) .name; now = numbers } (T6 .locals) (m5 (before .before) (After-nothing·gave before)))))))))))))
 
-      abbrev W3 : (before : After-nothing) → (numbers : Array.Array (Referent.rtF (Referent.fInt Syntax.w32)) 32772 .Denot) → (plan : Array.Array (Referent.rtF (Referent.fInt Syntax.w8)) 16388 .Denot) → (table : Array.Array (Referent.rtF (Referent.fInt Syntax.w32)) 65540 .Denot) → (history : Array.Array (Referent.rtF (Referent.fInt Syntax.w32)) 32772 .Denot) → (ends : Array.Array (Referent.rtF (Referent.fInt Syntax.w32)) 32772 .Denot) → (work : Array.Array (Referent.rtF (Referent.fInt Syntax.w32)) 262160 .Denot) → (output : Array.Array (Referent.rtF (Referent.fInt Syntax.w8)) 600000 .Denot) → (sheet : Array.Array Cell.R 65540 .Denot) → (kept : Array.Array Cell.R 32772 .Denot) → (held : Rows.whole (Declared.row Held.the-type) .Mod) → (at : Rows.sc-here (Row.sInt Syntax.w64) .Mod) → (k : Rows.sc-here (Row.sInt Syntax.w64) .Mod) → Typed.Want O3
+      abbrev W3 : (before : After-nothing) → (numbers : Array.Array held1 32772 .Denot) → (plan : Array.Array held0 16388 .Denot) → (table : Array.Array held1 65540 .Denot) → (history : Array.Array held1 32772 .Denot) → (ends : Array.Array held1 32772 .Denot) → (work : Array.Array held1 262160 .Denot) → (output : Array.Array held0 600000 .Denot) → (sheet : Array.Array Cell.R 65540 .Denot) → (kept : Array.Array Cell.R 32772 .Denot) → (held : Rows.whole held9 .Mod) → (at : Rows.sc-here sc0 .Mod) → (k : Rows.sc-here sc0 .Mod) → Typed.Want O3
       W3 = λ before numbers plan table history ends work output sheet kept held at k. Typed.inLoop T6 O2 (Typed.Round T6 O2 put0 (λ u vs. Inv·0 (Row.get 1 (T6 .locals) u .now) (Row.get 2 (T6 .locals) u .now) (Row.get 3 (T6 .locals) u .now) (Row.get 4 (T6 .locals) u .now) (Row.get 5 (T6 .locals) u .now) (Row.get 6 (T6 .locals) u .now) (Row.get 7 (T6 .locals) u .now) (Row.get 8 (T6 .locals) u .now) (Row.get 9 (T6 .locals) u .now) (Row.get 10 (T6 .locals) u .now) (Row.get 11 (T6 .locals) u) (Row.get 12 (T6 .locals) u) (Row.get 13 (T6 .locals) u) (Row.get 15 (T6 .locals) u) (vs .0) (vs .1) (vs .2) (vs .3) (vs .4) (vs .5) (vs .6) (vs .7) (vs .8) (vs .9) (vs .10) (vs .11)) (λ u vs. μ·0 (Row.get 1 (T6 .locals) u .now) (Row.get 2 (T6 .locals) u .now) (Row.get 3 (T6 .locals) u .now) (Row.get 4 (T6 .locals) u .now) (Row.get 5 (T6 .locals) u .now) (Row.get 6 (T6 .locals) u .now) (Row.get 7 (T6 .locals) u .now) (Row.get 8 (T6 .locals) u .now) (Row.get 9 (T6 .locals) u .now) (Row.get 10 (T6 .locals) u .now) (Row.get 11 (T6 .locals) u) (Row.get 12 (T6 .locals) u) (Row.get 13 (T6 .locals) u) (Row.get 15 (T6 .locals) u) (vs .0) (vs .1) (vs .2) (vs .3) (vs .4) (vs .5) (vs .6) (vs .7) (vs .8) (vs .9) (vs .10) (vs .11)) at97 (m5 (before .before) (After-nothing·gave before)) (numbers, plan, table, history, ends, work, output, sheet, kept, held, at, k)) (W2 (before .before) (After-nothing·gave before))
 
-      abbrev pub m7 : (before : After-nothing) → (numbers : Array.Array (Referent.rtF (Referent.fInt Syntax.w32)) 32772 .Denot) → (plan : Array.Array (Referent.rtF (Referent.fInt Syntax.w8)) 16388 .Denot) → (table : Array.Array (Referent.rtF (Referent.fInt Syntax.w32)) 65540 .Denot) → (history : Array.Array (Referent.rtF (Referent.fInt Syntax.w32)) 32772 .Denot) → (ends : Array.Array (Referent.rtF (Referent.fInt Syntax.w32)) 32772 .Denot) → (work : Array.Array (Referent.rtF (Referent.fInt Syntax.w32)) 262160 .Denot) → (output : Array.Array (Referent.rtF (Referent.fInt Syntax.w8)) 600000 .Denot) → (sheet : Array.Array Cell.R 65540 .Denot) → (kept : Array.Array Cell.R 32772 .Denot) → (held : Rows.whole (Declared.row Held.the-type) .Mod) → (at : Rows.sc-here (Row.sInt Syntax.w64) .Mod) → (k : Rows.sc-here (Row.sInt Syntax.w64) .Mod) → Typed.Mo T8
+      abbrev pub m7 : (before : After-nothing) → (numbers : Array.Array held1 32772 .Denot) → (plan : Array.Array held0 16388 .Denot) → (table : Array.Array held1 65540 .Denot) → (history : Array.Array held1 32772 .Denot) → (ends : Array.Array held1 32772 .Denot) → (work : Array.Array held1 262160 .Denot) → (output : Array.Array held0 600000 .Denot) → (sheet : Array.Array Cell.R 65540 .Denot) → (kept : Array.Array Cell.R 32772 .Denot) → (held : Rows.whole held9 .Mod) → (at : Rows.sc-here sc0 .Mod) → (k : Rows.sc-here sc0 .Mod) → Typed.Mo T8
       m7 = λ before numbers plan table history ends work output sheet kept held at k. s5 .next (m6 before numbers plan table history ends work output sheet kept held at k)
 
-      abbrev W4 : (before : After-nothing) → (numbers : Array.Array (Referent.rtF (Referent.fInt Syntax.w32)) 32772 .Denot) → (plan : Array.Array (Referent.rtF (Referent.fInt Syntax.w8)) 16388 .Denot) → (table : Array.Array (Referent.rtF (Referent.fInt Syntax.w32)) 65540 .Denot) → (history : Array.Array (Referent.rtF (Referent.fInt Syntax.w32)) 32772 .Denot) → (ends : Array.Array (Referent.rtF (Referent.fInt Syntax.w32)) 32772 .Denot) → (work : Array.Array (Referent.rtF (Referent.fInt Syntax.w32)) 262160 .Denot) → (output : Array.Array (Referent.rtF (Referent.fInt Syntax.w8)) 600000 .Denot) → (sheet : Array.Array Cell.R 65540 .Denot) → (kept : Array.Array Cell.R 32772 .Denot) → (held : Rows.whole (Declared.row Held.the-type) .Mod) → (at : Rows.sc-here (Row.sInt Syntax.w64) .Mod) → (k : Rows.sc-here (Row.sInt Syntax.w64) .Mod) → Typed.Want O4
+      abbrev W4 : (before : After-nothing) → (numbers : Array.Array held1 32772 .Denot) → (plan : Array.Array held0 16388 .Denot) → (table : Array.Array held1 65540 .Denot) → (history : Array.Array held1 32772 .Denot) → (ends : Array.Array held1 32772 .Denot) → (work : Array.Array held1 262160 .Denot) → (output : Array.Array held0 600000 .Denot) → (sheet : Array.Array Cell.R 65540 .Denot) → (kept : Array.Array Cell.R 32772 .Denot) → (held : Rows.whole held9 .Mod) → (at : Rows.sc-here sc0 .Mod) → (k : Rows.sc-here sc0 .Mod) → Typed.Want O4
       W4 = λ before numbers plan table history ends work output sheet kept held at k. Typed.wantNext T9 O3 (at95 (W3 before numbers plan table history ends work output sheet kept held at k)) (W3 before numbers plan table history ends work output sheet kept held at k)
 
       module _ (before· : After-nothing) where
         pub record At-loop·own : Type 0 where
-          pub numbers : Array.Array (Referent.rtF (Referent.fInt Syntax.w32)) 32772 .Denot
-          pub plan : Array.Array (Referent.rtF (Referent.fInt Syntax.w8)) 16388 .Denot
-          pub table : Array.Array (Referent.rtF (Referent.fInt Syntax.w32)) 65540 .Denot
-          pub history : Array.Array (Referent.rtF (Referent.fInt Syntax.w32)) 32772 .Denot
-          pub ends : Array.Array (Referent.rtF (Referent.fInt Syntax.w32)) 32772 .Denot
-          pub work : Array.Array (Referent.rtF (Referent.fInt Syntax.w32)) 262160 .Denot
-          pub output : Array.Array (Referent.rtF (Referent.fInt Syntax.w8)) 600000 .Denot
+          pub numbers : Array.Array held1 32772 .Denot
+          pub plan : Array.Array held0 16388 .Denot
+          pub table : Array.Array held1 65540 .Denot
+          pub history : Array.Array held1 32772 .Denot
+          pub ends : Array.Array held1 32772 .Denot
+          pub work : Array.Array held1 262160 .Denot
+          pub output : Array.Array held0 600000 .Denot
           pub sheet : Array.Array Cell.R 65540 .Denot
           pub kept : Array.Array Cell.R 32772 .Denot
-          pub held : Rows.whole (Declared.row Held.the-type) .Mod
-          pub at : Rows.sc-here (Row.sInt Syntax.w64) .Mod
-          pub k : Rows.sc-here (Row.sInt Syntax.w64) .Mod
+          pub held : Rows.whole held9 .Mod
+          pub at : Rows.sc-here sc0 .Mod
+          pub k : Rows.sc-here sc0 .Mod
           pub inv : Inv·0 (Row.get 1 (T6 .locals) (m5 (before· .before) (After-nothing·gave before·)) .now) (Row.get 2 (T6 .locals) (m5 (before· .before) (After-nothing·gave before·)) .now) (Row.get 3 (T6 .locals) (m5 (before· .before) (After-nothing·gave before·)) .now) (Row.get 4 (T6 .locals) (m5 (before· .before) (After-nothing·gave before·)) .now) (Row.get 5 (T6 .locals) (m5 (before· .before) (After-nothing·gave before·)) .now) (Row.get 6 (T6 .locals) (m5 (before· .before) (After-nothing·gave before·)) .now) (Row.get 7 (T6 .locals) (m5 (before· .before) (After-nothing·gave before·)) .now) (Row.get 8 (T6 .locals) (m5 (before· .before) (After-nothing·gave before·)) .now) (Row.get 9 (T6 .locals) (m5 (before· .before) (After-nothing·gave before·)) .now) (Row.get 10 (T6 .locals) (m5 (before· .before) (After-nothing·gave before·)) .now) (Row.get 11 (T6 .locals) (m5 (before· .before) (After-nothing·gave before·))) (Row.get 12 (T6 .locals) (m5 (before· .before) (After-nothing·gave before·))) (Row.get 13 (T6 .locals) (m5 (before· .before) (After-nothing·gave before·))) (Row.get 15 (T6 .locals) (m5 (before· .before) (After-nothing·gave before·))) numbers plan table history ends work output sheet kept held at k
 
       pub record At-loop : Type 0 where
@@ -2169,14 +2683,14 @@ module _ (claims· : Claims) where
 
       module _ (before· : After-next-line-arg) where
         abbrev pub After-next-line·own : Type 0
-        After-next-line·own = Called.Called ps·1 r·1 (claims· .3) T27 (record { pos = 1; ty = Syntax.tyRef (Syntax.named 0) Syntax.imm (Syntax.tyInt Syntax.w8); ref = λ x. x }, (Num.vAt 12 λ x. x, (record { pos = 18; ty = Syntax.tyRef Syntax.erased Syntax.mut (Syntax.tyArray (Syntax.tyInt Syntax.w32) 32772); ref = λ x. x }, tt))) (m23 (before· .before) (before· .next-line-arg .given))
+        After-next-line·own = Called.Called ps·1 r·1 (claims· .3) T27 (record { pos = 1; ty = Syntax.tyRef (Syntax.named 0) Syntax.imm ty7; ref = λ x. x }, (Num.vAt 12 λ x. x, (record { pos = 18; ty = Syntax.tyRef Syntax.erased Syntax.mut ty4; ref = λ x. x }, tt))) (m23 (before· .before) (before· .next-line-arg .given))
 
       pub record After-next-line : Type 0 where
         pub before : After-next-line-arg
         pub next-line : After-next-line·own before
 
       abbrev pub After-next-line·gave : (c : After-next-line) → s23 .gives (m23 (c .before .before) (c .before .next-line-arg .given))
-      After-next-line·gave = λ c. Called.given ps·1 r·1 (claims· .3) T27 (record { pos = 1; ty = Syntax.tyRef (Syntax.named 0) Syntax.imm (Syntax.tyInt Syntax.w8); ref = λ x. x }, (Num.vAt 12 λ x. x, (record { pos = 18; ty = Syntax.tyRef Syntax.erased Syntax.mut (Syntax.tyArray (Syntax.tyInt Syntax.w32) 32772); ref = λ x. x }, tt))) (m23 (c .before .before) (c .before .next-line-arg .given)) (c .next-line)
+      After-next-line·gave = λ c. Called.given ps·1 r·1 (claims· .3) T27 (record { pos = 1; ty = Syntax.tyRef (Syntax.named 0) Syntax.imm ty7; ref = λ x. x }, (Num.vAt 12 λ x. x, (record { pos = 18; ty = Syntax.tyRef Syntax.erased Syntax.mut ty4; ref = λ x. x }, tt))) (m23 (c .before .before) (c .before .next-line-arg .given)) (c .next-line)
 
       abbrev pub m25 : (before : After-next-line-arg) → (given : s23 .gives (m23 (before .before) (before .next-line-arg .given))) → Typed.Mo T30
       m25 = λ before given. s25 .next (m24 before given)
@@ -2288,14 +2802,14 @@ module _ (claims· : Claims) where
 
       module _ (before· : After-obey-arg9) where
         abbrev pub After-obey·own : Type 0
-        After-obey·own = Called.Called ps·2 r·2 (claims· .5) T49 (record { pos = 11; st = List.[]; d = 0; at = λ x. x }, (record { pos = 14; st = List.[]; d = 0; at = λ x. x }, (record { pos = 1; ty = Syntax.tyRef (Syntax.named 0) Syntax.imm (Syntax.tyInt Syntax.w8); ref = λ x. x }, (record { pos = 19; ty = Syntax.tyRef Syntax.erased Syntax.imm (Syntax.tyArray (Syntax.tyInt Syntax.w32) 32772); ref = λ x. x }, (record { pos = 20; ty = Syntax.tyRef Syntax.erased Syntax.mut (Syntax.tyArray (Syntax.tyInt Syntax.w8) 16388); ref = λ x. x }, (record { pos = 21; ty = Syntax.tyRef Syntax.erased Syntax.mut (Syntax.tyArray (Syntax.tyInt Syntax.w32) 65540); ref = λ x. x }, (record { pos = 22; ty = Syntax.tyRef Syntax.erased Syntax.mut (Syntax.tyArray (Syntax.tyInt Syntax.w32) 32772); ref = λ x. x }, (record { pos = 23; ty = Syntax.tyRef Syntax.erased Syntax.mut (Syntax.tyArray (Syntax.tyInt Syntax.w32) 32772); ref = λ x. x }, (record { pos = 24; ty = Syntax.tyRef Syntax.erased Syntax.mut (Syntax.tyArray (Syntax.tyInt Syntax.w32) 262160); ref = λ x. x }, (record { pos = 25; ty = Syntax.tyRef Syntax.erased Syntax.mut (Syntax.tyArray (Syntax.tyInt Syntax.w8) 600000); ref = λ x. x }, (record { pos = 26; ty = Syntax.tyRef Syntax.erased Syntax.mut (Syntax.tyArray Cell.behind 65540); ref = λ x. x }, (record { pos = 27; ty = Syntax.tyRef Syntax.erased Syntax.mut (Syntax.tyArray Cell.behind 32772); ref = λ x. x }, tt)))))))))))) (m34 (before· .before) (before· .obey-arg9 .given))
+        After-obey·own = Called.Called ps·2 r·2 (claims· .5) T49 (record { pos = 11; st = List.[]; d = 0; at = λ x. x }, (record { pos = 14; st = List.[]; d = 0; at = λ x. x }, (record { pos = 1; ty = Syntax.tyRef (Syntax.named 0) Syntax.imm ty7; ref = λ x. x }, (record { pos = 19; ty = Syntax.tyRef Syntax.erased Syntax.imm ty4; ref = λ x. x }, (record { pos = 20; ty = Syntax.tyRef Syntax.erased Syntax.mut ty8; ref = λ x. x }, (record { pos = 21; ty = Syntax.tyRef Syntax.erased Syntax.mut ty10; ref = λ x. x }, (record { pos = 22; ty = Syntax.tyRef Syntax.erased Syntax.mut ty4; ref = λ x. x }, (record { pos = 23; ty = Syntax.tyRef Syntax.erased Syntax.mut ty4; ref = λ x. x }, (record { pos = 24; ty = Syntax.tyRef Syntax.erased Syntax.mut ty12; ref = λ x. x }, (record { pos = 25; ty = Syntax.tyRef Syntax.erased Syntax.mut ty14; ref = λ x. x }, (record { pos = 26; ty = Syntax.tyRef Syntax.erased Syntax.mut ty16; ref = λ x. x }, (record { pos = 27; ty = Syntax.tyRef Syntax.erased Syntax.mut ty18; ref = λ x. x }, tt)))))))))))) (m34 (before· .before) (before· .obey-arg9 .given))
 
       pub record After-obey : Type 0 where
         pub before : After-obey-arg9
         pub obey : After-obey·own before
 
       abbrev pub After-obey·gave : (c : After-obey) → s45 .gives (m34 (c .before .before) (c .before .obey-arg9 .given))
-      After-obey·gave = λ c. Called.given ps·2 r·2 (claims· .5) T49 (record { pos = 11; st = List.[]; d = 0; at = λ x. x }, (record { pos = 14; st = List.[]; d = 0; at = λ x. x }, (record { pos = 1; ty = Syntax.tyRef (Syntax.named 0) Syntax.imm (Syntax.tyInt Syntax.w8); ref = λ x. x }, (record { pos = 19; ty = Syntax.tyRef Syntax.erased Syntax.imm (Syntax.tyArray (Syntax.tyInt Syntax.w32) 32772); ref = λ x. x }, (record { pos = 20; ty = Syntax.tyRef Syntax.erased Syntax.mut (Syntax.tyArray (Syntax.tyInt Syntax.w8) 16388); ref = λ x. x }, (record { pos = 21; ty = Syntax.tyRef Syntax.erased Syntax.mut (Syntax.tyArray (Syntax.tyInt Syntax.w32) 65540); ref = λ x. x }, (record { pos = 22; ty = Syntax.tyRef Syntax.erased Syntax.mut (Syntax.tyArray (Syntax.tyInt Syntax.w32) 32772); ref = λ x. x }, (record { pos = 23; ty = Syntax.tyRef Syntax.erased Syntax.mut (Syntax.tyArray (Syntax.tyInt Syntax.w32) 32772); ref = λ x. x }, (record { pos = 24; ty = Syntax.tyRef Syntax.erased Syntax.mut (Syntax.tyArray (Syntax.tyInt Syntax.w32) 262160); ref = λ x. x }, (record { pos = 25; ty = Syntax.tyRef Syntax.erased Syntax.mut (Syntax.tyArray (Syntax.tyInt Syntax.w8) 600000); ref = λ x. x }, (record { pos = 26; ty = Syntax.tyRef Syntax.erased Syntax.mut (Syntax.tyArray Cell.behind 65540); ref = λ x. x }, (record { pos = 27; ty = Syntax.tyRef Syntax.erased Syntax.mut (Syntax.tyArray Cell.behind 32772); ref = λ x. x }, tt)))))))))))) (m34 (c .before .before) (c .before .obey-arg9 .given)) (c .obey)
+      After-obey·gave = λ c. Called.given ps·2 r·2 (claims· .5) T49 (record { pos = 11; st = List.[]; d = 0; at = λ x. x }, (record { pos = 14; st = List.[]; d = 0; at = λ x. x }, (record { pos = 1; ty = Syntax.tyRef (Syntax.named 0) Syntax.imm ty7; ref = λ x. x }, (record { pos = 19; ty = Syntax.tyRef Syntax.erased Syntax.imm ty4; ref = λ x. x }, (record { pos = 20; ty = Syntax.tyRef Syntax.erased Syntax.mut ty8; ref = λ x. x }, (record { pos = 21; ty = Syntax.tyRef Syntax.erased Syntax.mut ty10; ref = λ x. x }, (record { pos = 22; ty = Syntax.tyRef Syntax.erased Syntax.mut ty4; ref = λ x. x }, (record { pos = 23; ty = Syntax.tyRef Syntax.erased Syntax.mut ty4; ref = λ x. x }, (record { pos = 24; ty = Syntax.tyRef Syntax.erased Syntax.mut ty12; ref = λ x. x }, (record { pos = 25; ty = Syntax.tyRef Syntax.erased Syntax.mut ty14; ref = λ x. x }, (record { pos = 26; ty = Syntax.tyRef Syntax.erased Syntax.mut ty16; ref = λ x. x }, (record { pos = 27; ty = Syntax.tyRef Syntax.erased Syntax.mut ty18; ref = λ x. x }, tt)))))))))))) (m34 (c .before .before) (c .before .obey-arg9 .given)) (c .obey)
 
       abbrev pub m36 : (before : After-obey-arg9) → (given : s45 .gives (m34 (before .before) (before .obey-arg9 .given))) → Typed.Mo T51
       m36 = λ before given. s46 (m35 before given)
@@ -2452,10 +2966,10 @@ module _ (claims· : Claims) where
         lay9 = λ c. (Path'.refl, (Path'.refl, (Path'.refl, (Path'.refl, (Path'.refl, (Path'.refl, (Path'.refl, (Path'.refl, (λ taken. lay10 record { before = record { before = c .before; obey = c .obey }; if2 = record { taken = taken } }, λ left. lay12 record { before = record { before = c .before; obey = c .obey }; if2 = record { left = left } })))))))))
 
         lay8 : (c : After-next-line) → at89 (W3 (c .before .before .before .before .before) (c .before .before .before .before .loop .numbers) (c .before .before .before .before .loop .plan) (c .before .before .before .before .loop .table) (c .before .before .before .before .loop .history) (c .before .before .before .before .loop .ends) (c .before .before .before .before .loop .work) (c .before .before .before .before .loop .output) (c .before .before .before .before .loop .sheet) (c .before .before .before .before .loop .kept) (c .before .before .before .before .loop .held) (c .before .before .before .before .loop .at) (c .before .before .before .before .loop .k)) (m24 (c .before) (After-next-line·gave c))
-        lay8 = λ c. (Path'.refl, λ g. λ g'. λ g''. λ g'3. λ g'4. λ g'5. λ g'6. λ g'7. λ g'8. (obey-requires record { before = record { before = record { before = record { before = record { before = record { before = record { before = record { before = record { before = record { before = c .before; next-line = c .next-line }; obey-arg = record { given = g } }; obey-arg2 = record { given = g' } }; obey-arg3 = record { given = g'' } }; obey-arg4 = record { given = g'3 } }; obey-arg5 = record { given = g'4 } }; obey-arg6 = record { given = g'5 } }; obey-arg7 = record { given = g'6 } }; obey-arg8 = record { given = g'7 } }; obey-arg9 = record { given = g'8 } }, λ g'9. lay9 record { before = record { before = record { before = record { before = record { before = record { before = record { before = record { before = record { before = record { before = record { before = c .before; next-line = c .next-line }; obey-arg = record { given = g } }; obey-arg2 = record { given = g' } }; obey-arg3 = record { given = g'' } }; obey-arg4 = record { given = g'3 } }; obey-arg5 = record { given = g'4 } }; obey-arg6 = record { given = g'5 } }; obey-arg7 = record { given = g'6 } }; obey-arg8 = record { given = g'7 } }; obey-arg9 = record { given = g'8 } }; obey = Called.called ps·2 r·2 (claims· .5) T49 (record { pos = 11; st = List.[]; d = 0; at = λ x. x }, (record { pos = 14; st = List.[]; d = 0; at = λ x. x }, (record { pos = 1; ty = Syntax.tyRef (Syntax.named 0) Syntax.imm (Syntax.tyInt Syntax.w8); ref = λ x. x }, (record { pos = 19; ty = Syntax.tyRef Syntax.erased Syntax.imm (Syntax.tyArray (Syntax.tyInt Syntax.w32) 32772); ref = λ x. x }, (record { pos = 20; ty = Syntax.tyRef Syntax.erased Syntax.mut (Syntax.tyArray (Syntax.tyInt Syntax.w8) 16388); ref = λ x. x }, (record { pos = 21; ty = Syntax.tyRef Syntax.erased Syntax.mut (Syntax.tyArray (Syntax.tyInt Syntax.w32) 65540); ref = λ x. x }, (record { pos = 22; ty = Syntax.tyRef Syntax.erased Syntax.mut (Syntax.tyArray (Syntax.tyInt Syntax.w32) 32772); ref = λ x. x }, (record { pos = 23; ty = Syntax.tyRef Syntax.erased Syntax.mut (Syntax.tyArray (Syntax.tyInt Syntax.w32) 32772); ref = λ x. x }, (record { pos = 24; ty = Syntax.tyRef Syntax.erased Syntax.mut (Syntax.tyArray (Syntax.tyInt Syntax.w32) 262160); ref = λ x. x }, (record { pos = 25; ty = Syntax.tyRef Syntax.erased Syntax.mut (Syntax.tyArray (Syntax.tyInt Syntax.w8) 600000); ref = λ x. x }, (record { pos = 26; ty = Syntax.tyRef Syntax.erased Syntax.mut (Syntax.tyArray Cell.behind 65540); ref = λ x. x }, (record { pos = 27; ty = Syntax.tyRef Syntax.erased Syntax.mut (Syntax.tyArray Cell.behind 32772); ref = λ x. x }, tt)))))))))))) (m34 record { before = record { before = record { before = record { before = record { before = record { before = record { before = record { before = record { before = c .before; next-line = c .next-line }; obey-arg = record { given = g } }; obey-arg2 = record { given = g' } }; obey-arg3 = record { given = g'' } }; obey-arg4 = record { given = g'3 } }; obey-arg5 = record { given = g'4 } }; obey-arg6 = record { given = g'5 } }; obey-arg7 = record { given = g'6 } }; obey-arg8 = record { given = g'7 } } g'8) g'9 }))
+        lay8 = λ c. (Path'.refl, λ g. λ g'. λ g''. λ g'3. λ g'4. λ g'5. λ g'6. λ g'7. λ g'8. (obey-requires record { before = record { before = record { before = record { before = record { before = record { before = record { before = record { before = record { before = record { before = c .before; next-line = c .next-line }; obey-arg = record { given = g } }; obey-arg2 = record { given = g' } }; obey-arg3 = record { given = g'' } }; obey-arg4 = record { given = g'3 } }; obey-arg5 = record { given = g'4 } }; obey-arg6 = record { given = g'5 } }; obey-arg7 = record { given = g'6 } }; obey-arg8 = record { given = g'7 } }; obey-arg9 = record { given = g'8 } }, λ g'9. lay9 record { before = record { before = record { before = record { before = record { before = record { before = record { before = record { before = record { before = record { before = record { before = c .before; next-line = c .next-line }; obey-arg = record { given = g } }; obey-arg2 = record { given = g' } }; obey-arg3 = record { given = g'' } }; obey-arg4 = record { given = g'3 } }; obey-arg5 = record { given = g'4 } }; obey-arg6 = record { given = g'5 } }; obey-arg7 = record { given = g'6 } }; obey-arg8 = record { given = g'7 } }; obey-arg9 = record { given = g'8 } }; obey = Called.called ps·2 r·2 (claims· .5) T49 (record { pos = 11; st = List.[]; d = 0; at = λ x. x }, (record { pos = 14; st = List.[]; d = 0; at = λ x. x }, (record { pos = 1; ty = Syntax.tyRef (Syntax.named 0) Syntax.imm ty7; ref = λ x. x }, (record { pos = 19; ty = Syntax.tyRef Syntax.erased Syntax.imm ty4; ref = λ x. x }, (record { pos = 20; ty = Syntax.tyRef Syntax.erased Syntax.mut ty8; ref = λ x. x }, (record { pos = 21; ty = Syntax.tyRef Syntax.erased Syntax.mut ty10; ref = λ x. x }, (record { pos = 22; ty = Syntax.tyRef Syntax.erased Syntax.mut ty4; ref = λ x. x }, (record { pos = 23; ty = Syntax.tyRef Syntax.erased Syntax.mut ty4; ref = λ x. x }, (record { pos = 24; ty = Syntax.tyRef Syntax.erased Syntax.mut ty12; ref = λ x. x }, (record { pos = 25; ty = Syntax.tyRef Syntax.erased Syntax.mut ty14; ref = λ x. x }, (record { pos = 26; ty = Syntax.tyRef Syntax.erased Syntax.mut ty16; ref = λ x. x }, (record { pos = 27; ty = Syntax.tyRef Syntax.erased Syntax.mut ty18; ref = λ x. x }, tt)))))))))))) (m34 record { before = record { before = record { before = record { before = record { before = record { before = record { before = record { before = record { before = c .before; next-line = c .next-line }; obey-arg = record { given = g } }; obey-arg2 = record { given = g' } }; obey-arg3 = record { given = g'' } }; obey-arg4 = record { given = g'3 } }; obey-arg5 = record { given = g'4 } }; obey-arg6 = record { given = g'5 } }; obey-arg7 = record { given = g'6 } }; obey-arg8 = record { given = g'7 } } g'8) g'9 }))
 
         lay7 : (c : Else1) → at92 (W3 (c .before .before .before) (c .before .before .loop .numbers) (c .before .before .loop .plan) (c .before .before .loop .table) (c .before .before .loop .history) (c .before .before .loop .ends) (c .before .before .loop .work) (c .before .before .loop .output) (c .before .before .loop .sheet) (c .before .before .loop .kept) (c .before .before .loop .held) (c .before .before .loop .at) (c .before .before .loop .k)) (m22 (c .before))
-        lay7 = λ c. λ g. (next-line-requires record { before = record { before = c .before; if1 = c .if1 }; next-line-arg = record { given = g } }, λ g'. lay8 record { before = record { before = record { before = c .before; if1 = c .if1 }; next-line-arg = record { given = g } }; next-line = Called.called ps·1 r·1 (claims· .3) T27 (record { pos = 1; ty = Syntax.tyRef (Syntax.named 0) Syntax.imm (Syntax.tyInt Syntax.w8); ref = λ x. x }, (Num.vAt 12 λ x. x, (record { pos = 18; ty = Syntax.tyRef Syntax.erased Syntax.mut (Syntax.tyArray (Syntax.tyInt Syntax.w32) 32772); ref = λ x. x }, tt))) (m23 record { before = c .before; if1 = c .if1 } g) g' })
+        lay7 = λ c. λ g. (next-line-requires record { before = record { before = c .before; if1 = c .if1 }; next-line-arg = record { given = g } }, λ g'. lay8 record { before = record { before = record { before = c .before; if1 = c .if1 }; next-line-arg = record { given = g } }; next-line = Called.called ps·1 r·1 (claims· .3) T27 (record { pos = 1; ty = Syntax.tyRef (Syntax.named 0) Syntax.imm ty7; ref = λ x. x }, (Num.vAt 12 λ x. x, (record { pos = 18; ty = Syntax.tyRef Syntax.erased Syntax.mut ty4; ref = λ x. x }, tt))) (m23 record { before = c .before; if1 = c .if1 } g) g' })
 
         lay6 : (c : Else1) → at16 (W5 (c .before .before)) (m15 (c .before .before))
         lay6 = λ c. lay7 record { before = c .before; if1 = c .if1 }

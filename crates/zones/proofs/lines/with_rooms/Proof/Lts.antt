@@ -46,15 +46,373 @@ use mathlib.Core.Path as Path'
 use mir.Syntax
 use prog.Wp
 use types.Kit
+use denote.RattleType
+
+abbrev rf0 : Referent.Rf
+rf0 = Referent.fInt Syntax.w8
+
+abbrev held0 : RattleType.RattleType
+held0 = Referent.rtF rf0
+
+abbrev ty0 : Syntax.Ty
+ty0 = Syntax.tyArray (Syntax.tyInt Syntax.w32) 32772
+
+abbrev ty1 : Syntax.Ty
+ty1 = Syntax.tyArray (Syntax.tyInt Syntax.w32) 65540
+
+abbrev ty2 : Syntax.Ty
+ty2 = Syntax.tyArray (Syntax.tyInt Syntax.w32) 262160
+
+abbrev ty3 : Syntax.Ty
+ty3 = Syntax.tyInt Syntax.w8
+
+abbrev ty4 : Syntax.Ty
+ty4 = Syntax.tyArray ty3 600000
+
+abbrev ty5 : Syntax.Ty
+ty5 = Syntax.tyArray ty3 16388
+
+abbrev ty6 : Syntax.Ty
+ty6 = Syntax.tyArray Cell.held 65540
+
+abbrev ty7 : Syntax.Ty
+ty7 = Syntax.tyArray Cell.held 32772
+
+abbrev ty8 : Syntax.Ty
+ty8 = Syntax.tyRef Syntax.erased Syntax.mut ty0
+
+abbrev ty9 : Syntax.Ty
+ty9 = Syntax.tyRef Syntax.erased Syntax.mut ty5
+
+abbrev ty10 : Syntax.Ty
+ty10 = Syntax.tyRef Syntax.erased Syntax.mut ty1
+
+abbrev ty11 : Syntax.Ty
+ty11 = Syntax.tyRef Syntax.erased Syntax.mut ty2
+
+abbrev ty12 : Syntax.Ty
+ty12 = Syntax.tyRef Syntax.erased Syntax.mut ty4
+
+abbrev ty13 : Syntax.Ty
+ty13 = Syntax.tyArray Cell.behind 65540
+
+abbrev ty14 : Syntax.Ty
+ty14 = Syntax.tyRef Syntax.erased Syntax.mut ty13
+
+abbrev ty15 : Syntax.Ty
+ty15 = Syntax.tyArray Cell.behind 32772
+
+abbrev ty16 : Syntax.Ty
+ty16 = Syntax.tyRef Syntax.erased Syntax.mut ty15
+
+abbrev rf1 : Referent.Rf
+rf1 = Referent.fInt Syntax.w32
+
+abbrev held1 : RattleType.RattleType
+held1 = Referent.rtF rf1
+
+abbrev held2 : RattleType.RattleType
+held2 = Array'.Array held1 32772
+
+abbrev held3 : RattleType.RattleType
+held3 = Array'.Array held0 16388
+
+abbrev held4 : RattleType.RattleType
+held4 = Array'.Array held1 65540
+
+abbrev held5 : RattleType.RattleType
+held5 = Array'.Array held1 262160
+
+abbrev held6 : RattleType.RattleType
+held6 = Array'.Array held0 600000
+
+abbrev held7 : RattleType.RattleType
+held7 = Array'.Array Cell.R 65540
+
+abbrev held8 : RattleType.RattleType
+held8 = Array'.Array Cell.R 32772
+
+abbrev opd0 : Syntax.Opd
+opd0 = Syntax.int Syntax.w32 0
+
+abbrev local0 : Row.Entry
+local0 = (0, Rows'.any-gone Syntax.tyUnit)
+
+abbrev ty17 : Syntax.Ty
+ty17 = Syntax.tyRef (Syntax.named 0) Syntax.imm ty3
+
+abbrev local1 : Row.Entry
+local1 = (1, Rows'.sslice held0 ty17 0)
+
+abbrev local2 : Row.Entry
+local2 = (2, Rows'.any-gone ty0)
+
+abbrev local3 : Row.Entry
+local3 = (3, Rows'.any-gone ty1)
+
+abbrev local4 : Row.Entry
+local4 = (4, Rows'.any-gone ty0)
+
+abbrev local5 : Row.Entry
+local5 = (5, Rows'.any-gone ty0)
+
+abbrev local6 : Row.Entry
+local6 = (6, Rows'.any-gone ty2)
+
+abbrev local7 : Row.Entry
+local7 = (7, Rows'.any-gone ty4)
+
+abbrev local8 : Row.Entry
+local8 = (8, Rows'.any-gone ty5)
+
+abbrev local9 : Row.Entry
+local9 = (9, Rows'.any-gone Cell.held)
+
+abbrev local10 : Row.Entry
+local10 = (10, Rows'.any-gone ty6)
+
+abbrev local11 : Row.Entry
+local11 = (12, Rows'.any-gone Syntax.tyUnit)
+
+abbrev locals0 : List.List Row.Entry
+locals0 = List._∷_ (14, Rows'.any-gone ty9) (List._∷_ (15, Rows'.any-gone ty10) List.[])
+
+abbrev locals1 : List.List Row.Entry
+locals1 = List._∷_ local11 (List._∷_ (13, Rows'.any-gone ty8) locals0)
+
+abbrev locals2 : List.List Row.Entry
+locals2 = List._∷_ (11, Rows'.any-gone ty7) locals1
+
+abbrev locals3 : List.List Row.Entry
+locals3 = List._∷_ local9 (List._∷_ local10 locals2)
+
+abbrev locals4 : List.List Row.Entry
+locals4 = List._∷_ local7 (List._∷_ local8 locals3)
+
+abbrev locals5 : List.List Row.Entry
+locals5 = List._∷_ local5 (List._∷_ local6 locals4)
+
+abbrev locals6 : List.List Row.Entry
+locals6 = List._∷_ local3 (List._∷_ local4 locals5)
+
+abbrev local12 : Row.Entry
+local12 = (16, Rows'.any-gone ty8)
+
+abbrev local13 : Row.Entry
+local13 = (17, Rows'.any-gone ty8)
+
+abbrev local14 : Row.Entry
+local14 = (18, Rows'.any-gone ty11)
+
+abbrev locals7 : List.List Row.Entry
+locals7 = List._∷_ (20, Rows'.any-gone ty14) (List._∷_ (21, Rows'.any-gone ty16) List.[])
+
+abbrev locals8 : List.List Row.Entry
+locals8 = List._∷_ (19, Rows'.any-gone ty12) locals7
+
+abbrev local15 : Row.Entry
+local15 = (2, Rows.arrF held1 32772 0)
+
+abbrev local16 : Row.Entry
+local16 = (3, Rows.arrF held1 65540 0)
+
+abbrev local17 : Row.Entry
+local17 = (4, Rows.arrF held1 32772 0)
+
+abbrev local18 : Row.Entry
+local18 = (5, Rows.arrF held1 32772 0)
+
+abbrev local19 : Row.Entry
+local19 = (6, Rows.arrF held1 262160 0)
+
+abbrev local20 : Row.Entry
+local20 = (7, Rows.arrF held0 600000 0)
+
+abbrev local21 : Row.Entry
+local21 = (8, Rows.arrF held0 16388 0)
+
+abbrev local22 : Row.Entry
+local22 = (10, Rows.arrF Cell.R 65540 0)
+
+abbrev local23 : Row.Entry
+local23 = (11, Rows.arrF Cell.R 32772 0)
+
+abbrev local24 : Row.Entry
+local24 = (2, Rows'.sc-owed held2 1)
+
+abbrev local25 : Row.Entry
+local25 = (13, Rows'.mref held2 ty8 1)
+
+abbrev local26 : Row.Entry
+local26 = (8, Rows'.sc-owed held3 2)
+
+abbrev local27 : Row.Entry
+local27 = (3, Rows'.sc-owed held4 3)
+
+abbrev locals9 : List.List Row.Entry
+locals9 = List._∷_ local11 (List._∷_ local25 (List._∷_ (14, Rows'.mref held3 ty9 2) (List._∷_ (15, Rows'.mref held4 ty10 3) List.[])))
+
+abbrev locals10 : List.List Row.Entry
+locals10 = List._∷_ local26 (List._∷_ local9 (List._∷_ local22 (List._∷_ local23 locals9)))
+
+abbrev locals11 : List.List Row.Entry
+locals11 = List._∷_ local20 locals10
+
+abbrev local28 : Row.Entry
+local28 = (4, Rows'.sc-owed held2 4)
+
+abbrev local29 : Row.Entry
+local29 = (16, Rows'.mref held2 ty8 4)
+
+abbrev local30 : Row.Entry
+local30 = (5, Rows'.sc-owed held2 5)
+
+abbrev local31 : Row.Entry
+local31 = (17, Rows'.mref held2 ty8 5)
+
+abbrev local32 : Row.Entry
+local32 = (6, Rows'.sc-owed held5 6)
+
+abbrev local33 : Row.Entry
+local33 = (18, Rows'.mref held5 ty11 6)
+
+abbrev local34 : Row.Entry
+local34 = (7, Rows'.sc-owed held6 7)
+
+abbrev local35 : Row.Entry
+local35 = (19, Rows'.mref held6 ty12 7)
+
+abbrev local36 : Row.Entry
+local36 = (10, Rows'.sc-owed held7 8)
+
+abbrev local37 : Row.Entry
+local37 = (11, Rows'.sc-owed held8 9)
+
+abbrev locals12 : List.List Row.Entry
+locals12 = List._∷_ (14, Rows'.mleft held3 ty9) (List._∷_ (15, Rows'.mleft held4 ty10) List.[])
+
+abbrev locals13 : List.List Row.Entry
+locals13 = List._∷_ (20, Rows'.mleft held7 ty14) (List._∷_ (21, Rows'.mleft held8 ty16) List.[])
+
+abbrev locals14 : List.List Row.Entry
+locals14 = List._∷_ (19, Rows'.mleft held6 ty12) locals13
+
+abbrev locals15 : List.List Row.Entry
+locals15 = List._∷_ (17, Rows'.mleft held2 ty8) (List._∷_ (18, Rows'.mleft held5 ty11) locals14)
+
+abbrev locals16 : List.List Row.Entry
+locals16 = List._∷_ local27 (List._∷_ local28 (List._∷_ local30 (List._∷_ local32 (List._∷_ local34 (List._∷_ local26 (List._∷_ local9 (List._∷_ local36 (List._∷_ local37 (List._∷_ local11 (List._∷_ (13, Rows'.any-gone ty8) locals12))))))))))
+
+abbrev locals17 : List.List Row.Entry
+locals17 = List._∷_ local9 (List._∷_ local36 (List._∷_ local37 (List._∷_ local11 (List._∷_ (13, Rows'.any-gone ty8) (List._∷_ (14, Rows'.any-gone ty9) (List._∷_ (15, Rows'.mleft held4 ty10) List.[]))))))
+
+abbrev locals18 : List.List Row.Entry
+locals18 = List._∷_ local8 (List._∷_ local9 (List._∷_ local36 (List._∷_ local37 locals1)))
+
+abbrev locals19 : List.List Row.Entry
+locals19 = List._∷_ local34 locals18
+
+abbrev locals20 : List.List Row.Entry
+locals20 = List._∷_ local30 (List._∷_ local32 locals19)
+
+abbrev sym0 : Syntax.Sym
+sym0 = List._∷_ 0 (List._∷_ 1 (List._∷_ 2 (List._∷_ 3 (List._∷_ 4 (List._∷_ 5 (List._∷_ 6 (List._∷_ 7 (List._∷_ 8 (List._∷_ 9 List.[])))))))))
+
+abbrev slots0 : List.List Row.Life
+slots0 = List._∷_ Row.off (List._∷_ Row.off (List._∷_ Row.off List.[]))
+
+abbrev slots1 : List.List Row.Life
+slots1 = List._∷_ Row.off (List._∷_ Row.off slots0)
+
+abbrev slots2 : List.List Row.Life
+slots2 = List._∷_ Row.off (List._∷_ Row.off slots1)
+
+abbrev slots3 : List.List Row.Life
+slots3 = List._∷_ Row.off (List._∷_ Row.off slots2)
+
+abbrev slots4 : List.List Row.Life
+slots4 = List._∷_ Row.alive (List._∷_ Row.alive (List._∷_ Row.alive (List._∷_ Row.off slots1)))
+
+abbrev slots5 : List.List Row.Life
+slots5 = List._∷_ Row.alive (List._∷_ Row.alive (List._∷_ Row.alive (List._∷_ Row.alive slots1)))
+
+abbrev slots6 : List.List Row.Life
+slots6 = List._∷_ Row.alive (List._∷_ Row.alive (List._∷_ Row.alive (List._∷_ Row.alive (List._∷_ Row.alive (List._∷_ Row.off slots0)))))
+
+abbrev slots7 : List.List Row.Life
+slots7 = List._∷_ Row.alive (List._∷_ Row.alive (List._∷_ Row.alive (List._∷_ Row.alive (List._∷_ Row.alive (List._∷_ Row.alive slots0)))))
+
+abbrev slots8 : List.List Row.Life
+slots8 = List._∷_ Row.alive (List._∷_ Row.alive (List._∷_ Row.alive (List._∷_ Row.alive (List._∷_ Row.alive (List._∷_ Row.alive (List._∷_ Row.alive (List._∷_ Row.off (List._∷_ Row.off List.[]))))))))
+
+abbrev slots9 : List.List Row.Life
+slots9 = List._∷_ Row.alive (List._∷_ Row.alive (List._∷_ Row.alive (List._∷_ Row.alive (List._∷_ Row.alive (List._∷_ Row.alive (List._∷_ Row.alive (List._∷_ Row.alive (List._∷_ Row.off List.[]))))))))
+
+abbrev slots10 : List.List Row.Life
+slots10 = List._∷_ Row.alive List.[]
+
+abbrev slots11 : List.List Row.Life
+slots11 = List._∷_ Row.alive (List._∷_ Row.alive slots10)
+
+abbrev slots12 : List.List Row.Life
+slots12 = List._∷_ Row.alive (List._∷_ Row.alive slots11)
+
+abbrev slots13 : List.List Row.Life
+slots13 = List._∷_ Row.alive (List._∷_ Row.alive slots12)
+
+abbrev slots14 : List.List Row.Life
+slots14 = List._∷_ Row.alive slots13
+
+abbrev slots15 : List.List Row.Life
+slots15 = List._∷_ Row.alive slots14
+
+abbrev slots16 : List.List Row.Life
+slots16 = List._∷_ Row.off (List._∷_ Row.off (List._∷_ Row.dead (List._∷_ Row.alive slots12)))
+
+abbrev slots17 : List.List Row.Life
+slots17 = List._∷_ Row.off (List._∷_ Row.off (List._∷_ Row.off (List._∷_ Row.alive slots12)))
+
+abbrev slots18 : List.List Row.Life
+slots18 = List._∷_ Row.off (List._∷_ Row.off (List._∷_ Row.off (List._∷_ Row.dead slots12)))
+
+abbrev slots19 : List.List Row.Life
+slots19 = List._∷_ Row.off (List._∷_ Row.off (List._∷_ Row.off (List._∷_ Row.off slots12)))
+
+abbrev slots20 : List.List Row.Life
+slots20 = List._∷_ Row.off (List._∷_ Row.off (List._∷_ Row.off (List._∷_ Row.off (List._∷_ Row.dead (List._∷_ Row.alive slots11)))))
+
+abbrev slots21 : List.List Row.Life
+slots21 = List._∷_ Row.off (List._∷_ Row.off (List._∷_ Row.off (List._∷_ Row.off (List._∷_ Row.off (List._∷_ Row.alive slots11)))))
+
+abbrev slots22 : List.List Row.Life
+slots22 = List._∷_ Row.off (List._∷_ Row.off (List._∷_ Row.off (List._∷_ Row.off (List._∷_ Row.off (List._∷_ Row.dead slots11)))))
+
+abbrev slots23 : List.List Row.Life
+slots23 = List._∷_ Row.off (List._∷_ Row.off (List._∷_ Row.off (List._∷_ Row.off (List._∷_ Row.off (List._∷_ Row.off slots11)))))
+
+abbrev slots24 : List.List Row.Life
+slots24 = List._∷_ Row.off (List._∷_ Row.off (List._∷_ Row.off (List._∷_ Row.off (List._∷_ Row.off (List._∷_ Row.off (List._∷_ Row.dead (List._∷_ Row.alive slots10)))))))
+
+abbrev slots25 : List.List Row.Life
+slots25 = List._∷_ Row.off (List._∷_ Row.off (List._∷_ Row.off (List._∷_ Row.off (List._∷_ Row.off (List._∷_ Row.off (List._∷_ Row.off (List._∷_ Row.alive slots10)))))))
+
+abbrev slots26 : List.List Row.Life
+slots26 = List._∷_ Row.off (List._∷_ Row.off (List._∷_ Row.off (List._∷_ Row.off (List._∷_ Row.off (List._∷_ Row.off (List._∷_ Row.off (List._∷_ Row.dead slots10)))))))
+
+abbrev slots27 : List.List Row.Life
+slots27 = List._∷_ Row.off (List._∷_ Row.off (List._∷_ Row.off (List._∷_ Row.off (List._∷_ Row.off (List._∷_ Row.off (List._∷_ Row.off (List._∷_ Row.off slots10)))))))
+
+abbrev slots28 : List.List Row.Life
+slots28 = List._∷_ Row.off (List._∷_ Row.off (List._∷_ Row.off (List._∷_ Row.off (List._∷_ Row.off (List._∷_ Row.off (List._∷_ Row.off (List._∷_ Row.off (List._∷_ Row.dead List.[]))))))))
 
 abbrev pub ps : List.List (Kinds.PK 1)
-ps = List._∷_ (ShrSlice.pShrS (Referent.rtF (Referent.fInt Syntax.w8)) 0 tt) List.[]
+ps = List._∷_ (ShrSlice.pShrS held0 0 tt) List.[]
 
 abbrev pub r : Kinds.RK 1
 r = Unit'.rUnit
 
 abbrev pub xs : List.List Syntax.Ty
-xs = List._∷_ (Syntax.tyArray (Syntax.tyInt Syntax.w32) 32772) (List._∷_ (Syntax.tyArray (Syntax.tyInt Syntax.w32) 65540) (List._∷_ (Syntax.tyArray (Syntax.tyInt Syntax.w32) 32772) (List._∷_ (Syntax.tyArray (Syntax.tyInt Syntax.w32) 32772) (List._∷_ (Syntax.tyArray (Syntax.tyInt Syntax.w32) 262160) (List._∷_ (Syntax.tyArray (Syntax.tyInt Syntax.w8) 600000) (List._∷_ (Syntax.tyArray (Syntax.tyInt Syntax.w8) 16388) (List._∷_ Cell.held (List._∷_ (Syntax.tyArray Cell.held 65540) (List._∷_ (Syntax.tyArray Cell.held 32772) (List._∷_ Syntax.tyUnit (List._∷_ (Syntax.tyRef Syntax.erased Syntax.mut (Syntax.tyArray (Syntax.tyInt Syntax.w32) 32772)) (List._∷_ (Syntax.tyRef Syntax.erased Syntax.mut (Syntax.tyArray (Syntax.tyInt Syntax.w8) 16388)) (List._∷_ (Syntax.tyRef Syntax.erased Syntax.mut (Syntax.tyArray (Syntax.tyInt Syntax.w32) 65540)) (List._∷_ (Syntax.tyRef Syntax.erased Syntax.mut (Syntax.tyArray (Syntax.tyInt Syntax.w32) 32772)) (List._∷_ (Syntax.tyRef Syntax.erased Syntax.mut (Syntax.tyArray (Syntax.tyInt Syntax.w32) 32772)) (List._∷_ (Syntax.tyRef Syntax.erased Syntax.mut (Syntax.tyArray (Syntax.tyInt Syntax.w32) 262160)) (List._∷_ (Syntax.tyRef Syntax.erased Syntax.mut (Syntax.tyArray (Syntax.tyInt Syntax.w8) 600000)) (List._∷_ (Syntax.tyRef Syntax.erased Syntax.mut (Syntax.tyArray Cell.behind 65540)) (List._∷_ (Syntax.tyRef Syntax.erased Syntax.mut (Syntax.tyArray Cell.behind 32772)) List.[])))))))))))))))))))
+xs = List._∷_ ty0 (List._∷_ ty1 (List._∷_ ty0 (List._∷_ ty0 (List._∷_ ty2 (List._∷_ ty4 (List._∷_ ty5 (List._∷_ Cell.held (List._∷_ ty6 (List._∷_ ty7 (List._∷_ Syntax.tyUnit (List._∷_ ty8 (List._∷_ ty9 (List._∷_ ty10 (List._∷_ ty8 (List._∷_ ty8 (List._∷_ ty11 (List._∷_ ty12 (List._∷_ ty14 (List._∷_ ty16 List.[])))))))))))))))))))
 
 abbrev pub m : Nat.ℕ
 m = 9
@@ -66,7 +424,7 @@ abbrev pub r·0 : Kinds.RK 0
 r·0 = Cell.result
 
 abbrev pub ps·1 : List.List (Kinds.PK 10)
-ps·1 = List._∷_ (ShrSlice.pShrS (Referent.rtF (Referent.fInt Syntax.w8)) 0 tt) (List._∷_ (Kinds.pMut (Array'.Array (Referent.rtF (Referent.fInt Syntax.w32)) 32772) 1 tt) (List._∷_ (Kinds.pMut (Array'.Array (Referent.rtF (Referent.fInt Syntax.w8)) 16388) 2 tt) (List._∷_ (Kinds.pMut (Array'.Array (Referent.rtF (Referent.fInt Syntax.w32)) 65540) 3 tt) (List._∷_ (Kinds.pMut (Array'.Array (Referent.rtF (Referent.fInt Syntax.w32)) 32772) 4 tt) (List._∷_ (Kinds.pMut (Array'.Array (Referent.rtF (Referent.fInt Syntax.w32)) 32772) 5 tt) (List._∷_ (Kinds.pMut (Array'.Array (Referent.rtF (Referent.fInt Syntax.w32)) 262160) 6 tt) (List._∷_ (Kinds.pMut (Array'.Array (Referent.rtF (Referent.fInt Syntax.w8)) 600000) 7 tt) (List._∷_ (Kinds.pMut (Array'.Array Cell.R 65540) 8 tt) (List._∷_ (Kinds.pMut (Array'.Array Cell.R 32772) 9 tt) List.[])))))))))
+ps·1 = List._∷_ (ShrSlice.pShrS held0 0 tt) (List._∷_ (Kinds.pMut held2 1 tt) (List._∷_ (Kinds.pMut held3 2 tt) (List._∷_ (Kinds.pMut held4 3 tt) (List._∷_ (Kinds.pMut held2 4 tt) (List._∷_ (Kinds.pMut held2 5 tt) (List._∷_ (Kinds.pMut held5 6 tt) (List._∷_ (Kinds.pMut held6 7 tt) (List._∷_ (Kinds.pMut held7 8 tt) (List._∷_ (Kinds.pMut held8 9 tt) List.[])))))))))
 
 abbrev pub r·1 : Kinds.RK 10
 r·1 = Unit'.rUnit
@@ -75,19 +433,19 @@ abbrev pub hs : List.List Syntax.Home
 hs = List._∷_ Syntax.valueLocal (List._∷_ Syntax.valueLocal (List._∷_ Syntax.memorySlot (List._∷_ Syntax.memorySlot (List._∷_ Syntax.memorySlot (List._∷_ Syntax.memorySlot (List._∷_ Syntax.memorySlot (List._∷_ Syntax.memorySlot (List._∷_ Syntax.memorySlot (List._∷_ Syntax.valueLocal (List._∷_ Syntax.memorySlot (List._∷_ Syntax.memorySlot (List._∷_ Syntax.valueLocal (List._∷_ Syntax.valueLocal (List._∷_ Syntax.valueLocal (List._∷_ Syntax.valueLocal (List._∷_ Syntax.valueLocal (List._∷_ Syntax.valueLocal (List._∷_ Syntax.valueLocal (List._∷_ Syntax.valueLocal (List._∷_ Syntax.valueLocal (List._∷_ Syntax.valueLocal List.[])))))))))))))))))))))
 
 abbrev b0 : Syntax.Body
-b0 = Syntax.assign (Syntax.place 2 List.[]) (Syntax.repeat (Syntax.int Syntax.w32 0) 32772)
+b0 = Syntax.assign (Syntax.place 2 List.[]) (Syntax.repeat opd0 32772)
 
 abbrev b1 : Syntax.Body
-b1 = Syntax.assign (Syntax.place 3 List.[]) (Syntax.repeat (Syntax.int Syntax.w32 0) 65540)
+b1 = Syntax.assign (Syntax.place 3 List.[]) (Syntax.repeat opd0 65540)
 
 abbrev b2 : Syntax.Body
-b2 = Syntax.assign (Syntax.place 4 List.[]) (Syntax.repeat (Syntax.int Syntax.w32 0) 32772)
+b2 = Syntax.assign (Syntax.place 4 List.[]) (Syntax.repeat opd0 32772)
 
 abbrev b3 : Syntax.Body
-b3 = Syntax.assign (Syntax.place 5 List.[]) (Syntax.repeat (Syntax.int Syntax.w32 0) 32772)
+b3 = Syntax.assign (Syntax.place 5 List.[]) (Syntax.repeat opd0 32772)
 
 abbrev b4 : Syntax.Body
-b4 = Syntax.assign (Syntax.place 6 List.[]) (Syntax.repeat (Syntax.int Syntax.w32 0) 262160)
+b4 = Syntax.assign (Syntax.place 6 List.[]) (Syntax.repeat opd0 262160)
 
 abbrev b5 : Syntax.Body
 b5 = Syntax.assign (Syntax.place 7 List.[]) (Syntax.repeat (Syntax.int Syntax.w8 0) 600000)
@@ -210,193 +568,193 @@ abbrev pub Claims : Type 1
 Claims = Kinds.In 0 ps·0 × Kinds.Out 0 ps·0 r·0 × Kinds.In 10 ps·1 × Kinds.Out 10 ps·1 r·1
 
 abbrev pub t0 : List.List Row.Entry
-t0 = List._∷_ (0, Rows'.any-gone Syntax.tyUnit) (List._∷_ (1, Rows'.sslice (Referent.rtF (Referent.fInt Syntax.w8)) (Syntax.tyRef (Syntax.named 0) Syntax.imm (Syntax.tyInt Syntax.w8)) 0) (List._∷_ (2, Rows'.any-gone (Syntax.tyArray (Syntax.tyInt Syntax.w32) 32772)) (List._∷_ (3, Rows'.any-gone (Syntax.tyArray (Syntax.tyInt Syntax.w32) 65540)) (List._∷_ (4, Rows'.any-gone (Syntax.tyArray (Syntax.tyInt Syntax.w32) 32772)) (List._∷_ (5, Rows'.any-gone (Syntax.tyArray (Syntax.tyInt Syntax.w32) 32772)) (List._∷_ (6, Rows'.any-gone (Syntax.tyArray (Syntax.tyInt Syntax.w32) 262160)) (List._∷_ (7, Rows'.any-gone (Syntax.tyArray (Syntax.tyInt Syntax.w8) 600000)) (List._∷_ (8, Rows'.any-gone (Syntax.tyArray (Syntax.tyInt Syntax.w8) 16388)) (List._∷_ (9, Rows'.any-gone Cell.held) (List._∷_ (10, Rows'.any-gone (Syntax.tyArray Cell.held 65540)) (List._∷_ (11, Rows'.any-gone (Syntax.tyArray Cell.held 32772)) (List._∷_ (12, Rows'.any-gone Syntax.tyUnit) (List._∷_ (13, Rows'.any-gone (Syntax.tyRef Syntax.erased Syntax.mut (Syntax.tyArray (Syntax.tyInt Syntax.w32) 32772))) (List._∷_ (14, Rows'.any-gone (Syntax.tyRef Syntax.erased Syntax.mut (Syntax.tyArray (Syntax.tyInt Syntax.w8) 16388))) (List._∷_ (15, Rows'.any-gone (Syntax.tyRef Syntax.erased Syntax.mut (Syntax.tyArray (Syntax.tyInt Syntax.w32) 65540))) List.[])))))))))))))))
+t0 = List._∷_ local0 (List._∷_ local1 (List._∷_ local2 locals6))
 
 abbrev pub t1 : List.List Row.Entry
-t1 = List._∷_ (16, Rows'.any-gone (Syntax.tyRef Syntax.erased Syntax.mut (Syntax.tyArray (Syntax.tyInt Syntax.w32) 32772))) (List._∷_ (17, Rows'.any-gone (Syntax.tyRef Syntax.erased Syntax.mut (Syntax.tyArray (Syntax.tyInt Syntax.w32) 32772))) (List._∷_ (18, Rows'.any-gone (Syntax.tyRef Syntax.erased Syntax.mut (Syntax.tyArray (Syntax.tyInt Syntax.w32) 262160))) (List._∷_ (19, Rows'.any-gone (Syntax.tyRef Syntax.erased Syntax.mut (Syntax.tyArray (Syntax.tyInt Syntax.w8) 600000))) (List._∷_ (20, Rows'.any-gone (Syntax.tyRef Syntax.erased Syntax.mut (Syntax.tyArray Cell.behind 65540))) (List._∷_ (21, Rows'.any-gone (Syntax.tyRef Syntax.erased Syntax.mut (Syntax.tyArray Cell.behind 32772))) List.[])))))
+t1 = List._∷_ local12 (List._∷_ local13 (List._∷_ local14 locals8))
 
 abbrev pub t2 : List.List Row.Entry
-t2 = List._∷_ (0, Rows'.sc-here Row.sUnit) (List._∷_ (1, Rows'.sslice (Referent.rtF (Referent.fInt Syntax.w8)) (Syntax.tyRef (Syntax.named 0) Syntax.imm (Syntax.tyInt Syntax.w8)) 0) (List._∷_ (2, Rows'.any-gone (Syntax.tyArray (Syntax.tyInt Syntax.w32) 32772)) (List._∷_ (3, Rows'.any-gone (Syntax.tyArray (Syntax.tyInt Syntax.w32) 65540)) (List._∷_ (4, Rows'.any-gone (Syntax.tyArray (Syntax.tyInt Syntax.w32) 32772)) (List._∷_ (5, Rows'.any-gone (Syntax.tyArray (Syntax.tyInt Syntax.w32) 32772)) (List._∷_ (6, Rows'.any-gone (Syntax.tyArray (Syntax.tyInt Syntax.w32) 262160)) (List._∷_ (7, Rows'.any-gone (Syntax.tyArray (Syntax.tyInt Syntax.w8) 600000)) (List._∷_ (8, Rows'.any-gone (Syntax.tyArray (Syntax.tyInt Syntax.w8) 16388)) (List._∷_ (9, Rows'.any-gone Cell.held) (List._∷_ (10, Rows'.any-gone (Syntax.tyArray Cell.held 65540)) (List._∷_ (11, Rows'.any-gone (Syntax.tyArray Cell.held 32772)) (List._∷_ (12, Rows'.any-gone Syntax.tyUnit) (List._∷_ (13, Rows'.any-gone (Syntax.tyRef Syntax.erased Syntax.mut (Syntax.tyArray (Syntax.tyInt Syntax.w32) 32772))) (List._∷_ (14, Rows'.any-gone (Syntax.tyRef Syntax.erased Syntax.mut (Syntax.tyArray (Syntax.tyInt Syntax.w8) 16388))) (List._∷_ (15, Rows'.any-gone (Syntax.tyRef Syntax.erased Syntax.mut (Syntax.tyArray (Syntax.tyInt Syntax.w32) 65540))) List.[])))))))))))))))
+t2 = List._∷_ (0, Rows'.sc-here Row.sUnit) (List._∷_ local1 (List._∷_ local2 locals6))
 
 abbrev pub t3 : List.List Row.Entry
-t3 = List._∷_ (0, Rows'.any-gone Syntax.tyUnit) (List._∷_ (1, Rows'.sslice (Referent.rtF (Referent.fInt Syntax.w8)) (Syntax.tyRef (Syntax.named 0) Syntax.imm (Syntax.tyInt Syntax.w8)) 0) (List._∷_ (2, Rows'.whole (Array'.Array (Referent.rtF (Referent.fInt Syntax.w32)) 32772)) (List._∷_ (3, Rows'.any-gone (Syntax.tyArray (Syntax.tyInt Syntax.w32) 65540)) (List._∷_ (4, Rows'.any-gone (Syntax.tyArray (Syntax.tyInt Syntax.w32) 32772)) (List._∷_ (5, Rows'.any-gone (Syntax.tyArray (Syntax.tyInt Syntax.w32) 32772)) (List._∷_ (6, Rows'.any-gone (Syntax.tyArray (Syntax.tyInt Syntax.w32) 262160)) (List._∷_ (7, Rows'.any-gone (Syntax.tyArray (Syntax.tyInt Syntax.w8) 600000)) (List._∷_ (8, Rows'.any-gone (Syntax.tyArray (Syntax.tyInt Syntax.w8) 16388)) (List._∷_ (9, Rows'.any-gone Cell.held) (List._∷_ (10, Rows'.any-gone (Syntax.tyArray Cell.held 65540)) (List._∷_ (11, Rows'.any-gone (Syntax.tyArray Cell.held 32772)) (List._∷_ (12, Rows'.any-gone Syntax.tyUnit) (List._∷_ (13, Rows'.any-gone (Syntax.tyRef Syntax.erased Syntax.mut (Syntax.tyArray (Syntax.tyInt Syntax.w32) 32772))) (List._∷_ (14, Rows'.any-gone (Syntax.tyRef Syntax.erased Syntax.mut (Syntax.tyArray (Syntax.tyInt Syntax.w8) 16388))) (List._∷_ (15, Rows'.any-gone (Syntax.tyRef Syntax.erased Syntax.mut (Syntax.tyArray (Syntax.tyInt Syntax.w32) 65540))) List.[])))))))))))))))
+t3 = List._∷_ local0 (List._∷_ local1 (List._∷_ (2, Rows'.whole held2) locals6))
 
 abbrev pub t4 : List.List Row.Entry
-t4 = List._∷_ (0, Rows'.any-gone Syntax.tyUnit) (List._∷_ (1, Rows'.sslice (Referent.rtF (Referent.fInt Syntax.w8)) (Syntax.tyRef (Syntax.named 0) Syntax.imm (Syntax.tyInt Syntax.w8)) 0) (List._∷_ (2, Rows.arrF (Referent.rtF (Referent.fInt Syntax.w32)) 32772 0) (List._∷_ (3, Rows'.any-gone (Syntax.tyArray (Syntax.tyInt Syntax.w32) 65540)) (List._∷_ (4, Rows'.any-gone (Syntax.tyArray (Syntax.tyInt Syntax.w32) 32772)) (List._∷_ (5, Rows'.any-gone (Syntax.tyArray (Syntax.tyInt Syntax.w32) 32772)) (List._∷_ (6, Rows'.any-gone (Syntax.tyArray (Syntax.tyInt Syntax.w32) 262160)) (List._∷_ (7, Rows'.any-gone (Syntax.tyArray (Syntax.tyInt Syntax.w8) 600000)) (List._∷_ (8, Rows'.any-gone (Syntax.tyArray (Syntax.tyInt Syntax.w8) 16388)) (List._∷_ (9, Rows'.any-gone Cell.held) (List._∷_ (10, Rows'.any-gone (Syntax.tyArray Cell.held 65540)) (List._∷_ (11, Rows'.any-gone (Syntax.tyArray Cell.held 32772)) (List._∷_ (12, Rows'.any-gone Syntax.tyUnit) (List._∷_ (13, Rows'.any-gone (Syntax.tyRef Syntax.erased Syntax.mut (Syntax.tyArray (Syntax.tyInt Syntax.w32) 32772))) (List._∷_ (14, Rows'.any-gone (Syntax.tyRef Syntax.erased Syntax.mut (Syntax.tyArray (Syntax.tyInt Syntax.w8) 16388))) (List._∷_ (15, Rows'.any-gone (Syntax.tyRef Syntax.erased Syntax.mut (Syntax.tyArray (Syntax.tyInt Syntax.w32) 65540))) List.[])))))))))))))))
+t4 = List._∷_ local0 (List._∷_ local1 (List._∷_ local15 locals6))
 
 abbrev pub t5 : List.List Row.Entry
-t5 = List._∷_ (0, Rows'.any-gone Syntax.tyUnit) (List._∷_ (1, Rows'.sslice (Referent.rtF (Referent.fInt Syntax.w8)) (Syntax.tyRef (Syntax.named 0) Syntax.imm (Syntax.tyInt Syntax.w8)) 0) (List._∷_ (2, Rows.arrF (Referent.rtF (Referent.fInt Syntax.w32)) 32772 0) (List._∷_ (3, Rows'.whole (Array'.Array (Referent.rtF (Referent.fInt Syntax.w32)) 65540)) (List._∷_ (4, Rows'.any-gone (Syntax.tyArray (Syntax.tyInt Syntax.w32) 32772)) (List._∷_ (5, Rows'.any-gone (Syntax.tyArray (Syntax.tyInt Syntax.w32) 32772)) (List._∷_ (6, Rows'.any-gone (Syntax.tyArray (Syntax.tyInt Syntax.w32) 262160)) (List._∷_ (7, Rows'.any-gone (Syntax.tyArray (Syntax.tyInt Syntax.w8) 600000)) (List._∷_ (8, Rows'.any-gone (Syntax.tyArray (Syntax.tyInt Syntax.w8) 16388)) (List._∷_ (9, Rows'.any-gone Cell.held) (List._∷_ (10, Rows'.any-gone (Syntax.tyArray Cell.held 65540)) (List._∷_ (11, Rows'.any-gone (Syntax.tyArray Cell.held 32772)) (List._∷_ (12, Rows'.any-gone Syntax.tyUnit) (List._∷_ (13, Rows'.any-gone (Syntax.tyRef Syntax.erased Syntax.mut (Syntax.tyArray (Syntax.tyInt Syntax.w32) 32772))) (List._∷_ (14, Rows'.any-gone (Syntax.tyRef Syntax.erased Syntax.mut (Syntax.tyArray (Syntax.tyInt Syntax.w8) 16388))) (List._∷_ (15, Rows'.any-gone (Syntax.tyRef Syntax.erased Syntax.mut (Syntax.tyArray (Syntax.tyInt Syntax.w32) 65540))) List.[])))))))))))))))
+t5 = List._∷_ local0 (List._∷_ local1 (List._∷_ local15 (List._∷_ (3, Rows'.whole held4) (List._∷_ local4 locals5))))
 
 abbrev pub t6 : List.List Row.Entry
-t6 = List._∷_ (0, Rows'.any-gone Syntax.tyUnit) (List._∷_ (1, Rows'.sslice (Referent.rtF (Referent.fInt Syntax.w8)) (Syntax.tyRef (Syntax.named 0) Syntax.imm (Syntax.tyInt Syntax.w8)) 0) (List._∷_ (2, Rows.arrF (Referent.rtF (Referent.fInt Syntax.w32)) 32772 0) (List._∷_ (3, Rows.arrF (Referent.rtF (Referent.fInt Syntax.w32)) 65540 0) (List._∷_ (4, Rows'.any-gone (Syntax.tyArray (Syntax.tyInt Syntax.w32) 32772)) (List._∷_ (5, Rows'.any-gone (Syntax.tyArray (Syntax.tyInt Syntax.w32) 32772)) (List._∷_ (6, Rows'.any-gone (Syntax.tyArray (Syntax.tyInt Syntax.w32) 262160)) (List._∷_ (7, Rows'.any-gone (Syntax.tyArray (Syntax.tyInt Syntax.w8) 600000)) (List._∷_ (8, Rows'.any-gone (Syntax.tyArray (Syntax.tyInt Syntax.w8) 16388)) (List._∷_ (9, Rows'.any-gone Cell.held) (List._∷_ (10, Rows'.any-gone (Syntax.tyArray Cell.held 65540)) (List._∷_ (11, Rows'.any-gone (Syntax.tyArray Cell.held 32772)) (List._∷_ (12, Rows'.any-gone Syntax.tyUnit) (List._∷_ (13, Rows'.any-gone (Syntax.tyRef Syntax.erased Syntax.mut (Syntax.tyArray (Syntax.tyInt Syntax.w32) 32772))) (List._∷_ (14, Rows'.any-gone (Syntax.tyRef Syntax.erased Syntax.mut (Syntax.tyArray (Syntax.tyInt Syntax.w8) 16388))) (List._∷_ (15, Rows'.any-gone (Syntax.tyRef Syntax.erased Syntax.mut (Syntax.tyArray (Syntax.tyInt Syntax.w32) 65540))) List.[])))))))))))))))
+t6 = List._∷_ local0 (List._∷_ local1 (List._∷_ local15 (List._∷_ local16 (List._∷_ local4 locals5))))
 
 abbrev pub t7 : List.List Row.Entry
-t7 = List._∷_ (0, Rows'.any-gone Syntax.tyUnit) (List._∷_ (1, Rows'.sslice (Referent.rtF (Referent.fInt Syntax.w8)) (Syntax.tyRef (Syntax.named 0) Syntax.imm (Syntax.tyInt Syntax.w8)) 0) (List._∷_ (2, Rows.arrF (Referent.rtF (Referent.fInt Syntax.w32)) 32772 0) (List._∷_ (3, Rows.arrF (Referent.rtF (Referent.fInt Syntax.w32)) 65540 0) (List._∷_ (4, Rows'.whole (Array'.Array (Referent.rtF (Referent.fInt Syntax.w32)) 32772)) (List._∷_ (5, Rows'.any-gone (Syntax.tyArray (Syntax.tyInt Syntax.w32) 32772)) (List._∷_ (6, Rows'.any-gone (Syntax.tyArray (Syntax.tyInt Syntax.w32) 262160)) (List._∷_ (7, Rows'.any-gone (Syntax.tyArray (Syntax.tyInt Syntax.w8) 600000)) (List._∷_ (8, Rows'.any-gone (Syntax.tyArray (Syntax.tyInt Syntax.w8) 16388)) (List._∷_ (9, Rows'.any-gone Cell.held) (List._∷_ (10, Rows'.any-gone (Syntax.tyArray Cell.held 65540)) (List._∷_ (11, Rows'.any-gone (Syntax.tyArray Cell.held 32772)) (List._∷_ (12, Rows'.any-gone Syntax.tyUnit) (List._∷_ (13, Rows'.any-gone (Syntax.tyRef Syntax.erased Syntax.mut (Syntax.tyArray (Syntax.tyInt Syntax.w32) 32772))) (List._∷_ (14, Rows'.any-gone (Syntax.tyRef Syntax.erased Syntax.mut (Syntax.tyArray (Syntax.tyInt Syntax.w8) 16388))) (List._∷_ (15, Rows'.any-gone (Syntax.tyRef Syntax.erased Syntax.mut (Syntax.tyArray (Syntax.tyInt Syntax.w32) 65540))) List.[])))))))))))))))
+t7 = List._∷_ local0 (List._∷_ local1 (List._∷_ local15 (List._∷_ local16 (List._∷_ (4, Rows'.whole held2) locals5))))
 
 abbrev pub t8 : List.List Row.Entry
-t8 = List._∷_ (0, Rows'.any-gone Syntax.tyUnit) (List._∷_ (1, Rows'.sslice (Referent.rtF (Referent.fInt Syntax.w8)) (Syntax.tyRef (Syntax.named 0) Syntax.imm (Syntax.tyInt Syntax.w8)) 0) (List._∷_ (2, Rows.arrF (Referent.rtF (Referent.fInt Syntax.w32)) 32772 0) (List._∷_ (3, Rows.arrF (Referent.rtF (Referent.fInt Syntax.w32)) 65540 0) (List._∷_ (4, Rows.arrF (Referent.rtF (Referent.fInt Syntax.w32)) 32772 0) (List._∷_ (5, Rows'.any-gone (Syntax.tyArray (Syntax.tyInt Syntax.w32) 32772)) (List._∷_ (6, Rows'.any-gone (Syntax.tyArray (Syntax.tyInt Syntax.w32) 262160)) (List._∷_ (7, Rows'.any-gone (Syntax.tyArray (Syntax.tyInt Syntax.w8) 600000)) (List._∷_ (8, Rows'.any-gone (Syntax.tyArray (Syntax.tyInt Syntax.w8) 16388)) (List._∷_ (9, Rows'.any-gone Cell.held) (List._∷_ (10, Rows'.any-gone (Syntax.tyArray Cell.held 65540)) (List._∷_ (11, Rows'.any-gone (Syntax.tyArray Cell.held 32772)) (List._∷_ (12, Rows'.any-gone Syntax.tyUnit) (List._∷_ (13, Rows'.any-gone (Syntax.tyRef Syntax.erased Syntax.mut (Syntax.tyArray (Syntax.tyInt Syntax.w32) 32772))) (List._∷_ (14, Rows'.any-gone (Syntax.tyRef Syntax.erased Syntax.mut (Syntax.tyArray (Syntax.tyInt Syntax.w8) 16388))) (List._∷_ (15, Rows'.any-gone (Syntax.tyRef Syntax.erased Syntax.mut (Syntax.tyArray (Syntax.tyInt Syntax.w32) 65540))) List.[])))))))))))))))
+t8 = List._∷_ local0 (List._∷_ local1 (List._∷_ local15 (List._∷_ local16 (List._∷_ local17 locals5))))
 
 abbrev pub t9 : List.List Row.Entry
-t9 = List._∷_ (0, Rows'.any-gone Syntax.tyUnit) (List._∷_ (1, Rows'.sslice (Referent.rtF (Referent.fInt Syntax.w8)) (Syntax.tyRef (Syntax.named 0) Syntax.imm (Syntax.tyInt Syntax.w8)) 0) (List._∷_ (2, Rows.arrF (Referent.rtF (Referent.fInt Syntax.w32)) 32772 0) (List._∷_ (3, Rows.arrF (Referent.rtF (Referent.fInt Syntax.w32)) 65540 0) (List._∷_ (4, Rows.arrF (Referent.rtF (Referent.fInt Syntax.w32)) 32772 0) (List._∷_ (5, Rows'.whole (Array'.Array (Referent.rtF (Referent.fInt Syntax.w32)) 32772)) (List._∷_ (6, Rows'.any-gone (Syntax.tyArray (Syntax.tyInt Syntax.w32) 262160)) (List._∷_ (7, Rows'.any-gone (Syntax.tyArray (Syntax.tyInt Syntax.w8) 600000)) (List._∷_ (8, Rows'.any-gone (Syntax.tyArray (Syntax.tyInt Syntax.w8) 16388)) (List._∷_ (9, Rows'.any-gone Cell.held) (List._∷_ (10, Rows'.any-gone (Syntax.tyArray Cell.held 65540)) (List._∷_ (11, Rows'.any-gone (Syntax.tyArray Cell.held 32772)) (List._∷_ (12, Rows'.any-gone Syntax.tyUnit) (List._∷_ (13, Rows'.any-gone (Syntax.tyRef Syntax.erased Syntax.mut (Syntax.tyArray (Syntax.tyInt Syntax.w32) 32772))) (List._∷_ (14, Rows'.any-gone (Syntax.tyRef Syntax.erased Syntax.mut (Syntax.tyArray (Syntax.tyInt Syntax.w8) 16388))) (List._∷_ (15, Rows'.any-gone (Syntax.tyRef Syntax.erased Syntax.mut (Syntax.tyArray (Syntax.tyInt Syntax.w32) 65540))) List.[])))))))))))))))
+t9 = List._∷_ local0 (List._∷_ local1 (List._∷_ local15 (List._∷_ local16 (List._∷_ local17 (List._∷_ (5, Rows'.whole held2) (List._∷_ local6 locals4))))))
 
 abbrev pub t10 : List.List Row.Entry
-t10 = List._∷_ (0, Rows'.any-gone Syntax.tyUnit) (List._∷_ (1, Rows'.sslice (Referent.rtF (Referent.fInt Syntax.w8)) (Syntax.tyRef (Syntax.named 0) Syntax.imm (Syntax.tyInt Syntax.w8)) 0) (List._∷_ (2, Rows.arrF (Referent.rtF (Referent.fInt Syntax.w32)) 32772 0) (List._∷_ (3, Rows.arrF (Referent.rtF (Referent.fInt Syntax.w32)) 65540 0) (List._∷_ (4, Rows.arrF (Referent.rtF (Referent.fInt Syntax.w32)) 32772 0) (List._∷_ (5, Rows.arrF (Referent.rtF (Referent.fInt Syntax.w32)) 32772 0) (List._∷_ (6, Rows'.any-gone (Syntax.tyArray (Syntax.tyInt Syntax.w32) 262160)) (List._∷_ (7, Rows'.any-gone (Syntax.tyArray (Syntax.tyInt Syntax.w8) 600000)) (List._∷_ (8, Rows'.any-gone (Syntax.tyArray (Syntax.tyInt Syntax.w8) 16388)) (List._∷_ (9, Rows'.any-gone Cell.held) (List._∷_ (10, Rows'.any-gone (Syntax.tyArray Cell.held 65540)) (List._∷_ (11, Rows'.any-gone (Syntax.tyArray Cell.held 32772)) (List._∷_ (12, Rows'.any-gone Syntax.tyUnit) (List._∷_ (13, Rows'.any-gone (Syntax.tyRef Syntax.erased Syntax.mut (Syntax.tyArray (Syntax.tyInt Syntax.w32) 32772))) (List._∷_ (14, Rows'.any-gone (Syntax.tyRef Syntax.erased Syntax.mut (Syntax.tyArray (Syntax.tyInt Syntax.w8) 16388))) (List._∷_ (15, Rows'.any-gone (Syntax.tyRef Syntax.erased Syntax.mut (Syntax.tyArray (Syntax.tyInt Syntax.w32) 65540))) List.[])))))))))))))))
+t10 = List._∷_ local0 (List._∷_ local1 (List._∷_ local15 (List._∷_ local16 (List._∷_ local17 (List._∷_ local18 (List._∷_ local6 locals4))))))
 
 abbrev pub t11 : List.List Row.Entry
-t11 = List._∷_ (0, Rows'.any-gone Syntax.tyUnit) (List._∷_ (1, Rows'.sslice (Referent.rtF (Referent.fInt Syntax.w8)) (Syntax.tyRef (Syntax.named 0) Syntax.imm (Syntax.tyInt Syntax.w8)) 0) (List._∷_ (2, Rows.arrF (Referent.rtF (Referent.fInt Syntax.w32)) 32772 0) (List._∷_ (3, Rows.arrF (Referent.rtF (Referent.fInt Syntax.w32)) 65540 0) (List._∷_ (4, Rows.arrF (Referent.rtF (Referent.fInt Syntax.w32)) 32772 0) (List._∷_ (5, Rows.arrF (Referent.rtF (Referent.fInt Syntax.w32)) 32772 0) (List._∷_ (6, Rows'.whole (Array'.Array (Referent.rtF (Referent.fInt Syntax.w32)) 262160)) (List._∷_ (7, Rows'.any-gone (Syntax.tyArray (Syntax.tyInt Syntax.w8) 600000)) (List._∷_ (8, Rows'.any-gone (Syntax.tyArray (Syntax.tyInt Syntax.w8) 16388)) (List._∷_ (9, Rows'.any-gone Cell.held) (List._∷_ (10, Rows'.any-gone (Syntax.tyArray Cell.held 65540)) (List._∷_ (11, Rows'.any-gone (Syntax.tyArray Cell.held 32772)) (List._∷_ (12, Rows'.any-gone Syntax.tyUnit) (List._∷_ (13, Rows'.any-gone (Syntax.tyRef Syntax.erased Syntax.mut (Syntax.tyArray (Syntax.tyInt Syntax.w32) 32772))) (List._∷_ (14, Rows'.any-gone (Syntax.tyRef Syntax.erased Syntax.mut (Syntax.tyArray (Syntax.tyInt Syntax.w8) 16388))) (List._∷_ (15, Rows'.any-gone (Syntax.tyRef Syntax.erased Syntax.mut (Syntax.tyArray (Syntax.tyInt Syntax.w32) 65540))) List.[])))))))))))))))
+t11 = List._∷_ local0 (List._∷_ local1 (List._∷_ local15 (List._∷_ local16 (List._∷_ local17 (List._∷_ local18 (List._∷_ (6, Rows'.whole held5) locals4))))))
 
 abbrev pub t12 : List.List Row.Entry
-t12 = List._∷_ (0, Rows'.any-gone Syntax.tyUnit) (List._∷_ (1, Rows'.sslice (Referent.rtF (Referent.fInt Syntax.w8)) (Syntax.tyRef (Syntax.named 0) Syntax.imm (Syntax.tyInt Syntax.w8)) 0) (List._∷_ (2, Rows.arrF (Referent.rtF (Referent.fInt Syntax.w32)) 32772 0) (List._∷_ (3, Rows.arrF (Referent.rtF (Referent.fInt Syntax.w32)) 65540 0) (List._∷_ (4, Rows.arrF (Referent.rtF (Referent.fInt Syntax.w32)) 32772 0) (List._∷_ (5, Rows.arrF (Referent.rtF (Referent.fInt Syntax.w32)) 32772 0) (List._∷_ (6, Rows.arrF (Referent.rtF (Referent.fInt Syntax.w32)) 262160 0) (List._∷_ (7, Rows'.any-gone (Syntax.tyArray (Syntax.tyInt Syntax.w8) 600000)) (List._∷_ (8, Rows'.any-gone (Syntax.tyArray (Syntax.tyInt Syntax.w8) 16388)) (List._∷_ (9, Rows'.any-gone Cell.held) (List._∷_ (10, Rows'.any-gone (Syntax.tyArray Cell.held 65540)) (List._∷_ (11, Rows'.any-gone (Syntax.tyArray Cell.held 32772)) (List._∷_ (12, Rows'.any-gone Syntax.tyUnit) (List._∷_ (13, Rows'.any-gone (Syntax.tyRef Syntax.erased Syntax.mut (Syntax.tyArray (Syntax.tyInt Syntax.w32) 32772))) (List._∷_ (14, Rows'.any-gone (Syntax.tyRef Syntax.erased Syntax.mut (Syntax.tyArray (Syntax.tyInt Syntax.w8) 16388))) (List._∷_ (15, Rows'.any-gone (Syntax.tyRef Syntax.erased Syntax.mut (Syntax.tyArray (Syntax.tyInt Syntax.w32) 65540))) List.[])))))))))))))))
+t12 = List._∷_ local0 (List._∷_ local1 (List._∷_ local15 (List._∷_ local16 (List._∷_ local17 (List._∷_ local18 (List._∷_ local19 locals4))))))
 
 abbrev pub t13 : List.List Row.Entry
-t13 = List._∷_ (0, Rows'.any-gone Syntax.tyUnit) (List._∷_ (1, Rows'.sslice (Referent.rtF (Referent.fInt Syntax.w8)) (Syntax.tyRef (Syntax.named 0) Syntax.imm (Syntax.tyInt Syntax.w8)) 0) (List._∷_ (2, Rows.arrF (Referent.rtF (Referent.fInt Syntax.w32)) 32772 0) (List._∷_ (3, Rows.arrF (Referent.rtF (Referent.fInt Syntax.w32)) 65540 0) (List._∷_ (4, Rows.arrF (Referent.rtF (Referent.fInt Syntax.w32)) 32772 0) (List._∷_ (5, Rows.arrF (Referent.rtF (Referent.fInt Syntax.w32)) 32772 0) (List._∷_ (6, Rows.arrF (Referent.rtF (Referent.fInt Syntax.w32)) 262160 0) (List._∷_ (7, Rows'.whole (Array'.Array (Referent.rtF (Referent.fInt Syntax.w8)) 600000)) (List._∷_ (8, Rows'.any-gone (Syntax.tyArray (Syntax.tyInt Syntax.w8) 16388)) (List._∷_ (9, Rows'.any-gone Cell.held) (List._∷_ (10, Rows'.any-gone (Syntax.tyArray Cell.held 65540)) (List._∷_ (11, Rows'.any-gone (Syntax.tyArray Cell.held 32772)) (List._∷_ (12, Rows'.any-gone Syntax.tyUnit) (List._∷_ (13, Rows'.any-gone (Syntax.tyRef Syntax.erased Syntax.mut (Syntax.tyArray (Syntax.tyInt Syntax.w32) 32772))) (List._∷_ (14, Rows'.any-gone (Syntax.tyRef Syntax.erased Syntax.mut (Syntax.tyArray (Syntax.tyInt Syntax.w8) 16388))) (List._∷_ (15, Rows'.any-gone (Syntax.tyRef Syntax.erased Syntax.mut (Syntax.tyArray (Syntax.tyInt Syntax.w32) 65540))) List.[])))))))))))))))
+t13 = List._∷_ local0 (List._∷_ local1 (List._∷_ local15 (List._∷_ local16 (List._∷_ local17 (List._∷_ local18 (List._∷_ local19 (List._∷_ (7, Rows'.whole held6) (List._∷_ local8 locals3))))))))
 
 abbrev pub t14 : List.List Row.Entry
-t14 = List._∷_ (0, Rows'.any-gone Syntax.tyUnit) (List._∷_ (1, Rows'.sslice (Referent.rtF (Referent.fInt Syntax.w8)) (Syntax.tyRef (Syntax.named 0) Syntax.imm (Syntax.tyInt Syntax.w8)) 0) (List._∷_ (2, Rows.arrF (Referent.rtF (Referent.fInt Syntax.w32)) 32772 0) (List._∷_ (3, Rows.arrF (Referent.rtF (Referent.fInt Syntax.w32)) 65540 0) (List._∷_ (4, Rows.arrF (Referent.rtF (Referent.fInt Syntax.w32)) 32772 0) (List._∷_ (5, Rows.arrF (Referent.rtF (Referent.fInt Syntax.w32)) 32772 0) (List._∷_ (6, Rows.arrF (Referent.rtF (Referent.fInt Syntax.w32)) 262160 0) (List._∷_ (7, Rows.arrF (Referent.rtF (Referent.fInt Syntax.w8)) 600000 0) (List._∷_ (8, Rows'.any-gone (Syntax.tyArray (Syntax.tyInt Syntax.w8) 16388)) (List._∷_ (9, Rows'.any-gone Cell.held) (List._∷_ (10, Rows'.any-gone (Syntax.tyArray Cell.held 65540)) (List._∷_ (11, Rows'.any-gone (Syntax.tyArray Cell.held 32772)) (List._∷_ (12, Rows'.any-gone Syntax.tyUnit) (List._∷_ (13, Rows'.any-gone (Syntax.tyRef Syntax.erased Syntax.mut (Syntax.tyArray (Syntax.tyInt Syntax.w32) 32772))) (List._∷_ (14, Rows'.any-gone (Syntax.tyRef Syntax.erased Syntax.mut (Syntax.tyArray (Syntax.tyInt Syntax.w8) 16388))) (List._∷_ (15, Rows'.any-gone (Syntax.tyRef Syntax.erased Syntax.mut (Syntax.tyArray (Syntax.tyInt Syntax.w32) 65540))) List.[])))))))))))))))
+t14 = List._∷_ local0 (List._∷_ local1 (List._∷_ local15 (List._∷_ local16 (List._∷_ local17 (List._∷_ local18 (List._∷_ local19 (List._∷_ local20 (List._∷_ local8 locals3))))))))
 
 abbrev pub t15 : List.List Row.Entry
-t15 = List._∷_ (0, Rows'.any-gone Syntax.tyUnit) (List._∷_ (1, Rows'.sslice (Referent.rtF (Referent.fInt Syntax.w8)) (Syntax.tyRef (Syntax.named 0) Syntax.imm (Syntax.tyInt Syntax.w8)) 0) (List._∷_ (2, Rows.arrF (Referent.rtF (Referent.fInt Syntax.w32)) 32772 0) (List._∷_ (3, Rows.arrF (Referent.rtF (Referent.fInt Syntax.w32)) 65540 0) (List._∷_ (4, Rows.arrF (Referent.rtF (Referent.fInt Syntax.w32)) 32772 0) (List._∷_ (5, Rows.arrF (Referent.rtF (Referent.fInt Syntax.w32)) 32772 0) (List._∷_ (6, Rows.arrF (Referent.rtF (Referent.fInt Syntax.w32)) 262160 0) (List._∷_ (7, Rows.arrF (Referent.rtF (Referent.fInt Syntax.w8)) 600000 0) (List._∷_ (8, Rows'.whole (Array'.Array (Referent.rtF (Referent.fInt Syntax.w8)) 16388)) (List._∷_ (9, Rows'.any-gone Cell.held) (List._∷_ (10, Rows'.any-gone (Syntax.tyArray Cell.held 65540)) (List._∷_ (11, Rows'.any-gone (Syntax.tyArray Cell.held 32772)) (List._∷_ (12, Rows'.any-gone Syntax.tyUnit) (List._∷_ (13, Rows'.any-gone (Syntax.tyRef Syntax.erased Syntax.mut (Syntax.tyArray (Syntax.tyInt Syntax.w32) 32772))) (List._∷_ (14, Rows'.any-gone (Syntax.tyRef Syntax.erased Syntax.mut (Syntax.tyArray (Syntax.tyInt Syntax.w8) 16388))) (List._∷_ (15, Rows'.any-gone (Syntax.tyRef Syntax.erased Syntax.mut (Syntax.tyArray (Syntax.tyInt Syntax.w32) 65540))) List.[])))))))))))))))
+t15 = List._∷_ local0 (List._∷_ local1 (List._∷_ local15 (List._∷_ local16 (List._∷_ local17 (List._∷_ local18 (List._∷_ local19 (List._∷_ local20 (List._∷_ (8, Rows'.whole held3) locals3))))))))
 
 abbrev pub t16 : List.List Row.Entry
-t16 = List._∷_ (0, Rows'.any-gone Syntax.tyUnit) (List._∷_ (1, Rows'.sslice (Referent.rtF (Referent.fInt Syntax.w8)) (Syntax.tyRef (Syntax.named 0) Syntax.imm (Syntax.tyInt Syntax.w8)) 0) (List._∷_ (2, Rows.arrF (Referent.rtF (Referent.fInt Syntax.w32)) 32772 0) (List._∷_ (3, Rows.arrF (Referent.rtF (Referent.fInt Syntax.w32)) 65540 0) (List._∷_ (4, Rows.arrF (Referent.rtF (Referent.fInt Syntax.w32)) 32772 0) (List._∷_ (5, Rows.arrF (Referent.rtF (Referent.fInt Syntax.w32)) 32772 0) (List._∷_ (6, Rows.arrF (Referent.rtF (Referent.fInt Syntax.w32)) 262160 0) (List._∷_ (7, Rows.arrF (Referent.rtF (Referent.fInt Syntax.w8)) 600000 0) (List._∷_ (8, Rows.arrF (Referent.rtF (Referent.fInt Syntax.w8)) 16388 0) (List._∷_ (9, Rows'.any-gone Cell.held) (List._∷_ (10, Rows'.any-gone (Syntax.tyArray Cell.held 65540)) (List._∷_ (11, Rows'.any-gone (Syntax.tyArray Cell.held 32772)) (List._∷_ (12, Rows'.any-gone Syntax.tyUnit) (List._∷_ (13, Rows'.any-gone (Syntax.tyRef Syntax.erased Syntax.mut (Syntax.tyArray (Syntax.tyInt Syntax.w32) 32772))) (List._∷_ (14, Rows'.any-gone (Syntax.tyRef Syntax.erased Syntax.mut (Syntax.tyArray (Syntax.tyInt Syntax.w8) 16388))) (List._∷_ (15, Rows'.any-gone (Syntax.tyRef Syntax.erased Syntax.mut (Syntax.tyArray (Syntax.tyInt Syntax.w32) 65540))) List.[])))))))))))))))
+t16 = List._∷_ local0 (List._∷_ local1 (List._∷_ local15 (List._∷_ local16 (List._∷_ local17 (List._∷_ local18 (List._∷_ local19 (List._∷_ local20 (List._∷_ local21 locals3))))))))
 
 abbrev pub t17 : List.List Row.Entry
-t17 = List._∷_ (0, Rows'.any-gone Syntax.tyUnit) (List._∷_ (1, Rows'.sslice (Referent.rtF (Referent.fInt Syntax.w8)) (Syntax.tyRef (Syntax.named 0) Syntax.imm (Syntax.tyInt Syntax.w8)) 0) (List._∷_ (2, Rows.arrF (Referent.rtF (Referent.fInt Syntax.w32)) 32772 0) (List._∷_ (3, Rows.arrF (Referent.rtF (Referent.fInt Syntax.w32)) 65540 0) (List._∷_ (4, Rows.arrF (Referent.rtF (Referent.fInt Syntax.w32)) 32772 0) (List._∷_ (5, Rows.arrF (Referent.rtF (Referent.fInt Syntax.w32)) 32772 0) (List._∷_ (6, Rows.arrF (Referent.rtF (Referent.fInt Syntax.w32)) 262160 0) (List._∷_ (7, Rows.arrF (Referent.rtF (Referent.fInt Syntax.w8)) 600000 0) (List._∷_ (8, Rows.arrF (Referent.rtF (Referent.fInt Syntax.w8)) 16388 0) (List._∷_ (9, Cell.row) (List._∷_ (10, Rows'.any-gone (Syntax.tyArray Cell.held 65540)) (List._∷_ (11, Rows'.any-gone (Syntax.tyArray Cell.held 32772)) (List._∷_ (12, Rows'.any-gone Syntax.tyUnit) (List._∷_ (13, Rows'.any-gone (Syntax.tyRef Syntax.erased Syntax.mut (Syntax.tyArray (Syntax.tyInt Syntax.w32) 32772))) (List._∷_ (14, Rows'.any-gone (Syntax.tyRef Syntax.erased Syntax.mut (Syntax.tyArray (Syntax.tyInt Syntax.w8) 16388))) (List._∷_ (15, Rows'.any-gone (Syntax.tyRef Syntax.erased Syntax.mut (Syntax.tyArray (Syntax.tyInt Syntax.w32) 65540))) List.[])))))))))))))))
+t17 = List._∷_ local0 (List._∷_ local1 (List._∷_ local15 (List._∷_ local16 (List._∷_ local17 (List._∷_ local18 (List._∷_ local19 (List._∷_ local20 (List._∷_ local21 (List._∷_ (9, Cell.row) (List._∷_ local10 locals2))))))))))
 
 abbrev pub t18 : List.List Row.Entry
-t18 = List._∷_ (0, Rows'.any-gone Syntax.tyUnit) (List._∷_ (1, Rows'.sslice (Referent.rtF (Referent.fInt Syntax.w8)) (Syntax.tyRef (Syntax.named 0) Syntax.imm (Syntax.tyInt Syntax.w8)) 0) (List._∷_ (2, Rows.arrF (Referent.rtF (Referent.fInt Syntax.w32)) 32772 0) (List._∷_ (3, Rows.arrF (Referent.rtF (Referent.fInt Syntax.w32)) 65540 0) (List._∷_ (4, Rows.arrF (Referent.rtF (Referent.fInt Syntax.w32)) 32772 0) (List._∷_ (5, Rows.arrF (Referent.rtF (Referent.fInt Syntax.w32)) 32772 0) (List._∷_ (6, Rows.arrF (Referent.rtF (Referent.fInt Syntax.w32)) 262160 0) (List._∷_ (7, Rows.arrF (Referent.rtF (Referent.fInt Syntax.w8)) 600000 0) (List._∷_ (8, Rows.arrF (Referent.rtF (Referent.fInt Syntax.w8)) 16388 0) (List._∷_ (9, Cell.row) (List._∷_ (10, Rows'.whole (Array'.Array Cell.R 65540)) (List._∷_ (11, Rows'.any-gone (Syntax.tyArray Cell.held 32772)) (List._∷_ (12, Rows'.any-gone Syntax.tyUnit) (List._∷_ (13, Rows'.any-gone (Syntax.tyRef Syntax.erased Syntax.mut (Syntax.tyArray (Syntax.tyInt Syntax.w32) 32772))) (List._∷_ (14, Rows'.any-gone (Syntax.tyRef Syntax.erased Syntax.mut (Syntax.tyArray (Syntax.tyInt Syntax.w8) 16388))) (List._∷_ (15, Rows'.any-gone (Syntax.tyRef Syntax.erased Syntax.mut (Syntax.tyArray (Syntax.tyInt Syntax.w32) 65540))) List.[])))))))))))))))
+t18 = List._∷_ local0 (List._∷_ local1 (List._∷_ local15 (List._∷_ local16 (List._∷_ local17 (List._∷_ local18 (List._∷_ local19 (List._∷_ local20 (List._∷_ local21 (List._∷_ (9, Cell.row) (List._∷_ (10, Rows'.whole held7) locals2))))))))))
 
 abbrev pub t19 : List.List Row.Entry
-t19 = List._∷_ (0, Rows'.any-gone Syntax.tyUnit) (List._∷_ (1, Rows'.sslice (Referent.rtF (Referent.fInt Syntax.w8)) (Syntax.tyRef (Syntax.named 0) Syntax.imm (Syntax.tyInt Syntax.w8)) 0) (List._∷_ (2, Rows.arrF (Referent.rtF (Referent.fInt Syntax.w32)) 32772 0) (List._∷_ (3, Rows.arrF (Referent.rtF (Referent.fInt Syntax.w32)) 65540 0) (List._∷_ (4, Rows.arrF (Referent.rtF (Referent.fInt Syntax.w32)) 32772 0) (List._∷_ (5, Rows.arrF (Referent.rtF (Referent.fInt Syntax.w32)) 32772 0) (List._∷_ (6, Rows.arrF (Referent.rtF (Referent.fInt Syntax.w32)) 262160 0) (List._∷_ (7, Rows.arrF (Referent.rtF (Referent.fInt Syntax.w8)) 600000 0) (List._∷_ (8, Rows.arrF (Referent.rtF (Referent.fInt Syntax.w8)) 16388 0) (List._∷_ (9, Cell.row) (List._∷_ (10, Rows.arrF Cell.R 65540 0) (List._∷_ (11, Rows'.any-gone (Syntax.tyArray Cell.held 32772)) (List._∷_ (12, Rows'.any-gone Syntax.tyUnit) (List._∷_ (13, Rows'.any-gone (Syntax.tyRef Syntax.erased Syntax.mut (Syntax.tyArray (Syntax.tyInt Syntax.w32) 32772))) (List._∷_ (14, Rows'.any-gone (Syntax.tyRef Syntax.erased Syntax.mut (Syntax.tyArray (Syntax.tyInt Syntax.w8) 16388))) (List._∷_ (15, Rows'.any-gone (Syntax.tyRef Syntax.erased Syntax.mut (Syntax.tyArray (Syntax.tyInt Syntax.w32) 65540))) List.[])))))))))))))))
+t19 = List._∷_ local0 (List._∷_ local1 (List._∷_ local15 (List._∷_ local16 (List._∷_ local17 (List._∷_ local18 (List._∷_ local19 (List._∷_ local20 (List._∷_ local21 (List._∷_ (9, Cell.row) (List._∷_ local22 locals2))))))))))
 
 abbrev pub t20 : List.List Row.Entry
-t20 = List._∷_ (0, Rows'.any-gone Syntax.tyUnit) (List._∷_ (1, Rows'.sslice (Referent.rtF (Referent.fInt Syntax.w8)) (Syntax.tyRef (Syntax.named 0) Syntax.imm (Syntax.tyInt Syntax.w8)) 0) (List._∷_ (2, Rows.arrF (Referent.rtF (Referent.fInt Syntax.w32)) 32772 0) (List._∷_ (3, Rows.arrF (Referent.rtF (Referent.fInt Syntax.w32)) 65540 0) (List._∷_ (4, Rows.arrF (Referent.rtF (Referent.fInt Syntax.w32)) 32772 0) (List._∷_ (5, Rows.arrF (Referent.rtF (Referent.fInt Syntax.w32)) 32772 0) (List._∷_ (6, Rows.arrF (Referent.rtF (Referent.fInt Syntax.w32)) 262160 0) (List._∷_ (7, Rows.arrF (Referent.rtF (Referent.fInt Syntax.w8)) 600000 0) (List._∷_ (8, Rows.arrF (Referent.rtF (Referent.fInt Syntax.w8)) 16388 0) (List._∷_ (9, Cell.row) (List._∷_ (10, Rows.arrF Cell.R 65540 0) (List._∷_ (11, Rows'.whole (Array'.Array Cell.R 32772)) (List._∷_ (12, Rows'.any-gone Syntax.tyUnit) (List._∷_ (13, Rows'.any-gone (Syntax.tyRef Syntax.erased Syntax.mut (Syntax.tyArray (Syntax.tyInt Syntax.w32) 32772))) (List._∷_ (14, Rows'.any-gone (Syntax.tyRef Syntax.erased Syntax.mut (Syntax.tyArray (Syntax.tyInt Syntax.w8) 16388))) (List._∷_ (15, Rows'.any-gone (Syntax.tyRef Syntax.erased Syntax.mut (Syntax.tyArray (Syntax.tyInt Syntax.w32) 65540))) List.[])))))))))))))))
+t20 = List._∷_ local0 (List._∷_ local1 (List._∷_ local15 (List._∷_ local16 (List._∷_ local17 (List._∷_ local18 (List._∷_ local19 (List._∷_ local20 (List._∷_ local21 (List._∷_ (9, Cell.row) (List._∷_ local22 (List._∷_ (11, Rows'.whole held8) locals1)))))))))))
 
 abbrev pub t21 : List.List Row.Entry
-t21 = List._∷_ (0, Rows'.any-gone Syntax.tyUnit) (List._∷_ (1, Rows'.sslice (Referent.rtF (Referent.fInt Syntax.w8)) (Syntax.tyRef (Syntax.named 0) Syntax.imm (Syntax.tyInt Syntax.w8)) 0) (List._∷_ (2, Rows.arrF (Referent.rtF (Referent.fInt Syntax.w32)) 32772 0) (List._∷_ (3, Rows.arrF (Referent.rtF (Referent.fInt Syntax.w32)) 65540 0) (List._∷_ (4, Rows.arrF (Referent.rtF (Referent.fInt Syntax.w32)) 32772 0) (List._∷_ (5, Rows.arrF (Referent.rtF (Referent.fInt Syntax.w32)) 32772 0) (List._∷_ (6, Rows.arrF (Referent.rtF (Referent.fInt Syntax.w32)) 262160 0) (List._∷_ (7, Rows.arrF (Referent.rtF (Referent.fInt Syntax.w8)) 600000 0) (List._∷_ (8, Rows.arrF (Referent.rtF (Referent.fInt Syntax.w8)) 16388 0) (List._∷_ (9, Cell.row) (List._∷_ (10, Rows.arrF Cell.R 65540 0) (List._∷_ (11, Rows.arrF Cell.R 32772 0) (List._∷_ (12, Rows'.any-gone Syntax.tyUnit) (List._∷_ (13, Rows'.any-gone (Syntax.tyRef Syntax.erased Syntax.mut (Syntax.tyArray (Syntax.tyInt Syntax.w32) 32772))) (List._∷_ (14, Rows'.any-gone (Syntax.tyRef Syntax.erased Syntax.mut (Syntax.tyArray (Syntax.tyInt Syntax.w8) 16388))) (List._∷_ (15, Rows'.any-gone (Syntax.tyRef Syntax.erased Syntax.mut (Syntax.tyArray (Syntax.tyInt Syntax.w32) 65540))) List.[])))))))))))))))
+t21 = List._∷_ local0 (List._∷_ local1 (List._∷_ local15 (List._∷_ local16 (List._∷_ local17 (List._∷_ local18 (List._∷_ local19 (List._∷_ local20 (List._∷_ local21 (List._∷_ (9, Cell.row) (List._∷_ local22 (List._∷_ local23 locals1)))))))))))
 
 abbrev pub t22 : List.List Row.Entry
-t22 = List._∷_ (0, Rows'.any-gone Syntax.tyUnit) (List._∷_ (1, Rows'.sslice (Referent.rtF (Referent.fInt Syntax.w8)) (Syntax.tyRef (Syntax.named 0) Syntax.imm (Syntax.tyInt Syntax.w8)) 0) (List._∷_ (2, Rows.arrF (Referent.rtF (Referent.fInt Syntax.w32)) 32772 0) (List._∷_ (3, Rows.arrF (Referent.rtF (Referent.fInt Syntax.w32)) 65540 0) (List._∷_ (4, Rows.arrF (Referent.rtF (Referent.fInt Syntax.w32)) 32772 0) (List._∷_ (5, Rows.arrF (Referent.rtF (Referent.fInt Syntax.w32)) 32772 0) (List._∷_ (6, Rows.arrF (Referent.rtF (Referent.fInt Syntax.w32)) 262160 0) (List._∷_ (7, Rows.arrF (Referent.rtF (Referent.fInt Syntax.w8)) 600000 0) (List._∷_ (8, Rows.arrF (Referent.rtF (Referent.fInt Syntax.w8)) 16388 0) (List._∷_ (9, Rows'.any-gone Cell.held) (List._∷_ (10, Rows.arrF Cell.R 65540 0) (List._∷_ (11, Rows.arrF Cell.R 32772 0) (List._∷_ (12, Rows'.any-gone Syntax.tyUnit) (List._∷_ (13, Rows'.any-gone (Syntax.tyRef Syntax.erased Syntax.mut (Syntax.tyArray (Syntax.tyInt Syntax.w32) 32772))) (List._∷_ (14, Rows'.any-gone (Syntax.tyRef Syntax.erased Syntax.mut (Syntax.tyArray (Syntax.tyInt Syntax.w8) 16388))) (List._∷_ (15, Rows'.any-gone (Syntax.tyRef Syntax.erased Syntax.mut (Syntax.tyArray (Syntax.tyInt Syntax.w32) 65540))) List.[])))))))))))))))
+t22 = List._∷_ local0 (List._∷_ local1 (List._∷_ local15 (List._∷_ local16 (List._∷_ local17 (List._∷_ local18 (List._∷_ local19 (List._∷_ local20 (List._∷_ local21 (List._∷_ local9 (List._∷_ local22 (List._∷_ local23 locals1)))))))))))
 
 abbrev pub t23 : List.List Row.Entry
-t23 = List._∷_ (0, Rows'.any-gone Syntax.tyUnit) (List._∷_ (1, Rows'.sslice (Referent.rtF (Referent.fInt Syntax.w8)) (Syntax.tyRef (Syntax.named 0) Syntax.imm (Syntax.tyInt Syntax.w8)) 0) (List._∷_ (2, Rows'.sc-owed (Array'.Array (Referent.rtF (Referent.fInt Syntax.w32)) 32772) 1) (List._∷_ (3, Rows.arrF (Referent.rtF (Referent.fInt Syntax.w32)) 65540 0) (List._∷_ (4, Rows.arrF (Referent.rtF (Referent.fInt Syntax.w32)) 32772 0) (List._∷_ (5, Rows.arrF (Referent.rtF (Referent.fInt Syntax.w32)) 32772 0) (List._∷_ (6, Rows.arrF (Referent.rtF (Referent.fInt Syntax.w32)) 262160 0) (List._∷_ (7, Rows.arrF (Referent.rtF (Referent.fInt Syntax.w8)) 600000 0) (List._∷_ (8, Rows.arrF (Referent.rtF (Referent.fInt Syntax.w8)) 16388 0) (List._∷_ (9, Rows'.any-gone Cell.held) (List._∷_ (10, Rows.arrF Cell.R 65540 0) (List._∷_ (11, Rows.arrF Cell.R 32772 0) (List._∷_ (12, Rows'.any-gone Syntax.tyUnit) (List._∷_ (13, Rows'.mref (Array'.Array (Referent.rtF (Referent.fInt Syntax.w32)) 32772) (Syntax.tyRef Syntax.erased Syntax.mut (Syntax.tyArray (Syntax.tyInt Syntax.w32) 32772)) 1) (List._∷_ (14, Rows'.any-gone (Syntax.tyRef Syntax.erased Syntax.mut (Syntax.tyArray (Syntax.tyInt Syntax.w8) 16388))) (List._∷_ (15, Rows'.any-gone (Syntax.tyRef Syntax.erased Syntax.mut (Syntax.tyArray (Syntax.tyInt Syntax.w32) 65540))) List.[])))))))))))))))
+t23 = List._∷_ local0 (List._∷_ local1 (List._∷_ local24 (List._∷_ local16 (List._∷_ local17 (List._∷_ local18 (List._∷_ local19 (List._∷_ local20 (List._∷_ local21 (List._∷_ local9 (List._∷_ local22 (List._∷_ local23 (List._∷_ local11 (List._∷_ local25 locals0)))))))))))))
 
 abbrev pub t24 : List.List Row.Entry
-t24 = List._∷_ (0, Rows'.any-gone Syntax.tyUnit) (List._∷_ (1, Rows'.sslice (Referent.rtF (Referent.fInt Syntax.w8)) (Syntax.tyRef (Syntax.named 0) Syntax.imm (Syntax.tyInt Syntax.w8)) 0) (List._∷_ (2, Rows'.sc-owed (Array'.Array (Referent.rtF (Referent.fInt Syntax.w32)) 32772) 1) (List._∷_ (3, Rows.arrF (Referent.rtF (Referent.fInt Syntax.w32)) 65540 0) (List._∷_ (4, Rows.arrF (Referent.rtF (Referent.fInt Syntax.w32)) 32772 0) (List._∷_ (5, Rows.arrF (Referent.rtF (Referent.fInt Syntax.w32)) 32772 0) (List._∷_ (6, Rows.arrF (Referent.rtF (Referent.fInt Syntax.w32)) 262160 0) (List._∷_ (7, Rows.arrF (Referent.rtF (Referent.fInt Syntax.w8)) 600000 0) (List._∷_ (8, Rows'.sc-owed (Array'.Array (Referent.rtF (Referent.fInt Syntax.w8)) 16388) 2) (List._∷_ (9, Rows'.any-gone Cell.held) (List._∷_ (10, Rows.arrF Cell.R 65540 0) (List._∷_ (11, Rows.arrF Cell.R 32772 0) (List._∷_ (12, Rows'.any-gone Syntax.tyUnit) (List._∷_ (13, Rows'.mref (Array'.Array (Referent.rtF (Referent.fInt Syntax.w32)) 32772) (Syntax.tyRef Syntax.erased Syntax.mut (Syntax.tyArray (Syntax.tyInt Syntax.w32) 32772)) 1) (List._∷_ (14, Rows'.mref (Array'.Array (Referent.rtF (Referent.fInt Syntax.w8)) 16388) (Syntax.tyRef Syntax.erased Syntax.mut (Syntax.tyArray (Syntax.tyInt Syntax.w8) 16388)) 2) (List._∷_ (15, Rows'.any-gone (Syntax.tyRef Syntax.erased Syntax.mut (Syntax.tyArray (Syntax.tyInt Syntax.w32) 65540))) List.[])))))))))))))))
+t24 = List._∷_ local0 (List._∷_ local1 (List._∷_ local24 (List._∷_ local16 (List._∷_ local17 (List._∷_ local18 (List._∷_ local19 (List._∷_ local20 (List._∷_ local26 (List._∷_ local9 (List._∷_ local22 (List._∷_ local23 (List._∷_ local11 (List._∷_ local25 (List._∷_ (14, Rows'.mref held3 ty9 2) (List._∷_ (15, Rows'.any-gone ty10) List.[])))))))))))))))
 
 abbrev pub t25 : List.List Row.Entry
-t25 = List._∷_ (0, Rows'.any-gone Syntax.tyUnit) (List._∷_ (1, Rows'.sslice (Referent.rtF (Referent.fInt Syntax.w8)) (Syntax.tyRef (Syntax.named 0) Syntax.imm (Syntax.tyInt Syntax.w8)) 0) (List._∷_ (2, Rows'.sc-owed (Array'.Array (Referent.rtF (Referent.fInt Syntax.w32)) 32772) 1) (List._∷_ (3, Rows'.sc-owed (Array'.Array (Referent.rtF (Referent.fInt Syntax.w32)) 65540) 3) (List._∷_ (4, Rows.arrF (Referent.rtF (Referent.fInt Syntax.w32)) 32772 0) (List._∷_ (5, Rows.arrF (Referent.rtF (Referent.fInt Syntax.w32)) 32772 0) (List._∷_ (6, Rows.arrF (Referent.rtF (Referent.fInt Syntax.w32)) 262160 0) (List._∷_ (7, Rows.arrF (Referent.rtF (Referent.fInt Syntax.w8)) 600000 0) (List._∷_ (8, Rows'.sc-owed (Array'.Array (Referent.rtF (Referent.fInt Syntax.w8)) 16388) 2) (List._∷_ (9, Rows'.any-gone Cell.held) (List._∷_ (10, Rows.arrF Cell.R 65540 0) (List._∷_ (11, Rows.arrF Cell.R 32772 0) (List._∷_ (12, Rows'.any-gone Syntax.tyUnit) (List._∷_ (13, Rows'.mref (Array'.Array (Referent.rtF (Referent.fInt Syntax.w32)) 32772) (Syntax.tyRef Syntax.erased Syntax.mut (Syntax.tyArray (Syntax.tyInt Syntax.w32) 32772)) 1) (List._∷_ (14, Rows'.mref (Array'.Array (Referent.rtF (Referent.fInt Syntax.w8)) 16388) (Syntax.tyRef Syntax.erased Syntax.mut (Syntax.tyArray (Syntax.tyInt Syntax.w8) 16388)) 2) (List._∷_ (15, Rows'.mref (Array'.Array (Referent.rtF (Referent.fInt Syntax.w32)) 65540) (Syntax.tyRef Syntax.erased Syntax.mut (Syntax.tyArray (Syntax.tyInt Syntax.w32) 65540)) 3) List.[])))))))))))))))
+t25 = List._∷_ local0 (List._∷_ local1 (List._∷_ local24 (List._∷_ local27 (List._∷_ local17 (List._∷_ local18 (List._∷_ local19 locals11))))))
 
 abbrev pub t26 : List.List Row.Entry
-t26 = List._∷_ (0, Rows'.any-gone Syntax.tyUnit) (List._∷_ (1, Rows'.sslice (Referent.rtF (Referent.fInt Syntax.w8)) (Syntax.tyRef (Syntax.named 0) Syntax.imm (Syntax.tyInt Syntax.w8)) 0) (List._∷_ (2, Rows'.sc-owed (Array'.Array (Referent.rtF (Referent.fInt Syntax.w32)) 32772) 1) (List._∷_ (3, Rows'.sc-owed (Array'.Array (Referent.rtF (Referent.fInt Syntax.w32)) 65540) 3) (List._∷_ (4, Rows'.sc-owed (Array'.Array (Referent.rtF (Referent.fInt Syntax.w32)) 32772) 4) (List._∷_ (5, Rows.arrF (Referent.rtF (Referent.fInt Syntax.w32)) 32772 0) (List._∷_ (6, Rows.arrF (Referent.rtF (Referent.fInt Syntax.w32)) 262160 0) (List._∷_ (7, Rows.arrF (Referent.rtF (Referent.fInt Syntax.w8)) 600000 0) (List._∷_ (8, Rows'.sc-owed (Array'.Array (Referent.rtF (Referent.fInt Syntax.w8)) 16388) 2) (List._∷_ (9, Rows'.any-gone Cell.held) (List._∷_ (10, Rows.arrF Cell.R 65540 0) (List._∷_ (11, Rows.arrF Cell.R 32772 0) (List._∷_ (12, Rows'.any-gone Syntax.tyUnit) (List._∷_ (13, Rows'.mref (Array'.Array (Referent.rtF (Referent.fInt Syntax.w32)) 32772) (Syntax.tyRef Syntax.erased Syntax.mut (Syntax.tyArray (Syntax.tyInt Syntax.w32) 32772)) 1) (List._∷_ (14, Rows'.mref (Array'.Array (Referent.rtF (Referent.fInt Syntax.w8)) 16388) (Syntax.tyRef Syntax.erased Syntax.mut (Syntax.tyArray (Syntax.tyInt Syntax.w8) 16388)) 2) (List._∷_ (15, Rows'.mref (Array'.Array (Referent.rtF (Referent.fInt Syntax.w32)) 65540) (Syntax.tyRef Syntax.erased Syntax.mut (Syntax.tyArray (Syntax.tyInt Syntax.w32) 65540)) 3) List.[])))))))))))))))
+t26 = List._∷_ local0 (List._∷_ local1 (List._∷_ local24 (List._∷_ local27 (List._∷_ local28 (List._∷_ local18 (List._∷_ local19 locals11))))))
 
 abbrev pub t27 : List.List Row.Entry
-t27 = List._∷_ (16, Rows'.mref (Array'.Array (Referent.rtF (Referent.fInt Syntax.w32)) 32772) (Syntax.tyRef Syntax.erased Syntax.mut (Syntax.tyArray (Syntax.tyInt Syntax.w32) 32772)) 4) (List._∷_ (17, Rows'.any-gone (Syntax.tyRef Syntax.erased Syntax.mut (Syntax.tyArray (Syntax.tyInt Syntax.w32) 32772))) (List._∷_ (18, Rows'.any-gone (Syntax.tyRef Syntax.erased Syntax.mut (Syntax.tyArray (Syntax.tyInt Syntax.w32) 262160))) (List._∷_ (19, Rows'.any-gone (Syntax.tyRef Syntax.erased Syntax.mut (Syntax.tyArray (Syntax.tyInt Syntax.w8) 600000))) (List._∷_ (20, Rows'.any-gone (Syntax.tyRef Syntax.erased Syntax.mut (Syntax.tyArray Cell.behind 65540))) (List._∷_ (21, Rows'.any-gone (Syntax.tyRef Syntax.erased Syntax.mut (Syntax.tyArray Cell.behind 32772))) List.[])))))
+t27 = List._∷_ local29 (List._∷_ local13 (List._∷_ local14 locals8))
 
 abbrev pub t28 : List.List Row.Entry
-t28 = List._∷_ (0, Rows'.any-gone Syntax.tyUnit) (List._∷_ (1, Rows'.sslice (Referent.rtF (Referent.fInt Syntax.w8)) (Syntax.tyRef (Syntax.named 0) Syntax.imm (Syntax.tyInt Syntax.w8)) 0) (List._∷_ (2, Rows'.sc-owed (Array'.Array (Referent.rtF (Referent.fInt Syntax.w32)) 32772) 1) (List._∷_ (3, Rows'.sc-owed (Array'.Array (Referent.rtF (Referent.fInt Syntax.w32)) 65540) 3) (List._∷_ (4, Rows'.sc-owed (Array'.Array (Referent.rtF (Referent.fInt Syntax.w32)) 32772) 4) (List._∷_ (5, Rows'.sc-owed (Array'.Array (Referent.rtF (Referent.fInt Syntax.w32)) 32772) 5) (List._∷_ (6, Rows.arrF (Referent.rtF (Referent.fInt Syntax.w32)) 262160 0) (List._∷_ (7, Rows.arrF (Referent.rtF (Referent.fInt Syntax.w8)) 600000 0) (List._∷_ (8, Rows'.sc-owed (Array'.Array (Referent.rtF (Referent.fInt Syntax.w8)) 16388) 2) (List._∷_ (9, Rows'.any-gone Cell.held) (List._∷_ (10, Rows.arrF Cell.R 65540 0) (List._∷_ (11, Rows.arrF Cell.R 32772 0) (List._∷_ (12, Rows'.any-gone Syntax.tyUnit) (List._∷_ (13, Rows'.mref (Array'.Array (Referent.rtF (Referent.fInt Syntax.w32)) 32772) (Syntax.tyRef Syntax.erased Syntax.mut (Syntax.tyArray (Syntax.tyInt Syntax.w32) 32772)) 1) (List._∷_ (14, Rows'.mref (Array'.Array (Referent.rtF (Referent.fInt Syntax.w8)) 16388) (Syntax.tyRef Syntax.erased Syntax.mut (Syntax.tyArray (Syntax.tyInt Syntax.w8) 16388)) 2) (List._∷_ (15, Rows'.mref (Array'.Array (Referent.rtF (Referent.fInt Syntax.w32)) 65540) (Syntax.tyRef Syntax.erased Syntax.mut (Syntax.tyArray (Syntax.tyInt Syntax.w32) 65540)) 3) List.[])))))))))))))))
+t28 = List._∷_ local0 (List._∷_ local1 (List._∷_ local24 (List._∷_ local27 (List._∷_ local28 (List._∷_ local30 (List._∷_ local19 locals11))))))
 
 abbrev pub t29 : List.List Row.Entry
-t29 = List._∷_ (16, Rows'.mref (Array'.Array (Referent.rtF (Referent.fInt Syntax.w32)) 32772) (Syntax.tyRef Syntax.erased Syntax.mut (Syntax.tyArray (Syntax.tyInt Syntax.w32) 32772)) 4) (List._∷_ (17, Rows'.mref (Array'.Array (Referent.rtF (Referent.fInt Syntax.w32)) 32772) (Syntax.tyRef Syntax.erased Syntax.mut (Syntax.tyArray (Syntax.tyInt Syntax.w32) 32772)) 5) (List._∷_ (18, Rows'.any-gone (Syntax.tyRef Syntax.erased Syntax.mut (Syntax.tyArray (Syntax.tyInt Syntax.w32) 262160))) (List._∷_ (19, Rows'.any-gone (Syntax.tyRef Syntax.erased Syntax.mut (Syntax.tyArray (Syntax.tyInt Syntax.w8) 600000))) (List._∷_ (20, Rows'.any-gone (Syntax.tyRef Syntax.erased Syntax.mut (Syntax.tyArray Cell.behind 65540))) (List._∷_ (21, Rows'.any-gone (Syntax.tyRef Syntax.erased Syntax.mut (Syntax.tyArray Cell.behind 32772))) List.[])))))
+t29 = List._∷_ local29 (List._∷_ local31 (List._∷_ local14 locals8))
 
 abbrev pub t30 : List.List Row.Entry
-t30 = List._∷_ (0, Rows'.any-gone Syntax.tyUnit) (List._∷_ (1, Rows'.sslice (Referent.rtF (Referent.fInt Syntax.w8)) (Syntax.tyRef (Syntax.named 0) Syntax.imm (Syntax.tyInt Syntax.w8)) 0) (List._∷_ (2, Rows'.sc-owed (Array'.Array (Referent.rtF (Referent.fInt Syntax.w32)) 32772) 1) (List._∷_ (3, Rows'.sc-owed (Array'.Array (Referent.rtF (Referent.fInt Syntax.w32)) 65540) 3) (List._∷_ (4, Rows'.sc-owed (Array'.Array (Referent.rtF (Referent.fInt Syntax.w32)) 32772) 4) (List._∷_ (5, Rows'.sc-owed (Array'.Array (Referent.rtF (Referent.fInt Syntax.w32)) 32772) 5) (List._∷_ (6, Rows'.sc-owed (Array'.Array (Referent.rtF (Referent.fInt Syntax.w32)) 262160) 6) (List._∷_ (7, Rows.arrF (Referent.rtF (Referent.fInt Syntax.w8)) 600000 0) (List._∷_ (8, Rows'.sc-owed (Array'.Array (Referent.rtF (Referent.fInt Syntax.w8)) 16388) 2) (List._∷_ (9, Rows'.any-gone Cell.held) (List._∷_ (10, Rows.arrF Cell.R 65540 0) (List._∷_ (11, Rows.arrF Cell.R 32772 0) (List._∷_ (12, Rows'.any-gone Syntax.tyUnit) (List._∷_ (13, Rows'.mref (Array'.Array (Referent.rtF (Referent.fInt Syntax.w32)) 32772) (Syntax.tyRef Syntax.erased Syntax.mut (Syntax.tyArray (Syntax.tyInt Syntax.w32) 32772)) 1) (List._∷_ (14, Rows'.mref (Array'.Array (Referent.rtF (Referent.fInt Syntax.w8)) 16388) (Syntax.tyRef Syntax.erased Syntax.mut (Syntax.tyArray (Syntax.tyInt Syntax.w8) 16388)) 2) (List._∷_ (15, Rows'.mref (Array'.Array (Referent.rtF (Referent.fInt Syntax.w32)) 65540) (Syntax.tyRef Syntax.erased Syntax.mut (Syntax.tyArray (Syntax.tyInt Syntax.w32) 65540)) 3) List.[])))))))))))))))
+t30 = List._∷_ local0 (List._∷_ local1 (List._∷_ local24 (List._∷_ local27 (List._∷_ local28 (List._∷_ local30 (List._∷_ local32 locals11))))))
 
 abbrev pub t31 : List.List Row.Entry
-t31 = List._∷_ (16, Rows'.mref (Array'.Array (Referent.rtF (Referent.fInt Syntax.w32)) 32772) (Syntax.tyRef Syntax.erased Syntax.mut (Syntax.tyArray (Syntax.tyInt Syntax.w32) 32772)) 4) (List._∷_ (17, Rows'.mref (Array'.Array (Referent.rtF (Referent.fInt Syntax.w32)) 32772) (Syntax.tyRef Syntax.erased Syntax.mut (Syntax.tyArray (Syntax.tyInt Syntax.w32) 32772)) 5) (List._∷_ (18, Rows'.mref (Array'.Array (Referent.rtF (Referent.fInt Syntax.w32)) 262160) (Syntax.tyRef Syntax.erased Syntax.mut (Syntax.tyArray (Syntax.tyInt Syntax.w32) 262160)) 6) (List._∷_ (19, Rows'.any-gone (Syntax.tyRef Syntax.erased Syntax.mut (Syntax.tyArray (Syntax.tyInt Syntax.w8) 600000))) (List._∷_ (20, Rows'.any-gone (Syntax.tyRef Syntax.erased Syntax.mut (Syntax.tyArray Cell.behind 65540))) (List._∷_ (21, Rows'.any-gone (Syntax.tyRef Syntax.erased Syntax.mut (Syntax.tyArray Cell.behind 32772))) List.[])))))
+t31 = List._∷_ local29 (List._∷_ local31 (List._∷_ local33 locals8))
 
 abbrev pub t32 : List.List Row.Entry
-t32 = List._∷_ (0, Rows'.any-gone Syntax.tyUnit) (List._∷_ (1, Rows'.sslice (Referent.rtF (Referent.fInt Syntax.w8)) (Syntax.tyRef (Syntax.named 0) Syntax.imm (Syntax.tyInt Syntax.w8)) 0) (List._∷_ (2, Rows'.sc-owed (Array'.Array (Referent.rtF (Referent.fInt Syntax.w32)) 32772) 1) (List._∷_ (3, Rows'.sc-owed (Array'.Array (Referent.rtF (Referent.fInt Syntax.w32)) 65540) 3) (List._∷_ (4, Rows'.sc-owed (Array'.Array (Referent.rtF (Referent.fInt Syntax.w32)) 32772) 4) (List._∷_ (5, Rows'.sc-owed (Array'.Array (Referent.rtF (Referent.fInt Syntax.w32)) 32772) 5) (List._∷_ (6, Rows'.sc-owed (Array'.Array (Referent.rtF (Referent.fInt Syntax.w32)) 262160) 6) (List._∷_ (7, Rows'.sc-owed (Array'.Array (Referent.rtF (Referent.fInt Syntax.w8)) 600000) 7) (List._∷_ (8, Rows'.sc-owed (Array'.Array (Referent.rtF (Referent.fInt Syntax.w8)) 16388) 2) (List._∷_ (9, Rows'.any-gone Cell.held) (List._∷_ (10, Rows.arrF Cell.R 65540 0) (List._∷_ (11, Rows.arrF Cell.R 32772 0) (List._∷_ (12, Rows'.any-gone Syntax.tyUnit) (List._∷_ (13, Rows'.mref (Array'.Array (Referent.rtF (Referent.fInt Syntax.w32)) 32772) (Syntax.tyRef Syntax.erased Syntax.mut (Syntax.tyArray (Syntax.tyInt Syntax.w32) 32772)) 1) (List._∷_ (14, Rows'.mref (Array'.Array (Referent.rtF (Referent.fInt Syntax.w8)) 16388) (Syntax.tyRef Syntax.erased Syntax.mut (Syntax.tyArray (Syntax.tyInt Syntax.w8) 16388)) 2) (List._∷_ (15, Rows'.mref (Array'.Array (Referent.rtF (Referent.fInt Syntax.w32)) 65540) (Syntax.tyRef Syntax.erased Syntax.mut (Syntax.tyArray (Syntax.tyInt Syntax.w32) 65540)) 3) List.[])))))))))))))))
+t32 = List._∷_ local0 (List._∷_ local1 (List._∷_ local24 (List._∷_ local27 (List._∷_ local28 (List._∷_ local30 (List._∷_ local32 (List._∷_ local34 locals10)))))))
 
 abbrev pub t33 : List.List Row.Entry
-t33 = List._∷_ (16, Rows'.mref (Array'.Array (Referent.rtF (Referent.fInt Syntax.w32)) 32772) (Syntax.tyRef Syntax.erased Syntax.mut (Syntax.tyArray (Syntax.tyInt Syntax.w32) 32772)) 4) (List._∷_ (17, Rows'.mref (Array'.Array (Referent.rtF (Referent.fInt Syntax.w32)) 32772) (Syntax.tyRef Syntax.erased Syntax.mut (Syntax.tyArray (Syntax.tyInt Syntax.w32) 32772)) 5) (List._∷_ (18, Rows'.mref (Array'.Array (Referent.rtF (Referent.fInt Syntax.w32)) 262160) (Syntax.tyRef Syntax.erased Syntax.mut (Syntax.tyArray (Syntax.tyInt Syntax.w32) 262160)) 6) (List._∷_ (19, Rows'.mref (Array'.Array (Referent.rtF (Referent.fInt Syntax.w8)) 600000) (Syntax.tyRef Syntax.erased Syntax.mut (Syntax.tyArray (Syntax.tyInt Syntax.w8) 600000)) 7) (List._∷_ (20, Rows'.any-gone (Syntax.tyRef Syntax.erased Syntax.mut (Syntax.tyArray Cell.behind 65540))) (List._∷_ (21, Rows'.any-gone (Syntax.tyRef Syntax.erased Syntax.mut (Syntax.tyArray Cell.behind 32772))) List.[])))))
+t33 = List._∷_ local29 (List._∷_ local31 (List._∷_ local33 (List._∷_ local35 locals7)))
 
 abbrev pub t34 : List.List Row.Entry
-t34 = List._∷_ (0, Rows'.any-gone Syntax.tyUnit) (List._∷_ (1, Rows'.sslice (Referent.rtF (Referent.fInt Syntax.w8)) (Syntax.tyRef (Syntax.named 0) Syntax.imm (Syntax.tyInt Syntax.w8)) 0) (List._∷_ (2, Rows'.sc-owed (Array'.Array (Referent.rtF (Referent.fInt Syntax.w32)) 32772) 1) (List._∷_ (3, Rows'.sc-owed (Array'.Array (Referent.rtF (Referent.fInt Syntax.w32)) 65540) 3) (List._∷_ (4, Rows'.sc-owed (Array'.Array (Referent.rtF (Referent.fInt Syntax.w32)) 32772) 4) (List._∷_ (5, Rows'.sc-owed (Array'.Array (Referent.rtF (Referent.fInt Syntax.w32)) 32772) 5) (List._∷_ (6, Rows'.sc-owed (Array'.Array (Referent.rtF (Referent.fInt Syntax.w32)) 262160) 6) (List._∷_ (7, Rows'.sc-owed (Array'.Array (Referent.rtF (Referent.fInt Syntax.w8)) 600000) 7) (List._∷_ (8, Rows'.sc-owed (Array'.Array (Referent.rtF (Referent.fInt Syntax.w8)) 16388) 2) (List._∷_ (9, Rows'.any-gone Cell.held) (List._∷_ (10, Rows'.sc-owed (Array'.Array Cell.R 65540) 8) (List._∷_ (11, Rows.arrF Cell.R 32772 0) (List._∷_ (12, Rows'.any-gone Syntax.tyUnit) (List._∷_ (13, Rows'.mref (Array'.Array (Referent.rtF (Referent.fInt Syntax.w32)) 32772) (Syntax.tyRef Syntax.erased Syntax.mut (Syntax.tyArray (Syntax.tyInt Syntax.w32) 32772)) 1) (List._∷_ (14, Rows'.mref (Array'.Array (Referent.rtF (Referent.fInt Syntax.w8)) 16388) (Syntax.tyRef Syntax.erased Syntax.mut (Syntax.tyArray (Syntax.tyInt Syntax.w8) 16388)) 2) (List._∷_ (15, Rows'.mref (Array'.Array (Referent.rtF (Referent.fInt Syntax.w32)) 65540) (Syntax.tyRef Syntax.erased Syntax.mut (Syntax.tyArray (Syntax.tyInt Syntax.w32) 65540)) 3) List.[])))))))))))))))
+t34 = List._∷_ local0 (List._∷_ local1 (List._∷_ local24 (List._∷_ local27 (List._∷_ local28 (List._∷_ local30 (List._∷_ local32 (List._∷_ local34 (List._∷_ local26 (List._∷_ local9 (List._∷_ local36 (List._∷_ local23 locals9)))))))))))
 
 abbrev pub t35 : List.List Row.Entry
-t35 = List._∷_ (16, Rows'.mref (Array'.Array (Referent.rtF (Referent.fInt Syntax.w32)) 32772) (Syntax.tyRef Syntax.erased Syntax.mut (Syntax.tyArray (Syntax.tyInt Syntax.w32) 32772)) 4) (List._∷_ (17, Rows'.mref (Array'.Array (Referent.rtF (Referent.fInt Syntax.w32)) 32772) (Syntax.tyRef Syntax.erased Syntax.mut (Syntax.tyArray (Syntax.tyInt Syntax.w32) 32772)) 5) (List._∷_ (18, Rows'.mref (Array'.Array (Referent.rtF (Referent.fInt Syntax.w32)) 262160) (Syntax.tyRef Syntax.erased Syntax.mut (Syntax.tyArray (Syntax.tyInt Syntax.w32) 262160)) 6) (List._∷_ (19, Rows'.mref (Array'.Array (Referent.rtF (Referent.fInt Syntax.w8)) 600000) (Syntax.tyRef Syntax.erased Syntax.mut (Syntax.tyArray (Syntax.tyInt Syntax.w8) 600000)) 7) (List._∷_ (20, Rows'.mref (Array'.Array Cell.R 65540) (Syntax.tyRef Syntax.erased Syntax.mut (Syntax.tyArray Cell.behind 65540)) 8) (List._∷_ (21, Rows'.any-gone (Syntax.tyRef Syntax.erased Syntax.mut (Syntax.tyArray Cell.behind 32772))) List.[])))))
+t35 = List._∷_ local29 (List._∷_ local31 (List._∷_ local33 (List._∷_ local35 (List._∷_ (20, Rows'.mref held7 ty14 8) (List._∷_ (21, Rows'.any-gone ty16) List.[])))))
 
 abbrev pub t36 : List.List Row.Entry
-t36 = List._∷_ (0, Rows'.any-gone Syntax.tyUnit) (List._∷_ (1, Rows'.sslice (Referent.rtF (Referent.fInt Syntax.w8)) (Syntax.tyRef (Syntax.named 0) Syntax.imm (Syntax.tyInt Syntax.w8)) 0) (List._∷_ (2, Rows'.sc-owed (Array'.Array (Referent.rtF (Referent.fInt Syntax.w32)) 32772) 1) (List._∷_ (3, Rows'.sc-owed (Array'.Array (Referent.rtF (Referent.fInt Syntax.w32)) 65540) 3) (List._∷_ (4, Rows'.sc-owed (Array'.Array (Referent.rtF (Referent.fInt Syntax.w32)) 32772) 4) (List._∷_ (5, Rows'.sc-owed (Array'.Array (Referent.rtF (Referent.fInt Syntax.w32)) 32772) 5) (List._∷_ (6, Rows'.sc-owed (Array'.Array (Referent.rtF (Referent.fInt Syntax.w32)) 262160) 6) (List._∷_ (7, Rows'.sc-owed (Array'.Array (Referent.rtF (Referent.fInt Syntax.w8)) 600000) 7) (List._∷_ (8, Rows'.sc-owed (Array'.Array (Referent.rtF (Referent.fInt Syntax.w8)) 16388) 2) (List._∷_ (9, Rows'.any-gone Cell.held) (List._∷_ (10, Rows'.sc-owed (Array'.Array Cell.R 65540) 8) (List._∷_ (11, Rows'.sc-owed (Array'.Array Cell.R 32772) 9) (List._∷_ (12, Rows'.any-gone Syntax.tyUnit) (List._∷_ (13, Rows'.mref (Array'.Array (Referent.rtF (Referent.fInt Syntax.w32)) 32772) (Syntax.tyRef Syntax.erased Syntax.mut (Syntax.tyArray (Syntax.tyInt Syntax.w32) 32772)) 1) (List._∷_ (14, Rows'.mref (Array'.Array (Referent.rtF (Referent.fInt Syntax.w8)) 16388) (Syntax.tyRef Syntax.erased Syntax.mut (Syntax.tyArray (Syntax.tyInt Syntax.w8) 16388)) 2) (List._∷_ (15, Rows'.mref (Array'.Array (Referent.rtF (Referent.fInt Syntax.w32)) 65540) (Syntax.tyRef Syntax.erased Syntax.mut (Syntax.tyArray (Syntax.tyInt Syntax.w32) 65540)) 3) List.[])))))))))))))))
+t36 = List._∷_ local0 (List._∷_ local1 (List._∷_ local24 (List._∷_ local27 (List._∷_ local28 (List._∷_ local30 (List._∷_ local32 (List._∷_ local34 (List._∷_ local26 (List._∷_ local9 (List._∷_ local36 (List._∷_ local37 locals9)))))))))))
 
 abbrev pub t37 : List.List Row.Entry
-t37 = List._∷_ (16, Rows'.mref (Array'.Array (Referent.rtF (Referent.fInt Syntax.w32)) 32772) (Syntax.tyRef Syntax.erased Syntax.mut (Syntax.tyArray (Syntax.tyInt Syntax.w32) 32772)) 4) (List._∷_ (17, Rows'.mref (Array'.Array (Referent.rtF (Referent.fInt Syntax.w32)) 32772) (Syntax.tyRef Syntax.erased Syntax.mut (Syntax.tyArray (Syntax.tyInt Syntax.w32) 32772)) 5) (List._∷_ (18, Rows'.mref (Array'.Array (Referent.rtF (Referent.fInt Syntax.w32)) 262160) (Syntax.tyRef Syntax.erased Syntax.mut (Syntax.tyArray (Syntax.tyInt Syntax.w32) 262160)) 6) (List._∷_ (19, Rows'.mref (Array'.Array (Referent.rtF (Referent.fInt Syntax.w8)) 600000) (Syntax.tyRef Syntax.erased Syntax.mut (Syntax.tyArray (Syntax.tyInt Syntax.w8) 600000)) 7) (List._∷_ (20, Rows'.mref (Array'.Array Cell.R 65540) (Syntax.tyRef Syntax.erased Syntax.mut (Syntax.tyArray Cell.behind 65540)) 8) (List._∷_ (21, Rows'.mref (Array'.Array Cell.R 32772) (Syntax.tyRef Syntax.erased Syntax.mut (Syntax.tyArray Cell.behind 32772)) 9) List.[])))))
+t37 = List._∷_ local29 (List._∷_ local31 (List._∷_ local33 (List._∷_ local35 (List._∷_ (20, Rows'.mref held7 ty14 8) (List._∷_ (21, Rows'.mref held8 ty16 9) List.[])))))
 
 abbrev pub t38 : List.List Row.Entry
-t38 = List._∷_ (0, Rows'.any-gone Syntax.tyUnit) (List._∷_ (1, Rows'.sslice (Referent.rtF (Referent.fInt Syntax.w8)) (Syntax.tyRef (Syntax.named 0) Syntax.imm (Syntax.tyInt Syntax.w8)) 0) (List._∷_ (2, Rows'.sc-owed (Array'.Array (Referent.rtF (Referent.fInt Syntax.w32)) 32772) 1) (List._∷_ (3, Rows'.sc-owed (Array'.Array (Referent.rtF (Referent.fInt Syntax.w32)) 65540) 3) (List._∷_ (4, Rows'.sc-owed (Array'.Array (Referent.rtF (Referent.fInt Syntax.w32)) 32772) 4) (List._∷_ (5, Rows'.sc-owed (Array'.Array (Referent.rtF (Referent.fInt Syntax.w32)) 32772) 5) (List._∷_ (6, Rows'.sc-owed (Array'.Array (Referent.rtF (Referent.fInt Syntax.w32)) 262160) 6) (List._∷_ (7, Rows'.sc-owed (Array'.Array (Referent.rtF (Referent.fInt Syntax.w8)) 600000) 7) (List._∷_ (8, Rows'.sc-owed (Array'.Array (Referent.rtF (Referent.fInt Syntax.w8)) 16388) 2) (List._∷_ (9, Rows'.any-gone Cell.held) (List._∷_ (10, Rows'.sc-owed (Array'.Array Cell.R 65540) 8) (List._∷_ (11, Rows'.sc-owed (Array'.Array Cell.R 32772) 9) (List._∷_ (12, Rows'.sc-here Row.sUnit) (List._∷_ (13, Rows'.mleft (Array'.Array (Referent.rtF (Referent.fInt Syntax.w32)) 32772) (Syntax.tyRef Syntax.erased Syntax.mut (Syntax.tyArray (Syntax.tyInt Syntax.w32) 32772))) (List._∷_ (14, Rows'.mleft (Array'.Array (Referent.rtF (Referent.fInt Syntax.w8)) 16388) (Syntax.tyRef Syntax.erased Syntax.mut (Syntax.tyArray (Syntax.tyInt Syntax.w8) 16388))) (List._∷_ (15, Rows'.mleft (Array'.Array (Referent.rtF (Referent.fInt Syntax.w32)) 65540) (Syntax.tyRef Syntax.erased Syntax.mut (Syntax.tyArray (Syntax.tyInt Syntax.w32) 65540))) List.[])))))))))))))))
+t38 = List._∷_ local0 (List._∷_ local1 (List._∷_ local24 (List._∷_ local27 (List._∷_ local28 (List._∷_ local30 (List._∷_ local32 (List._∷_ local34 (List._∷_ local26 (List._∷_ local9 (List._∷_ local36 (List._∷_ local37 (List._∷_ (12, Rows'.sc-here Row.sUnit) (List._∷_ (13, Rows'.mleft held2 ty8) locals12)))))))))))))
 
 abbrev pub t39 : List.List Row.Entry
-t39 = List._∷_ (16, Rows'.mleft (Array'.Array (Referent.rtF (Referent.fInt Syntax.w32)) 32772) (Syntax.tyRef Syntax.erased Syntax.mut (Syntax.tyArray (Syntax.tyInt Syntax.w32) 32772))) (List._∷_ (17, Rows'.mleft (Array'.Array (Referent.rtF (Referent.fInt Syntax.w32)) 32772) (Syntax.tyRef Syntax.erased Syntax.mut (Syntax.tyArray (Syntax.tyInt Syntax.w32) 32772))) (List._∷_ (18, Rows'.mleft (Array'.Array (Referent.rtF (Referent.fInt Syntax.w32)) 262160) (Syntax.tyRef Syntax.erased Syntax.mut (Syntax.tyArray (Syntax.tyInt Syntax.w32) 262160))) (List._∷_ (19, Rows'.mleft (Array'.Array (Referent.rtF (Referent.fInt Syntax.w8)) 600000) (Syntax.tyRef Syntax.erased Syntax.mut (Syntax.tyArray (Syntax.tyInt Syntax.w8) 600000))) (List._∷_ (20, Rows'.mleft (Array'.Array Cell.R 65540) (Syntax.tyRef Syntax.erased Syntax.mut (Syntax.tyArray Cell.behind 65540))) (List._∷_ (21, Rows'.mleft (Array'.Array Cell.R 32772) (Syntax.tyRef Syntax.erased Syntax.mut (Syntax.tyArray Cell.behind 32772))) List.[])))))
+t39 = List._∷_ (16, Rows'.mleft held2 ty8) locals15
 
 abbrev pub t40 : List.List Row.Entry
-t40 = List._∷_ (0, Rows'.any-gone Syntax.tyUnit) (List._∷_ (1, Rows'.sslice (Referent.rtF (Referent.fInt Syntax.w8)) (Syntax.tyRef (Syntax.named 0) Syntax.imm (Syntax.tyInt Syntax.w8)) 0) (List._∷_ (2, Rows'.sc-owed (Array'.Array (Referent.rtF (Referent.fInt Syntax.w32)) 32772) 1) (List._∷_ (3, Rows'.sc-owed (Array'.Array (Referent.rtF (Referent.fInt Syntax.w32)) 65540) 3) (List._∷_ (4, Rows'.sc-owed (Array'.Array (Referent.rtF (Referent.fInt Syntax.w32)) 32772) 4) (List._∷_ (5, Rows'.sc-owed (Array'.Array (Referent.rtF (Referent.fInt Syntax.w32)) 32772) 5) (List._∷_ (6, Rows'.sc-owed (Array'.Array (Referent.rtF (Referent.fInt Syntax.w32)) 262160) 6) (List._∷_ (7, Rows'.sc-owed (Array'.Array (Referent.rtF (Referent.fInt Syntax.w8)) 600000) 7) (List._∷_ (8, Rows'.sc-owed (Array'.Array (Referent.rtF (Referent.fInt Syntax.w8)) 16388) 2) (List._∷_ (9, Rows'.any-gone Cell.held) (List._∷_ (10, Rows'.sc-owed (Array'.Array Cell.R 65540) 8) (List._∷_ (11, Rows'.sc-owed (Array'.Array Cell.R 32772) 9) (List._∷_ (12, Rows'.any-gone Syntax.tyUnit) (List._∷_ (13, Rows'.mleft (Array'.Array (Referent.rtF (Referent.fInt Syntax.w32)) 32772) (Syntax.tyRef Syntax.erased Syntax.mut (Syntax.tyArray (Syntax.tyInt Syntax.w32) 32772))) (List._∷_ (14, Rows'.mleft (Array'.Array (Referent.rtF (Referent.fInt Syntax.w8)) 16388) (Syntax.tyRef Syntax.erased Syntax.mut (Syntax.tyArray (Syntax.tyInt Syntax.w8) 16388))) (List._∷_ (15, Rows'.mleft (Array'.Array (Referent.rtF (Referent.fInt Syntax.w32)) 65540) (Syntax.tyRef Syntax.erased Syntax.mut (Syntax.tyArray (Syntax.tyInt Syntax.w32) 65540))) List.[])))))))))))))))
+t40 = List._∷_ local0 (List._∷_ local1 (List._∷_ local24 (List._∷_ local27 (List._∷_ local28 (List._∷_ local30 (List._∷_ local32 (List._∷_ local34 (List._∷_ local26 (List._∷_ local9 (List._∷_ local36 (List._∷_ local37 (List._∷_ local11 (List._∷_ (13, Rows'.mleft held2 ty8) locals12)))))))))))))
 
 abbrev pub t41 : List.List Row.Entry
-t41 = List._∷_ (0, Rows'.any-gone Syntax.tyUnit) (List._∷_ (1, Rows'.sslice (Referent.rtF (Referent.fInt Syntax.w8)) (Syntax.tyRef (Syntax.named 0) Syntax.imm (Syntax.tyInt Syntax.w8)) 0) (List._∷_ (2, Rows.arrF (Referent.rtF (Referent.fInt Syntax.w32)) 32772 0) (List._∷_ (3, Rows'.sc-owed (Array'.Array (Referent.rtF (Referent.fInt Syntax.w32)) 65540) 3) (List._∷_ (4, Rows'.sc-owed (Array'.Array (Referent.rtF (Referent.fInt Syntax.w32)) 32772) 4) (List._∷_ (5, Rows'.sc-owed (Array'.Array (Referent.rtF (Referent.fInt Syntax.w32)) 32772) 5) (List._∷_ (6, Rows'.sc-owed (Array'.Array (Referent.rtF (Referent.fInt Syntax.w32)) 262160) 6) (List._∷_ (7, Rows'.sc-owed (Array'.Array (Referent.rtF (Referent.fInt Syntax.w8)) 600000) 7) (List._∷_ (8, Rows'.sc-owed (Array'.Array (Referent.rtF (Referent.fInt Syntax.w8)) 16388) 2) (List._∷_ (9, Rows'.any-gone Cell.held) (List._∷_ (10, Rows'.sc-owed (Array'.Array Cell.R 65540) 8) (List._∷_ (11, Rows'.sc-owed (Array'.Array Cell.R 32772) 9) (List._∷_ (12, Rows'.any-gone Syntax.tyUnit) (List._∷_ (13, Rows'.any-gone (Syntax.tyRef Syntax.erased Syntax.mut (Syntax.tyArray (Syntax.tyInt Syntax.w32) 32772))) (List._∷_ (14, Rows'.mleft (Array'.Array (Referent.rtF (Referent.fInt Syntax.w8)) 16388) (Syntax.tyRef Syntax.erased Syntax.mut (Syntax.tyArray (Syntax.tyInt Syntax.w8) 16388))) (List._∷_ (15, Rows'.mleft (Array'.Array (Referent.rtF (Referent.fInt Syntax.w32)) 65540) (Syntax.tyRef Syntax.erased Syntax.mut (Syntax.tyArray (Syntax.tyInt Syntax.w32) 65540))) List.[])))))))))))))))
+t41 = List._∷_ local0 (List._∷_ local1 (List._∷_ local15 locals16))
 
 abbrev pub t42 : List.List Row.Entry
-t42 = List._∷_ (0, Rows'.any-gone Syntax.tyUnit) (List._∷_ (1, Rows'.sslice (Referent.rtF (Referent.fInt Syntax.w8)) (Syntax.tyRef (Syntax.named 0) Syntax.imm (Syntax.tyInt Syntax.w8)) 0) (List._∷_ (2, Rows'.any-gone (Syntax.tyArray (Syntax.tyInt Syntax.w32) 32772)) (List._∷_ (3, Rows'.sc-owed (Array'.Array (Referent.rtF (Referent.fInt Syntax.w32)) 65540) 3) (List._∷_ (4, Rows'.sc-owed (Array'.Array (Referent.rtF (Referent.fInt Syntax.w32)) 32772) 4) (List._∷_ (5, Rows'.sc-owed (Array'.Array (Referent.rtF (Referent.fInt Syntax.w32)) 32772) 5) (List._∷_ (6, Rows'.sc-owed (Array'.Array (Referent.rtF (Referent.fInt Syntax.w32)) 262160) 6) (List._∷_ (7, Rows'.sc-owed (Array'.Array (Referent.rtF (Referent.fInt Syntax.w8)) 600000) 7) (List._∷_ (8, Rows'.sc-owed (Array'.Array (Referent.rtF (Referent.fInt Syntax.w8)) 16388) 2) (List._∷_ (9, Rows'.any-gone Cell.held) (List._∷_ (10, Rows'.sc-owed (Array'.Array Cell.R 65540) 8) (List._∷_ (11, Rows'.sc-owed (Array'.Array Cell.R 32772) 9) (List._∷_ (12, Rows'.any-gone Syntax.tyUnit) (List._∷_ (13, Rows'.any-gone (Syntax.tyRef Syntax.erased Syntax.mut (Syntax.tyArray (Syntax.tyInt Syntax.w32) 32772))) (List._∷_ (14, Rows'.mleft (Array'.Array (Referent.rtF (Referent.fInt Syntax.w8)) 16388) (Syntax.tyRef Syntax.erased Syntax.mut (Syntax.tyArray (Syntax.tyInt Syntax.w8) 16388))) (List._∷_ (15, Rows'.mleft (Array'.Array (Referent.rtF (Referent.fInt Syntax.w32)) 65540) (Syntax.tyRef Syntax.erased Syntax.mut (Syntax.tyArray (Syntax.tyInt Syntax.w32) 65540))) List.[])))))))))))))))
+t42 = List._∷_ local0 (List._∷_ local1 (List._∷_ local2 locals16))
 
 abbrev pub t43 : List.List Row.Entry
-t43 = List._∷_ (0, Rows'.any-gone Syntax.tyUnit) (List._∷_ (1, Rows'.sslice (Referent.rtF (Referent.fInt Syntax.w8)) (Syntax.tyRef (Syntax.named 0) Syntax.imm (Syntax.tyInt Syntax.w8)) 0) (List._∷_ (2, Rows'.any-gone (Syntax.tyArray (Syntax.tyInt Syntax.w32) 32772)) (List._∷_ (3, Rows'.sc-owed (Array'.Array (Referent.rtF (Referent.fInt Syntax.w32)) 65540) 3) (List._∷_ (4, Rows'.sc-owed (Array'.Array (Referent.rtF (Referent.fInt Syntax.w32)) 32772) 4) (List._∷_ (5, Rows'.sc-owed (Array'.Array (Referent.rtF (Referent.fInt Syntax.w32)) 32772) 5) (List._∷_ (6, Rows'.sc-owed (Array'.Array (Referent.rtF (Referent.fInt Syntax.w32)) 262160) 6) (List._∷_ (7, Rows'.sc-owed (Array'.Array (Referent.rtF (Referent.fInt Syntax.w8)) 600000) 7) (List._∷_ (8, Rows.arrF (Referent.rtF (Referent.fInt Syntax.w8)) 16388 0) (List._∷_ (9, Rows'.any-gone Cell.held) (List._∷_ (10, Rows'.sc-owed (Array'.Array Cell.R 65540) 8) (List._∷_ (11, Rows'.sc-owed (Array'.Array Cell.R 32772) 9) (List._∷_ (12, Rows'.any-gone Syntax.tyUnit) (List._∷_ (13, Rows'.any-gone (Syntax.tyRef Syntax.erased Syntax.mut (Syntax.tyArray (Syntax.tyInt Syntax.w32) 32772))) (List._∷_ (14, Rows'.any-gone (Syntax.tyRef Syntax.erased Syntax.mut (Syntax.tyArray (Syntax.tyInt Syntax.w8) 16388))) (List._∷_ (15, Rows'.mleft (Array'.Array (Referent.rtF (Referent.fInt Syntax.w32)) 65540) (Syntax.tyRef Syntax.erased Syntax.mut (Syntax.tyArray (Syntax.tyInt Syntax.w32) 65540))) List.[])))))))))))))))
+t43 = List._∷_ local0 (List._∷_ local1 (List._∷_ local2 (List._∷_ local27 (List._∷_ local28 (List._∷_ local30 (List._∷_ local32 (List._∷_ local34 (List._∷_ local21 locals17))))))))
 
 abbrev pub t44 : List.List Row.Entry
-t44 = List._∷_ (0, Rows'.any-gone Syntax.tyUnit) (List._∷_ (1, Rows'.sslice (Referent.rtF (Referent.fInt Syntax.w8)) (Syntax.tyRef (Syntax.named 0) Syntax.imm (Syntax.tyInt Syntax.w8)) 0) (List._∷_ (2, Rows'.any-gone (Syntax.tyArray (Syntax.tyInt Syntax.w32) 32772)) (List._∷_ (3, Rows'.sc-owed (Array'.Array (Referent.rtF (Referent.fInt Syntax.w32)) 65540) 3) (List._∷_ (4, Rows'.sc-owed (Array'.Array (Referent.rtF (Referent.fInt Syntax.w32)) 32772) 4) (List._∷_ (5, Rows'.sc-owed (Array'.Array (Referent.rtF (Referent.fInt Syntax.w32)) 32772) 5) (List._∷_ (6, Rows'.sc-owed (Array'.Array (Referent.rtF (Referent.fInt Syntax.w32)) 262160) 6) (List._∷_ (7, Rows'.sc-owed (Array'.Array (Referent.rtF (Referent.fInt Syntax.w8)) 600000) 7) (List._∷_ (8, Rows'.any-gone (Syntax.tyArray (Syntax.tyInt Syntax.w8) 16388)) (List._∷_ (9, Rows'.any-gone Cell.held) (List._∷_ (10, Rows'.sc-owed (Array'.Array Cell.R 65540) 8) (List._∷_ (11, Rows'.sc-owed (Array'.Array Cell.R 32772) 9) (List._∷_ (12, Rows'.any-gone Syntax.tyUnit) (List._∷_ (13, Rows'.any-gone (Syntax.tyRef Syntax.erased Syntax.mut (Syntax.tyArray (Syntax.tyInt Syntax.w32) 32772))) (List._∷_ (14, Rows'.any-gone (Syntax.tyRef Syntax.erased Syntax.mut (Syntax.tyArray (Syntax.tyInt Syntax.w8) 16388))) (List._∷_ (15, Rows'.mleft (Array'.Array (Referent.rtF (Referent.fInt Syntax.w32)) 65540) (Syntax.tyRef Syntax.erased Syntax.mut (Syntax.tyArray (Syntax.tyInt Syntax.w32) 65540))) List.[])))))))))))))))
+t44 = List._∷_ local0 (List._∷_ local1 (List._∷_ local2 (List._∷_ local27 (List._∷_ local28 (List._∷_ local30 (List._∷_ local32 (List._∷_ local34 (List._∷_ local8 locals17))))))))
 
 abbrev pub t45 : List.List Row.Entry
-t45 = List._∷_ (0, Rows'.any-gone Syntax.tyUnit) (List._∷_ (1, Rows'.sslice (Referent.rtF (Referent.fInt Syntax.w8)) (Syntax.tyRef (Syntax.named 0) Syntax.imm (Syntax.tyInt Syntax.w8)) 0) (List._∷_ (2, Rows'.any-gone (Syntax.tyArray (Syntax.tyInt Syntax.w32) 32772)) (List._∷_ (3, Rows.arrF (Referent.rtF (Referent.fInt Syntax.w32)) 65540 0) (List._∷_ (4, Rows'.sc-owed (Array'.Array (Referent.rtF (Referent.fInt Syntax.w32)) 32772) 4) (List._∷_ (5, Rows'.sc-owed (Array'.Array (Referent.rtF (Referent.fInt Syntax.w32)) 32772) 5) (List._∷_ (6, Rows'.sc-owed (Array'.Array (Referent.rtF (Referent.fInt Syntax.w32)) 262160) 6) (List._∷_ (7, Rows'.sc-owed (Array'.Array (Referent.rtF (Referent.fInt Syntax.w8)) 600000) 7) (List._∷_ (8, Rows'.any-gone (Syntax.tyArray (Syntax.tyInt Syntax.w8) 16388)) (List._∷_ (9, Rows'.any-gone Cell.held) (List._∷_ (10, Rows'.sc-owed (Array'.Array Cell.R 65540) 8) (List._∷_ (11, Rows'.sc-owed (Array'.Array Cell.R 32772) 9) (List._∷_ (12, Rows'.any-gone Syntax.tyUnit) (List._∷_ (13, Rows'.any-gone (Syntax.tyRef Syntax.erased Syntax.mut (Syntax.tyArray (Syntax.tyInt Syntax.w32) 32772))) (List._∷_ (14, Rows'.any-gone (Syntax.tyRef Syntax.erased Syntax.mut (Syntax.tyArray (Syntax.tyInt Syntax.w8) 16388))) (List._∷_ (15, Rows'.any-gone (Syntax.tyRef Syntax.erased Syntax.mut (Syntax.tyArray (Syntax.tyInt Syntax.w32) 65540))) List.[])))))))))))))))
+t45 = List._∷_ local0 (List._∷_ local1 (List._∷_ local2 (List._∷_ local16 (List._∷_ local28 locals20))))
 
 abbrev pub t46 : List.List Row.Entry
-t46 = List._∷_ (0, Rows'.any-gone Syntax.tyUnit) (List._∷_ (1, Rows'.sslice (Referent.rtF (Referent.fInt Syntax.w8)) (Syntax.tyRef (Syntax.named 0) Syntax.imm (Syntax.tyInt Syntax.w8)) 0) (List._∷_ (2, Rows'.any-gone (Syntax.tyArray (Syntax.tyInt Syntax.w32) 32772)) (List._∷_ (3, Rows'.any-gone (Syntax.tyArray (Syntax.tyInt Syntax.w32) 65540)) (List._∷_ (4, Rows'.sc-owed (Array'.Array (Referent.rtF (Referent.fInt Syntax.w32)) 32772) 4) (List._∷_ (5, Rows'.sc-owed (Array'.Array (Referent.rtF (Referent.fInt Syntax.w32)) 32772) 5) (List._∷_ (6, Rows'.sc-owed (Array'.Array (Referent.rtF (Referent.fInt Syntax.w32)) 262160) 6) (List._∷_ (7, Rows'.sc-owed (Array'.Array (Referent.rtF (Referent.fInt Syntax.w8)) 600000) 7) (List._∷_ (8, Rows'.any-gone (Syntax.tyArray (Syntax.tyInt Syntax.w8) 16388)) (List._∷_ (9, Rows'.any-gone Cell.held) (List._∷_ (10, Rows'.sc-owed (Array'.Array Cell.R 65540) 8) (List._∷_ (11, Rows'.sc-owed (Array'.Array Cell.R 32772) 9) (List._∷_ (12, Rows'.any-gone Syntax.tyUnit) (List._∷_ (13, Rows'.any-gone (Syntax.tyRef Syntax.erased Syntax.mut (Syntax.tyArray (Syntax.tyInt Syntax.w32) 32772))) (List._∷_ (14, Rows'.any-gone (Syntax.tyRef Syntax.erased Syntax.mut (Syntax.tyArray (Syntax.tyInt Syntax.w8) 16388))) (List._∷_ (15, Rows'.any-gone (Syntax.tyRef Syntax.erased Syntax.mut (Syntax.tyArray (Syntax.tyInt Syntax.w32) 65540))) List.[])))))))))))))))
+t46 = List._∷_ local0 (List._∷_ local1 (List._∷_ local2 (List._∷_ local3 (List._∷_ local28 locals20))))
 
 abbrev pub t47 : List.List Row.Entry
-t47 = List._∷_ (0, Rows'.any-gone Syntax.tyUnit) (List._∷_ (1, Rows'.sslice (Referent.rtF (Referent.fInt Syntax.w8)) (Syntax.tyRef (Syntax.named 0) Syntax.imm (Syntax.tyInt Syntax.w8)) 0) (List._∷_ (2, Rows'.any-gone (Syntax.tyArray (Syntax.tyInt Syntax.w32) 32772)) (List._∷_ (3, Rows'.any-gone (Syntax.tyArray (Syntax.tyInt Syntax.w32) 65540)) (List._∷_ (4, Rows.arrF (Referent.rtF (Referent.fInt Syntax.w32)) 32772 0) (List._∷_ (5, Rows'.sc-owed (Array'.Array (Referent.rtF (Referent.fInt Syntax.w32)) 32772) 5) (List._∷_ (6, Rows'.sc-owed (Array'.Array (Referent.rtF (Referent.fInt Syntax.w32)) 262160) 6) (List._∷_ (7, Rows'.sc-owed (Array'.Array (Referent.rtF (Referent.fInt Syntax.w8)) 600000) 7) (List._∷_ (8, Rows'.any-gone (Syntax.tyArray (Syntax.tyInt Syntax.w8) 16388)) (List._∷_ (9, Rows'.any-gone Cell.held) (List._∷_ (10, Rows'.sc-owed (Array'.Array Cell.R 65540) 8) (List._∷_ (11, Rows'.sc-owed (Array'.Array Cell.R 32772) 9) (List._∷_ (12, Rows'.any-gone Syntax.tyUnit) (List._∷_ (13, Rows'.any-gone (Syntax.tyRef Syntax.erased Syntax.mut (Syntax.tyArray (Syntax.tyInt Syntax.w32) 32772))) (List._∷_ (14, Rows'.any-gone (Syntax.tyRef Syntax.erased Syntax.mut (Syntax.tyArray (Syntax.tyInt Syntax.w8) 16388))) (List._∷_ (15, Rows'.any-gone (Syntax.tyRef Syntax.erased Syntax.mut (Syntax.tyArray (Syntax.tyInt Syntax.w32) 65540))) List.[])))))))))))))))
+t47 = List._∷_ local0 (List._∷_ local1 (List._∷_ local2 (List._∷_ local3 (List._∷_ local17 locals20))))
 
 abbrev pub t48 : List.List Row.Entry
-t48 = List._∷_ (16, Rows'.any-gone (Syntax.tyRef Syntax.erased Syntax.mut (Syntax.tyArray (Syntax.tyInt Syntax.w32) 32772))) (List._∷_ (17, Rows'.mleft (Array'.Array (Referent.rtF (Referent.fInt Syntax.w32)) 32772) (Syntax.tyRef Syntax.erased Syntax.mut (Syntax.tyArray (Syntax.tyInt Syntax.w32) 32772))) (List._∷_ (18, Rows'.mleft (Array'.Array (Referent.rtF (Referent.fInt Syntax.w32)) 262160) (Syntax.tyRef Syntax.erased Syntax.mut (Syntax.tyArray (Syntax.tyInt Syntax.w32) 262160))) (List._∷_ (19, Rows'.mleft (Array'.Array (Referent.rtF (Referent.fInt Syntax.w8)) 600000) (Syntax.tyRef Syntax.erased Syntax.mut (Syntax.tyArray (Syntax.tyInt Syntax.w8) 600000))) (List._∷_ (20, Rows'.mleft (Array'.Array Cell.R 65540) (Syntax.tyRef Syntax.erased Syntax.mut (Syntax.tyArray Cell.behind 65540))) (List._∷_ (21, Rows'.mleft (Array'.Array Cell.R 32772) (Syntax.tyRef Syntax.erased Syntax.mut (Syntax.tyArray Cell.behind 32772))) List.[])))))
+t48 = List._∷_ local12 locals15
 
 abbrev pub t49 : List.List Row.Entry
-t49 = List._∷_ (0, Rows'.any-gone Syntax.tyUnit) (List._∷_ (1, Rows'.sslice (Referent.rtF (Referent.fInt Syntax.w8)) (Syntax.tyRef (Syntax.named 0) Syntax.imm (Syntax.tyInt Syntax.w8)) 0) (List._∷_ (2, Rows'.any-gone (Syntax.tyArray (Syntax.tyInt Syntax.w32) 32772)) (List._∷_ (3, Rows'.any-gone (Syntax.tyArray (Syntax.tyInt Syntax.w32) 65540)) (List._∷_ (4, Rows'.any-gone (Syntax.tyArray (Syntax.tyInt Syntax.w32) 32772)) (List._∷_ (5, Rows'.sc-owed (Array'.Array (Referent.rtF (Referent.fInt Syntax.w32)) 32772) 5) (List._∷_ (6, Rows'.sc-owed (Array'.Array (Referent.rtF (Referent.fInt Syntax.w32)) 262160) 6) (List._∷_ (7, Rows'.sc-owed (Array'.Array (Referent.rtF (Referent.fInt Syntax.w8)) 600000) 7) (List._∷_ (8, Rows'.any-gone (Syntax.tyArray (Syntax.tyInt Syntax.w8) 16388)) (List._∷_ (9, Rows'.any-gone Cell.held) (List._∷_ (10, Rows'.sc-owed (Array'.Array Cell.R 65540) 8) (List._∷_ (11, Rows'.sc-owed (Array'.Array Cell.R 32772) 9) (List._∷_ (12, Rows'.any-gone Syntax.tyUnit) (List._∷_ (13, Rows'.any-gone (Syntax.tyRef Syntax.erased Syntax.mut (Syntax.tyArray (Syntax.tyInt Syntax.w32) 32772))) (List._∷_ (14, Rows'.any-gone (Syntax.tyRef Syntax.erased Syntax.mut (Syntax.tyArray (Syntax.tyInt Syntax.w8) 16388))) (List._∷_ (15, Rows'.any-gone (Syntax.tyRef Syntax.erased Syntax.mut (Syntax.tyArray (Syntax.tyInt Syntax.w32) 65540))) List.[])))))))))))))))
+t49 = List._∷_ local0 (List._∷_ local1 (List._∷_ local2 (List._∷_ local3 (List._∷_ local4 locals20))))
 
 abbrev pub t50 : List.List Row.Entry
-t50 = List._∷_ (0, Rows'.any-gone Syntax.tyUnit) (List._∷_ (1, Rows'.sslice (Referent.rtF (Referent.fInt Syntax.w8)) (Syntax.tyRef (Syntax.named 0) Syntax.imm (Syntax.tyInt Syntax.w8)) 0) (List._∷_ (2, Rows'.any-gone (Syntax.tyArray (Syntax.tyInt Syntax.w32) 32772)) (List._∷_ (3, Rows'.any-gone (Syntax.tyArray (Syntax.tyInt Syntax.w32) 65540)) (List._∷_ (4, Rows'.any-gone (Syntax.tyArray (Syntax.tyInt Syntax.w32) 32772)) (List._∷_ (5, Rows.arrF (Referent.rtF (Referent.fInt Syntax.w32)) 32772 0) (List._∷_ (6, Rows'.sc-owed (Array'.Array (Referent.rtF (Referent.fInt Syntax.w32)) 262160) 6) (List._∷_ (7, Rows'.sc-owed (Array'.Array (Referent.rtF (Referent.fInt Syntax.w8)) 600000) 7) (List._∷_ (8, Rows'.any-gone (Syntax.tyArray (Syntax.tyInt Syntax.w8) 16388)) (List._∷_ (9, Rows'.any-gone Cell.held) (List._∷_ (10, Rows'.sc-owed (Array'.Array Cell.R 65540) 8) (List._∷_ (11, Rows'.sc-owed (Array'.Array Cell.R 32772) 9) (List._∷_ (12, Rows'.any-gone Syntax.tyUnit) (List._∷_ (13, Rows'.any-gone (Syntax.tyRef Syntax.erased Syntax.mut (Syntax.tyArray (Syntax.tyInt Syntax.w32) 32772))) (List._∷_ (14, Rows'.any-gone (Syntax.tyRef Syntax.erased Syntax.mut (Syntax.tyArray (Syntax.tyInt Syntax.w8) 16388))) (List._∷_ (15, Rows'.any-gone (Syntax.tyRef Syntax.erased Syntax.mut (Syntax.tyArray (Syntax.tyInt Syntax.w32) 65540))) List.[])))))))))))))))
+t50 = List._∷_ local0 (List._∷_ local1 (List._∷_ local2 (List._∷_ local3 (List._∷_ local4 (List._∷_ local18 (List._∷_ local32 locals19))))))
 
 abbrev pub t51 : List.List Row.Entry
-t51 = List._∷_ (16, Rows'.any-gone (Syntax.tyRef Syntax.erased Syntax.mut (Syntax.tyArray (Syntax.tyInt Syntax.w32) 32772))) (List._∷_ (17, Rows'.any-gone (Syntax.tyRef Syntax.erased Syntax.mut (Syntax.tyArray (Syntax.tyInt Syntax.w32) 32772))) (List._∷_ (18, Rows'.mleft (Array'.Array (Referent.rtF (Referent.fInt Syntax.w32)) 262160) (Syntax.tyRef Syntax.erased Syntax.mut (Syntax.tyArray (Syntax.tyInt Syntax.w32) 262160))) (List._∷_ (19, Rows'.mleft (Array'.Array (Referent.rtF (Referent.fInt Syntax.w8)) 600000) (Syntax.tyRef Syntax.erased Syntax.mut (Syntax.tyArray (Syntax.tyInt Syntax.w8) 600000))) (List._∷_ (20, Rows'.mleft (Array'.Array Cell.R 65540) (Syntax.tyRef Syntax.erased Syntax.mut (Syntax.tyArray Cell.behind 65540))) (List._∷_ (21, Rows'.mleft (Array'.Array Cell.R 32772) (Syntax.tyRef Syntax.erased Syntax.mut (Syntax.tyArray Cell.behind 32772))) List.[])))))
+t51 = List._∷_ local12 (List._∷_ local13 (List._∷_ (18, Rows'.mleft held5 ty11) locals14))
 
 abbrev pub t52 : List.List Row.Entry
-t52 = List._∷_ (0, Rows'.any-gone Syntax.tyUnit) (List._∷_ (1, Rows'.sslice (Referent.rtF (Referent.fInt Syntax.w8)) (Syntax.tyRef (Syntax.named 0) Syntax.imm (Syntax.tyInt Syntax.w8)) 0) (List._∷_ (2, Rows'.any-gone (Syntax.tyArray (Syntax.tyInt Syntax.w32) 32772)) (List._∷_ (3, Rows'.any-gone (Syntax.tyArray (Syntax.tyInt Syntax.w32) 65540)) (List._∷_ (4, Rows'.any-gone (Syntax.tyArray (Syntax.tyInt Syntax.w32) 32772)) (List._∷_ (5, Rows'.any-gone (Syntax.tyArray (Syntax.tyInt Syntax.w32) 32772)) (List._∷_ (6, Rows'.sc-owed (Array'.Array (Referent.rtF (Referent.fInt Syntax.w32)) 262160) 6) (List._∷_ (7, Rows'.sc-owed (Array'.Array (Referent.rtF (Referent.fInt Syntax.w8)) 600000) 7) (List._∷_ (8, Rows'.any-gone (Syntax.tyArray (Syntax.tyInt Syntax.w8) 16388)) (List._∷_ (9, Rows'.any-gone Cell.held) (List._∷_ (10, Rows'.sc-owed (Array'.Array Cell.R 65540) 8) (List._∷_ (11, Rows'.sc-owed (Array'.Array Cell.R 32772) 9) (List._∷_ (12, Rows'.any-gone Syntax.tyUnit) (List._∷_ (13, Rows'.any-gone (Syntax.tyRef Syntax.erased Syntax.mut (Syntax.tyArray (Syntax.tyInt Syntax.w32) 32772))) (List._∷_ (14, Rows'.any-gone (Syntax.tyRef Syntax.erased Syntax.mut (Syntax.tyArray (Syntax.tyInt Syntax.w8) 16388))) (List._∷_ (15, Rows'.any-gone (Syntax.tyRef Syntax.erased Syntax.mut (Syntax.tyArray (Syntax.tyInt Syntax.w32) 65540))) List.[])))))))))))))))
+t52 = List._∷_ local0 (List._∷_ local1 (List._∷_ local2 (List._∷_ local3 (List._∷_ local4 (List._∷_ local5 (List._∷_ local32 locals19))))))
 
 abbrev pub t53 : List.List Row.Entry
-t53 = List._∷_ (0, Rows'.any-gone Syntax.tyUnit) (List._∷_ (1, Rows'.sslice (Referent.rtF (Referent.fInt Syntax.w8)) (Syntax.tyRef (Syntax.named 0) Syntax.imm (Syntax.tyInt Syntax.w8)) 0) (List._∷_ (2, Rows'.any-gone (Syntax.tyArray (Syntax.tyInt Syntax.w32) 32772)) (List._∷_ (3, Rows'.any-gone (Syntax.tyArray (Syntax.tyInt Syntax.w32) 65540)) (List._∷_ (4, Rows'.any-gone (Syntax.tyArray (Syntax.tyInt Syntax.w32) 32772)) (List._∷_ (5, Rows'.any-gone (Syntax.tyArray (Syntax.tyInt Syntax.w32) 32772)) (List._∷_ (6, Rows.arrF (Referent.rtF (Referent.fInt Syntax.w32)) 262160 0) (List._∷_ (7, Rows'.sc-owed (Array'.Array (Referent.rtF (Referent.fInt Syntax.w8)) 600000) 7) (List._∷_ (8, Rows'.any-gone (Syntax.tyArray (Syntax.tyInt Syntax.w8) 16388)) (List._∷_ (9, Rows'.any-gone Cell.held) (List._∷_ (10, Rows'.sc-owed (Array'.Array Cell.R 65540) 8) (List._∷_ (11, Rows'.sc-owed (Array'.Array Cell.R 32772) 9) (List._∷_ (12, Rows'.any-gone Syntax.tyUnit) (List._∷_ (13, Rows'.any-gone (Syntax.tyRef Syntax.erased Syntax.mut (Syntax.tyArray (Syntax.tyInt Syntax.w32) 32772))) (List._∷_ (14, Rows'.any-gone (Syntax.tyRef Syntax.erased Syntax.mut (Syntax.tyArray (Syntax.tyInt Syntax.w8) 16388))) (List._∷_ (15, Rows'.any-gone (Syntax.tyRef Syntax.erased Syntax.mut (Syntax.tyArray (Syntax.tyInt Syntax.w32) 65540))) List.[])))))))))))))))
+t53 = List._∷_ local0 (List._∷_ local1 (List._∷_ local2 (List._∷_ local3 (List._∷_ local4 (List._∷_ local5 (List._∷_ local19 locals19))))))
 
 abbrev pub t54 : List.List Row.Entry
-t54 = List._∷_ (16, Rows'.any-gone (Syntax.tyRef Syntax.erased Syntax.mut (Syntax.tyArray (Syntax.tyInt Syntax.w32) 32772))) (List._∷_ (17, Rows'.any-gone (Syntax.tyRef Syntax.erased Syntax.mut (Syntax.tyArray (Syntax.tyInt Syntax.w32) 32772))) (List._∷_ (18, Rows'.any-gone (Syntax.tyRef Syntax.erased Syntax.mut (Syntax.tyArray (Syntax.tyInt Syntax.w32) 262160))) (List._∷_ (19, Rows'.mleft (Array'.Array (Referent.rtF (Referent.fInt Syntax.w8)) 600000) (Syntax.tyRef Syntax.erased Syntax.mut (Syntax.tyArray (Syntax.tyInt Syntax.w8) 600000))) (List._∷_ (20, Rows'.mleft (Array'.Array Cell.R 65540) (Syntax.tyRef Syntax.erased Syntax.mut (Syntax.tyArray Cell.behind 65540))) (List._∷_ (21, Rows'.mleft (Array'.Array Cell.R 32772) (Syntax.tyRef Syntax.erased Syntax.mut (Syntax.tyArray Cell.behind 32772))) List.[])))))
+t54 = List._∷_ local12 (List._∷_ local13 (List._∷_ local14 locals14))
 
 abbrev pub t55 : List.List Row.Entry
-t55 = List._∷_ (0, Rows'.any-gone Syntax.tyUnit) (List._∷_ (1, Rows'.sslice (Referent.rtF (Referent.fInt Syntax.w8)) (Syntax.tyRef (Syntax.named 0) Syntax.imm (Syntax.tyInt Syntax.w8)) 0) (List._∷_ (2, Rows'.any-gone (Syntax.tyArray (Syntax.tyInt Syntax.w32) 32772)) (List._∷_ (3, Rows'.any-gone (Syntax.tyArray (Syntax.tyInt Syntax.w32) 65540)) (List._∷_ (4, Rows'.any-gone (Syntax.tyArray (Syntax.tyInt Syntax.w32) 32772)) (List._∷_ (5, Rows'.any-gone (Syntax.tyArray (Syntax.tyInt Syntax.w32) 32772)) (List._∷_ (6, Rows'.any-gone (Syntax.tyArray (Syntax.tyInt Syntax.w32) 262160)) (List._∷_ (7, Rows'.sc-owed (Array'.Array (Referent.rtF (Referent.fInt Syntax.w8)) 600000) 7) (List._∷_ (8, Rows'.any-gone (Syntax.tyArray (Syntax.tyInt Syntax.w8) 16388)) (List._∷_ (9, Rows'.any-gone Cell.held) (List._∷_ (10, Rows'.sc-owed (Array'.Array Cell.R 65540) 8) (List._∷_ (11, Rows'.sc-owed (Array'.Array Cell.R 32772) 9) (List._∷_ (12, Rows'.any-gone Syntax.tyUnit) (List._∷_ (13, Rows'.any-gone (Syntax.tyRef Syntax.erased Syntax.mut (Syntax.tyArray (Syntax.tyInt Syntax.w32) 32772))) (List._∷_ (14, Rows'.any-gone (Syntax.tyRef Syntax.erased Syntax.mut (Syntax.tyArray (Syntax.tyInt Syntax.w8) 16388))) (List._∷_ (15, Rows'.any-gone (Syntax.tyRef Syntax.erased Syntax.mut (Syntax.tyArray (Syntax.tyInt Syntax.w32) 65540))) List.[])))))))))))))))
+t55 = List._∷_ local0 (List._∷_ local1 (List._∷_ local2 (List._∷_ local3 (List._∷_ local4 (List._∷_ local5 (List._∷_ local6 locals19))))))
 
 abbrev pub t56 : List.List Row.Entry
-t56 = List._∷_ (0, Rows'.any-gone Syntax.tyUnit) (List._∷_ (1, Rows'.sslice (Referent.rtF (Referent.fInt Syntax.w8)) (Syntax.tyRef (Syntax.named 0) Syntax.imm (Syntax.tyInt Syntax.w8)) 0) (List._∷_ (2, Rows'.any-gone (Syntax.tyArray (Syntax.tyInt Syntax.w32) 32772)) (List._∷_ (3, Rows'.any-gone (Syntax.tyArray (Syntax.tyInt Syntax.w32) 65540)) (List._∷_ (4, Rows'.any-gone (Syntax.tyArray (Syntax.tyInt Syntax.w32) 32772)) (List._∷_ (5, Rows'.any-gone (Syntax.tyArray (Syntax.tyInt Syntax.w32) 32772)) (List._∷_ (6, Rows'.any-gone (Syntax.tyArray (Syntax.tyInt Syntax.w32) 262160)) (List._∷_ (7, Rows.arrF (Referent.rtF (Referent.fInt Syntax.w8)) 600000 0) (List._∷_ (8, Rows'.any-gone (Syntax.tyArray (Syntax.tyInt Syntax.w8) 16388)) (List._∷_ (9, Rows'.any-gone Cell.held) (List._∷_ (10, Rows'.sc-owed (Array'.Array Cell.R 65540) 8) (List._∷_ (11, Rows'.sc-owed (Array'.Array Cell.R 32772) 9) (List._∷_ (12, Rows'.any-gone Syntax.tyUnit) (List._∷_ (13, Rows'.any-gone (Syntax.tyRef Syntax.erased Syntax.mut (Syntax.tyArray (Syntax.tyInt Syntax.w32) 32772))) (List._∷_ (14, Rows'.any-gone (Syntax.tyRef Syntax.erased Syntax.mut (Syntax.tyArray (Syntax.tyInt Syntax.w8) 16388))) (List._∷_ (15, Rows'.any-gone (Syntax.tyRef Syntax.erased Syntax.mut (Syntax.tyArray (Syntax.tyInt Syntax.w32) 65540))) List.[])))))))))))))))
+t56 = List._∷_ local0 (List._∷_ local1 (List._∷_ local2 (List._∷_ local3 (List._∷_ local4 (List._∷_ local5 (List._∷_ local6 (List._∷_ local20 locals18)))))))
 
 abbrev pub t57 : List.List Row.Entry
-t57 = List._∷_ (16, Rows'.any-gone (Syntax.tyRef Syntax.erased Syntax.mut (Syntax.tyArray (Syntax.tyInt Syntax.w32) 32772))) (List._∷_ (17, Rows'.any-gone (Syntax.tyRef Syntax.erased Syntax.mut (Syntax.tyArray (Syntax.tyInt Syntax.w32) 32772))) (List._∷_ (18, Rows'.any-gone (Syntax.tyRef Syntax.erased Syntax.mut (Syntax.tyArray (Syntax.tyInt Syntax.w32) 262160))) (List._∷_ (19, Rows'.any-gone (Syntax.tyRef Syntax.erased Syntax.mut (Syntax.tyArray (Syntax.tyInt Syntax.w8) 600000))) (List._∷_ (20, Rows'.mleft (Array'.Array Cell.R 65540) (Syntax.tyRef Syntax.erased Syntax.mut (Syntax.tyArray Cell.behind 65540))) (List._∷_ (21, Rows'.mleft (Array'.Array Cell.R 32772) (Syntax.tyRef Syntax.erased Syntax.mut (Syntax.tyArray Cell.behind 32772))) List.[])))))
+t57 = List._∷_ local12 (List._∷_ local13 (List._∷_ local14 (List._∷_ (19, Rows'.any-gone ty12) locals13)))
 
 abbrev pub t58 : List.List Row.Entry
-t58 = List._∷_ (0, Rows'.any-gone Syntax.tyUnit) (List._∷_ (1, Rows'.sslice (Referent.rtF (Referent.fInt Syntax.w8)) (Syntax.tyRef (Syntax.named 0) Syntax.imm (Syntax.tyInt Syntax.w8)) 0) (List._∷_ (2, Rows'.any-gone (Syntax.tyArray (Syntax.tyInt Syntax.w32) 32772)) (List._∷_ (3, Rows'.any-gone (Syntax.tyArray (Syntax.tyInt Syntax.w32) 65540)) (List._∷_ (4, Rows'.any-gone (Syntax.tyArray (Syntax.tyInt Syntax.w32) 32772)) (List._∷_ (5, Rows'.any-gone (Syntax.tyArray (Syntax.tyInt Syntax.w32) 32772)) (List._∷_ (6, Rows'.any-gone (Syntax.tyArray (Syntax.tyInt Syntax.w32) 262160)) (List._∷_ (7, Rows'.any-gone (Syntax.tyArray (Syntax.tyInt Syntax.w8) 600000)) (List._∷_ (8, Rows'.any-gone (Syntax.tyArray (Syntax.tyInt Syntax.w8) 16388)) (List._∷_ (9, Rows'.any-gone Cell.held) (List._∷_ (10, Rows'.sc-owed (Array'.Array Cell.R 65540) 8) (List._∷_ (11, Rows'.sc-owed (Array'.Array Cell.R 32772) 9) (List._∷_ (12, Rows'.any-gone Syntax.tyUnit) (List._∷_ (13, Rows'.any-gone (Syntax.tyRef Syntax.erased Syntax.mut (Syntax.tyArray (Syntax.tyInt Syntax.w32) 32772))) (List._∷_ (14, Rows'.any-gone (Syntax.tyRef Syntax.erased Syntax.mut (Syntax.tyArray (Syntax.tyInt Syntax.w8) 16388))) (List._∷_ (15, Rows'.any-gone (Syntax.tyRef Syntax.erased Syntax.mut (Syntax.tyArray (Syntax.tyInt Syntax.w32) 65540))) List.[])))))))))))))))
+t58 = List._∷_ local0 (List._∷_ local1 (List._∷_ local2 (List._∷_ local3 (List._∷_ local4 (List._∷_ local5 (List._∷_ local6 (List._∷_ local7 locals18)))))))
 
 abbrev pub t59 : List.List Row.Entry
-t59 = List._∷_ (0, Rows'.any-gone Syntax.tyUnit) (List._∷_ (1, Rows'.sslice (Referent.rtF (Referent.fInt Syntax.w8)) (Syntax.tyRef (Syntax.named 0) Syntax.imm (Syntax.tyInt Syntax.w8)) 0) (List._∷_ (2, Rows'.any-gone (Syntax.tyArray (Syntax.tyInt Syntax.w32) 32772)) (List._∷_ (3, Rows'.any-gone (Syntax.tyArray (Syntax.tyInt Syntax.w32) 65540)) (List._∷_ (4, Rows'.any-gone (Syntax.tyArray (Syntax.tyInt Syntax.w32) 32772)) (List._∷_ (5, Rows'.any-gone (Syntax.tyArray (Syntax.tyInt Syntax.w32) 32772)) (List._∷_ (6, Rows'.any-gone (Syntax.tyArray (Syntax.tyInt Syntax.w32) 262160)) (List._∷_ (7, Rows'.any-gone (Syntax.tyArray (Syntax.tyInt Syntax.w8) 600000)) (List._∷_ (8, Rows'.any-gone (Syntax.tyArray (Syntax.tyInt Syntax.w8) 16388)) (List._∷_ (9, Rows'.any-gone Cell.held) (List._∷_ (10, Rows.arrF Cell.R 65540 0) (List._∷_ (11, Rows'.sc-owed (Array'.Array Cell.R 32772) 9) (List._∷_ (12, Rows'.any-gone Syntax.tyUnit) (List._∷_ (13, Rows'.any-gone (Syntax.tyRef Syntax.erased Syntax.mut (Syntax.tyArray (Syntax.tyInt Syntax.w32) 32772))) (List._∷_ (14, Rows'.any-gone (Syntax.tyRef Syntax.erased Syntax.mut (Syntax.tyArray (Syntax.tyInt Syntax.w8) 16388))) (List._∷_ (15, Rows'.any-gone (Syntax.tyRef Syntax.erased Syntax.mut (Syntax.tyArray (Syntax.tyInt Syntax.w32) 65540))) List.[])))))))))))))))
+t59 = List._∷_ local0 (List._∷_ local1 (List._∷_ local2 (List._∷_ local3 (List._∷_ local4 (List._∷_ local5 (List._∷_ local6 (List._∷_ local7 (List._∷_ local8 (List._∷_ local9 (List._∷_ local22 (List._∷_ local37 locals1)))))))))))
 
 abbrev pub t60 : List.List Row.Entry
-t60 = List._∷_ (16, Rows'.any-gone (Syntax.tyRef Syntax.erased Syntax.mut (Syntax.tyArray (Syntax.tyInt Syntax.w32) 32772))) (List._∷_ (17, Rows'.any-gone (Syntax.tyRef Syntax.erased Syntax.mut (Syntax.tyArray (Syntax.tyInt Syntax.w32) 32772))) (List._∷_ (18, Rows'.any-gone (Syntax.tyRef Syntax.erased Syntax.mut (Syntax.tyArray (Syntax.tyInt Syntax.w32) 262160))) (List._∷_ (19, Rows'.any-gone (Syntax.tyRef Syntax.erased Syntax.mut (Syntax.tyArray (Syntax.tyInt Syntax.w8) 600000))) (List._∷_ (20, Rows'.any-gone (Syntax.tyRef Syntax.erased Syntax.mut (Syntax.tyArray Cell.behind 65540))) (List._∷_ (21, Rows'.mleft (Array'.Array Cell.R 32772) (Syntax.tyRef Syntax.erased Syntax.mut (Syntax.tyArray Cell.behind 32772))) List.[])))))
+t60 = List._∷_ local12 (List._∷_ local13 (List._∷_ local14 (List._∷_ (19, Rows'.any-gone ty12) (List._∷_ (20, Rows'.any-gone ty14) (List._∷_ (21, Rows'.mleft held8 ty16) List.[])))))
 
 abbrev pub t61 : List.List Row.Entry
-t61 = List._∷_ (0, Rows'.any-gone Syntax.tyUnit) (List._∷_ (1, Rows'.sslice (Referent.rtF (Referent.fInt Syntax.w8)) (Syntax.tyRef (Syntax.named 0) Syntax.imm (Syntax.tyInt Syntax.w8)) 0) (List._∷_ (2, Rows'.any-gone (Syntax.tyArray (Syntax.tyInt Syntax.w32) 32772)) (List._∷_ (3, Rows'.any-gone (Syntax.tyArray (Syntax.tyInt Syntax.w32) 65540)) (List._∷_ (4, Rows'.any-gone (Syntax.tyArray (Syntax.tyInt Syntax.w32) 32772)) (List._∷_ (5, Rows'.any-gone (Syntax.tyArray (Syntax.tyInt Syntax.w32) 32772)) (List._∷_ (6, Rows'.any-gone (Syntax.tyArray (Syntax.tyInt Syntax.w32) 262160)) (List._∷_ (7, Rows'.any-gone (Syntax.tyArray (Syntax.tyInt Syntax.w8) 600000)) (List._∷_ (8, Rows'.any-gone (Syntax.tyArray (Syntax.tyInt Syntax.w8) 16388)) (List._∷_ (9, Rows'.any-gone Cell.held) (List._∷_ (10, Rows'.any-gone (Syntax.tyArray Cell.held 65540)) (List._∷_ (11, Rows'.sc-owed (Array'.Array Cell.R 32772) 9) (List._∷_ (12, Rows'.any-gone Syntax.tyUnit) (List._∷_ (13, Rows'.any-gone (Syntax.tyRef Syntax.erased Syntax.mut (Syntax.tyArray (Syntax.tyInt Syntax.w32) 32772))) (List._∷_ (14, Rows'.any-gone (Syntax.tyRef Syntax.erased Syntax.mut (Syntax.tyArray (Syntax.tyInt Syntax.w8) 16388))) (List._∷_ (15, Rows'.any-gone (Syntax.tyRef Syntax.erased Syntax.mut (Syntax.tyArray (Syntax.tyInt Syntax.w32) 65540))) List.[])))))))))))))))
+t61 = List._∷_ local0 (List._∷_ local1 (List._∷_ local2 (List._∷_ local3 (List._∷_ local4 (List._∷_ local5 (List._∷_ local6 (List._∷_ local7 (List._∷_ local8 (List._∷_ local9 (List._∷_ local10 (List._∷_ local37 locals1)))))))))))
 
 abbrev pub t62 : List.List Row.Entry
-t62 = List._∷_ (0, Rows'.any-gone Syntax.tyUnit) (List._∷_ (1, Rows'.sslice (Referent.rtF (Referent.fInt Syntax.w8)) (Syntax.tyRef (Syntax.named 0) Syntax.imm (Syntax.tyInt Syntax.w8)) 0) (List._∷_ (2, Rows'.any-gone (Syntax.tyArray (Syntax.tyInt Syntax.w32) 32772)) (List._∷_ (3, Rows'.any-gone (Syntax.tyArray (Syntax.tyInt Syntax.w32) 65540)) (List._∷_ (4, Rows'.any-gone (Syntax.tyArray (Syntax.tyInt Syntax.w32) 32772)) (List._∷_ (5, Rows'.any-gone (Syntax.tyArray (Syntax.tyInt Syntax.w32) 32772)) (List._∷_ (6, Rows'.any-gone (Syntax.tyArray (Syntax.tyInt Syntax.w32) 262160)) (List._∷_ (7, Rows'.any-gone (Syntax.tyArray (Syntax.tyInt Syntax.w8) 600000)) (List._∷_ (8, Rows'.any-gone (Syntax.tyArray (Syntax.tyInt Syntax.w8) 16388)) (List._∷_ (9, Rows'.any-gone Cell.held) (List._∷_ (10, Rows'.any-gone (Syntax.tyArray Cell.held 65540)) (List._∷_ (11, Rows.arrF Cell.R 32772 0) (List._∷_ (12, Rows'.any-gone Syntax.tyUnit) (List._∷_ (13, Rows'.any-gone (Syntax.tyRef Syntax.erased Syntax.mut (Syntax.tyArray (Syntax.tyInt Syntax.w32) 32772))) (List._∷_ (14, Rows'.any-gone (Syntax.tyRef Syntax.erased Syntax.mut (Syntax.tyArray (Syntax.tyInt Syntax.w8) 16388))) (List._∷_ (15, Rows'.any-gone (Syntax.tyRef Syntax.erased Syntax.mut (Syntax.tyArray (Syntax.tyInt Syntax.w32) 65540))) List.[])))))))))))))))
+t62 = List._∷_ local0 (List._∷_ local1 (List._∷_ local2 (List._∷_ local3 (List._∷_ local4 (List._∷_ local5 (List._∷_ local6 (List._∷_ local7 (List._∷_ local8 (List._∷_ local9 (List._∷_ local10 (List._∷_ local23 locals1)))))))))))
 
 abbrev pub T0 : Row.Cx
 T0 = record { locals = List._++_ t0 t1; slots = List.[] }
@@ -562,49 +920,49 @@ O0 = record { next = Option.none; exits = List.[]; returns = Option.some T1 }
 
 module _ (claims· : Claims) where
   abbrev s0 : Typed.Gives T0 T2
-  s0 = Know.k-shs-known (Referent.fInt Syntax.w8) T0 1 0 (Syntax.tyRef (Syntax.named 0) Syntax.imm (Syntax.tyInt Syntax.w8)) Row.off 0 λ x. x
+  s0 = Know.k-shs-known rf0 T0 1 0 ty17 Row.off 0 λ x. x
 
   abbrev s1 : Typed.Mo T2 → Typed.Mo T3
-  s1 = Repeat.n-repeat (Referent.rtF (Referent.fInt Syntax.w32)) 32772 T2 2 λ m. 0
+  s1 = Repeat.n-repeat held1 32772 T2 2 λ m. 0
 
   abbrev s2 : Typed.Mo T3 → Typed.Mo T4
-  s2 = AtSlots.n-as-by T3 2 (Rows.arrF (Referent.rtF (Referent.fInt Syntax.w32)) 32772 0) λ x. x
+  s2 = AtSlots.n-as-by T3 2 (Rows.arrF held1 32772 0) λ x. x
 
   abbrev s3 : Typed.Mo T4 → Typed.Mo T5
-  s3 = Repeat.n-repeat (Referent.rtF (Referent.fInt Syntax.w32)) 65540 T4 3 λ m. 0
+  s3 = Repeat.n-repeat held1 65540 T4 3 λ m. 0
 
   abbrev s4 : Typed.Mo T5 → Typed.Mo T6
-  s4 = AtSlots.n-as-by T5 3 (Rows.arrF (Referent.rtF (Referent.fInt Syntax.w32)) 65540 0) λ x. x
+  s4 = AtSlots.n-as-by T5 3 (Rows.arrF held1 65540 0) λ x. x
 
   abbrev s5 : Typed.Mo T6 → Typed.Mo T7
-  s5 = Repeat.n-repeat (Referent.rtF (Referent.fInt Syntax.w32)) 32772 T6 4 λ m. 0
+  s5 = Repeat.n-repeat held1 32772 T6 4 λ m. 0
 
   abbrev s6 : Typed.Mo T7 → Typed.Mo T8
-  s6 = AtSlots.n-as-by T7 4 (Rows.arrF (Referent.rtF (Referent.fInt Syntax.w32)) 32772 0) λ x. x
+  s6 = AtSlots.n-as-by T7 4 (Rows.arrF held1 32772 0) λ x. x
 
   abbrev s7 : Typed.Mo T8 → Typed.Mo T9
-  s7 = Repeat.n-repeat (Referent.rtF (Referent.fInt Syntax.w32)) 32772 T8 5 λ m. 0
+  s7 = Repeat.n-repeat held1 32772 T8 5 λ m. 0
 
   abbrev s8 : Typed.Mo T9 → Typed.Mo T10
-  s8 = AtSlots.n-as-by T9 5 (Rows.arrF (Referent.rtF (Referent.fInt Syntax.w32)) 32772 0) λ x. x
+  s8 = AtSlots.n-as-by T9 5 (Rows.arrF held1 32772 0) λ x. x
 
   abbrev s9 : Typed.Mo T10 → Typed.Mo T11
-  s9 = Repeat.n-repeat (Referent.rtF (Referent.fInt Syntax.w32)) 262160 T10 6 λ m. 0
+  s9 = Repeat.n-repeat held1 262160 T10 6 λ m. 0
 
   abbrev s10 : Typed.Mo T11 → Typed.Mo T12
-  s10 = AtSlots.n-as-by T11 6 (Rows.arrF (Referent.rtF (Referent.fInt Syntax.w32)) 262160 0) λ x. x
+  s10 = AtSlots.n-as-by T11 6 (Rows.arrF held1 262160 0) λ x. x
 
   abbrev s11 : Typed.Mo T12 → Typed.Mo T13
-  s11 = Repeat.n-repeat (Referent.rtF (Referent.fInt Syntax.w8)) 600000 T12 7 λ m. 0
+  s11 = Repeat.n-repeat held0 600000 T12 7 λ m. 0
 
   abbrev s12 : Typed.Mo T13 → Typed.Mo T14
-  s12 = AtSlots.n-as-by T13 7 (Rows.arrF (Referent.rtF (Referent.fInt Syntax.w8)) 600000 0) λ x. x
+  s12 = AtSlots.n-as-by T13 7 (Rows.arrF held0 600000 0) λ x. x
 
   abbrev s13 : Typed.Mo T14 → Typed.Mo T15
-  s13 = Repeat.n-repeat (Referent.rtF (Referent.fInt Syntax.w8)) 16388 T14 8 λ m. 0
+  s13 = Repeat.n-repeat held0 16388 T14 8 λ m. 0
 
   abbrev s14 : Typed.Mo T15 → Typed.Mo T16
-  s14 = AtSlots.n-as-by T15 8 (Rows.arrF (Referent.rtF (Referent.fInt Syntax.w8)) 16388 0) λ x. x
+  s14 = AtSlots.n-as-by T15 8 (Rows.arrF held0 16388 0) λ x. x
 
   abbrev s15 : Typed.Both T16 T17
   s15 = Call.callB ps·0 r·0 (claims· .0) (claims· .1) T16 tt 9 List.[] Cell.held
@@ -625,91 +983,91 @@ module _ (claims· : Claims) where
   s20 = Scalar.n-room T21 9 Cell.held
 
   abbrev s22 : Typed.Gives T22 T24
-  s22 = Local.k-sc-borrow T22 2 13 1 (Array'.Array (Referent.rtF (Referent.fInt Syntax.w32)) 32772) (Syntax.tyRef Syntax.erased Syntax.mut (Syntax.tyArray (Syntax.tyInt Syntax.w32) 32772)) λ x. x
+  s22 = Local.k-sc-borrow T22 2 13 1 held2 ty8 λ x. x
 
   abbrev s24 : Typed.Gives T24 T26
-  s24 = Local.k-sc-borrow T24 8 14 2 (Array'.Array (Referent.rtF (Referent.fInt Syntax.w8)) 16388) (Syntax.tyRef Syntax.erased Syntax.mut (Syntax.tyArray (Syntax.tyInt Syntax.w8) 16388)) λ x. x
+  s24 = Local.k-sc-borrow T24 8 14 2 held3 ty9 λ x. x
 
   abbrev s26 : Typed.Gives T26 T28
-  s26 = Local.k-sc-borrow T26 3 15 3 (Array'.Array (Referent.rtF (Referent.fInt Syntax.w32)) 65540) (Syntax.tyRef Syntax.erased Syntax.mut (Syntax.tyArray (Syntax.tyInt Syntax.w32) 65540)) λ x. x
+  s26 = Local.k-sc-borrow T26 3 15 3 held4 ty10 λ x. x
 
   abbrev s28 : Typed.Gives T28 T30
-  s28 = Local.k-sc-borrow T28 4 16 4 (Array'.Array (Referent.rtF (Referent.fInt Syntax.w32)) 32772) (Syntax.tyRef Syntax.erased Syntax.mut (Syntax.tyArray (Syntax.tyInt Syntax.w32) 32772)) λ x. x
+  s28 = Local.k-sc-borrow T28 4 16 4 held2 ty8 λ x. x
 
   abbrev s30 : Typed.Gives T30 T32
-  s30 = Local.k-sc-borrow T30 5 17 5 (Array'.Array (Referent.rtF (Referent.fInt Syntax.w32)) 32772) (Syntax.tyRef Syntax.erased Syntax.mut (Syntax.tyArray (Syntax.tyInt Syntax.w32) 32772)) λ x. x
+  s30 = Local.k-sc-borrow T30 5 17 5 held2 ty8 λ x. x
 
   abbrev s32 : Typed.Gives T32 T34
-  s32 = Local.k-sc-borrow T32 6 18 6 (Array'.Array (Referent.rtF (Referent.fInt Syntax.w32)) 262160) (Syntax.tyRef Syntax.erased Syntax.mut (Syntax.tyArray (Syntax.tyInt Syntax.w32) 262160)) λ x. x
+  s32 = Local.k-sc-borrow T32 6 18 6 held5 ty11 λ x. x
 
   abbrev s34 : Typed.Gives T34 T36
-  s34 = Local.k-sc-borrow T34 7 19 7 (Array'.Array (Referent.rtF (Referent.fInt Syntax.w8)) 600000) (Syntax.tyRef Syntax.erased Syntax.mut (Syntax.tyArray (Syntax.tyInt Syntax.w8) 600000)) λ x. x
+  s34 = Local.k-sc-borrow T34 7 19 7 held6 ty12 λ x. x
 
   abbrev s36 : Typed.Gives T36 T38
-  s36 = Local.k-sc-borrow T36 10 20 8 (Array'.Array Cell.R 65540) (Syntax.tyRef Syntax.erased Syntax.mut (Syntax.tyArray Cell.behind 65540)) λ x. x
+  s36 = Local.k-sc-borrow T36 10 20 8 held7 ty14 λ x. x
 
   abbrev s38 : Typed.Gives T38 T40
-  s38 = Local.k-sc-borrow T38 11 21 9 (Array'.Array Cell.R 32772) (Syntax.tyRef Syntax.erased Syntax.mut (Syntax.tyArray Cell.behind 32772)) λ x. x
+  s38 = Local.k-sc-borrow T38 11 21 9 held8 ty16 λ x. x
 
   abbrev s39 : Typed.Both T40 T41
-  s39 = Call.callB ps·1 r·1 (claims· .2) (claims· .3) T40 (record { pos = 1; ty = Syntax.tyRef (Syntax.named 0) Syntax.imm (Syntax.tyInt Syntax.w8); ref = λ x. x }, (record { pos = 13; ty = Syntax.tyRef Syntax.erased Syntax.mut (Syntax.tyArray (Syntax.tyInt Syntax.w32) 32772); ref = λ x. x }, (record { pos = 14; ty = Syntax.tyRef Syntax.erased Syntax.mut (Syntax.tyArray (Syntax.tyInt Syntax.w8) 16388); ref = λ x. x }, (record { pos = 15; ty = Syntax.tyRef Syntax.erased Syntax.mut (Syntax.tyArray (Syntax.tyInt Syntax.w32) 65540); ref = λ x. x }, (record { pos = 16; ty = Syntax.tyRef Syntax.erased Syntax.mut (Syntax.tyArray (Syntax.tyInt Syntax.w32) 32772); ref = λ x. x }, (record { pos = 17; ty = Syntax.tyRef Syntax.erased Syntax.mut (Syntax.tyArray (Syntax.tyInt Syntax.w32) 32772); ref = λ x. x }, (record { pos = 18; ty = Syntax.tyRef Syntax.erased Syntax.mut (Syntax.tyArray (Syntax.tyInt Syntax.w32) 262160); ref = λ x. x }, (record { pos = 19; ty = Syntax.tyRef Syntax.erased Syntax.mut (Syntax.tyArray (Syntax.tyInt Syntax.w8) 600000); ref = λ x. x }, (record { pos = 20; ty = Syntax.tyRef Syntax.erased Syntax.mut (Syntax.tyArray Cell.behind 65540); ref = λ x. x }, (record { pos = 21; ty = Syntax.tyRef Syntax.erased Syntax.mut (Syntax.tyArray Cell.behind 32772); ref = λ x. x }, tt)))))))))) 12 (List._∷_ 0 (List._∷_ 1 (List._∷_ 2 (List._∷_ 3 (List._∷_ 4 (List._∷_ 5 (List._∷_ 6 (List._∷_ 7 (List._∷_ 8 (List._∷_ 9 List.[])))))))))) Syntax.tyUnit
+  s39 = Call.callB ps·1 r·1 (claims· .2) (claims· .3) T40 (record { pos = 1; ty = Syntax.tyRef (Syntax.named 0) Syntax.imm ty3; ref = λ x. x }, (record { pos = 13; ty = Syntax.tyRef Syntax.erased Syntax.mut ty0; ref = λ x. x }, (record { pos = 14; ty = Syntax.tyRef Syntax.erased Syntax.mut ty5; ref = λ x. x }, (record { pos = 15; ty = Syntax.tyRef Syntax.erased Syntax.mut ty1; ref = λ x. x }, (record { pos = 16; ty = Syntax.tyRef Syntax.erased Syntax.mut ty0; ref = λ x. x }, (record { pos = 17; ty = Syntax.tyRef Syntax.erased Syntax.mut ty0; ref = λ x. x }, (record { pos = 18; ty = Syntax.tyRef Syntax.erased Syntax.mut ty2; ref = λ x. x }, (record { pos = 19; ty = Syntax.tyRef Syntax.erased Syntax.mut ty4; ref = λ x. x }, (record { pos = 20; ty = Syntax.tyRef Syntax.erased Syntax.mut ty13; ref = λ x. x }, (record { pos = 21; ty = Syntax.tyRef Syntax.erased Syntax.mut ty15; ref = λ x. x }, tt)))))))))) 12 sym0 Syntax.tyUnit
 
   abbrev s40 : Typed.Mo T41 → Typed.Mo T42
   s40 = Scalar.n-room T41 12 Syntax.tyUnit
 
   abbrev s42 : Typed.Asks T42 T44
-  s42 = Local.k-back-sc T42 13 2 1 (Array'.Array (Referent.rtF (Referent.fInt Syntax.w32)) 32772) (Syntax.tyRef Syntax.erased Syntax.mut (Syntax.tyArray (Syntax.tyInt Syntax.w32) 32772)) (Rows.arrF (Referent.rtF (Referent.fInt Syntax.w32)) 32772 0) (λ x. x) (λ x. x) λ x. x
+  s42 = Local.k-back-sc T42 13 2 1 held2 ty8 (Rows.arrF held1 32772 0) (λ x. x) (λ x. x) λ x. x
 
   abbrev s44 : Typed.Mo T44 → Typed.Mo T46
-  s44 = Scalar.n-room T44 2 (Syntax.tyArray (Syntax.tyInt Syntax.w32) 32772)
+  s44 = Scalar.n-room T44 2 ty0
 
   abbrev s46 : Typed.Asks T46 T48
-  s46 = Local.k-back-sc T46 14 8 2 (Array'.Array (Referent.rtF (Referent.fInt Syntax.w8)) 16388) (Syntax.tyRef Syntax.erased Syntax.mut (Syntax.tyArray (Syntax.tyInt Syntax.w8) 16388)) (Rows.arrF (Referent.rtF (Referent.fInt Syntax.w8)) 16388 0) (λ x. x) (λ x. x) λ x. x
+  s46 = Local.k-back-sc T46 14 8 2 held3 ty9 (Rows.arrF held0 16388 0) (λ x. x) (λ x. x) λ x. x
 
   abbrev s48 : Typed.Mo T48 → Typed.Mo T50
-  s48 = Scalar.n-room T48 8 (Syntax.tyArray (Syntax.tyInt Syntax.w8) 16388)
+  s48 = Scalar.n-room T48 8 ty5
 
   abbrev s50 : Typed.Asks T50 T52
-  s50 = Local.k-back-sc T50 15 3 3 (Array'.Array (Referent.rtF (Referent.fInt Syntax.w32)) 65540) (Syntax.tyRef Syntax.erased Syntax.mut (Syntax.tyArray (Syntax.tyInt Syntax.w32) 65540)) (Rows.arrF (Referent.rtF (Referent.fInt Syntax.w32)) 65540 0) (λ x. x) (λ x. x) λ x. x
+  s50 = Local.k-back-sc T50 15 3 3 held4 ty10 (Rows.arrF held1 65540 0) (λ x. x) (λ x. x) λ x. x
 
   abbrev s52 : Typed.Mo T52 → Typed.Mo T54
-  s52 = Scalar.n-room T52 3 (Syntax.tyArray (Syntax.tyInt Syntax.w32) 65540)
+  s52 = Scalar.n-room T52 3 ty1
 
   abbrev s54 : Typed.Asks T54 T56
-  s54 = Local.k-back-sc T54 16 4 4 (Array'.Array (Referent.rtF (Referent.fInt Syntax.w32)) 32772) (Syntax.tyRef Syntax.erased Syntax.mut (Syntax.tyArray (Syntax.tyInt Syntax.w32) 32772)) (Rows.arrF (Referent.rtF (Referent.fInt Syntax.w32)) 32772 0) (λ x. x) (λ x. x) λ x. x
+  s54 = Local.k-back-sc T54 16 4 4 held2 ty8 (Rows.arrF held1 32772 0) (λ x. x) (λ x. x) λ x. x
 
   abbrev s56 : Typed.Mo T56 → Typed.Mo T58
-  s56 = Scalar.n-room T56 4 (Syntax.tyArray (Syntax.tyInt Syntax.w32) 32772)
+  s56 = Scalar.n-room T56 4 ty0
 
   abbrev s58 : Typed.Asks T58 T60
-  s58 = Local.k-back-sc T58 17 5 5 (Array'.Array (Referent.rtF (Referent.fInt Syntax.w32)) 32772) (Syntax.tyRef Syntax.erased Syntax.mut (Syntax.tyArray (Syntax.tyInt Syntax.w32) 32772)) (Rows.arrF (Referent.rtF (Referent.fInt Syntax.w32)) 32772 0) (λ x. x) (λ x. x) λ x. x
+  s58 = Local.k-back-sc T58 17 5 5 held2 ty8 (Rows.arrF held1 32772 0) (λ x. x) (λ x. x) λ x. x
 
   abbrev s60 : Typed.Mo T60 → Typed.Mo T62
-  s60 = Scalar.n-room T60 5 (Syntax.tyArray (Syntax.tyInt Syntax.w32) 32772)
+  s60 = Scalar.n-room T60 5 ty0
 
   abbrev s62 : Typed.Asks T62 T64
-  s62 = Local.k-back-sc T62 18 6 6 (Array'.Array (Referent.rtF (Referent.fInt Syntax.w32)) 262160) (Syntax.tyRef Syntax.erased Syntax.mut (Syntax.tyArray (Syntax.tyInt Syntax.w32) 262160)) (Rows.arrF (Referent.rtF (Referent.fInt Syntax.w32)) 262160 0) (λ x. x) (λ x. x) λ x. x
+  s62 = Local.k-back-sc T62 18 6 6 held5 ty11 (Rows.arrF held1 262160 0) (λ x. x) (λ x. x) λ x. x
 
   abbrev s64 : Typed.Mo T64 → Typed.Mo T66
-  s64 = Scalar.n-room T64 6 (Syntax.tyArray (Syntax.tyInt Syntax.w32) 262160)
+  s64 = Scalar.n-room T64 6 ty2
 
   abbrev s66 : Typed.Asks T66 T68
-  s66 = Local.k-back-sc T66 19 7 7 (Array'.Array (Referent.rtF (Referent.fInt Syntax.w8)) 600000) (Syntax.tyRef Syntax.erased Syntax.mut (Syntax.tyArray (Syntax.tyInt Syntax.w8) 600000)) (Rows.arrF (Referent.rtF (Referent.fInt Syntax.w8)) 600000 0) (λ x. x) (λ x. x) λ x. x
+  s66 = Local.k-back-sc T66 19 7 7 held6 ty12 (Rows.arrF held0 600000 0) (λ x. x) (λ x. x) λ x. x
 
   abbrev s68 : Typed.Mo T68 → Typed.Mo T70
-  s68 = Scalar.n-room T68 7 (Syntax.tyArray (Syntax.tyInt Syntax.w8) 600000)
+  s68 = Scalar.n-room T68 7 ty4
 
   abbrev s70 : Typed.Asks T70 T72
-  s70 = Local.k-back-sc T70 20 10 8 (Array'.Array Cell.R 65540) (Syntax.tyRef Syntax.erased Syntax.mut (Syntax.tyArray Cell.behind 65540)) (Rows.arrF Cell.R 65540 0) (λ x. x) (λ x. x) λ x. x
+  s70 = Local.k-back-sc T70 20 10 8 held7 ty14 (Rows.arrF Cell.R 65540 0) (λ x. x) (λ x. x) λ x. x
 
   abbrev s72 : Typed.Mo T72 → Typed.Mo T74
-  s72 = Scalar.n-room T72 10 (Syntax.tyArray Cell.held 65540)
+  s72 = Scalar.n-room T72 10 ty6
 
   abbrev s74 : Typed.Asks T74 T76
-  s74 = Local.k-back-sc T74 21 11 9 (Array'.Array Cell.R 32772) (Syntax.tyRef Syntax.erased Syntax.mut (Syntax.tyArray Cell.behind 32772)) (Rows.arrF Cell.R 32772 0) (λ x. x) (λ x. x) λ x. x
+  s74 = Local.k-back-sc T74 21 11 9 held8 ty16 (Rows.arrF Cell.R 32772 0) (λ x. x) (λ x. x) λ x. x
 
   abbrev s76 : Typed.Mo T76 → Typed.Mo T78
-  s76 = Scalar.n-room T76 11 (Syntax.tyArray Cell.held 32772)
+  s76 = Scalar.n-room T76 11 ty7
 
   abbrev s77 : Typed.Mo T78 → Typed.Mo T79
   s77 = Scalar.n-use T78 Scalar.oUnit 0 (Rows'.sc-here Row.sUnit) (Row.sUnit .of)
@@ -965,245 +1323,248 @@ module _ (claims· : Claims) where
         Knowns = Plain.Known 𝓤 H A W 𝓣 0 ps·0 r·0 (claims· .0) (claims· .1) "script::records::no_yarn" × Plain.Known 𝓤 H A W 𝓣 10 ps·1 r·1 (claims· .2) (claims· .3) "zones::lines::each"
 
       module _ (κs : Lifetimes.Lfts 1) (qs : Lifetimes.Shares 1) where
+        abbrev slot0 : Row.Life
+        slot0 = Row.lease (κs .0) (qs .0)
+
         abbrev G0 : Row.Cx
-        G0 = record { locals = List._++_ t0 t1; slots = List._∷_ (Row.lease (κs .0) (qs .0)) (List._∷_ Row.off (List._∷_ Row.off (List._∷_ Row.off (List._∷_ Row.off (List._∷_ Row.off (List._∷_ Row.off (List._∷_ Row.off (List._∷_ Row.off (List._∷_ Row.off List.[]))))))))) }
+        G0 = record { locals = List._++_ t0 t1; slots = List._∷_ slot0 slots3 }
 
         abbrev G1 : Row.Cx
-        G1 = record { locals = List._++_ t2 t1; slots = List._∷_ (Row.lease (κs .0) (qs .0)) (List._∷_ Row.off (List._∷_ Row.off (List._∷_ Row.off (List._∷_ Row.off (List._∷_ Row.off (List._∷_ Row.off (List._∷_ Row.off (List._∷_ Row.off (List._∷_ Row.off List.[]))))))))) }
+        G1 = record { locals = List._++_ t2 t1; slots = List._∷_ slot0 slots3 }
 
         abbrev G2 : Row.Cx
-        G2 = record { locals = List._++_ t0 t1; slots = List._∷_ (Row.lease (κs .0) (qs .0)) (List._∷_ Row.off (List._∷_ Row.off (List._∷_ Row.off (List._∷_ Row.off (List._∷_ Row.off (List._∷_ Row.off (List._∷_ Row.off (List._∷_ Row.off (List._∷_ Row.off List.[]))))))))) }
+        G2 = record { locals = List._++_ t0 t1; slots = List._∷_ slot0 slots3 }
 
         abbrev G3 : Row.Cx
-        G3 = record { locals = List._++_ t3 t1; slots = List._∷_ (Row.lease (κs .0) (qs .0)) (List._∷_ Row.off (List._∷_ Row.off (List._∷_ Row.off (List._∷_ Row.off (List._∷_ Row.off (List._∷_ Row.off (List._∷_ Row.off (List._∷_ Row.off (List._∷_ Row.off List.[]))))))))) }
+        G3 = record { locals = List._++_ t3 t1; slots = List._∷_ slot0 slots3 }
 
         abbrev G4 : Row.Cx
-        G4 = record { locals = List._++_ t4 t1; slots = List._∷_ (Row.lease (κs .0) (qs .0)) (List._∷_ Row.off (List._∷_ Row.off (List._∷_ Row.off (List._∷_ Row.off (List._∷_ Row.off (List._∷_ Row.off (List._∷_ Row.off (List._∷_ Row.off (List._∷_ Row.off List.[]))))))))) }
+        G4 = record { locals = List._++_ t4 t1; slots = List._∷_ slot0 slots3 }
 
         abbrev G5 : Row.Cx
-        G5 = record { locals = List._++_ t5 t1; slots = List._∷_ (Row.lease (κs .0) (qs .0)) (List._∷_ Row.off (List._∷_ Row.off (List._∷_ Row.off (List._∷_ Row.off (List._∷_ Row.off (List._∷_ Row.off (List._∷_ Row.off (List._∷_ Row.off (List._∷_ Row.off List.[]))))))))) }
+        G5 = record { locals = List._++_ t5 t1; slots = List._∷_ slot0 slots3 }
 
         abbrev G6 : Row.Cx
-        G6 = record { locals = List._++_ t6 t1; slots = List._∷_ (Row.lease (κs .0) (qs .0)) (List._∷_ Row.off (List._∷_ Row.off (List._∷_ Row.off (List._∷_ Row.off (List._∷_ Row.off (List._∷_ Row.off (List._∷_ Row.off (List._∷_ Row.off (List._∷_ Row.off List.[]))))))))) }
+        G6 = record { locals = List._++_ t6 t1; slots = List._∷_ slot0 slots3 }
 
         abbrev G7 : Row.Cx
-        G7 = record { locals = List._++_ t7 t1; slots = List._∷_ (Row.lease (κs .0) (qs .0)) (List._∷_ Row.off (List._∷_ Row.off (List._∷_ Row.off (List._∷_ Row.off (List._∷_ Row.off (List._∷_ Row.off (List._∷_ Row.off (List._∷_ Row.off (List._∷_ Row.off List.[]))))))))) }
+        G7 = record { locals = List._++_ t7 t1; slots = List._∷_ slot0 slots3 }
 
         abbrev G8 : Row.Cx
-        G8 = record { locals = List._++_ t8 t1; slots = List._∷_ (Row.lease (κs .0) (qs .0)) (List._∷_ Row.off (List._∷_ Row.off (List._∷_ Row.off (List._∷_ Row.off (List._∷_ Row.off (List._∷_ Row.off (List._∷_ Row.off (List._∷_ Row.off (List._∷_ Row.off List.[]))))))))) }
+        G8 = record { locals = List._++_ t8 t1; slots = List._∷_ slot0 slots3 }
 
         abbrev G9 : Row.Cx
-        G9 = record { locals = List._++_ t9 t1; slots = List._∷_ (Row.lease (κs .0) (qs .0)) (List._∷_ Row.off (List._∷_ Row.off (List._∷_ Row.off (List._∷_ Row.off (List._∷_ Row.off (List._∷_ Row.off (List._∷_ Row.off (List._∷_ Row.off (List._∷_ Row.off List.[]))))))))) }
+        G9 = record { locals = List._++_ t9 t1; slots = List._∷_ slot0 slots3 }
 
         abbrev G10 : Row.Cx
-        G10 = record { locals = List._++_ t10 t1; slots = List._∷_ (Row.lease (κs .0) (qs .0)) (List._∷_ Row.off (List._∷_ Row.off (List._∷_ Row.off (List._∷_ Row.off (List._∷_ Row.off (List._∷_ Row.off (List._∷_ Row.off (List._∷_ Row.off (List._∷_ Row.off List.[]))))))))) }
+        G10 = record { locals = List._++_ t10 t1; slots = List._∷_ slot0 slots3 }
 
         abbrev G11 : Row.Cx
-        G11 = record { locals = List._++_ t11 t1; slots = List._∷_ (Row.lease (κs .0) (qs .0)) (List._∷_ Row.off (List._∷_ Row.off (List._∷_ Row.off (List._∷_ Row.off (List._∷_ Row.off (List._∷_ Row.off (List._∷_ Row.off (List._∷_ Row.off (List._∷_ Row.off List.[]))))))))) }
+        G11 = record { locals = List._++_ t11 t1; slots = List._∷_ slot0 slots3 }
 
         abbrev G12 : Row.Cx
-        G12 = record { locals = List._++_ t12 t1; slots = List._∷_ (Row.lease (κs .0) (qs .0)) (List._∷_ Row.off (List._∷_ Row.off (List._∷_ Row.off (List._∷_ Row.off (List._∷_ Row.off (List._∷_ Row.off (List._∷_ Row.off (List._∷_ Row.off (List._∷_ Row.off List.[]))))))))) }
+        G12 = record { locals = List._++_ t12 t1; slots = List._∷_ slot0 slots3 }
 
         abbrev G13 : Row.Cx
-        G13 = record { locals = List._++_ t13 t1; slots = List._∷_ (Row.lease (κs .0) (qs .0)) (List._∷_ Row.off (List._∷_ Row.off (List._∷_ Row.off (List._∷_ Row.off (List._∷_ Row.off (List._∷_ Row.off (List._∷_ Row.off (List._∷_ Row.off (List._∷_ Row.off List.[]))))))))) }
+        G13 = record { locals = List._++_ t13 t1; slots = List._∷_ slot0 slots3 }
 
         abbrev G14 : Row.Cx
-        G14 = record { locals = List._++_ t14 t1; slots = List._∷_ (Row.lease (κs .0) (qs .0)) (List._∷_ Row.off (List._∷_ Row.off (List._∷_ Row.off (List._∷_ Row.off (List._∷_ Row.off (List._∷_ Row.off (List._∷_ Row.off (List._∷_ Row.off (List._∷_ Row.off List.[]))))))))) }
+        G14 = record { locals = List._++_ t14 t1; slots = List._∷_ slot0 slots3 }
 
         abbrev G15 : Row.Cx
-        G15 = record { locals = List._++_ t15 t1; slots = List._∷_ (Row.lease (κs .0) (qs .0)) (List._∷_ Row.off (List._∷_ Row.off (List._∷_ Row.off (List._∷_ Row.off (List._∷_ Row.off (List._∷_ Row.off (List._∷_ Row.off (List._∷_ Row.off (List._∷_ Row.off List.[]))))))))) }
+        G15 = record { locals = List._++_ t15 t1; slots = List._∷_ slot0 slots3 }
 
         abbrev G16 : Row.Cx
-        G16 = record { locals = List._++_ t16 t1; slots = List._∷_ (Row.lease (κs .0) (qs .0)) (List._∷_ Row.off (List._∷_ Row.off (List._∷_ Row.off (List._∷_ Row.off (List._∷_ Row.off (List._∷_ Row.off (List._∷_ Row.off (List._∷_ Row.off (List._∷_ Row.off List.[]))))))))) }
+        G16 = record { locals = List._++_ t16 t1; slots = List._∷_ slot0 slots3 }
 
         abbrev G17 : Row.Cx
-        G17 = record { locals = List._++_ t17 t1; slots = List._∷_ (Row.lease (κs .0) (qs .0)) (List._∷_ Row.off (List._∷_ Row.off (List._∷_ Row.off (List._∷_ Row.off (List._∷_ Row.off (List._∷_ Row.off (List._∷_ Row.off (List._∷_ Row.off (List._∷_ Row.off List.[]))))))))) }
+        G17 = record { locals = List._++_ t17 t1; slots = List._∷_ slot0 slots3 }
 
         abbrev G18 : Row.Cx
-        G18 = record { locals = List._++_ t18 t1; slots = List._∷_ (Row.lease (κs .0) (qs .0)) (List._∷_ Row.off (List._∷_ Row.off (List._∷_ Row.off (List._∷_ Row.off (List._∷_ Row.off (List._∷_ Row.off (List._∷_ Row.off (List._∷_ Row.off (List._∷_ Row.off List.[]))))))))) }
+        G18 = record { locals = List._++_ t18 t1; slots = List._∷_ slot0 slots3 }
 
         abbrev G19 : Row.Cx
-        G19 = record { locals = List._++_ t19 t1; slots = List._∷_ (Row.lease (κs .0) (qs .0)) (List._∷_ Row.off (List._∷_ Row.off (List._∷_ Row.off (List._∷_ Row.off (List._∷_ Row.off (List._∷_ Row.off (List._∷_ Row.off (List._∷_ Row.off (List._∷_ Row.off List.[]))))))))) }
+        G19 = record { locals = List._++_ t19 t1; slots = List._∷_ slot0 slots3 }
 
         abbrev G20 : Row.Cx
-        G20 = record { locals = List._++_ t20 t1; slots = List._∷_ (Row.lease (κs .0) (qs .0)) (List._∷_ Row.off (List._∷_ Row.off (List._∷_ Row.off (List._∷_ Row.off (List._∷_ Row.off (List._∷_ Row.off (List._∷_ Row.off (List._∷_ Row.off (List._∷_ Row.off List.[]))))))))) }
+        G20 = record { locals = List._++_ t20 t1; slots = List._∷_ slot0 slots3 }
 
         abbrev G21 : Row.Cx
-        G21 = record { locals = List._++_ t21 t1; slots = List._∷_ (Row.lease (κs .0) (qs .0)) (List._∷_ Row.off (List._∷_ Row.off (List._∷_ Row.off (List._∷_ Row.off (List._∷_ Row.off (List._∷_ Row.off (List._∷_ Row.off (List._∷_ Row.off (List._∷_ Row.off List.[]))))))))) }
+        G21 = record { locals = List._++_ t21 t1; slots = List._∷_ slot0 slots3 }
 
         abbrev G22 : Row.Cx
-        G22 = record { locals = List._++_ t22 t1; slots = List._∷_ (Row.lease (κs .0) (qs .0)) (List._∷_ Row.off (List._∷_ Row.off (List._∷_ Row.off (List._∷_ Row.off (List._∷_ Row.off (List._∷_ Row.off (List._∷_ Row.off (List._∷_ Row.off (List._∷_ Row.off List.[]))))))))) }
+        G22 = record { locals = List._++_ t22 t1; slots = List._∷_ slot0 slots3 }
 
         abbrev G23 : Row.Cx
-        G23 = record { locals = List._++_ t22 t1; slots = List._∷_ (Row.lease (κs .0) (qs .0)) (List._∷_ Row.alive (List._∷_ Row.off (List._∷_ Row.off (List._∷_ Row.off (List._∷_ Row.off (List._∷_ Row.off (List._∷_ Row.off (List._∷_ Row.off (List._∷_ Row.off List.[]))))))))) }
+        G23 = record { locals = List._++_ t22 t1; slots = List._∷_ slot0 (List._∷_ Row.alive (List._∷_ Row.off slots2)) }
 
         abbrev G24 : Row.Cx
-        G24 = record { locals = List._++_ t23 t1; slots = List._∷_ (Row.lease (κs .0) (qs .0)) (List._∷_ Row.alive (List._∷_ Row.off (List._∷_ Row.off (List._∷_ Row.off (List._∷_ Row.off (List._∷_ Row.off (List._∷_ Row.off (List._∷_ Row.off (List._∷_ Row.off List.[]))))))))) }
+        G24 = record { locals = List._++_ t23 t1; slots = List._∷_ slot0 (List._∷_ Row.alive (List._∷_ Row.off slots2)) }
 
         abbrev G25 : Row.Cx
-        G25 = record { locals = List._++_ t23 t1; slots = List._∷_ (Row.lease (κs .0) (qs .0)) (List._∷_ Row.alive (List._∷_ Row.alive (List._∷_ Row.off (List._∷_ Row.off (List._∷_ Row.off (List._∷_ Row.off (List._∷_ Row.off (List._∷_ Row.off (List._∷_ Row.off List.[]))))))))) }
+        G25 = record { locals = List._++_ t23 t1; slots = List._∷_ slot0 (List._∷_ Row.alive (List._∷_ Row.alive slots2)) }
 
         abbrev G26 : Row.Cx
-        G26 = record { locals = List._++_ t24 t1; slots = List._∷_ (Row.lease (κs .0) (qs .0)) (List._∷_ Row.alive (List._∷_ Row.alive (List._∷_ Row.off (List._∷_ Row.off (List._∷_ Row.off (List._∷_ Row.off (List._∷_ Row.off (List._∷_ Row.off (List._∷_ Row.off List.[]))))))))) }
+        G26 = record { locals = List._++_ t24 t1; slots = List._∷_ slot0 (List._∷_ Row.alive (List._∷_ Row.alive slots2)) }
 
         abbrev G27 : Row.Cx
-        G27 = record { locals = List._++_ t24 t1; slots = List._∷_ (Row.lease (κs .0) (qs .0)) (List._∷_ Row.alive (List._∷_ Row.alive (List._∷_ Row.alive (List._∷_ Row.off (List._∷_ Row.off (List._∷_ Row.off (List._∷_ Row.off (List._∷_ Row.off (List._∷_ Row.off List.[]))))))))) }
+        G27 = record { locals = List._++_ t24 t1; slots = List._∷_ slot0 slots4 }
 
         abbrev G28 : Row.Cx
-        G28 = record { locals = List._++_ t25 t1; slots = List._∷_ (Row.lease (κs .0) (qs .0)) (List._∷_ Row.alive (List._∷_ Row.alive (List._∷_ Row.alive (List._∷_ Row.off (List._∷_ Row.off (List._∷_ Row.off (List._∷_ Row.off (List._∷_ Row.off (List._∷_ Row.off List.[]))))))))) }
+        G28 = record { locals = List._++_ t25 t1; slots = List._∷_ slot0 slots4 }
 
         abbrev G29 : Row.Cx
-        G29 = record { locals = List._++_ t25 t1; slots = List._∷_ (Row.lease (κs .0) (qs .0)) (List._∷_ Row.alive (List._∷_ Row.alive (List._∷_ Row.alive (List._∷_ Row.alive (List._∷_ Row.off (List._∷_ Row.off (List._∷_ Row.off (List._∷_ Row.off (List._∷_ Row.off List.[]))))))))) }
+        G29 = record { locals = List._++_ t25 t1; slots = List._∷_ slot0 slots5 }
 
         abbrev G30 : Row.Cx
-        G30 = record { locals = List._++_ t26 t27; slots = List._∷_ (Row.lease (κs .0) (qs .0)) (List._∷_ Row.alive (List._∷_ Row.alive (List._∷_ Row.alive (List._∷_ Row.alive (List._∷_ Row.off (List._∷_ Row.off (List._∷_ Row.off (List._∷_ Row.off (List._∷_ Row.off List.[]))))))))) }
+        G30 = record { locals = List._++_ t26 t27; slots = List._∷_ slot0 slots5 }
 
         abbrev G31 : Row.Cx
-        G31 = record { locals = List._++_ t26 t27; slots = List._∷_ (Row.lease (κs .0) (qs .0)) (List._∷_ Row.alive (List._∷_ Row.alive (List._∷_ Row.alive (List._∷_ Row.alive (List._∷_ Row.alive (List._∷_ Row.off (List._∷_ Row.off (List._∷_ Row.off (List._∷_ Row.off List.[]))))))))) }
+        G31 = record { locals = List._++_ t26 t27; slots = List._∷_ slot0 slots6 }
 
         abbrev G32 : Row.Cx
-        G32 = record { locals = List._++_ t28 t29; slots = List._∷_ (Row.lease (κs .0) (qs .0)) (List._∷_ Row.alive (List._∷_ Row.alive (List._∷_ Row.alive (List._∷_ Row.alive (List._∷_ Row.alive (List._∷_ Row.off (List._∷_ Row.off (List._∷_ Row.off (List._∷_ Row.off List.[]))))))))) }
+        G32 = record { locals = List._++_ t28 t29; slots = List._∷_ slot0 slots6 }
 
         abbrev G33 : Row.Cx
-        G33 = record { locals = List._++_ t28 t29; slots = List._∷_ (Row.lease (κs .0) (qs .0)) (List._∷_ Row.alive (List._∷_ Row.alive (List._∷_ Row.alive (List._∷_ Row.alive (List._∷_ Row.alive (List._∷_ Row.alive (List._∷_ Row.off (List._∷_ Row.off (List._∷_ Row.off List.[]))))))))) }
+        G33 = record { locals = List._++_ t28 t29; slots = List._∷_ slot0 slots7 }
 
         abbrev G34 : Row.Cx
-        G34 = record { locals = List._++_ t30 t31; slots = List._∷_ (Row.lease (κs .0) (qs .0)) (List._∷_ Row.alive (List._∷_ Row.alive (List._∷_ Row.alive (List._∷_ Row.alive (List._∷_ Row.alive (List._∷_ Row.alive (List._∷_ Row.off (List._∷_ Row.off (List._∷_ Row.off List.[]))))))))) }
+        G34 = record { locals = List._++_ t30 t31; slots = List._∷_ slot0 slots7 }
 
         abbrev G35 : Row.Cx
-        G35 = record { locals = List._++_ t30 t31; slots = List._∷_ (Row.lease (κs .0) (qs .0)) (List._∷_ Row.alive (List._∷_ Row.alive (List._∷_ Row.alive (List._∷_ Row.alive (List._∷_ Row.alive (List._∷_ Row.alive (List._∷_ Row.alive (List._∷_ Row.off (List._∷_ Row.off List.[]))))))))) }
+        G35 = record { locals = List._++_ t30 t31; slots = List._∷_ slot0 slots8 }
 
         abbrev G36 : Row.Cx
-        G36 = record { locals = List._++_ t32 t33; slots = List._∷_ (Row.lease (κs .0) (qs .0)) (List._∷_ Row.alive (List._∷_ Row.alive (List._∷_ Row.alive (List._∷_ Row.alive (List._∷_ Row.alive (List._∷_ Row.alive (List._∷_ Row.alive (List._∷_ Row.off (List._∷_ Row.off List.[]))))))))) }
+        G36 = record { locals = List._++_ t32 t33; slots = List._∷_ slot0 slots8 }
 
         abbrev G37 : Row.Cx
-        G37 = record { locals = List._++_ t32 t33; slots = List._∷_ (Row.lease (κs .0) (qs .0)) (List._∷_ Row.alive (List._∷_ Row.alive (List._∷_ Row.alive (List._∷_ Row.alive (List._∷_ Row.alive (List._∷_ Row.alive (List._∷_ Row.alive (List._∷_ Row.alive (List._∷_ Row.off List.[]))))))))) }
+        G37 = record { locals = List._++_ t32 t33; slots = List._∷_ slot0 slots9 }
 
         abbrev G38 : Row.Cx
-        G38 = record { locals = List._++_ t34 t35; slots = List._∷_ (Row.lease (κs .0) (qs .0)) (List._∷_ Row.alive (List._∷_ Row.alive (List._∷_ Row.alive (List._∷_ Row.alive (List._∷_ Row.alive (List._∷_ Row.alive (List._∷_ Row.alive (List._∷_ Row.alive (List._∷_ Row.off List.[]))))))))) }
+        G38 = record { locals = List._++_ t34 t35; slots = List._∷_ slot0 slots9 }
 
         abbrev G39 : Row.Cx
-        G39 = record { locals = List._++_ t34 t35; slots = List._∷_ (Row.lease (κs .0) (qs .0)) (List._∷_ Row.alive (List._∷_ Row.alive (List._∷_ Row.alive (List._∷_ Row.alive (List._∷_ Row.alive (List._∷_ Row.alive (List._∷_ Row.alive (List._∷_ Row.alive (List._∷_ Row.alive List.[]))))))))) }
+        G39 = record { locals = List._++_ t34 t35; slots = List._∷_ slot0 slots15 }
 
         abbrev G40 : Row.Cx
-        G40 = record { locals = List._++_ t36 t37; slots = List._∷_ (Row.lease (κs .0) (qs .0)) (List._∷_ Row.alive (List._∷_ Row.alive (List._∷_ Row.alive (List._∷_ Row.alive (List._∷_ Row.alive (List._∷_ Row.alive (List._∷_ Row.alive (List._∷_ Row.alive (List._∷_ Row.alive List.[]))))))))) }
+        G40 = record { locals = List._++_ t36 t37; slots = List._∷_ slot0 slots15 }
 
         abbrev G41 : Row.Cx
-        G41 = record { locals = List._++_ t38 t39; slots = List._∷_ (Row.lease (κs .0) (qs .0)) (List._∷_ Row.alive (List._∷_ Row.alive (List._∷_ Row.alive (List._∷_ Row.alive (List._∷_ Row.alive (List._∷_ Row.alive (List._∷_ Row.alive (List._∷_ Row.alive (List._∷_ Row.alive List.[]))))))))) }
+        G41 = record { locals = List._++_ t38 t39; slots = List._∷_ slot0 slots15 }
 
         abbrev G42 : Row.Cx
-        G42 = record { locals = List._++_ t40 t39; slots = List._∷_ (Row.lease (κs .0) (qs .0)) (List._∷_ Row.alive (List._∷_ Row.alive (List._∷_ Row.alive (List._∷_ Row.alive (List._∷_ Row.alive (List._∷_ Row.alive (List._∷_ Row.alive (List._∷_ Row.alive (List._∷_ Row.alive List.[]))))))))) }
+        G42 = record { locals = List._++_ t40 t39; slots = List._∷_ slot0 slots15 }
 
         abbrev G43 : Row.Cx
-        G43 = record { locals = List._++_ t40 t39; slots = List._∷_ (Row.lease (κs .0) (qs .0)) (List._∷_ Row.dead (List._∷_ Row.alive (List._∷_ Row.alive (List._∷_ Row.alive (List._∷_ Row.alive (List._∷_ Row.alive (List._∷_ Row.alive (List._∷_ Row.alive (List._∷_ Row.alive List.[]))))))))) }
+        G43 = record { locals = List._++_ t40 t39; slots = List._∷_ slot0 (List._∷_ Row.dead slots14) }
 
         abbrev G44 : Row.Cx
-        G44 = record { locals = List._++_ t41 t39; slots = List._∷_ (Row.lease (κs .0) (qs .0)) (List._∷_ Row.dead (List._∷_ Row.alive (List._∷_ Row.alive (List._∷_ Row.alive (List._∷_ Row.alive (List._∷_ Row.alive (List._∷_ Row.alive (List._∷_ Row.alive (List._∷_ Row.alive List.[]))))))))) }
+        G44 = record { locals = List._++_ t41 t39; slots = List._∷_ slot0 (List._∷_ Row.dead slots14) }
 
         abbrev G45 : Row.Cx
-        G45 = record { locals = List._++_ t41 t39; slots = List._∷_ (Row.lease (κs .0) (qs .0)) (List._∷_ Row.off (List._∷_ Row.alive (List._∷_ Row.alive (List._∷_ Row.alive (List._∷_ Row.alive (List._∷_ Row.alive (List._∷_ Row.alive (List._∷_ Row.alive (List._∷_ Row.alive List.[]))))))))) }
+        G45 = record { locals = List._++_ t41 t39; slots = List._∷_ slot0 (List._∷_ Row.off slots14) }
 
         abbrev G46 : Row.Cx
-        G46 = record { locals = List._++_ t42 t39; slots = List._∷_ (Row.lease (κs .0) (qs .0)) (List._∷_ Row.off (List._∷_ Row.alive (List._∷_ Row.alive (List._∷_ Row.alive (List._∷_ Row.alive (List._∷_ Row.alive (List._∷_ Row.alive (List._∷_ Row.alive (List._∷_ Row.alive List.[]))))))))) }
+        G46 = record { locals = List._++_ t42 t39; slots = List._∷_ slot0 (List._∷_ Row.off slots14) }
 
         abbrev G47 : Row.Cx
-        G47 = record { locals = List._++_ t42 t39; slots = List._∷_ (Row.lease (κs .0) (qs .0)) (List._∷_ Row.off (List._∷_ Row.dead (List._∷_ Row.alive (List._∷_ Row.alive (List._∷_ Row.alive (List._∷_ Row.alive (List._∷_ Row.alive (List._∷_ Row.alive (List._∷_ Row.alive List.[]))))))))) }
+        G47 = record { locals = List._++_ t42 t39; slots = List._∷_ slot0 (List._∷_ Row.off (List._∷_ Row.dead slots13)) }
 
         abbrev G48 : Row.Cx
-        G48 = record { locals = List._++_ t43 t39; slots = List._∷_ (Row.lease (κs .0) (qs .0)) (List._∷_ Row.off (List._∷_ Row.dead (List._∷_ Row.alive (List._∷_ Row.alive (List._∷_ Row.alive (List._∷_ Row.alive (List._∷_ Row.alive (List._∷_ Row.alive (List._∷_ Row.alive List.[]))))))))) }
+        G48 = record { locals = List._++_ t43 t39; slots = List._∷_ slot0 (List._∷_ Row.off (List._∷_ Row.dead slots13)) }
 
         abbrev G49 : Row.Cx
-        G49 = record { locals = List._++_ t43 t39; slots = List._∷_ (Row.lease (κs .0) (qs .0)) (List._∷_ Row.off (List._∷_ Row.off (List._∷_ Row.alive (List._∷_ Row.alive (List._∷_ Row.alive (List._∷_ Row.alive (List._∷_ Row.alive (List._∷_ Row.alive (List._∷_ Row.alive List.[]))))))))) }
+        G49 = record { locals = List._++_ t43 t39; slots = List._∷_ slot0 (List._∷_ Row.off (List._∷_ Row.off slots13)) }
 
         abbrev G50 : Row.Cx
-        G50 = record { locals = List._++_ t44 t39; slots = List._∷_ (Row.lease (κs .0) (qs .0)) (List._∷_ Row.off (List._∷_ Row.off (List._∷_ Row.alive (List._∷_ Row.alive (List._∷_ Row.alive (List._∷_ Row.alive (List._∷_ Row.alive (List._∷_ Row.alive (List._∷_ Row.alive List.[]))))))))) }
+        G50 = record { locals = List._++_ t44 t39; slots = List._∷_ slot0 (List._∷_ Row.off (List._∷_ Row.off slots13)) }
 
         abbrev G51 : Row.Cx
-        G51 = record { locals = List._++_ t44 t39; slots = List._∷_ (Row.lease (κs .0) (qs .0)) (List._∷_ Row.off (List._∷_ Row.off (List._∷_ Row.dead (List._∷_ Row.alive (List._∷_ Row.alive (List._∷_ Row.alive (List._∷_ Row.alive (List._∷_ Row.alive (List._∷_ Row.alive List.[]))))))))) }
+        G51 = record { locals = List._++_ t44 t39; slots = List._∷_ slot0 slots16 }
 
         abbrev G52 : Row.Cx
-        G52 = record { locals = List._++_ t45 t39; slots = List._∷_ (Row.lease (κs .0) (qs .0)) (List._∷_ Row.off (List._∷_ Row.off (List._∷_ Row.dead (List._∷_ Row.alive (List._∷_ Row.alive (List._∷_ Row.alive (List._∷_ Row.alive (List._∷_ Row.alive (List._∷_ Row.alive List.[]))))))))) }
+        G52 = record { locals = List._++_ t45 t39; slots = List._∷_ slot0 slots16 }
 
         abbrev G53 : Row.Cx
-        G53 = record { locals = List._++_ t45 t39; slots = List._∷_ (Row.lease (κs .0) (qs .0)) (List._∷_ Row.off (List._∷_ Row.off (List._∷_ Row.off (List._∷_ Row.alive (List._∷_ Row.alive (List._∷_ Row.alive (List._∷_ Row.alive (List._∷_ Row.alive (List._∷_ Row.alive List.[]))))))))) }
+        G53 = record { locals = List._++_ t45 t39; slots = List._∷_ slot0 slots17 }
 
         abbrev G54 : Row.Cx
-        G54 = record { locals = List._++_ t46 t39; slots = List._∷_ (Row.lease (κs .0) (qs .0)) (List._∷_ Row.off (List._∷_ Row.off (List._∷_ Row.off (List._∷_ Row.alive (List._∷_ Row.alive (List._∷_ Row.alive (List._∷_ Row.alive (List._∷_ Row.alive (List._∷_ Row.alive List.[]))))))))) }
+        G54 = record { locals = List._++_ t46 t39; slots = List._∷_ slot0 slots17 }
 
         abbrev G55 : Row.Cx
-        G55 = record { locals = List._++_ t46 t39; slots = List._∷_ (Row.lease (κs .0) (qs .0)) (List._∷_ Row.off (List._∷_ Row.off (List._∷_ Row.off (List._∷_ Row.dead (List._∷_ Row.alive (List._∷_ Row.alive (List._∷_ Row.alive (List._∷_ Row.alive (List._∷_ Row.alive List.[]))))))))) }
+        G55 = record { locals = List._++_ t46 t39; slots = List._∷_ slot0 slots18 }
 
         abbrev G56 : Row.Cx
-        G56 = record { locals = List._++_ t47 t48; slots = List._∷_ (Row.lease (κs .0) (qs .0)) (List._∷_ Row.off (List._∷_ Row.off (List._∷_ Row.off (List._∷_ Row.dead (List._∷_ Row.alive (List._∷_ Row.alive (List._∷_ Row.alive (List._∷_ Row.alive (List._∷_ Row.alive List.[]))))))))) }
+        G56 = record { locals = List._++_ t47 t48; slots = List._∷_ slot0 slots18 }
 
         abbrev G57 : Row.Cx
-        G57 = record { locals = List._++_ t47 t48; slots = List._∷_ (Row.lease (κs .0) (qs .0)) (List._∷_ Row.off (List._∷_ Row.off (List._∷_ Row.off (List._∷_ Row.off (List._∷_ Row.alive (List._∷_ Row.alive (List._∷_ Row.alive (List._∷_ Row.alive (List._∷_ Row.alive List.[]))))))))) }
+        G57 = record { locals = List._++_ t47 t48; slots = List._∷_ slot0 slots19 }
 
         abbrev G58 : Row.Cx
-        G58 = record { locals = List._++_ t49 t48; slots = List._∷_ (Row.lease (κs .0) (qs .0)) (List._∷_ Row.off (List._∷_ Row.off (List._∷_ Row.off (List._∷_ Row.off (List._∷_ Row.alive (List._∷_ Row.alive (List._∷_ Row.alive (List._∷_ Row.alive (List._∷_ Row.alive List.[]))))))))) }
+        G58 = record { locals = List._++_ t49 t48; slots = List._∷_ slot0 slots19 }
 
         abbrev G59 : Row.Cx
-        G59 = record { locals = List._++_ t49 t48; slots = List._∷_ (Row.lease (κs .0) (qs .0)) (List._∷_ Row.off (List._∷_ Row.off (List._∷_ Row.off (List._∷_ Row.off (List._∷_ Row.dead (List._∷_ Row.alive (List._∷_ Row.alive (List._∷_ Row.alive (List._∷_ Row.alive List.[]))))))))) }
+        G59 = record { locals = List._++_ t49 t48; slots = List._∷_ slot0 slots20 }
 
         abbrev G60 : Row.Cx
-        G60 = record { locals = List._++_ t50 t51; slots = List._∷_ (Row.lease (κs .0) (qs .0)) (List._∷_ Row.off (List._∷_ Row.off (List._∷_ Row.off (List._∷_ Row.off (List._∷_ Row.dead (List._∷_ Row.alive (List._∷_ Row.alive (List._∷_ Row.alive (List._∷_ Row.alive List.[]))))))))) }
+        G60 = record { locals = List._++_ t50 t51; slots = List._∷_ slot0 slots20 }
 
         abbrev G61 : Row.Cx
-        G61 = record { locals = List._++_ t50 t51; slots = List._∷_ (Row.lease (κs .0) (qs .0)) (List._∷_ Row.off (List._∷_ Row.off (List._∷_ Row.off (List._∷_ Row.off (List._∷_ Row.off (List._∷_ Row.alive (List._∷_ Row.alive (List._∷_ Row.alive (List._∷_ Row.alive List.[]))))))))) }
+        G61 = record { locals = List._++_ t50 t51; slots = List._∷_ slot0 slots21 }
 
         abbrev G62 : Row.Cx
-        G62 = record { locals = List._++_ t52 t51; slots = List._∷_ (Row.lease (κs .0) (qs .0)) (List._∷_ Row.off (List._∷_ Row.off (List._∷_ Row.off (List._∷_ Row.off (List._∷_ Row.off (List._∷_ Row.alive (List._∷_ Row.alive (List._∷_ Row.alive (List._∷_ Row.alive List.[]))))))))) }
+        G62 = record { locals = List._++_ t52 t51; slots = List._∷_ slot0 slots21 }
 
         abbrev G63 : Row.Cx
-        G63 = record { locals = List._++_ t52 t51; slots = List._∷_ (Row.lease (κs .0) (qs .0)) (List._∷_ Row.off (List._∷_ Row.off (List._∷_ Row.off (List._∷_ Row.off (List._∷_ Row.off (List._∷_ Row.dead (List._∷_ Row.alive (List._∷_ Row.alive (List._∷_ Row.alive List.[]))))))))) }
+        G63 = record { locals = List._++_ t52 t51; slots = List._∷_ slot0 slots22 }
 
         abbrev G64 : Row.Cx
-        G64 = record { locals = List._++_ t53 t54; slots = List._∷_ (Row.lease (κs .0) (qs .0)) (List._∷_ Row.off (List._∷_ Row.off (List._∷_ Row.off (List._∷_ Row.off (List._∷_ Row.off (List._∷_ Row.dead (List._∷_ Row.alive (List._∷_ Row.alive (List._∷_ Row.alive List.[]))))))))) }
+        G64 = record { locals = List._++_ t53 t54; slots = List._∷_ slot0 slots22 }
 
         abbrev G65 : Row.Cx
-        G65 = record { locals = List._++_ t53 t54; slots = List._∷_ (Row.lease (κs .0) (qs .0)) (List._∷_ Row.off (List._∷_ Row.off (List._∷_ Row.off (List._∷_ Row.off (List._∷_ Row.off (List._∷_ Row.off (List._∷_ Row.alive (List._∷_ Row.alive (List._∷_ Row.alive List.[]))))))))) }
+        G65 = record { locals = List._++_ t53 t54; slots = List._∷_ slot0 slots23 }
 
         abbrev G66 : Row.Cx
-        G66 = record { locals = List._++_ t55 t54; slots = List._∷_ (Row.lease (κs .0) (qs .0)) (List._∷_ Row.off (List._∷_ Row.off (List._∷_ Row.off (List._∷_ Row.off (List._∷_ Row.off (List._∷_ Row.off (List._∷_ Row.alive (List._∷_ Row.alive (List._∷_ Row.alive List.[]))))))))) }
+        G66 = record { locals = List._++_ t55 t54; slots = List._∷_ slot0 slots23 }
 
         abbrev G67 : Row.Cx
-        G67 = record { locals = List._++_ t55 t54; slots = List._∷_ (Row.lease (κs .0) (qs .0)) (List._∷_ Row.off (List._∷_ Row.off (List._∷_ Row.off (List._∷_ Row.off (List._∷_ Row.off (List._∷_ Row.off (List._∷_ Row.dead (List._∷_ Row.alive (List._∷_ Row.alive List.[]))))))))) }
+        G67 = record { locals = List._++_ t55 t54; slots = List._∷_ slot0 slots24 }
 
         abbrev G68 : Row.Cx
-        G68 = record { locals = List._++_ t56 t57; slots = List._∷_ (Row.lease (κs .0) (qs .0)) (List._∷_ Row.off (List._∷_ Row.off (List._∷_ Row.off (List._∷_ Row.off (List._∷_ Row.off (List._∷_ Row.off (List._∷_ Row.dead (List._∷_ Row.alive (List._∷_ Row.alive List.[]))))))))) }
+        G68 = record { locals = List._++_ t56 t57; slots = List._∷_ slot0 slots24 }
 
         abbrev G69 : Row.Cx
-        G69 = record { locals = List._++_ t56 t57; slots = List._∷_ (Row.lease (κs .0) (qs .0)) (List._∷_ Row.off (List._∷_ Row.off (List._∷_ Row.off (List._∷_ Row.off (List._∷_ Row.off (List._∷_ Row.off (List._∷_ Row.off (List._∷_ Row.alive (List._∷_ Row.alive List.[]))))))))) }
+        G69 = record { locals = List._++_ t56 t57; slots = List._∷_ slot0 slots25 }
 
         abbrev G70 : Row.Cx
-        G70 = record { locals = List._++_ t58 t57; slots = List._∷_ (Row.lease (κs .0) (qs .0)) (List._∷_ Row.off (List._∷_ Row.off (List._∷_ Row.off (List._∷_ Row.off (List._∷_ Row.off (List._∷_ Row.off (List._∷_ Row.off (List._∷_ Row.alive (List._∷_ Row.alive List.[]))))))))) }
+        G70 = record { locals = List._++_ t58 t57; slots = List._∷_ slot0 slots25 }
 
         abbrev G71 : Row.Cx
-        G71 = record { locals = List._++_ t58 t57; slots = List._∷_ (Row.lease (κs .0) (qs .0)) (List._∷_ Row.off (List._∷_ Row.off (List._∷_ Row.off (List._∷_ Row.off (List._∷_ Row.off (List._∷_ Row.off (List._∷_ Row.off (List._∷_ Row.dead (List._∷_ Row.alive List.[]))))))))) }
+        G71 = record { locals = List._++_ t58 t57; slots = List._∷_ slot0 slots26 }
 
         abbrev G72 : Row.Cx
-        G72 = record { locals = List._++_ t59 t60; slots = List._∷_ (Row.lease (κs .0) (qs .0)) (List._∷_ Row.off (List._∷_ Row.off (List._∷_ Row.off (List._∷_ Row.off (List._∷_ Row.off (List._∷_ Row.off (List._∷_ Row.off (List._∷_ Row.dead (List._∷_ Row.alive List.[]))))))))) }
+        G72 = record { locals = List._++_ t59 t60; slots = List._∷_ slot0 slots26 }
 
         abbrev G73 : Row.Cx
-        G73 = record { locals = List._++_ t59 t60; slots = List._∷_ (Row.lease (κs .0) (qs .0)) (List._∷_ Row.off (List._∷_ Row.off (List._∷_ Row.off (List._∷_ Row.off (List._∷_ Row.off (List._∷_ Row.off (List._∷_ Row.off (List._∷_ Row.off (List._∷_ Row.alive List.[]))))))))) }
+        G73 = record { locals = List._++_ t59 t60; slots = List._∷_ slot0 slots27 }
 
         abbrev G74 : Row.Cx
-        G74 = record { locals = List._++_ t61 t60; slots = List._∷_ (Row.lease (κs .0) (qs .0)) (List._∷_ Row.off (List._∷_ Row.off (List._∷_ Row.off (List._∷_ Row.off (List._∷_ Row.off (List._∷_ Row.off (List._∷_ Row.off (List._∷_ Row.off (List._∷_ Row.alive List.[]))))))))) }
+        G74 = record { locals = List._++_ t61 t60; slots = List._∷_ slot0 slots27 }
 
         abbrev G75 : Row.Cx
-        G75 = record { locals = List._++_ t61 t60; slots = List._∷_ (Row.lease (κs .0) (qs .0)) (List._∷_ Row.off (List._∷_ Row.off (List._∷_ Row.off (List._∷_ Row.off (List._∷_ Row.off (List._∷_ Row.off (List._∷_ Row.off (List._∷_ Row.off (List._∷_ Row.dead List.[]))))))))) }
+        G75 = record { locals = List._++_ t61 t60; slots = List._∷_ slot0 slots28 }
 
         abbrev G76 : Row.Cx
-        G76 = record { locals = List._++_ t62 t1; slots = List._∷_ (Row.lease (κs .0) (qs .0)) (List._∷_ Row.off (List._∷_ Row.off (List._∷_ Row.off (List._∷_ Row.off (List._∷_ Row.off (List._∷_ Row.off (List._∷_ Row.off (List._∷_ Row.off (List._∷_ Row.dead List.[]))))))))) }
+        G76 = record { locals = List._++_ t62 t1; slots = List._∷_ slot0 slots28 }
 
         abbrev G77 : Row.Cx
-        G77 = record { locals = List._++_ t62 t1; slots = List._∷_ (Row.lease (κs .0) (qs .0)) (List._∷_ Row.off (List._∷_ Row.off (List._∷_ Row.off (List._∷_ Row.off (List._∷_ Row.off (List._∷_ Row.off (List._∷_ Row.off (List._∷_ Row.off (List._∷_ Row.off List.[]))))))))) }
+        G77 = record { locals = List._++_ t62 t1; slots = List._∷_ slot0 slots3 }
 
         abbrev G78 : Row.Cx
-        G78 = record { locals = List._++_ t0 t1; slots = List._∷_ (Row.lease (κs .0) (qs .0)) (List._∷_ Row.off (List._∷_ Row.off (List._∷_ Row.off (List._∷_ Row.off (List._∷_ Row.off (List._∷_ Row.off (List._∷_ Row.off (List._∷_ Row.off (List._∷_ Row.off List.[]))))))))) }
+        G78 = record { locals = List._++_ t0 t1; slots = List._∷_ slot0 slots3 }
 
         abbrev G79 : Row.Cx
-        G79 = record { locals = List._++_ t2 t1; slots = List._∷_ (Row.lease (κs .0) (qs .0)) (List._∷_ Row.off (List._∷_ Row.off (List._∷_ Row.off (List._∷_ Row.off (List._∷_ Row.off (List._∷_ Row.off (List._∷_ Row.off (List._∷_ Row.off (List._∷_ Row.off List.[]))))))))) }
+        G79 = record { locals = List._++_ t2 t1; slots = List._∷_ slot0 slots3 }
 
         abbrev Δ0 : Typed.Outs
         Δ0 = record { next = Option.none; exits = List.[]; returns = Option.some G1 }
@@ -1219,109 +1580,109 @@ module _ (claims· : Claims) where
           d1 = Typed.s-seq 𝓤 H A W 𝓣 E G78 G79 b20 b21 Δ0 (Typed.pass T78 T79 s77) at0 (Scalar.t-use 𝓤 H A W E 𝓣 G78 Scalar.oUnit 0 (Rows'.sc-here Row.sUnit) Syntax.tyUnit (Row.valS Row.sUnit) (Row.sUnit .of) tt (Reads.room-gone 𝓤 H A Syntax.tyUnit) (Scalar.holds-sc 𝓤 H A W Row.sUnit) Path'.refl (λ u. Path'.refl) λ u. tt) d0
 
           d2 : Typed.Typed 𝓤 H A 𝓣 E G77 b22 Δ0 at2
-          d2 = Typed.g-pre 𝓤 H A W 𝓣 E G77 G78 b22 Δ0 (Typed.pass T76 T78 s76) at1 (Scalar.g-room 𝓤 H A W E G77 11 (Syntax.tyArray Cell.held 32772) (Init.room-arr 𝓤 H A W Cell.R 32772 0 32772 Path'.refl)) d1
+          d2 = Typed.g-pre 𝓤 H A W 𝓣 E G77 G78 b22 Δ0 (Typed.pass T76 T78 s76) at1 (Scalar.g-room 𝓤 H A W E G77 11 ty7 (Init.room-arr 𝓤 H A W Cell.R 32772 0 32772 Path'.refl)) d1
 
           d3 : Typed.Typed 𝓤 H A 𝓣 E G76 b22 Δ0 at3
           d3 = Typed.g-pre 𝓤 H A W 𝓣 E G76 G77 b22 Δ0 (λ Ψ. Ψ) at2 (Lifetime.g-forget 𝓤 H A W E G76 9 Row.dead Path'.refl) d2
 
           d4 : Typed.Typed 𝓤 H A 𝓣 E G75 b22 Δ0 at4
-          d4 = Typed.g-pre 𝓤 H A W 𝓣 E G75 G76 b22 Δ0 (Typed.ask s74) at3 (Local.g-back-sc 𝓤 H A W E G75 21 11 9 (Array'.Array Cell.R 32772) (Syntax.tyRef Syntax.erased Syntax.mut (Syntax.tyArray Cell.behind 32772)) (Rows.arrF Cell.R 32772 0) (λ x. x) (λ x. x) (λ x. x) (Reads.as-is 𝓤 H A (Rows'.mleft (Array'.Array Cell.R 32772) (Syntax.tyRef Syntax.erased Syntax.mut (Syntax.tyArray Cell.behind 32772)))) (Reads.as-is 𝓤 H A (Rows'.sc-owed (Array'.Array Cell.R 32772) 9)) (Whole.arr-mem 𝓤 H A W Cell.R 32772 tt) Path'.refl) d3
+          d4 = Typed.g-pre 𝓤 H A W 𝓣 E G75 G76 b22 Δ0 (Typed.ask s74) at3 (Local.g-back-sc 𝓤 H A W E G75 21 11 9 held8 ty16 (Rows.arrF Cell.R 32772 0) (λ x. x) (λ x. x) (λ x. x) (Reads.as-is 𝓤 H A (Rows'.mleft held8 ty16)) (Reads.as-is 𝓤 H A (Rows'.sc-owed held8 9)) (Whole.arr-mem 𝓤 H A W Cell.R 32772 tt) Path'.refl) d3
 
           d5 : Typed.Typed 𝓤 H A 𝓣 E G74 b22 Δ0 at5
           d5 = Typed.g-pre 𝓤 H A W 𝓣 E G74 G75 b22 Δ0 (λ Ψ. Ψ) at4 (Lifetime.g-end 𝓤 H A W E G74 9 Path'.refl) d4
 
           d6 : Typed.Typed 𝓤 H A 𝓣 E G73 b22 Δ0 at6
-          d6 = Typed.g-pre 𝓤 H A W 𝓣 E G73 G74 b22 Δ0 (Typed.pass T72 T74 s72) at5 (Scalar.g-room 𝓤 H A W E G73 10 (Syntax.tyArray Cell.held 65540) (Init.room-arr 𝓤 H A W Cell.R 65540 0 65540 Path'.refl)) d5
+          d6 = Typed.g-pre 𝓤 H A W 𝓣 E G73 G74 b22 Δ0 (Typed.pass T72 T74 s72) at5 (Scalar.g-room 𝓤 H A W E G73 10 ty6 (Init.room-arr 𝓤 H A W Cell.R 65540 0 65540 Path'.refl)) d5
 
           d7 : Typed.Typed 𝓤 H A 𝓣 E G72 b22 Δ0 at7
           d7 = Typed.g-pre 𝓤 H A W 𝓣 E G72 G73 b22 Δ0 (λ Ψ. Ψ) at6 (Lifetime.g-forget 𝓤 H A W E G72 8 Row.dead Path'.refl) d6
 
           d8 : Typed.Typed 𝓤 H A 𝓣 E G71 b22 Δ0 at8
-          d8 = Typed.g-pre 𝓤 H A W 𝓣 E G71 G72 b22 Δ0 (Typed.ask s70) at7 (Local.g-back-sc 𝓤 H A W E G71 20 10 8 (Array'.Array Cell.R 65540) (Syntax.tyRef Syntax.erased Syntax.mut (Syntax.tyArray Cell.behind 65540)) (Rows.arrF Cell.R 65540 0) (λ x. x) (λ x. x) (λ x. x) (Reads.as-is 𝓤 H A (Rows'.mleft (Array'.Array Cell.R 65540) (Syntax.tyRef Syntax.erased Syntax.mut (Syntax.tyArray Cell.behind 65540)))) (Reads.as-is 𝓤 H A (Rows'.sc-owed (Array'.Array Cell.R 65540) 8)) (Whole.arr-mem 𝓤 H A W Cell.R 65540 tt) Path'.refl) d7
+          d8 = Typed.g-pre 𝓤 H A W 𝓣 E G71 G72 b22 Δ0 (Typed.ask s70) at7 (Local.g-back-sc 𝓤 H A W E G71 20 10 8 held7 ty14 (Rows.arrF Cell.R 65540 0) (λ x. x) (λ x. x) (λ x. x) (Reads.as-is 𝓤 H A (Rows'.mleft held7 ty14)) (Reads.as-is 𝓤 H A (Rows'.sc-owed held7 8)) (Whole.arr-mem 𝓤 H A W Cell.R 65540 tt) Path'.refl) d7
 
           d9 : Typed.Typed 𝓤 H A 𝓣 E G70 b22 Δ0 at9
           d9 = Typed.g-pre 𝓤 H A W 𝓣 E G70 G71 b22 Δ0 (λ Ψ. Ψ) at8 (Lifetime.g-end 𝓤 H A W E G70 8 Path'.refl) d8
 
           d10 : Typed.Typed 𝓤 H A 𝓣 E G69 b22 Δ0 at10
-          d10 = Typed.g-pre 𝓤 H A W 𝓣 E G69 G70 b22 Δ0 (Typed.pass T68 T70 s68) at9 (Scalar.g-room 𝓤 H A W E G69 7 (Syntax.tyArray (Syntax.tyInt Syntax.w8) 600000) (Init.room-arr 𝓤 H A W (Referent.rtF (Referent.fInt Syntax.w8)) 600000 0 600000 Path'.refl)) d9
+          d10 = Typed.g-pre 𝓤 H A W 𝓣 E G69 G70 b22 Δ0 (Typed.pass T68 T70 s68) at9 (Scalar.g-room 𝓤 H A W E G69 7 ty4 (Init.room-arr 𝓤 H A W held0 600000 0 600000 Path'.refl)) d9
 
           d11 : Typed.Typed 𝓤 H A 𝓣 E G68 b22 Δ0 at11
           d11 = Typed.g-pre 𝓤 H A W 𝓣 E G68 G69 b22 Δ0 (λ Ψ. Ψ) at10 (Lifetime.g-forget 𝓤 H A W E G68 7 Row.dead Path'.refl) d10
 
           d12 : Typed.Typed 𝓤 H A 𝓣 E G67 b22 Δ0 at12
-          d12 = Typed.g-pre 𝓤 H A W 𝓣 E G67 G68 b22 Δ0 (Typed.ask s66) at11 (Local.g-back-sc 𝓤 H A W E G67 19 7 7 (Array'.Array (Referent.rtF (Referent.fInt Syntax.w8)) 600000) (Syntax.tyRef Syntax.erased Syntax.mut (Syntax.tyArray (Syntax.tyInt Syntax.w8) 600000)) (Rows.arrF (Referent.rtF (Referent.fInt Syntax.w8)) 600000 0) (λ x. x) (λ x. x) (λ x. x) (Reads.as-is 𝓤 H A (Rows'.mleft (Array'.Array (Referent.rtF (Referent.fInt Syntax.w8)) 600000) (Syntax.tyRef Syntax.erased Syntax.mut (Syntax.tyArray (Syntax.tyInt Syntax.w8) 600000)))) (Reads.as-is 𝓤 H A (Rows'.sc-owed (Array'.Array (Referent.rtF (Referent.fInt Syntax.w8)) 600000) 7)) (Whole.arr-mem 𝓤 H A W (Referent.rtF (Referent.fInt Syntax.w8)) 600000 tt) Path'.refl) d11
+          d12 = Typed.g-pre 𝓤 H A W 𝓣 E G67 G68 b22 Δ0 (Typed.ask s66) at11 (Local.g-back-sc 𝓤 H A W E G67 19 7 7 held6 ty12 (Rows.arrF held0 600000 0) (λ x. x) (λ x. x) (λ x. x) (Reads.as-is 𝓤 H A (Rows'.mleft held6 ty12)) (Reads.as-is 𝓤 H A (Rows'.sc-owed held6 7)) (Whole.arr-mem 𝓤 H A W held0 600000 tt) Path'.refl) d11
 
           d13 : Typed.Typed 𝓤 H A 𝓣 E G66 b22 Δ0 at13
           d13 = Typed.g-pre 𝓤 H A W 𝓣 E G66 G67 b22 Δ0 (λ Ψ. Ψ) at12 (Lifetime.g-end 𝓤 H A W E G66 7 Path'.refl) d12
 
           d14 : Typed.Typed 𝓤 H A 𝓣 E G65 b22 Δ0 at14
-          d14 = Typed.g-pre 𝓤 H A W 𝓣 E G65 G66 b22 Δ0 (Typed.pass T64 T66 s64) at13 (Scalar.g-room 𝓤 H A W E G65 6 (Syntax.tyArray (Syntax.tyInt Syntax.w32) 262160) (Init.room-arr 𝓤 H A W (Referent.rtF (Referent.fInt Syntax.w32)) 262160 0 262160 Path'.refl)) d13
+          d14 = Typed.g-pre 𝓤 H A W 𝓣 E G65 G66 b22 Δ0 (Typed.pass T64 T66 s64) at13 (Scalar.g-room 𝓤 H A W E G65 6 ty2 (Init.room-arr 𝓤 H A W held1 262160 0 262160 Path'.refl)) d13
 
           d15 : Typed.Typed 𝓤 H A 𝓣 E G64 b22 Δ0 at15
           d15 = Typed.g-pre 𝓤 H A W 𝓣 E G64 G65 b22 Δ0 (λ Ψ. Ψ) at14 (Lifetime.g-forget 𝓤 H A W E G64 6 Row.dead Path'.refl) d14
 
           d16 : Typed.Typed 𝓤 H A 𝓣 E G63 b22 Δ0 at16
-          d16 = Typed.g-pre 𝓤 H A W 𝓣 E G63 G64 b22 Δ0 (Typed.ask s62) at15 (Local.g-back-sc 𝓤 H A W E G63 18 6 6 (Array'.Array (Referent.rtF (Referent.fInt Syntax.w32)) 262160) (Syntax.tyRef Syntax.erased Syntax.mut (Syntax.tyArray (Syntax.tyInt Syntax.w32) 262160)) (Rows.arrF (Referent.rtF (Referent.fInt Syntax.w32)) 262160 0) (λ x. x) (λ x. x) (λ x. x) (Reads.as-is 𝓤 H A (Rows'.mleft (Array'.Array (Referent.rtF (Referent.fInt Syntax.w32)) 262160) (Syntax.tyRef Syntax.erased Syntax.mut (Syntax.tyArray (Syntax.tyInt Syntax.w32) 262160)))) (Reads.as-is 𝓤 H A (Rows'.sc-owed (Array'.Array (Referent.rtF (Referent.fInt Syntax.w32)) 262160) 6)) (Whole.arr-mem 𝓤 H A W (Referent.rtF (Referent.fInt Syntax.w32)) 262160 tt) Path'.refl) d15
+          d16 = Typed.g-pre 𝓤 H A W 𝓣 E G63 G64 b22 Δ0 (Typed.ask s62) at15 (Local.g-back-sc 𝓤 H A W E G63 18 6 6 held5 ty11 (Rows.arrF held1 262160 0) (λ x. x) (λ x. x) (λ x. x) (Reads.as-is 𝓤 H A (Rows'.mleft held5 ty11)) (Reads.as-is 𝓤 H A (Rows'.sc-owed held5 6)) (Whole.arr-mem 𝓤 H A W held1 262160 tt) Path'.refl) d15
 
           d17 : Typed.Typed 𝓤 H A 𝓣 E G62 b22 Δ0 at17
           d17 = Typed.g-pre 𝓤 H A W 𝓣 E G62 G63 b22 Δ0 (λ Ψ. Ψ) at16 (Lifetime.g-end 𝓤 H A W E G62 6 Path'.refl) d16
 
           d18 : Typed.Typed 𝓤 H A 𝓣 E G61 b22 Δ0 at18
-          d18 = Typed.g-pre 𝓤 H A W 𝓣 E G61 G62 b22 Δ0 (Typed.pass T60 T62 s60) at17 (Scalar.g-room 𝓤 H A W E G61 5 (Syntax.tyArray (Syntax.tyInt Syntax.w32) 32772) (Init.room-arr 𝓤 H A W (Referent.rtF (Referent.fInt Syntax.w32)) 32772 0 32772 Path'.refl)) d17
+          d18 = Typed.g-pre 𝓤 H A W 𝓣 E G61 G62 b22 Δ0 (Typed.pass T60 T62 s60) at17 (Scalar.g-room 𝓤 H A W E G61 5 ty0 (Init.room-arr 𝓤 H A W held1 32772 0 32772 Path'.refl)) d17
 
           d19 : Typed.Typed 𝓤 H A 𝓣 E G60 b22 Δ0 at19
           d19 = Typed.g-pre 𝓤 H A W 𝓣 E G60 G61 b22 Δ0 (λ Ψ. Ψ) at18 (Lifetime.g-forget 𝓤 H A W E G60 5 Row.dead Path'.refl) d18
 
           d20 : Typed.Typed 𝓤 H A 𝓣 E G59 b22 Δ0 at20
-          d20 = Typed.g-pre 𝓤 H A W 𝓣 E G59 G60 b22 Δ0 (Typed.ask s58) at19 (Local.g-back-sc 𝓤 H A W E G59 17 5 5 (Array'.Array (Referent.rtF (Referent.fInt Syntax.w32)) 32772) (Syntax.tyRef Syntax.erased Syntax.mut (Syntax.tyArray (Syntax.tyInt Syntax.w32) 32772)) (Rows.arrF (Referent.rtF (Referent.fInt Syntax.w32)) 32772 0) (λ x. x) (λ x. x) (λ x. x) (Reads.as-is 𝓤 H A (Rows'.mleft (Array'.Array (Referent.rtF (Referent.fInt Syntax.w32)) 32772) (Syntax.tyRef Syntax.erased Syntax.mut (Syntax.tyArray (Syntax.tyInt Syntax.w32) 32772)))) (Reads.as-is 𝓤 H A (Rows'.sc-owed (Array'.Array (Referent.rtF (Referent.fInt Syntax.w32)) 32772) 5)) (Whole.arr-mem 𝓤 H A W (Referent.rtF (Referent.fInt Syntax.w32)) 32772 tt) Path'.refl) d19
+          d20 = Typed.g-pre 𝓤 H A W 𝓣 E G59 G60 b22 Δ0 (Typed.ask s58) at19 (Local.g-back-sc 𝓤 H A W E G59 17 5 5 held2 ty8 (Rows.arrF held1 32772 0) (λ x. x) (λ x. x) (λ x. x) (Reads.as-is 𝓤 H A (Rows'.mleft held2 ty8)) (Reads.as-is 𝓤 H A (Rows'.sc-owed held2 5)) (Whole.arr-mem 𝓤 H A W held1 32772 tt) Path'.refl) d19
 
           d21 : Typed.Typed 𝓤 H A 𝓣 E G58 b22 Δ0 at21
           d21 = Typed.g-pre 𝓤 H A W 𝓣 E G58 G59 b22 Δ0 (λ Ψ. Ψ) at20 (Lifetime.g-end 𝓤 H A W E G58 5 Path'.refl) d20
 
           d22 : Typed.Typed 𝓤 H A 𝓣 E G57 b22 Δ0 at22
-          d22 = Typed.g-pre 𝓤 H A W 𝓣 E G57 G58 b22 Δ0 (Typed.pass T56 T58 s56) at21 (Scalar.g-room 𝓤 H A W E G57 4 (Syntax.tyArray (Syntax.tyInt Syntax.w32) 32772) (Init.room-arr 𝓤 H A W (Referent.rtF (Referent.fInt Syntax.w32)) 32772 0 32772 Path'.refl)) d21
+          d22 = Typed.g-pre 𝓤 H A W 𝓣 E G57 G58 b22 Δ0 (Typed.pass T56 T58 s56) at21 (Scalar.g-room 𝓤 H A W E G57 4 ty0 (Init.room-arr 𝓤 H A W held1 32772 0 32772 Path'.refl)) d21
 
           d23 : Typed.Typed 𝓤 H A 𝓣 E G56 b22 Δ0 at23
           d23 = Typed.g-pre 𝓤 H A W 𝓣 E G56 G57 b22 Δ0 (λ Ψ. Ψ) at22 (Lifetime.g-forget 𝓤 H A W E G56 4 Row.dead Path'.refl) d22
 
           d24 : Typed.Typed 𝓤 H A 𝓣 E G55 b22 Δ0 at24
-          d24 = Typed.g-pre 𝓤 H A W 𝓣 E G55 G56 b22 Δ0 (Typed.ask s54) at23 (Local.g-back-sc 𝓤 H A W E G55 16 4 4 (Array'.Array (Referent.rtF (Referent.fInt Syntax.w32)) 32772) (Syntax.tyRef Syntax.erased Syntax.mut (Syntax.tyArray (Syntax.tyInt Syntax.w32) 32772)) (Rows.arrF (Referent.rtF (Referent.fInt Syntax.w32)) 32772 0) (λ x. x) (λ x. x) (λ x. x) (Reads.as-is 𝓤 H A (Rows'.mleft (Array'.Array (Referent.rtF (Referent.fInt Syntax.w32)) 32772) (Syntax.tyRef Syntax.erased Syntax.mut (Syntax.tyArray (Syntax.tyInt Syntax.w32) 32772)))) (Reads.as-is 𝓤 H A (Rows'.sc-owed (Array'.Array (Referent.rtF (Referent.fInt Syntax.w32)) 32772) 4)) (Whole.arr-mem 𝓤 H A W (Referent.rtF (Referent.fInt Syntax.w32)) 32772 tt) Path'.refl) d23
+          d24 = Typed.g-pre 𝓤 H A W 𝓣 E G55 G56 b22 Δ0 (Typed.ask s54) at23 (Local.g-back-sc 𝓤 H A W E G55 16 4 4 held2 ty8 (Rows.arrF held1 32772 0) (λ x. x) (λ x. x) (λ x. x) (Reads.as-is 𝓤 H A (Rows'.mleft held2 ty8)) (Reads.as-is 𝓤 H A (Rows'.sc-owed held2 4)) (Whole.arr-mem 𝓤 H A W held1 32772 tt) Path'.refl) d23
 
           d25 : Typed.Typed 𝓤 H A 𝓣 E G54 b22 Δ0 at25
           d25 = Typed.g-pre 𝓤 H A W 𝓣 E G54 G55 b22 Δ0 (λ Ψ. Ψ) at24 (Lifetime.g-end 𝓤 H A W E G54 4 Path'.refl) d24
 
           d26 : Typed.Typed 𝓤 H A 𝓣 E G53 b22 Δ0 at26
-          d26 = Typed.g-pre 𝓤 H A W 𝓣 E G53 G54 b22 Δ0 (Typed.pass T52 T54 s52) at25 (Scalar.g-room 𝓤 H A W E G53 3 (Syntax.tyArray (Syntax.tyInt Syntax.w32) 65540) (Init.room-arr 𝓤 H A W (Referent.rtF (Referent.fInt Syntax.w32)) 65540 0 65540 Path'.refl)) d25
+          d26 = Typed.g-pre 𝓤 H A W 𝓣 E G53 G54 b22 Δ0 (Typed.pass T52 T54 s52) at25 (Scalar.g-room 𝓤 H A W E G53 3 ty1 (Init.room-arr 𝓤 H A W held1 65540 0 65540 Path'.refl)) d25
 
           d27 : Typed.Typed 𝓤 H A 𝓣 E G52 b22 Δ0 at27
           d27 = Typed.g-pre 𝓤 H A W 𝓣 E G52 G53 b22 Δ0 (λ Ψ. Ψ) at26 (Lifetime.g-forget 𝓤 H A W E G52 3 Row.dead Path'.refl) d26
 
           d28 : Typed.Typed 𝓤 H A 𝓣 E G51 b22 Δ0 at28
-          d28 = Typed.g-pre 𝓤 H A W 𝓣 E G51 G52 b22 Δ0 (Typed.ask s50) at27 (Local.g-back-sc 𝓤 H A W E G51 15 3 3 (Array'.Array (Referent.rtF (Referent.fInt Syntax.w32)) 65540) (Syntax.tyRef Syntax.erased Syntax.mut (Syntax.tyArray (Syntax.tyInt Syntax.w32) 65540)) (Rows.arrF (Referent.rtF (Referent.fInt Syntax.w32)) 65540 0) (λ x. x) (λ x. x) (λ x. x) (Reads.as-is 𝓤 H A (Rows'.mleft (Array'.Array (Referent.rtF (Referent.fInt Syntax.w32)) 65540) (Syntax.tyRef Syntax.erased Syntax.mut (Syntax.tyArray (Syntax.tyInt Syntax.w32) 65540)))) (Reads.as-is 𝓤 H A (Rows'.sc-owed (Array'.Array (Referent.rtF (Referent.fInt Syntax.w32)) 65540) 3)) (Whole.arr-mem 𝓤 H A W (Referent.rtF (Referent.fInt Syntax.w32)) 65540 tt) Path'.refl) d27
+          d28 = Typed.g-pre 𝓤 H A W 𝓣 E G51 G52 b22 Δ0 (Typed.ask s50) at27 (Local.g-back-sc 𝓤 H A W E G51 15 3 3 held4 ty10 (Rows.arrF held1 65540 0) (λ x. x) (λ x. x) (λ x. x) (Reads.as-is 𝓤 H A (Rows'.mleft held4 ty10)) (Reads.as-is 𝓤 H A (Rows'.sc-owed held4 3)) (Whole.arr-mem 𝓤 H A W held1 65540 tt) Path'.refl) d27
 
           d29 : Typed.Typed 𝓤 H A 𝓣 E G50 b22 Δ0 at29
           d29 = Typed.g-pre 𝓤 H A W 𝓣 E G50 G51 b22 Δ0 (λ Ψ. Ψ) at28 (Lifetime.g-end 𝓤 H A W E G50 3 Path'.refl) d28
 
           d30 : Typed.Typed 𝓤 H A 𝓣 E G49 b22 Δ0 at30
-          d30 = Typed.g-pre 𝓤 H A W 𝓣 E G49 G50 b22 Δ0 (Typed.pass T48 T50 s48) at29 (Scalar.g-room 𝓤 H A W E G49 8 (Syntax.tyArray (Syntax.tyInt Syntax.w8) 16388) (Init.room-arr 𝓤 H A W (Referent.rtF (Referent.fInt Syntax.w8)) 16388 0 16388 Path'.refl)) d29
+          d30 = Typed.g-pre 𝓤 H A W 𝓣 E G49 G50 b22 Δ0 (Typed.pass T48 T50 s48) at29 (Scalar.g-room 𝓤 H A W E G49 8 ty5 (Init.room-arr 𝓤 H A W held0 16388 0 16388 Path'.refl)) d29
 
           d31 : Typed.Typed 𝓤 H A 𝓣 E G48 b22 Δ0 at31
           d31 = Typed.g-pre 𝓤 H A W 𝓣 E G48 G49 b22 Δ0 (λ Ψ. Ψ) at30 (Lifetime.g-forget 𝓤 H A W E G48 2 Row.dead Path'.refl) d30
 
           d32 : Typed.Typed 𝓤 H A 𝓣 E G47 b22 Δ0 at32
-          d32 = Typed.g-pre 𝓤 H A W 𝓣 E G47 G48 b22 Δ0 (Typed.ask s46) at31 (Local.g-back-sc 𝓤 H A W E G47 14 8 2 (Array'.Array (Referent.rtF (Referent.fInt Syntax.w8)) 16388) (Syntax.tyRef Syntax.erased Syntax.mut (Syntax.tyArray (Syntax.tyInt Syntax.w8) 16388)) (Rows.arrF (Referent.rtF (Referent.fInt Syntax.w8)) 16388 0) (λ x. x) (λ x. x) (λ x. x) (Reads.as-is 𝓤 H A (Rows'.mleft (Array'.Array (Referent.rtF (Referent.fInt Syntax.w8)) 16388) (Syntax.tyRef Syntax.erased Syntax.mut (Syntax.tyArray (Syntax.tyInt Syntax.w8) 16388)))) (Reads.as-is 𝓤 H A (Rows'.sc-owed (Array'.Array (Referent.rtF (Referent.fInt Syntax.w8)) 16388) 2)) (Whole.arr-mem 𝓤 H A W (Referent.rtF (Referent.fInt Syntax.w8)) 16388 tt) Path'.refl) d31
+          d32 = Typed.g-pre 𝓤 H A W 𝓣 E G47 G48 b22 Δ0 (Typed.ask s46) at31 (Local.g-back-sc 𝓤 H A W E G47 14 8 2 held3 ty9 (Rows.arrF held0 16388 0) (λ x. x) (λ x. x) (λ x. x) (Reads.as-is 𝓤 H A (Rows'.mleft held3 ty9)) (Reads.as-is 𝓤 H A (Rows'.sc-owed held3 2)) (Whole.arr-mem 𝓤 H A W held0 16388 tt) Path'.refl) d31
 
           d33 : Typed.Typed 𝓤 H A 𝓣 E G46 b22 Δ0 at33
           d33 = Typed.g-pre 𝓤 H A W 𝓣 E G46 G47 b22 Δ0 (λ Ψ. Ψ) at32 (Lifetime.g-end 𝓤 H A W E G46 2 Path'.refl) d32
 
           d34 : Typed.Typed 𝓤 H A 𝓣 E G45 b22 Δ0 at34
-          d34 = Typed.g-pre 𝓤 H A W 𝓣 E G45 G46 b22 Δ0 (Typed.pass T44 T46 s44) at33 (Scalar.g-room 𝓤 H A W E G45 2 (Syntax.tyArray (Syntax.tyInt Syntax.w32) 32772) (Init.room-arr 𝓤 H A W (Referent.rtF (Referent.fInt Syntax.w32)) 32772 0 32772 Path'.refl)) d33
+          d34 = Typed.g-pre 𝓤 H A W 𝓣 E G45 G46 b22 Δ0 (Typed.pass T44 T46 s44) at33 (Scalar.g-room 𝓤 H A W E G45 2 ty0 (Init.room-arr 𝓤 H A W held1 32772 0 32772 Path'.refl)) d33
 
           d35 : Typed.Typed 𝓤 H A 𝓣 E G44 b22 Δ0 at35
           d35 = Typed.g-pre 𝓤 H A W 𝓣 E G44 G45 b22 Δ0 (λ Ψ. Ψ) at34 (Lifetime.g-forget 𝓤 H A W E G44 1 Row.dead Path'.refl) d34
 
           d36 : Typed.Typed 𝓤 H A 𝓣 E G43 b22 Δ0 at36
-          d36 = Typed.g-pre 𝓤 H A W 𝓣 E G43 G44 b22 Δ0 (Typed.ask s42) at35 (Local.g-back-sc 𝓤 H A W E G43 13 2 1 (Array'.Array (Referent.rtF (Referent.fInt Syntax.w32)) 32772) (Syntax.tyRef Syntax.erased Syntax.mut (Syntax.tyArray (Syntax.tyInt Syntax.w32) 32772)) (Rows.arrF (Referent.rtF (Referent.fInt Syntax.w32)) 32772 0) (λ x. x) (λ x. x) (λ x. x) (Reads.as-is 𝓤 H A (Rows'.mleft (Array'.Array (Referent.rtF (Referent.fInt Syntax.w32)) 32772) (Syntax.tyRef Syntax.erased Syntax.mut (Syntax.tyArray (Syntax.tyInt Syntax.w32) 32772)))) (Reads.as-is 𝓤 H A (Rows'.sc-owed (Array'.Array (Referent.rtF (Referent.fInt Syntax.w32)) 32772) 1)) (Whole.arr-mem 𝓤 H A W (Referent.rtF (Referent.fInt Syntax.w32)) 32772 tt) Path'.refl) d35
+          d36 = Typed.g-pre 𝓤 H A W 𝓣 E G43 G44 b22 Δ0 (Typed.ask s42) at35 (Local.g-back-sc 𝓤 H A W E G43 13 2 1 held2 ty8 (Rows.arrF held1 32772 0) (λ x. x) (λ x. x) (λ x. x) (Reads.as-is 𝓤 H A (Rows'.mleft held2 ty8)) (Reads.as-is 𝓤 H A (Rows'.sc-owed held2 1)) (Whole.arr-mem 𝓤 H A W held1 32772 tt) Path'.refl) d35
 
           d37 : Typed.Typed 𝓤 H A 𝓣 E G42 b22 Δ0 at37
           d37 = Typed.g-pre 𝓤 H A W 𝓣 E G42 G43 b22 Δ0 (λ Ψ. Ψ) at36 (Lifetime.g-end 𝓤 H A W E G42 1 Path'.refl) d36
@@ -1330,58 +1691,58 @@ module _ (claims· : Claims) where
           d38 = Typed.g-pre 𝓤 H A W 𝓣 E G41 G42 b22 Δ0 (Typed.pass T41 T42 s40) at37 (Scalar.g-room 𝓤 H A W E G41 12 Syntax.tyUnit (Scalar.room-sc 𝓤 H A W Row.sUnit)) d37
 
           d39 : Typed.Typed 𝓤 H A 𝓣 E G40 b23 Δ0 at39
-          d39 = Typed.s-seq 𝓤 H A W 𝓣 E G40 G41 b19 b22 Δ0 (Typed.both s39) at38 (Plain.t-call-plain 𝓤 H A W 𝓣 10 ps·1 r·1 (claims· .2) (claims· .3) "zones::lines::each" (known .1) E (λ pos β. β) G40 (record { pos = 1; ty = Syntax.tyRef (Syntax.named 0) Syntax.imm (Syntax.tyInt Syntax.w8); ref = λ x. x }, (record { pos = 13; ty = Syntax.tyRef Syntax.erased Syntax.mut (Syntax.tyArray (Syntax.tyInt Syntax.w32) 32772); ref = λ x. x }, (record { pos = 14; ty = Syntax.tyRef Syntax.erased Syntax.mut (Syntax.tyArray (Syntax.tyInt Syntax.w8) 16388); ref = λ x. x }, (record { pos = 15; ty = Syntax.tyRef Syntax.erased Syntax.mut (Syntax.tyArray (Syntax.tyInt Syntax.w32) 65540); ref = λ x. x }, (record { pos = 16; ty = Syntax.tyRef Syntax.erased Syntax.mut (Syntax.tyArray (Syntax.tyInt Syntax.w32) 32772); ref = λ x. x }, (record { pos = 17; ty = Syntax.tyRef Syntax.erased Syntax.mut (Syntax.tyArray (Syntax.tyInt Syntax.w32) 32772); ref = λ x. x }, (record { pos = 18; ty = Syntax.tyRef Syntax.erased Syntax.mut (Syntax.tyArray (Syntax.tyInt Syntax.w32) 262160); ref = λ x. x }, (record { pos = 19; ty = Syntax.tyRef Syntax.erased Syntax.mut (Syntax.tyArray (Syntax.tyInt Syntax.w8) 600000); ref = λ x. x }, (record { pos = 20; ty = Syntax.tyRef Syntax.erased Syntax.mut (Syntax.tyArray Cell.behind 65540); ref = λ x. x }, (record { pos = 21; ty = Syntax.tyRef Syntax.erased Syntax.mut (Syntax.tyArray Cell.behind 32772); ref = λ x. x }, tt)))))))))) 12 (List._∷_ 0 (List._∷_ 1 (List._∷_ 2 (List._∷_ 3 (List._∷_ 4 (List._∷_ 5 (List._∷_ 6 (List._∷_ 7 (List._∷_ 8 (List._∷_ 9 List.[])))))))))) (Call.sub-id 𝓤 H A W (G40 .slots)) (ShrSlice.spares-sslice 𝓤 H A W (Referent.rtF (Referent.fInt Syntax.w8)) (Syntax.tyRef (Syntax.named 0) Syntax.imm (Syntax.tyInt Syntax.w8)) 0, Shared.reads-sslice 𝓤 H A W (Referent.rtF (Referent.fInt Syntax.w8)) (Syntax.tyRef (Syntax.named 0) Syntax.imm (Syntax.tyInt Syntax.w8)) 0, Path'.refl, (Reads.as-is 𝓤 H A (Rows'.mref (Array'.Array (Referent.rtF (Referent.fInt Syntax.w32)) 32772) (Syntax.tyRef Syntax.erased Syntax.mut (Syntax.tyArray (Syntax.tyInt Syntax.w32) 32772)) 1), Reads.reads-mref 𝓤 H A W (Array'.Array (Referent.rtF (Referent.fInt Syntax.w32)) 32772) (Syntax.tyRef Syntax.erased Syntax.mut (Syntax.tyArray (Syntax.tyInt Syntax.w32) 32772)) 1, Path'.refl, (Reads.as-is 𝓤 H A (Rows'.mref (Array'.Array (Referent.rtF (Referent.fInt Syntax.w8)) 16388) (Syntax.tyRef Syntax.erased Syntax.mut (Syntax.tyArray (Syntax.tyInt Syntax.w8) 16388)) 2), Reads.reads-mref 𝓤 H A W (Array'.Array (Referent.rtF (Referent.fInt Syntax.w8)) 16388) (Syntax.tyRef Syntax.erased Syntax.mut (Syntax.tyArray (Syntax.tyInt Syntax.w8) 16388)) 2, Path'.refl, (Reads.as-is 𝓤 H A (Rows'.mref (Array'.Array (Referent.rtF (Referent.fInt Syntax.w32)) 65540) (Syntax.tyRef Syntax.erased Syntax.mut (Syntax.tyArray (Syntax.tyInt Syntax.w32) 65540)) 3), Reads.reads-mref 𝓤 H A W (Array'.Array (Referent.rtF (Referent.fInt Syntax.w32)) 65540) (Syntax.tyRef Syntax.erased Syntax.mut (Syntax.tyArray (Syntax.tyInt Syntax.w32) 65540)) 3, Path'.refl, (Reads.as-is 𝓤 H A (Rows'.mref (Array'.Array (Referent.rtF (Referent.fInt Syntax.w32)) 32772) (Syntax.tyRef Syntax.erased Syntax.mut (Syntax.tyArray (Syntax.tyInt Syntax.w32) 32772)) 4), Reads.reads-mref 𝓤 H A W (Array'.Array (Referent.rtF (Referent.fInt Syntax.w32)) 32772) (Syntax.tyRef Syntax.erased Syntax.mut (Syntax.tyArray (Syntax.tyInt Syntax.w32) 32772)) 4, Path'.refl, (Reads.as-is 𝓤 H A (Rows'.mref (Array'.Array (Referent.rtF (Referent.fInt Syntax.w32)) 32772) (Syntax.tyRef Syntax.erased Syntax.mut (Syntax.tyArray (Syntax.tyInt Syntax.w32) 32772)) 5), Reads.reads-mref 𝓤 H A W (Array'.Array (Referent.rtF (Referent.fInt Syntax.w32)) 32772) (Syntax.tyRef Syntax.erased Syntax.mut (Syntax.tyArray (Syntax.tyInt Syntax.w32) 32772)) 5, Path'.refl, (Reads.as-is 𝓤 H A (Rows'.mref (Array'.Array (Referent.rtF (Referent.fInt Syntax.w32)) 262160) (Syntax.tyRef Syntax.erased Syntax.mut (Syntax.tyArray (Syntax.tyInt Syntax.w32) 262160)) 6), Reads.reads-mref 𝓤 H A W (Array'.Array (Referent.rtF (Referent.fInt Syntax.w32)) 262160) (Syntax.tyRef Syntax.erased Syntax.mut (Syntax.tyArray (Syntax.tyInt Syntax.w32) 262160)) 6, Path'.refl, (Reads.as-is 𝓤 H A (Rows'.mref (Array'.Array (Referent.rtF (Referent.fInt Syntax.w8)) 600000) (Syntax.tyRef Syntax.erased Syntax.mut (Syntax.tyArray (Syntax.tyInt Syntax.w8) 600000)) 7), Reads.reads-mref 𝓤 H A W (Array'.Array (Referent.rtF (Referent.fInt Syntax.w8)) 600000) (Syntax.tyRef Syntax.erased Syntax.mut (Syntax.tyArray (Syntax.tyInt Syntax.w8) 600000)) 7, Path'.refl, (Reads.as-is 𝓤 H A (Rows'.mref (Array'.Array Cell.R 65540) (Syntax.tyRef Syntax.erased Syntax.mut (Syntax.tyArray Cell.behind 65540)) 8), Reads.reads-mref 𝓤 H A W (Array'.Array Cell.R 65540) (Syntax.tyRef Syntax.erased Syntax.mut (Syntax.tyArray Cell.behind 65540)) 8, Path'.refl, (Reads.as-is 𝓤 H A (Rows'.mref (Array'.Array Cell.R 32772) (Syntax.tyRef Syntax.erased Syntax.mut (Syntax.tyArray Cell.behind 32772)) 9), Reads.reads-mref 𝓤 H A W (Array'.Array Cell.R 32772) (Syntax.tyRef Syntax.erased Syntax.mut (Syntax.tyArray Cell.behind 32772)) 9, Path'.refl, tt)))))))))) (Reads.room-gone 𝓤 H A Syntax.tyUnit) (tt, (tt, (tt, (tt, (tt, (tt, (tt, (tt, (tt, (tt, tt)))))))))) Path'.refl) d38
+          d39 = Typed.s-seq 𝓤 H A W 𝓣 E G40 G41 b19 b22 Δ0 (Typed.both s39) at38 (Plain.t-call-plain 𝓤 H A W 𝓣 10 ps·1 r·1 (claims· .2) (claims· .3) "zones::lines::each" (known .1) E (λ pos β. β) G40 (record { pos = 1; ty = Syntax.tyRef (Syntax.named 0) Syntax.imm ty3; ref = λ x. x }, (record { pos = 13; ty = Syntax.tyRef Syntax.erased Syntax.mut ty0; ref = λ x. x }, (record { pos = 14; ty = Syntax.tyRef Syntax.erased Syntax.mut ty5; ref = λ x. x }, (record { pos = 15; ty = Syntax.tyRef Syntax.erased Syntax.mut ty1; ref = λ x. x }, (record { pos = 16; ty = Syntax.tyRef Syntax.erased Syntax.mut ty0; ref = λ x. x }, (record { pos = 17; ty = Syntax.tyRef Syntax.erased Syntax.mut ty0; ref = λ x. x }, (record { pos = 18; ty = Syntax.tyRef Syntax.erased Syntax.mut ty2; ref = λ x. x }, (record { pos = 19; ty = Syntax.tyRef Syntax.erased Syntax.mut ty4; ref = λ x. x }, (record { pos = 20; ty = Syntax.tyRef Syntax.erased Syntax.mut ty13; ref = λ x. x }, (record { pos = 21; ty = Syntax.tyRef Syntax.erased Syntax.mut ty15; ref = λ x. x }, tt)))))))))) 12 sym0 (Call.sub-id 𝓤 H A W (G40 .slots)) (ShrSlice.spares-sslice 𝓤 H A W held0 ty17 0, Shared.reads-sslice 𝓤 H A W held0 ty17 0, Path'.refl, (Reads.as-is 𝓤 H A (Rows'.mref held2 ty8 1), Reads.reads-mref 𝓤 H A W held2 ty8 1, Path'.refl, (Reads.as-is 𝓤 H A (Rows'.mref held3 ty9 2), Reads.reads-mref 𝓤 H A W held3 ty9 2, Path'.refl, (Reads.as-is 𝓤 H A (Rows'.mref held4 ty10 3), Reads.reads-mref 𝓤 H A W held4 ty10 3, Path'.refl, (Reads.as-is 𝓤 H A (Rows'.mref held2 ty8 4), Reads.reads-mref 𝓤 H A W held2 ty8 4, Path'.refl, (Reads.as-is 𝓤 H A (Rows'.mref held2 ty8 5), Reads.reads-mref 𝓤 H A W held2 ty8 5, Path'.refl, (Reads.as-is 𝓤 H A (Rows'.mref held5 ty11 6), Reads.reads-mref 𝓤 H A W held5 ty11 6, Path'.refl, (Reads.as-is 𝓤 H A (Rows'.mref held6 ty12 7), Reads.reads-mref 𝓤 H A W held6 ty12 7, Path'.refl, (Reads.as-is 𝓤 H A (Rows'.mref held7 ty14 8), Reads.reads-mref 𝓤 H A W held7 ty14 8, Path'.refl, (Reads.as-is 𝓤 H A (Rows'.mref held8 ty16 9), Reads.reads-mref 𝓤 H A W held8 ty16 9, Path'.refl, tt)))))))))) (Reads.room-gone 𝓤 H A Syntax.tyUnit) (tt, (tt, (tt, (tt, (tt, (tt, (tt, (tt, (tt, (tt, tt)))))))))) Path'.refl) d38
 
           d40 : Typed.Typed 𝓤 H A 𝓣 E G39 b24 Δ0 at40
-          d40 = Typed.s-seq 𝓤 H A W 𝓣 E G39 G40 b18 b23 Δ0 (Typed.give s38) at39 (Local.t-sc-borrow 𝓤 H A W E 𝓣 G39 11 21 9 (Array'.Array Cell.R 32772) (Syntax.tyRef Syntax.erased Syntax.mut (Syntax.tyArray Cell.behind 32772)) (λ x. x) (Whole.mem-arr 𝓤 H A W Cell.R 32772) (Reads.room-gone 𝓤 H A (Syntax.tyRef Syntax.erased Syntax.mut (Syntax.tyArray Cell.behind 32772))) Path'.refl λ b o. tt) d39
+          d40 = Typed.s-seq 𝓤 H A W 𝓣 E G39 G40 b18 b23 Δ0 (Typed.give s38) at39 (Local.t-sc-borrow 𝓤 H A W E 𝓣 G39 11 21 9 held8 ty16 (λ x. x) (Whole.mem-arr 𝓤 H A W Cell.R 32772) (Reads.room-gone 𝓤 H A ty16) Path'.refl λ b o. tt) d39
 
           d41 : Typed.Typed 𝓤 H A 𝓣 E G38 b24 Δ0 at41
           d41 = Typed.g-pre 𝓤 H A W 𝓣 E G38 G39 b24 Δ0 (λ Ψ. Ψ) at40 (Lifetime.g-begin 𝓤 H A W E G38 9 (tt, (tt, (tt, (tt, (tt, (tt, (tt, (tt, (tt, (tt, (tt, (tt, (tt, (tt, (tt, (tt, (tt, (tt, (tt, (tt, (tt, (tt, tt))))))))))))))))))))))) d40
 
           d42 : Typed.Typed 𝓤 H A 𝓣 E G37 b25 Δ0 at42
-          d42 = Typed.s-seq 𝓤 H A W 𝓣 E G37 G38 b17 b24 Δ0 (Typed.give s36) at41 (Local.t-sc-borrow 𝓤 H A W E 𝓣 G37 10 20 8 (Array'.Array Cell.R 65540) (Syntax.tyRef Syntax.erased Syntax.mut (Syntax.tyArray Cell.behind 65540)) (λ x. x) (Whole.mem-arr 𝓤 H A W Cell.R 65540) (Reads.room-gone 𝓤 H A (Syntax.tyRef Syntax.erased Syntax.mut (Syntax.tyArray Cell.behind 65540))) Path'.refl λ b o. tt) d41
+          d42 = Typed.s-seq 𝓤 H A W 𝓣 E G37 G38 b17 b24 Δ0 (Typed.give s36) at41 (Local.t-sc-borrow 𝓤 H A W E 𝓣 G37 10 20 8 held7 ty14 (λ x. x) (Whole.mem-arr 𝓤 H A W Cell.R 65540) (Reads.room-gone 𝓤 H A ty14) Path'.refl λ b o. tt) d41
 
           d43 : Typed.Typed 𝓤 H A 𝓣 E G36 b25 Δ0 at43
           d43 = Typed.g-pre 𝓤 H A W 𝓣 E G36 G37 b25 Δ0 (λ Ψ. Ψ) at42 (Lifetime.g-begin 𝓤 H A W E G36 8 (tt, (tt, (tt, (tt, (tt, (tt, (tt, (tt, (tt, (tt, (tt, (tt, (tt, (tt, (tt, (tt, (tt, (tt, (tt, (tt, (tt, (tt, tt))))))))))))))))))))))) d42
 
           d44 : Typed.Typed 𝓤 H A 𝓣 E G35 b26 Δ0 at44
-          d44 = Typed.s-seq 𝓤 H A W 𝓣 E G35 G36 b16 b25 Δ0 (Typed.give s34) at43 (Local.t-sc-borrow 𝓤 H A W E 𝓣 G35 7 19 7 (Array'.Array (Referent.rtF (Referent.fInt Syntax.w8)) 600000) (Syntax.tyRef Syntax.erased Syntax.mut (Syntax.tyArray (Syntax.tyInt Syntax.w8) 600000)) (λ x. x) (Whole.mem-arr 𝓤 H A W (Referent.rtF (Referent.fInt Syntax.w8)) 600000) (Reads.room-gone 𝓤 H A (Syntax.tyRef Syntax.erased Syntax.mut (Syntax.tyArray (Syntax.tyInt Syntax.w8) 600000))) Path'.refl λ b o. tt) d43
+          d44 = Typed.s-seq 𝓤 H A W 𝓣 E G35 G36 b16 b25 Δ0 (Typed.give s34) at43 (Local.t-sc-borrow 𝓤 H A W E 𝓣 G35 7 19 7 held6 ty12 (λ x. x) (Whole.mem-arr 𝓤 H A W held0 600000) (Reads.room-gone 𝓤 H A ty12) Path'.refl λ b o. tt) d43
 
           d45 : Typed.Typed 𝓤 H A 𝓣 E G34 b26 Δ0 at45
           d45 = Typed.g-pre 𝓤 H A W 𝓣 E G34 G35 b26 Δ0 (λ Ψ. Ψ) at44 (Lifetime.g-begin 𝓤 H A W E G34 7 (tt, (tt, (tt, (tt, (tt, (tt, (tt, (tt, (tt, (tt, (tt, (tt, (tt, (tt, (tt, (tt, (tt, (tt, (tt, (tt, (tt, (tt, tt))))))))))))))))))))))) d44
 
           d46 : Typed.Typed 𝓤 H A 𝓣 E G33 b27 Δ0 at46
-          d46 = Typed.s-seq 𝓤 H A W 𝓣 E G33 G34 b15 b26 Δ0 (Typed.give s32) at45 (Local.t-sc-borrow 𝓤 H A W E 𝓣 G33 6 18 6 (Array'.Array (Referent.rtF (Referent.fInt Syntax.w32)) 262160) (Syntax.tyRef Syntax.erased Syntax.mut (Syntax.tyArray (Syntax.tyInt Syntax.w32) 262160)) (λ x. x) (Whole.mem-arr 𝓤 H A W (Referent.rtF (Referent.fInt Syntax.w32)) 262160) (Reads.room-gone 𝓤 H A (Syntax.tyRef Syntax.erased Syntax.mut (Syntax.tyArray (Syntax.tyInt Syntax.w32) 262160))) Path'.refl λ b o. tt) d45
+          d46 = Typed.s-seq 𝓤 H A W 𝓣 E G33 G34 b15 b26 Δ0 (Typed.give s32) at45 (Local.t-sc-borrow 𝓤 H A W E 𝓣 G33 6 18 6 held5 ty11 (λ x. x) (Whole.mem-arr 𝓤 H A W held1 262160) (Reads.room-gone 𝓤 H A ty11) Path'.refl λ b o. tt) d45
 
           d47 : Typed.Typed 𝓤 H A 𝓣 E G32 b27 Δ0 at47
           d47 = Typed.g-pre 𝓤 H A W 𝓣 E G32 G33 b27 Δ0 (λ Ψ. Ψ) at46 (Lifetime.g-begin 𝓤 H A W E G32 6 (tt, (tt, (tt, (tt, (tt, (tt, (tt, (tt, (tt, (tt, (tt, (tt, (tt, (tt, (tt, (tt, (tt, (tt, (tt, (tt, (tt, (tt, tt))))))))))))))))))))))) d46
 
           d48 : Typed.Typed 𝓤 H A 𝓣 E G31 b28 Δ0 at48
-          d48 = Typed.s-seq 𝓤 H A W 𝓣 E G31 G32 b14 b27 Δ0 (Typed.give s30) at47 (Local.t-sc-borrow 𝓤 H A W E 𝓣 G31 5 17 5 (Array'.Array (Referent.rtF (Referent.fInt Syntax.w32)) 32772) (Syntax.tyRef Syntax.erased Syntax.mut (Syntax.tyArray (Syntax.tyInt Syntax.w32) 32772)) (λ x. x) (Whole.mem-arr 𝓤 H A W (Referent.rtF (Referent.fInt Syntax.w32)) 32772) (Reads.room-gone 𝓤 H A (Syntax.tyRef Syntax.erased Syntax.mut (Syntax.tyArray (Syntax.tyInt Syntax.w32) 32772))) Path'.refl λ b o. tt) d47
+          d48 = Typed.s-seq 𝓤 H A W 𝓣 E G31 G32 b14 b27 Δ0 (Typed.give s30) at47 (Local.t-sc-borrow 𝓤 H A W E 𝓣 G31 5 17 5 held2 ty8 (λ x. x) (Whole.mem-arr 𝓤 H A W held1 32772) (Reads.room-gone 𝓤 H A ty8) Path'.refl λ b o. tt) d47
 
           d49 : Typed.Typed 𝓤 H A 𝓣 E G30 b28 Δ0 at49
           d49 = Typed.g-pre 𝓤 H A W 𝓣 E G30 G31 b28 Δ0 (λ Ψ. Ψ) at48 (Lifetime.g-begin 𝓤 H A W E G30 5 (tt, (tt, (tt, (tt, (tt, (tt, (tt, (tt, (tt, (tt, (tt, (tt, (tt, (tt, (tt, (tt, (tt, (tt, (tt, (tt, (tt, (tt, tt))))))))))))))))))))))) d48
 
           d50 : Typed.Typed 𝓤 H A 𝓣 E G29 b29 Δ0 at50
-          d50 = Typed.s-seq 𝓤 H A W 𝓣 E G29 G30 b13 b28 Δ0 (Typed.give s28) at49 (Local.t-sc-borrow 𝓤 H A W E 𝓣 G29 4 16 4 (Array'.Array (Referent.rtF (Referent.fInt Syntax.w32)) 32772) (Syntax.tyRef Syntax.erased Syntax.mut (Syntax.tyArray (Syntax.tyInt Syntax.w32) 32772)) (λ x. x) (Whole.mem-arr 𝓤 H A W (Referent.rtF (Referent.fInt Syntax.w32)) 32772) (Reads.room-gone 𝓤 H A (Syntax.tyRef Syntax.erased Syntax.mut (Syntax.tyArray (Syntax.tyInt Syntax.w32) 32772))) Path'.refl λ b o. tt) d49
+          d50 = Typed.s-seq 𝓤 H A W 𝓣 E G29 G30 b13 b28 Δ0 (Typed.give s28) at49 (Local.t-sc-borrow 𝓤 H A W E 𝓣 G29 4 16 4 held2 ty8 (λ x. x) (Whole.mem-arr 𝓤 H A W held1 32772) (Reads.room-gone 𝓤 H A ty8) Path'.refl λ b o. tt) d49
 
           d51 : Typed.Typed 𝓤 H A 𝓣 E G28 b29 Δ0 at51
           d51 = Typed.g-pre 𝓤 H A W 𝓣 E G28 G29 b29 Δ0 (λ Ψ. Ψ) at50 (Lifetime.g-begin 𝓤 H A W E G28 4 (tt, (tt, (tt, (tt, (tt, (tt, (tt, (tt, (tt, (tt, (tt, (tt, (tt, (tt, (tt, (tt, (tt, (tt, (tt, (tt, (tt, (tt, tt))))))))))))))))))))))) d50
 
           d52 : Typed.Typed 𝓤 H A 𝓣 E G27 b30 Δ0 at52
-          d52 = Typed.s-seq 𝓤 H A W 𝓣 E G27 G28 b12 b29 Δ0 (Typed.give s26) at51 (Local.t-sc-borrow 𝓤 H A W E 𝓣 G27 3 15 3 (Array'.Array (Referent.rtF (Referent.fInt Syntax.w32)) 65540) (Syntax.tyRef Syntax.erased Syntax.mut (Syntax.tyArray (Syntax.tyInt Syntax.w32) 65540)) (λ x. x) (Whole.mem-arr 𝓤 H A W (Referent.rtF (Referent.fInt Syntax.w32)) 65540) (Reads.room-gone 𝓤 H A (Syntax.tyRef Syntax.erased Syntax.mut (Syntax.tyArray (Syntax.tyInt Syntax.w32) 65540))) Path'.refl λ b o. tt) d51
+          d52 = Typed.s-seq 𝓤 H A W 𝓣 E G27 G28 b12 b29 Δ0 (Typed.give s26) at51 (Local.t-sc-borrow 𝓤 H A W E 𝓣 G27 3 15 3 held4 ty10 (λ x. x) (Whole.mem-arr 𝓤 H A W held1 65540) (Reads.room-gone 𝓤 H A ty10) Path'.refl λ b o. tt) d51
 
           d53 : Typed.Typed 𝓤 H A 𝓣 E G26 b30 Δ0 at53
           d53 = Typed.g-pre 𝓤 H A W 𝓣 E G26 G27 b30 Δ0 (λ Ψ. Ψ) at52 (Lifetime.g-begin 𝓤 H A W E G26 3 (tt, (tt, (tt, (tt, (tt, (tt, (tt, (tt, (tt, (tt, (tt, (tt, (tt, (tt, (tt, (tt, (tt, (tt, (tt, (tt, (tt, (tt, tt))))))))))))))))))))))) d52
 
           d54 : Typed.Typed 𝓤 H A 𝓣 E G25 b31 Δ0 at54
-          d54 = Typed.s-seq 𝓤 H A W 𝓣 E G25 G26 b11 b30 Δ0 (Typed.give s24) at53 (Local.t-sc-borrow 𝓤 H A W E 𝓣 G25 8 14 2 (Array'.Array (Referent.rtF (Referent.fInt Syntax.w8)) 16388) (Syntax.tyRef Syntax.erased Syntax.mut (Syntax.tyArray (Syntax.tyInt Syntax.w8) 16388)) (λ x. x) (Whole.mem-arr 𝓤 H A W (Referent.rtF (Referent.fInt Syntax.w8)) 16388) (Reads.room-gone 𝓤 H A (Syntax.tyRef Syntax.erased Syntax.mut (Syntax.tyArray (Syntax.tyInt Syntax.w8) 16388))) Path'.refl λ b o. tt) d53
+          d54 = Typed.s-seq 𝓤 H A W 𝓣 E G25 G26 b11 b30 Δ0 (Typed.give s24) at53 (Local.t-sc-borrow 𝓤 H A W E 𝓣 G25 8 14 2 held3 ty9 (λ x. x) (Whole.mem-arr 𝓤 H A W held0 16388) (Reads.room-gone 𝓤 H A ty9) Path'.refl λ b o. tt) d53
 
           d55 : Typed.Typed 𝓤 H A 𝓣 E G24 b31 Δ0 at55
           d55 = Typed.g-pre 𝓤 H A W 𝓣 E G24 G25 b31 Δ0 (λ Ψ. Ψ) at54 (Lifetime.g-begin 𝓤 H A W E G24 2 (tt, (tt, (tt, (tt, (tt, (tt, (tt, (tt, (tt, (tt, (tt, (tt, (tt, (tt, (tt, (tt, (tt, (tt, (tt, (tt, (tt, (tt, tt))))))))))))))))))))))) d54
 
           d56 : Typed.Typed 𝓤 H A 𝓣 E G23 b32 Δ0 at56
-          d56 = Typed.s-seq 𝓤 H A W 𝓣 E G23 G24 b10 b31 Δ0 (Typed.give s22) at55 (Local.t-sc-borrow 𝓤 H A W E 𝓣 G23 2 13 1 (Array'.Array (Referent.rtF (Referent.fInt Syntax.w32)) 32772) (Syntax.tyRef Syntax.erased Syntax.mut (Syntax.tyArray (Syntax.tyInt Syntax.w32) 32772)) (λ x. x) (Whole.mem-arr 𝓤 H A W (Referent.rtF (Referent.fInt Syntax.w32)) 32772) (Reads.room-gone 𝓤 H A (Syntax.tyRef Syntax.erased Syntax.mut (Syntax.tyArray (Syntax.tyInt Syntax.w32) 32772))) Path'.refl λ b o. tt) d55
+          d56 = Typed.s-seq 𝓤 H A W 𝓣 E G23 G24 b10 b31 Δ0 (Typed.give s22) at55 (Local.t-sc-borrow 𝓤 H A W E 𝓣 G23 2 13 1 held2 ty8 (λ x. x) (Whole.mem-arr 𝓤 H A W held1 32772) (Reads.room-gone 𝓤 H A ty8) Path'.refl λ b o. tt) d55
 
           d57 : Typed.Typed 𝓤 H A 𝓣 E G22 b32 Δ0 at57
           d57 = Typed.g-pre 𝓤 H A W 𝓣 E G22 G23 b32 Δ0 (λ Ψ. Ψ) at56 (Lifetime.g-begin 𝓤 H A W E G22 1 (tt, (tt, (tt, (tt, (tt, (tt, (tt, (tt, (tt, (tt, (tt, (tt, (tt, (tt, (tt, (tt, (tt, (tt, (tt, (tt, (tt, (tt, tt))))))))))))))))))))))) d56
@@ -1393,68 +1754,68 @@ module _ (claims· : Claims) where
           d59 = Typed.g-pre 𝓤 H A W 𝓣 E G20 G21 b32 Δ0 (Typed.pass T20 T21 s19) at58 (AtSlots.g-as-by 𝓤 H A W E (λ ρ. Unit) G20 11 (Rows.arrF Cell.R 32772 0) (λ x. x) (Own.told-none 𝓤 H A (G20 .slots)) λ ρ told. Repeat.whole-arr 𝓤 H A W Cell.R 32772 tt ρ) d58
 
           d60 : Typed.Typed 𝓤 H A 𝓣 E G19 b33 Δ0 at60
-          d60 = Typed.s-seq 𝓤 H A W 𝓣 E G19 G20 b9 b32 Δ0 (Typed.pass T19 T20 s18) at59 (Repeat.t-repeat-by 𝓤 H A W E 𝓣 Cell.R (Cell.lawful 𝓤 H A W) (Cell.copies .copy 𝓤 H A W) 32772 G19 11 (Scalar.oAt 9 Cell.held λ x. Steps.only (Cell.copies .vals x)) (λ m. m .1 .1 .1 .1 .1 .1 .1 .1 .1 .0) (λ ρ. Unit) (Reads.room-gone 𝓤 H A (Syntax.tyArray Cell.held 32772)) (Cell.reads 𝓤 H A W, Path'.refl) Path'.refl (Own.told-none 𝓤 H A (G19 .slots)) λ ρ m pf wa. Gives.elem-local 𝓤 H A W E ρ Cell.R (λ x. Steps.only (Cell.copies .vals x)) (Cell.copies .tells) (Row.out 11 (G19 .locals)) m (λ ρ. Unit) pf 9 Cell.held (λ x. x) (Yields.yields-copy 𝓤 H A W (λ ρ. Unit) Cell.R Path'.refl (Cell.copies .copy 𝓤 H A W) Cell.row (λ x. x) (λ x. x) (λ ρ told. Cell.in-mem 𝓤 H A W ρ) λ ρ told. Cell.of-mem 𝓤 H A W ρ)) d59
+          d60 = Typed.s-seq 𝓤 H A W 𝓣 E G19 G20 b9 b32 Δ0 (Typed.pass T19 T20 s18) at59 (Repeat.t-repeat-by 𝓤 H A W E 𝓣 Cell.R (Cell.lawful 𝓤 H A W) (Cell.copies .copy 𝓤 H A W) 32772 G19 11 (Scalar.oAt 9 Cell.held λ x. Steps.only (Cell.copies .vals x)) (λ m. m .1 .1 .1 .1 .1 .1 .1 .1 .1 .0) (λ ρ. Unit) (Reads.room-gone 𝓤 H A ty7) (Cell.reads 𝓤 H A W, Path'.refl) Path'.refl (Own.told-none 𝓤 H A (G19 .slots)) λ ρ m pf wa. Gives.elem-local 𝓤 H A W E ρ Cell.R (λ x. Steps.only (Cell.copies .vals x)) (Cell.copies .tells) (Row.out 11 (G19 .locals)) m (λ ρ. Unit) pf 9 Cell.held (λ x. x) (Yields.yields-copy 𝓤 H A W (λ ρ. Unit) Cell.R Path'.refl (Cell.copies .copy 𝓤 H A W) Cell.row (λ x. x) (λ x. x) (λ ρ told. Cell.in-mem 𝓤 H A W ρ) λ ρ told. Cell.of-mem 𝓤 H A W ρ)) d59
 
           d61 : Typed.Typed 𝓤 H A 𝓣 E G18 b33 Δ0 at61
           d61 = Typed.g-pre 𝓤 H A W 𝓣 E G18 G19 b33 Δ0 (Typed.pass T18 T19 s17) at60 (AtSlots.g-as-by 𝓤 H A W E (λ ρ. Unit) G18 10 (Rows.arrF Cell.R 65540 0) (λ x. x) (Own.told-none 𝓤 H A (G18 .slots)) λ ρ told. Repeat.whole-arr 𝓤 H A W Cell.R 65540 tt ρ) d60
 
           d62 : Typed.Typed 𝓤 H A 𝓣 E G17 b34 Δ0 at62
-          d62 = Typed.s-seq 𝓤 H A W 𝓣 E G17 G18 b8 b33 Δ0 (Typed.pass T17 T18 s16) at61 (Repeat.t-repeat-by 𝓤 H A W E 𝓣 Cell.R (Cell.lawful 𝓤 H A W) (Cell.copies .copy 𝓤 H A W) 65540 G17 10 (Scalar.oAt 9 Cell.held λ x. Steps.only (Cell.copies .vals x)) (λ m. m .1 .1 .1 .1 .1 .1 .1 .1 .1 .0) (λ ρ. Unit) (Reads.room-gone 𝓤 H A (Syntax.tyArray Cell.held 65540)) (Cell.reads 𝓤 H A W, Path'.refl) Path'.refl (Own.told-none 𝓤 H A (G17 .slots)) λ ρ m pf wa. Gives.elem-local 𝓤 H A W E ρ Cell.R (λ x. Steps.only (Cell.copies .vals x)) (Cell.copies .tells) (Row.out 10 (G17 .locals)) m (λ ρ. Unit) pf 9 Cell.held (λ x. x) (Yields.yields-copy 𝓤 H A W (λ ρ. Unit) Cell.R Path'.refl (Cell.copies .copy 𝓤 H A W) Cell.row (λ x. x) (λ x. x) (λ ρ told. Cell.in-mem 𝓤 H A W ρ) λ ρ told. Cell.of-mem 𝓤 H A W ρ)) d61
+          d62 = Typed.s-seq 𝓤 H A W 𝓣 E G17 G18 b8 b33 Δ0 (Typed.pass T17 T18 s16) at61 (Repeat.t-repeat-by 𝓤 H A W E 𝓣 Cell.R (Cell.lawful 𝓤 H A W) (Cell.copies .copy 𝓤 H A W) 65540 G17 10 (Scalar.oAt 9 Cell.held λ x. Steps.only (Cell.copies .vals x)) (λ m. m .1 .1 .1 .1 .1 .1 .1 .1 .1 .0) (λ ρ. Unit) (Reads.room-gone 𝓤 H A ty6) (Cell.reads 𝓤 H A W, Path'.refl) Path'.refl (Own.told-none 𝓤 H A (G17 .slots)) λ ρ m pf wa. Gives.elem-local 𝓤 H A W E ρ Cell.R (λ x. Steps.only (Cell.copies .vals x)) (Cell.copies .tells) (Row.out 10 (G17 .locals)) m (λ ρ. Unit) pf 9 Cell.held (λ x. x) (Yields.yields-copy 𝓤 H A W (λ ρ. Unit) Cell.R Path'.refl (Cell.copies .copy 𝓤 H A W) Cell.row (λ x. x) (λ x. x) (λ ρ told. Cell.in-mem 𝓤 H A W ρ) λ ρ told. Cell.of-mem 𝓤 H A W ρ)) d61
 
           d63 : Typed.Typed 𝓤 H A 𝓣 E G16 b35 Δ0 at63
           d63 = Typed.s-seq 𝓤 H A W 𝓣 E G16 G17 b7 b34 Δ0 (Typed.both s15) at62 (Plain.t-call-plain 𝓤 H A W 𝓣 0 ps·0 r·0 (claims· .0) (claims· .1) "script::records::no_yarn" (known .0) E (λ pos β. β) G16 tt 9 List.[] (Call.sub-id 𝓤 H A W (G16 .slots)) tt (Reads.room-gone 𝓤 H A Cell.held) tt Path'.refl) d62
 
           d64 : Typed.Typed 𝓤 H A 𝓣 E G15 b35 Δ0 at64
-          d64 = Typed.g-pre 𝓤 H A W 𝓣 E G15 G16 b35 Δ0 (Typed.pass T15 T16 s14) at63 (AtSlots.g-as-by 𝓤 H A W E (λ ρ. Unit) G15 8 (Rows.arrF (Referent.rtF (Referent.fInt Syntax.w8)) 16388 0) (λ x. x) (Own.told-none 𝓤 H A (G15 .slots)) λ ρ told. Repeat.whole-arr 𝓤 H A W (Referent.rtF (Referent.fInt Syntax.w8)) 16388 tt ρ) d63
+          d64 = Typed.g-pre 𝓤 H A W 𝓣 E G15 G16 b35 Δ0 (Typed.pass T15 T16 s14) at63 (AtSlots.g-as-by 𝓤 H A W E (λ ρ. Unit) G15 8 (Rows.arrF held0 16388 0) (λ x. x) (Own.told-none 𝓤 H A (G15 .slots)) λ ρ told. Repeat.whole-arr 𝓤 H A W held0 16388 tt ρ) d63
 
           d65 : Typed.Typed 𝓤 H A 𝓣 E G14 b36 Δ0 at65
-          d65 = Typed.s-seq 𝓤 H A W 𝓣 E G14 G15 b6 b35 Δ0 (Typed.pass T14 T15 s13) at64 (Repeat.t-repeat 𝓤 H A W E 𝓣 (Referent.rtF (Referent.fInt Syntax.w8)) (Plain'.uint-lawful 𝓤 H A W Syntax.w8) (Copies.cRf (Referent.fInt Syntax.w8) .copy 𝓤 H A W) (Plain'.uint-makes 𝓤 H A W Syntax.w8) 16388 G14 8 (Scalar.oInt Syntax.w8 0) (λ m. 0) (Reads.room-gone 𝓤 H A (Syntax.tyArray (Syntax.tyInt Syntax.w8) 16388)) tt Path'.refl λ m wa. (Path'.refl, Dec'.lit< tt)) d64
+          d65 = Typed.s-seq 𝓤 H A W 𝓣 E G14 G15 b6 b35 Δ0 (Typed.pass T14 T15 s13) at64 (Repeat.t-repeat 𝓤 H A W E 𝓣 held0 (Plain'.uint-lawful 𝓤 H A W Syntax.w8) (Copies.cRf rf0 .copy 𝓤 H A W) (Plain'.uint-makes 𝓤 H A W Syntax.w8) 16388 G14 8 (Scalar.oInt Syntax.w8 0) (λ m. 0) (Reads.room-gone 𝓤 H A ty5) tt Path'.refl λ m wa. (Path'.refl, Dec'.lit< tt)) d64
 
           d66 : Typed.Typed 𝓤 H A 𝓣 E G13 b36 Δ0 at66
-          d66 = Typed.g-pre 𝓤 H A W 𝓣 E G13 G14 b36 Δ0 (Typed.pass T13 T14 s12) at65 (AtSlots.g-as-by 𝓤 H A W E (λ ρ. Unit) G13 7 (Rows.arrF (Referent.rtF (Referent.fInt Syntax.w8)) 600000 0) (λ x. x) (Own.told-none 𝓤 H A (G13 .slots)) λ ρ told. Repeat.whole-arr 𝓤 H A W (Referent.rtF (Referent.fInt Syntax.w8)) 600000 tt ρ) d65
+          d66 = Typed.g-pre 𝓤 H A W 𝓣 E G13 G14 b36 Δ0 (Typed.pass T13 T14 s12) at65 (AtSlots.g-as-by 𝓤 H A W E (λ ρ. Unit) G13 7 (Rows.arrF held0 600000 0) (λ x. x) (Own.told-none 𝓤 H A (G13 .slots)) λ ρ told. Repeat.whole-arr 𝓤 H A W held0 600000 tt ρ) d65
 
           d67 : Typed.Typed 𝓤 H A 𝓣 E G12 b37 Δ0 at67
-          d67 = Typed.s-seq 𝓤 H A W 𝓣 E G12 G13 b5 b36 Δ0 (Typed.pass T12 T13 s11) at66 (Repeat.t-repeat 𝓤 H A W E 𝓣 (Referent.rtF (Referent.fInt Syntax.w8)) (Plain'.uint-lawful 𝓤 H A W Syntax.w8) (Copies.cRf (Referent.fInt Syntax.w8) .copy 𝓤 H A W) (Plain'.uint-makes 𝓤 H A W Syntax.w8) 600000 G12 7 (Scalar.oInt Syntax.w8 0) (λ m. 0) (Reads.room-gone 𝓤 H A (Syntax.tyArray (Syntax.tyInt Syntax.w8) 600000)) tt Path'.refl λ m wa. (Path'.refl, Dec'.lit< tt)) d66
+          d67 = Typed.s-seq 𝓤 H A W 𝓣 E G12 G13 b5 b36 Δ0 (Typed.pass T12 T13 s11) at66 (Repeat.t-repeat 𝓤 H A W E 𝓣 held0 (Plain'.uint-lawful 𝓤 H A W Syntax.w8) (Copies.cRf rf0 .copy 𝓤 H A W) (Plain'.uint-makes 𝓤 H A W Syntax.w8) 600000 G12 7 (Scalar.oInt Syntax.w8 0) (λ m. 0) (Reads.room-gone 𝓤 H A ty4) tt Path'.refl λ m wa. (Path'.refl, Dec'.lit< tt)) d66
 
           d68 : Typed.Typed 𝓤 H A 𝓣 E G11 b37 Δ0 at68
-          d68 = Typed.g-pre 𝓤 H A W 𝓣 E G11 G12 b37 Δ0 (Typed.pass T11 T12 s10) at67 (AtSlots.g-as-by 𝓤 H A W E (λ ρ. Unit) G11 6 (Rows.arrF (Referent.rtF (Referent.fInt Syntax.w32)) 262160 0) (λ x. x) (Own.told-none 𝓤 H A (G11 .slots)) λ ρ told. Repeat.whole-arr 𝓤 H A W (Referent.rtF (Referent.fInt Syntax.w32)) 262160 tt ρ) d67
+          d68 = Typed.g-pre 𝓤 H A W 𝓣 E G11 G12 b37 Δ0 (Typed.pass T11 T12 s10) at67 (AtSlots.g-as-by 𝓤 H A W E (λ ρ. Unit) G11 6 (Rows.arrF held1 262160 0) (λ x. x) (Own.told-none 𝓤 H A (G11 .slots)) λ ρ told. Repeat.whole-arr 𝓤 H A W held1 262160 tt ρ) d67
 
           d69 : Typed.Typed 𝓤 H A 𝓣 E G10 b38 Δ0 at69
-          d69 = Typed.s-seq 𝓤 H A W 𝓣 E G10 G11 b4 b37 Δ0 (Typed.pass T10 T11 s9) at68 (Repeat.t-repeat 𝓤 H A W E 𝓣 (Referent.rtF (Referent.fInt Syntax.w32)) (Plain'.uint-lawful 𝓤 H A W Syntax.w32) (Copies.cRf (Referent.fInt Syntax.w32) .copy 𝓤 H A W) (Plain'.uint-makes 𝓤 H A W Syntax.w32) 262160 G10 6 (Scalar.oInt Syntax.w32 0) (λ m. 0) (Reads.room-gone 𝓤 H A (Syntax.tyArray (Syntax.tyInt Syntax.w32) 262160)) tt Path'.refl λ m wa. (Path'.refl, Dec'.lit< tt)) d68
+          d69 = Typed.s-seq 𝓤 H A W 𝓣 E G10 G11 b4 b37 Δ0 (Typed.pass T10 T11 s9) at68 (Repeat.t-repeat 𝓤 H A W E 𝓣 held1 (Plain'.uint-lawful 𝓤 H A W Syntax.w32) (Copies.cRf rf1 .copy 𝓤 H A W) (Plain'.uint-makes 𝓤 H A W Syntax.w32) 262160 G10 6 (Scalar.oInt Syntax.w32 0) (λ m. 0) (Reads.room-gone 𝓤 H A ty2) tt Path'.refl λ m wa. (Path'.refl, Dec'.lit< tt)) d68
 
           d70 : Typed.Typed 𝓤 H A 𝓣 E G9 b38 Δ0 at70
-          d70 = Typed.g-pre 𝓤 H A W 𝓣 E G9 G10 b38 Δ0 (Typed.pass T9 T10 s8) at69 (AtSlots.g-as-by 𝓤 H A W E (λ ρ. Unit) G9 5 (Rows.arrF (Referent.rtF (Referent.fInt Syntax.w32)) 32772 0) (λ x. x) (Own.told-none 𝓤 H A (G9 .slots)) λ ρ told. Repeat.whole-arr 𝓤 H A W (Referent.rtF (Referent.fInt Syntax.w32)) 32772 tt ρ) d69
+          d70 = Typed.g-pre 𝓤 H A W 𝓣 E G9 G10 b38 Δ0 (Typed.pass T9 T10 s8) at69 (AtSlots.g-as-by 𝓤 H A W E (λ ρ. Unit) G9 5 (Rows.arrF held1 32772 0) (λ x. x) (Own.told-none 𝓤 H A (G9 .slots)) λ ρ told. Repeat.whole-arr 𝓤 H A W held1 32772 tt ρ) d69
 
           d71 : Typed.Typed 𝓤 H A 𝓣 E G8 b39 Δ0 at71
-          d71 = Typed.s-seq 𝓤 H A W 𝓣 E G8 G9 b3 b38 Δ0 (Typed.pass T8 T9 s7) at70 (Repeat.t-repeat 𝓤 H A W E 𝓣 (Referent.rtF (Referent.fInt Syntax.w32)) (Plain'.uint-lawful 𝓤 H A W Syntax.w32) (Copies.cRf (Referent.fInt Syntax.w32) .copy 𝓤 H A W) (Plain'.uint-makes 𝓤 H A W Syntax.w32) 32772 G8 5 (Scalar.oInt Syntax.w32 0) (λ m. 0) (Reads.room-gone 𝓤 H A (Syntax.tyArray (Syntax.tyInt Syntax.w32) 32772)) tt Path'.refl λ m wa. (Path'.refl, Dec'.lit< tt)) d70
+          d71 = Typed.s-seq 𝓤 H A W 𝓣 E G8 G9 b3 b38 Δ0 (Typed.pass T8 T9 s7) at70 (Repeat.t-repeat 𝓤 H A W E 𝓣 held1 (Plain'.uint-lawful 𝓤 H A W Syntax.w32) (Copies.cRf rf1 .copy 𝓤 H A W) (Plain'.uint-makes 𝓤 H A W Syntax.w32) 32772 G8 5 (Scalar.oInt Syntax.w32 0) (λ m. 0) (Reads.room-gone 𝓤 H A ty0) tt Path'.refl λ m wa. (Path'.refl, Dec'.lit< tt)) d70
 
           d72 : Typed.Typed 𝓤 H A 𝓣 E G7 b39 Δ0 at72
-          d72 = Typed.g-pre 𝓤 H A W 𝓣 E G7 G8 b39 Δ0 (Typed.pass T7 T8 s6) at71 (AtSlots.g-as-by 𝓤 H A W E (λ ρ. Unit) G7 4 (Rows.arrF (Referent.rtF (Referent.fInt Syntax.w32)) 32772 0) (λ x. x) (Own.told-none 𝓤 H A (G7 .slots)) λ ρ told. Repeat.whole-arr 𝓤 H A W (Referent.rtF (Referent.fInt Syntax.w32)) 32772 tt ρ) d71
+          d72 = Typed.g-pre 𝓤 H A W 𝓣 E G7 G8 b39 Δ0 (Typed.pass T7 T8 s6) at71 (AtSlots.g-as-by 𝓤 H A W E (λ ρ. Unit) G7 4 (Rows.arrF held1 32772 0) (λ x. x) (Own.told-none 𝓤 H A (G7 .slots)) λ ρ told. Repeat.whole-arr 𝓤 H A W held1 32772 tt ρ) d71
 
           d73 : Typed.Typed 𝓤 H A 𝓣 E G6 b40 Δ0 at73
-          d73 = Typed.s-seq 𝓤 H A W 𝓣 E G6 G7 b2 b39 Δ0 (Typed.pass T6 T7 s5) at72 (Repeat.t-repeat 𝓤 H A W E 𝓣 (Referent.rtF (Referent.fInt Syntax.w32)) (Plain'.uint-lawful 𝓤 H A W Syntax.w32) (Copies.cRf (Referent.fInt Syntax.w32) .copy 𝓤 H A W) (Plain'.uint-makes 𝓤 H A W Syntax.w32) 32772 G6 4 (Scalar.oInt Syntax.w32 0) (λ m. 0) (Reads.room-gone 𝓤 H A (Syntax.tyArray (Syntax.tyInt Syntax.w32) 32772)) tt Path'.refl λ m wa. (Path'.refl, Dec'.lit< tt)) d72
+          d73 = Typed.s-seq 𝓤 H A W 𝓣 E G6 G7 b2 b39 Δ0 (Typed.pass T6 T7 s5) at72 (Repeat.t-repeat 𝓤 H A W E 𝓣 held1 (Plain'.uint-lawful 𝓤 H A W Syntax.w32) (Copies.cRf rf1 .copy 𝓤 H A W) (Plain'.uint-makes 𝓤 H A W Syntax.w32) 32772 G6 4 (Scalar.oInt Syntax.w32 0) (λ m. 0) (Reads.room-gone 𝓤 H A ty0) tt Path'.refl λ m wa. (Path'.refl, Dec'.lit< tt)) d72
 
           d74 : Typed.Typed 𝓤 H A 𝓣 E G5 b40 Δ0 at74
-          d74 = Typed.g-pre 𝓤 H A W 𝓣 E G5 G6 b40 Δ0 (Typed.pass T5 T6 s4) at73 (AtSlots.g-as-by 𝓤 H A W E (λ ρ. Unit) G5 3 (Rows.arrF (Referent.rtF (Referent.fInt Syntax.w32)) 65540 0) (λ x. x) (Own.told-none 𝓤 H A (G5 .slots)) λ ρ told. Repeat.whole-arr 𝓤 H A W (Referent.rtF (Referent.fInt Syntax.w32)) 65540 tt ρ) d73
+          d74 = Typed.g-pre 𝓤 H A W 𝓣 E G5 G6 b40 Δ0 (Typed.pass T5 T6 s4) at73 (AtSlots.g-as-by 𝓤 H A W E (λ ρ. Unit) G5 3 (Rows.arrF held1 65540 0) (λ x. x) (Own.told-none 𝓤 H A (G5 .slots)) λ ρ told. Repeat.whole-arr 𝓤 H A W held1 65540 tt ρ) d73
 
           d75 : Typed.Typed 𝓤 H A 𝓣 E G4 b41 Δ0 at75
-          d75 = Typed.s-seq 𝓤 H A W 𝓣 E G4 G5 b1 b40 Δ0 (Typed.pass T4 T5 s3) at74 (Repeat.t-repeat 𝓤 H A W E 𝓣 (Referent.rtF (Referent.fInt Syntax.w32)) (Plain'.uint-lawful 𝓤 H A W Syntax.w32) (Copies.cRf (Referent.fInt Syntax.w32) .copy 𝓤 H A W) (Plain'.uint-makes 𝓤 H A W Syntax.w32) 65540 G4 3 (Scalar.oInt Syntax.w32 0) (λ m. 0) (Reads.room-gone 𝓤 H A (Syntax.tyArray (Syntax.tyInt Syntax.w32) 65540)) tt Path'.refl λ m wa. (Path'.refl, Dec'.lit< tt)) d74
+          d75 = Typed.s-seq 𝓤 H A W 𝓣 E G4 G5 b1 b40 Δ0 (Typed.pass T4 T5 s3) at74 (Repeat.t-repeat 𝓤 H A W E 𝓣 held1 (Plain'.uint-lawful 𝓤 H A W Syntax.w32) (Copies.cRf rf1 .copy 𝓤 H A W) (Plain'.uint-makes 𝓤 H A W Syntax.w32) 65540 G4 3 (Scalar.oInt Syntax.w32 0) (λ m. 0) (Reads.room-gone 𝓤 H A ty1) tt Path'.refl λ m wa. (Path'.refl, Dec'.lit< tt)) d74
 
           d76 : Typed.Typed 𝓤 H A 𝓣 E G3 b41 Δ0 at76
-          d76 = Typed.g-pre 𝓤 H A W 𝓣 E G3 G4 b41 Δ0 (Typed.pass T3 T4 s2) at75 (AtSlots.g-as-by 𝓤 H A W E (λ ρ. Unit) G3 2 (Rows.arrF (Referent.rtF (Referent.fInt Syntax.w32)) 32772 0) (λ x. x) (Own.told-none 𝓤 H A (G3 .slots)) λ ρ told. Repeat.whole-arr 𝓤 H A W (Referent.rtF (Referent.fInt Syntax.w32)) 32772 tt ρ) d75
+          d76 = Typed.g-pre 𝓤 H A W 𝓣 E G3 G4 b41 Δ0 (Typed.pass T3 T4 s2) at75 (AtSlots.g-as-by 𝓤 H A W E (λ ρ. Unit) G3 2 (Rows.arrF held1 32772 0) (λ x. x) (Own.told-none 𝓤 H A (G3 .slots)) λ ρ told. Repeat.whole-arr 𝓤 H A W held1 32772 tt ρ) d75
 
           d77 : Typed.Typed 𝓤 H A 𝓣 E G2 b42 Δ0 at77
-          d77 = Typed.s-seq 𝓤 H A W 𝓣 E G2 G3 b0 b41 Δ0 (Typed.pass T2 T3 s1) at76 (Repeat.t-repeat 𝓤 H A W E 𝓣 (Referent.rtF (Referent.fInt Syntax.w32)) (Plain'.uint-lawful 𝓤 H A W Syntax.w32) (Copies.cRf (Referent.fInt Syntax.w32) .copy 𝓤 H A W) (Plain'.uint-makes 𝓤 H A W Syntax.w32) 32772 G2 2 (Scalar.oInt Syntax.w32 0) (λ m. 0) (Reads.room-gone 𝓤 H A (Syntax.tyArray (Syntax.tyInt Syntax.w32) 32772)) tt Path'.refl λ m wa. (Path'.refl, Dec'.lit< tt)) d76
+          d77 = Typed.s-seq 𝓤 H A W 𝓣 E G2 G3 b0 b41 Δ0 (Typed.pass T2 T3 s1) at76 (Repeat.t-repeat 𝓤 H A W E 𝓣 held1 (Plain'.uint-lawful 𝓤 H A W Syntax.w32) (Copies.cRf rf1 .copy 𝓤 H A W) (Plain'.uint-makes 𝓤 H A W Syntax.w32) 32772 G2 2 (Scalar.oInt Syntax.w32 0) (λ m. 0) (Reads.room-gone 𝓤 H A ty0) tt Path'.refl λ m wa. (Path'.refl, Dec'.lit< tt)) d76
 
           d78 : Typed.Typed 𝓤 H A 𝓣 E G0 b42 Δ0 at78
-          d78 = Typed.g-pre 𝓤 H A W 𝓣 E G0 G2 b42 Δ0 (Typed.give s0) at77 (Know.g-shs-known 𝓤 H A W (Referent.fInt Syntax.w8) E G0 1 0 (Syntax.tyRef (Syntax.named 0) Syntax.imm (Syntax.tyInt Syntax.w8)) (Row.lease (κs .0) (qs .0)) 0 (λ x. x) record { fits = Dec'.lit< tt } (Reads.as-is 𝓤 H A (Rows'.sslice (Referent.rtF (Referent.fInt Syntax.w8)) (Syntax.tyRef (Syntax.named 0) Syntax.imm (Syntax.tyInt Syntax.w8)) 0)) Path'.refl tt) d77
+          d78 = Typed.g-pre 𝓤 H A W 𝓣 E G0 G2 b42 Δ0 (Typed.give s0) at77 (Know.g-shs-known 𝓤 H A W rf0 E G0 1 0 ty17 slot0 0 (λ x. x) record { fits = Dec'.lit< tt } (Reads.as-is 𝓤 H A (Rows'.sslice held0 ty17 0)) Path'.refl tt) d77
 
           pub typed : Typed.Typed 𝓤 H A 𝓣 E (Function.Γin 1 ps r xs m κs qs) b42 (Function.Δret 1 ps r xs m κs qs) Φ
           typed = d78
 
       module _ (κs : Lifetimes.Lfts 1) where
         pub record Args : Type 0 where
-          pub script : Kinds.Den {n = 1} κs (ShrSlice.pShrS (Referent.rtF (Referent.fInt Syntax.w8)) 0 tt)
+          pub script : Kinds.Den {n = 1} κs (ShrSlice.pShrS held0 0 tt)
 
         abbrev pub dens : (a : Args) → Kinds.Dens κs ps
         dens = λ a. (a .script, tt)
@@ -1663,14 +2024,14 @@ module _ (claims· : Claims) where
 
       module _ (before· : After-kept) where
         abbrev pub After-each·own : Type 0
-        After-each·own = Called.Called ps·1 r·1 (claims· .3) T40 (record { pos = 1; ty = Syntax.tyRef (Syntax.named 0) Syntax.imm (Syntax.tyInt Syntax.w8); ref = λ x. x }, (record { pos = 13; ty = Syntax.tyRef Syntax.erased Syntax.mut (Syntax.tyArray (Syntax.tyInt Syntax.w32) 32772); ref = λ x. x }, (record { pos = 14; ty = Syntax.tyRef Syntax.erased Syntax.mut (Syntax.tyArray (Syntax.tyInt Syntax.w8) 16388); ref = λ x. x }, (record { pos = 15; ty = Syntax.tyRef Syntax.erased Syntax.mut (Syntax.tyArray (Syntax.tyInt Syntax.w32) 65540); ref = λ x. x }, (record { pos = 16; ty = Syntax.tyRef Syntax.erased Syntax.mut (Syntax.tyArray (Syntax.tyInt Syntax.w32) 32772); ref = λ x. x }, (record { pos = 17; ty = Syntax.tyRef Syntax.erased Syntax.mut (Syntax.tyArray (Syntax.tyInt Syntax.w32) 32772); ref = λ x. x }, (record { pos = 18; ty = Syntax.tyRef Syntax.erased Syntax.mut (Syntax.tyArray (Syntax.tyInt Syntax.w32) 262160); ref = λ x. x }, (record { pos = 19; ty = Syntax.tyRef Syntax.erased Syntax.mut (Syntax.tyArray (Syntax.tyInt Syntax.w8) 600000); ref = λ x. x }, (record { pos = 20; ty = Syntax.tyRef Syntax.erased Syntax.mut (Syntax.tyArray Cell.behind 65540); ref = λ x. x }, (record { pos = 21; ty = Syntax.tyRef Syntax.erased Syntax.mut (Syntax.tyArray Cell.behind 32772); ref = λ x. x }, tt)))))))))) (m30 (before· .before) (before· .kept .given))
+        After-each·own = Called.Called ps·1 r·1 (claims· .3) T40 (record { pos = 1; ty = Syntax.tyRef (Syntax.named 0) Syntax.imm ty3; ref = λ x. x }, (record { pos = 13; ty = Syntax.tyRef Syntax.erased Syntax.mut ty0; ref = λ x. x }, (record { pos = 14; ty = Syntax.tyRef Syntax.erased Syntax.mut ty5; ref = λ x. x }, (record { pos = 15; ty = Syntax.tyRef Syntax.erased Syntax.mut ty1; ref = λ x. x }, (record { pos = 16; ty = Syntax.tyRef Syntax.erased Syntax.mut ty0; ref = λ x. x }, (record { pos = 17; ty = Syntax.tyRef Syntax.erased Syntax.mut ty0; ref = λ x. x }, (record { pos = 18; ty = Syntax.tyRef Syntax.erased Syntax.mut ty2; ref = λ x. x }, (record { pos = 19; ty = Syntax.tyRef Syntax.erased Syntax.mut ty4; ref = λ x. x }, (record { pos = 20; ty = Syntax.tyRef Syntax.erased Syntax.mut ty13; ref = λ x. x }, (record { pos = 21; ty = Syntax.tyRef Syntax.erased Syntax.mut ty15; ref = λ x. x }, tt)))))))))) (m30 (before· .before) (before· .kept .given))
 
       pub record After-each : Type 0 where
         pub before : After-kept
         pub each : After-each·own before
 
       abbrev pub After-each·gave : (c : After-each) → s39 .gives (m30 (c .before .before) (c .before .kept .given))
-      After-each·gave = λ c. Called.given ps·1 r·1 (claims· .3) T40 (record { pos = 1; ty = Syntax.tyRef (Syntax.named 0) Syntax.imm (Syntax.tyInt Syntax.w8); ref = λ x. x }, (record { pos = 13; ty = Syntax.tyRef Syntax.erased Syntax.mut (Syntax.tyArray (Syntax.tyInt Syntax.w32) 32772); ref = λ x. x }, (record { pos = 14; ty = Syntax.tyRef Syntax.erased Syntax.mut (Syntax.tyArray (Syntax.tyInt Syntax.w8) 16388); ref = λ x. x }, (record { pos = 15; ty = Syntax.tyRef Syntax.erased Syntax.mut (Syntax.tyArray (Syntax.tyInt Syntax.w32) 65540); ref = λ x. x }, (record { pos = 16; ty = Syntax.tyRef Syntax.erased Syntax.mut (Syntax.tyArray (Syntax.tyInt Syntax.w32) 32772); ref = λ x. x }, (record { pos = 17; ty = Syntax.tyRef Syntax.erased Syntax.mut (Syntax.tyArray (Syntax.tyInt Syntax.w32) 32772); ref = λ x. x }, (record { pos = 18; ty = Syntax.tyRef Syntax.erased Syntax.mut (Syntax.tyArray (Syntax.tyInt Syntax.w32) 262160); ref = λ x. x }, (record { pos = 19; ty = Syntax.tyRef Syntax.erased Syntax.mut (Syntax.tyArray (Syntax.tyInt Syntax.w8) 600000); ref = λ x. x }, (record { pos = 20; ty = Syntax.tyRef Syntax.erased Syntax.mut (Syntax.tyArray Cell.behind 65540); ref = λ x. x }, (record { pos = 21; ty = Syntax.tyRef Syntax.erased Syntax.mut (Syntax.tyArray Cell.behind 32772); ref = λ x. x }, tt)))))))))) (m30 (c .before .before) (c .before .kept .given)) (c .each)
+      After-each·gave = λ c. Called.given ps·1 r·1 (claims· .3) T40 (record { pos = 1; ty = Syntax.tyRef (Syntax.named 0) Syntax.imm ty3; ref = λ x. x }, (record { pos = 13; ty = Syntax.tyRef Syntax.erased Syntax.mut ty0; ref = λ x. x }, (record { pos = 14; ty = Syntax.tyRef Syntax.erased Syntax.mut ty5; ref = λ x. x }, (record { pos = 15; ty = Syntax.tyRef Syntax.erased Syntax.mut ty1; ref = λ x. x }, (record { pos = 16; ty = Syntax.tyRef Syntax.erased Syntax.mut ty0; ref = λ x. x }, (record { pos = 17; ty = Syntax.tyRef Syntax.erased Syntax.mut ty0; ref = λ x. x }, (record { pos = 18; ty = Syntax.tyRef Syntax.erased Syntax.mut ty2; ref = λ x. x }, (record { pos = 19; ty = Syntax.tyRef Syntax.erased Syntax.mut ty4; ref = λ x. x }, (record { pos = 20; ty = Syntax.tyRef Syntax.erased Syntax.mut ty13; ref = λ x. x }, (record { pos = 21; ty = Syntax.tyRef Syntax.erased Syntax.mut ty15; ref = λ x. x }, tt)))))))))) (m30 (c .before .before) (c .before .kept .given)) (c .each)
 
       abbrev pub m32 : (before : After-kept) → (given : s39 .gives (m30 (before .before) (before .kept .given))) → Typed.Mo T42
       m32 = λ before given. s40 (m31 before given)
@@ -1743,7 +2104,7 @@ module _ (claims· : Claims) where
         lay2 = λ c. (Path'.refl, (Path'.refl, (Path'.refl, (Path'.refl, (Path'.refl, (Path'.refl, (Path'.refl, (Path'.refl, lay3 record { before = c .before; each = c .each }))))))))
 
         lay1 : (c : After-no-yarn) → at62 (W0 (c .before .before .κs) (c .before .before .args)) (m16 (c .before) (After-no-yarn·gave c))
-        lay1 = λ c. λ g. λ g'. λ g''. λ g'3. λ g'4. λ g'5. λ g'6. λ g'7. λ g'8. (each-requires record { before = record { before = record { before = record { before = record { before = record { before = record { before = record { before = record { before = record { before = c .before; no-yarn = c .no-yarn }; numbers = record { given = g } }; plan = record { given = g' } }; table = record { given = g'' } }; history = record { given = g'3 } }; ends = record { given = g'4 } }; work = record { given = g'5 } }; output = record { given = g'6 } }; sheet = record { given = g'7 } }; kept = record { given = g'8 } }, λ g'9. lay2 record { before = record { before = record { before = record { before = record { before = record { before = record { before = record { before = record { before = record { before = record { before = c .before; no-yarn = c .no-yarn }; numbers = record { given = g } }; plan = record { given = g' } }; table = record { given = g'' } }; history = record { given = g'3 } }; ends = record { given = g'4 } }; work = record { given = g'5 } }; output = record { given = g'6 } }; sheet = record { given = g'7 } }; kept = record { given = g'8 } }; each = Called.called ps·1 r·1 (claims· .3) T40 (record { pos = 1; ty = Syntax.tyRef (Syntax.named 0) Syntax.imm (Syntax.tyInt Syntax.w8); ref = λ x. x }, (record { pos = 13; ty = Syntax.tyRef Syntax.erased Syntax.mut (Syntax.tyArray (Syntax.tyInt Syntax.w32) 32772); ref = λ x. x }, (record { pos = 14; ty = Syntax.tyRef Syntax.erased Syntax.mut (Syntax.tyArray (Syntax.tyInt Syntax.w8) 16388); ref = λ x. x }, (record { pos = 15; ty = Syntax.tyRef Syntax.erased Syntax.mut (Syntax.tyArray (Syntax.tyInt Syntax.w32) 65540); ref = λ x. x }, (record { pos = 16; ty = Syntax.tyRef Syntax.erased Syntax.mut (Syntax.tyArray (Syntax.tyInt Syntax.w32) 32772); ref = λ x. x }, (record { pos = 17; ty = Syntax.tyRef Syntax.erased Syntax.mut (Syntax.tyArray (Syntax.tyInt Syntax.w32) 32772); ref = λ x. x }, (record { pos = 18; ty = Syntax.tyRef Syntax.erased Syntax.mut (Syntax.tyArray (Syntax.tyInt Syntax.w32) 262160); ref = λ x. x }, (record { pos = 19; ty = Syntax.tyRef Syntax.erased Syntax.mut (Syntax.tyArray (Syntax.tyInt Syntax.w8) 600000); ref = λ x. x }, (record { pos = 20; ty = Syntax.tyRef Syntax.erased Syntax.mut (Syntax.tyArray Cell.behind 65540); ref = λ x. x }, (record { pos = 21; ty = Syntax.tyRef Syntax.erased Syntax.mut (Syntax.tyArray Cell.behind 32772); ref = λ x. x }, tt)))))))))) (m30 record { before = record { before = record { before = record { before = record { before = record { before = record { before = record { before = record { before = c .before; no-yarn = c .no-yarn }; numbers = record { given = g } }; plan = record { given = g' } }; table = record { given = g'' } }; history = record { given = g'3 } }; ends = record { given = g'4 } }; work = record { given = g'5 } }; output = record { given = g'6 } }; sheet = record { given = g'7 } } g'8) g'9 })
+        lay1 = λ c. λ g. λ g'. λ g''. λ g'3. λ g'4. λ g'5. λ g'6. λ g'7. λ g'8. (each-requires record { before = record { before = record { before = record { before = record { before = record { before = record { before = record { before = record { before = record { before = c .before; no-yarn = c .no-yarn }; numbers = record { given = g } }; plan = record { given = g' } }; table = record { given = g'' } }; history = record { given = g'3 } }; ends = record { given = g'4 } }; work = record { given = g'5 } }; output = record { given = g'6 } }; sheet = record { given = g'7 } }; kept = record { given = g'8 } }, λ g'9. lay2 record { before = record { before = record { before = record { before = record { before = record { before = record { before = record { before = record { before = record { before = record { before = c .before; no-yarn = c .no-yarn }; numbers = record { given = g } }; plan = record { given = g' } }; table = record { given = g'' } }; history = record { given = g'3 } }; ends = record { given = g'4 } }; work = record { given = g'5 } }; output = record { given = g'6 } }; sheet = record { given = g'7 } }; kept = record { given = g'8 } }; each = Called.called ps·1 r·1 (claims· .3) T40 (record { pos = 1; ty = Syntax.tyRef (Syntax.named 0) Syntax.imm ty3; ref = λ x. x }, (record { pos = 13; ty = Syntax.tyRef Syntax.erased Syntax.mut ty0; ref = λ x. x }, (record { pos = 14; ty = Syntax.tyRef Syntax.erased Syntax.mut ty5; ref = λ x. x }, (record { pos = 15; ty = Syntax.tyRef Syntax.erased Syntax.mut ty1; ref = λ x. x }, (record { pos = 16; ty = Syntax.tyRef Syntax.erased Syntax.mut ty0; ref = λ x. x }, (record { pos = 17; ty = Syntax.tyRef Syntax.erased Syntax.mut ty0; ref = λ x. x }, (record { pos = 18; ty = Syntax.tyRef Syntax.erased Syntax.mut ty2; ref = λ x. x }, (record { pos = 19; ty = Syntax.tyRef Syntax.erased Syntax.mut ty4; ref = λ x. x }, (record { pos = 20; ty = Syntax.tyRef Syntax.erased Syntax.mut ty13; ref = λ x. x }, (record { pos = 21; ty = Syntax.tyRef Syntax.erased Syntax.mut ty15; ref = λ x. x }, tt)))))))))) (m30 record { before = record { before = record { before = record { before = record { before = record { before = record { before = record { before = record { before = c .before; no-yarn = c .no-yarn }; numbers = record { given = g } }; plan = record { given = g' } }; table = record { given = g'' } }; history = record { given = g'3 } }; ends = record { given = g'4 } }; work = record { given = g'5 } }; output = record { given = g'6 } }; sheet = record { given = g'7 } } g'8) g'9 })
 
         pub laid : (c : Start) → at78 (W0 (c .κs) (c .args)) (m0 (c .κs) (c .args))
         laid = λ c. λ g. (no-yarn-requires record { before = c; shared-slice-known = record { given = g } }, λ g'. lay1 record { before = record { before = c; shared-slice-known = record { given = g } }; no-yarn = Called.called ps·0 r·0 (claims· .1) T16 tt (m15 c g) g' })

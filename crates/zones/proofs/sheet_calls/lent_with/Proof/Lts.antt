@@ -63,15 +63,367 @@ use mathlib.Core.Path as Path'
 use mir.Syntax
 use prog.Wp
 use types.Kit
+use denote.RattleType
+
+abbrev held0 : RattleType.RattleType
+held0 = Declared.row Held.the-type
+
+abbrev held1 : RattleType.RattleType
+held1 = Declared.row Line.the-type
+
+abbrev rf0 : Referent.Rf
+rf0 = Referent.fInt Syntax.w32
+
+abbrev held2 : RattleType.RattleType
+held2 = Referent.rtF rf0
+
+abbrev held3 : RattleType.RattleType
+held3 = Declared.row Outcome.the-type
+
+abbrev ty0 : Syntax.Ty
+ty0 = Syntax.tyInt Syntax.w32
+
+abbrev ty1 : Syntax.Ty
+ty1 = Syntax.tyStruct (List._∷_ 112 (List._∷_ 121 (List._∷_ 114 (List._∷_ 97 (List._∷_ 109 (List._∷_ 105 (List._∷_ 100 (List._∷_ 58 (List._∷_ 58 (List._∷_ 83 (List._∷_ 116 (List._∷_ 97 (List._∷_ 116 (List._∷_ 101 List.[])))))))))))))) (Syntax.tcons ty0 (Syntax.tcons ty0 (Syntax.tcons ty0 (Syntax.tcons ty0 (Syntax.tcons ty0 (Syntax.tcons (Syntax.tyArray ty0 64) Syntax.tnil))))))
+
+abbrev ty2 : Syntax.Ty
+ty2 = Syntax.tyInt Syntax.w64
+
+abbrev ty3 : Syntax.Ty
+ty3 = Syntax.tyRef Syntax.erased Syntax.imm ty0
+
+abbrev sym0 : Syntax.Sym
+sym0 = List._∷_ 38 (List._∷_ 91 (List._∷_ 93 List.[]))
+
+abbrev fields0 : Syntax.Tys
+fields0 = Syntax.tcons ty2 Syntax.tnil
+
+abbrev ty4 : Syntax.Ty
+ty4 = Syntax.tyStruct sym0 (Syntax.tcons ty3 fields0)
+
+abbrev ty5 : Syntax.Ty
+ty5 = Syntax.tyRef Syntax.erased Syntax.mut ty0
+
+abbrev ty6 : Syntax.Ty
+ty6 = Syntax.tyStruct sym0 (Syntax.tcons ty5 fields0)
+
+abbrev ty7 : Syntax.Ty
+ty7 = Syntax.tyRef Syntax.erased Syntax.mut Cell.behind
+
+abbrev ty8 : Syntax.Ty
+ty8 = Syntax.tyStruct sym0 (Syntax.tcons ty7 fields0)
+
+abbrev held4 : RattleType.RattleType
+held4 = Declared.row State.the-type
+
+abbrev steps0 : List.List Syntax.Step
+steps0 = List._∷_ (Syntax.field 0) List.[]
+
+abbrev steps1 : List.List Syntax.Step
+steps1 = List._∷_ (Syntax.field 1) List.[]
+
+abbrev steps2 : List.List Syntax.Step
+steps2 = List._∷_ (Syntax.field 2) List.[]
+
+abbrev steps3 : List.List Syntax.Step
+steps3 = List._∷_ (Syntax.field 3) List.[]
+
+abbrev steps4 : List.List Syntax.Step
+steps4 = List._∷_ (Syntax.field 4) List.[]
+
+abbrev steps5 : List.List Syntax.Step
+steps5 = List._∷_ (Syntax.field 5) List.[]
+
+abbrev steps6 : List.List Syntax.Step
+steps6 = List._∷_ (Syntax.field 0) (List._∷_ (Syntax.deref ty0) List.[])
+
+abbrev steps7 : List.List Syntax.Step
+steps7 = List._∷_ (Syntax.field 0) (List._∷_ (Syntax.deref Cell.held) List.[])
+
+abbrev ty9 : Syntax.Ty
+ty9 = Syntax.tyStruct (List._∷_ 112 (List._∷_ 121 (List._∷_ 114 (List._∷_ 97 (List._∷_ 109 (List._∷_ 105 (List._∷_ 100 (List._∷_ 58 (List._∷_ 58 (List._∷_ 79 (List._∷_ 117 (List._∷_ 116 (List._∷_ 99 (List._∷_ 111 (List._∷_ 109 (List._∷_ 101 List.[])))))))))))))))) (Syntax.tcons ty1 (Syntax.tcons (Syntax.tyEnum (List._∷_ 100 (List._∷_ 97 (List._∷_ 114 (List._∷_ 116 (List._∷_ 115 (List._∷_ 58 (List._∷_ 58 (List._∷_ 65 (List._∷_ 110 (List._∷_ 115 (List._∷_ 119 (List._∷_ 101 (List._∷_ 114 List.[]))))))))))))) (Syntax.ttcons fields0 (Syntax.ttcons Syntax.tnil (Syntax.ttcons fields0 (Syntax.ttcons (Syntax.tcons ty2 fields0) (Syntax.ttcons Syntax.tnil (Syntax.ttcons Syntax.tnil (Syntax.ttcons Syntax.tnil (Syntax.ttcons fields0 (Syntax.ttcons fields0 (Syntax.ttcons fields0 (Syntax.ttcons fields0 (Syntax.ttcons fields0 (Syntax.ttcons fields0 (Syntax.ttcons fields0 (Syntax.ttcons Syntax.tnil (Syntax.ttcons Syntax.tnil (Syntax.ttcons fields0 Syntax.ttnil)))))))))))))))))) Syntax.tnil))
+
+abbrev local0 : Row.Entry
+local0 = (0, Rows.any-gone ty9)
+
+abbrev local1 : Row.Entry
+local1 = (1, Rows.whole held0)
+
+abbrev local2 : Row.Entry
+local2 = (2, Rows.whole held1)
+
+abbrev ty10 : Syntax.Ty
+ty10 = Syntax.tyRef (Syntax.named 0) Syntax.imm ty0
+
+abbrev local3 : Row.Entry
+local3 = (3, Rows.sslice held2 ty10 0)
+
+abbrev ty11 : Syntax.Ty
+ty11 = Syntax.tyRef (Syntax.named 1) Syntax.mut ty0
+
+abbrev local4 : Row.Entry
+local4 = (4, Mut.mslice held2 ty11 1)
+
+abbrev ty12 : Syntax.Ty
+ty12 = Syntax.tyRef (Syntax.named 2) Syntax.mut ty0
+
+abbrev local5 : Row.Entry
+local5 = (5, Mut.mslice held2 ty12 2)
+
+abbrev ty13 : Syntax.Ty
+ty13 = Syntax.tyRef (Syntax.named 3) Syntax.mut ty0
+
+abbrev local6 : Row.Entry
+local6 = (6, Mut.mslice held2 ty13 3)
+
+abbrev ty14 : Syntax.Ty
+ty14 = Syntax.tyRef (Syntax.named 4) Syntax.mut Cell.behind
+
+abbrev local7 : Row.Entry
+local7 = (7, Mut.mslice Cell.R ty14 4)
+
+abbrev ty15 : Syntax.Ty
+ty15 = Syntax.tyRef (Syntax.named 5) Syntax.mut Cell.behind
+
+abbrev local8 : Row.Entry
+local8 = (8, Mut.mslice Cell.R ty15 5)
+
+abbrev local9 : Row.Entry
+local9 = (9, Rows.any-gone ty1)
+
+abbrev local10 : Row.Entry
+local10 = (10, Rows.any-gone ty2)
+
+abbrev local11 : Row.Entry
+local11 = (11, Rows.any-gone ty2)
+
+abbrev local12 : Row.Entry
+local12 = (12, Rows.any-gone ty2)
+
+abbrev local13 : Row.Entry
+local13 = (13, Rows.any-gone ty2)
+
+abbrev local14 : Row.Entry
+local14 = (14, Rows.any-gone ty2)
+
+abbrev locals0 : List.List Row.Entry
+locals0 = List._∷_ (15, Rows.any-gone ty2) List.[]
+
+abbrev locals1 : List.List Row.Entry
+locals1 = List._∷_ local12 (List._∷_ local13 (List._∷_ local14 locals0))
+
+abbrev locals2 : List.List Row.Entry
+locals2 = List._∷_ local9 (List._∷_ local10 (List._∷_ local11 locals1))
+
+abbrev locals3 : List.List Row.Entry
+locals3 = List._∷_ local3 (List._∷_ local4 (List._∷_ local5 (List._∷_ local6 (List._∷_ local7 (List._∷_ local8 locals2)))))
+
+abbrev local15 : Row.Entry
+local15 = (16, Rows.any-gone Syntax.tyPtr)
+
+abbrev local16 : Row.Entry
+local16 = (17, Rows.any-gone ty0)
+
+abbrev local17 : Row.Entry
+local17 = (18, Rows.any-gone ty3)
+
+abbrev local18 : Row.Entry
+local18 = (19, Rows.any-gone ty4)
+
+abbrev local19 : Row.Entry
+local19 = (20, Rows.any-gone ty5)
+
+abbrev local20 : Row.Entry
+local20 = (21, Rows.any-gone ty6)
+
+abbrev local21 : Row.Entry
+local21 = (22, Rows.any-gone ty5)
+
+abbrev local22 : Row.Entry
+local22 = (23, Rows.any-gone ty6)
+
+abbrev local23 : Row.Entry
+local23 = (24, Rows.any-gone ty5)
+
+abbrev local24 : Row.Entry
+local24 = (25, Rows.any-gone ty6)
+
+abbrev local25 : Row.Entry
+local25 = (26, Rows.any-gone ty7)
+
+abbrev locals4 : List.List Row.Entry
+locals4 = List._∷_ (28, Rows.any-gone ty7) (List._∷_ (29, Rows.any-gone ty8) List.[])
+
+abbrev locals5 : List.List Row.Entry
+locals5 = List._∷_ (27, Rows.any-gone ty8) locals4
+
+abbrev locals6 : List.List Row.Entry
+locals6 = List._∷_ local23 (List._∷_ local24 (List._∷_ local25 locals5))
+
+abbrev locals7 : List.List Row.Entry
+locals7 = List._∷_ local20 (List._∷_ local21 (List._∷_ local22 locals6))
+
+abbrev locals8 : List.List Row.Entry
+locals8 = List._∷_ local17 (List._∷_ local18 (List._∷_ local19 locals7))
+
+abbrev local26 : Row.Entry
+local26 = (0, Rows.whole held3)
+
+abbrev ty16 : Syntax.Ty
+ty16 = Syntax.tyStruct (List._∷_ 122 (List._∷_ 111 (List._∷_ 110 (List._∷_ 101 (List._∷_ 115 (List._∷_ 58 (List._∷_ 58 (List._∷_ 104 (List._∷_ 101 (List._∷_ 108 (List._∷_ 100 (List._∷_ 58 (List._∷_ 58 (List._∷_ 72 (List._∷_ 101 (List._∷_ 108 (List._∷_ 100 List.[]))))))))))))))))) (Syntax.tcons ty1 (Syntax.tcons ty2 (Syntax.tcons ty2 (Syntax.tcons ty2 (Syntax.tcons ty2 (Syntax.tcons ty2 (Syntax.tcons ty2 (Syntax.tcons Syntax.tyBool Syntax.tnil))))))))
+
+abbrev local27 : Row.Entry
+local27 = (1, Rows.any-gone ty16)
+
+abbrev ty17 : Syntax.Ty
+ty17 = Syntax.tyStruct (List._∷_ 115 (List._∷_ 99 (List._∷_ 114 (List._∷_ 105 (List._∷_ 112 (List._∷_ 116 (List._∷_ 58 (List._∷_ 58 (List._∷_ 115 (List._∷_ 99 (List._∷_ 97 (List._∷_ 110 (List._∷_ 58 (List._∷_ 58 (List._∷_ 76 (List._∷_ 105 (List._∷_ 110 (List._∷_ 101 List.[])))))))))))))))))) (Syntax.tcons ty0 (Syntax.tcons ty2 (Syntax.tcons ty2 (Syntax.tcons ty2 fields0))))
+
+abbrev local28 : Row.Entry
+local28 = (2, Rows.any-gone ty17)
+
+abbrev local29 : Row.Entry
+local29 = (9, Rows.whole held4)
+
+abbrev sc0 : Row.Sc
+sc0 = Row.sInt Syntax.w64
+
+abbrev local30 : Row.Entry
+local30 = (10, Rows.sc-here sc0)
+
+abbrev local31 : Row.Entry
+local31 = (11, Rows.sc-here sc0)
+
+abbrev local32 : Row.Entry
+local32 = (12, Rows.sc-here sc0)
+
+abbrev locals9 : List.List Row.Entry
+locals9 = List._∷_ local2 (List._∷_ local3 (List._∷_ local4 (List._∷_ local5 (List._∷_ local6 (List._∷_ local7 (List._∷_ local8 (List._∷_ local29 (List._∷_ local30 (List._∷_ local31 (List._∷_ local32 (List._∷_ (13, Rows.sc-here sc0) (List._∷_ (14, Rows.sc-here sc0) locals0))))))))))))
+
+abbrev locals10 : List.List Row.Entry
+locals10 = List._∷_ (15, Rows.sc-here sc0) List.[]
+
+abbrev locals11 : List.List Row.Entry
+locals11 = List._∷_ (13, Rows.sc-here sc0) (List._∷_ (14, Rows.sc-here sc0) locals10)
+
+abbrev locals12 : List.List Row.Entry
+locals12 = List._∷_ local31 (List._∷_ local32 locals11)
+
+abbrev locals13 : List.List Row.Entry
+locals13 = List._∷_ local29 (List._∷_ local30 locals12)
+
+abbrev locals14 : List.List Row.Entry
+locals14 = List._∷_ local8 locals13
+
+abbrev locals15 : List.List Row.Entry
+locals15 = List._∷_ local6 (List._∷_ local7 locals14)
+
+abbrev sc1 : Row.Sc
+sc1 = Row.sInt Syntax.w32
+
+abbrev local33 : Row.Entry
+local33 = (17, Rows.sc-here sc1)
+
+abbrev local34 : Row.Entry
+local34 = (19, Rows.sslice held2 ty3 0)
+
+abbrev local35 : Row.Entry
+local35 = (4, Part.mslice-owedP held2 ty11 1 6 Row.off)
+
+abbrev local36 : Row.Entry
+local36 = (21, Mut.mslice held2 ty5 6)
+
+abbrev local37 : Row.Entry
+local37 = (5, Part.mslice-owedP held2 ty12 2 7 Row.off)
+
+abbrev local38 : Row.Entry
+local38 = (23, Mut.mslice held2 ty5 7)
+
+abbrev local39 : Row.Entry
+local39 = (6, Part.mslice-owedP held2 ty13 3 8 Row.off)
+
+abbrev local40 : Row.Entry
+local40 = (25, Mut.mslice held2 ty5 8)
+
+abbrev local41 : Row.Entry
+local41 = (7, Part.mslice-owedP Cell.R ty14 4 9 Row.off)
+
+abbrev local42 : Row.Entry
+local42 = (27, Mut.mslice Cell.R ty7 9)
+
+abbrev local43 : Row.Entry
+local43 = (8, Part.mslice-owedP Cell.R ty15 5 10 Row.off)
+
+abbrev locals16 : List.List Row.Entry
+locals16 = List._∷_ local3 (List._∷_ local35 (List._∷_ local37 (List._∷_ local39 (List._∷_ local41 (List._∷_ local43 locals13)))))
+
+abbrev locals17 : List.List Row.Entry
+locals17 = List._∷_ (28, Rows.any-gone ty7) (List._∷_ (29, Mut.msleft Cell.R ty7) List.[])
+
+abbrev locals18 : List.List Row.Entry
+locals18 = List._∷_ local25 (List._∷_ (27, Mut.msleft Cell.R ty7) locals17)
+
+abbrev locals19 : List.List Row.Entry
+locals19 = List._∷_ local23 (List._∷_ (25, Mut.msleft held2 ty5) locals18)
+
+abbrev locals20 : List.List Row.Entry
+locals20 = List._∷_ local21 (List._∷_ (23, Mut.msleft held2 ty5) locals19)
+
+abbrev locals21 : List.List Row.Entry
+locals21 = List._∷_ local19 (List._∷_ (21, Mut.msleft held2 ty5) locals20)
+
+abbrev locals22 : List.List Row.Entry
+locals22 = List._∷_ local9 (List._∷_ local10 (List._∷_ local11 (List._∷_ local32 locals11)))
+
+abbrev locals23 : List.List Row.Entry
+locals23 = List._∷_ local9 (List._∷_ local10 (List._∷_ local11 (List._∷_ local12 locals11)))
+
+abbrev locals24 : List.List Row.Entry
+locals24 = List._∷_ local9 (List._∷_ local10 (List._∷_ local11 (List._∷_ local12 (List._∷_ local13 (List._∷_ (14, Rows.sc-here sc0) locals10)))))
+
+abbrev locals25 : List.List Row.Entry
+locals25 = List._∷_ local9 (List._∷_ local10 (List._∷_ local11 (List._∷_ local12 (List._∷_ local13 (List._∷_ local14 locals10)))))
+
+abbrev locals26 : List.List Row.Entry
+locals26 = List._∷_ local41 (List._∷_ local43 locals2)
+
+abbrev sym1 : Syntax.Sym
+sym1 = List._∷_ 0 (List._∷_ 6 (List._∷_ 7 (List._∷_ 8 (List._∷_ 9 (List._∷_ 10 List.[])))))
+
+abbrev slots0 : List.List Row.Life
+slots0 = List._∷_ Row.off (List._∷_ Row.off List.[])
+
+abbrev slots8 : List.List Row.Life
+slots8 = List._∷_ Row.alive (List._∷_ Row.alive List.[])
+
+abbrev slots9 : List.List Row.Life
+slots9 = List._∷_ Row.alive (List._∷_ Row.alive slots8)
+
+abbrev slots10 : List.List Row.Life
+slots10 = List._∷_ Row.off (List._∷_ Row.off (List._∷_ Row.off (List._∷_ Row.off (List._∷_ Row.off (List._∷_ Row.alive slots9)))))
+
+abbrev slots11 : List.List Row.Life
+slots11 = List._∷_ Row.off (List._∷_ Row.off (List._∷_ Row.off (List._∷_ Row.off (List._∷_ Row.dead slots9))))
+
+abbrev slots12 : List.List Row.Life
+slots12 = List._∷_ Row.off (List._∷_ Row.off (List._∷_ Row.off (List._∷_ Row.off (List._∷_ Row.dead (List._∷_ Row.alive slots8)))))
+
+abbrev slots13 : List.List Row.Life
+slots13 = List._∷_ Row.off (List._∷_ Row.off (List._∷_ Row.off (List._∷_ Row.off (List._∷_ Row.dead slots8))))
+
+abbrev slots15 : List.List Row.Life
+slots15 = List._∷_ Row.off (List._∷_ Row.off (List._∷_ Row.off (List._∷_ Row.off (List._∷_ Row.dead (List._∷_ Row.alive List.[])))))
+
+abbrev slots16 : List.List Row.Life
+slots16 = List._∷_ Row.off (List._∷_ Row.off (List._∷_ Row.off (List._∷_ Row.off (List._∷_ Row.dead List.[]))))
 
 abbrev pub ps : List.List (Kinds.PK 6)
-ps = List._∷_ (Value.pVal record { ty = Declared.row Held.the-type; one = Path'.refl; val = Laws'4.val Held.the-type Laws'3.the-laws; tells = Laws'4.tells Held.the-type Laws'3.the-laws; still = Laws'4.still Held.the-type Laws'3.the-copy Exit.yes; row = Rows.whole (Declared.row Held.the-type); rd = λ x. x; mk = λ x. x } λ M 𝓤 H A W. record { copies = Laws'4.copy Held.the-type Laws'3.the-copy 𝓤 H A W; lawful = Laws'4.lawful Held.the-type Laws'3.the-laws 𝓤 H A W; makes = Laws'4.makes Held.the-type Laws'3.the-plain 𝓤 H A; in-mem = Local.mem-whole 𝓤 H A W (Declared.row Held.the-type); of-mem = Local.whole-mem 𝓤 H A W (Declared.row Held.the-type) }) (List._∷_ (Value.pVal record { ty = Declared.row Line.the-type; one = Path'.refl; val = Laws'4.val Line.the-type Laws''.the-laws; tells = Laws'4.tells Line.the-type Laws''.the-laws; still = Laws'4.still Line.the-type Laws''.the-copy Exit.yes; row = Rows.whole (Declared.row Line.the-type); rd = λ x. x; mk = λ x. x } λ M 𝓤 H A W. record { copies = Laws'4.copy Line.the-type Laws''.the-copy 𝓤 H A W; lawful = Laws'4.lawful Line.the-type Laws''.the-laws 𝓤 H A W; makes = Laws'4.makes Line.the-type Laws''.the-plain 𝓤 H A; in-mem = Local.mem-whole 𝓤 H A W (Declared.row Line.the-type); of-mem = Local.whole-mem 𝓤 H A W (Declared.row Line.the-type) }) (List._∷_ (ShrSlice.pShrS (Referent.rtF (Referent.fInt Syntax.w32)) 0 tt) (List._∷_ (MutSlice.pMutS (Referent.rtF (Referent.fInt Syntax.w32)) 1 tt) (List._∷_ (MutSlice.pMutS (Referent.rtF (Referent.fInt Syntax.w32)) 2 tt) (List._∷_ (MutSlice.pMutS (Referent.rtF (Referent.fInt Syntax.w32)) 3 tt) (List._∷_ (MutSlice.pMutS Cell.R 4 tt) (List._∷_ (MutSlice.pMutS Cell.R 5 tt) List.[])))))))
+ps = List._∷_ (Value.pVal record { ty = Declared.row Held.the-type; one = Path'.refl; val = Laws'4.val Held.the-type Laws'3.the-laws; tells = Laws'4.tells Held.the-type Laws'3.the-laws; still = Laws'4.still Held.the-type Laws'3.the-copy Exit.yes; row = Rows.whole held0; rd = λ x. x; mk = λ x. x } λ M 𝓤 H A W. record { copies = Laws'4.copy Held.the-type Laws'3.the-copy 𝓤 H A W; lawful = Laws'4.lawful Held.the-type Laws'3.the-laws 𝓤 H A W; makes = Laws'4.makes Held.the-type Laws'3.the-plain 𝓤 H A; in-mem = Local.mem-whole 𝓤 H A W held0; of-mem = Local.whole-mem 𝓤 H A W held0 }) (List._∷_ (Value.pVal record { ty = Declared.row Line.the-type; one = Path'.refl; val = Laws'4.val Line.the-type Laws''.the-laws; tells = Laws'4.tells Line.the-type Laws''.the-laws; still = Laws'4.still Line.the-type Laws''.the-copy Exit.yes; row = Rows.whole held1; rd = λ x. x; mk = λ x. x } λ M 𝓤 H A W. record { copies = Laws'4.copy Line.the-type Laws''.the-copy 𝓤 H A W; lawful = Laws'4.lawful Line.the-type Laws''.the-laws 𝓤 H A W; makes = Laws'4.makes Line.the-type Laws''.the-plain 𝓤 H A; in-mem = Local.mem-whole 𝓤 H A W held1; of-mem = Local.whole-mem 𝓤 H A W held1 }) (List._∷_ (ShrSlice.pShrS held2 0 tt) (List._∷_ (MutSlice.pMutS held2 1 tt) (List._∷_ (MutSlice.pMutS held2 2 tt) (List._∷_ (MutSlice.pMutS held2 3 tt) (List._∷_ (MutSlice.pMutS Cell.R 4 tt) (List._∷_ (MutSlice.pMutS Cell.R 5 tt) List.[])))))))
 
 abbrev pub r : Kinds.RK 6
-r = Value.rVal record { ty = Declared.row Outcome.the-type; one = Path'.refl; val = Laws'4.val Outcome.the-type Laws.the-laws; tells = Laws'4.tells Outcome.the-type Laws.the-laws; still = Laws'4.still Outcome.the-type Laws.the-copy Exit.yes; row = Rows.whole (Declared.row Outcome.the-type); rd = λ x. x; mk = λ x. x } λ M 𝓤 H A W. record { copies = Laws'4.copy Outcome.the-type Laws.the-copy 𝓤 H A W; lawful = Laws'4.lawful Outcome.the-type Laws.the-laws 𝓤 H A W; makes = Laws'4.makes Outcome.the-type Laws.the-plain 𝓤 H A; in-mem = Local.mem-whole 𝓤 H A W (Declared.row Outcome.the-type); of-mem = Local.whole-mem 𝓤 H A W (Declared.row Outcome.the-type) }
+r = Value.rVal record { ty = Declared.row Outcome.the-type; one = Path'.refl; val = Laws'4.val Outcome.the-type Laws.the-laws; tells = Laws'4.tells Outcome.the-type Laws.the-laws; still = Laws'4.still Outcome.the-type Laws.the-copy Exit.yes; row = Rows.whole held3; rd = λ x. x; mk = λ x. x } λ M 𝓤 H A W. record { copies = Laws'4.copy Outcome.the-type Laws.the-copy 𝓤 H A W; lawful = Laws'4.lawful Outcome.the-type Laws.the-laws 𝓤 H A W; makes = Laws'4.makes Outcome.the-type Laws.the-plain 𝓤 H A; in-mem = Local.mem-whole 𝓤 H A W held3; of-mem = Local.whole-mem 𝓤 H A W held3 }
 
 abbrev pub xs : List.List Syntax.Ty
-xs = List._∷_ (Syntax.tyStruct (List._∷_ 112 (List._∷_ 121 (List._∷_ 114 (List._∷_ 97 (List._∷_ 109 (List._∷_ 105 (List._∷_ 100 (List._∷_ 58 (List._∷_ 58 (List._∷_ 83 (List._∷_ 116 (List._∷_ 97 (List._∷_ 116 (List._∷_ 101 List.[])))))))))))))) (Syntax.tcons (Syntax.tyInt Syntax.w32) (Syntax.tcons (Syntax.tyInt Syntax.w32) (Syntax.tcons (Syntax.tyInt Syntax.w32) (Syntax.tcons (Syntax.tyInt Syntax.w32) (Syntax.tcons (Syntax.tyInt Syntax.w32) (Syntax.tcons (Syntax.tyArray (Syntax.tyInt Syntax.w32) 64) Syntax.tnil))))))) (List._∷_ (Syntax.tyInt Syntax.w64) (List._∷_ (Syntax.tyInt Syntax.w64) (List._∷_ (Syntax.tyInt Syntax.w64) (List._∷_ (Syntax.tyInt Syntax.w64) (List._∷_ (Syntax.tyInt Syntax.w64) (List._∷_ (Syntax.tyInt Syntax.w64) (List._∷_ Syntax.tyPtr (List._∷_ (Syntax.tyInt Syntax.w32) (List._∷_ (Syntax.tyRef Syntax.erased Syntax.imm (Syntax.tyInt Syntax.w32)) (List._∷_ (Syntax.tyStruct (List._∷_ 38 (List._∷_ 91 (List._∷_ 93 List.[]))) (Syntax.tcons (Syntax.tyRef Syntax.erased Syntax.imm (Syntax.tyInt Syntax.w32)) (Syntax.tcons (Syntax.tyInt Syntax.w64) Syntax.tnil))) (List._∷_ (Syntax.tyRef Syntax.erased Syntax.mut (Syntax.tyInt Syntax.w32)) (List._∷_ (Syntax.tyStruct (List._∷_ 38 (List._∷_ 91 (List._∷_ 93 List.[]))) (Syntax.tcons (Syntax.tyRef Syntax.erased Syntax.mut (Syntax.tyInt Syntax.w32)) (Syntax.tcons (Syntax.tyInt Syntax.w64) Syntax.tnil))) (List._∷_ (Syntax.tyRef Syntax.erased Syntax.mut (Syntax.tyInt Syntax.w32)) (List._∷_ (Syntax.tyStruct (List._∷_ 38 (List._∷_ 91 (List._∷_ 93 List.[]))) (Syntax.tcons (Syntax.tyRef Syntax.erased Syntax.mut (Syntax.tyInt Syntax.w32)) (Syntax.tcons (Syntax.tyInt Syntax.w64) Syntax.tnil))) (List._∷_ (Syntax.tyRef Syntax.erased Syntax.mut (Syntax.tyInt Syntax.w32)) (List._∷_ (Syntax.tyStruct (List._∷_ 38 (List._∷_ 91 (List._∷_ 93 List.[]))) (Syntax.tcons (Syntax.tyRef Syntax.erased Syntax.mut (Syntax.tyInt Syntax.w32)) (Syntax.tcons (Syntax.tyInt Syntax.w64) Syntax.tnil))) (List._∷_ (Syntax.tyRef Syntax.erased Syntax.mut Cell.behind) (List._∷_ (Syntax.tyStruct (List._∷_ 38 (List._∷_ 91 (List._∷_ 93 List.[]))) (Syntax.tcons (Syntax.tyRef Syntax.erased Syntax.mut Cell.behind) (Syntax.tcons (Syntax.tyInt Syntax.w64) Syntax.tnil))) (List._∷_ (Syntax.tyRef Syntax.erased Syntax.mut Cell.behind) (List._∷_ (Syntax.tyStruct (List._∷_ 38 (List._∷_ 91 (List._∷_ 93 List.[]))) (Syntax.tcons (Syntax.tyRef Syntax.erased Syntax.mut Cell.behind) (Syntax.tcons (Syntax.tyInt Syntax.w64) Syntax.tnil))) List.[]))))))))))))))))))))
+xs = List._∷_ ty1 (List._∷_ ty2 (List._∷_ ty2 (List._∷_ ty2 (List._∷_ ty2 (List._∷_ ty2 (List._∷_ ty2 (List._∷_ Syntax.tyPtr (List._∷_ ty0 (List._∷_ ty3 (List._∷_ ty4 (List._∷_ ty5 (List._∷_ ty6 (List._∷_ ty5 (List._∷_ ty6 (List._∷_ ty5 (List._∷_ ty6 (List._∷_ ty7 (List._∷_ ty8 (List._∷_ ty7 (List._∷_ ty8 List.[]))))))))))))))))))))
 
 abbrev pub m : Nat.ℕ
 m = 5
@@ -83,79 +435,79 @@ abbrev pub r·0 : Kinds.RK 0
 r·0 = Num.rNum Syntax.w64
 
 abbrev pub ps·1 : List.List (Kinds.PK 6)
-ps·1 = List._∷_ (Value.pVal record { ty = Declared.row State.the-type; one = Path'.refl; val = Laws'4.val State.the-type Laws'.the-laws; tells = Laws'4.tells State.the-type Laws'.the-laws; still = Laws'4.still State.the-type Laws'.the-copy Exit.yes; row = Rows.whole (Declared.row State.the-type); rd = λ x. x; mk = λ x. x } λ M 𝓤 H A W. record { copies = Laws'4.copy State.the-type Laws'.the-copy 𝓤 H A W; lawful = Laws'4.lawful State.the-type Laws'.the-laws 𝓤 H A W; makes = Laws'4.makes State.the-type Laws'.the-plain 𝓤 H A; in-mem = Local.mem-whole 𝓤 H A W (Declared.row State.the-type); of-mem = Local.whole-mem 𝓤 H A W (Declared.row State.the-type) }) (List._∷_ (Num.pNum Syntax.w32) (List._∷_ (Num.pNum Syntax.w32) (List._∷_ (ShrSlice.pShrS (Referent.rtF (Referent.fInt Syntax.w32)) 0 tt) (List._∷_ (MutSlice.pMutS (Referent.rtF (Referent.fInt Syntax.w32)) 1 tt) (List._∷_ (MutSlice.pMutS (Referent.rtF (Referent.fInt Syntax.w32)) 2 tt) (List._∷_ (MutSlice.pMutS (Referent.rtF (Referent.fInt Syntax.w32)) 3 tt) (List._∷_ (MutSlice.pMutS Cell.R 4 tt) (List._∷_ (MutSlice.pMutS Cell.R 5 tt) List.[]))))))))
+ps·1 = List._∷_ (Value.pVal record { ty = Declared.row State.the-type; one = Path'.refl; val = Laws'4.val State.the-type Laws'.the-laws; tells = Laws'4.tells State.the-type Laws'.the-laws; still = Laws'4.still State.the-type Laws'.the-copy Exit.yes; row = Rows.whole held4; rd = λ x. x; mk = λ x. x } λ M 𝓤 H A W. record { copies = Laws'4.copy State.the-type Laws'.the-copy 𝓤 H A W; lawful = Laws'4.lawful State.the-type Laws'.the-laws 𝓤 H A W; makes = Laws'4.makes State.the-type Laws'.the-plain 𝓤 H A; in-mem = Local.mem-whole 𝓤 H A W held4; of-mem = Local.whole-mem 𝓤 H A W held4 }) (List._∷_ (Num.pNum Syntax.w32) (List._∷_ (Num.pNum Syntax.w32) (List._∷_ (ShrSlice.pShrS held2 0 tt) (List._∷_ (MutSlice.pMutS held2 1 tt) (List._∷_ (MutSlice.pMutS held2 2 tt) (List._∷_ (MutSlice.pMutS held2 3 tt) (List._∷_ (MutSlice.pMutS Cell.R 4 tt) (List._∷_ (MutSlice.pMutS Cell.R 5 tt) List.[]))))))))
 
 abbrev pub r·1 : Kinds.RK 6
-r·1 = Value.rVal record { ty = Declared.row Outcome.the-type; one = Path'.refl; val = Laws'4.val Outcome.the-type Laws.the-laws; tells = Laws'4.tells Outcome.the-type Laws.the-laws; still = Laws'4.still Outcome.the-type Laws.the-copy Exit.yes; row = Rows.whole (Declared.row Outcome.the-type); rd = λ x. x; mk = λ x. x } λ M 𝓤 H A W. record { copies = Laws'4.copy Outcome.the-type Laws.the-copy 𝓤 H A W; lawful = Laws'4.lawful Outcome.the-type Laws.the-laws 𝓤 H A W; makes = Laws'4.makes Outcome.the-type Laws.the-plain 𝓤 H A; in-mem = Local.mem-whole 𝓤 H A W (Declared.row Outcome.the-type); of-mem = Local.whole-mem 𝓤 H A W (Declared.row Outcome.the-type) }
+r·1 = Value.rVal record { ty = Declared.row Outcome.the-type; one = Path'.refl; val = Laws'4.val Outcome.the-type Laws.the-laws; tells = Laws'4.tells Outcome.the-type Laws.the-laws; still = Laws'4.still Outcome.the-type Laws.the-copy Exit.yes; row = Rows.whole held3; rd = λ x. x; mk = λ x. x } λ M 𝓤 H A W. record { copies = Laws'4.copy Outcome.the-type Laws.the-copy 𝓤 H A W; lawful = Laws'4.lawful Outcome.the-type Laws.the-laws 𝓤 H A W; makes = Laws'4.makes Outcome.the-type Laws.the-plain 𝓤 H A; in-mem = Local.mem-whole 𝓤 H A W held3; of-mem = Local.whole-mem 𝓤 H A W held3 }
 
 abbrev pub hs : List.List Syntax.Home
 hs = List._∷_ Syntax.valueLocal (List._∷_ Syntax.valueLocal (List._∷_ Syntax.valueLocal (List._∷_ Syntax.valueLocal (List._∷_ Syntax.valueLocal (List._∷_ Syntax.valueLocal (List._∷_ Syntax.valueLocal (List._∷_ Syntax.valueLocal (List._∷_ Syntax.valueLocal (List._∷_ Syntax.valueLocal (List._∷_ Syntax.valueLocal (List._∷_ Syntax.valueLocal (List._∷_ Syntax.valueLocal (List._∷_ Syntax.valueLocal (List._∷_ Syntax.valueLocal (List._∷_ Syntax.valueLocal (List._∷_ Syntax.valueLocal (List._∷_ Syntax.valueLocal (List._∷_ Syntax.valueLocal (List._∷_ Syntax.valueLocal (List._∷_ Syntax.valueLocal (List._∷_ Syntax.valueLocal (List._∷_ Syntax.valueLocal (List._∷_ Syntax.valueLocal (List._∷_ Syntax.valueLocal (List._∷_ Syntax.valueLocal (List._∷_ Syntax.valueLocal (List._∷_ Syntax.valueLocal (List._∷_ Syntax.valueLocal (List._∷_ Syntax.valueLocal List.[])))))))))))))))))))))))))))))
 
 abbrev b0 : Syntax.Body
-b0 = Syntax.assign (Syntax.place 9 List.[]) (Syntax.rvOpd (Syntax.copy (Syntax.place 1 (List._∷_ (Syntax.field 0) List.[]))))
+b0 = Syntax.assign (Syntax.place 9 List.[]) (Syntax.rvOpd (Syntax.copy (Syntax.place 1 steps0)))
 
 abbrev b1 : Syntax.Body
-b1 = Syntax.assign (Syntax.place 10 List.[]) (Syntax.rvOpd (Syntax.copy (Syntax.place 1 (List._∷_ (Syntax.field 1) List.[]))))
+b1 = Syntax.assign (Syntax.place 10 List.[]) (Syntax.rvOpd (Syntax.copy (Syntax.place 1 steps1)))
 
 abbrev b2 : Syntax.Body
-b2 = Syntax.assign (Syntax.place 11 List.[]) (Syntax.rvOpd (Syntax.copy (Syntax.place 1 (List._∷_ (Syntax.field 2) List.[]))))
+b2 = Syntax.assign (Syntax.place 11 List.[]) (Syntax.rvOpd (Syntax.copy (Syntax.place 1 steps2)))
 
 abbrev b3 : Syntax.Body
-b3 = Syntax.assign (Syntax.place 12 List.[]) (Syntax.rvOpd (Syntax.copy (Syntax.place 1 (List._∷_ (Syntax.field 3) List.[]))))
+b3 = Syntax.assign (Syntax.place 12 List.[]) (Syntax.rvOpd (Syntax.copy (Syntax.place 1 steps3)))
 
 abbrev b4 : Syntax.Body
-b4 = Syntax.assign (Syntax.place 13 List.[]) (Syntax.rvOpd (Syntax.copy (Syntax.place 1 (List._∷_ (Syntax.field 4) List.[]))))
+b4 = Syntax.assign (Syntax.place 13 List.[]) (Syntax.rvOpd (Syntax.copy (Syntax.place 1 steps4)))
 
 abbrev b5 : Syntax.Body
-b5 = Syntax.assign (Syntax.place 14 List.[]) (Syntax.rvOpd (Syntax.copy (Syntax.place 1 (List._∷_ (Syntax.field 5) List.[]))))
+b5 = Syntax.assign (Syntax.place 14 List.[]) (Syntax.rvOpd (Syntax.copy (Syntax.place 1 steps5)))
 
 abbrev b6 : Syntax.Body
-b6 = Syntax.call "script::sizes::least" (List._∷_ (Syntax.copy (Syntax.place 2 (List._∷_ (Syntax.field 1) List.[]))) (List._∷_ (Syntax.intBig Syntax.w64 32772) List.[])) (Syntax.place 15 List.[])
+b6 = Syntax.call "script::sizes::least" (List._∷_ (Syntax.copy (Syntax.place 2 steps1)) (List._∷_ (Syntax.intBig Syntax.w64 32772) List.[])) (Syntax.place 15 List.[])
 
 abbrev b7 : Syntax.Body
-b7 = Syntax.assign (Syntax.place 16 List.[]) (Syntax.op2 Syntax.offset (Syntax.copy (Syntax.place 3 (List._∷_ (Syntax.field 0) List.[]))) (Syntax.int Syntax.w64 0))
+b7 = Syntax.assign (Syntax.place 16 List.[]) (Syntax.op2 Syntax.offset (Syntax.copy (Syntax.place 3 steps0)) (Syntax.int Syntax.w64 0))
 
 abbrev b8 : Syntax.Body
-b8 = Syntax.assign (Syntax.place 17 List.[]) (Syntax.rvOpd (Syntax.copy (Syntax.place 16 (List._∷_ (Syntax.deref (Syntax.tyInt Syntax.w32)) List.[]))))
+b8 = Syntax.assign (Syntax.place 17 List.[]) (Syntax.rvOpd (Syntax.copy (Syntax.place 16 (List._∷_ (Syntax.deref ty0) List.[]))))
 
 abbrev b9 : Syntax.Body
-b9 = Syntax.assign (Syntax.place 18 List.[]) (Syntax.addrOf (Syntax.place 3 (List._∷_ (Syntax.field 0) (List._∷_ (Syntax.deref (Syntax.tyInt Syntax.w32)) List.[]))))
+b9 = Syntax.assign (Syntax.place 18 List.[]) (Syntax.addrOf (Syntax.place 3 steps6))
 
 abbrev b10 : Syntax.Body
 b10 = Syntax.assign (Syntax.place 19 List.[]) (Syntax.aggregate (List._∷_ (Syntax.copy (Syntax.place 18 List.[])) (List._∷_ (Syntax.copy (Syntax.place 15 List.[])) List.[])))
 
 abbrev b11 : Syntax.Body
-b11 = Syntax.assign (Syntax.place 20 List.[]) (Syntax.addrOf (Syntax.place 4 (List._∷_ (Syntax.field 0) (List._∷_ (Syntax.deref (Syntax.tyInt Syntax.w32)) List.[]))))
+b11 = Syntax.assign (Syntax.place 20 List.[]) (Syntax.addrOf (Syntax.place 4 steps6))
 
 abbrev b12 : Syntax.Body
 b12 = Syntax.assign (Syntax.place 21 List.[]) (Syntax.aggregate (List._∷_ (Syntax.copy (Syntax.place 20 List.[])) (List._∷_ (Syntax.copy (Syntax.place 10 List.[])) List.[])))
 
 abbrev b13 : Syntax.Body
-b13 = Syntax.assign (Syntax.place 22 List.[]) (Syntax.addrOf (Syntax.place 5 (List._∷_ (Syntax.field 0) (List._∷_ (Syntax.deref (Syntax.tyInt Syntax.w32)) List.[]))))
+b13 = Syntax.assign (Syntax.place 22 List.[]) (Syntax.addrOf (Syntax.place 5 steps6))
 
 abbrev b14 : Syntax.Body
 b14 = Syntax.assign (Syntax.place 23 List.[]) (Syntax.aggregate (List._∷_ (Syntax.copy (Syntax.place 22 List.[])) (List._∷_ (Syntax.copy (Syntax.place 11 List.[])) List.[])))
 
 abbrev b15 : Syntax.Body
-b15 = Syntax.assign (Syntax.place 24 List.[]) (Syntax.addrOf (Syntax.place 6 (List._∷_ (Syntax.field 0) (List._∷_ (Syntax.deref (Syntax.tyInt Syntax.w32)) List.[]))))
+b15 = Syntax.assign (Syntax.place 24 List.[]) (Syntax.addrOf (Syntax.place 6 steps6))
 
 abbrev b16 : Syntax.Body
 b16 = Syntax.assign (Syntax.place 25 List.[]) (Syntax.aggregate (List._∷_ (Syntax.copy (Syntax.place 24 List.[])) (List._∷_ (Syntax.copy (Syntax.place 12 List.[])) List.[])))
 
 abbrev b17 : Syntax.Body
-b17 = Syntax.assign (Syntax.place 26 List.[]) (Syntax.addrOf (Syntax.place 7 (List._∷_ (Syntax.field 0) (List._∷_ (Syntax.deref Cell.held) List.[]))))
+b17 = Syntax.assign (Syntax.place 26 List.[]) (Syntax.addrOf (Syntax.place 7 steps7))
 
 abbrev b18 : Syntax.Body
 b18 = Syntax.assign (Syntax.place 27 List.[]) (Syntax.aggregate (List._∷_ (Syntax.copy (Syntax.place 26 List.[])) (List._∷_ (Syntax.copy (Syntax.place 13 List.[])) List.[])))
 
 abbrev b19 : Syntax.Body
-b19 = Syntax.assign (Syntax.place 28 List.[]) (Syntax.addrOf (Syntax.place 8 (List._∷_ (Syntax.field 0) (List._∷_ (Syntax.deref Cell.held) List.[]))))
+b19 = Syntax.assign (Syntax.place 28 List.[]) (Syntax.addrOf (Syntax.place 8 steps7))
 
 abbrev b20 : Syntax.Body
 b20 = Syntax.assign (Syntax.place 29 List.[]) (Syntax.aggregate (List._∷_ (Syntax.copy (Syntax.place 28 List.[])) (List._∷_ (Syntax.copy (Syntax.place 14 List.[])) List.[])))
 
 abbrev b21 : Syntax.Body
-b21 = Syntax.call "zones::sheet_calls::handed_with" (List._∷_ (Syntax.copy (Syntax.place 9 List.[])) (List._∷_ (Syntax.copy (Syntax.place 2 (List._∷_ (Syntax.field 0) List.[]))) (List._∷_ (Syntax.copy (Syntax.place 17 List.[])) (List._∷_ (Syntax.copy (Syntax.place 19 List.[])) (List._∷_ (Syntax.copy (Syntax.place 21 List.[])) (List._∷_ (Syntax.copy (Syntax.place 23 List.[])) (List._∷_ (Syntax.copy (Syntax.place 25 List.[])) (List._∷_ (Syntax.copy (Syntax.place 27 List.[])) (List._∷_ (Syntax.copy (Syntax.place 29 List.[])) List.[]))))))))) (Syntax.place 0 List.[])
+b21 = Syntax.call "zones::sheet_calls::handed_with" (List._∷_ (Syntax.copy (Syntax.place 9 List.[])) (List._∷_ (Syntax.copy (Syntax.place 2 steps0)) (List._∷_ (Syntax.copy (Syntax.place 17 List.[])) (List._∷_ (Syntax.copy (Syntax.place 19 List.[])) (List._∷_ (Syntax.copy (Syntax.place 21 List.[])) (List._∷_ (Syntax.copy (Syntax.place 23 List.[])) (List._∷_ (Syntax.copy (Syntax.place 25 List.[])) (List._∷_ (Syntax.copy (Syntax.place 27 List.[])) (List._∷_ (Syntax.copy (Syntax.place 29 List.[])) List.[]))))))))) (Syntax.place 0 List.[])
 
 abbrev b22 : Syntax.Body
 b22 = Syntax.return
@@ -233,157 +585,157 @@ abbrev pub Claims : Type 1
 Claims = Kinds.In 0 ps·0 × Kinds.Out 0 ps·0 r·0 × Kinds.In 6 ps·1 × Kinds.Out 6 ps·1 r·1
 
 abbrev pub t0 : List.List Row.Entry
-t0 = List._∷_ (0, Rows.any-gone (Syntax.tyStruct (List._∷_ 112 (List._∷_ 121 (List._∷_ 114 (List._∷_ 97 (List._∷_ 109 (List._∷_ 105 (List._∷_ 100 (List._∷_ 58 (List._∷_ 58 (List._∷_ 79 (List._∷_ 117 (List._∷_ 116 (List._∷_ 99 (List._∷_ 111 (List._∷_ 109 (List._∷_ 101 List.[])))))))))))))))) (Syntax.tcons (Syntax.tyStruct (List._∷_ 112 (List._∷_ 121 (List._∷_ 114 (List._∷_ 97 (List._∷_ 109 (List._∷_ 105 (List._∷_ 100 (List._∷_ 58 (List._∷_ 58 (List._∷_ 83 (List._∷_ 116 (List._∷_ 97 (List._∷_ 116 (List._∷_ 101 List.[])))))))))))))) (Syntax.tcons (Syntax.tyInt Syntax.w32) (Syntax.tcons (Syntax.tyInt Syntax.w32) (Syntax.tcons (Syntax.tyInt Syntax.w32) (Syntax.tcons (Syntax.tyInt Syntax.w32) (Syntax.tcons (Syntax.tyInt Syntax.w32) (Syntax.tcons (Syntax.tyArray (Syntax.tyInt Syntax.w32) 64) Syntax.tnil))))))) (Syntax.tcons (Syntax.tyEnum (List._∷_ 100 (List._∷_ 97 (List._∷_ 114 (List._∷_ 116 (List._∷_ 115 (List._∷_ 58 (List._∷_ 58 (List._∷_ 65 (List._∷_ 110 (List._∷_ 115 (List._∷_ 119 (List._∷_ 101 (List._∷_ 114 List.[]))))))))))))) (Syntax.ttcons (Syntax.tcons (Syntax.tyInt Syntax.w64) Syntax.tnil) (Syntax.ttcons Syntax.tnil (Syntax.ttcons (Syntax.tcons (Syntax.tyInt Syntax.w64) Syntax.tnil) (Syntax.ttcons (Syntax.tcons (Syntax.tyInt Syntax.w64) (Syntax.tcons (Syntax.tyInt Syntax.w64) Syntax.tnil)) (Syntax.ttcons Syntax.tnil (Syntax.ttcons Syntax.tnil (Syntax.ttcons Syntax.tnil (Syntax.ttcons (Syntax.tcons (Syntax.tyInt Syntax.w64) Syntax.tnil) (Syntax.ttcons (Syntax.tcons (Syntax.tyInt Syntax.w64) Syntax.tnil) (Syntax.ttcons (Syntax.tcons (Syntax.tyInt Syntax.w64) Syntax.tnil) (Syntax.ttcons (Syntax.tcons (Syntax.tyInt Syntax.w64) Syntax.tnil) (Syntax.ttcons (Syntax.tcons (Syntax.tyInt Syntax.w64) Syntax.tnil) (Syntax.ttcons (Syntax.tcons (Syntax.tyInt Syntax.w64) Syntax.tnil) (Syntax.ttcons (Syntax.tcons (Syntax.tyInt Syntax.w64) Syntax.tnil) (Syntax.ttcons Syntax.tnil (Syntax.ttcons Syntax.tnil (Syntax.ttcons (Syntax.tcons (Syntax.tyInt Syntax.w64) Syntax.tnil) Syntax.ttnil)))))))))))))))))) Syntax.tnil)))) (List._∷_ (1, Rows.whole (Declared.row Held.the-type)) (List._∷_ (2, Rows.whole (Declared.row Line.the-type)) (List._∷_ (3, Rows.sslice (Referent.rtF (Referent.fInt Syntax.w32)) (Syntax.tyRef (Syntax.named 0) Syntax.imm (Syntax.tyInt Syntax.w32)) 0) (List._∷_ (4, Mut.mslice (Referent.rtF (Referent.fInt Syntax.w32)) (Syntax.tyRef (Syntax.named 1) Syntax.mut (Syntax.tyInt Syntax.w32)) 1) (List._∷_ (5, Mut.mslice (Referent.rtF (Referent.fInt Syntax.w32)) (Syntax.tyRef (Syntax.named 2) Syntax.mut (Syntax.tyInt Syntax.w32)) 2) (List._∷_ (6, Mut.mslice (Referent.rtF (Referent.fInt Syntax.w32)) (Syntax.tyRef (Syntax.named 3) Syntax.mut (Syntax.tyInt Syntax.w32)) 3) (List._∷_ (7, Mut.mslice Cell.R (Syntax.tyRef (Syntax.named 4) Syntax.mut Cell.behind) 4) (List._∷_ (8, Mut.mslice Cell.R (Syntax.tyRef (Syntax.named 5) Syntax.mut Cell.behind) 5) (List._∷_ (9, Rows.any-gone (Syntax.tyStruct (List._∷_ 112 (List._∷_ 121 (List._∷_ 114 (List._∷_ 97 (List._∷_ 109 (List._∷_ 105 (List._∷_ 100 (List._∷_ 58 (List._∷_ 58 (List._∷_ 83 (List._∷_ 116 (List._∷_ 97 (List._∷_ 116 (List._∷_ 101 List.[])))))))))))))) (Syntax.tcons (Syntax.tyInt Syntax.w32) (Syntax.tcons (Syntax.tyInt Syntax.w32) (Syntax.tcons (Syntax.tyInt Syntax.w32) (Syntax.tcons (Syntax.tyInt Syntax.w32) (Syntax.tcons (Syntax.tyInt Syntax.w32) (Syntax.tcons (Syntax.tyArray (Syntax.tyInt Syntax.w32) 64) Syntax.tnil)))))))) (List._∷_ (10, Rows.any-gone (Syntax.tyInt Syntax.w64)) (List._∷_ (11, Rows.any-gone (Syntax.tyInt Syntax.w64)) (List._∷_ (12, Rows.any-gone (Syntax.tyInt Syntax.w64)) (List._∷_ (13, Rows.any-gone (Syntax.tyInt Syntax.w64)) (List._∷_ (14, Rows.any-gone (Syntax.tyInt Syntax.w64)) (List._∷_ (15, Rows.any-gone (Syntax.tyInt Syntax.w64)) List.[])))))))))))))))
+t0 = List._∷_ local0 (List._∷_ local1 (List._∷_ local2 locals3))
 
 abbrev pub t1 : List.List Row.Entry
-t1 = List._∷_ (16, Rows.any-gone Syntax.tyPtr) (List._∷_ (17, Rows.any-gone (Syntax.tyInt Syntax.w32)) (List._∷_ (18, Rows.any-gone (Syntax.tyRef Syntax.erased Syntax.imm (Syntax.tyInt Syntax.w32))) (List._∷_ (19, Rows.any-gone (Syntax.tyStruct (List._∷_ 38 (List._∷_ 91 (List._∷_ 93 List.[]))) (Syntax.tcons (Syntax.tyRef Syntax.erased Syntax.imm (Syntax.tyInt Syntax.w32)) (Syntax.tcons (Syntax.tyInt Syntax.w64) Syntax.tnil)))) (List._∷_ (20, Rows.any-gone (Syntax.tyRef Syntax.erased Syntax.mut (Syntax.tyInt Syntax.w32))) (List._∷_ (21, Rows.any-gone (Syntax.tyStruct (List._∷_ 38 (List._∷_ 91 (List._∷_ 93 List.[]))) (Syntax.tcons (Syntax.tyRef Syntax.erased Syntax.mut (Syntax.tyInt Syntax.w32)) (Syntax.tcons (Syntax.tyInt Syntax.w64) Syntax.tnil)))) (List._∷_ (22, Rows.any-gone (Syntax.tyRef Syntax.erased Syntax.mut (Syntax.tyInt Syntax.w32))) (List._∷_ (23, Rows.any-gone (Syntax.tyStruct (List._∷_ 38 (List._∷_ 91 (List._∷_ 93 List.[]))) (Syntax.tcons (Syntax.tyRef Syntax.erased Syntax.mut (Syntax.tyInt Syntax.w32)) (Syntax.tcons (Syntax.tyInt Syntax.w64) Syntax.tnil)))) (List._∷_ (24, Rows.any-gone (Syntax.tyRef Syntax.erased Syntax.mut (Syntax.tyInt Syntax.w32))) (List._∷_ (25, Rows.any-gone (Syntax.tyStruct (List._∷_ 38 (List._∷_ 91 (List._∷_ 93 List.[]))) (Syntax.tcons (Syntax.tyRef Syntax.erased Syntax.mut (Syntax.tyInt Syntax.w32)) (Syntax.tcons (Syntax.tyInt Syntax.w64) Syntax.tnil)))) (List._∷_ (26, Rows.any-gone (Syntax.tyRef Syntax.erased Syntax.mut Cell.behind)) (List._∷_ (27, Rows.any-gone (Syntax.tyStruct (List._∷_ 38 (List._∷_ 91 (List._∷_ 93 List.[]))) (Syntax.tcons (Syntax.tyRef Syntax.erased Syntax.mut Cell.behind) (Syntax.tcons (Syntax.tyInt Syntax.w64) Syntax.tnil)))) (List._∷_ (28, Rows.any-gone (Syntax.tyRef Syntax.erased Syntax.mut Cell.behind)) (List._∷_ (29, Rows.any-gone (Syntax.tyStruct (List._∷_ 38 (List._∷_ 91 (List._∷_ 93 List.[]))) (Syntax.tcons (Syntax.tyRef Syntax.erased Syntax.mut Cell.behind) (Syntax.tcons (Syntax.tyInt Syntax.w64) Syntax.tnil)))) List.[])))))))))))))
+t1 = List._∷_ local15 (List._∷_ local16 locals8)
 
 abbrev pub t2 : List.List Row.Entry
-t2 = List._∷_ (0, Rows.whole (Declared.row Outcome.the-type)) (List._∷_ (1, Rows.any-gone (Syntax.tyStruct (List._∷_ 122 (List._∷_ 111 (List._∷_ 110 (List._∷_ 101 (List._∷_ 115 (List._∷_ 58 (List._∷_ 58 (List._∷_ 104 (List._∷_ 101 (List._∷_ 108 (List._∷_ 100 (List._∷_ 58 (List._∷_ 58 (List._∷_ 72 (List._∷_ 101 (List._∷_ 108 (List._∷_ 100 List.[]))))))))))))))))) (Syntax.tcons (Syntax.tyStruct (List._∷_ 112 (List._∷_ 121 (List._∷_ 114 (List._∷_ 97 (List._∷_ 109 (List._∷_ 105 (List._∷_ 100 (List._∷_ 58 (List._∷_ 58 (List._∷_ 83 (List._∷_ 116 (List._∷_ 97 (List._∷_ 116 (List._∷_ 101 List.[])))))))))))))) (Syntax.tcons (Syntax.tyInt Syntax.w32) (Syntax.tcons (Syntax.tyInt Syntax.w32) (Syntax.tcons (Syntax.tyInt Syntax.w32) (Syntax.tcons (Syntax.tyInt Syntax.w32) (Syntax.tcons (Syntax.tyInt Syntax.w32) (Syntax.tcons (Syntax.tyArray (Syntax.tyInt Syntax.w32) 64) Syntax.tnil))))))) (Syntax.tcons (Syntax.tyInt Syntax.w64) (Syntax.tcons (Syntax.tyInt Syntax.w64) (Syntax.tcons (Syntax.tyInt Syntax.w64) (Syntax.tcons (Syntax.tyInt Syntax.w64) (Syntax.tcons (Syntax.tyInt Syntax.w64) (Syntax.tcons (Syntax.tyInt Syntax.w64) (Syntax.tcons Syntax.tyBool Syntax.tnil)))))))))) (List._∷_ (2, Rows.any-gone (Syntax.tyStruct (List._∷_ 115 (List._∷_ 99 (List._∷_ 114 (List._∷_ 105 (List._∷_ 112 (List._∷_ 116 (List._∷_ 58 (List._∷_ 58 (List._∷_ 115 (List._∷_ 99 (List._∷_ 97 (List._∷_ 110 (List._∷_ 58 (List._∷_ 58 (List._∷_ 76 (List._∷_ 105 (List._∷_ 110 (List._∷_ 101 List.[])))))))))))))))))) (Syntax.tcons (Syntax.tyInt Syntax.w32) (Syntax.tcons (Syntax.tyInt Syntax.w64) (Syntax.tcons (Syntax.tyInt Syntax.w64) (Syntax.tcons (Syntax.tyInt Syntax.w64) (Syntax.tcons (Syntax.tyInt Syntax.w64) Syntax.tnil))))))) (List._∷_ (3, Rows.sslice (Referent.rtF (Referent.fInt Syntax.w32)) (Syntax.tyRef (Syntax.named 0) Syntax.imm (Syntax.tyInt Syntax.w32)) 0) (List._∷_ (4, Mut.mslice (Referent.rtF (Referent.fInt Syntax.w32)) (Syntax.tyRef (Syntax.named 1) Syntax.mut (Syntax.tyInt Syntax.w32)) 1) (List._∷_ (5, Mut.mslice (Referent.rtF (Referent.fInt Syntax.w32)) (Syntax.tyRef (Syntax.named 2) Syntax.mut (Syntax.tyInt Syntax.w32)) 2) (List._∷_ (6, Mut.mslice (Referent.rtF (Referent.fInt Syntax.w32)) (Syntax.tyRef (Syntax.named 3) Syntax.mut (Syntax.tyInt Syntax.w32)) 3) (List._∷_ (7, Mut.mslice Cell.R (Syntax.tyRef (Syntax.named 4) Syntax.mut Cell.behind) 4) (List._∷_ (8, Mut.mslice Cell.R (Syntax.tyRef (Syntax.named 5) Syntax.mut Cell.behind) 5) (List._∷_ (9, Rows.any-gone (Syntax.tyStruct (List._∷_ 112 (List._∷_ 121 (List._∷_ 114 (List._∷_ 97 (List._∷_ 109 (List._∷_ 105 (List._∷_ 100 (List._∷_ 58 (List._∷_ 58 (List._∷_ 83 (List._∷_ 116 (List._∷_ 97 (List._∷_ 116 (List._∷_ 101 List.[])))))))))))))) (Syntax.tcons (Syntax.tyInt Syntax.w32) (Syntax.tcons (Syntax.tyInt Syntax.w32) (Syntax.tcons (Syntax.tyInt Syntax.w32) (Syntax.tcons (Syntax.tyInt Syntax.w32) (Syntax.tcons (Syntax.tyInt Syntax.w32) (Syntax.tcons (Syntax.tyArray (Syntax.tyInt Syntax.w32) 64) Syntax.tnil)))))))) (List._∷_ (10, Rows.any-gone (Syntax.tyInt Syntax.w64)) (List._∷_ (11, Rows.any-gone (Syntax.tyInt Syntax.w64)) (List._∷_ (12, Rows.any-gone (Syntax.tyInt Syntax.w64)) (List._∷_ (13, Rows.any-gone (Syntax.tyInt Syntax.w64)) (List._∷_ (14, Rows.any-gone (Syntax.tyInt Syntax.w64)) (List._∷_ (15, Rows.any-gone (Syntax.tyInt Syntax.w64)) List.[])))))))))))))))
+t2 = List._∷_ local26 (List._∷_ local27 (List._∷_ local28 locals3))
 
 abbrev pub t3 : List.List Row.Entry
-t3 = List._∷_ (0, Rows.any-gone (Syntax.tyStruct (List._∷_ 112 (List._∷_ 121 (List._∷_ 114 (List._∷_ 97 (List._∷_ 109 (List._∷_ 105 (List._∷_ 100 (List._∷_ 58 (List._∷_ 58 (List._∷_ 79 (List._∷_ 117 (List._∷_ 116 (List._∷_ 99 (List._∷_ 111 (List._∷_ 109 (List._∷_ 101 List.[])))))))))))))))) (Syntax.tcons (Syntax.tyStruct (List._∷_ 112 (List._∷_ 121 (List._∷_ 114 (List._∷_ 97 (List._∷_ 109 (List._∷_ 105 (List._∷_ 100 (List._∷_ 58 (List._∷_ 58 (List._∷_ 83 (List._∷_ 116 (List._∷_ 97 (List._∷_ 116 (List._∷_ 101 List.[])))))))))))))) (Syntax.tcons (Syntax.tyInt Syntax.w32) (Syntax.tcons (Syntax.tyInt Syntax.w32) (Syntax.tcons (Syntax.tyInt Syntax.w32) (Syntax.tcons (Syntax.tyInt Syntax.w32) (Syntax.tcons (Syntax.tyInt Syntax.w32) (Syntax.tcons (Syntax.tyArray (Syntax.tyInt Syntax.w32) 64) Syntax.tnil))))))) (Syntax.tcons (Syntax.tyEnum (List._∷_ 100 (List._∷_ 97 (List._∷_ 114 (List._∷_ 116 (List._∷_ 115 (List._∷_ 58 (List._∷_ 58 (List._∷_ 65 (List._∷_ 110 (List._∷_ 115 (List._∷_ 119 (List._∷_ 101 (List._∷_ 114 List.[]))))))))))))) (Syntax.ttcons (Syntax.tcons (Syntax.tyInt Syntax.w64) Syntax.tnil) (Syntax.ttcons Syntax.tnil (Syntax.ttcons (Syntax.tcons (Syntax.tyInt Syntax.w64) Syntax.tnil) (Syntax.ttcons (Syntax.tcons (Syntax.tyInt Syntax.w64) (Syntax.tcons (Syntax.tyInt Syntax.w64) Syntax.tnil)) (Syntax.ttcons Syntax.tnil (Syntax.ttcons Syntax.tnil (Syntax.ttcons Syntax.tnil (Syntax.ttcons (Syntax.tcons (Syntax.tyInt Syntax.w64) Syntax.tnil) (Syntax.ttcons (Syntax.tcons (Syntax.tyInt Syntax.w64) Syntax.tnil) (Syntax.ttcons (Syntax.tcons (Syntax.tyInt Syntax.w64) Syntax.tnil) (Syntax.ttcons (Syntax.tcons (Syntax.tyInt Syntax.w64) Syntax.tnil) (Syntax.ttcons (Syntax.tcons (Syntax.tyInt Syntax.w64) Syntax.tnil) (Syntax.ttcons (Syntax.tcons (Syntax.tyInt Syntax.w64) Syntax.tnil) (Syntax.ttcons (Syntax.tcons (Syntax.tyInt Syntax.w64) Syntax.tnil) (Syntax.ttcons Syntax.tnil (Syntax.ttcons Syntax.tnil (Syntax.ttcons (Syntax.tcons (Syntax.tyInt Syntax.w64) Syntax.tnil) Syntax.ttnil)))))))))))))))))) Syntax.tnil)))) (List._∷_ (1, Rows.whole (Declared.row Held.the-type)) (List._∷_ (2, Rows.whole (Declared.row Line.the-type)) (List._∷_ (3, Rows.sslice (Referent.rtF (Referent.fInt Syntax.w32)) (Syntax.tyRef (Syntax.named 0) Syntax.imm (Syntax.tyInt Syntax.w32)) 0) (List._∷_ (4, Mut.mslice (Referent.rtF (Referent.fInt Syntax.w32)) (Syntax.tyRef (Syntax.named 1) Syntax.mut (Syntax.tyInt Syntax.w32)) 1) (List._∷_ (5, Mut.mslice (Referent.rtF (Referent.fInt Syntax.w32)) (Syntax.tyRef (Syntax.named 2) Syntax.mut (Syntax.tyInt Syntax.w32)) 2) (List._∷_ (6, Mut.mslice (Referent.rtF (Referent.fInt Syntax.w32)) (Syntax.tyRef (Syntax.named 3) Syntax.mut (Syntax.tyInt Syntax.w32)) 3) (List._∷_ (7, Mut.mslice Cell.R (Syntax.tyRef (Syntax.named 4) Syntax.mut Cell.behind) 4) (List._∷_ (8, Mut.mslice Cell.R (Syntax.tyRef (Syntax.named 5) Syntax.mut Cell.behind) 5) (List._∷_ (9, Rows.whole (Declared.row State.the-type)) (List._∷_ (10, Rows.any-gone (Syntax.tyInt Syntax.w64)) (List._∷_ (11, Rows.any-gone (Syntax.tyInt Syntax.w64)) (List._∷_ (12, Rows.any-gone (Syntax.tyInt Syntax.w64)) (List._∷_ (13, Rows.any-gone (Syntax.tyInt Syntax.w64)) (List._∷_ (14, Rows.any-gone (Syntax.tyInt Syntax.w64)) (List._∷_ (15, Rows.any-gone (Syntax.tyInt Syntax.w64)) List.[])))))))))))))))
+t3 = List._∷_ local0 (List._∷_ local1 (List._∷_ local2 (List._∷_ local3 (List._∷_ local4 (List._∷_ local5 (List._∷_ local6 (List._∷_ local7 (List._∷_ local8 (List._∷_ local29 (List._∷_ local10 (List._∷_ local11 locals1)))))))))))
 
 abbrev pub t4 : List.List Row.Entry
-t4 = List._∷_ (0, Rows.any-gone (Syntax.tyStruct (List._∷_ 112 (List._∷_ 121 (List._∷_ 114 (List._∷_ 97 (List._∷_ 109 (List._∷_ 105 (List._∷_ 100 (List._∷_ 58 (List._∷_ 58 (List._∷_ 79 (List._∷_ 117 (List._∷_ 116 (List._∷_ 99 (List._∷_ 111 (List._∷_ 109 (List._∷_ 101 List.[])))))))))))))))) (Syntax.tcons (Syntax.tyStruct (List._∷_ 112 (List._∷_ 121 (List._∷_ 114 (List._∷_ 97 (List._∷_ 109 (List._∷_ 105 (List._∷_ 100 (List._∷_ 58 (List._∷_ 58 (List._∷_ 83 (List._∷_ 116 (List._∷_ 97 (List._∷_ 116 (List._∷_ 101 List.[])))))))))))))) (Syntax.tcons (Syntax.tyInt Syntax.w32) (Syntax.tcons (Syntax.tyInt Syntax.w32) (Syntax.tcons (Syntax.tyInt Syntax.w32) (Syntax.tcons (Syntax.tyInt Syntax.w32) (Syntax.tcons (Syntax.tyInt Syntax.w32) (Syntax.tcons (Syntax.tyArray (Syntax.tyInt Syntax.w32) 64) Syntax.tnil))))))) (Syntax.tcons (Syntax.tyEnum (List._∷_ 100 (List._∷_ 97 (List._∷_ 114 (List._∷_ 116 (List._∷_ 115 (List._∷_ 58 (List._∷_ 58 (List._∷_ 65 (List._∷_ 110 (List._∷_ 115 (List._∷_ 119 (List._∷_ 101 (List._∷_ 114 List.[]))))))))))))) (Syntax.ttcons (Syntax.tcons (Syntax.tyInt Syntax.w64) Syntax.tnil) (Syntax.ttcons Syntax.tnil (Syntax.ttcons (Syntax.tcons (Syntax.tyInt Syntax.w64) Syntax.tnil) (Syntax.ttcons (Syntax.tcons (Syntax.tyInt Syntax.w64) (Syntax.tcons (Syntax.tyInt Syntax.w64) Syntax.tnil)) (Syntax.ttcons Syntax.tnil (Syntax.ttcons Syntax.tnil (Syntax.ttcons Syntax.tnil (Syntax.ttcons (Syntax.tcons (Syntax.tyInt Syntax.w64) Syntax.tnil) (Syntax.ttcons (Syntax.tcons (Syntax.tyInt Syntax.w64) Syntax.tnil) (Syntax.ttcons (Syntax.tcons (Syntax.tyInt Syntax.w64) Syntax.tnil) (Syntax.ttcons (Syntax.tcons (Syntax.tyInt Syntax.w64) Syntax.tnil) (Syntax.ttcons (Syntax.tcons (Syntax.tyInt Syntax.w64) Syntax.tnil) (Syntax.ttcons (Syntax.tcons (Syntax.tyInt Syntax.w64) Syntax.tnil) (Syntax.ttcons (Syntax.tcons (Syntax.tyInt Syntax.w64) Syntax.tnil) (Syntax.ttcons Syntax.tnil (Syntax.ttcons Syntax.tnil (Syntax.ttcons (Syntax.tcons (Syntax.tyInt Syntax.w64) Syntax.tnil) Syntax.ttnil)))))))))))))))))) Syntax.tnil)))) (List._∷_ (1, Rows.whole (Declared.row Held.the-type)) (List._∷_ (2, Rows.whole (Declared.row Line.the-type)) (List._∷_ (3, Rows.sslice (Referent.rtF (Referent.fInt Syntax.w32)) (Syntax.tyRef (Syntax.named 0) Syntax.imm (Syntax.tyInt Syntax.w32)) 0) (List._∷_ (4, Mut.mslice (Referent.rtF (Referent.fInt Syntax.w32)) (Syntax.tyRef (Syntax.named 1) Syntax.mut (Syntax.tyInt Syntax.w32)) 1) (List._∷_ (5, Mut.mslice (Referent.rtF (Referent.fInt Syntax.w32)) (Syntax.tyRef (Syntax.named 2) Syntax.mut (Syntax.tyInt Syntax.w32)) 2) (List._∷_ (6, Mut.mslice (Referent.rtF (Referent.fInt Syntax.w32)) (Syntax.tyRef (Syntax.named 3) Syntax.mut (Syntax.tyInt Syntax.w32)) 3) (List._∷_ (7, Mut.mslice Cell.R (Syntax.tyRef (Syntax.named 4) Syntax.mut Cell.behind) 4) (List._∷_ (8, Mut.mslice Cell.R (Syntax.tyRef (Syntax.named 5) Syntax.mut Cell.behind) 5) (List._∷_ (9, Rows.whole (Declared.row State.the-type)) (List._∷_ (10, Rows.sc-here (Row.sInt Syntax.w64)) (List._∷_ (11, Rows.any-gone (Syntax.tyInt Syntax.w64)) (List._∷_ (12, Rows.any-gone (Syntax.tyInt Syntax.w64)) (List._∷_ (13, Rows.any-gone (Syntax.tyInt Syntax.w64)) (List._∷_ (14, Rows.any-gone (Syntax.tyInt Syntax.w64)) (List._∷_ (15, Rows.any-gone (Syntax.tyInt Syntax.w64)) List.[])))))))))))))))
+t4 = List._∷_ local0 (List._∷_ local1 (List._∷_ local2 (List._∷_ local3 (List._∷_ local4 (List._∷_ local5 (List._∷_ local6 (List._∷_ local7 (List._∷_ local8 (List._∷_ local29 (List._∷_ local30 (List._∷_ local11 locals1)))))))))))
 
 abbrev pub t5 : List.List Row.Entry
-t5 = List._∷_ (0, Rows.any-gone (Syntax.tyStruct (List._∷_ 112 (List._∷_ 121 (List._∷_ 114 (List._∷_ 97 (List._∷_ 109 (List._∷_ 105 (List._∷_ 100 (List._∷_ 58 (List._∷_ 58 (List._∷_ 79 (List._∷_ 117 (List._∷_ 116 (List._∷_ 99 (List._∷_ 111 (List._∷_ 109 (List._∷_ 101 List.[])))))))))))))))) (Syntax.tcons (Syntax.tyStruct (List._∷_ 112 (List._∷_ 121 (List._∷_ 114 (List._∷_ 97 (List._∷_ 109 (List._∷_ 105 (List._∷_ 100 (List._∷_ 58 (List._∷_ 58 (List._∷_ 83 (List._∷_ 116 (List._∷_ 97 (List._∷_ 116 (List._∷_ 101 List.[])))))))))))))) (Syntax.tcons (Syntax.tyInt Syntax.w32) (Syntax.tcons (Syntax.tyInt Syntax.w32) (Syntax.tcons (Syntax.tyInt Syntax.w32) (Syntax.tcons (Syntax.tyInt Syntax.w32) (Syntax.tcons (Syntax.tyInt Syntax.w32) (Syntax.tcons (Syntax.tyArray (Syntax.tyInt Syntax.w32) 64) Syntax.tnil))))))) (Syntax.tcons (Syntax.tyEnum (List._∷_ 100 (List._∷_ 97 (List._∷_ 114 (List._∷_ 116 (List._∷_ 115 (List._∷_ 58 (List._∷_ 58 (List._∷_ 65 (List._∷_ 110 (List._∷_ 115 (List._∷_ 119 (List._∷_ 101 (List._∷_ 114 List.[]))))))))))))) (Syntax.ttcons (Syntax.tcons (Syntax.tyInt Syntax.w64) Syntax.tnil) (Syntax.ttcons Syntax.tnil (Syntax.ttcons (Syntax.tcons (Syntax.tyInt Syntax.w64) Syntax.tnil) (Syntax.ttcons (Syntax.tcons (Syntax.tyInt Syntax.w64) (Syntax.tcons (Syntax.tyInt Syntax.w64) Syntax.tnil)) (Syntax.ttcons Syntax.tnil (Syntax.ttcons Syntax.tnil (Syntax.ttcons Syntax.tnil (Syntax.ttcons (Syntax.tcons (Syntax.tyInt Syntax.w64) Syntax.tnil) (Syntax.ttcons (Syntax.tcons (Syntax.tyInt Syntax.w64) Syntax.tnil) (Syntax.ttcons (Syntax.tcons (Syntax.tyInt Syntax.w64) Syntax.tnil) (Syntax.ttcons (Syntax.tcons (Syntax.tyInt Syntax.w64) Syntax.tnil) (Syntax.ttcons (Syntax.tcons (Syntax.tyInt Syntax.w64) Syntax.tnil) (Syntax.ttcons (Syntax.tcons (Syntax.tyInt Syntax.w64) Syntax.tnil) (Syntax.ttcons (Syntax.tcons (Syntax.tyInt Syntax.w64) Syntax.tnil) (Syntax.ttcons Syntax.tnil (Syntax.ttcons Syntax.tnil (Syntax.ttcons (Syntax.tcons (Syntax.tyInt Syntax.w64) Syntax.tnil) Syntax.ttnil)))))))))))))))))) Syntax.tnil)))) (List._∷_ (1, Rows.whole (Declared.row Held.the-type)) (List._∷_ (2, Rows.whole (Declared.row Line.the-type)) (List._∷_ (3, Rows.sslice (Referent.rtF (Referent.fInt Syntax.w32)) (Syntax.tyRef (Syntax.named 0) Syntax.imm (Syntax.tyInt Syntax.w32)) 0) (List._∷_ (4, Mut.mslice (Referent.rtF (Referent.fInt Syntax.w32)) (Syntax.tyRef (Syntax.named 1) Syntax.mut (Syntax.tyInt Syntax.w32)) 1) (List._∷_ (5, Mut.mslice (Referent.rtF (Referent.fInt Syntax.w32)) (Syntax.tyRef (Syntax.named 2) Syntax.mut (Syntax.tyInt Syntax.w32)) 2) (List._∷_ (6, Mut.mslice (Referent.rtF (Referent.fInt Syntax.w32)) (Syntax.tyRef (Syntax.named 3) Syntax.mut (Syntax.tyInt Syntax.w32)) 3) (List._∷_ (7, Mut.mslice Cell.R (Syntax.tyRef (Syntax.named 4) Syntax.mut Cell.behind) 4) (List._∷_ (8, Mut.mslice Cell.R (Syntax.tyRef (Syntax.named 5) Syntax.mut Cell.behind) 5) (List._∷_ (9, Rows.whole (Declared.row State.the-type)) (List._∷_ (10, Rows.sc-here (Row.sInt Syntax.w64)) (List._∷_ (11, Rows.sc-here (Row.sInt Syntax.w64)) (List._∷_ (12, Rows.any-gone (Syntax.tyInt Syntax.w64)) (List._∷_ (13, Rows.any-gone (Syntax.tyInt Syntax.w64)) (List._∷_ (14, Rows.any-gone (Syntax.tyInt Syntax.w64)) (List._∷_ (15, Rows.any-gone (Syntax.tyInt Syntax.w64)) List.[])))))))))))))))
+t5 = List._∷_ local0 (List._∷_ local1 (List._∷_ local2 (List._∷_ local3 (List._∷_ local4 (List._∷_ local5 (List._∷_ local6 (List._∷_ local7 (List._∷_ local8 (List._∷_ local29 (List._∷_ local30 (List._∷_ local31 locals1)))))))))))
 
 abbrev pub t6 : List.List Row.Entry
-t6 = List._∷_ (0, Rows.any-gone (Syntax.tyStruct (List._∷_ 112 (List._∷_ 121 (List._∷_ 114 (List._∷_ 97 (List._∷_ 109 (List._∷_ 105 (List._∷_ 100 (List._∷_ 58 (List._∷_ 58 (List._∷_ 79 (List._∷_ 117 (List._∷_ 116 (List._∷_ 99 (List._∷_ 111 (List._∷_ 109 (List._∷_ 101 List.[])))))))))))))))) (Syntax.tcons (Syntax.tyStruct (List._∷_ 112 (List._∷_ 121 (List._∷_ 114 (List._∷_ 97 (List._∷_ 109 (List._∷_ 105 (List._∷_ 100 (List._∷_ 58 (List._∷_ 58 (List._∷_ 83 (List._∷_ 116 (List._∷_ 97 (List._∷_ 116 (List._∷_ 101 List.[])))))))))))))) (Syntax.tcons (Syntax.tyInt Syntax.w32) (Syntax.tcons (Syntax.tyInt Syntax.w32) (Syntax.tcons (Syntax.tyInt Syntax.w32) (Syntax.tcons (Syntax.tyInt Syntax.w32) (Syntax.tcons (Syntax.tyInt Syntax.w32) (Syntax.tcons (Syntax.tyArray (Syntax.tyInt Syntax.w32) 64) Syntax.tnil))))))) (Syntax.tcons (Syntax.tyEnum (List._∷_ 100 (List._∷_ 97 (List._∷_ 114 (List._∷_ 116 (List._∷_ 115 (List._∷_ 58 (List._∷_ 58 (List._∷_ 65 (List._∷_ 110 (List._∷_ 115 (List._∷_ 119 (List._∷_ 101 (List._∷_ 114 List.[]))))))))))))) (Syntax.ttcons (Syntax.tcons (Syntax.tyInt Syntax.w64) Syntax.tnil) (Syntax.ttcons Syntax.tnil (Syntax.ttcons (Syntax.tcons (Syntax.tyInt Syntax.w64) Syntax.tnil) (Syntax.ttcons (Syntax.tcons (Syntax.tyInt Syntax.w64) (Syntax.tcons (Syntax.tyInt Syntax.w64) Syntax.tnil)) (Syntax.ttcons Syntax.tnil (Syntax.ttcons Syntax.tnil (Syntax.ttcons Syntax.tnil (Syntax.ttcons (Syntax.tcons (Syntax.tyInt Syntax.w64) Syntax.tnil) (Syntax.ttcons (Syntax.tcons (Syntax.tyInt Syntax.w64) Syntax.tnil) (Syntax.ttcons (Syntax.tcons (Syntax.tyInt Syntax.w64) Syntax.tnil) (Syntax.ttcons (Syntax.tcons (Syntax.tyInt Syntax.w64) Syntax.tnil) (Syntax.ttcons (Syntax.tcons (Syntax.tyInt Syntax.w64) Syntax.tnil) (Syntax.ttcons (Syntax.tcons (Syntax.tyInt Syntax.w64) Syntax.tnil) (Syntax.ttcons (Syntax.tcons (Syntax.tyInt Syntax.w64) Syntax.tnil) (Syntax.ttcons Syntax.tnil (Syntax.ttcons Syntax.tnil (Syntax.ttcons (Syntax.tcons (Syntax.tyInt Syntax.w64) Syntax.tnil) Syntax.ttnil)))))))))))))))))) Syntax.tnil)))) (List._∷_ (1, Rows.whole (Declared.row Held.the-type)) (List._∷_ (2, Rows.whole (Declared.row Line.the-type)) (List._∷_ (3, Rows.sslice (Referent.rtF (Referent.fInt Syntax.w32)) (Syntax.tyRef (Syntax.named 0) Syntax.imm (Syntax.tyInt Syntax.w32)) 0) (List._∷_ (4, Mut.mslice (Referent.rtF (Referent.fInt Syntax.w32)) (Syntax.tyRef (Syntax.named 1) Syntax.mut (Syntax.tyInt Syntax.w32)) 1) (List._∷_ (5, Mut.mslice (Referent.rtF (Referent.fInt Syntax.w32)) (Syntax.tyRef (Syntax.named 2) Syntax.mut (Syntax.tyInt Syntax.w32)) 2) (List._∷_ (6, Mut.mslice (Referent.rtF (Referent.fInt Syntax.w32)) (Syntax.tyRef (Syntax.named 3) Syntax.mut (Syntax.tyInt Syntax.w32)) 3) (List._∷_ (7, Mut.mslice Cell.R (Syntax.tyRef (Syntax.named 4) Syntax.mut Cell.behind) 4) (List._∷_ (8, Mut.mslice Cell.R (Syntax.tyRef (Syntax.named 5) Syntax.mut Cell.behind) 5) (List._∷_ (9, Rows.whole (Declared.row State.the-type)) (List._∷_ (10, Rows.sc-here (Row.sInt Syntax.w64)) (List._∷_ (11, Rows.sc-here (Row.sInt Syntax.w64)) (List._∷_ (12, Rows.sc-here (Row.sInt Syntax.w64)) (List._∷_ (13, Rows.any-gone (Syntax.tyInt Syntax.w64)) (List._∷_ (14, Rows.any-gone (Syntax.tyInt Syntax.w64)) (List._∷_ (15, Rows.any-gone (Syntax.tyInt Syntax.w64)) List.[])))))))))))))))
+t6 = List._∷_ local0 (List._∷_ local1 (List._∷_ local2 (List._∷_ local3 (List._∷_ local4 (List._∷_ local5 (List._∷_ local6 (List._∷_ local7 (List._∷_ local8 (List._∷_ local29 (List._∷_ local30 (List._∷_ local31 (List._∷_ local32 (List._∷_ local13 (List._∷_ local14 locals0))))))))))))))
 
 abbrev pub t7 : List.List Row.Entry
-t7 = List._∷_ (0, Rows.any-gone (Syntax.tyStruct (List._∷_ 112 (List._∷_ 121 (List._∷_ 114 (List._∷_ 97 (List._∷_ 109 (List._∷_ 105 (List._∷_ 100 (List._∷_ 58 (List._∷_ 58 (List._∷_ 79 (List._∷_ 117 (List._∷_ 116 (List._∷_ 99 (List._∷_ 111 (List._∷_ 109 (List._∷_ 101 List.[])))))))))))))))) (Syntax.tcons (Syntax.tyStruct (List._∷_ 112 (List._∷_ 121 (List._∷_ 114 (List._∷_ 97 (List._∷_ 109 (List._∷_ 105 (List._∷_ 100 (List._∷_ 58 (List._∷_ 58 (List._∷_ 83 (List._∷_ 116 (List._∷_ 97 (List._∷_ 116 (List._∷_ 101 List.[])))))))))))))) (Syntax.tcons (Syntax.tyInt Syntax.w32) (Syntax.tcons (Syntax.tyInt Syntax.w32) (Syntax.tcons (Syntax.tyInt Syntax.w32) (Syntax.tcons (Syntax.tyInt Syntax.w32) (Syntax.tcons (Syntax.tyInt Syntax.w32) (Syntax.tcons (Syntax.tyArray (Syntax.tyInt Syntax.w32) 64) Syntax.tnil))))))) (Syntax.tcons (Syntax.tyEnum (List._∷_ 100 (List._∷_ 97 (List._∷_ 114 (List._∷_ 116 (List._∷_ 115 (List._∷_ 58 (List._∷_ 58 (List._∷_ 65 (List._∷_ 110 (List._∷_ 115 (List._∷_ 119 (List._∷_ 101 (List._∷_ 114 List.[]))))))))))))) (Syntax.ttcons (Syntax.tcons (Syntax.tyInt Syntax.w64) Syntax.tnil) (Syntax.ttcons Syntax.tnil (Syntax.ttcons (Syntax.tcons (Syntax.tyInt Syntax.w64) Syntax.tnil) (Syntax.ttcons (Syntax.tcons (Syntax.tyInt Syntax.w64) (Syntax.tcons (Syntax.tyInt Syntax.w64) Syntax.tnil)) (Syntax.ttcons Syntax.tnil (Syntax.ttcons Syntax.tnil (Syntax.ttcons Syntax.tnil (Syntax.ttcons (Syntax.tcons (Syntax.tyInt Syntax.w64) Syntax.tnil) (Syntax.ttcons (Syntax.tcons (Syntax.tyInt Syntax.w64) Syntax.tnil) (Syntax.ttcons (Syntax.tcons (Syntax.tyInt Syntax.w64) Syntax.tnil) (Syntax.ttcons (Syntax.tcons (Syntax.tyInt Syntax.w64) Syntax.tnil) (Syntax.ttcons (Syntax.tcons (Syntax.tyInt Syntax.w64) Syntax.tnil) (Syntax.ttcons (Syntax.tcons (Syntax.tyInt Syntax.w64) Syntax.tnil) (Syntax.ttcons (Syntax.tcons (Syntax.tyInt Syntax.w64) Syntax.tnil) (Syntax.ttcons Syntax.tnil (Syntax.ttcons Syntax.tnil (Syntax.ttcons (Syntax.tcons (Syntax.tyInt Syntax.w64) Syntax.tnil) Syntax.ttnil)))))))))))))))))) Syntax.tnil)))) (List._∷_ (1, Rows.whole (Declared.row Held.the-type)) (List._∷_ (2, Rows.whole (Declared.row Line.the-type)) (List._∷_ (3, Rows.sslice (Referent.rtF (Referent.fInt Syntax.w32)) (Syntax.tyRef (Syntax.named 0) Syntax.imm (Syntax.tyInt Syntax.w32)) 0) (List._∷_ (4, Mut.mslice (Referent.rtF (Referent.fInt Syntax.w32)) (Syntax.tyRef (Syntax.named 1) Syntax.mut (Syntax.tyInt Syntax.w32)) 1) (List._∷_ (5, Mut.mslice (Referent.rtF (Referent.fInt Syntax.w32)) (Syntax.tyRef (Syntax.named 2) Syntax.mut (Syntax.tyInt Syntax.w32)) 2) (List._∷_ (6, Mut.mslice (Referent.rtF (Referent.fInt Syntax.w32)) (Syntax.tyRef (Syntax.named 3) Syntax.mut (Syntax.tyInt Syntax.w32)) 3) (List._∷_ (7, Mut.mslice Cell.R (Syntax.tyRef (Syntax.named 4) Syntax.mut Cell.behind) 4) (List._∷_ (8, Mut.mslice Cell.R (Syntax.tyRef (Syntax.named 5) Syntax.mut Cell.behind) 5) (List._∷_ (9, Rows.whole (Declared.row State.the-type)) (List._∷_ (10, Rows.sc-here (Row.sInt Syntax.w64)) (List._∷_ (11, Rows.sc-here (Row.sInt Syntax.w64)) (List._∷_ (12, Rows.sc-here (Row.sInt Syntax.w64)) (List._∷_ (13, Rows.sc-here (Row.sInt Syntax.w64)) (List._∷_ (14, Rows.any-gone (Syntax.tyInt Syntax.w64)) (List._∷_ (15, Rows.any-gone (Syntax.tyInt Syntax.w64)) List.[])))))))))))))))
+t7 = List._∷_ local0 (List._∷_ local1 (List._∷_ local2 (List._∷_ local3 (List._∷_ local4 (List._∷_ local5 (List._∷_ local6 (List._∷_ local7 (List._∷_ local8 (List._∷_ local29 (List._∷_ local30 (List._∷_ local31 (List._∷_ local32 (List._∷_ (13, Rows.sc-here sc0) (List._∷_ local14 locals0))))))))))))))
 
 abbrev pub t8 : List.List Row.Entry
-t8 = List._∷_ (0, Rows.any-gone (Syntax.tyStruct (List._∷_ 112 (List._∷_ 121 (List._∷_ 114 (List._∷_ 97 (List._∷_ 109 (List._∷_ 105 (List._∷_ 100 (List._∷_ 58 (List._∷_ 58 (List._∷_ 79 (List._∷_ 117 (List._∷_ 116 (List._∷_ 99 (List._∷_ 111 (List._∷_ 109 (List._∷_ 101 List.[])))))))))))))))) (Syntax.tcons (Syntax.tyStruct (List._∷_ 112 (List._∷_ 121 (List._∷_ 114 (List._∷_ 97 (List._∷_ 109 (List._∷_ 105 (List._∷_ 100 (List._∷_ 58 (List._∷_ 58 (List._∷_ 83 (List._∷_ 116 (List._∷_ 97 (List._∷_ 116 (List._∷_ 101 List.[])))))))))))))) (Syntax.tcons (Syntax.tyInt Syntax.w32) (Syntax.tcons (Syntax.tyInt Syntax.w32) (Syntax.tcons (Syntax.tyInt Syntax.w32) (Syntax.tcons (Syntax.tyInt Syntax.w32) (Syntax.tcons (Syntax.tyInt Syntax.w32) (Syntax.tcons (Syntax.tyArray (Syntax.tyInt Syntax.w32) 64) Syntax.tnil))))))) (Syntax.tcons (Syntax.tyEnum (List._∷_ 100 (List._∷_ 97 (List._∷_ 114 (List._∷_ 116 (List._∷_ 115 (List._∷_ 58 (List._∷_ 58 (List._∷_ 65 (List._∷_ 110 (List._∷_ 115 (List._∷_ 119 (List._∷_ 101 (List._∷_ 114 List.[]))))))))))))) (Syntax.ttcons (Syntax.tcons (Syntax.tyInt Syntax.w64) Syntax.tnil) (Syntax.ttcons Syntax.tnil (Syntax.ttcons (Syntax.tcons (Syntax.tyInt Syntax.w64) Syntax.tnil) (Syntax.ttcons (Syntax.tcons (Syntax.tyInt Syntax.w64) (Syntax.tcons (Syntax.tyInt Syntax.w64) Syntax.tnil)) (Syntax.ttcons Syntax.tnil (Syntax.ttcons Syntax.tnil (Syntax.ttcons Syntax.tnil (Syntax.ttcons (Syntax.tcons (Syntax.tyInt Syntax.w64) Syntax.tnil) (Syntax.ttcons (Syntax.tcons (Syntax.tyInt Syntax.w64) Syntax.tnil) (Syntax.ttcons (Syntax.tcons (Syntax.tyInt Syntax.w64) Syntax.tnil) (Syntax.ttcons (Syntax.tcons (Syntax.tyInt Syntax.w64) Syntax.tnil) (Syntax.ttcons (Syntax.tcons (Syntax.tyInt Syntax.w64) Syntax.tnil) (Syntax.ttcons (Syntax.tcons (Syntax.tyInt Syntax.w64) Syntax.tnil) (Syntax.ttcons (Syntax.tcons (Syntax.tyInt Syntax.w64) Syntax.tnil) (Syntax.ttcons Syntax.tnil (Syntax.ttcons Syntax.tnil (Syntax.ttcons (Syntax.tcons (Syntax.tyInt Syntax.w64) Syntax.tnil) Syntax.ttnil)))))))))))))))))) Syntax.tnil)))) (List._∷_ (1, Rows.whole (Declared.row Held.the-type)) (List._∷_ (2, Rows.whole (Declared.row Line.the-type)) (List._∷_ (3, Rows.sslice (Referent.rtF (Referent.fInt Syntax.w32)) (Syntax.tyRef (Syntax.named 0) Syntax.imm (Syntax.tyInt Syntax.w32)) 0) (List._∷_ (4, Mut.mslice (Referent.rtF (Referent.fInt Syntax.w32)) (Syntax.tyRef (Syntax.named 1) Syntax.mut (Syntax.tyInt Syntax.w32)) 1) (List._∷_ (5, Mut.mslice (Referent.rtF (Referent.fInt Syntax.w32)) (Syntax.tyRef (Syntax.named 2) Syntax.mut (Syntax.tyInt Syntax.w32)) 2) (List._∷_ (6, Mut.mslice (Referent.rtF (Referent.fInt Syntax.w32)) (Syntax.tyRef (Syntax.named 3) Syntax.mut (Syntax.tyInt Syntax.w32)) 3) (List._∷_ (7, Mut.mslice Cell.R (Syntax.tyRef (Syntax.named 4) Syntax.mut Cell.behind) 4) (List._∷_ (8, Mut.mslice Cell.R (Syntax.tyRef (Syntax.named 5) Syntax.mut Cell.behind) 5) (List._∷_ (9, Rows.whole (Declared.row State.the-type)) (List._∷_ (10, Rows.sc-here (Row.sInt Syntax.w64)) (List._∷_ (11, Rows.sc-here (Row.sInt Syntax.w64)) (List._∷_ (12, Rows.sc-here (Row.sInt Syntax.w64)) (List._∷_ (13, Rows.sc-here (Row.sInt Syntax.w64)) (List._∷_ (14, Rows.sc-here (Row.sInt Syntax.w64)) (List._∷_ (15, Rows.any-gone (Syntax.tyInt Syntax.w64)) List.[])))))))))))))))
+t8 = List._∷_ local0 (List._∷_ local1 locals9)
 
 abbrev pub t9 : List.List Row.Entry
-t9 = List._∷_ (0, Rows.any-gone (Syntax.tyStruct (List._∷_ 112 (List._∷_ 121 (List._∷_ 114 (List._∷_ 97 (List._∷_ 109 (List._∷_ 105 (List._∷_ 100 (List._∷_ 58 (List._∷_ 58 (List._∷_ 79 (List._∷_ 117 (List._∷_ 116 (List._∷_ 99 (List._∷_ 111 (List._∷_ 109 (List._∷_ 101 List.[])))))))))))))))) (Syntax.tcons (Syntax.tyStruct (List._∷_ 112 (List._∷_ 121 (List._∷_ 114 (List._∷_ 97 (List._∷_ 109 (List._∷_ 105 (List._∷_ 100 (List._∷_ 58 (List._∷_ 58 (List._∷_ 83 (List._∷_ 116 (List._∷_ 97 (List._∷_ 116 (List._∷_ 101 List.[])))))))))))))) (Syntax.tcons (Syntax.tyInt Syntax.w32) (Syntax.tcons (Syntax.tyInt Syntax.w32) (Syntax.tcons (Syntax.tyInt Syntax.w32) (Syntax.tcons (Syntax.tyInt Syntax.w32) (Syntax.tcons (Syntax.tyInt Syntax.w32) (Syntax.tcons (Syntax.tyArray (Syntax.tyInt Syntax.w32) 64) Syntax.tnil))))))) (Syntax.tcons (Syntax.tyEnum (List._∷_ 100 (List._∷_ 97 (List._∷_ 114 (List._∷_ 116 (List._∷_ 115 (List._∷_ 58 (List._∷_ 58 (List._∷_ 65 (List._∷_ 110 (List._∷_ 115 (List._∷_ 119 (List._∷_ 101 (List._∷_ 114 List.[]))))))))))))) (Syntax.ttcons (Syntax.tcons (Syntax.tyInt Syntax.w64) Syntax.tnil) (Syntax.ttcons Syntax.tnil (Syntax.ttcons (Syntax.tcons (Syntax.tyInt Syntax.w64) Syntax.tnil) (Syntax.ttcons (Syntax.tcons (Syntax.tyInt Syntax.w64) (Syntax.tcons (Syntax.tyInt Syntax.w64) Syntax.tnil)) (Syntax.ttcons Syntax.tnil (Syntax.ttcons Syntax.tnil (Syntax.ttcons Syntax.tnil (Syntax.ttcons (Syntax.tcons (Syntax.tyInt Syntax.w64) Syntax.tnil) (Syntax.ttcons (Syntax.tcons (Syntax.tyInt Syntax.w64) Syntax.tnil) (Syntax.ttcons (Syntax.tcons (Syntax.tyInt Syntax.w64) Syntax.tnil) (Syntax.ttcons (Syntax.tcons (Syntax.tyInt Syntax.w64) Syntax.tnil) (Syntax.ttcons (Syntax.tcons (Syntax.tyInt Syntax.w64) Syntax.tnil) (Syntax.ttcons (Syntax.tcons (Syntax.tyInt Syntax.w64) Syntax.tnil) (Syntax.ttcons (Syntax.tcons (Syntax.tyInt Syntax.w64) Syntax.tnil) (Syntax.ttcons Syntax.tnil (Syntax.ttcons Syntax.tnil (Syntax.ttcons (Syntax.tcons (Syntax.tyInt Syntax.w64) Syntax.tnil) Syntax.ttnil)))))))))))))))))) Syntax.tnil)))) (List._∷_ (1, Rows.any-gone (Syntax.tyStruct (List._∷_ 122 (List._∷_ 111 (List._∷_ 110 (List._∷_ 101 (List._∷_ 115 (List._∷_ 58 (List._∷_ 58 (List._∷_ 104 (List._∷_ 101 (List._∷_ 108 (List._∷_ 100 (List._∷_ 58 (List._∷_ 58 (List._∷_ 72 (List._∷_ 101 (List._∷_ 108 (List._∷_ 100 List.[]))))))))))))))))) (Syntax.tcons (Syntax.tyStruct (List._∷_ 112 (List._∷_ 121 (List._∷_ 114 (List._∷_ 97 (List._∷_ 109 (List._∷_ 105 (List._∷_ 100 (List._∷_ 58 (List._∷_ 58 (List._∷_ 83 (List._∷_ 116 (List._∷_ 97 (List._∷_ 116 (List._∷_ 101 List.[])))))))))))))) (Syntax.tcons (Syntax.tyInt Syntax.w32) (Syntax.tcons (Syntax.tyInt Syntax.w32) (Syntax.tcons (Syntax.tyInt Syntax.w32) (Syntax.tcons (Syntax.tyInt Syntax.w32) (Syntax.tcons (Syntax.tyInt Syntax.w32) (Syntax.tcons (Syntax.tyArray (Syntax.tyInt Syntax.w32) 64) Syntax.tnil))))))) (Syntax.tcons (Syntax.tyInt Syntax.w64) (Syntax.tcons (Syntax.tyInt Syntax.w64) (Syntax.tcons (Syntax.tyInt Syntax.w64) (Syntax.tcons (Syntax.tyInt Syntax.w64) (Syntax.tcons (Syntax.tyInt Syntax.w64) (Syntax.tcons (Syntax.tyInt Syntax.w64) (Syntax.tcons Syntax.tyBool Syntax.tnil)))))))))) (List._∷_ (2, Rows.whole (Declared.row Line.the-type)) (List._∷_ (3, Rows.sslice (Referent.rtF (Referent.fInt Syntax.w32)) (Syntax.tyRef (Syntax.named 0) Syntax.imm (Syntax.tyInt Syntax.w32)) 0) (List._∷_ (4, Mut.mslice (Referent.rtF (Referent.fInt Syntax.w32)) (Syntax.tyRef (Syntax.named 1) Syntax.mut (Syntax.tyInt Syntax.w32)) 1) (List._∷_ (5, Mut.mslice (Referent.rtF (Referent.fInt Syntax.w32)) (Syntax.tyRef (Syntax.named 2) Syntax.mut (Syntax.tyInt Syntax.w32)) 2) (List._∷_ (6, Mut.mslice (Referent.rtF (Referent.fInt Syntax.w32)) (Syntax.tyRef (Syntax.named 3) Syntax.mut (Syntax.tyInt Syntax.w32)) 3) (List._∷_ (7, Mut.mslice Cell.R (Syntax.tyRef (Syntax.named 4) Syntax.mut Cell.behind) 4) (List._∷_ (8, Mut.mslice Cell.R (Syntax.tyRef (Syntax.named 5) Syntax.mut Cell.behind) 5) (List._∷_ (9, Rows.whole (Declared.row State.the-type)) (List._∷_ (10, Rows.sc-here (Row.sInt Syntax.w64)) (List._∷_ (11, Rows.sc-here (Row.sInt Syntax.w64)) (List._∷_ (12, Rows.sc-here (Row.sInt Syntax.w64)) (List._∷_ (13, Rows.sc-here (Row.sInt Syntax.w64)) (List._∷_ (14, Rows.sc-here (Row.sInt Syntax.w64)) (List._∷_ (15, Rows.any-gone (Syntax.tyInt Syntax.w64)) List.[])))))))))))))))
+t9 = List._∷_ local0 (List._∷_ local27 locals9)
 
 abbrev pub t10 : List.List Row.Entry
-t10 = List._∷_ (0, Rows.any-gone (Syntax.tyStruct (List._∷_ 112 (List._∷_ 121 (List._∷_ 114 (List._∷_ 97 (List._∷_ 109 (List._∷_ 105 (List._∷_ 100 (List._∷_ 58 (List._∷_ 58 (List._∷_ 79 (List._∷_ 117 (List._∷_ 116 (List._∷_ 99 (List._∷_ 111 (List._∷_ 109 (List._∷_ 101 List.[])))))))))))))))) (Syntax.tcons (Syntax.tyStruct (List._∷_ 112 (List._∷_ 121 (List._∷_ 114 (List._∷_ 97 (List._∷_ 109 (List._∷_ 105 (List._∷_ 100 (List._∷_ 58 (List._∷_ 58 (List._∷_ 83 (List._∷_ 116 (List._∷_ 97 (List._∷_ 116 (List._∷_ 101 List.[])))))))))))))) (Syntax.tcons (Syntax.tyInt Syntax.w32) (Syntax.tcons (Syntax.tyInt Syntax.w32) (Syntax.tcons (Syntax.tyInt Syntax.w32) (Syntax.tcons (Syntax.tyInt Syntax.w32) (Syntax.tcons (Syntax.tyInt Syntax.w32) (Syntax.tcons (Syntax.tyArray (Syntax.tyInt Syntax.w32) 64) Syntax.tnil))))))) (Syntax.tcons (Syntax.tyEnum (List._∷_ 100 (List._∷_ 97 (List._∷_ 114 (List._∷_ 116 (List._∷_ 115 (List._∷_ 58 (List._∷_ 58 (List._∷_ 65 (List._∷_ 110 (List._∷_ 115 (List._∷_ 119 (List._∷_ 101 (List._∷_ 114 List.[]))))))))))))) (Syntax.ttcons (Syntax.tcons (Syntax.tyInt Syntax.w64) Syntax.tnil) (Syntax.ttcons Syntax.tnil (Syntax.ttcons (Syntax.tcons (Syntax.tyInt Syntax.w64) Syntax.tnil) (Syntax.ttcons (Syntax.tcons (Syntax.tyInt Syntax.w64) (Syntax.tcons (Syntax.tyInt Syntax.w64) Syntax.tnil)) (Syntax.ttcons Syntax.tnil (Syntax.ttcons Syntax.tnil (Syntax.ttcons Syntax.tnil (Syntax.ttcons (Syntax.tcons (Syntax.tyInt Syntax.w64) Syntax.tnil) (Syntax.ttcons (Syntax.tcons (Syntax.tyInt Syntax.w64) Syntax.tnil) (Syntax.ttcons (Syntax.tcons (Syntax.tyInt Syntax.w64) Syntax.tnil) (Syntax.ttcons (Syntax.tcons (Syntax.tyInt Syntax.w64) Syntax.tnil) (Syntax.ttcons (Syntax.tcons (Syntax.tyInt Syntax.w64) Syntax.tnil) (Syntax.ttcons (Syntax.tcons (Syntax.tyInt Syntax.w64) Syntax.tnil) (Syntax.ttcons (Syntax.tcons (Syntax.tyInt Syntax.w64) Syntax.tnil) (Syntax.ttcons Syntax.tnil (Syntax.ttcons Syntax.tnil (Syntax.ttcons (Syntax.tcons (Syntax.tyInt Syntax.w64) Syntax.tnil) Syntax.ttnil)))))))))))))))))) Syntax.tnil)))) (List._∷_ (1, Rows.any-gone (Syntax.tyStruct (List._∷_ 122 (List._∷_ 111 (List._∷_ 110 (List._∷_ 101 (List._∷_ 115 (List._∷_ 58 (List._∷_ 58 (List._∷_ 104 (List._∷_ 101 (List._∷_ 108 (List._∷_ 100 (List._∷_ 58 (List._∷_ 58 (List._∷_ 72 (List._∷_ 101 (List._∷_ 108 (List._∷_ 100 List.[]))))))))))))))))) (Syntax.tcons (Syntax.tyStruct (List._∷_ 112 (List._∷_ 121 (List._∷_ 114 (List._∷_ 97 (List._∷_ 109 (List._∷_ 105 (List._∷_ 100 (List._∷_ 58 (List._∷_ 58 (List._∷_ 83 (List._∷_ 116 (List._∷_ 97 (List._∷_ 116 (List._∷_ 101 List.[])))))))))))))) (Syntax.tcons (Syntax.tyInt Syntax.w32) (Syntax.tcons (Syntax.tyInt Syntax.w32) (Syntax.tcons (Syntax.tyInt Syntax.w32) (Syntax.tcons (Syntax.tyInt Syntax.w32) (Syntax.tcons (Syntax.tyInt Syntax.w32) (Syntax.tcons (Syntax.tyArray (Syntax.tyInt Syntax.w32) 64) Syntax.tnil))))))) (Syntax.tcons (Syntax.tyInt Syntax.w64) (Syntax.tcons (Syntax.tyInt Syntax.w64) (Syntax.tcons (Syntax.tyInt Syntax.w64) (Syntax.tcons (Syntax.tyInt Syntax.w64) (Syntax.tcons (Syntax.tyInt Syntax.w64) (Syntax.tcons (Syntax.tyInt Syntax.w64) (Syntax.tcons Syntax.tyBool Syntax.tnil)))))))))) (List._∷_ (2, Rows.whole (Declared.row Line.the-type)) (List._∷_ (3, Rows.sslice (Referent.rtF (Referent.fInt Syntax.w32)) (Syntax.tyRef (Syntax.named 0) Syntax.imm (Syntax.tyInt Syntax.w32)) 0) (List._∷_ (4, Mut.mslice (Referent.rtF (Referent.fInt Syntax.w32)) (Syntax.tyRef (Syntax.named 1) Syntax.mut (Syntax.tyInt Syntax.w32)) 1) (List._∷_ (5, Mut.mslice (Referent.rtF (Referent.fInt Syntax.w32)) (Syntax.tyRef (Syntax.named 2) Syntax.mut (Syntax.tyInt Syntax.w32)) 2) (List._∷_ (6, Mut.mslice (Referent.rtF (Referent.fInt Syntax.w32)) (Syntax.tyRef (Syntax.named 3) Syntax.mut (Syntax.tyInt Syntax.w32)) 3) (List._∷_ (7, Mut.mslice Cell.R (Syntax.tyRef (Syntax.named 4) Syntax.mut Cell.behind) 4) (List._∷_ (8, Mut.mslice Cell.R (Syntax.tyRef (Syntax.named 5) Syntax.mut Cell.behind) 5) (List._∷_ (9, Rows.whole (Declared.row State.the-type)) (List._∷_ (10, Rows.sc-here (Row.sInt Syntax.w64)) (List._∷_ (11, Rows.sc-here (Row.sInt Syntax.w64)) (List._∷_ (12, Rows.sc-here (Row.sInt Syntax.w64)) (List._∷_ (13, Rows.sc-here (Row.sInt Syntax.w64)) (List._∷_ (14, Rows.sc-here (Row.sInt Syntax.w64)) (List._∷_ (15, Rows.sc-here (Row.sInt Syntax.w64)) List.[])))))))))))))))
+t10 = List._∷_ local0 (List._∷_ local27 (List._∷_ local2 (List._∷_ local3 (List._∷_ local4 (List._∷_ local5 locals15)))))
 
 abbrev pub t11 : List.List Row.Entry
-t11 = List._∷_ (16, Rows.sc-here Row.sPtr) (List._∷_ (17, Rows.any-gone (Syntax.tyInt Syntax.w32)) (List._∷_ (18, Rows.any-gone (Syntax.tyRef Syntax.erased Syntax.imm (Syntax.tyInt Syntax.w32))) (List._∷_ (19, Rows.any-gone (Syntax.tyStruct (List._∷_ 38 (List._∷_ 91 (List._∷_ 93 List.[]))) (Syntax.tcons (Syntax.tyRef Syntax.erased Syntax.imm (Syntax.tyInt Syntax.w32)) (Syntax.tcons (Syntax.tyInt Syntax.w64) Syntax.tnil)))) (List._∷_ (20, Rows.any-gone (Syntax.tyRef Syntax.erased Syntax.mut (Syntax.tyInt Syntax.w32))) (List._∷_ (21, Rows.any-gone (Syntax.tyStruct (List._∷_ 38 (List._∷_ 91 (List._∷_ 93 List.[]))) (Syntax.tcons (Syntax.tyRef Syntax.erased Syntax.mut (Syntax.tyInt Syntax.w32)) (Syntax.tcons (Syntax.tyInt Syntax.w64) Syntax.tnil)))) (List._∷_ (22, Rows.any-gone (Syntax.tyRef Syntax.erased Syntax.mut (Syntax.tyInt Syntax.w32))) (List._∷_ (23, Rows.any-gone (Syntax.tyStruct (List._∷_ 38 (List._∷_ 91 (List._∷_ 93 List.[]))) (Syntax.tcons (Syntax.tyRef Syntax.erased Syntax.mut (Syntax.tyInt Syntax.w32)) (Syntax.tcons (Syntax.tyInt Syntax.w64) Syntax.tnil)))) (List._∷_ (24, Rows.any-gone (Syntax.tyRef Syntax.erased Syntax.mut (Syntax.tyInt Syntax.w32))) (List._∷_ (25, Rows.any-gone (Syntax.tyStruct (List._∷_ 38 (List._∷_ 91 (List._∷_ 93 List.[]))) (Syntax.tcons (Syntax.tyRef Syntax.erased Syntax.mut (Syntax.tyInt Syntax.w32)) (Syntax.tcons (Syntax.tyInt Syntax.w64) Syntax.tnil)))) (List._∷_ (26, Rows.any-gone (Syntax.tyRef Syntax.erased Syntax.mut Cell.behind)) (List._∷_ (27, Rows.any-gone (Syntax.tyStruct (List._∷_ 38 (List._∷_ 91 (List._∷_ 93 List.[]))) (Syntax.tcons (Syntax.tyRef Syntax.erased Syntax.mut Cell.behind) (Syntax.tcons (Syntax.tyInt Syntax.w64) Syntax.tnil)))) (List._∷_ (28, Rows.any-gone (Syntax.tyRef Syntax.erased Syntax.mut Cell.behind)) (List._∷_ (29, Rows.any-gone (Syntax.tyStruct (List._∷_ 38 (List._∷_ 91 (List._∷_ 93 List.[]))) (Syntax.tcons (Syntax.tyRef Syntax.erased Syntax.mut Cell.behind) (Syntax.tcons (Syntax.tyInt Syntax.w64) Syntax.tnil)))) List.[])))))))))))))
+t11 = List._∷_ (16, Rows.sc-here Row.sPtr) (List._∷_ local16 locals8)
 
 abbrev pub t12 : List.List Row.Entry
-t12 = List._∷_ (16, Rows.sc-here Row.sPtr) (List._∷_ (17, Rows.sc-here (Row.sInt Syntax.w32)) (List._∷_ (18, Rows.any-gone (Syntax.tyRef Syntax.erased Syntax.imm (Syntax.tyInt Syntax.w32))) (List._∷_ (19, Rows.any-gone (Syntax.tyStruct (List._∷_ 38 (List._∷_ 91 (List._∷_ 93 List.[]))) (Syntax.tcons (Syntax.tyRef Syntax.erased Syntax.imm (Syntax.tyInt Syntax.w32)) (Syntax.tcons (Syntax.tyInt Syntax.w64) Syntax.tnil)))) (List._∷_ (20, Rows.any-gone (Syntax.tyRef Syntax.erased Syntax.mut (Syntax.tyInt Syntax.w32))) (List._∷_ (21, Rows.any-gone (Syntax.tyStruct (List._∷_ 38 (List._∷_ 91 (List._∷_ 93 List.[]))) (Syntax.tcons (Syntax.tyRef Syntax.erased Syntax.mut (Syntax.tyInt Syntax.w32)) (Syntax.tcons (Syntax.tyInt Syntax.w64) Syntax.tnil)))) (List._∷_ (22, Rows.any-gone (Syntax.tyRef Syntax.erased Syntax.mut (Syntax.tyInt Syntax.w32))) (List._∷_ (23, Rows.any-gone (Syntax.tyStruct (List._∷_ 38 (List._∷_ 91 (List._∷_ 93 List.[]))) (Syntax.tcons (Syntax.tyRef Syntax.erased Syntax.mut (Syntax.tyInt Syntax.w32)) (Syntax.tcons (Syntax.tyInt Syntax.w64) Syntax.tnil)))) (List._∷_ (24, Rows.any-gone (Syntax.tyRef Syntax.erased Syntax.mut (Syntax.tyInt Syntax.w32))) (List._∷_ (25, Rows.any-gone (Syntax.tyStruct (List._∷_ 38 (List._∷_ 91 (List._∷_ 93 List.[]))) (Syntax.tcons (Syntax.tyRef Syntax.erased Syntax.mut (Syntax.tyInt Syntax.w32)) (Syntax.tcons (Syntax.tyInt Syntax.w64) Syntax.tnil)))) (List._∷_ (26, Rows.any-gone (Syntax.tyRef Syntax.erased Syntax.mut Cell.behind)) (List._∷_ (27, Rows.any-gone (Syntax.tyStruct (List._∷_ 38 (List._∷_ 91 (List._∷_ 93 List.[]))) (Syntax.tcons (Syntax.tyRef Syntax.erased Syntax.mut Cell.behind) (Syntax.tcons (Syntax.tyInt Syntax.w64) Syntax.tnil)))) (List._∷_ (28, Rows.any-gone (Syntax.tyRef Syntax.erased Syntax.mut Cell.behind)) (List._∷_ (29, Rows.any-gone (Syntax.tyStruct (List._∷_ 38 (List._∷_ 91 (List._∷_ 93 List.[]))) (Syntax.tcons (Syntax.tyRef Syntax.erased Syntax.mut Cell.behind) (Syntax.tcons (Syntax.tyInt Syntax.w64) Syntax.tnil)))) List.[])))))))))))))
+t12 = List._∷_ (16, Rows.sc-here Row.sPtr) (List._∷_ local33 locals8)
 
 abbrev pub t13 : List.List Row.Entry
-t13 = List._∷_ (16, Rows.any-gone Syntax.tyPtr) (List._∷_ (17, Rows.sc-here (Row.sInt Syntax.w32)) (List._∷_ (18, Rows.any-gone (Syntax.tyRef Syntax.erased Syntax.imm (Syntax.tyInt Syntax.w32))) (List._∷_ (19, Rows.any-gone (Syntax.tyStruct (List._∷_ 38 (List._∷_ 91 (List._∷_ 93 List.[]))) (Syntax.tcons (Syntax.tyRef Syntax.erased Syntax.imm (Syntax.tyInt Syntax.w32)) (Syntax.tcons (Syntax.tyInt Syntax.w64) Syntax.tnil)))) (List._∷_ (20, Rows.any-gone (Syntax.tyRef Syntax.erased Syntax.mut (Syntax.tyInt Syntax.w32))) (List._∷_ (21, Rows.any-gone (Syntax.tyStruct (List._∷_ 38 (List._∷_ 91 (List._∷_ 93 List.[]))) (Syntax.tcons (Syntax.tyRef Syntax.erased Syntax.mut (Syntax.tyInt Syntax.w32)) (Syntax.tcons (Syntax.tyInt Syntax.w64) Syntax.tnil)))) (List._∷_ (22, Rows.any-gone (Syntax.tyRef Syntax.erased Syntax.mut (Syntax.tyInt Syntax.w32))) (List._∷_ (23, Rows.any-gone (Syntax.tyStruct (List._∷_ 38 (List._∷_ 91 (List._∷_ 93 List.[]))) (Syntax.tcons (Syntax.tyRef Syntax.erased Syntax.mut (Syntax.tyInt Syntax.w32)) (Syntax.tcons (Syntax.tyInt Syntax.w64) Syntax.tnil)))) (List._∷_ (24, Rows.any-gone (Syntax.tyRef Syntax.erased Syntax.mut (Syntax.tyInt Syntax.w32))) (List._∷_ (25, Rows.any-gone (Syntax.tyStruct (List._∷_ 38 (List._∷_ 91 (List._∷_ 93 List.[]))) (Syntax.tcons (Syntax.tyRef Syntax.erased Syntax.mut (Syntax.tyInt Syntax.w32)) (Syntax.tcons (Syntax.tyInt Syntax.w64) Syntax.tnil)))) (List._∷_ (26, Rows.any-gone (Syntax.tyRef Syntax.erased Syntax.mut Cell.behind)) (List._∷_ (27, Rows.any-gone (Syntax.tyStruct (List._∷_ 38 (List._∷_ 91 (List._∷_ 93 List.[]))) (Syntax.tcons (Syntax.tyRef Syntax.erased Syntax.mut Cell.behind) (Syntax.tcons (Syntax.tyInt Syntax.w64) Syntax.tnil)))) (List._∷_ (28, Rows.any-gone (Syntax.tyRef Syntax.erased Syntax.mut Cell.behind)) (List._∷_ (29, Rows.any-gone (Syntax.tyStruct (List._∷_ 38 (List._∷_ 91 (List._∷_ 93 List.[]))) (Syntax.tcons (Syntax.tyRef Syntax.erased Syntax.mut Cell.behind) (Syntax.tcons (Syntax.tyInt Syntax.w64) Syntax.tnil)))) List.[])))))))))))))
+t13 = List._∷_ local15 (List._∷_ local33 locals8)
 
 abbrev pub t14 : List.List Row.Entry
-t14 = List._∷_ (16, Rows.any-gone Syntax.tyPtr) (List._∷_ (17, Rows.sc-here (Row.sInt Syntax.w32)) (List._∷_ (18, Relend.ssptr (Referent.rtF (Referent.fInt Syntax.w32)) (Syntax.tyRef Syntax.erased Syntax.imm (Syntax.tyInt Syntax.w32)) 0) (List._∷_ (19, Rows.any-gone (Syntax.tyStruct (List._∷_ 38 (List._∷_ 91 (List._∷_ 93 List.[]))) (Syntax.tcons (Syntax.tyRef Syntax.erased Syntax.imm (Syntax.tyInt Syntax.w32)) (Syntax.tcons (Syntax.tyInt Syntax.w64) Syntax.tnil)))) (List._∷_ (20, Rows.any-gone (Syntax.tyRef Syntax.erased Syntax.mut (Syntax.tyInt Syntax.w32))) (List._∷_ (21, Rows.any-gone (Syntax.tyStruct (List._∷_ 38 (List._∷_ 91 (List._∷_ 93 List.[]))) (Syntax.tcons (Syntax.tyRef Syntax.erased Syntax.mut (Syntax.tyInt Syntax.w32)) (Syntax.tcons (Syntax.tyInt Syntax.w64) Syntax.tnil)))) (List._∷_ (22, Rows.any-gone (Syntax.tyRef Syntax.erased Syntax.mut (Syntax.tyInt Syntax.w32))) (List._∷_ (23, Rows.any-gone (Syntax.tyStruct (List._∷_ 38 (List._∷_ 91 (List._∷_ 93 List.[]))) (Syntax.tcons (Syntax.tyRef Syntax.erased Syntax.mut (Syntax.tyInt Syntax.w32)) (Syntax.tcons (Syntax.tyInt Syntax.w64) Syntax.tnil)))) (List._∷_ (24, Rows.any-gone (Syntax.tyRef Syntax.erased Syntax.mut (Syntax.tyInt Syntax.w32))) (List._∷_ (25, Rows.any-gone (Syntax.tyStruct (List._∷_ 38 (List._∷_ 91 (List._∷_ 93 List.[]))) (Syntax.tcons (Syntax.tyRef Syntax.erased Syntax.mut (Syntax.tyInt Syntax.w32)) (Syntax.tcons (Syntax.tyInt Syntax.w64) Syntax.tnil)))) (List._∷_ (26, Rows.any-gone (Syntax.tyRef Syntax.erased Syntax.mut Cell.behind)) (List._∷_ (27, Rows.any-gone (Syntax.tyStruct (List._∷_ 38 (List._∷_ 91 (List._∷_ 93 List.[]))) (Syntax.tcons (Syntax.tyRef Syntax.erased Syntax.mut Cell.behind) (Syntax.tcons (Syntax.tyInt Syntax.w64) Syntax.tnil)))) (List._∷_ (28, Rows.any-gone (Syntax.tyRef Syntax.erased Syntax.mut Cell.behind)) (List._∷_ (29, Rows.any-gone (Syntax.tyStruct (List._∷_ 38 (List._∷_ 91 (List._∷_ 93 List.[]))) (Syntax.tcons (Syntax.tyRef Syntax.erased Syntax.mut Cell.behind) (Syntax.tcons (Syntax.tyInt Syntax.w64) Syntax.tnil)))) List.[])))))))))))))
+t14 = List._∷_ local15 (List._∷_ local33 (List._∷_ (18, Relend.ssptr held2 ty3 0) (List._∷_ local18 (List._∷_ local19 locals7))))
 
 abbrev pub t15 : List.List Row.Entry
-t15 = List._∷_ (16, Rows.any-gone Syntax.tyPtr) (List._∷_ (17, Rows.sc-here (Row.sInt Syntax.w32)) (List._∷_ (18, Rows.any-gone (Syntax.tyRef Syntax.erased Syntax.imm (Syntax.tyInt Syntax.w32))) (List._∷_ (19, Rows.sslice (Referent.rtF (Referent.fInt Syntax.w32)) (Syntax.tyRef Syntax.erased Syntax.imm (Syntax.tyInt Syntax.w32)) 0) (List._∷_ (20, Rows.any-gone (Syntax.tyRef Syntax.erased Syntax.mut (Syntax.tyInt Syntax.w32))) (List._∷_ (21, Rows.any-gone (Syntax.tyStruct (List._∷_ 38 (List._∷_ 91 (List._∷_ 93 List.[]))) (Syntax.tcons (Syntax.tyRef Syntax.erased Syntax.mut (Syntax.tyInt Syntax.w32)) (Syntax.tcons (Syntax.tyInt Syntax.w64) Syntax.tnil)))) (List._∷_ (22, Rows.any-gone (Syntax.tyRef Syntax.erased Syntax.mut (Syntax.tyInt Syntax.w32))) (List._∷_ (23, Rows.any-gone (Syntax.tyStruct (List._∷_ 38 (List._∷_ 91 (List._∷_ 93 List.[]))) (Syntax.tcons (Syntax.tyRef Syntax.erased Syntax.mut (Syntax.tyInt Syntax.w32)) (Syntax.tcons (Syntax.tyInt Syntax.w64) Syntax.tnil)))) (List._∷_ (24, Rows.any-gone (Syntax.tyRef Syntax.erased Syntax.mut (Syntax.tyInt Syntax.w32))) (List._∷_ (25, Rows.any-gone (Syntax.tyStruct (List._∷_ 38 (List._∷_ 91 (List._∷_ 93 List.[]))) (Syntax.tcons (Syntax.tyRef Syntax.erased Syntax.mut (Syntax.tyInt Syntax.w32)) (Syntax.tcons (Syntax.tyInt Syntax.w64) Syntax.tnil)))) (List._∷_ (26, Rows.any-gone (Syntax.tyRef Syntax.erased Syntax.mut Cell.behind)) (List._∷_ (27, Rows.any-gone (Syntax.tyStruct (List._∷_ 38 (List._∷_ 91 (List._∷_ 93 List.[]))) (Syntax.tcons (Syntax.tyRef Syntax.erased Syntax.mut Cell.behind) (Syntax.tcons (Syntax.tyInt Syntax.w64) Syntax.tnil)))) (List._∷_ (28, Rows.any-gone (Syntax.tyRef Syntax.erased Syntax.mut Cell.behind)) (List._∷_ (29, Rows.any-gone (Syntax.tyStruct (List._∷_ 38 (List._∷_ 91 (List._∷_ 93 List.[]))) (Syntax.tcons (Syntax.tyRef Syntax.erased Syntax.mut Cell.behind) (Syntax.tcons (Syntax.tyInt Syntax.w64) Syntax.tnil)))) List.[])))))))))))))
+t15 = List._∷_ local15 (List._∷_ local33 (List._∷_ local17 (List._∷_ local34 (List._∷_ local19 locals7))))
 
 abbrev pub t16 : List.List Row.Entry
-t16 = List._∷_ (0, Rows.any-gone (Syntax.tyStruct (List._∷_ 112 (List._∷_ 121 (List._∷_ 114 (List._∷_ 97 (List._∷_ 109 (List._∷_ 105 (List._∷_ 100 (List._∷_ 58 (List._∷_ 58 (List._∷_ 79 (List._∷_ 117 (List._∷_ 116 (List._∷_ 99 (List._∷_ 111 (List._∷_ 109 (List._∷_ 101 List.[])))))))))))))))) (Syntax.tcons (Syntax.tyStruct (List._∷_ 112 (List._∷_ 121 (List._∷_ 114 (List._∷_ 97 (List._∷_ 109 (List._∷_ 105 (List._∷_ 100 (List._∷_ 58 (List._∷_ 58 (List._∷_ 83 (List._∷_ 116 (List._∷_ 97 (List._∷_ 116 (List._∷_ 101 List.[])))))))))))))) (Syntax.tcons (Syntax.tyInt Syntax.w32) (Syntax.tcons (Syntax.tyInt Syntax.w32) (Syntax.tcons (Syntax.tyInt Syntax.w32) (Syntax.tcons (Syntax.tyInt Syntax.w32) (Syntax.tcons (Syntax.tyInt Syntax.w32) (Syntax.tcons (Syntax.tyArray (Syntax.tyInt Syntax.w32) 64) Syntax.tnil))))))) (Syntax.tcons (Syntax.tyEnum (List._∷_ 100 (List._∷_ 97 (List._∷_ 114 (List._∷_ 116 (List._∷_ 115 (List._∷_ 58 (List._∷_ 58 (List._∷_ 65 (List._∷_ 110 (List._∷_ 115 (List._∷_ 119 (List._∷_ 101 (List._∷_ 114 List.[]))))))))))))) (Syntax.ttcons (Syntax.tcons (Syntax.tyInt Syntax.w64) Syntax.tnil) (Syntax.ttcons Syntax.tnil (Syntax.ttcons (Syntax.tcons (Syntax.tyInt Syntax.w64) Syntax.tnil) (Syntax.ttcons (Syntax.tcons (Syntax.tyInt Syntax.w64) (Syntax.tcons (Syntax.tyInt Syntax.w64) Syntax.tnil)) (Syntax.ttcons Syntax.tnil (Syntax.ttcons Syntax.tnil (Syntax.ttcons Syntax.tnil (Syntax.ttcons (Syntax.tcons (Syntax.tyInt Syntax.w64) Syntax.tnil) (Syntax.ttcons (Syntax.tcons (Syntax.tyInt Syntax.w64) Syntax.tnil) (Syntax.ttcons (Syntax.tcons (Syntax.tyInt Syntax.w64) Syntax.tnil) (Syntax.ttcons (Syntax.tcons (Syntax.tyInt Syntax.w64) Syntax.tnil) (Syntax.ttcons (Syntax.tcons (Syntax.tyInt Syntax.w64) Syntax.tnil) (Syntax.ttcons (Syntax.tcons (Syntax.tyInt Syntax.w64) Syntax.tnil) (Syntax.ttcons (Syntax.tcons (Syntax.tyInt Syntax.w64) Syntax.tnil) (Syntax.ttcons Syntax.tnil (Syntax.ttcons Syntax.tnil (Syntax.ttcons (Syntax.tcons (Syntax.tyInt Syntax.w64) Syntax.tnil) Syntax.ttnil)))))))))))))))))) Syntax.tnil)))) (List._∷_ (1, Rows.any-gone (Syntax.tyStruct (List._∷_ 122 (List._∷_ 111 (List._∷_ 110 (List._∷_ 101 (List._∷_ 115 (List._∷_ 58 (List._∷_ 58 (List._∷_ 104 (List._∷_ 101 (List._∷_ 108 (List._∷_ 100 (List._∷_ 58 (List._∷_ 58 (List._∷_ 72 (List._∷_ 101 (List._∷_ 108 (List._∷_ 100 List.[]))))))))))))))))) (Syntax.tcons (Syntax.tyStruct (List._∷_ 112 (List._∷_ 121 (List._∷_ 114 (List._∷_ 97 (List._∷_ 109 (List._∷_ 105 (List._∷_ 100 (List._∷_ 58 (List._∷_ 58 (List._∷_ 83 (List._∷_ 116 (List._∷_ 97 (List._∷_ 116 (List._∷_ 101 List.[])))))))))))))) (Syntax.tcons (Syntax.tyInt Syntax.w32) (Syntax.tcons (Syntax.tyInt Syntax.w32) (Syntax.tcons (Syntax.tyInt Syntax.w32) (Syntax.tcons (Syntax.tyInt Syntax.w32) (Syntax.tcons (Syntax.tyInt Syntax.w32) (Syntax.tcons (Syntax.tyArray (Syntax.tyInt Syntax.w32) 64) Syntax.tnil))))))) (Syntax.tcons (Syntax.tyInt Syntax.w64) (Syntax.tcons (Syntax.tyInt Syntax.w64) (Syntax.tcons (Syntax.tyInt Syntax.w64) (Syntax.tcons (Syntax.tyInt Syntax.w64) (Syntax.tcons (Syntax.tyInt Syntax.w64) (Syntax.tcons (Syntax.tyInt Syntax.w64) (Syntax.tcons Syntax.tyBool Syntax.tnil)))))))))) (List._∷_ (2, Rows.whole (Declared.row Line.the-type)) (List._∷_ (3, Rows.sslice (Referent.rtF (Referent.fInt Syntax.w32)) (Syntax.tyRef (Syntax.named 0) Syntax.imm (Syntax.tyInt Syntax.w32)) 0) (List._∷_ (4, Part.mslice-owedP (Referent.rtF (Referent.fInt Syntax.w32)) (Syntax.tyRef (Syntax.named 1) Syntax.mut (Syntax.tyInt Syntax.w32)) 1 6 Row.off) (List._∷_ (5, Mut.mslice (Referent.rtF (Referent.fInt Syntax.w32)) (Syntax.tyRef (Syntax.named 2) Syntax.mut (Syntax.tyInt Syntax.w32)) 2) (List._∷_ (6, Mut.mslice (Referent.rtF (Referent.fInt Syntax.w32)) (Syntax.tyRef (Syntax.named 3) Syntax.mut (Syntax.tyInt Syntax.w32)) 3) (List._∷_ (7, Mut.mslice Cell.R (Syntax.tyRef (Syntax.named 4) Syntax.mut Cell.behind) 4) (List._∷_ (8, Mut.mslice Cell.R (Syntax.tyRef (Syntax.named 5) Syntax.mut Cell.behind) 5) (List._∷_ (9, Rows.whole (Declared.row State.the-type)) (List._∷_ (10, Rows.sc-here (Row.sInt Syntax.w64)) (List._∷_ (11, Rows.sc-here (Row.sInt Syntax.w64)) (List._∷_ (12, Rows.sc-here (Row.sInt Syntax.w64)) (List._∷_ (13, Rows.sc-here (Row.sInt Syntax.w64)) (List._∷_ (14, Rows.sc-here (Row.sInt Syntax.w64)) (List._∷_ (15, Rows.sc-here (Row.sInt Syntax.w64)) List.[])))))))))))))))
+t16 = List._∷_ local0 (List._∷_ local27 (List._∷_ local2 (List._∷_ local3 (List._∷_ local35 (List._∷_ local5 locals15)))))
 
 abbrev pub t17 : List.List Row.Entry
-t17 = List._∷_ (16, Rows.any-gone Syntax.tyPtr) (List._∷_ (17, Rows.sc-here (Row.sInt Syntax.w32)) (List._∷_ (18, Rows.any-gone (Syntax.tyRef Syntax.erased Syntax.imm (Syntax.tyInt Syntax.w32))) (List._∷_ (19, Rows.sslice (Referent.rtF (Referent.fInt Syntax.w32)) (Syntax.tyRef Syntax.erased Syntax.imm (Syntax.tyInt Syntax.w32)) 0) (List._∷_ (20, Relend.msptr (Referent.rtF (Referent.fInt Syntax.w32)) (Syntax.tyRef Syntax.erased Syntax.mut (Syntax.tyInt Syntax.w32)) 6) (List._∷_ (21, Rows.any-gone (Syntax.tyStruct (List._∷_ 38 (List._∷_ 91 (List._∷_ 93 List.[]))) (Syntax.tcons (Syntax.tyRef Syntax.erased Syntax.mut (Syntax.tyInt Syntax.w32)) (Syntax.tcons (Syntax.tyInt Syntax.w64) Syntax.tnil)))) (List._∷_ (22, Rows.any-gone (Syntax.tyRef Syntax.erased Syntax.mut (Syntax.tyInt Syntax.w32))) (List._∷_ (23, Rows.any-gone (Syntax.tyStruct (List._∷_ 38 (List._∷_ 91 (List._∷_ 93 List.[]))) (Syntax.tcons (Syntax.tyRef Syntax.erased Syntax.mut (Syntax.tyInt Syntax.w32)) (Syntax.tcons (Syntax.tyInt Syntax.w64) Syntax.tnil)))) (List._∷_ (24, Rows.any-gone (Syntax.tyRef Syntax.erased Syntax.mut (Syntax.tyInt Syntax.w32))) (List._∷_ (25, Rows.any-gone (Syntax.tyStruct (List._∷_ 38 (List._∷_ 91 (List._∷_ 93 List.[]))) (Syntax.tcons (Syntax.tyRef Syntax.erased Syntax.mut (Syntax.tyInt Syntax.w32)) (Syntax.tcons (Syntax.tyInt Syntax.w64) Syntax.tnil)))) (List._∷_ (26, Rows.any-gone (Syntax.tyRef Syntax.erased Syntax.mut Cell.behind)) (List._∷_ (27, Rows.any-gone (Syntax.tyStruct (List._∷_ 38 (List._∷_ 91 (List._∷_ 93 List.[]))) (Syntax.tcons (Syntax.tyRef Syntax.erased Syntax.mut Cell.behind) (Syntax.tcons (Syntax.tyInt Syntax.w64) Syntax.tnil)))) (List._∷_ (28, Rows.any-gone (Syntax.tyRef Syntax.erased Syntax.mut Cell.behind)) (List._∷_ (29, Rows.any-gone (Syntax.tyStruct (List._∷_ 38 (List._∷_ 91 (List._∷_ 93 List.[]))) (Syntax.tcons (Syntax.tyRef Syntax.erased Syntax.mut Cell.behind) (Syntax.tcons (Syntax.tyInt Syntax.w64) Syntax.tnil)))) List.[])))))))))))))
+t17 = List._∷_ local15 (List._∷_ local33 (List._∷_ local17 (List._∷_ local34 (List._∷_ (20, Relend.msptr held2 ty5 6) locals7))))
 
 abbrev pub t18 : List.List Row.Entry
-t18 = List._∷_ (16, Rows.any-gone Syntax.tyPtr) (List._∷_ (17, Rows.sc-here (Row.sInt Syntax.w32)) (List._∷_ (18, Rows.any-gone (Syntax.tyRef Syntax.erased Syntax.imm (Syntax.tyInt Syntax.w32))) (List._∷_ (19, Rows.sslice (Referent.rtF (Referent.fInt Syntax.w32)) (Syntax.tyRef Syntax.erased Syntax.imm (Syntax.tyInt Syntax.w32)) 0) (List._∷_ (20, Rows.any-gone (Syntax.tyRef Syntax.erased Syntax.mut (Syntax.tyInt Syntax.w32))) (List._∷_ (21, Mut.mslice (Referent.rtF (Referent.fInt Syntax.w32)) (Syntax.tyRef Syntax.erased Syntax.mut (Syntax.tyInt Syntax.w32)) 6) (List._∷_ (22, Rows.any-gone (Syntax.tyRef Syntax.erased Syntax.mut (Syntax.tyInt Syntax.w32))) (List._∷_ (23, Rows.any-gone (Syntax.tyStruct (List._∷_ 38 (List._∷_ 91 (List._∷_ 93 List.[]))) (Syntax.tcons (Syntax.tyRef Syntax.erased Syntax.mut (Syntax.tyInt Syntax.w32)) (Syntax.tcons (Syntax.tyInt Syntax.w64) Syntax.tnil)))) (List._∷_ (24, Rows.any-gone (Syntax.tyRef Syntax.erased Syntax.mut (Syntax.tyInt Syntax.w32))) (List._∷_ (25, Rows.any-gone (Syntax.tyStruct (List._∷_ 38 (List._∷_ 91 (List._∷_ 93 List.[]))) (Syntax.tcons (Syntax.tyRef Syntax.erased Syntax.mut (Syntax.tyInt Syntax.w32)) (Syntax.tcons (Syntax.tyInt Syntax.w64) Syntax.tnil)))) (List._∷_ (26, Rows.any-gone (Syntax.tyRef Syntax.erased Syntax.mut Cell.behind)) (List._∷_ (27, Rows.any-gone (Syntax.tyStruct (List._∷_ 38 (List._∷_ 91 (List._∷_ 93 List.[]))) (Syntax.tcons (Syntax.tyRef Syntax.erased Syntax.mut Cell.behind) (Syntax.tcons (Syntax.tyInt Syntax.w64) Syntax.tnil)))) (List._∷_ (28, Rows.any-gone (Syntax.tyRef Syntax.erased Syntax.mut Cell.behind)) (List._∷_ (29, Rows.any-gone (Syntax.tyStruct (List._∷_ 38 (List._∷_ 91 (List._∷_ 93 List.[]))) (Syntax.tcons (Syntax.tyRef Syntax.erased Syntax.mut Cell.behind) (Syntax.tcons (Syntax.tyInt Syntax.w64) Syntax.tnil)))) List.[])))))))))))))
+t18 = List._∷_ local15 (List._∷_ local33 (List._∷_ local17 (List._∷_ local34 (List._∷_ local19 (List._∷_ local36 (List._∷_ local21 (List._∷_ local22 locals6)))))))
 
 abbrev pub t19 : List.List Row.Entry
-t19 = List._∷_ (0, Rows.any-gone (Syntax.tyStruct (List._∷_ 112 (List._∷_ 121 (List._∷_ 114 (List._∷_ 97 (List._∷_ 109 (List._∷_ 105 (List._∷_ 100 (List._∷_ 58 (List._∷_ 58 (List._∷_ 79 (List._∷_ 117 (List._∷_ 116 (List._∷_ 99 (List._∷_ 111 (List._∷_ 109 (List._∷_ 101 List.[])))))))))))))))) (Syntax.tcons (Syntax.tyStruct (List._∷_ 112 (List._∷_ 121 (List._∷_ 114 (List._∷_ 97 (List._∷_ 109 (List._∷_ 105 (List._∷_ 100 (List._∷_ 58 (List._∷_ 58 (List._∷_ 83 (List._∷_ 116 (List._∷_ 97 (List._∷_ 116 (List._∷_ 101 List.[])))))))))))))) (Syntax.tcons (Syntax.tyInt Syntax.w32) (Syntax.tcons (Syntax.tyInt Syntax.w32) (Syntax.tcons (Syntax.tyInt Syntax.w32) (Syntax.tcons (Syntax.tyInt Syntax.w32) (Syntax.tcons (Syntax.tyInt Syntax.w32) (Syntax.tcons (Syntax.tyArray (Syntax.tyInt Syntax.w32) 64) Syntax.tnil))))))) (Syntax.tcons (Syntax.tyEnum (List._∷_ 100 (List._∷_ 97 (List._∷_ 114 (List._∷_ 116 (List._∷_ 115 (List._∷_ 58 (List._∷_ 58 (List._∷_ 65 (List._∷_ 110 (List._∷_ 115 (List._∷_ 119 (List._∷_ 101 (List._∷_ 114 List.[]))))))))))))) (Syntax.ttcons (Syntax.tcons (Syntax.tyInt Syntax.w64) Syntax.tnil) (Syntax.ttcons Syntax.tnil (Syntax.ttcons (Syntax.tcons (Syntax.tyInt Syntax.w64) Syntax.tnil) (Syntax.ttcons (Syntax.tcons (Syntax.tyInt Syntax.w64) (Syntax.tcons (Syntax.tyInt Syntax.w64) Syntax.tnil)) (Syntax.ttcons Syntax.tnil (Syntax.ttcons Syntax.tnil (Syntax.ttcons Syntax.tnil (Syntax.ttcons (Syntax.tcons (Syntax.tyInt Syntax.w64) Syntax.tnil) (Syntax.ttcons (Syntax.tcons (Syntax.tyInt Syntax.w64) Syntax.tnil) (Syntax.ttcons (Syntax.tcons (Syntax.tyInt Syntax.w64) Syntax.tnil) (Syntax.ttcons (Syntax.tcons (Syntax.tyInt Syntax.w64) Syntax.tnil) (Syntax.ttcons (Syntax.tcons (Syntax.tyInt Syntax.w64) Syntax.tnil) (Syntax.ttcons (Syntax.tcons (Syntax.tyInt Syntax.w64) Syntax.tnil) (Syntax.ttcons (Syntax.tcons (Syntax.tyInt Syntax.w64) Syntax.tnil) (Syntax.ttcons Syntax.tnil (Syntax.ttcons Syntax.tnil (Syntax.ttcons (Syntax.tcons (Syntax.tyInt Syntax.w64) Syntax.tnil) Syntax.ttnil)))))))))))))))))) Syntax.tnil)))) (List._∷_ (1, Rows.any-gone (Syntax.tyStruct (List._∷_ 122 (List._∷_ 111 (List._∷_ 110 (List._∷_ 101 (List._∷_ 115 (List._∷_ 58 (List._∷_ 58 (List._∷_ 104 (List._∷_ 101 (List._∷_ 108 (List._∷_ 100 (List._∷_ 58 (List._∷_ 58 (List._∷_ 72 (List._∷_ 101 (List._∷_ 108 (List._∷_ 100 List.[]))))))))))))))))) (Syntax.tcons (Syntax.tyStruct (List._∷_ 112 (List._∷_ 121 (List._∷_ 114 (List._∷_ 97 (List._∷_ 109 (List._∷_ 105 (List._∷_ 100 (List._∷_ 58 (List._∷_ 58 (List._∷_ 83 (List._∷_ 116 (List._∷_ 97 (List._∷_ 116 (List._∷_ 101 List.[])))))))))))))) (Syntax.tcons (Syntax.tyInt Syntax.w32) (Syntax.tcons (Syntax.tyInt Syntax.w32) (Syntax.tcons (Syntax.tyInt Syntax.w32) (Syntax.tcons (Syntax.tyInt Syntax.w32) (Syntax.tcons (Syntax.tyInt Syntax.w32) (Syntax.tcons (Syntax.tyArray (Syntax.tyInt Syntax.w32) 64) Syntax.tnil))))))) (Syntax.tcons (Syntax.tyInt Syntax.w64) (Syntax.tcons (Syntax.tyInt Syntax.w64) (Syntax.tcons (Syntax.tyInt Syntax.w64) (Syntax.tcons (Syntax.tyInt Syntax.w64) (Syntax.tcons (Syntax.tyInt Syntax.w64) (Syntax.tcons (Syntax.tyInt Syntax.w64) (Syntax.tcons Syntax.tyBool Syntax.tnil)))))))))) (List._∷_ (2, Rows.whole (Declared.row Line.the-type)) (List._∷_ (3, Rows.sslice (Referent.rtF (Referent.fInt Syntax.w32)) (Syntax.tyRef (Syntax.named 0) Syntax.imm (Syntax.tyInt Syntax.w32)) 0) (List._∷_ (4, Part.mslice-owedP (Referent.rtF (Referent.fInt Syntax.w32)) (Syntax.tyRef (Syntax.named 1) Syntax.mut (Syntax.tyInt Syntax.w32)) 1 6 Row.off) (List._∷_ (5, Part.mslice-owedP (Referent.rtF (Referent.fInt Syntax.w32)) (Syntax.tyRef (Syntax.named 2) Syntax.mut (Syntax.tyInt Syntax.w32)) 2 7 Row.off) (List._∷_ (6, Mut.mslice (Referent.rtF (Referent.fInt Syntax.w32)) (Syntax.tyRef (Syntax.named 3) Syntax.mut (Syntax.tyInt Syntax.w32)) 3) (List._∷_ (7, Mut.mslice Cell.R (Syntax.tyRef (Syntax.named 4) Syntax.mut Cell.behind) 4) (List._∷_ (8, Mut.mslice Cell.R (Syntax.tyRef (Syntax.named 5) Syntax.mut Cell.behind) 5) (List._∷_ (9, Rows.whole (Declared.row State.the-type)) (List._∷_ (10, Rows.sc-here (Row.sInt Syntax.w64)) (List._∷_ (11, Rows.sc-here (Row.sInt Syntax.w64)) (List._∷_ (12, Rows.sc-here (Row.sInt Syntax.w64)) (List._∷_ (13, Rows.sc-here (Row.sInt Syntax.w64)) (List._∷_ (14, Rows.sc-here (Row.sInt Syntax.w64)) (List._∷_ (15, Rows.sc-here (Row.sInt Syntax.w64)) List.[])))))))))))))))
+t19 = List._∷_ local0 (List._∷_ local27 (List._∷_ local2 (List._∷_ local3 (List._∷_ local35 (List._∷_ local37 locals15)))))
 
 abbrev pub t20 : List.List Row.Entry
-t20 = List._∷_ (16, Rows.any-gone Syntax.tyPtr) (List._∷_ (17, Rows.sc-here (Row.sInt Syntax.w32)) (List._∷_ (18, Rows.any-gone (Syntax.tyRef Syntax.erased Syntax.imm (Syntax.tyInt Syntax.w32))) (List._∷_ (19, Rows.sslice (Referent.rtF (Referent.fInt Syntax.w32)) (Syntax.tyRef Syntax.erased Syntax.imm (Syntax.tyInt Syntax.w32)) 0) (List._∷_ (20, Rows.any-gone (Syntax.tyRef Syntax.erased Syntax.mut (Syntax.tyInt Syntax.w32))) (List._∷_ (21, Mut.mslice (Referent.rtF (Referent.fInt Syntax.w32)) (Syntax.tyRef Syntax.erased Syntax.mut (Syntax.tyInt Syntax.w32)) 6) (List._∷_ (22, Relend.msptr (Referent.rtF (Referent.fInt Syntax.w32)) (Syntax.tyRef Syntax.erased Syntax.mut (Syntax.tyInt Syntax.w32)) 7) (List._∷_ (23, Rows.any-gone (Syntax.tyStruct (List._∷_ 38 (List._∷_ 91 (List._∷_ 93 List.[]))) (Syntax.tcons (Syntax.tyRef Syntax.erased Syntax.mut (Syntax.tyInt Syntax.w32)) (Syntax.tcons (Syntax.tyInt Syntax.w64) Syntax.tnil)))) (List._∷_ (24, Rows.any-gone (Syntax.tyRef Syntax.erased Syntax.mut (Syntax.tyInt Syntax.w32))) (List._∷_ (25, Rows.any-gone (Syntax.tyStruct (List._∷_ 38 (List._∷_ 91 (List._∷_ 93 List.[]))) (Syntax.tcons (Syntax.tyRef Syntax.erased Syntax.mut (Syntax.tyInt Syntax.w32)) (Syntax.tcons (Syntax.tyInt Syntax.w64) Syntax.tnil)))) (List._∷_ (26, Rows.any-gone (Syntax.tyRef Syntax.erased Syntax.mut Cell.behind)) (List._∷_ (27, Rows.any-gone (Syntax.tyStruct (List._∷_ 38 (List._∷_ 91 (List._∷_ 93 List.[]))) (Syntax.tcons (Syntax.tyRef Syntax.erased Syntax.mut Cell.behind) (Syntax.tcons (Syntax.tyInt Syntax.w64) Syntax.tnil)))) (List._∷_ (28, Rows.any-gone (Syntax.tyRef Syntax.erased Syntax.mut Cell.behind)) (List._∷_ (29, Rows.any-gone (Syntax.tyStruct (List._∷_ 38 (List._∷_ 91 (List._∷_ 93 List.[]))) (Syntax.tcons (Syntax.tyRef Syntax.erased Syntax.mut Cell.behind) (Syntax.tcons (Syntax.tyInt Syntax.w64) Syntax.tnil)))) List.[])))))))))))))
+t20 = List._∷_ local15 (List._∷_ local33 (List._∷_ local17 (List._∷_ local34 (List._∷_ local19 (List._∷_ local36 (List._∷_ (22, Relend.msptr held2 ty5 7) (List._∷_ local22 locals6)))))))
 
 abbrev pub t21 : List.List Row.Entry
-t21 = List._∷_ (16, Rows.any-gone Syntax.tyPtr) (List._∷_ (17, Rows.sc-here (Row.sInt Syntax.w32)) (List._∷_ (18, Rows.any-gone (Syntax.tyRef Syntax.erased Syntax.imm (Syntax.tyInt Syntax.w32))) (List._∷_ (19, Rows.sslice (Referent.rtF (Referent.fInt Syntax.w32)) (Syntax.tyRef Syntax.erased Syntax.imm (Syntax.tyInt Syntax.w32)) 0) (List._∷_ (20, Rows.any-gone (Syntax.tyRef Syntax.erased Syntax.mut (Syntax.tyInt Syntax.w32))) (List._∷_ (21, Mut.mslice (Referent.rtF (Referent.fInt Syntax.w32)) (Syntax.tyRef Syntax.erased Syntax.mut (Syntax.tyInt Syntax.w32)) 6) (List._∷_ (22, Rows.any-gone (Syntax.tyRef Syntax.erased Syntax.mut (Syntax.tyInt Syntax.w32))) (List._∷_ (23, Mut.mslice (Referent.rtF (Referent.fInt Syntax.w32)) (Syntax.tyRef Syntax.erased Syntax.mut (Syntax.tyInt Syntax.w32)) 7) (List._∷_ (24, Rows.any-gone (Syntax.tyRef Syntax.erased Syntax.mut (Syntax.tyInt Syntax.w32))) (List._∷_ (25, Rows.any-gone (Syntax.tyStruct (List._∷_ 38 (List._∷_ 91 (List._∷_ 93 List.[]))) (Syntax.tcons (Syntax.tyRef Syntax.erased Syntax.mut (Syntax.tyInt Syntax.w32)) (Syntax.tcons (Syntax.tyInt Syntax.w64) Syntax.tnil)))) (List._∷_ (26, Rows.any-gone (Syntax.tyRef Syntax.erased Syntax.mut Cell.behind)) (List._∷_ (27, Rows.any-gone (Syntax.tyStruct (List._∷_ 38 (List._∷_ 91 (List._∷_ 93 List.[]))) (Syntax.tcons (Syntax.tyRef Syntax.erased Syntax.mut Cell.behind) (Syntax.tcons (Syntax.tyInt Syntax.w64) Syntax.tnil)))) (List._∷_ (28, Rows.any-gone (Syntax.tyRef Syntax.erased Syntax.mut Cell.behind)) (List._∷_ (29, Rows.any-gone (Syntax.tyStruct (List._∷_ 38 (List._∷_ 91 (List._∷_ 93 List.[]))) (Syntax.tcons (Syntax.tyRef Syntax.erased Syntax.mut Cell.behind) (Syntax.tcons (Syntax.tyInt Syntax.w64) Syntax.tnil)))) List.[])))))))))))))
+t21 = List._∷_ local15 (List._∷_ local33 (List._∷_ local17 (List._∷_ local34 (List._∷_ local19 (List._∷_ local36 (List._∷_ local21 (List._∷_ local38 locals6)))))))
 
 abbrev pub t22 : List.List Row.Entry
-t22 = List._∷_ (0, Rows.any-gone (Syntax.tyStruct (List._∷_ 112 (List._∷_ 121 (List._∷_ 114 (List._∷_ 97 (List._∷_ 109 (List._∷_ 105 (List._∷_ 100 (List._∷_ 58 (List._∷_ 58 (List._∷_ 79 (List._∷_ 117 (List._∷_ 116 (List._∷_ 99 (List._∷_ 111 (List._∷_ 109 (List._∷_ 101 List.[])))))))))))))))) (Syntax.tcons (Syntax.tyStruct (List._∷_ 112 (List._∷_ 121 (List._∷_ 114 (List._∷_ 97 (List._∷_ 109 (List._∷_ 105 (List._∷_ 100 (List._∷_ 58 (List._∷_ 58 (List._∷_ 83 (List._∷_ 116 (List._∷_ 97 (List._∷_ 116 (List._∷_ 101 List.[])))))))))))))) (Syntax.tcons (Syntax.tyInt Syntax.w32) (Syntax.tcons (Syntax.tyInt Syntax.w32) (Syntax.tcons (Syntax.tyInt Syntax.w32) (Syntax.tcons (Syntax.tyInt Syntax.w32) (Syntax.tcons (Syntax.tyInt Syntax.w32) (Syntax.tcons (Syntax.tyArray (Syntax.tyInt Syntax.w32) 64) Syntax.tnil))))))) (Syntax.tcons (Syntax.tyEnum (List._∷_ 100 (List._∷_ 97 (List._∷_ 114 (List._∷_ 116 (List._∷_ 115 (List._∷_ 58 (List._∷_ 58 (List._∷_ 65 (List._∷_ 110 (List._∷_ 115 (List._∷_ 119 (List._∷_ 101 (List._∷_ 114 List.[]))))))))))))) (Syntax.ttcons (Syntax.tcons (Syntax.tyInt Syntax.w64) Syntax.tnil) (Syntax.ttcons Syntax.tnil (Syntax.ttcons (Syntax.tcons (Syntax.tyInt Syntax.w64) Syntax.tnil) (Syntax.ttcons (Syntax.tcons (Syntax.tyInt Syntax.w64) (Syntax.tcons (Syntax.tyInt Syntax.w64) Syntax.tnil)) (Syntax.ttcons Syntax.tnil (Syntax.ttcons Syntax.tnil (Syntax.ttcons Syntax.tnil (Syntax.ttcons (Syntax.tcons (Syntax.tyInt Syntax.w64) Syntax.tnil) (Syntax.ttcons (Syntax.tcons (Syntax.tyInt Syntax.w64) Syntax.tnil) (Syntax.ttcons (Syntax.tcons (Syntax.tyInt Syntax.w64) Syntax.tnil) (Syntax.ttcons (Syntax.tcons (Syntax.tyInt Syntax.w64) Syntax.tnil) (Syntax.ttcons (Syntax.tcons (Syntax.tyInt Syntax.w64) Syntax.tnil) (Syntax.ttcons (Syntax.tcons (Syntax.tyInt Syntax.w64) Syntax.tnil) (Syntax.ttcons (Syntax.tcons (Syntax.tyInt Syntax.w64) Syntax.tnil) (Syntax.ttcons Syntax.tnil (Syntax.ttcons Syntax.tnil (Syntax.ttcons (Syntax.tcons (Syntax.tyInt Syntax.w64) Syntax.tnil) Syntax.ttnil)))))))))))))))))) Syntax.tnil)))) (List._∷_ (1, Rows.any-gone (Syntax.tyStruct (List._∷_ 122 (List._∷_ 111 (List._∷_ 110 (List._∷_ 101 (List._∷_ 115 (List._∷_ 58 (List._∷_ 58 (List._∷_ 104 (List._∷_ 101 (List._∷_ 108 (List._∷_ 100 (List._∷_ 58 (List._∷_ 58 (List._∷_ 72 (List._∷_ 101 (List._∷_ 108 (List._∷_ 100 List.[]))))))))))))))))) (Syntax.tcons (Syntax.tyStruct (List._∷_ 112 (List._∷_ 121 (List._∷_ 114 (List._∷_ 97 (List._∷_ 109 (List._∷_ 105 (List._∷_ 100 (List._∷_ 58 (List._∷_ 58 (List._∷_ 83 (List._∷_ 116 (List._∷_ 97 (List._∷_ 116 (List._∷_ 101 List.[])))))))))))))) (Syntax.tcons (Syntax.tyInt Syntax.w32) (Syntax.tcons (Syntax.tyInt Syntax.w32) (Syntax.tcons (Syntax.tyInt Syntax.w32) (Syntax.tcons (Syntax.tyInt Syntax.w32) (Syntax.tcons (Syntax.tyInt Syntax.w32) (Syntax.tcons (Syntax.tyArray (Syntax.tyInt Syntax.w32) 64) Syntax.tnil))))))) (Syntax.tcons (Syntax.tyInt Syntax.w64) (Syntax.tcons (Syntax.tyInt Syntax.w64) (Syntax.tcons (Syntax.tyInt Syntax.w64) (Syntax.tcons (Syntax.tyInt Syntax.w64) (Syntax.tcons (Syntax.tyInt Syntax.w64) (Syntax.tcons (Syntax.tyInt Syntax.w64) (Syntax.tcons Syntax.tyBool Syntax.tnil)))))))))) (List._∷_ (2, Rows.whole (Declared.row Line.the-type)) (List._∷_ (3, Rows.sslice (Referent.rtF (Referent.fInt Syntax.w32)) (Syntax.tyRef (Syntax.named 0) Syntax.imm (Syntax.tyInt Syntax.w32)) 0) (List._∷_ (4, Part.mslice-owedP (Referent.rtF (Referent.fInt Syntax.w32)) (Syntax.tyRef (Syntax.named 1) Syntax.mut (Syntax.tyInt Syntax.w32)) 1 6 Row.off) (List._∷_ (5, Part.mslice-owedP (Referent.rtF (Referent.fInt Syntax.w32)) (Syntax.tyRef (Syntax.named 2) Syntax.mut (Syntax.tyInt Syntax.w32)) 2 7 Row.off) (List._∷_ (6, Part.mslice-owedP (Referent.rtF (Referent.fInt Syntax.w32)) (Syntax.tyRef (Syntax.named 3) Syntax.mut (Syntax.tyInt Syntax.w32)) 3 8 Row.off) (List._∷_ (7, Mut.mslice Cell.R (Syntax.tyRef (Syntax.named 4) Syntax.mut Cell.behind) 4) (List._∷_ (8, Mut.mslice Cell.R (Syntax.tyRef (Syntax.named 5) Syntax.mut Cell.behind) 5) (List._∷_ (9, Rows.whole (Declared.row State.the-type)) (List._∷_ (10, Rows.sc-here (Row.sInt Syntax.w64)) (List._∷_ (11, Rows.sc-here (Row.sInt Syntax.w64)) (List._∷_ (12, Rows.sc-here (Row.sInt Syntax.w64)) (List._∷_ (13, Rows.sc-here (Row.sInt Syntax.w64)) (List._∷_ (14, Rows.sc-here (Row.sInt Syntax.w64)) (List._∷_ (15, Rows.sc-here (Row.sInt Syntax.w64)) List.[])))))))))))))))
+t22 = List._∷_ local0 (List._∷_ local27 (List._∷_ local2 (List._∷_ local3 (List._∷_ local35 (List._∷_ local37 (List._∷_ local39 (List._∷_ local7 locals14)))))))
 
 abbrev pub t23 : List.List Row.Entry
-t23 = List._∷_ (16, Rows.any-gone Syntax.tyPtr) (List._∷_ (17, Rows.sc-here (Row.sInt Syntax.w32)) (List._∷_ (18, Rows.any-gone (Syntax.tyRef Syntax.erased Syntax.imm (Syntax.tyInt Syntax.w32))) (List._∷_ (19, Rows.sslice (Referent.rtF (Referent.fInt Syntax.w32)) (Syntax.tyRef Syntax.erased Syntax.imm (Syntax.tyInt Syntax.w32)) 0) (List._∷_ (20, Rows.any-gone (Syntax.tyRef Syntax.erased Syntax.mut (Syntax.tyInt Syntax.w32))) (List._∷_ (21, Mut.mslice (Referent.rtF (Referent.fInt Syntax.w32)) (Syntax.tyRef Syntax.erased Syntax.mut (Syntax.tyInt Syntax.w32)) 6) (List._∷_ (22, Rows.any-gone (Syntax.tyRef Syntax.erased Syntax.mut (Syntax.tyInt Syntax.w32))) (List._∷_ (23, Mut.mslice (Referent.rtF (Referent.fInt Syntax.w32)) (Syntax.tyRef Syntax.erased Syntax.mut (Syntax.tyInt Syntax.w32)) 7) (List._∷_ (24, Relend.msptr (Referent.rtF (Referent.fInt Syntax.w32)) (Syntax.tyRef Syntax.erased Syntax.mut (Syntax.tyInt Syntax.w32)) 8) (List._∷_ (25, Rows.any-gone (Syntax.tyStruct (List._∷_ 38 (List._∷_ 91 (List._∷_ 93 List.[]))) (Syntax.tcons (Syntax.tyRef Syntax.erased Syntax.mut (Syntax.tyInt Syntax.w32)) (Syntax.tcons (Syntax.tyInt Syntax.w64) Syntax.tnil)))) (List._∷_ (26, Rows.any-gone (Syntax.tyRef Syntax.erased Syntax.mut Cell.behind)) (List._∷_ (27, Rows.any-gone (Syntax.tyStruct (List._∷_ 38 (List._∷_ 91 (List._∷_ 93 List.[]))) (Syntax.tcons (Syntax.tyRef Syntax.erased Syntax.mut Cell.behind) (Syntax.tcons (Syntax.tyInt Syntax.w64) Syntax.tnil)))) (List._∷_ (28, Rows.any-gone (Syntax.tyRef Syntax.erased Syntax.mut Cell.behind)) (List._∷_ (29, Rows.any-gone (Syntax.tyStruct (List._∷_ 38 (List._∷_ 91 (List._∷_ 93 List.[]))) (Syntax.tcons (Syntax.tyRef Syntax.erased Syntax.mut Cell.behind) (Syntax.tcons (Syntax.tyInt Syntax.w64) Syntax.tnil)))) List.[])))))))))))))
+t23 = List._∷_ local15 (List._∷_ local33 (List._∷_ local17 (List._∷_ local34 (List._∷_ local19 (List._∷_ local36 (List._∷_ local21 (List._∷_ local38 (List._∷_ (24, Relend.msptr held2 ty5 8) (List._∷_ local24 (List._∷_ local25 locals5))))))))))
 
 abbrev pub t24 : List.List Row.Entry
-t24 = List._∷_ (16, Rows.any-gone Syntax.tyPtr) (List._∷_ (17, Rows.sc-here (Row.sInt Syntax.w32)) (List._∷_ (18, Rows.any-gone (Syntax.tyRef Syntax.erased Syntax.imm (Syntax.tyInt Syntax.w32))) (List._∷_ (19, Rows.sslice (Referent.rtF (Referent.fInt Syntax.w32)) (Syntax.tyRef Syntax.erased Syntax.imm (Syntax.tyInt Syntax.w32)) 0) (List._∷_ (20, Rows.any-gone (Syntax.tyRef Syntax.erased Syntax.mut (Syntax.tyInt Syntax.w32))) (List._∷_ (21, Mut.mslice (Referent.rtF (Referent.fInt Syntax.w32)) (Syntax.tyRef Syntax.erased Syntax.mut (Syntax.tyInt Syntax.w32)) 6) (List._∷_ (22, Rows.any-gone (Syntax.tyRef Syntax.erased Syntax.mut (Syntax.tyInt Syntax.w32))) (List._∷_ (23, Mut.mslice (Referent.rtF (Referent.fInt Syntax.w32)) (Syntax.tyRef Syntax.erased Syntax.mut (Syntax.tyInt Syntax.w32)) 7) (List._∷_ (24, Rows.any-gone (Syntax.tyRef Syntax.erased Syntax.mut (Syntax.tyInt Syntax.w32))) (List._∷_ (25, Mut.mslice (Referent.rtF (Referent.fInt Syntax.w32)) (Syntax.tyRef Syntax.erased Syntax.mut (Syntax.tyInt Syntax.w32)) 8) (List._∷_ (26, Rows.any-gone (Syntax.tyRef Syntax.erased Syntax.mut Cell.behind)) (List._∷_ (27, Rows.any-gone (Syntax.tyStruct (List._∷_ 38 (List._∷_ 91 (List._∷_ 93 List.[]))) (Syntax.tcons (Syntax.tyRef Syntax.erased Syntax.mut Cell.behind) (Syntax.tcons (Syntax.tyInt Syntax.w64) Syntax.tnil)))) (List._∷_ (28, Rows.any-gone (Syntax.tyRef Syntax.erased Syntax.mut Cell.behind)) (List._∷_ (29, Rows.any-gone (Syntax.tyStruct (List._∷_ 38 (List._∷_ 91 (List._∷_ 93 List.[]))) (Syntax.tcons (Syntax.tyRef Syntax.erased Syntax.mut Cell.behind) (Syntax.tcons (Syntax.tyInt Syntax.w64) Syntax.tnil)))) List.[])))))))))))))
+t24 = List._∷_ local15 (List._∷_ local33 (List._∷_ local17 (List._∷_ local34 (List._∷_ local19 (List._∷_ local36 (List._∷_ local21 (List._∷_ local38 (List._∷_ local23 (List._∷_ local40 (List._∷_ local25 locals5))))))))))
 
 abbrev pub t25 : List.List Row.Entry
-t25 = List._∷_ (0, Rows.any-gone (Syntax.tyStruct (List._∷_ 112 (List._∷_ 121 (List._∷_ 114 (List._∷_ 97 (List._∷_ 109 (List._∷_ 105 (List._∷_ 100 (List._∷_ 58 (List._∷_ 58 (List._∷_ 79 (List._∷_ 117 (List._∷_ 116 (List._∷_ 99 (List._∷_ 111 (List._∷_ 109 (List._∷_ 101 List.[])))))))))))))))) (Syntax.tcons (Syntax.tyStruct (List._∷_ 112 (List._∷_ 121 (List._∷_ 114 (List._∷_ 97 (List._∷_ 109 (List._∷_ 105 (List._∷_ 100 (List._∷_ 58 (List._∷_ 58 (List._∷_ 83 (List._∷_ 116 (List._∷_ 97 (List._∷_ 116 (List._∷_ 101 List.[])))))))))))))) (Syntax.tcons (Syntax.tyInt Syntax.w32) (Syntax.tcons (Syntax.tyInt Syntax.w32) (Syntax.tcons (Syntax.tyInt Syntax.w32) (Syntax.tcons (Syntax.tyInt Syntax.w32) (Syntax.tcons (Syntax.tyInt Syntax.w32) (Syntax.tcons (Syntax.tyArray (Syntax.tyInt Syntax.w32) 64) Syntax.tnil))))))) (Syntax.tcons (Syntax.tyEnum (List._∷_ 100 (List._∷_ 97 (List._∷_ 114 (List._∷_ 116 (List._∷_ 115 (List._∷_ 58 (List._∷_ 58 (List._∷_ 65 (List._∷_ 110 (List._∷_ 115 (List._∷_ 119 (List._∷_ 101 (List._∷_ 114 List.[]))))))))))))) (Syntax.ttcons (Syntax.tcons (Syntax.tyInt Syntax.w64) Syntax.tnil) (Syntax.ttcons Syntax.tnil (Syntax.ttcons (Syntax.tcons (Syntax.tyInt Syntax.w64) Syntax.tnil) (Syntax.ttcons (Syntax.tcons (Syntax.tyInt Syntax.w64) (Syntax.tcons (Syntax.tyInt Syntax.w64) Syntax.tnil)) (Syntax.ttcons Syntax.tnil (Syntax.ttcons Syntax.tnil (Syntax.ttcons Syntax.tnil (Syntax.ttcons (Syntax.tcons (Syntax.tyInt Syntax.w64) Syntax.tnil) (Syntax.ttcons (Syntax.tcons (Syntax.tyInt Syntax.w64) Syntax.tnil) (Syntax.ttcons (Syntax.tcons (Syntax.tyInt Syntax.w64) Syntax.tnil) (Syntax.ttcons (Syntax.tcons (Syntax.tyInt Syntax.w64) Syntax.tnil) (Syntax.ttcons (Syntax.tcons (Syntax.tyInt Syntax.w64) Syntax.tnil) (Syntax.ttcons (Syntax.tcons (Syntax.tyInt Syntax.w64) Syntax.tnil) (Syntax.ttcons (Syntax.tcons (Syntax.tyInt Syntax.w64) Syntax.tnil) (Syntax.ttcons Syntax.tnil (Syntax.ttcons Syntax.tnil (Syntax.ttcons (Syntax.tcons (Syntax.tyInt Syntax.w64) Syntax.tnil) Syntax.ttnil)))))))))))))))))) Syntax.tnil)))) (List._∷_ (1, Rows.any-gone (Syntax.tyStruct (List._∷_ 122 (List._∷_ 111 (List._∷_ 110 (List._∷_ 101 (List._∷_ 115 (List._∷_ 58 (List._∷_ 58 (List._∷_ 104 (List._∷_ 101 (List._∷_ 108 (List._∷_ 100 (List._∷_ 58 (List._∷_ 58 (List._∷_ 72 (List._∷_ 101 (List._∷_ 108 (List._∷_ 100 List.[]))))))))))))))))) (Syntax.tcons (Syntax.tyStruct (List._∷_ 112 (List._∷_ 121 (List._∷_ 114 (List._∷_ 97 (List._∷_ 109 (List._∷_ 105 (List._∷_ 100 (List._∷_ 58 (List._∷_ 58 (List._∷_ 83 (List._∷_ 116 (List._∷_ 97 (List._∷_ 116 (List._∷_ 101 List.[])))))))))))))) (Syntax.tcons (Syntax.tyInt Syntax.w32) (Syntax.tcons (Syntax.tyInt Syntax.w32) (Syntax.tcons (Syntax.tyInt Syntax.w32) (Syntax.tcons (Syntax.tyInt Syntax.w32) (Syntax.tcons (Syntax.tyInt Syntax.w32) (Syntax.tcons (Syntax.tyArray (Syntax.tyInt Syntax.w32) 64) Syntax.tnil))))))) (Syntax.tcons (Syntax.tyInt Syntax.w64) (Syntax.tcons (Syntax.tyInt Syntax.w64) (Syntax.tcons (Syntax.tyInt Syntax.w64) (Syntax.tcons (Syntax.tyInt Syntax.w64) (Syntax.tcons (Syntax.tyInt Syntax.w64) (Syntax.tcons (Syntax.tyInt Syntax.w64) (Syntax.tcons Syntax.tyBool Syntax.tnil)))))))))) (List._∷_ (2, Rows.whole (Declared.row Line.the-type)) (List._∷_ (3, Rows.sslice (Referent.rtF (Referent.fInt Syntax.w32)) (Syntax.tyRef (Syntax.named 0) Syntax.imm (Syntax.tyInt Syntax.w32)) 0) (List._∷_ (4, Part.mslice-owedP (Referent.rtF (Referent.fInt Syntax.w32)) (Syntax.tyRef (Syntax.named 1) Syntax.mut (Syntax.tyInt Syntax.w32)) 1 6 Row.off) (List._∷_ (5, Part.mslice-owedP (Referent.rtF (Referent.fInt Syntax.w32)) (Syntax.tyRef (Syntax.named 2) Syntax.mut (Syntax.tyInt Syntax.w32)) 2 7 Row.off) (List._∷_ (6, Part.mslice-owedP (Referent.rtF (Referent.fInt Syntax.w32)) (Syntax.tyRef (Syntax.named 3) Syntax.mut (Syntax.tyInt Syntax.w32)) 3 8 Row.off) (List._∷_ (7, Part.mslice-owedP Cell.R (Syntax.tyRef (Syntax.named 4) Syntax.mut Cell.behind) 4 9 Row.off) (List._∷_ (8, Mut.mslice Cell.R (Syntax.tyRef (Syntax.named 5) Syntax.mut Cell.behind) 5) (List._∷_ (9, Rows.whole (Declared.row State.the-type)) (List._∷_ (10, Rows.sc-here (Row.sInt Syntax.w64)) (List._∷_ (11, Rows.sc-here (Row.sInt Syntax.w64)) (List._∷_ (12, Rows.sc-here (Row.sInt Syntax.w64)) (List._∷_ (13, Rows.sc-here (Row.sInt Syntax.w64)) (List._∷_ (14, Rows.sc-here (Row.sInt Syntax.w64)) (List._∷_ (15, Rows.sc-here (Row.sInt Syntax.w64)) List.[])))))))))))))))
+t25 = List._∷_ local0 (List._∷_ local27 (List._∷_ local2 (List._∷_ local3 (List._∷_ local35 (List._∷_ local37 (List._∷_ local39 (List._∷_ local41 locals14)))))))
 
 abbrev pub t26 : List.List Row.Entry
-t26 = List._∷_ (16, Rows.any-gone Syntax.tyPtr) (List._∷_ (17, Rows.sc-here (Row.sInt Syntax.w32)) (List._∷_ (18, Rows.any-gone (Syntax.tyRef Syntax.erased Syntax.imm (Syntax.tyInt Syntax.w32))) (List._∷_ (19, Rows.sslice (Referent.rtF (Referent.fInt Syntax.w32)) (Syntax.tyRef Syntax.erased Syntax.imm (Syntax.tyInt Syntax.w32)) 0) (List._∷_ (20, Rows.any-gone (Syntax.tyRef Syntax.erased Syntax.mut (Syntax.tyInt Syntax.w32))) (List._∷_ (21, Mut.mslice (Referent.rtF (Referent.fInt Syntax.w32)) (Syntax.tyRef Syntax.erased Syntax.mut (Syntax.tyInt Syntax.w32)) 6) (List._∷_ (22, Rows.any-gone (Syntax.tyRef Syntax.erased Syntax.mut (Syntax.tyInt Syntax.w32))) (List._∷_ (23, Mut.mslice (Referent.rtF (Referent.fInt Syntax.w32)) (Syntax.tyRef Syntax.erased Syntax.mut (Syntax.tyInt Syntax.w32)) 7) (List._∷_ (24, Rows.any-gone (Syntax.tyRef Syntax.erased Syntax.mut (Syntax.tyInt Syntax.w32))) (List._∷_ (25, Mut.mslice (Referent.rtF (Referent.fInt Syntax.w32)) (Syntax.tyRef Syntax.erased Syntax.mut (Syntax.tyInt Syntax.w32)) 8) (List._∷_ (26, Relend.msptr Cell.R (Syntax.tyRef Syntax.erased Syntax.mut Cell.behind) 9) (List._∷_ (27, Rows.any-gone (Syntax.tyStruct (List._∷_ 38 (List._∷_ 91 (List._∷_ 93 List.[]))) (Syntax.tcons (Syntax.tyRef Syntax.erased Syntax.mut Cell.behind) (Syntax.tcons (Syntax.tyInt Syntax.w64) Syntax.tnil)))) (List._∷_ (28, Rows.any-gone (Syntax.tyRef Syntax.erased Syntax.mut Cell.behind)) (List._∷_ (29, Rows.any-gone (Syntax.tyStruct (List._∷_ 38 (List._∷_ 91 (List._∷_ 93 List.[]))) (Syntax.tcons (Syntax.tyRef Syntax.erased Syntax.mut Cell.behind) (Syntax.tcons (Syntax.tyInt Syntax.w64) Syntax.tnil)))) List.[])))))))))))))
+t26 = List._∷_ local15 (List._∷_ local33 (List._∷_ local17 (List._∷_ local34 (List._∷_ local19 (List._∷_ local36 (List._∷_ local21 (List._∷_ local38 (List._∷_ local23 (List._∷_ local40 (List._∷_ (26, Relend.msptr Cell.R ty7 9) locals5))))))))))
 
 abbrev pub t27 : List.List Row.Entry
-t27 = List._∷_ (16, Rows.any-gone Syntax.tyPtr) (List._∷_ (17, Rows.sc-here (Row.sInt Syntax.w32)) (List._∷_ (18, Rows.any-gone (Syntax.tyRef Syntax.erased Syntax.imm (Syntax.tyInt Syntax.w32))) (List._∷_ (19, Rows.sslice (Referent.rtF (Referent.fInt Syntax.w32)) (Syntax.tyRef Syntax.erased Syntax.imm (Syntax.tyInt Syntax.w32)) 0) (List._∷_ (20, Rows.any-gone (Syntax.tyRef Syntax.erased Syntax.mut (Syntax.tyInt Syntax.w32))) (List._∷_ (21, Mut.mslice (Referent.rtF (Referent.fInt Syntax.w32)) (Syntax.tyRef Syntax.erased Syntax.mut (Syntax.tyInt Syntax.w32)) 6) (List._∷_ (22, Rows.any-gone (Syntax.tyRef Syntax.erased Syntax.mut (Syntax.tyInt Syntax.w32))) (List._∷_ (23, Mut.mslice (Referent.rtF (Referent.fInt Syntax.w32)) (Syntax.tyRef Syntax.erased Syntax.mut (Syntax.tyInt Syntax.w32)) 7) (List._∷_ (24, Rows.any-gone (Syntax.tyRef Syntax.erased Syntax.mut (Syntax.tyInt Syntax.w32))) (List._∷_ (25, Mut.mslice (Referent.rtF (Referent.fInt Syntax.w32)) (Syntax.tyRef Syntax.erased Syntax.mut (Syntax.tyInt Syntax.w32)) 8) (List._∷_ (26, Rows.any-gone (Syntax.tyRef Syntax.erased Syntax.mut Cell.behind)) (List._∷_ (27, Mut.mslice Cell.R (Syntax.tyRef Syntax.erased Syntax.mut Cell.behind) 9) (List._∷_ (28, Rows.any-gone (Syntax.tyRef Syntax.erased Syntax.mut Cell.behind)) (List._∷_ (29, Rows.any-gone (Syntax.tyStruct (List._∷_ 38 (List._∷_ 91 (List._∷_ 93 List.[]))) (Syntax.tcons (Syntax.tyRef Syntax.erased Syntax.mut Cell.behind) (Syntax.tcons (Syntax.tyInt Syntax.w64) Syntax.tnil)))) List.[])))))))))))))
+t27 = List._∷_ local15 (List._∷_ local33 (List._∷_ local17 (List._∷_ local34 (List._∷_ local19 (List._∷_ local36 (List._∷_ local21 (List._∷_ local38 (List._∷_ local23 (List._∷_ local40 (List._∷_ local25 (List._∷_ local42 locals4)))))))))))
 
 abbrev pub t28 : List.List Row.Entry
-t28 = List._∷_ (0, Rows.any-gone (Syntax.tyStruct (List._∷_ 112 (List._∷_ 121 (List._∷_ 114 (List._∷_ 97 (List._∷_ 109 (List._∷_ 105 (List._∷_ 100 (List._∷_ 58 (List._∷_ 58 (List._∷_ 79 (List._∷_ 117 (List._∷_ 116 (List._∷_ 99 (List._∷_ 111 (List._∷_ 109 (List._∷_ 101 List.[])))))))))))))))) (Syntax.tcons (Syntax.tyStruct (List._∷_ 112 (List._∷_ 121 (List._∷_ 114 (List._∷_ 97 (List._∷_ 109 (List._∷_ 105 (List._∷_ 100 (List._∷_ 58 (List._∷_ 58 (List._∷_ 83 (List._∷_ 116 (List._∷_ 97 (List._∷_ 116 (List._∷_ 101 List.[])))))))))))))) (Syntax.tcons (Syntax.tyInt Syntax.w32) (Syntax.tcons (Syntax.tyInt Syntax.w32) (Syntax.tcons (Syntax.tyInt Syntax.w32) (Syntax.tcons (Syntax.tyInt Syntax.w32) (Syntax.tcons (Syntax.tyInt Syntax.w32) (Syntax.tcons (Syntax.tyArray (Syntax.tyInt Syntax.w32) 64) Syntax.tnil))))))) (Syntax.tcons (Syntax.tyEnum (List._∷_ 100 (List._∷_ 97 (List._∷_ 114 (List._∷_ 116 (List._∷_ 115 (List._∷_ 58 (List._∷_ 58 (List._∷_ 65 (List._∷_ 110 (List._∷_ 115 (List._∷_ 119 (List._∷_ 101 (List._∷_ 114 List.[]))))))))))))) (Syntax.ttcons (Syntax.tcons (Syntax.tyInt Syntax.w64) Syntax.tnil) (Syntax.ttcons Syntax.tnil (Syntax.ttcons (Syntax.tcons (Syntax.tyInt Syntax.w64) Syntax.tnil) (Syntax.ttcons (Syntax.tcons (Syntax.tyInt Syntax.w64) (Syntax.tcons (Syntax.tyInt Syntax.w64) Syntax.tnil)) (Syntax.ttcons Syntax.tnil (Syntax.ttcons Syntax.tnil (Syntax.ttcons Syntax.tnil (Syntax.ttcons (Syntax.tcons (Syntax.tyInt Syntax.w64) Syntax.tnil) (Syntax.ttcons (Syntax.tcons (Syntax.tyInt Syntax.w64) Syntax.tnil) (Syntax.ttcons (Syntax.tcons (Syntax.tyInt Syntax.w64) Syntax.tnil) (Syntax.ttcons (Syntax.tcons (Syntax.tyInt Syntax.w64) Syntax.tnil) (Syntax.ttcons (Syntax.tcons (Syntax.tyInt Syntax.w64) Syntax.tnil) (Syntax.ttcons (Syntax.tcons (Syntax.tyInt Syntax.w64) Syntax.tnil) (Syntax.ttcons (Syntax.tcons (Syntax.tyInt Syntax.w64) Syntax.tnil) (Syntax.ttcons Syntax.tnil (Syntax.ttcons Syntax.tnil (Syntax.ttcons (Syntax.tcons (Syntax.tyInt Syntax.w64) Syntax.tnil) Syntax.ttnil)))))))))))))))))) Syntax.tnil)))) (List._∷_ (1, Rows.any-gone (Syntax.tyStruct (List._∷_ 122 (List._∷_ 111 (List._∷_ 110 (List._∷_ 101 (List._∷_ 115 (List._∷_ 58 (List._∷_ 58 (List._∷_ 104 (List._∷_ 101 (List._∷_ 108 (List._∷_ 100 (List._∷_ 58 (List._∷_ 58 (List._∷_ 72 (List._∷_ 101 (List._∷_ 108 (List._∷_ 100 List.[]))))))))))))))))) (Syntax.tcons (Syntax.tyStruct (List._∷_ 112 (List._∷_ 121 (List._∷_ 114 (List._∷_ 97 (List._∷_ 109 (List._∷_ 105 (List._∷_ 100 (List._∷_ 58 (List._∷_ 58 (List._∷_ 83 (List._∷_ 116 (List._∷_ 97 (List._∷_ 116 (List._∷_ 101 List.[])))))))))))))) (Syntax.tcons (Syntax.tyInt Syntax.w32) (Syntax.tcons (Syntax.tyInt Syntax.w32) (Syntax.tcons (Syntax.tyInt Syntax.w32) (Syntax.tcons (Syntax.tyInt Syntax.w32) (Syntax.tcons (Syntax.tyInt Syntax.w32) (Syntax.tcons (Syntax.tyArray (Syntax.tyInt Syntax.w32) 64) Syntax.tnil))))))) (Syntax.tcons (Syntax.tyInt Syntax.w64) (Syntax.tcons (Syntax.tyInt Syntax.w64) (Syntax.tcons (Syntax.tyInt Syntax.w64) (Syntax.tcons (Syntax.tyInt Syntax.w64) (Syntax.tcons (Syntax.tyInt Syntax.w64) (Syntax.tcons (Syntax.tyInt Syntax.w64) (Syntax.tcons Syntax.tyBool Syntax.tnil)))))))))) (List._∷_ (2, Rows.whole (Declared.row Line.the-type)) (List._∷_ (3, Rows.sslice (Referent.rtF (Referent.fInt Syntax.w32)) (Syntax.tyRef (Syntax.named 0) Syntax.imm (Syntax.tyInt Syntax.w32)) 0) (List._∷_ (4, Part.mslice-owedP (Referent.rtF (Referent.fInt Syntax.w32)) (Syntax.tyRef (Syntax.named 1) Syntax.mut (Syntax.tyInt Syntax.w32)) 1 6 Row.off) (List._∷_ (5, Part.mslice-owedP (Referent.rtF (Referent.fInt Syntax.w32)) (Syntax.tyRef (Syntax.named 2) Syntax.mut (Syntax.tyInt Syntax.w32)) 2 7 Row.off) (List._∷_ (6, Part.mslice-owedP (Referent.rtF (Referent.fInt Syntax.w32)) (Syntax.tyRef (Syntax.named 3) Syntax.mut (Syntax.tyInt Syntax.w32)) 3 8 Row.off) (List._∷_ (7, Part.mslice-owedP Cell.R (Syntax.tyRef (Syntax.named 4) Syntax.mut Cell.behind) 4 9 Row.off) (List._∷_ (8, Part.mslice-owedP Cell.R (Syntax.tyRef (Syntax.named 5) Syntax.mut Cell.behind) 5 10 Row.off) (List._∷_ (9, Rows.whole (Declared.row State.the-type)) (List._∷_ (10, Rows.sc-here (Row.sInt Syntax.w64)) (List._∷_ (11, Rows.sc-here (Row.sInt Syntax.w64)) (List._∷_ (12, Rows.sc-here (Row.sInt Syntax.w64)) (List._∷_ (13, Rows.sc-here (Row.sInt Syntax.w64)) (List._∷_ (14, Rows.sc-here (Row.sInt Syntax.w64)) (List._∷_ (15, Rows.sc-here (Row.sInt Syntax.w64)) List.[])))))))))))))))
+t28 = List._∷_ local0 (List._∷_ local27 (List._∷_ local2 locals16))
 
 abbrev pub t29 : List.List Row.Entry
-t29 = List._∷_ (16, Rows.any-gone Syntax.tyPtr) (List._∷_ (17, Rows.sc-here (Row.sInt Syntax.w32)) (List._∷_ (18, Rows.any-gone (Syntax.tyRef Syntax.erased Syntax.imm (Syntax.tyInt Syntax.w32))) (List._∷_ (19, Rows.sslice (Referent.rtF (Referent.fInt Syntax.w32)) (Syntax.tyRef Syntax.erased Syntax.imm (Syntax.tyInt Syntax.w32)) 0) (List._∷_ (20, Rows.any-gone (Syntax.tyRef Syntax.erased Syntax.mut (Syntax.tyInt Syntax.w32))) (List._∷_ (21, Mut.mslice (Referent.rtF (Referent.fInt Syntax.w32)) (Syntax.tyRef Syntax.erased Syntax.mut (Syntax.tyInt Syntax.w32)) 6) (List._∷_ (22, Rows.any-gone (Syntax.tyRef Syntax.erased Syntax.mut (Syntax.tyInt Syntax.w32))) (List._∷_ (23, Mut.mslice (Referent.rtF (Referent.fInt Syntax.w32)) (Syntax.tyRef Syntax.erased Syntax.mut (Syntax.tyInt Syntax.w32)) 7) (List._∷_ (24, Rows.any-gone (Syntax.tyRef Syntax.erased Syntax.mut (Syntax.tyInt Syntax.w32))) (List._∷_ (25, Mut.mslice (Referent.rtF (Referent.fInt Syntax.w32)) (Syntax.tyRef Syntax.erased Syntax.mut (Syntax.tyInt Syntax.w32)) 8) (List._∷_ (26, Rows.any-gone (Syntax.tyRef Syntax.erased Syntax.mut Cell.behind)) (List._∷_ (27, Mut.mslice Cell.R (Syntax.tyRef Syntax.erased Syntax.mut Cell.behind) 9) (List._∷_ (28, Relend.msptr Cell.R (Syntax.tyRef Syntax.erased Syntax.mut Cell.behind) 10) (List._∷_ (29, Rows.any-gone (Syntax.tyStruct (List._∷_ 38 (List._∷_ 91 (List._∷_ 93 List.[]))) (Syntax.tcons (Syntax.tyRef Syntax.erased Syntax.mut Cell.behind) (Syntax.tcons (Syntax.tyInt Syntax.w64) Syntax.tnil)))) List.[])))))))))))))
+t29 = List._∷_ local15 (List._∷_ local33 (List._∷_ local17 (List._∷_ local34 (List._∷_ local19 (List._∷_ local36 (List._∷_ local21 (List._∷_ local38 (List._∷_ local23 (List._∷_ local40 (List._∷_ local25 (List._∷_ local42 (List._∷_ (28, Relend.msptr Cell.R ty7 10) (List._∷_ (29, Rows.any-gone ty8) List.[])))))))))))))
 
 abbrev pub t30 : List.List Row.Entry
-t30 = List._∷_ (16, Rows.any-gone Syntax.tyPtr) (List._∷_ (17, Rows.sc-here (Row.sInt Syntax.w32)) (List._∷_ (18, Rows.any-gone (Syntax.tyRef Syntax.erased Syntax.imm (Syntax.tyInt Syntax.w32))) (List._∷_ (19, Rows.sslice (Referent.rtF (Referent.fInt Syntax.w32)) (Syntax.tyRef Syntax.erased Syntax.imm (Syntax.tyInt Syntax.w32)) 0) (List._∷_ (20, Rows.any-gone (Syntax.tyRef Syntax.erased Syntax.mut (Syntax.tyInt Syntax.w32))) (List._∷_ (21, Mut.mslice (Referent.rtF (Referent.fInt Syntax.w32)) (Syntax.tyRef Syntax.erased Syntax.mut (Syntax.tyInt Syntax.w32)) 6) (List._∷_ (22, Rows.any-gone (Syntax.tyRef Syntax.erased Syntax.mut (Syntax.tyInt Syntax.w32))) (List._∷_ (23, Mut.mslice (Referent.rtF (Referent.fInt Syntax.w32)) (Syntax.tyRef Syntax.erased Syntax.mut (Syntax.tyInt Syntax.w32)) 7) (List._∷_ (24, Rows.any-gone (Syntax.tyRef Syntax.erased Syntax.mut (Syntax.tyInt Syntax.w32))) (List._∷_ (25, Mut.mslice (Referent.rtF (Referent.fInt Syntax.w32)) (Syntax.tyRef Syntax.erased Syntax.mut (Syntax.tyInt Syntax.w32)) 8) (List._∷_ (26, Rows.any-gone (Syntax.tyRef Syntax.erased Syntax.mut Cell.behind)) (List._∷_ (27, Mut.mslice Cell.R (Syntax.tyRef Syntax.erased Syntax.mut Cell.behind) 9) (List._∷_ (28, Rows.any-gone (Syntax.tyRef Syntax.erased Syntax.mut Cell.behind)) (List._∷_ (29, Mut.mslice Cell.R (Syntax.tyRef Syntax.erased Syntax.mut Cell.behind) 10) List.[])))))))))))))
+t30 = List._∷_ local15 (List._∷_ local33 (List._∷_ local17 (List._∷_ local34 (List._∷_ local19 (List._∷_ local36 (List._∷_ local21 (List._∷_ local38 (List._∷_ local23 (List._∷_ local40 (List._∷_ local25 (List._∷_ local42 (List._∷_ (28, Rows.any-gone ty7) (List._∷_ (29, Mut.mslice Cell.R ty7 10) List.[])))))))))))))
 
 abbrev pub t31 : List.List Row.Entry
-t31 = List._∷_ (0, Rows.whole (Declared.row Outcome.the-type)) (List._∷_ (1, Rows.any-gone (Syntax.tyStruct (List._∷_ 122 (List._∷_ 111 (List._∷_ 110 (List._∷_ 101 (List._∷_ 115 (List._∷_ 58 (List._∷_ 58 (List._∷_ 104 (List._∷_ 101 (List._∷_ 108 (List._∷_ 100 (List._∷_ 58 (List._∷_ 58 (List._∷_ 72 (List._∷_ 101 (List._∷_ 108 (List._∷_ 100 List.[]))))))))))))))))) (Syntax.tcons (Syntax.tyStruct (List._∷_ 112 (List._∷_ 121 (List._∷_ 114 (List._∷_ 97 (List._∷_ 109 (List._∷_ 105 (List._∷_ 100 (List._∷_ 58 (List._∷_ 58 (List._∷_ 83 (List._∷_ 116 (List._∷_ 97 (List._∷_ 116 (List._∷_ 101 List.[])))))))))))))) (Syntax.tcons (Syntax.tyInt Syntax.w32) (Syntax.tcons (Syntax.tyInt Syntax.w32) (Syntax.tcons (Syntax.tyInt Syntax.w32) (Syntax.tcons (Syntax.tyInt Syntax.w32) (Syntax.tcons (Syntax.tyInt Syntax.w32) (Syntax.tcons (Syntax.tyArray (Syntax.tyInt Syntax.w32) 64) Syntax.tnil))))))) (Syntax.tcons (Syntax.tyInt Syntax.w64) (Syntax.tcons (Syntax.tyInt Syntax.w64) (Syntax.tcons (Syntax.tyInt Syntax.w64) (Syntax.tcons (Syntax.tyInt Syntax.w64) (Syntax.tcons (Syntax.tyInt Syntax.w64) (Syntax.tcons (Syntax.tyInt Syntax.w64) (Syntax.tcons Syntax.tyBool Syntax.tnil)))))))))) (List._∷_ (2, Rows.whole (Declared.row Line.the-type)) (List._∷_ (3, Rows.sslice (Referent.rtF (Referent.fInt Syntax.w32)) (Syntax.tyRef (Syntax.named 0) Syntax.imm (Syntax.tyInt Syntax.w32)) 0) (List._∷_ (4, Part.mslice-owedP (Referent.rtF (Referent.fInt Syntax.w32)) (Syntax.tyRef (Syntax.named 1) Syntax.mut (Syntax.tyInt Syntax.w32)) 1 6 Row.off) (List._∷_ (5, Part.mslice-owedP (Referent.rtF (Referent.fInt Syntax.w32)) (Syntax.tyRef (Syntax.named 2) Syntax.mut (Syntax.tyInt Syntax.w32)) 2 7 Row.off) (List._∷_ (6, Part.mslice-owedP (Referent.rtF (Referent.fInt Syntax.w32)) (Syntax.tyRef (Syntax.named 3) Syntax.mut (Syntax.tyInt Syntax.w32)) 3 8 Row.off) (List._∷_ (7, Part.mslice-owedP Cell.R (Syntax.tyRef (Syntax.named 4) Syntax.mut Cell.behind) 4 9 Row.off) (List._∷_ (8, Part.mslice-owedP Cell.R (Syntax.tyRef (Syntax.named 5) Syntax.mut Cell.behind) 5 10 Row.off) (List._∷_ (9, Rows.whole (Declared.row State.the-type)) (List._∷_ (10, Rows.sc-here (Row.sInt Syntax.w64)) (List._∷_ (11, Rows.sc-here (Row.sInt Syntax.w64)) (List._∷_ (12, Rows.sc-here (Row.sInt Syntax.w64)) (List._∷_ (13, Rows.sc-here (Row.sInt Syntax.w64)) (List._∷_ (14, Rows.sc-here (Row.sInt Syntax.w64)) (List._∷_ (15, Rows.sc-here (Row.sInt Syntax.w64)) List.[])))))))))))))))
+t31 = List._∷_ local26 (List._∷_ local27 (List._∷_ local2 locals16))
 
 abbrev pub t32 : List.List Row.Entry
-t32 = List._∷_ (16, Rows.any-gone Syntax.tyPtr) (List._∷_ (17, Rows.sc-here (Row.sInt Syntax.w32)) (List._∷_ (18, Rows.any-gone (Syntax.tyRef Syntax.erased Syntax.imm (Syntax.tyInt Syntax.w32))) (List._∷_ (19, Rows.sslice (Referent.rtF (Referent.fInt Syntax.w32)) (Syntax.tyRef Syntax.erased Syntax.imm (Syntax.tyInt Syntax.w32)) 0) (List._∷_ (20, Rows.any-gone (Syntax.tyRef Syntax.erased Syntax.mut (Syntax.tyInt Syntax.w32))) (List._∷_ (21, Mut.msleft (Referent.rtF (Referent.fInt Syntax.w32)) (Syntax.tyRef Syntax.erased Syntax.mut (Syntax.tyInt Syntax.w32))) (List._∷_ (22, Rows.any-gone (Syntax.tyRef Syntax.erased Syntax.mut (Syntax.tyInt Syntax.w32))) (List._∷_ (23, Mut.msleft (Referent.rtF (Referent.fInt Syntax.w32)) (Syntax.tyRef Syntax.erased Syntax.mut (Syntax.tyInt Syntax.w32))) (List._∷_ (24, Rows.any-gone (Syntax.tyRef Syntax.erased Syntax.mut (Syntax.tyInt Syntax.w32))) (List._∷_ (25, Mut.msleft (Referent.rtF (Referent.fInt Syntax.w32)) (Syntax.tyRef Syntax.erased Syntax.mut (Syntax.tyInt Syntax.w32))) (List._∷_ (26, Rows.any-gone (Syntax.tyRef Syntax.erased Syntax.mut Cell.behind)) (List._∷_ (27, Mut.msleft Cell.R (Syntax.tyRef Syntax.erased Syntax.mut Cell.behind)) (List._∷_ (28, Rows.any-gone (Syntax.tyRef Syntax.erased Syntax.mut Cell.behind)) (List._∷_ (29, Mut.msleft Cell.R (Syntax.tyRef Syntax.erased Syntax.mut Cell.behind)) List.[])))))))))))))
+t32 = List._∷_ local15 (List._∷_ local33 (List._∷_ local17 (List._∷_ local34 locals21)))
 
 abbrev pub t33 : List.List Row.Entry
-t33 = List._∷_ (16, Rows.any-gone Syntax.tyPtr) (List._∷_ (17, Rows.sc-here (Row.sInt Syntax.w32)) (List._∷_ (18, Rows.any-gone (Syntax.tyRef Syntax.erased Syntax.imm (Syntax.tyInt Syntax.w32))) (List._∷_ (19, Rows.any-gone (Syntax.tyStruct (List._∷_ 38 (List._∷_ 91 (List._∷_ 93 List.[]))) (Syntax.tcons (Syntax.tyRef Syntax.erased Syntax.imm (Syntax.tyInt Syntax.w32)) (Syntax.tcons (Syntax.tyInt Syntax.w64) Syntax.tnil)))) (List._∷_ (20, Rows.any-gone (Syntax.tyRef Syntax.erased Syntax.mut (Syntax.tyInt Syntax.w32))) (List._∷_ (21, Mut.msleft (Referent.rtF (Referent.fInt Syntax.w32)) (Syntax.tyRef Syntax.erased Syntax.mut (Syntax.tyInt Syntax.w32))) (List._∷_ (22, Rows.any-gone (Syntax.tyRef Syntax.erased Syntax.mut (Syntax.tyInt Syntax.w32))) (List._∷_ (23, Mut.msleft (Referent.rtF (Referent.fInt Syntax.w32)) (Syntax.tyRef Syntax.erased Syntax.mut (Syntax.tyInt Syntax.w32))) (List._∷_ (24, Rows.any-gone (Syntax.tyRef Syntax.erased Syntax.mut (Syntax.tyInt Syntax.w32))) (List._∷_ (25, Mut.msleft (Referent.rtF (Referent.fInt Syntax.w32)) (Syntax.tyRef Syntax.erased Syntax.mut (Syntax.tyInt Syntax.w32))) (List._∷_ (26, Rows.any-gone (Syntax.tyRef Syntax.erased Syntax.mut Cell.behind)) (List._∷_ (27, Mut.msleft Cell.R (Syntax.tyRef Syntax.erased Syntax.mut Cell.behind)) (List._∷_ (28, Rows.any-gone (Syntax.tyRef Syntax.erased Syntax.mut Cell.behind)) (List._∷_ (29, Mut.msleft Cell.R (Syntax.tyRef Syntax.erased Syntax.mut Cell.behind)) List.[])))))))))))))
+t33 = List._∷_ local15 (List._∷_ local33 (List._∷_ local17 (List._∷_ local18 locals21)))
 
 abbrev pub t34 : List.List Row.Entry
-t34 = List._∷_ (0, Rows.whole (Declared.row Outcome.the-type)) (List._∷_ (1, Rows.any-gone (Syntax.tyStruct (List._∷_ 122 (List._∷_ 111 (List._∷_ 110 (List._∷_ 101 (List._∷_ 115 (List._∷_ 58 (List._∷_ 58 (List._∷_ 104 (List._∷_ 101 (List._∷_ 108 (List._∷_ 100 (List._∷_ 58 (List._∷_ 58 (List._∷_ 72 (List._∷_ 101 (List._∷_ 108 (List._∷_ 100 List.[]))))))))))))))))) (Syntax.tcons (Syntax.tyStruct (List._∷_ 112 (List._∷_ 121 (List._∷_ 114 (List._∷_ 97 (List._∷_ 109 (List._∷_ 105 (List._∷_ 100 (List._∷_ 58 (List._∷_ 58 (List._∷_ 83 (List._∷_ 116 (List._∷_ 97 (List._∷_ 116 (List._∷_ 101 List.[])))))))))))))) (Syntax.tcons (Syntax.tyInt Syntax.w32) (Syntax.tcons (Syntax.tyInt Syntax.w32) (Syntax.tcons (Syntax.tyInt Syntax.w32) (Syntax.tcons (Syntax.tyInt Syntax.w32) (Syntax.tcons (Syntax.tyInt Syntax.w32) (Syntax.tcons (Syntax.tyArray (Syntax.tyInt Syntax.w32) 64) Syntax.tnil))))))) (Syntax.tcons (Syntax.tyInt Syntax.w64) (Syntax.tcons (Syntax.tyInt Syntax.w64) (Syntax.tcons (Syntax.tyInt Syntax.w64) (Syntax.tcons (Syntax.tyInt Syntax.w64) (Syntax.tcons (Syntax.tyInt Syntax.w64) (Syntax.tcons (Syntax.tyInt Syntax.w64) (Syntax.tcons Syntax.tyBool Syntax.tnil)))))))))) (List._∷_ (2, Rows.any-gone (Syntax.tyStruct (List._∷_ 115 (List._∷_ 99 (List._∷_ 114 (List._∷_ 105 (List._∷_ 112 (List._∷_ 116 (List._∷_ 58 (List._∷_ 58 (List._∷_ 115 (List._∷_ 99 (List._∷_ 97 (List._∷_ 110 (List._∷_ 58 (List._∷_ 58 (List._∷_ 76 (List._∷_ 105 (List._∷_ 110 (List._∷_ 101 List.[])))))))))))))))))) (Syntax.tcons (Syntax.tyInt Syntax.w32) (Syntax.tcons (Syntax.tyInt Syntax.w64) (Syntax.tcons (Syntax.tyInt Syntax.w64) (Syntax.tcons (Syntax.tyInt Syntax.w64) (Syntax.tcons (Syntax.tyInt Syntax.w64) Syntax.tnil))))))) (List._∷_ (3, Rows.sslice (Referent.rtF (Referent.fInt Syntax.w32)) (Syntax.tyRef (Syntax.named 0) Syntax.imm (Syntax.tyInt Syntax.w32)) 0) (List._∷_ (4, Part.mslice-owedP (Referent.rtF (Referent.fInt Syntax.w32)) (Syntax.tyRef (Syntax.named 1) Syntax.mut (Syntax.tyInt Syntax.w32)) 1 6 Row.off) (List._∷_ (5, Part.mslice-owedP (Referent.rtF (Referent.fInt Syntax.w32)) (Syntax.tyRef (Syntax.named 2) Syntax.mut (Syntax.tyInt Syntax.w32)) 2 7 Row.off) (List._∷_ (6, Part.mslice-owedP (Referent.rtF (Referent.fInt Syntax.w32)) (Syntax.tyRef (Syntax.named 3) Syntax.mut (Syntax.tyInt Syntax.w32)) 3 8 Row.off) (List._∷_ (7, Part.mslice-owedP Cell.R (Syntax.tyRef (Syntax.named 4) Syntax.mut Cell.behind) 4 9 Row.off) (List._∷_ (8, Part.mslice-owedP Cell.R (Syntax.tyRef (Syntax.named 5) Syntax.mut Cell.behind) 5 10 Row.off) (List._∷_ (9, Rows.whole (Declared.row State.the-type)) (List._∷_ (10, Rows.sc-here (Row.sInt Syntax.w64)) (List._∷_ (11, Rows.sc-here (Row.sInt Syntax.w64)) (List._∷_ (12, Rows.sc-here (Row.sInt Syntax.w64)) (List._∷_ (13, Rows.sc-here (Row.sInt Syntax.w64)) (List._∷_ (14, Rows.sc-here (Row.sInt Syntax.w64)) (List._∷_ (15, Rows.sc-here (Row.sInt Syntax.w64)) List.[])))))))))))))))
+t34 = List._∷_ local26 (List._∷_ local27 (List._∷_ local28 locals16))
 
 abbrev pub t35 : List.List Row.Entry
-t35 = List._∷_ (0, Rows.whole (Declared.row Outcome.the-type)) (List._∷_ (1, Rows.any-gone (Syntax.tyStruct (List._∷_ 122 (List._∷_ 111 (List._∷_ 110 (List._∷_ 101 (List._∷_ 115 (List._∷_ 58 (List._∷_ 58 (List._∷_ 104 (List._∷_ 101 (List._∷_ 108 (List._∷_ 100 (List._∷_ 58 (List._∷_ 58 (List._∷_ 72 (List._∷_ 101 (List._∷_ 108 (List._∷_ 100 List.[]))))))))))))))))) (Syntax.tcons (Syntax.tyStruct (List._∷_ 112 (List._∷_ 121 (List._∷_ 114 (List._∷_ 97 (List._∷_ 109 (List._∷_ 105 (List._∷_ 100 (List._∷_ 58 (List._∷_ 58 (List._∷_ 83 (List._∷_ 116 (List._∷_ 97 (List._∷_ 116 (List._∷_ 101 List.[])))))))))))))) (Syntax.tcons (Syntax.tyInt Syntax.w32) (Syntax.tcons (Syntax.tyInt Syntax.w32) (Syntax.tcons (Syntax.tyInt Syntax.w32) (Syntax.tcons (Syntax.tyInt Syntax.w32) (Syntax.tcons (Syntax.tyInt Syntax.w32) (Syntax.tcons (Syntax.tyArray (Syntax.tyInt Syntax.w32) 64) Syntax.tnil))))))) (Syntax.tcons (Syntax.tyInt Syntax.w64) (Syntax.tcons (Syntax.tyInt Syntax.w64) (Syntax.tcons (Syntax.tyInt Syntax.w64) (Syntax.tcons (Syntax.tyInt Syntax.w64) (Syntax.tcons (Syntax.tyInt Syntax.w64) (Syntax.tcons (Syntax.tyInt Syntax.w64) (Syntax.tcons Syntax.tyBool Syntax.tnil)))))))))) (List._∷_ (2, Rows.any-gone (Syntax.tyStruct (List._∷_ 115 (List._∷_ 99 (List._∷_ 114 (List._∷_ 105 (List._∷_ 112 (List._∷_ 116 (List._∷_ 58 (List._∷_ 58 (List._∷_ 115 (List._∷_ 99 (List._∷_ 97 (List._∷_ 110 (List._∷_ 58 (List._∷_ 58 (List._∷_ 76 (List._∷_ 105 (List._∷_ 110 (List._∷_ 101 List.[])))))))))))))))))) (Syntax.tcons (Syntax.tyInt Syntax.w32) (Syntax.tcons (Syntax.tyInt Syntax.w64) (Syntax.tcons (Syntax.tyInt Syntax.w64) (Syntax.tcons (Syntax.tyInt Syntax.w64) (Syntax.tcons (Syntax.tyInt Syntax.w64) Syntax.tnil))))))) (List._∷_ (3, Rows.sslice (Referent.rtF (Referent.fInt Syntax.w32)) (Syntax.tyRef (Syntax.named 0) Syntax.imm (Syntax.tyInt Syntax.w32)) 0) (List._∷_ (4, Part.mslice-owedP (Referent.rtF (Referent.fInt Syntax.w32)) (Syntax.tyRef (Syntax.named 1) Syntax.mut (Syntax.tyInt Syntax.w32)) 1 6 Row.off) (List._∷_ (5, Part.mslice-owedP (Referent.rtF (Referent.fInt Syntax.w32)) (Syntax.tyRef (Syntax.named 2) Syntax.mut (Syntax.tyInt Syntax.w32)) 2 7 Row.off) (List._∷_ (6, Part.mslice-owedP (Referent.rtF (Referent.fInt Syntax.w32)) (Syntax.tyRef (Syntax.named 3) Syntax.mut (Syntax.tyInt Syntax.w32)) 3 8 Row.off) (List._∷_ (7, Part.mslice-owedP Cell.R (Syntax.tyRef (Syntax.named 4) Syntax.mut Cell.behind) 4 9 Row.off) (List._∷_ (8, Part.mslice-owedP Cell.R (Syntax.tyRef (Syntax.named 5) Syntax.mut Cell.behind) 5 10 Row.off) (List._∷_ (9, Rows.any-gone (Syntax.tyStruct (List._∷_ 112 (List._∷_ 121 (List._∷_ 114 (List._∷_ 97 (List._∷_ 109 (List._∷_ 105 (List._∷_ 100 (List._∷_ 58 (List._∷_ 58 (List._∷_ 83 (List._∷_ 116 (List._∷_ 97 (List._∷_ 116 (List._∷_ 101 List.[])))))))))))))) (Syntax.tcons (Syntax.tyInt Syntax.w32) (Syntax.tcons (Syntax.tyInt Syntax.w32) (Syntax.tcons (Syntax.tyInt Syntax.w32) (Syntax.tcons (Syntax.tyInt Syntax.w32) (Syntax.tcons (Syntax.tyInt Syntax.w32) (Syntax.tcons (Syntax.tyArray (Syntax.tyInt Syntax.w32) 64) Syntax.tnil)))))))) (List._∷_ (10, Rows.sc-here (Row.sInt Syntax.w64)) (List._∷_ (11, Rows.sc-here (Row.sInt Syntax.w64)) (List._∷_ (12, Rows.sc-here (Row.sInt Syntax.w64)) (List._∷_ (13, Rows.sc-here (Row.sInt Syntax.w64)) (List._∷_ (14, Rows.sc-here (Row.sInt Syntax.w64)) (List._∷_ (15, Rows.sc-here (Row.sInt Syntax.w64)) List.[])))))))))))))))
+t35 = List._∷_ local26 (List._∷_ local27 (List._∷_ local28 (List._∷_ local3 (List._∷_ local35 (List._∷_ local37 (List._∷_ local39 (List._∷_ local41 (List._∷_ local43 (List._∷_ local9 (List._∷_ local30 locals12))))))))))
 
 abbrev pub t36 : List.List Row.Entry
-t36 = List._∷_ (0, Rows.whole (Declared.row Outcome.the-type)) (List._∷_ (1, Rows.any-gone (Syntax.tyStruct (List._∷_ 122 (List._∷_ 111 (List._∷_ 110 (List._∷_ 101 (List._∷_ 115 (List._∷_ 58 (List._∷_ 58 (List._∷_ 104 (List._∷_ 101 (List._∷_ 108 (List._∷_ 100 (List._∷_ 58 (List._∷_ 58 (List._∷_ 72 (List._∷_ 101 (List._∷_ 108 (List._∷_ 100 List.[]))))))))))))))))) (Syntax.tcons (Syntax.tyStruct (List._∷_ 112 (List._∷_ 121 (List._∷_ 114 (List._∷_ 97 (List._∷_ 109 (List._∷_ 105 (List._∷_ 100 (List._∷_ 58 (List._∷_ 58 (List._∷_ 83 (List._∷_ 116 (List._∷_ 97 (List._∷_ 116 (List._∷_ 101 List.[])))))))))))))) (Syntax.tcons (Syntax.tyInt Syntax.w32) (Syntax.tcons (Syntax.tyInt Syntax.w32) (Syntax.tcons (Syntax.tyInt Syntax.w32) (Syntax.tcons (Syntax.tyInt Syntax.w32) (Syntax.tcons (Syntax.tyInt Syntax.w32) (Syntax.tcons (Syntax.tyArray (Syntax.tyInt Syntax.w32) 64) Syntax.tnil))))))) (Syntax.tcons (Syntax.tyInt Syntax.w64) (Syntax.tcons (Syntax.tyInt Syntax.w64) (Syntax.tcons (Syntax.tyInt Syntax.w64) (Syntax.tcons (Syntax.tyInt Syntax.w64) (Syntax.tcons (Syntax.tyInt Syntax.w64) (Syntax.tcons (Syntax.tyInt Syntax.w64) (Syntax.tcons Syntax.tyBool Syntax.tnil)))))))))) (List._∷_ (2, Rows.any-gone (Syntax.tyStruct (List._∷_ 115 (List._∷_ 99 (List._∷_ 114 (List._∷_ 105 (List._∷_ 112 (List._∷_ 116 (List._∷_ 58 (List._∷_ 58 (List._∷_ 115 (List._∷_ 99 (List._∷_ 97 (List._∷_ 110 (List._∷_ 58 (List._∷_ 58 (List._∷_ 76 (List._∷_ 105 (List._∷_ 110 (List._∷_ 101 List.[])))))))))))))))))) (Syntax.tcons (Syntax.tyInt Syntax.w32) (Syntax.tcons (Syntax.tyInt Syntax.w64) (Syntax.tcons (Syntax.tyInt Syntax.w64) (Syntax.tcons (Syntax.tyInt Syntax.w64) (Syntax.tcons (Syntax.tyInt Syntax.w64) Syntax.tnil))))))) (List._∷_ (3, Rows.sslice (Referent.rtF (Referent.fInt Syntax.w32)) (Syntax.tyRef (Syntax.named 0) Syntax.imm (Syntax.tyInt Syntax.w32)) 0) (List._∷_ (4, Part.mslice-owedP (Referent.rtF (Referent.fInt Syntax.w32)) (Syntax.tyRef (Syntax.named 1) Syntax.mut (Syntax.tyInt Syntax.w32)) 1 6 Row.off) (List._∷_ (5, Part.mslice-owedP (Referent.rtF (Referent.fInt Syntax.w32)) (Syntax.tyRef (Syntax.named 2) Syntax.mut (Syntax.tyInt Syntax.w32)) 2 7 Row.off) (List._∷_ (6, Part.mslice-owedP (Referent.rtF (Referent.fInt Syntax.w32)) (Syntax.tyRef (Syntax.named 3) Syntax.mut (Syntax.tyInt Syntax.w32)) 3 8 Row.off) (List._∷_ (7, Part.mslice-owedP Cell.R (Syntax.tyRef (Syntax.named 4) Syntax.mut Cell.behind) 4 9 Row.off) (List._∷_ (8, Part.mslice-owedP Cell.R (Syntax.tyRef (Syntax.named 5) Syntax.mut Cell.behind) 5 10 Row.off) (List._∷_ (9, Rows.any-gone (Syntax.tyStruct (List._∷_ 112 (List._∷_ 121 (List._∷_ 114 (List._∷_ 97 (List._∷_ 109 (List._∷_ 105 (List._∷_ 100 (List._∷_ 58 (List._∷_ 58 (List._∷_ 83 (List._∷_ 116 (List._∷_ 97 (List._∷_ 116 (List._∷_ 101 List.[])))))))))))))) (Syntax.tcons (Syntax.tyInt Syntax.w32) (Syntax.tcons (Syntax.tyInt Syntax.w32) (Syntax.tcons (Syntax.tyInt Syntax.w32) (Syntax.tcons (Syntax.tyInt Syntax.w32) (Syntax.tcons (Syntax.tyInt Syntax.w32) (Syntax.tcons (Syntax.tyArray (Syntax.tyInt Syntax.w32) 64) Syntax.tnil)))))))) (List._∷_ (10, Rows.any-gone (Syntax.tyInt Syntax.w64)) (List._∷_ (11, Rows.sc-here (Row.sInt Syntax.w64)) (List._∷_ (12, Rows.sc-here (Row.sInt Syntax.w64)) (List._∷_ (13, Rows.sc-here (Row.sInt Syntax.w64)) (List._∷_ (14, Rows.sc-here (Row.sInt Syntax.w64)) (List._∷_ (15, Rows.sc-here (Row.sInt Syntax.w64)) List.[])))))))))))))))
+t36 = List._∷_ local26 (List._∷_ local27 (List._∷_ local28 (List._∷_ local3 (List._∷_ local35 (List._∷_ local37 (List._∷_ local39 (List._∷_ local41 (List._∷_ local43 (List._∷_ local9 (List._∷_ local10 locals12))))))))))
 
 abbrev pub t37 : List.List Row.Entry
-t37 = List._∷_ (0, Rows.whole (Declared.row Outcome.the-type)) (List._∷_ (1, Rows.any-gone (Syntax.tyStruct (List._∷_ 122 (List._∷_ 111 (List._∷_ 110 (List._∷_ 101 (List._∷_ 115 (List._∷_ 58 (List._∷_ 58 (List._∷_ 104 (List._∷_ 101 (List._∷_ 108 (List._∷_ 100 (List._∷_ 58 (List._∷_ 58 (List._∷_ 72 (List._∷_ 101 (List._∷_ 108 (List._∷_ 100 List.[]))))))))))))))))) (Syntax.tcons (Syntax.tyStruct (List._∷_ 112 (List._∷_ 121 (List._∷_ 114 (List._∷_ 97 (List._∷_ 109 (List._∷_ 105 (List._∷_ 100 (List._∷_ 58 (List._∷_ 58 (List._∷_ 83 (List._∷_ 116 (List._∷_ 97 (List._∷_ 116 (List._∷_ 101 List.[])))))))))))))) (Syntax.tcons (Syntax.tyInt Syntax.w32) (Syntax.tcons (Syntax.tyInt Syntax.w32) (Syntax.tcons (Syntax.tyInt Syntax.w32) (Syntax.tcons (Syntax.tyInt Syntax.w32) (Syntax.tcons (Syntax.tyInt Syntax.w32) (Syntax.tcons (Syntax.tyArray (Syntax.tyInt Syntax.w32) 64) Syntax.tnil))))))) (Syntax.tcons (Syntax.tyInt Syntax.w64) (Syntax.tcons (Syntax.tyInt Syntax.w64) (Syntax.tcons (Syntax.tyInt Syntax.w64) (Syntax.tcons (Syntax.tyInt Syntax.w64) (Syntax.tcons (Syntax.tyInt Syntax.w64) (Syntax.tcons (Syntax.tyInt Syntax.w64) (Syntax.tcons Syntax.tyBool Syntax.tnil)))))))))) (List._∷_ (2, Rows.any-gone (Syntax.tyStruct (List._∷_ 115 (List._∷_ 99 (List._∷_ 114 (List._∷_ 105 (List._∷_ 112 (List._∷_ 116 (List._∷_ 58 (List._∷_ 58 (List._∷_ 115 (List._∷_ 99 (List._∷_ 97 (List._∷_ 110 (List._∷_ 58 (List._∷_ 58 (List._∷_ 76 (List._∷_ 105 (List._∷_ 110 (List._∷_ 101 List.[])))))))))))))))))) (Syntax.tcons (Syntax.tyInt Syntax.w32) (Syntax.tcons (Syntax.tyInt Syntax.w64) (Syntax.tcons (Syntax.tyInt Syntax.w64) (Syntax.tcons (Syntax.tyInt Syntax.w64) (Syntax.tcons (Syntax.tyInt Syntax.w64) Syntax.tnil))))))) (List._∷_ (3, Rows.sslice (Referent.rtF (Referent.fInt Syntax.w32)) (Syntax.tyRef (Syntax.named 0) Syntax.imm (Syntax.tyInt Syntax.w32)) 0) (List._∷_ (4, Part.mslice-owedP (Referent.rtF (Referent.fInt Syntax.w32)) (Syntax.tyRef (Syntax.named 1) Syntax.mut (Syntax.tyInt Syntax.w32)) 1 6 Row.off) (List._∷_ (5, Part.mslice-owedP (Referent.rtF (Referent.fInt Syntax.w32)) (Syntax.tyRef (Syntax.named 2) Syntax.mut (Syntax.tyInt Syntax.w32)) 2 7 Row.off) (List._∷_ (6, Part.mslice-owedP (Referent.rtF (Referent.fInt Syntax.w32)) (Syntax.tyRef (Syntax.named 3) Syntax.mut (Syntax.tyInt Syntax.w32)) 3 8 Row.off) (List._∷_ (7, Part.mslice-owedP Cell.R (Syntax.tyRef (Syntax.named 4) Syntax.mut Cell.behind) 4 9 Row.off) (List._∷_ (8, Part.mslice-owedP Cell.R (Syntax.tyRef (Syntax.named 5) Syntax.mut Cell.behind) 5 10 Row.off) (List._∷_ (9, Rows.any-gone (Syntax.tyStruct (List._∷_ 112 (List._∷_ 121 (List._∷_ 114 (List._∷_ 97 (List._∷_ 109 (List._∷_ 105 (List._∷_ 100 (List._∷_ 58 (List._∷_ 58 (List._∷_ 83 (List._∷_ 116 (List._∷_ 97 (List._∷_ 116 (List._∷_ 101 List.[])))))))))))))) (Syntax.tcons (Syntax.tyInt Syntax.w32) (Syntax.tcons (Syntax.tyInt Syntax.w32) (Syntax.tcons (Syntax.tyInt Syntax.w32) (Syntax.tcons (Syntax.tyInt Syntax.w32) (Syntax.tcons (Syntax.tyInt Syntax.w32) (Syntax.tcons (Syntax.tyArray (Syntax.tyInt Syntax.w32) 64) Syntax.tnil)))))))) (List._∷_ (10, Rows.any-gone (Syntax.tyInt Syntax.w64)) (List._∷_ (11, Rows.any-gone (Syntax.tyInt Syntax.w64)) (List._∷_ (12, Rows.sc-here (Row.sInt Syntax.w64)) (List._∷_ (13, Rows.sc-here (Row.sInt Syntax.w64)) (List._∷_ (14, Rows.sc-here (Row.sInt Syntax.w64)) (List._∷_ (15, Rows.sc-here (Row.sInt Syntax.w64)) List.[])))))))))))))))
+t37 = List._∷_ local26 (List._∷_ local27 (List._∷_ local28 (List._∷_ local3 (List._∷_ local35 (List._∷_ local37 (List._∷_ local39 (List._∷_ local41 (List._∷_ local43 locals22))))))))
 
 abbrev pub t38 : List.List Row.Entry
-t38 = List._∷_ (0, Rows.whole (Declared.row Outcome.the-type)) (List._∷_ (1, Rows.any-gone (Syntax.tyStruct (List._∷_ 122 (List._∷_ 111 (List._∷_ 110 (List._∷_ 101 (List._∷_ 115 (List._∷_ 58 (List._∷_ 58 (List._∷_ 104 (List._∷_ 101 (List._∷_ 108 (List._∷_ 100 (List._∷_ 58 (List._∷_ 58 (List._∷_ 72 (List._∷_ 101 (List._∷_ 108 (List._∷_ 100 List.[]))))))))))))))))) (Syntax.tcons (Syntax.tyStruct (List._∷_ 112 (List._∷_ 121 (List._∷_ 114 (List._∷_ 97 (List._∷_ 109 (List._∷_ 105 (List._∷_ 100 (List._∷_ 58 (List._∷_ 58 (List._∷_ 83 (List._∷_ 116 (List._∷_ 97 (List._∷_ 116 (List._∷_ 101 List.[])))))))))))))) (Syntax.tcons (Syntax.tyInt Syntax.w32) (Syntax.tcons (Syntax.tyInt Syntax.w32) (Syntax.tcons (Syntax.tyInt Syntax.w32) (Syntax.tcons (Syntax.tyInt Syntax.w32) (Syntax.tcons (Syntax.tyInt Syntax.w32) (Syntax.tcons (Syntax.tyArray (Syntax.tyInt Syntax.w32) 64) Syntax.tnil))))))) (Syntax.tcons (Syntax.tyInt Syntax.w64) (Syntax.tcons (Syntax.tyInt Syntax.w64) (Syntax.tcons (Syntax.tyInt Syntax.w64) (Syntax.tcons (Syntax.tyInt Syntax.w64) (Syntax.tcons (Syntax.tyInt Syntax.w64) (Syntax.tcons (Syntax.tyInt Syntax.w64) (Syntax.tcons Syntax.tyBool Syntax.tnil)))))))))) (List._∷_ (2, Rows.any-gone (Syntax.tyStruct (List._∷_ 115 (List._∷_ 99 (List._∷_ 114 (List._∷_ 105 (List._∷_ 112 (List._∷_ 116 (List._∷_ 58 (List._∷_ 58 (List._∷_ 115 (List._∷_ 99 (List._∷_ 97 (List._∷_ 110 (List._∷_ 58 (List._∷_ 58 (List._∷_ 76 (List._∷_ 105 (List._∷_ 110 (List._∷_ 101 List.[])))))))))))))))))) (Syntax.tcons (Syntax.tyInt Syntax.w32) (Syntax.tcons (Syntax.tyInt Syntax.w64) (Syntax.tcons (Syntax.tyInt Syntax.w64) (Syntax.tcons (Syntax.tyInt Syntax.w64) (Syntax.tcons (Syntax.tyInt Syntax.w64) Syntax.tnil))))))) (List._∷_ (3, Rows.sslice (Referent.rtF (Referent.fInt Syntax.w32)) (Syntax.tyRef (Syntax.named 0) Syntax.imm (Syntax.tyInt Syntax.w32)) 0) (List._∷_ (4, Part.mslice-owedP (Referent.rtF (Referent.fInt Syntax.w32)) (Syntax.tyRef (Syntax.named 1) Syntax.mut (Syntax.tyInt Syntax.w32)) 1 6 Row.off) (List._∷_ (5, Part.mslice-owedP (Referent.rtF (Referent.fInt Syntax.w32)) (Syntax.tyRef (Syntax.named 2) Syntax.mut (Syntax.tyInt Syntax.w32)) 2 7 Row.off) (List._∷_ (6, Part.mslice-owedP (Referent.rtF (Referent.fInt Syntax.w32)) (Syntax.tyRef (Syntax.named 3) Syntax.mut (Syntax.tyInt Syntax.w32)) 3 8 Row.off) (List._∷_ (7, Part.mslice-owedP Cell.R (Syntax.tyRef (Syntax.named 4) Syntax.mut Cell.behind) 4 9 Row.off) (List._∷_ (8, Part.mslice-owedP Cell.R (Syntax.tyRef (Syntax.named 5) Syntax.mut Cell.behind) 5 10 Row.off) (List._∷_ (9, Rows.any-gone (Syntax.tyStruct (List._∷_ 112 (List._∷_ 121 (List._∷_ 114 (List._∷_ 97 (List._∷_ 109 (List._∷_ 105 (List._∷_ 100 (List._∷_ 58 (List._∷_ 58 (List._∷_ 83 (List._∷_ 116 (List._∷_ 97 (List._∷_ 116 (List._∷_ 101 List.[])))))))))))))) (Syntax.tcons (Syntax.tyInt Syntax.w32) (Syntax.tcons (Syntax.tyInt Syntax.w32) (Syntax.tcons (Syntax.tyInt Syntax.w32) (Syntax.tcons (Syntax.tyInt Syntax.w32) (Syntax.tcons (Syntax.tyInt Syntax.w32) (Syntax.tcons (Syntax.tyArray (Syntax.tyInt Syntax.w32) 64) Syntax.tnil)))))))) (List._∷_ (10, Rows.any-gone (Syntax.tyInt Syntax.w64)) (List._∷_ (11, Rows.any-gone (Syntax.tyInt Syntax.w64)) (List._∷_ (12, Rows.any-gone (Syntax.tyInt Syntax.w64)) (List._∷_ (13, Rows.sc-here (Row.sInt Syntax.w64)) (List._∷_ (14, Rows.sc-here (Row.sInt Syntax.w64)) (List._∷_ (15, Rows.sc-here (Row.sInt Syntax.w64)) List.[])))))))))))))))
+t38 = List._∷_ local26 (List._∷_ local27 (List._∷_ local28 (List._∷_ local3 (List._∷_ local35 (List._∷_ local37 (List._∷_ local39 (List._∷_ local41 (List._∷_ local43 locals23))))))))
 
 abbrev pub t39 : List.List Row.Entry
-t39 = List._∷_ (0, Rows.whole (Declared.row Outcome.the-type)) (List._∷_ (1, Rows.any-gone (Syntax.tyStruct (List._∷_ 122 (List._∷_ 111 (List._∷_ 110 (List._∷_ 101 (List._∷_ 115 (List._∷_ 58 (List._∷_ 58 (List._∷_ 104 (List._∷_ 101 (List._∷_ 108 (List._∷_ 100 (List._∷_ 58 (List._∷_ 58 (List._∷_ 72 (List._∷_ 101 (List._∷_ 108 (List._∷_ 100 List.[]))))))))))))))))) (Syntax.tcons (Syntax.tyStruct (List._∷_ 112 (List._∷_ 121 (List._∷_ 114 (List._∷_ 97 (List._∷_ 109 (List._∷_ 105 (List._∷_ 100 (List._∷_ 58 (List._∷_ 58 (List._∷_ 83 (List._∷_ 116 (List._∷_ 97 (List._∷_ 116 (List._∷_ 101 List.[])))))))))))))) (Syntax.tcons (Syntax.tyInt Syntax.w32) (Syntax.tcons (Syntax.tyInt Syntax.w32) (Syntax.tcons (Syntax.tyInt Syntax.w32) (Syntax.tcons (Syntax.tyInt Syntax.w32) (Syntax.tcons (Syntax.tyInt Syntax.w32) (Syntax.tcons (Syntax.tyArray (Syntax.tyInt Syntax.w32) 64) Syntax.tnil))))))) (Syntax.tcons (Syntax.tyInt Syntax.w64) (Syntax.tcons (Syntax.tyInt Syntax.w64) (Syntax.tcons (Syntax.tyInt Syntax.w64) (Syntax.tcons (Syntax.tyInt Syntax.w64) (Syntax.tcons (Syntax.tyInt Syntax.w64) (Syntax.tcons (Syntax.tyInt Syntax.w64) (Syntax.tcons Syntax.tyBool Syntax.tnil)))))))))) (List._∷_ (2, Rows.any-gone (Syntax.tyStruct (List._∷_ 115 (List._∷_ 99 (List._∷_ 114 (List._∷_ 105 (List._∷_ 112 (List._∷_ 116 (List._∷_ 58 (List._∷_ 58 (List._∷_ 115 (List._∷_ 99 (List._∷_ 97 (List._∷_ 110 (List._∷_ 58 (List._∷_ 58 (List._∷_ 76 (List._∷_ 105 (List._∷_ 110 (List._∷_ 101 List.[])))))))))))))))))) (Syntax.tcons (Syntax.tyInt Syntax.w32) (Syntax.tcons (Syntax.tyInt Syntax.w64) (Syntax.tcons (Syntax.tyInt Syntax.w64) (Syntax.tcons (Syntax.tyInt Syntax.w64) (Syntax.tcons (Syntax.tyInt Syntax.w64) Syntax.tnil))))))) (List._∷_ (3, Rows.sslice (Referent.rtF (Referent.fInt Syntax.w32)) (Syntax.tyRef (Syntax.named 0) Syntax.imm (Syntax.tyInt Syntax.w32)) 0) (List._∷_ (4, Part.mslice-owedP (Referent.rtF (Referent.fInt Syntax.w32)) (Syntax.tyRef (Syntax.named 1) Syntax.mut (Syntax.tyInt Syntax.w32)) 1 6 Row.off) (List._∷_ (5, Part.mslice-owedP (Referent.rtF (Referent.fInt Syntax.w32)) (Syntax.tyRef (Syntax.named 2) Syntax.mut (Syntax.tyInt Syntax.w32)) 2 7 Row.off) (List._∷_ (6, Part.mslice-owedP (Referent.rtF (Referent.fInt Syntax.w32)) (Syntax.tyRef (Syntax.named 3) Syntax.mut (Syntax.tyInt Syntax.w32)) 3 8 Row.off) (List._∷_ (7, Part.mslice-owedP Cell.R (Syntax.tyRef (Syntax.named 4) Syntax.mut Cell.behind) 4 9 Row.off) (List._∷_ (8, Part.mslice-owedP Cell.R (Syntax.tyRef (Syntax.named 5) Syntax.mut Cell.behind) 5 10 Row.off) (List._∷_ (9, Rows.any-gone (Syntax.tyStruct (List._∷_ 112 (List._∷_ 121 (List._∷_ 114 (List._∷_ 97 (List._∷_ 109 (List._∷_ 105 (List._∷_ 100 (List._∷_ 58 (List._∷_ 58 (List._∷_ 83 (List._∷_ 116 (List._∷_ 97 (List._∷_ 116 (List._∷_ 101 List.[])))))))))))))) (Syntax.tcons (Syntax.tyInt Syntax.w32) (Syntax.tcons (Syntax.tyInt Syntax.w32) (Syntax.tcons (Syntax.tyInt Syntax.w32) (Syntax.tcons (Syntax.tyInt Syntax.w32) (Syntax.tcons (Syntax.tyInt Syntax.w32) (Syntax.tcons (Syntax.tyArray (Syntax.tyInt Syntax.w32) 64) Syntax.tnil)))))))) (List._∷_ (10, Rows.any-gone (Syntax.tyInt Syntax.w64)) (List._∷_ (11, Rows.any-gone (Syntax.tyInt Syntax.w64)) (List._∷_ (12, Rows.any-gone (Syntax.tyInt Syntax.w64)) (List._∷_ (13, Rows.any-gone (Syntax.tyInt Syntax.w64)) (List._∷_ (14, Rows.sc-here (Row.sInt Syntax.w64)) (List._∷_ (15, Rows.sc-here (Row.sInt Syntax.w64)) List.[])))))))))))))))
+t39 = List._∷_ local26 (List._∷_ local27 (List._∷_ local28 (List._∷_ local3 (List._∷_ local35 (List._∷_ local37 (List._∷_ local39 (List._∷_ local41 (List._∷_ local43 locals24))))))))
 
 abbrev pub t40 : List.List Row.Entry
-t40 = List._∷_ (0, Rows.whole (Declared.row Outcome.the-type)) (List._∷_ (1, Rows.any-gone (Syntax.tyStruct (List._∷_ 122 (List._∷_ 111 (List._∷_ 110 (List._∷_ 101 (List._∷_ 115 (List._∷_ 58 (List._∷_ 58 (List._∷_ 104 (List._∷_ 101 (List._∷_ 108 (List._∷_ 100 (List._∷_ 58 (List._∷_ 58 (List._∷_ 72 (List._∷_ 101 (List._∷_ 108 (List._∷_ 100 List.[]))))))))))))))))) (Syntax.tcons (Syntax.tyStruct (List._∷_ 112 (List._∷_ 121 (List._∷_ 114 (List._∷_ 97 (List._∷_ 109 (List._∷_ 105 (List._∷_ 100 (List._∷_ 58 (List._∷_ 58 (List._∷_ 83 (List._∷_ 116 (List._∷_ 97 (List._∷_ 116 (List._∷_ 101 List.[])))))))))))))) (Syntax.tcons (Syntax.tyInt Syntax.w32) (Syntax.tcons (Syntax.tyInt Syntax.w32) (Syntax.tcons (Syntax.tyInt Syntax.w32) (Syntax.tcons (Syntax.tyInt Syntax.w32) (Syntax.tcons (Syntax.tyInt Syntax.w32) (Syntax.tcons (Syntax.tyArray (Syntax.tyInt Syntax.w32) 64) Syntax.tnil))))))) (Syntax.tcons (Syntax.tyInt Syntax.w64) (Syntax.tcons (Syntax.tyInt Syntax.w64) (Syntax.tcons (Syntax.tyInt Syntax.w64) (Syntax.tcons (Syntax.tyInt Syntax.w64) (Syntax.tcons (Syntax.tyInt Syntax.w64) (Syntax.tcons (Syntax.tyInt Syntax.w64) (Syntax.tcons Syntax.tyBool Syntax.tnil)))))))))) (List._∷_ (2, Rows.any-gone (Syntax.tyStruct (List._∷_ 115 (List._∷_ 99 (List._∷_ 114 (List._∷_ 105 (List._∷_ 112 (List._∷_ 116 (List._∷_ 58 (List._∷_ 58 (List._∷_ 115 (List._∷_ 99 (List._∷_ 97 (List._∷_ 110 (List._∷_ 58 (List._∷_ 58 (List._∷_ 76 (List._∷_ 105 (List._∷_ 110 (List._∷_ 101 List.[])))))))))))))))))) (Syntax.tcons (Syntax.tyInt Syntax.w32) (Syntax.tcons (Syntax.tyInt Syntax.w64) (Syntax.tcons (Syntax.tyInt Syntax.w64) (Syntax.tcons (Syntax.tyInt Syntax.w64) (Syntax.tcons (Syntax.tyInt Syntax.w64) Syntax.tnil))))))) (List._∷_ (3, Rows.sslice (Referent.rtF (Referent.fInt Syntax.w32)) (Syntax.tyRef (Syntax.named 0) Syntax.imm (Syntax.tyInt Syntax.w32)) 0) (List._∷_ (4, Part.mslice-owedP (Referent.rtF (Referent.fInt Syntax.w32)) (Syntax.tyRef (Syntax.named 1) Syntax.mut (Syntax.tyInt Syntax.w32)) 1 6 Row.off) (List._∷_ (5, Part.mslice-owedP (Referent.rtF (Referent.fInt Syntax.w32)) (Syntax.tyRef (Syntax.named 2) Syntax.mut (Syntax.tyInt Syntax.w32)) 2 7 Row.off) (List._∷_ (6, Part.mslice-owedP (Referent.rtF (Referent.fInt Syntax.w32)) (Syntax.tyRef (Syntax.named 3) Syntax.mut (Syntax.tyInt Syntax.w32)) 3 8 Row.off) (List._∷_ (7, Part.mslice-owedP Cell.R (Syntax.tyRef (Syntax.named 4) Syntax.mut Cell.behind) 4 9 Row.off) (List._∷_ (8, Part.mslice-owedP Cell.R (Syntax.tyRef (Syntax.named 5) Syntax.mut Cell.behind) 5 10 Row.off) (List._∷_ (9, Rows.any-gone (Syntax.tyStruct (List._∷_ 112 (List._∷_ 121 (List._∷_ 114 (List._∷_ 97 (List._∷_ 109 (List._∷_ 105 (List._∷_ 100 (List._∷_ 58 (List._∷_ 58 (List._∷_ 83 (List._∷_ 116 (List._∷_ 97 (List._∷_ 116 (List._∷_ 101 List.[])))))))))))))) (Syntax.tcons (Syntax.tyInt Syntax.w32) (Syntax.tcons (Syntax.tyInt Syntax.w32) (Syntax.tcons (Syntax.tyInt Syntax.w32) (Syntax.tcons (Syntax.tyInt Syntax.w32) (Syntax.tcons (Syntax.tyInt Syntax.w32) (Syntax.tcons (Syntax.tyArray (Syntax.tyInt Syntax.w32) 64) Syntax.tnil)))))))) (List._∷_ (10, Rows.any-gone (Syntax.tyInt Syntax.w64)) (List._∷_ (11, Rows.any-gone (Syntax.tyInt Syntax.w64)) (List._∷_ (12, Rows.any-gone (Syntax.tyInt Syntax.w64)) (List._∷_ (13, Rows.any-gone (Syntax.tyInt Syntax.w64)) (List._∷_ (14, Rows.any-gone (Syntax.tyInt Syntax.w64)) (List._∷_ (15, Rows.sc-here (Row.sInt Syntax.w64)) List.[])))))))))))))))
+t40 = List._∷_ local26 (List._∷_ local27 (List._∷_ local28 (List._∷_ local3 (List._∷_ local35 (List._∷_ local37 (List._∷_ local39 (List._∷_ local41 (List._∷_ local43 locals25))))))))
 
 abbrev pub t41 : List.List Row.Entry
-t41 = List._∷_ (0, Rows.whole (Declared.row Outcome.the-type)) (List._∷_ (1, Rows.any-gone (Syntax.tyStruct (List._∷_ 122 (List._∷_ 111 (List._∷_ 110 (List._∷_ 101 (List._∷_ 115 (List._∷_ 58 (List._∷_ 58 (List._∷_ 104 (List._∷_ 101 (List._∷_ 108 (List._∷_ 100 (List._∷_ 58 (List._∷_ 58 (List._∷_ 72 (List._∷_ 101 (List._∷_ 108 (List._∷_ 100 List.[]))))))))))))))))) (Syntax.tcons (Syntax.tyStruct (List._∷_ 112 (List._∷_ 121 (List._∷_ 114 (List._∷_ 97 (List._∷_ 109 (List._∷_ 105 (List._∷_ 100 (List._∷_ 58 (List._∷_ 58 (List._∷_ 83 (List._∷_ 116 (List._∷_ 97 (List._∷_ 116 (List._∷_ 101 List.[])))))))))))))) (Syntax.tcons (Syntax.tyInt Syntax.w32) (Syntax.tcons (Syntax.tyInt Syntax.w32) (Syntax.tcons (Syntax.tyInt Syntax.w32) (Syntax.tcons (Syntax.tyInt Syntax.w32) (Syntax.tcons (Syntax.tyInt Syntax.w32) (Syntax.tcons (Syntax.tyArray (Syntax.tyInt Syntax.w32) 64) Syntax.tnil))))))) (Syntax.tcons (Syntax.tyInt Syntax.w64) (Syntax.tcons (Syntax.tyInt Syntax.w64) (Syntax.tcons (Syntax.tyInt Syntax.w64) (Syntax.tcons (Syntax.tyInt Syntax.w64) (Syntax.tcons (Syntax.tyInt Syntax.w64) (Syntax.tcons (Syntax.tyInt Syntax.w64) (Syntax.tcons Syntax.tyBool Syntax.tnil)))))))))) (List._∷_ (2, Rows.any-gone (Syntax.tyStruct (List._∷_ 115 (List._∷_ 99 (List._∷_ 114 (List._∷_ 105 (List._∷_ 112 (List._∷_ 116 (List._∷_ 58 (List._∷_ 58 (List._∷_ 115 (List._∷_ 99 (List._∷_ 97 (List._∷_ 110 (List._∷_ 58 (List._∷_ 58 (List._∷_ 76 (List._∷_ 105 (List._∷_ 110 (List._∷_ 101 List.[])))))))))))))))))) (Syntax.tcons (Syntax.tyInt Syntax.w32) (Syntax.tcons (Syntax.tyInt Syntax.w64) (Syntax.tcons (Syntax.tyInt Syntax.w64) (Syntax.tcons (Syntax.tyInt Syntax.w64) (Syntax.tcons (Syntax.tyInt Syntax.w64) Syntax.tnil))))))) (List._∷_ (3, Rows.sslice (Referent.rtF (Referent.fInt Syntax.w32)) (Syntax.tyRef (Syntax.named 0) Syntax.imm (Syntax.tyInt Syntax.w32)) 0) (List._∷_ (4, Part.mslice-owedP (Referent.rtF (Referent.fInt Syntax.w32)) (Syntax.tyRef (Syntax.named 1) Syntax.mut (Syntax.tyInt Syntax.w32)) 1 6 Row.off) (List._∷_ (5, Part.mslice-owedP (Referent.rtF (Referent.fInt Syntax.w32)) (Syntax.tyRef (Syntax.named 2) Syntax.mut (Syntax.tyInt Syntax.w32)) 2 7 Row.off) (List._∷_ (6, Part.mslice-owedP (Referent.rtF (Referent.fInt Syntax.w32)) (Syntax.tyRef (Syntax.named 3) Syntax.mut (Syntax.tyInt Syntax.w32)) 3 8 Row.off) (List._∷_ (7, Part.mslice-owedP Cell.R (Syntax.tyRef (Syntax.named 4) Syntax.mut Cell.behind) 4 9 Row.off) (List._∷_ (8, Part.mslice-owedP Cell.R (Syntax.tyRef (Syntax.named 5) Syntax.mut Cell.behind) 5 10 Row.off) (List._∷_ (9, Rows.any-gone (Syntax.tyStruct (List._∷_ 112 (List._∷_ 121 (List._∷_ 114 (List._∷_ 97 (List._∷_ 109 (List._∷_ 105 (List._∷_ 100 (List._∷_ 58 (List._∷_ 58 (List._∷_ 83 (List._∷_ 116 (List._∷_ 97 (List._∷_ 116 (List._∷_ 101 List.[])))))))))))))) (Syntax.tcons (Syntax.tyInt Syntax.w32) (Syntax.tcons (Syntax.tyInt Syntax.w32) (Syntax.tcons (Syntax.tyInt Syntax.w32) (Syntax.tcons (Syntax.tyInt Syntax.w32) (Syntax.tcons (Syntax.tyInt Syntax.w32) (Syntax.tcons (Syntax.tyArray (Syntax.tyInt Syntax.w32) 64) Syntax.tnil)))))))) (List._∷_ (10, Rows.any-gone (Syntax.tyInt Syntax.w64)) (List._∷_ (11, Rows.any-gone (Syntax.tyInt Syntax.w64)) (List._∷_ (12, Rows.any-gone (Syntax.tyInt Syntax.w64)) (List._∷_ (13, Rows.any-gone (Syntax.tyInt Syntax.w64)) (List._∷_ (14, Rows.any-gone (Syntax.tyInt Syntax.w64)) (List._∷_ (15, Rows.any-gone (Syntax.tyInt Syntax.w64)) List.[])))))))))))))))
+t41 = List._∷_ local26 (List._∷_ local27 (List._∷_ local28 (List._∷_ local3 (List._∷_ local35 (List._∷_ local37 (List._∷_ local39 locals26))))))
 
 abbrev pub t42 : List.List Row.Entry
-t42 = List._∷_ (16, Rows.any-gone Syntax.tyPtr) (List._∷_ (17, Rows.any-gone (Syntax.tyInt Syntax.w32)) (List._∷_ (18, Rows.any-gone (Syntax.tyRef Syntax.erased Syntax.imm (Syntax.tyInt Syntax.w32))) (List._∷_ (19, Rows.any-gone (Syntax.tyStruct (List._∷_ 38 (List._∷_ 91 (List._∷_ 93 List.[]))) (Syntax.tcons (Syntax.tyRef Syntax.erased Syntax.imm (Syntax.tyInt Syntax.w32)) (Syntax.tcons (Syntax.tyInt Syntax.w64) Syntax.tnil)))) (List._∷_ (20, Rows.any-gone (Syntax.tyRef Syntax.erased Syntax.mut (Syntax.tyInt Syntax.w32))) (List._∷_ (21, Mut.msleft (Referent.rtF (Referent.fInt Syntax.w32)) (Syntax.tyRef Syntax.erased Syntax.mut (Syntax.tyInt Syntax.w32))) (List._∷_ (22, Rows.any-gone (Syntax.tyRef Syntax.erased Syntax.mut (Syntax.tyInt Syntax.w32))) (List._∷_ (23, Mut.msleft (Referent.rtF (Referent.fInt Syntax.w32)) (Syntax.tyRef Syntax.erased Syntax.mut (Syntax.tyInt Syntax.w32))) (List._∷_ (24, Rows.any-gone (Syntax.tyRef Syntax.erased Syntax.mut (Syntax.tyInt Syntax.w32))) (List._∷_ (25, Mut.msleft (Referent.rtF (Referent.fInt Syntax.w32)) (Syntax.tyRef Syntax.erased Syntax.mut (Syntax.tyInt Syntax.w32))) (List._∷_ (26, Rows.any-gone (Syntax.tyRef Syntax.erased Syntax.mut Cell.behind)) (List._∷_ (27, Mut.msleft Cell.R (Syntax.tyRef Syntax.erased Syntax.mut Cell.behind)) (List._∷_ (28, Rows.any-gone (Syntax.tyRef Syntax.erased Syntax.mut Cell.behind)) (List._∷_ (29, Mut.msleft Cell.R (Syntax.tyRef Syntax.erased Syntax.mut Cell.behind)) List.[])))))))))))))
+t42 = List._∷_ local15 (List._∷_ local16 (List._∷_ local17 (List._∷_ local18 locals21)))
 
 abbrev pub t43 : List.List Row.Entry
-t43 = List._∷_ (0, Rows.whole (Declared.row Outcome.the-type)) (List._∷_ (1, Rows.any-gone (Syntax.tyStruct (List._∷_ 122 (List._∷_ 111 (List._∷_ 110 (List._∷_ 101 (List._∷_ 115 (List._∷_ 58 (List._∷_ 58 (List._∷_ 104 (List._∷_ 101 (List._∷_ 108 (List._∷_ 100 (List._∷_ 58 (List._∷_ 58 (List._∷_ 72 (List._∷_ 101 (List._∷_ 108 (List._∷_ 100 List.[]))))))))))))))))) (Syntax.tcons (Syntax.tyStruct (List._∷_ 112 (List._∷_ 121 (List._∷_ 114 (List._∷_ 97 (List._∷_ 109 (List._∷_ 105 (List._∷_ 100 (List._∷_ 58 (List._∷_ 58 (List._∷_ 83 (List._∷_ 116 (List._∷_ 97 (List._∷_ 116 (List._∷_ 101 List.[])))))))))))))) (Syntax.tcons (Syntax.tyInt Syntax.w32) (Syntax.tcons (Syntax.tyInt Syntax.w32) (Syntax.tcons (Syntax.tyInt Syntax.w32) (Syntax.tcons (Syntax.tyInt Syntax.w32) (Syntax.tcons (Syntax.tyInt Syntax.w32) (Syntax.tcons (Syntax.tyArray (Syntax.tyInt Syntax.w32) 64) Syntax.tnil))))))) (Syntax.tcons (Syntax.tyInt Syntax.w64) (Syntax.tcons (Syntax.tyInt Syntax.w64) (Syntax.tcons (Syntax.tyInt Syntax.w64) (Syntax.tcons (Syntax.tyInt Syntax.w64) (Syntax.tcons (Syntax.tyInt Syntax.w64) (Syntax.tcons (Syntax.tyInt Syntax.w64) (Syntax.tcons Syntax.tyBool Syntax.tnil)))))))))) (List._∷_ (2, Rows.any-gone (Syntax.tyStruct (List._∷_ 115 (List._∷_ 99 (List._∷_ 114 (List._∷_ 105 (List._∷_ 112 (List._∷_ 116 (List._∷_ 58 (List._∷_ 58 (List._∷_ 115 (List._∷_ 99 (List._∷_ 97 (List._∷_ 110 (List._∷_ 58 (List._∷_ 58 (List._∷_ 76 (List._∷_ 105 (List._∷_ 110 (List._∷_ 101 List.[])))))))))))))))))) (Syntax.tcons (Syntax.tyInt Syntax.w32) (Syntax.tcons (Syntax.tyInt Syntax.w64) (Syntax.tcons (Syntax.tyInt Syntax.w64) (Syntax.tcons (Syntax.tyInt Syntax.w64) (Syntax.tcons (Syntax.tyInt Syntax.w64) Syntax.tnil))))))) (List._∷_ (3, Rows.sslice (Referent.rtF (Referent.fInt Syntax.w32)) (Syntax.tyRef (Syntax.named 0) Syntax.imm (Syntax.tyInt Syntax.w32)) 0) (List._∷_ (4, Mut.mslice (Referent.rtF (Referent.fInt Syntax.w32)) (Syntax.tyRef (Syntax.named 1) Syntax.mut (Syntax.tyInt Syntax.w32)) 1) (List._∷_ (5, Part.mslice-owedP (Referent.rtF (Referent.fInt Syntax.w32)) (Syntax.tyRef (Syntax.named 2) Syntax.mut (Syntax.tyInt Syntax.w32)) 2 7 Row.off) (List._∷_ (6, Part.mslice-owedP (Referent.rtF (Referent.fInt Syntax.w32)) (Syntax.tyRef (Syntax.named 3) Syntax.mut (Syntax.tyInt Syntax.w32)) 3 8 Row.off) (List._∷_ (7, Part.mslice-owedP Cell.R (Syntax.tyRef (Syntax.named 4) Syntax.mut Cell.behind) 4 9 Row.off) (List._∷_ (8, Part.mslice-owedP Cell.R (Syntax.tyRef (Syntax.named 5) Syntax.mut Cell.behind) 5 10 Row.off) (List._∷_ (9, Rows.any-gone (Syntax.tyStruct (List._∷_ 112 (List._∷_ 121 (List._∷_ 114 (List._∷_ 97 (List._∷_ 109 (List._∷_ 105 (List._∷_ 100 (List._∷_ 58 (List._∷_ 58 (List._∷_ 83 (List._∷_ 116 (List._∷_ 97 (List._∷_ 116 (List._∷_ 101 List.[])))))))))))))) (Syntax.tcons (Syntax.tyInt Syntax.w32) (Syntax.tcons (Syntax.tyInt Syntax.w32) (Syntax.tcons (Syntax.tyInt Syntax.w32) (Syntax.tcons (Syntax.tyInt Syntax.w32) (Syntax.tcons (Syntax.tyInt Syntax.w32) (Syntax.tcons (Syntax.tyArray (Syntax.tyInt Syntax.w32) 64) Syntax.tnil)))))))) (List._∷_ (10, Rows.any-gone (Syntax.tyInt Syntax.w64)) (List._∷_ (11, Rows.any-gone (Syntax.tyInt Syntax.w64)) (List._∷_ (12, Rows.any-gone (Syntax.tyInt Syntax.w64)) (List._∷_ (13, Rows.any-gone (Syntax.tyInt Syntax.w64)) (List._∷_ (14, Rows.any-gone (Syntax.tyInt Syntax.w64)) (List._∷_ (15, Rows.any-gone (Syntax.tyInt Syntax.w64)) List.[])))))))))))))))
+t43 = List._∷_ local26 (List._∷_ local27 (List._∷_ local28 (List._∷_ local3 (List._∷_ local4 (List._∷_ local37 (List._∷_ local39 locals26))))))
 
 abbrev pub t44 : List.List Row.Entry
-t44 = List._∷_ (16, Rows.any-gone Syntax.tyPtr) (List._∷_ (17, Rows.any-gone (Syntax.tyInt Syntax.w32)) (List._∷_ (18, Rows.any-gone (Syntax.tyRef Syntax.erased Syntax.imm (Syntax.tyInt Syntax.w32))) (List._∷_ (19, Rows.any-gone (Syntax.tyStruct (List._∷_ 38 (List._∷_ 91 (List._∷_ 93 List.[]))) (Syntax.tcons (Syntax.tyRef Syntax.erased Syntax.imm (Syntax.tyInt Syntax.w32)) (Syntax.tcons (Syntax.tyInt Syntax.w64) Syntax.tnil)))) (List._∷_ (20, Rows.any-gone (Syntax.tyRef Syntax.erased Syntax.mut (Syntax.tyInt Syntax.w32))) (List._∷_ (21, Rows.any-gone (Syntax.tyStruct (List._∷_ 38 (List._∷_ 91 (List._∷_ 93 List.[]))) (Syntax.tcons (Syntax.tyRef Syntax.erased Syntax.mut (Syntax.tyInt Syntax.w32)) (Syntax.tcons (Syntax.tyInt Syntax.w64) Syntax.tnil)))) (List._∷_ (22, Rows.any-gone (Syntax.tyRef Syntax.erased Syntax.mut (Syntax.tyInt Syntax.w32))) (List._∷_ (23, Mut.msleft (Referent.rtF (Referent.fInt Syntax.w32)) (Syntax.tyRef Syntax.erased Syntax.mut (Syntax.tyInt Syntax.w32))) (List._∷_ (24, Rows.any-gone (Syntax.tyRef Syntax.erased Syntax.mut (Syntax.tyInt Syntax.w32))) (List._∷_ (25, Mut.msleft (Referent.rtF (Referent.fInt Syntax.w32)) (Syntax.tyRef Syntax.erased Syntax.mut (Syntax.tyInt Syntax.w32))) (List._∷_ (26, Rows.any-gone (Syntax.tyRef Syntax.erased Syntax.mut Cell.behind)) (List._∷_ (27, Mut.msleft Cell.R (Syntax.tyRef Syntax.erased Syntax.mut Cell.behind)) (List._∷_ (28, Rows.any-gone (Syntax.tyRef Syntax.erased Syntax.mut Cell.behind)) (List._∷_ (29, Mut.msleft Cell.R (Syntax.tyRef Syntax.erased Syntax.mut Cell.behind)) List.[])))))))))))))
+t44 = List._∷_ local15 (List._∷_ local16 (List._∷_ local17 (List._∷_ local18 (List._∷_ local19 (List._∷_ local20 locals20)))))
 
 abbrev pub t45 : List.List Row.Entry
-t45 = List._∷_ (0, Rows.whole (Declared.row Outcome.the-type)) (List._∷_ (1, Rows.any-gone (Syntax.tyStruct (List._∷_ 122 (List._∷_ 111 (List._∷_ 110 (List._∷_ 101 (List._∷_ 115 (List._∷_ 58 (List._∷_ 58 (List._∷_ 104 (List._∷_ 101 (List._∷_ 108 (List._∷_ 100 (List._∷_ 58 (List._∷_ 58 (List._∷_ 72 (List._∷_ 101 (List._∷_ 108 (List._∷_ 100 List.[]))))))))))))))))) (Syntax.tcons (Syntax.tyStruct (List._∷_ 112 (List._∷_ 121 (List._∷_ 114 (List._∷_ 97 (List._∷_ 109 (List._∷_ 105 (List._∷_ 100 (List._∷_ 58 (List._∷_ 58 (List._∷_ 83 (List._∷_ 116 (List._∷_ 97 (List._∷_ 116 (List._∷_ 101 List.[])))))))))))))) (Syntax.tcons (Syntax.tyInt Syntax.w32) (Syntax.tcons (Syntax.tyInt Syntax.w32) (Syntax.tcons (Syntax.tyInt Syntax.w32) (Syntax.tcons (Syntax.tyInt Syntax.w32) (Syntax.tcons (Syntax.tyInt Syntax.w32) (Syntax.tcons (Syntax.tyArray (Syntax.tyInt Syntax.w32) 64) Syntax.tnil))))))) (Syntax.tcons (Syntax.tyInt Syntax.w64) (Syntax.tcons (Syntax.tyInt Syntax.w64) (Syntax.tcons (Syntax.tyInt Syntax.w64) (Syntax.tcons (Syntax.tyInt Syntax.w64) (Syntax.tcons (Syntax.tyInt Syntax.w64) (Syntax.tcons (Syntax.tyInt Syntax.w64) (Syntax.tcons Syntax.tyBool Syntax.tnil)))))))))) (List._∷_ (2, Rows.any-gone (Syntax.tyStruct (List._∷_ 115 (List._∷_ 99 (List._∷_ 114 (List._∷_ 105 (List._∷_ 112 (List._∷_ 116 (List._∷_ 58 (List._∷_ 58 (List._∷_ 115 (List._∷_ 99 (List._∷_ 97 (List._∷_ 110 (List._∷_ 58 (List._∷_ 58 (List._∷_ 76 (List._∷_ 105 (List._∷_ 110 (List._∷_ 101 List.[])))))))))))))))))) (Syntax.tcons (Syntax.tyInt Syntax.w32) (Syntax.tcons (Syntax.tyInt Syntax.w64) (Syntax.tcons (Syntax.tyInt Syntax.w64) (Syntax.tcons (Syntax.tyInt Syntax.w64) (Syntax.tcons (Syntax.tyInt Syntax.w64) Syntax.tnil))))))) (List._∷_ (3, Rows.sslice (Referent.rtF (Referent.fInt Syntax.w32)) (Syntax.tyRef (Syntax.named 0) Syntax.imm (Syntax.tyInt Syntax.w32)) 0) (List._∷_ (4, Mut.mslice (Referent.rtF (Referent.fInt Syntax.w32)) (Syntax.tyRef (Syntax.named 1) Syntax.mut (Syntax.tyInt Syntax.w32)) 1) (List._∷_ (5, Mut.mslice (Referent.rtF (Referent.fInt Syntax.w32)) (Syntax.tyRef (Syntax.named 2) Syntax.mut (Syntax.tyInt Syntax.w32)) 2) (List._∷_ (6, Part.mslice-owedP (Referent.rtF (Referent.fInt Syntax.w32)) (Syntax.tyRef (Syntax.named 3) Syntax.mut (Syntax.tyInt Syntax.w32)) 3 8 Row.off) (List._∷_ (7, Part.mslice-owedP Cell.R (Syntax.tyRef (Syntax.named 4) Syntax.mut Cell.behind) 4 9 Row.off) (List._∷_ (8, Part.mslice-owedP Cell.R (Syntax.tyRef (Syntax.named 5) Syntax.mut Cell.behind) 5 10 Row.off) (List._∷_ (9, Rows.any-gone (Syntax.tyStruct (List._∷_ 112 (List._∷_ 121 (List._∷_ 114 (List._∷_ 97 (List._∷_ 109 (List._∷_ 105 (List._∷_ 100 (List._∷_ 58 (List._∷_ 58 (List._∷_ 83 (List._∷_ 116 (List._∷_ 97 (List._∷_ 116 (List._∷_ 101 List.[])))))))))))))) (Syntax.tcons (Syntax.tyInt Syntax.w32) (Syntax.tcons (Syntax.tyInt Syntax.w32) (Syntax.tcons (Syntax.tyInt Syntax.w32) (Syntax.tcons (Syntax.tyInt Syntax.w32) (Syntax.tcons (Syntax.tyInt Syntax.w32) (Syntax.tcons (Syntax.tyArray (Syntax.tyInt Syntax.w32) 64) Syntax.tnil)))))))) (List._∷_ (10, Rows.any-gone (Syntax.tyInt Syntax.w64)) (List._∷_ (11, Rows.any-gone (Syntax.tyInt Syntax.w64)) (List._∷_ (12, Rows.any-gone (Syntax.tyInt Syntax.w64)) (List._∷_ (13, Rows.any-gone (Syntax.tyInt Syntax.w64)) (List._∷_ (14, Rows.any-gone (Syntax.tyInt Syntax.w64)) (List._∷_ (15, Rows.any-gone (Syntax.tyInt Syntax.w64)) List.[])))))))))))))))
+t45 = List._∷_ local26 (List._∷_ local27 (List._∷_ local28 (List._∷_ local3 (List._∷_ local4 (List._∷_ local5 (List._∷_ local39 locals26))))))
 
 abbrev pub t46 : List.List Row.Entry
-t46 = List._∷_ (16, Rows.any-gone Syntax.tyPtr) (List._∷_ (17, Rows.any-gone (Syntax.tyInt Syntax.w32)) (List._∷_ (18, Rows.any-gone (Syntax.tyRef Syntax.erased Syntax.imm (Syntax.tyInt Syntax.w32))) (List._∷_ (19, Rows.any-gone (Syntax.tyStruct (List._∷_ 38 (List._∷_ 91 (List._∷_ 93 List.[]))) (Syntax.tcons (Syntax.tyRef Syntax.erased Syntax.imm (Syntax.tyInt Syntax.w32)) (Syntax.tcons (Syntax.tyInt Syntax.w64) Syntax.tnil)))) (List._∷_ (20, Rows.any-gone (Syntax.tyRef Syntax.erased Syntax.mut (Syntax.tyInt Syntax.w32))) (List._∷_ (21, Rows.any-gone (Syntax.tyStruct (List._∷_ 38 (List._∷_ 91 (List._∷_ 93 List.[]))) (Syntax.tcons (Syntax.tyRef Syntax.erased Syntax.mut (Syntax.tyInt Syntax.w32)) (Syntax.tcons (Syntax.tyInt Syntax.w64) Syntax.tnil)))) (List._∷_ (22, Rows.any-gone (Syntax.tyRef Syntax.erased Syntax.mut (Syntax.tyInt Syntax.w32))) (List._∷_ (23, Rows.any-gone (Syntax.tyStruct (List._∷_ 38 (List._∷_ 91 (List._∷_ 93 List.[]))) (Syntax.tcons (Syntax.tyRef Syntax.erased Syntax.mut (Syntax.tyInt Syntax.w32)) (Syntax.tcons (Syntax.tyInt Syntax.w64) Syntax.tnil)))) (List._∷_ (24, Rows.any-gone (Syntax.tyRef Syntax.erased Syntax.mut (Syntax.tyInt Syntax.w32))) (List._∷_ (25, Mut.msleft (Referent.rtF (Referent.fInt Syntax.w32)) (Syntax.tyRef Syntax.erased Syntax.mut (Syntax.tyInt Syntax.w32))) (List._∷_ (26, Rows.any-gone (Syntax.tyRef Syntax.erased Syntax.mut Cell.behind)) (List._∷_ (27, Mut.msleft Cell.R (Syntax.tyRef Syntax.erased Syntax.mut Cell.behind)) (List._∷_ (28, Rows.any-gone (Syntax.tyRef Syntax.erased Syntax.mut Cell.behind)) (List._∷_ (29, Mut.msleft Cell.R (Syntax.tyRef Syntax.erased Syntax.mut Cell.behind)) List.[])))))))))))))
+t46 = List._∷_ local15 (List._∷_ local16 (List._∷_ local17 (List._∷_ local18 (List._∷_ local19 (List._∷_ local20 (List._∷_ local21 (List._∷_ local22 locals19)))))))
 
 abbrev pub t47 : List.List Row.Entry
-t47 = List._∷_ (0, Rows.whole (Declared.row Outcome.the-type)) (List._∷_ (1, Rows.any-gone (Syntax.tyStruct (List._∷_ 122 (List._∷_ 111 (List._∷_ 110 (List._∷_ 101 (List._∷_ 115 (List._∷_ 58 (List._∷_ 58 (List._∷_ 104 (List._∷_ 101 (List._∷_ 108 (List._∷_ 100 (List._∷_ 58 (List._∷_ 58 (List._∷_ 72 (List._∷_ 101 (List._∷_ 108 (List._∷_ 100 List.[]))))))))))))))))) (Syntax.tcons (Syntax.tyStruct (List._∷_ 112 (List._∷_ 121 (List._∷_ 114 (List._∷_ 97 (List._∷_ 109 (List._∷_ 105 (List._∷_ 100 (List._∷_ 58 (List._∷_ 58 (List._∷_ 83 (List._∷_ 116 (List._∷_ 97 (List._∷_ 116 (List._∷_ 101 List.[])))))))))))))) (Syntax.tcons (Syntax.tyInt Syntax.w32) (Syntax.tcons (Syntax.tyInt Syntax.w32) (Syntax.tcons (Syntax.tyInt Syntax.w32) (Syntax.tcons (Syntax.tyInt Syntax.w32) (Syntax.tcons (Syntax.tyInt Syntax.w32) (Syntax.tcons (Syntax.tyArray (Syntax.tyInt Syntax.w32) 64) Syntax.tnil))))))) (Syntax.tcons (Syntax.tyInt Syntax.w64) (Syntax.tcons (Syntax.tyInt Syntax.w64) (Syntax.tcons (Syntax.tyInt Syntax.w64) (Syntax.tcons (Syntax.tyInt Syntax.w64) (Syntax.tcons (Syntax.tyInt Syntax.w64) (Syntax.tcons (Syntax.tyInt Syntax.w64) (Syntax.tcons Syntax.tyBool Syntax.tnil)))))))))) (List._∷_ (2, Rows.any-gone (Syntax.tyStruct (List._∷_ 115 (List._∷_ 99 (List._∷_ 114 (List._∷_ 105 (List._∷_ 112 (List._∷_ 116 (List._∷_ 58 (List._∷_ 58 (List._∷_ 115 (List._∷_ 99 (List._∷_ 97 (List._∷_ 110 (List._∷_ 58 (List._∷_ 58 (List._∷_ 76 (List._∷_ 105 (List._∷_ 110 (List._∷_ 101 List.[])))))))))))))))))) (Syntax.tcons (Syntax.tyInt Syntax.w32) (Syntax.tcons (Syntax.tyInt Syntax.w64) (Syntax.tcons (Syntax.tyInt Syntax.w64) (Syntax.tcons (Syntax.tyInt Syntax.w64) (Syntax.tcons (Syntax.tyInt Syntax.w64) Syntax.tnil))))))) (List._∷_ (3, Rows.sslice (Referent.rtF (Referent.fInt Syntax.w32)) (Syntax.tyRef (Syntax.named 0) Syntax.imm (Syntax.tyInt Syntax.w32)) 0) (List._∷_ (4, Mut.mslice (Referent.rtF (Referent.fInt Syntax.w32)) (Syntax.tyRef (Syntax.named 1) Syntax.mut (Syntax.tyInt Syntax.w32)) 1) (List._∷_ (5, Mut.mslice (Referent.rtF (Referent.fInt Syntax.w32)) (Syntax.tyRef (Syntax.named 2) Syntax.mut (Syntax.tyInt Syntax.w32)) 2) (List._∷_ (6, Mut.mslice (Referent.rtF (Referent.fInt Syntax.w32)) (Syntax.tyRef (Syntax.named 3) Syntax.mut (Syntax.tyInt Syntax.w32)) 3) (List._∷_ (7, Part.mslice-owedP Cell.R (Syntax.tyRef (Syntax.named 4) Syntax.mut Cell.behind) 4 9 Row.off) (List._∷_ (8, Part.mslice-owedP Cell.R (Syntax.tyRef (Syntax.named 5) Syntax.mut Cell.behind) 5 10 Row.off) (List._∷_ (9, Rows.any-gone (Syntax.tyStruct (List._∷_ 112 (List._∷_ 121 (List._∷_ 114 (List._∷_ 97 (List._∷_ 109 (List._∷_ 105 (List._∷_ 100 (List._∷_ 58 (List._∷_ 58 (List._∷_ 83 (List._∷_ 116 (List._∷_ 97 (List._∷_ 116 (List._∷_ 101 List.[])))))))))))))) (Syntax.tcons (Syntax.tyInt Syntax.w32) (Syntax.tcons (Syntax.tyInt Syntax.w32) (Syntax.tcons (Syntax.tyInt Syntax.w32) (Syntax.tcons (Syntax.tyInt Syntax.w32) (Syntax.tcons (Syntax.tyInt Syntax.w32) (Syntax.tcons (Syntax.tyArray (Syntax.tyInt Syntax.w32) 64) Syntax.tnil)))))))) (List._∷_ (10, Rows.any-gone (Syntax.tyInt Syntax.w64)) (List._∷_ (11, Rows.any-gone (Syntax.tyInt Syntax.w64)) (List._∷_ (12, Rows.any-gone (Syntax.tyInt Syntax.w64)) (List._∷_ (13, Rows.any-gone (Syntax.tyInt Syntax.w64)) (List._∷_ (14, Rows.any-gone (Syntax.tyInt Syntax.w64)) (List._∷_ (15, Rows.any-gone (Syntax.tyInt Syntax.w64)) List.[])))))))))))))))
+t47 = List._∷_ local26 (List._∷_ local27 (List._∷_ local28 (List._∷_ local3 (List._∷_ local4 (List._∷_ local5 (List._∷_ local6 locals26))))))
 
 abbrev pub t48 : List.List Row.Entry
-t48 = List._∷_ (16, Rows.any-gone Syntax.tyPtr) (List._∷_ (17, Rows.any-gone (Syntax.tyInt Syntax.w32)) (List._∷_ (18, Rows.any-gone (Syntax.tyRef Syntax.erased Syntax.imm (Syntax.tyInt Syntax.w32))) (List._∷_ (19, Rows.any-gone (Syntax.tyStruct (List._∷_ 38 (List._∷_ 91 (List._∷_ 93 List.[]))) (Syntax.tcons (Syntax.tyRef Syntax.erased Syntax.imm (Syntax.tyInt Syntax.w32)) (Syntax.tcons (Syntax.tyInt Syntax.w64) Syntax.tnil)))) (List._∷_ (20, Rows.any-gone (Syntax.tyRef Syntax.erased Syntax.mut (Syntax.tyInt Syntax.w32))) (List._∷_ (21, Rows.any-gone (Syntax.tyStruct (List._∷_ 38 (List._∷_ 91 (List._∷_ 93 List.[]))) (Syntax.tcons (Syntax.tyRef Syntax.erased Syntax.mut (Syntax.tyInt Syntax.w32)) (Syntax.tcons (Syntax.tyInt Syntax.w64) Syntax.tnil)))) (List._∷_ (22, Rows.any-gone (Syntax.tyRef Syntax.erased Syntax.mut (Syntax.tyInt Syntax.w32))) (List._∷_ (23, Rows.any-gone (Syntax.tyStruct (List._∷_ 38 (List._∷_ 91 (List._∷_ 93 List.[]))) (Syntax.tcons (Syntax.tyRef Syntax.erased Syntax.mut (Syntax.tyInt Syntax.w32)) (Syntax.tcons (Syntax.tyInt Syntax.w64) Syntax.tnil)))) (List._∷_ (24, Rows.any-gone (Syntax.tyRef Syntax.erased Syntax.mut (Syntax.tyInt Syntax.w32))) (List._∷_ (25, Rows.any-gone (Syntax.tyStruct (List._∷_ 38 (List._∷_ 91 (List._∷_ 93 List.[]))) (Syntax.tcons (Syntax.tyRef Syntax.erased Syntax.mut (Syntax.tyInt Syntax.w32)) (Syntax.tcons (Syntax.tyInt Syntax.w64) Syntax.tnil)))) (List._∷_ (26, Rows.any-gone (Syntax.tyRef Syntax.erased Syntax.mut Cell.behind)) (List._∷_ (27, Mut.msleft Cell.R (Syntax.tyRef Syntax.erased Syntax.mut Cell.behind)) (List._∷_ (28, Rows.any-gone (Syntax.tyRef Syntax.erased Syntax.mut Cell.behind)) (List._∷_ (29, Mut.msleft Cell.R (Syntax.tyRef Syntax.erased Syntax.mut Cell.behind)) List.[])))))))))))))
+t48 = List._∷_ local15 (List._∷_ local16 (List._∷_ local17 (List._∷_ local18 (List._∷_ local19 (List._∷_ local20 (List._∷_ local21 (List._∷_ local22 (List._∷_ local23 (List._∷_ local24 locals18)))))))))
 
 abbrev pub t49 : List.List Row.Entry
-t49 = List._∷_ (0, Rows.whole (Declared.row Outcome.the-type)) (List._∷_ (1, Rows.any-gone (Syntax.tyStruct (List._∷_ 122 (List._∷_ 111 (List._∷_ 110 (List._∷_ 101 (List._∷_ 115 (List._∷_ 58 (List._∷_ 58 (List._∷_ 104 (List._∷_ 101 (List._∷_ 108 (List._∷_ 100 (List._∷_ 58 (List._∷_ 58 (List._∷_ 72 (List._∷_ 101 (List._∷_ 108 (List._∷_ 100 List.[]))))))))))))))))) (Syntax.tcons (Syntax.tyStruct (List._∷_ 112 (List._∷_ 121 (List._∷_ 114 (List._∷_ 97 (List._∷_ 109 (List._∷_ 105 (List._∷_ 100 (List._∷_ 58 (List._∷_ 58 (List._∷_ 83 (List._∷_ 116 (List._∷_ 97 (List._∷_ 116 (List._∷_ 101 List.[])))))))))))))) (Syntax.tcons (Syntax.tyInt Syntax.w32) (Syntax.tcons (Syntax.tyInt Syntax.w32) (Syntax.tcons (Syntax.tyInt Syntax.w32) (Syntax.tcons (Syntax.tyInt Syntax.w32) (Syntax.tcons (Syntax.tyInt Syntax.w32) (Syntax.tcons (Syntax.tyArray (Syntax.tyInt Syntax.w32) 64) Syntax.tnil))))))) (Syntax.tcons (Syntax.tyInt Syntax.w64) (Syntax.tcons (Syntax.tyInt Syntax.w64) (Syntax.tcons (Syntax.tyInt Syntax.w64) (Syntax.tcons (Syntax.tyInt Syntax.w64) (Syntax.tcons (Syntax.tyInt Syntax.w64) (Syntax.tcons (Syntax.tyInt Syntax.w64) (Syntax.tcons Syntax.tyBool Syntax.tnil)))))))))) (List._∷_ (2, Rows.any-gone (Syntax.tyStruct (List._∷_ 115 (List._∷_ 99 (List._∷_ 114 (List._∷_ 105 (List._∷_ 112 (List._∷_ 116 (List._∷_ 58 (List._∷_ 58 (List._∷_ 115 (List._∷_ 99 (List._∷_ 97 (List._∷_ 110 (List._∷_ 58 (List._∷_ 58 (List._∷_ 76 (List._∷_ 105 (List._∷_ 110 (List._∷_ 101 List.[])))))))))))))))))) (Syntax.tcons (Syntax.tyInt Syntax.w32) (Syntax.tcons (Syntax.tyInt Syntax.w64) (Syntax.tcons (Syntax.tyInt Syntax.w64) (Syntax.tcons (Syntax.tyInt Syntax.w64) (Syntax.tcons (Syntax.tyInt Syntax.w64) Syntax.tnil))))))) (List._∷_ (3, Rows.sslice (Referent.rtF (Referent.fInt Syntax.w32)) (Syntax.tyRef (Syntax.named 0) Syntax.imm (Syntax.tyInt Syntax.w32)) 0) (List._∷_ (4, Mut.mslice (Referent.rtF (Referent.fInt Syntax.w32)) (Syntax.tyRef (Syntax.named 1) Syntax.mut (Syntax.tyInt Syntax.w32)) 1) (List._∷_ (5, Mut.mslice (Referent.rtF (Referent.fInt Syntax.w32)) (Syntax.tyRef (Syntax.named 2) Syntax.mut (Syntax.tyInt Syntax.w32)) 2) (List._∷_ (6, Mut.mslice (Referent.rtF (Referent.fInt Syntax.w32)) (Syntax.tyRef (Syntax.named 3) Syntax.mut (Syntax.tyInt Syntax.w32)) 3) (List._∷_ (7, Mut.mslice Cell.R (Syntax.tyRef (Syntax.named 4) Syntax.mut Cell.behind) 4) (List._∷_ (8, Part.mslice-owedP Cell.R (Syntax.tyRef (Syntax.named 5) Syntax.mut Cell.behind) 5 10 Row.off) (List._∷_ (9, Rows.any-gone (Syntax.tyStruct (List._∷_ 112 (List._∷_ 121 (List._∷_ 114 (List._∷_ 97 (List._∷_ 109 (List._∷_ 105 (List._∷_ 100 (List._∷_ 58 (List._∷_ 58 (List._∷_ 83 (List._∷_ 116 (List._∷_ 97 (List._∷_ 116 (List._∷_ 101 List.[])))))))))))))) (Syntax.tcons (Syntax.tyInt Syntax.w32) (Syntax.tcons (Syntax.tyInt Syntax.w32) (Syntax.tcons (Syntax.tyInt Syntax.w32) (Syntax.tcons (Syntax.tyInt Syntax.w32) (Syntax.tcons (Syntax.tyInt Syntax.w32) (Syntax.tcons (Syntax.tyArray (Syntax.tyInt Syntax.w32) 64) Syntax.tnil)))))))) (List._∷_ (10, Rows.any-gone (Syntax.tyInt Syntax.w64)) (List._∷_ (11, Rows.any-gone (Syntax.tyInt Syntax.w64)) (List._∷_ (12, Rows.any-gone (Syntax.tyInt Syntax.w64)) (List._∷_ (13, Rows.any-gone (Syntax.tyInt Syntax.w64)) (List._∷_ (14, Rows.any-gone (Syntax.tyInt Syntax.w64)) (List._∷_ (15, Rows.any-gone (Syntax.tyInt Syntax.w64)) List.[])))))))))))))))
+t49 = List._∷_ local26 (List._∷_ local27 (List._∷_ local28 (List._∷_ local3 (List._∷_ local4 (List._∷_ local5 (List._∷_ local6 (List._∷_ local7 (List._∷_ local43 locals2))))))))
 
 abbrev pub t50 : List.List Row.Entry
-t50 = List._∷_ (16, Rows.any-gone Syntax.tyPtr) (List._∷_ (17, Rows.any-gone (Syntax.tyInt Syntax.w32)) (List._∷_ (18, Rows.any-gone (Syntax.tyRef Syntax.erased Syntax.imm (Syntax.tyInt Syntax.w32))) (List._∷_ (19, Rows.any-gone (Syntax.tyStruct (List._∷_ 38 (List._∷_ 91 (List._∷_ 93 List.[]))) (Syntax.tcons (Syntax.tyRef Syntax.erased Syntax.imm (Syntax.tyInt Syntax.w32)) (Syntax.tcons (Syntax.tyInt Syntax.w64) Syntax.tnil)))) (List._∷_ (20, Rows.any-gone (Syntax.tyRef Syntax.erased Syntax.mut (Syntax.tyInt Syntax.w32))) (List._∷_ (21, Rows.any-gone (Syntax.tyStruct (List._∷_ 38 (List._∷_ 91 (List._∷_ 93 List.[]))) (Syntax.tcons (Syntax.tyRef Syntax.erased Syntax.mut (Syntax.tyInt Syntax.w32)) (Syntax.tcons (Syntax.tyInt Syntax.w64) Syntax.tnil)))) (List._∷_ (22, Rows.any-gone (Syntax.tyRef Syntax.erased Syntax.mut (Syntax.tyInt Syntax.w32))) (List._∷_ (23, Rows.any-gone (Syntax.tyStruct (List._∷_ 38 (List._∷_ 91 (List._∷_ 93 List.[]))) (Syntax.tcons (Syntax.tyRef Syntax.erased Syntax.mut (Syntax.tyInt Syntax.w32)) (Syntax.tcons (Syntax.tyInt Syntax.w64) Syntax.tnil)))) (List._∷_ (24, Rows.any-gone (Syntax.tyRef Syntax.erased Syntax.mut (Syntax.tyInt Syntax.w32))) (List._∷_ (25, Rows.any-gone (Syntax.tyStruct (List._∷_ 38 (List._∷_ 91 (List._∷_ 93 List.[]))) (Syntax.tcons (Syntax.tyRef Syntax.erased Syntax.mut (Syntax.tyInt Syntax.w32)) (Syntax.tcons (Syntax.tyInt Syntax.w64) Syntax.tnil)))) (List._∷_ (26, Rows.any-gone (Syntax.tyRef Syntax.erased Syntax.mut Cell.behind)) (List._∷_ (27, Rows.any-gone (Syntax.tyStruct (List._∷_ 38 (List._∷_ 91 (List._∷_ 93 List.[]))) (Syntax.tcons (Syntax.tyRef Syntax.erased Syntax.mut Cell.behind) (Syntax.tcons (Syntax.tyInt Syntax.w64) Syntax.tnil)))) (List._∷_ (28, Rows.any-gone (Syntax.tyRef Syntax.erased Syntax.mut Cell.behind)) (List._∷_ (29, Mut.msleft Cell.R (Syntax.tyRef Syntax.erased Syntax.mut Cell.behind)) List.[])))))))))))))
+t50 = List._∷_ local15 (List._∷_ local16 (List._∷_ local17 (List._∷_ local18 (List._∷_ local19 (List._∷_ local20 (List._∷_ local21 (List._∷_ local22 (List._∷_ local23 (List._∷_ local24 (List._∷_ local25 (List._∷_ (27, Rows.any-gone ty8) locals17)))))))))))
 
 abbrev pub T0 : Row.Cx
 T0 = record { locals = List._++_ t0 t1; slots = List.[] }
@@ -537,145 +889,145 @@ O0 = record { next = Option.none; exits = List.[]; returns = Option.some T1 }
 
 module _ (claims· : Claims) where
   abbrev s0 : (bs : List.List Nat.ℕ) → Typed.Gives T0 T2
-  s0 = λ bs. Know.k-shs-known (Referent.fInt Syntax.w32) T0 3 0 (Syntax.tyRef (Syntax.named 0) Syntax.imm (Syntax.tyInt Syntax.w32)) Row.off 0 λ x. x
+  s0 = λ bs. Know.k-shs-known rf0 T0 3 0 ty10 Row.off 0 λ x. x
 
   abbrev s1 : (bs : List.List Nat.ℕ) → Typed.Gives T2 T3
-  s1 = λ bs. Know.k-sl-known (Referent.fInt Syntax.w32) T2 4 1 (Syntax.tyRef (Syntax.named 1) Syntax.mut (Syntax.tyInt Syntax.w32)) Row.off 0 λ x. x
+  s1 = λ bs. Know.k-sl-known rf0 T2 4 1 ty11 Row.off 0 λ x. x
 
   abbrev s2 : (bs : List.List Nat.ℕ) → Typed.Gives T3 T4
-  s2 = λ bs. Know.k-sl-known (Referent.fInt Syntax.w32) T3 5 2 (Syntax.tyRef (Syntax.named 2) Syntax.mut (Syntax.tyInt Syntax.w32)) Row.off 0 λ x. x
+  s2 = λ bs. Know.k-sl-known rf0 T3 5 2 ty12 Row.off 0 λ x. x
 
   abbrev s3 : (bs : List.List Nat.ℕ) → Typed.Gives T4 T5
-  s3 = λ bs. Know.k-sl-known (Referent.fInt Syntax.w32) T4 6 3 (Syntax.tyRef (Syntax.named 3) Syntax.mut (Syntax.tyInt Syntax.w32)) Row.off 0 λ x. x
+  s3 = λ bs. Know.k-sl-known rf0 T4 6 3 ty13 Row.off 0 λ x. x
 
   abbrev s4 : (bs : List.List Nat.ℕ) → Typed.Both T5 T6
-  s4 = λ bs. WayStmt.k-way-copy-out T5 (Row.out 1 (T5 .locals)) (λ u. Row.drop 1 (T5 .locals) u) 9 (Rows.whole (Declared.row State.the-type)) (λ u. At.getAt (Held.the-type .parts) 0 (Held.struct .as-values (u .1 .0))) (λ T′. record { locals = Row.setRow 1 (1, Rows.whole (Declared.row Held.the-type)) T′; slots = List.[] }) (λ u T′ m′. Row.set 1 (1, Rows.whole (Declared.row Held.the-type)) (u .1 .0) T′ m′) (λ u. Unit) λ u. Unit
+  s4 = λ bs. WayStmt.k-way-copy-out T5 (Row.out 1 (T5 .locals)) (λ u. Row.drop 1 (T5 .locals) u) 9 (Rows.whole held4) (λ u. At.getAt (Held.the-type .parts) 0 (Held.struct .as-values (u .1 .0))) (λ T′. record { locals = Row.setRow 1 local1 T′; slots = List.[] }) (λ u T′ m′. Row.set 1 local1 (u .1 .0) T′ m′) (λ u. Unit) λ u. Unit
 
   abbrev s5 : (bs : List.List Nat.ℕ) → Typed.Mo T6 → Typed.Mo T7
-  s5 = λ bs. Scalar.n-use T6 (Scalar.oFld 1 (List._∷_ (Syntax.field 1) List.[]) (Syntax.tyInt Syntax.w64) 280 (Reads.fieldV Held.the-type Laws'3.the-laws 1)) 10 (Rows.sc-here (Row.sInt Syntax.w64)) (Row.sInt Syntax.w64 .of)
+  s5 = λ bs. Scalar.n-use T6 (Scalar.oFld 1 steps1 ty2 280 (Reads.fieldV Held.the-type Laws'3.the-laws 1)) 10 (Rows.sc-here sc0) (Row.sInt Syntax.w64 .of)
 
   abbrev s6 : (bs : List.List Nat.ℕ) → Typed.Mo T7 → Typed.Mo T8
-  s6 = λ bs. Scalar.n-use T7 (Scalar.oFld 1 (List._∷_ (Syntax.field 2) List.[]) (Syntax.tyInt Syntax.w64) 288 (Reads.fieldV Held.the-type Laws'3.the-laws 2)) 11 (Rows.sc-here (Row.sInt Syntax.w64)) (Row.sInt Syntax.w64 .of)
+  s6 = λ bs. Scalar.n-use T7 (Scalar.oFld 1 steps2 ty2 288 (Reads.fieldV Held.the-type Laws'3.the-laws 2)) 11 (Rows.sc-here sc0) (Row.sInt Syntax.w64 .of)
 
   abbrev s7 : (bs : List.List Nat.ℕ) → Typed.Mo T8 → Typed.Mo T9
-  s7 = λ bs. Scalar.n-use T8 (Scalar.oFld 1 (List._∷_ (Syntax.field 3) List.[]) (Syntax.tyInt Syntax.w64) 296 (Reads.fieldV Held.the-type Laws'3.the-laws 3)) 12 (Rows.sc-here (Row.sInt Syntax.w64)) (Row.sInt Syntax.w64 .of)
+  s7 = λ bs. Scalar.n-use T8 (Scalar.oFld 1 steps3 ty2 296 (Reads.fieldV Held.the-type Laws'3.the-laws 3)) 12 (Rows.sc-here sc0) (Row.sInt Syntax.w64 .of)
 
   abbrev s8 : (bs : List.List Nat.ℕ) → Typed.Mo T9 → Typed.Mo T10
-  s8 = λ bs. Scalar.n-use T9 (Scalar.oFld 1 (List._∷_ (Syntax.field 4) List.[]) (Syntax.tyInt Syntax.w64) 304 (Reads.fieldV Held.the-type Laws'3.the-laws 4)) 13 (Rows.sc-here (Row.sInt Syntax.w64)) (Row.sInt Syntax.w64 .of)
+  s8 = λ bs. Scalar.n-use T9 (Scalar.oFld 1 steps4 ty2 304 (Reads.fieldV Held.the-type Laws'3.the-laws 4)) 13 (Rows.sc-here sc0) (Row.sInt Syntax.w64 .of)
 
   abbrev s9 : (bs : List.List Nat.ℕ) → Typed.Mo T10 → Typed.Mo T11
-  s9 = λ bs. Scalar.n-use T10 (Scalar.oFld 1 (List._∷_ (Syntax.field 5) List.[]) (Syntax.tyInt Syntax.w64) 312 (Reads.fieldV Held.the-type Laws'3.the-laws 5)) 14 (Rows.sc-here (Row.sInt Syntax.w64)) (Row.sInt Syntax.w64 .of)
+  s9 = λ bs. Scalar.n-use T10 (Scalar.oFld 1 steps5 ty2 312 (Reads.fieldV Held.the-type Laws'3.the-laws 5)) 14 (Rows.sc-here sc0) (Row.sInt Syntax.w64 .of)
 
   abbrev s10 : (bs : List.List Nat.ℕ) → Typed.Mo T11 → Typed.Mo T12
-  s10 = λ bs. Scalar.n-room T11 1 (Syntax.tyStruct (List._∷_ 122 (List._∷_ 111 (List._∷_ 110 (List._∷_ 101 (List._∷_ 115 (List._∷_ 58 (List._∷_ 58 (List._∷_ 104 (List._∷_ 101 (List._∷_ 108 (List._∷_ 100 (List._∷_ 58 (List._∷_ 58 (List._∷_ 72 (List._∷_ 101 (List._∷_ 108 (List._∷_ 100 List.[]))))))))))))))))) (Syntax.tcons (Syntax.tyStruct (List._∷_ 112 (List._∷_ 121 (List._∷_ 114 (List._∷_ 97 (List._∷_ 109 (List._∷_ 105 (List._∷_ 100 (List._∷_ 58 (List._∷_ 58 (List._∷_ 83 (List._∷_ 116 (List._∷_ 97 (List._∷_ 116 (List._∷_ 101 List.[])))))))))))))) (Syntax.tcons (Syntax.tyInt Syntax.w32) (Syntax.tcons (Syntax.tyInt Syntax.w32) (Syntax.tcons (Syntax.tyInt Syntax.w32) (Syntax.tcons (Syntax.tyInt Syntax.w32) (Syntax.tcons (Syntax.tyInt Syntax.w32) (Syntax.tcons (Syntax.tyArray (Syntax.tyInt Syntax.w32) 64) Syntax.tnil))))))) (Syntax.tcons (Syntax.tyInt Syntax.w64) (Syntax.tcons (Syntax.tyInt Syntax.w64) (Syntax.tcons (Syntax.tyInt Syntax.w64) (Syntax.tcons (Syntax.tyInt Syntax.w64) (Syntax.tcons (Syntax.tyInt Syntax.w64) (Syntax.tcons (Syntax.tyInt Syntax.w64) (Syntax.tcons Syntax.tyBool Syntax.tnil)))))))))
+  s10 = λ bs. Scalar.n-room T11 1 ty16
 
   abbrev s11 : (bs : List.List Nat.ℕ) → Typed.Both T12 T13
-  s11 = λ bs. Call.callB ps·0 r·0 (claims· .0) (claims· .1) T12 (Num.vFld 2 (List._∷_ (Syntax.field 1) List.[]) 8 λ x. Line.struct .as-values x .1 .0, (Num.vBig 32772, tt)) 15 List.[] (Syntax.tyInt Syntax.w64)
+  s11 = λ bs. Call.callB ps·0 r·0 (claims· .0) (claims· .1) T12 (Num.vFld 2 steps1 8 λ x. Line.struct .as-values x .1 .0, (Num.vBig 32772, tt)) 15 List.[] ty2
 
   abbrev s12 : (bs : List.List Nat.ℕ) → Typed.Asks T13 T14
-  s12 = λ bs. Scalar.k-op2 T13 Syntax.offset (Scalar.oFld 3 (List._∷_ (Syntax.field 0) List.[]) (Syntax.tyRef (Syntax.named 0) Syntax.imm (Syntax.tyInt Syntax.w32)) 0 Reads'.ptrVal) (Scalar.oInt Syntax.w64 0) 16 (Rows.sc-here Row.sPtr) (Row.sPtr .of)
+  s12 = λ bs. Scalar.k-op2 T13 Syntax.offset (Scalar.oFld 3 steps0 ty10 0 Reads'.ptrVal) (Scalar.oInt Syntax.w64 0) 16 (Rows.sc-here Row.sPtr) (Row.sPtr .of)
 
   abbrev s13 : (bs : List.List Nat.ℕ) → Typed.Gives T14 T15
-  s13 = λ bs. Know.k-shs-known (Referent.fInt Syntax.w32) T14 3 0 (Syntax.tyRef (Syntax.named 0) Syntax.imm (Syntax.tyInt Syntax.w32)) Row.off 0 λ x. x
+  s13 = λ bs. Know.k-shs-known rf0 T14 3 0 ty10 Row.off 0 λ x. x
 
   abbrev s14 : (bs : List.List Nat.ℕ) → Typed.Asks T15 T16
-  s14 = λ bs. Shared.k-shs-read (Referent.fInt Syntax.w32) T15 3 16 17 0 (Syntax.tyRef (Syntax.named 0) Syntax.imm (Syntax.tyInt Syntax.w32)) Row.off (Rows.sc-here (Row.sInt Syntax.w32)) (Shared.bySize 4) 0 (λ x. x) (λ x. x) (Row.sInt Syntax.w32 .of) λ u. 0
+  s14 = λ bs. Shared.k-shs-read rf0 T15 3 16 17 0 ty10 Row.off (Rows.sc-here sc1) (Shared.bySize 4) 0 (λ x. x) (λ x. x) (Row.sInt Syntax.w32 .of) λ u. 0
 
   abbrev s15 : (bs : List.List Nat.ℕ) → Typed.Mo T16 → Typed.Mo T17
   s15 = λ bs. Scalar.n-room T16 16 Syntax.tyPtr
 
   abbrev s16 : (bs : List.List Nat.ℕ) → Typed.Gives T17 T18
-  s16 = λ bs. Prefix.k-shs-prefix-same (Referent.rtF (Referent.fInt Syntax.w32)) T17 3 18 0 (Syntax.tyRef (Syntax.named 0) Syntax.imm (Syntax.tyInt Syntax.w32)) (Syntax.tyRef Syntax.erased Syntax.imm (Syntax.tyInt Syntax.w32)) Row.off (λ x. x) λ u. u .1 .1 .1 .1 .1 .1 .1 .1 .1 .1 .1 .1 .1 .1 .1 .0
+  s16 = λ bs. Prefix.k-shs-prefix-same held2 T17 3 18 0 ty10 ty3 Row.off (λ x. x) λ u. u .1 .1 .1 .1 .1 .1 .1 .1 .1 .1 .1 .1 .1 .1 .1 .0
 
   abbrev s17 : (bs : List.List Nat.ℕ) → Typed.Asks T18 T19
-  s17 = λ bs. Relend.k-sl-aggregate (Referent.rtF (Referent.fInt Syntax.w32)) (Relend.asShr (Referent.rtF (Referent.fInt Syntax.w32))) T18 18 19 0 (Syntax.tyRef Syntax.erased Syntax.imm (Syntax.tyInt Syntax.w32)) (Syntax.tyRef Syntax.erased Syntax.imm (Syntax.tyInt Syntax.w32)) (λ x. x) (Scalar.oAt 15 (Syntax.tyInt Syntax.w64) (Row.valS (Row.sInt Syntax.w64)))
+  s17 = λ bs. Relend.k-sl-aggregate held2 (Relend.asShr held2) T18 18 19 0 ty3 ty3 (λ x. x) (Scalar.oAt 15 ty2 (Row.valS sc0))
 
   abbrev s19 : (bs : List.List Nat.ℕ) → Typed.Both T19 T21
-  s19 = λ bs. Part.k-sl-relendᵖ (Referent.rtF (Referent.fInt Syntax.w32)) T19 4 20 1 6 (Syntax.tyRef (Syntax.named 1) Syntax.mut (Syntax.tyInt Syntax.w32)) (Syntax.tyRef Syntax.erased Syntax.mut (Syntax.tyInt Syntax.w32)) Row.off (λ x. x) λ u. u .1 .1 .1 .1 .1 .1 .1 .1 .1 .1 .0
+  s19 = λ bs. Part.k-sl-relendᵖ held2 T19 4 20 1 6 ty11 ty5 Row.off (λ x. x) λ u. u .1 .1 .1 .1 .1 .1 .1 .1 .1 .1 .0
 
   abbrev s20 : (bs : List.List Nat.ℕ) → Typed.Asks T21 T22
-  s20 = λ bs. Relend.k-sl-aggregate (Referent.rtF (Referent.fInt Syntax.w32)) (Relend.asMut (Referent.rtF (Referent.fInt Syntax.w32))) T21 20 21 6 (Syntax.tyRef Syntax.erased Syntax.mut (Syntax.tyInt Syntax.w32)) (Syntax.tyRef Syntax.erased Syntax.mut (Syntax.tyInt Syntax.w32)) (λ x. x) (Scalar.oAt 10 (Syntax.tyInt Syntax.w64) (Row.valS (Row.sInt Syntax.w64)))
+  s20 = λ bs. Relend.k-sl-aggregate held2 (Relend.asMut held2) T21 20 21 6 ty5 ty5 (λ x. x) (Scalar.oAt 10 ty2 (Row.valS sc0))
 
   abbrev s22 : (bs : List.List Nat.ℕ) → Typed.Both T22 T24
-  s22 = λ bs. Part.k-sl-relendᵖ (Referent.rtF (Referent.fInt Syntax.w32)) T22 5 22 2 7 (Syntax.tyRef (Syntax.named 2) Syntax.mut (Syntax.tyInt Syntax.w32)) (Syntax.tyRef Syntax.erased Syntax.mut (Syntax.tyInt Syntax.w32)) Row.off (λ x. x) λ u. u .1 .1 .1 .1 .1 .1 .1 .1 .1 .1 .1 .0
+  s22 = λ bs. Part.k-sl-relendᵖ held2 T22 5 22 2 7 ty12 ty5 Row.off (λ x. x) λ u. u .1 .1 .1 .1 .1 .1 .1 .1 .1 .1 .1 .0
 
   abbrev s23 : (bs : List.List Nat.ℕ) → Typed.Asks T24 T25
-  s23 = λ bs. Relend.k-sl-aggregate (Referent.rtF (Referent.fInt Syntax.w32)) (Relend.asMut (Referent.rtF (Referent.fInt Syntax.w32))) T24 22 23 7 (Syntax.tyRef Syntax.erased Syntax.mut (Syntax.tyInt Syntax.w32)) (Syntax.tyRef Syntax.erased Syntax.mut (Syntax.tyInt Syntax.w32)) (λ x. x) (Scalar.oAt 11 (Syntax.tyInt Syntax.w64) (Row.valS (Row.sInt Syntax.w64)))
+  s23 = λ bs. Relend.k-sl-aggregate held2 (Relend.asMut held2) T24 22 23 7 ty5 ty5 (λ x. x) (Scalar.oAt 11 ty2 (Row.valS sc0))
 
   abbrev s25 : (bs : List.List Nat.ℕ) → Typed.Both T25 T27
-  s25 = λ bs. Part.k-sl-relendᵖ (Referent.rtF (Referent.fInt Syntax.w32)) T25 6 24 3 8 (Syntax.tyRef (Syntax.named 3) Syntax.mut (Syntax.tyInt Syntax.w32)) (Syntax.tyRef Syntax.erased Syntax.mut (Syntax.tyInt Syntax.w32)) Row.off (λ x. x) λ u. u .1 .1 .1 .1 .1 .1 .1 .1 .1 .1 .1 .1 .0
+  s25 = λ bs. Part.k-sl-relendᵖ held2 T25 6 24 3 8 ty13 ty5 Row.off (λ x. x) λ u. u .1 .1 .1 .1 .1 .1 .1 .1 .1 .1 .1 .1 .0
 
   abbrev s26 : (bs : List.List Nat.ℕ) → Typed.Asks T27 T28
-  s26 = λ bs. Relend.k-sl-aggregate (Referent.rtF (Referent.fInt Syntax.w32)) (Relend.asMut (Referent.rtF (Referent.fInt Syntax.w32))) T27 24 25 8 (Syntax.tyRef Syntax.erased Syntax.mut (Syntax.tyInt Syntax.w32)) (Syntax.tyRef Syntax.erased Syntax.mut (Syntax.tyInt Syntax.w32)) (λ x. x) (Scalar.oAt 12 (Syntax.tyInt Syntax.w64) (Row.valS (Row.sInt Syntax.w64)))
+  s26 = λ bs. Relend.k-sl-aggregate held2 (Relend.asMut held2) T27 24 25 8 ty5 ty5 (λ x. x) (Scalar.oAt 12 ty2 (Row.valS sc0))
 
   abbrev s28 : (bs : List.List Nat.ℕ) → Typed.Both T28 T30
-  s28 = λ bs. Part.k-sl-relendᵖ Cell.R T28 7 26 4 9 (Syntax.tyRef (Syntax.named 4) Syntax.mut Cell.behind) (Syntax.tyRef Syntax.erased Syntax.mut Cell.behind) Row.off (λ x. x) λ u. u .1 .1 .1 .1 .1 .1 .1 .1 .1 .1 .1 .1 .1 .0
+  s28 = λ bs. Part.k-sl-relendᵖ Cell.R T28 7 26 4 9 ty14 ty7 Row.off (λ x. x) λ u. u .1 .1 .1 .1 .1 .1 .1 .1 .1 .1 .1 .1 .1 .0
 
   abbrev s29 : (bs : List.List Nat.ℕ) → Typed.Asks T30 T31
-  s29 = λ bs. Relend.k-sl-aggregate Cell.R (Relend.asMut Cell.R) T30 26 27 9 (Syntax.tyRef Syntax.erased Syntax.mut Cell.behind) (Syntax.tyRef Syntax.erased Syntax.mut Cell.behind) (λ x. x) (Scalar.oAt 13 (Syntax.tyInt Syntax.w64) (Row.valS (Row.sInt Syntax.w64)))
+  s29 = λ bs. Relend.k-sl-aggregate Cell.R (Relend.asMut Cell.R) T30 26 27 9 ty7 ty7 (λ x. x) (Scalar.oAt 13 ty2 (Row.valS sc0))
 
   abbrev s31 : (bs : List.List Nat.ℕ) → Typed.Both T31 T33
-  s31 = λ bs. Part.k-sl-relendᵖ Cell.R T31 8 28 5 10 (Syntax.tyRef (Syntax.named 5) Syntax.mut Cell.behind) (Syntax.tyRef Syntax.erased Syntax.mut Cell.behind) Row.off (λ x. x) λ u. u .1 .1 .1 .1 .1 .1 .1 .1 .1 .1 .1 .1 .1 .1 .0
+  s31 = λ bs. Part.k-sl-relendᵖ Cell.R T31 8 28 5 10 ty15 ty7 Row.off (λ x. x) λ u. u .1 .1 .1 .1 .1 .1 .1 .1 .1 .1 .1 .1 .1 .1 .0
 
   abbrev s32 : (bs : List.List Nat.ℕ) → Typed.Asks T33 T34
-  s32 = λ bs. Relend.k-sl-aggregate Cell.R (Relend.asMut Cell.R) T33 28 29 10 (Syntax.tyRef Syntax.erased Syntax.mut Cell.behind) (Syntax.tyRef Syntax.erased Syntax.mut Cell.behind) (λ x. x) (Scalar.oAt 14 (Syntax.tyInt Syntax.w64) (Row.valS (Row.sInt Syntax.w64)))
+  s32 = λ bs. Relend.k-sl-aggregate Cell.R (Relend.asMut Cell.R) T33 28 29 10 ty7 ty7 (λ x. x) (Scalar.oAt 14 ty2 (Row.valS sc0))
 
   abbrev s33 : (bs : List.List Nat.ℕ) → Typed.Both T34 T35
-  s33 = λ bs. Call.callB ps·1 r·1 (claims· .2) (claims· .3) T34 (record { pos = 9; st = List.[]; d = 0; at = λ x. x }, (Num.vFld 2 (List._∷_ (Syntax.field 0) List.[]) 0 λ x. Line.struct .as-values x .0, (Num.vAt 17 λ x. x, (record { pos = 19; ty = Syntax.tyRef Syntax.erased Syntax.imm (Syntax.tyInt Syntax.w32); ref = λ x. x }, (record { pos = 21; ty = Syntax.tyRef Syntax.erased Syntax.mut (Syntax.tyInt Syntax.w32); ref = λ x. x }, (record { pos = 23; ty = Syntax.tyRef Syntax.erased Syntax.mut (Syntax.tyInt Syntax.w32); ref = λ x. x }, (record { pos = 25; ty = Syntax.tyRef Syntax.erased Syntax.mut (Syntax.tyInt Syntax.w32); ref = λ x. x }, (record { pos = 27; ty = Syntax.tyRef Syntax.erased Syntax.mut Cell.behind; ref = λ x. x }, (record { pos = 29; ty = Syntax.tyRef Syntax.erased Syntax.mut Cell.behind; ref = λ x. x }, tt))))))))) 0 (List._∷_ 0 (List._∷_ 6 (List._∷_ 7 (List._∷_ 8 (List._∷_ 9 (List._∷_ 10 List.[])))))) (Syntax.tyStruct (List._∷_ 112 (List._∷_ 121 (List._∷_ 114 (List._∷_ 97 (List._∷_ 109 (List._∷_ 105 (List._∷_ 100 (List._∷_ 58 (List._∷_ 58 (List._∷_ 79 (List._∷_ 117 (List._∷_ 116 (List._∷_ 99 (List._∷_ 111 (List._∷_ 109 (List._∷_ 101 List.[])))))))))))))))) (Syntax.tcons (Syntax.tyStruct (List._∷_ 112 (List._∷_ 121 (List._∷_ 114 (List._∷_ 97 (List._∷_ 109 (List._∷_ 105 (List._∷_ 100 (List._∷_ 58 (List._∷_ 58 (List._∷_ 83 (List._∷_ 116 (List._∷_ 97 (List._∷_ 116 (List._∷_ 101 List.[])))))))))))))) (Syntax.tcons (Syntax.tyInt Syntax.w32) (Syntax.tcons (Syntax.tyInt Syntax.w32) (Syntax.tcons (Syntax.tyInt Syntax.w32) (Syntax.tcons (Syntax.tyInt Syntax.w32) (Syntax.tcons (Syntax.tyInt Syntax.w32) (Syntax.tcons (Syntax.tyArray (Syntax.tyInt Syntax.w32) 64) Syntax.tnil))))))) (Syntax.tcons (Syntax.tyEnum (List._∷_ 100 (List._∷_ 97 (List._∷_ 114 (List._∷_ 116 (List._∷_ 115 (List._∷_ 58 (List._∷_ 58 (List._∷_ 65 (List._∷_ 110 (List._∷_ 115 (List._∷_ 119 (List._∷_ 101 (List._∷_ 114 List.[]))))))))))))) (Syntax.ttcons (Syntax.tcons (Syntax.tyInt Syntax.w64) Syntax.tnil) (Syntax.ttcons Syntax.tnil (Syntax.ttcons (Syntax.tcons (Syntax.tyInt Syntax.w64) Syntax.tnil) (Syntax.ttcons (Syntax.tcons (Syntax.tyInt Syntax.w64) (Syntax.tcons (Syntax.tyInt Syntax.w64) Syntax.tnil)) (Syntax.ttcons Syntax.tnil (Syntax.ttcons Syntax.tnil (Syntax.ttcons Syntax.tnil (Syntax.ttcons (Syntax.tcons (Syntax.tyInt Syntax.w64) Syntax.tnil) (Syntax.ttcons (Syntax.tcons (Syntax.tyInt Syntax.w64) Syntax.tnil) (Syntax.ttcons (Syntax.tcons (Syntax.tyInt Syntax.w64) Syntax.tnil) (Syntax.ttcons (Syntax.tcons (Syntax.tyInt Syntax.w64) Syntax.tnil) (Syntax.ttcons (Syntax.tcons (Syntax.tyInt Syntax.w64) Syntax.tnil) (Syntax.ttcons (Syntax.tcons (Syntax.tyInt Syntax.w64) Syntax.tnil) (Syntax.ttcons (Syntax.tcons (Syntax.tyInt Syntax.w64) Syntax.tnil) (Syntax.ttcons Syntax.tnil (Syntax.ttcons Syntax.tnil (Syntax.ttcons (Syntax.tcons (Syntax.tyInt Syntax.w64) Syntax.tnil) Syntax.ttnil)))))))))))))))))) Syntax.tnil)))
+  s33 = λ bs. Call.callB ps·1 r·1 (claims· .2) (claims· .3) T34 (record { pos = 9; st = List.[]; d = 0; at = λ x. x }, (Num.vFld 2 steps0 0 λ x. Line.struct .as-values x .0, (Num.vAt 17 λ x. x, (record { pos = 19; ty = Syntax.tyRef Syntax.erased Syntax.imm ty0; ref = λ x. x }, (record { pos = 21; ty = Syntax.tyRef Syntax.erased Syntax.mut ty0; ref = λ x. x }, (record { pos = 23; ty = Syntax.tyRef Syntax.erased Syntax.mut ty0; ref = λ x. x }, (record { pos = 25; ty = Syntax.tyRef Syntax.erased Syntax.mut ty0; ref = λ x. x }, (record { pos = 27; ty = Syntax.tyRef Syntax.erased Syntax.mut Cell.behind; ref = λ x. x }, (record { pos = 29; ty = Syntax.tyRef Syntax.erased Syntax.mut Cell.behind; ref = λ x. x }, tt))))))))) 0 sym1 ty9
 
   abbrev s34 : (bs : List.List Nat.ℕ) → Typed.Mo T35 → Typed.Mo T36
-  s34 = λ bs. Scalar.n-room T35 19 (Syntax.tyStruct (List._∷_ 38 (List._∷_ 91 (List._∷_ 93 List.[]))) (Syntax.tcons (Syntax.tyRef Syntax.erased Syntax.imm (Syntax.tyInt Syntax.w32)) (Syntax.tcons (Syntax.tyInt Syntax.w64) Syntax.tnil)))
+  s34 = λ bs. Scalar.n-room T35 19 ty4
 
   abbrev s35 : (bs : List.List Nat.ℕ) → Typed.Mo T36 → Typed.Mo T37
-  s35 = λ bs. Scalar.n-room T36 2 (Syntax.tyStruct (List._∷_ 115 (List._∷_ 99 (List._∷_ 114 (List._∷_ 105 (List._∷_ 112 (List._∷_ 116 (List._∷_ 58 (List._∷_ 58 (List._∷_ 115 (List._∷_ 99 (List._∷_ 97 (List._∷_ 110 (List._∷_ 58 (List._∷_ 58 (List._∷_ 76 (List._∷_ 105 (List._∷_ 110 (List._∷_ 101 List.[])))))))))))))))))) (Syntax.tcons (Syntax.tyInt Syntax.w32) (Syntax.tcons (Syntax.tyInt Syntax.w64) (Syntax.tcons (Syntax.tyInt Syntax.w64) (Syntax.tcons (Syntax.tyInt Syntax.w64) (Syntax.tcons (Syntax.tyInt Syntax.w64) Syntax.tnil))))))
+  s35 = λ bs. Scalar.n-room T36 2 ty17
 
   abbrev s36 : (bs : List.List Nat.ℕ) → Typed.Mo T37 → Typed.Mo T38
-  s36 = λ bs. Scalar.n-room T37 9 (Syntax.tyStruct (List._∷_ 112 (List._∷_ 121 (List._∷_ 114 (List._∷_ 97 (List._∷_ 109 (List._∷_ 105 (List._∷_ 100 (List._∷_ 58 (List._∷_ 58 (List._∷_ 83 (List._∷_ 116 (List._∷_ 97 (List._∷_ 116 (List._∷_ 101 List.[])))))))))))))) (Syntax.tcons (Syntax.tyInt Syntax.w32) (Syntax.tcons (Syntax.tyInt Syntax.w32) (Syntax.tcons (Syntax.tyInt Syntax.w32) (Syntax.tcons (Syntax.tyInt Syntax.w32) (Syntax.tcons (Syntax.tyInt Syntax.w32) (Syntax.tcons (Syntax.tyArray (Syntax.tyInt Syntax.w32) 64) Syntax.tnil)))))))
+  s36 = λ bs. Scalar.n-room T37 9 ty1
 
   abbrev s37 : (bs : List.List Nat.ℕ) → Typed.Mo T38 → Typed.Mo T39
-  s37 = λ bs. Scalar.n-room T38 10 (Syntax.tyInt Syntax.w64)
+  s37 = λ bs. Scalar.n-room T38 10 ty2
 
   abbrev s38 : (bs : List.List Nat.ℕ) → Typed.Mo T39 → Typed.Mo T40
-  s38 = λ bs. Scalar.n-room T39 11 (Syntax.tyInt Syntax.w64)
+  s38 = λ bs. Scalar.n-room T39 11 ty2
 
   abbrev s39 : (bs : List.List Nat.ℕ) → Typed.Mo T40 → Typed.Mo T41
-  s39 = λ bs. Scalar.n-room T40 12 (Syntax.tyInt Syntax.w64)
+  s39 = λ bs. Scalar.n-room T40 12 ty2
 
   abbrev s40 : (bs : List.List Nat.ℕ) → Typed.Mo T41 → Typed.Mo T42
-  s40 = λ bs. Scalar.n-room T41 13 (Syntax.tyInt Syntax.w64)
+  s40 = λ bs. Scalar.n-room T41 13 ty2
 
   abbrev s41 : (bs : List.List Nat.ℕ) → Typed.Mo T42 → Typed.Mo T43
-  s41 = λ bs. Scalar.n-room T42 14 (Syntax.tyInt Syntax.w64)
+  s41 = λ bs. Scalar.n-room T42 14 ty2
 
   abbrev s42 : (bs : List.List Nat.ℕ) → Typed.Mo T43 → Typed.Mo T44
-  s42 = λ bs. Scalar.n-room T43 15 (Syntax.tyInt Syntax.w64)
+  s42 = λ bs. Scalar.n-room T43 15 ty2
 
   abbrev s43 : (bs : List.List Nat.ℕ) → Typed.Mo T44 → Typed.Mo T45
-  s43 = λ bs. Scalar.n-room T44 17 (Syntax.tyInt Syntax.w32)
+  s43 = λ bs. Scalar.n-room T44 17 ty0
 
   abbrev s45 : (bs : List.List Nat.ℕ) → Typed.Both T45 T47
-  s45 = λ bs. Part.k-back-slᵖ (Referent.rtF (Referent.fInt Syntax.w32)) T45 21 4 1 6 (Syntax.tyRef (Syntax.named 1) Syntax.mut (Syntax.tyInt Syntax.w32)) (Syntax.tyRef Syntax.erased Syntax.mut (Syntax.tyInt Syntax.w32)) Row.off (λ x. x) λ x. x
+  s45 = λ bs. Part.k-back-slᵖ held2 T45 21 4 1 6 ty11 ty5 Row.off (λ x. x) λ x. x
 
   abbrev s46 : (bs : List.List Nat.ℕ) → Typed.Gives T47 T48
-  s46 = λ bs. Know.k-sl-known (Referent.fInt Syntax.w32) T47 4 1 (Syntax.tyRef (Syntax.named 1) Syntax.mut (Syntax.tyInt Syntax.w32)) Row.off 0 λ x. x
+  s46 = λ bs. Know.k-sl-known rf0 T47 4 1 ty11 Row.off 0 λ x. x
 
   abbrev s49 : (bs : List.List Nat.ℕ) → Typed.Both T48 T51
-  s49 = λ bs. Part.k-back-slᵖ (Referent.rtF (Referent.fInt Syntax.w32)) T48 23 5 2 7 (Syntax.tyRef (Syntax.named 2) Syntax.mut (Syntax.tyInt Syntax.w32)) (Syntax.tyRef Syntax.erased Syntax.mut (Syntax.tyInt Syntax.w32)) Row.off (λ x. x) λ x. x
+  s49 = λ bs. Part.k-back-slᵖ held2 T48 23 5 2 7 ty12 ty5 Row.off (λ x. x) λ x. x
 
   abbrev s50 : (bs : List.List Nat.ℕ) → Typed.Gives T51 T52
-  s50 = λ bs. Know.k-sl-known (Referent.fInt Syntax.w32) T51 5 2 (Syntax.tyRef (Syntax.named 2) Syntax.mut (Syntax.tyInt Syntax.w32)) Row.off 0 λ x. x
+  s50 = λ bs. Know.k-sl-known rf0 T51 5 2 ty12 Row.off 0 λ x. x
 
   abbrev s53 : (bs : List.List Nat.ℕ) → Typed.Both T52 T55
-  s53 = λ bs. Part.k-back-slᵖ (Referent.rtF (Referent.fInt Syntax.w32)) T52 25 6 3 8 (Syntax.tyRef (Syntax.named 3) Syntax.mut (Syntax.tyInt Syntax.w32)) (Syntax.tyRef Syntax.erased Syntax.mut (Syntax.tyInt Syntax.w32)) Row.off (λ x. x) λ x. x
+  s53 = λ bs. Part.k-back-slᵖ held2 T52 25 6 3 8 ty13 ty5 Row.off (λ x. x) λ x. x
 
   abbrev s54 : (bs : List.List Nat.ℕ) → Typed.Gives T55 T56
-  s54 = λ bs. Know.k-sl-known (Referent.fInt Syntax.w32) T55 6 3 (Syntax.tyRef (Syntax.named 3) Syntax.mut (Syntax.tyInt Syntax.w32)) Row.off 0 λ x. x
+  s54 = λ bs. Know.k-sl-known rf0 T55 6 3 ty13 Row.off 0 λ x. x
 
   abbrev s57 : (bs : List.List Nat.ℕ) → Typed.Both T56 T59
-  s57 = λ bs. Part.k-back-slᵖ Cell.R T56 27 7 4 9 (Syntax.tyRef (Syntax.named 4) Syntax.mut Cell.behind) (Syntax.tyRef Syntax.erased Syntax.mut Cell.behind) Row.off (λ x. x) λ x. x
+  s57 = λ bs. Part.k-back-slᵖ Cell.R T56 27 7 4 9 ty14 ty7 Row.off (λ x. x) λ x. x
 
   abbrev s60 : (bs : List.List Nat.ℕ) → Typed.Both T59 T62
-  s60 = λ bs. Part.k-back-slᵖ Cell.R T59 29 8 5 10 (Syntax.tyRef (Syntax.named 5) Syntax.mut Cell.behind) (Syntax.tyRef Syntax.erased Syntax.mut Cell.behind) Row.off (λ x. x) λ x. x
+  s60 = λ bs. Part.k-back-slᵖ Cell.R T59 29 8 5 10 ty15 ty7 Row.off (λ x. x) λ x. x
 
   module _ (Pre· : (κs : Lifetimes.Lfts 6) → Kinds.Dens κs ps → Type 0) (Post· : (κs : Lifetimes.Lfts 6) → (a : Kinds.Dens κs ps) → Kinds.Plain 6 ps r κs) where
     module _ (M : Type 1) where
@@ -880,251 +1232,314 @@ module _ (claims· : Claims) where
         Knowns = Plain.Known 𝓤 H A W 𝓣 0 ps·0 r·0 (claims· .0) (claims· .1) "script::sizes::least" × Plain.Known 𝓤 H A W 𝓣 6 ps·1 r·1 (claims· .2) (claims· .3) "zones::sheet_calls::handed_with"
 
       module _ (κs : Lifetimes.Lfts 6) (qs : Lifetimes.Shares 6) where
+        abbrev slot0 : Row.Life
+        slot0 = Row.lease (κs .1 .0) (qs .1 .0)
+
+        abbrev local44 : Row.Entry
+        local44 = (4, Part.mslice-owedP held2 ty11 1 6 slot0)
+
+        abbrev slot1 : Row.Life
+        slot1 = Row.lease (κs .1 .1 .0) (qs .1 .1 .0)
+
+        abbrev local45 : Row.Entry
+        local45 = (5, Part.mslice-owedP held2 ty12 2 7 slot1)
+
+        abbrev slot2 : Row.Life
+        slot2 = Row.lease (κs .1 .1 .1 .0) (qs .1 .1 .1 .0)
+
+        abbrev local46 : Row.Entry
+        local46 = (6, Part.mslice-owedP held2 ty13 3 8 slot2)
+
+        abbrev slot3 : Row.Life
+        slot3 = Row.lease (κs .1 .1 .1 .1 .0) (qs .1 .1 .1 .1 .0)
+
+        abbrev local47 : Row.Entry
+        local47 = (7, Part.mslice-owedP Cell.R ty14 4 9 slot3)
+
+        abbrev slot4 : Row.Life
+        slot4 = Row.lease (κs .1 .1 .1 .1 .1 .0) (qs .1 .1 .1 .1 .1 .0)
+
+        abbrev local48 : Row.Entry
+        local48 = (8, Part.mslice-owedP Cell.R ty15 5 10 slot4)
+
+        abbrev locals27 : List.List Row.Entry
+        locals27 = List._∷_ local3 (List._∷_ local44 (List._∷_ local45 (List._∷_ local46 (List._∷_ local47 (List._∷_ local48 locals13)))))
+
+        abbrev locals28 : List.List Row.Entry
+        locals28 = List._∷_ local47 (List._∷_ local48 locals2)
+
+        abbrev slot5 : Row.Life
+        slot5 = Row.lease (κs .0) (qs .0)
+
+        abbrev slots1 : List.List Row.Life
+        slots1 = List._∷_ slot0 (List._∷_ slot1 (List._∷_ slot2 (List._∷_ slot3 (List._∷_ slot4 (List._∷_ Row.off (List._∷_ Row.off (List._∷_ Row.off slots0)))))))
+
+        abbrev slots2 : List.List Row.Life
+        slots2 = List._∷_ slot1 (List._∷_ slot2 (List._∷_ slot3 (List._∷_ slot4 (List._∷_ Row.alive (List._∷_ Row.off (List._∷_ Row.off slots0))))))
+
+        abbrev slots3 : List.List Row.Life
+        slots3 = List._∷_ slot2 (List._∷_ slot3 (List._∷_ slot4 (List._∷_ Row.alive (List._∷_ Row.alive (List._∷_ Row.off slots0)))))
+
+        abbrev slots4 : List.List Row.Life
+        slots4 = List._∷_ slot3 (List._∷_ slot4 (List._∷_ Row.alive (List._∷_ Row.alive (List._∷_ Row.alive slots0))))
+
+        abbrev slots5 : List.List Row.Life
+        slots5 = List._∷_ Row.off (List._∷_ Row.off (List._∷_ Row.off slots4))
+
+        abbrev slots6 : List.List Row.Life
+        slots6 = List._∷_ slot4 (List._∷_ Row.alive (List._∷_ Row.alive (List._∷_ Row.alive (List._∷_ Row.alive (List._∷_ Row.off List.[])))))
+
+        abbrev slots7 : List.List Row.Life
+        slots7 = List._∷_ Row.off (List._∷_ Row.off (List._∷_ Row.off (List._∷_ Row.off slots6)))
+
+        abbrev slots14 : List.List Row.Life
+        slots14 = List._∷_ slot0 (List._∷_ slot1 (List._∷_ slot2 slots13))
+
         abbrev g16 : List.List Row.Entry
-        g16 = List._∷_ (0, Rows.any-gone (Syntax.tyStruct (List._∷_ 112 (List._∷_ 121 (List._∷_ 114 (List._∷_ 97 (List._∷_ 109 (List._∷_ 105 (List._∷_ 100 (List._∷_ 58 (List._∷_ 58 (List._∷_ 79 (List._∷_ 117 (List._∷_ 116 (List._∷_ 99 (List._∷_ 111 (List._∷_ 109 (List._∷_ 101 List.[])))))))))))))))) (Syntax.tcons (Syntax.tyStruct (List._∷_ 112 (List._∷_ 121 (List._∷_ 114 (List._∷_ 97 (List._∷_ 109 (List._∷_ 105 (List._∷_ 100 (List._∷_ 58 (List._∷_ 58 (List._∷_ 83 (List._∷_ 116 (List._∷_ 97 (List._∷_ 116 (List._∷_ 101 List.[])))))))))))))) (Syntax.tcons (Syntax.tyInt Syntax.w32) (Syntax.tcons (Syntax.tyInt Syntax.w32) (Syntax.tcons (Syntax.tyInt Syntax.w32) (Syntax.tcons (Syntax.tyInt Syntax.w32) (Syntax.tcons (Syntax.tyInt Syntax.w32) (Syntax.tcons (Syntax.tyArray (Syntax.tyInt Syntax.w32) 64) Syntax.tnil))))))) (Syntax.tcons (Syntax.tyEnum (List._∷_ 100 (List._∷_ 97 (List._∷_ 114 (List._∷_ 116 (List._∷_ 115 (List._∷_ 58 (List._∷_ 58 (List._∷_ 65 (List._∷_ 110 (List._∷_ 115 (List._∷_ 119 (List._∷_ 101 (List._∷_ 114 List.[]))))))))))))) (Syntax.ttcons (Syntax.tcons (Syntax.tyInt Syntax.w64) Syntax.tnil) (Syntax.ttcons Syntax.tnil (Syntax.ttcons (Syntax.tcons (Syntax.tyInt Syntax.w64) Syntax.tnil) (Syntax.ttcons (Syntax.tcons (Syntax.tyInt Syntax.w64) (Syntax.tcons (Syntax.tyInt Syntax.w64) Syntax.tnil)) (Syntax.ttcons Syntax.tnil (Syntax.ttcons Syntax.tnil (Syntax.ttcons Syntax.tnil (Syntax.ttcons (Syntax.tcons (Syntax.tyInt Syntax.w64) Syntax.tnil) (Syntax.ttcons (Syntax.tcons (Syntax.tyInt Syntax.w64) Syntax.tnil) (Syntax.ttcons (Syntax.tcons (Syntax.tyInt Syntax.w64) Syntax.tnil) (Syntax.ttcons (Syntax.tcons (Syntax.tyInt Syntax.w64) Syntax.tnil) (Syntax.ttcons (Syntax.tcons (Syntax.tyInt Syntax.w64) Syntax.tnil) (Syntax.ttcons (Syntax.tcons (Syntax.tyInt Syntax.w64) Syntax.tnil) (Syntax.ttcons (Syntax.tcons (Syntax.tyInt Syntax.w64) Syntax.tnil) (Syntax.ttcons Syntax.tnil (Syntax.ttcons Syntax.tnil (Syntax.ttcons (Syntax.tcons (Syntax.tyInt Syntax.w64) Syntax.tnil) Syntax.ttnil)))))))))))))))))) Syntax.tnil)))) (List._∷_ (1, Rows.any-gone (Syntax.tyStruct (List._∷_ 122 (List._∷_ 111 (List._∷_ 110 (List._∷_ 101 (List._∷_ 115 (List._∷_ 58 (List._∷_ 58 (List._∷_ 104 (List._∷_ 101 (List._∷_ 108 (List._∷_ 100 (List._∷_ 58 (List._∷_ 58 (List._∷_ 72 (List._∷_ 101 (List._∷_ 108 (List._∷_ 100 List.[]))))))))))))))))) (Syntax.tcons (Syntax.tyStruct (List._∷_ 112 (List._∷_ 121 (List._∷_ 114 (List._∷_ 97 (List._∷_ 109 (List._∷_ 105 (List._∷_ 100 (List._∷_ 58 (List._∷_ 58 (List._∷_ 83 (List._∷_ 116 (List._∷_ 97 (List._∷_ 116 (List._∷_ 101 List.[])))))))))))))) (Syntax.tcons (Syntax.tyInt Syntax.w32) (Syntax.tcons (Syntax.tyInt Syntax.w32) (Syntax.tcons (Syntax.tyInt Syntax.w32) (Syntax.tcons (Syntax.tyInt Syntax.w32) (Syntax.tcons (Syntax.tyInt Syntax.w32) (Syntax.tcons (Syntax.tyArray (Syntax.tyInt Syntax.w32) 64) Syntax.tnil))))))) (Syntax.tcons (Syntax.tyInt Syntax.w64) (Syntax.tcons (Syntax.tyInt Syntax.w64) (Syntax.tcons (Syntax.tyInt Syntax.w64) (Syntax.tcons (Syntax.tyInt Syntax.w64) (Syntax.tcons (Syntax.tyInt Syntax.w64) (Syntax.tcons (Syntax.tyInt Syntax.w64) (Syntax.tcons Syntax.tyBool Syntax.tnil)))))))))) (List._∷_ (2, Rows.whole (Declared.row Line.the-type)) (List._∷_ (3, Rows.sslice (Referent.rtF (Referent.fInt Syntax.w32)) (Syntax.tyRef (Syntax.named 0) Syntax.imm (Syntax.tyInt Syntax.w32)) 0) (List._∷_ (4, Part.mslice-owedP (Referent.rtF (Referent.fInt Syntax.w32)) (Syntax.tyRef (Syntax.named 1) Syntax.mut (Syntax.tyInt Syntax.w32)) 1 6 (Row.lease (κs .1 .0) (qs .1 .0))) (List._∷_ (5, Mut.mslice (Referent.rtF (Referent.fInt Syntax.w32)) (Syntax.tyRef (Syntax.named 2) Syntax.mut (Syntax.tyInt Syntax.w32)) 2) (List._∷_ (6, Mut.mslice (Referent.rtF (Referent.fInt Syntax.w32)) (Syntax.tyRef (Syntax.named 3) Syntax.mut (Syntax.tyInt Syntax.w32)) 3) (List._∷_ (7, Mut.mslice Cell.R (Syntax.tyRef (Syntax.named 4) Syntax.mut Cell.behind) 4) (List._∷_ (8, Mut.mslice Cell.R (Syntax.tyRef (Syntax.named 5) Syntax.mut Cell.behind) 5) (List._∷_ (9, Rows.whole (Declared.row State.the-type)) (List._∷_ (10, Rows.sc-here (Row.sInt Syntax.w64)) (List._∷_ (11, Rows.sc-here (Row.sInt Syntax.w64)) (List._∷_ (12, Rows.sc-here (Row.sInt Syntax.w64)) (List._∷_ (13, Rows.sc-here (Row.sInt Syntax.w64)) (List._∷_ (14, Rows.sc-here (Row.sInt Syntax.w64)) (List._∷_ (15, Rows.sc-here (Row.sInt Syntax.w64)) List.[])))))))))))))))
+        g16 = List._∷_ local0 (List._∷_ local27 (List._∷_ local2 (List._∷_ local3 (List._∷_ local44 (List._∷_ local5 locals15)))))
 
         abbrev g19 : List.List Row.Entry
-        g19 = List._∷_ (0, Rows.any-gone (Syntax.tyStruct (List._∷_ 112 (List._∷_ 121 (List._∷_ 114 (List._∷_ 97 (List._∷_ 109 (List._∷_ 105 (List._∷_ 100 (List._∷_ 58 (List._∷_ 58 (List._∷_ 79 (List._∷_ 117 (List._∷_ 116 (List._∷_ 99 (List._∷_ 111 (List._∷_ 109 (List._∷_ 101 List.[])))))))))))))))) (Syntax.tcons (Syntax.tyStruct (List._∷_ 112 (List._∷_ 121 (List._∷_ 114 (List._∷_ 97 (List._∷_ 109 (List._∷_ 105 (List._∷_ 100 (List._∷_ 58 (List._∷_ 58 (List._∷_ 83 (List._∷_ 116 (List._∷_ 97 (List._∷_ 116 (List._∷_ 101 List.[])))))))))))))) (Syntax.tcons (Syntax.tyInt Syntax.w32) (Syntax.tcons (Syntax.tyInt Syntax.w32) (Syntax.tcons (Syntax.tyInt Syntax.w32) (Syntax.tcons (Syntax.tyInt Syntax.w32) (Syntax.tcons (Syntax.tyInt Syntax.w32) (Syntax.tcons (Syntax.tyArray (Syntax.tyInt Syntax.w32) 64) Syntax.tnil))))))) (Syntax.tcons (Syntax.tyEnum (List._∷_ 100 (List._∷_ 97 (List._∷_ 114 (List._∷_ 116 (List._∷_ 115 (List._∷_ 58 (List._∷_ 58 (List._∷_ 65 (List._∷_ 110 (List._∷_ 115 (List._∷_ 119 (List._∷_ 101 (List._∷_ 114 List.[]))))))))))))) (Syntax.ttcons (Syntax.tcons (Syntax.tyInt Syntax.w64) Syntax.tnil) (Syntax.ttcons Syntax.tnil (Syntax.ttcons (Syntax.tcons (Syntax.tyInt Syntax.w64) Syntax.tnil) (Syntax.ttcons (Syntax.tcons (Syntax.tyInt Syntax.w64) (Syntax.tcons (Syntax.tyInt Syntax.w64) Syntax.tnil)) (Syntax.ttcons Syntax.tnil (Syntax.ttcons Syntax.tnil (Syntax.ttcons Syntax.tnil (Syntax.ttcons (Syntax.tcons (Syntax.tyInt Syntax.w64) Syntax.tnil) (Syntax.ttcons (Syntax.tcons (Syntax.tyInt Syntax.w64) Syntax.tnil) (Syntax.ttcons (Syntax.tcons (Syntax.tyInt Syntax.w64) Syntax.tnil) (Syntax.ttcons (Syntax.tcons (Syntax.tyInt Syntax.w64) Syntax.tnil) (Syntax.ttcons (Syntax.tcons (Syntax.tyInt Syntax.w64) Syntax.tnil) (Syntax.ttcons (Syntax.tcons (Syntax.tyInt Syntax.w64) Syntax.tnil) (Syntax.ttcons (Syntax.tcons (Syntax.tyInt Syntax.w64) Syntax.tnil) (Syntax.ttcons Syntax.tnil (Syntax.ttcons Syntax.tnil (Syntax.ttcons (Syntax.tcons (Syntax.tyInt Syntax.w64) Syntax.tnil) Syntax.ttnil)))))))))))))))))) Syntax.tnil)))) (List._∷_ (1, Rows.any-gone (Syntax.tyStruct (List._∷_ 122 (List._∷_ 111 (List._∷_ 110 (List._∷_ 101 (List._∷_ 115 (List._∷_ 58 (List._∷_ 58 (List._∷_ 104 (List._∷_ 101 (List._∷_ 108 (List._∷_ 100 (List._∷_ 58 (List._∷_ 58 (List._∷_ 72 (List._∷_ 101 (List._∷_ 108 (List._∷_ 100 List.[]))))))))))))))))) (Syntax.tcons (Syntax.tyStruct (List._∷_ 112 (List._∷_ 121 (List._∷_ 114 (List._∷_ 97 (List._∷_ 109 (List._∷_ 105 (List._∷_ 100 (List._∷_ 58 (List._∷_ 58 (List._∷_ 83 (List._∷_ 116 (List._∷_ 97 (List._∷_ 116 (List._∷_ 101 List.[])))))))))))))) (Syntax.tcons (Syntax.tyInt Syntax.w32) (Syntax.tcons (Syntax.tyInt Syntax.w32) (Syntax.tcons (Syntax.tyInt Syntax.w32) (Syntax.tcons (Syntax.tyInt Syntax.w32) (Syntax.tcons (Syntax.tyInt Syntax.w32) (Syntax.tcons (Syntax.tyArray (Syntax.tyInt Syntax.w32) 64) Syntax.tnil))))))) (Syntax.tcons (Syntax.tyInt Syntax.w64) (Syntax.tcons (Syntax.tyInt Syntax.w64) (Syntax.tcons (Syntax.tyInt Syntax.w64) (Syntax.tcons (Syntax.tyInt Syntax.w64) (Syntax.tcons (Syntax.tyInt Syntax.w64) (Syntax.tcons (Syntax.tyInt Syntax.w64) (Syntax.tcons Syntax.tyBool Syntax.tnil)))))))))) (List._∷_ (2, Rows.whole (Declared.row Line.the-type)) (List._∷_ (3, Rows.sslice (Referent.rtF (Referent.fInt Syntax.w32)) (Syntax.tyRef (Syntax.named 0) Syntax.imm (Syntax.tyInt Syntax.w32)) 0) (List._∷_ (4, Part.mslice-owedP (Referent.rtF (Referent.fInt Syntax.w32)) (Syntax.tyRef (Syntax.named 1) Syntax.mut (Syntax.tyInt Syntax.w32)) 1 6 (Row.lease (κs .1 .0) (qs .1 .0))) (List._∷_ (5, Part.mslice-owedP (Referent.rtF (Referent.fInt Syntax.w32)) (Syntax.tyRef (Syntax.named 2) Syntax.mut (Syntax.tyInt Syntax.w32)) 2 7 (Row.lease (κs .1 .1 .0) (qs .1 .1 .0))) (List._∷_ (6, Mut.mslice (Referent.rtF (Referent.fInt Syntax.w32)) (Syntax.tyRef (Syntax.named 3) Syntax.mut (Syntax.tyInt Syntax.w32)) 3) (List._∷_ (7, Mut.mslice Cell.R (Syntax.tyRef (Syntax.named 4) Syntax.mut Cell.behind) 4) (List._∷_ (8, Mut.mslice Cell.R (Syntax.tyRef (Syntax.named 5) Syntax.mut Cell.behind) 5) (List._∷_ (9, Rows.whole (Declared.row State.the-type)) (List._∷_ (10, Rows.sc-here (Row.sInt Syntax.w64)) (List._∷_ (11, Rows.sc-here (Row.sInt Syntax.w64)) (List._∷_ (12, Rows.sc-here (Row.sInt Syntax.w64)) (List._∷_ (13, Rows.sc-here (Row.sInt Syntax.w64)) (List._∷_ (14, Rows.sc-here (Row.sInt Syntax.w64)) (List._∷_ (15, Rows.sc-here (Row.sInt Syntax.w64)) List.[])))))))))))))))
+        g19 = List._∷_ local0 (List._∷_ local27 (List._∷_ local2 (List._∷_ local3 (List._∷_ local44 (List._∷_ local45 locals15)))))
 
         abbrev g22 : List.List Row.Entry
-        g22 = List._∷_ (0, Rows.any-gone (Syntax.tyStruct (List._∷_ 112 (List._∷_ 121 (List._∷_ 114 (List._∷_ 97 (List._∷_ 109 (List._∷_ 105 (List._∷_ 100 (List._∷_ 58 (List._∷_ 58 (List._∷_ 79 (List._∷_ 117 (List._∷_ 116 (List._∷_ 99 (List._∷_ 111 (List._∷_ 109 (List._∷_ 101 List.[])))))))))))))))) (Syntax.tcons (Syntax.tyStruct (List._∷_ 112 (List._∷_ 121 (List._∷_ 114 (List._∷_ 97 (List._∷_ 109 (List._∷_ 105 (List._∷_ 100 (List._∷_ 58 (List._∷_ 58 (List._∷_ 83 (List._∷_ 116 (List._∷_ 97 (List._∷_ 116 (List._∷_ 101 List.[])))))))))))))) (Syntax.tcons (Syntax.tyInt Syntax.w32) (Syntax.tcons (Syntax.tyInt Syntax.w32) (Syntax.tcons (Syntax.tyInt Syntax.w32) (Syntax.tcons (Syntax.tyInt Syntax.w32) (Syntax.tcons (Syntax.tyInt Syntax.w32) (Syntax.tcons (Syntax.tyArray (Syntax.tyInt Syntax.w32) 64) Syntax.tnil))))))) (Syntax.tcons (Syntax.tyEnum (List._∷_ 100 (List._∷_ 97 (List._∷_ 114 (List._∷_ 116 (List._∷_ 115 (List._∷_ 58 (List._∷_ 58 (List._∷_ 65 (List._∷_ 110 (List._∷_ 115 (List._∷_ 119 (List._∷_ 101 (List._∷_ 114 List.[]))))))))))))) (Syntax.ttcons (Syntax.tcons (Syntax.tyInt Syntax.w64) Syntax.tnil) (Syntax.ttcons Syntax.tnil (Syntax.ttcons (Syntax.tcons (Syntax.tyInt Syntax.w64) Syntax.tnil) (Syntax.ttcons (Syntax.tcons (Syntax.tyInt Syntax.w64) (Syntax.tcons (Syntax.tyInt Syntax.w64) Syntax.tnil)) (Syntax.ttcons Syntax.tnil (Syntax.ttcons Syntax.tnil (Syntax.ttcons Syntax.tnil (Syntax.ttcons (Syntax.tcons (Syntax.tyInt Syntax.w64) Syntax.tnil) (Syntax.ttcons (Syntax.tcons (Syntax.tyInt Syntax.w64) Syntax.tnil) (Syntax.ttcons (Syntax.tcons (Syntax.tyInt Syntax.w64) Syntax.tnil) (Syntax.ttcons (Syntax.tcons (Syntax.tyInt Syntax.w64) Syntax.tnil) (Syntax.ttcons (Syntax.tcons (Syntax.tyInt Syntax.w64) Syntax.tnil) (Syntax.ttcons (Syntax.tcons (Syntax.tyInt Syntax.w64) Syntax.tnil) (Syntax.ttcons (Syntax.tcons (Syntax.tyInt Syntax.w64) Syntax.tnil) (Syntax.ttcons Syntax.tnil (Syntax.ttcons Syntax.tnil (Syntax.ttcons (Syntax.tcons (Syntax.tyInt Syntax.w64) Syntax.tnil) Syntax.ttnil)))))))))))))))))) Syntax.tnil)))) (List._∷_ (1, Rows.any-gone (Syntax.tyStruct (List._∷_ 122 (List._∷_ 111 (List._∷_ 110 (List._∷_ 101 (List._∷_ 115 (List._∷_ 58 (List._∷_ 58 (List._∷_ 104 (List._∷_ 101 (List._∷_ 108 (List._∷_ 100 (List._∷_ 58 (List._∷_ 58 (List._∷_ 72 (List._∷_ 101 (List._∷_ 108 (List._∷_ 100 List.[]))))))))))))))))) (Syntax.tcons (Syntax.tyStruct (List._∷_ 112 (List._∷_ 121 (List._∷_ 114 (List._∷_ 97 (List._∷_ 109 (List._∷_ 105 (List._∷_ 100 (List._∷_ 58 (List._∷_ 58 (List._∷_ 83 (List._∷_ 116 (List._∷_ 97 (List._∷_ 116 (List._∷_ 101 List.[])))))))))))))) (Syntax.tcons (Syntax.tyInt Syntax.w32) (Syntax.tcons (Syntax.tyInt Syntax.w32) (Syntax.tcons (Syntax.tyInt Syntax.w32) (Syntax.tcons (Syntax.tyInt Syntax.w32) (Syntax.tcons (Syntax.tyInt Syntax.w32) (Syntax.tcons (Syntax.tyArray (Syntax.tyInt Syntax.w32) 64) Syntax.tnil))))))) (Syntax.tcons (Syntax.tyInt Syntax.w64) (Syntax.tcons (Syntax.tyInt Syntax.w64) (Syntax.tcons (Syntax.tyInt Syntax.w64) (Syntax.tcons (Syntax.tyInt Syntax.w64) (Syntax.tcons (Syntax.tyInt Syntax.w64) (Syntax.tcons (Syntax.tyInt Syntax.w64) (Syntax.tcons Syntax.tyBool Syntax.tnil)))))))))) (List._∷_ (2, Rows.whole (Declared.row Line.the-type)) (List._∷_ (3, Rows.sslice (Referent.rtF (Referent.fInt Syntax.w32)) (Syntax.tyRef (Syntax.named 0) Syntax.imm (Syntax.tyInt Syntax.w32)) 0) (List._∷_ (4, Part.mslice-owedP (Referent.rtF (Referent.fInt Syntax.w32)) (Syntax.tyRef (Syntax.named 1) Syntax.mut (Syntax.tyInt Syntax.w32)) 1 6 (Row.lease (κs .1 .0) (qs .1 .0))) (List._∷_ (5, Part.mslice-owedP (Referent.rtF (Referent.fInt Syntax.w32)) (Syntax.tyRef (Syntax.named 2) Syntax.mut (Syntax.tyInt Syntax.w32)) 2 7 (Row.lease (κs .1 .1 .0) (qs .1 .1 .0))) (List._∷_ (6, Part.mslice-owedP (Referent.rtF (Referent.fInt Syntax.w32)) (Syntax.tyRef (Syntax.named 3) Syntax.mut (Syntax.tyInt Syntax.w32)) 3 8 (Row.lease (κs .1 .1 .1 .0) (qs .1 .1 .1 .0))) (List._∷_ (7, Mut.mslice Cell.R (Syntax.tyRef (Syntax.named 4) Syntax.mut Cell.behind) 4) (List._∷_ (8, Mut.mslice Cell.R (Syntax.tyRef (Syntax.named 5) Syntax.mut Cell.behind) 5) (List._∷_ (9, Rows.whole (Declared.row State.the-type)) (List._∷_ (10, Rows.sc-here (Row.sInt Syntax.w64)) (List._∷_ (11, Rows.sc-here (Row.sInt Syntax.w64)) (List._∷_ (12, Rows.sc-here (Row.sInt Syntax.w64)) (List._∷_ (13, Rows.sc-here (Row.sInt Syntax.w64)) (List._∷_ (14, Rows.sc-here (Row.sInt Syntax.w64)) (List._∷_ (15, Rows.sc-here (Row.sInt Syntax.w64)) List.[])))))))))))))))
+        g22 = List._∷_ local0 (List._∷_ local27 (List._∷_ local2 (List._∷_ local3 (List._∷_ local44 (List._∷_ local45 (List._∷_ local46 (List._∷_ local7 locals14)))))))
 
         abbrev g25 : List.List Row.Entry
-        g25 = List._∷_ (0, Rows.any-gone (Syntax.tyStruct (List._∷_ 112 (List._∷_ 121 (List._∷_ 114 (List._∷_ 97 (List._∷_ 109 (List._∷_ 105 (List._∷_ 100 (List._∷_ 58 (List._∷_ 58 (List._∷_ 79 (List._∷_ 117 (List._∷_ 116 (List._∷_ 99 (List._∷_ 111 (List._∷_ 109 (List._∷_ 101 List.[])))))))))))))))) (Syntax.tcons (Syntax.tyStruct (List._∷_ 112 (List._∷_ 121 (List._∷_ 114 (List._∷_ 97 (List._∷_ 109 (List._∷_ 105 (List._∷_ 100 (List._∷_ 58 (List._∷_ 58 (List._∷_ 83 (List._∷_ 116 (List._∷_ 97 (List._∷_ 116 (List._∷_ 101 List.[])))))))))))))) (Syntax.tcons (Syntax.tyInt Syntax.w32) (Syntax.tcons (Syntax.tyInt Syntax.w32) (Syntax.tcons (Syntax.tyInt Syntax.w32) (Syntax.tcons (Syntax.tyInt Syntax.w32) (Syntax.tcons (Syntax.tyInt Syntax.w32) (Syntax.tcons (Syntax.tyArray (Syntax.tyInt Syntax.w32) 64) Syntax.tnil))))))) (Syntax.tcons (Syntax.tyEnum (List._∷_ 100 (List._∷_ 97 (List._∷_ 114 (List._∷_ 116 (List._∷_ 115 (List._∷_ 58 (List._∷_ 58 (List._∷_ 65 (List._∷_ 110 (List._∷_ 115 (List._∷_ 119 (List._∷_ 101 (List._∷_ 114 List.[]))))))))))))) (Syntax.ttcons (Syntax.tcons (Syntax.tyInt Syntax.w64) Syntax.tnil) (Syntax.ttcons Syntax.tnil (Syntax.ttcons (Syntax.tcons (Syntax.tyInt Syntax.w64) Syntax.tnil) (Syntax.ttcons (Syntax.tcons (Syntax.tyInt Syntax.w64) (Syntax.tcons (Syntax.tyInt Syntax.w64) Syntax.tnil)) (Syntax.ttcons Syntax.tnil (Syntax.ttcons Syntax.tnil (Syntax.ttcons Syntax.tnil (Syntax.ttcons (Syntax.tcons (Syntax.tyInt Syntax.w64) Syntax.tnil) (Syntax.ttcons (Syntax.tcons (Syntax.tyInt Syntax.w64) Syntax.tnil) (Syntax.ttcons (Syntax.tcons (Syntax.tyInt Syntax.w64) Syntax.tnil) (Syntax.ttcons (Syntax.tcons (Syntax.tyInt Syntax.w64) Syntax.tnil) (Syntax.ttcons (Syntax.tcons (Syntax.tyInt Syntax.w64) Syntax.tnil) (Syntax.ttcons (Syntax.tcons (Syntax.tyInt Syntax.w64) Syntax.tnil) (Syntax.ttcons (Syntax.tcons (Syntax.tyInt Syntax.w64) Syntax.tnil) (Syntax.ttcons Syntax.tnil (Syntax.ttcons Syntax.tnil (Syntax.ttcons (Syntax.tcons (Syntax.tyInt Syntax.w64) Syntax.tnil) Syntax.ttnil)))))))))))))))))) Syntax.tnil)))) (List._∷_ (1, Rows.any-gone (Syntax.tyStruct (List._∷_ 122 (List._∷_ 111 (List._∷_ 110 (List._∷_ 101 (List._∷_ 115 (List._∷_ 58 (List._∷_ 58 (List._∷_ 104 (List._∷_ 101 (List._∷_ 108 (List._∷_ 100 (List._∷_ 58 (List._∷_ 58 (List._∷_ 72 (List._∷_ 101 (List._∷_ 108 (List._∷_ 100 List.[]))))))))))))))))) (Syntax.tcons (Syntax.tyStruct (List._∷_ 112 (List._∷_ 121 (List._∷_ 114 (List._∷_ 97 (List._∷_ 109 (List._∷_ 105 (List._∷_ 100 (List._∷_ 58 (List._∷_ 58 (List._∷_ 83 (List._∷_ 116 (List._∷_ 97 (List._∷_ 116 (List._∷_ 101 List.[])))))))))))))) (Syntax.tcons (Syntax.tyInt Syntax.w32) (Syntax.tcons (Syntax.tyInt Syntax.w32) (Syntax.tcons (Syntax.tyInt Syntax.w32) (Syntax.tcons (Syntax.tyInt Syntax.w32) (Syntax.tcons (Syntax.tyInt Syntax.w32) (Syntax.tcons (Syntax.tyArray (Syntax.tyInt Syntax.w32) 64) Syntax.tnil))))))) (Syntax.tcons (Syntax.tyInt Syntax.w64) (Syntax.tcons (Syntax.tyInt Syntax.w64) (Syntax.tcons (Syntax.tyInt Syntax.w64) (Syntax.tcons (Syntax.tyInt Syntax.w64) (Syntax.tcons (Syntax.tyInt Syntax.w64) (Syntax.tcons (Syntax.tyInt Syntax.w64) (Syntax.tcons Syntax.tyBool Syntax.tnil)))))))))) (List._∷_ (2, Rows.whole (Declared.row Line.the-type)) (List._∷_ (3, Rows.sslice (Referent.rtF (Referent.fInt Syntax.w32)) (Syntax.tyRef (Syntax.named 0) Syntax.imm (Syntax.tyInt Syntax.w32)) 0) (List._∷_ (4, Part.mslice-owedP (Referent.rtF (Referent.fInt Syntax.w32)) (Syntax.tyRef (Syntax.named 1) Syntax.mut (Syntax.tyInt Syntax.w32)) 1 6 (Row.lease (κs .1 .0) (qs .1 .0))) (List._∷_ (5, Part.mslice-owedP (Referent.rtF (Referent.fInt Syntax.w32)) (Syntax.tyRef (Syntax.named 2) Syntax.mut (Syntax.tyInt Syntax.w32)) 2 7 (Row.lease (κs .1 .1 .0) (qs .1 .1 .0))) (List._∷_ (6, Part.mslice-owedP (Referent.rtF (Referent.fInt Syntax.w32)) (Syntax.tyRef (Syntax.named 3) Syntax.mut (Syntax.tyInt Syntax.w32)) 3 8 (Row.lease (κs .1 .1 .1 .0) (qs .1 .1 .1 .0))) (List._∷_ (7, Part.mslice-owedP Cell.R (Syntax.tyRef (Syntax.named 4) Syntax.mut Cell.behind) 4 9 (Row.lease (κs .1 .1 .1 .1 .0) (qs .1 .1 .1 .1 .0))) (List._∷_ (8, Mut.mslice Cell.R (Syntax.tyRef (Syntax.named 5) Syntax.mut Cell.behind) 5) (List._∷_ (9, Rows.whole (Declared.row State.the-type)) (List._∷_ (10, Rows.sc-here (Row.sInt Syntax.w64)) (List._∷_ (11, Rows.sc-here (Row.sInt Syntax.w64)) (List._∷_ (12, Rows.sc-here (Row.sInt Syntax.w64)) (List._∷_ (13, Rows.sc-here (Row.sInt Syntax.w64)) (List._∷_ (14, Rows.sc-here (Row.sInt Syntax.w64)) (List._∷_ (15, Rows.sc-here (Row.sInt Syntax.w64)) List.[])))))))))))))))
+        g25 = List._∷_ local0 (List._∷_ local27 (List._∷_ local2 (List._∷_ local3 (List._∷_ local44 (List._∷_ local45 (List._∷_ local46 (List._∷_ local47 locals14)))))))
 
         abbrev g28 : List.List Row.Entry
-        g28 = List._∷_ (0, Rows.any-gone (Syntax.tyStruct (List._∷_ 112 (List._∷_ 121 (List._∷_ 114 (List._∷_ 97 (List._∷_ 109 (List._∷_ 105 (List._∷_ 100 (List._∷_ 58 (List._∷_ 58 (List._∷_ 79 (List._∷_ 117 (List._∷_ 116 (List._∷_ 99 (List._∷_ 111 (List._∷_ 109 (List._∷_ 101 List.[])))))))))))))))) (Syntax.tcons (Syntax.tyStruct (List._∷_ 112 (List._∷_ 121 (List._∷_ 114 (List._∷_ 97 (List._∷_ 109 (List._∷_ 105 (List._∷_ 100 (List._∷_ 58 (List._∷_ 58 (List._∷_ 83 (List._∷_ 116 (List._∷_ 97 (List._∷_ 116 (List._∷_ 101 List.[])))))))))))))) (Syntax.tcons (Syntax.tyInt Syntax.w32) (Syntax.tcons (Syntax.tyInt Syntax.w32) (Syntax.tcons (Syntax.tyInt Syntax.w32) (Syntax.tcons (Syntax.tyInt Syntax.w32) (Syntax.tcons (Syntax.tyInt Syntax.w32) (Syntax.tcons (Syntax.tyArray (Syntax.tyInt Syntax.w32) 64) Syntax.tnil))))))) (Syntax.tcons (Syntax.tyEnum (List._∷_ 100 (List._∷_ 97 (List._∷_ 114 (List._∷_ 116 (List._∷_ 115 (List._∷_ 58 (List._∷_ 58 (List._∷_ 65 (List._∷_ 110 (List._∷_ 115 (List._∷_ 119 (List._∷_ 101 (List._∷_ 114 List.[]))))))))))))) (Syntax.ttcons (Syntax.tcons (Syntax.tyInt Syntax.w64) Syntax.tnil) (Syntax.ttcons Syntax.tnil (Syntax.ttcons (Syntax.tcons (Syntax.tyInt Syntax.w64) Syntax.tnil) (Syntax.ttcons (Syntax.tcons (Syntax.tyInt Syntax.w64) (Syntax.tcons (Syntax.tyInt Syntax.w64) Syntax.tnil)) (Syntax.ttcons Syntax.tnil (Syntax.ttcons Syntax.tnil (Syntax.ttcons Syntax.tnil (Syntax.ttcons (Syntax.tcons (Syntax.tyInt Syntax.w64) Syntax.tnil) (Syntax.ttcons (Syntax.tcons (Syntax.tyInt Syntax.w64) Syntax.tnil) (Syntax.ttcons (Syntax.tcons (Syntax.tyInt Syntax.w64) Syntax.tnil) (Syntax.ttcons (Syntax.tcons (Syntax.tyInt Syntax.w64) Syntax.tnil) (Syntax.ttcons (Syntax.tcons (Syntax.tyInt Syntax.w64) Syntax.tnil) (Syntax.ttcons (Syntax.tcons (Syntax.tyInt Syntax.w64) Syntax.tnil) (Syntax.ttcons (Syntax.tcons (Syntax.tyInt Syntax.w64) Syntax.tnil) (Syntax.ttcons Syntax.tnil (Syntax.ttcons Syntax.tnil (Syntax.ttcons (Syntax.tcons (Syntax.tyInt Syntax.w64) Syntax.tnil) Syntax.ttnil)))))))))))))))))) Syntax.tnil)))) (List._∷_ (1, Rows.any-gone (Syntax.tyStruct (List._∷_ 122 (List._∷_ 111 (List._∷_ 110 (List._∷_ 101 (List._∷_ 115 (List._∷_ 58 (List._∷_ 58 (List._∷_ 104 (List._∷_ 101 (List._∷_ 108 (List._∷_ 100 (List._∷_ 58 (List._∷_ 58 (List._∷_ 72 (List._∷_ 101 (List._∷_ 108 (List._∷_ 100 List.[]))))))))))))))))) (Syntax.tcons (Syntax.tyStruct (List._∷_ 112 (List._∷_ 121 (List._∷_ 114 (List._∷_ 97 (List._∷_ 109 (List._∷_ 105 (List._∷_ 100 (List._∷_ 58 (List._∷_ 58 (List._∷_ 83 (List._∷_ 116 (List._∷_ 97 (List._∷_ 116 (List._∷_ 101 List.[])))))))))))))) (Syntax.tcons (Syntax.tyInt Syntax.w32) (Syntax.tcons (Syntax.tyInt Syntax.w32) (Syntax.tcons (Syntax.tyInt Syntax.w32) (Syntax.tcons (Syntax.tyInt Syntax.w32) (Syntax.tcons (Syntax.tyInt Syntax.w32) (Syntax.tcons (Syntax.tyArray (Syntax.tyInt Syntax.w32) 64) Syntax.tnil))))))) (Syntax.tcons (Syntax.tyInt Syntax.w64) (Syntax.tcons (Syntax.tyInt Syntax.w64) (Syntax.tcons (Syntax.tyInt Syntax.w64) (Syntax.tcons (Syntax.tyInt Syntax.w64) (Syntax.tcons (Syntax.tyInt Syntax.w64) (Syntax.tcons (Syntax.tyInt Syntax.w64) (Syntax.tcons Syntax.tyBool Syntax.tnil)))))))))) (List._∷_ (2, Rows.whole (Declared.row Line.the-type)) (List._∷_ (3, Rows.sslice (Referent.rtF (Referent.fInt Syntax.w32)) (Syntax.tyRef (Syntax.named 0) Syntax.imm (Syntax.tyInt Syntax.w32)) 0) (List._∷_ (4, Part.mslice-owedP (Referent.rtF (Referent.fInt Syntax.w32)) (Syntax.tyRef (Syntax.named 1) Syntax.mut (Syntax.tyInt Syntax.w32)) 1 6 (Row.lease (κs .1 .0) (qs .1 .0))) (List._∷_ (5, Part.mslice-owedP (Referent.rtF (Referent.fInt Syntax.w32)) (Syntax.tyRef (Syntax.named 2) Syntax.mut (Syntax.tyInt Syntax.w32)) 2 7 (Row.lease (κs .1 .1 .0) (qs .1 .1 .0))) (List._∷_ (6, Part.mslice-owedP (Referent.rtF (Referent.fInt Syntax.w32)) (Syntax.tyRef (Syntax.named 3) Syntax.mut (Syntax.tyInt Syntax.w32)) 3 8 (Row.lease (κs .1 .1 .1 .0) (qs .1 .1 .1 .0))) (List._∷_ (7, Part.mslice-owedP Cell.R (Syntax.tyRef (Syntax.named 4) Syntax.mut Cell.behind) 4 9 (Row.lease (κs .1 .1 .1 .1 .0) (qs .1 .1 .1 .1 .0))) (List._∷_ (8, Part.mslice-owedP Cell.R (Syntax.tyRef (Syntax.named 5) Syntax.mut Cell.behind) 5 10 (Row.lease (κs .1 .1 .1 .1 .1 .0) (qs .1 .1 .1 .1 .1 .0))) (List._∷_ (9, Rows.whole (Declared.row State.the-type)) (List._∷_ (10, Rows.sc-here (Row.sInt Syntax.w64)) (List._∷_ (11, Rows.sc-here (Row.sInt Syntax.w64)) (List._∷_ (12, Rows.sc-here (Row.sInt Syntax.w64)) (List._∷_ (13, Rows.sc-here (Row.sInt Syntax.w64)) (List._∷_ (14, Rows.sc-here (Row.sInt Syntax.w64)) (List._∷_ (15, Rows.sc-here (Row.sInt Syntax.w64)) List.[])))))))))))))))
+        g28 = List._∷_ local0 (List._∷_ local27 (List._∷_ local2 locals27))
 
         abbrev g31 : List.List Row.Entry
-        g31 = List._∷_ (0, Rows.whole (Declared.row Outcome.the-type)) (List._∷_ (1, Rows.any-gone (Syntax.tyStruct (List._∷_ 122 (List._∷_ 111 (List._∷_ 110 (List._∷_ 101 (List._∷_ 115 (List._∷_ 58 (List._∷_ 58 (List._∷_ 104 (List._∷_ 101 (List._∷_ 108 (List._∷_ 100 (List._∷_ 58 (List._∷_ 58 (List._∷_ 72 (List._∷_ 101 (List._∷_ 108 (List._∷_ 100 List.[]))))))))))))))))) (Syntax.tcons (Syntax.tyStruct (List._∷_ 112 (List._∷_ 121 (List._∷_ 114 (List._∷_ 97 (List._∷_ 109 (List._∷_ 105 (List._∷_ 100 (List._∷_ 58 (List._∷_ 58 (List._∷_ 83 (List._∷_ 116 (List._∷_ 97 (List._∷_ 116 (List._∷_ 101 List.[])))))))))))))) (Syntax.tcons (Syntax.tyInt Syntax.w32) (Syntax.tcons (Syntax.tyInt Syntax.w32) (Syntax.tcons (Syntax.tyInt Syntax.w32) (Syntax.tcons (Syntax.tyInt Syntax.w32) (Syntax.tcons (Syntax.tyInt Syntax.w32) (Syntax.tcons (Syntax.tyArray (Syntax.tyInt Syntax.w32) 64) Syntax.tnil))))))) (Syntax.tcons (Syntax.tyInt Syntax.w64) (Syntax.tcons (Syntax.tyInt Syntax.w64) (Syntax.tcons (Syntax.tyInt Syntax.w64) (Syntax.tcons (Syntax.tyInt Syntax.w64) (Syntax.tcons (Syntax.tyInt Syntax.w64) (Syntax.tcons (Syntax.tyInt Syntax.w64) (Syntax.tcons Syntax.tyBool Syntax.tnil)))))))))) (List._∷_ (2, Rows.whole (Declared.row Line.the-type)) (List._∷_ (3, Rows.sslice (Referent.rtF (Referent.fInt Syntax.w32)) (Syntax.tyRef (Syntax.named 0) Syntax.imm (Syntax.tyInt Syntax.w32)) 0) (List._∷_ (4, Part.mslice-owedP (Referent.rtF (Referent.fInt Syntax.w32)) (Syntax.tyRef (Syntax.named 1) Syntax.mut (Syntax.tyInt Syntax.w32)) 1 6 (Row.lease (κs .1 .0) (qs .1 .0))) (List._∷_ (5, Part.mslice-owedP (Referent.rtF (Referent.fInt Syntax.w32)) (Syntax.tyRef (Syntax.named 2) Syntax.mut (Syntax.tyInt Syntax.w32)) 2 7 (Row.lease (κs .1 .1 .0) (qs .1 .1 .0))) (List._∷_ (6, Part.mslice-owedP (Referent.rtF (Referent.fInt Syntax.w32)) (Syntax.tyRef (Syntax.named 3) Syntax.mut (Syntax.tyInt Syntax.w32)) 3 8 (Row.lease (κs .1 .1 .1 .0) (qs .1 .1 .1 .0))) (List._∷_ (7, Part.mslice-owedP Cell.R (Syntax.tyRef (Syntax.named 4) Syntax.mut Cell.behind) 4 9 (Row.lease (κs .1 .1 .1 .1 .0) (qs .1 .1 .1 .1 .0))) (List._∷_ (8, Part.mslice-owedP Cell.R (Syntax.tyRef (Syntax.named 5) Syntax.mut Cell.behind) 5 10 (Row.lease (κs .1 .1 .1 .1 .1 .0) (qs .1 .1 .1 .1 .1 .0))) (List._∷_ (9, Rows.whole (Declared.row State.the-type)) (List._∷_ (10, Rows.sc-here (Row.sInt Syntax.w64)) (List._∷_ (11, Rows.sc-here (Row.sInt Syntax.w64)) (List._∷_ (12, Rows.sc-here (Row.sInt Syntax.w64)) (List._∷_ (13, Rows.sc-here (Row.sInt Syntax.w64)) (List._∷_ (14, Rows.sc-here (Row.sInt Syntax.w64)) (List._∷_ (15, Rows.sc-here (Row.sInt Syntax.w64)) List.[])))))))))))))))
+        g31 = List._∷_ local26 (List._∷_ local27 (List._∷_ local2 locals27))
 
         abbrev g34 : List.List Row.Entry
-        g34 = List._∷_ (0, Rows.whole (Declared.row Outcome.the-type)) (List._∷_ (1, Rows.any-gone (Syntax.tyStruct (List._∷_ 122 (List._∷_ 111 (List._∷_ 110 (List._∷_ 101 (List._∷_ 115 (List._∷_ 58 (List._∷_ 58 (List._∷_ 104 (List._∷_ 101 (List._∷_ 108 (List._∷_ 100 (List._∷_ 58 (List._∷_ 58 (List._∷_ 72 (List._∷_ 101 (List._∷_ 108 (List._∷_ 100 List.[]))))))))))))))))) (Syntax.tcons (Syntax.tyStruct (List._∷_ 112 (List._∷_ 121 (List._∷_ 114 (List._∷_ 97 (List._∷_ 109 (List._∷_ 105 (List._∷_ 100 (List._∷_ 58 (List._∷_ 58 (List._∷_ 83 (List._∷_ 116 (List._∷_ 97 (List._∷_ 116 (List._∷_ 101 List.[])))))))))))))) (Syntax.tcons (Syntax.tyInt Syntax.w32) (Syntax.tcons (Syntax.tyInt Syntax.w32) (Syntax.tcons (Syntax.tyInt Syntax.w32) (Syntax.tcons (Syntax.tyInt Syntax.w32) (Syntax.tcons (Syntax.tyInt Syntax.w32) (Syntax.tcons (Syntax.tyArray (Syntax.tyInt Syntax.w32) 64) Syntax.tnil))))))) (Syntax.tcons (Syntax.tyInt Syntax.w64) (Syntax.tcons (Syntax.tyInt Syntax.w64) (Syntax.tcons (Syntax.tyInt Syntax.w64) (Syntax.tcons (Syntax.tyInt Syntax.w64) (Syntax.tcons (Syntax.tyInt Syntax.w64) (Syntax.tcons (Syntax.tyInt Syntax.w64) (Syntax.tcons Syntax.tyBool Syntax.tnil)))))))))) (List._∷_ (2, Rows.any-gone (Syntax.tyStruct (List._∷_ 115 (List._∷_ 99 (List._∷_ 114 (List._∷_ 105 (List._∷_ 112 (List._∷_ 116 (List._∷_ 58 (List._∷_ 58 (List._∷_ 115 (List._∷_ 99 (List._∷_ 97 (List._∷_ 110 (List._∷_ 58 (List._∷_ 58 (List._∷_ 76 (List._∷_ 105 (List._∷_ 110 (List._∷_ 101 List.[])))))))))))))))))) (Syntax.tcons (Syntax.tyInt Syntax.w32) (Syntax.tcons (Syntax.tyInt Syntax.w64) (Syntax.tcons (Syntax.tyInt Syntax.w64) (Syntax.tcons (Syntax.tyInt Syntax.w64) (Syntax.tcons (Syntax.tyInt Syntax.w64) Syntax.tnil))))))) (List._∷_ (3, Rows.sslice (Referent.rtF (Referent.fInt Syntax.w32)) (Syntax.tyRef (Syntax.named 0) Syntax.imm (Syntax.tyInt Syntax.w32)) 0) (List._∷_ (4, Part.mslice-owedP (Referent.rtF (Referent.fInt Syntax.w32)) (Syntax.tyRef (Syntax.named 1) Syntax.mut (Syntax.tyInt Syntax.w32)) 1 6 (Row.lease (κs .1 .0) (qs .1 .0))) (List._∷_ (5, Part.mslice-owedP (Referent.rtF (Referent.fInt Syntax.w32)) (Syntax.tyRef (Syntax.named 2) Syntax.mut (Syntax.tyInt Syntax.w32)) 2 7 (Row.lease (κs .1 .1 .0) (qs .1 .1 .0))) (List._∷_ (6, Part.mslice-owedP (Referent.rtF (Referent.fInt Syntax.w32)) (Syntax.tyRef (Syntax.named 3) Syntax.mut (Syntax.tyInt Syntax.w32)) 3 8 (Row.lease (κs .1 .1 .1 .0) (qs .1 .1 .1 .0))) (List._∷_ (7, Part.mslice-owedP Cell.R (Syntax.tyRef (Syntax.named 4) Syntax.mut Cell.behind) 4 9 (Row.lease (κs .1 .1 .1 .1 .0) (qs .1 .1 .1 .1 .0))) (List._∷_ (8, Part.mslice-owedP Cell.R (Syntax.tyRef (Syntax.named 5) Syntax.mut Cell.behind) 5 10 (Row.lease (κs .1 .1 .1 .1 .1 .0) (qs .1 .1 .1 .1 .1 .0))) (List._∷_ (9, Rows.whole (Declared.row State.the-type)) (List._∷_ (10, Rows.sc-here (Row.sInt Syntax.w64)) (List._∷_ (11, Rows.sc-here (Row.sInt Syntax.w64)) (List._∷_ (12, Rows.sc-here (Row.sInt Syntax.w64)) (List._∷_ (13, Rows.sc-here (Row.sInt Syntax.w64)) (List._∷_ (14, Rows.sc-here (Row.sInt Syntax.w64)) (List._∷_ (15, Rows.sc-here (Row.sInt Syntax.w64)) List.[])))))))))))))))
+        g34 = List._∷_ local26 (List._∷_ local27 (List._∷_ local28 locals27))
 
         abbrev g35 : List.List Row.Entry
-        g35 = List._∷_ (0, Rows.whole (Declared.row Outcome.the-type)) (List._∷_ (1, Rows.any-gone (Syntax.tyStruct (List._∷_ 122 (List._∷_ 111 (List._∷_ 110 (List._∷_ 101 (List._∷_ 115 (List._∷_ 58 (List._∷_ 58 (List._∷_ 104 (List._∷_ 101 (List._∷_ 108 (List._∷_ 100 (List._∷_ 58 (List._∷_ 58 (List._∷_ 72 (List._∷_ 101 (List._∷_ 108 (List._∷_ 100 List.[]))))))))))))))))) (Syntax.tcons (Syntax.tyStruct (List._∷_ 112 (List._∷_ 121 (List._∷_ 114 (List._∷_ 97 (List._∷_ 109 (List._∷_ 105 (List._∷_ 100 (List._∷_ 58 (List._∷_ 58 (List._∷_ 83 (List._∷_ 116 (List._∷_ 97 (List._∷_ 116 (List._∷_ 101 List.[])))))))))))))) (Syntax.tcons (Syntax.tyInt Syntax.w32) (Syntax.tcons (Syntax.tyInt Syntax.w32) (Syntax.tcons (Syntax.tyInt Syntax.w32) (Syntax.tcons (Syntax.tyInt Syntax.w32) (Syntax.tcons (Syntax.tyInt Syntax.w32) (Syntax.tcons (Syntax.tyArray (Syntax.tyInt Syntax.w32) 64) Syntax.tnil))))))) (Syntax.tcons (Syntax.tyInt Syntax.w64) (Syntax.tcons (Syntax.tyInt Syntax.w64) (Syntax.tcons (Syntax.tyInt Syntax.w64) (Syntax.tcons (Syntax.tyInt Syntax.w64) (Syntax.tcons (Syntax.tyInt Syntax.w64) (Syntax.tcons (Syntax.tyInt Syntax.w64) (Syntax.tcons Syntax.tyBool Syntax.tnil)))))))))) (List._∷_ (2, Rows.any-gone (Syntax.tyStruct (List._∷_ 115 (List._∷_ 99 (List._∷_ 114 (List._∷_ 105 (List._∷_ 112 (List._∷_ 116 (List._∷_ 58 (List._∷_ 58 (List._∷_ 115 (List._∷_ 99 (List._∷_ 97 (List._∷_ 110 (List._∷_ 58 (List._∷_ 58 (List._∷_ 76 (List._∷_ 105 (List._∷_ 110 (List._∷_ 101 List.[])))))))))))))))))) (Syntax.tcons (Syntax.tyInt Syntax.w32) (Syntax.tcons (Syntax.tyInt Syntax.w64) (Syntax.tcons (Syntax.tyInt Syntax.w64) (Syntax.tcons (Syntax.tyInt Syntax.w64) (Syntax.tcons (Syntax.tyInt Syntax.w64) Syntax.tnil))))))) (List._∷_ (3, Rows.sslice (Referent.rtF (Referent.fInt Syntax.w32)) (Syntax.tyRef (Syntax.named 0) Syntax.imm (Syntax.tyInt Syntax.w32)) 0) (List._∷_ (4, Part.mslice-owedP (Referent.rtF (Referent.fInt Syntax.w32)) (Syntax.tyRef (Syntax.named 1) Syntax.mut (Syntax.tyInt Syntax.w32)) 1 6 (Row.lease (κs .1 .0) (qs .1 .0))) (List._∷_ (5, Part.mslice-owedP (Referent.rtF (Referent.fInt Syntax.w32)) (Syntax.tyRef (Syntax.named 2) Syntax.mut (Syntax.tyInt Syntax.w32)) 2 7 (Row.lease (κs .1 .1 .0) (qs .1 .1 .0))) (List._∷_ (6, Part.mslice-owedP (Referent.rtF (Referent.fInt Syntax.w32)) (Syntax.tyRef (Syntax.named 3) Syntax.mut (Syntax.tyInt Syntax.w32)) 3 8 (Row.lease (κs .1 .1 .1 .0) (qs .1 .1 .1 .0))) (List._∷_ (7, Part.mslice-owedP Cell.R (Syntax.tyRef (Syntax.named 4) Syntax.mut Cell.behind) 4 9 (Row.lease (κs .1 .1 .1 .1 .0) (qs .1 .1 .1 .1 .0))) (List._∷_ (8, Part.mslice-owedP Cell.R (Syntax.tyRef (Syntax.named 5) Syntax.mut Cell.behind) 5 10 (Row.lease (κs .1 .1 .1 .1 .1 .0) (qs .1 .1 .1 .1 .1 .0))) (List._∷_ (9, Rows.any-gone (Syntax.tyStruct (List._∷_ 112 (List._∷_ 121 (List._∷_ 114 (List._∷_ 97 (List._∷_ 109 (List._∷_ 105 (List._∷_ 100 (List._∷_ 58 (List._∷_ 58 (List._∷_ 83 (List._∷_ 116 (List._∷_ 97 (List._∷_ 116 (List._∷_ 101 List.[])))))))))))))) (Syntax.tcons (Syntax.tyInt Syntax.w32) (Syntax.tcons (Syntax.tyInt Syntax.w32) (Syntax.tcons (Syntax.tyInt Syntax.w32) (Syntax.tcons (Syntax.tyInt Syntax.w32) (Syntax.tcons (Syntax.tyInt Syntax.w32) (Syntax.tcons (Syntax.tyArray (Syntax.tyInt Syntax.w32) 64) Syntax.tnil)))))))) (List._∷_ (10, Rows.sc-here (Row.sInt Syntax.w64)) (List._∷_ (11, Rows.sc-here (Row.sInt Syntax.w64)) (List._∷_ (12, Rows.sc-here (Row.sInt Syntax.w64)) (List._∷_ (13, Rows.sc-here (Row.sInt Syntax.w64)) (List._∷_ (14, Rows.sc-here (Row.sInt Syntax.w64)) (List._∷_ (15, Rows.sc-here (Row.sInt Syntax.w64)) List.[])))))))))))))))
+        g35 = List._∷_ local26 (List._∷_ local27 (List._∷_ local28 (List._∷_ local3 (List._∷_ local44 (List._∷_ local45 (List._∷_ local46 (List._∷_ local47 (List._∷_ local48 (List._∷_ local9 (List._∷_ local30 locals12))))))))))
 
         abbrev g36 : List.List Row.Entry
-        g36 = List._∷_ (0, Rows.whole (Declared.row Outcome.the-type)) (List._∷_ (1, Rows.any-gone (Syntax.tyStruct (List._∷_ 122 (List._∷_ 111 (List._∷_ 110 (List._∷_ 101 (List._∷_ 115 (List._∷_ 58 (List._∷_ 58 (List._∷_ 104 (List._∷_ 101 (List._∷_ 108 (List._∷_ 100 (List._∷_ 58 (List._∷_ 58 (List._∷_ 72 (List._∷_ 101 (List._∷_ 108 (List._∷_ 100 List.[]))))))))))))))))) (Syntax.tcons (Syntax.tyStruct (List._∷_ 112 (List._∷_ 121 (List._∷_ 114 (List._∷_ 97 (List._∷_ 109 (List._∷_ 105 (List._∷_ 100 (List._∷_ 58 (List._∷_ 58 (List._∷_ 83 (List._∷_ 116 (List._∷_ 97 (List._∷_ 116 (List._∷_ 101 List.[])))))))))))))) (Syntax.tcons (Syntax.tyInt Syntax.w32) (Syntax.tcons (Syntax.tyInt Syntax.w32) (Syntax.tcons (Syntax.tyInt Syntax.w32) (Syntax.tcons (Syntax.tyInt Syntax.w32) (Syntax.tcons (Syntax.tyInt Syntax.w32) (Syntax.tcons (Syntax.tyArray (Syntax.tyInt Syntax.w32) 64) Syntax.tnil))))))) (Syntax.tcons (Syntax.tyInt Syntax.w64) (Syntax.tcons (Syntax.tyInt Syntax.w64) (Syntax.tcons (Syntax.tyInt Syntax.w64) (Syntax.tcons (Syntax.tyInt Syntax.w64) (Syntax.tcons (Syntax.tyInt Syntax.w64) (Syntax.tcons (Syntax.tyInt Syntax.w64) (Syntax.tcons Syntax.tyBool Syntax.tnil)))))))))) (List._∷_ (2, Rows.any-gone (Syntax.tyStruct (List._∷_ 115 (List._∷_ 99 (List._∷_ 114 (List._∷_ 105 (List._∷_ 112 (List._∷_ 116 (List._∷_ 58 (List._∷_ 58 (List._∷_ 115 (List._∷_ 99 (List._∷_ 97 (List._∷_ 110 (List._∷_ 58 (List._∷_ 58 (List._∷_ 76 (List._∷_ 105 (List._∷_ 110 (List._∷_ 101 List.[])))))))))))))))))) (Syntax.tcons (Syntax.tyInt Syntax.w32) (Syntax.tcons (Syntax.tyInt Syntax.w64) (Syntax.tcons (Syntax.tyInt Syntax.w64) (Syntax.tcons (Syntax.tyInt Syntax.w64) (Syntax.tcons (Syntax.tyInt Syntax.w64) Syntax.tnil))))))) (List._∷_ (3, Rows.sslice (Referent.rtF (Referent.fInt Syntax.w32)) (Syntax.tyRef (Syntax.named 0) Syntax.imm (Syntax.tyInt Syntax.w32)) 0) (List._∷_ (4, Part.mslice-owedP (Referent.rtF (Referent.fInt Syntax.w32)) (Syntax.tyRef (Syntax.named 1) Syntax.mut (Syntax.tyInt Syntax.w32)) 1 6 (Row.lease (κs .1 .0) (qs .1 .0))) (List._∷_ (5, Part.mslice-owedP (Referent.rtF (Referent.fInt Syntax.w32)) (Syntax.tyRef (Syntax.named 2) Syntax.mut (Syntax.tyInt Syntax.w32)) 2 7 (Row.lease (κs .1 .1 .0) (qs .1 .1 .0))) (List._∷_ (6, Part.mslice-owedP (Referent.rtF (Referent.fInt Syntax.w32)) (Syntax.tyRef (Syntax.named 3) Syntax.mut (Syntax.tyInt Syntax.w32)) 3 8 (Row.lease (κs .1 .1 .1 .0) (qs .1 .1 .1 .0))) (List._∷_ (7, Part.mslice-owedP Cell.R (Syntax.tyRef (Syntax.named 4) Syntax.mut Cell.behind) 4 9 (Row.lease (κs .1 .1 .1 .1 .0) (qs .1 .1 .1 .1 .0))) (List._∷_ (8, Part.mslice-owedP Cell.R (Syntax.tyRef (Syntax.named 5) Syntax.mut Cell.behind) 5 10 (Row.lease (κs .1 .1 .1 .1 .1 .0) (qs .1 .1 .1 .1 .1 .0))) (List._∷_ (9, Rows.any-gone (Syntax.tyStruct (List._∷_ 112 (List._∷_ 121 (List._∷_ 114 (List._∷_ 97 (List._∷_ 109 (List._∷_ 105 (List._∷_ 100 (List._∷_ 58 (List._∷_ 58 (List._∷_ 83 (List._∷_ 116 (List._∷_ 97 (List._∷_ 116 (List._∷_ 101 List.[])))))))))))))) (Syntax.tcons (Syntax.tyInt Syntax.w32) (Syntax.tcons (Syntax.tyInt Syntax.w32) (Syntax.tcons (Syntax.tyInt Syntax.w32) (Syntax.tcons (Syntax.tyInt Syntax.w32) (Syntax.tcons (Syntax.tyInt Syntax.w32) (Syntax.tcons (Syntax.tyArray (Syntax.tyInt Syntax.w32) 64) Syntax.tnil)))))))) (List._∷_ (10, Rows.any-gone (Syntax.tyInt Syntax.w64)) (List._∷_ (11, Rows.sc-here (Row.sInt Syntax.w64)) (List._∷_ (12, Rows.sc-here (Row.sInt Syntax.w64)) (List._∷_ (13, Rows.sc-here (Row.sInt Syntax.w64)) (List._∷_ (14, Rows.sc-here (Row.sInt Syntax.w64)) (List._∷_ (15, Rows.sc-here (Row.sInt Syntax.w64)) List.[])))))))))))))))
+        g36 = List._∷_ local26 (List._∷_ local27 (List._∷_ local28 (List._∷_ local3 (List._∷_ local44 (List._∷_ local45 (List._∷_ local46 (List._∷_ local47 (List._∷_ local48 (List._∷_ local9 (List._∷_ local10 locals12))))))))))
 
         abbrev g37 : List.List Row.Entry
-        g37 = List._∷_ (0, Rows.whole (Declared.row Outcome.the-type)) (List._∷_ (1, Rows.any-gone (Syntax.tyStruct (List._∷_ 122 (List._∷_ 111 (List._∷_ 110 (List._∷_ 101 (List._∷_ 115 (List._∷_ 58 (List._∷_ 58 (List._∷_ 104 (List._∷_ 101 (List._∷_ 108 (List._∷_ 100 (List._∷_ 58 (List._∷_ 58 (List._∷_ 72 (List._∷_ 101 (List._∷_ 108 (List._∷_ 100 List.[]))))))))))))))))) (Syntax.tcons (Syntax.tyStruct (List._∷_ 112 (List._∷_ 121 (List._∷_ 114 (List._∷_ 97 (List._∷_ 109 (List._∷_ 105 (List._∷_ 100 (List._∷_ 58 (List._∷_ 58 (List._∷_ 83 (List._∷_ 116 (List._∷_ 97 (List._∷_ 116 (List._∷_ 101 List.[])))))))))))))) (Syntax.tcons (Syntax.tyInt Syntax.w32) (Syntax.tcons (Syntax.tyInt Syntax.w32) (Syntax.tcons (Syntax.tyInt Syntax.w32) (Syntax.tcons (Syntax.tyInt Syntax.w32) (Syntax.tcons (Syntax.tyInt Syntax.w32) (Syntax.tcons (Syntax.tyArray (Syntax.tyInt Syntax.w32) 64) Syntax.tnil))))))) (Syntax.tcons (Syntax.tyInt Syntax.w64) (Syntax.tcons (Syntax.tyInt Syntax.w64) (Syntax.tcons (Syntax.tyInt Syntax.w64) (Syntax.tcons (Syntax.tyInt Syntax.w64) (Syntax.tcons (Syntax.tyInt Syntax.w64) (Syntax.tcons (Syntax.tyInt Syntax.w64) (Syntax.tcons Syntax.tyBool Syntax.tnil)))))))))) (List._∷_ (2, Rows.any-gone (Syntax.tyStruct (List._∷_ 115 (List._∷_ 99 (List._∷_ 114 (List._∷_ 105 (List._∷_ 112 (List._∷_ 116 (List._∷_ 58 (List._∷_ 58 (List._∷_ 115 (List._∷_ 99 (List._∷_ 97 (List._∷_ 110 (List._∷_ 58 (List._∷_ 58 (List._∷_ 76 (List._∷_ 105 (List._∷_ 110 (List._∷_ 101 List.[])))))))))))))))))) (Syntax.tcons (Syntax.tyInt Syntax.w32) (Syntax.tcons (Syntax.tyInt Syntax.w64) (Syntax.tcons (Syntax.tyInt Syntax.w64) (Syntax.tcons (Syntax.tyInt Syntax.w64) (Syntax.tcons (Syntax.tyInt Syntax.w64) Syntax.tnil))))))) (List._∷_ (3, Rows.sslice (Referent.rtF (Referent.fInt Syntax.w32)) (Syntax.tyRef (Syntax.named 0) Syntax.imm (Syntax.tyInt Syntax.w32)) 0) (List._∷_ (4, Part.mslice-owedP (Referent.rtF (Referent.fInt Syntax.w32)) (Syntax.tyRef (Syntax.named 1) Syntax.mut (Syntax.tyInt Syntax.w32)) 1 6 (Row.lease (κs .1 .0) (qs .1 .0))) (List._∷_ (5, Part.mslice-owedP (Referent.rtF (Referent.fInt Syntax.w32)) (Syntax.tyRef (Syntax.named 2) Syntax.mut (Syntax.tyInt Syntax.w32)) 2 7 (Row.lease (κs .1 .1 .0) (qs .1 .1 .0))) (List._∷_ (6, Part.mslice-owedP (Referent.rtF (Referent.fInt Syntax.w32)) (Syntax.tyRef (Syntax.named 3) Syntax.mut (Syntax.tyInt Syntax.w32)) 3 8 (Row.lease (κs .1 .1 .1 .0) (qs .1 .1 .1 .0))) (List._∷_ (7, Part.mslice-owedP Cell.R (Syntax.tyRef (Syntax.named 4) Syntax.mut Cell.behind) 4 9 (Row.lease (κs .1 .1 .1 .1 .0) (qs .1 .1 .1 .1 .0))) (List._∷_ (8, Part.mslice-owedP Cell.R (Syntax.tyRef (Syntax.named 5) Syntax.mut Cell.behind) 5 10 (Row.lease (κs .1 .1 .1 .1 .1 .0) (qs .1 .1 .1 .1 .1 .0))) (List._∷_ (9, Rows.any-gone (Syntax.tyStruct (List._∷_ 112 (List._∷_ 121 (List._∷_ 114 (List._∷_ 97 (List._∷_ 109 (List._∷_ 105 (List._∷_ 100 (List._∷_ 58 (List._∷_ 58 (List._∷_ 83 (List._∷_ 116 (List._∷_ 97 (List._∷_ 116 (List._∷_ 101 List.[])))))))))))))) (Syntax.tcons (Syntax.tyInt Syntax.w32) (Syntax.tcons (Syntax.tyInt Syntax.w32) (Syntax.tcons (Syntax.tyInt Syntax.w32) (Syntax.tcons (Syntax.tyInt Syntax.w32) (Syntax.tcons (Syntax.tyInt Syntax.w32) (Syntax.tcons (Syntax.tyArray (Syntax.tyInt Syntax.w32) 64) Syntax.tnil)))))))) (List._∷_ (10, Rows.any-gone (Syntax.tyInt Syntax.w64)) (List._∷_ (11, Rows.any-gone (Syntax.tyInt Syntax.w64)) (List._∷_ (12, Rows.sc-here (Row.sInt Syntax.w64)) (List._∷_ (13, Rows.sc-here (Row.sInt Syntax.w64)) (List._∷_ (14, Rows.sc-here (Row.sInt Syntax.w64)) (List._∷_ (15, Rows.sc-here (Row.sInt Syntax.w64)) List.[])))))))))))))))
+        g37 = List._∷_ local26 (List._∷_ local27 (List._∷_ local28 (List._∷_ local3 (List._∷_ local44 (List._∷_ local45 (List._∷_ local46 (List._∷_ local47 (List._∷_ local48 locals22))))))))
 
         abbrev g38 : List.List Row.Entry
-        g38 = List._∷_ (0, Rows.whole (Declared.row Outcome.the-type)) (List._∷_ (1, Rows.any-gone (Syntax.tyStruct (List._∷_ 122 (List._∷_ 111 (List._∷_ 110 (List._∷_ 101 (List._∷_ 115 (List._∷_ 58 (List._∷_ 58 (List._∷_ 104 (List._∷_ 101 (List._∷_ 108 (List._∷_ 100 (List._∷_ 58 (List._∷_ 58 (List._∷_ 72 (List._∷_ 101 (List._∷_ 108 (List._∷_ 100 List.[]))))))))))))))))) (Syntax.tcons (Syntax.tyStruct (List._∷_ 112 (List._∷_ 121 (List._∷_ 114 (List._∷_ 97 (List._∷_ 109 (List._∷_ 105 (List._∷_ 100 (List._∷_ 58 (List._∷_ 58 (List._∷_ 83 (List._∷_ 116 (List._∷_ 97 (List._∷_ 116 (List._∷_ 101 List.[])))))))))))))) (Syntax.tcons (Syntax.tyInt Syntax.w32) (Syntax.tcons (Syntax.tyInt Syntax.w32) (Syntax.tcons (Syntax.tyInt Syntax.w32) (Syntax.tcons (Syntax.tyInt Syntax.w32) (Syntax.tcons (Syntax.tyInt Syntax.w32) (Syntax.tcons (Syntax.tyArray (Syntax.tyInt Syntax.w32) 64) Syntax.tnil))))))) (Syntax.tcons (Syntax.tyInt Syntax.w64) (Syntax.tcons (Syntax.tyInt Syntax.w64) (Syntax.tcons (Syntax.tyInt Syntax.w64) (Syntax.tcons (Syntax.tyInt Syntax.w64) (Syntax.tcons (Syntax.tyInt Syntax.w64) (Syntax.tcons (Syntax.tyInt Syntax.w64) (Syntax.tcons Syntax.tyBool Syntax.tnil)))))))))) (List._∷_ (2, Rows.any-gone (Syntax.tyStruct (List._∷_ 115 (List._∷_ 99 (List._∷_ 114 (List._∷_ 105 (List._∷_ 112 (List._∷_ 116 (List._∷_ 58 (List._∷_ 58 (List._∷_ 115 (List._∷_ 99 (List._∷_ 97 (List._∷_ 110 (List._∷_ 58 (List._∷_ 58 (List._∷_ 76 (List._∷_ 105 (List._∷_ 110 (List._∷_ 101 List.[])))))))))))))))))) (Syntax.tcons (Syntax.tyInt Syntax.w32) (Syntax.tcons (Syntax.tyInt Syntax.w64) (Syntax.tcons (Syntax.tyInt Syntax.w64) (Syntax.tcons (Syntax.tyInt Syntax.w64) (Syntax.tcons (Syntax.tyInt Syntax.w64) Syntax.tnil))))))) (List._∷_ (3, Rows.sslice (Referent.rtF (Referent.fInt Syntax.w32)) (Syntax.tyRef (Syntax.named 0) Syntax.imm (Syntax.tyInt Syntax.w32)) 0) (List._∷_ (4, Part.mslice-owedP (Referent.rtF (Referent.fInt Syntax.w32)) (Syntax.tyRef (Syntax.named 1) Syntax.mut (Syntax.tyInt Syntax.w32)) 1 6 (Row.lease (κs .1 .0) (qs .1 .0))) (List._∷_ (5, Part.mslice-owedP (Referent.rtF (Referent.fInt Syntax.w32)) (Syntax.tyRef (Syntax.named 2) Syntax.mut (Syntax.tyInt Syntax.w32)) 2 7 (Row.lease (κs .1 .1 .0) (qs .1 .1 .0))) (List._∷_ (6, Part.mslice-owedP (Referent.rtF (Referent.fInt Syntax.w32)) (Syntax.tyRef (Syntax.named 3) Syntax.mut (Syntax.tyInt Syntax.w32)) 3 8 (Row.lease (κs .1 .1 .1 .0) (qs .1 .1 .1 .0))) (List._∷_ (7, Part.mslice-owedP Cell.R (Syntax.tyRef (Syntax.named 4) Syntax.mut Cell.behind) 4 9 (Row.lease (κs .1 .1 .1 .1 .0) (qs .1 .1 .1 .1 .0))) (List._∷_ (8, Part.mslice-owedP Cell.R (Syntax.tyRef (Syntax.named 5) Syntax.mut Cell.behind) 5 10 (Row.lease (κs .1 .1 .1 .1 .1 .0) (qs .1 .1 .1 .1 .1 .0))) (List._∷_ (9, Rows.any-gone (Syntax.tyStruct (List._∷_ 112 (List._∷_ 121 (List._∷_ 114 (List._∷_ 97 (List._∷_ 109 (List._∷_ 105 (List._∷_ 100 (List._∷_ 58 (List._∷_ 58 (List._∷_ 83 (List._∷_ 116 (List._∷_ 97 (List._∷_ 116 (List._∷_ 101 List.[])))))))))))))) (Syntax.tcons (Syntax.tyInt Syntax.w32) (Syntax.tcons (Syntax.tyInt Syntax.w32) (Syntax.tcons (Syntax.tyInt Syntax.w32) (Syntax.tcons (Syntax.tyInt Syntax.w32) (Syntax.tcons (Syntax.tyInt Syntax.w32) (Syntax.tcons (Syntax.tyArray (Syntax.tyInt Syntax.w32) 64) Syntax.tnil)))))))) (List._∷_ (10, Rows.any-gone (Syntax.tyInt Syntax.w64)) (List._∷_ (11, Rows.any-gone (Syntax.tyInt Syntax.w64)) (List._∷_ (12, Rows.any-gone (Syntax.tyInt Syntax.w64)) (List._∷_ (13, Rows.sc-here (Row.sInt Syntax.w64)) (List._∷_ (14, Rows.sc-here (Row.sInt Syntax.w64)) (List._∷_ (15, Rows.sc-here (Row.sInt Syntax.w64)) List.[])))))))))))))))
+        g38 = List._∷_ local26 (List._∷_ local27 (List._∷_ local28 (List._∷_ local3 (List._∷_ local44 (List._∷_ local45 (List._∷_ local46 (List._∷_ local47 (List._∷_ local48 locals23))))))))
 
         abbrev g39 : List.List Row.Entry
-        g39 = List._∷_ (0, Rows.whole (Declared.row Outcome.the-type)) (List._∷_ (1, Rows.any-gone (Syntax.tyStruct (List._∷_ 122 (List._∷_ 111 (List._∷_ 110 (List._∷_ 101 (List._∷_ 115 (List._∷_ 58 (List._∷_ 58 (List._∷_ 104 (List._∷_ 101 (List._∷_ 108 (List._∷_ 100 (List._∷_ 58 (List._∷_ 58 (List._∷_ 72 (List._∷_ 101 (List._∷_ 108 (List._∷_ 100 List.[]))))))))))))))))) (Syntax.tcons (Syntax.tyStruct (List._∷_ 112 (List._∷_ 121 (List._∷_ 114 (List._∷_ 97 (List._∷_ 109 (List._∷_ 105 (List._∷_ 100 (List._∷_ 58 (List._∷_ 58 (List._∷_ 83 (List._∷_ 116 (List._∷_ 97 (List._∷_ 116 (List._∷_ 101 List.[])))))))))))))) (Syntax.tcons (Syntax.tyInt Syntax.w32) (Syntax.tcons (Syntax.tyInt Syntax.w32) (Syntax.tcons (Syntax.tyInt Syntax.w32) (Syntax.tcons (Syntax.tyInt Syntax.w32) (Syntax.tcons (Syntax.tyInt Syntax.w32) (Syntax.tcons (Syntax.tyArray (Syntax.tyInt Syntax.w32) 64) Syntax.tnil))))))) (Syntax.tcons (Syntax.tyInt Syntax.w64) (Syntax.tcons (Syntax.tyInt Syntax.w64) (Syntax.tcons (Syntax.tyInt Syntax.w64) (Syntax.tcons (Syntax.tyInt Syntax.w64) (Syntax.tcons (Syntax.tyInt Syntax.w64) (Syntax.tcons (Syntax.tyInt Syntax.w64) (Syntax.tcons Syntax.tyBool Syntax.tnil)))))))))) (List._∷_ (2, Rows.any-gone (Syntax.tyStruct (List._∷_ 115 (List._∷_ 99 (List._∷_ 114 (List._∷_ 105 (List._∷_ 112 (List._∷_ 116 (List._∷_ 58 (List._∷_ 58 (List._∷_ 115 (List._∷_ 99 (List._∷_ 97 (List._∷_ 110 (List._∷_ 58 (List._∷_ 58 (List._∷_ 76 (List._∷_ 105 (List._∷_ 110 (List._∷_ 101 List.[])))))))))))))))))) (Syntax.tcons (Syntax.tyInt Syntax.w32) (Syntax.tcons (Syntax.tyInt Syntax.w64) (Syntax.tcons (Syntax.tyInt Syntax.w64) (Syntax.tcons (Syntax.tyInt Syntax.w64) (Syntax.tcons (Syntax.tyInt Syntax.w64) Syntax.tnil))))))) (List._∷_ (3, Rows.sslice (Referent.rtF (Referent.fInt Syntax.w32)) (Syntax.tyRef (Syntax.named 0) Syntax.imm (Syntax.tyInt Syntax.w32)) 0) (List._∷_ (4, Part.mslice-owedP (Referent.rtF (Referent.fInt Syntax.w32)) (Syntax.tyRef (Syntax.named 1) Syntax.mut (Syntax.tyInt Syntax.w32)) 1 6 (Row.lease (κs .1 .0) (qs .1 .0))) (List._∷_ (5, Part.mslice-owedP (Referent.rtF (Referent.fInt Syntax.w32)) (Syntax.tyRef (Syntax.named 2) Syntax.mut (Syntax.tyInt Syntax.w32)) 2 7 (Row.lease (κs .1 .1 .0) (qs .1 .1 .0))) (List._∷_ (6, Part.mslice-owedP (Referent.rtF (Referent.fInt Syntax.w32)) (Syntax.tyRef (Syntax.named 3) Syntax.mut (Syntax.tyInt Syntax.w32)) 3 8 (Row.lease (κs .1 .1 .1 .0) (qs .1 .1 .1 .0))) (List._∷_ (7, Part.mslice-owedP Cell.R (Syntax.tyRef (Syntax.named 4) Syntax.mut Cell.behind) 4 9 (Row.lease (κs .1 .1 .1 .1 .0) (qs .1 .1 .1 .1 .0))) (List._∷_ (8, Part.mslice-owedP Cell.R (Syntax.tyRef (Syntax.named 5) Syntax.mut Cell.behind) 5 10 (Row.lease (κs .1 .1 .1 .1 .1 .0) (qs .1 .1 .1 .1 .1 .0))) (List._∷_ (9, Rows.any-gone (Syntax.tyStruct (List._∷_ 112 (List._∷_ 121 (List._∷_ 114 (List._∷_ 97 (List._∷_ 109 (List._∷_ 105 (List._∷_ 100 (List._∷_ 58 (List._∷_ 58 (List._∷_ 83 (List._∷_ 116 (List._∷_ 97 (List._∷_ 116 (List._∷_ 101 List.[])))))))))))))) (Syntax.tcons (Syntax.tyInt Syntax.w32) (Syntax.tcons (Syntax.tyInt Syntax.w32) (Syntax.tcons (Syntax.tyInt Syntax.w32) (Syntax.tcons (Syntax.tyInt Syntax.w32) (Syntax.tcons (Syntax.tyInt Syntax.w32) (Syntax.tcons (Syntax.tyArray (Syntax.tyInt Syntax.w32) 64) Syntax.tnil)))))))) (List._∷_ (10, Rows.any-gone (Syntax.tyInt Syntax.w64)) (List._∷_ (11, Rows.any-gone (Syntax.tyInt Syntax.w64)) (List._∷_ (12, Rows.any-gone (Syntax.tyInt Syntax.w64)) (List._∷_ (13, Rows.any-gone (Syntax.tyInt Syntax.w64)) (List._∷_ (14, Rows.sc-here (Row.sInt Syntax.w64)) (List._∷_ (15, Rows.sc-here (Row.sInt Syntax.w64)) List.[])))))))))))))))
+        g39 = List._∷_ local26 (List._∷_ local27 (List._∷_ local28 (List._∷_ local3 (List._∷_ local44 (List._∷_ local45 (List._∷_ local46 (List._∷_ local47 (List._∷_ local48 locals24))))))))
 
         abbrev g40 : List.List Row.Entry
-        g40 = List._∷_ (0, Rows.whole (Declared.row Outcome.the-type)) (List._∷_ (1, Rows.any-gone (Syntax.tyStruct (List._∷_ 122 (List._∷_ 111 (List._∷_ 110 (List._∷_ 101 (List._∷_ 115 (List._∷_ 58 (List._∷_ 58 (List._∷_ 104 (List._∷_ 101 (List._∷_ 108 (List._∷_ 100 (List._∷_ 58 (List._∷_ 58 (List._∷_ 72 (List._∷_ 101 (List._∷_ 108 (List._∷_ 100 List.[]))))))))))))))))) (Syntax.tcons (Syntax.tyStruct (List._∷_ 112 (List._∷_ 121 (List._∷_ 114 (List._∷_ 97 (List._∷_ 109 (List._∷_ 105 (List._∷_ 100 (List._∷_ 58 (List._∷_ 58 (List._∷_ 83 (List._∷_ 116 (List._∷_ 97 (List._∷_ 116 (List._∷_ 101 List.[])))))))))))))) (Syntax.tcons (Syntax.tyInt Syntax.w32) (Syntax.tcons (Syntax.tyInt Syntax.w32) (Syntax.tcons (Syntax.tyInt Syntax.w32) (Syntax.tcons (Syntax.tyInt Syntax.w32) (Syntax.tcons (Syntax.tyInt Syntax.w32) (Syntax.tcons (Syntax.tyArray (Syntax.tyInt Syntax.w32) 64) Syntax.tnil))))))) (Syntax.tcons (Syntax.tyInt Syntax.w64) (Syntax.tcons (Syntax.tyInt Syntax.w64) (Syntax.tcons (Syntax.tyInt Syntax.w64) (Syntax.tcons (Syntax.tyInt Syntax.w64) (Syntax.tcons (Syntax.tyInt Syntax.w64) (Syntax.tcons (Syntax.tyInt Syntax.w64) (Syntax.tcons Syntax.tyBool Syntax.tnil)))))))))) (List._∷_ (2, Rows.any-gone (Syntax.tyStruct (List._∷_ 115 (List._∷_ 99 (List._∷_ 114 (List._∷_ 105 (List._∷_ 112 (List._∷_ 116 (List._∷_ 58 (List._∷_ 58 (List._∷_ 115 (List._∷_ 99 (List._∷_ 97 (List._∷_ 110 (List._∷_ 58 (List._∷_ 58 (List._∷_ 76 (List._∷_ 105 (List._∷_ 110 (List._∷_ 101 List.[])))))))))))))))))) (Syntax.tcons (Syntax.tyInt Syntax.w32) (Syntax.tcons (Syntax.tyInt Syntax.w64) (Syntax.tcons (Syntax.tyInt Syntax.w64) (Syntax.tcons (Syntax.tyInt Syntax.w64) (Syntax.tcons (Syntax.tyInt Syntax.w64) Syntax.tnil))))))) (List._∷_ (3, Rows.sslice (Referent.rtF (Referent.fInt Syntax.w32)) (Syntax.tyRef (Syntax.named 0) Syntax.imm (Syntax.tyInt Syntax.w32)) 0) (List._∷_ (4, Part.mslice-owedP (Referent.rtF (Referent.fInt Syntax.w32)) (Syntax.tyRef (Syntax.named 1) Syntax.mut (Syntax.tyInt Syntax.w32)) 1 6 (Row.lease (κs .1 .0) (qs .1 .0))) (List._∷_ (5, Part.mslice-owedP (Referent.rtF (Referent.fInt Syntax.w32)) (Syntax.tyRef (Syntax.named 2) Syntax.mut (Syntax.tyInt Syntax.w32)) 2 7 (Row.lease (κs .1 .1 .0) (qs .1 .1 .0))) (List._∷_ (6, Part.mslice-owedP (Referent.rtF (Referent.fInt Syntax.w32)) (Syntax.tyRef (Syntax.named 3) Syntax.mut (Syntax.tyInt Syntax.w32)) 3 8 (Row.lease (κs .1 .1 .1 .0) (qs .1 .1 .1 .0))) (List._∷_ (7, Part.mslice-owedP Cell.R (Syntax.tyRef (Syntax.named 4) Syntax.mut Cell.behind) 4 9 (Row.lease (κs .1 .1 .1 .1 .0) (qs .1 .1 .1 .1 .0))) (List._∷_ (8, Part.mslice-owedP Cell.R (Syntax.tyRef (Syntax.named 5) Syntax.mut Cell.behind) 5 10 (Row.lease (κs .1 .1 .1 .1 .1 .0) (qs .1 .1 .1 .1 .1 .0))) (List._∷_ (9, Rows.any-gone (Syntax.tyStruct (List._∷_ 112 (List._∷_ 121 (List._∷_ 114 (List._∷_ 97 (List._∷_ 109 (List._∷_ 105 (List._∷_ 100 (List._∷_ 58 (List._∷_ 58 (List._∷_ 83 (List._∷_ 116 (List._∷_ 97 (List._∷_ 116 (List._∷_ 101 List.[])))))))))))))) (Syntax.tcons (Syntax.tyInt Syntax.w32) (Syntax.tcons (Syntax.tyInt Syntax.w32) (Syntax.tcons (Syntax.tyInt Syntax.w32) (Syntax.tcons (Syntax.tyInt Syntax.w32) (Syntax.tcons (Syntax.tyInt Syntax.w32) (Syntax.tcons (Syntax.tyArray (Syntax.tyInt Syntax.w32) 64) Syntax.tnil)))))))) (List._∷_ (10, Rows.any-gone (Syntax.tyInt Syntax.w64)) (List._∷_ (11, Rows.any-gone (Syntax.tyInt Syntax.w64)) (List._∷_ (12, Rows.any-gone (Syntax.tyInt Syntax.w64)) (List._∷_ (13, Rows.any-gone (Syntax.tyInt Syntax.w64)) (List._∷_ (14, Rows.any-gone (Syntax.tyInt Syntax.w64)) (List._∷_ (15, Rows.sc-here (Row.sInt Syntax.w64)) List.[])))))))))))))))
+        g40 = List._∷_ local26 (List._∷_ local27 (List._∷_ local28 (List._∷_ local3 (List._∷_ local44 (List._∷_ local45 (List._∷_ local46 (List._∷_ local47 (List._∷_ local48 locals25))))))))
 
         abbrev g41 : List.List Row.Entry
-        g41 = List._∷_ (0, Rows.whole (Declared.row Outcome.the-type)) (List._∷_ (1, Rows.any-gone (Syntax.tyStruct (List._∷_ 122 (List._∷_ 111 (List._∷_ 110 (List._∷_ 101 (List._∷_ 115 (List._∷_ 58 (List._∷_ 58 (List._∷_ 104 (List._∷_ 101 (List._∷_ 108 (List._∷_ 100 (List._∷_ 58 (List._∷_ 58 (List._∷_ 72 (List._∷_ 101 (List._∷_ 108 (List._∷_ 100 List.[]))))))))))))))))) (Syntax.tcons (Syntax.tyStruct (List._∷_ 112 (List._∷_ 121 (List._∷_ 114 (List._∷_ 97 (List._∷_ 109 (List._∷_ 105 (List._∷_ 100 (List._∷_ 58 (List._∷_ 58 (List._∷_ 83 (List._∷_ 116 (List._∷_ 97 (List._∷_ 116 (List._∷_ 101 List.[])))))))))))))) (Syntax.tcons (Syntax.tyInt Syntax.w32) (Syntax.tcons (Syntax.tyInt Syntax.w32) (Syntax.tcons (Syntax.tyInt Syntax.w32) (Syntax.tcons (Syntax.tyInt Syntax.w32) (Syntax.tcons (Syntax.tyInt Syntax.w32) (Syntax.tcons (Syntax.tyArray (Syntax.tyInt Syntax.w32) 64) Syntax.tnil))))))) (Syntax.tcons (Syntax.tyInt Syntax.w64) (Syntax.tcons (Syntax.tyInt Syntax.w64) (Syntax.tcons (Syntax.tyInt Syntax.w64) (Syntax.tcons (Syntax.tyInt Syntax.w64) (Syntax.tcons (Syntax.tyInt Syntax.w64) (Syntax.tcons (Syntax.tyInt Syntax.w64) (Syntax.tcons Syntax.tyBool Syntax.tnil)))))))))) (List._∷_ (2, Rows.any-gone (Syntax.tyStruct (List._∷_ 115 (List._∷_ 99 (List._∷_ 114 (List._∷_ 105 (List._∷_ 112 (List._∷_ 116 (List._∷_ 58 (List._∷_ 58 (List._∷_ 115 (List._∷_ 99 (List._∷_ 97 (List._∷_ 110 (List._∷_ 58 (List._∷_ 58 (List._∷_ 76 (List._∷_ 105 (List._∷_ 110 (List._∷_ 101 List.[])))))))))))))))))) (Syntax.tcons (Syntax.tyInt Syntax.w32) (Syntax.tcons (Syntax.tyInt Syntax.w64) (Syntax.tcons (Syntax.tyInt Syntax.w64) (Syntax.tcons (Syntax.tyInt Syntax.w64) (Syntax.tcons (Syntax.tyInt Syntax.w64) Syntax.tnil))))))) (List._∷_ (3, Rows.sslice (Referent.rtF (Referent.fInt Syntax.w32)) (Syntax.tyRef (Syntax.named 0) Syntax.imm (Syntax.tyInt Syntax.w32)) 0) (List._∷_ (4, Part.mslice-owedP (Referent.rtF (Referent.fInt Syntax.w32)) (Syntax.tyRef (Syntax.named 1) Syntax.mut (Syntax.tyInt Syntax.w32)) 1 6 (Row.lease (κs .1 .0) (qs .1 .0))) (List._∷_ (5, Part.mslice-owedP (Referent.rtF (Referent.fInt Syntax.w32)) (Syntax.tyRef (Syntax.named 2) Syntax.mut (Syntax.tyInt Syntax.w32)) 2 7 (Row.lease (κs .1 .1 .0) (qs .1 .1 .0))) (List._∷_ (6, Part.mslice-owedP (Referent.rtF (Referent.fInt Syntax.w32)) (Syntax.tyRef (Syntax.named 3) Syntax.mut (Syntax.tyInt Syntax.w32)) 3 8 (Row.lease (κs .1 .1 .1 .0) (qs .1 .1 .1 .0))) (List._∷_ (7, Part.mslice-owedP Cell.R (Syntax.tyRef (Syntax.named 4) Syntax.mut Cell.behind) 4 9 (Row.lease (κs .1 .1 .1 .1 .0) (qs .1 .1 .1 .1 .0))) (List._∷_ (8, Part.mslice-owedP Cell.R (Syntax.tyRef (Syntax.named 5) Syntax.mut Cell.behind) 5 10 (Row.lease (κs .1 .1 .1 .1 .1 .0) (qs .1 .1 .1 .1 .1 .0))) (List._∷_ (9, Rows.any-gone (Syntax.tyStruct (List._∷_ 112 (List._∷_ 121 (List._∷_ 114 (List._∷_ 97 (List._∷_ 109 (List._∷_ 105 (List._∷_ 100 (List._∷_ 58 (List._∷_ 58 (List._∷_ 83 (List._∷_ 116 (List._∷_ 97 (List._∷_ 116 (List._∷_ 101 List.[])))))))))))))) (Syntax.tcons (Syntax.tyInt Syntax.w32) (Syntax.tcons (Syntax.tyInt Syntax.w32) (Syntax.tcons (Syntax.tyInt Syntax.w32) (Syntax.tcons (Syntax.tyInt Syntax.w32) (Syntax.tcons (Syntax.tyInt Syntax.w32) (Syntax.tcons (Syntax.tyArray (Syntax.tyInt Syntax.w32) 64) Syntax.tnil)))))))) (List._∷_ (10, Rows.any-gone (Syntax.tyInt Syntax.w64)) (List._∷_ (11, Rows.any-gone (Syntax.tyInt Syntax.w64)) (List._∷_ (12, Rows.any-gone (Syntax.tyInt Syntax.w64)) (List._∷_ (13, Rows.any-gone (Syntax.tyInt Syntax.w64)) (List._∷_ (14, Rows.any-gone (Syntax.tyInt Syntax.w64)) (List._∷_ (15, Rows.any-gone (Syntax.tyInt Syntax.w64)) List.[])))))))))))))))
+        g41 = List._∷_ local26 (List._∷_ local27 (List._∷_ local28 (List._∷_ local3 (List._∷_ local44 (List._∷_ local45 (List._∷_ local46 locals28))))))
 
         abbrev g43 : List.List Row.Entry
-        g43 = List._∷_ (0, Rows.whole (Declared.row Outcome.the-type)) (List._∷_ (1, Rows.any-gone (Syntax.tyStruct (List._∷_ 122 (List._∷_ 111 (List._∷_ 110 (List._∷_ 101 (List._∷_ 115 (List._∷_ 58 (List._∷_ 58 (List._∷_ 104 (List._∷_ 101 (List._∷_ 108 (List._∷_ 100 (List._∷_ 58 (List._∷_ 58 (List._∷_ 72 (List._∷_ 101 (List._∷_ 108 (List._∷_ 100 List.[]))))))))))))))))) (Syntax.tcons (Syntax.tyStruct (List._∷_ 112 (List._∷_ 121 (List._∷_ 114 (List._∷_ 97 (List._∷_ 109 (List._∷_ 105 (List._∷_ 100 (List._∷_ 58 (List._∷_ 58 (List._∷_ 83 (List._∷_ 116 (List._∷_ 97 (List._∷_ 116 (List._∷_ 101 List.[])))))))))))))) (Syntax.tcons (Syntax.tyInt Syntax.w32) (Syntax.tcons (Syntax.tyInt Syntax.w32) (Syntax.tcons (Syntax.tyInt Syntax.w32) (Syntax.tcons (Syntax.tyInt Syntax.w32) (Syntax.tcons (Syntax.tyInt Syntax.w32) (Syntax.tcons (Syntax.tyArray (Syntax.tyInt Syntax.w32) 64) Syntax.tnil))))))) (Syntax.tcons (Syntax.tyInt Syntax.w64) (Syntax.tcons (Syntax.tyInt Syntax.w64) (Syntax.tcons (Syntax.tyInt Syntax.w64) (Syntax.tcons (Syntax.tyInt Syntax.w64) (Syntax.tcons (Syntax.tyInt Syntax.w64) (Syntax.tcons (Syntax.tyInt Syntax.w64) (Syntax.tcons Syntax.tyBool Syntax.tnil)))))))))) (List._∷_ (2, Rows.any-gone (Syntax.tyStruct (List._∷_ 115 (List._∷_ 99 (List._∷_ 114 (List._∷_ 105 (List._∷_ 112 (List._∷_ 116 (List._∷_ 58 (List._∷_ 58 (List._∷_ 115 (List._∷_ 99 (List._∷_ 97 (List._∷_ 110 (List._∷_ 58 (List._∷_ 58 (List._∷_ 76 (List._∷_ 105 (List._∷_ 110 (List._∷_ 101 List.[])))))))))))))))))) (Syntax.tcons (Syntax.tyInt Syntax.w32) (Syntax.tcons (Syntax.tyInt Syntax.w64) (Syntax.tcons (Syntax.tyInt Syntax.w64) (Syntax.tcons (Syntax.tyInt Syntax.w64) (Syntax.tcons (Syntax.tyInt Syntax.w64) Syntax.tnil))))))) (List._∷_ (3, Rows.sslice (Referent.rtF (Referent.fInt Syntax.w32)) (Syntax.tyRef (Syntax.named 0) Syntax.imm (Syntax.tyInt Syntax.w32)) 0) (List._∷_ (4, Mut.mslice (Referent.rtF (Referent.fInt Syntax.w32)) (Syntax.tyRef (Syntax.named 1) Syntax.mut (Syntax.tyInt Syntax.w32)) 1) (List._∷_ (5, Part.mslice-owedP (Referent.rtF (Referent.fInt Syntax.w32)) (Syntax.tyRef (Syntax.named 2) Syntax.mut (Syntax.tyInt Syntax.w32)) 2 7 (Row.lease (κs .1 .1 .0) (qs .1 .1 .0))) (List._∷_ (6, Part.mslice-owedP (Referent.rtF (Referent.fInt Syntax.w32)) (Syntax.tyRef (Syntax.named 3) Syntax.mut (Syntax.tyInt Syntax.w32)) 3 8 (Row.lease (κs .1 .1 .1 .0) (qs .1 .1 .1 .0))) (List._∷_ (7, Part.mslice-owedP Cell.R (Syntax.tyRef (Syntax.named 4) Syntax.mut Cell.behind) 4 9 (Row.lease (κs .1 .1 .1 .1 .0) (qs .1 .1 .1 .1 .0))) (List._∷_ (8, Part.mslice-owedP Cell.R (Syntax.tyRef (Syntax.named 5) Syntax.mut Cell.behind) 5 10 (Row.lease (κs .1 .1 .1 .1 .1 .0) (qs .1 .1 .1 .1 .1 .0))) (List._∷_ (9, Rows.any-gone (Syntax.tyStruct (List._∷_ 112 (List._∷_ 121 (List._∷_ 114 (List._∷_ 97 (List._∷_ 109 (List._∷_ 105 (List._∷_ 100 (List._∷_ 58 (List._∷_ 58 (List._∷_ 83 (List._∷_ 116 (List._∷_ 97 (List._∷_ 116 (List._∷_ 101 List.[])))))))))))))) (Syntax.tcons (Syntax.tyInt Syntax.w32) (Syntax.tcons (Syntax.tyInt Syntax.w32) (Syntax.tcons (Syntax.tyInt Syntax.w32) (Syntax.tcons (Syntax.tyInt Syntax.w32) (Syntax.tcons (Syntax.tyInt Syntax.w32) (Syntax.tcons (Syntax.tyArray (Syntax.tyInt Syntax.w32) 64) Syntax.tnil)))))))) (List._∷_ (10, Rows.any-gone (Syntax.tyInt Syntax.w64)) (List._∷_ (11, Rows.any-gone (Syntax.tyInt Syntax.w64)) (List._∷_ (12, Rows.any-gone (Syntax.tyInt Syntax.w64)) (List._∷_ (13, Rows.any-gone (Syntax.tyInt Syntax.w64)) (List._∷_ (14, Rows.any-gone (Syntax.tyInt Syntax.w64)) (List._∷_ (15, Rows.any-gone (Syntax.tyInt Syntax.w64)) List.[])))))))))))))))
+        g43 = List._∷_ local26 (List._∷_ local27 (List._∷_ local28 (List._∷_ local3 (List._∷_ local4 (List._∷_ local45 (List._∷_ local46 locals28))))))
 
         abbrev g45 : List.List Row.Entry
-        g45 = List._∷_ (0, Rows.whole (Declared.row Outcome.the-type)) (List._∷_ (1, Rows.any-gone (Syntax.tyStruct (List._∷_ 122 (List._∷_ 111 (List._∷_ 110 (List._∷_ 101 (List._∷_ 115 (List._∷_ 58 (List._∷_ 58 (List._∷_ 104 (List._∷_ 101 (List._∷_ 108 (List._∷_ 100 (List._∷_ 58 (List._∷_ 58 (List._∷_ 72 (List._∷_ 101 (List._∷_ 108 (List._∷_ 100 List.[]))))))))))))))))) (Syntax.tcons (Syntax.tyStruct (List._∷_ 112 (List._∷_ 121 (List._∷_ 114 (List._∷_ 97 (List._∷_ 109 (List._∷_ 105 (List._∷_ 100 (List._∷_ 58 (List._∷_ 58 (List._∷_ 83 (List._∷_ 116 (List._∷_ 97 (List._∷_ 116 (List._∷_ 101 List.[])))))))))))))) (Syntax.tcons (Syntax.tyInt Syntax.w32) (Syntax.tcons (Syntax.tyInt Syntax.w32) (Syntax.tcons (Syntax.tyInt Syntax.w32) (Syntax.tcons (Syntax.tyInt Syntax.w32) (Syntax.tcons (Syntax.tyInt Syntax.w32) (Syntax.tcons (Syntax.tyArray (Syntax.tyInt Syntax.w32) 64) Syntax.tnil))))))) (Syntax.tcons (Syntax.tyInt Syntax.w64) (Syntax.tcons (Syntax.tyInt Syntax.w64) (Syntax.tcons (Syntax.tyInt Syntax.w64) (Syntax.tcons (Syntax.tyInt Syntax.w64) (Syntax.tcons (Syntax.tyInt Syntax.w64) (Syntax.tcons (Syntax.tyInt Syntax.w64) (Syntax.tcons Syntax.tyBool Syntax.tnil)))))))))) (List._∷_ (2, Rows.any-gone (Syntax.tyStruct (List._∷_ 115 (List._∷_ 99 (List._∷_ 114 (List._∷_ 105 (List._∷_ 112 (List._∷_ 116 (List._∷_ 58 (List._∷_ 58 (List._∷_ 115 (List._∷_ 99 (List._∷_ 97 (List._∷_ 110 (List._∷_ 58 (List._∷_ 58 (List._∷_ 76 (List._∷_ 105 (List._∷_ 110 (List._∷_ 101 List.[])))))))))))))))))) (Syntax.tcons (Syntax.tyInt Syntax.w32) (Syntax.tcons (Syntax.tyInt Syntax.w64) (Syntax.tcons (Syntax.tyInt Syntax.w64) (Syntax.tcons (Syntax.tyInt Syntax.w64) (Syntax.tcons (Syntax.tyInt Syntax.w64) Syntax.tnil))))))) (List._∷_ (3, Rows.sslice (Referent.rtF (Referent.fInt Syntax.w32)) (Syntax.tyRef (Syntax.named 0) Syntax.imm (Syntax.tyInt Syntax.w32)) 0) (List._∷_ (4, Mut.mslice (Referent.rtF (Referent.fInt Syntax.w32)) (Syntax.tyRef (Syntax.named 1) Syntax.mut (Syntax.tyInt Syntax.w32)) 1) (List._∷_ (5, Mut.mslice (Referent.rtF (Referent.fInt Syntax.w32)) (Syntax.tyRef (Syntax.named 2) Syntax.mut (Syntax.tyInt Syntax.w32)) 2) (List._∷_ (6, Part.mslice-owedP (Referent.rtF (Referent.fInt Syntax.w32)) (Syntax.tyRef (Syntax.named 3) Syntax.mut (Syntax.tyInt Syntax.w32)) 3 8 (Row.lease (κs .1 .1 .1 .0) (qs .1 .1 .1 .0))) (List._∷_ (7, Part.mslice-owedP Cell.R (Syntax.tyRef (Syntax.named 4) Syntax.mut Cell.behind) 4 9 (Row.lease (κs .1 .1 .1 .1 .0) (qs .1 .1 .1 .1 .0))) (List._∷_ (8, Part.mslice-owedP Cell.R (Syntax.tyRef (Syntax.named 5) Syntax.mut Cell.behind) 5 10 (Row.lease (κs .1 .1 .1 .1 .1 .0) (qs .1 .1 .1 .1 .1 .0))) (List._∷_ (9, Rows.any-gone (Syntax.tyStruct (List._∷_ 112 (List._∷_ 121 (List._∷_ 114 (List._∷_ 97 (List._∷_ 109 (List._∷_ 105 (List._∷_ 100 (List._∷_ 58 (List._∷_ 58 (List._∷_ 83 (List._∷_ 116 (List._∷_ 97 (List._∷_ 116 (List._∷_ 101 List.[])))))))))))))) (Syntax.tcons (Syntax.tyInt Syntax.w32) (Syntax.tcons (Syntax.tyInt Syntax.w32) (Syntax.tcons (Syntax.tyInt Syntax.w32) (Syntax.tcons (Syntax.tyInt Syntax.w32) (Syntax.tcons (Syntax.tyInt Syntax.w32) (Syntax.tcons (Syntax.tyArray (Syntax.tyInt Syntax.w32) 64) Syntax.tnil)))))))) (List._∷_ (10, Rows.any-gone (Syntax.tyInt Syntax.w64)) (List._∷_ (11, Rows.any-gone (Syntax.tyInt Syntax.w64)) (List._∷_ (12, Rows.any-gone (Syntax.tyInt Syntax.w64)) (List._∷_ (13, Rows.any-gone (Syntax.tyInt Syntax.w64)) (List._∷_ (14, Rows.any-gone (Syntax.tyInt Syntax.w64)) (List._∷_ (15, Rows.any-gone (Syntax.tyInt Syntax.w64)) List.[])))))))))))))))
+        g45 = List._∷_ local26 (List._∷_ local27 (List._∷_ local28 (List._∷_ local3 (List._∷_ local4 (List._∷_ local5 (List._∷_ local46 locals28))))))
 
         abbrev g47 : List.List Row.Entry
-        g47 = List._∷_ (0, Rows.whole (Declared.row Outcome.the-type)) (List._∷_ (1, Rows.any-gone (Syntax.tyStruct (List._∷_ 122 (List._∷_ 111 (List._∷_ 110 (List._∷_ 101 (List._∷_ 115 (List._∷_ 58 (List._∷_ 58 (List._∷_ 104 (List._∷_ 101 (List._∷_ 108 (List._∷_ 100 (List._∷_ 58 (List._∷_ 58 (List._∷_ 72 (List._∷_ 101 (List._∷_ 108 (List._∷_ 100 List.[]))))))))))))))))) (Syntax.tcons (Syntax.tyStruct (List._∷_ 112 (List._∷_ 121 (List._∷_ 114 (List._∷_ 97 (List._∷_ 109 (List._∷_ 105 (List._∷_ 100 (List._∷_ 58 (List._∷_ 58 (List._∷_ 83 (List._∷_ 116 (List._∷_ 97 (List._∷_ 116 (List._∷_ 101 List.[])))))))))))))) (Syntax.tcons (Syntax.tyInt Syntax.w32) (Syntax.tcons (Syntax.tyInt Syntax.w32) (Syntax.tcons (Syntax.tyInt Syntax.w32) (Syntax.tcons (Syntax.tyInt Syntax.w32) (Syntax.tcons (Syntax.tyInt Syntax.w32) (Syntax.tcons (Syntax.tyArray (Syntax.tyInt Syntax.w32) 64) Syntax.tnil))))))) (Syntax.tcons (Syntax.tyInt Syntax.w64) (Syntax.tcons (Syntax.tyInt Syntax.w64) (Syntax.tcons (Syntax.tyInt Syntax.w64) (Syntax.tcons (Syntax.tyInt Syntax.w64) (Syntax.tcons (Syntax.tyInt Syntax.w64) (Syntax.tcons (Syntax.tyInt Syntax.w64) (Syntax.tcons Syntax.tyBool Syntax.tnil)))))))))) (List._∷_ (2, Rows.any-gone (Syntax.tyStruct (List._∷_ 115 (List._∷_ 99 (List._∷_ 114 (List._∷_ 105 (List._∷_ 112 (List._∷_ 116 (List._∷_ 58 (List._∷_ 58 (List._∷_ 115 (List._∷_ 99 (List._∷_ 97 (List._∷_ 110 (List._∷_ 58 (List._∷_ 58 (List._∷_ 76 (List._∷_ 105 (List._∷_ 110 (List._∷_ 101 List.[])))))))))))))))))) (Syntax.tcons (Syntax.tyInt Syntax.w32) (Syntax.tcons (Syntax.tyInt Syntax.w64) (Syntax.tcons (Syntax.tyInt Syntax.w64) (Syntax.tcons (Syntax.tyInt Syntax.w64) (Syntax.tcons (Syntax.tyInt Syntax.w64) Syntax.tnil))))))) (List._∷_ (3, Rows.sslice (Referent.rtF (Referent.fInt Syntax.w32)) (Syntax.tyRef (Syntax.named 0) Syntax.imm (Syntax.tyInt Syntax.w32)) 0) (List._∷_ (4, Mut.mslice (Referent.rtF (Referent.fInt Syntax.w32)) (Syntax.tyRef (Syntax.named 1) Syntax.mut (Syntax.tyInt Syntax.w32)) 1) (List._∷_ (5, Mut.mslice (Referent.rtF (Referent.fInt Syntax.w32)) (Syntax.tyRef (Syntax.named 2) Syntax.mut (Syntax.tyInt Syntax.w32)) 2) (List._∷_ (6, Mut.mslice (Referent.rtF (Referent.fInt Syntax.w32)) (Syntax.tyRef (Syntax.named 3) Syntax.mut (Syntax.tyInt Syntax.w32)) 3) (List._∷_ (7, Part.mslice-owedP Cell.R (Syntax.tyRef (Syntax.named 4) Syntax.mut Cell.behind) 4 9 (Row.lease (κs .1 .1 .1 .1 .0) (qs .1 .1 .1 .1 .0))) (List._∷_ (8, Part.mslice-owedP Cell.R (Syntax.tyRef (Syntax.named 5) Syntax.mut Cell.behind) 5 10 (Row.lease (κs .1 .1 .1 .1 .1 .0) (qs .1 .1 .1 .1 .1 .0))) (List._∷_ (9, Rows.any-gone (Syntax.tyStruct (List._∷_ 112 (List._∷_ 121 (List._∷_ 114 (List._∷_ 97 (List._∷_ 109 (List._∷_ 105 (List._∷_ 100 (List._∷_ 58 (List._∷_ 58 (List._∷_ 83 (List._∷_ 116 (List._∷_ 97 (List._∷_ 116 (List._∷_ 101 List.[])))))))))))))) (Syntax.tcons (Syntax.tyInt Syntax.w32) (Syntax.tcons (Syntax.tyInt Syntax.w32) (Syntax.tcons (Syntax.tyInt Syntax.w32) (Syntax.tcons (Syntax.tyInt Syntax.w32) (Syntax.tcons (Syntax.tyInt Syntax.w32) (Syntax.tcons (Syntax.tyArray (Syntax.tyInt Syntax.w32) 64) Syntax.tnil)))))))) (List._∷_ (10, Rows.any-gone (Syntax.tyInt Syntax.w64)) (List._∷_ (11, Rows.any-gone (Syntax.tyInt Syntax.w64)) (List._∷_ (12, Rows.any-gone (Syntax.tyInt Syntax.w64)) (List._∷_ (13, Rows.any-gone (Syntax.tyInt Syntax.w64)) (List._∷_ (14, Rows.any-gone (Syntax.tyInt Syntax.w64)) (List._∷_ (15, Rows.any-gone (Syntax.tyInt Syntax.w64)) List.[])))))))))))))))
+        g47 = List._∷_ local26 (List._∷_ local27 (List._∷_ local28 (List._∷_ local3 (List._∷_ local4 (List._∷_ local5 (List._∷_ local6 locals28))))))
 
         abbrev g49 : List.List Row.Entry
-        g49 = List._∷_ (0, Rows.whole (Declared.row Outcome.the-type)) (List._∷_ (1, Rows.any-gone (Syntax.tyStruct (List._∷_ 122 (List._∷_ 111 (List._∷_ 110 (List._∷_ 101 (List._∷_ 115 (List._∷_ 58 (List._∷_ 58 (List._∷_ 104 (List._∷_ 101 (List._∷_ 108 (List._∷_ 100 (List._∷_ 58 (List._∷_ 58 (List._∷_ 72 (List._∷_ 101 (List._∷_ 108 (List._∷_ 100 List.[]))))))))))))))))) (Syntax.tcons (Syntax.tyStruct (List._∷_ 112 (List._∷_ 121 (List._∷_ 114 (List._∷_ 97 (List._∷_ 109 (List._∷_ 105 (List._∷_ 100 (List._∷_ 58 (List._∷_ 58 (List._∷_ 83 (List._∷_ 116 (List._∷_ 97 (List._∷_ 116 (List._∷_ 101 List.[])))))))))))))) (Syntax.tcons (Syntax.tyInt Syntax.w32) (Syntax.tcons (Syntax.tyInt Syntax.w32) (Syntax.tcons (Syntax.tyInt Syntax.w32) (Syntax.tcons (Syntax.tyInt Syntax.w32) (Syntax.tcons (Syntax.tyInt Syntax.w32) (Syntax.tcons (Syntax.tyArray (Syntax.tyInt Syntax.w32) 64) Syntax.tnil))))))) (Syntax.tcons (Syntax.tyInt Syntax.w64) (Syntax.tcons (Syntax.tyInt Syntax.w64) (Syntax.tcons (Syntax.tyInt Syntax.w64) (Syntax.tcons (Syntax.tyInt Syntax.w64) (Syntax.tcons (Syntax.tyInt Syntax.w64) (Syntax.tcons (Syntax.tyInt Syntax.w64) (Syntax.tcons Syntax.tyBool Syntax.tnil)))))))))) (List._∷_ (2, Rows.any-gone (Syntax.tyStruct (List._∷_ 115 (List._∷_ 99 (List._∷_ 114 (List._∷_ 105 (List._∷_ 112 (List._∷_ 116 (List._∷_ 58 (List._∷_ 58 (List._∷_ 115 (List._∷_ 99 (List._∷_ 97 (List._∷_ 110 (List._∷_ 58 (List._∷_ 58 (List._∷_ 76 (List._∷_ 105 (List._∷_ 110 (List._∷_ 101 List.[])))))))))))))))))) (Syntax.tcons (Syntax.tyInt Syntax.w32) (Syntax.tcons (Syntax.tyInt Syntax.w64) (Syntax.tcons (Syntax.tyInt Syntax.w64) (Syntax.tcons (Syntax.tyInt Syntax.w64) (Syntax.tcons (Syntax.tyInt Syntax.w64) Syntax.tnil))))))) (List._∷_ (3, Rows.sslice (Referent.rtF (Referent.fInt Syntax.w32)) (Syntax.tyRef (Syntax.named 0) Syntax.imm (Syntax.tyInt Syntax.w32)) 0) (List._∷_ (4, Mut.mslice (Referent.rtF (Referent.fInt Syntax.w32)) (Syntax.tyRef (Syntax.named 1) Syntax.mut (Syntax.tyInt Syntax.w32)) 1) (List._∷_ (5, Mut.mslice (Referent.rtF (Referent.fInt Syntax.w32)) (Syntax.tyRef (Syntax.named 2) Syntax.mut (Syntax.tyInt Syntax.w32)) 2) (List._∷_ (6, Mut.mslice (Referent.rtF (Referent.fInt Syntax.w32)) (Syntax.tyRef (Syntax.named 3) Syntax.mut (Syntax.tyInt Syntax.w32)) 3) (List._∷_ (7, Mut.mslice Cell.R (Syntax.tyRef (Syntax.named 4) Syntax.mut Cell.behind) 4) (List._∷_ (8, Part.mslice-owedP Cell.R (Syntax.tyRef (Syntax.named 5) Syntax.mut Cell.behind) 5 10 (Row.lease (κs .1 .1 .1 .1 .1 .0) (qs .1 .1 .1 .1 .1 .0))) (List._∷_ (9, Rows.any-gone (Syntax.tyStruct (List._∷_ 112 (List._∷_ 121 (List._∷_ 114 (List._∷_ 97 (List._∷_ 109 (List._∷_ 105 (List._∷_ 100 (List._∷_ 58 (List._∷_ 58 (List._∷_ 83 (List._∷_ 116 (List._∷_ 97 (List._∷_ 116 (List._∷_ 101 List.[])))))))))))))) (Syntax.tcons (Syntax.tyInt Syntax.w32) (Syntax.tcons (Syntax.tyInt Syntax.w32) (Syntax.tcons (Syntax.tyInt Syntax.w32) (Syntax.tcons (Syntax.tyInt Syntax.w32) (Syntax.tcons (Syntax.tyInt Syntax.w32) (Syntax.tcons (Syntax.tyArray (Syntax.tyInt Syntax.w32) 64) Syntax.tnil)))))))) (List._∷_ (10, Rows.any-gone (Syntax.tyInt Syntax.w64)) (List._∷_ (11, Rows.any-gone (Syntax.tyInt Syntax.w64)) (List._∷_ (12, Rows.any-gone (Syntax.tyInt Syntax.w64)) (List._∷_ (13, Rows.any-gone (Syntax.tyInt Syntax.w64)) (List._∷_ (14, Rows.any-gone (Syntax.tyInt Syntax.w64)) (List._∷_ (15, Rows.any-gone (Syntax.tyInt Syntax.w64)) List.[])))))))))))))))
+        g49 = List._∷_ local26 (List._∷_ local27 (List._∷_ local28 (List._∷_ local3 (List._∷_ local4 (List._∷_ local5 (List._∷_ local6 (List._∷_ local7 (List._∷_ local48 locals2))))))))
 
         abbrev G0 : Row.Cx
-        G0 = record { locals = List._++_ t0 t1; slots = List._∷_ (Row.lease (κs .0) (qs .0)) (List._∷_ (Row.lease (κs .1 .0) (qs .1 .0)) (List._∷_ (Row.lease (κs .1 .1 .0) (qs .1 .1 .0)) (List._∷_ (Row.lease (κs .1 .1 .1 .0) (qs .1 .1 .1 .0)) (List._∷_ (Row.lease (κs .1 .1 .1 .1 .0) (qs .1 .1 .1 .1 .0)) (List._∷_ (Row.lease (κs .1 .1 .1 .1 .1 .0) (qs .1 .1 .1 .1 .1 .0)) (List._∷_ Row.off (List._∷_ Row.off (List._∷_ Row.off (List._∷_ Row.off (List._∷_ Row.off List.[])))))))))) }
+        G0 = record { locals = List._++_ t0 t1; slots = List._∷_ slot5 slots1 }
 
         abbrev G1 : Row.Cx
-        G1 = record { locals = List._++_ t2 t1; slots = List._∷_ (Row.lease (κs .0) (qs .0)) (List._∷_ (Row.lease (κs .1 .0) (qs .1 .0)) (List._∷_ (Row.lease (κs .1 .1 .0) (qs .1 .1 .0)) (List._∷_ (Row.lease (κs .1 .1 .1 .0) (qs .1 .1 .1 .0)) (List._∷_ (Row.lease (κs .1 .1 .1 .1 .0) (qs .1 .1 .1 .1 .0)) (List._∷_ (Row.lease (κs .1 .1 .1 .1 .1 .0) (qs .1 .1 .1 .1 .1 .0)) (List._∷_ Row.off (List._∷_ Row.off (List._∷_ Row.off (List._∷_ Row.off (List._∷_ Row.off List.[])))))))))) }
+        G1 = record { locals = List._++_ t2 t1; slots = List._∷_ slot5 slots1 }
 
         abbrev G2 : Row.Cx
-        G2 = record { locals = List._++_ t0 t1; slots = List._∷_ (Row.lease (κs .0) (qs .0)) (List._∷_ (Row.lease (κs .1 .0) (qs .1 .0)) (List._∷_ (Row.lease (κs .1 .1 .0) (qs .1 .1 .0)) (List._∷_ (Row.lease (κs .1 .1 .1 .0) (qs .1 .1 .1 .0)) (List._∷_ (Row.lease (κs .1 .1 .1 .1 .0) (qs .1 .1 .1 .1 .0)) (List._∷_ (Row.lease (κs .1 .1 .1 .1 .1 .0) (qs .1 .1 .1 .1 .1 .0)) (List._∷_ Row.off (List._∷_ Row.off (List._∷_ Row.off (List._∷_ Row.off (List._∷_ Row.off List.[])))))))))) }
+        G2 = record { locals = List._++_ t0 t1; slots = List._∷_ slot5 slots1 }
 
         abbrev G3 : Row.Cx
-        G3 = record { locals = List._++_ t0 t1; slots = List._∷_ (Row.lease (κs .0) (qs .0)) (List._∷_ (Row.lease (κs .1 .0) (qs .1 .0)) (List._∷_ (Row.lease (κs .1 .1 .0) (qs .1 .1 .0)) (List._∷_ (Row.lease (κs .1 .1 .1 .0) (qs .1 .1 .1 .0)) (List._∷_ (Row.lease (κs .1 .1 .1 .1 .0) (qs .1 .1 .1 .1 .0)) (List._∷_ (Row.lease (κs .1 .1 .1 .1 .1 .0) (qs .1 .1 .1 .1 .1 .0)) (List._∷_ Row.off (List._∷_ Row.off (List._∷_ Row.off (List._∷_ Row.off (List._∷_ Row.off List.[])))))))))) }
+        G3 = record { locals = List._++_ t0 t1; slots = List._∷_ slot5 slots1 }
 
         abbrev G4 : Row.Cx
-        G4 = record { locals = List._++_ t0 t1; slots = List._∷_ (Row.lease (κs .0) (qs .0)) (List._∷_ (Row.lease (κs .1 .0) (qs .1 .0)) (List._∷_ (Row.lease (κs .1 .1 .0) (qs .1 .1 .0)) (List._∷_ (Row.lease (κs .1 .1 .1 .0) (qs .1 .1 .1 .0)) (List._∷_ (Row.lease (κs .1 .1 .1 .1 .0) (qs .1 .1 .1 .1 .0)) (List._∷_ (Row.lease (κs .1 .1 .1 .1 .1 .0) (qs .1 .1 .1 .1 .1 .0)) (List._∷_ Row.off (List._∷_ Row.off (List._∷_ Row.off (List._∷_ Row.off (List._∷_ Row.off List.[])))))))))) }
+        G4 = record { locals = List._++_ t0 t1; slots = List._∷_ slot5 slots1 }
 
         abbrev G5 : Row.Cx
-        G5 = record { locals = List._++_ t0 t1; slots = List._∷_ (Row.lease (κs .0) (qs .0)) (List._∷_ (Row.lease (κs .1 .0) (qs .1 .0)) (List._∷_ (Row.lease (κs .1 .1 .0) (qs .1 .1 .0)) (List._∷_ (Row.lease (κs .1 .1 .1 .0) (qs .1 .1 .1 .0)) (List._∷_ (Row.lease (κs .1 .1 .1 .1 .0) (qs .1 .1 .1 .1 .0)) (List._∷_ (Row.lease (κs .1 .1 .1 .1 .1 .0) (qs .1 .1 .1 .1 .1 .0)) (List._∷_ Row.off (List._∷_ Row.off (List._∷_ Row.off (List._∷_ Row.off (List._∷_ Row.off List.[])))))))))) }
+        G5 = record { locals = List._++_ t0 t1; slots = List._∷_ slot5 slots1 }
 
         abbrev G6 : Row.Cx
-        G6 = record { locals = List._++_ t3 t1; slots = List._∷_ (Row.lease (κs .0) (qs .0)) (List._∷_ (Row.lease (κs .1 .0) (qs .1 .0)) (List._∷_ (Row.lease (κs .1 .1 .0) (qs .1 .1 .0)) (List._∷_ (Row.lease (κs .1 .1 .1 .0) (qs .1 .1 .1 .0)) (List._∷_ (Row.lease (κs .1 .1 .1 .1 .0) (qs .1 .1 .1 .1 .0)) (List._∷_ (Row.lease (κs .1 .1 .1 .1 .1 .0) (qs .1 .1 .1 .1 .1 .0)) (List._∷_ Row.off (List._∷_ Row.off (List._∷_ Row.off (List._∷_ Row.off (List._∷_ Row.off List.[])))))))))) }
+        G6 = record { locals = List._++_ t3 t1; slots = List._∷_ slot5 slots1 }
 
         abbrev G7 : Row.Cx
-        G7 = record { locals = List._++_ t4 t1; slots = List._∷_ (Row.lease (κs .0) (qs .0)) (List._∷_ (Row.lease (κs .1 .0) (qs .1 .0)) (List._∷_ (Row.lease (κs .1 .1 .0) (qs .1 .1 .0)) (List._∷_ (Row.lease (κs .1 .1 .1 .0) (qs .1 .1 .1 .0)) (List._∷_ (Row.lease (κs .1 .1 .1 .1 .0) (qs .1 .1 .1 .1 .0)) (List._∷_ (Row.lease (κs .1 .1 .1 .1 .1 .0) (qs .1 .1 .1 .1 .1 .0)) (List._∷_ Row.off (List._∷_ Row.off (List._∷_ Row.off (List._∷_ Row.off (List._∷_ Row.off List.[])))))))))) }
+        G7 = record { locals = List._++_ t4 t1; slots = List._∷_ slot5 slots1 }
 
         abbrev G8 : Row.Cx
-        G8 = record { locals = List._++_ t5 t1; slots = List._∷_ (Row.lease (κs .0) (qs .0)) (List._∷_ (Row.lease (κs .1 .0) (qs .1 .0)) (List._∷_ (Row.lease (κs .1 .1 .0) (qs .1 .1 .0)) (List._∷_ (Row.lease (κs .1 .1 .1 .0) (qs .1 .1 .1 .0)) (List._∷_ (Row.lease (κs .1 .1 .1 .1 .0) (qs .1 .1 .1 .1 .0)) (List._∷_ (Row.lease (κs .1 .1 .1 .1 .1 .0) (qs .1 .1 .1 .1 .1 .0)) (List._∷_ Row.off (List._∷_ Row.off (List._∷_ Row.off (List._∷_ Row.off (List._∷_ Row.off List.[])))))))))) }
+        G8 = record { locals = List._++_ t5 t1; slots = List._∷_ slot5 slots1 }
 
         abbrev G9 : Row.Cx
-        G9 = record { locals = List._++_ t6 t1; slots = List._∷_ (Row.lease (κs .0) (qs .0)) (List._∷_ (Row.lease (κs .1 .0) (qs .1 .0)) (List._∷_ (Row.lease (κs .1 .1 .0) (qs .1 .1 .0)) (List._∷_ (Row.lease (κs .1 .1 .1 .0) (qs .1 .1 .1 .0)) (List._∷_ (Row.lease (κs .1 .1 .1 .1 .0) (qs .1 .1 .1 .1 .0)) (List._∷_ (Row.lease (κs .1 .1 .1 .1 .1 .0) (qs .1 .1 .1 .1 .1 .0)) (List._∷_ Row.off (List._∷_ Row.off (List._∷_ Row.off (List._∷_ Row.off (List._∷_ Row.off List.[])))))))))) }
+        G9 = record { locals = List._++_ t6 t1; slots = List._∷_ slot5 slots1 }
 
         abbrev G10 : Row.Cx
-        G10 = record { locals = List._++_ t7 t1; slots = List._∷_ (Row.lease (κs .0) (qs .0)) (List._∷_ (Row.lease (κs .1 .0) (qs .1 .0)) (List._∷_ (Row.lease (κs .1 .1 .0) (qs .1 .1 .0)) (List._∷_ (Row.lease (κs .1 .1 .1 .0) (qs .1 .1 .1 .0)) (List._∷_ (Row.lease (κs .1 .1 .1 .1 .0) (qs .1 .1 .1 .1 .0)) (List._∷_ (Row.lease (κs .1 .1 .1 .1 .1 .0) (qs .1 .1 .1 .1 .1 .0)) (List._∷_ Row.off (List._∷_ Row.off (List._∷_ Row.off (List._∷_ Row.off (List._∷_ Row.off List.[])))))))))) }
+        G10 = record { locals = List._++_ t7 t1; slots = List._∷_ slot5 slots1 }
 
         abbrev G11 : Row.Cx
-        G11 = record { locals = List._++_ t8 t1; slots = List._∷_ (Row.lease (κs .0) (qs .0)) (List._∷_ (Row.lease (κs .1 .0) (qs .1 .0)) (List._∷_ (Row.lease (κs .1 .1 .0) (qs .1 .1 .0)) (List._∷_ (Row.lease (κs .1 .1 .1 .0) (qs .1 .1 .1 .0)) (List._∷_ (Row.lease (κs .1 .1 .1 .1 .0) (qs .1 .1 .1 .1 .0)) (List._∷_ (Row.lease (κs .1 .1 .1 .1 .1 .0) (qs .1 .1 .1 .1 .1 .0)) (List._∷_ Row.off (List._∷_ Row.off (List._∷_ Row.off (List._∷_ Row.off (List._∷_ Row.off List.[])))))))))) }
+        G11 = record { locals = List._++_ t8 t1; slots = List._∷_ slot5 slots1 }
 
         abbrev G12 : Row.Cx
-        G12 = record { locals = List._++_ t9 t1; slots = List._∷_ (Row.lease (κs .0) (qs .0)) (List._∷_ (Row.lease (κs .1 .0) (qs .1 .0)) (List._∷_ (Row.lease (κs .1 .1 .0) (qs .1 .1 .0)) (List._∷_ (Row.lease (κs .1 .1 .1 .0) (qs .1 .1 .1 .0)) (List._∷_ (Row.lease (κs .1 .1 .1 .1 .0) (qs .1 .1 .1 .1 .0)) (List._∷_ (Row.lease (κs .1 .1 .1 .1 .1 .0) (qs .1 .1 .1 .1 .1 .0)) (List._∷_ Row.off (List._∷_ Row.off (List._∷_ Row.off (List._∷_ Row.off (List._∷_ Row.off List.[])))))))))) }
+        G12 = record { locals = List._++_ t9 t1; slots = List._∷_ slot5 slots1 }
 
         abbrev G13 : Row.Cx
-        G13 = record { locals = List._++_ t10 t1; slots = List._∷_ (Row.lease (κs .0) (qs .0)) (List._∷_ (Row.lease (κs .1 .0) (qs .1 .0)) (List._∷_ (Row.lease (κs .1 .1 .0) (qs .1 .1 .0)) (List._∷_ (Row.lease (κs .1 .1 .1 .0) (qs .1 .1 .1 .0)) (List._∷_ (Row.lease (κs .1 .1 .1 .1 .0) (qs .1 .1 .1 .1 .0)) (List._∷_ (Row.lease (κs .1 .1 .1 .1 .1 .0) (qs .1 .1 .1 .1 .1 .0)) (List._∷_ Row.off (List._∷_ Row.off (List._∷_ Row.off (List._∷_ Row.off (List._∷_ Row.off List.[])))))))))) }
+        G13 = record { locals = List._++_ t10 t1; slots = List._∷_ slot5 slots1 }
 
         abbrev G14 : Row.Cx
-        G14 = record { locals = List._++_ t10 t11; slots = List._∷_ (Row.lease (κs .0) (qs .0)) (List._∷_ (Row.lease (κs .1 .0) (qs .1 .0)) (List._∷_ (Row.lease (κs .1 .1 .0) (qs .1 .1 .0)) (List._∷_ (Row.lease (κs .1 .1 .1 .0) (qs .1 .1 .1 .0)) (List._∷_ (Row.lease (κs .1 .1 .1 .1 .0) (qs .1 .1 .1 .1 .0)) (List._∷_ (Row.lease (κs .1 .1 .1 .1 .1 .0) (qs .1 .1 .1 .1 .1 .0)) (List._∷_ Row.off (List._∷_ Row.off (List._∷_ Row.off (List._∷_ Row.off (List._∷_ Row.off List.[])))))))))) }
+        G14 = record { locals = List._++_ t10 t11; slots = List._∷_ slot5 slots1 }
 
         abbrev G15 : Row.Cx
-        G15 = record { locals = List._++_ t10 t11; slots = List._∷_ (Row.lease (κs .0) (qs .0)) (List._∷_ (Row.lease (κs .1 .0) (qs .1 .0)) (List._∷_ (Row.lease (κs .1 .1 .0) (qs .1 .1 .0)) (List._∷_ (Row.lease (κs .1 .1 .1 .0) (qs .1 .1 .1 .0)) (List._∷_ (Row.lease (κs .1 .1 .1 .1 .0) (qs .1 .1 .1 .1 .0)) (List._∷_ (Row.lease (κs .1 .1 .1 .1 .1 .0) (qs .1 .1 .1 .1 .1 .0)) (List._∷_ Row.off (List._∷_ Row.off (List._∷_ Row.off (List._∷_ Row.off (List._∷_ Row.off List.[])))))))))) }
+        G15 = record { locals = List._++_ t10 t11; slots = List._∷_ slot5 slots1 }
 
         abbrev G16 : Row.Cx
-        G16 = record { locals = List._++_ t10 t12; slots = List._∷_ (Row.lease (κs .0) (qs .0)) (List._∷_ (Row.lease (κs .1 .0) (qs .1 .0)) (List._∷_ (Row.lease (κs .1 .1 .0) (qs .1 .1 .0)) (List._∷_ (Row.lease (κs .1 .1 .1 .0) (qs .1 .1 .1 .0)) (List._∷_ (Row.lease (κs .1 .1 .1 .1 .0) (qs .1 .1 .1 .1 .0)) (List._∷_ (Row.lease (κs .1 .1 .1 .1 .1 .0) (qs .1 .1 .1 .1 .1 .0)) (List._∷_ Row.off (List._∷_ Row.off (List._∷_ Row.off (List._∷_ Row.off (List._∷_ Row.off List.[])))))))))) }
+        G16 = record { locals = List._++_ t10 t12; slots = List._∷_ slot5 slots1 }
 
         abbrev G17 : Row.Cx
-        G17 = record { locals = List._++_ t10 t13; slots = List._∷_ (Row.lease (κs .0) (qs .0)) (List._∷_ (Row.lease (κs .1 .0) (qs .1 .0)) (List._∷_ (Row.lease (κs .1 .1 .0) (qs .1 .1 .0)) (List._∷_ (Row.lease (κs .1 .1 .1 .0) (qs .1 .1 .1 .0)) (List._∷_ (Row.lease (κs .1 .1 .1 .1 .0) (qs .1 .1 .1 .1 .0)) (List._∷_ (Row.lease (κs .1 .1 .1 .1 .1 .0) (qs .1 .1 .1 .1 .1 .0)) (List._∷_ Row.off (List._∷_ Row.off (List._∷_ Row.off (List._∷_ Row.off (List._∷_ Row.off List.[])))))))))) }
+        G17 = record { locals = List._++_ t10 t13; slots = List._∷_ slot5 slots1 }
 
         abbrev G18 : Row.Cx
-        G18 = record { locals = List._++_ t10 t14; slots = List._∷_ (Row.lease (κs .0) (qs .0)) (List._∷_ (Row.lease (κs .1 .0) (qs .1 .0)) (List._∷_ (Row.lease (κs .1 .1 .0) (qs .1 .1 .0)) (List._∷_ (Row.lease (κs .1 .1 .1 .0) (qs .1 .1 .1 .0)) (List._∷_ (Row.lease (κs .1 .1 .1 .1 .0) (qs .1 .1 .1 .1 .0)) (List._∷_ (Row.lease (κs .1 .1 .1 .1 .1 .0) (qs .1 .1 .1 .1 .1 .0)) (List._∷_ Row.off (List._∷_ Row.off (List._∷_ Row.off (List._∷_ Row.off (List._∷_ Row.off List.[])))))))))) }
+        G18 = record { locals = List._++_ t10 t14; slots = List._∷_ slot5 slots1 }
 
         abbrev G19 : Row.Cx
-        G19 = record { locals = List._++_ t10 t15; slots = List._∷_ (Row.lease (κs .0) (qs .0)) (List._∷_ (Row.lease (κs .1 .0) (qs .1 .0)) (List._∷_ (Row.lease (κs .1 .1 .0) (qs .1 .1 .0)) (List._∷_ (Row.lease (κs .1 .1 .1 .0) (qs .1 .1 .1 .0)) (List._∷_ (Row.lease (κs .1 .1 .1 .1 .0) (qs .1 .1 .1 .1 .0)) (List._∷_ (Row.lease (κs .1 .1 .1 .1 .1 .0) (qs .1 .1 .1 .1 .1 .0)) (List._∷_ Row.off (List._∷_ Row.off (List._∷_ Row.off (List._∷_ Row.off (List._∷_ Row.off List.[])))))))))) }
+        G19 = record { locals = List._++_ t10 t15; slots = List._∷_ slot5 slots1 }
 
         abbrev G20 : Row.Cx
-        G20 = record { locals = List._++_ t10 t15; slots = List._∷_ (Row.lease (κs .0) (qs .0)) (List._∷_ (Row.lease (κs .1 .0) (qs .1 .0)) (List._∷_ (Row.lease (κs .1 .1 .0) (qs .1 .1 .0)) (List._∷_ (Row.lease (κs .1 .1 .1 .0) (qs .1 .1 .1 .0)) (List._∷_ (Row.lease (κs .1 .1 .1 .1 .0) (qs .1 .1 .1 .1 .0)) (List._∷_ (Row.lease (κs .1 .1 .1 .1 .1 .0) (qs .1 .1 .1 .1 .1 .0)) (List._∷_ Row.alive (List._∷_ Row.off (List._∷_ Row.off (List._∷_ Row.off (List._∷_ Row.off List.[])))))))))) }
+        G20 = record { locals = List._++_ t10 t15; slots = List._∷_ slot5 (List._∷_ slot0 slots2) }
 
         abbrev G21 : Row.Cx
-        G21 = record { locals = List._++_ g16 t17; slots = List._∷_ (Row.lease (κs .0) (qs .0)) (List._∷_ Row.off (List._∷_ (Row.lease (κs .1 .1 .0) (qs .1 .1 .0)) (List._∷_ (Row.lease (κs .1 .1 .1 .0) (qs .1 .1 .1 .0)) (List._∷_ (Row.lease (κs .1 .1 .1 .1 .0) (qs .1 .1 .1 .1 .0)) (List._∷_ (Row.lease (κs .1 .1 .1 .1 .1 .0) (qs .1 .1 .1 .1 .1 .0)) (List._∷_ Row.alive (List._∷_ Row.off (List._∷_ Row.off (List._∷_ Row.off (List._∷_ Row.off List.[])))))))))) }
+        G21 = record { locals = List._++_ g16 t17; slots = List._∷_ slot5 (List._∷_ Row.off slots2) }
 
         abbrev G22 : Row.Cx
-        G22 = record { locals = List._++_ g16 t18; slots = List._∷_ (Row.lease (κs .0) (qs .0)) (List._∷_ Row.off (List._∷_ (Row.lease (κs .1 .1 .0) (qs .1 .1 .0)) (List._∷_ (Row.lease (κs .1 .1 .1 .0) (qs .1 .1 .1 .0)) (List._∷_ (Row.lease (κs .1 .1 .1 .1 .0) (qs .1 .1 .1 .1 .0)) (List._∷_ (Row.lease (κs .1 .1 .1 .1 .1 .0) (qs .1 .1 .1 .1 .1 .0)) (List._∷_ Row.alive (List._∷_ Row.off (List._∷_ Row.off (List._∷_ Row.off (List._∷_ Row.off List.[])))))))))) }
+        G22 = record { locals = List._++_ g16 t18; slots = List._∷_ slot5 (List._∷_ Row.off slots2) }
 
         abbrev G23 : Row.Cx
-        G23 = record { locals = List._++_ g16 t18; slots = List._∷_ (Row.lease (κs .0) (qs .0)) (List._∷_ Row.off (List._∷_ (Row.lease (κs .1 .1 .0) (qs .1 .1 .0)) (List._∷_ (Row.lease (κs .1 .1 .1 .0) (qs .1 .1 .1 .0)) (List._∷_ (Row.lease (κs .1 .1 .1 .1 .0) (qs .1 .1 .1 .1 .0)) (List._∷_ (Row.lease (κs .1 .1 .1 .1 .1 .0) (qs .1 .1 .1 .1 .1 .0)) (List._∷_ Row.alive (List._∷_ Row.alive (List._∷_ Row.off (List._∷_ Row.off (List._∷_ Row.off List.[])))))))))) }
+        G23 = record { locals = List._++_ g16 t18; slots = List._∷_ slot5 (List._∷_ Row.off (List._∷_ slot1 slots3)) }
 
         abbrev G24 : Row.Cx
-        G24 = record { locals = List._++_ g19 t20; slots = List._∷_ (Row.lease (κs .0) (qs .0)) (List._∷_ Row.off (List._∷_ Row.off (List._∷_ (Row.lease (κs .1 .1 .1 .0) (qs .1 .1 .1 .0)) (List._∷_ (Row.lease (κs .1 .1 .1 .1 .0) (qs .1 .1 .1 .1 .0)) (List._∷_ (Row.lease (κs .1 .1 .1 .1 .1 .0) (qs .1 .1 .1 .1 .1 .0)) (List._∷_ Row.alive (List._∷_ Row.alive (List._∷_ Row.off (List._∷_ Row.off (List._∷_ Row.off List.[])))))))))) }
+        G24 = record { locals = List._++_ g19 t20; slots = List._∷_ slot5 (List._∷_ Row.off (List._∷_ Row.off slots3)) }
 
         abbrev G25 : Row.Cx
-        G25 = record { locals = List._++_ g19 t21; slots = List._∷_ (Row.lease (κs .0) (qs .0)) (List._∷_ Row.off (List._∷_ Row.off (List._∷_ (Row.lease (κs .1 .1 .1 .0) (qs .1 .1 .1 .0)) (List._∷_ (Row.lease (κs .1 .1 .1 .1 .0) (qs .1 .1 .1 .1 .0)) (List._∷_ (Row.lease (κs .1 .1 .1 .1 .1 .0) (qs .1 .1 .1 .1 .1 .0)) (List._∷_ Row.alive (List._∷_ Row.alive (List._∷_ Row.off (List._∷_ Row.off (List._∷_ Row.off List.[])))))))))) }
+        G25 = record { locals = List._++_ g19 t21; slots = List._∷_ slot5 (List._∷_ Row.off (List._∷_ Row.off slots3)) }
 
         abbrev G26 : Row.Cx
-        G26 = record { locals = List._++_ g19 t21; slots = List._∷_ (Row.lease (κs .0) (qs .0)) (List._∷_ Row.off (List._∷_ Row.off (List._∷_ (Row.lease (κs .1 .1 .1 .0) (qs .1 .1 .1 .0)) (List._∷_ (Row.lease (κs .1 .1 .1 .1 .0) (qs .1 .1 .1 .1 .0)) (List._∷_ (Row.lease (κs .1 .1 .1 .1 .1 .0) (qs .1 .1 .1 .1 .1 .0)) (List._∷_ Row.alive (List._∷_ Row.alive (List._∷_ Row.alive (List._∷_ Row.off (List._∷_ Row.off List.[])))))))))) }
+        G26 = record { locals = List._++_ g19 t21; slots = List._∷_ slot5 (List._∷_ Row.off (List._∷_ Row.off (List._∷_ slot2 slots4))) }
 
         abbrev G27 : Row.Cx
-        G27 = record { locals = List._++_ g22 t23; slots = List._∷_ (Row.lease (κs .0) (qs .0)) (List._∷_ Row.off (List._∷_ Row.off (List._∷_ Row.off (List._∷_ (Row.lease (κs .1 .1 .1 .1 .0) (qs .1 .1 .1 .1 .0)) (List._∷_ (Row.lease (κs .1 .1 .1 .1 .1 .0) (qs .1 .1 .1 .1 .1 .0)) (List._∷_ Row.alive (List._∷_ Row.alive (List._∷_ Row.alive (List._∷_ Row.off (List._∷_ Row.off List.[])))))))))) }
+        G27 = record { locals = List._++_ g22 t23; slots = List._∷_ slot5 slots5 }
 
         abbrev G28 : Row.Cx
-        G28 = record { locals = List._++_ g22 t24; slots = List._∷_ (Row.lease (κs .0) (qs .0)) (List._∷_ Row.off (List._∷_ Row.off (List._∷_ Row.off (List._∷_ (Row.lease (κs .1 .1 .1 .1 .0) (qs .1 .1 .1 .1 .0)) (List._∷_ (Row.lease (κs .1 .1 .1 .1 .1 .0) (qs .1 .1 .1 .1 .1 .0)) (List._∷_ Row.alive (List._∷_ Row.alive (List._∷_ Row.alive (List._∷_ Row.off (List._∷_ Row.off List.[])))))))))) }
+        G28 = record { locals = List._++_ g22 t24; slots = List._∷_ slot5 slots5 }
 
         abbrev G29 : Row.Cx
-        G29 = record { locals = List._++_ g22 t24; slots = List._∷_ (Row.lease (κs .0) (qs .0)) (List._∷_ Row.off (List._∷_ Row.off (List._∷_ Row.off (List._∷_ (Row.lease (κs .1 .1 .1 .1 .0) (qs .1 .1 .1 .1 .0)) (List._∷_ (Row.lease (κs .1 .1 .1 .1 .1 .0) (qs .1 .1 .1 .1 .1 .0)) (List._∷_ Row.alive (List._∷_ Row.alive (List._∷_ Row.alive (List._∷_ Row.alive (List._∷_ Row.off List.[])))))))))) }
+        G29 = record { locals = List._++_ g22 t24; slots = List._∷_ slot5 (List._∷_ Row.off (List._∷_ Row.off (List._∷_ Row.off (List._∷_ slot3 slots6)))) }
 
         abbrev G30 : Row.Cx
-        G30 = record { locals = List._++_ g25 t26; slots = List._∷_ (Row.lease (κs .0) (qs .0)) (List._∷_ Row.off (List._∷_ Row.off (List._∷_ Row.off (List._∷_ Row.off (List._∷_ (Row.lease (κs .1 .1 .1 .1 .1 .0) (qs .1 .1 .1 .1 .1 .0)) (List._∷_ Row.alive (List._∷_ Row.alive (List._∷_ Row.alive (List._∷_ Row.alive (List._∷_ Row.off List.[])))))))))) }
+        G30 = record { locals = List._++_ g25 t26; slots = List._∷_ slot5 slots7 }
 
         abbrev G31 : Row.Cx
-        G31 = record { locals = List._++_ g25 t27; slots = List._∷_ (Row.lease (κs .0) (qs .0)) (List._∷_ Row.off (List._∷_ Row.off (List._∷_ Row.off (List._∷_ Row.off (List._∷_ (Row.lease (κs .1 .1 .1 .1 .1 .0) (qs .1 .1 .1 .1 .1 .0)) (List._∷_ Row.alive (List._∷_ Row.alive (List._∷_ Row.alive (List._∷_ Row.alive (List._∷_ Row.off List.[])))))))))) }
+        G31 = record { locals = List._++_ g25 t27; slots = List._∷_ slot5 slots7 }
 
         abbrev G32 : Row.Cx
-        G32 = record { locals = List._++_ g25 t27; slots = List._∷_ (Row.lease (κs .0) (qs .0)) (List._∷_ Row.off (List._∷_ Row.off (List._∷_ Row.off (List._∷_ Row.off (List._∷_ (Row.lease (κs .1 .1 .1 .1 .1 .0) (qs .1 .1 .1 .1 .1 .0)) (List._∷_ Row.alive (List._∷_ Row.alive (List._∷_ Row.alive (List._∷_ Row.alive (List._∷_ Row.alive List.[])))))))))) }
+        G32 = record { locals = List._++_ g25 t27; slots = List._∷_ slot5 (List._∷_ Row.off (List._∷_ Row.off (List._∷_ Row.off (List._∷_ Row.off (List._∷_ slot4 (List._∷_ Row.alive slots9)))))) }
 
         abbrev G33 : Row.Cx
-        G33 = record { locals = List._++_ g28 t29; slots = List._∷_ (Row.lease (κs .0) (qs .0)) (List._∷_ Row.off (List._∷_ Row.off (List._∷_ Row.off (List._∷_ Row.off (List._∷_ Row.off (List._∷_ Row.alive (List._∷_ Row.alive (List._∷_ Row.alive (List._∷_ Row.alive (List._∷_ Row.alive List.[])))))))))) }
+        G33 = record { locals = List._++_ g28 t29; slots = List._∷_ slot5 slots10 }
 
         abbrev G34 : Row.Cx
-        G34 = record { locals = List._++_ g28 t30; slots = List._∷_ (Row.lease (κs .0) (qs .0)) (List._∷_ Row.off (List._∷_ Row.off (List._∷_ Row.off (List._∷_ Row.off (List._∷_ Row.off (List._∷_ Row.alive (List._∷_ Row.alive (List._∷_ Row.alive (List._∷_ Row.alive (List._∷_ Row.alive List.[])))))))))) }
+        G34 = record { locals = List._++_ g28 t30; slots = List._∷_ slot5 slots10 }
 
         abbrev G35 : Row.Cx
-        G35 = record { locals = List._++_ g31 t32; slots = List._∷_ (Row.lease (κs .0) (qs .0)) (List._∷_ Row.off (List._∷_ Row.off (List._∷_ Row.off (List._∷_ Row.off (List._∷_ Row.off (List._∷_ Row.alive (List._∷_ Row.alive (List._∷_ Row.alive (List._∷_ Row.alive (List._∷_ Row.alive List.[])))))))))) }
+        G35 = record { locals = List._++_ g31 t32; slots = List._∷_ slot5 slots10 }
 
         abbrev G36 : Row.Cx
-        G36 = record { locals = List._++_ g31 t33; slots = List._∷_ (Row.lease (κs .0) (qs .0)) (List._∷_ Row.off (List._∷_ Row.off (List._∷_ Row.off (List._∷_ Row.off (List._∷_ Row.off (List._∷_ Row.alive (List._∷_ Row.alive (List._∷_ Row.alive (List._∷_ Row.alive (List._∷_ Row.alive List.[])))))))))) }
+        G36 = record { locals = List._++_ g31 t33; slots = List._∷_ slot5 slots10 }
 
         abbrev G37 : Row.Cx
-        G37 = record { locals = List._++_ g34 t33; slots = List._∷_ (Row.lease (κs .0) (qs .0)) (List._∷_ Row.off (List._∷_ Row.off (List._∷_ Row.off (List._∷_ Row.off (List._∷_ Row.off (List._∷_ Row.alive (List._∷_ Row.alive (List._∷_ Row.alive (List._∷_ Row.alive (List._∷_ Row.alive List.[])))))))))) }
+        G37 = record { locals = List._++_ g34 t33; slots = List._∷_ slot5 slots10 }
 
         abbrev G38 : Row.Cx
-        G38 = record { locals = List._++_ g35 t33; slots = List._∷_ (Row.lease (κs .0) (qs .0)) (List._∷_ Row.off (List._∷_ Row.off (List._∷_ Row.off (List._∷_ Row.off (List._∷_ Row.off (List._∷_ Row.alive (List._∷_ Row.alive (List._∷_ Row.alive (List._∷_ Row.alive (List._∷_ Row.alive List.[])))))))))) }
+        G38 = record { locals = List._++_ g35 t33; slots = List._∷_ slot5 slots10 }
 
         abbrev G39 : Row.Cx
-        G39 = record { locals = List._++_ g36 t33; slots = List._∷_ (Row.lease (κs .0) (qs .0)) (List._∷_ Row.off (List._∷_ Row.off (List._∷_ Row.off (List._∷_ Row.off (List._∷_ Row.off (List._∷_ Row.alive (List._∷_ Row.alive (List._∷_ Row.alive (List._∷_ Row.alive (List._∷_ Row.alive List.[])))))))))) }
+        G39 = record { locals = List._++_ g36 t33; slots = List._∷_ slot5 slots10 }
 
         abbrev G40 : Row.Cx
-        G40 = record { locals = List._++_ g37 t33; slots = List._∷_ (Row.lease (κs .0) (qs .0)) (List._∷_ Row.off (List._∷_ Row.off (List._∷_ Row.off (List._∷_ Row.off (List._∷_ Row.off (List._∷_ Row.alive (List._∷_ Row.alive (List._∷_ Row.alive (List._∷_ Row.alive (List._∷_ Row.alive List.[])))))))))) }
+        G40 = record { locals = List._++_ g37 t33; slots = List._∷_ slot5 slots10 }
 
         abbrev G41 : Row.Cx
-        G41 = record { locals = List._++_ g38 t33; slots = List._∷_ (Row.lease (κs .0) (qs .0)) (List._∷_ Row.off (List._∷_ Row.off (List._∷_ Row.off (List._∷_ Row.off (List._∷_ Row.off (List._∷_ Row.alive (List._∷_ Row.alive (List._∷_ Row.alive (List._∷_ Row.alive (List._∷_ Row.alive List.[])))))))))) }
+        G41 = record { locals = List._++_ g38 t33; slots = List._∷_ slot5 slots10 }
 
         abbrev G42 : Row.Cx
-        G42 = record { locals = List._++_ g39 t33; slots = List._∷_ (Row.lease (κs .0) (qs .0)) (List._∷_ Row.off (List._∷_ Row.off (List._∷_ Row.off (List._∷_ Row.off (List._∷_ Row.off (List._∷_ Row.alive (List._∷_ Row.alive (List._∷_ Row.alive (List._∷_ Row.alive (List._∷_ Row.alive List.[])))))))))) }
+        G42 = record { locals = List._++_ g39 t33; slots = List._∷_ slot5 slots10 }
 
         abbrev G43 : Row.Cx
-        G43 = record { locals = List._++_ g40 t33; slots = List._∷_ (Row.lease (κs .0) (qs .0)) (List._∷_ Row.off (List._∷_ Row.off (List._∷_ Row.off (List._∷_ Row.off (List._∷_ Row.off (List._∷_ Row.alive (List._∷_ Row.alive (List._∷_ Row.alive (List._∷_ Row.alive (List._∷_ Row.alive List.[])))))))))) }
+        G43 = record { locals = List._++_ g40 t33; slots = List._∷_ slot5 slots10 }
 
         abbrev G44 : Row.Cx
-        G44 = record { locals = List._++_ g41 t33; slots = List._∷_ (Row.lease (κs .0) (qs .0)) (List._∷_ Row.off (List._∷_ Row.off (List._∷_ Row.off (List._∷_ Row.off (List._∷_ Row.off (List._∷_ Row.alive (List._∷_ Row.alive (List._∷_ Row.alive (List._∷_ Row.alive (List._∷_ Row.alive List.[])))))))))) }
+        G44 = record { locals = List._++_ g41 t33; slots = List._∷_ slot5 slots10 }
 
         abbrev G45 : Row.Cx
-        G45 = record { locals = List._++_ g41 t42; slots = List._∷_ (Row.lease (κs .0) (qs .0)) (List._∷_ Row.off (List._∷_ Row.off (List._∷_ Row.off (List._∷_ Row.off (List._∷_ Row.off (List._∷_ Row.alive (List._∷_ Row.alive (List._∷_ Row.alive (List._∷_ Row.alive (List._∷_ Row.alive List.[])))))))))) }
+        G45 = record { locals = List._++_ g41 t42; slots = List._∷_ slot5 slots10 }
 
         abbrev G46 : Row.Cx
-        G46 = record { locals = List._++_ g41 t42; slots = List._∷_ (Row.lease (κs .0) (qs .0)) (List._∷_ Row.off (List._∷_ Row.off (List._∷_ Row.off (List._∷_ Row.off (List._∷_ Row.off (List._∷_ Row.dead (List._∷_ Row.alive (List._∷_ Row.alive (List._∷_ Row.alive (List._∷_ Row.alive List.[])))))))))) }
+        G46 = record { locals = List._++_ g41 t42; slots = List._∷_ slot5 (List._∷_ Row.off slots11) }
 
         abbrev G47 : Row.Cx
-        G47 = record { locals = List._++_ g43 t44; slots = List._∷_ (Row.lease (κs .0) (qs .0)) (List._∷_ (Row.lease (κs .1 .0) (qs .1 .0)) (List._∷_ Row.off (List._∷_ Row.off (List._∷_ Row.off (List._∷_ Row.off (List._∷_ Row.dead (List._∷_ Row.alive (List._∷_ Row.alive (List._∷_ Row.alive (List._∷_ Row.alive List.[])))))))))) }
+        G47 = record { locals = List._++_ g43 t44; slots = List._∷_ slot5 (List._∷_ slot0 slots11) }
 
         abbrev G48 : Row.Cx
-        G48 = record { locals = List._++_ g43 t44; slots = List._∷_ (Row.lease (κs .0) (qs .0)) (List._∷_ (Row.lease (κs .1 .0) (qs .1 .0)) (List._∷_ Row.off (List._∷_ Row.off (List._∷_ Row.off (List._∷_ Row.off (List._∷_ Row.dead (List._∷_ Row.alive (List._∷_ Row.alive (List._∷_ Row.alive (List._∷_ Row.alive List.[])))))))))) }
+        G48 = record { locals = List._++_ g43 t44; slots = List._∷_ slot5 (List._∷_ slot0 slots11) }
 
         abbrev G49 : Row.Cx
-        G49 = record { locals = List._++_ g43 t44; slots = List._∷_ (Row.lease (κs .0) (qs .0)) (List._∷_ (Row.lease (κs .1 .0) (qs .1 .0)) (List._∷_ Row.off (List._∷_ Row.off (List._∷_ Row.off (List._∷_ Row.off (List._∷_ Row.off (List._∷_ Row.alive (List._∷_ Row.alive (List._∷_ Row.alive (List._∷_ Row.alive List.[])))))))))) }
+        G49 = record { locals = List._++_ g43 t44; slots = List._∷_ slot5 (List._∷_ slot0 (List._∷_ Row.off (List._∷_ Row.off (List._∷_ Row.off (List._∷_ Row.off (List._∷_ Row.off slots9)))))) }
 
         abbrev G50 : Row.Cx
-        G50 = record { locals = List._++_ g43 t44; slots = List._∷_ (Row.lease (κs .0) (qs .0)) (List._∷_ (Row.lease (κs .1 .0) (qs .1 .0)) (List._∷_ Row.off (List._∷_ Row.off (List._∷_ Row.off (List._∷_ Row.off (List._∷_ Row.off (List._∷_ Row.dead (List._∷_ Row.alive (List._∷_ Row.alive (List._∷_ Row.alive List.[])))))))))) }
+        G50 = record { locals = List._++_ g43 t44; slots = List._∷_ slot5 (List._∷_ slot0 (List._∷_ Row.off slots12)) }
 
         abbrev G51 : Row.Cx
-        G51 = record { locals = List._++_ g45 t46; slots = List._∷_ (Row.lease (κs .0) (qs .0)) (List._∷_ (Row.lease (κs .1 .0) (qs .1 .0)) (List._∷_ (Row.lease (κs .1 .1 .0) (qs .1 .1 .0)) (List._∷_ Row.off (List._∷_ Row.off (List._∷_ Row.off (List._∷_ Row.off (List._∷_ Row.dead (List._∷_ Row.alive (List._∷_ Row.alive (List._∷_ Row.alive List.[])))))))))) }
+        G51 = record { locals = List._++_ g45 t46; slots = List._∷_ slot5 (List._∷_ slot0 (List._∷_ slot1 slots12)) }
 
         abbrev G52 : Row.Cx
-        G52 = record { locals = List._++_ g45 t46; slots = List._∷_ (Row.lease (κs .0) (qs .0)) (List._∷_ (Row.lease (κs .1 .0) (qs .1 .0)) (List._∷_ (Row.lease (κs .1 .1 .0) (qs .1 .1 .0)) (List._∷_ Row.off (List._∷_ Row.off (List._∷_ Row.off (List._∷_ Row.off (List._∷_ Row.dead (List._∷_ Row.alive (List._∷_ Row.alive (List._∷_ Row.alive List.[])))))))))) }
+        G52 = record { locals = List._++_ g45 t46; slots = List._∷_ slot5 (List._∷_ slot0 (List._∷_ slot1 slots12)) }
 
         abbrev G53 : Row.Cx
-        G53 = record { locals = List._++_ g45 t46; slots = List._∷_ (Row.lease (κs .0) (qs .0)) (List._∷_ (Row.lease (κs .1 .0) (qs .1 .0)) (List._∷_ (Row.lease (κs .1 .1 .0) (qs .1 .1 .0)) (List._∷_ Row.off (List._∷_ Row.off (List._∷_ Row.off (List._∷_ Row.off (List._∷_ Row.off (List._∷_ Row.alive (List._∷_ Row.alive (List._∷_ Row.alive List.[])))))))))) }
+        G53 = record { locals = List._++_ g45 t46; slots = List._∷_ slot5 (List._∷_ slot0 (List._∷_ slot1 (List._∷_ Row.off (List._∷_ Row.off (List._∷_ Row.off (List._∷_ Row.off (List._∷_ Row.off (List._∷_ Row.alive slots8)))))))) }
 
         abbrev G54 : Row.Cx
-        G54 = record { locals = List._++_ g45 t46; slots = List._∷_ (Row.lease (κs .0) (qs .0)) (List._∷_ (Row.lease (κs .1 .0) (qs .1 .0)) (List._∷_ (Row.lease (κs .1 .1 .0) (qs .1 .1 .0)) (List._∷_ Row.off (List._∷_ Row.off (List._∷_ Row.off (List._∷_ Row.off (List._∷_ Row.off (List._∷_ Row.dead (List._∷_ Row.alive (List._∷_ Row.alive List.[])))))))))) }
+        G54 = record { locals = List._++_ g45 t46; slots = List._∷_ slot5 (List._∷_ slot0 (List._∷_ slot1 (List._∷_ Row.off slots13))) }
 
         abbrev G55 : Row.Cx
-        G55 = record { locals = List._++_ g47 t48; slots = List._∷_ (Row.lease (κs .0) (qs .0)) (List._∷_ (Row.lease (κs .1 .0) (qs .1 .0)) (List._∷_ (Row.lease (κs .1 .1 .0) (qs .1 .1 .0)) (List._∷_ (Row.lease (κs .1 .1 .1 .0) (qs .1 .1 .1 .0)) (List._∷_ Row.off (List._∷_ Row.off (List._∷_ Row.off (List._∷_ Row.off (List._∷_ Row.dead (List._∷_ Row.alive (List._∷_ Row.alive List.[])))))))))) }
+        G55 = record { locals = List._++_ g47 t48; slots = List._∷_ slot5 slots14 }
 
         abbrev G56 : Row.Cx
-        G56 = record { locals = List._++_ g47 t48; slots = List._∷_ (Row.lease (κs .0) (qs .0)) (List._∷_ (Row.lease (κs .1 .0) (qs .1 .0)) (List._∷_ (Row.lease (κs .1 .1 .0) (qs .1 .1 .0)) (List._∷_ (Row.lease (κs .1 .1 .1 .0) (qs .1 .1 .1 .0)) (List._∷_ Row.off (List._∷_ Row.off (List._∷_ Row.off (List._∷_ Row.off (List._∷_ Row.dead (List._∷_ Row.alive (List._∷_ Row.alive List.[])))))))))) }
+        G56 = record { locals = List._++_ g47 t48; slots = List._∷_ slot5 slots14 }
 
         abbrev G57 : Row.Cx
-        G57 = record { locals = List._++_ g47 t48; slots = List._∷_ (Row.lease (κs .0) (qs .0)) (List._∷_ (Row.lease (κs .1 .0) (qs .1 .0)) (List._∷_ (Row.lease (κs .1 .1 .0) (qs .1 .1 .0)) (List._∷_ (Row.lease (κs .1 .1 .1 .0) (qs .1 .1 .1 .0)) (List._∷_ Row.off (List._∷_ Row.off (List._∷_ Row.off (List._∷_ Row.off (List._∷_ Row.off (List._∷_ Row.alive (List._∷_ Row.alive List.[])))))))))) }
+        G57 = record { locals = List._++_ g47 t48; slots = List._∷_ slot5 (List._∷_ slot0 (List._∷_ slot1 (List._∷_ slot2 (List._∷_ Row.off (List._∷_ Row.off (List._∷_ Row.off (List._∷_ Row.off (List._∷_ Row.off slots8)))))))) }
 
         abbrev G58 : Row.Cx
-        G58 = record { locals = List._++_ g47 t48; slots = List._∷_ (Row.lease (κs .0) (qs .0)) (List._∷_ (Row.lease (κs .1 .0) (qs .1 .0)) (List._∷_ (Row.lease (κs .1 .1 .0) (qs .1 .1 .0)) (List._∷_ (Row.lease (κs .1 .1 .1 .0) (qs .1 .1 .1 .0)) (List._∷_ Row.off (List._∷_ Row.off (List._∷_ Row.off (List._∷_ Row.off (List._∷_ Row.off (List._∷_ Row.dead (List._∷_ Row.alive List.[])))))))))) }
+        G58 = record { locals = List._++_ g47 t48; slots = List._∷_ slot5 (List._∷_ slot0 (List._∷_ slot1 (List._∷_ slot2 (List._∷_ Row.off slots15)))) }
 
         abbrev G59 : Row.Cx
-        G59 = record { locals = List._++_ g49 t50; slots = List._∷_ (Row.lease (κs .0) (qs .0)) (List._∷_ (Row.lease (κs .1 .0) (qs .1 .0)) (List._∷_ (Row.lease (κs .1 .1 .0) (qs .1 .1 .0)) (List._∷_ (Row.lease (κs .1 .1 .1 .0) (qs .1 .1 .1 .0)) (List._∷_ (Row.lease (κs .1 .1 .1 .1 .0) (qs .1 .1 .1 .1 .0)) (List._∷_ Row.off (List._∷_ Row.off (List._∷_ Row.off (List._∷_ Row.off (List._∷_ Row.dead (List._∷_ Row.alive List.[])))))))))) }
+        G59 = record { locals = List._++_ g49 t50; slots = List._∷_ slot5 (List._∷_ slot0 (List._∷_ slot1 (List._∷_ slot2 (List._∷_ slot3 slots15)))) }
 
         abbrev G60 : Row.Cx
-        G60 = record { locals = List._++_ g49 t50; slots = List._∷_ (Row.lease (κs .0) (qs .0)) (List._∷_ (Row.lease (κs .1 .0) (qs .1 .0)) (List._∷_ (Row.lease (κs .1 .1 .0) (qs .1 .1 .0)) (List._∷_ (Row.lease (κs .1 .1 .1 .0) (qs .1 .1 .1 .0)) (List._∷_ (Row.lease (κs .1 .1 .1 .1 .0) (qs .1 .1 .1 .1 .0)) (List._∷_ Row.off (List._∷_ Row.off (List._∷_ Row.off (List._∷_ Row.off (List._∷_ Row.off (List._∷_ Row.alive List.[])))))))))) }
+        G60 = record { locals = List._++_ g49 t50; slots = List._∷_ slot5 (List._∷_ slot0 (List._∷_ slot1 (List._∷_ slot2 (List._∷_ slot3 (List._∷_ Row.off (List._∷_ Row.off (List._∷_ Row.off (List._∷_ Row.off (List._∷_ Row.off (List._∷_ Row.alive List.[])))))))))) }
 
         abbrev G61 : Row.Cx
-        G61 = record { locals = List._++_ g49 t50; slots = List._∷_ (Row.lease (κs .0) (qs .0)) (List._∷_ (Row.lease (κs .1 .0) (qs .1 .0)) (List._∷_ (Row.lease (κs .1 .1 .0) (qs .1 .1 .0)) (List._∷_ (Row.lease (κs .1 .1 .1 .0) (qs .1 .1 .1 .0)) (List._∷_ (Row.lease (κs .1 .1 .1 .1 .0) (qs .1 .1 .1 .1 .0)) (List._∷_ Row.off (List._∷_ Row.off (List._∷_ Row.off (List._∷_ Row.off (List._∷_ Row.off (List._∷_ Row.dead List.[])))))))))) }
+        G61 = record { locals = List._++_ g49 t50; slots = List._∷_ slot5 (List._∷_ slot0 (List._∷_ slot1 (List._∷_ slot2 (List._∷_ slot3 (List._∷_ Row.off slots16))))) }
 
         abbrev G62 : Row.Cx
-        G62 = record { locals = List._++_ t2 t1; slots = List._∷_ (Row.lease (κs .0) (qs .0)) (List._∷_ (Row.lease (κs .1 .0) (qs .1 .0)) (List._∷_ (Row.lease (κs .1 .1 .0) (qs .1 .1 .0)) (List._∷_ (Row.lease (κs .1 .1 .1 .0) (qs .1 .1 .1 .0)) (List._∷_ (Row.lease (κs .1 .1 .1 .1 .0) (qs .1 .1 .1 .1 .0)) (List._∷_ (Row.lease (κs .1 .1 .1 .1 .1 .0) (qs .1 .1 .1 .1 .1 .0)) (List._∷_ Row.off (List._∷_ Row.off (List._∷_ Row.off (List._∷_ Row.off (List._∷_ Row.dead List.[])))))))))) }
+        G62 = record { locals = List._++_ t2 t1; slots = List._∷_ slot5 (List._∷_ slot0 (List._∷_ slot1 (List._∷_ slot2 (List._∷_ slot3 (List._∷_ slot4 slots16))))) }
 
         abbrev G63 : Row.Cx
-        G63 = record { locals = List._++_ t2 t1; slots = List._∷_ (Row.lease (κs .0) (qs .0)) (List._∷_ (Row.lease (κs .1 .0) (qs .1 .0)) (List._∷_ (Row.lease (κs .1 .1 .0) (qs .1 .1 .0)) (List._∷_ (Row.lease (κs .1 .1 .1 .0) (qs .1 .1 .1 .0)) (List._∷_ (Row.lease (κs .1 .1 .1 .1 .0) (qs .1 .1 .1 .1 .0)) (List._∷_ (Row.lease (κs .1 .1 .1 .1 .1 .0) (qs .1 .1 .1 .1 .1 .0)) (List._∷_ Row.off (List._∷_ Row.off (List._∷_ Row.off (List._∷_ Row.off (List._∷_ Row.off List.[])))))))))) }
+        G63 = record { locals = List._++_ t2 t1; slots = List._∷_ slot5 slots1 }
 
         abbrev Δ0 : Typed.Outs
         Δ0 = record { next = Option.none; exits = List.[]; returns = Option.some G1 }
@@ -1140,7 +1555,7 @@ module _ (claims· : Claims) where
           d1 = Typed.g-pre 𝓤 H A W 𝓣 E G62 G63 b22 Δ0 (λ Ψ. Ψ) (at0 bs) (Lifetime.g-forget 𝓤 H A W E G62 10 Row.dead Path'.refl) d0
 
           d2 : Typed.Typed 𝓤 H A 𝓣 E G61 b22 Δ0 (at2 bs)
-          d2 = Typed.g-pre 𝓤 H A W 𝓣 E G61 G62 b22 Δ0 (Typed.both (s60 bs)) (at1 bs) (Part.g-back-slᵖ 𝓤 H A W E Cell.R G61 29 8 5 10 (Syntax.tyRef (Syntax.named 5) Syntax.mut Cell.behind) (Syntax.tyRef Syntax.erased Syntax.mut Cell.behind) (Row.lease (κs .1 .1 .1 .1 .1 .0) (qs .1 .1 .1 .1 .1 .0)) (λ x. x) (λ x. x) (Reads'.as-is 𝓤 H A (Mut.msleft Cell.R (Syntax.tyRef Syntax.erased Syntax.mut Cell.behind))) (Reads'.as-is 𝓤 H A (Part.mslice-owedP Cell.R (Syntax.tyRef (Syntax.named 5) Syntax.mut Cell.behind) 5 10 (Row.lease (κs .1 .1 .1 .1 .1 .0) (qs .1 .1 .1 .1 .1 .0)))) Path'.refl Path'.refl) d1
+          d2 = Typed.g-pre 𝓤 H A W 𝓣 E G61 G62 b22 Δ0 (Typed.both (s60 bs)) (at1 bs) (Part.g-back-slᵖ 𝓤 H A W E Cell.R G61 29 8 5 10 ty15 ty7 slot4 (λ x. x) (λ x. x) (Reads'.as-is 𝓤 H A (Mut.msleft Cell.R ty7)) (Reads'.as-is 𝓤 H A (Part.mslice-owedP Cell.R ty15 5 10 slot4)) Path'.refl Path'.refl) d1
 
           d3 : Typed.Typed 𝓤 H A 𝓣 E G60 b22 Δ0 (at3 bs)
           d3 = Typed.g-pre 𝓤 H A W 𝓣 E G60 G61 b22 Δ0 (λ Ψ. Ψ) (at2 bs) (Lifetime.g-end 𝓤 H A W E G60 10 Path'.refl) d2
@@ -1149,7 +1564,7 @@ module _ (claims· : Claims) where
           d4 = Typed.g-pre 𝓤 H A W 𝓣 E G59 G60 b22 Δ0 (λ Ψ. Ψ) (at3 bs) (Lifetime.g-forget 𝓤 H A W E G59 9 Row.dead Path'.refl) d3
 
           d5 : Typed.Typed 𝓤 H A 𝓣 E G58 b22 Δ0 (at5 bs)
-          d5 = Typed.g-pre 𝓤 H A W 𝓣 E G58 G59 b22 Δ0 (Typed.both (s57 bs)) (at4 bs) (Part.g-back-slᵖ 𝓤 H A W E Cell.R G58 27 7 4 9 (Syntax.tyRef (Syntax.named 4) Syntax.mut Cell.behind) (Syntax.tyRef Syntax.erased Syntax.mut Cell.behind) (Row.lease (κs .1 .1 .1 .1 .0) (qs .1 .1 .1 .1 .0)) (λ x. x) (λ x. x) (Reads'.as-is 𝓤 H A (Mut.msleft Cell.R (Syntax.tyRef Syntax.erased Syntax.mut Cell.behind))) (Reads'.as-is 𝓤 H A (Part.mslice-owedP Cell.R (Syntax.tyRef (Syntax.named 4) Syntax.mut Cell.behind) 4 9 (Row.lease (κs .1 .1 .1 .1 .0) (qs .1 .1 .1 .1 .0)))) Path'.refl Path'.refl) d4
+          d5 = Typed.g-pre 𝓤 H A W 𝓣 E G58 G59 b22 Δ0 (Typed.both (s57 bs)) (at4 bs) (Part.g-back-slᵖ 𝓤 H A W E Cell.R G58 27 7 4 9 ty14 ty7 slot3 (λ x. x) (λ x. x) (Reads'.as-is 𝓤 H A (Mut.msleft Cell.R ty7)) (Reads'.as-is 𝓤 H A (Part.mslice-owedP Cell.R ty14 4 9 slot3)) Path'.refl Path'.refl) d4
 
           d6 : Typed.Typed 𝓤 H A 𝓣 E G57 b22 Δ0 (at6 bs)
           d6 = Typed.g-pre 𝓤 H A W 𝓣 E G57 G58 b22 Δ0 (λ Ψ. Ψ) (at5 bs) (Lifetime.g-end 𝓤 H A W E G57 9 Path'.refl) d5
@@ -1158,10 +1573,10 @@ module _ (claims· : Claims) where
           d7 = Typed.g-pre 𝓤 H A W 𝓣 E G56 G57 b22 Δ0 (λ Ψ. Ψ) (at6 bs) (Lifetime.g-forget 𝓤 H A W E G56 8 Row.dead Path'.refl) d6
 
           d8 : Typed.Typed 𝓤 H A 𝓣 E G55 b22 Δ0 (at8 bs)
-          d8 = Typed.g-pre 𝓤 H A W 𝓣 E G55 G56 b22 Δ0 (Typed.give (s54 bs)) (at7 bs) (Know.g-sl-known 𝓤 H A W (Referent.fInt Syntax.w32) E G55 6 3 (Syntax.tyRef (Syntax.named 3) Syntax.mut (Syntax.tyInt Syntax.w32)) (Row.lease (κs .1 .1 .1 .0) (qs .1 .1 .1 .0)) 0 (λ x. x) record { fits = Dec'.lit< tt } (Reads'.as-is 𝓤 H A (Mut.mslice (Referent.rtF (Referent.fInt Syntax.w32)) (Syntax.tyRef (Syntax.named 3) Syntax.mut (Syntax.tyInt Syntax.w32)) 3)) Path'.refl tt) d7
+          d8 = Typed.g-pre 𝓤 H A W 𝓣 E G55 G56 b22 Δ0 (Typed.give (s54 bs)) (at7 bs) (Know.g-sl-known 𝓤 H A W rf0 E G55 6 3 ty13 slot2 0 (λ x. x) record { fits = Dec'.lit< tt } (Reads'.as-is 𝓤 H A (Mut.mslice held2 ty13 3)) Path'.refl tt) d7
 
           d9 : Typed.Typed 𝓤 H A 𝓣 E G54 b22 Δ0 (at9 bs)
-          d9 = Typed.g-pre 𝓤 H A W 𝓣 E G54 G55 b22 Δ0 (Typed.both (s53 bs)) (at8 bs) (Part.g-back-slᵖ 𝓤 H A W E (Referent.rtF (Referent.fInt Syntax.w32)) G54 25 6 3 8 (Syntax.tyRef (Syntax.named 3) Syntax.mut (Syntax.tyInt Syntax.w32)) (Syntax.tyRef Syntax.erased Syntax.mut (Syntax.tyInt Syntax.w32)) (Row.lease (κs .1 .1 .1 .0) (qs .1 .1 .1 .0)) (λ x. x) (λ x. x) (Reads'.as-is 𝓤 H A (Mut.msleft (Referent.rtF (Referent.fInt Syntax.w32)) (Syntax.tyRef Syntax.erased Syntax.mut (Syntax.tyInt Syntax.w32)))) (Reads'.as-is 𝓤 H A (Part.mslice-owedP (Referent.rtF (Referent.fInt Syntax.w32)) (Syntax.tyRef (Syntax.named 3) Syntax.mut (Syntax.tyInt Syntax.w32)) 3 8 (Row.lease (κs .1 .1 .1 .0) (qs .1 .1 .1 .0)))) Path'.refl Path'.refl) d8
+          d9 = Typed.g-pre 𝓤 H A W 𝓣 E G54 G55 b22 Δ0 (Typed.both (s53 bs)) (at8 bs) (Part.g-back-slᵖ 𝓤 H A W E held2 G54 25 6 3 8 ty13 ty5 slot2 (λ x. x) (λ x. x) (Reads'.as-is 𝓤 H A (Mut.msleft held2 ty5)) (Reads'.as-is 𝓤 H A (Part.mslice-owedP held2 ty13 3 8 slot2)) Path'.refl Path'.refl) d8
 
           d10 : Typed.Typed 𝓤 H A 𝓣 E G53 b22 Δ0 (at10 bs)
           d10 = Typed.g-pre 𝓤 H A W 𝓣 E G53 G54 b22 Δ0 (λ Ψ. Ψ) (at9 bs) (Lifetime.g-end 𝓤 H A W E G53 8 Path'.refl) d9
@@ -1170,10 +1585,10 @@ module _ (claims· : Claims) where
           d11 = Typed.g-pre 𝓤 H A W 𝓣 E G52 G53 b22 Δ0 (λ Ψ. Ψ) (at10 bs) (Lifetime.g-forget 𝓤 H A W E G52 7 Row.dead Path'.refl) d10
 
           d12 : Typed.Typed 𝓤 H A 𝓣 E G51 b22 Δ0 (at12 bs)
-          d12 = Typed.g-pre 𝓤 H A W 𝓣 E G51 G52 b22 Δ0 (Typed.give (s50 bs)) (at11 bs) (Know.g-sl-known 𝓤 H A W (Referent.fInt Syntax.w32) E G51 5 2 (Syntax.tyRef (Syntax.named 2) Syntax.mut (Syntax.tyInt Syntax.w32)) (Row.lease (κs .1 .1 .0) (qs .1 .1 .0)) 0 (λ x. x) record { fits = Dec'.lit< tt } (Reads'.as-is 𝓤 H A (Mut.mslice (Referent.rtF (Referent.fInt Syntax.w32)) (Syntax.tyRef (Syntax.named 2) Syntax.mut (Syntax.tyInt Syntax.w32)) 2)) Path'.refl tt) d11
+          d12 = Typed.g-pre 𝓤 H A W 𝓣 E G51 G52 b22 Δ0 (Typed.give (s50 bs)) (at11 bs) (Know.g-sl-known 𝓤 H A W rf0 E G51 5 2 ty12 slot1 0 (λ x. x) record { fits = Dec'.lit< tt } (Reads'.as-is 𝓤 H A (Mut.mslice held2 ty12 2)) Path'.refl tt) d11
 
           d13 : Typed.Typed 𝓤 H A 𝓣 E G50 b22 Δ0 (at13 bs)
-          d13 = Typed.g-pre 𝓤 H A W 𝓣 E G50 G51 b22 Δ0 (Typed.both (s49 bs)) (at12 bs) (Part.g-back-slᵖ 𝓤 H A W E (Referent.rtF (Referent.fInt Syntax.w32)) G50 23 5 2 7 (Syntax.tyRef (Syntax.named 2) Syntax.mut (Syntax.tyInt Syntax.w32)) (Syntax.tyRef Syntax.erased Syntax.mut (Syntax.tyInt Syntax.w32)) (Row.lease (κs .1 .1 .0) (qs .1 .1 .0)) (λ x. x) (λ x. x) (Reads'.as-is 𝓤 H A (Mut.msleft (Referent.rtF (Referent.fInt Syntax.w32)) (Syntax.tyRef Syntax.erased Syntax.mut (Syntax.tyInt Syntax.w32)))) (Reads'.as-is 𝓤 H A (Part.mslice-owedP (Referent.rtF (Referent.fInt Syntax.w32)) (Syntax.tyRef (Syntax.named 2) Syntax.mut (Syntax.tyInt Syntax.w32)) 2 7 (Row.lease (κs .1 .1 .0) (qs .1 .1 .0)))) Path'.refl Path'.refl) d12
+          d13 = Typed.g-pre 𝓤 H A W 𝓣 E G50 G51 b22 Δ0 (Typed.both (s49 bs)) (at12 bs) (Part.g-back-slᵖ 𝓤 H A W E held2 G50 23 5 2 7 ty12 ty5 slot1 (λ x. x) (λ x. x) (Reads'.as-is 𝓤 H A (Mut.msleft held2 ty5)) (Reads'.as-is 𝓤 H A (Part.mslice-owedP held2 ty12 2 7 slot1)) Path'.refl Path'.refl) d12
 
           d14 : Typed.Typed 𝓤 H A 𝓣 E G49 b22 Δ0 (at14 bs)
           d14 = Typed.g-pre 𝓤 H A W 𝓣 E G49 G50 b22 Δ0 (λ Ψ. Ψ) (at13 bs) (Lifetime.g-end 𝓤 H A W E G49 7 Path'.refl) d13
@@ -1182,157 +1597,157 @@ module _ (claims· : Claims) where
           d15 = Typed.g-pre 𝓤 H A W 𝓣 E G48 G49 b22 Δ0 (λ Ψ. Ψ) (at14 bs) (Lifetime.g-forget 𝓤 H A W E G48 6 Row.dead Path'.refl) d14
 
           d16 : Typed.Typed 𝓤 H A 𝓣 E G47 b22 Δ0 (at16 bs)
-          d16 = Typed.g-pre 𝓤 H A W 𝓣 E G47 G48 b22 Δ0 (Typed.give (s46 bs)) (at15 bs) (Know.g-sl-known 𝓤 H A W (Referent.fInt Syntax.w32) E G47 4 1 (Syntax.tyRef (Syntax.named 1) Syntax.mut (Syntax.tyInt Syntax.w32)) (Row.lease (κs .1 .0) (qs .1 .0)) 0 (λ x. x) record { fits = Dec'.lit< tt } (Reads'.as-is 𝓤 H A (Mut.mslice (Referent.rtF (Referent.fInt Syntax.w32)) (Syntax.tyRef (Syntax.named 1) Syntax.mut (Syntax.tyInt Syntax.w32)) 1)) Path'.refl tt) d15
+          d16 = Typed.g-pre 𝓤 H A W 𝓣 E G47 G48 b22 Δ0 (Typed.give (s46 bs)) (at15 bs) (Know.g-sl-known 𝓤 H A W rf0 E G47 4 1 ty11 slot0 0 (λ x. x) record { fits = Dec'.lit< tt } (Reads'.as-is 𝓤 H A (Mut.mslice held2 ty11 1)) Path'.refl tt) d15
 
           d17 : Typed.Typed 𝓤 H A 𝓣 E G46 b22 Δ0 (at17 bs)
-          d17 = Typed.g-pre 𝓤 H A W 𝓣 E G46 G47 b22 Δ0 (Typed.both (s45 bs)) (at16 bs) (Part.g-back-slᵖ 𝓤 H A W E (Referent.rtF (Referent.fInt Syntax.w32)) G46 21 4 1 6 (Syntax.tyRef (Syntax.named 1) Syntax.mut (Syntax.tyInt Syntax.w32)) (Syntax.tyRef Syntax.erased Syntax.mut (Syntax.tyInt Syntax.w32)) (Row.lease (κs .1 .0) (qs .1 .0)) (λ x. x) (λ x. x) (Reads'.as-is 𝓤 H A (Mut.msleft (Referent.rtF (Referent.fInt Syntax.w32)) (Syntax.tyRef Syntax.erased Syntax.mut (Syntax.tyInt Syntax.w32)))) (Reads'.as-is 𝓤 H A (Part.mslice-owedP (Referent.rtF (Referent.fInt Syntax.w32)) (Syntax.tyRef (Syntax.named 1) Syntax.mut (Syntax.tyInt Syntax.w32)) 1 6 (Row.lease (κs .1 .0) (qs .1 .0)))) Path'.refl Path'.refl) d16
+          d17 = Typed.g-pre 𝓤 H A W 𝓣 E G46 G47 b22 Δ0 (Typed.both (s45 bs)) (at16 bs) (Part.g-back-slᵖ 𝓤 H A W E held2 G46 21 4 1 6 ty11 ty5 slot0 (λ x. x) (λ x. x) (Reads'.as-is 𝓤 H A (Mut.msleft held2 ty5)) (Reads'.as-is 𝓤 H A (Part.mslice-owedP held2 ty11 1 6 slot0)) Path'.refl Path'.refl) d16
 
           d18 : Typed.Typed 𝓤 H A 𝓣 E G45 b22 Δ0 (at18 bs)
           d18 = Typed.g-pre 𝓤 H A W 𝓣 E G45 G46 b22 Δ0 (λ Ψ. Ψ) (at17 bs) (Lifetime.g-end 𝓤 H A W E G45 6 Path'.refl) d17
 
           d19 : Typed.Typed 𝓤 H A 𝓣 E G44 b22 Δ0 (at19 bs)
-          d19 = Typed.g-pre 𝓤 H A W 𝓣 E G44 G45 b22 Δ0 (Typed.pass T44 T45 (s43 bs)) (at18 bs) (Scalar.g-room 𝓤 H A W E G44 17 (Syntax.tyInt Syntax.w32) (Scalar.room-sc 𝓤 H A W (Row.sInt Syntax.w32))) d18
+          d19 = Typed.g-pre 𝓤 H A W 𝓣 E G44 G45 b22 Δ0 (Typed.pass T44 T45 (s43 bs)) (at18 bs) (Scalar.g-room 𝓤 H A W E G44 17 ty0 (Scalar.room-sc 𝓤 H A W sc1)) d18
 
           d20 : Typed.Typed 𝓤 H A 𝓣 E G43 b22 Δ0 (at20 bs)
-          d20 = Typed.g-pre 𝓤 H A W 𝓣 E G43 G44 b22 Δ0 (Typed.pass T43 T44 (s42 bs)) (at19 bs) (Scalar.g-room 𝓤 H A W E G43 15 (Syntax.tyInt Syntax.w64) (Scalar.room-sc 𝓤 H A W (Row.sInt Syntax.w64))) d19
+          d20 = Typed.g-pre 𝓤 H A W 𝓣 E G43 G44 b22 Δ0 (Typed.pass T43 T44 (s42 bs)) (at19 bs) (Scalar.g-room 𝓤 H A W E G43 15 ty2 (Scalar.room-sc 𝓤 H A W sc0)) d19
 
           d21 : Typed.Typed 𝓤 H A 𝓣 E G42 b22 Δ0 (at21 bs)
-          d21 = Typed.g-pre 𝓤 H A W 𝓣 E G42 G43 b22 Δ0 (Typed.pass T42 T43 (s41 bs)) (at20 bs) (Scalar.g-room 𝓤 H A W E G42 14 (Syntax.tyInt Syntax.w64) (Scalar.room-sc 𝓤 H A W (Row.sInt Syntax.w64))) d20
+          d21 = Typed.g-pre 𝓤 H A W 𝓣 E G42 G43 b22 Δ0 (Typed.pass T42 T43 (s41 bs)) (at20 bs) (Scalar.g-room 𝓤 H A W E G42 14 ty2 (Scalar.room-sc 𝓤 H A W sc0)) d20
 
           d22 : Typed.Typed 𝓤 H A 𝓣 E G41 b22 Δ0 (at22 bs)
-          d22 = Typed.g-pre 𝓤 H A W 𝓣 E G41 G42 b22 Δ0 (Typed.pass T41 T42 (s40 bs)) (at21 bs) (Scalar.g-room 𝓤 H A W E G41 13 (Syntax.tyInt Syntax.w64) (Scalar.room-sc 𝓤 H A W (Row.sInt Syntax.w64))) d21
+          d22 = Typed.g-pre 𝓤 H A W 𝓣 E G41 G42 b22 Δ0 (Typed.pass T41 T42 (s40 bs)) (at21 bs) (Scalar.g-room 𝓤 H A W E G41 13 ty2 (Scalar.room-sc 𝓤 H A W sc0)) d21
 
           d23 : Typed.Typed 𝓤 H A 𝓣 E G40 b22 Δ0 (at23 bs)
-          d23 = Typed.g-pre 𝓤 H A W 𝓣 E G40 G41 b22 Δ0 (Typed.pass T40 T41 (s39 bs)) (at22 bs) (Scalar.g-room 𝓤 H A W E G40 12 (Syntax.tyInt Syntax.w64) (Scalar.room-sc 𝓤 H A W (Row.sInt Syntax.w64))) d22
+          d23 = Typed.g-pre 𝓤 H A W 𝓣 E G40 G41 b22 Δ0 (Typed.pass T40 T41 (s39 bs)) (at22 bs) (Scalar.g-room 𝓤 H A W E G40 12 ty2 (Scalar.room-sc 𝓤 H A W sc0)) d22
 
           d24 : Typed.Typed 𝓤 H A 𝓣 E G39 b22 Δ0 (at24 bs)
-          d24 = Typed.g-pre 𝓤 H A W 𝓣 E G39 G40 b22 Δ0 (Typed.pass T39 T40 (s38 bs)) (at23 bs) (Scalar.g-room 𝓤 H A W E G39 11 (Syntax.tyInt Syntax.w64) (Scalar.room-sc 𝓤 H A W (Row.sInt Syntax.w64))) d23
+          d24 = Typed.g-pre 𝓤 H A W 𝓣 E G39 G40 b22 Δ0 (Typed.pass T39 T40 (s38 bs)) (at23 bs) (Scalar.g-room 𝓤 H A W E G39 11 ty2 (Scalar.room-sc 𝓤 H A W sc0)) d23
 
           d25 : Typed.Typed 𝓤 H A 𝓣 E G38 b22 Δ0 (at25 bs)
-          d25 = Typed.g-pre 𝓤 H A W 𝓣 E G38 G39 b22 Δ0 (Typed.pass T38 T39 (s37 bs)) (at24 bs) (Scalar.g-room 𝓤 H A W E G38 10 (Syntax.tyInt Syntax.w64) (Scalar.room-sc 𝓤 H A W (Row.sInt Syntax.w64))) d24
+          d25 = Typed.g-pre 𝓤 H A W 𝓣 E G38 G39 b22 Δ0 (Typed.pass T38 T39 (s37 bs)) (at24 bs) (Scalar.g-room 𝓤 H A W E G38 10 ty2 (Scalar.room-sc 𝓤 H A W sc0)) d24
 
           d26 : Typed.Typed 𝓤 H A 𝓣 E G37 b22 Δ0 (at26 bs)
-          d26 = Typed.g-pre 𝓤 H A W 𝓣 E G37 G38 b22 Δ0 (Typed.pass T37 T38 (s36 bs)) (at25 bs) (Scalar.g-room 𝓤 H A W E G37 9 (Syntax.tyStruct (List._∷_ 112 (List._∷_ 121 (List._∷_ 114 (List._∷_ 97 (List._∷_ 109 (List._∷_ 105 (List._∷_ 100 (List._∷_ 58 (List._∷_ 58 (List._∷_ 83 (List._∷_ 116 (List._∷_ 97 (List._∷_ 116 (List._∷_ 101 List.[])))))))))))))) (Syntax.tcons (Syntax.tyInt Syntax.w32) (Syntax.tcons (Syntax.tyInt Syntax.w32) (Syntax.tcons (Syntax.tyInt Syntax.w32) (Syntax.tcons (Syntax.tyInt Syntax.w32) (Syntax.tcons (Syntax.tyInt Syntax.w32) (Syntax.tcons (Syntax.tyArray (Syntax.tyInt Syntax.w32) 64) Syntax.tnil))))))) (Local.room-whole 𝓤 H A W (Declared.row State.the-type) (Syntax.tyStruct (List._∷_ 112 (List._∷_ 121 (List._∷_ 114 (List._∷_ 97 (List._∷_ 109 (List._∷_ 105 (List._∷_ 100 (List._∷_ 58 (List._∷_ 58 (List._∷_ 83 (List._∷_ 116 (List._∷_ 97 (List._∷_ 116 (List._∷_ 101 List.[])))))))))))))) (Syntax.tcons (Syntax.tyInt Syntax.w32) (Syntax.tcons (Syntax.tyInt Syntax.w32) (Syntax.tcons (Syntax.tyInt Syntax.w32) (Syntax.tcons (Syntax.tyInt Syntax.w32) (Syntax.tcons (Syntax.tyInt Syntax.w32) (Syntax.tcons (Syntax.tyArray (Syntax.tyInt Syntax.w32) 64) Syntax.tnil))))))) Path'.refl)) d25
+          d26 = Typed.g-pre 𝓤 H A W 𝓣 E G37 G38 b22 Δ0 (Typed.pass T37 T38 (s36 bs)) (at25 bs) (Scalar.g-room 𝓤 H A W E G37 9 ty1 (Local.room-whole 𝓤 H A W held4 ty1 Path'.refl)) d25
 
           d27 : Typed.Typed 𝓤 H A 𝓣 E G36 b22 Δ0 (at27 bs)
-          d27 = Typed.g-pre 𝓤 H A W 𝓣 E G36 G37 b22 Δ0 (Typed.pass T36 T37 (s35 bs)) (at26 bs) (Scalar.g-room 𝓤 H A W E G36 2 (Syntax.tyStruct (List._∷_ 115 (List._∷_ 99 (List._∷_ 114 (List._∷_ 105 (List._∷_ 112 (List._∷_ 116 (List._∷_ 58 (List._∷_ 58 (List._∷_ 115 (List._∷_ 99 (List._∷_ 97 (List._∷_ 110 (List._∷_ 58 (List._∷_ 58 (List._∷_ 76 (List._∷_ 105 (List._∷_ 110 (List._∷_ 101 List.[])))))))))))))))))) (Syntax.tcons (Syntax.tyInt Syntax.w32) (Syntax.tcons (Syntax.tyInt Syntax.w64) (Syntax.tcons (Syntax.tyInt Syntax.w64) (Syntax.tcons (Syntax.tyInt Syntax.w64) (Syntax.tcons (Syntax.tyInt Syntax.w64) Syntax.tnil)))))) (Local.room-whole 𝓤 H A W (Declared.row Line.the-type) (Syntax.tyStruct (List._∷_ 115 (List._∷_ 99 (List._∷_ 114 (List._∷_ 105 (List._∷_ 112 (List._∷_ 116 (List._∷_ 58 (List._∷_ 58 (List._∷_ 115 (List._∷_ 99 (List._∷_ 97 (List._∷_ 110 (List._∷_ 58 (List._∷_ 58 (List._∷_ 76 (List._∷_ 105 (List._∷_ 110 (List._∷_ 101 List.[])))))))))))))))))) (Syntax.tcons (Syntax.tyInt Syntax.w32) (Syntax.tcons (Syntax.tyInt Syntax.w64) (Syntax.tcons (Syntax.tyInt Syntax.w64) (Syntax.tcons (Syntax.tyInt Syntax.w64) (Syntax.tcons (Syntax.tyInt Syntax.w64) Syntax.tnil)))))) Path'.refl)) d26
+          d27 = Typed.g-pre 𝓤 H A W 𝓣 E G36 G37 b22 Δ0 (Typed.pass T36 T37 (s35 bs)) (at26 bs) (Scalar.g-room 𝓤 H A W E G36 2 ty17 (Local.room-whole 𝓤 H A W held1 ty17 Path'.refl)) d26
 
           d28 : Typed.Typed 𝓤 H A 𝓣 E G35 b22 Δ0 (at28 bs)
-          d28 = Typed.g-pre 𝓤 H A W 𝓣 E G35 G36 b22 Δ0 (Typed.pass T35 T36 (s34 bs)) (at27 bs) (Scalar.g-room 𝓤 H A W E G35 19 (Syntax.tyStruct (List._∷_ 38 (List._∷_ 91 (List._∷_ 93 List.[]))) (Syntax.tcons (Syntax.tyRef Syntax.erased Syntax.imm (Syntax.tyInt Syntax.w32)) (Syntax.tcons (Syntax.tyInt Syntax.w64) Syntax.tnil))) (Shared.room-sslice 𝓤 H A W (Referent.rtF (Referent.fInt Syntax.w32)) (Syntax.tyRef Syntax.erased Syntax.imm (Syntax.tyInt Syntax.w32)) 0)) d27
+          d28 = Typed.g-pre 𝓤 H A W 𝓣 E G35 G36 b22 Δ0 (Typed.pass T35 T36 (s34 bs)) (at27 bs) (Scalar.g-room 𝓤 H A W E G35 19 ty4 (Shared.room-sslice 𝓤 H A W held2 ty3 0)) d27
 
           d29 : Typed.Typed 𝓤 H A 𝓣 E G34 b23 Δ0 (at29 bs)
-          d29 = Typed.s-seq 𝓤 H A W 𝓣 E G34 G35 b21 b22 Δ0 (Typed.both (s33 bs)) (at28 bs) (Plain.t-call-plain 𝓤 H A W 𝓣 6 ps·1 r·1 (claims· .2) (claims· .3) "zones::sheet_calls::handed_with" (known .1) E (λ pos β. β) G34 (record { pos = 9; st = List.[]; d = 0; at = λ x. x }, (Num.vFld 2 (List._∷_ (Syntax.field 0) List.[]) 0 λ x. Line.struct .as-values x .0, (Num.vAt 17 λ x. x, (record { pos = 19; ty = Syntax.tyRef Syntax.erased Syntax.imm (Syntax.tyInt Syntax.w32); ref = λ x. x }, (record { pos = 21; ty = Syntax.tyRef Syntax.erased Syntax.mut (Syntax.tyInt Syntax.w32); ref = λ x. x }, (record { pos = 23; ty = Syntax.tyRef Syntax.erased Syntax.mut (Syntax.tyInt Syntax.w32); ref = λ x. x }, (record { pos = 25; ty = Syntax.tyRef Syntax.erased Syntax.mut (Syntax.tyInt Syntax.w32); ref = λ x. x }, (record { pos = 27; ty = Syntax.tyRef Syntax.erased Syntax.mut Cell.behind; ref = λ x. x }, (record { pos = 29; ty = Syntax.tyRef Syntax.erased Syntax.mut Cell.behind; ref = λ x. x }, tt))))))))) 0 (List._∷_ 0 (List._∷_ 6 (List._∷_ 7 (List._∷_ 8 (List._∷_ 9 (List._∷_ 10 List.[])))))) (Call.sub-id 𝓤 H A W (G34 .slots)) ((Yields.yields-copy 𝓤 H A W (λ ρ. Unit) (Declared.row State.the-type) Path'.refl (Copies.cStruct State.the-type Laws'.the-laws Laws'.the-copy .copy 𝓤 H A W) (Rows.whole (Declared.row State.the-type)) (λ x. x) (λ x. x) (λ ρ told. Local.mem-whole 𝓤 H A W (Declared.row State.the-type) ρ) λ ρ told. Local.whole-mem 𝓤 H A W (Declared.row State.the-type) ρ, Path'.refl), ((Reads.reads-field 𝓤 H A W Line.the-type Laws''.the-laws 0 (Syntax.tyInt Syntax.w32) 0 Path'.refl, Path'.refl), ((Scalar.reads-sc 𝓤 H A W (Row.sInt Syntax.w32), Path'.refl), (ShrSlice.spares-sslice 𝓤 H A W (Referent.rtF (Referent.fInt Syntax.w32)) (Syntax.tyRef Syntax.erased Syntax.imm (Syntax.tyInt Syntax.w32)) 0, Shared.reads-sslice 𝓤 H A W (Referent.rtF (Referent.fInt Syntax.w32)) (Syntax.tyRef Syntax.erased Syntax.imm (Syntax.tyInt Syntax.w32)) 0, Path'.refl, (Reads'.as-is 𝓤 H A (Mut.mslice (Referent.rtF (Referent.fInt Syntax.w32)) (Syntax.tyRef Syntax.erased Syntax.mut (Syntax.tyInt Syntax.w32)) 6), Mut.reads-mslice 𝓤 H A W (Referent.rtF (Referent.fInt Syntax.w32)) (Syntax.tyRef Syntax.erased Syntax.mut (Syntax.tyInt Syntax.w32)) 6, Path'.refl, (Reads'.as-is 𝓤 H A (Mut.mslice (Referent.rtF (Referent.fInt Syntax.w32)) (Syntax.tyRef Syntax.erased Syntax.mut (Syntax.tyInt Syntax.w32)) 7), Mut.reads-mslice 𝓤 H A W (Referent.rtF (Referent.fInt Syntax.w32)) (Syntax.tyRef Syntax.erased Syntax.mut (Syntax.tyInt Syntax.w32)) 7, Path'.refl, (Reads'.as-is 𝓤 H A (Mut.mslice (Referent.rtF (Referent.fInt Syntax.w32)) (Syntax.tyRef Syntax.erased Syntax.mut (Syntax.tyInt Syntax.w32)) 8), Mut.reads-mslice 𝓤 H A W (Referent.rtF (Referent.fInt Syntax.w32)) (Syntax.tyRef Syntax.erased Syntax.mut (Syntax.tyInt Syntax.w32)) 8, Path'.refl, (Reads'.as-is 𝓤 H A (Mut.mslice Cell.R (Syntax.tyRef Syntax.erased Syntax.mut Cell.behind) 9), Mut.reads-mslice 𝓤 H A W Cell.R (Syntax.tyRef Syntax.erased Syntax.mut Cell.behind) 9, Path'.refl, (Reads'.as-is 𝓤 H A (Mut.mslice Cell.R (Syntax.tyRef Syntax.erased Syntax.mut Cell.behind) 10), Mut.reads-mslice 𝓤 H A W Cell.R (Syntax.tyRef Syntax.erased Syntax.mut Cell.behind) 10, Path'.refl, tt))))))))) (Reads'.room-gone 𝓤 H A (Syntax.tyStruct (List._∷_ 112 (List._∷_ 121 (List._∷_ 114 (List._∷_ 97 (List._∷_ 109 (List._∷_ 105 (List._∷_ 100 (List._∷_ 58 (List._∷_ 58 (List._∷_ 79 (List._∷_ 117 (List._∷_ 116 (List._∷_ 99 (List._∷_ 111 (List._∷_ 109 (List._∷_ 101 List.[])))))))))))))))) (Syntax.tcons (Syntax.tyStruct (List._∷_ 112 (List._∷_ 121 (List._∷_ 114 (List._∷_ 97 (List._∷_ 109 (List._∷_ 105 (List._∷_ 100 (List._∷_ 58 (List._∷_ 58 (List._∷_ 83 (List._∷_ 116 (List._∷_ 97 (List._∷_ 116 (List._∷_ 101 List.[])))))))))))))) (Syntax.tcons (Syntax.tyInt Syntax.w32) (Syntax.tcons (Syntax.tyInt Syntax.w32) (Syntax.tcons (Syntax.tyInt Syntax.w32) (Syntax.tcons (Syntax.tyInt Syntax.w32) (Syntax.tcons (Syntax.tyInt Syntax.w32) (Syntax.tcons (Syntax.tyArray (Syntax.tyInt Syntax.w32) 64) Syntax.tnil))))))) (Syntax.tcons (Syntax.tyEnum (List._∷_ 100 (List._∷_ 97 (List._∷_ 114 (List._∷_ 116 (List._∷_ 115 (List._∷_ 58 (List._∷_ 58 (List._∷_ 65 (List._∷_ 110 (List._∷_ 115 (List._∷_ 119 (List._∷_ 101 (List._∷_ 114 List.[]))))))))))))) (Syntax.ttcons (Syntax.tcons (Syntax.tyInt Syntax.w64) Syntax.tnil) (Syntax.ttcons Syntax.tnil (Syntax.ttcons (Syntax.tcons (Syntax.tyInt Syntax.w64) Syntax.tnil) (Syntax.ttcons (Syntax.tcons (Syntax.tyInt Syntax.w64) (Syntax.tcons (Syntax.tyInt Syntax.w64) Syntax.tnil)) (Syntax.ttcons Syntax.tnil (Syntax.ttcons Syntax.tnil (Syntax.ttcons Syntax.tnil (Syntax.ttcons (Syntax.tcons (Syntax.tyInt Syntax.w64) Syntax.tnil) (Syntax.ttcons (Syntax.tcons (Syntax.tyInt Syntax.w64) Syntax.tnil) (Syntax.ttcons (Syntax.tcons (Syntax.tyInt Syntax.w64) Syntax.tnil) (Syntax.ttcons (Syntax.tcons (Syntax.tyInt Syntax.w64) Syntax.tnil) (Syntax.ttcons (Syntax.tcons (Syntax.tyInt Syntax.w64) Syntax.tnil) (Syntax.ttcons (Syntax.tcons (Syntax.tyInt Syntax.w64) Syntax.tnil) (Syntax.ttcons (Syntax.tcons (Syntax.tyInt Syntax.w64) Syntax.tnil) (Syntax.ttcons Syntax.tnil (Syntax.ttcons Syntax.tnil (Syntax.ttcons (Syntax.tcons (Syntax.tyInt Syntax.w64) Syntax.tnil) Syntax.ttnil)))))))))))))))))) Syntax.tnil)))) (tt, (tt, (tt, (tt, (tt, (tt, tt)))))) Path'.refl) d28
+          d29 = Typed.s-seq 𝓤 H A W 𝓣 E G34 G35 b21 b22 Δ0 (Typed.both (s33 bs)) (at28 bs) (Plain.t-call-plain 𝓤 H A W 𝓣 6 ps·1 r·1 (claims· .2) (claims· .3) "zones::sheet_calls::handed_with" (known .1) E (λ pos β. β) G34 (record { pos = 9; st = List.[]; d = 0; at = λ x. x }, (Num.vFld 2 steps0 0 λ x. Line.struct .as-values x .0, (Num.vAt 17 λ x. x, (record { pos = 19; ty = Syntax.tyRef Syntax.erased Syntax.imm ty0; ref = λ x. x }, (record { pos = 21; ty = Syntax.tyRef Syntax.erased Syntax.mut ty0; ref = λ x. x }, (record { pos = 23; ty = Syntax.tyRef Syntax.erased Syntax.mut ty0; ref = λ x. x }, (record { pos = 25; ty = Syntax.tyRef Syntax.erased Syntax.mut ty0; ref = λ x. x }, (record { pos = 27; ty = Syntax.tyRef Syntax.erased Syntax.mut Cell.behind; ref = λ x. x }, (record { pos = 29; ty = Syntax.tyRef Syntax.erased Syntax.mut Cell.behind; ref = λ x. x }, tt))))))))) 0 sym1 (Call.sub-id 𝓤 H A W (G34 .slots)) ((Yields.yields-copy 𝓤 H A W (λ ρ. Unit) held4 Path'.refl (Copies.cStruct State.the-type Laws'.the-laws Laws'.the-copy .copy 𝓤 H A W) (Rows.whole held4) (λ x. x) (λ x. x) (λ ρ told. Local.mem-whole 𝓤 H A W held4 ρ) λ ρ told. Local.whole-mem 𝓤 H A W held4 ρ, Path'.refl), ((Reads.reads-field 𝓤 H A W Line.the-type Laws''.the-laws 0 ty0 0 Path'.refl, Path'.refl), ((Scalar.reads-sc 𝓤 H A W sc1, Path'.refl), (ShrSlice.spares-sslice 𝓤 H A W held2 ty3 0, Shared.reads-sslice 𝓤 H A W held2 ty3 0, Path'.refl, (Reads'.as-is 𝓤 H A (Mut.mslice held2 ty5 6), Mut.reads-mslice 𝓤 H A W held2 ty5 6, Path'.refl, (Reads'.as-is 𝓤 H A (Mut.mslice held2 ty5 7), Mut.reads-mslice 𝓤 H A W held2 ty5 7, Path'.refl, (Reads'.as-is 𝓤 H A (Mut.mslice held2 ty5 8), Mut.reads-mslice 𝓤 H A W held2 ty5 8, Path'.refl, (Reads'.as-is 𝓤 H A (Mut.mslice Cell.R ty7 9), Mut.reads-mslice 𝓤 H A W Cell.R ty7 9, Path'.refl, (Reads'.as-is 𝓤 H A (Mut.mslice Cell.R ty7 10), Mut.reads-mslice 𝓤 H A W Cell.R ty7 10, Path'.refl, tt))))))))) (Reads'.room-gone 𝓤 H A ty9) (tt, (tt, (tt, (tt, (tt, (tt, tt)))))) Path'.refl) d28
 
           d30 : Typed.Typed 𝓤 H A 𝓣 E G33 b24 Δ0 (at30 bs)
-          d30 = Typed.s-seq 𝓤 H A W 𝓣 E G33 G34 b20 b23 Δ0 (Typed.ask (s32 bs)) (at29 bs) (Relend.t-sl-aggregate 𝓤 H A W E Cell.R 𝓣 (Relend.asMut Cell.R) G33 28 29 10 (Syntax.tyRef Syntax.erased Syntax.mut Cell.behind) (Syntax.tyRef Syntax.erased Syntax.mut Cell.behind) (λ x. x) (Scalar.oAt 14 (Syntax.tyInt Syntax.w64) (Row.valS (Row.sInt Syntax.w64))) (Reads'.as-is 𝓤 H A (Relend.msptr Cell.R (Syntax.tyRef Syntax.erased Syntax.mut Cell.behind) 10)) (Reads'.room-gone 𝓤 H A (Syntax.tyStruct (List._∷_ 38 (List._∷_ 91 (List._∷_ 93 List.[]))) (Syntax.tcons (Syntax.tyRef Syntax.erased Syntax.mut Cell.behind) (Syntax.tcons (Syntax.tyInt Syntax.w64) Syntax.tnil)))) (Scalar.reads-sc 𝓤 H A W (Row.sInt Syntax.w64), Path'.refl) Path'.refl Path'.refl λ b o k. tt) d29
+          d30 = Typed.s-seq 𝓤 H A W 𝓣 E G33 G34 b20 b23 Δ0 (Typed.ask (s32 bs)) (at29 bs) (Relend.t-sl-aggregate 𝓤 H A W E Cell.R 𝓣 (Relend.asMut Cell.R) G33 28 29 10 ty7 ty7 (λ x. x) (Scalar.oAt 14 ty2 (Row.valS sc0)) (Reads'.as-is 𝓤 H A (Relend.msptr Cell.R ty7 10)) (Reads'.room-gone 𝓤 H A ty8) (Scalar.reads-sc 𝓤 H A W sc0, Path'.refl) Path'.refl Path'.refl λ b o k. tt) d29
 
           d31 : Typed.Typed 𝓤 H A 𝓣 E G32 b25 Δ0 (at31 bs)
-          d31 = Typed.s-seq 𝓤 H A W 𝓣 E G32 G33 b19 b24 Δ0 (Typed.both (s31 bs)) (at30 bs) (Part.t-sl-relendᵖ 𝓤 H A W E Cell.R 𝓣 G32 8 28 5 10 (Syntax.tyRef (Syntax.named 5) Syntax.mut Cell.behind) (Syntax.tyRef Syntax.erased Syntax.mut Cell.behind) (Row.lease (κs .1 .1 .1 .1 .1 .0) (qs .1 .1 .1 .1 .1 .0)) 0 (λ x. x) (λ u. u .1 .1 .1 .1 .1 .1 .1 .1 .1 .1 .1 .1 .1 .1 .0) (Reads'.as-is 𝓤 H A (Mut.mslice Cell.R (Syntax.tyRef (Syntax.named 5) Syntax.mut Cell.behind) 5)) (Reads'.room-gone 𝓤 H A (Syntax.tyRef Syntax.erased Syntax.mut Cell.behind)) Path'.refl tt Path'.refl Path'.refl Path'.refl λ b o. tt) d30
+          d31 = Typed.s-seq 𝓤 H A W 𝓣 E G32 G33 b19 b24 Δ0 (Typed.both (s31 bs)) (at30 bs) (Part.t-sl-relendᵖ 𝓤 H A W E Cell.R 𝓣 G32 8 28 5 10 ty15 ty7 slot4 0 (λ x. x) (λ u. u .1 .1 .1 .1 .1 .1 .1 .1 .1 .1 .1 .1 .1 .1 .0) (Reads'.as-is 𝓤 H A (Mut.mslice Cell.R ty15 5)) (Reads'.room-gone 𝓤 H A ty7) Path'.refl tt Path'.refl Path'.refl Path'.refl λ b o. tt) d30
 
           d32 : Typed.Typed 𝓤 H A 𝓣 E G31 b25 Δ0 (at32 bs)
           d32 = Typed.g-pre 𝓤 H A W 𝓣 E G31 G32 b25 Δ0 (λ Ψ. Ψ) (at31 bs) (Lifetime.g-begin 𝓤 H A W E G31 10 (tt, (tt, (tt, (tt, ((tt, tt), ((tt, tt), ((tt, tt), ((tt, tt), (tt, (tt, (tt, (tt, (tt, (tt, (tt, (tt, (tt, (tt, (tt, (tt, (tt, (tt, (tt, (tt, (tt, (tt, (tt, (tt, (tt, (tt, tt))))))))))))))))))))))))))))))) d31
 
           d33 : Typed.Typed 𝓤 H A 𝓣 E G30 b26 Δ0 (at33 bs)
-          d33 = Typed.s-seq 𝓤 H A W 𝓣 E G30 G31 b18 b25 Δ0 (Typed.ask (s29 bs)) (at32 bs) (Relend.t-sl-aggregate 𝓤 H A W E Cell.R 𝓣 (Relend.asMut Cell.R) G30 26 27 9 (Syntax.tyRef Syntax.erased Syntax.mut Cell.behind) (Syntax.tyRef Syntax.erased Syntax.mut Cell.behind) (λ x. x) (Scalar.oAt 13 (Syntax.tyInt Syntax.w64) (Row.valS (Row.sInt Syntax.w64))) (Reads'.as-is 𝓤 H A (Relend.msptr Cell.R (Syntax.tyRef Syntax.erased Syntax.mut Cell.behind) 9)) (Reads'.room-gone 𝓤 H A (Syntax.tyStruct (List._∷_ 38 (List._∷_ 91 (List._∷_ 93 List.[]))) (Syntax.tcons (Syntax.tyRef Syntax.erased Syntax.mut Cell.behind) (Syntax.tcons (Syntax.tyInt Syntax.w64) Syntax.tnil)))) (Scalar.reads-sc 𝓤 H A W (Row.sInt Syntax.w64), Path'.refl) Path'.refl Path'.refl λ b o k. tt) d32
+          d33 = Typed.s-seq 𝓤 H A W 𝓣 E G30 G31 b18 b25 Δ0 (Typed.ask (s29 bs)) (at32 bs) (Relend.t-sl-aggregate 𝓤 H A W E Cell.R 𝓣 (Relend.asMut Cell.R) G30 26 27 9 ty7 ty7 (λ x. x) (Scalar.oAt 13 ty2 (Row.valS sc0)) (Reads'.as-is 𝓤 H A (Relend.msptr Cell.R ty7 9)) (Reads'.room-gone 𝓤 H A ty8) (Scalar.reads-sc 𝓤 H A W sc0, Path'.refl) Path'.refl Path'.refl λ b o k. tt) d32
 
           d34 : Typed.Typed 𝓤 H A 𝓣 E G29 b27 Δ0 (at34 bs)
-          d34 = Typed.s-seq 𝓤 H A W 𝓣 E G29 G30 b17 b26 Δ0 (Typed.both (s28 bs)) (at33 bs) (Part.t-sl-relendᵖ 𝓤 H A W E Cell.R 𝓣 G29 7 26 4 9 (Syntax.tyRef (Syntax.named 4) Syntax.mut Cell.behind) (Syntax.tyRef Syntax.erased Syntax.mut Cell.behind) (Row.lease (κs .1 .1 .1 .1 .0) (qs .1 .1 .1 .1 .0)) 0 (λ x. x) (λ u. u .1 .1 .1 .1 .1 .1 .1 .1 .1 .1 .1 .1 .1 .0) (Reads'.as-is 𝓤 H A (Mut.mslice Cell.R (Syntax.tyRef (Syntax.named 4) Syntax.mut Cell.behind) 4)) (Reads'.room-gone 𝓤 H A (Syntax.tyRef Syntax.erased Syntax.mut Cell.behind)) Path'.refl tt Path'.refl Path'.refl Path'.refl λ b o. tt) d33
+          d34 = Typed.s-seq 𝓤 H A W 𝓣 E G29 G30 b17 b26 Δ0 (Typed.both (s28 bs)) (at33 bs) (Part.t-sl-relendᵖ 𝓤 H A W E Cell.R 𝓣 G29 7 26 4 9 ty14 ty7 slot3 0 (λ x. x) (λ u. u .1 .1 .1 .1 .1 .1 .1 .1 .1 .1 .1 .1 .1 .0) (Reads'.as-is 𝓤 H A (Mut.mslice Cell.R ty14 4)) (Reads'.room-gone 𝓤 H A ty7) Path'.refl tt Path'.refl Path'.refl Path'.refl λ b o. tt) d33
 
           d35 : Typed.Typed 𝓤 H A 𝓣 E G28 b27 Δ0 (at35 bs)
           d35 = Typed.g-pre 𝓤 H A W 𝓣 E G28 G29 b27 Δ0 (λ Ψ. Ψ) (at34 bs) (Lifetime.g-begin 𝓤 H A W E G28 9 (tt, (tt, (tt, (tt, ((tt, tt), ((tt, tt), ((tt, tt), (tt, (tt, (tt, (tt, (tt, (tt, (tt, (tt, (tt, (tt, (tt, (tt, (tt, (tt, (tt, (tt, (tt, (tt, (tt, (tt, (tt, (tt, (tt, tt))))))))))))))))))))))))))))))) d34
 
           d36 : Typed.Typed 𝓤 H A 𝓣 E G27 b28 Δ0 (at36 bs)
-          d36 = Typed.s-seq 𝓤 H A W 𝓣 E G27 G28 b16 b27 Δ0 (Typed.ask (s26 bs)) (at35 bs) (Relend.t-sl-aggregate 𝓤 H A W E (Referent.rtF (Referent.fInt Syntax.w32)) 𝓣 (Relend.asMut (Referent.rtF (Referent.fInt Syntax.w32))) G27 24 25 8 (Syntax.tyRef Syntax.erased Syntax.mut (Syntax.tyInt Syntax.w32)) (Syntax.tyRef Syntax.erased Syntax.mut (Syntax.tyInt Syntax.w32)) (λ x. x) (Scalar.oAt 12 (Syntax.tyInt Syntax.w64) (Row.valS (Row.sInt Syntax.w64))) (Reads'.as-is 𝓤 H A (Relend.msptr (Referent.rtF (Referent.fInt Syntax.w32)) (Syntax.tyRef Syntax.erased Syntax.mut (Syntax.tyInt Syntax.w32)) 8)) (Reads'.room-gone 𝓤 H A (Syntax.tyStruct (List._∷_ 38 (List._∷_ 91 (List._∷_ 93 List.[]))) (Syntax.tcons (Syntax.tyRef Syntax.erased Syntax.mut (Syntax.tyInt Syntax.w32)) (Syntax.tcons (Syntax.tyInt Syntax.w64) Syntax.tnil)))) (Scalar.reads-sc 𝓤 H A W (Row.sInt Syntax.w64), Path'.refl) Path'.refl Path'.refl λ b o k. tt) d35
+          d36 = Typed.s-seq 𝓤 H A W 𝓣 E G27 G28 b16 b27 Δ0 (Typed.ask (s26 bs)) (at35 bs) (Relend.t-sl-aggregate 𝓤 H A W E held2 𝓣 (Relend.asMut held2) G27 24 25 8 ty5 ty5 (λ x. x) (Scalar.oAt 12 ty2 (Row.valS sc0)) (Reads'.as-is 𝓤 H A (Relend.msptr held2 ty5 8)) (Reads'.room-gone 𝓤 H A ty6) (Scalar.reads-sc 𝓤 H A W sc0, Path'.refl) Path'.refl Path'.refl λ b o k. tt) d35
 
           d37 : Typed.Typed 𝓤 H A 𝓣 E G26 b29 Δ0 (at37 bs)
-          d37 = Typed.s-seq 𝓤 H A W 𝓣 E G26 G27 b15 b28 Δ0 (Typed.both (s25 bs)) (at36 bs) (Part.t-sl-relendᵖ 𝓤 H A W E (Referent.rtF (Referent.fInt Syntax.w32)) 𝓣 G26 6 24 3 8 (Syntax.tyRef (Syntax.named 3) Syntax.mut (Syntax.tyInt Syntax.w32)) (Syntax.tyRef Syntax.erased Syntax.mut (Syntax.tyInt Syntax.w32)) (Row.lease (κs .1 .1 .1 .0) (qs .1 .1 .1 .0)) 0 (λ x. x) (λ u. u .1 .1 .1 .1 .1 .1 .1 .1 .1 .1 .1 .1 .0) (Reads'.as-is 𝓤 H A (Mut.mslice (Referent.rtF (Referent.fInt Syntax.w32)) (Syntax.tyRef (Syntax.named 3) Syntax.mut (Syntax.tyInt Syntax.w32)) 3)) (Reads'.room-gone 𝓤 H A (Syntax.tyRef Syntax.erased Syntax.mut (Syntax.tyInt Syntax.w32))) Path'.refl tt Path'.refl Path'.refl Path'.refl λ b o. tt) d36
+          d37 = Typed.s-seq 𝓤 H A W 𝓣 E G26 G27 b15 b28 Δ0 (Typed.both (s25 bs)) (at36 bs) (Part.t-sl-relendᵖ 𝓤 H A W E held2 𝓣 G26 6 24 3 8 ty13 ty5 slot2 0 (λ x. x) (λ u. u .1 .1 .1 .1 .1 .1 .1 .1 .1 .1 .1 .1 .0) (Reads'.as-is 𝓤 H A (Mut.mslice held2 ty13 3)) (Reads'.room-gone 𝓤 H A ty5) Path'.refl tt Path'.refl Path'.refl Path'.refl λ b o. tt) d36
 
           d38 : Typed.Typed 𝓤 H A 𝓣 E G25 b29 Δ0 (at38 bs)
           d38 = Typed.g-pre 𝓤 H A W 𝓣 E G25 G26 b29 Δ0 (λ Ψ. Ψ) (at37 bs) (Lifetime.g-begin 𝓤 H A W E G25 8 (tt, (tt, (tt, (tt, ((tt, tt), ((tt, tt), (tt, (tt, (tt, (tt, (tt, (tt, (tt, (tt, (tt, (tt, (tt, (tt, (tt, (tt, (tt, (tt, (tt, (tt, (tt, (tt, (tt, (tt, (tt, (tt, tt))))))))))))))))))))))))))))))) d37
 
           d39 : Typed.Typed 𝓤 H A 𝓣 E G24 b30 Δ0 (at39 bs)
-          d39 = Typed.s-seq 𝓤 H A W 𝓣 E G24 G25 b14 b29 Δ0 (Typed.ask (s23 bs)) (at38 bs) (Relend.t-sl-aggregate 𝓤 H A W E (Referent.rtF (Referent.fInt Syntax.w32)) 𝓣 (Relend.asMut (Referent.rtF (Referent.fInt Syntax.w32))) G24 22 23 7 (Syntax.tyRef Syntax.erased Syntax.mut (Syntax.tyInt Syntax.w32)) (Syntax.tyRef Syntax.erased Syntax.mut (Syntax.tyInt Syntax.w32)) (λ x. x) (Scalar.oAt 11 (Syntax.tyInt Syntax.w64) (Row.valS (Row.sInt Syntax.w64))) (Reads'.as-is 𝓤 H A (Relend.msptr (Referent.rtF (Referent.fInt Syntax.w32)) (Syntax.tyRef Syntax.erased Syntax.mut (Syntax.tyInt Syntax.w32)) 7)) (Reads'.room-gone 𝓤 H A (Syntax.tyStruct (List._∷_ 38 (List._∷_ 91 (List._∷_ 93 List.[]))) (Syntax.tcons (Syntax.tyRef Syntax.erased Syntax.mut (Syntax.tyInt Syntax.w32)) (Syntax.tcons (Syntax.tyInt Syntax.w64) Syntax.tnil)))) (Scalar.reads-sc 𝓤 H A W (Row.sInt Syntax.w64), Path'.refl) Path'.refl Path'.refl λ b o k. tt) d38
+          d39 = Typed.s-seq 𝓤 H A W 𝓣 E G24 G25 b14 b29 Δ0 (Typed.ask (s23 bs)) (at38 bs) (Relend.t-sl-aggregate 𝓤 H A W E held2 𝓣 (Relend.asMut held2) G24 22 23 7 ty5 ty5 (λ x. x) (Scalar.oAt 11 ty2 (Row.valS sc0)) (Reads'.as-is 𝓤 H A (Relend.msptr held2 ty5 7)) (Reads'.room-gone 𝓤 H A ty6) (Scalar.reads-sc 𝓤 H A W sc0, Path'.refl) Path'.refl Path'.refl λ b o k. tt) d38
 
           d40 : Typed.Typed 𝓤 H A 𝓣 E G23 b31 Δ0 (at40 bs)
-          d40 = Typed.s-seq 𝓤 H A W 𝓣 E G23 G24 b13 b30 Δ0 (Typed.both (s22 bs)) (at39 bs) (Part.t-sl-relendᵖ 𝓤 H A W E (Referent.rtF (Referent.fInt Syntax.w32)) 𝓣 G23 5 22 2 7 (Syntax.tyRef (Syntax.named 2) Syntax.mut (Syntax.tyInt Syntax.w32)) (Syntax.tyRef Syntax.erased Syntax.mut (Syntax.tyInt Syntax.w32)) (Row.lease (κs .1 .1 .0) (qs .1 .1 .0)) 0 (λ x. x) (λ u. u .1 .1 .1 .1 .1 .1 .1 .1 .1 .1 .1 .0) (Reads'.as-is 𝓤 H A (Mut.mslice (Referent.rtF (Referent.fInt Syntax.w32)) (Syntax.tyRef (Syntax.named 2) Syntax.mut (Syntax.tyInt Syntax.w32)) 2)) (Reads'.room-gone 𝓤 H A (Syntax.tyRef Syntax.erased Syntax.mut (Syntax.tyInt Syntax.w32))) Path'.refl tt Path'.refl Path'.refl Path'.refl λ b o. tt) d39
+          d40 = Typed.s-seq 𝓤 H A W 𝓣 E G23 G24 b13 b30 Δ0 (Typed.both (s22 bs)) (at39 bs) (Part.t-sl-relendᵖ 𝓤 H A W E held2 𝓣 G23 5 22 2 7 ty12 ty5 slot1 0 (λ x. x) (λ u. u .1 .1 .1 .1 .1 .1 .1 .1 .1 .1 .1 .0) (Reads'.as-is 𝓤 H A (Mut.mslice held2 ty12 2)) (Reads'.room-gone 𝓤 H A ty5) Path'.refl tt Path'.refl Path'.refl Path'.refl λ b o. tt) d39
 
           d41 : Typed.Typed 𝓤 H A 𝓣 E G22 b31 Δ0 (at41 bs)
           d41 = Typed.g-pre 𝓤 H A W 𝓣 E G22 G23 b31 Δ0 (λ Ψ. Ψ) (at40 bs) (Lifetime.g-begin 𝓤 H A W E G22 7 (tt, (tt, (tt, (tt, ((tt, tt), (tt, (tt, (tt, (tt, (tt, (tt, (tt, (tt, (tt, (tt, (tt, (tt, (tt, (tt, (tt, (tt, (tt, (tt, (tt, (tt, (tt, (tt, (tt, (tt, (tt, tt))))))))))))))))))))))))))))))) d40
 
           d42 : Typed.Typed 𝓤 H A 𝓣 E G21 b32 Δ0 (at42 bs)
-          d42 = Typed.s-seq 𝓤 H A W 𝓣 E G21 G22 b12 b31 Δ0 (Typed.ask (s20 bs)) (at41 bs) (Relend.t-sl-aggregate 𝓤 H A W E (Referent.rtF (Referent.fInt Syntax.w32)) 𝓣 (Relend.asMut (Referent.rtF (Referent.fInt Syntax.w32))) G21 20 21 6 (Syntax.tyRef Syntax.erased Syntax.mut (Syntax.tyInt Syntax.w32)) (Syntax.tyRef Syntax.erased Syntax.mut (Syntax.tyInt Syntax.w32)) (λ x. x) (Scalar.oAt 10 (Syntax.tyInt Syntax.w64) (Row.valS (Row.sInt Syntax.w64))) (Reads'.as-is 𝓤 H A (Relend.msptr (Referent.rtF (Referent.fInt Syntax.w32)) (Syntax.tyRef Syntax.erased Syntax.mut (Syntax.tyInt Syntax.w32)) 6)) (Reads'.room-gone 𝓤 H A (Syntax.tyStruct (List._∷_ 38 (List._∷_ 91 (List._∷_ 93 List.[]))) (Syntax.tcons (Syntax.tyRef Syntax.erased Syntax.mut (Syntax.tyInt Syntax.w32)) (Syntax.tcons (Syntax.tyInt Syntax.w64) Syntax.tnil)))) (Scalar.reads-sc 𝓤 H A W (Row.sInt Syntax.w64), Path'.refl) Path'.refl Path'.refl λ b o k. tt) d41
+          d42 = Typed.s-seq 𝓤 H A W 𝓣 E G21 G22 b12 b31 Δ0 (Typed.ask (s20 bs)) (at41 bs) (Relend.t-sl-aggregate 𝓤 H A W E held2 𝓣 (Relend.asMut held2) G21 20 21 6 ty5 ty5 (λ x. x) (Scalar.oAt 10 ty2 (Row.valS sc0)) (Reads'.as-is 𝓤 H A (Relend.msptr held2 ty5 6)) (Reads'.room-gone 𝓤 H A ty6) (Scalar.reads-sc 𝓤 H A W sc0, Path'.refl) Path'.refl Path'.refl λ b o k. tt) d41
 
           d43 : Typed.Typed 𝓤 H A 𝓣 E G20 b33 Δ0 (at43 bs)
-          d43 = Typed.s-seq 𝓤 H A W 𝓣 E G20 G21 b11 b32 Δ0 (Typed.both (s19 bs)) (at42 bs) (Part.t-sl-relendᵖ 𝓤 H A W E (Referent.rtF (Referent.fInt Syntax.w32)) 𝓣 G20 4 20 1 6 (Syntax.tyRef (Syntax.named 1) Syntax.mut (Syntax.tyInt Syntax.w32)) (Syntax.tyRef Syntax.erased Syntax.mut (Syntax.tyInt Syntax.w32)) (Row.lease (κs .1 .0) (qs .1 .0)) 0 (λ x. x) (λ u. u .1 .1 .1 .1 .1 .1 .1 .1 .1 .1 .0) (Reads'.as-is 𝓤 H A (Mut.mslice (Referent.rtF (Referent.fInt Syntax.w32)) (Syntax.tyRef (Syntax.named 1) Syntax.mut (Syntax.tyInt Syntax.w32)) 1)) (Reads'.room-gone 𝓤 H A (Syntax.tyRef Syntax.erased Syntax.mut (Syntax.tyInt Syntax.w32))) Path'.refl tt Path'.refl Path'.refl Path'.refl λ b o. tt) d42
+          d43 = Typed.s-seq 𝓤 H A W 𝓣 E G20 G21 b11 b32 Δ0 (Typed.both (s19 bs)) (at42 bs) (Part.t-sl-relendᵖ 𝓤 H A W E held2 𝓣 G20 4 20 1 6 ty11 ty5 slot0 0 (λ x. x) (λ u. u .1 .1 .1 .1 .1 .1 .1 .1 .1 .1 .0) (Reads'.as-is 𝓤 H A (Mut.mslice held2 ty11 1)) (Reads'.room-gone 𝓤 H A ty5) Path'.refl tt Path'.refl Path'.refl Path'.refl λ b o. tt) d42
 
           d44 : Typed.Typed 𝓤 H A 𝓣 E G19 b33 Δ0 (at44 bs)
           d44 = Typed.g-pre 𝓤 H A W 𝓣 E G19 G20 b33 Δ0 (λ Ψ. Ψ) (at43 bs) (Lifetime.g-begin 𝓤 H A W E G19 6 (tt, (tt, (tt, (tt, (tt, (tt, (tt, (tt, (tt, (tt, (tt, (tt, (tt, (tt, (tt, (tt, (tt, (tt, (tt, (tt, (tt, (tt, (tt, (tt, (tt, (tt, (tt, (tt, (tt, (tt, tt))))))))))))))))))))))))))))))) d43
 
           d45 : Typed.Typed 𝓤 H A 𝓣 E G18 b34 Δ0 (at45 bs)
-          d45 = Typed.s-seq 𝓤 H A W 𝓣 E G18 G19 b10 b33 Δ0 (Typed.ask (s17 bs)) (at44 bs) (Relend.t-sl-aggregate 𝓤 H A W E (Referent.rtF (Referent.fInt Syntax.w32)) 𝓣 (Relend.asShr (Referent.rtF (Referent.fInt Syntax.w32))) G18 18 19 0 (Syntax.tyRef Syntax.erased Syntax.imm (Syntax.tyInt Syntax.w32)) (Syntax.tyRef Syntax.erased Syntax.imm (Syntax.tyInt Syntax.w32)) (λ x. x) (Scalar.oAt 15 (Syntax.tyInt Syntax.w64) (Row.valS (Row.sInt Syntax.w64))) (Reads'.as-is 𝓤 H A (Relend.ssptr (Referent.rtF (Referent.fInt Syntax.w32)) (Syntax.tyRef Syntax.erased Syntax.imm (Syntax.tyInt Syntax.w32)) 0)) (Reads'.room-gone 𝓤 H A (Syntax.tyStruct (List._∷_ 38 (List._∷_ 91 (List._∷_ 93 List.[]))) (Syntax.tcons (Syntax.tyRef Syntax.erased Syntax.imm (Syntax.tyInt Syntax.w32)) (Syntax.tcons (Syntax.tyInt Syntax.w64) Syntax.tnil)))) (Scalar.reads-sc 𝓤 H A W (Row.sInt Syntax.w64), Path'.refl) Path'.refl Path'.refl λ b o k. tt) d44
+          d45 = Typed.s-seq 𝓤 H A W 𝓣 E G18 G19 b10 b33 Δ0 (Typed.ask (s17 bs)) (at44 bs) (Relend.t-sl-aggregate 𝓤 H A W E held2 𝓣 (Relend.asShr held2) G18 18 19 0 ty3 ty3 (λ x. x) (Scalar.oAt 15 ty2 (Row.valS sc0)) (Reads'.as-is 𝓤 H A (Relend.ssptr held2 ty3 0)) (Reads'.room-gone 𝓤 H A ty4) (Scalar.reads-sc 𝓤 H A W sc0, Path'.refl) Path'.refl Path'.refl λ b o k. tt) d44
 
           d46 : Typed.Typed 𝓤 H A 𝓣 E G17 b35 Δ0 (at46 bs)
-          d46 = Typed.s-seq 𝓤 H A W 𝓣 E G17 G18 b9 b34 Δ0 (Typed.give (s16 bs)) (at45 bs) (Prefix.t-shs-prefix-same 𝓤 H A W E (Referent.rtF (Referent.fInt Syntax.w32)) 𝓣 (Copies.halved 𝓤 H A W (Copies.cRf (Referent.fInt Syntax.w32))) G17 3 18 0 (Syntax.tyRef (Syntax.named 0) Syntax.imm (Syntax.tyInt Syntax.w32)) (Syntax.tyRef Syntax.erased Syntax.imm (Syntax.tyInt Syntax.w32)) (Row.lease (κs .0) (qs .0)) 0 (λ x. x) (λ u. u .1 .1 .1 .1 .1 .1 .1 .1 .1 .1 .1 .1 .1 .1 .1 .0) (Reads'.as-is 𝓤 H A (Rows.sslice (Referent.rtF (Referent.fInt Syntax.w32)) (Syntax.tyRef (Syntax.named 0) Syntax.imm (Syntax.tyInt Syntax.w32)) 0)) (Reads'.room-gone 𝓤 H A (Syntax.tyRef Syntax.erased Syntax.imm (Syntax.tyInt Syntax.w32))) Path'.refl tt Path'.refl Path'.refl Path'.refl λ b o. tt) d45
+          d46 = Typed.s-seq 𝓤 H A W 𝓣 E G17 G18 b9 b34 Δ0 (Typed.give (s16 bs)) (at45 bs) (Prefix.t-shs-prefix-same 𝓤 H A W E held2 𝓣 (Copies.halved 𝓤 H A W (Copies.cRf rf0)) G17 3 18 0 ty10 ty3 slot5 0 (λ x. x) (λ u. u .1 .1 .1 .1 .1 .1 .1 .1 .1 .1 .1 .1 .1 .1 .1 .0) (Reads'.as-is 𝓤 H A (Rows.sslice held2 ty10 0)) (Reads'.room-gone 𝓤 H A ty3) Path'.refl tt Path'.refl Path'.refl Path'.refl λ b o. tt) d45
 
           d47 : Typed.Typed 𝓤 H A 𝓣 E G16 b35 Δ0 (at47 bs)
           d47 = Typed.g-pre 𝓤 H A W 𝓣 E G16 G17 b35 Δ0 (Typed.pass T16 T17 (s15 bs)) (at46 bs) (Scalar.g-room 𝓤 H A W E G16 16 Syntax.tyPtr (Scalar.room-sc 𝓤 H A W Row.sPtr)) d46
 
           d48 : Typed.Typed 𝓤 H A 𝓣 E G15 b36 Δ0 (at48 bs)
-          d48 = Typed.s-seq 𝓤 H A W 𝓣 E G15 G16 b8 b35 Δ0 (Typed.ask (s14 bs)) (at47 bs) (Shared.t-shs-read 𝓤 H A W E 𝓣 (Referent.fInt Syntax.w32) G15 3 16 17 0 (Syntax.tyRef (Syntax.named 0) Syntax.imm (Syntax.tyInt Syntax.w32)) (Row.lease (κs .0) (qs .0)) (Rows.sc-here (Row.sInt Syntax.w32)) (Shared.bySize 4) 0 (λ x. x) (λ x. x) (Row.valS (Row.sInt Syntax.w32)) (Row.sInt Syntax.w32 .of) (λ u. 0) (λ i o. Elements.at-mul o 4 i) (Reads'.as-is 𝓤 H A (Rows.sslice (Referent.rtF (Referent.fInt Syntax.w32)) (Syntax.tyRef (Syntax.named 0) Syntax.imm (Syntax.tyInt Syntax.w32)) 0)) (Reads'.as-is 𝓤 H A (Rows.sc-here Row.sPtr)) (Reads'.room-gone 𝓤 H A (Syntax.tyInt Syntax.w32)) (Scalar.holds-sc 𝓤 H A W (Row.sInt Syntax.w32)) (λ u. Path'.refl) Path'.refl tt Path'.refl Path'.refl) d47
+          d48 = Typed.s-seq 𝓤 H A W 𝓣 E G15 G16 b8 b35 Δ0 (Typed.ask (s14 bs)) (at47 bs) (Shared.t-shs-read 𝓤 H A W E 𝓣 rf0 G15 3 16 17 0 ty10 slot5 (Rows.sc-here sc1) (Shared.bySize 4) 0 (λ x. x) (λ x. x) (Row.valS sc1) (Row.sInt Syntax.w32 .of) (λ u. 0) (λ i o. Elements.at-mul o 4 i) (Reads'.as-is 𝓤 H A (Rows.sslice held2 ty10 0)) (Reads'.as-is 𝓤 H A (Rows.sc-here Row.sPtr)) (Reads'.room-gone 𝓤 H A ty0) (Scalar.holds-sc 𝓤 H A W sc1) (λ u. Path'.refl) Path'.refl tt Path'.refl Path'.refl) d47
 
           d49 : Typed.Typed 𝓤 H A 𝓣 E G14 b36 Δ0 (at49 bs)
-          d49 = Typed.g-pre 𝓤 H A W 𝓣 E G14 G15 b36 Δ0 (Typed.give (s13 bs)) (at48 bs) (Know.g-shs-known 𝓤 H A W (Referent.fInt Syntax.w32) E G14 3 0 (Syntax.tyRef (Syntax.named 0) Syntax.imm (Syntax.tyInt Syntax.w32)) (Row.lease (κs .0) (qs .0)) 0 (λ x. x) record { fits = Dec'.lit< tt } (Reads'.as-is 𝓤 H A (Rows.sslice (Referent.rtF (Referent.fInt Syntax.w32)) (Syntax.tyRef (Syntax.named 0) Syntax.imm (Syntax.tyInt Syntax.w32)) 0)) Path'.refl tt) d48
+          d49 = Typed.g-pre 𝓤 H A W 𝓣 E G14 G15 b36 Δ0 (Typed.give (s13 bs)) (at48 bs) (Know.g-shs-known 𝓤 H A W rf0 E G14 3 0 ty10 slot5 0 (λ x. x) record { fits = Dec'.lit< tt } (Reads'.as-is 𝓤 H A (Rows.sslice held2 ty10 0)) Path'.refl tt) d48
 
           d50 : Typed.Typed 𝓤 H A 𝓣 E G13 b37 Δ0 (at50 bs)
-          d50 = Typed.s-seq 𝓤 H A W 𝓣 E G13 G14 b7 b36 Δ0 (Typed.ask (s12 bs)) (at49 bs) (Scalar.t-op2 𝓤 H A W E 𝓣 G13 Syntax.offset (Scalar.oFld 3 (List._∷_ (Syntax.field 0) List.[]) (Syntax.tyRef (Syntax.named 0) Syntax.imm (Syntax.tyInt Syntax.w32)) 0 Reads'.ptrVal) (Scalar.oInt Syntax.w64 0) 16 (Rows.sc-here Row.sPtr) Syntax.tyPtr (Row.valS Row.sPtr) (Row.sPtr .of) (Shared.reads-sslice-ptr 𝓤 H A W (Referent.rtF (Referent.fInt Syntax.w32)) (Syntax.tyRef (Syntax.named 0) Syntax.imm (Syntax.tyInt Syntax.w32)) 0 0 Path'.refl, Path'.refl) tt (Reads'.room-gone 𝓤 H A Syntax.tyPtr) (Scalar.holds-sc 𝓤 H A W Row.sPtr) Path'.refl (λ u. Path'.refl) λ u. tt) d49
+          d50 = Typed.s-seq 𝓤 H A W 𝓣 E G13 G14 b7 b36 Δ0 (Typed.ask (s12 bs)) (at49 bs) (Scalar.t-op2 𝓤 H A W E 𝓣 G13 Syntax.offset (Scalar.oFld 3 steps0 ty10 0 Reads'.ptrVal) (Scalar.oInt Syntax.w64 0) 16 (Rows.sc-here Row.sPtr) Syntax.tyPtr (Row.valS Row.sPtr) (Row.sPtr .of) (Shared.reads-sslice-ptr 𝓤 H A W held2 ty10 0 0 Path'.refl, Path'.refl) tt (Reads'.room-gone 𝓤 H A Syntax.tyPtr) (Scalar.holds-sc 𝓤 H A W Row.sPtr) Path'.refl (λ u. Path'.refl) λ u. tt) d49
 
           d51 : Typed.Typed 𝓤 H A 𝓣 E G12 b38 Δ0 (at51 bs)
-          d51 = Typed.s-seq 𝓤 H A W 𝓣 E G12 G13 b6 b37 Δ0 (Typed.both (s11 bs)) (at50 bs) (Plain.t-call-plain 𝓤 H A W 𝓣 0 ps·0 r·0 (claims· .0) (claims· .1) "script::sizes::least" (known .0) E (λ pos β. β) G12 (Num.vFld 2 (List._∷_ (Syntax.field 1) List.[]) 8 λ x. Line.struct .as-values x .1 .0, (Num.vBig 32772, tt)) 15 List.[] (Call.sub-id 𝓤 H A W (G12 .slots)) ((Reads.reads-field 𝓤 H A W Line.the-type Laws''.the-laws 1 (Syntax.tyInt Syntax.w64) 8 Path'.refl, Path'.refl), (record { lower = record { fits = Dec'.lit< tt } }, tt)) (Reads'.room-gone 𝓤 H A (Syntax.tyInt Syntax.w64)) tt Path'.refl) d50
+          d51 = Typed.s-seq 𝓤 H A W 𝓣 E G12 G13 b6 b37 Δ0 (Typed.both (s11 bs)) (at50 bs) (Plain.t-call-plain 𝓤 H A W 𝓣 0 ps·0 r·0 (claims· .0) (claims· .1) "script::sizes::least" (known .0) E (λ pos β. β) G12 (Num.vFld 2 steps1 8 λ x. Line.struct .as-values x .1 .0, (Num.vBig 32772, tt)) 15 List.[] (Call.sub-id 𝓤 H A W (G12 .slots)) ((Reads.reads-field 𝓤 H A W Line.the-type Laws''.the-laws 1 ty2 8 Path'.refl, Path'.refl), (record { lower = record { fits = Dec'.lit< tt } }, tt)) (Reads'.room-gone 𝓤 H A ty2) tt Path'.refl) d50
 
           d52 : Typed.Typed 𝓤 H A 𝓣 E G11 b38 Δ0 (at52 bs)
-          d52 = Typed.g-pre 𝓤 H A W 𝓣 E G11 G12 b38 Δ0 (Typed.pass T11 T12 (s10 bs)) (at51 bs) (Scalar.g-room 𝓤 H A W E G11 1 (Syntax.tyStruct (List._∷_ 122 (List._∷_ 111 (List._∷_ 110 (List._∷_ 101 (List._∷_ 115 (List._∷_ 58 (List._∷_ 58 (List._∷_ 104 (List._∷_ 101 (List._∷_ 108 (List._∷_ 100 (List._∷_ 58 (List._∷_ 58 (List._∷_ 72 (List._∷_ 101 (List._∷_ 108 (List._∷_ 100 List.[]))))))))))))))))) (Syntax.tcons (Syntax.tyStruct (List._∷_ 112 (List._∷_ 121 (List._∷_ 114 (List._∷_ 97 (List._∷_ 109 (List._∷_ 105 (List._∷_ 100 (List._∷_ 58 (List._∷_ 58 (List._∷_ 83 (List._∷_ 116 (List._∷_ 97 (List._∷_ 116 (List._∷_ 101 List.[])))))))))))))) (Syntax.tcons (Syntax.tyInt Syntax.w32) (Syntax.tcons (Syntax.tyInt Syntax.w32) (Syntax.tcons (Syntax.tyInt Syntax.w32) (Syntax.tcons (Syntax.tyInt Syntax.w32) (Syntax.tcons (Syntax.tyInt Syntax.w32) (Syntax.tcons (Syntax.tyArray (Syntax.tyInt Syntax.w32) 64) Syntax.tnil))))))) (Syntax.tcons (Syntax.tyInt Syntax.w64) (Syntax.tcons (Syntax.tyInt Syntax.w64) (Syntax.tcons (Syntax.tyInt Syntax.w64) (Syntax.tcons (Syntax.tyInt Syntax.w64) (Syntax.tcons (Syntax.tyInt Syntax.w64) (Syntax.tcons (Syntax.tyInt Syntax.w64) (Syntax.tcons Syntax.tyBool Syntax.tnil))))))))) (Local.room-whole 𝓤 H A W (Declared.row Held.the-type) (Syntax.tyStruct (List._∷_ 122 (List._∷_ 111 (List._∷_ 110 (List._∷_ 101 (List._∷_ 115 (List._∷_ 58 (List._∷_ 58 (List._∷_ 104 (List._∷_ 101 (List._∷_ 108 (List._∷_ 100 (List._∷_ 58 (List._∷_ 58 (List._∷_ 72 (List._∷_ 101 (List._∷_ 108 (List._∷_ 100 List.[]))))))))))))))))) (Syntax.tcons (Syntax.tyStruct (List._∷_ 112 (List._∷_ 121 (List._∷_ 114 (List._∷_ 97 (List._∷_ 109 (List._∷_ 105 (List._∷_ 100 (List._∷_ 58 (List._∷_ 58 (List._∷_ 83 (List._∷_ 116 (List._∷_ 97 (List._∷_ 116 (List._∷_ 101 List.[])))))))))))))) (Syntax.tcons (Syntax.tyInt Syntax.w32) (Syntax.tcons (Syntax.tyInt Syntax.w32) (Syntax.tcons (Syntax.tyInt Syntax.w32) (Syntax.tcons (Syntax.tyInt Syntax.w32) (Syntax.tcons (Syntax.tyInt Syntax.w32) (Syntax.tcons (Syntax.tyArray (Syntax.tyInt Syntax.w32) 64) Syntax.tnil))))))) (Syntax.tcons (Syntax.tyInt Syntax.w64) (Syntax.tcons (Syntax.tyInt Syntax.w64) (Syntax.tcons (Syntax.tyInt Syntax.w64) (Syntax.tcons (Syntax.tyInt Syntax.w64) (Syntax.tcons (Syntax.tyInt Syntax.w64) (Syntax.tcons (Syntax.tyInt Syntax.w64) (Syntax.tcons Syntax.tyBool Syntax.tnil))))))))) Path'.refl)) d51
+          d52 = Typed.g-pre 𝓤 H A W 𝓣 E G11 G12 b38 Δ0 (Typed.pass T11 T12 (s10 bs)) (at51 bs) (Scalar.g-room 𝓤 H A W E G11 1 ty16 (Local.room-whole 𝓤 H A W held0 ty16 Path'.refl)) d51
 
           d53 : Typed.Typed 𝓤 H A 𝓣 E G10 b39 Δ0 (at53 bs)
-          d53 = Typed.s-seq 𝓤 H A W 𝓣 E G10 G11 b5 b38 Δ0 (Typed.pass T10 T11 (s9 bs)) (at52 bs) (Scalar.t-use 𝓤 H A W E 𝓣 G10 (Scalar.oFld 1 (List._∷_ (Syntax.field 5) List.[]) (Syntax.tyInt Syntax.w64) 312 (Reads.fieldV Held.the-type Laws'3.the-laws 5)) 14 (Rows.sc-here (Row.sInt Syntax.w64)) (Syntax.tyInt Syntax.w64) (Row.valS (Row.sInt Syntax.w64)) (Row.sInt Syntax.w64 .of) (Reads.reads-field 𝓤 H A W Held.the-type Laws'3.the-laws 5 (Syntax.tyInt Syntax.w64) 312 Path'.refl, Path'.refl) (Reads'.room-gone 𝓤 H A (Syntax.tyInt Syntax.w64)) (Scalar.holds-sc 𝓤 H A W (Row.sInt Syntax.w64)) Path'.refl (λ u. Path'.refl) λ u. tt) d52
+          d53 = Typed.s-seq 𝓤 H A W 𝓣 E G10 G11 b5 b38 Δ0 (Typed.pass T10 T11 (s9 bs)) (at52 bs) (Scalar.t-use 𝓤 H A W E 𝓣 G10 (Scalar.oFld 1 steps5 ty2 312 (Reads.fieldV Held.the-type Laws'3.the-laws 5)) 14 (Rows.sc-here sc0) ty2 (Row.valS sc0) (Row.sInt Syntax.w64 .of) (Reads.reads-field 𝓤 H A W Held.the-type Laws'3.the-laws 5 ty2 312 Path'.refl, Path'.refl) (Reads'.room-gone 𝓤 H A ty2) (Scalar.holds-sc 𝓤 H A W sc0) Path'.refl (λ u. Path'.refl) λ u. tt) d52
 
           d54 : Typed.Typed 𝓤 H A 𝓣 E G9 b40 Δ0 (at54 bs)
-          d54 = Typed.s-seq 𝓤 H A W 𝓣 E G9 G10 b4 b39 Δ0 (Typed.pass T9 T10 (s8 bs)) (at53 bs) (Scalar.t-use 𝓤 H A W E 𝓣 G9 (Scalar.oFld 1 (List._∷_ (Syntax.field 4) List.[]) (Syntax.tyInt Syntax.w64) 304 (Reads.fieldV Held.the-type Laws'3.the-laws 4)) 13 (Rows.sc-here (Row.sInt Syntax.w64)) (Syntax.tyInt Syntax.w64) (Row.valS (Row.sInt Syntax.w64)) (Row.sInt Syntax.w64 .of) (Reads.reads-field 𝓤 H A W Held.the-type Laws'3.the-laws 4 (Syntax.tyInt Syntax.w64) 304 Path'.refl, Path'.refl) (Reads'.room-gone 𝓤 H A (Syntax.tyInt Syntax.w64)) (Scalar.holds-sc 𝓤 H A W (Row.sInt Syntax.w64)) Path'.refl (λ u. Path'.refl) λ u. tt) d53
+          d54 = Typed.s-seq 𝓤 H A W 𝓣 E G9 G10 b4 b39 Δ0 (Typed.pass T9 T10 (s8 bs)) (at53 bs) (Scalar.t-use 𝓤 H A W E 𝓣 G9 (Scalar.oFld 1 steps4 ty2 304 (Reads.fieldV Held.the-type Laws'3.the-laws 4)) 13 (Rows.sc-here sc0) ty2 (Row.valS sc0) (Row.sInt Syntax.w64 .of) (Reads.reads-field 𝓤 H A W Held.the-type Laws'3.the-laws 4 ty2 304 Path'.refl, Path'.refl) (Reads'.room-gone 𝓤 H A ty2) (Scalar.holds-sc 𝓤 H A W sc0) Path'.refl (λ u. Path'.refl) λ u. tt) d53
 
           d55 : Typed.Typed 𝓤 H A 𝓣 E G8 b41 Δ0 (at55 bs)
-          d55 = Typed.s-seq 𝓤 H A W 𝓣 E G8 G9 b3 b40 Δ0 (Typed.pass T8 T9 (s7 bs)) (at54 bs) (Scalar.t-use 𝓤 H A W E 𝓣 G8 (Scalar.oFld 1 (List._∷_ (Syntax.field 3) List.[]) (Syntax.tyInt Syntax.w64) 296 (Reads.fieldV Held.the-type Laws'3.the-laws 3)) 12 (Rows.sc-here (Row.sInt Syntax.w64)) (Syntax.tyInt Syntax.w64) (Row.valS (Row.sInt Syntax.w64)) (Row.sInt Syntax.w64 .of) (Reads.reads-field 𝓤 H A W Held.the-type Laws'3.the-laws 3 (Syntax.tyInt Syntax.w64) 296 Path'.refl, Path'.refl) (Reads'.room-gone 𝓤 H A (Syntax.tyInt Syntax.w64)) (Scalar.holds-sc 𝓤 H A W (Row.sInt Syntax.w64)) Path'.refl (λ u. Path'.refl) λ u. tt) d54
+          d55 = Typed.s-seq 𝓤 H A W 𝓣 E G8 G9 b3 b40 Δ0 (Typed.pass T8 T9 (s7 bs)) (at54 bs) (Scalar.t-use 𝓤 H A W E 𝓣 G8 (Scalar.oFld 1 steps3 ty2 296 (Reads.fieldV Held.the-type Laws'3.the-laws 3)) 12 (Rows.sc-here sc0) ty2 (Row.valS sc0) (Row.sInt Syntax.w64 .of) (Reads.reads-field 𝓤 H A W Held.the-type Laws'3.the-laws 3 ty2 296 Path'.refl, Path'.refl) (Reads'.room-gone 𝓤 H A ty2) (Scalar.holds-sc 𝓤 H A W sc0) Path'.refl (λ u. Path'.refl) λ u. tt) d54
 
           d56 : Typed.Typed 𝓤 H A 𝓣 E G7 b42 Δ0 (at56 bs)
-          d56 = Typed.s-seq 𝓤 H A W 𝓣 E G7 G8 b2 b41 Δ0 (Typed.pass T7 T8 (s6 bs)) (at55 bs) (Scalar.t-use 𝓤 H A W E 𝓣 G7 (Scalar.oFld 1 (List._∷_ (Syntax.field 2) List.[]) (Syntax.tyInt Syntax.w64) 288 (Reads.fieldV Held.the-type Laws'3.the-laws 2)) 11 (Rows.sc-here (Row.sInt Syntax.w64)) (Syntax.tyInt Syntax.w64) (Row.valS (Row.sInt Syntax.w64)) (Row.sInt Syntax.w64 .of) (Reads.reads-field 𝓤 H A W Held.the-type Laws'3.the-laws 2 (Syntax.tyInt Syntax.w64) 288 Path'.refl, Path'.refl) (Reads'.room-gone 𝓤 H A (Syntax.tyInt Syntax.w64)) (Scalar.holds-sc 𝓤 H A W (Row.sInt Syntax.w64)) Path'.refl (λ u. Path'.refl) λ u. tt) d55
+          d56 = Typed.s-seq 𝓤 H A W 𝓣 E G7 G8 b2 b41 Δ0 (Typed.pass T7 T8 (s6 bs)) (at55 bs) (Scalar.t-use 𝓤 H A W E 𝓣 G7 (Scalar.oFld 1 steps2 ty2 288 (Reads.fieldV Held.the-type Laws'3.the-laws 2)) 11 (Rows.sc-here sc0) ty2 (Row.valS sc0) (Row.sInt Syntax.w64 .of) (Reads.reads-field 𝓤 H A W Held.the-type Laws'3.the-laws 2 ty2 288 Path'.refl, Path'.refl) (Reads'.room-gone 𝓤 H A ty2) (Scalar.holds-sc 𝓤 H A W sc0) Path'.refl (λ u. Path'.refl) λ u. tt) d55
 
           d57 : Typed.Typed 𝓤 H A 𝓣 E G6 b43 Δ0 (at57 bs)
-          d57 = Typed.s-seq 𝓤 H A W 𝓣 E G6 G7 b1 b42 Δ0 (Typed.pass T6 T7 (s5 bs)) (at56 bs) (Scalar.t-use 𝓤 H A W E 𝓣 G6 (Scalar.oFld 1 (List._∷_ (Syntax.field 1) List.[]) (Syntax.tyInt Syntax.w64) 280 (Reads.fieldV Held.the-type Laws'3.the-laws 1)) 10 (Rows.sc-here (Row.sInt Syntax.w64)) (Syntax.tyInt Syntax.w64) (Row.valS (Row.sInt Syntax.w64)) (Row.sInt Syntax.w64 .of) (Reads.reads-field 𝓤 H A W Held.the-type Laws'3.the-laws 1 (Syntax.tyInt Syntax.w64) 280 Path'.refl, Path'.refl) (Reads'.room-gone 𝓤 H A (Syntax.tyInt Syntax.w64)) (Scalar.holds-sc 𝓤 H A W (Row.sInt Syntax.w64)) Path'.refl (λ u. Path'.refl) λ u. tt) d56
+          d57 = Typed.s-seq 𝓤 H A W 𝓣 E G6 G7 b1 b42 Δ0 (Typed.pass T6 T7 (s5 bs)) (at56 bs) (Scalar.t-use 𝓤 H A W E 𝓣 G6 (Scalar.oFld 1 steps1 ty2 280 (Reads.fieldV Held.the-type Laws'3.the-laws 1)) 10 (Rows.sc-here sc0) ty2 (Row.valS sc0) (Row.sInt Syntax.w64 .of) (Reads.reads-field 𝓤 H A W Held.the-type Laws'3.the-laws 1 ty2 280 Path'.refl, Path'.refl) (Reads'.room-gone 𝓤 H A ty2) (Scalar.holds-sc 𝓤 H A W sc0) Path'.refl (λ u. Path'.refl) λ u. tt) d56
 
           d58 : Typed.Typed 𝓤 H A 𝓣 E G5 b44 Δ0 (at58 bs)
-          d58 = Typed.s-seq 𝓤 H A W 𝓣 E G5 G6 b0 b43 Δ0 (Typed.both (s4 bs)) (at57 bs) (WayStmt.t-way-copy-out 𝓤 H A W E 𝓣 (Declared.row State.the-type) Path'.refl (Copies.cStruct State.the-type Laws'.the-laws Laws'.the-copy .copy 𝓤 H A W) (λ ρ. Unit) G5 (Row.out 1 (G5 .locals)) (λ u. Row.drop 1 (G5 .locals) u) (G5 .slots) 1 (λ t. List._∷_ (Syntax.field 0) t) (Syntax.tyStruct (List._∷_ 112 (List._∷_ 121 (List._∷_ 114 (List._∷_ 97 (List._∷_ 109 (List._∷_ 105 (List._∷_ 100 (List._∷_ 58 (List._∷_ 58 (List._∷_ 83 (List._∷_ 116 (List._∷_ 97 (List._∷_ 116 (List._∷_ 101 List.[])))))))))))))) (Syntax.tcons (Syntax.tyInt Syntax.w32) (Syntax.tcons (Syntax.tyInt Syntax.w32) (Syntax.tcons (Syntax.tyInt Syntax.w32) (Syntax.tcons (Syntax.tyInt Syntax.w32) (Syntax.tcons (Syntax.tyInt Syntax.w32) (Syntax.tcons (Syntax.tyArray (Syntax.tyInt Syntax.w32) 64) Syntax.tnil))))))) (Syntax.tyStruct (List._∷_ 112 (List._∷_ 121 (List._∷_ 114 (List._∷_ 97 (List._∷_ 109 (List._∷_ 105 (List._∷_ 100 (List._∷_ 58 (List._∷_ 58 (List._∷_ 83 (List._∷_ 116 (List._∷_ 97 (List._∷_ 116 (List._∷_ 101 List.[])))))))))))))) (Syntax.tcons (Syntax.tyInt Syntax.w32) (Syntax.tcons (Syntax.tyInt Syntax.w32) (Syntax.tcons (Syntax.tyInt Syntax.w32) (Syntax.tcons (Syntax.tyInt Syntax.w32) (Syntax.tcons (Syntax.tyInt Syntax.w32) (Syntax.tcons (Syntax.tyArray (Syntax.tyInt Syntax.w32) 64) Syntax.tnil))))))) 9 (Rows.whole (Declared.row State.the-type)) (λ x. x) (λ u. At.getAt (Held.the-type .parts) 0 (Held.struct .as-values (u .1 .0))) (λ u. (Row.hd 0 (Row.tl bs), Nat._+_ 0 0)) (λ T′. record { locals = Row.setRow 1 (1, Rows.whole (Declared.row Held.the-type)) T′; slots = G5 .slots }) (λ u T′ m′. Row.set 1 (1, Rows.whole (Declared.row Held.the-type)) (u .1 .0) T′ m′) (λ u. Unit) (λ x. Unit) (Own.told-none 𝓤 H A (G5 .slots)) (DerefMove.learns-nothing 𝓤 H A (Declared.row State.the-type)) (λ ρ told u asked. Way'.w-partˢ 𝓤 H A W E (Declared.row Held.the-type) (Declared.row State.the-type) (Syntax.tyStruct (List._∷_ 122 (List._∷_ 111 (List._∷_ 110 (List._∷_ 101 (List._∷_ 115 (List._∷_ 58 (List._∷_ 58 (List._∷_ 104 (List._∷_ 101 (List._∷_ 108 (List._∷_ 100 (List._∷_ 58 (List._∷_ 58 (List._∷_ 72 (List._∷_ 101 (List._∷_ 108 (List._∷_ 100 List.[]))))))))))))))))) (Syntax.tcons (Syntax.tyStruct (List._∷_ 112 (List._∷_ 121 (List._∷_ 114 (List._∷_ 97 (List._∷_ 109 (List._∷_ 105 (List._∷_ 100 (List._∷_ 58 (List._∷_ 58 (List._∷_ 83 (List._∷_ 116 (List._∷_ 97 (List._∷_ 116 (List._∷_ 101 List.[])))))))))))))) (Syntax.tcons (Syntax.tyInt Syntax.w32) (Syntax.tcons (Syntax.tyInt Syntax.w32) (Syntax.tcons (Syntax.tyInt Syntax.w32) (Syntax.tcons (Syntax.tyInt Syntax.w32) (Syntax.tcons (Syntax.tyInt Syntax.w32) (Syntax.tcons (Syntax.tyArray (Syntax.tyInt Syntax.w32) 64) Syntax.tnil))))))) (Syntax.tcons (Syntax.tyInt Syntax.w64) (Syntax.tcons (Syntax.tyInt Syntax.w64) (Syntax.tcons (Syntax.tyInt Syntax.w64) (Syntax.tcons (Syntax.tyInt Syntax.w64) (Syntax.tcons (Syntax.tyInt Syntax.w64) (Syntax.tcons (Syntax.tyInt Syntax.w64) (Syntax.tcons Syntax.tyBool Syntax.tnil))))))))) (Syntax.tyStruct (List._∷_ 112 (List._∷_ 121 (List._∷_ 114 (List._∷_ 97 (List._∷_ 109 (List._∷_ 105 (List._∷_ 100 (List._∷_ 58 (List._∷_ 58 (List._∷_ 83 (List._∷_ 116 (List._∷_ 97 (List._∷_ 116 (List._∷_ 101 List.[])))))))))))))) (Syntax.tcons (Syntax.tyInt Syntax.w32) (Syntax.tcons (Syntax.tyInt Syntax.w32) (Syntax.tcons (Syntax.tyInt Syntax.w32) (Syntax.tcons (Syntax.tyInt Syntax.w32) (Syntax.tcons (Syntax.tyInt Syntax.w32) (Syntax.tcons (Syntax.tyArray (Syntax.tyInt Syntax.w32) 64) Syntax.tnil))))))) 0 0 (u .1 .0) (At.getAt (Held.the-type .parts) 0 (Held.struct .as-values (u .1 .0))) (Row.hd 0 (Row.tl bs), 0) (Way.w-look 𝓤 H A W E (Way.w-local 𝓤 H A W E G5 ρ u (G5 .slots) 1 (Declared.row Held.the-type) (Rows.whole (Declared.row Held.the-type)) (λ x. x) (λ x. x) (u .1 .0) (Local.mem-whole 𝓤 H A W (Declared.row Held.the-type) ρ (u .1 .0) (Row.hd 0 (Row.tl bs))) (Local.whole-mem 𝓤 H A W (Declared.row Held.the-type) ρ (u .1 .0) (Row.hd 0 (Row.tl bs))))) Path'.refl λ q. Inner.cut-record 𝓤 H A q (Declared.row Held.the-type) State.the-type 0 (u .1 .0) (u .1 .0) (At.getAt (Held.the-type .parts) 0 (Held.struct .as-values (u .1 .0))) (At.getAt (Held.the-type .parts) 0 (Held.struct .as-values (u .1 .0))) (Row.hd 0 (Row.tl bs), 0) (Behind.look-at 𝓤 H A W q Held.the-type Laws'3.the-laws 0 0 Path'.refl Path'.refl (Row.hd 0 (Row.tl bs), 0) (u .1 .0) (Held.struct .as-values (u .1 .0)) Path'.refl)) (Reads'.room-gone 𝓤 H A (Syntax.tyStruct (List._∷_ 112 (List._∷_ 121 (List._∷_ 114 (List._∷_ 97 (List._∷_ 109 (List._∷_ 105 (List._∷_ 100 (List._∷_ 58 (List._∷_ 58 (List._∷_ 83 (List._∷_ 116 (List._∷_ 97 (List._∷_ 116 (List._∷_ 101 List.[])))))))))))))) (Syntax.tcons (Syntax.tyInt Syntax.w32) (Syntax.tcons (Syntax.tyInt Syntax.w32) (Syntax.tcons (Syntax.tyInt Syntax.w32) (Syntax.tcons (Syntax.tyInt Syntax.w32) (Syntax.tcons (Syntax.tyInt Syntax.w32) (Syntax.tcons (Syntax.tyArray (Syntax.tyInt Syntax.w32) 64) Syntax.tnil)))))))) (Yields.makes-mem 𝓤 H A W (λ ρ. Unit) (Declared.row State.the-type) Path'.refl (Rows.whole (Declared.row State.the-type)) (λ x. x) λ ρ told. Local.whole-mem 𝓤 H A W (Declared.row State.the-type) ρ) Path'.refl Path'.refl Path'.refl) d57
+          d58 = Typed.s-seq 𝓤 H A W 𝓣 E G5 G6 b0 b43 Δ0 (Typed.both (s4 bs)) (at57 bs) (WayStmt.t-way-copy-out 𝓤 H A W E 𝓣 held4 Path'.refl (Copies.cStruct State.the-type Laws'.the-laws Laws'.the-copy .copy 𝓤 H A W) (λ ρ. Unit) G5 (Row.out 1 (G5 .locals)) (λ u. Row.drop 1 (G5 .locals) u) (G5 .slots) 1 (λ t. List._∷_ (Syntax.field 0) t) ty1 ty1 9 (Rows.whole held4) (λ x. x) (λ u. At.getAt (Held.the-type .parts) 0 (Held.struct .as-values (u .1 .0))) (λ u. (Row.hd 0 (Row.tl bs), Nat._+_ 0 0)) (λ T′. record { locals = Row.setRow 1 local1 T′; slots = G5 .slots }) (λ u T′ m′. Row.set 1 local1 (u .1 .0) T′ m′) (λ u. Unit) (λ x. Unit) (Own.told-none 𝓤 H A (G5 .slots)) (DerefMove.learns-nothing 𝓤 H A held4) (λ ρ told u asked. Way'.w-partˢ 𝓤 H A W E held0 held4 ty16 ty1 0 0 (u .1 .0) (At.getAt (Held.the-type .parts) 0 (Held.struct .as-values (u .1 .0))) (Row.hd 0 (Row.tl bs), 0) (Way.w-look 𝓤 H A W E (Way.w-local 𝓤 H A W E G5 ρ u (G5 .slots) 1 held0 (Rows.whole held0) (λ x. x) (λ x. x) (u .1 .0) (Local.mem-whole 𝓤 H A W held0 ρ (u .1 .0) (Row.hd 0 (Row.tl bs))) (Local.whole-mem 𝓤 H A W held0 ρ (u .1 .0) (Row.hd 0 (Row.tl bs))))) Path'.refl λ q. Inner.cut-record 𝓤 H A q held0 State.the-type 0 (u .1 .0) (u .1 .0) (At.getAt (Held.the-type .parts) 0 (Held.struct .as-values (u .1 .0))) (At.getAt (Held.the-type .parts) 0 (Held.struct .as-values (u .1 .0))) (Row.hd 0 (Row.tl bs), 0) (Behind.look-at 𝓤 H A W q Held.the-type Laws'3.the-laws 0 0 Path'.refl Path'.refl (Row.hd 0 (Row.tl bs), 0) (u .1 .0) (Held.struct .as-values (u .1 .0)) Path'.refl)) (Reads'.room-gone 𝓤 H A ty1) (Yields.makes-mem 𝓤 H A W (λ ρ. Unit) held4 Path'.refl (Rows.whole held4) (λ x. x) λ ρ told. Local.whole-mem 𝓤 H A W held4 ρ) Path'.refl Path'.refl Path'.refl) d57
 
           d59 : Typed.Typed 𝓤 H A 𝓣 E G4 b44 Δ0 (at59 bs)
-          d59 = Typed.g-pre 𝓤 H A W 𝓣 E G4 G5 b44 Δ0 (Typed.give (s3 bs)) (at58 bs) (Know.g-sl-known 𝓤 H A W (Referent.fInt Syntax.w32) E G4 6 3 (Syntax.tyRef (Syntax.named 3) Syntax.mut (Syntax.tyInt Syntax.w32)) (Row.lease (κs .1 .1 .1 .0) (qs .1 .1 .1 .0)) 0 (λ x. x) record { fits = Dec'.lit< tt } (Reads'.as-is 𝓤 H A (Mut.mslice (Referent.rtF (Referent.fInt Syntax.w32)) (Syntax.tyRef (Syntax.named 3) Syntax.mut (Syntax.tyInt Syntax.w32)) 3)) Path'.refl tt) d58
+          d59 = Typed.g-pre 𝓤 H A W 𝓣 E G4 G5 b44 Δ0 (Typed.give (s3 bs)) (at58 bs) (Know.g-sl-known 𝓤 H A W rf0 E G4 6 3 ty13 slot2 0 (λ x. x) record { fits = Dec'.lit< tt } (Reads'.as-is 𝓤 H A (Mut.mslice held2 ty13 3)) Path'.refl tt) d58
 
           d60 : Typed.Typed 𝓤 H A 𝓣 E G3 b44 Δ0 (at60 bs)
-          d60 = Typed.g-pre 𝓤 H A W 𝓣 E G3 G4 b44 Δ0 (Typed.give (s2 bs)) (at59 bs) (Know.g-sl-known 𝓤 H A W (Referent.fInt Syntax.w32) E G3 5 2 (Syntax.tyRef (Syntax.named 2) Syntax.mut (Syntax.tyInt Syntax.w32)) (Row.lease (κs .1 .1 .0) (qs .1 .1 .0)) 0 (λ x. x) record { fits = Dec'.lit< tt } (Reads'.as-is 𝓤 H A (Mut.mslice (Referent.rtF (Referent.fInt Syntax.w32)) (Syntax.tyRef (Syntax.named 2) Syntax.mut (Syntax.tyInt Syntax.w32)) 2)) Path'.refl tt) d59
+          d60 = Typed.g-pre 𝓤 H A W 𝓣 E G3 G4 b44 Δ0 (Typed.give (s2 bs)) (at59 bs) (Know.g-sl-known 𝓤 H A W rf0 E G3 5 2 ty12 slot1 0 (λ x. x) record { fits = Dec'.lit< tt } (Reads'.as-is 𝓤 H A (Mut.mslice held2 ty12 2)) Path'.refl tt) d59
 
           d61 : Typed.Typed 𝓤 H A 𝓣 E G2 b44 Δ0 (at61 bs)
-          d61 = Typed.g-pre 𝓤 H A W 𝓣 E G2 G3 b44 Δ0 (Typed.give (s1 bs)) (at60 bs) (Know.g-sl-known 𝓤 H A W (Referent.fInt Syntax.w32) E G2 4 1 (Syntax.tyRef (Syntax.named 1) Syntax.mut (Syntax.tyInt Syntax.w32)) (Row.lease (κs .1 .0) (qs .1 .0)) 0 (λ x. x) record { fits = Dec'.lit< tt } (Reads'.as-is 𝓤 H A (Mut.mslice (Referent.rtF (Referent.fInt Syntax.w32)) (Syntax.tyRef (Syntax.named 1) Syntax.mut (Syntax.tyInt Syntax.w32)) 1)) Path'.refl tt) d60
+          d61 = Typed.g-pre 𝓤 H A W 𝓣 E G2 G3 b44 Δ0 (Typed.give (s1 bs)) (at60 bs) (Know.g-sl-known 𝓤 H A W rf0 E G2 4 1 ty11 slot0 0 (λ x. x) record { fits = Dec'.lit< tt } (Reads'.as-is 𝓤 H A (Mut.mslice held2 ty11 1)) Path'.refl tt) d60
 
           d62 : Typed.Typed 𝓤 H A 𝓣 E G0 b44 Δ0 (at62 bs)
-          d62 = Typed.g-pre 𝓤 H A W 𝓣 E G0 G2 b44 Δ0 (Typed.give (s0 bs)) (at61 bs) (Know.g-shs-known 𝓤 H A W (Referent.fInt Syntax.w32) E G0 3 0 (Syntax.tyRef (Syntax.named 0) Syntax.imm (Syntax.tyInt Syntax.w32)) (Row.lease (κs .0) (qs .0)) 0 (λ x. x) record { fits = Dec'.lit< tt } (Reads'.as-is 𝓤 H A (Rows.sslice (Referent.rtF (Referent.fInt Syntax.w32)) (Syntax.tyRef (Syntax.named 0) Syntax.imm (Syntax.tyInt Syntax.w32)) 0)) Path'.refl tt) d61
+          d62 = Typed.g-pre 𝓤 H A W 𝓣 E G0 G2 b44 Δ0 (Typed.give (s0 bs)) (at61 bs) (Know.g-shs-known 𝓤 H A W rf0 E G0 3 0 ty10 slot5 0 (λ x. x) record { fits = Dec'.lit< tt } (Reads'.as-is 𝓤 H A (Rows.sslice held2 ty10 0)) Path'.refl tt) d61
 
           pub typed : Typed.Typed 𝓤 H A 𝓣 E (Function.Γin 6 ps r xs m κs qs) b44 (Function.Δret 6 ps r xs m κs qs) (Φ bs)
           typed = d62
 
       module _ (κs : Lifetimes.Lfts 6) where
         pub record Args : Type 0 where
-          pub held : Kinds.Den {n = 6} κs (Value.pVal record { ty = Declared.row Held.the-type; one = Path'.refl; val = Laws'4.val Held.the-type Laws'3.the-laws; tells = Laws'4.tells Held.the-type Laws'3.the-laws; still = Laws'4.still Held.the-type Laws'3.the-copy Exit.yes; row = Rows.whole (Declared.row Held.the-type); rd = λ x. x; mk = λ x. x } λ M 𝓤 H A W. record { copies = Laws'4.copy Held.the-type Laws'3.the-copy 𝓤 H A W; lawful = Laws'4.lawful Held.the-type Laws'3.the-laws 𝓤 H A W; makes = Laws'4.makes Held.the-type Laws'3.the-plain 𝓤 H A; in-mem = Local.mem-whole 𝓤 H A W (Declared.row Held.the-type); of-mem = Local.whole-mem 𝓤 H A W (Declared.row Held.the-type) })
-          pub line : Kinds.Den {n = 6} κs (Value.pVal record { ty = Declared.row Line.the-type; one = Path'.refl; val = Laws'4.val Line.the-type Laws''.the-laws; tells = Laws'4.tells Line.the-type Laws''.the-laws; still = Laws'4.still Line.the-type Laws''.the-copy Exit.yes; row = Rows.whole (Declared.row Line.the-type); rd = λ x. x; mk = λ x. x } λ M 𝓤 H A W. record { copies = Laws'4.copy Line.the-type Laws''.the-copy 𝓤 H A W; lawful = Laws'4.lawful Line.the-type Laws''.the-laws 𝓤 H A W; makes = Laws'4.makes Line.the-type Laws''.the-plain 𝓤 H A; in-mem = Local.mem-whole 𝓤 H A W (Declared.row Line.the-type); of-mem = Local.whole-mem 𝓤 H A W (Declared.row Line.the-type) })
-          pub numbers : Kinds.Den {n = 6} κs (ShrSlice.pShrS (Referent.rtF (Referent.fInt Syntax.w32)) 0 tt)
-          pub table : Kinds.Den {n = 6} κs (MutSlice.pMutS (Referent.rtF (Referent.fInt Syntax.w32)) 1 tt)
-          pub history : Kinds.Den {n = 6} κs (MutSlice.pMutS (Referent.rtF (Referent.fInt Syntax.w32)) 2 tt)
-          pub work : Kinds.Den {n = 6} κs (MutSlice.pMutS (Referent.rtF (Referent.fInt Syntax.w32)) 3 tt)
+          pub held : Kinds.Den {n = 6} κs (Value.pVal record { ty = Declared.row Held.the-type; one = Path'.refl; val = Laws'4.val Held.the-type Laws'3.the-laws; tells = Laws'4.tells Held.the-type Laws'3.the-laws; still = Laws'4.still Held.the-type Laws'3.the-copy Exit.yes; row = Rows.whole held0; rd = λ x. x; mk = λ x. x } λ M 𝓤 H A W. record { copies = Laws'4.copy Held.the-type Laws'3.the-copy 𝓤 H A W; lawful = Laws'4.lawful Held.the-type Laws'3.the-laws 𝓤 H A W; makes = Laws'4.makes Held.the-type Laws'3.the-plain 𝓤 H A; in-mem = Local.mem-whole 𝓤 H A W held0; of-mem = Local.whole-mem 𝓤 H A W held0 })
+          pub line : Kinds.Den {n = 6} κs (Value.pVal record { ty = Declared.row Line.the-type; one = Path'.refl; val = Laws'4.val Line.the-type Laws''.the-laws; tells = Laws'4.tells Line.the-type Laws''.the-laws; still = Laws'4.still Line.the-type Laws''.the-copy Exit.yes; row = Rows.whole held1; rd = λ x. x; mk = λ x. x } λ M 𝓤 H A W. record { copies = Laws'4.copy Line.the-type Laws''.the-copy 𝓤 H A W; lawful = Laws'4.lawful Line.the-type Laws''.the-laws 𝓤 H A W; makes = Laws'4.makes Line.the-type Laws''.the-plain 𝓤 H A; in-mem = Local.mem-whole 𝓤 H A W held1; of-mem = Local.whole-mem 𝓤 H A W held1 })
+          pub numbers : Kinds.Den {n = 6} κs (ShrSlice.pShrS held2 0 tt)
+          pub table : Kinds.Den {n = 6} κs (MutSlice.pMutS held2 1 tt)
+          pub history : Kinds.Den {n = 6} κs (MutSlice.pMutS held2 2 tt)
+          pub work : Kinds.Den {n = 6} κs (MutSlice.pMutS held2 3 tt)
           pub sheet : Kinds.Den {n = 6} κs (MutSlice.pMutS Cell.R 4 tt)
           pub kept : Kinds.Den {n = 6} κs (MutSlice.pMutS Cell.R 5 tt)
 
@@ -1433,14 +1848,14 @@ module _ (claims· : Claims) where
 
       module _ (before· : After-state) where
         abbrev pub After-least·own : Type 0
-        After-least·own = Called.Called ps·0 r·0 (claims· .1) T12 (Num.vFld 2 (List._∷_ (Syntax.field 1) List.[]) 8 λ x. Line.struct .as-values x .1 .0, (Num.vBig 32772, tt)) (m11 (before· .before) (before· .state .given))
+        After-least·own = Called.Called ps·0 r·0 (claims· .1) T12 (Num.vFld 2 steps1 8 λ x. Line.struct .as-values x .1 .0, (Num.vBig 32772, tt)) (m11 (before· .before) (before· .state .given))
 
       pub record After-least : Type 0 where
         pub before : After-state
         pub least : After-least·own before
 
       abbrev pub After-least·gave : (c : After-least) → s11 (c .before .before .before .before .before .before .blocks) .gives (m11 (c .before .before) (c .before .state .given))
-      After-least·gave = λ c. Called.given ps·0 r·0 (claims· .1) T12 (Num.vFld 2 (List._∷_ (Syntax.field 1) List.[]) 8 λ x. Line.struct .as-values x .1 .0, (Num.vBig 32772, tt)) (m11 (c .before .before) (c .before .state .given)) (c .least)
+      After-least·gave = λ c. Called.given ps·0 r·0 (claims· .1) T12 (Num.vFld 2 steps1 8 λ x. Line.struct .as-values x .1 .0, (Num.vBig 32772, tt)) (m11 (c .before .before) (c .before .state .given)) (c .least)
 
       abbrev pub m13 : (before : After-state) → (given : s11 (before .before .before .before .before .before .blocks) .gives (m11 (before .before) (before .state .given))) → Typed.Mo T14
       m13 = λ before given. s12 (before .before .before .before .before .before .blocks) .next (m12 before given)
@@ -1590,14 +2005,14 @@ module _ (claims· : Claims) where
 
       module _ (before· : After-handed-with-arg6) where
         abbrev pub After-handed-with·own : Type 0
-        After-handed-with·own = Called.Called ps·1 r·1 (claims· .3) T34 (record { pos = 9; st = List.[]; d = 0; at = λ x. x }, (Num.vFld 2 (List._∷_ (Syntax.field 0) List.[]) 0 λ x. Line.struct .as-values x .0, (Num.vAt 17 λ x. x, (record { pos = 19; ty = Syntax.tyRef Syntax.erased Syntax.imm (Syntax.tyInt Syntax.w32); ref = λ x. x }, (record { pos = 21; ty = Syntax.tyRef Syntax.erased Syntax.mut (Syntax.tyInt Syntax.w32); ref = λ x. x }, (record { pos = 23; ty = Syntax.tyRef Syntax.erased Syntax.mut (Syntax.tyInt Syntax.w32); ref = λ x. x }, (record { pos = 25; ty = Syntax.tyRef Syntax.erased Syntax.mut (Syntax.tyInt Syntax.w32); ref = λ x. x }, (record { pos = 27; ty = Syntax.tyRef Syntax.erased Syntax.mut Cell.behind; ref = λ x. x }, (record { pos = 29; ty = Syntax.tyRef Syntax.erased Syntax.mut Cell.behind; ref = λ x. x }, tt))))))))) (m28 (before· .before) (before· .handed-with-arg6 .given))
+        After-handed-with·own = Called.Called ps·1 r·1 (claims· .3) T34 (record { pos = 9; st = List.[]; d = 0; at = λ x. x }, (Num.vFld 2 steps0 0 λ x. Line.struct .as-values x .0, (Num.vAt 17 λ x. x, (record { pos = 19; ty = Syntax.tyRef Syntax.erased Syntax.imm ty0; ref = λ x. x }, (record { pos = 21; ty = Syntax.tyRef Syntax.erased Syntax.mut ty0; ref = λ x. x }, (record { pos = 23; ty = Syntax.tyRef Syntax.erased Syntax.mut ty0; ref = λ x. x }, (record { pos = 25; ty = Syntax.tyRef Syntax.erased Syntax.mut ty0; ref = λ x. x }, (record { pos = 27; ty = Syntax.tyRef Syntax.erased Syntax.mut Cell.behind; ref = λ x. x }, (record { pos = 29; ty = Syntax.tyRef Syntax.erased Syntax.mut Cell.behind; ref = λ x. x }, tt))))))))) (m28 (before· .before) (before· .handed-with-arg6 .given))
 
       pub record After-handed-with : Type 0 where
         pub before : After-handed-with-arg6
         pub handed-with : After-handed-with·own before
 
       abbrev pub After-handed-with·gave : (c : After-handed-with) → s33 (c .before .before .before .before .before .before .before .before .before .before .before .before .before .before .blocks) .gives (m28 (c .before .before) (c .before .handed-with-arg6 .given))
-      After-handed-with·gave = λ c. Called.given ps·1 r·1 (claims· .3) T34 (record { pos = 9; st = List.[]; d = 0; at = λ x. x }, (Num.vFld 2 (List._∷_ (Syntax.field 0) List.[]) 0 λ x. Line.struct .as-values x .0, (Num.vAt 17 λ x. x, (record { pos = 19; ty = Syntax.tyRef Syntax.erased Syntax.imm (Syntax.tyInt Syntax.w32); ref = λ x. x }, (record { pos = 21; ty = Syntax.tyRef Syntax.erased Syntax.mut (Syntax.tyInt Syntax.w32); ref = λ x. x }, (record { pos = 23; ty = Syntax.tyRef Syntax.erased Syntax.mut (Syntax.tyInt Syntax.w32); ref = λ x. x }, (record { pos = 25; ty = Syntax.tyRef Syntax.erased Syntax.mut (Syntax.tyInt Syntax.w32); ref = λ x. x }, (record { pos = 27; ty = Syntax.tyRef Syntax.erased Syntax.mut Cell.behind; ref = λ x. x }, (record { pos = 29; ty = Syntax.tyRef Syntax.erased Syntax.mut Cell.behind; ref = λ x. x }, tt))))))))) (m28 (c .before .before) (c .before .handed-with-arg6 .given)) (c .handed-with)
+      After-handed-with·gave = λ c. Called.given ps·1 r·1 (claims· .3) T34 (record { pos = 9; st = List.[]; d = 0; at = λ x. x }, (Num.vFld 2 steps0 0 λ x. Line.struct .as-values x .0, (Num.vAt 17 λ x. x, (record { pos = 19; ty = Syntax.tyRef Syntax.erased Syntax.imm ty0; ref = λ x. x }, (record { pos = 21; ty = Syntax.tyRef Syntax.erased Syntax.mut ty0; ref = λ x. x }, (record { pos = 23; ty = Syntax.tyRef Syntax.erased Syntax.mut ty0; ref = λ x. x }, (record { pos = 25; ty = Syntax.tyRef Syntax.erased Syntax.mut ty0; ref = λ x. x }, (record { pos = 27; ty = Syntax.tyRef Syntax.erased Syntax.mut Cell.behind; ref = λ x. x }, (record { pos = 29; ty = Syntax.tyRef Syntax.erased Syntax.mut Cell.behind; ref = λ x. x }, tt))))))))) (m28 (c .before .before) (c .before .handed-with-arg6 .given)) (c .handed-with)
 
       abbrev pub m30 : (before : After-handed-with-arg6) → (given : s33 (before .before .before .before .before .before .before .before .before .before .before .before .before .before .blocks) .gives (m28 (before .before) (before .handed-with-arg6 .given))) → Typed.Mo T36
       m30 = λ before given. s34 (before .before .before .before .before .before .before .before .before .before .before .before .before .before .blocks) (m29 before given)
@@ -1740,10 +2155,10 @@ module _ (claims· : Claims) where
         lay2 = λ c. (Path'.refl, λ g. λ g'. (Path'.refl, λ g''. λ g'3. (Path'.refl, λ g'4. λ g'5. (Path'.refl, λ g'6. (Path'.refl, λ g'7. ((tt, (tt, (Path'.refl, (MutSlice.fix-len (Row.get 4 (T62 .locals) (m47 record { before = record { before = record { before = record { before = record { before = record { before = record { before = record { before = c .before; handed-with = c .handed-with }; table = record { given = g } }; slice-known4 = record { given = g' } }; history = record { given = g'' } }; slice-known5 = record { given = g'3 } }; work = record { given = g'4 } }; slice-known6 = record { given = g'5 } }; sheet = record { given = g'6 } } g'7) .ptr) (Row.get 4 (T62 .locals) (m47 record { before = record { before = record { before = record { before = record { before = record { before = record { before = record { before = c .before; handed-with = c .handed-with }; table = record { given = g } }; slice-known4 = record { given = g' } }; history = record { given = g'' } }; slice-known5 = record { given = g'3 } }; work = record { given = g'4 } }; slice-known6 = record { given = g'5 } }; sheet = record { given = g'6 } } g'7) .name) (Row.get 4 (T62 .locals) (m47 record { before = record { before = record { before = record { before = record { before = record { before = record { before = record { before = c .before; handed-with = c .handed-with }; table = record { given = g } }; slice-known4 = record { given = g' } }; history = record { given = g'' } }; slice-known5 = record { given = g'3 } }; work = record { given = g'4 } }; slice-known6 = record { given = g'5 } }; sheet = record { given = g'6 } } g'7) .now) (dens (c .before .before .before .before .before .before .before .before .before .before .before .before .before .before .κs) (c .before .before .before .before .before .before .before .before .before .before .before .before .before .before .args) .1 .1 .1 .0 .now) (same-length record { before = record { before = record { before = record { before = record { before = record { before = record { before = record { before = record { before = c .before; handed-with = c .handed-with }; table = record { given = g } }; slice-known4 = record { given = g' } }; history = record { given = g'' } }; slice-known5 = record { given = g'3 } }; work = record { given = g'4 } }; slice-known6 = record { given = g'5 } }; sheet = record { given = g'6 } }; kept = record { given = g'7 } }), (MutSlice.fix-len (Row.get 5 (T62 .locals) (m47 record { before = record { before = record { before = record { before = record { before = record { before = record { before = record { before = c .before; handed-with = c .handed-with }; table = record { given = g } }; slice-known4 = record { given = g' } }; history = record { given = g'' } }; slice-known5 = record { given = g'3 } }; work = record { given = g'4 } }; slice-known6 = record { given = g'5 } }; sheet = record { given = g'6 } } g'7) .ptr) (Row.get 5 (T62 .locals) (m47 record { before = record { before = record { before = record { before = record { before = record { before = record { before = record { before = c .before; handed-with = c .handed-with }; table = record { given = g } }; slice-known4 = record { given = g' } }; history = record { given = g'' } }; slice-known5 = record { given = g'3 } }; work = record { given = g'4 } }; slice-known6 = record { given = g'5 } }; sheet = record { given = g'6 } } g'7) .name) (Row.get 5 (T62 .locals) (m47 record { before = record { before = record { before = record { before = record { before = record { before = record { before = record { before = c .before; handed-with = c .handed-with }; table = record { given = g } }; slice-known4 = record { given = g' } }; history = record { given = g'' } }; slice-known5 = record { given = g'3 } }; work = record { given = g'4 } }; slice-known6 = record { given = g'5 } }; sheet = record { given = g'6 } } g'7) .now) (dens (c .before .before .before .before .before .before .before .before .before .before .before .before .before .before .κs) (c .before .before .before .before .before .before .before .before .before .before .before .before .before .before .args) .1 .1 .1 .1 .0 .now) (same-length-2 record { before = record { before = record { before = record { before = record { before = record { before = record { before = record { before = record { before = c .before; handed-with = c .handed-with }; table = record { given = g } }; slice-known4 = record { given = g' } }; history = record { given = g'' } }; slice-known5 = record { given = g'3 } }; work = record { given = g'4 } }; slice-known6 = record { given = g'5 } }; sheet = record { given = g'6 } }; kept = record { given = g'7 } }), (MutSlice.fix-len (Row.get 6 (T62 .locals) (m47 record { before = record { before = record { before = record { before = record { before = record { before = record { before = record { before = c .before; handed-with = c .handed-with }; table = record { given = g } }; slice-known4 = record { given = g' } }; history = record { given = g'' } }; slice-known5 = record { given = g'3 } }; work = record { given = g'4 } }; slice-known6 = record { given = g'5 } }; sheet = record { given = g'6 } } g'7) .ptr) (Row.get 6 (T62 .locals) (m47 record { before = record { before = record { before = record { before = record { before = record { before = record { before = record { before = c .before; handed-with = c .handed-with }; table = record { given = g } }; slice-known4 = record { given = g' } }; history = record { given = g'' } }; slice-known5 = record { given = g'3 } }; work = record { given = g'4 } }; slice-known6 = record { given = g'5 } }; sheet = record { given = g'6 } } g'7) .name) (Row.get 6 (T62 .locals) (m47 record { before = record { before = record { before = record { before = record { before = record { before = record { before = record { before = c .before; handed-with = c .handed-with }; table = record { given = g } }; slice-known4 = record { given = g' } }; history = record { given = g'' } }; slice-known5 = record { given = g'3 } }; work = record { given = g'4 } }; slice-known6 = record { given = g'5 } }; sheet = record { given = g'6 } } g'7) .now) (dens (c .before .before .before .before .before .before .before .before .before .before .before .before .before .before .κs) (c .before .before .before .before .before .before .before .before .before .before .before .before .before .before .args) .1 .1 .1 .1 .1 .0 .now) (same-length-3 record { before = record { before = record { before = record { before = record { before = record { before = record { before = record { before = record { before = c .before; handed-with = c .handed-with }; table = record { given = g } }; slice-known4 = record { given = g' } }; history = record { given = g'' } }; slice-known5 = record { given = g'3 } }; work = record { given = g'4 } }; slice-known6 = record { given = g'5 } }; sheet = record { given = g'6 } }; kept = record { given = g'7 } }), (MutSlice.fix-len (Row.get 7 (T62 .locals) (m47 record { before = record { before = record { before = record { before = record { before = record { before = record { before = record { before = c .before; handed-with = c .handed-with }; table = record { given = g } }; slice-known4 = record { given = g' } }; history = record { given = g'' } }; slice-known5 = record { given = g'3 } }; work = record { given = g'4 } }; slice-known6 = record { given = g'5 } }; sheet = record { given = g'6 } } g'7) .ptr) (Row.get 7 (T62 .locals) (m47 record { before = record { before = record { before = record { before = record { before = record { before = record { before = record { before = c .before; handed-with = c .handed-with }; table = record { given = g } }; slice-known4 = record { given = g' } }; history = record { given = g'' } }; slice-known5 = record { given = g'3 } }; work = record { given = g'4 } }; slice-known6 = record { given = g'5 } }; sheet = record { given = g'6 } } g'7) .name) (Row.get 7 (T62 .locals) (m47 record { before = record { before = record { before = record { before = record { before = record { before = record { before = record { before = c .before; handed-with = c .handed-with }; table = record { given = g } }; slice-known4 = record { given = g' } }; history = record { given = g'' } }; slice-known5 = record { given = g'3 } }; work = record { given = g'4 } }; slice-known6 = record { given = g'5 } }; sheet = record { given = g'6 } } g'7) .now) (dens (c .before .before .before .before .before .before .before .before .before .before .before .before .before .before .κs) (c .before .before .before .before .before .before .before .before .before .before .before .before .before .before .args) .1 .1 .1 .1 .1 .1 .0 .now) (same-length-4 record { before = record { before = record { before = record { before = record { before = record { before = record { before = record { before = record { before = c .before; handed-with = c .handed-with }; table = record { given = g } }; slice-known4 = record { given = g' } }; history = record { given = g'' } }; slice-known5 = record { given = g'3 } }; work = record { given = g'4 } }; slice-known6 = record { given = g'5 } }; sheet = record { given = g'6 } }; kept = record { given = g'7 } }), (MutSlice.fix-len (Row.get 8 (T62 .locals) (m47 record { before = record { before = record { before = record { before = record { before = record { before = record { before = record { before = c .before; handed-with = c .handed-with }; table = record { given = g } }; slice-known4 = record { given = g' } }; history = record { given = g'' } }; slice-known5 = record { given = g'3 } }; work = record { given = g'4 } }; slice-known6 = record { given = g'5 } }; sheet = record { given = g'6 } } g'7) .ptr) (Row.get 8 (T62 .locals) (m47 record { before = record { before = record { before = record { before = record { before = record { before = record { before = record { before = c .before; handed-with = c .handed-with }; table = record { given = g } }; slice-known4 = record { given = g' } }; history = record { given = g'' } }; slice-known5 = record { given = g'3 } }; work = record { given = g'4 } }; slice-known6 = record { given = g'5 } }; sheet = record { given = g'6 } } g'7) .name) (Row.get 8 (T62 .locals) (m47 record { before = record { before = record { before = record { before = record { before = record { before = record { before = record { before = c .before; handed-with = c .handed-with }; table = record { given = g } }; slice-known4 = record { given = g' } }; history = record { given = g'' } }; slice-known5 = record { given = g'3 } }; work = record { given = g'4 } }; slice-known6 = record { given = g'5 } }; sheet = record { given = g'6 } } g'7) .now) (dens (c .before .before .before .before .before .before .before .before .before .before .before .before .before .before .κs) (c .before .before .before .before .before .before .before .before .before .before .before .before .before .before .args) .1 .1 .1 .1 .1 .1 .1 .0 .now) (same-length-5 record { before = record { before = record { before = record { before = record { before = record { before = record { before = record { before = record { before = c .before; handed-with = c .handed-with }; table = record { given = g } }; slice-known4 = record { given = g' } }; history = record { given = g'' } }; slice-known5 = record { given = g'3 } }; work = record { given = g'4 } }; slice-known6 = record { given = g'5 } }; sheet = record { given = g'6 } }; kept = record { given = g'7 } }), tt)))))))), returns record { before = record { before = record { before = record { before = record { before = record { before = record { before = record { before = record { before = c .before; handed-with = c .handed-with }; table = record { given = g } }; slice-known4 = record { given = g' } }; history = record { given = g'' } }; slice-known5 = record { given = g'3 } }; work = record { given = g'4 } }; slice-known6 = record { given = g'5 } }; sheet = record { given = g'6 } }; kept = record { given = g'7 } }))))))
 
         lay1 : (c : After-least) → at50 (c .before .before .before .before .before .before .blocks) (W0 (c .before .before .before .before .before .before .κs) (c .before .before .before .before .before .before .args) (c .before .before .before .before .before .before .blocks)) (m12 (c .before) (After-least·gave c))
-        lay1 = λ c. (tt, λ g. ((Path'.refl, Path'.refl, shared-slice-read-handed-with record { before = record { before = c .before; least = c .least }; shared-slice-known2 = record { given = g } }), λ g'. (Relend.count-is T18 18 19 (λ x. x) (λ u. u .1 .1 .1 .1 .1 .1 .1 .1 .1 .1 .1 .1 .1 .1 .1 .0) (m17 record { before = record { before = c .before; least = c .least }; shared-slice-known2 = record { given = g } } g') (slice-aggregate-handed-with record { before = record { before = record { before = c .before; least = c .least }; shared-slice-known2 = record { given = g } }; handed-with-arg = record { given = g' } }), (slice-relend-prefix-handed-with record { before = record { before = record { before = c .before; least = c .least }; shared-slice-known2 = record { given = g } }; handed-with-arg = record { given = g' } }, λ g''. (Relend.count-is T21 20 21 (λ x. x) (λ u. u .1 .1 .1 .1 .1 .1 .1 .1 .1 .1 .0) (m19 record { before = record { before = record { before = c .before; least = c .least }; shared-slice-known2 = record { given = g } }; handed-with-arg = record { given = g' } } g'') (slice-aggregate-handed-with-2 record { before = record { before = record { before = record { before = c .before; least = c .least }; shared-slice-known2 = record { given = g } }; handed-with-arg = record { given = g' } }; handed-with-arg2 = record { given = g'' } }), (slice-relend-prefix-handed-with-2 record { before = record { before = record { before = record { before = c .before; least = c .least }; shared-slice-known2 = record { given = g } }; handed-with-arg = record { given = g' } }; handed-with-arg2 = record { given = g'' } }, λ g'3. (Relend.count-is T24 22 23 (λ x. x) (λ u. u .1 .1 .1 .1 .1 .1 .1 .1 .1 .1 .1 .0) (m21 record { before = record { before = record { before = record { before = c .before; least = c .least }; shared-slice-known2 = record { given = g } }; handed-with-arg = record { given = g' } }; handed-with-arg2 = record { given = g'' } } g'3) (slice-aggregate-handed-with-3 record { before = record { before = record { before = record { before = record { before = c .before; least = c .least }; shared-slice-known2 = record { given = g } }; handed-with-arg = record { given = g' } }; handed-with-arg2 = record { given = g'' } }; handed-with-arg3 = record { given = g'3 } }), (slice-relend-prefix-handed-with-3 record { before = record { before = record { before = record { before = record { before = c .before; least = c .least }; shared-slice-known2 = record { given = g } }; handed-with-arg = record { given = g' } }; handed-with-arg2 = record { given = g'' } }; handed-with-arg3 = record { given = g'3 } }, λ g'4. (Relend.count-is T27 24 25 (λ x. x) (λ u. u .1 .1 .1 .1 .1 .1 .1 .1 .1 .1 .1 .1 .0) (m23 record { before = record { before = record { before = record { before = record { before = c .before; least = c .least }; shared-slice-known2 = record { given = g } }; handed-with-arg = record { given = g' } }; handed-with-arg2 = record { given = g'' } }; handed-with-arg3 = record { given = g'3 } } g'4) (slice-aggregate-handed-with-4 record { before = record { before = record { before = record { before = record { before = record { before = c .before; least = c .least }; shared-slice-known2 = record { given = g } }; handed-with-arg = record { given = g' } }; handed-with-arg2 = record { given = g'' } }; handed-with-arg3 = record { given = g'3 } }; handed-with-arg4 = record { given = g'4 } }), (slice-relend-prefix-handed-with-4 record { before = record { before = record { before = record { before = record { before = record { before = c .before; least = c .least }; shared-slice-known2 = record { given = g } }; handed-with-arg = record { given = g' } }; handed-with-arg2 = record { given = g'' } }; handed-with-arg3 = record { given = g'3 } }; handed-with-arg4 = record { given = g'4 } }, λ g'5. (Relend.count-is T30 26 27 (λ x. x) (λ u. u .1 .1 .1 .1 .1 .1 .1 .1 .1 .1 .1 .1 .1 .0) (m25 record { before = record { before = record { before = record { before = record { before = record { before = c .before; least = c .least }; shared-slice-known2 = record { given = g } }; handed-with-arg = record { given = g' } }; handed-with-arg2 = record { given = g'' } }; handed-with-arg3 = record { given = g'3 } }; handed-with-arg4 = record { given = g'4 } } g'5) (slice-aggregate-handed-with-5 record { before = record { before = record { before = record { before = record { before = record { before = record { before = c .before; least = c .least }; shared-slice-known2 = record { given = g } }; handed-with-arg = record { given = g' } }; handed-with-arg2 = record { given = g'' } }; handed-with-arg3 = record { given = g'3 } }; handed-with-arg4 = record { given = g'4 } }; handed-with-arg5 = record { given = g'5 } }), (slice-relend-prefix-handed-with-5 record { before = record { before = record { before = record { before = record { before = record { before = record { before = c .before; least = c .least }; shared-slice-known2 = record { given = g } }; handed-with-arg = record { given = g' } }; handed-with-arg2 = record { given = g'' } }; handed-with-arg3 = record { given = g'3 } }; handed-with-arg4 = record { given = g'4 } }; handed-with-arg5 = record { given = g'5 } }, λ g'6. (Relend.count-is T33 28 29 (λ x. x) (λ u. u .1 .1 .1 .1 .1 .1 .1 .1 .1 .1 .1 .1 .1 .1 .0) (m27 record { before = record { before = record { before = record { before = record { before = record { before = record { before = c .before; least = c .least }; shared-slice-known2 = record { given = g } }; handed-with-arg = record { given = g' } }; handed-with-arg2 = record { given = g'' } }; handed-with-arg3 = record { given = g'3 } }; handed-with-arg4 = record { given = g'4 } }; handed-with-arg5 = record { given = g'5 } } g'6) (slice-aggregate-handed-with-6 record { before = record { before = record { before = record { before = record { before = record { before = record { before = record { before = c .before; least = c .least }; shared-slice-known2 = record { given = g } }; handed-with-arg = record { given = g' } }; handed-with-arg2 = record { given = g'' } }; handed-with-arg3 = record { given = g'3 } }; handed-with-arg4 = record { given = g'4 } }; handed-with-arg5 = record { given = g'5 } }; handed-with-arg6 = record { given = g'6 } }), (handed-with-requires record { before = record { before = record { before = record { before = record { before = record { before = record { before = record { before = c .before; least = c .least }; shared-slice-known2 = record { given = g } }; handed-with-arg = record { given = g' } }; handed-with-arg2 = record { given = g'' } }; handed-with-arg3 = record { given = g'3 } }; handed-with-arg4 = record { given = g'4 } }; handed-with-arg5 = record { given = g'5 } }; handed-with-arg6 = record { given = g'6 } }, λ g'7. lay2 record { before = record { before = record { before = record { before = record { before = record { before = record { before = record { before = record { before = c .before; least = c .least }; shared-slice-known2 = record { given = g } }; handed-with-arg = record { given = g' } }; handed-with-arg2 = record { given = g'' } }; handed-with-arg3 = record { given = g'3 } }; handed-with-arg4 = record { given = g'4 } }; handed-with-arg5 = record { given = g'5 } }; handed-with-arg6 = record { given = g'6 } }; handed-with = Called.called ps·1 r·1 (claims· .3) T34 (record { pos = 9; st = List.[]; d = 0; at = λ x. x }, (Num.vFld 2 (List._∷_ (Syntax.field 0) List.[]) 0 λ x. Line.struct .as-values x .0, (Num.vAt 17 λ x. x, (record { pos = 19; ty = Syntax.tyRef Syntax.erased Syntax.imm (Syntax.tyInt Syntax.w32); ref = λ x. x }, (record { pos = 21; ty = Syntax.tyRef Syntax.erased Syntax.mut (Syntax.tyInt Syntax.w32); ref = λ x. x }, (record { pos = 23; ty = Syntax.tyRef Syntax.erased Syntax.mut (Syntax.tyInt Syntax.w32); ref = λ x. x }, (record { pos = 25; ty = Syntax.tyRef Syntax.erased Syntax.mut (Syntax.tyInt Syntax.w32); ref = λ x. x }, (record { pos = 27; ty = Syntax.tyRef Syntax.erased Syntax.mut Cell.behind; ref = λ x. x }, (record { pos = 29; ty = Syntax.tyRef Syntax.erased Syntax.mut Cell.behind; ref = λ x. x }, tt))))))))) (m28 record { before = record { before = record { before = record { before = record { before = record { before = record { before = c .before; least = c .least }; shared-slice-known2 = record { given = g } }; handed-with-arg = record { given = g' } }; handed-with-arg2 = record { given = g'' } }; handed-with-arg3 = record { given = g'3 } }; handed-with-arg4 = record { given = g'4 } }; handed-with-arg5 = record { given = g'5 } } g'6) g'7 }))))))))))))))
+        lay1 = λ c. (tt, λ g. ((Path'.refl, Path'.refl, shared-slice-read-handed-with record { before = record { before = c .before; least = c .least }; shared-slice-known2 = record { given = g } }), λ g'. (Relend.count-is T18 18 19 (λ x. x) (λ u. u .1 .1 .1 .1 .1 .1 .1 .1 .1 .1 .1 .1 .1 .1 .1 .0) (m17 record { before = record { before = c .before; least = c .least }; shared-slice-known2 = record { given = g } } g') (slice-aggregate-handed-with record { before = record { before = record { before = c .before; least = c .least }; shared-slice-known2 = record { given = g } }; handed-with-arg = record { given = g' } }), (slice-relend-prefix-handed-with record { before = record { before = record { before = c .before; least = c .least }; shared-slice-known2 = record { given = g } }; handed-with-arg = record { given = g' } }, λ g''. (Relend.count-is T21 20 21 (λ x. x) (λ u. u .1 .1 .1 .1 .1 .1 .1 .1 .1 .1 .0) (m19 record { before = record { before = record { before = c .before; least = c .least }; shared-slice-known2 = record { given = g } }; handed-with-arg = record { given = g' } } g'') (slice-aggregate-handed-with-2 record { before = record { before = record { before = record { before = c .before; least = c .least }; shared-slice-known2 = record { given = g } }; handed-with-arg = record { given = g' } }; handed-with-arg2 = record { given = g'' } }), (slice-relend-prefix-handed-with-2 record { before = record { before = record { before = record { before = c .before; least = c .least }; shared-slice-known2 = record { given = g } }; handed-with-arg = record { given = g' } }; handed-with-arg2 = record { given = g'' } }, λ g'3. (Relend.count-is T24 22 23 (λ x. x) (λ u. u .1 .1 .1 .1 .1 .1 .1 .1 .1 .1 .1 .0) (m21 record { before = record { before = record { before = record { before = c .before; least = c .least }; shared-slice-known2 = record { given = g } }; handed-with-arg = record { given = g' } }; handed-with-arg2 = record { given = g'' } } g'3) (slice-aggregate-handed-with-3 record { before = record { before = record { before = record { before = record { before = c .before; least = c .least }; shared-slice-known2 = record { given = g } }; handed-with-arg = record { given = g' } }; handed-with-arg2 = record { given = g'' } }; handed-with-arg3 = record { given = g'3 } }), (slice-relend-prefix-handed-with-3 record { before = record { before = record { before = record { before = record { before = c .before; least = c .least }; shared-slice-known2 = record { given = g } }; handed-with-arg = record { given = g' } }; handed-with-arg2 = record { given = g'' } }; handed-with-arg3 = record { given = g'3 } }, λ g'4. (Relend.count-is T27 24 25 (λ x. x) (λ u. u .1 .1 .1 .1 .1 .1 .1 .1 .1 .1 .1 .1 .0) (m23 record { before = record { before = record { before = record { before = record { before = c .before; least = c .least }; shared-slice-known2 = record { given = g } }; handed-with-arg = record { given = g' } }; handed-with-arg2 = record { given = g'' } }; handed-with-arg3 = record { given = g'3 } } g'4) (slice-aggregate-handed-with-4 record { before = record { before = record { before = record { before = record { before = record { before = c .before; least = c .least }; shared-slice-known2 = record { given = g } }; handed-with-arg = record { given = g' } }; handed-with-arg2 = record { given = g'' } }; handed-with-arg3 = record { given = g'3 } }; handed-with-arg4 = record { given = g'4 } }), (slice-relend-prefix-handed-with-4 record { before = record { before = record { before = record { before = record { before = record { before = c .before; least = c .least }; shared-slice-known2 = record { given = g } }; handed-with-arg = record { given = g' } }; handed-with-arg2 = record { given = g'' } }; handed-with-arg3 = record { given = g'3 } }; handed-with-arg4 = record { given = g'4 } }, λ g'5. (Relend.count-is T30 26 27 (λ x. x) (λ u. u .1 .1 .1 .1 .1 .1 .1 .1 .1 .1 .1 .1 .1 .0) (m25 record { before = record { before = record { before = record { before = record { before = record { before = c .before; least = c .least }; shared-slice-known2 = record { given = g } }; handed-with-arg = record { given = g' } }; handed-with-arg2 = record { given = g'' } }; handed-with-arg3 = record { given = g'3 } }; handed-with-arg4 = record { given = g'4 } } g'5) (slice-aggregate-handed-with-5 record { before = record { before = record { before = record { before = record { before = record { before = record { before = c .before; least = c .least }; shared-slice-known2 = record { given = g } }; handed-with-arg = record { given = g' } }; handed-with-arg2 = record { given = g'' } }; handed-with-arg3 = record { given = g'3 } }; handed-with-arg4 = record { given = g'4 } }; handed-with-arg5 = record { given = g'5 } }), (slice-relend-prefix-handed-with-5 record { before = record { before = record { before = record { before = record { before = record { before = record { before = c .before; least = c .least }; shared-slice-known2 = record { given = g } }; handed-with-arg = record { given = g' } }; handed-with-arg2 = record { given = g'' } }; handed-with-arg3 = record { given = g'3 } }; handed-with-arg4 = record { given = g'4 } }; handed-with-arg5 = record { given = g'5 } }, λ g'6. (Relend.count-is T33 28 29 (λ x. x) (λ u. u .1 .1 .1 .1 .1 .1 .1 .1 .1 .1 .1 .1 .1 .1 .0) (m27 record { before = record { before = record { before = record { before = record { before = record { before = record { before = c .before; least = c .least }; shared-slice-known2 = record { given = g } }; handed-with-arg = record { given = g' } }; handed-with-arg2 = record { given = g'' } }; handed-with-arg3 = record { given = g'3 } }; handed-with-arg4 = record { given = g'4 } }; handed-with-arg5 = record { given = g'5 } } g'6) (slice-aggregate-handed-with-6 record { before = record { before = record { before = record { before = record { before = record { before = record { before = record { before = c .before; least = c .least }; shared-slice-known2 = record { given = g } }; handed-with-arg = record { given = g' } }; handed-with-arg2 = record { given = g'' } }; handed-with-arg3 = record { given = g'3 } }; handed-with-arg4 = record { given = g'4 } }; handed-with-arg5 = record { given = g'5 } }; handed-with-arg6 = record { given = g'6 } }), (handed-with-requires record { before = record { before = record { before = record { before = record { before = record { before = record { before = record { before = c .before; least = c .least }; shared-slice-known2 = record { given = g } }; handed-with-arg = record { given = g' } }; handed-with-arg2 = record { given = g'' } }; handed-with-arg3 = record { given = g'3 } }; handed-with-arg4 = record { given = g'4 } }; handed-with-arg5 = record { given = g'5 } }; handed-with-arg6 = record { given = g'6 } }, λ g'7. lay2 record { before = record { before = record { before = record { before = record { before = record { before = record { before = record { before = record { before = c .before; least = c .least }; shared-slice-known2 = record { given = g } }; handed-with-arg = record { given = g' } }; handed-with-arg2 = record { given = g'' } }; handed-with-arg3 = record { given = g'3 } }; handed-with-arg4 = record { given = g'4 } }; handed-with-arg5 = record { given = g'5 } }; handed-with-arg6 = record { given = g'6 } }; handed-with = Called.called ps·1 r·1 (claims· .3) T34 (record { pos = 9; st = List.[]; d = 0; at = λ x. x }, (Num.vFld 2 steps0 0 λ x. Line.struct .as-values x .0, (Num.vAt 17 λ x. x, (record { pos = 19; ty = Syntax.tyRef Syntax.erased Syntax.imm ty0; ref = λ x. x }, (record { pos = 21; ty = Syntax.tyRef Syntax.erased Syntax.mut ty0; ref = λ x. x }, (record { pos = 23; ty = Syntax.tyRef Syntax.erased Syntax.mut ty0; ref = λ x. x }, (record { pos = 25; ty = Syntax.tyRef Syntax.erased Syntax.mut ty0; ref = λ x. x }, (record { pos = 27; ty = Syntax.tyRef Syntax.erased Syntax.mut Cell.behind; ref = λ x. x }, (record { pos = 29; ty = Syntax.tyRef Syntax.erased Syntax.mut Cell.behind; ref = λ x. x }, tt))))))))) (m28 record { before = record { before = record { before = record { before = record { before = record { before = record { before = c .before; least = c .least }; shared-slice-known2 = record { given = g } }; handed-with-arg = record { given = g' } }; handed-with-arg2 = record { given = g'' } }; handed-with-arg3 = record { given = g'3 } }; handed-with-arg4 = record { given = g'4 } }; handed-with-arg5 = record { given = g'5 } } g'6) g'7 }))))))))))))))
 
         pub laid : (c : Start) → at62 (c .blocks) (W0 (c .κs) (c .args) (c .blocks)) (m0 (c .κs) (c .args) (c .blocks))
-        laid = λ c. λ g. λ g'. λ g''. λ g'3. (tt, λ g'4. (least-requires record { before = record { before = record { before = record { before = record { before = c; shared-slice-known = record { given = g } }; slice-known = record { given = g' } }; slice-known2 = record { given = g'' } }; slice-known3 = record { given = g'3 } }; state = record { given = g'4 } }, λ g'5. lay1 record { before = record { before = record { before = record { before = record { before = record { before = c; shared-slice-known = record { given = g } }; slice-known = record { given = g' } }; slice-known2 = record { given = g'' } }; slice-known3 = record { given = g'3 } }; state = record { given = g'4 } }; least = Called.called ps·0 r·0 (claims· .1) T12 (Num.vFld 2 (List._∷_ (Syntax.field 1) List.[]) 8 λ x. Line.struct .as-values x .1 .0, (Num.vBig 32772, tt)) (m11 record { before = record { before = record { before = record { before = c; shared-slice-known = record { given = g } }; slice-known = record { given = g' } }; slice-known2 = record { given = g'' } }; slice-known3 = record { given = g'3 } } g'4) g'5 }))
+        laid = λ c. λ g. λ g'. λ g''. λ g'3. (tt, λ g'4. (least-requires record { before = record { before = record { before = record { before = record { before = c; shared-slice-known = record { given = g } }; slice-known = record { given = g' } }; slice-known2 = record { given = g'' } }; slice-known3 = record { given = g'3 } }; state = record { given = g'4 } }, λ g'5. lay1 record { before = record { before = record { before = record { before = record { before = record { before = c; shared-slice-known = record { given = g } }; slice-known = record { given = g' } }; slice-known2 = record { given = g'' } }; slice-known3 = record { given = g'3 } }; state = record { given = g'4 } }; least = Called.called ps·0 r·0 (claims· .1) T12 (Num.vFld 2 steps1 8 λ x. Line.struct .as-values x .1 .0, (Num.vBig 32772, tt)) (m11 record { before = record { before = record { before = record { before = c; shared-slice-known = record { given = g } }; slice-known = record { given = g' } }; slice-known2 = record { given = g'' } }; slice-known3 = record { given = g'3 } } g'4) g'5 }))
 
         module _ (κs : Lifetimes.Lfts 6) (qs : Lifetimes.Shares 6) where
           pub asked : (a : Kinds.Dens κs ps) → (good : Kinds.GoodsP κs ps a) → (pre : Pre· κs a) → (bs : List.List Nat.ℕ) → Φ bs (Any.wantQ 6 ps r xs m κs qs a (Post· κs a)) (Function.init 6 ps r xs m κs qs a)
