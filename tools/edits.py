@@ -5,7 +5,7 @@
 #   tools/edits.py --check   says whether the page is the one that the heads make: exit status 1 where it is not
 #
 # The head of an edit is its lines that begin with #. The first ones say what is wrong with it; then, each where there is something to say:
-#   # fails: where its check fails first
+#   # fails: what refuses it: the function or law at which its check fails first, or the computed rows that refuse it, with the laws left out too
 #   # law: the law that says the same, where a computed row refuses the edit
 #   # twin: a harmless rewriting at the same place, which passes, or what was tried
 import pathlib
@@ -17,7 +17,7 @@ PAGE = ROOT / "docs" / "EDITS.md"
 
 HEAD = """# Wrong on purpose
 
-Each row is one wrong program or wrong definition. The gate makes the edit in a copy of its crate, checks the crate, and fails where the check passes. What is wrong, where the check fails first, the law that says the same where a computed row refuses the edit, and a twin: a harmless rewriting of the same
+Each row is one wrong program or wrong definition. The gate makes the edit in a copy of its crate, checks the crate, and fails where the check passes. What is wrong; what refuses it, the function or law at which the check fails first, or the computed rows, which refuse it with the laws left out too, and the law that says the same; and a twin: a harmless rewriting of the same
 line that passes, so that the edit is refused for the fact and not for the text. `docs/CLAIMS.md` says how they were chosen. This page is made from the heads of the edits by `tools/edits.py`.
 """
 
@@ -47,7 +47,7 @@ def page():
         if not edits:
             continue
         all_edits += len(edits)
-        out.append(f"\n## {folder.parent.name}\n\n| edit | of | what is wrong | fails first | twin |\n|---|---|---|---|---|\n")
+        out.append(f"\n## {folder.parent.name}\n\n| edit | of | what is wrong | refused by | twin |\n|---|---|---|---|---|\n")
         for edit in edits:
             said = fields(edit)
             first = said.get("fails", "") + (f"; law: {said['law']}" if "law" in said else "")
