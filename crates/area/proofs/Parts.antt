@@ -1,8 +1,8 @@
 -- Parts of a list, as `part` has them.
 --
---   part-cons  == a part that begins at i: the number at i, then the part from i + 1 on
+--   part_cons  == a part that begins at i: the number at i, then the part from i + 1 on
 --   part_none  == a part that ends where it begins has no numbers
---   part-inner == a part of a part is a part
+--   part_inner == a part of a part is a part
 use mathlib.Core.List.{List, [], ◌∷◌}
 use mathlib.Core.Path.{◌≡◌, sym, ap, ◌∙◌}
 use Prim.Native.Nat.{ℕ, suc, ◌+◌, ◌-◌, ◌≤◌, ◌<◌}
@@ -13,8 +13,8 @@ use lib.Seq.{drop-cons, ext_get_or}
 use Rattle.slices.specs.Part.{part}
 use Rattle.slices.proofs.Part.{part_length, part_at}
 
-pub part-cons : (i e : ℕ) (l : List ℕ) → i < e → e ≤ length l → part i e l ≡ get_or l i 0 ∷ part (i + 1) e l
-part-cons i e l more inside =
+pub part_cons : (i e : ℕ) (l : List ℕ) → i < e → e ≤ length l → part i e l ≡ get_or l i 0 ∷ part (i + 1) e l
+part_cons i e l more inside =
     let one : e - i ≡ suc (e - (i + 1)) = omega arith in
     let here : i < length l = omega arith in
     rw (one, drop-cons l i 0 here, add-one i)
@@ -22,8 +22,8 @@ part-cons i e l more inside =
 pub part_none : (i e : ℕ) (l : List ℕ) → e ≤ i → part i e l ≡ []
 part_none i e l none = let zero : e - i ≡ 0 = omega arith in rw zero
 
-pub part-inner : (a b f e : ℕ) (l : List ℕ) → a + e ≤ b → b ≤ length l → part f e (part a b l) ≡ part (a + f) (a + e) l
-part-inner a b f e l inner inside =
+pub part_inner : (a b f e : ℕ) (l : List ℕ) → a + e ≤ b → b ≤ length l → part f e (part a b l) ≡ part (a + f) (a + e) l
+part_inner a b f e l inner inside =
     let outer = part_length a b l inside in
     let left : length (part f e (part a b l)) ≡ e - f = part_length f e (part a b l) (omega arith) in
     let right : length (part (a + f) (a + e) l) ≡ a + e - (a + f) = part_length (a + f) (a + e) l (omega arith) in

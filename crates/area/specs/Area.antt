@@ -7,14 +7,14 @@
 --   prev D w x        == the dart before x
 --   there D w x       == x survives
 --   stamp D w i       == the history number at place i
---   tableIn D w       == the table that the map's part holds
---   pastIn D n w      == the past of n operations, the last one first
---   forestIn D w      == the forest's part
+--   table_in D w       == the table that the map's part holds
+--   past_in D n w      == the past of n operations, the last one first
+--   forest_in D w      == the forest's part
 --   around k w x      == the dart after x round its vertex (k = 1, for contractions) or round its face (k = 0, for removals)
 --   Room D w          == D is a number of darts, and the four parts fit
 --   bound D w a x     == a leads to x
 --   Tried             == a test's answer, and the work area after it
---   triedIf b w v     == the answer b, and v where it is yes, w where it is no
+--   tried_if b w v     == the answer b, and v where it is yes, w where it is no
 use Rattle.std.specs.Prelude.{Bool, true, false, List, reverse, ◌≡◌, ℕ, ◌+◌, ◌*◌, ◌%◌, ◌≤◌, ◌<◌, eqb, ltb, get_or, length, set, take}
 use Rattle.permutations.specs.Partner.{partner}
 use Rattle.darts.specs.Choose.{if◌then◌else◌}
@@ -30,14 +30,14 @@ there D w x = ltb (prev D w x) D
 unfoldable pub stamp : ℕ → List ℕ → ℕ → ℕ
 stamp D w i = get_or w (3 * D + i) 0
 
-abbrev pub tableIn : ℕ → List ℕ → List ℕ
-tableIn D w = take D w
+abbrev pub table_in : ℕ → List ℕ → List ℕ
+table_in D w = take D w
 
-abbrev pub pastIn : ℕ → ℕ → List ℕ → List ℕ
-pastIn D n w = reverse (part (3 * D) (3 * D + n) w)
+abbrev pub past_in : ℕ → ℕ → List ℕ → List ℕ
+past_in D n w = reverse (part (3 * D) (3 * D + n) w)
 
-abbrev pub forestIn : ℕ → List ℕ → List ℕ
-forestIn D w = part (2 * D) (3 * D) w
+abbrev pub forest_in : ℕ → List ℕ → List ℕ
+forest_in D w = part (2 * D) (3 * D) w
 
 unfoldable pub around : ℕ → List ℕ → ℕ → ℕ
 around k w x = if eqb k 0 then successor w (partner x) else successor w x
@@ -59,5 +59,5 @@ pub record Tried : Type 0 where
 abbrev pub tried : Bool → List ℕ → Tried
 tried b w = record { fine = b; work = w }
 
-abbrev pub triedIf : Bool → List ℕ → List ℕ → Tried
-triedIf b w v = if b then tried true v else tried false w
+abbrev pub tried_if : Bool → List ℕ → List ℕ → Tried
+tried_if b w v = if b then tried true v else tried false w

@@ -1,5 +1,5 @@
 -- What the permutation test says, as the code has it.
---   verdictOf v == the verdict of the definitions that a case is
+--   verdict_of v == the verdict of the definitions that a case is
 --   Said        == a verdict, and the work area after the test
 --   passing s   == whether it is passed, and the work area
 use Rattle.std.specs.Prelude.{List, ℕ}
@@ -8,9 +8,9 @@ use Rattle.area.specs.Area.{Tried, tried}
 use Rattle.area.specs.declared.Verdict.{Verdict}
 use Rattle.area.specs.declared.Verdict.TheVariants.{Permutes, Culprits}
 
-abbrev pub verdictOf : Verdict → Decided
-verdictOf Permutes = permutes
-verdictOf (Culprits d c) = culprits d c
+abbrev pub verdict_of : Verdict → Decided
+verdict_of Permutes = permutes
+verdict_of (Culprits d c) = culprits d c
 
 pub record Said : Type 0 where
   pub verdict : Decided

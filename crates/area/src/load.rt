@@ -2,8 +2,8 @@
 ghost use Rattle.std.specs.Prelude.{[], ◌≡◌, ◌≤◌, ◌<◌, length};
 ghost use Rattle.darts.specs.Map.{passed};
 ghost use Rattle.area.specs.Area.{Room, tried};
-ghost use Rattle.area.specs.Load.{marks, taken, goneIn, notes, besideIn, verdictAt, links, given, blank, relinks, loads, loadsBase};
-ghost use Rattle.area.specs.Verdicts.{verdictOf, said};
+ghost use Rattle.area.specs.Load.{marks, taken, gone_in, notes, beside_in, verdict_at, links, given, blank, relinks, loads, loads_base};
+ghost use Rattle.area.specs.Verdicts.{verdict_of, said};
 
 use crate::Verdict;
 use slices::{at, copy, fill};
@@ -11,7 +11,7 @@ use slices::{at, copy, fill};
 impl Verdict {
     // There are no culprits.
     fn passes(self) -> bool
-        ensures { result ≡ passed (verdictOf self) }
+        ensures { result ≡ passed (verdict_of self) }
     {
         match self {
             Verdict::Permutes => true,
@@ -48,7 +48,7 @@ fn mark(work: &mut [u32], d: usize, n: usize) -> bool
 fn gone(work: &[u32], d: usize, n: usize, x: usize) -> bool
     requires room { Room d work.now }
     requires x_lt_d { x < d }
-    ensures { result ≡ goneIn d n work.now x }
+    ensures { result ≡ gone_in d n work.now x }
 {
     if n == 0 {
         return false;
@@ -90,7 +90,7 @@ fn note(work: &mut [u32], d: usize, n: usize, x: usize) -> bool
 // Edge by edge both darts are noted, up to the lowest dart where that cannot be. That dart, or d.
 fn link(work: &mut [u32], d: usize, n: usize) -> usize
     requires { Room d work.old }
-    ensures { said (verdictAt d work.new result) work.new ≡ links d n work.old 0 d }
+    ensures { said (verdict_at d work.new result) work.new ≡ links d n work.old 0 d }
 {
     let mut x = 0;
     while x < d {
@@ -109,7 +109,7 @@ fn link(work: &mut [u32], d: usize, n: usize) -> usize
 fn beside(work: &[u32], d: usize, x: usize) -> usize
     requires room { Room d work.now }
     requires x_lt_d { x < d }
-    ensures { result ≡ besideIn d work.now x }
+    ensures { result ≡ beside_in d work.now x }
 {
     let y = at(work, x);
     if d <= y {
@@ -121,7 +121,7 @@ fn beside(work: &[u32], d: usize, x: usize) -> usize
 // The permutation test of the survivors of n operations.
 fn test(work: &mut [u32], d: usize, n: usize) -> Verdict
     requires { Room d work.old }
-    ensures { said (verdictOf result) work.new ≡ links d n work.old 0 d }
+    ensures { said (verdict_of result) work.new ≡ links d n work.old 0 d }
 {
     let x = link(work, d, n);
     if x < d {
@@ -193,7 +193,7 @@ fn lay_base(work: &mut [u32], d: usize, table: &[u32])
 pub fn load_base(work: &mut [u32], d: usize, table: &[u32]) -> Verdict
     requires room { Room d work.old }
     requires d_in_bounds { d ≤ length table.now }
-    ensures { said (verdictOf result) work.new ≡ loadsBase d table.now work.old }
+    ensures { said (verdict_of result) work.new ≡ loads_base d table.now work.old }
 {
     lay_base(work, d, table);
     test(work, d, 0)

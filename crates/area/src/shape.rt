@@ -1,10 +1,10 @@
 // The shape of a state: its levels, their ends, and one kind of operation inside each level.
 ghost use Rattle.std.specs.Prelude.{◌≡◌, ◌≤◌, ◌<◌, length, take, drop};
-ghost use Rattle.darts.specs.Moves.{contractionsIn};
-ghost use Rattle.darts.specs.Tests.{oneKind, rises, zeros, shaped};
+ghost use Rattle.darts.specs.Moves.{contractions_in};
+ghost use Rattle.darts.specs.Tests.{one_kind, rises, zeros, shaped};
 ghost use Rattle.slices.specs.Part.{part};
 ghost use Rattle.area.specs.Area.{Room};
-ghost use Rattle.area.specs.Shape.{stateWith, historyIn, hasKind};
+ghost use Rattle.area.specs.Shape.{state_with, history_in, has_kind};
 
 use crate::Figures;
 use slices::at;
@@ -12,7 +12,7 @@ use slices::at;
 // Whether one of the history numbers at the places from `from` to `to` is of kind k.
 fn has_kind(work: &[u32], from: usize, to: usize, k: usize) -> bool
     requires { to ≤ length work.now }
-    ensures { result ≡ hasKind k (part from to work.now) }
+    ensures { result ≡ has_kind k (part from to work.now) }
 {
     let mut i = from;
     while i < to {
@@ -27,7 +27,7 @@ fn has_kind(work: &[u32], from: usize, to: usize, k: usize) -> bool
 // How many of the history numbers at the places from `from` to `to` are contractions'.
 pub fn contractions(numbers: &[u32], from: usize, to: usize) -> usize
     requires { (from ≤ to) × (to ≤ length numbers.now) }
-    ensures { result ≡ contractionsIn (part from to numbers.now) }
+    ensures { result ≡ contractions_in (part from to numbers.now) }
 {
     let mut n = 0;
     let mut i = from;
@@ -41,7 +41,7 @@ pub fn contractions(numbers: &[u32], from: usize, to: usize) -> usize
 // Whether they are of one kind, the first one's: none is of the other.
 fn one_kind(work: &[u32], from: usize, to: usize) -> bool
     requires { (from < to) × (to ≤ length work.now) }
-    ensures { result ≡ oneKind (part from to work.now) }
+    ensures { result ≡ one_kind (part from to work.now) }
 {
     let other = 1 - at(work, from) % 2;
     !has_kind(work, from + 1, to, other)
@@ -66,7 +66,7 @@ fn unused(levels: usize, ends: [u32; 64]) -> bool
 fn rise(work: &[u32], d: usize, operations: usize, levels: usize, ends: [u32; 64]) -> bool
     requires room { Room d work.now }
     requires operations_le_d { (operations ≤ d) × (levels ≤ 64) }
-    ensures { result ≡ rises 0 (take levels ends) (historyIn d operations work.now) }
+    ensures { result ≡ rises 0 (take levels ends) (history_in d operations work.now) }
 {
     let past = 3 * d;
     let mut from = 0;
@@ -93,7 +93,7 @@ fn rise(work: &[u32], d: usize, operations: usize, levels: usize, ends: [u32; 64
 pub fn shape(work: &[u32], state: Figures) -> bool
     requires room { Room state.darts work.now }
     requires operations_le_darts { state.operations ≤ state.darts }
-    ensures { result ≡ shaped (stateWith state) (historyIn state.darts state.operations work.now) }
+    ensures { result ≡ shaped (state_with state) (history_in state.darts state.operations work.now) }
 {
     if 64 < state.levels {
         return false;

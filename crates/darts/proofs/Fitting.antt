@@ -1,9 +1,9 @@
 -- Answers 1 and 2.
---   Count D                 == D is a number of darts, by its numbers; count-facts and count-test tie it to the test
---   Lengths D t h w         == these lengths are enough; room-facts and room-test tie it to the test
---   no-count, short, fine   == what `fitting` is then
+--   Count D                 == D is a number of darts, by its numbers; count_facts and count_test tie it to the test
+--   Lengths D t h w         == these lengths are enough; room_facts and room_test tie it to the test
+--   no_count_lem, short, fine   == what `fitting` is then
 --   fits                    == where it is done, D is a number of darts and the lengths are enough
---   first-keeps             == where it is not, nothing is written
+--   first_keeps             == where it is not, nothing is written
 use mathlib.Core.Bool.{◌&&◌}
 use mathlib.Core.List.{List}
 use mathlib.Core.Logic.{◌≢◌}
@@ -11,10 +11,10 @@ use mathlib.Core.Path.{◌≡◌}
 use Prim.Native.Nat.{ℕ, ◌*◌, ◌/◌, ◌%◌, ◌≤◌}
 use native.Mathlib.Omega.{arith}
 use lib.Dec.{T, eqb, leb, leb→le, eqb→eq, le→leb}
-use Rattle.permutations.specs.Choice.{T→true, nT→false, T?, and_intro, and_left, and_right, eqb-iff}
-use Rattle.darts.specs.Answers.{done, noDartCount, tooShort}
-use Rattle.darts.specs.Pyramid.{dartCount}
-use Rattle.darts.specs.Calls.{room, fitting, workAfter}
+use Rattle.permutations.specs.Choice.{T→true, not_T→false, T?, and_intro, and_left, and_right, eqb_iff}
+use Rattle.darts.specs.Answers.{done, no_dart_count, too_short}
+use Rattle.darts.specs.Pyramid.{dart_count}
+use Rattle.darts.specs.Calls.{room, fitting, work_after}
 
 pub record Count (D : ℕ) : Type 0 where
   pub even : D % 2 ≡ 0
@@ -26,9 +26,9 @@ pub record Lengths (D t h w : ℕ) : Type 0 where
   pub history : D / 2 ≤ h
   pub work : 4 * D ≤ w
 
-pub count-facts : (D : ℕ) → T (dartCount D) → Count D
-unfolding dartCount
-count-facts D c =
+pub count_facts : (D : ℕ) → T (dart_count D) → Count D
+unfolding dart_count
+count_facts D c =
     let r = and_right (eqb (D % 2) 0) (leb 2 D && leb D 65536) c in
     record {
       even = eqb→eq (D % 2) 0 (and_left (eqb (D % 2) 0) (leb 2 D && leb D 65536) c);
@@ -36,15 +36,15 @@ count-facts D c =
       small = leb→le D 65536 (and_right (leb 2 D) (leb D 65536) r);
     }
 
-pub count-test : (D : ℕ) → Count D → T (dartCount D)
-unfolding dartCount
-count-test D c =
-    and_intro (eqb (D % 2) 0) (leb 2 D && leb D 65536) ((eqb-iff (D % 2) 0).1 c.even)
+pub count_test : (D : ℕ) → Count D → T (dart_count D)
+unfolding dart_count
+count_test D c =
+    and_intro (eqb (D % 2) 0) (leb 2 D && leb D 65536) ((eqb_iff (D % 2) 0).1 c.even)
     (and_intro (leb 2 D) (leb D 65536) (le→leb 2 D c.some) (le→leb D 65536 c.small))
 
-pub room-facts : (t h w D : ℕ) → T (room t h w D) → Lengths D t h w
+pub room_facts : (t h w D : ℕ) → T (room t h w D) → Lengths D t h w
 unfolding room
-room-facts t h w D c =
+room_facts t h w D c =
     let r = and_right (leb D t) (leb (D / 2) h && leb (4 * D) w) c in
     record {
       table = leb→le D t (and_left (leb D t) (leb (D / 2) h && leb (4 * D) w) c);
@@ -52,24 +52,24 @@ room-facts t h w D c =
       work = leb→le (4 * D) w (and_right (leb (D / 2) h) (leb (4 * D) w) r);
     }
 
-pub room-test : (t h w D : ℕ) → Lengths D t h w → T (room t h w D)
+pub room_test : (t h w D : ℕ) → Lengths D t h w → T (room t h w D)
 unfolding room
-room-test t h w D c =
+room_test t h w D c =
     and_intro (leb D t) (leb (D / 2) h && leb (4 * D) w) (le→leb D t c.table)
     (and_intro (leb (D / 2) h) (leb (4 * D) w) (le→leb (D / 2) h c.history) (le→leb (4 * D) w c.work))
 
 module _ (D t h w : ℕ) where
-  pub no-count : ¬ (Count D) → noDartCount ≡ fitting D t h w
+  pub no_count_lem : ¬ (Count D) → no_dart_count ≡ fitting D t h w
   unfolding fitting
-  no-count n = rw (nT→false (dartCount D) (λ c. n (count-facts D c)))
+  no_count_lem n = rw (not_T→false (dart_count D) (λ c. n (count_facts D c)))
 
-  pub short : Count D → ¬ (Lengths D t h w) → tooShort ≡ fitting D t h w
+  pub short : Count D → ¬ (Lengths D t h w) → too_short ≡ fitting D t h w
   unfolding fitting
-  short c n = rw (T→true (dartCount D) (count-test D c), nT→false (room t h w D) (λ r. n (room-facts t h w D r)))
+  short c n = rw (T→true (dart_count D) (count_test D c), not_T→false (room t h w D) (λ r. n (room_facts t h w D r)))
 
   pub fine : Count D → Lengths D t h w → done ≡ fitting D t h w
   unfolding fitting
-  fine c l = rw (T→true (dartCount D) (count-test D c), T→true (room t h w D) (room-test t h w D l))
+  fine c l = rw (T→true (dart_count D) (count_test D c), T→true (room t h w D) (room_test t h w D l))
 
   -- WHERE NEITHER 1 NOR 2 IS GIVEN
   pub record Fits : Type 0 where
@@ -78,18 +78,18 @@ module _ (D t h w : ℕ) where
 
   pub fits : (fitting D t h w).number ≡ 0 → Fits
   unfolding fitting
-  fits e = go (T? (dartCount D)) (T? (room t h w D))
+  fits e = go (T? (dart_count D)) (T? (room t h w D))
     where
-      go : Dec (T (dartCount D)) → Dec (T (room t h w D)) → Fits
-      go (yes c) (yes r) = record { count = count-facts D c; lengths = room-facts t h w D r }
-      go (yes c) (no n) = absurd (let z : 2 ≡ 0 = rw (T→true (dartCount D) c, nT→false (room t h w D) n) at e in omega arith)
-      go (no n) d = absurd (let z : 1 ≡ 0 = rw (nT→false (dartCount D) n) at e in omega arith)
+      go : Dec (T (dart_count D)) → Dec (T (room t h w D)) → Fits
+      go (yes c) (yes r) = record { count = count_facts D c; lengths = room_facts t h w D r }
+      go (yes c) (no n) = absurd (let z : 2 ≡ 0 = rw (T→true (dart_count D) c, not_T→false (room t h w D) n) at e in omega arith)
+      go (no n) d = absurd (let z : 1 ≡ 0 = rw (not_T→false (dart_count D) n) at e in omega arith)
 
-  pub first-keeps : (fitting D t h w).number ≢ 0 → (E : ℕ) (v : List ℕ) → workAfter (fitting D t h w) E v ≡ v
-  unfolding fitting workAfter
-  first-keeps n E v = go (T? (dartCount D)) (T? (room t h w D))
+  pub first_keeps : (fitting D t h w).number ≢ 0 → (E : ℕ) (v : List ℕ) → work_after (fitting D t h w) E v ≡ v
+  unfolding fitting work_after
+  first_keeps n E v = go (T? (dart_count D)) (T? (room t h w D))
     where
-      go : Dec (T (dartCount D)) → Dec (T (room t h w D)) → workAfter (fitting D t h w) E v ≡ v
-      go (yes c) (yes r) = absurd (n (rw (T→true (dartCount D) c, T→true (room t h w D) r)))
-      go (yes c) (no k) = rw (T→true (dartCount D) c, nT→false (room t h w D) k)
-      go (no k) d = rw (nT→false (dartCount D) k)
+      go : Dec (T (dart_count D)) → Dec (T (room t h w D)) → work_after (fitting D t h w) E v ≡ v
+      go (yes c) (yes r) = absurd (n (rw (T→true (dart_count D) c, T→true (room t h w D) r)))
+      go (yes c) (no k) = rw (T→true (dart_count D) c, not_T→false (room t h w D) k)
+      go (no k) d = rw (not_T→false (dart_count D) k)

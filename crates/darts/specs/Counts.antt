@@ -3,18 +3,18 @@
 --   cycles f D past n     == how many of the first n darts survive and are the lowest of their cycle
 --   surviving past n      == how many of the first n darts survive
 --   Counts                == surviving darts, vertices, faces, the Euler number
---   countsOf D t past     == the counts of the present level
+--   counts_of D t past     == the counts of the present level
 use Rattle.std.specs.Prelude.{Bool, true, ◌&&◌, List, ℕ, zero, suc, ◌/◌, leb, ℤ, pos, ◌+ℤ◌, ◌-ℤ◌}
 use Rattle.darts.specs.Choose.{if◌then◌else◌}
-use Rattle.darts.specs.Map.{successor, faceNext, survives}
+use Rattle.darts.specs.Map.{successor, face_next, survives}
 
 -- none of the n darts that follow y is below x
-unfoldable pub neverBelow : (ℕ → ℕ) → ℕ → ℕ → ℕ → Bool
-neverBelow f zero x y = true
-neverBelow f (suc n) x y = leb x (f y) && neverBelow f n x (f y)
+unfoldable pub never_below : (ℕ → ℕ) → ℕ → ℕ → ℕ → Bool
+never_below f zero x y = true
+never_below f (suc n) x y = leb x (f y) && never_below f n x (f y)
 
 unfoldable pub lowest : (ℕ → ℕ) → ℕ → ℕ → Bool
-lowest f D x = neverBelow f D x x
+lowest f D x = never_below f D x x
 
 -- each cycle counted at its lowest dart
 unfoldable pub cycles : (ℕ → ℕ) → ℕ → List ℕ → ℕ → ℕ
@@ -32,12 +32,12 @@ pub record Counts : Type 0 where
   pub faces : ℕ
   pub euler : ℤ
 
-abbrev pub countsFrom : ℕ → ℕ → ℕ → Counts
-countsFrom d v f = record { darts = d; vertices = v; faces = f; euler = pos v -ℤ pos (d / 2) +ℤ pos f }
+abbrev pub counts_from : ℕ → ℕ → ℕ → Counts
+counts_from d v f = record { darts = d; vertices = v; faces = f; euler = pos v -ℤ pos (d / 2) +ℤ pos f }
 
-unfoldable pub countsOf : ℕ → List ℕ → List ℕ → Counts
-countsOf D t past = countsFrom (surviving past D) (cycles (successor t) D past D) (cycles (faceNext t) D past D)
+unfoldable pub counts_of : ℕ → List ℕ → List ℕ → Counts
+counts_of D t past = counts_from (surviving past D) (cycles (successor t) D past D) (cycles (face_next t) D past D)
 
 -- "Refused counts are four zeros."
-abbrev pub noCounts : Counts
-noCounts = record { darts = 0; vertices = 0; faces = 0; euler = pos 0 }
+abbrev pub no_counts : Counts
+no_counts = record { darts = 0; vertices = 0; faces = 0; euler = pos 0 }

@@ -6,19 +6,19 @@
 --   rising e n                   == the n edges from e on, by rising number
 --   Run                          == how a pass went: it stands at a table and a past, or it stops with an answer
 --   Test                         == whether an edge is taken, by the table and the past as they stand; `always` takes every edge
---   passFrom takes D t past i os == the pass over the operations os, once i were taken
+--   pass_from takes D t past i os == the pass over the operations os, once i were taken
 --   pass takes D t past os       == a whole pass
 --   run k D t past es            == a kernel's run
 use Rattle.std.specs.Prelude.{Bool, true, not, List, [], ◌∷◌, map, ℕ, zero, suc, ◌+◌, ◌*◌, ◌/◌, eqb, leb}
 use Rattle.darts.specs.Choose.{if◌then◌else◌}
 use Rattle.darts.specs.Answers.{Answer, answered}
-use Rattle.darts.specs.Map.{sameVertex, sameFace, gone}
-use Rattle.darts.specs.Operation.{Kind, contraction, removal, lead, wholeEdge, operate, number}
+use Rattle.darts.specs.Map.{same_vertex, same_face, gone}
+use Rattle.darts.specs.Operation.{Kind, contraction, removal, lead, whole_edge, operate, number}
 
 -- "Contract is refused where p and q share a vertex. Remove is refused where p and q share a face."
 unfoldable pub shared : Kind → ℕ → List ℕ → ℕ → ℕ
-shared contraction D t e = if sameVertex D t (2 * e) (2 * e + 1) then 9 else 0
-shared removal D t e = if sameFace D t (2 * e) (2 * e + 1) then 10 else 0
+shared contraction D t e = if same_vertex D t (2 * e) (2 * e + 1) then 9 else 0
+shared removal D t e = if same_face D t (2 * e) (2 * e + 1) then 10 else 0
 
 -- "the kernel's first failing edge, for which 7, 8, 9 or 10, 11"
 unfoldable pub judge : Kind → ℕ → List ℕ → List ℕ → ℕ → ℕ
@@ -26,7 +26,7 @@ judge k D t past e =
     if leb (D / 2) e then 7
     else if gone past (2 * e) then 8
     else if leb 1 (shared k D t e) then shared k D t e
-    else if wholeEdge t e then 11
+    else if whole_edge t e then 11
     else 0
 
 pub record Operation : Type 0 where
@@ -53,19 +53,19 @@ always t past e = true
 
 -- "done in the listed order, each judged on the map as it stands at its turn". The first that is refused gives its answer, with its "place in the
 -- kernel, from 0": its place among those that were taken.
-unfoldable pub passFrom : Test → ℕ → List ℕ → List ℕ → ℕ → List Operation → Run
-passFrom takes D t past i [] = stands t past
-passFrom takes D t past i (o ∷ os) =
+unfoldable pub pass_from : Test → ℕ → List ℕ → List ℕ → ℕ → List Operation → Run
+pass_from takes D t past i [] = stands t past
+pass_from takes D t past i (o ∷ os) =
     let k : Kind = o.kind in
     let e : ℕ = o.edge in
-    let over : Run = passFrom takes D t past i os in
-    let on : Run = passFrom takes D (operate k D t past e) (number k (lead k t e) ∷ past) (suc i) os in
+    let over : Run = pass_from takes D t past i os in
+    let on : Run = pass_from takes D (operate k D t past e) (number k (lead k t e) ∷ past) (suc i) os in
     if not (takes t past e) then over
     else if eqb (judge k D t past e) 0 then on
     else stops (answered (judge k D t past e) i)
 
 unfoldable pub pass : Test → ℕ → List ℕ → List ℕ → List Operation → Run
-pass takes D t past os = passFrom takes D t past 0 os
+pass takes D t past os = pass_from takes D t past 0 os
 
 -- a kernel takes every edge that it lists
 unfoldable pub run : Kind → ℕ → List ℕ → List ℕ → List ℕ → Run

@@ -2,12 +2,12 @@
 --   Kind                 == contraction or removal
 --   turned k t e         == the operation turns round
 --   lead k t e           == the dart that plays p
---   wholeEdge t e        == the edge is a whole piece
+--   whole_edge t e        == the edge is a whole piece
 --   remove D t past p    == the table once the edge of p is removed
 --   contract D t past p  == the table once the edge of p is contracted
 --   operate k D t past e == the table once the operation of kind k on edge e is done
---   number k p           == the operation's history number; kind_of, leadOf and edge_of read it
---   undoOne D t h past   == the table before the operation h, the last one; the past is without it
+--   number k p           == the operation's history number; kind_of, lead_of and edge_of read it
+--   undo_one D t h past   == the table before the operation h, the last one; the past is without it
 --   undone D n t past    == the table before the last n operations
 use Rattle.std.specs.Prelude.{Bool, ◌||◌, ◌&&◌, List, [], ◌∷◌, ℕ, zero, suc, ◌+◌, ◌*◌, ◌/◌, ◌%◌, eqb, set}
 use Rattle.permutations.specs.Partner.{partner}
@@ -27,8 +27,8 @@ unfoldable pub lead : Kind → List ℕ → ℕ → ℕ
 lead k t e = if turned k t e then 2 * e + 1 else 2 * e
 
 -- "Either is refused where the edge is a whole piece: r = p and s = q, or r = q and s = p."
-unfoldable pub wholeEdge : List ℕ → ℕ → Bool
-wholeEdge t e =
+unfoldable pub whole_edge : List ℕ → ℕ → Bool
+whole_edge t e =
     (eqb (successor t (2 * e)) (2 * e) && eqb (successor t (2 * e + 1)) (2 * e + 1))
     || (eqb (successor t (2 * e)) (2 * e + 1) && eqb (successor t (2 * e + 1)) (2 * e))
 
@@ -63,8 +63,8 @@ number contraction p = 2 * p + 1
 unfoldable pub kind_of : ℕ → Kind
 kind_of h = if eqb (h % 2) 0 then removal else contraction
 
-unfoldable pub leadOf : ℕ → ℕ
-leadOf h = h / 2
+unfoldable pub lead_of : ℕ → ℕ
+lead_of h = h / 2
 
 unfoldable pub edge_of : ℕ → ℕ
 edge_of h = h / 4
@@ -84,10 +84,10 @@ put_back contraction D t past p =
     let s : ℕ = successor t q in
     if eqb s q then set t (before D t past r) p else set (set t (before D t past r) q) (before D t past s) p
 
-unfoldable pub undoOne : ℕ → List ℕ → ℕ → List ℕ → List ℕ
-undoOne D t h past = put_back (kind_of h) D t (h ∷ past) (leadOf h)
+unfoldable pub undo_one : ℕ → List ℕ → ℕ → List ℕ → List ℕ
+undo_one D t h past = put_back (kind_of h) D t (h ∷ past) (lead_of h)
 
 unfoldable pub undone : ℕ → ℕ → List ℕ → List ℕ → List ℕ
 undone D zero t past = t
 undone D (suc n) t [] = t
-undone D (suc n) t (h ∷ past) = undone D n (undoOne D t h past) past
+undone D (suc n) t (h ∷ past) = undone D n (undo_one D t h past) past

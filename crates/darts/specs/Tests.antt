@@ -2,7 +2,7 @@
 -- With h the last operation: p its lead, q p's partner, r and s where p and q lead.
 --   numbered D past       == tests 1 and 2: the history numbers are of darts, and no edge is taken twice
 --   links D t past x      == tests 3 to 5, of dart x: its entry is a dart; a survivor leads to a survivor, to which no lower one leads
---   survivorsTest D t past == tests 3 to 5 of all darts, with the culprits: the permutation test of the survivors
+--   survivors_test D t past == tests 3 to 5 of all darts, with the culprits: the permutation test of the survivors
 --   linked D t past       == it is passed
 --   near k r s, far k r s == where the darts before p and before q lead once an operation of kind k is done
 --   fits D t h past       == tests 6 to 15, of the last operation h; past are the ones before it
@@ -18,17 +18,17 @@ use Rattle.std.specs.Prelude.{Bool, true, false, ◌||◌, ◌&&◌, not, List, 
 use Rattle.permutations.specs.Partner.{partner}
 use Rattle.permutations.specs.Labels.{merge}
 use Rattle.darts.specs.Choose.{if◌then◌else◌}
-use Rattle.darts.specs.Map.{successor, gone, survives, live, beforeIn, Verdict, permutes, culprits, passed}
-use Rattle.darts.specs.Operation.{Kind, contraction, removal, kind_of, leadOf, undoOne}
+use Rattle.darts.specs.Map.{successor, gone, survives, live, before_in, Verdict, permutes, culprits, passed}
+use Rattle.darts.specs.Operation.{Kind, contraction, removal, kind_of, lead_of, undo_one}
 use Rattle.darts.specs.State.{State}
-use Rattle.darts.specs.Pyramid.{dartCount}
+use Rattle.darts.specs.Pyramid.{dart_count}
 
 -- 1: h < 2D; 2: no edge twice in the history
 unfoldable pub numbered : ℕ → List ℕ → Bool
 numbered D [] = true
 numbered D (h ∷ past) =
     ltb h (2 * D)  -- 1
-    && (not (gone past (leadOf h))  -- 2
+    && (not (gone past (lead_of h))  -- 2
     && numbered D past)
 
 -- one of the darts below d survives and leads to x
@@ -46,18 +46,18 @@ links D t past x =
 
 -- the second culprit beside x: D where its successor is no dart or is gone, else the lower survivor that leads there
 unfoldable pub blamed : ℕ → List ℕ → List ℕ → ℕ → ℕ
-blamed D t past x = if leb D (successor t x) || gone past (successor t x) then D else beforeIn x t past (successor t x)
+blamed D t past x = if leb D (successor t x) || gone past (successor t x) then D else before_in x t past (successor t x)
 
 -- of the n darts from x on, the lowest that breaks one of tests 3 to 5 decides
-unfoldable pub linksFrom : ℕ → List ℕ → List ℕ → ℕ → ℕ → Verdict
-linksFrom D t past zero x = permutes
-linksFrom D t past (suc n) x = if links D t past x then linksFrom D t past n (suc x) else culprits x (blamed D t past x)
+unfoldable pub links_from : ℕ → List ℕ → List ℕ → ℕ → ℕ → Verdict
+links_from D t past zero x = permutes
+links_from D t past (suc n) x = if links D t past x then links_from D t past n (suc x) else culprits x (blamed D t past x)
 
-unfoldable pub survivorsTest : ℕ → List ℕ → List ℕ → Verdict
-survivorsTest D t past = linksFrom D t past D 0
+unfoldable pub survivors_test : ℕ → List ℕ → List ℕ → Verdict
+survivors_test D t past = links_from D t past D 0
 
 abbrev pub linked : ℕ → List ℕ → List ℕ → Bool
-linked D t past = passed (survivorsTest D t past)
+linked D t past = passed (survivors_test D t past)
 
 -- where the dart before p leads once the operation is done; if that is q itself, the dart before p leads to the far one
 unfoldable pub near : Kind → ℕ → ℕ → ℕ
@@ -72,7 +72,7 @@ far k r s = near k s r
 unfoldable pub fits : ℕ → List ℕ → ℕ → List ℕ → Bool
 fits D t h past =
     let k : Kind = kind_of h in
-    let p : ℕ = leadOf h in
+    let p : ℕ = lead_of h in
     let q : ℕ = partner p in
     let r : ℕ = successor t p in
     let s : ℕ = successor t q in
@@ -86,25 +86,25 @@ fits D t h past =
 
 unfoldable pub backs : ℕ → List ℕ → List ℕ → Bool
 backs D t [] = true
-backs D t (h ∷ past) = fits D t h past && backs D (undoOne D t h past) past
+backs D t (h ∷ past) = fits D t h past && backs D (undo_one D t h past) past
 
 -- ---- the replay, first operation first
 
-unfoldable pub sameKind : Kind → Kind → Bool
-sameKind removal removal = true
-sameKind removal contraction = false
-sameKind contraction removal = false
-sameKind contraction contraction = true
+unfoldable pub same_kind : Kind → Kind → Bool
+same_kind removal removal = true
+same_kind removal contraction = false
+same_kind contraction removal = false
+same_kind contraction contraction = true
 
 unfoldable pub relabel : Kind → (ℕ → ℕ) → ℕ → ℕ → ℕ
-relabel k L h = if sameKind k (kind_of h) then merge L (leadOf h) (partner (leadOf h)) else L
+relabel k L h = if same_kind k (kind_of h) then merge L (lead_of h) (partner (lead_of h)) else L
 
 unfoldable pub relabelled : Kind → (ℕ → ℕ) → List ℕ → ℕ → ℕ
 relabelled k L [] = L
 relabelled k L (h ∷ hs) = relabelled k (relabel k L h) hs
 
 unfoldable pub parted : Kind → (ℕ → ℕ) → ℕ → Bool
-parted k L h = not (sameKind k (kind_of h)) || not (eqb (L (leadOf h)) (L (partner (leadOf h))))
+parted k L h = not (same_kind k (kind_of h)) || not (eqb (L (lead_of h)) (L (partner (lead_of h))))
 
 -- 16: a contraction's p and q have different labels of vertices, then they are merged; 17: a removal's, of faces
 unfoldable pub replays : Kind → (ℕ → ℕ) → List ℕ → Bool
@@ -113,14 +113,14 @@ replays k L (h ∷ hs) = parted k L h && replays k (relabel k L h) hs
 
 -- ---- the shape
 
-unfoldable pub ofKind : Kind → List ℕ → Bool
-ofKind k [] = true
-ofKind k (h ∷ hs) = sameKind k (kind_of h) && ofKind k hs
+unfoldable pub of_kind : Kind → List ℕ → Bool
+of_kind k [] = true
+of_kind k (h ∷ hs) = same_kind k (kind_of h) && of_kind k hs
 
 -- one kind inside a level: the first operation's
-unfoldable pub oneKind : List ℕ → Bool
-oneKind [] = true
-oneKind (h ∷ hs) = ofKind (kind_of h) hs
+unfoldable pub one_kind : List ℕ → Bool
+one_kind [] = true
+one_kind (h ∷ hs) = of_kind (kind_of h) hs
 
 -- the ends rise strictly; each level has its operations, of one kind; the last end is the number of operations (no level: none)
 unfoldable pub rises : ℕ → List ℕ → List ℕ → Bool
@@ -129,7 +129,7 @@ rises from [] (h ∷ hs) = false
 rises from (end ∷ ends) hs =
     ltb from end
     && (leb (end - from) (length hs)
-    && (oneKind (take (end - from) hs)
+    && (one_kind (take (end - from) hs)
     && rises end ends (drop (end - from) hs)))
 
 unfoldable pub zeros : List ℕ → Bool
@@ -151,7 +151,7 @@ unfoldable pub tested : (ℕ → ℕ) → (ℕ → ℕ) → State → List ℕ �
 tested Lv Lf s t past =
     let D : ℕ = s.darts in
     let hs : List ℕ = reverse past in
-    dartCount D && (eqb (length t) D
+    dart_count D && (eqb (length t) D
     && (shaped s hs
     && (numbered D past
     && (linked D t past

@@ -2,26 +2,26 @@
 -- one claim.
 --   Row            == a state with wrong numbers, and what every call answers
 --   right r        == the definitions give what the row says
---   numbersTable   == the rows
---   numbers-worked == all of them are right
+--   numbers_table   == the rows
+--   numbers_worked == all of them are right
 use Rattle.std.specs.Prelude.{Bool, true, ◌&&◌, List, [], ◌∷◌, ◌++◌, ◌≡◌, refl, ℕ, pos, length, replicate}
 use Rattle.permutations.specs.Partner.{partner}
-use Rattle.permutations.specs.Cycle.{meetsIn}
+use Rattle.permutations.specs.Cycle.{meets_in}
 use Rattle.darts.specs.Answers.{done}
-use Rattle.darts.specs.Map.{successor, faceNext, sameVertex, sameFace, gone, survives, beforeIn, before, repeats, culprit, testFrom, permutationTest}
-use Rattle.darts.specs.Operation.{turned, lead, wholeEdge, remove, contract, operate, number, kind_of, leadOf, edge_of, put_back, undoOne, undone}
-use Rattle.darts.specs.Kernel.{shared, judge, rising, passFrom, pass, run}
-use Rattle.darts.specs.State.{State, baseState, raised, levelled, reduce}
-use Rattle.darts.specs.Levels.{emptyLoop, takes, sweptFrom, swept, sweep, endBelow, lowered, undoLevel, undoLevels, unfoldTo}
-use Rattle.darts.specs.Pyramid.{dartCount, build, kernelOf, cut, kernelsOf, same_numbers, sameState, isExactly, isPyramid}
-use Rattle.darts.specs.Counts.{neverBelow, lowest, cycles, surviving, countsOf}
+use Rattle.darts.specs.Map.{successor, face_next, same_vertex, same_face, gone, survives, before_in, before, repeats, culprit, test_from, permutation_test}
+use Rattle.darts.specs.Operation.{turned, lead, whole_edge, remove, contract, operate, number, kind_of, lead_of, edge_of, put_back, undo_one, undone}
+use Rattle.darts.specs.Kernel.{shared, judge, rising, pass_from, pass, run}
+use Rattle.darts.specs.State.{State, base_state, raised, levelled, reduce}
+use Rattle.darts.specs.Levels.{empty_loop, takes, swept_from, swept, sweep, end_below, lowered, undo_level, undo_levels, unfold_to}
+use Rattle.darts.specs.Pyramid.{dart_count, build, kernel_of, cut, kernels_of, same_numbers, same_state, is_exactly, is_pyramid}
+use Rattle.darts.specs.Counts.{never_below, lowest, cycles, surviving, counts_of}
 use Rattle.darts.specs.Text.{digits, decimal}
-use Rattle.darts.specs.File.{taken, survivors, fileOrder, place_in, fileNumber, fileTable, kindWord, kernelLine, kernelLines, pairLines, fileOf}
-use Rattle.darts.specs.Scan.{byteAt, word, isDigit, numberOn, number_at, field}
-use Rattle.darts.specs.Read.{flagAt, opening, kernelOfKind, kernelAt, kernelsAt, pairsAt, end_at, body, fromFlag, endsFrom, total, fileState, numbersFrom, historyFrom, fileHistory, closed, opened, readFile}
-use Rattle.darts.specs.Calls.{After, Counted, Written, leaves, room, fitting, table_of, past_of, cleared, workAfter, judged, begins, start, handsBack, onState, reduceBy, sweepBy, undoBy, unfoldBy, counts, readInto, read, write}
+use Rattle.darts.specs.File.{taken, survivors, file_order, place_in, file_number, file_table, kind_word, kernel_line, kernel_lines, pair_lines, file_of}
+use Rattle.darts.specs.Scan.{byte_at, word, is_digit, number_on, number_at, field}
+use Rattle.darts.specs.Read.{flag_at, opening, kernel_of_kind, kernel_at, kernels_at, pairs_at, end_at, body, from_flag, ends_from, total, file_state, numbers_from, history_from, file_history, closed, opened, read_file}
+use Rattle.darts.specs.Calls.{After, Counted, Written, leaves, room, fitting, table_of, past_of, cleared, work_after, judged, begins, start, hands_back, on_state, reduce_by, sweep_by, undo_by, unfold_by, counts, read_into, read, write}
 use Rattle.slices.specs.Over.{over}
-use Rattle.darts.specs.Worked.{Step, started, stepped, steps, byContracting, byRemoving, bySweep, byUndo, toLevel, answers, countsAre, T, K5, K7, torus}
+use Rattle.darts.specs.Worked.{Step, started, stepped, steps, by_contracting, by_removing, by_sweep, by_undo, to_level, answers, counts_are, T, K5, K7, torus}
 
 pub data Row : Type 0 where
   -- start, some steps, then these vertices and faces stored in the state: no call takes it for a pyramid
@@ -39,52 +39,52 @@ misstored v f a = leaves a.answer (misnumbered v f a.state) a.table a.history (r
 -- ---- what a row says
 
 -- the number is answered; state, table and history are as they were given, and the work area is w
-abbrev refusedWith : ℕ → List ℕ → After → After → Bool
-refusedWith n w a b =
+abbrev refused_with : ℕ → List ℕ → After → After → Bool
+refused_with n w a b =
     answers n 0 b.answer
-    && (sameState b.state a.state
+    && (same_state b.state a.state
     && (same_numbers b.table a.table && (same_numbers b.history a.history && same_numbers b.work w)))
 
 -- "Refused counts are four zeros."
-abbrev countsRefused : ℕ → List ℕ → After → Bool
-countsRefused n w a =
+abbrev counts_refused : ℕ → List ℕ → After → Bool
+counts_refused n w a =
     let c : Counted = counts a.state a.table a.history a.work in
-    countsAre n 0 0 0 (pos 0) c && same_numbers c.work w
+    counts_are n 0 0 0 (pos 0) c && same_numbers c.work w
 
-abbrev writeRefused : ℕ → List ℕ → After → Bool
-writeRefused n w a =
+abbrev write_refused : ℕ → List ℕ → After → Bool
+write_refused n w a =
     let v : Written = write a.state a.table a.history a.work (replicate 3 9) in
     answers n 0 v.answer && (same_numbers v.work w && same_numbers v.output (replicate 3 9))
 
 -- each of the calls on a state; none looks at its kernel, its level or its output before
-abbrev allRefused : ℕ → List ℕ → After → Bool
-allRefused n w a =
-    refusedWith n w a (stepped (byContracting (3 ∷ [])) a)
-    && (refusedWith n w a (stepped (byRemoving []) a)
-    && (refusedWith n w a (stepped bySweep a)
-    && (refusedWith n w a (stepped byUndo a)
-    && (refusedWith n w a (stepped (toLevel 0) a)
-    && (refusedWith n w a (stepped (toLevel 9) a)
-    && (countsRefused n w a && writeRefused n w a))))))
+abbrev all_refused : ℕ → List ℕ → After → Bool
+all_refused n w a =
+    refused_with n w a (stepped (by_contracting (3 ∷ [])) a)
+    && (refused_with n w a (stepped (by_removing []) a)
+    && (refused_with n w a (stepped by_sweep a)
+    && (refused_with n w a (stepped by_undo a)
+    && (refused_with n w a (stepped (to_level 0) a)
+    && (refused_with n w a (stepped (to_level 9) a)
+    && (counts_refused n w a && write_refused n w a))))))
 
 abbrev right : Row → Bool
 right (wrong t ss v f) =
     let a : After = misstored v f (steps ss (started t)) in
-    allRefused 4 (replicate (length a.work) 0) a
-right (earlier s t h w n) = allRefused n (replicate w 9) (leaves done s (replicate t 9) (replicate h 9) (replicate w 9))
+    all_refused 4 (replicate (length a.work) 0) a
+right (earlier s t h w n) = all_refused n (replicate w 9) (leaves done s (replicate t 9) (replicate h 9) (replicate w 9))
 
-abbrev allRight : List Row → Bool
-allRight [] = true
-allRight (r ∷ rs) = right r && allRight rs
+abbrev all_right : List Row → Bool
+all_right [] = true
+all_right (r ∷ rs) = right r && all_right rs
 
 -- ---- the rows
 
 -- D darts at the base, with numbers that no cycles give
 abbrev base : ℕ → State
-base D = misnumbered 5 1 (baseState D [])
+base D = misnumbered 5 1 (base_state D [])
 
-abbrev pub numbersTable : List Row
-numbersTable =
+abbrev pub numbers_table : List Row
+numbers_table =
     -- "a state whose numbers differ from the cycles is no pyramid": one vertex too many, one face too many, a face for a vertex, each for the other
     wrong T [] 5 2
     ∷ wrong T [] 4 3
@@ -98,7 +98,7 @@ numbersTable =
     ∷ wrong T K7 4 2
     ∷ wrong T K7 2 2
     ∷ wrong T K7 3 1
-    ∷ wrong T (K7 ++ (byUndo ∷ [])) 2 1
+    ∷ wrong T (K7 ++ (by_undo ∷ [])) 2 1
     -- "the order is unchanged": 1, 2, and only then 4
     ∷ earlier (base 7) 8 4 32 1
     ∷ earlier (base 0) 0 0 0 1
@@ -107,6 +107,6 @@ numbersTable =
     ∷ earlier (base 8) 8 4 31 2
     ∷ []
 
-pub numbers-worked : allRight numbersTable ≡ true
-unfolding partner meetsIn successor faceNext sameVertex sameFace gone survives beforeIn before repeats culprit testFrom permutationTest turned lead wholeEdge remove contract operate number kind_of leadOf edge_of put_back undoOne undone shared judge passFrom pass run raised levelled reduce emptyLoop takes rising sweptFrom swept sweep endBelow lowered undoLevel undoLevels unfoldTo dartCount build kernelOf cut kernelsOf same_numbers sameState isExactly isPyramid neverBelow lowest cycles surviving countsOf digits decimal taken survivors fileOrder place_in fileNumber fileTable kindWord kernelLine kernelLines pairLines fileOf byteAt word isDigit numberOn number_at field flagAt opening kernelOfKind kernelAt kernelsAt pairsAt end_at body fromFlag endsFrom total fileState numbersFrom historyFrom fileHistory closed opened readFile room fitting table_of past_of over cleared workAfter judged begins start handsBack onState reduceBy sweepBy undoBy unfoldBy counts readInto read write
-numbers-worked = refl
+pub numbers_worked : all_right numbers_table ≡ true
+unfolding partner meets_in successor face_next same_vertex same_face gone survives before_in before repeats culprit test_from permutation_test turned lead whole_edge remove contract operate number kind_of lead_of edge_of put_back undo_one undone shared judge pass_from pass run raised levelled reduce empty_loop takes rising swept_from swept sweep end_below lowered undo_level undo_levels unfold_to dart_count build kernel_of cut kernels_of same_numbers same_state is_exactly is_pyramid never_below lowest cycles surviving counts_of digits decimal taken survivors file_order place_in file_number file_table kind_word kernel_line kernel_lines pair_lines file_of byte_at word is_digit number_on number_at field flag_at opening kernel_of_kind kernel_at kernels_at pairs_at end_at body from_flag ends_from total file_state numbers_from history_from file_history closed opened read_file room fitting table_of past_of over cleared work_after judged begins start hands_back on_state reduce_by sweep_by undo_by unfold_by counts read_into read write
+numbers_worked = refl

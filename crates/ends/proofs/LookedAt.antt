@@ -2,8 +2,8 @@
 -- enough.
 --   Agreeing D t h w t' h' w' == two lendings that agree so far
 --   AlikeLooked D l m         == two calls that answered and found the same, and left the same in the work area's first 4D numbers
---   successor-looks           == the call does not tell such lendings apart
---   successor-alike           == so it is with lendings of the same numbers: what stands behind them and what the work area held does not matter
+--   successor_looks           == the call does not tell such lendings apart
+--   successor_alike           == so it is with lendings of the same numbers: what stands behind them and what the work area held does not matter
 use mathlib.Core.Bool.{false}
 use mathlib.Core.List.{List}
 use mathlib.Core.Logic.{◌≢◌, ◌↔◌, inl}
@@ -13,22 +13,22 @@ use native.Mathlib.Omega.{arith}
 use lib.Dec.{T, eqb, eqb→eq}
 use lib.ListN.{length, take, get_or, length-take}
 use lib.Seq.{length-take-le, get_or-take}
-use Rattle.permutations.specs.Choice.{T?, nT→false, T-ext, eqb-other}
+use Rattle.permutations.specs.Choice.{T?, not_T→false, T-ext, eqb_other}
 use Rattle.darts.specs.Answers.{Answer}
-use Rattle.darts.specs.Calls.{room, fitting, workAfter}
-use Rattle.darts.proofs.Fitting.{Lengths, room-facts, room-test, fits}
-use Rattle.laws.proofs.calls.Cleared.{cleared-zero}
-use Rattle.ends.specs.Comes.{endsSo}
-use Rattle.ends.specs.Lookup.{Looked, judged, successorAt}
-use Rattle.ends.proofs.Accepted.{so-iff}
-use Rattle.ends.proofs.Alike.{AlikeEnds, alike-ends, alike-top, alike-gone, alike-walk, alike-comes}
+use Rattle.darts.specs.Calls.{room, fitting, work_after}
+use Rattle.darts.proofs.Fitting.{Lengths, room_facts, room_test, fits}
+use Rattle.laws.proofs.calls.Cleared.{cleared_zero}
+use Rattle.ends.specs.Comes.{ends_so}
+use Rattle.ends.specs.Lookup.{Looked, judged, successor_at}
+use Rattle.ends.proofs.Accepted.{so_iff}
+use Rattle.ends.proofs.Alike.{AlikeEnds, alike_ends, alike_top, alike_gone, alike_walk, alike_comes}
 
 -- "Numbers of a lent table past D are neither read nor written"; "level 0 meaning that the edge survives (its kind is not looked at)"
 pub record Agreeing (D : ℕ) (t h w t' h' w' : List ℕ) : Type 0 where
   pub table : take D t ≡ take D t'
-  pub ends : (e : ℕ) → e < D / 2 → T (endsSo (get_or h e 0) (get_or h' e 0))
-  pub ends-room : (D / 2 ≤ length h) ↔ (D / 2 ≤ length h')
-  pub work-room : (4 * D ≤ length w) ↔ (4 * D ≤ length w')
+  pub ends : (e : ℕ) → e < D / 2 → T (ends_so (get_or h e 0) (get_or h' e 0))
+  pub ends_room : (D / 2 ≤ length h) ↔ (D / 2 ≤ length h')
+  pub work_room : (4 * D ≤ length w) ↔ (4 * D ≤ length w')
 
 pub record AlikeLooked (D : ℕ) (l m : Looked) : Type 0 where
   pub answer : l.answer ≡ m.answer
@@ -36,11 +36,11 @@ pub record AlikeLooked (D : ℕ) (l m : Looked) : Type 0 where
   pub work : l.answer.number ≢ 1 → l.answer.number ≢ 2 → take (4 * D) l.work ≡ take (4 * D) m.work
 
 module _ {D : ℕ} {t h w t' h' w' : List ℕ} (A : Agreeing D t h w t' h' w') where
-  room-same : room (length t) (length h) (length w) D ≡ room (length t') (length h') (length w') D
-  room-same =
+  room_same : room (length t) (length h) (length w) D ≡ room (length t') (length h') (length w') D
+  room_same =
       T-ext (room (length t) (length h) (length w) D) (room (length t') (length h') (length w') D)
-      (λ r. room-test (length t') (length h') (length w') D (forth (room-facts (length t) (length h) (length w) D r)))
-      (λ r. room-test (length t) (length h) (length w) D (back (room-facts (length t') (length h') (length w') D r)))
+      (λ r. room_test (length t') (length h') (length w') D (forth (room_facts (length t) (length h) (length w) D r)))
+      (λ r. room_test (length t) (length h) (length w) D (back (room_facts (length t') (length h') (length w') D r)))
     where
       lengths : length (take D t) ≡ length (take D t')
       lengths = ap length A.table
@@ -48,77 +48,77 @@ module _ {D : ℕ} {t h w t' h' w' : List ℕ} (A : Agreeing D t h w t' h' w') w
       forth : Lengths D (length t) (length h) (length w) → Lengths D (length t') (length h') (length w')
       forth L = record {
         table = (let s = simp length-take at lengths in omega (arith, L.table));
-        history = A.ends-room.0 L.history;
-        work = A.work-room.0 L.work;
+        history = A.ends_room.0 L.history;
+        work = A.work_room.0 L.work;
       }
 
       back : Lengths D (length t') (length h') (length w') → Lengths D (length t) (length h) (length w)
       back L = record {
         table = (let s = simp length-take at lengths in omega (arith, L.table));
-        history = A.ends-room.1 L.history;
-        work = A.work-room.1 L.work;
+        history = A.ends_room.1 L.history;
+        work = A.work_room.1 L.work;
       }
 
-  fitting-same : fitting D (length t) (length h) (length w) ≡ fitting D (length t') (length h') (length w')
+  fitting_same : fitting D (length t) (length h) (length w) ≡ fitting D (length t') (length h') (length w')
   unfolding fitting
-  fitting-same = rw room-same refl
+  fitting_same = rw room_same refl
 
   -- with room for them, the ends are alike
   both_ends : D / 2 ≤ length h → AlikeEnds (take (D / 2) h) (take (D / 2) h')
   both_ends r =
       let a : length (take (D / 2) h) ≡ D / 2 = length-take-le (D / 2) h r in
-      let b : length (take (D / 2) h') ≡ D / 2 = length-take-le (D / 2) h' (A.ends-room.0 r) in
-      alike-ends (take (D / 2) h) (take (D / 2) h') (a ∙ sym b)
+      let b : length (take (D / 2) h') ≡ D / 2 = length-take-le (D / 2) h' (A.ends_room.0 r) in
+      alike_ends (take (D / 2) h) (take (D / 2) h') (a ∙ sym b)
       (λ e l. let m : e < D / 2 = omega arith in rw (get_or-take (D / 2) h e 0 m, get_or-take (D / 2) h' e 0 m) (A.ends e m))
 
-  work-alike : (a : Answer) → a.number ≢ 1 → a.number ≢ 2 → take (4 * D) (workAfter a D w) ≡ take (4 * D) (workAfter a D w')
-  unfolding workAfter
-  work-alike a one two = rw (eqb-other one, eqb-other two) (cleared-zero D w ∙ sym (cleared-zero D w'))
+  work_alike : (a : Answer) → a.number ≢ 1 → a.number ≢ 2 → take (4 * D) (work_after a D w) ≡ take (4 * D) (work_after a D w')
+  unfolding work_after
+  work_alike a one two = rw (eqb_other one, eqb_other two) (cleared_zero D w ∙ sym (cleared_zero D w'))
 
   module _ (k x : ℕ) where
     abbrev first : Answer
     first = fitting D (length t) (length h) (length w)
 
-    judged-same : Dec (T (eqb first.number 0)) → judged D k x t h w ≡ judged D k x t' h' w'
+    judged_same : Dec (T (eqb first.number 0)) → judged D k x t h w ≡ judged D k x t' h' w'
     unfolding judged
-    judged-same (yes z) =
+    judged_same (yes z) =
         let F = fits D (length t) (length h) (length w) (eqb→eq first.number 0 z) in
         let E = both_ends F.lengths.history in
         rw (
-          fitting-same,
+          fitting_same,
           A.table,
-          alike-comes D (take D t') (take (D / 2) h) (take (D / 2) h') E,
-          alike-top (take (D / 2) h) (take (D / 2) h') E,
-          alike-gone k (take (D / 2) h) (take (D / 2) h') E x,
+          alike_comes D (take D t') (take (D / 2) h) (take (D / 2) h') E,
+          alike_top (take (D / 2) h) (take (D / 2) h') E,
+          alike_gone k (take (D / 2) h) (take (D / 2) h') E x,
         ) refl
-    judged-same (no n) =
-        let m : eqb (fitting D (length t') (length h') (length w')).number 0 ≡ false = rw (← fitting-same) (nT→false (eqb first.number 0) n) in
-        rw (fitting-same, m) refl
+    judged_same (no n) =
+        let m : eqb (fitting D (length t') (length h') (length w')).number 0 ≡ false = rw (← fitting_same) (not_T→false (eqb first.number 0) n) in
+        rw (fitting_same, m) refl
 
     unfit : ¬ (T (eqb first.number 0)) → eqb (judged D k x t h w).number 0 ≡ false
     unfolding judged
-    unfit n = let m = nT→false (eqb first.number 0) n in rw (m, m) refl
+    unfit n = let m = not_T→false (eqb first.number 0) n in rw (m, m) refl
 
     -- THE CALL DOES NOT TELL THEM APART
-    pub successor-looks : AlikeLooked D (successorAt D k x t h w) (successorAt D k x t' h' w')
-    unfolding successorAt
-    successor-looks = go (T? (eqb first.number 0))
+    pub successor_looks : AlikeLooked D (successor_at D k x t h w) (successor_at D k x t' h' w')
+    unfolding successor_at
+    successor_looks = go (T? (eqb first.number 0))
       where
-        go : Dec (T (eqb first.number 0)) → AlikeLooked D (successorAt D k x t h w) (successorAt D k x t' h' w')
+        go : Dec (T (eqb first.number 0)) → AlikeLooked D (successor_at D k x t h w) (successor_at D k x t' h' w')
         go (yes z) =
             let F = fits D (length t) (length h) (length w) (eqb→eq first.number 0 z) in
             let E = both_ends F.lengths.history in
-            rw (← (judged-same (yes z)), ← A.table, ← (alike-walk D k (take D t) (take (D / 2) h) (take (D / 2) h') E x))
-            (record { answer = refl; found = refl; work = work-alike (judged D k x t h w) })
+            rw (← (judged_same (yes z)), ← A.table, ← (alike_walk D k (take D t) (take (D / 2) h) (take (D / 2) h') E x))
+            (record { answer = refl; found = refl; work = work_alike (judged D k x t h w) })
         go (no n) =
-            rw (← (judged-same (no n)), unfit n) (record { answer = refl; found = refl; work = work-alike (judged D k x t h w) })
+            rw (← (judged_same (no n)), unfit n) (record { answer = refl; found = refl; work = work_alike (judged D k x t h w) })
 
 -- ---- the same numbers
 
 -- WHAT STANDS BEHIND THEM, AND WHAT THE WORK AREA HELD, DOES NOT MATTER
-pub successor-alike : (D k x : ℕ) (t h w t' h' w' : List ℕ) → take D t ≡ take D t' → take (D / 2) h ≡ take (D / 2) h' → length w ≡ length w'
-    → AlikeLooked D (successorAt D k x t h w) (successorAt D k x t' h' w')
-successor-alike D k x t h w t' h' w' table ends work = successor-looks agreeing k x
+pub successor_alike : (D k x : ℕ) (t h w t' h' w' : List ℕ) → take D t ≡ take D t' → take (D / 2) h ≡ take (D / 2) h' → length w ≡ length w'
+    → AlikeLooked D (successor_at D k x t h w) (successor_at D k x t' h' w')
+successor_alike D k x t h w t' h' w' table ends work = successor_looks agreeing k x
   where
     lengths : length (take (D / 2) h) ≡ length (take (D / 2) h')
     lengths = ap length ends
@@ -129,7 +129,7 @@ successor-alike D k x t h w t' h' w' table ends work = successor-looks agreeing 
     agreeing : Agreeing D t h w t' h' w'
     agreeing = record {
       table = table;
-      ends = λ e l. (so-iff (get_or h e 0) (get_or h' e 0)).1 (inl (same e l));
-      ends-room = (λ l. (let s = simp length-take at lengths in omega arith), λ l. (let s = simp length-take at lengths in omega arith));
-      work-room = (λ l. omega arith, λ l. omega arith);
+      ends = λ e l. (so_iff (get_or h e 0) (get_or h' e 0)).1 (inl (same e l));
+      ends_room = (λ l. (let s = simp length-take at lengths in omega arith), λ l. (let s = simp length-take at lengths in omega arith));
+      work_room = (λ l. omega arith, λ l. omega arith);
     }

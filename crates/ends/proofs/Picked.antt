@@ -1,9 +1,9 @@
 -- The edges whose end passes a test.
 --   picked p a ends == the edges whose end passes the test p, by rising number; the first end is that of edge a
---   has-picked      == which they are
---   distinct-picked == none of them stands there twice
---   endsAs k v      == the end v is one by kind k
---   ending-picked   == the edges that end by a kind are such
+--   has_picked      == which they are
+--   distinct_picked == none of them stands there twice
+--   ends_as k v      == the end v is one by kind k
+--   ending_picked   == the edges that end by a kind are such
 use mathlib.Core.Bool.{Bool, true, false, ◌&&◌}
 use mathlib.Core.List.{List, [], ◌∷◌}
 use mathlib.Core.Logic.{◌↔◌, inl, inr, ⊎_elim}
@@ -15,9 +15,9 @@ use lib.ListN.{get_or, length}
 use Rattle.permutations.specs.Live.{has}
 use Rattle.darts.specs.Choose.{if◌then◌else◌}
 use Rattle.darts.specs.Operation.{Kind, kind_of}
-use Rattle.darts.specs.Tests.{sameKind}
-use Rattle.ends.specs.Ends.{levelOf, endingFrom, ending}
-use Rattle.ends.proofs.Members.{Distinct, has-none, has-cons}
+use Rattle.darts.specs.Tests.{same_kind}
+use Rattle.ends.specs.Ends.{level_of, ending_from, ending}
+use Rattle.ends.proofs.Members.{Distinct, has_none, has_cons}
 
 unfoldable pub picked : (ℕ → Bool) → ℕ → List ℕ → List ℕ
 picked p a [] = []
@@ -31,13 +31,13 @@ module _ (p : ℕ → Bool) where
   picks a (v ∷ ends) zero l h = go (p v) h
     where
       go : (b : Bool) → T b → T (has (if b then a ∷ picked p (suc a) ends else picked p (suc a) ends) (a + 0))
-      go true h = (has-cons a (picked p (suc a) ends) (a + 0)).1 (inl (omega arith))
+      go true h = (has_cons a (picked p (suc a) ends) (a + 0)).1 (inl (omega arith))
       go false h = absurd h
   picks a (v ∷ ends) (suc i) l h = go (p v) (subst (λ e. T (has (picked p (suc a) ends) e)) (omega arith) (picks (suc a) ends i (omega arith) h))
     where
       go : (b : Bool) → T (has (picked p (suc a) ends) (a + suc i))
           → T (has (if b then a ∷ picked p (suc a) ends else picked p (suc a) ends) (a + suc i))
-      go true k = (has-cons a (picked p (suc a) ends) (a + suc i)).1 (inr k)
+      go true k = (has_cons a (picked p (suc a) ends) (a + suc i)).1 (inr k)
       go false k = k
 
   -- what is picked is some edge a + i, of an end that passes
@@ -57,7 +57,7 @@ module _ (p : ℕ → Bool) where
 
   place : (a : ℕ) (ends : List ℕ) (e : ℕ) → T (has (picked p a ends) e) → Place a ends e
   unfolding picked
-  place a [] e h = absurd (has-none e h)
+  place a [] e h = absurd (has_none e h)
   place a (v ∷ ends) e h = go (p v) refl (place (suc a) ends e) h
     where
       go : (b : Bool) → p v ≡ b → (T (has (picked p (suc a) ends) e) → Place (suc a) ends e)
@@ -65,20 +65,20 @@ module _ (p : ℕ → Bool) where
       go false q rest h = later a v ends e (rest h)
       go true q rest h =
           ⊎_elim (λ (k : e ≡ a). record { place = 0; edge = omega arith; inside = omega arith; passes = subst T (sym q) tt })
-          (λ k. later a v ends e (rest k)) ((has-cons a (picked p (suc a) ends) e).0 h)
+          (λ k. later a v ends e (rest k)) ((has_cons a (picked p (suc a) ends) e).0 h)
 
-  pub distinct-picked : (a : ℕ) (ends : List ℕ) → Distinct (picked p a ends)
+  pub distinct_picked : (a : ℕ) (ends : List ℕ) → Distinct (picked p a ends)
   unfolding picked
-  distinct-picked a [] = tt
-  distinct-picked a (v ∷ ends) = go (p v) (distinct-picked (suc a) ends)
+  distinct_picked a [] = tt
+  distinct_picked a (v ∷ ends) = go (p v) (distinct_picked (suc a) ends)
     where
       go : (b : Bool) → Distinct (picked p (suc a) ends) → Distinct (if b then a ∷ picked p (suc a) ends else picked p (suc a) ends)
       go true d = (λ h. let k = (place (suc a) ends a h).edge in omega arith, d)
       go false d = d
 
   -- WHICH EDGES ARE PICKED
-  pub has-picked : (ends : List ℕ) (e : ℕ) → T (has (picked p 0 ends) e) ↔ ((e < length ends) × T (p (get_or ends e 0)))
-  has-picked ends e = (
+  pub has_picked : (ends : List ℕ) (e : ℕ) → T (has (picked p 0 ends) e) ↔ ((e < length ends) × T (p (get_or ends e 0)))
+  has_picked ends e = (
     λ h.
         let P = place 0 ends e h in
         let same : P.place ≡ e = let k = P.edge in omega arith in
@@ -88,14 +88,14 @@ module _ (p : ℕ → Bool) where
 
 -- ---- the edges that end by a kind
 
-abbrev pub endsAs : Kind → ℕ → Bool
-endsAs k v = leb 1 (levelOf v) && sameKind k (kind_of v)
+abbrev pub ends_as : Kind → ℕ → Bool
+ends_as k v = leb 1 (level_of v) && same_kind k (kind_of v)
 
-from-picked : (k : Kind) (a : ℕ) (ends : List ℕ) → endingFrom k a ends ≡ picked (endsAs k) a ends
-unfolding endingFrom picked
-from-picked k a [] = refl
-from-picked k a (v ∷ ends) = ap (λ l. if endsAs k v then a ∷ l else l) (from-picked k (suc a) ends)
+from_picked : (k : Kind) (a : ℕ) (ends : List ℕ) → ending_from k a ends ≡ picked (ends_as k) a ends
+unfolding ending_from picked
+from_picked k a [] = refl
+from_picked k a (v ∷ ends) = ap (λ l. if ends_as k v then a ∷ l else l) (from_picked k (suc a) ends)
 
-pub ending-picked : (k : Kind) (ends : List ℕ) → ending k ends ≡ picked (endsAs k) 0 ends
+pub ending_picked : (k : Kind) (ends : List ℕ) → ending k ends ≡ picked (ends_as k) 0 ends
 unfolding ending
-ending-picked k ends = from-picked k 0 ends
+ending_picked k ends = from_picked k 0 ends

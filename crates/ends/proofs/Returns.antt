@@ -2,7 +2,7 @@
 --   taken os y     == one of the operations os takes the edge of y
 --   cross os y     == y's partner where its edge is contracted, y itself otherwise
 --   turns m os y   == where the walk goes on from y: the successor of y, or of its partner
---   run-live, live-run == the survivors are the live darts that are not taken
+--   run_live, live_run == the survivors are the live darts that are not taken
 --   not_taken      == legal operations take no dart that is gone already
 --   returns        == a survivor leads to the first survivor on the walk
 use mathlib.Core.Bool.{Bool, true, false, ◌||◌}
@@ -13,11 +13,11 @@ use Prim.Native.Nat.{ℕ, ◌<◌}
 use lib.Dec.{T, eqb, eqb→eq}
 use Rattle.permutations.specs.Choice.{eqb_same, or_cases}
 use Rattle.permutations.specs.Partner.{partner, End}
-use Rattle.permutations.specs.Perm.{Perm, without, without-perm}
-use Rattle.permutations.specs.Splice.{skip, swap, swap-other, swap_inj, crossed, crossed-perm, splice, skip-after}
-use Rattle.permutations.specs.Map.{Map, Good, offEdge-other, offEdge-not-end, offEdge-was, partner-small}
-use Rattle.permutations.proofs.Legal.{Op, Contract, Remove, dart, act, run, AllLegal, good-act}
-use Rattle.ends.proofs.Ways.{Way, Reaches, there, leave-out}
+use Rattle.permutations.specs.Perm.{Perm, without, without_perm}
+use Rattle.permutations.specs.Splice.{skip, swap, swap_other, swap_inj, crossed, crossed_perm, splice, skip_after}
+use Rattle.permutations.specs.Map.{Map, Good, off_edge_other, off_edge_not_end, off_edge_was, partner_small}
+use Rattle.permutations.proofs.Legal.{Op, Contract, Remove, dart, act, run, AllLegal, good_act}
+use Rattle.ends.proofs.Ways.{Way, Reaches, there, leave_out}
 
 abbrev pub taken : List Op → ℕ → Bool
 taken [] y = false
@@ -42,58 +42,58 @@ record NotTaken (o : Op) (os : List Op) (y : ℕ) : Type 0 where
   second : y ≢ partner (dart o)
   rest : ¬ T (taken os y)
 
-or-none : (a b : Bool) → ¬ T (a || b) → (¬ T a) × (¬ T b)
-or-none true b n = absurd (n tt)
-or-none false b n = (λ t. t, n)
+or_none : (a b : Bool) → ¬ T (a || b) → (¬ T a) × (¬ T b)
+or_none true b n = absurd (n tt)
+or_none false b n = (λ t. t, n)
 
 apart : (o : Op) (os : List Op) (y : ℕ) → ¬ T (taken (o ∷ os) y) → NotTaken o os y
 apart o os y n =
-    let a = or-none (eqb y (dart o)) (eqb y (partner (dart o)) || taken os y) n in
-    let b = or-none (eqb y (partner (dart o))) (taken os y) a.1 in
+    let a = or_none (eqb y (dart o)) (eqb y (partner (dart o)) || taken os y) n in
+    let b = or_none (eqb y (partner (dart o))) (taken os y) a.1 in
     record {
       first = λ e. a.0 (subst T (sym (eqb_same e)) tt);
       second = λ e. b.0 (subst T (sym (eqb_same e)) tt);
       rest = b.1;
     }
 
-exchange-other : (o : Op) (y : ℕ) → y ≢ dart o → y ≢ partner (dart o) → exchange o y ≡ y
-exchange-other (Contract p) y n m = swap-other n m
-exchange-other (Remove p) y n m = refl
+exchange_other : (o : Op) (y : ℕ) → y ≢ dart o → y ≢ partner (dart o) → exchange o y ≡ y
+exchange_other (Contract p) y n m = swap_other n m
+exchange_other (Remove p) y n m = refl
 
-pub cross-not-taken : (os : List Op) (y : ℕ) → ¬ T (taken os y) → cross os y ≡ y
-cross-not-taken [] y n = refl
-cross-not-taken (o ∷ os) y n =
+pub cross_not_taken : (os : List Op) (y : ℕ) → ¬ T (taken os y) → cross os y ≡ y
+cross_not_taken [] y n = refl
+cross_not_taken (o ∷ os) y n =
     let a = apart o os y n in
-    ap (exchange o) (cross-not-taken os y a.rest) ∙ exchange-other o y a.first a.second
+    ap (exchange o) (cross_not_taken os y a.rest) ∙ exchange_other o y a.first a.second
 
-exchange-inj : (o : Op) (x y : ℕ) → exchange o x ≡ exchange o y → x ≡ y
-exchange-inj (Contract p) x y e = swap_inj p (partner p) x y e
-exchange-inj (Remove p) x y e = e
+exchange_inj : (o : Op) (x y : ℕ) → exchange o x ≡ exchange o y → x ≡ y
+exchange_inj (Contract p) x y e = swap_inj p (partner p) x y e
+exchange_inj (Remove p) x y e = e
 
-cross-inj : (os : List Op) (x y : ℕ) → cross os x ≡ cross os y → x ≡ y
-cross-inj [] x y e = e
-cross-inj (o ∷ os) x y e = cross-inj os x y (exchange-inj o (cross os x) (cross os y) e)
+cross_inj : (os : List Op) (x y : ℕ) → cross os x ≡ cross os y → x ≡ y
+cross_inj [] x y e = e
+cross_inj (o ∷ os) x y e = cross_inj os x y (exchange_inj o (cross os x) (cross os y) e)
 
 -- the survivors are live, and not taken
-pub run-live : (m : Map) (os : List Op) (y : ℕ) → T ((run m os).live y) → T (m.live y) × (¬ T (taken os y))
+pub run_live : (m : Map) (os : List Op) (y : ℕ) → T ((run m os).live y) → T (m.live y) × (¬ T (taken os y))
 unfolding run
-run-live m [] y t = (t, λ z. z)
-run-live m (o ∷ os) y t =
-    let h = run-live (act m o) os y t in
-    let n = offEdge-not-end m.live h.0 in (
-      offEdge-was m.live (dart o) y h.0,
+run_live m [] y t = (t, λ z. z)
+run_live m (o ∷ os) y t =
+    let h = run_live (act m o) os y t in
+    let n = off_edge_not_end m.live h.0 in (
+      off_edge_was m.live (dart o) y h.0,
       λ k. ⊎_elim (λ e. n (inl (eqb→eq y (dart o) e)))
           (λ r. ⊎_elim (λ e. n (inr (eqb→eq y (partner (dart o)) e))) h.1 (or_cases (eqb y (partner (dart o))) (taken os y) r))
           (or_cases (eqb y (dart o)) (eqb y (partner (dart o)) || taken os y) k),
     )
 
 -- and a live dart that is not taken survives
-pub live-run : (m : Map) (os : List Op) (y : ℕ) → T (m.live y) → ¬ T (taken os y) → T ((run m os).live y)
+pub live_run : (m : Map) (os : List Op) (y : ℕ) → T (m.live y) → ¬ T (taken os y) → T ((run m os).live y)
 unfolding run
-live-run m [] y t n = t
-live-run m (o ∷ os) y t n =
+live_run m [] y t n = t
+live_run m (o ∷ os) y t n =
     let a = apart o os y n in
-    live-run (act m o) os y (subst T (sym (offEdge-other m.live (⊎_elim a.first a.second))) t) a.rest
+    live_run (act m o) os y (subst T (sym (off_edge_other m.live (⊎_elim a.first a.second))) t) a.rest
 
 -- LEGAL OPERATIONS TAKE NO DART THAT IS GONE ALREADY
 pub not_taken : {D : ℕ} {m : Map} → Good D m → (os : List Op) → AllLegal m os → (y : ℕ) → ¬ T (m.live y) → ¬ T (taken os y)
@@ -102,7 +102,7 @@ not_taken {D} {m} G (o ∷ os) l y n k =
     ⊎_elim (λ e. n (subst (λ z. T (m.live z)) (sym (eqb→eq y (dart o) e)) l.0.lives))
     (λ r. ⊎_elim
     (λ e. n (subst (λ z. T (m.live z)) (sym (eqb→eq y (partner (dart o)) e)) (subst T (sym (G.pairs (dart o))) l.0.lives)))
-    (not_taken (good-act G o l.0) os l.1 y (λ t. n (offEdge-was m.live (dart o) y t)))
+    (not_taken (good_act G o l.0) os l.1 y (λ t. n (off_edge_was m.live (dart o) y t)))
     (or_cases (eqb y (partner (dart o))) (taken os y) r))
     (or_cases (eqb y (dart o)) (eqb y (partner (dart o)) || taken os y) k)
 
@@ -113,29 +113,29 @@ abbrev Small : ℕ → List Op → Type 0
 Small D [] = Unit {0}
 Small D (o ∷ os) = ((dart o < D) × (partner (dart o) < D)) × Small D os
 
-legal-small : {D : ℕ} {m : Map} → Good D m → (os : List Op) → AllLegal m os → Small D os
-legal-small G [] l = tt
-legal-small G (o ∷ os) l = ((G.small (dart o) l.0.lives, partner-small G (dart o) l.0.lives), legal-small (good-act G o l.0) os l.1)
+legal_small : {D : ℕ} {m : Map} → Good D m → (os : List Op) → AllLegal m os → Small D os
+legal_small G [] l = tt
+legal_small G (o ∷ os) l = ((G.small (dart o) l.0.lives, partner_small G (dart o) l.0.lives), legal_small (good_act G o l.0) os l.1)
 
-exchanged-perm : {D : ℕ} {f : ℕ → ℕ} → Perm D f → (o : Op) → dart o < D → partner (dart o) < D → Perm D (λ y. f (exchange o y))
+exchanged_perm : {D : ℕ} {f : ℕ → ℕ} → Perm D f → (o : Op) → dart o < D → partner (dart o) < D → Perm D (λ y. f (exchange o y))
 unfolding crossed
-exchanged-perm π (Contract p) h k = crossed-perm π p (partner p) h k
-exchanged-perm π (Remove p) h k = π
+exchanged_perm π (Contract p) h k = crossed_perm π p (partner p) h k
+exchanged_perm π (Remove p) h k = π
 
-crossed-all : {D : ℕ} (f : ℕ → ℕ) → Perm D f → (os : List Op) → Small D os → Perm D (λ y. f (cross os y))
-crossed-all f π [] s = π
-crossed-all f π (o ∷ os) s = crossed-all (λ y. f (exchange o y)) (exchanged-perm π o s.0.0 s.0.1) os s.1
+crossed_all : {D : ℕ} (f : ℕ → ℕ) → Perm D f → (os : List Op) → Small D os → Perm D (λ y. f (cross os y))
+crossed_all f π [] s = π
+crossed_all f π (o ∷ os) s = crossed_all (λ y. f (exchange o y)) (exchanged_perm π o s.0.0 s.0.1) os s.1
 
-pub turns-perm : {D : ℕ} {m : Map} → Good D m → (os : List Op) → AllLegal m os → Perm D (turns m os)
-turns-perm {m = m} G os l = crossed-all m.next G.perm os (legal-small G os l)
+pub turns_perm : {D : ℕ} {m : Map} → Good D m → (os : List Op) → AllLegal m os → Perm D (turns m os)
+turns_perm {m = m} G os l = crossed_all m.next G.perm os (legal_small G os l)
 
 -- ---- the first survivor on the walk
 
 -- both kinds leave the two darts out, once they are exchanged or not
-act-skips : (m : Map) (o : Op) → (act m o).next ≡ skip (λ y. m.next (exchange o y)) (dart o) (partner (dart o))
+act_skips : (m : Map) (o : Op) → (act m o).next ≡ skip (λ y. m.next (exchange o y)) (dart o) (partner (dart o))
 unfolding splice crossed
-act-skips m (Contract p) = refl
-act-skips m (Remove p) = refl
+act_skips m (Contract p) = refl
+act_skips m (Remove p) = refl
 
 module _ {D : ℕ} {m : Map} (G : Good D m) (o : Op) (os : List Op) (l : AllLegal m (o ∷ os)) where
   abbrev p : ℕ
@@ -146,24 +146,24 @@ module _ {D : ℕ} {m : Map} (G : Good D m) (o : Op) (os : List Op) (l : AllLega
 
   -- the later operations leave p and q where they are
   still : (y : ℕ) → End p y → cross os y ≡ y
-  still y e = cross-not-taken os y (not_taken (good-act G o l.0) os l.1 y (λ t. offEdge-not-end m.live t e))
+  still y e = cross_not_taken os y (not_taken (good_act G o l.0) os l.1 y (λ t. off_edge_not_end m.live t e))
 
-  turns-skips : turns (act m o) os ≡ skip (turns m (o ∷ os)) p q
-  turns-skips =
+  turns_skips : turns (act m o) os ≡ skip (turns m (o ∷ os)) p q
+  turns_skips =
       let after : (ℕ → ℕ) → ℕ → ℕ = λ f y. f (cross os y) in
-      ap after (act-skips m o) ∙ skip-after (λ y. m.next (exchange o y)) (cross os) (cross-inj os) (still p (inl refl)) (still q (inr refl))
+      ap after (act_skips m o) ∙ skip_after (λ y. m.next (exchange o y)) (cross os) (cross_inj os) (still p (inl refl)) (still q (inr refl))
 
   -- a dart whose way goes by the map after o, with o's darts left out, goes by the map before
-  back-over : (x z : ℕ) → x ≢ p → x ≢ q → Reaches (turns (act m o) os) (taken os) (turns (act m o) os x) z
+  back_over : (x z : ℕ) → x ≢ p → x ≢ q → Reaches (turns (act m o) os) (taken os) (turns (act m o) os x) z
       → Reaches (turns m (o ∷ os)) (taken (o ∷ os)) (turns m (o ∷ os) x) z
   unfolding skip
-  back-over x z xp xq r =
+  back_over x z xp xq r =
       let f = turns m (o ∷ os) in
-      let π : Perm D f = turns-perm G (o ∷ os) l in
+      let π : Perm D f = turns_perm G (o ∷ os) l in
       let w : Way (without (without f p) q) (taken os) (without (without f p) q x) z r.count =
-      subst (λ h. Way h (taken os) (h x) z r.count) turns-skips r.way in
-      let over-q = leave-out (without-perm π p) (taken os) q x z r.count xq w in
-      leave-out π (λ y. eqb y q || taken os y) p x z over-q.count xp over-q.way
+      subst (λ h. Way h (taken os) (h x) z r.count) turns_skips r.way in
+      let over_q = leave_out (without_perm π p) (taken os) q x z r.count xq w in
+      leave_out π (λ y. eqb y q || taken os y) p x z over_q.count xp over_q.way
 
 -- A SURVIVOR LEADS TO THE FIRST SURVIVOR ON THE WALK
 pub returns : {D : ℕ} {m : Map} → Good D m → (os : List Op) → AllLegal m os → (x : ℕ) → T ((run m os).live x)
@@ -171,5 +171,5 @@ pub returns : {D : ℕ} {m : Map} → Good D m → (os : List Op) → AllLegal m
 unfolding run
 returns {D} {m} G [] l x t = record { count = 0; way = there (λ h. h) }
 returns {D} {m} G (o ∷ os) l x t =
-    let h = apart o os x (run-live m (o ∷ os) x t).1 in
-    back-over G o os l x ((run (act m o) os).next x) h.first h.second (returns (good-act G o l.0) os l.1 x t)
+    let h = apart o os x (run_live m (o ∷ os) x t).1 in
+    back_over G o os l x ((run (act m o) os).next x) h.first h.second (returns (good_act G o l.0) os l.1 x t)

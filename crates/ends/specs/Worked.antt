@@ -8,20 +8,20 @@
 use Rattle.std.specs.Prelude.{Bool, true, ◌&&◌, not, List, [], ◌∷◌, map, ◌≡◌, refl, ℕ, ◌*◌, eqb, replicate}
 use Rattle.slices.specs.Over.{over}
 use Rattle.permutations.specs.Partner.{partner}
-use Rattle.permutations.specs.Cycle.{meetsIn}
+use Rattle.permutations.specs.Cycle.{meets_in}
 use Rattle.permutations.specs.Live.{any, has}
-use Rattle.darts.specs.Map.{successor, faceNext, sameVertex, sameFace, gone, survives, beforeIn, before, repeats, culprit, testFrom, permutationTest}
-use Rattle.darts.specs.Operation.{contraction, removal, turned, lead, wholeEdge, remove, contract, operate, number, kind_of}
-use Rattle.darts.specs.Kernel.{shared, judge, rising, passFrom, pass}
-use Rattle.darts.specs.Tests.{sameKind}
-use Rattle.darts.specs.OneByOne.{oneByOne}
-use Rattle.darts.specs.Pyramid.{dartCount, same_numbers}
-use Rattle.darts.specs.Calls.{room, fitting, cleared, workAfter}
+use Rattle.darts.specs.Map.{successor, face_next, same_vertex, same_face, gone, survives, before_in, before, repeats, culprit, test_from, permutation_test}
+use Rattle.darts.specs.Operation.{contraction, removal, turned, lead, whole_edge, remove, contract, operate, number, kind_of}
+use Rattle.darts.specs.Kernel.{shared, judge, rising, pass_from, pass}
+use Rattle.darts.specs.Tests.{same_kind}
+use Rattle.darts.specs.OneByOne.{one_by_one}
+use Rattle.darts.specs.Pyramid.{dart_count, same_numbers}
+use Rattle.darts.specs.Calls.{room, fitting, cleared, work_after}
 use Rattle.darts.specs.Worked.{answers}
-use Rattle.ends.specs.Ends.{levelOf, end_of, endsBy, goneBy, doneBy, top, first_at, inUse, oneKind, shaped, endingFrom, ending}
-use Rattle.ends.specs.Walk.{onwardBy, onward, walkFrom, walk}
-use Rattle.ends.specs.Comes.{end_in, endsSo, operations, accepted, comes}
-use Rattle.ends.specs.Lookup.{Looked, judged, successorAt}
+use Rattle.ends.specs.Ends.{level_of, end_of, ends_by, gone_by, done_by, top, first_at, in_use, one_kind, shaped, ending_from, ending}
+use Rattle.ends.specs.Walk.{onward_by, onward, walk_from, walk}
+use Rattle.ends.specs.Comes.{end_in, ends_so, operations, accepted, comes}
+use Rattle.ends.specs.Lookup.{Looked, judged, successor_at}
 
 pub data Row : Type 0 where
   -- the lent table and ends, how many numbers of work area, all 7; then D, the level, the dart; then the number, the place, the dart found, the
@@ -37,11 +37,11 @@ leaves t h w n p d c z l =
     && (same_numbers l.ends h && same_numbers l.work (over (replicate z 0) (replicate w 7))))))
 
 abbrev right : Row → Bool
-right (looks t h w D k x n p d c z) = leaves t h w n p d c z (successorAt D k x t h (replicate w 7))
+right (looks t h w D k x n p d c z) = leaves t h w n p d c z (successor_at D k x t h (replicate w 7))
 
-abbrev allRight : List Row → Bool
-allRight [] = true
-allRight (r ∷ rs) = right r && allRight rs
+abbrev all_right : List Row → Bool
+all_right [] = true
+all_right (r ∷ rs) = right r && all_right rs
 
 -- map T, and a number that is not looked at
 abbrev T : List ℕ
@@ -113,30 +113,30 @@ table =
     ∷ looks T K12 32 8 2 6 0 0 6 6 32
     ∷ []
 
-pub worked : allRight table ≡ true
-unfolding partner meetsIn successor faceNext sameVertex sameFace gone survives beforeIn before repeats culprit testFrom permutationTest turned lead wholeEdge remove contract operate number kind_of shared judge passFrom pass sameKind oneByOne dartCount same_numbers room fitting over cleared workAfter levelOf end_of endsBy goneBy top first_at inUse oneKind shaped endingFrom ending onwardBy onward walkFrom walk operations accepted comes judged successorAt
+pub worked : all_right table ≡ true
+unfolding partner meets_in successor face_next same_vertex same_face gone survives before_in before repeats culprit test_from permutation_test turned lead whole_edge remove contract operate number kind_of shared judge pass_from pass same_kind one_by_one dart_count same_numbers room fitting over cleared work_after level_of end_of ends_by gone_by top first_at in_use one_kind shaped ending_from ending onward_by onward walk_from walk operations accepted comes judged successor_at
 worked = refl
 
 -- n levels, each with one edge removed
-abbrev removedAt : ℕ → List ℕ
-removedAt n = map (λ L. 2 * L) (rising 1 n)
+abbrev removed_at : ℕ → List ℕ
+removed_at n = map (λ L. 2 * L) (rising 1 n)
 
 -- "There are at most 64 kernels over the base.": 64 levels in use, 65 in use; one left out; two kinds in the last
-pub levels : (shaped (removedAt 64) && (not (shaped (removedAt 65)) && (not (shaped (2 ∷ 6 ∷ [])) && not (shaped (3 ∷ 4 ∷ 5 ∷ []))))) ≡ true
-unfolding shaped top rising levelOf inUse first_at oneKind
+pub levels : (shaped (removed_at 64) && (not (shaped (removed_at 65)) && (not (shaped (2 ∷ 6 ∷ [])) && not (shaped (3 ∷ 4 ∷ 5 ∷ []))))) ≡ true
+unfolding shaped top rising level_of in_use first_at one_kind
 levels = refl
 
 -- the ends that K12's kernels give
-pub k12-ends : map (end_in 1 (record { kind = contraction; edges = 0 ∷ 1 ∷ [] } ∷ record { kind = removal; edges = 2 ∷ [] } ∷ [])) (rising 0 4) ≡ (3 ∷ 3 ∷ 4 ∷ 0 ∷ [])
+pub k12_ends : map (end_in 1 (record { kind = contraction; edges = 0 ∷ 1 ∷ [] } ∷ record { kind = removal; edges = 2 ∷ [] } ∷ [])) (rising 0 4) ≡ (3 ∷ 3 ∷ 4 ∷ 0 ∷ [])
 unfolding rising end_in has any number
-k12-ends = refl
+k12_ends = refl
 
 -- an edge that survives may have either number, one that ends has its own
-pub either : (endsSo 0 1 && (endsSo 1 0 && (endsSo 4 4 && (not (endsSo 2 3) && (not (endsSo 2 0) && not (endsSo 1 4)))))) ≡ true
-unfolding endsSo levelOf
+pub either : (ends_so 0 1 && (ends_so 1 0 && (ends_so 4 4 && (not (ends_so 2 3) && (not (ends_so 2 0) && not (ends_so 1 4)))))) ≡ true
+unfolding ends_so level_of
 either = refl
 
 -- "the operations done by level k", level by level up to one above the top
-pub done : map (λ k. doneBy k (3 ∷ 3 ∷ 4 ∷ 1 ∷ [])) (rising 0 4) ≡ (0 ∷ 2 ∷ 3 ∷ 3 ∷ [])
-unfolding rising doneBy endsBy levelOf
+pub done : map (λ k. done_by k (3 ∷ 3 ∷ 4 ∷ 1 ∷ [])) (rising 0 4) ≡ (0 ∷ 2 ∷ 3 ∷ 3 ∷ [])
+unfolding rising done_by ends_by level_of
 done = refl

@@ -1,11 +1,11 @@
 -- A history of contractions alone: no face has gone, so that the faces are counted at the present level, before anything is taken back.
---   no-removal       == where all are contractions, none is a removal
---   contracted-tried == the contractions replayed on the base are both kinds replayed
---   decided-beside   == the decision is the same, whatever forest stood in the work area
---   contracted-no    == no where an operation does not fit
+--   no_removal       == where all are contractions, none is a removal
+--   contracted_tried == the contractions replayed on the base are both kinds replayed
+--   decided_beside   == the decision is the same, whatever forest stood in the work area
+--   contracted_no    == no where an operation does not fit
 --   contracted       == the contractions replayed on the base decide
---   contracted-few   == the base has a vertex for each operation
---   contracted-are   == without these it has the present level's vertices; the faces are the present level's
+--   contracted_few   == the base has a vertex for each operation
+--   contracted_are   == without these it has the present level's vertices; the faces are the present level's
 use mathlib.Core.Bool.{Bool, true, false}
 use mathlib.Core.List.{List, [], ◌∷◌, reverse-reverse}
 use mathlib.Core.Path.{◌≡◌, refl, sym, ap, ◌∙◌}
@@ -13,52 +13,52 @@ use Prim.Native.Nat.{ℕ, ◌+◌, ◌-◌, ◌≤◌}
 use native.Mathlib.Omega.{arith}
 use lib.ListN.{length, length-reverse}
 use Rattle.permutations.specs.Choice.{true→T}
-use Rattle.darts.specs.Counts.{cycles, countsOf}
-use Rattle.darts.specs.Map.{faceNext}
-use Rattle.darts.specs.Moves.{contractionsIn}
+use Rattle.darts.specs.Counts.{cycles, counts_of}
+use Rattle.darts.specs.Map.{face_next}
+use Rattle.darts.specs.Moves.{contractions_in}
 use Rattle.darts.specs.Pyramid.{Pyramid}
 use Rattle.darts.specs.State.{State, counted}
 use Rattle.darts.specs.Tests.{shaped}
-use Rattle.laws.proofs.claims.Decided.{pyramid-decided}
-use Rattle.laws.proofs.moves.Contractions.{contractions-most, contractions-reverse}
-use Rattle.laws.proofs.moves.Kept.{vertices-kept}
+use Rattle.laws.proofs.claims.Decided.{pyramid_decided}
+use Rattle.laws.proofs.moves.Contractions.{contractions_most, contractions_reverse}
+use Rattle.laws.proofs.moves.Kept.{vertices_kept}
 use Rattle.laws.proofs.tests.TestsDecide.{base_of}
-use Rattle.area.specs.Area.{tableIn, pastIn, around, tried}
-use Rattle.area.specs.Shape.{hasKind, historyIn}
+use Rattle.area.specs.Area.{table_in, past_in, around, tried}
+use Rattle.area.specs.Shape.{has_kind, history_in}
 use Rattle.area.proofs.OfKind.{has_on}
 use Rattle.operations.specs.Back.{backs}
-use Rattle.operations.specs.Count.{rootsIn}
+use Rattle.operations.specs.Count.{roots_in}
 use Rattle.operations.specs.Cycles.{Labelled}
 use Rattle.operations.specs.Trees.{Outside}
 use Rattle.operations.proofs.Outside.{outside_trans}
 use Rattle.engine.specs.Held.{Area}
 use Rattle.engine.specs.Checks.{KindTried, BothTried, Decided}
 use Rattle.engine.specs.Counted.{CyclesAre}
-use Rattle.engine.proofs.Beside.{beside-table, beside-past, beside-rooted}
-use Rattle.engine.proofs.Counts.{roots-cycles, labelled-area, cycles-are}
-use Rattle.engine.proofs.Decides.{count, history, back-no, all-taken, base, decided}
-use Rattle.engine.proofs.Tries.{outside-back, outside-history, kind-passed, both_yes}
+use Rattle.engine.proofs.Beside.{beside_table, beside_past, beside_rooted}
+use Rattle.engine.proofs.Counts.{roots_cycles, labelled_area, cycles_are}
+use Rattle.engine.proofs.Decides.{count, history, back_no, all_taken, base, decided}
+use Rattle.engine.proofs.Tries.{outside_back, outside_history, kind_passed, both_yes}
 
 -- ---- nothing of the other kind
 
-no-removal : (hs : List ℕ) → contractionsIn hs ≡ length hs → hasKind 0 hs ≡ false
-unfolding contractionsIn hasKind
-no-removal [] all = refl
-no-removal (h ∷ hs) all = let most = contractions-most hs in has_on 0 h hs (λ e. omega arith) ∙ no-removal hs (omega arith)
+no_removal : (hs : List ℕ) → contractions_in hs ≡ length hs → has_kind 0 hs ≡ false
+unfolding contractions_in has_kind
+no_removal [] all = refl
+no_removal (h ∷ hs) all = let most = contractions_most hs in has_on 0 h hs (λ e. omega arith) ∙ no_removal hs (omega arith)
 
-contracted-tried : {D n : ℕ} {w w' : List ℕ} {r : Bool} → Area D 0 w → hasKind 0 (historyIn D n w) ≡ false → KindTried D n 1 1 w w' r
+contracted_tried : {D n : ℕ} {w w' : List ℕ} {r : Bool} → Area D 0 w → has_kind 0 (history_in D n w) ≡ false → KindTried D n 1 1 w w' r
     → BothTried D n 1 w w' r
-contracted-tried A none K = both_yes (omega arith) (λ _. refl) (kind-passed A (λ e. omega (arith, e)) none) refl K
+contracted_tried A none K = both_yes (omega arith) (λ _. refl) (kind_passed A (λ e. omega (arith, e)) none) refl K
 
 -- ---- with another forest
 
-decided-beside : {s : State} {coming : ℕ} {w u w' : List ℕ} {r : Bool} → Outside s.darts w u → Decided s coming u w' r → Decided s coming w w' r
-decided-beside {s} o δ = record {
-  answer = rw (beside-table o, beside-past o s.operations) at δ.answer;
+decided_beside : {s : State} {coming : ℕ} {w u w' : List ℕ} {r : Bool} → Outside s.darts w u → Decided s coming u w' r → Decided s coming w w' r
+decided_beside {s} o δ = record {
+  answer = rw (beside_table o, beside_past o s.operations) at δ.answer;
   size = δ.size ∙ o.size;
   rest = δ.rest ∙ o.rest;
   falls = δ.falls;
-  roots = λ e b. beside-rooted (outside-back o) _ _ (δ.roots e b);
+  roots = λ e b. beside_rooted (outside_back o) _ _ (δ.roots e b);
   kept = λ e none. outside_trans o (δ.kept e none);
 }
 
@@ -73,45 +73,45 @@ module _ (s : State) {w u : List ℕ} (A : Area s.darts s.operations w) (L : Lab
   n = s.operations
 
   abbrev t : List ℕ
-  t = tableIn D w
+  t = table_in D w
 
   abbrev past : List ℕ
-  past = pastIn D n w
+  past = past_in D n w
 
   U : Area D n u
-  U = labelled-area A (omega arith) L
+  U = labelled_area A (omega arith) L
 
-  pub contracted-no : b ≡ false → Decided s 1 w v false
-  contracted-no e = decided-beside L.outside (back-no s U back e)
+  pub contracted_no : b ≡ false → Decided s 1 w v false
+  contracted_no e = decided_beside L.outside (back_no s U back e)
 
-  module _ (fine : b ≡ true) (shape : shaped s (historyIn D n w) ≡ true) (all : contractionsIn (historyIn D n w) ≡ n) {w' : List ℕ} {r : Bool}
+  module _ (fine : b ≡ true) (shape : shaped s (history_in D n w) ≡ true) (all : contractions_in (history_in D n w) ≡ n) {w' : List ℕ} {r : Bool}
       (K : KindTried D n 1 1 v w' r) where
-    none : hasKind 0 (historyIn D n v) ≡ false
+    none : has_kind 0 (history_in D n v) ≡ false
     none =
-        rw (history s U back, beside-past L.outside n, reverse-reverse (historyIn D n w))
-        (no-removal (historyIn D n w) (all ∙ sym (count s A) ∙ length-reverse (historyIn D n w)))
+        rw (history s U back, beside_past L.outside n, reverse-reverse (history_in D n w))
+        (no_removal (history_in D n w) (all ∙ sym (count s A) ∙ length-reverse (history_in D n w)))
 
     -- THE CONTRACTIONS REPLAYED ON THE BASE DECIDE
     pub contracted : Decided s 1 w w' r
     contracted =
-        let shape-u : shaped s (historyIn D n u) ≡ true = ap (shaped s) (outside-history n L.outside) ∙ shape in
-        decided-beside L.outside (decided s U back fine (sym shape-u) refl (contracted-tried (all-taken s U back fine).0 none K))
+        let shape_u : shaped s (history_in D n u) ≡ true = ap (shaped s) (outside_history n L.outside) ∙ shape in
+        decided_beside L.outside (decided s U back fine (sym shape_u) refl (contracted_tried (all_taken s U back fine).0 none K))
 
-    module _ (yes-decided : r ≡ true) {c : ℕ} (base-has : c ≡ cycles (around 1 (tableIn D v)) D [] D) where
+    module _ (yes_decided : r ≡ true) {c : ℕ} (base_has : c ≡ cycles (around 1 (table_in D v)) D [] D) where
       pyramid : Pyramid (counted s t past) t past
-      pyramid = (pyramid-decided (counted s t past) t past).0 (true→T (sym contracted.answer ∙ yes-decided))
+      pyramid = (pyramid_decided (counted s t past) t past).0 (true→T (sym contracted.answer ∙ yes_decided))
 
-      vertices : (countsOf D t past).vertices + n ≡ c
-      unfolding around countsOf
+      vertices : (counts_of D t past).vertices + n ≡ c
+      unfolding around counts_of
       vertices =
-          let all_past : contractionsIn past ≡ n = contractions-reverse (historyIn D n w) ∙ all in
-          let base-w : tableIn D v ≡ base_of s t past = rw (beside-table L.outside, beside-past L.outside n) at (base s U back fine) in
-          rw all_past at (vertices-kept pyramid) ∙ sym (rw base-w at base-has)
+          let all_past : contractions_in past ≡ n = contractions_reverse (history_in D n w) ∙ all in
+          let base_w : table_in D v ≡ base_of s t past = rw (beside_table L.outside, beside_past L.outside n) at (base s U back fine) in
+          rw all_past at (vertices_kept pyramid) ∙ sym (rw base_w at base_has)
 
-      pub contracted-few : n ≤ c
-      contracted-few = omega (arith, vertices)
+      pub contracted_few : n ≤ c
+      contracted_few = omega (arith, vertices)
 
       -- THE BASE'S VERTICES, LESS ONE FOR EACH OPERATION, AND THE FACES OF THE PRESENT LEVEL
-      pub contracted-are : {f : ℕ} → f ≡ rootsIn D u D → CyclesAre D t past (c - n) f
-      unfolding around faceNext countsOf
-      contracted-are F = cycles-are (omega (arith, vertices)) (F ∙ roots-cycles A (omega arith) L)
+      pub contracted_are : {f : ℕ} → f ≡ roots_in D u D → CyclesAre D t past (c - n) f
+      unfolding around face_next counts_of
+      contracted_are F = cycles_are (omega (arith, vertices)) (F ∙ roots_cycles A (omega arith) L)

@@ -1,6 +1,6 @@
 -- The last operations of a pyramid taken back: each fits, so all are undone.
---   pyramid-backs == a pyramid passes tests 6 to 15
---   took-back     == where the past passes them, taking back its last operations undoes them
+--   pyramid_backs == a pyramid passes tests 6 to 15
+--   took_back     == where the past passes them, taking back its last operations undoes them
 use mathlib.Core.Bool.{Bool}
 use mathlib.Core.List.{List}
 use mathlib.Core.Path.{◌≡◌, subst}
@@ -13,23 +13,23 @@ use Rattle.darts.specs.Operation.{undone}
 use Rattle.darts.specs.State.{State}
 use Rattle.darts.specs.Pyramid.{Pyramid}
 use Rattle.darts.specs.Tests.{backs as backsOf}
-use Rattle.laws.proofs.tests.Passes.{pyramid-shaped}
-use Rattle.area.specs.Area.{tableIn, pastIn, Tried, tried}
+use Rattle.laws.proofs.tests.Passes.{pyramid_shaped}
+use Rattle.area.specs.Area.{table_in, past_in, Tried, tried}
 use Rattle.operations.specs.Back.{backs}
 use Rattle.engine.specs.Back.{TookBack}
 use Rattle.engine.specs.Held.{Area}
-use Rattle.engine.proofs.AllBack.{AllBack, backs-right}
-use Rattle.engine.proofs.Given.{fits-stand}
+use Rattle.engine.proofs.AllBack.{AllBack, backs_right}
+use Rattle.engine.proofs.Given.{fits_stand}
 use Rattle.engine.proofs.Parts.{rest_from}
 
-pub pyramid-backs : {s : State} {t past : List ℕ} → Pyramid s t past → T (backsOf s.darts t past)
-pyramid-backs P = (pyramid-shaped P).sound.fitting
+pub pyramid_backs : {s : State} {t past : List ℕ} → Pyramid s t past → T (backsOf s.darts t past)
+pyramid_backs P = (pyramid_shaped P).sound.fitting
 
-all-took : {D n c : ℕ} {w : List ℕ} {a : Tried} → T (backsOf D (tableIn D w) (pastIn D n w))
-    → AllBack D n c (tableIn D w) (pastIn D n w) w a → TookBack D n c w a.work
-all-took {D} {n} {c} {w} {a} fit B =
-    let t : List ℕ = tableIn D w in
-    let past : List ℕ = pastIn D n w in
+all_took : {D n c : ℕ} {w : List ℕ} {a : Tried} → T (backsOf D (table_in D w) (past_in D n w))
+    → AllBack D n c (table_in D w) (past_in D n w) w a → TookBack D n c w a.work
+all_took {D} {n} {c} {w} {a} fit B =
+    let t : List ℕ = table_in D w in
+    let past : List ℕ = past_in D n w in
     let fine : T a.fine = and_left a.fine (backsOf D (undone D c t past) (drop c past)) (subst T B.fine fit) in
     record {
       table = B.table fine;
@@ -39,6 +39,6 @@ all-took {D} {n} {c} {w} {a} fit B =
     }
 
 -- THE LAST OPERATIONS ARE UNDONE
-pub took-back : {D n c : ℕ} {w v : List ℕ} {r : Bool} → Area D n w → c ≤ n → T (backsOf D (tableIn D w) (pastIn D n w)) → tried r v ≡ backs D w n c
+pub took_back : {D n c : ℕ} {w v : List ℕ} {r : Bool} → Area D n w → c ≤ n → T (backsOf D (table_in D w) (past_in D n w)) → tried r v ≡ backs D w n c
     → TookBack D n c w v
-took-back {D} {n} {c} {w} A l fit e = all-took fit (rw (← e) at (backs-right fits-stand c n w l A))
+took_back {D} {n} {c} {w} A l fit e = all_took fit (rw (← e) at (backs_right fits_stand c n w l A))

@@ -1,61 +1,61 @@
 -- A pass under way in the work area: a kernel's, or that of a plan's first kernel.
 --   Underway D k takes whole w₀ i es w m == w is w₀ after some of a pass's turns, i of them taken, and there are m operations then: the pass over the edges
 --                                           es that are left, from the table and the past that w holds, goes where the whole pass goes
---   underway-over                        == an edge is passed over
---   underway-kept                        == the work area may have changed where nothing is held
---   underway-on                          == it is taken, and done
---   underway-stops                       == it is taken, and refused: so is the pass
---   underway-ends                        == no edge is left
+--   underway_over                        == an edge is passed over
+--   underway_kept                        == the work area may have changed where nothing is held
+--   underway_on                          == it is taken, and done
+--   underway_stops                       == it is taken, and refused: so is the pass
+--   underway_ends                        == no edge is left
 use mathlib.Core.Bool.{true, false}
 use mathlib.Core.List.{List, [], ◌∷◌}
 use mathlib.Core.Logic.{◌≢◌}
 use mathlib.Core.Path.{◌≡◌, sym, ◌∙◌}
 use Prim.Native.Nat.{ℕ, suc, ◌+◌, ◌/◌, ◌≤◌}
-use Rattle.permutations.specs.Choice.{eqb-other}
+use Rattle.permutations.specs.Choice.{eqb_other}
 use Rattle.darts.specs.Cases.{answer_of}
 use Rattle.darts.specs.declared.Answer.{Answer}
 use Rattle.darts.specs.declared.Answer.TheVariants.{Done}
 use Rattle.darts.specs.Operation.{kind_of}
-use Rattle.darts.specs.Kernel.{judge, each, Run, stops, Test, passFrom}
-use Rattle.area.specs.Area.{tableIn, pastIn}
+use Rattle.darts.specs.Kernel.{judge, each, Run, stops, Test, pass_from}
+use Rattle.area.specs.Area.{table_in, past_in}
 use Rattle.engine.specs.Held.{Ready, Beyond}
-use Rattle.engine.specs.Runs.{ranIn, Went, Stays, Turned}
-use Rattle.engine.proofs.Ready.{beyond-trans}
+use Rattle.engine.specs.Runs.{ran_in, Went, Stays, Turned}
+use Rattle.engine.proofs.Ready.{beyond_trans}
 
 pub record Underway (D k : ℕ) (takes : Test) (whole : Run) (w₀ : List ℕ) (i : ℕ) (es w : List ℕ) (m : ℕ) : Type 0 where
-  pub same : passFrom takes D (tableIn D w) (pastIn D m w) i (each (kind_of k) es) ≡ whole
+  pub same : pass_from takes D (table_in D w) (past_in D m w) i (each (kind_of k) es) ≡ whole
   pub ready : Ready D m k w
   pub beyond : Beyond D w₀ w
 
 module _ {D k : ℕ} {takes : Test} {whole : Run} {w₀ : List ℕ} {i m : ℕ} {w : List ℕ} where
   module _ {e : ℕ} {es : List ℕ} (u : Underway D k takes whole w₀ i (e ∷ es) w m) where
-    pub underway-over : takes (tableIn D w) (pastIn D m w) e ≡ false → Underway D k takes whole w₀ i es w m
-    unfolding passFrom
-    underway-over over = record { same = rw over at u.same; ready = u.ready; beyond = u.beyond }
+    pub underway_over : takes (table_in D w) (past_in D m w) e ≡ false → Underway D k takes whole w₀ i es w m
+    unfolding pass_from
+    underway_over over = record { same = rw over at u.same; ready = u.ready; beyond = u.beyond }
 
-    module _ (chosen : takes (tableIn D w) (pastIn D m w) e ≡ true) {v : List ℕ} {r : Answer} (τ : Turned D m k e i w v r) where
-      pub underway-on : (answer_of r).number ≡ 0 → Underway D k takes whole w₀ (suc i) es v (m + 1)
-      unfolding passFrom
-      underway-on fine =
+    module _ (chosen : takes (table_in D w) (past_in D m w) e ≡ true) {v : List ℕ} {r : Answer} (τ : Turned D m k e i w v r) where
+      pub underway_on : (answer_of r).number ≡ 0 → Underway D k takes whole w₀ (suc i) es v (m + 1)
+      unfolding pass_from
+      underway_on fine =
           let g = τ.done fine in
           let turn = rw (chosen, sym τ.answer.number ∙ fine) at u.same in
-          record { same = rw (g.table, g.past) turn; ready = g.ready; beyond = beyond-trans u.beyond τ.beyond }
+          record { same = rw (g.table, g.past) turn; ready = g.ready; beyond = beyond_trans u.beyond τ.beyond }
 
-      pub underway-stops : (answer_of r).number ≢ 0 → {n : ℕ} → n ≤ D / 2 → Went D whole w₀ v (record { answer = r; operations = n })
-      unfolding passFrom ranIn
-      underway-stops given few =
+      pub underway_stops : (answer_of r).number ≢ 0 → {n : ℕ} → n ≤ D / 2 → Went D whole w₀ v (record { answer = r; operations = n })
+      unfolding pass_from ran_in
+      underway_stops given few =
           let said = τ.answer in
-          let refused : judge (kind_of k) D (tableIn D w) (pastIn D m w) e ≢ 0 = λ z. given (said.number ∙ z) in
-          let stop = rw (chosen, eqb-other refused) at u.same in
+          let refused : judge (kind_of k) D (table_in D w) (past_in D m w) e ≢ 0 = λ z. given (said.number ∙ z) in
+          let stop = rw (chosen, eqb_other refused) at u.same in
           record {
-            went = rw (eqb-other given) ((λ j. stops (record { number = said.number j; place = said.place refused j; second = said.second j })) ∙ stop);
+            went = rw (eqb_other given) ((λ j. stops (record { number = said.number j; place = said.place refused j; second = said.second j })) ∙ stop);
             few = few;
-            beyond = beyond-trans u.beyond τ.beyond;
+            beyond = beyond_trans u.beyond τ.beyond;
           }
 
-  pub underway-kept : {es v : List ℕ} → Stays D m k w v → Underway D k takes whole w₀ i es w m → Underway D k takes whole w₀ i es v m
-  underway-kept s u = record { same = rw (s.table, s.past) u.same; ready = s.ready; beyond = beyond-trans u.beyond s.beyond }
+  pub underway_kept : {es v : List ℕ} → Stays D m k w v → Underway D k takes whole w₀ i es w m → Underway D k takes whole w₀ i es v m
+  underway_kept s u = record { same = rw (s.table, s.past) u.same; ready = s.ready; beyond = beyond_trans u.beyond s.beyond }
 
-  pub underway-ends : Underway D k takes whole w₀ i [] w m → Went D whole w₀ w (record { answer = Done 0; operations = m })
-  unfolding passFrom ranIn
-  underway-ends u = record { went = u.same; few = u.ready.area.few; beyond = u.beyond }
+  pub underway_ends : Underway D k takes whole w₀ i [] w m → Went D whole w₀ w (record { answer = Done 0; operations = m })
+  unfolding pass_from ran_in
+  underway_ends u = record { went = u.same; few = u.ready.area.few; beyond = u.beyond }

@@ -9,51 +9,51 @@
 --   CheckedLaid s w w' r          == the same of a table and a history that stand in w; the history still stands in w', the table need not
 use Rattle.std.specs.Prelude.{Bool, true, List, ◌↔◌, ◌≡◌, ℕ, ◌*◌, ◌≤◌, T, length, drop}
 use Rattle.darts.specs.Calls.{table_of, past_of}
-use Rattle.darts.specs.Pyramid.{isPyramid}
+use Rattle.darts.specs.Pyramid.{is_pyramid}
 use Rattle.darts.specs.State.{State, counted}
 use Rattle.forest.specs.Forest.{Falls}
-use Rattle.area.specs.Area.{tableIn, pastIn, forestIn}
-use Rattle.area.specs.Shape.{historyIn}
+use Rattle.area.specs.Area.{table_in, past_in, forest_in}
+use Rattle.area.specs.Shape.{history_in}
 use Rattle.operations.specs.Replay.{rejoined, replayed}
 use Rattle.operations.specs.Trees.{Outside, rooted}
 use Rattle.engine.specs.Held.{Area, Rooted, Ready, Beyond}
 
 pub record Grown (D n k : ℕ) (L : ℕ → ℕ) (w w' : List ℕ) : Type 0 where
-  pub falls : Falls (forestIn D w')
-  pub roots : rooted D w' ≡ rejoined k L (historyIn D n w)
+  pub falls : Falls (forest_in D w')
+  pub roots : rooted D w' ≡ rejoined k L (history_in D n w)
 
 pub record KindTried (D n k coming : ℕ) (w w' : List ℕ) (r : Bool) : Type 0 where
   pub outside : Outside D w w'
   pub label : ℕ → ℕ
   pub right : Rooted D 0 k w label
-  pub answer : r ≡ replayed k label (historyIn D n w)
+  pub answer : r ≡ replayed k label (history_in D n w)
   pub grown : r ≡ true → k ≡ coming → Grown D n k label w w'
 
 pub record BothTried (D n coming : ℕ) (w w' : List ℕ) (r : Bool) : Type 0 where
   pub outside : Outside D w w'
   pub label : ℕ → ℕ → ℕ
   pub right : (k : ℕ) → k ≤ 1 → Rooted D 0 k w (label k)
-  pub answer : T r ↔ ((k : ℕ) → k ≤ 1 → T (replayed k (label k) (historyIn D n w)))
+  pub answer : T r ↔ ((k : ℕ) → k ≤ 1 → T (replayed k (label k) (history_in D n w)))
   pub grown : r ≡ true → coming ≤ 1 → Grown D n coming (label coming) w w'
 
 pub record Decided (s : State) (coming : ℕ) (w w' : List ℕ) (r : Bool) : Type 0 where
-  pub answer : r ≡ isPyramid (counted s (tableIn s.darts w) (pastIn s.darts s.operations w)) (tableIn s.darts w) (pastIn s.darts s.operations w)
+  pub answer : r ≡ is_pyramid (counted s (table_in s.darts w) (past_in s.darts s.operations w)) (table_in s.darts w) (past_in s.darts s.operations w)
   pub size : length w' ≡ length w
   pub rest : drop (3 * s.darts) w' ≡ drop (3 * s.darts) w
-  pub falls : r ≡ true → coming ≤ 1 → Falls (forestIn s.darts w')
+  pub falls : r ≡ true → coming ≤ 1 → Falls (forest_in s.darts w')
   pub roots : r ≡ true → coming ≤ 1 → Rooted s.darts s.operations coming w (rooted s.darts w')
   -- of a base nothing is taken back
   pub kept : r ≡ true → s.operations ≡ 0 → Outside s.darts w w'
 
 pub record Checked (s : State) (coming : ℕ) (t h w w' : List ℕ) (r : Bool) : Type 0 where
-  pub answer : r ≡ isPyramid (counted s (table_of s t) (past_of s h)) (table_of s t) (past_of s h)
+  pub answer : r ≡ is_pyramid (counted s (table_of s t) (past_of s h)) (table_of s t) (past_of s h)
   pub beyond : Beyond s.darts w w'
   pub area : r ≡ true → Area s.darts s.operations w'
-  pub table : r ≡ true → tableIn s.darts w' ≡ table_of s t
-  pub past : r ≡ true → pastIn s.darts s.operations w' ≡ past_of s h
+  pub table : r ≡ true → table_in s.darts w' ≡ table_of s t
+  pub past : r ≡ true → past_in s.darts s.operations w' ≡ past_of s h
   pub ready : r ≡ true → coming ≤ 1 → Ready s.darts s.operations coming w'
 
 pub record CheckedLaid (s : State) (w w' : List ℕ) (r : Bool) : Type 0 where
-  pub answer : r ≡ isPyramid (counted s (tableIn s.darts w) (pastIn s.darts s.operations w)) (tableIn s.darts w) (pastIn s.darts s.operations w)
+  pub answer : r ≡ is_pyramid (counted s (table_in s.darts w) (past_in s.darts s.operations w)) (table_in s.darts w) (past_in s.darts s.operations w)
   pub beyond : Beyond s.darts w w'
-  pub history : historyIn s.darts s.operations w' ≡ historyIn s.darts s.operations w
+  pub history : history_in s.darts s.operations w' ≡ history_in s.darts s.operations w

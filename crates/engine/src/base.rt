@@ -1,9 +1,9 @@
 // A table judged as a base.
 ghost use Rattle.std.specs.Prelude.{◌≡◌, ◌≤◌, length};
 ghost use Rattle.darts.specs.Calls.{cleared};
-ghost use Rattle.darts.specs.Map.{permutationTest};
+ghost use Rattle.darts.specs.Map.{permutation_test};
 ghost use Rattle.area.specs.Area.{Room};
-ghost use Rattle.area.specs.Verdicts.{verdictOf};
+ghost use Rattle.area.specs.Verdicts.{verdict_of};
 ghost use Rattle.engine.specs.Counted.{TestsCycles};
 
 use crate::Tested;
@@ -16,7 +16,7 @@ use operations::cycles::label;
 pub fn test_base(work: &mut [u32], d: usize, table: &[u32]) -> Tested
     requires room { Room d work.old }
     requires d_in_bounds { d ≤ length table.now }
-    ensures verdict_value { verdictOf result.verdict ≡ permutationTest d table.now }
+    ensures verdict_value { verdict_of result.verdict ≡ permutation_test d table.now }
     ensures tests_cycles { TestsCycles d table.now result }
     ensures work_after { work.new ≡ cleared d work.old }
 {

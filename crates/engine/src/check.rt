@@ -4,10 +4,10 @@
 ghost use Rattle.std.specs.Prelude.{true, false, [], ◌≡◌, ◌/◌, ◌≤◌, length};
 ghost use Rattle.darts.specs.Calls.{table_of, past_of};
 ghost use Rattle.darts.specs.Counts.{cycles};
-ghost use Rattle.darts.specs.Moves.{contractionsIn};
+ghost use Rattle.darts.specs.Moves.{contractions_in};
 ghost use Rattle.darts.specs.Tests.{shaped};
-ghost use Rattle.area.specs.Area.{Room, tableIn, pastIn, around};
-ghost use Rattle.area.specs.Shape.{stateWith, historyIn};
+ghost use Rattle.area.specs.Area.{Room, table_in, past_in, around};
+ghost use Rattle.area.specs.Shape.{state_with, history_in};
 ghost use Rattle.operations.specs.Replay.{Numbered};
 ghost use Rattle.engine.specs.Held.{Area};
 ghost use Rattle.engine.specs.Checks.{KindTried, BothTried, Decided, Checked, CheckedLaid};
@@ -27,7 +27,7 @@ pub fn try_kind(work: &mut [u32], d: usize, n: usize, k: usize) -> Tried
     requires numbered { Numbered d n work.old }
     requires k_bound { k ≤ 1 }
     ensures kind_tried { KindTried d n k k work.old work.new result.fine }
-    ensures cycles_value { result.cycles ≡ cycles (around k (tableIn d work.old)) d [] d }
+    ensures cycles_value { result.cycles ≡ cycles (around k (table_in d work.old)) d [] d }
 {
     let cycles = label(work, d, k);
     let fine = replay(work, d, n, k);
@@ -40,7 +40,7 @@ fn try_both(work: &mut [u32], d: usize, n: usize, k: usize) -> Found
     requires numbered { Numbered d n work.old }
     requires k_bound { k ≤ 1 }
     ensures both_tried { BothTried d n k work.old work.new result.pyramid }
-    ensures finds_cycles { FindsCycles d (tableIn d work.old) [] result }
+    ensures finds_cycles { FindsCycles d (table_in d work.old) [] result }
 {
     let other = try_kind(work, d, n, 1 - k);
     if !other.fine {
@@ -102,7 +102,7 @@ pub fn present(numbers: &[u32], from: usize, n: usize, base: Found) -> Found
 fn only_contractions(work: &[u32], d: usize, n: usize, coming: usize) -> bool
     requires room { Room d work.now }
     requires n_le_d { n ≤ d }
-    ensures { result ≡ true → (coming ≤ 1 → 1 ≡ coming) × (contractionsIn (historyIn d n work.now) ≡ n) }
+    ensures { result ≡ true → (coming ≤ 1 → 1 ≡ coming) × (contractions_in (history_in d n work.now) ≡ n) }
 {
     if coming == 0 {
         return false;
@@ -115,10 +115,10 @@ fn only_contractions(work: &[u32], d: usize, n: usize, coming: usize) -> bool
 // counted before anything is taken back.
 fn decide_contracted(work: &mut [u32], state: Figures) -> Found
     requires area { Area state.darts state.operations work.old }
-    requires work_value { shaped (stateWith state) (historyIn state.darts state.operations work.old) ≡ true }
-    requires work_value_2 { contractionsIn (historyIn state.darts state.operations work.old) ≡ state.operations }
-    ensures decided { Decided (stateWith state) 1 work.old work.new result.pyramid }
-    ensures finds_cycles { FindsCycles state.darts (tableIn state.darts work.old) (pastIn state.darts state.operations work.old) result }
+    requires work_value { shaped (state_with state) (history_in state.darts state.operations work.old) ≡ true }
+    requires work_value_2 { contractions_in (history_in state.darts state.operations work.old) ≡ state.operations }
+    ensures decided { Decided (state_with state) 1 work.old work.new result.pyramid }
+    ensures finds_cycles { FindsCycles state.darts (table_in state.darts work.old) (past_in state.darts state.operations work.old) result }
 {
     let d = state.darts;
     let n = state.operations;
@@ -141,8 +141,8 @@ fn decide_contracted(work: &mut [u32], state: Figures) -> Found
 // Whether the map in the work area, its history and the state are a pyramid: the shape, then tests 6 to 15 down to the base, then 16 and 17.
 fn decide(work: &mut [u32], state: Figures, coming: usize) -> Found
     requires { Area state.darts state.operations work.old }
-    ensures decided { Decided (stateWith state) coming work.old work.new result.pyramid }
-    ensures finds_cycles { FindsCycles state.darts (tableIn state.darts work.old) (pastIn state.darts state.operations work.old) result }
+    ensures decided { Decided (state_with state) coming work.old work.new result.pyramid }
+    ensures finds_cycles { FindsCycles state.darts (table_in state.darts work.old) (past_in state.darts state.operations work.old) result }
 {
     let d = state.darts;
     let n = state.operations;
@@ -174,8 +174,8 @@ pub fn check(
 ) -> Found
     requires room { Room state.darts work.old }
     requires darts_in_bounds { (state.darts ≤ length table.now) × (state.darts / 2 ≤ length history.now) }
-    ensures checked { Checked (stateWith state) coming table.now history.now work.old work.new result.pyramid }
-    ensures finds_cycles { FindsCycles state.darts (table_of (stateWith state) table.now) (past_of (stateWith state) history.now) result }
+    ensures checked { Checked (state_with state) coming table.now history.now work.old work.new result.pyramid }
+    ensures finds_cycles { FindsCycles state.darts (table_of (state_with state) table.now) (past_of (state_with state) history.now) result }
 {
     let d = state.darts;
     let n = state.operations;
@@ -199,8 +199,8 @@ pub fn check(
 // The same of a table and a history that stand in their parts of the work area, as the reader leaves them. The history stays there.
 pub fn check_laid(work: &mut [u32], state: Figures) -> Found
     requires { Room state.darts work.old }
-    ensures checked_laid { CheckedLaid (stateWith state) work.old work.new result.pyramid }
-    ensures finds_cycles { FindsCycles state.darts (tableIn state.darts work.old) (pastIn state.darts state.operations work.old) result }
+    ensures checked_laid { CheckedLaid (state_with state) work.old work.new result.pyramid }
+    ensures finds_cycles { FindsCycles state.darts (table_in state.darts work.old) (past_in state.darts state.operations work.old) result }
 {
     if state.darts / 2 < state.operations {
         return nothing();

@@ -1,7 +1,7 @@
 // A pass in the work area: one operation's turn, and a kernel, which takes every edge that it lists.
 ghost use Rattle.darts.specs.Kernel.{run as run_of};
 ghost use Rattle.darts.specs.Operation.{kind_of};
-ghost use Rattle.area.specs.Area.{tableIn, pastIn};
+ghost use Rattle.area.specs.Area.{table_in, past_in};
 ghost use Rattle.engine.specs.Held.{Ready};
 ghost use Rattle.engine.specs.Runs.{Turned, Went};
 
@@ -26,7 +26,7 @@ pub fn turn(work: &mut [u32], d: usize, m: usize, k: usize, e: usize, i: usize) 
 // The kernel's operations, after n others: removals where k is 0, contractions where k is 1.
 pub fn run(work: &mut [u32], d: usize, n: usize, k: usize, kernel: &[u32]) -> Ran
     requires { Ready d n k work.old }
-    ensures { Went d (run_of (kind_of k) d (tableIn d work.old) (pastIn d n work.old) kernel.now)
+    ensures { Went d (run_of (kind_of k) d (table_in d work.old) (past_in d n work.old) kernel.now)
         work.old work.new result }
 {
     let mut i = 0;

@@ -1,6 +1,6 @@
 // The sweep: a removal kernel that chooses its own edges. None of them is judged: each may be removed.
 ghost use Rattle.darts.specs.Levels.{swept};
-ghost use Rattle.area.specs.Area.{tableIn, pastIn};
+ghost use Rattle.area.specs.Area.{table_in, past_in};
 ghost use Rattle.engine.specs.Held.{Area};
 ghost use Rattle.engine.specs.Runs.{Went};
 
@@ -11,7 +11,7 @@ use operations::operate::{operate, takes};
 // The sweep's removals, after n operations: one pass over the edges by rising number. No forest is asked.
 pub fn sweep(work: &mut [u32], d: usize, n: usize) -> Ran
     requires { Area d n work.old }
-    ensures { Went d (swept d (tableIn d work.old) (pastIn d n work.old))
+    ensures { Went d (swept d (table_in d work.old) (past_in d n work.old))
         work.old work.new result }
 {
     let mut e = 0;

@@ -1,9 +1,9 @@
 -- One thing after another in a file.
---   after-after  == it does not matter how the steps are grouped
+--   after_after  == it does not matter how the steps are grouped
 --   Through      == where two steps find something, so did the first
 --   made_fault   == what is made of a value changes no fault
 --   Made         == nor the place after it
---   field-small  == the number of a field is at most 99,999
+--   field_small  == the number of a field is at most 99,999
 use mathlib.Core.Path.{◌≡◌, refl}
 use mathlib.Core.List.{List}
 use Prim.Native.Nat.{ℕ, ◌≤◌}
@@ -12,9 +12,9 @@ use Rattle.darts.specs.Answers.{Answer}
 use Rattle.darts.specs.Scan.{Scan, found, fault, after, word, number_at, field}
 use Rattle.file_lines.proofs.Number.{number_small}
 
-pub after-after : {A B C : Type 0} (s : Scan A) (f : A → ℕ → Scan B) (g : B → ℕ → Scan C) → after (after s f) g ≡ after s (λ a at. after (f a at) g)
-after-after (found a at) f g = refl
-after-after (fault x) f g = refl
+pub after_after : {A B C : Type 0} (s : Scan A) (f : A → ℕ → Scan B) (g : B → ℕ → Scan C) → after (after s f) g ≡ after s (λ a at. after (f a at) g)
+after_after (found a at) f g = refl
+after_after (fault x) f g = refl
 
 pub record Through {A B : Type 0} (s : Scan A) (f : A → ℕ → Scan B) (y : B) (next : ℕ) : Type 0 where
   pub value : A
@@ -45,9 +45,9 @@ module _ {A B : Type 0} (s : Scan A) (f : A → B) where
       let same : t.place ≡ next = cc t.second in
       record { value = t.value; whole = rw same at t.first; same = cc t.second }
 
-pub field-small : (w end b : List ℕ) (at : ℕ) {x next : ℕ} → field w end b at ≡ found x next → x ≤ 99999
+pub field_small : (w end b : List ℕ) (at : ℕ) {x next : ℕ} → field w end b at ≡ found x next → x ≤ 99999
 unfolding field
-field-small w end b at {x} {next} e =
+field_small w end b at {x} {next} e =
     let opened = through (word w b at) _ e in
     let read = through (number_at b opened.place) _ opened.second in
     let closed = through (word end b read.place) _ read.second in

@@ -1,6 +1,6 @@
 -- The lines of the pairs.
---   pair-lines  == they are read one after the other
---   pairs-count == n lines have 2n numbers
+--   pair_lines_lem  == they are read one after the other
+--   pairs_count == n lines have 2n numbers
 --   pair_small  == the numbers of a line are at most 99,999
 --   flag_small  == and so are the darts that they say
 use mathlib.Core.Path.{◌≡◌, refl}
@@ -12,23 +12,23 @@ use lib.Dec.{eqb}
 use lib.ListN.{length}
 use Rattle.darts.specs.Choose.{if◌then◌else◌}
 use Rattle.darts.specs.Text.{bytes}
-use Rattle.darts.specs.File.{lineFeed}
+use Rattle.darts.specs.File.{line_feed}
 use Rattle.darts.specs.Scan.{found, field}
-use Rattle.darts.specs.Read.{pairsAt, fromFlag}
+use Rattle.darts.specs.Read.{pairs_at, from_flag}
 use Rattle.file_lines.specs.Lines.{pair_at, pair_of}
-use Rattle.file_lines.proofs.After.{after-after, through, field-small}
-use Rattle.file_lines.proofs.Rest.{Lines, lines-count}
+use Rattle.file_lines.proofs.After.{after_after, through, field_small}
+use Rattle.file_lines.proofs.Rest.{Lines, lines_count}
 
 module _ (b : List ℕ) where
-  pub pair-lines : Lines (pair_at b) (λ n at. pairsAt n b at)
-  unfolding pairsAt pair_at
-  pair-lines = record { first = λ n at. simp after-after; none = λ at. refl }
+  pub pair_lines_lem : Lines (pair_at b) (λ n at. pairs_at n b at)
+  unfolding pairs_at pair_at
+  pair_lines_lem = record { first = λ n at. simp after_after; none = λ at. refl }
 
-  pub pairs-count : (n at : ℕ) (xs : List ℕ) (next : ℕ) → pairsAt n b at ≡ found xs next → length xs ≡ n * 2
+  pub pairs_count : (n at : ℕ) (xs : List ℕ) (next : ℕ) → pairs_at n b at ≡ found xs next → length xs ≡ n * 2
   unfolding pair_at
-  pairs-count = lines-count pair-lines 2 (λ at p next e.
+  pairs_count = lines_count pair_lines_lem 2 (λ at p next e.
       let one = through (field (bytes "pair=") (bytes " ") b at) _ e in
-      let two = through (field [] lineFeed b one.place) _ one.second in
+      let two = through (field [] line_feed b one.place) _ one.second in
       let both : p ≡ pair_of one.value two.value = cc two.second in
       rw both)
 
@@ -36,13 +36,13 @@ module _ (b : List ℕ) where
   unfolding pair_at
   pair_small at {x} {y} {next} e =
       let one = through (field (bytes "pair=") (bytes " ") b at) _ e in
-      let two = through (field [] lineFeed b one.place) _ one.second in
+      let two = through (field [] line_feed b one.place) _ one.second in
       let first : one.value ≡ x = cc two.second in
       let second : two.value ≡ y = cc two.second in
-      (omega (arith, field-small _ _ _ _ one.first), omega (arith, field-small _ _ _ _ two.first))
+      (omega (arith, field_small _ _ _ _ one.first), omega (arith, field_small _ _ _ _ two.first))
 
-pub flag_small : (F D x : ℕ) {r : ℕ} → r ≡ fromFlag F D x → D ≤ 65536 → x ≤ 99999 → r ≤ 99999
-unfolding fromFlag
+pub flag_small : (F D x : ℕ) {r : ℕ} → r ≡ from_flag F D x → D ≤ 65536 → x ≤ 99999 → r ≤ 99999
+unfolding from_flag
 flag_small F D x {r} e d h = rw e (go (eqb F 0) (eqb x 0))
   where
     go : (f z : Bool) → (if f then x else if z then D else x - 1) ≤ 99999

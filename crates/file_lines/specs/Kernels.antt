@@ -5,17 +5,17 @@ use Rattle.std.specs.Prelude.{◌≡◌, List, ◌++◌, ℕ, ◌+◌, ◌-◌, 
 use Rattle.darts.specs.Choose.{if◌then◌else◌}
 use Rattle.darts.specs.Operation.{Kind}
 use Rattle.darts.specs.Scan.{found, after}
-use Rattle.darts.specs.Read.{KernelLine, kernelsAt, endsFrom, total, numbersFrom, fileHistory}
+use Rattle.darts.specs.Read.{KernelLine, kernels_at, ends_from, total, numbers_from, file_history}
 use Rattle.slices.specs.Over.{over}
 use Rattle.file_lines.specs.declared.kernels.Levels.{Levels}
-use Rattle.file_lines.specs.Found.{scanOf}
+use Rattle.file_lines.specs.Found.{scan_of}
 use Rattle.slices.specs.Laid.{laid}
 
 unfoldable pub noted : ℕ → Kind → ℕ → ℕ → List ℕ → List ℕ
-noted room k i n h = if leb (i + n) room then laid h i (numbersFrom k i n) else h
+noted room k i n h = if leb (i + n) room then laid h i (numbers_from k i n) else h
 
 pub record KernelsRead (b : List ℕ) (at L D : ℕ) (h h' : List ℕ) (r : Levels) : Type 0 where
-  pub answer : scanOf r.read ≡ after (kernelsAt L b at) (λ ks next. found (total ks) next)
-  pub ends : (ks : List KernelLine) (next : ℕ) → kernelsAt L b at ≡ found ks next → r.ends ≡ endsFrom 0 ks ++ replicate (64 - length ks) 0
-  pub history : (ks : List KernelLine) (next : ℕ) → kernelsAt L b at ≡ found ks next → total ks ≤ D / 2 → h' ≡ over (fileHistory ks) h
+  pub answer : scan_of r.read ≡ after (kernels_at L b at) (λ ks next. found (total ks) next)
+  pub ends : (ks : List KernelLine) (next : ℕ) → kernels_at L b at ≡ found ks next → r.ends ≡ ends_from 0 ks ++ replicate (64 - length ks) 0
+  pub history : (ks : List KernelLine) (next : ℕ) → kernels_at L b at ≡ found ks next → total ks ≤ D / 2 → h' ≡ over (file_history ks) h
   pub rest : drop (D / 2) h' ≡ drop (D / 2) h

@@ -1,10 +1,10 @@
 // The lines of the file, each read at its place. Values are judged when their line has ended.
 ghost use Rattle.std.specs.Prelude.{◌≡◌};
 ghost use Rattle.darts.specs.Operation.{kind_of};
-ghost use Rattle.darts.specs.File.{kindWord};
-ghost use Rattle.darts.specs.Read.{flagAt, opening as openingOf, kernelOfKind, kernelAt};
-ghost use Rattle.file_lines.specs.Found.{scanOf, line_of};
-ghost use Rattle.file_lines.specs.Lines.{numbersAt, starts_with, levelsAt, kernelOf, pair_at, pair_of};
+ghost use Rattle.darts.specs.File.{kind_word};
+ghost use Rattle.darts.specs.Read.{flag_at, opening as openingOf, kernel_of_kind, kernel_at};
+ghost use Rattle.file_lines.specs.Found.{scan_of, line_of};
+ghost use Rattle.file_lines.specs.Lines.{numbers_at, starts_with, levels_at, kernel_of, pair_at, pair_of};
 
 use crate::scan::{Scanned, byte_at, field, word};
 use darts::Answer;
@@ -18,7 +18,7 @@ pub enum Line {
 
 // Byte nine: 0 for darts from zero, 1 for darts from one.
 fn flag(bytes: &[u8], at: usize) -> Scanned
-    ensures { scanOf result ≡ flagAt bytes.now at }
+    ensures { scan_of result ≡ flag_at bytes.now at }
 {
     let byte = byte_at(bytes, at);
     if byte == 48 {
@@ -35,7 +35,7 @@ fn flag(bytes: &[u8], at: usize) -> Scanned
 
 // The line `numbers=F`: the flag.
 fn numbers_line(bytes: &[u8]) -> Scanned
-    ensures { scanOf result ≡ numbersAt bytes.now }
+    ensures { scan_of result ≡ numbers_at bytes.now }
 {
     match word(bytes, 0, b"numbers=") {
         Scanned::Fault(answer) => Scanned::Fault(answer),
@@ -64,7 +64,7 @@ pub fn opening(bytes: &[u8]) -> Line
 
 // The line `levels=L`: L, which is at most 64.
 pub fn levels_line(bytes: &[u8], at: usize) -> Scanned
-    ensures { scanOf result ≡ levelsAt bytes.now at }
+    ensures { scan_of result ≡ levels_at bytes.now at }
 {
     match field(bytes, at, b"levels=", b"\n") {
         Scanned::Fault(answer) => Scanned::Fault(answer),
@@ -79,8 +79,8 @@ pub fn levels_line(bytes: &[u8], at: usize) -> Scanned
 
 // The word of a kind, and a count of operations that is not 0.
 fn count_of_kind(bytes: &[u8], at: usize, kind: usize, w: &[u8]) -> Line
-    requires { w.now ≡ kindWord (kind_of kind) }
-    ensures { line_of kernelOf result ≡ kernelOfKind (kind_of kind) bytes.now at }
+    requires { w.now ≡ kind_word (kind_of kind) }
+    ensures { line_of kernel_of result ≡ kernel_of_kind (kind_of kind) bytes.now at }
 {
     match field(bytes, at, w, b"\n") {
         Scanned::Fault(answer) => Line::Fault(answer),
@@ -95,7 +95,7 @@ fn count_of_kind(bytes: &[u8], at: usize, kind: usize, w: &[u8]) -> Line
 
 // A line `kernel=contract N` or `kernel=remove N`: the kind, 1 for a contraction and 0 for a removal, and N.
 pub(crate) fn kernel_line(bytes: &[u8], at: usize) -> Line
-    ensures { line_of kernelOf result ≡ kernelAt bytes.now at }
+    ensures { line_of kernel_of result ≡ kernel_at bytes.now at }
 {
     match word(bytes, at, b"kernel=") {
         Scanned::Fault(answer) => Line::Fault(answer),

@@ -1,6 +1,6 @@
 // The D/2 lines `pair=A B`, read into a lent table.
 ghost use Rattle.std.specs.Prelude.{◌≡◌, map, ◌≤◌, length};
-ghost use Rattle.darts.specs.Read.{fromFlag};
+ghost use Rattle.darts.specs.Read.{from_flag};
 ghost use Rattle.file_lines.specs.Lines.{pair_of};
 ghost use Rattle.slices.specs.Laid.{laid, Space};
 ghost use Rattle.file_lines.specs.Pairs.{PairsRead, LastRead};
@@ -11,7 +11,7 @@ use darts::Answer;
 
 // A number of a pair as a dart. One that is no dart, 0 under F = 1, becomes D, which is none either.
 fn from_flag(flag: usize, d: usize, x: usize) -> usize
-    ensures { result ≡ fromFlag flag d x }
+    ensures { result ≡ from_flag flag d x }
 {
     if flag == 0 {
         return x;
@@ -26,7 +26,7 @@ fn from_flag(flag: usize, d: usize, x: usize) -> usize
 fn lay_pair(table: &mut [u32], at: usize, d: usize, flag: usize, a: usize, b: usize)
     requires space { Space table.old at (pair_of a b) }
     requires d_bound { (d ≤ 65536) × (a ≤ 99999) × (b ≤ 99999) }
-    ensures { table.new ≡ laid table.old at (map (fromFlag flag d) (pair_of a b)) }
+    ensures { table.new ≡ laid table.old at (map (from_flag flag d) (pair_of a b)) }
 {
     table[at] = from_flag(flag, d, a) as u32;
     table[at + 1] = from_flag(flag, d, b) as u32;

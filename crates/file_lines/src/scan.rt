@@ -1,7 +1,7 @@
 // What stands at a place of a file: a word, or a number between two words. The first wrong byte decides.
 ghost use Rattle.std.specs.Prelude.{◌≡◌};
-ghost use Rattle.darts.specs.Scan.{byteAt, word as word_at, isDigit, numberOn, number_at, field as field_at};
-ghost use Rattle.file_lines.specs.Found.{scanOf};
+ghost use Rattle.darts.specs.Scan.{byte_at, word as word_at, is_digit, number_on, number_at, field as field_at};
+ghost use Rattle.file_lines.specs.Found.{scan_of};
 
 use darts::Answer;
 
@@ -14,7 +14,7 @@ pub enum Scanned {
 
 // The byte at a place, 256 where the file has ended.
 pub(crate) fn byte_at(bytes: &[u8], at: usize) -> usize
-    ensures { result ≡ byteAt bytes.now at }
+    ensures { result ≡ byte_at bytes.now at }
 {
     if at < bytes.len() {
         bytes[at] as usize
@@ -25,7 +25,7 @@ pub(crate) fn byte_at(bytes: &[u8], at: usize) -> usize
 
 // The bytes of w, with the value 0. The first byte that differs is wrong.
 pub(crate) fn word(bytes: &[u8], at: usize, w: &[u8]) -> Scanned
-    ensures { scanOf result ≡ word_at w.now bytes.now at }
+    ensures { scan_of result ≡ word_at w.now bytes.now at }
 {
     let mut place = at;
     let mut i = 0;
@@ -41,14 +41,14 @@ pub(crate) fn word(bytes: &[u8], at: usize, w: &[u8]) -> Scanned
 
 // Whether a byte is a digit.
 fn is_digit(byte: usize) -> bool
-    ensures { result ≡ isDigit byte }
+    ensures { result ≡ is_digit byte }
 {
     48 <= byte && byte <= 57
 }
 
 // The number that the digits from a place on make, up to five of them.
 fn digits(bytes: &[u8], at: usize) -> Scanned
-    ensures { scanOf result ≡ numberOn 5 bytes.now at 0 }
+    ensures { scan_of result ≡ number_on 5 bytes.now at 0 }
 {
     let mut x = 0;
     let mut place = at;
@@ -67,7 +67,7 @@ fn digits(bytes: &[u8], at: usize) -> Scanned
 
 // A number in good form: one to five digits, no leading zero but for 0 itself.
 pub(crate) fn number(bytes: &[u8], at: usize) -> Scanned
-    ensures { scanOf result ≡ number_at bytes.now at }
+    ensures { scan_of result ≡ number_at bytes.now at }
 {
     let first = byte_at(bytes, at);
     if first == 48 {
@@ -81,7 +81,7 @@ pub(crate) fn number(bytes: &[u8], at: usize) -> Scanned
 
 // The bytes of w, a number, and the bytes of end.
 pub(crate) fn field(bytes: &[u8], at: usize, w: &[u8], end: &[u8]) -> Scanned
-    ensures { scanOf result ≡ field_at w.now end.now bytes.now at }
+    ensures { scan_of result ≡ field_at w.now end.now bytes.now at }
 {
     match word(bytes, at, w) {
         Scanned::Fault(answer) => Scanned::Fault(answer),

@@ -1,6 +1,6 @@
 -- Numbers laid in rows of n, m rows in all: the one at place x of row y is y * n + x.
 --   row_below            == it is below n * m
---   row_number, row-place == row and place are read off it
+--   row_number, row_place == row and place are read off it
 --   InRow n m c, in_row  == every number below n * m stands at a place of a row
 use mathlib.Core.Path.{◌≡◌, ◌∙◌}
 use Prim.Native.Nat.{ℕ, zero, suc, ◌+◌, ◌*◌, ◌/◌, ◌%◌, ◌≤◌, ◌<◌}
@@ -19,8 +19,8 @@ row_number n x y h =
     let z = div-eq_of_lt h in
     omega arith
 
-pub row-place : (n x y : ℕ) → x < n → (y * n + x) % n ≡ x
-row-place n x y h = mul-add-mod_self_right y n x ∙ mod-eq_of_lt h
+pub row_place : (n x y : ℕ) → x < n → (y * n + x) % n ≡ x
+row_place n x y h = mul-add-mod_self_right y n x ∙ mod-eq_of_lt h
 
 pub record InRow (n m c : ℕ) : Type 0 where
   pub place : c % n < n

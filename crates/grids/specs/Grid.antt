@@ -4,8 +4,8 @@
 --   sized g        == its numbers are inside the limits
 --   cells g        == how many cells it has; cell g x y is the place in the plan of the one in wale x of course y
 --   along g        == how many edges a course has
---   rightEdge, upEdge, leftEdge, downEdge g x y == the edge on that side of the cell in wale x of course y, or none
---   edges g        == how many edges there are; dartsOf g is how many darts
+--   right_edge, up_edge, left_edge, down_edge g x y == the edge on that side of the cell in wale x of course y, or none
+--   edges g        == how many edges there are; darts_of g is how many darts
 --   Beside g a b   == cell b is the right or the upper neighbour of cell a
 use Rattle.std.specs.Prelude.{Bool, false, ◌&&◌, ◌||◌, not, List, [], ◌∷◌, ℕ, ◌+◌, ◌-◌, ◌*◌, ◌<◌, T, eqb, leb, ltb}
 use Rattle.darts.specs.Choose.{if◌then◌else◌}
@@ -35,27 +35,27 @@ unfoldable pub along : Grid → ℕ
 along g = if g.closes then g.wales else g.wales - 1
 
 -- "an edge joins each cell to its neighbour in wale": "edges along the courses first, course by course", each from the left
-unfoldable pub rightEdge : Grid → ℕ → ℕ → List ℕ
-rightEdge g x y = if g.closes || ltb (x + 1) g.wales then (y * along g + x) ∷ [] else []
+unfoldable pub right_edge : Grid → ℕ → ℕ → List ℕ
+right_edge g x y = if g.closes || ltb (x + 1) g.wales then (y * along g + x) ∷ [] else []
 
 -- "and in course": "then the upright ones by their lower cells in the plan's order"
-unfoldable pub upEdge : Grid → ℕ → ℕ → List ℕ
-upEdge g x y = if ltb (y + 1) g.courses then (along g * g.courses + cell g x y) ∷ [] else []
+unfoldable pub up_edge : Grid → ℕ → ℕ → List ℕ
+up_edge g x y = if ltb (y + 1) g.courses then (along g * g.courses + cell g x y) ∷ [] else []
 
 -- the edge on the left is the one on the right of the left neighbour
-unfoldable pub leftEdge : Grid → ℕ → ℕ → List ℕ
-leftEdge g x y =
-    if leb 1 x then rightEdge g (x - 1) y else if g.closes then rightEdge g (g.wales - 1) y else []
+unfoldable pub left_edge : Grid → ℕ → ℕ → List ℕ
+left_edge g x y =
+    if leb 1 x then right_edge g (x - 1) y else if g.closes then right_edge g (g.wales - 1) y else []
 
 -- the edge below is the one above the lower neighbour
-unfoldable pub downEdge : Grid → ℕ → ℕ → List ℕ
-downEdge g x y = if leb 1 y then upEdge g x (y - 1) else []
+unfoldable pub down_edge : Grid → ℕ → ℕ → List ℕ
+down_edge g x y = if leb 1 y then up_edge g x (y - 1) else []
 
 unfoldable pub edges : Grid → ℕ
 edges g = along g * g.courses + g.wales * (g.courses - 1)
 
-abbrev pub dartsOf : Grid → ℕ
-dartsOf g = 2 * edges g
+abbrev pub darts_of : Grid → ℕ
+darts_of g = 2 * edges g
 
 -- "its neighbour in wale and in course"
 pub data Beside (g : Grid) : ℕ → ℕ → Type 0 where

@@ -6,18 +6,18 @@
 use Rattle.std.specs.Prelude.{Bool, true, ◌&&◌, List, [], ◌∷◌, ◌≡◌, refl, ℕ, ◌+◌, ◌*◌, ◌/◌, replicate}
 use Rattle.slices.specs.Over.{over}
 use Rattle.permutations.specs.Partner.{partner}
-use Rattle.permutations.specs.Cycle.{meetsIn}
-use Rattle.darts.specs.Map.{successor, faceNext, sameVertex, gone, survives, beforeIn, before}
-use Rattle.darts.specs.Operation.{turned, lead, wholeEdge, contract, operate, number}
-use Rattle.darts.specs.Kernel.{shared, judge, rising, passFrom, pass}
+use Rattle.permutations.specs.Cycle.{meets_in}
+use Rattle.darts.specs.Map.{successor, face_next, same_vertex, gone, survives, before_in, before}
+use Rattle.darts.specs.Operation.{turned, lead, whole_edge, contract, operate, number}
+use Rattle.darts.specs.Kernel.{shared, judge, rising, pass_from, pass}
 use Rattle.darts.specs.State.{State, zeros, raised, levelled}
-use Rattle.darts.specs.Counts.{neverBelow, lowest, cycles, countsOf}
-use Rattle.darts.specs.Pyramid.{same_numbers, sameState}
+use Rattle.darts.specs.Counts.{never_below, lowest, cycles, counts_of}
+use Rattle.darts.specs.Pyramid.{same_numbers, same_state}
 use Rattle.darts.specs.Calls.{After, room, cleared}
 use Rattle.darts.specs.Worked.{answers}
-use Rattle.grids.specs.Grid.{flat, sized, cells, cell, along, rightEdge, upEdge, leftEdge, downEdge, edges}
-use Rattle.grids.specs.Base.{roundOf, rounds, has, nextOr, nextIn, place_of, cell_of, successorOn, baseTable}
-use Rattle.grids.specs.Plans.{code_at, oneCode, takesFirst, firstKernel, fittingPlan, begun, onPlan, planBase, planAreas}
+use Rattle.grids.specs.Grid.{flat, sized, cells, cell, along, right_edge, up_edge, left_edge, down_edge, edges}
+use Rattle.grids.specs.Base.{round_of, rounds, has, next_or, next_in, place_of, cell_of, successor_on, base_table}
+use Rattle.grids.specs.Plans.{code_at, one_code, takes_first, first_kernel, fitting_plan, begun, on_plan, plan_base, plan_areas}
 
 pub data Row : Type 0 where
   -- W wales, C courses, the plan, and how many darts the slices are lent for; then the number, the state, the numbers that are written over the
@@ -39,18 +39,18 @@ sevens D = replicate (4 * D + 1) 7
 abbrev leaves : ℕ → ℕ → State → List ℕ → List ℕ → ℕ → After → Bool
 leaves D n s u g z a =
     answers n 0 a.answer
-    && (sameState a.state s
+    && (same_state a.state s
     && (same_numbers a.table (over u (nines D))
     && (same_numbers a.history (over g (eights D)) && same_numbers a.work (over (replicate z 0) (sevens D)))))
 
 abbrev pub right : Row → Bool
-right (base W C plan D n s u g z) = leaves D n s u g z (planBase (flat W C) plan (nines D) (eights D) (sevens D))
-right (areas W C plan D n s u g z) = leaves D n s u g z (planAreas (flat W C) plan (nines D) (eights D) (sevens D))
-right (size W C D n) = answers n 0 (planBase (flat W C) (replicate (W * C) 97) (nines D) (eights D) (sevens D)).answer
+right (base W C plan D n s u g z) = leaves D n s u g z (plan_base (flat W C) plan (nines D) (eights D) (sevens D))
+right (areas W C plan D n s u g z) = leaves D n s u g z (plan_areas (flat W C) plan (nines D) (eights D) (sevens D))
+right (size W C D n) = answers n 0 (plan_base (flat W C) (replicate (W * C) 97) (nines D) (eights D) (sevens D)).answer
 
-abbrev pub allRight : List Row → Bool
-allRight [] = true
-allRight (r ∷ rs) = right r && allRight rs
+abbrev pub all_right : List Row → Bool
+all_right [] = true
+all_right (r ∷ rs) = right r && all_right rs
 
 abbrev pub nothing : State
 nothing = zeros
@@ -66,11 +66,11 @@ none D v f = record { darts = D; operations = 0; levels = 0; ends = replicate 64
 -- 3 by 2 with two codes, drawn with the highest course first, as in docs/CALLS.md, and its base
 --     a b b
 --     a a b
-abbrev pub twoCodes : List ℕ
-twoCodes = 97 ∷ 97 ∷ 98 ∷ 97 ∷ 98 ∷ 98 ∷ []
+abbrev pub two_codes : List ℕ
+two_codes = 97 ∷ 97 ∷ 98 ∷ 97 ∷ 98 ∷ 98 ∷ []
 
-abbrev threeByTwo : List ℕ
-threeByTwo = 8 ∷ 2 ∷ 10 ∷ 12 ∷ 9 ∷ 11 ∷ 5 ∷ 13 ∷ 0 ∷ 4 ∷ 1 ∷ 6 ∷ 3 ∷ 7 ∷ []
+abbrev three_by_two : List ℕ
+three_by_two = 8 ∷ 2 ∷ 10 ∷ 12 ∷ 9 ∷ 11 ∷ 5 ∷ 13 ∷ 0 ∷ 4 ∷ 1 ∷ 6 ∷ 3 ∷ 7 ∷ []
 
 -- the brief of samples/brief.plan, and its base
 --     W W W W W
@@ -81,15 +81,15 @@ abbrev pub brief : List ℕ
 brief =
     76 ∷ 76 ∷ 66 ∷ 82 ∷ 82 ∷ 76 ∷ 66 ∷ 66 ∷ 66 ∷ 82 ∷ 66 ∷ 66 ∷ 66 ∷ 66 ∷ 66 ∷ 87 ∷ 87 ∷ 87 ∷ 87 ∷ 87 ∷ []
 
-abbrev briefBase : List ℕ
-briefBase =
+abbrev brief_base : List ℕ
+brief_base =
     32 ∷ 2 ∷ 34 ∷ 4 ∷ 36 ∷ 6 ∷ 38 ∷ 40 ∷ 42 ∷ 35 ∷ 44 ∷ 37 ∷ 46 ∷ 39 ∷ 48 ∷ 41 ∷ 52 ∷ 45 ∷ 54 ∷ 47 ∷ 56 ∷ 49 ∷ 58 ∷ 51 ∷ 53 ∷ 55 ∷ 25 ∷ 57
     ∷ 27 ∷ 59 ∷ 29 ∷ 61 ∷ 0 ∷ 8 ∷ 1 ∷ 10 ∷ 3 ∷ 12 ∷ 5 ∷ 14 ∷ 7 ∷ 50 ∷ 33 ∷ 16 ∷ 9 ∷ 18 ∷ 11 ∷ 20 ∷ 13 ∷ 22 ∷ 15 ∷ 60 ∷ 43 ∷ 24 ∷ 17 ∷ 26
     ∷ 19 ∷ 28 ∷ 21 ∷ 30 ∷ 23 ∷ 31 ∷ []
 
 -- its table after the first kernel, which takes edges 0 3 5 6 8 9 10 11 12 13 14 15 16 18 20 22
-abbrev briefAreas : List ℕ
-briefAreas =
+abbrev brief_areas : List ℕ
+brief_areas =
     32 ∷ 2 ∷ 34 ∷ 4 ∷ 39 ∷ 50 ∷ 38 ∷ 40 ∷ 42 ∷ 35 ∷ 44 ∷ 37 ∷ 46 ∷ 39 ∷ 48 ∷ 38 ∷ 52 ∷ 45 ∷ 54 ∷ 47 ∷ 56 ∷ 49 ∷ 58 ∷ 51 ∷ 53 ∷ 55 ∷ 53 ∷ 57
     ∷ 53 ∷ 59 ∷ 53 ∷ 61 ∷ 2 ∷ 8 ∷ 8 ∷ 3 ∷ 3 ∷ 39 ∷ 5 ∷ 14 ∷ 38 ∷ 50 ∷ 2 ∷ 9 ∷ 9 ∷ 47 ∷ 47 ∷ 49 ∷ 46 ∷ 51 ∷ 15 ∷ 60 ∷ 43 ∷ 55 ∷ 52 ∷ 57
     ∷ 54 ∷ 59 ∷ 56 ∷ 61 ∷ 58 ∷ 53 ∷ []
@@ -103,7 +103,7 @@ table =
     base 2 1 (97 ∷ 98 ∷ []) 2 0 (none 2 2 1) (0 ∷ 1 ∷ []) [] 8
     -- three cells upright: the middle one has the dart that goes up, then the one that goes down
     ∷ base 1 3 (97 ∷ 98 ∷ 99 ∷ []) 4 0 (none 4 3 1) (0 ∷ 2 ∷ 1 ∷ 3 ∷ []) [] 16
-    ∷ base 3 2 twoCodes 14 0 (none 14 6 3) threeByTwo [] 56
+    ∷ base 3 2 two_codes 14 0 (none 14 6 3) three_by_two [] 56
     -- three courses: the upright edges of the lowest come first
     ∷ base 2 3 (codes 6) 14 0 (none 14 6 3) (6 ∷ 8 ∷ 10 ∷ 9 ∷ 11 ∷ 13 ∷ 0 ∷ 2 ∷ 1 ∷ 12 ∷ 7 ∷ 4 ∷ 3 ∷ 5 ∷ []) [] 56
     -- a longer plan is not looked at past its cells
@@ -129,7 +129,7 @@ table =
     -- 5: no edge of one code, or the one edge is a whole piece
     ∷ areas 2 1 (97 ∷ 98 ∷ []) 2 5 nothing [] [] 8
     ∷ areas 2 1 (codes 2) 2 5 nothing [] [] 8
-    ∷ areas 3 2 twoCodes 14 0 (one 14 4 2 3) (8 ∷ 2 ∷ 10 ∷ 5 ∷ 2 ∷ 11 ∷ 5 ∷ 13 ∷ 2 ∷ 4 ∷ 4 ∷ 3 ∷ 3 ∷ 5 ∷ []) (1 ∷ 13 ∷ 17 ∷ 25 ∷ []) 56
+    ∷ areas 3 2 two_codes 14 0 (one 14 4 2 3) (8 ∷ 2 ∷ 10 ∷ 5 ∷ 2 ∷ 11 ∷ 5 ∷ 13 ∷ 2 ∷ 4 ∷ 4 ∷ 3 ∷ 3 ∷ 5 ∷ []) (1 ∷ 13 ∷ 17 ∷ 25 ∷ []) 56
     -- codes that differ in one bit, the highest and the lowest, are two codes
     ∷ areas 3 1 (65 ∷ 193 ∷ 65 ∷ []) 4 5 nothing [] [] 16
     ∷ areas 3 1 (64 ∷ 65 ∷ 64 ∷ []) 4 5 nothing [] [] 16
@@ -137,12 +137,12 @@ table =
     ∷ areas 3 1 (64 ∷ 65 ∷ 65 ∷ []) 4 0 (one 4 1 2 1) (0 ∷ 1 ∷ 1 ∷ 3 ∷ []) (5 ∷ []) 16
     -- one code, 2 by 2: the last edge has one vertex at both ends
     ∷ areas 2 2 (codes 4) 8 0 (one 8 3 1 2) (4 ∷ 6 ∷ 5 ∷ 7 ∷ 6 ∷ 7 ∷ 7 ∷ 6 ∷ []) (1 ∷ 5 ∷ 9 ∷ []) 32
-    ∷ base 5 4 brief 62 0 (none 62 20 13) briefBase [] 248
-    ∷ areas 5 4 brief 62 0 (one 62 16 4 13) briefAreas (1 ∷ 13 ∷ 21 ∷ 25 ∷ 33 ∷ 37 ∷ 41 ∷ 45 ∷ 49 ∷ 53 ∷ 57 ∷ 61 ∷ 65 ∷ 73 ∷ 81 ∷ 89 ∷ []) 248
+    ∷ base 5 4 brief 62 0 (none 62 20 13) brief_base [] 248
+    ∷ areas 5 4 brief 62 0 (one 62 16 4 13) brief_areas (1 ∷ 13 ∷ 21 ∷ 25 ∷ 33 ∷ 37 ∷ 41 ∷ 45 ∷ 49 ∷ 53 ∷ 57 ∷ 61 ∷ 65 ∷ 73 ∷ 81 ∷ 89 ∷ []) 248
     -- one code, 1 by 3: the last edge is a whole piece and stays
     ∷ areas 1 3 (codes 3) 4 0 (one 4 1 2 1) (0 ∷ 2 ∷ 2 ∷ 3 ∷ []) (3 ∷ []) 16
     ∷ []
 
-pub worked : allRight table ≡ true
-unfolding partner meetsIn successor sameVertex gone survives beforeIn before turned lead wholeEdge contract operate number shared judge rising passFrom pass raised levelled same_numbers sameState room cleared over sized cells cell along rightEdge upEdge leftEdge downEdge edges roundOf rounds has nextOr nextIn place_of cell_of successorOn baseTable code_at oneCode takesFirst firstKernel fittingPlan begun onPlan planBase planAreas faceNext neverBelow lowest cycles countsOf
+pub worked : all_right table ≡ true
+unfolding partner meets_in successor same_vertex gone survives before_in before turned lead whole_edge contract operate number shared judge rising pass_from pass raised levelled same_numbers same_state room cleared over sized cells cell along right_edge up_edge left_edge down_edge edges round_of rounds has next_or next_in place_of cell_of successor_on base_table code_at one_code takes_first first_kernel fitting_plan begun on_plan plan_base plan_areas face_next never_below lowest cycles counts_of
 worked = refl

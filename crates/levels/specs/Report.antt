@@ -1,12 +1,12 @@
 -- What program `levels` reports of a file (document 01, "The file").
 --   unfolded, counted  == unfold and counts, on what the call before them left
---   levelAt k b t h w  == what is left of what was lent, once the file b is read and unfolded to level k
---   countsAt k b t h w == what the counts of that level leave
+--   level_at k b t h w  == what is left of what was lent, once the file b is read and unfolded to level k
+--   counts_at k b t h w == what the counts of that level leave
 --   Tables t h w       == the program's tables
 --   meant b            == what the file b means to the program
---   answerTo r         == the reader's answer to what a file means
+--   answer_to r         == the reader's answer to what a file means
 --   top_of r            == the top level of what a file means
---   countsOfLevel k r  == the counts of its level k
+--   counts_of_level k r  == the counts of its level k
 --   Refused b a        == the file b is refused with the answer a
 --   Accepted b n       == the file b is accepted, and its top level is n
 --   LineOf k b c       == level k of the file b gets a line, with the counts c
@@ -14,24 +14,24 @@
 use Rattle.std.specs.Prelude.{List, ◌≢◌, ◌≡◌, ℕ, ◌+◌, ◌≤◌, length}
 use Rattle.darts.specs.Answers.{Answer, done}
 use Rattle.darts.specs.State.{Result, gives, refuses}
-use Rattle.darts.specs.Levels.{unfoldTo}
-use Rattle.darts.specs.Counts.{Counts, countsOf, noCounts}
-use Rattle.darts.specs.Read.{Read, means, faulty, readFile}
-use Rattle.darts.specs.Calls.{After, Counted, room, unfoldBy, counts, read}
+use Rattle.darts.specs.Levels.{unfold_to}
+use Rattle.darts.specs.Counts.{Counts, counts_of, no_counts}
+use Rattle.darts.specs.Read.{Read, means, faulty, read_file}
+use Rattle.darts.specs.Calls.{After, Counted, room, unfold_by, counts, read}
 
 -- a call on what the one before it left
 abbrev pub unfolded : ℕ → After → After
-unfolded k a = unfoldBy k a.state a.table a.history a.work
+unfolded k a = unfold_by k a.state a.table a.history a.work
 
 abbrev pub counted : After → Counted
 counted a = counts a.state a.table a.history a.work
 
 -- read, then unfold to level k, then counts
-unfoldable pub levelAt : ℕ → List ℕ → List ℕ → List ℕ → List ℕ → After
-levelAt k b t h w = unfolded k (read b t h w)
+unfoldable pub level_at : ℕ → List ℕ → List ℕ → List ℕ → List ℕ → After
+level_at k b t h w = unfolded k (read b t h w)
 
-unfoldable pub countsAt : ℕ → List ℕ → List ℕ → List ℕ → List ℕ → Counted
-countsAt k b t h w = counted (levelAt k b t h w)
+unfoldable pub counts_at : ℕ → List ℕ → List ℕ → List ℕ → List ℕ → Counted
+counts_at k b t h w = counted (level_at k b t h w)
 
 -- "with tables for 4,096 darts": "the table with at least D numbers, the history with D/2 and the work area with 4D"
 pub record Tables (t h w : List ℕ) : Type 0 where
@@ -41,41 +41,41 @@ pub record Tables (t h w : List ℕ) : Type 0 where
 
 -- "Program `levels` reads a file on standard input with tables for 4,096 darts."
 unfoldable pub meant : List ℕ → Read
-meant b = readFile (room 4096 2048 16384) b
+meant b = read_file (room 4096 2048 16384) b
 
-unfoldable pub answerTo : Read → Answer
-answerTo (means s t past) = done
-answerTo (faulty D a) = a
+unfoldable pub answer_to : Read → Answer
+answer_to (means s t past) = done
+answer_to (faulty D a) = a
 
 unfoldable pub top_of : Read → ℕ
 top_of (means s t past) = s.levels
 top_of (faulty D a) = 0
 
 -- the counts of what a step gives
-unfoldable pub countsGiven : Result → Counts
-countsGiven (gives s t past) = countsOf s.darts t past
-countsGiven (refuses a) = noCounts
+unfoldable pub counts_given : Result → Counts
+counts_given (gives s t past) = counts_of s.darts t past
+counts_given (refuses a) = no_counts
 
-unfoldable pub countsOfLevel : ℕ → Read → Counts
-countsOfLevel k (means s t past) = countsGiven (unfoldTo k s t past)
-countsOfLevel k (faulty D a) = noCounts
+unfoldable pub counts_of_level : ℕ → Read → Counts
+counts_of_level k (means s t past) = counts_given (unfold_to k s t past)
+counts_of_level k (faulty D a) = no_counts
 
 -- "A refused file gets one line, `refusal=N place=P`, and no other."
 pub record Refused (b : List ℕ) (a : Answer) : Type 0 where
   pub refused : a.number ≢ 0
-  pub answer : a ≡ answerTo (meant b)
+  pub answer : a ≡ answer_to (meant b)
 
 pub record Accepted (b : List ℕ) (n : ℕ) : Type 0 where
-  pub accepted : (answerTo (meant b)).number ≡ 0
+  pub accepted : (answer_to (meant b)).number ≡ 0
   pub top : n ≡ top_of (meant b)
 
 -- "Each level, base first, gets a line: level number, surviving darts, vertices, faces, Euler number"
 pub record LineOf (k : ℕ) (b : List ℕ) (c : Counts) : Type 0 where
-  pub accepted : (answerTo (meant b)).number ≡ 0
+  pub accepted : (answer_to (meant b)).number ≡ 0
   pub level : k ≤ top_of (meant b)
-  pub counts : c ≡ countsOfLevel k (meant b)
+  pub counts : c ≡ counts_of_level k (meant b)
 
 -- "then `end=ok`"
 pub record AllLines (n : ℕ) (b : List ℕ) : Type 0 where
-  pub accepted : (answerTo (meant b)).number ≡ 0
+  pub accepted : (answer_to (meant b)).number ≡ 0
   pub lines : n ≡ top_of (meant b) + 1

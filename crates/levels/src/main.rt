@@ -3,8 +3,8 @@
 ghost use Rattle.std.specs.Prelude.{◌≡◌, ◌+◌};
 ghost use Rattle.page.specs.Waits.{Waits};
 ghost use Rattle.darts.specs.Cases.{answer_of};
-ghost use Rattle.pyramid.specs.Values.{left, tally_of, countsLeft};
-ghost use Rattle.levels.specs.Report.{levelAt, countsAt, Tables, Refused, Accepted, LineOf, AllLines};
+ghost use Rattle.pyramid.specs.Values.{left, tally_of, counts_left};
+ghost use Rattle.levels.specs.Report.{level_at, counts_at, Tables, Refused, Accepted, LineOf, AllLines};
 
 use libc::STDIN_FILENO;
 use pyramid::{Answer, Counted, Counts, Outcome};
@@ -28,7 +28,7 @@ fn unfolded(
     work: &mut [u32],
 ) -> Outcome
     ensures { left result table.new history.new work.new
-        ≡ levelAt k file.now table.old history.old work.old }
+        ≡ level_at k file.now table.old history.old work.old }
 {
     let read = reader::read(file, table, history, work);
     let top = read.state;
@@ -43,8 +43,8 @@ fn counts_at(
     history: &mut [u32],
     work: &mut [u32],
 ) -> Counted
-    ensures { countsLeft result table.new history.new work.new
-        ≡ countsAt k file.now table.old history.old work.old }
+    ensures { counts_left result table.new history.new work.new
+        ≡ counts_at k file.now table.old history.old work.old }
 {
     let outcome = unfolded(file, k, table, history, work);
     let state = outcome.state;

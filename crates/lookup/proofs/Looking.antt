@@ -1,13 +1,13 @@
 -- The ways that the lookup ends.
---   inside-high, inside-none, inside-gone, inside-done == 12, 7, 8 or done, over table and ends that come from a pyramid
---   inside-there == where it is done, the dart is one, and not gone
+--   inside_high, inside_none, inside_gone, inside_done == 12, 7, 8 or done, over table and ends that come from a pyramid
+--   inside_there == where it is done, the dart is one, and not gone
 --   arrives      == the walk from there can be made
---   refused-so, found-so == an answer without a walk, and with one
---   room-count   == what has room in a work area is a number of darts
---   no-pyramid, a-pyramid == 4, or what is said over table and ends that come from a pyramid
+--   refused_so, found_so == an answer without a walk, and with one
+--   room_count   == what has room in a work area is a number of darts
+--   no_pyramid_lem, a_pyramid == 4, or what is said over table and ends that come from a pyramid
 --   CallFits D t h w, call_fits == neither 1 nor 2: what the call asks of the lent slices
---   first-refused == the call gives 1 or 2
---   looked-up    == or any other answer
+--   first_refused == the call gives 1 or 2
+--   looked_up    == or any other answer
 --   both         == what is left, and so the count's bound
 use mathlib.Core.Bool.{Bool, true, false, not}
 use mathlib.Core.List.{List}
@@ -18,46 +18,46 @@ use native.Mathlib.Omega.{arith}
 use borrow.Author.Tests.{lt-ltb, le-ltb, le-leb, lt-leb, leb-false}
 use lib.Dec.{T, leb, ltb}
 use lib.ListN.{length, take}
-use Rattle.permutations.specs.Choice.{eqb_same, eqb-other}
-use Rattle.darts.specs.Answers.{Answer, done, noPyramid, noLevel, no_edge, goneAlready}
+use Rattle.permutations.specs.Choice.{eqb_same, eqb_other}
+use Rattle.darts.specs.Answers.{Answer, done, no_pyramid, no_level, no_edge, gone_already}
 use Rattle.darts.specs.Cases.{answer_of}
 use Rattle.darts.specs.Choose.{if◌then◌else◌}
-use Rattle.darts.specs.Calls.{fitting, cleared, workAfter}
-use Rattle.darts.specs.Pyramid.{dartCount}
-use Rattle.darts.proofs.Fitting.{fits, count-test, first-keeps}
+use Rattle.darts.specs.Calls.{fitting, cleared, work_after}
+use Rattle.darts.specs.Pyramid.{dart_count}
+use Rattle.darts.proofs.Fitting.{fits, count_test, first_keeps}
 use Rattle.area.specs.Area.{Room}
-use Rattle.ends.specs.Ends.{goneBy, doneBy, top}
+use Rattle.ends.specs.Ends.{gone_by, done_by, top}
 use Rattle.ends.specs.Walk.{nothing, walk, Walks}
 use Rattle.ends.specs.Comes.{comes}
-use Rattle.ends.specs.Lookup.{Looked as Leaves, judged, successorAt}
-use Rattle.ends.proofs.Arrives.{comes-walks}
-use Rattle.ends.proofs.Passed.{successor-few}
-use Rattle.lookup.specs.Values.{walked, looked, inside, answerFor, LooksUp}
+use Rattle.ends.specs.Lookup.{Looked as Leaves, judged, successor_at}
+use Rattle.ends.proofs.Arrives.{comes_walks}
+use Rattle.ends.proofs.Passed.{successor_few}
+use Rattle.lookup.specs.Values.{walked, looked, inside, answer_for, LooksUp}
 use Rattle.lookup.specs.declared.Looked.{Looked}
 
 -- ---- over table and ends that come from a pyramid
 
 module _ (D k x : ℕ) (h : List ℕ) {n : ℕ} (high : n ≡ top h) where
-  pub inside-high : n < k → noLevel n ≡ inside D k x h
+  pub inside_high : n < k → no_level n ≡ inside D k x h
   unfolding inside
-  inside-high l = sym (rw (← high, lt-ltb n k l))
+  inside_high l = sym (rw (← high, lt-ltb n k l))
 
   module _ (low : k ≤ n) where
-    pub inside-none : D ≤ x → no_edge 0 ≡ inside D k x h
+    pub inside_none : D ≤ x → no_edge 0 ≡ inside D k x h
     unfolding inside
-    inside-none l = sym (rw (← high, le-ltb n k low, le-leb D x l))
+    inside_none l = sym (rw (← high, le-ltb n k low, le-leb D x l))
 
     module _ (dart : x < D) where
-      pub inside-gone : goneBy k h x ≡ true → goneAlready 0 ≡ inside D k x h
+      pub inside_gone : gone_by k h x ≡ true → gone_already 0 ≡ inside D k x h
       unfolding inside
-      inside-gone g = sym (rw (← high, le-ltb n k low, lt-leb D x dart, g))
+      inside_gone g = sym (rw (← high, le-ltb n k low, lt-leb D x dart, g))
 
-      pub inside-done : goneBy k h x ≡ false → done ≡ inside D k x h
+      pub inside_done : gone_by k h x ≡ false → done ≡ inside D k x h
       unfolding inside
-      inside-done g = sym (rw (← high, le-ltb n k low, lt-leb D x dart, g))
+      inside_done g = sym (rw (← high, le-ltb n k low, lt-leb D x dart, g))
 
 chosen : ℕ → Bool → Bool → Bool → Answer
-chosen n a b c = if a then noLevel n else if b then no_edge 0 else if c then goneAlready 0 else done
+chosen n a b c = if a then no_level n else if b then no_edge 0 else if c then gone_already 0 else done
 
 there : (n : ℕ) (a b c : Bool) → (chosen n a b c).number ≡ 0 → (b ≡ false) × (c ≡ false)
 unfolding chosen
@@ -67,39 +67,39 @@ there n false false true e = absurd (omega arith)
 there n false false false e = (refl, refl)
 
 module _ (D k x : ℕ) (h : List ℕ) where
-  pub inside-there : (inside D k x h).number ≡ 0 → (x < D) × (goneBy k h x ≡ false)
+  pub inside_there : (inside D k x h).number ≡ 0 → (x < D) × (gone_by k h x ≡ false)
   unfolding inside chosen
-  inside-there z = let q = there (top h) (ltb (top h) k) (leb D x) (goneBy k h x) z in (leb-false D x q.0, q.1)
+  inside_there z = let q = there (top h) (ltb (top h) k) (leb D x) (gone_by k h x) z in (leb-false D x q.0, q.1)
 
 -- ---- the walk
 
-module _ (D k x : ℕ) (t h : List ℕ) (count : T (dartCount D)) (size : length t ≡ D) (half : length h ≡ D / 2) (came : T (comes D t h)) where
-  pub arrives : (x < D) × (goneBy k h x ≡ false) → Walks D k t h x
-  arrives p = comes-walks D k t h count size half came x p.0 (λ y. rw p.1 at y)
+module _ (D k x : ℕ) (t h : List ℕ) (count : T (dart_count D)) (size : length t ≡ D) (half : length h ≡ D / 2) (came : T (comes D t h)) where
+  pub arrives : (x < D) × (gone_by k h x ≡ false) → Walks D k t h x
+  arrives p = comes_walks D k t h count size half came x p.0 (λ y. rw p.1 at y)
 
 module _ (a : Answer) (D k x : ℕ) (t h : List ℕ) (l : Looked) (answer : answer_of l.answer ≡ a) where
-  pub refused-so : (answer_of l.answer).number ≢ 0 → walked l ≡ nothing → LooksUp a D k x t h l
-  refused-so n e = record { answer = answer; found = rw (eqb-other n) e }
+  pub refused_so : (answer_of l.answer).number ≢ 0 → walked l ≡ nothing → LooksUp a D k x t h l
+  refused_so n e = record { answer = answer; found = rw (eqb_other n) e }
 
-  pub found-so : (answer_of l.answer).number ≡ 0 → walked l ≡ walk D k t h x → LooksUp a D k x t h l
-  found-so z e = record { answer = answer; found = rw (eqb_same z) e }
+  pub found_so : (answer_of l.answer).number ≡ 0 → walked l ≡ walk D k t h x → LooksUp a D k x t h l
+  found_so z e = record { answer = answer; found = rw (eqb_same z) e }
 
 -- ---- where it is not known
 
-pub room-count : {D : ℕ} {w : List ℕ} → Room D w → T (dartCount D)
-room-count {D} r =
+pub room_count : {D : ℕ} {w : List ℕ} → Room D w → T (dart_count D)
+room_count {D} r =
     let e = r.even in
     let s = r.some in
-    count-test D (record { even = e; some = omega arith; small = r.small })
+    count_test D (record { even = e; some = omega arith; small = r.small })
 
 module _ (D k x : ℕ) (t h : List ℕ) (l : Looked) {r : Bool} (came : r ≡ comes D t h) where
-  pub no-pyramid : r ≡ false → answer_of l.answer ≡ noPyramid → walked l ≡ nothing → LooksUp (answerFor D k x t h) D k x t h l
-  unfolding answerFor
-  no-pyramid n e f = rw (← came, n) (refused-so noPyramid D k x t h l e (λ z. let q = ap (λ (a : Answer). a.number) e in omega arith) f)
+  pub no_pyramid_lem : r ≡ false → answer_of l.answer ≡ no_pyramid → walked l ≡ nothing → LooksUp (answer_for D k x t h) D k x t h l
+  unfolding answer_for
+  no_pyramid_lem n e f = rw (← came, n) (refused_so no_pyramid D k x t h l e (λ z. let q = ap (λ (a : Answer). a.number) e in omega arith) f)
 
-  pub a-pyramid : r ≡ true → LooksUp (inside D k x h) D k x t h l → LooksUp (answerFor D k x t h) D k x t h l
-  unfolding answerFor
-  a-pyramid y L = rw (← came, y) L
+  pub a_pyramid : r ≡ true → LooksUp (inside D k x h) D k x t h l → LooksUp (answer_for D k x t h) D k x t h l
+  unfolding answer_for
+  a_pyramid y L = rw (← came, y) L
 
 -- ---- the call
 
@@ -119,8 +119,8 @@ call_fits D t h w fine =
     }
 
 -- every answer but 1 and 2 clears the work area
-clears : (n : ℕ) (p a b c : Bool) (D : ℕ) (w : List ℕ) → workAfter (if p then noPyramid else chosen n a b c) D w ≡ cleared D w
-unfolding chosen workAfter
+clears : (n : ℕ) (p a b c : Bool) (D : ℕ) (w : List ℕ) → work_after (if p then no_pyramid else chosen n a b c) D w ≡ cleared D w
+unfolding chosen work_after
 clears n true a b c D w = refl
 clears n false true b c D w = refl
 clears n false false true c D w = refl
@@ -128,40 +128,40 @@ clears n false false false true D w = refl
 clears n false false false false D w = refl
 
 module _ (D k x : ℕ) (t h w : List ℕ) (l : Looked) where
-  judged-first : (fitting D (length t) (length h) (length w)).number ≢ 0 → judged D k x t h w ≡ fitting D (length t) (length h) (length w)
+  judged_first : (fitting D (length t) (length h) (length w)).number ≢ 0 → judged D k x t h w ≡ fitting D (length t) (length h) (length w)
   unfolding judged
-  judged-first m = rw (eqb-other m)
+  judged_first m = rw (eqb_other m)
 
   -- 1 OR 2
-  pub first-refused : answer_of l.answer ≡ fitting D (length t) (length h) (length w) → (answer_of l.answer).number ≢ 0 → walked l ≡ nothing
-      → looked l t h w ≡ successorAt D k x t h w
-  unfolding successorAt
-  first-refused e n f =
+  pub first_refused : answer_of l.answer ≡ fitting D (length t) (length h) (length w) → (answer_of l.answer).number ≢ 0 → walked l ≡ nothing
+      → looked l t h w ≡ successor_at D k x t h w
+  unfolding successor_at
+  first_refused e n f =
       let m : (fitting D (length t) (length h) (length w)).number ≢ 0 = λ z. n (ap (λ (a : Answer). a.number) e ∙ z) in
-      rw (judged-first m, eqb-other m)
-      (λ i. record { answer = e i; found = f i; table = t; ends = h; work = sym (first-keeps D (length t) (length h) (length w) m D w) i })
+      rw (judged_first m, eqb_other m)
+      (λ i. record { answer = e i; found = f i; table = t; ends = h; work = sym (first_keeps D (length t) (length h) (length w) m D w) i })
 
-  judged-then : (fitting D (length t) (length h) (length w)).number ≡ 0 → judged D k x t h w ≡ answerFor D k x (take D t) (take (D / 2) h)
-  unfolding judged answerFor inside
-  judged-then fine = rw (eqb_same fine)
+  judged_then : (fitting D (length t) (length h) (length w)).number ≡ 0 → judged D k x t h w ≡ answer_for D k x (take D t) (take (D / 2) h)
+  unfolding judged answer_for inside
+  judged_then fine = rw (eqb_same fine)
 
-  cleared-then : workAfter (answerFor D k x (take D t) (take (D / 2) h)) D w ≡ cleared D w
-  unfolding answerFor inside chosen
-  cleared-then =
+  cleared_then : work_after (answer_for D k x (take D t) (take (D / 2) h)) D w ≡ cleared D w
+  unfolding answer_for inside chosen
+  cleared_then =
       let e = take (D / 2) h in
-      clears (top e) (not (comes D (take D t) e)) (ltb (top e) k) (leb D x) (goneBy k e x) D w
+      clears (top e) (not (comes D (take D t) e)) (ltb (top e) k) (leb D x) (gone_by k e x) D w
 
   -- ANY OTHER ANSWER
-  pub looked-up : (fitting D (length t) (length h) (length w)).number ≡ 0
-      → LooksUp (answerFor D k x (take D t) (take (D / 2) h)) D k x (take D t) (take (D / 2) h) l → {v : List ℕ} → v ≡ cleared D w
-      → looked l t h v ≡ successorAt D k x t h w
-  unfolding successorAt
-  looked-up fine L {v} z =
+  pub looked_up : (fitting D (length t) (length h) (length w)).number ≡ 0
+      → LooksUp (answer_for D k x (take D t) (take (D / 2) h)) D k x (take D t) (take (D / 2) h) l → {v : List ℕ} → v ≡ cleared D w
+      → looked l t h v ≡ successor_at D k x t h w
+  unfolding successor_at
+  looked_up fine L {v} z =
       let a : Answer = answer_of l.answer in
-      let J : judged D k x t h w ≡ a = judged-then fine ∙ sym L.answer in
-      let c : v ≡ workAfter a D w = z ∙ sym (ap (λ b. workAfter b D w) L.answer ∙ cleared-then) in
+      let J : judged D k x t h w ≡ a = judged_then fine ∙ sym L.answer in
+      let c : v ≡ work_after a D w = z ∙ sym (ap (λ b. work_after b D w) L.answer ∙ cleared_then) in
       rw J (λ i. record { answer = a; found = L.found i; table = t; ends = h; work = c i })
 
-pub both : (D k x : ℕ) (t h w : List ℕ) (l : Looked) {v : List ℕ} → looked l t h v ≡ successorAt D k x t h w
-    → (looked l t h v ≡ successorAt D k x t h w) × (l.passed ≤ 2 * doneBy k (take (D / 2) h))
-both D k x t h w l e = (e, subst (λ (r : Leaves). r.found.passed ≤ 2 * doneBy k (take (D / 2) h)) (sym e) (successor-few D k x t h w))
+pub both : (D k x : ℕ) (t h w : List ℕ) (l : Looked) {v : List ℕ} → looked l t h v ≡ successor_at D k x t h w
+    → (looked l t h v ≡ successor_at D k x t h w) × (l.passed ≤ 2 * done_by k (take (D / 2) h))
+both D k x t h w l e = (e, subst (λ (r : Leaves). r.found.passed ≤ 2 * done_by k (take (D / 2) h)) (sym e) (successor_few D k x t h w))

@@ -1,12 +1,12 @@
 -- No two outcomes satisfy the statement of the lookup.
 --   SameLooked  == what is handed back is the same, and every lent slice
---   looked-one  == what the lookup leaves tells what it handed back and every lent slice
---   lookup-one  == so no two outcomes satisfy the call's statement
+--   looked_one  == what the lookup leaves tells what it handed back and every lent slice
+--   lookup_one  == so no two outcomes satisfy the call's statement
 use mathlib.Core.List.{List}
 use mathlib.Core.Path.{◌≡◌, sym, ap, ◌∙◌}
 use Prim.Native.Nat.{ℕ}
-use Rattle.pyramid.proofs.Tight.{answer-one}
-use Rattle.ends.specs.Lookup.{Looked as Leaves, successorAt}
+use Rattle.pyramid.proofs.Tight.{answer_one}
+use Rattle.ends.specs.Lookup.{Looked as Leaves, successor_at}
 use Rattle.lookup.specs.Values.{looked}
 use Rattle.lookup.specs.declared.Looked.{Looked}
 
@@ -17,10 +17,10 @@ pub record SameLooked (l m : Looked) (t u h g w v : List ℕ) : Type 0 where
   pub work : w ≡ v
 
 module _ (l m : Looked) (t u h g w v : List ℕ) where
-  pub looked-one : (a : Leaves) → looked l t h w ≡ a → looked m u g v ≡ a → SameLooked l m t u h g w v
-  looked-one a d e =
+  pub looked_one : (a : Leaves) → looked l t h w ≡ a → looked m u g v ≡ a → SameLooked l m t u h g w v
+  looked_one a d e =
       let c : looked l t h w ≡ looked m u g v = d ∙ sym e in
-      let x = answer-one l.answer m.answer (ap (λ (z : Leaves). z.answer) c) in
+      let x = answer_one l.answer m.answer (ap (λ (z : Leaves). z.answer) c) in
       record {
         back = λ i. record { answer = x i; dart = (c i).found.dart; passed = (c i).found.passed };
         table = ap (λ (z : Leaves). z.table) c;
@@ -29,6 +29,6 @@ module _ (l m : Looked) (t u h g w v : List ℕ) where
       }
 
   -- NO TWO OUTCOMES OF THE LOOKUP SATISFY ITS STATEMENT
-  pub lookup-one : (D k x : ℕ) (t₀ h₀ w₀ : List ℕ) → looked l t h w ≡ successorAt D k x t₀ h₀ w₀
-      → looked m u g v ≡ successorAt D k x t₀ h₀ w₀ → SameLooked l m t u h g w v
-  lookup-one D k x t₀ h₀ w₀ = looked-one (successorAt D k x t₀ h₀ w₀)
+  pub lookup_one : (D k x : ℕ) (t₀ h₀ w₀ : List ℕ) → looked l t h w ≡ successor_at D k x t₀ h₀ w₀
+      → looked m u g v ≡ successor_at D k x t₀ h₀ w₀ → SameLooked l m t u h g w v
+  lookup_one D k x t₀ h₀ w₀ = looked_one (successor_at D k x t₀ h₀ w₀)

@@ -2,13 +2,13 @@
 ghost use Rattle.std.specs.Prelude.{◌≡◌, ◌*◌, ◌/◌, ◌%◌, ◌≤◌, T, length};
 ghost use Rattle.darts.specs.Calls.{cleared};
 ghost use Rattle.darts.specs.Cases.{answer_of};
-ghost use Rattle.darts.specs.Pyramid.{dartCount};
+ghost use Rattle.darts.specs.Pyramid.{dart_count};
 ghost use Rattle.area.specs.Area.{Room};
 ghost use Rattle.ends.specs.Comes.{comes};
 ghost use Rattle.ends.specs.Walk.{nothing};
-ghost use Rattle.ends.specs.Ends.{doneBy};
-ghost use Rattle.ends.specs.Lookup.{endsOf, successorAt};
-ghost use Rattle.lookup.specs.Values.{walked, looked, inside, answerFor, LooksUp};
+ghost use Rattle.ends.specs.Ends.{done_by};
+ghost use Rattle.ends.specs.Lookup.{ends_of, successor_at};
+ghost use Rattle.lookup.specs.Values.{walked, looked, inside, answer_for, LooksUp};
 
 use crate::deciding::decide;
 use crate::levels::top;
@@ -48,7 +48,7 @@ fn refused(answer: Answer) -> Looked
 
 // The successor of dart x at level k, where the table of d numbers and the ends come from a pyramid.
 fn look(table: &[u32], ends: &[u32], d: usize, k: usize, x: usize) -> Looked
-    requires { T (dartCount d) × (length table.now ≡ d) × (length ends.now ≡ d / 2) × T (comes d table.now ends.now) }
+    requires { T (dart_count d) × (length table.now ≡ d) × (length ends.now ≡ d / 2) × T (comes d table.now ends.now) }
     ensures { LooksUp (inside d k x ends.now) d k x table.now ends.now result }
 {
     let answer = judge(ends, d, k, x);
@@ -67,7 +67,7 @@ fn look(table: &[u32], ends: &[u32], d: usize, k: usize, x: usize) -> Looked
 fn look_up(work: &mut [u32], table: &[u32], ends: &[u32], d: usize, k: usize, x: usize) -> Looked
     requires room { Room d work.old }
     requires table_len { (length table.now ≡ d) × (length ends.now ≡ d / 2) }
-    ensures looks_up { LooksUp (answerFor d k x table.now ends.now) d k x table.now ends.now result }
+    ensures looks_up { LooksUp (answer_for d k x table.now ends.now) d k x table.now ends.now result }
     ensures work_after { work.new ≡ cleared d work.old }
 {
     if decide(work, d, table, ends) {
@@ -89,8 +89,8 @@ pub fn successor_at(
     work: &mut [u32],
 ) -> Looked
     ensures work_after { looked result table.now ends.now work.new
-        ≡ successorAt darts level dart table.now ends.now work.old }
-    ensures passed_bound { result.passed ≤ 2 * doneBy level (endsOf darts ends.now) }
+        ≡ successor_at darts level dart table.now ends.now work.old }
+    ensures passed_bound { result.passed ≤ 2 * done_by level (ends_of darts ends.now) }
 {
     let judged = fit(darts, table.len(), ends.len(), work.len());
     if judged.number() != 0 {

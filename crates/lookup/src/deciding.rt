@@ -1,6 +1,6 @@
 // Do table and ends come from a pyramid? Decided in the work area, in almost linear time.
 ghost use Rattle.std.specs.Prelude.{◌≡◌, length};
-ghost use Rattle.area.specs.Area.{Room, tableIn};
+ghost use Rattle.area.specs.Area.{Room, table_in};
 ghost use Rattle.engine.specs.Held.{Area};
 ghost use Rattle.lookup.specs.Told.{Operated, Came};
 
@@ -11,7 +11,7 @@ use area::load::load;
 // Whether the operations that the ends tell may be done on the base in the work area: the contractions, and then the removals.
 fn operate(work: &mut [u32], d: usize, ends: &[u32]) -> bool
     requires { Area d 0 work.old }
-    ensures { Operated d (tableIn d work.old) ends.now work.old work.new result }
+    ensures { Operated d (table_in d work.old) ends.now work.old work.new result }
 {
     let contracted = take_kind(work, d, 0, 1, ends);
     let answer = contracted.answer;

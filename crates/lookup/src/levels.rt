@@ -1,7 +1,7 @@
 // The levels that the ends tell: the top, and whether they are in the form of a pyramid's.
 ghost use Rattle.std.specs.Prelude.{◌≡◌, ◌<◌, length};
-ghost use Rattle.ends.specs.Ends.{top as top_of, oneKind, shaped};
-ghost use Rattle.lookup.specs.Firsts.{Unset, Firsts, usedIn};
+ghost use Rattle.ends.specs.Ends.{top as top_of, one_kind, shaped};
+ghost use Rattle.lookup.specs.Firsts.{Unset, Firsts, used_in};
 
 use slices::at;
 
@@ -41,7 +41,7 @@ fn note(first: &mut [u32], ends: &[u32])
 // Whether an end is noted at each level from 1 to n.
 fn in_use(first: &[u32], n: usize) -> bool
     requires { n < length first.now }
-    ensures { result ≡ usedIn first.now n }
+    ensures { result ≡ used_in first.now n }
 {
     let mut level = n;
     while 0 < level {
@@ -57,7 +57,7 @@ fn in_use(first: &[u32], n: usize) -> bool
 fn one_kind(first: &[u32], ends: &[u32]) -> bool
     requires ends_in_bounds { top_of ends.now < length first.now }
     requires firsts { Firsts ends.now first.now }
-    ensures { result ≡ oneKind ends.now ends.now }
+    ensures { result ≡ one_kind ends.now ends.now }
 {
     let mut i = 0;
     while i < ends.len() {

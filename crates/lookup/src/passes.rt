@@ -2,7 +2,7 @@
 ghost use Rattle.std.specs.Prelude.{◌≡◌, ◌≤◌, ◌<◌, length, get_or};
 ghost use Rattle.darts.specs.Kernel.{run};
 ghost use Rattle.darts.specs.Operation.{kind_of};
-ghost use Rattle.area.specs.Area.{tableIn, pastIn};
+ghost use Rattle.area.specs.Area.{table_in, past_in};
 ghost use Rattle.engine.specs.Held.{Area, Ready};
 ghost use Rattle.ends.specs.Ends.{ending};
 ghost use Rattle.lookup.specs.Told.{tells, Passed};
@@ -28,7 +28,7 @@ fn ends_by(ends: &[u32], k: usize, e: usize) -> bool
 // The operations of kind k that the ends tell, after n others. One that is refused stops them.
 fn pass(work: &mut [u32], d: usize, n: usize, k: usize, ends: &[u32]) -> Ran
     requires { Ready d n k work.old }
-    ensures { Passed d (run (kind_of k) d (tableIn d work.old) (pastIn d n work.old) (ending (kind_of k) ends.now))
+    ensures { Passed d (run (kind_of k) d (table_in d work.old) (past_in d n work.old) (ending (kind_of k) ends.now))
         work.old work.new result }
 {
     let mut e = 0;
@@ -58,7 +58,7 @@ fn pass(work: &mut [u32], d: usize, n: usize, k: usize, ends: &[u32]) -> Ran
 pub(crate) fn take_kind(work: &mut [u32], d: usize, n: usize, k: usize, ends: &[u32]) -> Ran
     requires area { Area d n work.old }
     requires k_bound { k ≤ 1 }
-    ensures { Passed d (run (kind_of k) d (tableIn d work.old) (pastIn d n work.old) (ending (kind_of k) ends.now))
+    ensures { Passed d (run (kind_of k) d (table_in d work.old) (past_in d n work.old) (ending (kind_of k) ends.now))
         work.old work.new result }
 {
     label(work, d, k);

@@ -1,8 +1,8 @@
 // Document 003's walk from a dart to its successor at level k.
 ghost use Rattle.std.specs.Prelude.{◌≡◌, ◌*◌, ◌/◌, ◌%◌, ◌≤◌, ◌<◌, length};
-ghost use Rattle.ends.specs.Ends.{goneBy, doneBy};
+ghost use Rattle.ends.specs.Ends.{gone_by, done_by};
 ghost use Rattle.ends.specs.Walk.{onward as onwardOf, walk as walk_of, Walks};
-ghost use Rattle.lookup.specs.Values.{foundOf};
+ghost use Rattle.lookup.specs.Values.{found_of};
 
 use crate::Found;
 use darts::partner;
@@ -11,7 +11,7 @@ use slices::at;
 // Whether dart y is gone by level k.
 pub(crate) fn gone_by(ends: &[u32], k: usize, y: usize) -> bool
     requires { y / 2 < length ends.now }
-    ensures { result ≡ goneBy k ends.now y }
+    ensures { result ≡ gone_by k ends.now y }
 {
     let level = at(ends, y / 2) / 2;
     if level == 0 {
@@ -36,8 +36,8 @@ fn onward(table: &[u32], ends: &[u32], y: usize) -> usize
 pub(crate) fn walk(table: &[u32], ends: &[u32], d: usize, k: usize, x: usize) -> Found
     requires table_len { (length table.now ≡ d) × (length ends.now ≡ d / 2) × (d % 2 ≡ 0) × (d ≤ 65536) × (x < d) }
     requires walks { Walks d k table.now ends.now x }
-    ensures result_value { foundOf result ≡ walk_of d k table.now ends.now x }
-    ensures passed_bound { result.passed ≤ 2 * doneBy k ends.now }
+    ensures result_value { found_of result ≡ walk_of d k table.now ends.now x }
+    ensures passed_bound { result.passed ≤ 2 * done_by k ends.now }
     ensures dart_lt_d { (result.dart < d) × (result.passed ≤ d) }
 {
     let mut y = at(table, x);

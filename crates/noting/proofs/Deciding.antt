@@ -1,11 +1,11 @@
 -- Whether it is a pyramid, with notes of what its operations merge: the decision on the map in the work area, and the check of a table and a history.
---   decide-no  == what the plain decision refuses
---   decide-yes == the base replayed decides
---   decide-finds == and the numbers are those of the base
---   check-no   == what the plain check refuses
---   check-yes  == what was loaded is decided
---   check-takes, check-are == from the base's numbers to those of the present level
---   given-told == the sheets judged by notes and links, as the definition judges them
+--   decide_no  == what the plain decision refuses
+--   decide_yes == the base replayed decides
+--   decide_finds == and the numbers are those of the base
+--   check_no   == what the plain check refuses
+--   check_yes  == what was loaded is decided
+--   check_takes, check_are == from the base's numbers to those of the present level
+--   given_told == the sheets judged by notes and links, as the definition judges them
 use mathlib.Core.Bool.{Bool, true, false, false≢true}
 use mathlib.Core.List.{List, [], reverse, reverse-reverse}
 use mathlib.Core.Path.{◌≡◌, refl, sym, ap, ◌∙◌, subst}
@@ -16,51 +16,51 @@ use lib.Seq.{length-take-le}
 use Rattle.permutations.specs.Choice.{true→T}
 use Rattle.darts.specs.Calls.{table_of, past_of}
 use Rattle.slices.specs.Part.{part}
-use Rattle.darts.specs.Moves.{contractionsIn}
+use Rattle.darts.specs.Moves.{contractions_in}
 use Rattle.darts.specs.Operation.{kind_of, undone}
 use Rattle.darts.specs.Pyramid.{Pyramid}
 use Rattle.darts.specs.State.{State, counted}
 use Rattle.darts.specs.Tests.{shaped}
-use Rattle.laws.proofs.claims.Decided.{pyramid-decided}
-use Rattle.laws.proofs.moves.Contractions.{contractions-reverse}
+use Rattle.laws.proofs.claims.Decided.{pyramid_decided}
+use Rattle.laws.proofs.moves.Contractions.{contractions_reverse}
 use Rattle.forest.specs.Forest.{Falls, root}
-use Rattle.area.specs.Area.{Room, tableIn, pastIn, tried}
+use Rattle.area.specs.Area.{Room, table_in, past_in, tried}
 use Rattle.area.specs.Load.{loads}
-use Rattle.area.specs.Shape.{historyIn}
+use Rattle.area.specs.Shape.{history_in}
 use Rattle.operations.specs.Back.{backs}
 use Rattle.engine.specs.Held.{Area, Beyond, Rooted}
 use Rattle.engine.specs.Checks.{Decided, Checked}
 use Rattle.engine.specs.Counted.{CyclesAre, FindsCycles, Takes, Taken}
 use Rattle.engine.specs.declared.Found.{Found}
-use Rattle.engine.proofs.AllBack.{AllBack, backs-right}
-use Rattle.engine.proofs.Checking.{loaded-beyond, decided-beyond}
+use Rattle.engine.proofs.AllBack.{AllBack, backs_right}
+use Rattle.engine.proofs.Checking.{loaded_beyond, decided_beyond}
 use Rattle.engine.proofs.Decides.{decided}
-use Rattle.engine.proofs.Given.{fits-stand, linked-stand}
-use Rattle.engine.proofs.Loaded.{Loaded, loads-right}
-use Rattle.engine.proofs.Parts.{rest_from, past-length}
-use Rattle.engine.proofs.Present.{takes_of, taken-are}
-use Rattle.engine.proofs.Ready.{beyond-trans}
+use Rattle.engine.proofs.Given.{fits_stand, linked_stand}
+use Rattle.engine.proofs.Loaded.{Loaded, loads_right}
+use Rattle.engine.proofs.Parts.{rest_from, past_length}
+use Rattle.engine.proofs.Present.{takes_of, taken_are}
+use Rattle.engine.proofs.Ready.{beyond_trans}
 use Rattle.sheets.specs.Sheets.{Sheets, right}
-use Rattle.sheets.specs.Notes.{rightIn}
+use Rattle.sheets.specs.Notes.{right_in}
 use Rattle.yarn.specs.Calls.{base_of}
 use Rattle.yarn.specs.Given.{given}
-use Rattle.yarn.specs.Places.{isPlace, merges}
+use Rattle.yarn.specs.Places.{is_place, merges}
 use Rattle.noting.specs.Checks.{Holds, BaseReplayed, NoteDecided, NoteChecked}
-use Rattle.noting.proofs.Right.{right-told}
+use Rattle.noting.proofs.Right.{right_told}
 
 -- ---- the decision
 
-pub decide-no : {s : State} {w w' : List ℕ} → Decided s 1 w w' false → NoteDecided s w w' false
-decide-no δ = record {
+pub decide_no : {s : State} {w w' : List ℕ} → Decided s 1 w w' false → NoteDecided s w w' false
+decide_no δ = record {
   answer = δ.answer;
-  beyond = decided-beyond δ;
+  beyond = decided_beyond δ;
   falls = λ e. absurd (false≢true e);
   roots = λ e. absurd (false≢true e);
   holds = λ e. absurd (false≢true e);
 }
 
 module _ (s : State) {w : List ℕ} (A : Area s.darts s.operations w) {b : Bool} {v : List ℕ} (back : tried b v ≡ backs s.darts w s.operations s.operations)
-    (fine : b ≡ true) {a : Bool} (told : a ≡ shaped s (historyIn s.darts s.operations w)) (shape : a ≡ true) where
+    (fine : b ≡ true) {a : Bool} (told : a ≡ shaped s (history_in s.darts s.operations w)) (shape : a ≡ true) where
   abbrev D : ℕ
   D = s.darts
 
@@ -68,37 +68,37 @@ module _ (s : State) {w : List ℕ} (A : Area s.darts s.operations w) {b : Bool}
   n = s.operations
 
   abbrev past : List ℕ
-  past = pastIn D n w
+  past = past_in D n w
 
-  B : AllBack D n n (tableIn D w) past w (tried b v)
-  B = rw back (backs-right fits-stand n n w (omega arith) A)
+  B : AllBack D n n (table_in D w) past w (tried b v)
+  B = rw back (backs_right fits_stand n n w (omega arith) A)
 
-  base : tableIn D v ≡ base_of s (tableIn D w) past
+  base : table_in D v ≡ base_of s (table_in D w) past
   unfolding base_of
-  base = B.table (true→T fine) ∙ ap (λ c. undone D c (tableIn D w) past) (sym (past-length D n w (omega (arith, A.few, A.room.fits))))
+  base = B.table (true→T fine) ∙ ap (λ c. undone D c (table_in D w) past) (sym (past_length D n w (omega (arith, A.few, A.room.fits))))
 
-  history : historyIn D n v ≡ reverse past
-  history = ap (take (3 * D + n - 3 * D)) (rest_from D (3 * D) v w B.rest (omega arith)) ∙ sym (reverse-reverse (historyIn D n w))
+  history : history_in D n v ≡ reverse past
+  history = ap (take (3 * D + n - 3 * D)) (rest_from D (3 * D) v w B.rest (omega arith)) ∙ sym (reverse-reverse (history_in D n w))
 
   -- THE BASE REPLAYED DECIDES
-  pub decide-yes : {w' : List ℕ} {r : Bool} → BaseReplayed D n v w' r → NoteDecided s w w' r
-  decide-yes {w'} {r} M =
+  pub decide_yes : {w' : List ℕ} {r : Bool} → BaseReplayed D n v w' r → NoteDecided s w w' r
+  decide_yes {w'} {r} M =
       let δ : Decided s 1 w M.beside r = decided s A back fine told shape M.tried in
       record {
         answer = δ.answer;
-        beyond = beyond-trans (record { size = B.size; rest = rest_from D (4 * D) v w B.rest (omega arith) }) M.beyond;
+        beyond = beyond_trans (record { size = B.size; rest = rest_from D (4 * D) v w B.rest (omega arith) }) M.beyond;
         falls = λ e. subst Falls M.forest (δ.falls e (omega arith));
         roots = λ e. subst (Rooted D n 1 w) (ap root M.forest) (δ.roots e (omega arith));
         holds = λ e. rw (base, history) at (M.holds e);
       }
 
-  pub decide-finds : {f : Found} → FindsCycles D (tableIn D v) [] f → FindsCycles D (base_of s (tableIn D w) past) [] f
-  decide-finds F = rw base at F
+  pub decide_finds : {f : Found} → FindsCycles D (table_in D v) [] f → FindsCycles D (base_of s (table_in D w) past) [] f
+  decide_finds F = rw base at F
 
 -- ---- the check
 
-pub check-no : {s : State} {t h w w' : List ℕ} → Checked s 1 t h w w' false → NoteChecked s t h w w' false
-check-no C = record {
+pub check_no : {s : State} {t h w w' : List ℕ} → Checked s 1 t h w w' false → NoteChecked s t h w w' false
+check_no C = record {
   answer = C.answer;
   beyond = C.beyond;
   falls = λ e. absurd (false≢true e);
@@ -109,54 +109,54 @@ check-no C = record {
 module _ (s : State) (t h : List ℕ) {w : List ℕ} (room : Room s.darts w) (long : s.darts ≤ length t) (enough : s.operations ≤ length h)
     (few : s.operations ≤ s.darts / 2) {m : Bool} {v : List ℕ} (loaded : tried m v ≡ loads s.darts s.operations t h w) where
   L : Loaded s.darts s.operations t h w (tried m v)
-  L = rw loaded (loads-right linked-stand s.operations t h w room long enough few)
+  L = rw loaded (loads_right linked_stand s.operations t h w room long enough few)
 
   -- WHAT WAS LOADED IS DECIDED
-  pub check-yes : {u : List ℕ} {r : Bool} → NoteDecided s v u r → NoteChecked s t h w u r
+  pub check_yes : {u : List ℕ} {r : Bool} → NoteDecided s v u r → NoteChecked s t h w u r
   unfolding table_of past_of kind_of
-  check-yes δ = record {
+  check_yes δ = record {
     answer = rw (L.table, L.past) at δ.answer;
-    beyond = beyond-trans (loaded-beyond L) δ.beyond;
+    beyond = beyond_trans (loaded_beyond L) δ.beyond;
     falls = δ.falls;
     roots = λ e. rw (L.table, L.past) at (δ.roots e);
     holds = λ e. rw (L.table, L.past) at (δ.holds e);
   }
 
   -- what was found is of a pyramid with this past
-  module _ {u : List ℕ} (f : Found) (δ : NoteDecided s v u f.pyramid) (yes-decided : f.pyramid ≡ true)
-      (F : FindsCycles s.darts (base_of s (tableIn s.darts v) (pastIn s.darts s.operations v)) [] f) where
+  module _ {u : List ℕ} (f : Found) (δ : NoteDecided s v u f.pyramid) (yes_decided : f.pyramid ≡ true)
+      (F : FindsCycles s.darts (base_of s (table_in s.darts v) (past_in s.darts s.operations v)) [] f) where
     pyramid : Pyramid (counted s (table_of s t) (past_of s h)) (table_of s t) (past_of s h)
     unfolding table_of past_of
-    pyramid = (pyramid-decided (counted s (table_of s t) (past_of s h)) (table_of s t) (past_of s h)).0 (true→T (sym (rw (L.table, L.past) at δ.answer) ∙ yes-decided))
+    pyramid = (pyramid_decided (counted s (table_of s t) (past_of s h)) (table_of s t) (past_of s h)).0 (true→T (sym (rw (L.table, L.past) at δ.answer) ∙ yes_decided))
 
-    base-cycles : CyclesAre s.darts (base_of s (table_of s t) (past_of s h)) [] f.vertices f.faces
+    base_cycles : CyclesAre s.darts (base_of s (table_of s t) (past_of s h)) [] f.vertices f.faces
     unfolding table_of past_of
-    base-cycles = rw (L.table, L.past) at (F yes-decided)
+    base_cycles = rw (L.table, L.past) at (F yes_decided)
 
     count : length (past_of s h) ≡ s.operations
     unfolding past_of
     count = length-reverse (take s.operations h) ∙ length-take-le s.operations h enough
 
-    contractions : contractionsIn (part 0 (0 + length (past_of s h)) h) ≡ contractionsIn (past_of s h)
+    contractions : contractions_in (part 0 (0 + length (past_of s h)) h) ≡ contractions_in (past_of s h)
     unfolding past_of
     contractions =
         let e : 0 + length (past_of s h) - 0 ≡ s.operations = omega (arith, count) in
-        ap (λ (c : ℕ). contractionsIn (take c h)) e ∙ sym (contractions-reverse (take s.operations h))
+        ap (λ (c : ℕ). contractions_in (take c h)) e ∙ sym (contractions_reverse (take s.operations h))
 
     fits : 0 + length (past_of s h) ≤ length h
     fits = rw count (omega (arith, enough))
 
-    pub check-takes : Takes 0 s.operations h f.vertices f.faces
+    pub check_takes : Takes 0 s.operations h f.vertices f.faces
     unfolding base_of
-    check-takes = subst (λ (c : ℕ). Takes 0 c h f.vertices f.faces) count (takes_of pyramid 0 h contractions fits base-cycles)
+    check_takes = subst (λ (c : ℕ). Takes 0 c h f.vertices f.faces) count (takes_of pyramid 0 h contractions fits base_cycles)
 
-    pub check-are : {g : Found} → Taken 0 s.operations h f g → FindsCycles s.darts (table_of s t) (past_of s h) g
+    pub check_are : {g : Found} → Taken 0 s.operations h f g → FindsCycles s.darts (table_of s t) (past_of s h) g
     unfolding base_of
-    check-are {g} T _ = taken-are pyramid 0 h contractions fits base-cycles refl refl (subst (λ (c : ℕ). Taken 0 c h f g) (sym count) T)
+    check_are {g} T _ = taken_are pyramid 0 h contractions fits base_cycles refl refl (subst (λ (c : ℕ). Taken 0 c h f g) (sym count) T)
 
 -- ---- the sheets
 
 -- "afterwards 4 also covers sheets that no accepted start and these operations give"
-pub given-told : {D n : ℕ} {b hs w : List ℕ} → Holds D n b hs w → (S : Sheets) → rightIn D w S (D + n) 0 ≡ given D b hs S
+pub given_told : {D n : ℕ} {b hs w : List ℕ} → Holds D n b hs w → (S : Sheets) → right_in D w S (D + n) 0 ≡ given D b hs S
 unfolding given
-given-told {D} {n} {b} {hs} H S = rw H.count (right-told H.linked.some H.linked.few H.told S)
+given_told {D} {n} {b} {hs} H S = rw H.count (right_told H.linked.some H.linked.few H.told S)

@@ -1,9 +1,9 @@
 -- A kernel of contractions under way, with notes.
---   places-last       == the places after one operation more
---   merges-before, merges-last == what the operations before it merge, and what it merges
---   note-read, note-of-two == the note of a merge of two places tells that merge
+--   places_last       == the places after one operation more
+--   merges_before, merges_last == what the operations before it merge, and what it merges
+--   note_read, note_of_two == the note of a merge of two places tells that merge
 --   Noting D n es w₀ i w m == w is w₀ after the first i contractions of the kernel es, and there are m operations then: those from n on are noted
---   noting-begin, noting-on, noting-stops, noting-ends == none is done yet; one more; one is refused; none is left
+--   noting_begin, noting_on, noting_stops, noting_ends == none is done yet; one more; one is refused; none is left
 use mathlib.Core.List.{List, [], ◌∷◌, ◌++◌, reverse, reverse-append}
 use mathlib.Core.Logic.{◌≢◌, inr}
 use mathlib.Core.Path.{◌≡◌, refl, sym, ap, ap₂, ◌∙◌}
@@ -13,86 +13,86 @@ use native.Mathlib.Numerals.{add-one}
 use native.Mathlib.Omega.{arith}
 use lib.ListN.{length, get_or, drop, set, drop_of_length-le, length-append}
 use lib.Seq.{drop-cons, get_or-drop, get_or-set_same, get_or-set_other}
-use Rattle.permutations.specs.Choice.{pick, eqb-other}
+use Rattle.permutations.specs.Choice.{pick, eqb_other}
 use Rattle.darts.specs.Cases.{answer_of}
 use Rattle.darts.specs.declared.Answer.{Answer}
 use Rattle.darts.specs.declared.Answer.TheVariants.{Done}
 use Rattle.darts.specs.Operation.{contraction, kind_of, edge_of, lead, number}
 use Rattle.darts.specs.Kernel.{Run, always, pass, run}
-use Rattle.laws.proofs.bridge.Numbers.{number-kind, number-edge}
+use Rattle.laws.proofs.bridge.Numbers.{number_kind, number_edge}
 use Rattle.forest.specs.Forest.{root}
-use Rattle.area.specs.Area.{tableIn, pastIn}
+use Rattle.area.specs.Area.{table_in, past_in}
 use Rattle.operations.specs.Trees.{rooted}
-use Rattle.operations.proofs.Outside.{set-forest}
+use Rattle.operations.proofs.Outside.{set_forest}
 use Rattle.engine.specs.Held.{Ready}
 use Rattle.engine.specs.Runs.{Stays}
-use Rattle.engine.proofs.Ready.{beyond-refl}
-use Rattle.engine.proofs.Underway.{Underway, underway-on, underway-kept, underway-stops, underway-ends}
+use Rattle.engine.proofs.Ready.{beyond_refl}
+use Rattle.engine.proofs.Underway.{Underway, underway_on, underway_kept, underway_stops, underway_ends}
 use Rattle.sheets.specs.Sheets.{none, into}
-use Rattle.sheets.specs.Notes.{note_of, mergeIn, notesIn}
-use Rattle.yarn.specs.Places.{joins, zoned, placesAfter, mergeBy, mergesOf}
+use Rattle.sheets.specs.Notes.{note_of, merge_in, notes_in}
+use Rattle.yarn.specs.Places.{joins, zoned, places_after, merge_by, merges_of}
 use Rattle.noting.specs.Running.{TurnedNoted, RanNoted}
-use Rattle.noting.proofs.Late.{note-stays}
-use Rattle.noting.proofs.Stepping.{roots-below}
+use Rattle.noting.proofs.Late.{note_stays}
+use Rattle.noting.proofs.Stepping.{roots_below}
 
 -- ---- one operation more
 
-pub places-last : (R : ℕ → ℕ) (hs : List ℕ) (h : ℕ) → placesAfter R (hs ++ (h ∷ [])) ≡ zoned (kind_of h) (placesAfter R hs) (edge_of h)
-unfolding placesAfter
-places-last R [] h = refl
-places-last R (g ∷ hs) h = places-last (zoned (kind_of g) R (edge_of g)) hs h
+pub places_last : (R : ℕ → ℕ) (hs : List ℕ) (h : ℕ) → places_after R (hs ++ (h ∷ [])) ≡ zoned (kind_of h) (places_after R hs) (edge_of h)
+unfolding places_after
+places_last R [] h = refl
+places_last R (g ∷ hs) h = places_last (zoned (kind_of g) R (edge_of g)) hs h
 
-pub merges-before : (R : ℕ → ℕ) (hs : List ℕ) (h i : ℕ) → i < length hs → mergesOf R (hs ++ (h ∷ [])) i ≡ mergesOf R hs i
-unfolding mergesOf
-merges-before R [] h i l = absurd (omega arith)
-merges-before R (g ∷ hs) h zero l = refl
-merges-before R (g ∷ hs) h (suc i) l = merges-before (zoned (kind_of g) R (edge_of g)) hs h i (omega arith)
+pub merges_before : (R : ℕ → ℕ) (hs : List ℕ) (h i : ℕ) → i < length hs → merges_of R (hs ++ (h ∷ [])) i ≡ merges_of R hs i
+unfolding merges_of
+merges_before R [] h i l = absurd (omega arith)
+merges_before R (g ∷ hs) h zero l = refl
+merges_before R (g ∷ hs) h (suc i) l = merges_before (zoned (kind_of g) R (edge_of g)) hs h i (omega arith)
 
-pub merges-last : (R : ℕ → ℕ) (hs : List ℕ) (h : ℕ) → mergesOf R (hs ++ (h ∷ [])) (length hs) ≡ mergeBy (kind_of h) (placesAfter R hs) (edge_of h)
-unfolding mergesOf placesAfter
-merges-last R [] h = refl
-merges-last R (g ∷ hs) h = merges-last (zoned (kind_of g) R (edge_of g)) hs h
+pub merges_last : (R : ℕ → ℕ) (hs : List ℕ) (h : ℕ) → merges_of R (hs ++ (h ∷ [])) (length hs) ≡ merge_by (kind_of h) (places_after R hs) (edge_of h)
+unfolding merges_of places_after
+merges_last R [] h = refl
+merges_last R (g ∷ hs) h = merges_last (zoned (kind_of g) R (edge_of g)) hs h
 
 -- ---- the note is read as it was written
 
-pub note-read : (low high : ℕ) → low < high → high < 65536 → mergeIn (note_of (into low high)) ≡ into low high
-unfolding mergeIn note_of
-note-read low high l h =
+pub note_read : (low high : ℕ) → low < high → high < 65536 → merge_in (note_of (into low high)) ≡ into low high
+unfolding merge_in note_of
+note_read low high l h =
     let some : low * 65536 + high ≢ 0 = λ e. omega arith in
     let first : (low * 65536 + high) / 65536 ≡ low = omega arith in
     let second : (low * 65536 + high) % 65536 ≡ high = omega arith in
-    ap (λ b. pick b none (into ((low * 65536 + high) / 65536) ((low * 65536 + high) % 65536))) (eqb-other some) ∙ ap₂ into first second
+    ap (λ b. pick b none (into ((low * 65536 + high) / 65536) ((low * 65536 + high) % 65536))) (eqb_other some) ∙ ap₂ into first second
 
-pub note-of-two : {D : ℕ} (R : ℕ → ℕ) (e : ℕ) → D ≤ 65536 → ((x : ℕ) → R x < D) → R (2 * e) ≢ R (2 * e + 1)
-    → mergeIn (note_of (mergeBy contraction R e)) ≡ mergeBy contraction R e
-unfolding mergeBy
-note-of-two R e small below two =
+pub note_of_two : {D : ℕ} (R : ℕ → ℕ) (e : ℕ) → D ≤ 65536 → ((x : ℕ) → R x < D) → R (2 * e) ≢ R (2 * e + 1)
+    → merge_in (note_of (merge_by contraction R e)) ≡ merge_by contraction R e
+unfolding merge_by
+note_of_two R e small below two =
     let a = below (2 * e) in
     let b = below (2 * e + 1) in
-    note-read (min (R (2 * e)) (R (2 * e + 1))) (max (R (2 * e)) (R (2 * e + 1))) (omega arith) (omega arith)
+    note_read (min (R (2 * e)) (R (2 * e + 1))) (max (R (2 * e)) (R (2 * e + 1))) (omega arith) (omega arith)
 
 -- ---- the kernel under way
 
 -- where the kernel es goes, after n operations
 abbrev whole : ℕ → ℕ → List ℕ → List ℕ → Run
-whole D n es w = run contraction D (tableIn D w) (pastIn D n w) es
+whole D n es w = run contraction D (table_in D w) (past_in D n w) es
 
 pub record Noting (D n : ℕ) (es w₀ : List ℕ) (i : ℕ) (w : List ℕ) (m : ℕ) : Type 0 where
   pub under : Underway D 1 always (whole D n es w₀) w₀ i (drop i es) w m
   pub fresh : List ℕ
   pub count : n + length fresh ≡ m
-  pub told : pastIn D m w ≡ reverse fresh ++ pastIn D n w₀
-  pub roots : rooted D w ≡ placesAfter (rooted D w₀) fresh
-  pub notes : (i : ℕ) → n + i < m → notesIn D w (n + i) ≡ mergesOf (rooted D w₀) fresh i
+  pub told : past_in D m w ≡ reverse fresh ++ past_in D n w₀
+  pub roots : rooted D w ≡ places_after (rooted D w₀) fresh
+  pub notes : (i : ℕ) → n + i < m → notes_in D w (n + i) ≡ merges_of (rooted D w₀) fresh i
 
-kind-one : kind_of 1 ≡ contraction
+kind_one : kind_of 1 ≡ contraction
 unfolding kind_of
-kind-one = refl
+kind_one = refl
 
-pub noting-begin : {D n : ℕ} {w : List ℕ} (es : List ℕ) → Ready D n 1 w → Noting D n es w 0 w n
-unfolding run pass placesAfter
-noting-begin {D} {n} {w} es ready = record {
-  under = record { same = rw kind-one refl; ready = ready; beyond = beyond-refl D w };
+pub noting_begin : {D n : ℕ} {w : List ℕ} (es : List ℕ) → Ready D n 1 w → Noting D n es w 0 w n
+unfolding run pass places_after
+noting_begin {D} {n} {w} es ready = record {
+  under = record { same = rw kind_one refl; ready = ready; beyond = beyond_refl D w };
   fresh = [];
   count = omega arith;
   told = refl;
@@ -105,9 +105,9 @@ module _ {D n : ℕ} (es : List ℕ) {w₀ : List ℕ} {i : ℕ} {w : List ℕ} 
   at_turn : Underway D 1 always (whole D n es w₀) w₀ i (e ∷ drop (suc i) es) w m
   at_turn = rw (read, ← drop-cons es i 0 more) N.under
 
-  pub noting-stops : (answer_of r).number ≢ 0 → n ≤ D / 2 → RanNoted D n es w₀ v (record { answer = r; operations = n })
-  noting-stops refused few = rw (τ.left refused) record {
-    went = underway-stops at_turn refl τ.turned refused few;
+  pub noting_stops : (answer_of r).number ≢ 0 → n ≤ D / 2 → RanNoted D n es w₀ v (record { answer = r; operations = n })
+  noting_stops refused few = rw (τ.left refused) record {
+    went = underway_stops at_turn refl τ.turned refused few;
     fresh = [];
     grows = λ z. absurd (refused z);
     told = λ z. absurd (refused z);
@@ -119,7 +119,7 @@ module _ {D n : ℕ} (es : List ℕ) {w₀ : List ℕ} {i : ℕ} {w : List ℕ} 
     u = τ.plain
 
     abbrev h : ℕ
-    h = number contraction (lead contraction (tableIn D w) e)
+    h = number contraction (lead contraction (table_in D w) e)
 
     abbrev R : ℕ → ℕ
     R = rooted D w
@@ -127,68 +127,68 @@ module _ {D n : ℕ} (es : List ℕ) {w₀ : List ℕ} {i : ℕ} {w : List ℕ} 
     abbrev p : ℕ
     p = 3 * D + D / 2 + m
 
-    goes-ready : Ready D (m + 1) 1 u
-    goes-ready = (τ.turned.done fine).ready
+    goes_ready : Ready D (m + 1) 1 u
+    goes_ready = (τ.turned.done fine).ready
 
-    room-left : m < D / 2
-    room-left = omega (arith, goes-ready.area.few)
+    room_left : m < D / 2
+    room_left = omega (arith, goes_ready.area.few)
 
-    S : Stays D (m + 1) 1 u (set u p (note_of (mergeBy contraction R e)))
-    S = note-stays goes-ready m (note_of (mergeBy contraction R e)) room-left
+    S : Stays D (m + 1) 1 u (set u p (note_of (merge_by contraction R e)))
+    S = note_stays goes_ready m (note_of (merge_by contraction R e)) room_left
 
     under : Underway D 1 always (whole D n es w₀) w₀ (i + 1) (drop (i + 1) es) v (m + 1)
-    under = rw (τ.noted fine, add-one i) (underway-kept S (underway-on at_turn refl τ.turned fine))
+    under = rw (τ.noted fine, add-one i) (underway_kept S (underway_on at_turn refl τ.turned fine))
 
-    past : pastIn D (m + 1) v ≡ h ∷ pastIn D m w
-    past = rw (τ.noted fine) (S.past ∙ rw kind-one at (τ.turned.done fine).past)
+    past : past_in D (m + 1) v ≡ h ∷ past_in D m w
+    past = rw (τ.noted fine) (S.past ∙ rw kind_one at (τ.turned.done fine).past)
 
     roots : rooted D v ≡ joins R e
-    roots = rw (τ.noted fine) (ap root (set-forest D u p _ goes-ready.area.room.fits (inr (omega arith))) ∙ τ.roots fine)
+    roots = rw (τ.noted fine) (ap root (set_forest D u p _ goes_ready.area.room.fits (inr (omega arith))) ∙ τ.roots fine)
 
-    note-last : notesIn D v m ≡ mergeBy contraction R e
-    unfolding notesIn
-    note-last =
+    note_last : notes_in D v m ≡ merge_by contraction R e
+    unfolding notes_in
+    note_last =
         rw (τ.noted fine)
-        (ap mergeIn (get_or-set_same u p (note_of (mergeBy contraction R e)) 0 (omega (arith, room-left, goes-ready.area.room.fits)))
-        ∙ note-of-two R e N.under.ready.area.room.small (roots-below N.under.ready.area.room N.under.ready.falls) (τ.two fine))
+        (ap merge_in (get_or-set_same u p (note_of (merge_by contraction R e)) 0 (omega (arith, room_left, goes_ready.area.room.fits)))
+        ∙ note_of_two R e N.under.ready.area.room.small (roots_below N.under.ready.area.room N.under.ready.falls) (τ.two fine))
 
-    note-before : (t : ℕ) → t < m → notesIn D v t ≡ notesIn D w t
-    unfolding notesIn
-    note-before t l =
+    note_before : (t : ℕ) → t < m → notes_in D v t ≡ notes_in D w t
+    unfolding notes_in
+    note_before t l =
         rw (τ.noted fine)
-        (ap mergeIn (get_or-set_other u p (3 * D + D / 2 + t) (note_of (mergeBy contraction R e)) 0 (λ c. omega arith)
+        (ap merge_in (get_or-set_other u p (3 * D + D / 2 + t) (note_of (merge_by contraction R e)) 0 (λ c. omega arith)
         ∙ sym (get_or-drop (3 * D + D / 2) u t 0) ∙ ap (λ l. get_or l t 0) τ.late ∙ get_or-drop (3 * D + D / 2) w t 0))
 
-    zoned-here : (Q : ℕ → ℕ) → zoned (kind_of h) Q (edge_of h) ≡ joins Q e
+    zoned_here : (Q : ℕ → ℕ) → zoned (kind_of h) Q (edge_of h) ≡ joins Q e
     unfolding zoned
-    zoned-here Q = rw (number-kind contraction (lead contraction (tableIn D w) e), number-edge contraction (tableIn D w) e) refl
+    zoned_here Q = rw (number_kind contraction (lead contraction (table_in D w) e), number_edge contraction (table_in D w) e) refl
 
-    merges-here : mergesOf (rooted D w₀) (N.fresh ++ (h ∷ [])) (length N.fresh) ≡ mergeBy contraction R e
-    merges-here =
-        merges-last (rooted D w₀) N.fresh h
-        ∙ rw (number-kind contraction (lead contraction (tableIn D w) e), number-edge contraction (tableIn D w) e, ← N.roots) refl
+    merges_here : merges_of (rooted D w₀) (N.fresh ++ (h ∷ [])) (length N.fresh) ≡ merge_by contraction R e
+    merges_here =
+        merges_last (rooted D w₀) N.fresh h
+        ∙ rw (number_kind contraction (lead contraction (table_in D w) e), number_edge contraction (table_in D w) e, ← N.roots) refl
 
-    each : (t : ℕ) → n + t < m + 1 → Dec (t ≡ length N.fresh) → notesIn D v (n + t) ≡ mergesOf (rooted D w₀) (N.fresh ++ (h ∷ [])) t
-    each t l (yes c) = let last : n + t ≡ m = omega (arith, N.count) in ap (notesIn D v) last ∙ note-last ∙ rw c (sym merges-here)
+    each : (t : ℕ) → n + t < m + 1 → Dec (t ≡ length N.fresh) → notes_in D v (n + t) ≡ merges_of (rooted D w₀) (N.fresh ++ (h ∷ [])) t
+    each t l (yes c) = let last : n + t ≡ m = omega (arith, N.count) in ap (notes_in D v) last ∙ note_last ∙ rw c (sym merges_here)
     each t l (no c) =
         let earlier : n + t < m = omega (arith, N.count) in
         let inside : t < length N.fresh = omega (arith, N.count) in
-        note-before (n + t) earlier ∙ N.notes t earlier ∙ sym (merges-before (rooted D w₀) N.fresh h t inside)
+        note_before (n + t) earlier ∙ N.notes t earlier ∙ sym (merges_before (rooted D w₀) N.fresh h t inside)
 
-    pub noting-on : Noting D n es w₀ (i + 1) v (m + 1)
-    noting-on = record {
+    pub noting_on : Noting D n es w₀ (i + 1) v (m + 1)
+    noting_on = record {
       under = under;
       fresh = N.fresh ++ (h ∷ []);
       count = let e : length (N.fresh ++ (h ∷ [])) ≡ length N.fresh + 1 = length-append N.fresh (h ∷ []) in omega (arith, e, N.count);
-      told = past ∙ ap (λ l. h ∷ l) N.told ∙ sym (ap (λ l. l ++ pastIn D n w₀) (reverse-append N.fresh (h ∷ [])));
-      roots = roots ∙ ap (λ Q. joins Q e) N.roots ∙ sym (places-last (rooted D w₀) N.fresh h ∙ zoned-here (placesAfter (rooted D w₀) N.fresh));
+      told = past ∙ ap (λ l. h ∷ l) N.told ∙ sym (ap (λ l. l ++ past_in D n w₀) (reverse-append N.fresh (h ∷ [])));
+      roots = roots ∙ ap (λ Q. joins Q e) N.roots ∙ sym (places_last (rooted D w₀) N.fresh h ∙ zoned_here (places_after (rooted D w₀) N.fresh));
       notes = λ t l. each t l (ℕ_discrete t (length N.fresh));
     }
 
-pub noting-ends : {D n : ℕ} (es : List ℕ) {w₀ : List ℕ} {i : ℕ} {w : List ℕ} {m : ℕ} → Noting D n es w₀ i w m → length es ≤ i
+pub noting_ends : {D n : ℕ} (es : List ℕ) {w₀ : List ℕ} {i : ℕ} {w : List ℕ} {m : ℕ} → Noting D n es w₀ i w m → length es ≤ i
     → RanNoted D n es w₀ w (record { answer = Done 0; operations = m })
-noting-ends es N all = record {
-  went = underway-ends (rw (drop_of_length-le es all) at N.under);
+noting_ends es N all = record {
+  went = underway_ends (rw (drop_of_length-le es all) at N.under);
   fresh = N.fresh;
   grows = λ _. omega (arith, N.count);
   told = λ _. N.told;

@@ -1,11 +1,11 @@
 -- One operation of the replay: its two vertices joined, and its note and links written.
---   roots-below    == the roots of the forest's part are darts
---   both_below, joined-room == both roots are darts, and the four parts still fit
---   contracted-yes == the ends of the edge were two vertices
---   contracted-no  == they were one
---   stepped-contraction, stepped-removal == the same by the operation's history number
---   step-answer    == what is left of the replay, after an operation that passes
---   step-refused   == an operation that does not pass
+--   roots_below    == the roots of the forest's part are darts
+--   both_below, joined_room == both roots are darts, and the four parts still fit
+--   contracted_yes == the ends of the edge were two vertices
+--   contracted_no  == they were one
+--   stepped_contraction, stepped_removal == the same by the operation's history number
+--   step_answer    == what is left of the replay, after an operation that passes
+--   step_refused   == an operation that does not pass
 use mathlib.Core.Bool.{Bool, true, false, not, ◌||◌, ◌&&◌}
 use mathlib.Core.List.{List, [], ◌∷◌}
 use mathlib.Core.Logic.{◌≢◌, ⊎_elim, by_cases}
@@ -15,20 +15,20 @@ use native.Mathlib.Decide.{ℕ_discrete, dec_lt}
 use native.Mathlib.Omega.{arith}
 use lib.Dec.{eqb}
 use lib.ListN.{length, get_or-eq_default}
-use Rattle.permutations.specs.Choice.{pick, eqb_same, eqb-other}
-use Rattle.permutations.specs.Partner.{partner, partner-cases}
+use Rattle.permutations.specs.Choice.{pick, eqb_same, eqb_other}
+use Rattle.permutations.specs.Partner.{partner, partner_cases}
 use Rattle.darts.specs.Operation.{contraction, removal, kind_of, edge_of}
 use Rattle.forest.specs.Forest.{Falls, parent, root}
-use Rattle.forest.specs.Roots.{root-up, root-down}
-use Rattle.area.specs.Area.{Room, forestIn}
+use Rattle.forest.specs.Roots.{root_up, root_down}
+use Rattle.area.specs.Area.{Room, forest_in}
 use Rattle.operations.specs.Replay.{rejoin, replayed}
 use Rattle.operations.specs.Trees.{Found, Joined, rooted, merged}
-use Rattle.operations.proofs.Lent.{joined-roots, found-kept, found-roots, kept-joined}
-use Rattle.operations.proofs.Outside.{outside_refl, outside-room, forest-length}
+use Rattle.operations.proofs.Lent.{joined_roots, found_kept, found_roots, kept_joined}
+use Rattle.operations.proofs.Outside.{outside_refl, outside_room, forest_length}
 use Rattle.sheets.specs.Sheets.{into}
-use Rattle.yarn.specs.Places.{joins, zoned, mergeBy}
+use Rattle.yarn.specs.Places.{joins, zoned, merge_by}
 use Rattle.noting.specs.Links.{recorded, Contracted, Stepped}
-use Rattle.noting.proofs.Places.{kind-contraction, kind-removal, joins-linked, and-true}
+use Rattle.noting.proofs.Places.{kind_contraction, kind_removal, joins_linked, and-true}
 
 -- ---- roots
 
@@ -36,17 +36,17 @@ root_below : {t : List ℕ} → Falls t → 0 < length t → (x : ℕ) → root 
 root_below {t} F some x = by_cases (dec_lt x (length t)) (λ l. near x l) (λ n. far x n)
   where
     near : (x : ℕ) → x < length t → root t x < length t
-    near x l = omega (arith, root-down F x)
+    near x l = omega (arith, root_down F x)
 
     far : (x : ℕ) → ¬ (x < length t) → root t x < length t
     far x n =
         let e : parent t x ≡ 0 = get_or-eq_default t 0 {n = x} (omega arith) in
-        rw (← root-up F x, e) (near 0 some)
+        rw (← root_up F x, e) (near 0 some)
 
-module _ {D : ℕ} {w : List ℕ} (room : Room D w) (F : Falls (forestIn D w)) where
-  pub roots-below : (x : ℕ) → rooted D w x < D
-  roots-below x =
-      let e = forest-length D w room.fits in
+module _ {D : ℕ} {w : List ℕ} (room : Room D w) (F : Falls (forest_in D w)) where
+  pub roots_below : (x : ℕ) → rooted D w x < D
+  roots_below x =
+      let e = forest_length D w room.fits in
       omega (arith, root_below F (omega (arith, e, room.some)) x, e)
 
 -- ---- the contraction of an edge
@@ -61,23 +61,23 @@ module _ {D : ℕ} (e : ℕ) {w w₁ w₂ w₃ : List ℕ} {a b : ℕ} {r : Bool
 
   -- the roots are joined, and so are the darts
   j : Joined D w w₃ (2 * e) (2 * e + 1) r
-  j = let known = found-roots f g in kept-joined (found-kept f g) (joined-roots g.kept.falls known.0 known.1 l)
+  j = let known = found_roots f g in kept_joined (found_kept f g) (joined_roots g.kept.falls known.0 known.1 l)
 
   roots : rooted D w₃ ≡ joins (rooted D w) e
   unfolding merged
-  roots = j.roots ∙ fun_ext (λ x. sym (joins-linked (rooted D w) e x))
+  roots = j.roots ∙ fun_ext (λ x. sym (joins_linked (rooted D w) e x))
 
-  module _ (room : Room D w) (F : Falls (forestIn D w)) where
+  module _ (room : Room D w) (F : Falls (forest_in D w)) where
     pub both_below : (a < D) × (b < D)
-    both_below = (rw first (roots-below room F (2 * e)), rw second (roots-below room F (2 * e + 1)))
+    both_below = (rw first (roots_below room F (2 * e)), rw second (roots_below room F (2 * e + 1)))
 
-    pub joined-room : Room D w₃
-    joined-room = outside-room j.outside room
+    pub joined_room : Room D w₃
+    joined_room = outside_room j.outside room
 
-  pub contracted-yes : {t : ℕ} → r ≡ true → {w₄ : List ℕ} {low high : ℕ} → low ≡ min a b → high ≡ max a b → w₄ ≡ recorded D t (into low high) w₃
+  pub contracted_yes : {t : ℕ} → r ≡ true → {w₄ : List ℕ} {low high : ℕ} → low ≡ min a b → high ≡ max a b → w₄ ≡ recorded D t (into low high) w₃
       → Contracted D t e w w₄ true
-  unfolding mergeBy
-  contracted-yes {t} two {w₄} {low} {high} lower higher is = record {
+  unfolding merge_by
+  contracted_yes {t} two {w₄} {low} {high} lower higher is = record {
     answer = sym two ∙ j.answer;
     joined = w₃;
     outside = j.outside;
@@ -86,8 +86,8 @@ module _ {D : ℕ} (e : ℕ) {w w₁ w₂ w₃ : List ℕ} {a b : ℕ} {r : Bool
     left = is ∙ ap₂ (λ x y. recorded D t (into x y) w₃) (rw (← first, ← second) lower) (rw (← first, ← second) higher);
   }
 
-  pub contracted-no : {t : ℕ} → r ≡ false → Contracted D t e w w₃ false
-  contracted-no one = record {
+  pub contracted_no : {t : ℕ} → r ≡ false → Contracted D t e w w₃ false
+  contracted_no one = record {
     answer = sym one ∙ j.answer;
     joined = w₃;
     outside = j.outside;
@@ -98,52 +98,52 @@ module _ {D : ℕ} (e : ℕ) {w w₁ w₂ w₃ : List ℕ} {a b : ℕ} {r : Bool
 
 -- ---- an operation by its number
 
-same-turned : (a b : ℕ) → eqb a b ≡ eqb b a
-same-turned a b =
+same_turned : (a b : ℕ) → eqb a b ≡ eqb b a
+same_turned a b =
     by_cases (ℕ_discrete a b)
     (λ e. eqb_same e ∙ sym (eqb_same (sym e)))
-    (λ n. eqb-other n ∙ sym (eqb-other (λ e. n (sym e))))
+    (λ n. eqb_other n ∙ sym (eqb_other (λ e. n (sym e))))
 
 -- the two ends, in one order or the other
 ends_same : (R : ℕ → ℕ) (h : ℕ) → eqb (R (h / 2)) (R (partner (h / 2))) ≡ eqb (R (2 * (h / 4))) (R (2 * (h / 4) + 1))
 ends_same R h = ⊎_elim
     (λ a. let p : h / 2 ≡ 2 * (h / 4) = omega arith in let q : partner (h / 2) ≡ 2 * (h / 4) + 1 = omega arith in rw (q, p) refl)
     (λ a. let p : h / 2 ≡ 2 * (h / 4) + 1 = omega arith in let q : partner (h / 2) ≡ 2 * (h / 4) = omega arith in
-    rw (q, p) (same-turned (R (2 * (h / 4) + 1)) (R (2 * (h / 4)))))
-    (partner-cases (h / 2))
+    rw (q, p) (same_turned (R (2 * (h / 4) + 1)) (R (2 * (h / 4)))))
+    (partner_cases (h / 2))
 
 module _ {D t h : ℕ} {w w' : List ℕ} where
-  pub stepped-contraction : {r : Bool} → h % 2 ≡ 1 → Contracted D t (h / 4) w w' r → Stepped D t h w w' r
+  pub stepped_contraction : {r : Bool} → h % 2 ≡ 1 → Contracted D t (h / 4) w w' r → Stepped D t h w w' r
   unfolding replayed edge_of zoned
-  stepped-contraction e C = record {
+  stepped_contraction e C = record {
     answer = C.answer ∙ sym (rw (eqb_same e, ends_same (rooted D w) h) (and-true (not (eqb (rooted D w (2 * (h / 4))) (rooted D w (2 * (h / 4) + 1))))));
     joined = C.joined;
     outside = C.outside;
     falls = C.falls;
-    roots = rw (kind-contraction h e) C.roots;
-    left = rw (kind-contraction h e) C.left;
+    roots = rw (kind_contraction h e) C.roots;
+    left = rw (kind_contraction h e) C.left;
   }
 
-  pub stepped-removal : h % 2 ≢ 1 → Falls (forestIn D w) → w' ≡ recorded D t (mergeBy removal (rooted D w) (h / 4)) w → Stepped D t h w w' true
+  pub stepped_removal : h % 2 ≢ 1 → Falls (forest_in D w) → w' ≡ recorded D t (merge_by removal (rooted D w) (h / 4)) w → Stepped D t h w w' true
   unfolding replayed edge_of zoned
-  stepped-removal n F is = record {
-    answer = rw (eqb-other n);
+  stepped_removal n F is = record {
+    answer = rw (eqb_other n);
     joined = w;
     outside = outside_refl D w;
     falls = F;
-    roots = rw (kind-removal h n) refl;
-    left = rw (kind-removal h n) is;
+    roots = rw (kind_removal h n) refl;
+    left = rw (kind_removal h n) is;
   }
 
 -- ---- what is left of the replay
 
 module _ (R : ℕ → ℕ) (h : ℕ) (hs : List ℕ) where
-  pub step-answer : true ≡ replayed 1 R (h ∷ []) → replayed 1 R (h ∷ hs) ≡ replayed 1 (rejoin 1 R h) hs
+  pub step_answer : true ≡ replayed 1 R (h ∷ []) → replayed 1 R (h ∷ hs) ≡ replayed 1 (rejoin 1 R h) hs
   unfolding replayed
-  step-answer e =
+  step_answer e =
       ap (λ b. b && replayed 1 (rejoin 1 R h) hs) (sym (e ∙ and-true (not (eqb (h % 2) 1) || not (eqb (R (h / 2)) (R (partner (h / 2)))))))
 
-  pub step-refused : false ≡ replayed 1 R (h ∷ []) → replayed 1 R (h ∷ hs) ≡ false
+  pub step_refused : false ≡ replayed 1 R (h ∷ []) → replayed 1 R (h ∷ hs) ≡ false
   unfolding replayed
-  step-refused e =
+  step_refused e =
       ap (λ b. b && replayed 1 (rejoin 1 R h) hs) (sym (e ∙ and-true (not (eqb (h % 2) 1) || not (eqb (R (h / 2)) (R (partner (h / 2)))))))

@@ -1,9 +1,9 @@
 -- The turn of an edge, with the note of what its contraction merges.
---   no-edge-noted == what is no edge is refused, and nothing has changed
+--   no_edge_noted == what is no edge is refused, and nothing has changed
 --   taken_refused == the edge is refused
---   taken-for     == what its contraction and its note ask of the work area, where it may be done
---   taken-done    == it is done, and noted
---   kept-noted    == the turn after a change that keeps the roots is the turn from before it
+--   taken_for     == what its contraction and its note ask of the work area, where it may be done
+--   taken_done    == it is done, and noted
+--   kept_noted    == the turn after a change that keeps the roots is the turn from before it
 use mathlib.Core.Bool.{not, false≢true}
 use mathlib.Core.List.{List}
 use mathlib.Core.Logic.{◌≢◌}
@@ -19,21 +19,21 @@ use Rattle.darts.specs.declared.Answer.TheVariants.{NoEdge}
 use Rattle.darts.specs.Kernel.{judge}
 use Rattle.darts.specs.Operation.{kind_of}
 use Rattle.forest.specs.Forest.{root}
-use Rattle.area.specs.Area.{Room, tableIn, pastIn}
+use Rattle.area.specs.Area.{Room, table_in, past_in}
 use Rattle.operations.specs.Edge.{Judged, Bounds}
 use Rattle.operations.specs.Operate.{operated}
 use Rattle.operations.specs.Trees.{Kept, rooted, merged}
-use Rattle.operations.proofs.Operation.{operated-same}
+use Rattle.operations.proofs.Operation.{operated_same}
 use Rattle.engine.specs.Held.{Ready}
 use Rattle.engine.specs.Runs.{Stays, Turned}
-use Rattle.engine.proofs.Ready.{beyond-refl, beyond-trans, ready-stays, ready-judged, ready_for, ready-did}
+use Rattle.engine.proofs.Ready.{beyond_refl, beyond_trans, ready_stays, ready_judged, ready_for, ready_did}
 use Rattle.sheets.specs.Sheets.{into}
 use Rattle.sheets.specs.Notes.{note_of}
-use Rattle.yarn.specs.Places.{mergeBy}
+use Rattle.yarn.specs.Places.{merge_by}
 use Rattle.noting.specs.Running.{TurnedNoted}
-use Rattle.noting.proofs.Late.{outside-late, operated-late}
-use Rattle.noting.proofs.Places.{joins-linked}
-use Rattle.noting.proofs.Stepping.{roots-below}
+use Rattle.noting.proofs.Late.{outside_late, operated_late}
+use Rattle.noting.proofs.Places.{joins_linked}
+use Rattle.noting.proofs.Stepping.{roots_below}
 
 -- ---- what is no edge
 
@@ -41,13 +41,13 @@ no_edge : {D m e i : ℕ} {w : List ℕ} → Ready D m 1 w → D / 2 ≤ e → T
 unfolding judge
 no_edge {D} {e = e} {w = w} ρ far = record {
   answer = record { number = sym (rw (le-leb (D / 2) e far)); place = λ _. refl; second = refl };
-  beyond = beyond-refl D w;
+  beyond = beyond_refl D w;
   done = λ z. absurd (omega arith);
-  refused = λ _. record { ready = ρ; table = refl; past = refl; beyond = beyond-refl D w };
+  refused = λ _. record { ready = ρ; table = refl; past = refl; beyond = beyond_refl D w };
 }
 
-pub no-edge-noted : {D m e i : ℕ} {w : List ℕ} → Ready D m 1 w → D / 2 ≤ e → TurnedNoted D m e i w w (NoEdge i)
-no-edge-noted {w = w} ρ far = record {
+pub no_edge_noted : {D m e i : ℕ} {w : List ℕ} → Ready D m 1 w → D / 2 ≤ e → TurnedNoted D m e i w w (NoEdge i)
+no_edge_noted {w = w} ρ far = record {
   plain = w;
   turned = no_edge ρ far;
   late = refl;
@@ -62,16 +62,16 @@ no-edge-noted {w = w} ρ far = record {
 module _ {D m e i : ℕ} {w v : List ℕ} {r : Answer} (ρ : Ready D m 1 w) (j : Judged D 1 e i w v r) where
   pub taken_refused : (answer_of r).number ≢ 0 → TurnedNoted D m e i w v r
   taken_refused n =
-      let s = ready-stays ρ (j.refused n) in
+      let s = ready_stays ρ (j.refused n) in
       record {
         plain = v;
         turned = record {
-          answer = ready-judged ρ j;
+          answer = ready_judged ρ j;
           beyond = s.beyond;
           done = λ z. absurd (n z);
           refused = λ _. s;
         };
-        late = outside-late (j.refused n).outside;
+        late = outside_late (j.refused n).outside;
         two = λ z. absurd (n z);
         roots = λ z. absurd (n z);
         noted = λ z. absurd (n z);
@@ -79,8 +79,8 @@ module _ {D m e i : ℕ} {w v : List ℕ} {r : Answer} (ρ : Ready D m 1 w) (j :
       }
 
   module _ (none : (answer_of r).number ≡ 0) where
-    fine : judge (kind_of 1) D (tableIn D w) (pastIn D m w) e ≡ 0
-    fine = sym (ready-judged ρ j).number ∙ none
+    fine : judge (kind_of 1) D (table_in D w) (past_in D m w) e ≡ 0
+    fine = sym (ready_judged ρ j).number ∙ none
 
     apart : rooted D w (2 * e) ≢ rooted D w (2 * e + 1)
     apart same = false≢true (sym ((j.done none).answer ∙ ap not (eqb_same same)))
@@ -90,29 +90,29 @@ module _ {D m e i : ℕ} {w v : List ℕ} {r : Answer} (ρ : Ready D m 1 w) (j :
 
     module _ {low high : ℕ} (lower : low ≡ min (rooted D w (2 * e)) (rooted D w (2 * e + 1)))
         (higher : high ≡ max (rooted D w (2 * e)) (rooted D w (2 * e + 1))) where
-      pub taken-for : Room D v × (Bounds D v (2 * e) (2 * e + 1) × ((m < D / 2) × (low < D) × (high < D)))
-      taken-for =
-          let a = roots-below ρ.area.room ρ.falls (2 * e) in
-          let b = roots-below ρ.area.room ρ.falls (2 * e + 1) in
+      pub taken_for : Room D v × (Bounds D v (2 * e) (2 * e + 1) × ((m < D / 2) × (low < D) × (high < D)))
+      taken_for =
+          let a = roots_below ρ.area.room ρ.falls (2 * e) in
+          let b = roots_below ρ.area.room ρ.falls (2 * e + 1) in
           (asked.0, (asked.1.1, (asked.1.0.0, omega arith, omega arith)))
 
-      pub taken-done : {x : List ℕ} → x ≡ set (operated D m v 1 e) (3 * D + D / 2 + m) (note_of (into low high)) → TurnedNoted D m e i w x r
-      unfolding merged mergeBy
-      taken-done is =
+      pub taken_done : {x : List ℕ} → x ≡ set (operated D m v 1 e) (3 * D + D / 2 + m) (note_of (into low high)) → TurnedNoted D m e i w x r
+      unfolding merged merge_by
+      taken_done is =
           let u : List ℕ = operated D m v 1 e in
-          let (goes, beyond) = ready-did ρ e fine (j.done none) refl in
-          let o = operated-same asked.0 m 1 e asked.1.1 in
+          let (goes, beyond) = ready_did ρ e fine (j.done none) refl in
+          let o = operated_same asked.0 m 1 e asked.1.1 in
           record {
             plain = u;
             turned = record {
-              answer = ready-judged ρ j;
+              answer = ready_judged ρ j;
               beyond = beyond;
               done = λ _. goes;
               refused = λ n. absurd (n none);
             };
-            late = operated-late m 1 e asked.1.0.0 asked.1.1 ∙ outside-late (j.done none).outside;
+            late = operated_late m 1 e asked.1.0.0 asked.1.1 ∙ outside_late (j.done none).outside;
             two = λ _. apart;
-            roots = λ _. ap root o.forest ∙ (j.done none).roots ∙ fun_ext (λ x. sym (joins-linked (rooted D w) e x));
+            roots = λ _. ap root o.forest ∙ (j.done none).roots ∙ fun_ext (λ x. sym (joins_linked (rooted D w) e x));
             noted = λ _. is ∙ ap₂ (λ a b. set u (3 * D + D / 2 + m) (note_of (into a b))) lower higher;
             left = λ n. absurd (n none);
           }
@@ -121,12 +121,12 @@ module _ {D m e i : ℕ} {w v : List ℕ} {r : Answer} (ρ : Ready D m 1 w) (j :
 
 module _ {D m : ℕ} {w u : List ℕ} (ρ : Ready D m 1 w) (κ : Kept D w u) where
   S : Stays D m 1 w u
-  S = ready-stays ρ κ
+  S = ready_stays ρ κ
 
-  kept-turned : {e i : ℕ} {x : List ℕ} {r : Answer} → Turned D m 1 e i u x r → Turned D m 1 e i w x r
-  kept-turned τ = record {
+  kept_turned : {e i : ℕ} {x : List ℕ} {r : Answer} → Turned D m 1 e i u x r → Turned D m 1 e i w x r
+  kept_turned τ = record {
     answer = rw (← S.table, ← S.past) τ.answer;
-    beyond = beyond-trans S.beyond τ.beyond;
+    beyond = beyond_trans S.beyond τ.beyond;
     done = λ z. let g = τ.done z in record {
       ready = g.ready;
       table = rw (← S.table, ← S.past) g.table;
@@ -136,15 +136,15 @@ module _ {D m : ℕ} {w u : List ℕ} (ρ : Ready D m 1 w) (κ : Kept D w u) whe
       ready = s.ready;
       table = s.table ∙ S.table;
       past = s.past ∙ S.past;
-      beyond = beyond-trans S.beyond s.beyond;
+      beyond = beyond_trans S.beyond s.beyond;
     };
   }
 
-  pub kept-noted : {e i : ℕ} {v : List ℕ} {r : Answer} → TurnedNoted D m e i u v r → TurnedNoted D m e i w v r
-  kept-noted τ = record {
+  pub kept_noted : {e i : ℕ} {v : List ℕ} {r : Answer} → TurnedNoted D m e i u v r → TurnedNoted D m e i w v r
+  kept_noted τ = record {
     plain = τ.plain;
-    turned = kept-turned τ.turned;
-    late = τ.late ∙ outside-late κ.outside;
+    turned = kept_turned τ.turned;
+    late = τ.late ∙ outside_late κ.outside;
     two = rw (← κ.roots) τ.two;
     roots = rw (← κ.roots) τ.roots;
     noted = rw (← κ.roots) τ.noted;

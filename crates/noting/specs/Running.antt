@@ -6,17 +6,17 @@ use Rattle.std.specs.Prelude.{List, ◌++◌, reverse, ◌≢◌, ◌≡◌, ℕ
 use Rattle.darts.specs.Cases.{answer_of}
 use Rattle.darts.specs.declared.Answer.{Answer}
 use Rattle.darts.specs.Kernel.{run}
-use Rattle.darts.specs.Map.{permutes, permutationTest}
+use Rattle.darts.specs.Map.{permutes, permutation_test}
 use Rattle.darts.specs.Operation.{contraction}
-use Rattle.area.specs.Area.{tableIn, pastIn}
-use Rattle.area.specs.Verdicts.{verdictOf}
+use Rattle.area.specs.Area.{table_in, past_in}
+use Rattle.area.specs.Verdicts.{verdict_of}
 use Rattle.area.specs.declared.Verdict.{Verdict}
 use Rattle.operations.specs.Trees.{rooted}
 use Rattle.engine.specs.Held.{Beyond}
 use Rattle.engine.specs.Runs.{Turned, Went}
 use Rattle.engine.specs.declared.Ran.{Ran}
-use Rattle.sheets.specs.Notes.{note_of, notesIn}
-use Rattle.yarn.specs.Places.{lowest, joins, mergeBy, mergesOf}
+use Rattle.sheets.specs.Notes.{note_of, notes_in}
+use Rattle.yarn.specs.Places.{lowest, joins, merge_by, merges_of}
 
 pub record TurnedNoted (D m e i : ℕ) (w v : List ℕ) (r : Answer) : Type 0 where
   -- the work area after the turn, before the note
@@ -26,19 +26,19 @@ pub record TurnedNoted (D m e i : ℕ) (w v : List ℕ) (r : Answer) : Type 0 wh
   pub late : drop (3 * D + D / 2) plain ≡ drop (3 * D + D / 2) w
   pub two : (answer_of r).number ≡ 0 → rooted D w (2 * e) ≢ rooted D w (2 * e + 1)
   pub roots : (answer_of r).number ≡ 0 → rooted D plain ≡ joins (rooted D w) e
-  pub noted : (answer_of r).number ≡ 0 → v ≡ set plain (3 * D + D / 2 + m) (note_of (mergeBy contraction (rooted D w) e))
+  pub noted : (answer_of r).number ≡ 0 → v ≡ set plain (3 * D + D / 2 + m) (note_of (merge_by contraction (rooted D w) e))
   pub left : (answer_of r).number ≢ 0 → v ≡ plain
 
 pub record RanNoted (D n : ℕ) (es w v : List ℕ) (r : Ran) : Type 0 where
-  pub went : Went D (run contraction D (tableIn D w) (pastIn D n w) es) w v r
+  pub went : Went D (run contraction D (table_in D w) (past_in D n w) es) w v r
   -- the history numbers of the kernel's operations, the first one first
   pub fresh : List ℕ
   pub grows : (answer_of r.answer).number ≡ 0 → n ≤ r.operations
-  pub told : (answer_of r.answer).number ≡ 0 → pastIn D r.operations v ≡ reverse fresh ++ pastIn D n w
-  pub notes : (answer_of r.answer).number ≡ 0 → (i : ℕ) → n + i < r.operations → notesIn D v (n + i) ≡ mergesOf (rooted D w) fresh i
+  pub told : (answer_of r.answer).number ≡ 0 → past_in D r.operations v ≡ reverse fresh ++ past_in D n w
+  pub notes : (answer_of r.answer).number ≡ 0 → (i : ℕ) → n + i < r.operations → notes_in D v (n + i) ≡ merges_of (rooted D w) fresh i
 
 pub record Placed (D : ℕ) (t w v : List ℕ) (r : Verdict) : Type 0 where
-  pub verdict : verdictOf r ≡ permutationTest D t
+  pub verdict : verdict_of r ≡ permutation_test D t
   pub beyond : Beyond D w v
   -- "one record for each vertex of the base, at the place of its lowest dart among D places"
-  pub labels : verdictOf r ≡ permutes → (x : ℕ) → x < D → get_or v (2 * D + x) 0 ≡ lowest D t x
+  pub labels : verdict_of r ≡ permutes → (x : ℕ) → x < D → get_or v (2 * D + x) 0 ≡ lowest D t x

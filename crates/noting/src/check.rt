@@ -1,8 +1,8 @@
 // Is it a pyramid? The check of a call that is lent yarn sheets: as the plain check, and what each operation merges is noted on the way.
 ghost use Rattle.std.specs.Prelude.{[], ◌/◌, ◌≤◌, length};
 ghost use Rattle.darts.specs.Calls.{table_of, past_of};
-ghost use Rattle.area.specs.Area.{Room, tableIn, pastIn};
-ghost use Rattle.area.specs.Shape.{stateWith};
+ghost use Rattle.area.specs.Area.{Room, table_in, past_in};
+ghost use Rattle.area.specs.Shape.{state_with};
 ghost use Rattle.operations.specs.Replay.{Numbered};
 ghost use Rattle.engine.specs.Counted.{FindsCycles};
 ghost use Rattle.engine.specs.Held.{Area};
@@ -25,7 +25,7 @@ fn replay_base(work: &mut [u32], d: usize, n: usize) -> Found
     requires numbered { Numbered d n work.old }
     requires n_bound { n ≤ d / 2 }
     ensures base_replayed { BaseReplayed d n work.old work.new result.pyramid }
-    ensures finds_cycles { FindsCycles d (tableIn d work.old) [] result }
+    ensures finds_cycles { FindsCycles d (table_in d work.old) [] result }
 {
     let removals = try_kind(work, d, n, 0);
     if !removals.fine {
@@ -45,9 +45,9 @@ fn replay_base(work: &mut [u32], d: usize, n: usize) -> Found
 // numbers are the base's.
 fn decide(work: &mut [u32], state: Figures) -> Found
     requires { Area state.darts state.operations work.old }
-    ensures note_decided { NoteDecided (stateWith state) work.old work.new result.pyramid }
+    ensures note_decided { NoteDecided (state_with state) work.old work.new result.pyramid }
     ensures finds_cycles { FindsCycles state.darts
-        (base_of (stateWith state) (tableIn state.darts work.old) (pastIn state.darts state.operations work.old)) [] result }
+        (base_of (state_with state) (table_in state.darts work.old) (past_in state.darts state.operations work.old)) [] result }
 {
     let d = state.darts;
     let n = state.operations;
@@ -65,8 +65,8 @@ fn decide(work: &mut [u32], state: Figures) -> Found
 pub fn note_check(work: &mut [u32], state: Figures, table: &[u32], history: &[u32]) -> Found
     requires room { Room state.darts work.old }
     requires darts_in_bounds { (state.darts ≤ length table.now) × (state.darts / 2 ≤ length history.now) }
-    ensures note_checked { NoteChecked (stateWith state) table.now history.now work.old work.new result.pyramid }
-    ensures finds_cycles { FindsCycles state.darts (table_of (stateWith state) table.now) (past_of (stateWith state) history.now) result }
+    ensures note_checked { NoteChecked (state_with state) table.now history.now work.old work.new result.pyramid }
+    ensures finds_cycles { FindsCycles state.darts (table_of (state_with state) table.now) (past_of (state_with state) history.now) result }
 {
     let d = state.darts;
     let n = state.operations;
@@ -85,8 +85,8 @@ pub fn note_check(work: &mut [u32], state: Figures, table: &[u32], history: &[u3
 
 // Table and history of a pyramid that was checked so, loaded again: the work area holds its map. Notes and forest are kept.
 pub fn reload(work: &mut [u32], state: Figures, table: &[u32], history: &[u32])
-    requires { Reloads (stateWith state) table.now history.now work.old }
-    ensures { Reloaded (stateWith state) table.now history.now work.old work.new }
+    requires { Reloads (state_with state) table.now history.now work.old }
+    ensures { Reloaded (state_with state) table.now history.now work.old work.new }
 {
     load(work, state.darts, table, history, state.operations);
 }

@@ -1,7 +1,7 @@
 // The history replayed on the vertices of the base, first operation first, with notes and links.
 ghost use Rattle.std.specs.Prelude.{◌+◌, ◌*◌, ◌/◌, ◌≤◌, ◌<◌};
 ghost use Rattle.forest.specs.Forest.{Falls};
-ghost use Rattle.area.specs.Area.{Room, forestIn};
+ghost use Rattle.area.specs.Area.{Room, forest_in};
 ghost use Rattle.operations.specs.Replay.{Numbered};
 ghost use Rattle.noting.specs.Links.{Contracted, Stepped, Starts, Replayed};
 
@@ -12,7 +12,7 @@ use slices::at;
 // The contraction of edge e, operation t: its two vertices are joined, and it is noted. No where they are one already.
 fn contract(work: &mut [u32], d: usize, t: usize, e: usize) -> bool
     requires room { Room d work.old }
-    requires falls { Falls (forestIn d work.old) }
+    requires falls { Falls (forest_in d work.old) }
     requires t_bound { (t < d / 2) × (2 * e + 1 < d) }
     ensures { Contracted d t e work.old work.new result }
 {
@@ -32,7 +32,7 @@ fn contract(work: &mut [u32], d: usize, t: usize, e: usize) -> bool
 // Operation t, which has the history number h.
 fn step(work: &mut [u32], d: usize, t: usize, h: usize) -> bool
     requires room { Room d work.old }
-    requires falls { Falls (forestIn d work.old) }
+    requires falls { Falls (forest_in d work.old) }
     requires t_bound { (t < d / 2) × (h < 2 * d) }
     ensures { Stepped d t h work.old work.new result }
 {
@@ -46,7 +46,7 @@ fn step(work: &mut [u32], d: usize, t: usize, h: usize) -> bool
 // All n operations. No as soon as a contraction has one vertex at both ends.
 pub(crate) fn replay(work: &mut [u32], d: usize, n: usize) -> bool
     requires room { Room d work.old }
-    requires falls { Falls (forestIn d work.old) }
+    requires falls { Falls (forest_in d work.old) }
     requires numbered { Numbered d n work.old }
     requires n_bound { n ≤ d / 2 }
     requires starts { Starts d work.old }

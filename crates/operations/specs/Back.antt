@@ -4,8 +4,8 @@
 --   fits D w h          == tests 6 to 15
 --   inserted ..         == a leads to p and b to q, p to r and q to s
 --   placed ..           == p and q inserted before x and y, or both before y where x is q
---   takenBack D w h     == the work area before the operation h
---   triedBack D w h     == the operation h tested, and taken back where it fits
+--   taken_back D w h     == the work area before the operation h
+--   tried_back D w h     == the operation h tested, and taken back where it fits
 --   backs D w n c       == the last c of n operations taken back, each tested
 --   Mapped D w          == there is room, and the map's entries are darts
 --   Sound D n w         == there are at most D operations besides, and their numbers are of darts
@@ -15,7 +15,7 @@ use Rattle.darts.specs.Choose.{if◌then◌else◌}
 use Rattle.darts.specs.Map.{successor}
 use Rattle.darts.specs.Operation.{Kind, kind_of}
 use Rattle.darts.specs.Tests.{near, far}
-use Rattle.area.specs.Area.{prev, there, stamp, Room, bound, Tried, tried, triedIf}
+use Rattle.area.specs.Area.{prev, there, stamp, Room, bound, Tried, tried, tried_if}
 
 abbrev pub fitting : ℕ → List ℕ → ℕ → ℕ → ℕ → ℕ → Bool
 fitting D w p q x y =
@@ -37,8 +37,8 @@ abbrev pub placed : ℕ → List ℕ → Kind → ℕ → ℕ → ℕ → ℕ �
 placed D w k p q r s x y =
     if eqb x q then inserted D w p q r s (prev D w y) (near k p q) else inserted D w p q r s (prev D w x) (prev D w y)
 
-unfoldable pub takenBack : ℕ → List ℕ → ℕ → List ℕ
-takenBack D w h =
+unfoldable pub taken_back : ℕ → List ℕ → ℕ → List ℕ
+taken_back D w h =
     let p : ℕ = h / 2 in
     let q : ℕ = partner p in
     let r : ℕ = successor w p in
@@ -47,14 +47,14 @@ takenBack D w h =
     let y : ℕ = far (kind_of h) r s in
     placed D w (kind_of h) p q r s x y
 
-unfoldable pub triedBack : ℕ → List ℕ → ℕ → Tried
-triedBack D w h = triedIf (fits D w h) w (takenBack D w h)
+unfoldable pub tried_back : ℕ → List ℕ → ℕ → Tried
+tried_back D w h = tried_if (fits D w h) w (taken_back D w h)
 
 unfoldable pub backs : ℕ → List ℕ → ℕ → ℕ → Tried
 backs D w n zero = tried true w
 backs D w n (suc c) =
     let h : ℕ = stamp D w (n - 1) in
-    if fits D w h then backs D (takenBack D w h) (n - 1) c else tried false w
+    if fits D w h then backs D (taken_back D w h) (n - 1) c else tried false w
 
 pub record Mapped (D : ℕ) (w : List ℕ) : Type 0 where
   pub room : Room D w

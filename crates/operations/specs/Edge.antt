@@ -25,9 +25,9 @@ pub record Bounds (D : ℕ) (w : List ℕ) (p q : ℕ) : Type 0 where
   pub first : p < D
   pub second : q < D
   pub first_next : get_or w p 0 < D
-  pub second-next : get_or w q 0 < D
-  pub first-before : get_or w (D + p) 0 < D
-  pub second-before : get_or w (D + q) 0 < D
+  pub second_next : get_or w q 0 < D
+  pub first_before : get_or w (D + p) 0 < D
+  pub second_before : get_or w (D + q) 0 < D
 
 unfoldable pub bypassed : ℕ → List ℕ → ℕ → ℕ → ℕ → ℕ → ℕ → List ℕ
 bypassed D w a b q x y = if eqb x q then bound D w a y else bound D (bound D w a x) b y

@@ -9,7 +9,7 @@ use Rattle.permutations.specs.Partner.{partner}
 use Rattle.darts.specs.Choose.{if◌then◌else◌}
 use Rattle.forest.specs.Forest.{Falls}
 use Rattle.slices.specs.Part.{part}
-use Rattle.area.specs.Area.{forestIn}
+use Rattle.area.specs.Area.{forest_in}
 use Rattle.operations.specs.Trees.{Outside, rooted, merged}
 
 unfoldable pub rejoin : ℕ → (ℕ → ℕ) → ℕ → ℕ → ℕ
@@ -31,6 +31,6 @@ pub record Numbered (D n : ℕ) (w : List ℕ) : Type 0 where
 
 pub record Replayed (D n k : ℕ) (w w' : List ℕ) (r : Bool) : Type 0 where
   pub outside : Outside D w w'
-  pub falls : Falls (forestIn D w')
+  pub falls : Falls (forest_in D w')
   pub answer : r ≡ replayed k (rooted D w) (part (3 * D) (3 * D + n) w)
   pub roots : r ≡ true → rooted D w' ≡ rejoined k (rooted D w) (part (3 * D) (3 * D + n) w)

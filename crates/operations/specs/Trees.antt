@@ -7,7 +7,7 @@
 --   Joined D w w' p q r    == p and q are joined, and r says whether they were apart
 use Rattle.std.specs.Prelude.{Bool, not, List, ◌≡◌, ℕ, ◌*◌, eqb, length, take, drop}
 use Rattle.forest.specs.Forest.{Falls, root, linked}
-use Rattle.area.specs.Area.{forestIn}
+use Rattle.area.specs.Area.{forest_in}
 
 pub record Outside (D : ℕ) (w w' : List ℕ) : Type 0 where
   pub size : length w' ≡ length w
@@ -15,11 +15,11 @@ pub record Outside (D : ℕ) (w w' : List ℕ) : Type 0 where
   pub rest : drop (3 * D) w' ≡ drop (3 * D) w
 
 abbrev pub rooted : ℕ → List ℕ → ℕ → ℕ
-rooted D w = root (forestIn D w)
+rooted D w = root (forest_in D w)
 
 pub record Kept (D : ℕ) (w w' : List ℕ) : Type 0 where
   pub outside : Outside D w w'
-  pub falls : Falls (forestIn D w')
+  pub falls : Falls (forest_in D w')
   pub roots : rooted D w' ≡ rooted D w
 
 pub record Found (D : ℕ) (w w' : List ℕ) (x r : ℕ) : Type 0 where
@@ -31,6 +31,6 @@ merged R p q x = linked (R p) (R q) (R x)
 
 pub record Joined (D : ℕ) (w w' : List ℕ) (p q : ℕ) (r : Bool) : Type 0 where
   pub outside : Outside D w w'
-  pub falls : Falls (forestIn D w')
+  pub falls : Falls (forest_in D w')
   pub roots : rooted D w' ≡ merged (rooted D w) p q
   pub answer : r ≡ not (eqb (rooted D w p) (rooted D w q))

@@ -2,8 +2,8 @@
 ghost use Rattle.std.specs.Prelude.{◌≡◌, true, ◌≤◌, ◌<◌, ◌*◌};
 ghost use Rattle.darts.specs.Operation.{kind_of};
 ghost use Rattle.darts.specs.Tests.{near as nearOf, far};
-ghost use Rattle.area.specs.Area.{Room, tried, triedIf};
-ghost use Rattle.operations.specs.Back.{fitting, inserted, placed, triedBack, backs, Mapped, Sound};
+ghost use Rattle.area.specs.Area.{Room, tried, tried_if};
+ghost use Rattle.operations.specs.Back.{fitting, inserted, placed, tried_back, backs, Mapped, Sound};
 
 use crate::step::bind;
 use darts::partner;
@@ -92,7 +92,7 @@ fn take_back_edge(
     requires room { Room d work.old }
     requires p_lt_d { (p < d) × (q < d) × (r < d) × (s < d) }
     ensures { tried result work.new
-        ≡ triedIf (fitting d work.old p q (nearOf (kind_of k) r s) (far (kind_of k) r s)) work.old
+        ≡ tried_if (fitting d work.old p q (nearOf (kind_of k) r s) (far (kind_of k) r s)) work.old
         (placed d work.old (kind_of k) p q r s (nearOf (kind_of k) r s) (far (kind_of k) r s)) }
 {
     let x = near(k, r, s);
@@ -108,7 +108,7 @@ fn take_back_edge(
 fn take_back(work: &mut [u32], d: usize, h: usize) -> bool
     requires mapped { Mapped d work.old }
     requires h_bound { h < 2 * d }
-    ensures { tried result work.new ≡ triedBack d work.old h }
+    ensures { tried result work.new ≡ tried_back d work.old h }
 {
     let p = h / 2;
     let q = partner(p);

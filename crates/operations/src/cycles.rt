@@ -2,10 +2,10 @@
 ghost use Rattle.std.specs.Prelude.{◌≡◌, ◌+◌, ◌*◌, ◌<◌, get_or};
 ghost use Rattle.permutations.specs.Perm.{Perm};
 ghost use Rattle.forest.specs.Forest.{Falls, Fresh};
-ghost use Rattle.area.specs.Area.{Room, forestIn};
+ghost use Rattle.area.specs.Area.{Room, forest_in};
 ghost use Rattle.operations.specs.Replay.{Numbered, Replayed};
-ghost use Rattle.operations.specs.Cycles.{stepIn, MarkedIn, Labelled};
-ghost use Rattle.operations.specs.Count.{rootsIn};
+ghost use Rattle.operations.specs.Cycles.{step_in, MarkedIn, Labelled};
+ghost use Rattle.operations.specs.Count.{roots_in};
 
 use crate::step::around;
 use crate::trees::join;
@@ -14,7 +14,7 @@ use slices::at;
 // Joins the two darts of each operation of kind k, first to last. Answers no as soon as two of them have one root already.
 pub fn replay(work: &mut [u32], d: usize, n: usize, k: usize) -> bool
     requires room { Room d work.old }
-    requires falls { Falls (forestIn d work.old) }
+    requires falls { Falls (forest_in d work.old) }
     requires numbered { Numbered d n work.old }
     ensures { Replayed d n k work.old work.new result }
 {
@@ -38,7 +38,7 @@ pub fn replay(work: &mut [u32], d: usize, n: usize, k: usize) -> bool
 // Writes i at each dart of its cycle: round its face where k is 0, round its vertex where k is 1. At i itself it stands already.
 fn label_cycle(work: &mut [u32], d: usize, k: usize, i: usize)
     requires room { Room d work.old }
-    requires perm { Perm d (stepIn d k work.old) }
+    requires perm { Perm d (step_in d k work.old) }
     requires i_lt_d { (i < d) × (get_or work.old (d + i) 0 < d) × (get_or work.old (2 * d + i) 0 ≡ i) }
     ensures { MarkedIn d k i work.old work.new }
 {
@@ -52,10 +52,10 @@ fn label_cycle(work: &mut [u32], d: usize, k: usize, i: usize)
 // From a fresh forest: each survivor that no lower dart has reached writes itself at its whole cycle, and is counted.
 fn label_cycles(work: &mut [u32], d: usize, k: usize) -> usize
     requires room { Room d work.old }
-    requires perm { Perm d (stepIn d k work.old) }
-    requires fresh { Fresh d (forestIn d work.old) }
+    requires perm { Perm d (step_in d k work.old) }
+    requires fresh { Fresh d (forest_in d work.old) }
     ensures labelled { Labelled d k work.old work.new }
-    ensures value { result ≡ rootsIn d work.new d }
+    ensures value { result ≡ roots_in d work.new d }
 {
     let mut n = 0;
     let mut i = 0;
@@ -78,9 +78,9 @@ fn label_cycles(work: &mut [u32], d: usize, k: usize) -> usize
 // The forest becomes one tree for each cycle, with the lowest dart as root: faces where k is 0, vertices where k is 1. How many there are.
 pub fn label(work: &mut [u32], d: usize, k: usize) -> usize
     requires room { Room d work.old }
-    requires perm { Perm d (stepIn d k work.old) }
+    requires perm { Perm d (step_in d k work.old) }
     ensures labelled { Labelled d k work.old work.new }
-    ensures value { result ≡ rootsIn d work.new d }
+    ensures value { result ≡ roots_in d work.new d }
 {
     let a = 2 * d;
     let e = 3 * d;

@@ -1,10 +1,10 @@
 // One operation in the work area: judged, and done.
 ghost use Rattle.std.specs.Prelude.{◌≡◌, ◌+◌, ◌-◌, ◌*◌, ◌/◌, ◌<◌, length};
 ghost use Rattle.permutations.specs.Partner.{partner};
-ghost use Rattle.darts.specs.Operation.{kind_of, wholeEdge, lead as leadDart};
+ghost use Rattle.darts.specs.Operation.{kind_of, whole_edge, lead as leadDart};
 ghost use Rattle.forest.specs.Forest.{Falls};
-ghost use Rattle.area.specs.Area.{Room, forestIn};
-ghost use Rattle.operations.specs.Operate.{takesIn, led, noted, operated};
+ghost use Rattle.area.specs.Area.{Room, forest_in};
+ghost use Rattle.operations.specs.Operate.{takes_in, led, noted, operated};
 ghost use Rattle.operations.specs.Edge.{Says, Judged, Bounds, bypassed};
 ghost use Rattle.operations.specs.Trees.{rooted};
 
@@ -17,7 +17,7 @@ use slices::at;
 // Whether edge e is a whole piece.
 fn whole(work: &[u32], e: usize) -> bool
     requires { 2 * e + 1 < length work.now }
-    ensures { result ≡ wholeEdge work.now e }
+    ensures { result ≡ whole_edge work.now e }
 {
     let p = 2 * e;
     let q = 2 * e + 1;
@@ -36,7 +36,7 @@ fn whole(work: &[u32], e: usize) -> bool
 pub fn takes(work: &[u32], d: usize, e: usize) -> bool
     requires room { Room d work.now }
     requires e_bound { e < d / 2 }
-    ensures { result ≡ takesIn d work.now e }
+    ensures { result ≡ takes_in d work.now e }
 {
     let p = 2 * e;
     let q = 2 * e + 1;
@@ -74,7 +74,7 @@ pub fn judge_found(
     b: usize,
 ) -> Answer
     requires room { Room d work.old }
-    requires falls { Falls (forestIn d work.old) }
+    requires falls { Falls (forest_in d work.old) }
     requires k_bound { (k < 2) × (e < d / 2) }
     requires a_value { (a ≡ rooted d work.old (2 * e)) × (b ≡ rooted d work.old (2 * e + 1)) }
     ensures { Judged d k e i work.old work.new result }
@@ -97,7 +97,7 @@ pub fn judge_found(
 // The same of any number e, whose two roots are found first.
 pub fn judge(work: &mut [u32], d: usize, k: usize, e: usize, i: usize) -> Answer
     requires room { Room d work.old }
-    requires falls { Falls (forestIn d work.old) }
+    requires falls { Falls (forest_in d work.old) }
     requires k_bound { k < 2 }
     ensures { Judged d k e i work.old work.new result }
 {

@@ -1,9 +1,9 @@
 -- The magnitude of a number of 32 bits, worked out in 64.
 --   wide           == a number of 32 bits read back from 64 is the number
---   magnitude-fits == its magnitude fits in 64 bits
+--   magnitude_fits == its magnitude fits in 64 bits
 --   below          == taken from zero, a number below zero is its magnitude
---   below-fits     == which fits in 64 bits as a signed number
---   below-back     == and reads back as it is
+--   below_fits     == which fits in 64 bits as a signed number
+--   below_back     == and reads back as it is
 --   above          == a number that is not below zero has no sign
 use mathlib.Core.Bool.{true, false}
 use mathlib.Core.Path.{◌≡◌, ap, ◌∙◌}
@@ -33,8 +33,8 @@ module _ {z : ℤ} (S : SFits w32 z) where
   bounded : nat_abs z ≤ 2147483648
   bounded = nat_abs-le z S.sfits
 
-  pub magnitude-fits : Fits w64 (nat_abs z)
-  magnitude-fits = record { fits = let h = bounded in omega arith }
+  pub magnitude_fits : Fits w64 (nat_abs z)
+  magnitude_fits = record { fits = let h = bounded in omega arith }
 
   kept : SFits w64 (pos (nat_abs z))
   kept = record { sfits = let h = bounded in omega arith }
@@ -43,8 +43,8 @@ module _ {z : ℤ} (S : SFits w32 z) where
     below : pos 0 -ℤ x ≡ pos (nat_abs z)
     below = turned x t ∙ ap (λ y. pos (nat_abs y)) e
 
-    pub below-fits : SFits w64 (pos 0 -ℤ x)
-    below-fits = rw below kept
+    pub below_fits : SFits w64 (pos 0 -ℤ x)
+    below_fits = rw below kept
 
-    pub below-back : to_z w64 (of_z w64 (pos 0 -ℤ x)) ≡ pos (nat_abs z)
-    below-back = ap (λ y. to_z w64 (of_z w64 y)) below ∙ to_z-of_z kept
+    pub below_back : to_z w64 (of_z w64 (pos 0 -ℤ x)) ≡ pos (nat_abs z)
+    below_back = ap (λ y. to_z w64 (of_z w64 y)) below ∙ to_z-of_z kept

@@ -11,8 +11,8 @@ use Prim.Native.Nat.{ℕ, suc, ◌+◌}
 use native.Mathlib.Numerals.{add-one}
 use native.Mathlib.Omega.{arith}
 use lib.Dec.{T}
-use Rattle.permutations.specs.Choice.{pick, T→true, T-ext, true→T, or-iff, and-iff, or-intro, or_cases}
-use Rattle.permutations.specs.Live.{any, has, any-ext, has-head, has-tail, any-perm, any-or, any-has}
+use Rattle.permutations.specs.Choice.{pick, T→true, T-ext, true→T, or_iff, and_iff, or_intro, or_cases}
+use Rattle.permutations.specs.Live.{any, has, any_ext, has_head, has_tail, any_perm, any_or, any_has}
 
 unfoldable pub classes : (ℕ → ℕ → Bool) → List ℕ → ℕ
 classes r [] = 0
@@ -28,33 +28,33 @@ joins r p q x y = r x y || ((r x p || r x q) && (r y p || r y q))
 
 -- ---- only what r says of the elements matters
 
-pub classes-ext : (r s : ℕ → ℕ → Bool) (l : List ℕ) → ((x y : ℕ) → T (has l x) → T (has l y) → r x y ≡ s x y) → classes r l ≡ classes s l
+pub classes_ext : (r s : ℕ → ℕ → Bool) (l : List ℕ) → ((x y : ℕ) → T (has l x) → T (has l y) → r x y ≡ s x y) → classes r l ≡ classes s l
 unfolding classes
-classes-ext r s [] e = refl
-classes-ext r s (x ∷ l) e =
-    ap₂ (λ b n. pick b n (suc n)) (any-ext (r x) (s x) l (λ y h. e x y (has-head x l) (has-tail x y l h)))
-    (classes-ext r s l (λ y z h k. e y z (has-tail x y l h) (has-tail x z l k)))
+classes_ext r s [] e = refl
+classes_ext r s (x ∷ l) e =
+    ap₂ (λ b n. pick b n (suc n)) (any_ext (r x) (s x) l (λ y h. e x y (has_head x l) (has_tail x y l h)))
+    (classes_ext r s l (λ y z h k. e y z (has_tail x y l h) (has_tail x z l k)))
 
 -- ---- an element that r joins to another of the list can be left out
 
-pub classes-drop : (r : ℕ → ℕ → Bool) (p : ℕ) (l : List ℕ) → T (any (r p) l) → classes r (p ∷ l) ≡ classes r l
+pub classes_drop : (r : ℕ → ℕ → Bool) (p : ℕ) (l : List ℕ) → T (any (r p) l) → classes r (p ∷ l) ≡ classes r l
 unfolding classes
-classes-drop r p l h = rw (T→true (any (r p) l) h)
+classes_drop r p l h = rw (T→true (any (r p) l) h)
 
 -- ---- the order of the list does not matter
 
 module _ {r : ℕ → ℕ → Bool} (E : Equiv r) where
-  flip-eq : (x y : ℕ) → r x y ≡ r y x
-  flip-eq x y = T-ext (r x y) (r y x) (E.flip x y) (E.flip y x)
+  flip_eq : (x y : ℕ) → r x y ≡ r y x
+  flip_eq x y = T-ext (r x y) (r y x) (E.flip x y) (E.flip y x)
 
   -- what r joins is joined to the same
   same_row : (x y : ℕ) → T (r x y) → (l : List ℕ) → any (r x) l ≡ any (r y) l
   same_row x y h l =
-      any-ext (r x) (r y) l (λ z k. T-ext (r x z) (r y z) (E.chain y x z (E.flip x y h)) (E.chain x y z h))
+      any_ext (r x) (r y) l (λ z k. T-ext (r x z) (r y z) (E.chain y x z (E.flip x y h)) (E.chain x y z h))
 
-  classes-swap : (x y : ℕ) (l : List ℕ) → classes r (x ∷ y ∷ l) ≡ classes r (y ∷ x ∷ l)
+  classes_swap : (x y : ℕ) (l : List ℕ) → classes r (x ∷ y ∷ l) ≡ classes r (y ∷ x ∷ l)
   unfolding classes any
-  classes-swap x y l = rw (flip-eq y x) (go (r x y) refl (any (r x) l) (any (r y) l) refl refl)
+  classes_swap x y l = rw (flip_eq y x) (go (r x y) refl (any (r x) l) (any (r y) l) refl refl)
     where
       go : (b : Bool) → r x y ≡ b → (c d : Bool) → any (r x) l ≡ c → any (r y) l ≡ d
           → pick (b || c) (pick d (classes r l) (suc (classes r l))) (suc (pick d (classes r l) (suc (classes r l))))
@@ -66,22 +66,22 @@ module _ {r : ℕ → ℕ → Bool} (E : Equiv r) where
       go false e true false h k = refl
       go false e false true h k = refl
 
-  pub classes-perm : {l m : List ℕ} → Permᴰ l m → classes r l ≡ classes r m
+  pub classes_perm : {l m : List ℕ} → Permᴰ l m → classes r l ≡ classes r m
   unfolding classes
-  classes-perm Permᴰ.nil = refl
-  classes-perm (Permᴰ.cons {a} {b} {l₂ = m} e d) = rw (e, any-perm (r b) d, classes-perm d)
-  classes-perm (Permᴰ.swap {a} {b} {l = l} e k) = classes-swap a b l ∙ ap₂ (λ x y. classes r (x ∷ y ∷ l)) k e
-  classes-perm (Permᴰ.trans c d) = classes-perm c ∙ classes-perm d
+  classes_perm Permᴰ.nil = refl
+  classes_perm (Permᴰ.cons {a} {b} {l₂ = m} e d) = rw (e, any_perm (r b) d, classes_perm d)
+  classes_perm (Permᴰ.swap {a} {b} {l = l} e k) = classes_swap a b l ∙ ap₂ (λ x y. classes r (x ∷ y ∷ l)) k e
+  classes_perm (Permᴰ.trans c d) = classes_perm c ∙ classes_perm d
 
 -- ---- joining two classes takes one away
 
 -- where e says what r is, this is what `joins` is
-pub joins-iff : (r : ℕ → ℕ → Bool) {R : ℕ → ℕ → Type 0} → ((x y : ℕ) → T (r x y) ↔ R x y) → (p q x y : ℕ)
+pub joins_iff : (r : ℕ → ℕ → Bool) {R : ℕ → ℕ → Type 0} → ((x y : ℕ) → T (r x y) ↔ R x y) → (p q x y : ℕ)
     → T (joins r p q x y) ↔ (R x y ⊎ ((R x p ⊎ R x q) × (R y p ⊎ R y q)))
 unfolding joins
-joins-iff r e p q x y =
-    or-iff (r x y) ((r x p || r x q) && (r y p || r y q)) (e x y)
-    (and-iff (r x p || r x q) (r y p || r y q) (or-iff (r x p) (r x q) (e x p) (e x q)) (λ h. or-iff (r y p) (r y q) (e y p) (e y q)))
+joins_iff r e p q x y =
+    or_iff (r x y) ((r x p || r x q) && (r y p || r y q)) (e x y)
+    (and_iff (r x p || r x q) (r y p || r y q) (or_iff (r x p) (r x q) (e x p) (e x q)) (λ h. or_iff (r y p) (r y q) (e y p) (e y q)))
 
 add_left : (a b : Bool) (c d : ℕ) → c ≡ d + pick (a && b) 1 0 → pick a c (suc c) ≡ pick (a || b) d (suc d) + pick b 1 0
 add_left true true c d e = e
@@ -95,29 +95,29 @@ add_none false c d n e = omega arith
 
 module _ {r : ℕ → ℕ → Bool} (E : Equiv r) (p q : ℕ) where
   -- an element of p's class or q's is now joined to both classes
-  row-joined : (x : ℕ) → T (r p x) ⊎ T (r q x) → (l : List ℕ) → any (joins r p q x) l ≡ (any (r p) l || any (r q) l)
-  row-joined x o l = any-ext (joins r p q x) (λ z. r p z || r q z) l row ∙ any-or (r p) (r q) l
+  row_joined : (x : ℕ) → T (r p x) ⊎ T (r q x) → (l : List ℕ) → any (joins r p q x) l ≡ (any (r p) l || any (r q) l)
+  row_joined x o l = any_ext (joins r p q x) (λ z. r p z || r q z) l row ∙ any_or (r p) (r q) l
     where
       on : T (r x p) ⊎ T (r x q)
       on = ⊎_elim (λ t. inl (E.flip p x t)) (λ t. inr (E.flip q x t)) o
 
       row : (z : ℕ) → T (has l z) → joins r p q x z ≡ (r p z || r q z)
       row z k = T-ext (joins r p q x z) (r p z || r q z)
-          (λ t. or-intro (r p z) (r q z) (⊎_elim
+          (λ t. or_intro (r p z) (r q z) (⊎_elim
           (λ h. ⊎_elim (λ s. inl (E.chain p x z s h)) (λ s. inr (E.chain q x z s h)) o)
-          (λ h. ⊎_elim (λ s. inl (E.flip z p s)) (λ s. inr (E.flip z q s)) h.1) ((joins-iff r (λ y z. Iff.rfl) p q x z).0 t)))
-          (λ t. (joins-iff r (λ y z. Iff.rfl) p q x z).1 (inr (on, ⊎_elim (λ s. inl (E.flip p z s)) (λ s. inr (E.flip q z s)) (or_cases (r p z) (r q z) t))))
+          (λ h. ⊎_elim (λ s. inl (E.flip z p s)) (λ s. inr (E.flip z q s)) h.1) ((joins_iff r (λ y z. Iff.rfl) p q x z).0 t)))
+          (λ t. (joins_iff r (λ y z. Iff.rfl) p q x z).1 (inr (on, ⊎_elim (λ s. inl (E.flip p z s)) (λ s. inr (E.flip q z s)) (or_cases (r p z) (r q z) t))))
 
   -- any other is joined to the same as before
   row_other : (x : ℕ) → r p x ≡ false → r q x ≡ false → (l : List ℕ) → any (joins r p q x) l ≡ any (r x) l
   unfolding joins
-  row_other x e k l = any-ext (joins r p q x) (r x) l (λ z h. rw (flip-eq E x p, e, flip-eq E x q, k) (or-false (r x z)))
+  row_other x e k l = any_ext (joins r p q x) (r x) l (λ z h. rw (flip_eq E x p, e, flip_eq E x q, k) (or-false (r x z)))
 
   -- one class fewer, if both are on the list
-  classes-fall : ¬ (T (r p q)) → (l : List ℕ) → classes r l ≡ classes (joins r p q) l + pick (any (r p) l && any (r q) l) 1 0
+  classes_fall : ¬ (T (r p q)) → (l : List ℕ) → classes r l ≡ classes (joins r p q) l + pick (any (r p) l && any (r q) l) 1 0
   unfolding classes any
-  classes-fall apart [] = refl
-  classes-fall apart (x ∷ l) = go (classes-fall apart l) (r p x) (r q x) refl refl
+  classes_fall apart [] = refl
+  classes_fall apart (x ∷ l) = go (classes_fall apart l) (r p x) (r q x) refl refl
     where
       go : classes r l ≡ classes (joins r p q) l + pick (any (r p) l && any (r q) l) 1 0
           → (b c : Bool) → r p x ≡ b → r q x ≡ c
@@ -125,17 +125,17 @@ module _ {r : ℕ → ℕ → Bool} (E : Equiv r) (p q : ℕ) where
           ≡ pick (any (joins r p q x) l) (classes (joins r p q) l) (suc (classes (joins r p q) l)) + pick ((b || any (r p) l) && (c || any (r q) l)) 1 0
       go ih true true e k = absurd (apart (E.chain p x q (true→T e) (E.flip q x (true→T k))))
       go ih true false e k =
-          rw (← same_row E p x (true→T e) l, row-joined x (inl (true→T e)) l)
+          rw (← same_row E p x (true→T e) l, row_joined x (inl (true→T e)) l)
           (add_left (any (r p) l) (any (r q) l) (classes r l) (classes (joins r p q) l) ih)
       go ih false true e k =
-          rw (← same_row E q x (true→T k) l, row-joined x (inr (true→T k)) l, and-true, or_comm (any (r p) l) (any (r q) l))
+          rw (← same_row E q x (true→T k) l, row_joined x (inr (true→T k)) l, and-true, or_comm (any (r p) l) (any (r q) l))
           (add_left (any (r q) l) (any (r p) l) (classes r l) (classes (joins r p q) l)
           (ih ∙ ap (λ b. classes (joins r p q) l + pick b 1 0) (and_comm (any (r p) l) (any (r q) l))))
       go ih false false e k =
           rw (row_other x e k l)
           (add_none (any (r x) l) (classes r l) (classes (joins r p q) l) (pick (any (r p) l && any (r q) l) 1 0) ih)
 
-  pub classes-join : ¬ (T (r p q)) → (l : List ℕ) → T (has l p) → T (has l q) → classes r l ≡ suc (classes (joins r p q) l)
-  classes-join apart l hp hq =
-      classes-fall apart l
-      ∙ rw (T→true (any (r p) l) (any-has (r p) l p hp (E.self p)), T→true (any (r q) l) (any-has (r q) l q hq (E.self q))) (add-one (classes (joins r p q) l))
+  pub classes_join : ¬ (T (r p q)) → (l : List ℕ) → T (has l p) → T (has l q) → classes r l ≡ suc (classes (joins r p q) l)
+  classes_join apart l hp hq =
+      classes_fall apart l
+      ∙ rw (T→true (any (r p) l) (any_has (r p) l p hp (E.self p)), T→true (any (r q) l) (any_has (r q) l q hq (E.self q))) (add-one (classes (joins r p q) l))

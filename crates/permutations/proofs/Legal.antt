@@ -20,8 +20,8 @@ use Rattle.permutations.specs.Partner.{partner}
 use Rattle.permutations.specs.Perm.{Perm}
 use Rattle.permutations.specs.Splice.{splice, skip}
 use Rattle.permutations.specs.Cycle.{Meets}
-use Rattle.permutations.specs.Map.{Map, face, offEdge, Good, good-remove}
-use Rattle.permutations.proofs.Dual.{good-contract, face-perm, dual, face-at, face-partner}
+use Rattle.permutations.specs.Map.{Map, face, off_edge, Good, good_remove}
+use Rattle.permutations.proofs.Dual.{good_contract, face_perm, dual, face_at, face_partner}
 
 -- "the edge is a whole piece: r = p and s = q, or r = q and s = p"
 abbrev pub Whole : Map → ℕ → Type 0
@@ -54,7 +54,7 @@ after (Contract p) f = splice f p (partner p)
 after (Remove p) f = skip f p (partner p)
 
 abbrev pub act : Map → Op → Map
-act m a = record { live = offEdge m.live (dart a); next = after a m.next }
+act m a = record { live = off_edge m.live (dart a); next = after a m.next }
 
 abbrev pub around : Map → Op → ℕ → ℕ
 around m (Contract p) = m.next
@@ -64,13 +64,13 @@ abbrev pub Legal : Map → Op → Type 0
 Legal m a = Separate (around m a) m (dart a)
 
 module _ {D : ℕ} {m : Map} (G : Good D m) where
-  pub good-act : (a : Op) → Legal m a → Good D (act m a)
-  good-act (Contract p) l = good-contract G p l.lives
-  good-act (Remove p) l = good-remove G p l.lives
+  pub good_act : (a : Op) → Legal m a → Good D (act m a)
+  good_act (Contract p) l = good_contract G p l.lives
+  good_act (Remove p) l = good_remove G p l.lives
 
-  pub around-perm : (a : Op) → Perm D (around m a)
-  around-perm (Contract p) = G.perm
-  around-perm (Remove p) = face-perm G
+  pub around_perm : (a : Op) → Perm D (around m a)
+  around_perm (Contract p) = G.perm
+  around_perm (Remove p) = face_perm G
 
 -- ---- a list of operations
 
@@ -82,20 +82,20 @@ abbrev pub AllLegal : Map → List Op → Type 0
 AllLegal m [] = Unit {0}
 AllLegal m (a ∷ l) = Legal m a × AllLegal (act m a) l
 
-pub good-run : {D : ℕ} {m : Map} → Good D m → (l : List Op) → AllLegal m l → Good D (run m l)
+pub good_run : {D : ℕ} {m : Map} → Good D m → (l : List Op) → AllLegal m l → Good D (run m l)
 unfolding run
-good-run G [] h = G
-good-run G (a ∷ l) h = good-run (good-act G a h.0) l h.1
+good_run G [] h = G
+good_run G (a ∷ l) h = good_run (good_act G a h.0) l h.1
 
 -- ---- an edge that may be removed may be contracted in the dual
 
 module _ {D : ℕ} {m : Map} (G : Good D m) (p : ℕ) where
   -- the dual has the same edges for whole pieces
-  pub whole-dual : T (m.live p) → Whole (dual m) p → Whole m p
-  whole-dual t =
-      let a = sym (face-at G p t) in
-      let b = sym (face-partner G p t) in
+  pub whole_dual : T (m.live p) → Whole (dual m) p → Whole m p
+  whole_dual t =
+      let a = sym (face_at G p t) in
+      let b = sym (face_partner G p t) in
       ⊎_elim (λ h. inr (b ∙ h.1, a ∙ h.0)) (λ h. inl (b ∙ h.1, a ∙ h.0))
 
-  pub dual-contractible : Removable m p → Contractible (dual m) p
-  dual-contractible r = record { lives = r.lives; two = r.two; more = λ w. r.more (whole-dual r.lives w) }
+  pub dual_contractible : Removable m p → Contractible (dual m) p
+  dual_contractible r = record { lives = r.lives; two = r.two; more = λ w. r.more (whole_dual r.lives w) }

@@ -4,7 +4,7 @@
 --   eqb m n    == the test whether m and n are the same number (the library's)
 use Rattle.std.specs.Prelude.{Bool, true, false, ◌||◌, ◌&&◌, not, ◌≢◌, ◌↔◌, ◌⊎◌, ◌≡◌, refl, ℕ, T, eqb}
 use Rattle.std.proofs.Common.{inl, inr, ⊎_elim, subst, sym, eqb→eq, T_not}
-use Rattle.std.proofs.Math.Logic.{Iff·trans}
+use Rattle.std.proofs.Math.Logic.{Iff.trans}
 use Rattle.std.proofs.Math.Dec.{eqb_refl, not_T}
 
 abbrev pub pick {ℓ} : {A : Type ℓ} → Bool → A → A → A
@@ -21,9 +21,9 @@ pub T→true : (b : Bool) → T b → b ≡ true
 T→true true t = refl
 T→true false t = absurd t
 
-pub nT→false : (b : Bool) → ¬ (T b) → b ≡ false
-nT→false true t = absurd (t tt)
-nT→false false t = refl
+pub not_T→false : (b : Bool) → ¬ (T b) → b ≡ false
+not_T→false true t = absurd (t tt)
+not_T→false false t = refl
 
 pub true→T : {b : Bool} → b ≡ true → T b
 true→T e = subst T (sym e) tt
@@ -40,18 +40,18 @@ T-ext false false f g = refl
 pub eqb_same : {m n : ℕ} → m ≡ n → eqb m n ≡ true
 eqb_same {m} {n} e = T→true (eqb m n) (subst (λ (k : ℕ). T (eqb m k)) e (eqb_refl m))
 
-pub eqb-other : {m n : ℕ} → m ≢ n → eqb m n ≡ false
-eqb-other {m} {n} h = nT→false (eqb m n) (λ t. h (eqb→eq m n t))
+pub eqb_other : {m n : ℕ} → m ≢ n → eqb m n ≡ false
+eqb_other {m} {n} h = not_T→false (eqb m n) (λ t. h (eqb→eq m n t))
 
-pub eqb-iff : (m n : ℕ) → T (eqb m n) ↔ (m ≡ n)
-eqb-iff m n = (eqb→eq m n, λ e. true→T (eqb_same e))
+pub eqb_iff : (m n : ℕ) → T (eqb m n) ↔ (m ≡ n)
+eqb_iff m n = (eqb→eq m n, λ e. true→T (eqb_same e))
 
 -- ---- several tests
 
-pub or-intro : (a b : Bool) → T a ⊎ T b → T (a || b)
-or-intro true b h = tt
-or-intro false b (inl t) = absurd t
-or-intro false b (inr t) = t
+pub or_intro : (a b : Bool) → T a ⊎ T b → T (a || b)
+or_intro true b h = tt
+or_intro false b (inl t) = absurd t
+or_intro false b (inr t) = t
 
 pub or_cases : (a b : Bool) → T (a || b) → T a ⊎ T b
 or_cases true b t = inl tt
@@ -69,15 +69,15 @@ pub and_right : (a b : Bool) → T (a && b) → T b
 and_right true b t = t
 and_right false b t = absurd t
 
-pub ⊎-iff : {A B C D : Type 0} → A ↔ C → B ↔ D → (A ⊎ B) ↔ (C ⊎ D)
-⊎-iff e k = (⊎_elim (λ a. inl (e.0 a)) (λ b. inr (k.0 b)), ⊎_elim (λ c. inl (e.1 c)) (λ d. inr (k.1 d)))
+pub ⊎_iff : {A B C D : Type 0} → A ↔ C → B ↔ D → (A ⊎ B) ↔ (C ⊎ D)
+⊎_iff e k = (⊎_elim (λ a. inl (e.0 a)) (λ b. inr (k.0 b)), ⊎_elim (λ c. inl (e.1 c)) (λ d. inr (k.1 d)))
 
-pub or-iff : (a b : Bool) {A B : Type 0} → T a ↔ A → T b ↔ B → T (a || b) ↔ (A ⊎ B)
-or-iff a b e k = Iff·trans (or_cases a b, or-intro a b) (⊎-iff e k)
+pub or_iff : (a b : Bool) {A B : Type 0} → T a ↔ A → T b ↔ B → T (a || b) ↔ (A ⊎ B)
+or_iff a b e k = Iff.trans (or_cases a b, or_intro a b) (⊎_iff e k)
 
 -- the second test needs to be right only where the first one passes
-pub and-iff : (a b : Bool) {A B : Type 0} → T a ↔ A → (A → T b ↔ B) → T (a && b) ↔ (A × B)
-and-iff a b e k = (λ t. let x = e.0 (and_left a b t) in (x, (k x).0 (and_right a b t)), λ h. and_intro a b (e.1 h.0) ((k h.0).1 h.1))
+pub and_iff : (a b : Bool) {A B : Type 0} → T a ↔ A → (A → T b ↔ B) → T (a && b) ↔ (A × B)
+and_iff a b e k = (λ t. let x = e.0 (and_left a b t) in (x, (k x).0 (and_right a b t)), λ h. and_intro a b (e.1 h.0) ((k h.0).1 h.1))
 
 pub not_iff : (b : Bool) {B : Type 0} → T b ↔ B → T (not b) ↔ (¬ B)
 not_iff b e = (λ t x. T_not b t (e.1 x), λ n. not_T b (λ t. n (e.0 t)))

@@ -1,7 +1,7 @@
 -- Walking by a permutation: which numbers are on one cycle.
 --   walk f k x      == where k steps of f lead from x
 --   Meets f x y     == y is met on the walk from x
---   meetsIn f n x y == the test whether y is met within n steps
+--   meets_in f n x y == the test whether y is met within n steps
 --   Round π x       == some 1 to D steps lead from x back to x (one step, from D on)
 use Rattle.std.specs.Prelude.{Bool, ◌||◌, ◌⊎◌, ◌↔◌, ◌≡◌, T, eqb}
 use Rattle.std.proofs.Math.Logic.{inl, inr}
@@ -12,7 +12,7 @@ use Rattle.std.proofs.Math.Decide.{dec_lt}
 use Rattle.std.proofs.Math.Nat.{zero-add, suc-add, zero-mul}
 use native.Mathlib.Omega.{arith}
 use Rattle.std.proofs.Math.Dec.{eqb_refl}
-use Rattle.permutations.specs.Choice.{or_cases, or-intro, T?}
+use Rattle.permutations.specs.Choice.{or_cases, or_intro, T?}
 use Rattle.permutations.specs.Perm.{Perm, inj, below}
 use Rattle.permutations.specs.Pigeonhole.{pigeonhole}
 
@@ -24,55 +24,55 @@ pub record Meets (f : ℕ → ℕ) (x y : ℕ) : Type 0 where
   pub steps : ℕ
   pub there : walk f steps x ≡ y
 
-unfoldable pub meetsIn : (ℕ → ℕ) → ℕ → ℕ → ℕ → Bool
-meetsIn f zero x y = eqb x y
-meetsIn f (suc n) x y = eqb x y || meetsIn f n (f x) y
+unfoldable pub meets_in : (ℕ → ℕ) → ℕ → ℕ → ℕ → Bool
+meets_in f zero x y = eqb x y
+meets_in f (suc n) x y = eqb x y || meets_in f n (f x) y
 
 -- ---- walking, and meeting on the way
 
 module _ (f : ℕ → ℕ) where
-  pub walk-add : (j k x : ℕ) → walk f (j + k) x ≡ walk f k (walk f j x)
+  pub walk_add : (j k x : ℕ) → walk f (j + k) x ≡ walk f k (walk f j x)
   unfolding walk
-  walk-add zero k x = rw zero-add
-  walk-add (suc j) k x = rw suc-add (walk-add j k (f x))
+  walk_add zero k x = rw zero-add
+  walk_add (suc j) k x = rw suc-add (walk_add j k (f x))
 
-  pub meets-refl : (x : ℕ) → Meets f x x
+  pub meets_refl : (x : ℕ) → Meets f x x
   unfolding walk
-  meets-refl x = record { steps = 0; there = refl }
+  meets_refl x = record { steps = 0; there = refl }
 
-  pub meets-eq : {x y : ℕ} → x ≡ y → Meets f x y
+  pub meets_eq : {x y : ℕ} → x ≡ y → Meets f x y
   unfolding walk
-  meets-eq e = record { steps = 0; there = e }
+  meets_eq e = record { steps = 0; there = e }
 
-  pub meets-next : (x : ℕ) → Meets f x (f x)
+  pub meets_next : (x : ℕ) → Meets f x (f x)
   unfolding walk
-  meets-next x = record { steps = 1; there = refl }
+  meets_next x = record { steps = 1; there = refl }
 
-  pub meets-trans : {x y z : ℕ} → Meets f x y → Meets f y z → Meets f x z
-  meets-trans {x} {y} {z} a b = record {
+  pub meets_trans : {x y z : ℕ} → Meets f x y → Meets f y z → Meets f x z
+  meets_trans {x} {y} {z} a b = record {
     steps = a.steps + b.steps;
-    there = walk-add a.steps b.steps x ∙ ap (walk f b.steps) a.there ∙ b.there;
+    there = walk_add a.steps b.steps x ∙ ap (walk f b.steps) a.there ∙ b.there;
   }
 
-  pub walk-ind : (P : ℕ → Type 0) → ((z : ℕ) → P z → P (f z)) → (k x : ℕ) → P x → P (walk f k x)
+  pub walk_ind : (P : ℕ → Type 0) → ((z : ℕ) → P z → P (f z)) → (k x : ℕ) → P x → P (walk f k x)
   unfolding walk
-  walk-ind P step zero x h = h
-  walk-ind P step (suc k) x h = walk-ind P step k (f x) (step x h)
+  walk_ind P step zero x h = h
+  walk_ind P step (suc k) x h = walk_ind P step k (f x) (step x h)
 
   -- what holds of x, and of f z whenever of z, holds of all that x meets
-  pub meets-ind : (P : ℕ → Type 0) → ((z : ℕ) → P z → P (f z)) → {x y : ℕ} → Meets f x y → P x → P y
-  meets-ind P step {x} {y} m h = subst P m.there (walk-ind P step m.steps x h)
+  pub meets_ind : (P : ℕ → Type 0) → ((z : ℕ) → P z → P (f z)) → {x y : ℕ} → Meets f x y → P x → P y
+  meets_ind P step {x} {y} m h = subst P m.there (walk_ind P step m.steps x h)
 
 -- ---- a permutation's walk comes back, so meeting goes both ways
 
 module _ {D : ℕ} {f : ℕ → ℕ} (π : Perm D f) where
-  walk-inj : (k : ℕ) {x y : ℕ} → walk f k x ≡ walk f k y → x ≡ y
+  walk_inj : (k : ℕ) {x y : ℕ} → walk f k x ≡ walk f k y → x ≡ y
   unfolding walk
-  walk-inj zero e = e
-  walk-inj (suc k) e = inj π (walk-inj k e)
+  walk_inj zero e = e
+  walk_inj (suc k) e = inj π (walk_inj k e)
 
-  walk-below : (k x : ℕ) → x < D → walk f k x < D
-  walk-below k x h = walk-ind f (λ z. z < D) (λ z l. below π l) k x h
+  walk_below : (k x : ℕ) → x < D → walk f k x < D
+  walk_below k x h = walk_ind f (λ z. z < D) (λ z l. below π l) k x h
 
   record Round (x : ℕ) : Type 0 where
     turn : ℕ
@@ -87,30 +87,30 @@ module _ {D : ℕ} {f : ℕ → ℕ} (π : Perm D f) where
       go : Dec (x < D) → Round x
       go (no n) = record { turn = 1; some = omega arith; short = inl (omega arith); again = π.still x (omega arith) }
       go (yes l) =
-          let c = pigeonhole D (λ i. walk f i x) (λ i h. walk-below i x l) in
+          let c = pigeonhole D (λ i. walk f i x) (λ i h. walk_below i x l) in
           let e : c.second - c.first + c.first ≡ c.second = omega arith in
           record {
             turn = c.second - c.first;
             some = omega arith;
             short = inr (omega arith);
-            again = walk-inj c.first (sym (walk-add f (c.second - c.first) c.first x)
+            again = walk_inj c.first (sym (walk_add f (c.second - c.first) c.first x)
                 ∙ ap (λ n. walk f n x) e ∙ sym c.same);
           }
 
-  pub meets-back : (x : ℕ) → Meets f (f x) x
+  pub meets_back : (x : ℕ) → Meets f (f x) x
   unfolding walk
-  meets-back x =
+  meets_back x =
       let r = round x in
       let e : suc (r.turn - 1) ≡ r.turn = omega arith in
       record { steps = r.turn - 1; there = ap (λ n. walk f n x) e ∙ r.again }
 
-  pub meets-sym : {x y : ℕ} → Meets f x y → Meets f y x
-  meets-sym {x} {y} m = meets-ind f (λ z. Meets f z x) (λ z h. meets-trans f (meets-back z) h) m (meets-refl f x)
+  pub meets_sym : {x y : ℕ} → Meets f x y → Meets f y x
+  meets_sym {x} {y} m = meets_ind f (λ z. Meets f z x) (λ z h. meets_trans f (meets_back z) h) m (meets_refl f x)
 
-  many-rounds : (x n q : ℕ) → walk f n x ≡ x → walk f (q * n) x ≡ x
+  many_rounds : (x n q : ℕ) → walk f n x ≡ x → walk f (q * n) x ≡ x
   unfolding walk
-  many-rounds x n zero e = rw zero-mul
-  many-rounds x n (suc q) e = rw (suc-mul, walk-add, many-rounds x n q e) e
+  many_rounds x n zero e = rw zero-mul
+  many_rounds x n (suc q) e = rw (suc-mul, walk_add, many_rounds x n q e) e
 
   -- to meet y at all is to meet it within D steps
   pub soon : {x y : ℕ} → Meets f x y → (k : ℕ) × (k ≤ D) × (walk f k x ≡ y)
@@ -120,38 +120,38 @@ module _ {D : ℕ} {f : ℕ → ℕ} (π : Perm D f) where
       let n = r.turn in
       let less : k % n < n = mod-lt k r.some in
       let e : walk f (k % n) x ≡ y =
-      sym (ap (walk f (k % n)) (many-rounds x n (k / n) r.again))
-      ∙ sym (walk-add f (k / n * n) (k % n) x) ∙ ap (λ i. walk f i x) (div-add-mod' k n) ∙ m.there in
+      sym (ap (walk f (k % n)) (many_rounds x n (k / n) r.again))
+      ∙ sym (walk_add f (k / n * n) (k % n) x) ∙ ap (λ i. walk f i x) (div-add-mod' k n) ∙ m.there in
       (k % n, ⊎_elim (λ h. omega arith) (λ h. omega arith) r.short, e)
 
 -- ---- the test is right
 
-meetsIn-sound : (f : ℕ → ℕ) (n x y : ℕ) → T (meetsIn f n x y) → Meets f x y
-unfolding meetsIn
-meetsIn-sound f zero x y t = meets-eq f (eqb→eq x y t)
-meetsIn-sound f (suc n) x y t =
-    ⊎_elim (λ s. meets-eq f (eqb→eq x y s)) (λ s. meets-trans f (meets-next f x) (meetsIn-sound f n (f x) y s))
-    (or_cases (eqb x y) (meetsIn f n (f x) y) t)
+meets_in_sound : (f : ℕ → ℕ) (n x y : ℕ) → T (meets_in f n x y) → Meets f x y
+unfolding meets_in
+meets_in_sound f zero x y t = meets_eq f (eqb→eq x y t)
+meets_in_sound f (suc n) x y t =
+    ⊎_elim (λ s. meets_eq f (eqb→eq x y s)) (λ s. meets_trans f (meets_next f x) (meets_in_sound f n (f x) y s))
+    (or_cases (eqb x y) (meets_in f n (f x) y) t)
 
-meetsIn-complete : (f : ℕ → ℕ) (n x k : ℕ) → k ≤ n → T (meetsIn f n x (walk f k x))
-unfolding meetsIn walk
-meetsIn-complete f zero x zero h = eqb_refl x
-meetsIn-complete f zero x (suc k) h = absurd (not-suc-le-zero h)
-meetsIn-complete f (suc n) x zero h = or-intro (eqb x x) (meetsIn f n (f x) x) (inl (eqb_refl x))
-meetsIn-complete f (suc n) x (suc k) h =
+meets_in_complete : (f : ℕ → ℕ) (n x k : ℕ) → k ≤ n → T (meets_in f n x (walk f k x))
+unfolding meets_in walk
+meets_in_complete f zero x zero h = eqb_refl x
+meets_in_complete f zero x (suc k) h = absurd (not-suc-le-zero h)
+meets_in_complete f (suc n) x zero h = or_intro (eqb x x) (meets_in f n (f x) x) (inl (eqb_refl x))
+meets_in_complete f (suc n) x (suc k) h =
     let y = walk f k (f x) in
-    or-intro (eqb x y) (meetsIn f n (f x) y) (inr (meetsIn-complete f n (f x) k (le_of_suc-le-suc h)))
+    or_intro (eqb x y) (meets_in f n (f x) y) (inr (meets_in_complete f n (f x) k (le_of_suc-le-suc h)))
 
 module _ {D : ℕ} {f : ℕ → ℕ} (π : Perm D f) (x y : ℕ) where
-  pub meets-iff : Meets f x y ↔ T (meetsIn f D x y)
-  meets-iff = (
-    λ m. let s = soon π m in subst (λ z. T (meetsIn f D x z)) s.2 (meetsIn-complete f D x s.0 s.1),
-    meetsIn-sound f D x y,
+  pub meets_iff : Meets f x y ↔ T (meets_in f D x y)
+  meets_iff = (
+    λ m. let s = soon π m in subst (λ z. T (meets_in f D x z)) s.2 (meets_in_complete f D x s.0 s.1),
+    meets_in_sound f D x y,
   )
 
   pub meets? : Dec (Meets f x y)
-  meets? = go (T? (meetsIn f D x y))
+  meets? = go (T? (meets_in f D x y))
     where
-      go : Dec (T (meetsIn f D x y)) → Dec (Meets f x y)
-      go (yes t) = yes (meets-iff.1 t)
-      go (no n) = no (λ m. n (meets-iff.0 m))
+      go : Dec (T (meets_in f D x y)) → Dec (Meets f x y)
+      go (yes t) = yes (meets_iff.1 t)
+      go (no n) = no (λ m. n (meets_iff.0 m))

@@ -5,14 +5,14 @@
 --   Kept live new p q == what is live now was live before, and is neither p nor q
 --   merge L p q       == L, with p's label for q's
 use Rattle.std.specs.Prelude.{Bool, ◌↔◌, ◌⊎◌, ◌≢◌, ◌≡◌, ℕ, ◌<◌, T, eqb}
-use Rattle.std.proofs.Math.Logic.{Iff·trans, Iff·symm, Iff·and}
+use Rattle.std.proofs.Math.Logic.{Iff.trans, Iff.symm, Iff.and}
 use Rattle.std.proofs.Common.{inl, inr, ⊎_elim, sym, ◌∙◌}
 use Rattle.std.proofs.Math.Decide.{ℕ_discrete}
-use Rattle.permutations.specs.Choice.{⊎-iff, pick, eqb_same, eqb-other}
+use Rattle.permutations.specs.Choice.{⊎_iff, pick, eqb_same, eqb_other}
 use Rattle.permutations.specs.Perm.{Perm}
 use Rattle.permutations.specs.Splice.{skip, splice}
 use Rattle.permutations.specs.Cycle.{Meets}
-use Rattle.permutations.specs.Joined.{skip_meets, On, splice-meets}
+use Rattle.permutations.specs.Joined.{skip_meets, On, splice_meets}
 
 pub record Labels (live : ℕ → Bool) (f L : ℕ → ℕ) : Type 0 where
   pub says : (x y : ℕ) → T (live x) → T (live y) → (L x ≡ L y) ↔ Meets f x y
@@ -28,28 +28,28 @@ pub record Kept (live new : ℕ → Bool) (p q : ℕ) : Type 0 where
 
 -- ---- skip keeps the labels, and splice merges two
 
-pub labels-skip : {live new : ℕ → Bool} {f L : ℕ → ℕ} {p q : ℕ} → Kept live new p q → Labels live f L → Labels new (skip f p q) L
-labels-skip {f = f} K Λ = record {
+pub labels_skip : {live new : ℕ → Bool} {f L : ℕ → ℕ} {p q : ℕ} → Kept live new p q → Labels live f L → Labels new (skip f p q) L
+labels_skip {f = f} K Λ = record {
   says = λ x y s t.
       let a = K.was x s in
       let b = K.was y t in
-      Iff·trans (Λ.says x y a.0 b.0) (Iff·symm (skip_meets f a.1 a.2 b.1 b.2));
+      Iff.trans (Λ.says x y a.0 b.0) (Iff.symm (skip_meets f a.1 a.2 b.1 b.2));
 }
 
-module _ {D : ℕ} {live new : ℕ → Bool} {f L : ℕ → ℕ} {p q : ℕ} (π : Perm D f) (pD : p < D) (qD : q < D)
+module _ {D : ℕ} {live new : ℕ → Bool} {f L : ℕ → ℕ} {p q : ℕ} (π : Perm D f) (p_d : p < D) (q_d : q < D)
     (K : Kept live new p q) (Λ : Labels live f L) (pl : T (live p)) (ql : T (live q)) where
-  either-iff : (x : ℕ) → T (live x) → Either L p q x ↔ On f p q x
-  either-iff x t = ⊎-iff (Λ.says x p t pl) (Λ.says x q t ql)
+  either_iff : (x : ℕ) → T (live x) → Either L p q x ↔ On f p q x
+  either_iff x t = ⊎_iff (Λ.says x p t pl) (Λ.says x q t ql)
 
   -- p and q have two labels, so splice joins two cycles, and the merged labels say who is on whose
-  pub labels-splice : {M : ℕ → ℕ} → Merges L M p q → L p ≢ L q → Labels new (splice f p q) M
-  labels-splice {M} μ n = record {
+  pub labels_splice : {M : ℕ → ℕ} → Merges L M p q → L p ≢ L q → Labels new (splice f p q) M
+  labels_splice {M} μ n = record {
     says = λ x y s t.
         let a = K.was x s in
         let b = K.was y t in
-        let joined = ⊎-iff (Λ.says x y a.0 b.0) (Iff·and (either-iff x a.0) (either-iff y b.0)) in
-        let spliced = splice-meets π p q pD qD (λ m. n ((Λ.says p q pl ql).1 m)) a.1 a.2 b.1 b.2 in
-        Iff·trans (μ.when x y) (Iff·trans joined (Iff·symm spliced));
+        let joined = ⊎_iff (Λ.says x y a.0 b.0) (Iff.and (either_iff x a.0) (either_iff y b.0)) in
+        let spliced = splice_meets π p q p_d q_d (λ m. n ((Λ.says p q pl ql).1 m)) a.1 a.2 b.1 b.2 in
+        Iff.trans (μ.when x y) (Iff.trans joined (Iff.symm spliced));
   }
 
 -- ---- one way to merge
@@ -57,18 +57,18 @@ module _ {D : ℕ} {live new : ℕ → Bool} {f L : ℕ → ℕ} {p q : ℕ} (π
 unfoldable pub merge : (ℕ → ℕ) → ℕ → ℕ → ℕ → ℕ
 merge L p q x = pick (eqb (L x) (L q)) (L p) (L x)
 
-pub merge-merges : (L : ℕ → ℕ) (p q : ℕ) → Merges L (merge L p q) p q
+pub merge_merges : (L : ℕ → ℕ) (p q : ℕ) → Merges L (merge L p q) p q
 unfolding merge
-merge-merges L p q = record { when = λ x y. go x y (ℕ_discrete (L x) (L q)) (ℕ_discrete (L y) (L q)) }
+merge_merges L p q = record { when = λ x y. go x y (ℕ_discrete (L x) (L q)) (ℕ_discrete (L y) (L q)) }
   where
     go : (x y : ℕ) → Dec (L x ≡ L q) → Dec (L y ≡ L q) → (merge L p q x ≡ merge L p q y) ↔ ((L x ≡ L y) ⊎ (Either L p q x × Either L p q y))
     go x y (yes a) (yes b) = (λ k. inl (a ∙ sym b), λ h. rw (eqb_same a, eqb_same b))
     go x y (yes a) (no b) =
-        rw (eqb_same a, eqb-other b)
+        rw (eqb_same a, eqb_other b)
         (λ k. inr (inr a, inl (sym k)), ⊎_elim (λ h. absurd (b (sym h ∙ a))) (λ h. ⊎_elim sym (λ k. absurd (b k)) h.1))
     go x y (no a) (yes b) =
-        rw (eqb-other a, eqb_same b)
+        rw (eqb_other a, eqb_same b)
         (λ k. inr (inl k, inr b), ⊎_elim (λ h. absurd (a (h ∙ b))) (λ h. ⊎_elim (λ k. k) (λ k. absurd (a k)) h.0))
     go x y (no a) (no b) =
-        rw (eqb-other a, eqb-other b)
+        rw (eqb_other a, eqb_other b)
         (λ k. inl k, ⊎_elim (λ h. h) (λ h. ⊎_elim (λ k. k) (λ k. absurd (a k)) h.0 ∙ sym (⊎_elim (λ k. k) (λ k. absurd (b k)) h.1)))

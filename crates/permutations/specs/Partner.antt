@@ -4,7 +4,7 @@
 use Rattle.std.specs.Prelude.{◌≢◌, ◌⊎◌, ◌≡◌, ℕ, ◌%◌, ◌+◌, ◌-◌, ◌*◌, ◌/◌, ◌<◌, eqb}
 use Rattle.std.proofs.Common.{inl, inr, ⊎_elim, ap, ◌∙◌, subst, sym, arith}
 use Rattle.std.proofs.Math.Decide.{ℕ_discrete}
-use Rattle.permutations.specs.Choice.{pick, eqb_same, eqb-other}
+use Rattle.permutations.specs.Choice.{pick, eqb_same, eqb_other}
 
 -- "The partner of an even dart is one more, of an odd dart one less."
 unfoldable pub partner : ℕ → ℕ
@@ -12,47 +12,47 @@ partner x = pick (eqb (x % 2) 0) (x + 1) (x - 1)
 
 -- ---- by the last bit
 
-pub partner-even : (x : ℕ) → x % 2 ≡ 0 → partner x ≡ x + 1
+pub partner_even : (x : ℕ) → x % 2 ≡ 0 → partner x ≡ x + 1
 unfolding partner
-partner-even x e = rw (eqb_same e)
+partner_even x e = rw (eqb_same e)
 
-pub partner-odd : (x : ℕ) → x % 2 ≢ 0 → partner x ≡ x - 1
+pub partner_odd : (x : ℕ) → x % 2 ≢ 0 → partner x ≡ x - 1
 unfolding partner
-partner-odd x n = rw (eqb-other n)
+partner_odd x n = rw (eqb_other n)
 
 -- even and one more, or odd and one less
-pub partner-cases : (x : ℕ) → ((x % 2 ≡ 0) × (partner x ≡ x + 1)) ⊎ ((x % 2 ≡ 1) × (partner x ≡ x - 1))
-partner-cases x = go (ℕ_discrete (x % 2) 0)
+pub partner_cases : (x : ℕ) → ((x % 2 ≡ 0) × (partner x ≡ x + 1)) ⊎ ((x % 2 ≡ 1) × (partner x ≡ x - 1))
+partner_cases x = go (ℕ_discrete (x % 2) 0)
   where
     go : Dec (x % 2 ≡ 0) → ((x % 2 ≡ 0) × (partner x ≡ x + 1)) ⊎ ((x % 2 ≡ 1) × (partner x ≡ x - 1))
-    go (yes e) = inl (e, partner-even x e)
-    go (no n) = inr (omega arith, partner-odd x n)
+    go (yes e) = inl (e, partner_even x e)
+    go (no n) = inr (omega arith, partner_odd x n)
 
 -- ---- by the edge
 
-pub partner-first : (e : ℕ) → partner (2 * e) ≡ 2 * e + 1
-partner-first e = partner-even (2 * e) (omega arith)
+pub partner_first : (e : ℕ) → partner (2 * e) ≡ 2 * e + 1
+partner_first e = partner_even (2 * e) (omega arith)
 
-pub partner-second : (e : ℕ) → partner (2 * e + 1) ≡ 2 * e
-partner-second e = let h = partner-odd (2 * e + 1) (omega arith) in omega arith
+pub partner_second : (e : ℕ) → partner (2 * e + 1) ≡ 2 * e
+partner_second e = let h = partner_odd (2 * e + 1) (omega arith) in omega arith
 
 -- the partner is on the same edge
-pub partner-edge : (x : ℕ) → partner x / 2 ≡ x / 2
-partner-edge x = ⊎_elim (λ a. omega arith) (λ a. omega arith) (partner-cases x)
+pub partner_edge : (x : ℕ) → partner x / 2 ≡ x / 2
+partner_edge x = ⊎_elim (λ a. omega arith) (λ a. omega arith) (partner_cases x)
 
 -- ---- a pairing
 
-pub partner-ne : (x : ℕ) → x ≢ partner x
-partner-ne x = ⊎_elim (λ a. omega arith) (λ a. omega arith) (partner-cases x)
+pub partner_ne : (x : ℕ) → x ≢ partner x
+partner_ne x = ⊎_elim (λ a. omega arith) (λ a. omega arith) (partner_cases x)
 
-pub partner-partner : (x : ℕ) → partner (partner x) ≡ x
-partner-partner x = ⊎_elim
-    (λ a. let h = partner-odd (partner x) (omega arith) in omega arith)
-    (λ a. let h = partner-even (partner x) (omega arith) in omega arith) (partner-cases x)
+pub partner_partner : (x : ℕ) → partner (partner x) ≡ x
+partner_partner x = ⊎_elim
+    (λ a. let h = partner_odd (partner x) (omega arith) in omega arith)
+    (λ a. let h = partner_even (partner x) (omega arith) in omega arith) (partner_cases x)
 
 -- an even number of darts holds each dart with its partner
-pub partner-below : (D x : ℕ) → x < D → D % 2 ≡ 0 → partner x < D
-partner-below D x h e = ⊎_elim (λ a. omega arith) (λ a. omega arith) (partner-cases x)
+pub partner_below : (D x : ℕ) → x < D → D % 2 ≡ 0 → partner x < D
+partner_below D x h e = ⊎_elim (λ a. omega arith) (λ a. omega arith) (partner_cases x)
 
 -- ---- the darts of an edge
 
@@ -67,11 +67,11 @@ end? p x = go (ℕ_discrete x p) (ℕ_discrete x (partner p))
     go (no n) (yes e) = yes (inr e)
     go (no n) (no k) = no (⊎_elim n k)
 
-pub end-partner : {p x : ℕ} → End p x → End p (partner x)
-end-partner {p} = ⊎_elim (λ e. inr (ap partner e)) (λ e. inl (ap partner e ∙ partner-partner p))
+pub end_partner : {p x : ℕ} → End p x → End p (partner x)
+end_partner {p} = ⊎_elim (λ e. inr (ap partner e)) (λ e. inl (ap partner e ∙ partner_partner p))
 
-pub partner-end : {p x : ℕ} → End p (partner x) → End p x
-partner-end {p} {x} e = subst (End p) (partner-partner x) (end-partner e)
+pub partner_end : {p x : ℕ} → End p (partner x) → End p x
+partner_end {p} {x} e = subst (End p) (partner_partner x) (end_partner e)
 
-pub end-sym : {p x : ℕ} → End p x → End x p
-end-sym {p} {x} = ⊎_elim (λ e. inl (sym e)) (λ e. inr (sym (partner-partner p) ∙ ap partner (sym e)))
+pub end_sym : {p x : ℕ} → End p x → End x p
+end_sym {p} {x} = ⊎_elim (λ e. inl (sym e)) (λ e. inr (sym (partner_partner p) ∙ ap partner (sym e)))

@@ -4,7 +4,7 @@
 use Rattle.std.specs.Prelude.{◌≢◌, ◌≡◌, refl, ℕ, ◌≤◌, ◌<◌, eqb}
 use Rattle.std.proofs.Common.{sym, ◌∙◌, ap, arith}
 use Rattle.std.proofs.Math.Decide.{dec_lt, ℕ_discrete}
-use Rattle.permutations.specs.Choice.{pick, eqb_same, eqb-other}
+use Rattle.permutations.specs.Choice.{pick, eqb_same, eqb_other}
 
 pub record Perm (D : ℕ) (f : ℕ → ℕ) : Type 0 where
   pub inv : ℕ → ℕ
@@ -30,41 +30,41 @@ unfoldable pub without : (ℕ → ℕ) → ℕ → ℕ → ℕ
 without f p x = pick (eqb x p) p (pick (eqb (f x) p) (f p) (f x))
 
 module _ (f : ℕ → ℕ) {p x : ℕ} where
-  pub without-self : x ≡ p → without f p x ≡ p
+  pub without_self : x ≡ p → without f p x ≡ p
   unfolding without
-  without-self e = rw (eqb_same e)
+  without_self e = rw (eqb_same e)
 
-  pub without-over : x ≢ p → f x ≡ p → without f p x ≡ f p
+  pub without_over : x ≢ p → f x ≡ p → without f p x ≡ f p
   unfolding without
-  without-over n e = rw (eqb-other n, eqb_same e)
+  without_over n e = rw (eqb_other n, eqb_same e)
 
-  pub without-keep : x ≢ p → f x ≢ p → without f p x ≡ f x
+  pub without_keep : x ≢ p → f x ≢ p → without f p x ≡ f x
   unfolding without
-  without-keep n m = rw (eqb-other n, eqb-other m)
+  without_keep n m = rw (eqb_other n, eqb_other m)
 
 -- a number that f leaves where it is stays so
-pub without-fixed : (f : ℕ → ℕ) (p x : ℕ) → f x ≡ x → without f p x ≡ x
-without-fixed f p x e = go (ℕ_discrete x p)
+pub without_fixed : (f : ℕ → ℕ) (p x : ℕ) → f x ≡ x → without f p x ≡ x
+without_fixed f p x e = go (ℕ_discrete x p)
   where
     go : Dec (x ≡ p) → without f p x ≡ x
-    go (yes k) = without-self f k ∙ sym k
-    go (no n) = without-keep f n (λ k. n (sym e ∙ k)) ∙ e
+    go (yes k) = without_self f k ∙ sym k
+    go (no n) = without_keep f n (λ k. n (sym e ∙ k)) ∙ e
 
 -- what undoes f undoes it with p left out, too
-without-undone : (f g : ℕ → ℕ) → ((x : ℕ) → g (f x) ≡ x) → (p x : ℕ) → without g p (without f p x) ≡ x
-without-undone f g back p x = go (ℕ_discrete x p) (ℕ_discrete (f x) p)
+without_undone : (f g : ℕ → ℕ) → ((x : ℕ) → g (f x) ≡ x) → (p x : ℕ) → without g p (without f p x) ≡ x
+without_undone f g back p x = go (ℕ_discrete x p) (ℕ_discrete (f x) p)
   where
     go : Dec (x ≡ p) → Dec (f x ≡ p) → without g p (without f p x) ≡ x
-    go (yes e) d = rw (without-self f e, without-self g refl) (sym e)
+    go (yes e) d = rw (without_self f e, without_self g refl) (sym e)
     go (no n) (yes e) =
         let fp : f p ≢ p = λ k. n (sym (back x) ∙ ap g (e ∙ sym k) ∙ back p) in
-        rw (without-over f n e, without-over g fp (back p)) (ap g (sym e) ∙ back x)
-    go (no n) (no m) = rw (without-keep f n m, without-keep g m (λ k. n (sym (back x) ∙ k))) (back x)
+        rw (without_over f n e, without_over g fp (back p)) (ap g (sym e) ∙ back x)
+    go (no n) (no m) = rw (without_keep f n m, without_keep g m (λ k. n (sym (back x) ∙ k))) (back x)
 
-pub without-perm : {D : ℕ} {f : ℕ → ℕ} → Perm D f → (p : ℕ) → Perm D (without f p)
-without-perm {D} {f} π p = record {
+pub without_perm : {D : ℕ} {f : ℕ → ℕ} → Perm D f → (p : ℕ) → Perm D (without f p)
+without_perm {D} {f} π p = record {
   inv = without π.inv p;
-  back = without-undone f π.inv π.back p;
-  forth = without-undone π.inv f π.forth p;
-  still = λ x h. without-fixed f p x (π.still x h);
+  back = without_undone f π.inv π.back p;
+  forth = without_undone π.inv f π.forth p;
+  still = λ x h. without_fixed f p x (π.still x h);
 }

@@ -24,16 +24,16 @@ find h v (suc n) = go (ℕ_discrete (h n) v) (find h v n)
 close : ℕ → ℕ → ℕ
 close v a = pick (ltb v a) (a - 1) a
 
-close-either : (v a : ℕ) → ((v < a) × (close v a ≡ a - 1)) ⊎ ((a ≤ v) × (close v a ≡ a))
+close_either : (v a : ℕ) → ((v < a) × (close v a ≡ a - 1)) ⊎ ((a ≤ v) × (close v a ≡ a))
 unfolding close
-close-either v a = go (ltb v a) refl
+close_either v a = go (ltb v a) refl
   where
     go : (b : Bool) → ltb v a ≡ b → ((v < a) × (pick b (a - 1) a ≡ a - 1)) ⊎ ((a ≤ v) × (pick b (a - 1) a ≡ a))
     go true e = inl (ltb→lt v a (subst T (sym e) tt), refl)
     go false e = inr (nltb→le v a (subst (λ b. T (not b)) (sym e) tt), refl)
 
-close-inj : (v a b : ℕ) → a ≢ v → b ≢ v → close v a ≡ close v b → a ≡ b
-close-inj v a b m n e = go (close-either v a) (close-either v b)
+close_inj : (v a b : ℕ) → a ≢ v → b ≢ v → close v a ≡ close v b → a ≡ b
+close_inj v a b m n e = go (close_either v a) (close_either v b)
   where
     go : ((v < a) × (close v a ≡ a - 1)) ⊎ ((a ≤ v) × (close v a ≡ a))
         → ((v < b) × (close v b ≡ b - 1)) ⊎ ((b ≤ v) × (close v b ≡ b)) → a ≡ b
@@ -42,8 +42,8 @@ close-inj v a b m n e = go (close-either v a) (close-either v b)
     go (inr x) (inl y) = omega arith
     go (inr x) (inr y) = omega arith
 
-close-below : (v a m : ℕ) → a ≢ v → v < suc m → a < suc m → close v a < m
-close-below v a m n l k = ⊎_elim (λ x. omega arith) (λ x. omega arith) (close-either v a)
+close_below : (v a m : ℕ) → a ≢ v → v < suc m → a < suc m → close v a < m
+close_below v a m n l k = ⊎_elim (λ x. omega arith) (λ x. omega arith) (close_either v a)
 
 -- the values at `first` and `second`, two different places up to n, are the same
 pub record Clash (h : ℕ → ℕ) (n : ℕ) : Type 0 where
@@ -56,7 +56,7 @@ pub record Clash (h : ℕ → ℕ) (n : ℕ) : Type 0 where
 pub pigeonhole : (n : ℕ) (h : ℕ → ℕ) → ((i : ℕ) → i ≤ n → h i < n) → Clash h n
 pigeonhole zero h l = absurd (not-suc-le-zero (l 0 (omega arith)))
 pigeonhole (suc m) h l = go (λ r. pigeonhole m (λ i. close (h (suc m)) (h i)) (λ i k.
-    close-below (h (suc m)) (h i) m (r i (omega arith)) (l (suc m) (omega arith)) (l i (omega arith)))) (find h (h (suc m)) (suc m))
+    close_below (h (suc m)) (h i) m (r i (omega arith)) (l (suc m) (omega arith)) (l i (omega arith)))) (find h (h (suc m)) (suc m))
   where
     go : (((i : ℕ) → i < suc m → h i ≢ h (suc m)) → Clash (λ i. close (h (suc m)) (h i)) m)
         → ((i : ℕ) × (i < suc m) × (h i ≡ h (suc m))) ⊎ ((i : ℕ) → i < suc m → h i ≢ h (suc m)) → Clash h (suc m)
@@ -68,5 +68,5 @@ pigeonhole (suc m) h l = go (λ r. pigeonhole m (λ i. close (h (suc m)) (h i)) 
           second = c.second;
           order = c.order;
           last = omega arith;
-          same = close-inj (h (suc m)) (h c.first) (h c.second) (r c.first (omega arith)) (r c.second (omega arith)) c.same;
+          same = close_inj (h (suc m)) (h c.first) (h c.second) (r c.first (omega arith)) (r c.second (omega arith)) c.same;
         }

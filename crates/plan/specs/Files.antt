@@ -7,14 +7,14 @@ use Rattle.std.specs.Prelude.{Bool, List, ℕ, eqb}
 use Rattle.darts.specs.Choose.{if◌then◌else◌}
 use Rattle.darts.specs.Calls.{After, Written, write}
 use Rattle.grids.specs.Grid.{Grid, flat}
-use Rattle.grids.specs.Plans.{planBase, planAreas}
-use Rattle.plan.specs.Drawing.{walesOf, coursesOf, plan_of}
+use Rattle.grids.specs.Plans.{plan_base, plan_areas}
+use Rattle.plan.specs.Drawing.{wales_of, courses_of, plan_of}
 
 unfoldable pub called : Bool → Grid → List ℕ → List ℕ → List ℕ → List ℕ → After
-called b g plan t h w = if b then planBase g plan t h w else planAreas g plan t h w
+called b g plan t h w = if b then plan_base g plan t h w else plan_areas g plan t h w
 
 unfoldable pub drawn : Bool → List ℕ → List ℕ → List ℕ → List ℕ → After
-drawn b d t h w = called b (flat (walesOf d) (coursesOf d)) (plan_of d) t h w
+drawn b d t h w = called b (flat (wales_of d) (courses_of d)) (plan_of d) t h w
 
 unfoldable pub written : After → List ℕ → Written
 written a o =

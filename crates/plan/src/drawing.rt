@@ -2,11 +2,11 @@
 ghost use Rattle.std.specs.Prelude.{◌≡◌, ◌≤◌, length};
 ghost use Rattle.slices.specs.Laid.{laid, Space};
 ghost use Rattle.slices.specs.Over.{over};
-ghost use Rattle.plan.specs.Drawing.{walesOf, wrongFrom, upsideDown, Fits};
+ghost use Rattle.plan.specs.Drawing.{wales_of, wrong_from, upside_down, Fits};
 
 // How many bytes the first line has.
 pub fn wales(drawing: &[u8]) -> usize
-    ensures { (result ≡ walesOf drawing.now) × (result ≤ length drawing.now) }
+    ensures { (result ≡ wales_of drawing.now) × (result ≤ length drawing.now) }
 {
     let mut i = 0;
     while i < drawing.len() {
@@ -21,7 +21,7 @@ pub fn wales(drawing: &[u8]) -> usize
 // The first line, counted from 1 in the order drawn, whose length is another or whose line feed is missing; 0 where all are right. Of line n,
 // k bytes are passed.
 pub fn wrong_line(drawing: &[u8], wales: usize) -> usize
-    ensures { result ≡ wrongFrom wales 0 1 drawing.now }
+    ensures { result ≡ wrong_from wales 0 1 drawing.now }
 {
     let mut i = 0;
     let mut k = 0;
@@ -63,7 +63,7 @@ fn put_line(plan: &mut [u8], at: usize, line: &[u8])
 // The plan of a drawing, "lowest course first": course y is line C - 1 - y.
 pub fn turn(drawing: &[u8], wales: usize, courses: usize, plan: &mut [u8])
     requires { Fits wales courses drawing.now plan.old }
-    ensures { plan.new ≡ over (upsideDown wales drawing.now courses) plan.old }
+    ensures { plan.new ≡ over (upside_down wales drawing.now courses) plan.old }
 {
     let mut y = 0;
     while y < courses {

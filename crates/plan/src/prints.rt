@@ -1,6 +1,6 @@
 // What is printed: the file, the line of a refused plan, the line of a wrong drawing.
 ghost use Rattle.std.specs.Prelude.{◌≡◌, ◌≤◌, length};
-ghost use Rattle.plan.specs.Drawing.{wrongLine};
+ghost use Rattle.plan.specs.Drawing.{wrong_line};
 
 use crate::file::file;
 use crate::rooms::{HistoryRoom, OutputRoom, PlanRoom, TableRoom, WorkRoom};
@@ -41,7 +41,7 @@ fn print_in(
     work: &mut WorkRoom,
     output: &mut OutputRoom,
 )
-    requires { (wrongLine drawing.now ≡ 0) × (length drawing.now ≤ 65536) }
+    requires { (wrong_line drawing.now ≡ 0) × (length drawing.now ≤ 65536) }
 {
     let answer = file(drawing, base, plan, table, history, work, output);
     if answer.number() != 0 {
@@ -53,7 +53,7 @@ fn print_in(
 
 // The same, over rooms of zeros, each made here and lent whole, so that it stands on the stack once.
 pub fn print(drawing: &[u8], base: bool)
-    requires { (wrongLine drawing.now ≡ 0) × (length drawing.now ≤ 65536) }
+    requires { (wrong_line drawing.now ≡ 0) × (length drawing.now ≤ 65536) }
 {
     let mut plan = [0u8; 65536];
     let mut table = [0u32; 65024];

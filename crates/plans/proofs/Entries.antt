@@ -1,11 +1,11 @@
 -- A table laid entry by entry, edge by edge, in rows.
 --   Laying T first row rows to₀ to e x y == to is to₀ with the entries of T up to edge e over its own; the edges from `first` on stand in rows, e at
 --                                           place x of row y
---   laying-begins  == no row is begun
---   laying-inside  == an edge that is left stands at a place of a row
---   laying-on      == the two entries of an edge more, and the next place of its row
---   laying-over    == the same at a row's end: the next row begins
---   laying-ends    == no edge is left
+--   laying_begins  == no row is begun
+--   laying_inside  == an edge that is left stands at a place of a row
+--   laying_on      == the two entries of an edge more, and the next place of its row
+--   laying_over    == the same at a row's end: the next row begins
+--   laying_ends    == no edge is left
 use mathlib.Core.List.{List, ◌++◌}
 use mathlib.Core.Path.{◌≡◌, refl, sym, ◌∙◌}
 use Prim.Native.Nat.{ℕ, zero, suc, ◌+◌, ◌*◌, ◌≤◌, ◌<◌}
@@ -26,9 +26,9 @@ pub record Laying (T : List ℕ) (first row rows : ℕ) (to₀ to : List ℕ) (e
   pub bound : e ≤ first + row * rows
   pub same : to ≡ take (2 * e) T ++ drop (2 * e) to₀
 
-pub laying-begins : {T : List ℕ} {first row rows : ℕ} {to : List ℕ} → take (2 * first) to ≡ take (2 * first) T
+pub laying_begins : {T : List ℕ} {first row rows : ℕ} {to : List ℕ} → take (2 * first) to ≡ take (2 * first) T
     → Laying T first row rows to to first 0 0
-laying-begins {first = first} {row = row} {to = to} e = record {
+laying_begins {first = first} {row = row} {to = to} e = record {
   size = refl;
   place = omega (arith, zero-mul row);
   inside = λ h. h;
@@ -53,42 +53,42 @@ row_inside (suc n) rows x y h l = (h (omega arith), go (dec_lt y rows))
 
 module _ {T : List ℕ} {first row rows : ℕ} {to₀ to : List ℕ} {e x y : ℕ}
     (fits : 2 * (first + row * rows) ≤ length T) (long : length T ≤ length to₀) (l : Laying T first row rows to₀ to e x y) where
-  pub laying-inside : e < first + row * rows → (x < row) × (y < rows)
-  laying-inside more = row_inside row rows x y l.inside (omega (arith, l.place))
+  pub laying_inside : e < first + row * rows → (x < row) × (y < rows)
+  laying_inside more = row_inside row rows x y l.inside (omega (arith, l.place))
 
   module _ (more : e < first + row * rows) {a b : ℕ} (even : a ≡ get_or T (2 * e) 0) (odd : b ≡ get_or T (2 * e + 1) 0) where
-    two-more : set (set to (2 * e) a) (2 * e + 1) b ≡ take (2 * (e + 1)) T ++ drop (2 * (e + 1)) to₀
-    two-more =
+    two_more : set (set to (2 * e) a) (2 * e + 1) b ≡ take (2 * (e + 1)) T ++ drop (2 * (e + 1)) to₀
+    two_more =
         let i : 2 * (e + 1) ≡ 2 * e + 1 + 1 = omega arith in
         rw i (one_more T to₀ (2 * e + 1) (omega arith) long (one_more T to₀ (2 * e) (omega arith) long l.same even) odd)
 
-    size-kept : length (set (set to (2 * e) a) (2 * e + 1) b) ≡ length to₀
-    size-kept = length-set (set to (2 * e) a) (2 * e + 1) b ∙ length-set to (2 * e) a ∙ l.size
+    size_kept : length (set (set to (2 * e) a) (2 * e + 1) b) ≡ length to₀
+    size_kept = length-set (set to (2 * e) a) (2 * e + 1) b ∙ length-set to (2 * e) a ∙ l.size
 
-    pub laying-on : x + 1 < row → Laying T first row rows to₀ (set (set to (2 * e) a) (2 * e + 1) b) (e + 1) (x + 1) y
-    laying-on h = record {
-      size = size-kept;
+    pub laying_on : x + 1 < row → Laying T first row rows to₀ (set (set to (2 * e) a) (2 * e + 1) b) (e + 1) (x + 1) y
+    laying_on h = record {
+      size = size_kept;
       place = omega (arith, l.place);
       inside = λ _. h;
       narrow = omega arith;
       low = l.low;
       bound = omega arith;
-      same = two-more;
+      same = two_more;
     }
 
-    pub laying-over : x + 1 ≡ row → Laying T first row rows to₀ (set (set to (2 * e) a) (2 * e + 1) b) (e + 1) 0 (y + 1)
-    laying-over h = record {
-      size = size-kept;
+    pub laying_over : x + 1 ≡ row → Laying T first row rows to₀ (set (set to (2 * e) a) (2 * e + 1) b) (e + 1) 0 (y + 1)
+    laying_over h = record {
+      size = size_kept;
       place = let m = suc-mul y row in rw (add-one y) (omega (arith, l.place));
       inside = λ k. k;
       narrow = omega arith;
-      low = let (i, j) = laying-inside more in omega arith;
+      low = let (i, j) = laying_inside more in omega arith;
       bound = omega arith;
-      same = two-more;
+      same = two_more;
     }
 
-  pub laying-ends : first + row * rows ≤ e → to ≡ over (take (2 * (first + row * rows)) T) to₀
+  pub laying_ends : first + row * rows ≤ e → to ≡ over (take (2 * (first + row * rows)) T) to₀
   unfolding over
-  laying-ends none =
+  laying_ends none =
       let i : e ≡ first + row * rows = omega (arith, l.bound) in
       rw (length-take-le (2 * (first + row * rows)) T fits) (rw (← i) l.same)

@@ -1,7 +1,7 @@
 // The calls that begin from a plan.
 ghost use Rattle.std.specs.Prelude.{◌≡◌};
 ghost use Rattle.grids.specs.Grid.{flat};
-ghost use Rattle.grids.specs.Plans.{planBase, planAreas};
+ghost use Rattle.grids.specs.Plans.{plan_base, plan_areas};
 ghost use Rattle.pyramid.specs.Values.{left};
 
 use crate::first::first_kernel;
@@ -23,7 +23,7 @@ pub fn plan(
     work: &mut [u32],
 ) -> Outcome
     ensures { left result table.new history.new work.new
-        ≡ planBase (flat wales courses) plan.now table.old history.old work.old }
+        ≡ plan_base (flat wales courses) plan.now table.old history.old work.old }
 {
     let judged = fit_plan(
         wales,
@@ -51,7 +51,7 @@ pub fn plan_areas(
     work: &mut [u32],
 ) -> Outcome
     ensures { left result table.new history.new work.new
-        ≡ planAreas (flat wales courses) plan.now table.old history.old work.old }
+        ≡ plan_areas (flat wales courses) plan.now table.old history.old work.old }
 {
     let judged = fit_plan(
         wales,

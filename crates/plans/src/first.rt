@@ -2,12 +2,12 @@
 ghost use Rattle.std.specs.Prelude.{[], ◌≡◌, ◌≤◌, ◌<◌, length};
 ghost use Rattle.darts.specs.declared.Answer.TheVariants.{Done};
 ghost use Rattle.laws.specs.Standing.{Standing};
-ghost use Rattle.area.specs.Area.{Room, tableIn};
+ghost use Rattle.area.specs.Area.{Room, table_in};
 ghost use Rattle.engine.specs.Held.{Ready};
 ghost use Rattle.engine.specs.Runs.{Went};
-ghost use Rattle.grids.specs.Grid.{flat, cells, edges, dartsOf};
-ghost use Rattle.grids.specs.Base.{baseTable};
-ghost use Rattle.grids.specs.Plans.{oneCode, firstKernel};
+ghost use Rattle.grids.specs.Grid.{flat, cells, edges, darts_of};
+ghost use Rattle.grids.specs.Base.{base_table};
+ghost use Rattle.grids.specs.Plans.{one_code, first_kernel};
 ghost use Rattle.plans.specs.Limits.{Sized};
 ghost use Rattle.plans.specs.Prepared.{Bound, Prepared};
 
@@ -21,7 +21,7 @@ fn one_code(plan: &[u8], w: usize, c: usize, e: usize) -> bool
     requires sized { Sized w c }
     requires e_bound { e < edges (flat w c) }
     requires c_in_bounds { cells (flat w c) ≤ length plan.now }
-    ensures { result ≡ oneCode (flat w c) plan.now e }
+    ensures { result ≡ one_code (flat w c) plan.now e }
 {
     let a = (w - 1) * c;
     if e < a {
@@ -35,7 +35,7 @@ fn one_code(plan: &[u8], w: usize, c: usize, e: usize) -> bool
 // Each dart of a base is noted before its successor. A base needs no test: no two darts lead to one, and every dart is led to.
 fn bind_base(work: &mut [u32], d: usize)
     requires room { Room d work.old }
-    requires standing { Standing d (tableIn d work.old) [] }
+    requires standing { Standing d (table_in d work.old) [] }
     ensures { Bound d d work.old work.new }
 {
     let mut x = 0;
@@ -49,7 +49,7 @@ fn bind_base(work: &mut [u32], d: usize)
 // The base in the work area, with the dart before each dart and a tree for each vertex.
 fn prepare(work: &mut [u32], w: usize, c: usize, d: usize)
     requires sized { Sized w c }
-    requires d_value { d ≡ dartsOf (flat w c) }
+    requires d_value { d ≡ darts_of (flat w c) }
     requires room { Room d work.old }
     ensures { Prepared (flat w c) d work.old work.new }
 {
@@ -62,10 +62,10 @@ fn prepare(work: &mut [u32], w: usize, c: usize, d: usize)
 fn take_edges(work: &mut [u32], w: usize, c: usize, d: usize, plan: &[u8]) -> usize
     requires sized { Sized w c }
     requires c_in_bounds { cells (flat w c) ≤ length plan.now }
-    requires d_value { d ≡ dartsOf (flat w c) }
+    requires d_value { d ≡ darts_of (flat w c) }
     requires ready { Ready d 0 1 work.old }
-    requires work_value { tableIn d work.old ≡ baseTable (flat w c) }
-    ensures { Went d (firstKernel (flat w c) plan.now) work.old work.new
+    requires work_value { table_in d work.old ≡ base_table (flat w c) }
+    ensures { Went d (first_kernel (flat w c) plan.now) work.old work.new
         (record { answer = Done 0; operations = result }) }
 {
     let mut e = 0;
@@ -90,9 +90,9 @@ fn take_edges(work: &mut [u32], w: usize, c: usize, d: usize, plan: &[u8]) -> us
 pub(crate) fn first_kernel(work: &mut [u32], w: usize, c: usize, d: usize, plan: &[u8]) -> usize
     requires sized { Sized w c }
     requires c_in_bounds { cells (flat w c) ≤ length plan.now }
-    requires d_value { d ≡ dartsOf (flat w c) }
+    requires d_value { d ≡ darts_of (flat w c) }
     requires room { Room d work.old }
-    ensures { Went d (firstKernel (flat w c) plan.now) work.old work.new
+    ensures { Went d (first_kernel (flat w c) plan.now) work.old work.new
         (record { answer = Done 0; operations = result }) }
 {
     prepare(work, w, c, d);

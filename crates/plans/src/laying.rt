@@ -1,8 +1,8 @@
 // The base of a plan's grid, entry by entry: w wales and c courses, and the cell in wale x of course y.
 ghost use Rattle.std.specs.Prelude.{◌≡◌, ◌+◌, ◌-◌, ◌*◌, ◌≤◌, ◌<◌, length, take};
 ghost use Rattle.slices.specs.Over.{over};
-ghost use Rattle.grids.specs.Grid.{flat, dartsOf};
-ghost use Rattle.grids.specs.Base.{successorOn, baseTable};
+ghost use Rattle.grids.specs.Grid.{flat, darts_of};
+ghost use Rattle.grids.specs.Base.{successor_on, base_table};
 ghost use Rattle.plans.specs.Limits.{Sized, At, Lent};
 ghost use Rattle.plans.specs.Rising.{risen, Ran};
 
@@ -45,7 +45,7 @@ fn down_of(w: usize, c: usize, x: usize, y: usize) -> usize
 fn after_right(w: usize, c: usize, x: usize, y: usize) -> usize
     requires at { At w c x y }
     requires x_bound { x + 1 < w }
-    ensures { (result ≡ successorOn (flat w c) (2 * (y * (w - 1) + x))) × (result < 65536) }
+    ensures { (result ≡ successor_on (flat w c) (2 * (y * (w - 1) + x))) × (result < 65536) }
 {
     if y + 1 < c {
         return up_of(w, c, x, y);
@@ -63,7 +63,7 @@ fn after_right(w: usize, c: usize, x: usize, y: usize) -> usize
 fn after_up(w: usize, c: usize, x: usize, y: usize) -> usize
     requires at { At w c x y }
     requires y_bound { y + 1 < c }
-    ensures { (result ≡ successorOn (flat w c) (2 * ((w - 1) * c + (y * w + x)))) × (result < 65536) }
+    ensures { (result ≡ successor_on (flat w c) (2 * ((w - 1) * c + (y * w + x)))) × (result < 65536) }
 {
     if 0 < x {
         return left_of(w, x, y);
@@ -81,7 +81,7 @@ fn after_up(w: usize, c: usize, x: usize, y: usize) -> usize
 fn after_left(w: usize, c: usize, x: usize, y: usize) -> usize
     requires at { At w c x y }
     requires x_nonzero { 0 < x }
-    ensures { (result ≡ successorOn (flat w c) (2 * (y * (w - 1) + (x - 1)) + 1)) × (result < 65536) }
+    ensures { (result ≡ successor_on (flat w c) (2 * (y * (w - 1) + (x - 1)) + 1)) × (result < 65536) }
 {
     if 0 < y {
         return down_of(w, c, x, y);
@@ -99,7 +99,7 @@ fn after_left(w: usize, c: usize, x: usize, y: usize) -> usize
 fn after_down(w: usize, c: usize, x: usize, y: usize) -> usize
     requires at { At w c x y }
     requires y_nonzero { 0 < y }
-    ensures { (result ≡ successorOn (flat w c) (2 * ((w - 1) * c + ((y - 1) * w + x)) + 1)) × (result < 65536) }
+    ensures { (result ≡ successor_on (flat w c) (2 * ((w - 1) * c + ((y - 1) * w + x)) + 1)) × (result < 65536) }
 {
     if x + 1 < w {
         return right_of(w, x, y);
@@ -132,7 +132,7 @@ fn rise(to: &mut [u32], e: usize, n: usize, r: u32, l: u32)
 fn run_along(to: &mut [u32], w: usize, c: usize, e: usize, x: usize, y: usize) -> usize
     requires at { At w c x y × (x + 1 < w) }
     requires e_value { (e ≡ y * (w - 1) + x) × (2 * ((w - 1) * c + w * (c - 1)) ≤ length to.old) }
-    ensures { (x + result + 1 < w) × Ran (baseTable (flat w c)) e result to.old to.new }
+    ensures { (x + result + 1 < w) × Ran (base_table (flat w c)) e result to.old to.new }
 {
     if y == 0 {
         return 0;
@@ -151,7 +151,7 @@ fn run_along(to: &mut [u32], w: usize, c: usize, e: usize, x: usize, y: usize) -
 fn run_upright(to: &mut [u32], w: usize, c: usize, e: usize, x: usize, y: usize) -> usize
     requires at { At w c x y × ((0 < x) × (y + 1 < c)) }
     requires e_value { (e ≡ (w - 1) * c + (y * w + x)) × (2 * ((w - 1) * c + w * (c - 1)) ≤ length to.old) }
-    ensures { (x + result < w) × Ran (baseTable (flat w c)) e result to.old to.new }
+    ensures { (x + result < w) × Ran (base_table (flat w c)) e result to.old to.new }
 {
     let n = w - 1 - x;
     let l = left_of(w, x, y) as u32;
@@ -163,7 +163,7 @@ fn run_upright(to: &mut [u32], w: usize, c: usize, e: usize, x: usize, y: usize)
 // The entries of the a edges along the courses, course by course.
 fn lay_along(to: &mut [u32], w: usize, c: usize, a: usize)
     requires { Lent w c a (length to.old) }
-    ensures { to.new ≡ over (take (2 * a) (baseTable (flat w c))) to.old }
+    ensures { to.new ≡ over (take (2 * a) (base_table (flat w c))) to.old }
 {
     let mut e = 0;
     let mut x = 0;
@@ -186,8 +186,8 @@ fn lay_along(to: &mut [u32], w: usize, c: usize, a: usize)
 // The entries of the upright edges, by their lower cells, after those of the a edges along the courses.
 fn lay_upright(to: &mut [u32], w: usize, c: usize, a: usize)
     requires lent { Lent w c a (length to.old) }
-    requires to_value { take (2 * a) to.old ≡ take (2 * a) (baseTable (flat w c)) }
-    ensures { to.new ≡ over (baseTable (flat w c)) to.old }
+    requires to_value { take (2 * a) to.old ≡ take (2 * a) (base_table (flat w c)) }
+    ensures { to.new ≡ over (base_table (flat w c)) to.old }
 {
     let end = a + w * (c - 1);
     let mut e = a;
@@ -211,8 +211,8 @@ fn lay_upright(to: &mut [u32], w: usize, c: usize, a: usize)
 // The base's table over the first numbers of the slice.
 pub(crate) fn lay_base(to: &mut [u32], w: usize, c: usize)
     requires sized { Sized w c }
-    requires c_in_bounds { dartsOf (flat w c) ≤ length to.old }
-    ensures { to.new ≡ over (baseTable (flat w c)) to.old }
+    requires c_in_bounds { darts_of (flat w c) ≤ length to.old }
+    ensures { to.new ≡ over (base_table (flat w c)) to.old }
 {
     let a = (w - 1) * c;
     lay_along(to, w, c, a);

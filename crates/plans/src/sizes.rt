@@ -2,10 +2,10 @@
 ghost use Rattle.std.specs.Prelude.{◌≡◌, T};
 ghost use Rattle.darts.specs.Answers.{done};
 ghost use Rattle.darts.specs.Cases.{answer_of};
-ghost use Rattle.darts.specs.State.{baseState};
-ghost use Rattle.grids.specs.Base.{baseTable};
-ghost use Rattle.grids.specs.Grid.{flat, sized, dartsOf};
-ghost use Rattle.grids.specs.Plans.{fittingPlan};
+ghost use Rattle.darts.specs.State.{base_state};
+ghost use Rattle.grids.specs.Base.{base_table};
+ghost use Rattle.grids.specs.Grid.{flat, sized, darts_of};
+ghost use Rattle.grids.specs.Plans.{fitting_plan};
 ghost use Rattle.pyramid.specs.Values.{Hands};
 ghost use Rattle.plans.specs.Limits.{Sized};
 
@@ -36,7 +36,7 @@ fn size(wales: u32, courses: u32) -> bool
 // How many darts the plan's base has.
 pub(crate) fn darts_of(wales: u32, courses: u32) -> u32
     requires { Sized wales courses }
-    ensures { result ≡ dartsOf (flat wales courses) }
+    ensures { result ≡ darts_of (flat wales courses) }
 {
     2 * ((wales - 1) * courses + wales * (courses - 1))
 }
@@ -50,7 +50,7 @@ pub(crate) fn fit_plan(
     history: usize,
     work: usize,
 ) -> Answer
-    ensures { answer_of result ≡ fittingPlan (flat wales courses) plan table history work }
+    ensures { answer_of result ≡ fitting_plan (flat wales courses) plan table history work }
 {
     if !size(wales, courses) {
         return Answer::NoPlanSize;
@@ -68,7 +68,7 @@ pub(crate) fn fit_plan(
 // The plan's base, with its numbers: a vertex for each cell, a face for each square of four cells, and the outer face.
 pub(crate) fn base_of(wales: u32, courses: u32) -> Outcome
     requires { T (sized (flat wales courses)) }
-    ensures { Hands result done (baseState (dartsOf (flat wales courses)) (baseTable (flat wales courses))) }
+    ensures { Hands result done (base_state (darts_of (flat wales courses)) (base_table (flat wales courses))) }
 {
     let darts = darts_of(wales, courses);
     let vertices = wales * courses;

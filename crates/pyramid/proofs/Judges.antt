@@ -1,17 +1,17 @@
 -- What a call on a state is judged, in code.
---   check-fits   == neither 1 nor 2: what the check asks
---   fits-with, checked-with, cycles-with == what is asked and told of a state's figures, as of the state
+--   check_fits   == neither 1 nor 2: what the check asks
+--   fits_with, checked_with, cycles_with == what is asked and told of a state's figures, as of the state
 --   counted_same == a state that stores its numbers has those that are counted
---   found-decides == the check's answer, and the numbers that it found compared to the stored ones, say whether it is a pyramid
---   judged-first == 1 or 2: nothing is written
---   judged-no    == no: 4, and the work area is cleared
---   judged-yes   == yes
+--   found_decides == the check's answer, and the numbers that it found compared to the stored ones, say whether it is a pyramid
+--   judged_first == 1 or 2: nothing is written
+--   judged_no    == no: 4, and the work area is cleared
+--   judged_yes   == yes
 --   lent_of      == done: a pyramid is lent, with room
---   stacked-of   == the work area holds it
---   stood-of     == so that what comes next stands on it
---   any-kind     == where no kernel is coming, or one that is not judged, any forest will do
+--   stacked_of   == the work area holds it
+--   stood_of     == so that what comes next stands on it
+--   any_kind     == where no kernel is coming, or one that is not judged, any forest will do
 --   relabelled   == the forest of another kind, made on the map as it stands
---   room-then    == and what comes next in the work area has its room
+--   room_then    == and what comes next in the work area has its room
 use mathlib.Core.Bool.{Bool, true, false, ◌&&◌}
 use mathlib.Core.List.{List}
 use mathlib.Core.Logic.{◌≢◌, ◌↔◌}
@@ -20,36 +20,36 @@ use Prim.Native.Nat.{ℕ, ◌/◌, ◌≤◌}
 use native.Mathlib.Omega.{arith}
 use lib.Dec.{T, eqb}
 use lib.ListN.{length}
-use Rattle.permutations.specs.Choice.{T-ext, T→true, true→T, eqb-iff, and-iff}
-use Rattle.darts.specs.Answers.{Answer, done, noPyramid}
+use Rattle.permutations.specs.Choice.{T-ext, T→true, true→T, eqb_iff, and_iff}
+use Rattle.darts.specs.Answers.{Answer, done, no_pyramid}
 use Rattle.darts.specs.Choose.{if◌then◌else◌}
-use Rattle.darts.specs.Pyramid.{isPyramid}
+use Rattle.darts.specs.Pyramid.{is_pyramid}
 use Rattle.darts.specs.State.{State, counted}
-use Rattle.darts.specs.Calls.{fitting, table_of, past_of, judged, cleared, workAfter}
-use Rattle.laws.proofs.calls.Cleared.{cleared-kept}
-use Rattle.darts.proofs.Fitting.{Lengths, fits, first-keeps}
-use Rattle.laws.proofs.calls.Judging.{Lent, judged-unfit, judged-fit, judged-lent, judged-done}
-use Rattle.laws.proofs.claims.Decided.{pyramid-decided}
-use Rattle.laws.proofs.runs.Ends.{Stores, state-path}
-use Rattle.laws.proofs.runs.Pyramids.{pyramid-built}
+use Rattle.darts.specs.Calls.{fitting, table_of, past_of, judged, cleared, work_after}
+use Rattle.laws.proofs.calls.Cleared.{cleared_kept}
+use Rattle.darts.proofs.Fitting.{Lengths, fits, first_keeps}
+use Rattle.laws.proofs.calls.Judging.{Lent, judged_unfit, judged_fit, judged_lent, judged_done}
+use Rattle.laws.proofs.claims.Decided.{pyramid_decided}
+use Rattle.laws.proofs.runs.Ends.{Stores, state_path}
+use Rattle.laws.proofs.runs.Pyramids.{pyramid_built}
 use Rattle.area.specs.Area.{Room}
-use Rattle.area.specs.Shape.{stateWith}
+use Rattle.area.specs.Shape.{state_with}
 use Rattle.area.specs.declared.Figures.{Figures}
 use Rattle.engine.specs.Checks.{Checked}
 use Rattle.engine.specs.Counted.{CyclesAre, FindsCycles}
 use Rattle.engine.specs.declared.Found.{Found}
 use Rattle.engine.specs.Held.{Beyond}
-use Rattle.engine.proofs.Area.{room-kept}
-use Rattle.engine.proofs.Checking.{checked-pyramid}
+use Rattle.engine.proofs.Area.{room_kept}
+use Rattle.engine.proofs.Checking.{checked_pyramid}
 use Rattle.operations.specs.Cycles.{Labelled}
-use Rattle.engine.proofs.Beside.{beside-table, beside-past}
-use Rattle.engine.proofs.Labelled.{labelled-ready, labelled-beyond}
-use Rattle.engine.proofs.Ready.{beyond-refl}
+use Rattle.engine.proofs.Beside.{beside_table, beside_past}
+use Rattle.engine.proofs.Labelled.{labelled_ready, labelled_beyond}
+use Rattle.engine.proofs.Ready.{beyond_refl}
 use Rattle.pyramid.specs.Steps.{Judged, Stood, Stacked}
-use Rattle.pyramid.specs.Values.{figuresOf}
+use Rattle.pyramid.specs.Values.{figures_of}
 
-pub check-fits : {D t h : ℕ} {w : List ℕ} {a : Answer} → a ≡ fitting D t h (length w) → a.number ≡ 0 → Room D w × ((D ≤ t) × (D / 2 ≤ h))
-check-fits {D} {t} {h} {w} E fine =
+pub check_fits : {D t h : ℕ} {w : List ℕ} {a : Answer} → a ≡ fitting D t h (length w) → a.number ≡ 0 → Room D w × ((D ≤ t) × (D / 2 ≤ h))
+check_fits {D} {t} {h} {w} E fine =
     let f = fits D t h (length w) (sym (ap (λ (b : Answer). b.number) E) ∙ fine) in
     let m = f.count.some in (
       record { even = f.count.even; some = omega arith; small = f.count.small; fits = f.lengths.work },
@@ -59,85 +59,85 @@ check-fits {D} {t} {h} {w} E fine =
 -- ---- the numbers
 
 pub counted_same : {s : State} {t past : List ℕ} → Stores s t past → counted s t past ≡ s
-counted_same N = state-path refl refl refl refl (sym N.vertices) (sym N.faces)
+counted_same N = state_path refl refl refl refl (sym N.vertices) (sym N.faces)
 
 -- what the check found, compared to the numbers that are stored
-module _ (s : State) (t past : List ℕ) {p : Bool} {x y : ℕ} (C : p ≡ isPyramid (counted s t past) t past) (F : p ≡ true → CyclesAre s.darts t past x y) where
+module _ (s : State) (t past : List ℕ) {p : Bool} {x y : ℕ} (C : p ≡ is_pyramid (counted s t past) t past) (F : p ≡ true → CyclesAre s.darts t past x y) where
   abbrev said : Bool
   said = p && (eqb x s.vertices && eqb y s.faces)
 
-  said-iff : T said ↔ (T p × ((x ≡ s.vertices) × (y ≡ s.faces)))
-  said-iff =
-      and-iff p (eqb x s.vertices && eqb y s.faces) (λ t. t, λ t. t)
-      (λ _. and-iff (eqb x s.vertices) (eqb y s.faces) (eqb-iff x s.vertices) (λ _. eqb-iff y s.faces))
+  said_iff : T said ↔ (T p × ((x ≡ s.vertices) × (y ≡ s.faces)))
+  said_iff =
+      and_iff p (eqb x s.vertices && eqb y s.faces) (λ t. t, λ t. t)
+      (λ _. and_iff (eqb x s.vertices) (eqb y s.faces) (eqb_iff x s.vertices) (λ _. eqb_iff y s.faces))
 
-  found-yes : T said → T (isPyramid s t past)
-  found-yes q =
-      let Y = said-iff.0 q in
+  found_yes : T said → T (is_pyramid s t past)
+  found_yes q =
+      let Y = said_iff.0 q in
       let N = F (T→true p Y.0) in
       let S : Stores s t past = record { vertices = sym Y.1.0 ∙ N.vertices; faces = sym Y.1.1 ∙ N.faces } in
-      subst (λ (z : State). T (isPyramid z t past)) (counted_same S) (subst T C Y.0)
+      subst (λ (z : State). T (is_pyramid z t past)) (counted_same S) (subst T C Y.0)
 
-  yes-found : T (isPyramid s t past) → T said
-  yes-found q =
-      let S = (pyramid-built ((pyramid-decided s t past).0 q)).stored in
-      let is : T p = subst T (sym C) (subst (λ (z : State). T (isPyramid z t past)) (sym (counted_same S)) q) in
+  yes_found : T (is_pyramid s t past) → T said
+  yes_found q =
+      let S = (pyramid_built ((pyramid_decided s t past).0 q)).stored in
+      let is : T p = subst T (sym C) (subst (λ (z : State). T (is_pyramid z t past)) (sym (counted_same S)) q) in
       let N = F (T→true p is) in
-      said-iff.1 (is, (N.vertices ∙ sym S.vertices, N.faces ∙ sym S.faces))
+      said_iff.1 (is, (N.vertices ∙ sym S.vertices, N.faces ∙ sym S.faces))
 
   -- "a state whose numbers differ from the cycles is no pyramid"
-  pub found-decides : (p && (eqb x s.vertices && eqb y s.faces)) ≡ isPyramid s t past
-  found-decides = T-ext said (isPyramid s t past) found-yes yes-found
+  pub found_decides : (p && (eqb x s.vertices && eqb y s.faces)) ≡ is_pyramid s t past
+  found_decides = T-ext said (is_pyramid s t past) found_yes yes_found
 
-  pub found-pyramid : T (p && (eqb x s.vertices && eqb y s.faces)) → p ≡ true
-  found-pyramid q = T→true p (said-iff.0 q).0
+  pub found_pyramid : T (p && (eqb x s.vertices && eqb y s.faces)) → p ≡ true
+  found_pyramid q = T→true p (said_iff.0 q).0
 
 -- ---- judged
 
 module _ {s : State} {k : ℕ} {t h w : List ℕ} {a : Answer} (E : a ≡ fitting s.darts (length t) (length h) (length w)) where
-  pub judged-first : a.number ≢ 0 → Judged s k t h w w a
-  judged-first n =
+  pub judged_first : a.number ≢ 0 → Judged s k t h w w a
+  judged_first n =
       let m : (fitting s.darts (length t) (length h) (length w)).number ≢ 0 = λ e. n (ap (λ (b : Answer). b.number) E ∙ e) in
       rw E (record {
-        answer = sym (judged-unfit s t h w m);
-        refused = λ _. sym (first-keeps s.darts (length t) (length h) (length w) m s.darts w);
+        answer = sym (judged_unfit s t h w m);
+        refused = λ _. sym (first_keeps s.darts (length t) (length h) (length w) m s.darts w);
         checked = λ e. absurd (m e);
       })
 
   module _ (fine : a.number ≡ 0) {v : List ℕ} {p : Bool} {x y : ℕ} (C : Checked s k t h w v p)
       (F : p ≡ true → CyclesAre s.darts (table_of s t) (past_of s h) x y) {b : Bool} (is : b ≡ (p && (eqb x s.vertices && eqb y s.faces))) where
-    told : (c : Bool) → b ≡ c → (if c then done else noPyramid) ≡ judged s t h w
+    told : (c : Bool) → b ≡ c → (if c then done else no_pyramid) ≡ judged s t h w
     told c e =
-        sym (judged-fit s t h w (sym (ap (λ (b : Answer). b.number) E) ∙ fine) c
-        (sym (found-decides s (table_of s t) (past_of s h) C.answer F) ∙ sym is ∙ e))
+        sym (judged_fit s t h w (sym (ap (λ (b : Answer). b.number) E) ∙ fine) c
+        (sym (found_decides s (table_of s t) (past_of s h) C.answer F) ∙ sym is ∙ e))
 
-    pub judged-no : b ≡ false → Judged s k t h w (cleared s.darts v) noPyramid
-    unfolding workAfter
-    judged-no e = record {
+    pub judged_no : b ≡ false → Judged s k t h w (cleared s.darts v) no_pyramid
+    unfolding work_after
+    judged_no e = record {
       answer = told false e;
-      refused = λ _. cleared-kept s.darts w v C.beyond.rest;
+      refused = λ _. cleared_kept s.darts w v C.beyond.rest;
       checked = λ z. absurd (omega arith);
     }
 
-    pub judged-yes : b ≡ true → Judged s k t h w v done
-    judged-yes e = record {
+    pub judged_yes : b ≡ true → Judged s k t h w v done
+    judged_yes e = record {
       answer = told true e;
       refused = λ n. absurd (n refl);
       checked = λ _.
-          subst (λ (q : Bool). Checked s k t h w v q) (found-pyramid s (table_of s t) (past_of s h) C.answer F (true→T (sym is ∙ e))) C;
+          subst (λ (q : Bool). Checked s k t h w v q) (found_pyramid s (table_of s t) (past_of s h) C.answer F (true→T (sym is ∙ e))) C;
     }
 
 module _ {s : State} {k : ℕ} {t h w v : List ℕ} {a : Answer} (J : Judged s k t h w v a) (fine : a.number ≡ 0) where
   pub lent_of : Lent s t h w
-  lent_of = judged-done s t h w (sym (ap (λ (b : Answer). b.number) J.answer) ∙ fine)
+  lent_of = judged_done s t h w (sym (ap (λ (b : Answer). b.number) J.answer) ∙ fine)
 
-  pub stacked-of : Stacked s v
-  stacked-of =
+  pub stacked_of : Stacked s v
+  stacked_of =
       let C = J.checked fine in
-      record { pyramid = rw (C.table refl, C.past refl) (checked-pyramid C refl); area = C.area refl }
+      record { pyramid = rw (C.table refl, C.past refl) (checked_pyramid C refl); area = C.area refl }
 
-  pub room-then : {u : List ℕ} → Beyond s.darts v u → Room s.darts u
-  room-then {u} B = room-kept v u B.size ((J.checked fine).area refl).room
+  pub room_then : {u : List ℕ} → Beyond s.darts v u → Room s.darts u
+  room_then {u} B = room_kept v u B.size ((J.checked fine).area refl).room
 
   -- the work area has its length still
   lent_still : Lent s t h v
@@ -148,15 +148,15 @@ module _ {s : State} {k : ℕ} {t h w v : List ℕ} {a : Answer} (J : Judged s k
         lengths = subst (λ n. Lengths s.darts (length t) (length h) n) (sym (J.checked fine).beyond.size) L.lengths;
       }
 
-  pub stood-of : Stood s k t h v
-  stood-of =
+  pub stood_of : Stood s k t h v
+  stood_of =
       let C = J.checked fine in
       record {
-        answer = sym (judged-lent s t h v lent_still);
+        answer = sym (judged_lent s t h v lent_still);
         refused = λ n. absurd (n refl);
         checked = λ _. record {
           answer = C.answer;
-          beyond = beyond-refl s.darts v;
+          beyond = beyond_refl s.darts v;
           area = C.area;
           table = C.table;
           past = C.past;
@@ -165,8 +165,8 @@ module _ {s : State} {k : ℕ} {t h w v : List ℕ} {a : Answer} (J : Judged s k
       }
 
 -- THE FOREST IS NOT ASKED
-pub any-kind : {s : State} {k : ℕ} {t h w : List ℕ} → Stood s k t h w → Stood s 2 t h w
-any-kind Z =
+pub any_kind : {s : State} {k : ℕ} {t h w : List ℕ} → Stood s k t h w → Stood s 2 t h w
+any_kind Z =
     let C = Z.checked refl in
     record {
       answer = Z.answer;
@@ -178,36 +178,36 @@ pub relabelled : {s : State} {k j : ℕ} {t h w v : List ℕ} → Stood s k t h 
 relabelled {s} Z few L =
     let C = Z.checked refl in
     let o = L.outside in
-    let R = labelled-ready (C.area refl) few L in
+    let R = labelled_ready (C.area refl) few L in
     record {
       answer = Z.answer;
       refused = λ n. absurd (n refl);
       checked = λ _. record {
         answer = C.answer;
-        beyond = labelled-beyond (C.area refl) few L;
+        beyond = labelled_beyond (C.area refl) few L;
         area = λ _. R.area;
-        table = λ _. beside-table o ∙ C.table refl;
-        past = λ _. beside-past o s.operations ∙ C.past refl;
+        table = λ _. beside_table o ∙ C.table refl;
+        past = λ _. beside_past o s.operations ∙ C.past refl;
         ready = λ _ _. R;
       };
     }
 
 -- ---- a state's figures
 
-pub fits-with : {f : Figures} {s : State} → stateWith f ≡ s → {w : List ℕ} {t h : ℕ} → Room s.darts w × ((s.darts ≤ t) × (s.darts / 2 ≤ h))
+pub fits_with : {f : Figures} {s : State} → state_with f ≡ s → {w : List ℕ} {t h : ℕ} → Room s.darts w × ((s.darts ≤ t) × (s.darts / 2 ≤ h))
     → Room f.darts w × ((f.darts ≤ t) × (f.darts / 2 ≤ h))
-fits-with same {w} {t} {h} = subst (λ (z : State). Room z.darts w × ((z.darts ≤ t) × (z.darts / 2 ≤ h))) (sym same)
+fits_with same {w} {t} {h} = subst (λ (z : State). Room z.darts w × ((z.darts ≤ t) × (z.darts / 2 ≤ h))) (sym same)
 
 -- the check does not look at the stored numbers
-checked-figures : {s : State} {k : ℕ} {t h w v : List ℕ} {p : Bool} → Checked (figuresOf s) k t h w v p → Checked s k t h w v p
+checked_figures : {s : State} {k : ℕ} {t h w v : List ℕ} {p : Bool} → Checked (figures_of s) k t h w v p → Checked s k t h w v p
 unfolding table_of past_of
-checked-figures C = record { answer = C.answer; beyond = C.beyond; area = C.area; table = C.table; past = C.past; ready = C.ready }
+checked_figures C = record { answer = C.answer; beyond = C.beyond; area = C.area; table = C.table; past = C.past; ready = C.ready }
 
-pub checked-with : {f : Figures} {s : State} → stateWith f ≡ figuresOf s → {k : ℕ} {t h w v : List ℕ} {p : Bool} → Checked (stateWith f) k t h w v p
+pub checked_with : {f : Figures} {s : State} → state_with f ≡ figures_of s → {k : ℕ} {t h w v : List ℕ} {p : Bool} → Checked (state_with f) k t h w v p
     → Checked s k t h w v p
-checked-with same {k} {t} {h} {w} {v} {p} C = checked-figures (subst (λ (z : State). Checked z k t h w v p) same C)
+checked_with same {k} {t} {h} {w} {v} {p} C = checked_figures (subst (λ (z : State). Checked z k t h w v p) same C)
 
-pub cycles-with : {f : Figures} (s : State) → stateWith f ≡ figuresOf s → (t h : List ℕ) {r : Found}
-    → FindsCycles f.darts (table_of (stateWith f) t) (past_of (stateWith f) h) r → FindsCycles s.darts (table_of s t) (past_of s h) r
+pub cycles_with : {f : Figures} (s : State) → state_with f ≡ figures_of s → (t h : List ℕ) {r : Found}
+    → FindsCycles f.darts (table_of (state_with f) t) (past_of (state_with f) h) r → FindsCycles s.darts (table_of s t) (past_of s h) r
 unfolding table_of past_of
-cycles-with s same t h {r} = subst (λ (z : State). FindsCycles z.darts (table_of z t) (past_of z h) r) same
+cycles_with s same t h {r} = subst (λ (z : State). FindsCycles z.darts (table_of z t) (past_of z h) r) same

@@ -1,9 +1,9 @@
 -- A kernel of contractions with notes, on a work area that was judged with its sheets: what it leaves beside the sheets, and what becomes of them.
---   within-merging == what is merged are places of the sheets
---   made-same  == it is refused, or takes no edge: neither sheet changes
+--   within_merging == what is merged are places of the sheets
+--   made_same  == it is refused, or takes no edge: neither sheet changes
 --   made_more  == it is done: the merges that are noted are those of its operations
---   made-full  == 64 levels are in use
---   made-ran   == whichever way the run went
+--   made_full  == 64 levels are in use
+--   made_ran   == whichever way the run went
 use mathlib.Core.Bool.{Bool}
 use mathlib.Core.List.{List, [], ◌∷◌, ◌++◌, reverse}
 use mathlib.Core.Logic.{◌≢◌}
@@ -14,56 +14,56 @@ use native.Mathlib.Omega.{arith}
 use lib.Dec.{T, eqb}
 use borrow.Author.Tests.{le-leb, lt-leb}
 use lib.ListN.{length, length-append, length-reverse, get_or}
-use Rattle.permutations.specs.Choice.{pick, eqb_same, eqb-other}
-use Rattle.darts.specs.Answers.{Answer, emptyKernel, tooManyLevels}
+use Rattle.permutations.specs.Choice.{pick, eqb_same, eqb_other}
+use Rattle.darts.specs.Answers.{Answer, empty_kernel, too_many_levels}
 use Rattle.darts.specs.Cases.{answer_of}
 use Rattle.darts.specs.Operation.{contraction, edge_of}
 use Rattle.darts.specs.Kernel.{Run, stands, run}
 use Rattle.darts.specs.State.{State, gives, refuses, reduce, raised, levelled}
 use Rattle.darts.specs.Pyramid.{Pyramid}
-use Rattle.darts.specs.Calls.{table_of, past_of, cleared, reduceBy}
+use Rattle.darts.specs.Calls.{table_of, past_of, cleared, reduce_by}
 use Rattle.laws.proofs.Lists.{reverse_onto}
 use Rattle.laws.proofs.calls.Judging.{Lent}
 use Rattle.laws.proofs.runs.Ends.{Layered}
-use Rattle.laws.proofs.runs.Pyramids.{pyramid-built, reduce-pyramid}
-use Rattle.laws.proofs.runs.Reduces.{Raises, raises-reduce, reduced, reduced-base}
-use Rattle.area.specs.Area.{Room, tableIn, pastIn}
+use Rattle.laws.proofs.runs.Pyramids.{pyramid_built, reduce_pyramid}
+use Rattle.laws.proofs.runs.Reduces.{Raises, raises_reduce, reduced, reduced_base}
+use Rattle.area.specs.Area.{Room, table_in, past_in}
 use Rattle.operations.specs.Trees.{rooted}
-use Rattle.engine.specs.Runs.{ranIn}
+use Rattle.engine.specs.Runs.{ran_in}
 use Rattle.engine.specs.declared.Ran.{Ran}
-use Rattle.engine.proofs.Parts.{past-length}
-use Rattle.engine.proofs.Ready.{beyond-refl}
-use Rattle.sheets.specs.Sheets.{Sheets, Merge, none, into, mergedBy}
-use Rattle.sheets.specs.Notes.{notesIn, Noted, Fits}
-use Rattle.yarn.specs.Places.{lowest, isPlace, zoneOf, mergesOf, merges}
+use Rattle.engine.proofs.Parts.{past_length}
+use Rattle.engine.proofs.Ready.{beyond_refl}
+use Rattle.sheets.specs.Sheets.{Sheets, Merge, none, into, merged_by}
+use Rattle.sheets.specs.Notes.{notes_in, Noted, Fits}
+use Rattle.yarn.specs.Places.{lowest, is_place, zone_of, merges_of, merges}
 use Rattle.yarn.specs.Given.{Given, given}
-use Rattle.yarn.specs.Calls.{base_of, sheetsAfter}
-use Rattle.yarn.proofs.Apart.{Apart, base-apart, base-standing, pyramid-inside}
-use Rattle.yarn.proofs.Decided.{pyramid-decided}
+use Rattle.yarn.specs.Calls.{base_of, sheets_after}
+use Rattle.yarn.proofs.Apart.{Apart, base_apart, base_standing, pyramid_inside}
+use Rattle.yarn.proofs.Decided.{pyramid_decided}
 use Rattle.yarn.proofs.Merging.{Merging}
-use Rattle.yarn.proofs.Noted.{Within, merged-agree, fits-agree, noted-within}
-use Rattle.yarn.proofs.Settled.{Inside, lowest-settled}
-use Rattle.yarn.proofs.Totals.{merges-fit}
+use Rattle.yarn.proofs.Noted.{Within, merged_agree, fits_agree, noted_within}
+use Rattle.yarn.proofs.Settled.{Inside, lowest_settled}
+use Rattle.yarn.proofs.Totals.{merges_fit}
 use Rattle.yarn.proofs.Turns.{from_on}
-use Rattle.yarn.proofs.Untouched.{base-merging}
-use Rattle.yarn.proofs.sentences.Carried.{carried-more}
+use Rattle.yarn.proofs.Untouched.{base_merging}
+use Rattle.yarn.proofs.sentences.Carried.{carried_more}
 use Rattle.noting.specs.Running.{RanNoted}
-use Rattle.noting.proofs.Places.{Numbers, merges-alike}
+use Rattle.noting.proofs.Places.{Numbers, merges_alike}
 use Rattle.pyramid.specs.declared.Made.{Made}
 use Rattle.pyramid.specs.Costs.{StoodWith, MadeBy}
-use Rattle.pyramid.specs.Values.{figuresOf, left, unsettled}
-use Rattle.pyramid.proofs.Judges.{lent_of, room-then}
-use Rattle.pyramid.proofs.ByRun.{reduce-levels, level-full}
+use Rattle.pyramid.specs.Values.{figures_of, left, unsettled}
+use Rattle.pyramid.proofs.Judges.{lent_of, room_then}
+use Rattle.pyramid.proofs.ByRun.{reduce_levels, level_full}
 use Rattle.pyramid.proofs.Started.{HandsBare}
 
 -- the operations of a list that goes on are on edges
-inside-then : (D : ℕ) (hs new : List ℕ) → Inside D (hs ++ new) → Inside D new
-inside-then D [] new i = i
-inside-then D (h ∷ hs) new i = inside-then D hs new i.1
+inside_then : (D : ℕ) (hs new : List ℕ) → Inside D (hs ++ new) → Inside D new
+inside_then D [] new i = i
+inside_then D (h ∷ hs) new i = inside_then D hs new i.1
 
-inside-numbers : (D : ℕ) (hs : List ℕ) → Inside D hs → Numbers D hs
+inside_numbers : (D : ℕ) (hs : List ℕ) → Inside D hs → Numbers D hs
 unfolding edge_of
-inside-numbers D hs i = record { each = go hs i }
+inside_numbers D hs i = record { each = go hs i }
   where
     edge : (h : ℕ) → 2 * edge_of h + 1 < D → h < 2 * D
     edge h e = omega arith
@@ -73,15 +73,15 @@ inside-numbers D hs i = record { each = go hs i }
     go (h ∷ hs) i zero l = edge h i.0
     go (h ∷ hs) i (suc j) l = go hs i.1 j (omega arith)
 
-pub within-merging : {place : ℕ → Bool} {ms : ℕ → Merge} {D n : ℕ} → Merging place ms D n → (t : ℕ) → t < n → Within D (ms t)
-within-merging {ms = ms} {D} M t l = go (ms t) refl
+pub within_merging : {place : ℕ → Bool} {ms : ℕ → Merge} {D n : ℕ} → Merging place ms D n → (t : ℕ) → t < n → Within D (ms t)
+within_merging {ms = ms} {D} M t l = go (ms t) refl
   where
     go : (m : Merge) → ms t ≡ m → Within D m
     go none e = tt
     go (into low high) e = ((M.lows l e).0, (M.highs l e).0)
 
-longer-of : (fresh past : List ℕ) {new : List ℕ} → new ≡ reverse fresh ++ past → length new ≡ length fresh + length past
-longer-of fresh past told = ap length told ∙ length-append (reverse fresh) past ∙ ap (λ k. k + length past) (length-reverse fresh)
+longer_of : (fresh past : List ℕ) {new : List ℕ} → new ≡ reverse fresh ++ past → length new ≡ length fresh + length past
+longer_of fresh past told = ap length told ∙ length-append (reverse fresh) past ∙ ap (λ k. k + length past) (length-reverse fresh)
 
 module _ {s : State} {t h w : List ℕ} (Z : StoodWith s t h w) (es : List ℕ) where
   abbrev D : ℕ
@@ -109,22 +109,22 @@ module _ {s : State} {t h w : List ℕ} (Z : StoodWith s t h w) (es : List ℕ) 
   P = lent.pyramid
 
   layered : Layered D s past
-  layered = (pyramid-built P).layered
+  layered = (pyramid_built P).layered
 
-  past-count : length past ≡ n
-  past-count = sym layered.count
+  past_count : length past ≡ n
+  past_count = sym layered.count
 
   count : length hs ≡ n
-  count = length-reverse past ∙ past-count
+  count = length-reverse past ∙ past_count
 
-  area-few : n ≤ D / 2
-  area-few = ((Z.stood.checked refl).area refl).few
+  area_few : n ≤ D / 2
+  area_few = ((Z.stood.checked refl).area refl).few
 
-  module _ {t' h' v : List ℕ} (m : Made) (plain : unsettled (left m.outcome t' h' (cleared D v)) ≡ unsettled (reduceBy contraction es s t h w)) (room : Room D v) where
+  module _ {t' h' v : List ℕ} (m : Made) (plain : unsettled (left m.outcome t' h' (cleared D v)) ≡ unsettled (reduce_by contraction es s t h w)) (room : Room D v) where
     -- NEITHER SHEET CHANGES
-    pub made-same : {a : Answer} → reduce contraction es s u past ≡ refuses a → m.operations ≡ n → MadeBy s es t h w t' h' v m
-    unfolding sheetsAfter mergedBy
-    made-same e same =
+    pub made_same : {a : Answer} → reduce contraction es s u past ≡ refuses a → m.operations ≡ n → MadeBy s es t h w t' h' v m
+    unfolding sheets_after merged_by
+    made_same e same =
         let zero_more : m.operations - n ≡ 0 = omega arith in
         record {
           plain = plain;
@@ -132,7 +132,7 @@ module _ {s : State} {t h w : List ℕ} (Z : StoodWith s t h w) (es : List ℕ) 
           noted = record {
             small = room.small;
             rises = omega arith;
-            few = omega (arith, area-few);
+            few = omega (arith, area_few);
             fits = room.fits;
             lows = λ i l k. absurd (omega arith);
             highs = λ i l k. absurd (omega arith);
@@ -143,12 +143,12 @@ module _ {s : State} {t h w : List ℕ} (Z : StoodWith s t h w) (es : List ℕ) 
 
     module _ (free : s.levels < 64) (fresh : List ℕ) {u' new : List ℕ} (ran : run contraction D u past es ≡ stands u' new) (told : new ≡ reverse fresh ++ past)
         (reached : length new ≡ m.operations) (few : m.operations ≤ D / 2)
-        (notes : (i : ℕ) → i < length fresh → notesIn D v (n + i) ≡ mergesOf (rooted D w) fresh i) where
+        (notes : (i : ℕ) → i < length fresh → notes_in D v (n + i) ≡ merges_of (rooted D w) fresh i) where
       longer : length new ≡ length fresh + length past
-      longer = longer-of fresh past told
+      longer = longer_of fresh past told
 
       more : m.operations - n ≡ length fresh
-      more = omega (arith, longer, reached, past-count)
+      more = omega (arith, longer, reached, past_count)
 
       history : reverse new ≡ hs ++ fresh
       history = ap reverse told ∙ reverse_onto fresh past
@@ -157,111 +157,111 @@ module _ {s : State} {t h w : List ℕ} (Z : StoodWith s t h w) (es : List ℕ) 
         abbrev z : State
         z = raised s u' new
 
-        given-new : reduce contraction es s u past ≡ gives z u' new
-        given-new = raises-reduce s u past contraction es (record { room = free; stood = ran; more = some; state = refl })
+        given_new : reduce contraction es s u past ≡ gives z u' new
+        given_new = raises_reduce s u past contraction es (record { room = free; stood = ran; more = some; state = refl })
 
         P' : Pyramid z u' new
-        P' = reduce-pyramid P contraction es given-new
+        P' = reduce_pyramid P contraction es given_new
 
         base_same : base_of z u' new ≡ b
         unfolding base_of raised
-        base_same = reduced-base layered (reduced (pyramid-built P).standing layered (record { kind = contraction; edges = es }) given-new)
+        base_same = reduced_base layered (reduced (pyramid_built P).standing layered (record { kind = contraction; edges = es }) given_new)
 
         inside : Inside D (hs ++ fresh)
         unfolding raised
-        inside = subst (Inside D) history (pyramid-inside P')
+        inside = subst (Inside D) history (pyramid_inside P')
 
         apart : Apart (lowest D b) (hs ++ fresh)
         unfolding raised
-        apart = subst (Apart (lowest D b)) history (subst (λ c. Apart (lowest D c) (reverse new)) base_same (base-apart P'))
+        apart = subst (Apart (lowest D b)) history (subst (λ c. Apart (lowest D c) (reverse new)) base_same (base_apart P'))
 
-        agree : (i : ℕ) → i < length fresh → notesIn D v (n + i) ≡ merges D b (hs ++ fresh) (n + i)
-        unfolding merges zoneOf
+        agree : (i : ℕ) → i < length fresh → notes_in D v (n + i) ≡ merges D b (hs ++ fresh) (n + i)
+        unfolding merges zone_of
         agree i l =
             notes i l
-            ∙ merges-alike D room.even fresh (inside-numbers D fresh (inside-then D hs fresh inside)) (λ x k. Z.zones x k) i
-            ∙ sym ((from_on (lowest D b) hs fresh).each i) ∙ ap (λ k. mergesOf (lowest D b) (hs ++ fresh) (k + i)) count
+            ∙ merges_alike D room.even fresh (inside_numbers D fresh (inside_then D hs fresh inside)) (λ x k. Z.zones x k) i
+            ∙ sym ((from_on (lowest D b) hs fresh).each i) ∙ ap (λ k. merges_of (lowest D b) (hs ++ fresh) (k + i)) count
 
         -- THE MERGES THAT ARE NOTED ARE THOSE OF ITS OPERATIONS
         pub made_more : MadeBy s es t h w t' h' v m
-        unfolding sheetsAfter
+        unfolding sheets_after
         made_more = record {
           plain = plain;
           room = room;
-          noted = noted-within (merges D b (hs ++ fresh)) room.some room.small (omega (arith, longer, reached, past-count)) few room.fits (λ i l k. noted i l k) (λ i l k. within i k);
-          sheets = λ S. rw (more, given-new, told) (merged-agree _ _ n (length fresh) agree S ∙ sym (carried S));
-          fits = λ S g l k. rw more (fits-agree _ _ n (length fresh) agree S (fit S g l k));
+          noted = noted_within (merges D b (hs ++ fresh)) room.some room.small (omega (arith, longer, reached, past_count)) few room.fits (λ i l k. noted i l k) (λ i l k. within i k);
+          sheets = λ S. rw (more, given_new, told) (merged_agree _ _ n (length fresh) agree S ∙ sym (carried S));
+          fits = λ S g l k. rw more (fits_agree _ _ n (length fresh) agree S (fit S g l k));
         }
           where
-            noted : (i : ℕ) → n ≤ i → i < m.operations → notesIn D v i ≡ merges D b (hs ++ fresh) i
-            noted i l k = let e : n + (i - n) ≡ i = omega arith in subst (λ j. notesIn D v j ≡ merges D b (hs ++ fresh) j) e (agree (i - n) (omega (arith, more)))
+            noted : (i : ℕ) → n ≤ i → i < m.operations → notes_in D v i ≡ merges D b (hs ++ fresh) i
+            noted i l k = let e : n + (i - n) ≡ i = omega arith in subst (λ j. notes_in D v j ≡ merges D b (hs ++ fresh) j) e (agree (i - n) (omega (arith, more)))
 
             within : (i : ℕ) → i < m.operations → Within D (merges D b (hs ++ fresh) i)
             within i k =
-                within-merging (base-merging (base-standing P) (hs ++ fresh) inside apart) i (omega (arith, length-append hs fresh, count, more, longer))
+                within_merging (base_merging (base_standing P) (hs ++ fresh) inside apart) i (omega (arith, length-append hs fresh, count, more, longer))
 
-            carried : (S : Sheets) → sheetsAfter s u past S (gives z u' (reverse fresh ++ past)) ≡ mergedBy (merges D b (hs ++ fresh)) n (length fresh) S
+            carried : (S : Sheets) → sheets_after s u past S (gives z u' (reverse fresh ++ past)) ≡ merged_by (merges D b (hs ++ fresh)) n (length fresh) S
             carried S =
-                carried-more D b past (reverse fresh) S
-                ∙ ap₂ (λ k c. mergedBy (merges D b (reverse (reverse fresh ++ past))) k c S) past-count (length-reverse fresh)
-                ∙ ap (λ l. mergedBy (merges D b l) n (length fresh) S) (reverse_onto fresh past)
+                carried_more D b past (reverse fresh) S
+                ∙ ap₂ (λ k c. merged_by (merges D b (reverse (reverse fresh ++ past))) k c S) past_count (length-reverse fresh)
+                ∙ ap (λ l. merged_by (merges D b l) n (length fresh) S) (reverse_onto fresh past)
 
             fit : (S : Sheets) → T (given D b hs S) → D ≤ length S.sheet → D / 2 ≤ length S.kept → Fits (merges D b (hs ++ fresh)) n (length fresh) S
             fit S g l k =
-                let G : Given D b hs S = (pyramid-decided P S l (omega (arith, area-few, past-count))).0 g in
+                let G : Given D b hs S = (pyramid_decided P S l (omega (arith, area_few, past_count))).0 g in
                 subst (λ c. Fits (merges D b (hs ++ fresh)) c (length fresh) S) count
-                (merges-fit D b (lowest-settled (base-standing P)) room.small hs fresh (record { inside = inside; apart = apart }) G l)
+                (merges_fit D b (lowest_settled (base_standing P)) room.small hs fresh (record { inside = inside; apart = apart }) G l)
 
 module _ {s : State} {t h w : List ℕ} (Z : StoodWith s t h w) (es : List ℕ) where
-  pub made-full : 64 ≤ s.levels → (m : Made) → HandsBare m.outcome tooManyLevels (figuresOf s) → m.operations ≡ s.operations → MadeBy s es t h w t h w m
-  unfolding reduceBy reduce
-  made-full full m H same =
-      made-same Z es m (level-full (reduce-levels refl es) Z.stood refl full H) (room-then Z.stood refl (beyond-refl s.darts w))
-      {a = tooManyLevels} (rw (le-leb 64 s.levels full)) same
+  pub made_full : 64 ≤ s.levels → (m : Made) → HandsBare m.outcome too_many_levels (figures_of s) → m.operations ≡ s.operations → MadeBy s es t h w t h w m
+  unfolding reduce_by reduce
+  made_full full m H same =
+      made_same Z es m (level_full (reduce_levels refl es) Z.stood refl full H) (room_then Z.stood refl (beyond_refl s.darts w))
+      {a = too_many_levels} (rw (le-leb 64 s.levels full)) same
 
   module _ (free : s.levels < 64) {t' h' v : List ℕ} {r : Ran} (R : RanNoted s.darts s.operations es w v r) (m : Made)
-      (plain : unsettled (left m.outcome t' h' (cleared s.darts v)) ≡ unsettled (reduceBy contraction es s t h w))
+      (plain : unsettled (left m.outcome t' h' (cleared s.darts v)) ≡ unsettled (reduce_by contraction es s t h w))
       (reached : m.operations ≡ pick (eqb (answer_of r.answer).number 0) r.operations s.operations) where
     abbrev new : List ℕ
-    new = pastIn s.darts r.operations v
+    new = past_in s.darts r.operations v
 
     room : Room s.darts v
-    room = room-then Z.stood refl R.went.beyond
+    room = room_then Z.stood refl R.went.beyond
 
     -- the run, on the table and the past that were lent
-    went : ranIn s.darts v r ≡ run contraction s.darts (table_of s t) (past_of s h) es
+    went : ran_in s.darts v r ≡ run contraction s.darts (table_of s t) (past_of s h) es
     went =
         let C = Z.stood.checked refl in
         R.went.went ∙ ap₂ (λ u past. run contraction s.darts u past es) (C.table refl) (C.past refl)
 
-    reduces : reduce contraction es s (table_of s t) (past_of s h) ≡ levelled s (past_of s h) (ranIn s.darts v r)
+    reduces : reduce contraction es s (table_of s t) (past_of s h) ≡ levelled s (past_of s h) (ran_in s.darts v r)
     unfolding reduce
     reduces = rw (lt-leb 64 s.levels free, went)
 
-    new-count : length new ≡ r.operations
-    new-count = let f = R.went.few in let k = room.fits in past-length s.darts r.operations v (omega arith)
+    new_count : length new ≡ r.operations
+    new_count = let f = R.went.few in let k = room.fits in past_length s.darts r.operations v (omega arith)
 
     -- WHICHEVER WAY THE RUN WENT
-    pub made-ran : MadeBy s es t h w t' h' v m
-    unfolding ranIn levelled
-    made-ran = go (ℕ_discrete (answer_of r.answer).number 0)
+    pub made_ran : MadeBy s es t h w t' h' v m
+    unfolding ran_in levelled
+    made_ran = go (ℕ_discrete (answer_of r.answer).number 0)
       where
-        stood-run : (answer_of r.answer).number ≡ 0 → run contraction s.darts (table_of s t) (past_of s h) es ≡ stands (tableIn s.darts v) new
-        stood-run e = sym went ∙ rw (eqb_same e)
+        stood_run : (answer_of r.answer).number ≡ 0 → run contraction s.darts (table_of s t) (past_of s h) es ≡ stands (table_in s.darts v) new
+        stood_run e = sym went ∙ rw (eqb_same e)
 
         done : (answer_of r.answer).number ≡ 0 → Dec (length new ≡ length (past_of s h)) → MadeBy s es t h w t' h' v m
         done e (yes same) =
-            made-same Z es m plain room {a = emptyKernel} (reduces ∙ rw (eqb_same e, eqb_same same))
-            (let k : m.operations ≡ r.operations = rw (eqb_same e) at reached in let c = past-count Z es in omega (arith, new-count))
+            made_same Z es m plain room {a = empty_kernel} (reduces ∙ rw (eqb_same e, eqb_same same))
+            (let k : m.operations ≡ r.operations = rw (eqb_same e) at reached in let c = past_count Z es in omega (arith, new_count))
         done e (no grown) =
             let k : m.operations ≡ r.operations = rw (eqb_same e) at reached in
             let C = Z.stood.checked refl in
             let told = R.told e ∙ ap (λ l. reverse R.fresh ++ l) (C.past refl) in
-            let longer : length new ≡ length R.fresh + length (past_of s h) = longer-of R.fresh (past_of s h) told in
-            let c = past-count Z es in
-            made_more Z es m plain room free R.fresh (stood-run e) told (new-count ∙ sym k) (rw k R.went.few)
-            (λ i l. R.notes e i (omega (arith, longer, new-count))) grown
+            let longer : length new ≡ length R.fresh + length (past_of s h) = longer_of R.fresh (past_of s h) told in
+            let c = past_count Z es in
+            made_more Z es m plain room free R.fresh (stood_run e) told (new_count ∙ sym k) (rw k R.went.few)
+            (λ i l. R.notes e i (omega (arith, longer, new_count))) grown
 
         go : Dec ((answer_of r.answer).number ≡ 0) → MadeBy s es t h w t' h' v m
-        go (no other) = made-same Z es m plain room {a = answer_of r.answer} (reduces ∙ rw (eqb-other other)) (rw (eqb-other other) at reached)
+        go (no other) = made_same Z es m plain room {a = answer_of r.answer} (reduces ∙ rw (eqb_other other)) (rw (eqb_other other) at reached)
         go (yes e) = done e (ℕ_discrete (length new) (length (past_of s h)))

@@ -1,9 +1,9 @@
 -- Unfolding with sheets: what the contractions above a level kept is put back.
---   operations-lowered == one level less has at a lower level as many operations
---   unfolded-count     == so many operations there are at that level
---   unfold-noted       == the notes of the operations above it lead to places of the sheets
---   unfolded-sheets    == what is put back by the notes is what unfolding gives
---   undo-with          == undo is unfold to the level below
+--   operations_lowered == one level less has at a lower level as many operations
+--   unfolded_count     == so many operations there are at that level
+--   unfold_noted       == the notes of the operations above it lead to places of the sheets
+--   unfolded_sheets    == what is put back by the notes is what unfolding gives
+--   undo_with_lem          == undo is unfold to the level below
 use mathlib.Core.List.{List, reverse}
 use mathlib.Core.Logic.{◌≢◌}
 use mathlib.Core.Path.{◌≡◌, refl, sym, ap, ap₂, ◌∙◌}
@@ -17,34 +17,34 @@ use lib.Seq.{get_or-set_other}
 use Rattle.permutations.specs.Choice.{pick}
 use Rattle.darts.specs.Answers.{Answer}
 use Rattle.darts.specs.State.{State, Result, gives, refuses}
-use Rattle.darts.specs.Levels.{endBelow, lowered, undoLevel, undoLevels, unfoldTo}
+use Rattle.darts.specs.Levels.{end_below, lowered, undo_level, undo_levels, unfold_to}
 use Rattle.darts.specs.Pyramid.{Pyramid}
 use Rattle.darts.specs.Calls.{table_of, past_of}
-use Rattle.laws.proofs.runs.Pyramids.{pyramid-built}
-use Rattle.laws.proofs.runs.Results.{refuses≢gives, then, same-result}
-use Rattle.laws.proofs.runs.Undo.{unfold-pyramid, undo-is-unfold}
-use Rattle.laws.proofs.chained.Steps.{unfold-undoes}
-use Rattle.sheets.specs.Sheets.{Sheets, Merge, returnedBy}
-use Rattle.sheets.specs.Notes.{notesIn, Noted}
+use Rattle.laws.proofs.runs.Pyramids.{pyramid_built}
+use Rattle.laws.proofs.runs.Results.{refuses≢gives, then, same_result}
+use Rattle.laws.proofs.runs.Undo.{unfold_pyramid, undo_is_unfold}
+use Rattle.laws.proofs.chained.Steps.{unfold_undoes}
+use Rattle.sheets.specs.Sheets.{Sheets, Merge, returned_by}
+use Rattle.sheets.specs.Notes.{notes_in, Noted}
 use Rattle.yarn.specs.Places.{merges}
-use Rattle.yarn.specs.Calls.{base_of, carriedTo, sheetsAfter, onSheets, undoWith, unfoldWith}
-use Rattle.yarn.proofs.Agree.{First, returned-same}
-use Rattle.yarn.proofs.Apart.{base-apart, base-standing, pyramid-inside}
-use Rattle.yarn.proofs.Moved.{Grown, undos-grown, carried-shrunk}
-use Rattle.yarn.proofs.Noted.{noted-within}
-use Rattle.yarn.proofs.Untouched.{base-merging}
-use Rattle.pyramid.specs.Costs.{StoodWith, operationsAt, mergesFor}
+use Rattle.yarn.specs.Calls.{base_of, carried_to, sheets_after, on_sheets, undo_with, unfold_with}
+use Rattle.yarn.proofs.Agree.{First, returned_same}
+use Rattle.yarn.proofs.Apart.{base_apart, base_standing, pyramid_inside}
+use Rattle.yarn.proofs.Moved.{Grown, undos_grown, carried_shrunk}
+use Rattle.yarn.proofs.Noted.{noted_within}
+use Rattle.yarn.proofs.Untouched.{base_merging}
+use Rattle.pyramid.specs.Costs.{StoodWith, operations_at, merges_for}
 use Rattle.pyramid.specs.Steps.{Stood}
 use Rattle.pyramid.proofs.Judges.{lent_of}
-use Rattle.pyramid.proofs.Making.{within-merging}
+use Rattle.pyramid.proofs.Making.{within_merging}
 
 -- ---- how many operations a level has
 
-operations-lowered : (k : ℕ) (s : State) (t past : List ℕ) → k < s.levels → operationsAt k (lowered s t past) ≡ operationsAt k s
-unfolding operationsAt lowered endBelow
-operations-lowered k s t past h = go (ℕ_discrete k (s.levels - 1)) (ℕ_discrete k 0)
+operations_lowered : (k : ℕ) (s : State) (t past : List ℕ) → k < s.levels → operations_at k (lowered s t past) ≡ operations_at k s
+unfolding operations_at lowered end_below
+operations_lowered k s t past h = go (ℕ_discrete k (s.levels - 1)) (ℕ_discrete k 0)
   where
-    go : Dec (k ≡ s.levels - 1) → Dec (k ≡ 0) → operationsAt k (lowered s t past) ≡ operationsAt k s
+    go : Dec (k ≡ s.levels - 1) → Dec (k ≡ 0) → operations_at k (lowered s t past) ≡ operations_at k s
     go (yes e) (yes z) = rw (le-leb (s.levels - 1) k (omega arith), lt-leb s.levels k h, eq-eqb k 0 z, le-leb s.levels 1 (omega arith))
     go (yes e) (no n) =
         let i : s.levels - 2 ≡ k - 1 = omega arith in
@@ -54,47 +54,47 @@ operations-lowered k s t past h = go (ℕ_discrete k (s.levels - 1)) (ℕ_discre
         rw (lt-leb (s.levels - 1) k (omega arith), lt-leb s.levels k h, ne_eqb k 0 n)
         (get_or-set_other s.ends (s.levels - 1) (k - 1) 0 0 (λ e. omega arith))
 
-at_top : (k : ℕ) (s : State) → s.levels ≤ k → operationsAt k s ≡ s.operations
-unfolding operationsAt
+at_top : (k : ℕ) (s : State) → s.levels ≤ k → operations_at k s ≡ s.operations
+unfolding operations_at
 at_top k s h = rw (le-leb s.levels k h)
 
 -- undo gives the level below
-lowers : (s : State) (t past : List ℕ) {z : State} {u new : List ℕ} → undoLevel s t past ≡ gives z u new → (0 < s.levels) × (z ≡ lowered s u new)
-unfolding undoLevel
+lowers : (s : State) (t past : List ℕ) {z : State} {u new : List ℕ} → undo_level s t past ≡ gives z u new → (0 < s.levels) × (z ≡ lowered s u new)
+unfolding undo_level
 lowers s t past {z} {u} {new} e = go (ℕ_discrete s.levels 0)
   where
     go : Dec (s.levels ≡ 0) → (0 < s.levels) × (z ≡ lowered s u new)
     go (yes h) = absurd (refuses≢gives (rw h at e))
-    go (no n) = (omega arith, same-result (λ z u new. z ≡ lowered s u new) (rw (ne_eqb s.levels 0 n) at e) refl)
+    go (no n) = (omega arith, same_result (λ z u new. z ≡ lowered s u new) (rw (ne_eqb s.levels 0 n) at e) refl)
 
-undos-count : (j k : ℕ) (s : State) (t past : List ℕ) {z : State} {u new : List ℕ} → j + k ≡ s.levels → undoLevels j s t past ≡ gives z u new
-    → z.operations ≡ operationsAt k s
-unfolding undoLevels lowered
-undos-count zero k s t past l e = same-result (λ z u new. z.operations ≡ operationsAt k s) e (sym (at_top k s (omega arith)))
-undos-count (suc j) k s t past l e =
-    let first = then (undoLevel s t past) (undoLevels j) e in
+undos_count : (j k : ℕ) (s : State) (t past : List ℕ) {z : State} {u new : List ℕ} → j + k ≡ s.levels → undo_levels j s t past ≡ gives z u new
+    → z.operations ≡ operations_at k s
+unfolding undo_levels lowered
+undos_count zero k s t past l e = same_result (λ z u new. z.operations ≡ operations_at k s) e (sym (at_top k s (omega arith)))
+undos_count (suc j) k s t past l e =
+    let first = then (undo_level s t past) (undo_levels j) e in
     let (some, is) = lowers s t past first.first in
     let below : j + k ≡ (lowered s first.table first.past).levels = omega arith in
-    undos-count j k first.state first.table first.past (below ∙ ap (λ (y : State). y.levels) (sym is)) first.next
-    ∙ ap (operationsAt k) is ∙ operations-lowered k s first.table first.past (omega arith)
+    undos_count j k first.state first.table first.past (below ∙ ap (λ (y : State). y.levels) (sym is)) first.next
+    ∙ ap (operations_at k) is ∙ operations_lowered k s first.table first.past (omega arith)
 
-module _ {s : State} {t past : List ℕ} (P : Pyramid s t past) (k : ℕ) {z : State} {u new : List ℕ} (e : unfoldTo k s t past ≡ gives z u new) where
-  pub unfolded-count : length new ≡ operationsAt k s
-  unfolded-count =
-      let (l, undone) = unfold-undoes k s t past e in
-      sym (pyramid-built (unfold-pyramid P k e)).layered.count ∙ undos-count (s.levels - k) k s t past (omega arith) undone
+module _ {s : State} {t past : List ℕ} (P : Pyramid s t past) (k : ℕ) {z : State} {u new : List ℕ} (e : unfold_to k s t past ≡ gives z u new) where
+  pub unfolded_count : length new ≡ operations_at k s
+  unfolded_count =
+      let (l, undone) = unfold_undoes k s t past e in
+      sym (pyramid_built (unfold_pyramid P k e)).layered.count ∙ undos_count (s.levels - k) k s t past (omega arith) undone
 
 -- a pyramid has each level that is not above its top
-levels-there : (j : ℕ) (s : State) (t past : List ℕ) {a : Answer} → j ≤ s.levels → undoLevels j s t past ≡ refuses a → ⊥
-unfolding undoLevels undoLevel lowered
-levels-there zero s t past l e = refuses≢gives (sym e)
-levels-there (suc j) s t past l e =
+levels_there : (j : ℕ) (s : State) (t past : List ℕ) {a : Answer} → j ≤ s.levels → undo_levels j s t past ≡ refuses a → ⊥
+unfolding undo_levels undo_level lowered
+levels_there zero s t past l e = refuses≢gives (sym e)
+levels_there (suc j) s t past l e =
     let n : s.levels ≢ 0 = λ z. omega arith in
-    levels-there j (lowered s _ _) _ _ (omega arith) (rw (ne_eqb s.levels 0 n) at e)
+    levels_there j (lowered s _ _) _ _ (omega arith) (rw (ne_eqb s.levels 0 n) at e)
 
-unfold-reaches : {s : State} {t past : List ℕ} → Pyramid s t past → (k : ℕ) → k ≤ s.levels → {a : Answer} → unfoldTo k s t past ≡ refuses a → ⊥
-unfolding unfoldTo
-unfold-reaches {s} {t} {past} P k l e = levels-there (s.levels - k) s t past (omega arith) (rw (le-ltb s.levels k l) at e)
+unfold_reaches : {s : State} {t past : List ℕ} → Pyramid s t past → (k : ℕ) → k ≤ s.levels → {a : Answer} → unfold_to k s t past ≡ refuses a → ⊥
+unfolding unfold_to
+unfold_reaches {s} {t} {past} P k l e = levels_there (s.levels - k) s t past (omega arith) (rw (le-ltb s.levels k l) at e)
 
 -- ---- what is put back
 
@@ -109,82 +109,82 @@ module _ {s : State} {t h w : List ℕ} (Z : StoodWith s t h w) (k : ℕ) where
   past = past_of s h
 
   abbrev ms : ℕ → Merge
-  ms = mergesFor s t h
+  ms = merges_for s t h
 
   P : Pyramid s (table_of s t) past
   P = (lent_of Z.stood refl).pyramid
 
-  past-count : length past ≡ n
-  past-count = sym (pyramid-built P).layered.count
+  past_count : length past ≡ n
+  past_count = sym (pyramid_built P).layered.count
 
-  noted : First (notesIn D w) ms n
+  noted : First (notes_in D w) ms n
   noted = record { same = Z.notes }
 
   few : n ≤ D / 2
   few = ((Z.stood.checked refl).area refl).few
 
   -- where the level is reached
-  module _ {z : State} {u new : List ℕ} (e : unfoldTo k s (table_of s t) past ≡ gives z u new) where
+  module _ {z : State} {u new : List ℕ} (e : unfold_to k s (table_of s t) past ≡ gives z u new) where
     shrunk : Grown new past
-    shrunk = undos-grown (s.levels - k) s (table_of s t) past (unfold-undoes k s (table_of s t) past e).1
+    shrunk = undos_grown (s.levels - k) s (table_of s t) past (unfold_undoes k s (table_of s t) past e).1
 
-    more-count : length shrunk.more ≡ n - operationsAt k s
-    more-count =
+    more_count : length shrunk.more ≡ n - operations_at k s
+    more_count =
         let a = ap length shrunk.grown ∙ length-append (reverse new) shrunk.more in
-        let c = unfolded-count P k e in
-        omega (arith, length-reverse past, length-reverse new, past-count)
+        let c = unfolded_count P k e in
+        omega (arith, length-reverse past, length-reverse new, past_count)
 
-    reached-below : operationsAt k s ≤ n
-    reached-below =
+    reached_below : operations_at k s ≤ n
+    reached_below =
         let a = ap length shrunk.grown ∙ length-append (reverse new) shrunk.more in
-        let c = unfolded-count P k e in
-        omega (arith, length-reverse past, length-reverse new, past-count)
+        let c = unfolded_count P k e in
+        omega (arith, length-reverse past, length-reverse new, past_count)
 
-    carried-back : (S : Sheets) → carriedTo D (base_of s (table_of s t) past) past new S ≡ returnedBy ms n (n - operationsAt k s) S
-    carried-back S =
-        carried-shrunk shrunk D (base_of s (table_of s t) past) S
-        ∙ ap (λ l. returnedBy (merges D (base_of s (table_of s t) past) l) (length l) (length shrunk.more) S) (sym shrunk.grown)
-        ∙ ap₂ (λ i c. returnedBy ms i c S) (length-reverse past ∙ past-count) more-count
+    carried_back : (S : Sheets) → carried_to D (base_of s (table_of s t) past) past new S ≡ returned_by ms n (n - operations_at k s) S
+    carried_back S =
+        carried_shrunk shrunk D (base_of s (table_of s t) past) S
+        ∙ ap (λ l. returned_by (merges D (base_of s (table_of s t) past) l) (length l) (length shrunk.more) S) (sym shrunk.grown)
+        ∙ ap₂ (λ i c. returned_by ms i c S) (length-reverse past ∙ past_count) more_count
 
   -- at the top, or above it, nothing is put back
-  none-back : s.levels ≤ k → (f : ℕ → Merge) (S : Sheets) → returnedBy f n (n - operationsAt k s) S ≡ S
-  unfolding returnedBy
-  none-back l f S = let z : n - operationsAt k s ≡ 0 = omega (arith, at_top k s l) in rw z
+  none_back : s.levels ≤ k → (f : ℕ → Merge) (S : Sheets) → returned_by f n (n - operations_at k s) S ≡ S
+  unfolding returned_by
+  none_back l f S = let z : n - operations_at k s ≡ 0 = omega (arith, at_top k s l) in rw z
 
-  below_of : (r : Result) → unfoldTo k s (table_of s t) past ≡ r → operationsAt k s ≤ n
-  below_of (gives z u new) e = reached-below e
+  below_of : (r : Result) → unfold_to k s (table_of s t) past ≡ r → operations_at k s ≤ n
+  below_of (gives z u new) e = reached_below e
   below_of (refuses a) e = go (dec_le k s.levels)
     where
-      go : Dec (k ≤ s.levels) → operationsAt k s ≤ n
+      go : Dec (k ≤ s.levels) → operations_at k s ≤ n
       go (no m) = omega (arith, at_top k s (omega arith))
-      go (yes l) = absurd (unfold-reaches P k l e)
+      go (yes l) = absurd (unfold_reaches P k l e)
 
-  pub operations-below : operationsAt k s ≤ n
-  operations-below = below_of (unfoldTo k s (table_of s t) past) refl
+  pub operations_below : operations_at k s ≤ n
+  operations_below = below_of (unfold_to k s (table_of s t) past) refl
 
-  pub unfold-noted : Noted D (operationsAt k s) n w
-  unfold-noted =
+  pub unfold_noted : Noted D (operations_at k s) n w
+  unfold_noted =
       let R = ((Z.stood.checked refl).area refl).room in
-      noted-within ms R.some R.small operations-below few R.fits (λ i _ l. Z.notes i l)
-      (λ i _ l. within-merging (base-merging (base-standing P) (reverse past) (pyramid-inside P) (base-apart P)) i (omega (arith, length-reverse past, past-count)))
+      noted_within ms R.some R.small operations_below few R.fits (λ i _ l. Z.notes i l)
+      (λ i _ l. within_merging (base_merging (base_standing P) (reverse past) (pyramid_inside P) (base_apart P)) i (omega (arith, length-reverse past, past_count)))
 
-  after : (S : Sheets) (r : Result) → unfoldTo k s (table_of s t) past ≡ r
-      → returnedBy (notesIn D w) n (n - operationsAt k s) S ≡ sheetsAfter s (table_of s t) past S r
-  unfolding sheetsAfter
+  after : (S : Sheets) (r : Result) → unfold_to k s (table_of s t) past ≡ r
+      → returned_by (notes_in D w) n (n - operations_at k s) S ≡ sheets_after s (table_of s t) past S r
+  unfolding sheets_after
   after S (gives z u new) e =
-      let l = reached-below e in
-      returned-same noted n (n - operationsAt k s) (omega arith) (omega arith) S ∙ sym (carried-back e S)
+      let l = reached_below e in
+      returned_same noted n (n - operations_at k s) (omega arith) (omega arith) S ∙ sym (carried_back e S)
   after S (refuses a) e = go (dec_le k s.levels)
     where
-      go : Dec (k ≤ s.levels) → returnedBy (notesIn D w) n (n - operationsAt k s) S ≡ S
-      go (no m) = none-back (omega arith) (notesIn D w) S
-      go (yes l) = absurd (unfold-reaches P k l e)
+      go : Dec (k ≤ s.levels) → returned_by (notes_in D w) n (n - operations_at k s) S ≡ S
+      go (no m) = none_back (omega arith) (notes_in D w) S
+      go (yes l) = absurd (unfold_reaches P k l e)
 
   -- WHAT IS PUT BACK BY THE NOTES IS WHAT UNFOLDING GIVES
-  pub unfolded-sheets : (S : Sheets) → returnedBy (notesIn D w) n (n - operationsAt k s) S
-      ≡ sheetsAfter s (table_of s t) past S (unfoldTo k s (table_of s t) past)
-  unfolded-sheets S = after S (unfoldTo k s (table_of s t) past) refl
+  pub unfolded_sheets : (S : Sheets) → returned_by (notes_in D w) n (n - operations_at k s) S
+      ≡ sheets_after s (table_of s t) past S (unfold_to k s (table_of s t) past)
+  unfolded_sheets S = after S (unfold_to k s (table_of s t) past) refl
 
-pub undo-with : {k : ℕ} (s : State) (t h w : List ℕ) (S : Sheets) → k ≡ pick (eqb s.levels 0) 1 (s.levels - 1) → unfoldWith k s t h w S ≡ undoWith s t h w S
-unfolding unfoldWith undoWith onSheets
-undo-with s t h w S e = rw (e, ← (undo-is-unfold s (table_of s t) (past_of s h)))
+pub undo_with_lem : {k : ℕ} (s : State) (t h w : List ℕ) (S : Sheets) → k ≡ pick (eqb s.levels 0) 1 (s.levels - 1) → unfold_with k s t h w S ≡ undo_with s t h w S
+unfolding unfold_with undo_with on_sheets
+undo_with_lem s t h w S e = rw (e, ← (undo_is_unfold s (table_of s t) (past_of s h)))

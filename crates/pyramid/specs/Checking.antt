@@ -13,7 +13,7 @@ use Rattle.area.specs.declared.Verdict.TheVariants.{Permutes}
 use Rattle.darts.specs.Cases.{answer_of}
 use Rattle.engine.specs.Counted.{CyclesAre}
 use Rattle.sheets.specs.Sheets.{Sheets}
-use Rattle.yarn.specs.Calls.{fitting, costed, startWith}
+use Rattle.yarn.specs.Calls.{fitting, costed, start_with}
 use Rattle.noting.specs.Checks.{NoteChecked}
 use Rattle.noting.specs.Running.{Placed}
 use Rattle.pyramid.specs.declared.Begin.{Begin}
@@ -36,6 +36,6 @@ BeginsCycles D t r = (answer_of r.answer).number ≡ 0 → CyclesAre D (take D t
 
 pub record BeganWith (D : ℕ) (t : List ℕ) (h : ℕ) (w : List ℕ) (k l : ℕ) (v : List ℕ) (a : Answer) : Type 0 where
   pub refused : a.number ≢ 0 → (g : List ℕ) (S : Sheets) → length g ≡ h → length S.sheet ≡ k → length S.kept ≡ l
-      → costed (leaves a zeros t g v) S ≡ startWith D t g w S
+      → costed (leaves a zeros t g v) S ≡ start_with D t g w S
   pub fits : a.number ≡ 0 → (fitting D (length t) h (length w) k l).number ≡ 0
   pub placed : a.number ≡ 0 → Placed D t w v Permutes

@@ -1,85 +1,85 @@
 -- What the steps of a call with sheets ask and leave, beside those of the plain call.
---   mergesFor s t h i     == what operation i of the lent history merges
+--   merges_for s t h i     == what operation i of the lent history merges
 --   costs o t h w s k == what a call with sheets leaves: what it hands back, the lent slices and the lent sheets
---   unsettledCosts c      == what a call with sheets leaves, but for the numbers of vertices and faces
---   costsLeft o t h w s k == the same of an outcome, the lent slices and the lent sheets
+--   unsettled_costs c      == what a call with sheets leaves, but for the numbers of vertices and faces
+--   costs_left o t h w s k == the same of an outcome, the lent slices and the lent sheets
 --   StoodWith s t h w     == the call was judged and done: w holds the map, its forest of vertices judges contractions, its roots are the records' places, and
 --                            what each operation merges is noted
 --   JudgedWith s t h w v S a == a judges the state s and what is lent, the sheets S too; v is the work area then
 --   MadeBy s es t h w u g v m == the contractions es are made, or refused, beside the sheets: m is the outcome and how many operations there are then
 --   Righted s t h S       == the sheets are long enough, and given by an accepted start and these operations
---   contractsWith es s t h w S == what a kernel of contractions leaves once it is judged, but for the numbers
+--   contracts_with es s t h w S == what a kernel of contractions leaves once it is judged, but for the numbers
 --   Begun D v f x o       == what a start on a base of v vertices and f faces hands back where x is the first place whose record is not fit, D where there is none
---   operationsAt k s      == how many operations there are at level k of a state; as many as now where k is not below the top
+--   operations_at k s      == how many operations there are at level k of a state; as many as now where k is not below the top
 use Rattle.std.specs.Prelude.{List, reverse, ◌≢◌, ◌≡◌, ℕ, ◌-◌, ◌/◌, ◌≤◌, ◌<◌, T, eqb, leb, get_or, length}
 use Rattle.darts.specs.Choose.{if◌then◌else◌}
-use Rattle.darts.specs.Answers.{Answer, done, unfitRecord}
+use Rattle.darts.specs.Answers.{Answer, done, unfit_record}
 use Rattle.darts.specs.Operation.{contraction}
 use Rattle.darts.specs.State.{State, zeros, reduce}
-use Rattle.darts.specs.Calls.{table_of, past_of, cleared, workAfter, reduceBy}
+use Rattle.darts.specs.Calls.{table_of, past_of, cleared, work_after, reduce_by}
 use Rattle.area.specs.Area.{Room}
 use Rattle.operations.specs.Trees.{rooted}
 use Rattle.engine.specs.Held.{Beyond}
 use Rattle.sheets.specs.declared.Zone.{Zone}
-use Rattle.sheets.specs.Sheets.{Sheets, Merge, mergedBy}
-use Rattle.sheets.specs.Notes.{notesIn, Noted, Fits}
-use Rattle.yarn.specs.Places.{zoneOf, merges}
+use Rattle.sheets.specs.Sheets.{Sheets, Merge, merged_by}
+use Rattle.sheets.specs.Notes.{notes_in, Noted, Fits}
+use Rattle.yarn.specs.Places.{zone_of, merges}
 use Rattle.yarn.specs.Given.{given}
-use Rattle.yarn.specs.Calls.{Costed, costed, base_of, judged, sheetsAfter}
+use Rattle.yarn.specs.Calls.{Costed, costed, base_of, judged, sheets_after}
 use Rattle.pyramid.specs.declared.Made.{Made}
 use Rattle.pyramid.specs.declared.Outcome.{Outcome}
 use Rattle.pyramid.specs.Steps.{Stood}
-use Rattle.pyramid.specs.Values.{baseWith, left, unsettled, Hands}
+use Rattle.pyramid.specs.Values.{base_with, left, unsettled, Hands}
 
-abbrev pub mergesFor : State → List ℕ → List ℕ → ℕ → Merge
-mergesFor s t h = merges s.darts (base_of s (table_of s t) (past_of s h)) (reverse (past_of s h))
+abbrev pub merges_for : State → List ℕ → List ℕ → ℕ → Merge
+merges_for s t h = merges s.darts (base_of s (table_of s t) (past_of s h)) (reverse (past_of s h))
 
 abbrev pub costs : Outcome → List ℕ → List ℕ → List ℕ → List Zone → List Zone → Costed
 costs o t h w s k = costed (left o t h w) (record { sheet = s; kept = k })
 
-abbrev pub unsettledCosts : Costed → Costed
-unsettledCosts c = costed (unsettled c.plain) c.sheets
+abbrev pub unsettled_costs : Costed → Costed
+unsettled_costs c = costed (unsettled c.plain) c.sheets
 
-abbrev pub costsLeft : Outcome → List ℕ → List ℕ → List ℕ → List Zone → List Zone → Costed
-costsLeft o t h w s k = costed (unsettled (left o t h w)) (record { sheet = s; kept = k })
+abbrev pub costs_left : Outcome → List ℕ → List ℕ → List ℕ → List Zone → List Zone → Costed
+costs_left o t h w s k = costed (unsettled (left o t h w)) (record { sheet = s; kept = k })
 
 pub record StoodWith (s : State) (t h w : List ℕ) : Type 0 where
   pub stood : Stood s 1 t h w
-  pub notes : (i : ℕ) → i < s.operations → notesIn s.darts w i ≡ mergesFor s t h i
-  pub zones : (x : ℕ) → x < s.darts → rooted s.darts w x ≡ zoneOf s.darts (base_of s (table_of s t) (past_of s h)) (reverse (past_of s h)) x
+  pub notes : (i : ℕ) → i < s.operations → notes_in s.darts w i ≡ merges_for s t h i
+  pub zones : (x : ℕ) → x < s.darts → rooted s.darts w x ≡ zone_of s.darts (base_of s (table_of s t) (past_of s h)) (reverse (past_of s h)) x
 
 pub record JudgedWith (s : State) (t h w v : List ℕ) (S : Sheets) (a : Answer) : Type 0 where
   pub answer : a ≡ judged s t h w S
-  pub refused : a.number ≢ 0 → v ≡ workAfter a s.darts w
+  pub refused : a.number ≢ 0 → v ≡ work_after a s.darts w
   pub beyond : a.number ≡ 0 → Beyond s.darts w v
   pub stood : a.number ≡ 0 → StoodWith s t h v
 
 pub record MadeBy (s : State) (es t h w u g v : List ℕ) (m : Made) : Type 0 where
-  pub plain : unsettled (left m.outcome u g (cleared s.darts v)) ≡ unsettled (reduceBy contraction es s t h w)
+  pub plain : unsettled (left m.outcome u g (cleared s.darts v)) ≡ unsettled (reduce_by contraction es s t h w)
   pub room : Room s.darts v
   pub noted : Noted s.darts s.operations m.operations v
-  pub sheets : (S : Sheets) → mergedBy (notesIn s.darts v) s.operations (m.operations - s.operations) S
-      ≡ sheetsAfter s (table_of s t) (past_of s h) S (reduce contraction es s (table_of s t) (past_of s h))
+  pub sheets : (S : Sheets) → merged_by (notes_in s.darts v) s.operations (m.operations - s.operations) S
+      ≡ sheets_after s (table_of s t) (past_of s h) S (reduce contraction es s (table_of s t) (past_of s h))
   pub fits : (S : Sheets) → T (given s.darts (base_of s (table_of s t) (past_of s h)) (reverse (past_of s h)) S)
       → s.darts ≤ length S.sheet → s.darts / 2 ≤ length S.kept
-      → Fits (notesIn s.darts v) s.operations (m.operations - s.operations) S
+      → Fits (notes_in s.darts v) s.operations (m.operations - s.operations) S
 
 pub record Righted (s : State) (t h : List ℕ) (S : Sheets) : Type 0 where
   pub given : T (given s.darts (base_of s (table_of s t) (past_of s h)) (reverse (past_of s h)) S)
   pub sheet : s.darts ≤ length S.sheet
   pub kept : s.darts / 2 ≤ length S.kept
 
-abbrev pub contractsWith : List ℕ → State → List ℕ → List ℕ → List ℕ → Sheets → Costed
-contractsWith es s t h w S =
-    costed (unsettled (reduceBy contraction es s t h w))
-    (sheetsAfter s (table_of s t) (past_of s h) S (reduce contraction es s (table_of s t) (past_of s h)))
+abbrev pub contracts_with : List ℕ → State → List ℕ → List ℕ → List ℕ → Sheets → Costed
+contracts_with es s t h w S =
+    costed (unsettled (reduce_by contraction es s t h w))
+    (sheets_after s (table_of s t) (past_of s h) S (reduce contraction es s (table_of s t) (past_of s h)))
 
 pub record Begun (D v f x : ℕ) (o : Outcome) : Type 0 where
-  pub unfit : x < D → Hands o (unfitRecord x) zeros
-  pub fit : D ≤ x → Hands o done (baseWith D v f)
+  pub unfit : x < D → Hands o (unfit_record x) zeros
+  pub fit : D ≤ x → Hands o done (base_with D v f)
 
-unfoldable pub operationsAt : ℕ → State → ℕ
-operationsAt k s =
+unfoldable pub operations_at : ℕ → State → ℕ
+operations_at k s =
     if leb s.levels k then s.operations
     else if eqb k 0 then 0
     else get_or s.ends (k - 1) 0

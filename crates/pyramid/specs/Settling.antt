@@ -3,7 +3,7 @@
 --   Settled s o h r == r is the outcome o, with the numbers of s moved along the history h
 use Rattle.std.specs.Prelude.{List, ◌≡◌, ℕ, ◌-◌, ◌≤◌, length}
 use Rattle.slices.specs.Part.{part}
-use Rattle.darts.specs.Moves.{contractionsIn, moved_to}
+use Rattle.darts.specs.Moves.{contractions_in, moved_to}
 use Rattle.darts.specs.State.{State}
 use Rattle.pyramid.specs.declared.Outcome.{Outcome}
 use Rattle.pyramid.specs.Values.{state_of}
@@ -11,11 +11,11 @@ use Rattle.pyramid.specs.Values.{state_of}
 pub record Settles (s : State) (m : ℕ) (h : List ℕ) : Type 0 where
   pub before : s.operations ≤ length h
   pub after : m ≤ length h
-  pub vertices : contractionsIn (part s.operations m h) ≤ s.vertices
-  pub faces : m - s.operations - contractionsIn (part s.operations m h) ≤ s.faces
+  pub vertices : contractions_in (part s.operations m h) ≤ s.vertices
+  pub faces : m - s.operations - contractions_in (part s.operations m h) ≤ s.faces
   pub few : s.operations ≤ 65536
-  pub few-vertices : s.vertices ≤ 65536
-  pub few-faces : s.faces ≤ 65536
+  pub few_vertices : s.vertices ≤ 65536
+  pub few_faces : s.faces ≤ 65536
 
 pub record Settled (s : State) (o : Outcome) (h : List ℕ) (r : Outcome) : Type 0 where
   pub answer : r.answer ≡ o.answer

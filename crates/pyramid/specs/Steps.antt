@@ -4,26 +4,26 @@
 --   Halts s r w t h   == a run r has ended in the work area w of a state s that may have one level more, lent a table and a history of these lengths
 --   Raised s n z      == z has the figures of s with one level more, which ends after n operations
 --   Sunk s z          == z has the figures of s with one level less
---   stateIn s w       == the figures of s, with the numbers of the map that w holds
+--   state_in s w       == the figures of s, with the numbers of the map that w holds
 --   Stacked s w       == the work area holds the pyramid of these figures
 --   Lowered s z w v   == v holds the level below, with the figures of z
 --   Unfolded k s z w v == v holds level k, with the figures of z
 use Rattle.std.specs.Prelude.{true, List, ◌≢◌, ◌≡◌, ℕ, ◌+◌, ◌-◌, ◌/◌, ◌≤◌, ◌<◌, length}
 use Rattle.darts.specs.Cases.{answer_of}
 use Rattle.darts.specs.Answers.{Answer, done}
-use Rattle.darts.specs.Calls.{judged, workAfter}
+use Rattle.darts.specs.Calls.{judged, work_after}
 use Rattle.darts.specs.State.{State, counted, gives, raised}
-use Rattle.darts.specs.Levels.{lowered, undoLevel, undoLevels}
+use Rattle.darts.specs.Levels.{lowered, undo_level, undo_levels}
 use Rattle.darts.specs.Pyramid.{Pyramid}
-use Rattle.area.specs.Area.{Room, tableIn, pastIn}
+use Rattle.area.specs.Area.{Room, table_in, past_in}
 use Rattle.engine.specs.Checks.{Checked}
 use Rattle.engine.specs.Held.{Area, Beyond}
 use Rattle.engine.specs.declared.Ran.{Ran}
-use Rattle.pyramid.specs.Values.{figuresOf}
+use Rattle.pyramid.specs.Values.{figures_of}
 
 pub record Judged (s : State) (k : ℕ) (t h w v : List ℕ) (a : Answer) : Type 0 where
   pub answer : a ≡ judged s t h w
-  pub refused : a.number ≢ 0 → v ≡ workAfter a s.darts w
+  pub refused : a.number ≢ 0 → v ≡ work_after a s.darts w
   pub checked : a.number ≡ 0 → Checked s k t h w v true
 
 abbrev pub Stood : State → ℕ → List ℕ → List ℕ → List ℕ → Type 0
@@ -40,29 +40,29 @@ pub record Halts (s : State) (r : Ran) (w : List ℕ) (t h : ℕ) : Type 0 where
 
 -- over whatever table and past
 abbrev pub Raised : State → ℕ → State → Type 0
-Raised s n z = (t new : List ℕ) → length new ≡ n → figuresOf z ≡ figuresOf (raised s t new)
+Raised s n z = (t new : List ℕ) → length new ≡ n → figures_of z ≡ figures_of (raised s t new)
 
 abbrev pub Sunk : State → State → Type 0
-Sunk s z = (t past : List ℕ) → figuresOf z ≡ figuresOf (lowered s t past)
+Sunk s z = (t past : List ℕ) → figures_of z ≡ figures_of (lowered s t past)
 
-abbrev pub stateIn : State → List ℕ → State
-stateIn s w = counted s (tableIn s.darts w) (pastIn s.darts s.operations w)
+abbrev pub state_in : State → List ℕ → State
+state_in s w = counted s (table_in s.darts w) (past_in s.darts s.operations w)
 
 pub record Stacked (s : State) (w : List ℕ) : Type 0 where
-  pub pyramid : Pyramid (stateIn s w) (tableIn s.darts w) (pastIn s.darts s.operations w)
+  pub pyramid : Pyramid (state_in s w) (table_in s.darts w) (past_in s.darts s.operations w)
   pub area : Area s.darts s.operations w
 
 pub record Lowered (s z : State) (w v : List ℕ) : Type 0 where
-  pub step : undoLevel (stateIn s w) (tableIn s.darts w) (pastIn s.darts s.operations w)
-      ≡ gives (stateIn z v) (tableIn z.darts v) (pastIn z.darts z.operations v)
+  pub step : undo_level (state_in s w) (table_in s.darts w) (past_in s.darts s.operations w)
+      ≡ gives (state_in z v) (table_in z.darts v) (past_in z.darts z.operations v)
   pub stacked : Stacked z v
   pub darts : z.darts ≡ s.darts
   pub levels : z.levels + 1 ≡ s.levels
   pub beyond : Beyond s.darts w v
 
 pub record Unfolded (k : ℕ) (s z : State) (w v : List ℕ) : Type 0 where
-  pub step : undoLevels (s.levels - k) (stateIn s w) (tableIn s.darts w) (pastIn s.darts s.operations w)
-      ≡ gives (stateIn z v) (tableIn z.darts v) (pastIn z.darts z.operations v)
+  pub step : undo_levels (s.levels - k) (state_in s w) (table_in s.darts w) (past_in s.darts s.operations w)
+      ≡ gives (state_in z v) (table_in z.darts v) (past_in z.darts z.operations v)
   pub stacked : Stacked z v
   pub darts : z.darts ≡ s.darts
   pub beyond : Beyond s.darts w v

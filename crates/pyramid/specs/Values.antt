@@ -1,14 +1,14 @@
 -- The values of the calls, as the definitions have them.
 --   state_of s       == the record that a State is
---   figuresWith s v f == the figures of s, with v vertices and f faces
---   figuresOf s     == the figures of s, with no numbers
---   baseWith D v f  == the state of a base of D darts, with v vertices and f faces
+--   figures_with s v f == the figures of s, with v vertices and f faces
+--   figures_of s     == the figures of s, with no numbers
+--   base_with D v f  == the state of a base of D darts, with v vertices and f faces
 --   kind_of k        == the kind that a Kind is
 --   Hands o a s     == an outcome is this answer and this state
 --   left o t h w    == what a call leaves: what it hands back, and the lent slices
 --   unsettled a     == what a call leaves, but for the numbers of vertices and faces
 --   tally_of n       == the four numbers that counts hand back
---   countsLeft c t h w == what counts leave
+--   counts_left c t h w == what counts leave
 use Rattle.std.specs.Prelude.{List, ◌≡◌, ℕ, replicate}
 use Rattle.darts.specs.Answers.{Answer as Answered}
 use Rattle.darts.specs.Cases.{answer_of}
@@ -26,14 +26,14 @@ use Rattle.pyramid.specs.declared.Counted.{Counted}
 abbrev pub state_of : State → Stated
 state_of s = record { darts = s.darts; operations = s.operations; levels = s.levels; ends = s.ends; vertices = s.vertices; faces = s.faces }
 
-abbrev pub figuresWith : Stated → ℕ → ℕ → Stated
-figuresWith s v f = record { darts = s.darts; operations = s.operations; levels = s.levels; ends = s.ends; vertices = v; faces = f }
+abbrev pub figures_with : Stated → ℕ → ℕ → Stated
+figures_with s v f = record { darts = s.darts; operations = s.operations; levels = s.levels; ends = s.ends; vertices = v; faces = f }
 
-abbrev pub figuresOf : Stated → Stated
-figuresOf s = figuresWith s 0 0
+abbrev pub figures_of : Stated → Stated
+figures_of s = figures_with s 0 0
 
-abbrev pub baseWith : ℕ → ℕ → ℕ → Stated
-baseWith D v f = record { darts = D; operations = 0; levels = 0; ends = replicate 64 0; vertices = v; faces = f }
+abbrev pub base_with : ℕ → ℕ → ℕ → Stated
+base_with D v f = record { darts = D; operations = 0; levels = 0; ends = replicate 64 0; vertices = v; faces = f }
 
 abbrev pub kind_of : Kind → OfKind
 kind_of Contract = contraction
@@ -48,10 +48,10 @@ left o t h w = leaves (answer_of o.answer) (state_of o.state) t h w
 
 -- what the inner steps of a call leave: the numbers are put right once its work is done
 abbrev pub unsettled : After → After
-unsettled a = leaves a.answer (figuresOf a.state) a.table a.history a.work
+unsettled a = leaves a.answer (figures_of a.state) a.table a.history a.work
 
 abbrev pub tally_of : Counts → Tally
 tally_of n = record { darts = n.darts; vertices = n.vertices; faces = n.faces; euler = n.euler }
 
-abbrev pub countsLeft : Counted → List ℕ → List ℕ → List ℕ → CountsAfter
-countsLeft c t h w = record { answer = answer_of c.answer; counts = tally_of c.counts; table = t; history = h; work = w }
+abbrev pub counts_left : Counted → List ℕ → List ℕ → List ℕ → CountsAfter
+counts_left c t h w = record { answer = answer_of c.answer; counts = tally_of c.counts; table = t; history = h; work = w }

@@ -1,6 +1,6 @@
 // What the calls with sheets judge beside the records: lengths, and the check that notes what each operation merges.
 ghost use Rattle.std.specs.Prelude.{◌≡◌};
-ghost use Rattle.darts.specs.Answers.{done, noPyramid};
+ghost use Rattle.darts.specs.Answers.{done, no_pyramid};
 ghost use Rattle.darts.specs.Calls.{cleared};
 ghost use Rattle.darts.specs.Cases.{answer_of};
 ghost use Rattle.area.specs.Area.{Room};
@@ -135,7 +135,7 @@ impl State {
     // They are not: 4, and the work area is cleared.
     pub(crate) fn refuse(self, work: &mut [u32]) -> Answer
         requires { Room self.darts work.old }
-        ensures { (answer_of result ≡ noPyramid) × (work.new ≡ cleared self.darts work.old) }
+        ensures { (answer_of result ≡ no_pyramid) × (work.new ≡ cleared self.darts work.old) }
     {
         clear(work, self.darts as usize);
         Answer::NoPyramid

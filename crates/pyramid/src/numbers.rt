@@ -1,7 +1,7 @@
 // One level more, one level less: the state's own numbers. Those of vertices and faces are put right once the call's work is done.
 ghost use Rattle.std.specs.Prelude.{◌≡◌, ◌-◌, ◌≤◌, ◌<◌, eqb};
 ghost use Rattle.permutations.specs.Choice.{pick};
-ghost use Rattle.darts.specs.Levels.{endBelow};
+ghost use Rattle.darts.specs.Levels.{end_below};
 ghost use Rattle.darts.specs.Cases.{answer_of};
 ghost use Rattle.pyramid.specs.Steps.{Raised, Sunk};
 ghost use Rattle.pyramid.specs.Values.{state_of, Hands};
@@ -40,7 +40,7 @@ impl State {
     // The operation count before the last kernel.
     pub(crate) fn end_below(self) -> u32
         requires { self.levels ≤ 64 }
-        ensures { result ≡ endBelow (state_of self) }
+        ensures { result ≡ end_below (state_of self) }
     {
         let l = self.levels;
         if l <= 1 {

@@ -1,9 +1,9 @@
 // Reduce by a kernel.
 ghost use Rattle.std.specs.Prelude.{◌≡◌, ◌≤◌, length};
-ghost use Rattle.darts.specs.Calls.{reduceBy, past_of, handsBack, cleared};
+ghost use Rattle.darts.specs.Calls.{reduce_by, past_of, hands_back, cleared};
 ghost use Rattle.darts.specs.Operation.{kind_of as kindOfBit};
 ghost use Rattle.darts.specs.State.{levelled};
-ghost use Rattle.engine.specs.Runs.{ranIn};
+ghost use Rattle.engine.specs.Runs.{ran_in};
 ghost use Rattle.pyramid.specs.Steps.{Halts, Stood};
 ghost use Rattle.pyramid.specs.Values.{state_of, kind_of, left, unsettled};
 
@@ -29,8 +29,8 @@ impl State {
     pub fn level(self, ran: Ran, table: &mut [u32], history: &mut [u32], work: &[u32]) -> Outcome
         requires { Halts (state_of self) ran work.now (length table.old) (length history.old) }
         ensures { unsettled (left result table.new history.new (cleared self.darts work.now))
-            ≡ unsettled (handsBack (state_of self) table.old history.old work.now
-            (levelled (state_of self) (past_of (state_of self) history.old) (ranIn self.darts work.now ran))) }
+            ≡ unsettled (hands_back (state_of self) table.old history.old work.now
+            (levelled (state_of self) (past_of (state_of self) history.old) (ran_in self.darts work.now ran))) }
     {
         let d = self.darts as usize;
         let n = self.operations as usize;
@@ -61,7 +61,7 @@ impl State {
         requires k_bound { k ≤ 1 }
         requires stood { Stood (state_of self) k table.old history.old work.old }
         ensures { unsettled (left result table.new history.new work.new)
-            ≡ unsettled (reduceBy (kindOfBit k) kernel.now (state_of self) table.old history.old work.old) }
+            ≡ unsettled (reduce_by (kindOfBit k) kernel.now (state_of self) table.old history.old work.old) }
     {
         let d = self.darts as usize;
         if 64 <= self.levels {
@@ -84,7 +84,7 @@ impl State {
         work: &mut [u32],
     ) -> Outcome
         ensures { left result table.new history.new work.new
-            ≡ reduceBy (kind_of kind) kernel.now (state_of self) table.old history.old work.old }
+            ≡ reduce_by (kind_of kind) kernel.now (state_of self) table.old history.old work.old }
     {
         let k = bit(kind);
         let judged = self.judged(k, table, history, work);

@@ -1,7 +1,7 @@
 // The numbers of vertices and faces, put right once a call's work is done.
 ghost use Rattle.std.specs.Prelude.{◌≡◌};
 ghost use Rattle.pyramid.specs.Settling.{Settles, Settled};
-ghost use Rattle.pyramid.specs.Values.{state_of, figuresWith};
+ghost use Rattle.pyramid.specs.Values.{state_of, figures_with};
 
 use crate::{Outcome, State};
 use area::shape::contractions;
@@ -9,7 +9,7 @@ use area::shape::contractions;
 impl State {
     // The state with these numbers of vertices and faces.
     fn storing(self, vertices: u32, faces: u32) -> State
-        ensures { state_of result ≡ figuresWith (state_of self) vertices faces }
+        ensures { state_of result ≡ figures_with (state_of self) vertices faces }
     {
         let ends = self.ends;
         State {

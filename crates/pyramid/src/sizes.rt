@@ -2,10 +2,10 @@
 ghost use Rattle.std.specs.Prelude.{◌≡◌, ◌≤◌, eqb};
 ghost use Rattle.permutations.specs.Choice.{pick};
 ghost use Rattle.darts.specs.Cases.{answer_of};
-ghost use Rattle.area.specs.Shape.{stateWith};
+ghost use Rattle.area.specs.Shape.{state_with};
 ghost use Rattle.yarn.specs.Calls.{fitting};
-ghost use Rattle.pyramid.specs.Values.{state_of, figuresOf};
-ghost use Rattle.pyramid.specs.Costs.{Begun, operationsAt};
+ghost use Rattle.pyramid.specs.Values.{state_of, figures_of};
+ghost use Rattle.pyramid.specs.Costs.{Begun, operations_at};
 
 use crate::starting::{based, unbased};
 use crate::{Answer, Outcome, State};
@@ -62,7 +62,7 @@ pub(crate) fn reached(ran: Ran, n: usize) -> usize
 impl State {
     // The state's numbers, as the check takes them.
     pub(crate) fn figures(self) -> Figures
-        ensures { stateWith result ≡ figuresOf (state_of self) }
+        ensures { state_with result ≡ figures_of (state_of self) }
     {
         let ends = self.ends;
         Figures {
@@ -76,7 +76,7 @@ impl State {
     // How many operations there are at a level; as many as now where it is not below the top.
     pub(crate) fn operations_at(self, level: u32) -> u32
         requires { self.levels ≤ 64 }
-        ensures { result ≡ operationsAt level (state_of self) }
+        ensures { result ≡ operations_at level (state_of self) }
     {
         if self.levels <= level {
             return self.operations;

@@ -3,7 +3,7 @@ ghost use Rattle.std.specs.Prelude.{◌≡◌};
 ghost use Rattle.darts.specs.Calls.{start as start_of};
 ghost use Rattle.darts.specs.State.{zeros};
 ghost use Rattle.darts.specs.Cases.{answer_of};
-ghost use Rattle.pyramid.specs.Values.{baseWith, left, Hands};
+ghost use Rattle.pyramid.specs.Values.{base_with, left, Hands};
 
 use crate::{Answer, Outcome, State};
 use area::Verdict;
@@ -12,7 +12,7 @@ use engine::base::test_base;
 
 // A base of d darts, with so many vertices and faces, and an answer.
 pub fn based(darts: u32, vertices: u32, faces: u32, answer: Answer) -> Outcome
-    ensures { Hands result (answer_of answer) (baseWith darts vertices faces) }
+    ensures { Hands result (answer_of answer) (base_with darts vertices faces) }
 {
     let ends = [0u32; 64];
     Outcome {

@@ -1,6 +1,6 @@
 // The call that starts from a table and a sheet of records.
 ghost use Rattle.std.specs.Prelude.{◌≡◌};
-ghost use Rattle.yarn.specs.Calls.{startWith};
+ghost use Rattle.yarn.specs.Calls.{start_with};
 ghost use Rattle.pyramid.specs.Costs.{costs};
 
 use crate::Outcome;
@@ -20,7 +20,7 @@ pub fn start_with(
     keeps: &mut [Zone],
 ) -> Outcome
     ensures { costs result table.new history.new work.new sheet.exit.now keeps.new
-        ≡ startWith darts table.old history.old work.old (record { sheet = sheet.entry.now; kept = keeps.old }) }
+        ≡ start_with darts table.old history.old work.old (record { sheet = sheet.entry.now; kept = keeps.old }) }
 {
     let k = records(sheet);
     let l = records(keeps);

@@ -1,7 +1,7 @@
 // What the calls with sheets do once they are judged, beside the sheets. The check leaves a forest of vertices; where a kernel of removals is coming, one of faces is
 // made on the map as it stands.
 ghost use Rattle.std.specs.Prelude.{◌≡◌};
-ghost use Rattle.darts.specs.Calls.{reduceBy};
+ghost use Rattle.darts.specs.Calls.{reduce_by};
 ghost use Rattle.darts.specs.Operation.{removal};
 ghost use Rattle.pyramid.specs.Costs.{StoodWith, MadeBy};
 ghost use Rattle.pyramid.specs.Steps.{Stood};
@@ -24,7 +24,7 @@ impl State {
     ) -> Outcome
         requires { Stood (state_of self) 1 table.old history.old work.old }
         ensures { unsettled (left result table.new history.new work.new)
-            ≡ unsettled (reduceBy removal kernel.now (state_of self) table.old history.old work.old) }
+            ≡ unsettled (reduce_by removal kernel.now (state_of self) table.old history.old work.old) }
     {
         label(work, self.darts as usize, 0);
         self.reduce_judged(0, kernel, table, history, work)

@@ -1,6 +1,6 @@
 // The sweep.
 ghost use Rattle.std.specs.Prelude.{◌≡◌};
-ghost use Rattle.darts.specs.Calls.{sweepBy};
+ghost use Rattle.darts.specs.Calls.{sweep_by};
 ghost use Rattle.pyramid.specs.Steps.{Stood};
 ghost use Rattle.pyramid.specs.Values.{state_of, left, unsettled};
 
@@ -14,7 +14,7 @@ impl State {
     pub fn sweep_judged(self, table: &mut [u32], history: &mut [u32], work: &mut [u32]) -> Outcome
         requires { Stood (state_of self) 2 table.old history.old work.old }
         ensures { unsettled (left result table.new history.new work.new)
-            ≡ unsettled (sweepBy (state_of self) table.old history.old work.old) }
+            ≡ unsettled (sweep_by (state_of self) table.old history.old work.old) }
     {
         let d = self.darts as usize;
         if 64 <= self.levels {
@@ -30,7 +30,7 @@ impl State {
     // One level more: each empty loop that is no whole piece removed, in one pass by rising edge.
     pub fn sweep(self, table: &mut [u32], history: &mut [u32], work: &mut [u32]) -> Outcome
         ensures { left result table.new history.new work.new
-            ≡ sweepBy (state_of self) table.old history.old work.old }
+            ≡ sweep_by (state_of self) table.old history.old work.old }
     {
         let judged = self.judged(2, table, history, work);
         if judged.number() != 0 {

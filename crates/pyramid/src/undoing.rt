@@ -1,6 +1,6 @@
 // Undo one level, and unfold to a level.
 ghost use Rattle.std.specs.Prelude.{◌≡◌, ◌<◌};
-ghost use Rattle.darts.specs.Calls.{undoBy, unfoldBy};
+ghost use Rattle.darts.specs.Calls.{undo_by, unfold_by};
 ghost use Rattle.pyramid.specs.Steps.{Stood, Stacked, Lowered, Unfolded};
 ghost use Rattle.pyramid.specs.Values.{state_of, left, unsettled};
 
@@ -48,7 +48,7 @@ impl State {
     ) -> Outcome
         requires { Stood (state_of self) 2 table.old history.old work.old }
         ensures { unsettled (left result table.new history.new work.new)
-            ≡ unsettled (unfoldBy level (state_of self) table.old history.old work.old) }
+            ≡ unsettled (unfold_by level (state_of self) table.old history.old work.old) }
     {
         let d = self.darts as usize;
         let top = self.levels;
@@ -71,7 +71,7 @@ impl State {
         work: &mut [u32],
     ) -> Outcome
         ensures { left result table.new history.new work.new
-            ≡ unfoldBy level (state_of self) table.old history.old work.old }
+            ≡ unfold_by level (state_of self) table.old history.old work.old }
     {
         let judged = self.judged(2, table, history, work);
         if judged.number() != 0 {
@@ -84,7 +84,7 @@ impl State {
     // The last level undone: the state and every entry of the table as they were before its kernel.
     pub fn undo(self, table: &mut [u32], history: &mut [u32], work: &mut [u32]) -> Outcome
         ensures { left result table.new history.new work.new
-            ≡ undoBy (state_of self) table.old history.old work.old }
+            ≡ undo_by (state_of self) table.old history.old work.old }
     {
         self.unfold(self.level_below(), table, history, work)
     }

@@ -1,8 +1,8 @@
 // The calls that are lent both sheets: the zones' records, and the records that contractions kept. Each goes as the plain call does, and the sheets are
 // written once nothing can be refused any more.
 ghost use Rattle.std.specs.Prelude.{◌≡◌};
-ghost use Rattle.yarn.specs.Calls.{reduceWith, sweepWith, undoWith, unfoldWith};
-ghost use Rattle.pyramid.specs.Costs.{StoodWith, Righted, costs, costsLeft, contractsWith};
+ghost use Rattle.yarn.specs.Calls.{reduce_with, sweep_with, undo_with, unfold_with};
+ghost use Rattle.pyramid.specs.Costs.{StoodWith, Righted, costs, costs_left, contracts_with};
 ghost use Rattle.pyramid.specs.Values.{state_of, kind_of};
 
 use crate::numbers::kept;
@@ -24,8 +24,8 @@ impl State {
     ) -> Outcome
         requires stood_with { StoodWith (state_of self) table.old history.old work.old }
         requires righted { Righted (state_of self) table.old history.old (record { sheet = sheet.now; kept = keeps.old }) }
-        ensures { costsLeft result table.new history.new work.new sheet.exit.now keeps.new
-            ≡ contractsWith kernel.now (state_of self) table.old history.old work.old
+        ensures { costs_left result table.new history.new work.new sheet.exit.now keeps.new
+            ≡ contracts_with kernel.now (state_of self) table.old history.old work.old
             (record { sheet = sheet.entry.now; kept = keeps.old }) }
     {
         let d = self.darts as usize;
@@ -48,7 +48,7 @@ impl State {
         keeps: &mut [Zone],
     ) -> Outcome
         ensures { costs result table.new history.new work.new sheet.exit.now keeps.new
-            ≡ reduceWith (kind_of kind) kernel.now (state_of self) table.old history.old work.old
+            ≡ reduce_with (kind_of kind) kernel.now (state_of self) table.old history.old work.old
             (record { sheet = sheet.entry.now; kept = keeps.old }) }
     {
         let judged = self.judged_with(table, history, work, sheet, keeps);
@@ -77,7 +77,7 @@ impl State {
         keeps: &mut [Zone],
     ) -> Outcome
         ensures { costs result table.new history.new work.new sheet.exit.now keeps.new
-            ≡ sweepWith (state_of self) table.old history.old work.old
+            ≡ sweep_with (state_of self) table.old history.old work.old
             (record { sheet = sheet.entry.now; kept = keeps.old }) }
     {
         let judged = self.judged_with(table, history, work, sheet, keeps);
@@ -99,7 +99,7 @@ impl State {
         keeps: &mut [Zone],
     ) -> Outcome
         ensures { costs result table.new history.new work.new sheet.exit.now keeps.new
-            ≡ unfoldWith level (state_of self) table.old history.old work.old
+            ≡ unfold_with level (state_of self) table.old history.old work.old
             (record { sheet = sheet.entry.now; kept = keeps.old }) }
     {
         let judged = self.judged_with(table, history, work, sheet, keeps);
@@ -124,7 +124,7 @@ impl State {
         keeps: &mut [Zone],
     ) -> Outcome
         ensures { costs result table.new history.new work.new sheet.exit.now keeps.new
-            ≡ undoWith (state_of self) table.old history.old work.old
+            ≡ undo_with (state_of self) table.old history.old work.old
             (record { sheet = sheet.entry.now; kept = keeps.old }) }
     {
         self.unfold_with(self.level_below(), table, history, work, sheet, keeps)

@@ -1,28 +1,28 @@
 -- What stands in the work area, judged: a body that it holds is a pyramid, or it is refused.
---   settle-many == over D/2 operations
---   settle-none == the check says no
---   settle-all  == the check says yes, and what was judged is accepted, with the numbers that the check found
+--   settle_many == over D/2 operations
+--   settle_none == the check says no
+--   settle_all  == the check says yes, and what was judged is accepted, with the numbers that the check found
 use mathlib.Core.Bool.{Bool, true, false}
 use mathlib.Core.List.{List, [], map, reverse}
 use mathlib.Core.Path.{◌≡◌, refl, sym, ap, ap₂, ◌∙◌}
 use Prim.Native.Nat.{ℕ, ◌/◌, ◌≤◌, ◌<◌}
 use native.Mathlib.Omega.{arith}
-use Rattle.darts.specs.Answers.{done, noPyramid}
+use Rattle.darts.specs.Answers.{done, no_pyramid}
 use Rattle.darts.specs.State.{State, zeros, counted}
-use Rattle.darts.specs.Pyramid.{isPyramid}
+use Rattle.darts.specs.Pyramid.{is_pyramid}
 use Rattle.darts.specs.Scan.{Scan}
-use Rattle.darts.specs.Read.{Body, total, fromFlag, fileState, fileHistory, closed}
-use Rattle.darts.specs.Calls.{After, leaves, cleared, readInto}
+use Rattle.darts.specs.Read.{Body, total, from_flag, file_state, file_history, closed}
+use Rattle.darts.specs.Calls.{After, leaves, cleared, read_into}
 use Rattle.slices.specs.Over.{over}
-use Rattle.laws.proofs.runs.Ends.{state-path}
-use Rattle.area.specs.Area.{tableIn, pastIn}
+use Rattle.laws.proofs.runs.Ends.{state_path}
+use Rattle.area.specs.Area.{table_in, past_in}
 use Rattle.engine.specs.Checks.{CheckedLaid}
 use Rattle.engine.specs.Counted.{CyclesAre}
-use Rattle.pyramid.specs.Values.{figuresWith}
+use Rattle.pyramid.specs.Values.{figures_with}
 use Rattle.file_lines.specs.Lines.{starts_with}
 use Rattle.reader.specs.Parsed.{Holds}
 use Rattle.reader.specs.Settled.{Accepted}
-use Rattle.reader.proofs.ReadEnds.{closed_none, closed-many, closed_all}
+use Rattle.reader.proofs.ReadEnds.{closed_none, closed_many, closed_all}
 
 module _ {s : State} {b : List ℕ} {F p : ℕ} {z : Scan Body} {w : List ℕ} (H : Holds s b F p z w) (t h v : List ℕ) where
   abbrev D : ℕ
@@ -30,42 +30,42 @@ module _ {s : State} {b : List ℕ} {F p : ℕ} {z : Scan Body} {w : List ℕ} (
 
   -- what the read leaves
   abbrev whole : After
-  whole = readInto t h v (closed (starts_with F D) z)
+  whole = read_into t h v (closed (starts_with F D) z)
 
-  pub settle-many : D / 2 < s.operations → leaves noPyramid zeros t h (cleared D v) ≡ whole
-  unfolding fileState
-  settle-many many =
+  pub settle_many : D / 2 < s.operations → leaves no_pyramid zeros t h (cleared D v) ≡ whole
+  unfolding file_state
+  settle_many many =
       let count : s.operations ≡ total H.kernels = ap (λ (z : State). z.operations) (H.state [] []) in
-      closed-many t h v (starts_with F D) H.body (omega arith)
+      closed_many t h v (starts_with F D) H.body (omega arith)
 
   module _ (few : s.operations ≤ D / 2) {w' : List ℕ} {r : Bool} (C : CheckedLaid s w w' r) where
     -- the table and the past that were read
     abbrev table : List ℕ
-    table = map (fromFlag F D) H.numbers
+    table = map (from_flag F D) H.numbers
 
     abbrev past : List ℕ
-    past = reverse (fileHistory H.kernels)
+    past = reverse (file_history H.kernels)
 
     -- what the work area holds is what the file says
-    same-state : counted s (tableIn D w) (pastIn D s.operations w) ≡ fileState D H.kernels table past
-    same-state = H.state (tableIn D w) (pastIn D s.operations w) ∙ ap₂ (fileState D H.kernels) H.table (ap reverse (H.history few))
+    same_state_lem : counted s (table_in D w) (past_in D s.operations w) ≡ file_state D H.kernels table past
+    same_state_lem = H.state (table_in D w) (past_in D s.operations w) ∙ ap₂ (file_state D H.kernels) H.table (ap reverse (H.history few))
 
-    judged : r ≡ isPyramid (fileState D H.kernels table past) table past
+    judged : r ≡ is_pyramid (file_state D H.kernels table past) table past
     judged =
         C.answer
-        ∙ ap (λ (z : State). isPyramid z (tableIn D w) (pastIn D s.operations w)) same-state
-        ∙ ap₂ (λ (u new : List ℕ). isPyramid (fileState D H.kernels table past) u new) H.table (ap reverse (H.history few))
+        ∙ ap (λ (z : State). is_pyramid z (table_in D w) (past_in D s.operations w)) same_state_lem
+        ∙ ap₂ (λ (u new : List ℕ). is_pyramid (file_state D H.kernels table past) u new) H.table (ap reverse (H.history few))
 
-    pub settle-none : r ≡ false → leaves noPyramid zeros t h (cleared D v) ≡ whole
-    settle-none fails = closed_none t h v (starts_with F D) H.body (sym judged ∙ fails)
+    pub settle_none : r ≡ false → leaves no_pyramid zeros t h (cleared D v) ≡ whole
+    settle_none fails = closed_none t h v (starts_with F D) H.body (sym judged ∙ fails)
 
     module _ (passes : r ≡ true) {t' h' : List ℕ} (A : Accepted b p D F s.operations t t' h h' w') where
-      accepted : leaves done (counted s (tableIn D w) (pastIn D s.operations w)) t' h' (cleared D v) ≡ whole
+      accepted : leaves done (counted s (table_in D w) (past_in D s.operations w)) t' h' (cleared D v) ≡ whole
       accepted =
-          let history : h' ≡ over (fileHistory H.kernels) h = A.history ∙ ap (λ (z : List ℕ). over z h) (C.history ∙ H.history few) in
-          ap (λ (y : State). leaves done y t' h' (cleared D v)) same-state
+          let history : h' ≡ over (file_history H.kernels) h = A.history ∙ ap (λ (z : List ℕ). over z h) (C.history ∙ H.history few) in
+          ap (λ (y : State). leaves done y t' h' (cleared D v)) same_state_lem
           ∙ rw (A.table H.numbers H.next H.pairs, history) (closed_all t h v (starts_with F D) H.body (sym judged ∙ passes))
 
       -- THE NUMBERS THAT THE CHECK FOUND ARE THOSE OF THE CYCLES
-      pub settle-all : {x y : ℕ} → CyclesAre D (tableIn D w) (pastIn D s.operations w) x y → leaves done (figuresWith s x y) t' h' (cleared D v) ≡ whole
-      settle-all N = ap (λ (y : State). leaves done y t' h' (cleared D v)) (state-path refl refl refl refl N.vertices N.faces) ∙ accepted
+      pub settle_all : {x y : ℕ} → CyclesAre D (table_in D w) (past_in D s.operations w) x y → leaves done (figures_with s x y) t' h' (cleared D v) ≡ whole
+      settle_all N = ap (λ (y : State). leaves done y t' h' (cleared D v)) (state_path refl refl refl refl N.vertices N.faces) ∙ accepted

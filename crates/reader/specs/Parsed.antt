@@ -1,5 +1,5 @@
 -- What reading the body of a file leaves in the work area.
---   linesAt L D b at       == the lines after `levels=L`
+--   lines_at L D b at       == the lines after `levels=L`
 --   Holds s b F p z w       == z found kernels and numbers, of the figures of s; the pairs begin at the place p, and the work area w has the table, and the
 --                             history where it has room
 --   BodyRead z b D F w w' r == r tells what z found, or its fault; w' is the work area w with it
@@ -7,10 +7,10 @@ use Rattle.std.specs.Prelude.{◌≡◌, List, map, ℕ, ◌/◌, ◌≤◌}
 use Rattle.darts.specs.Cases.{answer_of}
 use Rattle.darts.specs.declared.Answer.{Answer}
 use Rattle.darts.specs.Scan.{Scan, found, fault, after}
-use Rattle.darts.specs.Read.{KernelLine, Body, kernelsAt, pairsAt, end_at, fromFlag, fileState, fileHistory}
+use Rattle.darts.specs.Read.{KernelLine, Body, kernels_at, pairs_at, end_at, from_flag, file_state, file_history}
 use Rattle.darts.specs.State.{State, counted}
-use Rattle.area.specs.Area.{tableIn}
-use Rattle.area.specs.Shape.{historyIn}
+use Rattle.area.specs.Area.{table_in}
+use Rattle.area.specs.Shape.{history_in}
 use Rattle.engine.specs.Held.{Beyond}
 use Rattle.file_lines.specs.declared.scan.Scanned.TheVariants.{Found, Fault}
 use Rattle.reader.specs.declared.reading.Parsed.{Parsed}
@@ -18,8 +18,8 @@ use Rattle.reader.specs.declared.reading.Parsed.{Parsed}
 abbrev pub body_of : List KernelLine → List ℕ → Body
 body_of ks xs = record { kernels = ks; numbers = xs }
 
-unfoldable pub linesAt : ℕ → ℕ → List ℕ → ℕ → Scan Body
-linesAt L D b at = after (kernelsAt L b at) (λ ks at. after (pairsAt (D / 2) b at) (λ xs at. end_at (body_of ks xs) b at))
+unfoldable pub lines_at : ℕ → ℕ → List ℕ → ℕ → Scan Body
+lines_at L D b at = after (kernels_at L b at) (λ ks at. after (pairs_at (D / 2) b at) (λ xs at. end_at (body_of ks xs) b at))
 
 pub record Holds (s : State) (b : List ℕ) (F p : ℕ) (z : Scan Body) (w : List ℕ) : Type 0 where
   pub kernels : List KernelLine
@@ -27,10 +27,10 @@ pub record Holds (s : State) (b : List ℕ) (F p : ℕ) (z : Scan Body) (w : Lis
   pub next : ℕ
   pub body : z ≡ found (body_of kernels numbers) next
   pub few : s.levels ≤ 64
-  pub state : (t past : List ℕ) → counted s t past ≡ fileState s.darts kernels t past
-  pub pairs : pairsAt (s.darts / 2) b p ≡ found numbers next
-  pub table : tableIn s.darts w ≡ map (fromFlag F s.darts) numbers
-  pub history : s.operations ≤ s.darts / 2 → historyIn s.darts s.operations w ≡ fileHistory kernels
+  pub state : (t past : List ℕ) → counted s t past ≡ file_state s.darts kernels t past
+  pub pairs : pairs_at (s.darts / 2) b p ≡ found numbers next
+  pub table : table_in s.darts w ≡ map (from_flag F s.darts) numbers
+  pub history : s.operations ≤ s.darts / 2 → history_in s.darts s.operations w ≡ file_history kernels
 
 pub record BodyRead (z : Scan Body) (b : List ℕ) (D F : ℕ) (w w' : List ℕ) (r : Parsed) : Type 0 where
   pub wrong : {a : Answer} → r.read ≡ Fault a → z ≡ fault (answer_of a)

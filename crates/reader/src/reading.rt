@@ -1,13 +1,13 @@
 // A file read: its body into the work area, and from there, where it is a pyramid, into the lent table and history.
 ghost use Rattle.std.specs.Prelude.{◌≡◌, ◌/◌, ◌≤◌, length};
 ghost use Rattle.darts.specs.Read.{body, closed};
-ghost use Rattle.darts.specs.Calls.{cleared, readInto, read as read_of};
+ghost use Rattle.darts.specs.Calls.{cleared, read_into, read as read_of};
 ghost use Rattle.area.specs.Area.{Room};
-ghost use Rattle.area.specs.Shape.{stateWith};
+ghost use Rattle.area.specs.Shape.{state_with};
 ghost use Rattle.engine.specs.Held.{Beyond};
 ghost use Rattle.pyramid.specs.Values.{left};
 ghost use Rattle.file_lines.specs.Lines.{starts_with};
-ghost use Rattle.reader.specs.Parsed.{linesAt, BodyRead};
+ghost use Rattle.reader.specs.Parsed.{lines_at, BodyRead};
 ghost use Rattle.reader.specs.Settled.{Accepted, Settled};
 
 use area::Figures;
@@ -35,7 +35,7 @@ struct Parsed {
 fn lines(bytes: &[u8], at: usize, levels: usize, d: usize, flag: usize, work: &mut [u32]) -> Parsed
     requires room { Room d work.old }
     requires levels_bound { levels ≤ 64 }
-    ensures { BodyRead (linesAt levels d bytes.now at) bytes.now d flag work.old work.new result }
+    ensures { BodyRead (lines_at levels d bytes.now at) bytes.now d flag work.old work.new result }
 {
     let from = 3 * d;
     let to = 4 * d;
@@ -114,7 +114,7 @@ fn settle(
 ) -> Outcome
     requires room { Room state.darts work.old }
     requires darts_in_bounds { (state.darts ≤ length table.old) × (state.darts / 2 ≤ length history.old) × (state.levels ≤ 64) }
-    ensures { Settled (stateWith state) bytes.now flag at table.old table.new history.old history.new
+    ensures { Settled (state_with state) bytes.now flag at table.old table.new history.old history.new
         work.old work.new result }
 {
     let d = state.darts;
@@ -154,7 +154,7 @@ fn read_inside(
     requires room { Room d work.old }
     requires d_in_bounds { (d ≤ length table.old) × (d / 2 ≤ length history.old) }
     ensures work_after { left result table.new history.new (cleared d work.old)
-        ≡ readInto table.old history.old work.old (closed (starts_with flag d) (body d bytes.now at)) }
+        ≡ read_into table.old history.old work.old (closed (starts_with flag d) (body d bytes.now at)) }
     ensures beyond { Beyond d work.old work.new }
 {
     let said = parse(bytes, at, d, flag, work);

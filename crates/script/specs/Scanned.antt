@@ -4,6 +4,6 @@ use Rattle.std.specs.Prelude.{List, ℕ, ◌+◌, ◌≤◌, length}
 use Rattle.script.specs.declared.scan.Line.{Line}
 
 pub record Scanned (script : List ℕ) (line : Line) : Type 0 where
-  pub of-numbers : line.count ≤ 262161
-  pub of-from : line.from + line.size ≤ length script
-  pub of-next : line.next ≤ length script
+  pub of_numbers : line.count ≤ 262161
+  pub of_from : line.from + line.size ≤ length script
+  pub of_next : line.next ≤ length script

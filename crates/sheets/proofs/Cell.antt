@@ -3,7 +3,7 @@
 --     past                   the record that a contract reads past the end of a sheet
 --     row                    the row of a local that holds one.        in_mem, of_mem, to_room     that row is the local's memory holding one, both ways, and can be made room
 --     param, result          one passed, and one returned, by value
---     elem, elem-laws        one as the element of an array that is passed or returned by value
+--     elem, elem_laws        one as the element of an array that is passed or returned by value
 --     copies, lawful         it is Copy, and its relation is lawful
 --     yields, reads          a local that holds one gives a copy of it to a call, or to a literal, and keeps it
 -- For another struct, change the lines that bring it in, and `past`.
@@ -80,8 +80,8 @@ result = r_val value laws
 abbrev pub elem : Elem
 elem = e_struct T.the_type T'.the_laws T'.the_copy
 
-abbrev pub elem-laws : ElemLawsAll elem
-elem-laws = e_struct_laws T.the_type T'.the_laws T'.the_copy T'.the_plain
+abbrev pub elem_laws : ElemLawsAll elem
+elem_laws = e_struct_laws T.the_type T'.the_laws T'.the_copy T'.the_plain
 
 module _ {M : Type 1} {𝓤 : Ura M} (𝓛 : Logic 𝓤) where
   abbrev pub in_mem : InMem 𝓛 row R (λ x. x)

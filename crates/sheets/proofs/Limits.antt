@@ -3,8 +3,8 @@
 --   signed s n       == n, with the sign s
 --   FromTo top x     == x is a number from 0 to top
 --   YarnFrom top y   == metres from 0 to top, or not measured
---   metres-limits    == metres are fit exactly where they are from 0 to 100,000
---   fit-limits       == a record is fit exactly where it has up to 65,535 stitches, and metres from 0 to 100,000 or none
+--   metres_limits    == metres are fit exactly where they are from 0 to 100,000
+--   fit_limits       == a record is fit exactly where it has up to 65,535 stitches, and metres from 0 to 100,000 or none
 use mathlib.Core.Bool.{Bool, true, false, ◌||◌, ◌&&◌}
 use mathlib.Core.Logic.Iff
 use mathlib.Core.Logic.{◌↔◌, inl, inr, ⊎_elim}
@@ -17,11 +17,11 @@ use lib.Dec.{T, eqb, eqb→eq, ltb, leb, leb→le, le→leb, ltb→lt, lt→ltb}
 use lib.IntN.{ℤ, pos, neg_ℤ, pos-ne-negsuc}
 use lib.Ieee as Ieee
 use lib.Ieee.{Float, nan, inf, fin, up, down, below, level}
-use Rattle.permutations.specs.Choice.{eqb_same, and-iff, and_intro, and_left, and_right, or_cases, or-intro}
+use Rattle.permutations.specs.Choice.{eqb_same, and_iff, and_intro, and_left, and_right, or_cases, or_intro}
 use Rattle.sheets.specs.declared.Yarn.{Yarn}
 use Rattle.sheets.specs.declared.Yarn.TheVariants.{Metres, NotMeasured}
 use Rattle.sheets.specs.declared.Zone.{Zone}
-use Rattle.sheets.specs.Records.{metresFit, yarnFits, fitOf}
+use Rattle.sheets.specs.Records.{metres_fit, yarn_fits, fit_of}
 
 abbrev pub signed : Bool → ℕ → ℤ
 signed false n = pos n
@@ -44,47 +44,47 @@ YarnFrom top NotMeasured = Unit {0}
 
 -- ---- the comparisons of plus or minus a with 0 and with t
 
-not-below : (a : ℕ) → T (ltb 0 a || (eqb 0 a && true))
-not-below a = go (ℕ_discrete 0 a)
+not_below : (a : ℕ) → T (ltb 0 a || (eqb 0 a && true))
+not_below a = go (ℕ_discrete 0 a)
   where
     go : Dec (0 ≡ a) → T (ltb 0 a || (eqb 0 a && true))
-    go (yes e) = or-intro (ltb 0 a) (eqb 0 a && true) (inr (rw (eqb_same e) tt))
-    go (no n) = or-intro (ltb 0 a) (eqb 0 a && true) (inl (lt→ltb 0 a (omega arith)))
+    go (yes e) = or_intro (ltb 0 a) (eqb 0 a && true) (inr (rw (eqb_same e) tt))
+    go (no n) = or_intro (ltb 0 a) (eqb 0 a && true) (inl (lt→ltb 0 a (omega arith)))
 
-not-above : (a t : ℕ) → T (ltb a t || (eqb a t && true)) ↔ (a ≤ t)
-not-above a t = (
+not_above : (a t : ℕ) → T (ltb a t || (eqb a t && true)) ↔ (a ≤ t)
+not_above a t = (
   λ h. ⊎_elim (λ l. let k = ltb→lt a t l in omega arith) (λ e. let k = eqb→eq a t (and_left (eqb a t) true e) in omega arith)
       (or_cases (ltb a t) (eqb a t && true) h),
   λ l. go l (ℕ_discrete a t),
 )
   where
     go : a ≤ t → Dec (a ≡ t) → T (ltb a t || (eqb a t && true))
-    go l (yes e) = or-intro (ltb a t) (eqb a t && true) (inr (rw (eqb_same e) tt))
-    go l (no n) = or-intro (ltb a t) (eqb a t && true) (inl (lt→ltb a t (omega arith)))
+    go l (yes e) = or_intro (ltb a t) (eqb a t && true) (inr (rw (eqb_same e) tt))
+    go l (no n) = or_intro (ltb a t) (eqb a t && true) (inl (lt→ltb a t (omega arith)))
 
 -- of what is not above 0, zero alone is not below it; and it is not above any limit
-zero-alone : (a t : ℕ) → T ((eqb 0 a && true) && (ltb 0 (a + t) || (eqb a t && eqb a 0))) ↔ (a ≡ 0)
-zero-alone a t = (
+zero_alone : (a t : ℕ) → T ((eqb 0 a && true) && (ltb 0 (a + t) || (eqb a t && eqb a 0))) ↔ (a ≡ 0)
+zero_alone a t = (
   λ h. sym (eqb→eq 0 a (and_left (eqb 0 a) true (and_left (eqb 0 a && true) (ltb 0 (a + t) || (eqb a t && eqb a 0)) h))),
   λ e. rw e (go t),
 )
   where
     go : (t : ℕ) → T (ltb 0 (0 + t) || (eqb 0 t && true))
-    go t = rw (zero-add t) (not-below t)
+    go t = rw (zero-add t) (not_below t)
 
 abbrev Within : ℕ → Bool → ℕ → Type 0
 Within t s a = (n : ℕ) × (signed s a ≡ pos n) × (n ≤ t)
 
-within-iff : (s : Bool) (a t : ℕ) → T ((below false 0 s a || level false 0 s a) && (below s a false t || level s a false t)) ↔ Within t s a
-within-iff false a t = (
-  λ h. (a, refl, (not-above a t).0 (and_right (ltb 0 a || (eqb 0 a && true)) (ltb a t || (eqb a t && true)) h)),
+within_iff : (s : Bool) (a t : ℕ) → T ((below false 0 s a || level false 0 s a) && (below s a false t || level s a false t)) ↔ Within t s a
+within_iff false a t = (
+  λ h. (a, refl, (not_above a t).0 (and_right (ltb 0 a || (eqb 0 a && true)) (ltb a t || (eqb a t && true)) h)),
   λ (n, e, l).
       let k : a ≡ n = cc in
-      and_intro (ltb 0 a || (eqb 0 a && true)) (ltb a t || (eqb a t && true)) (not-below a) ((not-above a t).1 (omega arith)),
+      and_intro (ltb 0 a || (eqb 0 a && true)) (ltb a t || (eqb a t && true)) (not_below a) ((not_above a t).1 (omega arith)),
 )
-within-iff true a t = (
-  λ h. let e = (zero-alone a t).0 h in (0, ap (λ n. neg_ℤ (pos n)) e, omega arith),
-  λ (n, e, l). (zero-alone a t).1 (no_minus a n e),
+within_iff true a t = (
+  λ h. let e = (zero_alone a t).0 h in (0, ap (λ n. neg_ℤ (pos n)) e, omega arith),
+  λ (n, e, l). (zero_alone a t).1 (no_minus a n e),
 )
   where
     no_minus : (a n : ℕ) → neg_ℤ (pos a) ≡ pos n → a ≡ 0
@@ -94,27 +94,27 @@ within-iff true a t = (
 -- ---- the limits
 
 -- "metres not from 0 to 100,000 (a NaN is not)": 100,000 is 3125 * 2 ^ 5
-pub metres-limits : (x : Float) → T (metresFit x) ↔ FromTo 100000 x
+pub metres_limits : (x : Float) → T (metres_fit x) ↔ FromTo 100000 x
 unfolding Ieee.le Ieee.lt Ieee.eq
-metres-limits nan = (λ t. absurd t, λ F. absurd (no_number F.number))
+metres_limits nan = (λ t. absurd t, λ F. absurd (no_number F.number))
   where
     no_number : {s : Bool} {m : ℕ} {e : ℤ} → nan ≡ fin s m e → ⊥
     no_number k = let z : ◌≡◌ {A = ℕ} 0 1 = cc in omega arith
-metres-limits (inf s) = (λ t. absurd (no s t), λ F. absurd (no_number F.number))
+metres_limits (inf s) = (λ t. absurd (no s t), λ F. absurd (no_number F.number))
   where
-    no : (s : Bool) → T (metresFit (inf s)) → ⊥
+    no : (s : Bool) → T (metres_fit (inf s)) → ⊥
     no true t = t
     no false t = t
 
     no_number : {z : Bool} {m : ℕ} {e : ℤ} → inf s ≡ fin z m e → ⊥
     no_number k = let z : ◌≡◌ {A = ℕ} 0 1 = cc in omega arith
-metres-limits (fin s m e) = (
+metres_limits (fin s m e) = (
   λ t. let (n, from, to) = number.0 t in record { sign = s; digits = m; exponent = e; number = refl; parts = n; from = from; to = to },
   λ F. number.1 (told F),
 )
   where
-    number : T (metresFit (fin s m e)) ↔ Within (100000 * down e) s (m * up e)
-    number = rw (zero-mul (down e), mul-one (m * up e)) (within-iff s (m * up e) (100000 * down e))
+    number : T (metres_fit (fin s m e)) ↔ Within (100000 * down e) s (m * up e)
+    number = rw (zero-mul (down e), mul-one (m * up e)) (within_iff s (m * up e) (100000 * down e))
 
     told : FromTo 100000 (fin s m e) → Within (100000 * down e) s (m * up e)
     told F =
@@ -123,11 +123,11 @@ metres-limits (fin s m e) = (
         let exponent : F.exponent ≡ e = let k = F.number in cc in
         (F.parts, rw (sign, digits, exponent) at F.from, rw exponent at F.to)
 
-yarn-limits : (y : Yarn) → T (yarnFits y) ↔ YarnFrom 100000 y
-yarn-limits (Metres m) = metres-limits m
-yarn-limits NotMeasured = Iff.rfl
+yarn_limits : (y : Yarn) → T (yarn_fits y) ↔ YarnFrom 100000 y
+yarn_limits (Metres m) = metres_limits m
+yarn_limits NotMeasured = Iff.rfl
 
 -- A RECORD IS FIT EXACTLY WHERE IT HAS "stitches, up to 65,535", AND "metres .. from 0 to 100,000" OR NONE
-pub fit-limits : (z : Zone) → T (fitOf z) ↔ ((z.stitches ≤ 65535) × YarnFrom 100000 z.yarn)
-fit-limits z =
-    and-iff (leb z.stitches 65535) (yarnFits z.yarn) (leb→le z.stitches 65535, le→leb z.stitches 65535) (λ h. yarn-limits z.yarn)
+pub fit_limits : (z : Zone) → T (fit_of z) ↔ ((z.stitches ≤ 65535) × YarnFrom 100000 z.yarn)
+fit_limits z =
+    and_iff (leb z.stitches 65535) (yarn_fits z.yarn) (leb→le z.stitches 65535, le→leb z.stitches 65535) (λ h. yarn_limits z.yarn)

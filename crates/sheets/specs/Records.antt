@@ -1,9 +1,9 @@
 -- A record of a sheet, and two of them (document 02, request Five): "stitches, up to 65,535, and a yarn figure that is either metres, a 64-bit float,
 -- or not measured".
 --   joined a b     == the yarn of two records together
---   mergeOf a b    == the lower record a, once b is merged into it
---   fitOf z        == z may stand on a base's sheet
---   sameMetres, sameYarn, sameZone == they are the same, bit for bit
+--   merge_of a b    == the lower record a, once b is merged into it
+--   fit_of z        == z may stand on a base's sheet
+--   same_metres, same_yarn, same_zone == they are the same, bit for bit
 --   measured z     == the record has metres
 --   at s i         == the record at place i of the sheet s
 use Rattle.std.specs.Prelude.{Bool, true, false, ◌&&◌, List, ℕ, ◌+◌, eqb, leb, ℤ, pos, negsuc, get_or, Float}
@@ -21,55 +21,55 @@ joined (Metres a) NotMeasured = NotMeasured
 joined NotMeasured b = NotMeasured
 
 -- "stitches add"
-abbrev pub mergeOf : Zone → Zone → Zone
-mergeOf lower other = record { stitches = lower.stitches + other.stitches; yarn = joined lower.yarn other.yarn }
+abbrev pub merge_of : Zone → Zone → Zone
+merge_of lower other = record { stitches = lower.stitches + other.stitches; yarn = joined lower.yarn other.yarn }
 
 -- "metres not from 0 to 100,000 (a NaN is not)": 100,000 is 3125 * 2 ^ 5. Each comparison with a NaN is false, and minus zero is not below zero.
-abbrev pub metresFit : Float → Bool
-metresFit m = Ieee.le (fin false 0 (pos 0)) m && Ieee.le m (fin false 3125 (pos 5))
+abbrev pub metres_fit : Float → Bool
+metres_fit m = Ieee.le (fin false 0 (pos 0)) m && Ieee.le m (fin false 3125 (pos 5))
 
-abbrev pub yarnFits : Yarn → Bool
-yarnFits (Metres m) = metresFit m
-yarnFits NotMeasured = true
+abbrev pub yarn_fits : Yarn → Bool
+yarn_fits (Metres m) = metres_fit m
+yarn_fits NotMeasured = true
 
 -- "These limits are for the base's records; merged ones may be larger"
-abbrev pub fitOf : Zone → Bool
-fitOf z = leb z.stitches 65535 && yarnFits z.yarn
+abbrev pub fit_of : Zone → Bool
+fit_of z = leb z.stitches 65535 && yarn_fits z.yarn
 
-unfoldable pub sameInteger : ℤ → ℤ → Bool
-sameInteger (pos a) (pos b) = eqb a b
-sameInteger (pos a) (negsuc b) = false
-sameInteger (negsuc a) (pos b) = false
-sameInteger (negsuc a) (negsuc b) = eqb a b
+unfoldable pub same_integer : ℤ → ℤ → Bool
+same_integer (pos a) (pos b) = eqb a b
+same_integer (pos a) (negsuc b) = false
+same_integer (negsuc a) (pos b) = false
+same_integer (negsuc a) (negsuc b) = eqb a b
 
 -- the same float: there is one NaN, and the two zeros are two
-unfoldable pub sameMetres : Float → Float → Bool
-sameMetres nan nan = true
-sameMetres nan (inf s) = false
-sameMetres nan (fin s m e) = false
-sameMetres (inf s) nan = false
-sameMetres (inf s) (inf z) = beq s z
-sameMetres (inf s) (fin z m e) = false
-sameMetres (fin s m e) nan = false
-sameMetres (fin s m e) (inf z) = false
-sameMetres (fin s m e) (fin z n f) = beq s z && (eqb m n && sameInteger e f)
+unfoldable pub same_metres : Float → Float → Bool
+same_metres nan nan = true
+same_metres nan (inf s) = false
+same_metres nan (fin s m e) = false
+same_metres (inf s) nan = false
+same_metres (inf s) (inf z) = beq s z
+same_metres (inf s) (fin z m e) = false
+same_metres (fin s m e) nan = false
+same_metres (fin s m e) (inf z) = false
+same_metres (fin s m e) (fin z n f) = beq s z && (eqb m n && same_integer e f)
 
-unfoldable pub sameYarn : Yarn → Yarn → Bool
-sameYarn (Metres a) (Metres b) = sameMetres a b
-sameYarn (Metres a) NotMeasured = false
-sameYarn NotMeasured (Metres b) = false
-sameYarn NotMeasured NotMeasured = true
+unfoldable pub same_yarn : Yarn → Yarn → Bool
+same_yarn (Metres a) (Metres b) = same_metres a b
+same_yarn (Metres a) NotMeasured = false
+same_yarn NotMeasured (Metres b) = false
+same_yarn NotMeasured NotMeasured = true
 
 -- "bit for bit"
-unfoldable pub sameZone : Zone → Zone → Bool
-sameZone a b = eqb a.stitches b.stitches && sameYarn a.yarn b.yarn
+unfoldable pub same_zone : Zone → Zone → Bool
+same_zone a b = eqb a.stitches b.stitches && same_yarn a.yarn b.yarn
 
 unfoldable pub measured : Zone → Bool
-measured z = yarnMeasured z.yarn
+measured z = yarn_measured z.yarn
   where
-    yarnMeasured : Yarn → Bool
-    yarnMeasured (Metres m) = true
-    yarnMeasured NotMeasured = false
+    yarn_measured : Yarn → Bool
+    yarn_measured (Metres m) = true
+    yarn_measured NotMeasured = false
 
 -- past the end of a sheet, where no call looks, there is a record of no stitches
 abbrev pub at : List Zone → ℕ → Zone

@@ -4,14 +4,14 @@
 --   right r        == the definitions give what the row says
 --   bits n         == the float of the pattern n
 --   table          == the rows
---   records-worked == all of them are right
+--   records_worked == all of them are right
 use Rattle.std.specs.Prelude.{Bool, true, ◌&&◌, not, List, [], ◌∷◌, ◌≡◌, refl, ℕ}
 use Rattle.std.specs.Float.Ieee as Ieee
 use Rattle.std.specs.Float.{binary64}
 use Rattle.sheets.specs.declared.Yarn.{Yarn}
 use Rattle.sheets.specs.declared.Yarn.TheVariants.{Metres, NotMeasured}
 use Rattle.sheets.specs.declared.Zone.{Zone}
-use Rattle.sheets.specs.Records.{mergeOf, fitOf, sameInteger, sameMetres, sameYarn, sameZone, at}
+use Rattle.sheets.specs.Records.{merge_of, fit_of, same_integer, same_metres, same_yarn, same_zone, at}
 use Rattle.sheets.specs.Sheets.{Sheets, into, merged, returned}
 
 pub data Row : Type 0 where
@@ -30,14 +30,14 @@ abbrev undone : Zone → Zone → Sheets
 undone a b = returned (into 0 1) 0 (merged (into 0 1) 0 (record { sheet = a ∷ b ∷ []; kept = b ∷ [] }))
 
 abbrev right : Row → Bool
-right (fit z) = fitOf z
-right (unfit z) = not (fitOf z)
-right (merging a b z) = sameZone (mergeOf a b) z
-right (undoing a b) = sameZone (at (undone a b).sheet 0) a && sameZone (at (undone a b).sheet 1) b
+right (fit z) = fit_of z
+right (unfit z) = not (fit_of z)
+right (merging a b z) = same_zone (merge_of a b) z
+right (undoing a b) = same_zone (at (undone a b).sheet 0) a && same_zone (at (undone a b).sheet 1) b
 
-abbrev allRight : List Row → Bool
-allRight [] = true
-allRight (r ∷ rs) = right r && allRight rs
+abbrev all_right : List Row → Bool
+all_right [] = true
+all_right (r ∷ rs) = right r && all_right rs
 
 -- ---- metres by their 64 bits
 
@@ -101,6 +101,6 @@ table =
     ∷ []
 
 -- subtraction and the strict comparison are computed too, so that a definition with one of them is refused by what it gives
-pub records-worked : allRight table ≡ true
-unfolding sameInteger sameMetres sameYarn sameZone merged returned Ieee.le Ieee.lt Ieee.add Ieee.sub Ieee.of_bits
-records-worked = refl
+pub records_worked : all_right table ≡ true
+unfolding same_integer same_metres same_yarn same_zone merged returned Ieee.le Ieee.lt Ieee.add Ieee.sub Ieee.of_bits
+records_worked = refl

@@ -1,13 +1,13 @@
 // One record, or two, by value.
 ghost use Rattle.std.specs.Prelude.{◌≡◌, ◌+◌, ◌<◌, ◌^◌};
-ghost use Rattle.sheets.specs.Records.{mergeOf, fitOf, sameZone};
+ghost use Rattle.sheets.specs.Records.{merge_of, fit_of, same_zone};
 
 use crate::{Yarn, Zone};
 
 // The lower record with the other one merged into it: stitches add, metres add with one rounding, and not measured with anything is not measured.
 pub fn merge(lower: Zone, other: Zone) -> Zone
     requires { lower.stitches + other.stitches < 2 ^ 32 }
-    ensures { result ≡ mergeOf lower other }
+    ensures { result ≡ merge_of lower other }
 {
     let stitches = lower.stitches + other.stitches;
     let first = lower.yarn;
@@ -32,7 +32,7 @@ pub fn merge(lower: Zone, other: Zone) -> Zone
 
 // Whether a record may stand on a base's sheet: at most 65,535 stitches, and from 0 to 100,000 metres or not measured.
 pub fn fit(z: Zone) -> bool
-    ensures { result ≡ fitOf z }
+    ensures { result ≡ fit_of z }
 {
     let stitches = z.stitches;
     let yarn = z.yarn;
@@ -52,7 +52,7 @@ pub fn fit(z: Zone) -> bool
 
 // Whether two records are the same, bit for bit; a NaN is the same as any other.
 pub fn same(a: Zone, b: Zone) -> bool
-    ensures { result ≡ sameZone a b }
+    ensures { result ≡ same_zone a b }
 {
     let p = a.stitches;
     let q = b.stitches;
@@ -89,7 +89,7 @@ fn long(x: u32) -> u64
 
 // Whether the lower record with the other one merged into it is z. Stitches past 32 bits are no record's.
 pub fn merges_to(lower: Zone, other: Zone, z: Zone) -> bool
-    ensures { result ≡ sameZone (mergeOf lower other) z }
+    ensures { result ≡ same_zone (merge_of lower other) z }
 {
     let first = long(lower.stitches);
     let second = long(other.stitches);

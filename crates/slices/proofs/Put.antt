@@ -1,9 +1,9 @@
 -- Numbers put into a lent slice, one list after another.
---   put-none    == before anything is laid
---   put-length  == the slice keeps its length
+--   put_none    == before anything is laid
+--   put_length  == the slice keeps its length
 --   put_on      == one list more
 --   put_one     == one number more
---   room-first, room-then == where two lists have room, each has at its place
+--   room_first, room_then == where two lists have room, each has at its place
 use mathlib.Core.Path.{◌≡◌, refl, sym, ap, ◌∙◌}
 use mathlib.Core.List.{List, [], ◌∷◌, ◌++◌}
 use Prim.Native.Nat.{ℕ, ◌+◌, ◌-◌, ◌<◌}
@@ -11,19 +11,19 @@ use native.Mathlib.Nat.{add_assoc, add-zero}
 use native.Mathlib.Omega.{arith}
 use lib.ListN.{length, set, length-append, take-append-drop}
 use Rattle.slices.specs.Laid.{laid, Space}
-use Rattle.slices.proofs.Laid.{laid_one, laid-length, laid_on}
+use Rattle.slices.proofs.Laid.{laid_one, laid_length, laid_on}
 use Rattle.slices.specs.Put.{Put}
 
-pub put-none : (w : List ℕ) (at : ℕ) → Put w w at at []
+pub put_none : (w : List ℕ) (at : ℕ) → Put w w at at []
 unfolding laid
-put-none w at = record { slice = rw (add-zero at) (sym (take-append-drop at w)); next = sym (add-zero at) }
+put_none w at = record { slice = rw (add-zero at) (sym (take-append-drop at w)); next = sym (add-zero at) }
 
-pub room-first : {w : List ℕ} {at : ℕ} {xs : List ℕ} (ys : List ℕ) → Space w at (xs ++ ys) → Space w at xs
-room-first {w} {at} {xs} ys room = record { fits = omega (arith, room.fits, length-append xs ys) }
+pub room_first : {w : List ℕ} {at : ℕ} {xs : List ℕ} (ys : List ℕ) → Space w at (xs ++ ys) → Space w at xs
+room_first {w} {at} {xs} ys room = record { fits = omega (arith, room.fits, length-append xs ys) }
 
 module _ {w w' : List ℕ} {at r : ℕ} {xs : List ℕ} where
-  pub put-length : Space w at xs → Put w w' at r xs → length w' ≡ length w
-  put-length room p = ap length p.slice ∙ laid-length w at xs room
+  pub put_length : Space w at xs → Put w w' at r xs → length w' ≡ length w
+  put_length room p = ap length p.slice ∙ laid_length w at xs room
 
   pub put_on : {w'' : List ℕ} {s : ℕ} {ys : List ℕ} → Space w at xs → Put w w' at r xs → Put w' w'' r s ys → Put w w'' at s (xs ++ ys)
   put_on {w''} {s} {ys} room p q =
@@ -35,9 +35,9 @@ module _ {w w' : List ℕ} {at r : ℕ} {xs : List ℕ} where
   pub put_one : (v : ℕ) → at + length xs < length w → Put w w' at r xs → Put w (set w' r v) at (r + 1) (xs ++ (v ∷ []))
   put_one v h p =
       let room : Space w at xs = record { fits = omega arith } in
-      let size : length w' ≡ length w = put-length room p in
+      let size : length w' ≡ length w = put_length room p in
       let next : r ≡ at + length xs = p.next in
       put_on room p (record { slice = laid_one w' r v (omega arith); next = refl })
 
-  pub room-then : (ys : List ℕ) → Space w at (xs ++ ys) → Put w w' at r xs → Space w' r ys
-  room-then ys room p = record { fits = omega (arith, room.fits, put-length (room-first ys room) p, p.next, length-append xs ys) }
+  pub room_then : (ys : List ℕ) → Space w at (xs ++ ys) → Put w w' at r xs → Space w' r ys
+  room_then ys room p = record { fits = omega (arith, room.fits, put_length (room_first ys room) p, p.next, length-append xs ys) }

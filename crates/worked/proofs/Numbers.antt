@@ -11,7 +11,7 @@ use native.Mathlib.Numerals.{add-one}
 use native.Mathlib.Omega.{arith}
 use lib.ListN.{length, get_or, drop, drop_of_length-le}
 use lib.Seq.{drop-cons}
-use Rattle.permutations.specs.Choice.{eqb_same, eqb-other}
+use Rattle.permutations.specs.Choice.{eqb_same, eqb_other}
 use Rattle.darts.specs.Pyramid.{same_numbers}
 
 pub same_length : (a b : List ℕ) → length a ≢ length b → false ≡ same_numbers a b
@@ -23,7 +23,7 @@ same_length (x ∷ a) (y ∷ b) n = go (ℕ_discrete x y) (same_length a b (λ m
   where
     go : Dec (x ≡ y) → false ≡ same_numbers a b → false ≡ same_numbers (x ∷ a) (y ∷ b)
     go (yes e) k = rw (eqb_same e) k
-    go (no d) k = rw (eqb-other d) refl
+    go (no d) k = rw (eqb_other d) refl
 
 pub record Same (a b : List ℕ) (i : ℕ) : Type 0 where
   pub lengths : length a ≡ length b
@@ -31,9 +31,9 @@ pub record Same (a b : List ℕ) (i : ℕ) : Type 0 where
   pub same : same_numbers a b ≡ same_numbers (drop i a) (drop i b)
 
 module _ {a b : List ℕ} {i : ℕ} (k : Same a b i) where
-  pub same-on : i < length a → get_or a i 0 ≡ get_or b i 0 → Same a b (i + 1)
+  pub same_on : i < length a → get_or a i 0 ≡ get_or b i 0 → Same a b (i + 1)
   unfolding same_numbers
-  same-on here e =
+  same_on here e =
       let there : i < length b = omega (arith, k.lengths) in
       record {
         lengths = k.lengths;
@@ -45,7 +45,7 @@ module _ {a b : List ℕ} {i : ℕ} (k : Same a b i) where
   unfolding same_numbers
   same_not here n =
       let there : i < length b = omega (arith, k.lengths) in
-      sym (k.same ∙ rw (drop-cons a i 0 here, drop-cons b i 0 there, eqb-other n))
+      sym (k.same ∙ rw (drop-cons a i 0 here, drop-cons b i 0 there, eqb_other n))
 
   pub same_end : length a ≤ i → true ≡ same_numbers a b
   unfolding same_numbers

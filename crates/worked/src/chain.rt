@@ -2,7 +2,7 @@
 ghost use Rattle.std.specs.Prelude.{◌≡◌};
 ghost use Rattle.darts.specs.Cases.{answer_of};
 ghost use Rattle.darts.specs.Calls.{start as start_of};
-ghost use Rattle.pyramid.specs.Values.{Hands, state_of, figuresWith, left};
+ghost use Rattle.pyramid.specs.Values.{Hands, state_of, figures_with, left};
 ghost use Rattle.worked.specs.Chain.{stepped};
 
 use pyramid::{Kind, Outcome, State, start};
@@ -21,7 +21,7 @@ pub enum Step {
 
 // The same outcome, with these numbers of vertices and faces in its state.
 fn stored(outcome: Outcome, vertices: u32, faces: u32) -> Outcome
-    ensures { Hands result (answer_of outcome.answer) (figuresWith (state_of outcome.state) vertices faces) }
+    ensures { Hands result (answer_of outcome.answer) (figures_with (state_of outcome.state) vertices faces) }
 {
     let state = outcome.state;
     let ends = state.ends;

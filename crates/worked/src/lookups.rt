@@ -1,14 +1,14 @@
 // The lookups of K12: map T, and where its edges end.
 ghost use Rattle.std.specs.Prelude.{true, ◌≡◌};
 ghost use Rattle.darts.specs.Cases.{answer_of};
-ghost use Rattle.worked.specs.Lookups.{foundIs, lookupIs};
+ghost use Rattle.worked.specs.Lookups.{found_is, lookup_is};
 
 use check::expect;
 use lookup::{Looked, successor_at};
 
 // Whether the answer has this number and place, and the lookup this dart and this count.
 fn is_found(looked: Looked, number: u32, place: usize, dart: u32, passed: u32) -> bool
-    ensures { result ≡ foundIs (answer_of looked.answer) looked.dart looked.passed number place dart passed }
+    ensures { result ≡ found_is (answer_of looked.answer) looked.dart looked.passed number place dart passed }
 {
     let answer = looked.answer;
     if answer.number() != number {
@@ -25,7 +25,7 @@ fn is_found(looked: Looked, number: u32, place: usize, dart: u32, passed: u32) -
 
 // The successor of a dart of map T at a level, with these ends, and what it leaves. The work area starts with rubbish in it.
 fn lookup(ends: [u32; 4], level: u32, dart: u32, number: u32, place: usize, found: u32, passed: u32)
-    requires { lookupIs ends level dart number place found passed ≡ true }
+    requires { lookup_is ends level dart number place found passed ≡ true }
 {
     let table = [5u32, 2, 1, 4, 6, 0, 3, 7];
     let mut work = [9u32; 32];

@@ -3,7 +3,7 @@ ghost use Rattle.std.specs.Prelude.{◌≡◌};
 ghost use Rattle.darts.specs.Pyramid.{same_numbers};
 ghost use Rattle.darts.specs.Cases.{answer_of};
 ghost use Rattle.pyramid.specs.Values.{state_of};
-ghost use Rattle.worked.specs.Chain.{rowIs, numbersAre};
+ghost use Rattle.worked.specs.Chain.{row_is, numbers_are};
 
 use pyramid::Outcome;
 
@@ -35,7 +35,7 @@ pub fn is_row(
     history: &[u32],
     past: &[u32],
 ) -> bool
-    ensures { result ≡ rowIs (answer_of outcome.answer) number place beside table.now entries.now history.now past.now }
+    ensures { result ≡ row_is (answer_of outcome.answer) number place beside table.now entries.now history.now past.now }
 {
     let answer = outcome.answer;
     if answer.number() != number {
@@ -55,7 +55,7 @@ pub fn is_row(
 
 // Whether the state stores these numbers of vertices and faces.
 pub fn is_stored(outcome: Outcome, vertices: u32, faces: u32) -> bool
-    ensures { result ≡ numbersAre (state_of outcome.state) vertices faces }
+    ensures { result ≡ numbers_are (state_of outcome.state) vertices faces }
 {
     let state = outcome.state;
     if state.vertices != vertices {

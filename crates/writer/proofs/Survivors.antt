@@ -1,5 +1,5 @@
 -- The survivors by rising number, one dart more.
---   survivors-yes, survivors-no == the next dart survives, or is gone
+--   survivors_yes, survivors_no == the next dart survives, or is gone
 use mathlib.Core.Bool.{true, false}
 use mathlib.Core.List.{List, [], ◌∷◌, ◌++◌}
 use mathlib.Core.Path.{◌≡◌}
@@ -8,10 +8,10 @@ use Rattle.darts.specs.Map.{survives}
 use Rattle.darts.specs.File.{survivors}
 
 module _ (past : List ℕ) (n : ℕ) where
-  pub survivors-yes : survives past n ≡ true → survivors past (suc n) ≡ survivors past n ++ (n ∷ [])
+  pub survivors_yes : survives past n ≡ true → survivors past (suc n) ≡ survivors past n ++ (n ∷ [])
   unfolding survivors
-  survivors-yes e = rw e
+  survivors_yes e = rw e
 
-  pub survivors-no : survives past n ≡ false → survivors past (suc n) ≡ survivors past n
+  pub survivors_no : survives past n ≡ false → survivors past (suc n) ≡ survivors past n
   unfolding survivors
-  survivors-no e = rw e
+  survivors_no e = rw e

@@ -1,6 +1,6 @@
 -- The ways that a write ends.
---   write-refused == 1, 2 or 4
---   write-short   == the output is too short for the file
+--   write_refused_lem == 1, 2 or 4
+--   write_short   == the output is too short for the file
 --   write_done    == the file is written
 use mathlib.Core.Bool.{Bool, true, false}
 use mathlib.Core.List.{List}
@@ -14,12 +14,12 @@ use lib.ListN.{length}
 use Rattle.darts.specs.Answers.{Answer, needs, wrote}
 use Rattle.darts.specs.Choose.{if◌then◌else◌}
 use Rattle.darts.specs.State.{State}
-use Rattle.darts.specs.File.{fileOf}
+use Rattle.darts.specs.File.{file_of}
 use Rattle.darts.specs.Calls.{Written as Left, write, table_of, past_of, cleared}
 use Rattle.slices.specs.Over.{over}
-use Rattle.laws.proofs.calls.Cleared.{cleared-kept}
-use Rattle.laws.proofs.calls.Judging.{judged-lent}
-use Rattle.area.specs.Area.{tableIn, pastIn}
+use Rattle.laws.proofs.calls.Cleared.{cleared_kept}
+use Rattle.laws.proofs.calls.Judging.{judged_lent}
+use Rattle.area.specs.Area.{table_in, past_in}
 use Rattle.engine.specs.Held.{Beyond}
 use Rattle.pyramid.specs.Steps.{Judged}
 use Rattle.pyramid.proofs.Judges.{lent_of}
@@ -27,9 +27,9 @@ use Rattle.writer.specs.declared.file.Written.{Written}
 use Rattle.writer.specs.declared.file.Written.TheVariants.{Short, Wrote}
 use Rattle.writer.specs.Writing.{FileWritten}
 
-told-short : (b : Bool) (n L : ℕ) → Short n ≡ (if b then Short L else Wrote L) → (b ≡ true) × (n ≡ L)
-told-short true n L e = (refl, cc)
-told-short false n L e = absurd (let z : ◌≡◌ {A = ℕ} 0 1 = cc in omega arith)
+told_short : (b : Bool) (n L : ℕ) → Short n ≡ (if b then Short L else Wrote L) → (b ≡ true) × (n ≡ L)
+told_short true n L e = (refl, cc)
+told_short false n L e = absurd (let z : ◌≡◌ {A = ℕ} 0 1 = cc in omega arith)
 
 told_wrote : (b : Bool) (n L : ℕ) → Wrote n ≡ (if b then Short L else Wrote L) → (b ≡ false) × (n ≡ L)
 told_wrote true n L e = absurd (let z : ◌≡◌ {A = ℕ} 0 1 = cc in omega arith)
@@ -41,30 +41,30 @@ leaves t h b y x = record { answer = b; table = t; history = h; work = y; output
 
 module _ {s : State} {k : ℕ} {t h w v : List ℕ} {a : Answer} (J : Judged s k t h w v a) (o : List ℕ) where
   abbrev file : List ℕ
-  file = fileOf s (table_of s t) (past_of s h)
+  file = file_of s (table_of s t) (past_of s h)
 
-  pub write-refused : a.number ≢ 0 → leaves t h a v o ≡ write s t h w o
+  pub write_refused_lem : a.number ≢ 0 → leaves t h a v o ≡ write s t h w o
   unfolding write
-  write-refused n = sym (rw (← J.answer, ne_eqb a.number 0 n, J.refused n))
+  write_refused_lem n = sym (rw (← J.answer, ne_eqb a.number 0 n, J.refused n))
 
   module _ (fine : a.number ≡ 0) {u x : List ℕ} {r : Written} (B : Beyond s.darts v u)
-      (F : FileWritten s (tableIn s.darts v) (pastIn s.darts s.operations v) o x r) where
+      (F : FileWritten s (table_in s.darts v) (past_in s.darts s.operations v) o x r) where
     kept : cleared s.darts u ≡ cleared s.darts w
-    kept = cleared-kept s.darts w u (B.rest ∙ (J.checked fine).beyond.rest)
+    kept = cleared_kept s.darts w u (B.rest ∙ (J.checked fine).beyond.rest)
 
     written : FileWritten s (table_of s t) (past_of s h) o x r
     written = let C = J.checked fine in rw (C.table refl, C.past refl) at F
 
-    pub write-short : {n : ℕ} → r ≡ Short n → leaves t h (needs n) (cleared s.darts u) x ≡ write s t h w o
+    pub write_short : {n : ℕ} → r ≡ Short n → leaves t h (needs n) (cleared s.darts u) x ≡ write s t h w o
     unfolding write
-    write-short {n} k =
-        let e = told-short (ltb (length o) (length file)) n (length file) (sym k ∙ written.answer) in
+    write_short {n} k =
+        let e = told_short (ltb (length o) (length file)) n (length file) (sym k ∙ written.answer) in
         let y : x ≡ o = rw e.0 at written.output in
-        sym (rw (judged-lent s t h w (lent_of J fine), e.0, e.1, kept, y))
+        sym (rw (judged_lent s t h w (lent_of J fine), e.0, e.1, kept, y))
 
     pub write_done : {n : ℕ} → r ≡ Wrote n → leaves t h (wrote n) (cleared s.darts u) x ≡ write s t h w o
     unfolding write
     write_done {n} k =
         let e = told_wrote (ltb (length o) (length file)) n (length file) (sym k ∙ written.answer) in
         let y : x ≡ over file o = rw e.0 at written.output in
-        sym (rw (judged-lent s t h w (lent_of J fine), e.0, e.1, kept, y))
+        sym (rw (judged_lent s t h w (lent_of J fine), e.0, e.1, kept, y))

@@ -2,15 +2,15 @@
 ghost use Rattle.std.specs.Prelude.{◌≡◌, ◌+◌, ◌*◌, ◌≤◌, ◌<◌, T, length, get_or, take};
 ghost use Rattle.darts.specs.Tests.{rises};
 ghost use Rattle.darts.specs.Pyramid.{cut};
-ghost use Rattle.darts.specs.File.{pairLines, kernelLines};
-ghost use Rattle.area.specs.Area.{tableIn, pastIn};
-ghost use Rattle.area.specs.Shape.{historyIn};
+ghost use Rattle.darts.specs.File.{pair_lines, kernel_lines};
+ghost use Rattle.area.specs.Area.{table_in, past_in};
+ghost use Rattle.area.specs.Shape.{history_in};
 ghost use Rattle.engine.specs.Held.{Beyond};
 ghost use Rattle.pyramid.specs.Steps.{Stacked};
 ghost use Rattle.pyramid.specs.Values.{state_of};
 ghost use Rattle.writer.specs.Fields.{Fitted};
-ghost use Rattle.writer.specs.Numbering.{Dense, renamed, entriesIn};
-ghost use Rattle.writer.specs.Writing.{headLines, fileIn, FileWritten};
+ghost use Rattle.writer.specs.Numbering.{Dense, renamed, entries_in};
+ghost use Rattle.writer.specs.Writing.{head_lines, file_in, FileWritten};
 
 use crate::numbering::number_darts;
 use crate::print::{fit_field, put_kernel, put_pair};
@@ -20,7 +20,7 @@ use slices::at;
 // The first three lines: `numbers=0`, `darts=D`, `levels=L`.
 fn put_head(d: usize, levels: usize, output: &mut [u8]) -> usize
     requires { (d ≤ 65536) × (levels ≤ 64) }
-    ensures { Fitted output.old output.new 0 result (headLines d levels) }
+    ensures { Fitted output.old output.new 0 result (head_lines d levels) }
 {
     let third = fit_field(output, 0, b"numbers=0\ndarts=", d, b"\n");
     fit_field(output, third, b"levels=", levels, b"\n")
@@ -36,7 +36,7 @@ fn put_kernels(
 ) -> usize
     requires history_len_bound { (length history.now ≤ 99999) × (levels ≤ 64) × (start ≤ 100) }
     requires t { T (rises 0 (take levels ends) history.now) }
-    ensures fitted { Fitted output.old output.new start result (kernelLines (cut 0 (take levels ends) history.now)) }
+    ensures fitted { Fitted output.old output.new start result (kernel_lines (cut 0 (take levels ends) history.now)) }
     ensures upper_bound { result ≤ start + 22 * 64 }
 {
     let mut place = start;
@@ -67,7 +67,7 @@ fn entry(work: &[u32], d: usize, i: usize) -> usize
 fn put_pairs(work: &[u32], d: usize, output: &mut [u8], start: usize) -> usize
     requires dense { Dense d work.now }
     requires start_bound { start ≤ 2000 }
-    ensures { Fitted output.old output.new start result (pairLines (entriesIn d work.now)) }
+    ensures { Fitted output.old output.new start result (pair_lines (entries_in d work.now)) }
 {
     let mut place = start;
     let mut i = 0;
@@ -84,8 +84,8 @@ fn put_pairs(work: &[u32], d: usize, output: &mut [u8], start: usize) -> usize
 fn put_file(work: &[u32], state: State, output: &mut [u8]) -> usize
     requires dense { Dense state.darts work.now }
     requires operations_le_darts { (state.operations ≤ state.darts) × (state.levels ≤ 64) }
-    requires t { T (rises 0 (take state.levels state.ends) (historyIn state.darts state.operations work.now)) }
-    ensures { Fitted output.old output.new 0 result (fileIn (state_of state) work.now) }
+    requires t { T (rises 0 (take state.levels state.ends) (history_in state.darts state.operations work.now)) }
+    ensures { Fitted output.old output.new 0 result (file_in (state_of state) work.now) }
 {
     let d = state.darts as usize;
     let levels = state.levels as usize;
@@ -107,7 +107,7 @@ pub enum Written {
 // The file of the pyramid that the work area holds. A first walk, over an output of one byte, finds out its length.
 pub fn write_inside(work: &mut [u32], state: State, output: &mut [u8]) -> Written
     requires { Stacked (state_of state) work.old }
-    ensures file_written { FileWritten (state_of state) (tableIn state.darts work.old) (pastIn state.darts state.operations work.old)
+    ensures file_written { FileWritten (state_of state) (table_in state.darts work.old) (past_in state.darts state.operations work.old)
         output.old output.new result }
     ensures beyond { Beyond state.darts work.old work.new }
 {

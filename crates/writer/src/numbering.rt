@@ -2,8 +2,8 @@
 // way to the dart's place in that list.
 ghost use Rattle.std.specs.Prelude.{◌≡◌, ℕ, ◌+◌, ◌*◌, ◌<◌, get_or};
 ghost use Rattle.darts.specs.File.{taken, survivors};
-ghost use Rattle.area.specs.Area.{Room, pastIn};
-ghost use Rattle.area.specs.Shape.{historyIn};
+ghost use Rattle.area.specs.Area.{Room, past_in};
+ghost use Rattle.area.specs.Shape.{history_in};
 ghost use Rattle.engine.specs.Held.{Area};
 ghost use Rattle.slices.specs.Laid.{laid};
 ghost use Rattle.writer.specs.Numbering.{Placed, Numbered};
@@ -14,7 +14,7 @@ use slices::at;
 // The p and q of each operation, first to last, are the head of the list.
 fn list_taken(work: &mut [u32], d: usize, n: usize)
     requires { Area d n work.old }
-    ensures { work.new ≡ laid work.old (2 * d) (taken (historyIn d n work.old)) }
+    ensures { work.new ≡ laid work.old (2 * d) (taken (history_in d n work.old)) }
 {
     let mut i = 0;
     while i < n {
@@ -29,7 +29,7 @@ fn list_taken(work: &mut [u32], d: usize, n: usize)
 // The survivors by rising number are the rest of the list.
 fn list_survivors(work: &mut [u32], d: usize, n: usize)
     requires { Area d n work.old }
-    ensures { work.new ≡ laid work.old (2 * d + 2 * n) (survivors (pastIn d n work.old) d) }
+    ensures { work.new ≡ laid work.old (2 * d + 2 * n) (survivors (past_in d n work.old) d) }
 {
     let mut place = 2 * d + 2 * n;
     let mut left = d;

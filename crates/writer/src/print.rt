@@ -3,9 +3,9 @@
 ghost use Rattle.std.specs.Prelude.{◌≡◌, [], ◌∷◌, ◌≤◌, length};
 ghost use Rattle.darts.specs.Operation.{kind_of};
 ghost use Rattle.darts.specs.Text.{decimal};
-ghost use Rattle.darts.specs.File.{pairLines};
+ghost use Rattle.darts.specs.File.{pair_lines};
 ghost use Rattle.slices.specs.Put.{Put};
-ghost use Rattle.writer.specs.Fields.{Fitted, fieldLine, countLine};
+ghost use Rattle.writer.specs.Fields.{Fitted, field_line, count_line};
 ghost use Rattle.slices.specs.Laid.{Space};
 
 // How many digits a number has.
@@ -62,8 +62,8 @@ pub fn put_number(output: &mut [u8], at: usize, x: usize) -> usize
 // The bytes of w, a number, and the bytes of end.
 pub fn put_field(output: &mut [u8], at: usize, w: &[u8], x: usize, end: &[u8]) -> usize
     requires x_bound { x ≤ 99999 }
-    requires space { Space output.old at (fieldLine w.now x end.now) }
-    ensures { Put output.old output.new at result (fieldLine w.now x end.now) }
+    requires space { Space output.old at (field_line w.now x end.now) }
+    ensures { Put output.old output.new at result (field_line w.now x end.now) }
 {
     let number = put_bytes(output, at, w);
     let rest = put_number(output, number, x);
@@ -73,7 +73,7 @@ pub fn put_field(output: &mut [u8], at: usize, w: &[u8], x: usize, end: &[u8]) -
 // The same where there is room for it. The answer is the place after it in any case.
 pub fn fit_field(output: &mut [u8], at: usize, w: &[u8], x: usize, end: &[u8]) -> usize
     requires { (x ≤ 99999) × (at ≤ 1000000) × (length w.now ≤ 16) × (length end.now ≤ 1) }
-    ensures { Fitted output.old output.new at result (fieldLine w.now x end.now) }
+    ensures { Fitted output.old output.new at result (field_line w.now x end.now) }
 {
     let next = at + w.len() + digits(x) + end.len();
     if next <= output.len() {
@@ -85,7 +85,7 @@ pub fn fit_field(output: &mut [u8], at: usize, w: &[u8], x: usize, end: &[u8]) -
 // A line `pair=A B`, each field where there is room for it.
 pub fn put_pair(output: &mut [u8], at: usize, a: usize, b: usize) -> usize
     requires { (a ≤ 99999) × (b ≤ 99999) × (at ≤ 900000) }
-    ensures { Fitted output.old output.new at result (pairLines (a ∷ b ∷ [])) }
+    ensures { Fitted output.old output.new at result (pair_lines (a ∷ b ∷ [])) }
 {
     let second = fit_field(output, at, b"pair=", a, b" ");
     fit_field(output, second, b"", b, b"\n")
@@ -94,7 +94,7 @@ pub fn put_pair(output: &mut [u8], at: usize, a: usize, b: usize) -> usize
 // A line `kernel=contract N` or `kernel=remove N`, where there is room for it; the kind is 1 for a contraction and 0 for a removal.
 pub fn put_kernel(output: &mut [u8], at: usize, kind: usize, count: usize) -> usize
     requires { (count ≤ 99999) × (at ≤ 900000) }
-    ensures { Fitted output.old output.new at result (countLine (kind_of kind) count) }
+    ensures { Fitted output.old output.new at result (count_line (kind_of kind) count) }
 {
     if kind % 2 == 0 {
         return fit_field(output, at, b"kernel=remove ", count, b"\n");

@@ -1,6 +1,6 @@
 -- "afterwards 4 also covers sheets that no accepted start and these operations give" (document 02, request Five): `given` decides that.
---   given-decided   == on a base, where each contraction finds two places
---   pyramid-decided == on a pyramid
+--   given_decided   == on a base, where each contraction finds two places
+--   pyramid_decided == on a pyramid
 use mathlib.Core.List.{List, [], reverse}
 use mathlib.Core.Logic.Iff
 use mathlib.Core.Logic.{◌↔◌}
@@ -11,18 +11,18 @@ use Rattle.darts.specs.State.{State}
 use Rattle.darts.specs.Pyramid.{Pyramid}
 use Rattle.laws.specs.Standing.{Standing}
 use Rattle.sheets.specs.Sheets.{Sheets}
-use Rattle.yarn.specs.Places.{lowest, isPlace, merges}
+use Rattle.yarn.specs.Places.{lowest, is_place, merges}
 use Rattle.yarn.specs.Given.{Given, given}
 use Rattle.yarn.specs.Calls.{base_of}
 use Rattle.yarn.proofs.Settled.{Inside}
-use Rattle.yarn.proofs.Apart.{Apart, base-standing, base-apart, pyramid-inside}
-use Rattle.yarn.proofs.Merging.{right-iff}
-use Rattle.yarn.proofs.Comes.{Comes, comes-iff}
-use Rattle.yarn.proofs.Untouched.{base-merging}
+use Rattle.yarn.proofs.Apart.{Apart, base_standing, base_apart, pyramid_inside}
+use Rattle.yarn.proofs.Merging.{right_iff}
+use Rattle.yarn.proofs.Comes.{Comes, comes_iff}
+use Rattle.yarn.proofs.Untouched.{base_merging}
 
 -- what a start accepts, and what it comes to
-comes-given : (D : ℕ) (b hs : List ℕ) (S : Sheets) → Comes (isPlace D b) (merges D b hs) D (length hs) (length hs) S ↔ Given D b hs S
-comes-given D b hs S = (
+comes_given : (D : ℕ) (b hs : List ℕ) (S : Sheets) → Comes (is_place D b) (merges D b hs) D (length hs) (length hs) S ↔ Given D b hs S
+comes_given D b hs S = (
   λ C. record {
     first = C.first;
     long = C.long.sheet;
@@ -39,14 +39,14 @@ comes-given D b hs S = (
 )
 
 -- THE CLOSED FORM DECIDES WHETHER AN ACCEPTED START AND THESE OPERATIONS GIVE THE SHEETS
-pub given-decided : {D : ℕ} {b : List ℕ} → Standing D b [] → (hs : List ℕ) → Inside D hs → Apart (lowest D b) hs
+pub given_decided : {D : ℕ} {b : List ℕ} → Standing D b [] → (hs : List ℕ) → Inside D hs → Apart (lowest D b) hs
     → (S : Sheets) → D ≤ length S.sheet → length hs ≤ length S.kept → T (given D b hs S) ↔ Given D b hs S
 unfolding given
-given-decided {D} {b} stands hs inside apart S long keeps =
-    Iff.trans (right-iff (merges D b hs) S (isPlace D b) (length hs) D)
-    (Iff.trans (comes-iff (base-merging stands hs inside apart) (record { sheet = long; kept = keeps })) (comes-given D b hs S))
+given_decided {D} {b} stands hs inside apart S long keeps =
+    Iff.trans (right_iff (merges D b hs) S (is_place D b) (length hs) D)
+    (Iff.trans (comes_iff (base_merging stands hs inside apart) (record { sheet = long; kept = keeps })) (comes_given D b hs S))
 
-pub pyramid-decided : {s : State} {t past : List ℕ} → Pyramid s t past → (S : Sheets) → s.darts ≤ length S.sheet → length past ≤ length S.kept
+pub pyramid_decided : {s : State} {t past : List ℕ} → Pyramid s t past → (S : Sheets) → s.darts ≤ length S.sheet → length past ≤ length S.kept
     → (let b : List ℕ = base_of s t past in T (given s.darts b (reverse past) S) ↔ Given s.darts b (reverse past) S)
-pyramid-decided {past = past} P S long keeps =
-    given-decided (base-standing P) (reverse past) (pyramid-inside P) (base-apart P) S long (rw (length-reverse past) keeps)
+pyramid_decided {past = past} P S long keeps =
+    given_decided (base_standing P) (reverse past) (pyramid_inside P) (base_apart P) S long (rw (length-reverse past) keeps)

@@ -3,9 +3,9 @@
 --   Turn D R e    == a contraction of the edge e, at its turn
 --   Two D R l h   == l and h are two places of records
 --   turn_two      == a contraction's are
---   own-stays, high-left == a contraction leaves all places but the higher one
---   own-after     == what is a place in the end was one before
---   together-after == darts with one place go on with one
+--   own_stays, high_left == a contraction leaves all places but the higher one
+--   own_after     == what is a place in the end was one before
+--   together_after == darts with one place go on with one
 --   From ms t R hs == the operations from t on are hs, where the places are R
 use mathlib.Core.Bool.{false}
 use mathlib.Core.List.{List, [], ◌∷◌, ◌++◌}
@@ -17,12 +17,12 @@ use native.Mathlib.Nat.{add-zero, zero-add, suc-add}
 use native.Mathlib.Omega.{arith}
 use lib.Dec.{eqb}
 use lib.ListN.{length}
-use Rattle.permutations.specs.Choice.{pick, eqb-other}
+use Rattle.permutations.specs.Choice.{pick, eqb_other}
 use Rattle.darts.specs.Operation.{Kind, contraction, removal, kind_of, edge_of}
 use Rattle.sheets.specs.Sheets.{Merge}
-use Rattle.yarn.specs.Places.{joins, zoned, placesAfter, mergeBy, mergesOf}
+use Rattle.yarn.specs.Places.{joins, zoned, places_after, merge_by, merges_of}
 use Rattle.yarn.specs.Totals.{own}
-use Rattle.yarn.proofs.Settled.{Inside, Settled, low, high, joins-high, joins-other, joins-leaves, low-own, high-own, high-dart, after-falls}
+use Rattle.yarn.proofs.Settled.{Inside, Settled, low, high, joins_high, joins_other, joins_leaves, low_own, high_own, high_dart, after_falls}
 use Rattle.yarn.proofs.Apart.{Apart}
 
 pub record Turns (D : ℕ) (R : ℕ → ℕ) (hs : List ℕ) : Type 0 where
@@ -32,10 +32,10 @@ pub record Turns (D : ℕ) (R : ℕ → ℕ) (hs : List ℕ) : Type 0 where
 -- ---- the two places of a contraction
 
 pub record Two (D : ℕ) (R : ℕ → ℕ) (l h : ℕ) : Type 0 where
-  pub low-dart : l < D
-  pub high-dart : h < D
-  pub low-own : R l ≡ l
-  pub high-own : R h ≡ h
+  pub low_dart : l < D
+  pub high_dart : h < D
+  pub low_own : R l ≡ l
+  pub high_own : R h ≡ h
   pub two : l ≢ h
 
 -- a contraction of the edge e, at its turn
@@ -46,88 +46,88 @@ pub record Turn (D : ℕ) (R : ℕ → ℕ) (e : ℕ) : Type 0 where
 module _ {D : ℕ} {R : ℕ → ℕ} {e : ℕ} (Q : Settled D R) (turn : Turn D R e) where
   pub turn_two : Two D R (low R e) (high R e)
   turn_two =
-      let top = high-dart Q e turn.edge in
-      record { low-dart = omega arith; high-dart = top; low-own = low-own Q e turn.edge; high-own = high-own Q e turn.edge; two = λ z. turn.apart (omega arith) }
+      let top = high_dart Q e turn.edge in
+      record { low_dart = omega arith; high_dart = top; low_own = low_own Q e turn.edge; high_own = high_own Q e turn.edge; two = λ z. turn.apart (omega arith) }
 
-  pub low-stays : joins R e (low R e) ≡ low R e
-  low-stays = joins-other R e (low R e) (λ z. turn_two.two (sym (low-own Q e turn.edge) ∙ z)) ∙ low-own Q e turn.edge
+  pub low_stays : joins R e (low R e) ≡ low R e
+  low_stays = joins_other R e (low R e) (λ z. turn_two.two (sym (low_own Q e turn.edge) ∙ z)) ∙ low_own Q e turn.edge
 
   pub high_goes : joins R e (high R e) ≡ low R e
-  high_goes = joins-high R e (high R e) (high-own Q e turn.edge)
+  high_goes = joins_high R e (high R e) (high_own Q e turn.edge)
 
   -- ALL PLACES BUT THE HIGHER ONE STAY
-  pub own-stays : (x : ℕ) → x ≢ high R e → own (joins R e) x ≡ own R x
-  own-stays x n = go (ℕ_discrete (R x) (high R e))
+  pub own_stays : (x : ℕ) → x ≢ high R e → own (joins R e) x ≡ own R x
+  own_stays x n = go (ℕ_discrete (R x) (high R e))
     where
       go : Dec (R x ≡ high R e) → own (joins R e) x ≡ own R x
       go (yes k) =
-          let was : own R x ≡ false = eqb-other (λ z. n (sym z ∙ k)) in
-          let is : own (joins R e) x ≡ false = eqb-other (λ z. turn_two.two (sym (low-own Q e turn.edge) ∙ ap R (sym (joins-high R e x k) ∙ z) ∙ k)) in
+          let was : own R x ≡ false = eqb_other (λ z. n (sym z ∙ k)) in
+          let is : own (joins R e) x ≡ false = eqb_other (λ z. turn_two.two (sym (low_own Q e turn.edge) ∙ ap R (sym (joins_high R e x k) ∙ z) ∙ k)) in
           is ∙ sym was
-      go (no o) = ap (λ y. eqb y x) (joins-other R e x o)
+      go (no o) = ap (λ y. eqb y x) (joins_other R e x o)
 
-  pub high-left : own (joins R e) (high R e) ≡ false
-  high-left = eqb-other (joins-leaves R e turn.apart (high R e))
+  pub high_left : own (joins R e) (high R e) ≡ false
+  high_left = eqb_other (joins_leaves R e turn.apart (high R e))
 
-pub own-after : {D : ℕ} {R : ℕ → ℕ} → Settled D R → (hs : List ℕ) (x : ℕ) → x < D → placesAfter R hs x ≡ x → R x ≡ x
-own-after {R = R} Q hs x d e =
-    let a = after-falls hs R x in
+pub own_after : {D : ℕ} {R : ℕ → ℕ} → Settled D R → (hs : List ℕ) (x : ℕ) → x < D → places_after R hs x ≡ x → R x ≡ x
+own_after {R = R} Q hs x d e =
+    let a = after_falls hs R x in
     let b = Q.below x d in
     omega arith
 
 -- ---- darts that are together
 
-together-zoned : (R : ℕ → ℕ) (k : Kind) (e x y : ℕ) → R x ≡ R y → zoned k R e x ≡ zoned k R e y
+together_zoned : (R : ℕ → ℕ) (k : Kind) (e x y : ℕ) → R x ≡ R y → zoned k R e x ≡ zoned k R e y
 unfolding zoned joins
-together-zoned R contraction e x y z = ap (λ v. pick (eqb v (high R e)) (low R e) v) z
-together-zoned R removal e x y z = z
+together_zoned R contraction e x y z = ap (λ v. pick (eqb v (high R e)) (low R e) v) z
+together_zoned R removal e x y z = z
 
-pub together-after : (R : ℕ → ℕ) (hs : List ℕ) (x y : ℕ) → R x ≡ R y → placesAfter R hs x ≡ placesAfter R hs y
-unfolding placesAfter
-together-after R [] x y z = z
-together-after R (h ∷ hs) x y z = together-after (zoned (kind_of h) R (edge_of h)) hs x y (together-zoned R (kind_of h) (edge_of h) x y z)
+pub together_after : (R : ℕ → ℕ) (hs : List ℕ) (x y : ℕ) → R x ≡ R y → places_after R hs x ≡ places_after R hs y
+unfolding places_after
+together_after R [] x y z = z
+together_after R (h ∷ hs) x y z = together_after (zoned (kind_of h) R (edge_of h)) hs x y (together_zoned R (kind_of h) (edge_of h) x y z)
 
 -- ---- histories that go on
 
 pub record From (ms : ℕ → Merge) (t : ℕ) (R : ℕ → ℕ) (hs : List ℕ) : Type 0 where
-  pub each : (i : ℕ) → ms (t + i) ≡ mergesOf R hs i
+  pub each : (i : ℕ) → ms (t + i) ≡ merges_of R hs i
 
 module _ {ms : ℕ → Merge} {t : ℕ} {R : ℕ → ℕ} {h : ℕ} {hs : List ℕ} (F : From ms t R (h ∷ hs)) where
-  pub from_first : ms t ≡ mergeBy (kind_of h) R (edge_of h)
-  unfolding mergesOf
+  pub from_first : ms t ≡ merge_by (kind_of h) R (edge_of h)
+  unfolding merges_of
   from_first = ap ms (sym (add-zero t)) ∙ F.each 0
 
-  pub from-rest : From ms (suc t) (zoned (kind_of h) R (edge_of h)) hs
-  unfolding mergesOf
-  from-rest = record { each = λ i. let e : suc t + i ≡ t + suc i = omega arith in ap ms e ∙ F.each (suc i) }
+  pub from_rest : From ms (suc t) (zoned (kind_of h) R (edge_of h)) hs
+  unfolding merges_of
+  from_rest = record { each = λ i. let e : suc t + i ≡ t + suc i = omega arith in ap ms e ∙ F.each (suc i) }
 
-pub from_start : (R : ℕ → ℕ) (hs : List ℕ) → From (mergesOf R hs) 0 R hs
-from_start R hs = record { each = λ i. ap (mergesOf R hs) (zero-add i) }
+pub from_start : (R : ℕ → ℕ) (hs : List ℕ) → From (merges_of R hs) 0 R hs
+from_start R hs = record { each = λ i. ap (merges_of R hs) (zero-add i) }
 
-pub from_on : (R : ℕ → ℕ) (hs new : List ℕ) → From (mergesOf R (hs ++ new)) (length hs) (placesAfter R hs) new
-unfolding mergesOf placesAfter
+pub from_on : (R : ℕ → ℕ) (hs new : List ℕ) → From (merges_of R (hs ++ new)) (length hs) (places_after R hs) new
+unfolding merges_of places_after
 from_on R [] new = from_start R new
 from_on R (h ∷ hs) new = record {
-  each = λ i. ap (mergesOf R (h ∷ (hs ++ new))) (suc-add (length hs) i) ∙ (from_on (zoned (kind_of h) R (edge_of h)) hs new).each i;
+  each = λ i. ap (merges_of R (h ∷ (hs ++ new))) (suc-add (length hs) i) ∙ (from_on (zoned (kind_of h) R (edge_of h)) hs new).each i;
 }
 
 module _ {D : ℕ} {R : ℕ → ℕ} {h : ℕ} {hs : List ℕ} (A : Turns D R (h ∷ hs)) where
-  pub turn-edge : 2 * edge_of h + 1 < D
-  turn-edge = A.inside.0
+  pub turn_edge : 2 * edge_of h + 1 < D
+  turn_edge = A.inside.0
 
-  pub turn-now : kind_of h ≡ contraction → Turn D R (edge_of h)
-  turn-now k = record { edge = turn-edge; apart = A.apart.0 k }
+  pub turn_now : kind_of h ≡ contraction → Turn D R (edge_of h)
+  turn_now k = record { edge = turn_edge; apart = A.apart.0 k }
 
-  pub turns-rest : Turns D (zoned (kind_of h) R (edge_of h)) hs
-  turns-rest = record { inside = A.inside.1; apart = A.apart.1 }
+  pub turns_rest : Turns D (zoned (kind_of h) R (edge_of h)) hs
+  turns_rest = record { inside = A.inside.1; apart = A.apart.1 }
 
-pub turns-first : (D : ℕ) (R : ℕ → ℕ) (hs new : List ℕ) → Turns D R (hs ++ new) → Turns D R hs
-turns-first D R [] new A = record { inside = tt; apart = tt }
-turns-first D R (h ∷ hs) new A =
-    let rest = turns-first D (zoned (kind_of h) R (edge_of h)) hs new (turns-rest A) in
-    record { inside = (turn-edge A, rest.inside); apart = (A.apart.0, rest.apart) }
+pub turns_first : (D : ℕ) (R : ℕ → ℕ) (hs new : List ℕ) → Turns D R (hs ++ new) → Turns D R hs
+turns_first D R [] new A = record { inside = tt; apart = tt }
+turns_first D R (h ∷ hs) new A =
+    let rest = turns_first D (zoned (kind_of h) R (edge_of h)) hs new (turns_rest A) in
+    record { inside = (turn_edge A, rest.inside); apart = (A.apart.0, rest.apart) }
 
-pub turns_then : (D : ℕ) (R : ℕ → ℕ) (hs new : List ℕ) → Turns D R (hs ++ new) → Turns D (placesAfter R hs) new
-unfolding placesAfter
+pub turns_then : (D : ℕ) (R : ℕ → ℕ) (hs new : List ℕ) → Turns D R (hs ++ new) → Turns D (places_after R hs) new
+unfolding places_after
 turns_then D R [] new A = A
-turns_then D R (h ∷ hs) new A = turns_then D (zoned (kind_of h) R (edge_of h)) hs new (turns-rest A)
+turns_then D R (h ∷ hs) new A = turns_then D (zoned (kind_of h) R (edge_of h)) hs new (turns_rest A)

@@ -3,7 +3,7 @@
 --   T, T3, T5, T6, T7 == the tables: the base, once edge 0 is contracted, then edge 1, in the other order, and once edge 2 is removed too
 --   h5, h7, past hs   == the history numbers of K5 and of K7; a history of 5 numbers, these first
 --   K5, K7            == the kernels of K5 and of K7
---   atT, atK5, atK7   == T, and T after K5 and after K7, lent with these history numbers and sheets
+--   at_t, at_k5, at_k7   == T, and T after K5 and after K7, lent with these history numbers and sheets
 --   zeros l           == what is lent, and a state of zeros handed back
 --   misnumbered v f l == what is lent, with other numbers of vertices and faces
 --   keeps, silent, refused, begun == rows of one shape
@@ -58,14 +58,14 @@ K5 = contracting (0 ∷ 1 ∷ []) ∷ []
 abbrev pub K7 : List Call
 K7 = contracting (0 ∷ 1 ∷ []) ∷ removing (2 ∷ []) ∷ []
 
-abbrev pub atT : List ℕ → Sheets → Lent
-atT hs S = lent (state 0 [] 4 2) T (past hs) S
+abbrev pub at_t : List ℕ → Sheets → Lent
+at_t hs S = lent (state 0 [] 4 2) T (past hs) S
 
-abbrev pub atK5 : List ℕ → Sheets → Lent
-atK5 hs S = lent (state 2 (2 ∷ []) 2 2) T5 (past hs) S
+abbrev pub at_k5 : List ℕ → Sheets → Lent
+at_k5 hs S = lent (state 2 (2 ∷ []) 2 2) T5 (past hs) S
 
-abbrev pub atK7 : List ℕ → Sheets → Lent
-atK7 hs S = lent (state 3 (2 ∷ 3 ∷ []) 2 1) T7 (past hs) S
+abbrev pub at_k7 : List ℕ → Sheets → Lent
+at_k7 hs S = lent (state 3 (2 ∷ 3 ∷ []) 2 1) T7 (past hs) S
 
 abbrev pub zeros : Lent → Lent
 zeros l = lent zeroState l.table l.history l.sheets
@@ -94,7 +94,7 @@ unbegun D l n = calls (starting D) l n 0 0 (zeros l) 0
 
 -- a start of T with these sheets that is done
 abbrev pub begun : Sheets → Row
-begun S = keeps (starting 8) (atT [] S) 0 0
+begun S = keeps (starting 8) (at_t [] S) 0 0
 
 -- ---- the sheets
 

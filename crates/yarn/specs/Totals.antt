@@ -2,12 +2,12 @@
 --   summed add unit f n   == f 0, f 1, .. f (n - 1), added up
 --   own R x               == x is the place of a zone's record, where the places are R
 --   over p unit f x       == f x where p picks x, and nothing elsewhere
---   stitchesAt S x        == the stitches of the record at x
---   measuredAt S x        == the record at x has metres
+--   stitches_at S x        == the stitches of the record at x
+--   measured_at S x        == the record at x has metres
 --   total D R S           == the stitches of all zones together, where the places are R
---   wentTo R Z x y        == y is a zone's place where the places are R, and that zone has the place x where they are Z
---   stitchesFrom D R Z S x == the stitches of all zones that went into the one at x
---   measuredFrom D R Z S x == each zone that went into the one at x is measured
+--   went_to R Z x y        == y is a zone's place where the places are R, and that zone has the place x where they are Z
+--   stitches_from D R Z S x == the stitches of all zones that went into the one at x
+--   measured_from D R Z S x == each zone that went into the one at x is measured
 use Rattle.std.specs.Prelude.{Bool, true, ◌&&◌, ℕ, zero, suc, ◌+◌, eqb}
 use Rattle.darts.specs.Choose.{if◌then◌else◌}
 use Rattle.sheets.specs.Records.{measured, at}
@@ -23,20 +23,20 @@ own R x = eqb (R x) x
 abbrev pub over : {A : Type 0} → (ℕ → Bool) → A → (ℕ → A) → ℕ → A
 over p unit f x = if p x then f x else unit
 
-abbrev pub stitchesAt : Sheets → ℕ → ℕ
-stitchesAt S x = (at S.sheet x).stitches
+abbrev pub stitches_at : Sheets → ℕ → ℕ
+stitches_at S x = (at S.sheet x).stitches
 
-abbrev pub measuredAt : Sheets → ℕ → Bool
-measuredAt S x = measured (at S.sheet x)
+abbrev pub measured_at : Sheets → ℕ → Bool
+measured_at S x = measured (at S.sheet x)
 
 unfoldable pub total : ℕ → (ℕ → ℕ) → Sheets → ℕ
-total D R S = summed ◌+◌ 0 (over (own R) 0 (stitchesAt S)) D
+total D R S = summed ◌+◌ 0 (over (own R) 0 (stitches_at S)) D
 
-abbrev pub wentTo : (ℕ → ℕ) → (ℕ → ℕ) → ℕ → ℕ → Bool
-wentTo R Z x y = own R y && eqb (Z y) x
+abbrev pub went_to : (ℕ → ℕ) → (ℕ → ℕ) → ℕ → ℕ → Bool
+went_to R Z x y = own R y && eqb (Z y) x
 
-unfoldable pub stitchesFrom : ℕ → (ℕ → ℕ) → (ℕ → ℕ) → Sheets → ℕ → ℕ
-stitchesFrom D R Z S x = summed ◌+◌ 0 (over (wentTo R Z x) 0 (stitchesAt S)) D
+unfoldable pub stitches_from : ℕ → (ℕ → ℕ) → (ℕ → ℕ) → Sheets → ℕ → ℕ
+stitches_from D R Z S x = summed ◌+◌ 0 (over (went_to R Z x) 0 (stitches_at S)) D
 
-unfoldable pub measuredFrom : ℕ → (ℕ → ℕ) → (ℕ → ℕ) → Sheets → ℕ → Bool
-measuredFrom D R Z S x = summed ◌&&◌ true (over (wentTo R Z x) true (measuredAt S)) D
+unfoldable pub measured_from : ℕ → (ℕ → ℕ) → (ℕ → ℕ) → Sheets → ℕ → Bool
+measured_from D R Z S x = summed ◌&&◌ true (over (went_to R Z x) true (measured_at S)) D

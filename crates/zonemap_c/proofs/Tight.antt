@@ -1,9 +1,9 @@
 -- No two outcomes satisfy the statement of a function.
 --   three, five == a list of three numbers or more, and of five, taken apart
---   state-one  == each state has its own 69 numbers
---   tally-one  == each counts have their own three numbers, and the Euler number
+--   state_one  == each state has its own 69 numbers
+--   tally_one  == each counts have their own three numbers, and the Euler number
 --   left_one   == what a call leaves tells the number, the places, the state's numbers and every lent slice
---   counts-one, filed-one, looked-one == the same of counts, of the writer and of a lookup
+--   counts_one, filed_one, looked_one == the same of counts, of the writer and of a lookup
 use mathlib.Core.List.{List, [], ◌∷◌}
 use mathlib.Core.Path.{◌≡◌, refl, sym, ap, ◌∙◌}
 use Prim.Native.Nat.{ℕ, ◌≤◌}
@@ -15,7 +15,7 @@ use Rattle.darts.specs.Calls.{After, Counted, Written}
 use Rattle.darts.specs.Counts.{Counts as Tally}
 use Rattle.darts.specs.State.{State}
 use Rattle.ends.specs.Lookup.{Looked}
-use Rattle.zonemap_c.specs.Numbers.{stateIn, tallyIn, answer_in, leftIn, countedIn, filedIn, lookedIn}
+use Rattle.zonemap_c.specs.Numbers.{state_in, tally_in, answer_in, left_in, counted_in, filed_in, looked_in}
 
 three : (a : List ℕ) → 3 ≤ length a → get_or a 0 0 ∷ get_or a 1 0 ∷ get_or a 2 0 ∷ drop 3 a ≡ a
 three [] l = absurd (omega arith)
@@ -35,11 +35,11 @@ five [] l = absurd (omega arith)
 abbrev numbers : State → List ℕ
 numbers s = s.darts ∷ s.operations ∷ s.levels ∷ s.vertices ∷ s.faces ∷ s.ends
 
-pub state-one : (a b : List ℕ) → length a ≡ 69 → length b ≡ 69 → stateIn a ≡ stateIn b → a ≡ b
-state-one a b k l e = sym (five a (omega arith)) ∙ ap numbers e ∙ five b (omega arith)
+pub state_one : (a b : List ℕ) → length a ≡ 69 → length b ≡ 69 → state_in a ≡ state_in b → a ≡ b
+state_one a b k l e = sym (five a (omega arith)) ∙ ap numbers e ∙ five b (omega arith)
 
-pub tally-one : (a b : List ℕ) (d e : ℤ) → length a ≡ 3 → length b ≡ 3 → tallyIn a d ≡ tallyIn b e → (a ≡ b) × (d ≡ e)
-tally-one a b d e k l q = (
+pub tally_one : (a b : List ℕ) (d e : ℤ) → length a ≡ 3 → length b ≡ 3 → tally_in a d ≡ tally_in b e → (a ≡ b) × (d ≡ e)
+tally_one a b d e k l q = (
   sym (whole a k) ∙ ap (λ (y : Tally). y.darts ∷ y.vertices ∷ y.faces ∷ []) q ∙ whole b l,
   ap (λ (y : Tally). y.euler) q,
 )
@@ -62,34 +62,34 @@ module _ (n m p q i j : ℕ) (t u h g w v : List ℕ) where
   same a x y z = record { number = ap (λ (b : Answer). b.number) a; place = ap (λ (b : Answer). b.place) a; second = ap (λ (b : Answer). b.second) a; table = x; history = y; work = z }
 
   -- NO TWO OUTCOMES OF START, PLAN, PLAN_AREAS, CONTRACT, REMOVE, SWEEP, UNDO, UNFOLD OR READ SATISFY ITS STATEMENT
-  pub left_one : (a b : List ℕ) → length a ≡ 69 → length b ≡ 69 → (z : After) → leftIn n p i a t h w ≡ z → leftIn m q j b u g v ≡ z → Same × (a ≡ b)
+  pub left_one : (a b : List ℕ) → length a ≡ 69 → length b ≡ 69 → (z : After) → left_in n p i a t h w ≡ z → left_in m q j b u g v ≡ z → Same × (a ≡ b)
   left_one a b k l z d e =
-      let c : leftIn n p i a t h w ≡ leftIn m q j b u g v = d ∙ sym e in (
+      let c : left_in n p i a t h w ≡ left_in m q j b u g v = d ∙ sym e in (
         same (ap (λ (x : After). x.answer) c) (ap (λ (x : After). x.table) c) (ap (λ (x : After). x.history) c) (ap (λ (x : After). x.work) c),
-        state-one a b k l (ap (λ (x : After). x.state) c),
+        state_one a b k l (ap (λ (x : After). x.state) c),
       )
 
   -- NO TWO OUTCOMES OF COUNTS SATISFY ITS STATEMENT
-  pub counts-one : (a b : List ℕ) (x y : ℤ) → length a ≡ 3 → length b ≡ 3 → (z : Counted) → countedIn n p i (tallyIn a x) t h w ≡ z → countedIn m q j (tallyIn b y) u g v ≡ z
+  pub counts_one : (a b : List ℕ) (x y : ℤ) → length a ≡ 3 → length b ≡ 3 → (z : Counted) → counted_in n p i (tally_in a x) t h w ≡ z → counted_in m q j (tally_in b y) u g v ≡ z
       → Same × ((a ≡ b) × (x ≡ y))
-  counts-one a b x y k l z d e =
-      let c : countedIn n p i (tallyIn a x) t h w ≡ countedIn m q j (tallyIn b y) u g v = d ∙ sym e in (
+  counts_one a b x y k l z d e =
+      let c : counted_in n p i (tally_in a x) t h w ≡ counted_in m q j (tally_in b y) u g v = d ∙ sym e in (
         same (ap (λ (x : Counted). x.answer) c) (ap (λ (x : Counted). x.table) c) (ap (λ (x : Counted). x.history) c) (ap (λ (x : Counted). x.work) c),
-        tally-one a b x y k l (ap (λ (r : Counted). r.counts) c),
+        tally_one a b x y k l (ap (λ (r : Counted). r.counts) c),
       )
 
   -- NO TWO OUTCOMES OF WRITE SATISFY ITS STATEMENT
-  pub filed-one : (o r : List ℕ) (z : Written) → filedIn n p i t h w o ≡ z → filedIn m q j u g v r ≡ z → Same × (o ≡ r)
-  filed-one o r z d e =
-      let c : filedIn n p i t h w o ≡ filedIn m q j u g v r = d ∙ sym e in (
+  pub filed_one : (o r : List ℕ) (z : Written) → filed_in n p i t h w o ≡ z → filed_in m q j u g v r ≡ z → Same × (o ≡ r)
+  filed_one o r z d e =
+      let c : filed_in n p i t h w o ≡ filed_in m q j u g v r = d ∙ sym e in (
         same (ap (λ (x : Written). x.answer) c) (ap (λ (x : Written). x.table) c) (ap (λ (x : Written). x.history) c) (ap (λ (x : Written). x.work) c),
         ap (λ (x : Written). x.output) c,
       )
 
   -- NO TWO OUTCOMES OF SUCCESSOR SATISFY ITS STATEMENT
-  pub looked-one : (d e a b : ℕ) (z : Looked) → lookedIn n p i d a t h w ≡ z → lookedIn m q j e b u g v ≡ z → Same × ((d ≡ e) × (a ≡ b))
-  looked-one d e a b z k l =
-      let c : lookedIn n p i d a t h w ≡ lookedIn m q j e b u g v = k ∙ sym l in (
+  pub looked_one : (d e a b : ℕ) (z : Looked) → looked_in n p i d a t h w ≡ z → looked_in m q j e b u g v ≡ z → Same × ((d ≡ e) × (a ≡ b))
+  looked_one d e a b z k l =
+      let c : looked_in n p i d a t h w ≡ looked_in m q j e b u g v = k ∙ sym l in (
         same (ap (λ (x : Looked). x.answer) c) (ap (λ (x : Looked). x.table) c) (ap (λ (x : Looked). x.ends) c) (ap (λ (x : Looked). x.work) c),
         (ap (λ (x : Looked). x.found.dart) c, ap (λ (x : Looked). x.found.passed) c),
       )

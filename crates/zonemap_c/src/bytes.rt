@@ -1,7 +1,7 @@
 // The calls on bytes, for C.
 ghost use Rattle.std.specs.Prelude.{◌≡◌};
 ghost use Rattle.darts.specs.Calls.{read, write};
-ghost use Rattle.zonemap_c.specs.Numbers.{stateIn, leftIn, filedIn};
+ghost use Rattle.zonemap_c.specs.Numbers.{state_in, left_in, filed_in};
 
 use crate::state::{hand_back, put_answer, state_of};
 
@@ -16,7 +16,7 @@ pub extern "C" fn zm_read(
     place: &mut usize,
     second: &mut usize,
 ) -> u32
-    ensures { leftIn result place.new second.new state.new table.new history.new work.new
+    ensures { left_in result place.new second.new state.new table.new history.new work.new
         ≡ read bytes.now table.old history.old work.old }
 {
     let outcome = reader::read(bytes, table, history, work);
@@ -34,8 +34,8 @@ pub extern "C" fn zm_write(
     place: &mut usize,
     second: &mut usize,
 ) -> u32
-    ensures { filedIn result place.new second.new table.new history.new work.new output.new
-        ≡ write (stateIn state.now) table.old history.old work.old output.old }
+    ensures { filed_in result place.new second.new table.new history.new work.new output.new
+        ≡ write (state_in state.now) table.old history.old work.old output.old }
 {
     let given = state_of(state);
     let answer = writer::write(given, table, history, work, output);

@@ -1,8 +1,8 @@
 // The calls on a state, for C.
 ghost use Rattle.std.specs.Prelude.{◌≡◌};
 ghost use Rattle.darts.specs.Operation.{contraction, removal};
-ghost use Rattle.darts.specs.Calls.{start, reduceBy, sweepBy, undoBy, unfoldBy, counts as countsOf};
-ghost use Rattle.zonemap_c.specs.Numbers.{stateIn, tallyIn, leftIn, countedIn};
+ghost use Rattle.darts.specs.Calls.{start, reduce_by, sweep_by, undo_by, unfold_by, counts as counts_of};
+ghost use Rattle.zonemap_c.specs.Numbers.{state_in, tally_in, left_in, counted_in};
 
 use crate::state::{hand_back, put_answer, put_counts, state_of};
 use pyramid::Kind;
@@ -18,7 +18,7 @@ pub extern "C" fn zm_start(
     place: &mut usize,
     second: &mut usize,
 ) -> u32
-    ensures { leftIn result place.new second.new state.new table.new history.new work.new
+    ensures { left_in result place.new second.new state.new table.new history.new work.new
         ≡ start darts table.old history.old work.old }
 {
     let outcome = pyramid::start(darts, table, history, work);
@@ -36,8 +36,8 @@ pub extern "C" fn zm_contract(
     place: &mut usize,
     second: &mut usize,
 ) -> u32
-    ensures { leftIn result place.new second.new state.new table.new history.new work.new
-        ≡ reduceBy contraction kernel.now (stateIn state.old) table.old history.old work.old }
+    ensures { left_in result place.new second.new state.new table.new history.new work.new
+        ≡ reduce_by contraction kernel.now (state_in state.old) table.old history.old work.old }
 {
     let given = state_of(state);
     let outcome = given.reduce(Kind::Contract, kernel, table, history, work);
@@ -55,8 +55,8 @@ pub extern "C" fn zm_remove(
     place: &mut usize,
     second: &mut usize,
 ) -> u32
-    ensures { leftIn result place.new second.new state.new table.new history.new work.new
-        ≡ reduceBy removal kernel.now (stateIn state.old) table.old history.old work.old }
+    ensures { left_in result place.new second.new state.new table.new history.new work.new
+        ≡ reduce_by removal kernel.now (state_in state.old) table.old history.old work.old }
 {
     let given = state_of(state);
     let outcome = given.reduce(Kind::Remove, kernel, table, history, work);
@@ -73,8 +73,8 @@ pub extern "C" fn zm_sweep(
     place: &mut usize,
     second: &mut usize,
 ) -> u32
-    ensures { leftIn result place.new second.new state.new table.new history.new work.new
-        ≡ sweepBy (stateIn state.old) table.old history.old work.old }
+    ensures { left_in result place.new second.new state.new table.new history.new work.new
+        ≡ sweep_by (state_in state.old) table.old history.old work.old }
 {
     let given = state_of(state);
     let outcome = given.sweep(table, history, work);
@@ -91,8 +91,8 @@ pub extern "C" fn zm_undo(
     place: &mut usize,
     second: &mut usize,
 ) -> u32
-    ensures { leftIn result place.new second.new state.new table.new history.new work.new
-        ≡ undoBy (stateIn state.old) table.old history.old work.old }
+    ensures { left_in result place.new second.new state.new table.new history.new work.new
+        ≡ undo_by (state_in state.old) table.old history.old work.old }
 {
     let given = state_of(state);
     let outcome = given.undo(table, history, work);
@@ -110,8 +110,8 @@ pub extern "C" fn zm_unfold(
     place: &mut usize,
     second: &mut usize,
 ) -> u32
-    ensures { leftIn result place.new second.new state.new table.new history.new work.new
-        ≡ unfoldBy level (stateIn state.old) table.old history.old work.old }
+    ensures { left_in result place.new second.new state.new table.new history.new work.new
+        ≡ unfold_by level (state_in state.old) table.old history.old work.old }
 {
     let given = state_of(state);
     let outcome = given.unfold(level, table, history, work);
@@ -130,8 +130,8 @@ pub extern "C" fn zm_counts(
     place: &mut usize,
     second: &mut usize,
 ) -> u32
-    ensures { countedIn result place.new second.new (tallyIn counts.new euler.new) table.new history.new work.new
-        ≡ countsOf (stateIn state.now) table.old history.old work.old }
+    ensures { counted_in result place.new second.new (tally_in counts.new euler.new) table.new history.new work.new
+        ≡ counts_of (state_in state.now) table.old history.old work.old }
 {
     let given = state_of(state);
     let counted = given.counts(table, history, work);

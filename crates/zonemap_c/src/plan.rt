@@ -1,8 +1,8 @@
 // The calls on a plan, for C.
 ghost use Rattle.std.specs.Prelude.{◌≡◌};
 ghost use Rattle.grids.specs.Grid.{flat};
-ghost use Rattle.grids.specs.Plans.{planBase, planAreas};
-ghost use Rattle.zonemap_c.specs.Numbers.{leftIn};
+ghost use Rattle.grids.specs.Plans.{plan_base, plan_areas};
+ghost use Rattle.zonemap_c.specs.Numbers.{left_in};
 
 use crate::state::hand_back;
 
@@ -19,8 +19,8 @@ pub extern "C" fn zm_plan(
     place: &mut usize,
     second: &mut usize,
 ) -> u32
-    ensures { leftIn result place.new second.new state.new table.new history.new work.new
-        ≡ planBase (flat wales courses) plan.now table.old history.old work.old }
+    ensures { left_in result place.new second.new state.new table.new history.new work.new
+        ≡ plan_base (flat wales courses) plan.now table.old history.old work.old }
 {
     let outcome = plans::plan(wales, courses, plan, table, history, work);
     hand_back(outcome, state, place, second)
@@ -39,8 +39,8 @@ pub extern "C" fn zm_plan_areas(
     place: &mut usize,
     second: &mut usize,
 ) -> u32
-    ensures { leftIn result place.new second.new state.new table.new history.new work.new
-        ≡ planAreas (flat wales courses) plan.now table.old history.old work.old }
+    ensures { left_in result place.new second.new state.new table.new history.new work.new
+        ≡ plan_areas (flat wales courses) plan.now table.old history.old work.old }
 {
     let outcome = plans::plan_areas(wales, courses, plan, table, history, work);
     hand_back(outcome, state, place, second)

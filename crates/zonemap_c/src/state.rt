@@ -1,14 +1,14 @@
 // The state as 69 numbers (darts, operations, levels, vertices, faces, the 64 level ends), and what a call hands back.
 ghost use Rattle.std.specs.Prelude.{◌≡◌};
 ghost use Rattle.pyramid.specs.Values.{state_of, tally_of};
-ghost use Rattle.zonemap_c.specs.Numbers.{stateIn, tallyIn, Answered, Handed};
+ghost use Rattle.zonemap_c.specs.Numbers.{state_in, tally_in, Answered, Handed};
 
 use pyramid::{Answer, Counts, Outcome, State};
 use slices::copy;
 
 // The state that the numbers are.
 pub(crate) fn state_of(numbers: &[u32; 69]) -> State
-    ensures { state_of result ≡ stateIn numbers.now }
+    ensures { state_of result ≡ state_in numbers.now }
 {
     let all: &[u32] = numbers;
     let mut ends = [0u32; 64];
@@ -25,7 +25,7 @@ pub(crate) fn state_of(numbers: &[u32; 69]) -> State
 
 // The numbers that the state is, all 69.
 fn numbers_of(state: State) -> [u32; 69]
-    ensures { stateIn result ≡ state_of state }
+    ensures { state_in result ≡ state_of state }
 {
     let ends = state.ends;
     let mut numbers = [0u32; 69];
@@ -64,7 +64,7 @@ pub(crate) fn hand_back(
 
 // The counts, put where C finds them: three numbers, and the Euler number, which has a sign.
 pub(crate) fn put_counts(found: Counts, counts: &mut [u32; 3], euler: &mut i32)
-    ensures { tallyIn counts.new euler.new ≡ tally_of found }
+    ensures { tally_in counts.new euler.new ≡ tally_of found }
 {
     let numbers = [found.darts, found.vertices, found.faces];
     let signed = found.euler;

@@ -1,7 +1,7 @@
 // The successor at a level, for C.
 ghost use Rattle.std.specs.Prelude.{◌≡◌};
-ghost use Rattle.ends.specs.Lookup.{successorAt};
-ghost use Rattle.zonemap_c.specs.Numbers.{lookedIn};
+ghost use Rattle.ends.specs.Lookup.{successor_at};
+ghost use Rattle.zonemap_c.specs.Numbers.{looked_in};
 
 use crate::state::put_answer;
 
@@ -19,8 +19,8 @@ pub extern "C" fn zm_successor(
     place: &mut usize,
     second: &mut usize,
 ) -> u32
-    ensures { lookedIn result place.new second.new found.new passed.new table.now ends.now work.new
-        ≡ successorAt darts level dart table.now ends.now work.old }
+    ensures { looked_in result place.new second.new found.new passed.new table.now ends.now work.new
+        ≡ successor_at darts level dart table.now ends.now work.old }
 {
     let looked = lookup::successor_at(darts, level, dart, table, ends, work);
     *found = looked.dart;

@@ -5,10 +5,10 @@ use Rattle.sheets.specs.declared.Zone.{Zone}
 use Rattle.zones.specs.declared.held.Held.{Held}
 
 pub record Lent (held : Held) (table history work : List ℕ) : Type 0 where
-  pub of-table : held.table ≤ length table
-  pub of-history : held.history ≤ length history
-  pub of-work : held.work ≤ length work
+  pub of_table : held.table ≤ length table
+  pub of_history : held.history ≤ length history
+  pub of_work : held.work ≤ length work
 
 pub record LentSheets (held : Held) (sheet kept : List Zone) : Type 0 where
-  pub of-sheet : held.sheet ≤ length sheet
-  pub of-kept : held.kept ≤ length kept
+  pub of_sheet : held.sheet ≤ length sheet
+  pub of_kept : held.kept ≤ length kept

@@ -1,6 +1,6 @@
 // The commands that set the state, the rooms, and how much of them is lent.
 ghost use Rattle.std.specs.Prelude.{◌≡◌};
-ghost use Rattle.pyramid.specs.Values.{state_of, figuresWith};
+ghost use Rattle.pyramid.specs.Values.{state_of, figures_with};
 ghost use Rattle.script.specs.Scanned.{Scanned};
 ghost use Rattle.zones.specs.Within.{Within};
 
@@ -84,7 +84,7 @@ fn given(numbers: &NumbersRoom, count: usize) -> State {
 
 // "sets the two numbers that the state stores, vertices and faces"
 fn stored(state: State, vertices: u32, faces: u32) -> State
-    ensures { state_of result ≡ figuresWith (state_of state) vertices faces }
+    ensures { state_of result ≡ figures_with (state_of state) vertices faces }
 {
     let ends = state.ends;
     State {

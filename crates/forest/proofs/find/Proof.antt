@@ -4,7 +4,7 @@
 --   Climbing t₀ t x at up == t is t₀ after some turns; `at` has the root of x, and `up` is its parent
 --   begin                 == before the first turn
 --   halved                == t, with `at` hung under its grandparent
---   climb-on              == one turn more
+--   climb_on              == one turn more
 --   arrived               == a number that is its own parent is the root
 use mathlib.Core.Path.{◌≡◌, refl, sym, ◌∙◌}
 use mathlib.Core.List.{List}
@@ -13,8 +13,8 @@ use native.Mathlib.Omega.{arith}
 use lib.ListN.{length, set, length-set}
 use borrow.Author.Rules.{rules}
 use Rattle.forest.specs.Forest.{parent, Falls, root, Stands, Found}
-use Rattle.forest.specs.Roots.{root-top, root-up}
-use Rattle.forest.proofs.Hanging.{halve-falls, halve-roots}
+use Rattle.forest.specs.Roots.{root_top, root_up}
+use Rattle.forest.proofs.Hanging.{halve_falls, halve_roots}
 use Rattle.forest.proofs.find.Statement.{statement}
 use Rattle.forest.proofs.find.Tie as tie
 
@@ -24,8 +24,8 @@ record Climbing (t₀ t : List ℕ) (x at up : ℕ) : Type 0 where
   size : length t ≡ length t₀
   inside : at < length t
   next : up ≡ parent t at
-  up-down : up ≤ at
-  over-down : parent t up ≤ up
+  up_down : up ≤ at
+  over_down : parent t up ≤ up
   same : root t at ≡ root t x
 
 begin : {t : List ℕ} {x : ℕ} → Stands t x → Climbing t t x x (parent t x)
@@ -36,8 +36,8 @@ begin {t} {x} s =
       size = refl;
       inside = s.inside;
       next = refl;
-      up-down = s.falls.down x;
-      over-down = s.falls.down (parent t x);
+      up_down = s.falls.down x;
+      over_down = s.falls.down (parent t x);
       same = refl;
     }
 
@@ -48,29 +48,29 @@ module _ {t₀ t : List ℕ} {x at up : ℕ} (c : Climbing t₀ t x at up) where
   abbrev halved : List ℕ
   halved = set t at over
 
-  halved-falls : Falls halved
-  halved-falls = rw c.next (halve-falls c.falls at c.inside)
+  halved_falls : Falls halved
+  halved_falls = rw c.next (halve_falls c.falls at c.inside)
 
-  halved-roots : (z : ℕ) → root halved z ≡ root t z
-  halved-roots = rw c.next (halve-roots c.falls at c.inside)
+  halved_roots : (z : ℕ) → root halved z ≡ root t z
+  halved_roots = rw c.next (halve_roots c.falls at c.inside)
 
-  climb-on : Climbing t₀ halved x over (parent halved over)
-  climb-on =
+  climb_on : Climbing t₀ halved x over (parent halved over)
+  climb_on =
       record {
-        falls = halved-falls;
-        roots = λ z. halved-roots z ∙ c.roots z;
+        falls = halved_falls;
+        roots = λ z. halved_roots z ∙ c.roots z;
         size = length-set t at over ∙ c.size;
         inside = simp length-set (omega arith);
         next = refl;
-        up-down = halved-falls.down over;
-        over-down = halved-falls.down (parent halved over);
-        same = halved-roots over ∙ root-up c.falls up ∙ rw c.next (root-up c.falls at) ∙ c.same ∙ sym (halved-roots x);
+        up_down = halved_falls.down over;
+        over_down = halved_falls.down (parent halved over);
+        same = halved_roots over ∙ root_up c.falls up ∙ rw c.next (root_up c.falls at) ∙ c.same ∙ sym (halved_roots x);
       }
 
   arrived : up ≡ at → Found t₀ t x at
   arrived e =
       record {
-        top = sym (root-top t at (sym c.next ∙ e)) ∙ c.same ∙ c.roots x;
+        top = sym (root_top t at (sym c.next ∙ e)) ∙ c.same ∙ c.roots x;
         inside = c.inside;
         roots = c.roots;
         falls = c.falls;
@@ -123,7 +123,7 @@ loop-less : tie.Need-loop-smaller invariant-loop decreases-loop
 loop-less c = search rules
 
 loop-again : tie.Need-loop-preserved invariant-loop decreases-loop
-loop-again c = climb-on c.before.before.before.loop.invariant
+loop-again c = climb_on c.before.before.before.loop.invariant
 
 same_length : tie.Need-same-length invariant-loop decreases-loop
 same_length c = search rules

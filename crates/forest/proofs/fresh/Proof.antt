@@ -64,8 +64,8 @@ same_length c = search rules
 returns : tie.Need-returns invariant-loop decreases-loop
 returns c = record { size = c.before.loop.invariant.size; own = λ x l. c.before.loop.invariant.own x (omega arith) }
 
-pub fresh-spec : {M : Type 1} → statement M
-fresh-spec =
+pub fresh_spec : {M : Type 1} → statement M
+fresh_spec =
     tie.close
     (tie.spec
     invariant-loop

@@ -9,30 +9,30 @@ use mathlib.Core.Path.{◌≡◌, refl, sym, ap, ◌∙◌}
 use Prim.Native.Nat.{ℕ, zero, suc, ◌+◌, ◌*◌, ◌/◌, ◌<◌}
 use native.Mathlib.Omega.{arith}
 use lib.Dec.{T, eqb, leb, leb→le, nleb→lt, le→leb, not_T}
-use Rattle.permutations.specs.Choice.{pick, T→true, and-iff, not_iff}
-use Rattle.permutations.specs.Partner.{partner, partner-first}
-use Rattle.permutations.specs.Cycle.{Meets, meetsIn, meets-iff}
-use Rattle.permutations.specs.Map.{Map, Good, face, next-live, partner-live}
-use Rattle.permutations.proofs.Dual.{good-dual, face-at}
+use Rattle.permutations.specs.Choice.{pick, T→true, and_iff, not_iff}
+use Rattle.permutations.specs.Partner.{partner, partner_first}
+use Rattle.permutations.specs.Cycle.{Meets, meets_in, meets_iff}
+use Rattle.permutations.specs.Map.{Map, Good, face, next_live, partner_live}
+use Rattle.permutations.proofs.Dual.{good_dual, face_at}
 use Rattle.permutations.proofs.Legal.{Separate, Legal, Whole}
-use Rattle.permutations.proofs.Tests.{whole-iff, wholeTest}
-use Rattle.darts.specs.Map.{successor, faceNext, sameVertex, sameFace, gone, survives}
-use Rattle.darts.specs.Operation.{Kind, contraction, removal, wholeEdge}
+use Rattle.permutations.proofs.Tests.{whole_iff, whole_test}
+use Rattle.darts.specs.Map.{successor, face_next, same_vertex, same_face, gone, survives}
+use Rattle.darts.specs.Operation.{Kind, contraction, removal, whole_edge}
 use Rattle.darts.specs.Kernel.{judge, shared}
-use Rattle.laws.specs.Standing.{mapOf, Standing}
-use Rattle.laws.proofs.bridge.Standing.{live, op_of, live-iff, next-entry}
+use Rattle.laws.specs.Standing.{map_of, Standing}
+use Rattle.laws.proofs.bridge.Standing.{live, op_of, live_iff, next_entry}
 
 -- ---- walking along the entries
 
 module _ {D : ℕ} {m : Map} (G : Good D m) (f : ℕ → ℕ) (agree : (x : ℕ) → T (m.live x) → f x ≡ m.next x) where
   -- from a live dart, f walks as the map does
-  meets-agree : (n p q : ℕ) → T (m.live p) → meetsIn f n p q ≡ meetsIn m.next n p q
-  unfolding meetsIn
-  meets-agree zero p q h = refl
-  meets-agree (suc n) p q h = ap (λ b. eqb p q || b) (ap (λ x. meetsIn f n x q) (agree p h) ∙ meets-agree n (m.next p) q (next-live G p h))
+  meets_agree : (n p q : ℕ) → T (m.live p) → meets_in f n p q ≡ meets_in m.next n p q
+  unfolding meets_in
+  meets_agree zero p q h = refl
+  meets_agree (suc n) p q h = ap (λ b. eqb p q || b) (ap (λ x. meets_in f n x q) (agree p h) ∙ meets_agree n (m.next p) q (next_live G p h))
 
-  walked : (p q : ℕ) → T (m.live p) → T (meetsIn f D p q) ↔ Meets m.next p q
-  walked p q h = rw (meets-agree D p q h) (Iff.symm (meets-iff G.perm p q))
+  walked : (p q : ℕ) → T (m.live p) → T (meets_in f D p q) ↔ Meets m.next p q
+  walked p q h = rw (meets_agree D p q h) (Iff.symm (meets_iff G.perm p q))
 
 -- ---- the answer's number
 
@@ -41,42 +41,42 @@ refusal none gone sharing whole c =
     let n : ℕ = pick sharing (suc c) 0 in
     pick none 7 (pick gone 8 (pick (leb 1 n) n (pick whole 11 0)))
 
-refusal-zero : (none gone sharing whole : Bool) (c : ℕ)
+refusal_zero : (none gone sharing whole : Bool) (c : ℕ)
     → (refusal none gone sharing whole c ≡ 0) ↔ T (not none && not gone && (not sharing && not whole))
 unfolding refusal
-refusal-zero true g s w c = (λ e. omega arith, λ h. absurd h)
-refusal-zero false true s w c = (λ e. omega arith, λ h. absurd h)
-refusal-zero false false true w c = (λ e. let k : suc c ≡ 0 = rw (T→true (leb 1 (suc c)) (le→leb 1 (suc c) (omega arith))) at e in omega arith, λ h. absurd h)
-refusal-zero false false false true c = (λ e. omega arith, λ h. absurd h)
-refusal-zero false false false false c = (λ e. tt, λ h. refl)
+refusal_zero true g s w c = (λ e. omega arith, λ h. absurd h)
+refusal_zero false true s w c = (λ e. omega arith, λ h. absurd h)
+refusal_zero false false true w c = (λ e. let k : suc c ≡ 0 = rw (T→true (leb 1 (suc c)) (le→leb 1 (suc c) (omega arith))) at e in omega arith, λ h. absurd h)
+refusal_zero false false false true c = (λ e. omega arith, λ h. absurd h)
+refusal_zero false false false false c = (λ e. tt, λ h. refl)
 
 module _ {D : ℕ} {t past : List ℕ} (S : Standing D t past) where
   -- a survivor's face-next in the map is the table's
-  pub face-entry : (x : ℕ) → T (live D past x) → faceNext t x ≡ face (mapOf D t past) x
-  unfolding faceNext
-  face-entry x h = sym (face-at S.good x h ∙ next-entry S (partner x) (partner-live S.good x h))
+  pub face_entry : (x : ℕ) → T (live D past x) → face_next t x ≡ face (map_of D t past) x
+  unfolding face_next
+  face_entry x h = sym (face_at S.good x h ∙ next_entry S (partner x) (partner_live S.good x h))
 
   -- SAME VERTEX, SAME FACE AND WHOLE PIECE ARE THE MATHEMATICS' OWN
-  pub same-vertex : (p q : ℕ) → T (live D past p) → T (sameVertex D t p q) ↔ Meets (mapOf D t past).next p q
-  unfolding sameVertex
-  same-vertex = walked S.good (successor t) (λ x h. sym (next-entry S x h))
+  pub same_vertex_lem : (p q : ℕ) → T (live D past p) → T (same_vertex D t p q) ↔ Meets (map_of D t past).next p q
+  unfolding same_vertex
+  same_vertex_lem = walked S.good (successor t) (λ x h. sym (next_entry S x h))
 
-  pub same-face : (p q : ℕ) → T (live D past p) → T (sameFace D t p q) ↔ Meets (face (mapOf D t past)) p q
-  unfolding sameFace
-  same-face = walked (good-dual S.good) (faceNext t) face-entry
+  pub same_face_lem : (p q : ℕ) → T (live D past p) → T (same_face D t p q) ↔ Meets (face (map_of D t past)) p q
+  unfolding same_face
+  same_face_lem = walked (good_dual S.good) (face_next t) face_entry
 
-  whole-test : (e : ℕ) → T (live D past (2 * e)) → wholeEdge t e ≡ wholeTest (mapOf D t past) (2 * e)
-  unfolding wholeEdge wholeTest
-  whole-test e h = rw (next-entry S (2 * e) h, next-entry S (partner (2 * e)) (partner-live S.good (2 * e) h), partner-first e)
+  whole_test_lem : (e : ℕ) → T (live D past (2 * e)) → whole_edge t e ≡ whole_test (map_of D t past) (2 * e)
+  unfolding whole_edge whole_test
+  whole_test_lem e h = rw (next_entry S (2 * e) h, next_entry S (partner (2 * e)) (partner_live S.good (2 * e) h), partner_first e)
 
-  pub whole-edge : (e : ℕ) → T (live D past (2 * e)) → T (wholeEdge t e) ↔ Whole (mapOf D t past) (2 * e)
-  whole-edge e h = rw (whole-test e h) (whole-iff (mapOf D t past) (2 * e))
+  pub whole_edge_lem : (e : ℕ) → T (live D past (2 * e)) → T (whole_edge t e) ↔ Whole (map_of D t past) (2 * e)
+  whole_edge_lem e h = rw (whole_test_lem e h) (whole_iff (map_of D t past) (2 * e))
 
   -- neither 7 nor 8
-  edge-live : (e : ℕ) → T (not (leb (D / 2) e) && not (gone past (2 * e))) ↔ T (live D past (2 * e))
+  edge_live : (e : ℕ) → T (not (leb (D / 2) e) && not (gone past (2 * e))) ↔ T (live D past (2 * e))
   unfolding survives
-  edge-live e =
-      Iff.trans (and-iff (not (leb (D / 2) e)) (not (gone past (2 * e))) below (λ h. Iff.rfl)) (Iff.symm (live-iff D past (2 * e)))
+  edge_live e =
+      Iff.trans (and_iff (not (leb (D / 2) e)) (not (gone past (2 * e))) below (λ h. Iff.rfl)) (Iff.symm (live_iff D past (2 * e)))
     where
       below : T (not (leb (D / 2) e)) ↔ (2 * e < D)
       below = (
@@ -86,18 +86,18 @@ module _ {D : ℕ} {t past : List ℕ} (S : Standing D t past) where
 
   -- for either kind, by its test for a shared cycle
   judged : (f : ℕ → ℕ) (e : ℕ) (sharing : Bool) (c : ℕ) → (T (live D past (2 * e)) → T sharing ↔ Meets f (2 * e) (partner (2 * e)))
-      → (refusal (leb (D / 2) e) (gone past (2 * e)) sharing (wholeEdge t e) c ≡ 0) ↔ Separate f (mapOf D t past) (2 * e)
+      → (refusal (leb (D / 2) e) (gone past (2 * e)) sharing (whole_edge t e) c ≡ 0) ↔ Separate f (map_of D t past) (2 * e)
   judged f e sharing c same =
       let tests = not (leb (D / 2) e) && not (gone past (2 * e)) in
-      let i = refusal-zero (leb (D / 2) e) (gone past (2 * e)) sharing (wholeEdge t e) c in
-      let j = and-iff tests (not sharing && not (wholeEdge t e)) (edge-live e)
-      (λ h. and-iff (not sharing) (not (wholeEdge t e)) (not_iff sharing (same h)) (λ n. not_iff (wholeEdge t e) (whole-edge e h))) in (
+      let i = refusal_zero (leb (D / 2) e) (gone past (2 * e)) sharing (whole_edge t e) c in
+      let j = and_iff tests (not sharing && not (whole_edge t e)) (edge_live e)
+      (λ h. and_iff (not sharing) (not (whole_edge t e)) (not_iff sharing (same h)) (λ n. not_iff (whole_edge t e) (whole_edge_lem e h))) in (
         λ z. let l = j.0 (i.0 z) in record { lives = l.0; two = l.1.0; more = l.1.1 },
         λ l. i.1 (j.1 (l.lives, (l.two, l.more))),
       )
 
   -- AN EDGE MAY BE DONE EXACTLY WHERE THE MATHEMATICS ALLOWS IT
-  pub judge-legal : (k : Kind) (e : ℕ) → (judge k D t past e ≡ 0) ↔ Legal (mapOf D t past) (op_of k (2 * e))
+  pub judge_legal : (k : Kind) (e : ℕ) → (judge k D t past e ≡ 0) ↔ Legal (map_of D t past) (op_of k (2 * e))
   unfolding judge shared refusal
-  judge-legal contraction e = judged (mapOf D t past).next e (sameVertex D t (2 * e) (2 * e + 1)) 8 (λ h. rw (partner-first e) (same-vertex (2 * e) (2 * e + 1) h))
-  judge-legal removal e = judged (face (mapOf D t past)) e (sameFace D t (2 * e) (2 * e + 1)) 9 (λ h. rw (partner-first e) (same-face (2 * e) (2 * e + 1) h))
+  judge_legal contraction e = judged (map_of D t past).next e (same_vertex D t (2 * e) (2 * e + 1)) 8 (λ h. rw (partner_first e) (same_vertex_lem (2 * e) (2 * e + 1) h))
+  judge_legal removal e = judged (face (map_of D t past)) e (same_face D t (2 * e) (2 * e + 1)) 9 (λ h. rw (partner_first e) (same_face_lem (2 * e) (2 * e + 1) h))

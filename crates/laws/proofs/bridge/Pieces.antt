@@ -15,26 +15,26 @@ use native.Mathlib.Nat.{not-suc-le-zero, le_of_suc-le-suc}
 use native.Mathlib.Omega.{arith}
 use lib.Dec.{T, eqb, eqb_refl, eqb→eq}
 use lib.ListN.{length, take, drop, length-append, length-take, length-drop, take-append-drop}
-use Rattle.permutations.specs.Choice.{or-intro, or_cases}
-use Rattle.permutations.specs.Partner.{partner, partner-first, End}
+use Rattle.permutations.specs.Choice.{or_intro, or_cases}
+use Rattle.permutations.specs.Partner.{partner, partner_first, End}
 use Rattle.permutations.specs.Pigeonhole.{Clash, pigeonhole}
-use Rattle.permutations.specs.Map.{mate-live, partner-live, next-live, offEdge, offEdge-was, offEdge-not-end}
+use Rattle.permutations.specs.Map.{mate_live, partner_live, next_live, off_edge, off_edge_was, off_edge_not_end}
 use Rattle.permutations.proofs.Legal.{Op, act, dart}
-use Rattle.permutations.proofs.Pieces.{Linked, here, turn, over, linked-ind, mate-lives, whole-only, only-whole, act-pieces}
-use Rattle.darts.specs.Map.{successor, samePiece}
-use Rattle.darts.specs.Operation.{Kind, wholeEdge, lead, operate, number}
+use Rattle.permutations.proofs.Pieces.{Linked, here, turn, over, linked_ind, mate_lives, whole_only, only_whole, act_pieces}
+use Rattle.darts.specs.Map.{successor, same_piece}
+use Rattle.darts.specs.Operation.{Kind, whole_edge, lead, operate, number}
 use Rattle.darts.specs.Kernel.{judge}
-use Rattle.laws.specs.Standing.{mapOf, Standing}
-use Rattle.laws.proofs.bridge.Standing.{live, op_of, next-entry, entry-live}
-use Rattle.laws.proofs.bridge.Judged.{whole-edge, judge-legal}
-use Rattle.laws.proofs.bridge.Operate.{operate-acts, operate-stands}
+use Rattle.laws.specs.Standing.{map_of, Standing}
+use Rattle.laws.proofs.bridge.Standing.{live, op_of, next_entry, entry_live}
+use Rattle.laws.proofs.bridge.Judged.{whole_edge_lem, judge_legal}
+use Rattle.laws.proofs.bridge.Operate.{operate_acts, operate_stands}
 
 data Step : Type 0 where
-  overEdge roundVertex : Step
+  over_edge round_vertex : Step
 
 abbrev step : List ℕ → Step → ℕ → ℕ
-step t overEdge x = partner x
-step t roundVertex x = successor t x
+step t over_edge x = partner x
+step t round_vertex x = successor t x
 
 abbrev steps : List ℕ → List Step → ℕ → ℕ
 steps t [] x = x
@@ -47,39 +47,39 @@ record Walked (t : List ℕ) (x y : ℕ) : Type 0 where
 abbrev Instead : List ℕ → ℕ → List Step → ℕ → Type 0
 Instead t x w n = (v : List Step) × (length v ≤ n) × (steps t v x ≡ steps t w x)
 
-steps-append : (t : List ℕ) (v w : List Step) (x : ℕ) → steps t (v ++ w) x ≡ steps t w (steps t v x)
-steps-append t [] w x = refl
-steps-append t (s ∷ v) w x = steps-append t v w (step t s x)
+steps_append : (t : List ℕ) (v w : List Step) (x : ℕ) → steps t (v ++ w) x ≡ steps t w (steps t v x)
+steps_append t [] w x = refl
+steps_append t (s ∷ v) w x = steps_append t v w (step t s x)
 
 one_more : (t : List ℕ) {x z : ℕ} (s : Step) → Walked t x z → Walked t x (step t s z)
-one_more t {x} s w = record { way = w.way ++ (s ∷ []); there = steps-append t w.way (s ∷ []) x ∙ ap (step t s) w.there }
+one_more t {x} s w = record { way = w.way ++ (s ∷ []); there = steps_append t w.way (s ∷ []) x ∙ ap (step t s) w.there }
 
 -- ---- the definition's walk makes up to n steps
 
-onwards : (n : ℕ) (t : List ℕ) (x y : ℕ) → T (samePiece n t (partner x) y) ⊎ T (samePiece n t (successor t x) y) → T (samePiece (suc n) t x y)
-unfolding samePiece
+onwards : (n : ℕ) (t : List ℕ) (x y : ℕ) → T (same_piece n t (partner x) y) ⊎ T (same_piece n t (successor t x) y) → T (same_piece (suc n) t x y)
+unfolding same_piece
 onwards n t x y h =
-    let a = samePiece n t (partner x) y in
-    let b = samePiece n t (successor t x) y in
-    or-intro (eqb x y) (a || b) (inr (or-intro a b h))
+    let a = same_piece n t (partner x) y in
+    let b = same_piece n t (successor t x) y in
+    or_intro (eqb x y) (a || b) (inr (or_intro a b h))
 
-piece-found : (n : ℕ) (t : List ℕ) (w : List Step) (x : ℕ) → length w ≤ n → T (samePiece n t x (steps t w x))
-unfolding samePiece
-piece-found zero t [] x h = eqb_refl x
-piece-found zero t (s ∷ w) x h = absurd (not-suc-le-zero h)
-piece-found (suc n) t [] x h = or-intro (eqb x x) (samePiece n t (partner x) x || samePiece n t (successor t x) x) (inl (eqb_refl x))
-piece-found (suc n) t (overEdge ∷ w) x h = onwards n t x (steps t w (partner x)) (inl (piece-found n t w (partner x) (le_of_suc-le-suc h)))
-piece-found (suc n) t (roundVertex ∷ w) x h = onwards n t x (steps t w (successor t x)) (inr (piece-found n t w (successor t x) (le_of_suc-le-suc h)))
+piece_found : (n : ℕ) (t : List ℕ) (w : List Step) (x : ℕ) → length w ≤ n → T (same_piece n t x (steps t w x))
+unfolding same_piece
+piece_found zero t [] x h = eqb_refl x
+piece_found zero t (s ∷ w) x h = absurd (not-suc-le-zero h)
+piece_found (suc n) t [] x h = or_intro (eqb x x) (same_piece n t (partner x) x || same_piece n t (successor t x) x) (inl (eqb_refl x))
+piece_found (suc n) t (over_edge ∷ w) x h = onwards n t x (steps t w (partner x)) (inl (piece_found n t w (partner x) (le_of_suc-le-suc h)))
+piece_found (suc n) t (round_vertex ∷ w) x h = onwards n t x (steps t w (successor t x)) (inr (piece_found n t w (successor t x) (le_of_suc-le-suc h)))
 
 module _ {D : ℕ} {t past : List ℕ} (S : Standing D t past) where
-  steps-live : (w : List Step) (x : ℕ) → T (live D past x) → T (live D past (steps t w x))
-  steps-live [] x h = h
-  steps-live (overEdge ∷ w) x h = steps-live w (partner x) (partner-live S.good x h)
-  steps-live (roundVertex ∷ w) x h = steps-live w (successor t x) (entry-live S x h)
+  steps_live : (w : List Step) (x : ℕ) → T (live D past x) → T (live D past (steps t w x))
+  steps_live [] x h = h
+  steps_live (over_edge ∷ w) x h = steps_live w (partner x) (partner_live S.good x h)
+  steps_live (round_vertex ∷ w) x h = steps_live w (successor t x) (entry_live S x h)
 
   -- more than D steps pass some dart twice, and what lies between can be left out
   shorter : (w : List Step) (x : ℕ) → T (live D past x) → D < length w → Instead t x w (length w - 1)
-  shorter w x h l = go (pigeonhole D (λ i. steps t (take i w) x) (λ i k. S.good.small (steps t (take i w) x) (steps-live (take i w) x h)))
+  shorter w x h l = go (pigeonhole D (λ i. steps t (take i w) x) (λ i k. S.good.small (steps t (take i w) x) (steps_live (take i w) x h)))
     where
       go : Clash (λ i. steps t (take i w) x) D → Instead t x w (length w - 1)
       go c =
@@ -87,7 +87,7 @@ module _ {D : ℕ} {t past : List ℕ} (S : Standing D t past) where
           let j = c.second in (
             take i w ++ drop j w,
             simp (length-append, length-take, length-drop) (omega (arith, c.order, c.last)),
-            steps-append t (take i w) (drop j w) x ∙ ap (steps t (drop j w)) c.same ∙ sym (steps-append t (take j w) (drop j w) x)
+            steps_append t (take i w) (drop j w) x ∙ ap (steps t (drop j w)) c.same ∙ sym (steps_append t (take j w) (drop j w) x)
                 ∙ ap (λ v. steps t v x) (take-append-drop j w),
           )
 
@@ -102,59 +102,59 @@ module _ {D : ℕ} {t past : List ℕ} (S : Standing D t past) where
           let r = rest s.0 (omega (arith, s.1)) in
           (r.0, r.1, r.2 ∙ s.2)
 
-  piece-linked : (n x y : ℕ) → T (live D past x) → T (samePiece n t x y) → Linked (mapOf D t past) x y
-  unfolding samePiece
-  piece-linked zero x y h p = here (eqb→eq x y p)
-  piece-linked (suc n) x y h p =
+  piece_linked : (n x y : ℕ) → T (live D past x) → T (same_piece n t x y) → Linked (map_of D t past) x y
+  unfolding same_piece
+  piece_linked zero x y h p = here (eqb→eq x y p)
+  piece_linked (suc n) x y h p =
       ⊎_elim (λ e. here (eqb→eq x y e))
       (λ r. ⊎_elim
-      (λ a. over (rw (mate-live (live D past) x h) (piece-linked n (partner x) y (partner-live S.good x h) a)))
-      (λ a. turn (rw (next-entry S x h) (piece-linked n (successor t x) y (entry-live S x h) a)))
-      (or_cases (samePiece n t (partner x) y) (samePiece n t (successor t x) y) r))
-      (or_cases (eqb x y) (samePiece n t (partner x) y || samePiece n t (successor t x) y) p)
+      (λ a. over (rw (mate_live (live D past) x h) (piece_linked n (partner x) y (partner_live S.good x h) a)))
+      (λ a. turn (rw (next_entry S x h) (piece_linked n (successor t x) y (entry_live S x h) a)))
+      (or_cases (same_piece n t (partner x) y) (same_piece n t (successor t x) y) r))
+      (or_cases (eqb x y) (same_piece n t (partner x) y || same_piece n t (successor t x) y) p)
 
-  linked-walked : {x y : ℕ} → T (live D past x) → Linked (mapOf D t past) x y → Walked t x y
-  linked-walked {x} h l =
-      (linked-ind (mapOf D t past) (λ z. T (live D past z) × Walked t x z)
-      (λ z w. (next-live S.good z w.0, rw (next-entry S z w.0) (one_more t roundVertex w.1)))
-      (λ z w. (mate-lives S.good z w.0, rw (mate-live (live D past) z w.0) (one_more t overEdge w.1)))
+  linked_walked : {x y : ℕ} → T (live D past x) → Linked (map_of D t past) x y → Walked t x y
+  linked_walked {x} h l =
+      (linked_ind (map_of D t past) (λ z. T (live D past z) × Walked t x z)
+      (λ z w. (next_live S.good z w.0, rw (next_entry S z w.0) (one_more t round_vertex w.1)))
+      (λ z w. (mate_lives S.good z w.0, rw (mate_live (live D past) z w.0) (one_more t over_edge w.1)))
       l (h, record { way = []; there = refl })).1
 
   -- SAME PIECE IS THE MATHEMATICS' OWN: D STEPS LEAD EVERYWHERE
-  pub same-piece : (x y : ℕ) → T (live D past x) → T (samePiece D t x y) ↔ Linked (mapOf D t past) x y
-  same-piece x y h = (
-    piece-linked D x y h,
+  pub same_piece_lem : (x y : ℕ) → T (live D past x) → T (same_piece D t x y) ↔ Linked (map_of D t past) x y
+  same_piece_lem x y h = (
+    piece_linked D x y h,
     λ l.
-        let w = linked-walked h l in
+        let w = linked_walked h l in
         let v = short (length w.way) w.way x h (omega arith) in
-        subst (λ z. T (samePiece D t x z)) (v.2 ∙ w.there) (piece-found D t v.0 x v.1),
+        subst (λ z. T (same_piece D t x z)) (v.2 ∙ w.there) (piece_found D t v.0 x v.1),
   )
 
   -- A WHOLE PIECE IS ONE: the edge has no other dart in its piece
-  pub whole-piece : (e : ℕ) → T (live D past (2 * e)) → T (wholeEdge t e) ↔ ((y : ℕ) → T (samePiece D t (2 * e) y) → (y ≡ 2 * e) ⊎ (y ≡ 2 * e + 1))
-  whole-piece e h = (
-    λ w y p. rw (← partner-first e) (whole-only S.good (2 * e) h ((whole-edge S e h).0 w) y ((same-piece (2 * e) y h).0 p)),
-    λ only. (whole-edge S e h).1 (only-whole S.good (2 * e) h (λ y l. rw (partner-first e) (only y ((same-piece (2 * e) y h).1 l)))),
+  pub whole_piece_lem : (e : ℕ) → T (live D past (2 * e)) → T (whole_edge t e) ↔ ((y : ℕ) → T (same_piece D t (2 * e) y) → (y ≡ 2 * e) ⊎ (y ≡ 2 * e + 1))
+  whole_piece_lem e h = (
+    λ w y p. rw (← partner_first e) (whole_only S.good (2 * e) h ((whole_edge_lem S e h).0 w) y ((same_piece_lem (2 * e) y h).0 p)),
+    λ only. (whole_edge_lem S e h).1 (only_whole S.good (2 * e) h (λ y l. rw (partner_first e) (only y ((same_piece_lem (2 * e) y h).1 l)))),
   )
 
 -- AN OPERATION KEEPS THE PIECES
 module _ {D : ℕ} {t past : List ℕ} (S : Standing D t past) (k : Kind) (e : ℕ) (fine : judge k D t past e ≡ 0) where
   pub pieces_kept : (x y : ℕ) → T (live D (number k (lead k t e) ∷ past) x) → T (live D (number k (lead k t e) ∷ past) y)
-      → T (samePiece D (operate k D t past e) x y) ↔ T (samePiece D t x y)
+      → T (same_piece D (operate k D t past e) x y) ↔ T (same_piece D t x y)
   pieces_kept x y hx hy =
-      Iff.trans (same-piece (operate-stands S k e fine) x y hx)
+      Iff.trans (same_piece_lem (operate_stands S k e fine) x y hx)
       (Iff.trans (subst (λ n. Linked n x y) acts, subst (λ n. Linked n x y) (sym acts))
-      (Iff.trans (act-pieces S.good op ((judge-legal S k e).0 fine) (away x hx) (away y hy))
-      (Iff.symm (same-piece S x y (offEdge-was (live D past) (dart op) x (was x hx))))))
+      (Iff.trans (act_pieces S.good op ((judge_legal S k e).0 fine) (away x hx) (away y hy))
+      (Iff.symm (same_piece_lem S x y (off_edge_was (live D past) (dart op) x (was x hx))))))
     where
       op : Op
       op = op_of k (2 * e)
 
-      acts : mapOf D (operate k D t past e) (number k (lead k t e) ∷ past) ≡ act (mapOf D t past) op
-      acts = operate-acts S k e fine
+      acts : map_of D (operate k D t past e) (number k (lead k t e) ∷ past) ≡ act (map_of D t past) op
+      acts = operate_acts S k e fine
 
-      was : (x : ℕ) → T (live D (number k (lead k t e) ∷ past) x) → T (offEdge (live D past) (dart op) x)
+      was : (x : ℕ) → T (live D (number k (lead k t e) ∷ past) x) → T (off_edge (live D past) (dart op) x)
       was x h = subst (λ m. T (m.live x)) acts h
 
       away : (x : ℕ) → T (live D (number k (lead k t e) ∷ past) x) → ¬ End (dart op) x
-      away x h = offEdge-not-end (live D past) (was x h)
+      away x h = off_edge_not_end (live D past) (was x h)

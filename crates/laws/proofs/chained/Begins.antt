@@ -2,8 +2,8 @@
 --   Started D t h w a           == a leaves the base of D darts that the table t holds
 --   FromFile b t h w a          == a leaves what the bytes b mean
 --   start_left, read_left       == where start and read answer 0, they leave this
---   start-accepts, read-accepts == they answer 0 on a base lent with room, and on bytes that mean something
---   entry-front                 == the first D entries of a lent table
+--   start_accepts, read_accepts == they answer 0 on a base lent with room, and on bytes that mean something
+--   entry_front                 == the first D entries of a lent table
 use mathlib.Core.Bool.{Bool}
 use mathlib.Core.List.{List, []}
 use mathlib.Core.Path.{◌≡◌, refl, sym, ap, ap₂, ◌∙◌, subst}
@@ -13,49 +13,49 @@ use native.Mathlib.Omega.{arith}
 use lib.Dec.{T}
 use lib.ListN.{length, take}
 use lib.Seq.{get_or-take, length-take-le, take-take}
-use Rattle.permutations.specs.Choice.{eqb_same, eqb-other}
+use Rattle.permutations.specs.Choice.{eqb_same, eqb_other}
 use Rattle.darts.specs.Answers.{done}
-use Rattle.darts.specs.Map.{successor, Verdict, permutes, culprits, permutationTest}
-use Rattle.darts.specs.State.{State, baseState}
-use Rattle.darts.specs.Pyramid.{dartCount, build}
-use Rattle.darts.specs.Read.{fileState, Read, means, faulty, readFile}
-use Rattle.darts.specs.Calls.{After, leaves, cleared, room, fitting, table_of, past_of, begins, start, readInto, read}
-use Rattle.laws.proofs.runs.Pyramids.{built-pyramid}
-use Rattle.laws.proofs.claims.Decided.{pyramid-decided}
+use Rattle.darts.specs.Map.{successor, Verdict, permutes, culprits, permutation_test}
+use Rattle.darts.specs.State.{State, base_state}
+use Rattle.darts.specs.Pyramid.{dart_count, build}
+use Rattle.darts.specs.Read.{file_state, Read, means, faulty, read_file}
+use Rattle.darts.specs.Calls.{After, leaves, cleared, room, fitting, table_of, past_of, begins, start, read_into, read}
+use Rattle.laws.proofs.runs.Pyramids.{built_pyramid}
+use Rattle.laws.proofs.claims.Decided.{pyramid_decided}
 use Rattle.laws.proofs.file.Meanings.{meaning}
-use Rattle.darts.proofs.Fitting.{Count, Lengths, count-facts, count-test, room-facts, fine, fits}
-use Rattle.laws.proofs.bridge.Verdicts.{test-same}
-use Rattle.laws.proofs.calls.Cleared.{cleared-zero, cleared-rest, cleared-length}
-use Rattle.laws.proofs.chained.OnLent.{Left, laid_table, laid-past, laid-left}
-use Rattle.laws.proofs.chained.Faults.{Meant, file-told}
+use Rattle.darts.proofs.Fitting.{Count, Lengths, count_facts, count_test, room_facts, fine, fits}
+use Rattle.laws.proofs.bridge.Verdicts.{test_same}
+use Rattle.laws.proofs.calls.Cleared.{cleared_zero, cleared_rest, cleared_length}
+use Rattle.laws.proofs.chained.OnLent.{Left, laid_table, laid_past, laid_left}
+use Rattle.laws.proofs.chained.Faults.{Meant, file_told}
 
 -- ---- a base in the first D numbers of a table
 
 module _ (D : ℕ) (t : List ℕ) where
-  pub entry-front : (d : ℕ) → suc d ≤ D → successor (take D t) d ≡ successor t d
+  pub entry_front : (d : ℕ) → suc d ≤ D → successor (take D t) d ≡ successor t d
   unfolding successor
-  entry-front d h = get_or-take D t d 0 h
+  entry_front d h = get_or-take D t d 0 h
 
-  base-front : permutationTest D (take D t) ≡ permutationTest D t
-  base-front = test-same D (take D t) t (take-take D D t (omega arith))
+  base_front : permutation_test D (take D t) ≡ permutation_test D t
+  base_front = test_same D (take D t) t (take-take D D t (omega arith))
 
 -- ---- start
 
 pub record Started (D : ℕ) (t h w : List ℕ) (a : After) : Type 0 where
-  pub state : a.state ≡ baseState D (take D t)
+  pub state : a.state ≡ base_state D (take D t)
   pub table : a.table ≡ t
   pub history : a.history ≡ h
   pub left : Left D t h w a
-  pub count : T (dartCount D)
+  pub count : T (dart_count D)
   pub lengths : Lengths D (length t) (length h) (length w)
-  pub permutation : permutationTest D (take D t) ≡ permutes
+  pub permutation : permutation_test D (take D t) ≡ permutes
 
 module _ (D : ℕ) (t h w : List ℕ) where
-  begun : Count D → Lengths D (length t) (length h) (length w) → permutationTest D t ≡ permutes → Started D t h w (leaves done (baseState D (take D t)) t h (cleared D w))
+  begun : Count D → Lengths D (length t) (length h) (length w) → permutation_test D t ≡ permutes → Started D t h w (leaves done (base_state D (take D t)) t h (cleared D w))
   unfolding build table_of past_of
   begun C L b =
-      let count = count-test D C in
-      let permutation = base-front D t ∙ b in
+      let count = count_test D C in
+      let permutation = base_front D t ∙ b in
       record {
         state = refl;
         table = refl;
@@ -64,13 +64,13 @@ module _ (D : ℕ) (t h w : List ℕ) where
           answer = refl;
           darts = refl;
           lent = record {
-            pyramid = built-pyramid D (take D t) count (length-take-le D t L.table) permutation [] refl;
-            lengths = record { table = L.table; history = L.history; work = rw (cleared-length D w L.work) L.work };
+            pyramid = built_pyramid D (take D t) count (length-take-le D t L.table) permutation [] refl;
+            lengths = record { table = L.table; history = L.history; work = rw (cleared_length D w L.work) L.work };
           };
           table = refl;
           history = refl;
-          zeros = cleared-zero D w;
-          work = cleared-rest D w;
+          zeros = cleared_zero D w;
+          work = cleared_rest D w;
         };
         count = count;
         lengths = L;
@@ -83,48 +83,48 @@ module _ (D : ℕ) (t h w : List ℕ) where
   start_left e = go (ℕ_discrete (fitting D (length t) (length h) (length w)).number 0)
     where
       go : Dec ((fitting D (length t) (length h) (length w)).number ≡ 0) → Started D t h w (start D t h w)
-      go (no n) = absurd (n (rw (eqb-other n) at e))
-      go (yes f) = said (permutationTest D t) refl
+      go (no n) = absurd (n (rw (eqb_other n) at e))
+      go (yes f) = said (permutation_test D t) refl
         where
-          said : (v : Verdict) → permutationTest D t ≡ v → Started D t h w (start D t h w)
+          said : (v : Verdict) → permutation_test D t ≡ v → Started D t h w (start D t h w)
           said (culprits d c) k = absurd (let z : 3 ≡ 0 = rw (eqb_same f, k) at e in omega arith)
           said permutes k =
               let F = fits D (length t) (length h) (length w) f in
               rw (eqb_same f, k) (begun F.count F.lengths k)
 
   -- START ANSWERS 0 ON A BASE LENT WITH ROOM
-  pub start-accepts : T (dartCount D) → Lengths D (length t) (length h) (length w) → permutationTest D (take D t) ≡ permutes → (start D t h w).answer.number ≡ 0
+  pub start_accepts : T (dart_count D) → Lengths D (length t) (length h) (length w) → permutation_test D (take D t) ≡ permutes → (start D t h w).answer.number ≡ 0
   unfolding start begins
-  start-accepts C L b =
-      let all : permutationTest D t ≡ permutes = sym (base-front D t) ∙ b in
-      rw (← fine D (length t) (length h) (length w) (count-facts D C) L, all)
+  start_accepts C L b =
+      let all : permutation_test D t ≡ permutes = sym (base_front D t) ∙ b in
+      rw (← fine D (length t) (length h) (length w) (count_facts D C) L, all)
 
 -- ---- read
 
 pub record FromFile (b t h w : List ℕ) (a : After) : Type 0 where
   -- the bytes mean this state, this table and this past
-  pub meant : readFile (room (length t) (length h) (length w)) b ≡ means a.state (table_of a.state a.table) (past_of a.state a.history)
+  pub meant : read_file (room (length t) (length h) (length w)) b ≡ means a.state (table_of a.state a.table) (past_of a.state a.history)
   pub left : Left a.state.darts t h w a
 
 -- WHERE READ ANSWERS 0, IT LEAVES WHAT THE BYTES MEAN, A PYRAMID LENT WITH ROOM
 pub read_left : (b t h w : List ℕ) → (read b t h w).answer.number ≡ 0 → FromFile b t h w (read b t h w)
-unfolding read readInto fileState
-read_left b t h w e = go (readFile has b) refl (file-told has b) e
+unfolding read read_into file_state
+read_left b t h w e = go (read_file has b) refl (file_told has b) e
   where
     has : ℕ → Bool
     has = room (length t) (length h) (length w)
 
-    go : (r : Read) → readFile has b ≡ r → Meant r → (readInto t h w r).answer.number ≡ 0 → FromFile b t h w (readInto t h w r)
+    go : (r : Read) → read_file has b ≡ r → Meant r → (read_into t h w r).answer.number ≡ 0 → FromFile b t h w (read_into t h w r)
     go (faulty D a) k m e = absurd (m e)
     go (means s u past) k m e =
         let M = meaning has b k in
-        let P = (pyramid-decided s u past).0 M.pyramid in
+        let P = (pyramid_decided s u past).0 M.pyramid in
         let same : M.darts ≡ s.darts = sym (ap (λ (s : State). s.darts) M.state) in
-        let L = subst (λ (D : ℕ). Lengths D (length t) (length h) (length w)) same (room-facts (length t) (length h) (length w) M.darts M.fits) in
-        record { meant = k ∙ sym (ap₂ (means s) (laid_table P t h w L) (laid-past P t h w L)); left = laid-left P t h w L }
+        let L = subst (λ (D : ℕ). Lengths D (length t) (length h) (length w)) same (room_facts (length t) (length h) (length w) M.darts M.fits) in
+        record { meant = k ∙ sym (ap₂ (means s) (laid_table P t h w L) (laid_past P t h w L)); left = laid_left P t h w L }
 
 -- what the bytes mean, read hands back
-pub read-accepts : (b t h w : List ℕ) {s : State} {u past : List ℕ} → readFile (room (length t) (length h) (length w)) b ≡ means s u past
+pub read_accepts : (b t h w : List ℕ) {s : State} {u past : List ℕ} → read_file (room (length t) (length h) (length w)) b ≡ means s u past
     → (read b t h w).answer.number ≡ 0
-unfolding read readInto
-read-accepts b t h w e = ap (λ (r : Read). (readInto t h w r).answer.number) e
+unfolding read read_into
+read_accepts b t h w e = ap (λ (r : Read). (read_into t h w r).answer.number) e

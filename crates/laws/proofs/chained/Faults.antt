@@ -1,7 +1,7 @@
 -- The reader's refusals have numbers: none of them is 0.
 --   Told r    == the scan r finds something, or its fault has a number other than 0
 --   Meant r   == the same of a file's meaning
---   file-told == a file means something, or it is refused with a number other than 0
+--   file_told == a file means something, or it is refused with a number other than 0
 use mathlib.Core.Bool.{Bool, true, false, not}
 use mathlib.Core.List.{List, [], ◌∷◌}
 use mathlib.Core.Logic.{◌≢◌}
@@ -11,11 +11,11 @@ use lib.Dec.{eqb, ltb}
 use lib.ListN.{length}
 use Rattle.permutations.specs.Choice.{pick}
 use Rattle.darts.specs.Operation.{Kind, contraction, removal}
-use Rattle.darts.specs.Pyramid.{dartCount, isPyramid}
+use Rattle.darts.specs.Pyramid.{dart_count, is_pyramid}
 use Rattle.darts.specs.Text.{bytes}
-use Rattle.darts.specs.File.{lineFeed, kindWord}
-use Rattle.darts.specs.Scan.{Scan, found, fault, after, byteAt, word, isDigit, numberOn, number_at, field}
-use Rattle.darts.specs.Read.{Opening, Body, Read, means, faulty, flagAt, opening, kernelOfKind, kernelAt, kernelsAt, pairsAt, end_at, body, fileState, closed, opened, readFile}
+use Rattle.darts.specs.File.{line_feed, kind_word}
+use Rattle.darts.specs.Scan.{Scan, found, fault, after, byte_at, word, is_digit, number_on, number_at, field}
+use Rattle.darts.specs.Read.{Opening, Body, Read, means, faulty, flag_at, opening, kernel_of_kind, kernel_at, kernels_at, pairs_at, end_at, body, file_state, closed, opened, read_file}
 
 abbrev Told : {A : Type 0} → Scan A → Type 0
 Told (found a at) = Unit {0}
@@ -25,109 +25,109 @@ abbrev pub Meant : Read → Type 0
 Meant (means s t past) = Unit {0}
 Meant (faulty D a) = a.number ≢ 0
 
-told-if : {A : Type 0} (b : Bool) (x y : Scan A) → Told x → Told y → Told (pick b x y)
-told-if true x y h k = h
-told-if false x y h k = k
+told_if : {A : Type 0} (b : Bool) (x y : Scan A) → Told x → Told y → Told (pick b x y)
+told_if true x y h k = h
+told_if false x y h k = k
 
-told-after : {A B : Type 0} (r : Scan A) (f : A → ℕ → Scan B) → Told r → ((a : A) (at : ℕ) → Told (f a at)) → Told (after r f)
-told-after (found a at) f h k = k a at
-told-after (fault x) f h k = h
+told_after : {A B : Type 0} (r : Scan A) (f : A → ℕ → Scan B) → Told r → ((a : A) (at : ℕ) → Told (f a at)) → Told (after r f)
+told_after (found a at) f h k = k a at
+told_after (fault x) f h k = h
 
-meant-if : (b : Bool) (x y : Read) → Meant x → Meant y → Meant (pick b x y)
-meant-if true x y h k = h
-meant-if false x y h k = k
+meant_if : (b : Bool) (x y : Read) → Meant x → Meant y → Meant (pick b x y)
+meant_if true x y h k = h
+meant_if false x y h k = k
 
 -- ---- words and numbers
 
-word-told : (w b : List ℕ) (at : ℕ) → Told (word w b at)
+word_told : (w b : List ℕ) (at : ℕ) → Told (word w b at)
 unfolding word
-word-told [] b at = tt
-word-told (c ∷ w) b at = told-if (eqb (byteAt b at) c) _ _ (word-told w b (suc at)) (λ z. omega arith)
+word_told [] b at = tt
+word_told (c ∷ w) b at = told_if (eqb (byte_at b at) c) _ _ (word_told w b (suc at)) (λ z. omega arith)
 
-number-on-told : (n : ℕ) (b : List ℕ) (at x : ℕ) → Told (numberOn n b at x)
-unfolding numberOn
-number-on-told zero b at x = tt
-number-on-told (suc n) b at x = told-if (isDigit (byteAt b at)) _ _ (number-on-told n b (suc at) (10 * x + (byteAt b at - 48))) tt
+number_on_told : (n : ℕ) (b : List ℕ) (at x : ℕ) → Told (number_on n b at x)
+unfolding number_on
+number_on_told zero b at x = tt
+number_on_told (suc n) b at x = told_if (is_digit (byte_at b at)) _ _ (number_on_told n b (suc at) (10 * x + (byte_at b at - 48))) tt
 
-number-told : (b : List ℕ) (at : ℕ) → Told (number_at b at)
+number_told : (b : List ℕ) (at : ℕ) → Told (number_at b at)
 unfolding number_at
-number-told b at =
-    told-if (eqb (byteAt b at) 48) _ _ tt (told-if (isDigit (byteAt b at)) _ _ (number-on-told 5 b at 0) (λ z. omega arith))
+number_told b at =
+    told_if (eqb (byte_at b at) 48) _ _ tt (told_if (is_digit (byte_at b at)) _ _ (number_on_told 5 b at 0) (λ z. omega arith))
 
 field_told : (w end b : List ℕ) (at : ℕ) → Told (field w end b at)
 unfolding field
 field_told w end b at =
-    told-after (word w b at) _ (word-told w b at)
-    (λ _ at. told-after (number_at b at) _ (number-told b at) (λ x at. told-after (word end b at) _ (word-told end b at) (λ _ at. tt)))
+    told_after (word w b at) _ (word_told w b at)
+    (λ _ at. told_after (number_at b at) _ (number_told b at) (λ x at. told_after (word end b at) _ (word_told end b at) (λ _ at. tt)))
 
 -- ---- lines
 
-flag-told : (b : List ℕ) (at : ℕ) → Told (flagAt b at)
-unfolding flagAt
-flag-told b at =
-    told-if (eqb (byteAt b at) 48) _ _ tt
-    (told-if (eqb (byteAt b at) 49) _ _ tt (told-if (eqb (byteAt b at) 256) _ _ (λ z. omega arith) (λ z. omega arith)))
+flag_told : (b : List ℕ) (at : ℕ) → Told (flag_at b at)
+unfolding flag_at
+flag_told b at =
+    told_if (eqb (byte_at b at) 48) _ _ tt
+    (told_if (eqb (byte_at b at) 49) _ _ tt (told_if (eqb (byte_at b at) 256) _ _ (λ z. omega arith) (λ z. omega arith)))
 
-opening-told : (b : List ℕ) → Told (opening b)
+opening_told : (b : List ℕ) → Told (opening b)
 unfolding opening
-opening-told b =
-    told-after (word (bytes "numbers=") b 0) _ (word-told (bytes "numbers=") b 0)
-    (λ _ at. told-after (flagAt b at) _ (flag-told b at)
-    (λ F at. told-after (word lineFeed b at) _ (word-told lineFeed b at)
-    (λ _ at. told-after (field (bytes "darts=") lineFeed b at) _ (field_told (bytes "darts=") lineFeed b at) (λ D at. tt))))
+opening_told b =
+    told_after (word (bytes "numbers=") b 0) _ (word_told (bytes "numbers=") b 0)
+    (λ _ at. told_after (flag_at b at) _ (flag_told b at)
+    (λ F at. told_after (word line_feed b at) _ (word_told line_feed b at)
+    (λ _ at. told_after (field (bytes "darts=") line_feed b at) _ (field_told (bytes "darts=") line_feed b at) (λ D at. tt))))
 
-kind-told : (k : Kind) (b : List ℕ) (at : ℕ) → Told (kernelOfKind k b at)
-unfolding kernelOfKind
-kind-told k b at =
-    told-after (field (kindWord k) lineFeed b at) _ (field_told (kindWord k) lineFeed b at) (λ n at. told-if (eqb n 0) _ _ (λ z. omega arith) tt)
+kind_told : (k : Kind) (b : List ℕ) (at : ℕ) → Told (kernel_of_kind k b at)
+unfolding kernel_of_kind
+kind_told k b at =
+    told_after (field (kind_word k) line_feed b at) _ (field_told (kind_word k) line_feed b at) (λ n at. told_if (eqb n 0) _ _ (λ z. omega arith) tt)
 
-kernel-told : (b : List ℕ) (at : ℕ) → Told (kernelAt b at)
-unfolding kernelAt
-kernel-told b at =
-    told-after (word (bytes "kernel=") b at) _ (word-told (bytes "kernel=") b at)
-    (λ _ at. told-if (eqb (byteAt b at) 99) _ _ (kind-told contraction b at) (kind-told removal b at))
+kernel_told : (b : List ℕ) (at : ℕ) → Told (kernel_at b at)
+unfolding kernel_at
+kernel_told b at =
+    told_after (word (bytes "kernel=") b at) _ (word_told (bytes "kernel=") b at)
+    (λ _ at. told_if (eqb (byte_at b at) 99) _ _ (kind_told contraction b at) (kind_told removal b at))
 
-kernels-told : (n : ℕ) (b : List ℕ) (at : ℕ) → Told (kernelsAt n b at)
-unfolding kernelsAt
-kernels-told zero b at = tt
-kernels-told (suc n) b at =
-    told-after (kernelAt b at) _ (kernel-told b at) (λ k at. told-after (kernelsAt n b at) _ (kernels-told n b at) (λ ks at. tt))
+kernels_told : (n : ℕ) (b : List ℕ) (at : ℕ) → Told (kernels_at n b at)
+unfolding kernels_at
+kernels_told zero b at = tt
+kernels_told (suc n) b at =
+    told_after (kernel_at b at) _ (kernel_told b at) (λ k at. told_after (kernels_at n b at) _ (kernels_told n b at) (λ ks at. tt))
 
-pairs-told : (n : ℕ) (b : List ℕ) (at : ℕ) → Told (pairsAt n b at)
-unfolding pairsAt
-pairs-told zero b at = tt
-pairs-told (suc n) b at =
-    told-after (field (bytes "pair=") (bytes " ") b at) _ (field_told (bytes "pair=") (bytes " ") b at)
-    (λ x at. told-after (field [] lineFeed b at) _ (field_told [] lineFeed b at)
-    (λ y at. told-after (pairsAt n b at) _ (pairs-told n b at) (λ rest at. tt)))
+pairs_told : (n : ℕ) (b : List ℕ) (at : ℕ) → Told (pairs_at n b at)
+unfolding pairs_at
+pairs_told zero b at = tt
+pairs_told (suc n) b at =
+    told_after (field (bytes "pair=") (bytes " ") b at) _ (field_told (bytes "pair=") (bytes " ") b at)
+    (λ x at. told_after (field [] line_feed b at) _ (field_told [] line_feed b at)
+    (λ y at. told_after (pairs_at n b at) _ (pairs_told n b at) (λ rest at. tt)))
 
 -- ---- the whole file
 
-end-told : (c : Body) (b : List ℕ) (at : ℕ) → Told (end_at c b at)
+end_told : (c : Body) (b : List ℕ) (at : ℕ) → Told (end_at c b at)
 unfolding end_at
-end-told c b at = told-if (eqb at (length b)) _ _ tt (λ z. omega arith)
+end_told c b at = told_if (eqb at (length b)) _ _ tt (λ z. omega arith)
 
-body-told : (D : ℕ) (b : List ℕ) (at : ℕ) → Told (body D b at)
+body_told : (D : ℕ) (b : List ℕ) (at : ℕ) → Told (body D b at)
 unfolding body
-body-told D b at =
-    told-after (field (bytes "levels=") lineFeed b at) _ (field_told (bytes "levels=") lineFeed b at)
-    (λ L at. told-if (ltb 64 L) _ _ (λ z. omega arith)
-    (told-after (kernelsAt L b at) _ (kernels-told L b at)
-    (λ ks at. told-after (pairsAt (D / 2) b at) _ (pairs-told (D / 2) b at) (λ xs at. end-told _ b at))))
+body_told D b at =
+    told_after (field (bytes "levels=") line_feed b at) _ (field_told (bytes "levels=") line_feed b at)
+    (λ L at. told_if (ltb 64 L) _ _ (λ z. omega arith)
+    (told_after (kernels_at L b at) _ (kernels_told L b at)
+    (λ ks at. told_after (pairs_at (D / 2) b at) _ (pairs_told (D / 2) b at) (λ xs at. end_told _ b at))))
 
-closed-told : (o : Opening) (r : Scan Body) → Told r → Meant (closed o r)
+closed_told : (o : Opening) (r : Scan Body) → Told r → Meant (closed o r)
 unfolding closed
-closed-told o (fault a) h = h
-closed-told o (found c at) h = meant-if (isPyramid (fileState o.darts c.kernels _ _) _ _) _ _ tt (λ z. omega arith)
+closed_told o (fault a) h = h
+closed_told o (found c at) h = meant_if (is_pyramid (file_state o.darts c.kernels _ _) _ _) _ _ tt (λ z. omega arith)
 
-opened-told : (room : ℕ → Bool) (b : List ℕ) (r : Scan Opening) → Told r → Meant (opened room b r)
+opened_told : (room : ℕ → Bool) (b : List ℕ) (r : Scan Opening) → Told r → Meant (opened room b r)
 unfolding opened
-opened-told room b (fault a) h = h
-opened-told room b (found o at) h =
-    meant-if (not (dartCount o.darts)) _ _ (λ z. omega arith)
-    (meant-if (not (room o.darts)) _ _ (λ z. omega arith) (closed-told o (body o.darts b at) (body-told o.darts b at)))
+opened_told room b (fault a) h = h
+opened_told room b (found o at) h =
+    meant_if (not (dart_count o.darts)) _ _ (λ z. omega arith)
+    (meant_if (not (room o.darts)) _ _ (λ z. omega arith) (closed_told o (body o.darts b at) (body_told o.darts b at)))
 
 -- A FILE MEANS SOMETHING, OR IT IS REFUSED WITH A NUMBER OTHER THAN 0
-pub file-told : (room : ℕ → Bool) (b : List ℕ) → Meant (readFile room b)
-unfolding readFile
-file-told room b = opened-told room b (opening b) (opening-told b)
+pub file_told : (room : ℕ → Bool) (b : List ℕ) → Meant (read_file room b)
+unfolding read_file
+file_told room b = opened_told room b (opening b) (opening_told b)

@@ -2,9 +2,9 @@
 --   Left D t h w a       == a is done: it leaves a pyramid of D darts, lent with room, and the slices t, h and w past it as they were, the work area cleared
 --   Accepted f s t h w a == and it is what the step f gives of the pyramid s, t, h, lent with room
 --   Call                 == a call on a state: a kernel, the sweep, undo, unfold; `called` is the call, `step_of` its step
---   callOn c a           == the call c on what a leaves
---   on-accepts           == what its step accepts of a pyramid lent with room, a call accepts
---   on-left, called-left == where a call answers 0, it was so, and what it leaves is accepted
+--   call_on c a           == the call c on what a leaves
+--   on_accepts           == what its step accepts of a pyramid lent with room, a call accepts
+--   on_left, called_left == where a call answers 0, it was so, and what it leaves is accepted
 use mathlib.Core.List.{List, reverse, reverse-reverse}
 use mathlib.Core.Logic.{◌≢◌}
 use mathlib.Core.Path.{◌≡◌, refl, sym, ap, ap₂, ◌∙◌, subst}
@@ -13,17 +13,17 @@ use native.Mathlib.Omega.{arith}
 use lib.ListN.{length, take, drop, replicate, length-reverse}
 use Rattle.darts.specs.Answers.{Answer, answered, done}
 use Rattle.darts.specs.State.{State, Result, gives, refuses, reduce}
-use Rattle.darts.specs.Levels.{sweep, undoLevel, unfoldTo}
+use Rattle.darts.specs.Levels.{sweep, undo_level, unfold_to}
 use Rattle.darts.specs.Pyramid.{Kernel, Pyramid}
-use Rattle.darts.specs.Calls.{After, leaves, table_of, past_of, cleared, judged, handsBack, onState, reduceBy, sweepBy, undoBy, unfoldBy}
+use Rattle.darts.specs.Calls.{After, leaves, table_of, past_of, cleared, judged, hands_back, on_state, reduce_by, sweep_by, undo_by, unfold_by}
 use Rattle.slices.specs.Over.{over}
-use Rattle.laws.proofs.tests.Passes.{pyramid-shaped}
-use Rattle.laws.proofs.tests.Room.{pyramid-room}
+use Rattle.laws.proofs.tests.Passes.{pyramid_shaped}
+use Rattle.laws.proofs.tests.Room.{pyramid_room}
 use Rattle.darts.proofs.Fitting.{Lengths}
-use Rattle.slices.proofs.Over.{over-front, over-rest, over-length}
-use Rattle.laws.proofs.calls.Cleared.{cleared-zero, cleared-rest, cleared-length}
-use Rattle.laws.proofs.calls.Judging.{Lent, Judging, uncounted, cramped, other, lent, judging, on-refused, on-lent}
-use Rattle.laws.proofs.chained.Steps.{Step, Leads, reduce-leads, sweep-leads, undo-leads, unfold-leads}
+use Rattle.slices.proofs.Over.{over_front, over_rest, over_length}
+use Rattle.laws.proofs.calls.Cleared.{cleared_zero, cleared_rest, cleared_length}
+use Rattle.laws.proofs.calls.Judging.{Lent, Judging, uncounted, cramped, other, lent, judging, on_refused, on_lent}
+use Rattle.laws.proofs.chained.Steps.{Step, Leads, reduce_leads, sweep_leads, undo_leads, unfold_leads}
 use Rattle.laws.proofs.runs.Earnest.{Earnest}
 
 pub record Left (D : ℕ) (t h w : List ℕ) (a : After) : Type 0 where
@@ -49,93 +49,93 @@ abbrev laid : State → List ℕ → List ℕ → List ℕ → List ℕ → List
 laid z u new t h w = leaves done z (over u t) (over (reverse new) h) (cleared z.darts w)
 
 module _ {z : State} {u new : List ℕ} (P : Pyramid z u new) where
-  table-size : length u ≡ z.darts
-  table-size = (pyramid-shaped P).sound.standing.size
+  table_size : length u ≡ z.darts
+  table_size = (pyramid_shaped P).sound.standing.size
 
-  history-size : length (reverse new) ≡ z.operations
-  history-size = length-reverse new ∙ sym (pyramid-shaped P).layered.count
+  history_size : length (reverse new) ≡ z.operations
+  history_size = length-reverse new ∙ sym (pyramid_shaped P).layered.count
 
   module _ (t h w : List ℕ) (L : Lengths z.darts (length t) (length h) (length w)) where
     pub laid_table : table_of z (laid z u new t h w).table ≡ u
     unfolding table_of
-    laid_table = ap (λ (n : ℕ). take n (over u t)) (sym table-size) ∙ over-front u t
+    laid_table = ap (λ (n : ℕ). take n (over u t)) (sym table_size) ∙ over_front u t
 
-    pub laid-past : past_of z (laid z u new t h w).history ≡ new
+    pub laid_past : past_of z (laid z u new t h w).history ≡ new
     unfolding past_of
-    laid-past =
-        ap (λ (n : ℕ). reverse (take n (over (reverse new) h))) (sym history-size) ∙ ap reverse (over-front (reverse new) h) ∙ reverse-reverse new
+    laid_past =
+        ap (λ (n : ℕ). reverse (take n (over (reverse new) h))) (sym history_size) ∙ ap reverse (over_front (reverse new) h) ∙ reverse-reverse new
 
-    laid-lengths : Lengths z.darts (length (laid z u new t h w).table) (length (laid z u new t h w).history) (length (laid z u new t h w).work)
-    laid-lengths =
-        let size = table-size in
+    laid_lengths : Lengths z.darts (length (laid z u new t h w).table) (length (laid z u new t h w).history) (length (laid z u new t h w).work)
+    laid_lengths =
+        let size = table_size in
         let count = length-reverse new in
-        let most = pyramid-room P in
-        let table = over-length u t (omega arith) in
-        let history = over-length (reverse new) h (omega arith) in
-        let work = cleared-length z.darts w L.work in
+        let most = pyramid_room P in
+        let table = over_length u t (omega arith) in
+        let history = over_length (reverse new) h (omega arith) in
+        let work = cleared_length z.darts w L.work in
         record { table = omega arith; history = omega arith; work = omega arith }
 
-    pub laid-left : Left z.darts t h w (laid z u new t h w)
-    laid-left = record {
+    pub laid_left : Left z.darts t h w (laid z u new t h w)
+    laid_left = record {
       answer = refl;
       darts = refl;
-      lent = record { pyramid = rw (laid_table, laid-past) P; lengths = laid-lengths };
-      table = ap (λ (n : ℕ). drop n (over u t)) (sym table-size) ∙ over-rest u t ∙ ap (λ (n : ℕ). drop n t) table-size;
+      lent = record { pyramid = rw (laid_table, laid_past) P; lengths = laid_lengths };
+      table = ap (λ (n : ℕ). drop n (over u t)) (sym table_size) ∙ over_rest u t ∙ ap (λ (n : ℕ). drop n t) table_size;
       history =
-          ap (λ (n : ℕ). drop n (over (reverse new) h)) (sym history-size) ∙ over-rest (reverse new) h ∙ ap (λ (n : ℕ). drop n h) history-size;
-      zeros = cleared-zero z.darts w;
-      work = cleared-rest z.darts w;
+          ap (λ (n : ℕ). drop n (over (reverse new) h)) (sym history_size) ∙ over_rest (reverse new) h ∙ ap (λ (n : ℕ). drop n h) history_size;
+      zeros = cleared_zero z.darts w;
+      work = cleared_rest z.darts w;
     }
 
 -- ---- a call on a state, by its step
 
 module _ (f : Step) (s : State) (t h w : List ℕ) where
-  pub on-gives : Lent s t h w → {z : State} {u new : List ℕ} → f s (table_of s t) (past_of s h) ≡ gives z u new
-      → onState f s t h w ≡ leaves done z (over u t) (over (reverse new) h) (cleared s.darts w)
-  unfolding handsBack
-  on-gives L e = on-lent s t h w f L ∙ ap (handsBack s t h w) e
+  pub on_gives : Lent s t h w → {z : State} {u new : List ℕ} → f s (table_of s t) (past_of s h) ≡ gives z u new
+      → on_state f s t h w ≡ leaves done z (over u t) (over (reverse new) h) (cleared s.darts w)
+  unfolding hands_back
+  on_gives L e = on_lent s t h w f L ∙ ap (hands_back s t h w) e
 
-  on-refuses : Lent s t h w → {a : Answer} → f s (table_of s t) (past_of s h) ≡ refuses a → (onState f s t h w).answer ≡ a
-  unfolding handsBack
-  on-refuses L e = ap (λ (x : After). x.answer) (on-lent s t h w f L ∙ ap (handsBack s t h w) e)
+  on_refuses : Lent s t h w → {a : Answer} → f s (table_of s t) (past_of s h) ≡ refuses a → (on_state f s t h w).answer ≡ a
+  unfolding hands_back
+  on_refuses L e = ap (λ (x : After). x.answer) (on_lent s t h w f L ∙ ap (hands_back s t h w) e)
 
-  judged-answer : (judged s t h w).number ≢ 0 → (onState f s t h w).answer ≡ judged s t h w
-  unfolding handsBack
-  judged-answer n = ap (λ (x : After). x.answer) (on-refused s t h w f n)
+  judged_answer : (judged s t h w).number ≢ 0 → (on_state f s t h w).answer ≡ judged s t h w
+  unfolding hands_back
+  judged_answer n = ap (λ (x : After). x.answer) (on_refused s t h w f n)
 
   -- WHAT ITS STEP ACCEPTS OF A PYRAMID LENT WITH ROOM, A CALL ACCEPTS
-  pub on-accepts : Lent s t h w → {z : State} {u new : List ℕ} → f s (table_of s t) (past_of s h) ≡ gives z u new → (onState f s t h w).answer.number ≡ 0
-  on-accepts L e = ap (λ (x : After). x.answer.number) (on-gives L e)
+  pub on_accepts : Lent s t h w → {z : State} {u new : List ℕ} → f s (table_of s t) (past_of s h) ≡ gives z u new → (on_state f s t h w).answer.number ≡ 0
+  on_accepts L e = ap (λ (x : After). x.answer.number) (on_gives L e)
 
   module _ (A : Leads f) where
-    given-accepted : Lent s t h w → {z : State} {u new : List ℕ} → f s (table_of s t) (past_of s h) ≡ gives z u new
-        → Accepted f s t h w (onState f s t h w)
-    given-accepted L {z} {u} {new} e =
+    given_accepted : Lent s t h w → {z : State} {u new : List ℕ} → f s (table_of s t) (past_of s h) ≡ gives z u new
+        → Accepted f s t h w (on_state f s t h w)
+    given_accepted L {z} {u} {new} e =
         let same = A.darts e in
         let P = A.pyramid L.pyramid e in
         let room = subst (λ (D : ℕ). Lengths D (length t) (length h) (length w)) (sym same) L.lengths in
-        let is : onState f s t h w ≡ laid z u new t h w =
-        on-gives L e ∙ ap (λ (D : ℕ). leaves done z (over u t) (over (reverse new) h) (cleared D w)) (sym same) in
+        let is : on_state f s t h w ≡ laid z u new t h w =
+        on_gives L e ∙ ap (λ (D : ℕ). leaves done z (over u t) (over (reverse new) h) (cleared D w)) (sym same) in
         subst (Accepted f s t h w) (sym is) (record {
           before = L;
-          gave = e ∙ sym (ap₂ (gives z) (laid_table P t h w room) (laid-past P t h w room));
-          left = subst (λ (D : ℕ). Left D t h w (laid z u new t h w)) same (laid-left P t h w room);
+          gave = e ∙ sym (ap₂ (gives z) (laid_table P t h w room) (laid_past P t h w room));
+          left = subst (λ (D : ℕ). Left D t h w (laid z u new t h w)) same (laid_left P t h w room);
         })
 
     -- WHERE A CALL ANSWERS 0, IT WAS MADE ON A PYRAMID LENT WITH ROOM, AND ITS STEP GAVE WHAT IS LEFT
-    pub on-left : (onState f s t h w).answer.number ≡ 0 → Accepted f s t h w (onState f s t h w)
-    on-left e = go (judging s t h w)
+    pub on_left : (on_state f s t h w).answer.number ≡ 0 → Accepted f s t h w (on_state f s t h w)
+    on_left e = go (judging s t h w)
       where
-        unjudged : {a : Answer} → judged s t h w ≡ a → a.number ≢ 0 → Accepted f s t h w (onState f s t h w)
+        unjudged : {a : Answer} → judged s t h w ≡ a → a.number ≢ 0 → Accepted f s t h w (on_state f s t h w)
         unjudged {a} j n =
             let k : (judged s t h w).number ≢ 0 = λ z. n (ap (λ (x : Answer). x.number) (sym j) ∙ z) in
-            absurd (k (sym (ap (λ (x : Answer). x.number) (judged-answer k)) ∙ e))
+            absurd (k (sym (ap (λ (x : Answer). x.number) (judged_answer k)) ∙ e))
 
-        stepped : Lent s t h w → (r : Result) → Earnest r → f s (table_of s t) (past_of s h) ≡ r → Accepted f s t h w (onState f s t h w)
-        stepped L (gives z u new) T g = given-accepted L g
-        stepped L (refuses a) T g = absurd (T (sym (ap (λ (x : Answer). x.number) (on-refuses L g)) ∙ e))
+        stepped : Lent s t h w → (r : Result) → Earnest r → f s (table_of s t) (past_of s h) ≡ r → Accepted f s t h w (on_state f s t h w)
+        stepped L (gives z u new) T g = given_accepted L g
+        stepped L (refuses a) T g = absurd (T (sym (ap (λ (x : Answer). x.number) (on_refuses L g)) ∙ e))
 
-        go : Judging s t h w → Accepted f s t h w (onState f s t h w)
+        go : Judging s t h w → Accepted f s t h w (on_state f s t h w)
         go (uncounted n j) = unjudged j (λ z. omega arith)
         go (cramped C n j) = unjudged j (λ z. omega arith)
         go (other C L n j) = unjudged j (λ z. omega arith)
@@ -144,43 +144,43 @@ module _ (f : Step) (s : State) (t h w : List ℕ) where
 -- ---- the four calls on a state
 
 pub data Call : Type 0 where
-  byKernel : Kernel → Call
-  bySweep byUndo : Call
-  toLevel : ℕ → Call
+  by_kernel : Kernel → Call
+  by_sweep by_undo : Call
+  to_level : ℕ → Call
 
 abbrev pub called : Call → State → List ℕ → List ℕ → List ℕ → After
-called (byKernel k) = reduceBy k.kind k.edges
-called bySweep = sweepBy
-called byUndo = undoBy
-called (toLevel k) = unfoldBy k
+called (by_kernel k) = reduce_by k.kind k.edges
+called by_sweep = sweep_by
+called by_undo = undo_by
+called (to_level k) = unfold_by k
 
 -- the call, on what another one left
-abbrev pub callOn : Call → After → After
-callOn c a = called c a.state a.table a.history a.work
+abbrev pub call_on : Call → After → After
+call_on c a = called c a.state a.table a.history a.work
 
 abbrev pub step_of : Call → Step
-step_of (byKernel k) = reduce k.kind k.edges
-step_of bySweep = sweep
-step_of byUndo = undoLevel
-step_of (toLevel k) = unfoldTo k
+step_of (by_kernel k) = reduce k.kind k.edges
+step_of by_sweep = sweep
+step_of by_undo = undo_level
+step_of (to_level k) = unfold_to k
 
 pub leads : (c : Call) → Leads (step_of c)
-leads (byKernel k) = reduce-leads k.kind k.edges
-leads bySweep = sweep-leads
-leads byUndo = undo-leads
-leads (toLevel k) = unfold-leads k
+leads (by_kernel k) = reduce_leads k.kind k.edges
+leads by_sweep = sweep_leads
+leads by_undo = undo_leads
+leads (to_level k) = unfold_leads k
 
-pub called_on : (c : Call) → called c ≡ onState (step_of c)
-unfolding reduceBy sweepBy undoBy unfoldBy
-called_on (byKernel k) = refl
-called_on bySweep = refl
-called_on byUndo = refl
-called_on (toLevel k) = refl
+pub called_on : (c : Call) → called c ≡ on_state (step_of c)
+unfolding reduce_by sweep_by undo_by unfold_by
+called_on (by_kernel k) = refl
+called_on by_sweep = refl
+called_on by_undo = refl
+called_on (to_level k) = refl
 
 module _ (c : Call) (s : State) (t h w : List ℕ) where
-  pub called-accepts : Lent s t h w → {z : State} {u new : List ℕ} → step_of c s (table_of s t) (past_of s h) ≡ gives z u new
+  pub called_accepts : Lent s t h w → {z : State} {u new : List ℕ} → step_of c s (table_of s t) (past_of s h) ≡ gives z u new
       → (called c s t h w).answer.number ≡ 0
-  called-accepts L e = rw (called_on c) (on-accepts (step_of c) s t h w L e)
+  called_accepts L e = rw (called_on c) (on_accepts (step_of c) s t h w L e)
 
-  pub called-left : (called c s t h w).answer.number ≡ 0 → Accepted (step_of c) s t h w (called c s t h w)
-  called-left = rw (called_on c) (on-left (step_of c) s t h w (leads c))
+  pub called_left : (called c s t h w).answer.number ≡ 0 → Accepted (step_of c) s t h w (called c s t h w)
+  called_left = rw (called_on c) (on_left (step_of c) s t h w (leads c))

@@ -2,8 +2,8 @@
 --   Meaning room b s t past          == the bytes b are the text of values in good form; these pass the tests for D, for the lent slices and for a pyramid; and
 --                                       they state s, t and past
 --   Closing o c end, closing         == what the body c, after the opening o, means: what it states where that is a pyramid, else 4
---   DartsJudged room b o at, darts-judged == what a file means after its opening o: 1, 2, or what its body tells
---   opened-uncounted, opened-cramped, opened-on == each of the three
+--   DartsJudged room b o at, darts_judged == what a file means after its opening o: 1, 2, or what its body tells
+--   opened_uncounted, opened_cramped, opened_on == each of the three
 --   Closed o r s t past              == the body r, after the opening o, states s, t and past, a pyramid
 --   verdict room D s t past          == what a file means that states these, in the order of the tests
 --   SameMeaning s t past s' t' past' == one state, one table, one past
@@ -14,14 +14,14 @@ use mathlib.Core.Path.{◌≡◌, refl, sym, ap, ap₂, ◌∙◌, subst₃}
 use Prim.Native.Nat.{ℕ, suc, ◌+◌, ◌-◌}
 use native.Mathlib.Omega.{arith}
 use lib.Dec.{T, eqb-suc-zero}
-use Rattle.permutations.specs.Choice.{T?, T→true, nT→false}
+use Rattle.permutations.specs.Choice.{T?, T→true, not_T→false}
 use Rattle.darts.specs.Choose.{if◌then◌else◌}
-use Rattle.darts.specs.Answers.{Answer, noDartCount, tooShort, noPyramid}
+use Rattle.darts.specs.Answers.{Answer, no_dart_count, too_short, no_pyramid}
 use Rattle.darts.specs.State.{State}
-use Rattle.darts.specs.Pyramid.{dartCount, isPyramid}
-use Rattle.darts.specs.Scan.{Scan, found, fault, byteAt}
-use Rattle.darts.specs.Read.{Opening, KernelLine, Body, opening, body, fromFlag, fileState, fileHistory, Read, means, faulty, closed, opened, readFile}
-use Rattle.laws.proofs.file.Texts.{GoodForm, text_of, text-scanned, scanned-text}
+use Rattle.darts.specs.Pyramid.{dart_count, is_pyramid}
+use Rattle.darts.specs.Scan.{Scan, found, fault, byte_at}
+use Rattle.darts.specs.Read.{Opening, KernelLine, Body, opening, body, from_flag, file_state, file_history, Read, means, faulty, closed, opened, read_file}
+use Rattle.laws.proofs.file.Texts.{GoodForm, text_of, text_scanned, scanned_text}
 
 pub record Meaning (room : ℕ → Bool) (b : List ℕ) (s : State) (t past : List ℕ) : Type 0 where
   pub flag : ℕ
@@ -30,12 +30,12 @@ pub record Meaning (room : ℕ → Bool) (b : List ℕ) (s : State) (t past : Li
   pub numbers : List ℕ
   pub form : GoodForm flag darts kernels numbers
   pub bytes : b ≡ text_of flag darts kernels numbers
-  pub count : T (dartCount darts)
+  pub count : T (dart_count darts)
   pub fits : T (room darts)
-  pub state : s ≡ fileState darts kernels t past
-  pub table : t ≡ map (fromFlag flag darts) numbers
-  pub history : past ≡ reverse (fileHistory kernels)
-  pub pyramid : T (isPyramid s t past)
+  pub state : s ≡ file_state darts kernels t past
+  pub table : t ≡ map (from_flag flag darts) numbers
+  pub history : past ≡ reverse (file_history kernels)
+  pub pyramid : T (is_pyramid s t past)
 
 -- ---- what a file states is judged after the last byte
 
@@ -46,46 +46,46 @@ record Closed (o : Opening) (r : Scan Body) (s : State) (t past : List ℕ) : Ty
   stated : Body
   end : ℕ
   holds : r ≡ found stated end
-  state : s ≡ fileState o.darts stated.kernels t past
-  table : t ≡ map (fromFlag o.flag o.darts) stated.numbers
-  history : past ≡ reverse (fileHistory stated.kernels)
-  pyramid : T (isPyramid s t past)
+  state : s ≡ file_state o.darts stated.kernels t past
+  table : t ≡ map (from_flag o.flag o.darts) stated.numbers
+  history : past ≡ reverse (file_history stated.kernels)
+  pyramid : T (is_pyramid s t past)
 
 -- "After the last byte: 4"
 pub data Closing (o : Opening) (c : Body) (end : ℕ) : Type 0 where
-  stands : (let t : List ℕ = map (fromFlag o.flag o.darts) c.numbers in let past : List ℕ = reverse (fileHistory c.kernels) in
-      let s : State = fileState o.darts c.kernels t past in T (isPyramid s t past) × (closed o (found c end) ≡ means s t past)) → Closing o c end
-  falls : closed o (found c end) ≡ faulty o.darts noPyramid → Closing o c end
+  stands : (let t : List ℕ = map (from_flag o.flag o.darts) c.numbers in let past : List ℕ = reverse (file_history c.kernels) in
+      let s : State = file_state o.darts c.kernels t past in T (is_pyramid s t past) × (closed o (found c end) ≡ means s t past)) → Closing o c end
+  falls : closed o (found c end) ≡ faulty o.darts no_pyramid → Closing o c end
 
 pub closing : (o : Opening) (c : Body) (end : ℕ) → Closing o c end
 unfolding closed
-closing o c end = go (T? (isPyramid s t past))
+closing o c end = go (T? (is_pyramid s t past))
   where
     t : List ℕ
-    t = map (fromFlag o.flag o.darts) c.numbers
+    t = map (from_flag o.flag o.darts) c.numbers
 
     past : List ℕ
-    past = reverse (fileHistory c.kernels)
+    past = reverse (file_history c.kernels)
 
     s : State
-    s = fileState o.darts c.kernels t past
+    s = file_state o.darts c.kernels t past
 
-    go : Dec (T (isPyramid s t past)) → Closing o c end
-    go (yes p) = stands (p, rw (T→true (isPyramid s t past) p))
-    go (no n) = falls (rw (nT→false (isPyramid s t past) n))
+    go : Dec (T (is_pyramid s t past)) → Closing o c end
+    go (yes p) = stands (p, rw (T→true (is_pyramid s t past) p))
+    go (no n) = falls (rw (not_T→false (is_pyramid s t past) n))
 
-means-closed : (o : Opening) (r : Scan Body) {s : State} {t past : List ℕ} → closed o r ≡ means s t past → Closed o r s t past
+means_closed : (o : Opening) (r : Scan Body) {s : State} {t past : List ℕ} → closed o r ≡ means s t past → Closed o r s t past
 unfolding closed
-means-closed o (fault a) e = absurd (faulty≢means e)
-means-closed o (found c end) {s} {t} {past} e = go (closing o c end)
+means_closed o (fault a) e = absurd (faulty≢means e)
+means_closed o (found c end) {s} {t} {past} e = go (closing o c end)
   where
     go : Closing o c end → Closed o (found c end) s t past
     go (stands (p, k)) =
         let given = sym k ∙ e in
-        let table : map (fromFlag o.flag o.darts) c.numbers ≡ t = cc in
-        let history : reverse (fileHistory c.kernels) ≡ past = cc in
-        let stated : fileState o.darts c.kernels (map (fromFlag o.flag o.darts) c.numbers) (reverse (fileHistory c.kernels)) ≡ s = cc in
-        let state : fileState o.darts c.kernels t past ≡ s = ap₂ (fileState o.darts c.kernels) (sym table) (sym history) ∙ stated in
+        let table : map (from_flag o.flag o.darts) c.numbers ≡ t = cc in
+        let history : reverse (file_history c.kernels) ≡ past = cc in
+        let stated : file_state o.darts c.kernels (map (from_flag o.flag o.darts) c.numbers) (reverse (file_history c.kernels)) ≡ s = cc in
+        let state : file_state o.darts c.kernels t past ≡ s = ap₂ (file_state o.darts c.kernels) (sym table) (sym history) ∙ stated in
         record {
           stated = c;
           end = end;
@@ -93,7 +93,7 @@ means-closed o (found c end) {s} {t} {past} e = go (closing o c end)
           state = sym state;
           table = sym table;
           history = sym history;
-          pyramid = subst₃ (λ s t past. T (isPyramid s t past)) stated table history p;
+          pyramid = subst₃ (λ s t past. T (is_pyramid s t past)) stated table history p;
         }
     go (falls k) = absurd (faulty≢means (sym k ∙ e))
 
@@ -101,47 +101,47 @@ means-closed o (found c end) {s} {t} {past} e = go (closing o c end)
 
 -- "D (1, then 2)"
 pub data DartsJudged (room : ℕ → Bool) (b : List ℕ) (o : Opening) (at : ℕ) : Type 0 where
-  uncounted : ¬ (T (dartCount o.darts)) → opened room b (found o at) ≡ faulty 0 noDartCount → DartsJudged room b o at
-  cramped : T (dartCount o.darts) → ¬ (T (room o.darts)) → opened room b (found o at) ≡ faulty 0 tooShort → DartsJudged room b o at
-  goes_on : T (dartCount o.darts) → T (room o.darts) → opened room b (found o at) ≡ closed o (body o.darts b at) → DartsJudged room b o at
+  uncounted : ¬ (T (dart_count o.darts)) → opened room b (found o at) ≡ faulty 0 no_dart_count → DartsJudged room b o at
+  cramped : T (dart_count o.darts) → ¬ (T (room o.darts)) → opened room b (found o at) ≡ faulty 0 too_short → DartsJudged room b o at
+  goes_on : T (dart_count o.darts) → T (room o.darts) → opened room b (found o at) ≡ closed o (body o.darts b at) → DartsJudged room b o at
 
 module _ (room : ℕ → Bool) (b : List ℕ) (o : Opening) (at : ℕ) where
-  pub opened-uncounted : ¬ (T (dartCount o.darts)) → opened room b (found o at) ≡ faulty 0 noDartCount
+  pub opened_uncounted : ¬ (T (dart_count o.darts)) → opened room b (found o at) ≡ faulty 0 no_dart_count
   unfolding opened
-  opened-uncounted n = rw (nT→false (dartCount o.darts) n)
+  opened_uncounted n = rw (not_T→false (dart_count o.darts) n)
 
-  pub opened-cramped : T (dartCount o.darts) → ¬ (T (room o.darts)) → opened room b (found o at) ≡ faulty 0 tooShort
+  pub opened_cramped : T (dart_count o.darts) → ¬ (T (room o.darts)) → opened room b (found o at) ≡ faulty 0 too_short
   unfolding opened
-  opened-cramped d n = rw (T→true (dartCount o.darts) d, nT→false (room o.darts) n)
+  opened_cramped d n = rw (T→true (dart_count o.darts) d, not_T→false (room o.darts) n)
 
-  pub opened-on : T (dartCount o.darts) → T (room o.darts) → opened room b (found o at) ≡ closed o (body o.darts b at)
+  pub opened_on : T (dart_count o.darts) → T (room o.darts) → opened room b (found o at) ≡ closed o (body o.darts b at)
   unfolding opened
-  opened-on d f = rw (T→true (dartCount o.darts) d, T→true (room o.darts) f)
+  opened_on d f = rw (T→true (dart_count o.darts) d, T→true (room o.darts) f)
 
-  pub darts-judged : DartsJudged room b o at
-  darts-judged = go (T? (dartCount o.darts)) (T? (room o.darts))
+  pub darts_judged : DartsJudged room b o at
+  darts_judged = go (T? (dart_count o.darts)) (T? (room o.darts))
     where
-      go : Dec (T (dartCount o.darts)) → Dec (T (room o.darts)) → DartsJudged room b o at
-      go (no n) f = uncounted n (opened-uncounted n)
-      go (yes d) (no n) = cramped d n (opened-cramped d n)
-      go (yes d) (yes f) = goes_on d f (opened-on d f)
+      go : Dec (T (dart_count o.darts)) → Dec (T (room o.darts)) → DartsJudged room b o at
+      go (no n) f = uncounted n (opened_uncounted n)
+      go (yes d) (no n) = cramped d n (opened_cramped d n)
+      go (yes d) (yes f) = goes_on d f (opened_on d f)
 
 module _ (room : ℕ → Bool) (b : List ℕ) {s : State} {t past : List ℕ} where
   -- WHERE A FILE HAS A MEANING, IT STATES IT
-  pub meaning : readFile room b ≡ means s t past → Meaning room b s t past
-  unfolding readFile opened
+  pub meaning : read_file room b ≡ means s t past → Meaning room b s t past
+  unfolding read_file opened
   meaning e = go (opening b) refl e
     where
       go : (r : Scan Opening) → opening b ≡ r → opened room b r ≡ means s t past → Meaning room b s t past
       go (fault a) k e = absurd (faulty≢means e)
-      go (found o at) k e = tests (darts-judged room b o at)
+      go (found o at) k e = tests (darts_judged room b o at)
         where
           tests : DartsJudged room b o at → Meaning room b s t past
           tests (uncounted n i) = absurd (faulty≢means (sym i ∙ e))
           tests (cramped d n i) = absurd (faulty≢means (sym i ∙ e))
           tests (goes_on d f i) =
-              let C = means-closed o (body o.darts b at) (sym i ∙ e) in
-              let G = scanned-text k C.holds in
+              let C = means_closed o (body o.darts b at) (sym i ∙ e) in
+              let G = scanned_text k C.holds in
               record {
                 flag = o.flag;
                 darts = o.darts;
@@ -160,45 +160,45 @@ module _ (room : ℕ → Bool) (b : List ℕ) {s : State} {t past : List ℕ} wh
 -- ---- the flag
 
 -- "F is byte nine"
-byte-nine : (F D : ℕ) (ks : List KernelLine) (xs : List ℕ) → byteAt (text_of F D ks xs) 8 ≡ 48 + F
-unfolding byteAt text_of
-byte-nine F D ks xs = refl
+byte_nine : (F D : ℕ) (ks : List KernelLine) (xs : List ℕ) → byte_at (text_of F D ks xs) 8 ≡ 48 + F
+unfolding byte_at text_of
+byte_nine F D ks xs = refl
 
-pub meaning-flag : {room : ℕ → Bool} {b : List ℕ} {s : State} {t past : List ℕ} (M : Meaning room b s t past) (F : ℕ) → byteAt b 8 ≡ 48 + F → M.flag ≡ F
-meaning-flag M F e =
-    let n = byte-nine M.flag M.darts M.kernels M.numbers in
-    let k = ap (λ b. byteAt b 8) M.bytes in
+pub meaning_flag : {room : ℕ → Bool} {b : List ℕ} {s : State} {t past : List ℕ} (M : Meaning room b s t past) (F : ℕ) → byte_at b 8 ≡ 48 + F → M.flag ≡ F
+meaning_flag M F e =
+    let n = byte_nine M.flag M.darts M.kernels M.numbers in
+    let k = ap (λ b. byte_at b 8) M.bytes in
     omega arith
 
 -- "0 for darts from zero, 1 for darts from one"
-pub from_zero : (D : ℕ) (xs : List ℕ) → map (fromFlag 0 D) xs ≡ xs
-unfolding fromFlag
+pub from_zero : (D : ℕ) (xs : List ℕ) → map (from_flag 0 D) xs ≡ xs
+unfolding from_flag
 from_zero D xs = map-id xs
 
-pub from_one : (D : ℕ) (xs : List ℕ) → map (fromFlag 1 D) (map suc xs) ≡ xs
-unfolding fromFlag
-from_one D [] = refl
-from_one D (x ∷ xs) = let e : suc x - 1 ≡ x = omega arith in ap₂ ◌∷◌ (rw (eqb-suc-zero x) e) (from_one D xs)
+pub from_one_lem : (D : ℕ) (xs : List ℕ) → map (from_flag 1 D) (map suc xs) ≡ xs
+unfolding from_flag
+from_one_lem D [] = refl
+from_one_lem D (x ∷ xs) = let e : suc x - 1 ≡ x = omega arith in ap₂ ◌∷◌ (rw (eqb-suc-zero x) e) (from_one_lem D xs)
 
 -- ---- what a text states is what it means, if it passes the tests
 
 -- "D (1, then 2)"; "After the last byte: 4"
 unfoldable pub verdict : (ℕ → Bool) → ℕ → State → List ℕ → List ℕ → Read
 verdict room D s t past =
-    if not (dartCount D) then faulty 0 noDartCount
-    else if not (room D) then faulty 0 tooShort
-    else if isPyramid s t past then means s t past
-    else faulty D noPyramid
+    if not (dart_count D) then faulty 0 no_dart_count
+    else if not (room D) then faulty 0 too_short
+    else if is_pyramid s t past then means s t past
+    else faulty D no_pyramid
 
-pub text-read : (room : ℕ → Bool) {F D : ℕ} {ks : List KernelLine} {xs : List ℕ} → GoodForm F D ks xs
-    → readFile room (text_of F D ks xs) ≡ (let t : List ℕ = map (fromFlag F D) xs in let past : List ℕ = reverse (fileHistory ks) in verdict room D (fileState D ks t past) t past)
-unfolding readFile opened closed verdict
-text-read room G = let S = text-scanned G in rw (S.opens, S.holds)
+pub text_read : (room : ℕ → Bool) {F D : ℕ} {ks : List KernelLine} {xs : List ℕ} → GoodForm F D ks xs
+    → read_file room (text_of F D ks xs) ≡ (let t : List ℕ = map (from_flag F D) xs in let past : List ℕ = reverse (file_history ks) in verdict room D (file_state D ks t past) t past)
+unfolding read_file opened closed verdict
+text_read room G = let S = text_scanned G in rw (S.opens, S.holds)
 
-pub verdict-means : (room : ℕ → Bool) (D : ℕ) (s : State) (t past : List ℕ) → T (dartCount D) → T (room D) → T (isPyramid s t past)
+pub verdict_means : (room : ℕ → Bool) (D : ℕ) (s : State) (t past : List ℕ) → T (dart_count D) → T (room D) → T (is_pyramid s t past)
     → verdict room D s t past ≡ means s t past
 unfolding verdict
-verdict-means room D s t past d f p = rw (T→true (dartCount D) d, T→true (room D) f, T→true (isPyramid s t past) p)
+verdict_means room D s t past d f p = rw (T→true (dart_count D) d, T→true (room D) f, T→true (is_pyramid s t past) p)
 
 -- ---- no byte list has two meanings
 
@@ -208,16 +208,16 @@ pub record SameMeaning (s : State) (t past : List ℕ) (s' : State) (t' past' : 
   pub history : past ≡ past'
 
 -- what a file means does not depend on the lent slices, as long as they are long enough
-pub meaning-read : {b : List ℕ} {room : ℕ → Bool} {s : State} {t past : List ℕ} (M : Meaning room b s t past) (room' : ℕ → Bool) → T (room' M.darts)
-    → readFile room' b ≡ means s t past
-meaning-read {s = s} {t} {past} M room' f =
-    ap (readFile room') M.bytes ∙ text-read room' M.form ∙ cc (M.state, M.table, M.history)
-    ∙ verdict-means room' M.darts s t past M.count f M.pyramid
+pub meaning_read : {b : List ℕ} {room : ℕ → Bool} {s : State} {t past : List ℕ} (M : Meaning room b s t past) (room' : ℕ → Bool) → T (room' M.darts)
+    → read_file room' b ≡ means s t past
+meaning_read {s = s} {t} {past} M room' f =
+    ap (read_file room') M.bytes ∙ text_read room' M.form ∙ cc (M.state, M.table, M.history)
+    ∙ verdict_means room' M.darts s t past M.count f M.pyramid
 
 -- NO BYTE LIST HAS TWO MEANINGS
-pub one-meaning : (b : List ℕ) (room room' : ℕ → Bool) {s s' : State} {t t' past past' : List ℕ}
-    → readFile room b ≡ means s t past → readFile room' b ≡ means s' t' past' → SameMeaning s t past s' t' past'
-one-meaning b room room' {s} {s'} {t} {t'} {past} {past'} e e' =
+pub one_meaning : (b : List ℕ) (room room' : ℕ → Bool) {s s' : State} {t t' past past' : List ℕ}
+    → read_file room b ≡ means s t past → read_file room' b ≡ means s' t' past' → SameMeaning s t past s' t' past'
+one_meaning b room room' {s} {s'} {t} {t'} {past} {past'} e e' =
     let all : ℕ → Bool = λ _. true in
-    let same : means s t past ≡ means s' t' past' = sym (meaning-read (meaning room b e) all tt) ∙ meaning-read (meaning room' b e') all tt in
+    let same : means s t past ≡ means s' t' past' = sym (meaning_read (meaning room b e) all tt) ∙ meaning_read (meaning room' b e') all tt in
     record { state = cc; table = cc; history = cc }

@@ -2,8 +2,8 @@
 --   Past p slack r        == what r found ends past the place p, and a wrong byte of r is past it
 --   Mend f b at slack p   == the bytes before p, and one byte or none after them, take the scan f past p
 --   Mends f b at slack    == so it is at the place p of any wrong byte that f finds in b
---   mend-after            == one scan after another
---   mend-word, mend-field == a word, and a field whose number ends before another byte than a digit
+--   mend_after            == one scan after another
+--   mend_word, mend_field == a word, and a field whose number ends before another byte than a digit
 use mathlib.Core.Bool.{false}
 use mathlib.Core.List.{List, [], ◌∷◌, ◌++◌}
 use mathlib.Core.Logic.{◌≢◌}
@@ -14,12 +14,12 @@ use native.Mathlib.Omega.{arith}
 use lib.Dec.{T, ltb, ltb→lt}
 use lib.ListN.{length, take}
 use lib.Seq.{take-take, take-append-le, length-take-le, get_or_at}
-use Rattle.permutations.specs.Choice.{T?, T→true, nT→false, eqb_same, eqb-other, and_left, and_right}
+use Rattle.permutations.specs.Choice.{T?, T→true, not_T→false, eqb_same, eqb_other, and_left, and_right}
 use Rattle.darts.specs.Answers.{Answer, answered}
-use Rattle.darts.specs.Scan.{Scan, found, fault, after, byteAt, word, isDigit, numberOn, number_at, field}
-use Rattle.laws.proofs.file.Words.{all_bytes, byte_inside, found_word, same-found, fault≢found}
+use Rattle.darts.specs.Scan.{Scan, found, fault, after, byte_at, word, is_digit, number_on, number_at, field}
+use Rattle.laws.proofs.file.Words.{all_bytes, byte_inside, found_word, same_found, fault≢found}
 use Rattle.laws.proofs.file.Fields.{found_number}
-use Rattle.laws.proofs.file.Looks.{begin, Stop, wrong, flag, empty, many, Ended, Look, same_byte, look-found, look-after, look-word, look-digits, look-number, look-tail}
+use Rattle.laws.proofs.file.Looks.{begin, Stop, wrong, flag, empty, many, Ended, Look, same_byte, look_found, look_after, look_word, look_digits, look_number, look_tail}
 
 abbrev pub Past : {A : Type 0} → ℕ → ℕ → Scan A → Type 0
 Past p slack (found x end) = p < end + slack
@@ -38,23 +38,23 @@ Mends f b at slack = (p : ℕ) → f b ≡ fault (answered 13 p) → Mend f b at
 -- ---- the bytes with another one in the place
 
 module _ (b : List ℕ) (p : ℕ) (h : p ≤ length b) where
-  pub mended-same : (n : ℕ) → n ≤ p → (v : List ℕ) → take n (take p b ++ v) ≡ take n b
-  mended-same n k v = take-append-le n (take p b) v (omega (arith, length-take-le p b h)) ∙ take-take n p b k
+  pub mended_same : (n : ℕ) → n ≤ p → (v : List ℕ) → take n (take p b ++ v) ≡ take n b
+  mended_same n k v = take-append-le n (take p b) v (omega (arith, length-take-le p b h)) ∙ take-take n p b k
 
-  pub mended-byte : (x : ℕ) → byteAt (take p b ++ (x ∷ [])) p ≡ x
-  unfolding byteAt
-  mended-byte x = get_or_at (take p b) x [] 256 p (length-take-le p b h)
+  pub mended_byte : (x : ℕ) → byte_at (take p b ++ (x ∷ [])) p ≡ x
+  unfolding byte_at
+  mended_byte x = get_or_at (take p b) x [] 256 p (length-take-le p b h)
 
 -- ---- one scan after another
 
-pub same-fault : {A : Type 0} {a c : Answer} → ◌≡◌ {A = Scan A} (fault a) (fault c) → a ≡ c
-same-fault e = cc
+pub same_fault : {A : Type 0} {a c : Answer} → ◌≡◌ {A = Scan A} (fault a) (fault c) → a ≡ c
+same_fault e = cc
 
 same_place : {A : Type 0} {p q : ℕ} → ◌≡◌ {A = Scan A} (fault (answered 13 p)) (fault (answered 13 q)) → p ≡ q
-same_place e = ap (λ a. a.place) (same-fault e)
+same_place e = ap (λ a. a.place) (same_fault e)
 
-pub look-past : {A : Type 0} {f : List ℕ → Scan A} {b : List ℕ} {at from most slack : ℕ} → Look f b at from most slack → {p : ℕ} → p < at → Past p slack (f b)
-look-past {A} {f} {b} {at} {from} {most} {slack} L {p} h = go (f b) L.ended
+pub look_past : {A : Type 0} {f : List ℕ → Scan A} {b : List ℕ} {at from most slack : ℕ} → Look f b at from most slack → {p : ℕ} → p < at → Past p slack (f b)
+look_past {A} {f} {b} {at} {from} {most} {slack} L {p} h = go (f b) L.ended
   where
     stop : {a : Answer} → Stop b at L.upto a → a.number ≡ 13 → p < a.place
     stop (wrong q e k l) n = omega (arith, ap (λ a. a.place) e)
@@ -66,134 +66,134 @@ look-past {A} {f} {b} {at} {from} {most} {slack} L {p} h = go (f b) L.ended
     go (found x end) e = omega (arith, e.1.1)
     go (fault a) e = stop e
 
-pub past_after : {A B : Type 0} {p : ℕ} (slack : ℕ) (r : Scan A) (g : A → ℕ → Scan B) → Past p 0 r
+pub past_after_lem : {A B : Type 0} {p : ℕ} (slack : ℕ) (r : Scan A) (g : A → ℕ → Scan B) → Past p 0 r
     → ((x : A) (end : ℕ) → r ≡ found x end → p < end → Past p slack (g x end))
     → Past p slack (after r g)
-past_after slack (found x end) g h on = on x end refl (omega arith)
-past_after slack (fault a) g h on = h
+past_after_lem slack (found x end) g h on = on x end refl (omega arith)
+past_after_lem slack (fault a) g h on = h
 
-pub mend-after : {A B : Type 0} {f : List ℕ → Scan A} {g : A → ℕ → List ℕ → Scan B} {b : List ℕ} {at from mid slack : ℕ}
+pub mend_after : {A B : Type 0} {f : List ℕ → Scan A} {g : A → ℕ → List ℕ → Scan B} {b : List ℕ} {at from mid slack : ℕ}
     → Look f b at from mid 0 → Mends f b at 0
     → ((x : A) (end : ℕ) → f b ≡ found x end → Mends (g x end) b end slack)
     → ((c : List ℕ) (x : A) (end : ℕ) → f c ≡ found x end → (p : ℕ) → p < end → Past p slack (g x end c))
     → Mends (λ l. after (f l) (λ x at. g x at l)) b at slack
-mend-after {A} {B} {f} {g} {b} {at} {from} {mid} {slack} L M rest on p e = go (f b) refl L.ended
+mend_after {A} {B} {f} {g} {b} {at} {from} {mid} {slack} L M rest on p e = go (f b) refl L.ended
   where
     go : (r : Scan A) → f b ≡ r → Ended b at L.upto mid 0 r → Mend (λ l. after (f l) (λ x at. g x at l)) b at slack p
     go (found x end) k i =
         let J = rest x end k p (rw k at e) in
         let c = take p b ++ J.byte in
-        let same : f c ≡ found x end = L.same c (mended-same b p J.inside L.upto (omega (arith, i.0, J.late)) J.byte) ∙ k in
+        let same : f c ≡ found x end = L.same c (mended_same b p J.inside L.upto (omega (arith, i.0, J.late)) J.byte) ∙ k in
         record { late = omega (arith, i.1.1, J.late); inside = J.inside; byte = J.byte; few = J.few; past = rw same J.past }
     go (fault a) k i =
-        let I = M p (k ∙ ap fault (same-fault (rw k at e))) in
+        let I = M p (k ∙ ap fault (same_fault (rw k at e))) in
         let c = take p b ++ I.byte in
-        let past = past_after slack (f c) (λ x at. g x at c) I.past (λ x end k h. on c x end k p h) in
+        let past = past_after_lem slack (f c) (λ x at. g x at c) I.past (λ x end k h. on c x end k p h) in
         record { late = I.late; inside = I.inside; byte = I.byte; few = I.few; past = past }
 
 -- a scan that finds, whatever the bytes
-pub mend-found : {A : Type 0} {x : A} {b : List ℕ} {at end slack : ℕ} → Mends (λ _. found x end) b at slack
-mend-found p e = absurd (fault≢found (sym e))
+pub mend_found : {A : Type 0} {x : A} {b : List ℕ} {at end slack : ℕ} → Mends (λ _. found x end) b at slack
+mend_found p e = absurd (fault≢found (sym e))
 
 -- ---- a word
 
-pub mend-word : (w b : List ℕ) (at : ℕ) → T (all_bytes w) → at ≤ length b → Mends (λ l. word w l at) b at 0
+pub mend_word : (w b : List ℕ) (at : ℕ) → T (all_bytes w) → at ≤ length b → Mends (λ l. word w l at) b at 0
 unfolding word
-mend-word [] b at a h p e = absurd (fault≢found (sym e))
-mend-word (c ∷ w) b at a h p e = go (ℕ_discrete (byteAt b at) c) (λ i k. mend-word w b (suc at) (and_right (ltb c 256) (all_bytes w) a) i p k)
+mend_word [] b at a h p e = absurd (fault≢found (sym e))
+mend_word (c ∷ w) b at a h p e = go (ℕ_discrete (byte_at b at) c) (λ i k. mend_word w b (suc at) (and_right (ltb c 256) (all_bytes w) a) i p k)
   where
-    go : Dec (byteAt b at ≡ c) → (suc at ≤ length b → word w b (suc at) ≡ fault (answered 13 p) → Mend (λ l. word w l (suc at)) b (suc at) 0 p)
+    go : Dec (byte_at b at ≡ c) → (suc at ≤ length b → word w b (suc at) ≡ fault (answered 13 p) → Mend (λ l. word w l (suc at)) b (suc at) 0 p)
         → Mend (λ l. word (c ∷ w) l at) b at 0 p
     go (yes k) rest =
         let small = ltb→lt c 256 (and_left (ltb c 256) (all_bytes w) a) in
         let I = rest (byte_inside b at (omega arith)) (rw (eqb_same k) at e) in
         let v = take p b ++ I.byte in
-        let same : byteAt v at ≡ c = same_byte b v at p I.late (mended-same b p I.inside p (omega arith) I.byte) ∙ k in
+        let same : byte_at v at ≡ c = same_byte b v at p I.late (mended_same b p I.inside p (omega arith) I.byte) ∙ k in
         record { late = omega (arith, I.late); inside = I.inside; byte = I.byte; few = I.few; past = rw (eqb_same same) I.past }
     go (no n) rest =
-        let here : at ≡ p = same_place (rw (eqb-other n) at e) in
+        let here : at ≡ p = same_place (rw (eqb_other n) at e) in
         subst (Mend (λ l. word (c ∷ w) l at) b at 0) here (record {
           late = omega arith;
           inside = h;
           byte = c ∷ [];
           few = omega arith;
-          past = rw (eqb_same (mended-byte b at h c)) (look-past (look-word w (take at b ++ (c ∷ [])) (suc at)) (omega arith));
+          past = rw (eqb_same (mended_byte b at h c)) (look_past (look_word w (take at b ++ (c ∷ [])) (suc at)) (omega arith));
         })
 
 -- ---- a number, and the word after it
 
-digits-found : (n : ℕ) (b : List ℕ) (at x : ℕ) {a : Answer} → numberOn n b at x ≢ fault a
-unfolding numberOn
-digits-found zero b at x e = fault≢found (sym e)
-digits-found (suc n) b at x {a} e = go (T? (isDigit (byteAt b at))) (digits-found n b (suc at) (10 * x + (byteAt b at - 48)))
+digits_found : (n : ℕ) (b : List ℕ) (at x : ℕ) {a : Answer} → number_on n b at x ≢ fault a
+unfolding number_on
+digits_found zero b at x e = fault≢found (sym e)
+digits_found (suc n) b at x {a} e = go (T? (is_digit (byte_at b at))) (digits_found n b (suc at) (10 * x + (byte_at b at - 48)))
   where
-    go : Dec (T (isDigit (byteAt b at))) → numberOn n b (suc at) (10 * x + (byteAt b at - 48)) ≢ fault a → ⊥
-    go (yes t) rest = rest (rw (T→true (isDigit (byteAt b at)) t) at e)
-    go (no f) rest = fault≢found (sym (rw (nT→false (isDigit (byteAt b at)) f) at e))
+    go : Dec (T (is_digit (byte_at b at))) → number_on n b (suc at) (10 * x + (byte_at b at - 48)) ≢ fault a → ⊥
+    go (yes t) rest = rest (rw (T→true (is_digit (byte_at b at)) t) at e)
+    go (no f) rest = fault≢found (sym (rw (not_T→false (is_digit (byte_at b at)) f) at e))
 
 -- where no number stands, its first byte is the wrong one
-number-fault : (b : List ℕ) (at p : ℕ) → number_at b at ≡ fault (answered 13 p) → at ≡ p
+number_fault : (b : List ℕ) (at p : ℕ) → number_at b at ≡ fault (answered 13 p) → at ≡ p
 unfolding number_at
-number-fault b at p e = go (ℕ_discrete (byteAt b at) 48) (T? (isDigit (byteAt b at)))
+number_fault b at p e = go (ℕ_discrete (byte_at b at) 48) (T? (is_digit (byte_at b at)))
   where
-    go : Dec (byteAt b at ≡ 48) → Dec (T (isDigit (byteAt b at))) → at ≡ p
+    go : Dec (byte_at b at ≡ 48) → Dec (T (is_digit (byte_at b at))) → at ≡ p
     go (yes z) t = absurd (fault≢found (sym (rw (eqb_same z) at e)))
-    go (no z) (yes t) = absurd (digits-found 5 b at 0 (rw (eqb-other z, T→true (isDigit (byteAt b at)) t) at e))
-    go (no z) (no f) = same_place (rw (eqb-other z, nT→false (isDigit (byteAt b at)) f) at e)
+    go (no z) (yes t) = absurd (digits_found 5 b at 0 (rw (eqb_other z, T→true (is_digit (byte_at b at)) t) at e))
+    go (no z) (no f) = same_place (rw (eqb_other z, not_T→false (is_digit (byte_at b at)) f) at e)
 
-found-late : {A : Type 0} {f : List ℕ → Scan A} {b : List ℕ} {at from most slack : ℕ} → Look f b at from most slack → {x : A} {end : ℕ}
+found_late : {A : Type 0} {f : List ℕ → Scan A} {b : List ℕ} {at from most slack : ℕ} → Look f b at from most slack → {x : A} {end : ℕ}
     → f b ≡ found x end → at ≤ end
-found-late {b = b} {at} {most = most} {slack} L e = (subst (Ended b at L.upto most slack) e L.ended).1.1
+found_late {b = b} {at} {most = most} {slack} L e = (subst (Ended b at L.upto most slack) e L.ended).1.1
 
-digit-late : (b : List ℕ) (n at x : ℕ) {y end : ℕ} → T (isDigit (byteAt b at)) → numberOn (suc n) b at x ≡ found y end → suc at ≤ end
-unfolding numberOn
-digit-late b n at x t e = found-late (look-digits n b (suc at) (10 * x + (byteAt b at - 48))) (rw (T→true (isDigit (byteAt b at)) t) at e)
+digit_late : (b : List ℕ) (n at x : ℕ) {y end : ℕ} → T (is_digit (byte_at b at)) → number_on (suc n) b at x ≡ found y end → suc at ≤ end
+unfolding number_on
+digit_late b n at x t e = found_late (look_digits n b (suc at) (10 * x + (byte_at b at - 48))) (rw (T→true (is_digit (byte_at b at)) t) at e)
 
 -- a number stays where another byte than a digit follows it
-module _ (b c : List ℕ) {y end : ℕ} (same : take end c ≡ take end b) (stop : isDigit (byteAt c end) ≡ false) where
-  digits-stay : (n at x : ℕ) → numberOn n b at x ≡ found y end → numberOn n c at x ≡ found y end
-  unfolding numberOn
-  digits-stay zero at x e = e
-  digits-stay (suc n) at x e = go (T? (isDigit (byteAt b at))) (digits-stay n (suc at) (10 * x + (byteAt b at - 48)))
+module _ (b c : List ℕ) {y end : ℕ} (same : take end c ≡ take end b) (stop : is_digit (byte_at c end) ≡ false) where
+  digits_stay : (n at x : ℕ) → number_on n b at x ≡ found y end → number_on n c at x ≡ found y end
+  unfolding number_on
+  digits_stay zero at x e = e
+  digits_stay (suc n) at x e = go (T? (is_digit (byte_at b at))) (digits_stay n (suc at) (10 * x + (byte_at b at - 48)))
     where
-      go : Dec (T (isDigit (byteAt b at)))
-          → (numberOn n b (suc at) (10 * x + (byteAt b at - 48)) ≡ found y end → numberOn n c (suc at) (10 * x + (byteAt b at - 48)) ≡ found y end)
-          → numberOn (suc n) c at x ≡ found y end
+      go : Dec (T (is_digit (byte_at b at)))
+          → (number_on n b (suc at) (10 * x + (byte_at b at - 48)) ≡ found y end → number_on n c (suc at) (10 * x + (byte_at b at - 48)) ≡ found y end)
+          → number_on (suc n) c at x ≡ found y end
       go (yes t) rest =
-          let next = rw (T→true (isDigit (byteAt b at)) t) at e in
-          rw (same_byte b c at end (digit-late b n at x t e) same, T→true (isDigit (byteAt b at)) t) (rest next)
+          let next = rw (T→true (is_digit (byte_at b at)) t) at e in
+          rw (same_byte b c at end (digit_late b n at x t e) same, T→true (is_digit (byte_at b at)) t) (rest next)
       go (no f) rest =
-          let last = rw (nT→false (isDigit (byteAt b at)) f) at e in
-          let here = same-found (λ _ i. isDigit (byteAt c i) ≡ false → isDigit (byteAt c at) ≡ false) last (λ s. s) stop in
+          let last = rw (not_T→false (is_digit (byte_at b at)) f) at e in
+          let here = same_found (λ _ i. is_digit (byte_at c i) ≡ false → is_digit (byte_at c at) ≡ false) last (λ s. s) stop in
           rw here last
 
-  number-stays : (at : ℕ) → number_at b at ≡ found y end → number_at c at ≡ found y end
+  number_stays : (at : ℕ) → number_at b at ≡ found y end → number_at c at ≡ found y end
   unfolding number_at
-  number-stays at e = go (ℕ_discrete (byteAt b at) 48) (T? (isDigit (byteAt b at)))
+  number_stays at e = go (ℕ_discrete (byte_at b at) 48) (T? (is_digit (byte_at b at)))
     where
-      go : Dec (byteAt b at ≡ 48) → Dec (T (isDigit (byteAt b at))) → number_at c at ≡ found y end
+      go : Dec (byte_at b at ≡ 48) → Dec (T (is_digit (byte_at b at))) → number_at c at ≡ found y end
       go (yes z) t =
           let last = rw (eqb_same z) at e in
-          let on : suc at ≤ end = same-found (λ _ i. suc at ≤ i) last (omega arith) in
+          let on : suc at ≤ end = same_found (λ _ i. suc at ≤ i) last (omega arith) in
           rw (same_byte b c at end on same, eqb_same z) last
       go (no z) (yes t) =
-          let all : numberOn 5 b at 0 ≡ found y end = rw (eqb-other z, T→true (isDigit (byteAt b at)) t) at e in
-          rw (same_byte b c at end (digit-late b 4 at 0 t all) same, eqb-other z, T→true (isDigit (byteAt b at)) t) (digits-stay 5 at 0 all)
-      go (no z) (no f) = absurd (fault≢found (rw (eqb-other z, nT→false (isDigit (byteAt b at)) f) at e))
+          let all : number_on 5 b at 0 ≡ found y end = rw (eqb_other z, T→true (is_digit (byte_at b at)) t) at e in
+          rw (same_byte b c at end (digit_late b 4 at 0 t all) same, eqb_other z, T→true (is_digit (byte_at b at)) t) (digits_stay 5 at 0 all)
+      go (no z) (no f) = absurd (fault≢found (rw (eqb_other z, not_T→false (is_digit (byte_at b at)) f) at e))
 
 -- the word after the number x
-look-close : (w : List ℕ) (x : ℕ) (b : List ℕ) (at : ℕ) → Look (λ l. after (word w l at) (λ _ at. found x at)) b at (begin w at) (at + length w) 0
-look-close w x b at = look-after (look-word w b at) (omega arith) (λ _ last _ i h. look-found (omega arith) (omega arith) (omega arith))
+look_close : (w : List ℕ) (x : ℕ) (b : List ℕ) (at : ℕ) → Look (λ l. after (word w l at) (λ _ at. found x at)) b at (begin w at) (at + length w) 0
+look_close w x b at = look_after (look_word w b at) (omega arith) (λ _ last _ i h. look_found (omega arith) (omega arith) (omega arith))
 
-mend-close : (w : List ℕ) (x : ℕ) (b : List ℕ) (at : ℕ) → T (all_bytes w) → at ≤ length b → Mends (λ l. after (word w l at) (λ _ at. found x at)) b at 0
-mend-close w x b at a h = mend-after (look-word w b at) (mend-word w b at a h) (λ _ end _. mend-found) (λ c _ end k p i. omega arith)
+mend_close : (w : List ℕ) (x : ℕ) (b : List ℕ) (at : ℕ) → T (all_bytes w) → at ≤ length b → Mends (λ l. after (word w l at) (λ _ at. found x at)) b at 0
+mend_close w x b at a h = mend_after (look_word w b at) (mend_word w b at a h) (λ _ end _. mend_found) (λ c _ end k p i. omega arith)
 
 -- a byte that matches is passed
-close-past : (c : ℕ) (e : List ℕ) (x : ℕ) (b : List ℕ) (at : ℕ) → byteAt b at ≡ c → Past at 0 (after (word (c ∷ e) b at) (λ _ at. found x at))
+close_past : (c : ℕ) (e : List ℕ) (x : ℕ) (b : List ℕ) (at : ℕ) → byte_at b at ≡ c → Past at 0 (after (word (c ∷ e) b at) (λ _ at. found x at))
 unfolding word
-close-past c e x b at k = rw (eqb_same k) (look-past (look-close e x b (suc at)) (omega arith))
+close_past c e x b at k = rw (eqb_same k) (look_past (look_close e x b (suc at)) (omega arith))
 
-module _ (c : ℕ) (e : List ℕ) (stop : isDigit c ≡ false) (small : T (all_bytes (c ∷ e))) where
+module _ (c : ℕ) (e : List ℕ) (stop : is_digit c ≡ false) (small : T (all_bytes (c ∷ e))) where
   abbrev tail : ℕ → List ℕ → Scan ℕ
   tail at l = after (number_at l at) (λ x at. after (word (c ∷ e) l at) (λ _ at. found x at))
 
@@ -208,45 +208,45 @@ module _ (c : ℕ) (e : List ℕ) (stop : isDigit c ≡ false) (small : T (all_b
           inside = h;
           byte = 48 ∷ [];
           few = omega arith;
-          past = rw (eqb_same (mended-byte b at h 48)) (look-past (look-close (c ∷ e) 0 v (suc at)) (omega arith));
+          past = rw (eqb_same (mended_byte b at h 48)) (look_past (look_close (c ∷ e) 0 v (suc at)) (omega arith));
         }
 
     -- where a number stands, what follows it may
-    tail-some : (x end : ℕ) → number_at b at ≡ found x end → end ≤ length b → (p : ℕ) → Mend (λ l. after (word (c ∷ e) l end) (λ _ at. found x at)) b end 0 p
+    tail_some : (x end : ℕ) → number_at b at ≡ found x end → end ≤ length b → (p : ℕ) → Mend (λ l. after (word (c ∷ e) l end) (λ _ at. found x at)) b end 0 p
         → Mend (tail at) b at 0 p
-    tail-some x end k i p W = go (dec_lt end p)
+    tail_some x end k i p W = go (dec_lt end p)
       where
         on : at ≤ end
-        on = found-late (look-number b at) k
+        on = found_late (look_number b at) k
 
         go : Dec (end < p) → Mend (tail at) b at 0 p
         go (yes l) =
             let v = take p b ++ W.byte in
-            let N = look-number b at in
+            let N = look_number b at in
             let few = (subst (Ended b at N.upto (at + 5) 1) k N.ended).0 in
-            let same : number_at v at ≡ found x end = N.same v (mended-same b p W.inside N.upto (omega arith) W.byte) ∙ k in
+            let same : number_at v at ≡ found x end = N.same v (mended_same b p W.inside N.upto (omega arith) W.byte) ∙ k in
             record { late = omega (arith, W.late); inside = W.inside; byte = W.byte; few = W.few; past = rw same W.past }
         go (no n) =
             let here : end ≡ p = omega (arith, W.late) in
             let v = take end b ++ (c ∷ []) in
-            let byte = mended-byte b end i c in
+            let byte = mended_byte b end i c in
             let same : number_at v at ≡ found x end =
-            number-stays b v (mended-same b end i end (omega arith) (c ∷ [])) (ap isDigit byte ∙ stop) at k in
+            number_stays b v (mended_same b end i end (omega arith) (c ∷ [])) (ap is_digit byte ∙ stop) at k in
             subst (Mend (tail at) b at 0) here
-            (record { late = on; inside = i; byte = c ∷ []; few = omega arith; past = rw same (close-past c e x v end byte) })
+            (record { late = on; inside = i; byte = c ∷ []; few = omega arith; past = rw same (close_past c e x v end byte) })
 
-    mend-tail : Mends (tail at) b at 0
-    mend-tail p all = go (number_at b at) refl all
+    mend_tail : Mends (tail at) b at 0
+    mend_tail p all = go (number_at b at) refl all
       where
         go : (r : Scan ℕ) → number_at b at ≡ r → after r (λ x at. after (word (c ∷ e) b at) (λ _ at. found x at)) ≡ fault (answered 13 p)
             → Mend (tail at) b at 0 p
-        go (fault a) k f = subst (Mend (tail at) b at 0) (number-fault b at p (k ∙ f)) tail_none
+        go (fault a) k f = subst (Mend (tail at) b at 0) (number_fault b at p (k ∙ f)) tail_none
         go (found x end) k f =
             let i = (found_number h k).there.inside in
-            tail-some x end k i p (mend-close (c ∷ e) x b end small i p f)
+            tail_some x end k i p (mend_close (c ∷ e) x b end small i p f)
 
-  pub mend-field : (w b : List ℕ) (at : ℕ) → T (all_bytes w) → at ≤ length b → Mends (λ l. field w (c ∷ e) l at) b at 0
+  pub mend_field : (w b : List ℕ) (at : ℕ) → T (all_bytes w) → at ≤ length b → Mends (λ l. field w (c ∷ e) l at) b at 0
   unfolding field
-  mend-field w b at a h =
-      mend-after (look-word w b at) (mend-word w b at a h) (λ _ mid k. mend-tail b mid (found_word w a h k).inside)
-      (λ l _ mid k p i. look-past (look-tail c e l mid) i)
+  mend_field w b at a h =
+      mend_after (look_word w b at) (mend_word w b at a h) (λ _ mid k. mend_tail b mid (found_word w a h k).inside)
+      (λ l _ mid k p i. look_past (look_tail c e l mid) i)

@@ -10,8 +10,8 @@ use Prim.Native.Nat.{ℕ, zero, suc, ◌<◌}
 use native.Mathlib.Decide.{ℕ_discrete, dec_lt}
 use native.Mathlib.Omega.{arith}
 use lib.ListN.{length, get_or}
-use Rattle.permutations.specs.Choice.{eqb_same, eqb-other}
-use Rattle.permutations.specs.Partner.{partner, partner-even, partner-odd, partner-cases, partner-first, partner-second, partner-partner}
+use Rattle.permutations.specs.Choice.{eqb_same, eqb_other}
+use Rattle.permutations.specs.Partner.{partner, partner_even, partner_odd, partner_cases, partner_first, partner_second, partner_partner}
 use Rattle.permutations.specs.Pigeonhole.{pigeonhole}
 use Rattle.darts.specs.File.{place_in}
 
@@ -41,55 +41,55 @@ placed {x = x} (Memᴰ.tail {x = y} {xs = l} m) = go (ℕ_discrete x y) (placed 
   where
     go : Dec (x ≡ y) → Placed l x → Placed (y ∷ l) x
     go (yes e) P = placed_first e
-    go (no n) P = record { inside = rw (eqb-other n) (omega (arith, P.inside)); there = rw (eqb-other n) P.there }
+    go (no n) P = record { inside = rw (eqb_other n) (omega (arith, P.inside)); there = rw (eqb_other n) P.there }
 
 -- ---- a number that stands once is found again at its place
 
-pub getD-mem : (l : List ℕ) (i : ℕ) → i < length l → Memᴰ (get_or l i 0) l
-getD-mem [] i h = absurd (omega arith)
-getD-mem (x ∷ l) zero h = Memᴰ.head refl
-getD-mem (x ∷ l) (suc i) h = Memᴰ.tail (getD-mem l i (omega arith))
+pub get_d_mem : (l : List ℕ) (i : ℕ) → i < length l → Memᴰ (get_or l i 0) l
+get_d_mem [] i h = absurd (omega arith)
+get_d_mem (x ∷ l) zero h = Memᴰ.head refl
+get_d_mem (x ∷ l) (suc i) h = Memᴰ.tail (get_d_mem l i (omega arith))
 
-pub place-again : (l : List ℕ) → Once l → (i : ℕ) → i < length l → place_in l (get_or l i 0) ≡ i
+pub place_again : (l : List ℕ) → Once l → (i : ℕ) → i < length l → place_in l (get_or l i 0) ≡ i
 unfolding place_in
-place-again [] o i h = absurd (omega arith)
-place-again (x ∷ l) o zero h = rw (eqb_same {m = x} refl)
-place-again (x ∷ l) o (suc i) h =
-    let m = getD-mem l i (omega arith) in
+place_again [] o i h = absurd (omega arith)
+place_again (x ∷ l) o zero h = rw (eqb_same {m = x} refl)
+place_again (x ∷ l) o (suc i) h =
+    let m = get_d_mem l i (omega arith) in
     let n : get_or l i 0 ≢ x = λ e. o.0 (Memᴰ.cast (sym e) m) in
-    rw (eqb-other n, place-again l o.1 i (omega arith))
+    rw (eqb_other n, place_again l o.1 i (omega arith))
 
-pub once-append : (l k : List ℕ) → Once l → Once k → ((x : ℕ) → Memᴰ x l → ¬ Memᴰ x k) → Once (l ++ k)
-once-append [] k o p apart = p
-once-append (x ∷ l) k o p apart = (
+pub once_append : (l k : List ℕ) → Once l → Once k → ((x : ℕ) → Memᴰ x l → ¬ Memᴰ x k) → Once (l ++ k)
+once_append [] k o p apart = p
+once_append (x ∷ l) k o p apart = (
   λ m. ⊎_elim o.0 (apart x (Memᴰ.head refl)) (Memᴰ.append_cases l m),
-  once-append l k o.1 p (λ y m. apart y (Memᴰ.tail m)),
+  once_append l k o.1 p (λ y m. apart y (Memᴰ.tail m)),
 )
 
 -- ---- in a list of pairs, the partner stands beside
 
-partner-two : (i : ℕ) → partner (suc (suc i)) ≡ suc (suc (partner i))
-partner-two i = ⊎_elim
-    (λ a. let e = partner-even (suc (suc i)) (omega arith) in omega arith)
-    (λ a. let e = partner-odd (suc (suc i)) (omega arith) in omega arith) (partner-cases i)
+partner_two : (i : ℕ) → partner (suc (suc i)) ≡ suc (suc (partner i))
+partner_two i = ⊎_elim
+    (λ a. let e = partner_even (suc (suc i)) (omega arith) in omega arith)
+    (λ a. let e = partner_odd (suc (suc i)) (omega arith) in omega arith) (partner_cases i)
 
-pub paired-append : (l k : List ℕ) → Paired l → Paired k → Paired (l ++ k)
-paired-append [] k p q = q
-paired-append (x ∷ []) k p q = absurd p
-paired-append (x ∷ y ∷ l) k p q = (p.0, paired-append l k p.1 q)
+pub paired_append : (l k : List ℕ) → Paired l → Paired k → Paired (l ++ k)
+paired_append [] k p q = q
+paired_append (x ∷ []) k p q = absurd p
+paired_append (x ∷ y ∷ l) k p q = (p.0, paired_append l k p.1 q)
 
-pub partner-beside : (l : List ℕ) → Paired l → (i : ℕ) → i < length l → get_or l (partner i) 0 ≡ partner (get_or l i 0)
-partner-beside [] p i h = absurd (omega arith)
-partner-beside (x ∷ []) p i h = absurd p
-partner-beside (x ∷ y ∷ l) p zero h = rw (partner-first 0) p.0
-partner-beside (x ∷ y ∷ l) p (suc zero) h = rw (partner-second 0, p.0) (sym (partner-partner x))
-partner-beside (x ∷ y ∷ l) p (suc (suc i)) h = rw (partner-two i) (partner-beside l p.1 i (omega arith))
+pub partner_beside : (l : List ℕ) → Paired l → (i : ℕ) → i < length l → get_or l (partner i) 0 ≡ partner (get_or l i 0)
+partner_beside [] p i h = absurd (omega arith)
+partner_beside (x ∷ []) p i h = absurd p
+partner_beside (x ∷ y ∷ l) p zero h = rw (partner_first 0) p.0
+partner_beside (x ∷ y ∷ l) p (suc zero) h = rw (partner_second 0, p.0) (sym (partner_partner x))
+partner_beside (x ∷ y ∷ l) p (suc (suc i)) h = rw (partner_two i) (partner_beside l p.1 i (omega arith))
 
 -- ---- a list that holds the numbers below D, each once, has D places
 
 module _ (D : ℕ) (l : List ℕ) (once : Once l) (small : (x : ℕ) → Memᴰ x l → x < D) (all : (x : ℕ) → x < D → Memᴰ x l) where
-  pub all-places : length l ≡ D
-  all-places = go (dec_lt (length l) D) (dec_lt D (length l))
+  pub all_places : length l ≡ D
+  all_places = go (dec_lt (length l) D) (dec_lt D (length l))
     where
       go : Dec (length l < D) → Dec (D < length l) → length l ≡ D
       go (yes h) d =
@@ -99,9 +99,9 @@ module _ (D : ℕ) (l : List ℕ) (once : Once l) (small : (x : ℕ) → Memᴰ 
           let same = sym here ∙ ap (λ i. get_or l i 0) c.same ∙ there in
           absurd (omega (arith, c.order))
       go (no n) (yes h) =
-          let c = pigeonhole D (λ i. get_or l i 0) (λ i k. small (get_or l i 0) (getD-mem l i (omega arith))) in
-          let here = place-again l once c.first (omega (arith, c.order, c.last)) in
-          let there = place-again l once c.second (omega (arith, c.last)) in
+          let c = pigeonhole D (λ i. get_or l i 0) (λ i k. small (get_or l i 0) (get_d_mem l i (omega arith))) in
+          let here = place_again l once c.first (omega (arith, c.order, c.last)) in
+          let there = place_again l once c.second (omega (arith, c.last)) in
           let same = sym here ∙ ap (place_in l) c.same ∙ there in
           absurd (omega (arith, c.order))
       go (no n) (no m) = omega arith

@@ -2,9 +2,9 @@
 --   text_of F D ks xs         == the bytes of the lines with the flag F, D darts, the kernel lines ks and the pairs' numbers xs
 --   GoodForm F D ks xs       == these are values that a file can state, each number in one to five digits
 --   Scanned b F D ks xs      == the bytes b are read as these values
---   openingText, bodyText    == the bytes of the first two lines, and of the others
+--   opening_text, body_text    == the bytes of the first two lines, and of the others
 --   Flag, Opens, Holds       == the flag, the first two lines, and the others stand in the bytes, with values in good form
---   linesAt b D L at         == what stands after the level count L
+--   lines_at b D L at         == what stands after the level count L
 use mathlib.Core.Bool.{false}
 use mathlib.Core.List.{List, [], ◌∷◌, ◌++◌}
 use mathlib.Core.Path.{◌≡◌, refl, sym, ◌∙◌, subst}
@@ -13,29 +13,29 @@ use native.Mathlib.Decide.{ℕ_discrete}
 use native.Mathlib.Omega.{arith}
 use lib.Dec.{T, ltb, ltb→lt, nltb→le, not_T}
 use lib.ListN.{length}
-use Rattle.permutations.specs.Choice.{T?, T→true, nT→false, eqb_same, eqb-other}
+use Rattle.permutations.specs.Choice.{T?, T→true, not_T→false, eqb_same, eqb_other}
 use Rattle.darts.specs.Choose.{if◌then◌else◌}
-use Rattle.darts.specs.Answers.{tooManyLevels}
+use Rattle.darts.specs.Answers.{too_many_levels}
 use Rattle.darts.specs.Text.{bytes, decimal}
-use Rattle.darts.specs.File.{lineFeed, pairLines}
-use Rattle.darts.specs.Scan.{Scan, found, fault, after, byteAt, word, field}
-use Rattle.darts.specs.Read.{Opening, KernelLine, Body, flagAt, opening, kernelsAt, pairsAt, end_at, body}
-use Rattle.laws.proofs.file.Words.{Between, between-byte, between_cons, between_none, between-all, all-between, between_join, between_split, byte_inside, after-found, same-found, fault≢found, word-found, found_word}
-use Rattle.laws.proofs.file.Fields.{Field, field_found, found-field}
+use Rattle.darts.specs.File.{line_feed, pair_lines}
+use Rattle.darts.specs.Scan.{Scan, found, fault, after, byte_at, word, field}
+use Rattle.darts.specs.Read.{Opening, KernelLine, Body, flag_at, opening, kernels_at, pairs_at, end_at, body}
+use Rattle.laws.proofs.file.Words.{Between, between_byte, between_cons, between_none, between_all, all_between, between_join, between_split, byte_inside, after_found, same_found, fault≢found, word_found, found_word}
+use Rattle.laws.proofs.file.Fields.{Field, field_found, found_field}
 use Rattle.laws.proofs.Lists.{Each}
-use Rattle.laws.proofs.file.Lines.{Counted, countLines, no-digit-feed, kernels-found, found-kernels, pairs-found, found-pairs}
+use Rattle.laws.proofs.file.Lines.{Counted, count_lines, no_digit_feed, kernels_found, found_kernels, pairs_found, found_pairs}
 
 -- "1. `numbers=F`." "2. `darts=D`."
-unfoldable pub openingText : ℕ → ℕ → List ℕ
-openingText F D = bytes "numbers=" ++ ((48 + F) ∷ (lineFeed ++ (bytes "darts=" ++ (decimal D ++ lineFeed))))
+unfoldable pub opening_text : ℕ → ℕ → List ℕ
+opening_text F D = bytes "numbers=" ++ ((48 + F) ∷ (line_feed ++ (bytes "darts=" ++ (decimal D ++ line_feed))))
 
 -- "3. `levels=L`." "4. L lines" "5. D/2 lines"
-unfoldable pub bodyText : List KernelLine → List ℕ → List ℕ
-bodyText ks xs = (bytes "levels=" ++ (decimal (length ks) ++ lineFeed)) ++ (countLines ks ++ pairLines xs)
+unfoldable pub body_text : List KernelLine → List ℕ → List ℕ
+body_text ks xs = (bytes "levels=" ++ (decimal (length ks) ++ line_feed)) ++ (count_lines ks ++ pair_lines xs)
 
 unfoldable pub text_of : ℕ → ℕ → List KernelLine → List ℕ → List ℕ
-unfolding openingText bodyText
-text_of F D ks xs = openingText F D ++ bodyText ks xs
+unfolding opening_text body_text
+text_of F D ks xs = opening_text F D ++ body_text ks xs
 
 pub record GoodForm (F D : ℕ) (ks : List KernelLine) (xs : List ℕ) : Type 0 where
   pub flag : F ≤ 1
@@ -58,76 +58,76 @@ pub record Scanned (b : List ℕ) (F D : ℕ) (ks : List KernelLine) (xs : List 
 
 -- ---- opening
 
-pub flag-found : {b : List ℕ} {at : ℕ} (F : ℕ) {end : ℕ} → F ≤ 1 → Between b at ((48 + F) ∷ []) end → flagAt b at ≡ found F end
-unfolding flagAt
-flag-found {b} {at} F {end} h B = go (ℕ_discrete F 0)
+pub flag_found : {b : List ℕ} {at : ℕ} (F : ℕ) {end : ℕ} → F ≤ 1 → Between b at ((48 + F) ∷ []) end → flag_at b at ≡ found F end
+unfolding flag_at
+flag_found {b} {at} F {end} h B = go (ℕ_discrete F 0)
   where
-    byte : byteAt b at ≡ 48 + F
-    byte = between-byte B
+    byte : byte_at b at ≡ 48 + F
+    byte = between_byte B
 
     last : end ≡ suc at
     last = omega (arith, B.place)
 
-    go : Dec (F ≡ 0) → flagAt b at ≡ found F end
-    go (yes z) = let e : byteAt b at ≡ 48 = omega (arith, byte) in rw (eqb_same e, z, last)
+    go : Dec (F ≡ 0) → flag_at b at ≡ found F end
+    go (yes z) = let e : byte_at b at ≡ 48 = omega (arith, byte) in rw (eqb_same e, z, last)
     go (no n) =
         let z : F ≡ 1 = omega arith in
-        let e : byteAt b at ≡ 49 = omega (arith, byte) in
+        let e : byte_at b at ≡ 49 = omega (arith, byte) in
         rw (e, z, last)
 
 pub record Flag (b : List ℕ) (at F end : ℕ) : Type 0 where
   pub there : Between b at ((48 + F) ∷ []) end
   pub bound : F ≤ 1
 
-pub found-flag : {b : List ℕ} {at F end : ℕ} → flagAt b at ≡ found F end → Flag b at F end
-unfolding flagAt
-found-flag {b} {at} {F} {end} e = go (ℕ_discrete (byteAt b at) 48) (ℕ_discrete (byteAt b at) 49) (ℕ_discrete (byteAt b at) 256)
+pub found_flag : {b : List ℕ} {at F end : ℕ} → flag_at b at ≡ found F end → Flag b at F end
+unfolding flag_at
+found_flag {b} {at} {F} {end} e = go (ℕ_discrete (byte_at b at) 48) (ℕ_discrete (byte_at b at) 49) (ℕ_discrete (byte_at b at) 256)
   where
-    flag : (x : ℕ) → x ≤ 1 → byteAt b at ≡ 48 + x → Flag b at x (suc at)
+    flag : (x : ℕ) → x ≤ 1 → byte_at b at ≡ 48 + x → Flag b at x (suc at)
     flag x h k = record { there = between_cons k (between_none (byte_inside b at (omega arith))); bound = h }
 
-    go : Dec (byteAt b at ≡ 48) → Dec (byteAt b at ≡ 49) → Dec (byteAt b at ≡ 256) → Flag b at F end
-    go (yes z) o n = same-found (Flag b at) (rw (eqb_same z) at e) (flag 0 (omega arith) z)
-    go (no z) (yes o) n = same-found (Flag b at) (rw (eqb-other z, eqb_same o) at e) (flag 1 (omega arith) o)
-    go (no z) (no o) (yes n) = absurd (fault≢found (rw (eqb-other z, eqb-other o, eqb_same n) at e))
-    go (no z) (no o) (no n) = absurd (fault≢found (rw (eqb-other z, eqb-other o, eqb-other n) at e))
+    go : Dec (byte_at b at ≡ 48) → Dec (byte_at b at ≡ 49) → Dec (byte_at b at ≡ 256) → Flag b at F end
+    go (yes z) o n = same_found (Flag b at) (rw (eqb_same z) at e) (flag 0 (omega arith) z)
+    go (no z) (yes o) n = same_found (Flag b at) (rw (eqb_other z, eqb_same o) at e) (flag 1 (omega arith) o)
+    go (no z) (no o) (yes n) = absurd (fault≢found (rw (eqb_other z, eqb_other o, eqb_same n) at e))
+    go (no z) (no o) (no n) = absurd (fault≢found (rw (eqb_other z, eqb_other o, eqb_other n) at e))
 
 pub record Opens (b : List ℕ) (o : Opening) (end : ℕ) : Type 0 where
-  pub there : Between b 0 (openingText o.flag o.darts) end
+  pub there : Between b 0 (opening_text o.flag o.darts) end
   pub flag : o.flag ≤ 1
   pub darts : o.darts ≤ 99999
 
-pub opening-found : {b : List ℕ} (o : Opening) {end : ℕ} → Opens b o end → opening b ≡ found o end
-unfolding opening openingText
-opening-found o O =
+pub opening_found : {b : List ℕ} (o : Opening) {end : ℕ} → Opens b o end → opening b ≡ found o end
+unfolding opening opening_text
+opening_found o O =
     let N = between_split (bytes "numbers=") O.there in
     let F = between_split ((48 + o.flag) ∷ []) N.second in
-    let L = between_split lineFeed F.second in
+    let L = between_split line_feed F.second in
     rw (
-      word-found (bytes "numbers=") N.first,
-      flag-found o.flag O.flag F.first,
-      word-found lineFeed L.first,
-      field_found (bytes "darts=") 10 [] no-digit-feed (record { there = L.second; bound = O.darts }),
+      word_found (bytes "numbers=") N.first,
+      flag_found o.flag O.flag F.first,
+      word_found line_feed L.first,
+      field_found (bytes "darts=") 10 [] no_digit_feed (record { there = L.second; bound = O.darts }),
     )
 
-pub found-opening : {b : List ℕ} {o : Opening} {end : ℕ} → opening b ≡ found o end → Opens b o end
-unfolding opening openingText
-found-opening {b} e =
-    after-found (word (bytes "numbers=") b 0) _ e (λ _ flag first rest.
+pub found_opening : {b : List ℕ} {o : Opening} {end : ℕ} → opening b ≡ found o end → Opens b o end
+unfolding opening opening_text
+found_opening {b} e =
+    after_found (word (bytes "numbers=") b 0) _ e (λ _ flag first rest.
     let N = found_word (bytes "numbers=") tt (omega arith) first in
-    after-found (flagAt b flag) _ rest (λ F feed second rest.
-    let G = found-flag second in
-    after-found (word lineFeed b feed) _ rest (λ _ line third rest.
-    let L = found_word lineFeed tt G.there.inside third in
-    after-found (field (bytes "darts=") lineFeed b line) _ rest (λ D last fourth rest.
-    let H = found-field (bytes "darts=") lineFeed tt tt L.inside fourth in
+    after_found (flag_at b flag) _ rest (λ F feed second rest.
+    let G = found_flag second in
+    after_found (word line_feed b feed) _ rest (λ _ line third rest.
+    let L = found_word line_feed tt G.there.inside third in
+    after_found (field (bytes "darts=") line_feed b line) _ rest (λ D last fourth rest.
+    let H = found_field (bytes "darts=") line_feed tt tt L.inside fourth in
     let all = between_join N (between_join G.there (between_join L H.there)) in
-    same-found (Opens b) rest (record { there = all; flag = G.bound; darts = H.bound })))))
+    same_found (Opens b) rest (record { there = all; flag = G.bound; darts = H.bound })))))
 
 -- ---- body
 
 record Holds (b : List ℕ) (D at : ℕ) (c : Body) (end : ℕ) : Type 0 where
-  there : Between b at (bodyText c.kernels c.numbers) end
+  there : Between b at (body_text c.kernels c.numbers) end
   last : end ≡ length b
   levels : length c.kernels ≤ 64
   counts : Each Counted c.kernels
@@ -135,45 +135,45 @@ record Holds (b : List ℕ) (D at : ℕ) (c : Body) (end : ℕ) : Type 0 where
   pairs : length c.numbers ≡ 2 * (D / 2)
 
 -- the body is found up to the end of its last line
-pub body_at : {b : List ℕ} {F D : ℕ} {ks : List KernelLine} {xs : List ℕ} → GoodForm F D ks xs → {at end : ℕ} → Between b at (bodyText ks xs) end
+pub body_at : {b : List ℕ} {F D : ℕ} {ks : List KernelLine} {xs : List ℕ} → GoodForm F D ks xs → {at end : ℕ} → Between b at (body_text ks xs) end
     → body D b at ≡ end_at (stated ks xs) b end
-unfolding body bodyText
+unfolding body body_text
 body_at {D = D} {ks = ks} {xs = xs} G B =
-    let L = between_split (bytes "levels=" ++ (decimal (length ks) ++ lineFeed)) B in
-    let K = between_split (countLines ks) L.second in
-    let few : ltb 64 (length ks) ≡ false = nT→false (ltb 64 (length ks)) (λ t. omega (arith, ltb→lt 64 (length ks) t, G.levels)) in
+    let L = between_split (bytes "levels=" ++ (decimal (length ks) ++ line_feed)) B in
+    let K = between_split (count_lines ks) L.second in
+    let few : ltb 64 (length ks) ≡ false = not_T→false (ltb 64 (length ks)) (λ t. omega (arith, ltb→lt 64 (length ks) t, G.levels)) in
     rw (
-      field_found (bytes "levels=") 10 [] no-digit-feed (record { there = L.first; bound = omega (arith, G.levels) }),
+      field_found (bytes "levels=") 10 [] no_digit_feed (record { there = L.first; bound = omega (arith, G.levels) }),
       few,
-      kernels-found (record { there = K.first; counted = G.counts; many = refl }),
-      pairs-found (D / 2) xs (record { there = K.second; bounds = G.numbers; many = G.pairs }),
+      kernels_found (record { there = K.first; counted = G.counts; many = refl }),
+      pairs_found (D / 2) xs (record { there = K.second; bounds = G.numbers; many = G.pairs }),
     )
 
 -- "nothing after the last"
-found-end : (b : List ℕ) (c : Body) {d : Body} {at end : ℕ} → end_at c b at ≡ found d end → (found c at ≡ found d end) × (at ≡ length b)
+found_end : (b : List ℕ) (c : Body) {d : Body} {at end : ℕ} → end_at c b at ≡ found d end → (found c at ≡ found d end) × (at ≡ length b)
 unfolding end_at
-found-end b c {d} {at} {end} e = go (ℕ_discrete at (length b))
+found_end b c {d} {at} {end} e = go (ℕ_discrete at (length b))
   where
     go : Dec (at ≡ length b) → (found c at ≡ found d end) × (at ≡ length b)
     go (yes k) = (rw (eqb_same k) at e, k)
-    go (no n) = absurd (fault≢found (rw (eqb-other n) at e))
+    go (no n) = absurd (fault≢found (rw (eqb_other n) at e))
 
 module _ (b : List ℕ) (D : ℕ) where
-  linesAt : ℕ → ℕ → Scan Body
-  linesAt L at = after (kernelsAt L b at) (λ ks at. after (pairsAt (D / 2) b at) (λ xs at. end_at (stated ks xs) b at))
+  lines_at : ℕ → ℕ → Scan Body
+  lines_at L at = after (kernels_at L b at) (λ ks at. after (pairs_at (D / 2) b at) (λ xs at. end_at (stated ks xs) b at))
 
   -- the lines after the level count L, which stands from `at` to mid
-  found-lines : {at L mid : ℕ} {c : Body} {end : ℕ} → Field (bytes "levels=") lineFeed b at L mid → L ≤ 64 → linesAt L mid ≡ found c end
+  found_lines : {at L mid : ℕ} {c : Body} {end : ℕ} → Field (bytes "levels=") line_feed b at L mid → L ≤ 64 → lines_at L mid ≡ found c end
       → Holds b D at c end
-  unfolding linesAt bodyText
-  found-lines {at} {L} {mid} F few e =
-      after-found (kernelsAt L b mid) _ e (λ ks next first rest.
-      let K = found-kernels L F.there.inside first in
-      let levels = subst (λ n. Between b at (bytes "levels=" ++ (decimal n ++ lineFeed)) mid) (sym K.many) F.there in
-      after-found (pairsAt (D / 2) b next) _ rest (λ xs last second rest.
-      let P = found-pairs (D / 2) K.there.inside second in
-      let E = found-end b (stated ks xs) rest in
-      same-found (Holds b D at) E.0 (record {
+  unfolding lines_at body_text
+  found_lines {at} {L} {mid} F few e =
+      after_found (kernels_at L b mid) _ e (λ ks next first rest.
+      let K = found_kernels L F.there.inside first in
+      let levels = subst (λ n. Between b at (bytes "levels=" ++ (decimal n ++ line_feed)) mid) (sym K.many) F.there in
+      after_found (pairs_at (D / 2) b next) _ rest (λ xs last second rest.
+      let P = found_pairs (D / 2) K.there.inside second in
+      let E = found_end b (stated ks xs) rest in
+      same_found (Holds b D at) E.0 (record {
         there = between_join levels (between_join K.there P.there);
         last = E.1;
         levels = omega (arith, K.many);
@@ -182,38 +182,38 @@ module _ (b : List ℕ) (D : ℕ) where
         pairs = P.many;
       })))
 
-found-body : {b : List ℕ} {D at : ℕ} {c : Body} {end : ℕ} → at ≤ length b → body D b at ≡ found c end → Holds b D at c end
-unfolding body linesAt
-found-body {b} {D} {at} {c} {end} h e =
-    after-found (field (bytes "levels=") lineFeed b at) _ e (λ L mid first rest. go L mid first rest (T? (ltb 64 L)))
+found_body : {b : List ℕ} {D at : ℕ} {c : Body} {end : ℕ} → at ≤ length b → body D b at ≡ found c end → Holds b D at c end
+unfolding body lines_at
+found_body {b} {D} {at} {c} {end} h e =
+    after_found (field (bytes "levels=") line_feed b at) _ e (λ L mid first rest. go L mid first rest (T? (ltb 64 L)))
   where
-    go : (L mid : ℕ) → field (bytes "levels=") lineFeed b at ≡ found L mid → (if ltb 64 L then fault tooManyLevels else linesAt b D L mid) ≡ found c end
+    go : (L mid : ℕ) → field (bytes "levels=") line_feed b at ≡ found L mid → (if ltb 64 L then fault too_many_levels else lines_at b D L mid) ≡ found c end
         → Dec (T (ltb 64 L)) → Holds b D at c end
     go L mid first rest (yes t) = absurd (fault≢found (rw (T→true (ltb 64 L) t) at rest))
     go L mid first rest (no n) =
-        found-lines b D (found-field (bytes "levels=") lineFeed tt tt h first) (nltb→le 64 L (not_T (ltb 64 L) n)) (rw (nT→false (ltb 64 L) n) at rest)
+        found_lines b D (found_field (bytes "levels=") line_feed tt tt h first) (nltb→le 64 L (not_T (ltb 64 L) n)) (rw (not_T→false (ltb 64 L) n) at rest)
 
 -- ---- the whole text
 
 -- A TEXT IN GOOD FORM IS READ AS WHAT IT STATES
-pub text-scanned : {F D : ℕ} {ks : List KernelLine} {xs : List ℕ} → GoodForm F D ks xs → Scanned (text_of F D ks xs) F D ks xs
+pub text_scanned : {F D : ℕ} {ks : List KernelLine} {xs : List ℕ} → GoodForm F D ks xs → Scanned (text_of F D ks xs) F D ks xs
 unfolding text_of end_at
-text-scanned {F} {D} {ks} {xs} G =
+text_scanned {F} {D} {ks} {xs} G =
     let b = text_of F D ks xs in
-    let S = between_split (openingText F D) (between-all b) in
+    let S = between_split (opening_text F D) (between_all b) in
     record {
       start = S.mid;
-      opens = opening-found (opened F D) (record { there = S.first; flag = G.flag; darts = G.darts });
+      opens = opening_found (opened F D) (record { there = S.first; flag = G.flag; darts = G.darts });
       holds = body_at G S.second ∙ rw (eqb_same {m = length b} refl);
     }
 
 -- WHAT IS READ IS A TEXT IN GOOD FORM
-pub scanned-text : {b : List ℕ} {o : Opening} {at : ℕ} {c : Body} {end : ℕ} → opening b ≡ found o at → body o.darts b at ≡ found c end
+pub scanned_text : {b : List ℕ} {o : Opening} {at : ℕ} {c : Body} {end : ℕ} → opening b ≡ found o at → body o.darts b at ≡ found c end
     → GoodForm o.flag o.darts c.kernels c.numbers × (b ≡ text_of o.flag o.darts c.kernels c.numbers)
 unfolding text_of
-scanned-text {b} e f =
-    let O = found-opening e in
-    let H = found-body O.there.inside f in (
+scanned_text {b} e f =
+    let O = found_opening e in
+    let H = found_body O.there.inside f in (
       record { flag = O.flag; darts = O.darts; levels = H.levels; counts = H.counts; numbers = H.numbers; pairs = H.pairs },
-      all-between (subst (Between b 0 _) H.last (between_join O.there H.there)),
+      all_between (subst (Between b 0 _) H.last (between_join O.there H.there)),
     )

@@ -14,9 +14,9 @@ use native.Mathlib.Omega.{arith}
 use lib.Dec.{T, ltb, ltb→lt}
 use lib.ListN.{length, drop, get_or, length-append, get_or-eq_default}
 use lib.Seq.{drop-cons, drop-drop, get_or-drop, drop-length, drop-append_seam}
-use Rattle.permutations.specs.Choice.{eqb_same, eqb-other, and_left, and_right}
+use Rattle.permutations.specs.Choice.{eqb_same, eqb_other, and_left, and_right}
 use Rattle.darts.specs.Answers.{Answer}
-use Rattle.darts.specs.Scan.{Scan, found, fault, after, byteAt, word}
+use Rattle.darts.specs.Scan.{Scan, found, fault, after, byte_at, word}
 
 pub record Between (b : List ℕ) (at : ℕ) (w : List ℕ) (end : ℕ) : Type 0 where
   pub rest : drop at b ≡ w ++ drop end b
@@ -31,8 +31,8 @@ pub record Split (b : List ℕ) (at : ℕ) (w v : List ℕ) (end : ℕ) : Type 0
 -- ---- one byte
 
 -- past the end there is no byte
-pub byte_inside : (b : List ℕ) (at : ℕ) → byteAt b at ≢ 256 → at < length b
-unfolding byteAt
+pub byte_inside : (b : List ℕ) (at : ℕ) → byte_at b at ≢ 256 → at < length b
+unfolding byte_at
 byte_inside b at n = go (dec_lt at (length b))
   where
     go : Dec (at < length b) → at < length b
@@ -40,19 +40,19 @@ byte_inside b at n = go (dec_lt at (length b))
     go (no h) = absurd (n (get_or-eq_default b 256 (omega arith)))
 
 module _ {b : List ℕ} {at c : ℕ} {w : List ℕ} {end : ℕ} (B : Between b at (c ∷ w) end) where
-  pub between-byte : byteAt b at ≡ c
-  unfolding byteAt
-  between-byte = ap (λ i. get_or b i 256) (sym (add-zero at)) ∙ sym (get_or-drop at b 0 256) ∙ ap (λ l. get_or l 0 256) B.rest
+  pub between_byte : byte_at b at ≡ c
+  unfolding byte_at
+  between_byte = ap (λ i. get_or b i 256) (sym (add-zero at)) ∙ sym (get_or-drop at b 0 256) ∙ ap (λ l. get_or l 0 256) B.rest
 
-  between-on : Between b (suc at) w end
-  between-on = record {
+  between_on : Between b (suc at) w end
+  between_on = record {
     rest = ap (λ i. drop i b) (sym (add-one at)) ∙ sym (drop-drop 1 at b) ∙ ap (drop 1) B.rest;
     place = omega (arith, B.place);
     inside = B.inside;
   }
 
-pub between_cons : {b : List ℕ} {at c : ℕ} {w : List ℕ} {end : ℕ} → byteAt b at ≡ c → Between b (suc at) w end → Between b at (c ∷ w) end
-unfolding byteAt
+pub between_cons : {b : List ℕ} {at c : ℕ} {w : List ℕ} {end : ℕ} → byte_at b at ≡ c → Between b (suc at) w end → Between b at (c ∷ w) end
+unfolding byte_at
 between_cons {b} {at} {c} {w} {end} e B = record {
   rest = drop-cons b at 256 (omega (arith, B.place, B.inside)) ∙ (λ i. e i ∷ B.rest i);
   place = omega (arith, B.place);
@@ -64,11 +64,11 @@ between_cons {b} {at} {c} {w} {end} e B = record {
 pub between_none : {b : List ℕ} {at : ℕ} → at ≤ length b → Between b at [] at
 between_none h = record { rest = refl; place = omega arith; inside = h }
 
-pub between-all : (b : List ℕ) → Between b 0 b (length b)
-between-all b = record { rest = sym (ap (λ l. b ++ l) (drop-length b) ∙ append-nil b); place = omega arith; inside = omega arith }
+pub between_all : (b : List ℕ) → Between b 0 b (length b)
+between_all b = record { rest = sym (ap (λ l. b ++ l) (drop-length b) ∙ append-nil b); place = omega arith; inside = omega arith }
 
-pub all-between : {b w : List ℕ} → Between b 0 w (length b) → b ≡ w
-all-between {b} {w} B = B.rest ∙ ap (λ l. w ++ l) (drop-length b) ∙ append-nil w
+pub all_between : {b w : List ℕ} → Between b 0 w (length b) → b ≡ w
+all_between {b} {w} B = B.rest ∙ ap (λ l. w ++ l) (drop-length b) ∙ append-nil w
 
 pub between_join : {b : List ℕ} {at mid end : ℕ} {w v : List ℕ} → Between b at w mid → Between b mid v end → Between b at (w ++ v) end
 between_join {b} {at} {mid} {end} {w} {v} B C = record {
@@ -94,24 +94,24 @@ pub fault≢found : {A : Type 0} {a : Answer} {x : A} {end : ℕ} → ◌≢◌ 
 fault≢found e = let z : ◌≡◌ {A = ℕ} 0 1 = cc in omega arith
 
 -- what holds of what was found holds of the same find
-pub same-found : {A : Type 0} (P : A → ℕ → Type 0) {x y : A} {at end : ℕ} → ◌≡◌ {A = Scan A} (found x at) (found y end) → P x at → P y end
-same-found P {x} {y} {at} {end} e h =
+pub same_found : {A : Type 0} (P : A → ℕ → Type 0) {x y : A} {at end : ℕ} → ◌≡◌ {A = Scan A} (found x at) (found y end) → P x at → P y end
+same_found P {x} {y} {at} {end} e h =
     let value : x ≡ y = cc in
     let place : at ≡ end = cc in
     subst₂ P value place h
 
 -- what f found after r: what r found, and f from there
-pub after-found : {A B Q : Type 0} (r : Scan A) (f : A → ℕ → Scan B) {y : B} {end : ℕ} → after r f ≡ found y end
+pub after_found : {A B Q : Type 0} (r : Scan A) (f : A → ℕ → Scan B) {y : B} {end : ℕ} → after r f ≡ found y end
     → ((x : A) (at : ℕ) → r ≡ found x at → f x at ≡ found y end → Q) → Q
-after-found (found x at) f e q = q x at refl e
-after-found (fault a) f e q = absurd (fault≢found e)
+after_found (found x at) f e q = q x at refl e
+after_found (fault a) f e q = absurd (fault≢found e)
 
 -- ---- a word is found exactly where it stands
 
-pub word-found : {b : List ℕ} (w : List ℕ) {at end : ℕ} → Between b at w end → word w b at ≡ found 0 end
+pub word_found : {b : List ℕ} (w : List ℕ) {at end : ℕ} → Between b at w end → word w b at ≡ found 0 end
 unfolding word
-word-found [] {at} {end} B = let e : at ≡ end = omega (arith, B.place) in ap (found 0) e
-word-found (c ∷ w) B = rw (eqb_same (between-byte B)) (word-found w (between-on B))
+word_found [] {at} {end} B = let e : at ≡ end = omega (arith, B.place) in ap (found 0) e
+word_found (c ∷ w) B = rw (eqb_same (between_byte B)) (word_found w (between_on B))
 
 abbrev pub all_bytes : List ℕ → Bool
 all_bytes [] = true
@@ -119,11 +119,11 @@ all_bytes (c ∷ w) = ltb c 256 && all_bytes w
 
 pub found_word : {b : List ℕ} (w : List ℕ) {at x end : ℕ} → T (all_bytes w) → at ≤ length b → word w b at ≡ found x end → Between b at w end
 unfolding word
-found_word {b} [] {at} a h e = same-found (λ _ end. Between b at [] end) e (between_none h)
-found_word {b} (c ∷ w) {at} {x} {end} a h e = go (ℕ_discrete (byteAt b at) c) (found_word w (and_right (ltb c 256) (all_bytes w) a))
+found_word {b} [] {at} a h e = same_found (λ _ end. Between b at [] end) e (between_none h)
+found_word {b} (c ∷ w) {at} {x} {end} a h e = go (ℕ_discrete (byte_at b at) c) (found_word w (and_right (ltb c 256) (all_bytes w) a))
   where
-    go : Dec (byteAt b at ≡ c) → (suc at ≤ length b → word w b (suc at) ≡ found x end → Between b (suc at) w end) → Between b at (c ∷ w) end
+    go : Dec (byte_at b at ≡ c) → (suc at ≤ length b → word w b (suc at) ≡ found x end → Between b (suc at) w end) → Between b at (c ∷ w) end
     go (yes k) rest =
         let small = ltb→lt c 256 (and_left (ltb c 256) (all_bytes w) a) in
         between_cons k (rest (byte_inside b at (omega arith)) (rw (eqb_same k) at e))
-    go (no n) rest = absurd (fault≢found (rw (eqb-other n) at e))
+    go (no n) rest = absurd (fault≢found (rw (eqb_other n) at e))

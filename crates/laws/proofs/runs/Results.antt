@@ -26,9 +26,9 @@ pub refuses≢gives : {a : Answer} {z : State} {u new : List ℕ} → refuses a 
 refuses≢gives e = let z : ◌≡◌ {A = ℕ} 0 1 = cc in omega arith
 
 -- what holds of a result holds of the same result
-pub same-result : (P : State → List ℕ → List ℕ → Type 0) {s : State} {t past : List ℕ} {z : State} {u new : List ℕ}
+pub same_result : (P : State → List ℕ → List ℕ → Type 0) {s : State} {t past : List ℕ} {z : State} {u new : List ℕ}
     → gives s t past ≡ gives z u new → P s t past → P z u new
-same-result P {s} {t} {past} {z} {u} {new} e h =
+same_result P {s} {t} {past} {z} {u} {new} e h =
     let state : s ≡ z = cc in
     let table : t ≡ u = cc in
     let history : past ≡ new = cc in
@@ -40,10 +40,10 @@ pub then : (r : Result) (f : State → List ℕ → List ℕ → Result) {z : St
 then (gives s t past) f e = record { state = s; table = t; past = past; first = refl; next = e }
 then (refuses a) f e = absurd (refuses≢gives e)
 
-pub then-gives : (r : Result) → and_then r gives ≡ r
-then-gives (gives s t past) = refl
-then-gives (refuses a) = refl
+pub then_gives : (r : Result) → and_then r gives ≡ r
+then_gives (gives s t past) = refl
+then_gives (refuses a) = refl
 
-pub then-then : (r : Result) (f g : State → List ℕ → List ℕ → Result) → and_then (and_then r f) g ≡ and_then r (λ s t past. and_then (f s t past) g)
-then-then (gives s t past) f g = refl
-then-then (refuses a) f g = refl
+pub then_then : (r : Result) (f g : State → List ℕ → List ℕ → Result) → and_then (and_then r f) g ≡ and_then r (λ s t past. and_then (f s t past) g)
+then_then (gives s t past) f g = refl
+then_then (refuses a) f g = refl

@@ -1,10 +1,10 @@
 -- Lent slices that agree wherever a call may look.
 --   Agree D n t h w t' h' w' == two lendings, for D darts after n operations, that agree so far
---   agree-behind             == whatever is put behind what a call may look at
---   by-one-test              == two choices by one test agree, if the one and the other branch do
---   take-over                == numbers laid over two slices that agree so far: they still do
---   room-same                == both have room, or neither
---   table_same, past_same, judged-same == a call on a state is lent the same table and past, and is judged alike
+--   agree_behind             == whatever is put behind what a call may look at
+--   by_one_test              == two choices by one test agree, if the one and the other branch do
+--   take_over                == numbers laid over two slices that agree so far: they still do
+--   room_same                == both have room, or neither
+--   table_same, past_same, judged_same == a call on a state is lent the same table and past, and is judged alike
 use mathlib.Core.Bool.{Bool, true, false}
 use mathlib.Core.List.{List, [], ◌∷◌, ◌++◌, reverse}
 use mathlib.Core.Logic.{◌↔◌}
@@ -20,84 +20,84 @@ use Rattle.darts.specs.Choose.{if◌then◌else◌}
 use Rattle.darts.specs.State.{State}
 use Rattle.darts.specs.Calls.{room, fitting, table_of, past_of, judged}
 use Rattle.slices.specs.Over.{over}
-use Rattle.darts.proofs.Fitting.{Lengths, room-facts, room-test}
+use Rattle.darts.proofs.Fitting.{Lengths, room_facts, room_test}
 
 -- the first D numbers of the table, the first n of the history, no number of the work area; and both histories have D/2 numbers, or neither, and both
 -- work areas 4D, or neither
 pub record Agree (D n : ℕ) (t h w t' h' w' : List ℕ) : Type 0 where
   pub table : take D t ≡ take D t'
   pub history : take n h ≡ take n h'
-  pub history-room : (D / 2 ≤ length h) ↔ (D / 2 ≤ length h')
-  pub work-room : (4 * D ≤ length w) ↔ (4 * D ≤ length w')
+  pub history_room : (D / 2 ≤ length h) ↔ (D / 2 ≤ length h')
+  pub work_room : (4 * D ≤ length w) ↔ (4 * D ≤ length w')
 
 -- any numbers behind those that a call may look at, and any work area as long
-pub agree-behind : (D n : ℕ) (t x h y w w' : List ℕ) → D ≤ length t → n ≤ length h → D / 2 ≤ length h → length w ≡ length w'
+pub agree_behind : (D n : ℕ) (t x h y w w' : List ℕ) → D ≤ length t → n ≤ length h → D / 2 ≤ length h → length w ≡ length w'
     → Agree D n t h w (t ++ x) (h ++ y) w'
-agree-behind D n t x h y w w' table count room work = record {
+agree_behind D n t x h y w w' table count room work = record {
   table = sym (take-append-le D t x table);
   history = sym (take-append-le n h y count);
-  history-room = (λ l. simp length-append (omega arith), λ l. room);
-  work-room = (λ l. omega arith, λ l. omega arith);
+  history_room = (λ l. simp length-append (omega arith), λ l. room);
+  work_room = (λ l. omega arith, λ l. omega arith);
 }
 
-pub by-one-test : {A : Type 0} (P : A → A → Type 0) (b : Bool) {x y x' y' : A} → P x x' → P y y' → P (if b then x else y) (if b then x' else y')
-by-one-test P true p q = p
-by-one-test P false p q = q
+pub by_one_test : {A : Type 0} (P : A → A → Type 0) (b : Bool) {x y x' y' : A} → P x x' → P y y' → P (if b then x else y) (if b then x' else y')
+by_one_test P true p q = p
+by_one_test P false p q = q
 
 -- ---- numbers laid over
 
-take-of-drop : (k j : ℕ) (l : List ℕ) → take j (drop k l) ≡ drop k (take (k + j) l)
-take-of-drop zero j l = rw zero-add
-take-of-drop (suc k) j [] = rw suc-add (take-nil j)
-take-of-drop (suc k) j (x ∷ l) = rw suc-add (take-of-drop k j l)
+take_of_drop : (k j : ℕ) (l : List ℕ) → take j (drop k l) ≡ drop k (take (k + j) l)
+take_of_drop zero j l = rw zero-add
+take_of_drop (suc k) j [] = rw suc-add (take-nil j)
+take_of_drop (suc k) j (x ∷ l) = rw suc-add (take_of_drop k j l)
 
 module _ (new old old' : List ℕ) where
   -- as far as the new numbers reach
-  pub take-new : (n : ℕ) → n ≤ length new → take n (over new old) ≡ take n (over new old')
+  pub take_new : (n : ℕ) → n ≤ length new → take n (over new old) ≡ take n (over new old')
   unfolding over
-  take-new n l = take-append-le n new (drop (length new) old) l ∙ sym (take-append-le n new (drop (length new) old') l)
+  take_new n l = take-append-le n new (drop (length new) old) l ∙ sym (take-append-le n new (drop (length new) old') l)
 
   take_beyond : (j : ℕ) → take (length new + j) old ≡ take (length new + j) old' → take (length new + j) (over new old) ≡ take (length new + j) (over new old')
   unfolding over
   take_beyond j e =
       let rest : take j (drop (length new) old) ≡ take j (drop (length new) old') =
-      take-of-drop (length new) j old ∙ ap (drop (length new)) e ∙ sym (take-of-drop (length new) j old') in
+      take_of_drop (length new) j old ∙ ap (drop (length new)) e ∙ sym (take_of_drop (length new) j old') in
       take-append-add new (drop (length new) old) j ∙ ap (λ l. new ++ l) rest ∙ sym (take-append-add new (drop (length new) old') j)
 
-  pub take-over : (n : ℕ) → take n old ≡ take n old' → take n (over new old) ≡ take n (over new old')
-  take-over n e = go (dec_lt n (length new))
+  pub take_over : (n : ℕ) → take n old ≡ take n old' → take n (over new old) ≡ take n (over new old')
+  take_over n e = go (dec_lt n (length new))
     where
       go : Dec (n < length new) → take n (over new old) ≡ take n (over new old')
-      go (yes l) = take-new n (omega arith)
+      go (yes l) = take_new n (omega arith)
       go (no l) = let s : n ≡ length new + (n - length new) = omega arith in rw s (take_beyond (n - length new) (rw s at e))
 
 -- ---- how a call is judged
 
-agree-back : {D n : ℕ} {t h w t' h' w' : List ℕ} → Agree D n t h w t' h' w' → Agree D n t' h' w' t h w
-agree-back A = record {
+agree_back : {D n : ℕ} {t h w t' h' w' : List ℕ} → Agree D n t h w t' h' w' → Agree D n t' h' w' t h w
+agree_back A = record {
   table = sym A.table;
   history = sym A.history;
-  history-room = (A.history-room.1, A.history-room.0);
-  work-room = (A.work-room.1, A.work-room.0);
+  history_room = (A.history_room.1, A.history_room.0);
+  work_room = (A.work_room.1, A.work_room.0);
 }
 
-lengths-same : {D n : ℕ} {t h w t' h' w' : List ℕ} → Agree D n t h w t' h' w' → Lengths D (length t) (length h) (length w)
+lengths_same : {D n : ℕ} {t h w t' h' w' : List ℕ} → Agree D n t h w t' h' w' → Lengths D (length t) (length h) (length w)
     → Lengths D (length t') (length h') (length w')
-lengths-same {D} A l = record {
+lengths_same {D} A l = record {
   table = let e = simp length-take at (ap length A.table) in omega arith;
-  history = A.history-room.0 l.history;
-  work = A.work-room.0 l.work;
+  history = A.history_room.0 l.history;
+  work = A.work_room.0 l.work;
 }
 
 module _ {D n : ℕ} {t h w t' h' w' : List ℕ} (A : Agree D n t h w t' h' w') where
-  pub room-same : room (length t) (length h) (length w) D ≡ room (length t') (length h') (length w') D
-  room-same =
-      T-ext _ _ (λ r. room-test (length t') (length h') (length w') D (lengths-same A (room-facts (length t) (length h) (length w) D r)))
-      (λ r. room-test (length t) (length h) (length w) D (lengths-same (agree-back A) (room-facts (length t') (length h') (length w') D r)))
+  pub room_same : room (length t) (length h) (length w) D ≡ room (length t') (length h') (length w') D
+  room_same =
+      T-ext _ _ (λ r. room_test (length t') (length h') (length w') D (lengths_same A (room_facts (length t) (length h) (length w) D r)))
+      (λ r. room_test (length t) (length h) (length w) D (lengths_same (agree_back A) (room_facts (length t') (length h') (length w') D r)))
 
-  fitting-same : fitting D (length t) (length h) (length w) ≡ fitting D (length t') (length h') (length w')
+  fitting_same : fitting D (length t) (length h) (length w) ≡ fitting D (length t') (length h') (length w')
   unfolding fitting
-  fitting-same = rw room-same
+  fitting_same = rw room_same
 
 module _ (s : State) {t h w t' h' w' : List ℕ} (A : Agree s.darts s.operations t h w t' h' w') where
   pub table_same : table_of s t ≡ table_of s t'
@@ -108,6 +108,6 @@ module _ (s : State) {t h w t' h' w' : List ℕ} (A : Agree s.darts s.operations
   unfolding past_of
   past_same = ap reverse A.history
 
-  pub judged-same : judged s t h w ≡ judged s t' h' w'
+  pub judged_same : judged s t h w ≡ judged s t' h' w'
   unfolding judged
-  judged-same = rw (fitting-same A, table_same, past_same)
+  judged_same = rw (fitting_same A, table_same, past_same)

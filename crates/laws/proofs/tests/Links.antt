@@ -12,13 +12,13 @@ use native.Mathlib.Nat.{not-suc-le-zero}
 use native.Mathlib.Omega.{arith}
 use lib.Dec.{T, eqb, ltb, ltb→lt, lt→ltb}
 use lib.ListN.{length}
-use Rattle.permutations.specs.Choice.{T?, T→true, nT→false, eqb-iff, and-iff, or-iff, not_iff}
+use Rattle.permutations.specs.Choice.{T?, T→true, not_T→false, eqb_iff, and_iff, or_iff, not_iff}
 use Rattle.darts.specs.Choose.{if◌then◌else◌}
 use Rattle.darts.specs.Map.{successor, gone, survives, culprits, passed}
 use Rattle.laws.specs.Standing.{Standing}
-use Rattle.laws.proofs.bridge.Standing.{live, live-iff, entry-live, entry-one}
+use Rattle.laws.proofs.bridge.Standing.{live, live_iff, entry_live, entry_one}
 use Rattle.laws.proofs.bridge.StandsBy.{stands_by}
-use Rattle.darts.specs.Tests.{led, links, blamed, linksFrom, survivorsTest, linked}
+use Rattle.darts.specs.Tests.{led, links, blamed, links_from, survivors_test, linked}
 
 record Led (t past : List ℕ) (d x : ℕ) : Type 0 where
   dart : ℕ
@@ -26,17 +26,17 @@ record Led (t past : List ℕ) (d x : ℕ) : Type 0 where
   survivor : T (survives past dart)
   leads : successor t dart ≡ x
 
-led-iff : (t past : List ℕ) (d x : ℕ) → T (led t past d x) ↔ Led t past d x
+led_iff : (t past : List ℕ) (d x : ℕ) → T (led t past d x) ↔ Led t past d x
 unfolding led
-led-iff t past zero x = (λ h. absurd h, λ l. absurd (not-suc-le-zero l.lower))
-led-iff t past (suc d) x = step (led-iff t past d x)
+led_iff t past zero x = (λ h. absurd h, λ l. absurd (not-suc-le-zero l.lower))
+led_iff t past (suc d) x = step (led_iff t past d x)
   where
     here : T (survives past d && eqb (successor t d) x) ↔ (T (survives past d) × (successor t d ≡ x))
-    here = and-iff (survives past d) (eqb (successor t d) x) Iff.rfl (λ s. eqb-iff (successor t d) x)
+    here = and_iff (survives past d) (eqb (successor t d) x) Iff.rfl (λ s. eqb_iff (successor t d) x)
 
     step : T (led t past d x) ↔ Led t past d x → T ((survives past d && eqb (successor t d) x) || led t past d x) ↔ Led t past (suc d) x
     step rest =
-        let i = or-iff (survives past d && eqb (successor t d) x) (led t past d x) here rest in (
+        let i = or_iff (survives past d && eqb (successor t d) x) (led t past d x) here rest in (
           λ h. ⊎_elim
               (λ e. record { dart = d; lower = omega arith; survivor = e.0; leads = e.1 })
               (λ l. record { dart = l.dart; lower = omega (arith, l.lower); survivor = l.survivor; leads = l.leads }) (i.0 h),
@@ -52,14 +52,14 @@ record Link (D : ℕ) (t past : List ℕ) (x : ℕ) : Type 0 where
   onward : T (survives past x) → T (survives past (successor t x))
   alone : T (survives past x) → (y : ℕ) → y < x → T (survives past y) → successor t y ≢ successor t x
 
-unless-iff : (g b : Bool) {B : Type 0} → T b ↔ B → T (g || b) ↔ (T (not g) → B)
-unless-iff true b e = (λ h k. absurd k, λ h. tt)
-unless-iff false b e = (λ h k. e.0 h, λ h. e.1 (h tt))
+unless_iff : (g b : Bool) {B : Type 0} → T b ↔ B → T (g || b) ↔ (T (not g) → B)
+unless_iff true b e = (λ h k. absurd k, λ h. tt)
+unless_iff false b e = (λ h k. e.0 h, λ h. e.1 (h tt))
 
 module _ (D : ℕ) (t past : List ℕ) where
-  link-iff : (x : ℕ) → T (links D t past x) ↔ Link D t past x
+  link_iff : (x : ℕ) → T (links D t past x) ↔ Link D t past x
   unfolding links survives
-  link-iff x = (
+  link_iff x = (
     λ h. let (i, s) = tests.0 h in record {
       inside = i;
       onward = λ l. (s l).0;
@@ -72,44 +72,44 @@ module _ (D : ℕ) (t past : List ℕ) where
       y = successor t x
 
       tests : T (links D t past x) ↔ ((y < D) × (T (survives past x) → T (survives past y) × (¬ Led t past x y)))
-      tests = and-iff (ltb y D) _ (ltb→lt y D, lt→ltb y D) (λ i. unless-iff (gone past x) _
-          (and-iff (survives past y) (not (led t past x y)) Iff.rfl (λ s. not_iff (led t past x y) (led-iff t past x y))))
+      tests = and_iff (ltb y D) _ (ltb→lt y D, lt→ltb y D) (λ i. unless_iff (gone past x) _
+          (and_iff (survives past y) (not (led t past x y)) Iff.rfl (λ s. not_iff (led t past x y) (led_iff t past x y))))
 
   -- the test is passed where each of the n darts from y on is linked
-  from-iff : (n y : ℕ) → T (passed (linksFrom D t past n y)) ↔ ((x : ℕ) → y ≤ x → x < y + n → Link D t past x)
-  unfolding linksFrom
-  from-iff zero y = (λ h x l b. absurd (omega arith), λ h. tt)
-  from-iff (suc n) y = go (T? (links D t past y)) (from-iff n (suc y))
+  from_iff : (n y : ℕ) → T (passed (links_from D t past n y)) ↔ ((x : ℕ) → y ≤ x → x < y + n → Link D t past x)
+  unfolding links_from
+  from_iff zero y = (λ h x l b. absurd (omega arith), λ h. tt)
+  from_iff (suc n) y = go (T? (links D t past y)) (from_iff n (suc y))
     where
-      go : Dec (T (links D t past y)) → T (passed (linksFrom D t past n (suc y))) ↔ ((x : ℕ) → suc y ≤ x → x < suc y + n → Link D t past x)
-          → T (passed (if links D t past y then linksFrom D t past n (suc y) else culprits y (blamed D t past y)))
+      go : Dec (T (links D t past y)) → T (passed (links_from D t past n (suc y))) ↔ ((x : ℕ) → suc y ≤ x → x < suc y + n → Link D t past x)
+          → T (passed (if links D t past y then links_from D t past n (suc y) else culprits y (blamed D t past y)))
           ↔ ((x : ℕ) → y ≤ x → x < y + suc n → Link D t past x)
       go (yes k) i = rw (T→true (links D t past y) k)
           (λ h x l b. first x l b (ℕ_discrete x y) (i.0 h), λ f. i.1 (λ x l b. f x (omega arith) (omega arith)))
         where
           first : (x : ℕ) → y ≤ x → x < y + suc n → Dec (x ≡ y) → ((x : ℕ) → suc y ≤ x → x < suc y + n → Link D t past x) → Link D t past x
-          first x l b (yes e) f = rw e ((link-iff y).0 k)
+          first x l b (yes e) f = rw e ((link_iff y).0 k)
           first x l b (no m) f = f x (omega arith) (omega arith)
-      go (no k) i = rw (nT→false (links D t past y) k) (λ h. absurd h, λ f. k ((link-iff y).1 (f y (omega arith) (omega arith))))
+      go (no k) i = rw (not_T→false (links D t past y) k) (λ h. absurd h, λ f. k ((link_iff y).1 (f y (omega arith) (omega arith))))
 
-  linked-iff : T (linked D t past) ↔ ((x : ℕ) → x < D → Link D t past x)
-  unfolding survivorsTest
-  linked-iff = (λ h x b. (from-iff D 0).0 h x (omega arith) (omega arith), λ f. (from-iff D 0).1 (λ x l b. f x (omega arith)))
+  linked_iff : T (linked D t past) ↔ ((x : ℕ) → x < D → Link D t past x)
+  unfolding survivors_test
+  linked_iff = (λ h x b. (from_iff D 0).0 h x (omega arith) (omega arith), λ f. (from_iff D 0).1 (λ x l b. f x (omega arith)))
 
   -- TESTS 3 TO 5 HOLD EXACTLY OF A TABLE THAT STANDS
-  pub linked-stands : D % 2 ≡ 0 → length t ≡ D → T (linked D t past) ↔ Standing D t past
-  linked-stands even size = (λ h. stand (linked-iff.0 h), λ S. linked-iff.1 (link S))
+  pub linked_stands : D % 2 ≡ 0 → length t ≡ D → T (linked D t past) ↔ Standing D t past
+  linked_stands even size = (λ h. stand (linked_iff.0 h), λ S. linked_iff.1 (link S))
     where
       stand : ((x : ℕ) → x < D → Link D t past x) → Standing D t past
       stand f = stands_by D t past even size (λ x h. (f x h).inside) onward alone
         where
           onward : (x : ℕ) → T (live D past x) → T (live D past (successor t x))
           onward x h =
-              let (b, s) = (live-iff D past x).0 h in
-              (live-iff D past (successor t x)).1 ((f x b).inside, (f x b).onward s)
+              let (b, s) = (live_iff D past x).0 h in
+              (live_iff D past (successor t x)).1 ((f x b).inside, (f x b).onward s)
 
           alone : (x y : ℕ) → T (live D past x) → T (live D past y) → successor t x ≡ successor t y → x ≡ y
-          alone x y h k e = go ((live-iff D past x).0 h) ((live-iff D past y).0 k) (dec_lt x y) (dec_lt y x)
+          alone x y h k e = go ((live_iff D past x).0 h) ((live_iff D past y).0 k) (dec_lt x y) (dec_lt y x)
             where
               go : (x < D) × T (survives past x) → (y < D) × T (survives past y) → Dec (x < y) → Dec (y < x) → x ≡ y
               go (b, s) (c, u) (yes l) d = absurd ((f y c).alone u x l s e)
@@ -119,10 +119,10 @@ module _ (D : ℕ) (t past : List ℕ) where
       link : Standing D t past → (x : ℕ) → x < D → Link D t past x
       link S x b = record {
         inside = S.inside x b;
-        onward = λ s. ((live-iff D past (successor t x)).0 (entry-live S x (lives x b s))).1;
+        onward = λ s. ((live_iff D past (successor t x)).0 (entry_live S x (lives x b s))).1;
         alone = λ s y l k e. let c : y < D = omega arith in
-            let i = entry-one S y (lives y c k) x (lives x b s) e in omega arith;
+            let i = entry_one S y (lives y c k) x (lives x b s) e in omega arith;
       }
         where
           lives : (x : ℕ) → x < D → T (survives past x) → T (live D past x)
-          lives x b s = (live-iff D past x).1 (b, s)
+          lives x b s = (live_iff D past x).1 (b, s)

@@ -14,20 +14,20 @@ use Rattle.darts.specs.State.{State, gives, raised, reduce}
 use Rattle.darts.specs.Pyramid.{Kernel, Pyramid, build}
 use Rattle.laws.proofs.Lists.{reverse_onto}
 use Rattle.laws.specs.Standing.{Standing}
-use Rattle.laws.proofs.bridge.Bases.{base-stands}
-use Rattle.laws.proofs.bridge.Judged.{judge-legal}
-use Rattle.laws.proofs.bridge.Numbers.{number-kind, number-lead, number-edge}
-use Rattle.laws.proofs.bridge.Lead.{lead-leads}
-use Rattle.laws.proofs.bridge.Operate.{operate-stands, undo-operate}
-use Rattle.laws.proofs.runs.Operations.{AllDone, none, first, run-iff, told-count, told-longer, told-kinds}
-use Rattle.laws.proofs.runs.Ends.{Layered, layered-base, marks-raised}
-use Rattle.laws.proofs.runs.Results.{then, same-result}
-use Rattle.laws.proofs.runs.Reduces.{Reduced, reduce-raises, reduced, reduced-layered}
-use Rattle.darts.specs.Tests.{numbered, fits, backs, oneKind, rises}
-use Rattle.laws.proofs.tests.Fits.{numbered-iff}
-use Rattle.laws.proofs.tests.Forth.{redo-fits}
+use Rattle.laws.proofs.bridge.Bases.{base_stands}
+use Rattle.laws.proofs.bridge.Judged.{judge_legal}
+use Rattle.laws.proofs.bridge.Numbers.{number_kind, number_lead, number_edge}
+use Rattle.laws.proofs.bridge.Lead.{lead_leads}
+use Rattle.laws.proofs.bridge.Operate.{operate_stands, undo_operate}
+use Rattle.laws.proofs.runs.Operations.{AllDone, none, first, run_iff, told_count, told_longer, told_kinds}
+use Rattle.laws.proofs.runs.Ends.{Layered, layered_base, marks_raised}
+use Rattle.laws.proofs.runs.Results.{then, same_result}
+use Rattle.laws.proofs.runs.Reduces.{Reduced, reduce_raises, reduced, reduced_layered}
+use Rattle.darts.specs.Tests.{numbered, fits, backs, one_kind, rises}
+use Rattle.laws.proofs.tests.Fits.{numbered_iff}
+use Rattle.laws.proofs.tests.Forth.{redo_fits}
 use Rattle.laws.proofs.tests.Replays.{Allowed}
-use Rattle.laws.proofs.tests.Shape.{one-kind, rises-more}
+use Rattle.laws.proofs.tests.Shape.{one_kind_lem, rises_more}
 
 pub record Sound (D : ℕ) (t past : List ℕ) : Type 0 where
   pub standing : Standing D t past
@@ -37,29 +37,29 @@ pub record Sound (D : ℕ) (t past : List ℕ) : Type 0 where
 
 -- ---- one operation more, and several
 
-sound-base : {D : ℕ} {t : List ℕ} → Standing D t [] → Sound D t []
+sound_base : {D : ℕ} {t : List ℕ} → Standing D t [] → Sound D t []
 unfolding numbered backs
-sound-base S = record { standing = S; numbers = tt; fitting = tt; legal = tt }
+sound_base S = record { standing = S; numbers = tt; fitting = tt; legal = tt }
 
 sound_more : {D : ℕ} {t past : List ℕ} → Sound D t past → (k : Kind) (e : ℕ) → judge k D t past e ≡ 0
     → Sound D (operate k D t past e) (number k (lead k t e) ∷ past)
 unfolding backs
 sound_more {D} {t} {past} Q k e fine =
     let S = Q.standing in
-    let legal = (judge-legal S k e).0 fine in
-    let back = undo-operate S k e fine in
+    let legal = (judge_legal S k e).0 fine in
+    let back = undo_operate S k e fine in
     record {
-      standing = operate-stands S k e fine;
-      numbers = (numbered-iff D (number k (lead k t e)) past).1 (rw (number-lead k (lead k t e)) (lead-leads S k e legal).lives, Q.numbers);
+      standing = operate_stands S k e fine;
+      numbers = (numbered_iff D (number k (lead k t e)) past).1 (rw (number_lead k (lead k t e)) (lead_leads S k e legal).lives, Q.numbers);
       fitting =
-          and_intro (fits D (operate k D t past e) (number k (lead k t e)) past) _ (redo-fits S k e fine)
+          and_intro (fits D (operate k D t past e) (number k (lead k t e)) past) _ (redo_fits S k e fine)
           (subst (λ w. T (backs D w past)) (sym back) Q.fitting);
-      legal = rw (back, number-kind k (lead k t e), number-edge k t e) (legal, Q.legal);
+      legal = rw (back, number_kind k (lead k t e), number_edge k t e) (legal, Q.legal);
     }
 
-sound-all : {D : ℕ} {t past u new : List ℕ} → Sound D t past → (os : List Operation) → AllDone D t past os u new → Sound D u new
-sound-all Q [] none = Q
-sound-all Q (o ∷ os) (first fine rest) = sound-all (sound_more Q o.kind o.edge fine) os rest
+sound_all : {D : ℕ} {t past u new : List ℕ} → Sound D t past → (os : List Operation) → AllDone D t past os u new → Sound D u new
+sound_all Q [] none = Q
+sound_all Q (o ∷ os) (first fine rest) = sound_all (sound_more Q o.kind o.edge fine) os rest
 
 -- ---- one level more
 
@@ -73,10 +73,10 @@ module _ {D : ℕ} {s : State} {t past : List ℕ} {z : State} {u new : List ℕ
   R : Reduced D s t past k z u new
   R = reduced Q.sound.standing Q.layered k e
 
-  rising-more : T (rises 0 (take z.levels z.ends) (reverse new))
+  rising_more : T (rises 0 (take z.levels z.ends) (reverse new))
   unfolding raised
-  rising-more = rw (R.state, marks-raised Q.layered R.room u new R.grows, longer, history)
-      (rises-more 0 (take s.levels s.ends) (reverse past) numbers Q.rising one some)
+  rising_more = rw (R.state, marks_raised Q.layered R.room u new R.grows, longer, history)
+      (rises_more 0 (take s.levels s.ends) (reverse past) numbers Q.rising one some)
     where
       numbers : List ℕ
       numbers = R.ran.tells.numbers
@@ -84,35 +84,35 @@ module _ {D : ℕ} {s : State} {t past : List ℕ} {z : State} {u new : List ℕ
       history : reverse new ≡ reverse past ++ numbers
       history = ap reverse R.ran.tells.history ∙ reverse_onto numbers past
 
-      one : T (oneKind numbers)
-      one = one-kind k.kind numbers k.edges (told-kinds k.kind k.edges numbers R.ran.tells.told)
+      one : T (one_kind numbers)
+      one = one_kind_lem k.kind numbers k.edges (told_kinds k.kind k.edges numbers R.ran.tells.told)
 
       longer : length new ≡ 0 + length (reverse past) + length numbers
-      longer = let h = told-longer R.ran.tells in let c = told-count R.ran.tells in simp length-reverse (omega arith)
+      longer = let h = told_longer R.ran.tells in let c = told_count R.ran.tells in simp length-reverse (omega arith)
 
       some : 0 < length numbers
-      some = let h = told-longer R.ran.tells in let c = told-count R.ran.tells in let g = R.grows in omega arith
+      some = let h = told_longer R.ran.tells in let c = told_count R.ran.tells in let g = R.grows in omega arith
 
-  shaped-more : Shaped D z u new
-  shaped-more = record {
+  shaped_more : Shaped D z u new
+  shaped_more = record {
     sound =
-        let stood = rw Q.layered.size at (reduce-raises s t past k.kind k.edges e).stood in
-        sound-all Q.sound (each k.kind k.edges) ((run-iff k.kind D t past k.edges).0 stood);
-    layered = reduced-layered Q.layered R;
-    rising = rising-more;
+        let stood = rw Q.layered.size at (reduce_raises s t past k.kind k.edges e).stood in
+        sound_all Q.sound (each k.kind k.edges) ((run_iff k.kind D t past k.edges).0 stood);
+    layered = reduced_layered Q.layered R;
+    rising = rising_more;
   }
 
-shaped-build : {D : ℕ} {s : State} {t past : List ℕ} {z : State} {u new : List ℕ} → Shaped D s t past
+shaped_build : {D : ℕ} {s : State} {t past : List ℕ} {z : State} {u new : List ℕ} → Shaped D s t past
     → (ks : List Kernel) → build s t past ks ≡ gives z u new → Shaped D z u new
 unfolding build
-shaped-build {D} Q [] e = same-result (Shaped D) e Q
-shaped-build {D} {s} {t} {past} Q (k ∷ ks) e =
+shaped_build {D} Q [] e = same_result (Shaped D) e Q
+shaped_build {D} {s} {t} {past} Q (k ∷ ks) e =
     let B = then (reduce k.kind k.edges s t past) (λ s t past. build s t past ks) e in
-    shaped-build (shaped-more Q k B.first) ks B.next
+    shaped_build (shaped_more Q k B.first) ks B.next
 
 -- EVERY PYRAMID IS SO SHAPED
-pub pyramid-shaped : {s : State} {t past : List ℕ} → Pyramid s t past → Shaped s.darts s t past
+pub pyramid_shaped : {s : State} {t past : List ℕ} → Pyramid s t past → Shaped s.darts s t past
 unfolding rises
-pyramid-shaped {s} P =
-    let S = base-stands s.darts P.base P.count P.size P.permutation in
-    shaped-build (record { sound = sound-base S; layered = layered-base s.darts P.base; rising = tt }) P.kernels P.built
+pyramid_shaped {s} P =
+    let S = base_stands s.darts P.base P.count P.size P.permutation in
+    shaped_build (record { sound = sound_base S; layered = layered_base s.darts P.base; rising = tt }) P.kernels P.built

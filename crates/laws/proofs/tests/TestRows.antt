@@ -14,66 +14,66 @@ use Rattle.permutations.specs.Partner.{partner}
 use Rattle.permutations.specs.Map.{mate, face}
 use Rattle.permutations.specs.Labels.{merge}
 use Rattle.darts.specs.Choose.{if◌then◌else◌}
-use Rattle.darts.specs.Map.{successor, gone, survives, beforeIn, before, repeats, culprit, testFrom, permutationTest, passed}
-use Rattle.darts.specs.Operation.{Kind, contraction, removal, kind_of, leadOf, put_back, undoOne, undone}
+use Rattle.darts.specs.Map.{successor, gone, survives, before_in, before, repeats, culprit, test_from, permutation_test, passed}
+use Rattle.darts.specs.Operation.{Kind, contraction, removal, kind_of, lead_of, put_back, undo_one, undone}
 use Rattle.darts.specs.State.{State}
-use Rattle.darts.specs.Pyramid.{dartCount, same_numbers}
+use Rattle.darts.specs.Pyramid.{dart_count, same_numbers}
 use Rattle.laws.proofs.bridge.Standing.{live}
-use Rattle.darts.specs.Tests.{numbered, led, links, blamed, linksFrom, survivorsTest, near, fits, backs, sameKind, relabel, relabelled, parted, replays, ofKind, oneKind, rises, zeros, shaped, tested}
-use Rattle.laws.proofs.bridge.Walks.{lowestMet}
+use Rattle.darts.specs.Tests.{numbered, led, links, blamed, links_from, survivors_test, near, fits, backs, same_kind, relabel, relabelled, parted, replays, of_kind, one_kind, rises, zeros, shaped, tested}
+use Rattle.laws.proofs.bridge.Walks.{lowest_met}
 use Rattle.laws.proofs.tests.TestsDecide.{base_of}
 use Rattle.laws.proofs.tests.TopLabels.{walked}
 
 -- ---- one test at a time
 
-abbrev eachNumber : (ℕ → List ℕ → Bool) → List ℕ → Bool
-eachNumber f [] = true
-eachNumber f (h ∷ past) = f h past && eachNumber f past
+abbrev each_number : (ℕ → List ℕ → Bool) → List ℕ → Bool
+each_number f [] = true
+each_number f (h ∷ past) = f h past && each_number f past
 
-abbrev eachDart : (ℕ → Bool) → ℕ → Bool
-eachDart f zero = true
-eachDart f (suc x) = f x && eachDart f x
+abbrev each_dart : (ℕ → Bool) → ℕ → Bool
+each_dart f zero = true
+each_dart f (suc x) = f x && each_dart f x
 
 -- a test of each operation of kind k that writes one entry (or two), once the later ones are undone; it sees the survivors, p, r and s
-abbrev eachBack : Kind → Bool → ((ℕ → Bool) → ℕ → ℕ → ℕ → Bool) → ℕ → List ℕ → List ℕ → Bool
-eachBack k single f D t [] = true
-eachBack k single f D t (h ∷ past) =
-    let p : ℕ = leadOf h in
+abbrev each_back : Kind → Bool → ((ℕ → Bool) → ℕ → ℕ → ℕ → Bool) → ℕ → List ℕ → List ℕ → Bool
+each_back k single f D t [] = true
+each_back k single f D t (h ∷ past) =
+    let p : ℕ = lead_of h in
     let r : ℕ = successor t p in
     let s : ℕ = successor t (partner p) in
-    let asked : Bool = sameKind k (kind_of h) && beq (eqb (near k r s) (partner p)) single in
-    (not asked || f (live D (h ∷ past)) p r s) && eachBack k single f D (undoOne D t h past) past
+    let asked : Bool = same_kind k (kind_of h) && beq (eqb (near k r s) (partner p)) single in
+    (not asked || f (live D (h ∷ past)) p r s) && each_back k single f D (undo_one D t h past) past
 
 -- labels have to be right only for a base; where the undone table is none, each dart has its own
 abbrev labels : Kind → State → List ℕ → List ℕ → ℕ → ℕ
 labels k s t past =
-    if passed (permutationTest s.darts (base_of s t past)) then walked k s t past else (λ x. x)
+    if passed (permutation_test s.darts (base_of s t past)) then walked k s t past else (λ x. x)
 
-abbrev numbersOf : ℕ → List Bool → List ℕ
-numbersOf n [] = []
-numbersOf n (b ∷ bs) = if b then numbersOf (suc n) bs else n ∷ numbersOf (suc n) bs
+abbrev numbers_of : ℕ → List Bool → List ℕ
+numbers_of n [] = []
+numbers_of n (b ∷ bs) = if b then numbers_of (suc n) bs else n ∷ numbers_of (suc n) bs
 
 -- the seventeen tests in their order
 abbrev refusing : State → List ℕ → List ℕ → List ℕ
 refusing s t hs =
     let D : ℕ = s.darts in
     let past : List ℕ = reverse hs in
-    numbersOf 1 (
-    eachNumber (λ h past. ltb h (2 * D)) past  -- 1
-    ∷ eachNumber (λ h past. not (gone past (leadOf h))) past  -- 2
-    ∷ eachDart (λ x. ltb (successor t x) D) D  -- 3
-    ∷ eachDart (λ x. gone past x || survives past (successor t x)) D  -- 4
-    ∷ eachDart (λ x. gone past x || not (led t past x (successor t x))) D  -- 5
-    ∷ eachBack removal true (λ now p r s. now s) D t past  -- 6
-    ∷ eachBack removal false (λ now p r s. eqb (p % 2) 0) D t past  -- 7
-    ∷ eachBack removal false (λ now p r s. now r) D t past  -- 8
-    ∷ eachBack removal false (λ now p r s. now s) D t past  -- 9
-    ∷ eachBack removal false (λ now p r s. not (eqb r s)) D t past  -- 10
-    ∷ eachBack contraction true (λ now p r s. now r) D t past  -- 11
-    ∷ eachBack contraction false (λ now p r s. eqb (p % 2) 0) D t past  -- 12
-    ∷ eachBack contraction false (λ now p r s. now r) D t past  -- 13
-    ∷ eachBack contraction false (λ now p r s. now s) D t past  -- 14
-    ∷ eachBack contraction false (λ now p r s. not (eqb r s)) D t past  -- 15
+    numbers_of 1 (
+    each_number (λ h past. ltb h (2 * D)) past  -- 1
+    ∷ each_number (λ h past. not (gone past (lead_of h))) past  -- 2
+    ∷ each_dart (λ x. ltb (successor t x) D) D  -- 3
+    ∷ each_dart (λ x. gone past x || survives past (successor t x)) D  -- 4
+    ∷ each_dart (λ x. gone past x || not (led t past x (successor t x))) D  -- 5
+    ∷ each_back removal true (λ now p r s. now s) D t past  -- 6
+    ∷ each_back removal false (λ now p r s. eqb (p % 2) 0) D t past  -- 7
+    ∷ each_back removal false (λ now p r s. now r) D t past  -- 8
+    ∷ each_back removal false (λ now p r s. now s) D t past  -- 9
+    ∷ each_back removal false (λ now p r s. not (eqb r s)) D t past  -- 10
+    ∷ each_back contraction true (λ now p r s. now r) D t past  -- 11
+    ∷ each_back contraction false (λ now p r s. eqb (p % 2) 0) D t past  -- 12
+    ∷ each_back contraction false (λ now p r s. now r) D t past  -- 13
+    ∷ each_back contraction false (λ now p r s. now s) D t past  -- 14
+    ∷ each_back contraction false (λ now p r s. not (eqb r s)) D t past  -- 15
     ∷ replays contraction (labels contraction s t past) hs  -- 16
     ∷ replays removal (labels removal s t past) hs  -- 17
     ∷ []
@@ -102,9 +102,9 @@ right (row t hs ends refused) =
     shaped s hs && same_numbers (refusing s t hs) refused
     && beq (tested (labels contraction s t past) (labels removal s t past) s t past) (is_none refused)
 
-abbrev allRight : List Row → Bool
-allRight [] = true
-allRight (r ∷ rs) = right r && allRight rs
+abbrev all_right : List Row → Bool
+all_right [] = true
+all_right (r ∷ rs) = right r && all_right rs
 
 abbrev pub rows : List Row
 rows =
@@ -130,6 +130,6 @@ rows =
     ∷ row (5 ∷ 2 ∷ 5 ∷ 4 ∷ 6 ∷ 4 ∷ 6 ∷ 7 ∷ []) (1 ∷ 5 ∷ 10 ∷ []) (2 ∷ 3 ∷ []) []
     ∷ []
 
-pub rows_right : allRight rows ≡ true
-unfolding partner mate face merge successor gone survives beforeIn before repeats culprit testFrom permutationTest kind_of leadOf put_back undoOne undone dartCount same_numbers live numbered led links blamed linksFrom survivorsTest near fits backs sameKind relabel relabelled parted replays ofKind oneKind rises zeros shaped tested lowestMet
+pub rows_right : all_right rows ≡ true
+unfolding partner mate face merge successor gone survives before_in before repeats culprit test_from permutation_test kind_of lead_of put_back undo_one undone dart_count same_numbers live numbered led links blamed links_from survivors_test near fits backs same_kind relabel relabelled parted replays of_kind one_kind rises zeros shaped tested lowest_met
 rows_right = refl

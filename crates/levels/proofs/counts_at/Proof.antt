@@ -1,6 +1,6 @@
 -- `levels::counts_at`: counts go on from what unfold left.
 use mathlib.Core.Path.{ap, ◌∙◌}
-use Rattle.levels.specs.Report.{counted, countsAt}
+use Rattle.levels.specs.Report.{counted, counts_at}
 use borrow.Author.Rules.{rules}
 use Rattle.levels.proofs.counts_at.Statement.{statement}
 use Rattle.levels.proofs.counts_at.Tie as tie
@@ -21,10 +21,10 @@ same-length-3 : tie.Need-same-length-3
 same-length-3 c = search rules
 
 returns : tie.Need-returns
-unfolding countsAt
+unfolding counts_at
 returns c = c.before.before.before.before.before.before.counts.ensures ∙ ap counted c.before.before.before.before.before.before.before.before.before.before.before.before.before.before.before.before.before.unfolded.ensures
 
-pub counts-at-spec : {M : Type 1} → statement M
-counts-at-spec =
+pub counts_at_spec : {M : Type 1} → statement M
+counts_at_spec =
     tie.close
     (tie.spec unfolded-requires counts-requires same_length same-length-2 same-length-3 returns)

@@ -1,6 +1,6 @@
 -- `levels::level`: the next level's number fits, since no file has more than 64 levels.
 use native.Mathlib.Omega.{arith}
-use Rattle.levels.proofs.ReportLines.{line-most}
+use Rattle.levels.proofs.ReportLines.{line_most}
 use borrow.Author.Rules.{rules}
 use Rattle.levels.proofs.level.Statement.{statement}
 use Rattle.levels.proofs.level.Tie as tie
@@ -24,7 +24,7 @@ text-requires : tie.Need-text-requires
 text-requires c κs = search rules
 
 add-t22 : tie.Need-overflow-add-t22
-add-t22 c = omega (arith, line-most c.before.before.before.before.before.before.before.before.before.before.before.before.before.before.before.before.before.requires.0)
+add-t22 c = omega (arith, line_most c.before.before.before.before.before.before.before.before.before.before.before.before.before.before.before.before.before.requires.0)
 
 same_length : tie.Need-same-length
 same_length c = search rules
@@ -32,8 +32,8 @@ same_length c = search rules
 returns : tie.Need-returns
 returns c = search rules
 
-pub level-spec : {M : Type 1} → statement M
-level-spec =
+pub level_spec : {M : Type 1} → statement M
+level_spec =
     tie.close
     (tie.spec
     slice-aggregate-field

@@ -54,8 +54,8 @@ same-length-4 c = search rules
 returns : tie.Need-returns invariant-loop decreases-loop
 returns c = (all_lines c.before.before.before.before.before.before.before.before.requires.0 (omega arith) (omega arith), search rules)
 
-pub levels-spec : {M : Type 1} → statement M
-levels-spec =
+pub levels_spec : {M : Type 1} → statement M
+levels_spec =
     tie.close
     (tie.spec
     invariant-loop

@@ -1,7 +1,7 @@
 -- `levels::report`: the answer says whether the file is refused, and the state that was read which level is the top.
 use mathlib.Core.Path.{sym, ◌∙◌}
 use borrow.Author.Rules.{rules}
-use Rattle.levels.proofs.ReportLines.{refused-read, accepted-read}
+use Rattle.levels.proofs.ReportLines.{refused_read, accepted_read}
 use Rattle.levels.proofs.report.Statement.{statement}
 use Rattle.levels.proofs.report.Tie as tie
 
@@ -15,7 +15,7 @@ refusal-requires : tie.Need-refusal-requires
 refusal-requires c κs =
     let r = c.before.before.before.before.before.before.before.before.before.read in
     let given = c.before.before.before.before.before.before.before.before.before.before.before.before.before.before.before.before.before.before.requires in
-    (refused-read _ given.0 r.result r.ensures (λ z. c.before.if1.true (c.before.before.number.ensures ∙ z)), given.1)
+    (refused_read _ given.0 r.result r.ensures (λ z. c.before.if1.true (c.before.before.number.ensures ∙ z)), given.1)
 
 same_length : tie.Need-same-length
 same_length c = search rules
@@ -38,7 +38,7 @@ levels-requires c κs =
     let given = c.before.before.before.before.before.before.before.before.before.before.before.before.before.before.before.before.before.before.before.before.before.before.requires in
     let T = given.0 in
     let kept = r.auto.1 in (
-      accepted-read _ T r.result r.ensures (sym c.before.before.before.before.before.before.number.ensures ∙ c.before.before.before.before.before.if1.false),
+      accepted_read _ T r.result r.ensures (sym c.before.before.before.before.before.before.number.ensures ∙ c.before.before.before.before.before.if1.false),
       record { table = kept.0 ∙ T.table; history = kept.1.0 ∙ T.history; work = kept.1.1.0 ∙ T.work },
       given.1,
     )
@@ -61,8 +61,8 @@ same-length-8 c = search rules
 returns-2 : tie.Need-returns-2
 returns-2 c = search rules
 
-pub report-spec : {M : Type 1} → statement M
-report-spec =
+pub report_spec : {M : Type 1} → statement M
+report_spec =
     tie.close
     (tie.spec
     read-requires

@@ -1,6 +1,6 @@
 -- `levels::unfolded`: unfold goes on from what read left.
 use mathlib.Core.Path.{ap, ◌∙◌}
-use Rattle.levels.specs.Report.{unfolded, levelAt}
+use Rattle.levels.specs.Report.{unfolded, level_at}
 use borrow.Author.Rules.{rules}
 use Rattle.levels.proofs.unfolded.Statement.{statement}
 use Rattle.levels.proofs.unfolded.Tie as tie
@@ -21,14 +21,14 @@ same-length-3 : tie.Need-same-length-3
 same-length-3 c = search rules
 
 returns : tie.Need-returns
-unfolding levelAt
+unfolding level_at
 returns c =
-    let at-unfold = c.before.before.before.before.before.before in
-    let at_read = at-unfold.before.before.before.before.before.before.before.before.before.before.before in
-    at-unfold.«unfold».ensures ∙ ap (unfolded at_read.before.before.before.before.before.before.before.before.args.k)
+    let at_unfold = c.before.before.before.before.before.before in
+    let at_read = at_unfold.before.before.before.before.before.before.before.before.before.before.before in
+    at_unfold.«unfold».ensures ∙ ap (unfolded at_read.before.before.before.before.before.before.before.before.args.k)
     at_read.read.ensures
 
-pub unfolded-spec : {M : Type 1} → statement M
-unfolded-spec =
+pub unfolded_spec : {M : Type 1} → statement M
+unfolded_spec =
     tie.close
     (tie.spec read-requires unfold-requires same_length same-length-2 same-length-3 returns)

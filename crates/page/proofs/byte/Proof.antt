@@ -20,5 +20,5 @@ same_length c = search rules
 returns : tie.Need-returns
 returns c = record { within = simp length-set (omega arith); some = simp length-set (omega arith) }
 
-pub byte-spec : {M : Type 1} → statement M
-byte-spec = tie.close (tie.spec free-requires slice-write-page add-result same_length returns)
+pub byte_spec : {M : Type 1} → statement M
+byte_spec = tie.close (tie.spec free-requires slice-write-page add-result same_length returns)

@@ -14,5 +14,5 @@ write-all-requires c κs = search rules
 returns : tie.Need-returns
 returns c = search rules
 
-pub flush-spec : {M : Type 1} → statement M
-flush-spec = tie.close (tie.spec slice-aggregate-write-all write-all-requires returns)
+pub flush_spec : {M : Type 1} → statement M
+flush_spec = tie.close (tie.spec slice-aggregate-write-all write-all-requires returns)

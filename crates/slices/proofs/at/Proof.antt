@@ -16,5 +16,5 @@ cast-result c = omega (arith, c.shared-slice-known.given c.before.args.i)
 returns : tie.Need-returns
 returns c = search rules
 
-pub at-spec : {M : Type 1} → statement M
-at-spec = tie.close (tie.spec mul-result shared-slice-read-result cast-result returns)
+pub at_spec : {M : Type 1} → statement M
+at_spec = tie.close (tie.spec mul-result shared-slice-read-result cast-result returns)

@@ -1,7 +1,7 @@
 -- `slices::copy` meets its contract: the first i numbers are those of the other slice, and each turn of the loop adds one.
 --
 --   Copied to₀ from to i == to is to₀ with the first i numbers of `from` over its own
---   copy-on              == one number more
+--   copy_on              == one number more
 --   copied               == n numbers, as `over` writes them
 use mathlib.Core.Path.{◌≡◌, refl, ◌∙◌}
 use mathlib.Core.List.{List, ◌++◌}
@@ -22,8 +22,8 @@ record Copied (to₀ from : List ℕ) (n : ℕ) (to : List ℕ) (i : ℕ) : Type
   same : to ≡ take i from ++ drop i to₀
 
 module _ {to₀ from : List ℕ} {n : ℕ} (fits : (n ≤ length to₀) × (n ≤ length from)) {to : List ℕ} {i : ℕ} (h : Copied to₀ from n to i) where
-  copy-on : i < n → Copied to₀ from n (set to i (get_or from i 0)) (i + 1)
-  copy-on l =
+  copy_on : i < n → Copied to₀ from n (set to i (get_or from i 0)) (i + 1)
+  copy_on l =
       record {
         size = length-set to i (get_or from i 0) ∙ h.size;
         bound = omega arith;
@@ -64,7 +64,7 @@ loop-less : tie.Need-loop-smaller invariant-loop decreases-loop
 loop-less c = search rules
 
 loop-again : tie.Need-loop-preserved invariant-loop decreases-loop
-loop-again c = copy-on c.before.before.before.requires c.before.before.loop.invariant c.before.loop-test.true
+loop-again c = copy_on c.before.before.before.requires c.before.before.loop.invariant c.before.loop-test.true
 
 same_length : tie.Need-same-length invariant-loop decreases-loop
 same_length c = search rules

@@ -2,7 +2,7 @@
 --
 --   Filled s₀ v s i == s is s₀ with v at its first i places
 --   fill_on         == one place more
---   fill-all        == v everywhere
+--   fill_all        == v everywhere
 use mathlib.Core.Path.{◌≡◌, refl, ◌∙◌}
 use mathlib.Core.List.{List, ◌++◌, append-nil}
 use Prim.Native.Nat.{ℕ, ◌+◌, ◌-◌, ◌≤◌, ◌<◌}
@@ -27,8 +27,8 @@ fill_on {s₀} {s} {v} {i} l f =
       same = rw f.same (fill_more i v s₀ (omega arith));
     }
 
-fill-all : {s₀ s : List ℕ} {v i : ℕ} → length s ≤ i → Filled s₀ v s i → s ≡ replicate (length s₀) v
-fill-all {s₀} {s} {v} {i} l f =
+fill_all : {s₀ s : List ℕ} {v i : ℕ} → length s ≤ i → Filled s₀ v s i → s ≡ replicate (length s₀) v
+fill_all {s₀} {s} {v} {i} l f =
     let e : i ≡ length s₀ = omega arith in
     f.same ∙ rw (e, drop-length s₀) (append-nil (replicate (length s₀) v))
 
@@ -60,7 +60,7 @@ same_length : tie.Need-same-length invariant-loop decreases-loop
 same_length c = search rules
 
 returns : tie.Need-returns invariant-loop decreases-loop
-returns c = fill-all c.loop-test.false c.before.loop.invariant
+returns c = fill_all c.loop-test.false c.before.loop.invariant
 
 pub fill_spec : {M : Type 1} → statement M
 fill_spec =

@@ -1,8 +1,8 @@
 -- "A contraction merges the two records into the lower-numbered one: stitches add, metres add with one rounding and the lower record first, and not measured
 -- with anything is not measured. The other record stays as it is."
---   merge-stitches, merge-metres, merge-measured == what the merged record holds
---   merged-low, merged-high, merged-other        == what a contraction leaves on the sheet
---   merged-kept, merged-before                   == and on the second sheet: "the lower record as it was"
+--   merge_stitches, merge_metres, merge_measured == what the merged record holds
+--   merged_low, merged_high, merged_other        == what a contraction leaves on the sheet
+--   merged_kept, merged_before                   == and on the second sheet: "the lower record as it was"
 use mathlib.Core.Bool.{◌&&◌}
 use mathlib.Core.Logic.{◌≢◌}
 use mathlib.Core.Path.{◌≡◌, refl}
@@ -14,25 +14,25 @@ use lib.Seq.{get_or-set_same, get_or-set_other}
 use Rattle.sheets.specs.declared.Yarn.{Yarn}
 use Rattle.sheets.specs.declared.Yarn.TheVariants.{Metres, NotMeasured}
 use Rattle.sheets.specs.declared.Zone.{Zone}
-use Rattle.sheets.specs.Records.{mergeOf, measured, at}
+use Rattle.sheets.specs.Records.{merge_of, measured, at}
 use Rattle.sheets.specs.Sheets.{Sheets, into, merged}
 
 -- ---- two records
 
 -- "stitches add"
-pub merge-stitches : (a b : Zone) → (mergeOf a b).stitches ≡ a.stitches + b.stitches
-merge-stitches a b = refl
+pub merge_stitches : (a b : Zone) → (merge_of a b).stitches ≡ a.stitches + b.stitches
+merge_stitches a b = refl
 
 -- "metres add with one rounding and the lower record first"
-pub merge-metres : (a b : Zone) (m n : Float) → a.yarn ≡ Metres m → b.yarn ≡ Metres n → (mergeOf a b).yarn ≡ Metres (Ieee.add binary64 m n)
-merge-metres a b m n e f = rw (e, f)
+pub merge_metres : (a b : Zone) (m n : Float) → a.yarn ≡ Metres m → b.yarn ≡ Metres n → (merge_of a b).yarn ≡ Metres (Ieee.add binary64 m n)
+merge_metres a b m n e f = rw (e, f)
 
 -- "not measured with anything is not measured"
-pub merge-measured : (a b : Zone) → measured (mergeOf a b) ≡ (measured a && measured b)
+pub merge_measured : (a b : Zone) → measured (merge_of a b) ≡ (measured a && measured b)
 unfolding measured
-merge-measured a b = go a.yarn b.yarn
+merge_measured a b = go a.yarn b.yarn
   where
-    go : (y z : Yarn) → measured (mergeOf (record { stitches = 0; yarn = y }) (record { stitches = 0; yarn = z })) ≡ (measured (record { stitches = 0; yarn = y }) && measured (record { stitches = 0; yarn = z }))
+    go : (y z : Yarn) → measured (merge_of (record { stitches = 0; yarn = y }) (record { stitches = 0; yarn = z })) ≡ (measured (record { stitches = 0; yarn = y }) && measured (record { stitches = 0; yarn = z }))
     go (Metres m) (Metres n) = refl
     go (Metres m) NotMeasured = refl
     go NotMeasured z = refl
@@ -41,24 +41,24 @@ merge-measured a b = go a.yarn b.yarn
 
 module _ (low high t : ℕ) (S : Sheets) where
   -- "into the lower-numbered one"
-  pub merged-low : low < length S.sheet → at (merged (into low high) t S).sheet low ≡ mergeOf (at S.sheet low) (at S.sheet high)
+  pub merged_low : low < length S.sheet → at (merged (into low high) t S).sheet low ≡ merge_of (at S.sheet low) (at S.sheet high)
   unfolding merged
-  merged-low l = get_or-set_same S.sheet low _ _ l
+  merged_low l = get_or-set_same S.sheet low _ _ l
 
   -- no other record of the sheet changes
-  pub merged-other : (x : ℕ) → x ≢ low → at (merged (into low high) t S).sheet x ≡ at S.sheet x
+  pub merged_other : (x : ℕ) → x ≢ low → at (merged (into low high) t S).sheet x ≡ at S.sheet x
   unfolding merged
-  merged-other x n = get_or-set_other S.sheet low x _ _ n
+  merged_other x n = get_or-set_other S.sheet low x _ _ n
 
   -- "The other record stays as it is."
-  pub merged-high : high ≢ low → at (merged (into low high) t S).sheet high ≡ at S.sheet high
-  merged-high = merged-other high
+  pub merged_high : high ≢ low → at (merged (into low high) t S).sheet high ≡ at S.sheet high
+  merged_high = merged_other high
 
   -- "the lower record as it was is kept on a second sheet of D/2 places, one an operation"
-  pub merged-kept : t < length S.kept → at (merged (into low high) t S).kept t ≡ at S.sheet low
+  pub merged_kept : t < length S.kept → at (merged (into low high) t S).kept t ≡ at S.sheet low
   unfolding merged
-  merged-kept l = get_or-set_same S.kept t _ _ l
+  merged_kept l = get_or-set_same S.kept t _ _ l
 
-  pub merged-before : (i : ℕ) → i ≢ t → at (merged (into low high) t S).kept i ≡ at S.kept i
+  pub merged_before : (i : ℕ) → i ≢ t → at (merged (into low high) t S).kept i ≡ at S.kept i
   unfolding merged
-  merged-before i n = get_or-set_other S.kept t i _ _ n
+  merged_before i n = get_or-set_other S.kept t i _ _ n

@@ -1,7 +1,7 @@
 -- `area::clear::clear` meets its contract: the part that is filled is the first 4d numbers.
 use native.Mathlib.Omega.{arith}
 use borrow.Author.Rules.{rules}
-use Rattle.area.proofs.Cleared.{cleared-part}
+use Rattle.area.proofs.Cleared.{cleared_part}
 use Rattle.area.proofs.clear.clear.Statement.{statement}
 use Rattle.area.proofs.clear.clear.Tie as tie
 
@@ -26,7 +26,7 @@ same_length c = search rules
 returns : tie.Need-returns
 returns c =
     let g = c.before.before.before.before.before.args in
-    cleared-part g.d g.work.now c.before.before.fill.new.0 (omega arith) c.before.before.fill.ensures
+    cleared_part g.d g.work.now c.before.before.fill.new.0 (omega arith) c.before.before.fill.ensures
 
 pub clear_spec : {M : Type 1} → statement M
 clear_spec = tie.close (tie.spec mul-end sub-fill part-fill-start part-fill-end fill-requires same_length returns)

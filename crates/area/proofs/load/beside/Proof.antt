@@ -7,18 +7,18 @@ use borrow.Author.Rules.{rules}
 use borrow.Author.Tests.{le-leb, lt-leb}
 use Rattle.darts.specs.Map.{successor}
 use Rattle.area.specs.Area.{prev}
-use Rattle.area.specs.Load.{besideIn}
+use Rattle.area.specs.Load.{beside_in}
 use Rattle.area.proofs.load.beside.Statement.{statement}
 use Rattle.area.proofs.load.beside.Tie as tie
 
 module _ (D : ℕ) (w : List ℕ) (x : ℕ) {y : ℕ} (here : y ≡ get_or w x 0) where
-  beside_none : D ≤ y → D ≡ besideIn D w x
-  unfolding besideIn successor
+  beside_none : D ≤ y → D ≡ beside_in D w x
+  unfolding beside_in successor
   beside_none l = rw (← here, le-leb D y l)
 
-  beside-noted : y < D → {b : ℕ} → b ≡ get_or w (D + y) 0 → b ≡ besideIn D w x
-  unfolding besideIn successor prev
-  beside-noted l e = rw (← here, lt-leb D y l) e
+  beside_noted : y < D → {b : ℕ} → b ≡ get_or w (D + y) 0 → b ≡ beside_in D w x
+  unfolding beside_in successor prev
+  beside_noted l e = rw (← here, lt-leb D y l) e
 
 at-requires : tie.Need-at-requires
 at-requires c κs = search rules
@@ -33,7 +33,7 @@ at-requires-2 : tie.Need-at-requires-2
 at-requires-2 c κs = search rules
 
 returns-2 : tie.Need-returns-2
-returns-2 c = beside-noted _ _ _ c.before.before.at.ensures c.before.if1.false c.at2.ensures
+returns-2 c = beside_noted _ _ _ c.before.before.at.ensures c.before.if1.false c.at2.ensures
 
-pub beside-spec : {M : Type 1} → statement M
-beside-spec = tie.close (tie.spec at-requires returns add_at at-requires-2 returns-2)
+pub beside_spec : {M : Type 1} → statement M
+beside_spec = tie.close (tie.spec at-requires returns add_at at-requires-2 returns-2)

@@ -51,8 +51,8 @@ same_length c = search rules
 returns : tie.Need-returns
 returns c = blanked _ _ c.before.before.before.before.before.requires c.before.before.fill.ensures
 
-pub forget-spec : {M : Type 1} → statement M
-forget-spec =
+pub forget_spec : {M : Type 1} → statement M
+forget_spec =
     tie.close
     (tie.spec
     mul-forest

@@ -10,21 +10,21 @@ use lib.ListN.{get_or}
 use borrow.Author.Rules.{rules}
 use borrow.Author.Tests.{lt-ltb}
 use Rattle.area.specs.Area.{prev}
-use Rattle.area.specs.Load.{goneIn}
+use Rattle.area.specs.Load.{gone_in}
 use Rattle.area.proofs.load.gone.Statement.{statement}
 use Rattle.area.proofs.load.gone.Tie as tie
 
 module _ (D n : ℕ) (w : List ℕ) (x : ℕ) where
-  gone-none : n ≡ 0 → false ≡ goneIn D n w x
-  unfolding goneIn
-  gone-none e = rw e refl
+  gone_none : n ≡ 0 → false ≡ gone_in D n w x
+  unfolding gone_in
+  gone_none e = rw e refl
 
-  gone-some : n ≢ 0 → {a : ℕ} → a ≡ get_or w (D + x) 0 → eqb a D ≡ goneIn D n w x
-  unfolding goneIn prev
-  gone-some some e = rw (lt-ltb 0 n (omega arith), e) refl
+  gone_some : n ≢ 0 → {a : ℕ} → a ≡ get_or w (D + x) 0 → eqb a D ≡ gone_in D n w x
+  unfolding gone_in prev
+  gone_some some e = rw (lt-ltb 0 n (omega arith), e) refl
 
 returns : tie.Need-returns
-returns c = gone-none _ _ _ _ c.if1.true
+returns c = gone_none _ _ _ _ c.if1.true
 
 add_at : tie.Need-overflow-add-at
 add_at c = search rules
@@ -33,7 +33,7 @@ at-requires : tie.Need-at-requires
 at-requires c κs = search rules
 
 returns-2 : tie.Need-returns-2
-returns-2 c = gone-some _ _ _ _ c.before.if1.false c.at.ensures
+returns-2 c = gone_some _ _ _ _ c.before.if1.false c.at.ensures
 
-pub gone-spec : {M : Type 1} → statement M
-gone-spec = tie.close (tie.spec returns add_at at-requires returns-2)
+pub gone_spec : {M : Type 1} → statement M
+gone_spec = tie.close (tie.spec returns add_at at-requires returns-2)

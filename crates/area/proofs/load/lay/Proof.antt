@@ -1,9 +1,9 @@
 -- `area::load::lay` meets its contract: each of its calls lays numbers into a part of the work area.
 --
---   withTable   == the work area with the table
---   lay-table   == the first call leaves it
---   lay-history == the second lays the history
---   lay-both    == both
+--   with_table   == the work area with the table
+--   lay_table   == the first call leaves it
+--   lay_history == the second lays the history
+--   lay_both    == both
 use mathlib.Core.List.{List}
 use mathlib.Core.Path.{◌≡◌, sym, ◌∙◌}
 use Prim.Native.Nat.{ℕ, ◌*◌, ◌≤◌}
@@ -16,29 +16,29 @@ use Rattle.slices.specs.Part.{part, put}
 use Rattle.area.specs.Area.{Room}
 use Rattle.area.specs.Load.{given}
 use Rattle.slices.specs.Laid.{laid}
-use Rattle.slices.proofs.Laid.{laid-length, laid-over, laid-part}
+use Rattle.slices.proofs.Laid.{laid_length, laid_over, laid_part}
 use Rattle.area.proofs.load.lay.Statement.{statement}
 use Rattle.area.proofs.load.lay.Tie as tie
 
 module _ (D n : ℕ) (t h w : List ℕ) (room : Room D w) (fit : (D ≤ length t) × (n ≤ length h) × (n ≤ D)) where
-  abbrev withTable : List ℕ
-  withTable = laid w 0 (take D t)
+  abbrev with_table : List ℕ
+  with_table = laid w 0 (take D t)
 
-  table-length : length withTable ≡ length w
-  table-length = let e = length-take-le D t fit.0 in laid-length w 0 (take D t) (record { fits = omega arith })
+  table_length : length with_table ≡ length w
+  table_length = let e = length-take-le D t fit.0 in laid_length w 0 (take D t) (record { fits = omega arith })
 
-  lay-table : {u : List ℕ} → u ≡ over (take D t) w → u ≡ withTable
-  lay-table e = e ∙ sym (laid-over w (take D t))
+  lay_table : {u : List ℕ} → u ≡ over (take D t) w → u ≡ with_table
+  lay_table e = e ∙ sym (laid_over w (take D t))
 
-  lay-history : {v : List ℕ} → v ≡ over (take n h) (part (3 * D) (4 * D) withTable) → put (3 * D) (4 * D) withTable v ≡ given D n t h w
+  lay_history : {v : List ℕ} → v ≡ over (take n h) (part (3 * D) (4 * D) with_table) → put (3 * D) (4 * D) with_table v ≡ given D n t h w
   unfolding given
-  lay-history e =
-      let f = table-length in
+  lay_history e =
+      let f = table_length in
       let g = length-take-le n h fit.1 in
-      rw e (laid-part withTable (3 * D) (4 * D) (omega arith) (take n h) (omega arith))
+      rw e (laid_part with_table (3 * D) (4 * D) (omega arith) (take n h) (omega arith))
 
-  lay-both : {u v : List ℕ} → u ≡ over (take D t) w → v ≡ over (take n h) (part (3 * D) (4 * D) u) → put (3 * D) (4 * D) u v ≡ given D n t h w
-  lay-both a b = let a₂ = lay-table a in rw a₂ (lay-history (rw a₂ at b))
+  lay_both : {u v : List ℕ} → u ≡ over (take D t) w → v ≡ over (take n h) (part (3 * D) (4 * D) u) → put (3 * D) (4 * D) u v ≡ given D n t h w
+  lay_both a b = let a₂ = lay_table a in rw a₂ (lay_history (rw a₂ at b))
 
 copy-requires : tie.Need-copy-requires
 copy-requires c κs = search rules
@@ -70,10 +70,10 @@ same_length c = search rules
 returns : tie.Need-returns
 returns c =
     let start = c.before.before.before.before.before.before.before.before.before.before.before in
-    lay-both _ _ _ _ _ start.requires.0 start.requires.1 c.before.before.before.before.before.before.copy.ensures c.before.before.copy2.ensures
+    lay_both _ _ _ _ _ start.requires.0 start.requires.1 c.before.before.before.before.before.before.copy.ensures c.before.before.copy2.ensures
 
-pub lay-spec : {M : Type 1} → statement M
-lay-spec =
+pub lay_spec : {M : Type 1} → statement M
+lay_spec =
     tie.close
     (tie.spec
     copy-requires

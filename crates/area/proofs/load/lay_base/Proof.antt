@@ -1,9 +1,9 @@
 -- `area::load::lay_base` meets its contract: number by number, the work area is the one with the table laid and nothing known.
 --
 --   Laying D t w₀ w x == the first x entries and the first x darts before are laid, and nothing past the two parts has changed
---   given-table       == a table alone is a table with no operations
---   lay-on            == one dart more
---   lay-end           == all darts
+--   given_table       == a table alone is a table with no operations
+--   lay_on            == one dart more
+--   lay_end           == all darts
 use mathlib.Core.List.{List, []}
 use mathlib.Core.Logic.{◌≢◌}
 use mathlib.Core.Path.{◌≡◌, refl, sym, ap, ◌∙◌}
@@ -15,7 +15,7 @@ use lib.ListN.{length, get_or, set, take, replicate, length-set, length-replicat
 use lib.Seq.{get_or-set_same, get_or-set_other, get_or-take, get_or-drop, length-take-le, ext_get_or}
 use borrow.Author.Rules.{rules}
 use Rattle.slices.specs.Laid.{laid, Space}
-use Rattle.slices.proofs.Laid.{laid-length, laid-front, laid-rest, laid-at}
+use Rattle.slices.proofs.Laid.{laid_length, laid_front, laid_rest, laid_at}
 use Rattle.area.specs.Area.{Room}
 use Rattle.area.specs.Load.{given, blank}
 use Rattle.area.proofs.load.lay_base.Statement.{statement}
@@ -28,8 +28,8 @@ record Laying (D : ℕ) (t w₀ w : List ℕ) (x : ℕ) : Type 0 where
   unknown : (j : ℕ) → j < x → get_or w (D + j) 0 ≡ D + 1
   beyond : (j : ℕ) → 2 * D ≤ j → get_or w j 0 ≡ get_or w₀ j 0
 
-lay-begin : (D : ℕ) (t w : List ℕ) → Laying D t w w 0
-lay-begin D t w = record {
+lay_begin : (D : ℕ) (t w : List ℕ) → Laying D t w w 0
+lay_begin D t w = record {
   size = refl;
   bound = omega arith;
   entries = λ j h. absurd (omega arith);
@@ -47,8 +47,8 @@ module _ {D : ℕ} {t w₀ w : List ℕ} {x : ℕ} (room : Room D w₀) (L : Lay
   other : (j : ℕ) → j ≢ x → j ≢ D + x → get_or u j 0 ≡ get_or w j 0
   other j a b = get_or-set_other v (D + x) j (D + 1) 0 b ∙ get_or-set_other w x j (get_or t x 0) 0 a
 
-  lay-on : Laying D t w₀ u (x + 1)
-  lay-on = record {
+  lay_on : Laying D t w₀ u (x + 1)
+  lay_on = record {
     size = length-set v (D + x) (D + 1) ∙ length-set w x (get_or t x 0) ∙ L.size;
     bound = omega arith;
     entries = λ j h. entry j h (ℕ_discrete j x);
@@ -78,53 +78,53 @@ module _ (D : ℕ) (t w : List ℕ) (room : Room D w) (long : D ≤ length t) wh
   abbrev z : List ℕ
   z = laid w 0 xs
 
-  xs-length : length xs ≡ D
-  xs-length = length-take-le D t long
+  xs_length : length xs ≡ D
+  xs_length = length-take-le D t long
 
-  ys-length : length ys ≡ D
-  ys-length = length-replicate D (D + 1)
+  ys_length : length ys ≡ D
+  ys_length = length-replicate D (D + 1)
 
   first : Space w 0 xs
-  first = record { fits = omega (arith, xs-length, room.fits) }
+  first = record { fits = omega (arith, xs_length, room.fits) }
 
-  z-length : length z ≡ length w
-  z-length = laid-length w 0 xs first
+  z_length : length z ≡ length w
+  z_length = laid_length w 0 xs first
 
   then : Space z D ys
-  then = record { fits = omega (arith, ys-length, z-length, room.fits) }
+  then = record { fits = omega (arith, ys_length, z_length, room.fits) }
 
-  given-table : given D 0 t [] w ≡ z
+  given_table : given D 0 t [] w ≡ z
   unfolding given laid
-  given-table = rw (add-zero (3 * D)) (take-append-drop (3 * D) z)
+  given_table = rw (add-zero (3 * D)) (take-append-drop (3 * D) z)
 
   whole : blank D (given D 0 t [] w) ≡ laid z D ys
   unfolding blank
-  whole = rw given-table
+  whole = rw given_table
 
   here : (j : ℕ) → j < D → get_or (laid z D ys) j 0 ≡ get_or t j 0
   here j h =
       sym (get_or-take D (laid z D ys) j 0 h)
-      ∙ ap (λ (l : List ℕ). get_or l j 0) (laid-front z D ys then D (omega arith))
+      ∙ ap (λ (l : List ℕ). get_or l j 0) (laid_front z D ys then D (omega arith))
       ∙ get_or-take D z j 0 h
       ∙ ap (λ (k : ℕ). get_or z k 0) (sym (zero-add j))
-      ∙ laid-at w 0 xs first j (omega (arith, xs-length))
+      ∙ laid_at w 0 xs first j (omega (arith, xs_length))
       ∙ get_or-take D t j 0 h
 
-  blank-there : (j : ℕ) → j < D → get_or (laid z D ys) (D + j) 0 ≡ D + 1
-  blank-there j h = laid-at z D ys then j (omega (arith, ys-length)) ∙ get_or-replicate D j (D + 1) 0 h
+  blank_there : (j : ℕ) → j < D → get_or (laid z D ys) (D + j) 0 ≡ D + 1
+  blank_there j h = laid_at z D ys then j (omega (arith, ys_length)) ∙ get_or-replicate D j (D + 1) 0 h
 
   past : (j : ℕ) → 2 * D ≤ j → get_or (laid z D ys) j 0 ≡ get_or w j 0
   past j h =
       let k : j ≡ 2 * D + (j - 2 * D) = omega arith in
       rw k
       (sym (get_or-drop (2 * D) (laid z D ys) (j - 2 * D) 0)
-      ∙ ap (λ (l : List ℕ). get_or l (j - 2 * D) 0) (laid-rest z D ys then (2 * D) (omega (arith, ys-length)) ∙ laid-rest w 0 xs first (2 * D) (omega (arith, xs-length)))
+      ∙ ap (λ (l : List ℕ). get_or l (j - 2 * D) 0) (laid_rest z D ys then (2 * D) (omega (arith, ys_length)) ∙ laid_rest w 0 xs first (2 * D) (omega (arith, xs_length)))
       ∙ get_or-drop (2 * D) w (j - 2 * D) 0)
 
-lay-end : {D : ℕ} {t w₀ w : List ℕ} {x : ℕ} → Room D w₀ → D ≤ length t → Laying D t w₀ w x → D ≤ x → w ≡ blank D (given D 0 t [] w₀)
-lay-end {D} {t} {w₀} {w} {x} room long L all =
+lay_end : {D : ℕ} {t w₀ w : List ℕ} {x : ℕ} → Room D w₀ → D ≤ length t → Laying D t w₀ w x → D ≤ x → w ≡ blank D (given D 0 t [] w₀)
+lay_end {D} {t} {w₀} {w} {x} room long L all =
     ext_get_or 0 w (laid (laid w₀ 0 (take D t)) D (replicate D (D + 1)))
-    (L.size ∙ sym (laid-length (laid w₀ 0 (take D t)) D (replicate D (D + 1)) (then D t w₀ room long) ∙ z-length D t w₀ room long))
+    (L.size ∙ sym (laid_length (laid w₀ 0 (take D t)) D (replicate D (D + 1)) (then D t w₀ room long) ∙ z_length D t w₀ room long))
     (λ j h. go j (dec_lt j D) (dec_lt j (2 * D)))
     ∙ sym (whole D t w₀ room long)
   where
@@ -132,7 +132,7 @@ lay-end {D} {t} {w₀} {w} {x} room long L all =
     go j (yes h) k = L.entries j (omega (arith, L.bound)) ∙ sym (here D t w₀ room long j h)
     go j (no h) (yes k) =
         let e : j ≡ D + (j - D) = omega arith in
-        rw e (L.unknown (j - D) (omega (arith, L.bound)) ∙ sym (blank-there D t w₀ room long (j - D) (omega arith)))
+        rw e (L.unknown (j - D) (omega (arith, L.bound)) ∙ sym (blank_there D t w₀ room long (j - D) (omega arith)))
     go j (no h) (no k) = L.beyond j (omega arith) ∙ sym (past D t w₀ room long j (omega arith))
 
 abbrev invariant-loop : tie.invariant-loop
@@ -142,7 +142,7 @@ abbrev decreases-loop : tie.decreases-loop
 decreases-loop work₀ d table x₀ work x = d - x
 
 loop-holds : tie.Need-loop-init invariant-loop decreases-loop
-loop-holds c = lay-begin _ _ _
+loop-holds c = lay_begin _ _ _
 
 mul-work : tie.Need-overflow-mul-work invariant-loop decreases-loop
 mul-work c = search rules
@@ -178,16 +178,16 @@ loop-less : tie.Need-loop-smaller invariant-loop decreases-loop
 loop-less c = search rules
 
 loop-again : tie.Need-loop-preserved invariant-loop decreases-loop
-loop-again c = lay-on c.before.before.before.requires.0 c.before.before.loop.invariant c.before.loop-test.true
+loop-again c = lay_on c.before.before.before.requires.0 c.before.before.loop.invariant c.before.loop-test.true
 
 same_length : tie.Need-same-length invariant-loop decreases-loop
 same_length c = search rules
 
 returns : tie.Need-returns invariant-loop decreases-loop
-returns c = lay-end c.before.before.requires.0 c.before.before.requires.1 c.before.loop.invariant c.loop-test.false
+returns c = lay_end c.before.before.requires.0 c.before.before.requires.1 c.before.loop.invariant c.loop-test.false
 
-pub lay-base-spec : {M : Type 1} → statement M
-lay-base-spec =
+pub lay_base_spec : {M : Type 1} → statement M
+lay_base_spec =
     tie.close
     (tie.spec
     invariant-loop

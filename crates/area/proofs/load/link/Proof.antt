@@ -2,8 +2,8 @@
 --
 --   Linking D n w₀ w x == that, with the bounds
 --   link_on            == x is noted, or is gone
---   link-stops         == x cannot be noted
---   link-end           == all are
+--   link_stops         == x cannot be noted
+--   link_end           == all are
 use mathlib.Core.Bool.{Bool, true, false}
 use mathlib.Core.List.{List}
 use mathlib.Core.Path.{◌≡◌, refl, sym, ap, ◌∙◌, subst}
@@ -15,7 +15,7 @@ use lib.ListN.{length}
 use borrow.Author.Rules.{rules}
 use borrow.Author.Tests.{lt-ltb, le-ltb}
 use Rattle.area.specs.Verdicts.{said}
-use Rattle.area.specs.Load.{verdictAt, links}
+use Rattle.area.specs.Load.{verdict_at, links}
 use Rattle.area.proofs.Noting.{Noted, noted}
 use Rattle.area.proofs.Tried.{not-true, not-false}
 use Rattle.area.proofs.load.link.Statement.{statement}
@@ -26,8 +26,8 @@ record Linking (D n : ℕ) (w₀ w : List ℕ) (x : ℕ) : Type 0 where
   bound : x ≤ D
   same : links D n w₀ 0 D ≡ links D n w x (D - x)
 
-link-begin : (D n : ℕ) (w : List ℕ) → Linking D n w w 0
-link-begin D n w = record { size = refl; bound = omega arith; same = ap (links D n w 0) (sym (sub-zero D)) }
+link_begin : (D n : ℕ) (w : List ℕ) → Linking D n w w 0
+link_begin D n w = record { size = refl; bound = omega arith; same = ap (links D n w 0) (sym (sub-zero D)) }
 
 module _ {D n : ℕ} {w₀ w : List ℕ} {x : ℕ} (k : Linking D n w₀ w x) where
   module _ (more : x < D) {r : Bool} {v : List ℕ} (N : Noted D n w x r v) where
@@ -40,16 +40,16 @@ module _ {D n : ℕ} {w₀ w : List ℕ} {x : ℕ} (k : Linking D n w₀ w x) wh
     link_on : r ≡ true → Linking D n w₀ v (x + 1)
     link_on e = record { size = N.size ∙ k.size; bound = omega arith; same = here ∙ N.on e (D - (x + 1)) ∙ rw (add-one x) refl }
 
-    link-stops : r ≡ false → said (verdictAt D v x) v ≡ links D n w₀ 0 D
-    unfolding verdictAt
-    link-stops e = rw (lt-ltb x D more) (sym (here ∙ N.stop e (D - (x + 1))))
+    link_stops : r ≡ false → said (verdict_at D v x) v ≡ links D n w₀ 0 D
+    unfolding verdict_at
+    link_stops e = rw (lt-ltb x D more) (sym (here ∙ N.stop e (D - (x + 1))))
 
-  link-end : D ≤ x → said (verdictAt D w x) w ≡ links D n w₀ 0 D
-  unfolding links verdictAt
-  link-end l = let e : D - x ≡ 0 = omega arith in sym (k.same ∙ rw (e, le-ltb x D l))
+  link_end : D ≤ x → said (verdict_at D w x) w ≡ links D n w₀ 0 D
+  unfolding links verdict_at
+  link_end l = let e : D - x ≡ 0 = omega arith in sym (k.same ∙ rw (e, le-ltb x D l))
 
-link-two : {D n : ℕ} {w₀ w : List ℕ} (x : ℕ) → Linking D n w₀ w (x + 1 + 1) → Linking D n w₀ w (x + 2)
-link-two {D} {n} {w₀} {w} x k = let e : x + 1 + 1 ≡ x + 2 = omega arith in subst (Linking D n w₀ w) e k
+link_two : {D n : ℕ} {w₀ w : List ℕ} (x : ℕ) → Linking D n w₀ w (x + 1 + 1) → Linking D n w₀ w (x + 2)
+link_two {D} {n} {w₀} {w} x k = let e : x + 1 + 1 ≡ x + 2 = omega arith in subst (Linking D n w₀ w) e k
 
 abbrev invariant-loop : tie.invariant-loop
 invariant-loop work₀ d n x₀ work x = Linking d n work₀ work x × (x % 2 ≡ 0)
@@ -58,7 +58,7 @@ abbrev decreases-loop : tie.decreases-loop
 decreases-loop work₀ d n x₀ work x = d - x
 
 loop-holds : tie.Need-loop-init invariant-loop decreases-loop
-loop-holds c = (link-begin _ _ _, refl)
+loop-holds c = (link_begin _ _ _, refl)
 
 note-requires : tie.Need-note-requires invariant-loop decreases-loop
 note-requires c κs = search rules
@@ -69,7 +69,7 @@ same_length c = search rules
 returns : tie.Need-returns invariant-loop decreases-loop
 returns c =
     let turn = c.before.before.before.before.before.before in
-    link-stops turn.loop.invariant.0 c.before.before.before.before.before.loop-test.true (noted _ _ _ _ c.before.before.before.note.ensures) (not-true _ (sym c.if1.true))
+    link_stops turn.loop.invariant.0 c.before.before.before.before.before.loop-test.true (noted _ _ _ _ c.before.before.before.note.ensures) (not-true _ (sym c.if1.true))
 
 add-note : tie.Need-overflow-add-note invariant-loop decreases-loop
 add-note c = search rules
@@ -87,7 +87,7 @@ returns-2 : tie.Need-returns-2 invariant-loop decreases-loop
 returns-2 c =
     let turn = c.before.before.before.before.before.before.before.before.before.before.before in
     let half = link_on turn.loop.invariant.0 c.before.before.before.before.before.before.before.before.before.before.loop-test.true (noted _ _ _ _ c.before.before.before.before.before.before.before.before.note.ensures) (not-false _ (sym c.before.before.before.before.before.if1.false)) in
-    link-stops half (omega arith) (noted _ _ _ _ c.before.before.before.note2.ensures) (not-true _ (sym c.if2.true))
+    link_stops half (omega arith) (noted _ _ _ _ c.before.before.before.note2.ensures) (not-true _ (sym c.if2.true))
 
 add-x : tie.Need-overflow-add-x invariant-loop decreases-loop
 add-x c = search rules
@@ -99,16 +99,16 @@ loop-again : tie.Need-loop-preserved invariant-loop decreases-loop
 loop-again c =
     let turn = c.before.before.before.before.before.before.before.before.before.before.before in
     let half = link_on turn.loop.invariant.0 c.before.before.before.before.before.before.before.before.before.before.loop-test.true (noted _ _ _ _ c.before.before.before.before.before.before.before.before.note.ensures) (not-false _ (sym c.before.before.before.before.before.if1.false)) in
-    (link-two _ (link_on half (omega arith) (noted _ _ _ _ c.before.before.before.note2.ensures) (not-false _ (sym c.if2.false))), omega arith)
+    (link_two _ (link_on half (omega arith) (noted _ _ _ _ c.before.before.before.note2.ensures) (not-false _ (sym c.if2.false))), omega arith)
 
 same-length-3 : tie.Need-same-length-3 invariant-loop decreases-loop
 same-length-3 c = search rules
 
 returns-3 : tie.Need-returns-3 invariant-loop decreases-loop
-returns-3 c = link-end c.before.loop.invariant.0 c.loop-test.false
+returns-3 c = link_end c.before.loop.invariant.0 c.loop-test.false
 
-pub link-spec : {M : Type 1} → statement M
-link-spec =
+pub link_spec : {M : Type 1} → statement M
+link_spec =
     tie.close
     (tie.spec
     invariant-loop

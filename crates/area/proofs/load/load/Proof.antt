@@ -9,9 +9,9 @@ use Rattle.area.specs.Load.{given, relinks, loads}
 use Rattle.area.proofs.load.load.Statement.{statement}
 use Rattle.area.proofs.load.load.Tie as tie
 
-laid-linked : (D n : ℕ) (t h w : List ℕ) {u v : List ℕ} {r : Bool} → u ≡ given D n t h w → tried r v ≡ relinks D n u → tried r v ≡ loads D n t h w
+laid_linked : (D n : ℕ) (t h w : List ℕ) {u v : List ℕ} {r : Bool} → u ≡ given D n t h w → tried r v ≡ relinks D n u → tried r v ≡ loads D n t h w
 unfolding loads
-laid-linked D n t h w laid linked = linked ∙ ap (relinks D n) laid
+laid_linked D n t h w laid linked = linked ∙ ap (relinks D n) laid
 
 lay-requires : tie.Need-lay-requires
 lay-requires c κs = search rules
@@ -23,7 +23,7 @@ same_length : tie.Need-same-length
 same_length c = search rules
 
 returns : tie.Need-returns
-returns c = laid-linked _ _ _ _ _ c.before.before.before.before.before.before.lay.ensures c.before.before.relink.ensures
+returns c = laid_linked _ _ _ _ _ c.before.before.before.before.before.before.lay.ensures c.before.before.relink.ensures
 
 pub load_spec : {M : Type 1} → statement M
 load_spec = tie.close (tie.spec lay-requires relink-requires same_length returns)

@@ -12,34 +12,34 @@ use borrow.Rule.Slice.PartMut.{put_same, set_mid_at}
 use Rattle.slices.specs.Part.{part, put}
 use Rattle.slices.proofs.Part.{part_length, part_at}
 use Rattle.darts.specs.Map.{successor}
-use Rattle.area.specs.Area.{Room, prev, Tried, tried, triedIf}
-use Rattle.area.specs.Load.{taken, goneIn, notes}
+use Rattle.area.specs.Area.{Room, prev, Tried, tried, tried_if}
+use Rattle.area.specs.Load.{taken, gone_in, notes}
 use Rattle.area.proofs.load.note.Statement.{statement}
 use Rattle.area.proofs.load.note.Tie as tie
 
 module _ (D n : ℕ) (w : List ℕ) (x : ℕ) {y : ℕ} (here : y ≡ get_or w x 0) where
-  note-far : D ≤ y → tried false w ≡ notes D n w x
+  note_far : D ≤ y → tried false w ≡ notes D n w x
   unfolding notes successor
-  note-far l = rw (← here, le-leb D y l) refl
+  note_far l = rw (← here, le-leb D y l) refl
 
   module _ (l : y < D) where
-    note-gone : goneIn D n w x ≡ true → tried true w ≡ notes D n w x
+    note_gone : gone_in D n w x ≡ true → tried true w ≡ notes D n w x
     unfolding notes successor
-    note-gone g = rw (← here, lt-leb D y l, g) refl
+    note_gone g = rw (← here, lt-leb D y l, g) refl
 
     -- what is done in the part is done in the whole
-    back : Room D w → (b : Bool) {r : Bool} {v : List ℕ} → tried r v ≡ triedIf b (part D (2 * D) w) (set (part D (2 * D) w) y x)
-        → tried r (put D (2 * D) w v) ≡ triedIf b w (set w (D + y) x)
+    back : Room D w → (b : Bool) {r : Bool} {v : List ℕ} → tried r v ≡ tried_if b (part D (2 * D) w) (set (part D (2 * D) w) y x)
+        → tried r (put D (2 * D) w v) ≡ tried_if b w (set w (D + y) x)
     back room true e =
         ap (λ (a : Tried). tried a.fine (put D (2 * D) w a.work)) e
         ∙ ap (tried true) (set_mid_at D (2 * D - D) y w x (omega (arith, part_length D (2 * D) w (omega (arith, room.fits)))))
     back room false e =
         ap (λ (a : Tried). tried a.fine (put D (2 * D) w a.work)) e ∙ ap (tried false) (put_same D (2 * D - D) w)
 
-    note-taken : goneIn D n w x ≡ false → Room D w → {r : Bool} {v : List ℕ} → tried r v ≡ taken (part D (2 * D) w) (D + 1) y x
+    note_taken : gone_in D n w x ≡ false → Room D w → {r : Bool} {v : List ℕ} → tried r v ≡ taken (part D (2 * D) w) (D + 1) y x
         → tried r (put D (2 * D) w v) ≡ notes D n w x
     unfolding notes taken successor prev
-    note-taken g room e =
+    note_taken g room e =
         let k : get_or (part D (2 * D) w) y 0 ≡ get_or w (D + y) 0 = part_at D (2 * D) w y (omega arith) in
         rw (← here, lt-leb D y l, g) (back room (eqb (get_or w (D + y) 0) (D + 1)) (rw k at e))
 
@@ -50,7 +50,7 @@ same_length : tie.Need-same-length
 same_length c = search rules
 
 returns : tie.Need-returns
-returns c = note-far _ _ _ _ c.before.at.ensures c.if1.true
+returns c = note_far _ _ _ _ c.before.at.ensures c.if1.true
 
 gone-requires : tie.Need-gone-requires
 gone-requires c κs = search rules
@@ -59,7 +59,7 @@ same-length-2 : tie.Need-same-length-2
 same-length-2 c = search rules
 
 returns-2 : tie.Need-returns-2
-returns-2 c = note-gone _ _ _ _ c.before.before.before.before.at.ensures c.before.before.before.if1.false (sym c.before.gone.ensures ∙ c.if2.true)
+returns-2 c = note_gone _ _ _ _ c.before.before.before.before.at.ensures c.before.before.before.if1.false (sym c.before.gone.ensures ∙ c.if2.true)
 
 mul-forest : tie.Need-overflow-mul-forest
 mul-forest c = search rules
@@ -87,10 +87,10 @@ same-length-3 c = search rules
 
 returns-3 : tie.Need-returns-3
 returns-3 c =
-    note-taken _ _ _ _ c.before.before.before.before.before.before.before.before.at.ensures c.before.before.before.before.before.before.before.if1.false (sym c.before.before.before.before.before.gone.ensures ∙ c.before.before.before.before.if2.false) c.before.before.before.before.before.before.before.before.before.before.before.requires.0 c.before.before.take.ensures
+    note_taken _ _ _ _ c.before.before.before.before.before.before.before.before.at.ensures c.before.before.before.before.before.before.before.if1.false (sym c.before.before.before.before.before.gone.ensures ∙ c.before.before.before.before.if2.false) c.before.before.before.before.before.before.before.before.before.before.before.requires.0 c.before.before.take.ensures
 
-pub note-spec : {M : Type 1} → statement M
-note-spec =
+pub note_spec : {M : Type 1} → statement M
+note_spec =
     tie.close
     (tie.spec
     at-requires

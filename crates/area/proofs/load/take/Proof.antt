@@ -17,9 +17,9 @@ module _ (b : List ℕ) (free y x : ℕ) {a : ℕ} (there : a ≡ get_or b y 0) 
   unfolding taken
   take_no n = rw (← there, ne_eqb a free n) refl
 
-  take-yes : a ≡ free → tried true (set b y x) ≡ taken b free y x
+  take_yes : a ≡ free → tried true (set b y x) ≡ taken b free y x
   unfolding taken
-  take-yes e = rw (← there, eq-eqb a free e) refl
+  take_yes e = rw (← there, eq-eqb a free e) refl
 
 at-requires : tie.Need-at-requires
 at-requires c κs = search rules
@@ -43,7 +43,7 @@ same-length-2 : tie.Need-same-length-2
 same-length-2 c = search rules
 
 returns-2 : tie.Need-returns-2
-returns-2 c = take-yes _ _ _ _ c.before.at.ensures c.if1.false
+returns-2 c = take_yes _ _ _ _ c.before.at.ensures c.if1.false
 
 pub take_spec : {M : Type 1} → statement M
 take_spec =

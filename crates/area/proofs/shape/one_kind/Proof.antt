@@ -12,33 +12,33 @@ use native.Mathlib.Decide.{ℕ_discrete}
 use native.Mathlib.Omega.{arith}
 use lib.ListN.{length, get_or}
 use borrow.Author.Rules.{rules}
-use Rattle.permutations.specs.Choice.{eqb_same, eqb-other}
+use Rattle.permutations.specs.Choice.{eqb_same, eqb_other}
 use Rattle.darts.specs.Operation.{kind_of}
-use Rattle.darts.specs.Tests.{ofKind, oneKind}
+use Rattle.darts.specs.Tests.{of_kind, one_kind}
 use Rattle.slices.specs.Part.{part}
-use Rattle.area.specs.Shape.{hasKind}
-use Rattle.area.proofs.OfKind.{has_here, has_on, kind-same}
-use Rattle.area.proofs.Parts.{part-cons}
+use Rattle.area.specs.Shape.{has_kind}
+use Rattle.area.proofs.OfKind.{has_here, has_on, kind_same}
+use Rattle.area.proofs.Parts.{part_cons}
 use Rattle.area.proofs.shape.one_kind.Statement.{statement}
 use Rattle.area.proofs.shape.one_kind.Tie as tie
 
-none_other : (k : ℕ) → k < 2 → (hs : List ℕ) → not (hasKind (1 - k) hs) ≡ ofKind (kind_of k) hs
-unfolding ofKind
-none_other k bit [] = unfold hasKind in refl
+none_other : (k : ℕ) → k < 2 → (hs : List ℕ) → not (has_kind (1 - k) hs) ≡ of_kind (kind_of k) hs
+unfolding of_kind
+none_other k bit [] = unfold has_kind in refl
 none_other k bit (h ∷ hs) =
     by_cases (ℕ_discrete (h % 2) k)
-    (λ e. rw (kind-same k bit h, eqb_same e, has_on (1 - k) h hs (λ z. omega arith)) (none_other k bit hs))
-    (λ o. rw (kind-same k bit h, eqb-other o, has_here (1 - k) h hs (omega arith)))
+    (λ e. rw (kind_same k bit h, eqb_same e, has_on (1 - k) h hs (λ z. omega arith)) (none_other k bit hs))
+    (λ o. rw (kind_same k bit h, eqb_other o, has_here (1 - k) h hs (omega arith)))
 
 last_bit : (h : ℕ) → kind_of (h % 2) ≡ kind_of h
 unfolding kind_of
 last_bit h = let e : h % 2 % 2 ≡ h % 2 = omega arith in rw e
 
 first_kind : (w : List ℕ) (from to : ℕ) {h : ℕ} {r : Bool} → from < to → to ≤ length w → h ≡ get_or w from 0
-    → r ≡ hasKind (1 - h % 2) (part (from + 1) to w) → not r ≡ oneKind (part from to w)
-unfolding oneKind
+    → r ≡ has_kind (1 - h % 2) (part (from + 1) to w) → not r ≡ one_kind (part from to w)
+unfolding one_kind
 first_kind w from to {h} more inside here told =
-    rw (part-cons from to w more inside, ← here, ← (last_bit h)) (ap not told ∙ none_other (h % 2) (omega arith) (part (from + 1) to w))
+    rw (part_cons from to w more inside, ← here, ← (last_bit h)) (ap not told ∙ none_other (h % 2) (omega arith) (part (from + 1) to w))
 
 at-requires : tie.Need-at-requires
 at-requires c κs = search rules
@@ -57,5 +57,5 @@ returns c =
     let s = c.before.before.before in
     first_kind _ _ _ s.requires.0 s.requires.1 c.before.at.ensures c.has-kind.ensures
 
-pub one-kind-spec : {M : Type 1} → statement M
-one-kind-spec = tie.close (tie.spec at-requires sub-other add-has-kind has-kind-requires returns)
+pub one_kind_spec : {M : Type 1} → statement M
+one_kind_spec = tie.close (tie.spec at-requires sub-other add-has-kind has-kind-requires returns)

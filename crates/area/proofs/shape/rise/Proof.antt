@@ -1,10 +1,10 @@
 -- `area::shape::rise` meets its contract: whether the ends rise is whether those from the i-th on rise from the last end that was passed.
 --
 --   Rising D n l w ends from i == that, with the bounds
---   rise-low, rise-high        == an end that is not above the last one, or is past the operations: no
---   rise-mixed                 == two kinds inside a level: no
---   rise-on                    == one level more
---   rise-end                   == all are passed: the last end is to be the number of operations
+--   rise_low, rise_high        == an end that is not above the last one, or is past the operations: no
+--   rise_mixed                 == two kinds inside a level: no
+--   rise_on                    == one level more
+--   rise_end                   == all are passed: the last end is to be the number of operations
 use mathlib.Core.Bool.{true, false}
 use mathlib.Core.List.{List, [], ◌∷◌}
 use mathlib.Core.Logic.{by_cases}
@@ -18,12 +18,12 @@ use lib.ListN.{length, get_or, take, drop, length-drop, drop_of_length-le}
 use lib.Seq.{drop-cons, drop-drop, slice-cons, slice_empty}
 use borrow.Author.Rules.{rules}
 use borrow.Author.Tests.{lt-ltb, le-ltb, le-leb, lt-leb}
-use Rattle.permutations.specs.Choice.{eqb_same, eqb-other}
-use Rattle.darts.specs.Tests.{oneKind, rises}
+use Rattle.permutations.specs.Choice.{eqb_same, eqb_other}
+use Rattle.darts.specs.Tests.{one_kind, rises}
 use Rattle.slices.specs.Part.{part}
 use Rattle.slices.proofs.Part.{part_length}
-use Rattle.area.specs.Shape.{historyIn}
-use Rattle.area.proofs.Parts.{part-inner}
+use Rattle.area.specs.Shape.{history_in}
+use Rattle.area.proofs.Parts.{part_inner}
 use Rattle.area.proofs.shape.rise.Statement.{statement}
 use Rattle.area.proofs.shape.rise.Tie as tie
 
@@ -32,14 +32,14 @@ record Rising (D n l : ℕ) (w ends : List ℕ) (from i : ℕ) : Type 0 where
   few : l ≤ length ends
   upto : from ≤ n
   bound : i ≤ l
-  same : rises 0 (take l ends) (historyIn D n w) ≡ rises from (drop i (take l ends)) (drop from (historyIn D n w))
+  same : rises 0 (take l ends) (history_in D n w) ≡ rises from (drop i (take l ends)) (drop from (history_in D n w))
 
 module _ {D n l : ℕ} {w ends : List ℕ} {from i : ℕ} (k : Rising D n l w ends from i) where
   abbrev past : List ℕ
-  past = historyIn D n w
+  past = history_in D n w
 
-  past-length : length past ≡ n
-  past-length = part_length (3 * D) (3 * D + n) w k.room ∙ omega arith
+  past_length : length past ≡ n
+  past_length = part_length (3 * D) (3 * D + n) w k.room ∙ omega arith
 
   module _ (more : i < l) where
     abbrev end : ℕ
@@ -48,33 +48,33 @@ module _ {D n l : ℕ} {w ends : List ℕ} {from i : ℕ} (k : Rising D n l w en
     ends_on : drop i (take l ends) ≡ end ∷ drop (i + 1) (take l ends)
     ends_on = slice-cons i l ends 0 more k.few ∙ rw (add-one i)
 
-    rise-low : end ≤ from → false ≡ rises 0 (take l ends) past
+    rise_low : end ≤ from → false ≡ rises 0 (take l ends) past
     unfolding rises
-    rise-low low = sym (k.same ∙ rw (ends_on, le-ltb from end low))
+    rise_low low = sym (k.same ∙ rw (ends_on, le-ltb from end low))
 
     module _ (above : from < end) where
-      rise-high : n < end → false ≡ rises 0 (take l ends) past
+      rise_high : n < end → false ≡ rises 0 (take l ends) past
       unfolding rises
-      rise-high high =
-          let size = past-length in
+      rise_high high =
+          let size = past_length in
           let far : length (drop from past) < end - from = simp length-drop (omega arith) in
           sym (k.same ∙ rw (ends_on, lt-ltb from end above, lt-leb (end - from) (length (drop from past)) far))
 
       module _ (inside : end ≤ n) where
         near : end - from ≤ length (drop from past)
-        near = let size = past-length in simp length-drop (omega arith)
+        near = let size = past_length in simp length-drop (omega arith)
 
         level : take (end - from) (drop from past) ≡ part (3 * D + from) (3 * D + end) w
-        level = part-inner (3 * D) (3 * D + n) from end w (omega arith) k.room
+        level = part_inner (3 * D) (3 * D + n) from end w (omega arith) k.room
 
-        rise-mixed : false ≡ oneKind (part (3 * D + from) (3 * D + end) w) → false ≡ rises 0 (take l ends) past
+        rise_mixed : false ≡ one_kind (part (3 * D + from) (3 * D + end) w) → false ≡ rises 0 (take l ends) past
         unfolding rises
-        rise-mixed two =
+        rise_mixed two =
             sym (k.same ∙ rw (ends_on, lt-ltb from end above, le-leb (end - from) (length (drop from past)) near, level, ← two))
 
-        rise-on : true ≡ oneKind (part (3 * D + from) (3 * D + end) w) → Rising D n l w ends end (i + 1)
+        rise_on : true ≡ one_kind (part (3 * D + from) (3 * D + end) w) → Rising D n l w ends end (i + 1)
         unfolding rises
-        rise-on one =
+        rise_on one =
             let next : from + (end - from) ≡ end = omega arith in
             record {
               room = k.room;
@@ -90,15 +90,15 @@ module _ {D n l : ℕ} {w ends : List ℕ} {from i : ℕ} (k : Rising D n l w en
     no_more : drop i (take l ends) ≡ []
     no_more = let e : i ≡ l = omega arith in rw e (slice_empty l ends)
 
-    rise-end : eqb from n ≡ rises 0 (take l ends) past
+    rise_end : eqb from n ≡ rises 0 (take l ends) past
     unfolding rises
-    rise-end =
-        let size = past-length in
+    rise_end =
+        let size = past_length in
         by_cases (ℕ_discrete from n)
         (λ e. let over : length past ≤ from = omega arith in
         eqb_same e ∙ sym (k.same ∙ rw (no_more, drop_of_length-le past over)))
         (λ m. let under : from < length past = omega arith in
-        eqb-other m ∙ sym (k.same ∙ rw (no_more, drop-cons past from 0 under)))
+        eqb_other m ∙ sym (k.same ∙ rw (no_more, drop-cons past from 0 under)))
 
 abbrev invariant-loop : tie.invariant-loop
 invariant-loop work d operations levels ends past from₀ i₀ from i = Rising d operations levels work ends from i
@@ -122,10 +122,10 @@ cast-end : tie.Need-overflow-cast-end invariant-loop decreases-loop
 cast-end c = search rules
 
 returns : tie.Need-returns invariant-loop decreases-loop
-returns c = rise-low c.before.before.loop.invariant c.before.loop-test.true c.if1.true
+returns c = rise_low c.before.before.loop.invariant c.before.loop-test.true c.if1.true
 
 returns-2 : tie.Need-returns-2 invariant-loop decreases-loop
-returns-2 c = rise-high c.before.before.before.loop.invariant c.before.before.loop-test.true c.before.if1.false c.if2.true
+returns-2 c = rise_high c.before.before.before.loop.invariant c.before.before.loop-test.true c.before.if1.false c.if2.true
 
 add-one-kind : tie.Need-overflow-add-one-kind invariant-loop decreases-loop
 add-one-kind c = search rules
@@ -144,19 +144,19 @@ loop-less c = search rules
 
 loop-again : tie.Need-loop-preserved invariant-loop decreases-loop
 loop-again c =
-    rise-on c.before.before.before.before.before.loop.invariant c.before.before.before.before.loop-test.true c.before.before.before.if1.false c.before.before.if2.false
-    (sym c.if3.true ∙ c.before.one-kind.ensures)
+    rise_on c.before.before.before.before.before.loop.invariant c.before.before.before.before.loop-test.true c.before.before.before.if1.false c.before.before.if2.false
+    (sym c.if3.true ∙ c.before.one_kind_lem.ensures)
 
 returns-3 : tie.Need-returns-3 invariant-loop decreases-loop
 returns-3 c =
-    rise-mixed c.before.before.before.before.before.loop.invariant c.before.before.before.before.loop-test.true c.before.before.before.if1.false c.before.before.if2.false
-    (sym c.if3.false ∙ c.before.one-kind.ensures)
+    rise_mixed c.before.before.before.before.before.loop.invariant c.before.before.before.before.loop-test.true c.before.before.before.if1.false c.before.before.if2.false
+    (sym c.if3.false ∙ c.before.one_kind_lem.ensures)
 
 returns-4 : tie.Need-returns-4 invariant-loop decreases-loop
-returns-4 c = rise-end c.before.loop.invariant c.loop-test.false
+returns-4 c = rise_end c.before.loop.invariant c.loop-test.false
 
-pub rise-spec : {M : Type 1} → statement M
-rise-spec =
+pub rise_spec : {M : Type 1} → statement M
+rise_spec =
     tie.close
     (tie.spec
     invariant-loop

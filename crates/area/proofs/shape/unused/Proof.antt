@@ -1,9 +1,9 @@
 -- `area::shape::unused` meets its contract: whether the ends past the levels are 0 is whether those from i on are.
 --
 --   Zeros ends levels i == there are 64 ends, and those from the levels to i are 0
---   zeros-on            == one end more
---   zeros-not           == an end that is not 0: no
---   zeros-end           == all are passed: yes
+--   zeros_on            == one end more
+--   zeros_not           == an end that is not 0: no
+--   zeros_end           == all are passed: yes
 use mathlib.Core.Bool.{true, false}
 use mathlib.Core.List.{List}
 use mathlib.Core.Logic.{◌≢◌}
@@ -14,7 +14,7 @@ use native.Mathlib.Omega.{arith}
 use lib.ListN.{length, get_or, drop, drop_of_length-le}
 use lib.Seq.{drop-cons}
 use borrow.Author.Rules.{rules}
-use Rattle.permutations.specs.Choice.{eqb_same, eqb-other}
+use Rattle.permutations.specs.Choice.{eqb_same, eqb_other}
 use Rattle.darts.specs.Tests.{zeros}
 use Rattle.area.proofs.shape.unused.Statement.{statement}
 use Rattle.area.proofs.shape.unused.Tie as tie
@@ -25,21 +25,21 @@ record Zeros (ends : List ℕ) (levels i : ℕ) : Type 0 where
   same : zeros (drop levels ends) ≡ zeros (drop i ends)
 
 module _ {ends : List ℕ} {levels i : ℕ} (k : Zeros ends levels i) where
-  zeros-on : i < 64 → get_or ends i 0 ≡ 0 → Zeros ends levels (i + 1)
+  zeros_on : i < 64 → get_or ends i 0 ≡ 0 → Zeros ends levels (i + 1)
   unfolding zeros
-  zeros-on more e =
+  zeros_on more e =
       let here : i < length ends = omega arith in
       record { all = k.all; bound = omega arith; same = k.same ∙ rw (drop-cons ends i 0 here, eqb_same e, add-one i) }
 
-  zeros-not : i < 64 → get_or ends i 0 ≢ 0 → false ≡ zeros (drop levels ends)
+  zeros_not : i < 64 → get_or ends i 0 ≢ 0 → false ≡ zeros (drop levels ends)
   unfolding zeros
-  zeros-not more n =
+  zeros_not more n =
       let here : i < length ends = omega arith in
-      sym (k.same ∙ rw (drop-cons ends i 0 here, eqb-other n))
+      sym (k.same ∙ rw (drop-cons ends i 0 here, eqb_other n))
 
-  zeros-end : 64 ≤ i → true ≡ zeros (drop levels ends)
+  zeros_end : 64 ≤ i → true ≡ zeros (drop levels ends)
   unfolding zeros
-  zeros-end l =
+  zeros_end l =
       let past : length ends ≤ i = omega arith in
       sym (k.same ∙ rw (drop_of_length-le ends past))
 
@@ -59,7 +59,7 @@ array-read-if1 : tie.Need-array-read-if1 invariant-loop decreases-loop
 array-read-if1 c = search rules
 
 returns : tie.Need-returns invariant-loop decreases-loop
-returns c = zeros-not c.before.before.loop.invariant c.before.loop-test.true c.if1.true
+returns c = zeros_not c.before.before.loop.invariant c.before.loop-test.true c.if1.true
 
 add-i : tie.Need-overflow-add-i invariant-loop decreases-loop
 add-i c = search rules
@@ -68,10 +68,10 @@ loop-less : tie.Need-loop-smaller invariant-loop decreases-loop
 loop-less c = search rules
 
 loop-again : tie.Need-loop-preserved invariant-loop decreases-loop
-loop-again c = zeros-on c.before.before.loop.invariant c.before.loop-test.true c.if1.false
+loop-again c = zeros_on c.before.before.loop.invariant c.before.loop-test.true c.if1.false
 
 returns-2 : tie.Need-returns-2 invariant-loop decreases-loop
-returns-2 c = zeros-end c.before.loop.invariant c.loop-test.false
+returns-2 c = zeros_end c.before.loop.invariant c.loop-test.false
 
 pub unused_spec : {M : Type 1} → statement M
 unused_spec =

@@ -1,18 +1,18 @@
 -- `darts::answers::fit` meets its contract: each comparison is one part of the two tests.
 use native.Mathlib.Omega.{arith}
 use borrow.Author.Rules.{rules}
-use Rattle.darts.proofs.Fitting.{no-count, short, fine}
+use Rattle.darts.proofs.Fitting.{no_count_lem, short, fine}
 use Rattle.darts.proofs.answers.fit.Statement.{statement}
 use Rattle.darts.proofs.answers.fit.Tie as tie
 
 returns : tie.Need-returns
-returns c = no-count _ _ _ _ (λ k. omega arith)
+returns c = no_count_lem _ _ _ _ (λ k. omega arith)
 
 returns-2 : tie.Need-returns-2
-returns-2 c = no-count _ _ _ _ (λ k. omega arith)
+returns-2 c = no_count_lem _ _ _ _ (λ k. omega arith)
 
 returns-3 : tie.Need-returns-3
-returns-3 c = no-count _ _ _ _ (λ k. omega arith)
+returns-3 c = no_count_lem _ _ _ _ (λ k. omega arith)
 
 returns-4 : tie.Need-returns-4
 returns-4 c = short _ _ _ _ (omega arith) (λ k. omega arith)

@@ -2,8 +2,8 @@
 use native.Mathlib.Omega.{arith}
 use borrow.Author.Rules.{rules}
 use borrow.Author.Tests.{not-true, not-false}
-use Rattle.area.specs.Shape.{stateWith}
-use Rattle.engine.proofs.Checking.{too_many, load-no, loaded-area, decide-no, decide-base, decide-yes, check-finds}
+use Rattle.area.specs.Shape.{state_with}
+use Rattle.engine.proofs.Checking.{too_many_lem, load_no, loaded_area, decide_no, decide_base, decide_yes, check_finds}
 use Rattle.engine.proofs.Present.{none_found}
 use Rattle.engine.proofs.check.check.Statement.{statement}
 use Rattle.engine.proofs.check.check.Tie as tie
@@ -14,7 +14,7 @@ nothing-requires c κs = search rules
 returns : tie.Need-returns
 returns c =
     let s = c.before.before.before.before.before in (
-      rw c.nothing.ensures (too_many (stateWith s.args.state) s.args.coming _ _ _ c.before.if1.true),
+      rw c.nothing.ensures (too_many_lem (state_with s.args.state) s.args.coming _ _ _ c.before.if1.true),
       none_found c.nothing.ensures,
     )
 
@@ -32,7 +32,7 @@ returns-2 c =
     let l = c.before.before.before.before in
     let s = l.before.before.before.before.before.before in (
       rw c.nothing2.ensures
-          (load-no (stateWith s.args.state) s.args.coming _ _ s.requires.0 s.requires.1.0 (omega arith) (omega arith)
+          (load_no (state_with s.args.state) s.args.coming _ _ s.requires.0 s.requires.1.0 (omega arith) (omega arith)
           l.load.ensures (not-true _ c.before.if2.true)),
       none_found c.nothing2.ensures,
     )
@@ -41,7 +41,7 @@ decide-requires : tie.Need-decide-requires
 decide-requires c κs =
     let l = c.before.before.before.before in
     let s = l.before.before.before.before.before.before in
-    loaded-area (stateWith s.args.state) s.args.coming _ _ s.requires.0 s.requires.1.0 (omega arith) (omega arith)
+    loaded_area (state_with s.args.state) s.args.coming _ _ s.requires.0 s.requires.1.0 (omega arith) (omega arith)
     l.load.ensures (not-false _ c.before.if2.false)
 
 same-length-2 : tie.Need-same-length-2
@@ -54,7 +54,7 @@ returns-3 c =
     let l = e.before.before.before in
     let s = l.before.before.before.before.before.before in
     let no = not-true _ c.if3.true in (
-      decide-no (stateWith s.args.state) s.args.coming _ _ s.requires.0 s.requires.1.0 (omega arith) (omega arith)
+      decide_no (state_with s.args.state) s.args.coming _ _ s.requires.0 s.requires.1.0 (omega arith) (omega arith)
           l.load.ensures (not-false _ e.if2.false) d.decide.ensures.0 no,
       none_found no,
     )
@@ -69,9 +69,9 @@ returns-4 c =
     let e = d.before.before in
     let l = e.before.before.before in
     let s = l.before.before.before.before.before.before in (
-      decide-base (stateWith s.args.state) s.args.coming _ _ s.requires.0 s.requires.1.0 (omega arith) (omega arith)
+      decide_base (state_with s.args.state) s.args.coming _ _ s.requires.0 s.requires.1.0 (omega arith) (omega arith)
           l.load.ensures (not-false _ e.if2.false) d.decide.ensures.0 (not-false _ i.if3.false) c.if4.true,
-      check-finds (stateWith s.args.state) s.args.coming _ _ s.requires.0 s.requires.1.0 (omega arith) (omega arith)
+      check_finds (state_with s.args.state) s.args.coming _ _ s.requires.0 s.requires.1.0 (omega arith) (omega arith)
           l.load.ensures d.decide.ensures.1,
     )
 
@@ -88,14 +88,14 @@ returns-5 c =
     let e = d.before.before in
     let l = e.before.before.before in
     let s = l.before.before.before.before.before.before in (
-      decide-yes (stateWith s.args.state) s.args.coming _ _ s.requires.0 s.requires.1.0 (omega arith) (omega arith)
+      decide_yes (state_with s.args.state) s.args.coming _ _ s.requires.0 s.requires.1.0 (omega arith) (omega arith)
           l.load.ensures (not-false _ e.if2.false) d.decide.ensures.0 (not-false _ i.if3.false) c.before.before.load2.ensures,
-      check-finds (stateWith s.args.state) s.args.coming _ _ s.requires.0 s.requires.1.0 (omega arith) (omega arith)
+      check_finds (state_with s.args.state) s.args.coming _ _ s.requires.0 s.requires.1.0 (omega arith) (omega arith)
           l.load.ensures d.decide.ensures.1,
     )
 
-pub check-spec : {M : Type 1} → statement M
-check-spec =
+pub check_spec : {M : Type 1} → statement M
+check_spec =
     tie.close
     (tie.spec
     nothing-requires

@@ -1,8 +1,8 @@
 -- `engine::check::check_laid` meets its contract: what stands in the work area is linked and decided there.
 use native.Mathlib.Omega.{arith}
 use borrow.Author.Rules.{rules}
-use Rattle.area.specs.Shape.{stateWith}
-use Rattle.engine.proofs.CheckingLaid.{laid-too-many, relink-no, relinked-area, laid-decided, laid-finds}
+use Rattle.area.specs.Shape.{state_with}
+use Rattle.engine.proofs.CheckingLaid.{laid_too_many, relink_no, relinked_area, laid_decided, laid_finds}
 use Rattle.engine.proofs.Present.{none_found}
 use Rattle.engine.proofs.check.check_laid.Statement.{statement}
 use Rattle.engine.proofs.check.check_laid.Tie as tie
@@ -13,7 +13,7 @@ nothing-requires c κs = search rules
 returns : tie.Need-returns
 returns c =
     let s = c.before.before.before.before.before in (
-      rw c.nothing.ensures (laid-too-many (stateWith s.args.state) _ c.before.if1.true),
+      rw c.nothing.ensures (laid_too_many (state_with s.args.state) _ c.before.if1.true),
       none_found c.nothing.ensures,
     )
 
@@ -24,7 +24,7 @@ decide-requires : tie.Need-decide-requires
 decide-requires c κs =
     let l = c.before.before.before.before in
     let s = l.before.before.before.before.before.before in
-    relinked-area (stateWith s.args.state) s.requires (omega arith) l.relink.ensures c.before.if2.true
+    relinked_area (state_with s.args.state) s.requires (omega arith) l.relink.ensures c.before.if2.true
 
 same_length : tie.Need-same-length
 same_length c = search rules
@@ -34,8 +34,8 @@ returns-2 c =
     let d = c.before.before in
     let l = d.before.before.before.before.before in
     let s = l.before.before.before.before.before.before in (
-      laid-decided (stateWith s.args.state) s.requires (omega arith) l.relink.ensures d.decide.ensures.0,
-      laid-finds (stateWith s.args.state) s.requires (omega arith) l.relink.ensures d.decide.ensures.1,
+      laid_decided (state_with s.args.state) s.requires (omega arith) l.relink.ensures d.decide.ensures.0,
+      laid_finds (state_with s.args.state) s.requires (omega arith) l.relink.ensures d.decide.ensures.1,
     )
 
 nothing-requires-2 : tie.Need-nothing-requires-2
@@ -48,12 +48,12 @@ returns-3 : tie.Need-returns-3
 returns-3 c =
     let l = c.before.before.before.before in
     let s = l.before.before.before.before.before.before in (
-      rw c.nothing2.ensures (relink-no (stateWith s.args.state) s.requires (omega arith) l.relink.ensures c.before.if2.false),
+      rw c.nothing2.ensures (relink_no (state_with s.args.state) s.requires (omega arith) l.relink.ensures c.before.if2.false),
       none_found c.nothing2.ensures,
     )
 
-pub check-laid-spec : {M : Type 1} → statement M
-check-laid-spec =
+pub check_laid_spec : {M : Type 1} → statement M
+check_laid_spec =
     tie.close
     (tie.spec
     nothing-requires

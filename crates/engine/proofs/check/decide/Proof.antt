@@ -3,9 +3,9 @@ use mathlib.Core.Path.{sym, ◌∙◌}
 use native.Mathlib.Omega.{arith}
 use borrow.Author.Rules.{rules}
 use borrow.Author.Tests.{not-true, not-false}
-use Rattle.area.specs.Shape.{stateWith}
-use Rattle.engine.proofs.Area.{area-sound}
-use Rattle.engine.proofs.Decides.{shape-no, back-no, all-taken, decided, decided-takes, decided-are, decided-coming}
+use Rattle.area.specs.Shape.{state_with}
+use Rattle.engine.proofs.Area.{area_sound}
+use Rattle.engine.proofs.Decides.{shape_no, back_no, all_taken, decided, decided_takes, decided_are, decided_coming}
 use Rattle.engine.proofs.Present.{none_found}
 use Rattle.engine.proofs.check.decide.Statement.{statement}
 use Rattle.engine.proofs.check.decide.Tie as tie
@@ -22,7 +22,7 @@ same_length c = search rules
 returns : tie.Need-returns
 returns c =
     let s = c.before.before.before.before.before in (
-      rw c.nothing.ensures (shape-no (stateWith s.args.state) s.requires c.before.before.shape.ensures (not-true _ c.before.if1.true)),
+      rw c.nothing.ensures (shape_no (state_with s.args.state) s.requires c.before.before.shape.ensures (not-true _ c.before.if1.true)),
       none_found c.nothing.ensures,
     )
 
@@ -42,13 +42,13 @@ returns-2 : tie.Need-returns-2
 returns-2 c =
     let d = c.before.before in
     let only = d.before.before.before.only-contractions.ensures d.before.before.if2.true in
-    (decided-coming only.0 d.decide-contracted.ensures.0, d.decide-contracted.ensures.1)
+    (decided_coming only.0 d.decide-contracted.ensures.0, d.decide-contracted.ensures.1)
 
 take-back-last-requires : tie.Need-take-back-last-requires
 take-back-last-requires c κs =
     let i = c.before.before.before.before in
     let s = i.before.before.before.before in
-    (area-sound s.requires, omega arith)
+    (area_sound s.requires, omega arith)
 
 nothing-requires-2 : tie.Need-nothing-requires-2
 nothing-requires-2 c κs = search rules
@@ -61,7 +61,7 @@ returns-3 c =
     let t = c.before.before.before.before in
     let i = t.before.before.before.before.before in
     let s = i.before.before.before.before in (
-      rw c.nothing2.ensures (back-no (stateWith s.args.state) s.requires t.take-back-last.ensures (not-true _ c.before.if3.true)),
+      rw c.nothing2.ensures (back_no (state_with s.args.state) s.requires t.take-back-last.ensures (not-true _ c.before.if3.true)),
       none_found c.nothing2.ensures,
     )
 
@@ -74,7 +74,7 @@ try-both-requires c κs =
     let t = e.before.before.before in
     let i = t.before.before.before.before.before in
     let s = i.before.before.before.before in
-    let base = all-taken (stateWith s.args.state) s.requires t.take-back-last.ensures (not-false _ e.if3.false) in
+    let base = all_taken (state_with s.args.state) s.requires t.take-back-last.ensures (not-false _ e.if3.false) in
     (base.0, (base.1, c.before.last-kind.ensures.0))
 
 mul-present : tie.Need-overflow-mul-present
@@ -88,7 +88,7 @@ present-requires c κs =
     let t = e.before.before.before in
     let i = t.before.before.before.before.before in
     let s = i.before.before.before.before in
-    decided-takes (stateWith s.args.state) s.requires t.take-back-last.ensures (not-false _ e.if3.false) i.before.shape.ensures
+    decided_takes (state_with s.args.state) s.requires t.take-back-last.ensures (not-false _ e.if3.false) i.before.shape.ensures
     (not-false _ i.if1.false) b.try-both.ensures.0 c.before.if4.true b.try-both.result
     (b.try-both.ensures.1 c.before.if4.true)
 
@@ -106,10 +106,10 @@ returns-4 c =
     let yes = c.before.before.if4.true in
     let M = b.try-both.ensures.0 in (
       rw c.present.ensures.pyramid
-          (decided-coming l.last-kind.ensures.1
-          (decided (stateWith s.args.state) s.requires t.take-back-last.ensures (not-false _ e.if3.false) i.before.shape.ensures
+          (decided_coming l.last-kind.ensures.1
+          (decided (state_with s.args.state) s.requires t.take-back-last.ensures (not-false _ e.if3.false) i.before.shape.ensures
           (not-false _ i.if1.false) M)),
-      λ _. decided-are (stateWith s.args.state) s.requires t.take-back-last.ensures (not-false _ e.if3.false) i.before.shape.ensures
+      λ _. decided_are (state_with s.args.state) s.requires t.take-back-last.ensures (not-false _ e.if3.false) i.before.shape.ensures
           (not-false _ i.if1.false) M yes _ (b.try-both.ensures.1 yes) c.present.ensures,
     )
 
@@ -128,14 +128,14 @@ returns-5 c =
     let i = t.before.before.before.before.before in
     let s = i.before.before.before.before in (
       rw (c.nothing3.ensures, ← c.before.if4.false)
-          (decided-coming l.last-kind.ensures.1
-          (decided (stateWith s.args.state) s.requires t.take-back-last.ensures (not-false _ e.if3.false) i.before.shape.ensures
+          (decided_coming l.last-kind.ensures.1
+          (decided (state_with s.args.state) s.requires t.take-back-last.ensures (not-false _ e.if3.false) i.before.shape.ensures
           (not-false _ i.if1.false) b.try-both.ensures.0)),
       none_found c.nothing3.ensures,
     )
 
-pub decide-spec : {M : Type 1} → statement M
-decide-spec =
+pub decide_spec : {M : Type 1} → statement M
+decide_spec =
     tie.close
     (tie.spec
     shape-requires

@@ -2,24 +2,24 @@
 use native.Mathlib.Omega.{arith}
 use borrow.Author.Rules.{rules}
 use borrow.Author.Tests.{not-true, not-false}
-use Rattle.area.specs.Shape.{stateWith}
-use Rattle.engine.proofs.Area.{area-sound}
-use Rattle.engine.proofs.Around.{step-perm}
-use Rattle.engine.proofs.Contracted.{contracted-no, contracted, contracted-few, contracted-are}
-use Rattle.engine.proofs.Counts.{labelled-area}
-use Rattle.engine.proofs.Decides.{all-taken}
+use Rattle.area.specs.Shape.{state_with}
+use Rattle.engine.proofs.Area.{area_sound}
+use Rattle.engine.proofs.Around.{step_perm}
+use Rattle.engine.proofs.Contracted.{contracted_no, contracted, contracted_few, contracted_are}
+use Rattle.engine.proofs.Counts.{labelled_area}
+use Rattle.engine.proofs.Decides.{all_taken}
 use Rattle.engine.proofs.Present.{none_found}
 use Rattle.engine.proofs.check.decide_contracted.Statement.{statement}
 use Rattle.engine.proofs.check.decide_contracted.Tie as tie
 
 label-requires : tie.Need-label-requires
-label-requires c κs = let s = c.before.before in (s.requires.0.room, step-perm s.requires.0 0 (omega arith))
+label-requires c κs = let s = c.before.before in (s.requires.0.room, step_perm s.requires.0 0 (omega arith))
 
 take-back-last-requires : tie.Need-take-back-last-requires
 take-back-last-requires c κs =
     let l = c.before.before.before in
     let s = l.before.before.before in
-    (area-sound (labelled-area s.requires.0 (omega arith) l.label.ensures.0), omega arith)
+    (area_sound (labelled_area s.requires.0 (omega arith) l.label.ensures.0), omega arith)
 
 nothing-requires : tie.Need-nothing-requires
 nothing-requires c κs = search rules
@@ -33,7 +33,7 @@ returns c =
     let l = t.before.before.before.before in
     let s = l.before.before.before in (
       rw c.nothing.ensures
-          (contracted-no (stateWith s.args.state) s.requires.0 l.label.ensures.0 t.take-back-last.ensures (not-true _ c.before.if1.true)),
+          (contracted_no (state_with s.args.state) s.requires.0 l.label.ensures.0 t.take-back-last.ensures (not-true _ c.before.if1.true)),
       none_found c.nothing.ensures,
     )
 
@@ -43,8 +43,8 @@ try-kind-requires c κs =
     let t = e.before.before.before in
     let l = t.before.before.before.before in
     let s = l.before.before.before in
-    let A = labelled-area s.requires.0 (omega arith) l.label.ensures.0 in
-    let base = all-taken (stateWith s.args.state) A t.take-back-last.ensures (not-false _ e.if1.false) in
+    let A = labelled_area s.requires.0 (omega arith) l.label.ensures.0 in
+    let base = all_taken (state_with s.args.state) A t.take-back-last.ensures (not-false _ e.if1.false) in
     (base.0, (base.1, omega arith))
 
 sub-vertices : tie.Need-overflow-sub-vertices
@@ -54,7 +54,7 @@ sub-vertices c =
     let t = e.before.before.before in
     let l = t.before.before.before.before in
     let s = l.before.before.before in
-    contracted-few (stateWith s.args.state) s.requires.0 l.label.ensures.0 t.take-back-last.ensures (not-false _ e.if1.false)
+    contracted_few (state_with s.args.state) s.requires.0 l.label.ensures.0 t.take-back-last.ensures (not-false _ e.if1.false)
     s.requires.1.0 s.requires.1.1 k.try-kind.ensures.0 c.before.if2.true k.try-kind.ensures.1
 
 same-length-2 : tie.Need-same-length-2
@@ -69,9 +69,9 @@ returns-2 c =
     let s = l.before.before.before in
     let yes = c.before.if2.true in (
       rw (← yes)
-          (contracted (stateWith s.args.state) s.requires.0 l.label.ensures.0 t.take-back-last.ensures (not-false _ e.if1.false)
+          (contracted (state_with s.args.state) s.requires.0 l.label.ensures.0 t.take-back-last.ensures (not-false _ e.if1.false)
           s.requires.1.0 s.requires.1.1 k.try-kind.ensures.0),
-      λ _. contracted-are (stateWith s.args.state) s.requires.0 l.label.ensures.0 t.take-back-last.ensures (not-false _ e.if1.false)
+      λ _. contracted_are (state_with s.args.state) s.requires.0 l.label.ensures.0 t.take-back-last.ensures (not-false _ e.if1.false)
           s.requires.1.0 s.requires.1.1 k.try-kind.ensures.0 yes k.try-kind.ensures.1 l.label.ensures.1,
     )
 
@@ -89,13 +89,13 @@ returns-3 c =
     let l = t.before.before.before.before in
     let s = l.before.before.before in (
       rw (c.nothing2.ensures, ← c.before.if2.false)
-          (contracted (stateWith s.args.state) s.requires.0 l.label.ensures.0 t.take-back-last.ensures (not-false _ e.if1.false)
+          (contracted (state_with s.args.state) s.requires.0 l.label.ensures.0 t.take-back-last.ensures (not-false _ e.if1.false)
           s.requires.1.0 s.requires.1.1 k.try-kind.ensures.0),
       none_found c.nothing2.ensures,
     )
 
-pub decide-contracted-spec : {M : Type 1} → statement M
-decide-contracted-spec =
+pub decide_contracted_spec : {M : Type 1} → statement M
+decide_contracted_spec =
     tie.close
     (tie.spec
     label-requires

@@ -2,10 +2,10 @@
 use mathlib.Core.Path.{refl}
 use borrow.Author.Rules.{rules}
 use borrow.Author.Tests.{not-true, not-false}
-use Rattle.engine.proofs.Beside.{beside-area}
-use Rattle.engine.proofs.Counts.{both-counted, both-counted-back}
+use Rattle.engine.proofs.Beside.{beside_area}
+use Rattle.engine.proofs.Counts.{both_counted, both_counted_back}
 use Rattle.engine.proofs.Present.{none_found}
-use Rattle.engine.proofs.Tries.{outside-numbered, kind-grown, both-no, both_yes}
+use Rattle.engine.proofs.Tries.{outside_numbered, kind_grown, both_no, both_yes}
 use Rattle.engine.proofs.check.try_both.Statement.{statement}
 use Rattle.engine.proofs.check.try_both.Tie as tie
 
@@ -26,7 +26,7 @@ returns c =
     let k = c.before.before.before.before.before in
     let s = k.before.before.before in
     let K = k.try-kind.ensures.0 in (
-      rw c.nothing.ensures (both-no s.requires.1.1 (λ _. refl) (kind-grown _ K) s.requires.0 (not-true _ c.before.if1.true)),
+      rw c.nothing.ensures (both_no s.requires.1.1 (λ _. refl) (kind_grown _ K) s.requires.0 (not-true _ c.before.if1.true)),
       none_found c.nothing.ensures,
     )
 
@@ -35,7 +35,7 @@ try-kind-requires-2 c κs =
     let k = c.before.before.before.before.before in
     let s = k.before.before.before in
     let o = k.try-kind.ensures.0.outside in
-    (beside-area o s.requires.0, (outside-numbered o s.requires.1.0, s.requires.1.1))
+    (beside_area o s.requires.0, (outside_numbered o s.requires.1.0, s.requires.1.1))
 
 same-length-2 : tie.Need-same-length-2
 same-length-2 c = search rules
@@ -48,8 +48,8 @@ returns-2 c =
     let s = k.before.before.before in
     let K = k.try-kind.ensures in
     let M = m.try-kind2.ensures in (
-      both_yes s.requires.1.1 (λ _. refl) (kind-grown _ K.0) (not-false _ i.if1.false) M.0,
-      λ _. both-counted _ K.0.outside K.1 M.1 c.if2.true,
+      both_yes s.requires.1.1 (λ _. refl) (kind_grown _ K.0) (not-false _ i.if1.false) M.0,
+      λ _. both_counted _ K.0.outside K.1 M.1 c.if2.true,
     )
 
 same-length-3 : tie.Need-same-length-3
@@ -63,12 +63,12 @@ returns-3 c =
     let s = k.before.before.before in
     let K = k.try-kind.ensures in
     let M = m.try-kind2.ensures in (
-      both_yes s.requires.1.1 (λ _. refl) (kind-grown _ K.0) (not-false _ i.if1.false) M.0,
-      λ _. both-counted-back _ K.0.outside K.1 M.1 s.requires.1.1 c.if2.false,
+      both_yes s.requires.1.1 (λ _. refl) (kind_grown _ K.0) (not-false _ i.if1.false) M.0,
+      λ _. both_counted_back _ K.0.outside K.1 M.1 s.requires.1.1 c.if2.false,
     )
 
-pub try-both-spec : {M : Type 1} → statement M
-try-both-spec =
+pub try_both_spec : {M : Type 1} → statement M
+try_both_spec =
     tie.close
     (tie.spec
     sub-try-kind

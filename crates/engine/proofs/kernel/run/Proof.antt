@@ -15,17 +15,17 @@ use Rattle.darts.specs.declared.Answer.{Answer}
 use Rattle.darts.specs.declared.Answer.TheVariants.{Done}
 use Rattle.darts.specs.Operation.{kind_of}
 use Rattle.darts.specs.Kernel.{Run, always, pass, run}
-use Rattle.area.specs.Area.{tableIn, pastIn}
+use Rattle.area.specs.Area.{table_in, past_in}
 use Rattle.engine.specs.Held.{Ready}
 use Rattle.engine.specs.Runs.{Went, Turned}
-use Rattle.engine.proofs.Ready.{beyond-refl}
-use Rattle.engine.proofs.Underway.{Underway, underway-on, underway-stops, underway-ends}
+use Rattle.engine.proofs.Ready.{beyond_refl}
+use Rattle.engine.proofs.Underway.{Underway, underway_on, underway_stops, underway_ends}
 use Rattle.engine.proofs.kernel.run.Statement.{statement}
 use Rattle.engine.proofs.kernel.run.Tie as tie
 
-begin : {D n k : ℕ} {w : List ℕ} (es : List ℕ) → Ready D n k w → Underway D k always (run (kind_of k) D (tableIn D w) (pastIn D n w) es) w 0 es w n
+begin : {D n k : ℕ} {w : List ℕ} (es : List ℕ) → Ready D n k w → Underway D k always (run (kind_of k) D (table_in D w) (past_in D n w) es) w 0 es w n
 unfolding run pass
-begin {D} {w = w} es ready = record { same = refl; ready = ready; beyond = beyond-refl D w }
+begin {D} {w = w} es ready = record { same = refl; ready = ready; beyond = beyond_refl D w }
 
 module _ {D k : ℕ} {whole : Run} {w₀ : List ℕ} {i : ℕ} (es : List ℕ) {w : List ℕ} {m : ℕ} (u : Underway D k always whole w₀ i (drop i es) w m) where
   at_turn : {e : ℕ} → i < length es → e ≡ get_or es i 0 → Underway D k always whole w₀ i (e ∷ drop (suc i) es) w m
@@ -33,14 +33,14 @@ module _ {D k : ℕ} {whole : Run} {w₀ : List ℕ} {i : ℕ} (es : List ℕ) {
 
   turn_on : {e : ℕ} {v : List ℕ} {r : Answer} → i < length es → e ≡ get_or es i 0 → Turned D m k e i w v r → (answer_of r).number ≡ 0
       → Underway D k always whole w₀ (i + 1) (drop (i + 1) es) v (m + 1)
-  turn_on more read τ fine = rw (add-one i) (underway-on (at_turn more read) refl τ fine)
+  turn_on more read τ fine = rw (add-one i) (underway_on (at_turn more read) refl τ fine)
 
   run_ends : length es ≤ i → Went D whole w₀ w (record { answer = Done 0; operations = m })
-  run_ends none = underway-ends (rw (drop_of_length-le es none) at u)
+  run_ends none = underway_ends (rw (drop_of_length-le es none) at u)
 
 abbrev invariant-loop : tie.invariant-loop
 invariant-loop work₀ d n k kernel i₀ m₀ work i m =
-    Underway d k always (run (kind_of k) d (tableIn d work₀) (pastIn d n work₀) kernel) work₀ i (drop i kernel) work m
+    Underway d k always (run (kind_of k) d (table_in d work₀) (past_in d n work₀) kernel) work₀ i (drop i kernel) work m
 
 abbrev decreases-loop : tie.decreases-loop
 decreases-loop work₀ d n k kernel i₀ m₀ work i m = length kernel - i
@@ -64,7 +64,7 @@ returns : tie.Need-returns invariant-loop decreases-loop
 returns c =
     let j = c.before.before.before.before in
     let t = j.before.before in
-    underway-stops (at_turn _ t.before.before.loop.invariant t.before.loop-test.true t.at.ensures) refl j.turn.ensures
+    underway_stops (at_turn _ t.before.before.loop.invariant t.before.loop-test.true t.at.ensures) refl j.turn.ensures
     (λ z. c.if1.true (c.before.number.ensures ∙ z))
     t.before.before.before.before.before.requires.area.few
 

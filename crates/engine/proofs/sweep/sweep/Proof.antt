@@ -3,8 +3,8 @@
 --   Sweeping D n w₀ w e m == w is w₀ after the edges below e, with m operations then
 --   taking                == the code's test is the definition's
 --   removable             == an edge that is taken may be removed
---   passed_over, taken-on == e was passed over, or taken and removed
---   sweep-ends            == no edge is left
+--   passed_over, taken_on == e was passed over, or taken and removed
+--   sweep_ends            == no edge is left
 use mathlib.Core.Bool.{Bool, true, false}
 use mathlib.Core.List.{List, ◌∷◌}
 use mathlib.Core.Path.{◌≡◌, sym, ◌∙◌}
@@ -16,23 +16,23 @@ use Rattle.permutations.specs.Choice.{true→T}
 use Rattle.darts.specs.declared.Answer.TheVariants.{Done}
 use Rattle.darts.specs.Operation.{kind_of}
 use Rattle.darts.specs.Kernel.{judge, Run, rising}
-use Rattle.darts.specs.Levels.{takes, sweptFrom, swept}
-use Rattle.laws.proofs.bridge.EmptyLoop.{takes-fine}
-use Rattle.area.specs.Area.{tableIn, pastIn}
-use Rattle.operations.specs.Operate.{takesIn, operated}
+use Rattle.darts.specs.Levels.{takes, swept_from, swept}
+use Rattle.laws.proofs.bridge.EmptyLoop.{takes_fine}
+use Rattle.area.specs.Area.{table_in, past_in}
+use Rattle.operations.specs.Operate.{takes_in, operated}
 use Rattle.engine.specs.Held.{Area, Beyond}
-use Rattle.engine.specs.Runs.{ranIn, Went}
-use Rattle.engine.proofs.Operated.{operated-acts}
-use Rattle.engine.proofs.Ready.{beyond-refl, beyond-trans, area-for}
-use Rattle.engine.proofs.Taking.{takes-in}
+use Rattle.engine.specs.Runs.{ran_in, Went}
+use Rattle.engine.proofs.Operated.{operated_acts}
+use Rattle.engine.proofs.Ready.{beyond_refl, beyond_trans, area_for}
+use Rattle.engine.proofs.Taking.{takes_in_lem}
 use Rattle.engine.proofs.sweep.sweep.Statement.{statement}
 use Rattle.engine.proofs.sweep.sweep.Tie as tie
 
 abbrev whole : ℕ → ℕ → List ℕ → Run
-whole D n w₀ = swept D (tableIn D w₀) (pastIn D n w₀)
+whole D n w₀ = swept D (table_in D w₀) (past_in D n w₀)
 
 record Sweeping (D n : ℕ) (w₀ w : List ℕ) (e m : ℕ) : Type 0 where
-  same : sweptFrom D (tableIn D w) (pastIn D m w) (rising e (D / 2 - e)) ≡ whole D n w₀
+  same : swept_from D (table_in D w) (past_in D m w) (rising e (D / 2 - e)) ≡ whole D n w₀
   area : Area D m w
   beyond : Beyond D w₀ w
 
@@ -40,40 +40,40 @@ begin : {D n : ℕ} {w : List ℕ} → Area D n w → Sweeping D n w w 0 n
 unfolding swept
 begin {D} {n} {w} A =
     let all : D / 2 - 0 ≡ D / 2 = omega arith in
-    record { same = rw all; area = A; beyond = beyond-refl D w }
+    record { same = rw all; area = A; beyond = beyond_refl D w }
 
 module _ {D n : ℕ} {w₀ w : List ℕ} {e m : ℕ} (σ : Sweeping D n w₀ w e m) where
   module _ (more : e < D / 2) where
-    at_turn : sweptFrom D (tableIn D w) (pastIn D m w) (e ∷ rising (suc e) (D / 2 - suc e)) ≡ whole D n w₀
+    at_turn : swept_from D (table_in D w) (past_in D m w) (e ∷ rising (suc e) (D / 2 - suc e)) ≡ whole D n w₀
     unfolding rising
     at_turn = let left : D / 2 - e ≡ suc (D / 2 - suc e) = omega arith in rw left at σ.same
 
-    module _ {b : Bool} (asked : b ≡ takesIn D w e) where
-      taking : takes (tableIn D w) (pastIn D m w) e ≡ b
-      taking = sym (asked ∙ takes-in σ.area e more)
+    module _ {b : Bool} (asked : b ≡ takes_in D w e) where
+      taking : takes (table_in D w) (past_in D m w) e ≡ b
+      taking = sym (asked ∙ takes_in_lem σ.area e more)
 
       passed_over : b ≡ false → Sweeping D n w₀ w (e + 1) m
-      unfolding sweptFrom
+      unfolding swept_from
       passed_over over = record { same = rw (add-one e) (rw (taking ∙ over) at at_turn); area = σ.area; beyond = σ.beyond }
 
       module _ (chosen : b ≡ true) where
-        removable : judge (kind_of 0) D (tableIn D w) (pastIn D m w) e ≡ 0
+        removable : judge (kind_of 0) D (table_in D w) (past_in D m w) e ≡ 0
         unfolding kind_of
-        removable = takes-fine σ.area.stands e more (true→T (taking ∙ chosen))
+        removable = takes_fine σ.area.stands e more (true→T (taking ∙ chosen))
 
-        taken-on : {v : List ℕ} → v ≡ operated D m w 0 e → Sweeping D n w₀ v (e + 1) (m + 1)
-        unfolding sweptFrom kind_of
-        taken-on is =
-            let o = operated-acts σ.area 0 (omega arith) e removable in
+        taken_on : {v : List ℕ} → v ≡ operated D m w 0 e → Sweeping D n w₀ v (e + 1) (m + 1)
+        unfolding swept_from kind_of
+        taken_on is =
+            let o = operated_acts σ.area 0 (omega arith) e removable in
             rw is (record {
               same = rw (o.table, o.past, add-one e) (rw (taking ∙ chosen) at at_turn);
               area = o.area;
-              beyond = beyond-trans σ.beyond (record { size = o.size; rest = o.rest });
+              beyond = beyond_trans σ.beyond (record { size = o.size; rest = o.rest });
             })
 
-  sweep-ends : D / 2 ≤ e → Went D (whole D n w₀) w₀ w (record { answer = Done 0; operations = m })
-  unfolding rising sweptFrom ranIn
-  sweep-ends none =
+  sweep_ends : D / 2 ≤ e → Went D (whole D n w₀) w₀ w (record { answer = Done 0; operations = m })
+  unfolding rising swept_from ran_in
+  sweep_ends none =
       let z : D / 2 - e ≡ 0 = omega arith in
       record { went = rw z at σ.same; few = σ.area.few; beyond = σ.beyond }
 
@@ -95,7 +95,7 @@ operate-requires c κs =
     let t = i.before in
     let l = t.before.before in
     let σ = l.before.loop.invariant in
-    let (room, ((few, kind), inside)) = area-for σ.area 0 _ (removable σ l.loop-test.true t.takes.ensures i.if1.true) (omega arith) in
+    let (room, ((few, kind), inside)) = area_for σ.area 0 _ (removable σ l.loop-test.true t.takes.ensures i.if1.true) (omega arith) in
     (room, ((few, omega arith), inside))
 
 add-m : tie.Need-overflow-add-m invariant-loop decreases-loop
@@ -116,7 +116,7 @@ loop-again c =
     let i = o.before.before in
     let t = i.before in
     let l = t.before.before in
-    taken-on l.before.loop.invariant l.loop-test.true t.takes.ensures i.if1.true o.operate.ensures
+    taken_on l.before.loop.invariant l.loop-test.true t.takes.ensures i.if1.true o.operate.ensures
 
 add-e-2 : tie.Need-overflow-add-e-2 invariant-loop decreases-loop
 add-e-2 c = search rules
@@ -131,10 +131,10 @@ same_length : tie.Need-same-length invariant-loop decreases-loop
 same_length c = c.before.loop.invariant.beyond.size
 
 returns : tie.Need-returns invariant-loop decreases-loop
-returns c = sweep-ends c.before.loop.invariant c.loop-test.false
+returns c = sweep_ends c.before.loop.invariant c.loop-test.false
 
-pub sweep-spec : {M : Type 1} → statement M
-sweep-spec =
+pub sweep_spec : {M : Type 1} → statement M
+sweep_spec =
     tie.close
     (tie.spec
     invariant-loop

@@ -13,18 +13,18 @@ use Rattle.darts.specs.Cases.{answer_of}
 use Rattle.darts.specs.declared.Answer.{Answer}
 use Rattle.darts.specs.Operation.{Kind}
 use Rattle.darts.specs.Scan.{found, fault, after}
-use Rattle.darts.specs.Read.{KernelLine, kernelAt, kernelsAt, endsFrom, total, numbersFrom, historyFrom, fileHistory}
-use Rattle.laws.proofs.file.KernelLines.{ends-length, numbers-length}
+use Rattle.darts.specs.Read.{KernelLine, kernel_at, kernels_at, ends_from, total, numbers_from, history_from, file_history}
+use Rattle.laws.proofs.file.KernelLines.{ends_length, numbers_length}
 use Rattle.file_lines.specs.declared.scan.Scanned.TheVariants.{Found, Fault}
 use Rattle.file_lines.specs.Found.{line_of}
-use Rattle.file_lines.specs.Lines.{kernelOf}
+use Rattle.file_lines.specs.Lines.{kernel_of}
 use Rattle.slices.specs.Put.{Put}
 use Rattle.file_lines.specs.Kernels.{noted, KernelsRead}
 use Rattle.file_lines.proofs.Found.{told}
-use Rattle.file_lines.proofs.Rest.{Rest, rest-none, rest-on, rest-fault, rest-found}
-use Rattle.file_lines.proofs.KernelLines.{kernel-lines, kernel-small, total-on, ends_on, history-on, history-length, ends_set}
-use Rattle.slices.proofs.Put.{put-none, put_on}
-use Rattle.slices.proofs.Laid.{laid-rest, laid-over}
+use Rattle.file_lines.proofs.Rest.{Rest, rest_none, rest_on, rest_fault, rest_found}
+use Rattle.file_lines.proofs.KernelLines.{kernel_lines_lem, kernel_small, total_on, ends_on, history_on, history_length, ends_set}
+use Rattle.slices.proofs.Put.{put_none, put_on}
+use Rattle.slices.proofs.Laid.{laid_rest, laid_over}
 use Rattle.file_lines.proofs.kernels.kernels.Statement.{statement}
 use Rattle.file_lines.proofs.kernels.kernels.Tie as tie
 
@@ -35,13 +35,13 @@ record Reading (b : List ℕ) (L D : ℕ) (h₀ h ends : List ℕ) (at₀ at sum
   size : length h ≡ length h₀
   small : sum ≤ 99999 * i
   same : sum ≡ total done
-  lines : Rest (kernelsAt L b at₀) (kernelsAt (L - i) b at) done
-  levels : ends ≡ endsFrom 0 done ++ replicate (64 - i) 0
-  put : sum ≤ D / 2 → Put h₀ h 0 sum (fileHistory done)
+  lines : Rest (kernels_at L b at₀) (kernels_at (L - i) b at) done
+  levels : ends ≡ ends_from 0 done ++ replicate (64 - i) 0
+  put : sum ≤ D / 2 → Put h₀ h 0 sum (file_history done)
   rest : drop (D / 2) h ≡ drop (D / 2) h₀
 
 begin : (b : List ℕ) (L D : ℕ) (h : List ℕ) (at : ℕ) → Reading b L D h h (replicate 64 0) at at 0 0
-unfolding total endsFrom fileHistory historyFrom
+unfolding total ends_from file_history history_from
 begin b L D h at =
     record {
       done = [];
@@ -50,61 +50,61 @@ begin b L D h at =
       size = refl;
       small = omega arith;
       same = refl;
-      lines = let all : L - 0 ≡ L = omega arith in rw all (rest-none (kernelsAt L b at));
+      lines = let all : L - 0 ≡ L = omega arith in rw all (rest_none (kernels_at L b at));
       levels = refl;
-      put = λ _. put-none h 0;
+      put = λ _. put_none h 0;
       rest = refl;
     }
 
 -- the numbers of one line more
-noted-rest : (room : ℕ) (k : Kind) (i n : ℕ) (h : List ℕ) → room ≤ length h → drop room (noted room k i n h) ≡ drop room h
+noted_rest : (room : ℕ) (k : Kind) (i n : ℕ) (h : List ℕ) → room ≤ length h → drop room (noted room k i n h) ≡ drop room h
 unfolding noted
-noted-rest room k i n h fits =
+noted_rest room k i n h fits =
     by_cases (dec_le (i + n) room)
     (λ l. rw (le-leb (i + n) room l)
-    (let size = numbers-length k i n in laid-rest h i (numbersFrom k i n) (record { fits = omega arith }) room (omega arith)))
+    (let size = numbers_length k i n in laid_rest h i (numbers_from k i n) (record { fits = omega arith }) room (omega arith)))
     (λ m. rw (lt-leb (i + n) room (omega arith)))
 
 module _ {b : List ℕ} {L D : ℕ} {h₀ h ends : List ℕ} {at₀ at sum i : ℕ} (pre : (L ≤ 64) × (D ≤ 65536) × (D / 2 ≤ length h₀))
     (g : Reading b L D h₀ h ends at₀ at sum i) where
-  put-more : (k : KernelLine) {h' : List ℕ} → h' ≡ noted (D / 2) k.kind sum k.count h → sum + k.count ≤ D / 2
-      → Put h₀ h' 0 (sum + k.count) (fileHistory (g.done ++ (k ∷ [])))
-  unfolding noted fileHistory
-  put-more k e fits =
-      let size = history-length 0 g.done in
+  put_more : (k : KernelLine) {h' : List ℕ} → h' ≡ noted (D / 2) k.kind sum k.count h → sum + k.count ≤ D / 2
+      → Put h₀ h' 0 (sum + k.count) (file_history (g.done ++ (k ∷ [])))
+  unfolding noted file_history
+  put_more k e fits =
+      let size = history_length 0 g.done in
       let here : 0 + total g.done ≡ sum = omega arith in
-      let on : historyFrom 0 (g.done ++ (k ∷ [])) ≡ historyFrom 0 g.done ++ numbersFrom k.kind sum k.count = history-on k 0 g.done ∙ rw here in
-      let added = numbers-length k.kind sum k.count in
+      let on : history_from 0 (g.done ++ (k ∷ [])) ≡ history_from 0 g.done ++ numbers_from k.kind sum k.count = history_on k 0 g.done ∙ rw here in
+      let added = numbers_length k.kind sum k.count in
       rw on
       (put_on (record { fits = omega arith }) (g.put (omega arith))
       (record { slice = rw (le-leb (sum + k.count) (D / 2) fits) at e; next = omega arith }))
 
-  go_on : {k : KernelLine} {h' : List ℕ} {next : ℕ} → i < L → kernelAt b at ≡ found k next → length h' ≡ length h
+  go_on : {k : KernelLine} {h' : List ℕ} {next : ℕ} → i < L → kernel_at b at ≡ found k next → length h' ≡ length h
       → h' ≡ noted (D / 2) k.kind sum k.count h
       → Reading b L D h₀ h' (set ends i (sum + k.count)) at₀ next (sum + k.count) (i + 1)
   go_on {k} {h'} {next} more line kept e =
       let less : L - i - 1 ≡ L - (i + 1) = omega arith in
-      let alone : after (kernelAt b at) (λ k next. found (k ∷ []) next) ≡ found (k ∷ []) next = rw line in
-      let many : k.count ≤ 99999 = kernel-small b at line in
+      let alone : after (kernel_at b at) (λ k next. found (k ∷ []) next) ≡ found (k ∷ []) next = rw line in
+      let many : k.count ≤ 99999 = kernel_small b at line in
       let here : 0 + total g.done ≡ sum = omega arith in
-      let on : endsFrom 0 (g.done ++ (k ∷ [])) ≡ endsFrom 0 g.done ++ ((sum + k.count) ∷ []) = ends_on k 0 g.done ∙ rw here in
+      let on : ends_from 0 (g.done ++ (k ∷ [])) ≡ ends_from 0 g.done ++ ((sum + k.count) ∷ []) = ends_on k 0 g.done ∙ rw here in
       record {
         done = g.done ++ (k ∷ []);
         bound = omega arith;
         count = length-append g.done (k ∷ []) ∙ ap (λ (m : ℕ). m + 1) g.count;
         size = kept ∙ g.size;
         small = omega arith;
-        same = omega (arith, total-on k g.done);
-        lines = rw less at (rest-on (kernel-lines b) (L - i) (omega arith) g.lines alone);
-        levels = rw (g.levels, on) (ends_set (endsFrom 0 g.done) i (sum + k.count) (ends-length 0 g.done ∙ g.count) (omega arith));
-        put = put-more k e;
-        rest = ap (drop (D / 2)) e ∙ noted-rest (D / 2) k.kind sum k.count h (omega arith) ∙ g.rest;
+        same = omega (arith, total_on k g.done);
+        lines = rw less at (rest_on (kernel_lines_lem b) (L - i) (omega arith) g.lines alone);
+        levels = rw (g.levels, on) (ends_set (ends_from 0 g.done) i (sum + k.count) (ends_length 0 g.done ∙ g.count) (omega arith));
+        put = put_more k e;
+        rest = ap (drop (D / 2)) e ∙ noted_rest (D / 2) k.kind sum k.count h (omega arith) ∙ g.rest;
       }
 
-  stopped : {a : Answer} → i < L → kernelAt b at ≡ fault (answer_of a) → KernelsRead b at₀ L D h₀ h (record { read = Fault a; ends = ends })
+  stopped : {a : Answer} → i < L → kernel_at b at ≡ fault (answer_of a) → KernelsRead b at₀ L D h₀ h (record { read = Fault a; ends = ends })
   stopped {a} more line =
-      let wrong : kernelsAt L b at₀ ≡ fault (answer_of a) = rest-fault (kernel-lines b) (L - i) (omega arith) g.lines (rw line) in
-      let never : (ks : List KernelLine) (next : ℕ) → kernelsAt L b at₀ ≡ found ks next → ⊥ =
+      let wrong : kernels_at L b at₀ ≡ fault (answer_of a) = rest_fault (kernel_lines_lem b) (L - i) (omega arith) g.lines (rw line) in
+      let never : (ks : List KernelLine) (next : ℕ) → kernels_at L b at₀ ≡ found ks next → ⊥ =
       λ ks next e. let z : ◌≡◌ {A = ℕ} 0 1 = cc (wrong, e) in omega arith in
       record {
         answer = rw wrong;
@@ -115,14 +115,14 @@ module _ {b : List ℕ} {L D : ℕ} {h₀ h ends : List ℕ} {at₀ at sum i : �
 
   ended : L ≤ i → KernelsRead b at₀ L D h₀ h (record { read = Found sum at; ends = ends })
   ended all =
-      let right : kernelsAt L b at₀ ≡ found g.done at = rest-found (kernel-lines b) (L - i) (omega arith) g.lines in
-      let one : (ks : List KernelLine) (next : ℕ) → kernelsAt L b at₀ ≡ found ks next → ks ≡ g.done = λ ks next e. cc (right, e) in
+      let right : kernels_at L b at₀ ≡ found g.done at = rest_found (kernel_lines_lem b) (L - i) (omega arith) g.lines in
+      let one : (ks : List KernelLine) (next : ℕ) → kernels_at L b at₀ ≡ found ks next → ks ≡ g.done = λ ks next e. cc (right, e) in
       record {
         answer = rw right (ap (λ (m : ℕ). found m at) g.same);
         ends = λ ks next e. rw (one ks next e, g.count) g.levels;
         history = λ ks next e l.
             let k : ks ≡ g.done = one ks next e in
-            rw k ((g.put (rw (g.same, ← k) l)).slice ∙ laid-over h₀ (fileHistory g.done));
+            rw k ((g.put (rw (g.same, ← k) l)).slice ∙ laid_over h₀ (file_history g.done));
         rest = g.rest;
       }
 
@@ -150,21 +150,21 @@ returns : tie.Need-returns invariant-loop decreases-loop
 returns c =
     stopped c.before.before.before.before.before.before.before.before.requires c.before.before.before.before.before.loop.invariant
     c.before.before.before.before.loop-test.true
-    (told (line_of kernelOf) c.before.before.before.kernel-line.ensures c.before.answer.given.1)
+    (told (line_of kernel_of) c.before.before.before.kernel-line.ensures c.before.answer.given.1)
 
 enum-known-kind : tie.Need-enum-known-kind invariant-loop decreases-loop
 enum-known-kind c = search rules
 
 lay-history-requires : tie.Need-lay-history-requires invariant-loop decreases-loop
 lay-history-requires c κs =
-    let small = kernel-small _ _ (told (line_of kernelOf) c.before.before.before.before.kernel-line.ensures c.before.before.kind.given.1) in
+    let small = kernel_small _ _ (told (line_of kernel_of) c.before.before.before.before.kernel-line.ensures c.before.before.kind.given.1) in
     omega arith
 
 -- the count of a line that was found
 few : (c : tie.After-slice-known2 invariant-loop decreases-loop) → c.before.before.before.before.before.kind.given.0.1.0 ≤ 99999
 few c =
-    kernel-small _ _
-    (told (line_of kernelOf) c.before.before.before.before.before.before.before.kernel-line.ensures c.before.before.before.before.before.kind.given.1)
+    kernel_small _ _
+    (told (line_of kernel_of) c.before.before.before.before.before.before.before.kernel-line.ensures c.before.before.before.before.before.kind.given.1)
 
 add_total : tie.Need-overflow-add-total invariant-loop decreases-loop
 add_total c = omega (arith, few c)
@@ -189,9 +189,9 @@ loop-again c =
     go_on c.before.before.before.before.before.before.before.before.before.before.before.before.requires
     c.before.before.before.before.before.before.before.before.before.loop.invariant
     c.before.before.before.before.before.before.before.before.loop-test.true
-    (told (line_of kernelOf) c.before.before.before.before.before.before.before.kernel-line.ensures
-    c.before.before.before.before.before.kind.given.1) c.before.before.lay-history.auto.0
-    c.before.before.lay-history.ensures
+    (told (line_of kernel_of) c.before.before.before.before.before.before.before.kernel-line.ensures
+    c.before.before.before.before.before.kind.given.1) c.before.before.lay_history.auto.0
+    c.before.before.lay_history.ensures
 
 same-length-2 : tie.Need-same-length-2 invariant-loop decreases-loop
 same-length-2 c = search rules
@@ -199,8 +199,8 @@ same-length-2 c = search rules
 returns-2 : tie.Need-returns-2 invariant-loop decreases-loop
 returns-2 c = ended c.before.before.before.before.requires c.before.loop.invariant c.loop-test.false
 
-pub kernels-spec : {M : Type 1} → statement M
-kernels-spec =
+pub kernels_spec : {M : Type 1} → statement M
+kernels_spec =
     tie.close
     (tie.spec
     invariant-loop

@@ -8,12 +8,12 @@ use lib.ListN.{length, set, length-set}
 use borrow.Author.Rules.{rules}
 use borrow.Author.Tests.{le-leb, lt-leb}
 use Rattle.darts.specs.Operation.{Kind, number, kind_of}
-use Rattle.darts.specs.Read.{numbersFrom}
+use Rattle.darts.specs.Read.{numbers_from}
 use Rattle.slices.specs.Laid.{laid}
 use Rattle.slices.specs.Put.{Put}
 use Rattle.file_lines.specs.Kernels.{noted}
-use Rattle.slices.proofs.Put.{put-none, put_one}
-use Rattle.file_lines.proofs.KernelLines.{numbers_on, number-kind}
+use Rattle.slices.proofs.Put.{put_none, put_one}
+use Rattle.file_lines.proofs.KernelLines.{numbers_on, number_kind}
 use Rattle.file_lines.proofs.kernels.lay_history.Statement.{statement}
 use Rattle.file_lines.proofs.kernels.lay_history.Tie as tie
 
@@ -21,20 +21,20 @@ record Laying (h₀ h : List ℕ) (k : Kind) (from to i : ℕ) : Type 0 where
   low : from ≤ i
   high : i ≤ to
   size : length h ≡ length h₀
-  put : Put h₀ h from i (numbersFrom k from (i - from))
+  put : Put h₀ h from i (numbers_from k from (i - from))
 
 begin : (h : List ℕ) (k : Kind) (from to : ℕ) → from ≤ to → Laying h h k from to from
-unfolding numbersFrom
+unfolding numbers_from
 begin h k from to l =
     let none : from - from ≡ 0 = omega arith in
-    record { low = omega arith; high = l; size = refl; put = rw none (put-none h from) }
+    record { low = omega arith; high = l; size = refl; put = rw none (put_none h from) }
 
 module _ {h₀ h : List ℕ} {k : Kind} {from to i : ℕ} where
   go_on : {v : ℕ} → number k (2 * i) ≡ v → i < to → to ≤ length h₀ → Laying h₀ h k from to i → Laying h₀ (set h i v) k from to (i + 1)
   go_on {v} e more fits g =
       let one : i + 1 - from ≡ suc (i - from) = omega arith in
       let here : from + (i - from) ≡ i = omega arith in
-      let on : numbersFrom k from (suc (i - from)) ≡ numbersFrom k from (i - from) ++ (v ∷ []) =
+      let on : numbers_from k from (suc (i - from)) ≡ numbers_from k from (i - from) ++ (v ∷ []) =
       numbers_on k from (i - from) ∙ rw (here, e) in
       record {
         low = omega arith;
@@ -43,7 +43,7 @@ module _ {h₀ h : List ℕ} {k : Kind} {from to i : ℕ} where
         put = rw (one, on) (put_one v (omega (arith, g.put.next)) g.put);
       }
 
-ended : {h₀ h : List ℕ} {k : Kind} {from i : ℕ} (n : ℕ) → from + n ≤ i → Laying h₀ h k from (from + n) i → h ≡ laid h₀ from (numbersFrom k from n)
+ended : {h₀ h : List ℕ} {k : Kind} {from i : ℕ} (n : ℕ) → from + n ≤ i → Laying h₀ h k from (from + n) i → h ≡ laid h₀ from (numbers_from k from n)
 ended {h₀} {h} {k} {from} {i} n all g = let whole : i - from ≡ n = omega arith in rw whole at g.put.slice
 
 abbrev invariant-loop : tie.invariant-loop
@@ -86,7 +86,7 @@ loop-less c = search rules
 loop-again : tie.Need-loop-preserved invariant-loop decreases-loop
 loop-again c =
     let s = c.before.before.before in
-    go_on (number-kind s.args.kind c.before.loop.i) c.loop-test.true (omega arith) c.before.loop.invariant
+    go_on (number_kind s.args.kind c.before.loop.i) c.loop-test.true (omega arith) c.before.loop.invariant
 
 same_length : tie.Need-same-length invariant-loop decreases-loop
 same_length c = search rules
@@ -95,8 +95,8 @@ returns-2 : tie.Need-returns-2 invariant-loop decreases-loop
 unfolding noted
 returns-2 c = rw (le-leb _ _ c.before.before.if1.false) (ended _ c.loop-test.false c.before.loop.invariant)
 
-pub lay-history-spec : {M : Type 1} → statement M
-lay-history-spec =
+pub lay_history_spec : {M : Type 1} → statement M
+lay_history_spec =
     tie.close
     (tie.spec
     invariant-loop

@@ -1,7 +1,7 @@
 -- `file_lines::lines::numbers_line` meets its contract: the first of its three parts that is wrong decides.
 use borrow.Author.Rules.{rules}
-use Rattle.file_lines.specs.Found.{scanOf}
-use Rattle.file_lines.specs.Lines.{numbersAt}
+use Rattle.file_lines.specs.Found.{scan_of}
+use Rattle.file_lines.specs.Lines.{numbers_at}
 use Rattle.file_lines.proofs.Found.{told}
 use Rattle.file_lines.proofs.lines.numbers_line.Statement.{statement}
 use Rattle.file_lines.proofs.lines.numbers_line.Tie as tie
@@ -40,35 +40,35 @@ enum-known-next : tie.Need-enum-known-next
 enum-known-next c = search rules
 
 returns : tie.Need-returns
-unfolding numbersAt
-returns c = rw (told scanOf c.before.before.before.word.ensures c.before.answer.given.1)
+unfolding numbers_at
+returns c = rw (told scan_of c.before.before.before.word.ensures c.before.answer.given.1)
 
 returns-2 : tie.Need-returns-2
-unfolding numbersAt
+unfolding numbers_at
 returns-2 c =
-    rw (told scanOf c.before.before.before.before.before.before.before.word.ensures c.before.before.before.before.before.ninth.given.1)
-    (rw (told scanOf c.before.before.before.flag.ensures c.before.answer2.given.1))
+    rw (told scan_of c.before.before.before.before.before.before.before.word.ensures c.before.before.before.before.before.ninth.given.1)
+    (rw (told scan_of c.before.before.before.flag.ensures c.before.answer2.given.1))
 
 returns-3 : tie.Need-returns-3
-unfolding numbersAt
+unfolding numbers_at
 returns-3 c =
-    rw (told scanOf c.before.before.before.before.before.before.before.before.before.before.before.before.word.ensures
+    rw (told scan_of c.before.before.before.before.before.before.before.before.before.before.before.before.word.ensures
     c.before.before.before.before.before.before.before.before.before.before.ninth.given.1)
-    (rw (told scanOf c.before.before.before.before.before.before.before.before.flag.ensures
+    (rw (told scan_of c.before.before.before.before.before.before.before.before.flag.ensures
     c.before.before.before.before.before.before.flag2.given.1)
-    (rw (told scanOf c.before.before.before.word2.ensures c.before.answer3.given.1)))
+    (rw (told scan_of c.before.before.before.word2.ensures c.before.answer3.given.1)))
 
 returns-4 : tie.Need-returns-4
-unfolding numbersAt
+unfolding numbers_at
 returns-4 c =
-    rw (told scanOf c.before.before.before.before.before.before.before.before.before.before.before.before.word.ensures
+    rw (told scan_of c.before.before.before.before.before.before.before.before.before.before.before.before.word.ensures
     c.before.before.before.before.before.before.before.before.before.before.ninth.given.1)
-    (rw (told scanOf c.before.before.before.before.before.before.before.before.flag.ensures
+    (rw (told scan_of c.before.before.before.before.before.before.before.before.flag.ensures
     c.before.before.before.before.before.before.flag2.given.1)
-    (rw (told scanOf c.before.before.before.word2.ensures c.before.next.given.1)))
+    (rw (told scan_of c.before.before.before.word2.ensures c.before.next.given.1)))
 
-pub numbers-line-spec : {M : Type 1} → statement M
-numbers-line-spec =
+pub numbers_line_spec : {M : Type 1} → statement M
+numbers_line_spec =
     tie.close
     (tie.spec
     slice-aggregate-word

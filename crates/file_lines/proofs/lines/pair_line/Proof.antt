@@ -1,6 +1,6 @@
 -- `file_lines::lines::pair_line` meets its contract: the two fields are read one after the other.
 use borrow.Author.Rules.{rules}
-use Rattle.file_lines.specs.Found.{scanOf}
+use Rattle.file_lines.specs.Found.{scan_of}
 use Rattle.file_lines.specs.Lines.{pair_at}
 use Rattle.file_lines.proofs.Found.{told}
 use Rattle.file_lines.proofs.lines.pair_line.Statement.{statement}
@@ -38,24 +38,24 @@ enum-known-b c = search rules
 
 returns : tie.Need-returns
 unfolding pair_at
-returns c = rw (told scanOf c.before.before.before.field.ensures c.before.answer.given.1)
+returns c = rw (told scan_of c.before.before.before.field.ensures c.before.answer.given.1)
 
 returns-2 : tie.Need-returns-2
 unfolding pair_at
 returns-2 c =
-    rw (told scanOf c.before.before.before.before.before.before.before.before.before.field.ensures
+    rw (told scan_of c.before.before.before.before.before.before.before.before.before.field.ensures
     c.before.before.before.before.before.before.before.a.given.1)
-    (rw (told scanOf c.before.before.before.field2.ensures c.before.answer2.given.1))
+    (rw (told scan_of c.before.before.before.field2.ensures c.before.answer2.given.1))
 
 returns-3 : tie.Need-returns-3
 unfolding pair_at
 returns-3 c =
-    rw (told scanOf c.before.before.before.before.before.before.before.before.before.field.ensures
+    rw (told scan_of c.before.before.before.before.before.before.before.before.before.field.ensures
     c.before.before.before.before.before.before.before.a.given.1)
-    (rw (told scanOf c.before.before.before.field2.ensures c.before.b.given.1))
+    (rw (told scan_of c.before.before.before.field2.ensures c.before.b.given.1))
 
-pub pair-line-spec : {M : Type 1} → statement M
-pair-line-spec =
+pub pair_line_spec : {M : Type 1} → statement M
+pair_line_spec =
     tie.close
     (tie.spec
     slice-aggregate-field

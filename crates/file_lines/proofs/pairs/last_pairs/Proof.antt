@@ -1,7 +1,7 @@
 -- `file_lines::pairs::last_pairs` meets its contract: the lines of the pairs, and then the end of the file.
 use native.Mathlib.Omega.{arith}
 use borrow.Author.Rules.{rules}
-use Rattle.file_lines.proofs.LastPairs.{last-wrong, last_more, last-right}
+use Rattle.file_lines.proofs.LastPairs.{last_wrong, last_more, last_right}
 use Rattle.file_lines.proofs.pairs.last_pairs.Statement.{statement}
 use Rattle.file_lines.proofs.pairs.last_pairs.Tie as tie
 
@@ -24,16 +24,16 @@ same-length-2 : tie.Need-same-length-2
 same-length-2 c = search rules
 
 returns-2 : tie.Need-returns-2
-returns-2 c = last-wrong c.before.before.before.before.before.pairs.ensures c.before.answer.given.1
+returns-2 c = last_wrong c.before.before.before.before.before.pairs.ensures c.before.answer.given.1
 
 same-length-3 : tie.Need-same-length-3
 same-length-3 c = search rules
 
 returns-3 : tie.Need-returns-3
-returns-3 c = last-right c.before.before.before.before.before.before.pairs.ensures c.before.before.next.given.1 (omega arith)
+returns-3 c = last_right c.before.before.before.before.before.before.pairs.ensures c.before.before.next.given.1 (omega arith)
 
-pub last-pairs-spec : {M : Type 1} → statement M
-last-pairs-spec =
+pub last_pairs_spec : {M : Type 1} → statement M
+last_pairs_spec =
     tie.close
     (tie.spec
     pairs-requires

@@ -7,13 +7,13 @@ use lib.ListN.{set, length-set}
 use borrow.Author.Rules.{rules}
 use Rattle.file_lines.specs.Lines.{pair_of}
 use Rattle.slices.specs.Laid.{laid, Space}
-use Rattle.slices.proofs.Put.{put-none, put_one}
+use Rattle.slices.proofs.Put.{put_none, put_one}
 use Rattle.file_lines.proofs.PairLines.{flag_small}
 use Rattle.file_lines.proofs.pairs.lay_pair.Statement.{statement}
 use Rattle.file_lines.proofs.pairs.lay_pair.Tie as tie
 
-two-laid : (t : List ℕ) (at : ℕ) {a b x y u v : ℕ} → Space t at (pair_of a b) → x ≡ u → y ≡ v → set (set t at x) (at + 1) y ≡ laid t at (u ∷ v ∷ [])
-two-laid t at {a} {b} {x} {y} {u} {v} room e f = rw (← e, ← f) (put_one y (omega arith) (put_one x (omega arith) (put-none t at))).slice
+two_laid : (t : List ℕ) (at : ℕ) {a b x y u v : ℕ} → Space t at (pair_of a b) → x ≡ u → y ≡ v → set (set t at x) (at + 1) y ≡ laid t at (u ∷ v ∷ [])
+two_laid t at {a} {b} {x} {y} {u} {v} room e f = rw (← e, ← f) (put_one y (omega arith) (put_one x (omega arith) (put_none t at))).slice
 
 from-flag-requires : tie.Need-from-flag-requires
 from-flag-requires c κs = search rules
@@ -52,10 +52,10 @@ same_length c = search rules
 returns : tie.Need-returns
 returns c =
     let s = c.before.before.before in
-    two-laid s.args.table.now s.args.at s.requires.0 c.before.from-flag.ensures c.from-flag2.ensures
+    two_laid s.args.table.now s.args.at s.requires.0 c.before.from-flag.ensures c.from-flag2.ensures
 
-pub lay-pair-spec : {M : Type 1} → statement M
-lay-pair-spec =
+pub lay_pair_spec : {M : Type 1} → statement M
+lay_pair_spec =
     tie.close
     (tie.spec
     from-flag-requires

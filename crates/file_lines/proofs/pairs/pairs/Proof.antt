@@ -9,7 +9,7 @@ use borrow.Author.Rules.{rules}
 use Rattle.darts.specs.Cases.{answer_of}
 use Rattle.darts.specs.declared.Answer.{Answer}
 use Rattle.darts.specs.Scan.{found, fault}
-use Rattle.darts.specs.Read.{pairsAt, fromFlag}
+use Rattle.darts.specs.Read.{pairs_at, from_flag}
 use Rattle.file_lines.specs.declared.scan.Scanned.TheVariants.{Found, Fault}
 use Rattle.file_lines.specs.Found.{line_of}
 use Rattle.file_lines.specs.Lines.{pair_at, pair_of}
@@ -17,10 +17,10 @@ use Rattle.slices.specs.Laid.{laid, Space}
 use Rattle.slices.specs.Put.{Put}
 use Rattle.file_lines.specs.Pairs.{PairsRead, last_at, LastRead}
 use Rattle.file_lines.proofs.Found.{told}
-use Rattle.file_lines.proofs.Rest.{Rest, rest-none, rest-on, rest-fault, rest-found}
-use Rattle.file_lines.proofs.PairLines.{pair-lines, pair_small}
-use Rattle.slices.proofs.Put.{put-none, put_on, put-length}
-use Rattle.slices.proofs.Laid.{laid-rest, laid-over}
+use Rattle.file_lines.proofs.Rest.{Rest, rest_none, rest_on, rest_fault, rest_found}
+use Rattle.file_lines.proofs.PairLines.{pair_lines_lem, pair_small}
+use Rattle.slices.proofs.Put.{put_none, put_on, put_length}
+use Rattle.slices.proofs.Laid.{laid_rest, laid_over}
 use Rattle.file_lines.proofs.pairs.pairs.Statement.{statement}
 use Rattle.file_lines.proofs.pairs.pairs.Tie as tie
 
@@ -28,8 +28,8 @@ record Reading (b : List ℕ) (D F : ℕ) (t₀ t : List ℕ) (at₀ at i : ℕ)
   done : List ℕ
   bound : i ≤ D / 2
   size : length t ≡ length t₀
-  lines : Rest (pairsAt (D / 2) b at₀) (pairsAt (D / 2 - i) b at) done
-  put : Put t₀ t 0 (2 * i) (map (fromFlag F D) done)
+  lines : Rest (pairs_at (D / 2) b at₀) (pairs_at (D / 2 - i) b at) done
+  put : Put t₀ t 0 (2 * i) (map (from_flag F D) done)
 
 begin : (b : List ℕ) (D F : ℕ) (t : List ℕ) (at : ℕ) → Reading b D F t t at at 0
 begin b D F t at =
@@ -37,36 +37,36 @@ begin b D F t at =
       done = [];
       bound = omega arith;
       size = refl;
-      lines = let all : D / 2 - 0 ≡ D / 2 = omega arith in rw all (rest-none (pairsAt (D / 2) b at));
-      put = put-none t 0;
+      lines = let all : D / 2 - 0 ≡ D / 2 = omega arith in rw all (rest_none (pairs_at (D / 2) b at));
+      put = put_none t 0;
     }
 
 module _ {b : List ℕ} {D F : ℕ} {t₀ t : List ℕ} {at₀ at i : ℕ} (pre : (D ≤ 65536) × (D ≤ length t₀)) (g : Reading b D F t₀ t at₀ at i) where
-  room : Space t₀ 0 (map (fromFlag F D) g.done)
+  room : Space t₀ 0 (map (from_flag F D) g.done)
   room = record { fits = omega (arith, g.put.next) }
 
   go_on : {t' : List ℕ} {x y next : ℕ} → i < D / 2 → pair_at b at ≡ found (pair_of x y) next
-      → t' ≡ laid t (2 * i) (map (fromFlag F D) (pair_of x y)) → Reading b D F t₀ t' at₀ next (i + 1)
+      → t' ≡ laid t (2 * i) (map (from_flag F D) (pair_of x y)) → Reading b D F t₀ t' at₀ next (i + 1)
   go_on {t'} {x} {y} {next} more line laid =
       let less : D / 2 - i - 1 ≡ D / 2 - (i + 1) = omega arith in
       let twice : 2 * (i + 1) ≡ 2 * i + 2 = omega arith in
-      let both : Put t₀ t' 0 (2 * i + 2) (map (fromFlag F D) g.done ++ map (fromFlag F D) (pair_of x y)) =
+      let both : Put t₀ t' 0 (2 * i + 2) (map (from_flag F D) g.done ++ map (from_flag F D) (pair_of x y)) =
       put_on room g.put (record { slice = laid; next = refl }) in
       record {
         done = g.done ++ pair_of x y;
         bound = omega arith;
-        size = put-length (record { fits = omega (arith, both.next) }) both;
-        lines = rw less at (rest-on (pair-lines b) (D / 2 - i) (omega arith) g.lines line);
+        size = put_length (record { fits = omega (arith, both.next) }) both;
+        lines = rw less at (rest_on (pair_lines_lem b) (D / 2 - i) (omega arith) g.lines line);
         put = rw (twice, map-append) both;
       }
 
   -- the table past the first D numbers
   untouched : drop D t ≡ drop D t₀
-  untouched = ap (drop D) g.put.slice ∙ laid-rest t₀ 0 (map (fromFlag F D) g.done) room D (omega (arith, g.put.next))
+  untouched = ap (drop D) g.put.slice ∙ laid_rest t₀ 0 (map (from_flag F D) g.done) room D (omega (arith, g.put.next))
 
   stopped : {a : Answer} → i < D / 2 → pair_at b at ≡ fault (answer_of a) → PairsRead b at₀ D F t₀ t (Fault a)
   stopped {a} more line =
-      let wrong : pairsAt (D / 2) b at₀ ≡ fault (answer_of a) = rest-fault (pair-lines b) (D / 2 - i) (omega arith) g.lines line in
+      let wrong : pairs_at (D / 2) b at₀ ≡ fault (answer_of a) = rest_fault (pair_lines_lem b) (D / 2 - i) (omega arith) g.lines line in
       record {
         answer = rw wrong;
         table = λ xs next e. let never : ◌≡◌ {A = ℕ} 0 1 = cc (wrong, e) in absurd (omega arith);
@@ -75,10 +75,10 @@ module _ {b : List ℕ} {D F : ℕ} {t₀ t : List ℕ} {at₀ at i : ℕ} (pre 
 
   ended : D / 2 ≤ i → PairsRead b at₀ D F t₀ t (Found 0 at)
   ended all =
-      let right : pairsAt (D / 2) b at₀ ≡ found g.done at = rest-found (pair-lines b) (D / 2 - i) (omega arith) g.lines in
+      let right : pairs_at (D / 2) b at₀ ≡ found g.done at = rest_found (pair_lines_lem b) (D / 2 - i) (omega arith) g.lines in
       record {
         answer = rw right;
-        table = λ xs next e. let same : xs ≡ g.done = cc (right, e) in rw same (g.put.slice ∙ laid-over t₀ (map (fromFlag F D) g.done));
+        table = λ xs next e. let same : xs ≡ g.done = cc (right, e) in rw same (g.put.slice ∙ laid_over t₀ (map (from_flag F D) g.done));
         rest = untouched;
       }
 
@@ -139,8 +139,8 @@ same-length-2 c = search rules
 returns-2 : tie.Need-returns-2 invariant-loop decreases-loop
 returns-2 c = ended c.before.before.before.before.requires c.before.loop.invariant c.loop-test.false
 
-pub pairs-spec : {M : Type 1} → statement M
-pairs-spec =
+pub pairs_spec : {M : Type 1} → statement M
+pairs_spec =
     tie.close
     (tie.spec
     invariant-loop

@@ -2,7 +2,7 @@
 use mathlib.Core.Path.{sym}
 use native.Mathlib.Omega.{arith}
 use borrow.Author.Rules.{rules}
-use Rattle.file_lines.proofs.Byte.{byte-in, byte_past}
+use Rattle.file_lines.proofs.Byte.{byte_in, byte_past}
 use Rattle.file_lines.proofs.scan.byte_at.Statement.{statement}
 use Rattle.file_lines.proofs.scan.byte_at.Tie as tie
 
@@ -13,10 +13,10 @@ cast-result : tie.Need-overflow-cast-result
 cast-result c = omega (arith, c.shared-slice-known.given c.before.before.args.at)
 
 returns : tie.Need-returns
-returns c = sym (byte-in _ _ c.before.if1.true)
+returns c = sym (byte_in _ _ c.before.if1.true)
 
 returns-2 : tie.Need-returns-2
 returns-2 c = sym (byte_past _ _ c.if1.false)
 
-pub byte-at-spec : {M : Type 1} → statement M
-byte-at-spec = tie.close (tie.spec shared-slice-read-result cast-result returns returns-2)
+pub byte_at_spec : {M : Type 1} → statement M
+byte_at_spec = tie.close (tie.spec shared-slice-read-result cast-result returns returns-2)

@@ -7,14 +7,14 @@ use native.Mathlib.Omega.{arith}
 use lib.ListN.{length}
 use borrow.Author.Rules.{rules}
 use borrow.Author.Tests.{not-true, not-false}
-use Rattle.darts.specs.Scan.{isDigit, numberOn}
+use Rattle.darts.specs.Scan.{is_digit, number_on}
 use Rattle.file_lines.proofs.Byte.{byte_inside}
-use Rattle.file_lines.proofs.Number.{digit-range, Small, small-on, small-now, digits-stop, digits-on, digits-end}
+use Rattle.file_lines.proofs.Number.{digit_range, Small, small_on, small_now, digits_stop, digits_on, digits_end}
 use Rattle.file_lines.proofs.scan.digits.Statement.{statement}
 use Rattle.file_lines.proofs.scan.digits.Tie as tie
 
 abbrev invariant-loop : tie.invariant-loop
-invariant-loop bytes at x₀ place₀ left₀ x place left = (numberOn 5 bytes at 0 ≡ numberOn left bytes place x) × Small left x
+invariant-loop bytes at x₀ place₀ left₀ x place left = (number_on 5 bytes at 0 ≡ number_on left bytes place x) × Small left x
 
 abbrev decreases-loop : tie.decreases-loop
 decreases-loop bytes at x₀ place₀ left₀ x place left = left
@@ -31,10 +31,10 @@ is-digit-requires c κs = search rules
 returns : tie.Need-returns invariant-loop decreases-loop
 returns c =
     let a = c.before.before.before.before.loop in
-    sym (a.invariant.0 ∙ digits-stop _ _ _ c.before.before.byte_at.ensures _ (sym c.before.is_digit.ensures ∙ not-true _ c.if1.true))
+    sym (a.invariant.0 ∙ digits_stop _ _ _ c.before.before.byte_at.ensures _ (sym c.before.is_digit.ensures ∙ not-true _ c.if1.true))
 
 -- where a digit was read
-digit : (c : tie.Else1 invariant-loop decreases-loop) → isDigit c.before.before.byte_at.result ≡ true
+digit : (c : tie.Else1 invariant-loop decreases-loop) → is_digit c.before.before.byte_at.result ≡ true
 digit c = sym c.before.is_digit.ensures ∙ not-false _ c.if1.false
 
 record Known (c : tie.Else1 invariant-loop decreases-loop) : Type 0 where
@@ -46,11 +46,11 @@ record Known (c : tie.Else1 invariant-loop decreases-loop) : Type 0 where
 known : (c : tie.Else1 invariant-loop decreases-loop) → Known c
 known c =
     let a = c.before.before.before.before.loop in
-    let range = digit-range c.before.before.byte_at.result (digit c) in
+    let range = digit_range c.before.before.byte_at.result (digit c) in
     record {
       low = range.0;
       high = range.1;
-      small = small-now a.left a.x a.invariant.1;
+      small = small_now a.left a.x a.invariant.1;
       inside = byte_inside c.before.before.before.before.before.before.args.bytes.now a.place (omega (arith, c.before.before.byte_at.ensures));
     }
 
@@ -76,17 +76,17 @@ loop-again : tie.Need-loop-preserved invariant-loop decreases-loop
 loop-again c =
     let a = c.before.before.before.before.loop in
     let k = known c in (
-      a.invariant.0 ∙ digits-on _ _ _ c.before.before.byte_at.ensures _ (omega arith) (digit c),
-      small-on a.left a.x (c.before.before.byte_at.result - 48) (omega arith) a.invariant.1 (omega arith),
+      a.invariant.0 ∙ digits_on _ _ _ c.before.before.byte_at.ensures _ (omega arith) (digit c),
+      small_on a.left a.x (c.before.before.byte_at.result - 48) (omega arith) a.invariant.1 (omega arith),
     )
 
 returns-2 : tie.Need-returns-2 invariant-loop decreases-loop
 returns-2 c =
     let a = c.before.loop in
-    sym (a.invariant.0 ∙ digits-end _ _ _ _ c.loop-test.false)
+    sym (a.invariant.0 ∙ digits_end _ _ _ _ c.loop-test.false)
 
-pub digits-spec : {M : Type 1} → statement M
-digits-spec =
+pub digits_spec : {M : Type 1} → statement M
+digits_spec =
     tie.close
     (tie.spec
     invariant-loop

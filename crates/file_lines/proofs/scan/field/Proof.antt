@@ -1,7 +1,7 @@
 -- `file_lines::scan::field` meets its contract: the first of the three parts that is wrong decides, and each part is looked for where the one before ends.
 use borrow.Author.Rules.{rules}
 use Rattle.darts.specs.Scan.{field}
-use Rattle.file_lines.specs.Found.{scanOf}
+use Rattle.file_lines.specs.Found.{scan_of}
 use Rattle.file_lines.proofs.Found.{told}
 use Rattle.file_lines.proofs.scan.field.Statement.{statement}
 use Rattle.file_lines.proofs.scan.field.Tie as tie
@@ -35,32 +35,32 @@ enum-known-next c = search rules
 
 returns : tie.Need-returns
 unfolding field
-returns c = rw (told scanOf c.before.before.before.word.ensures c.before.answer.given.1)
+returns c = rw (told scan_of c.before.before.before.word.ensures c.before.answer.given.1)
 
 returns-2 : tie.Need-returns-2
 unfolding field
 returns-2 c =
-    rw (told scanOf c.before.before.before.before.before.before.before.word.ensures c.before.before.before.before.before.from.given.1)
-    (rw (told scanOf c.before.before.before.number.ensures c.before.answer2.given.1))
+    rw (told scan_of c.before.before.before.before.before.before.before.word.ensures c.before.before.before.before.before.from.given.1)
+    (rw (told scan_of c.before.before.before.number.ensures c.before.answer2.given.1))
 
 returns-3 : tie.Need-returns-3
 unfolding field
 returns-3 c =
-    rw (told scanOf c.before.before.before.before.before.before.before.before.before.before.before.word.ensures
+    rw (told scan_of c.before.before.before.before.before.before.before.before.before.before.before.word.ensures
     c.before.before.before.before.before.before.before.before.before.from.given.1)
-    (rw (told scanOf c.before.before.before.before.before.before.before.number.ensures c.before.before.before.before.before.x.given.1)
-    (rw (told scanOf c.before.before.before.word2.ensures c.before.answer3.given.1)))
+    (rw (told scan_of c.before.before.before.before.before.before.before.number.ensures c.before.before.before.before.before.x.given.1)
+    (rw (told scan_of c.before.before.before.word2.ensures c.before.answer3.given.1)))
 
 returns-4 : tie.Need-returns-4
 unfolding field
 returns-4 c =
-    rw (told scanOf c.before.before.before.before.before.before.before.before.before.before.before.word.ensures
+    rw (told scan_of c.before.before.before.before.before.before.before.before.before.before.before.word.ensures
     c.before.before.before.before.before.before.before.before.before.from.given.1)
-    (rw (told scanOf c.before.before.before.before.before.before.before.number.ensures c.before.before.before.before.before.x.given.1)
-    (rw (told scanOf c.before.before.before.word2.ensures c.before.next.given.1)))
+    (rw (told scan_of c.before.before.before.before.before.before.before.number.ensures c.before.before.before.before.before.x.given.1)
+    (rw (told scan_of c.before.before.before.word2.ensures c.before.next.given.1)))
 
-pub field-spec : {M : Type 1} → statement M
-field-spec =
+pub field_spec : {M : Type 1} → statement M
+field_spec =
     tie.close
     (tie.spec
     word-requires

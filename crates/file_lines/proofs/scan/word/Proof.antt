@@ -5,8 +5,8 @@ use Prim.Native.Nat.{◌≤◌, ◌<◌, ◌-◌}
 use native.Mathlib.Omega.{arith}
 use lib.ListN.{length, drop}
 use borrow.Author.Rules.{rules}
-use Rattle.darts.specs.Scan.{byteAt, word}
-use Rattle.file_lines.proofs.Word.{word-differs, word-agrees, word-inside, word-ends}
+use Rattle.darts.specs.Scan.{byte_at, word}
+use Rattle.file_lines.proofs.Word.{word_differs, word_agrees, word_inside, word_ends}
 use Rattle.file_lines.proofs.scan.word.Statement.{statement}
 use Rattle.file_lines.proofs.scan.word.Tie as tie
 
@@ -31,19 +31,19 @@ returns c =
     let g = c.before.before.before.before.before.before.before.args in
     let read = c.before.before.byte_at.ensures in
     let wanted = c.before.byte-at2.ensures in
-    sym (a.invariant.1 ∙ word-differs g.w.now g.bytes.now a.i a.place (omega arith) (λ e. c.if1.true (read ∙ e ∙ sym wanted)))
+    sym (a.invariant.1 ∙ word_differs g.w.now g.bytes.now a.i a.place (omega arith) (λ e. c.if1.true (read ∙ e ∙ sym wanted)))
 
 abbrev Agree : tie.Else1 invariant-loop decreases-loop → Type 0
 Agree c =
-    byteAt c.before.before.before.before.before.before.before.args.bytes.now c.before.before.before.before.loop.place
-    ≡ byteAt c.before.before.before.before.before.before.before.args.w.now c.before.before.before.before.loop.i
+    byte_at c.before.before.before.before.before.before.before.args.bytes.now c.before.before.before.before.loop.place
+    ≡ byte_at c.before.before.before.before.before.before.before.args.w.now c.before.before.before.before.loop.i
 
 -- what is known where the two bytes agree
 agree : (c : tie.Else1 invariant-loop decreases-loop) → Agree c
 agree c = sym c.before.before.byte_at.ensures ∙ c.if1.false ∙ c.before.byte-at2.ensures
 
 inside : (c : tie.Else1 invariant-loop decreases-loop) → c.before.before.before.before.loop.place < length c.before.before.before.before.before.before.before.args.bytes.now
-inside c = word-inside _ _ _ _ (omega arith) (c.before.before.before.before.before.shared-slice-known2.given c.before.before.before.before.loop.i).fits (agree c)
+inside c = word_inside _ _ _ _ (omega arith) (c.before.before.before.before.before.shared-slice-known2.given c.before.before.before.before.loop.i).fits (agree c)
 
 add-place : tie.Need-overflow-add-place invariant-loop decreases-loop
 add-place c = omega (arith, inside c)
@@ -58,16 +58,16 @@ loop-again : tie.Need-loop-preserved invariant-loop decreases-loop
 loop-again c =
     let a = c.before.before.before.before.loop in
     let g = c.before.before.before.before.before.before.before.args in
-    (omega arith, a.invariant.1 ∙ word-agrees g.w.now g.bytes.now a.i a.place (omega arith) (agree c))
+    (omega arith, a.invariant.1 ∙ word_agrees g.w.now g.bytes.now a.i a.place (omega arith) (agree c))
 
 returns-2 : tie.Need-returns-2 invariant-loop decreases-loop
 returns-2 c =
     let a = c.before.loop in
     let g = c.before.before.before.before.args in
-    sym (a.invariant.1 ∙ word-ends g.w.now g.bytes.now a.i a.place c.loop-test.false)
+    sym (a.invariant.1 ∙ word_ends g.w.now g.bytes.now a.i a.place c.loop-test.false)
 
-pub word-spec : {M : Type 1} → statement M
-word-spec =
+pub word_spec : {M : Type 1} → statement M
+word_spec =
     tie.close
     (tie.spec
     invariant-loop

@@ -3,8 +3,8 @@ use mathlib.Core.Path.{sym, ap, ◌∙◌}
 use borrow.Author.Rules.{rules}
 use Rattle.permutations.specs.Choice.{true→T}
 use Rattle.darts.specs.Cases.{answer_of}
-use Rattle.laws.proofs.calls.Cleared.{cleared-kept}
-use Rattle.lookup.proofs.Looking.{room-count, no-pyramid, a-pyramid}
+use Rattle.laws.proofs.calls.Cleared.{cleared_kept}
+use Rattle.lookup.proofs.Looking.{room_count, no_pyramid_lem, a_pyramid}
 use Rattle.lookup.proofs.calls.look_up.Statement.{statement}
 use Rattle.lookup.proofs.calls.look_up.Tie as tie
 
@@ -19,7 +19,7 @@ look-requires c κs =
     let i = c.before.before.before.before in
     let d = i.before.before.before in
     let p = d.before.before.before.before.before.requires in
-    (room-count p.0, p.1.0, p.1.1, true→T (sym d.decide.ensures.answer ∙ i.if1.true))
+    (room_count p.0, p.1.0, p.1.1, true→T (sym d.decide.ensures.answer ∙ i.if1.true))
 
 same_length : tie.Need-same-length
 same_length c = search rules
@@ -29,7 +29,7 @@ returns c =
     let k = c.before.before.before in
     let i = k.before.before in
     let C = i.before.before.before.decide.ensures in
-    (a-pyramid _ _ _ _ _ _ C.answer i.if1.true c.look.ensures, k.clear.ensures ∙ cleared-kept _ _ _ C.beyond.rest)
+    (a_pyramid _ _ _ _ _ _ C.answer i.if1.true c.look.ensures, k.clear.ensures ∙ cleared_kept _ _ _ C.beyond.rest)
 
 clear-requires-2 : tie.Need-clear-requires-2
 clear-requires-2 c κs = search rules
@@ -46,10 +46,10 @@ returns-2 c =
     let i = k.before.before in
     let C = i.before.before.before.decide.ensures in
     let r = c.refused.ensures in
-    (no-pyramid _ _ _ _ _ _ C.answer i.if1.false (ap answer_of r.0) r.1, k.clear2.ensures ∙ cleared-kept _ _ _ C.beyond.rest)
+    (no_pyramid_lem _ _ _ _ _ _ C.answer i.if1.false (ap answer_of r.0) r.1, k.clear2.ensures ∙ cleared_kept _ _ _ C.beyond.rest)
 
-pub look-up-spec : {M : Type 1} → statement M
-look-up-spec =
+pub look_up_spec : {M : Type 1} → statement M
+look_up_spec =
     tie.close
     (tie.spec
     decide-requires

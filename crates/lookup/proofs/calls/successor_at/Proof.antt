@@ -8,7 +8,7 @@ use borrow.Author.Rules.{rules}
 use Rattle.darts.specs.Answers.{Answer as Answered}
 use Rattle.darts.specs.Calls.{fitting}
 use Rattle.darts.specs.Cases.{answer_of}
-use Rattle.lookup.proofs.Looking.{CallFits, call_fits, first-refused, looked-up, both}
+use Rattle.lookup.proofs.Looking.{CallFits, call_fits, first_refused, looked_up, both}
 use Rattle.lookup.proofs.calls.successor_at.Statement.{statement}
 use Rattle.lookup.proofs.calls.successor_at.Tie as tie
 
@@ -28,7 +28,7 @@ returns c =
     let g = n.before.before.before.before.before.args in
     let r = c.refused.ensures in
     both g.darts g.level g.dart g.table.now g.ends.now g.work.now c.refused.result
-    (first-refused g.darts g.level g.dart g.table.now g.ends.now g.work.now c.refused.result (ap answer_of r.0 ∙ f)
+    (first_refused g.darts g.level g.dart g.table.now g.ends.now g.work.now c.refused.result (ap answer_of r.0 ∙ f)
     (λ z. c.before.if1.true (n.number.ensures ∙ sym (ap (λ a. (answer_of a).number) r.0) ∙ z)) r.1)
 
 -- 1 and 2 are past
@@ -77,10 +77,10 @@ returns-2 c =
     let h : g.darts / 2 - 0 ≡ g.darts / 2 = omega arith in
     let q = rw (d, h) at l.look_up.ensures in
     both g.darts g.level g.dart g.table.now g.ends.now g.work.now l.look_up.result
-    (looked-up g.darts g.level g.dart g.table.now g.ends.now g.work.now l.look_up.result (fine e) q.0 q.1)
+    (looked_up g.darts g.level g.dart g.table.now g.ends.now g.work.now l.look_up.result (fine e) q.0 q.1)
 
-pub successor-at-spec : {M : Type 1} → statement M
-successor-at-spec =
+pub successor_at_spec : {M : Type 1} → statement M
+successor_at_spec =
     tie.close
     (tie.spec
     fit-requires

@@ -2,7 +2,7 @@
 use mathlib.Core.Path.{sym, ◌∙◌}
 use native.Mathlib.Omega.{arith}
 use borrow.Author.Rules.{rules}
-use Rattle.lookup.proofs.Accepting.{contractions-stop, removals-say}
+use Rattle.lookup.proofs.Accepting.{contractions_stop, removals_say}
 use Rattle.lookup.proofs.deciding.operate.Statement.{statement}
 use Rattle.lookup.proofs.deciding.operate.Tie as tie
 
@@ -17,7 +17,7 @@ same_length c = search rules
 
 returns : tie.Need-returns
 returns c =
-    contractions-stop _ c.before.before.before.before.take-kind.ensures (λ z. c.if1.true (c.before.number.ensures ∙ z))
+    contractions_stop _ c.before.before.before.before.take-kind.ensures (λ z. c.if1.true (c.before.number.ensures ∙ z))
 
 take-kind-requires-2 : tie.Need-take-kind-requires-2
 take-kind-requires-2 c κs =
@@ -34,11 +34,11 @@ returns-2 : tie.Need-returns-2
 returns-2 c =
     let q = c.before.before.before in
     let e = q.before.before in
-    removals-say _ e.before.before.before.before.take-kind.ensures (sym e.before.number.ensures ∙ e.if1.false)
+    removals_say _ e.before.before.before.before.take-kind.ensures (sym e.before.number.ensures ∙ e.if1.false)
     q.take-kind2.ensures c.number2.ensures
 
-pub operate-spec : {M : Type 1} → statement M
-operate-spec =
+pub operate_spec : {M : Type 1} → statement M
+operate_spec =
     tie.close
     (tie.spec
     take-kind-requires

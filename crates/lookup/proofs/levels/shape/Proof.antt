@@ -1,7 +1,7 @@
 -- `lookup::levels::shape` meets its contract: too many levels, or one that is not in use, or what the kinds say.
 use native.Mathlib.Omega.{arith}
 use borrow.Author.Rules.{rules}
-use Rattle.lookup.proofs.Shapes.{zeros-unset, too-high, unused, kinds}
+use Rattle.lookup.proofs.Shapes.{zeros_unset, too_high, unused, kinds}
 use Rattle.lookup.proofs.levels.shape.Statement.{statement}
 use Rattle.lookup.proofs.levels.shape.Tie as tie
 
@@ -9,13 +9,13 @@ top-requires : tie.Need-top-requires
 top-requires c κs = search rules
 
 returns : tie.Need-returns
-returns c = too-high _ c.before.top.ensures c.if1.true
+returns c = too_high _ c.before.top.ensures c.if1.true
 
 slice-aggregate-note : tie.Need-slice-aggregate-note
 slice-aggregate-note c = search rules
 
 note-requires : tie.Need-note-requires
-note-requires c κs = let t = c.before.before.top.ensures in let l = c.before.if1.false in (omega arith, zeros-unset 65)
+note-requires c κs = let t = c.before.before.top.ensures in let l = c.before.if1.false in (omega arith, zeros_unset 65)
 
 slice-aggregate-in-use : tie.Need-slice-aggregate-in-use
 slice-aggregate-in-use c = search rules
@@ -35,7 +35,7 @@ returns-2 c =
     let n = u.before.before.before in
     let e = n.before.before in
     kinds _ e.before.top.ensures e.if1.false n.note.ensures (omega arith) u.in_use.ensures c.before.before.if2.true
-    c.one-kind.ensures
+    c.one_kind_lem.ensures
 
 returns-3 : tie.Need-returns-3
 returns-3 c =
@@ -44,8 +44,8 @@ returns-3 c =
     let e = n.before.before in
     unused _ e.before.top.ensures e.if1.false n.note.ensures (omega arith) u.in_use.ensures c.if2.false
 
-pub shape-spec : {M : Type 1} → statement M
-shape-spec =
+pub shape_spec : {M : Type 1} → statement M
+shape_spec =
     tie.close
     (tie.spec
     top-requires

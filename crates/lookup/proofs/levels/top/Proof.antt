@@ -3,7 +3,7 @@ use mathlib.Core.Path.{refl}
 use Prim.Native.Nat.{◌-◌, ◌<◌}
 use native.Mathlib.Omega.{arith}
 use borrow.Author.Rules.{rules}
-use Rattle.lookup.proofs.Shapes.{Highest, highest-begins, highest-raised, highest-kept, highest-all}
+use Rattle.lookup.proofs.Shapes.{Highest, highest_begins, highest_raised, highest_kept, highest_all}
 use Rattle.lookup.proofs.levels.top.Statement.{statement}
 use Rattle.lookup.proofs.levels.top.Tie as tie
 
@@ -14,7 +14,7 @@ abbrev decreases-loop : tie.decreases-loop
 decreases-loop ends i₀ high₀ i high = i
 
 loop-holds : tie.Need-loop-init invariant-loop decreases-loop
-loop-holds c = (highest-begins _, omega arith)
+loop-holds c = (highest_begins _, omega arith)
 
 sub-level : tie.Need-overflow-sub-level invariant-loop decreases-loop
 sub-level c = search rules
@@ -34,7 +34,7 @@ loop-less c = search rules
 loop-again : tie.Need-loop-preserved invariant-loop decreases-loop
 loop-again c =
     let l = c.before.before in (
-      highest-raised l.before.loop.invariant.0 l.loop-test.true refl c.if1.true,
+      highest_raised l.before.loop.invariant.0 l.loop-test.true refl c.if1.true,
       omega (arith, c.before.shared-slice-known.given (l.before.loop.i - 1)),
     )
 
@@ -47,16 +47,16 @@ loop-less-2 c = search rules
 loop-again-2 : tie.Need-loop-preserved-2 invariant-loop decreases-loop
 loop-again-2 c =
     let l = c.before.before in
-    (highest-kept l.before.loop.invariant.0 l.loop-test.true refl c.if1.false, l.before.loop.invariant.1)
+    (highest_kept l.before.loop.invariant.0 l.loop-test.true refl c.if1.false, l.before.loop.invariant.1)
 
 cast-result : tie.Need-overflow-cast-result invariant-loop decreases-loop
 cast-result c = omega (arith, c.before.loop.invariant.1)
 
 returns : tie.Need-returns invariant-loop decreases-loop
-returns c = highest-all c.before.loop.invariant.0 c.loop-test.false
+returns c = highest_all c.before.loop.invariant.0 c.loop-test.false
 
-pub top-spec : {M : Type 1} → statement M
-top-spec =
+pub top_spec : {M : Type 1} → statement M
+top_spec =
     tie.close
     (tie.spec
     invariant-loop

@@ -4,7 +4,7 @@ use Prim.Native.Nat.{◌-◌}
 use native.Mathlib.Omega.{arith}
 use lib.ListN.{length}
 use borrow.Author.Rules.{rules}
-use Rattle.lookup.proofs.Passing.{Passing, passing_begins, passed_over, passed_on, passing-stops, passing-ends}
+use Rattle.lookup.proofs.Passing.{Passing, passing_begins, passed_over, passed_on, passing_stops, passing_ends}
 use Rattle.lookup.proofs.passes.pass.Statement.{statement}
 use Rattle.lookup.proofs.passes.pass.Tie as tie
 
@@ -39,7 +39,7 @@ returns c =
     let j = c.before.before.before.before in
     let b = j.before.before.before in
     let l = b.before.before in
-    passing-stops l.loop.invariant b.before.loop-test.true b.ends_by.ensures j.before.before.if1.true j.turn.ensures
+    passing_stops l.loop.invariant b.before.loop-test.true b.ends_by.ensures j.before.before.if1.true j.turn.ensures
     (λ z. c.if2.true (c.before.number.ensures ∙ z))
     l.before.before.before.requires.area.few
 
@@ -74,7 +74,7 @@ same-length-2 : tie.Need-same-length-2 invariant-loop decreases-loop
 same-length-2 c = c.before.loop.invariant.under.beyond.size
 
 returns-2 : tie.Need-returns-2 invariant-loop decreases-loop
-returns-2 c = passing-ends c.before.loop.invariant c.loop-test.false
+returns-2 c = passing_ends c.before.loop.invariant c.loop-test.false
 
 pub pass_spec : {M : Type 1} → statement M
 pass_spec =

@@ -1,6 +1,6 @@
 -- `lookup::walking::gone_by` meets its contract: the level of the dart's end is 1 to k.
 use borrow.Author.Rules.{rules}
-use Rattle.lookup.proofs.Walks.{gone-not, gone-if}
+use Rattle.lookup.proofs.Walks.{gone_not, gone_if}
 use Rattle.lookup.proofs.walking.gone_by.Statement.{statement}
 use Rattle.lookup.proofs.walking.gone_by.Tie as tie
 
@@ -8,10 +8,10 @@ at-requires : tie.Need-at-requires
 at-requires c κs = search rules
 
 returns : tie.Need-returns
-returns c = gone-not _ _ c.before.at.ensures _ c.if1.true
+returns c = gone_not _ _ c.before.at.ensures _ c.if1.true
 
 returns-2 : tie.Need-returns-2
-returns-2 c = gone-if _ _ c.before.at.ensures _ c.if1.false
+returns-2 c = gone_if _ _ c.before.at.ensures _ c.if1.false
 
-pub gone-by-spec : {M : Type 1} → statement M
-gone-by-spec = tie.close (tie.spec at-requires returns returns-2)
+pub gone_by_spec : {M : Type 1} → statement M
+gone_by_spec = tie.close (tie.spec at-requires returns returns-2)

@@ -3,7 +3,7 @@
 use mathlib.Core.Path.{sym, ◌∙◌}
 use Prim.Native.Nat.{◌-◌}
 use native.Mathlib.Omega.{arith}
-use Rattle.lookup.proofs.Walks.{Walking, walking-begins, walking-more, walking_on, walking-ends, walked-few}
+use Rattle.lookup.proofs.Walks.{Walking, walking_begins, walking_more, walking_on, walking_ends, walked_few}
 use Rattle.lookup.proofs.walking.walk.Statement.{statement}
 use Rattle.lookup.proofs.walking.walk.Tie as tie
 
@@ -17,7 +17,7 @@ at-requires : tie.Need-at-requires invariant-loop decreases-loop
 at-requires c κs = let p = c.before.before.requires.0 in omega (arith, p.0, p.4)
 
 loop-holds : tie.Need-loop-init invariant-loop decreases-loop
-loop-holds c = let p = c.before.before.before.requires in walking-begins p.1 p.0.4 c.at.ensures
+loop-holds c = let p = c.before.before.before.requires in walking_begins p.1 p.0.4 c.at.ensures
 
 gone-by-requires : tie.Need-gone-by-requires invariant-loop decreases-loop
 gone-by-requires c κs =
@@ -41,23 +41,23 @@ loop-again : tie.Need-loop-preserved invariant-loop decreases-loop
 loop-again c =
     let l = c.before.before.before in
     let p = l.before.before.before.before.requires in
-    walking_on l.loop.invariant p.0.2 p.1 (sym c.before.before.gone-by.ensures ∙ c.before.if1.true) c.onward.ensures (omega arith)
+    walking_on l.loop.invariant p.0.2 p.1 (sym c.before.before.gone_by_lem.ensures ∙ c.before.if1.true) c.onward.ensures (omega arith)
 
 loop-less : tie.Need-loop-smaller invariant-loop decreases-loop
 loop-less c =
     let l = c.before.before.before in
     let p = l.before.before.before.before.requires in
-    omega (arith, walking-more l.loop.invariant p.1 (sym c.before.before.gone-by.ensures ∙ c.before.if1.true))
+    omega (arith, walking_more l.loop.invariant p.1 (sym c.before.before.gone_by_lem.ensures ∙ c.before.if1.true))
 
 returns : tie.Need-returns invariant-loop decreases-loop
 returns c =
     let σ = c.before.before.loop.invariant in
     let W = c.before.before.before.before.before.before.requires.1 in
-    let ends = walking-ends σ (sym c.before.gone-by.ensures ∙ c.if1.false) in
-    (ends, (walked-few W ends, (σ.below, σ.few)))
+    let ends = walking_ends σ (sym c.before.gone_by_lem.ensures ∙ c.if1.false) in
+    (ends, (walked_few W ends, (σ.below, σ.few)))
 
-pub walk-spec : {M : Type 1} → statement M
-walk-spec =
+pub walk_spec : {M : Type 1} → statement M
+walk_spec =
     tie.close
     (tie.spec
     invariant-loop

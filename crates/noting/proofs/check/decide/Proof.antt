@@ -2,11 +2,11 @@
 use native.Mathlib.Omega.{arith}
 use borrow.Author.Rules.{rules}
 use borrow.Author.Tests.{not-true, not-false}
-use Rattle.area.specs.Shape.{stateWith}
-use Rattle.engine.proofs.Area.{area-sound}
-use Rattle.engine.proofs.Decides.{shape-no, back-no, all-taken}
+use Rattle.area.specs.Shape.{state_with}
+use Rattle.engine.proofs.Area.{area_sound}
+use Rattle.engine.proofs.Decides.{shape_no, back_no, all_taken}
 use Rattle.engine.proofs.Present.{none_found}
-use Rattle.noting.proofs.Deciding.{decide-no, decide-yes, decide-finds}
+use Rattle.noting.proofs.Deciding.{decide_no, decide_yes, decide_finds}
 use Rattle.noting.proofs.check.decide.Statement.{statement}
 use Rattle.noting.proofs.check.decide.Tie as tie
 
@@ -23,12 +23,12 @@ returns : tie.Need-returns
 returns c =
     let s = c.before.before.before.before.before in (
       rw c.nothing.ensures
-          (decide-no (shape-no (stateWith s.args.state) s.requires c.before.before.shape.ensures (not-true _ c.before.if1.true))),
+          (decide_no (shape_no (state_with s.args.state) s.requires c.before.before.shape.ensures (not-true _ c.before.if1.true))),
       none_found c.nothing.ensures,
     )
 
 take-back-last-requires : tie.Need-take-back-last-requires
-take-back-last-requires c κs = let s = c.before.before.before.before.before in (area-sound s.requires, omega arith)
+take-back-last-requires c κs = let s = c.before.before.before.before.before in (area_sound s.requires, omega arith)
 
 nothing-requires-2 : tie.Need-nothing-requires-2
 nothing-requires-2 c κs = search rules
@@ -41,7 +41,7 @@ returns-2 c =
     let t = c.before.before.before.before in
     let s = t.before.before.before.before.before.before in (
       rw c.nothing2.ensures
-          (decide-no (back-no (stateWith s.args.state) s.requires t.take-back-last.ensures (not-true _ c.before.if2.true))),
+          (decide_no (back_no (state_with s.args.state) s.requires t.take-back-last.ensures (not-true _ c.before.if2.true))),
       none_found c.nothing2.ensures,
     )
 
@@ -49,7 +49,7 @@ replay-base-requires : tie.Need-replay-base-requires
 replay-base-requires c κs =
     let t = c.before.before.before.before in
     let s = t.before.before.before.before.before.before in
-    let base = all-taken (stateWith s.args.state) s.requires t.take-back-last.ensures (not-false _ c.before.if2.false) in
+    let base = all_taken (state_with s.args.state) s.requires t.take-back-last.ensures (not-false _ c.before.if2.false) in
     (base.0, (base.1, s.requires.few))
 
 same-length-3 : tie.Need-same-length-3
@@ -62,14 +62,14 @@ returns-3 c =
     let t = e.before.before.before in
     let i = t.before.before in
     let s = i.before.before.before.before in (
-      decide-yes (stateWith s.args.state) s.requires t.take-back-last.ensures (not-false _ e.if2.false) i.before.shape.ensures
+      decide_yes (state_with s.args.state) s.requires t.take-back-last.ensures (not-false _ e.if2.false) i.before.shape.ensures
           (not-false _ i.if1.false) r.replay-base.ensures.0,
-      decide-finds (stateWith s.args.state) s.requires t.take-back-last.ensures (not-false _ e.if2.false) i.before.shape.ensures
+      decide_finds (state_with s.args.state) s.requires t.take-back-last.ensures (not-false _ e.if2.false) i.before.shape.ensures
           (not-false _ i.if1.false) r.replay-base.ensures.1,
     )
 
-pub decide-spec : {M : Type 1} → statement M
-decide-spec =
+pub decide_spec : {M : Type 1} → statement M
+decide_spec =
     tie.close
     (tie.spec
     shape-requires

@@ -2,10 +2,10 @@
 use native.Mathlib.Omega.{arith}
 use borrow.Author.Rules.{rules}
 use borrow.Author.Tests.{not-true, not-false}
-use Rattle.area.specs.Shape.{stateWith}
-use Rattle.engine.proofs.Checking.{too_many, load-no, loaded-area}
+use Rattle.area.specs.Shape.{state_with}
+use Rattle.engine.proofs.Checking.{too_many_lem, load_no, loaded_area}
 use Rattle.engine.proofs.Present.{none_found}
-use Rattle.noting.proofs.Deciding.{check-no, check-yes, check-takes, check-are}
+use Rattle.noting.proofs.Deciding.{check_no, check_yes, check_takes, check_are}
 use Rattle.noting.proofs.check.note_check.Statement.{statement}
 use Rattle.noting.proofs.check.note_check.Tie as tie
 
@@ -15,7 +15,7 @@ nothing-requires c κs = search rules
 returns : tie.Need-returns
 returns c =
     let s = c.before.before.before.before.before in (
-      rw c.nothing.ensures (check-no (too_many (stateWith s.args.state) 1 _ _ _ c.before.if1.true)),
+      rw c.nothing.ensures (check_no (too_many_lem (state_with s.args.state) 1 _ _ _ c.before.if1.true)),
       none_found c.nothing.ensures,
     )
 
@@ -33,7 +33,7 @@ returns-2 c =
     let l = c.before.before.before.before in
     let s = l.before.before.before.before.before.before in (
       rw c.nothing2.ensures
-          (check-no (load-no (stateWith s.args.state) 1 _ _ s.requires.0 s.requires.1.0 (omega arith) (omega arith) l.load.ensures (not-true _ c.before.if2.true))),
+          (check_no (load_no (state_with s.args.state) 1 _ _ s.requires.0 s.requires.1.0 (omega arith) (omega arith) l.load.ensures (not-true _ c.before.if2.true))),
       none_found c.nothing2.ensures,
     )
 
@@ -41,14 +41,14 @@ decide-requires : tie.Need-decide-requires
 decide-requires c κs =
     let l = c.before.before.before.before in
     let s = l.before.before.before.before.before.before in
-    loaded-area (stateWith s.args.state) 1 _ _ s.requires.0 s.requires.1.0 (omega arith) (omega arith) l.load.ensures (not-false _ c.before.if2.false)
+    loaded_area (state_with s.args.state) 1 _ _ s.requires.0 s.requires.1.0 (omega arith) (omega arith) l.load.ensures (not-false _ c.before.if2.false)
 
 present-requires : tie.Need-present-requires
 present-requires c κs =
     let d = c.before.before.before in
     let l = d.before.before.before.before.before in
     let s = l.before.before.before.before.before.before in
-    check-takes (stateWith s.args.state) _ _ s.requires.0 s.requires.1.0 (omega arith) (omega arith) l.load.ensures d.decide.result
+    check_takes (state_with s.args.state) _ _ s.requires.0 s.requires.1.0 (omega arith) (omega arith) l.load.ensures d.decide.result
     d.decide.ensures.0 c.if3.true d.decide.ensures.1
 
 same-length-2 : tie.Need-same-length-2
@@ -61,8 +61,8 @@ returns-3 c =
     let s = l.before.before.before.before.before.before in
     let δ = d.decide.ensures in (
       rw c.present.ensures.pyramid
-          (check-yes (stateWith s.args.state) _ _ s.requires.0 s.requires.1.0 (omega arith) (omega arith) l.load.ensures δ.0),
-      check-are (stateWith s.args.state) _ _ s.requires.0 s.requires.1.0 (omega arith) (omega arith) l.load.ensures d.decide.result
+          (check_yes (state_with s.args.state) _ _ s.requires.0 s.requires.1.0 (omega arith) (omega arith) l.load.ensures δ.0),
+      check_are (state_with s.args.state) _ _ s.requires.0 s.requires.1.0 (omega arith) (omega arith) l.load.ensures d.decide.result
           δ.0 c.before.if3.true δ.1 c.present.ensures,
     )
 
@@ -78,12 +78,12 @@ returns-4 c =
     let l = d.before.before.before.before.before in
     let s = l.before.before.before.before.before.before in (
       rw (c.nothing3.ensures, ← c.before.if3.false)
-          (check-yes (stateWith s.args.state) _ _ s.requires.0 s.requires.1.0 (omega arith) (omega arith) l.load.ensures d.decide.ensures.0),
+          (check_yes (state_with s.args.state) _ _ s.requires.0 s.requires.1.0 (omega arith) (omega arith) l.load.ensures d.decide.ensures.0),
       none_found c.nothing3.ensures,
     )
 
-pub note-check-spec : {M : Type 1} → statement M
-note-check-spec =
+pub note_check_spec : {M : Type 1} → statement M
+note_check_spec =
     tie.close
     (tie.spec
     nothing-requires

@@ -1,6 +1,6 @@
 -- `noting::note::mark` meets its contract: place by place, and each reads only the forest's part.
 --   Marking D w₀ w x == the first x places are marked, and nothing past the darts has changed
---   mark-begin, mark_on, mark-end == none is marked, one more, all
+--   mark_begin, mark_on, mark_end == none is marked, one more, all
 use mathlib.Core.List.{List}
 use mathlib.Core.Logic.{◌≢◌}
 use mathlib.Core.Path.{◌≡◌, refl, sym, ap, ◌∙◌}
@@ -11,7 +11,7 @@ use lib.Dec.{eqb}
 use lib.ListN.{length, get_or, set, drop, length-set}
 use lib.Seq.{get_or-set_same, get_or-set_other, get_or-drop, drop-set-lt}
 use borrow.Author.Rules.{rules}
-use Rattle.permutations.specs.Choice.{pick, eqb_same, eqb-other}
+use Rattle.permutations.specs.Choice.{pick, eqb_same, eqb_other}
 use Rattle.area.specs.Area.{Room}
 use Rattle.noting.specs.Links.{Marked}
 use Rattle.noting.proofs.note.mark.Statement.{statement}
@@ -23,8 +23,8 @@ record Marking (D : ℕ) (w₀ w : List ℕ) (x : ℕ) : Type 0 where
   rest : drop D w ≡ drop D w₀
   each : (y : ℕ) → y < x → get_or w y 0 ≡ pick (eqb (get_or w₀ (2 * D + y) 0) y) 0 D
 
-mark-begin : (D : ℕ) (w : List ℕ) → Marking D w w 0
-mark-begin D w = record { size = refl; bound = omega arith; rest = refl; each = λ y h. absurd (omega arith) }
+mark_begin : (D : ℕ) (w : List ℕ) → Marking D w w 0
+mark_begin D w = record { size = refl; bound = omega arith; rest = refl; each = λ y h. absurd (omega arith) }
 
 module _ {D : ℕ} {w₀ w : List ℕ} {x : ℕ} (room : Room D w₀) (M : Marking D w₀ w x) (more : x < D) where
   -- what is read is what stood there
@@ -49,10 +49,10 @@ module _ {D : ℕ} {w₀ w : List ℕ} {x : ℕ} (room : Room D w₀) (M : Marki
   own told e = mark_on 0 (rw (eqb_same (sym read ∙ sym told ∙ e)))
 
   other : {r : ℕ} → r ≡ get_or w (2 * D + x) 0 → r ≢ x → Marking D w₀ (set w x D) (x + 1)
-  other told n = mark_on D (rw (eqb-other (λ c. n (told ∙ read ∙ c))))
+  other told n = mark_on D (rw (eqb_other (λ c. n (told ∙ read ∙ c))))
 
-mark-end : {D : ℕ} {w₀ w : List ℕ} {x : ℕ} → Marking D w₀ w x → D ≤ x → Marked D w₀ w
-mark-end M all = record { size = M.size; rest = M.rest; each = λ y h. M.each y (omega arith) }
+mark_end : {D : ℕ} {w₀ w : List ℕ} {x : ℕ} → Marking D w₀ w x → D ≤ x → Marked D w₀ w
+mark_end M all = record { size = M.size; rest = M.rest; each = λ y h. M.each y (omega arith) }
 
 abbrev invariant-loop : tie.invariant-loop
 invariant-loop work₀ d x₀ work x = Marking d work₀ work x
@@ -61,7 +61,7 @@ abbrev decreases-loop : tie.decreases-loop
 decreases-loop work₀ d x₀ work x = d - x
 
 loop-holds : tie.Need-loop-init invariant-loop decreases-loop
-loop-holds c = mark-begin _ _
+loop-holds c = mark_begin _ _
 
 mul_at : tie.Need-overflow-mul-at invariant-loop decreases-loop
 mul_at c = search rules
@@ -109,7 +109,7 @@ same_length : tie.Need-same-length invariant-loop decreases-loop
 same_length c = search rules
 
 returns : tie.Need-returns invariant-loop decreases-loop
-returns c = mark-end c.before.loop.invariant c.loop-test.false
+returns c = mark_end c.before.loop.invariant c.loop-test.false
 
 pub mark_spec : {M : Type 1} → statement M
 mark_spec =

@@ -44,8 +44,8 @@ returns : tie.Need-returns
 unfolding recorded
 returns c = rw c.before.before.before.note.ensures refl
 
-pub merge-spec : {M : Type 1} → statement M
-merge-spec =
+pub merge_spec : {M : Type 1} → statement M
+merge_spec =
     tie.close
     (tie.spec
     note-requires

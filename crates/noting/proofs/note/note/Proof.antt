@@ -36,8 +36,8 @@ returns : tie.Need-returns
 unfolding note_of
 returns c = refl
 
-pub note-spec : {M : Type 1} → statement M
-note-spec =
+pub note_spec : {M : Type 1} → statement M
+note_spec =
     tie.close
     (tie.spec
     mul-work

@@ -2,9 +2,9 @@
 use Prim.Native.Nat.{◌+◌, ◌*◌}
 use native.Mathlib.Omega.{arith}
 use borrow.Author.Rules.{rules}
-use Rattle.operations.proofs.Lent.{found-kept, found-roots, roots-known}
-use Rattle.operations.proofs.Outside.{outside-room}
-use Rattle.noting.proofs.Stepping.{both_below, joined-room, contracted-yes, contracted-no}
+use Rattle.operations.proofs.Lent.{found_kept, found_roots, roots_known}
+use Rattle.operations.proofs.Outside.{outside_room}
+use Rattle.noting.proofs.Stepping.{both_below, joined_room, contracted_yes, contracted_no}
 use Rattle.noting.proofs.replay.contract.Statement.{statement}
 use Rattle.noting.proofs.replay.contract.Tie as tie
 
@@ -28,9 +28,9 @@ link-requires c κs =
     let g = c.before.before.before in
     let f = g.before.before.before.before in
     let s = f.before.before.before in
-    let κ = found-kept f.find.ensures g.find2.ensures in
-    let room = outside-room κ.outside s.requires.0 in
-    let known = roots-known room κ.falls (2 * s.args.e) (2 * s.args.e + 1) (omega arith) (omega arith) (found-roots f.find.ensures g.find2.ensures) in
+    let κ = found_kept f.find.ensures g.find2.ensures in
+    let room = outside_room κ.outside s.requires.0 in
+    let known = roots_known room κ.falls (2 * s.args.e) (2 * s.args.e + 1) (omega arith) (omega arith) (found_roots f.find.ensures g.find2.ensures) in
     (room, (κ.falls, known))
 
 merge-requires : tie.Need-merge-requires
@@ -41,7 +41,7 @@ merge-requires c κs =
     let s = f.before.before.before in
     let e = s.args.e in
     let below = both_below e f.find.ensures g.find2.ensures l.link.ensures s.requires.0 s.requires.1.0 in
-    (joined-room e f.find.ensures g.find2.ensures l.link.ensures s.requires.0 s.requires.1.0, (s.requires.1.1.0, below.0, below.1))
+    (joined_room e f.find.ensures g.find2.ensures l.link.ensures s.requires.0 s.requires.1.0, (s.requires.1.1.0, below.0, below.1))
 
 merge-requires-2 : tie.Need-merge-requires-2
 merge-requires-2 c κs =
@@ -51,7 +51,7 @@ merge-requires-2 c κs =
     let s = f.before.before.before in
     let e = s.args.e in
     let below = both_below e f.find.ensures g.find2.ensures l.link.ensures s.requires.0 s.requires.1.0 in
-    (joined-room e f.find.ensures g.find2.ensures l.link.ensures s.requires.0 s.requires.1.0, (s.requires.1.1.0, below.1, below.0))
+    (joined_room e f.find.ensures g.find2.ensures l.link.ensures s.requires.0 s.requires.1.0, (s.requires.1.1.0, below.1, below.0))
 
 same_length : tie.Need-same-length
 same_length c = search rules
@@ -63,7 +63,7 @@ returns c =
     let l = i.before.before.before in
     let g = l.before.before.before.before in
     let f = g.before.before.before.before in
-    contracted-yes f.before.before.before.args.e f.find.ensures g.find2.ensures l.link.ensures i.if1.true (omega arith) (omega arith)
+    contracted_yes f.before.before.before.args.e f.find.ensures g.find2.ensures l.link.ensures i.if1.true (omega arith) (omega arith)
     m.merge.ensures
 
 same-length-2 : tie.Need-same-length-2
@@ -76,7 +76,7 @@ returns-2 c =
     let l = i.before.before.before in
     let g = l.before.before.before.before in
     let f = g.before.before.before.before in
-    contracted-yes f.before.before.before.args.e f.find.ensures g.find2.ensures l.link.ensures i.if1.true (omega arith) (omega arith)
+    contracted_yes f.before.before.before.args.e f.find.ensures g.find2.ensures l.link.ensures i.if1.true (omega arith) (omega arith)
     m.merge2.ensures
 
 same-length-3 : tie.Need-same-length-3
@@ -87,10 +87,10 @@ returns-3 c =
     let l = c.before.before.before in
     let g = l.before.before.before.before in
     let f = g.before.before.before.before in
-    contracted-no f.before.before.before.args.e f.find.ensures g.find2.ensures l.link.ensures c.if1.false
+    contracted_no f.before.before.before.args.e f.find.ensures g.find2.ensures l.link.ensures c.if1.false
 
-pub contract-spec : {M : Type 1} → statement M
-contract-spec =
+pub contract_spec : {M : Type 1} → statement M
+contract_spec =
     tie.close
     (tie.spec
     mul-find

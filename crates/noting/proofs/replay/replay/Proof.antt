@@ -2,7 +2,7 @@
 use native.Mathlib.Omega.{arith}
 use borrow.Author.Rules.{rules}
 use Prim.Native.Nat.{◌-◌}
-use Rattle.noting.proofs.Replaying.{Replaying, replay-begin, replay-room, number-below, turn_on, turn-refused, replay-ends}
+use Rattle.noting.proofs.Replaying.{Replaying, replay_begin, replay_room, number_below, turn_on, turn_refused, replay_ends}
 use Rattle.noting.proofs.replay.replay.Statement.{statement}
 use Rattle.noting.proofs.replay.replay.Tie as tie
 
@@ -13,7 +13,7 @@ abbrev decreases-loop : tie.decreases-loop
 decreases-loop work₀ d n t₀ work t = n - t
 
 loop-holds : tie.Need-loop-init invariant-loop decreases-loop
-loop-holds c = let s = c.before in replay-begin s.requires.1.0 s.requires.1.1.1.1
+loop-holds c = let s = c.before in replay_begin s.requires.1.0 s.requires.1.1.1.1
 
 mul_at : tie.Need-overflow-mul-at invariant-loop decreases-loop
 mul_at c = search rules
@@ -28,8 +28,8 @@ step-requires : tie.Need-step-requires invariant-loop decreases-loop
 step-requires c κs =
     let s = c.before.before.before.before.before.before in
     let l = c.before.before.before.before.loop.invariant in (
-      replay-room s.requires.0 l,
-      (l.falls, (omega (arith, c.before.before.before.loop-test.true, s.requires.1.1.1.0), number-below s.requires.1.1.0 l c.before.before.before.loop-test.true c.before.at.ensures)),
+      replay_room s.requires.0 l,
+      (l.falls, (omega (arith, c.before.before.before.loop-test.true, s.requires.1.1.1.0), number_below s.requires.1.1.0 l c.before.before.before.loop-test.true c.before.at.ensures)),
     )
 
 add-t : tie.Need-overflow-add-t invariant-loop decreases-loop
@@ -49,16 +49,16 @@ same_length c = search rules
 returns : tie.Need-returns invariant-loop decreases-loop
 returns c =
     let s = c.before.before.before.before.before.before.before.before.before.before in
-    turn-refused s.requires.0 s.requires.1.0 s.requires.1.1.1.0 c.before.before.before.before.before.before.before.before.loop.invariant c.before.before.before.before.before.before.before.loop-test.true c.before.before.before.before.before.at.ensures c.before.before.before.step.ensures c.if1.false
+    turn_refused s.requires.0 s.requires.1.0 s.requires.1.1.1.0 c.before.before.before.before.before.before.before.before.loop.invariant c.before.before.before.before.before.before.before.loop-test.true c.before.before.before.before.before.at.ensures c.before.before.before.step.ensures c.if1.false
 
 same-length-2 : tie.Need-same-length-2 invariant-loop decreases-loop
 same-length-2 c = search rules
 
 returns-2 : tie.Need-returns-2 invariant-loop decreases-loop
-returns-2 c = replay-ends c.before.loop.invariant c.loop-test.false
+returns-2 c = replay_ends c.before.loop.invariant c.loop-test.false
 
-pub replay-spec : {M : Type 1} → statement M
-replay-spec =
+pub replay_spec : {M : Type 1} → statement M
+replay_spec =
     tie.close
     (tie.spec
     invariant-loop

@@ -4,7 +4,7 @@ use Prim.Native.Nat.{◌-◌}
 use native.Mathlib.Omega.{arith}
 use lib.ListN.{length}
 use borrow.Author.Rules.{rules}
-use Rattle.noting.proofs.Running.{Noting, noting-begin, noting-on, noting-stops, noting-ends}
+use Rattle.noting.proofs.Running.{Noting, noting_begin, noting_on, noting_stops, noting_ends}
 use Rattle.noting.proofs.run.run_noted.Statement.{statement}
 use Rattle.noting.proofs.run.run_noted.Tie as tie
 
@@ -15,7 +15,7 @@ abbrev decreases-loop : tie.decreases-loop
 decreases-loop work₀ d n kernel i₀ m₀ work i m = length kernel - i
 
 loop-holds : tie.Need-loop-init invariant-loop decreases-loop
-loop-holds c = noting-begin _ c.before.before.requires
+loop-holds c = noting_begin _ c.before.before.requires
 
 at-requires : tie.Need-at-requires invariant-loop decreases-loop
 at-requires c κs = search rules
@@ -30,14 +30,14 @@ same_length : tie.Need-same-length invariant-loop decreases-loop
 same_length c =
     let j = c.before.before.before.before in
     let t = j.before.before in
-    (noting-stops _ t.before.before.loop.invariant t.before.loop-test.true t.at.ensures j.turn.ensures
+    (noting_stops _ t.before.before.loop.invariant t.before.loop-test.true t.at.ensures j.turn.ensures
     (λ z. c.if1.true (c.before.number.ensures ∙ z)) t.before.before.before.before.before.requires.area.few).went.beyond.size
 
 returns : tie.Need-returns invariant-loop decreases-loop
 returns c =
     let j = c.before.before.before.before in
     let t = j.before.before in
-    noting-stops _ t.before.before.loop.invariant t.before.loop-test.true t.at.ensures j.turn.ensures
+    noting_stops _ t.before.before.loop.invariant t.before.loop-test.true t.at.ensures j.turn.ensures
     (λ z. c.if1.true (c.before.number.ensures ∙ z)) t.before.before.before.before.before.requires.area.few
 
 add-m : tie.Need-overflow-add-m invariant-loop decreases-loop
@@ -53,17 +53,17 @@ loop-again : tie.Need-loop-preserved invariant-loop decreases-loop
 loop-again c =
     let j = c.before.before.before.before in
     let t = j.before.before in
-    noting-on _ t.before.before.loop.invariant t.before.loop-test.true t.at.ensures j.turn.ensures
+    noting_on _ t.before.before.loop.invariant t.before.loop-test.true t.at.ensures j.turn.ensures
     (sym c.before.number.ensures ∙ c.if1.false)
 
 same-length-2 : tie.Need-same-length-2 invariant-loop decreases-loop
 same-length-2 c = c.before.loop.invariant.under.beyond.size
 
 returns-2 : tie.Need-returns-2 invariant-loop decreases-loop
-returns-2 c = noting-ends _ c.before.loop.invariant c.loop-test.false
+returns-2 c = noting_ends _ c.before.loop.invariant c.loop-test.false
 
-pub run-noted-spec : {M : Type 1} → statement M
-run-noted-spec =
+pub run_noted_spec : {M : Type 1} → statement M
+run_noted_spec =
     tie.close
     (tie.spec
     invariant-loop

@@ -2,7 +2,7 @@
 use mathlib.Core.Path.{sym, ◌∙◌}
 use native.Mathlib.Omega.{arith}
 use borrow.Author.Rules.{rules}
-use Rattle.noting.proofs.TurnNoted.{taken_refused, taken-for, taken-done}
+use Rattle.noting.proofs.TurnNoted.{taken_refused, taken_for, taken_done}
 use Rattle.noting.proofs.run.take.Statement.{statement}
 use Rattle.noting.proofs.run.take.Tie as tie
 
@@ -27,14 +27,14 @@ contract-requires c κs =
     let n = c.before.before.before in
     let j = n.before.before.before in
     let (ρ, (_, roots)) = j.before.before.before.requires in
-    taken-for ρ j.judge-found.ensures (sym n.number.ensures ∙ c.before.before.if1.false) (omega (arith, roots.0, roots.1)) (omega (arith, roots.0, roots.1))
+    taken_for ρ j.judge-found.ensures (sym n.number.ensures ∙ c.before.before.if1.false) (omega (arith, roots.0, roots.1)) (omega (arith, roots.0, roots.1))
 
 contract-requires-2 : tie.Need-contract-requires-2
 contract-requires-2 c κs =
     let n = c.before.before.before in
     let j = n.before.before.before in
     let (ρ, (_, roots)) = j.before.before.before.requires in
-    taken-for ρ j.judge-found.ensures (sym n.number.ensures ∙ c.before.before.if1.false) (omega (arith, roots.0, roots.1)) (omega (arith, roots.0, roots.1))
+    taken_for ρ j.judge-found.ensures (sym n.number.ensures ∙ c.before.before.if1.false) (omega (arith, roots.0, roots.1)) (omega (arith, roots.0, roots.1))
 
 same-length-2 : tie.Need-same-length-2
 same-length-2 c = search rules
@@ -46,7 +46,7 @@ returns-2 c =
     let n = i.before in
     let j = n.before.before.before in
     let (ρ, (_, roots)) = j.before.before.before.requires in
-    taken-done ρ j.judge-found.ensures (sym n.number.ensures ∙ i.if1.false) (omega (arith, roots.0, roots.1)) (omega (arith, roots.0, roots.1))
+    taken_done ρ j.judge-found.ensures (sym n.number.ensures ∙ i.if1.false) (omega (arith, roots.0, roots.1)) (omega (arith, roots.0, roots.1))
     d.contract.ensures
 
 same-length-3 : tie.Need-same-length-3
@@ -59,7 +59,7 @@ returns-3 c =
     let n = i.before in
     let j = n.before.before.before in
     let (ρ, (_, roots)) = j.before.before.before.requires in
-    taken-done ρ j.judge-found.ensures (sym n.number.ensures ∙ i.if1.false) (omega (arith, roots.0, roots.1)) (omega (arith, roots.0, roots.1))
+    taken_done ρ j.judge-found.ensures (sym n.number.ensures ∙ i.if1.false) (omega (arith, roots.0, roots.1)) (omega (arith, roots.0, roots.1))
     d.contract2.ensures
 
 pub take_spec : {M : Type 1} → statement M

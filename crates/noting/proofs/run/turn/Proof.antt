@@ -1,15 +1,15 @@
 -- `noting::run::turn` meets its contract: both finds keep the roots.
 use native.Mathlib.Omega.{arith}
 use borrow.Author.Rules.{rules}
-use Rattle.operations.proofs.Lent.{found-kept, found-roots}
-use Rattle.operations.proofs.Outside.{outside-room}
-use Rattle.engine.proofs.Ready.{ready-stays}
-use Rattle.noting.proofs.TurnNoted.{no-edge-noted, kept-noted}
+use Rattle.operations.proofs.Lent.{found_kept, found_roots}
+use Rattle.operations.proofs.Outside.{outside_room}
+use Rattle.engine.proofs.Ready.{ready_stays}
+use Rattle.noting.proofs.TurnNoted.{no_edge_noted, kept_noted}
 use Rattle.noting.proofs.run.turn.Statement.{statement}
 use Rattle.noting.proofs.run.turn.Tie as tie
 
 returns : tie.Need-returns
-returns c = no-edge-noted c.before.before.requires c.if1.true
+returns c = no_edge_noted c.before.before.requires c.if1.true
 
 mul-find : tie.Need-overflow-mul-find
 mul-find c = search rules
@@ -30,15 +30,15 @@ find-requires-2 c κs =
     let f = c.before.before.before in
     let s = f.before.before.before.before in
     let κ = f.find.ensures.kept in
-    (outside-room κ.outside s.requires.area.room, (κ.falls, omega (arith, f.before.before.if1.false, s.requires.area.room.even)))
+    (outside_room κ.outside s.requires.area.room, (κ.falls, omega (arith, f.before.before.if1.false, s.requires.area.room.even)))
 
 take-requires : tie.Need-take-requires
 take-requires c κs =
     let g = c.before.before.before in
     let f = g.before.before.before.before in
     let s = f.before.before.before.before in (
-      (ready-stays s.requires (found-kept f.find.ensures g.find2.ensures)).ready,
-      (f.before.before.if1.false, found-roots f.find.ensures g.find2.ensures),
+      (ready_stays s.requires (found_kept f.find.ensures g.find2.ensures)).ready,
+      (f.before.before.if1.false, found_roots f.find.ensures g.find2.ensures),
     )
 
 same_length : tie.Need-same-length
@@ -50,7 +50,7 @@ returns-2 c =
     let g = t.before.before.before.before in
     let f = g.before.before.before.before in
     let s = f.before.before.before.before in
-    kept-noted s.requires (found-kept f.find.ensures g.find2.ensures) t.take.ensures
+    kept_noted s.requires (found_kept f.find.ensures g.find2.ensures) t.take.ensures
 
 pub turn_spec : {M : Type 1} → statement M
 turn_spec =

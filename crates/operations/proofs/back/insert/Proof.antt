@@ -36,7 +36,7 @@ returns c =
     c.before.before.before.before.before.before.bind3.ensures
     c.before.before.bind4.ensures
 
-pub insert-spec : {M : Type 1} → statement M
-insert-spec =
+pub insert_spec : {M : Type 1} → statement M
+insert_spec =
     tie.close
     (tie.spec bind-requires bind-requires-2 bind-requires-3 bind-requires-4 same_length returns)

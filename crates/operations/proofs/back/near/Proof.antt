@@ -13,5 +13,5 @@ returns-2 : tie.Need-returns-2
 unfolding near kind_of
 returns-2 c = simp (ne_eqb _ _ c.if1.false)
 
-pub near-spec : {M : Type 1} → statement M
-near-spec = tie.close (tie.spec returns returns-2)
+pub near_spec : {M : Type 1} → statement M
+near_spec = tie.close (tie.spec returns returns-2)

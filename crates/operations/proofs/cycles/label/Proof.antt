@@ -8,33 +8,33 @@ use Rattle.permutations.specs.Perm.{Perm}
 use Rattle.permutations.specs.Cycle.{Meets}
 use Rattle.forest.specs.Forest.{Fresh}
 use Rattle.forest.specs.Lowest.{Lowest}
-use Rattle.area.specs.Area.{Room, forestIn}
+use Rattle.area.specs.Area.{Room, forest_in}
 use Rattle.operations.specs.Trees.{Outside}
-use Rattle.operations.specs.Cycles.{stepIn, Labelled}
-use Rattle.operations.proofs.Outside.{outside_trans, outside-room, forest-length}
-use Rattle.operations.proofs.Lent.{lent, lent-outside, lent-forest}
-use Rattle.operations.proofs.Steps.{outside-step}
+use Rattle.operations.specs.Cycles.{step_in, Labelled}
+use Rattle.operations.proofs.Outside.{outside_trans, outside_room, forest_length}
+use Rattle.operations.proofs.Lent.{lent, lent_outside, lent_forest}
+use Rattle.operations.proofs.Steps.{outside_step}
 use Rattle.operations.proofs.cycles.label.Statement.{statement}
 use Rattle.operations.proofs.cycles.label.Tie as tie
 
-module _ {D : ℕ} (k : ℕ) {w : List ℕ} (room : Room D w) {t : List ℕ} (fresh : Fresh (length (forestIn D w)) t) where
+module _ {D : ℕ} (k : ℕ) {w : List ℕ} (room : Room D w) {t : List ℕ} (fresh : Fresh (length (forest_in D w)) t) where
   outside : Outside D w (lent D w t)
-  outside = lent-outside room t fresh.size
+  outside = lent_outside room t fresh.size
 
-  steps : stepIn D k (lent D w t) ≡ stepIn D k w
-  steps = outside-step outside room k
+  steps : step_in D k (lent D w t) ≡ step_in D k w
+  steps = outside_step outside room k
 
-  start-perm : Perm D (stepIn D k w) → Perm D (stepIn D k (lent D w t))
-  start-perm π = subst (Perm D) (sym steps) π
+  start_perm : Perm D (step_in D k w) → Perm D (step_in D k (lent D w t))
+  start_perm π = subst (Perm D) (sym steps) π
 
-  start-fresh : Fresh D (forestIn D (lent D w t))
-  start-fresh = rw (lent-forest room t fresh.size) (subst (λ n. Fresh n t) (forest-length D w room.fits) fresh)
+  start_fresh : Fresh D (forest_in D (lent D w t))
+  start_fresh = rw (lent_forest room t fresh.size) (subst (λ n. Fresh n t) (forest_length D w room.fits) fresh)
 
   labelled : {w' : List ℕ} → Labelled D k (lent D w t) w' → Labelled D k w w'
   labelled {w'} l =
       record {
         outside = outside_trans outside l.outside;
-        lowest = subst (λ f. Lowest (Meets f) D D (forestIn D w')) steps l.lowest;
+        lowest = subst (λ f. Lowest (Meets f) D D (forest_in D w')) steps l.lowest;
       }
 
 mul-a : tie.Need-overflow-mul-a
@@ -61,10 +61,10 @@ fresh-requires c κs = search rules
 label-cycles-requires : tie.Need-label-cycles-requires
 label-cycles-requires c κs =
     let s = c.before.before.before.before.before.before in (
-      outside-room (outside s.args.k s.requires.0 c.before.before.before.fresh.ensures) s.requires.0,
+      outside_room (outside s.args.k s.requires.0 c.before.before.before.fresh.ensures) s.requires.0,
       (
-        start-perm _ s.requires.0 c.before.before.before.fresh.ensures s.requires.1,
-        start-fresh s.args.k s.requires.0 c.before.before.before.fresh.ensures,
+        start_perm _ s.requires.0 c.before.before.before.fresh.ensures s.requires.1,
+        start_fresh s.args.k s.requires.0 c.before.before.before.fresh.ensures,
       ),
     )
 
@@ -77,8 +77,8 @@ returns c =
     let s = c.before.before.before.before.before.before.before.before.before in
     (labelled _ s.requires.0 c.before.before.before.before.before.before.fresh.ensures l.0, l.1)
 
-pub label-spec : {M : Type 1} → statement M
-label-spec =
+pub label_spec : {M : Type 1} → statement M
+label_spec =
     tie.close
     (tie.spec
     mul-a

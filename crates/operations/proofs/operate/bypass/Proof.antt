@@ -34,8 +34,8 @@ returns-2 c =
     let g = c.before.before.before.before.before.before.before.before.before.before.args in
     rw (ne_eqb _ _ c.before.before.before.before.before.before.before.before.if1.false) (c.before.before.bind3.ensures ∙ ap (λ (l : List ℕ). bound g.d l g.b g.y) c.before.before.before.before.before.before.bind2.ensures)
 
-pub bypass-spec : {M : Type 1} → statement M
-bypass-spec =
+pub bypass_spec : {M : Type 1} → statement M
+bypass_spec =
     tie.close
     (tie.spec
     bind-requires

@@ -4,8 +4,8 @@ use Prim.Native.Nat.{◌+◌, ◌*◌}
 use native.Mathlib.Omega.{arith}
 use borrow.Author.Rules.{rules}
 use borrow.Author.Tests.{eq-eqb, ne_eqb}
-use Rattle.operations.proofs.Judging.{gone, one-root, whole-piece, judged-here, judged-one, judged-two}
-use Rattle.operations.proofs.Lent.{joined-roots, roots-known}
+use Rattle.operations.proofs.Judging.{gone, one_root, whole_piece_lem, judged_here, judged_one, judged_two}
+use Rattle.operations.proofs.Lent.{joined_roots, roots_known}
 use Rattle.operations.proofs.operate.judge_found.Statement.{statement}
 use Rattle.operations.proofs.operate.judge_found.Tie as tie
 
@@ -24,7 +24,7 @@ same_length c = search rules
 returns : tie.Need-returns
 returns c =
     let s = c.before.before.before.before in
-    judged-here s.requires.1.0 (gone _ _ _ _ _ _ s.requires.1.1.0.1 (omega arith)) (λ z. omega arith)
+    judged_here s.requires.1.0 (gone _ _ _ _ _ _ s.requires.1.1.0.1 (omega arith)) (λ z. omega arith)
 
 whole-requires : tie.Need-whole-requires
 whole-requires c κs = search rules
@@ -40,8 +40,8 @@ returns-2 c =
     let g = c.before.before.before.before.before in
     let s = g.before.before.before.before in
     let roots = s.requires.1.1.1 in
-    judged-here s.requires.1.0
-    (one-root _ _ _ _ _ _ s.requires.1.1.0.1 (omega arith) (eq-eqb _ _ (sym roots.0 ∙ c.before.if3.true ∙ roots.1)) c.shared.ensures)
+    judged_here s.requires.1.0
+    (one_root _ _ _ _ _ _ s.requires.1.1.0.1 (omega arith) (eq-eqb _ _ (sym roots.0 ∙ c.before.if3.true ∙ roots.1)) c.shared.ensures)
     (λ z. omega (arith, c.shared.ensures.number))
 
 same-length-3 : tie.Need-same-length-3
@@ -53,15 +53,15 @@ returns-3 c =
     let g = w.before.before in
     let s = g.before.before.before.before in
     let roots = s.requires.1.1.1 in
-    judged-here s.requires.1.0
-    (whole-piece _ _ _ _ _ _ s.requires.1.1.0.1 (omega arith) (ne_eqb _ _ (λ z. c.if3.false (roots.0 ∙ z ∙ sym roots.1)))
+    judged_here s.requires.1.0
+    (whole_piece_lem _ _ _ _ _ _ s.requires.1.1.0.1 (omega arith) (ne_eqb _ _ (λ z. c.if3.false (roots.0 ∙ z ∙ sym roots.1)))
     (sym w.whole.ensures ∙ c.before.if2.true))
     (λ z. omega arith)
 
 link-requires : tie.Need-link-requires
 link-requires c κs =
     let s = c.before.before.before.before.before.before.before.before in
-    let known = roots-known s.requires.0 s.requires.1.0 (2 * s.args.e) (2 * s.args.e + 1) (omega arith) (omega arith) s.requires.1.1.1 in
+    let known = roots_known s.requires.0 s.requires.1.0 (2 * s.args.e) (2 * s.args.e + 1) (omega arith) (omega arith) s.requires.1.1.1 in
     (s.requires.0, (s.requires.1.0, known))
 
 same-length-4 : tie.Need-same-length-4
@@ -74,8 +74,8 @@ returns-4 c =
     let g = w.before.before in
     let s = g.before.before.before.before in
     let roots = s.requires.1.1.1 in
-    judged-two s.requires.1.1.0.1 (omega arith) (sym w.whole.ensures ∙ l.before.before.if2.false)
-    (joined-roots s.requires.1.0 roots.0 roots.1 (rw c.if4.true at l.link.ensures))
+    judged_two s.requires.1.1.0.1 (omega arith) (sym w.whole.ensures ∙ l.before.before.if2.false)
+    (joined_roots s.requires.1.0 roots.0 roots.1 (rw c.if4.true at l.link.ensures))
 
 shared-requires-2 : tie.Need-shared-requires-2
 shared-requires-2 c κs = search rules
@@ -89,11 +89,11 @@ returns-5 c =
     let g = l.before.before.before.before.before in
     let s = g.before.before.before.before in
     let roots = s.requires.1.1.1 in
-    judged-one s.requires.1.1.0.1 (omega arith) s.requires.1.1.0.0
-    (joined-roots s.requires.1.0 roots.0 roots.1 (rw c.before.if4.false at l.link.ensures)) c.shared2.ensures
+    judged_one s.requires.1.1.0.1 (omega arith) s.requires.1.1.0.0
+    (joined_roots s.requires.1.0 roots.0 roots.1 (rw c.before.if4.false at l.link.ensures)) c.shared2.ensures
 
-pub judge-found-spec : {M : Type 1} → statement M
-judge-found-spec =
+pub judge_found_spec : {M : Type 1} → statement M
+judge_found_spec =
     tie.close
     (tie.spec
     mul_at

@@ -59,8 +59,8 @@ returns : tie.Need-returns
 unfolding noted
 returns c = rw c.requires.1.1 refl
 
-pub note-spec : {M : Type 1} → statement M
-note-spec =
+pub note_spec : {M : Type 1} → statement M
+note_spec =
     tie.close
     (tie.spec
     cast-work

@@ -11,25 +11,25 @@ use lib.ListN.{get_or}
 use borrow.Author.Rules.{rules}
 use borrow.Author.Tests.{eq-eqb, ne_eqb, lt-ltb, le-ltb}
 use Rattle.darts.specs.Map.{successor}
-use Rattle.darts.specs.Operation.{wholeEdge}
-use Rattle.darts.specs.Levels.{emptyLoop}
+use Rattle.darts.specs.Operation.{whole_edge}
+use Rattle.darts.specs.Levels.{empty_loop}
 use Rattle.area.specs.Area.{prev, there}
-use Rattle.operations.specs.Operate.{takesIn}
+use Rattle.operations.specs.Operate.{takes_in}
 use Rattle.operations.proofs.operate.takes.Statement.{statement}
 use Rattle.operations.proofs.operate.takes.Tie as tie
 
 module _ (D : ℕ) (w : List ℕ) (e : ℕ) where
-  gone : D ≤ get_or w (D + 2 * e) 0 → false ≡ takesIn D w e
-  unfolding takesIn there prev
+  gone : D ≤ get_or w (D + 2 * e) 0 → false ≡ takes_in D w e
+  unfolding takes_in there prev
   gone h = rw (le-ltb (get_or w (D + 2 * e) 0) D h)
 
   module _ (here : get_or w (D + 2 * e) 0 < D) {r s : ℕ} (first : r ≡ get_or w (2 * e) 0) (second : s ≡ get_or w (2 * e + 1) 0) where
-    loop : r ≡ 2 * e + 1 → not (eqb s (2 * e)) ≡ takesIn D w e
-    unfolding takesIn there prev emptyLoop wholeEdge successor
+    loop : r ≡ 2 * e + 1 → not (eqb s (2 * e)) ≡ takes_in D w e
+    unfolding takes_in there prev empty_loop whole_edge successor
     loop h = rw (lt-ltb (get_or w (D + 2 * e) 0) D here, ← first, ← second, eq-eqb r (2 * e + 1) h, ne_eqb r (2 * e) (λ k. omega arith))
 
-    other : r ≢ 2 * e + 1 → eqb s (2 * e) ≡ takesIn D w e
-    unfolding takesIn there prev emptyLoop wholeEdge successor
+    other : r ≢ 2 * e + 1 → eqb s (2 * e) ≡ takes_in D w e
+    unfolding takes_in there prev empty_loop whole_edge successor
     other n = rw (lt-ltb (get_or w (D + 2 * e) 0) D here, ← first, ← second, ne_eqb r (2 * e + 1) n) (go (ℕ_discrete s (2 * e)))
       where
         go : Dec (s ≡ 2 * e) → eqb s (2 * e) ≡ (eqb s (2 * e) && not ((eqb r (2 * e) && eqb s (2 * e + 1)) || false))
@@ -70,8 +70,8 @@ returns-2 c = loop _ _ _ (omega arith) c.before.before.at2.ensures c.before.at3.
 returns-3 : tie.Need-returns-3
 returns-3 c = other _ _ _ (omega arith) c.before.before.at2.ensures c.before.at3.ensures c.if2.false
 
-pub takes-spec : {M : Type 1} → statement M
-takes-spec =
+pub takes_spec : {M : Type 1} → statement M
+takes_spec =
     tie.close
     (tie.spec
     mul-p

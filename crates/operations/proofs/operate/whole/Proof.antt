@@ -9,7 +9,7 @@ use lib.ListN.{get_or}
 use borrow.Author.Rules.{rules}
 use borrow.Author.Tests.{eq-eqb, ne_eqb}
 use Rattle.darts.specs.Map.{successor}
-use Rattle.darts.specs.Operation.{wholeEdge}
+use Rattle.darts.specs.Operation.{whole_edge}
 use Rattle.operations.proofs.operate.whole.Statement.{statement}
 use Rattle.operations.proofs.operate.whole.Tie as tie
 
@@ -18,17 +18,17 @@ or-false true = refl
 or-false false = refl
 
 module _ (w : List ℕ) (e : ℕ) {r s : ℕ} (first : r ≡ get_or w (2 * e) 0) (second : s ≡ get_or w (2 * e + 1) 0) where
-  to-itself : r ≡ 2 * e → eqb s (2 * e + 1) ≡ wholeEdge w e
-  unfolding wholeEdge successor
-  to-itself h = rw (← first, ← second, eq-eqb r (2 * e) h, ne_eqb r (2 * e + 1) (λ k. omega arith)) (or-false (eqb s (2 * e + 1)))
+  to_itself : r ≡ 2 * e → eqb s (2 * e + 1) ≡ whole_edge w e
+  unfolding whole_edge successor
+  to_itself h = rw (← first, ← second, eq-eqb r (2 * e) h, ne_eqb r (2 * e + 1) (λ k. omega arith)) (or-false (eqb s (2 * e + 1)))
 
-  to-partner : (r ≡ 2 * e → ⊥) → r ≡ 2 * e + 1 → eqb s (2 * e) ≡ wholeEdge w e
-  unfolding wholeEdge successor
-  to-partner n h = rw (← first, ← second, ne_eqb r (2 * e) n, eq-eqb r (2 * e + 1) h)
+  to_partner : (r ≡ 2 * e → ⊥) → r ≡ 2 * e + 1 → eqb s (2 * e) ≡ whole_edge w e
+  unfolding whole_edge successor
+  to_partner n h = rw (← first, ← second, ne_eqb r (2 * e) n, eq-eqb r (2 * e + 1) h)
 
-  to-neither : (r ≡ 2 * e → ⊥) → (r ≡ 2 * e + 1 → ⊥) → false ≡ wholeEdge w e
-  unfolding wholeEdge successor
-  to-neither n m = rw (← first, ← second, ne_eqb r (2 * e) n, ne_eqb r (2 * e + 1) m)
+  to_neither : (r ≡ 2 * e → ⊥) → (r ≡ 2 * e + 1 → ⊥) → false ≡ whole_edge w e
+  unfolding whole_edge successor
+  to_neither n m = rw (← first, ← second, ne_eqb r (2 * e) n, ne_eqb r (2 * e + 1) m)
 
 mul-p : tie.Need-overflow-mul-p
 mul-p c = search rules
@@ -46,14 +46,14 @@ at-requires-2 : tie.Need-at-requires-2
 at-requires-2 c κs = search rules
 
 returns : tie.Need-returns
-returns c = to-itself _ _ c.before.before.at.ensures c.before.at2.ensures c.if1.true
+returns c = to_itself _ _ c.before.before.at.ensures c.before.at2.ensures c.if1.true
 
 returns-2 : tie.Need-returns-2
-returns-2 c = to-partner _ _ c.before.before.before.at.ensures c.before.before.at2.ensures c.before.if1.false c.if2.true
+returns-2 c = to_partner _ _ c.before.before.before.at.ensures c.before.before.at2.ensures c.before.if1.false c.if2.true
 
 returns-3 : tie.Need-returns-3
-returns-3 c = to-neither _ _ c.before.before.before.at.ensures c.before.before.at2.ensures c.before.if1.false c.if2.false
+returns-3 c = to_neither _ _ c.before.before.before.at.ensures c.before.before.at2.ensures c.before.if1.false c.if2.false
 
-pub whole-spec : {M : Type 1} → statement M
-whole-spec =
+pub whole_spec : {M : Type 1} → statement M
+whole_spec =
     tie.close (tie.spec mul-p mul-q add-q at-requires at-requires-2 returns returns-2 returns-3)

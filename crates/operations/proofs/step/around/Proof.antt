@@ -2,7 +2,7 @@
 use native.Mathlib.Omega.{arith}
 use borrow.Author.Rules.{rules}
 use borrow.Author.Tests.{eq-eqb, ne_eqb}
-use Rattle.permutations.specs.Partner.{partner-below}
+use Rattle.permutations.specs.Partner.{partner_below}
 use Rattle.darts.specs.Map.{successor}
 use Rattle.area.specs.Area.{around}
 use Rattle.operations.proofs.step.around.Statement.{statement}
@@ -14,7 +14,7 @@ partner-requires c κs = search rules
 at-requires : tie.Need-at-requires
 at-requires c κs =
     let g = c.before.before.before in
-    omega (arith, c.partner.ensures, partner-below g.args.d g.args.x g.requires.1 g.requires.0.even)
+    omega (arith, c.partner.ensures, partner_below g.args.d g.args.x g.requires.1 g.requires.0.even)
 
 returns : tie.Need-returns
 unfolding around successor
@@ -27,5 +27,5 @@ returns-2 : tie.Need-returns-2
 unfolding around successor
 returns-2 c = rw (ne_eqb _ _ c.before.if1.false) c.at2.ensures
 
-pub around-spec : {M : Type 1} → statement M
-around-spec = tie.close (tie.spec partner-requires at-requires returns at-requires-2 returns-2)
+pub around_spec : {M : Type 1} → statement M
+around_spec = tie.close (tie.spec partner-requires at-requires returns at-requires-2 returns-2)

@@ -34,8 +34,8 @@ returns : tie.Need-returns
 unfolding bound
 returns c = search rules
 
-pub bind-spec : {M : Type 1} → statement M
-bind-spec =
+pub bind_spec : {M : Type 1} → statement M
+bind_spec =
     tie.close
     (tie.spec
     cast-work

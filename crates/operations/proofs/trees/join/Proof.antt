@@ -31,8 +31,8 @@ same_length c = search rules
 returns : tie.Need-returns
 returns c = joined c.before.before.before.before.before.requires.0 c.before.before.join.ensures
 
-pub join-spec : {M : Type 1} → statement M
-join-spec =
+pub join_spec : {M : Type 1} → statement M
+join_spec =
     tie.close
     (tie.spec
     mul-a

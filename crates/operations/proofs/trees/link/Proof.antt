@@ -1,7 +1,7 @@
 -- `operations::trees::link` meets its contract: what is joined in the lent part.
 use native.Mathlib.Omega.{arith}
 use borrow.Author.Rules.{rules}
-use Rattle.operations.proofs.Lent.{joined, lent-top}
+use Rattle.operations.proofs.Lent.{joined, lent_top}
 use Rattle.operations.proofs.trees.link.Statement.{statement}
 use Rattle.operations.proofs.trees.link.Tie as tie
 
@@ -26,7 +26,7 @@ part-link-end c = search rules
 link-requires : tie.Need-link-requires
 link-requires c κs =
     let (room, (falls, (inside, own))) = c.before.before.requires in
-    ((lent-top room falls inside.0 own.0, lent-top room falls inside.1 own.1), (omega arith, omega arith))
+    ((lent_top room falls inside.0 own.0, lent_top room falls inside.1 own.1), (omega arith, omega arith))
 
 same_length : tie.Need-same-length
 same_length c = search rules
@@ -34,8 +34,8 @@ same_length c = search rules
 returns : tie.Need-returns
 returns c = joined c.before.before.before.before.before.requires.0 c.before.before.link.ensures
 
-pub link-spec : {M : Type 1} → statement M
-link-spec =
+pub link_spec : {M : Type 1} → statement M
+link_spec =
     tie.close
     (tie.spec
     mul-a

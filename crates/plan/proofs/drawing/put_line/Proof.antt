@@ -2,7 +2,7 @@
 use Prim.Native.Nat.{◌-◌}
 use lib.ListN.{length}
 use borrow.Author.Rules.{rules}
-use Rattle.plan.proofs.Turned.{Laying, lay-begin, lay-on, lay-end}
+use Rattle.plan.proofs.Turned.{Laying, lay_begin, lay_on, lay_end}
 use Rattle.plan.proofs.drawing.put_line.Statement.{statement}
 use Rattle.plan.proofs.drawing.put_line.Tie as tie
 
@@ -13,7 +13,7 @@ abbrev decreases-loop : tie.decreases-loop
 decreases-loop plan₀ at line i₀ plan i = length line - i
 
 loop-holds : tie.Need-loop-init invariant-loop decreases-loop
-loop-holds c = lay-begin _ _ _
+loop-holds c = lay_begin _ _ _
 
 shared-slice-read-plan : tie.Need-shared-slice-read-plan invariant-loop decreases-loop
 shared-slice-read-plan c = search rules
@@ -31,16 +31,16 @@ loop-less : tie.Need-loop-smaller invariant-loop decreases-loop
 loop-less c = search rules
 
 loop-again : tie.Need-loop-preserved invariant-loop decreases-loop
-loop-again c = search (rules, lay-on)
+loop-again c = search (rules, lay_on)
 
 same_length : tie.Need-same-length invariant-loop decreases-loop
 same_length c = search rules
 
 returns : tie.Need-returns invariant-loop decreases-loop
-returns c = search (rules, lay-end)
+returns c = search (rules, lay_end)
 
-pub put-line-spec : {M : Type 1} → statement M
-put-line-spec =
+pub put_line_spec : {M : Type 1} → statement M
+put_line_spec =
     tie.close
     (tie.spec
     invariant-loop

@@ -2,7 +2,7 @@
 use Prim.Native.Nat.{◌-◌}
 use native.Mathlib.Omega.{arith}
 use borrow.Author.Rules.{rules}
-use Rattle.plan.proofs.Turned.{Turning, turn-bounds, line-space, turn-begin, turn_on, turn_end}
+use Rattle.plan.proofs.Turned.{Turning, turn_bounds, line_space, turn_begin, turn_on, turn_end}
 use Rattle.plan.proofs.drawing.turn.Statement.{statement}
 use Rattle.plan.proofs.drawing.turn.Tie as tie
 
@@ -13,40 +13,40 @@ abbrev decreases-loop : tie.decreases-loop
 decreases-loop drawing wales courses plan₀ y₀ plan y = courses - y
 
 loop-holds : tie.Need-loop-init invariant-loop decreases-loop
-loop-holds c = turn-begin _ _ _ _
+loop-holds c = turn_begin _ _ _ _
 
 sub-line : tie.Need-overflow-sub-line invariant-loop decreases-loop
-sub-line c = omega (arith, turn-bounds c.before.before.before.before.requires c.loop-test.true)
+sub-line c = omega (arith, turn_bounds c.before.before.before.before.requires c.loop-test.true)
 
 sub-line-2 : tie.Need-overflow-sub-line-2 invariant-loop decreases-loop
-sub-line-2 c = omega (arith, turn-bounds c.before.before.before.before.requires c.loop-test.true)
+sub-line-2 c = omega (arith, turn_bounds c.before.before.before.before.requires c.loop-test.true)
 
 add-from : tie.Need-overflow-add-from invariant-loop decreases-loop
-add-from c = omega (arith, turn-bounds c.before.before.before.before.requires c.loop-test.true)
+add-from c = omega (arith, turn_bounds c.before.before.before.before.requires c.loop-test.true)
 
 mul-from : tie.Need-overflow-mul-from invariant-loop decreases-loop
-mul-from c = omega (arith, turn-bounds c.before.before.before.before.requires c.loop-test.true)
+mul-from c = omega (arith, turn_bounds c.before.before.before.before.requires c.loop-test.true)
 
 mul-put-line : tie.Need-overflow-mul-put-line invariant-loop decreases-loop
-mul-put-line c = omega (arith, turn-bounds c.before.before.before.before.before.requires c.before.loop-test.true)
+mul-put-line c = omega (arith, turn_bounds c.before.before.before.before.before.requires c.before.loop-test.true)
 
 add-put-line : tie.Need-overflow-add-put-line invariant-loop decreases-loop
-add-put-line c = omega (arith, turn-bounds c.before.before.before.before.before.requires c.before.loop-test.true)
+add-put-line c = omega (arith, turn_bounds c.before.before.before.before.before.requires c.before.loop-test.true)
 
 sub-put-line : tie.Need-overflow-sub-put-line invariant-loop decreases-loop
-sub-put-line c = omega (arith, turn-bounds c.before.before.before.before.before.requires c.before.loop-test.true)
+sub-put-line c = omega (arith, turn_bounds c.before.before.before.before.before.requires c.before.loop-test.true)
 
 part-put-line-start : tie.Need-slice-bounds-put-line-start invariant-loop decreases-loop
-part-put-line-start c = omega (arith, turn-bounds c.before.before.before.before.before.requires c.before.loop-test.true)
+part-put-line-start c = omega (arith, turn_bounds c.before.before.before.before.before.requires c.before.loop-test.true)
 
 part-put-line-end : tie.Need-slice-bounds-put-line-end invariant-loop decreases-loop
-part-put-line-end c = omega (arith, turn-bounds c.before.before.before.before.before.requires c.before.loop-test.true)
+part-put-line-end c = omega (arith, turn_bounds c.before.before.before.before.before.requires c.before.loop-test.true)
 
 put-line-requires : tie.Need-put-line-requires invariant-loop decreases-loop
 put-line-requires c κs =
     let inside = c.before.before in
     let more = inside.loop-test.true in
-    line-space inside.before.before.before.before.requires inside.before.loop.invariant more _ (omega (arith, more))
+    line_space inside.before.before.before.before.requires inside.before.loop.invariant more _ (omega (arith, more))
 
 add-y : tie.Need-overflow-add-y invariant-loop decreases-loop
 add-y c = search rules

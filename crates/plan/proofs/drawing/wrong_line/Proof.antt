@@ -2,7 +2,7 @@
 use Prim.Native.Nat.{◌-◌}
 use lib.ListN.{length}
 use borrow.Author.Rules.{rules}
-use Rattle.plan.proofs.Lines.{Judged, judge-begin, line_on, line-long, line-ends, line-short, last-ended, last-open}
+use Rattle.plan.proofs.Lines.{Judged, judge_begin, line_on, line_long, line_ends, line_short, last_ended, last_open}
 use Rattle.plan.proofs.drawing.wrong_line.Statement.{statement}
 use Rattle.plan.proofs.drawing.wrong_line.Tie as tie
 
@@ -13,13 +13,13 @@ abbrev decreases-loop : tie.decreases-loop
 decreases-loop drawing wales i₀ k₀ n₀ i k n = length drawing - i
 
 loop-holds : tie.Need-loop-init invariant-loop decreases-loop
-loop-holds c = judge-begin _ _
+loop-holds c = judge_begin _ _
 
 shared-slice-read-if1 : tie.Need-shared-slice-read-if1 invariant-loop decreases-loop
 shared-slice-read-if1 c = search rules
 
 returns : tie.Need-returns invariant-loop decreases-loop
-returns c = search (rules, line-short)
+returns c = search (rules, line_short)
 
 add-n : tie.Need-overflow-add-n invariant-loop decreases-loop
 add-n c = search rules
@@ -31,10 +31,10 @@ loop-less : tie.Need-loop-smaller invariant-loop decreases-loop
 loop-less c = search rules
 
 loop-again : tie.Need-loop-preserved invariant-loop decreases-loop
-loop-again c = search (rules, line-ends)
+loop-again c = search (rules, line_ends)
 
 returns-2 : tie.Need-returns-2 invariant-loop decreases-loop
-returns-2 c = search (rules, line-long)
+returns-2 c = search (rules, line_long)
 
 add-k : tie.Need-overflow-add-k invariant-loop decreases-loop
 add-k c = search rules
@@ -49,13 +49,13 @@ loop-again-2 : tie.Need-loop-preserved-2 invariant-loop decreases-loop
 loop-again-2 c = search (rules, line_on)
 
 returns-3 : tie.Need-returns-3 invariant-loop decreases-loop
-returns-3 c = search (rules, last-ended)
+returns-3 c = search (rules, last_ended)
 
 returns-4 : tie.Need-returns-4 invariant-loop decreases-loop
-returns-4 c = search (rules, last-open)
+returns-4 c = search (rules, last_open)
 
-pub wrong-line-spec : {M : Type 1} → statement M
-wrong-line-spec =
+pub wrong_line_spec : {M : Type 1} → statement M
+wrong_line_spec =
     tie.close
     (tie.spec
     invariant-loop

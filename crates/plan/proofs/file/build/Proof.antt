@@ -5,7 +5,7 @@ use native.Mathlib.Nat.{div-le_self}
 use native.Mathlib.Omega.{arith}
 use lib.ListN.{length}
 use borrow.Author.Rules.{rules}
-use Rattle.plan.proofs.Files.{drawing-fits, cells-within, drawn-by}
+use Rattle.plan.proofs.Files.{drawing_fits, cells_within, drawn_by}
 use Rattle.plan.proofs.file.build.Statement.{statement}
 use Rattle.plan.proofs.file.build.Tie as tie
 
@@ -19,12 +19,12 @@ div-c : tie.Need-nonzero-div-c
 div-c c = search rules
 
 turn-requires : tie.Need-turn-requires
-turn-requires c κs = drawing-fits c.before.before.before.before.before.before.before.requires _
+turn-requires c κs = drawing_fits c.before.before.before.before.before.before.before.requires _
 
 mul-cells : tie.Need-overflow-mul-cells
 mul-cells c =
     let w = c.before.before.before.before in
-    omega (arith, drawing-fits w.before.before.before.before.before.before.requires w.wales.result)
+    omega (arith, drawing_fits w.before.before.before.before.before.before.requires w.wales.result)
 
 cast-call : tie.Need-overflow-cast-call
 cast-call c = search rules
@@ -42,7 +42,7 @@ part-call-start : tie.Need-slice-bounds-call-start
 part-call-start c = search rules
 
 part-call-end : tie.Need-slice-bounds-call-end
-part-call-end c = search (rules, cells-within)
+part-call-end c = search (rules, cells_within)
 
 call-requires : tie.Need-call-requires
 call-requires c κs = search rules
@@ -64,10 +64,10 @@ returns c =
     let turned = c.before.before.before.before.before.before.before.before.before.before.before.before.before.before in
     let w = turned.before.before in
     c.before.before.before.before.before.before.call.ensures
-    ∙ drawn-by w.before.before.before.before.before.before.requires _ _ _ _ _ w.wales.ensures.0 turned.turn.ensures
+    ∙ drawn_by w.before.before.before.before.before.before.requires _ _ _ _ _ w.wales.ensures.0 turned.turn.ensures
 
-pub build-spec : {M : Type 1} → statement M
-build-spec =
+pub build_spec : {M : Type 1} → statement M
+build_spec =
     tie.close
     (tie.spec
     wales-requires

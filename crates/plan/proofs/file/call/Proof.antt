@@ -40,8 +40,8 @@ returns-2 c =
     let called = c.before.before.before.before.before.before in
     rw called.before.before.before.before.if1.false called.plan-areas.ensures
 
-pub call-spec : {M : Type 1} → statement M
-call-spec =
+pub call_spec : {M : Type 1} → statement M
+call_spec =
     tie.close
     (tie.spec
     plan-requires

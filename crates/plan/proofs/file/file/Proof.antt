@@ -2,7 +2,7 @@
 use mathlib.Core.Path.{sym, ◌∙◌}
 use borrow.Author.Rules.{rules}
 use Rattle.plan.specs.Files.{printed}
-use Rattle.plan.proofs.Files.{refused-stays, accepted-files}
+use Rattle.plan.proofs.Files.{refused_stays, accepted_files}
 use Rattle.plan.proofs.file.file.Statement.{statement}
 use Rattle.plan.proofs.file.file.Tie as tie
 
@@ -28,7 +28,7 @@ returns : tie.Need-returns
 unfolding printed
 returns c =
     let built = c.before.before.before.before.before.before.before.before.before.before in
-    refused-stays built.build.result built.build.ensures _ (λ z. c.if1.true (c.before.number.ensures ∙ z))
+    refused_stays built.build.result built.build.ensures _ (λ z. c.if1.true (c.before.number.ensures ∙ z))
 
 write-requires : tie.Need-write-requires
 write-requires c κs = search rules
@@ -54,10 +54,10 @@ returns-2 c =
     let judged = c.before.before.before.before.before.before.before.before.before.before.before.before.before.before in
     let built = judged.before.before.before.before.before.before.before.before.before.before in
     c.before.before.before.before.before.before.before.before.write.ensures
-    ∙ accepted-files built.build.result built.build.ensures _ (sym judged.before.number.ensures ∙ judged.if1.false)
+    ∙ accepted_files built.build.result built.build.ensures _ (sym judged.before.number.ensures ∙ judged.if1.false)
 
-pub file-spec : {M : Type 1} → statement M
-file-spec =
+pub file_spec : {M : Type 1} → statement M
+file_spec =
     tie.close
     (tie.spec
     build-requires

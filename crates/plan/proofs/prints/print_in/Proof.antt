@@ -1,7 +1,7 @@
 -- `plan::prints::print_in`: the file of an accepted plan lies within the output.
 use borrow.Author.Rules.{rules}
 use Rattle.plan.specs.Files.{printed}
-use Rattle.plan.proofs.Files.{place-within}
+use Rattle.plan.proofs.Files.{place_within}
 use Rattle.plan.proofs.prints.print_in.Statement.{statement}
 use Rattle.plan.proofs.prints.print_in.Tie as tie
 
@@ -25,13 +25,13 @@ unfolding printed
 print-file-requires c κs =
     let judged = c.before.before.before in
     let filed = judged.before.before in
-    place-within filed.file.result _ _ filed.file.ensures judged.before.number.ensures judged.if1.false c.place.ensures (search rules)
+    place_within filed.file.result _ _ filed.file.ensures judged.before.number.ensures judged.if1.false c.place.ensures (search rules)
 
 returns-2 : tie.Need-returns-2
 returns-2 c = search rules
 
-pub print-in-spec : {M : Type 1} → statement M
-print-in-spec =
+pub print_in_spec : {M : Type 1} → statement M
+print_in_spec =
     tie.close
     (tie.spec
     file-requires

@@ -6,12 +6,12 @@ use lib.ListN.{length}
 use Rattle.darts.specs.Answers.{Answer}
 use Rattle.darts.specs.declared.Answer.TheVariants.{Done}
 use Rattle.engine.specs.Runs.{Went}
-use Rattle.grids.specs.Grid.{flat, dartsOf}
-use Rattle.grids.specs.Plans.{fittingPlan, firstKernel, planAreas}
-use Rattle.plans.proofs.Fits.{fitted, fitted-room}
-use Rattle.plans.proofs.Limits.{sized-facts}
-use Rattle.plans.proofs.Planned.{plan-refused}
-use Rattle.plans.proofs.Areas.{areas-room, areas-halts, areas-none, areas-level, areas-settles, areas-settled}
+use Rattle.grids.specs.Grid.{flat, darts_of}
+use Rattle.grids.specs.Plans.{fitting_plan, first_kernel, plan_areas}
+use Rattle.plans.proofs.Fits.{fitted, fitted_room}
+use Rattle.plans.proofs.Limits.{sized_facts}
+use Rattle.plans.proofs.Planned.{plan_refused}
+use Rattle.plans.proofs.Areas.{areas_room, areas_halts, areas_none, areas_level, areas_settles, areas_settled}
 use Rattle.plans.proofs.calls.plan_areas.Statement.{statement}
 use Rattle.plans.proofs.calls.plan_areas.Tie as tie
 
@@ -25,23 +25,23 @@ unbased-requires : tie.Need-unbased-requires
 unbased-requires c κs = search rules
 
 returns : tie.Need-returns
-unfolding planAreas
+unfolding plan_areas
 returns c =
     let g = c.before.before.before.before.before.before.before.before.args in
     let f = c.before.before.before.fit-plan.ensures in
     let b = c.unbased.ensures in
-    plan-refused (flat g.wales g.courses) g.plan.now g.table.now g.history.now g.work.now _ c.unbased.result
+    plan_refused (flat g.wales g.courses) g.plan.now g.table.now g.history.now g.work.now _ c.unbased.result
     (λ z. c.before.if1.true (c.before.before.number.ensures ∙ ap (λ (a : Answer). a.number) f ∙ z))
     (record { answer = b.answer ∙ f; state = b.state })
 
 -- neither 15 nor 2
 fits : (c : tie.Else1) → (let g = c.before.before.before.before.before.before.before.args in
-    (fittingPlan (flat g.wales g.courses) (length g.plan.now) (length g.table.now) (length g.history.now) (length g.work.now)
+    (fitting_plan (flat g.wales g.courses) (length g.plan.now) (length g.table.now) (length g.history.now) (length g.work.now)
     ).number ≡ 0)
 fits c = sym (ap (λ (a : Answer). a.number) c.before.before.fit-plan.ensures) ∙ sym c.before.number.ensures ∙ c.if1.false
 
 darts-of-requires : tie.Need-darts-of-requires
-darts-of-requires c κs = sized-facts _ _ (fitted _ _ _ _ _ (fits c)).sizes
+darts-of-requires c κs = sized_facts _ _ (fitted _ _ _ _ _ (fits c)).sizes
 
 cast-d : tie.Need-overflow-cast-d
 cast-d c = search rules
@@ -50,11 +50,11 @@ first-kernel-requires : tie.Need-first-kernel-requires
 first-kernel-requires c κs =
     let f = fitted _ _ _ _ _ (fits c.before.before) in
     let d = c.before.darts-of.ensures in
-    (sized-facts _ _ f.sizes, (f.enough, (d, rw d (fitted-room _ _ _ _ _ f))))
+    (sized_facts _ _ f.sizes, (f.enough, (d, rw d (fitted_room _ _ _ _ _ f))))
 
 -- the kernel's run, on the plan's own darts
 went : (c : tie.After-first-kernel) → (let g = c.before.before.before.before.before.before.before.before.before.before.args in
-    Went (dartsOf (flat g.wales g.courses)) (firstKernel (flat g.wales g.courses) g.plan.now) g.work.now c.first-kernel.new.0
+    Went (darts_of (flat g.wales g.courses)) (first_kernel (flat g.wales g.courses) g.plan.now) g.work.now c.first-kernel.new.0
     (record { answer = Done 0; operations = c.first-kernel.result }))
 went c = rw c.before.before.darts-of.ensures at c.first-kernel.ensures
 
@@ -63,7 +63,7 @@ clear-requires c κs =
     let k = c.before.before.before.before in
     let e = k.before.before.before in
     let g = e.before.before.before.before.before.before.before.args in
-    rw k.before.before.darts-of.ensures (areas-room (flat g.wales g.courses) g.plan.now g.table.now g.history.now g.work.now
+    rw k.before.before.darts-of.ensures (areas_room (flat g.wales g.courses) g.plan.now g.table.now g.history.now g.work.now
     (fits e) (went k))
 
 unbased-requires-2 : tie.Need-unbased-requires-2
@@ -78,7 +78,7 @@ returns-2 c =
     let e = k.before.before.before in
     let g = e.before.before.before.before.before.before.before.args in
     rw (c.before.before.before.clear.ensures, k.before.before.darts-of.ensures)
-    (areas-none (flat g.wales g.courses) g.plan.now g.table.now g.history.now g.work.now
+    (areas_none (flat g.wales g.courses) g.plan.now g.table.now g.history.now g.work.now
     (fits e) (went k)
     c.unbased2.result c.before.before.before.before.before.if2.true c.unbased2.ensures)
 
@@ -92,14 +92,14 @@ level-requires c κs =
     let e = k.before.before.before in
     let g = e.before.before.before.before.before.before.before.args in
     let G = flat g.wales g.courses in
-    areas-halts G g.plan.now g.table.now g.history.now g.work.now (fits e) (went k) _ b.base-of.ensures.state
+    areas_halts G g.plan.now g.table.now g.history.now g.work.now (fits e) (went k) _ b.base-of.ensures.state
 
 clear-requires-2 : tie.Need-clear-requires-2
 clear-requires-2 c κs =
     let k = c.before.before.before.before.before.before.before.before.before.before.before.before.before.before in
     let e = k.before.before.before in
     let g = e.before.before.before.before.before.before.before.args in
-    rw k.before.before.darts-of.ensures (areas-room (flat g.wales g.courses) g.plan.now g.table.now g.history.now g.work.now
+    rw k.before.before.darts-of.ensures (areas_room (flat g.wales g.courses) g.plan.now g.table.now g.history.now g.work.now
     (fits e) (went k))
 
 settle-requires : tie.Need-settle-requires
@@ -113,8 +113,8 @@ settle-requires c κs =
     let some = b.before.if2.false in
     let H = b.base-of.ensures in
     let o = l.level.result in
-    areas-settles G g.plan.now g.table.now g.history.now g.work.now (fits e) (went k) some o
-    (areas-level G g.plan.now g.table.now g.history.now g.work.now (fits e) (went k) _ H.state o some
+    areas_settles G g.plan.now g.table.now g.history.now g.work.now (fits e) (went k) some o
+    (areas_level G g.plan.now g.table.now g.history.now g.work.now (fits e) (went k) _ H.state o some
     l.level.ensures)
     H.state
 
@@ -139,13 +139,13 @@ returns-3 c =
     let H = b.base-of.ensures in
     let o = l.level.result in
     rw (c.before.before.before.before.clear2.ensures, k.before.before.darts-of.ensures)
-    (areas-settled G g.plan.now g.table.now g.history.now g.work.now (fits e) (went k) some o
-    (areas-level G g.plan.now g.table.now g.history.now g.work.now (fits e) (went k) _ H.state o some
+    (areas_settled G g.plan.now g.table.now g.history.now g.work.now (fits e) (went k) some o
+    (areas_level G g.plan.now g.table.now g.history.now g.work.now (fits e) (went k) _ H.state o some
     l.level.ensures)
     H.state c.settle.ensures)
 
-pub plan-areas-spec : {M : Type 1} → statement M
-plan-areas-spec =
+pub plan_areas_spec : {M : Type 1} → statement M
+plan_areas_spec =
     tie.close
     (tie.spec
     fit-plan-requires

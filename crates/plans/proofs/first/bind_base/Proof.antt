@@ -2,7 +2,7 @@
 use Prim.Native.Nat.{◌-◌, ◌<◌}
 use borrow.Author.Rules.{rules}
 use Rattle.plans.specs.Prepared.{Bound}
-use Rattle.plans.proofs.Binding.{unbound, entry-below, binds, bound_all}
+use Rattle.plans.proofs.Binding.{unbound, entry_below, binds, bound_all}
 use Rattle.plans.proofs.first.bind_base.Statement.{statement}
 use Rattle.plans.proofs.first.bind_base.Tie as tie
 
@@ -16,7 +16,7 @@ decreases-loop work₀ d x₀ work x = d - x
 below : (c : tie.After-at invariant-loop decreases-loop) → c.at.result < c.before.before.before.before.before.args.d
 below c =
     let l = c.before.before.before in
-    entry-below l.before.before.requires.1 l.loop.invariant c.before.before.loop-test.true c.at.ensures
+    entry_below l.before.before.requires.1 l.loop.invariant c.before.before.loop-test.true c.at.ensures
 
 loop-holds : tie.Need-loop-init invariant-loop decreases-loop
 loop-holds c = unbound
@@ -54,8 +54,8 @@ same_length c = search rules
 returns : tie.Need-returns invariant-loop decreases-loop
 returns c = bound_all c.before.loop.invariant c.loop-test.false
 
-pub bind-base-spec : {M : Type 1} → statement M
-bind-base-spec =
+pub bind_base_spec : {M : Type 1} → statement M
+bind_base_spec =
     tie.close
     (tie.spec
     invariant-loop

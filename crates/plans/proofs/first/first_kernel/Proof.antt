@@ -1,6 +1,6 @@
 -- `plans::first::first_kernel` meets its contract: the run on the base that was laid.
 use borrow.Author.Rules.{rules}
-use Rattle.engine.proofs.Ready.{beyond-trans}
+use Rattle.engine.proofs.Ready.{beyond_trans}
 use Rattle.plans.proofs.first.first_kernel.Statement.{statement}
 use Rattle.plans.proofs.first.first_kernel.Tie as tie
 
@@ -22,8 +22,8 @@ returns c =
     record {
       went = W.went;
       few = W.few;
-      beyond = beyond-trans c.before.before.before.before.before.before.prepare.ensures.beyond W.beyond;
+      beyond = beyond_trans c.before.before.before.before.before.before.prepare.ensures.beyond W.beyond;
     }
 
-pub first-kernel-spec : {M : Type 1} → statement M
-first-kernel-spec = tie.close (tie.spec prepare-requires take-edges-requires same_length returns)
+pub first_kernel_spec : {M : Type 1} → statement M
+first_kernel_spec = tie.close (tie.spec prepare-requires take-edges-requires same_length returns)

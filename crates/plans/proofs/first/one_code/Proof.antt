@@ -2,8 +2,8 @@
 use Prim.Native.Nat.{◌+◌, ◌-◌, ◌*◌, ◌/◌}
 use native.Mathlib.Omega.{arith}
 use borrow.Author.Rules.{rules}
-use Rattle.plans.proofs.Limits.{along-few}
-use Rattle.plans.proofs.Ends.{Ends, along-some, along-ends, upright-ends, same_codes}
+use Rattle.plans.proofs.Limits.{along_few}
+use Rattle.plans.proofs.Ends.{Ends, along_some, along_ends, upright_ends, same_codes}
 use Rattle.plans.proofs.first.one_code.Statement.{statement}
 use Rattle.plans.proofs.first.one_code.Tie as tie
 
@@ -11,20 +11,20 @@ sub-a : tie.Need-overflow-sub-a
 sub-a c = search rules
 
 mul-a : tie.Need-overflow-mul-a
-mul-a c = let f = along-few c.requires.0 in search rules
+mul-a c = let f = along_few c.requires.0 in search rules
 
 -- the ends of an edge along a course, and of an upright one
 along : (c : tie.Then1) → (let g = c.before.args in Ends g.w g.c g.e (g.e + g.e / (g.w - 1)) (g.e + g.e / (g.w - 1) + 1))
-along c = along-ends c.before.requires.0 c.before.requires.1.0 c.if1.true
+along c = along_ends c.before.requires.0 c.before.requires.1.0 c.if1.true
 
 upright : (c : tie.Else1) → (let g = c.before.args in Ends g.w g.c g.e (g.e - (g.w - 1) * g.c) (g.e - (g.w - 1) * g.c + g.w))
-upright c = upright-ends c.before.requires.0 c.before.requires.1.0 c.if1.false
+upright c = upright_ends c.before.requires.0 c.before.requires.1.0 c.if1.false
 
 sub-k : tie.Need-overflow-sub-k
 sub-k c = search rules
 
 div-k : tie.Need-nonzero-div-k
-div-k c = along-some c.before.requires.0 c.before.requires.1.0 c.if1.true
+div-k c = along_some c.before.requires.0 c.before.requires.1.0 c.if1.true
 
 add-k : tie.Need-overflow-add-k
 add-k c = let E = along c in search rules
@@ -53,8 +53,8 @@ shared-slice-read-result-4 c = let E = upright c.before.before in omega (arith, 
 returns-2 : tie.Need-returns-2
 returns-2 c = same_codes _ (upright c.before.before)
 
-pub one-code-spec : {M : Type 1} → statement M
-one-code-spec =
+pub one_code_spec : {M : Type 1} → statement M
+one_code_spec =
     tie.close
     (tie.spec
     sub-a

@@ -4,7 +4,7 @@ use Prim.Native.Nat.{◌-◌, ◌/◌}
 use native.Mathlib.Omega.{arith}
 use borrow.Author.Rules.{rules}
 use Rattle.grids.specs.Grid.{flat}
-use Rattle.plans.proofs.Taken.{Taking, taking-begins, passed_over, taken_not, taken-on, taking-ends}
+use Rattle.plans.proofs.Taken.{Taking, taking_begins, passed_over, taken_not, taken_on, taking_ends}
 use Rattle.plans.proofs.first.take_edges.Statement.{statement}
 use Rattle.plans.proofs.first.take_edges.Tie as tie
 
@@ -15,7 +15,7 @@ abbrev decreases-loop : tie.decreases-loop
 decreases-loop work₀ w c d plan e₀ m₀ work e m = d / 2 - e
 
 loop-holds : tie.Need-loop-init invariant-loop decreases-loop
-loop-holds c = let p = c.before.before.requires.1.1 in taking-begins _ p.0 p.1.0 p.1.1
+loop-holds c = let p = c.before.before.requires.1.1 in taking_begins _ p.0 p.1.0 p.1.1
 
 one-code-requires : tie.Need-one-code-requires invariant-loop decreases-loop
 one-code-requires c κs = let p = c.before.before.before.before.requires in (p.0, (omega (arith, p.1.1.0, c.loop-test.true), p.1.0))
@@ -42,7 +42,7 @@ loop-again c =
     let j = c.before.before.before.before in
     let o = j.before.before.before in
     let l = o.before.before in
-    taken-on l.before.before.before.requires.1.1.0 l.loop.invariant o.before.loop-test.true o.one_code.ensures
+    taken_on l.before.before.before.requires.1.1.0 l.loop.invariant o.before.loop-test.true o.one_code.ensures
     j.before.before.if1.true j.turn.ensures (sym c.before.number.ensures ∙ c.if2.true)
 
 add-e-2 : tie.Need-overflow-add-e-2 invariant-loop decreases-loop
@@ -77,10 +77,10 @@ same_length c = c.before.loop.invariant.under.beyond.size
 returns : tie.Need-returns invariant-loop decreases-loop
 returns c =
     let l = c.before in
-    taking-ends l.before.before.before.requires.1.1.0 l.loop.invariant c.loop-test.false
+    taking_ends l.before.before.before.requires.1.1.0 l.loop.invariant c.loop-test.false
 
-pub take-edges-spec : {M : Type 1} → statement M
-take-edges-spec =
+pub take_edges_spec : {M : Type 1} → statement M
+take_edges_spec =
     tie.close
     (tie.spec
     invariant-loop

@@ -4,7 +4,7 @@ use Prim.Native.Nat.{◌+◌}
 use native.Mathlib.Omega.{arith}
 use borrow.Author.Rules.{rules}
 use borrow.Author.Tests.{lt-ltb, le-ltb, le-leb, lt-leb}
-use Rattle.plans.proofs.Around.{after-down}
+use Rattle.plans.proofs.Around.{after_down}
 use Rattle.plans.proofs.laying.after_down.Statement.{statement}
 use Rattle.plans.proofs.laying.after_down.Tie as tie
 
@@ -19,7 +19,7 @@ returns c =
     let z = c.before.before in
     let a = z.args in
     let e = c.right_of.ensures in
-    (e.0 ∙ sym (rw (lt-ltb (a.x + 1) a.w (omega arith)) at (after-down z.requires.0 z.requires.1)), e.1)
+    (e.0 ∙ sym (rw (lt-ltb (a.x + 1) a.w (omega arith)) at (after_down z.requires.0 z.requires.1)), e.1)
 
 add-if2 : tie.Need-overflow-add-if2
 add-if2 c = search rules
@@ -35,7 +35,7 @@ returns-2 c =
       e.0 ∙ sym (rw (
         le-ltb (a.x + 1) a.w (omega arith),
         lt-ltb (a.y + 1) a.c (omega arith),
-      ) at (after-down z.requires.0 z.requires.1)),
+      ) at (after_down z.requires.0 z.requires.1)),
       e.1,
     )
 
@@ -51,7 +51,7 @@ returns-3 c =
         le-ltb (a.x + 1) a.w (omega arith),
         le-ltb (a.y + 1) a.c (omega arith),
         le-leb 1 a.x (omega arith),
-      ) at (after-down z.requires.0 z.requires.1)),
+      ) at (after_down z.requires.0 z.requires.1)),
       e.1,
     )
 
@@ -67,12 +67,12 @@ returns-4 c =
         le-ltb (a.x + 1) a.w (omega arith),
         le-ltb (a.y + 1) a.c (omega arith),
         lt-leb 1 a.x (omega arith),
-      ) at (after-down z.requires.0 z.requires.1)),
+      ) at (after_down z.requires.0 z.requires.1)),
       e.1,
     )
 
-pub after-down-spec : {M : Type 1} → statement M
-after-down-spec =
+pub after_down_spec : {M : Type 1} → statement M
+after_down_spec =
     tie.close
     (tie.spec
     add-if1

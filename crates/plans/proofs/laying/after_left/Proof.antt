@@ -4,7 +4,7 @@ use Prim.Native.Nat.{◌+◌}
 use native.Mathlib.Omega.{arith}
 use borrow.Author.Rules.{rules}
 use borrow.Author.Tests.{lt-ltb, le-ltb, le-leb, lt-leb}
-use Rattle.plans.proofs.Around.{after-left}
+use Rattle.plans.proofs.Around.{after_left}
 use Rattle.plans.proofs.laying.after_left.Statement.{statement}
 use Rattle.plans.proofs.laying.after_left.Tie as tie
 
@@ -16,7 +16,7 @@ returns c =
     let z = c.before.before in
     let a = z.args in
     let e = c.down-of.ensures in
-    (e.0 ∙ sym (rw (le-leb 1 a.y (omega arith)) at (after-left z.requires.0 z.requires.1)), e.1)
+    (e.0 ∙ sym (rw (le-leb 1 a.y (omega arith)) at (after_left z.requires.0 z.requires.1)), e.1)
 
 add-if2 : tie.Need-overflow-add-if2
 add-if2 c = search rules
@@ -32,7 +32,7 @@ returns-2 c =
       e.0 ∙ sym (rw (
         lt-leb 1 a.y (omega arith),
         lt-ltb (a.x + 1) a.w (omega arith),
-      ) at (after-left z.requires.0 z.requires.1)),
+      ) at (after_left z.requires.0 z.requires.1)),
       e.1,
     )
 
@@ -51,7 +51,7 @@ returns-3 c =
         lt-leb 1 a.y (omega arith),
         le-ltb (a.x + 1) a.w (omega arith),
         lt-ltb (a.y + 1) a.c (omega arith),
-      ) at (after-left z.requires.0 z.requires.1)),
+      ) at (after_left z.requires.0 z.requires.1)),
       e.1,
     )
 
@@ -67,12 +67,12 @@ returns-4 c =
         lt-leb 1 a.y (omega arith),
         le-ltb (a.x + 1) a.w (omega arith),
         le-ltb (a.y + 1) a.c (omega arith),
-      ) at (after-left z.requires.0 z.requires.1)),
+      ) at (after_left z.requires.0 z.requires.1)),
       e.1,
     )
 
-pub after-left-spec : {M : Type 1} → statement M
-after-left-spec =
+pub after_left_spec : {M : Type 1} → statement M
+after_left_spec =
     tie.close
     (tie.spec
     down-of-requires

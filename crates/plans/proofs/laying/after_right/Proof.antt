@@ -4,7 +4,7 @@ use Prim.Native.Nat.{◌+◌}
 use native.Mathlib.Omega.{arith}
 use borrow.Author.Rules.{rules}
 use borrow.Author.Tests.{lt-ltb, le-ltb, le-leb, lt-leb}
-use Rattle.plans.proofs.Around.{after-right}
+use Rattle.plans.proofs.Around.{after_right}
 use Rattle.plans.proofs.laying.after_right.Statement.{statement}
 use Rattle.plans.proofs.laying.after_right.Tie as tie
 
@@ -19,7 +19,7 @@ returns c =
     let z = c.before.before in
     let a = z.args in
     let e = c.up_of.ensures in
-    (e.0 ∙ sym (rw (lt-ltb (a.y + 1) a.c (omega arith)) at (after-right z.requires.0 z.requires.1)), e.1)
+    (e.0 ∙ sym (rw (lt-ltb (a.y + 1) a.c (omega arith)) at (after_right z.requires.0 z.requires.1)), e.1)
 
 left-of-requires : tie.Need-left-of-requires
 left-of-requires c κs = search rules
@@ -32,7 +32,7 @@ returns-2 c =
       e.0 ∙ sym (rw (
         le-ltb (a.y + 1) a.c (omega arith),
         le-leb 1 a.x (omega arith),
-      ) at (after-right z.requires.0 z.requires.1)),
+      ) at (after_right z.requires.0 z.requires.1)),
       e.1,
     )
 
@@ -48,7 +48,7 @@ returns-3 c =
         le-ltb (a.y + 1) a.c (omega arith),
         lt-leb 1 a.x (omega arith),
         le-leb 1 a.y (omega arith),
-      ) at (after-right z.requires.0 z.requires.1)),
+      ) at (after_right z.requires.0 z.requires.1)),
       e.1,
     )
 
@@ -64,12 +64,12 @@ returns-4 c =
         le-ltb (a.y + 1) a.c (omega arith),
         lt-leb 1 a.x (omega arith),
         lt-leb 1 a.y (omega arith),
-      ) at (after-right z.requires.0 z.requires.1)),
+      ) at (after_right z.requires.0 z.requires.1)),
       e.1,
     )
 
-pub after-right-spec : {M : Type 1} → statement M
-after-right-spec =
+pub after_right_spec : {M : Type 1} → statement M
+after_right_spec =
     tie.close
     (tie.spec
     add-if1

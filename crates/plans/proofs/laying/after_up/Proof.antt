@@ -4,7 +4,7 @@ use Prim.Native.Nat.{◌+◌}
 use native.Mathlib.Omega.{arith}
 use borrow.Author.Rules.{rules}
 use borrow.Author.Tests.{lt-ltb, le-ltb, le-leb, lt-leb}
-use Rattle.plans.proofs.Around.{after-up}
+use Rattle.plans.proofs.Around.{after_up}
 use Rattle.plans.proofs.laying.after_up.Statement.{statement}
 use Rattle.plans.proofs.laying.after_up.Tie as tie
 
@@ -16,7 +16,7 @@ returns c =
     let z = c.before.before in
     let a = z.args in
     let e = c.left-of.ensures in
-    (e.0 ∙ sym (rw (le-leb 1 a.x (omega arith)) at (after-up z.requires.0 z.requires.1)), e.1)
+    (e.0 ∙ sym (rw (le-leb 1 a.x (omega arith)) at (after_up z.requires.0 z.requires.1)), e.1)
 
 down-of-requires : tie.Need-down-of-requires
 down-of-requires c κs = search rules
@@ -29,7 +29,7 @@ returns-2 c =
       e.0 ∙ sym (rw (
         lt-leb 1 a.x (omega arith),
         le-leb 1 a.y (omega arith),
-      ) at (after-up z.requires.0 z.requires.1)),
+      ) at (after_up z.requires.0 z.requires.1)),
       e.1,
     )
 
@@ -48,7 +48,7 @@ returns-3 c =
         lt-leb 1 a.x (omega arith),
         lt-leb 1 a.y (omega arith),
         lt-ltb (a.x + 1) a.w (omega arith),
-      ) at (after-up z.requires.0 z.requires.1)),
+      ) at (after_up z.requires.0 z.requires.1)),
       e.1,
     )
 
@@ -64,12 +64,12 @@ returns-4 c =
         lt-leb 1 a.x (omega arith),
         lt-leb 1 a.y (omega arith),
         le-ltb (a.x + 1) a.w (omega arith),
-      ) at (after-up z.requires.0 z.requires.1)),
+      ) at (after_up z.requires.0 z.requires.1)),
       e.1,
     )
 
-pub after-up-spec : {M : Type 1} → statement M
-after-up-spec =
+pub after_up_spec : {M : Type 1} → statement M
+after_up_spec =
     tie.close
     (tie.spec
     left-of-requires

@@ -6,22 +6,22 @@ use native.Mathlib.Omega.{arith}
 use lib.ListN.{length, get_or, set, take, length-set}
 use borrow.Author.Rules.{rules}
 use Rattle.slices.specs.Over.{over}
-use Rattle.grids.specs.Base.{successorOn, baseTable}
+use Rattle.grids.specs.Base.{successor_on, base_table}
 use Rattle.grids.specs.Grid.{flat}
 use Rattle.plans.specs.Limits.{At, Lent}
 use Rattle.plans.specs.Rising.{Ran}
-use Rattle.plans.proofs.Base.{table-length, table_at, lent-long}
-use Rattle.plans.proofs.Entries.{Laying, laying-begins, laying-inside, laying-on, laying-over, laying-ends}
-use Rattle.plans.proofs.Rising.{laying-run}
+use Rattle.plans.proofs.Base.{table_length, table_at, lent_long}
+use Rattle.plans.proofs.Entries.{Laying, laying_begins, laying_inside, laying_on, laying_over, laying_ends}
+use Rattle.plans.proofs.Rising.{laying_run}
 use Rattle.plans.proofs.laying.lay_along.Statement.{statement}
 use Rattle.plans.proofs.laying.lay_along.Tie as tie
 
 abbrev Along : ℕ → ℕ → List ℕ → List ℕ → ℕ → ℕ → ℕ → Type 0
-Along W C to₀ to e x y = Laying (baseTable (flat W C)) 0 (W - 1) C to₀ to e x y
+Along W C to₀ to e x y = Laying (base_table (flat W C)) 0 (W - 1) C to₀ to e x y
 
 module _ {W C a : ℕ} {to₀ : List ℕ} (p : Lent W C a (length to₀)) {to : List ℕ} {e x y : ℕ} (l : Along W C to₀ to e x y) where
-  fits : 2 * (0 + (W - 1) * C) ≤ length (baseTable (flat W C))
-  fits = rw (table-length W C) (omega arith)
+  fits : 2 * (0 + (W - 1) * C) ≤ length (base_table (flat W C))
+  fits = rw (table_length W C) (omega arith)
 
   module _ (more : e < a) where
     left : e < 0 + (W - 1) * C
@@ -29,45 +29,45 @@ module _ {W C a : ℕ} {to₀ : List ℕ} (p : Lent W C a (length to₀)) {to : 
 
     stands : At W C x y × (x + 1 < W)
     stands =
-        let (i, j) = laying-inside fits (lent-long p) l left in
+        let (i, j) = laying_inside fits (lent_long p) l left in
         let s = p.sized in
         (record { wale = omega arith; narrow = s.narrow; course = j; low = s.low }, omega arith)
 
     beside : At W C (x + 1) y × (0 < x + 1)
     beside = let (s, h) = stands in (record { wale = h; narrow = s.narrow; course = s.course; low = s.low }, omega arith)
 
-    run-ready : (r s : ℕ) → x + 2 < W
+    run_ready : (r s : ℕ) → x + 2 < W
         → (At W C (x + 1) y × (x + 1 + 1 < W)) × ((e + 1 ≡ y * (W - 1) + (x + 1)) × (2 * ((W - 1) * C + W * (C - 1)) ≤ length (set (set to (2 * e) r) (2 * e + 1) s)))
-    run-ready r s h =
+    run_ready r s h =
         let (b, k) = beside in
         ((b, omega arith), (omega (arith, l.place), simp length-set (omega (arith, l.size, p.room, p.along))))
 
-    module _ {r s : ℕ} (even : r ≡ successorOn (flat W C) (2 * (y * (W - 1) + x)))
-        (odd : s ≡ successorOn (flat W C) (2 * (y * (W - 1) + (x + 1 - 1)) + 1)) where
-      first : r ≡ get_or (baseTable (flat W C)) (2 * e) 0
+    module _ {r s : ℕ} (even : r ≡ successor_on (flat W C) (2 * (y * (W - 1) + x)))
+        (odd : s ≡ successor_on (flat W C) (2 * (y * (W - 1) + (x + 1 - 1)) + 1)) where
+      first : r ≡ get_or (base_table (flat W C)) (2 * e) 0
       first = table_at W C _ (2 * e) even (omega (arith, l.place)) (omega arith)
 
-      second : s ≡ get_or (baseTable (flat W C)) (2 * e + 1) 0
+      second : s ≡ get_or (base_table (flat W C)) (2 * e + 1) 0
       second = table_at W C _ (2 * e + 1) odd (omega (arith, l.place)) (omega arith)
 
-      along-on : x + 2 < W → Along W C to₀ (set (set to (2 * e) r) (2 * e + 1) s) (e + 1) (x + 1) y
-      along-on h = laying-on fits (lent-long p) l left first second (omega arith)
+      along_on : x + 2 < W → Along W C to₀ (set (set to (2 * e) r) (2 * e + 1) s) (e + 1) (x + 1) y
+      along_on h = laying_on fits (lent_long p) l left first second (omega arith)
 
-      along-run : {u : List ℕ} {n : ℕ} → x + 2 < W → x + 1 + n + 1 < W → Ran (baseTable (flat W C)) (e + 1) n (set (set to (2 * e) r) (2 * e + 1) s) u
+      along_run : {u : List ℕ} {n : ℕ} → x + 2 < W → x + 1 + n + 1 < W → Ran (base_table (flat W C)) (e + 1) n (set (set to (2 * e) r) (2 * e + 1) s) u
           → Along W C to₀ u (e + (1 + n)) (x + (1 + n)) y
-      along-run {u} {n} h k ran =
+      along_run {u} {n} h k ran =
           let (z, g) = stands in
           let i : e + (1 + n) ≡ e + 1 + n = omega arith in
           let j : x + (1 + n) ≡ x + 1 + n = omega arith in
-          rw (i, j) (laying-run fits (lent-long p) (along-on h) z.course (omega arith) ran)
+          rw (i, j) (laying_run fits (lent_long p) (along_on h) z.course (omega arith) ran)
 
-      along-over : W ≤ x + 2 → Along W C to₀ (set (set to (2 * e) r) (2 * e + 1) s) (e + 1) 0 (y + 1)
-      along-over h = let (z, k) = stands in laying-over fits (lent-long p) l left first second (omega arith)
+      along_over : W ≤ x + 2 → Along W C to₀ (set (set to (2 * e) r) (2 * e + 1) s) (e + 1) 0 (y + 1)
+      along_over h = let (z, k) = stands in laying_over fits (lent_long p) l left first second (omega arith)
 
-  along-ends : a ≤ e → to ≡ over (take (2 * a) (baseTable (flat W C))) to₀
-  along-ends none =
+  along_ends : a ≤ e → to ≡ over (take (2 * a) (base_table (flat W C))) to₀
+  along_ends none =
       let i : 0 + (W - 1) * C ≡ a = omega (arith, p.along) in
-      rw i at (laying-ends fits (lent-long p) l (omega (arith, p.along)))
+      rw i at (laying_ends fits (lent_long p) l (omega (arith, p.along)))
 
 abbrev invariant-loop : tie.invariant-loop
 invariant-loop to₀ w c a e₀ x₀ y₀ to e x y = Along w c to₀ to e x y
@@ -76,7 +76,7 @@ abbrev decreases-loop : tie.decreases-loop
 decreases-loop to₀ w c a e₀ x₀ y₀ to e x y = a - e
 
 loop-holds : tie.Need-loop-init invariant-loop decreases-loop
-loop-holds c = laying-begins refl
+loop-holds c = laying_begins refl
 
 after-right-requires : tie.Need-after-right-requires invariant-loop decreases-loop
 after-right-requires c κs = stands c.before.before.before.requires c.before.loop.invariant c.loop-test.true
@@ -127,7 +127,7 @@ run-along-requires : tie.Need-run-along-requires invariant-loop decreases-loop
 run-along-requires c κs =
     let q = c.before in
     let t = q.before.before.before in
-    run-ready t.before.before.before.requires t.before.loop.invariant t.loop-test.true q.before.before.after-right.result q.before.after-left.result q.if1.true
+    run_ready t.before.before.before.requires t.before.loop.invariant t.loop-test.true q.before.before.after_right.result q.before.after_left.result q.if1.true
 
 add-n : tie.Need-overflow-add-n invariant-loop decreases-loop
 add-n c = search rules
@@ -146,7 +146,7 @@ loop-again c =
     let q = c.before.before.before.before in
     let t = q.before.before.before in
     let ran = c.before.before.run_along.ensures in
-    along-run t.before.before.before.requires t.before.loop.invariant t.loop-test.true q.before.before.after-right.ensures.0 q.before.after-left.ensures.0 q.if1.true ran.0 ran.1
+    along_run t.before.before.before.requires t.before.loop.invariant t.loop-test.true q.before.before.after_right.ensures.0 q.before.after_left.ensures.0 q.if1.true ran.0 ran.1
 
 add-y : tie.Need-overflow-add-y invariant-loop decreases-loop
 add-y c = search rules
@@ -160,17 +160,17 @@ loop-less-2 c = search rules
 loop-again-2 : tie.Need-loop-preserved-2 invariant-loop decreases-loop
 loop-again-2 c =
     let t = c.before.before.before in
-    along-over t.before.before.before.requires t.before.loop.invariant t.loop-test.true
-    c.before.before.after-right.ensures.0 c.before.after-left.ensures.0 c.if1.false
+    along_over t.before.before.before.requires t.before.loop.invariant t.loop-test.true
+    c.before.before.after_right.ensures.0 c.before.after_left.ensures.0 c.if1.false
 
 same_length : tie.Need-same-length invariant-loop decreases-loop
 same_length c = search rules
 
 returns : tie.Need-returns invariant-loop decreases-loop
-returns c = along-ends c.before.before.before.requires c.before.loop.invariant c.loop-test.false
+returns c = along_ends c.before.before.before.requires c.before.loop.invariant c.loop-test.false
 
-pub lay-along-spec : {M : Type 1} → statement M
-lay-along-spec =
+pub lay_along_spec : {M : Type 1} → statement M
+lay_along_spec =
     tie.close
     (tie.spec
     invariant-loop

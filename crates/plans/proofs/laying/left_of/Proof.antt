@@ -1,6 +1,6 @@
 -- `plans::laying::left_of` meets its contract: the partner of an edge's even dart is its odd one.
 use borrow.Author.Rules.{rules}
-use Rattle.plans.proofs.OddDart.{odd-dart}
+use Rattle.plans.proofs.OddDart.{odd_dart_lem}
 use Rattle.plans.proofs.laying.left_of.Statement.{statement}
 use Rattle.plans.proofs.laying.left_of.Tie as tie
 
@@ -14,7 +14,7 @@ partner-requires : tie.Need-partner-requires
 partner-requires c κs = search rules
 
 returns : tie.Need-returns
-returns c = odd-dart _ c.before.right_of.ensures c.partner.ensures
+returns c = odd_dart_lem _ c.before.right_of.ensures c.partner.ensures
 
-pub left-of-spec : {M : Type 1} → statement M
-left-of-spec = tie.close (tie.spec sub-right-of right-of-requires partner-requires returns)
+pub left_of_spec : {M : Type 1} → statement M
+left_of_spec = tie.close (tie.spec sub-right-of right-of-requires partner-requires returns)

@@ -4,8 +4,8 @@ use native.Mathlib.Nat.{mul_comm}
 use native.Mathlib.Omega.{arith}
 use lib.ListN.{length}
 use borrow.Author.Rules.{rules}
-use Rattle.plans.proofs.Limits.{product-few}
-use Rattle.plans.proofs.Runs.{inside, upright-ran}
+use Rattle.plans.proofs.Limits.{product_few}
+use Rattle.plans.proofs.Runs.{inside, upright_ran}
 use Rattle.plans.proofs.laying.run_upright.Statement.{statement}
 use Rattle.plans.proofs.laying.run_upright.Tie as tie
 
@@ -37,8 +37,8 @@ rise-requires c κs =
     let p = z.requires in
     let at = p.0.0 in
     let i = inside a.w (a.c - 1) (a.w - 1) a.y (omega (arith, at.wale)) (omega (arith, p.0.1.1)) in
-    let f = product-few (a.w - 1) a.c (omega (arith, at.narrow, at.wale)) at.low in
-    let g = product-few (a.c - 1) a.w (omega (arith, at.low, at.course)) at.narrow in
+    let f = product_few (a.w - 1) a.c (omega (arith, at.narrow, at.wale)) at.low in
+    let g = product_few (a.c - 1) a.w (omega (arith, at.low, at.course)) at.narrow in
     let k = mul_comm a.w (a.c - 1) in
     let room : 2 * (a.e + (a.w - 1 - a.x)) ≤ length a.to.now = omega (arith, p.1.0, p.1.1, at.wale) in
     let few : a.e + (a.w - 1 - a.x) < 65536 = omega (arith, p.1.0, at.wale) in
@@ -53,10 +53,10 @@ returns c =
     let z = q.before.before.before.before in
     let p = z.requires in
     let more : z.args.x + (z.args.w - 1 - z.args.x) < z.args.w = omega (arith, p.0.0.wale) in
-    (more, upright-ran p.0.0 p.0.1.1 c.before.before.rise.ensures p.0.1.0 more p.1.0 q.before.before.left-of.ensures.0 q.before.right_of.ensures.0)
+    (more, upright_ran p.0.0 p.0.1.1 c.before.before.rise.ensures p.0.1.0 more p.1.0 q.before.before.left-of.ensures.0 q.before.right_of.ensures.0)
 
-pub run-upright-spec : {M : Type 1} → statement M
-run-upright-spec =
+pub run_upright_spec : {M : Type 1} → statement M
+run_upright_spec =
     tie.close
     (tie.spec
     sub-n

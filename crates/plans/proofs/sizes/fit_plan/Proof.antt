@@ -7,8 +7,8 @@ use borrow.Author.Tests.{not-true, not-false}
 use Rattle.permutations.specs.Choice.{true→T}
 use Rattle.darts.specs.Answers.{Answer}
 use Rattle.grids.specs.Grid.{flat}
-use Rattle.plans.proofs.Fits.{fit-size, fit-short, fit-plan-short, fit-done}
-use Rattle.plans.proofs.Limits.{sized-facts}
+use Rattle.plans.proofs.Fits.{fit_size, fit_short, fit_plan_short, fit_done}
+use Rattle.plans.proofs.Limits.{sized_facts}
 use Rattle.plans.proofs.sizes.fit_plan.Statement.{statement}
 use Rattle.plans.proofs.sizes.fit_plan.Tie as tie
 
@@ -18,10 +18,10 @@ size-requires c κs = search rules
 returns : tie.Need-returns
 returns c =
     let g = c.before.before.args in
-    fit-size (flat g.wales g.courses) g.plan g.table g.history g.work (sym (not-true _ c.if1.true) ∙ c.before.size.ensures)
+    fit_size (flat g.wales g.courses) g.plan g.table g.history g.work (sym (not-true _ c.if1.true) ∙ c.before.size.ensures)
 
 darts-of-requires : tie.Need-darts-of-requires
-darts-of-requires c κs = sized-facts _ _ (true→T (sym c.before.size.ensures ∙ not-false _ c.if1.false))
+darts-of-requires c κs = sized_facts _ _ (true→T (sym c.before.size.ensures ∙ not-false _ c.if1.false))
 
 fit-requires : tie.Need-fit-requires
 fit-requires c κs = search rules
@@ -36,14 +36,14 @@ returns-2 c =
     let f = c.before.before.fit.ensures in
     let d = c.before.before.before.darts-of.ensures in
     let s = sym (not-false _ c.before.before.before.before.if1.false) ∙ z.size.ensures in
-    f ∙ rw d (fit-short (flat g.wales g.courses) g.plan g.table g.history g.work s
+    f ∙ rw d (fit_short (flat g.wales g.courses) g.plan g.table g.history g.work s
     (λ n. c.if2.true (c.before.number.ensures ∙ ap (λ (a : Answer). a.number) f ∙ rw d n)))
 
 -- inside the limits, the cells are few
 few : (c : tie.Else2) → (let g = c.before.before.before.before.before.before.args in g.wales * g.courses ≤ 16384)
 few c =
     let z = c.before.before.before.before.before in
-    let s = sized-facts _ _ (true→T (sym z.size.ensures ∙ not-false _ c.before.before.before.before.if1.false)) in
+    let s = sized_facts _ _ (true→T (sym z.size.ensures ∙ not-false _ c.before.before.before.before.if1.false)) in
     mul-le-mul s.narrow s.low
 
 mul-if3 : tie.Need-overflow-mul-if3
@@ -60,7 +60,7 @@ returns-3 c =
     let d = c.before.before.before.before.darts-of.ensures in
     let s = sym (not-false _ c.before.before.before.before.before.if1.false) ∙ z.size.ensures in
     let n = rw d at (sym (ap (λ (a : Answer). a.number) f) ∙ sym c.before.before.number.ensures ∙ c.before.if2.false) in
-    fit-plan-short (flat g.wales g.courses) g.plan g.table g.history g.work s n c.if3.true
+    fit_plan_short (flat g.wales g.courses) g.plan g.table g.history g.work s n c.if3.true
 
 returns-4 : tie.Need-returns-4
 returns-4 c =
@@ -70,10 +70,10 @@ returns-4 c =
     let d = c.before.before.before.before.darts-of.ensures in
     let s = sym (not-false _ c.before.before.before.before.before.if1.false) ∙ z.size.ensures in
     let n = rw d at (sym (ap (λ (a : Answer). a.number) f) ∙ sym c.before.before.number.ensures ∙ c.before.if2.false) in
-    f ∙ rw d (fit-done (flat g.wales g.courses) g.plan g.table g.history g.work s n c.if3.false)
+    f ∙ rw d (fit_done (flat g.wales g.courses) g.plan g.table g.history g.work s n c.if3.false)
 
-pub fit-plan-spec : {M : Type 1} → statement M
-fit-plan-spec =
+pub fit_plan_spec : {M : Type 1} → statement M
+fit_plan_spec =
     tie.close
     (tie.spec
     size-requires

@@ -46,5 +46,5 @@ returns c =
     let m = c.before.before.before.before.before.before.before.before.before.before.before.before.before.before.before.before.before.contract-stood.ensures in
     rw c.before.before.before.clear.ensures (ap₂ costed m.plain (sym c.before.before.before.before.before.before.before.merge-all.ensures ∙ m.sheets _))
 
-pub contract-with-spec : {M : Type 1} → statement M
-contract-with-spec = tie.close (tie.spec cast-d cast-n contract-stood-requires merge-all-requires clear-requires same_length same-length-2 same-length-3 same-length-4 same-length-5 returns)
+pub contract_with_spec : {M : Type 1} → statement M
+contract_with_spec = tie.close (tie.spec cast-d cast-n contract-stood-requires merge-all-requires clear-requires same_length same-length-2 same-length-3 same-length-4 same-length-5 returns)

@@ -2,8 +2,8 @@
 use mathlib.Core.Path.{◌≡◌, ◌∙◌, sym, refl}
 use native.Mathlib.Omega.{arith}
 use Rattle.darts.specs.Cases.{answer_of}
-use Rattle.laws.proofs.calls.Numbers.{pyramid-most}
-use Rattle.pyramid.proofs.CountsEnd.{counts-refused, counts-given}
+use Rattle.laws.proofs.calls.Numbers.{pyramid_most}
+use Rattle.pyramid.proofs.CountsEnd.{counts_refused_lem, counts_given_lem}
 use Rattle.pyramid.proofs.Judges.{lent_of}
 use borrow.Author.Rules.{rules}
 use Rattle.pyramid.proofs.State.counts.Statement.{statement}
@@ -31,7 +31,7 @@ returns : tie.Need-returns
 returns c =
     let r = c.refused.ensures in
     rw (r.0, r.1)
-    (counts-refused c.before.before.before.before.before.judged.ensures (λ z. c.before.if1.true (c.before.before.number.ensures ∙ z)))
+    (counts_refused_lem c.before.before.before.before.before.judged.ensures (λ z. c.before.if1.true (c.before.before.number.ensures ∙ z)))
 
 -- judged, and done
 fine : (c : tie.Else1) → (answer_of c.before.before.before.before.judged.result).number ≡ 0
@@ -67,7 +67,7 @@ tallied-requires c κs =
     let e = c.before.before.before.before.before.before in
     let J = e.before.before.before.before.judged.ensures in
     let m = ((J.checked (fine e)).area refl).room.small in
-    let M = pyramid-most (lent_of J (fine e)).pyramid in
+    let M = pyramid_most (lent_of J (fine e)).pyramid in
     let x = M.vertices in
     let y = M.faces in
     (omega arith, omega arith, omega arith)
@@ -84,10 +84,10 @@ same-length-6 c = search rules
 returns-2 : tie.Need-returns-2
 returns-2 c =
     let e = c.before.before.before.before.before.before.before in
-    rw (c.tallied.ensures, c.before.before.before.clear.ensures) (counts-given e.before.before.before.before.judged.ensures (fine e))
+    rw (c.tallied.ensures, c.before.before.before.clear.ensures) (counts_given_lem e.before.before.before.before.judged.ensures (fine e))
 
-pub counts-spec : {M : Type 1} → statement M
-counts-spec =
+pub counts_spec : {M : Type 1} → statement M
+counts_spec =
     tie.close
     (tie.spec
     judged-requires

@@ -1,8 +1,8 @@
 -- `pyramid::State::judged` meets its contract: 1 and 2, or what the check says, and whether the numbers that it found are the stored ones.
 use mathlib.Core.Path.{◌≡◌, ◌∙◌, sym}
 use Rattle.darts.specs.Cases.{answer_of}
-use Rattle.engine.proofs.Area.{room-kept}
-use Rattle.pyramid.proofs.Judges.{check-fits, fits-with, checked-with, cycles-with, judged-first, judged-no, judged-yes}
+use Rattle.engine.proofs.Area.{room_kept}
+use Rattle.pyramid.proofs.Judges.{check_fits, fits_with, checked_with, cycles_with, judged_first, judged_no, judged_yes}
 use borrow.Author.Rules.{rules}
 use Rattle.pyramid.proofs.State.judged.Statement.{statement}
 use Rattle.pyramid.proofs.State.judged.Tie as tie
@@ -14,7 +14,7 @@ number-requires : tie.Need-number-requires
 number-requires c κs = search rules
 
 returns : tie.Need-returns
-returns c = judged-first c.before.before.fit.ensures (λ z. c.if1.true (c.before.number.ensures ∙ z))
+returns c = judged_first c.before.before.fit.ensures (λ z. c.if1.true (c.before.number.ensures ∙ z))
 
 -- 1 and 2 are past
 fine : (c : tie.Else1) → (answer_of c.before.before.fit.result).number ≡ 0
@@ -26,7 +26,7 @@ figures-requires c κs = search rules
 check-requires : tie.Need-check-requires
 check-requires c κs =
     let e = c.before.before in
-    fits-with c.figures.ensures (check-fits e.before.before.fit.ensures (fine e))
+    fits_with c.figures.ensures (check_fits e.before.before.fit.ensures (fine e))
 
 stores-requires : tie.Need-stores-requires
 stores-requires c κs = search rules
@@ -39,7 +39,7 @@ returns-2 c =
     let e = c.before.before.before.before.before.before.before in
     let same = c.before.before.before.before.before.figures.ensures in
     let found = c.before.before.before.before.check.ensures in
-    judged-yes e.before.before.fit.ensures (fine e) (checked-with same found.0) (cycles-with _ same _ _ found.1) c.before.stores.ensures c.if2.true
+    judged_yes e.before.before.fit.ensures (fine e) (checked_with same found.0) (cycles_with _ same _ _ found.1) c.before.stores.ensures c.if2.true
 
 cast-clear : tie.Need-overflow-cast-clear
 cast-clear c = search rules
@@ -47,7 +47,7 @@ cast-clear c = search rules
 clear-requires : tie.Need-clear-requires
 clear-requires c κs =
     let e = c.before.before.before.before.before.before.before.before.before in
-    room-kept e.before.before.before.before.before.before.args.work.now _ c.before.before.before.before.before.before.check.ensures.0.beyond.size (check-fits e.before.before.fit.ensures (fine e)).0
+    room_kept e.before.before.before.before.before.before.args.work.now _ c.before.before.before.before.before.before.check.ensures.0.beyond.size (check_fits e.before.before.fit.ensures (fine e)).0
 
 same-length-2 : tie.Need-same-length-2
 same-length-2 c = search rules
@@ -58,10 +58,10 @@ returns-3 c =
     let same = c.before.before.before.before.before.before.before.before.before.before.figures.ensures in
     let found = c.before.before.before.before.before.before.before.before.before.check.ensures in
     rw c.before.before.clear.ensures
-    (judged-no e.before.before.fit.ensures (fine e) (checked-with same found.0) (cycles-with _ same _ _ found.1) c.before.before.before.before.before.before.stores.ensures c.before.before.before.before.before.if2.false)
+    (judged_no e.before.before.fit.ensures (fine e) (checked_with same found.0) (cycles_with _ same _ _ found.1) c.before.before.before.before.before.before.stores.ensures c.before.before.before.before.before.if2.false)
 
-pub judged-spec : {M : Type 1} → statement M
-judged-spec =
+pub judged_spec : {M : Type 1} → statement M
+judged_spec =
     tie.close
     (tie.spec
     fit-requires

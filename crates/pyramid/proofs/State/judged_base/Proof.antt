@@ -4,7 +4,7 @@ mod Tie
 use mathlib.Core.Path.{◌≡◌, ◌∙◌, sym}
 use Rattle.darts.specs.Cases.{answer_of}
 use Rattle.sheets.specs.Sheets.{Sheets}
-use Rattle.pyramid.proofs.AtBase.{unfit-asks, refuse-asks, base-right, base-wrong}
+use Rattle.pyramid.proofs.AtBase.{unfit_asks, refuse_asks, base_right, base_wrong}
 use borrow.Author.Rules.{rules}
 use Rattle.pyramid.proofs.State.judged_base.Statement.{statement}
 use Rattle.pyramid.proofs.State.judged_base.Proof.Tie as tie
@@ -51,7 +51,7 @@ first-unfit-requires : tie.Need-first-unfit-requires
 first-unfit-requires c κs =
     let e = c.before.before in
     let k = checked e in
-    unfit-asks k.check-plain.ensures (fine e) (given e).requires (lent e) k.before.before.before.records.ensures k.before.before.records2.ensures
+    unfit_asks k.check-plain.ensures (fine e) (given e).requires (lent e) k.before.before.before.records.ensures k.before.before.records2.ensures
 
 same-length-2 : tie.Need-same-length-2
 same-length-2 c = search rules
@@ -60,14 +60,14 @@ returns-2 : tie.Need-returns-2
 returns-2 c =
     let e = c.before.before.before.before in
     let k = checked e in
-    base-right k.check-plain.ensures (fine e) (given e).requires (lent e) k.before.before.before.records.ensures k.before.before.records2.ensures
+    base_right k.check-plain.ensures (fine e) (given e).requires (lent e) k.before.before.before.records.ensures k.before.before.records2.ensures
     c.before.first-unfit.ensures c.if2.true
 
 refuse-requires : tie.Need-refuse-requires
 refuse-requires c κs =
     let e = c.before.before.before.before.before in
     let k = checked e in
-    refuse-asks k.check-plain.ensures (fine e) (given e).requires (lent e) k.before.before.before.records.ensures k.before.before.records2.ensures
+    refuse_asks k.check-plain.ensures (fine e) (given e).requires (lent e) k.before.before.before.records.ensures k.before.before.records2.ensures
 
 same-length-3 : tie.Need-same-length-3
 same-length-3 c = search rules
@@ -78,8 +78,8 @@ returns-3 c =
     let u = r.before.before in
     let e = u.before.before.before.before in
     let k = checked e in
-    base-wrong k.check-plain.ensures (fine e) (given e).requires (lent e) k.before.before.before.records.ensures k.before.before.records2.ensures
+    base_wrong k.check-plain.ensures (fine e) (given e).requires (lent e) k.before.before.before.records.ensures k.before.before.records2.ensures
     u.before.first-unfit.ensures u.if2.false r.refuse.ensures
 
-pub judged-base-spec : {M : Type 1} → statement M
-judged-base-spec = tie.close (tie.spec records-requires records-requires-2 check-plain-requires number-requires same_length returns cast-d first-unfit-requires same-length-2 returns-2 refuse-requires same-length-3 returns-3)
+pub judged_base_spec : {M : Type 1} → statement M
+judged_base_spec = tie.close (tie.spec records-requires records-requires-2 check-plain-requires number-requires same_length returns cast-d first-unfit-requires same-length-2 returns-2 refuse-requires same-length-3 returns-3)

@@ -4,7 +4,7 @@ mod Tie
 use mathlib.Core.Path.{◌≡◌, ◌∙◌, sym}
 use Rattle.darts.specs.Cases.{answer_of}
 use Rattle.sheets.specs.Sheets.{Sheets}
-use Rattle.pyramid.proofs.ChecksWith.{right-asks, accept-asks, refuse-asks, accepted, wronged}
+use Rattle.pyramid.proofs.ChecksWith.{right_asks, accept_asks, refuse_asks, accepted, wronged}
 use borrow.Author.Rules.{rules}
 use Rattle.pyramid.proofs.State.judged_with.Statement.{statement}
 use Rattle.pyramid.proofs.State.judged_with.Proof.Tie as tie
@@ -60,13 +60,13 @@ all-right-requires : tie.Need-all-right-requires
 all-right-requires c κs =
     let e = c.before.before.before in
     let k = checked e in
-    right-asks k.check-with.ensures (fine e) (lent e) k.before.before.before.records.ensures k.before.before.records2.ensures
+    right_asks k.check-with.ensures (fine e) (lent e) k.before.before.before.records.ensures k.before.before.records2.ensures
 
 accept-requires : tie.Need-accept-requires
 accept-requires c κs =
     let e = c.before.before.before.before.before.before in
     let k = checked e in
-    accept-asks k.check-with.ensures (fine e) (lent e) k.before.before.before.records.ensures k.before.before.records2.ensures
+    accept_asks k.check-with.ensures (fine e) (lent e) k.before.before.before.records.ensures k.before.before.records2.ensures
 
 same-length-3 : tie.Need-same-length-3
 same-length-3 c = search rules
@@ -84,7 +84,7 @@ refuse-requires : tie.Need-refuse-requires
 refuse-requires c κs =
     let e = c.before.before.before.before.before.before in
     let k = checked e in
-    refuse-asks k.check-with.ensures (fine e) (lent e) k.before.before.before.records.ensures k.before.before.records2.ensures
+    refuse_asks k.check-with.ensures (fine e) (lent e) k.before.before.before.records.ensures k.before.before.records2.ensures
 
 same-length-4 : tie.Need-same-length-4
 same-length-4 c = search rules
@@ -98,5 +98,5 @@ returns-4 c =
     wronged k.check-with.ensures (fine e) (lent e) k.before.before.before.records.ensures k.before.before.records2.ensures
     r.all_right.ensures f.before.before.if3.false f.refuse.ensures
 
-pub judged-with-spec : {M : Type 1} → statement M
-judged-with-spec = tie.close (tie.spec judged-base-requires same_length returns records-requires records-requires-2 check-with-requires number-requires same-length-2 returns-2 cast-all-right cast-all-right-2 all-right-requires accept-requires same-length-3 returns-3 refuse-requires same-length-4 returns-4)
+pub judged_with_spec : {M : Type 1} → statement M
+judged_with_spec = tie.close (tie.spec judged-base-requires same_length returns records-requires records-requires-2 check-with-requires number-requires same-length-2 returns-2 cast-all-right cast-all-right-2 all-right-requires accept-requires same-length-3 returns-3 refuse-requires same-length-4 returns-4)

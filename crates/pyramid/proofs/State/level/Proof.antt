@@ -1,7 +1,7 @@
 -- `pyramid::State::level` meets its contract: the ways that a level more ends.
 use mathlib.Core.Path.{refl, sym, ◌∙◌}
 use Rattle.darts.specs.declared.Answer.TheVariants.{Done}
-use Rattle.pyramid.proofs.Raising.{level-stops, level-empty, level-raised}
+use Rattle.pyramid.proofs.Raising.{level_stops, level_empty, level_raised}
 use Rattle.pyramid.proofs.Started.{bare}
 use borrow.Author.Rules.{rules}
 use Rattle.pyramid.proofs.State.level.Statement.{statement}
@@ -21,7 +21,7 @@ kept-requires c κs = search rules
 
 returns : tie.Need-returns
 returns c =
-    level-stops _ _ _ _ _ c.before.before.before.before.before.before.before.before.requires _ (λ z. c.before.if1.true (c.before.before.number.ensures ∙ z)) (bare c.kept.ensures)
+    level_stops _ _ _ _ _ c.before.before.before.before.before.before.before.before.requires _ (λ z. c.before.if1.true (c.before.before.number.ensures ∙ z)) (bare c.kept.ensures)
 
 kept-requires-2 : tie.Need-kept-requires-2
 kept-requires-2 c κs = search rules
@@ -29,7 +29,7 @@ kept-requires-2 c κs = search rules
 returns-2 : tie.Need-returns-2
 returns-2 c =
     let e = c.before.before in
-    level-empty _ _ _ _ _ e.before.before.before.before.before.before.before.requires (sym e.before.number.ensures ∙ e.if1.false) _ c.before.if2.true (bare c.kept2.ensures)
+    level_empty _ _ _ _ _ e.before.before.before.before.before.before.before.requires (sym e.before.number.ensures ∙ e.if1.false) _ c.before.if2.true (bare c.kept2.ensures)
 
 store-requires : tie.Need-store-requires
 store-requires c κs = search rules
@@ -52,11 +52,11 @@ returns-3 c =
     let e = f.before in
     let d = c.before.before.before.before.before.store.ensures in
     rw (d.0, d.1)
-    (level-raised _ _ _ _ _ e.before.before.before.before.before.before.before.requires (sym e.before.number.ensures ∙ e.if1.false) (record { state = c.raised.result; answer = Done 0 })
+    (level_raised _ _ _ _ _ e.before.before.before.before.before.before.before.requires (sym e.before.number.ensures ∙ e.if1.false) (record { state = c.raised.result; answer = Done 0 })
     f.if2.false refl c.raised.ensures)
 
-pub level-spec : {M : Type 1} → statement M
-level-spec =
+pub level_spec : {M : Type 1} → statement M
+level_spec =
     tie.close
     (tie.spec
     cast-d

@@ -13,8 +13,8 @@ sub-result c = search rules
 returns-2 : tie.Need-returns-2
 returns-2 c = rw (ne_eqb c.before.before.before.args.self.levels 0 c.before.if1.false)
 
-pub level-below-spec : {M : Type 1} → statement M
-level-below-spec =
+pub level_below_spec : {M : Type 1} → statement M
+level_below_spec =
     tie.close
     (tie.spec
     returns

@@ -26,6 +26,6 @@ returns : tie.Need-returns
 unfolding lowered
 returns c = λ t past. rw c.before.before.before.end_Below.ensures
 
-pub lowered-spec : {M : Type 1} → statement M
-lowered-spec =
+pub lowered_spec : {M : Type 1} → statement M
+lowered_spec =
     tie.close (tie.spec end-below-requires sub_at cast-at mul-ends array-write-ends sub-t5 returns)

@@ -20,5 +20,5 @@ returns : tie.Need-returns
 unfolding raised
 returns c = λ t new e. rw e
 
-pub raised-spec : {M : Type 1} → statement M
-raised-spec = tie.close (tie.spec cast-at mul-ends array-write-ends add-t8 returns)
+pub raised_spec : {M : Type 1} → statement M
+raised_spec = tie.close (tie.spec cast-at mul-ends array-write-ends add-t8 returns)

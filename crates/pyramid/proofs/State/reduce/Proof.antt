@@ -1,13 +1,13 @@
 -- `pyramid::State::reduce` meets its contract: what is judged first, or what comes once it is judged, its numbers put right.
 use mathlib.Core.Path.{◌≡◌, ◌∙◌, sym}
 use Rattle.darts.specs.Cases.{answer_of}
-use Rattle.darts.specs.Calls.{reduceBy}
-use Rattle.laws.proofs.chained.OnLent.{byKernel}
+use Rattle.darts.specs.Calls.{reduce_by}
+use Rattle.laws.proofs.chained.OnLent.{by_kernel}
 use Rattle.pyramid.specs.Values.{kind_of}
-use Rattle.pyramid.proofs.Judges.{stood-of}
-use Rattle.pyramid.proofs.OnState.{call-refused}
-use Rattle.pyramid.proofs.ByRun.{plain-reduce}
-use Rattle.pyramid.proofs.Settles.{judged-settles, judged-settled}
+use Rattle.pyramid.proofs.Judges.{stood_of}
+use Rattle.pyramid.proofs.OnState.{call_refused}
+use Rattle.pyramid.proofs.ByRun.{plain_reduce}
+use Rattle.pyramid.proofs.Settles.{judged_settles, judged_settled}
 use borrow.Author.Rules.{rules}
 use Rattle.pyramid.proofs.State.reduce.Statement.{statement}
 use Rattle.pyramid.proofs.State.reduce.Tie as tie
@@ -34,9 +34,9 @@ same-length-3 : tie.Need-same-length-3
 same-length-3 c = search rules
 
 returns : tie.Need-returns
-unfolding reduceBy
+unfolding reduce_by
 returns c =
-    call-refused _ c.before.before.before.before.before.judged.ensures (λ z. c.before.if1.true (c.before.before.number.ensures ∙ z)) c.kept.ensures
+    call_refused _ c.before.before.before.before.before.judged.ensures (λ z. c.before.if1.true (c.before.before.number.ensures ∙ z)) c.kept.ensures
 
 -- judged, and done
 fine : (c : tie.Else1) → (answer_of c.before.before.before.before.judged.result).number ≡ 0
@@ -45,7 +45,7 @@ fine c = sym c.before.number.ensures ∙ c.if1.false
 reduce-judged-requires : tie.Need-reduce-judged-requires
 reduce-judged-requires c κs =
     let e = c.before.before.before in
-    (e.before.before.before.before.before.before.before.before.bit.ensures.0, stood-of e.before.before.before.before.judged.ensures (fine e))
+    (e.before.before.before.before.before.before.before.before.bit.ensures.0, stood_of e.before.before.before.before.judged.ensures (fine e))
 
 settle-requires : tie.Need-settle-requires
 settle-requires c κs =
@@ -53,7 +53,7 @@ settle-requires c κs =
     let e = c.before.before.before.before.before.before.before.before.before.before.before in
     let j = e.before.before.before.before in
     let o = c.before.before.before.before.before.before.before.reduce-judged in
-    judged-settles (byKernel (record { kind = kind_of g.kind; edges = g.kernel.now })) j.judged.ensures (fine e) (plain-reduce _ _ _ _ _) o.result (rw j.before.before.before.before.bit.ensures.1 at o.ensures)
+    judged_settles (by_kernel (record { kind = kind_of g.kind; edges = g.kernel.now })) j.judged.ensures (fine e) (plain_reduce _ _ _ _ _) o.result (rw j.before.before.before.before.bit.ensures.1 at o.ensures)
 
 same-length-4 : tie.Need-same-length-4
 same-length-4 c = search rules
@@ -70,10 +70,10 @@ returns-2 c =
     let e = c.before.before.before.before.before.before.before.before.before.before.before.before in
     let j = e.before.before.before.before in
     let o = c.before.before.before.before.before.before.before.before.reduce-judged in
-    judged-settled (byKernel (record { kind = kind_of g.kind; edges = g.kernel.now })) j.judged.ensures (fine e) (plain-reduce _ _ _ _ _) o.result (rw j.before.before.before.before.bit.ensures.1 at o.ensures) c.settle.ensures
+    judged_settled (by_kernel (record { kind = kind_of g.kind; edges = g.kernel.now })) j.judged.ensures (fine e) (plain_reduce _ _ _ _ _) o.result (rw j.before.before.before.before.bit.ensures.1 at o.ensures) c.settle.ensures
 
-pub reduce-spec : {M : Type 1} → statement M
-reduce-spec =
+pub reduce_spec : {M : Type 1} → statement M
+reduce_spec =
     tie.close
     (tie.spec
     bit-requires

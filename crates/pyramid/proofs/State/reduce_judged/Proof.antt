@@ -1,10 +1,10 @@
 -- `pyramid::State::reduce_judged` meets its contract: one level more, once the call is judged.
 use mathlib.Core.Path.{◌≡◌, refl, ◌∙◌, sym}
 use native.Mathlib.Omega.{arith}
-use Rattle.darts.specs.Calls.{reduceBy}
-use Rattle.engine.proofs.Ready.{beyond-refl}
-use Rattle.pyramid.proofs.Judges.{room-then}
-use Rattle.pyramid.proofs.ByRun.{reduce-levels, level-full, level-halts, level-ends}
+use Rattle.darts.specs.Calls.{reduce_by}
+use Rattle.engine.proofs.Ready.{beyond_refl}
+use Rattle.pyramid.proofs.Judges.{room_then}
+use Rattle.pyramid.proofs.ByRun.{reduce_levels, level_full, level_halts, level_ends}
 use Rattle.pyramid.proofs.Started.{bare}
 use borrow.Author.Rules.{rules}
 use Rattle.pyramid.proofs.State.reduce_judged.Statement.{statement}
@@ -14,7 +14,7 @@ cast-d : tie.Need-overflow-cast-d
 cast-d c = search rules
 
 clear-requires : tie.Need-clear-requires
-clear-requires c κs = room-then c.before.before.before.before.before.before.before.before.requires.1 refl (beyond-refl _ _)
+clear-requires c κs = room_then c.before.before.before.before.before.before.before.before.requires.1 refl (beyond_refl _ _)
 
 kept-requires : tie.Need-kept-requires
 kept-requires c κs = search rules
@@ -23,9 +23,9 @@ same_length : tie.Need-same-length
 same_length c = search rules
 
 returns : tie.Need-returns
-unfolding reduceBy
+unfolding reduce_by
 returns c =
-    rw c.before.before.before.clear.ensures (level-full (reduce-levels refl _) c.before.before.before.before.before.before.before.before.before.before.before.before.requires.1 refl c.before.before.before.before.before.if1.true (bare c.kept.ensures))
+    rw c.before.before.before.clear.ensures (level_full (reduce_levels refl _) c.before.before.before.before.before.before.before.before.before.before.before.before.requires.1 refl c.before.before.before.before.before.if1.true (bare c.kept.ensures))
 
 cast-run : tie.Need-overflow-cast-run
 cast-run c = search rules
@@ -39,12 +39,12 @@ level-requires : tie.Need-level-requires
 level-requires c κs =
     let r = c.before.before.before.before.before in
     let j = r.before.before.before.before.before.before.before.before.before.before in
-    level-halts (reduce-levels refl _) j.requires.1 refl r.before.before.before.if1.false r.run.ensures
+    level_halts (reduce_levels refl _) j.requires.1 refl r.before.before.before.if1.false r.run.ensures
 
 clear-requires-2 : tie.Need-clear-requires-2
 clear-requires-2 c κs =
     let r = c.before.before.before.before.before.before.before.before.before.before.before in
-    room-then r.before.before.before.before.before.before.before.before.before.before.requires.1 refl r.run.ensures.beyond
+    room_then r.before.before.before.before.before.before.before.before.before.before.requires.1 refl r.run.ensures.beyond
 
 same-length-2 : tie.Need-same-length-2
 same-length-2 c = search rules
@@ -56,15 +56,15 @@ same-length-4 : tie.Need-same-length-4
 same-length-4 c = search rules
 
 returns-2 : tie.Need-returns-2
-unfolding reduceBy
+unfolding reduce_by
 returns-2 c =
     let l = c.before.before.before.before.before.before.before.before in
     let r = l.before.before.before.before.before.before in
     rw c.before.before.clear2.ensures
-    (level-ends (reduce-levels refl _) r.before.before.before.before.before.before.before.before.before.before.requires.1 refl r.before.before.before.if1.false r.run.ensures l.level.ensures)
+    (level_ends (reduce_levels refl _) r.before.before.before.before.before.before.before.before.before.before.requires.1 refl r.before.before.before.if1.false r.run.ensures l.level.ensures)
 
-pub reduce-judged-spec : {M : Type 1} → statement M
-reduce-judged-spec =
+pub reduce_judged_spec : {M : Type 1} → statement M
+reduce_judged_spec =
     tie.close
     (tie.spec
     cast-d

@@ -1,12 +1,12 @@
 -- `pyramid::State::remove_stood` meets its contract: the faces are labelled on the map as it stands, and then the call goes on as the plain one.
 use mathlib.Core.Path.{◌≡◌, refl}
 use native.Mathlib.Omega.{arith}
-use Rattle.darts.specs.Calls.{reduceBy}
+use Rattle.darts.specs.Calls.{reduce_by}
 use Rattle.darts.specs.Operation.{kind_of}
-use Rattle.engine.proofs.Around.{step-perm}
-use Rattle.pyramid.proofs.Judges.{relabelled, stood-of}
-use Rattle.pyramid.proofs.OnState.{stood-ends}
-use Rattle.pyramid.proofs.ByRun.{plain-reduce}
+use Rattle.engine.proofs.Around.{step_perm}
+use Rattle.pyramid.proofs.Judges.{relabelled, stood_of}
+use Rattle.pyramid.proofs.OnState.{stood_ends}
+use Rattle.pyramid.proofs.ByRun.{plain_reduce}
 use borrow.Author.Rules.{rules}
 use Rattle.pyramid.proofs.State.remove_stood.Statement.{statement}
 use Rattle.pyramid.proofs.State.remove_stood.Tie as tie
@@ -17,13 +17,13 @@ cast-label c = search rules
 label-requires : tie.Need-label-requires
 label-requires c κs =
     let area = (c.before.before.before.before.before.before.requires.checked refl).area refl in
-    (area.room, step-perm area _ (omega arith))
+    (area.room, step_perm area _ (omega arith))
 
 reduce-judged-requires : tie.Need-reduce-judged-requires
 reduce-judged-requires c κs =
     let l = c.before.before.before.before.before in
     let j = relabelled l.before.before.before.before.before.before.before.requires (omega arith) l.label.ensures.0 in
-    (omega arith, stood-of j refl)
+    (omega arith, stood_of j refl)
 
 same_length : tie.Need-same-length
 same_length c = search rules
@@ -35,14 +35,14 @@ same-length-3 : tie.Need-same-length-3
 same-length-3 c = search rules
 
 returns : tie.Need-returns
-unfolding reduceBy kind_of
+unfolding reduce_by kind_of
 returns c =
     let l = c.before.before.before.before.before.before.before.before.before.before.before.before in
     let j = relabelled l.before.before.before.before.before.before.before.requires (omega arith) l.label.ensures.0 in
-    stood-ends _ j refl (plain-reduce _ _ _ _ _) c.before.before.before.before.before.before.reduce-judged.ensures
+    stood_ends _ j refl (plain_reduce _ _ _ _ _) c.before.before.before.before.before.before.reduce-judged.ensures
 
-pub remove-stood-spec : {M : Type 1} → statement M
-remove-stood-spec =
+pub remove_stood_spec : {M : Type 1} → statement M
+remove_stood_spec =
     tie.close
     (tie.spec
     cast-label

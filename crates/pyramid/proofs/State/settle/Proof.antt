@@ -1,7 +1,7 @@
 -- `pyramid::State::settle` meets its contract: operations were done, or undone.
 use mathlib.Core.Path.{refl, ◌∙◌}
 use native.Mathlib.Omega.{arith}
-use Rattle.pyramid.proofs.Settles.{done-most, settle-up, settle-down}
+use Rattle.pyramid.proofs.Settles.{done_most, settle_up, settle_down}
 use borrow.Author.Rules.{rules}
 use Rattle.pyramid.proofs.State.settle.Statement.{statement}
 use Rattle.pyramid.proofs.State.settle.Tie as tie
@@ -16,7 +16,7 @@ contractions-requires : tie.Need-contractions-requires
 contractions-requires c κs = search rules
 
 sub-r : tie.Need-overflow-sub-r
-sub-r c = done-most _ _ _ c.before.before.before.before.before.before.requires.after c.contractions.ensures
+sub-r c = done_most _ _ _ c.before.before.before.before.before.before.requires.after c.contractions.ensures
 
 cast-v : tie.Need-overflow-cast-v
 cast-v c = search rules
@@ -34,7 +34,7 @@ storing-requires : tie.Need-storing-requires
 storing-requires c κs = search rules
 
 returns : tie.Need-returns
-returns c = record { answer = refl; state = c.storing.ensures ∙ settle-up _ _ _ c.before.before.before.before.if1.true c.before.before.before.contractions.ensures }
+returns c = record { answer = refl; state = c.storing.ensures ∙ settle_up _ _ _ c.before.before.before.before.if1.true c.before.before.before.contractions.ensures }
 
 contractions-requires-2 : tie.Need-contractions-requires-2
 contractions-requires-2 c κs = search rules
@@ -43,13 +43,13 @@ sub-r-2 : tie.Need-overflow-sub-r-2
 sub-r-2 c = search rules
 
 sub-r-3 : tie.Need-overflow-sub-r-3
-sub-r-3 c = done-most _ _ _ c.before.before.before.before.before.before.requires.before c.contractions2.ensures
+sub-r-3 c = done_most _ _ _ c.before.before.before.before.before.before.requires.before c.contractions2.ensures
 
 cast-v-2 : tie.Need-overflow-cast-v-2
-cast-v-2 c = let k = done-most _ _ _ c.before.before.before.before.before.before.requires.before c.contractions2.ensures in omega (arith, c.before.before.before.before.before.before.requires.few)
+cast-v-2 c = let k = done_most _ _ _ c.before.before.before.before.before.before.requires.before c.contractions2.ensures in omega (arith, c.before.before.before.before.before.before.requires.few)
 
 add-v : tie.Need-overflow-add-v
-add-v c = let k = done-most _ _ _ c.before.before.before.before.before.before.before.requires.before c.before.contractions2.ensures in omega (arith, c.before.before.before.before.before.before.before.requires.few, c.before.before.before.before.before.before.before.requires.few-vertices)
+add-v c = let k = done_most _ _ _ c.before.before.before.before.before.before.before.requires.before c.before.contractions2.ensures in omega (arith, c.before.before.before.before.before.before.before.requires.few, c.before.before.before.before.before.before.before.requires.few_vertices)
 
 cast-f-2 : tie.Need-overflow-cast-f-2
 cast-f-2 c = search rules
@@ -63,10 +63,10 @@ storing-requires-2 c κs = search rules
 returns-2 : tie.Need-returns-2
 returns-2 c =
     let l = c.before.before.before.before.if1.false in
-    record { answer = refl; state = c.storing2.ensures ∙ settle-down _ _ _ (omega arith) c.before.before.before.contractions2.ensures }
+    record { answer = refl; state = c.storing2.ensures ∙ settle_down _ _ _ (omega arith) c.before.before.before.contractions2.ensures }
 
-pub settle-spec : {M : Type 1} → statement M
-settle-spec =
+pub settle_spec : {M : Type 1} → statement M
+settle_spec =
     tie.close
     (tie.spec
     cast-n

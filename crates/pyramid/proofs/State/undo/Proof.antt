@@ -1,6 +1,6 @@
 -- `pyramid::State::undo` meets its contract: it is unfold to the level below.
 use mathlib.Core.Path.{◌∙◌}
-use Rattle.pyramid.proofs.BackInside.{undo-by-unfold}
+use Rattle.pyramid.proofs.BackInside.{undo_by_unfold}
 use borrow.Author.Rules.{rules}
 use Rattle.pyramid.proofs.State.undo.Statement.{statement}
 use Rattle.pyramid.proofs.State.undo.Tie as tie
@@ -23,10 +23,10 @@ same-length-3 c = search rules
 returns : tie.Need-returns
 returns c =
     let u = c.before.before.before.before.before.before in
-    u.«unfold».ensures ∙ undo-by-unfold _ _ _ _ u.before.before.before.before.level-below.ensures
+    u.«unfold».ensures ∙ undo_by_unfold _ _ _ _ u.before.before.before.before.level_below.ensures
 
-pub undo-spec : {M : Type 1} → statement M
-undo-spec =
+pub undo_spec : {M : Type 1} → statement M
+undo_spec =
     tie.close
     (tie.spec
     level-below-requires

@@ -2,7 +2,7 @@
 mod Lts
 mod Tie
 use mathlib.Core.Path.{◌≡◌, sym, ◌∙◌}
-use Rattle.pyramid.proofs.UnfoldedWith.{undo-with}
+use Rattle.pyramid.proofs.UnfoldedWith.{undo_with_lem}
 use borrow.Author.Rules.{rules}
 use Rattle.pyramid.proofs.State.undo_with.Statement.{statement}
 use Rattle.pyramid.proofs.State.undo_with.Proof.Tie as tie
@@ -29,7 +29,7 @@ same-length-5 : tie.Need-same-length-5
 same-length-5 c = search rules
 
 returns : tie.Need-returns
-returns c = c.before.before.before.before.before.before.before.before.unfold-with.ensures ∙ undo-with _ _ _ _ _ c.before.before.before.before.before.before.before.before.before.before.before.before.before.before.level-below.ensures
+returns c = c.before.before.before.before.before.before.before.before.unfold-with.ensures ∙ undo_with_lem _ _ _ _ _ c.before.before.before.before.before.before.before.before.before.before.before.before.before.before.level_below.ensures
 
-pub undo-with-spec : {M : Type 1} → statement M
-undo-with-spec = tie.close (tie.spec level-below-requires unfold-with-requires same_length same-length-2 same-length-3 same-length-4 same-length-5 returns)
+pub undo_with_spec : {M : Type 1} → statement M
+undo_with_spec = tie.close (tie.spec level-below-requires unfold-with-requires same_length same-length-2 same-length-3 same-length-4 same-length-5 returns)

@@ -1,12 +1,12 @@
 -- `pyramid::State::unfold` meets its contract: what is judged first, or what comes once it is judged, its numbers put right.
 use mathlib.Core.Path.{◌≡◌, ◌∙◌, sym}
 use Rattle.darts.specs.Cases.{answer_of}
-use Rattle.darts.specs.Calls.{unfoldBy}
-use Rattle.laws.proofs.chained.OnLent.{toLevel}
-use Rattle.pyramid.proofs.Judges.{stood-of}
-use Rattle.pyramid.proofs.OnState.{call-refused}
-use Rattle.pyramid.proofs.BackInside.{plain-unfold}
-use Rattle.pyramid.proofs.Settles.{judged-settles, judged-settled}
+use Rattle.darts.specs.Calls.{unfold_by}
+use Rattle.laws.proofs.chained.OnLent.{to_level}
+use Rattle.pyramid.proofs.Judges.{stood_of}
+use Rattle.pyramid.proofs.OnState.{call_refused}
+use Rattle.pyramid.proofs.BackInside.{plain_unfold}
+use Rattle.pyramid.proofs.Settles.{judged_settles, judged_settled}
 use borrow.Author.Rules.{rules}
 use Rattle.pyramid.proofs.State.unfold.Statement.{statement}
 use Rattle.pyramid.proofs.State.unfold.Tie as tie
@@ -30,9 +30,9 @@ same-length-3 : tie.Need-same-length-3
 same-length-3 c = search rules
 
 returns : tie.Need-returns
-unfolding unfoldBy
+unfolding unfold_by
 returns c =
-    call-refused _ c.before.before.before.before.before.judged.ensures (λ z. c.before.if1.true (c.before.before.number.ensures ∙ z)) c.kept.ensures
+    call_refused _ c.before.before.before.before.before.judged.ensures (λ z. c.before.if1.true (c.before.before.number.ensures ∙ z)) c.kept.ensures
 
 -- judged, and done
 fine : (c : tie.Else1) → (answer_of c.before.before.before.before.judged.result).number ≡ 0
@@ -41,7 +41,7 @@ fine c = sym c.before.number.ensures ∙ c.if1.false
 unfold-judged-requires : tie.Need-unfold-judged-requires
 unfold-judged-requires c κs =
     let e = c.before.before.before in
-    stood-of e.before.before.before.before.judged.ensures (fine e)
+    stood_of e.before.before.before.before.judged.ensures (fine e)
 
 settle-requires : tie.Need-settle-requires
 settle-requires c κs =
@@ -49,7 +49,7 @@ settle-requires c κs =
     let e = c.before.before.before.before.before.before.before.before.before.before.before in
     let j = e.before.before.before.before in
     let o = c.before.before.before.before.before.before.before.unfold-judged in
-    judged-settles (toLevel g.level) j.judged.ensures (fine e) (plain-unfold _ _ _ _) o.result o.ensures
+    judged_settles (to_level g.level) j.judged.ensures (fine e) (plain_unfold _ _ _ _) o.result o.ensures
 
 same-length-4 : tie.Need-same-length-4
 same-length-4 c = search rules
@@ -66,10 +66,10 @@ returns-2 c =
     let e = c.before.before.before.before.before.before.before.before.before.before.before.before in
     let j = e.before.before.before.before in
     let o = c.before.before.before.before.before.before.before.before.unfold-judged in
-    judged-settled (toLevel g.level) j.judged.ensures (fine e) (plain-unfold _ _ _ _) o.result o.ensures c.settle.ensures
+    judged_settled (to_level g.level) j.judged.ensures (fine e) (plain_unfold _ _ _ _) o.result o.ensures c.settle.ensures
 
-pub unfold-spec : {M : Type 1} → statement M
-unfold-spec =
+pub unfold_spec : {M : Type 1} → statement M
+unfold_spec =
     tie.close
     (tie.spec
     judged-requires

@@ -3,17 +3,17 @@ mod Lts
 mod Tie
 use mathlib.Core.Path.{◌≡◌, refl, sym, ◌∙◌}
 use native.Mathlib.Omega.{arith}
-use Rattle.darts.specs.Calls.{unfoldBy}
+use Rattle.darts.specs.Calls.{unfold_by}
 use Rattle.darts.specs.Cases.{answer_of}
-use Rattle.darts.specs.Levels.{unfoldTo}
-use Rattle.laws.proofs.runs.Pyramids.{pyramid-built}
-use Rattle.laws.proofs.chained.OnLent.{toLevel}
-use Rattle.yarn.specs.Calls.{unfoldWith}
-use Rattle.pyramid.proofs.BackInside.{plain-unfold}
-use Rattle.pyramid.proofs.JudgesWith.{costed-of}
-use Rattle.pyramid.proofs.OnSheets.{with-done, with-refused, with-settles, with-settled}
-use Rattle.pyramid.proofs.Judges.{any-kind}
-use Rattle.pyramid.proofs.UnfoldedWith.{unfold-noted, unfolded-sheets}
+use Rattle.darts.specs.Levels.{unfold_to}
+use Rattle.laws.proofs.runs.Pyramids.{pyramid_built}
+use Rattle.laws.proofs.chained.OnLent.{to_level}
+use Rattle.yarn.specs.Calls.{unfold_with}
+use Rattle.pyramid.proofs.BackInside.{plain_unfold}
+use Rattle.pyramid.proofs.JudgesWith.{costed_of}
+use Rattle.pyramid.proofs.OnSheets.{with_done, with_refused, with_settles, with_settled}
+use Rattle.pyramid.proofs.Judges.{any_kind}
+use Rattle.pyramid.proofs.UnfoldedWith.{unfold_noted, unfolded_sheets}
 use borrow.Author.Rules.{rules}
 use Rattle.pyramid.proofs.State.unfold_with.Statement.{statement}
 use Rattle.pyramid.proofs.State.unfold_with.Proof.Tie as tie
@@ -45,7 +45,7 @@ same-length-5 c = search rules
 returns : tie.Need-returns
 returns c =
     let g = c.before.before.before.before.before.before.before.before.before.before.before.before.before.before.args in
-    with-refused (toLevel g.level) c.before.before.before.before.before.judged-with.ensures (λ z. c.before.if1.true (c.before.before.number.ensures ∙ z)) c.kept.ensures
+    with_refused (to_level g.level) c.before.before.before.before.before.judged-with.ensures (λ z. c.before.if1.true (c.before.before.number.ensures ∙ z)) c.kept.ensures
 
 -- judged, and done
 fine : (c : tie.Else1) → (answer_of c.before.before.before.before.judged-with.result).number ≡ 0
@@ -60,7 +60,7 @@ cast-n c = search rules
 operations-at-requires : tie.Need-operations-at-requires
 operations-at-requires c κs =
     let e = c.before.before in
-    (pyramid-built (costed-of e.before.before.before.before.judged-with.ensures (fine e)).lent.pyramid).layered.most
+    (pyramid_built (costed_of e.before.before.before.before.judged-with.ensures (fine e)).lent.pyramid).layered.most
 
 cast-m : tie.Need-overflow-cast-m
 cast-m c = search rules
@@ -69,17 +69,17 @@ put-all-back-requires : tie.Need-put-all-back-requires
 put-all-back-requires c κs =
     let e = c.before.before.before.before.before.before in
     let j = e.before.before.before.before.judged-with.ensures in
-    let room = (costed-of j (fine e)).room in
+    let room = (costed_of j (fine e)).room in
     let area = ((j.stood (fine e)).stood.checked refl).area refl in
-    (rw c.before.before.before.operations-at.ensures (unfold-noted (j.stood (fine e)) _), room.sheet, omega (arith, room.kept, area.few))
+    (rw c.before.before.before.operations-at.ensures (unfold_noted (j.stood (fine e)) _), room.sheet, omega (arith, room.kept, area.few))
 
 unfold-judged-requires : tie.Need-unfold-judged-requires
 unfold-judged-requires c κs =
     let e = c.before.before.before.before.before.before.before.before.before.before.before in
-    any-kind (e.before.before.before.before.judged-with.ensures.stood (fine e)).stood
+    any_kind (e.before.before.before.before.judged-with.ensures.stood (fine e)).stood
 
 settle-requires : tie.Need-settle-requires
-unfolding unfoldWith unfoldBy
+unfolding unfold_with unfold_by
 settle-requires c κs =
     let e = c.before.before.before.before.before.before.before.before.before.before.before.before.before.before.before.before.before.before.before in
     let g = e.before.before.before.before.before.before.before.before.before.before.before.before.before.args in
@@ -87,8 +87,8 @@ settle-requires c κs =
     let o = c.before.before.before.before.before.before.before.unfold-judged in
     let back = c.before.before.before.before.before.before.before.before.before.before.before.before.put-all-back.ensures in
     let at = c.before.before.before.before.before.before.before.before.before.before.before.before.before.before.before.before.operations-at.ensures in
-    with-settles (toLevel g.level) j (fine e) o.result
-    (with-done (unfoldTo g.level) j (fine e) (plain-unfold _ _ _ _) o.ensures (sym back ∙ rw at (unfolded-sheets (j.stood (fine e)) _ _)))
+    with_settles (to_level g.level) j (fine e) o.result
+    (with_done (unfold_to g.level) j (fine e) (plain_unfold _ _ _ _) o.ensures (sym back ∙ rw at (unfolded_sheets (j.stood (fine e)) _ _)))
 
 same-length-6 : tie.Need-same-length-6
 same-length-6 c = search rules
@@ -106,7 +106,7 @@ same-length-10 : tie.Need-same-length-10
 same-length-10 c = search rules
 
 returns-2 : tie.Need-returns-2
-unfolding unfoldWith unfoldBy
+unfolding unfold_with unfold_by
 returns-2 c =
     let e = c.before.before.before.before.before.before.before.before.before.before.before.before.before.before.before.before.before.before.before.before in
     let g = e.before.before.before.before.before.before.before.before.before.before.before.before.before.args in
@@ -114,9 +114,9 @@ returns-2 c =
     let o = c.before.before.before.before.before.before.before.before.unfold-judged in
     let back = c.before.before.before.before.before.before.before.before.before.before.before.before.before.put-all-back.ensures in
     let at = c.before.before.before.before.before.before.before.before.before.before.before.before.before.before.before.before.before.operations-at.ensures in
-    with-settled (toLevel g.level) j (fine e) o.result
-    (with-done (unfoldTo g.level) j (fine e) (plain-unfold _ _ _ _) o.ensures (sym back ∙ rw at (unfolded-sheets (j.stood (fine e)) _ _)))
+    with_settled (to_level g.level) j (fine e) o.result
+    (with_done (unfold_to g.level) j (fine e) (plain_unfold _ _ _ _) o.ensures (sym back ∙ rw at (unfolded_sheets (j.stood (fine e)) _ _)))
     c.settle.ensures
 
-pub unfold-with-spec : {M : Type 1} → statement M
-unfold-with-spec = tie.close (tie.spec judged-with-requires number-requires kept-requires same_length same-length-2 same-length-3 same-length-4 same-length-5 returns cast-d cast-n operations-at-requires cast-m put-all-back-requires unfold-judged-requires settle-requires same-length-6 same-length-7 same-length-8 same-length-9 same-length-10 returns-2)
+pub unfold_with_spec : {M : Type 1} → statement M
+unfold_with_spec = tie.close (tie.spec judged-with-requires number-requires kept-requires same_length same-length-2 same-length-3 same-length-4 same-length-5 returns cast-d cast-n operations-at-requires cast-m put-all-back-requires unfold-judged-requires settle-requires same-length-6 same-length-7 same-length-8 same-length-9 same-length-10 returns-2)

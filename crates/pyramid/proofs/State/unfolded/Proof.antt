@@ -4,7 +4,7 @@ use Prim.Native.Nat.{◌-◌}
 use native.Mathlib.Omega.{arith}
 use borrow.Author.Rules.{rules}
 use Rattle.pyramid.specs.Values.{state_of}
-use Rattle.pyramid.proofs.Lowering.{Falling, falling-start, falling-more, falling-end}
+use Rattle.pyramid.proofs.Lowering.{Falling, falling_start, falling_more, falling_end}
 use Rattle.pyramid.proofs.State.unfolded.Statement.{statement}
 use Rattle.pyramid.proofs.State.unfolded.Tie as tie
 
@@ -15,7 +15,7 @@ abbrev decreases-loop : tie.decreases-loop
 decreases-loop level work₀ s₀ left₀ work s left = left
 
 loop-holds : tie.Need-loop-init invariant-loop decreases-loop
-loop-holds c = (falling-start c.before.args.level c.before.requires, refl)
+loop-holds c = (falling_start c.before.args.level c.before.requires, refl)
 
 lower-requires : tie.Need-lower-requires invariant-loop decreases-loop
 lower-requires c κs =
@@ -33,7 +33,7 @@ loop-again c =
     let a = c.before.before.before.before.before.loop in
     let l = c.before.before.lower.ensures in
     let e = a.invariant.1 in
-    (falling-more a.invariant.0 (omega arith) l, let k = l.levels in omega arith)
+    (falling_more a.invariant.0 (omega arith) l, let k = l.levels in omega arith)
 
 same_length : tie.Need-same-length invariant-loop decreases-loop
 same_length c = search rules
@@ -42,10 +42,10 @@ returns : tie.Need-returns invariant-loop decreases-loop
 returns c =
     let a = c.before.loop in
     let e = a.invariant.1 in
-    falling-end a.invariant.0 (omega arith)
+    falling_end a.invariant.0 (omega arith)
 
-pub unfolded-spec : {M : Type 1} → statement M
-unfolded-spec =
+pub unfolded_spec : {M : Type 1} → statement M
+unfolded_spec =
     tie.close
     (tie.spec
     invariant-loop

@@ -8,7 +8,7 @@ use lib.IntN.{ℤ, pos, ◌+ℤ◌, ◌-ℤ◌}
 use mir.Facts.{to_z_pos, to_z-of_z}
 use mir.Syntax.{w32}
 use mir.Val.{SFits, to_z, of_z}
-use Rattle.pyramid.proofs.Signed.{mag-sub, mag-add, fits-32}
+use Rattle.pyramid.proofs.Signed.{mag_sub, mag_add, fits_32}
 use Rattle.pyramid.proofs.counting.tallied.Statement.{statement}
 use Rattle.pyramid.proofs.counting.tallied.Tie as tie
 
@@ -18,10 +18,10 @@ plain n h = to_z_pos w32 (let l : 65536 < 2 ^ 31 = lit< tt in omega arith)
 
 module _ (v e f : ℕ) (hv : v ≤ 65536) (he : e ≤ 65536) (hf : f ≤ 65536) where
   below : SFits w32 (pos v -ℤ pos e)
-  below = let h = mag-sub v e in fits-32 h (omega arith)
+  below = let h = mag_sub v e in fits_32 h (omega arith)
 
   whole : SFits w32 (pos v -ℤ pos e +ℤ pos f)
-  whole = let h = mag-sub v e in let k = mag-add (pos v -ℤ pos e) f in fits-32 k (omega arith)
+  whole = let h = mag_sub v e in let k = mag_add (pos v -ℤ pos e) f in fits_32 k (omega arith)
 
   difference : SFits w32 (to_z w32 v -ℤ to_z w32 e)
   difference = rw (plain v hv, plain e he) below
@@ -56,5 +56,5 @@ returns c =
     ap (λ (x : ℤ). record { darts = g.darts; vertices = g.vertices; faces = g.faces; euler = x })
     (result g.vertices (g.darts / 2) g.faces c.requires.1 (omega arith) c.requires.2)
 
-pub tallied-spec : {M : Type 1} → statement M
-tallied-spec = tie.close (tie.spec cast-v cast-e cast_f sub-euler add-euler returns)
+pub tallied_spec : {M : Type 1} → statement M
+tallied_spec = tie.close (tie.spec cast-v cast-e cast_f sub-euler add-euler returns)

@@ -19,5 +19,5 @@ returns-2 : tie.Need-returns-2
 unfolding kind_of
 returns-2 c = (lit≤ tt, rw c.enum-told2.given.1)
 
-pub bit-spec : {M : Type 1} → statement M
-bit-spec = tie.close (tie.spec enum_told enum-told-2 returns returns-2)
+pub bit_spec : {M : Type 1} → statement M
+bit_spec = tie.close (tie.spec enum_told enum-told-2 returns returns-2)

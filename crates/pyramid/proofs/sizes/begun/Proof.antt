@@ -16,5 +16,5 @@ based-requires c κs = search rules
 returns-2 : tie.Need-returns-2
 returns-2 c = record { unfit = λ l. absurd (omega (arith, c.before.if1.false)); fit = λ _. c.based.ensures }
 
-pub begun-spec : {M : Type 1} → statement M
-begun-spec = tie.close (tie.spec unbased-requires returns based-requires returns-2)
+pub begun_spec : {M : Type 1} → statement M
+begun_spec = tie.close (tie.spec unbased-requires returns based-requires returns-2)

@@ -3,8 +3,8 @@ use mathlib.Core.Path.{◌∙◌, ap, sym}
 use native.Mathlib.Omega.{arith}
 use Rattle.darts.specs.Answers.{Answer as Answered}
 use Rattle.darts.proofs.Fitting.{fits}
-use Rattle.area.specs.Verdicts.{verdictOf}
-use Rattle.pyramid.proofs.Started.{tested-few, start-refused, start-bad, start-done}
+use Rattle.area.specs.Verdicts.{verdict_of}
+use Rattle.pyramid.proofs.Started.{tested_few, start_refused, start_bad, start_done}
 use borrow.Author.Rules.{rules}
 use Rattle.pyramid.proofs.starting.start.Statement.{statement}
 use Rattle.pyramid.proofs.starting.start.Tie as tie
@@ -24,7 +24,7 @@ returns c =
     let f = c.before.before.before.fit.ensures in
     let n = c.before.before.number.ensures in
     let b = c.unbased.ensures in
-    start-refused g.darts g.table.now g.history.now g.work.now c.unbased.result
+    start_refused g.darts g.table.now g.history.now g.work.now c.unbased.result
     (λ z. c.before.if1.true (n ∙ ap (λ (a : Answered). a.number) f ∙ z))
     (record { answer = b.answer ∙ f; state = b.state })
 
@@ -45,7 +45,7 @@ cast-based c =
     let f = c.before.before.before.before.before.before.before.before.before.before.fit.ensures in
     let n = c.before.before.before.before.before.before.before.before.before.number.ensures in
     let k = fits _ _ _ _ (sym (ap (λ (a : Answered). a.number) f) ∙ sym n ∙ c.before.before.before.before.before.before.before.before.if1.false) in
-    let few = (tested-few _ _ c.before.before.before.before.before.test-base.ensures.1.0 c.before.enum_told.given.1 k.count.small).0 in
+    let few = (tested_few _ _ c.before.before.before.before.before.test-base.ensures.1.0 c.before.enum_told.given.1 k.count.small).0 in
     omega arith
 
 cast-based-2 : tie.Need-overflow-cast-based-2
@@ -53,7 +53,7 @@ cast-based-2 c =
     let f = c.before.before.before.before.before.before.before.before.before.before.before.fit.ensures in
     let n = c.before.before.before.before.before.before.before.before.before.before.number.ensures in
     let k = fits _ _ _ _ (sym (ap (λ (a : Answered). a.number) f) ∙ sym n ∙ c.before.before.before.before.before.before.before.before.before.if1.false) in
-    let few = (tested-few _ _ c.before.before.before.before.before.before.test-base.ensures.1.0 c.before.before.enum_told.given.1 k.count.small).1 in
+    let few = (tested_few _ _ c.before.before.before.before.before.before.test-base.ensures.1.0 c.before.before.enum_told.given.1 k.count.small).1 in
     omega arith
 
 based-requires : tie.Need-based-requires
@@ -79,9 +79,9 @@ returns-2 c =
     let f = judged.before.before.fit.ensures in
     let b = c.before.before.before.before.before.before.before.test-base.ensures in
     rw b.1.1
-    (start-done g.darts g.table.now g.history.now g.work.now
+    (start_done g.darts g.table.now g.history.now g.work.now
     (sym (ap (λ (a : Answered). a.number) f) ∙ sym judged.before.number.ensures ∙ judged.if1.false)
-    c.based.result (ap verdictOf (sym told) ∙ b.0) (b.1.0 (ap verdictOf told)) c.based.ensures)
+    c.based.result (ap verdict_of (sym told) ∙ b.0) (b.1.0 (ap verdict_of told)) c.based.ensures)
 
 same-length-3 : tie.Need-same-length-3
 same-length-3 c = search rules
@@ -96,9 +96,9 @@ returns-3 c =
     let f = judged.before.before.fit.ensures in
     let b = c.before.before.before.before.before.before.test-base.ensures in
     rw b.1.1
-    (start-bad g.darts g.table.now g.history.now g.work.now
+    (start_bad g.darts g.table.now g.history.now g.work.now
     (sym (ap (λ (a : Answered). a.number) f) ∙ sym judged.before.number.ensures ∙ judged.if1.false)
-    c.unbased2.result (ap verdictOf (sym c.before.before.verdict.given.1) ∙ b.0) c.unbased2.ensures)
+    c.unbased2.result (ap verdict_of (sym c.before.before.verdict.given.1) ∙ b.0) c.unbased2.ensures)
 
 pub start_spec : {M : Type 1} → statement M
 start_spec =

@@ -7,7 +7,7 @@ use Prim.Native.Nat.{ℕ}
 use native.Mathlib.Omega.{arith}
 use Rattle.darts.specs.Cases.{answer_of}
 use Rattle.sheets.specs.Sheets.{Sheets}
-use Rattle.pyramid.proofs.StartsWith.{start_first, unfit-asks, finish-asks, few-fit, start-ends}
+use Rattle.pyramid.proofs.StartsWith.{start_first, unfit_asks, finish_asks, few_fit, start_ends}
 use borrow.Author.Rules.{rules}
 use Rattle.pyramid.proofs.starting_with.start_with.Statement.{statement}
 use Rattle.pyramid.proofs.starting_with.start_with.Proof.Tie as tie
@@ -62,28 +62,28 @@ first-unfit-requires : tie.Need-first-unfit-requires
 first-unfit-requires c κs =
     let e = c.before.before in
     let k = e.before.before.before.before in
-    unfit-asks k.begin-with.ensures.0 (history e) (sheets e) refl e.before.before.before.before.before.before.before.before.before.records.ensures e.before.before.before.before.before.before.before.records2.ensures (fine e)
+    unfit_asks k.begin-with.ensures.0 (history e) (sheets e) refl e.before.before.before.before.before.before.before.before.before.records.ensures e.before.before.before.before.before.before.before.records2.ensures (fine e)
 
 -- a base has at most D vertices and at most D faces
 cast-finish : tie.Need-overflow-cast-finish
 cast-finish c =
     let e = c.before.before.before.before in
     let k = e.before.before.before.before in
-    let few = (few-fit k.begin-with.ensures.0 (fine e) (k.begin-with.ensures.1 (fine e))).0 in
+    let few = (few_fit k.begin-with.ensures.0 (fine e) (k.begin-with.ensures.1 (fine e))).0 in
     omega arith
 
 cast-finish-2 : tie.Need-overflow-cast-finish-2
 cast-finish-2 c =
     let e = c.before.before.before.before.before in
     let k = e.before.before.before.before in
-    let few = (few-fit k.begin-with.ensures.0 (fine e) (k.begin-with.ensures.1 (fine e))).1 in
+    let few = (few_fit k.begin-with.ensures.0 (fine e) (k.begin-with.ensures.1 (fine e))).1 in
     omega arith
 
 finish-requires : tie.Need-finish-requires
 finish-requires c κs =
     let e = c.before.before.before.before.before.before in
     let k = e.before.before.before.before in
-    finish-asks k.begin-with.ensures.0 (history e) (sheets e) refl e.before.before.before.before.before.before.before.before.before.records.ensures e.before.before.before.before.before.before.before.records2.ensures (fine e)
+    finish_asks k.begin-with.ensures.0 (history e) (sheets e) refl e.before.before.before.before.before.before.before.before.before.records.ensures e.before.before.before.before.before.before.before.records2.ensures (fine e)
 
 same-length-5 : tie.Need-same-length-5
 same-length-5 c = search rules
@@ -101,7 +101,7 @@ returns-2 : tie.Need-returns-2
 returns-2 c =
     let e = c.before.before.before.before.before.before.before.before.before in
     let k = e.before.before.before.before in
-    start-ends k.begin-with.ensures.0 (history e) (sheets e) refl e.before.before.before.before.before.before.before.before.before.records.ensures e.before.before.before.before.before.before.before.records2.ensures (fine e) (k.begin-with.ensures.1 (fine e)) c.before.before.before.before.before.before.first-unfit.ensures c.before.before.finish.ensures
+    start_ends k.begin-with.ensures.0 (history e) (sheets e) refl e.before.before.before.before.before.before.before.before.before.records.ensures e.before.before.before.before.before.before.before.records2.ensures (fine e) (k.begin-with.ensures.1 (fine e)) c.before.before.before.before.before.before.first-unfit.ensures c.before.before.finish.ensures
 
-pub start-with-spec : {M : Type 1} → statement M
-start-with-spec = tie.close (tie.spec records-requires records-requires-2 begin-with-requires number-requires unbased-requires same_length same-length-2 same-length-3 same-length-4 returns first-unfit-requires cast-finish cast-finish-2 finish-requires same-length-5 same-length-6 same-length-7 same-length-8 returns-2)
+pub start_with_spec : {M : Type 1} → statement M
+start_with_spec = tie.close (tie.spec records-requires records-requires-2 begin-with-requires number-requires unbased-requires same_length same-length-2 same-length-3 same-length-4 returns first-unfit-requires cast-finish cast-finish-2 finish-requires same-length-5 same-length-6 same-length-7 same-length-8 returns-2)

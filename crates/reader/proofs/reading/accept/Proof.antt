@@ -44,8 +44,8 @@ returns c =
       history = rw (take_part (3 * s.args.d) s.args.n s.args.work.now (omega arith)) at c.before.before.copy.ensures;
     }
 
-pub accept-spec : {M : Type 1} → statement M
-accept-spec =
+pub accept_spec : {M : Type 1} → statement M
+accept_spec =
     tie.close
     (tie.spec
     pairs-requires

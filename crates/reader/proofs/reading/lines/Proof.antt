@@ -1,6 +1,6 @@
 -- `reader::reading::lines` meets its contract: two parts of the work area are lent one after the other.
 use borrow.Author.Rules.{rules}
-use Rattle.reader.proofs.BodyLines.{kernels-wrong, pairs-wrong, lines-right}
+use Rattle.reader.proofs.BodyLines.{kernels_wrong, pairs_wrong, lines_right}
 use Rattle.reader.proofs.reading.lines.Statement.{statement}
 use Rattle.reader.proofs.reading.lines.Tie as tie
 
@@ -56,7 +56,7 @@ returns : tie.Need-returns
 returns c =
     let s = c.before.before.before.before.before.before.before.before.before.before in
     let k = c.before.before.before.before.before.before.kernels in
-    kernels-wrong s.args.flag s.requires.0 k.auto.1.1.1.1.0 k.ensures c.before.read.given.1
+    kernels_wrong s.args.flag s.requires.0 k.auto.1.1.1.1.0 k.ensures c.before.read.given.1
 
 same-length-2 : tie.Need-same-length-2
 same-length-2 c = search rules
@@ -66,7 +66,7 @@ returns-2 c =
     let s = c.before.before.before.before.before.before.before.before.before.before.before.before.before.before.before.before.before in
     let k = c.before.before.before.before.before.before.before.before.before.before.before.before.before.kernels in
     let l = c.before.before.before.before.before.last-pairs in
-    pairs-wrong s.args.flag s.requires.0 k.auto.1.1.1.1.0 k.ensures c.before.before.before.before.before.before.before.before.read2.given.1 l.auto.1.1.1.1.0 l.ensures
+    pairs_wrong s.args.flag s.requires.0 k.auto.1.1.1.1.0 k.ensures c.before.before.before.before.before.before.before.before.read2.given.1 l.auto.1.1.1.1.0 l.ensures
     c.before.answer.given.1
 
 same-length-3 : tie.Need-same-length-3
@@ -77,11 +77,11 @@ returns-3 c =
     let s = c.before.before.before.before.before.before.before.before.before.before.before.before.before.before.before.before in
     let k = c.before.before.before.before.before.before.before.before.before.before.before.before.kernels in
     let l = c.before.before.before.before.last-pairs in
-    lines-right s.args.flag s.requires.0 k.auto.1.1.1.1.0 k.ensures c.before.before.before.before.before.before.before.read2.given.1 l.auto.1.1.1.1.0 l.ensures
+    lines_right s.args.flag s.requires.0 k.auto.1.1.1.1.0 k.ensures c.before.before.before.before.before.before.before.read2.given.1 l.auto.1.1.1.1.0 l.ensures
     s.requires.1 c.enum_told.given.1
 
-pub lines-spec : {M : Type 1} → statement M
-lines-spec =
+pub lines_spec : {M : Type 1} → statement M
+lines_spec =
     tie.close
     (tie.spec
     mul-from

@@ -1,11 +1,11 @@
 -- `reader::reading::read_inside` meets its contract: a fault in the body, or what the work area holds is judged.
 use mathlib.Core.Path.{◌∙◌}
 use borrow.Author.Rules.{rules}
-use Rattle.engine.proofs.Area.{room-kept}
-use Rattle.engine.proofs.Ready.{beyond-trans}
+use Rattle.engine.proofs.Area.{room_kept}
+use Rattle.engine.proofs.Ready.{beyond_trans}
 use Rattle.pyramid.proofs.Started.{hands}
 use Rattle.file_lines.specs.Lines.{starts_with}
-use Rattle.reader.proofs.ReadEnds.{closed-fault}
+use Rattle.reader.proofs.ReadEnds.{closed_fault}
 use Rattle.reader.proofs.reading.read_inside.Statement.{statement}
 use Rattle.reader.proofs.reading.read_inside.Tie as tie
 
@@ -27,7 +27,7 @@ settle-requires c κs =
     let p = e.before.before.before.before.before in
     let s = p.before.before.before.before.before.before in
     let k = p.parse.ensures in
-    (room-kept _ _ k.beyond.size s.requires.0, (s.requires.1.0, s.requires.1.1, (k.right e.read2.given.1).few))
+    (room_kept _ _ k.beyond.size s.requires.0, (s.requires.1.0, s.requires.1.1, (k.right e.read2.given.1).few))
 
 same_length : tie.Need-same-length
 same_length c = search rules
@@ -38,7 +38,7 @@ returns c =
     let g = p.before.before.before.before.before.before.args in
     let r = c.unbased in
     let k = p.parse.ensures in
-    (hands r.result r.ensures _ _ _ ∙ closed-fault _ _ _ (starts_with g.flag g.d) (k.wrong c.before.before.read.given.1), k.beyond)
+    (hands r.result r.ensures _ _ _ ∙ closed_fault _ _ _ (starts_with g.flag g.d) (k.wrong c.before.before.read.given.1), k.beyond)
 
 same-length-2 : tie.Need-same-length-2
 same-length-2 c = search rules
@@ -55,10 +55,10 @@ returns-2 c =
     let e = d.before.before.before.before.before in
     let k = e.before.before.before.before.before.parse.ensures in
     let z = d.settle.ensures in
-    (z.whole _ (k.right e.read2.given.1) _, beyond-trans k.beyond z.beyond)
+    (z.whole _ (k.right e.read2.given.1) _, beyond_trans k.beyond z.beyond)
 
-pub read-inside-spec : {M : Type 1} → statement M
-read-inside-spec =
+pub read_inside_spec : {M : Type 1} → statement M
+read_inside_spec =
     tie.close
     (tie.spec
     parse-requires

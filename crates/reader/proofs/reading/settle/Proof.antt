@@ -2,9 +2,9 @@
 use mathlib.Core.Path.{◌∙◌}
 use native.Mathlib.Omega.{arith}
 use borrow.Author.Rules.{rules}
-use Rattle.engine.proofs.Ready.{beyond-refl}
+use Rattle.engine.proofs.Ready.{beyond_refl}
 use Rattle.pyramid.proofs.Started.{hands}
-use Rattle.reader.proofs.Settles.{settle-many, settle-none, settle-all}
+use Rattle.reader.proofs.Settles.{settle_many, settle_none, settle_all}
 use Rattle.reader.proofs.reading.settle.Statement.{statement}
 use Rattle.reader.proofs.reading.settle.Tie as tie
 
@@ -16,8 +16,8 @@ returns c =
     let g = c.before.before.before.before.before.before.args in
     let r = c.unbased in
     record {
-      whole = λ z H v. hands r.result r.ensures _ _ _ ∙ settle-many H g.table.now g.history.now v c.before.if1.true;
-      beyond = beyond-refl g.state.darts g.work.now;
+      whole = λ z H v. hands r.result r.ensures _ _ _ ∙ settle_many H g.table.now g.history.now v c.before.if1.true;
+      beyond = beyond_refl g.state.darts g.work.now;
     }
 
 check-laid-requires : tie.Need-check-laid-requires
@@ -40,14 +40,14 @@ cast-t27 c =
     let e = c.before.before.before.before.before.before.before.before.before.before.before in
     let d = e.before.before.before in
     let found = d.check-laid.ensures.1 e.if2.true in
-    omega (arith, found.few-vertices, d.before.before.before.before.before.before.before.requires.0.small)
+    omega (arith, found.few_vertices, d.before.before.before.before.before.before.before.requires.0.small)
 
 cast-t28 : tie.Need-overflow-cast-t28
 cast-t28 c =
     let e = c.before.before.before.before.before.before.before.before.before.before.before.before in
     let d = e.before.before.before in
     let found = d.check-laid.ensures.1 e.if2.true in
-    omega (arith, found.few-faces, d.before.before.before.before.before.before.before.requires.0.small)
+    omega (arith, found.few_faces, d.before.before.before.before.before.before.before.requires.0.small)
 
 same_length : tie.Need-same-length
 same_length c = search rules
@@ -67,7 +67,7 @@ returns-2 c =
     let k = d.check-laid.ensures in
     let yes = e.before.before.before.before.if2.true in
     record {
-      whole = λ z H v. settle-all H g.table.now g.history.now v d.before.before.if1.false k.0 yes e.accept.ensures (k.1 yes);
+      whole = λ z H v. settle_all H g.table.now g.history.now v d.before.before.if1.false k.0 yes e.accept.ensures (k.1 yes);
       beyond = k.0.beyond;
     }
 
@@ -86,12 +86,12 @@ returns-3 c =
     record {
       whole = λ z H v.
           hands r.result r.ensures _ _ _
-          ∙ settle-none H g.table.now g.history.now v d.before.before.if1.false k.0 c.before.if2.false;
+          ∙ settle_none H g.table.now g.history.now v d.before.before.if1.false k.0 c.before.if2.false;
       beyond = k.0.beyond;
     }
 
-pub settle-spec : {M : Type 1} → statement M
-settle-spec =
+pub settle_spec : {M : Type 1} → statement M
+settle_spec =
     tie.close
     (tie.spec
     unbased-requires

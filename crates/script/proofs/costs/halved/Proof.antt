@@ -24,5 +24,5 @@ loop-again c = search rules
 returns : tie.Need-returns invariant-loop decreases-loop
 returns c = search rules
 
-pub halved-spec : {M : Type 1} → statement M
-halved-spec = tie.close (tie.spec invariant-loop decreases-loop loop-holds sub-left loop-less loop-again returns)
+pub halved_spec : {M : Type 1} → statement M
+halved_spec = tie.close (tie.spec invariant-loop decreases-loop loop-holds sub-left loop-less loop-again returns)

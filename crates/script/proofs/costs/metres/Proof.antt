@@ -1,6 +1,6 @@
 -- `script::costs::metres`: bits are read only of metres that are no NaN.
 use borrow.Author.Rules.{rules}
-use Rattle.script.proofs.NoNan.{not-nan}
+use Rattle.script.proofs.NoNan.{not_nan}
 use Rattle.script.proofs.costs.metres.Statement.{statement}
 use Rattle.script.proofs.costs.metres.Tie as tie
 
@@ -41,7 +41,7 @@ returns-3 : tie.Need-returns-3
 returns-3 c = search rules
 
 float-to-bits-thousandths : tie.Need-float-to-bits-thousandths
-float-to-bits-thousandths c = not-nan _ c.before.before.before.if1.false
+float-to-bits-thousandths c = not_nan _ c.before.before.before.if1.false
 
 thousandths-requires : tie.Need-thousandths-requires
 thousandths-requires c κs = search rules
@@ -55,8 +55,8 @@ same-length-4 c = search rules
 returns-4 : tie.Need-returns-4
 returns-4 c = search rules
 
-pub metres-spec : {M : Type 1} → statement M
-metres-spec =
+pub metres_spec : {M : Type 1} → statement M
+metres_spec =
     tie.close
     (tie.spec
     slice-aggregate-text

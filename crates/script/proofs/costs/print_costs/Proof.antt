@@ -45,5 +45,5 @@ loop-again-2 c = search rules
 returns : tie.Need-returns invariant-loop decreases-loop
 returns c = search rules
 
-pub print-costs-spec : {M : Type 1} → statement M
-print-costs-spec = tie.close (tie.spec invariant-loop decreases-loop loop-holds at-requires record-at-requires print-cost-requires add-x loop-less loop-again add-x-2 loop-less-2 loop-again-2 returns)
+pub print_costs_spec : {M : Type 1} → statement M
+print_costs_spec = tie.close (tie.spec invariant-loop decreases-loop loop-holds at-requires record-at-requires print-cost-requires add-x loop-less loop-again add-x-2 loop-less-2 loop-again-2 returns)

@@ -43,8 +43,8 @@ same_length c = search rules
 returns : tie.Need-returns invariant-loop decreases-loop
 returns c = search rules
 
-pub pair-contracted-spec : {M : Type 1} → statement M
-pair-contracted-spec =
+pub pair_contracted_spec : {M : Type 1} → statement M
+pair_contracted_spec =
     tie.close
     (tie.spec
     invariant-loop

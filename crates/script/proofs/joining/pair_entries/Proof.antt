@@ -43,8 +43,8 @@ same_length c = search rules
 returns : tie.Need-returns invariant-loop decreases-loop
 returns c = search rules
 
-pub pair-entries-spec : {M : Type 1} → statement M
-pair-entries-spec =
+pub pair_entries_spec : {M : Type 1} → statement M
+pair_entries_spec =
     tie.close
     (tie.spec
     invariant-loop

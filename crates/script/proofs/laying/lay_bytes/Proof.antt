@@ -48,8 +48,8 @@ same-length-2 c = search rules
 returns-2 : tie.Need-returns-2 invariant-loop decreases-loop
 returns-2 c = search rules
 
-pub lay-bytes-spec : {M : Type 1} → statement M
-lay-bytes-spec =
+pub lay_bytes_spec : {M : Type 1} → statement M
+lay_bytes_spec =
     tie.close
     (tie.spec
     invariant-loop

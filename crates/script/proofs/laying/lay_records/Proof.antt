@@ -47,5 +47,5 @@ same_length c = search rules
 returns : tie.Need-returns invariant-loop decreases-loop
 returns c = search rules
 
-pub lay-records-spec : {M : Type 1} → statement M
-lay-records-spec = tie.close (tie.spec invariant-loop decreases-loop loop-holds next-record-requires add-put-record zone-requires put-record-requires add-i loop-less loop-again same_length returns)
+pub lay_records_spec : {M : Type 1} → statement M
+lay_records_spec = tie.close (tie.spec invariant-loop decreases-loop loop-holds next-record-requires add-put-record zone-requires put-record-requires add-i loop-less loop-again same_length returns)

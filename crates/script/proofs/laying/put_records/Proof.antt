@@ -32,5 +32,5 @@ same_length c = search rules
 returns-3 : tie.Need-returns-3
 returns-3 c = search rules
 
-pub put-records-spec : {M : Type 1} → statement M
-put-records-spec = tie.close (tie.spec returns next-number-requires size-requires sub-n add-if2 returns-2 lay-records-requires same_length returns-3)
+pub put_records_spec : {M : Type 1} → statement M
+put_records_spec = tie.close (tie.spec returns next-number-requires size-requires sub-n add-if2 returns-2 lay-records-requires same_length returns-3)

@@ -10,17 +10,17 @@ use borrow.Author.Tests.{le-ltb}
 use Rattle.script.proofs.records.metres.Statement.{statement}
 use Rattle.script.proofs.records.metres.Tie as tie
 
-pattern-of-number : (n : ℕ) → n % 9223372036854775808 ≤ 9218868437227405312 → T (not (nan_bits binary64 n))
-pattern-of-number n h = subst (λ (t : Bool). T (not t)) (sym (nan_bits_above binary64 n ∙ le-ltb _ _ h)) tt
+pattern_of_number : (n : ℕ) → n % 9223372036854775808 ≤ 9218868437227405312 → T (not (nan_bits binary64 n))
+pattern_of_number n h = subst (λ (t : Bool). T (not t)) (sym (nan_bits_above binary64 n ∙ le-ltb _ _ h)) tt
 
 returns : tie.Need-returns
 returns c = search rules
 
 float-from-bits-result : tie.Need-float-from-bits-result
-float-from-bits-result c = pattern-of-number _ c.if1.false
+float-from-bits-result c = pattern_of_number _ c.if1.false
 
 returns-2 : tie.Need-returns-2
 returns-2 c = search rules
 
-pub metres-spec : {M : Type 1} → statement M
-metres-spec = tie.close (tie.spec returns float-from-bits-result returns-2)
+pub metres_spec : {M : Type 1} → statement M
+metres_spec = tie.close (tie.spec returns float-from-bits-result returns-2)

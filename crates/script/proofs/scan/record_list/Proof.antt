@@ -51,8 +51,8 @@ returns-4 c = search rules
 returns-5 : tie.Need-returns-5 invariant-loop decreases-loop
 returns-5 c = search rules
 
-pub record-list-spec : {M : Type 1} → statement M
-record-list-spec =
+pub record_list_spec : {M : Type 1} → statement M
+record_list_spec =
     tie.close
     (tie.spec
     invariant-loop

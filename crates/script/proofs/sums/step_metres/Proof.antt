@@ -1,6 +1,6 @@
 -- `script::sums::step_metres`: bits are read only of metres that are no NaN.
 use borrow.Author.Rules.{rules}
-use Rattle.script.proofs.NoNan.{not-nan}
+use Rattle.script.proofs.NoNan.{not_nan}
 use Rattle.script.proofs.sums.step_metres.Statement.{statement}
 use Rattle.script.proofs.sums.step_metres.Tie as tie
 
@@ -11,7 +11,7 @@ returns : tie.Need-returns
 returns c = search rules
 
 float-to-bits-step-bits : tie.Need-float-to-bits-step-bits
-float-to-bits-step-bits c = not-nan _ c.if1.false
+float-to-bits-step-bits c = not_nan _ c.if1.false
 
 step-bits-requires : tie.Need-step-bits-requires
 step-bits-requires c κs = search rules
@@ -19,5 +19,5 @@ step-bits-requires c κs = search rules
 returns-2 : tie.Need-returns-2
 returns-2 c = search rules
 
-pub step-metres-spec : {M : Type 1} → statement M
-step-metres-spec = tie.close (tie.spec step-figure-requires returns float-to-bits-step-bits step-bits-requires returns-2)
+pub step_metres_spec : {M : Type 1} → statement M
+step_metres_spec = tie.close (tie.spec step-figure-requires returns float-to-bits-step-bits step-bits-requires returns-2)

@@ -31,8 +31,8 @@ loop-again c = search rules
 returns : tie.Need-returns invariant-loop decreases-loop
 returns c = search rules
 
-pub sum-bytes-spec : {M : Type 1} → statement M
-sum-bytes-spec =
+pub sum_bytes_spec : {M : Type 1} → statement M
+sum_bytes_spec =
     tie.close
     (tie.spec
     invariant-loop

@@ -36,5 +36,5 @@ loop-again c = search rules
 returns : tie.Need-returns invariant-loop decreases-loop
 returns c = search rules
 
-pub sum-records-spec : {M : Type 1} → statement M
-sum-records-spec = tie.close (tie.spec invariant-loop decreases-loop loop-holds record-at-requires step-zone-requires add-i loop-less loop-again returns)
+pub sum_records_spec : {M : Type 1} → statement M
+sum_records_spec = tie.close (tie.spec invariant-loop decreases-loop loop-holds record-at-requires step-zone-requires add-i loop-less loop-again returns)

@@ -56,8 +56,8 @@ loop-again c = search rules
 returns-4 : tie.Need-returns-4 invariant-loop decreases-loop
 returns-4 c = search rules
 
-pub letters-spec : {M : Type 1} → statement M
-letters-spec =
+pub letters_spec : {M : Type 1} → statement M
+letters_spec =
     tie.close
     (tie.spec
     invariant-loop

@@ -5,14 +5,14 @@ use mathlib.Core.Path.{◌≡◌, sym, ◌∙◌, ap}
 use Prim.Native.Nat.{ℕ, ◌+◌, ◌-◌, ◌≤◌}
 use native.Mathlib.Nat.{lt_of_lt_of_le}
 use native.Mathlib.Omega.{arith}
-use Rattle.sheets.specs.Notes.{rightIn}
-use Rattle.sheets.proofs.Turns.{both, link-within, link-leads, right-unseen, right-seen, right-not, right-all}
+use Rattle.sheets.specs.Notes.{right_in}
+use Rattle.sheets.proofs.Turns.{both, link_within, link_leads, right_unseen, right_seen, right_not, right_all}
 use Rattle.sheets.proofs.loops.all_right.Statement.{statement}
 use Rattle.sheets.proofs.loops.all_right.Proof.Tie as tie
 
 abbrev invariant-loop : tie.invariant-loop
 invariant-loop work d n sheet kept i₀ i =
-    (i ≤ d + n) × (rightIn d work (both sheet kept) (d + n) 0 ≡ rightIn d work (both sheet kept) (d + n - i) i)
+    (i ≤ d + n) × (right_in d work (both sheet kept) (d + n) 0 ≡ right_in d work (both sheet kept) (d + n - i) i)
 
 abbrev decreases-loop : tie.decreases-loop
 decreases-loop work d n sheet kept i₀ i = d + n - i
@@ -21,7 +21,7 @@ loop-holds : tie.Need-loop-init invariant-loop decreases-loop
 loop-holds c =
     let start = c.before.args in
     let all : start.d + start.n ≡ start.d + start.n - 0 = omega arith in
-    (omega arith, ap (λ (m : ℕ). rightIn start.d start.work.now (both start.sheet.now start.kept.now) m 0) all)
+    (omega arith, ap (λ (m : ℕ). right_in start.d start.work.now (both start.sheet.now start.kept.now) m 0) all)
 
 add-loop : tie.Need-overflow-add-loop invariant-loop decreases-loop
 add-loop c = record { fits = omega (arith, c.before.before.requires.0.few, c.before.before.requires.0.small) }
@@ -42,7 +42,7 @@ loop-again c =
     let loop = c.before.before.before in
     let start = loop.before.before.args in (
       omega (arith, c.before.before.loop-test.true),
-      loop.loop.invariant.1 ∙ right-unseen start.d start.work.now (both start.sheet.now start.kept.now) (start.d + start.n) loop.loop.i _ c.before.before.loop-test.true c.before.at.ensures c.if1.true,
+      loop.loop.invariant.1 ∙ right_unseen start.d start.work.now (both start.sheet.now start.kept.now) (start.d + start.n) loop.loop.i _ c.before.before.loop-test.true c.before.at.ensures c.if1.true,
     )
 
 place-of-requires : tie.Need-place-of-requires invariant-loop decreases-loop
@@ -54,12 +54,12 @@ sound-at-requires : tie.Need-sound-at-requires invariant-loop decreases-loop
 sound-at-requires c κs =
     let turn = c.before.before.before in
     let start = turn.before.before.before in
-    let few = link-within _ _ _ _ _ start.requires.0 turn.loop-test.true c.before.before.at.ensures c.before.if1.false in (
+    let few = link_within _ _ _ _ _ start.requires.0 turn.loop-test.true c.before.before.at.ensures c.before.if1.false in (
       start.requires.0.small,
       start.requires.0.fits,
       omega (arith, few, start.requires.0.few),
       omega (arith, few, start.requires.2),
-      λ some. lt_of_lt_of_le (link-leads _ _ _ _ start.requires.0 few some) start.requires.1,
+      λ some. lt_of_lt_of_le (link_leads _ _ _ _ start.requires.0 few some) start.requires.1,
     )
 
 returns : tie.Need-returns invariant-loop decreases-loop
@@ -68,7 +68,7 @@ returns c =
     let turn = call.before.before.before.before in
     let loop = turn.before in
     let start = loop.before.before.args in
-    sym (loop.loop.invariant.1 ∙ right-not start.d start.work.now (both start.sheet.now start.kept.now) (start.d + start.n) loop.loop.i _ _ _ turn.loop-test.true call.before.before.before.at.ensures call.before.before.if1.false call.before.place_of.ensures call.sound-at.ensures c.if2.true)
+    sym (loop.loop.invariant.1 ∙ right_not start.d start.work.now (both start.sheet.now start.kept.now) (start.d + start.n) loop.loop.i _ _ _ turn.loop-test.true call.before.before.before.at.ensures call.before.before.if1.false call.before.place_of.ensures call.sound-at.ensures c.if2.true)
 
 add-i-2 : tie.Need-overflow-add-i-2 invariant-loop decreases-loop
 add-i-2 c =
@@ -85,14 +85,14 @@ loop-again-2 c =
     let loop = turn.before in
     let start = loop.before.before.args in (
       omega (arith, turn.loop-test.true),
-      loop.loop.invariant.1 ∙ right-seen start.d start.work.now (both start.sheet.now start.kept.now) (start.d + start.n) loop.loop.i _ _ _ turn.loop-test.true call.before.before.before.at.ensures call.before.before.if1.false call.before.place_of.ensures call.sound-at.ensures c.if2.false,
+      loop.loop.invariant.1 ∙ right_seen start.d start.work.now (both start.sheet.now start.kept.now) (start.d + start.n) loop.loop.i _ _ _ turn.loop-test.true call.before.before.before.at.ensures call.before.before.if1.false call.before.place_of.ensures call.sound-at.ensures c.if2.false,
     )
 
 returns-2 : tie.Need-returns-2 invariant-loop decreases-loop
 returns-2 c =
     let loop = c.before in
     let start = loop.before.before.args in
-    sym (loop.loop.invariant.1 ∙ right-all start.d start.work.now (both start.sheet.now start.kept.now) (start.d + start.n) loop.loop.i c.loop-test.false)
+    sym (loop.loop.invariant.1 ∙ right_all start.d start.work.now (both start.sheet.now start.kept.now) (start.d + start.n) loop.loop.i c.loop-test.false)
 
-pub all-right-spec : {M : Type 1} → statement M
-all-right-spec = tie.close (tie.spec invariant-loop decreases-loop loop-holds add-loop at-requires add-i loop-less loop-again place-of-requires sound-at-requires returns add-i-2 loop-less-2 loop-again-2 returns-2)
+pub all_right_spec : {M : Type 1} → statement M
+all_right_spec = tie.close (tie.spec invariant-loop decreases-loop loop-holds add-loop at-requires add-i loop-less loop-again place-of-requires sound-at-requires returns add-i-2 loop-less-2 loop-again-2 returns-2)

@@ -5,13 +5,13 @@ use mathlib.Core.List.{[]}
 use mathlib.Core.Path.{◌≡◌, sym, ◌∙◌, ap}
 use Prim.Native.Nat.{ℕ, ◌-◌, ◌≤◌}
 use native.Mathlib.Omega.{arith}
-use Rattle.sheets.specs.Notes.{unfitIn}
-use Rattle.sheets.proofs.Turns.{both, unfit-other, unfit-passed, unfit-here, unfit-none}
+use Rattle.sheets.specs.Notes.{unfit_in}
+use Rattle.sheets.proofs.Turns.{both, unfit_other, unfit_passed, unfit_here, unfit_none}
 use Rattle.sheets.proofs.loops.first_unfit.Statement.{statement}
 use Rattle.sheets.proofs.loops.first_unfit.Proof.Tie as tie
 
 abbrev invariant-loop : tie.invariant-loop
-invariant-loop work d sheet x₀ x = (x ≤ d) × (unfitIn d work (both sheet []) d 0 ≡ unfitIn d work (both sheet []) (d - x) x)
+invariant-loop work d sheet x₀ x = (x ≤ d) × (unfit_in d work (both sheet []) d 0 ≡ unfit_in d work (both sheet []) (d - x) x)
 
 abbrev decreases-loop : tie.decreases-loop
 decreases-loop work d sheet x₀ x = d - x
@@ -20,7 +20,7 @@ loop-holds : tie.Need-loop-init invariant-loop decreases-loop
 loop-holds c =
     let start = c.before.args in
     let all : start.d ≡ start.d - 0 = omega arith in
-    (omega arith, ap (λ (n : ℕ). unfitIn start.d start.work.now (both start.sheet.now []) n 0) all)
+    (omega arith, ap (λ (n : ℕ). unfit_in start.d start.work.now (both start.sheet.now []) n 0) all)
 
 own-label-requires : tie.Need-own-label-requires invariant-loop decreases-loop
 own-label-requires c κs = (c.before.before.before.requires.0, c.loop-test.true)
@@ -42,7 +42,7 @@ returns c =
     let own = fits.before.before.before in
     let loop = own.before.before in
     let start = loop.before.before.args in
-    sym (loop.loop.invariant.1 ∙ unfit-here start.d start.work.now (both start.sheet.now []) loop.loop.x _ _ own.before.loop-test.true own.own-label.ensures fits.fit.ensures fits.before.before.if1.true c.if2.true)
+    sym (loop.loop.invariant.1 ∙ unfit_here start.d start.work.now (both start.sheet.now []) loop.loop.x _ _ own.before.loop-test.true own.own-label.ensures fits.fit.ensures fits.before.before.if1.true c.if2.true)
 
 add-x : tie.Need-overflow-add-x invariant-loop decreases-loop
 add-x c =
@@ -59,7 +59,7 @@ loop-again c =
     let loop = own.before.before in
     let start = loop.before.before.args in (
       omega (arith, own.before.loop-test.true),
-      loop.loop.invariant.1 ∙ unfit-passed start.d start.work.now (both start.sheet.now []) loop.loop.x _ _ own.before.loop-test.true own.own-label.ensures fits.fit.ensures fits.before.before.if1.true c.if2.false,
+      loop.loop.invariant.1 ∙ unfit_passed start.d start.work.now (both start.sheet.now []) loop.loop.x _ _ own.before.loop-test.true own.own-label.ensures fits.fit.ensures fits.before.before.if1.true c.if2.false,
     )
 
 add-x-2 : tie.Need-overflow-add-x-2 invariant-loop decreases-loop
@@ -76,14 +76,14 @@ loop-again-2 c =
     let loop = own.before.before in
     let start = loop.before.before.args in (
       omega (arith, own.before.loop-test.true),
-      loop.loop.invariant.1 ∙ unfit-other start.d start.work.now (both start.sheet.now []) loop.loop.x _ own.before.loop-test.true own.own-label.ensures c.if1.false,
+      loop.loop.invariant.1 ∙ unfit_other start.d start.work.now (both start.sheet.now []) loop.loop.x _ own.before.loop-test.true own.own-label.ensures c.if1.false,
     )
 
 returns-2 : tie.Need-returns-2 invariant-loop decreases-loop
 returns-2 c =
     let loop = c.before in
     let start = loop.before.before.args in
-    sym (loop.loop.invariant.1 ∙ unfit-none start.d start.work.now (both start.sheet.now []) loop.loop.x loop.loop.invariant.0 c.loop-test.false)
+    sym (loop.loop.invariant.1 ∙ unfit_none start.d start.work.now (both start.sheet.now []) loop.loop.x loop.loop.invariant.0 c.loop-test.false)
 
-pub first-unfit-spec : {M : Type 1} → statement M
-first-unfit-spec = tie.close (tie.spec invariant-loop decreases-loop loop-holds own-label-requires mul_fit shared-slice-copy-out-fit fit-requires returns add-x loop-less loop-again add-x-2 loop-less-2 loop-again-2 returns-2)
+pub first_unfit_spec : {M : Type 1} → statement M
+first_unfit_spec = tie.close (tie.spec invariant-loop decreases-loop loop-holds own-label-requires mul_fit shared-slice-copy-out-fit fit-requires returns add-x loop-less loop-again add-x-2 loop-less-2 loop-again-2 returns-2)

@@ -50,5 +50,5 @@ returns c =
     let start = c.before.before.before.args in
     ap (λ (z : Zone). both (set start.sheet.now start.low z) (set start.kept.now start.t (at start.sheet.now start.low))) (sym c.merge.ensures)
 
-pub merge-at-spec : {M : Type 1} → statement M
-merge-at-spec = tie.close (tie.spec mul-lower slice-copy-out-lower mul-other slice-copy-out-other mul-lower-2 slice-set-from-lower merge-requires mul-t8 slice-set-from-sheet same_length same-length-2 returns)
+pub merge_at_spec : {M : Type 1} → statement M
+merge_at_spec = tie.close (tie.spec mul-lower slice-copy-out-lower mul-other slice-copy-out-other mul-lower-2 slice-set-from-lower merge-requires mul-t8 slice-set-from-sheet same_length same-length-2 returns)

@@ -18,5 +18,5 @@ at-requires c κs = search rules
 returns : tie.Need-returns
 returns c = ap (λ (k : ℕ). eqb k c.before.before.args.x) c.at.ensures
 
-pub own-label-spec : {M : Type 1} → statement M
-own-label-spec = tie.close (tie.spec mul_at add_at at-requires returns)
+pub own_label_spec : {M : Type 1} → statement M
+own_label_spec = tie.close (tie.spec mul_at add_at at-requires returns)

@@ -2,7 +2,7 @@
 mod Lts
 mod Tie
 use mathlib.Core.Path.{sym}
-use Rattle.sheets.proofs.Turns.{both, on-sheet, on-kept}
+use Rattle.sheets.proofs.Turns.{both, on_sheet, on_kept}
 use borrow.Author.Rules.{rules}
 use Rattle.sheets.proofs.loops.place_of.Statement.{statement}
 use Rattle.sheets.proofs.loops.place_of.Proof.Tie as tie
@@ -16,7 +16,7 @@ shared-slice-copy-out-result c = search rules
 returns : tie.Need-returns
 returns c =
     let start = c.before.before.args in
-    sym (on-sheet start.d start.i (both start.sheet.now start.kept.now) c.before.if1.true)
+    sym (on_sheet start.d start.i (both start.sheet.now start.kept.now) c.before.if1.true)
 
 mul-result-2 : tie.Need-overflow-mul-result-2
 mul-result-2 c = search rules
@@ -27,7 +27,7 @@ shared-slice-copy-out-result-2 c = search rules
 returns-2 : tie.Need-returns-2
 returns-2 c =
     let start = c.before.before.args in
-    sym (on-kept start.d start.i (both start.sheet.now start.kept.now) c.before.if1.false)
+    sym (on_kept start.d start.i (both start.sheet.now start.kept.now) c.before.if1.false)
 
-pub place-of-spec : {M : Type 1} → statement M
-place-of-spec = tie.close (tie.spec mul-result shared-slice-copy-out-result returns mul-result-2 shared-slice-copy-out-result-2 returns-2)
+pub place_of_spec : {M : Type 1} → statement M
+place_of_spec = tie.close (tie.spec mul-result shared-slice-copy-out-result returns mul-result-2 shared-slice-copy-out-result-2 returns-2)

@@ -5,8 +5,8 @@ use mathlib.Core.Path.{refl}
 use Prim.Native.Nat.{◌-◌}
 use native.Mathlib.Omega.{arith}
 use Rattle.sheets.specs.Sheets.{none, returned}
-use Rattle.sheets.proofs.Turns.{note-none, note-into}
-use Rattle.sheets.proofs.Passes.{Returning, returning-starts, returning-turn, returning-low, returning-done}
+use Rattle.sheets.proofs.Turns.{note_none, note_into}
+use Rattle.sheets.proofs.Passes.{Returning, returning_starts, returning_turn, returning_low, returning_done}
 use Rattle.sheets.proofs.loops.put_all_back.Statement.{statement}
 use Rattle.sheets.proofs.loops.put_all_back.Proof.Tie as tie
 
@@ -17,7 +17,7 @@ abbrev decreases-loop : tie.decreases-loop
 decreases-loop work d m n sheet₀ kept t₀ sheet t = t - m
 
 loop-holds : tie.Need-loop-init invariant-loop decreases-loop
-loop-holds c = returning-starts _ _ _ _ _ _ c.before.requires.0.rises
+loop-holds c = returning_starts _ _ _ _ _ _ c.before.requires.0.rises
 
 sub-t : tie.Need-overflow-sub-t invariant-loop decreases-loop
 sub-t c = omega (arith, c.loop-test.true)
@@ -43,14 +43,14 @@ mul-t14 c =
     let note = c.before.before in
     let loop = note.before.before in
     let noted = loop.before.before.requires.0 in
-    record { fits = omega (arith, returning-low _ _ _ _ _ _ _ _ loop.loop.invariant _ note.before.loop-test.true noted note.note.ensures, noted.small) }
+    record { fits = omega (arith, returning_low _ _ _ _ _ _ _ _ loop.loop.invariant _ note.before.loop-test.true noted note.note.ensures, noted.small) }
 
 slice-set-from-sheet : tie.Need-slice-set-from-sheet invariant-loop decreases-loop
 slice-set-from-sheet c =
     let note = c.before.before in
     let loop = note.before.before in
     let start = loop.before.before in
-    omega (arith, returning-low _ _ _ _ _ _ _ _ loop.loop.invariant _ note.before.loop-test.true start.requires.0 note.note.ensures, start.requires.1, loop.loop.invariant.size)
+    omega (arith, returning_low _ _ _ _ _ _ _ _ loop.loop.invariant _ note.before.loop-test.true start.requires.0 note.note.ensures, start.requires.1, loop.loop.invariant.size)
 
 loop-less : tie.Need-loop-smaller invariant-loop decreases-loop
 loop-less c = omega (arith, c.before.before.before.loop-test.true)
@@ -60,7 +60,7 @@ unfolding returned
 loop-again c =
     let note = c.before.before in
     let loop = note.before.before in
-    returning-turn _ _ _ _ _ _ _ _ loop.loop.invariant _ _ note.before.loop-test.true (note-into _ _ _ _ note.note.ensures c.before.if1.true) refl
+    returning_turn _ _ _ _ _ _ _ _ loop.loop.invariant _ _ note.before.loop-test.true (note_into _ _ _ _ note.note.ensures c.before.if1.true) refl
 
 loop-less-2 : tie.Need-loop-smaller-2 invariant-loop decreases-loop
 loop-less-2 c = omega (arith, c.before.before.loop-test.true)
@@ -69,13 +69,13 @@ loop-again-2 : tie.Need-loop-preserved-2 invariant-loop decreases-loop
 unfolding returned
 loop-again-2 c =
     let loop = c.before.before.before in
-    returning-turn _ _ _ _ _ _ _ _ loop.loop.invariant none _ c.before.before.loop-test.true (note-none _ _ _ _ c.before.note.ensures c.if1.false) refl
+    returning_turn _ _ _ _ _ _ _ _ loop.loop.invariant none _ c.before.before.loop-test.true (note_none _ _ _ _ c.before.note.ensures c.if1.false) refl
 
 same_length : tie.Need-same-length invariant-loop decreases-loop
 same_length c = c.before.loop.invariant.size
 
 returns : tie.Need-returns invariant-loop decreases-loop
-returns c = returning-done _ _ _ _ _ _ _ _ c.before.loop.invariant c.loop-test.false
+returns c = returning_done _ _ _ _ _ _ _ _ c.before.loop.invariant c.loop-test.false
 
-pub put-all-back-spec : {M : Type 1} → statement M
-put-all-back-spec = tie.close (tie.spec invariant-loop decreases-loop loop-holds sub-t note-requires mul-sheet shared-slice-copy-out-sheet mul-t14 slice-set-from-sheet loop-less loop-again loop-less-2 loop-again-2 same_length returns)
+pub put_all_back_spec : {M : Type 1} → statement M
+put_all_back_spec = tie.close (tie.spec invariant-loop decreases-loop loop-holds sub-t note-requires mul-sheet shared-slice-copy-out-sheet mul-t14 slice-set-from-sheet loop-less loop-again loop-less-2 loop-again-2 same_length returns)

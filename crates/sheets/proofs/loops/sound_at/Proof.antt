@@ -6,7 +6,7 @@ use mathlib.Core.Path.{sym, ◌∙◌, subst}
 use Prim.Native.Nat.{ℕ, ◌%◌, ◌<◌}
 use native.Mathlib.Omega.{arith}
 use lib.ListN.{length}
-use Rattle.sheets.proofs.Turns.{both, base-sound, left-sound}
+use Rattle.sheets.proofs.Turns.{both, base_sound, left_sound}
 use borrow.Author.Rules.{rules}
 use Rattle.sheets.proofs.loops.sound_at.Statement.{statement}
 use Rattle.sheets.proofs.loops.sound_at.Proof.Tie as tie
@@ -20,7 +20,7 @@ fit-requires c = search rules
 returns : tie.Need-returns
 returns c =
     let start = c.before.before.before.args in
-    c.fit.ensures ∙ sym (base-sound _ (both start.sheet.now start.kept.now) start.l start.z c.before.if1.true)
+    c.fit.ensures ∙ sym (base_sound _ (both start.sheet.now start.kept.now) start.l start.z c.before.if1.true)
 
 sub-t : tie.Need-overflow-sub-t
 sub-t c = search rules
@@ -49,7 +49,7 @@ returns-2 : tie.Need-returns-2
 returns-2 c =
     let note = c.before.before.before in
     let start = note.before.before.before.args in
-    c.merges-to.ensures ∙ sym (left-sound start.d start.work.now (both start.sheet.now start.kept.now) start.l note.note.result start.z (some start.l note.before.if1.false) note.note.ensures)
+    c.merges-to.ensures ∙ sym (left_sound start.d start.work.now (both start.sheet.now start.kept.now) start.l note.note.result start.z (some start.l note.before.if1.false) note.note.ensures)
 
-pub sound-at-spec : {M : Type 1} → statement M
-sound-at-spec = tie.close (tie.spec fit-requires returns sub-t note-requires mul-merges-to shared-slice-copy-out-merges-to mul-merges-to-2 shared-slice-copy-out-merges-to-2 merges-to-requires returns-2)
+pub sound_at_spec : {M : Type 1} → statement M
+sound_at_spec = tie.close (tie.spec fit-requires returns sub-t note-requires mul-merges-to shared-slice-copy-out-merges-to mul-merges-to-2 shared-slice-copy-out-merges-to-2 merges-to-requires returns-2)

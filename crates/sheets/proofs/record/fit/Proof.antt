@@ -11,22 +11,22 @@ use borrow.Author.Tests.{le-leb, lt-leb}
 use Rattle.sheets.specs.declared.Yarn.{Yarn}
 use Rattle.sheets.specs.declared.Yarn.TheVariants.{Metres}
 use Rattle.sheets.specs.declared.Zone.{Zone}
-use Rattle.sheets.specs.Records.{yarnFits, fitOf}
+use Rattle.sheets.specs.Records.{yarn_fits, fit_of}
 use Rattle.sheets.proofs.record.fit.Statement.{statement}
 use Rattle.sheets.proofs.record.fit.Tie as tie
 
-too_many : (z : Zone) → 65535 < z.stitches → false ≡ fitOf z
-too_many z h = sym (ap (λ (t : Bool). t && yarnFits z.yarn) (lt-leb _ _ h))
+too_many_lem : (z : Zone) → 65535 < z.stitches → false ≡ fit_of z
+too_many_lem z h = sym (ap (λ (t : Bool). t && yarn_fits z.yarn) (lt-leb _ _ h))
 
-by-yarn : (z : Zone) (y : Yarn) → z.stitches ≤ 65535 → z.yarn ≡ y → yarnFits y ≡ fitOf z
-by-yarn z y h p = sym (ap (λ (t : Bool). t && yarnFits z.yarn) (le-leb _ _ h) ∙ ap yarnFits p)
+by_yarn : (z : Zone) (y : Yarn) → z.stitches ≤ 65535 → z.yarn ≡ y → yarn_fits y ≡ fit_of z
+by_yarn z y h p = sym (ap (λ (t : Bool). t && yarn_fits z.yarn) (le-leb _ _ h) ∙ ap yarn_fits p)
 
-from_zero : (z : Zone) (m : Float) → z.stitches ≤ 65535 → z.yarn ≡ Metres m → Ieee.le (fin false 0 (pos 0)) m ≡ true → Ieee.le m (fin false 3125 (pos 5)) ≡ fitOf z
-from_zero z m h p e = sym (ap (λ (t : Bool). t && Ieee.le m (fin false 3125 (pos 5))) e) ∙ by-yarn z (Metres m) h p
+from_zero : (z : Zone) (m : Float) → z.stitches ≤ 65535 → z.yarn ≡ Metres m → Ieee.le (fin false 0 (pos 0)) m ≡ true → Ieee.le m (fin false 3125 (pos 5)) ≡ fit_of z
+from_zero z m h p e = sym (ap (λ (t : Bool). t && Ieee.le m (fin false 3125 (pos 5))) e) ∙ by_yarn z (Metres m) h p
 
 -- r is what is returned there, which must be false
-not-from-zero : (z : Zone) (m : Float) (r : Bool) → z.stitches ≤ 65535 → z.yarn ≡ Metres m → Ieee.le (fin false 0 (pos 0)) m ≡ false → r ≡ false → r ≡ fitOf z
-not-from-zero z m r h p e is = is ∙ sym (ap (λ (t : Bool). t && Ieee.le m (fin false 3125 (pos 5))) e) ∙ by-yarn z (Metres m) h p
+not_from_zero : (z : Zone) (m : Float) (r : Bool) → z.stitches ≤ 65535 → z.yarn ≡ Metres m → Ieee.le (fin false 0 (pos 0)) m ≡ false → r ≡ false → r ≡ fit_of z
+not_from_zero z m r h p e is = is ∙ sym (ap (λ (t : Bool). t && Ieee.le m (fin false 3125 (pos 5))) e) ∙ by_yarn z (Metres m) h p
 
 enum-known-yarn : tie.Need-enum-known-yarn
 enum-known-yarn c = search rules
@@ -46,15 +46,15 @@ unfolding Ieee.of_bits
 returns-2 c =
     let found = c.before.before in
     let tested = found.before.before in
-    not-from-zero tested.before.args.z _ _ (omega (arith, tested.if1.true)) found.yarn.given.1 c.if2.false (search rules)
+    not_from_zero tested.before.args.z _ _ (omega (arith, tested.if1.true)) found.yarn.given.1 c.if2.false (search rules)
 
 returns-3 : tie.Need-returns-3
 returns-3 c =
     let tested = c.before.before in
-    by-yarn tested.before.args.z _ (omega (arith, tested.if1.true)) c.enum_told.given.1
+    by_yarn tested.before.args.z _ (omega (arith, tested.if1.true)) c.enum_told.given.1
 
 returns-4 : tie.Need-returns-4
-returns-4 c = too_many c.before.args.z (omega (arith, c.if1.false))
+returns-4 c = too_many_lem c.before.args.z (omega (arith, c.if1.false))
 
 pub fit_spec : {M : Type 1} → statement M
 fit_spec = tie.close (tie.spec enum-known-yarn returns returns-2 enum_told returns-3 returns-4)

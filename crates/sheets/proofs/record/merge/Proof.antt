@@ -5,7 +5,7 @@ use borrow.Author.Rules.{rules}
 use Rattle.sheets.specs.declared.Yarn.{Yarn}
 use Rattle.sheets.specs.declared.Yarn.TheVariants.{NotMeasured}
 use Rattle.sheets.specs.declared.Zone.{Zone}
-use Rattle.sheets.specs.Records.{joined, mergeOf}
+use Rattle.sheets.specs.Records.{joined, merge_of}
 use Rattle.sheets.proofs.record.merge.Statement.{statement}
 use Rattle.sheets.proofs.record.merge.Tie as tie
 
@@ -14,11 +14,11 @@ abbrev together : Zone → Zone → Yarn → Zone
 together l o y = record { stitches = l.stitches + o.stitches; yarn = y }
 
 -- the yarns are u and v, and w is the yarn that is returned
-both : (l o : Zone) (u v w : Yarn) → l.yarn ≡ u → o.yarn ≡ v → w ≡ joined u v → together l o w ≡ mergeOf l o
+both : (l o : Zone) (u v w : Yarn) → l.yarn ≡ u → o.yarn ≡ v → w ≡ joined u v → together l o w ≡ merge_of l o
 both l o u v w p q e = ap (together l o) (e ∙ sym (ap (λ (y : Yarn). joined y o.yarn) p ∙ ap (λ (y : Yarn). joined u y) q))
 
-first-not : (l o : Zone) → l.yarn ≡ NotMeasured → together l o NotMeasured ≡ mergeOf l o
-first-not l o p = sym (ap (λ (y : Yarn). together l o (joined y o.yarn)) p)
+first_not : (l o : Zone) → l.yarn ≡ NotMeasured → together l o NotMeasured ≡ merge_of l o
+first_not l o p = sym (ap (λ (y : Yarn). together l o (joined y o.yarn)) p)
 
 add-stitches : tie.Need-overflow-add-stitches
 add-stitches c = search rules
@@ -50,7 +50,7 @@ returns-2 c =
 returns-3 : tie.Need-returns-3
 returns-3 c =
     let start = c.before.before.before.before.args in
-    first-not start.lower start.other c.enum-told2.given.1
+    first_not start.lower start.other c.enum-told2.given.1
 
-pub merge-spec : {M : Type 1} → statement M
-merge-spec = tie.close (tie.spec add-stitches enum-known-first enum-known-second enum_told enum-told-2 returns returns-2 returns-3)
+pub merge_spec : {M : Type 1} → statement M
+merge_spec = tie.close (tie.spec add-stitches enum-known-first enum-known-second enum_told enum-told-2 returns returns-2 returns-3)

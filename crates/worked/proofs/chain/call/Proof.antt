@@ -1,7 +1,7 @@
 -- `worked::chain::call`: each step is the call that it names, or puts the numbers in the state.
 use mathlib.Core.Path.{refl}
 use borrow.Author.Rules.{rules}
-use Rattle.worked.proofs.Parts.{hands-left}
+use Rattle.worked.proofs.Parts.{hands_left}
 use Rattle.worked.proofs.chain.call.Statement.{statement}
 use Rattle.worked.proofs.chain.call.Tie as tie
 
@@ -24,10 +24,10 @@ returns-6 : tie.Need-returns-6
 returns-6 c = let called = c.before.before.before.before.before.before in rw called.before.before.before.before.before.step3.given.1 called.«unfold».ensures
 
 returns-7 : tie.Need-returns-7
-returns-7 c = rw c.before.before.step4.given.1 (hands-left c.stored.ensures)
+returns-7 c = rw c.before.before.step4.given.1 (hands_left c.stored.ensures)
 
-pub call-spec : {M : Type 1} → statement M
-call-spec =
+pub call_spec : {M : Type 1} → statement M
+call_spec =
     tie.close
     (tie.spec
     (λ c. search rules)

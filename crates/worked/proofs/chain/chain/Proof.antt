@@ -45,8 +45,8 @@ returns c =
     (third c).call3.ensures
     ∙ ap (stepped g.third) ((second c).call2.ensures ∙ ap (stepped g.second) ((first c).call.ensures ∙ ap (stepped g.first) (begun c).start.ensures))
 
-pub chain-spec : {M : Type 1} → statement M
-chain-spec =
+pub chain_spec : {M : Type 1} → statement M
+chain_spec =
     tie.close
     (tie.spec
     start-requires

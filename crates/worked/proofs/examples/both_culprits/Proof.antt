@@ -13,5 +13,5 @@ example-requires-2 c κs = computed.15
 returns : tie.Need-returns
 returns c = search rules
 
-pub both-culprits-spec : {M : Type 1} → statement M
-both-culprits-spec = tie.close (tie.spec example-requires example-requires-2 returns)
+pub both_culprits_spec : {M : Type 1} → statement M
+both_culprits_spec = tie.close (tie.spec example-requires example-requires-2 returns)

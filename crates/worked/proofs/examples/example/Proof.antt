@@ -1,6 +1,6 @@
 -- `worked::examples::example`: what the definitions leave, the calls leave.
 use mathlib.Core.Path.{◌∙◌}
-use Rattle.worked.proofs.Parts.{row_of, numbers_of}
+use Rattle.worked.proofs.Parts.{row_of, numbers_of_lem}
 use borrow.Author.Rules.{rules}
 use Rattle.worked.proofs.examples.example.Statement.{statement}
 use Rattle.worked.proofs.examples.example.Tie as tie
@@ -43,13 +43,13 @@ is-stored-requires c κs = search rules
 expect-requires-2 : tie.Need-expect-requires-2
 expect-requires-2 c κs =
     let called = c.before.before.before.before.before.before.before.before.before.before in
-    c.is-stored.ensures ∙ numbers_of _ _ _ _ _ _ _ called.chain.ensures called.before.before.before.before.requires
+    c.is-stored.ensures ∙ numbers_of_lem _ _ _ _ _ _ _ called.chain.ensures called.before.before.before.before.requires
 
 returns : tie.Need-returns
 returns c = search rules
 
-pub example-spec : {M : Type 1} → statement M
-example-spec =
+pub example_spec : {M : Type 1} → statement M
+example_spec =
     tie.close
     (tie.spec
     slice-aggregate-chain

@@ -19,5 +19,5 @@ example-requires-4 c κs = computed.3
 returns : tie.Need-returns
 returns c = search rules
 
-pub kernels-spec : {M : Type 1} → statement M
-kernels-spec = tie.close (tie.spec example-requires example-requires-2 example-requires-3 example-requires-4 returns)
+pub kernels_spec : {M : Type 1} → statement M
+kernels_spec = tie.close (tie.spec example-requires example-requires-2 example-requires-3 example-requires-4 returns)

@@ -13,5 +13,5 @@ example-requires-2 c κs = computed.9
 returns : tie.Need-returns
 returns c = search rules
 
-pub refused-at-the-top-spec : {M : Type 1} → statement M
-refused-at-the-top-spec = tie.close (tie.spec example-requires example-requires-2 returns)
+pub refused_at_the_top_spec : {M : Type 1} → statement M
+refused_at_the_top_spec = tie.close (tie.spec example-requires example-requires-2 returns)

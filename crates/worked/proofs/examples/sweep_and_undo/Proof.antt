@@ -19,7 +19,7 @@ example-requires-4 c κs = computed.7
 returns : tie.Need-returns
 returns c = search rules
 
-pub sweep-and-undo-spec : {M : Type 1} → statement M
-sweep-and-undo-spec =
+pub sweep_and_undo_spec : {M : Type 1} → statement M
+sweep_and_undo_spec =
     tie.close
     (tie.spec example-requires example-requires-2 example-requires-3 example-requires-4 returns)

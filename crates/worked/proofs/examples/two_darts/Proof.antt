@@ -19,7 +19,7 @@ example-requires-4 c κs = computed.13
 returns : tie.Need-returns
 returns c = search rules
 
-pub two-darts-spec : {M : Type 1} → statement M
-two-darts-spec =
+pub two_darts_spec : {M : Type 1} → statement M
+two_darts_spec =
     tie.close
     (tie.spec example-requires example-requires-2 example-requires-3 example-requires-4 returns)

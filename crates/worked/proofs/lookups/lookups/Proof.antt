@@ -4,8 +4,8 @@ use Rattle.worked.proofs.Found.{computed}
 use Rattle.worked.proofs.lookups.lookups.Statement.{statement}
 use Rattle.worked.proofs.lookups.lookups.Tie as tie
 
-pub lookups-spec : {M : Type 1} → statement M
-lookups-spec =
+pub lookups_spec : {M : Type 1} → statement M
+lookups_spec =
     tie.close
     (tie.spec
     (λ c κs. computed.0)

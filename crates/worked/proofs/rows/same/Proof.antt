@@ -4,7 +4,7 @@ use Prim.Native.Nat.{◌-◌}
 use lib.ListN.{length}
 use borrow.Author.Rules.{rules}
 use native.Mathlib.Omega.{arith}
-use Rattle.worked.proofs.Numbers.{Same, same_length, same-on, same_not, same_end}
+use Rattle.worked.proofs.Numbers.{Same, same_length, same_on, same_not, same_end}
 use Rattle.worked.proofs.rows.same.Statement.{statement}
 use Rattle.worked.proofs.rows.same.Tie as tie
 
@@ -42,7 +42,7 @@ loop-less : tie.Need-loop-smaller invariant-loop decreases-loop
 loop-less c = search rules
 
 loop-again : tie.Need-loop-preserved invariant-loop decreases-loop
-loop-again c = same-on c.before.before.before.before.loop.invariant c.before.before.before.loop-test.true c.if2.false
+loop-again c = same_on c.before.before.before.before.loop.invariant c.before.before.before.loop-test.true c.if2.false
 
 returns-3 : tie.Need-returns-3 invariant-loop decreases-loop
 returns-3 c = same_end c.before.loop.invariant c.loop-test.false

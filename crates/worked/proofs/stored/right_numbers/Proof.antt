@@ -13,5 +13,5 @@ example-requires-2 c κs = computed.17
 returns : tie.Need-returns
 returns c = search rules
 
-pub right-numbers-spec : {M : Type 1} → statement M
-right-numbers-spec = tie.close (tie.spec example-requires example-requires-2 returns)
+pub right_numbers_spec : {M : Type 1} → statement M
+right_numbers_spec = tie.close (tie.spec example-requires example-requires-2 returns)

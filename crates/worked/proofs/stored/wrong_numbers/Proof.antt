@@ -19,5 +19,5 @@ example-requires-4 c κs = computed.21
 returns : tie.Need-returns
 returns c = search rules
 
-pub wrong-numbers-spec : {M : Type 1} → statement M
-wrong-numbers-spec = tie.close (tie.spec example-requires example-requires-2 example-requires-3 example-requires-4 returns)
+pub wrong_numbers_spec : {M : Type 1} → statement M
+wrong_numbers_spec = tie.close (tie.spec example-requires example-requires-2 example-requires-3 example-requires-4 returns)

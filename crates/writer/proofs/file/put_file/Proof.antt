@@ -3,9 +3,9 @@ use native.Mathlib.Omega.{arith}
 use Prim.Native.Nat.{◌+◌, ◌*◌}
 use borrow.Author.Rules.{rules}
 use Rattle.slices.proofs.Part.{part_length}
-use Rattle.writer.specs.Writing.{fileIn}
-use Rattle.writer.proofs.Lengths.{head-short}
-use Rattle.writer.proofs.Fitted.{fitted-on}
+use Rattle.writer.specs.Writing.{file_in}
+use Rattle.writer.proofs.Lengths.{head_short}
+use Rattle.writer.proofs.Fitted.{fitted_on}
 use Rattle.writer.proofs.file.put_file.Statement.{statement}
 use Rattle.writer.proofs.file.put_file.Tie as tie
 
@@ -46,7 +46,7 @@ put-kernels-requires c κs =
     let g = s.args.state in
     let fits = s.requires.0.room.fits in
     let few = part_length (3 * g.darts) (3 * g.darts + g.operations) s.args.work.now (omega arith) in
-    let head = head-short g.darts g.levels in
+    let head = head_short g.darts g.levels in
     ((omega (arith, few, s.requires.0.room.small), omega arith, omega (arith, h.put-head.ensures.next)), s.requires.1.1)
 
 put-pairs-requires : tie.Need-put-pairs-requires
@@ -54,20 +54,20 @@ put-pairs-requires c κs =
     let k = c.before.before.before in
     let h = k.before.before.before.before.before.before in
     let s = h.before.before.before.before.before.before.before in
-    let head = head-short s.args.state.darts s.args.state.levels in
+    let head = head_short s.args.state.darts s.args.state.levels in
     (s.requires.0, omega (arith, k.put-kernels.ensures.1, h.put-head.ensures.next))
 
 same_length : tie.Need-same-length
 same_length c = search rules
 
 returns : tie.Need-returns
-unfolding fileIn
+unfolding file_in
 returns c =
     let k = c.before.before.before.before.before.before in
-    fitted-on k.before.before.before.before.before.before.put-head.ensures (fitted-on k.put-kernels.ensures.0 c.before.before.put-pairs.ensures)
+    fitted_on k.before.before.before.before.before.before.put-head.ensures (fitted_on k.put-kernels.ensures.0 c.before.before.put-pairs.ensures)
 
-pub put-file-spec : {M : Type 1} → statement M
-put-file-spec =
+pub put_file_spec : {M : Type 1} → statement M
+put_file_spec =
     tie.close
     (tie.spec
     cast-d

@@ -2,10 +2,10 @@
 use native.Mathlib.Omega.{arith}
 use borrow.Author.Rules.{rules}
 use Rattle.darts.specs.Text.{bytes}
-use Rattle.darts.specs.File.{lineFeed}
-use Rattle.writer.specs.Writing.{headLines}
-use Rattle.writer.proofs.Lengths.{field-short}
-use Rattle.writer.proofs.Fitted.{fitted-on}
+use Rattle.darts.specs.File.{line_feed}
+use Rattle.writer.specs.Writing.{head_lines}
+use Rattle.writer.proofs.Lengths.{field_short}
+use Rattle.writer.proofs.Fitted.{fitted_on}
 use Rattle.writer.proofs.file.put_head.Statement.{statement}
 use Rattle.writer.proofs.file.put_head.Tie as tie
 
@@ -27,18 +27,18 @@ slice-aggregate-fit-field-4 c = search rules
 fit-field-requires-2 : tie.Need-fit-field-requires-2
 fit-field-requires-2 c κs =
     let s = c.before.before.before.before.before.before.before.before.before.before in
-    let l = field-short (bytes "numbers=0\ndarts=") s.args.d lineFeed in
+    let l = field_short (bytes "numbers=0\ndarts=") s.args.d line_feed in
     (omega arith, omega (arith, c.before.before.before.before.before.fit-field.ensures.next), omega arith, omega arith)
 
 same_length : tie.Need-same-length
 same_length c = search rules
 
 returns : tie.Need-returns
-unfolding headLines
-returns c = fitted-on c.before.before.before.before.before.before.before.before.fit-field.ensures c.before.before.fit-field2.ensures
+unfolding head_lines
+returns c = fitted_on c.before.before.before.before.before.before.before.before.fit-field.ensures c.before.before.fit-field2.ensures
 
-pub put-head-spec : {M : Type 1} → statement M
-put-head-spec =
+pub put_head_spec : {M : Type 1} → statement M
+put_head_spec =
     tie.close
     (tie.spec
     slice-aggregate-fit-field

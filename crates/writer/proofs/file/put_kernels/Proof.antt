@@ -13,12 +13,12 @@ use borrow.Author.Rules.{rules}
 use Rattle.darts.specs.Operation.{kind_of}
 use Rattle.darts.specs.Tests.{rises}
 use Rattle.darts.specs.Pyramid.{cut}
-use Rattle.darts.specs.File.{kernelLines}
-use Rattle.laws.proofs.tests.Shape.{rises-iff}
-use Rattle.writer.specs.Fields.{Fitted, countLine}
-use Rattle.writer.proofs.Lengths.{count-short}
-use Rattle.writer.proofs.Fitted.{Toward, toward-all, toward-on, toward-end}
-use Rattle.writer.proofs.CutLines.{cut-none, cut_on}
+use Rattle.darts.specs.File.{kernel_lines}
+use Rattle.laws.proofs.tests.Shape.{rises_iff}
+use Rattle.writer.specs.Fields.{Fitted, count_line}
+use Rattle.writer.proofs.Lengths.{count_short}
+use Rattle.writer.proofs.Fitted.{Toward, toward_all, toward_on, toward_end}
+use Rattle.writer.proofs.CutLines.{cut_none, cut_on}
 use Rattle.writer.proofs.file.put_kernels.Statement.{statement}
 use Rattle.writer.proofs.file.put_kernels.Tie as tie
 
@@ -28,7 +28,7 @@ record Cutting (l : ℕ) (ends hs o₀ o : List ℕ) (start place from i : ℕ) 
   near : place ≤ start + 22 * i
   size : length o ≡ length o₀
   rise : T (rises from (drop i (take l ends)) (drop from hs))
-  toward : Toward (kernelLines (cut 0 (take l ends) hs)) o₀ o start place (kernelLines (cut from (drop i (take l ends)) (drop from hs)))
+  toward : Toward (kernel_lines (cut 0 (take l ends) hs)) o₀ o start place (kernel_lines (cut from (drop i (take l ends)) (drop from hs)))
 
 begin : (l : ℕ) (ends hs o : List ℕ) (start : ℕ) → l ≤ length ends → T (rises 0 (take l ends) hs) → Cutting l ends hs o o start start 0 0
 begin l ends hs o start few rise = record {
@@ -37,7 +37,7 @@ begin l ends hs o start few rise = record {
   near = omega arith;
   size = refl;
   rise = rise;
-  toward = toward-all (kernelLines (cut 0 (take l ends) hs)) o start;
+  toward = toward_all (kernel_lines (cut 0 (take l ends) hs)) o start;
 }
 
 module _ {l : ℕ} {ends hs o₀ o : List ℕ} {start place from i : ℕ} (g : Cutting l ends hs o₀ o start place from i) where
@@ -53,7 +53,7 @@ module _ {l : ℕ} {ends hs o₀ o : List ℕ} {start place from i : ℕ} (g : C
 
     level : (from < end) × ((end - from ≤ length (drop from hs)) × T (rises end later (drop (end - from) (drop from hs))))
     level =
-        let (above, (inside, (one, rest))) = (rises-iff from end later (drop from hs)).0 (rw ends_on at g.rise) in
+        let (above, (inside, (one, rest))) = (rises_iff from end later (drop from hs)).0 (rw ends_on at g.rise) in
         (above, (inside, rest))
 
     within : (from < end) × (end ≤ length hs)
@@ -62,14 +62,14 @@ module _ {l : ℕ} {ends hs o₀ o : List ℕ} {start place from i : ℕ} (g : C
     onward : drop (end - from) (drop from hs) ≡ drop end hs
     onward = let (above, inside) = within in let e : from + (end - from) ≡ end = omega arith in drop-drop (end - from) from hs ∙ rw e
 
-    go_on : {o' : List ℕ} {kind next : ℕ} → kind ≡ get_or hs from 0 → Fitted o o' place next (countLine (kind_of kind) (end - from))
+    go_on : {o' : List ℕ} {kind next : ℕ} → kind ≡ get_or hs from 0 → Fitted o o' place next (count_line (kind_of kind) (end - from))
         → Cutting l ends hs o₀ o' start next end (i + 1)
     go_on {o'} {kind} {next} e p =
         let (above, (inside, rest)) = level in
-        let short = count-short (kind_of kind) (end - from) in
+        let short = count_short (kind_of kind) (end - from) in
         let first : get_or (drop from hs) 0 0 ≡ kind = get_or-drop from hs 0 0 ∙ rw (add-zero from) (sym e) in
-        let line : kernelLines (cut from (drop i (take l ends)) (drop from hs))
-        ≡ countLine (kind_of kind) (end - from) ++ kernelLines (cut end later (drop end hs)) =
+        let line : kernel_lines (cut from (drop i (take l ends)) (drop from hs))
+        ≡ count_line (kind_of kind) (end - from) ++ kernel_lines (cut end later (drop end hs)) =
         rw (ends_on, cut_on from end later (drop from hs) above inside, first, onward) in
         record {
           few = g.few;
@@ -77,14 +77,14 @@ module _ {l : ℕ} {ends hs o₀ o : List ℕ} {start place from i : ℕ} (g : C
           near = omega (arith, p.next, g.near);
           size = p.size ∙ g.size;
           rise = rw onward at rest;
-          toward = toward-on g.toward line p;
+          toward = toward_on g.toward line p;
         }
 
-  ended : l ≤ i → Fitted o₀ o start place (kernelLines (cut 0 (take l ends) hs))
+  ended : l ≤ i → Fitted o₀ o start place (kernel_lines (cut 0 (take l ends) hs))
   ended all =
       let e : i ≡ l = omega (arith, g.bound) in
       let none : drop i (take l ends) ≡ [] = rw e (slice_empty l ends) in
-      toward-end g.toward (rw none (cut-none from (drop from hs)))
+      toward_end g.toward (rw none (cut_none from (drop from hs)))
 
 abbrev invariant-loop : tie.invariant-loop
 invariant-loop history levels output₀ start ends place₀ from₀ i₀ output place from i = Cutting levels ends history output₀ output start place from i
@@ -133,8 +133,8 @@ returns c =
     let g = c.before.loop.invariant in
     (ended g c.loop-test.false, omega (arith, g.near, g.bound))
 
-pub put-kernels-spec : {M : Type 1} → statement M
-put-kernels-spec =
+pub put_kernels_spec : {M : Type 1} → statement M
+put_kernels_spec =
     tie.close
     (tie.spec
     invariant-loop

@@ -6,14 +6,14 @@ use Prim.Native.Nat.{ℕ, ◌+◌, ◌-◌, ◌*◌, ◌/◌, ◌≤◌, ◌<◌
 use native.Mathlib.Omega.{arith}
 use lib.ListN.{length, get_or}
 use borrow.Author.Rules.{rules}
-use Rattle.darts.specs.File.{pairLines}
+use Rattle.darts.specs.File.{pair_lines}
 use Rattle.slices.specs.Part.{part}
-use Rattle.area.proofs.Parts.{part-cons, part_none}
+use Rattle.area.proofs.Parts.{part_cons, part_none}
 use Rattle.writer.specs.Fields.{Fitted}
-use Rattle.writer.specs.Numbering.{Dense, renamed, entriesIn}
-use Rattle.writer.proofs.Lengths.{pair-short}
-use Rattle.writer.proofs.Fitted.{Toward, toward-all, toward-on, toward-end}
-use Rattle.writer.proofs.CutLines.{pairs-on}
+use Rattle.writer.specs.Numbering.{Dense, renamed, entries_in}
+use Rattle.writer.proofs.Lengths.{pair_short}
+use Rattle.writer.proofs.Fitted.{Toward, toward_all, toward_on, toward_end}
+use Rattle.writer.proofs.CutLines.{pairs_on}
 use Rattle.writer.proofs.file.put_pairs.Statement.{statement}
 use Rattle.writer.proofs.file.put_pairs.Tie as tie
 
@@ -21,36 +21,36 @@ record Pairing (D : ℕ) (w o₀ o : List ℕ) (start place i : ℕ) : Type 0 wh
   bound : i ≤ D / 2
   near : place ≤ start + 17 * i
   size : length o ≡ length o₀
-  toward : Toward (pairLines (entriesIn D w)) o₀ o start place (pairLines (map (renamed D w) (part (2 * D + 2 * i) (3 * D) w)))
+  toward : Toward (pair_lines (entries_in D w)) o₀ o start place (pair_lines (map (renamed D w) (part (2 * D + 2 * i) (3 * D) w)))
 
 begin : (D : ℕ) (w o : List ℕ) (start : ℕ) → Pairing D w o o start start 0
-unfolding entriesIn
+unfolding entries_in
 begin D w o start =
     let all : 2 * D + 2 * 0 ≡ 2 * D = omega arith in
-    record { bound = omega arith; near = omega arith; size = refl; toward = rw all (toward-all (pairLines (entriesIn D w)) o start) }
+    record { bound = omega arith; near = omega arith; size = refl; toward = rw all (toward_all (pair_lines (entries_in D w)) o start) }
 
 module _ {D : ℕ} {w o₀ o : List ℕ} {start place i : ℕ} (dense : Dense D w) (g : Pairing D w o₀ o start place i) where
   go_on : {o' : List ℕ} {a b next : ℕ} → i < D / 2 → a ≡ renamed D w (get_or w (2 * D + 2 * i) 0) → b ≡ renamed D w (get_or w (2 * D + (2 * i + 1)) 0)
-      → Fitted o o' place next (pairLines (a ∷ b ∷ [])) → Pairing D w o₀ o' start next (i + 1)
+      → Fitted o o' place next (pair_lines (a ∷ b ∷ [])) → Pairing D w o₀ o' start next (i + 1)
   go_on {o'} {a} {b} {next} more e f p =
       let fits = dense.room.fits in
-      let short = pair-short a b in
+      let short = pair_short a b in
       let second : 2 * D + 2 * i + 1 ≡ 2 * D + (2 * i + 1) = omega arith in
       let third : 2 * D + (2 * i + 1) + 1 ≡ 2 * D + 2 * (i + 1) = omega arith in
       let list : map (renamed D w) (part (2 * D + 2 * i) (3 * D) w) ≡ a ∷ b ∷ map (renamed D w) (part (2 * D + 2 * (i + 1)) (3 * D) w) =
-      rw (part-cons (2 * D + 2 * i) (3 * D) w (omega arith) (omega arith), second, part-cons (2 * D + (2 * i + 1)) (3 * D) w (omega arith) (omega arith), third, ← e, ← f) in
+      rw (part_cons (2 * D + 2 * i) (3 * D) w (omega arith) (omega arith), second, part_cons (2 * D + (2 * i + 1)) (3 * D) w (omega arith) (omega arith), third, ← e, ← f) in
       record {
         bound = omega arith;
         near = omega (arith, p.next, g.near);
         size = p.size ∙ g.size;
-        toward = toward-on g.toward (ap pairLines list ∙ pairs-on a b (map (renamed D w) (part (2 * D + 2 * (i + 1)) (3 * D) w))) p;
+        toward = toward_on g.toward (ap pair_lines list ∙ pairs_on a b (map (renamed D w) (part (2 * D + 2 * (i + 1)) (3 * D) w))) p;
       }
 
-  ended : D / 2 ≤ i → Fitted o₀ o start place (pairLines (entriesIn D w))
-  unfolding pairLines
+  ended : D / 2 ≤ i → Fitted o₀ o start place (pair_lines (entries_in D w))
+  unfolding pair_lines
   ended all =
       let even = dense.room.even in
-      toward-end g.toward (rw (part_none (2 * D + 2 * i) (3 * D) w (omega arith)))
+      toward_end g.toward (rw (part_none (2 * D + 2 * i) (3 * D) w (omega arith)))
 
 abbrev invariant-loop : tie.invariant-loop
 invariant-loop work d output₀ start place₀ i₀ output place i = Pairing d work output₀ output start place i
@@ -90,8 +90,8 @@ loop-less c = search rules
 
 loop-again : tie.Need-loop-preserved invariant-loop decreases-loop
 loop-again c =
-    let at-loop-test = c.before.before.before.before.before.before in
-    go_on at-loop-test.before.before.before.before.requires.0 at-loop-test.before.loop.invariant at-loop-test.loop-test.true
+    let at_loop_test = c.before.before.before.before.before.before in
+    go_on at_loop_test.before.before.before.before.requires.0 at_loop_test.before.loop.invariant at_loop_test.loop-test.true
     c.before.before.before.before.before.entry.ensures.0 c.before.before.before.before.entry2.ensures.0
     c.before.before.put-pair.ensures
 
@@ -101,8 +101,8 @@ same_length c = c.before.loop.invariant.size
 returns : tie.Need-returns invariant-loop decreases-loop
 returns c = ended c.before.before.before.before.requires.0 c.before.loop.invariant c.loop-test.false
 
-pub put-pairs-spec : {M : Type 1} → statement M
-put-pairs-spec =
+pub put_pairs_spec : {M : Type 1} → statement M
+put_pairs_spec =
     tie.close
     (tie.spec
     invariant-loop

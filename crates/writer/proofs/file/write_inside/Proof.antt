@@ -2,7 +2,7 @@
 use native.Mathlib.Omega.{arith}
 use borrow.Author.Rules.{rules}
 use Rattle.pyramid.specs.Values.{state_of}
-use Rattle.writer.proofs.FileBytes.{ready-lines, too_short, all-fits}
+use Rattle.writer.proofs.FileBytes.{ready_lines, too_short_lem, all_fits}
 use Rattle.writer.proofs.file.write_inside.Statement.{statement}
 use Rattle.writer.proofs.file.write_inside.Tie as tie
 
@@ -22,7 +22,7 @@ put-file-requires : tie.Need-put-file-requires
 put-file-requires c κs =
     let n = c.before.before.before.before in
     let s = n.before.before.before.before.before.before in
-    ready-lines (state_of s.args.state) n.number-darts.ensures s.requires
+    ready_lines (state_of s.args.state) n.number-darts.ensures s.requires
 
 same_length : tie.Need-same-length
 same_length c = search rules
@@ -32,13 +32,13 @@ returns c =
     let n = c.before.before.before.before.before.before.before in
     let s = n.before.before.before.before.before.before in
     let N = n.number-darts.ensures in
-    (too_short (state_of s.args.state) N c.before.before.put-file.ensures c.if1.true, N.beyond)
+    (too_short_lem (state_of s.args.state) N c.before.before.put-file.ensures c.if1.true, N.beyond)
 
 put-file-requires-2 : tie.Need-put-file-requires-2
 put-file-requires-2 c κs =
     let n = c.before.before.before.before.before.before.before.before.before in
     let s = n.before.before.before.before.before.before in
-    ready-lines (state_of s.args.state) n.number-darts.ensures s.requires
+    ready_lines (state_of s.args.state) n.number-darts.ensures s.requires
 
 same-length-2 : tie.Need-same-length-2
 same-length-2 c = search rules
@@ -52,10 +52,10 @@ returns-2 c =
     let n = f.before.before.before.before.before in
     let s = n.before.before.before.before.before.before in
     let N = n.number-darts.ensures in
-    (all-fits (state_of s.args.state) N c.before.before.put-file2.ensures (omega (arith, f.put-file.ensures.next)), N.beyond)
+    (all_fits (state_of s.args.state) N c.before.before.put-file2.ensures (omega (arith, f.put-file.ensures.next)), N.beyond)
 
-pub write-inside-spec : {M : Type 1} → statement M
-write-inside-spec =
+pub write_inside_spec : {M : Type 1} → statement M
+write_inside_spec =
     tie.close
     (tie.spec
     cast-number-darts

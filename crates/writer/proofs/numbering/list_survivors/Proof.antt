@@ -13,14 +13,14 @@ use borrow.Author.Rules.{rules}
 use borrow.Author.Tests.{lt-ltb, le-ltb}
 use Rattle.darts.specs.Map.{survives, live}
 use Rattle.darts.specs.File.{survivors}
-use Rattle.area.specs.Area.{prev, there, pastIn}
+use Rattle.area.specs.Area.{prev, there, past_in}
 use Rattle.engine.specs.Held.{Area}
-use Rattle.engine.proofs.Area.{there-live}
+use Rattle.engine.proofs.Area.{there_live}
 use Rattle.slices.specs.Laid.{laid}
 use Rattle.writer.specs.Fields.{Fitted}
-use Rattle.slices.proofs.Laid.{laid-front}
-use Rattle.writer.proofs.Survivors.{survivors-yes, survivors-no}
-use Rattle.writer.proofs.Fitted.{toward-all, toward-end, fitted-on, fitted-one}
+use Rattle.slices.proofs.Laid.{laid_front}
+use Rattle.writer.proofs.Survivors.{survivors_yes, survivors_no}
+use Rattle.writer.proofs.Fitted.{toward_all, toward_end, fitted_on, fitted_one}
 use Rattle.writer.proofs.numbering.list_survivors.Statement.{statement}
 use Rattle.writer.proofs.numbering.list_survivors.Tie as tie
 
@@ -28,11 +28,11 @@ record Gathering (D n : ℕ) (w₀ w : List ℕ) (place x : ℕ) : Type 0 where
   size : length w ≡ length w₀
   bound : x ≤ D
   near : place ≤ 2 * D + 2 * n + x
-  fitted : Fitted w₀ w (2 * D + 2 * n) place (survivors (pastIn D n w₀) x)
+  fitted : Fitted w₀ w (2 * D + 2 * n) place (survivors (past_in D n w₀) x)
 
 begin : (D n : ℕ) (w : List ℕ) → Gathering D n w w (2 * D + 2 * n) 0
 unfolding survivors
-begin D n w = record { size = refl; bound = omega arith; near = omega arith; fitted = toward-end (toward-all [] w (2 * D + 2 * n)) refl }
+begin D n w = record { size = refl; bound = omega arith; near = omega arith; fitted = toward_end (toward_all [] w (2 * D + 2 * n)) refl }
 
 module _ {D n : ℕ} {w₀ w : List ℕ} {place x : ℕ} (A : Area D n w₀) (g : Gathering D n w₀ w place x) where
   fits : 4 * D ≤ length w₀
@@ -50,21 +50,21 @@ module _ {D n : ℕ} {w₀ w : List ℕ} {place x : ℕ} (A : Area D n w₀) (g 
   read more =
       let front : take (2 * D) w ≡ take (2 * D) w₀ =
       ap (take (2 * D)) (g.fitted.slice inside)
-      ∙ laid-front w₀ (2 * D + 2 * n) (survivors (pastIn D n w₀) x) (record { fits = omega (arith, g.fitted.next, inside) }) (2 * D) (omega arith) in
+      ∙ laid_front w₀ (2 * D + 2 * n) (survivors (past_in D n w₀) x) (record { fits = omega (arith, g.fitted.next, inside) }) (2 * D) (omega arith) in
       sym (get_or-take (2 * D) w (D + x) 0 (omega arith)) ∙ ap (λ (z : List ℕ). get_or z (D + x) 0) front ∙ get_or-take (2 * D) w₀ (D + x) 0 (omega arith)
 
-  told : x < D → there D w₀ x ≡ survives (pastIn D n w₀) x
+  told : x < D → there D w₀ x ≡ survives (past_in D n w₀) x
   unfolding live
-  told more = there-live A x more ∙ rw (lt-ltb x D more)
+  told more = there_live A x more ∙ rw (lt-ltb x D more)
 
   module _ (more : x < D) {r : ℕ} (e : r ≡ get_or w (D + x) 0) where
-    stays : r < D → survives (pastIn D n w₀) x ≡ true
+    stays : r < D → survives (past_in D n w₀) x ≡ true
     unfolding there
     stays l = sym (told more) ∙ rw (← read more, ← e, lt-ltb r D l)
 
-    is-gone : D ≤ r → survives (pastIn D n w₀) x ≡ false
+    is_gone : D ≤ r → survives (past_in D n w₀) x ≡ false
     unfolding there
-    is-gone l = sym (told more) ∙ rw (← read more, ← e, le-ltb r D l)
+    is_gone l = sym (told more) ∙ rw (← read more, ← e, le-ltb r D l)
 
     one_more : r < D → Gathering D n w₀ (set w place x) (place + 1) (x + 1)
     one_more l =
@@ -73,21 +73,21 @@ module _ {D n : ℕ} {w₀ w : List ℕ} {place x : ℕ} (A : Area D n w₀) (g 
         let f = fits in
         let t = few in
         record {
-          size = (fitted-one w place x (omega arith)).size ∙ g.size;
+          size = (fitted_one w place x (omega arith)).size ∙ g.size;
           bound = omega arith;
           near = omega arith;
-          fitted = rw (add-one x, survivors-yes (pastIn D n w₀) x (stays l)) (fitted-on g.fitted (fitted-one w place x (omega arith)));
+          fitted = rw (add-one x, survivors_yes (past_in D n w₀) x (stays l)) (fitted_on g.fitted (fitted_one w place x (omega arith)));
         }
 
     none_more : D ≤ r → Gathering D n w₀ w place (x + 1)
     none_more l =
         let a = g.near in
-        record { size = g.size; bound = omega arith; near = omega arith; fitted = rw (add-one x, survivors-no (pastIn D n w₀) x (is-gone l)) g.fitted }
+        record { size = g.size; bound = omega arith; near = omega arith; fitted = rw (add-one x, survivors_no (past_in D n w₀) x (is_gone l)) g.fitted }
 
-  ended : D ≤ x → w ≡ laid w₀ (2 * D + 2 * n) (survivors (pastIn D n w₀) D)
+  ended : D ≤ x → w ≡ laid w₀ (2 * D + 2 * n) (survivors (past_in D n w₀) D)
   ended all =
       let e : x ≡ D = omega (arith, g.bound) in
-      g.fitted.slice inside ∙ ap (λ (m : ℕ). laid w₀ (2 * D + 2 * n) (survivors (pastIn D n w₀) m)) e
+      g.fitted.slice inside ∙ ap (λ (m : ℕ). laid w₀ (2 * D + 2 * n) (survivors (past_in D n w₀) m)) e
 
 turned : {D n : ℕ} {w₀ w : List ℕ} {place left : ℕ} → 0 < left → left ≤ D → Gathering D n w₀ w place (D - left + 1)
     → (left - 1 ≤ D) × Gathering D n w₀ w place (D - (left - 1))
@@ -166,8 +166,8 @@ same_length c = c.before.loop.invariant.1.size
 returns : tie.Need-returns invariant-loop decreases-loop
 returns c = ended c.before.before.before.requires c.before.loop.invariant.1 (omega (arith, c.loop-test.false, c.before.loop.invariant.0))
 
-pub list-survivors-spec : {M : Type 1} → statement M
-list-survivors-spec =
+pub list_survivors_spec : {M : Type 1} → statement M
+list_survivors_spec =
     tie.close
     (tie.spec
     invariant-loop

@@ -7,30 +7,30 @@ use native.Mathlib.Omega.{arith}
 use lib.ListN.{length, get_or, set, drop, length-set}
 use lib.Seq.{get_or-drop}
 use borrow.Author.Rules.{rules}
-use Rattle.permutations.specs.Partner.{partner, partner-below}
-use Rattle.darts.specs.Operation.{leadOf}
+use Rattle.permutations.specs.Partner.{partner, partner_below}
+use Rattle.darts.specs.Operation.{lead_of}
 use Rattle.darts.specs.File.{taken}
 use Rattle.slices.specs.Part.{part}
-use Rattle.area.specs.Shape.{historyIn}
-use Rattle.area.proofs.Parts.{part-cons, part_none}
+use Rattle.area.specs.Shape.{history_in}
+use Rattle.area.proofs.Parts.{part_cons, part_none}
 use Rattle.engine.specs.Held.{Area}
-use Rattle.engine.proofs.Area.{area-sound}
+use Rattle.engine.proofs.Area.{area_sound}
 use Rattle.slices.specs.Laid.{laid}
-use Rattle.slices.proofs.Laid.{laid-rest}
-use Rattle.writer.proofs.Fitted.{Toward, toward-all, toward-on, toward-end, fitted-two}
+use Rattle.slices.proofs.Laid.{laid_rest}
+use Rattle.writer.proofs.Fitted.{Toward, toward_all, toward_on, toward_end, fitted_two}
 use Rattle.writer.proofs.numbering.list_taken.Statement.{statement}
 use Rattle.writer.proofs.numbering.list_taken.Tie as tie
 
 record Listing (D n : ℕ) (w₀ w : List ℕ) (i : ℕ) : Type 0 where
   size : length w ≡ length w₀
   bound : i ≤ n
-  toward : Toward (taken (historyIn D n w₀)) w₀ w (2 * D) (2 * D + 2 * i) (taken (part (3 * D + i) (3 * D + n) w₀))
+  toward : Toward (taken (history_in D n w₀)) w₀ w (2 * D) (2 * D + 2 * i) (taken (part (3 * D + i) (3 * D + n) w₀))
 
 begin : (D n : ℕ) (w : List ℕ) → Listing D n w w 0
 begin D n w =
     let here : 2 * D + 2 * 0 ≡ 2 * D = omega arith in
     let all : 3 * D + 0 ≡ 3 * D = omega arith in
-    record { size = refl; bound = omega arith; toward = rw (here, all) (toward-all (taken (historyIn D n w)) w (2 * D)) }
+    record { size = refl; bound = omega arith; toward = rw (here, all) (toward_all (taken (history_in D n w)) w (2 * D)) }
 
 module _ {D n : ℕ} {w₀ w : List ℕ} {i : ℕ} (A : Area D n w₀) (g : Listing D n w₀ w i) where
   fits : 4 * D ≤ length w₀
@@ -49,15 +49,15 @@ module _ {D n : ℕ} {w₀ w : List ℕ} {i : ℕ} (A : Area D n w₀) (g : List
         let f = few in
         let l = fits in
         let same : drop (3 * D) w ≡ drop (3 * D) w₀ =
-        ap (drop (3 * D)) (g.toward.fitted.slice (omega arith)) ∙ laid-rest w₀ (2 * D) done (record { fits = omega arith }) (3 * D) (omega arith) in
+        ap (drop (3 * D)) (g.toward.fitted.slice (omega arith)) ∙ laid_rest w₀ (2 * D) done (record { fits = omega arith }) (3 * D) (omega arith) in
         sym (get_or-drop (3 * D) w i 0) ∙ ap (λ (z : List ℕ). get_or z i 0) same ∙ get_or-drop (3 * D) w₀ i 0
 
     small : {h : ℕ} → h ≡ get_or w (3 * D + i) 0 → h / 2 < D
-    small e = let b = (area-sound A).numbers i more in let r = read in omega arith
+    small e = let b = (area_sound A).numbers i more in let r = read in omega arith
 
     go_on : {h q : ℕ} → h ≡ get_or w (3 * D + i) 0 → q ≡ partner (h / 2)
         → Listing D n w₀ (set (set w (2 * D + 2 * i) (h / 2)) (2 * D + 2 * i + 1) q) (i + 1)
-    unfolding taken leadOf
+    unfolding taken lead_of
     go_on {h} {q} e f =
         let l = fits in
         let t = few in
@@ -65,21 +65,21 @@ module _ {D n : ℕ} {w₀ w : List ℕ} {i : ℕ} (A : Area D n w₀) (g : List
         let next : 2 * D + 2 * (i + 1) ≡ 2 * D + 2 * i + 1 + 1 = omega arith in
         let place : 3 * D + (i + 1) ≡ 3 * D + i + 1 = omega arith in
         let rest : taken (part (3 * D + i) (3 * D + n) w₀) ≡ (h / 2 ∷ q ∷ []) ++ taken (part (3 * D + (i + 1)) (3 * D + n) w₀) =
-        rw (part-cons (3 * D + i) (3 * D + n) w₀ (omega arith) (omega arith), ← read, ← e, ← f, place) in
+        rw (part_cons (3 * D + i) (3 * D + n) w₀ (omega arith) (omega arith), ← read, ← e, ← f, place) in
         record {
           size = simp length-set g.size;
           bound = omega arith;
-          toward = rw next (toward-on g.toward rest (fitted-two w (2 * D + 2 * i) (h / 2) q (omega arith)));
+          toward = rw next (toward_on g.toward rest (fitted_two w (2 * D + 2 * i) (h / 2) q (omega arith)));
         }
 
-  ended : n ≤ i → w ≡ laid w₀ (2 * D) (taken (historyIn D n w₀))
+  ended : n ≤ i → w ≡ laid w₀ (2 * D) (taken (history_in D n w₀))
   unfolding taken
   ended all =
       let l = fits in
       let t = few in
       let b = g.bound in
       let none : taken (part (3 * D + i) (3 * D + n) w₀) ≡ [] = rw (part_none (3 * D + i) (3 * D + n) w₀ (omega arith)) in
-      (toward-end g.toward none).slice (omega arith)
+      (toward_end g.toward none).slice (omega arith)
 
 abbrev invariant-loop : tie.invariant-loop
 invariant-loop work₀ d n i₀ work i = Listing d n work₀ work i
@@ -128,7 +128,7 @@ cast-work-2 : tie.Need-overflow-cast-work-2 invariant-loop decreases-loop
 cast-work-2 c =
     let s = small c.before.before.before.before.before.before.requires c.before.before.before.before.loop.invariant c.before.before.before.loop-test.true c.before.at.ensures in
     let r = c.before.before.before.before.before.before.requires.room in
-    omega (arith, partner-below _ _ s r.even, r.small)
+    omega (arith, partner_below _ _ s r.even, r.small)
 
 mul-work-4 : tie.Need-overflow-mul-work-4 invariant-loop decreases-loop
 mul-work-4 c = search rules
@@ -163,8 +163,8 @@ same_length c = c.before.loop.invariant.size
 returns : tie.Need-returns invariant-loop decreases-loop
 returns c = ended c.before.before.before.requires c.before.loop.invariant c.loop-test.false
 
-pub list-taken-spec : {M : Type 1} → statement M
-list-taken-spec =
+pub list_taken_spec : {M : Type 1} → statement M
+list_taken_spec =
     tie.close
     (tie.spec
     invariant-loop

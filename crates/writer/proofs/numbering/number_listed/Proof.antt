@@ -8,10 +8,10 @@ use native.Mathlib.Omega.{arith}
 use lib.ListN.{length, get_or, set, take, drop, length-set}
 use lib.Seq.{get_or-drop, get_or-set_same, get_or-set_other, take-set-le, drop-set-lt}
 use borrow.Author.Rules.{rules}
-use Rattle.permutations.specs.Choice.{eqb_same, eqb-other}
+use Rattle.permutations.specs.Choice.{eqb_same, eqb_other}
 use Rattle.darts.specs.File.{place_in}
 use Rattle.slices.specs.Part.{part}
-use Rattle.area.proofs.Parts.{part-cons}
+use Rattle.area.proofs.Parts.{part_cons}
 use Rattle.writer.specs.Numbering.{Placed}
 use Rattle.writer.proofs.numbering.number_listed.Statement.{statement}
 use Rattle.writer.proofs.numbering.number_listed.Tie as tie
@@ -27,13 +27,13 @@ begin : (D : ℕ) (w : List ℕ) → Placing D w w D
 begin D w = record { bound = omega arith; size = refl; table = refl; rest = refl; places = λ x h. absurd (omega arith) }
 
 -- the first place, once y stands before the others
-first-place : {y x : ℕ} (ys : List ℕ) → x ≡ y → place_in (y ∷ ys) x ≡ 0
+first_place : {y x : ℕ} (ys : List ℕ) → x ≡ y → place_in (y ∷ ys) x ≡ 0
 unfolding place_in
-first-place ys e = rw (eqb_same e)
+first_place ys e = rw (eqb_same e)
 
-later-place : {y x : ℕ} (ys : List ℕ) → ¬ (x ≡ y) → place_in (y ∷ ys) x ≡ suc (place_in ys x)
+later_place : {y x : ℕ} (ys : List ℕ) → ¬ (x ≡ y) → place_in (y ∷ ys) x ≡ suc (place_in ys x)
 unfolding place_in
-later-place ys n = rw (eqb-other n)
+later_place ys n = rw (eqb_other n)
 
 module _ {D : ℕ} {w₀ w : List ℕ} {left : ℕ} (fits : 4 * D ≤ length w₀) (below : (i : ℕ) → i < D → get_or w₀ (2 * D + i) 0 < D) (g : Placing D w₀ w left) where
   module _ (more : 0 < left) {y : ℕ} (e : y ≡ get_or w (2 * D + (left - 1)) 0) where
@@ -60,15 +60,15 @@ module _ {D : ℕ} {w₀ w : List ℕ} {left : ℕ} (fits : 4 * D ≤ length w�
         list =
             let b = g.bound in
             let one : 2 * D + (left - 1) + 1 ≡ 2 * D + left = omega arith in
-            rw (part-cons (2 * D + (left - 1)) (3 * D) w₀ (omega arith) (omega arith), ← read, one)
+            rw (part_cons (2 * D + (left - 1)) (3 * D) w₀ (omega arith) (omega arith), ← read, one)
 
         go : (x : ℕ) → Dec (x ≡ y) → place_in (y ∷ later) x < D - (left - 1) → get_or (set w (D + y) (left - 1)) (D + x) 0 ≡ left - 1 + place_in (y ∷ later) x
         go x (yes k) h =
             let s = small in
             let z = g.size in
-            rw (first-place later k, k) (get_or-set_same w (D + y) (left - 1) 0 (omega arith) ∙ omega arith)
+            rw (first_place later k, k) (get_or-set_same w (D + y) (left - 1) 0 (omega arith) ∙ omega arith)
         go x (no n) h =
-            let m = later-place later n in
+            let m = later_place later n in
             get_or-set_other w (D + y) (D + x) (left - 1) 0 (λ k. n (omega arith)) ∙ g.places x (omega arith) ∙ omega arith
 
   ended : left ≤ 0 → Placed D w₀ w
@@ -128,8 +128,8 @@ same_length c = c.before.loop.invariant.size
 returns : tie.Need-returns invariant-loop decreases-loop
 returns c = ended c.before.before.before.requires.0.fits c.before.before.before.requires.1 c.before.loop.invariant c.loop-test.false
 
-pub number-listed-spec : {M : Type 1} → statement M
-number-listed-spec =
+pub number_listed_spec : {M : Type 1} → statement M
+number_listed_spec =
     tie.close
     (tie.spec
     invariant-loop

@@ -1,10 +1,10 @@
 -- `writer::print::fit_field` meets its contract: the length of the field says whether it fits.
 use native.Mathlib.Omega.{arith}
 use borrow.Author.Rules.{rules}
-use Rattle.writer.specs.Fields.{fieldLine}
-use Rattle.writer.proofs.Decimal.{decimal-short}
-use Rattle.writer.proofs.Lengths.{field-length}
-use Rattle.writer.proofs.Fitted.{fitted-not}
+use Rattle.writer.specs.Fields.{field_line}
+use Rattle.writer.proofs.Decimal.{decimal_short}
+use Rattle.writer.proofs.Lengths.{field_length}
+use Rattle.writer.proofs.Fitted.{fitted_not}
 use Rattle.writer.proofs.print.fit_field.Statement.{statement}
 use Rattle.writer.proofs.print.fit_field.Tie as tie
 
@@ -15,15 +15,15 @@ digits-requires : tie.Need-digits-requires
 digits-requires c κs = search rules
 
 add-next-2 : tie.Need-overflow-add-next-2
-add-next-2 c = omega (arith, decimal-short c.before.before.before.before.args.x)
+add-next-2 c = omega (arith, decimal_short c.before.before.before.before.args.x)
 
 add-next-3 : tie.Need-overflow-add-next-3
-add-next-3 c = omega (arith, decimal-short c.before.before.before.before.args.x)
+add-next-3 c = omega (arith, decimal_short c.before.before.before.before.args.x)
 
 put-field-requires : tie.Need-put-field-requires
 put-field-requires c κs =
     let s = c.before.before.before.before.before.before in
-    (omega arith, record { fits = omega (arith, field-length s.args.w.now s.args.x s.args.end.now) })
+    (omega arith, record { fits = omega (arith, field_length s.args.w.now s.args.x s.args.end.now) })
 
 same_length : tie.Need-same-length
 same_length c = search rules
@@ -34,11 +34,11 @@ returns c = search rules
 returns-2 : tie.Need-returns-2
 returns-2 c =
     let s = c.before.before.before.before.before in
-    fitted-not s.args.output.now s.args.at (fieldLine s.args.w.now s.args.x s.args.end.now)
-    (omega (arith, field-length s.args.w.now s.args.x s.args.end.now)) (omega arith)
+    fitted_not s.args.output.now s.args.at (field_line s.args.w.now s.args.x s.args.end.now)
+    (omega (arith, field_length s.args.w.now s.args.x s.args.end.now)) (omega arith)
 
-pub fit-field-spec : {M : Type 1} → statement M
-fit-field-spec =
+pub fit_field_spec : {M : Type 1} → statement M
+fit_field_spec =
     tie.close
     (tie.spec
     add-next

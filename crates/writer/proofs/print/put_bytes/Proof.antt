@@ -10,7 +10,7 @@ use lib.Seq.{take-suc, take_all, length-take-le}
 use borrow.Author.Rules.{rules}
 use Rattle.slices.specs.Put.{Put}
 use Rattle.slices.specs.Laid.{Space}
-use Rattle.slices.proofs.Put.{put-none, put_one}
+use Rattle.slices.proofs.Put.{put_none, put_one}
 use Rattle.writer.proofs.print.put_bytes.Statement.{statement}
 use Rattle.writer.proofs.print.put_bytes.Tie as tie
 
@@ -20,7 +20,7 @@ record Going (w₀ w v : List ℕ) (at i : ℕ) : Type 0 where
   put : Put w₀ w at (at + i) (take i v)
 
 begin : (w v : List ℕ) (at : ℕ) → Going w w v at 0
-begin w v at = record { bound = omega arith; size = refl; put = rw (add-zero at) (put-none w at) }
+begin w v at = record { bound = omega arith; size = refl; put = rw (add-zero at) (put_none w at) }
 
 go_on : (w₀ w v : List ℕ) (at i : ℕ) → Space w₀ at v → i < length v → Going w₀ w v at i → Going w₀ (set w (at + i) (get_or v i 0)) v at (i + 1)
 go_on w₀ w v at i room h g =
@@ -70,8 +70,8 @@ same_length c = search rules
 returns : tie.Need-returns invariant-loop decreases-loop
 returns c = ended _ _ _ _ _ c.loop-test.false c.before.loop.invariant
 
-pub put-bytes-spec : {M : Type 1} → statement M
-put-bytes-spec =
+pub put_bytes_spec : {M : Type 1} → statement M
+put_bytes_spec =
     tie.close
     (tie.spec
     invariant-loop

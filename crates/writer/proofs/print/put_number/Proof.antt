@@ -2,8 +2,8 @@
 use native.Mathlib.Omega.{arith}
 use lib.ListN.{length-set}
 use borrow.Author.Rules.{rules}
-use Rattle.writer.proofs.Decimal.{one-length, more-length}
-use Rattle.writer.proofs.Backward.{Backward, backward-begin, backward-inside, backward-on, backward-end}
+use Rattle.writer.proofs.Decimal.{one_length, more_length}
+use Rattle.writer.proofs.Backward.{Backward, backward_begin, backward_inside, backward_on, backward_end}
 use Rattle.writer.proofs.print.put_number.Statement.{statement}
 use Rattle.writer.proofs.print.put_number.Tie as tie
 
@@ -20,10 +20,10 @@ add-end : tie.Need-overflow-add-end invariant-loop decreases-loop
 add-end c = omega (arith, c.before.before.requires.1.fits, c.digits.ensures)
 
 loop-holds : tie.Need-loop-init invariant-loop decreases-loop
-loop-holds c = backward-begin _ _ _ c.before.before.requires.0 (omega (arith, c.digits.ensures))
+loop-holds c = backward_begin _ _ _ c.before.before.requires.0 (omega (arith, c.digits.ensures))
 
 sub-place : tie.Need-overflow-sub-place invariant-loop decreases-loop
-sub-place c = omega (arith, c.before.loop.invariant.next, more-length c.before.loop.rest c.loop-test.true c.before.loop.invariant.small)
+sub-place c = omega (arith, c.before.loop.invariant.next, more_length c.before.loop.rest c.loop-test.true c.before.loop.invariant.small)
 
 add-output : tie.Need-overflow-add-output invariant-loop decreases-loop
 add-output c = search rules
@@ -32,13 +32,13 @@ cast-output : tie.Need-overflow-cast-output invariant-loop decreases-loop
 cast-output c = search rules
 
 slice-write-output : tie.Need-slice-write-output invariant-loop decreases-loop
-slice-write-output c = omega (arith, c.before.loop.invariant.next, c.before.loop.invariant.size, more-length c.before.loop.rest c.loop-test.true c.before.loop.invariant.small, backward-inside c.before.before.before.before.requires.1 c.before.loop.invariant)
+slice-write-output c = omega (arith, c.before.loop.invariant.next, c.before.loop.invariant.size, more_length c.before.loop.rest c.loop-test.true c.before.loop.invariant.small, backward_inside c.before.before.before.before.requires.1 c.before.loop.invariant)
 
 loop-less : tie.Need-loop-smaller invariant-loop decreases-loop
 loop-less c = omega arith
 
 loop-again : tie.Need-loop-preserved invariant-loop decreases-loop
-loop-again c = backward-on c.before.before.before.before.requires.1 c.before.loop.invariant c.loop-test.true
+loop-again c = backward_on c.before.before.before.before.requires.1 c.before.loop.invariant c.loop-test.true
 
 add-output-2 : tie.Need-overflow-add-output-2 invariant-loop decreases-loop
 add-output-2 c = search rules
@@ -47,16 +47,16 @@ cast-output-2 : tie.Need-overflow-cast-output-2 invariant-loop decreases-loop
 cast-output-2 c = search rules
 
 slice-write-output-2 : tie.Need-slice-write-output-2 invariant-loop decreases-loop
-slice-write-output-2 c = omega (arith, c.before.loop.invariant.next, c.before.loop.invariant.size, one-length c.before.loop.rest (omega arith), backward-inside c.before.before.before.before.requires.1 c.before.loop.invariant)
+slice-write-output-2 c = omega (arith, c.before.loop.invariant.next, c.before.loop.invariant.size, one_length c.before.loop.rest (omega arith), backward_inside c.before.before.before.before.requires.1 c.before.loop.invariant)
 
 same_length : tie.Need-same-length invariant-loop decreases-loop
 same_length c = simp length-set c.before.loop.invariant.size
 
 returns : tie.Need-returns invariant-loop decreases-loop
-returns c = backward-end c.before.before.before.before.requires.1 c.before.loop.invariant (omega arith) (omega (arith, c.before.before.digits.ensures))
+returns c = backward_end c.before.before.before.before.requires.1 c.before.loop.invariant (omega arith) (omega (arith, c.before.before.digits.ensures))
 
-pub put-number-spec : {M : Type 1} → statement M
-put-number-spec =
+pub put_number_spec : {M : Type 1} → statement M
+put_number_spec =
     tie.close
     (tie.spec
     invariant-loop

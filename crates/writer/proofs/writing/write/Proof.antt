@@ -2,8 +2,8 @@
 use mathlib.Core.Path.{◌≡◌, sym, ◌∙◌}
 use native.Mathlib.Omega.{arith}
 use Rattle.darts.specs.Cases.{answer_of}
-use Rattle.pyramid.proofs.Judges.{room-then, stacked-of}
-use Rattle.writer.proofs.WriteEnds.{write-refused, write-short, write_done}
+use Rattle.pyramid.proofs.Judges.{room_then, stacked_of}
+use Rattle.writer.proofs.WriteEnds.{write_refused_lem, write_short, write_done}
 use borrow.Author.Rules.{rules}
 use Rattle.writer.proofs.writing.write.Statement.{statement}
 use Rattle.writer.proofs.writing.write.Tie as tie
@@ -26,7 +26,7 @@ same-length-3 c = search rules
 returns : tie.Need-returns
 returns c =
     let j = c.before.before.before.before in
-    write-refused j.judged.ensures j.before.before.before.before.before.before.before.before.args.output.now (λ z. c.if1.true (c.before.number.ensures ∙ z))
+    write_refused_lem j.judged.ensures j.before.before.before.before.before.before.before.before.args.output.now (λ z. c.if1.true (c.before.number.ensures ∙ z))
 
 -- judged, and done
 fine : (c : tie.Else1) → (answer_of c.before.before.before.before.judged.result).number ≡ 0
@@ -35,7 +35,7 @@ fine c = sym c.before.number.ensures ∙ c.if1.false
 write-inside-requires : tie.Need-write-inside-requires
 write-inside-requires c κs =
     let e = c.before.before in
-    stacked-of e.before.before.before.before.judged.ensures (fine e)
+    stacked_of e.before.before.before.before.judged.ensures (fine e)
 
 cast-clear : tie.Need-overflow-cast-clear
 cast-clear c = search rules
@@ -44,7 +44,7 @@ clear-requires : tie.Need-clear-requires
 clear-requires c κs =
     let w = c.before.before.before.before.before.before in
     let e = w.before.before.before in
-    room-then e.before.before.before.before.judged.ensures (fine e) w.write-inside.ensures.1
+    room_then e.before.before.before.before.judged.ensures (fine e) w.write-inside.ensures.1
 
 enum-known-written : tie.Need-enum-known-written
 enum-known-written c = search rules
@@ -71,7 +71,7 @@ returns-2 c =
     let e = w.before.before.before in
     let j = e.before.before.before.before in
     let W = w.write-inside.ensures in
-    rw l.clear.ensures (write-short j.judged.ensures j.before.before.before.before.before.before.before.before.args.output.now (fine e) W.1 W.0 c.before.written.given.1)
+    rw l.clear.ensures (write_short j.judged.ensures j.before.before.before.before.before.before.before.before.args.output.now (fine e) W.1 W.0 c.before.written.given.1)
 
 same-length-8 : tie.Need-same-length-8
 same-length-8 c = search rules

@@ -7,5 +7,5 @@ use Rattle.zonemap_c.proofs.bytes.zm_read.Tie as tie
 returns : tie.Need-returns
 returns c = handed c.hand-back.ensures c.before.before.before.before.before.before.before.before.before.before.read.ensures
 
-pub zm-read-spec : {M : Type 1} → statement M
-zm-read-spec = tie.close (tie.spec (λ c κs. search rules) (λ c κs. search rules) (λ c. search rules) (λ c. search rules) (λ c. search rules) returns)
+pub zm_read_spec : {M : Type 1} → statement M
+zm_read_spec = tie.close (tie.spec (λ c κs. search rules) (λ c κs. search rules) (λ c. search rules) (λ c. search rules) (λ c. search rules) returns)

@@ -9,5 +9,5 @@ returns c =
     let called = c.before.before.before.before.before.before.before.before.before.before.before in
     rw (← called.before.before.before.before.before.state-of.ensures) (written c.put-answer.ensures called.write.ensures)
 
-pub zm-write-spec : {M : Type 1} → statement M
-zm-write-spec = tie.close (tie.spec (λ c κs. search rules) (λ c κs. search rules) (λ c κs. search rules) (λ c. search rules) (λ c. search rules) (λ c. search rules) (λ c. search rules) returns)
+pub zm_write_spec : {M : Type 1} → statement M
+zm_write_spec = tie.close (tie.spec (λ c κs. search rules) (λ c κs. search rules) (λ c κs. search rules) (λ c. search rules) (λ c. search rules) (λ c. search rules) (λ c. search rules) returns)

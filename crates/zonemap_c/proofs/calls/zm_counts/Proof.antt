@@ -10,5 +10,5 @@ returns c =
     let called = put.before.before.before.before.before.before.before.before.before in
     rw (← called.before.before.before.before.state-of.ensures) (counted c.put-answer.ensures put.put-counts.ensures called.counts.ensures)
 
-pub zm-counts-spec : {M : Type 1} → statement M
-zm-counts-spec = tie.close (tie.spec (λ c κs. search rules) (λ c κs. search rules) (λ c κs. search rules) (λ c κs. search rules) (λ c. search rules) (λ c. search rules) (λ c. search rules) returns)
+pub zm_counts_spec : {M : Type 1} → statement M
+zm_counts_spec = tie.close (tie.spec (λ c κs. search rules) (λ c κs. search rules) (λ c κs. search rules) (λ c κs. search rules) (λ c. search rules) (λ c. search rules) (λ c. search rules) returns)

@@ -7,5 +7,5 @@ use Rattle.zonemap_c.proofs.calls.zm_start.Tie as tie
 returns : tie.Need-returns
 returns c = handed c.hand-back.ensures c.before.before.before.before.before.before.before.before.before.before.start.ensures
 
-pub zm-start-spec : {M : Type 1} → statement M
-zm-start-spec = tie.close (tie.spec (λ c κs. search rules) (λ c κs. search rules) (λ c. search rules) (λ c. search rules) (λ c. search rules) returns)
+pub zm_start_spec : {M : Type 1} → statement M
+zm_start_spec = tie.close (tie.spec (λ c κs. search rules) (λ c κs. search rules) (λ c. search rules) (λ c. search rules) (λ c. search rules) returns)

@@ -9,5 +9,5 @@ returns c =
     let called = c.before.before.before.before.before.before.before.before.before.before in
     rw (← called.before.before.before.before.state-of.ensures) (handed c.hand-back.ensures called.undo.ensures)
 
-pub zm-undo-spec : {M : Type 1} → statement M
-zm-undo-spec = tie.close (tie.spec (λ c κs. search rules) (λ c κs. search rules) (λ c κs. search rules) (λ c. search rules) (λ c. search rules) (λ c. search rules) returns)
+pub zm_undo_spec : {M : Type 1} → statement M
+zm_undo_spec = tie.close (tie.spec (λ c κs. search rules) (λ c κs. search rules) (λ c κs. search rules) (λ c. search rules) (λ c. search rules) (λ c. search rules) returns)

@@ -7,5 +7,5 @@ use Rattle.zonemap_c.proofs.plan.zm_plan.Tie as tie
 returns : tie.Need-returns
 returns c = handed c.hand-back.ensures c.before.before.before.before.before.before.before.before.before.before.plan.ensures
 
-pub zm-plan-spec : {M : Type 1} → statement M
-zm-plan-spec = tie.close (tie.spec (λ c κs. search rules) (λ c κs. search rules) (λ c. search rules) (λ c. search rules) (λ c. search rules) returns)
+pub zm_plan_spec : {M : Type 1} → statement M
+zm_plan_spec = tie.close (tie.spec (λ c κs. search rules) (λ c κs. search rules) (λ c. search rules) (λ c. search rules) (λ c. search rules) returns)

@@ -8,5 +8,5 @@ use Rattle.zonemap_c.proofs.successor.zm_successor.Tie as tie
 returns : tie.Need-returns
 returns c = looking c.put-answer.ensures refl refl c.before.before.before.before.before.successor-at.ensures.0
 
-pub zm-successor-spec : {M : Type 1} → statement M
-zm-successor-spec = tie.close (tie.spec (λ c κs. search rules) (λ c κs. search rules) (λ c. search rules) returns)
+pub zm_successor_spec : {M : Type 1} → statement M
+zm_successor_spec = tie.close (tie.spec (λ c κs. search rules) (λ c κs. search rules) (λ c. search rules) returns)

@@ -58,7 +58,7 @@ loop-again c =
     let line = c.before.before.before.before.before.before.before.before.before.before.before in
     let round = line.before.before.before in
     let inv = round.before.loop.invariant in
-    (omega (arith, round.loop-test.true), inv.1, inv.2, line.next-line.ensures.of-next, c.before.obey.ensures)
+    (omega (arith, round.loop-test.true), inv.1, inv.2, line.next-line.ensures.of_next, c.before.obey.ensures)
 
 returns-3 : tie.Need-returns-3 invariant-loop decreases-loop
 returns-3 c = search rules

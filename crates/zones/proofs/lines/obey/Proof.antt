@@ -50,8 +50,8 @@ step-with-requires c = search rules
 returns-5 : tie.Need-returns-5
 returns-5 c = search rules
 
-pub obey-spec : {M : Type 1} → statement M
-obey-spec =
+pub obey_spec : {M : Type 1} → statement M
+obey_spec =
     tie.close
     (tie.spec
     plain-requires

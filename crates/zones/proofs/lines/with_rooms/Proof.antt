@@ -14,5 +14,5 @@ each-requires c = search rules
 returns : tie.Need-returns
 returns c = search rules
 
-pub with-rooms-spec : {M : Type 1} → statement M
-with-rooms-spec = tie.close (tie.spec no-yarn-requires each-requires returns)
+pub with_rooms_spec : {M : Type 1} → statement M
+with_rooms_spec = tie.close (tie.spec no-yarn-requires each-requires returns)

@@ -52,8 +52,8 @@ element-copy-out-t23 c = search rules
 returns : tie.Need-returns invariant-loop decreases-loop
 returns c = search rules
 
-pub given-spec : {M : Type 1} → statement M
-given-spec =
+pub given_spec : {M : Type 1} → statement M
+given_spec =
     tie.close
     (tie.spec
     invariant-loop

@@ -89,5 +89,5 @@ same-length-20 c = search rules
 returns-4 : tie.Need-returns-4
 returns-4 c = search rules
 
-pub handed-with-spec : {M : Type 1} → statement M
-handed-with-spec = tie.close (tie.spec start-with-requires undo-with-requires unfold-with-requires reduced-with-requires same_length same-length-2 same-length-3 same-length-4 same-length-5 returns same-length-6 same-length-7 same-length-8 same-length-9 same-length-10 returns-2 same-length-11 same-length-12 same-length-13 same-length-14 same-length-15 returns-3 same-length-16 same-length-17 same-length-18 same-length-19 same-length-20 returns-4)
+pub handed_with_spec : {M : Type 1} → statement M
+handed_with_spec = tie.close (tie.spec start-with-requires undo-with-requires unfold-with-requires reduced-with-requires same_length same-length-2 same-length-3 same-length-4 same-length-5 returns same-length-6 same-length-7 same-length-8 same-length-9 same-length-10 returns-2 same-length-11 same-length-12 same-length-13 same-length-14 same-length-15 returns-3 same-length-16 same-length-17 same-length-18 same-length-19 same-length-20 returns-4)

@@ -27,31 +27,31 @@ slice-relend-prefix-handed-with : tie.Need-slice-relend-prefix-handed-with
 slice-relend-prefix-handed-with c = search rules
 
 slice-aggregate-handed-with-2 : tie.Need-slice-aggregate-handed-with-2
-slice-aggregate-handed-with-2 c = first _ _ c.before.before.before.before.before.before.before.before.before.requires.0.of-table
+slice-aggregate-handed-with-2 c = first _ _ c.before.before.before.before.before.before.before.before.before.requires.0.of_table
 
 slice-relend-prefix-handed-with-2 : tie.Need-slice-relend-prefix-handed-with-2
 slice-relend-prefix-handed-with-2 c = search rules
 
 slice-aggregate-handed-with-3 : tie.Need-slice-aggregate-handed-with-3
-slice-aggregate-handed-with-3 c = first _ _ c.before.before.before.before.before.before.before.before.before.before.requires.0.of-history
+slice-aggregate-handed-with-3 c = first _ _ c.before.before.before.before.before.before.before.before.before.before.requires.0.of_history
 
 slice-relend-prefix-handed-with-3 : tie.Need-slice-relend-prefix-handed-with-3
 slice-relend-prefix-handed-with-3 c = search rules
 
 slice-aggregate-handed-with-4 : tie.Need-slice-aggregate-handed-with-4
-slice-aggregate-handed-with-4 c = first _ _ c.before.before.before.before.before.before.before.before.before.before.before.requires.0.of-work
+slice-aggregate-handed-with-4 c = first _ _ c.before.before.before.before.before.before.before.before.before.before.before.requires.0.of_work
 
 slice-relend-prefix-handed-with-4 : tie.Need-slice-relend-prefix-handed-with-4
 slice-relend-prefix-handed-with-4 c = search rules
 
 slice-aggregate-handed-with-5 : tie.Need-slice-aggregate-handed-with-5
-slice-aggregate-handed-with-5 c = first _ _ c.before.before.before.before.before.before.before.before.before.before.before.before.requires.1.of-sheet
+slice-aggregate-handed-with-5 c = first _ _ c.before.before.before.before.before.before.before.before.before.before.before.before.requires.1.of_sheet
 
 slice-relend-prefix-handed-with-5 : tie.Need-slice-relend-prefix-handed-with-5
 slice-relend-prefix-handed-with-5 c = search rules
 
 slice-aggregate-handed-with-6 : tie.Need-slice-aggregate-handed-with-6
-slice-aggregate-handed-with-6 c = first _ _ c.before.before.before.before.before.before.before.before.before.before.before.before.before.requires.1.of-kept
+slice-aggregate-handed-with-6 c = first _ _ c.before.before.before.before.before.before.before.before.before.before.before.before.before.requires.1.of_kept
 
 handed-with-requires : tie.Need-handed-with-requires
 handed-with-requires c = search rules
@@ -74,5 +74,5 @@ same-length-5 c = search rules
 returns : tie.Need-returns
 returns c = search rules
 
-pub lent-with-spec : {M : Type 1} → statement M
-lent-with-spec = tie.close (tie.spec least-requires shared-slice-read-handed-with slice-aggregate-handed-with slice-relend-prefix-handed-with slice-aggregate-handed-with-2 slice-relend-prefix-handed-with-2 slice-aggregate-handed-with-3 slice-relend-prefix-handed-with-3 slice-aggregate-handed-with-4 slice-relend-prefix-handed-with-4 slice-aggregate-handed-with-5 slice-relend-prefix-handed-with-5 slice-aggregate-handed-with-6 handed-with-requires same_length same-length-2 same-length-3 same-length-4 same-length-5 returns)
+pub lent_with_spec : {M : Type 1} → statement M
+lent_with_spec = tie.close (tie.spec least-requires shared-slice-read-handed-with slice-aggregate-handed-with slice-relend-prefix-handed-with slice-aggregate-handed-with-2 slice-relend-prefix-handed-with-2 slice-aggregate-handed-with-3 slice-relend-prefix-handed-with-3 slice-aggregate-handed-with-4 slice-relend-prefix-handed-with-4 slice-aggregate-handed-with-5 slice-relend-prefix-handed-with-5 slice-aggregate-handed-with-6 handed-with-requires same_length same-length-2 same-length-3 same-length-4 same-length-5 returns)

@@ -68,5 +68,5 @@ same-length-15 c = search rules
 returns-3 : tie.Need-returns-3
 returns-3 c = search rules
 
-pub reduced-with-spec : {M : Type 1} → statement M
-reduced-with-spec = tie.close (tie.spec reduce-with-requires reduce-with-requires-2 sweep-with-requires same_length same-length-2 same-length-3 same-length-4 same-length-5 returns same-length-6 same-length-7 same-length-8 same-length-9 same-length-10 returns-2 same-length-11 same-length-12 same-length-13 same-length-14 same-length-15 returns-3)
+pub reduced_with_spec : {M : Type 1} → statement M
+reduced_with_spec = tie.close (tie.spec reduce-with-requires reduce-with-requires-2 sweep-with-requires same_length same-length-2 same-length-3 same-length-4 same-length-5 returns same-length-6 same-length-7 same-length-8 same-length-9 same-length-10 returns-2 same-length-11 same-length-12 same-length-13 same-length-14 same-length-15 returns-3)

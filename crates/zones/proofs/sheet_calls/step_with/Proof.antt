@@ -26,5 +26,5 @@ print-yarn-requires c κs = c.before.before.before.before.before.before.before.b
 returns : tie.Need-returns
 returns c = search rules
 
-pub step-with-spec : {M : Type 1} → statement M
-step-with-spec = tie.close (tie.spec lent-with-requires add-sum-records sum-records-requires add-sum-records-2 sum-records-requires-2 print-yarn-requires returns)
+pub step_with_spec : {M : Type 1} → statement M
+step_with_spec = tie.close (tie.spec lent-with-requires add-sum-records sum-records-requires add-sum-records-2 sum-records-requires-2 print-yarn-requires returns)
