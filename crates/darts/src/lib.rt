@@ -1,4 +1,5 @@
 // The pairing of darts, edge e having darts 2e and 2e+1, and the answers. The definitions of document 01 stand in specs/.
+#![tactic(auto)]
 pub mod answers;
 
 ghost use Rattle.std.specs.Prelude.{◌≡◌, ◌<◌};
