@@ -1,11 +1,13 @@
 // The pairing of darts, edge e having darts 2e and 2e+1, and the answers. The definitions of document 01 stand in specs/.
+#![tactic(auto)]
+
 pub mod answers;
 
 ghost use Rattle.std.specs.Prelude.{◌≡◌, ◌<◌};
 ghost use Rattle.permutations.specs.Partner.{partner as partnerOf};
 
 // A case for each refusal, with its place where it has one, and a second place where it has two.
-#[derive(Drop)]
+#[derive(Clone, Copy)]
 pub enum Answer {
     Done(usize),
     NoDartCount,

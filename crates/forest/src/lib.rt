@@ -1,5 +1,7 @@
 // Which numbers belong together, kept in a lent slice: each number has a parent, which is never above it, and a root is its own parent.
 // Two numbers belong together where they have the same root.
+#![tactic(auto)]
+
 ghost use Rattle.std.specs.Prelude.{◌≤◌, ◌<◌, ◌^◌, length};
 ghost use Rattle.forest.specs.Forest.{Stands, Top, Found, Joined, Fresh};
 

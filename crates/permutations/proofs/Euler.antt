@@ -176,7 +176,7 @@ unfolding run total
 run_total count w step G [] h = omega arith
 run_total count w step {m} G (a ∷ l) h =
     let n = step m G a h.0 in
-    let k = run_total count w step (good_act G a h.0) l h.1 in
+    let k = run_total count w step {m = act m a} (good_act G a h.0) l h.1 in
     omega arith
 
 pub act_vertices : {D : ℕ} (m : Map) → Good D m → (a : Op) → Legal m a → vertices D m ≡ vertices D (act m a) + contracted a

@@ -85,7 +85,7 @@ AllLegal m (a ∷ l) = Legal m a × AllLegal (act m a) l
 pub good_run : {D : ℕ} {m : Map} → Good D m → (l : List Op) → AllLegal m l → Good D (run m l)
 unfolding run
 good_run G [] h = G
-good_run G (a ∷ l) h = good_run (good_act G a h.0) l h.1
+good_run {m = m} G (a ∷ l) h = good_run {m = act m a} (good_act G a h.0) l h.1
 
 -- ---- an edge that may be removed may be contracted in the dual
 

@@ -148,7 +148,7 @@ pub any_order : {D : ℕ} {m : Map} {l k : List Op} → Good D m → Permᴰ l k
 unfolding run
 any_order {D} {m} G Permᴰ.nil h = record { legal = tt; end = refl }
 any_order {D} {m} G (Permᴰ.cons {a} {b} {l₁} {l₂} e d) h =
-    let r = any_order (good_act G a h.0) d h.1 in
+    let r = any_order {m = act m a} (good_act G a h.0) d h.1 in
     subst (λ c. Same m (a ∷ l₁) (c ∷ l₂)) e (record { legal = (h.0, r.legal); end = r.end })
 any_order {D} {m} G (Permᴰ.swap {a} {b} {a'} {b'} {l} e k) h =
     let s = swapped G a b h.0 h.1.0 in

@@ -9,7 +9,6 @@ use Rattle.permutations.specs.Perm.{inj}
 use Rattle.permutations.specs.Splice.{swap, swap_left, swap_right, swap_other, crossed, splice, skip}
 use Rattle.permutations.specs.Cycle.{Meets, meets_ind, meets_back, meets_next}
 use Rattle.permutations.specs.Joined.{without_meets, Joined, splice_meets, On}
-use Rattle.permutations.specs.Live.{off}
 use Rattle.permutations.specs.Map.{Map, mate, Good, mate_mate, mate_live, partner_live, next_live, face, off_edge, mate_off_end, mate_off_other, contract, partner_small, remove}
 use Rattle.permutations.proofs.Dual.{dual, good_dual, dual_dual, remove_by_dual, good_contract}
 use Rattle.permutations.proofs.Legal.{act, Contractible, Contract, Removable, dual_contractible, Whole, Op, Legal, dart, Remove}

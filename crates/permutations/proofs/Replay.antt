@@ -98,8 +98,8 @@ judge_iff G Λ [] = (λ t. tt, λ t. tt)
 judge_iff {D} {m} {L} {F} G Λ (Contract p ∷ l) =
     let M = merge L p (partner p) in
     and_iff (label_test m L p) (judge (contract m p) M F l) (label_iff G Λ.vertex p) (λ c.
-    judge_iff (good_contract G p c.lives) (contract_labelled G Λ p c (merge_merges L p (partner p))) l)
+    judge_iff {m = contract m p} {L = M} {F = F} (good_contract G p c.lives) (contract_labelled G Λ p c (merge_merges L p (partner p))) l)
 judge_iff {D} {m} {L} {F} G Λ (Remove p ∷ l) =
     let M = merge F p (partner p) in
     and_iff (label_test m F p) (judge (remove m p) L M l) (label_iff G Λ.side p) (λ r.
-    judge_iff (good_remove G p r.lives) (remove_labelled G Λ p r (merge_merges F p (partner p))) l)
+    judge_iff {m = remove m p} {L = L} {F = M} (good_remove G p r.lives) (remove_labelled G Λ p r (merge_merges F p (partner p))) l)

@@ -4,8 +4,8 @@
 --   eqb m n    == the test whether m and n are the same number (the library's)
 use Rattle.std.specs.Prelude.{Bool, true, false, ◌||◌, ◌&&◌, not, ◌≢◌, ◌↔◌, ◌⊎◌, ◌≡◌, refl, ℕ, T, eqb}
 use Rattle.std.proofs.Common.{inl, inr, ⊎_elim, subst, sym, eqb→eq, T_not}
-use Rattle.std.proofs.Math.Logic.{Iff.trans}
 use Rattle.std.proofs.Math.Dec.{eqb_refl, not_T}
+use mathlib.Core.Logic.Iff
 
 abbrev pub pick {ℓ} : {A : Type ℓ} → Bool → A → A → A
 pick true a b = a

@@ -5,7 +5,6 @@
 --   Kept live new p q == what is live now was live before, and is neither p nor q
 --   merge L p q       == L, with p's label for q's
 use Rattle.std.specs.Prelude.{Bool, ◌↔◌, ◌⊎◌, ◌≢◌, ◌≡◌, ℕ, ◌<◌, T, eqb}
-use Rattle.std.proofs.Math.Logic.{Iff.trans, Iff.symm, Iff.and}
 use Rattle.std.proofs.Common.{inl, inr, ⊎_elim, sym, ◌∙◌}
 use Rattle.std.proofs.Math.Decide.{ℕ_discrete}
 use Rattle.permutations.specs.Choice.{⊎_iff, pick, eqb_same, eqb_other}
@@ -13,6 +12,7 @@ use Rattle.permutations.specs.Perm.{Perm}
 use Rattle.permutations.specs.Splice.{skip, splice}
 use Rattle.permutations.specs.Cycle.{Meets}
 use Rattle.permutations.specs.Joined.{skip_meets, On, splice_meets}
+use mathlib.Core.Logic.Iff
 
 pub record Labels (live : ℕ → Bool) (f L : ℕ → ℕ) : Type 0 where
   pub says : (x y : ℕ) → T (live x) → T (live y) → (L x ≡ L y) ↔ Meets f x y

@@ -1,4 +1,6 @@
 // Lent slices: one number read, all numbers written, numbers copied.
+#![tactic(auto)]
+
 ghost use Rattle.std.specs.Prelude.{◌≡◌, ◌≤◌, ◌<◌, length, get_or, take, replicate};
 ghost use Rattle.slices.specs.Over.{over};
 

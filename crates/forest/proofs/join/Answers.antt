@@ -17,8 +17,7 @@ use mir.Val.{Fits}
 use borrow.Author.Rules.{rules}
 use Rattle.forest.specs.Forest.{parent, Falls, root, apart, Top, Found, Joined}
 use Rattle.forest.specs.Roots.{root_top, root_settled}
-use Rattle.forest.proofs.join.Statement.{statement}
-use Rattle.forest.proofs.join.Tie as tie
+use Rattle.forest.proofs.join.Goals as goal
 
 record Twice (t t' : List ℕ) (x y u v : ℕ) : Type 0 where
   falls : Falls t'
@@ -74,29 +73,11 @@ module _ {t t' : List ℕ} {x y u v : ℕ} (w : Twice t t' x y u v) where
     size = j.size ∙ w.size;
   }
 
-find-requires : tie.Need-find-requires
-find-requires c κs = search rules
+pub link-requires-clause-top : goal.link-requires-clause-top
+link-requires-clause-top c = let w = twice c.find-u.ensures c.find-v.ensures in (first_top w, first_top (turned w))
 
-find-requires-2 : tie.Need-find-requires-2
-find-requires-2 c κs = search rules
+pub link-requires-clause-u_bound : goal.link-requires-clause-u_bound
+link-requires-clause-u_bound c = roots_fit (twice c.find-u.ensures c.find-v.ensures) (search rules)
 
-link-requires : tie.Need-link-requires
-link-requires c κs =
-    let g = c.before.before.before in
-    let f = g.before.before.before.before in
-    let w = twice f.find.ensures g.find2.ensures in
-    let fits = roots_fit w c.before.slice-known3.given in
-    ((first_top w, first_top (turned w)), fits)
-
-same_length : tie.Need-same-length
-same_length c = search rules
-
-returns : tie.Need-returns
-returns c =
-    let l = c.before.before in
-    let g = l.before.before.before.before in
-    let f = g.before.before.before.before in
-    twice_joined (twice f.find.ensures g.find2.ensures) l.link.ensures
-
-pub join_spec : {M : Type 1} → statement M
-join_spec = tie.close (tie.spec find-requires find-requires-2 link-requires same_length returns)
+pub returns : goal.returns
+returns c = twice_joined (twice c.find-u.ensures c.find-v.ensures) c.link.ensures

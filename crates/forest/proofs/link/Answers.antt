@@ -10,14 +10,12 @@ use mathlib.Core.List.{List}
 use Prim.Native.Nat.{ℕ, ◌<◌}
 use native.Mathlib.Omega.{arith}
 use lib.ListN.{set, length-set}
-use borrow.Author.Rules.{rules}
 use borrow.Author.Tests.{eq-eqb, ne_eqb}
 use Rattle.forest.specs.Forest.{root, apart, Top, Joined}
 use Rattle.forest.specs.Roots.{root_top}
 use Rattle.forest.proofs.Joins.{linked_self, join_turned}
 use Rattle.forest.proofs.Hanging.{link_falls, link_roots}
-use Rattle.forest.proofs.link.Statement.{statement}
-use Rattle.forest.proofs.link.Tie as tie
+use Rattle.forest.proofs.link.Goals as goal
 
 module _ {t : List ℕ} {u v : ℕ} (first : Top t u) (second : Top t v) where
   one_root : u ≡ v → Joined t t u v false
@@ -43,51 +41,11 @@ module _ {t : List ℕ} {u v : ℕ} (first : Top t u) (second : Top t v) where
 hung_under_second : {t : List ℕ} {u v : ℕ} → Top t u → Top t v → v < u → Joined t (set t u v) u v true
 hung_under_second first second l = join_turned (hung_under_first second first l)
 
-returns : tie.Need-returns
-returns c = let s = c.before in one_root s.requires.0.0 s.requires.0.1 c.if1.true
+pub returns-then-u-v : goal.returns-then-u-v
+returns-then-u-v c = one_root c.requires.top.0 c.requires.top.1 c.if-u-v.true
 
-cast-forest : tie.Need-overflow-cast-forest
-cast-forest c = search rules
+pub returns-then-u-v-2 : goal.returns-then-u-v-2
+returns-then-u-v-2 c = hung_under_first c.requires.top.0 c.requires.top.1 c.if-u-v-2.true
 
-mul-forest : tie.Need-overflow-mul-forest
-mul-forest c = search rules
-
-slice-write-forest : tie.Need-slice-write-forest
-slice-write-forest c = search rules
-
-cast-forest-2 : tie.Need-overflow-cast-forest-2
-cast-forest-2 c = search rules
-
-mul-forest-2 : tie.Need-overflow-mul-forest-2
-mul-forest-2 c = search rules
-
-slice-write-forest-2 : tie.Need-slice-write-forest-2
-slice-write-forest-2 c = search rules
-
-same_length : tie.Need-same-length
-same_length c = simp length-set (omega arith)
-
-returns-2 : tie.Need-returns-2
-returns-2 c = let s = c.before.before in hung_under_first s.requires.0.0 s.requires.0.1 c.if2.true
-
-same-length-2 : tie.Need-same-length-2
-same-length-2 c = simp length-set (omega arith)
-
-returns-3 : tie.Need-returns-3
-returns-3 c = let s = c.before.before in hung_under_second s.requires.0.0 s.requires.0.1 (omega arith)
-
-pub link_spec : {M : Type 1} → statement M
-link_spec =
-    tie.close
-    (tie.spec
-    returns
-    cast-forest
-    mul-forest
-    slice-write-forest
-    cast-forest-2
-    mul-forest-2
-    slice-write-forest-2
-    same_length
-    returns-2
-    same-length-2
-    returns-3)
+pub returns-else-u-v-2 : goal.returns-else-u-v-2
+returns-else-u-v-2 c = hung_under_second c.requires.top.0 c.requires.top.1 (omega arith)
