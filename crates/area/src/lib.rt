@@ -1,5 +1,7 @@
 // The work area: table and history in it, tested, the shape of a state over them, and all of it cleared.
 // Function by function, each contract is the same computation on lists.
+#![tactic(auto)]
+
 pub mod clear;
 pub mod load;
 pub mod shape;

@@ -1,4 +1,6 @@
 // What a call does in the work area, in the words of the definitions: check, run, sweep, take back, store.
+#![tactic(auto)]
+
 pub mod base;
 pub mod check;
 pub mod kernel;

@@ -1,22 +1,25 @@
 // The program `levels`: a line for each level of the file on standard input, base first, and `end=ok`; or one line that says
 // why the file is refused.
-ghost use Rattle.std.specs.Prelude.{◌≡◌, ◌+◌};
+#![tactic(auto)]
+
+ghost use Rattle.std.specs.Prelude.{◌≡◌, ◌+◌, IfOk};
 ghost use Rattle.page.specs.Waits.{Waits};
 ghost use Rattle.darts.specs.Cases.{answer_of};
 ghost use Rattle.pyramid.specs.Values.{left, tally_of, counts_left};
 ghost use Rattle.levels.specs.Report.{level_at, counts_at, Tables, Refused, Accepted, LineOf, AllLines};
 
-use libc::STDIN_FILENO;
 use pyramid::{Answer, Counted, Counts, Outcome};
+use std::io;
+use std::io::Write;
 
 // The line of a refused file, which is lent for the contract alone: no other answer can stand in its line.
-fn refusal(file: &[u8], answer: Answer, page: &mut [u8]) -> usize
+fn refusal<W: Write>(out: &mut W, file: &[u8], answer: Answer, page: &mut [u8]) -> io::Result<usize>
     requires { Refused file.now (answer_of answer) × Waits 0 page.old }
-    ensures { Waits result page.new }
+    ensures { IfOk result (λ at. Waits at page.new) }
 {
-    let number = page::field(page, 0, b"refusal=", answer.number() as u64);
-    let place = page::field(page, number, b" place=", answer.place() as u64);
-    page::text(page, place, b"\n")
+    let number = page::field(out, page, 0, b"refusal=", answer.number() as u64)?;
+    let place = page::field(out, page, number, b" place=", answer.place() as u64)?;
+    page::text(out, page, place, b"\n")
 }
 
 // Level k of a file. It is read anew for each level, since unfolding changes the tables.
@@ -60,93 +63,102 @@ struct Said {
 
 // The line of the next level, whose number is how many have theirs: so each level gets one, base first. The file is lent for
 // the contract alone: no other level's counts can stand in the line.
-fn level(file: &[u8], said: Said, counts: Counts, page: &mut [u8]) -> Said
+fn level<W: Write>(
+    out: &mut W,
+    file: &[u8],
+    said: Said,
+    counts: Counts,
+    page: &mut [u8],
+) -> io::Result<Said>
     requires { LineOf said.levels file.now (tally_of counts) × Waits said.used page.old }
-    ensures { (result.levels ≡ said.levels + 1) × Waits result.used page.new }
+    ensures { IfOk result (λ r. (r.levels ≡ said.levels + 1) × Waits r.used page.new) }
 {
     let k = said.levels;
-    let number = page::field(page, said.used, b"level=", k as u64);
+    let number = page::field(out, page, said.used, b"level=", k as u64)?;
     let rest = page::counts(
+        out,
         page,
         number,
         counts.darts,
         counts.vertices,
         counts.faces,
         counts.euler,
-    );
-    let used = page::text(page, rest, b"\n");
-    Said {
+    )?;
+    let used = page::text(out, page, rest, b"\n")?;
+    Ok(Said {
         levels: k + 1,
         used: used,
-    }
+    })
 }
 
 // The lines of the levels from the base to the top.
-fn levels(
+fn levels<W: Write>(
+    out: &mut W,
     file: &[u8],
     top: u32,
     table: &mut [u32],
     history: &mut [u32],
     work: &mut [u32],
     page: &mut [u8],
-) -> Said
+) -> io::Result<Said>
     requires { Accepted file.now top × Tables table.old history.old work.old × Waits 0 page.old }
-    ensures { AllLines result.levels file.now × Waits result.used page.new }
+    ensures { IfOk result (λ r. AllLines r.levels file.now × Waits r.used page.new) }
 {
     let mut said = Said { levels: 0, used: 0 };
     while said.levels <= top {
         let counted = counts_at(file, said.levels, table, history, work);
         let counts = counted.counts;
-        said = level(file, said, counts, page);
+        said = level(out, file, said, counts, page)?;
     }
-    said
+    Ok(said)
 }
 
 // The last line, once every level has its own.
-fn end(file: &[u8], said: Said, page: &mut [u8]) -> usize
+fn end<W: Write>(out: &mut W, file: &[u8], said: Said, page: &mut [u8]) -> io::Result<usize>
     requires { AllLines said.levels file.now × Waits said.used page.old }
-    ensures { Waits result page.new }
+    ensures { IfOk result (λ at. Waits at page.new) }
 {
-    page::text(page, said.used, b"end=ok\n")
+    page::text(out, page, said.used, b"end=ok\n")
 }
 
 // All lines of a file.
-fn report(
+fn report<W: Write>(
+    out: &mut W,
     file: &[u8],
     table: &mut [u32],
     history: &mut [u32],
     work: &mut [u32],
     page: &mut [u8],
-) -> usize
+) -> io::Result<usize>
     requires { Tables table.old history.old work.old × Waits 0 page.old }
-    ensures { Waits result page.new }
+    ensures { IfOk result (λ at. Waits at page.new) }
 {
     let read = reader::read(file, table, history, work);
     let answer = read.answer;
     if answer.number() != 0 {
-        return refusal(file, answer, page);
+        return refusal(out, file, answer, page);
     }
     let state = read.state;
-    let said = levels(file, state.levels, table, history, work, page);
-    end(file, said, page)
+    let said = levels(out, file, state.levels, table, history, work, page)?;
+    end(out, file, said, page)
 }
 
 // The tables for 4,096 darts: "at least D numbers, the history with D/2 and the work area with 4D".
-fn print(file: &[u8]) {
+fn print<W: Write>(out: &mut W, file: &[u8]) -> io::Result<()> {
     let mut table = [0u32; 4096];
     let mut history = [0u32; 2048];
     let mut work = [0u32; 16384];
     let mut page = [0u8; 4096];
-    let used = report(file, &mut table, &mut history, &mut work, &mut page);
-    page::flush(&page, used);
+    let used = report(out, file, &mut table, &mut history, &mut work, &mut page)?;
+    page::flush(out, &page, used)
 }
 
 // A file in good form for at most 4,096 darts has at most 36,255 bytes: 10 + 11 + 10 in the first three lines, 64 lines
 // of at most 22 for the kernels and 2,048 of at most 17 for the pairs. A longer one has its first fault among its first
 // 36,256: a byte out of form, a value that its line's end refuses (more than 4,096 darts or 64 levels are such values),
 // or the byte after the last line. The answer and its place are those of the bytes up to there, so 65,536 of them are enough.
-fn main() {
-    let mut file = io::large_buffer();
-    let n = io::read_full(STDIN_FILENO, &mut file);
-    print(&file[..n]);
+fn main(rt: HostRuntime) -> io::Result<()> {
+    let mut file = [0u8; 65536];
+    let n = page::fill(&mut rt.stdin(), &mut file)?;
+    print(&mut rt.stdout(), &file[..n])
 }

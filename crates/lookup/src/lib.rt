@@ -1,4 +1,6 @@
 // The successor of a dart at a level, without unfolding: it is looked up in the base table and the ends of the edges.
+#![tactic(auto)]
+
 mod calls;
 mod deciding;
 mod levels;

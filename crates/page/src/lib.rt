@@ -1,70 +1,80 @@
-// A page of text on its way to standard output. The first `used` bytes of it wait; a full page is written before more is
-// put on it. Each function answers how many bytes wait then.
-ghost use Rattle.std.specs.Prelude.{◌≡◌, ◌≤◌, ◌<◌, nat_abs, length};
+// A page of text on its way to a writer. The first `used` bytes of it wait; a full page is written before more is put on
+// it. Each function answers how many bytes wait then, or why the writer took no more. And the bytes of an input, read into
+// room that is fixed.
+#![tactic(auto)]
+
+ghost use Rattle.std.specs.Prelude.{◌≡◌, ◌≤◌, ◌<◌, IfOk, nat_abs, length};
 ghost use Rattle.page.specs.Waits.{Waits};
 
-use libc::STDOUT_FILENO;
+use itoa::Buffer;
+use std::io;
+use std::io::{Read, Write};
 
 // Writes the bytes that wait.
-pub fn flush(page: &[u8], used: usize)
+pub fn flush<W: Write>(out: &mut W, page: &[u8], used: usize) -> io::Result<()>
     requires { used ≤ length page.now }
 {
-    io::write_all(STDOUT_FILENO, &page[..used]);
+    out.write_all(&page[..used])
 }
 
 // Where the next byte goes: at the start, once a full page is written.
-fn free(page: &[u8], used: usize) -> usize
+fn free<W: Write>(out: &mut W, page: &[u8], used: usize) -> io::Result<usize>
     requires { Waits used page.now }
-    ensures { result < length page.now }
+    ensures { IfOk result (λ at. at < length page.now) }
 {
     if used < page.len() {
-        return used;
+        return Ok(used);
     }
-    flush(page, used);
-    0
+    flush(out, page, used)?;
+    Ok(0)
 }
 
 // One byte more.
-fn byte(page: &mut [u8], used: usize, b: u8) -> usize
+fn byte<W: Write>(out: &mut W, page: &mut [u8], used: usize, b: u8) -> io::Result<usize>
     requires { Waits used page.old }
-    ensures { Waits result page.new }
+    ensures { IfOk result (λ at. Waits at page.new) }
 {
-    let at = free(page, used);
+    let at = free(out, page, used)?;
     page[at] = b;
-    at + 1
+    Ok(at + 1)
 }
 
 // The bytes of a text.
-pub fn text(page: &mut [u8], used: usize, bytes: &[u8]) -> usize
+pub fn text<W: Write>(out: &mut W, page: &mut [u8], used: usize, bytes: &[u8]) -> io::Result<usize>
     requires { Waits used page.old }
-    ensures { Waits result page.new }
+    ensures { IfOk result (λ at. Waits at page.new) }
 {
     let mut at = used;
     let mut i = 0;
     while i < bytes.len() {
-        at = byte(page, at, bytes[i]);
+        at = byte(out, page, at, bytes[i])?;
         i += 1;
     }
-    at
+    Ok(at)
 }
 
 // The decimal digits of a number.
-pub fn number(page: &mut [u8], used: usize, n: u64) -> usize
+pub fn number<W: Write>(out: &mut W, page: &mut [u8], used: usize, n: u64) -> io::Result<usize>
     requires { Waits used page.old }
-    ensures { Waits result page.new }
+    ensures { IfOk result (λ at. Waits at page.new) }
 {
-    let mut digits = [0u8; 20];
-    let k = io::decimal(n, &mut digits);
-    text(page, used, &digits[..k])
+    let mut digits = Buffer::new();
+    text(out, page, used, digits.format(n).as_bytes())
 }
 
 // A key and its number.
-pub fn field(page: &mut [u8], used: usize, key: &[u8], n: u64) -> usize
+pub fn field<W: Write>(
+    out: &mut W,
+    page: &mut [u8],
+    used: usize,
+    key: &[u8],
+    n: u64,
+) -> io::Result<usize>
     requires { Waits used page.old }
-    ensures { Waits result page.new }
+    ensures { IfOk result (λ at. Waits at page.new) }
 {
-    let at = text(page, used, key);
-    number(page, at, n)
+    let at = text(out, page, used, key)?;
+    number(out, page, at, n)
 }
 
 // How far a number lies from zero.
@@ -79,32 +89,54 @@ fn magnitude(n: i32) -> u64
 }
 
 // A key and a number that may lie below zero.
-pub fn signed(page: &mut [u8], used: usize, key: &[u8], n: i32) -> usize
+pub fn signed<W: Write>(
+    out: &mut W,
+    page: &mut [u8],
+    used: usize,
+    key: &[u8],
+    n: i32,
+) -> io::Result<usize>
     requires { Waits used page.old }
-    ensures { Waits result page.new }
+    ensures { IfOk result (λ at. Waits at page.new) }
 {
-    let at = text(page, used, key);
+    let at = text(out, page, used, key)?;
     if n < 0 {
-        let below = text(page, at, b"-");
-        return number(page, below, magnitude(n));
+        let below = text(out, page, at, b"-")?;
+        return number(out, page, below, magnitude(n));
     }
-    number(page, at, magnitude(n))
+    number(out, page, at, magnitude(n))
 }
 
 // The four counts of a level, each after a space.
-pub fn counts(
+pub fn counts<W: Write>(
+    out: &mut W,
     page: &mut [u8],
     used: usize,
     darts: u32,
     vertices: u32,
     faces: u32,
     euler: i32,
-) -> usize
+) -> io::Result<usize>
     requires { Waits used page.old }
-    ensures { Waits result page.new }
+    ensures { IfOk result (λ at. Waits at page.new) }
 {
-    let first = field(page, used, b" darts=", darts as u64);
-    let second = field(page, first, b" vertices=", vertices as u64);
-    let third = field(page, second, b" faces=", faces as u64);
-    signed(page, third, b" euler=", euler)
+    let first = field(out, page, used, b" darts=", darts as u64)?;
+    let second = field(out, page, first, b" vertices=", vertices as u64)?;
+    let third = field(out, page, second, b" faces=", faces as u64)?;
+    signed(out, page, third, b" euler=", euler)
+}
+
+// Reads until the room is full or the input ends: answers how many bytes were read, which stand at the room's start.
+pub fn fill<R: Read>(input: &mut R, room: &mut [u8]) -> io::Result<usize>
+    ensures { IfOk result (λ n. n ≤ length room.new) }
+{
+    let mut done = 0;
+    while done < room.len() {
+        let n = input.read(&mut room[done..])?;
+        if n == 0 {
+            break;
+        }
+        done += n;
+    }
+    Ok(done)
 }

@@ -4,35 +4,37 @@ ghost use Rattle.plan.specs.Drawing.{wrong_line};
 
 use crate::file::file;
 use crate::rooms::{HistoryRoom, OutputRoom, PlanRoom, TableRoom, WorkRoom};
-use libc::STDOUT_FILENO;
 use pyramid::Answer;
+use std::io;
+use std::io::Write;
 
 // Prints `error=` and a line's number.
-pub fn error(line: usize) {
+pub fn error<W: Write>(out: &mut W, line: usize) -> io::Result<()> {
     let mut page = [0u8; 64];
-    let used = page::field(&mut page, 0, b"error=", line as u64);
-    let end = page::text(&mut page, used, b"\n");
-    page::flush(&page, end);
+    let used = page::field(out, &mut page, 0, b"error=", line as u64)?;
+    let end = page::text(out, &mut page, used, b"\n")?;
+    page::flush(out, &page, end)
 }
 
 // Prints the line of a refused plan, as `levels` gives it.
-fn refusal(answer: Answer) {
+fn refusal<W: Write>(out: &mut W, answer: Answer) -> io::Result<()> {
     let mut page = [0u8; 64];
-    let number = page::field(&mut page, 0, b"refusal=", answer.number() as u64);
-    let place = page::field(&mut page, number, b" place=", answer.place() as u64);
-    let end = page::text(&mut page, place, b"\n");
-    page::flush(&page, end);
+    let number = page::field(out, &mut page, 0, b"refusal=", answer.number() as u64)?;
+    let place = page::field(out, &mut page, number, b" place=", answer.place() as u64)?;
+    let end = page::text(out, &mut page, place, b"\n")?;
+    page::flush(out, &page, end)
 }
 
 // Prints the first n bytes of the output.
-fn print_file(output: &[u8], n: usize)
+fn print_file<W: Write>(out: &mut W, output: &[u8], n: usize) -> io::Result<()>
     requires { n ≤ length output.now }
 {
-    io::write_all(STDOUT_FILENO, &output[0..n]);
+    out.write_all(&output[0..n])
 }
 
 // Prints the file of a drawing, or why there is none.
-fn print_in(
+fn print_in<W: Write>(
+    out: &mut W,
     drawing: &[u8],
     base: bool,
     plan: &mut PlanRoom,
@@ -40,19 +42,18 @@ fn print_in(
     history: &mut HistoryRoom,
     work: &mut WorkRoom,
     output: &mut OutputRoom,
-)
+) -> io::Result<()>
     requires { (wrong_line drawing.now ≡ 0) × (length drawing.now ≤ 65536) }
 {
     let answer = file(drawing, base, plan, table, history, work, output);
     if answer.number() != 0 {
-        refusal(answer);
-        return;
+        return refusal(out, answer);
     }
-    print_file(output, answer.place());
+    print_file(out, output, answer.place())
 }
 
 // The same, over rooms of zeros, each made here and lent whole, so that it stands on the stack once.
-pub fn print(drawing: &[u8], base: bool)
+pub fn print<W: Write>(out: &mut W, drawing: &[u8], base: bool) -> io::Result<()>
     requires { (wrong_line drawing.now ≡ 0) × (length drawing.now ≤ 65536) }
 {
     let mut plan = [0u8; 65536];
@@ -61,6 +62,7 @@ pub fn print(drawing: &[u8], base: bool)
     let mut work = [0u32; 260096];
     let mut output = [0u8; 552757];
     print_in(
+        out,
         drawing,
         base,
         &mut plan,
@@ -68,5 +70,5 @@ pub fn print(drawing: &[u8], base: bool)
         &mut history,
         &mut work,
         &mut output,
-    );
+    )
 }

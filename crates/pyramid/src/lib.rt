@@ -1,4 +1,6 @@
 // The calls on a state: start, reduce, sweep, undo, unfold, counts; all but the last once more with sheets of records.
+#![tactic(auto)]
+
 mod checking;
 mod counting;
 mod judging;

@@ -1,11 +1,13 @@
 // The lines of `costs`: the stitches and the yarn of each zone.
-ghost use Rattle.std.specs.Prelude.{◌≤◌, length};
+ghost use Rattle.std.specs.Prelude.{◌≤◌, IfOk, length};
 ghost use Rattle.page.specs.Waits.{Waits};
 
 use crate::prints::keyed;
 use sheets::thin::record_at;
 use sheets::{Yarn, Zone};
 use slices::at;
+use std::io;
+use std::io::Write;
 
 // A number halved so many times, each time cut off.
 fn halved(number: u64, times: u64) -> u64 {
@@ -33,67 +35,73 @@ fn thousandths(bits: u64) -> u64 {
 }
 
 // "in decimal with three places"
-fn decimal(page: &mut [u8], used: usize, thousandths: u64) -> usize
+fn decimal<W: Write>(
+    out: &mut W,
+    page: &mut [u8],
+    used: usize,
+    thousandths: u64,
+) -> io::Result<usize>
     requires { Waits used page.old }
-    ensures { Waits result page.new }
+    ensures { IfOk result (λ at. Waits at page.new) }
 {
-    let whole = page::number(page, used, thousandths / 1000);
-    let first = page::field(page, whole, b".", thousandths / 100 % 10);
-    let second = page::number(page, first, thousandths / 10 % 10);
-    page::number(page, second, thousandths % 10)
+    let whole = page::number(out, page, used, thousandths / 1000)?;
+    let first = page::field(out, page, whole, b".", thousandths / 100 % 10)?;
+    let second = page::number(out, page, first, thousandths / 10 % 10)?;
+    page::number(out, page, second, thousandths % 10)
 }
 
 // Metres, or "`?` where it is no number from 0 to 10^12".
-fn metres(page: &mut [u8], used: usize, metres: f64) -> usize
+fn metres<W: Write>(out: &mut W, page: &mut [u8], used: usize, metres: f64) -> io::Result<usize>
     requires { Waits used page.old }
-    ensures { Waits result page.new }
+    ensures { IfOk result (λ at. Waits at page.new) }
 {
     if metres != metres {
-        return page::text(page, used, b"?");
+        return page::text(out, page, used, b"?");
     }
     if metres < 0.0 {
-        return page::text(page, used, b"?");
+        return page::text(out, page, used, b"?");
     }
     if 1000000000000.0 < metres {
-        return page::text(page, used, b"?");
+        return page::text(out, page, used, b"?");
     }
-    decimal(page, used, thousandths(f64::to_bits(metres)))
+    decimal(out, page, used, thousandths(f64::to_bits(metres)))
 }
 
 // What a record says of its yarn, "`-` where not measured".
-fn figure(page: &mut [u8], used: usize, record: Zone) -> usize
+fn figure<W: Write>(out: &mut W, page: &mut [u8], used: usize, record: Zone) -> io::Result<usize>
     requires { Waits used page.old }
-    ensures { Waits result page.new }
+    ensures { IfOk result (λ at. Waits at page.new) }
 {
     let yarn = record.yarn;
     match yarn {
-        Yarn::Metres(m) => metres(page, used, m),
-        Yarn::NotMeasured => page::text(page, used, b"-"),
+        Yarn::Metres(m) => metres(out, page, used, m),
+        Yarn::NotMeasured => page::text(out, page, used, b"-"),
     }
 }
 
 // Prints a zone's line: "zone=X stitches=S metres=M".
-fn print_cost(x: usize, record: Zone) {
+fn print_cost<W: Write>(out: &mut W, x: usize, record: Zone) -> io::Result<()> {
     let mut page = [0u8; 128];
-    let zone = page::field(&mut page, 0, b"zone=", x as u64);
-    let stitches = keyed(&mut page, zone, b" stitches=", record.stitches);
-    let key = page::text(&mut page, stitches, b" metres=");
-    let yarn = figure(&mut page, key, record);
-    let end = page::text(&mut page, yarn, b"\n");
-    page::flush(&page, end);
+    let zone = page::field(out, &mut page, 0, b"zone=", x as u64)?;
+    let stitches = keyed(out, &mut page, zone, b" stitches=", record.stitches)?;
+    let key = page::text(out, &mut page, stitches, b" metres=")?;
+    let yarn = figure(out, &mut page, key, record)?;
+    let end = page::text(out, &mut page, yarn, b"\n")?;
+    page::flush(out, &page, end)
 }
 
 // Prints the line of each of the first n places that is its own root, with its record.
-pub fn print_costs(sheet: &[Zone], roots: &[u32], n: usize)
+pub fn print_costs<W: Write>(out: &mut W, sheet: &[Zone], roots: &[u32], n: usize) -> io::Result<()>
     requires { (n ≤ length sheet.now) × (n ≤ length roots.now) }
 {
     let mut x = 0;
     while x < n {
         if at(roots, x) == x {
-            print_cost(x, record_at(sheet, x));
+            print_cost(out, x, record_at(sheet, x))?;
             x += 1;
         } else {
             x += 1;
         }
     }
+    Ok(())
 }

@@ -1,5 +1,5 @@
 // The commands that are calls. Each is lent the first T, H and W numbers of the rooms, and prints its line.
-ghost use Rattle.std.specs.Prelude.{◌≤◌, length};
+ghost use Rattle.std.specs.Prelude.{◌≤◌, IfOk, length};
 ghost use Rattle.zones.specs.Lent.{Lent};
 ghost use Rattle.script.specs.Scanned.{Scanned};
 ghost use Rattle.zones.specs.Within.{Within};
@@ -14,6 +14,8 @@ use script::sizes::{least, size};
 use script::words::{
     CONTRACT, COUNTS, FLAT, FLATAREAS, READ, REMOVE, START, SUCCESSOR, UNDO, UNFOLD, WRITE,
 };
+use std::io;
+use std::io::Write;
 
 // A call that adds a level: `contract`, `remove`, `sweep`.
 fn reduced(
@@ -155,49 +157,52 @@ fn filed(
 }
 
 // "write a file into N bytes of output", which leaves four bytes after them. The writer answers how many it wrote: n at most.
-fn write(
+fn write<W: Write>(
+    out: &mut W,
     held: Held,
     n: usize,
     table: &mut TableRoom,
     history: &mut HistoryRoom,
     work: &mut WorkRoom,
     output: &mut OutputRoom,
-) -> Held
+) -> io::Result<Held>
     requires { Within held }
-    ensures { Within result }
+    ensures { IfOk result (λ h. Within h) }
 {
     if 599996 < n {
-        return held.with_wrong(true);
+        return Ok(held.with_wrong(true));
     }
     let answer = filed(held, n, table, history, work, output);
-    print_call(held, answer, n, table, history, work, output);
+    print_call(out, held, answer, n, table, history, work, output)?;
     if answer.number() != 0 {
-        return held;
+        return Ok(held);
     }
-    held.with_written(least(answer.place(), n))
+    Ok(held.with_written(least(answer.place(), n)))
 }
 
 // The state that a call handed back is held from then on, and is the one printed.
-fn hold(
+fn hold<W: Write>(
+    out: &mut W,
     held: Held,
     outcome: Outcome,
     table: &TableRoom,
     history: &HistoryRoom,
     work: &WorkRoom,
     output: &OutputRoom,
-) -> Held
+) -> io::Result<Held>
     requires { Within held }
-    ensures { Within result }
+    ensures { IfOk result (λ h. Within h) }
 {
     let state = outcome.state;
     let answer = outcome.answer;
     let after = held.with_state(state);
-    print_call(after, answer, 0, table, history, work, output);
-    after
+    print_call(out, after, answer, 0, table, history, work, output)?;
+    Ok(after)
 }
 
 // "The plan that is lent is the room's first N bytes, N at most 16,384."
-fn flat(
+fn flat<W: Write>(
+    out: &mut W,
     held: Held,
     line: Line,
     numbers: &NumbersRoom,
@@ -206,13 +211,13 @@ fn flat(
     history: &mut HistoryRoom,
     work: &mut WorkRoom,
     output: &OutputRoom,
-) -> Held
+) -> io::Result<Held>
     requires { Within held }
-    ensures { Within result }
+    ensures { IfOk result (λ h. Within h) }
 {
     let n = size(numbers[2]);
     if 16384 < n {
-        return held.with_wrong(true);
+        return Ok(held.with_wrong(true));
     }
     let outcome = planned(
         held,
@@ -225,11 +230,12 @@ fn flat(
         history,
         work,
     );
-    hold(held, outcome, table, history, work, output)
+    hold(out, held, outcome, table, history, work, output)
 }
 
 // A call that hands back a state, which is held from then on.
-fn step(
+fn step<W: Write>(
+    out: &mut W,
     held: Held,
     line: Line,
     script: &[u8],
@@ -238,16 +244,17 @@ fn step(
     history: &mut HistoryRoom,
     work: &mut WorkRoom,
     output: &OutputRoom,
-) -> Held
+) -> io::Result<Held>
     requires { Within held × Scanned script.now line }
-    ensures { Within result }
+    ensures { IfOk result (λ h. Within h) }
 {
     let outcome = lent(held, line, script, numbers, table, history, work);
-    hold(held, outcome, table, history, work, output)
+    hold(out, held, outcome, table, history, work, output)
 }
 
 // What is held after such a line.
-pub fn call(
+pub fn call<W: Write>(
+    out: &mut W,
     held: Held,
     line: Line,
     script: &[u8],
@@ -258,24 +265,26 @@ pub fn call(
     ends: &EndsRoom,
     work: &mut WorkRoom,
     output: &mut OutputRoom,
-) -> Held
+) -> io::Result<Held>
     requires { Within held × Scanned script.now line }
-    ensures { Within result }
+    ensures { IfOk result (λ h. Within h) }
 {
     if line.command == WRITE {
-        return write(held, size(numbers[0]), table, history, work, output);
+        return write(out, held, size(numbers[0]), table, history, work, output);
     }
     if line.command == COUNTS {
         let counted = counted(held, table, history, work);
-        print_counts(held, counted, table, history, work, output);
-        return held;
+        print_counts(out, held, counted, table, history, work, output)?;
+        return Ok(held);
     }
     if line.command == SUCCESSOR {
-        successor(held, numbers, table, ends, work);
-        return held;
+        successor(out, held, numbers, table, ends, work)?;
+        return Ok(held);
     }
     if line.command == FLAT || line.command == FLATAREAS {
-        return flat(held, line, numbers, plan, table, history, work, output);
+        return flat(out, held, line, numbers, plan, table, history, work, output);
     }
-    step(held, line, script, numbers, table, history, work, output)
+    step(
+        out, held, line, script, numbers, table, history, work, output,
+    )
 }

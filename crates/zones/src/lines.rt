@@ -1,4 +1,5 @@
 // The lines of a script, one after another.
+ghost use Rattle.std.specs.Prelude.{IfOk};
 ghost use Rattle.script.specs.Scanned.{Scanned};
 ghost use Rattle.zones.specs.Within.{Within};
 
@@ -17,9 +18,12 @@ use script::prints;
 use script::records::no_yarn;
 use script::scan::{Line, NumbersRoom, next_line};
 use script::words::{BYTES, COSTS, KEPT, SHEET, SHOW, START};
+use std::io;
+use std::io::Write;
 
 // Does what a line without sheets asks for, by its group: what is held after it.
-fn plain(
+fn plain<W: Write>(
+    out: &mut W,
     held: Held,
     line: Line,
     script: &[u8],
@@ -30,33 +34,34 @@ fn plain(
     ends: &mut EndsRoom,
     work: &mut WorkRoom,
     output: &mut OutputRoom,
-) -> Held
+) -> io::Result<Held>
     requires { Within held × Scanned script.now line }
-    ensures { Within result }
+    ensures { IfOk result (λ h. Within h) }
 {
     if line.command == 0 {
-        return held.with_wrong(true);
+        return Ok(held.with_wrong(true));
     }
     if line.command < START {
-        return set(
+        return Ok(set(
             held, line, script, numbers, plan, table, history, ends, work,
-        );
+        ));
     }
     if line.command < SHOW {
         return call(
-            held, line, script, numbers, plan, table, history, ends, work, output,
+            out, held, line, script, numbers, plan, table, history, ends, work, output,
         );
     }
     if line.command == BYTES {
-        prints::bytes(output, held.written);
-        return held;
+        prints::bytes(out, output, held.written)?;
+        return Ok(held);
     }
-    show(held, table, history);
-    held
+    show(out, held, table, history)?;
+    Ok(held)
 }
 
 // Does what a line asks for: what is held after it.
-pub fn obey(
+pub fn obey<W: Write>(
+    out: &mut W,
     held: Held,
     line: Line,
     script: &[u8],
@@ -69,36 +74,37 @@ pub fn obey(
     output: &mut OutputRoom,
     sheet: &mut SheetRoom,
     kept: &mut KeptRoom,
-) -> Held
+) -> io::Result<Held>
     requires { Within held × Scanned script.now line }
-    ensures { Within result }
+    ensures { IfOk result (λ h. Within h) }
 {
     if line.command < SHEET {
         return plain(
-            held, line, script, numbers, plan, table, history, ends, work, output,
+            out, held, line, script, numbers, plan, table, history, ends, work, output,
         );
     }
     if line.command == SHEET {
         let outside = put_records(sheet, script, line);
-        return held.with_wrong(outside);
+        return Ok(held.with_wrong(outside));
     }
     if line.command == KEPT {
         let outside = put_records(kept, script, line);
-        return held.with_wrong(outside);
+        return Ok(held.with_wrong(outside));
     }
     if line.command == COSTS {
         let mut zones = [0u32; 65536];
         let n = find_zones(held, &mut zones, table, history);
-        print_costs(sheet, &zones, n);
-        return held;
+        print_costs(out, sheet, &zones, n)?;
+        return Ok(held);
     }
     step_with(
-        held, line, numbers, table, history, work, output, sheet, kept,
+        out, held, line, numbers, table, history, work, output, sheet, kept,
     )
 }
 
 // Each line is done before the next is looked at. A line has a line feed at least, so there are no more lines than bytes.
-pub fn each(
+pub fn each<W: Write>(
+    out: &mut W,
     script: &[u8],
     numbers: &mut NumbersRoom,
     plan: &mut PlanRoom,
@@ -109,27 +115,27 @@ pub fn each(
     output: &mut OutputRoom,
     sheet: &mut SheetRoom,
     kept: &mut KeptRoom,
-) {
+) -> io::Result<()> {
     let mut held = nothing();
     let mut at = 0;
     for k in 0..script.len() {
         if at == script.len() {
-            return;
+            return Ok(());
         }
         let next = next_line(script, at, numbers);
         held = obey(
-            held, next, script, numbers, plan, table, history, ends, work, output, sheet, kept,
-        );
+            out, held, next, script, numbers, plan, table, history, ends, work, output, sheet, kept,
+        )?;
         if held.wrong {
-            prints::error(k + 1);
-            return;
+            return prints::error(out, k + 1);
         }
         at = next.next;
     }
+    Ok(())
 }
 
 // Runs a script over rooms of zeros, each made here and lent whole, so that it stands on the stack once.
-pub fn with_rooms(script: &[u8]) {
+pub fn with_rooms<W: Write>(out: &mut W, script: &[u8]) -> io::Result<()> {
     let mut numbers = [0u32; 32772];
     let mut table = [0u32; 65540];
     let mut history = [0u32; 32772];
@@ -141,6 +147,7 @@ pub fn with_rooms(script: &[u8]) {
     let mut sheet = [none; 65540];
     let mut kept = [none; 32772];
     each(
+        out,
         script,
         &mut numbers,
         &mut plan,
@@ -151,5 +158,5 @@ pub fn with_rooms(script: &[u8]) {
         &mut output,
         &mut sheet,
         &mut kept,
-    );
+    )
 }

@@ -7,6 +7,8 @@ use crate::prints::print_found;
 use crate::rooms::{EndsRoom, TableRoom, WorkRoom};
 use lookup::Looked;
 use script::scan::NumbersRoom;
+use std::io;
+use std::io::Write;
 
 // The call, lent T numbers of the table, H of the ends and W of the work area.
 fn followed(
@@ -34,15 +36,16 @@ fn followed(
 }
 
 // "the dart that follows X at level K". The script's state stays.
-pub fn successor(
+pub fn successor<W: Write>(
+    out: &mut W,
     held: Held,
     numbers: &NumbersRoom,
     table: &TableRoom,
     ends: &EndsRoom,
     work: &mut WorkRoom,
-)
+) -> io::Result<()>
     requires { Within held }
 {
     let looked = followed(held, numbers[0], numbers[1], numbers[2], table, ends, work);
-    print_found(held, looked, table, ends, work);
+    print_found(out, held, looked, table, ends, work)
 }

@@ -1,4 +1,6 @@
 // The program `zones`: runs a script of the library's calls from standard input, and prints a line for each call.
+#![tactic(auto)]
+
 mod calls;
 mod costs;
 mod held;
@@ -10,26 +12,30 @@ mod settings;
 mod sheet_calls;
 mod sums;
 
-use libc::{STDIN_FILENO, STDOUT_FILENO};
 use rooms::ScriptRoom;
+use std::io;
+use std::io::{Read, Write};
 
 // "A script is at most 3,000,000 bytes". One byte more says that it is longer.
-fn run(script: &mut [u8]) {
-    let n = io::read_full(STDIN_FILENO, script);
+fn run<R: Read, W: Write>(input: &mut R, out: &mut W, script: &mut [u8]) -> io::Result<()> {
+    let n = page::fill(input, script)?;
     if 3000000 < n {
-        io::write_all(STDOUT_FILENO, b"error=0\n");
-        return;
+        return out.write_all(b"error=0\n");
     }
-    lines::with_rooms(&script[..n]);
+    lines::with_rooms(out, &script[..n])
 }
 
 // The script's room as a slice.
-fn read_and_run(script: &mut ScriptRoom) {
-    run(script);
+fn read_and_run<R: Read, W: Write>(
+    input: &mut R,
+    out: &mut W,
+    script: &mut ScriptRoom,
+) -> io::Result<()> {
+    run(input, out, script)
 }
 
 // The room is made where it is lent, so that it stands on the stack once: what a function returns stands there twice.
-fn main() {
+fn main(rt: HostRuntime) -> io::Result<()> {
     let mut script = [0u8; 3000001];
-    read_and_run(&mut script);
+    read_and_run(&mut rt.stdin(), &mut rt.stdout(), &mut script)
 }

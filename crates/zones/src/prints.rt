@@ -1,5 +1,5 @@
 // What is printed of a call, and by `show`. Each line is written out at once, so that a script shows how far it came.
-ghost use Rattle.std.specs.Prelude.{◌≤◌};
+ghost use Rattle.std.specs.Prelude.{◌≤◌, IfOk};
 ghost use Rattle.page.specs.Waits.{Waits};
 ghost use Rattle.zones.specs.Within.{Within};
 
@@ -11,21 +11,30 @@ use pyramid::{Answer, Counted, Outcome, State};
 use script::prints;
 use script::sizes::{least, size};
 use script::sums::Sums;
+use std::io;
+use std::io::Write;
 
 // "answer=A place=P second=S"
-fn answer_line(page: &mut [u8], answer: Answer) -> usize
+fn answer_line<W: Write>(out: &mut W, page: &mut [u8], answer: Answer) -> io::Result<usize>
     requires { Waits 0 page.old }
-    ensures { Waits result page.new }
+    ensures { IfOk result (λ at. Waits at page.new) }
 {
-    prints::answer_line(page, answer.number(), answer.place(), answer.second())
+    prints::answer_line(out, page, answer.number(), answer.place(), answer.second())
 }
 
 // "state=D N L V F"; the key has what stands before D.
-fn state_line(page: &mut [u8], used: usize, key: &[u8], state: State) -> usize
+fn state_line<W: Write>(
+    out: &mut W,
+    page: &mut [u8],
+    used: usize,
+    key: &[u8],
+    state: State,
+) -> io::Result<usize>
     requires { Waits used page.old }
-    ensures { Waits result page.new }
+    ensures { IfOk result (λ at. Waits at page.new) }
 {
     prints::state_line(
+        out,
         page,
         used,
         key,
@@ -38,17 +47,24 @@ fn state_line(page: &mut [u8], used: usize, key: &[u8], state: State) -> usize
 }
 
 // "answer=A place=P second=S state=D N L V F ends=C table=C history=C work=C output=C"
-fn call_line(page: &mut [u8], answer: Answer, state: State, sums: Sums) -> usize
+fn call_line<W: Write>(
+    out: &mut W,
+    page: &mut [u8],
+    answer: Answer,
+    state: State,
+    sums: Sums,
+) -> io::Result<usize>
     requires { Waits 0 page.old }
-    ensures { Waits result page.new }
+    ensures { IfOk result (λ at. Waits at page.new) }
 {
-    let second = answer_line(page, answer);
-    let held = state_line(page, second, b" state=", state);
-    prints::sums_line(page, held, sums)
+    let second = answer_line(out, page, answer)?;
+    let held = state_line(out, page, second, b" state=", state)?;
+    prints::sums_line(out, page, held, sums)
 }
 
 // Prints the line of a call that was lent n bytes of output.
-pub fn print_call(
+pub fn print_call<W: Write>(
+    out: &mut W,
     held: Held,
     answer: Answer,
     n: usize,
@@ -56,26 +72,27 @@ pub fn print_call(
     history: &HistoryRoom,
     work: &WorkRoom,
     output: &OutputRoom,
-)
+) -> io::Result<()>
     requires { Within held × (n ≤ 599996) }
 {
     let mut page = [0u8; 512];
     let checks = checksums(held, n, table, history, work, output);
     let state = held.state;
-    let used = call_line(&mut page, answer, state, checks);
-    let end = page::text(&mut page, used, b"\n");
-    page::flush(&page, end);
+    let used = call_line(out, &mut page, answer, state, checks)?;
+    let end = page::text(out, &mut page, used, b"\n")?;
+    page::flush(out, &page, end)
 }
 
 // Prints the line of `counts`, which puts the counts at its end.
-pub fn print_counts(
+pub fn print_counts<W: Write>(
+    out: &mut W,
     held: Held,
     counted: Counted,
     table: &TableRoom,
     history: &HistoryRoom,
     work: &WorkRoom,
     output: &OutputRoom,
-)
+) -> io::Result<()>
     requires { Within held }
 {
     let mut page = [0u8; 512];
@@ -83,21 +100,23 @@ pub fn print_counts(
     let state = held.state;
     let answer = counted.answer;
     let counts = counted.counts;
-    let used = call_line(&mut page, answer, state, checks);
+    let used = call_line(out, &mut page, answer, state, checks)?;
     let rest = page::counts(
+        out,
         &mut page,
         used,
         counts.darts,
         counts.vertices,
         counts.faces,
         counts.euler,
-    );
-    let end = page::text(&mut page, rest, b"\n");
-    page::flush(&page, end);
+    )?;
+    let end = page::text(out, &mut page, rest, b"\n")?;
+    page::flush(out, &page, end)
 }
 
 // Prints the line of a call with sheets, which puts their checksums at its end, and answers what is held then: the state that was handed back.
-pub fn print_yarn(
+pub fn print_yarn<W: Write>(
+    out: &mut W,
     held: Held,
     outcome: Outcome,
     sheet: u64,
@@ -106,38 +125,50 @@ pub fn print_yarn(
     history: &HistoryRoom,
     work: &WorkRoom,
     output: &OutputRoom,
-) -> Held
+) -> io::Result<Held>
     requires { Within held }
-    ensures { Within result }
+    ensures { IfOk result (λ h. Within h) }
 {
     let mut page = [0u8; 512];
     let state = outcome.state;
     let answer = outcome.answer;
     let after = held.with_state(state);
     let checks = checksums(after, 0, table, history, work, output);
-    let used = call_line(&mut page, answer, state, checks);
-    let first = page::field(&mut page, used, b" sheet=", sheet);
-    let second = page::field(&mut page, first, b" kept=", kept);
-    let end = page::text(&mut page, second, b"\n");
-    page::flush(&page, end);
-    after
+    let used = call_line(out, &mut page, answer, state, checks)?;
+    let first = page::field(out, &mut page, used, b" sheet=", sheet)?;
+    let second = page::field(out, &mut page, first, b" kept=", kept)?;
+    let end = page::text(out, &mut page, second, b"\n")?;
+    page::flush(out, &page, end)?;
+    Ok(after)
 }
 
 // Prints the line of `successor`.
-pub fn print_found(held: Held, looked: Looked, table: &TableRoom, ends: &EndsRoom, work: &WorkRoom)
+pub fn print_found<W: Write>(
+    out: &mut W,
+    held: Held,
+    looked: Looked,
+    table: &TableRoom,
+    ends: &EndsRoom,
+    work: &WorkRoom,
+) -> io::Result<()>
     requires { Within held }
 {
     let mut page = [0u8; 512];
     let checks = found_checksums(held, table, ends, work);
     let answer = looked.answer;
-    let second = answer_line(&mut page, answer);
-    let used = prints::found_line(&mut page, second, looked.dart, looked.passed, checks);
-    let end = page::text(&mut page, used, b"\n");
-    page::flush(&page, end);
+    let second = answer_line(out, &mut page, answer)?;
+    let used = prints::found_line(out, &mut page, second, looked.dart, looked.passed, checks)?;
+    let end = page::text(out, &mut page, used, b"\n")?;
+    page::flush(out, &page, end)
 }
 
 // Prints state, table and history: "the first D numbers of the table (T at most)" and "the first N (H at most)".
-pub fn show(held: Held, table: &TableRoom, history: &HistoryRoom)
+pub fn show<W: Write>(
+    out: &mut W,
+    held: Held,
+    table: &TableRoom,
+    history: &HistoryRoom,
+) -> io::Result<()>
     requires { Within held }
 {
     let mut page = [0u8; 4096];
@@ -145,9 +176,9 @@ pub fn show(held: Held, table: &TableRoom, history: &HistoryRoom)
     let d = least(size(state.darts), held.table);
     let n = least(size(state.operations), held.history);
     let all = state.ends;
-    let numbers = state_line(&mut page, 0, b"state=", state);
-    let first = prints::ends(&mut page, numbers, &all, state.levels);
-    let second = prints::list(&mut page, first, b"table=", table, d);
-    let third = prints::list(&mut page, second, b"history=", history, n);
-    page::flush(&page, third);
+    let numbers = state_line(out, &mut page, 0, b"state=", state)?;
+    let first = prints::ends(out, &mut page, numbers, &all, state.levels)?;
+    let second = prints::list(out, &mut page, first, b"table=", table, d)?;
+    let third = prints::list(out, &mut page, second, b"history=", history, n)?;
+    page::flush(out, &page, third)
 }

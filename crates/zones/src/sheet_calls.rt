@@ -1,5 +1,5 @@
 // The calls with sheets.
-ghost use Rattle.std.specs.Prelude.{◌≤◌, length};
+ghost use Rattle.std.specs.Prelude.{◌≤◌, IfOk, length};
 ghost use Rattle.zones.specs.Lent.{Lent, LentSheets};
 ghost use Rattle.zones.specs.Within.{Within};
 
@@ -12,6 +12,8 @@ use script::sizes::least;
 use script::sums::sum_records;
 use script::words::{YARNCONTRACT, YARNREMOVE, YARNSTART, YARNUNDO, YARNUNFOLD};
 use sheets::Zone;
+use std::io;
+use std::io::Write;
 
 // A call that adds a level: `yarncontract`, `yarnremove`, `yarnsweep`.
 pub fn reduced_with(
@@ -87,7 +89,8 @@ pub fn lent_with(
 }
 
 // A call that hands back a state, which is held from then on, and is the one printed.
-pub fn step_with(
+pub fn step_with<W: Write>(
+    out: &mut W,
     held: Held,
     line: Line,
     numbers: &NumbersRoom,
@@ -97,14 +100,14 @@ pub fn step_with(
     output: &OutputRoom,
     sheet: &mut SheetRoom,
     kept: &mut KeptRoom,
-) -> Held
+) -> io::Result<Held>
     requires { Within held }
-    ensures { Within result }
+    ensures { IfOk result (λ h. Within h) }
 {
     let outcome = lent_with(held, line, numbers, table, history, work, sheet, kept);
     let of_sheet = sum_records(sheet, held.sheet + 4);
     let of_kept = sum_records(kept, held.kept + 4);
     print_yarn(
-        held, outcome, of_sheet, of_kept, table, history, work, output,
+        out, held, outcome, of_sheet, of_kept, table, history, work, output,
     )
 }

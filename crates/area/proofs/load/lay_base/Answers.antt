@@ -13,20 +13,12 @@ use native.Mathlib.Nat.{add-zero, zero-add}
 use native.Mathlib.Omega.{arith}
 use lib.ListN.{length, get_or, set, take, replicate, length-set, length-replicate, get_or-replicate, take-append-drop}
 use lib.Seq.{get_or-set_same, get_or-set_other, get_or-take, get_or-drop, length-take-le, ext_get_or}
-use borrow.Author.Rules.{rules}
 use Rattle.slices.specs.Laid.{laid, Space}
 use Rattle.slices.proofs.Laid.{laid_length, laid_front, laid_rest, laid_at}
 use Rattle.area.specs.Area.{Room}
 use Rattle.area.specs.Load.{given, blank}
-use Rattle.area.proofs.load.lay_base.Statement.{statement}
-use Rattle.area.proofs.load.lay_base.Tie as tie
-
-record Laying (D : ℕ) (t w₀ w : List ℕ) (x : ℕ) : Type 0 where
-  size : length w ≡ length w₀
-  bound : x ≤ D
-  entries : (j : ℕ) → j < x → get_or w j 0 ≡ get_or t j 0
-  unknown : (j : ℕ) → j < x → get_or w (D + j) 0 ≡ D + 1
-  beyond : (j : ℕ) → 2 * D ≤ j → get_or w j 0 ≡ get_or w₀ j 0
+use Rattle.area.proofs.load.lay_base.Invariants.{Laying}
+use Rattle.area.proofs.load.lay_base.Goals as goal
 
 lay_begin : (D : ℕ) (t w : List ℕ) → Laying D t w w 0
 lay_begin D t w = record {
@@ -135,75 +127,14 @@ lay_end {D} {t} {w₀} {w} {x} room long L all =
         rw e (L.unknown (j - D) (omega (arith, L.bound)) ∙ sym (blank_there D t w₀ room long (j - D) (omega arith)))
     go j (no h) (no k) = L.beyond j (omega arith) ∙ sym (past D t w₀ room long j (omega arith))
 
-abbrev invariant-loop : tie.invariant-loop
-invariant-loop work₀ d table x₀ work x = Laying d table work₀ work x
+pub loop-x-init : goal.loop-x-init
+loop-x-init c = lay_begin _ _ _
 
-abbrev decreases-loop : tie.decreases-loop
-decreases-loop work₀ d table x₀ work x = d - x
+pub bounds-work-d : goal.bounds-work-d
+bounds-work-d c = simp length-set (omega arith)
 
-loop-holds : tie.Need-loop-init invariant-loop decreases-loop
-loop-holds c = lay_begin _ _ _
+pub loop-x-preserved : goal.loop-x-preserved
+loop-x-preserved c = lay_on c.requires.room c.loop-x.invariant c.loop-x-test.true
 
-mul-work : tie.Need-overflow-mul-work invariant-loop decreases-loop
-mul-work c = search rules
-
-shared-slice-read-work : tie.Need-shared-slice-read-work invariant-loop decreases-loop
-shared-slice-read-work c = search rules
-
-mul-work-2 : tie.Need-overflow-mul-work-2 invariant-loop decreases-loop
-mul-work-2 c = search rules
-
-slice-write-work : tie.Need-slice-write-work invariant-loop decreases-loop
-slice-write-work c = search rules
-
-add-work : tie.Need-overflow-add-work invariant-loop decreases-loop
-add-work c = search rules
-
-cast-work : tie.Need-overflow-cast-work invariant-loop decreases-loop
-cast-work c = search rules
-
-add-work-2 : tie.Need-overflow-add-work-2 invariant-loop decreases-loop
-add-work-2 c = search rules
-
-mul-work-3 : tie.Need-overflow-mul-work-3 invariant-loop decreases-loop
-mul-work-3 c = search rules
-
-slice-write-work-2 : tie.Need-slice-write-work-2 invariant-loop decreases-loop
-slice-write-work-2 c = simp length-set (omega arith)
-
-add-x : tie.Need-overflow-add-x invariant-loop decreases-loop
-add-x c = search rules
-
-loop-less : tie.Need-loop-smaller invariant-loop decreases-loop
-loop-less c = search rules
-
-loop-again : tie.Need-loop-preserved invariant-loop decreases-loop
-loop-again c = lay_on c.before.before.before.requires.0 c.before.before.loop.invariant c.before.loop-test.true
-
-same_length : tie.Need-same-length invariant-loop decreases-loop
-same_length c = search rules
-
-returns : tie.Need-returns invariant-loop decreases-loop
-returns c = lay_end c.before.before.requires.0 c.before.before.requires.1 c.before.loop.invariant c.loop-test.false
-
-pub lay_base_spec : {M : Type 1} → statement M
-lay_base_spec =
-    tie.close
-    (tie.spec
-    invariant-loop
-    decreases-loop
-    loop-holds
-    mul-work
-    shared-slice-read-work
-    mul-work-2
-    slice-write-work
-    add-work
-    cast-work
-    add-work-2
-    mul-work-3
-    slice-write-work-2
-    add-x
-    loop-less
-    loop-again
-    same_length
-    returns)
+pub returns : goal.returns
+returns c = lay_end c.requires.room c.requires.d_in_bounds c.loop-x.invariant c.loop-x-test.false

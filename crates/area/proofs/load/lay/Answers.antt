@@ -10,15 +10,13 @@ use Prim.Native.Nat.{ℕ, ◌*◌, ◌≤◌}
 use native.Mathlib.Omega.{arith}
 use lib.ListN.{length, take}
 use lib.Seq.{length-take-le}
-use borrow.Author.Rules.{rules}
 use Rattle.slices.specs.Over.{over}
 use Rattle.slices.specs.Part.{part, put}
 use Rattle.area.specs.Area.{Room}
 use Rattle.area.specs.Load.{given}
 use Rattle.slices.specs.Laid.{laid}
 use Rattle.slices.proofs.Laid.{laid_length, laid_over, laid_part}
-use Rattle.area.proofs.load.lay.Statement.{statement}
-use Rattle.area.proofs.load.lay.Tie as tie
+use Rattle.area.proofs.load.lay.Goals as goal
 
 module _ (D n : ℕ) (t h w : List ℕ) (room : Room D w) (fit : (D ≤ length t) × (n ≤ length h) × (n ≤ D)) where
   abbrev with_table : List ℕ
@@ -40,49 +38,6 @@ module _ (D n : ℕ) (t h w : List ℕ) (room : Room D w) (fit : (D ≤ length t
   lay_both : {u v : List ℕ} → u ≡ over (take D t) w → v ≡ over (take n h) (part (3 * D) (4 * D) u) → put (3 * D) (4 * D) u v ≡ given D n t h w
   lay_both a b = let a₂ = lay_table a in rw a₂ (lay_history (rw a₂ at b))
 
-copy-requires : tie.Need-copy-requires
-copy-requires c κs = search rules
-
-mul-past : tie.Need-overflow-mul-past
-mul-past c = search rules
-
-mul-end : tie.Need-overflow-mul-end
-mul-end c = search rules
-
-mul-copy : tie.Need-overflow-mul-copy
-mul-copy c = search rules
-
-sub-copy : tie.Need-overflow-sub-copy
-sub-copy c = search rules
-
-part-copy-start : tie.Need-slice-bounds-copy-start
-part-copy-start c = search rules
-
-part-copy-end : tie.Need-slice-bounds-copy-end
-part-copy-end c = search rules
-
-copy-requires-2 : tie.Need-copy-requires-2
-copy-requires-2 c κs = search rules
-
-same_length : tie.Need-same-length
-same_length c = search rules
-
-returns : tie.Need-returns
+pub returns : goal.returns
 returns c =
-    let start = c.before.before.before.before.before.before.before.before.before.before.before in
-    lay_both _ _ _ _ _ start.requires.0 start.requires.1 c.before.before.before.before.before.before.copy.ensures c.before.before.copy2.ensures
-
-pub lay_spec : {M : Type 1} → statement M
-lay_spec =
-    tie.close
-    (tie.spec
-    copy-requires
-    mul-past
-    mul-end
-    mul-copy
-    sub-copy
-    part-copy-start
-    part-copy-end
-    copy-requires-2
-    same_length
-    returns)
+    lay_both _ _ _ _ _ c.requires.room c.requires.d_in_bounds c.copy.ensures c.copy-2.ensures

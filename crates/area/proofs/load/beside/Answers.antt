@@ -3,13 +3,11 @@ use mathlib.Core.List.{List}
 use mathlib.Core.Path.{◌≡◌}
 use Prim.Native.Nat.{ℕ, ◌+◌, ◌≤◌, ◌<◌}
 use lib.ListN.{get_or}
-use borrow.Author.Rules.{rules}
 use borrow.Author.Tests.{le-leb, lt-leb}
 use Rattle.darts.specs.Map.{successor}
 use Rattle.area.specs.Area.{prev}
 use Rattle.area.specs.Load.{beside_in}
-use Rattle.area.proofs.load.beside.Statement.{statement}
-use Rattle.area.proofs.load.beside.Tie as tie
+use Rattle.area.proofs.load.beside.Goals as goal
 
 module _ (D : ℕ) (w : List ℕ) (x : ℕ) {y : ℕ} (here : y ≡ get_or w x 0) where
   beside_none : D ≤ y → D ≡ beside_in D w x
@@ -20,20 +18,8 @@ module _ (D : ℕ) (w : List ℕ) (x : ℕ) {y : ℕ} (here : y ≡ get_or w x 0
   unfolding beside_in successor prev
   beside_noted l e = rw (← here, lt-leb D y l) e
 
-at-requires : tie.Need-at-requires
-at-requires c κs = search rules
+pub returns-then-d-y : goal.returns-then-d-y
+returns-then-d-y c = beside_none _ _ _ c.at-y.ensures c.if-d-y.true
 
-returns : tie.Need-returns
-returns c = beside_none _ _ _ c.before.at.ensures c.if1.true
-
-add_at : tie.Need-overflow-add-at
-add_at c = search rules
-
-at-requires-2 : tie.Need-at-requires-2
-at-requires-2 c κs = search rules
-
-returns-2 : tie.Need-returns-2
-returns-2 c = beside_noted _ _ _ c.before.before.at.ensures c.before.if1.false c.at2.ensures
-
-pub beside_spec : {M : Type 1} → statement M
-beside_spec = tie.close (tie.spec at-requires returns add_at at-requires-2 returns-2)
+pub returns : goal.returns
+returns c = beside_noted _ _ _ c.at-y.ensures c.if-d-y.false c.at.ensures

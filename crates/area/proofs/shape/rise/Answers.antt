@@ -16,7 +16,6 @@ use native.Mathlib.Omega.{arith}
 use lib.Dec.{eqb}
 use lib.ListN.{length, get_or, take, drop, length-drop, drop_of_length-le}
 use lib.Seq.{drop-cons, drop-drop, slice-cons, slice_empty}
-use borrow.Author.Rules.{rules}
 use borrow.Author.Tests.{lt-ltb, le-ltb, le-leb, lt-leb}
 use Rattle.permutations.specs.Choice.{eqb_same, eqb_other}
 use Rattle.darts.specs.Tests.{one_kind, rises}
@@ -24,15 +23,8 @@ use Rattle.slices.specs.Part.{part}
 use Rattle.slices.proofs.Part.{part_length}
 use Rattle.area.specs.Shape.{history_in}
 use Rattle.area.proofs.Parts.{part_inner}
-use Rattle.area.proofs.shape.rise.Statement.{statement}
-use Rattle.area.proofs.shape.rise.Tie as tie
-
-record Rising (D n l : ℕ) (w ends : List ℕ) (from i : ℕ) : Type 0 where
-  room : 3 * D + n ≤ length w
-  few : l ≤ length ends
-  upto : from ≤ n
-  bound : i ≤ l
-  same : rises 0 (take l ends) (history_in D n w) ≡ rises from (drop i (take l ends)) (drop from (history_in D n w))
+use Rattle.area.proofs.shape.rise.Invariants.{Rising}
+use Rattle.area.proofs.shape.rise.Goals as goal
 
 module _ {D n l : ℕ} {w ends : List ℕ} {from i : ℕ} (k : Rising D n l w ends from i) where
   abbrev past : List ℕ
@@ -100,79 +92,27 @@ module _ {D n l : ℕ} {w ends : List ℕ} {from i : ℕ} (k : Rising D n l w en
         (λ m. let under : from < length past = omega arith in
         eqb_other m ∙ sym (k.same ∙ rw (no_more, drop-cons past from 0 under)))
 
-abbrev invariant-loop : tie.invariant-loop
-invariant-loop work d operations levels ends past from₀ i₀ from i = Rising d operations levels work ends from i
+pub loop-i-init : goal.loop-i-init
+loop-i-init c = record { room = omega arith; few = omega arith; upto = omega arith; bound = omega arith; same = refl }
 
-abbrev decreases-loop : tie.decreases-loop
-decreases-loop work d operations levels ends past from₀ i₀ from i = levels - i
+pub returns-then-end-from : goal.returns-then-end-from
+returns-then-end-from c = rise_low c.loop-i.invariant c.loop-i-test.true c.if-end-from.true
 
-mul-past : tie.Need-overflow-mul-past invariant-loop decreases-loop
-mul-past c = search rules
+pub returns-then-operations-end : goal.returns-then-operations-end
+returns-then-operations-end c = rise_high c.loop-i.invariant c.loop-i-test.true c.if-end-from.false c.if-operations-end.true
 
-loop-holds : tie.Need-loop-init invariant-loop decreases-loop
-loop-holds c = record { room = omega arith; few = omega arith; upto = omega arith; bound = omega arith; same = refl }
+pub one_kind-requires : goal.one_kind-requires
+one_kind-requires c = (omega arith, omega arith)
 
-mul-end : tie.Need-overflow-mul-end invariant-loop decreases-loop
-mul-end c = search rules
+pub loop-i-preserved : goal.loop-i-preserved
+loop-i-preserved c =
+    rise_on c.loop-i.invariant c.loop-i-test.true c.if-end-from.false c.if-operations-end.false
+    (sym c.if-one_kind.true ∙ c.one_kind.ensures)
 
-array-read-end : tie.Need-array-read-end invariant-loop decreases-loop
-array-read-end c = search rules
+pub returns-else-one_kind : goal.returns-else-one_kind
+returns-else-one_kind c =
+    rise_mixed c.loop-i.invariant c.loop-i-test.true c.if-end-from.false c.if-operations-end.false
+    (sym c.if-one_kind.false ∙ c.one_kind.ensures)
 
-cast-end : tie.Need-overflow-cast-end invariant-loop decreases-loop
-cast-end c = search rules
-
-returns : tie.Need-returns invariant-loop decreases-loop
-returns c = rise_low c.before.before.loop.invariant c.before.loop-test.true c.if1.true
-
-returns-2 : tie.Need-returns-2 invariant-loop decreases-loop
-returns-2 c = rise_high c.before.before.before.loop.invariant c.before.before.loop-test.true c.before.if1.false c.if2.true
-
-add-one-kind : tie.Need-overflow-add-one-kind invariant-loop decreases-loop
-add-one-kind c = search rules
-
-add-one-kind-2 : tie.Need-overflow-add-one-kind-2 invariant-loop decreases-loop
-add-one-kind-2 c = search rules
-
-one-kind-requires : tie.Need-one-kind-requires invariant-loop decreases-loop
-one-kind-requires c κs = (omega arith, omega arith)
-
-add-i : tie.Need-overflow-add-i invariant-loop decreases-loop
-add-i c = search rules
-
-loop-less : tie.Need-loop-smaller invariant-loop decreases-loop
-loop-less c = search rules
-
-loop-again : tie.Need-loop-preserved invariant-loop decreases-loop
-loop-again c =
-    rise_on c.before.before.before.before.before.loop.invariant c.before.before.before.before.loop-test.true c.before.before.before.if1.false c.before.before.if2.false
-    (sym c.if3.true ∙ c.before.one_kind_lem.ensures)
-
-returns-3 : tie.Need-returns-3 invariant-loop decreases-loop
-returns-3 c =
-    rise_mixed c.before.before.before.before.before.loop.invariant c.before.before.before.before.loop-test.true c.before.before.before.if1.false c.before.before.if2.false
-    (sym c.if3.false ∙ c.before.one_kind_lem.ensures)
-
-returns-4 : tie.Need-returns-4 invariant-loop decreases-loop
-returns-4 c = rise_end c.before.loop.invariant c.loop-test.false
-
-pub rise_spec : {M : Type 1} → statement M
-rise_spec =
-    tie.close
-    (tie.spec
-    invariant-loop
-    decreases-loop
-    mul-past
-    loop-holds
-    mul-end
-    array-read-end
-    cast-end
-    returns
-    returns-2
-    add-one-kind
-    add-one-kind-2
-    one-kind-requires
-    add-i
-    loop-less
-    loop-again
-    returns-3
-    returns-4)
+pub returns : goal.returns
+returns c = rise_end c.loop-i.invariant c.loop-i-test.false

@@ -6,7 +6,6 @@ use Prim.Native.Nat.{ℕ, ◌+◌, ◌-◌, ◌*◌, ◌≤◌, ◌<◌}
 use native.Mathlib.Omega.{arith}
 use lib.Dec.{eqb}
 use lib.ListN.{get_or, set}
-use borrow.Author.Rules.{rules}
 use borrow.Author.Tests.{le-leb, lt-leb}
 use borrow.Rule.Slice.PartMut.{put_same, set_mid_at}
 use Rattle.slices.specs.Part.{part, put}
@@ -14,8 +13,7 @@ use Rattle.slices.proofs.Part.{part_length, part_at}
 use Rattle.darts.specs.Map.{successor}
 use Rattle.area.specs.Area.{Room, prev, Tried, tried, tried_if}
 use Rattle.area.specs.Load.{taken, gone_in, notes}
-use Rattle.area.proofs.load.note.Statement.{statement}
-use Rattle.area.proofs.load.note.Tie as tie
+use Rattle.area.proofs.load.note.Goals as goal
 
 module _ (D n : ℕ) (w : List ℕ) (x : ℕ) {y : ℕ} (here : y ≡ get_or w x 0) where
   note_far : D ≤ y → tried false w ≡ notes D n w x
@@ -43,68 +41,12 @@ module _ (D n : ℕ) (w : List ℕ) (x : ℕ) {y : ℕ} (here : y ≡ get_or w x
         let k : get_or (part D (2 * D) w) y 0 ≡ get_or w (D + y) 0 = part_at D (2 * D) w y (omega arith) in
         rw (← here, lt-leb D y l, g) (back room (eqb (get_or w (D + y) 0) (D + 1)) (rw k at e))
 
-at-requires : tie.Need-at-requires
-at-requires c κs = search rules
+pub returns-then-d-y : goal.returns-then-d-y
+returns-then-d-y c = note_far _ _ _ _ c.at-y.ensures c.if-d-y.true
 
-same_length : tie.Need-same-length
-same_length c = search rules
+pub returns-then-gone : goal.returns-then-gone
+returns-then-gone c = note_gone _ _ _ _ c.at-y.ensures c.if-d-y.false (sym c.gone.ensures ∙ c.if-gone.true)
 
-returns : tie.Need-returns
-returns c = note_far _ _ _ _ c.before.at.ensures c.if1.true
-
-gone-requires : tie.Need-gone-requires
-gone-requires c κs = search rules
-
-same-length-2 : tie.Need-same-length-2
-same-length-2 c = search rules
-
-returns-2 : tie.Need-returns-2
-returns-2 c = note_gone _ _ _ _ c.before.before.before.before.at.ensures c.before.before.before.if1.false (sym c.before.gone.ensures ∙ c.if2.true)
-
-mul-forest : tie.Need-overflow-mul-forest
-mul-forest c = search rules
-
-mul-take : tie.Need-overflow-mul-take
-mul-take c = search rules
-
-sub-take : tie.Need-overflow-sub-take
-sub-take c = search rules
-
-part-take-start : tie.Need-slice-bounds-take-start
-part-take-start c = search rules
-
-part-take-end : tie.Need-slice-bounds-take-end
-part-take-end c = search rules
-
-add-take : tie.Need-overflow-add-take
-add-take c = search rules
-
-take-requires : tie.Need-take-requires
-take-requires c κs = search rules
-
-same-length-3 : tie.Need-same-length-3
-same-length-3 c = search rules
-
-returns-3 : tie.Need-returns-3
-returns-3 c =
-    note_taken _ _ _ _ c.before.before.before.before.before.before.before.before.at.ensures c.before.before.before.before.before.before.before.if1.false (sym c.before.before.before.before.before.gone.ensures ∙ c.before.before.before.before.if2.false) c.before.before.before.before.before.before.before.before.before.before.before.requires.0 c.before.before.take.ensures
-
-pub note_spec : {M : Type 1} → statement M
-note_spec =
-    tie.close
-    (tie.spec
-    at-requires
-    same_length
-    returns
-    gone-requires
-    same-length-2
-    returns-2
-    mul-forest
-    mul-take
-    sub-take
-    part-take-start
-    part-take-end
-    add-take
-    take-requires
-    same-length-3
-    returns-3)
+pub returns : goal.returns
+returns c =
+    note_taken _ _ _ _ c.at-y.ensures c.if-d-y.false (sym c.gone.ensures ∙ c.if-gone.false) c.requires.room c.take.ensures

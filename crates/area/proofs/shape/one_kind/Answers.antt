@@ -11,7 +11,6 @@ use Prim.Native.Nat.{ℕ, ◌+◌, ◌-◌, ◌%◌, ◌≤◌, ◌<◌}
 use native.Mathlib.Decide.{ℕ_discrete}
 use native.Mathlib.Omega.{arith}
 use lib.ListN.{length, get_or}
-use borrow.Author.Rules.{rules}
 use Rattle.permutations.specs.Choice.{eqb_same, eqb_other}
 use Rattle.darts.specs.Operation.{kind_of}
 use Rattle.darts.specs.Tests.{of_kind, one_kind}
@@ -19,8 +18,7 @@ use Rattle.slices.specs.Part.{part}
 use Rattle.area.specs.Shape.{has_kind}
 use Rattle.area.proofs.OfKind.{has_here, has_on, kind_same}
 use Rattle.area.proofs.Parts.{part_cons}
-use Rattle.area.proofs.shape.one_kind.Statement.{statement}
-use Rattle.area.proofs.shape.one_kind.Tie as tie
+use Rattle.area.proofs.shape.one_kind.Goals as goal
 
 none_other : (k : ℕ) → k < 2 → (hs : List ℕ) → not (has_kind (1 - k) hs) ≡ of_kind (kind_of k) hs
 unfolding of_kind
@@ -40,22 +38,6 @@ unfolding one_kind
 first_kind w from to {h} more inside here told =
     rw (part_cons from to w more inside, ← here, ← (last_bit h)) (ap not told ∙ none_other (h % 2) (omega arith) (part (from + 1) to w))
 
-at-requires : tie.Need-at-requires
-at-requires c κs = search rules
-
-sub-other : tie.Need-overflow-sub-other
-sub-other c = search rules
-
-add-has-kind : tie.Need-overflow-add-has-kind
-add-has-kind c = search rules
-
-has-kind-requires : tie.Need-has-kind-requires
-has-kind-requires c κs = search rules
-
-returns : tie.Need-returns
+pub returns : goal.returns
 returns c =
-    let s = c.before.before.before in
-    first_kind _ _ _ s.requires.0 s.requires.1 c.before.at.ensures c.has-kind.ensures
-
-pub one_kind_spec : {M : Type 1} → statement M
-one_kind_spec = tie.close (tie.spec at-requires sub-other add-has-kind has-kind-requires returns)
+    first_kind _ _ _ c.requires.0 c.requires.1 c.at.ensures c.has_kind.ensures

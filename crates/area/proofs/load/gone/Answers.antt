@@ -7,12 +7,10 @@ use Prim.Native.Nat.{ℕ, ◌+◌}
 use native.Mathlib.Omega.{arith}
 use lib.Dec.{eqb}
 use lib.ListN.{get_or}
-use borrow.Author.Rules.{rules}
 use borrow.Author.Tests.{lt-ltb}
 use Rattle.area.specs.Area.{prev}
 use Rattle.area.specs.Load.{gone_in}
-use Rattle.area.proofs.load.gone.Statement.{statement}
-use Rattle.area.proofs.load.gone.Tie as tie
+use Rattle.area.proofs.load.gone.Goals as goal
 
 module _ (D n : ℕ) (w : List ℕ) (x : ℕ) where
   gone_none : n ≡ 0 → false ≡ gone_in D n w x
@@ -23,17 +21,8 @@ module _ (D n : ℕ) (w : List ℕ) (x : ℕ) where
   unfolding gone_in prev
   gone_some some e = rw (lt-ltb 0 n (omega arith), e) refl
 
-returns : tie.Need-returns
-returns c = gone_none _ _ _ _ c.if1.true
+pub returns-then-n-eq0 : goal.returns-then-n-eq0
+returns-then-n-eq0 c = gone_none _ _ _ _ c.if-n-eq0.true
 
-add_at : tie.Need-overflow-add-at
-add_at c = search rules
-
-at-requires : tie.Need-at-requires
-at-requires c κs = search rules
-
-returns-2 : tie.Need-returns-2
-returns-2 c = gone_some _ _ _ _ c.before.if1.false c.at.ensures
-
-pub gone_spec : {M : Type 1} → statement M
-gone_spec = tie.close (tie.spec returns add_at at-requires returns-2)
+pub returns : goal.returns
+returns c = gone_some _ _ _ _ c.if-n-eq0.false c.at.ensures

@@ -1,2 +1,0 @@
--- Turned == a negative number and its magnitude
-pub mod Turned
