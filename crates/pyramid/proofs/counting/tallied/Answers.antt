@@ -2,15 +2,13 @@
 use mathlib.Core.Path.{◌≡◌, ap, ap₂, ◌∙◌}
 use Prim.Native.Nat.{ℕ, ◌/◌, ◌≤◌, ◌<◌, ◌^◌}
 use native.Mathlib.Omega.{arith}
-use borrow.Author.Rules.{rules}
 use lib.Dec.{lit<}
 use lib.IntN.{ℤ, pos, ◌+ℤ◌, ◌-ℤ◌}
 use mir.Facts.{to_z_pos, to_z-of_z}
 use mir.Syntax.{w32}
 use mir.Val.{SFits, to_z, of_z}
 use Rattle.pyramid.proofs.Signed.{mag_sub, mag_add, fits_32}
-use Rattle.pyramid.proofs.counting.tallied.Statement.{statement}
-use Rattle.pyramid.proofs.counting.tallied.Tie as tie
+use Rattle.pyramid.proofs.counting.tallied.Goals as goal
 
 -- a number of at most 65,536 read as a signed one
 plain : (n : ℕ) → n ≤ 65536 → to_z w32 n ≡ pos n
@@ -35,26 +33,14 @@ module _ (v e f : ℕ) (hv : v ≤ 65536) (he : e ≤ 65536) (hf : f ≤ 65536) 
   result : to_z w32 (of_z w32 (to_z w32 (of_z w32 (to_z w32 v -ℤ to_z w32 e)) +ℤ to_z w32 f)) ≡ pos v -ℤ pos e +ℤ pos f
   result = to_z-of_z sum ∙ ap₂ (λ (a b : ℤ). a +ℤ b) back (plain f hf)
 
-cast-v : tie.Need-overflow-cast-v
-cast-v c = search rules
+pub overflow_sub-euler : goal.overflow_sub-euler
+overflow_sub-euler c = let g = c.args in difference g.vertices (g.darts / 2) g.faces c.requires.1 (omega arith) c.requires.2
 
-cast-e : tie.Need-overflow-cast-e
-cast-e c = search rules
+pub overflow_add-euler : goal.overflow_add-euler
+overflow_add-euler c = let g = c.args in sum g.vertices (g.darts / 2) g.faces c.requires.1 (omega arith) c.requires.2
 
-cast_f : tie.Need-overflow-cast-f
-cast_f c = search rules
-
-sub-euler : tie.Need-overflow-sub-euler
-sub-euler c = let g = c.args in difference g.vertices (g.darts / 2) g.faces c.requires.1 (omega arith) c.requires.2
-
-add-euler : tie.Need-overflow-add-euler
-add-euler c = let g = c.args in sum g.vertices (g.darts / 2) g.faces c.requires.1 (omega arith) c.requires.2
-
-returns : tie.Need-returns
+pub returns : goal.returns
 returns c =
     let g = c.args in
     ap (λ (x : ℤ). record { darts = g.darts; vertices = g.vertices; faces = g.faces; euler = x })
     (result g.vertices (g.darts / 2) g.faces c.requires.1 (omega arith) c.requires.2)
-
-pub tallied_spec : {M : Type 1} → statement M
-tallied_spec = tie.close (tie.spec cast-v cast-e cast_f sub-euler add-euler returns)
