@@ -12,12 +12,10 @@ use mathlib.Core.Path.{◌≡◌}
 use Prim.Native.Nat.{ℕ, ◌+◌, ◌%◌, ◌≤◌, ◌<◌}
 use lib.Dec.{eqb, ltb}
 use lib.ListN.{get_or}
-use borrow.Author.Rules.{rules}
 use borrow.Author.Tests.{eq-eqb, ne_eqb, lt-ltb, le-ltb}
 use Rattle.area.specs.Area.{prev, there}
 use Rattle.operations.specs.Back.{fitting}
-use Rattle.operations.proofs.back.fit.Statement.{statement}
-use Rattle.operations.proofs.back.fit.Tie as tie
+use Rattle.operations.proofs.back.fit.Goals as goal
 
 module _ (D : ℕ) (w : List ℕ) (p q x y : ℕ) where
   fit_single : {b : ℕ} → x ≡ q → b ≡ get_or w (D + y) 0 → ltb b D ≡ fitting D w p q x y
@@ -42,51 +40,17 @@ module _ (D : ℕ) (w : List ℕ) (p q x y : ℕ) where
         unfolding there prev
         fit_two l = rw (ne_eqb x q other, eq-eqb (p % 2) 0 even, ← before_x, lt-ltb a D live, ← before_y, lt-ltb b D l)
 
-add_at : tie.Need-overflow-add-at
-add_at c = search rules
+pub returns-then-x-q : goal.returns-then-x-q
+returns-then-x-q c = fit_single _ _ c.args.p _ _ _ c.if-x-q.true c.at.ensures
 
-at-requires : tie.Need-at-requires
-at-requires c κs = search rules
+pub returns-then-p-ne0 : goal.returns-then-p-ne0
+returns-then-p-ne0 c = fit_odd _ _ _ _ _ _ c.if-x-q.false c.if-p-ne0.true
 
-returns : tie.Need-returns
-returns c = fit_single _ _ c.before.before.before.args.p _ _ _ c.before.if1.true c.at.ensures
+pub returns-then-at-d : goal.returns-then-at-d
+returns-then-at-d c = fit_gone _ _ _ _ _ _ c.if-x-q.false c.if-p-ne0.false c.at-2.ensures c.if-at-d.true
 
-returns-2 : tie.Need-returns-2
-returns-2 c = fit_odd _ _ _ _ _ _ c.before.if1.false c.if2.true
+pub returns-then-at-d-2 : goal.returns-then-at-d-2
+returns-then-at-d-2 c = fit_gone₂ _ _ _ _ _ _ c.if-x-q.false c.if-p-ne0.false c.at-2.ensures c.if-at-d.false c.at-3.ensures c.if-at-d-2.true
 
-add-at-2 : tie.Need-overflow-add-at-2
-add-at-2 c = search rules
-
-at-requires-2 : tie.Need-at-requires-2
-at-requires-2 c κs = search rules
-
-returns-3 : tie.Need-returns-3
-returns-3 c = fit_gone _ _ _ _ _ _ c.before.before.before.if1.false c.before.before.if2.false c.before.at2.ensures c.if3.true
-
-add-at-3 : tie.Need-overflow-add-at-3
-add-at-3 c = search rules
-
-at-requires-3 : tie.Need-at-requires-3
-at-requires-3 c κs = search rules
-
-returns-4 : tie.Need-returns-4
-returns-4 c = fit_gone₂ _ _ _ _ _ _ c.before.before.before.before.before.if1.false c.before.before.before.before.if2.false c.before.before.before.at2.ensures c.before.before.if3.false c.before.at3.ensures c.if4.true
-
-returns-5 : tie.Need-returns-5
-returns-5 c = fit_two _ _ _ _ _ _ c.before.before.before.before.before.if1.false c.before.before.before.before.if2.false c.before.before.before.at2.ensures c.before.before.if3.false c.before.at3.ensures c.if4.false
-
-pub fit_spec : {M : Type 1} → statement M
-fit_spec =
-    tie.close
-    (tie.spec
-    add_at
-    at-requires
-    returns
-    returns-2
-    add-at-2
-    at-requires-2
-    returns-3
-    add-at-3
-    at-requires-3
-    returns-4
-    returns-5)
+pub returns : goal.returns
+returns c = fit_two _ _ _ _ _ _ c.if-x-q.false c.if-p-ne0.false c.at-2.ensures c.if-at-d.false c.at-3.ensures c.if-at-d-2.false

@@ -8,15 +8,13 @@ use native.Mathlib.Decide.{ℕ_discrete}
 use native.Mathlib.Omega.{arith}
 use lib.Dec.{eqb}
 use lib.ListN.{get_or}
-use borrow.Author.Rules.{rules}
 use borrow.Author.Tests.{eq-eqb, ne_eqb, lt-ltb, le-ltb}
 use Rattle.darts.specs.Map.{successor}
 use Rattle.darts.specs.Operation.{whole_edge}
 use Rattle.darts.specs.Levels.{empty_loop}
 use Rattle.area.specs.Area.{prev, there}
 use Rattle.operations.specs.Operate.{takes_in}
-use Rattle.operations.proofs.operate.takes.Statement.{statement}
-use Rattle.operations.proofs.operate.takes.Tie as tie
+use Rattle.operations.proofs.operate.takes.Goals as goal
 
 module _ (D : ℕ) (w : List ℕ) (e : ℕ) where
   gone : D ≤ get_or w (D + 2 * e) 0 → false ≡ takes_in D w e
@@ -40,47 +38,11 @@ module _ (D : ℕ) (w : List ℕ) (e : ℕ) where
             none false = refl
         go (no h) = rw (ne_eqb s (2 * e) h)
 
-mul-p : tie.Need-overflow-mul-p
-mul-p c = search rules
+pub returns-then-d-at : goal.returns-then-d-at
+returns-then-d-at c = gone _ _ _ (omega arith)
 
-mul-q : tie.Need-overflow-mul-q
-mul-q c = search rules
+pub returns-then-r-q : goal.returns-then-r-q
+returns-then-r-q c = loop _ _ _ (omega arith) c.at-r.ensures c.at-s.ensures c.if-r-q.true
 
-add-q : tie.Need-overflow-add-q
-add-q c = search rules
-
-add_at : tie.Need-overflow-add-at
-add_at c = search rules
-
-at-requires : tie.Need-at-requires
-at-requires c κs = search rules
-
-returns : tie.Need-returns
-returns c = gone _ _ _ (omega arith)
-
-at-requires-2 : tie.Need-at-requires-2
-at-requires-2 c κs = search rules
-
-at-requires-3 : tie.Need-at-requires-3
-at-requires-3 c κs = search rules
-
-returns-2 : tie.Need-returns-2
-returns-2 c = loop _ _ _ (omega arith) c.before.before.at2.ensures c.before.at3.ensures c.if2.true
-
-returns-3 : tie.Need-returns-3
-returns-3 c = other _ _ _ (omega arith) c.before.before.at2.ensures c.before.at3.ensures c.if2.false
-
-pub takes_spec : {M : Type 1} → statement M
-takes_spec =
-    tie.close
-    (tie.spec
-    mul-p
-    mul-q
-    add-q
-    add_at
-    at-requires
-    returns
-    at-requires-2
-    at-requires-3
-    returns-2
-    returns-3)
+pub returns : goal.returns
+returns c = other _ _ _ (omega arith) c.at-r.ensures c.at-s.ensures c.if-r-q.false

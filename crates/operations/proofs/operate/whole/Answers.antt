@@ -6,12 +6,10 @@ use Prim.Native.Nat.{ℕ, ◌+◌, ◌*◌}
 use native.Mathlib.Omega.{arith}
 use lib.Dec.{eqb}
 use lib.ListN.{get_or}
-use borrow.Author.Rules.{rules}
 use borrow.Author.Tests.{eq-eqb, ne_eqb}
 use Rattle.darts.specs.Map.{successor}
 use Rattle.darts.specs.Operation.{whole_edge}
-use Rattle.operations.proofs.operate.whole.Statement.{statement}
-use Rattle.operations.proofs.operate.whole.Tie as tie
+use Rattle.operations.proofs.operate.whole.Goals as goal
 
 or-false : (b : Bool) → b ≡ b || false
 or-false true = refl
@@ -30,30 +28,11 @@ module _ (w : List ℕ) (e : ℕ) {r s : ℕ} (first : r ≡ get_or w (2 * e) 0)
   unfolding whole_edge successor
   to_neither n m = rw (← first, ← second, ne_eqb r (2 * e) n, ne_eqb r (2 * e + 1) m)
 
-mul-p : tie.Need-overflow-mul-p
-mul-p c = search rules
+pub returns-then-r-p : goal.returns-then-r-p
+returns-then-r-p c = to_itself _ _ c.at-r.ensures c.at-s.ensures c.if-r-p.true
 
-mul-q : tie.Need-overflow-mul-q
-mul-q c = search rules
+pub returns-then-r-q : goal.returns-then-r-q
+returns-then-r-q c = to_partner _ _ c.at-r.ensures c.at-s.ensures c.if-r-p.false c.if-r-q.true
 
-add-q : tie.Need-overflow-add-q
-add-q c = search rules
-
-at-requires : tie.Need-at-requires
-at-requires c κs = search rules
-
-at-requires-2 : tie.Need-at-requires-2
-at-requires-2 c κs = search rules
-
-returns : tie.Need-returns
-returns c = to_itself _ _ c.before.before.at.ensures c.before.at2.ensures c.if1.true
-
-returns-2 : tie.Need-returns-2
-returns-2 c = to_partner _ _ c.before.before.before.at.ensures c.before.before.at2.ensures c.before.if1.false c.if2.true
-
-returns-3 : tie.Need-returns-3
-returns-3 c = to_neither _ _ c.before.before.before.at.ensures c.before.before.at2.ensures c.before.if1.false c.if2.false
-
-pub whole_spec : {M : Type 1} → statement M
-whole_spec =
-    tie.close (tie.spec mul-p mul-q add-q at-requires at-requires-2 returns returns-2 returns-3)
+pub returns : goal.returns
+returns c = to_neither _ _ c.at-r.ensures c.at-s.ensures c.if-r-p.false c.if-r-q.false

@@ -10,12 +10,11 @@ use mathlib.Core.List.{List}
 use mathlib.Core.Bool.{Bool, true, false, ◌&&◌}
 use mathlib.Core.Logic.{◌≢◌, inl, inr, ⊎_elim, by_cases}
 use mathlib.Core.Path.{◌≡◌, refl, sym, ap, ◌∙◌, subst}
-use Prim.Native.Nat.{ℕ, zero, suc, ◌+◌, ◌-◌, ◌*◌, ◌≤◌, ◌<◌}
+use Prim.Native.Nat.{ℕ, zero, suc, ◌+◌, ◌*◌, ◌≤◌, ◌<◌}
 use native.Mathlib.Decide.{ℕ_discrete}
 use native.Mathlib.Numerals.{add-one}
 use native.Mathlib.Omega.{arith}
 use lib.ListN.{get_or}
-use borrow.Author.Rules.{rules}
 use borrow.Author.Tests.{lt-ltb, le-ltb, eq-eqb, ne_eqb}
 use Rattle.permutations.specs.Perm.{Perm}
 use Rattle.permutations.specs.Cycle.{Meets, meets_refl, meets_sym, meets_ind}
@@ -27,15 +26,8 @@ use Rattle.operations.specs.Count.{roots_in}
 use Rattle.operations.specs.Cycles.{step_in, MarkedIn, Labelled}
 use Rattle.operations.proofs.Outside.{outside_refl, outside_trans, outside_room, outside_front, outside_there, forest_at}
 use Rattle.operations.proofs.Steps.{step_stays, outside_step, cycle_classes}
-use Rattle.operations.proofs.cycles.label_cycles.Statement.{statement}
-use Rattle.operations.proofs.cycles.label_cycles.Tie as tie
-
-record Labelling (D k : ℕ) (w₀ w : List ℕ) (n i : ℕ) : Type 0 where
-  low : i ≤ D
-  few : n ≤ i
-  sum : n ≡ roots_in D w i
-  outside : Outside D w₀ w
-  lowest : Lowest (Meets (step_in D k w₀)) D i (forest_in D w)
+use Rattle.operations.proofs.cycles.label_cycles.Invariants.{Labelling}
+use Rattle.operations.proofs.cycles.label_cycles.Goals as goal
 
 and_none : (b : Bool) → (b && false) ≡ false
 and_none true = refl
@@ -132,109 +124,28 @@ module _ {D k : ℕ} {w₀ w : List ℕ} {n i : ℕ} (room : Room D w₀) (π : 
           lowest = lowest_marked (cycle_classes π) now.lowest more own_parent marked_alone;
         }
 
-abbrev invariant-loop : tie.invariant-loop
-invariant-loop work₀ d k n₀ i₀ work n i = Labelling d k work₀ work n i
+pub loop-i-init : goal.loop-i-init
+loop-i-init c = begin c.requires.perm c.requires.fresh
 
-abbrev decreases-loop : tie.decreases-loop
-decreases-loop work₀ d k n₀ i₀ work n i = d - i
+pub label_cycle-requires : goal.label_cycle-requires
+label_cycle-requires c =
+    let l = c.loop-i.invariant in
+    record { room = outside_room l.outside c.requires.room; perm = same_perm c.requires.room c.requires.perm l c.loop-i-test.true; i_lt_d = (c.loop-i-test.true, omega arith, sym c.at.ensures ∙ c.if-at-i.true) }
 
-loop-holds : tie.Need-loop-init invariant-loop decreases-loop
-loop-holds c = begin c.before.requires.1.0 c.before.requires.1.1
+pub loop-i-preserved-then-at-d : goal.loop-i-preserved-then-at-d
+loop-i-preserved-then-at-d c =
+    turn_root c.requires.room c.requires.perm c.loop-i.invariant c.loop-i-test.true (omega arith)
+    (sym c.at.ensures ∙ c.if-at-i.true) c.label_cycle.ensures
 
-mul_at : tie.Need-overflow-mul-at invariant-loop decreases-loop
-mul_at c = search rules
+pub loop-i-preserved-else-at-d : goal.loop-i-preserved-else-at-d
+loop-i-preserved-else-at-d c =
+    turn_gone c.requires.room c.requires.perm c.loop-i.invariant c.loop-i-test.true (omega arith)
 
-add_at : tie.Need-overflow-add-at invariant-loop decreases-loop
-add_at c = search rules
+pub loop-i-preserved : goal.loop-i-preserved
+loop-i-preserved c =
+    turn_child c.requires.room c.requires.perm c.loop-i.invariant c.loop-i-test.true (λ e. c.if-at-i.false (c.at.ensures ∙ e))
 
-at-requires : tie.Need-at-requires invariant-loop decreases-loop
-at-requires c κs = search rules
-
-add-at-2 : tie.Need-overflow-add-at-2 invariant-loop decreases-loop
-add-at-2 c = search rules
-
-at-requires-2 : tie.Need-at-requires-2 invariant-loop decreases-loop
-at-requires-2 c κs = search rules
-
-label-cycle-requires : tie.Need-label-cycle-requires invariant-loop decreases-loop
-label-cycle-requires c κs =
-    let own = c.before.before.before.before in
-    let turn = own.before.before.before in
-    let l = turn.before.loop.invariant in
-    let s = turn.before.before.before in (
-      outside_room l.outside s.requires.0,
-      (same_perm s.requires.0 s.requires.1.0 l turn.loop-test.true, (turn.loop-test.true, omega arith, sym own.before.at.ensures ∙ own.if1.true)),
-    )
-
-add-n : tie.Need-overflow-add-n invariant-loop decreases-loop
-add-n c = search rules
-
-add-i : tie.Need-overflow-add-i invariant-loop decreases-loop
-add-i c = search rules
-
-loop-less : tie.Need-loop-smaller invariant-loop decreases-loop
-loop-less c = search rules
-
-loop-again : tie.Need-loop-preserved invariant-loop decreases-loop
-loop-again c =
-    let own = c.before.before.before.before.before.before.before in
-    let turn = own.before.before.before in
-    let s = turn.before.before.before in
-    turn_root s.requires.0 s.requires.1.0 turn.before.loop.invariant turn.loop-test.true (omega arith)
-    (sym own.before.at.ensures ∙ own.if1.true) c.before.before.label-cycle.ensures
-
-add-i-2 : tie.Need-overflow-add-i-2 invariant-loop decreases-loop
-add-i-2 c = search rules
-
-loop-less-2 : tie.Need-loop-smaller-2 invariant-loop decreases-loop
-loop-less-2 c = search rules
-
-loop-again-2 : tie.Need-loop-preserved-2 invariant-loop decreases-loop
-loop-again-2 c =
-    let turn = c.before.before.before.before.before.before in
-    let s = turn.before.before.before in
-    turn_gone s.requires.0 s.requires.1.0 turn.before.loop.invariant turn.loop-test.true (omega arith)
-
-add-i-3 : tie.Need-overflow-add-i-3 invariant-loop decreases-loop
-add-i-3 c = search rules
-
-loop-less-3 : tie.Need-loop-smaller-3 invariant-loop decreases-loop
-loop-less-3 c = search rules
-
-loop-again-3 : tie.Need-loop-preserved-3 invariant-loop decreases-loop
-loop-again-3 c =
-    let turn = c.before.before.before in
-    let s = turn.before.before.before in
-    turn_child s.requires.0 s.requires.1.0 turn.before.loop.invariant turn.loop-test.true (λ e. c.if1.false (c.before.at.ensures ∙ e))
-
-same_length : tie.Need-same-length invariant-loop decreases-loop
-same_length c = search rules
-
-returns : tie.Need-returns invariant-loop decreases-loop
-returns c = ends c.before.loop.invariant c.loop-test.false
-
-pub label_cycles_spec : {M : Type 1} → statement M
-label_cycles_spec =
-    tie.close
-    (tie.spec
-    invariant-loop
-    decreases-loop
-    loop-holds
-    mul_at
-    add_at
-    at-requires
-    add-at-2
-    at-requires-2
-    label-cycle-requires
-    add-n
-    add-i
-    loop-less
-    loop-again
-    add-i-2
-    loop-less-2
-    loop-again-2
-    add-i-3
-    loop-less-3
-    loop-again-3
-    same_length
-    returns)
+pub returns : goal.returns
+returns c =
+    let e = ends c.loop-i.invariant c.loop-i-test.false in
+    record { labelled = e.0; value = e.1 }
