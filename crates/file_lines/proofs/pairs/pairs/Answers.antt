@@ -5,7 +5,6 @@ use mathlib.Core.List.{List, [], ◌++◌, map, map-append}
 use Prim.Native.Nat.{ℕ, ◌+◌, ◌-◌, ◌*◌, ◌/◌, ◌≤◌, ◌<◌}
 use native.Mathlib.Omega.{arith}
 use lib.ListN.{length, drop}
-use borrow.Author.Rules.{rules}
 use Rattle.darts.specs.Cases.{answer_of}
 use Rattle.darts.specs.declared.Answer.{Answer}
 use Rattle.darts.specs.Scan.{found, fault}
@@ -15,21 +14,14 @@ use Rattle.file_lines.specs.Found.{line_of}
 use Rattle.file_lines.specs.Lines.{pair_at, pair_of}
 use Rattle.slices.specs.Laid.{laid, Space}
 use Rattle.slices.specs.Put.{Put}
-use Rattle.file_lines.specs.Pairs.{PairsRead, last_at, LastRead}
+use Rattle.file_lines.specs.Pairs.{PairsRead}
 use Rattle.file_lines.proofs.Found.{told}
-use Rattle.file_lines.proofs.Rest.{Rest, rest_none, rest_on, rest_fault, rest_found}
+use Rattle.file_lines.proofs.Rest.{rest_none, rest_on, rest_fault, rest_found}
 use Rattle.file_lines.proofs.PairLines.{pair_lines_lem, pair_small}
 use Rattle.slices.proofs.Put.{put_none, put_on, put_length}
 use Rattle.slices.proofs.Laid.{laid_rest, laid_over}
-use Rattle.file_lines.proofs.pairs.pairs.Statement.{statement}
-use Rattle.file_lines.proofs.pairs.pairs.Tie as tie
-
-record Reading (b : List ℕ) (D F : ℕ) (t₀ t : List ℕ) (at₀ at i : ℕ) : Type 0 where
-  done : List ℕ
-  bound : i ≤ D / 2
-  size : length t ≡ length t₀
-  lines : Rest (pairs_at (D / 2) b at₀) (pairs_at (D / 2 - i) b at) done
-  put : Put t₀ t 0 (2 * i) (map (from_flag F D) done)
+use Rattle.file_lines.proofs.pairs.pairs.Invariants.{Reading}
+use Rattle.file_lines.proofs.pairs.pairs.Goals as goal
 
 begin : (b : List ℕ) (D F : ℕ) (t : List ℕ) (at : ℕ) → Reading b D F t t at at 0
 begin b D F t at =
@@ -82,79 +74,29 @@ module _ {b : List ℕ} {D F : ℕ} {t₀ t : List ℕ} {at₀ at i : ℕ} (pre 
         rest = untouched;
       }
 
-abbrev invariant-loop : tie.invariant-loop
-invariant-loop bytes at d flag table₀ place₀ i₀ table place i = Reading bytes d flag table₀ table at place i
-
-abbrev decreases-loop : tie.decreases-loop
-decreases-loop bytes at d flag table₀ place₀ i₀ table place i = d / 2 - i
-
-loop-holds : tie.Need-loop-init invariant-loop decreases-loop
-loop-holds c =
-    let g = c.before.before.args in
+pub loop-i-init : goal.loop-i-init
+loop-i-init c =
+    let g = c.args in
     begin g.bytes.now g.d g.flag g.table.now g.at
 
-pair-line-requires : tie.Need-pair-line-requires invariant-loop decreases-loop
-pair-line-requires c κs = search rules
+pub returns-in-Fault : goal.returns-in-Fault
+returns-in-Fault c =
+    stopped c.requires c.loop-i.invariant
+    c.loop-i-test.true
+    (told (line_of pair_of) c.pair_line.ensures c.in-Fault.is)
 
-enum-known-answer : tie.Need-enum-known-answer invariant-loop decreases-loop
-enum-known-answer c = search rules
+pub lay_pair-requires : goal.lay_pair-requires
+lay_pair-requires c =
+    let small = pair_small _ _ (told (line_of pair_of) c.pair_line.ensures c.in-Found.is) in
+    record { space = record { fits = omega arith }; d_bound = (omega arith, small.0, small.1) }
 
-same_length : tie.Need-same-length invariant-loop decreases-loop
-same_length c = search rules
+pub loop-i-preserved : goal.loop-i-preserved
+loop-i-preserved c =
+    go_on c.requires
+    c.loop-i.invariant
+    c.loop-i-test.true
+    (told (line_of pair_of) c.pair_line.ensures c.in-Found.is)
+    c.lay_pair.ensures
 
-returns : tie.Need-returns invariant-loop decreases-loop
-returns c =
-    stopped c.before.before.before.before.before.before.before.before.requires c.before.before.before.before.before.loop.invariant
-    c.before.before.before.before.loop-test.true
-    (told (line_of pair_of) c.before.before.before.pair_line.ensures c.before.answer.given.1)
-
-enum-known-a : tie.Need-enum-known-a invariant-loop decreases-loop
-enum-known-a c = search rules
-
-mul-lay-pair : tie.Need-overflow-mul-lay-pair invariant-loop decreases-loop
-mul-lay-pair c = search rules
-
-lay-pair-requires : tie.Need-lay-pair-requires invariant-loop decreases-loop
-lay-pair-requires c κs =
-    let small = pair_small _ _ (told (line_of pair_of) c.before.before.before.before.pair_line.ensures c.before.before.a.given.1) in
-    (record { fits = omega arith }, (omega arith, small.0, small.1))
-
-add-i : tie.Need-overflow-add-i invariant-loop decreases-loop
-add-i c = search rules
-
-loop-less : tie.Need-loop-smaller invariant-loop decreases-loop
-loop-less c = search rules
-
-loop-again : tie.Need-loop-preserved invariant-loop decreases-loop
-loop-again c =
-    go_on c.before.before.before.before.before.before.before.before.before.before.before.before.requires
-    c.before.before.before.before.before.before.before.before.before.loop.invariant
-    c.before.before.before.before.before.before.before.before.loop-test.true
-    (told (line_of pair_of) c.before.before.before.before.before.before.before.pair_line.ensures c.before.before.before.before.before.a.given.1)
-    c.before.before.lay-pair.ensures
-
-same-length-2 : tie.Need-same-length-2 invariant-loop decreases-loop
-same-length-2 c = search rules
-
-returns-2 : tie.Need-returns-2 invariant-loop decreases-loop
-returns-2 c = ended c.before.before.before.before.requires c.before.loop.invariant c.loop-test.false
-
-pub pairs_spec : {M : Type 1} → statement M
-pairs_spec =
-    tie.close
-    (tie.spec
-    invariant-loop
-    decreases-loop
-    loop-holds
-    pair-line-requires
-    enum-known-answer
-    same_length
-    returns
-    enum-known-a
-    mul-lay-pair
-    lay-pair-requires
-    add-i
-    loop-less
-    loop-again
-    same-length-2
-    returns-2)
+pub returns : goal.returns
+returns c = ended c.requires c.loop-i.invariant c.loop-i-test.false

@@ -3,7 +3,7 @@
 use mathlib.Core.Path.{◌≡◌, refl, ap, ◌∙◌}
 use mathlib.Core.Logic.{by_cases}
 use mathlib.Core.List.{List, [], ◌∷◌, ◌++◌}
-use Prim.Native.Nat.{ℕ, ◌+◌, ◌-◌, ◌*◌, ◌/◌, ◌≤◌, ◌<◌}
+use Prim.Native.Nat.{ℕ, ◌+◌, ◌-◌, ◌/◌, ◌≤◌, ◌<◌}
 use native.Mathlib.Decide.{dec_le}
 use native.Mathlib.Omega.{arith}
 use lib.ListN.{length, drop, set, replicate, length-append}
@@ -21,24 +21,12 @@ use Rattle.file_lines.specs.Lines.{kernel_of}
 use Rattle.slices.specs.Put.{Put}
 use Rattle.file_lines.specs.Kernels.{noted, KernelsRead}
 use Rattle.file_lines.proofs.Found.{told}
-use Rattle.file_lines.proofs.Rest.{Rest, rest_none, rest_on, rest_fault, rest_found}
+use Rattle.file_lines.proofs.Rest.{rest_none, rest_on, rest_fault, rest_found}
 use Rattle.file_lines.proofs.KernelLines.{kernel_lines_lem, kernel_small, total_on, ends_on, history_on, history_length, ends_set}
 use Rattle.slices.proofs.Put.{put_none, put_on}
 use Rattle.slices.proofs.Laid.{laid_rest, laid_over}
-use Rattle.file_lines.proofs.kernels.kernels.Statement.{statement}
-use Rattle.file_lines.proofs.kernels.kernels.Tie as tie
-
-record Reading (b : List ℕ) (L D : ℕ) (h₀ h ends : List ℕ) (at₀ at sum i : ℕ) : Type 0 where
-  done : List KernelLine
-  bound : i ≤ L
-  count : length done ≡ i
-  size : length h ≡ length h₀
-  small : sum ≤ 99999 * i
-  same : sum ≡ total done
-  lines : Rest (kernels_at L b at₀) (kernels_at (L - i) b at) done
-  levels : ends ≡ ends_from 0 done ++ replicate (64 - i) 0
-  put : sum ≤ D / 2 → Put h₀ h 0 sum (file_history done)
-  rest : drop (D / 2) h ≡ drop (D / 2) h₀
+use Rattle.file_lines.proofs.kernels.kernels.Invariants.{Reading}
+use Rattle.file_lines.proofs.kernels.kernels.Goals as goal
 
 begin : (b : List ℕ) (L D : ℕ) (h : List ℕ) (at : ℕ) → Reading b L D h h (replicate 64 0) at at 0 0
 unfolding total ends_from file_history history_from
@@ -126,98 +114,35 @@ module _ {b : List ℕ} {L D : ℕ} {h₀ h ends : List ℕ} {at₀ at sum i : �
         rest = g.rest;
       }
 
-abbrev invariant-loop : tie.invariant-loop
-invariant-loop bytes at levels d history₀ ends₀ place₀ total₀ i₀ history ends place total i = Reading bytes levels d history₀ history ends at place total i
-
-abbrev decreases-loop : tie.decreases-loop
-decreases-loop bytes at levels d history₀ ends₀ place₀ total₀ i₀ history ends place total i = levels - i
-
-loop-holds : tie.Need-loop-init invariant-loop decreases-loop
-loop-holds c =
-    let g = c.before.before.args in
+pub loop-i-init : goal.loop-i-init
+loop-i-init c =
+    let g = c.args in
     begin g.bytes.now g.levels g.d g.history.now g.at
 
-kernel-line-requires : tie.Need-kernel-line-requires invariant-loop decreases-loop
-kernel-line-requires c κs = search rules
+pub returns-in-Fault : goal.returns-in-Fault
+returns-in-Fault c =
+    stopped c.requires c.loop-i.invariant c.loop-i-test.true
+    (told (line_of kernel_of) c.kernel_line.ensures c.in-Fault.is)
 
-enum-known-answer : tie.Need-enum-known-answer invariant-loop decreases-loop
-enum-known-answer c = search rules
-
-same_length : tie.Need-same-length invariant-loop decreases-loop
-same_length c = search rules
-
-returns : tie.Need-returns invariant-loop decreases-loop
-returns c =
-    stopped c.before.before.before.before.before.before.before.before.requires c.before.before.before.before.before.loop.invariant
-    c.before.before.before.before.loop-test.true
-    (told (line_of kernel_of) c.before.before.before.kernel-line.ensures c.before.answer.given.1)
-
-enum-known-kind : tie.Need-enum-known-kind invariant-loop decreases-loop
-enum-known-kind c = search rules
-
-lay-history-requires : tie.Need-lay-history-requires invariant-loop decreases-loop
-lay-history-requires c κs =
-    let small = kernel_small _ _ (told (line_of kernel_of) c.before.before.before.before.kernel-line.ensures c.before.before.kind.given.1) in
+pub lay_history-requires : goal.lay_history-requires
+lay_history-requires c =
+    let small = kernel_small _ _ (told (line_of kernel_of) c.kernel_line.ensures c.in-Found.is) in
     omega arith
 
--- the count of a line that was found
-few : (c : tie.After-slice-known2 invariant-loop decreases-loop) → c.before.before.before.before.before.kind.given.0.1.0 ≤ 99999
-few c =
-    kernel_small _ _
-    (told (line_of kernel_of) c.before.before.before.before.before.before.before.kernel-line.ensures c.before.before.before.before.before.kind.given.1)
+pub overflow_add-total : goal.overflow_add-total
+overflow_add-total c = let few = kernel_small _ _ (told (line_of kernel_of) c.kernel_line.ensures c.in-Found.is) in omega arith
 
-add_total : tie.Need-overflow-add-total invariant-loop decreases-loop
-add_total c = omega (arith, few c)
+pub overflow_cast-ends : goal.overflow_cast-ends
+overflow_cast-ends c = let few = kernel_small _ _ (told (line_of kernel_of) c.kernel_line.ensures c.in-Found.is) in omega arith
 
-cast_ends : tie.Need-overflow-cast-ends invariant-loop decreases-loop
-cast_ends c = omega (arith, few c)
+pub loop-i-preserved : goal.loop-i-preserved
+loop-i-preserved c =
+    go_on c.requires
+    c.loop-i.invariant
+    c.loop-i-test.true
+    (told (line_of kernel_of) c.kernel_line.ensures
+    c.in-Found.is) (search rules)
+    c.lay_history.ensures
 
-mul-ends : tie.Need-overflow-mul-ends invariant-loop decreases-loop
-mul-ends c = search rules
-
-array-write-ends : tie.Need-array-write-ends invariant-loop decreases-loop
-array-write-ends c = search rules
-
-add-i : tie.Need-overflow-add-i invariant-loop decreases-loop
-add-i c = search rules
-
-loop-less : tie.Need-loop-smaller invariant-loop decreases-loop
-loop-less c = search rules
-
-loop-again : tie.Need-loop-preserved invariant-loop decreases-loop
-loop-again c =
-    go_on c.before.before.before.before.before.before.before.before.before.before.before.before.requires
-    c.before.before.before.before.before.before.before.before.before.loop.invariant
-    c.before.before.before.before.before.before.before.before.loop-test.true
-    (told (line_of kernel_of) c.before.before.before.before.before.before.before.kernel-line.ensures
-    c.before.before.before.before.before.kind.given.1) c.before.before.lay_history.auto.0
-    c.before.before.lay_history.ensures
-
-same-length-2 : tie.Need-same-length-2 invariant-loop decreases-loop
-same-length-2 c = search rules
-
-returns-2 : tie.Need-returns-2 invariant-loop decreases-loop
-returns-2 c = ended c.before.before.before.before.requires c.before.loop.invariant c.loop-test.false
-
-pub kernels_spec : {M : Type 1} → statement M
-kernels_spec =
-    tie.close
-    (tie.spec
-    invariant-loop
-    decreases-loop
-    loop-holds
-    kernel-line-requires
-    enum-known-answer
-    same_length
-    returns
-    enum-known-kind
-    lay-history-requires
-    add_total
-    cast_ends
-    mul-ends
-    array-write-ends
-    add-i
-    loop-less
-    loop-again
-    same-length-2
-    returns-2)
+pub returns : goal.returns
+returns c = ended c.requires c.loop-i.invariant c.loop-i-test.false
