@@ -11,30 +11,21 @@ use mathlib.Core.Path.{◌≡◌, sym, ◌∙◌}
 use Prim.Native.Nat.{ℕ, suc, ◌+◌, ◌-◌, ◌/◌, ◌≤◌, ◌<◌}
 use native.Mathlib.Numerals.{add-one}
 use native.Mathlib.Omega.{arith}
-use borrow.Author.Rules.{rules}
 use Rattle.permutations.specs.Choice.{true→T}
 use Rattle.darts.specs.declared.Answer.TheVariants.{Done}
 use Rattle.darts.specs.Operation.{kind_of}
-use Rattle.darts.specs.Kernel.{judge, Run, rising}
+use Rattle.darts.specs.Kernel.{judge, rising}
 use Rattle.darts.specs.Levels.{takes, swept_from, swept}
 use Rattle.laws.proofs.bridge.EmptyLoop.{takes_fine}
 use Rattle.area.specs.Area.{table_in, past_in}
 use Rattle.operations.specs.Operate.{takes_in, operated}
-use Rattle.engine.specs.Held.{Area, Beyond}
+use Rattle.engine.specs.Held.{Area}
 use Rattle.engine.specs.Runs.{ran_in, Went}
 use Rattle.engine.proofs.Operated.{operated_acts}
 use Rattle.engine.proofs.Ready.{beyond_refl, beyond_trans, area_for}
 use Rattle.engine.proofs.Taking.{takes_in_lem}
-use Rattle.engine.proofs.sweep.sweep.Statement.{statement}
-use Rattle.engine.proofs.sweep.sweep.Tie as tie
-
-abbrev whole : ℕ → ℕ → List ℕ → Run
-whole D n w₀ = swept D (table_in D w₀) (past_in D n w₀)
-
-record Sweeping (D n : ℕ) (w₀ w : List ℕ) (e m : ℕ) : Type 0 where
-  same : swept_from D (table_in D w) (past_in D m w) (rising e (D / 2 - e)) ≡ whole D n w₀
-  area : Area D m w
-  beyond : Beyond D w₀ w
+use Rattle.engine.proofs.sweep.sweep.Invariants.{whole, Sweeping}
+use Rattle.engine.proofs.sweep.sweep.Goals as goal
 
 begin : {D n : ℕ} {w : List ℕ} → Area D n w → Sweeping D n w w 0 n
 unfolding swept
@@ -77,77 +68,32 @@ module _ {D n : ℕ} {w₀ w : List ℕ} {e m : ℕ} (σ : Sweeping D n w₀ w e
       let z : D / 2 - e ≡ 0 = omega arith in
       record { went = rw z at σ.same; few = σ.area.few; beyond = σ.beyond }
 
-abbrev invariant-loop : tie.invariant-loop
-invariant-loop work₀ d n e₀ m₀ work e m = Sweeping d n work₀ work e m
+pub loop-e-init : goal.loop-e-init
+loop-e-init c = begin c.requires
 
-abbrev decreases-loop : tie.decreases-loop
-decreases-loop work₀ d n e₀ m₀ work e m = d / 2 - e
+pub takes-requires : goal.takes-requires
+takes-requires c = record { room = c.loop-e.invariant.area.room; e_bound = c.loop-e-test.true }
 
-loop-holds : tie.Need-loop-init invariant-loop decreases-loop
-loop-holds c = begin c.before.requires
+pub operate-requires : goal.operate-requires
+operate-requires c =
+    let σ = c.loop-e.invariant in
+    let (room, ((few, kind), inside)) = area_for σ.area 0 _ (removable σ c.loop-e-test.true c.takes.ensures c.if-takes.true) (omega arith) in
+    record { room = room; n_bound = (few, omega arith); bounds = inside }
 
-takes-requires : tie.Need-takes-requires invariant-loop decreases-loop
-takes-requires c κs = (c.before.before.loop.invariant.area.room, c.before.loop-test.true)
-
-operate-requires : tie.Need-operate-requires invariant-loop decreases-loop
-operate-requires c κs =
-    let i = c.before in
-    let t = i.before in
-    let l = t.before.before in
-    let σ = l.before.loop.invariant in
-    let (room, ((few, kind), inside)) = area_for σ.area 0 _ (removable σ l.loop-test.true t.takes.ensures i.if1.true) (omega arith) in
-    (room, ((few, omega arith), inside))
-
-add-m : tie.Need-overflow-add-m invariant-loop decreases-loop
-add-m c =
-    let t = c.before.before.before.before.before in
-    let A = t.before.before.before.loop.invariant.area in
+pub overflow_add-m : goal.overflow_add-m
+overflow_add-m c =
+    let A = c.loop-e.invariant.area in
     omega (arith, A.few, A.room.small)
 
-add-e : tie.Need-overflow-add-e invariant-loop decreases-loop
-add-e c = search rules
+pub loop-e-preserved-then-takes : goal.loop-e-preserved-then-takes
+loop-e-preserved-then-takes c =
+    taken_on c.loop-e.invariant c.loop-e-test.true c.takes.ensures c.if-takes.true c.operate.ensures
 
-loop-less : tie.Need-loop-smaller invariant-loop decreases-loop
-loop-less c = search rules
+pub loop-e-preserved : goal.loop-e-preserved
+loop-e-preserved c = passed_over c.loop-e.invariant c.loop-e-test.true c.takes.ensures c.if-takes.false
 
-loop-again : tie.Need-loop-preserved invariant-loop decreases-loop
-loop-again c =
-    let o = c.before.before in
-    let i = o.before.before in
-    let t = i.before in
-    let l = t.before.before in
-    taken_on l.before.loop.invariant l.loop-test.true t.takes.ensures i.if1.true o.operate.ensures
+pub shape_of-work : goal.shape_of-work
+shape_of-work c = c.loop-e.invariant.beyond.size
 
-add-e-2 : tie.Need-overflow-add-e-2 invariant-loop decreases-loop
-add-e-2 c = search rules
-
-loop-less-2 : tie.Need-loop-smaller-2 invariant-loop decreases-loop
-loop-less-2 c = search rules
-
-loop-again-2 : tie.Need-loop-preserved-2 invariant-loop decreases-loop
-loop-again-2 c = passed_over c.before.before.before.before.loop.invariant c.before.before.before.loop-test.true c.before.takes.ensures c.if1.false
-
-same_length : tie.Need-same-length invariant-loop decreases-loop
-same_length c = c.before.loop.invariant.beyond.size
-
-returns : tie.Need-returns invariant-loop decreases-loop
-returns c = sweep_ends c.before.loop.invariant c.loop-test.false
-
-pub sweep_spec : {M : Type 1} → statement M
-sweep_spec =
-    tie.close
-    (tie.spec
-    invariant-loop
-    decreases-loop
-    loop-holds
-    takes-requires
-    operate-requires
-    add-m
-    add-e
-    loop-less
-    loop-again
-    add-e-2
-    loop-less-2
-    loop-again-2
-    same_length
-    returns)
+pub returns : goal.returns
+returns c = sweep_ends c.loop-e.invariant c.loop-e-test.false

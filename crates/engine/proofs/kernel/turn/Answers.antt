@@ -7,7 +7,6 @@ use mathlib.Core.Logic.{◌≢◌}
 use mathlib.Core.Path.{◌≡◌, sym, ◌∙◌}
 use Prim.Native.Nat.{ℕ}
 use native.Mathlib.Omega.{arith}
-use borrow.Author.Rules.{rules}
 use Rattle.darts.specs.Operation.{kind_of}
 use Rattle.darts.specs.Kernel.{judge}
 use Rattle.darts.specs.Cases.{answer_of}
@@ -18,8 +17,7 @@ use Rattle.operations.specs.Operate.{operated}
 use Rattle.engine.specs.Held.{Ready}
 use Rattle.engine.specs.Runs.{Turned}
 use Rattle.engine.proofs.Ready.{ready_stays, ready_judged, ready_for, ready_did}
-use Rattle.engine.proofs.kernel.turn.Statement.{statement}
-use Rattle.engine.proofs.kernel.turn.Tie as tie
+use Rattle.engine.proofs.kernel.turn.Goals as goal
 
 module _ {D m k e i : ℕ} {w v : List ℕ} {r : Answer} (ρ : Ready D m k w) (j : Judged D k e i w v r) where
   turned_refused : (answer_of r).number ≢ 0 → Turned D m k e i w v r
@@ -36,39 +34,21 @@ module _ {D m k e i : ℕ} {w v : List ℕ} {r : Answer} (ρ : Ready D m k w) (j
         let (goes, beyond) = ready_did ρ e fine (j.done none) is in
         record { answer = ready_judged ρ j; beyond = beyond; done = λ _. goes; refused = λ n. absurd (n none) }
 
-judge-requires : tie.Need-judge-requires
-judge-requires c κs = let ρ = c.before.before.requires in (ρ.area.room, (ρ.falls, omega (arith, ρ.kind)))
+pub judge-answer-requires : goal.judge-answer-requires
+judge-answer-requires c = let ρ = c.requires in record { room = ρ.area.room; falls = ρ.falls; k_bound = omega (arith, ρ.kind) }
 
-number-requires : tie.Need-number-requires
-number-requires c κs = search rules
+pub returns-then-number-ne0 : goal.returns-then-number-ne0
+returns-then-number-ne0 c =
+    turned_refused c.requires c.judge-answer.ensures (λ z. c.if-number-ne0.true (c.number.ensures ∙ z))
 
-same_length : tie.Need-same-length
-same_length c = search rules
+pub operate-requires : goal.operate-requires
+operate-requires c =
+    let ρ = c.requires in
+    let none = sym c.number.ensures ∙ c.if-number-ne0.false in
+    let r = ready_for ρ _ (fine ρ c.judge-answer.ensures none) (c.judge-answer.ensures.done none) in
+    record { room = r.0; n_bound = r.1.0; bounds = r.1.1 }
 
-returns : tie.Need-returns
+pub returns : goal.returns
 returns c =
-    let j = c.before.before.before.before in
-    turned_refused j.before.before.before.requires j.judge.ensures (λ z. c.if1.true (c.before.number.ensures ∙ z))
-
-operate-requires : tie.Need-operate-requires
-operate-requires c κs =
-    let n = c.before.before in
-    let j = n.before.before.before in
-    let ρ = j.before.before.before.requires in
-    let none = sym n.number.ensures ∙ c.before.if1.false in
-    ready_for ρ _ (fine ρ j.judge.ensures none) (j.judge.ensures.done none)
-
-same-length-2 : tie.Need-same-length-2
-same-length-2 c = search rules
-
-returns-2 : tie.Need-returns-2
-returns-2 c =
-    let n = c.before.before.before.before.before in
-    let j = n.before.before.before in
-    turned_done j.before.before.before.requires j.judge.ensures (sym n.number.ensures ∙ c.before.before.before.before.if1.false)
-    c.before.before.operate.ensures
-
-pub turn_spec : {M : Type 1} → statement M
-turn_spec =
-    tie.close
-    (tie.spec judge-requires number-requires same_length returns operate-requires same-length-2 returns-2)
+    turned_done c.requires c.judge-answer.ensures (sym c.number.ensures ∙ c.if-number-ne0.false)
+    c.operate.ensures
