@@ -7,7 +7,7 @@ pub mod load;
 pub mod shape;
 
 // The numbers of a state, in the width of the work area: D, the operations, the levels, and the operation count after each level.
-#[derive(Drop)]
+#[derive(Clone, Copy)]
 pub struct Figures {
     pub darts: usize,
     pub operations: usize,
@@ -16,7 +16,7 @@ pub struct Figures {
 }
 
 // What the permutation test says: the darts are permuted, or the lowest bad dart and the second culprit beside it.
-#[derive(Drop)]
+#[derive(Clone, Copy)]
 pub enum Verdict {
     Permutes,
     Culprits(usize, usize),
