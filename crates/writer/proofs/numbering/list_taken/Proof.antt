@@ -7,7 +7,8 @@ use native.Mathlib.Omega.{arith}
 use lib.ListN.{length, get_or, set, drop, length-set}
 use lib.Seq.{get_or-drop}
 use borrow.Author.Rules.{rules}
-use Rattle.permutations.specs.Partner.{partner, partner_below}
+use Rattle.permutations.specs.Partner.{partner}
+use Rattle.permutations.proofs.PartnerLemmas.{partner_below}
 use Rattle.darts.specs.Operation.{lead_of}
 use Rattle.darts.specs.File.{taken}
 use Rattle.slices.specs.Part.{part}
