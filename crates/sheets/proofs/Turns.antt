@@ -1,5 +1,6 @@
 -- What one turn of each loop over the sheets does, on lists alone. A loop keeps that what is looked for from the start is what is looked for from here.
 --   both s k                   == the two sheets s and k
+--   at_any                     == inside a sheet it does not matter which record stands past its end
 --   on_sheet, on_kept          == the record at a place of the sheet, and at one of the kept sheet
 --   base_sound, left_sound     == what makes a base's record sound, and one that an operation left
 --   link_within, link_leads    == a link that is looked at is at most n, and leads to a place of the sheet
@@ -20,7 +21,8 @@ use Prim.Native.Nat.{ℕ, zero, suc, ◌+◌, ◌-◌, ◌*◌, ◌/◌, ◌%◌
 use native.Mathlib.Numerals.{suc-eq-add-one}
 use native.Mathlib.Omega.{arith}
 use lib.Dec.{eqb}
-use lib.ListN.{get_or}
+use lib.ListN.{length, get_or}
+use Rattle.std.proofs.lemmas.List.{get_or_default}
 use borrow.Author.Tests.{lt-ltb, le-ltb}
 use Rattle.permutations.specs.Choice.{pick, eqb_same, eqb_other}
 use Rattle.sheets.specs.declared.Zone.{Zone}
@@ -45,6 +47,9 @@ less : (e i : ℕ) → i < e → e - i ≡ suc (e - (i + 1))
 less e i h = omega arith
 
 -- ---- the record at a place
+
+pub at_any : (s : List Zone) (i : ℕ) (past : Zone) → i < length s → get_or s i past ≡ at s i
+at_any s i past h = get_or_default s i past _ h
 
 pub on_sheet : (D i : ℕ) (S : Sheets) → i < D → record_at D S i ≡ at S.sheet i
 unfolding record_at

@@ -31,7 +31,7 @@ fn own_label(work: &[u32], d: usize, x: usize) -> bool
 // The record at place i of the two sheets, the sheet's d places first.
 pub(crate) fn place_of(sheet: &[Zone], kept: &[Zone], d: usize, i: usize) -> Zone
     requires { (d ≤ length sheet.now) × (i < d + length kept.now) }
-    ensures { result ≡ record_at d (record { sheet = sheet.entry.now; kept = kept.now }) i }
+    ensures { result ≡ record_at d (record { sheet = sheet.now; kept = kept.now }) i }
 {
     if i < d {
         return sheet[i];
@@ -50,7 +50,7 @@ pub(crate) fn sound_at(
 ) -> bool
     requires { (d ≤ 65536) × (4 * d ≤ length work.now) × (l ≤ d / 2) × (l ≤ length kept.now)
         × (0 < l → get_or work.now (3 * d + d / 2 + (l - 1)) 0 % 65536 < length sheet.now) }
-    ensures { result ≡ sound (notes_in d work.now) (record { sheet = sheet.entry.now; kept = kept.now }) l z }
+    ensures { result ≡ sound (notes_in d work.now) (record { sheet = sheet.now; kept = kept.now }) l z }
 {
     if l == 0 {
         return fit(z);
@@ -63,7 +63,7 @@ pub(crate) fn sound_at(
 // Whether the records that are looked at, of the d on the sheet and of the n that are kept, are right. Where the link is d nothing is looked at.
 pub fn all_right(work: &[u32], d: usize, n: usize, sheet: &[Zone], kept: &[Zone]) -> bool
     requires { Linked d n work.now × (d ≤ length sheet.now) × (n ≤ length kept.now) }
-    ensures { result ≡ right_in d work.now (record { sheet = sheet.entry.now; kept = kept.now }) (d + n) 0 }
+    ensures { result ≡ right_in d work.now (record { sheet = sheet.now; kept = kept.now }) (d + n) 0 }
 {
     let mut i = 0;
     while i < d + n {
@@ -84,7 +84,7 @@ pub fn all_right(work: &[u32], d: usize, n: usize, sheet: &[Zone], kept: &[Zone]
 // The first place that is its own label and whose record is not fit; d where there is none.
 pub fn first_unfit(work: &[u32], d: usize, sheet: &[Zone]) -> usize
     requires { (3 * d ≤ length work.now) × (d ≤ length sheet.now) }
-    ensures { result ≡ unfit_in d work.now (record { sheet = sheet.entry.now; kept = [] }) d 0 }
+    ensures { result ≡ unfit_in d work.now (record { sheet = sheet.now; kept = [] }) d 0 }
 {
     let mut x = 0;
     while x < d {
@@ -106,8 +106,8 @@ pub fn first_unfit(work: &[u32], d: usize, sheet: &[Zone]) -> usize
 pub(crate) fn merge_at(sheet: &mut [Zone], kept: &mut [Zone], low: usize, high: usize, t: usize)
     requires { (low < length sheet.old) × (high < length sheet.old) × (t < length kept.old)
         × ((recordOf sheet.old low).stitches + (recordOf sheet.old high).stitches < 2 ^ 32) }
-    ensures { merged (into low high) t (record { sheet = sheet.entry.now; kept = kept.old })
-        ≡ record { sheet = sheet.exit.now; kept = kept.new } }
+    ensures { merged (into low high) t (record { sheet = sheet.old; kept = kept.old })
+        ≡ record { sheet = sheet.new; kept = kept.new } }
 {
     let lower = sheet[low];
     let other = sheet[high];
@@ -117,10 +117,10 @@ pub(crate) fn merge_at(sheet: &mut [Zone], kept: &mut [Zone], low: usize, high: 
 
 // Makes the merges of operations n to m, in their order. A note of 0 is a removal's.
 pub fn merge_all(work: &[u32], d: usize, n: usize, m: usize, sheet: &mut [Zone], kept: &mut [Zone])
-    requires { Noted d n m work.now × (d ≤ length sheet.now) × (m ≤ length kept.old)
-        × Fits (notes_in d work.now) n (m - n) (record { sheet = sheet.now; kept = kept.old }) }
-    ensures { merged_by (notes_in d work.now) n (m - n) (record { sheet = sheet.entry.now; kept = kept.old })
-        ≡ record { sheet = sheet.exit.now; kept = kept.new } }
+    requires { Noted d n m work.now × (d ≤ length sheet.old) × (m ≤ length kept.old)
+        × Fits (notes_in d work.now) n (m - n) (record { sheet = sheet.old; kept = kept.old }) }
+    ensures { merged_by (notes_in d work.now) n (m - n) (record { sheet = sheet.old; kept = kept.old })
+        ≡ record { sheet = sheet.new; kept = kept.new } }
 {
     let mut t = n;
     while t < m {
@@ -137,8 +137,8 @@ pub fn merge_all(work: &[u32], d: usize, n: usize, m: usize, sheet: &mut [Zone],
 // Puts back what operations m to n kept, the last one first.
 pub fn put_all_back(work: &[u32], d: usize, m: usize, n: usize, sheet: &mut [Zone], kept: &[Zone])
     requires { Noted d m n work.now × (d ≤ length sheet.old) × (n ≤ length kept.now) }
-    ensures { returned_by (notes_in d work.now) n (n - m) (record { sheet = sheet.entry.now; kept = kept.now })
-        ≡ record { sheet = sheet.exit.now; kept = kept.now } }
+    ensures { returned_by (notes_in d work.now) n (n - m) (record { sheet = sheet.old; kept = kept.now })
+        ≡ record { sheet = sheet.new; kept = kept.now } }
 {
     let mut t = n;
     while m < t {

@@ -1,4 +1,4 @@
-// One record of a lent sheet, and how many there are. A slice of structs is not covered by the borrow checker: each of the three is proved by a walk of its MIR.
+// One record of a lent sheet, and how many there are.
 ghost use Rattle.std.specs.Prelude.{◌≡◌, ◌<◌, length, set};
 ghost use Rattle.sheets.specs.Records.{at};
 
