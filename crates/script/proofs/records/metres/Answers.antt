@@ -1,5 +1,5 @@
 -- `script::records::metres`: a pattern is a NaN's where, but for its sign, it lies above infinity's.
-use mathlib.Core.Path.{◌≡◌, sym, ◌∙◌, subst}
+use mathlib.Core.Path.{sym, ◌∙◌, subst}
 use mathlib.Core.Bool.{Bool, not}
 use Prim.Native.Nat.{ℕ, ◌%◌, ◌≤◌}
 use lib.Dec.{T}
