@@ -23,7 +23,7 @@ use Rattle.darts.specs.State.{State, base_state, gives, reduce}
 use Rattle.darts.specs.Pyramid.{Kernel, build}
 use Rattle.darts.specs.OneByOne.{operations_of, NoneEmpty}
 use Rattle.laws.proofs.bridge.Numbers.{number_edge}
-use Rattle.laws.proofs.runs.Operations.{AllDone, none, first, run_iff, done_told, told_longer}
+use Rattle.laws.proofs.runs.Operations.{after, past_after, AllDone, none, first, run_iff, done_told, told_longer}
 use Rattle.laws.proofs.runs.Results.{then as taken-apart}
 use Rattle.laws.proofs.runs.Reduces.{reduce_raises}
 use Rattle.laws.proofs.runs.Cuts.{kernels_done}
@@ -65,7 +65,7 @@ Fresh D past os = Distinct (edges os) × ((e : ℕ) → T (has (edges os) e) →
 pub done_distinct : {D : ℕ} {t past u new : List ℕ} (os : List Operation) → AllDone D t past os u new → Fresh D past os
 done_distinct [] none = (tt, λ e h. absurd (has_none e h))
 done_distinct {D} {t} {past} (o ∷ os) (first fine rest) =
-    let R = done_distinct os rest in
+    let R = done_distinct {t = after D t past o} {past = past_after t past o} os rest in
     let later : (e : ℕ) → T (has (edges os) e) → (e ≢ o.edge) × ¬ T (gone past (2 * e)) = λ e h. still o t past e (R.1 e h).1 in
     let own = judged_fine o.kind D t past o.edge fine in (
       (λ h. (later o.edge h).0 refl, R.0),

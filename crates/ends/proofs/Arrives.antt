@@ -17,7 +17,6 @@ use Rattle.permutations.specs.Choice.{pick, T?, T→true, not_T→false, and_lef
 use Rattle.permutations.specs.Partner.{partner, partner_edge, partner_partner, partner_below}
 use Rattle.permutations.specs.Perm.{Perm, below}
 use Rattle.permutations.specs.Cycle.{meets_back, soon}
-use Rattle.darts.specs.Choose.{if◌then◌else◌}
 use Rattle.darts.specs.Map.{successor, permutes, permutation_test, passed}
 use Rattle.darts.specs.Operation.{Kind, contraction, removal, kind_of}
 use Rattle.darts.specs.Pyramid.{dart_count}

@@ -102,7 +102,7 @@ not_taken {D} {m} G (o ∷ os) l y n k =
     ⊎_elim (λ e. n (subst (λ z. T (m.live z)) (sym (eqb→eq y (dart o) e)) l.0.lives))
     (λ r. ⊎_elim
     (λ e. n (subst (λ z. T (m.live z)) (sym (eqb→eq y (partner (dart o)) e)) (subst T (sym (G.pairs (dart o))) l.0.lives)))
-    (not_taken (good_act G o l.0) os l.1 y (λ t. n (off_edge_was m.live (dart o) y t)))
+    (not_taken {m = act m o} (good_act G o l.0) os l.1 y (λ t. n (off_edge_was m.live (dart o) y t)))
     (or_cases (eqb y (partner (dart o))) (taken os y) r))
     (or_cases (eqb y (dart o)) (eqb y (partner (dart o)) || taken os y) k)
 
@@ -115,7 +115,7 @@ Small D (o ∷ os) = ((dart o < D) × (partner (dart o) < D)) × Small D os
 
 legal_small : {D : ℕ} {m : Map} → Good D m → (os : List Op) → AllLegal m os → Small D os
 legal_small G [] l = tt
-legal_small G (o ∷ os) l = ((G.small (dart o) l.0.lives, partner_small G (dart o) l.0.lives), legal_small (good_act G o l.0) os l.1)
+legal_small {m = m} G (o ∷ os) l = ((G.small (dart o) l.0.lives, partner_small G (dart o) l.0.lives), legal_small {m = act m o} (good_act G o l.0) os l.1)
 
 exchanged_perm : {D : ℕ} {f : ℕ → ℕ} → Perm D f → (o : Op) → dart o < D → partner (dart o) < D → Perm D (λ y. f (exchange o y))
 unfolding crossed
@@ -172,4 +172,4 @@ unfolding run
 returns {D} {m} G [] l x t = record { count = 0; way = there (λ h. h) }
 returns {D} {m} G (o ∷ os) l x t =
     let h = apart o os x (run_live m (o ∷ os) x t).1 in
-    back_over G o os l x ((run (act m o) os).next x) h.first h.second (returns (good_act G o l.0) os l.1 x t)
+    back_over G o os l x ((run (act m o) os).next x) h.first h.second (returns {m = act m o} (good_act G o l.0) os l.1 x t)

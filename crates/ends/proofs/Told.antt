@@ -20,7 +20,7 @@ use Rattle.permutations.specs.Partner.{partner, partner_first, partner_second, p
 use Rattle.permutations.specs.Splice.{swap, swap_left, swap_right, swap_other}
 use Rattle.permutations.specs.Live.{any, has}
 use Rattle.permutations.specs.Map.{Map, Good, off_edge_not_end}
-use Rattle.permutations.proofs.Legal.{Op, dart, AllLegal, good_act}
+use Rattle.permutations.proofs.Legal.{Op, dart, act, AllLegal, good_act}
 use Rattle.darts.specs.Choose.{if◌then◌else◌}
 use Rattle.darts.specs.Operation.{Kind, contraction, removal, number, kind_of}
 use Rattle.darts.specs.Kernel.{Operation, each}
@@ -177,7 +177,7 @@ cross_by_edge (o ∷ os) d = go (eqb (d / 2) o.edge) o.kind (cross_by_edge os d)
 -- LEGAL OPERATIONS TAKE AN EDGE ONCE, SO THAT THE FIRST ONE DECIDES
 pub legal_cross : {D : ℕ} {m : Map} → Good D m → (os : List Operation) → AllLegal m (acts os) → (d : ℕ) → cross (acts os) d ≡ cross_by os d
 legal_cross G [] l d = refl
-legal_cross {D} {m} G (o ∷ os) l d = go (ℕ_discrete (d / 2) o.edge) (legal_cross (good_act G (op_of o.kind (2 * o.edge)) l.0) os l.1 d)
+legal_cross {D} {m} G (o ∷ os) l d = go (ℕ_discrete (d / 2) o.edge) (legal_cross {m = act m (op_of o.kind (2 * o.edge))} (good_act G (op_of o.kind (2 * o.edge)) l.0) os l.1 d)
   where
     a : Op
     a = op_of o.kind (2 * o.edge)

@@ -22,7 +22,7 @@ use Rattle.permutations.proofs.Legal.{Op, dart, run}
 use Rattle.darts.specs.Map.{successor, gone, survives, permutes, permutation_test}
 use Rattle.darts.specs.Operation.{Kind, contraction, removal, kind_of}
 use Rattle.darts.specs.Kernel.{Operation}
-use Rattle.darts.specs.State.{State, base_state, gives, refuses, and_then, reduce}
+use Rattle.darts.specs.State.{State, base_state, gives, and_then, reduce}
 use Rattle.darts.specs.Levels.{unfold_to}
 use Rattle.darts.specs.Pyramid.{Kernel, dart_count, build}
 use Rattle.darts.specs.OneByOne.{operations_of}

@@ -13,7 +13,7 @@ use lib.Dec.{T, eqb}
 use lib.ListN.{length, set, drop}
 use Rattle.permutations.specs.Partner.{partner, partner_ne, partner_below, End, end?}
 use Rattle.darts.specs.Choose.{if◌then◌else◌}
-use Rattle.darts.specs.Map.{successor, gone, live}
+use Rattle.darts.specs.Map.{successor, live}
 use Rattle.darts.specs.Operation.{Kind, lead, operate, number, kind_of}
 use Rattle.darts.specs.Kernel.{judge}
 use Rattle.darts.specs.Tests.{near, far}

@@ -8,7 +8,7 @@ use crate::scan::Scanned;
 
 // What the kernel lines say: their operations in all with the place after the last line, or the first fault; and the operation count after each
 // kernel, zero past the last level.
-#[derive(Drop)]
+#[derive(Clone, Copy)]
 pub struct Levels {
     pub read: Scanned,
     pub ends: [u32; 64],

@@ -10,7 +10,7 @@ use crate::scan::{Scanned, byte_at, field, word};
 use darts::Answer;
 
 // Found: two values, and the place after the line. Fault: the answer to what is wrong.
-#[derive(Drop)]
+#[derive(Clone, Copy)]
 pub enum Line {
     Found(usize, usize, usize),
     Fault(Answer),

@@ -6,7 +6,7 @@ ghost use Rattle.file_lines.specs.Found.{scan_of};
 use darts::Answer;
 
 // Found: a value, and the place after it. Fault: the answer to the first wrong byte.
-#[derive(Drop)]
+#[derive(Clone, Copy)]
 pub enum Scanned {
     Found(usize, usize),
     Fault(Answer),

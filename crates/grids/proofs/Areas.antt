@@ -20,7 +20,7 @@ use lib.Dec.{T, eqb→eq}
 use lib.ListN.{length}
 use Rattle.permutations.specs.Choice.{T?, eqb_same, true→T}
 use Rattle.darts.specs.Map.{same_vertex}
-use Rattle.darts.specs.Kernel.{each, stands}
+use Rattle.darts.specs.Kernel.{stands}
 use Rattle.darts.specs.Counts.{counts_of}
 use Rattle.laws.proofs.bridge.Standing.{live}
 use Rattle.laws.proofs.merging.Turns.{unless_shared, merging}

@@ -6,7 +6,7 @@
 --                      whatever leaves the base, and end alike
 --   areas_any_order == so it is with the operations of the second call, and of whatever calls come after it
 use mathlib.Core.List.{List, Permᴰ}
-use mathlib.Core.Path.{◌≡◌, sym, subst, ◌∙◌}
+use mathlib.Core.Path.{◌≡◌, subst}
 use Prim.Native.Nat.{ℕ, ◌≤◌}
 use lib.ListN.{length, take}
 use Rattle.slices.specs.Over.{over}

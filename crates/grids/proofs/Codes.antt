@@ -17,7 +17,6 @@ use lib.ListN.{get_or}
 use Rattle.permutations.specs.Choice.{eqb_same, true→T}
 use Rattle.laws.proofs.merging.Joined.{Equivalence}
 use Rattle.grids.specs.Grid.{Grid, cell, along, Beside, right, round, above}
-use Rattle.grids.specs.Base.{cell_of}
 use Rattle.grids.specs.Plans.{code_at, one_code, OneArea, itself, onward as onwards, back}
 use Rattle.grids.proofs.Edges.{Joins, onward, closing, upward}
 use Rattle.grids.proofs.Cells.{even, odd, cell_of_lem}

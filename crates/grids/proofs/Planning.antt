@@ -11,7 +11,7 @@ use lib.Dec.{T, leb, leb→le, le→leb}
 use lib.ListN.{length}
 use Rattle.permutations.specs.Choice.{T?, T→true, not_T→false, and_intro, and_left, and_right}
 use Rattle.darts.specs.Answers.{too_short, no_plan_size}
-use Rattle.darts.specs.State.{base_state, Result, zeros}
+use Rattle.darts.specs.State.{Result, zeros}
 use Rattle.darts.specs.Calls.{leaves, room}
 use Rattle.darts.proofs.Fitting.{Lengths, room_facts, room_test}
 use Rattle.grids.specs.Grid.{Grid, sized, cells, darts_of}

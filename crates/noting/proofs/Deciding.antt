@@ -28,7 +28,7 @@ use Rattle.area.specs.Area.{Room, table_in, past_in, tried}
 use Rattle.area.specs.Load.{loads}
 use Rattle.area.specs.Shape.{history_in}
 use Rattle.operations.specs.Back.{backs}
-use Rattle.engine.specs.Held.{Area, Beyond, Rooted}
+use Rattle.engine.specs.Held.{Area, Rooted}
 use Rattle.engine.specs.Checks.{Decided, Checked}
 use Rattle.engine.specs.Counted.{CyclesAre, FindsCycles, Takes, Taken}
 use Rattle.engine.specs.declared.Found.{Found}
@@ -40,11 +40,10 @@ use Rattle.engine.proofs.Loaded.{Loaded, loads_right}
 use Rattle.engine.proofs.Parts.{rest_from, past_length}
 use Rattle.engine.proofs.Present.{takes_of, taken_are}
 use Rattle.engine.proofs.Ready.{beyond_trans}
-use Rattle.sheets.specs.Sheets.{Sheets, right}
+use Rattle.sheets.specs.Sheets.{Sheets}
 use Rattle.sheets.specs.Notes.{right_in}
 use Rattle.yarn.specs.Calls.{base_of}
 use Rattle.yarn.specs.Given.{given}
-use Rattle.yarn.specs.Places.{is_place, merges}
 use Rattle.noting.specs.Checks.{Holds, BaseReplayed, NoteDecided, NoteChecked}
 use Rattle.noting.proofs.Right.{right_told}
 

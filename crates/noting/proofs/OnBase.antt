@@ -11,10 +11,10 @@ use mathlib.Core.Path.{◌≡◌, refl, sym, ap, ◌∙◌, fun_ext, subst}
 use Prim.Native.Nat.{ℕ, ◌+◌, ◌-◌, ◌*◌, ◌/◌, ◌%◌, ◌≤◌, ◌<◌}
 use native.Mathlib.Decide.{dec_lt}
 use native.Mathlib.Omega.{arith}
-use lib.Dec.{T, eqb}
+use lib.Dec.{eqb}
 use lib.ListN.{get_or, length, take, drop}
 use lib.Seq.{drop-drop, get_or-drop}
-use Rattle.permutations.specs.Choice.{pick, true→T, eqb_same, eqb_other}
+use Rattle.permutations.specs.Choice.{pick, true→T, eqb_other}
 use Rattle.forest.specs.Forest.{Falls, root}
 use Rattle.slices.proofs.Part.{part_length, part_at}
 use Rattle.area.specs.Area.{Room, table_in, forest_in}
@@ -25,15 +25,15 @@ use Rattle.operations.specs.Replay.{rejoined, replayed, Numbered}
 use Rattle.operations.specs.Trees.{rooted}
 use Rattle.operations.proofs.Labels.{labelled_falls}
 use Rattle.operations.proofs.Lent.{lent, lent_outside, lent_forest}
-use Rattle.operations.proofs.Outside.{outside_rest, outside_room, forest_length}
+use Rattle.operations.proofs.Outside.{outside_room, forest_length}
 use Rattle.engine.specs.Held.{Area, Beyond}
-use Rattle.engine.specs.Checks.{KindTried, BothTried}
+use Rattle.engine.specs.Checks.{KindTried}
 use Rattle.engine.proofs.Area.{room_kept}
 use Rattle.engine.proofs.Around.{step_perm}
 use Rattle.engine.proofs.Beside.{beside_area, beside_table}
 use Rattle.engine.proofs.Tries.{kind_replayed, both_no, both_yes}
 use Rattle.sheets.specs.Sheets.{Merge, none, into, last_into}
-use Rattle.sheets.specs.Notes.{note_of, merge_in, notes_in, Linked, Noted}
+use Rattle.sheets.specs.Notes.{note_of, merge_in, notes_in}
 use Rattle.yarn.specs.Places.{lowest, is_place, zone_of, places_after, merges_of, merges}
 use Rattle.noting.specs.Links.{came_from, Marked, Starts, Replayed}
 use Rattle.noting.specs.Checks.{Told, Holds, BaseReplayed}

@@ -12,14 +12,14 @@
 --   last_below       == the last of t operations is one of them
 use mathlib.Core.Bool.{Bool, true, false, cond, not, ◌||◌, ◌&&◌}
 use mathlib.Core.List.{List, [], ◌∷◌}
-use mathlib.Core.Logic.{◌≢◌, inl, inr, ⊎_elim, by_cases}
-use mathlib.Core.Path.{◌≡◌, refl, sym, ap, ap₂, ◌∙◌, fun_ext, subst}
+use mathlib.Core.Logic.{◌≢◌, ⊎_elim, by_cases}
+use mathlib.Core.Path.{◌≡◌, refl, sym, ap, ◌∙◌, fun_ext}
 use Prim.Native.Nat.{ℕ, zero, suc, ◌+◌, ◌*◌, ◌/◌, ◌%◌, ◌≤◌, ◌<◌, min, max}
 use native.Mathlib.Decide.{ℕ_discrete, dec_lt}
 use native.Mathlib.Omega.{arith}
 use lib.Dec.{T, eqb}
 use lib.ListN.{length, get_or}
-use Rattle.permutations.specs.Choice.{pick, true→T, eqb_same, eqb_other, eqb_iff, and_left, and_right}
+use Rattle.permutations.specs.Choice.{pick, eqb_same, eqb_other, and_left, and_right}
 use Rattle.permutations.specs.Partner.{partner, partner_cases}
 use Rattle.darts.specs.Choose.{if◌then◌else◌}
 use Rattle.darts.specs.Operation.{Kind, contraction, removal, kind_of, edge_of}
@@ -118,13 +118,15 @@ module _ (D : ℕ) (even : D % 2 ≡ 0) where
   pub places_alike : {R L : ℕ → ℕ} (hs : List ℕ) → Numbers D hs → Alike D R L → Alike D (places_after R hs) (places_after L hs)
   unfolding places_after
   places_alike [] N a = a
-  places_alike (h ∷ hs) N a = places_alike hs (rest_numbers N) (next_alike N a)
+  places_alike {R} {L} (h ∷ hs) N a =
+      places_alike {R = zoned (kind_of h) R (edge_of h)} {L = zoned (kind_of h) L (edge_of h)} hs (rest_numbers N) (next_alike N a)
 
   pub merges_alike : {R L : ℕ → ℕ} (hs : List ℕ) → Numbers D hs → Alike D R L → (t : ℕ) → merges_of R hs t ≡ merges_of L hs t
   unfolding merges_of edge_of
   merges_alike [] N a t = refl
   merges_alike (h ∷ hs) N a zero = merge_by_alike a (kind_of h) (h / 4) (edge_inside h (N.each 0 (omega arith)))
-  merges_alike (h ∷ hs) N a (suc t) = merges_alike hs (rest_numbers N) (next_alike N a) t
+  merges_alike {R} {L} (h ∷ hs) N a (suc t) =
+      merges_alike {R = zoned (kind_of h) R (edge_of h)} {L = zoned (kind_of h) L (edge_of h)} hs (rest_numbers N) (next_alike N a) t
 
 -- ---- what is merged
 

@@ -3,7 +3,7 @@
 --   reloads_checked == what the check leaves of a pyramid can be loaded again
 --   reload_fits     == what loading asks for
 --   reloaded        == then the work area holds the map, and the forest judges a coming contraction kernel
-use mathlib.Core.Bool.{Bool, true, false, ◌&&◌}
+use mathlib.Core.Bool.{Bool, true, false}
 use mathlib.Core.List.{List, reverse}
 use mathlib.Core.Path.{◌≡◌, refl, sym, ap, ◌∙◌}
 use Prim.Native.Nat.{ℕ, ◌+◌, ◌*◌, ◌/◌, ◌≤◌}
@@ -11,13 +11,12 @@ use native.Mathlib.Omega.{arith}
 use lib.Dec.{T}
 use lib.ListN.{length, take, drop, replicate, length-replicate}
 use lib.Seq.{length-take-le}
-use Rattle.permutations.specs.Choice.{true→T, T→true}
+use Rattle.permutations.specs.Choice.{true→T}
 use Rattle.darts.specs.Calls.{table_of, past_of}
 use Rattle.darts.specs.Choose.{if◌then◌else◌}
 use Rattle.darts.specs.Operation.{kind_of}
-use Rattle.darts.specs.Pyramid.{Pyramid, is_pyramid}
+use Rattle.darts.specs.Pyramid.{Pyramid}
 use Rattle.darts.specs.State.{State, counted}
-use Rattle.darts.specs.Tests.{numbered, linked}
 use Rattle.laws.proofs.claims.Decided.{pyramid_decided}
 use Rattle.slices.specs.Laid.{laid, Space}
 use Rattle.slices.proofs.Laid.{laid_length, laid_rest}

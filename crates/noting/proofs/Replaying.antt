@@ -7,10 +7,10 @@
 --   turn_refused == it does not: the answer is no
 --   replay_ends  == none is left: the answer is yes
 use mathlib.Core.Bool.{Bool, true, false, false≢true}
-use mathlib.Core.List.{List, [], ◌∷◌}
+use mathlib.Core.List.{List, ◌∷◌}
 use mathlib.Core.Logic.{◌≢◌}
-use mathlib.Core.Path.{◌≡◌, refl, sym, ap, ap₂, ◌∙◌, subst}
-use Prim.Native.Nat.{ℕ, zero, suc, ◌+◌, ◌*◌, ◌/◌, ◌≤◌, ◌<◌}
+use mathlib.Core.Path.{◌≡◌, refl, sym, ap, ◌∙◌, subst}
+use Prim.Native.Nat.{ℕ, suc, ◌+◌, ◌*◌, ◌/◌, ◌≤◌, ◌<◌}
 use native.Mathlib.Decide.{ℕ_discrete}
 use native.Mathlib.Numerals.{add-one}
 use native.Mathlib.Omega.{arith}
@@ -18,7 +18,7 @@ use lib.Dec.{eqb}
 use lib.ListN.{get_or, length, drop}
 use lib.Seq.{drop-drop}
 use borrow.Author.Tests.{eqb-true}
-use Rattle.permutations.specs.Choice.{pick, eqb_same, eqb_other}
+use Rattle.permutations.specs.Choice.{pick, eqb_same}
 use Rattle.darts.specs.Operation.{kind_of, edge_of}
 use Rattle.forest.specs.Forest.{Falls, root}
 use Rattle.forest.specs.Roots.{root_own}
@@ -26,8 +26,8 @@ use Rattle.slices.specs.Part.{part}
 use Rattle.area.specs.Area.{Room, forest_in}
 use Rattle.area.specs.Shape.{history_in}
 use Rattle.area.proofs.Parts.{part_cons, part_none}
-use Rattle.operations.specs.Replay.{rejoin, replayed, Numbered}
-use Rattle.operations.specs.Trees.{Outside, rooted}
+use Rattle.operations.specs.Replay.{replayed, Numbered}
+use Rattle.operations.specs.Trees.{rooted}
 use Rattle.operations.proofs.Outside.{outside_front, outside_rest, outside_room}
 use Rattle.sheets.specs.Sheets.{Merge, none, into, low_into, last_into}
 use Rattle.sheets.specs.Notes.{note_of}

@@ -5,15 +5,15 @@ use mathlib.Core.Bool.{Bool, true, false, not, ◌||◌, ◌&&◌}
 use mathlib.Core.List.{List}
 use mathlib.Core.Logic.{◌≢◌}
 use mathlib.Core.Path.{◌≡◌, refl, sym, ap, ap₂, ◌∙◌}
-use Prim.Native.Nat.{ℕ, zero, suc, ◌+◌, ◌-◌, ◌*◌, ◌/◌, ◌≤◌, ◌<◌}
-use native.Mathlib.Nat.{add-zero, add-suc}
+use Prim.Native.Nat.{ℕ, zero, suc, ◌+◌, ◌-◌, ◌/◌, ◌≤◌, ◌<◌}
+use native.Mathlib.Nat.{add-zero}
 use native.Mathlib.Omega.{arith}
-use lib.Dec.{eqb, ltb, lt→ltb, ltb→lt}
+use lib.Dec.{ltb, lt→ltb, ltb→lt}
 use lib.ListN.{get_or}
 use Rattle.permutations.specs.Choice.{pick, T→true, not_T→false, eqb_same, eqb_other}
 use Rattle.sheets.specs.declared.Zone.{Zone}
 use Rattle.sheets.specs.Records.{at}
-use Rattle.sheets.specs.Sheets.{Sheets, Merge, none, into, high_of, last_into, sound, kept_sound, kept_right, sheet_right, right}
+use Rattle.sheets.specs.Sheets.{Sheets, Merge, none, into, last_into, sound, kept_sound, kept_right, sheet_right, right}
 use Rattle.sheets.specs.Notes.{notes_in, record_at, sound_at, right_in}
 use Rattle.noting.specs.Links.{came_from}
 use Rattle.noting.specs.Checks.{Told}

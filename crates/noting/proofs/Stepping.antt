@@ -15,9 +15,9 @@ use native.Mathlib.Decide.{ℕ_discrete, dec_lt}
 use native.Mathlib.Omega.{arith}
 use lib.Dec.{eqb}
 use lib.ListN.{length, get_or-eq_default}
-use Rattle.permutations.specs.Choice.{pick, eqb_same, eqb_other}
+use Rattle.permutations.specs.Choice.{eqb_same, eqb_other}
 use Rattle.permutations.specs.Partner.{partner, partner_cases}
-use Rattle.darts.specs.Operation.{contraction, removal, kind_of, edge_of}
+use Rattle.darts.specs.Operation.{removal, edge_of}
 use Rattle.forest.specs.Forest.{Falls, parent, root}
 use Rattle.forest.specs.Roots.{root_up, root_down}
 use Rattle.area.specs.Area.{Room, forest_in}

@@ -1,4 +1,6 @@
 // What each operation merges, and what each record came from, noted in the work area (document 02, request Five).
+#![tactic(auto)]
+
 pub mod check;
 mod note;
 mod replay;

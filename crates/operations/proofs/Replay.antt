@@ -135,9 +135,9 @@ module _ (k : ℕ) (kind : k < 2) where
   unfolding replayed replays parted lead_of
   replay_alike a [] = refl
   replay_alike {R} {L} a (h ∷ hs) =
-      rw (kind_same k kind h, alike_test a (h / 2) (partner (h / 2)), replay_alike (alike_rejoin a h) hs) refl
+      rw (kind_same k kind h, alike_test a (h / 2) (partner (h / 2)), replay_alike {R = rejoin k R h} (alike_rejoin a h) hs) refl
 
   pub rejoined_alike : {R L : ℕ → ℕ} → Alike R L → (hs : List ℕ) → Alike (rejoined k R hs) (relabelled (kind_of k) L hs)
   unfolding rejoined relabelled
   rejoined_alike a [] = a
-  rejoined_alike a (h ∷ hs) = rejoined_alike (alike_rejoin a h) hs
+  rejoined_alike {R = R} {L = L} a (h ∷ hs) = rejoined_alike {R = rejoin k R h} (alike_rejoin a h) hs

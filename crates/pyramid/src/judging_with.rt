@@ -21,7 +21,7 @@ impl State {
         keeps: &[Zone],
     ) -> Answer
         ensures { JudgedWith (state_of self) table.now history.now work.old work.new
-            (record { sheet = sheet.entry.now; kept = keeps.now }) (answer_of result) }
+            (record { sheet = sheet.now; kept = keeps.now }) (answer_of result) }
     {
         if self.operations == 0 {
             return self.judged_base(table, history, work, sheet, keeps);
@@ -55,7 +55,7 @@ impl State {
     ) -> Answer
         requires { self.operations ≡ 0 }
         ensures { JudgedWith (state_of self) table.now history.now work.old work.new
-            (record { sheet = sheet.entry.now; kept = keeps.now }) (answer_of result) }
+            (record { sheet = sheet.now; kept = keeps.now }) (answer_of result) }
     {
         let k = records(sheet);
         let l = records(keeps);

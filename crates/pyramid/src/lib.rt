@@ -1,4 +1,6 @@
 // The calls on a state: start, reduce, sweep, undo, unfold, counts; all but the last once more with sheets of records.
+#![tactic(auto)]
+
 mod checking;
 mod counting;
 mod judging;
@@ -21,7 +23,7 @@ pub use starting_with::start_with;
 // D, the number of operations, the number of levels, the numbers of vertices and faces of the present level, and the operation count after each kernel, zero past the
 // last level.
 #[repr(C)]
-#[derive(Drop)]
+#[derive(Clone, Copy)]
 pub struct State {
     pub darts: u32,
     pub operations: u32,
@@ -32,28 +34,28 @@ pub struct State {
 }
 
 // The kind of a kernel.
-#[derive(Drop)]
+#[derive(Clone, Copy)]
 pub enum Kind {
     Contract,
     Remove,
 }
 
 // What a call on a state hands back.
-#[derive(Drop)]
+#[derive(Clone, Copy)]
 pub struct Outcome {
     pub state: State,
     pub answer: Answer,
 }
 
 // What a kernel of contractions leaves beside the sheets: what the call hands back, and how many operations there are then.
-#[derive(Drop)]
+#[derive(Clone, Copy)]
 pub(crate) struct Made {
     pub outcome: Outcome,
     pub operations: usize,
 }
 
 // What a start with sheets judges before their records: the answer, and where it is done how many vertices and how many faces there are.
-#[derive(Drop)]
+#[derive(Clone, Copy)]
 pub(crate) struct Begin {
     pub answer: Answer,
     pub vertices: usize,
@@ -61,7 +63,7 @@ pub(crate) struct Begin {
 }
 
 // Surviving darts, vertices, faces, and vertices minus edges plus faces.
-#[derive(Drop)]
+#[derive(Clone, Copy)]
 pub struct Counts {
     pub darts: u32,
     pub vertices: u32,
@@ -70,7 +72,7 @@ pub struct Counts {
 }
 
 // What counts hand back.
-#[derive(Drop)]
+#[derive(Clone, Copy)]
 pub struct Counted {
     pub answer: Answer,
     pub counts: Counts,

@@ -19,8 +19,8 @@ pub fn start_with(
     sheet: &mut [Zone],
     keeps: &mut [Zone],
 ) -> Outcome
-    ensures { costs result table.new history.new work.new sheet.exit.now keeps.new
-        ≡ start_with darts table.old history.old work.old (record { sheet = sheet.entry.now; kept = keeps.old }) }
+    ensures { costs result table.new history.new work.new sheet.new keeps.new
+        ≡ start_with darts table.old history.old work.old (record { sheet = sheet.old; kept = keeps.old }) }
 {
     let k = records(sheet);
     let l = records(keeps);

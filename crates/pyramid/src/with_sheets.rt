@@ -23,10 +23,10 @@ impl State {
         keeps: &mut [Zone],
     ) -> Outcome
         requires stood_with { StoodWith (state_of self) table.old history.old work.old }
-        requires righted { Righted (state_of self) table.old history.old (record { sheet = sheet.now; kept = keeps.old }) }
-        ensures { costs_left result table.new history.new work.new sheet.exit.now keeps.new
+        requires righted { Righted (state_of self) table.old history.old (record { sheet = sheet.old; kept = keeps.old }) }
+        ensures { costs_left result table.new history.new work.new sheet.new keeps.new
             ≡ contracts_with kernel.now (state_of self) table.old history.old work.old
-            (record { sheet = sheet.entry.now; kept = keeps.old }) }
+            (record { sheet = sheet.old; kept = keeps.old }) }
     {
         let d = self.darts as usize;
         let n = self.operations as usize;
@@ -47,9 +47,9 @@ impl State {
         sheet: &mut [Zone],
         keeps: &mut [Zone],
     ) -> Outcome
-        ensures { costs result table.new history.new work.new sheet.exit.now keeps.new
+        ensures { costs result table.new history.new work.new sheet.new keeps.new
             ≡ reduce_with (kind_of kind) kernel.now (state_of self) table.old history.old work.old
-            (record { sheet = sheet.entry.now; kept = keeps.old }) }
+            (record { sheet = sheet.old; kept = keeps.old }) }
     {
         let judged = self.judged_with(table, history, work, sheet, keeps);
         if judged.number() != 0 {
@@ -76,9 +76,9 @@ impl State {
         sheet: &mut [Zone],
         keeps: &mut [Zone],
     ) -> Outcome
-        ensures { costs result table.new history.new work.new sheet.exit.now keeps.new
+        ensures { costs result table.new history.new work.new sheet.new keeps.new
             ≡ sweep_with (state_of self) table.old history.old work.old
-            (record { sheet = sheet.entry.now; kept = keeps.old }) }
+            (record { sheet = sheet.old; kept = keeps.old }) }
     {
         let judged = self.judged_with(table, history, work, sheet, keeps);
         if judged.number() != 0 {
@@ -98,9 +98,9 @@ impl State {
         sheet: &mut [Zone],
         keeps: &mut [Zone],
     ) -> Outcome
-        ensures { costs result table.new history.new work.new sheet.exit.now keeps.new
+        ensures { costs result table.new history.new work.new sheet.new keeps.new
             ≡ unfold_with level (state_of self) table.old history.old work.old
-            (record { sheet = sheet.entry.now; kept = keeps.old }) }
+            (record { sheet = sheet.old; kept = keeps.old }) }
     {
         let judged = self.judged_with(table, history, work, sheet, keeps);
         if judged.number() != 0 {
@@ -123,9 +123,9 @@ impl State {
         sheet: &mut [Zone],
         keeps: &mut [Zone],
     ) -> Outcome
-        ensures { costs result table.new history.new work.new sheet.exit.now keeps.new
+        ensures { costs result table.new history.new work.new sheet.new keeps.new
             ≡ undo_with (state_of self) table.old history.old work.old
-            (record { sheet = sheet.entry.now; kept = keeps.old }) }
+            (record { sheet = sheet.old; kept = keeps.old }) }
     {
         self.unfold_with(self.level_below(), table, history, work, sheet, keeps)
     }

@@ -24,7 +24,7 @@ use pyramid::{Outcome, State};
 use slices::copy;
 
 // What the body of a file says: its operations in all with the place where the pairs begin, or the first fault; its levels, and their ends.
-#[derive(Drop)]
+#[derive(Clone, Copy)]
 struct Parsed {
     pub read: Scanned,
     pub levels: usize,

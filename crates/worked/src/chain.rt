@@ -8,7 +8,7 @@ ghost use Rattle.worked.specs.Chain.{stepped};
 use pyramid::{Kind, Outcome, State, start};
 
 // A call on a state: none, a kernel of one edge or of two, the sweep, an undo, back to a level; or no call, and other numbers of vertices and faces in the state.
-#[derive(Drop)]
+#[derive(Clone, Copy)]
 pub enum Step {
     Stay,
     One(Kind, u32),

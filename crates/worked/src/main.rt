@@ -1,5 +1,7 @@
 // The worked examples K1, K3, K5, K7, K8, K10 and K11 of document 01, and both culprits, the lookups of K12 and the stored numbers of document 02, made by
 // the calls one after another. `expect` asks a proof of each result, and stops the run where one fails.
+#![tactic(auto)]
+
 mod chain;
 mod examples;
 mod lookups;

@@ -98,7 +98,7 @@ fn put_file(work: &[u32], state: State, output: &mut [u8]) -> usize
 }
 
 // The bytes that the file needs, where the output is too short for them, or the bytes written.
-#[derive(Drop)]
+#[derive(Clone, Copy)]
 pub enum Written {
     Short(usize),
     Wrote(usize),

@@ -8,7 +8,7 @@ use mathlib.Core.Bool.{Bool, true, false, ◌&&◌}
 use mathlib.Core.List.{List, [], ◌∷◌}
 use mathlib.Core.Logic.{◌≢◌}
 use mathlib.Core.Path.{◌≡◌, refl, sym, ap, ◌∙◌}
-use Prim.Native.Nat.{ℕ, ◌≤◌, ◌<◌}
+use Prim.Native.Nat.{ℕ, suc, ◌≤◌, ◌<◌}
 use native.Mathlib.Decide.{ℕ_discrete}
 use native.Mathlib.Omega.{arith}
 use lib.Dec.{eqb}
@@ -38,7 +38,7 @@ figure_at v S x = v (at S.sheet x)
 pub merged_length : (m : Merge) (t : ℕ) (S : Sheets) → length (merged m t S).sheet ≡ length S.sheet
 unfolding merged
 merged_length none t S = refl
-merged_length (into low high) t S = length-set S.sheet low _
+merged_length (into low _) t S = length-set S.sheet low _
 
 module _ {A : Type 0} {add : A → A → A} {unit : A} {v : Zone → A} (F : Figure add unit v) (D : ℕ) where
   -- the figure, over the places R that p picks
@@ -108,7 +108,7 @@ module _ {A : Type 0} {add : A → A → A} {unit : A} {v : Zone → A} (F : Fig
       let e = edge_of h in
       let next = merged (ms t) t S in
       let size : length next.sheet ≡ length S.sheet = merged_length (ms t) t S in
-      gathered_by hs (from_rest from) (zoned_settled Q k e (turn_edge A)) (turns_rest A) next (omega arith) p alike
+      gathered_by {t = suc t} {R = zoned k R e} hs (from_rest from) (zoned_settled Q k e (turn_edge A)) (turns_rest A) next (omega arith) p alike
       ∙ rw (from_first from) (gathered_zoned k e Q (turn_now A) t S long p (λ x y z. alike x y (together_after (zoned k R e) hs x y z)))
 
   -- A ZONE'S FIGURE IS THAT OF ALL ZONES WHICH WENT INTO IT

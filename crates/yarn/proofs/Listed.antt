@@ -88,7 +88,7 @@ onward {D} {t} {past} S {R} Λ (o ∷ os) (first fine rest) =
     let Z = places_after_lem S Λ e k fine in
     onward_first h (rw edge (edge_inside S Λ e k fine))
     (λ c. rw edge (places_apart S Λ e (subst (λ k. judge k D t past e ≡ 0) (sym kind ∙ c) fine)))
-    (rw (kind, edge) (onward (operate_stands S k e fine) Z.labelled os rest))
+    (rw (kind, edge) (onward {t = operate k D t past e} {past = h ∷ past} (operate_stands S k e fine) Z.labelled os rest))
 
 -- ---- from a base on
 

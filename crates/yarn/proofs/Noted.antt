@@ -10,7 +10,7 @@ use native.Mathlib.Decide.{ℕ_discrete}
 use native.Mathlib.Nat.{add-zero}
 use native.Mathlib.Omega.{arith}
 use lib.ListN.{get_or, length}
-use Rattle.permutations.specs.Choice.{eqb_same, eqb_other}
+use Rattle.permutations.specs.Choice.{eqb_other}
 use Rattle.sheets.specs.Sheets.{Sheets, Merge, none, into, merged, merged_by}
 use Rattle.sheets.specs.Notes.{merge_in, notes_in, Noted, FitsOne, Fits}
 

@@ -12,7 +12,7 @@
 use mathlib.Core.Bool.{true, ◌&&◌}
 use mathlib.Core.List.{List, [], ◌∷◌, ◌++◌, reverse}
 use mathlib.Core.Path.{◌≡◌, refl, sym, ap, ◌∙◌}
-use Prim.Native.Nat.{ℕ, ◌+◌, ◌*◌, ◌^◌, ◌≤◌, ◌<◌}
+use Prim.Native.Nat.{ℕ, suc, ◌+◌, ◌*◌, ◌^◌, ◌≤◌, ◌<◌}
 use native.Mathlib.Decide.{ℕ_discrete}
 use native.Mathlib.Omega.{arith}
 use lib.Dec.{T, leb, leb→le}
@@ -100,7 +100,7 @@ places_fit {D} {ms} {t} {R} (h ∷ hs) from Q A S long small =
     let size : length (merged (ms t) t S).sheet ≡ length S.sheet = merged_length (ms t) t S in
     let same : total D (zoned k R e) (merged (ms t) t S) ≡ total D R S = rw (from_first from) (total_zoned k e Q (turn_now A) t S long) in (
       rw (from_first from) (fits_one k e Q (turn_now A) S small),
-      places_fit hs (from_rest from) (zoned_settled Q k e (turn_edge A)) (turns_rest A) (merged (ms t) t S) (omega arith) (rw same small),
+      places_fit {t = suc t} {R = zoned k R e} hs (from_rest from) (zoned_settled Q k e (turn_edge A)) (turns_rest A) (merged (ms t) t S) (omega arith) (rw same small),
     )
 
 -- ---- the levels of a base b

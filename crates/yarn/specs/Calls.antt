@@ -6,7 +6,7 @@
 --   judged s t h w S       == answers 1, 2 and 4 of a call on a state, or done
 --   carried ms n m S       == the sheets where n operations were done, and then m are
 --   start_with, reduce_with, sweep_with, undo_with, unfold_with == the calls
-use Rattle.std.specs.Prelude.{Bool, not, ◌&&◌, List, reverse, ℕ, zero, suc, ◌-◌, ◌/◌, eqb, leb, length}
+use Rattle.std.specs.Prelude.{not, ◌&&◌, List, reverse, ℕ, zero, suc, ◌-◌, ◌/◌, eqb, leb, length}
 use Rattle.darts.specs.Choose.{if◌then◌else◌}
 use Rattle.darts.specs.Answers.{Answer, done, too_short, no_pyramid, unfit_record}
 use Rattle.darts.specs.Map.{Verdict, permutes, culprits, permutation_test}

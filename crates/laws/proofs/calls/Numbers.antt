@@ -7,7 +7,6 @@
 use mathlib.Core.List.{List}
 use mathlib.Core.Path.{◌≡◌, refl, sym}
 use Prim.Native.Nat.{ℕ, ◌≤◌}
-use native.Mathlib.Omega.{arith}
 use lib.ListN.{length}
 use Rattle.darts.specs.Answers.{done, no_pyramid}
 use Rattle.darts.specs.State.{State}

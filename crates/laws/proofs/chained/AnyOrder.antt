@@ -80,6 +80,8 @@ call_told (by_kernel k) kernel a e =
 call_told by_sweep sweeping a e =
     let A = called_left by_sweep a.state a.table a.history a.work e in
     rw (← told_past (call_on by_sweep a), ← told_past a) (told_history (sweep_told a.state _ _ A.gave))
+call_told by_undo rise a e = elim rise [ ]
+call_told (to_level _) rise a e = elim rise [ ]
 
 -- THE HISTORY THAT CALLS LEAVE TELLS THEIR OPERATIONS, IN ORDER, AFTER THOSE THAT IT TOLD BEFORE
 pub calls_told : (cs : List Call) → Each Rises cs → (a : After) → AllDone cs a → operations_in (calls cs a) ≡ operations_in a ++ operations_by cs a

@@ -33,7 +33,7 @@ first_done (c ∷ cs) a d = d.0
 
 pub over_calls : {D : ℕ} {b : List ℕ} {a : After} → Over D b a → (cs : List Call) → AllDone cs a → Over D b (calls cs a)
 over_calls O [] d = O
-over_calls {a = a} O (c ∷ cs) d = over_calls (over_call O c (first_done cs (call_on c a) d.1)) cs d.1
+over_calls {a = a} O (c ∷ cs) d = over_calls {a = call_on c a} (over_call O c (first_done cs (call_on c a) d.1)) cs d.1
 
 record Above (D : ℕ) (t w : List ℕ) (a : After) : Type 0 where
   over : Over D (take D t) a
@@ -53,7 +53,7 @@ above_call {D} {t} {w} {a} O c e =
 
 above_calls : {D : ℕ} {t w : List ℕ} {a : After} → Above D t w a → (cs : List Call) → AllDone cs a → Above D t w (calls cs a)
 above_calls O [] d = O
-above_calls {a = a} O (c ∷ cs) d = above_calls (above_call O c (first_done cs (call_on c a) d.1)) cs d.1
+above_calls {a = a} O (c ∷ cs) d = above_calls {a = call_on c a} (above_call O c (first_done cs (call_on c a) d.1)) cs d.1
 
 -- START, ANY ACCEPTED CALLS, UNFOLD TO LEVEL 0: THE WHOLE LENT TABLE IS AS IT WAS
 pub start_then_unfold : (D : ℕ) (t h w : List ℕ) (cs : List Call) → AllDone cs (start D t h w)

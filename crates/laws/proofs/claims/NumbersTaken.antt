@@ -77,7 +77,7 @@ takes_none removal v f = record { vertices = omega arith; faces = omega arith }
 done_less : {D : ℕ} {t past u new : List ℕ} → Standing D t past → (k : Kind) (es : List ℕ) → AllDone D t past (each k es) u new
     → Takes k (length es) (counts_of D t past).vertices (counts_of D t past).faces (counts_of D u new).vertices (counts_of D u new).faces
 done_less S k [] none = takes_none k _ _
-done_less S k (e ∷ es) (first fine rest) = takes_on k (one_less S e k fine) (done_less (operate_stands S k e fine) k es rest)
+done_less {D} {t} {past} S k (e ∷ es) (first fine rest) = takes_on k (one_less S e k fine) (done_less {t = operate k D t past e} {past = number k (lead k t e) ∷ past} (operate_stands S k e fine) k es rest)
 
 module _ {s : State} {t past : List ℕ} {z : State} {u new : List ℕ} (P : Pyramid s t past) where
   -- A KERNEL OF CONTRACTIONS TAKES ONE VERTEX FOR EACH OF ITS EDGES AND NO FACE, A KERNEL OF REMOVALS ONE FACE FOR EACH AND NO VERTEX

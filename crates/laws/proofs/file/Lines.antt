@@ -106,9 +106,9 @@ kernels_on : {b : List ℕ} {at : ℕ} (ks : List KernelLine) {end : ℕ} → Ea
     → kernels_at (length ks) b at ≡ found ks end
 unfolding kernels_at count_lines
 kernels_on {at = at} [] {end} C B = let e : at ≡ end = omega (arith, B.place) in ap (found []) e
-kernels_on (k ∷ ks) C B =
+kernels_on {at = at} (k ∷ ks) C B =
     let S = between_split (count_line k) B in
-    rw (kernel_found k.kind k.count (record { there = S.first; counted = C.0 }), kernels_on ks C.1 S.second)
+    rw (kernel_found k.kind k.count (record { there = S.first; counted = C.0 }), kernels_on {at = S.mid} ks C.1 S.second)
 
 pub kernels_found : {b : List ℕ} {n at : ℕ} {ks : List KernelLine} {end : ℕ} → Kernels b n at ks end → kernels_at n b at ≡ found ks end
 kernels_found {ks = ks} K = rw (← K.many) (kernels_on ks K.counted K.there)

@@ -34,7 +34,7 @@ placed_first : {l : List ℕ} {x y : ℕ} → x ≡ y → Placed (y ∷ l) x
 unfolding place_in
 placed_first e = record { inside = rw (eqb_same e) (omega arith); there = rw (eqb_same e) (sym e) }
 
-pub placed : {l : List ℕ} {x : ℕ} → Memᴰ x l → Placed l x
+pub placed : {x : ℕ} {l : List ℕ} → Memᴰ x l → Placed l x
 unfolding place_in
 placed (Memᴰ.head e) = placed_first e
 placed {x = x} (Memᴰ.tail {x = y} {xs = l} m) = go (ℕ_discrete x y) (placed m)

@@ -91,7 +91,7 @@ module _ {D : ℕ} {order : List ℕ} {ν : ℕ → ℕ} (R : Renaming D order �
         (
           d'.same,
           subst (λ w. Goes D w (map (renumbered ν) (h ∷ past)) (map (renumbered ν) hs) (renamed order ν t)) (sym (table_renamed S N h d E.0))
-              (goes_renamed stands numbers hs t E.1 g.1.1),
+              (goes_renamed {u = operate k D u past e} {past = h ∷ past} stands numbers hs t E.1 g.1.1),
         ),
       )
 

@@ -6,7 +6,7 @@ use mathlib.Core.List.{List, reverse}
 use mathlib.Core.Path.{◌≡◌, refl, ap}
 use Prim.Native.Nat.{ℕ}
 use Rattle.darts.specs.State.{State}
-use Rattle.darts.specs.Calls.{After, table_of, past_of}
+use Rattle.darts.specs.Calls.{After, past_of}
 use Rattle.darts.specs.Moves.{moved_to}
 use Rattle.laws.proofs.chained.OnLent.{Call, by_kernel, by_sweep, by_undo, to_level, called, step_of, called_left}
 use Rattle.laws.proofs.sentences.NotWritten.{reduce_history, sweep_history, undo_history, unfold_history}

@@ -55,7 +55,7 @@ kept_one {D} {t} {past} S o fine =
 -- EACH CONTRACTION TAKES ONE VERTEX, EACH REMOVAL ONE FACE
 pub done_kept : {D : ℕ} {t past u new : List ℕ} → Standing D t past → (os : List Operation) → AllDone D t past os u new → Kept D t past u new
 done_kept S [] none = record { vertices = refl; faces = refl }
-done_kept S (o ∷ os) (first fine rest) = kept_on (kept_one S o fine) (done_kept (operate_stands S o.kind o.edge fine) os rest)
+done_kept {D} {t} {past} S (o ∷ os) (first fine rest) = kept_on (kept_one S o fine) (done_kept {t = after D t past o} {past = past_after t past o} (operate_stands S o.kind o.edge fine) os rest)
 
 -- ---- a pyramid and its base
 

@@ -56,7 +56,7 @@ built {D} {s} {t} {past} S L N [] e = same_result (Built D s t past []) e (built
 built {D} {s} {t} {past} S L N (k ∷ ks) e =
     let first = then (reduce k.kind k.edges s t past) (λ s t past. build s t past ks) e in
     let R = reduced S L k first.first in
-    built_more L R (built R.ran.standing (reduced_layered L R) (reduced_stores L R) ks first.next)
+    built_more L R (built {s = first.state} {t = first.table} {past = first.past} R.ran.standing (reduced_layered L R) (reduced_stores L R) ks first.next)
 
 -- ---- the last kernel
 

@@ -64,8 +64,8 @@ pub done_on : {D : ℕ} {t past u new : List ℕ} (i : ℕ) (os ns : List Operat
     → pass_from always D t past i (os ++ ns) ≡ pass_from always D u new (i + length os) ns
 unfolding pass_from
 done_on {D} {u = u} {new = new} i [] ns none = ap (λ n. pass_from always D u new n ns) (omega arith)
-done_on {D} {u = u} {new = new} i (o ∷ os) ns (first fine rest) =
-    rw (eqb_same fine) (done_on (suc i) os ns rest ∙ ap (λ n. pass_from always D u new n ns) (omega arith))
+done_on {D} {t} {past} {u = u} {new = new} i (o ∷ os) ns (first fine rest) =
+    rw (eqb_same fine) (done_on {t = after D t past o} {past = past_after t past o} (suc i) os ns rest ∙ ap (λ n. pass_from always D u new n ns) (omega arith))
 
 -- A LIST STANDS WHERE EACH OPERATION MAY BE DONE AT ITS TURN
 pub stands_iff : {u new : List ℕ} (D : ℕ) (t past : List ℕ) (os : List Operation) → (one_by_one D t past os ≡ stands u new) ↔ AllDone D t past os u new
@@ -92,8 +92,8 @@ pub record Parts (D : ℕ) (t past : List ℕ) (os ns : List Operation) (v w : L
 
 pub done_parts : {D : ℕ} {t past v w : List ℕ} (os ns : List Operation) → AllDone D t past (os ++ ns) v w → Parts D t past os ns v w
 done_parts {t = t} {past} [] ns h = record { table = t; new = past; before = none; beyond = h }
-done_parts (o ∷ os) ns (first fine rest) =
-    let P = done_parts os ns rest in
+done_parts {D} {t} {past} (o ∷ os) ns (first fine rest) =
+    let P = done_parts {t = after D t past o} {past = past_after t past o} os ns rest in
     record { table = P.table; new = P.new; before = first fine P.before; beyond = P.beyond }
 
 -- ---- the history tells the operations
@@ -117,7 +117,7 @@ told_first t o R = record {
 
 pub done_told : {D : ℕ} {t past u new : List ℕ} (os : List Operation) → AllDone D t past os u new → Told past os new
 done_told [] none = record { numbers = []; history = refl; told = refl }
-done_told {t = t} (o ∷ os) (first fine rest) = told_first t o (done_told os rest)
+done_told {D} {t} {past} (o ∷ os) (first fine rest) = told_first t o (done_told {t = after D t past o} {past = past_after t past o} os rest)
 
 module _ {past : List ℕ} {os : List Operation} {new : List ℕ} (R : Told past os new) where
   pub told_count : length R.numbers ≡ length os

@@ -70,7 +70,7 @@ module _ {D : ℕ} {t past u new : List ℕ} (S : Standing D t past) (o : Operat
 -- WHAT OPERATIONS THAT WERE ACCEPTED ONE BY ONE HAVE DONE
 pub ran : {D : ℕ} {t past u new : List ℕ} → Standing D t past → (os : List Operation) → AllDone D t past os u new → Ran D t past os u new
 ran S [] none = ran_none S
-ran S (o ∷ os) (first fine rest) = ran_more S o os fine rest (ran (operate_stands S o.kind o.edge fine) os rest)
+ran {D} {t} {past} S (o ∷ os) (first fine rest) = ran_more S o os fine rest (ran {t = after D t past o} {past = past_after t past o} (operate_stands S o.kind o.edge fine) os rest)
 
 -- where a kernel's run stands, its table does
 pub run_stands : {D : ℕ} {t past u new : List ℕ} → Standing D t past → (k : Kind) (es : List ℕ) → run k D t past es ≡ stands u new → Standing D u new
@@ -84,5 +84,5 @@ legal_accepted {D} {t} {past} S [] l = record { table = t; new = past; accepted 
 legal_accepted {D} {t} {past} S (o ∷ os) l =
     let fine = (judge_legal S o.kind o.edge).1 l.0 in
     let legal = subst (λ m. AllLegal m (acts os)) (sym (operate_acts S o.kind o.edge fine)) l.1 in
-    let A = legal_accepted (operate_stands S o.kind o.edge fine) os legal in
+    let A = legal_accepted {t = after D t past o} {past = past_after t past o} (operate_stands S o.kind o.edge fine) os legal in
     record { table = A.table; new = A.new; accepted = first fine A.accepted }

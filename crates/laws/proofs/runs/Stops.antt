@@ -74,7 +74,7 @@ module _ (P : Answer → Type 0) (edge : (m i : ℕ) → 7 ≤ m → m ≤ 11 �
   from_stops takes D t past i [] = tt
   from_stops takes D t past i (o ∷ os) =
       turn_stops (takes t past o.edge) (judge o.kind D t past o.edge) i _ _ (judge_number o.kind D t past o.edge)
-      (from_stops takes D t past i os) (from_stops takes D _ _ (suc i) os)
+      (from_stops takes D t past i os) (from_stops takes D (operate o.kind D t past o.edge) (number o.kind (lead o.kind t o.edge) ∷ past) (suc i) os)
 
   -- WHERE A PASS STOPS, IT STOPS WITH 7 TO 11
   pub pass_stops : (takes : Test) (D : ℕ) (t past : List ℕ) (os : List Operation) → Stopping P (pass takes D t past os)

@@ -71,7 +71,7 @@ unfolding undo_levels build
 undo_levels_returns P [] e = sym e
 undo_levels_returns {s} {t} {past} {z} {u} {new} P (k ∷ ks) e =
     let first = then (reduce k.kind k.edges s t past) (λ s t past. build s t past ks) e in
-    let rest = undo_levels_returns (reduce_pyramid P k.kind k.edges first.first) ks first.next in
+    let rest = undo_levels_returns {s = first.state} {t = first.table} {past = first.past} (reduce_pyramid P k.kind k.edges first.first) ks first.next in
     ap (λ n. undo_levels n z u new) (sym (add-one (length ks))) ∙ undo_levels_lem (length ks) 1 z u new
     ∙ rw (rest, undo_returns P k.kind k.edges first.first)
 

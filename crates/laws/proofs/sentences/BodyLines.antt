@@ -68,6 +68,6 @@ pub kernels_stop : {b : List ℕ} {at mid : ℕ} (ks : List KernelLine) (n : ℕ
 unfolding kernels_at count_lines
 kernels_stop ks zero C few B e = absurd (omega arith)
 kernels_stop {at = at} {mid} [] (suc n) C few B e = let here : at ≡ mid = omega (arith, B.place) in rw (here, e)
-kernels_stop (k ∷ ks) (suc n) C few B e =
+kernels_stop {at = at} (k ∷ ks) (suc n) C few B e =
     let S = between_split (count_line k) B in
-    rw (kernel_found k.kind k.count (record { there = S.first; counted = C.0 }), kernels_stop ks n C.1 (omega arith) S.second e)
+    rw (kernel_found k.kind k.count (record { there = S.first; counted = C.0 }), kernels_stop {at = S.mid} ks n C.1 (omega arith) S.second e)

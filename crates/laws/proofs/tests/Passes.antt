@@ -59,7 +59,7 @@ sound_more {D} {t} {past} Q k e fine =
 
 sound_all : {D : ℕ} {t past u new : List ℕ} → Sound D t past → (os : List Operation) → AllDone D t past os u new → Sound D u new
 sound_all Q [] none = Q
-sound_all Q (o ∷ os) (first fine rest) = sound_all (sound_more Q o.kind o.edge fine) os rest
+sound_all {D} {t} {past} Q (o ∷ os) (first fine rest) = sound_all {t = operate o.kind D t past o.edge} {past = number o.kind (lead o.kind t o.edge) ∷ past} (sound_more Q o.kind o.edge fine) os rest
 
 -- ---- one level more
 
@@ -108,7 +108,7 @@ unfolding build
 shaped_build {D} Q [] e = same_result (Shaped D) e Q
 shaped_build {D} {s} {t} {past} Q (k ∷ ks) e =
     let B = then (reduce k.kind k.edges s t past) (λ s t past. build s t past ks) e in
-    shaped_build (shaped_more Q k B.first) ks B.next
+    shaped_build {s = B.state} {t = B.table} {past = B.past} (shaped_more Q k B.first) ks B.next
 
 -- EVERY PYRAMID IS SO SHAPED
 pub pyramid_shaped : {s : State} {t past : List ℕ} → Pyramid s t past → Shaped s.darts s t past

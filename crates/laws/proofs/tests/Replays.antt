@@ -21,7 +21,7 @@ use Rattle.permutations.proofs.Replay.{Labelled, contract_labelled, remove_label
 use Rattle.darts.specs.Operation.{Kind, contraction, removal, kind_of, lead_of, edge_of, undo_one, undone}
 use Rattle.darts.specs.Kernel.{judge}
 use Rattle.laws.specs.Standing.{map_of, Standing}
-use Rattle.laws.proofs.bridge.Standing.{live, op_of}
+use Rattle.laws.proofs.bridge.Standing.{op_of}
 use Rattle.laws.proofs.bridge.Judged.{judge_legal}
 use Rattle.laws.proofs.bridge.Operate.{operate_acts}
 use Rattle.darts.specs.Tests.{numbered, fits, backs, same_kind, relabel, relabelled, parted, replays}

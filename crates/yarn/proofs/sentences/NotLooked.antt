@@ -42,14 +42,14 @@ history_left c = take c.plain.state.operations c.plain.history
 pub record Same (D : ℕ) (b : List ℕ) (c d : Costed) : Type 0 where
   pub plain : c.plain ≡ d.plain
   pub sheet_length : length c.sheets.sheet ≡ length d.sheets.sheet
-  pub kept_length : length c.sheets.auto ≡ length d.sheets.kept
+  pub kept_length : length c.sheets.kept ≡ length d.sheets.kept
   pub looked : Looked D b (history_left c) c.sheets d.sheets
 
 pub record Left (D : ℕ) (b hs : List ℕ) (S : Sheets) (c : Costed) : Type 0 where
   pub sheet_length : length c.sheets.sheet ≡ length S.sheet
-  pub kept_length : length c.sheets.auto ≡ length S.kept
+  pub kept_length : length c.sheets.kept ≡ length S.kept
   pub sheet : (x : ℕ) → ¬ ((x < D) × T (is_place D b x)) → at c.sheets.sheet x ≡ at S.sheet x
-  pub kept : (i : ℕ) → merges D b hs i ≡ none → merges D b (history_left c) i ≡ none → at c.sheets.auto i ≡ at S.kept i
+  pub kept : (i : ℕ) → merges D b hs i ≡ none → merges D b (history_left c) i ≡ none → at c.sheets.kept i ≡ at S.kept i
 
 -- sheets that agree are looked at alike
 agreed_looked : {D : ℕ} {b : List ℕ} (past : List ℕ) {S Z : Sheets} → Agreed D b past S Z → Looked D b (reverse past) S Z
@@ -182,7 +182,7 @@ module _ (s : State) (t h w : List ℕ) where
 
 -- "nor are places past the count": past both counts nothing is looked at
 pub past_left : {D : ℕ} {b hs : List ℕ} {S : Sheets} {c : Costed} → Left D b hs S c → (i : ℕ) → length hs ≤ i → length (history_left c) ≤ i
-    → at c.sheets.auto i ≡ at S.kept i
+    → at c.sheets.kept i ≡ at S.kept i
 past_left {D} {b} {hs} {S} {c} L i m n = L.kept i (merges_past D b hs i m) (merges_past D b (history_left c) i n)
 
 -- ---- the four calls

@@ -1,0 +1,51 @@
+-- `noting::replay::contract` meets its contract: both finds keep the roots, so that the lower and the higher one are those that are joined.
+use Prim.Native.Nat.{◌+◌, ◌*◌}
+use native.Mathlib.Omega.{arith}
+use Rattle.operations.proofs.Lent.{found_kept, found_roots, roots_known}
+use Rattle.operations.proofs.Outside.{outside_room}
+use Rattle.noting.proofs.Stepping.{both_below, joined_room, contracted_yes, contracted_no}
+use Rattle.noting.proofs.replay.contract.Goals as goal
+
+pub link-requires : goal.link-requires
+link-requires c =
+    let κ = found_kept c.find-a.ensures c.find-b.ensures in
+    let room = outside_room κ.outside c.requires.room in
+    let known = roots_known room κ.falls (2 * c.args.e) (2 * c.args.e + 1) (omega arith) (omega arith) (found_roots c.find-a.ensures c.find-b.ensures) in
+    record {
+      room = room;
+      falls = κ.falls;
+      u_lt_d = known.0;
+      u_value = known.1;
+    }
+
+pub merge-requires : goal.merge-requires
+merge-requires c =
+    let e = c.args.e in
+    let below = both_below e c.find-a.ensures c.find-b.ensures c.link.ensures c.requires.room c.requires.falls in
+    record {
+      room = joined_room e c.find-a.ensures c.find-b.ensures c.link.ensures c.requires.room c.requires.falls;
+      t_bound = (c.requires.t_bound.0, below.0, below.1);
+    }
+
+pub merge-requires-else-a-b : goal.merge-requires-else-a-b
+merge-requires-else-a-b c =
+    let e = c.args.e in
+    let below = both_below e c.find-a.ensures c.find-b.ensures c.link.ensures c.requires.room c.requires.falls in
+    record {
+      room = joined_room e c.find-a.ensures c.find-b.ensures c.link.ensures c.requires.room c.requires.falls;
+      t_bound = (c.requires.t_bound.0, below.1, below.0);
+    }
+
+pub returns-then-a-b : goal.returns-then-a-b
+returns-then-a-b c =
+    contracted_yes c.args.e c.find-a.ensures c.find-b.ensures c.link.ensures c.if-link.true (omega arith) (omega arith)
+    c.merge.ensures
+
+pub returns-else-a-b : goal.returns-else-a-b
+returns-else-a-b c =
+    contracted_yes c.args.e c.find-a.ensures c.find-b.ensures c.link.ensures c.if-link.true (omega arith) (omega arith)
+    c.merge-else-a-b.ensures
+
+pub returns : goal.returns
+returns c =
+    contracted_no c.args.e c.find-a.ensures c.find-b.ensures c.link.ensures c.if-link.false
