@@ -50,7 +50,7 @@ fn report<W: Write>(out: &mut W, file: &[u8], page: &mut [u8], used: usize) -> i
     let answer = read.answer;
     let at = line(out, answer, page, used)?;
     if answer.number() != 0 {
-        return at;
+        return Ok(at);
     }
     let state = read.state;
     written(out, state, &mut table, &mut history, &mut work, page, at)

@@ -1,2 +1,1 @@
 pub mod NoNan
-pub mod Sheets

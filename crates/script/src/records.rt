@@ -5,7 +5,7 @@ use crate::numbers::{next_number, wide};
 use sheets::{Yarn, Zone};
 
 // A record's stitches; whether it is measured, and then the bits of its metres; and the place after it. Where there is none, the place itself.
-#[derive(Drop)]
+#[derive(Clone, Copy)]
 pub struct Record {
     pub stitches: u32,
     pub measured: bool,

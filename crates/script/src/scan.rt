@@ -19,7 +19,7 @@ pub struct Listed {
 
 // A command by its number, 0 for an error line; how many numbers and records it has; where they start, or of `read` the bytes of its file,
 // and how many bytes those are; and the place of the next line.
-#[derive(Drop)]
+#[derive(Clone, Copy)]
 pub struct Line {
     pub command: u32,
     pub count: usize,

@@ -68,7 +68,7 @@ pub const YARNUNFOLD: u32 = 32;
 pub const COSTS: u32 = 33;
 
 // A command's number, or 0 for none, and the place after its word.
-#[derive(Drop)]
+#[derive(Clone, Copy)]
 pub struct Word {
     pub number: u32,
     pub next: usize,

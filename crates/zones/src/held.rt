@@ -6,7 +6,7 @@ use pyramid::State;
 
 // The state; T, H and W, and how many records are lent of the sheet and of the kept ones; the bytes of the last accepted write; and whether
 // the line was an error line.
-#[derive(Drop)]
+#[derive(Clone, Copy)]
 pub struct Held {
     pub state: State,
     pub table: usize,

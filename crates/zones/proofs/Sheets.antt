@@ -1,3 +1,0 @@
--- A copy, made by tools/twin.py. The prover checks it.
-pub mod lines
-pub mod sheet_calls
