@@ -1,7 +1,7 @@
 /* zonemap.h: the calls on pyramids of maps, for C and C++.
  *
- * Link with target/staticlib/libzonemap_c.a, which `rt staticlib zonemap_c` writes for x86-64 Linux; it asks nothing else but
- * memcpy and memset. A Rust program links it too: it declares these functions in an `extern "C"` block, a slice as its
+ * Link with crates/zonemap_c/out/libzonemap_c.a, which `rt lib` in crates/zonemap_c writes for x86-64 Linux; it asks nothing
+ * else but memcpy and memset. A Rust program links it too: it declares these functions in an `extern "C"` block, a slice as its
  * pointer and its length. Each function is proved to be the call itself: what it leaves is one function of
  * crates/darts/specs/Calls.antt, of crates/grids/specs/Plans.antt for the two on a plan, or of crates/ends/specs/Lookup.antt
  * for zm_successor, for every input, refusals too.

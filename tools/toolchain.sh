@@ -6,7 +6,7 @@ die() {
 }
 
 # Sets `home`, the toolchain's folder: above the rt that the path leads to, through links; and `emulator`, for programs of x86-64, which is
-# empty where the machine's own processor runs them.
+# empty where the machine's own processor runs them, or where the machine has none.
 find_toolchain() {
     home=${RATTLE_HOME:-}
     if [ -z "$home" ]; then
@@ -17,8 +17,8 @@ find_toolchain() {
         done
         home=$(cd "$(dirname "$file")/.." && pwd -P)
     fi
-    emulator=$home/on/$(uname -m)/toolchain/bin/qemu-x86_64
-    [ -x "$emulator" ] || emulator=
+    emulator=
+    [ "$(uname -m)" = x86_64 ] || emulator=$(command -v qemu-x86_64) || emulator=
 }
 
 # Notes the Debian package $2 as missing where the command or the file $1 is not there.
@@ -60,13 +60,15 @@ sources_of() {
 # Whether $1, built of the crate $2, is not there, or a source of it is newer: a file, or a folder that has lost one.
 is_stale() {
     [ -f "$1" ] || return 0
-    [ -n "$(sources_of "$2" | while read -r source; do find "$source" -newer "$1"; done | head -n 1)" ]
+    [ -n "$(sources_of "$2" | while read -r source; do find "$source" \( -name out -o -name must-fail \) -prune -o -newer "$1" -print; done | head -n 1)" ]
 }
 
 # Sets `archive`, the library for C, which is proved and built where it is stale.
 build_archive() {
-    archive=$root/target/staticlib/libzonemap_c.a
+    archive=$root/crates/zonemap_c/out/libzonemap_c.a
     if is_stale "$archive" zonemap_c; then
-        (cd "$root" && "$home/bin/rt" staticlib zonemap_c) >&2 </dev/null || die 'the library is not proved or not built'
+        (cd "$root/crates/zonemap_c" && "$home/bin/rt" lib) >&2 </dev/null || die 'the library is not proved or not built'
+        # A source with a newer date and the same text is not built again.
+        touch "$archive"
     fi
 }
