@@ -7,7 +7,7 @@ use mathlib.Core.Path.{◌≡◌, refl, sym, subst}
 use Prim.Native.Nat.{ℕ, suc, ◌+◌}
 use lib.Dec.{T, eqb, leb}
 use lib.ListN.{length, set, length-set}
-use Rattle.darts.specs.Choose.{if◌then◌else◌}
+use Rattle.std.proofs.Common.{if◌then◌else◌}
 use Rattle.darts.specs.Map.{successor, culprits}
 use Rattle.area.specs.Area.{prev, Tried, tried, tried_if}
 use Rattle.area.specs.Verdicts.{said}

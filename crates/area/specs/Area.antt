@@ -17,7 +17,7 @@
 --   tried_if b w v     == the answer b, and v where it is yes, w where it is no
 use Rattle.std.specs.Prelude.{Bool, true, false, List, reverse, ◌≡◌, ℕ, ◌+◌, ◌*◌, ◌%◌, ◌≤◌, ◌<◌, eqb, ltb, get_or, length, set, take}
 use Rattle.permutations.specs.Partner.{partner}
-use Rattle.darts.specs.Choose.{if◌then◌else◌}
+use Rattle.std.specs.Prelude.{if◌then◌else◌}
 use Rattle.darts.specs.Map.{successor}
 use Rattle.slices.specs.Part.{part}
 

@@ -13,7 +13,7 @@
 --   loads_base D t w    == a table laid alone, and linked: no dart is gone
 use Rattle.std.specs.Prelude.{Bool, true, false, not, ◌&&◌, List, [], ℕ, zero, suc, ◌+◌, ◌*◌, ◌/◌, eqb, leb, ltb, get_or, set, take, replicate}
 use Rattle.slices.specs.Laid.{laid}
-use Rattle.darts.specs.Choose.{if◌then◌else◌}
+use Rattle.std.specs.Prelude.{if◌then◌else◌}
 use Rattle.darts.specs.Map.{successor, Verdict, permutes, culprits}
 use Rattle.area.specs.Area.{prev, stamp, Tried, tried, tried_if}
 use Rattle.area.specs.Verdicts.{Said, said, passing}

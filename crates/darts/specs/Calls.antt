@@ -7,7 +7,7 @@
 --   start, reduce_by, sweep_by, undo_by, unfold_by, counts, read, write == the calls
 use Rattle.std.specs.Prelude.{Bool, not, ◌&&◌, List, reverse, ℕ, ◌*◌, ◌/◌, eqb, leb, ltb, length, take, replicate}
 use Rattle.slices.specs.Over.{over}
-use Rattle.darts.specs.Choose.{if◌then◌else◌}
+use Rattle.std.specs.Prelude.{if◌then◌else◌}
 use Rattle.darts.specs.Answers.{Answer, done, wrote, no_dart_count, too_short, needs, no_permutation, no_pyramid}
 use Rattle.darts.specs.Map.{Verdict, permutes, culprits, permutation_test}
 use Rattle.darts.specs.Operation.{Kind}

@@ -5,7 +5,7 @@
 --   Counts                == surviving darts, vertices, faces, the Euler number
 --   counts_of D t past     == the counts of the present level
 use Rattle.std.specs.Prelude.{Bool, true, ◌&&◌, List, ℕ, zero, suc, ◌/◌, leb, ℤ, pos, ◌+ℤ◌, ◌-ℤ◌}
-use Rattle.darts.specs.Choose.{if◌then◌else◌}
+use Rattle.std.specs.Prelude.{if◌then◌else◌}
 use Rattle.darts.specs.Map.{successor, face_next, survives}
 
 -- none of the n darts that follow y is below x

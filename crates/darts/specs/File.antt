@@ -5,7 +5,7 @@
 --   file_of s t past      == the bytes of the file, with F = 0
 use Rattle.std.specs.Prelude.{List, [], ◌∷◌, ◌++◌, map, reverse, ℕ, zero, suc, eqb, length}
 use Rattle.permutations.specs.Partner.{partner}
-use Rattle.darts.specs.Choose.{if◌then◌else◌}
+use Rattle.std.specs.Prelude.{if◌then◌else◌}
 use Rattle.darts.specs.Map.{successor, survives}
 use Rattle.darts.specs.Operation.{Kind, contraction, removal, lead_of}
 use Rattle.darts.specs.State.{State}

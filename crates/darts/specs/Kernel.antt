@@ -10,7 +10,7 @@
 --   pass takes D t past os       == a whole pass
 --   run k D t past es            == a kernel's run
 use Rattle.std.specs.Prelude.{Bool, true, not, List, [], ◌∷◌, map, ℕ, zero, suc, ◌+◌, ◌*◌, ◌/◌, eqb, leb}
-use Rattle.darts.specs.Choose.{if◌then◌else◌}
+use Rattle.std.specs.Prelude.{if◌then◌else◌}
 use Rattle.darts.specs.Answers.{Answer, answered}
 use Rattle.darts.specs.Map.{same_vertex, same_face, gone}
 use Rattle.darts.specs.Operation.{Kind, contraction, removal, lead, whole_edge, operate, number}

@@ -7,7 +7,7 @@
 --   undo_level s t past    == the last level undone
 --   unfold_to k s t past   == back to level k
 use Rattle.std.specs.Prelude.{Bool, ◌||◌, ◌&&◌, not, List, [], ◌∷◌, ℕ, zero, suc, ◌+◌, ◌-◌, ◌*◌, ◌/◌, eqb, leb, ltb, get_or, set, drop}
-use Rattle.darts.specs.Choose.{if◌then◌else◌}
+use Rattle.std.specs.Prelude.{if◌then◌else◌}
 use Rattle.darts.specs.Answers.{too_many_levels, no_level}
 use Rattle.darts.specs.Map.{successor, survives}
 use Rattle.darts.specs.Operation.{removal, lead, whole_edge, operate, number, undone}

@@ -1,4 +1,3 @@
-pub mod Choose
 pub mod Map
 pub mod Answers
 pub mod Cases

@@ -14,7 +14,7 @@
 use Rattle.std.specs.Prelude.{Bool, true, false, ◌||◌, ◌&&◌, not, List, [], ◌∷◌, ℕ, zero, suc, ◌/◌, eqb, leb, ltb, get_or}
 use Rattle.permutations.specs.Partner.{partner}
 use Rattle.permutations.specs.Cycle.{meets_in}
-use Rattle.darts.specs.Choose.{if◌then◌else◌}
+use Rattle.std.specs.Prelude.{if◌then◌else◌}
 
 -- "The table gives each dart its successor."
 unfoldable pub successor : List ℕ → ℕ → ℕ

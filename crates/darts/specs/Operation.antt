@@ -11,7 +11,7 @@
 --   undone D n t past    == the table before the last n operations
 use Rattle.std.specs.Prelude.{Bool, ◌||◌, ◌&&◌, List, [], ◌∷◌, ℕ, zero, suc, ◌+◌, ◌*◌, ◌/◌, ◌%◌, eqb, set}
 use Rattle.permutations.specs.Partner.{partner}
-use Rattle.darts.specs.Choose.{if◌then◌else◌}
+use Rattle.std.specs.Prelude.{if◌then◌else◌}
 use Rattle.darts.specs.Map.{successor, before}
 
 pub data Kind : Type 0 where

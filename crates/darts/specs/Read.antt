@@ -7,7 +7,7 @@
 --   Read               == the bytes mean a state, a table and a past, or they are faulty with an answer; D then, 0 where it is not known
 --   read_file room b    == the meaning of the bytes b, where room says for how many darts the lent slices are long enough
 use Rattle.std.specs.Prelude.{Bool, not, List, [], ◌∷◌, ◌++◌, map, reverse, ℕ, zero, suc, ◌+◌, ◌-◌, ◌*◌, ◌/◌, eqb, ltb, length, replicate}
-use Rattle.darts.specs.Choose.{if◌then◌else◌}
+use Rattle.std.specs.Prelude.{if◌then◌else◌}
 use Rattle.darts.specs.Answers.{Answer, no_dart_count, too_short, no_pyramid, empty_kernel, too_many_levels, no_file, no_flag}
 use Rattle.darts.specs.Operation.{Kind, contraction, removal, number}
 use Rattle.darts.specs.State.{State, storing}

@@ -6,7 +6,7 @@
 --   number_at b at       == a number in good form
 --   field w end b at    == the bytes w, a number, and the bytes end
 use Rattle.std.specs.Prelude.{Bool, ◌&&◌, List, [], ◌∷◌, ℕ, zero, suc, ◌+◌, ◌-◌, ◌*◌, eqb, leb, get_or}
-use Rattle.darts.specs.Choose.{if◌then◌else◌}
+use Rattle.std.specs.Prelude.{if◌then◌else◌}
 use Rattle.darts.specs.Answers.{Answer, no_file}
 
 unfoldable pub byte_at : List ℕ → ℕ → ℕ

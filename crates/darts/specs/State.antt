@@ -9,7 +9,7 @@
 --   levelled s past r  == one level more, by the run r of a kernel that began at this past
 --   reduce s t past k es == one kernel
 use Rattle.std.specs.Prelude.{List, [], ℕ, ◌+◌, eqb, leb, length, replicate, set}
-use Rattle.darts.specs.Choose.{if◌then◌else◌}
+use Rattle.std.specs.Prelude.{if◌then◌else◌}
 use Rattle.darts.specs.Answers.{Answer, empty_kernel, too_many_levels}
 use Rattle.darts.specs.Operation.{Kind}
 use Rattle.darts.specs.Kernel.{Run, stands, stops, run}

@@ -17,7 +17,7 @@
 use Rattle.std.specs.Prelude.{Bool, true, false, ◌||◌, ◌&&◌, not, List, [], ◌∷◌, reverse, ℕ, zero, suc, ◌-◌, ◌*◌, ◌%◌, eqb, leb, ltb, length, take, drop}
 use Rattle.permutations.specs.Partner.{partner}
 use Rattle.permutations.specs.Labels.{merge}
-use Rattle.darts.specs.Choose.{if◌then◌else◌}
+use Rattle.std.specs.Prelude.{if◌then◌else◌}
 use Rattle.darts.specs.Map.{successor, gone, survives, live, before_in, Verdict, permutes, culprits, passed}
 use Rattle.darts.specs.Operation.{Kind, contraction, removal, kind_of, lead_of, undo_one}
 use Rattle.darts.specs.State.{State}

@@ -18,7 +18,7 @@ use Rattle.darts.specs.Answers.{Answer}
 use Rattle.darts.specs.Map.{successor, face_next, same_vertex, same_face, same_piece, gone, survives, before_in, before, repeats, culprit, test_from, permutation_test}
 use Rattle.darts.specs.Operation.{contraction, removal, turned, lead, whole_edge, remove, contract, operate, number, kind_of, lead_of, edge_of, put_back, undo_one, undone}
 use Rattle.darts.specs.Kernel.{shared, judge, rising, pass_from, pass, run}
-use Rattle.darts.specs.Choose.{if◌then◌else◌}
+use Rattle.std.specs.Prelude.{if◌then◌else◌}
 use Rattle.darts.specs.State.{State, zeros, base_state, raised, levelled, reduce}
 use Rattle.darts.specs.Levels.{empty_loop, takes, swept_from, swept, sweep, end_below, lowered, undo_level, undo_levels, unfold_to}
 use Rattle.darts.specs.Pyramid.{dart_count, build, kernel_of, cut, kernels_of, same_numbers, same_state, is_exactly, is_pyramid}

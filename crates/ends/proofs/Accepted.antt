@@ -15,7 +15,7 @@ use lib.Dec.{T, eqb, leb, nleb→lt}
 use lib.ListN.{length, length-map, get_or-eq_default}
 use Rattle.permutations.specs.Choice.{eqb_iff, or_intro, or_iff, and_iff}
 use Rattle.permutations.specs.Live.{has}
-use Rattle.darts.specs.Choose.{if◌then◌else◌}
+use Rattle.std.proofs.Common.{if◌then◌else◌}
 use Rattle.darts.specs.Map.{gone}
 use Rattle.darts.specs.Operation.{Kind, lead, number, edge_of}
 use Rattle.darts.specs.Kernel.{Operation, each, judge}

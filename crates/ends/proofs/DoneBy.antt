@@ -10,7 +10,7 @@ use native.Mathlib.Omega.{arith}
 use lib.Dec.{T}
 use lib.ListN.{length, get_or, length-map}
 use Rattle.permutations.specs.Live.{has}
-use Rattle.darts.specs.Choose.{if◌then◌else◌}
+use Rattle.std.proofs.Common.{if◌then◌else◌}
 use Rattle.darts.specs.Kernel.{Operation}
 use Rattle.darts.specs.State.{State, base_state, gives}
 use Rattle.darts.specs.Levels.{unfold_to}

@@ -13,7 +13,7 @@ use lib.Dec.{T}
 use lib.ListN.{length, get_or}
 use Rattle.permutations.specs.Choice.{pick}
 use Rattle.permutations.specs.Live.{has}
-use Rattle.darts.specs.Choose.{if◌then◌else◌}
+use Rattle.std.proofs.Common.{if◌then◌else◌}
 use Rattle.ends.specs.Ends.{level_of, end_of, ends_by, gone_by, done_by}
 use Rattle.ends.proofs.Members.{has_cons}
 

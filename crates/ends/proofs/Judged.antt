@@ -15,7 +15,7 @@ use native.Mathlib.Omega.{arith}
 use lib.Dec.{T, eqb, leb, ltb, leb→le, le→leb, ltb→lt, lt→ltb}
 use lib.ListN.{length, take}
 use Rattle.permutations.specs.Choice.{pick, T?, T→true, not_T→false}
-use Rattle.darts.specs.Choose.{if◌then◌else◌}
+use Rattle.std.proofs.Common.{if◌then◌else◌}
 use Rattle.darts.specs.Answers.{Answer, done, no_dart_count, too_short, no_pyramid, no_level, no_edge, gone_already}
 use Rattle.darts.specs.Pyramid.{dart_count}
 use Rattle.darts.specs.Calls.{room}

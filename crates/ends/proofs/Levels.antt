@@ -18,7 +18,7 @@ use native.Mathlib.Omega.{arith}
 use lib.Dec.{T, eqb, leb, ltb, eqb→eq, leb→le, le→leb, ltb→lt, nltb→le}
 use lib.ListN.{get_or, length, get_or-eq_default}
 use Rattle.permutations.specs.Choice.{eqb_same, eqb_other, eqb_iff, or_intro, or_cases, and_intro, and_left, and_right}
-use Rattle.darts.specs.Choose.{if◌then◌else◌}
+use Rattle.std.proofs.Common.{if◌then◌else◌}
 use Rattle.ends.specs.Ends.{level_of, top, first_at, in_use, one_kind}
 
 abbrev pub at : List ℕ → ℕ → ℕ

@@ -13,7 +13,7 @@ use native.Mathlib.Omega.{arith}
 use lib.Dec.{T, leb}
 use lib.ListN.{get_or, length}
 use Rattle.permutations.specs.Live.{has}
-use Rattle.darts.specs.Choose.{if◌then◌else◌}
+use Rattle.std.proofs.Common.{if◌then◌else◌}
 use Rattle.darts.specs.Operation.{Kind, kind_of}
 use Rattle.darts.specs.Tests.{same_kind}
 use Rattle.ends.specs.Ends.{level_of, ending_from, ending}

@@ -23,7 +23,7 @@ use Rattle.permutations.specs.Live.{any, has}
 use Rattle.permutations.specs.Map.{Map, Good}
 use Rattle.permutations.proofs.MapLemmas.{off_edge_not_end}
 use Rattle.permutations.proofs.Legal.{Op, dart, act, AllLegal, good_act}
-use Rattle.darts.specs.Choose.{if◌then◌else◌}
+use Rattle.std.proofs.Common.{if◌then◌else◌}
 use Rattle.darts.specs.Operation.{Kind, contraction, removal, number, kind_of}
 use Rattle.darts.specs.Kernel.{Operation, each}
 use Rattle.darts.specs.Pyramid.{Kernel}

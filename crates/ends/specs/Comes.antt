@@ -8,7 +8,7 @@
 --   comes D t ends   == the decision: the base, the levels, and these operations one by one
 use Rattle.std.specs.Prelude.{Bool, true, false, ◌&&◌, ◌||◌, List, [], ◌∷◌, ◌++◌, map, ◌≡◌, ℕ, suc, ◌/◌, ◌<◌, T, eqb, get_or, length}
 use Rattle.permutations.specs.Live.{has}
-use Rattle.darts.specs.Choose.{if◌then◌else◌}
+use Rattle.std.specs.Prelude.{if◌then◌else◌}
 use Rattle.darts.specs.Map.{permutes, permutation_test, passed}
 use Rattle.darts.specs.Operation.{contraction, removal, number}
 use Rattle.darts.specs.Kernel.{Operation, each, rising, Run, stands, stops}

@@ -13,7 +13,7 @@
 --   ending_from k e ends == the edges that end by kind k, by rising number; the first end is that of edge e
 --   ending k ends      == the same from edge 0 on
 use Rattle.std.specs.Prelude.{Bool, true, ◌&&◌, ◌||◌, List, [], ◌∷◌, ℕ, zero, suc, ◌/◌, eqb, leb, ltb, get_or}
-use Rattle.darts.specs.Choose.{if◌then◌else◌}
+use Rattle.std.specs.Prelude.{if◌then◌else◌}
 use Rattle.darts.specs.Operation.{Kind, kind_of}
 use Rattle.darts.specs.Tests.{same_kind}
 

@@ -4,7 +4,7 @@
 --   judged D k x t h w  == the answer
 --   successor_at         == the call
 use Rattle.std.specs.Prelude.{not, List, ℕ, ◌/◌, eqb, leb, ltb, length, take}
-use Rattle.darts.specs.Choose.{if◌then◌else◌}
+use Rattle.std.specs.Prelude.{if◌then◌else◌}
 use Rattle.darts.specs.Answers.{Answer, done, no_pyramid, no_level, no_edge, gone_already}
 use Rattle.darts.specs.Calls.{fitting, work_after}
 use Rattle.ends.specs.Ends.{gone_by, top}

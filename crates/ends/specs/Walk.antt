@@ -6,7 +6,7 @@
 --   Walks D k t ends x    == that walk stays on darts, ends at one that is not gone, and passes at most two darts for each operation
 use Rattle.std.specs.Prelude.{not, List, ℕ, zero, suc, ◌*◌, ◌≤◌, ◌<◌, T}
 use Rattle.permutations.specs.Partner.{partner}
-use Rattle.darts.specs.Choose.{if◌then◌else◌}
+use Rattle.std.specs.Prelude.{if◌then◌else◌}
 use Rattle.darts.specs.Map.{successor}
 use Rattle.darts.specs.Operation.{Kind, contraction, removal, kind_of}
 use Rattle.ends.specs.Ends.{end_of, gone_by, done_by}

@@ -12,7 +12,7 @@ use native.Mathlib.Omega.{arith}
 use lib.Dec.{T}
 use lib.ListN.{length, drop, drop_of_length-le}
 use Rattle.permutations.specs.Choice.{T?, T→true, not_T→false}
-use Rattle.darts.specs.Choose.{if◌then◌else◌}
+use Rattle.std.proofs.Common.{if◌then◌else◌}
 use Rattle.darts.specs.Operation.{undo_one, undone}
 use Rattle.darts.specs.Tests.{numbered, fits as fits_of, backs as backsOf}
 use Rattle.area.specs.Area.{stamp, table_in, past_in, Tried, tried}

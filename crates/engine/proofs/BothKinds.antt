@@ -9,7 +9,7 @@ use Prim.Native.Nat.{ℕ, zero, suc, ◌+◌, ◌-◌, ◌*◌, ◌/◌, ◌≤�
 use native.Mathlib.Omega.{arith}
 use lib.Dec.{T, leb}
 use Rattle.permutations.specs.Choice.{pick, T→true}
-use Rattle.darts.specs.Choose.{if◌then◌else◌}
+use Rattle.std.proofs.Common.{if◌then◌else◌}
 use Rattle.darts.specs.Map.{gone, same_vertex, same_face}
 use Rattle.darts.specs.Operation.{Kind, contraction, removal, number, kind_of, whole_edge}
 use Rattle.darts.specs.Kernel.{judge, shared}

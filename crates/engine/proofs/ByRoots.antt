@@ -22,7 +22,7 @@ use Rattle.permutations.proofs.Dual.{face_perm, face_remove}
 use Rattle.permutations.proofs.Legal.{act}
 use Rattle.permutations.specs.Labels.{Labels, Either, Merges, Kept}
 use Rattle.permutations.proofs.LabelsLemmas.{labels_splice}
-use Rattle.darts.specs.Choose.{if◌then◌else◌}
+use Rattle.std.proofs.Common.{if◌then◌else◌}
 use Rattle.darts.specs.Map.{gone, survives, live}
 use Rattle.darts.specs.Operation.{Kind, contraction, removal, kind_of, whole_edge}
 use Rattle.darts.specs.Kernel.{judge}

@@ -15,7 +15,7 @@ use lib.Dec.{T, eqb, leb, ltb, leb→le, le→leb, nleb→lt, ltb→lt, lt→ltb
 use lib.ListN.{length, set, drop, length-set}
 use lib.Seq.{take-set-le, drop-set-lt, get_or-set_same, get_or-set_other}
 use Rattle.permutations.specs.Choice.{true→T, T→true, not_T→false, eqb_same, eqb_other, and_intro, and_left, and_right}
-use Rattle.darts.specs.Choose.{if◌then◌else◌}
+use Rattle.std.proofs.Common.{if◌then◌else◌}
 use Rattle.darts.specs.Map.{successor, gone, survives, before_in, culprits, passed}
 use Rattle.darts.specs.Tests.{led, links as linksOf, blamed, links_from}
 use Rattle.area.specs.Area.{prev, table_in}

@@ -15,7 +15,7 @@ use lib.Dec.{T, eqb, T_not}
 use lib.ListN.{length, take, drop}
 use lib.Seq.{length-take-le}
 use Rattle.permutations.specs.Choice.{true→T, T→true, not_T→false, eqb_iff, or_intro, and_intro}
-use Rattle.darts.specs.Choose.{if◌then◌else◌}
+use Rattle.std.proofs.Common.{if◌then◌else◌}
 use Rattle.darts.specs.Map.{successor, gone, survives, live, before, passed}
 use Rattle.darts.specs.Tests.{numbered, led, survivors_test, linked}
 use Rattle.area.specs.Area.{Room, prev, table_in, past_in, forest_in, Tried}

@@ -14,7 +14,7 @@ use lib.Dec.{T, eqb, leb, leb→le, nleb→lt}
 use lib.ListN.{length, set, drop, length-set}
 use lib.Seq.{take-set-le, drop-set-lt, get_or-set_same, get_or-set_other}
 use Rattle.permutations.specs.Choice.{T→true, not_T→false, eqb_same, eqb_other}
-use Rattle.darts.specs.Choose.{if◌then◌else◌}
+use Rattle.std.proofs.Common.{if◌then◌else◌}
 use Rattle.darts.specs.Map.{gone}
 use Rattle.darts.specs.Operation.{lead_of}
 use Rattle.darts.specs.Tests.{numbered}

@@ -13,7 +13,7 @@ use lib.Dec.{T, eqb}
 use lib.ListN.{length, set, drop}
 use Rattle.permutations.specs.Partner.{partner, End, end?}
 use Rattle.permutations.proofs.PartnerLemmas.{partner_ne, partner_below}
-use Rattle.darts.specs.Choose.{if◌then◌else◌}
+use Rattle.std.proofs.Common.{if◌then◌else◌}
 use Rattle.darts.specs.Map.{successor, live}
 use Rattle.darts.specs.Operation.{Kind, lead, operate, number, kind_of}
 use Rattle.darts.specs.Kernel.{judge}

@@ -5,7 +5,7 @@
 --   Stays D n k w v  == v holds what w holds, and judges as w does
 --   Turned D m k e i w v r == the turn of edge e, the one at place i: r is its answer, and where that is done the operation is, else nothing is
 use Rattle.std.specs.Prelude.{List, ◌∷◌, ◌≢◌, ◌≡◌, ℕ, ◌+◌, ◌/◌, ◌≤◌, eqb}
-use Rattle.darts.specs.Choose.{if◌then◌else◌}
+use Rattle.std.specs.Prelude.{if◌then◌else◌}
 use Rattle.darts.specs.Cases.{answer_of}
 use Rattle.darts.specs.declared.Answer.{Answer}
 use Rattle.darts.specs.Operation.{kind_of, lead, operate, number}

@@ -20,7 +20,7 @@ use lib.ListN.{length, set, replicate, length-append}
 use lib.Seq.{set_at}
 use borrow.Author.Tests.{eq-eqb, ne_eqb}
 use Rattle.darts.specs.Operation.{Kind, contraction, removal, number, kind_of}
-use Rattle.darts.specs.Choose.{if◌then◌else◌}
+use Rattle.std.proofs.Common.{if◌then◌else◌}
 use Rattle.darts.specs.Answers.{empty_kernel}
 use Rattle.darts.specs.Text.{bytes}
 use Rattle.darts.specs.File.{line_feed, kind_word}

@@ -13,7 +13,7 @@ use native.Mathlib.Omega.{arith}
 use lib.Dec.{eqb}
 use lib.ListN.{length}
 use borrow.Author.Tests.{eq-eqb, ne_eqb}
-use Rattle.darts.specs.Choose.{if◌then◌else◌}
+use Rattle.std.proofs.Common.{if◌then◌else◌}
 use Rattle.darts.specs.Answers.{no_file}
 use Rattle.darts.specs.Cases.{answer_of}
 use Rattle.darts.specs.declared.Answer.{Answer}

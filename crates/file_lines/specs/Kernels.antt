@@ -2,7 +2,7 @@
 --   noted room k i n h          == the history h with the numbers of n operations of kind k from place i on, where that is within the room
 --   KernelsRead b at L D h h' r == r answers for the L lines from the place at on; h' is the history h with their numbers at the front
 use Rattle.std.specs.Prelude.{◌≡◌, List, ◌++◌, ℕ, ◌+◌, ◌-◌, ◌/◌, ◌≤◌, leb, length, drop, replicate}
-use Rattle.darts.specs.Choose.{if◌then◌else◌}
+use Rattle.std.specs.Prelude.{if◌then◌else◌}
 use Rattle.darts.specs.Operation.{Kind}
 use Rattle.darts.specs.Scan.{found, after}
 use Rattle.darts.specs.Read.{KernelLine, kernels_at, ends_from, total, numbers_from, file_history}

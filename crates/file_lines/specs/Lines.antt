@@ -8,7 +8,7 @@
 --   body_levels     == the body of a file is that line, and then the kernels and the pairs
 use Rattle.std.specs.Prelude.{◌≡◌, refl, Bool, true, false, List, [], ◌∷◌, ℕ, ◌/◌, ◌≤◌, ltb}
 use Rattle.std.proofs.Common.{arith, ltb-false}
-use Rattle.darts.specs.Choose.{if◌then◌else◌}
+use Rattle.std.specs.Prelude.{if◌then◌else◌}
 use Rattle.darts.specs.Answers.{too_many_levels}
 use Rattle.darts.specs.Operation.{kind_of}
 use Rattle.darts.specs.Text.{bytes}

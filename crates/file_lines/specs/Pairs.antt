@@ -3,7 +3,7 @@
 --   last_at D b at             == the same lines as the last ones of the file
 --   LastRead b at D F t t' r  == r answers for them; t' is the table t with their numbers at the front
 use Rattle.std.specs.Prelude.{◌≡◌, List, map, ℕ, ◌/◌, eqb, length, drop}
-use Rattle.darts.specs.Choose.{if◌then◌else◌}
+use Rattle.std.specs.Prelude.{if◌then◌else◌}
 use Rattle.darts.specs.Answers.{no_file}
 use Rattle.darts.specs.Scan.{Scan, found, fault, after}
 use Rattle.darts.specs.Read.{pairs_at, from_flag}

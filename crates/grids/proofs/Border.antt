@@ -15,7 +15,7 @@ use native.Mathlib.Omega.{arith}
 use lib.Dec.{leb, leb→le, le→leb}
 use Rattle.permutations.specs.Choice.{T→true, not_T→false}
 use Rattle.permutations.specs.Cycle.{Meets, meets_refl, meets_eq, meets_next, meets_trans}
-use Rattle.darts.specs.Choose.{if◌then◌else◌}
+use Rattle.std.proofs.Common.{if◌then◌else◌}
 use Rattle.grids.specs.Grid.{Grid, along}
 use Rattle.grids.proofs.Sides.{right_dart, up_dart}
 use Rattle.grids.proofs.Turns.{turn, leftward, downward, up_right, right_down, down_left, left_up, right_right, right_over, right_back, up_up, up_over, up_back, left_left, left_over, left_back, down_down, down_over, down_back}

@@ -13,7 +13,7 @@ use native.Mathlib.Decide.{ℕ_discrete}
 use native.Mathlib.Omega.{arith}
 use lib.Dec.{T, eqb, leb, ltb→lt, lt→ltb, leb→le, le→leb, nleb→lt, not_T}
 use Rattle.permutations.specs.Choice.{T?, T→true, not_T→false, or_intro, or_cases, eqb_same, eqb_other}
-use Rattle.darts.specs.Choose.{if◌then◌else◌}
+use Rattle.std.proofs.Common.{if◌then◌else◌}
 use Rattle.grids.specs.Grid.{Grid, cells, cell, along, edges, darts_of}
 use Rattle.grids.specs.Base.{round_of, rounds, has, cell_of}
 use Rattle.grids.proofs.Places.{place_is}

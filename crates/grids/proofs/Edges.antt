@@ -13,7 +13,7 @@ use native.Mathlib.Decide.{dec_lt}
 use native.Mathlib.Omega.{arith}
 use lib.Dec.{T, eqb, ltb, ltb→lt, lt→ltb}
 use Rattle.permutations.specs.Choice.{T→true, not_T→false, eqb_same, eqb_other}
-use Rattle.darts.specs.Choose.{if◌then◌else◌}
+use Rattle.std.proofs.Common.{if◌then◌else◌}
 use Rattle.grids.specs.Grid.{Grid, cells, cell, along, edges}
 use Rattle.grids.proofs.Rows.{row_below, row_number, row_place, in_row}
 use Rattle.grids.proofs.Sides.{along_closed, right_along, along_right, goes_right_lem}

@@ -16,7 +16,7 @@ use native.Mathlib.Decide.{dec_lt}
 use native.Mathlib.Omega.{arith}
 use lib.Dec.{T, eqb, leb, ltb, ltb→lt, lt→ltb, le→leb}
 use Rattle.permutations.specs.Choice.{T→true, not_T→false, eqb_same, eqb_other}
-use Rattle.darts.specs.Choose.{if◌then◌else◌}
+use Rattle.std.proofs.Common.{if◌then◌else◌}
 use Rattle.grids.specs.Grid.{Grid, sized, cell, along, darts_of}
 use Rattle.grids.proofs.Rows.{row_below, row_number, row_place}
 use Rattle.grids.proofs.Sides.{right_dart, up_dart, along_flat}

@@ -16,7 +16,7 @@ use Rattle.permutations.specs.Labels.{Labels}
 use Rattle.permutations.proofs.Dual.{face_perm}
 use Rattle.permutations.proofs.CyclesCounted.{cycles_numbered}
 use Rattle.permutations.proofs.Euler.{faces}
-use Rattle.darts.specs.Choose.{if◌then◌else◌}
+use Rattle.std.proofs.Common.{if◌then◌else◌}
 use Rattle.darts.specs.Map.{live}
 use Rattle.darts.specs.Counts.{counts_of}
 use Rattle.laws.proofs.bridge.Bases.{all_live}

@@ -12,7 +12,7 @@ use Prim.Native.Nat.{ℕ}
 use lib.Dec.{T}
 use lib.ListN.{get_or}
 use Rattle.permutations.specs.Choice.{T→true, ⊎_iff}
-use Rattle.darts.specs.Choose.{if◌then◌else◌}
+use Rattle.std.proofs.Common.{if◌then◌else◌}
 use Rattle.grids.specs.Base.{has, next_in}
 use Rattle.grids.proofs.Next.{one, Distinct, has_append, has_one, distinct_one, next_after}
 

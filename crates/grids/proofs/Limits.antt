@@ -11,7 +11,7 @@ use native.Mathlib.Nat.{mul-le-mul, one-le-mul}
 use native.Mathlib.Omega.{arith}
 use lib.Dec.{T, eqb, leb, ltb, leb→le, le→leb, eqb→eq, nleb→lt, nltb→le, not_T, T_not}
 use Rattle.permutations.specs.Choice.{T?, or_intro, eqb_iff}
-use Rattle.darts.specs.Choose.{if◌then◌else◌}
+use Rattle.std.proofs.Common.{if◌then◌else◌}
 use Rattle.darts.specs.Pyramid.{dart_count}
 use Rattle.darts.proofs.Fitting.{count_test}
 use Rattle.grids.specs.Grid.{Grid, sized, cells, along, edges, darts_of}

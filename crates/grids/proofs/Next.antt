@@ -19,7 +19,7 @@ use lib.Dec.{T, eqb, eqb_refl, eqb→eq}
 use lib.ListN.{length, get_or}
 use Rattle.permutations.specs.Choice.{or_intro, or_cases, not_T→false, eqb_same, eqb_other, eqb_iff}
 use Rattle.permutations.specs.Cycle.{Meets, meets_refl, meets_next, meets_trans}
-use Rattle.darts.specs.Choose.{if◌then◌else◌}
+use Rattle.std.proofs.Common.{if◌then◌else◌}
 use Rattle.grids.specs.Base.{has, next_or, next_in}
 
 abbrev pub one : Bool → ℕ → List ℕ

@@ -21,7 +21,7 @@ use native.Mathlib.Omega.{arith}
 use lib.Dec.{eqb}
 use lib.ListN.{length}
 use Rattle.slices.specs.Over.{over}
-use Rattle.darts.specs.Choose.{if◌then◌else◌}
+use Rattle.std.proofs.Common.{if◌then◌else◌}
 use Rattle.darts.specs.Answers.{done, empty_kernel}
 use Rattle.darts.specs.Map.{gone}
 use Rattle.darts.specs.Kernel.{stands}

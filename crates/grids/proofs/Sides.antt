@@ -14,7 +14,7 @@ use native.Mathlib.Decide.{dec_lt}
 use native.Mathlib.Omega.{arith}
 use lib.Dec.{T, leb, ltb, ltb→lt, lt→ltb, leb→le, le→leb}
 use Rattle.permutations.specs.Choice.{T?, T→true, not_T→false, or_intro, or_cases}
-use Rattle.darts.specs.Choose.{if◌then◌else◌}
+use Rattle.std.proofs.Common.{if◌then◌else◌}
 use Rattle.grids.specs.Grid.{Grid, cell, along, right_edge, up_edge, left_edge, down_edge}
 use Rattle.grids.specs.Base.{round_of, has}
 use Rattle.grids.proofs.Rows.{row_below}

@@ -17,7 +17,7 @@ use Rattle.permutations.specs.Choice.{T→true, not_T→false, or_intro, or_case
 use Rattle.permutations.specs.Partner.{partner}
 use Rattle.permutations.proofs.PartnerLemmas.{partner_first, partner_second, partner_below}
 use Rattle.permutations.specs.Map.{Map, face}
-use Rattle.darts.specs.Choose.{if◌then◌else◌}
+use Rattle.std.proofs.Common.{if◌then◌else◌}
 use Rattle.darts.specs.Map.{face_next}
 use Rattle.laws.specs.Standing.{map_of}
 use Rattle.laws.proofs.bridge.Bases.{all_live}

@@ -6,7 +6,7 @@
 --   cell_of g d      == the cell where dart d stands: the first whose round has it
 --   base_table g     == the table
 use Rattle.std.specs.Prelude.{Bool, false, ◌||◌, List, [], ◌∷◌, ◌++◌, map, ℕ, suc, ◌+◌, ◌*◌, ◌/◌, ◌%◌, eqb, get_or}
-use Rattle.darts.specs.Choose.{if◌then◌else◌}
+use Rattle.std.specs.Prelude.{if◌then◌else◌}
 use Rattle.darts.specs.Kernel.{rising}
 use Rattle.grids.specs.Grid.{Grid, cells, right_edge, up_edge, left_edge, down_edge, darts_of}
 

@@ -8,7 +8,7 @@
 --   edges g        == how many edges there are; darts_of g is how many darts
 --   Beside g a b   == cell b is the right or the upper neighbour of cell a
 use Rattle.std.specs.Prelude.{Bool, false, ◌&&◌, ◌||◌, not, List, [], ◌∷◌, ℕ, ◌+◌, ◌-◌, ◌*◌, ◌<◌, T, eqb, leb, ltb}
-use Rattle.darts.specs.Choose.{if◌then◌else◌}
+use Rattle.std.specs.Prelude.{if◌then◌else◌}
 
 pub record Grid : Type 0 where
   pub closes : Bool

@@ -8,7 +8,7 @@
 --   plan_base, plan_areas  == the calls
 use Rattle.std.specs.Prelude.{Bool, ◌&&◌, ◌||◌, not, List, [], reverse, ◌≡◌, ℕ, ◌+◌, ◌*◌, eqb, leb, length, get_or}
 use Rattle.slices.specs.Over.{over}
-use Rattle.darts.specs.Choose.{if◌then◌else◌}
+use Rattle.std.specs.Prelude.{if◌then◌else◌}
 use Rattle.darts.specs.Answers.{Answer, done, too_short, no_plan_size}
 use Rattle.darts.specs.Operation.{contraction}
 use Rattle.darts.specs.Kernel.{judge, each, rising, Run, Test, pass}

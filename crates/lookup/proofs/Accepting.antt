@@ -15,7 +15,7 @@ use lib.Dec.{eqb}
 use lib.ListN.{length, take}
 use lib.Seq.{take_all}
 use Rattle.permutations.specs.Choice.{eqb_same, eqb_other, true→T}
-use Rattle.darts.specs.Choose.{if◌then◌else◌}
+use Rattle.std.proofs.Common.{if◌then◌else◌}
 use Rattle.darts.specs.Cases.{answer_of}
 use Rattle.darts.specs.Map.{permutation_test, passed}
 use Rattle.darts.specs.Operation.{contraction, removal, kind_of, lead, operate, number}

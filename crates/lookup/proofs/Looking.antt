@@ -21,7 +21,7 @@ use lib.ListN.{length, take}
 use Rattle.permutations.specs.Choice.{eqb_same, eqb_other}
 use Rattle.darts.specs.Answers.{Answer, done, no_pyramid, no_level, no_edge, gone_already}
 use Rattle.darts.specs.Cases.{answer_of}
-use Rattle.darts.specs.Choose.{if◌then◌else◌}
+use Rattle.std.proofs.Common.{if◌then◌else◌}
 use Rattle.darts.specs.Calls.{fitting, cleared, work_after}
 use Rattle.darts.specs.Pyramid.{dart_count}
 use Rattle.darts.proofs.Fitting.{fits, count_test, first_keeps}

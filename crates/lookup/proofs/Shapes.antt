@@ -21,7 +21,7 @@ use lib.Dec.{ltb}
 use lib.ListN.{length, get_or, set, drop, replicate, drop_of_length-le, length-set}
 use lib.Seq.{drop-cons, get_or-set_same, get_or-set_other}
 use Rattle.permutations.specs.Choice.{eqb_same, eqb_other}
-use Rattle.darts.specs.Choose.{if◌then◌else◌}
+use Rattle.std.proofs.Common.{if◌then◌else◌}
 use Rattle.ends.specs.Ends.{level_of, top, first_at, in_use, one_kind, shaped}
 use Rattle.lookup.specs.Firsts.{Unset, Firsts, used_in}
 

@@ -8,7 +8,7 @@
 use Rattle.std.specs.Prelude.{not, List, ◌≡◌, ℕ, eqb, leb, ltb}
 use Rattle.darts.specs.Answers.{Answer, done, no_pyramid, no_level, no_edge, gone_already}
 use Rattle.darts.specs.Cases.{answer_of}
-use Rattle.darts.specs.Choose.{if◌then◌else◌}
+use Rattle.std.specs.Prelude.{if◌then◌else◌}
 use Rattle.ends.specs.Ends.{gone_by, top}
 use Rattle.ends.specs.Walk.{Found as WalkedTo, nothing, walk}
 use Rattle.ends.specs.Comes.{comes}

@@ -12,7 +12,7 @@ use lib.Dec.{eqb}
 use lib.ListN.{drop, set, take, length-set}
 use lib.Seq.{drop-drop, drop-set-lt, drop-set-add, take-set-le, get_or-set_other}
 use Rattle.permutations.specs.Partner.{partner}
-use Rattle.darts.specs.Choose.{if◌then◌else◌}
+use Rattle.std.proofs.Common.{if◌then◌else◌}
 use Rattle.darts.specs.Map.{successor}
 use Rattle.darts.specs.Operation.{Kind, kind_of, lead}
 use Rattle.darts.specs.Tests.{near, far}

@@ -13,7 +13,7 @@ use lib.ListN.{length, take, drop, replicate, length-replicate}
 use lib.Seq.{length-take-le}
 use Rattle.permutations.specs.Choice.{true→T}
 use Rattle.darts.specs.Calls.{table_of, past_of}
-use Rattle.darts.specs.Choose.{if◌then◌else◌}
+use Rattle.std.proofs.Common.{if◌then◌else◌}
 use Rattle.darts.specs.Operation.{kind_of}
 use Rattle.darts.specs.Pyramid.{Pyramid}
 use Rattle.darts.specs.State.{State, counted}

@@ -17,7 +17,7 @@ use lib.Dec.{eqb}
 use lib.ListN.{length, set, length-set}
 use Rattle.permutations.specs.Partner.{partner}
 use Rattle.permutations.proofs.PartnerLemmas.{partner_first, partner_partner}
-use Rattle.darts.specs.Choose.{if◌then◌else◌}
+use Rattle.std.proofs.Common.{if◌then◌else◌}
 use Rattle.darts.specs.Map.{successor}
 use Rattle.darts.specs.Operation.{Kind, contraction, removal, kind_of, turned as turnsRound, lead}
 use Rattle.darts.specs.Tests.{near, far}

@@ -18,7 +18,7 @@ use lib.Dec.{eqb}
 use borrow.Author.Tests.{eq-eqb, ne_eqb}
 use Rattle.permutations.specs.Partner.{partner}
 use Rattle.permutations.specs.Labels.{Either, Merges, merge, merge_merges}
-use Rattle.darts.specs.Choose.{if◌then◌else◌}
+use Rattle.std.proofs.Common.{if◌then◌else◌}
 use Rattle.darts.specs.Operation.{kind_of, lead_of}
 use Rattle.darts.specs.Tests.{relabel, relabelled, replays, parted}
 use Rattle.forest.specs.Forest.{linked}

@@ -18,7 +18,7 @@ use lib.ListN.{get_or}
 use borrow.Author.Tests.{eq-eqb, ne_eqb, lt-ltb, le-ltb}
 use Rattle.permutations.specs.Perm.{Perm, inj, below}
 use Rattle.permutations.specs.Cycle.{walk, Meets, meets_refl, meets_trans, meets_sym, soon}
-use Rattle.darts.specs.Choose.{if◌then◌else◌}
+use Rattle.std.proofs.Common.{if◌then◌else◌}
 use Rattle.forest.specs.Lowest.{Classes}
 use Rattle.area.specs.Area.{Room, prev, there, around}
 use Rattle.operations.specs.Trees.{Outside}

@@ -11,7 +11,7 @@
 --   Sound D n w         == there are at most D operations besides, and their numbers are of darts
 use Rattle.std.specs.Prelude.{Bool, true, false, not, ◌&&◌, List, ℕ, zero, suc, ◌+◌, ◌-◌, ◌*◌, ◌/◌, ◌%◌, ◌≤◌, ◌<◌, eqb, get_or}
 use Rattle.permutations.specs.Partner.{partner}
-use Rattle.darts.specs.Choose.{if◌then◌else◌}
+use Rattle.std.specs.Prelude.{if◌then◌else◌}
 use Rattle.darts.specs.Map.{successor}
 use Rattle.darts.specs.Operation.{Kind, kind_of}
 use Rattle.darts.specs.Tests.{near, far}

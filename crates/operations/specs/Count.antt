@@ -1,7 +1,7 @@
 -- The trees of the forest's part.
 --   roots_in D w n == how many of the first n darts survive and are their own parents in the forest's part
 use Rattle.std.specs.Prelude.{◌&&◌, List, ℕ, zero, suc, ◌+◌, ◌*◌, eqb, get_or}
-use Rattle.darts.specs.Choose.{if◌then◌else◌}
+use Rattle.std.specs.Prelude.{if◌then◌else◌}
 use Rattle.area.specs.Area.{there}
 
 unfoldable pub roots_in : ℕ → List ℕ → ℕ → ℕ

@@ -4,7 +4,7 @@
 --   Labelled D k w w'   == in the forest's part stands at each dart the lowest dart of its cycle
 use Rattle.std.specs.Prelude.{◌&&◌, List, ℕ, ltb}
 use Rattle.permutations.specs.Cycle.{Meets}
-use Rattle.darts.specs.Choose.{if◌then◌else◌}
+use Rattle.std.specs.Prelude.{if◌then◌else◌}
 use Rattle.forest.specs.Lowest.{Lowest, Marked}
 use Rattle.area.specs.Area.{there, forest_in, around}
 use Rattle.operations.specs.Trees.{Outside}

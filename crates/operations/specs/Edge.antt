@@ -4,7 +4,7 @@
 --   Bounds D w p q          == p and q are darts, and so are their successors and the darts before them
 --   bypassed D w a b q x y  == a leads on to x and b to y; where x is q, a leads on to y and that is all
 use Rattle.std.specs.Prelude.{true, List, ◌≢◌, ◌≡◌, ℕ, ◌+◌, ◌*◌, ◌<◌, eqb, get_or}
-use Rattle.darts.specs.Choose.{if◌then◌else◌}
+use Rattle.std.specs.Prelude.{if◌then◌else◌}
 use Rattle.darts.specs.Cases.{answer_of}
 use Rattle.darts.specs.declared.Answer.{Answer}
 use Rattle.area.specs.Area.{bound}

@@ -5,7 +5,7 @@
 --   operated D n w k e   == the work area after the operation on edge e, the one of count n
 use Rattle.std.specs.Prelude.{Bool, not, ◌&&◌, List, ℕ, ◌+◌, ◌-◌, ◌*◌, ◌/◌, eqb, leb, set}
 use Rattle.permutations.specs.Partner.{partner}
-use Rattle.darts.specs.Choose.{if◌then◌else◌}
+use Rattle.std.specs.Prelude.{if◌then◌else◌}
 use Rattle.darts.specs.Levels.{empty_loop}
 use Rattle.darts.specs.Map.{successor}
 use Rattle.darts.specs.Operation.{Kind, kind_of, lead, whole_edge}

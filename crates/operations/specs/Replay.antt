@@ -6,7 +6,7 @@
 --   Replayed D n k w w' r   == the n operations are replayed on the forest's part: r says whether each found two roots, and then all are joined
 use Rattle.std.specs.Prelude.{Bool, true, not, ◌||◌, ◌&&◌, List, [], ◌∷◌, ◌≡◌, ℕ, ◌+◌, ◌*◌, ◌/◌, ◌%◌, ◌≤◌, ◌<◌, eqb, get_or}
 use Rattle.permutations.specs.Partner.{partner}
-use Rattle.darts.specs.Choose.{if◌then◌else◌}
+use Rattle.std.specs.Prelude.{if◌then◌else◌}
 use Rattle.forest.specs.Forest.{Falls}
 use Rattle.slices.specs.Part.{part}
 use Rattle.area.specs.Area.{forest_in}

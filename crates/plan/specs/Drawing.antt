@@ -9,7 +9,7 @@
 --   Fits w c d p      == the drawing d has c lines of w bytes, and the slice p has room for their codes
 --   Right d p         == no line of the drawing d is wrong, and the slice p has room for its codes, however many they are
 use Rattle.std.specs.Prelude.{List, [], ◌∷◌, ◌++◌, ◌≡◌, ℕ, zero, suc, ◌+◌, ◌*◌, ◌/◌, ◌≤◌, eqb, length, take, drop}
-use Rattle.darts.specs.Choose.{if◌then◌else◌}
+use Rattle.std.specs.Prelude.{if◌then◌else◌}
 
 -- the bytes before the first line feed; all bytes, where there is none
 unfoldable pub wales_of : List ℕ → ℕ

@@ -4,7 +4,7 @@
 --   written a o           == what is left once the state that a call handed back is written to the output o; a refusal stays as it is
 --   printed b d t h w o   == the answer to the drawing d, with its file in the output where that is 0
 use Rattle.std.specs.Prelude.{Bool, List, ℕ, eqb}
-use Rattle.darts.specs.Choose.{if◌then◌else◌}
+use Rattle.std.specs.Prelude.{if◌then◌else◌}
 use Rattle.darts.specs.Calls.{After, Written, write}
 use Rattle.grids.specs.Grid.{Grid, flat}
 use Rattle.grids.specs.Plans.{plan_base, plan_areas}

@@ -6,7 +6,7 @@ use mathlib.Core.Path.{◌≡◌, refl}
 use Prim.Native.Nat.{ℕ, ◌+◌, ◌-◌, ◌*◌, ◌<◌}
 use lib.Dec.{leb, ltb, lt→ltb, le→leb}
 use borrow.Author.Tests.{le-leb}
-use Rattle.darts.specs.Choose.{if◌then◌else◌}
+use Rattle.std.proofs.Common.{if◌then◌else◌}
 use Rattle.grids.specs.Grid.{flat, along, cell}
 use Rattle.grids.specs.Base.{successor_on}
 use Rattle.grids.proofs.Successors as grid

@@ -19,7 +19,7 @@ use Rattle.permutations.specs.Choice.{eqb_other}
 use Rattle.darts.specs.Cases.{answer_of}
 use Rattle.darts.specs.declared.Answer.{Answer}
 use Rattle.darts.specs.declared.Answer.TheVariants.{Done}
-use Rattle.darts.specs.Choose.{if◌then◌else◌}
+use Rattle.std.proofs.Common.{if◌then◌else◌}
 use Rattle.darts.specs.Map.{gone, same_vertex}
 use Rattle.darts.specs.Operation.{contraction, kind_of, lead, number, edge_of, whole_edge}
 use Rattle.darts.specs.Kernel.{judge, shared, rising, pass}

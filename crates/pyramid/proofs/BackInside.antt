@@ -14,7 +14,7 @@ use lib.Dec.{eqb, ltb}
 use lib.ListN.{length}
 use Rattle.permutations.specs.Choice.{pick}
 use Rattle.darts.specs.Answers.{Answer, no_level}
-use Rattle.darts.specs.Choose.{if◌then◌else◌}
+use Rattle.std.proofs.Common.{if◌then◌else◌}
 use Rattle.darts.specs.State.{State, counted, Result, gives, refuses, and_then}
 use Rattle.darts.specs.Levels.{undo_level, undo_levels, unfold_to}
 use Rattle.darts.specs.Calls.{table_of, past_of, on_state, undo_by, unfold_by}

@@ -16,7 +16,7 @@ use lib.Dec.{eqb, leb}
 use lib.ListN.{length}
 use Rattle.darts.specs.Answers.{Answer, too_many_levels, empty_kernel}
 use Rattle.darts.specs.Cases.{answer_of}
-use Rattle.darts.specs.Choose.{if◌then◌else◌}
+use Rattle.std.proofs.Common.{if◌then◌else◌}
 use Rattle.darts.specs.Operation.{Kind}
 use Rattle.darts.specs.Kernel.{Run, stands, stops, run}
 use Rattle.darts.specs.State.{State, Result, refuses, levelled, reduce}

@@ -22,7 +22,7 @@ use lib.Dec.{T, eqb}
 use lib.ListN.{length}
 use Rattle.permutations.specs.Choice.{T-ext, T→true, true→T, eqb_iff, and_iff}
 use Rattle.darts.specs.Answers.{Answer, done, no_pyramid}
-use Rattle.darts.specs.Choose.{if◌then◌else◌}
+use Rattle.std.proofs.Common.{if◌then◌else◌}
 use Rattle.darts.specs.Pyramid.{is_pyramid}
 use Rattle.darts.specs.State.{State, counted}
 use Rattle.darts.specs.Calls.{fitting, table_of, past_of, judged, cleared, work_after}

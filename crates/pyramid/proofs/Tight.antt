@@ -9,7 +9,7 @@ use mathlib.Core.Path.{◌≡◌, refl, sym, ap, ◌∙◌}
 use Prim.Native.Nat.{ℕ}
 use lib.Dec.{eqb}
 use Rattle.darts.specs.Answers.{Answer as Answered}
-use Rattle.darts.specs.Choose.{if◌then◌else◌}
+use Rattle.std.proofs.Common.{if◌then◌else◌}
 use Rattle.darts.specs.Calls.{After, Counted as CountsAfter}
 use Rattle.darts.specs.Cases.{answer_of}
 use Rattle.sheets.specs.declared.Zone.{Zone}

@@ -12,7 +12,7 @@
 --   Begun D v f x o       == what a start on a base of v vertices and f faces hands back where x is the first place whose record is not fit, D where there is none
 --   operations_at k s      == how many operations there are at level k of a state; as many as now where k is not below the top
 use Rattle.std.specs.Prelude.{List, reverse, ◌≢◌, ◌≡◌, ℕ, ◌-◌, ◌/◌, ◌≤◌, ◌<◌, T, eqb, leb, get_or, length}
-use Rattle.darts.specs.Choose.{if◌then◌else◌}
+use Rattle.std.specs.Prelude.{if◌then◌else◌}
 use Rattle.darts.specs.Answers.{Answer, done, unfit_record}
 use Rattle.darts.specs.Operation.{contraction}
 use Rattle.darts.specs.State.{State, zeros, reduce}

@@ -15,7 +15,7 @@ use Prim.Native.Nat.{ℕ, ◌/◌, ◌≤◌, ◌<◌}
 use native.Mathlib.Omega.{arith}
 use lib.ListN.{length, length-reverse}
 use Rattle.permutations.specs.Choice.{not_T→false}
-use Rattle.darts.specs.Choose.{if◌then◌else◌}
+use Rattle.std.proofs.Common.{if◌then◌else◌}
 use Rattle.darts.specs.Answers.{Answer, done, no_dart_count, too_short, no_pyramid}
 use Rattle.darts.specs.State.{State, zeros}
 use Rattle.darts.specs.Pyramid.{dart_count, is_pyramid}

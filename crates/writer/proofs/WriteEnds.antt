@@ -12,7 +12,7 @@ use borrow.Author.Tests.{ne_eqb}
 use lib.Dec.{ltb}
 use lib.ListN.{length}
 use Rattle.darts.specs.Answers.{Answer, needs, wrote}
-use Rattle.darts.specs.Choose.{if◌then◌else◌}
+use Rattle.std.proofs.Common.{if◌then◌else◌}
 use Rattle.darts.specs.State.{State}
 use Rattle.darts.specs.File.{file_of}
 use Rattle.darts.specs.Calls.{Written as Left, write, table_of, past_of, cleared}

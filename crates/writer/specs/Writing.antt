@@ -3,7 +3,7 @@
 --   file_in s w    == the file of the pyramid of the state s whose darts are numbered in the work area w
 --   FileWritten s t past o o' r == r answers for the file of this pyramid, and o' is the output o with the file over it where that fits
 use Rattle.std.specs.Prelude.{List, ◌++◌, ◌≡◌, ℕ, ltb, length, take}
-use Rattle.darts.specs.Choose.{if◌then◌else◌}
+use Rattle.std.specs.Prelude.{if◌then◌else◌}
 use Rattle.darts.specs.State.{State}
 use Rattle.darts.specs.Pyramid.{cut}
 use Rattle.darts.specs.Text.{bytes}

@@ -7,7 +7,7 @@
 --   carried ms n m S       == the sheets where n operations were done, and then m are
 --   start_with, reduce_with, sweep_with, undo_with, unfold_with == the calls
 use Rattle.std.specs.Prelude.{not, ◌&&◌, List, reverse, ℕ, zero, suc, ◌-◌, ◌/◌, eqb, leb, length}
-use Rattle.darts.specs.Choose.{if◌then◌else◌}
+use Rattle.std.specs.Prelude.{if◌then◌else◌}
 use Rattle.darts.specs.Answers.{Answer, done, too_short, no_pyramid, unfit_record}
 use Rattle.darts.specs.Map.{Verdict, permutes, culprits, permutation_test}
 use Rattle.darts.specs.Operation.{Kind, undone}

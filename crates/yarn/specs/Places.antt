@@ -9,7 +9,7 @@
 --   merges_of R hs t    == what operation t of hs merges, from 0
 --   merges D b hs t    == the same on the base b
 use Rattle.std.specs.Prelude.{Bool, List, [], ◌∷◌, ℕ, zero, suc, ◌+◌, ◌*◌, min, max, eqb}
-use Rattle.darts.specs.Choose.{if◌then◌else◌}
+use Rattle.std.specs.Prelude.{if◌then◌else◌}
 use Rattle.darts.specs.Map.{same_vertex}
 use Rattle.darts.specs.Operation.{Kind, contraction, removal, kind_of, edge_of}
 use Rattle.sheets.specs.Sheets.{Merge, none, into}

@@ -9,7 +9,7 @@
 --   stitches_from D R Z S x == the stitches of all zones that went into the one at x
 --   measured_from D R Z S x == each zone that went into the one at x is measured
 use Rattle.std.specs.Prelude.{Bool, true, ◌&&◌, ℕ, zero, suc, ◌+◌, eqb}
-use Rattle.darts.specs.Choose.{if◌then◌else◌}
+use Rattle.std.specs.Prelude.{if◌then◌else◌}
 use Rattle.sheets.specs.Records.{measured, at}
 use Rattle.sheets.specs.Sheets.{Sheets}
 

@@ -12,7 +12,7 @@ use native.Mathlib.Omega.{arith}
 use lib.Dec.{T, eqb, leb, eqb→eq, nleb→lt, not_T}
 use lib.ListN.{length}
 use Rattle.permutations.specs.Choice.{T?, T→true, not_T→false, eqb_iff, or_intro, and_left}
-use Rattle.darts.specs.Choose.{if◌then◌else◌}
+use Rattle.std.proofs.Common.{if◌then◌else◌}
 use Rattle.darts.specs.Map.{successor, gone, survives, repeats, culprit, permutes, culprits, test_from, permutation_test}
 use Rattle.darts.specs.Pyramid.{dart_count}
 use Rattle.laws.specs.Standing.{Standing}

@@ -20,7 +20,7 @@ use native.Mathlib.Omega.{arith}
 use lib.Dec.{T}
 use lib.ListN.{length}
 use Rattle.permutations.specs.Choice.{T?, T→true, not_T→false, eqb_same, eqb_other}
-use Rattle.darts.specs.Choose.{if◌then◌else◌}
+use Rattle.std.proofs.Common.{if◌then◌else◌}
 use Rattle.darts.specs.Answers.{Answer, done, no_dart_count, too_short, no_pyramid}
 use Rattle.darts.specs.State.{State, Result, refuses}
 use Rattle.darts.specs.Pyramid.{Pyramid, dart_count, is_pyramid}

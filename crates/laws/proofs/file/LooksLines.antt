@@ -9,7 +9,7 @@ use native.Mathlib.Omega.{arith}
 use lib.Dec.{T, ltb, nltb→le, not_T, eqb, eqb→eq}
 use lib.ListN.{length, take, length-take}
 use Rattle.permutations.specs.Choice.{T?, T→true, not_T→false, T-ext, eqb_same, eqb_other, eqb_iff}
-use Rattle.darts.specs.Choose.{if◌then◌else◌}
+use Rattle.std.proofs.Common.{if◌then◌else◌}
 use Rattle.darts.specs.Answers.{empty_kernel, too_many_levels}
 use Rattle.darts.specs.Operation.{Kind, contraction, removal}
 use Rattle.darts.specs.Text.{bytes}

@@ -15,7 +15,7 @@ use Prim.Native.Nat.{ℕ, suc, ◌+◌, ◌-◌}
 use native.Mathlib.Omega.{arith}
 use lib.Dec.{T, eqb-suc-zero}
 use Rattle.permutations.specs.Choice.{T?, T→true, not_T→false}
-use Rattle.darts.specs.Choose.{if◌then◌else◌}
+use Rattle.std.proofs.Common.{if◌then◌else◌}
 use Rattle.darts.specs.Answers.{Answer, no_dart_count, too_short, no_pyramid}
 use Rattle.darts.specs.State.{State}
 use Rattle.darts.specs.Pyramid.{dart_count, is_pyramid}

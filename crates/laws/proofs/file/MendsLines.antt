@@ -9,7 +9,7 @@ use lib.Dec.{T, ltb, nltb→le, not_T, eqb}
 use lib.ListN.{length, take}
 use lib.Seq.{length-take-le}
 use Rattle.permutations.specs.Choice.{T?, T→true, not_T→false, eqb_same, eqb_other}
-use Rattle.darts.specs.Choose.{if◌then◌else◌}
+use Rattle.std.proofs.Common.{if◌then◌else◌}
 use Rattle.darts.specs.Answers.{answered, empty_kernel, too_many_levels}
 use Rattle.darts.specs.Operation.{Kind, contraction, removal}
 use Rattle.darts.specs.Text.{bytes}

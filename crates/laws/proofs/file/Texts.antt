@@ -14,7 +14,7 @@ use native.Mathlib.Omega.{arith}
 use lib.Dec.{T, ltb, ltb→lt, nltb→le, not_T}
 use lib.ListN.{length}
 use Rattle.permutations.specs.Choice.{T?, T→true, not_T→false, eqb_same, eqb_other}
-use Rattle.darts.specs.Choose.{if◌then◌else◌}
+use Rattle.std.proofs.Common.{if◌then◌else◌}
 use Rattle.darts.specs.Answers.{too_many_levels}
 use Rattle.darts.specs.Text.{bytes, decimal}
 use Rattle.darts.specs.File.{line_feed, pair_lines}

@@ -13,7 +13,7 @@ use native.Mathlib.Decide.{ℕ_discrete}
 use native.Mathlib.Omega.{arith}
 use lib.Dec.{T, leb}
 use Rattle.permutations.specs.Choice.{not_iff}
-use Rattle.darts.specs.Choose.{if◌then◌else◌}
+use Rattle.std.proofs.Common.{if◌then◌else◌}
 use Rattle.darts.specs.Map.{same_vertex, gone, survives}
 use Rattle.darts.specs.Operation.{contraction, whole_edge}
 use Rattle.darts.specs.Kernel.{judge, shared}

@@ -19,7 +19,7 @@ use lib.Dec.{T, eqb}
 use lib.ListN.{length, length-append}
 use Rattle.permutations.specs.Choice.{not_T→false, or_iff, eqb_iff, ⊎_iff}
 use Rattle.permutations.specs.Live.{any, has}
-use Rattle.darts.specs.Choose.{if◌then◌else◌}
+use Rattle.std.proofs.Common.{if◌then◌else◌}
 use Rattle.darts.specs.Map.{gone}
 use Rattle.darts.specs.Operation.{Kind, contraction, lead, operate, number, edge_of}
 use Rattle.darts.specs.Kernel.{judge, rising, Test}

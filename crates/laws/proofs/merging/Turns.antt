@@ -15,7 +15,7 @@ use Prim.Native.Nat.{ℕ, suc, ◌+◌, ◌*◌, ◌/◌, ◌<◌}
 use native.Mathlib.Omega.{arith}
 use lib.Dec.{eqb, leb, leb→le}
 use Rattle.permutations.specs.Choice.{not_T→false}
-use Rattle.darts.specs.Choose.{if◌then◌else◌}
+use Rattle.std.proofs.Common.{if◌then◌else◌}
 use Rattle.darts.specs.Map.{same_vertex, gone}
 use Rattle.darts.specs.Operation.{contraction, whole_edge, lead, operate, number}
 use Rattle.darts.specs.Kernel.{judge, shared, each, rising, Run, stands, Test, pass, run}

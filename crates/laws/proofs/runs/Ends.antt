@@ -12,7 +12,7 @@ use lib.Dec.{leb, leb→le}
 use lib.ListN.{length, take, drop, set, get_or, replicate, length-set, length-reverse, length-drop, length-append}
 use lib.Seq.{take-suc, take-suc-set, take-append-le, drop-append-le, take-length, get_or-set_other, set-set, set-get_or}
 use Rattle.permutations.specs.Choice.{not_T→false}
-use Rattle.darts.specs.Choose.{if◌then◌else◌}
+use Rattle.std.proofs.Common.{if◌then◌else◌}
 use Rattle.darts.specs.State.{State, base_state, raised}
 use Rattle.darts.specs.Levels.{end_below, lowered}
 use Rattle.darts.specs.Pyramid.{kernel_of, cut, kernels_of}

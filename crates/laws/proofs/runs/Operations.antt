@@ -15,7 +15,7 @@ use lib.Dec.{eqb}
 use lib.ListN.{length, drop, length-append, length-reverse, length-map}
 use lib.Seq.{drop_at}
 use Rattle.permutations.specs.Choice.{eqb_same, eqb_other}
-use Rattle.darts.specs.Choose.{if◌then◌else◌}
+use Rattle.std.proofs.Common.{if◌then◌else◌}
 use Rattle.darts.specs.Answers.{Answer, answered}
 use Rattle.darts.specs.Operation.{Kind, lead, operate, number, kind_of, edge_of}
 use Rattle.darts.specs.Kernel.{judge, Operation, each, Run, stands, stops, always, pass_from, pass, run}

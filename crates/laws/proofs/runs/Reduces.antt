@@ -11,7 +11,7 @@ use native.Mathlib.Omega.{arith}
 use lib.Dec.{leb, leb→le, nleb→lt}
 use lib.ListN.{length}
 use Rattle.permutations.specs.Choice.{eqb_same, eqb_other, not_T→false}
-use Rattle.darts.specs.Choose.{if◌then◌else◌}
+use Rattle.std.proofs.Common.{if◌then◌else◌}
 use Rattle.darts.specs.Answers.{too_many_levels}
 use Rattle.darts.specs.Operation.{Kind, undone}
 use Rattle.darts.specs.Kernel.{each, Run, stands, stops, run}

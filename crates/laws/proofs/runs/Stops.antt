@@ -9,7 +9,7 @@ use mathlib.Core.List.{List, [], ◌∷◌}
 use mathlib.Core.Path.{◌≡◌, refl}
 use Prim.Native.Nat.{ℕ, suc, ◌*◌, ◌+◌, ◌/◌, ◌≤◌}
 use lib.Dec.{eqb, leb, lit≤}
-use Rattle.darts.specs.Choose.{if◌then◌else◌}
+use Rattle.std.proofs.Common.{if◌then◌else◌}
 use Rattle.darts.specs.Answers.{Answer, answered}
 use Rattle.darts.specs.Map.{same_vertex, same_face, gone}
 use Rattle.darts.specs.Operation.{Kind, contraction, removal, lead, whole_edge, operate, number}

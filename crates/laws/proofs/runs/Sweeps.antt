@@ -11,7 +11,7 @@ use Prim.Native.Nat.{ℕ, zero, suc, ◌+◌, ◌/◌, ◌≤◌, ◌<◌}
 use native.Mathlib.Omega.{arith}
 use lib.Dec.{T, leb}
 use Rattle.permutations.specs.Choice.{T?, T→true, not_T→false}
-use Rattle.darts.specs.Choose.{if◌then◌else◌}
+use Rattle.std.proofs.Common.{if◌then◌else◌}
 use Rattle.darts.specs.Answers.{too_many_levels}
 use Rattle.darts.specs.Operation.{removal, lead, operate, number}
 use Rattle.darts.specs.Kernel.{each, rising, Run, stands, always, pass_from, pass, run}

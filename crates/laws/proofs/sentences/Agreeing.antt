@@ -16,7 +16,7 @@ use native.Mathlib.Omega.{arith}
 use lib.ListN.{length, take, drop, length-take, length-append}
 use lib.Seq.{take-nil, take-append-le, take-append-add}
 use Rattle.permutations.specs.Choice.{T-ext}
-use Rattle.darts.specs.Choose.{if◌then◌else◌}
+use Rattle.std.proofs.Common.{if◌then◌else◌}
 use Rattle.darts.specs.State.{State}
 use Rattle.darts.specs.Calls.{room, fitting, table_of, past_of, judged}
 use Rattle.slices.specs.Over.{over}

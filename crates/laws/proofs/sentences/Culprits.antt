@@ -17,7 +17,7 @@ use native.Mathlib.Omega.{arith}
 use lib.Dec.{T, eqb, leb, leb→le, le→leb, eqb→eq}
 use lib.ListN.{get_or}
 use Rattle.permutations.specs.Choice.{T?, T→true, not_T→false, or_iff}
-use Rattle.darts.specs.Choose.{if◌then◌else◌}
+use Rattle.std.proofs.Common.{if◌then◌else◌}
 use Rattle.darts.specs.Map.{successor, gone, survives, before_in, repeats, culprit}
 use Rattle.laws.proofs.bridge.StandsBy.{repeats_some}
 use Rattle.laws.proofs.bridge.Bases.{repeated}

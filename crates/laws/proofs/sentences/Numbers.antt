@@ -20,7 +20,7 @@ use native.Mathlib.Omega.{arith}
 use lib.IntN.{pos, ◌+ℤ◌, ◌-ℤ◌}
 use lib.ListN.{length}
 use Rattle.permutations.specs.Choice.{pick, eqb_other}
-use Rattle.darts.specs.Choose.{if◌then◌else◌}
+use Rattle.std.proofs.Common.{if◌then◌else◌}
 use Rattle.darts.specs.Answers.{Answer, done, no_pyramid}
 use Rattle.darts.specs.Map.{survives}
 use Rattle.darts.specs.Operation.{Kind, removal}

@@ -12,7 +12,7 @@ use native.Mathlib.Decide.{ℕ_discrete}
 use lib.Dec.{eqb}
 use lib.ListN.{length, take}
 use Rattle.permutations.specs.Choice.{eqb_same, eqb_other}
-use Rattle.darts.specs.Choose.{if◌then◌else◌}
+use Rattle.std.proofs.Common.{if◌then◌else◌}
 use Rattle.darts.specs.Answers.{Answer, done, no_dart_count, too_short, no_permutation, no_pyramid}
 use Rattle.darts.specs.Map.{Verdict, permutes, culprits, permutation_test}
 use Rattle.darts.specs.State.{State, zeros, base_state, Result, gives, refuses}

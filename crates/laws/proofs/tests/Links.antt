@@ -13,7 +13,7 @@ use native.Mathlib.Omega.{arith}
 use lib.Dec.{T, eqb, ltb, ltb→lt, lt→ltb}
 use lib.ListN.{length}
 use Rattle.permutations.specs.Choice.{T?, T→true, not_T→false, eqb_iff, and_iff, or_iff, not_iff}
-use Rattle.darts.specs.Choose.{if◌then◌else◌}
+use Rattle.std.proofs.Common.{if◌then◌else◌}
 use Rattle.darts.specs.Map.{successor, gone, survives, culprits, passed}
 use Rattle.laws.specs.Standing.{Standing}
 use Rattle.laws.proofs.bridge.Standing.{live, live_iff, entry_live, entry_one}

@@ -13,7 +13,7 @@ use lib.ListN.{length, replicate}
 use Rattle.permutations.specs.Partner.{partner}
 use Rattle.permutations.specs.Map.{mate, face}
 use Rattle.permutations.specs.Labels.{merge}
-use Rattle.darts.specs.Choose.{if◌then◌else◌}
+use Rattle.std.proofs.Common.{if◌then◌else◌}
 use Rattle.darts.specs.Map.{successor, gone, survives, before_in, before, repeats, culprit, test_from, permutation_test, passed}
 use Rattle.darts.specs.Operation.{Kind, contraction, removal, kind_of, lead_of, put_back, undo_one, undone}
 use Rattle.darts.specs.State.{State}

@@ -1,5 +1,5 @@
--- `levels::levels`: every lent slice keeps its length, and what waits stays within the page. The measure is what is left of the levels.
-use Rattle.std.proofs.Common.{◌+◌, ◌-◌, ◌≤◌}
+-- `levels::levels`: what waits stays within the page. The measure is what is left of the levels.
+use Prim.Native.Nat.{◌+◌, ◌-◌, ◌≤◌}
 use Rattle.page.specs.Waits.{Waits}
 use Rattle.levels.proofs.levels.Given as goal
 

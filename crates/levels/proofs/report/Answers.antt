@@ -5,13 +5,17 @@ use Rattle.levels.proofs.report.Goals as goal
 
 pub refusal-requires : goal.refusal-requires
 refusal-requires g c =
-    (refused_read _ c.requires.0 c.read-read.result c.read-read.ensures (λ z. c.if-number-ne0.true (c.number.ensures ∙ z)), c.requires.1)
+    let r = c.read-read in
+    let given = c.requires in
+    (refused_read _ given.0 r.result r.ensures (λ z. c.if-number-ne0.true (c.number.ensures ∙ z)), given.1)
 
 pub levels-requires : goal.levels-requires
 levels-requires g c =
-    let T = c.requires.0 in
-    let kept = c.read-read.auto in (
-      accepted_read _ T c.read-read.result c.read-read.ensures (sym c.number.ensures ∙ c.if-number-ne0.false),
+    let r = c.read-read in
+    let given = c.requires in
+    let T = given.0 in
+    let kept = r.auto in (
+      accepted_read _ T r.result r.ensures (sym c.number.ensures ∙ c.if-number-ne0.false),
       record { table = kept.table ∙ T.table; history = kept.history ∙ T.history; work = kept.work ∙ T.work },
-      c.requires.1,
+      given.1,
     )

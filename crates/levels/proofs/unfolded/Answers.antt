@@ -5,4 +5,6 @@ use Rattle.levels.proofs.unfolded.Goals as goal
 
 pub returns : goal.returns
 unfolding level_at
-returns c = c.«unfold».ensures ∙ ap (unfolded c.args.k) c.read-read.ensures
+returns c =
+    c.unfold.ensures ∙ ap (unfolded c.args.k)
+    c.read-read.ensures

@@ -5,7 +5,7 @@ use mathlib.Core.List.{List, [], ◌∷◌, map, cons≢nil}
 use mathlib.Core.Path.{◌≡◌, refl}
 use Prim.Native.Nat.{ℕ}
 use lib.Dec.{eqb}
-use Rattle.darts.specs.Choose.{if◌then◌else◌}
+use Rattle.std.proofs.Common.{if◌then◌else◌}
 use Rattle.darts.specs.Operation.{Kind, removal, kind_of}
 use Rattle.darts.specs.Kernel.{each}
 use Rattle.darts.specs.State.{State, Result, gives, refuses, reduce}
