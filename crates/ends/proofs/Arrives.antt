@@ -14,7 +14,8 @@ use native.Mathlib.Omega.{arith}
 use lib.Dec.{T, ltb, ltb→lt, lt→ltb, not_T}
 use lib.ListN.{length}
 use Rattle.permutations.specs.Choice.{pick, T?, T→true, not_T→false, and_left, and_right, and_intro}
-use Rattle.permutations.specs.Partner.{partner, partner_edge, partner_partner, partner_below}
+use Rattle.permutations.specs.Partner.{partner}
+use Rattle.permutations.proofs.PartnerLemmas.{partner_edge, partner_partner, partner_below}
 use Rattle.permutations.specs.Perm.{Perm, below}
 use Rattle.permutations.specs.Cycle.{meets_back, soon}
 use Rattle.darts.specs.Map.{successor, permutes, permutation_test, passed}

@@ -14,8 +14,10 @@ use lib.Dec.{T, eqb, eqb→eq}
 use Rattle.permutations.specs.Choice.{eqb_same, or_cases}
 use Rattle.permutations.specs.Partner.{partner, End}
 use Rattle.permutations.specs.Perm.{Perm, without, without_perm}
-use Rattle.permutations.specs.Splice.{skip, swap, swap_other, swap_inj, crossed, crossed_perm, splice, skip_after}
-use Rattle.permutations.specs.Map.{Map, Good, off_edge_other, off_edge_not_end, off_edge_was, partner_small}
+use Rattle.permutations.specs.Splice.{skip, swap, swap_other, swap_inj, crossed, splice, skip_after}
+use Rattle.permutations.proofs.SpliceLemmas.{crossed_perm}
+use Rattle.permutations.specs.Map.{Map, Good, off_edge_other, partner_small}
+use Rattle.permutations.proofs.MapLemmas.{off_edge_not_end, off_edge_was}
 use Rattle.permutations.proofs.Legal.{Op, Contract, Remove, dart, act, run, AllLegal, good_act}
 use Rattle.ends.proofs.Ways.{Way, Reaches, there, leave_out}
 

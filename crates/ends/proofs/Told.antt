@@ -16,10 +16,12 @@ use native.Mathlib.Omega.{arith}
 use lib.Dec.{T, eqb, leb, leb→le, le→leb}
 use lib.ListN.{length}
 use Rattle.permutations.specs.Choice.{pick, T?, T→true, not_T→false, T-ext, eqb_same, eqb_other, and_left, and_right, and_intro}
-use Rattle.permutations.specs.Partner.{partner, partner_first, partner_second, partner_edge, End}
+use Rattle.permutations.specs.Partner.{partner, End}
+use Rattle.permutations.proofs.PartnerLemmas.{partner_first, partner_second, partner_edge}
 use Rattle.permutations.specs.Splice.{swap, swap_left, swap_right, swap_other}
 use Rattle.permutations.specs.Live.{any, has}
-use Rattle.permutations.specs.Map.{Map, Good, off_edge_not_end}
+use Rattle.permutations.specs.Map.{Map, Good}
+use Rattle.permutations.proofs.MapLemmas.{off_edge_not_end}
 use Rattle.permutations.proofs.Legal.{Op, dart, act, AllLegal, good_act}
 use Rattle.darts.specs.Choose.{if◌then◌else◌}
 use Rattle.darts.specs.Operation.{Kind, contraction, removal, number, kind_of}

@@ -14,7 +14,8 @@ use lib.Dec.{T, eqb, ltb, T_not, not_T, nltb→le}
 use lib.ListN.{length, get_or, take, drop, take-append-drop}
 use lib.Seq.{length-take-le}
 use Rattle.permutations.specs.Choice.{T?, T-ext}
-use Rattle.permutations.specs.Partner.{partner, partner_below}
+use Rattle.permutations.specs.Partner.{partner}
+use Rattle.permutations.proofs.PartnerLemmas.{partner_below}
 use Rattle.permutations.specs.Perm.{Perm, below}
 use Rattle.permutations.specs.Live.{any, has}
 use Rattle.permutations.specs.Map.{Map}

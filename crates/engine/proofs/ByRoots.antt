@@ -11,14 +11,17 @@ use Prim.Native.Nat.{ℕ, ◌+◌, ◌-◌, ◌*◌, ◌/◌, ◌≤◌, ◌<◌
 use native.Mathlib.Omega.{arith}
 use lib.Dec.{T, eqb, leb, ltb, lt→ltb, nleb→lt}
 use Rattle.permutations.specs.Choice.{T→true, T-ext, eqb_iff}
-use Rattle.permutations.specs.Partner.{partner, partner_first, partner_partner, End}
+use Rattle.permutations.specs.Partner.{partner, End}
+use Rattle.permutations.proofs.PartnerLemmas.{partner_first, partner_partner}
 use Rattle.permutations.specs.Perm.{Perm}
 use Rattle.permutations.specs.Splice.{splice}
 use Rattle.permutations.specs.Cycle.{Meets}
-use Rattle.permutations.specs.Map.{Map, Good, off_edge, off_edge_not_end, off_edge_was, partner_live, partner_small}
+use Rattle.permutations.specs.Map.{Map, Good, off_edge, partner_live, partner_small}
+use Rattle.permutations.proofs.MapLemmas.{off_edge_not_end, off_edge_was}
 use Rattle.permutations.proofs.Dual.{face_perm, face_remove}
 use Rattle.permutations.proofs.Legal.{act}
-use Rattle.permutations.specs.Labels.{Labels, Either, Merges, Kept, labels_splice}
+use Rattle.permutations.specs.Labels.{Labels, Either, Merges, Kept}
+use Rattle.permutations.proofs.LabelsLemmas.{labels_splice}
 use Rattle.darts.specs.Choose.{if◌then◌else◌}
 use Rattle.darts.specs.Map.{gone, survives, live}
 use Rattle.darts.specs.Operation.{Kind, contraction, removal, kind_of, whole_edge}

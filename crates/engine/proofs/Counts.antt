@@ -17,7 +17,8 @@ use lib.Dec.{T, eqb}
 use lib.ListN.{get_or}
 use Rattle.permutations.specs.Choice.{T-ext, eqb_iff, and_iff}
 use Rattle.permutations.specs.Cycle.{Meets}
-use Rattle.permutations.specs.Partner.{partner, partner_below}
+use Rattle.permutations.specs.Partner.{partner}
+use Rattle.permutations.proofs.PartnerLemmas.{partner_below}
 use Rattle.permutations.specs.Map.{next_live}
 use Rattle.darts.specs.Map.{face_next, survives, live}
 use Rattle.darts.specs.Operation.{kind_of}

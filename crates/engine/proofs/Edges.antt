@@ -14,7 +14,8 @@ use native.Mathlib.Decide.{ℕ_discrete}
 use native.Mathlib.Omega.{arith}
 use lib.Dec.{T, eqb, ltb, ltb→lt, lt→ltb}
 use Rattle.permutations.specs.Choice.{eqb_iff, not_iff, and_iff}
-use Rattle.permutations.specs.Partner.{partner_cases, partner_edge, End}
+use Rattle.permutations.specs.Partner.{End}
+use Rattle.permutations.proofs.PartnerLemmas.{partner_cases, partner_edge}
 use Rattle.darts.specs.Map.{gone, survives, live}
 use Rattle.darts.specs.Operation.{lead_of}
 use Rattle.darts.specs.Tests.{numbered}

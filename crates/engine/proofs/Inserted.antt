@@ -8,7 +8,8 @@ use mathlib.Core.Logic.{◌≢◌, inl, inr, ⊎_elim}
 use Prim.Native.Nat.{ℕ, ◌*◌, ◌≤◌, ◌<◌}
 use lib.Dec.{T}
 use lib.ListN.{length, set}
-use Rattle.permutations.specs.Partner.{partner, partner_ne, End}
+use Rattle.permutations.specs.Partner.{partner, End}
+use Rattle.permutations.proofs.PartnerLemmas.{partner_ne}
 use Rattle.darts.specs.Map.{successor, live}
 use Rattle.area.specs.Area.{table_in, bound}
 use Rattle.operations.specs.Back.{inserted}

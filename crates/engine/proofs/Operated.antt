@@ -11,7 +11,8 @@ use native.Mathlib.Numerals.{add-one}
 use native.Mathlib.Omega.{arith}
 use lib.Dec.{T, eqb}
 use lib.ListN.{length, set, drop}
-use Rattle.permutations.specs.Partner.{partner, partner_ne, partner_below, End, end?}
+use Rattle.permutations.specs.Partner.{partner, End, end?}
+use Rattle.permutations.proofs.PartnerLemmas.{partner_ne, partner_below}
 use Rattle.darts.specs.Choose.{if◌then◌else◌}
 use Rattle.darts.specs.Map.{successor, live}
 use Rattle.darts.specs.Operation.{Kind, lead, operate, number, kind_of}

@@ -18,7 +18,8 @@ use native.Mathlib.Omega.{arith}
 use lib.ListN.{length, set, take, drop, length-set, length-drop, length-reverse}
 use lib.Seq.{get_or-set_same, get_or-set_other, take-set-le, take-set-lt, drop-set-lt, drop-drop, get_or-take, get_or-drop, take-suc, drop-set-add}
 use Rattle.darts.specs.Map.{successor}
-use Rattle.permutations.specs.Partner.{partner, partner_ne, End}
+use Rattle.permutations.specs.Partner.{partner, End}
+use Rattle.permutations.proofs.PartnerLemmas.{partner_ne}
 use Rattle.slices.specs.Part.{part}
 use Rattle.slices.proofs.Part.{part_length}
 use Rattle.area.specs.Area.{prev, stamp, table_in, past_in, forest_in, bound}

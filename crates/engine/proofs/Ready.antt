@@ -14,7 +14,8 @@ use native.Mathlib.Omega.{arith}
 use lib.Dec.{T}
 use lib.ListN.{drop}
 use lib.Seq.{drop-drop}
-use Rattle.permutations.specs.Partner.{partner, partner_first}
+use Rattle.permutations.specs.Partner.{partner}
+use Rattle.permutations.proofs.PartnerLemmas.{partner_first}
 use Rattle.permutations.specs.Map.{partner_live}
 use Rattle.permutations.specs.Labels.{Merges}
 use Rattle.darts.specs.Map.{successor, live}

@@ -13,7 +13,8 @@ use lib.Dec.{T, eqb, T_not}
 use lib.ListN.{length, set, drop}
 use lib.Seq.{set-get_or, get_or-set_other}
 use Rattle.permutations.specs.Choice.{not_T→false, eqb_same, eqb_other, and_left, and_right, eqb_iff}
-use Rattle.permutations.specs.Partner.{partner, partner_below, partner_ne, End}
+use Rattle.permutations.specs.Partner.{partner, End}
+use Rattle.permutations.proofs.PartnerLemmas.{partner_below, partner_ne}
 use Rattle.darts.specs.Map.{successor, gone, live}
 use Rattle.darts.specs.Operation.{Kind, kind_of, lead_of, undo_one}
 use Rattle.darts.specs.Tests.{numbered, near, far, fits as fits_of}

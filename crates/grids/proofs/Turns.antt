@@ -14,7 +14,8 @@ use Prim.Native.Nat.{ℕ, ◌+◌, ◌*◌, ◌<◌}
 use native.Mathlib.Omega.{arith}
 use lib.Dec.{T, leb, ltb, ltb→lt, lt→ltb, le→leb}
 use Rattle.permutations.specs.Choice.{T→true, not_T→false, or_intro, or_cases}
-use Rattle.permutations.specs.Partner.{partner, partner_first, partner_second, partner_below}
+use Rattle.permutations.specs.Partner.{partner}
+use Rattle.permutations.proofs.PartnerLemmas.{partner_first, partner_second, partner_below}
 use Rattle.permutations.specs.Map.{Map, face}
 use Rattle.darts.specs.Choose.{if◌then◌else◌}
 use Rattle.darts.specs.Map.{face_next}

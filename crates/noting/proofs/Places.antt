@@ -20,7 +20,8 @@ use native.Mathlib.Omega.{arith}
 use lib.Dec.{T, eqb}
 use lib.ListN.{length, get_or}
 use Rattle.permutations.specs.Choice.{pick, eqb_same, eqb_other, and_left, and_right}
-use Rattle.permutations.specs.Partner.{partner, partner_cases}
+use Rattle.permutations.specs.Partner.{partner}
+use Rattle.permutations.proofs.PartnerLemmas.{partner_cases}
 use Rattle.darts.specs.Choose.{if◌then◌else◌}
 use Rattle.darts.specs.Operation.{Kind, contraction, removal, kind_of, edge_of}
 use Rattle.forest.specs.Forest.{linked}

@@ -16,7 +16,8 @@ use native.Mathlib.Omega.{arith}
 use lib.Dec.{eqb}
 use lib.ListN.{length, get_or-eq_default}
 use Rattle.permutations.specs.Choice.{eqb_same, eqb_other}
-use Rattle.permutations.specs.Partner.{partner, partner_cases}
+use Rattle.permutations.specs.Partner.{partner}
+use Rattle.permutations.proofs.PartnerLemmas.{partner_cases}
 use Rattle.darts.specs.Operation.{removal, edge_of}
 use Rattle.forest.specs.Forest.{Falls, parent, root}
 use Rattle.forest.specs.Roots.{root_up, root_down}

@@ -20,7 +20,8 @@ use native.Mathlib.Omega.{arith}
 use lib.Dec.{ltb}
 use lib.ListN.{length, get_or, set, take, drop, length-set}
 use lib.Seq.{get_or-take, get_or-drop, ext_get_or, get_or-set_other, take-set-le, drop-set-lt}
-use Rattle.permutations.specs.Partner.{partner, partner_below}
+use Rattle.permutations.specs.Partner.{partner}
+use Rattle.permutations.proofs.PartnerLemmas.{partner_below}
 use Rattle.darts.specs.Map.{successor}
 use Rattle.slices.proofs.Part.{part_length, part_at}
 use Rattle.area.specs.Area.{Room, prev, there, forest_in, around}

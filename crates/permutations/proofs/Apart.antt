@@ -6,9 +6,11 @@ use mathlib.Core.Path.{ap, sym, ◌≡◌, ◌∙◌, fun_ext, refl}
 use Prim.Native.Nat.{ℕ, ◌<◌}
 use native.Mathlib.Decide.{ℕ_discrete}
 use Rattle.permutations.specs.Perm.{Perm, without, without_self, without_keep, without_over, inj, without_perm}
-use Rattle.permutations.specs.Splice.{skip, crossed, skip_after, swap, swap_inj, swap_other, swap_left, swap_right, splice, crossed_perm}
+use Rattle.permutations.specs.Splice.{skip, crossed, skip_after, swap, swap_inj, swap_other, swap_left, swap_right, splice}
+use Rattle.permutations.proofs.SpliceLemmas.{crossed_perm}
 use Rattle.permutations.specs.Cycle.{Meets, meets_trans, meets_sym}
-use Rattle.permutations.specs.Joined.{splice_meets, On, skip_meets}
+use Rattle.permutations.specs.Joined.{On, skip_meets}
+use Rattle.permutations.proofs.JoinedLemmas.{splice_meets}
 
 pub record Apart (p q u v : ℕ) : Type 0 where
   pub pu : p ≢ u

@@ -9,9 +9,11 @@ use Prim.Native.Nat.{ℕ, ◌<◌, suc}
 use lib.Dec.{T}
 use Rattle.permutations.specs.Choice.{T-ext}
 use Rattle.permutations.specs.Perm.{Perm}
-use Rattle.permutations.specs.Splice.{skip, skip_perm, splice, splice_perm}
+use Rattle.permutations.specs.Splice.{skip, skip_perm, splice}
+use Rattle.permutations.proofs.SpliceLemmas.{splice_perm}
 use Rattle.permutations.specs.Cycle.{meets_in, meets_iff, meets_refl, meets_sym, meets_trans, Meets}
-use Rattle.permutations.specs.Joined.{Joined, skip_meets, On, splice_meets}
+use Rattle.permutations.specs.Joined.{Joined, skip_meets, On}
+use Rattle.permutations.proofs.JoinedLemmas.{splice_meets}
 use Rattle.permutations.specs.Live.{darts, off, off_ne, off_was, has, darts_has, has_darts, darts_out, off_other, any_has, has_tail, has_head}
 use Rattle.permutations.proofs.Classes.{classes, Equiv, joins, joins_iff, classes_drop, classes_ext, classes_perm, classes_join}
 

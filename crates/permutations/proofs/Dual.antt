@@ -5,10 +5,12 @@ use mathlib.Core.Path.{ap, ◌≡◌, ◌∙◌, refl, fun_ext, sym, subst}
 use Prim.Native.Nat.{ℕ}
 use native.Mathlib.Omega.{arith}
 use lib.Dec.{T}
-use Rattle.permutations.specs.Partner.{partner, partner_partner, end?, End}
+use Rattle.permutations.specs.Partner.{partner, end?, End}
+use Rattle.permutations.proofs.PartnerLemmas.{partner_partner}
 use Rattle.permutations.specs.Perm.{Perm}
 use Rattle.permutations.specs.Splice.{swap, swap_left, swap_right, swap_other, splice, crossed, skip, skip_after}
-use Rattle.permutations.specs.Map.{Map, face, Good, mate, mate_live, partner_live, mate_gone, mate_mate, map_path, off_edge, mate_off_end, mate_off_other, pairs_off, remove, contract, good_remove}
+use Rattle.permutations.specs.Map.{Map, face, Good, mate, mate_live, partner_live, mate_gone, map_path, off_edge, mate_off_other, remove, contract}
+use Rattle.permutations.proofs.MapLemmas.{mate_mate, mate_off_end, pairs_off, good_remove}
 
 abbrev pub dual : Map → Map
 dual m = record { live = m.live; next = face m }

@@ -15,14 +15,16 @@ use native.Mathlib.Decide.{ℕ_discrete}
 use native.Mathlib.Omega.{arith}
 use lib.Dec.{T}
 use lib.ListN.{length}
-use Rattle.permutations.specs.Partner.{partner, End, partner_ne}
+use Rattle.permutations.specs.Partner.{partner, End}
+use Rattle.permutations.proofs.PartnerLemmas.{partner_ne}
 use Rattle.permutations.specs.Cycle.{Meets, meets_next, meets_sym, meets_trans}
 use Rattle.permutations.specs.Joined.{On}
 use Rattle.permutations.specs.Live.{darts, off, darts_out, off_other}
 use Rattle.permutations.proofs.Cycles.{cycles, splice_cycles, skip_cycles}
 use Rattle.permutations.specs.Map.{Map, face, off_edge, Good, off_edge_other, next_live, partner_live, contract, remove, partner_small}
 use Rattle.permutations.proofs.Dual.{face_at, face_partner, good_dual, dual_dual, face_contract, face_perm, remove_by_dual, face_remove}
-use Rattle.permutations.proofs.Legal.{dart, Contractible, Contract, act, Removable, dual_contractible, Op, Remove, run, Legal, AllLegal, good_act}
+use Rattle.permutations.proofs.Legal.{dart, Contractible, Contract, act, Removable, Op, Remove, run, Legal, AllLegal, good_act}
+use Rattle.permutations.proofs.LegalLemmas.{dual_contractible}
 
 unfoldable pub vertices : ℕ → Map → ℕ
 vertices D m = cycles D m.live m.next

@@ -19,7 +19,8 @@ use native.Mathlib.Omega.{arith}
 use lib.Dec.{ltb, T, eqb, eqb→eq, nltb→le, not_T, ltb→lt, lt→ltb, T_not}
 use lib.ListN.{get_or, length, get_or-eq_default}
 use Rattle.permutations.specs.Choice.{and_right, and_left, T-ext, pick, eqb_iff}
-use Rattle.permutations.specs.Partner.{partner, partner_partner, partner_below}
+use Rattle.permutations.specs.Partner.{partner}
+use Rattle.permutations.proofs.PartnerLemmas.{partner_partner, partner_below}
 use Rattle.permutations.specs.Perm.{Perm, without}
 use Rattle.permutations.specs.Splice.{splice, skip, crossed, swap}
 use Rattle.permutations.specs.Cycle.{meets_in, meets_iff}

@@ -12,16 +12,17 @@
 --   run m l          == the map after the operations of l, one after another
 --   AllLegal m l     == each of them is legal at its turn
 use mathlib.Core.List.{List, [], ◌∷◌}
-use mathlib.Core.Logic.{◌⊎◌, ⊎_elim, inr, inl}
-use mathlib.Core.Path.{◌≡◌, sym, ◌∙◌}
+use mathlib.Core.Logic.{◌⊎◌}
+use mathlib.Core.Path.{◌≡◌}
 use Prim.Native.Nat.{ℕ}
 use lib.Dec.{T}
 use Rattle.permutations.specs.Partner.{partner}
 use Rattle.permutations.specs.Perm.{Perm}
 use Rattle.permutations.specs.Splice.{splice, skip}
 use Rattle.permutations.specs.Cycle.{Meets}
-use Rattle.permutations.specs.Map.{Map, face, off_edge, Good, good_remove}
-use Rattle.permutations.proofs.Dual.{good_contract, face_perm, dual, face_at, face_partner}
+use Rattle.permutations.specs.Map.{Map, face, off_edge, Good}
+use Rattle.permutations.proofs.MapLemmas.{good_remove}
+use Rattle.permutations.proofs.Dual.{good_contract, face_perm}
 
 -- "the edge is a whole piece: r = p and s = q, or r = q and s = p"
 abbrev pub Whole : Map → ℕ → Type 0
@@ -86,16 +87,3 @@ pub good_run : {D : ℕ} {m : Map} → Good D m → (l : List Op) → AllLegal m
 unfolding run
 good_run G [] h = G
 good_run {m = m} G (a ∷ l) h = good_run {m = act m a} (good_act G a h.0) l h.1
-
--- ---- an edge that may be removed may be contracted in the dual
-
-module _ {D : ℕ} {m : Map} (G : Good D m) (p : ℕ) where
-  -- the dual has the same edges for whole pieces
-  pub whole_dual : T (m.live p) → Whole (dual m) p → Whole m p
-  whole_dual t =
-      let a = sym (face_at G p t) in
-      let b = sym (face_partner G p t) in
-      ⊎_elim (λ h. inr (b ∙ h.1, a ∙ h.0)) (λ h. inl (b ∙ h.1, a ∙ h.0))
-
-  pub dual_contractible : Removable m p → Contractible (dual m) p
-  dual_contractible r = record { lives = r.lives; two = r.two; more = λ w. r.more (whole_dual r.lives w) }

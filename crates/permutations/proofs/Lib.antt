@@ -10,3 +10,9 @@ pub mod Euler
 pub mod Replay
 pub mod Examples
 pub mod CyclesCounted
+pub mod PartnerLemmas
+pub mod SpliceLemmas
+pub mod JoinedLemmas
+pub mod LabelsLemmas
+pub mod MapLemmas
+pub mod LegalLemmas

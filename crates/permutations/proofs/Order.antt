@@ -8,12 +8,14 @@ use mathlib.Core.Logic.{inl, inr}
 use mathlib.Core.Path.{◌≡◌, ap, ◌∙◌, sym, refl, subst, subst₂}
 use Prim.Native.Nat.{ℕ}
 use lib.Dec.{T}
-use Rattle.permutations.specs.Partner.{partner, End, partner_end, end?, end_sym}
+use Rattle.permutations.specs.Partner.{partner, End, end?}
+use Rattle.permutations.proofs.PartnerLemmas.{partner_end, end_sym}
 use Rattle.permutations.specs.Splice.{splice, skip}
 use Rattle.permutations.specs.Cycle.{Meets}
 use Rattle.permutations.proofs.Apart.{Apart, splice_splice, splice_skip, apart_sym, skip_skip, splice_two, skip_two}
 use Rattle.permutations.specs.Live.{off, off_comm}
-use Rattle.permutations.specs.Map.{off_edge, Map, Good, partner_small, off_edge_not_end, off_edge_was, off_edge_other, map_path}
+use Rattle.permutations.specs.Map.{off_edge, Map, Good, partner_small, off_edge_other, map_path}
+use Rattle.permutations.proofs.MapLemmas.{off_edge_not_end, off_edge_was}
 use Rattle.permutations.proofs.Dual.{face_contract, face_remove}
 use Rattle.permutations.proofs.Legal.{Op, dart, act, Contract, Remove, around, Legal, around_perm, Whole, good_act, AllLegal, run}
 use Rattle.permutations.proofs.Pieces.{Linked, linked_live, act_pieces, only_whole, whole_only, linked_trans, end_linked}

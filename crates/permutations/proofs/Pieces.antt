@@ -4,14 +4,18 @@ use mathlib.Core.Logic.{⊎_elim, inr, inl, ◌↔◌}
 use mathlib.Core.Path.{ap, ◌≡◌, subst, sym, refl, ◌∙◌}
 use Prim.Native.Nat.{ℕ}
 use lib.Dec.{T}
-use Rattle.permutations.specs.Partner.{partner, partner_partner, End, end?, partner_ne}
+use Rattle.permutations.specs.Partner.{partner, End, end?}
+use Rattle.permutations.proofs.PartnerLemmas.{partner_partner, partner_ne}
 use Rattle.permutations.specs.Perm.{inj}
 use Rattle.permutations.specs.Splice.{swap, swap_left, swap_right, swap_other, crossed, splice, skip}
 use Rattle.permutations.specs.Cycle.{Meets, meets_ind, meets_back, meets_next}
-use Rattle.permutations.specs.Joined.{without_meets, Joined, splice_meets, On}
-use Rattle.permutations.specs.Map.{Map, mate, Good, mate_mate, mate_live, partner_live, next_live, face, off_edge, mate_off_end, mate_off_other, contract, partner_small, remove}
+use Rattle.permutations.specs.Joined.{without_meets, Joined, On}
+use Rattle.permutations.proofs.JoinedLemmas.{splice_meets}
+use Rattle.permutations.specs.Map.{Map, mate, Good, mate_live, partner_live, next_live, face, off_edge, mate_off_other, contract, partner_small, remove}
+use Rattle.permutations.proofs.MapLemmas.{mate_mate, mate_off_end}
 use Rattle.permutations.proofs.Dual.{dual, good_dual, dual_dual, remove_by_dual, good_contract}
-use Rattle.permutations.proofs.Legal.{act, Contractible, Contract, Removable, dual_contractible, Whole, Op, Legal, dart, Remove}
+use Rattle.permutations.proofs.Legal.{act, Contractible, Contract, Removable, Whole, Op, Legal, dart, Remove}
+use Rattle.permutations.proofs.LegalLemmas.{dual_contractible}
 
 -- "Two darts are in one piece when partner and successor steps join them."
 pub data Linked (m : Map) : ℕ → ℕ → Type 0 where

@@ -9,11 +9,14 @@ use Prim.Native.Nat.{ℕ}
 use lib.Dec.{T, eqb}
 use Rattle.permutations.specs.Choice.{eqb_iff, and_iff}
 use Rattle.permutations.specs.Partner.{partner}
-use Rattle.permutations.specs.Map.{Map, face, Good, contract, partner_small, off_edge, partner_live, off_edge_not_end, off_edge_was, remove, good_remove}
+use Rattle.permutations.specs.Map.{Map, face, Good, contract, partner_small, off_edge, partner_live, remove}
+use Rattle.permutations.proofs.MapLemmas.{off_edge_not_end, off_edge_was, good_remove}
 use Rattle.permutations.proofs.Dual.{dual, dual_dual, face_contract, remove_by_dual, good_contract, good_dual}
-use Rattle.permutations.proofs.Legal.{Contractible, Contract, Removable, dual_contractible, Whole, Separate, Op, Remove, AllLegal}
+use Rattle.permutations.proofs.Legal.{Contractible, Contract, Removable, Whole, Separate, Op, Remove, AllLegal}
+use Rattle.permutations.proofs.LegalLemmas.{dual_contractible}
 use Rattle.permutations.proofs.Tests.{separate_test, separate_iff}
-use Rattle.permutations.specs.Labels.{Labels, Merges, labels_splice, labels_skip, Kept, merge, merge_merges}
+use Rattle.permutations.specs.Labels.{Labels, Merges, labels_skip, Kept, merge, merge_merges}
+use Rattle.permutations.proofs.LabelsLemmas.{labels_splice}
 
 pub record Labelled (m : Map) (L F : ℕ → ℕ) : Type 0 where
   pub vertex : Labels m.live m.next L

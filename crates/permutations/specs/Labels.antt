@@ -4,14 +4,13 @@
 --   Merges L M p q    == M gives one label where L does, and where both labels are p's or q's
 --   Kept live new p q == what is live now was live before, and is neither p nor q
 --   merge L p q       == L, with p's label for q's
-use Rattle.std.specs.Prelude.{Bool, ◌↔◌, ◌⊎◌, ◌≢◌, ◌≡◌, ℕ, ◌<◌, T, eqb}
+use Rattle.std.specs.Prelude.{Bool, ◌↔◌, ◌⊎◌, ◌≢◌, ◌≡◌, ℕ, T, eqb}
 use Rattle.std.proofs.Common.{inl, inr, ⊎_elim, sym, ◌∙◌}
 use Rattle.std.proofs.Math.Decide.{ℕ_discrete}
-use Rattle.permutations.specs.Choice.{⊎_iff, pick, eqb_same, eqb_other}
-use Rattle.permutations.specs.Perm.{Perm}
-use Rattle.permutations.specs.Splice.{skip, splice}
+use Rattle.permutations.specs.Choice.{pick, eqb_same, eqb_other}
+use Rattle.permutations.specs.Splice.{skip}
 use Rattle.permutations.specs.Cycle.{Meets}
-use Rattle.permutations.specs.Joined.{skip_meets, On, splice_meets}
+use Rattle.permutations.specs.Joined.{skip_meets}
 use mathlib.Core.Logic.Iff
 
 pub record Labels (live : ℕ → Bool) (f L : ℕ → ℕ) : Type 0 where
@@ -26,7 +25,7 @@ pub record Merges (L M : ℕ → ℕ) (p q : ℕ) : Type 0 where
 pub record Kept (live new : ℕ → Bool) (p q : ℕ) : Type 0 where
   pub was : (x : ℕ) → T (new x) → T (live x) × (x ≢ p) × (x ≢ q)
 
--- ---- skip keeps the labels, and splice merges two
+-- ---- skip keeps the labels
 
 pub labels_skip : {live new : ℕ → Bool} {f L : ℕ → ℕ} {p q : ℕ} → Kept live new p q → Labels live f L → Labels new (skip f p q) L
 labels_skip {f = f} K Λ = record {
@@ -35,22 +34,6 @@ labels_skip {f = f} K Λ = record {
       let b = K.was y t in
       Iff.trans (Λ.says x y a.0 b.0) (Iff.symm (skip_meets f a.1 a.2 b.1 b.2));
 }
-
-module _ {D : ℕ} {live new : ℕ → Bool} {f L : ℕ → ℕ} {p q : ℕ} (π : Perm D f) (p_d : p < D) (q_d : q < D)
-    (K : Kept live new p q) (Λ : Labels live f L) (pl : T (live p)) (ql : T (live q)) where
-  either_iff : (x : ℕ) → T (live x) → Either L p q x ↔ On f p q x
-  either_iff x t = ⊎_iff (Λ.says x p t pl) (Λ.says x q t ql)
-
-  -- p and q have two labels, so splice joins two cycles, and the merged labels say who is on whose
-  pub labels_splice : {M : ℕ → ℕ} → Merges L M p q → L p ≢ L q → Labels new (splice f p q) M
-  labels_splice {M} μ n = record {
-    says = λ x y s t.
-        let a = K.was x s in
-        let b = K.was y t in
-        let joined = ⊎_iff (Λ.says x y a.0 b.0) (Iff.and (either_iff x a.0) (either_iff y b.0)) in
-        let spliced = splice_meets π p q p_d q_d (λ m. n ((Λ.says p q pl ql).1 m)) a.1 a.2 b.1 b.2 in
-        Iff.trans (μ.when x y) (Iff.trans joined (Iff.symm spliced));
-  }
 
 -- ---- one way to merge
 

@@ -3,11 +3,10 @@
 --   swap p q x    == p and q exchanged
 --   crossed f p q == f, but p leads where q led, and q where p led
 --   splice f p q  == crossed f p q, with p and q left out
-use Rattle.std.specs.Prelude.{◌⊎◌, ◌≢◌, ◌≡◌, refl, ℕ, ◌<◌, eqb}
+use Rattle.std.specs.Prelude.{◌⊎◌, ◌≢◌, ◌≡◌, refl, ℕ, eqb}
 use Rattle.std.proofs.Common.{inl, inr, ◌∙◌, sym}
 use Rattle.std.proofs.Math.Path.{ap, fun_ext}
 use Rattle.std.proofs.Math.Decide.{ℕ_discrete}
-use native.Mathlib.Omega.{arith}
 use Rattle.permutations.specs.Choice.{pick, eqb_same, eqb_other}
 use Rattle.permutations.specs.Perm.{without, Perm, without_perm, without_fixed, without_self, inj, without_over, without_keep}
 
@@ -87,36 +86,7 @@ swap_swap p q x = go (ℕ_discrete x p) (ℕ_discrete x q)
 pub swap_inj : (p q x y : ℕ) → swap p q x ≡ swap p q y → x ≡ y
 swap_inj p q x y e = sym (swap_swap p q x) ∙ ap (swap p q) e ∙ swap_swap p q y
 
--- ---- crossing, and splice
-
-module _ (f : ℕ → ℕ) {p q x : ℕ} where
-  pub crossed_left : x ≡ p → crossed f p q x ≡ f q
-  unfolding crossed
-  crossed_left e = ap f (swap_left e)
-
-  pub crossed_right : x ≡ q → crossed f p q x ≡ f p
-  unfolding crossed
-  crossed_right e = ap f (swap_right e)
-
-  pub crossed_other : x ≢ p → x ≢ q → crossed f p q x ≡ f x
-  unfolding crossed
-  crossed_other n m = ap f (swap_other n m)
-
-module _ {D : ℕ} {f : ℕ → ℕ} (π : Perm D f) (p q : ℕ) (p_d : p < D) (q_d : q < D) where
-  pub crossed_perm : Perm D (crossed f p q)
-  unfolding crossed
-  crossed_perm = record {
-    inv = λ x. swap p q (π.inv x);
-    back = λ x. rw π.back (swap_swap p q x);
-    forth = λ x. rw swap_swap (π.forth x);
-    still = λ x h. let n : x ≢ p = omega arith in let m : x ≢ q = omega arith in ap f (swap_other n m) ∙ π.still x h;
-  }
-
-  pub splice_perm : Perm D (splice f p q)
-  unfolding splice
-  splice_perm = skip_perm crossed_perm p q
-
--- ---- what the two operations write: only the numbers before p and before q lead elsewhere
+-- ---- what skip writes: only the numbers before p and before q lead elsewhere
 
 module _ {D : ℕ} {f : ℕ → ℕ} (π : Perm D f) {p q : ℕ} (pq : p ≢ q) {x : ℕ} (xp : x ≢ p) (xq : x ≢ q) where
   -- what is before p now leads where p led; if that was to q, then where q led
@@ -148,26 +118,3 @@ module _ {D : ℕ} {f : ℕ → ℕ} (π : Perm D f) {p q : ℕ} (pq : p ≢ q) 
   skip_other n m =
       let a = without_keep f xp n in
       without_keep (without f p) xq (λ z. m (sym a ∙ z)) ∙ a
-
-module _ {D : ℕ} {f : ℕ → ℕ} (π : Perm D f) {p q : ℕ} (p_d : p < D) (q_d : q < D) (pq : p ≢ q) {x : ℕ} (xp : x ≢ p) (xq : x ≢ q) where
-  at_x : crossed f p q x ≡ f x
-  at_x = crossed_other f xp xq
-
-  at_p : crossed f p q p ≡ f q
-  at_p = crossed_left f {p = p} {q = q} refl
-
-  at_q : crossed f p q q ≡ f p
-  at_q = crossed_right f {p = p} {q = q} refl
-
-  -- what is before p now leads where q led; if that was to q itself, then where p led
-  pub splice_before_p : f x ≡ p → splice f p q x ≡ pick (eqb (f q) q) (f p) (f q)
-  unfolding splice
-  splice_before_p e = skip_before_p (crossed_perm π p q p_d q_d) pq xp xq (at_x ∙ e) ∙ rw (at_p, at_q)
-
-  pub splice_before_q : f x ≡ q → splice f p q x ≡ pick (eqb (f p) p) (f q) (f p)
-  unfolding splice
-  splice_before_q e = skip_before_q (crossed_perm π p q p_d q_d) pq xp xq (at_x ∙ e) ∙ rw (at_p, at_q)
-
-  pub splice_other : f x ≢ p → f x ≢ q → splice f p q x ≡ f x
-  unfolding splice
-  splice_other n m = skip_other (crossed_perm π p q p_d q_d) pq xp xq (λ k. n (sym at_x ∙ k)) (λ k. m (sym at_x ∙ k)) ∙ at_x

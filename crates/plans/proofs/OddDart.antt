@@ -3,7 +3,8 @@
 use mathlib.Core.Path.{◌≡◌, ◌∙◌, ap}
 use Prim.Native.Nat.{ℕ, ◌+◌, ◌*◌, ◌<◌}
 use native.Mathlib.Omega.{arith}
-use Rattle.permutations.specs.Partner.{partner, partner_first}
+use Rattle.permutations.specs.Partner.{partner}
+use Rattle.permutations.proofs.PartnerLemmas.{partner_first}
 
 pub odd_dart_lem : (e : ℕ) {p q : ℕ} → (p ≡ 2 * e) × (p < 65536) → q ≡ partner p → (q ≡ 2 * e + 1) × (q < 65536)
 odd_dart_lem e (even, small) other = let same = other ∙ ap partner even ∙ partner_first e in (same, omega arith)

@@ -6,7 +6,7 @@
 --   with_yes     == it is a pyramid, and its sheets are right
 --   plain_judged == where it is done, so is the plain call
 --   costed_of, righted_of == a pyramid and its sheets, lent with room
-use mathlib.Core.Bool.{Bool, true, false, ◌&&◌}
+use mathlib.Core.Bool.{Bool, true, false}
 use mathlib.Core.List.{List, reverse}
 use mathlib.Core.Logic.{◌≢◌}
 use mathlib.Core.Path.{◌≡◌, refl, sym, ap, subst, ◌∙◌}
@@ -39,7 +39,7 @@ use Rattle.yarn.proofs.sentences.Lengths.{Room as SheetRoom, Fits, fits, room?, 
 use Rattle.yarn.proofs.sentences.Judging.{Costed, judged_other, judged_strange, judged_costed, judged_done}
 use Rattle.noting.specs.Checks.{NoteChecked, Reloads, Reloaded}
 use Rattle.noting.proofs.Deciding.{given_told}
-use Rattle.pyramid.specs.Costs.{StoodWith, JudgedWith, Righted}
+use Rattle.pyramid.specs.Costs.{JudgedWith, Righted}
 use Rattle.pyramid.specs.Steps.{Judged}
 
 -- the notes stand in the half of the history's part that a load leaves

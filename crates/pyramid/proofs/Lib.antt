@@ -14,7 +14,6 @@ pub mod Making
 pub mod JudgesWith
 pub mod OnSheets
 pub mod UnfoldedWith
-pub mod Sheets
 pub mod ChecksWith
 pub mod AtBase
 pub mod StartsWith

@@ -18,7 +18,7 @@ use Rattle.permutations.specs.Choice.{pick, eqb_same, eqb_other}
 use Rattle.darts.specs.Answers.{Answer, empty_kernel, too_many_levels}
 use Rattle.darts.specs.Cases.{answer_of}
 use Rattle.darts.specs.Operation.{contraction, edge_of}
-use Rattle.darts.specs.Kernel.{Run, stands, run}
+use Rattle.darts.specs.Kernel.{stands, run}
 use Rattle.darts.specs.State.{State, gives, refuses, reduce, raised, levelled}
 use Rattle.darts.specs.Pyramid.{Pyramid}
 use Rattle.darts.specs.Calls.{table_of, past_of, cleared, reduce_by}
@@ -26,7 +26,7 @@ use Rattle.laws.proofs.Lists.{reverse_onto}
 use Rattle.laws.proofs.calls.Judging.{Lent}
 use Rattle.laws.proofs.runs.Ends.{Layered}
 use Rattle.laws.proofs.runs.Pyramids.{pyramid_built, reduce_pyramid}
-use Rattle.laws.proofs.runs.Reduces.{Raises, raises_reduce, reduced, reduced_base}
+use Rattle.laws.proofs.runs.Reduces.{raises_reduce, reduced, reduced_base}
 use Rattle.area.specs.Area.{Room, table_in, past_in}
 use Rattle.operations.specs.Trees.{rooted}
 use Rattle.engine.specs.Runs.{ran_in}
@@ -34,8 +34,8 @@ use Rattle.engine.specs.declared.Ran.{Ran}
 use Rattle.engine.proofs.Parts.{past_length}
 use Rattle.engine.proofs.Ready.{beyond_refl}
 use Rattle.sheets.specs.Sheets.{Sheets, Merge, none, into, merged_by}
-use Rattle.sheets.specs.Notes.{notes_in, Noted, Fits}
-use Rattle.yarn.specs.Places.{lowest, is_place, zone_of, merges_of, merges}
+use Rattle.sheets.specs.Notes.{notes_in, Fits}
+use Rattle.yarn.specs.Places.{lowest, zone_of, merges_of, merges}
 use Rattle.yarn.specs.Given.{Given, given}
 use Rattle.yarn.specs.Calls.{base_of, sheets_after}
 use Rattle.yarn.proofs.Apart.{Apart, base_apart, base_standing, pyramid_inside}

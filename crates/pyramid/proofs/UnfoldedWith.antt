@@ -12,7 +12,7 @@ use native.Mathlib.Decide.{ℕ_discrete, dec_le}
 use native.Mathlib.Omega.{arith}
 use borrow.Author.Tests.{le-leb, lt-leb, eq-eqb, ne_eqb, le-ltb}
 use lib.Dec.{eqb}
-use lib.ListN.{length, length-reverse, length-append, get_or}
+use lib.ListN.{length, length-reverse, length-append}
 use lib.Seq.{get_or-set_other}
 use Rattle.permutations.specs.Choice.{pick}
 use Rattle.darts.specs.Answers.{Answer}
@@ -34,7 +34,6 @@ use Rattle.yarn.proofs.Moved.{Grown, undos_grown, carried_shrunk}
 use Rattle.yarn.proofs.Noted.{noted_within}
 use Rattle.yarn.proofs.Untouched.{base_merging}
 use Rattle.pyramid.specs.Costs.{StoodWith, operations_at, merges_for}
-use Rattle.pyramid.specs.Steps.{Stood}
 use Rattle.pyramid.proofs.Judges.{lent_of}
 use Rattle.pyramid.proofs.Making.{within_merging}
 

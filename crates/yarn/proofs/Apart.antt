@@ -17,7 +17,8 @@ use native.Mathlib.Decide.{dec_le}
 use native.Mathlib.Omega.{arith}
 use lib.Dec.{T, eqb}
 use Rattle.permutations.specs.Choice.{pick, ⊎_iff, eqb_iff, and_left, and_right, not_iff}
-use Rattle.permutations.specs.Partner.{partner, partner_cases}
+use Rattle.permutations.specs.Partner.{partner}
+use Rattle.permutations.proofs.PartnerLemmas.{partner_cases}
 use Rattle.permutations.specs.Labels.{Either, Merges, merge, merge_merges}
 use Rattle.permutations.proofs.Dual.{face_perm}
 use Rattle.permutations.proofs.Replay.{Labelled}

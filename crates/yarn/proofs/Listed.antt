@@ -11,7 +11,8 @@ use mathlib.Core.Logic.{◌≢◌}
 use mathlib.Core.Path.{◌≡◌, sym, ◌∙◌, subst}
 use Prim.Native.Nat.{ℕ, ◌+◌, ◌*◌, ◌<◌}
 use native.Mathlib.Omega.{arith}
-use Rattle.permutations.specs.Partner.{partner, partner_first}
+use Rattle.permutations.specs.Partner.{partner}
+use Rattle.permutations.proofs.PartnerLemmas.{partner_first}
 use Rattle.permutations.specs.Labels.{merge, merge_merges}
 use Rattle.permutations.specs.Map.{partner_live}
 use Rattle.permutations.proofs.Dual.{face_perm}

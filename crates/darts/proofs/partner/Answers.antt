@@ -1,6 +1,6 @@
 -- In each of the two cases the definition's other case is impossible.
 use Rattle.std.proofs.Common.{arith, ⊎_elim}
-use Rattle.permutations.specs.Partner.{partner_cases}
+use Rattle.permutations.proofs.PartnerLemmas.{partner_cases}
 use Rattle.darts.proofs.partner.Goals as goal
 
 pub returns-in-0 : goal.returns-in-0

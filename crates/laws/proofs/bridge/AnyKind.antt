@@ -10,11 +10,14 @@ use Prim.Native.Nat.{ℕ, ◌<◌}
 use native.Mathlib.Decide.{ℕ_discrete}
 use lib.Dec.{T, eqb}
 use Rattle.permutations.specs.Choice.{pick}
-use Rattle.permutations.specs.Partner.{partner, partner_ne, partner_partner, End, end?}
+use Rattle.permutations.specs.Partner.{partner, End, end?}
+use Rattle.permutations.proofs.PartnerLemmas.{partner_ne, partner_partner}
 use Rattle.permutations.specs.Perm.{Perm}
-use Rattle.permutations.specs.Splice.{splice, crossed, skip_at, skip_before_p, skip_before_q, skip_other, splice_before_p, splice_before_q, splice_other}
+use Rattle.permutations.specs.Splice.{splice, crossed, skip_at, skip_before_p, skip_before_q, skip_other}
+use Rattle.permutations.proofs.SpliceLemmas.{splice_before_p, splice_before_q, splice_other}
 use Rattle.permutations.specs.Live.{off_comm, off}
-use Rattle.permutations.specs.Map.{Map, Good, off_edge, map_path, good_remove, partner_small}
+use Rattle.permutations.specs.Map.{Map, Good, off_edge, map_path, partner_small}
+use Rattle.permutations.proofs.MapLemmas.{good_remove}
 use Rattle.permutations.proofs.Dual.{good_contract}
 use Rattle.permutations.proofs.Legal.{after, act, dart}
 use Rattle.darts.specs.Operation.{Kind, contraction, removal}

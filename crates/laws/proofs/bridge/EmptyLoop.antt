@@ -10,7 +10,7 @@ use Prim.Native.Nat.{ℕ, ◌+◌, ◌*◌, ◌/◌, ◌<◌}
 use native.Mathlib.Omega.{arith}
 use lib.Dec.{T, eqb, leb, eqb→eq, leb→le}
 use Rattle.permutations.specs.Choice.{not_T→false, or_cases, and_left, and_right, not_iff}
-use Rattle.permutations.specs.Partner.{partner_first, partner_second}
+use Rattle.permutations.proofs.PartnerLemmas.{partner_first, partner_second}
 use Rattle.permutations.specs.Cycle.{Meets, meets_ind, meets_sym}
 use Rattle.permutations.specs.Map.{face, partner_live}
 use Rattle.permutations.proofs.Dual.{good_dual}

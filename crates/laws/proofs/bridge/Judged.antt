@@ -10,7 +10,8 @@ use Prim.Native.Nat.{ℕ, zero, suc, ◌+◌, ◌*◌, ◌/◌, ◌<◌}
 use native.Mathlib.Omega.{arith}
 use lib.Dec.{T, eqb, leb, leb→le, nleb→lt, le→leb, not_T}
 use Rattle.permutations.specs.Choice.{pick, T→true, and_iff, not_iff}
-use Rattle.permutations.specs.Partner.{partner, partner_first}
+use Rattle.permutations.specs.Partner.{partner}
+use Rattle.permutations.proofs.PartnerLemmas.{partner_first}
 use Rattle.permutations.specs.Cycle.{Meets, meets_in, meets_iff}
 use Rattle.permutations.specs.Map.{Map, Good, face, next_live, partner_live}
 use Rattle.permutations.proofs.Dual.{good_dual, face_at}

@@ -8,7 +8,8 @@ use Prim.Native.Nat.{ℕ, ◌*◌}
 use native.Mathlib.Decide.{ℕ_discrete}
 use lib.Dec.{T, eqb}
 use Rattle.permutations.specs.Choice.{pick, eqb_same, eqb_other}
-use Rattle.permutations.specs.Partner.{partner, partner_first, partner_partner, End}
+use Rattle.permutations.specs.Partner.{partner, End}
+use Rattle.permutations.proofs.PartnerLemmas.{partner_first, partner_partner}
 use Rattle.permutations.specs.Cycle.{Meets, meets_next, meets_sym}
 use Rattle.permutations.specs.Map.{partner_live}
 use Rattle.permutations.proofs.Legal.{Separate, Legal, around, around_perm, Whole, act}

@@ -8,8 +8,10 @@ use native.Mathlib.Decide.{ℕ_discrete}
 use native.Mathlib.Omega.{arith}
 use lib.Dec.{ltb}
 use Rattle.permutations.specs.Choice.{pick, eqb_same, eqb_other}
-use Rattle.permutations.specs.Partner.{partner_cases, partner_edge, End, end?}
-use Rattle.permutations.specs.Map.{off_edge, off_edge_end, off_edge_other}
+use Rattle.permutations.specs.Partner.{End, end?}
+use Rattle.permutations.proofs.PartnerLemmas.{partner_cases, partner_edge}
+use Rattle.permutations.specs.Map.{off_edge, off_edge_other}
+use Rattle.permutations.proofs.MapLemmas.{off_edge_end}
 use Rattle.darts.specs.Map.{gone, survives}
 use Rattle.darts.specs.Operation.{Kind, contraction, removal, turned, lead, number, kind_of, lead_of, edge_of}
 use Rattle.laws.proofs.bridge.Standing.{live}

@@ -13,9 +13,11 @@ use native.Mathlib.Decide.{ℕ_discrete}
 use lib.Dec.{T, eqb}
 use lib.ListN.{length, set}
 use Rattle.permutations.specs.Choice.{pick, T?, T→true, not_T→false, eqb_same, eqb_other}
-use Rattle.permutations.specs.Partner.{partner, partner_ne, End}
+use Rattle.permutations.specs.Partner.{partner, End}
+use Rattle.permutations.proofs.PartnerLemmas.{partner_ne}
 use Rattle.permutations.specs.Perm.{Perm}
-use Rattle.permutations.specs.Map.{Good, off_edge, off_edge_not_end, off_edge_was, off_edge_other, map_path, partner_live, partner_small}
+use Rattle.permutations.specs.Map.{Good, off_edge, off_edge_other, map_path, partner_live, partner_small}
+use Rattle.permutations.proofs.MapLemmas.{off_edge_not_end, off_edge_was}
 use Rattle.permutations.proofs.Legal.{act, after, Legal}
 use Rattle.darts.specs.Map.{successor, before}
 use Rattle.darts.specs.Operation.{Kind, lead, operate, number, put_back, undo_one}

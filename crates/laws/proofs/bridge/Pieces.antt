@@ -16,9 +16,11 @@ use native.Mathlib.Omega.{arith}
 use lib.Dec.{T, eqb, eqb_refl, eqb→eq}
 use lib.ListN.{length, take, drop, length-append, length-take, length-drop, take-append-drop}
 use Rattle.permutations.specs.Choice.{or_intro, or_cases}
-use Rattle.permutations.specs.Partner.{partner, partner_first, End}
+use Rattle.permutations.specs.Partner.{partner, End}
+use Rattle.permutations.proofs.PartnerLemmas.{partner_first}
 use Rattle.permutations.specs.Pigeonhole.{Clash, pigeonhole}
-use Rattle.permutations.specs.Map.{mate_live, partner_live, next_live, off_edge, off_edge_was, off_edge_not_end}
+use Rattle.permutations.specs.Map.{mate_live, partner_live, next_live, off_edge}
+use Rattle.permutations.proofs.MapLemmas.{off_edge_was, off_edge_not_end}
 use Rattle.permutations.proofs.Legal.{Op, act, dart}
 use Rattle.permutations.proofs.Pieces.{Linked, here, turn, over, linked_ind, mate_lives, whole_only, only_whole, act_pieces}
 use Rattle.darts.specs.Map.{successor, same_piece}

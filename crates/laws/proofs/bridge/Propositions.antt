@@ -14,7 +14,8 @@ use lib.Dec.{T}
 use lib.ListN.{length}
 use Rattle.permutations.specs.Choice.{eqb_same}
 use Rattle.permutations.specs.Partner.{partner}
-use Rattle.permutations.specs.Map.{off_edge_not_end, off_edge_was, off_edge_other, partner_live}
+use Rattle.permutations.specs.Map.{off_edge_other, partner_live}
+use Rattle.permutations.proofs.MapLemmas.{off_edge_not_end, off_edge_was}
 use Rattle.darts.specs.Map.{successor, live, before}
 use Rattle.darts.specs.Operation.{Kind, contraction, removal, lead, operate, number}
 use Rattle.darts.specs.Kernel.{judge, stands, pass_from, pass, run}

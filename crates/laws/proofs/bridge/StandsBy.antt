@@ -10,7 +10,8 @@ use native.Mathlib.Omega.{arith}
 use lib.Dec.{T, eqb, ltb, leb, ltb→lt, lt→ltb, leb→le, eqb→eq}
 use lib.ListN.{length}
 use Rattle.permutations.specs.Choice.{or_cases, pick, T?, T→true, not_T→false, T-ext, eqb_same, eqb_other}
-use Rattle.permutations.specs.Partner.{partner, partner_below, partner_partner, partner_edge, partner_cases}
+use Rattle.permutations.specs.Partner.{partner}
+use Rattle.permutations.proofs.PartnerLemmas.{partner_below, partner_partner, partner_edge, partner_cases}
 use Rattle.permutations.specs.Pigeonhole.{Clash, pigeonhole}
 use Rattle.permutations.specs.Perm.{Perm}
 use Rattle.darts.specs.Map.{successor, gone, survives, repeats, permutes, test_from, permutation_test}

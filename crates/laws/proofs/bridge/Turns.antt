@@ -8,7 +8,8 @@ use mathlib.Core.Path.{◌≡◌, ◌∙◌}
 use Prim.Native.Nat.{ℕ, ◌+◌, ◌*◌}
 use native.Mathlib.Decide.{ℕ_discrete}
 use Rattle.permutations.specs.Choice.{eqb_same, eqb_other}
-use Rattle.permutations.specs.Partner.{partner, partner_first, partner_partner}
+use Rattle.permutations.specs.Partner.{partner}
+use Rattle.permutations.proofs.PartnerLemmas.{partner_first, partner_partner}
 use Rattle.darts.specs.Map.{successor}
 use Rattle.darts.specs.Operation.{Kind, contraction, removal, lead}
 use Rattle.darts.specs.Tests.{near}

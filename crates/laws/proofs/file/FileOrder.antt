@@ -11,7 +11,8 @@ use lib.Dec.{T, eqb}
 use lib.ListN.{length, get_or, length-append, get_or-append}
 use lib.Seq.{get_or-append_seam}
 use Rattle.permutations.specs.Choice.{T?, T→true, not_T→false, eqb_iff, or_intro, or_cases}
-use Rattle.permutations.specs.Partner.{partner, partner_cases, partner_edge, partner_first, End}
+use Rattle.permutations.specs.Partner.{partner, End}
+use Rattle.permutations.proofs.PartnerLemmas.{partner_cases, partner_edge, partner_first}
 use Rattle.darts.specs.Map.{gone, survives}
 use Rattle.darts.specs.Operation.{lead_of}
 use Rattle.darts.specs.Counts.{surviving}

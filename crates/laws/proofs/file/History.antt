@@ -10,7 +10,7 @@ use Prim.Native.Nat.{ℕ, zero, suc, ◌+◌, ◌*◌, ◌<◌, ◌≤◌}
 use native.Mathlib.Omega.{arith}
 use native.Mathlib.Decide.{ℕ_discrete}
 use lib.ListN.{length, get_or, replicate, length-append, length-replicate}
-use Rattle.permutations.specs.Partner.{partner_first}
+use Rattle.permutations.proofs.PartnerLemmas.{partner_first}
 use Rattle.darts.specs.Operation.{Kind, number, kind_of, lead_of}
 use Rattle.darts.specs.File.{taken}
 use Rattle.darts.specs.Read.{KernelLine, total, numbers_from, history_from, file_history}

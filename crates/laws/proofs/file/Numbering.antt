@@ -12,7 +12,8 @@ use lib.Dec.{T, T_not, not_T}
 use lib.ListN.{length, get_or, length-append, length-reverse, get_or-append}
 use lib.Seq.{get_or-append-add}
 use Rattle.permutations.specs.Choice.{T?}
-use Rattle.permutations.specs.Partner.{partner, partner_ne, partner_below, partner_first, End}
+use Rattle.permutations.specs.Partner.{partner, End}
+use Rattle.permutations.proofs.PartnerLemmas.{partner_ne, partner_below, partner_first}
 use Rattle.darts.specs.Map.{gone, survives}
 use Rattle.darts.specs.Operation.{lead_of}
 use Rattle.darts.specs.Counts.{surviving}

@@ -8,7 +8,8 @@ use native.Mathlib.Omega.{arith}
 use lib.Dec.{T}
 use lib.ListN.{length, get_or, length-reverse}
 use Rattle.permutations.specs.Choice.{T?, not_iff}
-use Rattle.permutations.specs.Partner.{partner, partner_first}
+use Rattle.permutations.specs.Partner.{partner}
+use Rattle.permutations.proofs.PartnerLemmas.{partner_first}
 use Rattle.darts.specs.Map.{successor, gone, survives}
 use Rattle.darts.specs.Operation.{Kind, lead_of}
 use Rattle.darts.specs.Counts.{surviving}

@@ -11,7 +11,8 @@ use native.Mathlib.Decide.{ℕ_discrete, dec_lt}
 use native.Mathlib.Omega.{arith}
 use lib.ListN.{length, get_or}
 use Rattle.permutations.specs.Choice.{eqb_same, eqb_other}
-use Rattle.permutations.specs.Partner.{partner, partner_even, partner_odd, partner_cases, partner_first, partner_second, partner_partner}
+use Rattle.permutations.specs.Partner.{partner}
+use Rattle.permutations.proofs.PartnerLemmas.{partner_even, partner_odd, partner_cases, partner_first, partner_second, partner_partner}
 use Rattle.permutations.specs.Pigeonhole.{pigeonhole}
 use Rattle.darts.specs.File.{place_in}
 

@@ -10,7 +10,8 @@ use Prim.Native.Nat.{ℕ, zero, suc, ◌/◌, ◌%◌, ◌<◌}
 use lib.Dec.{T, eqb, ltb, lt→ltb}
 use lib.ListN.{get_or}
 use Rattle.permutations.specs.Choice.{T?, T→true, not_T→false, T-ext}
-use Rattle.permutations.specs.Partner.{partner, partner_below, partner_partner, End}
+use Rattle.permutations.specs.Partner.{partner, End}
+use Rattle.permutations.proofs.PartnerLemmas.{partner_below, partner_partner}
 use Rattle.permutations.specs.Perm.{Perm, below}
 use Rattle.permutations.specs.Cycle.{walk, walk_ind, Meets, meets_sym}
 use Rattle.permutations.specs.Map.{Map, Good, mate_live, mate_gone, face, partner_live}

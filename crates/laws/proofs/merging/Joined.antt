@@ -13,7 +13,7 @@ use Prim.Native.Nat.{ℕ, ◌+◌, ◌*◌, ◌/◌, ◌<◌}
 use native.Mathlib.Omega.{arith}
 use lib.Dec.{T}
 use Rattle.permutations.specs.Map.{Map, mate_live}
-use Rattle.permutations.specs.Partner.{partner_first}
+use Rattle.permutations.proofs.PartnerLemmas.{partner_first}
 use Rattle.permutations.proofs.Pieces.{Linked, here, over, linked_trans, linked_sym, meets_linked}
 use Rattle.darts.specs.Map.{same_vertex, same_piece, gone, survives}
 use Rattle.laws.specs.Standing.{map_of, Standing}

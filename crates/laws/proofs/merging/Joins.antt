@@ -11,10 +11,13 @@ use mathlib.Core.Logic.{◌⊎◌, ◌↔◌, inl, inr, ⊎_elim}
 use mathlib.Core.Path.{◌≡◌, refl, sym, subst}
 use Prim.Native.Nat.{ℕ, ◌+◌, ◌*◌, ◌<◌}
 use lib.Dec.{T}
-use Rattle.permutations.specs.Partner.{partner, partner_first, End, end?}
+use Rattle.permutations.specs.Partner.{partner, End, end?}
+use Rattle.permutations.proofs.PartnerLemmas.{partner_first}
 use Rattle.permutations.specs.Cycle.{meets_ind}
-use Rattle.permutations.specs.Labels.{Labels, Kept, labels_splice, Either, merge, merge_merges}
-use Rattle.permutations.specs.Map.{Map, partner_live, partner_small, next_live, off_edge, off_edge_was, off_edge_not_end, off_edge_other, contract}
+use Rattle.permutations.specs.Labels.{Labels, Kept, Either, merge, merge_merges}
+use Rattle.permutations.proofs.LabelsLemmas.{labels_splice}
+use Rattle.permutations.specs.Map.{Map, partner_live, partner_small, next_live, off_edge, off_edge_other, contract}
+use Rattle.permutations.proofs.MapLemmas.{off_edge_was, off_edge_not_end}
 use Rattle.permutations.proofs.Legal.{Contractible}
 use Rattle.permutations.proofs.Euler.{Remains, contract_keeps_vertex}
 use Rattle.darts.specs.Map.{same_vertex}

@@ -10,7 +10,8 @@ use Prim.Native.Nat.{ℕ, zero, suc, ◌+◌, ◌*◌, ◌/◌, ◌<◌}
 use native.Mathlib.Decide.{ℕ_discrete}
 use native.Mathlib.Omega.{arith}
 use lib.Dec.{T}
-use Rattle.permutations.specs.Partner.{partner, partner_first, partner_second}
+use Rattle.permutations.specs.Partner.{partner}
+use Rattle.permutations.proofs.PartnerLemmas.{partner_first, partner_second}
 use Rattle.permutations.specs.Cycle.{meets_next}
 use Rattle.permutations.specs.Map.{mate, mate_live, next_live}
 use Rattle.permutations.proofs.Pieces.{linked_ind, mate_lives}

@@ -17,7 +17,7 @@ use lib.Dec.{T}
 use lib.ListN.{length}
 use Rattle.permutations.specs.Choice.{T?}
 use Rattle.permutations.specs.Live.{has}
-use Rattle.permutations.specs.Map.{off_edge_was}
+use Rattle.permutations.proofs.MapLemmas.{off_edge_was}
 use Rattle.darts.specs.Map.{same_piece}
 use Rattle.darts.specs.Operation.{contraction, lead, number}
 use Rattle.darts.specs.Kernel.{judge, rising, stands}

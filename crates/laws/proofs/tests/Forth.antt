@@ -7,7 +7,8 @@ use native.Mathlib.Decide.{ℕ_discrete}
 use native.Mathlib.Omega.{arith}
 use lib.Dec.{T, eqb}
 use Rattle.permutations.specs.Choice.{pick, eqb_same, eqb_other}
-use Rattle.permutations.specs.Partner.{partner, End, partner_ne, partner_partner}
+use Rattle.permutations.specs.Partner.{partner, End}
+use Rattle.permutations.proofs.PartnerLemmas.{partner_ne, partner_partner}
 use Rattle.darts.specs.Map.{successor, before}
 use Rattle.darts.specs.Operation.{Kind, lead, operate, number}
 use Rattle.darts.specs.Kernel.{judge}

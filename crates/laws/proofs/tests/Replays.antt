@@ -12,7 +12,8 @@ use native.Mathlib.Omega.{arith}
 use lib.Dec.{T, eqb}
 use lib.ListN.{length}
 use Rattle.permutations.specs.Choice.{pick, eqb_iff, and_left, and_right, not_iff}
-use Rattle.permutations.specs.Partner.{partner, partner_cases, partner_partner}
+use Rattle.permutations.specs.Partner.{partner}
+use Rattle.permutations.proofs.PartnerLemmas.{partner_cases, partner_partner}
 use Rattle.permutations.specs.Cycle.{Meets}
 use Rattle.permutations.specs.Map.{Map, Good, partner_live}
 use Rattle.permutations.proofs.Legal.{Legal, Separate, act, Whole}

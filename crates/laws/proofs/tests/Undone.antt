@@ -17,8 +17,10 @@ use lib.Dec.{T, eqb}
 use lib.ListN.{length, set, length-set}
 use lib.Seq.{get_or-set_same, get_or-set_other, set-get_or, set-set, set_comm}
 use Rattle.permutations.specs.Choice.{pick, eqb_same, eqb_other}
-use Rattle.permutations.specs.Partner.{partner, End, end?, partner_partner, partner_ne, partner_cases}
-use Rattle.permutations.specs.Map.{Map, off_edge, off_edge_was, off_edge_not_end, off_edge_other}
+use Rattle.permutations.specs.Partner.{partner, End, end?}
+use Rattle.permutations.proofs.PartnerLemmas.{partner_partner, partner_ne, partner_cases}
+use Rattle.permutations.specs.Map.{Map, off_edge, off_edge_other}
+use Rattle.permutations.proofs.MapLemmas.{off_edge_was, off_edge_not_end}
 use Rattle.permutations.proofs.Legal.{Whole}
 use Rattle.darts.specs.Map.{successor, before}
 use Rattle.darts.specs.Operation.{Kind, lead, operate, put_back}

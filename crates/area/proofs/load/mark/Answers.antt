@@ -16,7 +16,7 @@ use native.Mathlib.Omega.{arith}
 use lib.ListN.{get_or, set, length-set}
 use borrow.Author.Rules.{rules}
 use borrow.Author.Tests.{eq-eqb, ne_eqb, le-leb, lt-leb}
-use Rattle.permutations.specs.Partner.{partner_first}
+use Rattle.permutations.proofs.PartnerLemmas.{partner_first}
 use Rattle.area.specs.Area.{prev, stamp, tried}
 use Rattle.area.specs.Load.{marks}
 use Rattle.area.proofs.load.mark.Invariants.{Marking}

@@ -7,7 +7,8 @@ use mathlib.Core.Path.{◌≡◌, ◌∙◌}
 use Prim.Native.Nat.{ℕ, ◌/◌, ◌*◌, ◌<◌}
 use native.Mathlib.Omega.{arith}
 use lib.ListN.{get_or}
-use Rattle.permutations.specs.Partner.{partner, partner_below}
+use Rattle.permutations.specs.Partner.{partner}
+use Rattle.permutations.proofs.PartnerLemmas.{partner_below}
 use Rattle.darts.specs.Map.{successor}
 use Rattle.darts.specs.Operation.{kind_of}
 use Rattle.darts.specs.Tests.{near, far}

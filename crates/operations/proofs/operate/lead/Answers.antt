@@ -5,7 +5,7 @@ use mathlib.Core.Path.{◌≡◌, sym, ◌∙◌}
 use Prim.Native.Nat.{ℕ, ◌+◌, ◌*◌}
 use lib.ListN.{get_or}
 use Rattle.permutations.specs.Choice.{eqb_same, eqb_other}
-use Rattle.permutations.specs.Partner.{partner_first}
+use Rattle.permutations.proofs.PartnerLemmas.{partner_first}
 use Rattle.darts.specs.Map.{successor}
 use Rattle.darts.specs.Operation.{Kind, lead}
 use Rattle.darts.specs.Tests.{far}

@@ -1,7 +1,7 @@
 -- `operations::step::around` meets its contract: for a face the partner is taken first.
 use native.Mathlib.Omega.{arith}
 use borrow.Author.Tests.{eq-eqb, ne_eqb}
-use Rattle.permutations.specs.Partner.{partner_below}
+use Rattle.permutations.proofs.PartnerLemmas.{partner_below}
 use Rattle.darts.specs.Map.{successor}
 use Rattle.area.specs.Area.{around}
 use Rattle.operations.proofs.step.around.Goals as goal

@@ -1,2 +1,0 @@
--- A copy, made by tools/twin.py. The prover checks it.
-pub mod start_with
