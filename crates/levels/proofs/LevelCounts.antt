@@ -9,7 +9,7 @@
 use mathlib.Core.Bool.{true}
 use mathlib.Core.List.{List, reverse, reverse-reverse}
 use mathlib.Core.Path.{◌≡◌, refl, sym, ap, ap₂, ◌∙◌, subst}
-use Prim.Native.Nat.{ℕ, ◌-◌, ◌≤◌}
+use Prim.Native.Nat.{ℕ, ◌≤◌}
 use native.Mathlib.Omega.{arith}
 use lib.Dec.{T}
 use lib.ListN.{length, take, length-reverse}
@@ -27,7 +27,7 @@ use Rattle.laws.proofs.tests.Room.{pyramid_room}
 use Rattle.laws.proofs.runs.Undo.{unfold_pyramid}
 use Rattle.laws.proofs.file.Meanings.{meaning}
 use Rattle.laws.proofs.file.WriteRead.{write_read}
-use Rattle.darts.proofs.Fitting.{Lengths, room_facts, fits}
+use Rattle.darts.proofs.Fitting.{Lengths, room_facts}
 use Rattle.laws.proofs.calls.Judging.{Lent, judged_lent, on_lent}
 use Rattle.laws.proofs.calls.Cleared.{cleared_length}
 use Rattle.laws.proofs.chained.Steps.{unfold_leads}
