@@ -19,7 +19,8 @@ use borrow.Author.Tests.{le-leb}
 use lib.Dec.{leb, T_not}
 use lib.ListN.{get_or}
 use Rattle.permutations.specs.Choice.{true→T, eqb_same, eqb_other}
-use Rattle.permutations.specs.Partner.{partner, partner_below}
+use Rattle.permutations.specs.Partner.{partner}
+use Rattle.permutations.proofs.PartnerLemmas.{partner_below}
 use Rattle.darts.specs.Map.{successor}
 use Rattle.darts.specs.Operation.{Kind, contraction, removal, kind_of}
 use Rattle.ends.specs.Ends.{level_of, end_of, ends_by, gone_by, done_by}

@@ -1,6 +1,6 @@
 -- `lookup::walking::onward` meets its contract: the kind is the last bit of the dart's end.
 use borrow.Author.Rules.{rules}
-use Rattle.permutations.specs.Partner.{partner_below}
+use Rattle.permutations.proofs.PartnerLemmas.{partner_below}
 use Rattle.lookup.proofs.Walks.{after_removal, after_contraction}
 use Rattle.lookup.proofs.walking.onward.Goals as goal
 

@@ -1,7 +1,10 @@
--- `plan::drawing::put_line`: one byte more is laid, and at last all of them.
+-- `plan::drawing::put_line`: after i turns of the loop the first i bytes are laid. The measure is what is left of the line.
 use borrow.Author.Rules.{rules}
-use Rattle.plan.proofs.Turned.{lay_on, lay_end}
+use Rattle.plan.proofs.Turned.{lay_begin, lay_on, lay_end}
 use Rattle.plan.proofs.drawing.put_line.Goals as goal
+
+pub loop-i-init : goal.loop-i-init
+loop-i-init c = lay_begin _ _ _
 
 pub loop-i-preserved : goal.loop-i-preserved
 loop-i-preserved c = search (rules, lay_on)

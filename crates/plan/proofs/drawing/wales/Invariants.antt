@@ -1,5 +1,6 @@
 -- `plan::drawing::wales`: as long as no line feed is met, each byte belongs to the first line. The measure is what is left of the drawing.
-use Rattle.std.proofs.Common.{◌-◌, length}
+use Prim.Native.Nat.{◌-◌}
+use lib.ListN.{length}
 use Rattle.plan.proofs.Lines.{Passed}
 use Rattle.plan.proofs.drawing.wales.Given as goal
 

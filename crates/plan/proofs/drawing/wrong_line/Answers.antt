@@ -1,7 +1,10 @@
--- `plan::drawing::wrong_line`: the byte at hand, or the end, is right there or makes line n wrong.
+-- `plan::drawing::wrong_line`: no line before line n is wrong, of which k bytes are passed. The measure is what is left of the drawing.
 use borrow.Author.Rules.{rules}
-use Rattle.plan.proofs.Lines.{line_on, line_long, line_ends, line_short, last_ended, last_open}
+use Rattle.plan.proofs.Lines.{judge_begin, line_on, line_long, line_ends, line_short, last_ended, last_open}
 use Rattle.plan.proofs.drawing.wrong_line.Goals as goal
+
+pub loop-i-init : goal.loop-i-init
+loop-i-init c = judge_begin _ _
 
 pub returns-then-k-wales : goal.returns-then-k-wales
 returns-then-k-wales c = search (rules, line_short)

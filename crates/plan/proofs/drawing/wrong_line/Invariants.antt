@@ -1,5 +1,6 @@
 -- `plan::drawing::wrong_line`: no line before line n is wrong, of which k bytes are passed. The measure is what is left of the drawing.
-use Rattle.std.proofs.Common.{◌-◌, length}
+use Prim.Native.Nat.{◌-◌}
+use lib.ListN.{length}
 use Rattle.plan.proofs.Lines.{Judged}
 use Rattle.plan.proofs.drawing.wrong_line.Given as goal
 

@@ -4,8 +4,10 @@ use Rattle.plan.proofs.file.call.Goals as goal
 
 pub returns-then-base : goal.returns-then-base
 unfolding called
-returns-then-base c = rw c.if-base.true c.plan.ensures
+returns-then-base c =
+    rw c.if-base.true c.plan.ensures
 
 pub returns : goal.returns
 unfolding called
-returns c = rw c.if-base.false c.plan_areas.ensures
+returns c =
+    rw c.if-base.false c.plan_areas.ensures

@@ -6,7 +6,8 @@ use Prim.Native.Nat.{ℕ, ◌+◌, ◌*◌, ◌/◌, ◌≤◌, ◌<◌}
 use native.Mathlib.Omega.{arith}
 use lib.ListN.{length, get_or, set, drop, length-set}
 use lib.Seq.{get_or-drop}
-use Rattle.permutations.specs.Partner.{partner, partner_below}
+use Rattle.permutations.specs.Partner.{partner}
+use Rattle.permutations.proofs.PartnerLemmas.{partner_below}
 use Rattle.darts.specs.Operation.{lead_of}
 use Rattle.darts.specs.File.{taken}
 use Rattle.slices.specs.Part.{part}

@@ -1,0 +1,48 @@
+-- `plans::laying::after_left` meets its contract: its tests are the grid's, one after another.
+use mathlib.Core.Path.{sym, ◌∙◌}
+use Prim.Native.Nat.{◌+◌}
+use native.Mathlib.Omega.{arith}
+use borrow.Author.Tests.{lt-ltb, le-ltb, le-leb, lt-leb}
+use Rattle.plans.proofs.Around.{after_left}
+use Rattle.plans.proofs.laying.after_left.Goals as goal
+
+pub returns-then-y-gt0 : goal.returns-then-y-gt0
+returns-then-y-gt0 c =
+    let a = c.args in
+    let e = c.down_of.ensures in
+    (e.0 ∙ sym (rw (le-leb 1 a.y (omega arith)) at (after_left c.requires.at c.requires.x_nonzero)), e.1)
+
+pub returns-then-x-w : goal.returns-then-x-w
+returns-then-x-w c =
+    let a = c.args in
+    let e = c.right_of.ensures in (
+      e.0 ∙ sym (rw (
+        lt-leb 1 a.y (omega arith),
+        lt-ltb (a.x + 1) a.w (omega arith),
+      ) at (after_left c.requires.at c.requires.x_nonzero)),
+      e.1,
+    )
+
+pub returns-then-y-c : goal.returns-then-y-c
+returns-then-y-c c =
+    let a = c.args in
+    let e = c.up_of.ensures in (
+      e.0 ∙ sym (rw (
+        lt-leb 1 a.y (omega arith),
+        le-ltb (a.x + 1) a.w (omega arith),
+        lt-ltb (a.y + 1) a.c (omega arith),
+      ) at (after_left c.requires.at c.requires.x_nonzero)),
+      e.1,
+    )
+
+pub returns : goal.returns
+returns c =
+    let a = c.args in
+    let e = c.left_of.ensures in (
+      e.0 ∙ sym (rw (
+        lt-leb 1 a.y (omega arith),
+        le-ltb (a.x + 1) a.w (omega arith),
+        le-ltb (a.y + 1) a.c (omega arith),
+      ) at (after_left c.requires.at c.requires.x_nonzero)),
+      e.1,
+    )
