@@ -53,7 +53,7 @@ sources_of() {
             for (i = 1; i <= n; i++) visit(names[i])
         }
         { sub(/#.*/, "") }
-        /:/ { name = rest = $0; sub(/:.*/, "", name); sub(/[^:]*:/, "", rest); gsub(/[ \t]/, "", name); on[name] = rest }
+        /:/ { name = $1; sub(/:.*/, "", name); rest = $0; sub(/[^:]*:/, "", rest); on[name] = rest }
         END { visit(crate) }' "$root/crates.txt"
 }
 
