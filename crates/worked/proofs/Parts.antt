@@ -1,10 +1,11 @@
 -- What a worked example says of a call, part by part.
 --   not_number, not_place, not_second, not_table == where a part differs, it is not so
 --   all_but_history                              == where the other parts agree, the history decides
+--   is_false, is_true                            == a bool by its denial
 --   not_vertices, faces_decide                   == the same of the numbers that the state stores
 --   hands_left                                   == an outcome with the slices, of its answer and its state
 --   row_of, numbers_of_lem                           == what holds of the definition's result holds of what the call left: the row, and the numbers
-use mathlib.Core.Bool.{Bool, true, false, ◌&&◌, true≢false}
+use mathlib.Core.Bool.{Bool, true, false, not, ◌&&◌, true≢false}
 use mathlib.Core.List.{List}
 use mathlib.Core.Logic.{◌≢◌}
 use mathlib.Core.Path.{◌≡◌, refl, sym, ap, ◌∙◌}
@@ -66,3 +67,11 @@ module _ {a b : After} (n p s : ℕ) (u v : List ℕ) (x y : ℕ) (e : a ≡ b) 
 
   pub numbers_of_lem : numbers_are a.state x y ≡ true
   numbers_of_lem = parts.1
+
+pub is_false : (b : Bool) → not b ≡ true → b ≡ false
+is_false true e = sym e
+is_false false e = refl
+
+pub is_true : (b : Bool) → not b ≡ false → b ≡ true
+is_true true e = refl
+is_true false e = sym e

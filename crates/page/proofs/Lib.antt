@@ -1,0 +1,2 @@
+-- Turned == a negative number and its magnitude
+pub mod Turned
