@@ -2,7 +2,7 @@
 // for each: the answer's number and place.
 #![tactic(auto)]
 
-ghost use Rattle.std.specs.Prelude.{IfOk};
+ghost use Rattle.std.specs.Prelude.{◌≡◌, IfOk, OnErr, length};
 ghost use Rattle.page.specs.Waits.{Waits};
 
 use pyramid::{Answer, State};
@@ -12,7 +12,8 @@ use std::io::Write;
 // The line of an answer.
 fn line<W: Write>(out: &mut W, answer: Answer, page: &mut [u8], used: usize) -> io::Result<usize>
     requires { Waits used page.old }
-    ensures { IfOk result (λ at. Waits at page.new) }
+    ensures ok { IfOk result (λ at. Waits at page.new) }
+    ensures err { OnErr result (length page.new ≡ length page.old) }
 {
     let number = page::field(out, page, used, b"answer=", answer.number() as u64)?;
     let place = page::field(out, page, number, b" place=", answer.place() as u64)?;
@@ -30,7 +31,10 @@ fn written<W: Write>(
     used: usize,
 ) -> io::Result<usize>
     requires { Waits used page.old }
-    ensures { IfOk result (λ at. Waits at page.new) }
+    ensures ok { IfOk result (λ at. Waits at page.new) }
+    ensures err { OnErr result ((length table.new ≡ length table.old)
+        × (length history.new ≡ length history.old) × (length work.new ≡ length work.old)
+        × (length page.new ≡ length page.old)) }
 {
     let mut output = [0u8; 97];
     let answer = writer::write(state, table, history, work, &mut output);
@@ -41,7 +45,8 @@ fn written<W: Write>(
 // The answer to a file, with tables for eight darts, and where it is accepted the file that is written back.
 fn report<W: Write>(out: &mut W, file: &[u8], page: &mut [u8], used: usize) -> io::Result<usize>
     requires { Waits used page.old }
-    ensures { IfOk result (λ at. Waits at page.new) }
+    ensures ok { IfOk result (λ at. Waits at page.new) }
+    ensures err { OnErr result (length page.new ≡ length page.old) }
 {
     let mut table = [0u32; 8];
     let mut history = [0u32; 4];
@@ -59,7 +64,8 @@ fn report<W: Write>(out: &mut W, file: &[u8], page: &mut [u8], used: usize) -> i
 // From zero and from one.
 fn both_ways<W: Write>(out: &mut W, page: &mut [u8], used: usize) -> io::Result<usize>
     requires { Waits used page.old }
-    ensures { IfOk result (λ at. Waits at page.new) }
+    ensures ok { IfOk result (λ at. Waits at page.new) }
+    ensures err { OnErr result (length page.new ≡ length page.old) }
 {
     let zero = report(
         out,
@@ -78,7 +84,8 @@ fn both_ways<W: Write>(out: &mut W, page: &mut [u8], used: usize) -> io::Result<
 // Values that their line's end refuses: an odd number of darts, more darts than there is room for, 65 levels, an empty kernel.
 fn values<W: Write>(out: &mut W, page: &mut [u8], used: usize) -> io::Result<usize>
     requires { Waits used page.old }
-    ensures { IfOk result (λ at. Waits at page.new) }
+    ensures ok { IfOk result (λ at. Waits at page.new) }
+    ensures err { OnErr result (length page.new ≡ length page.old) }
 {
     let odd = report(
         out,
@@ -109,7 +116,8 @@ fn values<W: Write>(out: &mut W, page: &mut [u8], used: usize) -> io::Result<usi
 // Bytes that leave the form: byte nine is 2, a leading zero, the last line feed is missing, a line feed too many.
 fn bytes<W: Write>(out: &mut W, page: &mut [u8], used: usize) -> io::Result<usize>
     requires { Waits used page.old }
-    ensures { IfOk result (λ at. Waits at page.new) }
+    ensures ok { IfOk result (λ at. Waits at page.new) }
+    ensures err { OnErr result (length page.new ≡ length page.old) }
 {
     let flag = report(
         out,
@@ -140,7 +148,8 @@ fn bytes<W: Write>(out: &mut W, page: &mut [u8], used: usize) -> io::Result<usiz
 // In good form, and no pyramid: kinds exchanged, pairs from zero read as from one, a pair that is no dart.
 fn no_pyramids<W: Write>(out: &mut W, page: &mut [u8], used: usize) -> io::Result<usize>
     requires { Waits used page.old }
-    ensures { IfOk result (λ at. Waits at page.new) }
+    ensures ok { IfOk result (λ at. Waits at page.new) }
+    ensures err { OnErr result (length page.new ≡ length page.old) }
 {
     let kinds = report(
         out,

@@ -2,7 +2,7 @@
 // why the file is refused.
 #![tactic(auto)]
 
-ghost use Rattle.std.specs.Prelude.{◌≡◌, ◌+◌, IfOk};
+ghost use Rattle.std.specs.Prelude.{◌≡◌, ◌+◌, IfOk, OnErr, length};
 ghost use Rattle.page.specs.Waits.{Waits};
 ghost use Rattle.darts.specs.Cases.{answer_of};
 ghost use Rattle.pyramid.specs.Values.{left, tally_of, counts_left};
@@ -15,7 +15,8 @@ use std::io::Write;
 // The line of a refused file, which is lent for the contract alone: no other answer can stand in its line.
 fn refusal<W: Write>(out: &mut W, file: &[u8], answer: Answer, page: &mut [u8]) -> io::Result<usize>
     requires { Refused file.now (answer_of answer) × Waits 0 page.old }
-    ensures { IfOk result (λ at. Waits at page.new) }
+    ensures ok { IfOk result (λ at. Waits at page.new) }
+    ensures err { OnErr result (length page.new ≡ length page.old) }
 {
     let number = page::field(out, page, 0, b"refusal=", answer.number() as u64)?;
     let place = page::field(out, page, number, b" place=", answer.place() as u64)?;
@@ -71,7 +72,8 @@ fn level<W: Write>(
     page: &mut [u8],
 ) -> io::Result<Said>
     requires { LineOf said.levels file.now (tally_of counts) × Waits said.used page.old }
-    ensures { IfOk result (λ r. (r.levels ≡ said.levels + 1) × Waits r.used page.new) }
+    ensures ok { IfOk result (λ r. (r.levels ≡ said.levels + 1) × Waits r.used page.new) }
+    ensures err { OnErr result (length page.new ≡ length page.old) }
 {
     let k = said.levels;
     let number = page::field(out, page, said.used, b"level=", k as u64)?;
@@ -102,7 +104,8 @@ fn levels<W: Write>(
     page: &mut [u8],
 ) -> io::Result<Said>
     requires { Accepted file.now top × Tables table.old history.old work.old × Waits 0 page.old }
-    ensures { IfOk result (λ r. AllLines r.levels file.now × Waits r.used page.new) }
+    ensures ok { IfOk result (λ r. AllLines r.levels file.now × Waits r.used page.new) }
+    ensures err { OnErr result (Tables table.new history.new work.new × (length page.new ≡ length page.old)) }
 {
     let mut said = Said { levels: 0, used: 0 };
     while said.levels <= top {
@@ -116,7 +119,8 @@ fn levels<W: Write>(
 // The last line, once every level has its own.
 fn end<W: Write>(out: &mut W, file: &[u8], said: Said, page: &mut [u8]) -> io::Result<usize>
     requires { AllLines said.levels file.now × Waits said.used page.old }
-    ensures { IfOk result (λ at. Waits at page.new) }
+    ensures ok { IfOk result (λ at. Waits at page.new) }
+    ensures err { OnErr result (length page.new ≡ length page.old) }
 {
     page::text(out, page, said.used, b"end=ok\n")
 }
@@ -131,7 +135,8 @@ fn report<W: Write>(
     page: &mut [u8],
 ) -> io::Result<usize>
     requires { Tables table.old history.old work.old × Waits 0 page.old }
-    ensures { IfOk result (λ at. Waits at page.new) }
+    ensures ok { IfOk result (λ at. Waits at page.new) }
+    ensures err { OnErr result (Tables table.new history.new work.new × (length page.new ≡ length page.old)) }
 {
     let read = reader::read(file, table, history, work);
     let answer = read.answer;

@@ -1,9 +1,10 @@
 // A page of text on its way to a writer. The first `used` bytes of it wait; a full page is written before more is put on
 // it. Each function answers how many bytes wait then, or why the writer took no more. And the bytes of an input, read into
-// room that is fixed.
+// room that is fixed. The only error is the writer's own, or the reader's, passed on as it came; what is lent then has the
+// length that it had.
 #![tactic(auto)]
 
-ghost use Rattle.std.specs.Prelude.{◌≡◌, ◌≤◌, ◌<◌, IfOk, nat_abs, length};
+ghost use Rattle.std.specs.Prelude.{◌≡◌, ◌≤◌, ◌<◌, IfOk, OnErr, nat_abs, length};
 ghost use Rattle.page.specs.Waits.{Waits};
 
 use itoa::Buffer;
@@ -32,7 +33,8 @@ fn free<W: Write>(out: &mut W, page: &[u8], used: usize) -> io::Result<usize>
 // One byte more.
 fn byte<W: Write>(out: &mut W, page: &mut [u8], used: usize, b: u8) -> io::Result<usize>
     requires { Waits used page.old }
-    ensures { IfOk result (λ at. Waits at page.new) }
+    ensures ok { IfOk result (λ at. Waits at page.new) }
+    ensures err { OnErr result (page.new ≡ page.old) }
 {
     let at = free(out, page, used)?;
     page[at] = b;
@@ -42,7 +44,8 @@ fn byte<W: Write>(out: &mut W, page: &mut [u8], used: usize, b: u8) -> io::Resul
 // The bytes of a text.
 pub fn text<W: Write>(out: &mut W, page: &mut [u8], used: usize, bytes: &[u8]) -> io::Result<usize>
     requires { Waits used page.old }
-    ensures { IfOk result (λ at. Waits at page.new) }
+    ensures ok { IfOk result (λ at. Waits at page.new) }
+    ensures err { OnErr result (length page.new ≡ length page.old) }
 {
     let mut at = used;
     let mut i = 0;
@@ -56,7 +59,8 @@ pub fn text<W: Write>(out: &mut W, page: &mut [u8], used: usize, bytes: &[u8]) -
 // The decimal digits of a number.
 pub fn number<W: Write>(out: &mut W, page: &mut [u8], used: usize, n: u64) -> io::Result<usize>
     requires { Waits used page.old }
-    ensures { IfOk result (λ at. Waits at page.new) }
+    ensures ok { IfOk result (λ at. Waits at page.new) }
+    ensures err { OnErr result (length page.new ≡ length page.old) }
 {
     let mut digits = Buffer::new();
     text(out, page, used, digits.format(n).as_bytes())
@@ -71,7 +75,8 @@ pub fn field<W: Write>(
     n: u64,
 ) -> io::Result<usize>
     requires { Waits used page.old }
-    ensures { IfOk result (λ at. Waits at page.new) }
+    ensures ok { IfOk result (λ at. Waits at page.new) }
+    ensures err { OnErr result (length page.new ≡ length page.old) }
 {
     let at = text(out, page, used, key)?;
     number(out, page, at, n)
@@ -97,7 +102,8 @@ pub fn signed<W: Write>(
     n: i32,
 ) -> io::Result<usize>
     requires { Waits used page.old }
-    ensures { IfOk result (λ at. Waits at page.new) }
+    ensures ok { IfOk result (λ at. Waits at page.new) }
+    ensures err { OnErr result (length page.new ≡ length page.old) }
 {
     let at = text(out, page, used, key)?;
     if n < 0 {
@@ -118,7 +124,8 @@ pub fn counts<W: Write>(
     euler: i32,
 ) -> io::Result<usize>
     requires { Waits used page.old }
-    ensures { IfOk result (λ at. Waits at page.new) }
+    ensures ok { IfOk result (λ at. Waits at page.new) }
+    ensures err { OnErr result (length page.new ≡ length page.old) }
 {
     let first = field(out, page, used, b" darts=", darts as u64)?;
     let second = field(out, page, first, b" vertices=", vertices as u64)?;
@@ -128,7 +135,8 @@ pub fn counts<W: Write>(
 
 // Reads until the room is full or the input ends: answers how many bytes were read, which stand at the room's start.
 pub fn fill<R: Read>(input: &mut R, room: &mut [u8]) -> io::Result<usize>
-    ensures { IfOk result (λ n. n ≤ length room.new) }
+    ensures ok { IfOk result (λ n. n ≤ length room.new) }
+    ensures err { OnErr result (length room.new ≡ length room.old) }
 {
     let mut done = 0;
     while done < room.len() {

@@ -5,6 +5,7 @@
 --   drawn_by       == the call on the codes that were turned is the call on the drawing's plan
 --   refused_stays  == a refused plan is left as the call left it
 --   accepted_files == an accepted plan's state is written
+--   holds_filed    == what the writer leaves stands in the rooms
 --   place_within   == the place of an accepted answer, the file's length, lies within the output
 use mathlib.Core.Bool.{Bool}
 use mathlib.Core.List.{List}
@@ -28,7 +29,7 @@ use Rattle.pyramid.specs.declared.Outcome.{Outcome}
 use Rattle.writer.specs.Filed.{filed}
 use Rattle.laws.proofs.sentences.Writing.{write_accepted}
 use Rattle.plan.specs.Drawing.{wales_of, wrong_from, wrong_line, courses_of, upside_down, plan_of, Fits, Right}
-use Rattle.plan.specs.Files.{called, drawn, written}
+use Rattle.plan.specs.Files.{called, drawn, written, Holds}
 use Rattle.plan.proofs.Turned.{plan_length}
 
 pub none_wrong : (d : List ℕ) {w n : ℕ} → w ≡ wales_of d → n ≡ wrong_from w 0 1 d → n ≡ 0 → wrong_line d ≡ 0
@@ -84,3 +85,12 @@ place_within r a o e number none place size =
     let within : (written a o).answer.place ≤ length o = file_within a o zero in
     let at : (answer_of r).place ≡ (written a o).answer.place = ap (λ x. x.place) same in
     omega (arith, within, at, place, size)
+
+pub holds_filed : (r : Answer) {t h k o : List ℕ} {a : Written} → filed r t h k o ≡ a → Holds a t h k o
+holds_filed r e =
+    record {
+      table = ap (λ (x : Written). x.table) e;
+      history = ap (λ (x : Written). x.history) e;
+      work = ap (λ (x : Written). x.work) e;
+      output = ap (λ (x : Written). x.output) e;
+    }

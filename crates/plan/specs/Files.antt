@@ -3,7 +3,8 @@
 --   drawn b d t h w       == that call on the plan of the drawing d
 --   written a o           == what is left once the state that a call handed back is written to the output o; a refusal stays as it is
 --   printed b d t h w o   == the answer to the drawing d, with its file in the output where that is 0
-use Rattle.std.specs.Prelude.{Bool, List, ℕ, eqb}
+--   Holds a t h w o       == the table, the history, the work area and the output are what a leaves
+use Rattle.std.specs.Prelude.{Bool, List, ℕ, ◌≡◌, eqb}
 use Rattle.std.specs.Prelude.{if◌then◌else◌}
 use Rattle.darts.specs.Calls.{After, Written, write}
 use Rattle.grids.specs.Grid.{Grid, flat}
@@ -24,3 +25,9 @@ written a o =
 
 unfoldable pub printed : Bool → List ℕ → List ℕ → List ℕ → List ℕ → List ℕ → Written
 printed b d t h w o = written (drawn b d t h w) o
+
+pub record Holds (a : Written) (t h w o : List ℕ) : Type 0 where
+  pub table : t ≡ a.table
+  pub history : h ≡ a.history
+  pub work : w ≡ a.work
+  pub output : o ≡ a.output

@@ -8,7 +8,7 @@ mod prints;
 mod rooms;
 mod words;
 
-ghost use Rattle.std.specs.Prelude.{◌≤◌, length};
+ghost use Rattle.std.specs.Prelude.{◌≡◌, ◌≤◌, OnErr, length};
 
 use drawing::{wales, wrong_line};
 use prints::{error, print};
@@ -35,7 +35,9 @@ fn read<R: Read, W: Write>(
     out: &mut W,
     drawing: &mut [u8],
     base: bool,
-) -> io::Result<()> {
+) -> io::Result<()>
+    ensures { OnErr result (length drawing.new ≡ length drawing.old) }
+{
     let n = page::fill(input, drawing)?;
     if 65536 < n {
         return error(out, 0);
@@ -49,7 +51,9 @@ fn read_and_print<R: Read, W: Write>(
     out: &mut W,
     drawing: &mut DrawingRoom,
     base: bool,
-) -> io::Result<()> {
+) -> io::Result<()>
+    ensures { OnErr result (length drawing.new ≡ length drawing.old) }
+{
     read(input, out, drawing, base)
 }
 

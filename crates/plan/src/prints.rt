@@ -1,6 +1,7 @@
 // What is printed: the file, the line of a refused plan, the line of a wrong drawing.
-ghost use Rattle.std.specs.Prelude.{◌≡◌, ◌≤◌, length};
+ghost use Rattle.std.specs.Prelude.{◌≡◌, ◌≤◌, OnErr, length};
 ghost use Rattle.plan.specs.Drawing.{wrong_line};
+ghost use Rattle.plan.specs.Files.{printed, Holds};
 
 use crate::file::file;
 use crate::rooms::{HistoryRoom, OutputRoom, PlanRoom, TableRoom, WorkRoom};
@@ -33,6 +34,7 @@ fn print_file<W: Write>(out: &mut W, output: &[u8], n: usize) -> io::Result<()>
 }
 
 // Prints the file of a drawing, or why there is none.
+#[tactic(auto, using(crate::proofs::Files::holds_filed))]
 fn print_in<W: Write>(
     out: &mut W,
     drawing: &[u8],
@@ -44,6 +46,8 @@ fn print_in<W: Write>(
     output: &mut OutputRoom,
 ) -> io::Result<()>
     requires { (wrong_line drawing.now ≡ 0) × (length drawing.now ≤ 65536) }
+    ensures { OnErr result (Holds (printed base drawing.now table.old history.old work.old output.old)
+        table.new history.new work.new output.new × (length plan.new ≡ length plan.old)) }
 {
     let answer = file(drawing, base, plan, table, history, work, output);
     if answer.number() != 0 {

@@ -1,5 +1,5 @@
 // The lines of `costs`: the stitches and the yarn of each zone.
-ghost use Rattle.std.specs.Prelude.{◌≤◌, IfOk, length};
+ghost use Rattle.std.specs.Prelude.{◌≡◌, ◌≤◌, IfOk, OnErr, length};
 ghost use Rattle.page.specs.Waits.{Waits};
 
 use crate::prints::keyed;
@@ -42,7 +42,8 @@ fn decimal<W: Write>(
     thousandths: u64,
 ) -> io::Result<usize>
     requires { Waits used page.old }
-    ensures { IfOk result (λ at. Waits at page.new) }
+    ensures ok { IfOk result (λ at. Waits at page.new) }
+    ensures err { OnErr result (length page.new ≡ length page.old) }
 {
     let whole = page::number(out, page, used, thousandths / 1000)?;
     let first = page::field(out, page, whole, b".", thousandths / 100 % 10)?;
@@ -53,7 +54,8 @@ fn decimal<W: Write>(
 // Metres, or "`?` where it is no number from 0 to 10^12".
 fn metres<W: Write>(out: &mut W, page: &mut [u8], used: usize, metres: f64) -> io::Result<usize>
     requires { Waits used page.old }
-    ensures { IfOk result (λ at. Waits at page.new) }
+    ensures ok { IfOk result (λ at. Waits at page.new) }
+    ensures err { OnErr result (length page.new ≡ length page.old) }
 {
     if metres != metres {
         return page::text(out, page, used, b"?");
@@ -70,7 +72,8 @@ fn metres<W: Write>(out: &mut W, page: &mut [u8], used: usize, metres: f64) -> i
 // What a record says of its yarn, "`-` where not measured".
 fn figure<W: Write>(out: &mut W, page: &mut [u8], used: usize, record: Zone) -> io::Result<usize>
     requires { Waits used page.old }
-    ensures { IfOk result (λ at. Waits at page.new) }
+    ensures ok { IfOk result (λ at. Waits at page.new) }
+    ensures err { OnErr result (length page.new ≡ length page.old) }
 {
     let yarn = record.yarn;
     match yarn {

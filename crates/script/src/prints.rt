@@ -1,5 +1,5 @@
 // The parts of what is printed: of a call's line, of the lines of `show`, an error line.
-ghost use Rattle.std.specs.Prelude.{◌≤◌, IfOk, length};
+ghost use Rattle.std.specs.Prelude.{◌≡◌, ◌≤◌, IfOk, OnErr, length};
 ghost use Rattle.page.specs.Waits.{Waits};
 
 use crate::sizes::{least, size};
@@ -16,7 +16,8 @@ pub fn keyed<W: Write>(
     number: u32,
 ) -> io::Result<usize>
     requires { Waits used page.old }
-    ensures { IfOk result (λ at. Waits at page.new) }
+    ensures ok { IfOk result (λ at. Waits at page.new) }
+    ensures err { OnErr result (length page.new ≡ length page.old) }
 {
     page::field(out, page, used, key, number as u64)
 }
@@ -34,7 +35,8 @@ pub fn state_line<W: Write>(
     faces: u32,
 ) -> io::Result<usize>
     requires { Waits used page.old }
-    ensures { IfOk result (λ at. Waits at page.new) }
+    ensures ok { IfOk result (λ at. Waits at page.new) }
+    ensures err { OnErr result (length page.new ≡ length page.old) }
 {
     let first = keyed(out, page, used, key, darts)?;
     let second = keyed(out, page, first, b" ", operations)?;
@@ -51,7 +53,8 @@ pub fn sums_line<W: Write>(
     sums: Sums,
 ) -> io::Result<usize>
     requires { Waits used page.old }
-    ensures { IfOk result (λ at. Waits at page.new) }
+    ensures ok { IfOk result (λ at. Waits at page.new) }
+    ensures err { OnErr result (length page.new ≡ length page.old) }
 {
     let ends = page::field(out, page, used, b" ends=", sums.ends)?;
     let table = page::field(out, page, ends, b" table=", sums.table)?;
@@ -69,7 +72,8 @@ pub fn answer_line<W: Write>(
     second: usize,
 ) -> io::Result<usize>
     requires { Waits 0 page.old }
-    ensures { IfOk result (λ at. Waits at page.new) }
+    ensures ok { IfOk result (λ at. Waits at page.new) }
+    ensures err { OnErr result (length page.new ≡ length page.old) }
 {
     let answer = keyed(out, page, 0, b"answer=", number)?;
     let at = page::field(out, page, answer, b" place=", place as u64)?;
@@ -86,7 +90,8 @@ pub fn found_line<W: Write>(
     sums: FoundSums,
 ) -> io::Result<usize>
     requires { Waits used page.old }
-    ensures { IfOk result (λ at. Waits at page.new) }
+    ensures ok { IfOk result (λ at. Waits at page.new) }
+    ensures err { OnErr result (length page.new ≡ length page.old) }
 {
     let found = keyed(out, page, used, b" dart=", dart)?;
     let walk = keyed(out, page, found, b" passed=", passed)?;
@@ -105,7 +110,8 @@ fn rest<W: Write>(
     n: usize,
 ) -> io::Result<usize>
     requires { Waits used page.old × (n ≤ length numbers.now) }
-    ensures { IfOk result (λ at. Waits at page.new) }
+    ensures ok { IfOk result (λ at. Waits at page.new) }
+    ensures err { OnErr result (length page.new ≡ length page.old) }
 {
     let mut at = used;
     let mut i = from;
@@ -126,7 +132,8 @@ pub fn list<W: Write>(
     n: usize,
 ) -> io::Result<usize>
     requires { Waits used page.old × (n ≤ length numbers.now) }
-    ensures { IfOk result (λ at. Waits at page.new) }
+    ensures ok { IfOk result (λ at. Waits at page.new) }
+    ensures err { OnErr result (length page.new ≡ length page.old) }
 {
     if n == 0 {
         let at = page::text(out, page, used, key)?;
@@ -145,7 +152,8 @@ pub fn ends<W: Write>(
     levels: u32,
 ) -> io::Result<usize>
     requires { Waits used page.old }
-    ensures { IfOk result (λ at. Waits at page.new) }
+    ensures ok { IfOk result (λ at. Waits at page.new) }
+    ensures err { OnErr result (length page.new ≡ length page.old) }
 {
     let n = least(size(levels), 64);
     rest(out, page, used, all, 0, n)

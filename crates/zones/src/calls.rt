@@ -1,5 +1,5 @@
 // The commands that are calls. Each is lent the first T, H and W numbers of the rooms, and prints its line.
-ghost use Rattle.std.specs.Prelude.{◌≤◌, IfOk, length};
+ghost use Rattle.std.specs.Prelude.{◌≡◌, ◌≤◌, IfOk, OnErr, length};
 ghost use Rattle.zones.specs.Lent.{Lent};
 ghost use Rattle.script.specs.Scanned.{Scanned};
 ghost use Rattle.zones.specs.Within.{Within};
@@ -167,7 +167,10 @@ fn write<W: Write>(
     output: &mut OutputRoom,
 ) -> io::Result<Held>
     requires { Within held }
-    ensures { IfOk result (λ h. Within h) }
+    ensures ok { IfOk result (λ h. Within h) }
+    ensures err { OnErr result ((length table.new ≡ length table.old)
+        × (length history.new ≡ length history.old) × (length work.new ≡ length work.old)
+        × (length output.new ≡ length output.old)) }
 {
     if 599996 < n {
         return Ok(held.with_wrong(true));
@@ -213,7 +216,9 @@ fn flat<W: Write>(
     output: &OutputRoom,
 ) -> io::Result<Held>
     requires { Within held }
-    ensures { IfOk result (λ h. Within h) }
+    ensures ok { IfOk result (λ h. Within h) }
+    ensures err { OnErr result ((length table.new ≡ length table.old)
+        × (length history.new ≡ length history.old) × (length work.new ≡ length work.old)) }
 {
     let n = size(numbers[2]);
     if 16384 < n {
@@ -246,7 +251,9 @@ fn step<W: Write>(
     output: &OutputRoom,
 ) -> io::Result<Held>
     requires { Within held × Scanned script.now line }
-    ensures { IfOk result (λ h. Within h) }
+    ensures ok { IfOk result (λ h. Within h) }
+    ensures err { OnErr result ((length table.new ≡ length table.old)
+        × (length history.new ≡ length history.old) × (length work.new ≡ length work.old)) }
 {
     let outcome = lent(held, line, script, numbers, table, history, work);
     hold(out, held, outcome, table, history, work, output)
@@ -267,7 +274,10 @@ pub fn call<W: Write>(
     output: &mut OutputRoom,
 ) -> io::Result<Held>
     requires { Within held × Scanned script.now line }
-    ensures { IfOk result (λ h. Within h) }
+    ensures ok { IfOk result (λ h. Within h) }
+    ensures err { OnErr result ((length table.new ≡ length table.old)
+        × (length history.new ≡ length history.old) × (length work.new ≡ length work.old)
+        × (length output.new ≡ length output.old)) }
 {
     if line.command == WRITE {
         return write(out, held, size(numbers[0]), table, history, work, output);

@@ -1,5 +1,5 @@
 // The lines of a script, one after another.
-ghost use Rattle.std.specs.Prelude.{IfOk};
+ghost use Rattle.std.specs.Prelude.{◌≡◌, IfOk, OnErr, length};
 ghost use Rattle.script.specs.Scanned.{Scanned};
 ghost use Rattle.zones.specs.Within.{Within};
 
@@ -36,7 +36,10 @@ fn plain<W: Write>(
     output: &mut OutputRoom,
 ) -> io::Result<Held>
     requires { Within held × Scanned script.now line }
-    ensures { IfOk result (λ h. Within h) }
+    ensures ok { IfOk result (λ h. Within h) }
+    ensures err { OnErr result ((plan.new ≡ plan.old) × (length table.new ≡ length table.old)
+        × (length history.new ≡ length history.old) × (ends.new ≡ ends.old)
+        × (length work.new ≡ length work.old) × (length output.new ≡ length output.old)) }
 {
     if line.command == 0 {
         return Ok(held.with_wrong(true));
@@ -76,7 +79,11 @@ pub fn obey<W: Write>(
     kept: &mut KeptRoom,
 ) -> io::Result<Held>
     requires { Within held × Scanned script.now line }
-    ensures { IfOk result (λ h. Within h) }
+    ensures ok { IfOk result (λ h. Within h) }
+    ensures err { OnErr result ((plan.new ≡ plan.old) × (length table.new ≡ length table.old)
+        × (length history.new ≡ length history.old) × (ends.new ≡ ends.old)
+        × (length work.new ≡ length work.old) × (length output.new ≡ length output.old)
+        × (length sheet.new ≡ length sheet.old) × (length kept.new ≡ length kept.old)) }
 {
     if line.command < SHEET {
         return plain(
@@ -115,7 +122,13 @@ pub fn each<W: Write>(
     output: &mut OutputRoom,
     sheet: &mut SheetRoom,
     kept: &mut KeptRoom,
-) -> io::Result<()> {
+) -> io::Result<()>
+    ensures { OnErr result ((length numbers.new ≡ length numbers.old) × (length plan.new ≡ length plan.old)
+        × (length table.new ≡ length table.old) × (length history.new ≡ length history.old)
+        × (length ends.new ≡ length ends.old) × (length work.new ≡ length work.old)
+        × (length output.new ≡ length output.old) × (length sheet.new ≡ length sheet.old)
+        × (length kept.new ≡ length kept.old)) }
+{
     let mut held = nothing();
     let mut at = 0;
     for k in 0..script.len() {

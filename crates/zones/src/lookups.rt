@@ -1,4 +1,5 @@
 // The command `successor`: the dart that follows another at a level.
+ghost use Rattle.std.specs.Prelude.{◌≡◌, OnErr, length};
 ghost use Rattle.zones.specs.Lent.{Lent};
 ghost use Rattle.zones.specs.Within.{Within};
 
@@ -45,6 +46,7 @@ pub fn successor<W: Write>(
     work: &mut WorkRoom,
 ) -> io::Result<()>
     requires { Within held }
+    ensures { OnErr result (length work.new ≡ length work.old) }
 {
     let looked = followed(held, numbers[0], numbers[1], numbers[2], table, ends, work);
     print_found(out, held, looked, table, ends, work)

@@ -12,12 +12,16 @@ mod settings;
 mod sheet_calls;
 mod sums;
 
+ghost use Rattle.std.specs.Prelude.{◌≡◌, OnErr, length};
+
 use rooms::ScriptRoom;
 use std::io;
 use std::io::{Read, Write};
 
 // "A script is at most 3,000,000 bytes". One byte more says that it is longer.
-fn run<R: Read, W: Write>(input: &mut R, out: &mut W, script: &mut [u8]) -> io::Result<()> {
+fn run<R: Read, W: Write>(input: &mut R, out: &mut W, script: &mut [u8]) -> io::Result<()>
+    ensures { OnErr result (length script.new ≡ length script.old) }
+{
     let n = page::fill(input, script)?;
     if 3000000 < n {
         return out.write_all(b"error=0\n");
@@ -30,7 +34,9 @@ fn read_and_run<R: Read, W: Write>(
     input: &mut R,
     out: &mut W,
     script: &mut ScriptRoom,
-) -> io::Result<()> {
+) -> io::Result<()>
+    ensures { OnErr result (length script.new ≡ length script.old) }
+{
     run(input, out, script)
 }
 

@@ -1,5 +1,5 @@
 // What is printed of a call, and by `show`. Each line is written out at once, so that a script shows how far it came.
-ghost use Rattle.std.specs.Prelude.{◌≤◌, IfOk};
+ghost use Rattle.std.specs.Prelude.{◌≡◌, ◌≤◌, IfOk, OnErr, length};
 ghost use Rattle.page.specs.Waits.{Waits};
 ghost use Rattle.zones.specs.Within.{Within};
 
@@ -17,7 +17,8 @@ use std::io::Write;
 // "answer=A place=P second=S"
 fn answer_line<W: Write>(out: &mut W, page: &mut [u8], answer: Answer) -> io::Result<usize>
     requires { Waits 0 page.old }
-    ensures { IfOk result (λ at. Waits at page.new) }
+    ensures ok { IfOk result (λ at. Waits at page.new) }
+    ensures err { OnErr result (length page.new ≡ length page.old) }
 {
     prints::answer_line(out, page, answer.number(), answer.place(), answer.second())
 }
@@ -31,7 +32,8 @@ fn state_line<W: Write>(
     state: State,
 ) -> io::Result<usize>
     requires { Waits used page.old }
-    ensures { IfOk result (λ at. Waits at page.new) }
+    ensures ok { IfOk result (λ at. Waits at page.new) }
+    ensures err { OnErr result (length page.new ≡ length page.old) }
 {
     prints::state_line(
         out,
@@ -55,7 +57,8 @@ fn call_line<W: Write>(
     sums: Sums,
 ) -> io::Result<usize>
     requires { Waits 0 page.old }
-    ensures { IfOk result (λ at. Waits at page.new) }
+    ensures ok { IfOk result (λ at. Waits at page.new) }
+    ensures err { OnErr result (length page.new ≡ length page.old) }
 {
     let second = answer_line(out, page, answer)?;
     let held = state_line(out, page, second, b" state=", state)?;

@@ -1,5 +1,5 @@
 // The calls with sheets.
-ghost use Rattle.std.specs.Prelude.{◌≤◌, IfOk, length};
+ghost use Rattle.std.specs.Prelude.{◌≡◌, ◌≤◌, IfOk, OnErr, length};
 ghost use Rattle.zones.specs.Lent.{Lent, LentSheets};
 ghost use Rattle.zones.specs.Within.{Within};
 
@@ -102,7 +102,10 @@ pub fn step_with<W: Write>(
     kept: &mut KeptRoom,
 ) -> io::Result<Held>
     requires { Within held }
-    ensures { IfOk result (λ h. Within h) }
+    ensures ok { IfOk result (λ h. Within h) }
+    ensures err { OnErr result ((length table.new ≡ length table.old)
+        × (length history.new ≡ length history.old) × (length work.new ≡ length work.old)
+        × (length sheet.new ≡ length sheet.old) × (length kept.new ≡ length kept.old)) }
 {
     let outcome = lent_with(held, line, numbers, table, history, work, sheet, kept);
     let of_sheet = sum_records(sheet, held.sheet + 4);
