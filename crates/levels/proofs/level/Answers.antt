@@ -7,4 +7,4 @@ pub overflow_add-result : goal.overflow_add-result
 overflow_add-result g c = omega (arith, line_most c.requires.0)
 
 pub returns-clause-ok : goal.returns-clause-ok
-returns-clause-ok g c = (refl, c.in_ok-used.ensures.ok)
+returns-clause-ok g c = (omega arith, c.in_ok-used.ensures.ok)

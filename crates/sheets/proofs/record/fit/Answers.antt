@@ -1,6 +1,6 @@
 -- `record::fit` meets its contract where both tests of the metres are made; 100000.0 in the code is 3125 * 2 ^ 5.
 use mathlib.Core.Bool.{Bool, true, false, ◌&&◌}
-use mathlib.Core.Path.{◌≡◌, refl, sym, ◌∙◌, ap}
+use mathlib.Core.Path.{◌≡◌, sym, ◌∙◌, ap}
 use Prim.Native.Nat.{◌≤◌}
 use native.Mathlib.Omega.{arith}
 use lib.IntN.{pos}
@@ -29,4 +29,4 @@ returns-then-m c = from_zero c.args.z _ (omega arith) c.in-Metres.is c.if-m.true
 
 pub returns-in-Metres : goal.returns-in-Metres
 unfolding Ieee.of_bits
-returns-in-Metres c = not_from_zero c.args.z _ _ (omega arith) c.in-Metres.is c.if-m.false refl
+returns-in-Metres c = not_from_zero c.args.z _ _ (omega arith) c.in-Metres.is c.if-m.false (cc)

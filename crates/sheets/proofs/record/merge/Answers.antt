@@ -1,8 +1,7 @@
 -- `record::merge` meets its contract: at each pair of cases, what is returned is joined of the two.
-use mathlib.Core.Path.{◌≡◌, refl, sym, ◌∙◌, ap}
+use mathlib.Core.Path.{◌≡◌, sym, ◌∙◌, ap}
 use Prim.Native.Nat.{◌+◌}
 use Rattle.sheets.specs.declared.Yarn.{Yarn}
-use Rattle.sheets.specs.declared.Yarn.TheVariants.{NotMeasured}
 use Rattle.sheets.specs.declared.Zone.{Zone}
 use Rattle.sheets.specs.Records.{joined, merge_of}
 use Rattle.sheets.proofs.record.merge.Goals as goal
@@ -16,4 +15,4 @@ both : (l o : Zone) (u v w : Yarn) → l.yarn ≡ u → o.yarn ≡ v → w ≡ j
 both l o u v w p q e = ap (together l o) (e ∙ sym (ap (λ (y : Yarn). joined y o.yarn) p ∙ ap (λ (y : Yarn). joined u y) q))
 
 pub returns-in-NotMeasured-second : goal.returns-in-NotMeasured-second
-returns-in-NotMeasured-second c = both c.args.lower c.args.other _ _ NotMeasured c.in-Metres.is c.in-NotMeasured-second.is refl
+returns-in-NotMeasured-second c = both c.args.lower c.args.other _ _ _ c.in-Metres.is c.in-NotMeasured-second.is (cc)
