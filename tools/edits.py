@@ -18,7 +18,7 @@ PAGE = ROOT / "docs" / "EDITS.md"
 HEAD = """# Wrong on purpose
 
 Each row is one wrong program or wrong definition. The gate makes the edit in a copy of its crate, checks the crate, and fails where the check passes. What is wrong; what refuses it, the function or law at which the check fails first, or the computed rows, which refuse it with the laws left out too, and the law that says the same; and a twin: a harmless rewriting of the same
-line that passes, so that the edit is refused for the fact and not for the text. The twins were tried with the older kit, before the port (`docs/PORT.md`). `docs/CLAIMS.md` says how they were chosen. This page is made from the heads of the edits by `tools/edits.py`.
+line that passes, so that the edit is refused for the fact and not for the text. The twins of programs that pass were tried with today's kit; what is said of other rewritings of a line, and the twins of definitions, with the older one, before the port (`docs/PORT.md`). `docs/CLAIMS.md` says how they were chosen. This page is made from the heads of the edits by `tools/edits.py`.
 """
 
 
