@@ -1,3 +1,4 @@
+-- `pyramid::State::contract_with` meets its contract: what is made beside the sheets, and the merges that are noted.
 use mathlib.Core.Path.{sym, ap₂, ◌∙◌}
 use native.Mathlib.Omega.{arith}
 use Rattle.yarn.specs.Calls.{costed}

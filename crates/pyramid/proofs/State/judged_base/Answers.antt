@@ -1,3 +1,4 @@
+-- `pyramid::State::judged_base` meets its contract: what the plain call judges, and then the records.
 use mathlib.Core.Path.{◌∙◌, sym}
 use Rattle.pyramid.proofs.AtBase.{unfit_asks, refuse_asks, base_right, base_wrong}
 use Rattle.pyramid.proofs.State.judged_base.Goals as goal

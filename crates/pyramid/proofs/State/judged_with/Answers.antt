@@ -1,3 +1,4 @@
+-- `pyramid::State::judged_with` meets its contract: a base has its own way; else the check beside the records, and then the records.
 use mathlib.Core.Path.{◌∙◌, sym}
 use Rattle.pyramid.proofs.ChecksWith.{right_asks, accept_asks, refuse_asks, accepted, wronged}
 use Rattle.pyramid.proofs.State.judged_with.Goals as goal

@@ -1,3 +1,4 @@
+-- `pyramid::State::reduce_with` meets its contract: what is judged first, or a kernel of contractions, or one of removals, which leaves both sheets, and then the numbers put right.
 use mathlib.Core.Path.{sym, ◌∙◌}
 use Rattle.darts.specs.Calls.{reduce_by}
 use Rattle.darts.specs.Operation.{contraction, removal}

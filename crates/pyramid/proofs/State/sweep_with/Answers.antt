@@ -1,3 +1,4 @@
+-- `pyramid::State::sweep_with` meets its contract: what is judged first, or the sweep, which leaves both sheets, and then the numbers put right.
 use mathlib.Core.Path.{sym, ◌∙◌}
 use Rattle.darts.specs.Calls.{sweep_by}
 use Rattle.darts.specs.Levels.{sweep}

@@ -1,3 +1,4 @@
+-- `pyramid::State::undo_with` meets its contract: undo is unfold to the level below.
 use mathlib.Core.Path.{◌∙◌}
 use Rattle.pyramid.proofs.UnfoldedWith.{undo_with_lem}
 use Rattle.pyramid.proofs.State.undo_with.Goals as goal

@@ -1,3 +1,4 @@
+-- `pyramid::State::unfold_with` meets its contract: what is judged first, or what was kept put back, then the plain call, and the numbers put right.
 use mathlib.Core.Path.{refl, sym, ◌∙◌}
 use native.Mathlib.Omega.{arith}
 use Rattle.darts.specs.Calls.{unfold_by}

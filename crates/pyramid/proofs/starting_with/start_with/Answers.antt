@@ -1,3 +1,4 @@
+-- `pyramid::starting_with::start_with` meets its contract: the check beside the records, and then the records.
 use mathlib.Core.Path.{◌∙◌, sym, refl}
 use native.Mathlib.Omega.{arith}
 use Rattle.pyramid.proofs.StartsWith.{start_first, unfit_asks, finish_asks, few_fit, start_ends}
