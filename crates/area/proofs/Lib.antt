@@ -1,4 +1,3 @@
-pub mod Cleared
 pub mod Noting
 pub mod OfKind
 pub mod Parts

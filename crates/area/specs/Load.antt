@@ -2,19 +2,17 @@
 --   marks D w i m      == the m history numbers from place i on: their edges are marked as gone (tests 1 and 2)
 --   links D n w x m    == the m darts from x on, n operations having gone before: each survivor is noted before its successor (tests 3, 4 and 5), or who keeps it from that
 --   gone_in D n w x     == x is marked as gone, by one of n operations
---   taken b free y x   == x noted at y, where `free` stands
 --   notes D n w x      == dart x noted before its successor, if it survives
 --   beside_in D w x     == the second culprit beside x
---   verdict_at D w x    == what the test says where it stopped at x
 --   given D n t h w    == table and history laid
 --   blank D w          == nothing is known of the dart before each dart
 --   relinks D n w      == the dart before each survivor found anew: blank, then marks and links
 --   loads D n t h w    == table and history laid, and linked so
 --   loads_base D t w    == a table laid alone, and linked: no dart is gone
-use Rattle.std.specs.Prelude.{Bool, true, false, not, ◌&&◌, List, [], ℕ, zero, suc, ◌+◌, ◌*◌, ◌/◌, eqb, leb, ltb, get_or, set, take, replicate}
+use Rattle.std.specs.Prelude.{Bool, true, false, not, ◌&&◌, List, [], ℕ, zero, suc, ◌+◌, ◌*◌, ◌/◌, eqb, leb, ltb, set, take, replicate}
 use Rattle.slices.specs.Laid.{laid}
 use Rattle.std.specs.Prelude.{if◌then◌else◌}
-use Rattle.darts.specs.Map.{successor, Verdict, permutes, culprits}
+use Rattle.darts.specs.Map.{successor, permutes, culprits}
 use Rattle.area.specs.Area.{prev, stamp, Tried, tried, tried_if}
 use Rattle.area.specs.Verdicts.{Said, said, passing}
 
@@ -32,10 +30,6 @@ marks D w i (suc m) =
 unfoldable pub gone_in : ℕ → ℕ → List ℕ → ℕ → Bool
 gone_in D n w x = ltb 0 n && eqb (prev D w x) D
 
--- x at the place y of the darts before, where `free` stands
-unfoldable pub taken : List ℕ → ℕ → ℕ → ℕ → Tried
-taken b free y x = tried_if (eqb (get_or b y 0) free) b (set b y x)
-
 -- one dart of `links`
 unfoldable pub notes : ℕ → ℕ → List ℕ → ℕ → Tried
 notes D n w x =
@@ -47,10 +41,6 @@ notes D n w x =
 -- what is noted at the successor of x, D where that is no dart
 unfoldable pub beside_in : ℕ → List ℕ → ℕ → ℕ
 beside_in D w x = if leb D (successor w x) then D else prev D w (successor w x)
-
--- the darts below x are linked, and x is not, or all are
-unfoldable pub verdict_at : ℕ → List ℕ → ℕ → Verdict
-verdict_at D w x = if ltb x D then culprits x (beside_in D w x) else permutes
 
 -- test 3: the entry is below D; tests 4 and 5: a survivor's entry survives, and no survivor was noted there
 unfoldable pub links : ℕ → ℕ → List ℕ → ℕ → ℕ → Said

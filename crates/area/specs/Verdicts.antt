@@ -1,16 +1,15 @@
 -- What the permutation test says, as the code has it.
---   verdict_of v == the verdict of the definitions that a case is
+--   verdict_of r == the verdict of the definitions that a result is: passed, or two culprits
 --   Said        == a verdict, and the work area after the test
 --   passing s   == whether it is passed, and the work area
-use Rattle.std.specs.Prelude.{List, ℕ}
+use Rattle.std.specs.Prelude.{List, ℕ, Result, Ok, Err}
 use Rattle.darts.specs.Map.{Verdict as Decided, permutes, culprits, passed}
 use Rattle.area.specs.Area.{Tried, tried}
-use Rattle.area.specs.declared.Verdict.{Verdict}
-use Rattle.area.specs.declared.Verdict.TheVariants.{Permutes, Culprits}
+use Rattle.area.specs.declared.Culprits.{Culprits}
 
-abbrev pub verdict_of : Verdict → Decided
-verdict_of Permutes = permutes
-verdict_of (Culprits d c) = culprits d c
+abbrev pub verdict_of : {T : Type 0} → Result T Culprits → Decided
+verdict_of (Ok x) = permutes
+verdict_of (Err c) = culprits c.dart c.beside
 
 pub record Said : Type 0 where
   pub verdict : Decided

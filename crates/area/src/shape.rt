@@ -4,38 +4,17 @@ ghost use Rattle.darts.specs.Moves.{contractions_in};
 ghost use Rattle.darts.specs.Tests.{one_kind, rises, zeros, shaped};
 ghost use Rattle.slices.specs.Part.{part};
 ghost use Rattle.area.specs.Area.{Room};
-ghost use Rattle.area.specs.Shape.{state_with, history_in, has_kind};
+ghost use Rattle.area.specs.Shape.{state_with, history_in};
 
 use crate::Figures;
 use slices::at;
-
-// Whether one of the history numbers at the places from `from` to `to` is of kind k.
-fn has_kind(work: &[u32], from: usize, to: usize, k: usize) -> bool
-    requires { to ≤ length work.now }
-    ensures { result ≡ has_kind k (part from to work.now) }
-{
-    let mut i = from;
-    while i < to {
-        if at(work, i) % 2 == k {
-            return true;
-        }
-        i += 1;
-    }
-    false
-}
 
 // How many of the history numbers at the places from `from` to `to` are contractions'.
 pub fn contractions(numbers: &[u32], from: usize, to: usize) -> usize
     requires { (from ≤ to) × (to ≤ length numbers.now) }
     ensures { result ≡ contractions_in (part from to numbers.now) }
 {
-    let mut n = 0;
-    let mut i = from;
-    while i < to {
-        n += at(numbers, i) % 2;
-        i += 1;
-    }
-    n
+    numbers[from..to].iter().map(|h| (*h % 2) as usize).sum()
 }
 
 // Whether they are of one kind, the first one's: none is of the other.
@@ -43,53 +22,44 @@ fn one_kind(work: &[u32], from: usize, to: usize) -> bool
     requires { (from < to) × (to ≤ length work.now) }
     ensures { result ≡ one_kind (part from to work.now) }
 {
-    let other = 1 - at(work, from) % 2;
-    !has_kind(work, from + 1, to, other)
+    let k = work[from] % 2;
+    work[from + 1..to].iter().all(|h| *h % 2 == k)
 }
 
 // Whether the ends past the levels are 0.
-fn unused(levels: usize, ends: [u32; 64]) -> bool
-    requires { levels ≤ 64 }
-    ensures { result ≡ zeros (drop levels ends) }
+fn unused(state: Figures) -> bool
+    requires { state.levels ≤ 64 }
+    ensures { result ≡ zeros (drop state.levels state.ends) }
 {
-    let mut i = levels;
-    while i < 64 {
-        if ends[i] != 0 {
-            return false;
-        }
-        i += 1;
-    }
-    true
+    state.ends[state.levels..].iter().all(|end| *end == 0)
 }
 
 // Whether the ends of the levels rise to the number of operations, with one kind inside each level.
-fn rise(work: &[u32], d: usize, operations: usize, levels: usize, ends: [u32; 64]) -> bool
-    requires room { Room d work.now }
-    requires operations_le_d { (operations ≤ d) × (levels ≤ 64) }
-    ensures { result ≡ rises 0 (take levels ends) (history_in d operations work.now) }
+fn rise(work: &[u32], state: Figures) -> bool
+    requires room { Room state.darts work.now }
+    requires operations_le_darts { (state.operations ≤ state.darts) × (state.levels ≤ 64) }
+    ensures { result ≡ rises 0 (take state.levels state.ends) (history_in state.darts state.operations work.now) }
 {
-    let past = 3 * d;
+    let past = 3 * state.darts;
     let mut from = 0;
-    let mut i = 0;
-    while i < levels {
-        let end = ends[i] as usize;
+    for end in &state.ends[..state.levels] {
+        let end = *end as usize;
         if end <= from {
             return false;
         }
-        if operations < end {
+        if state.operations < end {
             return false;
         }
-        if one_kind(work, past + from, past + end) {
-            from = end;
-            i += 1;
-        } else {
+        if !one_kind(work, past + from, past + end) {
             return false;
         }
+        from = end;
     }
-    from == operations
+    from == state.operations
 }
 
 // Whether the state fits the history in the work area.
+#[tactic(auto, unfolding(darts::specs::Tests::shaped))]
 pub fn shape(work: &[u32], state: Figures) -> bool
     requires room { Room state.darts work.now }
     requires operations_le_darts { state.operations ≤ state.darts }
@@ -98,9 +68,5 @@ pub fn shape(work: &[u32], state: Figures) -> bool
     if 64 < state.levels {
         return false;
     }
-    let ends = state.ends;
-    if unused(state.levels, ends) {
-        return rise(work, state.darts, state.operations, state.levels, ends);
-    }
-    false
+    unused(state) && rise(work, state)
 }

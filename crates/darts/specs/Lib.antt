@@ -2,6 +2,7 @@ pub mod Map
 pub mod Answers
 pub mod Cases
 pub mod Operation
+pub mod Kinds
 pub mod Kernel
 pub mod State
 pub mod Levels

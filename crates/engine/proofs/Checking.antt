@@ -25,8 +25,7 @@ use Rattle.area.specs.Area.{Room, table_in, past_in, tried}
 use Rattle.area.specs.Load.{loads}
 use Rattle.engine.specs.Held.{Area, Beyond}
 use Rattle.engine.specs.Checks.{Decided, Checked}
-use Rattle.engine.specs.Counted.{FindsCycles}
-use Rattle.engine.specs.declared.Found.{Found}
+use Rattle.engine.specs.Counted.{CyclesAre}
 use Rattle.engine.proofs.Area.{room_kept}
 use Rattle.engine.proofs.Beside.{beside_table, beside_past, beside_area, beside_rooted}
 use Rattle.engine.proofs.Decides.{refuted, pyramid_loads, pyramid_few}
@@ -82,7 +81,7 @@ module _ (s : State) (coming : ℕ) (t h : List ℕ) where
     load_no e = refuses (loaded_beyond L) (λ P. rw (← L.fine, e) at (pyramid_loads P))
 
     -- what is found of the loaded map is found of the table and the history
-    pub check_finds : {f : Found} → FindsCycles D (table_in D v) (past_in D n v) f → FindsCycles D (table_of s t) (past_of s h) f
+    pub check_finds : {x y : ℕ} → CyclesAre D (table_in D v) (past_in D n v) x y → CyclesAre D (table_of s t) (past_of s h) x y
     unfolding table_of past_of
     check_finds F = rw (L.table, L.past) at F
 

@@ -8,6 +8,7 @@ use mathlib.Core.Bool.{Bool, true, false}
 use mathlib.Core.List.{List, reverse, reverse-reverse}
 use mathlib.Core.Path.{◌≡◌, refl, sym, ap, ◌∙◌}
 use Prim.Native.Nat.{ℕ, ◌+◌, ◌-◌, ◌*◌, ◌/◌, ◌≤◌, ◌<◌}
+use Rattle.std.proofs.Common.{Option}
 use native.Mathlib.Omega.{arith}
 use lib.ListN.{take, drop}
 use Rattle.permutations.specs.Choice.{true→T}
@@ -18,7 +19,7 @@ use Rattle.area.specs.Shape.{history_in}
 use Rattle.engine.specs.Held.{Area}
 use Rattle.engine.specs.Checks.{Decided, CheckedLaid}
 use Rattle.engine.specs.Counted.{FindsCycles}
-use Rattle.engine.specs.declared.Found.{Found}
+use Rattle.engine.specs.declared.Cycles.{Cycles}
 use Rattle.engine.proofs.Checking.{loaded_beyond, decided_beyond}
 use Rattle.engine.proofs.Ready.{beyond_trans}
 use Rattle.engine.proofs.Decides.{refuted, pyramid_loads, pyramid_few}
@@ -69,5 +70,5 @@ module _ (s : State) where
       history = ap (take (3 * D + n - 3 * D)) δ.rest ∙ v_history;
     }
 
-    pub laid_finds : {f : Found} → FindsCycles D (table_in D v) (past_in D n v) f → FindsCycles D (table_in D w) (past_in D n w) f
-    laid_finds F = rw (L.table, v_past) at F
+    pub laid_finds : (f : Option Cycles) → FindsCycles D (table_in D v) (past_in D n v) f → FindsCycles D (table_in D w) (past_in D n w) f
+    laid_finds f F = rw (L.table, v_past) at F

@@ -8,9 +8,9 @@
 use mathlib.Core.Bool.{Bool, ◌&&◌}
 use mathlib.Core.List.{List, []}
 use mathlib.Core.Logic.Iff
-use mathlib.Core.Logic.{◌≢◌, ◌↔◌}
+use mathlib.Core.Logic.{◌↔◌}
 use mathlib.Core.Path.{◌≡◌, refl, ap, ◌∙◌}
-use Prim.Native.Nat.{ℕ, zero, suc, ◌+◌, ◌-◌, ◌*◌, ◌≤◌, ◌<◌}
+use Prim.Native.Nat.{ℕ, zero, suc, ◌+◌, ◌*◌, ◌≤◌, ◌<◌}
 use native.Mathlib.Decide.{dec_lt}
 use native.Mathlib.Omega.{arith}
 use lib.Dec.{T, eqb}
@@ -130,14 +130,13 @@ unfolding around face_next counts_of
 base_counted t i j = cycles_are i j
 
 -- one kind after the other, of which the second finds the same base
-module _ {D x y : ℕ} (k : ℕ) {w v : List ℕ} (o : Outside D w v) (i : y ≡ cycles (around (1 - k) (table_in D w)) D [] D)
-    (j : x ≡ cycles (around k (table_in D v)) D [] D) where
-  second : x ≡ cycles (around k (table_in D w)) D [] D
-  second = j ∙ ap (λ t. cycles (around k t) D [] D) (beside_table o)
+module _ {D : ℕ} {w v : List ℕ} (o : Outside D w v) where
+  same : (k : ℕ) → cycles (around k (table_in D v)) D [] D ≡ cycles (around k (table_in D w)) D [] D
+  same k = ap (λ t. cycles (around k t) D [] D) (beside_table o)
 
-  pub both_counted : k ≡ 1 → CyclesAre D (table_in D w) [] x y
-  both_counted e = let z : 1 - k ≡ 0 = omega arith in base_counted (table_in D w) (rw e at second) (rw z at i)
+  pub both_counted : {x y : ℕ} → y ≡ cycles (around 0 (table_in D w)) D [] D → x ≡ cycles (around 1 (table_in D v)) D [] D → CyclesAre D (table_in D w) [] x y
+  both_counted i j = base_counted (table_in D w) (j ∙ same 1) i
 
-  pub both_counted_back : k ≤ 1 → k ≢ 1 → CyclesAre D (table_in D w) [] y x
-  both_counted_back l n =
-      let e : k ≡ 0 = omega arith in let z : 1 - k ≡ 1 = omega arith in base_counted (table_in D w) (rw z at i) (rw e at second)
+  pub both_counted_back : {x y : ℕ} → y ≡ cycles (around 1 (table_in D w)) D [] D → x ≡ cycles (around 0 (table_in D v)) D [] D
+      → CyclesAre D (table_in D w) [] y x
+  both_counted_back i j = base_counted (table_in D w) i (j ∙ same 0)

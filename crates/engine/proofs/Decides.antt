@@ -50,7 +50,7 @@ use Rattle.operations.proofs.Replay.{Alike, replay_alike, rejoined_alike}
 use Rattle.engine.specs.Held.{Area}
 use Rattle.engine.specs.Checks.{BothTried, Decided}
 use Rattle.engine.specs.Counted.{CyclesAre, Takes, Taken}
-use Rattle.engine.specs.declared.Found.{Found}
+use Rattle.engine.specs.declared.Cycles.{Cycles}
 use Rattle.engine.proofs.AllBack.{AllBack, backs_right, all_back}
 use Rattle.engine.proofs.Area.{area_sound}
 use Rattle.engine.proofs.Given.{fits_stand}
@@ -235,19 +235,19 @@ module _ (s : State) {w : List ℕ} (A : Area s.darts s.operations w) where
         left_fits : 3 * D + length past ≤ length w'
         left_fits = rw count (omega (arith, A.few, A.room.fits, B.size, M.outside.size))
 
-        module _ (yes_decided : r ≡ true) (f : Found) (C : CyclesAre D (table_in D v) [] f.vertices f.faces) where
+        module _ (yes_decided : r ≡ true) {f : Cycles} (C : CyclesAre D (table_in D v) [] f.vertices f.faces) where
           base_cycles : CyclesAre D (base_of s t past) [] f.vertices f.faces
           base_cycles = subst (λ (l : List ℕ). CyclesAre D l [] f.vertices f.faces) base C
 
-          pub decided_takes : Takes (3 * D) n w' f.vertices f.faces
+          pub decided_takes : Takes (3 * D) n w' f
           decided_takes =
-              subst (λ (c : ℕ). Takes (3 * D) c w' f.vertices f.faces) count
+              subst (λ (c : ℕ). Takes (3 * D) c w' f) count
               (takes_of (passes.0 (true→T yes_decided)) (3 * D) w' left_contractions left_fits base_cycles)
 
           -- THE BASE'S NUMBERS, LESS ONE FOR EACH OPERATION OF THEIR KIND
-          pub decided_are : {g : Found} → Taken (3 * D) n w' f g → CyclesAre D t past g.vertices g.faces
+          pub decided_are : {g : Cycles} → Taken (3 * D) n w' f g → CyclesAre D t past g.vertices g.faces
           decided_are {g} T =
-              taken_are (passes.0 (true→T yes_decided)) (3 * D) w' left_contractions left_fits base_cycles refl refl
+              taken_are (passes.0 (true→T yes_decided)) (3 * D) w' left_contractions left_fits base_cycles
               (subst (λ (c : ℕ). Taken (3 * D) c w' f g) (sym count) T)
 
 -- ---- the coming kernel

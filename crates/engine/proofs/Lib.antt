@@ -13,6 +13,7 @@ pub mod Counts
 pub mod Decides
 pub mod Edges
 pub mod Given
+pub mod Handed
 pub mod Inserted
 pub mod Laid
 pub mod LastBack

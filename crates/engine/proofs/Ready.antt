@@ -1,5 +1,6 @@
 -- A work area whose forest judges operations, while a run of them goes on.
 --   beyond_refl, beyond_trans == what stands beyond the four parts is kept
+--   outside_beyond            == and so it is where the forest's part alone has changed
 --   ready_stays               == where the forest's roots are kept, it holds what it held, and judges so
 --   ready_judged              == the answer for an edge is document 01's
 --   area_for                  == what doing an edge asks of the work area, where it may be done
@@ -9,7 +10,8 @@ use mathlib.Core.Bool.{true}
 use mathlib.Core.List.{List}
 use mathlib.Core.Logic.{inl}
 use mathlib.Core.Path.{◌≡◌, refl, sym, ap, ◌∙◌, subst}
-use Prim.Native.Nat.{ℕ, ◌+◌, ◌*◌, ◌/◌, ◌≤◌, ◌<◌}
+use Rattle.std.proofs.Common.{Result}
+use Prim.Native.Nat.{ℕ, ◌+◌, ◌*◌, ◌/◌, ◌<◌}
 use native.Mathlib.Omega.{arith}
 use lib.Dec.{T}
 use lib.ListN.{drop}
@@ -21,7 +23,7 @@ use Rattle.permutations.specs.Labels.{Merges}
 use Rattle.darts.specs.Map.{successor, live}
 use Rattle.darts.specs.Operation.{kind_of}
 use Rattle.darts.specs.Kernel.{judge}
-use Rattle.darts.specs.declared.Answer.{Answer}
+use Rattle.darts.specs.declared.Refusal.{Refusal}
 use Rattle.laws.proofs.bridge.Standing.{live_iff}
 use Rattle.forest.specs.Forest.{Falls, root}
 use Rattle.area.specs.Area.{prev, table_in, past_in, forest_in, Room}
@@ -47,7 +49,7 @@ beyond_trans a b = record { size = b.size ∙ a.size; rest = b.rest ∙ a.rest }
 
 -- ---- where the forest's part alone has changed
 
-outside_beyond : {D : ℕ} {w v : List ℕ} → Outside D w v → Beyond D w v
+pub outside_beyond : {D : ℕ} {w v : List ℕ} → Outside D w v → Beyond D w v
 outside_beyond {D} {w} {v} o =
     let e : 4 * D ≡ 3 * D + D = omega arith in
     record { size = o.size; rest = rw e (sym (drop-drop D (3 * D) v) ∙ ap (drop D) o.rest ∙ drop-drop D (3 * D) w) }
@@ -70,8 +72,8 @@ module _ {D n : ℕ} {w : List ℕ} (A : Area D n w) (k e : ℕ) (fine : judge (
         second_before = small (prev D w (2 * e + 1)) (prev_live A (2 * e + 1) q);
       }
 
-  pub area_for : k ≤ 1 → Room D w × (((n < D / 2) × (k < 2)) × Bounds D w (2 * e) (2 * e + 1))
-  area_for l = (A.room, ((room_for_one_more A (kind_of k) e fine, omega arith), bounds))
+  pub area_for : Room D w × ((n < D / 2) × Bounds D w (2 * e) (2 * e + 1))
+  area_for = (A.room, (room_for_one_more A (kind_of k) e fine, bounds))
 
 -- ---- an operation judged, and done
 
@@ -87,14 +89,15 @@ module _ {D n k : ℕ} {w : List ℕ} (ρ : Ready D n k w) where
         beyond = outside_beyond κ.outside;
       }
 
-  pub ready_judged : {e i : ℕ} {v : List ℕ} {r : Answer} → Judged D k e i w v r → Says (judge (kind_of k) D (table_in D w) (past_in D n w) e) i r
+  pub ready_judged : {e i : ℕ} {v : List ℕ} {r : Result (Unit {0}) Refusal} → Judged D k e i w v r
+      → Says (judge (kind_of k) D (table_in D w) (past_in D n w) e) i r
   ready_judged {e} j = rw (← judged_right ρ.area k ρ.kind ρ.roots e) j.answer
 
   module _ (e : ℕ) (fine : judge (kind_of k) D (table_in D w) (past_in D n w) e ≡ 0) where
     -- it may be done where the edge's two darts are joined already
-    pub ready_for : {v : List ℕ} → Joined D w v (2 * e) (2 * e + 1) true → Room D v × (((n < D / 2) × (k < 2)) × Bounds D v (2 * e) (2 * e + 1))
+    pub ready_for : {v : List ℕ} → Joined D w v (2 * e) (2 * e + 1) true → Room D v × ((n < D / 2) × Bounds D v (2 * e) (2 * e + 1))
     ready_for j =
-        let (room, (few, inside)) = area_for ρ.area k e fine ρ.kind in
+        let (room, (few, inside)) = area_for ρ.area k e fine in
         (outside_room j.outside room, (few, outside_bounds j.outside inside))
 
     merges : Merges (rooted D w) (merged (rooted D w) (2 * e) (2 * e + 1)) (2 * e) (partner (2 * e))

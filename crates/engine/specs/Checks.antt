@@ -1,5 +1,6 @@
 -- Is it a pyramid? What the check answers, and what it leaves in the work area. A kind k is 0 for removals and 1 for contractions; `coming` is the
 -- kind of the kernel that is coming, 2 where none is.
+--   coming_of c                   == that number
 --   Grown D n k L w w'            == the forest of w' has the labels L, merged along the n operations of kind k in w
 --   KindTried D n k coming w w' r == w holds a base; r says whether each operation of kind k has two labels of the base at its turn
 --   BothTried D n coming w w' r   == r says so of both kinds, and the forest has the labels of the coming kind
@@ -7,8 +8,10 @@
 --                                    the coming kernel on that map
 --   Checked s coming t h w w' r   == the same of the table t and the history h, and then w' holds their map
 --   CheckedLaid s w w' r          == the same of a table and a history that stand in w; the history still stands in w', the table need not
-use Rattle.std.specs.Prelude.{Bool, true, List, ◌↔◌, ◌≡◌, ℕ, ◌*◌, ◌≤◌, T, length, drop}
+use Rattle.std.specs.Prelude.{Bool, true, List, ◌↔◌, ◌≡◌, ℕ, ◌*◌, ◌≤◌, T, length, drop, Option, Some, None}
 use Rattle.darts.specs.Calls.{table_of, past_of}
+use Rattle.darts.specs.Kinds.{bit}
+use Rattle.darts.specs.declared.Kind.{Kind}
 use Rattle.darts.specs.Pyramid.{is_pyramid}
 use Rattle.darts.specs.State.{State, counted}
 use Rattle.forest.specs.Forest.{Falls}
@@ -17,6 +20,10 @@ use Rattle.area.specs.Shape.{history_in}
 use Rattle.operations.specs.Replay.{rejoined, replayed}
 use Rattle.operations.specs.Trees.{Outside, rooted}
 use Rattle.engine.specs.Held.{Area, Rooted, Ready, Beyond}
+
+abbrev pub coming_of : Option Kind → ℕ
+coming_of (Some k) = bit k
+coming_of None = 2
 
 pub record Grown (D n k : ℕ) (L : ℕ → ℕ) (w w' : List ℕ) : Type 0 where
   pub falls : Falls (forest_in D w')

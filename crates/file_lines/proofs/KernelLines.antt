@@ -6,20 +6,20 @@
 --   history_length == how many numbers these are
 --   ends_set      == the next level end is stored
 --   numbers_on    == one operation more
---   number_kind   == the history number of an operation whose kind a number says
+--   number_kind   == the history number of an operation of a kind
 use mathlib.Core.Path.{◌≡◌, refl, sym, ap, ◌∙◌}
-use mathlib.Core.Logic.{by_cases}
 use mathlib.Core.Bool.{Bool, true, false}
 use mathlib.Core.List.{List, [], ◌∷◌, ◌++◌, append_assoc, append-nil}
-use Prim.Native.Nat.{ℕ, zero, suc, ◌+◌, ◌-◌, ◌*◌, ◌%◌, ◌≤◌, ◌<◌}
+use Prim.Native.Nat.{ℕ, zero, suc, ◌+◌, ◌-◌, ◌*◌, ◌≤◌, ◌<◌}
 use native.Mathlib.Nat.{add_assoc, add-zero, mul-one}
-use native.Mathlib.Decide.{ℕ_discrete}
 use native.Mathlib.Omega.{arith}
 use lib.Dec.{eqb}
 use lib.ListN.{length, set, replicate, length-append}
 use lib.Seq.{set_at}
-use borrow.Author.Tests.{eq-eqb, ne_eqb}
-use Rattle.darts.specs.Operation.{Kind, contraction, removal, number, kind_of}
+use Rattle.darts.specs.declared.Kind.{Kind as OfCode}
+use Rattle.darts.specs.declared.Kind.TheVariants.{Contract, Remove}
+use Rattle.darts.specs.Kinds.{kind_is, bit}
+use Rattle.darts.specs.Operation.{Kind, contraction, removal, number}
 use Rattle.std.proofs.Common.{if◌then◌else◌}
 use Rattle.darts.specs.Answers.{empty_kernel}
 use Rattle.darts.specs.Text.{bytes}
@@ -96,12 +96,10 @@ numbers_on k i (suc n) =
     let same : i + suc n ≡ suc i + n = omega arith in
     rw same (ap (λ (l : List ℕ). number k (2 * i) ∷ l) (numbers_on k (suc i) n))
 
-pub number_kind : (k i : ℕ) → number (kind_of k) (2 * i) ≡ 4 * i + k % 2
-unfolding number kind_of
-number_kind k i =
-    by_cases (ℕ_discrete (k % 2) 0)
-    (λ e. rw (eq-eqb (k % 2) 0 e) (omega arith))
-    (λ n. rw (ne_eqb (k % 2) 0 n) (omega arith))
+pub number_kind : (k : OfCode) (i : ℕ) → number (kind_is k) (2 * i) ≡ 4 * i + bit k
+unfolding number
+number_kind Contract i = omega arith
+number_kind Remove i = omega arith
 
 -- the ends of i levels, with zeros up to the 64th, and the next
 pub ends_set : (es : List ℕ) (i v : ℕ) → length es ≡ i → i < 64 → set (es ++ replicate (64 - i) 0) i v ≡ (es ++ (v ∷ [])) ++ replicate (64 - (i + 1)) 0

@@ -4,7 +4,7 @@
 --   last_right == the file ends with them
 --   last_found == what is found is the pairs
 --   last_end   == and then the body of the file, which `make` makes of them, is found
-use mathlib.Core.Path.{◌≡◌, refl, ◌∙◌}
+use mathlib.Core.Path.{◌≡◌, refl, sym, ◌∙◌}
 use mathlib.Core.Logic.{◌≢◌}
 use mathlib.Core.Bool.{Bool, true, false}
 use mathlib.Core.List.{List}
@@ -14,37 +14,34 @@ use lib.Dec.{eqb}
 use lib.ListN.{length}
 use borrow.Author.Tests.{eq-eqb, ne_eqb}
 use Rattle.std.proofs.Common.{if◌then◌else◌}
+use Rattle.std.specs.Prelude.{Ok, Err}
 use Rattle.darts.specs.Answers.{no_file}
-use Rattle.darts.specs.Cases.{answer_of}
-use Rattle.darts.specs.declared.Answer.{Answer}
-use Rattle.darts.specs.declared.Answer.TheVariants.{NoFile}
+use Rattle.darts.specs.Cases.{refusal_of}
+use Rattle.darts.specs.declared.Refusal.{Refusal}
+use Rattle.darts.specs.declared.Refusal.TheVariants.{NoFile}
 use Rattle.darts.specs.Scan.{Scan, found, fault, after}
 use Rattle.darts.specs.Read.{Body, pairs_at, end_at}
-use Rattle.file_lines.specs.declared.scan.Scanned.{Scanned}
-use Rattle.file_lines.specs.declared.scan.Scanned.TheVariants.{Found, Fault}
-use Rattle.file_lines.specs.Found.{scan_of}
 use Rattle.file_lines.specs.Pairs.{PairsRead, last_at, LastRead}
-use Rattle.file_lines.proofs.Found.{told}
 use Rattle.file_lines.proofs.After.{through, made_fault, made_found}
 
-module _ {b : List ℕ} {at D F : ℕ} {t t' : List ℕ} {r : Scanned} (P : PairsRead b at D F t t' r) where
-  pub last_wrong : {a : Answer} → r ≡ Fault a → LastRead b at D F t t' (Fault a)
+module _ {b : List ℕ} {at D F : ℕ} {t t' : List ℕ} where
+  pub last_wrong : {r : Refusal} → PairsRead b at D F t t' (Err r) → LastRead b at D F t t' (Err r)
   unfolding last_at
-  last_wrong {a} e =
-      let wrong : pairs_at (D / 2) b at ≡ fault (answer_of a) = made_fault _ (λ _. 0) (told scan_of P.answer e) in
+  last_wrong {r} P =
+      let wrong : pairs_at (D / 2) b at ≡ fault (refusal_of r) = made_fault _ (λ _. 0) (sym P.answer) in
       record { answer = rw wrong; table = P.table }
 
-  module _ {v next : ℕ} (e : r ≡ Found v next) where
-    pub last_more : next ≢ length b → LastRead b at D F t t' (Fault (NoFile next))
+  module _ {next : ℕ} (P : PairsRead b at D F t t' (Ok next)) where
+    pub last_more : next ≢ length b → LastRead b at D F t t' (Err (NoFile next))
     unfolding last_at
     last_more n =
-        let lines = made_found (pairs_at (D / 2) b at) (λ _. 0) (told scan_of P.answer e) in
+        let lines = made_found (pairs_at (D / 2) b at) (λ _. 0) (sym P.answer) in
         record { answer = rw (lines.whole, ne_eqb next (length b) n); table = P.table }
 
-    pub last_right : next ≡ length b → LastRead b at D F t t' (Found 0 next)
+    pub last_right : next ≡ length b → LastRead b at D F t t' (Ok next)
     unfolding last_at
     last_right same =
-        let lines = made_found (pairs_at (D / 2) b at) (λ _. 0) (told scan_of P.answer e) in
+        let lines = made_found (pairs_at (D / 2) b at) (λ _. 0) (sym P.answer) in
         record { answer = rw (lines.whole, eq-eqb next (length b) same); table = P.table }
 
 pub last_found : (D : ℕ) (b : List ℕ) (at : ℕ) {xs : List ℕ} {next : ℕ} → last_at D b at ≡ found xs next → pairs_at (D / 2) b at ≡ found xs next

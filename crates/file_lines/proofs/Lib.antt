@@ -1,6 +1,5 @@
 pub mod After
 pub mod Byte
-pub mod Found
 pub mod KernelLines
 pub mod LastPairs
 pub mod Number

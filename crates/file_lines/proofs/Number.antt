@@ -17,10 +17,12 @@ use native.Mathlib.Nat.{pow-succ', mul-le-mul_right, mul_assoc, le-mul_of_pos_ri
 use native.Mathlib.Numerals.{add-one}
 use native.Mathlib.Omega.{arith}
 use lib.Dec.{leb, eqb}
-use borrow.Author.Tests.{leb-true, eq-eqb, ne_eqb}
+use borrow.Author.Tests.{leb-true, ne_eqb}
 use Rattle.std.proofs.Common.{if◌then◌else◌}
 use Rattle.darts.specs.Answers.{no_file}
 use Rattle.darts.specs.Scan.{byte_at, found, fault, is_digit, number_on, number_at}
+use Rattle.file_lines.specs.Found.{Digit}
+use Rattle.file_lines.proofs.Byte.{digit_stands}
 
 pub digit_range : (c : ℕ) → is_digit c ≡ true → (48 ≤ c) × (c ≤ 57)
 unfolding is_digit
@@ -45,16 +47,19 @@ small_now n x r =
     let more : x + 1 ≤ (x + 1) * 10 ^ n = le-mul_of_pos_right (x + 1) (omega arith) in
     omega (arith, r.within)
 
-module _ (b : List ℕ) (at x : ℕ) {c : ℕ} (byte : c ≡ byte_at b at) where
-  pub digits_stop : (n : ℕ) → is_digit c ≡ false → number_on n b at x ≡ found x at
+module _ (b : List ℕ) (at x : ℕ) where
+  pub digits_stop : (n : ℕ) → is_digit (byte_at b at) ≡ false → number_on n b at x ≡ found x at
   unfolding number_on
   digits_stop zero e = refl
-  digits_stop (suc n) e = rw (← byte, e)
+  digits_stop (suc n) e = rw e
 
-  pub digits_on : (n : ℕ) → 0 < n → is_digit c ≡ true → number_on n b at x ≡ number_on (n - 1) b (at + 1) (10 * x + (c - 48))
+  pub digits_on : (n : ℕ) → 0 < n → {d : ℕ} → Digit b at d → number_on n b at x ≡ number_on (n - 1) b (at + 1) (10 * x + d)
   unfolding number_on
   digits_on zero h e = absurd (omega arith)
-  digits_on (suc n) h e = let back : suc n - 1 ≡ n = omega arith in rw (← byte, e) (rw (back, add-one at))
+  digits_on (suc n) h {d} e =
+      let back : suc n - 1 ≡ n = omega arith in
+      let value : 48 + d - 48 ≡ d = omega arith in
+      rw (digit_stands e) (rw (back, add-one at, e.byte, value))
 
 pub digits_end : (b : List ℕ) (at x n : ℕ) → n ≤ 0 → number_on n b at x ≡ found x at
 unfolding number_on
@@ -75,18 +80,20 @@ digits_small (suc n) b at x r y next e = go (is_digit (byte_at b at)) refl e (di
         small (rw back at (small_on (suc n) x (byte_at b at - 48) (omega arith) r (omega (arith, digit_range (byte_at b at) d)))) y next e
     go false d e small = let same : x ≡ y = cc in omega (arith, small_now (suc n) x r)
 
-module _ (b : List ℕ) (at : ℕ) {c : ℕ} (byte : c ≡ byte_at b at) where
-  pub number_zero : c ≡ 48 → number_at b at ≡ found 0 (at + 1)
+module _ (b : List ℕ) (at : ℕ) where
+  pub number_zero : Digit b at 0 → number_at b at ≡ found 0 (at + 1)
   unfolding number_at
-  number_zero e = rw (← byte, eq-eqb c 48 e, add-one at)
+  number_zero d = rw (d.byte, add-one at)
 
-  pub number_wrong : c ≢ 48 → is_digit c ≡ false → number_at b at ≡ fault (no_file at)
-  unfolding number_at
-  number_wrong n d = rw (← byte, ne_eqb c 48 n, d)
+  pub number_wrong : is_digit (byte_at b at) ≡ false → number_at b at ≡ fault (no_file at)
+  unfolding number_at is_digit
+  number_wrong d =
+      let other : byte_at b at ≢ 48 = λ e. let never : true ≡ false = rw e at d in cc in
+      rw (ne_eqb (byte_at b at) 48 other, d)
 
-  pub number_digits : c ≢ 48 → is_digit c ≡ true → number_at b at ≡ number_on 5 b at 0
+  pub number_digits : {x : ℕ} → x ≢ 0 → Digit b at x → number_at b at ≡ number_on 5 b at 0
   unfolding number_at
-  number_digits n d = rw (← byte, ne_eqb c 48 n, d)
+  number_digits n d = rw (digit_stands d, ne_eqb (byte_at b at) 48 (λ e. n (omega (arith, d.byte))))
 
 pub number_small : (b : List ℕ) (at : ℕ) {x next : ℕ} → number_at b at ≡ found x next → x ≤ 99999
 unfolding number_at

@@ -29,16 +29,16 @@ module _ (b : List ℕ) where
   pairs_count = lines_count pair_lines_lem 2 (λ at p next e.
       let one = through (field (bytes "pair=") (bytes " ") b at) _ e in
       let two = through (field [] line_feed b one.place) _ one.second in
-      let both : p ≡ pair_of one.value two.value = cc two.second in
+      let both : p ≡ pair_of (one.value, two.value) = cc two.second in
       rw both)
 
-  pub pair_small : (at : ℕ) {x y next : ℕ} → pair_at b at ≡ found (pair_of x y) next → (x ≤ 99999) × (y ≤ 99999)
+  pub pair_small : (at : ℕ) {p : ℕ × ℕ} {next : ℕ} → pair_at b at ≡ found (pair_of p) next → (p.0 ≤ 99999) × (p.1 ≤ 99999)
   unfolding pair_at
-  pair_small at {x} {y} {next} e =
+  pair_small at {p} {next} e =
       let one = through (field (bytes "pair=") (bytes " ") b at) _ e in
       let two = through (field [] line_feed b one.place) _ one.second in
-      let first : one.value ≡ x = cc two.second in
-      let second : two.value ≡ y = cc two.second in
+      let first : one.value ≡ p.0 = cc two.second in
+      let second : two.value ≡ p.1 = cc two.second in
       (omega (arith, field_small _ _ _ _ one.first), omega (arith, field_small _ _ _ _ two.first))
 
 pub flag_small : (F D x : ℕ) {r : ℕ} → r ≡ from_flag F D x → D ≤ 65536 → x ≤ 99999 → r ≤ 99999

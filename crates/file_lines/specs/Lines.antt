@@ -1,8 +1,9 @@
 -- The lines of the file, each by itself (document 01, "The file").
---   numbers_at b     == the line `numbers=F`
 --   starts_with F D  == the first two lines of a file
 --   levels_at b at   == the line `levels=L`, with L judged
---   kernel_of k n    == a kernel line: the number k says the kind, as in a history
+--   opening_of o     == the same, as the code has them
+--   kernel_of k      == a kernel line as the code has it
+--   pair_of p        == the two numbers of a pair
 --   pair_at b at     == a line `pair=A B`
 --   levels_few      == the L that is found is at most 64
 --   body_levels     == the body of a file is that line, and then the kernels and the pairs
@@ -10,33 +11,33 @@ use Rattle.std.specs.Prelude.{◌≡◌, refl, Bool, true, false, List, [], ◌�
 use Rattle.std.proofs.Common.{arith, ltb-false}
 use Rattle.std.specs.Prelude.{if◌then◌else◌}
 use Rattle.darts.specs.Answers.{too_many_levels}
-use Rattle.darts.specs.Operation.{kind_of}
+use Rattle.darts.specs.Kinds.{kind_is}
 use Rattle.darts.specs.Text.{bytes}
 use Rattle.darts.specs.File.{line_feed}
-use Rattle.darts.specs.Scan.{Scan, found, fault, after, word, field}
-use Rattle.darts.specs.Read.{Opening, KernelLine, Body, flag_at, kernels_at, pairs_at, end_at, body}
-
--- "1. `numbers=F`."
-unfoldable pub numbers_at : List ℕ → Scan ℕ
-numbers_at b =
-    after (word (bytes "numbers=") b 0) (λ _ at. after (flag_at b at) (λ F at. after (word line_feed b at) (λ _ at. found F at)))
+use Rattle.darts.specs.Scan.{Scan, found, fault, after, field}
+use Rattle.darts.specs.Read.{Opening, KernelLine, Body, kernels_at, pairs_at, end_at, body}
+use Rattle.file_lines.specs.declared.lines.KernelLine.{KernelLine as Told}
+use Rattle.file_lines.specs.declared.lines.FirstLines.{FirstLines}
 
 abbrev pub starts_with : ℕ → ℕ → Opening
 starts_with F D = record { flag = F; darts = D }
+
+abbrev pub opening_of : FirstLines → Opening
+opening_of o = starts_with o.flag o.darts
 
 -- "3. `levels=L`." "L over 64 (6)"
 unfoldable pub levels_at : List ℕ → ℕ → Scan ℕ
 levels_at b at = after (field (bytes "levels=") line_feed b at) (λ L at. if ltb 64 L then fault too_many_levels else found L at)
 
-abbrev pub kernel_of : ℕ → ℕ → KernelLine
-kernel_of k n = record { kind = kind_of k; count = n }
+abbrev pub kernel_of : Told → KernelLine
+kernel_of k = record { kind = kind_is k.kind; count = k.count }
 
-abbrev pub pair_of : ℕ → ℕ → List ℕ
-pair_of a b = a ∷ b ∷ []
+abbrev pub pair_of : ℕ × ℕ → List ℕ
+pair_of p = p.0 ∷ p.1 ∷ []
 
 -- "`pair=A B`"
 unfoldable pub pair_at : List ℕ → ℕ → Scan (List ℕ)
-pair_at b at = after (field (bytes "pair=") (bytes " ") b at) (λ x at. after (field [] line_feed b at) (λ y at. found (pair_of x y) at))
+pair_at b at = after (field (bytes "pair=") (bytes " ") b at) (λ x at. after (field [] line_feed b at) (λ y at. found (pair_of (x, y)) at))
 
 pub body_levels : (D : ℕ) (b : List ℕ) (at : ℕ)
     → body D b at

@@ -1,96 +1,81 @@
 // What stands at a place of a file: a word, or a number between two words. The first wrong byte decides.
-ghost use Rattle.std.specs.Prelude.{◌≡◌};
+ghost use Rattle.std.specs.Prelude.{◌≡◌, false, MatchOption};
 ghost use Rattle.darts.specs.Scan.{byte_at, word as word_at, is_digit, number_on, number_at, field as field_at};
-ghost use Rattle.file_lines.specs.Found.{scan_of};
+ghost use Rattle.file_lines.specs.Found.{byte_of, Digit, place_of, number_of, scan_of};
 
-use darts::Answer;
+use darts::Refusal;
 
-// Found: a value, and the place after it. Fault: the answer to the first wrong byte.
-#[derive(Clone, Copy)]
-pub enum Scanned {
-    Found(usize, usize),
-    Fault(Answer),
-}
+// What was found at a place, with the place after it; or what is wrong.
+pub type Scanned<T> = Result<(T, usize), Refusal>;
 
-// The byte at a place, 256 where the file has ended.
-pub(crate) fn byte_at(bytes: &[u8], at: usize) -> usize
-    ensures { result ≡ byte_at bytes.now at }
+// The byte at a place, none where the file has ended.
+pub(crate) fn byte_at(bytes: &[u8], at: usize) -> Option<u8>
+    ensures { byte_of result ≡ byte_at bytes.now at }
 {
-    if at < bytes.len() {
-        bytes[at] as usize
-    } else {
-        256
-    }
+    bytes.get(at).copied()
 }
 
-// The bytes of w, with the value 0. The first byte that differs is wrong.
-pub(crate) fn word(bytes: &[u8], at: usize, w: &[u8]) -> Scanned
-    ensures { scan_of result ≡ word_at w.now bytes.now at }
+// The bytes of w: the place after them. The first byte that differs is wrong. A place may be any number, so it is only stepped past a byte that is there.
+pub(crate) fn word(bytes: &[u8], at: usize, w: &[u8]) -> Result<usize, Refusal>
+    ensures { place_of result ≡ word_at w.now bytes.now at }
 {
     let mut place = at;
-    let mut i = 0;
-    while i < w.len() {
-        if byte_at(bytes, place) != byte_at(w, i) {
-            return Scanned::Fault(Answer::NoFile(place));
+    for c in w {
+        if byte_at(bytes, place) != Some(*c) {
+            return Err(Refusal::NoFile(place));
         }
         place += 1;
-        i += 1;
     }
-    Scanned::Found(0, place)
+    Ok(place)
 }
 
-// Whether a byte is a digit.
-fn is_digit(byte: usize) -> bool
-    ensures { result ≡ is_digit byte }
+// The value of the digit at a place, none where no digit stands there.
+#[tactic(auto, unfolding(darts::specs::Scan::is_digit))]
+fn digit_at(bytes: &[u8], at: usize) -> Option<usize>
+    ensures { MatchOption result (is_digit (byte_at bytes.now at) ≡ false) (λ x. Digit bytes.now at x) }
 {
-    48 <= byte && byte <= 57
+    let c = byte_at(bytes, at)?;
+    if c.is_ascii_digit() {
+        Some((c - b'0') as usize)
+    } else {
+        None
+    }
 }
 
-// The number that the digits from a place on make, up to five of them.
-fn digits(bytes: &[u8], at: usize) -> Scanned
-    ensures { scan_of result ≡ number_on 5 bytes.now at 0 }
+// The number that the digits from a place on make, up to five of them, and the place after them.
+fn digits(bytes: &[u8], at: usize) -> (usize, usize)
+    ensures { number_of result ≡ number_on 5 bytes.now at 0 }
 {
     let mut x = 0;
     let mut place = at;
-    let mut left: usize = 5;
-    while 0 < left {
-        let digit = byte_at(bytes, place);
-        if !is_digit(digit) {
-            return Scanned::Found(x, place);
-        }
-        x = 10 * x + (digit - 48);
+    for i in 0..5u8 {
+        let Some(digit) = digit_at(bytes, place) else {
+            break;
+        };
+        x = 10 * x + digit;
         place += 1;
-        left -= 1;
     }
-    Scanned::Found(x, place)
+    (x, place)
 }
 
 // A number in good form: one to five digits, no leading zero but for 0 itself.
-pub(crate) fn number(bytes: &[u8], at: usize) -> Scanned
-    ensures { scan_of result ≡ number_at bytes.now at }
+pub(crate) fn number(bytes: &[u8], at: usize) -> Scanned<usize>
+    ensures { scan_of (λ x. x) result ≡ number_at bytes.now at }
 {
-    let first = byte_at(bytes, at);
-    if first == 48 {
-        return Scanned::Found(0, at + 1);
+    match digit_at(bytes, at) {
+        None => Err(Refusal::NoFile(at)),
+        Some(0) => Ok((0, at + 1)),
+        Some(_) => Ok(digits(bytes, at)),
     }
-    if !is_digit(first) {
-        return Scanned::Fault(Answer::NoFile(at));
-    }
-    digits(bytes, at)
 }
 
 // The bytes of w, a number, and the bytes of end.
-pub(crate) fn field(bytes: &[u8], at: usize, w: &[u8], end: &[u8]) -> Scanned
-    ensures { scan_of result ≡ field_at w.now end.now bytes.now at }
+#[tactic(auto, unfolding(darts::specs::Scan::field))]
+pub(crate) fn field(bytes: &[u8], at: usize, w: &[u8], end: &[u8]) -> Scanned<usize>
+    ensures { scan_of (λ x. x) result ≡ field_at w.now end.now bytes.now at }
 {
-    match word(bytes, at, w) {
-        Scanned::Fault(answer) => Scanned::Fault(answer),
-        Scanned::Found(_, from) => match number(bytes, from) {
-            Scanned::Fault(answer) => Scanned::Fault(answer),
-            Scanned::Found(x, to) => match word(bytes, to, end) {
-                Scanned::Fault(answer) => Scanned::Fault(answer),
-                Scanned::Found(_, next) => Scanned::Found(x, next),
-            },
-        },
-    }
+    let from = word(bytes, at, w)?;
+    let (x, to) = number(bytes, from)?;
+    let next = word(bytes, to, end)?;
+    Ok((x, next))
 }

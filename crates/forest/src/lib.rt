@@ -10,10 +10,8 @@ pub fn fresh(forest: &mut [u32])
     requires { length forest.old ≤ 2 ^ 32 }
     ensures { Fresh (length forest.old) forest.new }
 {
-    let mut i = 0;
-    while i < forest.len() {
-        forest[i] = i as u32;
-        i += 1;
+    for (i, parent) in forest.iter_mut().enumerate() {
+        *parent = i as u32;
     }
 }
 

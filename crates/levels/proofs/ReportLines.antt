@@ -1,26 +1,28 @@
 -- What the calls leave is what the lines of the report may say.
 --   line_most     == no level's number is above 64
---   line_of       == the counts that counts_at leaves are those of the line
---   refused_read  == the reader's answer is that of the refusal's line
+--   line_done     == counts_at of a level of an accepted file is done
+--   line_of       == and the counts that it leaves are those of the line
+--   refused_read  == the reader's refusal is that of the refusal's line
 --   accepted_read == the state that was read has the top level
---   all_lines     == a line for each level up to the top is every line
 use mathlib.Core.List.{List}
-use mathlib.Core.Logic.{◌≢◌}
 use mathlib.Core.Path.{◌≡◌, refl, sym, ap, ◌∙◌}
-use Prim.Native.Nat.{ℕ, ◌+◌, ◌≤◌, ◌<◌}
+use Prim.Native.Nat.{ℕ, ◌≤◌}
 use native.Mathlib.Omega.{arith}
+use Rattle.std.specs.Prelude.{Result, Ok, Err, IsOk}
 use Rattle.darts.specs.Counts.{Counts}
 use Rattle.darts.specs.Read.{Read, means, faulty}
 use Rattle.darts.specs.Calls.{room, read_into, read}
 use Rattle.laws.proofs.runs.Pyramids.{pyramid_built}
 use Rattle.laws.proofs.claims.Decided.{pyramid_decided}
 use Rattle.laws.proofs.file.Meanings.{meaning}
-use Rattle.darts.specs.Cases.{answer_of}
+use Rattle.darts.specs.Cases.{answer_of, refusal_of}
+use Rattle.darts.specs.declared.Refusal.{Refusal}
+use Rattle.darts.proofs.Cases.{refused_number, number_ok}
 use Rattle.pyramid.specs.Values.{left, tally_of, counts_left}
 use Rattle.pyramid.specs.declared.Outcome.{Outcome}
-use Rattle.pyramid.specs.declared.Counted.{Counted}
-use Rattle.levels.specs.Report.{counts_at, Tables, meant, answer_to, top_of, Refused, Accepted, LineOf, AllLines}
-use Rattle.levels.proofs.LevelCounts.{level_counts}
+use Rattle.pyramid.specs.declared.Counts.{Counts as Tallied}
+use Rattle.levels.specs.Report.{counts_at, Tables, meant, answer_to, top_of, Refused, Accepted, LineOf}
+use Rattle.levels.proofs.LevelCounts.{level_counts, level_done}
 
 -- "There are at most 64 kernels over the base."
 read_most : (b : List ℕ) (r : Read) → meant b ≡ r → top_of r ≤ 64
@@ -41,26 +43,28 @@ unfolding read_into answer_to
 read_answer t h w (means s u past) = refl
 read_answer t h w (faulty D a) = refl
 
+reached : {b : List ℕ} {k n : ℕ} → Accepted b n → k ≤ n → k ≤ top_of (meant b)
+reached A l = omega (arith, A.top)
+
 module _ (b : List ℕ) {t h w t' h' w' : List ℕ} (T : Tables t h w) where
-  pub line_of : (k n : ℕ) (r : Counted) → Accepted b n → k ≤ n → counts_left r t' h' w' ≡ counts_at k b t h w → LineOf k b (tally_of r.counts)
-  line_of k n r A l e =
-      let top : k ≤ top_of (meant b) = omega (arith, A.top) in
-      record { accepted = A.accepted; level = top; counts = ap (λ c. c.counts) e ∙ level_counts k b t h w T top }
+  module _ (k n : ℕ) (A : Accepted b n) (l : k ≤ n) where
+    pub line_done : (r : Result Tallied Refusal) → counts_left r t' h' w' ≡ counts_at k b t h w → IsOk r
+    line_done r e = number_ok r (ap (λ c. c.answer.number) e ∙ ap (λ a. a.number) (level_done k b t h w T A.accepted (reached A l)))
+
+    pub line_of : (c : Tallied) → counts_left (Ok c) t' h' w' ≡ counts_at k b t h w → LineOf k b (tally_of c)
+    line_of c e = record { accepted = A.accepted; level = reached A l; counts = ap (λ c. c.counts) e ∙ level_counts k b t h w T (reached A l) }
 
   module _ (o : Outcome) (e : left o t' h' w' ≡ read b t h w) where
     answer_read : answer_of o.answer ≡ answer_to (meant b)
     unfolding read meant
     answer_read = ap (λ a. a.answer) e ∙ rw (T.table, T.history, T.work) (read_answer t h w _)
 
-    pub refused_read : (answer_of o.answer).number ≢ 0 → Refused b (answer_of o.answer)
-    refused_read n = record { refused = n; answer = answer_read }
+    pub refused_read : (r : Refusal) → o.answer ≡ Err r → Refused b (refusal_of r)
+    refused_read r i = record { refused = refused_number r; answer = ap answer_of (sym i) ∙ answer_read }
 
-    pub accepted_read : (answer_of o.answer).number ≡ 0 → Accepted b o.state.levels
+    pub accepted_read : o.answer ≡ Ok tt → Accepted b o.state.levels
     unfolding read meant
-    accepted_read z = record {
-      accepted = ap (λ a. a.number) (sym answer_read) ∙ z;
+    accepted_read i = record {
+      accepted = ap (λ a. a.number) (sym answer_read) ∙ ap (λ a. (answer_of a).number) i;
       top = ap (λ a. a.state.levels) e ∙ rw (T.table, T.history, T.work) (read_levels t h w _);
     }
-
-pub all_lines : {b : List ℕ} {n k : ℕ} → Accepted b n → k ≤ n + 1 → n < k → AllLines k b
-all_lines A l g = record { accepted = A.accepted; lines = omega (arith, A.top) }

@@ -2,160 +2,112 @@
 // why the file is refused.
 #![tactic(auto)]
 
-ghost use Rattle.std.specs.Prelude.{◌≡◌, ◌+◌, IfOk, OnErr, length};
-ghost use Rattle.page.specs.Waits.{Waits};
-ghost use Rattle.darts.specs.Cases.{answer_of};
+ghost use Rattle.std.specs.Prelude.{◌≡◌, ◌+◌, IfOk};
+ghost use Rattle.darts.specs.Cases.{refusal_of};
 ghost use Rattle.pyramid.specs.Values.{left, tally_of, counts_left};
 ghost use Rattle.levels.specs.Report.{level_at, counts_at, Tables, Refused, Accepted, LineOf, AllLines};
 
-use pyramid::{Answer, Counted, Counts, Outcome};
+use page::Page;
+use pyramid::{Counts, Outcome, Refusal};
 use std::io;
 use std::io::Write;
 
-// The line of a refused file, which is lent for the contract alone: no other answer can stand in its line.
-fn refusal<W: Write>(out: &mut W, file: &[u8], answer: Answer, page: &mut [u8]) -> io::Result<usize>
-    requires { Refused file.now (answer_of answer) × Waits 0 page.old }
-    ensures ok { IfOk result (λ at. Waits at page.new) }
-    ensures err { OnErr result (length page.new ≡ length page.old) }
+// The line of a refused file, which is lent for the contract alone: no other refusal can stand in its line.
+fn refused<W: Write>(out: &mut W, file: &[u8], refusal: Refusal) -> io::Result<()>
+    requires { Refused file.now (refusal_of refusal) }
 {
-    let number = page::field(out, page, 0, b"refusal=", answer.number() as u64)?;
-    let place = page::field(out, page, number, b" place=", answer.place() as u64)?;
-    page::text(out, page, place, b"\n")
+    writeln!(out, "{refusal}")
 }
 
-// Level k of a file. It is read anew for each level, since unfolding changes the tables.
-fn unfolded(
-    file: &[u8],
-    k: u32,
-    table: &mut [u32],
-    history: &mut [u32],
-    work: &mut [u32],
-) -> Outcome
-    ensures { left result table.new history.new work.new
-        ≡ level_at k file.now table.old history.old work.old }
-{
-    let read = reader::read(file, table, history, work);
-    let top = read.state;
-    top.unfold(k, table, history, work)
-}
-
-// The counts of level k.
-fn counts_at(
-    file: &[u8],
-    k: u32,
-    table: &mut [u32],
-    history: &mut [u32],
-    work: &mut [u32],
-) -> Counted
-    ensures { counts_left result table.new history.new work.new
-        ≡ counts_at k file.now table.old history.old work.old }
-{
-    let outcome = unfolded(file, k, table, history, work);
-    let state = outcome.state;
-    state.counts(table, history, work)
-}
-
-// How many levels have their line, and how many bytes of the page wait.
+// What the calls are lent, for 4,096 darts: "at least D numbers, the history with D/2 and the work area with 4D".
 #[derive(Drop)]
-struct Said {
-    levels: u32,
-    used: usize,
+struct Lent {
+    table: [u32; 4096],
+    history: [u32; 2048],
+    work: [u32; 16384],
+    ghost long: { Tables table history work },
 }
 
-// The line of the next level, whose number is how many have theirs: so each level gets one, base first. The file is lent for
-// the contract alone: no other level's counts can stand in the line.
-fn level<W: Write>(
-    out: &mut W,
-    file: &[u8],
-    said: Said,
-    counts: Counts,
-    page: &mut [u8],
-) -> io::Result<Said>
-    requires { LineOf said.levels file.now (tally_of counts) × Waits said.used page.old }
-    ensures ok { IfOk result (λ r. (r.levels ≡ said.levels + 1) × Waits r.used page.new) }
-    ensures err { OnErr result (length page.new ≡ length page.old) }
+impl Lent {
+    // Level k of a file. It is read anew for each level, since unfolding changes the tables.
+    fn unfolded(&mut self, file: &[u8], k: u32) -> Outcome
+        ensures { left result self.new.table self.new.history self.new.work
+            ≡ level_at k file.now self.old.table self.old.history self.old.work }
+    {
+        let top = reader::read(file, &mut self.table, &mut self.history, &mut self.work).state;
+        top.unfold(k, &mut self.table, &mut self.history, &mut self.work)
+    }
+
+    // The counts of level k.
+    fn counts_at(&mut self, file: &[u8], k: u32) -> Result<Counts, Refusal>
+        ensures { counts_left result self.new.table self.new.history self.new.work
+            ≡ counts_at k file.now self.old.table self.old.history self.old.work }
+    {
+        let state = self.unfolded(file, k).state;
+        state.counts(&mut self.table, &mut self.history, &mut self.work)
+    }
+}
+
+// The line of the next level, whose number is how many have theirs: so each level gets one, base first. Answers how many have theirs then. The file is lent
+// for the contract alone: no other level's counts can stand in the line.
+fn level<W: Write>(out: &mut W, file: &[u8], k: u32, counts: Counts) -> io::Result<u32>
+    requires { LineOf k file.now (tally_of counts) }
+    ensures { IfOk result (λ n. n ≡ k + 1) }
 {
-    let k = said.levels;
-    let number = page::field(out, page, said.used, b"level=", k as u64)?;
-    let rest = page::counts(
+    let Counts {
+        darts,
+        vertices,
+        faces,
+        euler,
+    } = counts;
+    writeln!(
         out,
-        page,
-        number,
-        counts.darts,
-        counts.vertices,
-        counts.faces,
-        counts.euler,
+        "level={k} darts={darts} vertices={vertices} faces={faces} euler={euler}"
     )?;
-    let used = page::text(out, page, rest, b"\n")?;
-    Ok(Said {
-        levels: k + 1,
-        used: used,
-    })
+    Ok(k + 1)
 }
 
-// The lines of the levels from the base to the top.
-fn levels<W: Write>(
-    out: &mut W,
-    file: &[u8],
-    top: u32,
-    table: &mut [u32],
-    history: &mut [u32],
-    work: &mut [u32],
-    page: &mut [u8],
-) -> io::Result<Said>
-    requires { Accepted file.now top × Tables table.old history.old work.old × Waits 0 page.old }
-    ensures ok { IfOk result (λ r. AllLines r.levels file.now × Waits r.used page.new) }
-    ensures err { OnErr result (Tables table.new history.new work.new × (length page.new ≡ length page.old)) }
+// The lines of the levels from the base to the top. Answers how many there are.
+fn levels<W: Write>(out: &mut W, file: &[u8], top: u32, lent: &mut Lent) -> io::Result<u32>
+    requires { Accepted file.now top }
+    ensures { IfOk result (λ n. AllLines n file.now) }
 {
-    let mut said = Said { levels: 0, used: 0 };
-    while said.levels <= top {
-        let counted = counts_at(file, said.levels, table, history, work);
-        let counts = counted.counts;
-        said = level(out, file, said, counts, page)?;
+    let mut said = 0;
+    for k in 0..=top {
+        let counts = lent.counts_at(file, k).unwrap();
+        said = level(out, file, said, counts)?;
     }
     Ok(said)
 }
 
 // The last line, once every level has its own.
-fn end<W: Write>(out: &mut W, file: &[u8], said: Said, page: &mut [u8]) -> io::Result<usize>
-    requires { AllLines said.levels file.now × Waits said.used page.old }
-    ensures ok { IfOk result (λ at. Waits at page.new) }
-    ensures err { OnErr result (length page.new ≡ length page.old) }
+fn end<W: Write>(out: &mut W, file: &[u8], said: u32) -> io::Result<()>
+    requires { AllLines said file.now }
 {
-    page::text(out, page, said.used, b"end=ok\n")
+    writeln!(out, "end=ok")
 }
 
 // All lines of a file.
-fn report<W: Write>(
-    out: &mut W,
-    file: &[u8],
-    table: &mut [u32],
-    history: &mut [u32],
-    work: &mut [u32],
-    page: &mut [u8],
-) -> io::Result<usize>
-    requires { Tables table.old history.old work.old × Waits 0 page.old }
-    ensures ok { IfOk result (λ at. Waits at page.new) }
-    ensures err { OnErr result (Tables table.new history.new work.new × (length page.new ≡ length page.old)) }
-{
-    let read = reader::read(file, table, history, work);
-    let answer = read.answer;
-    if answer.number() != 0 {
-        return refusal(out, file, answer, page);
+fn report<W: Write>(out: &mut W, file: &[u8], lent: &mut Lent) -> io::Result<()> {
+    let read = reader::read(file, &mut lent.table, &mut lent.history, &mut lent.work);
+    match read.answer {
+        Err(refusal) => refused(out, file, refusal),
+        Ok(()) => {
+            let said = levels(out, file, read.state.levels, lent)?;
+            end(out, file, said)
+        }
     }
-    let state = read.state;
-    let said = levels(out, file, state.levels, table, history, work, page)?;
-    end(out, file, said, page)
 }
 
-// The tables for 4,096 darts: "at least D numbers, the history with D/2 and the work area with 4D".
 fn print<W: Write>(out: &mut W, file: &[u8]) -> io::Result<()> {
-    let mut table = [0u32; 4096];
-    let mut history = [0u32; 2048];
-    let mut work = [0u32; 16384];
-    let mut page = [0u8; 4096];
-    let used = report(out, file, &mut table, &mut history, &mut work, &mut page)?;
-    page::flush(out, &page, used)
+    let mut lent = Lent {
+        table: [0; 4096],
+        history: [0; 2048],
+        work: [0; 16384],
+    };
+    let mut page = Page::<_, 4096>::new(out);
+    report(&mut page, file, &mut lent)?;
+    page.flush()
 }
 
 // A file in good form for at most 4,096 darts has at most 36,255 bytes: 10 + 11 + 10 in the first three lines, 64 lines

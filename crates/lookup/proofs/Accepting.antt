@@ -7,27 +7,26 @@
 --   came_operated           == what the operations say, on a base whose ends are in form
 use mathlib.Core.Bool.{Bool, true, false, ◌&&◌}
 use mathlib.Core.List.{List, [], ◌∷◌, ◌++◌}
-use mathlib.Core.Logic.{◌≢◌}
 use mathlib.Core.Path.{◌≡◌, refl, sym, ap, ◌∙◌}
 use Prim.Native.Nat.{ℕ, suc}
 use native.Mathlib.Omega.{arith}
 use lib.Dec.{eqb}
 use lib.ListN.{length, take}
 use lib.Seq.{take_all}
-use Rattle.permutations.specs.Choice.{eqb_same, eqb_other, true→T}
-use Rattle.std.proofs.Common.{if◌then◌else◌}
-use Rattle.darts.specs.Cases.{answer_of}
+use Rattle.permutations.specs.Choice.{true→T}
+use Rattle.std.proofs.Common.{Result, Ok, Err}
+use Rattle.std.specs.Prelude.{is_ok}
 use Rattle.darts.specs.Map.{permutation_test, passed}
-use Rattle.darts.specs.Operation.{contraction, removal, kind_of, lead, operate, number}
+use Rattle.darts.specs.Operation.{contraction, removal, lead, operate, number}
 use Rattle.darts.specs.Kernel.{judge, Operation, each, Run, stands, stops, always, pass_from, pass, run}
 use Rattle.darts.specs.OneByOne.{one_by_one}
+use Rattle.darts.specs.declared.Refusal.{Refusal}
 use Rattle.darts.specs.Tests.{numbered}
 use Rattle.laws.proofs.tests.NothingGone.{nothing_gone}
 use Rattle.area.specs.Area.{Room, table_in, past_in, tried}
 use Rattle.area.specs.Load.{loads}
 use Rattle.engine.specs.Held.{Area}
 use Rattle.engine.specs.Runs.{ran_in}
-use Rattle.engine.specs.declared.Ran.{Ran}
 use Rattle.engine.proofs.Checking.{loaded_beyond}
 use Rattle.engine.proofs.Given.{linked_stand}
 use Rattle.engine.proofs.Loaded.{Loaded, loads_right}
@@ -82,40 +81,35 @@ module _ (D : ℕ) (t ends : List ℕ) where
   unfolding one_by_one operations run pass
   in_two = accepted_join D t [] 0 (each contraction (ending contraction ends)) (each removal (ending removal ends))
 
-  module _ (v : List ℕ) (r : Ran) (first : ran_in D v r ≡ run contraction D t [] (ending contraction ends)) where
-    stop : (answer_of r.answer).number ≢ 0 → false ≡ accepted (one_by_one D t [] (operations ends))
-    unfolding ran_in
-    stop n = sym (in_two ∙ ap (λ z. accepted_then D z (each removal (ending removal ends))) (sym first) ∙ rw (eqb_other n))
+  as_ran : (r : Run) → r ≡ run contraction D t [] (ending contraction ends)
+      → accepted (one_by_one D t [] (operations ends)) ≡ accepted_then D r (each removal (ending removal ends))
+  as_ran r first = in_two ∙ ap (λ z. accepted_then D z (each removal (ending removal ends))) (sym first)
 
-    say : (answer_of r.answer).number ≡ 0 → (u : List ℕ) (q : Ran)
-        → ran_in D u q ≡ run removal D (table_in D v) (past_in D r.operations v) (ending removal ends)
-        → eqb (answer_of q.answer).number 0 ≡ accepted (one_by_one D t [] (operations ends))
-    unfolding ran_in run accepted
-    say z u q second =
-        sym (in_two ∙ ap (λ z. accepted_then D z (each removal (ending removal ends))) (sym first)
-        ∙ rw (eqb_same z) (ap accepted (sym second) ∙ told (eqb (answer_of q.answer).number 0)))
-      where
-        told : (b : Bool) → accepted (if b then stands (table_in D u) (past_in D q.operations u) else stops (answer_of q.answer)) ≡ b
-        told true = refl
-        told false = refl
+told : (D : ℕ) (u : List ℕ) (q : Result ℕ Refusal) → accepted (ran_in D u q) ≡ is_ok q
+unfolding accepted
+told D u (Ok m) = refl
+told D u (Err a) = refl
 
-module _ {D : ℕ} (ends : List ℕ) {w v : List ℕ} {r : Ran}
-    (P : Passed D (run (kind_of 1) D (table_in D w) (past_in D 0 w) (ending (kind_of 1) ends)) w v r) where
-  first : ran_in D v r ≡ run contraction D (table_in D w) [] (ending contraction ends)
-  unfolding kind_of
-  first = P.ran.went ∙ ap (λ l. run contraction D (table_in D w) l (ending contraction ends)) (past_none D w)
+abbrev Contracted : ℕ → List ℕ → List ℕ → List ℕ → Result ℕ Refusal → Type 0
+Contracted D ends w v = Passed D (run contraction D (table_in D w) (past_in D 0 w) (ending contraction ends)) w v
+
+module _ (D : ℕ) (ends w v : List ℕ) where
+  contracted : (r : Result ℕ Refusal) → Contracted D ends w v r → ran_in D v r ≡ run contraction D (table_in D w) [] (ending contraction ends)
+  contracted r P = P.ran.went ∙ ap (λ l. run contraction D (table_in D w) l (ending contraction ends)) (past_none D w)
 
   -- A CONTRACTION IS REFUSED
-  pub contractions_stop : (answer_of r.answer).number ≢ 0 → Operated D (table_in D w) ends w v false
-  contractions_stop n = record { answer = stop D (table_in D w) ends v r first n; beyond = P.ran.beyond }
+  pub contractions_stop : (a : Refusal) → Contracted D ends w v (Err a) → Operated D (table_in D w) ends w v false
+  contractions_stop a P = record {
+    answer = sym (as_ran D (table_in D w) ends (ran_in D v (Err a)) (contracted (Err a) P));
+    beyond = P.ran.beyond;
+  }
 
   -- ALL CONTRACTIONS ARE DONE, AND THEN THE REMOVALS SAY
-  pub removals_say : (answer_of r.answer).number ≡ 0 → {u : List ℕ} {q : Ran}
-      → Passed D (run (kind_of 0) D (table_in D v) (past_in D r.operations v) (ending (kind_of 0) ends)) v u q
-      → {n : ℕ} → n ≡ (answer_of q.answer).number → Operated D (table_in D w) ends w u (eqb n 0)
-  unfolding kind_of
-  removals_say z {u} {q} Q e = record {
-    answer = ap (λ n. eqb n 0) e ∙ say D (table_in D w) ends v r first z u q Q.ran.went;
+  pub removals_say : (m : ℕ) → Contracted D ends w v (Ok m) → (u : List ℕ) (q : Result ℕ Refusal)
+      → Passed D (run removal D (table_in D v) (past_in D m v) (ending removal ends)) v u q → Operated D (table_in D w) ends w u (is_ok q)
+  unfolding run
+  removals_say m P u q Q = record {
+    answer = sym (as_ran D (table_in D w) ends (ran_in D v (Ok m)) (contracted (Ok m) P) ∙ ap accepted (sym Q.ran.went) ∙ told D u q);
     beyond = beyond_trans P.ran.beyond Q.ran.beyond;
   }
 

@@ -2,13 +2,12 @@
 --   inside_high, inside_none, inside_gone, inside_done == 12, 7, 8 or done, over table and ends that come from a pyramid
 --   inside_there == where it is done, the dart is one, and not gone
 --   arrives      == the walk from there can be made
---   refused_so, found_so == an answer without a walk, and with one
 --   room_count   == what has room in a work area is a number of darts
 --   no_pyramid_lem, a_pyramid == 4, or what is said over table and ends that come from a pyramid
 --   CallFits D t h w, call_fits == neither 1 nor 2: what the call asks of the lent slices
 --   first_refused == the call gives 1 or 2
 --   looked_up    == or any other answer
---   both         == what is left, and so the count's bound
+--   passed_few   == the count's bound
 use mathlib.Core.Bool.{Bool, true, false, not}
 use mathlib.Core.List.{List}
 use mathlib.Core.Logic.{◌≢◌}
@@ -16,12 +15,16 @@ use mathlib.Core.Path.{◌≡◌, refl, sym, ap, ◌∙◌, subst}
 use Prim.Native.Nat.{ℕ, ◌*◌, ◌/◌, ◌≤◌, ◌<◌}
 use native.Mathlib.Omega.{arith}
 use borrow.Author.Tests.{lt-ltb, le-ltb, le-leb, lt-leb, leb-false}
-use lib.Dec.{T, leb, ltb}
+use lib.Dec.{T, eqb, leb, ltb}
 use lib.ListN.{length, take}
 use Rattle.permutations.specs.Choice.{eqb_same, eqb_other}
 use Rattle.darts.specs.Answers.{Answer, done, no_pyramid, no_level, no_edge, gone_already}
-use Rattle.darts.specs.Cases.{answer_of}
-use Rattle.std.proofs.Common.{if◌then◌else◌}
+use Rattle.darts.specs.Cases.{refusal_of, answer_of}
+use Rattle.darts.specs.declared.Refusal.{Refusal}
+use Rattle.darts.specs.declared.Refusal.TheVariants.{NoPyramid}
+use Rattle.darts.proofs.Cases.{refused_number}
+use Rattle.std.proofs.Common.{Result, Ok, Err, if◌then◌else◌}
+use Rattle.std.specs.Prelude.{IfOk}
 use Rattle.darts.specs.Calls.{fitting, cleared, work_after}
 use Rattle.darts.specs.Pyramid.{dart_count}
 use Rattle.darts.proofs.Fitting.{fits, count_test, first_keeps}
@@ -29,11 +32,11 @@ use Rattle.area.specs.Area.{Room}
 use Rattle.ends.specs.Ends.{gone_by, done_by, top}
 use Rattle.ends.specs.Walk.{nothing, walk, Walks}
 use Rattle.ends.specs.Comes.{comes}
-use Rattle.ends.specs.Lookup.{Looked as Leaves, judged, successor_at}
+use Rattle.ends.specs.Lookup.{Looked, judged, successor_at}
 use Rattle.ends.proofs.Arrives.{comes_walks}
 use Rattle.ends.proofs.Passed.{successor_few}
 use Rattle.lookup.specs.Values.{walked, looked, inside, answer_for, LooksUp}
-use Rattle.lookup.specs.declared.Looked.{Looked}
+use Rattle.lookup.specs.declared.Followed.{Followed}
 
 -- ---- over table and ends that come from a pyramid
 
@@ -77,13 +80,6 @@ module _ (D k x : ℕ) (t h : List ℕ) (count : T (dart_count D)) (size : lengt
   pub arrives : (x < D) × (gone_by k h x ≡ false) → Walks D k t h x
   arrives p = comes_walks D k t h count size half came x p.0 (λ y. rw p.1 at y)
 
-module _ (a : Answer) (D k x : ℕ) (t h : List ℕ) (l : Looked) (answer : answer_of l.answer ≡ a) where
-  pub refused_so : (answer_of l.answer).number ≢ 0 → walked l ≡ nothing → LooksUp a D k x t h l
-  refused_so n e = record { answer = answer; found = rw (eqb_other n) e }
-
-  pub found_so : (answer_of l.answer).number ≡ 0 → walked l ≡ walk D k t h x → LooksUp a D k x t h l
-  found_so z e = record { answer = answer; found = rw (eqb_same z) e }
-
 -- ---- where it is not known
 
 pub room_count : {D : ℕ} {w : List ℕ} → Room D w → T (dart_count D)
@@ -92,14 +88,14 @@ room_count {D} r =
     let s = r.some in
     count_test D (record { even = e; some = omega arith; small = r.small })
 
-module _ (D k x : ℕ) (t h : List ℕ) (l : Looked) {r : Bool} (came : r ≡ comes D t h) where
-  pub no_pyramid_lem : r ≡ false → answer_of l.answer ≡ no_pyramid → walked l ≡ nothing → LooksUp (answer_for D k x t h) D k x t h l
+module _ (D k x : ℕ) (t h : List ℕ) {b : Bool} (came : b ≡ comes D t h) where
+  pub no_pyramid_lem : b ≡ false → LooksUp (answer_for D k x t h) D k x t h (Err NoPyramid)
   unfolding answer_for
-  no_pyramid_lem n e f = rw (← came, n) (refused_so no_pyramid D k x t h l e (λ z. let q = ap (λ (a : Answer). a.number) e in omega arith) f)
+  no_pyramid_lem n = record { answer = rw (← came, n) refl; found = tt }
 
-  pub a_pyramid : r ≡ true → LooksUp (inside D k x h) D k x t h l → LooksUp (answer_for D k x t h) D k x t h l
+  pub a_pyramid : b ≡ true → (r : Result Followed Refusal) → LooksUp (inside D k x h) D k x t h r → LooksUp (answer_for D k x t h) D k x t h r
   unfolding answer_for
-  a_pyramid y L = rw (← came, y) L
+  a_pyramid y r L = rw (← came, y) L
 
 -- ---- the call
 
@@ -127,19 +123,18 @@ clears n false false true c D w = refl
 clears n false false false true D w = refl
 clears n false false false false D w = refl
 
-module _ (D k x : ℕ) (t h w : List ℕ) (l : Looked) where
+module _ (D k x : ℕ) (t h w : List ℕ) where
   judged_first : (fitting D (length t) (length h) (length w)).number ≢ 0 → judged D k x t h w ≡ fitting D (length t) (length h) (length w)
   unfolding judged
   judged_first m = rw (eqb_other m)
 
   -- 1 OR 2
-  pub first_refused : answer_of l.answer ≡ fitting D (length t) (length h) (length w) → (answer_of l.answer).number ≢ 0 → walked l ≡ nothing
-      → looked l t h w ≡ successor_at D k x t h w
+  pub first_refused : (r : Refusal) → refusal_of r ≡ fitting D (length t) (length h) (length w) → looked (Err r) t h w ≡ successor_at D k x t h w
   unfolding successor_at
-  first_refused e n f =
-      let m : (fitting D (length t) (length h) (length w)).number ≢ 0 = λ z. n (ap (λ (a : Answer). a.number) e ∙ z) in
+  first_refused r e =
+      let m : (fitting D (length t) (length h) (length w)).number ≢ 0 = λ z. refused_number r (ap (λ (a : Answer). a.number) e ∙ z) in
       rw (judged_first m, eqb_other m)
-      (λ i. record { answer = e i; found = f i; table = t; ends = h; work = sym (first_keeps D (length t) (length h) (length w) m D w) i })
+      (λ i. record { answer = e i; found = nothing; table = t; ends = h; work = sym (first_keeps D (length t) (length h) (length w) m D w) i })
 
   judged_then : (fitting D (length t) (length h) (length w)).number ≡ 0 → judged D k x t h w ≡ answer_for D k x (take D t) (take (D / 2) h)
   unfolding judged answer_for inside
@@ -151,17 +146,29 @@ module _ (D k x : ℕ) (t h w : List ℕ) (l : Looked) where
       let e = take (D / 2) h in
       clears (top e) (not (comes D (take D t) e)) (ltb (top e) k) (leb D x) (gone_by k e x) D w
 
-  -- ANY OTHER ANSWER
-  pub looked_up : (fitting D (length t) (length h) (length w)).number ≡ 0
-      → LooksUp (answer_for D k x (take D t) (take (D / 2) h)) D k x (take D t) (take (D / 2) h) l → {v : List ℕ} → v ≡ cleared D w
-      → looked l t h v ≡ successor_at D k x t h w
-  unfolding successor_at
-  looked_up fine L {v} z =
-      let a : Answer = answer_of l.answer in
-      let J : judged D k x t h w ≡ a = judged_then fine ∙ sym L.answer in
-      let c : v ≡ work_after a D w = z ∙ sym (ap (λ b. work_after b D w) L.answer ∙ cleared_then) in
-      rw J (λ i. record { answer = a; found = L.found i; table = t; ends = h; work = c i })
+  module _ (r : Result Followed Refusal) where
+    followed : {a : Answer} → LooksUp a D k x (take D t) (take (D / 2) h) r
+        → walked r ≡ (if eqb (answer_of r).number 0 then walk D k (take D t) (take (D / 2) h) x else nothing)
+    followed = go r
+      where
+        go : (r : Result Followed Refusal) {a : Answer} → LooksUp a D k x (take D t) (take (D / 2) h) r
+            → walked r ≡ (if eqb (answer_of r).number 0 then walk D k (take D t) (take (D / 2) h) x else nothing)
+        go (Ok f) L = L.found
+        go (Err e) L = rw (eqb_other (refused_number e))
 
-pub both : (D k x : ℕ) (t h w : List ℕ) (l : Looked) {v : List ℕ} → looked l t h v ≡ successor_at D k x t h w
-    → (looked l t h v ≡ successor_at D k x t h w) × (l.passed ≤ 2 * done_by k (take (D / 2) h))
-both D k x t h w l e = (e, subst (λ (r : Leaves). r.found.passed ≤ 2 * done_by k (take (D / 2) h)) (sym e) (successor_few D k x t h w))
+    -- ANY OTHER ANSWER
+    pub looked_up : (fitting D (length t) (length h) (length w)).number ≡ 0
+        → LooksUp (answer_for D k x (take D t) (take (D / 2) h)) D k x (take D t) (take (D / 2) h) r → {v : List ℕ} → v ≡ cleared D w
+        → looked r t h v ≡ successor_at D k x t h w
+    unfolding successor_at
+    looked_up fine L {v} z =
+        let a : Answer = answer_of r in
+        let J : judged D k x t h w ≡ a = judged_then fine ∙ sym L.answer in
+        let c : v ≡ work_after a D w = z ∙ sym (ap (λ b. work_after b D w) L.answer ∙ cleared_then) in
+        rw J (λ i. record { answer = a; found = followed L i; table = t; ends = h; work = c i })
+
+  -- THE COUNT'S BOUND
+  pub passed_few : (r : Result Followed Refusal) {v : List ℕ} → looked r t h v ≡ successor_at D k x t h w
+      → IfOk r (λ f. f.passed ≤ 2 * done_by k (take (D / 2) h))
+  passed_few (Ok f) e = subst (λ (l : Looked). l.found.passed ≤ 2 * done_by k (take (D / 2) h)) (sym e) (successor_few D k x t h w)
+  passed_few (Err r) e = tt

@@ -5,27 +5,32 @@
 use mathlib.Core.List.{List}
 use mathlib.Core.Path.{◌≡◌, sym, ap, ◌∙◌}
 use Prim.Native.Nat.{ℕ}
-use Rattle.pyramid.proofs.Tight.{answer_one}
-use Rattle.ends.specs.Lookup.{Looked as Leaves, successor_at}
-use Rattle.lookup.specs.Values.{looked}
-use Rattle.lookup.specs.declared.Looked.{Looked}
+use Rattle.std.proofs.Common.{Result}
+use Rattle.darts.specs.declared.Refusal.{Refusal}
+use Rattle.pyramid.proofs.Tight.{result_one}
+use Rattle.ends.specs.Lookup.{Looked, successor_at}
+use Rattle.lookup.specs.Values.{found_of, looked}
+use Rattle.lookup.specs.declared.Followed.{Followed}
 
-pub record SameLooked (l m : Looked) (t u h g w v : List ℕ) : Type 0 where
+followed_one : (f g : Followed) → found_of f ≡ found_of g → f ≡ g
+followed_one f g e = λ i. record { dart = (e i).dart; passed = (e i).passed }
+
+pub record SameLooked (l m : Result Followed Refusal) (t u h g w v : List ℕ) : Type 0 where
   pub back : l ≡ m
   pub table : t ≡ u
   pub ends : h ≡ g
   pub work : w ≡ v
 
-module _ (l m : Looked) (t u h g w v : List ℕ) where
-  pub looked_one : (a : Leaves) → looked l t h w ≡ a → looked m u g v ≡ a → SameLooked l m t u h g w v
+module _ (l m : Result Followed Refusal) (t u h g w v : List ℕ) where
+  pub looked_one : (a : Looked) → looked l t h w ≡ a → looked m u g v ≡ a → SameLooked l m t u h g w v
   looked_one a d e =
       let c : looked l t h w ≡ looked m u g v = d ∙ sym e in
-      let x = answer_one l.answer m.answer (ap (λ (z : Leaves). z.answer) c) in
       record {
-        back = λ i. record { answer = x i; dart = (c i).found.dart; passed = (c i).found.passed };
-        table = ap (λ (z : Leaves). z.table) c;
-        ends = ap (λ (z : Leaves). z.ends) c;
-        work = ap (λ (z : Leaves). z.work) c;
+        back = result_one l m (ap (λ (z : Looked). z.answer) c)
+            (λ f g is it. followed_one f g (rw (is, it) at (ap (λ (z : Looked). z.found) c)));
+        table = ap (λ (z : Looked). z.table) c;
+        ends = ap (λ (z : Looked). z.ends) c;
+        work = ap (λ (z : Looked). z.work) c;
       }
 
   -- NO TWO OUTCOMES OF THE LOOKUP SATISFY ITS STATEMENT

@@ -18,7 +18,7 @@ use native.Mathlib.Omega.{arith}
 use borrow.Author.Tests.{le-leb}
 use lib.Dec.{leb, T_not}
 use lib.ListN.{get_or}
-use Rattle.permutations.specs.Choice.{true→T, eqb_same, eqb_other}
+use Rattle.permutations.specs.Choice.{true→T}
 use Rattle.permutations.specs.Partner.{partner}
 use Rattle.permutations.proofs.PartnerLemmas.{partner_below}
 use Rattle.darts.specs.Map.{successor}
@@ -38,13 +38,13 @@ module _ (ends : List ℕ) (y : ℕ) {v : ℕ} (read : v ≡ get_or ends (y / 2)
   gone_if k n = sym (rw (← read, le-leb 1 (v / 2) (omega arith)))
 
   module _ (t : List ℕ) {r : ℕ} where
-    pub after_removal : v % 2 ≡ 0 → r ≡ get_or t y 0 → r ≡ onward t ends y
+    pub after_removal : 0 ≡ v % 2 → r ≡ get_or t y 0 → r ≡ onward t ends y
     unfolding onward onward_by end_of kind_of successor
-    after_removal z e = rw (← read, eqb_same z) e
+    after_removal z e = rw (← read, ← z) e
 
-    pub after_contraction : v % 2 ≢ 0 → {q : ℕ} → q ≡ partner y → r ≡ get_or t q 0 → r ≡ onward t ends y
+    pub after_contraction : 1 ≡ v % 2 → {q : ℕ} → q ≡ partner y → r ≡ get_or t q 0 → r ≡ onward t ends y
     unfolding onward onward_by end_of kind_of successor
-    after_contraction n p e = rw (← read, eqb_other n, ← p) e
+    after_contraction z p e = rw (← read, ← z, ← p) e
 
 -- ---- the walk
 

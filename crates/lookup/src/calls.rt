@@ -1,81 +1,69 @@
-// The call: the successor of a dart at a level.
-ghost use Rattle.std.specs.Prelude.{◌≡◌, ◌*◌, ◌/◌, ◌%◌, ◌≤◌, T, length};
+// The call: the successor of a dart at a level. d, level and dart go one by one: a struct of them would be built once and taken apart at once. d stands beside
+// slices that are as long, since the definitions take it.
+ghost use Rattle.std.specs.Prelude.{◌≡◌, ◌*◌, ◌/◌, ◌%◌, ◌≤◌, T, IfOk, length};
 ghost use Rattle.darts.specs.Calls.{cleared};
 ghost use Rattle.darts.specs.Cases.{answer_of};
 ghost use Rattle.darts.specs.Pyramid.{dart_count};
 ghost use Rattle.area.specs.Area.{Room};
 ghost use Rattle.ends.specs.Comes.{comes};
-ghost use Rattle.ends.specs.Walk.{nothing};
 ghost use Rattle.ends.specs.Ends.{done_by};
 ghost use Rattle.ends.specs.Lookup.{ends_of, successor_at};
-ghost use Rattle.lookup.specs.Values.{walked, looked, inside, answer_for, LooksUp};
+ghost use Rattle.lookup.specs.Values.{looked, inside, answer_for, LooksUp};
 
 use crate::deciding::decide;
 use crate::levels::top;
 use crate::walking::{gone_by, walk};
-use crate::{Answer, Looked};
+use crate::{Followed, Refusal};
 use area::clear::clear;
 use darts::answers::fit;
 
 // Answers 12, 7 and 8 on d darts and ends that come from a pyramid: the level, the dart, and whether it is gone by then.
-fn judge(ends: &[u32], d: usize, k: usize, x: usize) -> Answer
+fn judge(ends: &[u32], d: usize, k: usize, x: usize) -> Result<(), Refusal>
     requires { (length ends.now ≡ d / 2) × (d % 2 ≡ 0) }
     ensures { answer_of result ≡ inside d k x ends.now }
 {
     let high = top(ends);
     if high < k {
-        return Answer::NoLevel(high);
+        return Err(Refusal::NoLevel(high));
     }
     if d <= x {
-        return Answer::NoEdge(0);
+        return Err(Refusal::NoEdge(0));
     }
     if gone_by(ends, k, x) {
-        return Answer::GoneAlready(0);
+        return Err(Refusal::GoneAlready(0));
     }
-    Answer::Done(0)
-}
-
-// A refusal: dart 0 and count 0.
-fn refused(answer: Answer) -> Looked
-    ensures { (result.answer ≡ answer) × (walked result ≡ nothing) }
-{
-    Looked {
-        answer: answer,
-        dart: 0,
-        passed: 0,
-    }
+    Ok(())
 }
 
 // The successor of dart x at level k, where the table of d numbers and the ends come from a pyramid.
-fn look(table: &[u32], ends: &[u32], d: usize, k: usize, x: usize) -> Looked
+fn look(table: &[u32], ends: &[u32], d: usize, k: usize, x: usize) -> Result<Followed, Refusal>
     requires { T (dart_count d) × (length table.now ≡ d) × (length ends.now ≡ d / 2) × T (comes d table.now ends.now) }
     ensures { LooksUp (inside d k x ends.now) d k x table.now ends.now result }
 {
-    let answer = judge(ends, d, k, x);
-    if answer.number() != 0 {
-        return refused(answer);
-    }
-    let found = walk(table, ends, d, k, x);
-    Looked {
-        answer: answer,
-        dart: found.dart as u32,
-        passed: found.passed as u32,
-    }
+    judge(ends, d, k, x)?;
+    Ok(walk(table, ends, d, k, x))
 }
 
 // The same, where it is not known whether they do: else it is answer 4. The work area is cleared.
-fn look_up(work: &mut [u32], table: &[u32], ends: &[u32], d: usize, k: usize, x: usize) -> Looked
+fn look_up(
+    work: &mut [u32],
+    table: &[u32],
+    ends: &[u32],
+    d: usize,
+    k: usize,
+    x: usize,
+) -> Result<Followed, Refusal>
     requires room { Room d work.old }
     requires table_len { (length table.now ≡ d) × (length ends.now ≡ d / 2) }
     ensures looks_up { LooksUp (answer_for d k x table.now ends.now) d k x table.now ends.now result }
     ensures work_after { work.new ≡ cleared d work.old }
 {
-    if decide(work, d, table, ends) {
-        clear(work, d);
+    let comes = decide(work, d, table, ends);
+    clear(work, d);
+    if comes {
         return look(table, ends, d, k, x);
     }
-    clear(work, d);
-    refused(Answer::NoPyramid)
+    Err(Refusal::NoPyramid)
 }
 
 // The dart that follows a dart at a level of the pyramid that the table's first D numbers and the first D/2 ends come from, and how many gone darts
@@ -87,21 +75,17 @@ pub fn successor_at(
     table: &[u32],
     ends: &[u32],
     work: &mut [u32],
-) -> Looked
+) -> Result<Followed, Refusal>
     ensures work_after { looked result table.now ends.now work.new
         ≡ successor_at darts level dart table.now ends.now work.old }
-    ensures passed_bound { result.passed ≤ 2 * done_by level (ends_of darts ends.now) }
+    ensures passed_bound { IfOk result (λ f. f.passed ≤ 2 * done_by level (ends_of darts ends.now)) }
 {
-    let judged = fit(darts, table.len(), ends.len(), work.len());
-    if judged.number() != 0 {
-        return refused(judged);
-    }
+    fit(darts, table.len(), ends.len(), work.len())?;
     let d = darts as usize;
-    let half = d / 2;
     look_up(
         work,
-        &table[0..d],
-        &ends[0..half],
+        &table[..d],
+        &ends[..d / 2],
         d,
         level as usize,
         dart as usize,

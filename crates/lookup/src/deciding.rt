@@ -7,20 +7,17 @@ ghost use Rattle.lookup.specs.Told.{Operated, Came};
 use crate::levels::shape;
 use crate::passes::take_kind;
 use area::load::load;
+use darts::Kind;
 
 // Whether the operations that the ends tell may be done on the base in the work area: the contractions, and then the removals.
 fn operate(work: &mut [u32], d: usize, ends: &[u32]) -> bool
     requires { Area d 0 work.old }
     ensures { Operated d (table_in d work.old) ends.now work.old work.new result }
 {
-    let contracted = take_kind(work, d, 0, 1, ends);
-    let answer = contracted.answer;
-    if answer.number() != 0 {
+    let Ok(n) = take_kind(work, d, 0, Kind::Contract, ends) else {
         return false;
-    }
-    let removed = take_kind(work, d, contracted.operations, 0, ends);
-    let last = removed.answer;
-    last.number() == 0
+    };
+    take_kind(work, d, n, Kind::Remove, ends).is_ok()
 }
 
 // Whether the table of d numbers and the ends come from a pyramid: the form of the levels, the base, and then the operations.
@@ -29,11 +26,5 @@ pub(crate) fn decide(work: &mut [u32], d: usize, table: &[u32], ends: &[u32]) ->
     requires table_len { length table.now ≡ d }
     ensures { Came d table.now ends.now work.old work.new result }
 {
-    if !shape(ends) {
-        return false;
-    }
-    if load(work, d, table, ends, 0) {
-        return operate(work, d, ends);
-    }
-    false
+    shape(ends) && load(work, d, table, ends, 0) && operate(work, d, ends)
 }

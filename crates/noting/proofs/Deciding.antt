@@ -8,8 +8,9 @@
 --   given_told == the sheets judged by notes and links, as the definition judges them
 use mathlib.Core.Bool.{Bool, true, false, false≢true}
 use mathlib.Core.List.{List, [], reverse, reverse-reverse}
-use mathlib.Core.Path.{◌≡◌, refl, sym, ap, ◌∙◌, subst}
+use mathlib.Core.Path.{◌≡◌, sym, ap, ◌∙◌, subst}
 use Prim.Native.Nat.{ℕ, ◌+◌, ◌-◌, ◌*◌, ◌/◌, ◌≤◌}
+use Rattle.std.proofs.Common.{Option}
 use native.Mathlib.Omega.{arith}
 use lib.ListN.{length, take, length-reverse}
 use lib.Seq.{length-take-le}
@@ -31,7 +32,7 @@ use Rattle.operations.specs.Back.{backs}
 use Rattle.engine.specs.Held.{Area, Rooted}
 use Rattle.engine.specs.Checks.{Decided, Checked}
 use Rattle.engine.specs.Counted.{CyclesAre, FindsCycles, Takes, Taken}
-use Rattle.engine.specs.declared.Found.{Found}
+use Rattle.engine.specs.declared.Cycles.{Cycles}
 use Rattle.engine.proofs.AllBack.{AllBack, backs_right}
 use Rattle.engine.proofs.Checking.{loaded_beyond, decided_beyond}
 use Rattle.engine.proofs.Decides.{decided}
@@ -91,8 +92,8 @@ module _ (s : State) {w : List ℕ} (A : Area s.darts s.operations w) {b : Bool}
         holds = λ e. rw (base, history) at (M.holds e);
       }
 
-  pub decide_finds : {f : Found} → FindsCycles D (table_in D v) [] f → FindsCycles D (base_of s (table_in D w) past) [] f
-  decide_finds F = rw base at F
+  pub decide_finds : (f : Option Cycles) → FindsCycles D (table_in D v) [] f → FindsCycles D (base_of s (table_in D w) past) [] f
+  decide_finds f F = rw base at F
 
 -- ---- the check
 
@@ -122,15 +123,15 @@ module _ (s : State) (t h : List ℕ) {w : List ℕ} (room : Room s.darts w) (lo
   }
 
   -- what was found is of a pyramid with this past
-  module _ {u : List ℕ} (f : Found) (δ : NoteDecided s v u f.pyramid) (yes_decided : f.pyramid ≡ true)
-      (F : FindsCycles s.darts (base_of s (table_in s.darts v) (past_in s.darts s.operations v)) [] f) where
+  module _ {u : List ℕ} (δ : NoteDecided s v u true) {f : Cycles}
+      (C : CyclesAre s.darts (base_of s (table_in s.darts v) (past_in s.darts s.operations v)) [] f.vertices f.faces) where
     pyramid : Pyramid (counted s (table_of s t) (past_of s h)) (table_of s t) (past_of s h)
     unfolding table_of past_of
-    pyramid = (pyramid_decided (counted s (table_of s t) (past_of s h)) (table_of s t) (past_of s h)).0 (true→T (sym (rw (L.table, L.past) at δ.answer) ∙ yes_decided))
+    pyramid = (pyramid_decided (counted s (table_of s t) (past_of s h)) (table_of s t) (past_of s h)).0 (true→T (sym (rw (L.table, L.past) at δ.answer)))
 
     base_cycles : CyclesAre s.darts (base_of s (table_of s t) (past_of s h)) [] f.vertices f.faces
     unfolding table_of past_of
-    base_cycles = rw (L.table, L.past) at (F yes_decided)
+    base_cycles = rw (L.table, L.past) at C
 
     count : length (past_of s h) ≡ s.operations
     unfolding past_of
@@ -145,13 +146,13 @@ module _ (s : State) (t h : List ℕ) {w : List ℕ} (room : Room s.darts w) (lo
     fits : 0 + length (past_of s h) ≤ length h
     fits = rw count (omega (arith, enough))
 
-    pub check_takes : Takes 0 s.operations h f.vertices f.faces
+    pub check_takes : Takes 0 s.operations h f
     unfolding base_of
-    check_takes = subst (λ (c : ℕ). Takes 0 c h f.vertices f.faces) count (takes_of pyramid 0 h contractions fits base_cycles)
+    check_takes = subst (λ (c : ℕ). Takes 0 c h f) count (takes_of pyramid 0 h contractions fits base_cycles)
 
-    pub check_are : {g : Found} → Taken 0 s.operations h f g → FindsCycles s.darts (table_of s t) (past_of s h) g
+    pub check_are : {g : Cycles} → Taken 0 s.operations h f g → CyclesAre s.darts (table_of s t) (past_of s h) g.vertices g.faces
     unfolding base_of
-    check_are {g} T _ = taken_are pyramid 0 h contractions fits base_cycles refl refl (subst (λ (c : ℕ). Taken 0 c h f g) (sym count) T)
+    check_are {g} T = taken_are pyramid 0 h contractions fits base_cycles (subst (λ (c : ℕ). Taken 0 c h f g) (sym count) T)
 
 -- ---- the sheets
 

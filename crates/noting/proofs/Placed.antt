@@ -1,31 +1,24 @@
 -- The places of a base's records, found.
---   lowest_taken  == where the first D numbers of a table are darts, the vertices and their lowest darts are read off those alone
---   placed_no     == the table does not permute the darts
---   placed_yes    == where it does, it is labelled
---   unfit_found   == the first place whose record is not fit
---   placed_own    == the labels lead to it
+--   lowest_taken   == where the first D numbers of a table are darts, the vertices and their lowest darts are read off those alone
+--   placed_counted == what was counted is labelled
+--   unfit_found    == the first place whose record is not fit
+--   placed_own     == the labels lead to it
 use mathlib.Core.Bool.{◌||◌}
 use mathlib.Core.List.{List, []}
-use mathlib.Core.Path.{◌≡◌, refl, sym, ap, ◌∙◌, subst}
-use Prim.Native.Nat.{ℕ, zero, suc, ◌+◌, ◌*◌, ◌≤◌, ◌<◌}
+use mathlib.Core.Path.{◌≡◌, refl, ap, ◌∙◌, subst}
+use Prim.Native.Nat.{ℕ, zero, suc, ◌+◌, ◌≤◌, ◌<◌}
+use Rattle.std.proofs.Common.{Result, Ok, Err}
 use native.Mathlib.Omega.{arith}
 use lib.Dec.{eqb}
-use lib.ListN.{length, take, drop}
-use lib.Seq.{drop-drop, get_or-take}
+use lib.ListN.{take}
+use lib.Seq.{get_or-take}
 use Rattle.permutations.specs.Cycle.{meets_in}
 use Rattle.darts.specs.Map.{successor, same_vertex, permutes}
-use Rattle.area.specs.Area.{Room}
-use Rattle.area.specs.Load.{loads_base}
-use Rattle.area.specs.Verdicts.{said, passing, verdict_of}
-use Rattle.area.specs.declared.Verdict.{Verdict}
-use Rattle.operations.specs.Cycles.{Labelled}
-use Rattle.operations.specs.Trees.{Outside}
-use Rattle.engine.specs.Held.{Area, Beyond}
-use Rattle.engine.proofs.Based.{base_tested, loaded, base_held}
-use Rattle.engine.proofs.Beside.{beside_table}
-use Rattle.engine.proofs.Counts.{labelled_area}
-use Rattle.engine.proofs.Loaded.{Loaded}
-use Rattle.engine.proofs.Ready.{beyond_trans}
+use Rattle.area.specs.Verdicts.{verdict_of}
+use Rattle.area.specs.declared.Culprits.{Culprits}
+use Rattle.laws.proofs.bridge.Verdicts.{not_permutes}
+use Rattle.engine.specs.Counted.{BaseCounted}
+use Rattle.engine.specs.declared.Cycles.{Cycles}
 use Rattle.sheets.specs.Sheets.{Sheets}
 use Rattle.sheets.specs.Notes.{unfit_in}
 use Rattle.yarn.specs.Places.{lowest_from, lowest, is_place}
@@ -55,44 +48,19 @@ module _ (D : ℕ) (t : List ℕ) (inside : (x : ℕ) → x < D → successor (t
   unfolding lowest
   lowest_taken x = lowest_from_lem x D 0 (omega arith)
 
--- ---- the table loaded, and labelled
+-- ---- the table counted
 
-labels_beyond : {D : ℕ} {w v : List ℕ} → Outside D w v → Beyond D w v
-labels_beyond {D} {w} {v} o =
-    let e : 4 * D ≡ 3 * D + D = omega arith in
-    record { size = o.size; rest = rw e (sym (drop-drop D (3 * D) v) ∙ ap (drop D) o.rest ∙ drop-drop D (3 * D) w) }
-
-module _ (D : ℕ) (t w : List ℕ) (room : Room D w) (long : D ≤ length t) where
-  module _ (r : Verdict) {u : List ℕ} (f : said (verdict_of r) u ≡ loads_base D t w) where
-    abbrev L : Loaded D 0 t [] w (passing (said (verdict_of r) u))
-    L = loaded D t w room long r f
-
-    loaded_beyond : Beyond D w u
-    loaded_beyond = record { size = L.size; rest = L.rest }
-
-    pub placed_no : (verdict_of r ≡ permutes → ⊥) → Placed D t w u r
-    placed_no fails = record {
-      verdict = (base_tested D t w room long f).verdict;
-      beyond = loaded_beyond;
-      labels = λ e. absurd (fails e);
-    }
-
-    module _ (passes : verdict_of r ≡ permutes) where
-      abbrev held : Area D 0 u
-      held = base_held D t w room long r f passes
-
-      -- the faces are counted first, and then each dart is labelled
-      pub placed_yes : {x v : List ℕ} → Labelled D 0 u x → Labelled D 1 x v → Placed D t w v r
-      placed_yes {x} {v} K M =
-          let A = labelled_area held (omega arith) K in
-          record {
-            verdict = (base_tested D t w room long f).verdict;
-            beyond = beyond_trans loaded_beyond (beyond_trans (labels_beyond K.outside) (labels_beyond M.outside));
-            labels = λ _ y l.
-                label_lowest A M y l
-                ∙ ap (λ b. lowest D b y) (beside_table K.outside ∙ L.table)
-                ∙ lowest_taken D t (λ z m. subst (λ b. successor b z < D) L.table (held.stands.inside z m)) y;
-          }
+pub placed_counted : {D : ℕ} (t w : List ℕ) {v : List ℕ} {r : Result Cycles Culprits} → BaseCounted D t w v r → Placed D t w v r
+placed_counted {D} t w {v} {r = Ok c} C = record {
+  verdict = C.verdict;
+  beyond = C.beyond;
+  labels = λ _ x l.
+      let A = C.area refl in
+      label_lowest A (C.vertices refl) x l
+      ∙ ap (λ b. lowest D b x) (C.table refl)
+      ∙ lowest_taken D t (λ z m. subst (λ b. successor b z < D) (C.table refl) (A.stands.inside z m)) x;
+}
+placed_counted t w {r = Err c} C = record { verdict = C.verdict; beyond = C.beyond; labels = λ e. absurd (not_permutes e) }
 
 -- ---- the first place whose record is not fit
 
@@ -108,6 +76,6 @@ module _ (D : ℕ) (t v : List ℕ) (own : Own D t v) (S : Sheets) where
   unfolding first_unfit
   unfit_found = unfit_from_lem D 0 (omega arith)
 
-pub placed_own : {D : ℕ} {t w v : List ℕ} {r : Verdict} → Placed D t w v r → verdict_of r ≡ permutes → Own D t v
+pub placed_own : {D : ℕ} {t w v : List ℕ} {r : Result Cycles Culprits} → Placed D t w v r → verdict_of r ≡ permutes → Own D t v
 unfolding is_place
 placed_own P passes x l = ap (λ y. eqb y x) (P.labels passes x l)

@@ -2,21 +2,21 @@
 --   places_last       == the places after one operation more
 --   merges_before, merges_last == what the operations before it merge, and what it merges
 --   note_read, note_of_two == the note of a merge of two places tells that merge
---   Noting D n es w₀ i w m == w is w₀ after the first i contractions of the kernel es, and there are m operations then: those from n on are noted
+--   Noting D n es w₀ i w == w is w₀, which has n operations, after the first i contractions of the kernel es: those from n on are noted
 --   noting_begin, noting_on, noting_stops, noting_ends == none is done yet; one more; one is refused; none is left
 use mathlib.Core.List.{List, [], ◌∷◌, ◌++◌, reverse, reverse-append}
 use mathlib.Core.Logic.{◌≢◌, inr}
 use mathlib.Core.Path.{◌≡◌, refl, sym, ap, ap₂, ◌∙◌}
 use Prim.Native.Nat.{ℕ, zero, suc, ◌+◌, ◌*◌, ◌/◌, ◌%◌, ◌≤◌, ◌<◌, min, max}
+use Rattle.std.proofs.Common.{Ok, Err}
 use native.Mathlib.Decide.{ℕ_discrete}
 use native.Mathlib.Numerals.{add-one}
 use native.Mathlib.Omega.{arith}
 use lib.ListN.{length, get_or, drop, set, drop_of_length-le, length-append}
 use lib.Seq.{drop-cons, get_or-drop, get_or-set_same, get_or-set_other}
 use Rattle.permutations.specs.Choice.{pick, eqb_other}
-use Rattle.darts.specs.Cases.{answer_of}
-use Rattle.darts.specs.declared.Answer.{Answer}
-use Rattle.darts.specs.declared.Answer.TheVariants.{Done}
+use Rattle.darts.specs.declared.Refusal.{Refusal}
+use Rattle.darts.proofs.Cases.{refused_number}
 use Rattle.darts.specs.Operation.{contraction, kind_of, edge_of, lead, number}
 use Rattle.darts.specs.Kernel.{Run, always, pass, run}
 use Rattle.laws.proofs.bridge.Numbers.{number_kind, number_edge}
@@ -77,44 +77,54 @@ note_of_two R e small below two =
 abbrev whole : ℕ → ℕ → List ℕ → List ℕ → Run
 whole D n es w = run contraction D (table_in D w) (past_in D n w) es
 
-pub record Noting (D n : ℕ) (es w₀ : List ℕ) (i : ℕ) (w : List ℕ) (m : ℕ) : Type 0 where
-  pub under : Underway D 1 always (whole D n es w₀) w₀ i (drop i es) w m
+pub record Noting (D n : ℕ) (es w₀ : List ℕ) (i : ℕ) (w : List ℕ) : Type 0 where
+  pub under : Underway D 1 always (whole D n es w₀) w₀ i (drop i es) w (n + i)
   pub fresh : List ℕ
-  pub count : n + length fresh ≡ m
-  pub told : past_in D m w ≡ reverse fresh ++ past_in D n w₀
+  pub count : length fresh ≡ i
+  pub told : past_in D (n + i) w ≡ reverse fresh ++ past_in D n w₀
   pub roots : rooted D w ≡ places_after (rooted D w₀) fresh
-  pub notes : (i : ℕ) → n + i < m → notes_in D w (n + i) ≡ merges_of (rooted D w₀) fresh i
+  pub notes : (j : ℕ) → j < i → notes_in D w (n + j) ≡ merges_of (rooted D w₀) fresh j
 
 kind_one : kind_of 1 ≡ contraction
 unfolding kind_of
 kind_one = refl
 
-pub noting_begin : {D n : ℕ} {w : List ℕ} (es : List ℕ) → Ready D n 1 w → Noting D n es w 0 w n
+pub noting_begin : {D n : ℕ} {w : List ℕ} (es : List ℕ) → Ready D n 1 w → Noting D n es w 0 w
 unfolding run pass places_after
-noting_begin {D} {n} {w} es ready = record {
-  under = record { same = rw kind_one refl; ready = ready; beyond = beyond_refl D w };
-  fresh = [];
-  count = omega arith;
-  told = refl;
-  roots = refl;
-  notes = λ i l. absurd (omega arith);
-}
+noting_begin {D} {n} {w} es ready =
+    let none : n + 0 ≡ n = omega arith in
+    record {
+      under = rw none (record { same = rw kind_one refl; ready = ready; beyond = beyond_refl D w });
+      fresh = [];
+      count = refl;
+      told = rw none refl;
+      roots = refl;
+      notes = λ j l. absurd (omega arith);
+    }
 
-module _ {D n : ℕ} (es : List ℕ) {w₀ : List ℕ} {i : ℕ} {w : List ℕ} {m : ℕ} (N : Noting D n es w₀ i w m)
-    {e : ℕ} (more : i < length es) (read : e ≡ get_or es i 0) {v : List ℕ} {r : Answer} (τ : TurnedNoted D m e i w v r) where
+module _ {D n : ℕ} (es : List ℕ) {w₀ : List ℕ} {i : ℕ} {w : List ℕ} (N : Noting D n es w₀ i w) (more : i < length es) where
+  abbrev m : ℕ
+  m = n + i
+
+  abbrev e : ℕ
+  e = get_or es i 0
+
+  next : n + (i + 1) ≡ m + 1
+  next = omega arith
+
   at_turn : Underway D 1 always (whole D n es w₀) w₀ i (e ∷ drop (suc i) es) w m
-  at_turn = rw (read, ← drop-cons es i 0 more) N.under
+  at_turn = rw (← drop-cons es i 0 more) N.under
 
-  pub noting_stops : (answer_of r).number ≢ 0 → n ≤ D / 2 → RanNoted D n es w₀ v (record { answer = r; operations = n })
-  noting_stops refused few = rw (τ.left refused) record {
-    went = underway_stops at_turn refl τ.turned refused few;
+  pub noting_stops : {v : List ℕ} {r : Refusal} → TurnedNoted D m e i w v (Err r) → RanNoted D n es w₀ v (Err r)
+  noting_stops {r = r} τ = rw (τ.left (refused_number r)) record {
+    went = underway_stops at_turn refl τ.turned;
     fresh = [];
-    grows = λ z. absurd (refused z);
-    told = λ z. absurd (refused z);
-    notes = λ z. absurd (refused z);
+    grows = tt;
+    told = tt;
+    notes = tt;
   }
 
-  module _ (fine : (answer_of r).number ≡ 0) where
+  module _ {v : List ℕ} (τ : TurnedNoted D m e i w v (Ok tt)) where
     abbrev u : List ℕ
     u = τ.plain
 
@@ -128,7 +138,7 @@ module _ {D n : ℕ} (es : List ℕ) {w₀ : List ℕ} {i : ℕ} {w : List ℕ} 
     p = 3 * D + D / 2 + m
 
     goes_ready : Ready D (m + 1) 1 u
-    goes_ready = (τ.turned.done fine).ready
+    goes_ready = (τ.turned.done refl).ready
 
     room_left : m < D / 2
     room_left = omega (arith, goes_ready.area.few)
@@ -137,25 +147,25 @@ module _ {D n : ℕ} (es : List ℕ) {w₀ : List ℕ} {i : ℕ} {w : List ℕ} 
     S = note_stays goes_ready m (note_of (merge_by contraction R e)) room_left
 
     under : Underway D 1 always (whole D n es w₀) w₀ (i + 1) (drop (i + 1) es) v (m + 1)
-    under = rw (τ.noted fine, add-one i) (underway_kept S (underway_on at_turn refl τ.turned fine))
+    under = rw (τ.noted refl, add-one i) (underway_kept S (underway_on at_turn refl τ.turned))
 
     past : past_in D (m + 1) v ≡ h ∷ past_in D m w
-    past = rw (τ.noted fine) (S.past ∙ rw kind_one at (τ.turned.done fine).past)
+    past = rw (τ.noted refl) (S.past ∙ rw kind_one at (τ.turned.done refl).past)
 
     roots : rooted D v ≡ joins R e
-    roots = rw (τ.noted fine) (ap root (set_forest D u p _ goes_ready.area.room.fits (inr (omega arith))) ∙ τ.roots fine)
+    roots = rw (τ.noted refl) (ap root (set_forest D u p _ goes_ready.area.room.fits (inr (omega arith))) ∙ τ.roots refl)
 
     note_last : notes_in D v m ≡ merge_by contraction R e
     unfolding notes_in
     note_last =
-        rw (τ.noted fine)
+        rw (τ.noted refl)
         (ap merge_in (get_or-set_same u p (note_of (merge_by contraction R e)) 0 (omega (arith, room_left, goes_ready.area.room.fits)))
-        ∙ note_of_two R e N.under.ready.area.room.small (roots_below N.under.ready.area.room N.under.ready.falls) (τ.two fine))
+        ∙ note_of_two R e N.under.ready.area.room.small (roots_below N.under.ready.area.room N.under.ready.falls) (τ.two refl))
 
     note_before : (t : ℕ) → t < m → notes_in D v t ≡ notes_in D w t
     unfolding notes_in
     note_before t l =
-        rw (τ.noted fine)
+        rw (τ.noted refl)
         (ap merge_in (get_or-set_other u p (3 * D + D / 2 + t) (note_of (merge_by contraction R e)) 0 (λ c. omega arith)
         ∙ sym (get_or-drop (3 * D + D / 2) u t 0) ∙ ap (λ l. get_or l t 0) τ.late ∙ get_or-drop (3 * D + D / 2) w t 0))
 
@@ -168,29 +178,30 @@ module _ {D n : ℕ} (es : List ℕ) {w₀ : List ℕ} {i : ℕ} {w : List ℕ} 
         merges_last (rooted D w₀) N.fresh h
         ∙ rw (number_kind contraction (lead contraction (table_in D w) e), number_edge contraction (table_in D w) e, ← N.roots) refl
 
-    each : (t : ℕ) → n + t < m + 1 → Dec (t ≡ length N.fresh) → notes_in D v (n + t) ≡ merges_of (rooted D w₀) (N.fresh ++ (h ∷ [])) t
+    each : (t : ℕ) → t < i + 1 → Dec (t ≡ length N.fresh) → notes_in D v (n + t) ≡ merges_of (rooted D w₀) (N.fresh ++ (h ∷ [])) t
     each t l (yes c) = let last : n + t ≡ m = omega (arith, N.count) in ap (notes_in D v) last ∙ note_last ∙ rw c (sym merges_here)
     each t l (no c) =
-        let earlier : n + t < m = omega (arith, N.count) in
-        let inside : t < length N.fresh = omega (arith, N.count) in
-        note_before (n + t) earlier ∙ N.notes t earlier ∙ sym (merges_before (rooted D w₀) N.fresh h t inside)
+        let earlier : t < i = omega (arith, N.count) in
+        note_before (n + t) (omega arith) ∙ N.notes t earlier ∙ sym (merges_before (rooted D w₀) N.fresh h t (omega (arith, N.count)))
 
-    pub noting_on : Noting D n es w₀ (i + 1) v (m + 1)
+    pub noting_on : Noting D n es w₀ (i + 1) v
     noting_on = record {
-      under = under;
+      under = rw next under;
       fresh = N.fresh ++ (h ∷ []);
-      count = let e : length (N.fresh ++ (h ∷ [])) ≡ length N.fresh + 1 = length-append N.fresh (h ∷ []) in omega (arith, e, N.count);
-      told = past ∙ ap (λ l. h ∷ l) N.told ∙ sym (ap (λ l. l ++ past_in D n w₀) (reverse-append N.fresh (h ∷ [])));
+      count = length-append N.fresh (h ∷ []) ∙ ap (λ c. c + 1) N.count;
+      told = rw next (past ∙ ap (λ l. h ∷ l) N.told ∙ sym (ap (λ l. l ++ past_in D n w₀) (reverse-append N.fresh (h ∷ []))));
       roots = roots ∙ ap (λ Q. joins Q e) N.roots ∙ sym (places_last (rooted D w₀) N.fresh h ∙ zoned_here (places_after (rooted D w₀) N.fresh));
       notes = λ t l. each t l (ℕ_discrete t (length N.fresh));
     }
 
-pub noting_ends : {D n : ℕ} (es : List ℕ) {w₀ : List ℕ} {i : ℕ} {w : List ℕ} {m : ℕ} → Noting D n es w₀ i w m → length es ≤ i
-    → RanNoted D n es w₀ w (record { answer = Done 0; operations = m })
-noting_ends es N all = record {
-  went = underway_ends (rw (drop_of_length-le es all) at N.under);
-  fresh = N.fresh;
-  grows = λ _. omega (arith, N.count);
-  told = λ _. N.told;
-  notes = λ _. N.notes;
-}
+pub noting_ends : {D n : ℕ} (es : List ℕ) {w₀ : List ℕ} {i : ℕ} {w : List ℕ} → Noting D n es w₀ i w → i ≡ length es
+    → RanNoted D n es w₀ w (Ok (n + length es))
+noting_ends {n = n} es {i = i} N all =
+    let over : length es ≤ i = omega arith in
+    rw (← all) record {
+      went = underway_ends (rw (drop_of_length-le es over) at N.under);
+      fresh = N.fresh;
+      grows = omega arith;
+      told = N.told;
+      notes = λ j l. N.notes j (omega arith);
+    }

@@ -1,5 +1,6 @@
 // Notes and links in the work area: from 3d + d/2 on what each operation merges; at x what came last into the record at x, at d + t what the record came
 // from that operation t kept.
+// 0, or d, stands there for nothing: the work area that is lent has one number for each, and the loops over the sheets read it so.
 ghost use Rattle.std.specs.Prelude.{◌≡◌, ◌+◌, ◌*◌, ◌/◌, ◌<◌, set};
 ghost use Rattle.area.specs.Area.{Room};
 ghost use Rattle.sheets.specs.Sheets.{none, into};
@@ -13,14 +14,11 @@ pub(crate) fn mark(work: &mut [u32], d: usize)
     requires { Room d work.old }
     ensures { Marked d work.old work.new }
 {
-    let mut x = 0;
-    while x < d {
+    for x in 0..d {
         if at(work, 2 * d + x) == x {
             work[x] = 0;
-            x += 1;
         } else {
             work[x] = d as u32;
-            x += 1;
         }
     }
 }

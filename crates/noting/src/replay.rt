@@ -6,6 +6,7 @@ ghost use Rattle.operations.specs.Replay.{Numbered};
 ghost use Rattle.noting.specs.Links.{Contracted, Stepped, Starts, Replayed};
 
 use crate::note::{merge, pass};
+use darts::Kind;
 use operations::trees::{find, link};
 use slices::at;
 
@@ -18,15 +19,11 @@ fn contract(work: &mut [u32], d: usize, t: usize, e: usize) -> bool
 {
     let a = find(work, d, 2 * e);
     let b = find(work, d, 2 * e + 1);
-    if link(work, d, a, b) {
-        if a < b {
-            merge(work, d, t, a, b);
-        } else {
-            merge(work, d, t, b, a);
-        }
-        return true;
+    if !link(work, d, a, b) {
+        return false;
     }
-    false
+    merge(work, d, t, a.min(b), a.max(b));
+    true
 }
 
 // Operation t, which has the history number h.
@@ -36,11 +33,13 @@ fn step(work: &mut [u32], d: usize, t: usize, h: usize) -> bool
     requires t_bound { (t < d / 2) × (h < 2 * d) }
     ensures { Stepped d t h work.old work.new result }
 {
-    if h % 2 == 1 {
-        return contract(work, d, t, h / 4);
+    match Kind::from(h) {
+        Kind::Contract => contract(work, d, t, h / 4),
+        Kind::Remove => {
+            pass(work, d, t);
+            true
+        }
     }
-    pass(work, d, t);
-    true
 }
 
 // All n operations. No as soon as a contraction has one vertex at both ends.
@@ -52,12 +51,9 @@ pub(crate) fn replay(work: &mut [u32], d: usize, n: usize) -> bool
     requires starts { Starts d work.old }
     ensures { Replayed d n work.old work.new result }
 {
-    let mut t = 0;
-    while t < n {
+    for t in 0..n {
         let h = at(work, 3 * d + t);
-        if step(work, d, t, h) {
-            t += 1;
-        } else {
+        if !step(work, d, t, h) {
             return false;
         }
     }

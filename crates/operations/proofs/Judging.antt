@@ -8,7 +8,7 @@
 use mathlib.Core.Bool.{true, false}
 use mathlib.Core.List.{List}
 use mathlib.Core.Logic.{◌≢◌}
-use mathlib.Core.Path.{◌≡◌, refl, ◌∙◌, fun_ext, subst}
+use mathlib.Core.Path.{◌≡◌, refl, ap, ◌∙◌, fun_ext, subst}
 use Prim.Native.Nat.{ℕ, ◌+◌, ◌-◌, ◌*◌, ◌/◌, ◌≤◌, ◌<◌}
 use native.Mathlib.Omega.{arith}
 use lib.Dec.{eqb, eqb→eq}
@@ -20,8 +20,11 @@ use Rattle.forest.specs.Forest.{Falls}
 use Rattle.darts.specs.Map.{successor}
 use Rattle.darts.specs.Operation.{whole_edge}
 use Rattle.darts.specs.Cases.{answer_of}
-use Rattle.darts.specs.declared.Answer.{Answer}
-use Rattle.darts.specs.declared.Answer.TheVariants.{Done, NoEdge, GoneAlready, WholePiece}
+use Rattle.darts.specs.Answers.{answered}
+use Rattle.darts.specs.Cases.{refusal_of}
+use Rattle.darts.specs.declared.Refusal.{Refusal}
+use Rattle.darts.specs.declared.Refusal.TheVariants.{NoEdge, GoneAlready, WholePiece}
+use Rattle.std.proofs.Common.{Result, Ok, Err}
 use Rattle.area.specs.Area.{prev, there, forest_in}
 use Rattle.area.proofs.Tried.{not-true, not-false}
 use Rattle.operations.specs.Edge.{Says, Judged}
@@ -31,8 +34,12 @@ use Rattle.operations.proofs.Lent.{kept_trans, kept_joined}
 use Rattle.operations.proofs.Outside.{outside_refl, outside_front, outside_there}
 
 -- an answer says its own number and place
-exact : {a : Answer} → (answer_of a).second ≡ 0 → Says (answer_of a).number (answer_of a).place a
+exact : {a : Result (Unit {0}) Refusal} → (answer_of a).second ≡ 0 → Says (answer_of a).number (answer_of a).place a
 exact none = record { number = refl; place = λ _. refl; second = none }
+
+-- so does a refusal with this number and place
+pub refused_with : {r : Refusal} {n i : ℕ} → refusal_of r ≡ answered n i → Says n i (Err r)
+refused_with e = record { number = ap (λ a. a.number) e; place = λ _. ap (λ a. a.place) e; second = ap (λ a. a.second) e }
 
 -- what has one root already keeps it
 joined_kept : {D p q : ℕ} {w w' : List ℕ} → Joined D w w' p q false → Kept D w w'
@@ -44,36 +51,38 @@ joined_kept {D} {p} {q} {w} j =
 -- ---- one test for each answer
 
 module _ (D : ℕ) (w : List ℕ) (R : ℕ → ℕ) (k e i : ℕ) where
-  abbrev Verdict : Answer → Type 0
+  abbrev Verdict : Result (Unit {0}) Refusal → Type 0
   Verdict = Says (judged D w R k e) i
 
-  pub no_edge : D / 2 ≤ e → Verdict (NoEdge i)
+  pub no_edge : D / 2 ≤ e → Verdict (Err (NoEdge i))
   unfolding judged
   no_edge h = rw (le-leb (D / 2) e h) (exact refl)
 
   module _ (edge : e < D / 2) where
-    pub gone : D ≤ get_or w (D + 2 * e) 0 → Verdict (GoneAlready i)
+    pub gone : D ≤ get_or w (D + 2 * e) 0 → Verdict (Err (GoneAlready i))
     unfolding judged there prev
     gone h = rw (lt-leb (D / 2) e edge, le-ltb (get_or w (D + 2 * e) 0) D h) (exact refl)
 
     module _ (here : get_or w (D + 2 * e) 0 < D) where
-      pub one_root : eqb (R (2 * e)) (R (2 * e + 1)) ≡ true → {a : Answer} → Says (10 - k) i a → Verdict a
+      pub one_root : eqb (R (2 * e)) (R (2 * e + 1)) ≡ true → {a : Result (Unit {0}) Refusal} → Says (10 - k) i a → Verdict a
       unfolding judged there prev
       one_root h said = rw (lt-leb (D / 2) e edge, lt-ltb (get_or w (D + 2 * e) 0) D here, h) said
 
       module _ (two : eqb (R (2 * e)) (R (2 * e + 1)) ≡ false) where
-        pub whole_piece_lem : whole_edge w e ≡ true → Verdict (WholePiece i)
+        pub whole_piece_lem : whole_edge w e ≡ true → Verdict (Err (WholePiece i))
         unfolding judged there prev
         whole_piece_lem h = rw (lt-leb (D / 2) e edge, lt-ltb (get_or w (D + 2 * e) 0) D here, two, h) (exact refl)
 
-        fine : whole_edge w e ≡ false → Verdict (Done 0)
+        fine : whole_edge w e ≡ false → Verdict (Ok tt)
         unfolding judged there prev
-        fine h = rw (lt-leb (D / 2) e edge, lt-ltb (get_or w (D + 2 * e) 0) D here, two, h) (record { number = refl; place = λ n. absurd (n refl); second = refl })
+        fine h =
+            rw (lt-leb (D / 2) e edge, lt-ltb (get_or w (D + 2 * e) 0) D here, two, h)
+            (record { number = refl; place = λ n. absurd (n refl); second = refl })
 
 -- ---- what is left
 
 module _ {D : ℕ} {w : List ℕ} (F : Falls (forest_in D w)) where
-  pub judged_here : {k e i : ℕ} {a : Answer} → Verdict D w (rooted D w) k e i a → (answer_of a).number ≢ 0 → Judged D k e i w w a
+  pub judged_here : {k e i : ℕ} {a : Result (Unit {0}) Refusal} → Verdict D w (rooted D w) k e i a → (answer_of a).number ≢ 0 → Judged D k e i w w a
   judged_here v n = record {
     answer = v;
     refused = λ _. record { outside = outside_refl D w; falls = F; roots = refl };
@@ -81,14 +90,14 @@ module _ {D : ℕ} {w : List ℕ} (F : Falls (forest_in D w)) where
   }
 
 module _ {D k e i : ℕ} {w v : List ℕ} (edge : e < D / 2) (here : get_or w (D + 2 * e) 0 < D) where
-  pub judged_one : {a : Answer} → k < 2 → Joined D w v (2 * e) (2 * e + 1) false → Says (10 - k) i a → Judged D k e i w v a
+  pub judged_one : {a : Result (Unit {0}) Refusal} → k < 2 → Joined D w v (2 * e) (2 * e + 1) false → Says (10 - k) i a → Judged D k e i w v a
   judged_one l j said = record {
     answer = one_root D w (rooted D w) k e i edge here (not-false _ j.answer) said;
     refused = λ _. joined_kept j;
     done = λ z. absurd (omega (arith, said.number));
   }
 
-  pub judged_two : whole_edge w e ≡ false → Joined D w v (2 * e) (2 * e + 1) true → Judged D k e i w v (Done 0)
+  pub judged_two : whole_edge w e ≡ false → Joined D w v (2 * e) (2 * e + 1) true → Judged D k e i w v (Ok tt)
   judged_two part j = record {
     answer = fine D w (rooted D w) k e i edge here (not-true _ j.answer) part;
     refused = λ n. absurd (n refl);
@@ -106,7 +115,7 @@ module _ {D e : ℕ} {w u : List ℕ} (edge : e < D / 2) (κ : Kept D w u) where
   unfolding judged
   judged_same k = rw (κ.roots, outside_there κ.outside (2 * e) (omega arith), whole_same)
 
-  pub judged_kept : {k i : ℕ} {v : List ℕ} {a : Answer} → Judged D k e i u v a → Judged D k e i w v a
+  pub judged_kept : {k i : ℕ} {v : List ℕ} {a : Result (Unit {0}) Refusal} → Judged D k e i u v a → Judged D k e i w v a
   judged_kept {k} {i} {a = a} j = record {
     answer = subst (λ n. Says n i a) (judged_same k) j.answer;
     refused = λ n. kept_trans κ (j.refused n);

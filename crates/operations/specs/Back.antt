@@ -4,9 +4,11 @@
 --   fits D w h          == tests 6 to 15
 --   inserted ..         == a leads to p and b to q, p to r and q to s
 --   placed ..           == p and q inserted before x and y, or both before y where x is q
+--   tried_edge ..         == p and q tested, and placed where they fit
 --   taken_back D w h     == the work area before the operation h
 --   tried_back D w h     == the operation h tested, and taken back where it fits
 --   backs D w n c       == the last c of n operations taken back, each tested
+--   Inside D e          == p, q, r and s of the edge e are darts
 --   Mapped D w          == there is room, and the map's entries are darts
 --   Sound D n w         == there are at most D operations besides, and their numbers are of darts
 use Rattle.std.specs.Prelude.{Bool, true, false, not, ◌&&◌, List, ℕ, zero, suc, ◌+◌, ◌-◌, ◌*◌, ◌/◌, ◌%◌, ◌≤◌, ◌<◌, eqb, get_or}
@@ -15,6 +17,7 @@ use Rattle.std.specs.Prelude.{if◌then◌else◌}
 use Rattle.darts.specs.Map.{successor}
 use Rattle.darts.specs.Operation.{Kind, kind_of}
 use Rattle.darts.specs.Tests.{near, far}
+use Rattle.operations.specs.declared.back.Edge.{Edge}
 use Rattle.area.specs.Area.{prev, there, stamp, Room, bound, Tried, tried, tried_if}
 
 abbrev pub fitting : ℕ → List ℕ → ℕ → ℕ → ℕ → ℕ → Bool
@@ -37,6 +40,11 @@ abbrev pub placed : ℕ → List ℕ → Kind → ℕ → ℕ → ℕ → ℕ �
 placed D w k p q r s x y =
     if eqb x q then inserted D w p q r s (prev D w y) (near k p q) else inserted D w p q r s (prev D w x) (prev D w y)
 
+-- x is the near one of r and s, y the far one
+abbrev pub tried_edge : ℕ → List ℕ → Kind → ℕ → ℕ → ℕ → ℕ → Tried
+tried_edge D w k p q r s =
+    tried_if (fitting D w p q (near k r s) (far k r s)) w (placed D w k p q r s (near k r s) (far k r s))
+
 unfoldable pub taken_back : ℕ → List ℕ → ℕ → List ℕ
 taken_back D w h =
     let p : ℕ = h / 2 in
@@ -55,6 +63,12 @@ backs D w n zero = tried true w
 backs D w n (suc c) =
     let h : ℕ = stamp D w (n - 1) in
     if fits D w h then backs D (taken_back D w h) (n - 1) c else tried false w
+
+pub record Inside (D : ℕ) (e : Edge) : Type 0 where
+  pub p : e.p < D
+  pub q : e.q < D
+  pub r : e.r < D
+  pub s : e.s < D
 
 pub record Mapped (D : ℕ) (w : List ℕ) : Type 0 where
   pub room : Room D w

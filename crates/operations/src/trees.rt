@@ -11,9 +11,7 @@ pub fn find(work: &mut [u32], d: usize, x: usize) -> usize
     requires x_lt_d { x < d }
     ensures { Found d work.old work.new x result }
 {
-    let a = 2 * d;
-    let e = 3 * d;
-    forest::find(&mut work[a..e], x)
+    forest::find(&mut work[2 * d..3 * d], x)
 }
 
 // Joins what belongs to p with what belongs to q. Answers whether they were apart.
@@ -23,9 +21,7 @@ pub fn join(work: &mut [u32], d: usize, p: usize, q: usize) -> bool
     requires p_lt_d { (p < d) × (q < d) }
     ensures { Joined d work.old work.new p q result }
 {
-    let a = 2 * d;
-    let e = 3 * d;
-    forest::join(&mut work[a..e], p, q)
+    forest::join(&mut work[2 * d..3 * d], p, q)
 }
 
 // The same of two roots: the higher is hung under the lower.
@@ -36,7 +32,5 @@ pub fn link(work: &mut [u32], d: usize, u: usize, v: usize) -> bool
     requires u_value { (rooted d work.old u ≡ u) × (rooted d work.old v ≡ v) }
     ensures { Joined d work.old work.new u v result }
 {
-    let a = 2 * d;
-    let e = 3 * d;
-    forest::link(&mut work[a..e], u, v)
+    forest::link(&mut work[2 * d..3 * d], u, v)
 }

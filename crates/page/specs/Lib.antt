@@ -1,2 +1,2 @@
--- Waits == how much of a page waits to be written
+-- Waits == the bytes of a page that wait to be written
 pub mod Waits

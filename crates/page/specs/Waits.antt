@@ -1,6 +1,6 @@
--- Waits used page == the first used bytes of the page wait to be written; a page has room for a byte at least
-use Rattle.std.specs.Prelude.{List, ℕ, ◌≤◌, ◌<◌, length}
+-- waits page == the bytes that wait to be written: the first used of the page
+use Rattle.std.specs.Prelude.{List, ℕ, take}
+use Rattle.page.specs.declared.Page.{Page}
 
-pub record Waits (used : ℕ) (page : List ℕ) : Type 0 where
-  pub within : used ≤ length page
-  pub some : 0 < length page
+abbrev pub waits : {W : Type 0} {N : ℕ} → Page W N → List ℕ
+waits page = take page.used page.bytes

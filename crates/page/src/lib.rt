@@ -1,139 +1,90 @@
-// A page of text on its way to a writer. The first `used` bytes of it wait; a full page is written before more is put on
-// it. Each function answers how many bytes wait then, or why the writer took no more. And the bytes of an input, read into
-// room that is fixed. The only error is the writer's own, or the reader's, passed on as it came; what is lent then has the
-// length that it had.
+// A page of text on its way to a writer: what is printed on it waits, and a full page is written before more is put on it. And the bytes of an
+// input, read into room that is fixed. The only error is the writer's own, or the reader's, passed on as it came.
 #![tactic(auto)]
 
-ghost use Rattle.std.specs.Prelude.{◌≡◌, ◌≤◌, ◌<◌, IfOk, OnErr, nat_abs, length};
-ghost use Rattle.page.specs.Waits.{Waits};
+ghost use Rattle.std.specs.Prelude.{◌≡◌, ◌<◌, ◌≤◌, ◌++◌, ◌⊎◌, [], take, IfOk, OnOk, OnErr, length};
+ghost use Rattle.std.specs.Io.{WritesAtMost};
+ghost use Rattle.std.specs.Io.KnownBytes.{WriteAppends, Keeps};
 
-use itoa::Buffer;
+use std::fmt::Display;
 use std::io;
 use std::io::{Read, Write};
 
-// Writes the bytes that wait.
-pub fn flush<W: Write>(out: &mut W, page: &[u8], used: usize) -> io::Result<()>
-    requires { used ≤ length page.now }
-{
-    out.write_all(&page[..used])
-}
-
-// Where the next byte goes: at the start, once a full page is written.
-fn free<W: Write>(out: &mut W, page: &[u8], used: usize) -> io::Result<usize>
-    requires { Waits used page.now }
-    ensures { IfOk result (λ at. at < length page.now) }
-{
-    if used < page.len() {
-        return Ok(used);
-    }
-    flush(out, page, used)?;
-    Ok(0)
-}
-
-// One byte more.
-fn byte<W: Write>(out: &mut W, page: &mut [u8], used: usize, b: u8) -> io::Result<usize>
-    requires { Waits used page.old }
-    ensures ok { IfOk result (λ at. Waits at page.new) }
-    ensures err { OnErr result (page.new ≡ page.old) }
-{
-    let at = free(out, page, used)?;
-    page[at] = b;
-    Ok(at + 1)
-}
-
-// The bytes of a text.
-pub fn text<W: Write>(out: &mut W, page: &mut [u8], used: usize, bytes: &[u8]) -> io::Result<usize>
-    requires { Waits used page.old }
-    ensures ok { IfOk result (λ at. Waits at page.new) }
-    ensures err { OnErr result (length page.new ≡ length page.old) }
-{
-    let mut at = used;
-    let mut i = 0;
-    while i < bytes.len() {
-        at = byte(out, page, at, bytes[i])?;
-        i += 1;
-    }
-    Ok(at)
-}
-
-// The decimal digits of a number.
-pub fn number<W: Write>(out: &mut W, page: &mut [u8], used: usize, n: u64) -> io::Result<usize>
-    requires { Waits used page.old }
-    ensures ok { IfOk result (λ at. Waits at page.new) }
-    ensures err { OnErr result (length page.new ≡ length page.old) }
-{
-    let mut digits = Buffer::new();
-    text(out, page, used, digits.format(n).as_bytes())
-}
-
-// A key and its number.
-pub fn field<W: Write>(
-    out: &mut W,
-    page: &mut [u8],
+// The first `used` of N bytes wait. What waits is written where the page is full and more comes, and by `flush`.
+#[derive(Drop)]
+pub struct Page<W, const N: usize> {
+    out: W,
+    bytes: [u8; N],
     used: usize,
-    key: &[u8],
-    n: u64,
-) -> io::Result<usize>
-    requires { Waits used page.old }
-    ensures ok { IfOk result (λ at. Waits at page.new) }
-    ensures err { OnErr result (length page.new ≡ length page.old) }
-{
-    let at = text(out, page, used, key)?;
-    number(out, page, at, n)
+    ghost within: { used ≤ N },
 }
 
-// How far a number lies from zero.
-fn magnitude(n: i32) -> u64
-    ensures { result ≡ nat_abs n }
-{
-    let wide = n as i64;
-    if wide < 0 {
-        return (0 - wide) as u64;
+impl<W: Write, const N: usize> Page<W, N> {
+    ghost use Rattle.page.specs.Waits.{waits};
+
+    // An empty page.
+    pub fn new(out: W) -> Self
+        ensures { waits result ≡ [] }
+    {
+        Page {
+            out,
+            bytes: [0; N],
+            used: 0,
+        }
     }
-    wide as u64
-}
 
-// A key and a number that may lie below zero.
-pub fn signed<W: Write>(
-    out: &mut W,
-    page: &mut [u8],
-    used: usize,
-    key: &[u8],
-    n: i32,
-) -> io::Result<usize>
-    requires { Waits used page.old }
-    ensures ok { IfOk result (λ at. Waits at page.new) }
-    ensures err { OnErr result (length page.new ≡ length page.old) }
-{
-    let at = text(out, page, used, key)?;
-    if n < 0 {
-        let below = text(out, page, at, b"-")?;
-        return number(out, page, below, magnitude(n));
+    // Writes the bytes that wait.
+    fn write_out(&mut self) -> io::Result<()>
+        ensures ok { OnOk result (waits self.new ≡ []) }
+        ensures err { OnErr result (waits self.new ≡ waits self.old) }
+    {
+        self.out.write_all(&self.bytes[..self.used])?;
+        self.used = 0;
+        Ok(())
     }
-    number(out, page, at, magnitude(n))
 }
 
-// The four counts of a level, each after a space.
-pub fn counts<W: Write>(
-    out: &mut W,
-    page: &mut [u8],
-    used: usize,
-    darts: u32,
-    vertices: u32,
-    faces: u32,
-    euler: i32,
-) -> io::Result<usize>
-    requires { Waits used page.old }
-    ensures ok { IfOk result (λ at. Waits at page.new) }
-    ensures err { OnErr result (length page.new ≡ length page.old) }
-{
-    let first = field(out, page, used, b" darts=", darts as u64)?;
-    let second = field(out, page, first, b" vertices=", vertices as u64)?;
-    let third = field(out, page, second, b" faces=", faces as u64)?;
-    signed(out, page, third, b" euler=", euler)
+impl<W: Write, const N: usize> Write for Page<W, N> {
+    ghost use Rattle.page.specs.Waits.{waits};
+
+    // As many bytes of a text as there is room for.
+    fn write(&mut self, text: &[u8]) -> io::Result<usize>
+        ensures bound { WritesAtMost result text.now }
+        ensures bytes { WriteAppends None None result text.now }
+        ensures ok { IfOk result (λ n. (waits self.new ≡ waits self.old ++ take n text.now) ⊎ (waits self.new ≡ take n text.now)) }
+        ensures some { IfOk result (λ n. 0 < N → 0 < length text.now → 0 < n) }
+        ensures err { OnErr result (waits self.new ≡ waits self.old) }
+    {
+        if self.used == N {
+            self.write_out()?;
+        }
+        let at = self.used;
+        let n = text.len().min(N - at);
+        let bytes = &mut self.bytes[..];
+        bytes[at..at + n].copy_from_slice(&text[..n]);
+        self.used = at + n;
+        Ok(n)
+    }
+
+    fn flush(&mut self) -> io::Result<()>
+        ensures bytes { Keeps None None }
+        ensures ok { OnOk result (waits self.new ≡ []) }
+    {
+        self.write_out()?;
+        self.out.flush()
+    }
 }
 
-// Reads until the room is full or the input ends: answers how many bytes were read, which stand at the room's start.
+// Prints a line, which is written out at once where it has at most 512 bytes. No contract says what reaches the writer: a page says what waits on it,
+// and not what it gave its writer.
+pub fn line<W: Write, D: Display + Drop>(out: &mut W, text: D) -> io::Result<()> {
+    let mut page = Page::<_, 512>::new(out);
+    writeln!(page, "{text}")?;
+    page.flush()
+}
+
+// Reads until the room is full or the input ends: answers how many bytes were read, which stand at the room's start. A loop, since the library's
+// `read_to_end` takes a Vec, its `read_exact` does not say how short an input is, and its `copy` does not say that the count lies within the room.
 pub fn fill<R: Read>(input: &mut R, room: &mut [u8]) -> io::Result<usize>
     ensures ok { IfOk result (λ n. n ≤ length room.new) }
     ensures err { OnErr result (length room.new ≡ length room.old) }

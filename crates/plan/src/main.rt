@@ -10,23 +10,20 @@ mod words;
 
 ghost use Rattle.std.specs.Prelude.{◌≡◌, ◌≤◌, OnErr, length};
 
-use drawing::{wales, wrong_line};
+use drawing::wrong_line;
 use prints::{error, print};
-use rooms::DrawingRoom;
 use std::io;
 use std::io::{Read, Write};
 use words::{Wanted, asked, usage};
 
 // The form is judged first, over the whole drawing.
-fn judge<W: Write>(out: &mut W, drawing: &[u8], base: bool) -> io::Result<()>
+fn judge<W: Write>(out: &mut W, drawing: &[u8], wanted: Wanted) -> io::Result<()>
     requires { length drawing.now ≤ 65536 }
 {
-    let w = wales(drawing);
-    let line = wrong_line(drawing, w);
-    if line != 0 {
-        return error(out, line);
+    match wrong_line(drawing) {
+        Some(line) => error(out, line),
+        None => print(out, drawing, wanted),
     }
-    print(out, drawing, base)
 }
 
 // A drawing has at most 65,536 bytes. One byte more says that it is longer.
@@ -34,7 +31,7 @@ fn read<R: Read, W: Write>(
     input: &mut R,
     out: &mut W,
     drawing: &mut [u8],
-    base: bool,
+    wanted: Wanted,
 ) -> io::Result<()>
     ensures { OnErr result (length drawing.new ≡ length drawing.old) }
 {
@@ -42,31 +39,18 @@ fn read<R: Read, W: Write>(
     if 65536 < n {
         return error(out, 0);
     }
-    judge(out, &drawing[..n], base)
-}
-
-// The drawing's room as a slice.
-fn read_and_print<R: Read, W: Write>(
-    input: &mut R,
-    out: &mut W,
-    drawing: &mut DrawingRoom,
-    base: bool,
-) -> io::Result<()>
-    ensures { OnErr result (length drawing.new ≡ length drawing.old) }
-{
-    read(input, out, drawing, base)
+    judge(out, &drawing[..n], wanted)
 }
 
 // The room is made where it is lent, so that it stands on the stack once.
-fn run<R: Read, W: Write>(input: &mut R, out: &mut W, base: bool) -> io::Result<()> {
-    let mut drawing = [0u8; 65537];
-    read_and_print(input, out, &mut drawing, base)
+fn run<R: Read, W: Write>(input: &mut R, out: &mut W, wanted: Wanted) -> io::Result<()> {
+    let mut drawing = [0; 65537];
+    read(input, out, &mut drawing, wanted)
 }
 
 fn main(rt: HostRuntime) -> io::Result<()> {
     match asked(&rt) {
-        Wanted::Areas => run(&mut rt.stdin(), &mut rt.stdout(), false),
-        Wanted::Base => run(&mut rt.stdin(), &mut rt.stdout(), true),
-        Wanted::Neither => usage(&mut rt.stderr()),
+        Some(wanted) => run(&mut rt.stdin(), &mut rt.stdout(), wanted),
+        None => usage(&mut rt.stderr()),
     }
 }

@@ -3,39 +3,27 @@ use std::env::{Env, FillError};
 use std::io;
 use std::io::Write;
 
-// What is asked for: the file of the base with its first kernel, the file of the base alone, or neither of them.
-#[derive(Drop)]
+// What is asked for: the file of the base with its first kernel, or the file of the base alone.
+#[derive(Clone, Copy, Debug, PartialEq, Eq)]
 pub enum Wanted {
     Areas,
     Base,
-    Neither,
-}
-
-// Whether a word is `base`.
-fn is_base(word: &[u8; 4]) -> bool {
-    word[0] == b'b' && word[1] == b'a' && word[2] == b's' && word[3] == b'e'
 }
 
 // Whether there is a word of a number. The program's own name is word 0.
 fn has<E: Env>(env: &E, i: usize) -> bool {
-    let mut word = [0u8; 4];
+    let mut word = [0; 4];
     !matches!(env.arg(i, &mut word), Err(FillError::NotPresent))
 }
 
-// No word asks for the areas, the word `base` for the base.
-pub fn asked<E: Env>(env: &E) -> Wanted {
-    if !has(env, 1) {
-        return Wanted::Areas;
+// No word asks for the areas, the word `base` for the base, and any other for neither.
+pub fn asked<E: Env>(env: &E) -> Option<Wanted> {
+    let mut word = [0; 4];
+    match env.arg(1, &mut word) {
+        Err(FillError::NotPresent) => Some(Wanted::Areas),
+        Ok(4) if &word == b"base" && !has(env, 2) => Some(Wanted::Base),
+        _ => None,
     }
-    if has(env, 2) {
-        return Wanted::Neither;
-    }
-    let mut word = [0u8; 4];
-    let n = env.arg(1, &mut word).unwrap_or(0);
-    if n == 4 && is_base(&word) {
-        return Wanted::Base;
-    }
-    Wanted::Neither
 }
 
 // What the program is for, where it is asked for something else.

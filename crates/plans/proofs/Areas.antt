@@ -6,13 +6,13 @@
 --   areas_settles, areas_settled == the numbers of the base can be moved to that level, and then it is what the call leaves
 use mathlib.Core.List.{List, []}
 use mathlib.Core.Logic.{◌≢◌}
-use mathlib.Core.Path.{◌≡◌, refl, sym, ap, subst, ◌∙◌}
+use mathlib.Core.Path.{◌≡◌, sym, ap, subst, ◌∙◌}
 use Prim.Native.Nat.{ℕ}
 use native.Mathlib.Omega.{arith}
 use borrow.Author.Tests.{eq-eqb, ne_eqb}
 use lib.ListN.{length}
-use Rattle.darts.specs.Answers.{empty_kernel}
-use Rattle.darts.specs.declared.Answer.TheVariants.{Done}
+use Rattle.std.proofs.Common.{Ok}
+use Rattle.darts.specs.Answers.{done, empty_kernel}
 use Rattle.darts.specs.Operation.{contraction}
 use Rattle.darts.specs.State.{State as Stated, zeros, levelled}
 use Rattle.darts.specs.Kernel.{Run, stands}
@@ -22,14 +22,13 @@ use Rattle.laws.proofs.chained.OnLent.{Call, by_kernel, called}
 use Rattle.laws.proofs.calls.Judging.{Lent}
 use Rattle.area.specs.Area.{Room, table_in, past_in}
 use Rattle.engine.specs.Runs.{ran_in, Went}
-use Rattle.engine.specs.declared.Ran.{Ran}
 use Rattle.engine.proofs.Area.{room_kept}
 use Rattle.engine.proofs.Parts.{past_length}
 use Rattle.grids.specs.Grid.{Grid, darts_of}
 use Rattle.grids.specs.Plans.{fitting_plan, begun, plan_base, plan_areas, first_kernel}
 use Rattle.grids.proofs.Begun.{first_edges, plan_left, areas_reduces}
 use Rattle.pyramid.specs.Settling.{Settles, Settled}
-use Rattle.pyramid.specs.Steps.{Halts}
+use Rattle.pyramid.specs.Steps.{Halts, climbs}
 use Rattle.pyramid.specs.Values.{left, unsettled, Hands}
 use Rattle.pyramid.specs.declared.Outcome.{Outcome}
 use Rattle.pyramid.proofs.Started.{hands}
@@ -37,28 +36,24 @@ use Rattle.pyramid.proofs.Settles.{settles, settled}
 use Rattle.plans.proofs.Fits.{fitted, fitted_room}
 use Rattle.plans.proofs.Planned.{based, plan_begun, base_left}
 
-module _ (g : Grid) (plan t h w : List ℕ) (fits : (fitting_plan g (length plan) (length t) (length h) (length w)).number ≡ 0) {v : List ℕ} {m : ℕ}
-    (W : Went (darts_of g) (first_kernel g plan) w v (record { answer = Done 0; operations = m })) where
+module _ (g : Grid) (plan t h w : List ℕ) (fits : done ≡ fitting_plan g (length plan) (length t) (length h) (length w)) {v : List ℕ} {m : ℕ}
+    (W : Went (darts_of g) (first_kernel g plan) w v (Ok m)) where
   abbrev D : ℕ
   D = darts_of g
-
-  abbrev ran : Ran
-  ran = record { answer = Done 0; operations = m }
 
   pub areas_room : Room D v
   areas_room = room_kept w v W.beyond.size (fitted_room g (length plan) (length t) (length h) w (fitted g _ _ _ _ fits))
 
-  pub areas_halts : (s : Stated) → s ≡ based g → Halts s ran v (length t) (length h)
+  pub areas_halts : (s : Stated) → s ≡ based g → Halts s (Ok m) v (length t) (length h)
   areas_halts s base =
       let l = (fitted g _ _ _ _ fits).lengths in
       rw base (record {
         room = areas_room;
         table = l.table;
         history = l.history;
-        free = omega arith;
         before = omega arith;
         after = W.few;
-        answer = λ n. absurd (n refl);
+        refusal = tt;
       })
 
   new_count : length (past_in D m v) ≡ m
@@ -68,7 +63,6 @@ module _ (g : Grid) (plan t h w : List ℕ) (fits : (fitting_plan g (length plan
   same_clear = cleared_kept D w v W.beyond.rest
 
   went : stands (table_in D v) (past_in D m v) ≡ first_kernel g plan
-  unfolding ran_in
   went = W.went
 
   ends : begun D t h w (levelled (based g) [] (stands (table_in D v) (past_in D m v))) ≡ plan_areas g plan t h w
@@ -82,18 +76,18 @@ module _ (g : Grid) (plan t h w : List ℕ) (fits : (fitting_plan g (length plan
   pub areas_none : (o : Outcome) → m ≡ 0 → Hands o empty_kernel zeros → left o t h (cleared D v) ≡ plan_areas g plan t h w
   areas_none o z H = rw same_clear (hands o H t h (cleared D w) ∙ sym (none_left z))
 
-  by_level : m ≢ 0 → hands_back (based g) t h v (levelled (based g) (past_of (based g) h) (ran_in D v ran)) ≡ plan_areas g plan t h w
-  unfolding levelled begun hands_back past_of ran_in
+  by_level : m ≢ 0 → hands_back (based g) t h v (climbs (based g) (past_of (based g) h) (ran_in D v (Ok m))) ≡ plan_areas g plan t h w
+  unfolding levelled begun hands_back past_of
   by_level n =
       let some = ne_eqb (length (past_in D m v)) 0 (λ e. n (sym new_count ∙ e)) in
       rw (some, same_clear) (rw some at ends)
 
   pub areas_level : (s : Stated) → s ≡ based g → (o : Outcome) {u k : List ℕ} → m ≢ 0
-      → unsettled (left o u k (cleared s.darts v)) ≡ unsettled (hands_back s t h v (levelled s (past_of s h) (ran_in s.darts v ran)))
+      → unsettled (left o u k (cleared s.darts v)) ≡ unsettled (hands_back s t h v (climbs s (past_of s h) (ran_in s.darts v (Ok m))))
       → unsettled (left o u k (cleared D v)) ≡ unsettled (plan_areas g plan t h w)
   areas_level s base o {u} {k} n L =
       subst
-      (λ (z : Stated). unsettled (left o u k (cleared z.darts v)) ≡ unsettled (hands_back z t h v (levelled z (past_of z h) (ran_in z.darts v ran))))
+      (λ (z : Stated). unsettled (left o u k (cleared z.darts v)) ≡ unsettled (hands_back z t h v (climbs z (past_of z h) (ran_in z.darts v (Ok m)))))
       base L
       ∙ ap (λ (a : After). unsettled a) (by_level n)
 

@@ -61,10 +61,13 @@ module _ (g : Grid) (plan t h w : ℕ) where
     pub enough : cells g ≤ plan
     pub answer : fitting_plan g plan t h w ≡ done
 
-  pub fitted : (fitting_plan g plan t h w).number ≡ 0 → Fitted
+  pub fitted : done ≡ fitting_plan g plan t h w → Fitted
   unfolding fitting_plan
-  fitted e = go (T? (sized g)) (T? (room t h w (darts_of g) && leb (cells g) plan))
+  fitted judged = go (T? (sized g)) (T? (room t h w (darts_of g) && leb (cells g) plan))
     where
+      e : (fitting_plan g plan t h w).number ≡ 0
+      e = sym (ap (λ (a : Answer). a.number) judged)
+
       go : Dec (T (sized g)) → Dec (T (room t h w (darts_of g) && leb (cells g) plan)) → Fitted
       go (yes s) (yes r) = record {
         sizes = s;

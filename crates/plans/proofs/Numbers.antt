@@ -2,21 +2,18 @@
 --   cells_most   == how many cells there can be
 --   squares_few  == how many squares of four cells there can be
 --   base_numbers == a base with a vertex for each cell, a face for each square and the outer one stores the numbers of its cycles
---   base_stored  == so does a base as it is handed back
-use mathlib.Core.Path.{◌≡◌, refl, sym, ap, ◌∙◌}
+use mathlib.Core.Path.{◌≡◌, refl, sym}
 use Prim.Native.Nat.{ℕ, ◌+◌, ◌-◌, ◌*◌, ◌≤◌}
 use native.Mathlib.Nat.{mul-le-mul}
 use native.Mathlib.Omega.{arith}
 use lib.Dec.{T}
-use Rattle.darts.specs.Answers.{Answer, done}
 use Rattle.darts.specs.State.{base_state}
 use Rattle.laws.proofs.runs.Ends.{state_path}
 use Rattle.grids.specs.Grid.{flat, sized, cells, darts_of}
 use Rattle.grids.specs.Base.{base_table}
 use Rattle.grids.proofs.CellsCounted.{cells_counted}
 use Rattle.grids.proofs.FacesCounted.{faces_counted}
-use Rattle.pyramid.specs.Values.{base_with, Hands}
-use Rattle.pyramid.specs.declared.Outcome.{Outcome}
+use Rattle.pyramid.specs.Values.{base_with}
 use Rattle.plans.specs.Limits.{Sized}
 
 pub cells_most : {W C : ℕ} → Sized W C → W * C ≤ 16384
@@ -36,11 +33,3 @@ module _ (W C : ℕ) (s : T (sized (flat W C))) where
   pub base_numbers : base_with D (W * C) ((W - 1) * (C - 1) + 1) ≡ base_state D (base_table (flat W C))
   unfolding cells
   base_numbers = state_path refl refl refl refl (sym (cells_counted (flat W C) s)) (sym (faces_counted (flat W C) (λ t. t) s))
-
-  pub base_stored : (o : Outcome) {d : ℕ} {a : Answer} → d ≡ D → a ≡ done
-      → Hands o a (base_with d (W * C) ((W - 1) * (C - 1) + 1))
-      → Hands o done (base_state D (base_table (flat W C)))
-  base_stored o same fine H = record {
-    answer = H.answer ∙ fine;
-    state = H.state ∙ ap (λ (d : ℕ). base_with d (W * C) ((W - 1) * (C - 1) + 1)) same ∙ base_numbers;
-  }

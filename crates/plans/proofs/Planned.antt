@@ -6,12 +6,15 @@
 --   base_begun   == a base
 use mathlib.Core.List.{List, []}
 use mathlib.Core.Logic.{◌≢◌}
-use mathlib.Core.Path.{◌≡◌, sym, ◌∙◌}
+use mathlib.Core.Path.{◌≡◌, sym, ap, ◌∙◌}
 use Prim.Native.Nat.{ℕ}
 use borrow.Author.Tests.{eq-eqb, ne_eqb}
 use lib.ListN.{length}
 use Rattle.slices.specs.Over.{over}
 use Rattle.darts.specs.Answers.{Answer, done}
+use Rattle.darts.specs.Cases.{refusal_of}
+use Rattle.darts.proofs.Cases.{refused_number}
+use Rattle.darts.specs.declared.Refusal.{Refusal}
 use Rattle.darts.specs.State.{State, zeros, base_state, Result, gives}
 use Rattle.darts.specs.Calls.{leaves, cleared}
 use Rattle.grids.specs.Grid.{Grid, darts_of}
@@ -31,14 +34,17 @@ module _ (g : Grid) (plan t h w : List ℕ) where
   abbrev D : ℕ
   D = darts_of g
 
-  pub plan_refused : (r : Result) (o : Outcome) → first.number ≢ 0 → Hands o first zeros → left o t h w ≡ on_plan g r plan t h w
+  pub plan_refused : (r : Result) (o : Outcome) (a : Refusal) → refusal_of a ≡ first → Hands o (refusal_of a) zeros
+      → left o t h w ≡ on_plan g r plan t h w
   unfolding on_plan
-  plan_refused r o n H = hands o H t h w ∙ sym (rw (ne_eqb first.number 0 n))
+  plan_refused r o a judged H =
+      let refused : first.number ≢ 0 = λ z. refused_number a (ap (λ (b : Answer). b.number) judged ∙ z) in
+      hands o H t h w ∙ rw judged (sym (rw (ne_eqb first.number 0 refused)))
 
-  module _ (fits : first.number ≡ 0) where
+  module _ (fits : done ≡ first) where
     pub plan_begun : (r : Result) → begun D t h w r ≡ on_plan g r plan t h w
     unfolding on_plan
-    plan_begun r = rw (eq-eqb first.number 0 fits)
+    plan_begun r = rw (eq-eqb first.number 0 (sym (ap (λ (a : Answer). a.number) fits)))
 
     pub base_left : leaves done (based g) (over (base_table g) t) h (cleared D w) ≡ plan_base g plan t h w
     unfolding plan_base begun over

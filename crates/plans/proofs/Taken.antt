@@ -3,10 +3,10 @@
 --   Taking g D plan w₀ w e m == w is w₀ after the edges below e, of which m were taken; the edges from e on survive
 --   taking_begins   == no edge has had its turn
 --   passed_over     == two codes
---   taken_not       == one code, and the edge was refused
---   taken_on        == one code, and the edge was contracted
+--   taken_not, turn_refused == one code, and the edge was refused
+--   taken_on, turn_done     == one code, and the edge was contracted
 --   taking_ends     == no edge is left
-use mathlib.Core.Bool.{Bool, true, false, ◌&&◌, ◌||◌, not}
+use mathlib.Core.Bool.{Bool, true, false, false≢true, ◌&&◌, ◌||◌, not}
 use mathlib.Core.List.{List, ◌∷◌}
 use mathlib.Core.Logic.{◌≢◌}
 use mathlib.Core.Path.{◌≡◌, refl, sym, ◌∙◌}
@@ -16,10 +16,10 @@ use native.Mathlib.Omega.{arith}
 use lib.Dec.{eqb, leb}
 use borrow.Author.Tests.{lt-leb}
 use Rattle.permutations.specs.Choice.{eqb_other}
-use Rattle.darts.specs.Cases.{answer_of}
-use Rattle.darts.specs.declared.Answer.{Answer}
-use Rattle.darts.specs.declared.Answer.TheVariants.{Done}
-use Rattle.std.proofs.Common.{if◌then◌else◌}
+use Rattle.darts.specs.declared.Refusal.{Refusal}
+use Rattle.darts.proofs.Cases.{refused_number}
+use Rattle.std.proofs.Common.{Result, Ok, Err, if◌then◌else◌}
+use Rattle.std.specs.Prelude.{is_ok}
 use Rattle.darts.specs.Map.{gone, same_vertex}
 use Rattle.darts.specs.Operation.{contraction, kind_of, lead, number, edge_of, whole_edge}
 use Rattle.darts.specs.Kernel.{judge, shared, rising, pass}
@@ -92,29 +92,36 @@ module _ {g : Grid} {D : ℕ} {plan w₀ w : List ℕ} {e m : ℕ} (count : D �
     pub passed_over : b ≡ false → Taking g D plan w₀ w (e + 1) m
     passed_over two = record { under = rw (add-one e) (underway_over at_turn (takes ∙ rw two)); later = later_on }
 
-    module _ (one : b ≡ true) {v : List ℕ} {r : Answer} (τ : Turned D m 1 e m w v r) where
-      said : (answer_of r).number ≡ answer
+    module _ (one : b ≡ true) {v : List ℕ} where
+      pub taken_not : {r : Refusal} → Turned D m 1 e m w v (Err r) → Taking g D plan w₀ v (e + 1) m
       unfolding kind_of
-      said = τ.answer.number
-
-      pub taken_not : (answer_of r).number ≢ 0 → Taking g D plan w₀ v (e + 1) m
-      taken_not n =
-          let s = τ.refused n in
-          let no = refused_over D (table_in D w) (past_in D m w) e more (σ.later e (omega arith)) (λ z. n (said ∙ z)) in
+      taken_not {r} τ =
+          let s = τ.refused (refused_number r) in
+          let refused : answer ≢ 0 = λ z. refused_number r (τ.answer.number ∙ z) in
+          let no = refused_over D (table_in D w) (past_in D m w) e more (σ.later e (omega arith)) refused in
           record {
             under = rw (add-one e) (underway_kept s (underway_over at_turn (takes ∙ rw (one, no))));
             later = λ x h. rw s.past (later_on x h);
           }
 
-      pub taken_on : (answer_of r).number ≡ 0 → Taking g D plan w₀ v (e + 1) (m + 1)
+      pub taken_on : Turned D m 1 e m w v (Ok tt) → Taking g D plan w₀ v (e + 1) (m + 1)
       unfolding kind_of
-      taken_on z =
-          let none : answer ≡ 0 = sym said ∙ z in
+      taken_on τ =
+          let none : answer ≡ 0 = sym τ.answer.number in
           record {
-            under = rw (add-one e, add-one m) (rw (add-one m) at (underway_on at_turn (takes ∙ rw (one, none)) τ z));
-            later = λ x h. rw (τ.done z).past (later_survive (table_in D w) (past_in D m w) e x (omega arith) (later_on x h));
+            under = rw (add-one e, add-one m) (rw (add-one m) at (underway_on at_turn (takes ∙ rw (one, none)) τ));
+            later = λ x h. rw (τ.done refl).past (later_survive (table_in D w) (past_in D m w) e x (omega arith) (later_on x h));
           }
 
-  pub taking_ends : D / 2 ≤ e → Went D (first_kernel g plan) w₀ w (record { answer = Done 0; operations = m })
+      -- THE EDGE'S TURN, REFUSED OR DONE
+      pub turn_refused : (r : Result (Unit {0}) Refusal) → Turned D m 1 e m w v r → is_ok r ≡ false → Taking g D plan w₀ v (e + 1) m
+      turn_refused (Ok x) τ f = absurd (false≢true (sym f))
+      turn_refused (Err a) τ f = taken_not τ
+
+      pub turn_done : (r : Result (Unit {0}) Refusal) → Turned D m 1 e m w v r → is_ok r ≡ true → Taking g D plan w₀ v (e + 1) (m + 1)
+      turn_done (Ok x) τ t = taken_on τ
+      turn_done (Err a) τ t = absurd (false≢true t)
+
+  pub taking_ends : D / 2 ≤ e → Went D (first_kernel g plan) w₀ w (Ok m)
   unfolding rising
   taking_ends none = let z : D / 2 - e ≡ 0 = omega arith in underway_ends (rw z at σ.under)

@@ -1,3 +1,4 @@
 pub mod Limits
 pub mod Prepared
 pub mod Rising
+pub mod Ways

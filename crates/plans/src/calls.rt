@@ -8,8 +8,7 @@ use crate::first::first_kernel;
 use crate::laying::lay_base;
 use crate::sizes::{base_of, darts_of, fit_plan};
 use area::clear::clear;
-use darts::Answer;
-use engine::Ran;
+use darts::Refusal;
 use pyramid::Outcome;
 use pyramid::starting::unbased;
 
@@ -25,20 +24,19 @@ pub fn plan(
     ensures { left result table.new history.new work.new
         ≡ plan_base (flat wales courses) plan.now table.old history.old work.old }
 {
-    let judged = fit_plan(
+    if let Err(refusal) = fit_plan(
         wales,
         courses,
         plan.len(),
         table.len(),
         history.len(),
         work.len(),
-    );
-    if judged.number() != 0 {
-        return unbased(judged);
+    ) {
+        return unbased(refusal);
     }
     lay_base(table, wales as usize, courses as usize);
     clear(work, darts_of(wales, courses) as usize);
-    base_of(wales, courses)
+    base_of(wales, courses).done()
 }
 
 // The base of a plan, and at once a first kernel, which contracts the areas of one code.
@@ -53,29 +51,24 @@ pub fn plan_areas(
     ensures { left result table.new history.new work.new
         ≡ plan_areas (flat wales courses) plan.now table.old history.old work.old }
 {
-    let judged = fit_plan(
+    if let Err(refusal) = fit_plan(
         wales,
         courses,
         plan.len(),
         table.len(),
         history.len(),
         work.len(),
-    );
-    if judged.number() != 0 {
-        return unbased(judged);
+    ) {
+        return unbased(refusal);
     }
     let d = darts_of(wales, courses) as usize;
     let m = first_kernel(work, wales as usize, courses as usize, d, plan);
     if m == 0 {
         clear(work, d);
-        return unbased(Answer::EmptyKernel);
+        return unbased(Refusal::EmptyKernel);
     }
-    let base = base_of(wales, courses).state;
-    let ran = Ran {
-        answer: Answer::Done(0),
-        operations: m,
-    };
-    let o = base.level(ran, table, history, work);
+    let base = base_of(wales, courses);
+    let o = base.level(Ok(m), table, history, work);
     clear(work, d);
     base.settle(o, history)
 }

@@ -1,6 +1,5 @@
 // The first kernel, in the work area.
-ghost use Rattle.std.specs.Prelude.{[], ◌≡◌, ◌≤◌, ◌<◌, length};
-ghost use Rattle.darts.specs.declared.Answer.TheVariants.{Done};
+ghost use Rattle.std.specs.Prelude.{[], Ok, ◌≡◌, ◌≤◌, ◌<◌, length};
 ghost use Rattle.laws.specs.Standing.{Standing};
 ghost use Rattle.area.specs.Area.{Room, table_in};
 ghost use Rattle.engine.specs.Held.{Ready};
@@ -12,6 +11,7 @@ ghost use Rattle.plans.specs.Limits.{Sized};
 ghost use Rattle.plans.specs.Prepared.{Bound, Prepared};
 
 use crate::laying::lay_base;
+use darts::Kind;
 use engine::kernel::turn;
 use operations::cycles::label;
 use slices::at;
@@ -38,11 +38,9 @@ fn bind_base(work: &mut [u32], d: usize)
     requires standing { Standing d (table_in d work.old) [] }
     ensures { Bound d d work.old work.new }
 {
-    let mut x = 0;
-    while x < d {
+    for x in 0..d {
         let y = at(work, x);
         work[d + y] = x as u32;
-        x += 1;
     }
 }
 
@@ -55,7 +53,7 @@ fn prepare(work: &mut [u32], w: usize, c: usize, d: usize)
 {
     lay_base(work, w, c);
     bind_base(work, d);
-    label(work, d, 1);
+    label(work, d, Kind::Contract);
 }
 
 // The contractions: one pass over the edges by rising number. An edge of one code that is refused at its turn is passed over. How many were taken.
@@ -65,22 +63,12 @@ fn take_edges(work: &mut [u32], w: usize, c: usize, d: usize, plan: &[u8]) -> us
     requires d_value { d ≡ darts_of (flat w c) }
     requires ready { Ready d 0 1 work.old }
     requires work_value { table_in d work.old ≡ base_table (flat w c) }
-    ensures { Went d (first_kernel (flat w c) plan.now) work.old work.new
-        (record { answer = Done 0; operations = result }) }
+    ensures { Went d (first_kernel (flat w c) plan.now) work.old work.new (Ok result) }
 {
-    let mut e = 0;
     let mut m = 0;
-    while e < d / 2 {
-        if one_code(plan, w, c, e) {
-            let answer = turn(work, d, m, 1, e, m);
-            if answer.number() == 0 {
-                m += 1;
-                e += 1;
-            } else {
-                e += 1;
-            }
-        } else {
-            e += 1;
+    for e in 0..d / 2 {
+        if one_code(plan, w, c, e) && turn(work, d, m, Kind::Contract, e, m).is_ok() {
+            m += 1;
         }
     }
     m
@@ -92,8 +80,7 @@ pub(crate) fn first_kernel(work: &mut [u32], w: usize, c: usize, d: usize, plan:
     requires c_in_bounds { cells (flat w c) ≤ length plan.now }
     requires d_value { d ≡ darts_of (flat w c) }
     requires room { Room d work.old }
-    ensures { Went d (first_kernel (flat w c) plan.now) work.old work.new
-        (record { answer = Done 0; operations = result }) }
+    ensures { Went (darts_of (flat w c)) (first_kernel (flat w c) plan.now) work.old work.new (Ok result) }
 {
     prepare(work, w, c, d);
     take_edges(work, w, c, d, plan)

@@ -1,10 +1,12 @@
-// The base of a plan's grid, entry by entry: w wales and c courses, and the cell in wale x of course y.
-ghost use Rattle.std.specs.Prelude.{◌≡◌, ◌+◌, ◌-◌, ◌*◌, ◌≤◌, ◌<◌, length, take};
+// The base of a plan's grid, entry by entry: w wales and c courses, and the cell in wale x of course y. As one value, w and c would take `Sized` out of five
+// contracts and stand longer in the twenty that say `flat w c`: no plainer.
+ghost use Rattle.std.specs.Prelude.{true, ◌≡◌, ◌+◌, ◌-◌, ◌*◌, ◌≤◌, ◌<◌, length, take};
 ghost use Rattle.slices.specs.Over.{over};
 ghost use Rattle.grids.specs.Grid.{flat, darts_of};
 ghost use Rattle.grids.specs.Base.{successor_on, base_table};
 ghost use Rattle.plans.specs.Limits.{Sized, At, Lent};
 ghost use Rattle.plans.specs.Rising.{risen, Ran};
+ghost use Rattle.plans.specs.Ways.{next, goes, dart_of, Going};
 
 use darts::partner;
 
@@ -41,76 +43,63 @@ fn down_of(w: usize, c: usize, x: usize, y: usize) -> usize
     partner(up_of(w, c, x, y - 1))
 }
 
-// The dart after the one that goes right: up, left, down, skipping what is missing.
-fn after_right(w: usize, c: usize, x: usize, y: usize) -> usize
-    requires at { At w c x y }
-    requires x_bound { x + 1 < w }
-    ensures { (result ≡ successor_on (flat w c) (2 * (y * (w - 1) + x))) × (result < 65536) }
-{
-    if y + 1 < c {
-        return up_of(w, c, x, y);
-    }
-    if 0 < x {
-        return left_of(w, x, y);
-    }
-    if 0 < y {
-        return down_of(w, c, x, y);
-    }
-    right_of(w, x, y)
+// The four ways from a cell, in the order in which its darts follow each other.
+#[derive(Clone, Copy)]
+enum Way {
+    Right,
+    Up,
+    Left,
+    Down,
 }
 
-// The dart after the one that goes up: left, down, right.
-fn after_up(w: usize, c: usize, x: usize, y: usize) -> usize
-    requires at { At w c x y }
-    requires y_bound { y + 1 < c }
-    ensures { (result ≡ successor_on (flat w c) (2 * ((w - 1) * c + (y * w + x)))) × (result < 65536) }
-{
-    if 0 < x {
-        return left_of(w, x, y);
+impl Way {
+    // The next way round.
+    fn next(self) -> Way
+        ensures { result ≡ next self }
+    {
+        match self {
+            Way::Right => Way::Up,
+            Way::Up => Way::Left,
+            Way::Left => Way::Down,
+            Way::Down => Way::Right,
+        }
     }
-    if 0 < y {
-        return down_of(w, c, x, y);
-    }
-    if x + 1 < w {
-        return right_of(w, x, y);
-    }
-    up_of(w, c, x, y)
 }
 
-// The dart after the one that goes left: down, right, up.
-fn after_left(w: usize, c: usize, x: usize, y: usize) -> usize
-    requires at { At w c x y }
-    requires x_nonzero { 0 < x }
-    ensures { (result ≡ successor_on (flat w c) (2 * (y * (w - 1) + (x - 1)) + 1)) × (result < 65536) }
+// The dart that goes this way from the cell, where there is one.
+fn going(w: usize, c: usize, x: usize, y: usize, way: Way) -> Option<usize>
+    requires { At w c x y }
+    ensures { Going w c x y way result }
 {
-    if 0 < y {
-        return down_of(w, c, x, y);
+    match way {
+        Way::Right if x + 1 < w => Some(right_of(w, x, y)),
+        Way::Up if y + 1 < c => Some(up_of(w, c, x, y)),
+        Way::Left if 0 < x => Some(left_of(w, x, y)),
+        Way::Down if 0 < y => Some(down_of(w, c, x, y)),
+        _ => None,
     }
-    if x + 1 < w {
-        return right_of(w, x, y);
-    }
-    if y + 1 < c {
-        return up_of(w, c, x, y);
-    }
-    left_of(w, x, y)
 }
 
-// The dart after the one that goes down: right, up, left.
-fn after_down(w: usize, c: usize, x: usize, y: usize) -> usize
+// The dart after the one that goes this way: the next one round the cell, skipping what is missing. Way by way and not in a loop, in which a small plan
+// takes twice the time.
+fn after(w: usize, c: usize, x: usize, y: usize, way: Way) -> usize
     requires at { At w c x y }
-    requires y_nonzero { 0 < y }
-    ensures { (result ≡ successor_on (flat w c) (2 * ((w - 1) * c + ((y - 1) * w + x)) + 1)) × (result < 65536) }
+    requires there { goes w c x y way ≡ true }
+    ensures { (result ≡ successor_on (flat w c) (dart_of w c x y way)) × (result < 65536) }
 {
-    if x + 1 < w {
-        return right_of(w, x, y);
+    let second = way.next();
+    if let Some(dart) = going(w, c, x, y, second) {
+        return dart;
     }
-    if y + 1 < c {
-        return up_of(w, c, x, y);
+    let third = second.next();
+    if let Some(dart) = going(w, c, x, y, third) {
+        return dart;
     }
-    if 0 < x {
-        return left_of(w, x, y);
+    let last = third.next();
+    if let Some(dart) = going(w, c, x, y, last) {
+        return dart;
     }
-    down_of(w, c, x, y)
+    going(w, c, x, y, way).unwrap()
 }
 
 // The entries of n edges from e on: the even ones rise by two from r, the odd ones from l.
@@ -119,11 +108,9 @@ fn rise(to: &mut [u32], e: usize, n: usize, r: u32, l: u32)
     requires n_bound { (r + 2 * n < 131072) × (l + 2 * n < 131072) }
     ensures { to.new ≡ risen e n r l to.old }
 {
-    let mut i = 0;
-    while i < n {
+    for i in 0..n {
         to[2 * (e + i)] = r + 2 * (i as u32);
         to[2 * (e + i) + 1] = l + 2 * (i as u32);
-        i += 1;
     }
 }
 
@@ -160,7 +147,8 @@ fn run_upright(to: &mut [u32], w: usize, c: usize, e: usize, x: usize, y: usize)
     n
 }
 
-// The entries of the a edges along the courses, course by course.
+// The entries of the a edges along the courses, course by course: a turn lays an edge and the run after it, so that no `for` counts them. Beside the next
+// function the row, the first edge, both entries and the run differ, so that one function of all these is no plainer.
 fn lay_along(to: &mut [u32], w: usize, c: usize, a: usize)
     requires { Lent w c a (length to.old) }
     ensures { to.new ≡ over (take (2 * a) (base_table (flat w c))) to.old }
@@ -169,8 +157,8 @@ fn lay_along(to: &mut [u32], w: usize, c: usize, a: usize)
     let mut x = 0;
     let mut y = 0;
     while e < a {
-        to[2 * e] = after_right(w, c, x, y) as u32;
-        to[2 * e + 1] = after_left(w, c, x + 1, y) as u32;
+        to[2 * e] = after(w, c, x, y, Way::Right) as u32;
+        to[2 * e + 1] = after(w, c, x + 1, y, Way::Left) as u32;
         if x + 2 < w {
             let n = 1 + run_along(to, w, c, e + 1, x + 1, y);
             x += n;
@@ -194,8 +182,8 @@ fn lay_upright(to: &mut [u32], w: usize, c: usize, a: usize)
     let mut x = 0;
     let mut y = 0;
     while e < end {
-        to[2 * e] = after_up(w, c, x, y) as u32;
-        to[2 * e + 1] = after_down(w, c, x, y + 1) as u32;
+        to[2 * e] = after(w, c, x, y, Way::Up) as u32;
+        to[2 * e + 1] = after(w, c, x, y + 1, Way::Down) as u32;
         if x + 1 < w {
             let n = 1 + run_upright(to, w, c, e + 1, x + 1, y);
             x += n;

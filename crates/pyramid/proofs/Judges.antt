@@ -2,7 +2,8 @@
 --   check_fits   == neither 1 nor 2: what the check asks
 --   fits_with, checked_with, cycles_with == what is asked and told of a state's figures, as of the state
 --   counted_same == a state that stores its numbers has those that are counted
---   found_decides == the check's answer, and the numbers that it found compared to the stored ones, say whether it is a pyramid
+--   found_decides == the numbers that the check found, compared to the stored ones, say whether it is a pyramid
+--   found_some   == where it is one, the check found some
 --   judged_first == 1 or 2: nothing is written
 --   judged_no    == no: 4, and the work area is cleared
 --   judged_yes   == yes
@@ -12,7 +13,7 @@
 --   any_kind     == where no kernel is coming, or one that is not judged, any forest will do
 --   relabelled   == the forest of another kind, made on the map as it stands
 --   room_then    == and what comes next in the work area has its room
-use mathlib.Core.Bool.{Bool, true, false, ◌&&◌}
+use mathlib.Core.Bool.{Bool, true, false}
 use mathlib.Core.List.{List}
 use mathlib.Core.Logic.{◌≢◌, ◌↔◌}
 use mathlib.Core.Path.{◌≡◌, refl, sym, ap, subst, ◌∙◌}
@@ -20,9 +21,10 @@ use Prim.Native.Nat.{ℕ, ◌/◌, ◌≤◌}
 use native.Mathlib.Omega.{arith}
 use lib.Dec.{T, eqb}
 use lib.ListN.{length}
-use Rattle.permutations.specs.Choice.{T-ext, T→true, true→T, eqb_iff, and_iff}
+use Rattle.permutations.specs.Choice.{T-ext, eqb_iff, and_iff}
 use Rattle.darts.specs.Answers.{Answer, done, no_pyramid}
 use Rattle.std.proofs.Common.{if◌then◌else◌}
+use Rattle.std.specs.Prelude.{Option, Some, None, is_some}
 use Rattle.darts.specs.Pyramid.{is_pyramid}
 use Rattle.darts.specs.State.{State, counted}
 use Rattle.darts.specs.Calls.{fitting, table_of, past_of, judged, cleared, work_after}
@@ -37,7 +39,7 @@ use Rattle.area.specs.Shape.{state_with}
 use Rattle.area.specs.declared.Figures.{Figures}
 use Rattle.engine.specs.Checks.{Checked}
 use Rattle.engine.specs.Counted.{CyclesAre, FindsCycles}
-use Rattle.engine.specs.declared.Found.{Found}
+use Rattle.engine.specs.declared.Cycles.{Cycles}
 use Rattle.engine.specs.Held.{Beyond}
 use Rattle.engine.proofs.Area.{room_kept}
 use Rattle.engine.proofs.Checking.{checked_pyramid}
@@ -45,7 +47,7 @@ use Rattle.operations.specs.Cycles.{Labelled}
 use Rattle.engine.proofs.Beside.{beside_table, beside_past}
 use Rattle.engine.proofs.Labelled.{labelled_ready, labelled_beyond}
 use Rattle.engine.proofs.Ready.{beyond_refl}
-use Rattle.pyramid.specs.Steps.{Judged, Stood, Stacked}
+use Rattle.pyramid.specs.Steps.{stored, Judged, Stood, Stacked}
 use Rattle.pyramid.specs.Values.{figures_of}
 
 pub check_fits : {D t h : ℕ} {w : List ℕ} {a : Answer} → a ≡ fitting D t h (length w) → a.number ≡ 0 → Room D w × ((D ≤ t) × (D / 2 ≤ h))
@@ -62,35 +64,34 @@ pub counted_same : {s : State} {t past : List ℕ} → Stores s t past → count
 counted_same N = state_path refl refl refl refl (sym N.vertices) (sym N.faces)
 
 -- what the check found, compared to the numbers that are stored
-module _ (s : State) (t past : List ℕ) {p : Bool} {x y : ℕ} (C : p ≡ is_pyramid (counted s t past) t past) (F : p ≡ true → CyclesAre s.darts t past x y) where
-  abbrev said : Bool
-  said = p && (eqb x s.vertices && eqb y s.faces)
+module _ (s : State) (t past : List ℕ) where
+  still : T (is_pyramid s t past) → T (is_pyramid (counted s t past) t past)
+  still q = subst (λ (z : State). T (is_pyramid z t past)) (sym (counted_same (pyramid_built ((pyramid_decided s t past).0 q)).stored)) q
 
-  said_iff : T said ↔ (T p × ((x ≡ s.vertices) × (y ≡ s.faces)))
-  said_iff =
-      and_iff p (eqb x s.vertices && eqb y s.faces) (λ t. t, λ t. t)
-      (λ _. and_iff (eqb x s.vertices) (eqb y s.faces) (eqb_iff x s.vertices) (λ _. eqb_iff y s.faces))
+  module _ {c : Cycles} (C : true ≡ is_pyramid (counted s t past) t past) (N : CyclesAre s.darts t past c.vertices c.faces) where
+    stored_iff : T (stored s (Some c)) ↔ ((c.vertices ≡ s.vertices) × (c.faces ≡ s.faces))
+    stored_iff = and_iff (eqb c.vertices s.vertices) (eqb c.faces s.faces) (eqb_iff c.vertices s.vertices) (λ _. eqb_iff c.faces s.faces)
 
-  found_yes : T said → T (is_pyramid s t past)
-  found_yes q =
-      let Y = said_iff.0 q in
-      let N = F (T→true p Y.0) in
-      let S : Stores s t past = record { vertices = sym Y.1.0 ∙ N.vertices; faces = sym Y.1.1 ∙ N.faces } in
-      subst (λ (z : State). T (is_pyramid z t past)) (counted_same S) (subst T C Y.0)
+    found_yes : T (stored s (Some c)) → T (is_pyramid s t past)
+    found_yes q =
+        let Y = stored_iff.0 q in
+        let S : Stores s t past = record { vertices = sym Y.0 ∙ N.vertices; faces = sym Y.1 ∙ N.faces } in
+        subst (λ (z : State). T (is_pyramid z t past)) (counted_same S) (subst T C tt)
 
-  yes_found : T (is_pyramid s t past) → T said
-  yes_found q =
-      let S = (pyramid_built ((pyramid_decided s t past).0 q)).stored in
-      let is : T p = subst T (sym C) (subst (λ (z : State). T (is_pyramid z t past)) (sym (counted_same S)) q) in
-      let N = F (T→true p is) in
-      said_iff.1 (is, (N.vertices ∙ sym S.vertices, N.faces ∙ sym S.faces))
+    yes_found : T (is_pyramid s t past) → T (stored s (Some c))
+    yes_found q =
+        let S = (pyramid_built ((pyramid_decided s t past).0 q)).stored in
+        stored_iff.1 (N.vertices ∙ sym S.vertices, N.faces ∙ sym S.faces)
 
   -- "a state whose numbers differ from the cycles is no pyramid"
-  pub found_decides : (p && (eqb x s.vertices && eqb y s.faces)) ≡ is_pyramid s t past
-  found_decides = T-ext said (is_pyramid s t past) found_yes yes_found
+  pub found_decides : (r : Option Cycles) → is_some r ≡ is_pyramid (counted s t past) t past → FindsCycles s.darts t past r
+      → stored s r ≡ is_pyramid s t past
+  found_decides (Some c) C N = T-ext (stored s (Some c)) (is_pyramid s t past) (found_yes C N) (yes_found C N)
+  found_decides None C N = T-ext false (is_pyramid s t past) (λ q. absurd q) (λ q. subst T (sym C) (still q))
 
-  pub found_pyramid : T (p && (eqb x s.vertices && eqb y s.faces)) → p ≡ true
-  found_pyramid q = T→true p (said_iff.0 q).0
+pub found_some : (s : State) (r : Option Cycles) → stored s r ≡ true → is_some r ≡ true
+found_some s (Some c) e = refl
+found_some s None e = e
 
 -- ---- judged
 
@@ -104,12 +105,12 @@ module _ {s : State} {k : ℕ} {t h w : List ℕ} {a : Answer} (E : a ≡ fittin
         checked = λ e. absurd (m e);
       })
 
-  module _ (fine : a.number ≡ 0) {v : List ℕ} {p : Bool} {x y : ℕ} (C : Checked s k t h w v p)
-      (F : p ≡ true → CyclesAre s.darts (table_of s t) (past_of s h) x y) {b : Bool} (is : b ≡ (p && (eqb x s.vertices && eqb y s.faces))) where
+  module _ (fine : a.number ≡ 0) {v : List ℕ} (r : Option Cycles) (C : Checked s k t h w v (is_some r))
+      (F : FindsCycles s.darts (table_of s t) (past_of s h) r) {b : Bool} (is : b ≡ stored s r) where
     told : (c : Bool) → b ≡ c → (if c then done else no_pyramid) ≡ judged s t h w
     told c e =
         sym (judged_fit s t h w (sym (ap (λ (b : Answer). b.number) E) ∙ fine) c
-        (sym (found_decides s (table_of s t) (past_of s h) C.answer F) ∙ sym is ∙ e))
+        (sym (found_decides s (table_of s t) (past_of s h) r C.answer F) ∙ sym is ∙ e))
 
     pub judged_no : b ≡ false → Judged s k t h w (cleared s.darts v) no_pyramid
     unfolding work_after
@@ -123,8 +124,7 @@ module _ {s : State} {k : ℕ} {t h w : List ℕ} {a : Answer} (E : a ≡ fittin
     judged_yes e = record {
       answer = told true e;
       refused = λ n. absurd (n refl);
-      checked = λ _.
-          subst (λ (q : Bool). Checked s k t h w v q) (found_pyramid s (table_of s t) (past_of s h) C.answer F (true→T (sym is ∙ e))) C;
+      checked = λ _. subst (λ (q : Bool). Checked s k t h w v q) (found_some s r (sym is ∙ e)) C;
     }
 
 module _ {s : State} {k : ℕ} {t h w v : List ℕ} {a : Answer} (J : Judged s k t h w v a) (fine : a.number ≡ 0) where
@@ -203,11 +203,11 @@ checked_figures : {s : State} {k : ℕ} {t h w v : List ℕ} {p : Bool} → Chec
 unfolding table_of past_of
 checked_figures C = record { answer = C.answer; beyond = C.beyond; area = C.area; table = C.table; past = C.past; ready = C.ready }
 
-pub checked_with : {f : Figures} {s : State} → state_with f ≡ figures_of s → {k : ℕ} {t h w v : List ℕ} {p : Bool} → Checked (state_with f) k t h w v p
-    → Checked s k t h w v p
+pub checked_with : {f : Figures} {s : State} → state_with f ≡ figures_of s
+    → {k : ℕ} {t h w v : List ℕ} {p : Bool} → Checked (state_with f) k t h w v p → Checked s k t h w v p
 checked_with same {k} {t} {h} {w} {v} {p} C = checked_figures (subst (λ (z : State). Checked z k t h w v p) same C)
 
-pub cycles_with : {f : Figures} (s : State) → state_with f ≡ figures_of s → (t h : List ℕ) {r : Found}
+pub cycles_with : {f : Figures} (s : State) → state_with f ≡ figures_of s → (t h : List ℕ) (r : Option Cycles)
     → FindsCycles f.darts (table_of (state_with f) t) (past_of (state_with f) h) r → FindsCycles s.darts (table_of s t) (past_of s h) r
 unfolding table_of past_of
-cycles_with s same t h {r} = subst (λ (z : State). FindsCycles z.darts (table_of z t) (past_of z h) r) same
+cycles_with s same t h r = subst (λ (z : State). FindsCycles z.darts (table_of z t) (past_of z h) r) same

@@ -26,7 +26,6 @@ use Rattle.darts.proofs.Fitting as Plain
 use Rattle.laws.proofs.calls.Cleared.{cleared_kept}
 use Rattle.laws.proofs.calls.Judging.{Lent, judged_lent}
 use Rattle.laws.proofs.claims.Decided.{pyramid_decided}
-use Rattle.area.specs.Area.{Room}
 use Rattle.engine.specs.Held.{Beyond}
 use Rattle.engine.proofs.Area.{room_kept}
 use Rattle.engine.proofs.Ready.{beyond_trans}
@@ -35,12 +34,13 @@ use Rattle.sheets.specs.Sheets.{Sheets}
 use Rattle.sheets.specs.Notes.{merge_in, notes_in, right_in}
 use Rattle.yarn.specs.Given.{given}
 use Rattle.yarn.specs.Calls.{fitting_of, base_of, judged}
-use Rattle.yarn.proofs.sentences.Lengths.{Room as SheetRoom, Fits, fits, room?, fitting_plain, fitting_narrow, fitting_fine}
+use Rattle.yarn.proofs.sentences.Lengths.{Room as SheetRoom, Fits, room?, fitting_plain, fitting_narrow, fitting_fine}
 use Rattle.yarn.proofs.sentences.Judging.{Costed, judged_other, judged_strange, judged_costed, judged_done}
 use Rattle.noting.specs.Checks.{NoteChecked, Reloads, Reloaded}
 use Rattle.noting.proofs.Deciding.{given_told}
 use Rattle.pyramid.specs.Costs.{JudgedWith, Righted}
 use Rattle.pyramid.specs.Steps.{Judged}
+use Rattle.pyramid.proofs.Sized.{fine_fits, fine_asks}
 
 -- the notes stand in the half of the history's part that a load leaves
 notes_kept : (D : ℕ) (v u : List ℕ) → drop (3 * D + D / 2) u ≡ drop (3 * D + D / 2) v → (i : ℕ) → notes_in D u i ≡ notes_in D v i
@@ -61,10 +61,10 @@ fitting_keeps D t h w S n = go (ℕ_discrete (fitting D (length t) (length h) (l
         let F = Plain.fits D (length t) (length h) (length w) e in
         absurd (n (ap (λ (a : Answer). a.number) (fitting_fine D t h w S (record { count = F.count; lengths = F.lengths; room = r }))))
 
-module _ (s : State) (t h w : List ℕ) (S : Sheets) {a : Answer} (E : a ≡ fitting_of s.darts t h w S) where
-  pub with_first : a.number ≢ 0 → JudgedWith s t h w w S a
+module _ (s : State) (t h w : List ℕ) (S : Sheets) where
+  pub with_first : {a : Answer} → a ≡ fitting_of s.darts t h w S → a.number ≢ 0 → JudgedWith s t h w w S a
   unfolding judged
-  with_first n =
+  with_first {a} E n =
       let m : (fitting_of s.darts t h w S).number ≢ 0 = λ z. n (ap (λ (b : Answer). b.number) E ∙ z) in
       rw E (record {
         answer = rw (eqb_other m);
@@ -73,15 +73,9 @@ module _ (s : State) (t h w : List ℕ) (S : Sheets) {a : Answer} (E : a ≡ fit
         stood = λ z. absurd (m z);
       })
 
-  module _ (fine : a.number ≡ 0) where
-    pub with_fits : Fits s.darts t h w S
-    with_fits = fits s.darts t h w S (sym (ap (λ (b : Answer). b.number) E) ∙ fine)
-
-    pub with_room : Room s.darts w
-    with_room =
-        let F = with_fits in
-        let m = F.count.some in
-        record { even = F.count.even; some = omega arith; small = F.count.small; fits = F.lengths.work }
+  module _ (fine : (fitting_of s.darts t h w S).number ≡ 0) where
+    F : Fits s.darts t h w S
+    F = fine_fits s.darts t h w S fine
 
     pub refused_four : {v : List ℕ} → Beyond s.darts w v → no_pyramid ≡ judged s t h w S → JudgedWith s t h w (cleared s.darts v) S no_pyramid
     unfolding work_after
@@ -92,9 +86,10 @@ module _ (s : State) (t h w : List ℕ) (S : Sheets) {a : Answer} (E : a ≡ fit
       stood = λ z. absurd (omega arith);
     }
 
-    pub with_no : {v : List ℕ} → Beyond s.darts w v → is_pyramid s (table_of s t) (past_of s h) ≡ false → JudgedWith s t h w (cleared s.darts v) S no_pyramid
+    pub with_no : {v : List ℕ} → Beyond s.darts w v → is_pyramid s (table_of s t) (past_of s h) ≡ false
+        → JudgedWith s t h w (cleared s.darts v) S no_pyramid
     with_no B e =
-        refused_four B (sym (judged_other s t h w S with_fits (λ P. subst T e ((pyramid_decided s (table_of s t) (past_of s h)).1 P))))
+        refused_four B (sym (judged_other s t h w S F (λ P. subst T e ((pyramid_decided s (table_of s t) (past_of s h)).1 P))))
 
     module _ {v : List ℕ} {r : Bool} (C : NoteChecked s t h w v r) where
       module _ (yes : r ≡ true) where
@@ -112,13 +107,12 @@ module _ (s : State) (t h w : List ℕ) (S : Sheets) {a : Answer} (E : a ≡ fit
 
         pub with_wrong : {x : Bool} → x ≡ right_in D v S (D + s.operations) 0 → x ≡ false → JudgedWith s t h w (cleared D v) S no_pyramid
         with_wrong e f =
-            refused_four C.beyond (sym (judged_strange s t h w S with_fits (λ g. subst T (sym told ∙ sym e ∙ f) g)))
+            refused_four C.beyond (sym (judged_strange s t h w S F (λ g. subst T (sym told ∙ sym e ∙ f) g)))
 
         pub reloads : Reloads s t h v
         reloads =
-            let F = with_fits in
             record {
-              room = room_kept w v C.beyond.size with_room;
+              room = room_kept w v C.beyond.size (fine_asks s.darts t h w S fine).0;
               long = F.lengths.table;
               enough = F.lengths.history;
               pyramid = subst T (sym yes ∙ C.answer) tt;
@@ -126,9 +120,9 @@ module _ (s : State) (t h w : List ℕ) (S : Sheets) {a : Answer} (E : a ≡ fit
               roots = C.roots yes;
             }
 
-        pub with_yes : Pyramid s (table_of s t) (past_of s h) → {x : Bool} → x ≡ right_in D v S (D + s.operations) 0 → x ≡ true → {u : List ℕ} → Reloaded s t h v u → JudgedWith s t h w u S done
+        pub with_yes : Pyramid s (table_of s t) (past_of s h) → {x : Bool} → x ≡ right_in D v S (D + s.operations) 0 → x ≡ true
+            → {u : List ℕ} → Reloaded s t h v u → JudgedWith s t h w u S done
         with_yes P e k {u} R =
-            let F = with_fits in
             let B = beyond_trans C.beyond R.beyond in
             let L : Lent s t h u = record { pyramid = P; lengths = subst (λ n. Lengths D (length t) (length h) n) (sym B.size) F.lengths } in
             let H = C.holds yes in

@@ -1,40 +1,40 @@
 -- A kernel of contractions with notes, on a work area that was judged with its sheets: what it leaves beside the sheets, and what becomes of them.
+--   MadeBy s es t h w u g v o == the contractions es are made, or refused, beside the sheets: o is the outcome, v the work area before it is cleared
 --   within_merging == what is merged are places of the sheets
 --   made_same  == it is refused, or takes no edge: neither sheet changes
 --   made_more  == it is done: the merges that are noted are those of its operations
---   made_full  == 64 levels are in use
 --   made_ran   == whichever way the run went
 use mathlib.Core.Bool.{Bool}
 use mathlib.Core.List.{List, [], ◌∷◌, ◌++◌, reverse}
 use mathlib.Core.Logic.{◌≢◌}
 use mathlib.Core.Path.{◌≡◌, refl, sym, ap, ap₂, subst, ◌∙◌}
 use Prim.Native.Nat.{ℕ, zero, suc, ◌+◌, ◌-◌, ◌*◌, ◌/◌, ◌≤◌, ◌<◌}
-use native.Mathlib.Decide.{ℕ_discrete}
+use native.Mathlib.Decide.{ℕ_discrete, dec_le}
 use native.Mathlib.Omega.{arith}
-use lib.Dec.{T, eqb}
+use lib.Dec.{T}
 use borrow.Author.Tests.{le-leb, lt-leb}
 use lib.ListN.{length, length-append, length-reverse, get_or}
-use Rattle.permutations.specs.Choice.{pick, eqb_same, eqb_other}
+use Rattle.permutations.specs.Choice.{eqb_same, eqb_other}
+use Rattle.std.specs.Prelude.{Result as Answering, Ok, Err}
 use Rattle.darts.specs.Answers.{Answer, empty_kernel, too_many_levels}
-use Rattle.darts.specs.Cases.{answer_of}
+use Rattle.darts.specs.Cases.{refusal_of}
 use Rattle.darts.specs.Operation.{contraction, edge_of}
 use Rattle.darts.specs.Kernel.{stands, run}
-use Rattle.darts.specs.State.{State, gives, refuses, reduce, raised, levelled}
+use Rattle.darts.specs.State.{State, Result, gives, refuses, reduce, raised, levelled}
 use Rattle.darts.specs.Pyramid.{Pyramid}
-use Rattle.darts.specs.Calls.{table_of, past_of, cleared, reduce_by}
+use Rattle.darts.specs.Calls.{After, table_of, past_of, cleared, hands_back, on_state, reduce_by}
+use Rattle.darts.specs.declared.Refusal.{Refusal}
 use Rattle.laws.proofs.Lists.{reverse_onto}
-use Rattle.laws.proofs.calls.Judging.{Lent}
+use Rattle.laws.proofs.calls.Judging.{Lent, on_lent}
 use Rattle.laws.proofs.runs.Ends.{Layered}
 use Rattle.laws.proofs.runs.Pyramids.{pyramid_built, reduce_pyramid}
 use Rattle.laws.proofs.runs.Reduces.{raises_reduce, reduced, reduced_base}
 use Rattle.area.specs.Area.{Room, table_in, past_in}
 use Rattle.operations.specs.Trees.{rooted}
 use Rattle.engine.specs.Runs.{ran_in}
-use Rattle.engine.specs.declared.Ran.{Ran}
 use Rattle.engine.proofs.Parts.{past_length}
-use Rattle.engine.proofs.Ready.{beyond_refl}
 use Rattle.sheets.specs.Sheets.{Sheets, Merge, none, into, merged_by}
-use Rattle.sheets.specs.Notes.{notes_in, Fits}
+use Rattle.sheets.specs.Notes.{notes_in, Noted, Fits}
 use Rattle.yarn.specs.Places.{lowest, zone_of, merges_of, merges}
 use Rattle.yarn.specs.Given.{Given, given}
 use Rattle.yarn.specs.Calls.{base_of, sheets_after}
@@ -49,12 +49,38 @@ use Rattle.yarn.proofs.Untouched.{base_merging}
 use Rattle.yarn.proofs.sentences.Carried.{carried_more}
 use Rattle.noting.specs.Running.{RanNoted}
 use Rattle.noting.proofs.Places.{Numbers, merges_alike}
-use Rattle.pyramid.specs.declared.Made.{Made}
-use Rattle.pyramid.specs.Costs.{StoodWith, MadeBy}
-use Rattle.pyramid.specs.Values.{figures_of, left, unsettled}
+use Rattle.pyramid.specs.Costs.{StoodWith}
+use Rattle.pyramid.specs.Steps.{climbs}
+use Rattle.pyramid.specs.Values.{left, unsettled}
+use Rattle.pyramid.specs.declared.Outcome.{Outcome}
 use Rattle.pyramid.proofs.Judges.{lent_of, room_then}
-use Rattle.pyramid.proofs.ByRun.{reduce_levels, level_full}
-use Rattle.pyramid.proofs.Started.{HandsBare}
+use Rattle.pyramid.proofs.ByRun.{reduce_levels, level_ran}
+
+pub record MadeBy (s : State) (es t h w u g v : List ℕ) (o : Outcome) : Type 0 where
+  pub plain : unsettled (left o u g (cleared s.darts v)) ≡ unsettled (reduce_by contraction es s t h w)
+  pub room : Room s.darts v
+  pub noted : Noted s.darts s.operations o.state.operations v
+  pub sheets : (S : Sheets) → merged_by (notes_in s.darts v) s.operations (o.state.operations - s.operations) S
+      ≡ sheets_after s (table_of s t) (past_of s h) S (reduce contraction es s (table_of s t) (past_of s h))
+  pub fits : (S : Sheets) → T (given s.darts (base_of s (table_of s t) (past_of s h)) (reverse (past_of s h)) S)
+      → s.darts ≤ length S.sheet → s.darts / 2 ≤ length S.kept
+      → Fits (notes_in s.darts v) s.operations (o.state.operations - s.operations) S
+
+-- how many operations a call leaves
+module _ (step : State → List ℕ → List ℕ → Result) {s : State} {t h w : List ℕ} (L : Lent s t h w) (o : Outcome) {u g x : List ℕ}
+    (E : unsettled (left o u g x) ≡ unsettled (on_state step s t h w)) where
+  operations_after : {r : Result} → step s (table_of s t) (past_of s h) ≡ r → o.state.operations ≡ (hands_back s t h w r).state.operations
+  operations_after e =
+      ap (λ (y : After). y.state.operations) (E ∙ ap (λ (y : After). unsettled y) (on_lent s t h w step L))
+      ∙ ap (λ (y : Result). (hands_back s t h w y).state.operations) e
+
+  after_refused : {a : Answer} → step s (table_of s t) (past_of s h) ≡ refuses a → o.state.operations ≡ s.operations
+  unfolding hands_back
+  after_refused e = operations_after e
+
+  after_given : {z : State} {v past : List ℕ} → step s (table_of s t) (past_of s h) ≡ gives z v past → o.state.operations ≡ z.operations
+  unfolding hands_back
+  after_given e = operations_after e
 
 -- the operations of a list that goes on are on edges
 inside_then : (D : ℕ) (hs new : List ℕ) → Inside D (hs ++ new) → Inside D new
@@ -120,12 +146,14 @@ module _ {s : State} {t h w : List ℕ} (Z : StoodWith s t h w) (es : List ℕ) 
   area_few : n ≤ D / 2
   area_few = ((Z.stood.checked refl).area refl).few
 
-  module _ {t' h' v : List ℕ} (m : Made) (plain : unsettled (left m.outcome t' h' (cleared D v)) ≡ unsettled (reduce_by contraction es s t h w)) (room : Room D v) where
+  module _ {t' h' v : List ℕ} (o : Outcome)
+      (plain : unsettled (left o t' h' (cleared D v)) ≡ unsettled (reduce_by contraction es s t h w)) (room : Room D v) where
     -- NEITHER SHEET CHANGES
-    pub made_same : {a : Answer} → reduce contraction es s u past ≡ refuses a → m.operations ≡ n → MadeBy s es t h w t' h' v m
-    unfolding sheets_after merged_by
-    made_same e same =
-        let zero_more : m.operations - n ≡ 0 = omega arith in
+    pub made_same : {a : Answer} → reduce contraction es s u past ≡ refuses a → MadeBy s es t h w t' h' v o
+    unfolding sheets_after merged_by reduce_by
+    made_same e =
+        let same = after_refused (reduce contraction es) lent o plain e in
+        let zero_more : o.state.operations - n ≡ 0 = omega arith in
         record {
           plain = plain;
           room = room;
@@ -141,13 +169,14 @@ module _ {s : State} {t h w : List ℕ} (Z : StoodWith s t h w) (es : List ℕ) 
           fits = λ S g l k. rw zero_more tt;
         }
 
-    module _ (free : s.levels < 64) (fresh : List ℕ) {u' new : List ℕ} (ran : run contraction D u past es ≡ stands u' new) (told : new ≡ reverse fresh ++ past)
-        (reached : length new ≡ m.operations) (few : m.operations ≤ D / 2)
+    module _ (free : s.levels < 64) (fresh : List ℕ) {u' new : List ℕ}
+        (ran : run contraction D u past es ≡ stands u' new) (told : new ≡ reverse fresh ++ past)
+        (reached : length new ≡ o.state.operations) (few : o.state.operations ≤ D / 2)
         (notes : (i : ℕ) → i < length fresh → notes_in D v (n + i) ≡ merges_of (rooted D w) fresh i) where
       longer : length new ≡ length fresh + length past
       longer = longer_of fresh past told
 
-      more : m.operations - n ≡ length fresh
+      more : o.state.operations - n ≡ length fresh
       more = omega (arith, longer, reached, past_count)
 
       history : reverse new ≡ hs ++ fresh
@@ -183,20 +212,24 @@ module _ {s : State} {t h w : List ℕ} (Z : StoodWith s t h w) (es : List ℕ) 
             ∙ sym ((from_on (lowest D b) hs fresh).each i) ∙ ap (λ k. merges_of (lowest D b) (hs ++ fresh) (k + i)) count
 
         -- THE MERGES THAT ARE NOTED ARE THOSE OF ITS OPERATIONS
-        pub made_more : MadeBy s es t h w t' h' v m
+        pub made_more : MadeBy s es t h w t' h' v o
         unfolding sheets_after
         made_more = record {
           plain = plain;
           room = room;
-          noted = noted_within (merges D b (hs ++ fresh)) room.some room.small (omega (arith, longer, reached, past_count)) few room.fits (λ i l k. noted i l k) (λ i l k. within i k);
+          noted =
+              noted_within (merges D b (hs ++ fresh)) room.some room.small (omega (arith, longer, reached, past_count)) few room.fits
+              (λ i l k. noted i l k) (λ i l k. within i k);
           sheets = λ S. rw (more, given_new, told) (merged_agree _ _ n (length fresh) agree S ∙ sym (carried S));
           fits = λ S g l k. rw more (fits_agree _ _ n (length fresh) agree S (fit S g l k));
         }
           where
-            noted : (i : ℕ) → n ≤ i → i < m.operations → notes_in D v i ≡ merges D b (hs ++ fresh) i
-            noted i l k = let e : n + (i - n) ≡ i = omega arith in subst (λ j. notes_in D v j ≡ merges D b (hs ++ fresh) j) e (agree (i - n) (omega (arith, more)))
+            noted : (i : ℕ) → n ≤ i → i < o.state.operations → notes_in D v i ≡ merges D b (hs ++ fresh) i
+            noted i l k =
+                let e : n + (i - n) ≡ i = omega arith in
+                subst (λ j. notes_in D v j ≡ merges D b (hs ++ fresh) j) e (agree (i - n) (omega (arith, more)))
 
-            within : (i : ℕ) → i < m.operations → Within D (merges D b (hs ++ fresh) i)
+            within : (i : ℕ) → i < o.state.operations → Within D (merges D b (hs ++ fresh) i)
             within i k =
                 within_merging (base_merging (base_standing P) (hs ++ fresh) inside apart) i (omega (arith, length-append hs fresh, count, more, longer))
 
@@ -206,62 +239,62 @@ module _ {s : State} {t h w : List ℕ} (Z : StoodWith s t h w) (es : List ℕ) 
                 ∙ ap₂ (λ k c. merged_by (merges D b (reverse (reverse fresh ++ past))) k c S) past_count (length-reverse fresh)
                 ∙ ap (λ l. merged_by (merges D b l) n (length fresh) S) (reverse_onto fresh past)
 
-            fit : (S : Sheets) → T (given D b hs S) → D ≤ length S.sheet → D / 2 ≤ length S.kept → Fits (merges D b (hs ++ fresh)) n (length fresh) S
+            fit : (S : Sheets) → T (given D b hs S) → D ≤ length S.sheet → D / 2 ≤ length S.kept
+                → Fits (merges D b (hs ++ fresh)) n (length fresh) S
             fit S g l k =
                 let G : Given D b hs S = (pyramid_decided P S l (omega (arith, area_few, past_count))).0 g in
                 subst (λ c. Fits (merges D b (hs ++ fresh)) c (length fresh) S) count
                 (merges_fit D b (lowest_settled (base_standing P)) room.small hs fresh (record { inside = inside; apart = apart }) G l)
 
-module _ {s : State} {t h w : List ℕ} (Z : StoodWith s t h w) (es : List ℕ) where
-  pub made_full : 64 ≤ s.levels → (m : Made) → HandsBare m.outcome too_many_levels (figures_of s) → m.operations ≡ s.operations → MadeBy s es t h w t h w m
-  unfolding reduce_by reduce
-  made_full full m H same =
-      made_same Z es m (level_full (reduce_levels refl es) Z.stood refl full H) (room_then Z.stood refl (beyond_refl s.darts w))
-      {a = too_many_levels} (rw (le-leb 64 s.levels full)) same
+module _ {s : State} {t h w : List ℕ} (Z : StoodWith s t h w) (es : List ℕ) {t' h' v : List ℕ} {r : Answering ℕ Refusal}
+    (R : RanNoted s.darts s.operations es w v r) (o : Outcome)
+    (plain : unsettled (left o t' h' (cleared s.darts v)) ≡ unsettled (reduce_by contraction es s t h w)) where
+  room : Room s.darts v
+  room = room_then Z.stood refl R.went.beyond
 
-  module _ (free : s.levels < 64) {t' h' v : List ℕ} {r : Ran} (R : RanNoted s.darts s.operations es w v r) (m : Made)
-      (plain : unsettled (left m.outcome t' h' (cleared s.darts v)) ≡ unsettled (reduce_by contraction es s t h w))
-      (reached : m.operations ≡ pick (eqb (answer_of r.answer).number 0) r.operations s.operations) where
+  reduces : reduce contraction es s (table_of s t) (past_of s h) ≡ climbs s (past_of s h) (ran_in s.darts v r)
+  reduces =
+      (reduce_levels refl es).steps s (table_of s t) (past_of s h)
+      ∙ ap (climbs s (past_of s h)) (sym (level_ran (reduce_levels refl es) Z.stood refl R.went))
+
+  same : {a : Answer} → reduce contraction es s (table_of s t) (past_of s h) ≡ refuses a → MadeBy s es t h w t' h' v o
+  same = made_same Z es o plain room
+
+  module _ (free : s.levels < 64) {m : ℕ} (is : r ≡ Ok m) where
     abbrev new : List ℕ
-    new = past_in s.darts r.operations v
+    new = past_in s.darts m v
 
-    room : Room s.darts v
-    room = room_then Z.stood refl R.went.beyond
+    Q : RanNoted s.darts s.operations es w v (Ok m)
+    Q = subst (λ (q : Answering ℕ Refusal). RanNoted s.darts s.operations es w v q) is R
+
+    new_count : length new ≡ m
+    new_count = let f = Q.went.few in let k = room.fits in past_length s.darts m v (omega arith)
 
     -- the run, on the table and the past that were lent
-    went : ran_in s.darts v r ≡ run contraction s.darts (table_of s t) (past_of s h) es
-    went =
+    stood_run : run contraction s.darts (table_of s t) (past_of s h) es ≡ stands (table_in s.darts v) new
+    stood_run = sym (level_ran (reduce_levels refl es) Z.stood refl Q.went)
+
+    more_done : Dec (length new ≡ length (past_of s h)) → MadeBy s es t h w t' h' v o
+    unfolding levelled reduce_by raised
+    more_done (yes e) = same {a = empty_kernel} (reduces ∙ rw (is, lt-leb 64 s.levels free, eqb_same e))
+    more_done (no grown) =
+        let gave : reduce contraction es s (table_of s t) (past_of s h) ≡ gives (raised s (table_in s.darts v) new) (table_in s.darts v) new
+        = reduces ∙ rw (is, lt-leb 64 s.levels free, eqb_other grown) in
+        let reached = after_given (reduce contraction es) (lent Z es) o plain gave in
         let C = Z.stood.checked refl in
-        R.went.went ∙ ap₂ (λ u past. run contraction s.darts u past es) (C.table refl) (C.past refl)
+        let told = Q.told ∙ ap (λ l. reverse Q.fresh ++ l) (C.past refl) in
+        let longer : length new ≡ length Q.fresh + length (past_of s h) = longer_of Q.fresh (past_of s h) told in
+        let c = past_count Z es in
+        let few : length new ≤ s.darts / 2 = omega (arith, new_count, Q.went.few) in
+        made_more Z es o plain room free Q.fresh stood_run told (sym reached) (rw reached few)
+        (λ i l. Q.notes i (omega (arith, longer, new_count))) grown
 
-    reduces : reduce contraction es s (table_of s t) (past_of s h) ≡ levelled s (past_of s h) (ran_in s.darts v r)
-    unfolding reduce
-    reduces = rw (lt-leb 64 s.levels free, went)
+  by_run : Dec (64 ≤ s.levels) → (q : Answering ℕ Refusal) → r ≡ q → MadeBy s es t h w t' h' v o
+  unfolding levelled
+  by_run (yes full) q is = same {a = too_many_levels} (reduces ∙ rw (le-leb 64 s.levels full))
+  by_run (no n) (Err a) is = let free : s.levels < 64 = omega arith in same {a = refusal_of a} (reduces ∙ rw (is, lt-leb 64 s.levels free))
+  by_run (no n) (Ok m) is = let free : s.levels < 64 = omega arith in more_done free is (ℕ_discrete (length (past_in s.darts m v)) (length (past_of s h)))
 
-    new_count : length new ≡ r.operations
-    new_count = let f = R.went.few in let k = room.fits in past_length s.darts r.operations v (omega arith)
-
-    -- WHICHEVER WAY THE RUN WENT
-    pub made_ran : MadeBy s es t h w t' h' v m
-    unfolding ran_in levelled
-    made_ran = go (ℕ_discrete (answer_of r.answer).number 0)
-      where
-        stood_run : (answer_of r.answer).number ≡ 0 → run contraction s.darts (table_of s t) (past_of s h) es ≡ stands (table_in s.darts v) new
-        stood_run e = sym went ∙ rw (eqb_same e)
-
-        done : (answer_of r.answer).number ≡ 0 → Dec (length new ≡ length (past_of s h)) → MadeBy s es t h w t' h' v m
-        done e (yes same) =
-            made_same Z es m plain room {a = empty_kernel} (reduces ∙ rw (eqb_same e, eqb_same same))
-            (let k : m.operations ≡ r.operations = rw (eqb_same e) at reached in let c = past_count Z es in omega (arith, new_count))
-        done e (no grown) =
-            let k : m.operations ≡ r.operations = rw (eqb_same e) at reached in
-            let C = Z.stood.checked refl in
-            let told = R.told e ∙ ap (λ l. reverse R.fresh ++ l) (C.past refl) in
-            let longer : length new ≡ length R.fresh + length (past_of s h) = longer_of R.fresh (past_of s h) told in
-            let c = past_count Z es in
-            made_more Z es m plain room free R.fresh (stood_run e) told (new_count ∙ sym k) (rw k R.went.few)
-            (λ i l. R.notes e i (omega (arith, longer, new_count))) grown
-
-        go : Dec ((answer_of r.answer).number ≡ 0) → MadeBy s es t h w t' h' v m
-        go (no other) = made_same Z es m plain room {a = answer_of r.answer} (reduces ∙ rw (eqb_other other)) (rw (eqb_other other) at reached)
-        go (yes e) = done e (ℕ_discrete (length new) (length (past_of s h)))
+  -- WHICHEVER WAY THE RUN WENT
+  pub made_ran : MadeBy s es t h w t' h' v o
+  made_ran = by_run (dec_le 64 s.levels) r refl

@@ -2,6 +2,7 @@
 --   with_done     == what the plain step leaves, and what becomes of the sheets
 --   with_contract == a kernel of contractions, once it is judged
 --   with_left     == a step that leaves both sheets
+--   with_remove, with_sweep == a kernel of removals, and the sweep
 --   called_sheets == the call c is its step on a state and its sheets
 --   with_refused  == the call is refused as it is judged: neither sheet changes
 --   with_settles, with_settled == else its numbers can be put right, and then it leaves what the call leaves
@@ -11,9 +12,10 @@ use mathlib.Core.Path.{◌≡◌, refl, sym, ap, ap₂, ◌∙◌}
 use Prim.Native.Nat.{ℕ}
 use Rattle.permutations.specs.Choice.{eqb_other}
 use Rattle.darts.specs.Answers.{Answer}
-use Rattle.darts.specs.Operation.{contraction}
+use Rattle.darts.specs.Operation.{contraction, removal}
 use Rattle.darts.specs.State.{State, Result, reduce}
-use Rattle.darts.specs.Calls.{After, leaves, table_of, past_of, work_after, hands_back, on_state, reduce_by}
+use Rattle.darts.specs.Levels.{sweep}
+use Rattle.darts.specs.Calls.{After, leaves, table_of, past_of, work_after, hands_back, on_state, reduce_by, sweep_by}
 use Rattle.laws.proofs.calls.Judging.{on_lent}
 use Rattle.laws.proofs.chained.OnLent.{Call, by_kernel, by_sweep, by_undo, to_level, called, step_of}
 use Rattle.sheets.specs.declared.Zone.{Zone}
@@ -23,11 +25,12 @@ use Rattle.yarn.proofs.sentences.Judging.{Costed as Lent, judged_costed}
 use Rattle.yarn.proofs.sentences.Plain.{state_plain}
 use Rattle.yarn.proofs.CalledWith.{called_with, called_plain}
 use Rattle.yarn.proofs.LentWith.{LentWith}
+use Rattle.yarn.proofs.sentences.Removals.{removing_sheets, sweep_sheets}
 use Rattle.pyramid.specs.Costs.{JudgedWith, costs, costs_left, unsettled_costs, contracts_with}
 use Rattle.pyramid.specs.Settling.{Settles, Settled}
 use Rattle.pyramid.specs.Values.{left, unsettled, Hands}
 use Rattle.pyramid.specs.declared.Outcome.{Outcome}
-use Rattle.pyramid.proofs.ByRun.{plain_reduce}
+use Rattle.pyramid.proofs.ByRun.{plain_reduce, plain_sweep}
 use Rattle.pyramid.proofs.JudgesWith.{costed_of, plain_judged}
 use Rattle.pyramid.proofs.OnState.{Plain, stood_ends}
 use Rattle.pyramid.proofs.Settles.{settles, settled}
@@ -65,6 +68,16 @@ pub with_contract : (es : List ℕ) {s : State} {t h w v : List ℕ} {S : Sheets
     → {c : Costed} → c ≡ contracts_with es s t h v S → c ≡ unsettled_costs (reduce_with contraction es s t h w S)
 unfolding reduce_by reduce_with
 with_contract es {s} {t} {h} J fine e = e ∙ with_done (reduce contraction es) J fine (plain_reduce contraction es s (table_of s t) (past_of s h)) refl refl
+
+pub with_remove : (es : List ℕ) {s : State} {t h w v : List ℕ} {S : Sheets} {a : Answer} → JudgedWith s t h w v S a → a.number ≡ 0
+    → {x : After} → x ≡ unsettled (reduce_by removal es s t h v) → costed x S ≡ unsettled_costs (reduce_with removal es s t h w S)
+unfolding reduce_by reduce_with
+with_remove es J fine e = with_left (reduce removal es) J fine (plain_reduce _ _ _ _ _) e (removing_sheets _ _ _ _ _ _)
+
+pub with_sweep : {s : State} {t h w v : List ℕ} {S : Sheets} {a : Answer} → JudgedWith s t h w v S a → a.number ≡ 0
+    → {x : After} → x ≡ unsettled (sweep_by s t h v) → costed x S ≡ unsettled_costs (sweep_with s t h w S)
+unfolding sweep_by sweep_with
+with_sweep J fine e = with_left sweep J fine (plain_sweep _ _ _) e (sweep_sheets _ _ _ _ _)
 
 -- ---- the calls on a state
 

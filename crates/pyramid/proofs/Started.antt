@@ -2,16 +2,14 @@
 --   HandsBare o a s == an outcome is this answer, and these are the figures of its state
 --   bare            == so it is of what is handed back with its numbers
 --   hands, hands_bare == what a call leaves that hands this back
---   tested_few      == a base has at most 65,536 vertices and faces
 --   start_refused   == 1 or 2: nothing is written
 --   start_bad       == 3: the table is no permutation
 --   start_done      == a base
 use mathlib.Core.List.{List, []}
 use mathlib.Core.Logic.{◌≢◌}
 use mathlib.Core.Path.{◌≡◌, refl, sym, ap, ap₂, ◌∙◌}
-use Prim.Native.Nat.{ℕ, ◌≤◌}
-use native.Mathlib.Omega.{arith}
-use borrow.Author.Tests.{eq-eqb, ne_eqb}
+use Prim.Native.Nat.{ℕ}
+use borrow.Author.Tests.{ne_eqb}
 use lib.ListN.{length, take}
 use Rattle.darts.specs.Answers.{Answer as Answered, done, no_permutation}
 use Rattle.darts.specs.Cases.{answer_of}
@@ -19,10 +17,7 @@ use Rattle.darts.specs.Map.{permutes, culprits, permutation_test}
 use Rattle.darts.specs.State.{State as Stated, zeros, base_state}
 use Rattle.darts.specs.Calls.{leaves, begins, start, fitting, cleared}
 use Rattle.laws.proofs.runs.Ends.{state_path}
-use Rattle.area.specs.Verdicts.{verdict_of}
-use Rattle.area.specs.declared.Verdict.TheVariants.{Permutes}
-use Rattle.engine.specs.Counted.{CyclesAre, TestsCycles}
-use Rattle.engine.specs.declared.Tested.{Tested}
+use Rattle.engine.specs.Counted.{CyclesAre}
 use Rattle.pyramid.specs.Values.{state_of, figures_of, base_with, left, unsettled, Hands}
 use Rattle.pyramid.specs.declared.Outcome.{Outcome}
 
@@ -33,35 +28,32 @@ pub record HandsBare (o : Outcome) (a : Answered) (s : Stated) : Type 0 where
 pub bare : {o : Outcome} {a : Answered} {s : Stated} → Hands o a s → HandsBare o a (figures_of s)
 bare H = record { answer = H.answer; state = ap (λ (s : Stated). figures_of s) H.state }
 
-pub hands_bare : (o : Outcome) {a : Answered} (s : Stated) → HandsBare o a (figures_of s) → (t h w : List ℕ) → unsettled (left o t h w) ≡ unsettled (leaves a s t h w)
+pub hands_bare : (o : Outcome) {a : Answered} (s : Stated) → HandsBare o a (figures_of s)
+    → (t h w : List ℕ) → unsettled (left o t h w) ≡ unsettled (leaves a s t h w)
 hands_bare o s H t h w = ap₂ (λ (a : Answered) (s : Stated). leaves a s t h w) H.answer H.state
 
 pub hands : (o : Outcome) {a : Answered} {s : Stated} → Hands o a s → (t h w : List ℕ) → left o t h w ≡ leaves a s t h w
 hands o H t h w = ap₂ (λ (a : Answered) (s : Stated). leaves a s t h w) H.answer H.state
 
-pub tested_few : (D : ℕ) (t : List ℕ) {r : Tested} → TestsCycles D t r → r.verdict ≡ Permutes → D ≤ 65536 → (r.vertices ≤ 65536) × (r.faces ≤ 65536)
-tested_few D t C is few = let N = C (ap verdict_of is) in (omega (arith, N.few_vertices), omega (arith, N.few_faces))
-
 module _ (D : ℕ) (t h w : List ℕ) where
-  abbrev first : Answered
-  first = fitting D (length t) (length h) (length w)
-
-  pub start_refused : (o : Outcome) → first.number ≢ 0 → Hands o first zeros → left o t h w ≡ start D t h w
+  pub start_refused : (o : Outcome) {a : Answered} → a ≡ fitting D (length t) (length h) (length w) → a.number ≢ 0 → Hands o a zeros
+      → left o t h w ≡ start D t h w
   unfolding start
-  start_refused o n H = hands o H t h w ∙ sym (rw (ne_eqb first.number 0 n))
+  start_refused o {a} E n H = hands o H t h w ∙ sym (rw (← E, ne_eqb a.number 0 n))
 
   -- the base stores the numbers of its cycles
   pub base_numbers : {v f : ℕ} → CyclesAre D (take D t) [] v f → base_with D v f ≡ base_state D (take D t)
   base_numbers C = state_path refl refl refl refl C.vertices C.faces
 
-  module _ (fits : first.number ≡ 0) where
-    pub start_bad : (o : Outcome) {d c : ℕ} → culprits d c ≡ permutation_test D t → Hands o (no_permutation d c) zeros → left o t h (cleared D w) ≡ start D t h w
+  module _ (E : done ≡ fitting D (length t) (length h) (length w)) where
+    pub start_bad : (o : Outcome) {d c : ℕ} → culprits d c ≡ permutation_test D t → Hands o (no_permutation d c) zeros
+        → left o t h (cleared D w) ≡ start D t h w
     unfolding start begins
-    start_bad o b H = hands o H t h (cleared D w) ∙ sym (rw (eq-eqb first.number 0 fits, ← b))
+    start_bad o b H = hands o H t h (cleared D w) ∙ sym (rw (← E, ← b))
 
     pub start_done : (o : Outcome) {v f : ℕ} → permutes ≡ permutation_test D t → CyclesAre D (take D t) [] v f → Hands o done (base_with D v f)
         → left o t h (cleared D w) ≡ start D t h w
     unfolding start begins
     start_done o b C H =
         hands o H t h (cleared D w) ∙ ap (λ (s : Stated). leaves done s t h (cleared D w)) (base_numbers C)
-        ∙ sym (rw (eq-eqb first.number 0 fits, ← b))
+        ∙ sym (rw (← E, ← b))

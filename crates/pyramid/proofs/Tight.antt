@@ -1,31 +1,38 @@
 -- No two outcomes satisfy the statement of a call.
---   answer_back, answer_one == each case of an answer has its own number and places
---   state_one              == each state has its own record
---   left_one               == what a call leaves tells what it handed back and every lent slice
---   costs_one              == and what a call with sheets leaves tells both sheets too
---   counts_one             == the same of counts
+--   refusal_back, refusal_one == each case of a refusal has its own number and places
+--   result_one               == and so has each answer: those that say the same, and hand the same where they are done, are the same
+--   answer_back, answer_back_lem == an answer read back from its number and places is the answer, where a call hands nothing
+--   bytes_back, bytes_back_lem == the same of the writer's answer, with the bytes that were written
+--   answer_one, bytes_one    == the same where a call hands nothing, and of the writer, which hands the bytes that were written
+--   state_one                == each state has its own record
+--   left_one                 == what a call leaves tells what it handed back and every lent slice
+--   costs_one                == and what a call with sheets leaves tells both sheets too
+--   counts_one               == the same of counts
 use mathlib.Core.List.{List}
 use mathlib.Core.Path.{◌≡◌, refl, sym, ap, ◌∙◌}
 use Prim.Native.Nat.{ℕ}
+use borrow.Author.Tests.{ne_eqb}
 use lib.Dec.{eqb}
-use Rattle.darts.specs.Answers.{Answer as Answered}
 use Rattle.std.proofs.Common.{if◌then◌else◌}
+use Rattle.std.specs.Prelude.{Result, Ok, Err}
+use Rattle.darts.specs.Answers.{Answer as Answered}
 use Rattle.darts.specs.Calls.{After, Counted as CountsAfter}
-use Rattle.darts.specs.Cases.{answer_of}
+use Rattle.darts.specs.Cases.{refusal_of, answer_of, bytes_of}
+use Rattle.darts.proofs.Cases.{refused_number}
+use Rattle.darts.specs.declared.Refusal.{Refusal}
+use Rattle.darts.specs.declared.Refusal.TheVariants.{NoDartCount, TooShort, NoPermutation, NoPyramid, EmptyKernel, TooManyLevels, NoEdge, GoneAlready}
+use Rattle.darts.specs.declared.Refusal.TheVariants.{OneVertex, OneFace, WholePiece, NoLevel, NoFile, NoFlag, NoPlanSize, UnfitRecord}
 use Rattle.sheets.specs.declared.Zone.{Zone}
 use Rattle.yarn.specs.Calls.{Costed}
 use Rattle.pyramid.specs.Costs.{costs}
-use Rattle.pyramid.specs.Values.{state_of, left, counts_left}
+use Rattle.pyramid.specs.Values.{state_of, tally_of, left, counts_left}
 use Rattle.pyramid.specs.declared.State.{State}
-use Rattle.darts.specs.declared.Answer.{Answer}
-use Rattle.darts.specs.declared.Answer.TheVariants.{Done, NoDartCount, TooShort, NoPermutation, NoPyramid, EmptyKernel, TooManyLevels, NoEdge, GoneAlready, OneVertex, OneFace, WholePiece, NoLevel, NoFile, NoFlag, NoPlanSize, UnfitRecord}
 use Rattle.pyramid.specs.declared.Outcome.{Outcome}
-use Rattle.pyramid.specs.declared.Counted.{Counted}
+use Rattle.pyramid.specs.declared.Counts.{Counts}
 
-answer_back : Answered → Answer
-answer_back a =
-    if eqb a.number 0 then Done a.place
-    else if eqb a.number 1 then NoDartCount
+refusal_back : Answered → Refusal
+refusal_back a =
+    if eqb a.number 1 then NoDartCount
     else if eqb a.number 2 then TooShort a.place
     else if eqb a.number 3 then NoPermutation a.place a.second
     else if eqb a.number 4 then NoPyramid
@@ -42,28 +49,58 @@ answer_back a =
     else if eqb a.number 15 then NoPlanSize
     else UnfitRecord a.place
 
-answer_back_lem : (a : Answer) → answer_back (answer_of a) ≡ a
-unfolding answer_back
-answer_back_lem (Done n) = refl
-answer_back_lem NoDartCount = refl
-answer_back_lem (TooShort n) = refl
-answer_back_lem (NoPermutation d c) = refl
-answer_back_lem NoPyramid = refl
-answer_back_lem EmptyKernel = refl
-answer_back_lem TooManyLevels = refl
-answer_back_lem (NoEdge i) = refl
-answer_back_lem (GoneAlready i) = refl
-answer_back_lem (OneVertex i) = refl
-answer_back_lem (OneFace i) = refl
-answer_back_lem (WholePiece i) = refl
-answer_back_lem (NoLevel top) = refl
-answer_back_lem (NoFile at) = refl
-answer_back_lem NoFlag = refl
-answer_back_lem NoPlanSize = refl
-answer_back_lem (UnfitRecord x) = refl
+refusal_back_lem : (r : Refusal) → refusal_back (refusal_of r) ≡ r
+unfolding refusal_back
+refusal_back_lem NoDartCount = refl
+refusal_back_lem (TooShort n) = refl
+refusal_back_lem (NoPermutation d c) = refl
+refusal_back_lem NoPyramid = refl
+refusal_back_lem EmptyKernel = refl
+refusal_back_lem TooManyLevels = refl
+refusal_back_lem (NoEdge i) = refl
+refusal_back_lem (GoneAlready i) = refl
+refusal_back_lem (OneVertex i) = refl
+refusal_back_lem (OneFace i) = refl
+refusal_back_lem (WholePiece i) = refl
+refusal_back_lem (NoLevel top) = refl
+refusal_back_lem (NoFile at) = refl
+refusal_back_lem NoFlag = refl
+refusal_back_lem NoPlanSize = refl
+refusal_back_lem (UnfitRecord x) = refl
 
-pub answer_one : (a b : Answer) → answer_of a ≡ answer_of b → a ≡ b
-answer_one a b e = sym (answer_back_lem a) ∙ ap answer_back e ∙ answer_back_lem b
+pub refusal_one : (r q : Refusal) → refusal_of r ≡ refusal_of q → r ≡ q
+refusal_one r q e = sym (refusal_back_lem r) ∙ ap refusal_back e ∙ refusal_back_lem q
+
+pub result_one : {T : Type 0} (a b : Result T Refusal) → answer_of a ≡ answer_of b → ((x y : T) → a ≡ Ok x → b ≡ Ok y → x ≡ y) → a ≡ b
+result_one (Ok x) (Ok y) e k = ap Ok (k x y refl refl)
+result_one (Ok x) (Err q) e k = absurd (refused_number q (sym (ap (λ (b : Answered). b.number) e)))
+result_one (Err r) (Ok y) e k = absurd (refused_number r (ap (λ (b : Answered). b.number) e))
+result_one (Err r) (Err q) e k = ap Err (refusal_one r q e)
+
+answer_back : Answered → Result (Unit {0}) Refusal
+answer_back a = if eqb a.number 0 then Ok tt else Err (refusal_back a)
+
+answer_back_lem : (a : Result (Unit {0}) Refusal) → answer_back (answer_of a) ≡ a
+unfolding answer_back
+answer_back_lem (Ok x) = refl
+answer_back_lem (Err r) = rw (ne_eqb (refusal_of r).number 0 (refused_number r), refusal_back_lem r) refl
+
+bytes_back : Answered → Result ℕ Refusal
+bytes_back a = if eqb a.number 0 then Ok a.place else Err (refusal_back a)
+
+bytes_back_lem : (a : Result ℕ Refusal) → bytes_back (bytes_of a) ≡ a
+unfolding bytes_back
+bytes_back_lem (Ok n) = refl
+bytes_back_lem (Err r) = rw (ne_eqb (refusal_of r).number 0 (refused_number r), refusal_back_lem r) refl
+
+pub answer_one : (a b : Result (Unit {0}) Refusal) → answer_of a ≡ answer_of b → a ≡ b
+answer_one a b e = result_one a b e (λ x y _ _. refl)
+
+pub bytes_one : (a b : Result ℕ Refusal) → bytes_of a ≡ bytes_of b → a ≡ b
+bytes_one (Ok n) (Ok m) e = ap Ok (ap (λ (b : Answered). b.place) e)
+bytes_one (Ok n) (Err q) e = absurd (refused_number q (sym (ap (λ (b : Answered). b.number) e)))
+bytes_one (Err r) (Ok m) e = absurd (refused_number r (ap (λ (b : Answered). b.number) e))
+bytes_one (Err r) (Err q) e = ap Err (refusal_one r q e)
 
 pub state_one : (s z : State) → state_of s ≡ state_of z → s ≡ z
 state_one s z e = λ i. record {
@@ -110,22 +147,24 @@ costs_one o p t u h g w v s z k l a d e =
       kept = ap (λ (x : Costed). x.sheets.kept) c;
     }
 
-pub record SameCounts (o p : Counted) (t u h g w v : List ℕ) : Type 0 where
+pub record SameCounts (o p : Result Counts Refusal) (t u h g w v : List ℕ) : Type 0 where
   pub counted : o ≡ p
   pub table : t ≡ u
   pub history : h ≡ g
   pub work : w ≡ v
 
+tally_one : (c d : Counts) → tally_of c ≡ tally_of d → c ≡ d
+tally_one c d e = λ i. record { darts = (e i).darts; vertices = (e i).vertices; faces = (e i).faces; euler = (e i).euler }
+
 -- NO TWO OUTCOMES OF COUNTS SATISFY ITS STATEMENT
-pub counts_one : (o p : Counted) (t u h g w v : List ℕ) (a : CountsAfter) → counts_left o t h w ≡ a → counts_left p u g v ≡ a → SameCounts o p t u h g w v
+pub counts_one : (o p : Result Counts Refusal) (t u h g w v : List ℕ) (a : CountsAfter) → counts_left o t h w ≡ a → counts_left p u g v ≡ a
+    → SameCounts o p t u h g w v
 counts_one o p t u h g w v a d e =
     let c : counts_left o t h w ≡ counts_left p u g v = d ∙ sym e in
-    let x = answer_one o.answer p.answer (ap (λ (z : CountsAfter). z.answer) c) in
     record {
-      counted = λ i. record {
-        answer = x i;
-        counts = record { darts = (c i).counts.darts; vertices = (c i).counts.vertices; faces = (c i).counts.faces; euler = (c i).counts.euler };
-      };
+      counted =
+          result_one o p (ap (λ (z : CountsAfter). z.answer) c)
+          (λ x y is it. tally_one x y (rw (is, it) at (ap (λ (z : CountsAfter). z.counts) c)));
       table = ap (λ (z : CountsAfter). z.table) c;
       history = ap (λ (z : CountsAfter). z.history) c;
       work = ap (λ (z : CountsAfter). z.work) c;

@@ -3,7 +3,8 @@
 --   unfolded_count     == so many operations there are at that level
 --   unfold_noted       == the notes of the operations above it lead to places of the sheets
 --   unfolded_sheets    == what is put back by the notes is what unfolding gives
---   undo_with_lem          == undo is unfold to the level below
+--   with_unfold        == unfolding, once it is judged
+--   undo_with_lem      == undo is unfold to the level below
 use mathlib.Core.List.{List, reverse}
 use mathlib.Core.Logic.{◌≢◌}
 use mathlib.Core.Path.{◌≡◌, refl, sym, ap, ap₂, ◌∙◌}
@@ -19,7 +20,7 @@ use Rattle.darts.specs.Answers.{Answer}
 use Rattle.darts.specs.State.{State, Result, gives, refuses}
 use Rattle.darts.specs.Levels.{end_below, lowered, undo_level, undo_levels, unfold_to}
 use Rattle.darts.specs.Pyramid.{Pyramid}
-use Rattle.darts.specs.Calls.{table_of, past_of}
+use Rattle.darts.specs.Calls.{After, table_of, past_of, unfold_by}
 use Rattle.laws.proofs.runs.Pyramids.{pyramid_built}
 use Rattle.laws.proofs.runs.Results.{refuses≢gives, then, same_result}
 use Rattle.laws.proofs.runs.Undo.{unfold_pyramid, undo_is_unfold}
@@ -27,15 +28,18 @@ use Rattle.laws.proofs.chained.Steps.{unfold_undoes}
 use Rattle.sheets.specs.Sheets.{Sheets, Merge, returned_by}
 use Rattle.sheets.specs.Notes.{notes_in, Noted}
 use Rattle.yarn.specs.Places.{merges}
-use Rattle.yarn.specs.Calls.{base_of, carried_to, sheets_after, on_sheets, undo_with, unfold_with}
+use Rattle.yarn.specs.Calls.{costed, base_of, carried_to, sheets_after, on_sheets, undo_with, unfold_with}
 use Rattle.yarn.proofs.Agree.{First, returned_same}
 use Rattle.yarn.proofs.Apart.{base_apart, base_standing, pyramid_inside}
 use Rattle.yarn.proofs.Moved.{Grown, undos_grown, carried_shrunk}
 use Rattle.yarn.proofs.Noted.{noted_within}
 use Rattle.yarn.proofs.Untouched.{base_merging}
-use Rattle.pyramid.specs.Costs.{StoodWith, operations_at, merges_for}
+use Rattle.pyramid.specs.Costs.{StoodWith, JudgedWith, operations_at, merges_for, unsettled_costs}
+use Rattle.pyramid.specs.Values.{unsettled}
+use Rattle.pyramid.proofs.BackInside.{plain_unfold}
 use Rattle.pyramid.proofs.Judges.{lent_of}
 use Rattle.pyramid.proofs.Making.{within_merging}
+use Rattle.pyramid.proofs.OnSheets.{with_done}
 
 -- ---- how many operations a level has
 
@@ -183,6 +187,13 @@ module _ {s : State} {t h w : List ℕ} (Z : StoodWith s t h w) (k : ℕ) where
   pub unfolded_sheets : (S : Sheets) → returned_by (notes_in D w) n (n - operations_at k s) S
       ≡ sheets_after s (table_of s t) past S (unfold_to k s (table_of s t) past)
   unfolded_sheets S = after S (unfold_to k s (table_of s t) past) refl
+
+pub with_unfold : (k : ℕ) {s : State} {t h w v : List ℕ} {S : Sheets} {a : Answer} → JudgedWith s t h w v S a → a.number ≡ 0
+    → {m : ℕ} → m ≡ operations_at k s → {x : After} → x ≡ unsettled (unfold_by k s t h v)
+    → {Z : Sheets} → returned_by (notes_in s.darts v) s.operations (s.operations - m) S ≡ Z → costed x Z ≡ unsettled_costs (unfold_with k s t h w S)
+unfolding unfold_by unfold_with
+with_unfold k {S = S} J fine at e back =
+    with_done (unfold_to k) J fine (plain_unfold _ _ _ _) e (sym back ∙ rw at (unfolded_sheets (J.stood fine) k S))
 
 pub undo_with_lem : {k : ℕ} (s : State) (t h w : List ℕ) (S : Sheets) → k ≡ pick (eqb s.levels 0) 1 (s.levels - 1) → unfold_with k s t h w S ≡ undo_with s t h w S
 unfolding unfold_with undo_with on_sheets

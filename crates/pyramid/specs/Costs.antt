@@ -6,30 +6,26 @@
 --   StoodWith s t h w     == the call was judged and done: w holds the map, its forest of vertices judges contractions, its roots are the records' places, and
 --                            what each operation merges is noted
 --   JudgedWith s t h w v S a == a judges the state s and what is lent, the sheets S too; v is the work area then
---   MadeBy s es t h w u g v m == the contractions es are made, or refused, beside the sheets: m is the outcome and how many operations there are then
 --   Righted s t h S       == the sheets are long enough, and given by an accepted start and these operations
 --   contracts_with es s t h w S == what a kernel of contractions leaves once it is judged, but for the numbers
---   Begun D v f x o       == what a start on a base of v vertices and f faces hands back where x is the first place whose record is not fit, D where there is none
 --   operations_at k s      == how many operations there are at level k of a state; as many as now where k is not below the top
 use Rattle.std.specs.Prelude.{List, reverse, ◌≢◌, ◌≡◌, ℕ, ◌-◌, ◌/◌, ◌≤◌, ◌<◌, T, eqb, leb, get_or, length}
 use Rattle.std.specs.Prelude.{if◌then◌else◌}
-use Rattle.darts.specs.Answers.{Answer, done, unfit_record}
+use Rattle.darts.specs.Answers.{Answer}
 use Rattle.darts.specs.Operation.{contraction}
-use Rattle.darts.specs.State.{State, zeros, reduce}
-use Rattle.darts.specs.Calls.{table_of, past_of, cleared, work_after, reduce_by}
-use Rattle.area.specs.Area.{Room}
+use Rattle.darts.specs.State.{State, reduce}
+use Rattle.darts.specs.Calls.{table_of, past_of, work_after, reduce_by}
 use Rattle.operations.specs.Trees.{rooted}
 use Rattle.engine.specs.Held.{Beyond}
 use Rattle.sheets.specs.declared.Zone.{Zone}
-use Rattle.sheets.specs.Sheets.{Sheets, Merge, merged_by}
-use Rattle.sheets.specs.Notes.{notes_in, Noted, Fits}
+use Rattle.sheets.specs.Sheets.{Sheets, Merge}
+use Rattle.sheets.specs.Notes.{notes_in}
 use Rattle.yarn.specs.Places.{zone_of, merges}
 use Rattle.yarn.specs.Given.{given}
 use Rattle.yarn.specs.Calls.{Costed, costed, base_of, judged, sheets_after}
-use Rattle.pyramid.specs.declared.Made.{Made}
 use Rattle.pyramid.specs.declared.Outcome.{Outcome}
 use Rattle.pyramid.specs.Steps.{Stood}
-use Rattle.pyramid.specs.Values.{base_with, left, unsettled, Hands}
+use Rattle.pyramid.specs.Values.{left, unsettled}
 
 abbrev pub merges_for : State → List ℕ → List ℕ → ℕ → Merge
 merges_for s t h = merges s.darts (base_of s (table_of s t) (past_of s h)) (reverse (past_of s h))
@@ -54,16 +50,6 @@ pub record JudgedWith (s : State) (t h w v : List ℕ) (S : Sheets) (a : Answer)
   pub beyond : a.number ≡ 0 → Beyond s.darts w v
   pub stood : a.number ≡ 0 → StoodWith s t h v
 
-pub record MadeBy (s : State) (es t h w u g v : List ℕ) (m : Made) : Type 0 where
-  pub plain : unsettled (left m.outcome u g (cleared s.darts v)) ≡ unsettled (reduce_by contraction es s t h w)
-  pub room : Room s.darts v
-  pub noted : Noted s.darts s.operations m.operations v
-  pub sheets : (S : Sheets) → merged_by (notes_in s.darts v) s.operations (m.operations - s.operations) S
-      ≡ sheets_after s (table_of s t) (past_of s h) S (reduce contraction es s (table_of s t) (past_of s h))
-  pub fits : (S : Sheets) → T (given s.darts (base_of s (table_of s t) (past_of s h)) (reverse (past_of s h)) S)
-      → s.darts ≤ length S.sheet → s.darts / 2 ≤ length S.kept
-      → Fits (notes_in s.darts v) s.operations (m.operations - s.operations) S
-
 pub record Righted (s : State) (t h : List ℕ) (S : Sheets) : Type 0 where
   pub given : T (given s.darts (base_of s (table_of s t) (past_of s h)) (reverse (past_of s h)) S)
   pub sheet : s.darts ≤ length S.sheet
@@ -73,10 +59,6 @@ abbrev pub contracts_with : List ℕ → State → List ℕ → List ℕ → Lis
 contracts_with es s t h w S =
     costed (unsettled (reduce_by contraction es s t h w))
     (sheets_after s (table_of s t) (past_of s h) S (reduce contraction es s (table_of s t) (past_of s h)))
-
-pub record Begun (D v f x : ℕ) (o : Outcome) : Type 0 where
-  pub unfit : x < D → Hands o (unfit_record x) zeros
-  pub fit : D ≤ x → Hands o done (base_with D v f)
 
 unfoldable pub operations_at : ℕ → State → ℕ
 operations_at k s =

@@ -1,10 +1,12 @@
 // What every call on a state that is lent both sheets judges first.
 ghost use Rattle.std.specs.Prelude.{◌≡◌};
 ghost use Rattle.darts.specs.Cases.{answer_of};
+ghost use Rattle.yarn.specs.Calls.{fitting_of};
 ghost use Rattle.pyramid.specs.Costs.{JudgedWith};
 ghost use Rattle.pyramid.specs.Values.{state_of};
 
-use crate::{Answer, State};
+use crate::sizes::fit_with;
+use crate::{Kind, Refusal, State};
 use sheets::Zone;
 use sheets::loops::{all_right, first_unfit};
 use sheets::thin::records;
@@ -19,32 +21,33 @@ impl State {
         work: &mut [u32],
         sheet: &[Zone],
         keeps: &[Zone],
-    ) -> Answer
+    ) -> Result<(), Refusal>
         ensures { JudgedWith (state_of self) table.now history.now work.old work.new
             (record { sheet = sheet.now; kept = keeps.now }) (answer_of result) }
     {
+        fit_with(
+            self.darts,
+            table.len(),
+            history.len(),
+            work.len(),
+            records(sheet),
+            records(keeps),
+        )?;
         if self.operations == 0 {
             return self.judged_base(table, history, work, sheet, keeps);
         }
-        let k = records(sheet);
-        let l = records(keeps);
-        let first = self.check_with(table, history, work, k, l);
-        if first.number() != 0 {
-            return first;
+        self.check_with(table, history, work)?;
+        let d = self.darts as usize;
+        let n = self.operations as usize;
+        if all_right(work, d, n, sheet, keeps) {
+            self.accept(table, history, work);
+            return Ok(());
         }
-        if all_right(
-            work,
-            self.darts as usize,
-            self.operations as usize,
-            sheet,
-            keeps,
-        ) {
-            return self.accept(table, history, work);
-        }
-        self.refuse(work)
+        Err(self.strange(work))
     }
 
-    // The same at a base: what the plain call judges, and then the record at each place that is its own label. Nothing was merged yet, so no links are needed.
+    // The same at a base, once slices and sheets are long enough: what the plain call judges, and then the record at each place that is its own label.
+    // Nothing was merged yet, so no links are needed.
     pub(crate) fn judged_base(
         self,
         table: &[u32],
@@ -52,21 +55,16 @@ impl State {
         work: &mut [u32],
         sheet: &[Zone],
         keeps: &[Zone],
-    ) -> Answer
-        requires { self.operations ≡ 0 }
+    ) -> Result<(), Refusal>
+        requires base { self.operations ≡ 0 }
+        requires fits { (fitting_of self.darts table.now history.now work.old (record { sheet = sheet.now; kept = keeps.now })).number ≡ 0 }
         ensures { JudgedWith (state_of self) table.now history.now work.old work.new
             (record { sheet = sheet.now; kept = keeps.now }) (answer_of result) }
     {
-        let k = records(sheet);
-        let l = records(keeps);
-        let first = self.check_plain(table, history, work, k, l);
-        if first.number() != 0 {
-            return first;
+        self.judged(Some(Kind::Contract), table, history, work)?;
+        match first_unfit(work, self.darts as usize, sheet) {
+            None => Ok(()),
+            Some(_) => Err(self.strange(work)),
         }
-        let d = self.darts as usize;
-        if first_unfit(work, d, sheet) == d {
-            return Answer::Done(0);
-        }
-        self.refuse(work)
     }
 }

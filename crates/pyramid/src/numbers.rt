@@ -1,24 +1,35 @@
 // One level more, one level less: the state's own numbers. Those of vertices and faces are put right once the call's work is done.
 ghost use Rattle.std.specs.Prelude.{◌≡◌, ◌-◌, ◌≤◌, ◌<◌, eqb};
 ghost use Rattle.permutations.specs.Choice.{pick};
+ghost use Rattle.darts.specs.Answers.{done as done_of};
+ghost use Rattle.darts.specs.Cases.{refusal_of};
 ghost use Rattle.darts.specs.Levels.{end_below};
-ghost use Rattle.darts.specs.Cases.{answer_of};
 ghost use Rattle.pyramid.specs.Steps.{Raised, Sunk};
 ghost use Rattle.pyramid.specs.Values.{state_of, Hands};
 
-use crate::{Answer, Outcome, State};
-
-// The state as it was given, with an answer.
-pub(crate) fn kept(state: State, answer: Answer) -> Outcome
-    ensures { Hands result (answer_of answer) (state_of state) }
-{
-    Outcome {
-        state: state,
-        answer: answer,
-    }
-}
+use crate::{Outcome, Refusal, State};
 
 impl State {
+    // The state that a call leaves, done.
+    pub fn done(self) -> Outcome
+        ensures { Hands result done_of (state_of self) }
+    {
+        Outcome {
+            state: self,
+            answer: Ok(()),
+        }
+    }
+
+    // The state as it was given, and why the call is refused.
+    pub fn refused(self, refusal: Refusal) -> Outcome
+        ensures { Hands result (refusal_of refusal) (state_of self) }
+    {
+        Outcome {
+            state: self,
+            answer: Err(refusal),
+        }
+    }
+
     // One level more, which ends after so many operations.
     pub(crate) fn raised(self, operations: u32) -> State
         requires { self.levels < 64 }
@@ -28,12 +39,10 @@ impl State {
         let mut ends = self.ends;
         ends[at] = operations;
         State {
-            darts: self.darts,
-            operations: operations,
+            operations,
             levels: self.levels + 1,
-            vertices: self.vertices,
-            faces: self.faces,
-            ends: ends,
+            ends,
+            ..self
         }
     }
 
@@ -50,7 +59,8 @@ impl State {
         self.ends[at]
     }
 
-    // The level below; at the base, where there is none, a level above the top.
+    // The level below; at the base, where there is none, a level above the top, which unfold refuses with the answer that undo gives there: an Option would only
+    // be turned into it.
     pub(crate) fn level_below(self) -> u32
         ensures { result ≡ pick (eqb self.levels 0) 1 (self.levels - 1) }
     {
@@ -70,12 +80,10 @@ impl State {
         let mut ends = self.ends;
         ends[at] = 0;
         State {
-            darts: self.darts,
             operations: below,
             levels: self.levels - 1,
-            vertices: self.vertices,
-            faces: self.faces,
-            ends: ends,
+            ends,
+            ..self
         }
     }
 }

@@ -1,4 +1,5 @@
-// The numbers of vertices and faces, put right once a call's work is done.
+// The numbers of vertices and faces, put right once a call's work is done. Each call judges, works and settles, three lines: one function of the three over a
+// closure would take every slice and hand it on, and is no plainer.
 ghost use Rattle.std.specs.Prelude.{◌≡◌};
 ghost use Rattle.pyramid.specs.Settling.{Settles, Settled};
 ghost use Rattle.pyramid.specs.Values.{state_of, figures_with};
@@ -11,25 +12,20 @@ impl State {
     fn storing(self, vertices: u32, faces: u32) -> State
         ensures { state_of result ≡ figures_with (state_of self) vertices faces }
     {
-        let ends = self.ends;
         State {
-            darts: self.darts,
-            operations: self.operations,
-            levels: self.levels,
-            vertices: vertices,
-            faces: faces,
-            ends: ends,
+            vertices,
+            faces,
+            ..self
         }
     }
 
-    // What a call on this state hands back. Each contraction that it did took one vertex away and each removal one face; what it undid gave them back. A refused call
-    // did none.
+    // What a call on this state hands back. Each contraction that it did took one vertex away and each removal one face; what it undid gave them back.
+    // A refused call did none.
     pub fn settle(self, outcome: Outcome, history: &[u32]) -> Outcome
         requires { Settles (state_of self) outcome.state.operations history.now }
         ensures { Settled (state_of self) outcome history.now result }
     {
-        let answer = outcome.answer;
-        let state = outcome.state;
+        let Outcome { state, answer } = outcome;
         let n = self.operations as usize;
         let m = state.operations as usize;
         if n <= m {
@@ -39,7 +35,7 @@ impl State {
             let f = self.faces - r as u32;
             return Outcome {
                 state: state.storing(v, f),
-                answer: answer,
+                answer,
             };
         }
         let c = contractions(history, m, n);
@@ -48,7 +44,7 @@ impl State {
         let f = self.faces + r as u32;
         Outcome {
             state: state.storing(v, f),
-            answer: answer,
+            answer,
         }
     }
 }

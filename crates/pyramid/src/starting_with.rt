@@ -3,9 +3,11 @@ ghost use Rattle.std.specs.Prelude.{◌≡◌};
 ghost use Rattle.yarn.specs.Calls.{start_with};
 ghost use Rattle.pyramid.specs.Costs.{costs};
 
-use crate::Outcome;
-use crate::checking::{begin_with, finish};
-use crate::starting::unbased;
+use crate::checking::begin_with;
+use crate::sizes::fit_with;
+use crate::starting::{based, unbased};
+use crate::{Outcome, Refusal};
+use area::clear::clear;
 use sheets::Zone;
 use sheets::loops::first_unfit;
 use sheets::thin::records;
@@ -22,13 +24,25 @@ pub fn start_with(
     ensures { costs result table.new history.new work.new sheet.new keeps.new
         ≡ start_with darts table.old history.old work.old (record { sheet = sheet.old; kept = keeps.old }) }
 {
-    let k = records(sheet);
-    let l = records(keeps);
-    let first = begin_with(darts, table, history.len(), work, k, l);
-    let answer = first.answer;
-    if answer.number() != 0 {
-        return unbased(answer);
+    if let Err(refusal) = fit_with(
+        darts,
+        table.len(),
+        history.len(),
+        work.len(),
+        records(sheet),
+        records(keeps),
+    ) {
+        return unbased(refusal);
     }
-    let x = first_unfit(work, darts as usize, sheet);
-    finish(darts, first.vertices as u32, first.faces as u32, x, work)
+    match begin_with(darts, table, work) {
+        Ok(base) => {
+            let unfit = first_unfit(work, darts as usize, sheet);
+            clear(work, darts as usize);
+            match unfit {
+                Some(x) => unbased(Refusal::UnfitRecord(x)),
+                None => based(darts, base.vertices as u32, base.faces as u32),
+            }
+        }
+        Err(refusal) => unbased(refusal),
+    }
 }

@@ -4,9 +4,7 @@ ghost use Rattle.darts.specs.Calls.{sweep_by};
 ghost use Rattle.pyramid.specs.Steps.{Stood};
 ghost use Rattle.pyramid.specs.Values.{state_of, left, unsettled};
 
-use crate::numbers::kept;
-use crate::{Answer, Outcome, State};
-use area::clear::clear;
+use crate::{Outcome, State};
 use engine::sweep::sweep;
 
 impl State {
@@ -16,15 +14,8 @@ impl State {
         ensures { unsettled (left result table.new history.new work.new)
             ≡ unsettled (sweep_by (state_of self) table.old history.old work.old) }
     {
-        let d = self.darts as usize;
-        if 64 <= self.levels {
-            clear(work, d);
-            return kept(self, Answer::TooManyLevels);
-        }
-        let ran = sweep(work, d, self.operations as usize);
-        let o = self.level(ran, table, history, work);
-        clear(work, d);
-        o
+        let m = sweep(work, self.darts as usize, self.operations as usize);
+        self.level_cleared(Ok(m), table, history, work)
     }
 
     // One level more: each empty loop that is no whole piece removed, in one pass by rising edge.
@@ -32,9 +23,8 @@ impl State {
         ensures { left result table.new history.new work.new
             ≡ sweep_by (state_of self) table.old history.old work.old }
     {
-        let judged = self.judged(2, table, history, work);
-        if judged.number() != 0 {
-            return kept(self, judged);
+        if let Err(refusal) = self.judged(None, table, history, work) {
+            return self.refused(refusal);
         }
         let o = self.sweep_judged(table, history, work);
         self.settle(o, history)

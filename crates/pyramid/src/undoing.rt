@@ -4,8 +4,7 @@ ghost use Rattle.darts.specs.Calls.{undo_by, unfold_by};
 ghost use Rattle.pyramid.specs.Steps.{Stood, Stacked, Lowered, Unfolded};
 ghost use Rattle.pyramid.specs.Values.{state_of, left, unsettled};
 
-use crate::numbers::kept;
-use crate::{Answer, Outcome, State};
+use crate::{Outcome, Refusal, State};
 use area::clear::clear;
 use engine::store::store;
 use engine::undo::take_back;
@@ -30,10 +29,8 @@ impl State {
         ensures { Unfolded level (state_of self) (state_of result) work.old work.new }
     {
         let mut s = self;
-        let mut left = self.levels;
-        while level < left {
+        while level < s.levels {
             s = s.lower(work);
-            left -= 1;
         }
         s
     }
@@ -54,12 +51,12 @@ impl State {
         let top = self.levels;
         if top < level {
             clear(work, d);
-            return kept(self, Answer::NoLevel(top as usize));
+            return self.refused(Refusal::NoLevel(top as usize));
         }
         let s = self.unfolded(level, work);
         store(work, d, s.operations as usize, table, history);
         clear(work, d);
-        kept(s, Answer::Done(0))
+        s.done()
     }
 
     // Back to a level: as many undos.
@@ -73,9 +70,8 @@ impl State {
         ensures { left result table.new history.new work.new
             ≡ unfold_by level (state_of self) table.old history.old work.old }
     {
-        let judged = self.judged(2, table, history, work);
-        if judged.number() != 0 {
-            return kept(self, judged);
+        if let Err(refusal) = self.judged(None, table, history, work) {
+            return self.refused(refusal);
         }
         let o = self.unfold_judged(level, table, history, work);
         self.settle(o, history)

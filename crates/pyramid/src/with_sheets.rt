@@ -1,13 +1,18 @@
 // The calls that are lent both sheets: the zones' records, and the records that contractions kept. Each goes as the plain call does, and the sheets are
 // written once nothing can be refused any more.
 ghost use Rattle.std.specs.Prelude.{◌≡◌};
+ghost use Rattle.darts.specs.Calls.{reduce_by};
+ghost use Rattle.darts.specs.Kinds.{kind_is};
+ghost use Rattle.darts.specs.Operation.{removal};
 ghost use Rattle.yarn.specs.Calls.{reduce_with, sweep_with, undo_with, unfold_with};
 ghost use Rattle.pyramid.specs.Costs.{StoodWith, Righted, costs, costs_left, contracts_with};
-ghost use Rattle.pyramid.specs.Values.{state_of, kind_of};
+ghost use Rattle.pyramid.specs.Steps.{Stood};
+ghost use Rattle.pyramid.specs.Values.{state_of, left, unsettled};
 
-use crate::numbers::kept;
 use crate::{Kind, Outcome, State};
 use area::clear::clear;
+use noting::run::run_noted;
+use operations::cycles::label;
 use sheets::Zone;
 use sheets::loops::{merge_all, put_all_back};
 
@@ -30,10 +35,27 @@ impl State {
     {
         let d = self.darts as usize;
         let n = self.operations as usize;
-        let made = self.contract_stood(kernel, table, history, work);
-        merge_all(work, d, n, made.operations, sheet, keeps);
+        let ran = run_noted(work, d, n, kernel);
+        let o = self.level(ran, table, history, work);
+        merge_all(work, d, n, o.state.operations as usize, sheet, keeps);
         clear(work, d);
-        made.outcome
+        o
+    }
+
+    // A kernel of removals once it is judged, which leaves both sheets. The judging leaves a forest of vertices: one of faces is made on the map as it stands.
+    pub(crate) fn remove_stood(
+        self,
+        kernel: &[u32],
+        table: &mut [u32],
+        history: &mut [u32],
+        work: &mut [u32],
+    ) -> Outcome
+        requires { Stood (state_of self) 1 table.old history.old work.old }
+        ensures { unsettled (left result table.new history.new work.new)
+            ≡ unsettled (reduce_by removal kernel.now (state_of self) table.old history.old work.old) }
+    {
+        label(work, self.darts as usize, Kind::Remove);
+        self.reduce_judged(Kind::Remove, kernel, table, history, work)
     }
 
     // Reduce by a kernel.
@@ -48,23 +70,17 @@ impl State {
         keeps: &mut [Zone],
     ) -> Outcome
         ensures { costs result table.new history.new work.new sheet.new keeps.new
-            ≡ reduce_with (kind_of kind) kernel.now (state_of self) table.old history.old work.old
+            ≡ reduce_with (kind_is kind) kernel.now (state_of self) table.old history.old work.old
             (record { sheet = sheet.old; kept = keeps.old }) }
     {
-        let judged = self.judged_with(table, history, work, sheet, keeps);
-        if judged.number() != 0 {
-            return kept(self, judged);
+        if let Err(refusal) = self.judged_with(table, history, work, sheet, keeps) {
+            return self.refused(refusal);
         }
-        match kind {
-            Kind::Contract => {
-                let o = self.contract_with(kernel, table, history, work, sheet, keeps);
-                self.settle(o, history)
-            }
-            Kind::Remove => {
-                let o = self.remove_stood(kernel, table, history, work);
-                self.settle(o, history)
-            }
-        }
+        let o = match kind {
+            Kind::Contract => self.contract_with(kernel, table, history, work, sheet, keeps),
+            Kind::Remove => self.remove_stood(kernel, table, history, work),
+        };
+        self.settle(o, history)
     }
 
     // The sweep: removals, which leave both sheets.
@@ -80,9 +96,8 @@ impl State {
             ≡ sweep_with (state_of self) table.old history.old work.old
             (record { sheet = sheet.old; kept = keeps.old }) }
     {
-        let judged = self.judged_with(table, history, work, sheet, keeps);
-        if judged.number() != 0 {
-            return kept(self, judged);
+        if let Err(refusal) = self.judged_with(table, history, work, sheet, keeps) {
+            return self.refused(refusal);
         }
         let o = self.sweep_judged(table, history, work);
         self.settle(o, history)
@@ -102,9 +117,8 @@ impl State {
             ≡ unfold_with level (state_of self) table.old history.old work.old
             (record { sheet = sheet.old; kept = keeps.old }) }
     {
-        let judged = self.judged_with(table, history, work, sheet, keeps);
-        if judged.number() != 0 {
-            return kept(self, judged);
+        if let Err(refusal) = self.judged_with(table, history, work, sheet, keeps) {
+            return self.refused(refusal);
         }
         let d = self.darts as usize;
         let n = self.operations as usize;

@@ -2,18 +2,17 @@
 --   lines_at L D b at       == the lines after `levels=L`
 --   Holds s b F p z w       == z found kernels and numbers, of the figures of s; the pairs begin at the place p, and the work area w has the table, and the
 --                             history where it has room
---   BodyRead z b D F w w' r == r tells what z found, or its fault; w' is the work area w with it
-use Rattle.std.specs.Prelude.{◌≡◌, List, map, ℕ, ◌/◌, ◌≤◌}
-use Rattle.darts.specs.Cases.{answer_of}
-use Rattle.darts.specs.declared.Answer.{Answer}
+--   BodyRead z b D F w w' r == r tells what z found, with the place where the pairs begin, or its fault; w' is the work area w with it
+use Rattle.std.specs.Prelude.{◌≡◌, List, map, ℕ, ◌/◌, ◌≤◌, Result, IfOk, IfErr}
+use Rattle.darts.specs.Cases.{refusal_of}
+use Rattle.darts.specs.declared.Refusal.{Refusal}
 use Rattle.darts.specs.Scan.{Scan, found, fault, after}
 use Rattle.darts.specs.Read.{KernelLine, Body, kernels_at, pairs_at, end_at, from_flag, file_state, file_history}
 use Rattle.darts.specs.State.{State, counted}
 use Rattle.area.specs.Area.{table_in}
-use Rattle.area.specs.Shape.{history_in}
+use Rattle.area.specs.Shape.{state_with, history_in}
+use Rattle.area.specs.declared.Figures.{Figures}
 use Rattle.engine.specs.Held.{Beyond}
-use Rattle.file_lines.specs.declared.scan.Scanned.TheVariants.{Found, Fault}
-use Rattle.reader.specs.declared.reading.Parsed.{Parsed}
 
 abbrev pub body_of : List KernelLine → List ℕ → Body
 body_of ks xs = record { kernels = ks; numbers = xs }
@@ -32,8 +31,7 @@ pub record Holds (s : State) (b : List ℕ) (F p : ℕ) (z : Scan Body) (w : Lis
   pub table : table_in s.darts w ≡ map (from_flag F s.darts) numbers
   pub history : s.operations ≤ s.darts / 2 → history_in s.darts s.operations w ≡ file_history kernels
 
-pub record BodyRead (z : Scan Body) (b : List ℕ) (D F : ℕ) (w w' : List ℕ) (r : Parsed) : Type 0 where
-  pub wrong : {a : Answer} → r.read ≡ Fault a → z ≡ fault (answer_of a)
-  pub right : {n p : ℕ} → r.read ≡ Found n p
-      → Holds (record { darts = D; operations = n; levels = r.levels; ends = r.ends; vertices = 0; faces = 0 }) b F p z w'
+pub record BodyRead (z : Scan Body) (b : List ℕ) (D F : ℕ) (w w' : List ℕ) (r : Result (Figures × ℕ) Refusal) : Type 0 where
+  pub wrong : IfErr r (λ a. z ≡ fault (refusal_of a))
+  pub right : IfOk r (λ s. (s.0.darts ≡ D) × Holds (state_with s.0) b F s.1 z w')
   pub beyond : Beyond D w w'

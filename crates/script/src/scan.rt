@@ -1,161 +1,68 @@
-// A line of the script: a word, its numbers or its records, and for `read` the bytes after it.
-ghost use Rattle.std.specs.Prelude.{◌≤◌, [], length};
-ghost use Rattle.script.specs.Scanned.{Scanned};
+// A line of the script: a command, its numbers or its records, and for `read` the bytes after it.
+ghost use Rattle.std.specs.Prelude.{◌≡◌, ◌+◌, ◌<◌, ◌≤◌, IfOk, IfSome, length};
 
-use crate::numbers::next_number;
-use crate::records::next_record;
-use crate::sizes::size;
-use crate::words::{KEPT, READ, SHEET, Word, command, takes};
+use crate::laying::lay;
+use crate::words::{Command, Entry, Words, Wrong, split_once};
+use sheets::Zone;
 
-// The first numbers of one line: those of a kernel, or of a call. What a line puts into a room is read from the script.
+// The first numbers of one line: those of a kernel, or of a call. What a line puts into a room is read from its words.
 pub type NumbersRoom = [u32; 32772];
 
-// How many numbers and records a line has, and the place after its line feed; 0 where it leaves the form.
-#[derive(Drop)]
-pub struct Listed {
-    pub count: usize,
-    pub next: usize,
-}
-
-// A command by its number, 0 for an error line; how many numbers and records it has; where they start, or of `read` the bytes of its file,
-// and how many bytes those are; and the place of the next line.
+// A command; how many numbers and records it has, and their words; the bytes of the file of `read`; and the script after the line.
 #[derive(Clone, Copy)]
-pub struct Line {
-    pub command: u32,
+pub struct Line<'a> {
+    pub command: Command,
     pub count: usize,
-    pub from: usize,
-    pub size: usize,
-    pub next: usize,
+    pub words: Words<'a>,
+    pub file: &'a [u8],
+    pub rest: &'a [u8],
 }
 
-// The numbers up to the line feed, each after one space. As many as fit are put into their room; no line has more of them than a place
-// and the whole of the work room.
-fn list(script: &[u8], from: usize, numbers: &mut NumbersRoom) -> Listed
-    requires { from ≤ length script.now }
-    ensures { (result.count ≤ 262161) × (result.next ≤ length script.now) }
-{
-    let mut at = from;
-    let mut count = 0;
-    while at < script.len() {
-        if script[at] == 10 {
-            return Listed {
-                count: count,
-                next: at + 1,
-            };
-        }
-        if count == 262161 {
-            break;
-        }
-        let found = next_number(script, at);
-        if found.next <= at {
-            break;
-        }
-        if count < 32772 {
-            numbers[count] = found.value;
-        }
-        count += 1;
-        at = found.next;
-    }
-    Listed { count: 0, next: 0 }
+// Whether each word is such an entry.
+fn formed<T: Entry>(mut words: Words) -> bool {
+    words.all(|word| T::of(word).is_some())
 }
 
-// A place, and the records up to the line feed, each after one space. No line has more of them than `list` takes numbers.
-fn record_list(script: &[u8], from: usize) -> Listed
-    requires { from ≤ length script.now }
-    ensures { (result.count ≤ 262161) × (result.next ≤ length script.now) }
-{
-    let place = next_number(script, from);
-    if place.next <= from {
-        return Listed { count: 0, next: 0 };
-    }
-    let mut at = place.next;
-    let mut count = 1;
-    while at < script.len() {
-        if script[at] == 10 {
-            return Listed {
-                count: count,
-                next: at + 1,
-            };
+// Whether the words after a command are numbers, or a place and records. Of numbers, as many as fit are put into their room.
+fn take(command: Command, mut words: Words, numbers: &mut NumbersRoom) -> bool {
+    match command {
+        Command::Sheet | Command::Kept => {
+            words.next().and_then(u32::of).is_some() && formed::<Zone>(words)
         }
-        if count == 262161 {
-            break;
-        }
-        let record = next_record(script, at);
-        if record.next <= at {
-            break;
-        }
-        count += 1;
-        at = record.next;
-    }
-    Listed { count: 0, next: 0 }
-}
-
-// What stands after a word.
-fn rest(script: &[u8], word: Word, numbers: &mut NumbersRoom) -> Listed
-    requires { word.next ≤ length script.now }
-    ensures { (result.count ≤ 262161) × (result.next ≤ length script.now) }
-{
-    if word.number == SHEET || word.number == KEPT {
-        return record_list(script, word.next);
-    }
-    list(script, word.next, numbers)
-}
-
-// An error line.
-fn no_line() -> Line
-    ensures { Scanned [] result }
-{
-    Line {
-        command: 0,
-        count: 0,
-        from: 0,
-        size: 0,
-        next: 0,
+        _ => lay(numbers, words).is_some() && formed::<u32>(words),
     }
 }
 
-// The line `read N`: "the N bytes that follow this line's line feed, and after them one more line feed".
-fn file_line(script: &[u8], from: usize, size: usize) -> Line
-    requires { from ≤ length script.now }
-    ensures { Scanned script.now result }
+// The bytes of the file of `read N`, "the N bytes that follow this line's line feed, and after them one more line feed", and the script after them.
+fn file(script: &[u8], size: usize) -> Option<(&[u8], &[u8])>
+    ensures { IfSome result (λ r. (length r.0.now ≡ size) × (size + length r.1.now + 1 ≡ length script.now)) }
 {
-    if script.len() - from <= size {
-        return no_line();
-    }
-    let end = from + size;
-    if script[end] != 10 {
-        return no_line();
-    }
-    Line {
-        command: READ,
-        count: 1,
-        from: from,
-        size: size,
-        next: end + 1,
-    }
+    let (file, rest) = script.split_at_checked(size)?;
+    Some((file, rest.strip_prefix(b"\n")?))
 }
 
-// The line that starts at a place. Its first numbers are put at the start of their room.
-pub fn next_line(script: &[u8], at: usize, numbers: &mut NumbersRoom) -> Line
-    requires { at ≤ length script.now }
-    ensures { Scanned script.now result }
+// The script's first line. Its first numbers are put at the start of their room. No line has more of them than a place and the whole of the work room.
+pub fn next_line<'a>(script: &'a [u8], numbers: &mut NumbersRoom) -> Result<Line<'a>, Wrong>
+    ensures count { IfOk result (λ line. line.count ≤ 262161) }
+    ensures rest { IfOk result (λ line. length line.rest.now < length script.now) }
 {
-    let word = command(script, at);
-    let listed = rest(script, word, numbers);
-    if listed.next == 0 {
-        return no_line();
+    let (line, rest) = split_once(script, b'\n').ok_or(Wrong)?;
+    let end = line.iter().position(|b| *b == b' ').unwrap_or(line.len());
+    let command = Command::try_from(&line[..end])?;
+    let words = Words { text: &line[end..] };
+    let count = words.count();
+    if 262161 < count || !take(command, words, numbers) || !command.takes(count) {
+        return Err(Wrong);
     }
-    if !takes(word.number, listed.count) {
-        return no_line();
-    }
-    if word.number == READ {
-        return file_line(script, listed.next, size(numbers[0]));
-    }
-    Line {
-        command: word.number,
-        count: listed.count,
-        from: word.next,
-        size: 0,
-        next: listed.next,
-    }
+    let (file, rest) = match command {
+        Command::Read => file(rest, numbers[0] as usize).ok_or(Wrong)?,
+        _ => (b"".as_slice(), rest),
+    };
+    Ok(Line {
+        command,
+        count,
+        words,
+        file,
+        rest,
+    })
 }

@@ -1,136 +1,238 @@
-// The words of the commands, numbered from 1 in the order in which they stand in the list of `command`.
-ghost use Rattle.std.specs.Prelude.{◌+◌, ◌≤◌, length};
+// The words of a line: its command, and what stands after it.
+ghost use Rattle.script.specs.Words.{word_of, Takes, IsFigure, ReadsNumber, ReadsZone};
+ghost use Rattle.std.specs.Prelude.{◌≡◌, ◌≢◌, ◌↔◌, ◌+◌, ◌++◌, ◌∷◌, ℕ, List, Option, [], Ok, IfOk, IfSome, IsTrue, MatchOption, ◌==◌, drop, length, slice_index};
+ghost use Rattle.std.specs.Iterator.{at_most};
+ghost use Rattle.std.specs.List.{before_first};
 
-pub const LEND: u32 = 1;
+use sheets::Zone;
+use std::num::f64_from_bits_with_nan;
+use std::str;
+use std::str::FromStr;
 
-pub const SHEETS: u32 = 2;
+// "A line that is none of these, or that puts a number outside a room": an error line.
+#[derive(Clone, Copy, Debug, PartialEq, Eq)]
+pub struct Wrong;
 
-pub const TABLE: u32 = 3;
+// The commands.
+#[derive(Clone, Copy, Debug, PartialEq, Eq)]
+pub enum Command {
+    Lend,
+    Sheets,
+    Table,
+    History,
+    Work,
+    Plan,
+    Ends,
+    Fill,
+    State,
+    Stored,
+    Start,
+    Contract,
+    Remove,
+    Sweep,
+    Undo,
+    Unfold,
+    Read,
+    FlatAreas,
+    Flat,
+    Counts,
+    Successor,
+    Write,
+    Show,
+    Bytes,
+    Sheet,
+    Kept,
+    YarnStart,
+    YarnContract,
+    YarnRemove,
+    YarnSweep,
+    YarnUndo,
+    YarnUnfold,
+    Costs,
+}
 
-pub const HISTORY: u32 = 4;
+// The command of a word.
+impl<'a> TryFrom<&'a [u8]> for Command {
+    type Error = Wrong;
 
-pub const WORK: u32 = 5;
+    ghost try_from_gives = { λ word r. IfOk r (λ command. word_of command ≡ word.now) };
 
-pub const PLAN: u32 = 6;
+    fn try_from(word: &'a [u8]) -> Result<Command, Wrong> {
+        match word {
+            b"lend" => Ok(Command::Lend),
+            b"sheets" => Ok(Command::Sheets),
+            b"table" => Ok(Command::Table),
+            b"history" => Ok(Command::History),
+            b"work" => Ok(Command::Work),
+            b"plan" => Ok(Command::Plan),
+            b"ends" => Ok(Command::Ends),
+            b"fill" => Ok(Command::Fill),
+            b"state" => Ok(Command::State),
+            b"stored" => Ok(Command::Stored),
+            b"start" => Ok(Command::Start),
+            b"contract" => Ok(Command::Contract),
+            b"remove" => Ok(Command::Remove),
+            b"sweep" => Ok(Command::Sweep),
+            b"undo" => Ok(Command::Undo),
+            b"unfold" => Ok(Command::Unfold),
+            b"read" => Ok(Command::Read),
+            b"flatareas" => Ok(Command::FlatAreas),
+            b"flat" => Ok(Command::Flat),
+            b"counts" => Ok(Command::Counts),
+            b"successor" => Ok(Command::Successor),
+            b"write" => Ok(Command::Write),
+            b"show" => Ok(Command::Show),
+            b"bytes" => Ok(Command::Bytes),
+            b"sheet" => Ok(Command::Sheet),
+            b"kept" => Ok(Command::Kept),
+            b"yarnstart" => Ok(Command::YarnStart),
+            b"yarncontract" => Ok(Command::YarnContract),
+            b"yarnremove" => Ok(Command::YarnRemove),
+            b"yarnsweep" => Ok(Command::YarnSweep),
+            b"yarnundo" => Ok(Command::YarnUndo),
+            b"yarnunfold" => Ok(Command::YarnUnfold),
+            b"costs" => Ok(Command::Costs),
+            _ => Err(Wrong),
+        }
+    }
+}
 
-pub const ENDS: u32 = 7;
+impl Command {
+    // Whether the command takes so many numbers, or a number and so many records less one. "A kernel has at most 32,772 edges"; there are at most 64 ends.
+    pub fn takes(self, count: usize) -> bool
+        ensures { IsTrue result ↔ Takes self count }
+    {
+        match self {
+            Command::Lend | Command::FlatAreas | Command::Flat | Command::Successor => count == 3,
+            Command::Sheets | Command::Stored => count == 2,
+            Command::Table
+            | Command::History
+            | Command::Work
+            | Command::Plan
+            | Command::Ends
+            | Command::Sheet
+            | Command::Kept => 1 <= count,
+            Command::State => 3 <= count && count <= 67,
+            Command::Contract | Command::Remove | Command::YarnContract | Command::YarnRemove => {
+                count <= 32772
+            }
+            Command::Fill
+            | Command::Start
+            | Command::Unfold
+            | Command::Read
+            | Command::Write
+            | Command::YarnStart
+            | Command::YarnUnfold => count == 1,
+            Command::Sweep
+            | Command::Undo
+            | Command::Counts
+            | Command::Show
+            | Command::Bytes
+            | Command::YarnSweep
+            | Command::YarnUndo
+            | Command::Costs => count == 0,
+        }
+    }
+}
 
-pub const FILL: u32 = 8;
-
-pub const STATE: u32 = 9;
-
-pub const STORED: u32 = 10;
-
-pub const START: u32 = 11;
-
-pub const CONTRACT: u32 = 12;
-
-pub const REMOVE: u32 = 13;
-
-pub const SWEEP: u32 = 14;
-
-pub const UNDO: u32 = 15;
-
-pub const UNFOLD: u32 = 16;
-
-pub const READ: u32 = 17;
-
-pub const FLATAREAS: u32 = 18;
-
-pub const FLAT: u32 = 19;
-
-pub const COUNTS: u32 = 20;
-
-pub const SUCCESSOR: u32 = 21;
-
-pub const WRITE: u32 = 22;
-
-pub const SHOW: u32 = 23;
-
-pub const BYTES: u32 = 24;
-
-pub const SHEET: u32 = 25;
-
-pub const KEPT: u32 = 26;
-
-pub const YARNSTART: u32 = 27;
-
-pub const YARNCONTRACT: u32 = 28;
-
-pub const YARNREMOVE: u32 = 29;
-
-pub const YARNSWEEP: u32 = 30;
-
-pub const YARNUNDO: u32 = 31;
-
-pub const YARNUNFOLD: u32 = 32;
-
-pub const COSTS: u32 = 33;
-
-// A command's number, or 0 for none, and the place after its word.
+// The words that stand after a command, each after one space.
 #[derive(Clone, Copy)]
-pub struct Word {
-    pub number: u32,
-    pub next: usize,
+pub struct Words<'a> {
+    pub text: &'a [u8],
 }
 
-// How many letters the script has from a place on of a word of the list, which a space ends: all of them or none.
-fn letters(script: &[u8], at: usize, words: &[u8; 429], from: usize) -> usize
-    requires { (at ≤ length script.now) × (from ≤ 416) }
-    ensures { at + result ≤ length script.now }
+impl<'a> Iterator for Words<'a> {
+    type Item = &'a [u8];
+
+    ghost next_gives = { λ words r after. MatchOption r (words.text.now ≡ [])
+        (λ word. (word.now ≡ before_first (λ b. b == 32) (drop 1 words.text.now)) × (drop 1 words.text.now ≡ word.now ++ after.text.now)) };
+
+    ghost remaining = { λ words. at_most (length words.text.now) };
+
+    fn next(&mut self) -> Option<&'a [u8]> {
+        let (_, text) = self.text.split_first()?;
+        let end = text.iter().position(|b| *b == b' ').unwrap_or(text.len());
+        let (word, rest) = text.split_at(end);
+        self.text = rest;
+        Some(word)
+    }
+}
+
+// "A number is one or more digits; leading zeros are allowed", its value at most that of its type. The library's text of a number may have a plus too.
+fn decimal<T: FromStr>(word: &[u8]) -> Option<T>
+where
+    T::Err: Drop,
+    ensures plain { IfSome result (λ _. slice_index word.now 0 ≢ 43) }
+    ensures parsed { IfSome result (λ n. T.from_str_gives word.now (Ok n)) }
 {
-    let mut i = 0;
-    while i < 13 {
-        if words[from + i] == 32 {
-            return i;
-        }
-        if script.len() <= at + i {
-            return 0;
-        }
-        if script[at + i] != words[from + i] {
-            return 0;
-        }
-        i += 1;
+    if word.first() == Some(&b'+') {
+        return None;
     }
-    0
+    str::from_utf8(word).ok()?.parse().ok()
 }
 
-// The command whose word stands at a place. In the list each word has thirteen bytes, with spaces after it; a word that begins with another stands
-// before it.
-pub fn command(script: &[u8], at: usize) -> Word
-    requires { at ≤ length script.now }
-    ensures { result.next ≤ length script.now }
+// What stands before the first such byte of a text, and what stands after it.
+pub(crate) fn split_once(text: &[u8], byte: u8) -> Option<(&[u8], &[u8])>
+    ensures lengths { IfSome result (λ r. length r.0.now + length r.1.now + 1 ≡ length text.now) }
+    ensures bytes { IfSome result (λ r. text.now ≡ r.0.now ++ byte ∷ r.1.now) }
 {
-    let words =
-        b"lend         sheets       table        history      work         plan         ends         fill         state        stored       \
-        start        contract     remove       sweep        undo         unfold       read         flatareas    flat         \
-        counts       successor    write        show         bytes        sheet        kept         yarnstart    yarncontract \
-        yarnremove   yarnsweep    yarnundo     yarnunfold   costs        ";
-    for k in 0..33 {
-        let n = letters(script, at, words, 13 * k);
-        if n != 0 {
-            return Word {
-                number: k as u32 + 1,
-                next: at + n,
-            };
-        }
-    }
-    Word {
-        number: 0,
-        next: at,
+    let at = text.iter().position(|b| *b == byte)?;
+    Some((&text[..at], &text[at + 1..]))
+}
+
+// What a line puts into a room: a number, a byte of a plan, a record.
+pub trait Entry: Copy {
+    // Holds of a word and what `of` may answer for it.
+    ghost of_gives: { List ℕ → Option Self → Type 0 };
+
+    // The one that a word is.
+    fn of(word: &[u8]) -> Option<Self>
+        ensures { of_gives word.now result };
+}
+
+impl Entry for u32 {
+    ghost of_gives = { ReadsNumber 32 };
+
+    fn of(word: &[u8]) -> Option<u32> {
+        decimal(word)
     }
 }
 
-// Whether a command takes so many numbers, or a number and so many records less one. "A kernel has at most 32,772 edges"; there are at most 64 ends.
-pub fn takes(number: u32, count: usize) -> bool {
-    match number {
-        LEND | FLATAREAS | FLAT | SUCCESSOR => count == 3,
-        SHEETS | STORED => count == 2,
-        TABLE | HISTORY | WORK | PLAN | ENDS | SHEET | KEPT => 1 <= count,
-        STATE => 3 <= count && count <= 67,
-        CONTRACT | REMOVE | YARNCONTRACT | YARNREMOVE => count <= 32772,
-        FILL | START | UNFOLD | READ | WRITE | YARNSTART | YARNUNFOLD => count == 1,
-        SWEEP | UNDO | COUNTS | SHOW | BYTES | YARNSWEEP | YARNUNDO | COSTS => count == 0,
-        _ => false,
+impl Entry for u8 {
+    ghost of_gives = { ReadsNumber 8 };
+
+    fn of(word: &[u8]) -> Option<u8> {
+        decimal(word)
+    }
+}
+
+// `S:M`, "S its stitches, M its metres as the number of their 64 bits", or `S:-` for not measured.
+impl Entry for Zone {
+    ghost of_gives = { ReadsZone };
+
+    fn of(word: &[u8]) -> Option<Zone> {
+        let (stitches, figure) = split_once(word, b':')?;
+        Some(Zone {
+            stitches: decimal(stitches)?,
+            yarn: yarn(figure)?,
+        })
+    }
+}
+
+// What stands after the colon: "any pattern of a NaN gives a NaN".
+fn yarn(figure: &[u8]) -> Option<Option<f64>>
+    ensures { IfSome result (λ y. IsFigure figure.now y) }
+{
+    if figure == b"-".as_slice() {
+        return Some(None);
+    }
+    Some(Some(f64_from_bits_with_nan(decimal(figure)?)))
+}
+
+// "At first each record is `0:0`": no stitches, and the metres of no bits.
+pub fn no_yarn() -> Zone {
+    Zone {
+        stitches: 0,
+        yarn: Some(0.0),
     }
 }

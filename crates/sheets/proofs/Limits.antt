@@ -16,10 +16,9 @@ use native.Mathlib.Omega.{arith}
 use lib.Dec.{T, eqb, eqb→eq, ltb, leb, leb→le, le→leb, ltb→lt, lt→ltb}
 use lib.IntN.{ℤ, pos, neg_ℤ, pos-ne-negsuc}
 use lib.Ieee as Ieee
-use lib.Ieee.{Float, nan, inf, fin, up, down, below, level}
+use lib.Ieee.{Float, nan, inf, fin, binary64, up, down, below, level}
 use Rattle.permutations.specs.Choice.{eqb_same, and_iff, and_intro, and_left, and_right, or_cases, or_intro}
-use Rattle.sheets.specs.declared.Yarn.{Yarn}
-use Rattle.sheets.specs.declared.Yarn.TheVariants.{Metres, NotMeasured}
+use Rattle.std.specs.Prelude.{Option, Some, None}
 use Rattle.sheets.specs.declared.Zone.{Zone}
 use Rattle.sheets.specs.Records.{metres_fit, yarn_fits, fit_of}
 
@@ -38,9 +37,19 @@ pub record FromTo (top : ℕ) (x : Float) : Type 0 where
   pub from : signed sign (digits * up exponent) ≡ pos parts
   pub to : parts ≤ top * down exponent
 
-abbrev pub YarnFrom : ℕ → Yarn → Type 0
-YarnFrom top (Metres m) = FromTo top m
-YarnFrom top NotMeasured = Unit {0}
+abbrev pub YarnFrom : ℕ → Option Float → Type 0
+YarnFrom top (Some m) = FromTo top m
+YarnFrom top None = Unit {0}
+
+-- ---- the limits as code has them, by their 64 bits
+
+pub zero_literal : Ieee.of_bits binary64 0 ≡ fin false 0 (pos 0)
+unfolding Ieee.of_bits
+zero_literal = refl
+
+pub top_literal : Ieee.of_bits binary64 4681608360884174848 ≡ fin false 3125 (pos 5)
+unfolding Ieee.of_bits
+top_literal = refl
 
 -- ---- the comparisons of plus or minus a with 0 and with t
 
@@ -123,9 +132,9 @@ metres_limits (fin s m e) = (
         let exponent : F.exponent ≡ e = let k = F.number in cc in
         (F.parts, rw (sign, digits, exponent) at F.from, rw exponent at F.to)
 
-yarn_limits : (y : Yarn) → T (yarn_fits y) ↔ YarnFrom 100000 y
-yarn_limits (Metres m) = metres_limits m
-yarn_limits NotMeasured = Iff.rfl
+yarn_limits : (y : Option Float) → T (yarn_fits y) ↔ YarnFrom 100000 y
+yarn_limits (Some m) = metres_limits m
+yarn_limits None = Iff.rfl
 
 -- A RECORD IS FIT EXACTLY WHERE IT HAS "stitches, up to 65,535", AND "metres .. from 0 to 100,000" OR NONE
 pub fit_limits : (z : Zone) → T (fit_of z) ↔ ((z.stitches ≤ 65535) × YarnFrom 100000 z.yarn)

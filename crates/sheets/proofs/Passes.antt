@@ -1,10 +1,9 @@
 -- The passes that write the sheets, over the numbers and lists that a loop has before a turn.
 --   Merging, Returning           == what holds before operation t's turn: what is to come from the start is what is to come from here
---   merging_starts, merging_turn == it holds before the first turn; a turn keeps it
+--   merging_turn                 == a turn keeps it
 --   merging_ready                == what a merge asks holds at its turn
 --   merging_done                 == after the last turn all merges are made
---   returning_starts, returning_turn, returning_done == the same for the records that are put back
---   returning_low                == the lower place of a note is a place of the sheet
+--   returning_turn, returning_done == the same for the records that are put back
 use mathlib.Core.List.{List}
 use mathlib.Core.Path.{◌≡◌, refl, sym, ◌∙◌, ap, subst}
 use Prim.Native.Nat.{ℕ, ◌+◌, ◌-◌, ◌*◌, ◌/◌, ◌%◌, ◌^◌, ◌<◌, ◌≤◌}
@@ -44,9 +43,6 @@ pub record Merging (w : List ℕ) (d n m : ℕ) (s₀ k₀ s k : List Zone) (t :
   pub rest : merged_by (notes_in d w) n (m - n) (both s₀ k₀) ≡ merged_by (notes_in d w) t (m - t) (both s k)
 
 module _ (w : List ℕ) (d n m : ℕ) (s₀ k₀ : List Zone) where
-  pub merging_starts : n ≤ m → Fits (notes_in d w) n (m - n) (both s₀ k₀) → Merging w d n m s₀ k₀ s₀ k₀ n
-  merging_starts h f = record { from = omega arith; to = h; size = refl; room = refl; fits = f; rest = refl }
-
   module _ (s k : List Zone) (t : ℕ) (i : Merging w d n m s₀ k₀ s k t) where
     pub merging_turn : (g : Merge) (s' k' : List Zone) → t < m → notes_in d w t ≡ g → merged g t (both s k) ≡ both s' k' → Merging w d n m s₀ k₀ s' k' (t + 1)
     merging_turn g s' k' h is-merge makes =
@@ -83,9 +79,6 @@ pub record Returning (w : List ℕ) (d m n : ℕ) (s₀ k s : List Zone) (t : �
   pub rest : returned_by (notes_in d w) n (n - m) (both s₀ k) ≡ returned_by (notes_in d w) t (t - m) (both s k)
 
 module _ (w : List ℕ) (d m n : ℕ) (s₀ k : List Zone) where
-  pub returning_starts : m ≤ n → Returning w d m n s₀ k s₀ n
-  returning_starts h = record { from = h; to = omega arith; size = refl; rest = refl }
-
   module _ (s : List Zone) (t : ℕ) (i : Returning w d m n s₀ k s t) where
     pub returning_turn : (g : Merge) (s' : List Zone) → m < t → notes_in d w (t - 1) ≡ g → returned g (t - 1) (both s k) ≡ both s' k → Returning w d m n s₀ k s' (t - 1)
     returning_turn g s' h is-merge makes =
@@ -96,10 +89,6 @@ module _ (w : List ℕ) (d m n : ℕ) (s₀ k : List Zone) where
           size = ap (λ (S : Sheets). length S.sheet) (sym e) ∙ returned_size (notes_in d w (t - 1)) (t - 1) (both s k) ∙ i.size;
           rest = i.rest ∙ back_turn (notes_in d w) t m (both s k) h ∙ ap (λ (S : Sheets). returned_by (notes_in d w) (t - 1) (t - 1 - m) S) e;
         }
-
-    pub returning_low : (v : ℕ) → m < t → Noted d m n w → v ≡ get_or w (3 * d + d / 2 + (t - 1)) 0 → v / 65536 < d
-    returning_low v h noted is-note =
-        subst (λ (u : ℕ). u / 65536 < d) (sym is-note) (noted.lows (t - 1) (omega (arith, h)) (omega (arith, h, i.to)))
 
     pub returning_done : t ≤ m → returned_by (notes_in d w) n (n - m) (both s₀ k) ≡ both s k
     returning_done h = i.rest ∙ back_done (notes_in d w) t m (both s k) h

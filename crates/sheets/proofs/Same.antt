@@ -4,24 +4,19 @@
 --   X-only, X-itself   == the test of X is true of equals alone, and of each X with itself
 --   metres_decide      == same_metres decides equality of floats
 --   same_decides       == same_zone decides equality of records
---   stitches_differ    == records of different stitches are not the same
 --   same_bits          == metres are the same where their patterns are
---   nan_alone          == a float differs from itself where it is the NaN, and there alone
---   nan_first          == metres are the same as the NaN where they are the NaN
---   nan_second         == a number is not the same as the NaN
-use mathlib.Core.Bool.{Bool, true, false, beq}
+--   nans_same          == two NaNs are the same
+--   one_nan            == the NaN and a number are not the same
+use mathlib.Core.Bool.{Bool, true, false, beq, true≢false}
 use mathlib.Core.Logic.{◌↔◌, ◌≢◌}
 use mathlib.Core.Path.{◌≡◌, refl, sym, ◌∙◌, ap, subst}
 use Prim.Native.Nat.{ℕ}
 use lib.Dec.{T, eqb, eqb→eq, eqb_refl}
 use lib.IntN.{ℤ, pos, negsuc}
-use lib.Ieee as Ieee
 use lib.Ieee.{Float, nan, inf, fin, binary64, fits, to_bits, of_bits, is_nan}
 use lib.Ieee.Bits.{of_bits-to_bits}
-use lib.Ieee.Compare.{differs_from_itself, nan_differs}
-use Rattle.permutations.specs.Choice.{T-ext, not_T→false, true→T, and_intro, and_left, and_right}
-use Rattle.sheets.specs.declared.Yarn.{Yarn}
-use Rattle.sheets.specs.declared.Yarn.TheVariants.{Metres, NotMeasured}
+use Rattle.permutations.specs.Choice.{T→true, not_T→false, T-ext, and_intro, and_left, and_right}
+use Rattle.std.specs.Prelude.{Option, Some, None}
 use Rattle.sheets.specs.declared.Zone.{Zone}
 use Rattle.sheets.specs.Records.{same_integer, same_metres, same_yarn, same_zone}
 
@@ -75,17 +70,17 @@ metres_itself nan = tt
 metres_itself (inf s) = sign_itself s
 metres_itself (fin s m e) = and_intro (beq s s) _ (sign_itself s) (and_intro (eqb m m) _ (eqb_refl m) (integer_itself e))
 
-yarn_only : (u v : Yarn) → T (same_yarn u v) → u ≡ v
+yarn_only : (u v : Option Float) → T (same_yarn u v) → u ≡ v
 unfolding same_yarn
-yarn_only (Metres x) (Metres y) t = ap (λ (m : Float). Metres m) (metres_only x y t)
-yarn_only (Metres x) NotMeasured t = absurd t
-yarn_only NotMeasured (Metres y) t = absurd t
-yarn_only NotMeasured NotMeasured t = refl
+yarn_only (Some x) (Some y) t = ap (λ (m : Float). Some m) (metres_only x y t)
+yarn_only (Some x) None t = absurd t
+yarn_only None (Some y) t = absurd t
+yarn_only None None t = refl
 
-yarn_itself : (u : Yarn) → T (same_yarn u u)
+yarn_itself : (u : Option Float) → T (same_yarn u u)
 unfolding same_yarn
-yarn_itself (Metres x) = metres_itself x
-yarn_itself NotMeasured = tt
+yarn_itself (Some x) = metres_itself x
+yarn_itself None = tt
 
 zone_only : (a b : Zone) → T (same_zone a b) → a ≡ b
 unfolding same_zone
@@ -105,9 +100,6 @@ metres_decide = decides same_metres metres_only metres_itself
 pub same_decides : (a b : Zone) → T (same_zone a b) ↔ (a ≡ b)
 same_decides = decides same_zone zone_only zone_itself
 
-pub stitches_differ : (a b : Zone) → a.stitches ≢ b.stitches → same_zone a b ≡ false
-stitches_differ a b h = not_T→false (same_zone a b) (λ t. h (ap (λ (z : Zone). z.stitches) (zone_only a b t)))
-
 -- ---- a float is made back of its pattern, so equal patterns are of equal floats. It holds of the NaN too, at the one pattern that to_bits gives it.
 
 bits_only : (x y : Float) → T (fits binary64 x) → T (fits binary64 y) → T (eqb (to_bits binary64 x) (to_bits binary64 y)) → x ≡ y
@@ -120,31 +112,23 @@ same_bits x y x_Fits y-fits =
     (λ t. subst (λ (z : Float). T (eqb (to_bits binary64 x) (to_bits binary64 z))) (metres_only x y t) (eqb_refl (to_bits binary64 x)))
     (λ t. (metres_decide x y).1 (bits_only x y x_Fits y-fits t))
 
--- ---- the NaN: `x != x` finds it
+-- ---- the NaN
 
-abbrev IsNan : Float → Type 0
-IsNan x = T (is_nan x)
-
-pub nan_alone : (x : Float) → Ieee.ne x x ≡ is_nan x
+only_nan : (x : Float) → is_nan x ≡ true → x ≡ nan
 unfolding is_nan
-nan_alone nan = nan_differs
-nan_alone (inf s) = not_T→false _ (λ t. subst IsNan (sym (differs_from_itself (inf s) t)) tt)
-nan_alone (fin s m e) = not_T→false _ (λ t. subst IsNan (sym (differs_from_itself (fin s m e) t)) tt)
+only_nan nan e = refl
+only_nan (inf s) e = cc
+only_nan (fin s m e) f = cc
 
-nan_with : (y : Float) → same_metres nan y ≡ is_nan y
-unfolding same_metres is_nan
-nan_with nan = refl
-nan_with (inf s) = refl
-nan_with (fin s m e) = refl
+-- p and q say whether x and y are the NaN
+module _ (x y : Float) where
+  pub nans_same : (p q : Bool) → p ≡ is_nan x → q ≡ is_nan y → beq p q ≡ true → p ≡ true → p ≡ same_metres x y
+  nans_same true true d e b t = sym (T→true _ ((metres_decide x y).1 (only_nan x (sym d) ∙ sym (only_nan y (sym e)))))
+  nans_same true false d e b t = cc
+  nans_same false q d e b t = cc
 
-with_nan : (x : Float) → same_metres x nan ≡ is_nan x
-unfolding same_metres is_nan
-with_nan nan = refl
-with_nan (inf s) = refl
-with_nan (fin s m e) = refl
-
-pub nan_first : (x y : Float) → Ieee.ne x x ≡ true → same_metres x y ≡ Ieee.ne y y
-nan_first x y e = ap (λ (z : Float). same_metres z y) (differs_from_itself x (true→T e)) ∙ nan_with y ∙ sym (nan_alone y)
-
-pub nan_second : (x y : Float) → Ieee.ne x x ≡ false → Ieee.ne y y ≡ true → same_metres x y ≡ false
-nan_second x y d e = ap (λ (z : Float). same_metres x z) (differs_from_itself y (true→T e)) ∙ with_nan x ∙ sym (nan_alone x) ∙ d
+  pub one_nan : (p q : Bool) → p ≡ is_nan x → q ≡ is_nan y → beq p q ≡ false → beq p q ≡ same_metres x y
+  one_nan p q d e b = b ∙ sym (not_T→false _ (λ t. differ (d ∙ ap is_nan (metres_only x y t) ∙ sym e)))
+    where
+      differ : p ≢ q
+      differ k = true≢false (sym (T→true _ (sign_itself p)) ∙ ap (λ (u : Bool). beq p u) k ∙ b)

@@ -1,21 +1,18 @@
 -- What one turn of each loop over the sheets does, on lists alone. A loop keeps that what is looked for from the start is what is looked for from here.
 --   both s k                   == the two sheets s and k
 --   at_any                     == inside a sheet it does not matter which record stands past its end
---   on_sheet, on_kept          == the record at a place of the sheet, and at one of the kept sheet
---   base_sound, left_sound     == what makes a base's record sound, and one that an operation left
---   link_within, link_leads    == a link that is looked at is at most n, and leads to a place of the sheet
---   right_unseen, right_seen   == a place that is not looked at, and one whose record is right, leave the rest to be looked at
---   right_not                  == a record that is not right says no
---   right_all                  == past the last place all are right
---   unfit_other, unfit_passed  == a place that is not its own label, and one whose record is fit, leave the rest to be looked at
---   unfit_here, unfit_none     == a place whose record is not fit is the first; past the last place there is none
+--   right_at D w S i           == place i is not looked at, or its record is sound
+--   right_unseen               == so the definition says it
+--   right_listed               == right_in is that of each place in turn
+--   unfit_at D w S x           == x is its own label and its record is not fit
+--   unfit_found                == what unfit_in is, where such a place is the first one below D, and where there is none
 --   note_none, note_into       == what a note of 0 tells, and what any other
 --   merge_turn, fits_turn      == the merges from operation t on: the one of t, then those after it
 --   merges_done                == past the last operation none is left
 --   back_turn, back_done       == the same for the records that are put back, the last one first
-use mathlib.Core.Bool.{Bool, true, false, not, ◌&&◌}
+use mathlib.Core.Bool.{Bool, true, false, not, ◌&&◌, ◌||◌}
 use mathlib.Core.List.{List}
-use mathlib.Core.Logic.{◌≢◌, ◌⊎◌, inl, inr}
+use mathlib.Core.Logic.{◌≢◌}
 use mathlib.Core.Path.{◌≡◌, refl, sym, ◌∙◌, ap, subst}
 use Prim.Native.Nat.{ℕ, zero, suc, ◌+◌, ◌-◌, ◌*◌, ◌/◌, ◌%◌, ◌<◌, ◌≤◌}
 use native.Mathlib.Numerals.{suc-eq-add-one}
@@ -23,24 +20,16 @@ use native.Mathlib.Omega.{arith}
 use lib.Dec.{eqb}
 use lib.ListN.{length, get_or}
 use Rattle.std.proofs.lemmas.List.{get_or_default}
-use borrow.Author.Tests.{lt-ltb, le-ltb}
-use Rattle.permutations.specs.Choice.{pick, eqb_same, eqb_other}
+use Rattle.std.specs.Prelude.{Option, Some, None, MatchOption}
+use Rattle.std.specs.List.{list_all, range_with_len}
+use Rattle.permutations.specs.Choice.{pick, eqb_other}
 use Rattle.sheets.specs.declared.Zone.{Zone}
-use Rattle.sheets.specs.Records.{merge_of, fit_of, same_zone, at}
-use Rattle.sheets.specs.Sheets.{Sheets, Merge, none, into, high_of, merged, returned, merged_by, returned_by, sound}
-use Rattle.sheets.specs.Notes.{merge_in, notes_in, record_at, sound_at, right_in, unfit_in, Linked, FitsOne, Fits}
+use Rattle.sheets.specs.Records.{fit_of, at}
+use Rattle.sheets.specs.Sheets.{Sheets, Merge, none, into, merged, returned, merged_by, returned_by, sound}
+use Rattle.sheets.specs.Notes.{merge_in, notes_in, record_at, sound_at, right_in, unfit_in, FitsOne, Fits}
 
 abbrev pub both : List Zone → List Zone → Sheets
 both s k = record { sheet = s; kept = k }
-
--- what a negated test says
-is_true : (b : Bool) → not b ≡ false → b ≡ true
-is_true true e = refl
-is_true false e = sym e
-
-is_false : (b : Bool) → not b ≡ true → b ≡ false
-is_false true e = sym e
-is_false false e = refl
 
 -- one turn less is left, at the next number
 less : (e i : ℕ) → i < e → e - i ≡ suc (e - (i + 1))
@@ -51,116 +40,55 @@ less e i h = omega arith
 pub at_any : (s : List Zone) (i : ℕ) (past : Zone) → i < length s → get_or s i past ≡ at s i
 at_any s i past h = get_or_default s i past _ h
 
-pub on_sheet : (D i : ℕ) (S : Sheets) → i < D → record_at D S i ≡ at S.sheet i
-unfolding record_at
-on_sheet D i S h = rw (lt-ltb i D h) refl
+-- ---- what is looked at
 
-pub on_kept : (D i : ℕ) (S : Sheets) → D ≤ i → record_at D S i ≡ at S.kept (i - D)
-unfolding record_at
-on_kept D i S h = rw (le-ltb i D h) refl
+abbrev pub right_at : ℕ → List ℕ → Sheets → ℕ → Bool
+right_at D w S i = eqb (get_or w i 0) D || sound (notes_in D w) S (get_or w i 0) (record_at D S i)
 
--- ---- a sound record
-
-pub base_sound : (ms : ℕ → Merge) (S : Sheets) (l : ℕ) (z : Zone) → l ≡ 0 → sound ms S l z ≡ fit_of z
-unfolding sound
-base_sound ms S l z e = ap (λ (k : ℕ). sound ms S k z) e
-
-high_noted : (v : ℕ) → high_of (merge_in v) ≡ v % 65536
-unfolding high_of merge_in
-high_noted zero = refl
-high_noted (suc v) = ap (λ (b : Bool). high_of (pick b none (into (suc v / 65536) (suc v % 65536)))) (eqb_other {m = suc v} {n = 0} (λ (e : suc v ≡ 0). omega arith))
-
-left_one : (ms : ℕ → Merge) (S : Sheets) (t l : ℕ) (z : Zone) → l ≡ suc t → sound ms S l z ≡ same_zone (merge_of (at S.kept t) (at S.sheet (high_of (ms t)))) z
-unfolding sound
-left_one ms S t l z e = ap (λ (k : ℕ). sound ms S k z) e
-
-pub left_sound : (D : ℕ) (w : List ℕ) (S : Sheets) (l v : ℕ) (z : Zone) → 0 < l → v ≡ get_or w (3 * D + D / 2 + (l - 1)) 0 → sound (notes_in D w) S l z ≡ same_zone (merge_of (at S.kept (l - 1)) (at S.sheet (v % 65536))) z
-unfolding notes_in
-left_sound D w S l v z h e =
-    left_one (notes_in D w) S (l - 1) l z (omega arith)
-    ∙ ap (λ (k : ℕ). same_zone (merge_of (at S.kept (l - 1)) (at S.sheet k)) z) (high_noted (get_or w (3 * D + D / 2 + (l - 1)) 0) ∙ ap (λ (u : ℕ). u % 65536) (sym e))
-
--- ---- where a link leads
-
-pub link_within : (D n : ℕ) (w : List ℕ) (i l : ℕ) → Linked D n w → i < D + n → l ≡ get_or w i 0 → l ≢ D → l ≤ n
-link_within D n w i l linked h is_link other = within (linked.links i h)
-  where
-    within : (get_or w i 0 ≤ n) ⊎ (get_or w i 0 ≡ D) → l ≤ n
-    within (inl few) = omega (arith, few, is_link)
-    within (inr same) = absurd (other (is_link ∙ same))
-
-pub link_leads : (D n : ℕ) (w : List ℕ) (l : ℕ) → Linked D n w → l ≤ n → 0 < l → get_or w (3 * D + D / 2 + (l - 1)) 0 % 65536 < D
-link_leads D n w l linked few some = linked.highs (l - 1) (omega arith)
-
--- ---- what is looked at, of the places below e
-
-module _ (D : ℕ) (w : List ℕ) (S : Sheets) (e i : ℕ) where
-  right_turn : i < e → right_in D w S (e - i) i ≡ (sound_at D w S i && right_in D w S (e - (i + 1)) (i + 1))
-  unfolding right_in
-  right_turn h =
-      ap (λ (m : ℕ). right_in D w S m i) (less e i h) ∙ ap (λ (j : ℕ). sound_at D w S i && right_in D w S (e - (i + 1)) j) (suc-eq-add-one i)
-
-  pub right_unseen : (l : ℕ) → i < e → l ≡ get_or w i 0 → l ≡ D → right_in D w S (e - i) i ≡ right_in D w S (e - (i + 1)) (i + 1)
+module _ (D : ℕ) (w : List ℕ) (S : Sheets) where
+  pub right_unseen : (i : ℕ) → right_at D w S i ≡ sound_at D w S i
   unfolding sound_at
-  right_unseen l h is_link unseen =
-      let passed : eqb (get_or w i 0) D ≡ true = eqb_same (sym is_link ∙ unseen) in
-      right_turn h ∙ ap (λ (b : Bool). pick b true (sound (notes_in D w) S (get_or w i 0) (record_at D S i)) && right_in D w S (e - (i + 1)) (i + 1)) passed
+  right_unseen i = one_way (eqb (get_or w i 0) D) _
+    where
+      one_way : (p q : Bool) → (p || q) ≡ pick p true q
+      one_way true q = refl
+      one_way false q = refl
 
-  seen : (l : ℕ) (z : Zone) → l ≡ get_or w i 0 → l ≢ D → z ≡ record_at D S i → sound_at D w S i ≡ sound (notes_in D w) S l z
-  unfolding sound_at
-  seen l z is_link other is_record =
-      let failed : eqb (get_or w i 0) D ≡ false = eqb_other (λ same. other (is_link ∙ same)) in
-      ap (λ (b : Bool). pick b true (sound (notes_in D w) S (get_or w i 0) (record_at D S i))) failed
-      ∙ ap (λ (k : ℕ). sound (notes_in D w) S k (record_at D S i)) (sym is_link) ∙ ap (λ (y : Zone). sound (notes_in D w) S l y) (sym is_record)
-
-  module _ (l : ℕ) (z : Zone) (b : Bool) (h : i < e) (is_link : l ≡ get_or w i 0) (other : l ≢ D) (is_record : z ≡ record_at D S i) (is_sound : b ≡ sound (notes_in D w) S l z) where
-    by_record : right_in D w S (e - i) i ≡ (b && right_in D w S (e - (i + 1)) (i + 1))
-    by_record = right_turn h ∙ ap (λ (t : Bool). t && right_in D w S (e - (i + 1)) (i + 1)) (seen l z is_link other is_record ∙ sym is_sound)
-
-    pub right_seen : not b ≡ false → right_in D w S (e - i) i ≡ right_in D w S (e - (i + 1)) (i + 1)
-    right_seen passed = by_record ∙ ap (λ (t : Bool). t && right_in D w S (e - (i + 1)) (i + 1)) (is_true b passed)
-
-    pub right_not : not b ≡ true → right_in D w S (e - i) i ≡ false
-    right_not failed = by_record ∙ ap (λ (t : Bool). t && right_in D w S (e - (i + 1)) (i + 1)) (is_false b failed)
-
-  pub right_all : e ≤ i → right_in D w S (e - i) i ≡ true
+  pub right_listed : (m i : ℕ) → list_all (right_at D w S) (range_with_len i m) ≡ right_in D w S m i
   unfolding right_in
-  right_all h =
-      let none_left : e - i ≡ 0 = omega arith in
-      ap (λ (m : ℕ). right_in D w S m i) none_left
+  right_listed zero i = refl
+  right_listed (suc m) i = rw (right_unseen i, right_listed m (i + 1), suc-eq-add-one i) refl
 
 -- ---- the first place whose record is not fit
 
-module _ (D : ℕ) (w : List ℕ) (S : Sheets) (x : ℕ) where
-  unfit_turn : (own fits : Bool) → x < D → own ≡ eqb (get_or w (2 * D + x) 0) x → fits ≡ fit_of (at S.sheet x) → unfit_in D w S (D - x) x ≡ pick (own && not fits) x (unfit_in D w S (D - (x + 1)) (x + 1))
+abbrev pub unfit_at : ℕ → List ℕ → Sheets → ℕ → Bool
+unfit_at D w S x = eqb (get_or w (2 * D + x) 0) x && not (fit_of (at S.sheet x))
+
+module _ (D : ℕ) (w : List ℕ) (S : Sheets) where
+  -- none from x on and below y is one
+  abbrev Passed : ℕ → ℕ → Type 0
+  Passed x y = (k : ℕ) → x ≤ k → k < y → unfit_at D w S k ≡ false
+
+  -- of c places from x on, those below y are passed over
+  unfit_passed : (m n x c y : ℕ) → c ≡ m + n → y ≡ x + m → Passed x y → unfit_in D w S c x ≡ unfit_in D w S n y
   unfolding unfit_in
-  unfit_turn own fits h is_own is_fit =
-      ap (λ (n : ℕ). unfit_in D w S n x) (less D x h) ∙ ap (λ (y : ℕ). pick (eqb (get_or w (2 * D + x) 0) x && not (fit_of (at S.sheet x))) x (unfit_in D w S (D - (x + 1)) y)) (suc-eq-add-one x)
-      ∙ ap (λ (b : Bool). pick (b && not (fit_of (at S.sheet x))) x (unfit_in D w S (D - (x + 1)) (x + 1))) (sym is_own)
-      ∙ ap (λ (b : Bool). pick (own && not b) x (unfit_in D w S (D - (x + 1)) (x + 1))) (sym is_fit)
+  unfit_passed zero n x c y e f passed =
+      let all : c ≡ n = omega arith in
+      let here : y ≡ x = omega arith in
+      rw (all, here) refl
+  unfit_passed (suc m) n x c y e f passed =
+      let rest = unfit_passed m n (suc x) (m + n) y refl (omega arith) (λ k h l. passed k (omega arith) l) in
+      let more : c ≡ suc (m + n) = omega arith in
+      rw (more, passed x (omega arith) (omega arith)) rest
 
-  pub unfit_other : (own : Bool) → x < D → own ≡ eqb (get_or w (2 * D + x) 0) x → own ≡ false → unfit_in D w S (D - x) x ≡ unfit_in D w S (D - (x + 1)) (x + 1)
-  unfit_other own h is_own failed =
-      unfit_turn own _ h is_own refl ∙ ap (λ (b : Bool). pick (b && not (fit_of (at S.sheet x))) x (unfit_in D w S (D - (x + 1)) (x + 1))) failed
-
-  module _ (own fits : Bool) (h : x < D) (is_own : own ≡ eqb (get_or w (2 * D + x) 0) x) (is_fit : fits ≡ fit_of (at S.sheet x)) (passed : own ≡ true) where
-    by_fitness : (b : Bool) → not fits ≡ b → unfit_in D w S (D - x) x ≡ pick b x (unfit_in D w S (D - (x + 1)) (x + 1))
-    by_fitness b e =
-        unfit_turn own fits h is_own is_fit ∙ ap (λ (t : Bool). pick (t && not fits) x (unfit_in D w S (D - (x + 1)) (x + 1))) passed
-        ∙ ap (λ (t : Bool). pick t x (unfit_in D w S (D - (x + 1)) (x + 1))) e
-
-    pub unfit_passed : not fits ≡ false → unfit_in D w S (D - x) x ≡ unfit_in D w S (D - (x + 1)) (x + 1)
-    unfit_passed = by_fitness false
-
-    pub unfit_here : not fits ≡ true → unfit_in D w S (D - x) x ≡ x
-    unfit_here = by_fitness true
-
-  pub unfit_none : x ≤ D → D ≤ x → unfit_in D w S (D - x) x ≡ D
+  pub unfit_found : (r : Option ℕ)
+      → MatchOption r (Passed 0 D) (λ i. (0 ≤ i) × (i < D) × (unfit_at D w S i ≡ true) × Passed 0 i)
+      → MatchOption r (D ≡ unfit_in D w S D 0) (λ x. (x < D) × (x ≡ unfit_in D w S D 0))
   unfolding unfit_in
-  unfit_none below above =
-      let none_left : D - x ≡ 0 = omega arith in
-      let here : x ≡ D = omega arith in
-      ap (λ (n : ℕ). unfit_in D w S n x) none_left ∙ here
+  unfit_found None passed = sym (unfit_passed D 0 0 D D (omega arith) (omega arith) passed)
+  unfit_found (Some i) (h, l, is, passed) =
+      let here = unfit_passed i (suc (D - i - 1)) 0 D i (omega arith) (omega arith) passed in
+      (l, sym (rw is at here))
 
 -- ---- the merges
 

@@ -6,19 +6,17 @@
 --   same_metres, same_yarn, same_zone == they are the same, bit for bit
 --   measured z     == the record has metres
 --   at s i         == the record at place i of the sheet s
-use Rattle.std.specs.Prelude.{Bool, true, false, ◌&&◌, List, ℕ, ◌+◌, eqb, leb, ℤ, pos, negsuc, get_or, Float}
+use Rattle.std.specs.Prelude.{Bool, true, false, ◌&&◌, List, ℕ, ◌+◌, eqb, leb, ℤ, pos, negsuc, get_or, Float, Option, Some, None}
 use Rattle.std.specs.Bool.{beq}
 use Rattle.std.specs.Float.Ieee as Ieee
 use Rattle.std.specs.Float.{nan, inf, fin, binary64}
-use Rattle.sheets.specs.declared.Yarn.{Yarn}
-use Rattle.sheets.specs.declared.Yarn.TheVariants.{Metres, NotMeasured}
 use Rattle.sheets.specs.declared.Zone.{Zone}
 
 -- "metres add with one rounding and the lower record first, and not measured with anything is not measured"
-abbrev pub joined : Yarn → Yarn → Yarn
-joined (Metres a) (Metres b) = Metres (Ieee.add binary64 a b)
-joined (Metres a) NotMeasured = NotMeasured
-joined NotMeasured b = NotMeasured
+abbrev pub joined : Option Float → Option Float → Option Float
+joined (Some a) (Some b) = Some (Ieee.add binary64 a b)
+joined (Some a) None = None
+joined None b = None
 
 -- "stitches add"
 abbrev pub merge_of : Zone → Zone → Zone
@@ -28,9 +26,9 @@ merge_of lower other = record { stitches = lower.stitches + other.stitches; yarn
 abbrev pub metres_fit : Float → Bool
 metres_fit m = Ieee.le (fin false 0 (pos 0)) m && Ieee.le m (fin false 3125 (pos 5))
 
-abbrev pub yarn_fits : Yarn → Bool
-yarn_fits (Metres m) = metres_fit m
-yarn_fits NotMeasured = true
+abbrev pub yarn_fits : Option Float → Bool
+yarn_fits (Some m) = metres_fit m
+yarn_fits None = true
 
 -- "These limits are for the base's records; merged ones may be larger"
 abbrev pub fit_of : Zone → Bool
@@ -54,11 +52,11 @@ same_metres (fin s m e) nan = false
 same_metres (fin s m e) (inf z) = false
 same_metres (fin s m e) (fin z n f) = beq s z && (eqb m n && same_integer e f)
 
-unfoldable pub same_yarn : Yarn → Yarn → Bool
-same_yarn (Metres a) (Metres b) = same_metres a b
-same_yarn (Metres a) NotMeasured = false
-same_yarn NotMeasured (Metres b) = false
-same_yarn NotMeasured NotMeasured = true
+unfoldable pub same_yarn : Option Float → Option Float → Bool
+same_yarn (Some a) (Some b) = same_metres a b
+same_yarn (Some a) None = false
+same_yarn None (Some b) = false
+same_yarn None None = true
 
 -- "bit for bit"
 unfoldable pub same_zone : Zone → Zone → Bool
@@ -67,10 +65,10 @@ same_zone a b = eqb a.stitches b.stitches && same_yarn a.yarn b.yarn
 unfoldable pub measured : Zone → Bool
 measured z = yarn_measured z.yarn
   where
-    yarn_measured : Yarn → Bool
-    yarn_measured (Metres m) = true
-    yarn_measured NotMeasured = false
+    yarn_measured : Option Float → Bool
+    yarn_measured (Some m) = true
+    yarn_measured None = false
 
 -- past the end of a sheet, where no call looks, there is a record of no stitches
 abbrev pub at : List Zone → ℕ → Zone
-at s i = get_or s i (record { stitches = 0; yarn = NotMeasured })
+at s i = get_or s i (record { stitches = 0; yarn = None })

@@ -5,11 +5,9 @@
 --   bits n         == the float of the pattern n
 --   table          == the rows
 --   records_worked == all of them are right
-use Rattle.std.specs.Prelude.{Bool, true, ◌&&◌, not, List, [], ◌∷◌, ◌≡◌, refl, ℕ}
+use Rattle.std.specs.Prelude.{Bool, true, ◌&&◌, not, List, [], ◌∷◌, ◌≡◌, refl, ℕ, Float, Option, Some, None}
 use Rattle.std.specs.Float.Ieee as Ieee
 use Rattle.std.specs.Float.{binary64}
-use Rattle.sheets.specs.declared.Yarn.{Yarn}
-use Rattle.sheets.specs.declared.Yarn.TheVariants.{Metres, NotMeasured}
 use Rattle.sheets.specs.declared.Zone.{Zone}
 use Rattle.sheets.specs.Records.{merge_of, fit_of, same_integer, same_metres, same_yarn, same_zone, at}
 use Rattle.sheets.specs.Sheets.{Sheets, into, merged, returned}
@@ -22,7 +20,7 @@ pub data Row : Type 0 where
   -- the second record merged into the first, and that undone: the first is as it was
   undoing : Zone → Zone → Row
 
-abbrev zone : ℕ → Yarn → Zone
+abbrev zone : ℕ → Option Float → Zone
 zone n y = record { stitches = n; yarn = y }
 
 -- the sheet of two records, and an operation that merges them and is undone
@@ -41,31 +39,31 @@ all_right (r ∷ rs) = right r && all_right rs
 
 -- ---- metres by their 64 bits
 
-abbrev bits : ℕ → Yarn
-bits n = Metres (Ieee.of_bits binary64 n)
+abbrev bits : ℕ → Option Float
+bits n = Some (Ieee.of_bits binary64 n)
 
 -- a half, a tenth, two tenths; a tenth and two tenths added, which is not three tenths
-abbrev half : Yarn
+abbrev half : Option Float
 half = bits 4602678819172646912
 
-abbrev tenth : Yarn
+abbrev tenth : Option Float
 tenth = bits 4591870180066957722
 
-abbrev fifth : Yarn
+abbrev fifth : Option Float
 fifth = bits 4596373779694328218
 
-abbrev added : Yarn
+abbrev added : Option Float
 added = bits 4599075939470750516
 
 abbrev pub table : List Row
 table =
     -- "stitches, up to 65,535"
     fit (zone 0 half)
-    ∷ fit (zone 0 NotMeasured)
+    ∷ fit (zone 0 None)
     ∷ fit (zone 65535 half)
     ∷ unfit (zone 65536 half)
-    ∷ fit (zone 65535 NotMeasured)
-    ∷ unfit (zone 65536 NotMeasured)
+    ∷ fit (zone 65535 None)
+    ∷ unfit (zone 65536 None)
     -- "metres not from 0 to 100,000": 100,000, the float below it and the float above it
     ∷ fit (zone 1 (bits 4681608360884174848))
     ∷ fit (zone 1 (bits 4681608360884174847))
@@ -91,13 +89,13 @@ table =
     ∷ merging (zone 1 tenth) (zone 2 fifth) (zone 3 added)
     ∷ merging (zone 65535 (bits 4681608360884174848)) (zone 65535 (bits 4681608360884174848)) (zone 131070 (bits 4686111960511545344))
     -- "and not measured with anything is not measured"
-    ∷ merging (zone 1 tenth) (zone 2 NotMeasured) (zone 3 NotMeasured)
-    ∷ merging (zone 1 NotMeasured) (zone 2 fifth) (zone 3 NotMeasured)
-    ∷ merging (zone 1 NotMeasured) (zone 2 NotMeasured) (zone 3 NotMeasured)
+    ∷ merging (zone 1 tenth) (zone 2 None) (zone 3 None)
+    ∷ merging (zone 1 None) (zone 2 fifth) (zone 3 None)
+    ∷ merging (zone 1 None) (zone 2 None) (zone 3 None)
     -- "Undo returns the old figure bit for bit; subtracting does not do that"
     ∷ undoing (zone 1 tenth) (zone 2 fifth)
-    ∷ undoing (zone 1 tenth) (zone 2 NotMeasured)
-    ∷ undoing (zone 1 NotMeasured) (zone 2 fifth)
+    ∷ undoing (zone 1 tenth) (zone 2 None)
+    ∷ undoing (zone 1 None) (zone 2 fifth)
     ∷ []
 
 -- subtraction and the strict comparison are computed too, so that a definition with one of them is refused by what it gives

@@ -5,16 +5,9 @@ pub mod loops;
 pub mod record;
 pub mod thin;
 
-// Metres, or no figure.
-#[derive(Clone, Copy)]
-pub enum Yarn {
-    Metres(f64),
-    NotMeasured,
-}
-
-// What is kept for a zone.
+// What is kept for a zone: its stitches, and its metres of yarn, or none where it was not measured.
 #[derive(Clone, Copy)]
 pub struct Zone {
     pub stitches: u32,
-    pub yarn: Yarn,
+    pub yarn: Option<f64>,
 }

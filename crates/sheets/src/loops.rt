@@ -1,5 +1,6 @@
-// Loops over the two sheets: what is looked at, merged and put back is told by links and notes in the work area (specs/Notes.antt).
-ghost use Rattle.std.specs.Prelude.{[], ◌≡◌, ◌+◌, ◌*◌, ◌-◌, ◌/◌, ◌%◌, ◌^◌, ◌<◌, ◌≤◌, eqb, length, get_or};
+// Loops over the two sheets: what is looked at, merged and put back is told by links and notes in the work area (specs/Notes.antt). There 0 and d stand for
+// nothing, since the lent work area has one number for each; sheets, d and n are lent one by one, as the calls with sheets are.
+ghost use Rattle.std.specs.Prelude.{[], ◌≡◌, ◌+◌, ◌*◌, ◌-◌, ◌/◌, ◌%◌, ◌^◌, ◌<◌, ◌≤◌, eqb, length, get_or, MatchOption};
 ghost use Rattle.sheets.specs.Records.{at as recordOf};
 ghost use Rattle.sheets.specs.Sheets.{into, merged, merged_by, returned_by, sound};
 ghost use Rattle.sheets.specs.Notes.{notes_in, record_at, right_in, Linked, unfit_in, Noted, Fits};
@@ -29,6 +30,7 @@ fn own_label(work: &[u32], d: usize, x: usize) -> bool
 // ---- what is looked at
 
 // The record at place i of the two sheets, the sheet's d places first.
+#[tactic(auto, unfolding(crate::specs::Notes::record_at))]
 pub(crate) fn place_of(sheet: &[Zone], kept: &[Zone], d: usize, i: usize) -> Zone
     requires { (d ≤ length sheet.now) × (i < d + length kept.now) }
     ensures { result ≡ record_at d (record { sheet = sheet.now; kept = kept.now }) i }
@@ -40,6 +42,7 @@ pub(crate) fn place_of(sheet: &[Zone], kept: &[Zone], d: usize, i: usize) -> Zon
 }
 
 // Whether z is a base's record, where l is 0, or the one that operation l - 1 left.
+#[tactic(auto, unfolding(crate::specs::Sheets::sound, crate::specs::Notes::notes_in, crate::specs::Sheets::high_of, crate::specs::Notes::merge_in))]
 pub(crate) fn sound_at(
     work: &[u32],
     d: usize,
@@ -65,44 +68,25 @@ pub fn all_right(work: &[u32], d: usize, n: usize, sheet: &[Zone], kept: &[Zone]
     requires { Linked d n work.now × (d ≤ length sheet.now) × (n ≤ length kept.now) }
     ensures { result ≡ right_in d work.now (record { sheet = sheet.now; kept = kept.now }) (d + n) 0 }
 {
-    let mut i = 0;
-    while i < d + n {
+    (0..d + n).all(|i| {
         let l = at(work, i);
-        if l == d {
-            i += 1;
-        } else {
-            let z = place_of(sheet, kept, d, i);
-            if !sound_at(work, d, l, z, sheet, kept) {
-                return false;
-            }
-            i += 1;
-        }
-    }
-    true
+        l == d || sound_at(work, d, l, place_of(sheet, kept, d, i), sheet, kept)
+    })
 }
 
-// The first place that is its own label and whose record is not fit; d where there is none.
-pub fn first_unfit(work: &[u32], d: usize, sheet: &[Zone]) -> usize
+// The first place that is its own label and whose record is not fit.
+pub fn first_unfit(work: &[u32], d: usize, sheet: &[Zone]) -> Option<usize>
     requires { (3 * d ≤ length work.now) × (d ≤ length sheet.now) }
-    ensures { result ≡ unfit_in d work.now (record { sheet = sheet.now; kept = [] }) d 0 }
+    ensures { MatchOption result (d ≡ unfit_in d work.now (record { sheet = sheet.now; kept = [] }) d 0)
+        (λ x. (x < d) × (x ≡ unfit_in d work.now (record { sheet = sheet.now; kept = [] }) d 0)) }
 {
-    let mut x = 0;
-    while x < d {
-        if own_label(work, d, x) {
-            if !fit(sheet[x]) {
-                return x;
-            }
-            x += 1;
-        } else {
-            x += 1;
-        }
-    }
-    d
+    (0..d).find(|x| own_label(work, d, *x) && !fit(sheet[*x]))
 }
 
 // ---- what is merged, and what is put back
 
 // Merges the record at `high` into the one at `low`, which is kept at t as it was.
+#[tactic(auto, unfolding(crate::specs::Sheets::merged))]
 pub(crate) fn merge_at(sheet: &mut [Zone], kept: &mut [Zone], low: usize, high: usize, t: usize)
     requires { (low < length sheet.old) × (high < length sheet.old) × (t < length kept.old)
         × ((recordOf sheet.old low).stitches + (recordOf sheet.old high).stitches < 2 ^ 32) }
@@ -122,14 +106,10 @@ pub fn merge_all(work: &[u32], d: usize, n: usize, m: usize, sheet: &mut [Zone],
     ensures { merged_by (notes_in d work.now) n (m - n) (record { sheet = sheet.old; kept = kept.old })
         ≡ record { sheet = sheet.new; kept = kept.new } }
 {
-    let mut t = n;
-    while t < m {
+    for t in n..m {
         let v = note(work, d, t);
-        if v == 0 {
-            t += 1;
-        } else {
+        if v != 0 {
             merge_at(sheet, kept, v / 65536, v % 65536, t);
-            t += 1;
         }
     }
 }
@@ -140,9 +120,7 @@ pub fn put_all_back(work: &[u32], d: usize, m: usize, n: usize, sheet: &mut [Zon
     ensures { returned_by (notes_in d work.now) n (n - m) (record { sheet = sheet.old; kept = kept.now })
         ≡ record { sheet = sheet.new; kept = kept.now } }
 {
-    let mut t = n;
-    while m < t {
-        t -= 1;
+    for t in (m..n).rev() {
         let v = note(work, d, t);
         if v != 0 {
             sheet[v / 65536] = kept[t];

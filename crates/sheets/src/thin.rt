@@ -1,4 +1,4 @@
-// One record of a lent sheet, and how many there are.
+// One record of a lent sheet, and how many there are: document 02 asks for "few thin functions over it".
 ghost use Rattle.std.specs.Prelude.{◌≡◌, ◌<◌, length, set};
 ghost use Rattle.sheets.specs.Records.{at};
 

@@ -10,19 +10,17 @@
 --   laid_before == a number that is stored just before what was laid is laid with it
 --   laid_over   == what is laid at the front is laid over
 --   laid_part   == numbers copied over the front of a lent part are laid from where the part begins
---   laid_filled == a lent part filled with v: as many v as the part has numbers are laid there
 use mathlib.Core.Path.{◌≡◌, sym, ap, ◌∙◌}
 use mathlib.Core.List.{List, [], ◌∷◌, ◌++◌, append_assoc}
 use Prim.Native.Nat.{ℕ, suc, ◌+◌, ◌-◌, ◌≤◌, ◌<◌}
 use native.Mathlib.Nat.{add_assoc, zero-add}
 use native.Mathlib.Numerals.{add-one}
 use native.Mathlib.Omega.{arith}
-use lib.ListN.{length, get_or, take, drop, set, replicate, length-append, length-take, length-drop, length-replicate, take-append-drop, get_or-append}
+use lib.ListN.{length, get_or, take, drop, set, length-append, length-take, length-drop, take-append-drop, get_or-append}
 use lib.Seq.{set_split, take_at, drop_at, take-append-le, take-append_seam, take-take, take-add, length-take-le, drop-append-add, drop-append-le, drop-drop, get_or-drop}
 use Rattle.slices.specs.Over.{over}
 use Rattle.slices.specs.Part.{part, put}
 use Rattle.slices.specs.Laid.{laid, Space}
-use Rattle.slices.proofs.Part.{part_length}
 
 -- a part is what the front of the list has from its place on
 part_front : (a e : ℕ) (l : List ℕ) → a ≤ e → e ≤ length l → drop a (take e l) ≡ part a e l
@@ -129,8 +127,3 @@ module _ (w : List ℕ) (a e : ℕ) (inside : e ≤ length w) where
       (append_assoc xs (drop (length xs) (part a e w)) (drop (e - a) (drop a w))
       ∙ ap (λ (z : List ℕ). xs ++ z)
       (rest (length xs) (e - a) (drop a w) (omega arith) (simp length-drop (omega arith)) ∙ drop-drop (length xs) a w))
-
-  pub laid_filled : (v : ℕ) → a ≤ e → put a e w (replicate (length (part a e w)) v) ≡ laid w a (replicate (e - a) v)
-  unfolding laid
-  laid_filled v order =
-      rw (part_length a e w inside, length-replicate, drop-drop (e - a) a w)

@@ -1,7 +1,7 @@
-// Lent slices: one number read, all numbers written, numbers copied.
+// Lent slices: one number read, numbers copied.
 #![tactic(auto)]
 
-ghost use Rattle.std.specs.Prelude.{◌≡◌, ◌≤◌, ◌<◌, length, get_or, take, replicate};
+ghost use Rattle.std.specs.Prelude.{◌≡◌, ◌≤◌, ◌<◌, length, get_or, take};
 ghost use Rattle.slices.specs.Over.{over};
 
 // The number at i, as an index.
@@ -12,25 +12,10 @@ pub fn at(s: &[u32], i: usize) -> usize
     s[i] as usize
 }
 
-// Every number becomes v.
-pub fn fill(s: &mut [u32], v: u32)
-    ensures { s.new ≡ replicate (length s.old) v }
-{
-    let mut i = 0;
-    while i < s.len() {
-        s[i] = v;
-        i += 1;
-    }
-}
-
-// The first n numbers become those of `from`.
+// The first n numbers become those of `from`. Named, as its contract says it in the word `over`, in which the laws of the calls speak.
 pub fn copy(to: &mut [u32], from: &[u32], n: usize)
     requires { (n ≤ length to.old) × (n ≤ length from.now) }
     ensures { to.new ≡ over (take n from.now) to.old }
 {
-    let mut i = 0;
-    while i < n {
-        to[i] = from[i];
-        i += 1;
-    }
+    to[..n].copy_from_slice(&from[..n]);
 }

@@ -4,27 +4,23 @@
 --   repeats_first, out_of_range_first == those of four darts, with both faults
 --   nothing, h3, h5, h7               == the histories
 --   zones                             == the kernel of K5
---   vertex_more, vertex_for_face      == wrong numbers of T and of K5
 --   computed                          == the rows, in the program's order
-use mathlib.Core.Bool.{true}
+--   from                              == what holds of what the definitions leave holds of what a run left
 use mathlib.Core.List.{List, [], ◌∷◌}
-use mathlib.Core.Path.{◌≡◌, refl}
+use mathlib.Core.Path.{◌≡◌, refl, ap, ◌∙◌}
 use Prim.Native.Nat.{ℕ}
 use Rattle.permutations.specs.Partner.{partner}
 use Rattle.permutations.specs.Cycle.{meets_in}
 use Rattle.darts.specs.Map.{successor, face_next, same_vertex, same_face, gone, survives, before_in, before, repeats, culprit, test_from, permutation_test}
-use Rattle.darts.specs.Operation.{turned, lead, whole_edge, remove, contract, operate, number, kind_of, lead_of, edge_of, put_back, undo_one, undone}
+use Rattle.darts.specs.Operation.{turned, lead, whole_edge, remove, contract, operate, number, kind_of, lead_of, edge_of, put_back, undo_one, undone as undoneOf, contraction, removal}
 use Rattle.darts.specs.Kernel.{shared, judge, rising, pass_from, pass, run}
 use Rattle.darts.specs.State.{raised, levelled, reduce}
-use Rattle.darts.specs.Levels.{empty_loop, takes, swept_from, swept, sweep, end_below, lowered, undo_level, undo_levels, unfold_to}
+use Rattle.darts.specs.Levels.{empty_loop, takes, swept_from, swept as sweptOf, sweep, end_below, lowered, undo_level, undo_levels, unfold_to}
 use Rattle.darts.specs.Pyramid.{dart_count, build, kernel_of, cut, kernels_of, same_numbers, same_state, is_exactly, is_pyramid}
-use Rattle.darts.specs.Calls.{room, fitting, table_of, past_of, cleared, work_after, judged, begins, start, hands_back, on_state, reduce_by, sweep_by, undo_by, unfold_by}
+use Rattle.darts.specs.Calls.{After, room, fitting, table_of, past_of, cleared, work_after, judged, begins, start, hands_back, on_state, reduce_by, sweep_by, undo_by, unfold_by}
 use Rattle.darts.specs.Counts.{never_below, lowest, cycles, surviving, counts_of}
 use Rattle.slices.specs.Over.{over}
-use Rattle.pyramid.specs.declared.Kind.TheVariants.{Contract, Remove}
-use Rattle.worked.specs.declared.chain.Step.{Step}
-use Rattle.worked.specs.declared.chain.Step.TheVariants.{Stay, One, Two, Sweep, Undo, Unfold, Store}
-use Rattle.worked.specs.Chain.{row_is, numbers_are, example}
+use Rattle.worked.specs.Chain.{started, reduced, swept, undone, unfolded, stored, Left, left_of, left_is}
 
 abbrev T : List ℕ
 T = 5 ∷ 2 ∷ 1 ∷ 4 ∷ 6 ∷ 0 ∷ 3 ∷ 7 ∷ []
@@ -65,37 +61,38 @@ h5 = 1 ∷ 5 ∷ 0 ∷ 0 ∷ []
 abbrev h7 : List ℕ
 h7 = 1 ∷ 5 ∷ 10 ∷ 0 ∷ []
 
-abbrev zones : Step
-zones = Two Contract 0 1
-
-abbrev vertex_more : Step
-vertex_more = Store 5 2
-
-abbrev vertex_for_face : Step
-vertex_for_face = Store 3 1
+abbrev zones : After
+zones = reduced contraction (0 ∷ 1 ∷ []) (started 8 T)
 
 pub computed :
-    (example 8 T Stay Stay Stay 0 0 0 T nothing 4 2 ≡ true)
-    × (example 8 T (One Contract 3) Stay Stay 0 0 0 k3 h3 3 2 ≡ true)
-    × (example 8 T zones Stay Stay 0 0 0 k5 h5 2 2 ≡ true)
-    × (example 8 T (Two Remove 0 0) Stay Stay 8 1 0 T nothing 4 2 ≡ true)
-    × (example 8 T zones (One Contract 2) Stay 9 0 0 k5 h5 2 2 ≡ true)
-    × (example 8 T zones (One Remove 2) Stay 0 0 0 k7 h7 2 1 ≡ true)
-    × (example 8 T zones Sweep Stay 0 0 0 k7 h7 2 1 ≡ true)
-    × (example 8 T zones Sweep Undo 0 0 0 k5 h7 2 2 ≡ true)
-    × (example 8 T zones Sweep (One Contract 3) 11 0 0 k7 h7 2 1 ≡ true)
-    × (example 8 T zones Sweep (One Remove 3) 10 0 0 k7 h7 2 1 ≡ true)
-    × (example 2 repeats_one Stay Stay Stay 3 1 0 repeats_one nothing 0 0 ≡ true)
-    × (example 2 out_of_range Stay Stay Stay 3 1 2 out_of_range nothing 0 0 ≡ true)
-    × (example 2 alone Stay Stay Stay 0 0 0 alone nothing 1 2 ≡ true)
-    × (example 2 alone (One Remove 0) Stay Stay 11 0 0 alone nothing 1 2 ≡ true)
-    × (example 4 repeats_first Stay Stay Stay 3 2 1 repeats_first nothing 0 0 ≡ true)
-    × (example 4 out_of_range_first Stay Stay Stay 3 1 4 out_of_range_first nothing 0 0 ≡ true)
-    × (example 8 T zones Sweep (Unfold 0) 0 0 0 T h7 4 2 ≡ true)
-    × (example 8 T zones (Store 2 2) Sweep 0 0 0 k7 h7 2 1 ≡ true)
-    × (example 8 T vertex_more (One Contract 3) Stay 4 0 0 T nothing 5 2 ≡ true)
-    × (example 8 T vertex_more Sweep Stay 4 0 0 T nothing 5 2 ≡ true)
-    × (example 8 T zones vertex_for_face Undo 4 0 0 k5 h5 3 1 ≡ true)
-    × (example 8 T zones vertex_for_face (Unfold 0) 4 0 0 k5 h5 3 1 ≡ true)
-unfolding partner meets_in successor face_next same_vertex same_face gone survives before_in before repeats culprit test_from permutation_test turned lead whole_edge remove contract operate number kind_of lead_of edge_of put_back undo_one undone shared judge pass_from pass run raised levelled reduce empty_loop takes rising swept_from swept sweep end_below lowered undo_level undo_levels dart_count build kernel_of cut kernels_of same_numbers same_state is_exactly is_pyramid room fitting table_of past_of over cleared work_after judged begins start hands_back on_state reduce_by sweep_by undo_by never_below lowest cycles surviving counts_of unfold_to unfold_by row_is numbers_are
+    (left_of (started 8 T) ≡ left_is (0, 0, 0) T nothing (4, 2))
+    × (left_of (reduced contraction (3 ∷ []) (started 8 T)) ≡ left_is (0, 0, 0) k3 h3 (3, 2))
+    × (left_of zones ≡ left_is (0, 0, 0) k5 h5 (2, 2))
+    × (left_of (reduced removal (0 ∷ 0 ∷ []) (started 8 T)) ≡ left_is (8, 1, 0) T nothing (4, 2))
+    × (left_of (reduced contraction (2 ∷ []) zones) ≡ left_is (9, 0, 0) k5 h5 (2, 2))
+    × (left_of (reduced removal (2 ∷ []) zones) ≡ left_is (0, 0, 0) k7 h7 (2, 1))
+    × (left_of (swept zones) ≡ left_is (0, 0, 0) k7 h7 (2, 1))
+    × (left_of (undone (swept zones)) ≡ left_is (0, 0, 0) k5 h7 (2, 2))
+    × (left_of (reduced contraction (3 ∷ []) (swept zones)) ≡ left_is (11, 0, 0) k7 h7 (2, 1))
+    × (left_of (reduced removal (3 ∷ []) (swept zones)) ≡ left_is (10, 0, 0) k7 h7 (2, 1))
+    × (left_of (started 2 repeats_one) ≡ left_is (3, 1, 0) repeats_one nothing (0, 0))
+    × (left_of (started 2 out_of_range) ≡ left_is (3, 1, 2) out_of_range nothing (0, 0))
+    × (left_of (started 2 alone) ≡ left_is (0, 0, 0) alone nothing (1, 2))
+    × (left_of (reduced removal (0 ∷ []) (started 2 alone)) ≡ left_is (11, 0, 0) alone nothing (1, 2))
+    × (left_of (started 4 repeats_first) ≡ left_is (3, 2, 1) repeats_first nothing (0, 0))
+    × (left_of (started 4 out_of_range_first) ≡ left_is (3, 1, 4) out_of_range_first nothing (0, 0))
+    × (left_of (unfolded 0 (swept zones)) ≡ left_is (0, 0, 0) T h7 (4, 2))
+    × (left_of (swept (stored 2 2 zones)) ≡ left_is (0, 0, 0) k7 h7 (2, 1))
+    × (left_of (reduced contraction (3 ∷ []) (stored 5 2 (started 8 T))) ≡ left_is (4, 0, 0) T nothing (5, 2))
+    × (left_of (swept (stored 5 2 (started 8 T))) ≡ left_is (4, 0, 0) T nothing (5, 2))
+    × (left_of (undone (stored 3 1 zones)) ≡ left_is (4, 0, 0) k5 h5 (3, 1))
+    × (left_of (unfolded 0 (stored 3 1 zones)) ≡ left_is (4, 0, 0) k5 h5 (3, 1))
+unfolding partner meets_in successor face_next same_vertex same_face gone survives before_in before repeats culprit test_from permutation_test turned lead whole_edge remove contract operate number kind_of lead_of edge_of put_back undo_one undoneOf shared judge pass_from pass run raised levelled reduce empty_loop takes rising swept_from sweptOf sweep end_below lowered undo_level undo_levels dart_count build kernel_of cut kernels_of same_numbers same_state is_exactly is_pyramid room fitting table_of past_of over cleared work_after judged begins start hands_back on_state reduce_by sweep_by undo_by never_below lowest cycles surviving counts_of unfold_to unfold_by
 computed = (refl, refl, refl, refl, refl, refl, refl, refl, refl, refl, refl, refl, refl, refl, refl, refl, refl, refl, refl, refl, refl, refl)
+
+pub from : {a b : After} {l : Left} → a ≡ b → left_of b ≡ l → left_of a ≡ l
+from e k = ap left_of e ∙ k
+
+-- the zones of K5, of a start and a kernel
+pub zones_left : {a b : After} → a ≡ reduced contraction (0 ∷ 1 ∷ []) b → b ≡ started 8 T → a ≡ zones
+zones_left e f = e ∙ ap (reduced contraction (0 ∷ 1 ∷ [])) f

@@ -1,5 +1,3 @@
--- Numbers == two lists compared number by number
-pub mod Numbers
 -- Parts == what a worked example says of a call, part by part
 pub mod Parts
 -- Computed == the rows, by computation

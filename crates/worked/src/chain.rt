@@ -1,88 +1,107 @@
-// Calls one after another, each on the state that the one before it handed back.
+// Calls one after another, each on the state that the one before it handed back, and on what it left.
 ghost use Rattle.std.specs.Prelude.{◌≡◌};
-ghost use Rattle.darts.specs.Cases.{answer_of};
-ghost use Rattle.darts.specs.Calls.{start as start_of};
-ghost use Rattle.pyramid.specs.Values.{Hands, state_of, figures_with, left};
-ghost use Rattle.worked.specs.Chain.{stepped};
+ghost use Rattle.darts.specs.Kinds.{kind_is};
+ghost use Rattle.worked.specs.Chain.{after, started, reduced, swept, undone, unfolded, stored as stored_of, left_of, left_is};
 
-use pyramid::{Kind, Outcome, State, start};
+use check::expect;
+use pyramid::{Kind, Outcome};
 
-// A call on a state: none, a kernel of one edge or of two, the sweep, an undo, back to a level; or no call, and other numbers of vertices and faces in the state.
+// What the last call left: what it handed back, and the slices.
 #[derive(Clone, Copy)]
-pub enum Step {
-    Stay,
-    One(Kind, u32),
-    Two(Kind, u32, u32),
-    Sweep,
-    Undo,
-    Unfold(u32),
-    Store(u32, u32),
+pub struct Run {
+    outcome: Outcome,
+    table: [u32; 8],
+    history: [u32; 4],
+    work: [u32; 32],
 }
 
-// The same outcome, with these numbers of vertices and faces in its state.
-fn stored(outcome: Outcome, vertices: u32, faces: u32) -> Outcome
-    ensures { Hands result (answer_of outcome.answer) (figures_with (state_of outcome.state) vertices faces) }
-{
-    let state = outcome.state;
-    let ends = state.ends;
-    let answer = outcome.answer;
-    Outcome {
-        state: State {
-            darts: state.darts,
-            operations: state.operations,
-            levels: state.levels,
-            vertices: vertices,
-            faces: faces,
-            ends: ends,
-        },
-        answer: answer,
-    }
-}
-
-// The call on what the one before it left.
-fn call(
-    step: Step,
-    before: Outcome,
-    table: &mut [u32],
-    history: &mut [u32],
-    work: &mut [u32],
-) -> Outcome
-    ensures { left result table.new history.new work.new
-        ≡ stepped step (left before table.old history.old work.old) }
-{
-    let state = before.state;
-    match step {
-        Step::Stay => before,
-        Step::One(kind, e) => {
-            let kernel = [e];
-            state.reduce(kind, &kernel, table, history, work)
+impl Run {
+    // Start from a table of eight places. The work area has rubbish in it.
+    pub fn start(darts: u32, base: [u32; 8]) -> Run
+        ensures { after result ≡ started darts base }
+    {
+        let mut table = base;
+        let mut history = [0; 4];
+        let mut work = [9; 32];
+        let outcome = pyramid::start(darts, &mut table, &mut history, &mut work);
+        Run {
+            outcome,
+            table,
+            history,
+            work,
         }
-        Step::Two(kind, e, f) => {
-            let kernel = [e, f];
-            state.reduce(kind, &kernel, table, history, work)
-        }
-        Step::Sweep => state.sweep(table, history, work),
-        Step::Undo => state.undo(table, history, work),
-        Step::Unfold(level) => state.unfold(level, table, history, work),
-        Step::Store(vertices, faces) => stored(before, vertices, faces),
     }
-}
 
-// Start, and three calls.
-pub fn chain(
-    darts: u32,
-    first: Step,
-    second: Step,
-    third: Step,
-    table: &mut [u32],
-    history: &mut [u32],
-    work: &mut [u32],
-) -> Outcome
-    ensures { left result table.new history.new work.new
-        ≡ stepped third (stepped second (stepped first (start_of darts table.old history.old work.old))) }
-{
-    let base = start(darts, table, history, work);
-    let one = call(first, base, table, history, work);
-    let two = call(second, one, table, history, work);
-    call(third, two, table, history, work)
+    pub fn reduce(mut self, kind: Kind, kernel: &[u32]) -> Run
+        ensures { after result ≡ reduced (kind_is kind) kernel.now (after self) }
+    {
+        self.outcome = self.outcome.state.reduce(
+            kind,
+            kernel,
+            &mut self.table,
+            &mut self.history,
+            &mut self.work,
+        );
+        self
+    }
+
+    pub fn sweep(mut self) -> Run
+        ensures { after result ≡ swept (after self) }
+    {
+        self.outcome = self
+            .outcome
+            .state
+            .sweep(&mut self.table, &mut self.history, &mut self.work);
+        self
+    }
+
+    pub fn undo(mut self) -> Run
+        ensures { after result ≡ undone (after self) }
+    {
+        self.outcome = self
+            .outcome
+            .state
+            .undo(&mut self.table, &mut self.history, &mut self.work);
+        self
+    }
+
+    pub fn unfold(mut self, level: u32) -> Run
+        ensures { after result ≡ unfolded level (after self) }
+    {
+        self.outcome = self
+            .outcome
+            .state
+            .unfold(level, &mut self.table, &mut self.history, &mut self.work);
+        self
+    }
+
+    // No call: other numbers of vertices and faces in the state.
+    pub fn store(mut self, vertices: u32, faces: u32) -> Run
+        ensures { after result ≡ stored_of vertices faces (after self) }
+    {
+        self.outcome.state.vertices = vertices;
+        self.outcome.state.faces = faces;
+        self
+    }
+
+    // Expects of the last call this answer, its number and two places as document 01 gives them, this table and this history, and these numbers of
+    // vertices and faces in the state.
+    pub fn expect(
+        &self,
+        answer: (u32, usize, usize),
+        table: [u32; 8],
+        history: [u32; 4],
+        stored: (u32, u32),
+    )
+        requires { left_of (after self.now) ≡ left_is answer table history stored }
+    {
+        match self.outcome.answer {
+            Ok(()) => expect((0, 0, 0) == answer),
+            Err(refusal) => expect((refusal.number(), refusal.place(), refusal.second()) == answer),
+        }
+        let state = self.outcome.state;
+        expect(self.table == table);
+        expect(self.history == history);
+        expect((state.vertices, state.faces) == stored);
+    }
 }

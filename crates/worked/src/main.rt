@@ -5,7 +5,6 @@
 mod chain;
 mod examples;
 mod lookups;
-mod rows;
 mod stored;
 
 fn main() {

@@ -2,12 +2,13 @@
 --   decimal_one             == a number below ten is one digit
 --   decimal_more            == any other is its tenth, and then the last digit
 --   one_length, more_length == how many digits these are
+--   power_length            == and how many a number has between two powers of ten
 --   decimal_short           == at most five
 use mathlib.Core.Path.{◌≡◌, refl, sym, ap, ◌∙◌}
 use mathlib.Core.Bool.{Bool, true, false}
 use mathlib.Core.List.{List, [], ◌∷◌, ◌++◌}
 use Prim.Native.Nat.{ℕ, zero, suc, ◌+◌, ◌*◌, ◌/◌, ◌%◌, ◌^◌, ◌≤◌, ◌<◌}
-use native.Mathlib.Nat.{pow-succ'}
+use native.Mathlib.Nat.{pow-succ', pow-le-pow_right}
 use native.Mathlib.Omega.{arith}
 use lib.Dec.{ltb}
 use lib.ListN.{length, length-append}
@@ -25,7 +26,8 @@ digits_enough (suc n) x b h =
     go (ltb x 10) (digits_enough n (x / 10) ((48 + x % 10) ∷ b) (omega arith))
   where
     go : (t : Bool) → digits (suc (suc n)) (x / 10) ((48 + x % 10) ∷ b) ≡ digits (suc n) (x / 10) ((48 + x % 10) ∷ b)
-        → (if t then (48 + x) ∷ b else digits (suc (suc n)) (x / 10) ((48 + x % 10) ∷ b)) ≡ (if t then (48 + x) ∷ b else digits (suc n) (x / 10) ((48 + x % 10) ∷ b))
+        → (if t then (48 + x) ∷ b else digits (suc (suc n)) (x / 10) ((48 + x % 10) ∷ b))
+        ≡ (if t then (48 + x) ∷ b else digits (suc n) (x / 10) ((48 + x % 10) ∷ b))
     go true e = refl
     go false e = e
 
@@ -51,6 +53,13 @@ one_length x h = ap length (decimal_one x h)
 
 pub more_length : (x : ℕ) → 10 ≤ x → x ≤ 99999 → length (decimal x) ≡ length (decimal (x / 10)) + 1
 more_length x low high = ap length (decimal_more x low high) ∙ length-append (decimal (x / 10)) ((48 + x % 10) ∷ [])
+
+pub power_length : (k x : ℕ) → 10 ^ k ≤ x → x < 10 * 10 ^ k → x ≤ 99999 → length (decimal x) ≡ k + 1
+power_length zero x low high small = one_length x (omega arith)
+power_length (suc k) x low high small =
+    let power : 10 ^ suc k ≡ 10 * 10 ^ k = pow-succ' 10 k in
+    let some : 1 ≤ 10 ^ k = pow-le-pow_right {n = 10} (omega arith) {i = 0} (omega arith) in
+    more_length x (omega arith) small ∙ ap (λ (n : ℕ). n + 1) (power_length k (x / 10) (omega arith) (omega arith) (omega arith)) ∙ omega arith
 
 digits_short : (n x : ℕ) (b : List ℕ) → length (digits n x b) ≤ n + length b
 unfolding digits

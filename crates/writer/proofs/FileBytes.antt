@@ -18,7 +18,8 @@ use Rattle.laws.proofs.tests.Passes.{pyramid_shaped}
 use Rattle.area.specs.Area.{table_in, past_in}
 use Rattle.area.specs.Shape.{history_in}
 use Rattle.pyramid.specs.Steps.{Stacked}
-use Rattle.writer.specs.declared.file.Written.TheVariants.{Short, Wrote}
+use Rattle.std.specs.Prelude.{Ok, Err}
+use Rattle.darts.specs.declared.Refusal.TheVariants.{TooShort}
 use Rattle.writer.specs.Fields.{Fitted, field_line}
 use Rattle.writer.specs.Numbering.{Dense, Numbered}
 use Rattle.writer.specs.Writing.{head_lines, file_in, FileWritten}
@@ -56,14 +57,14 @@ module _ (s : State) {w v : List ℕ} (N : Numbered s.darts s.operations w v) wh
       (kernel_lines (cut 0 (take s.levels s.ends) hs) ++ pair_lines (file_table D (table_in D w) past)))
 
   pub too_short_lem : {o none none' : List ℕ} {r : ℕ} → Fitted none none' 0 r (file_in s v) → length o < r
-      → FileWritten s (table_in D w) past o o (Short r)
+      → FileWritten s (table_in D w) past o o (Err (TooShort r))
   too_short_lem {o} {r = r} p short =
       let long : r ≡ length file = rw (← same_file) (omega (arith, p.next)) in
       let less = lt-ltb (length o) (length file) (omega arith) in
       record { answer = rw (less, long); output = rw less }
 
   pub all_fits : {o o' : List ℕ} {r : ℕ} → Fitted o o' 0 r (file_in s v) → length (file_in s v) ≤ length o
-      → FileWritten s (table_in D w) past o o' (Wrote r)
+      → FileWritten s (table_in D w) past o o' (Ok r)
   all_fits {o} {r = r} p fits =
       let long : r ≡ length file = rw (← same_file) (omega (arith, p.next)) in
       let less = le-ltb (length o) (length file) (rw same_file at fits) in

@@ -14,6 +14,7 @@ ghost use Rattle.writer.specs.Writing.{head_lines, file_in, FileWritten};
 
 use crate::numbering::number_darts;
 use crate::print::{fit_field, put_kernel, put_pair};
+use darts::{Kind, Refusal};
 use pyramid::State;
 use slices::at;
 
@@ -27,27 +28,19 @@ fn put_head(d: usize, levels: usize, output: &mut [u8]) -> usize
 }
 
 // A line for each kernel: its kind is its first operation's, its count the difference of two level ends.
-fn put_kernels(
-    history: &[u32],
-    levels: usize,
-    ends: [u32; 64],
-    output: &mut [u8],
-    start: usize,
-) -> usize
-    requires history_len_bound { (length history.now ≤ 99999) × (levels ≤ 64) × (start ≤ 100) }
-    requires t { T (rises 0 (take levels ends) history.now) }
-    ensures fitted { Fitted output.old output.new start result (kernel_lines (cut 0 (take levels ends) history.now)) }
+fn put_kernels(history: &[u32], ends: &[u32], output: &mut [u8], start: usize) -> usize
+    requires history_len_bound { (length history.now ≤ 99999) × (length ends.now ≤ 64) × (start ≤ 100) }
+    requires t { T (rises 0 ends.now history.now) }
+    ensures fitted { Fitted output.old output.new start result (kernel_lines (cut 0 ends.now history.now)) }
     ensures upper_bound { result ≤ start + 22 * 64 }
 {
     let mut place = start;
     let mut from = 0;
-    let mut i = 0;
-    while i < levels {
-        let end = ends[i] as usize;
-        let kind = at(history, from);
-        place = put_kernel(output, place, kind, end - from);
-        from = end;
-        i += 1;
+    for end in ends {
+        let to = *end as usize;
+        let kind = Kind::from(at(history, from));
+        place = put_kernel(output, place, kind, to - from);
+        from = to;
     }
     place
 }
@@ -70,12 +63,10 @@ fn put_pairs(work: &[u32], d: usize, output: &mut [u8], start: usize) -> usize
     ensures { Fitted output.old output.new start result (pair_lines (entries_in d work.now)) }
 {
     let mut place = start;
-    let mut i = 0;
-    while i < d / 2 {
+    for i in 0..d / 2 {
         let a = entry(work, d, 2 * i);
         let b = entry(work, d, 2 * i + 1);
         place = put_pair(output, place, a, b);
-        i += 1;
     }
     place
 }
@@ -93,30 +84,22 @@ fn put_file(work: &[u32], state: State, output: &mut [u8]) -> usize
     let kernels = put_head(d, levels, output);
     let a = 3 * d;
     let e = a + state.operations as usize;
-    let pairs = put_kernels(&work[a..e], levels, ends, output, kernels);
+    let pairs = put_kernels(&work[a..e], &ends[..levels], output, kernels);
     put_pairs(work, d, output, pairs)
 }
 
-// The bytes that the file needs, where the output is too short for them, or the bytes written.
-#[derive(Clone, Copy)]
-pub enum Written {
-    Short(usize),
-    Wrote(usize),
-}
-
-// The file of the pyramid that the work area holds. A first walk, over an output of one byte, finds out its length.
-pub fn write_inside(work: &mut [u32], state: State, output: &mut [u8]) -> Written
+// The file of the pyramid that the work area holds: the bytes written, or the bytes that it needs where the output is too short. A first walk, over an
+// output with no room, finds out its length.
+pub fn write_inside(work: &mut [u32], state: State, output: &mut [u8]) -> Result<usize, Refusal>
     requires { Stacked (state_of state) work.old }
     ensures file_written { FileWritten (state_of state) (table_in state.darts work.old) (past_in state.darts state.operations work.old)
         output.old output.new result }
     ensures beyond { Beyond state.darts work.old work.new }
 {
     number_darts(work, state.darts as usize, state.operations as usize);
-    let mut none = [0u8; 1];
-    let needed = put_file(work, state, &mut none);
+    let needed = put_file(work, state, &mut []);
     if output.len() < needed {
-        return Written::Short(needed);
+        return Err(Refusal::TooShort(needed));
     }
-    let written = put_file(work, state, output);
-    Written::Wrote(written)
+    Ok(put_file(work, state, output))
 }

@@ -16,31 +16,24 @@ fn list_taken(work: &mut [u32], d: usize, n: usize)
     requires { Area d n work.old }
     ensures { work.new ≡ laid work.old (2 * d) (taken (history_in d n work.old)) }
 {
-    let mut i = 0;
-    while i < n {
+    for i in 0..n {
         let p = at(work, 3 * d + i) / 2;
         let q = partner(p);
         work[2 * d + 2 * i] = p as u32;
         work[2 * d + 2 * i + 1] = q as u32;
-        i += 1;
     }
 }
 
-// The survivors by rising number are the rest of the list.
+// The survivors by rising number are the rest of the list, which stands in the slice that says who survives: so no iterator goes over it.
 fn list_survivors(work: &mut [u32], d: usize, n: usize)
     requires { Area d n work.old }
     ensures { work.new ≡ laid work.old (2 * d + 2 * n) (survivors (past_in d n work.old) d) }
 {
     let mut place = 2 * d + 2 * n;
-    let mut left = d;
-    while 0 < left {
-        let x = d - left;
+    for x in 0..d {
         if at(work, d + x) < d {
             work[place] = x as u32;
             place += 1;
-            left -= 1;
-        } else {
-            left -= 1;
         }
     }
 }
@@ -51,12 +44,9 @@ fn number_listed(work: &mut [u32], d: usize)
     requires by_index { (i : ℕ) → i < d → get_or work.old (2 * d + i) 0 < d }
     ensures { Placed d work.old work.new }
 {
-    let mut left = d;
-    while 0 < left {
-        let i = left - 1;
+    for i in (0..d).rev() {
         let x = at(work, 2 * d + i);
         work[d + x] = i as u32;
-        left = i;
     }
 }
 

@@ -1,31 +1,25 @@
 // What the writer lays into a lent output: words, numbers, and the lines of the file. A line is laid where there is room for it, so that a walk over
 // the lines with no room at all tells how many bytes they need.
+// Output and place go side by side: a struct that holds the lent output would need in each contract a clause more, that it is the same output still.
 ghost use Rattle.std.specs.Prelude.{◌≡◌, [], ◌∷◌, ◌≤◌, length};
-ghost use Rattle.darts.specs.Operation.{kind_of};
+ghost use Rattle.darts.specs.Kinds.{kind_is};
 ghost use Rattle.darts.specs.Text.{decimal};
 ghost use Rattle.darts.specs.File.{pair_lines};
 ghost use Rattle.slices.specs.Put.{Put};
 ghost use Rattle.writer.specs.Fields.{Fitted, field_line, count_line};
 ghost use Rattle.slices.specs.Laid.{Space};
 
+use darts::Kind;
+
 // How many digits a number has.
 pub fn digits(x: usize) -> usize
     requires { x ≤ 99999 }
     ensures { result ≡ length (decimal x) }
 {
-    if x < 10 {
-        return 1;
+    match x {
+        0 => 1,
+        _ => x.ilog10() as usize + 1,
     }
-    if x < 100 {
-        return 2;
-    }
-    if x < 1000 {
-        return 3;
-    }
-    if x < 10000 {
-        return 4;
-    }
-    5
 }
 
 // The bytes of w from a place on; the answer is the place after them.
@@ -33,15 +27,12 @@ pub fn put_bytes(output: &mut [u8], at: usize, w: &[u8]) -> usize
     requires { Space output.old at w.now }
     ensures { Put output.old output.new at result w.now }
 {
-    let mut i = 0;
-    while i < w.len() {
-        output[at + i] = w[i];
-        i += 1;
-    }
-    at + i
+    let next = at + w.len();
+    output[at..next].copy_from_slice(w);
+    next
 }
 
-// The decimal digits of a number, from the last to the first.
+// The decimal digits of a number, from the last to the first. By hand: the library's Display writes to a writer of its own, which may answer an error.
 pub fn put_number(output: &mut [u8], at: usize, x: usize) -> usize
     requires x_bound { x ≤ 99999 }
     requires space { Space output.old at (decimal x) }
@@ -49,13 +40,10 @@ pub fn put_number(output: &mut [u8], at: usize, x: usize) -> usize
 {
     let end = at + digits(x);
     let mut rest = x;
-    let mut place = end;
-    while 10 <= rest {
-        place -= 1;
+    for place in (at..end).rev() {
         output[place] = (48 + rest % 10) as u8;
-        rest = rest / 10;
+        rest /= 10;
     }
-    output[at] = (48 + rest) as u8;
     end
 }
 
@@ -91,13 +79,14 @@ pub fn put_pair(output: &mut [u8], at: usize, a: usize, b: usize) -> usize
     fit_field(output, second, b"", b, b"\n")
 }
 
-// A line `kernel=contract N` or `kernel=remove N`, where there is room for it; the kind is 1 for a contraction and 0 for a removal.
-pub fn put_kernel(output: &mut [u8], at: usize, kind: usize, count: usize) -> usize
+// A line `kernel=contract N` or `kernel=remove N`, where there is room for it.
+#[tactic(auto, unfolding(crate::specs::Fields::count_line, crate::specs::Fields::field_line, darts::specs::File::kind_word))]
+pub fn put_kernel(output: &mut [u8], at: usize, kind: Kind, count: usize) -> usize
     requires { (count ≤ 99999) × (at ≤ 900000) }
-    ensures { Fitted output.old output.new at result (count_line (kind_of kind) count) }
+    ensures { Fitted output.old output.new at result (count_line (kind_is kind) count) }
 {
-    if kind % 2 == 0 {
-        return fit_field(output, at, b"kernel=remove ", count, b"\n");
+    match kind {
+        Kind::Contract => fit_field(output, at, b"kernel=contract ", count, b"\n"),
+        Kind::Remove => fit_field(output, at, b"kernel=remove ", count, b"\n"),
     }
-    fit_field(output, at, b"kernel=contract ", count, b"\n")
 }

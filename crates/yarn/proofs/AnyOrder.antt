@@ -23,8 +23,7 @@ use Rattle.laws.proofs.runs.Cuts.{kernels_listed}
 use Rattle.laws.proofs.claims.AnyOrder.{Agrees, any_order, pyramid_listed}
 use Rattle.laws.specs.Standing.{Standing}
 use Rattle.laws.proofs.bridge.Bases.{base_stands}
-use Rattle.sheets.specs.declared.Yarn.{Yarn}
-use Rattle.sheets.specs.declared.Yarn.TheVariants.{Metres, NotMeasured}
+use Rattle.std.specs.Prelude.{Float, Option, Some, None}
 use Rattle.sheets.specs.Records.{merge_of, measured}
 use Rattle.sheets.specs.Sheets.{Sheets, merged_by}
 use Rattle.yarn.specs.Places.{lowest, zone_of, merges}
@@ -42,12 +41,12 @@ pub measured_figure : Figure ◌&&◌ true measured
 unfolding measured
 measured_figure = record { adds = both; merges = λ a b. go a.stitches b.stitches a.yarn b.yarn }
   where
-    go : (m n : ℕ) (y z : Yarn)
+    go : (m n : ℕ) (y z : Option Float)
         → measured (merge_of (record { stitches = m; yarn = y }) (record { stitches = n; yarn = z }))
         ≡ measured (record { stitches = m; yarn = y }) && measured (record { stitches = n; yarn = z })
-    go m n (Metres a) (Metres b) = refl
-    go m n (Metres a) NotMeasured = refl
-    go m n NotMeasured z = refl
+    go m n (Some a) (Some b) = refl
+    go m n (Some a) None = refl
+    go m n None z = refl
 
 -- ---- a zone, by what went into it
 

@@ -9,14 +9,13 @@
 --   sheets a b c d ks == map T's records a, b, c and d, and the kept ones ks; wherever no call looks, rubbish
 --   fewer m n S == the first m and n places of the sheets S
 --   longer m n S == the sheets S with m and n places more
-use Rattle.std.specs.Prelude.{Bool, true, false, ◌&&◌, List, [], ◌∷◌, ◌++◌, ℕ, eqb, negsuc, replicate, take, Float}
+use Rattle.std.specs.Prelude.{Bool, true, false, ◌&&◌, List, [], ◌∷◌, ◌++◌, ℕ, eqb, negsuc, replicate, take, Float, Some, None}
 use Rattle.std.specs.Float.{nan, fin}
 use Rattle.slices.specs.Over.{over}
 use Rattle.darts.specs.Operation.{contraction, removal}
 use Rattle.darts.specs.State.{State}
 use Rattle.darts.specs.Pyramid.{same_numbers, same_state}
 use Rattle.darts.specs.Worked.{answers_both}
-use Rattle.sheets.specs.declared.Yarn.TheVariants.{Metres, NotMeasured}
 use Rattle.sheets.specs.declared.Zone.{Zone}
 use Rattle.sheets.specs.Records.{same_zone}
 use Rattle.sheets.specs.Sheets.{Sheets}
@@ -96,10 +95,10 @@ all_right (r ∷ rs) = right r && all_right rs
 -- ---- records
 
 abbrev pub zone : ℕ → Float → Zone
-zone n m = record { stitches = n; yarn = Metres m }
+zone n m = record { stitches = n; yarn = Some m }
 
 abbrev pub unmeasured : ℕ → Zone
-unmeasured n = record { stitches = n; yarn = NotMeasured }
+unmeasured n = record { stitches = n; yarn = None }
 
 abbrev pub half : ℕ → Zone
 half n = zone n (fin false 1 (negsuc 0))

@@ -25,7 +25,7 @@ pub extern "C" fn zm_start(
     hand_back(outcome, state, place, second)
 }
 
-// One level more: the kernel's edges contracted in the listed order.
+// One level more: the kernel's edges contracted in the listed order. C has a function for each kind.
 #[unsafe(no_mangle)]
 pub extern "C" fn zm_contract(
     state: &mut [u32; 69],
@@ -135,7 +135,6 @@ pub extern "C" fn zm_counts(
 {
     let given = state_of(state);
     let counted = given.counts(table, history, work);
-    put_counts(counted.counts, counts, euler);
-    let answer = counted.answer;
-    put_answer(answer, place, second)
+    put_counts(counted, counts, euler);
+    put_answer(counted.map(|_| 0), place, second)
 }

@@ -5,7 +5,7 @@ ghost use Rattle.zonemap_c.specs.Numbers.{looked_in};
 
 use crate::state::put_answer;
 
-// The dart that follows another at a level, and how many gone darts were passed on the way to it.
+// The dart that follows another at a level, and how many gone darts were passed on the way to it; 0 and 0 where it is refused.
 #[unsafe(no_mangle)]
 pub extern "C" fn zm_successor(
     darts: u32,
@@ -22,9 +22,16 @@ pub extern "C" fn zm_successor(
     ensures { looked_in result place.new second.new found.new passed.new table.now ends.now work.new
         ≡ successor_at darts level dart table.now ends.now work.old }
 {
-    let looked = lookup::successor_at(darts, level, dart, table, ends, work);
-    *found = looked.dart;
-    *passed = looked.passed;
-    let answer = looked.answer;
-    put_answer(answer, place, second)
+    match lookup::successor_at(darts, level, dart, table, ends, work) {
+        Ok(looked) => {
+            *found = looked.dart;
+            *passed = looked.passed;
+            put_answer(Ok(0), place, second)
+        }
+        Err(refusal) => {
+            *found = 0;
+            *passed = 0;
+            put_answer(Err(refusal), place, second)
+        }
+    }
 }

@@ -1,4 +1,2 @@
--- Lent    == the rooms have what a call is lent
--- Within  == what a script holds lies within the rooms
-pub mod Lent
-pub mod Within
+-- Kept == what a call leaves of the rooms that it is not lent
+pub mod Kept

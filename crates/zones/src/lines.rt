@@ -1,175 +1,155 @@
 // The lines of a script, one after another.
-ghost use Rattle.std.specs.Prelude.{◌≡◌, IfOk, OnErr, length};
-ghost use Rattle.script.specs.Scanned.{Scanned};
-ghost use Rattle.zones.specs.Within.{Within};
+ghost use Rattle.std.specs.Prelude.{◌≡◌};
+ghost use Rattle.pyramid.specs.Values.{figures_with, state_of};
+ghost use Rattle.zones.specs.Kept.{KeptByIo};
+ghost use Rattle.zones.specs.declared.lines.Stop.TheVariants.{Wrong as Stopped};
 
-use crate::calls::call;
-use crate::costs::find_zones;
-use crate::held::{Held, nothing};
-use crate::prints::show;
-use crate::rooms::{
-    EndsRoom, HistoryRoom, KeptRoom, OutputRoom, PlanRoom, SheetRoom, TableRoom, WorkRoom,
-};
-use crate::settings::set;
-use crate::sheet_calls::step_with;
-use script::costs::print_costs;
-use script::laying::put_records;
-use script::prints;
-use script::records::no_yarn;
-use script::scan::{Line, NumbersRoom, next_line};
-use script::words::{BYTES, COSTS, KEPT, SHEET, SHOW, START};
+use crate::rooms::{Lent, Rooms};
+use pyramid::State;
+use script::laying::put;
+use script::scan::{Line, next_line};
+use script::words::{Command, Wrong, no_yarn};
+use sheets::Zone;
 use std::io;
 use std::io::Write;
 
-// Does what a line without sheets asks for, by its group: what is held after it.
-fn plain<W: Write>(
-    out: &mut W,
-    held: Held,
-    line: Line,
-    script: &[u8],
-    numbers: &NumbersRoom,
-    plan: &mut PlanRoom,
-    table: &mut TableRoom,
-    history: &mut HistoryRoom,
-    ends: &mut EndsRoom,
-    work: &mut WorkRoom,
-    output: &mut OutputRoom,
-) -> io::Result<Held>
-    requires { Within held × Scanned script.now line }
-    ensures ok { IfOk result (λ h. Within h) }
-    ensures err { OnErr result ((plan.new ≡ plan.old) × (length table.new ≡ length table.old)
-        × (length history.new ≡ length history.old) × (ends.new ≡ ends.old)
-        × (length work.new ≡ length work.old) × (length output.new ≡ length output.old)) }
-{
-    if line.command == 0 {
-        return Ok(held.with_wrong(true));
-    }
-    if line.command < START {
-        return Ok(set(
-            held, line, script, numbers, plan, table, history, ends, work,
-        ));
-    }
-    if line.command < SHOW {
-        return call(
-            out, held, line, script, numbers, plan, table, history, ends, work, output,
-        );
-    }
-    if line.command == BYTES {
-        prints::bytes(out, output, held.written)?;
-        return Ok(held);
-    }
-    show(out, held, table, history)?;
-    Ok(held)
+// Why a script goes no further: an error line, or an error of the writer.
+#[derive(Drop)]
+pub enum Stop {
+    Wrong,
+    Io(io::Error),
 }
 
-// Does what a line asks for: what is held after it.
-pub fn obey<W: Write>(
-    out: &mut W,
-    held: Held,
-    line: Line,
-    script: &[u8],
-    numbers: &NumbersRoom,
-    plan: &mut PlanRoom,
-    table: &mut TableRoom,
-    history: &mut HistoryRoom,
-    ends: &mut EndsRoom,
-    work: &mut WorkRoom,
-    output: &mut OutputRoom,
-    sheet: &mut SheetRoom,
-    kept: &mut KeptRoom,
-) -> io::Result<Held>
-    requires { Within held × Scanned script.now line }
-    ensures ok { IfOk result (λ h. Within h) }
-    ensures err { OnErr result ((plan.new ≡ plan.old) × (length table.new ≡ length table.old)
-        × (length history.new ≡ length history.old) × (ends.new ≡ ends.old)
-        × (length work.new ≡ length work.old) × (length output.new ≡ length output.old)
-        × (length sheet.new ≡ length sheet.old) × (length kept.new ≡ length kept.old)) }
-{
-    if line.command < SHEET {
-        return plain(
-            out, held, line, script, numbers, plan, table, history, ends, work, output,
-        );
+impl From<Wrong> for Stop {
+    ghost from_gives = { λ _ stop. stop ≡ Stopped };
+
+    fn from(_wrong: Wrong) -> Stop {
+        Stop::Wrong
     }
-    if line.command == SHEET {
-        let outside = put_records(sheet, script, line);
-        return Ok(held.with_wrong(outside));
-    }
-    if line.command == KEPT {
-        let outside = put_records(kept, script, line);
-        return Ok(held.with_wrong(outside));
-    }
-    if line.command == COSTS {
-        let mut zones = [0u32; 65536];
-        let n = find_zones(held, &mut zones, table, history);
-        print_costs(out, sheet, &zones, n)?;
-        return Ok(held);
-    }
-    step_with(
-        out, held, line, numbers, table, history, work, output, sheet, kept,
-    )
 }
 
-// Each line is done before the next is looked at. A line has a line feed at least, so there are no more lines than bytes.
-pub fn each<W: Write>(
-    out: &mut W,
-    script: &[u8],
-    numbers: &mut NumbersRoom,
-    plan: &mut PlanRoom,
-    table: &mut TableRoom,
-    history: &mut HistoryRoom,
-    ends: &mut EndsRoom,
-    work: &mut WorkRoom,
-    output: &mut OutputRoom,
-    sheet: &mut SheetRoom,
-    kept: &mut KeptRoom,
-) -> io::Result<()>
-    ensures { OnErr result ((length numbers.new ≡ length numbers.old) × (length plan.new ≡ length plan.old)
-        × (length table.new ≡ length table.old) × (length history.new ≡ length history.old)
-        × (length ends.new ≡ length ends.old) × (length work.new ≡ length work.old)
-        × (length output.new ≡ length output.old) × (length sheet.new ≡ length sheet.old)
-        × (length kept.new ≡ length kept.old)) }
+impl From<io::Error> for Stop {
+    fn from(error: io::Error) -> Stop {
+        Stop::Io(error)
+    }
+}
+
+// "sets the two numbers that the state stores, vertices and faces"
+fn stored(state: State, vertices: u32, faces: u32) -> State
+    ensures { state_of result ≡ figures_with (state_of state) vertices faces }
 {
-    let mut held = nothing();
-    let mut at = 0;
-    for k in 0..script.len() {
-        if at == script.len() {
-            return Ok(());
+    State {
+        vertices,
+        faces,
+        ..state
+    }
+}
+
+impl Rooms {
+    // "darts, operations, levels, then level ends; ends that are not given are 0", and so are the numbers of vertices and faces.
+    fn given(&self, count: usize) -> State {
+        let n = count.clamp(3, 67);
+        let mut ends = [0; 64];
+        ends[..n - 3].copy_from_slice(&self.numbers[3..n]);
+        State {
+            darts: self.numbers[0],
+            operations: self.numbers[1],
+            levels: self.numbers[2],
+            vertices: 0,
+            faces: 0,
+            ends,
         }
-        let next = next_line(script, at, numbers);
-        held = obey(
-            out, held, next, script, numbers, plan, table, history, ends, work, output, sheet, kept,
-        )?;
-        if held.wrong {
-            return prints::error(out, k + 1);
-        }
-        at = next.next;
     }
-    Ok(())
+
+    // Does what a line asks for. Where the writer takes no more, plan and ends are as they were.
+    fn obey<W: Write>(&mut self, out: &mut W, line: Line) -> Result<(), Stop>
+        ensures { KeptByIo result self.old self.new }
+    {
+        let first = self.numbers[0];
+        let second = self.numbers[1];
+        let third = self.numbers[2];
+        match line.command {
+            Command::Lend => self.lent.lend(first, second, third)?,
+            Command::Sheets => self.lent.lend_sheets(first, second)?,
+            Command::Table => put(&mut self.table, line.words)?,
+            Command::History => put(&mut self.history, line.words)?,
+            Command::Ends => put(&mut self.ends, line.words)?,
+            Command::Work => put(&mut self.work, line.words)?,
+            Command::Plan => put(&mut self.plan, line.words)?,
+            Command::Sheet => put(&mut self.sheet, line.words)?,
+            Command::Kept => put(&mut self.kept, line.words)?,
+            Command::Fill => self.work.fill(first),
+            Command::State => self.state = self.given(line.count),
+            Command::Stored => self.state = stored(self.state, first, second),
+            Command::Counts => self.counts(out)?,
+            Command::Successor => self.successor(out, first, second, third)?,
+            Command::Write => self.write(out, first as usize)?,
+            Command::Show => self.show(out)?,
+            Command::Bytes => out.write_all(&self.output[..self.lent.written])?,
+            Command::Costs => self.costs(out)?,
+            Command::YarnStart
+            | Command::YarnContract
+            | Command::YarnRemove
+            | Command::YarnSweep
+            | Command::YarnUndo
+            | Command::YarnUnfold => self.call_with(out, line)?,
+            _ => self.call(out, line)?,
+        }
+        Ok(())
+    }
+
+    // The first line of a script, done: the script after it.
+    fn line<'a, W: Write>(&mut self, out: &mut W, script: &'a [u8]) -> Result<&'a [u8], Stop> {
+        let line = next_line(script, &mut self.numbers)?;
+        self.obey(out, line)?;
+        Ok(line.rest)
+    }
+
+    // Each line is done before the next is looked at. A line has a line feed at least, so there are no more lines than bytes.
+    fn each<W: Write>(&mut self, out: &mut W, script: &[u8]) -> io::Result<()> {
+        let mut rest = script;
+        for k in 1..=script.len() {
+            if rest.is_empty() {
+                break;
+            }
+            match self.line(out, rest) {
+                Ok(next) => rest = next,
+                Err(Stop::Wrong) => return page::line(out, format_args!("error={k}")),
+                Err(Stop::Io(error)) => return Err(error),
+            }
+        }
+        Ok(())
+    }
 }
 
-// Runs a script over rooms of zeros, each made here and lent whole, so that it stands on the stack once.
-pub fn with_rooms<W: Write>(out: &mut W, script: &[u8]) -> io::Result<()> {
-    let mut numbers = [0u32; 32772];
-    let mut table = [0u32; 65540];
-    let mut history = [0u32; 32772];
-    let mut ends = [0u32; 32772];
-    let mut work = [0u32; 262160];
-    let mut output = [0u8; 600000];
-    let mut plan = [0u8; 16388];
-    let none = no_yarn();
-    let mut sheet = [none; 65540];
-    let mut kept = [none; 32772];
-    each(
-        out,
-        script,
-        &mut numbers,
-        &mut plan,
-        &mut table,
-        &mut history,
-        &mut ends,
-        &mut work,
-        &mut output,
-        &mut sheet,
-        &mut kept,
-    )
+// Runs a script over rooms of zeros, made here and lent whole, so that they stand on the stack once. "At first each record is `0:0`": filled in afterwards,
+// since an array of records that are not all zero would first stand on the stack beside the rooms.
+pub fn run<W: Write>(out: &mut W, script: &[u8]) -> io::Result<()> {
+    let none = Zone {
+        stitches: 0,
+        yarn: None,
+    };
+    let mut rooms = Rooms {
+        state: State::base(0, 0, 0),
+        lent: Lent {
+            table: 0,
+            history: 0,
+            work: 0,
+            sheet: 0,
+            kept: 0,
+            written: 0,
+        },
+        numbers: [0; 32772],
+        table: [0; 65540],
+        history: [0; 32772],
+        ends: [0; 32772],
+        work: [0; 262160],
+        output: [0; 600000],
+        plan: [0; 16388],
+        sheet: [none; 65540],
+        kept: [none; 32772],
+    };
+    rooms.sheet.fill(no_yarn());
+    rooms.kept.fill(no_yarn());
+    rooms.each(out, script)
 }

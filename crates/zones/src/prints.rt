@@ -1,187 +1,113 @@
 // What is printed of a call, and by `show`. Each line is written out at once, so that a script shows how far it came.
-ghost use Rattle.std.specs.Prelude.{◌≡◌, ◌≤◌, IfOk, OnErr, length};
-ghost use Rattle.page.specs.Waits.{Waits};
-ghost use Rattle.zones.specs.Within.{Within};
+ghost use Rattle.std.specs.Prelude.{◌≤◌};
 
-use crate::held::Held;
-use crate::rooms::{EndsRoom, HistoryRoom, OutputRoom, TableRoom, WorkRoom};
-use crate::sums::{checksums, found_checksums};
-use lookup::Looked;
-use pyramid::{Answer, Counted, Outcome, State};
-use script::prints;
-use script::sizes::{least, size};
-use script::sums::Sums;
-use std::io;
+use crate::rooms::Rooms;
+use lookup::Followed;
+use page::Page;
+use pyramid::{Refusal, State};
+use script::prints::Numbers;
+use script::sums::{FoundSums, Sums, sum};
+use std::fmt::Display;
 use std::io::Write;
+use std::{fmt, io};
 
-// "answer=A place=P second=S"
-fn answer_line<W: Write>(out: &mut W, page: &mut [u8], answer: Answer) -> io::Result<usize>
-    requires { Waits 0 page.old }
-    ensures ok { IfOk result (λ at. Waits at page.new) }
-    ensures err { OnErr result (length page.new ≡ length page.old) }
-{
-    prints::answer_line(out, page, answer.number(), answer.place(), answer.second())
+// "answer=A place=P second=S": of a call that is done 0, the bytes that it wrote, and 0.
+#[derive(Clone, Copy)]
+struct Answer(Result<usize, Refusal>);
+
+impl fmt::Display for Answer {
+    fn fmt<W: fmt::Write>(&self, f: &mut fmt::Formatter<W>) -> fmt::Result {
+        let (number, place, second) = match self.0 {
+            Ok(written) => (0, written, 0),
+            Err(refusal) => (refusal.number(), refusal.place(), refusal.second()),
+        };
+        write!(f, "answer={number} place={place} second={second}")
+    }
 }
 
-// "state=D N L V F"; the key has what stands before D.
-fn state_line<W: Write>(
+// "state=D N L V F"
+#[derive(Clone, Copy)]
+struct Figures(State);
+
+impl fmt::Display for Figures {
+    fn fmt<W: fmt::Write>(&self, f: &mut fmt::Formatter<W>) -> fmt::Result {
+        let State {
+            darts,
+            operations,
+            levels,
+            vertices,
+            faces,
+            ..
+        } = self.0;
+        write!(f, "state={darts} {operations} {levels} {vertices} {faces}")
+    }
+}
+
+// Prints the line of `successor`: no dart, and none passed, where it is refused.
+pub fn print_found<W: Write>(
     out: &mut W,
-    page: &mut [u8],
-    used: usize,
-    key: &[u8],
-    state: State,
-) -> io::Result<usize>
-    requires { Waits used page.old }
-    ensures ok { IfOk result (λ at. Waits at page.new) }
-    ensures err { OnErr result (length page.new ≡ length page.old) }
-{
-    prints::state_line(
+    found: Result<Followed, Refusal>,
+    sums: FoundSums,
+) -> io::Result<()> {
+    let answer = Answer(found.and(Ok(0)));
+    let Followed { dart, passed } = found.unwrap_or(Followed { dart: 0, passed: 0 });
+    page::line(
         out,
-        page,
-        used,
-        key,
-        state.darts,
-        state.operations,
-        state.levels,
-        state.vertices,
-        state.faces,
+        format_args!("{answer} dart={dart} passed={passed} {sums}"),
     )
 }
 
-// "answer=A place=P second=S state=D N L V F ends=C table=C history=C work=C output=C"
-fn call_line<W: Write>(
-    out: &mut W,
-    page: &mut [u8],
-    answer: Answer,
-    state: State,
-    sums: Sums,
-) -> io::Result<usize>
-    requires { Waits 0 page.old }
-    ensures ok { IfOk result (λ at. Waits at page.new) }
-    ensures err { OnErr result (length page.new ≡ length page.old) }
-{
-    let second = answer_line(out, page, answer)?;
-    let held = state_line(out, page, second, b" state=", state)?;
-    prints::sums_line(out, page, held, sums)
+// The checksum of all 64 ends of a state.
+fn sum_ends(state: State) -> u64 {
+    sum(&state.ends)
 }
 
-// Prints the line of a call that was lent n bytes of output.
-pub fn print_call<W: Write>(
-    out: &mut W,
-    held: Held,
-    answer: Answer,
-    n: usize,
-    table: &TableRoom,
-    history: &HistoryRoom,
-    work: &WorkRoom,
-    output: &OutputRoom,
-) -> io::Result<()>
-    requires { Within held × (n ≤ 599996) }
-{
-    let mut page = [0u8; 512];
-    let checks = checksums(held, n, table, history, work, output);
-    let state = held.state;
-    let used = call_line(out, &mut page, answer, state, checks)?;
-    let end = page::text(out, &mut page, used, b"\n")?;
-    page::flush(out, &page, end)
-}
+impl Rooms {
+    // The checksums of the ends, of T, H and W numbers and of n bytes, with the four after them.
+    fn sums(&self, n: usize) -> Sums
+        requires { n ≤ 599996 }
+    {
+        let lent = self.lent;
+        Sums {
+            ends: sum_ends(self.state),
+            table: sum(&self.table[..lent.table + 4]),
+            history: sum(&self.history[..lent.history + 4]),
+            work: sum(&self.work[..lent.work + 4]),
+            output: sum(&self.output[..n + 4]),
+        }
+    }
 
-// Prints the line of `counts`, which puts the counts at its end.
-pub fn print_counts<W: Write>(
-    out: &mut W,
-    held: Held,
-    counted: Counted,
-    table: &TableRoom,
-    history: &HistoryRoom,
-    work: &WorkRoom,
-    output: &OutputRoom,
-) -> io::Result<()>
-    requires { Within held }
-{
-    let mut page = [0u8; 512];
-    let checks = checksums(held, 0, table, history, work, output);
-    let state = held.state;
-    let answer = counted.answer;
-    let counts = counted.counts;
-    let used = call_line(out, &mut page, answer, state, checks)?;
-    let rest = page::counts(
-        out,
-        &mut page,
-        used,
-        counts.darts,
-        counts.vertices,
-        counts.faces,
-        counts.euler,
-    )?;
-    let end = page::text(out, &mut page, rest, b"\n")?;
-    page::flush(out, &page, end)
-}
+    // Prints the line of a call that was lent n bytes of output: "answer=A place=P second=S state=D N L V F ends=C table=C history=C work=C output=C", and what
+    // the call has beside them.
+    pub fn print<W: Write, D: Display + Drop>(
+        &self,
+        out: &mut W,
+        answer: Result<usize, Refusal>,
+        n: usize,
+        beside: D,
+    ) -> io::Result<()>
+        requires { n ≤ 599996 }
+    {
+        let answer = Answer(answer);
+        let state = Figures(self.state);
+        let sums = self.sums(n);
+        page::line(out, format_args!("{answer} {state} {sums}{beside}"))
+    }
 
-// Prints the line of a call with sheets, which puts their checksums at its end, and answers what is held then: the state that was handed back.
-pub fn print_yarn<W: Write>(
-    out: &mut W,
-    held: Held,
-    outcome: Outcome,
-    sheet: u64,
-    kept: u64,
-    table: &TableRoom,
-    history: &HistoryRoom,
-    work: &WorkRoom,
-    output: &OutputRoom,
-) -> io::Result<Held>
-    requires { Within held }
-    ensures { IfOk result (λ h. Within h) }
-{
-    let mut page = [0u8; 512];
-    let state = outcome.state;
-    let answer = outcome.answer;
-    let after = held.with_state(state);
-    let checks = checksums(after, 0, table, history, work, output);
-    let used = call_line(out, &mut page, answer, state, checks)?;
-    let first = page::field(out, &mut page, used, b" sheet=", sheet)?;
-    let second = page::field(out, &mut page, first, b" kept=", kept)?;
-    let end = page::text(out, &mut page, second, b"\n")?;
-    page::flush(out, &page, end)?;
-    Ok(after)
-}
-
-// Prints the line of `successor`.
-pub fn print_found<W: Write>(
-    out: &mut W,
-    held: Held,
-    looked: Looked,
-    table: &TableRoom,
-    ends: &EndsRoom,
-    work: &WorkRoom,
-) -> io::Result<()>
-    requires { Within held }
-{
-    let mut page = [0u8; 512];
-    let checks = found_checksums(held, table, ends, work);
-    let answer = looked.answer;
-    let second = answer_line(out, &mut page, answer)?;
-    let used = prints::found_line(out, &mut page, second, looked.dart, looked.passed, checks)?;
-    let end = page::text(out, &mut page, used, b"\n")?;
-    page::flush(out, &page, end)
-}
-
-// Prints state, table and history: "the first D numbers of the table (T at most)" and "the first N (H at most)".
-pub fn show<W: Write>(
-    out: &mut W,
-    held: Held,
-    table: &TableRoom,
-    history: &HistoryRoom,
-) -> io::Result<()>
-    requires { Within held }
-{
-    let mut page = [0u8; 4096];
-    let state = held.state;
-    let d = least(size(state.darts), held.table);
-    let n = least(size(state.operations), held.history);
-    let all = state.ends;
-    let numbers = state_line(out, &mut page, 0, b"state=", state)?;
-    let first = prints::ends(out, &mut page, numbers, &all, state.levels)?;
-    let second = prints::list(out, &mut page, first, b"table=", table, d)?;
-    let third = prints::list(out, &mut page, second, b"history=", history, n)?;
-    page::flush(out, &page, third)
+    // Prints state, table and history: "the first L ends (64 at most)", "the first D numbers of the table (T at most)" and "the first N (H at most)".
+    pub fn show<W: Write>(&self, out: &mut W) -> io::Result<()> {
+        let lent = self.lent;
+        let levels = self.state.levels as usize;
+        let d = (self.state.darts as usize).min(lent.table);
+        let n = (self.state.operations as usize).min(lent.history);
+        let state = self.state;
+        let mut page = Page::<_, 4096>::new(out);
+        write!(page, "{}", Figures(state))?;
+        for end in state.ends.iter().take(levels) {
+            write!(page, " {end}")?;
+        }
+        writeln!(page, "\ntable={}", Numbers(&self.table[..d]))?;
+        writeln!(page, "history={}", Numbers(&self.history[..n]))?;
+        page.flush()
+    }
 }

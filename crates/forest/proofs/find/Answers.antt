@@ -1,6 +1,5 @@
 -- `forest::find` meets its contract: each turn of the loop halves the way, which keeps every root, and goes on from a number that has the root of x.
 --
---   begin    == before the first turn
 --   halved   == t, with `at` hung under its grandparent
 --   climb_on == one turn more
 --   arrived  == a number that is its own parent is the root
@@ -9,24 +8,11 @@ use mathlib.Core.List.{List}
 use Prim.Native.Nat.{ℕ}
 use native.Mathlib.Omega.{arith}
 use lib.ListN.{set, length-set}
-use Rattle.forest.specs.Forest.{parent, Falls, root, Stands, Found}
+use Rattle.forest.specs.Forest.{parent, Falls, root, Found}
 use Rattle.forest.specs.Roots.{root_top, root_up}
 use Rattle.forest.proofs.Hanging.{halve_falls, halve_roots}
 use Rattle.forest.proofs.find.Invariants.{Climbing}
 use Rattle.forest.proofs.find.Goals as goal
-
-begin : {t : List ℕ} {x : ℕ} → Stands t x → Climbing t t x x (parent t x)
-begin {t} {x} s =
-    record {
-      falls = s.falls;
-      roots = λ z. refl;
-      size = refl;
-      inside = s.inside;
-      next = refl;
-      up_down = s.falls.down x;
-      over_down = s.falls.down (parent t x);
-      same = refl;
-    }
 
 module _ {t₀ t : List ℕ} {x at up : ℕ} (c : Climbing t₀ t x at up) where
   abbrev over : ℕ
@@ -63,9 +49,6 @@ module _ {t₀ t : List ℕ} {x at up : ℕ} (c : Climbing t₀ t x at up) where
         falls = c.falls;
         size = c.size;
       }
-
-pub loop-up-init : goal.loop-up-init
-loop-up-init c = begin c.requires
 
 pub loop-up-preserved : goal.loop-up-preserved
 loop-up-preserved c = climb_on c.loop-up.invariant

@@ -11,8 +11,7 @@ use lib.Ieee as Ieee
 use lib.Ieee.{Float, binary64}
 use lib.ListN.{length}
 use lib.Seq.{get_or-set_same, get_or-set_other}
-use Rattle.sheets.specs.declared.Yarn.{Yarn}
-use Rattle.sheets.specs.declared.Yarn.TheVariants.{Metres, NotMeasured}
+use Rattle.std.specs.Prelude.{Option, Some, None}
 use Rattle.sheets.specs.declared.Zone.{Zone}
 use Rattle.sheets.specs.Records.{merge_of, measured, at}
 use Rattle.sheets.specs.Sheets.{Sheets, into, merged}
@@ -24,7 +23,7 @@ pub merge_stitches : (a b : Zone) → (merge_of a b).stitches ≡ a.stitches + b
 merge_stitches a b = refl
 
 -- "metres add with one rounding and the lower record first"
-pub merge_metres : (a b : Zone) (m n : Float) → a.yarn ≡ Metres m → b.yarn ≡ Metres n → (merge_of a b).yarn ≡ Metres (Ieee.add binary64 m n)
+pub merge_metres : (a b : Zone) (m n : Float) → a.yarn ≡ Some m → b.yarn ≡ Some n → (merge_of a b).yarn ≡ Some (Ieee.add binary64 m n)
 merge_metres a b m n e f = rw (e, f)
 
 -- "not measured with anything is not measured"
@@ -32,10 +31,12 @@ pub merge_measured : (a b : Zone) → measured (merge_of a b) ≡ (measured a &&
 unfolding measured
 merge_measured a b = go a.yarn b.yarn
   where
-    go : (y z : Yarn) → measured (merge_of (record { stitches = 0; yarn = y }) (record { stitches = 0; yarn = z })) ≡ (measured (record { stitches = 0; yarn = y }) && measured (record { stitches = 0; yarn = z }))
-    go (Metres m) (Metres n) = refl
-    go (Metres m) NotMeasured = refl
-    go NotMeasured z = refl
+    go : (y z : Option Float)
+        → measured (merge_of (record { stitches = 0; yarn = y }) (record { stitches = 0; yarn = z }))
+        ≡ (measured (record { stitches = 0; yarn = y }) && measured (record { stitches = 0; yarn = z }))
+    go (Some m) (Some n) = refl
+    go (Some m) None = refl
+    go None z = refl
 
 -- ---- the sheets
 

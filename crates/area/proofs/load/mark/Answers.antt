@@ -8,9 +8,8 @@
 use mathlib.Core.Bool.{true, false}
 use mathlib.Core.List.{List}
 use mathlib.Core.Logic.{◌≢◌}
-use mathlib.Core.Path.{◌≡◌, refl, sym, ap, ◌∙◌}
+use mathlib.Core.Path.{◌≡◌, sym, ◌∙◌}
 use Prim.Native.Nat.{ℕ, suc, ◌+◌, ◌-◌, ◌*◌, ◌/◌, ◌≤◌, ◌<◌}
-use native.Mathlib.Nat.{sub-zero}
 use native.Mathlib.Numerals.{add-one}
 use native.Mathlib.Omega.{arith}
 use lib.ListN.{get_or, set, length-set}
@@ -21,9 +20,6 @@ use Rattle.area.specs.Area.{prev, stamp, tried}
 use Rattle.area.specs.Load.{marks}
 use Rattle.area.proofs.load.mark.Invariants.{Marking}
 use Rattle.area.proofs.load.mark.Goals as goal
-
-mark_begin : (D n : ℕ) (w : List ℕ) → Marking D n w w 0
-mark_begin D n w = record { size = refl; bound = omega arith; same = ap (marks D w 0) (sym (sub-zero n)) }
 
 module _ {D n : ℕ} {w₀ w : List ℕ} {i : ℕ} (m : Marking D n w₀ w i) where
   module _ {h : ℕ} (more : i < n) (here : h ≡ get_or w (3 * D + i) 0) where
@@ -51,9 +47,6 @@ module _ {D n : ℕ} {w₀ w : List ℕ} {i : ℕ} (m : Marking D n w₀ w i) wh
   mark_end : n ≤ i → tried true w ≡ marks D w₀ 0 n
   unfolding marks
   mark_end l = let e : n - i ≡ 0 = omega arith in sym (m.same ∙ rw e)
-
-pub loop-i-init : goal.loop-i-init
-loop-i-init c = mark_begin _ _ _
 
 pub returns-then-d-h : goal.returns-then-d-h
 returns-then-d-h c = mark_large c.loop-i.invariant c.loop-i-test.true c.at-h.ensures c.if-d-h.true

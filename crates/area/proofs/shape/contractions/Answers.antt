@@ -1,40 +1,37 @@
--- `area::shape::contractions` meets its contract: n counts those before i.
+-- `area::shape::contractions` meets its contract: the last bits are summed, each at most 1.
 --
---   Counting w from to n i == what n counts, and what is still to count, are all
---   count_on               == one more is looked at
---   count_end              == all are
-use mathlib.Core.List.{List}
-use mathlib.Core.Path.{◌≡◌, refl, ap, ◌∙◌}
-use Prim.Native.Nat.{ℕ, ◌+◌, ◌%◌, ◌≤◌, ◌<◌}
-use native.Mathlib.Omega.{arith}
-use lib.ListN.{length, get_or}
-use Rattle.slices.specs.Part.{part}
+--   all_bits == the sum of the last bits is what the definitions count
+--   few      == it is at most the number of operations
+use Rattle.std.proofs.Common.{◌≡◌, List, ℕ, ◌*◌, ◌%◌, ◌≤◌, length, refl, sym, ◌∙◌, arith, rules}
+use Rattle.std.specs.List.{sum_by}
+use Rattle.std.proofs.lemmas.Iterator.{YieldsList-from_slice, YieldsList-from_map}
+use Rattle.std.proofs.lemmas.Iterator.Consumers.{sum_by_from_yields_List, fits_by_from_yields_list}
+use Rattle.std.proofs.lemmas.List.Recursion.{is_sum_by}
+use Rattle.std.proofs.lemmas.List.Sums.{sum_by-le}
 use Rattle.darts.specs.Moves.{contractions_in}
-use Rattle.area.proofs.Parts.{part_cons, part_none}
-use Rattle.area.proofs.shape.contractions.Invariants.{Counting}
+use Rattle.slices.specs.Part.{part}
+use Rattle.slices.proofs.Part.{part_length}
 use Rattle.area.proofs.shape.contractions.Goals as goal
 
-module _ {w : List ℕ} {from to n i : ℕ} (C : Counting w from to n i) where
-  count_on : to ≤ length w → i < to → {h : ℕ} → h ≡ get_or w i 0 → Counting w from to (n + h % 2) (i + 1)
-  unfolding contractions_in
-  count_on inside more {h} here =
-      let one : h % 2 ≤ 1 = omega arith in
-      let next : contractions_in (part i to w) ≡ h % 2 + contractions_in (part (i + 1) to w) =
-      ap contractions_in (part_cons i to w more inside) ∙ rw here refl in
-      record { few = omega (arith, C.few); low = omega arith; sum = omega (arith, C.sum, next) }
+abbrev last_bit : ℕ → ℕ
+last_bit h = h % 2
 
-  count_end : to ≤ i → n ≡ contractions_in (part from to w)
-  unfolding contractions_in
-  count_end all =
-      let none : contractions_in (part i to w) ≡ 0 = rw (part_none i to w all) refl in
-      omega (arith, C.sum, none)
+all_bits : (hs : List ℕ) → contractions_in hs ≡ sum_by last_bit hs
+unfolding contractions_in
+all_bits = is_sum_by contractions_in last_bit refl (λ _ _. refl)
 
-pub loop-i-init : goal.loop-i-init
-loop-i-init c = record { few = omega arith; low = c.requires.0; sum = omega arith }
+few : (hs : List ℕ) → sum_by last_bit hs ≤ length hs
+few hs = let each : sum_by last_bit hs ≤ length hs * 1 = sum_by-le last_bit 1 hs (λ i d l. omega arith) in omega arith
 
-pub loop-i-preserved : goal.loop-i-preserved
-loop-i-preserved c =
-    count_on c.loop-i.invariant c.requires.1 c.loop-i-test.true c.at.ensures
+pub sum-requires-clause-fits : goal.sum-requires-clause-fits
+sum-requires-clause-fits c =
+    let hs = part c.args.from c.args.to c.args.numbers.now in
+    let size = part_length c.args.from c.args.to c.args.numbers.now c.requires.1 in
+    fits_by_from_yields_list last_bit hs c.map.result _
+    (YieldsList-from_map _ last_bit (YieldsList-from_slice hs cc) c.map.ensures.closure (λ x r q k. search rules)) (omega (arith, few hs))
 
 pub returns : goal.returns
-returns c = count_end c.loop-i.invariant c.loop-i-test.false
+returns c =
+    let hs = part c.args.from c.args.to c.args.numbers.now in
+    sum_by_from_yields_List last_bit hs c.map.result _ c.sum.ensures.ran
+    (YieldsList-from_map _ last_bit (YieldsList-from_slice hs cc) c.map.ensures.closure (λ x r q k. search rules)) ∙ sym (all_bits hs)

@@ -1,43 +1,46 @@
--- `area::shape::one_kind` meets its contract: all are of the first one's kind where none is of the other.
+-- `area::shape::one_kind` meets its contract: the last bit of each number is the first one's.
 --
---   none_other == none is of the other kind
 --   last_bit   == a number's last bit says its kind
+--   same_bits  == two numbers are of one kind where their last bits are the same
+--   all_bits   == the test of the last bits tells the kinds
 --   first_kind == with the first number in front
-use mathlib.Core.Bool.{Bool, not}
-use mathlib.Core.List.{List, [], ◌∷◌}
-use mathlib.Core.Logic.{by_cases}
-use mathlib.Core.Path.{◌≡◌, refl, ap, ◌∙◌}
-use Prim.Native.Nat.{ℕ, ◌+◌, ◌-◌, ◌%◌, ◌≤◌, ◌<◌}
-use native.Mathlib.Decide.{ℕ_discrete}
-use native.Mathlib.Omega.{arith}
-use lib.ListN.{length, get_or}
-use Rattle.permutations.specs.Choice.{eqb_same, eqb_other}
+use Rattle.std.proofs.Common.{◌≡◌, List, ℕ, Bool, ◌&&◌, ◌+◌, ◌%◌, ◌≤◌, ◌<◌, eqb, length, get_or, refl, ap, ◌∙◌, arith, rules, tests}
+use Rattle.std.specs.List.{list_all}
+use Rattle.std.proofs.lemmas.Iterator.{YieldsList-from_slice}
+use Rattle.std.proofs.lemmas.Iterator.Search.{all_from_yields_List}
+use Rattle.std.proofs.lemmas.List.Recursion.{same_from_clauses}
 use Rattle.darts.specs.Operation.{kind_of}
-use Rattle.darts.specs.Tests.{of_kind, one_kind}
+use Rattle.darts.specs.Tests.{same_kind, of_kind, one_kind}
 use Rattle.slices.specs.Part.{part}
-use Rattle.area.specs.Shape.{has_kind}
-use Rattle.area.proofs.OfKind.{has_here, has_on, kind_same}
+use Rattle.area.proofs.OfKind.{kind_same}
 use Rattle.area.proofs.Parts.{part_cons}
 use Rattle.area.proofs.shape.one_kind.Goals as goal
 
-none_other : (k : ℕ) → k < 2 → (hs : List ℕ) → not (has_kind (1 - k) hs) ≡ of_kind (kind_of k) hs
-unfolding of_kind
-none_other k bit [] = unfold has_kind in refl
-none_other k bit (h ∷ hs) =
-    by_cases (ℕ_discrete (h % 2) k)
-    (λ e. rw (kind_same k bit h, eqb_same e, has_on (1 - k) h hs (λ z. omega arith)) (none_other k bit hs))
-    (λ o. rw (kind_same k bit h, eqb_other o, has_here (1 - k) h hs (omega arith)))
+abbrev bit_of : ℕ → ℕ → Bool
+bit_of k h = eqb (h % 2) k
 
 last_bit : (h : ℕ) → kind_of (h % 2) ≡ kind_of h
 unfolding kind_of
 last_bit h = let e : h % 2 % 2 ≡ h % 2 = omega arith in rw e
 
-first_kind : (w : List ℕ) (from to : ℕ) {h : ℕ} {r : Bool} → from < to → to ≤ length w → h ≡ get_or w from 0
-    → r ≡ has_kind (1 - h % 2) (part (from + 1) to w) → not r ≡ one_kind (part from to w)
+same_bits : (k h : ℕ) → same_kind (kind_of k) (kind_of h) ≡ bit_of (k % 2) h
+same_bits k h = rw (← (last_bit k)) (kind_same (k % 2) (omega arith) h)
+
+all_bits : (k : ℕ) (hs : List ℕ) → list_all (bit_of (k % 2)) hs ≡ of_kind (kind_of k) hs
+unfolding of_kind
+all_bits k =
+    same_from_clauses (list_all (bit_of (k % 2))) (of_kind (kind_of k)) (λ h rest. bit_of (k % 2) h && rest)
+    refl (λ _ _. refl) (λ h hs. ap (λ b. b && of_kind (kind_of k) hs) (same_bits k h))
+
+first_kind : (w : List ℕ) (from to : ℕ) → from < to → to ≤ length w
+    → list_all (bit_of (get_or w from 0 % 2)) (part (from + 1) to w) ≡ one_kind (part from to w)
 unfolding one_kind
-first_kind w from to {h} more inside here told =
-    rw (part_cons from to w more inside, ← here, ← (last_bit h)) (ap not told ∙ none_other (h % 2) (omega arith) (part (from + 1) to w))
+first_kind w from to more inside = rw (part_cons from to w more inside) (all_bits (get_or w from 0) (part (from + 1) to w))
 
 pub returns : goal.returns
 returns c =
-    first_kind _ _ _ c.requires.0 c.requires.1 c.at.ensures c.has_kind.ensures
+    let w = c.args.work.now in
+    let from = c.args.from in
+    let hs = part (from + 1) c.args.to w in
+    all_from_yields_List (bit_of (get_or w from 0 % 2)) _ _ _ c.all.ensures.ran (YieldsList-from_slice hs cc) (λ x b q k. search (rules, tests))
+    ∙ first_kind w from c.args.to c.requires.0 c.requires.1

@@ -1,21 +1,21 @@
 -- `area::shape::rise` meets its contract: whether the ends rise is whether those from the i-th on rise from the last end that was passed.
 --
---   Rising D n l w ends from i == that, with the bounds
---   rise_low, rise_high        == an end that is not above the last one, or is past the operations: no
---   rise_mixed                 == two kinds inside a level: no
---   rise_on                    == one level more
---   rise_end                   == all are passed: the last end is to be the number of operations
+--   Rising D n w ends from i == that, with the bounds
+--   rise_low, rise_high      == an end that is not above the last one, or is past the operations: no
+--   rise_mixed               == two kinds inside a level: no
+--   rise_on                  == one level more
+--   rise_end                 == all are passed: the last end is to be the number of operations
 use mathlib.Core.Bool.{true, false}
 use mathlib.Core.List.{List, [], ◌∷◌}
 use mathlib.Core.Logic.{by_cases}
-use mathlib.Core.Path.{◌≡◌, refl, sym, ◌∙◌}
+use mathlib.Core.Path.{◌≡◌, sym, ◌∙◌}
 use Prim.Native.Nat.{ℕ, ◌+◌, ◌-◌, ◌*◌, ◌≤◌, ◌<◌}
 use native.Mathlib.Decide.{ℕ_discrete}
 use native.Mathlib.Numerals.{add-one}
 use native.Mathlib.Omega.{arith}
 use lib.Dec.{eqb}
 use lib.ListN.{length, get_or, take, drop, length-drop, drop_of_length-le}
-use lib.Seq.{drop-cons, drop-drop, slice-cons, slice_empty}
+use lib.Seq.{drop-cons, drop-drop}
 use borrow.Author.Tests.{lt-ltb, le-ltb, le-leb, lt-leb}
 use Rattle.permutations.specs.Choice.{eqb_same, eqb_other}
 use Rattle.darts.specs.Tests.{one_kind, rises}
@@ -26,26 +26,26 @@ use Rattle.area.proofs.Parts.{part_inner}
 use Rattle.area.proofs.shape.rise.Invariants.{Rising}
 use Rattle.area.proofs.shape.rise.Goals as goal
 
-module _ {D n l : ℕ} {w ends : List ℕ} {from i : ℕ} (k : Rising D n l w ends from i) where
+module _ {D n : ℕ} {w ends : List ℕ} {from i : ℕ} (k : Rising D n w ends from i) where
   abbrev past : List ℕ
   past = history_in D n w
 
   past_length : length past ≡ n
   past_length = part_length (3 * D) (3 * D + n) w k.room ∙ omega arith
 
-  module _ (more : i < l) where
+  module _ (more : i < length ends) where
     abbrev end : ℕ
     end = get_or ends i 0
 
-    ends_on : drop i (take l ends) ≡ end ∷ drop (i + 1) (take l ends)
-    ends_on = slice-cons i l ends 0 more k.few ∙ rw (add-one i)
+    ends_on : drop i ends ≡ end ∷ drop (i + 1) ends
+    ends_on = drop-cons ends i 0 more ∙ rw (add-one i)
 
-    rise_low : end ≤ from → false ≡ rises 0 (take l ends) past
+    rise_low : end ≤ from → false ≡ rises 0 ends past
     unfolding rises
     rise_low low = sym (k.same ∙ rw (ends_on, le-ltb from end low))
 
     module _ (above : from < end) where
-      rise_high : n < end → false ≡ rises 0 (take l ends) past
+      rise_high : n < end → false ≡ rises 0 ends past
       unfolding rises
       rise_high high =
           let size = past_length in
@@ -59,30 +59,29 @@ module _ {D n l : ℕ} {w ends : List ℕ} {from i : ℕ} (k : Rising D n l w en
         level : take (end - from) (drop from past) ≡ part (3 * D + from) (3 * D + end) w
         level = part_inner (3 * D) (3 * D + n) from end w (omega arith) k.room
 
-        rise_mixed : false ≡ one_kind (part (3 * D + from) (3 * D + end) w) → false ≡ rises 0 (take l ends) past
+        rise_mixed : false ≡ one_kind (part (3 * D + from) (3 * D + end) w) → false ≡ rises 0 ends past
         unfolding rises
         rise_mixed two =
             sym (k.same ∙ rw (ends_on, lt-ltb from end above, le-leb (end - from) (length (drop from past)) near, level, ← two))
 
-        rise_on : true ≡ one_kind (part (3 * D + from) (3 * D + end) w) → Rising D n l w ends end (i + 1)
+        rise_on : true ≡ one_kind (part (3 * D + from) (3 * D + end) w) → Rising D n w ends end (i + 1)
         unfolding rises
         rise_on one =
             let next : from + (end - from) ≡ end = omega arith in
             record {
               room = k.room;
-              few = k.few;
               upto = inside;
-              bound = omega arith;
               same =
                   k.same
-                  ∙ rw (ends_on, lt-ltb from end above, le-leb (end - from) (length (drop from past)) near, level, ← one, drop-drop (end - from) from past, next);
+                  ∙ rw (ends_on, lt-ltb from end above, le-leb (end - from) (length (drop from past)) near, level)
+                  (rw (← one, drop-drop (end - from) from past, next));
             }
 
-  module _ (done : l ≤ i) where
-    no_more : drop i (take l ends) ≡ []
-    no_more = let e : i ≡ l = omega arith in rw e (slice_empty l ends)
+  module _ (done : length ends ≤ i) where
+    no_more : drop i ends ≡ []
+    no_more = drop_of_length-le ends done
 
-    rise_end : eqb from n ≡ rises 0 (take l ends) past
+    rise_end : eqb from n ≡ rises 0 ends past
     unfolding rises
     rise_end =
         let size = past_length in
@@ -92,27 +91,21 @@ module _ {D n l : ℕ} {w ends : List ℕ} {from i : ℕ} (k : Rising D n l w en
         (λ m. let under : from < length past = omega arith in
         eqb_other m ∙ sym (k.same ∙ rw (no_more, drop-cons past from 0 under)))
 
-pub loop-i-init : goal.loop-i-init
-loop-i-init c = record { room = omega arith; few = omega arith; upto = omega arith; bound = omega arith; same = refl }
-
 pub returns-then-end-from : goal.returns-then-end-from
-returns-then-end-from c = rise_low c.loop-i.invariant c.loop-i-test.true c.if-end-from.true
+returns-then-end-from c = rise_low c.loop-end.invariant c.loop-end-test.true c.if-end-from.true
 
-pub returns-then-operations-end : goal.returns-then-operations-end
-returns-then-operations-end c = rise_high c.loop-i.invariant c.loop-i-test.true c.if-end-from.false c.if-operations-end.true
+pub returns-then-state-end : goal.returns-then-state-end
+returns-then-state-end c = rise_high c.loop-end.invariant c.loop-end-test.true c.if-end-from.false c.if-state-end.true
 
-pub one_kind-requires : goal.one_kind-requires
-one_kind-requires c = (omega arith, omega arith)
+pub loop-end-preserved : goal.loop-end-preserved
+loop-end-preserved c =
+    rise_on c.loop-end.invariant c.loop-end-test.true c.if-end-from.false c.if-state-end.false
+    (sym c.if-not-one_kind.false ∙ c.one_kind.ensures)
 
-pub loop-i-preserved : goal.loop-i-preserved
-loop-i-preserved c =
-    rise_on c.loop-i.invariant c.loop-i-test.true c.if-end-from.false c.if-operations-end.false
-    (sym c.if-one_kind.true ∙ c.one_kind.ensures)
-
-pub returns-else-one_kind : goal.returns-else-one_kind
-returns-else-one_kind c =
-    rise_mixed c.loop-i.invariant c.loop-i-test.true c.if-end-from.false c.if-operations-end.false
-    (sym c.if-one_kind.false ∙ c.one_kind.ensures)
+pub returns-then-not-one_kind : goal.returns-then-not-one_kind
+returns-then-not-one_kind c =
+    rise_mixed c.loop-end.invariant c.loop-end-test.true c.if-end-from.false c.if-state-end.false
+    (sym c.if-not-one_kind.true ∙ c.one_kind.ensures)
 
 pub returns : goal.returns
-returns c = rise_end c.loop-i.invariant c.loop-i-test.false
+returns c = rise_end c.loop-end.invariant c.loop-end-test.false

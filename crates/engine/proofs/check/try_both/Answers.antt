@@ -1,27 +1,58 @@
 -- `engine::check::try_both` meets its contract: replaying one kind changes the forest only, so that the other finds the same base.
-use mathlib.Core.Path.{refl}
-use borrow.Author.Tests.{not-true, not-false}
+--   other_tried == the other kind, whose forest goes
+use mathlib.Core.Bool.{Bool}
+use mathlib.Core.List.{List}
+use mathlib.Core.Path.{◌≡◌, refl}
+use Prim.Native.Nat.{ℕ, ◌-◌}
+use Rattle.darts.specs.Kinds.{bit, other}
+use Rattle.darts.specs.declared.Kind.{Kind}
+use Rattle.darts.proofs.Bits.{bit_small, bit_other}
+use Rattle.engine.specs.Checks.{KindTried}
 use Rattle.engine.proofs.Beside.{beside_area}
 use Rattle.engine.proofs.Counts.{both_counted, both_counted_back}
-use Rattle.engine.proofs.Present.{none_found}
 use Rattle.engine.proofs.Tries.{outside_numbered, kind_grown, both_no, both_yes}
 use Rattle.engine.proofs.check.try_both.Goals as goal
 
-pub returns-then-not-other : goal.returns-then-not-other
-returns-then-not-other c =
-    let K = c.try_kind-other.ensures.kind_tried in record { both_tried = rw c.nothing.ensures (both_no c.requires.k_bound (λ _. refl) (kind_grown _ K) c.requires.area (not-true _ c.if-not-other.true)); finds_cycles = none_found c.nothing.ensures }
+other_tried : {D n : ℕ} {w v : List ℕ} {q : Bool} (k : Kind) {o : Kind} → o ≡ other k → KindTried D n (bit o) (bit o) w v q
+    → KindTried D n (1 - bit k) (bit k) w v q
+other_tried k e K = kind_grown (bit k) (rw (e, bit_other k) at K)
 
-pub try_kind-last-requires : goal.try_kind-last-requires
-try_kind-last-requires c =
-    let o = c.try_kind-other.ensures.kind_tried.outside in
-    record { area = beside_area o c.requires.area; numbered = outside_numbered o c.requires.numbered; k_bound = c.requires.k_bound }
+pub returns-in_default : goal.returns-in_default
+returns-in_default c =
+    let K = c.in_default.ensures in
+    record {
+      both_tried = both_no (bit_small c.args.kind) (λ _. refl) (other_tried c.args.kind c.other.ensures K.kind_tried) c.requires.area refl;
+      finds_cycles = tt;
+    }
 
-pub returns-then-k-eq1 : goal.returns-then-k-eq1
-returns-then-k-eq1 c =
-    let K = c.try_kind-other.ensures in
-    let M = c.try_kind-last.ensures in record { both_tried = both_yes c.requires.k_bound (λ _. refl) (kind_grown _ K.kind_tried) (not-false _ c.if-not-other.false) M.kind_tried; finds_cycles = λ _. both_counted _ K.kind_tried.outside K.cycles_value M.cycles_value c.if-k-eq1.true }
+pub try_kind-requires-2 : goal.try_kind-requires-2
+try_kind-requires-2 c =
+    let o = c.in-Ok.ensures.kind_tried.outside in
+    record { area = beside_area o c.requires.area; numbered = outside_numbered o c.requires.numbered }
 
-pub returns : goal.returns
-returns c =
-    let K = c.try_kind-other.ensures in
-    let M = c.try_kind-last.ensures in record { both_tried = both_yes c.requires.k_bound (λ _. refl) (kind_grown _ K.kind_tried) (not-false _ c.if-not-other.false) M.kind_tried; finds_cycles = λ _. both_counted_back _ K.kind_tried.outside K.cycles_value M.cycles_value c.requires.k_bound c.if-k-eq1.false }
+pub returns-in_default-try_kind : goal.returns-in_default-try_kind
+returns-in_default-try_kind c =
+    let K = c.in-Ok.ensures in
+    let M = c.in_default-try_kind.ensures in
+    record {
+      both_tried = both_yes (bit_small c.args.kind) (λ _. refl) (other_tried c.args.kind c.other.ensures K.kind_tried) refl M.kind_tried;
+      finds_cycles = tt;
+    }
+
+pub returns-in-Contract : goal.returns-in-Contract
+returns-in-Contract c =
+    let K = c.in-Ok.ensures in
+    let M = c.in-Ok-try_kind.ensures in
+    record {
+      both_tried = both_yes (bit_small c.args.kind) (λ _. refl) (other_tried c.args.kind c.other.ensures K.kind_tried) refl M.kind_tried;
+      finds_cycles = both_counted K.kind_tried.outside (rw (c.other.ensures, c.in-Contract.is) at K.cycles_value) (rw c.in-Contract.is at M.cycles_value);
+    }
+
+pub returns-in-Remove : goal.returns-in-Remove
+returns-in-Remove c =
+    let K = c.in-Ok.ensures in
+    let M = c.in-Ok-try_kind.ensures in
+    record {
+      both_tried = both_yes (bit_small c.args.kind) (λ _. refl) (other_tried c.args.kind c.other.ensures K.kind_tried) refl M.kind_tried;
+      finds_cycles = both_counted_back K.kind_tried.outside (rw (c.other.ensures, c.in-Remove.is) at K.cycles_value) (rw c.in-Remove.is at M.cycles_value);
+    }

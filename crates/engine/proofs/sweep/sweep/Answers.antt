@@ -11,8 +11,8 @@ use mathlib.Core.Path.{◌≡◌, sym, ◌∙◌}
 use Prim.Native.Nat.{ℕ, suc, ◌+◌, ◌-◌, ◌/◌, ◌≤◌, ◌<◌}
 use native.Mathlib.Numerals.{add-one}
 use native.Mathlib.Omega.{arith}
+use Rattle.std.proofs.Common.{Ok}
 use Rattle.permutations.specs.Choice.{true→T}
-use Rattle.darts.specs.declared.Answer.TheVariants.{Done}
 use Rattle.darts.specs.Operation.{kind_of}
 use Rattle.darts.specs.Kernel.{judge, rising}
 use Rattle.darts.specs.Levels.{takes, swept_from, swept}
@@ -20,12 +20,13 @@ use Rattle.laws.proofs.bridge.EmptyLoop.{takes_fine}
 use Rattle.area.specs.Area.{table_in, past_in}
 use Rattle.operations.specs.Operate.{takes_in, operated}
 use Rattle.engine.specs.Held.{Area}
-use Rattle.engine.specs.Runs.{ran_in, Went}
+use Rattle.engine.specs.Runs.{Went}
 use Rattle.engine.proofs.Operated.{operated_acts}
 use Rattle.engine.proofs.Ready.{beyond_refl, beyond_trans, area_for}
 use Rattle.engine.proofs.Taking.{takes_in_lem}
 use Rattle.engine.proofs.sweep.sweep.Invariants.{whole, Sweeping}
 use Rattle.engine.proofs.sweep.sweep.Goals as goal
+use Rattle.engine.proofs.sweep.sweep.Goals.{then-takes, else-takes}
 
 begin : {D n : ℕ} {w : List ℕ} → Area D n w → Sweeping D n w w 0 n
 unfolding swept
@@ -62,8 +63,8 @@ module _ {D n : ℕ} {w₀ w : List ℕ} {e m : ℕ} (σ : Sweeping D n w₀ w e
               beyond = beyond_trans σ.beyond (record { size = o.size; rest = o.rest });
             })
 
-  sweep_ends : D / 2 ≤ e → Went D (whole D n w₀) w₀ w (record { answer = Done 0; operations = m })
-  unfolding rising swept_from ran_in
+  sweep_ends : D / 2 ≤ e → Went D (whole D n w₀) w₀ w (Ok m)
+  unfolding rising swept_from
   sweep_ends none =
       let z : D / 2 - e ≡ 0 = omega arith in
       record { went = rw z at σ.same; few = σ.area.few; beyond = σ.beyond }
@@ -71,29 +72,17 @@ module _ {D n : ℕ} {w₀ w : List ℕ} {e m : ℕ} (σ : Sweeping D n w₀ w e
 pub loop-e-init : goal.loop-e-init
 loop-e-init c = begin c.requires
 
-pub takes-requires : goal.takes-requires
-takes-requires c = record { room = c.loop-e.invariant.area.room; e_bound = c.loop-e-test.true }
-
 pub operate-requires : goal.operate-requires
 operate-requires c =
     let σ = c.loop-e.invariant in
-    let (room, ((few, kind), inside)) = area_for σ.area 0 _ (removable σ c.loop-e-test.true c.takes.ensures c.if-takes.true) (omega arith) in
-    record { room = room; n_bound = (few, omega arith); bounds = inside }
-
-pub overflow_add-m : goal.overflow_add-m
-overflow_add-m c =
-    let A = c.loop-e.invariant.area in
-    omega (arith, A.few, A.room.small)
-
-pub loop-e-preserved-then-takes : goal.loop-e-preserved-then-takes
-loop-e-preserved-then-takes c =
-    taken_on c.loop-e.invariant c.loop-e-test.true c.takes.ensures c.if-takes.true c.operate.ensures
+    let (room, (few, inside)) = area_for σ.area 0 _ (removable σ c.loop-e-test.true c.takes.ensures c.if-takes.true) in
+    record { room = room; n_bound = few; bounds = inside }
 
 pub loop-e-preserved : goal.loop-e-preserved
-loop-e-preserved c = passed_over c.loop-e.invariant c.loop-e-test.true c.takes.ensures c.if-takes.false
-
-pub shape_of-work : goal.shape_of-work
-shape_of-work c = c.loop-e.invariant.beyond.size
+loop-e-preserved c = elim c.if-takes.branch [
+  | then-takes w ↦ rw (w.m-is, w.work-is) (taken_on c.loop-e.invariant c.loop-e-test.true c.takes.ensures w.if-takes.true w.operate.ensures)
+  | else-takes w ↦ rw (w.m-is, w.work-is) (passed_over c.loop-e.invariant c.loop-e-test.true c.takes.ensures w.if-takes.false)
+]
 
 pub returns : goal.returns
 returns c = sweep_ends c.loop-e.invariant c.loop-e-test.false

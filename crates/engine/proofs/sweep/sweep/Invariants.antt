@@ -24,6 +24,3 @@ pub record Sweeping (D n : ℕ) (w₀ w : List ℕ) (e m : ℕ) : Type 0 where
 
 abbrev pub invariant-loop-e : goal.invariant-loop-e
 invariant-loop-e l = Sweeping l.d l.n l.initial.work l.work l.e l.m
-
-abbrev pub decreases-loop-e : goal.decreases-loop-e
-decreases-loop-e l = l.d / 2 - l.e

@@ -1,6 +1,7 @@
--- `file_lines::kernels::kernels` meets its contract: the level ends, the sum and the history are those of the lines so far, and the lines from here on are those that are left.
+-- `file_lines::kernels::kernels` meets its contract: the level ends, the sum and the history are those of the lines so far, and the lines from
+-- here on are those that are left.
 --   Reading b L D h₀ h ends at₀ at sum i == i lines were read; sum is their operations, and h is the history h₀ with their numbers at the front
-use mathlib.Core.Path.{◌≡◌, refl, ap, ◌∙◌}
+use mathlib.Core.Path.{◌≡◌, refl, sym, ap, ◌∙◌}
 use mathlib.Core.Logic.{by_cases}
 use mathlib.Core.List.{List, [], ◌∷◌, ◌++◌}
 use Prim.Native.Nat.{ℕ, ◌+◌, ◌-◌, ◌/◌, ◌≤◌, ◌<◌}
@@ -9,18 +10,16 @@ use native.Mathlib.Omega.{arith}
 use lib.ListN.{length, drop, set, replicate, length-append}
 use borrow.Author.Rules.{rules}
 use borrow.Author.Tests.{le-leb, lt-leb}
-use Rattle.darts.specs.Cases.{answer_of}
-use Rattle.darts.specs.declared.Answer.{Answer}
+use Rattle.std.specs.Prelude.{Ok, Err}
+use Rattle.darts.specs.Cases.{refusal_of}
+use Rattle.darts.specs.declared.Refusal.{Refusal}
 use Rattle.darts.specs.Operation.{Kind}
 use Rattle.darts.specs.Scan.{found, fault, after}
 use Rattle.darts.specs.Read.{KernelLine, kernel_at, kernels_at, ends_from, total, numbers_from, history_from, file_history}
 use Rattle.laws.proofs.file.KernelLines.{ends_length, numbers_length}
-use Rattle.file_lines.specs.declared.scan.Scanned.TheVariants.{Found, Fault}
-use Rattle.file_lines.specs.Found.{line_of}
-use Rattle.file_lines.specs.Lines.{kernel_of}
+use Rattle.std.proofs.lemmas.Result.{err_from_is_err_and}
 use Rattle.slices.specs.Put.{Put}
 use Rattle.file_lines.specs.Kernels.{noted, KernelsRead}
-use Rattle.file_lines.proofs.Found.{told}
 use Rattle.file_lines.proofs.Rest.{rest_none, rest_on, rest_fault, rest_found}
 use Rattle.file_lines.proofs.KernelLines.{kernel_lines_lem, kernel_small, total_on, ends_on, history_on, history_length, ends_set}
 use Rattle.slices.proofs.Put.{put_none, put_on}
@@ -89,9 +88,9 @@ module _ {b : List ℕ} {L D : ℕ} {h₀ h ends : List ℕ} {at₀ at sum i : �
         rest = ap (drop (D / 2)) e ∙ noted_rest (D / 2) k.kind sum k.count h (omega arith) ∙ g.rest;
       }
 
-  stopped : {a : Answer} → i < L → kernel_at b at ≡ fault (answer_of a) → KernelsRead b at₀ L D h₀ h (record { read = Fault a; ends = ends })
+  stopped : {a : Refusal} → i < L → kernel_at b at ≡ fault (refusal_of a) → KernelsRead b at₀ L D h₀ h (Err a)
   stopped {a} more line =
-      let wrong : kernels_at L b at₀ ≡ fault (answer_of a) = rest_fault (kernel_lines_lem b) (L - i) (omega arith) g.lines (rw line) in
+      let wrong : kernels_at L b at₀ ≡ fault (refusal_of a) = rest_fault (kernel_lines_lem b) (L - i) (omega arith) g.lines (rw line) in
       let never : (ks : List KernelLine) (next : ℕ) → kernels_at L b at₀ ≡ found ks next → ⊥ =
       λ ks next e. let z : ◌≡◌ {A = ℕ} 0 1 = cc (wrong, e) in omega arith in
       record {
@@ -101,7 +100,7 @@ module _ {b : List ℕ} {L D : ℕ} {h₀ h ends : List ℕ} {at₀ at sum i : �
         rest = g.rest;
       }
 
-  ended : L ≤ i → KernelsRead b at₀ L D h₀ h (record { read = Found sum at; ends = ends })
+  ended : L ≤ i → KernelsRead b at₀ L D h₀ h (Ok (record { operations = sum; ends = ends }, at))
   ended all =
       let right : kernels_at L b at₀ ≡ found g.done at = rest_found (kernel_lines_lem b) (L - i) (omega arith) g.lines in
       let one : (ks : List KernelLine) (next : ℕ) → kernels_at L b at₀ ≡ found ks next → ks ≡ g.done = λ ks next e. cc (right, e) in
@@ -119,30 +118,23 @@ loop-i-init c =
     let g = c.args in
     begin g.bytes.now g.levels g.d g.history.now g.at
 
-pub returns-in-Fault : goal.returns-in-Fault
-returns-in-Fault c =
-    stopped c.requires c.loop-i.invariant c.loop-i-test.true
-    (told (line_of kernel_of) c.kernel_line.ensures c.in-Fault.is)
+pub returns-in_err-line : goal.returns-in_err-line
+returns-in_err-line c =
+    let p = err_from_is_err_and c.from_residual.result c.from_residual.ensures.1 in
+    rw (p.1, p.2) (stopped c.requires c.loop-i.invariant c.loop-i-test.true (sym c.in_err-line.ensures))
 
 pub lay_history-requires : goal.lay_history-requires
-lay_history-requires c =
-    let small = kernel_small _ _ (told (line_of kernel_of) c.kernel_line.ensures c.in-Found.is) in
-    omega arith
+lay_history-requires c = let small = kernel_small _ _ (sym c.in_ok-line.ensures) in omega arith
 
-pub overflow_add-total : goal.overflow_add-total
-overflow_add-total c = let few = kernel_small _ _ (told (line_of kernel_of) c.kernel_line.ensures c.in-Found.is) in omega arith
+pub overflow_add-operations : goal.overflow_add-operations
+overflow_add-operations c = let small = kernel_small _ _ (sym c.in_ok-line.ensures) in omega arith
 
 pub overflow_cast-ends : goal.overflow_cast-ends
-overflow_cast-ends c = let few = kernel_small _ _ (told (line_of kernel_of) c.kernel_line.ensures c.in-Found.is) in omega arith
+overflow_cast-ends c = let small = kernel_small _ _ (sym c.in_ok-line.ensures) in omega arith
 
 pub loop-i-preserved : goal.loop-i-preserved
 loop-i-preserved c =
-    go_on c.requires
-    c.loop-i.invariant
-    c.loop-i-test.true
-    (told (line_of kernel_of) c.kernel_line.ensures
-    c.in-Found.is) (search rules)
-    c.lay_history.ensures
+    go_on c.requires c.loop-i.invariant c.loop-i-test.true (sym c.in_ok-line.ensures) (search rules) c.lay_history.ensures
 
 pub returns : goal.returns
 returns c = ended c.requires c.loop-i.invariant c.loop-i-test.false

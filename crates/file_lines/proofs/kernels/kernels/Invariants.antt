@@ -1,4 +1,5 @@
--- `file_lines::kernels::kernels` meets its contract: the level ends, the sum and the history are those of the lines so far, and the lines from here on are those that are left.
+-- `file_lines::kernels::kernels` meets its contract: the level ends, the sum and the history are those of the lines so far, and the lines from
+-- here on are those that are left.
 --   Reading b L D h₀ h ends at₀ at sum i == i lines were read; sum is their operations, and h is the history h₀ with their numbers at the front
 use mathlib.Core.Path.{◌≡◌}
 use mathlib.Core.List.{List, ◌++◌}
@@ -22,7 +23,4 @@ pub record Reading (b : List ℕ) (L D : ℕ) (h₀ h ends : List ℕ) (at₀ at
   pub rest : drop (D / 2) h ≡ drop (D / 2) h₀
 
 abbrev pub invariant-loop-i : goal.invariant-loop-i
-invariant-loop-i l = Reading l.bytes l.levels l.d l.initial.history l.history l.ends l.at l.place l.total l.i
-
-abbrev pub decreases-loop-i : goal.decreases-loop-i
-decreases-loop-i l = l.levels - l.i
+invariant-loop-i l = Reading l.bytes l.levels l.d l.initial.history l.history l.ends l.at l.place l.operations l.i

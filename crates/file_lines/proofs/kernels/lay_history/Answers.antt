@@ -47,7 +47,7 @@ loop-i-init c = begin _ _ _ _ (omega arith)
 
 pub loop-i-preserved : goal.loop-i-preserved
 loop-i-preserved c =
-    go_on (number_kind c.args.kind c.loop-i.i) c.loop-i-test.true (omega arith) c.loop-i.invariant
+    go_on (rw c.bit.ensures (number_kind c.args.kind c.loop-i.i)) c.loop-i-test.true (omega arith) c.loop-i.invariant
 
 pub returns : goal.returns
 unfolding noted

@@ -4,7 +4,8 @@ use mathlib.Core.Path.{◌≡◌}
 use mathlib.Core.List.{List}
 use Prim.Native.Nat.{ℕ, ◌-◌, ◌≤◌}
 use lib.ListN.{length}
-use Rattle.darts.specs.Operation.{Kind, kind_of}
+use Rattle.darts.specs.Kinds.{kind_is}
+use Rattle.darts.specs.Operation.{Kind}
 use Rattle.darts.specs.Read.{numbers_from}
 use Rattle.slices.specs.Put.{Put}
 use Rattle.file_lines.proofs.kernels.lay_history.Given as goal
@@ -16,7 +17,4 @@ pub record Laying (h₀ h : List ℕ) (k : Kind) (from to i : ℕ) : Type 0 wher
   pub put : Put h₀ h from i (numbers_from k from (i - from))
 
 abbrev pub invariant-loop-i : goal.invariant-loop-i
-invariant-loop-i l = Laying l.initial.history l.history (kind_of l.kind) l.from l.to l.i
-
-abbrev pub decreases-loop-i : goal.decreases-loop-i
-decreases-loop-i l = l.to - l.i
+invariant-loop-i l = Laying l.initial.history l.history (kind_is l.kind) l.from l.to l.i

@@ -10,7 +10,7 @@ use Rattle.slices.proofs.Put.{put_none, put_one}
 use Rattle.file_lines.proofs.PairLines.{flag_small}
 use Rattle.file_lines.proofs.pairs.lay_pair.Goals as goal
 
-two_laid : (t : List ℕ) (at : ℕ) {a b x y u v : ℕ} → Space t at (pair_of a b) → x ≡ u → y ≡ v → set (set t at x) (at + 1) y ≡ laid t at (u ∷ v ∷ [])
+two_laid : (t : List ℕ) (at : ℕ) {a b x y u v : ℕ} → Space t at (pair_of (a, b)) → x ≡ u → y ≡ v → set (set t at x) (at + 1) y ≡ laid t at (u ∷ v ∷ [])
 two_laid t at {a} {b} {x} {y} {u} {v} room e f = rw (← e, ← f) (put_one y (omega arith) (put_one x (omega arith) (put_none t at))).slice
 
 pub overflow_cast-table : goal.overflow_cast-table

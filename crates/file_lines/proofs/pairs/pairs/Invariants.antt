@@ -1,4 +1,5 @@
--- `file_lines::pairs::pairs` meets its contract: the numbers of the lines so far stand at the front of the table, and the lines from here on are those that are left.
+-- `file_lines::pairs::pairs` meets its contract: the numbers of the lines so far stand at the front of the table, and the lines from
+-- here on are those that are left.
 --   Reading b D F t₀ t at₀ at i == i lines were read; t is the table t₀ with their numbers at the front
 use mathlib.Core.Path.{◌≡◌}
 use mathlib.Core.List.{List, map}
@@ -18,6 +19,3 @@ pub record Reading (b : List ℕ) (D F : ℕ) (t₀ t : List ℕ) (at₀ at i : 
 
 abbrev pub invariant-loop-i : goal.invariant-loop-i
 invariant-loop-i l = Reading l.bytes l.d l.flag l.initial.table l.table l.at l.place l.i
-
-abbrev pub decreases-loop-i : goal.decreases-loop-i
-decreases-loop-i l = l.d / 2 - l.i

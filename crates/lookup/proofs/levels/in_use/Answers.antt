@@ -1,20 +1,13 @@
--- `lookup::levels::in_use` meets its contract: from level n down, each level has its end.
-use native.Mathlib.Omega.{arith}
-use Rattle.lookup.proofs.Shapes.{using_begins, using_on, using_not, using_all}
+-- `lookup::levels::in_use` meets its contract: each level from 1 to n has its end.
+use mathlib.Core.Logic.{◌≢◌}
+use Prim.Native.Nat.{ℕ, ◌≤◌}
+use Rattle.std.specs.Bool.{Decides}
+use Rattle.std.proofs.Common.{rules, get_or}
+use Rattle.std.proofs.iter.runs.Sources.{ranges}
+use Rattle.lookup.proofs.Shapes.{used_each}
 use Rattle.lookup.proofs.levels.in_use.Goals as goal
 
-pub loop-level-init : goal.loop-level-init
-loop-level-init c = using_begins _ _
-
-pub returns-then-at-eq0 : goal.returns-then-at-eq0
-returns-then-at-eq0 c =
-    let some = c.loop-level-test.true in
-    using_not c.loop-level.invariant (omega arith) c.at.ensures c.if-at-eq0.true
-
-pub loop-level-preserved : goal.loop-level-preserved
-loop-level-preserved c =
-    let some = c.loop-level-test.true in
-    using_on c.loop-level.invariant (omega arith) c.at.ensures c.if-at-eq0.false
-
 pub returns : goal.returns
-returns c = let none = c.loop-level-test.false in using_all c.loop-level.invariant (omega arith)
+returns c =
+    let h : Decides c.all.result ((L : ℕ) → 1 ≤ L → L ≤ c.args.n → get_or c.args.first.now L 0 ≢ 0) = search (rules, ranges) in
+    used_each c.args.first.now c.args.n c.all.result h

@@ -2,8 +2,5 @@
 use Rattle.lookup.proofs.Shapes.{Noting}
 use Rattle.lookup.proofs.levels.note.Given as goal
 
-abbrev pub invariant-loop-i : goal.invariant-loop-i
-invariant-loop-i l = Noting l.ends l.initial.first l.first l.i
-
-abbrev pub decreases-loop-i : goal.decreases-loop-i
-decreases-loop-i l = l.i
+abbrev pub invariant-loop-end : goal.invariant-loop-end
+invariant-loop-end l = Noting l.ends l.initial.first l.first l.end-iterator.iter.rest.now

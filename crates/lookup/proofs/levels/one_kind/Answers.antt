@@ -1,31 +1,24 @@
 -- `lookup::levels::one_kind` meets its contract: each end is the one that is noted at its level.
+use mathlib.Core.Path.{◌≡◌}
+use Prim.Native.Nat.{ℕ, ◌/◌, ◌<◌}
 use native.Mathlib.Omega.{arith}
-use Rattle.lookup.proofs.Shapes.{level_top, alike_begins, alike_over, alike_on, alike_not, alike_all}
+use lib.ListN.{length, get_or}
+use Rattle.std.proofs.Common.{rules}
+use Rattle.std.specs.Bool.{Decides}
+use Rattle.std.specs.List.{All}
+use Rattle.std.proofs.iter.Serving.{serving}
+use Rattle.std.proofs.iter.runs.Made.{chains}
+use Rattle.lookup.proofs.Shapes.{Alike, level_top, alike_each}
 use Rattle.lookup.proofs.levels.one_kind.Goals as goal
 
-pub loop-i-init : goal.loop-i-init
-loop-i-init c = alike_begins _
-
-pub loop-i-preserved-then-end-lt2 : goal.loop-i-preserved-then-end-lt2
-loop-i-preserved-then-end-lt2 c =
-    alike_over c.loop-i.invariant c.loop-i-test.true c.at-end.ensures c.if-end-lt2.true
-
-pub at-requires : goal.at-requires
-at-requires c =
-    let t = level_top c.args.ends.now c.loop-i.i c.loop-i-test.true in
-    rw c.at-end.ensures (omega (arith, t, c.requires.ends_in_bounds))
-
-pub returns-then-at-end : goal.returns-then-at-end
-returns-then-at-end c =
-    let p = c.requires in
-    alike_not c.loop-i.invariant c.loop-i-test.true c.at-end.ensures c.if-end-lt2.false p.firsts p.ends_in_bounds
-    c.at.ensures c.if-at-end.true
-
-pub loop-i-preserved : goal.loop-i-preserved
-loop-i-preserved c =
-    let p = c.requires in
-    alike_on c.loop-i.invariant c.loop-i-test.true c.at-end.ensures c.if-end-lt2.false p.firsts p.ends_in_bounds
-    c.at.ensures c.if-at-end.false
+pub all-requires-clause-callable : goal.all-requires-clause-callable
+all-requires-clause-callable c =
+    let e : c.iter.result.rest.now ≡ c.args.ends.now = cc (c.iter.ensures.rest) in
+    let inside : (k d : ℕ) → k < length c.iter.result.rest.now → get_or c.iter.result.rest.now k d / 2 < length c.args.first.now
+    = λ k d h. rw e (omega (arith, level_top c.args.ends.now k d (rw e at h), c.requires.ends_in_bounds)) in
+    grind serving
 
 pub returns : goal.returns
-returns c = alike_all c.loop-i.invariant c.loop-i-test.false
+returns c =
+    let h : Decides c.all.result (All (Alike c.args.first.now) c.args.ends.now) = search (rules, chains) in
+    alike_each c.requires.firsts c.requires.ends_in_bounds c.all.result h

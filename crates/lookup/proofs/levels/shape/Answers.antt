@@ -14,6 +14,7 @@ returns-then-in_use c =
     kinds _ c.top-high.ensures c.if-high-gt64.false c.note.ensures (omega arith) c.in_use.ensures c.if-in_use.true
     c.one_kind.ensures
 
-pub returns : goal.returns
-returns c =
-    unused _ c.top-high.ensures c.if-high-gt64.false c.note.ensures (omega arith) c.in_use.ensures c.if-in_use.false
+pub returns-else-in_use : goal.returns-else-in_use
+returns-else-in_use c =
+    rw c.if-in_use.false
+    (unused _ c.top-high.ensures c.if-high-gt64.false c.note.ensures (omega arith) c.in_use.ensures c.if-in_use.false)

@@ -1,46 +1,25 @@
 -- `lookup::passes::pass` meets its contract: from each edge on the operations go to where they go from the first.
-use mathlib.Core.Path.{sym, ◌∙◌}
-use native.Mathlib.Omega.{arith}
+use Rattle.std.proofs.lemmas.Result.{err_from_is_err_and}
 use Rattle.lookup.proofs.Passing.{passing_begins, passed_over, passed_on, passing_stops, passing_ends}
 use Rattle.lookup.proofs.passes.pass.Goals as goal
+use Rattle.lookup.proofs.passes.pass.Goals.{then-ends_by+in_ok-turn, else-ends_by}
 
 pub loop-e-init : goal.loop-e-init
 loop-e-init c = passing_begins _ c.requires
 
-pub ends_by-requires : goal.ends_by-requires
-ends_by-requires c = (c.loop-e-test.true, c.requires.kind)
-
-pub overflow_sub-m : goal.overflow_sub-m
-overflow_sub-m c = c.loop-e.invariant.low
-
-pub turn-answer-requires : goal.turn-answer-requires
-turn-answer-requires c = c.loop-e.invariant.under.ready
-
-pub shape_of-work-then-number-ne0 : goal.shape_of-work-then-number-ne0
-shape_of-work-then-number-ne0 c =
-    c.turn-answer.ensures.beyond.size ∙ c.loop-e.invariant.under.beyond.size
-
-pub returns-then-number-ne0 : goal.returns-then-number-ne0
-returns-then-number-ne0 c =
-    passing_stops c.loop-e.invariant c.loop-e-test.true c.ends_by.ensures c.if-ends_by.true c.turn-answer.ensures
-    (λ z. c.if-number-ne0.true (c.number.ensures ∙ z))
-    c.requires.area.few
-
-pub overflow_add-m : goal.overflow_add-m
-overflow_add-m c =
-    let A = c.loop-e.invariant.under.ready.area in
-    omega (arith, A.few, A.room.small)
-
-pub loop-e-preserved-then-ends_by : goal.loop-e-preserved-then-ends_by
-loop-e-preserved-then-ends_by c =
-    passed_on c.loop-e.invariant c.loop-e-test.true c.ends_by.ensures c.if-ends_by.true c.turn-answer.ensures
-    (sym c.number.ensures ∙ c.if-number-ne0.false)
+pub returns-in_err-turn : goal.returns-in_err-turn
+returns-in_err-turn c =
+    let (r, is, same) = err_from_is_err_and c.from_residual.result c.from_residual.ensures.1 in
+    rw (is, same) (passing_stops c.loop-e.invariant c.loop-e-test.true c.ends_by.ensures c.if-ends_by.true c.in_err-turn.ensures)
 
 pub loop-e-preserved : goal.loop-e-preserved
-loop-e-preserved c = passed_over c.loop-e.invariant c.loop-e-test.true c.ends_by.ensures c.if-ends_by.false
-
-pub shape_of-work : goal.shape_of-work
-shape_of-work c = c.loop-e.invariant.under.beyond.size
+loop-e-preserved c =
+    elim c.if-ends_by.branch [
+      | then-ends_by+in_ok-turn w ↦
+          rw (w.work-is, w.m-is)
+          (passed_on c.loop-e.invariant c.loop-e-test.true c.ends_by.ensures w.if-ends_by.true w.in_ok-turn.ensures)
+      | else-ends_by w ↦ rw (w.work-is, w.m-is) (passed_over c.loop-e.invariant c.loop-e-test.true c.ends_by.ensures w.if-ends_by.false)
+    ]
 
 pub returns : goal.returns
 returns c = passing_ends c.loop-e.invariant c.loop-e-test.false

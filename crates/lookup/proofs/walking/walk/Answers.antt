@@ -5,27 +5,8 @@ use native.Mathlib.Omega.{arith}
 use Rattle.lookup.proofs.Walks.{walking_begins, walking_more, walking_on, walking_ends, walked_few}
 use Rattle.lookup.proofs.walking.walk.Goals as goal
 
-pub at-y-requires : goal.at-y-requires
-at-y-requires c = let p = c.requires.table_len in omega (arith, p.0, p.4)
-
 pub loop-passed-init : goal.loop-passed-init
 loop-passed-init c = let p = c.requires in walking_begins p.walks p.table_len.4 c.at-y.ensures
-
-pub gone_by-requires : goal.gone_by-requires
-gone_by-requires c =
-    let p = c.requires.table_len in
-    omega (arith, p.1, p.2, c.loop-passed.invariant.below)
-
-pub overflow_add-passed : goal.overflow_add-passed
-overflow_add-passed c =
-    let p = c.requires.table_len in
-    omega (arith, c.loop-passed.invariant.few, p.3)
-
-pub onward-y-requires : goal.onward-y-requires
-onward-y-requires c =
-    let p = c.requires.table_len in
-    let b = c.loop-passed.invariant.below in
-    rw (p.0, p.1) (omega arith, omega (arith, p.2), p.2, p.3)
 
 pub loop-passed-smaller : goal.loop-passed-smaller
 loop-passed-smaller c =
@@ -39,7 +20,5 @@ loop-passed-preserved c =
 
 pub returns : goal.returns
 returns c =
-    let σ = c.loop-passed.invariant in
-    let W = c.requires.walks in
-    let ends = walking_ends σ (sym c.gone_by.ensures ∙ c.loop-passed-test.false) in
-    record { result_value = ends; passed_bound = walked_few W ends; dart_lt_d = (σ.below, σ.few) }
+    let ends = walking_ends c.loop-passed.invariant (sym c.gone_by.ensures ∙ c.loop-passed-test.false) in
+    record { result_value = ends; passed_bound = walked_few c.requires.walks ends }

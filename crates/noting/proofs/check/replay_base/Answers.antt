@@ -1,32 +1,30 @@
 -- `noting::check::replay_base` meets its contract: marking writes over the map, which the replay does not read.
 use mathlib.Core.Path.{refl}
 use native.Mathlib.Omega.{arith}
-use borrow.Author.Tests.{not-true, not-false}
 use Rattle.engine.proofs.Around.{step_perm}
 use Rattle.engine.proofs.Beside.{beside_area}
 use Rattle.engine.proofs.Counts.{kind_counted, both_counted}
-use Rattle.engine.proofs.Present.{none_found}
+use Rattle.engine.proofs.Handed.{some_then, if_then}
 use Rattle.engine.proofs.Tries.{kind_grown}
 use Rattle.noting.proofs.OnBase.{marked_room, marked_falls, marked_numbered, marked_starts, base_no, base_yes}
 use Rattle.noting.proofs.check.replay_base.Goals as goal
 
-pub returns-then-not-removals : goal.returns-then-not-removals
-returns-then-not-removals c =
+pub returns-in_default : goal.returns-in_default
+returns-in_default c =
     record {
-      base_replayed = rw c.nothing.ensures
-          (base_no c.requires.area (kind_grown 1 c.try_kind-removals.ensures.kind_tried) (not-true _ c.if-not-removals.true));
-      finds_cycles = none_found c.nothing.ensures;
+      base_replayed = base_no c.requires.area (kind_grown 1 c.in_default.ensures.kind_tried) refl;
+      finds_cycles = tt;
     }
 
 pub label-vertices-requires : goal.label-vertices-requires
 label-vertices-requires c =
-    let A = beside_area c.try_kind-removals.ensures.kind_tried.outside c.requires.area in
+    let A = beside_area c.in-Ok.ensures.kind_tried.outside c.requires.area in
     record { room = A.room; perm = step_perm A 1 (omega arith) }
 
-pub replay-fine-requires : goal.replay-fine-requires
-replay-fine-requires c =
+pub replay-requires : goal.replay-requires
+replay-requires c =
     let s = c.requires in
-    let K = kind_grown 1 c.try_kind-removals.ensures.kind_tried in
+    let K = kind_grown 1 c.in-Ok.ensures.kind_tried in
     let L = c.label-vertices.ensures.labelled in
     let M = c.mark.ensures in
     record {
@@ -40,11 +38,12 @@ replay-fine-requires c =
 pub returns : goal.returns
 returns c =
     let s = c.requires in
-    let K = c.try_kind-removals.ensures in
+    let K = c.in-Ok.ensures in
     let L = c.label-vertices.ensures in
     record {
-      base_replayed = base_yes s.area s.numbered s.n_bound
-          (kind_grown 1 K.kind_tried) L.labelled c.mark.ensures c.replay-fine.ensures (not-false _ c.if-not-removals.false);
-      finds_cycles = λ _. both_counted 1 K.kind_tried.outside K.cycles_value
-          (kind_counted (beside_area K.kind_tried.outside s.area) (omega arith) L.labelled L.value) refl;
+      base_replayed = rw (c.then_some.ensures, some_then c.replay.result _)
+          (base_yes s.area s.numbered s.n_bound (kind_grown 1 K.kind_tried) L.labelled c.mark.ensures c.replay.ensures refl);
+      finds_cycles = rw c.then_some.ensures
+          (if_then c.replay.result _ _ (both_counted K.kind_tried.outside K.cycles_value
+          (kind_counted (beside_area K.kind_tried.outside s.area) (omega arith) L.labelled L.value)));
     }

@@ -15,6 +15,7 @@ use Rattle.area.specs.Area.{Room}
 use Rattle.noting.specs.Links.{Marked}
 use Rattle.noting.proofs.note.mark.Invariants.{Marking}
 use Rattle.noting.proofs.note.mark.Goals as goal
+use Rattle.noting.proofs.note.mark.Goals.{then-at-x, else-at-x}
 
 mark_begin : (D : ℕ) (w : List ℕ) → Marking D w w 0
 mark_begin D w = record { size = refl; bound = omega arith; rest = refl; each = λ y h. absurd (omega arith) }
@@ -47,14 +48,8 @@ module _ {D : ℕ} {w₀ w : List ℕ} {x : ℕ} (room : Room D w₀) (M : Marki
 mark_end : {D : ℕ} {w₀ w : List ℕ} {x : ℕ} → Marking D w₀ w x → D ≤ x → Marked D w₀ w
 mark_end M all = record { size = M.size; rest = M.rest; each = λ y h. M.each y (omega arith) }
 
-pub loop-x-init : goal.loop-x-init
-loop-x-init c = mark_begin _ _
-
-pub loop-x-preserved-then-at-x : goal.loop-x-preserved-then-at-x
-loop-x-preserved-then-at-x c = own c.requires c.loop-x.invariant c.loop-x-test.true c.at.ensures c.if-at-x.true
-
 pub loop-x-preserved : goal.loop-x-preserved
-loop-x-preserved c = other c.requires c.loop-x.invariant c.loop-x-test.true c.at.ensures c.if-at-x.false
-
-pub returns : goal.returns
-returns c = mark_end c.loop-x.invariant c.loop-x-test.false
+loop-x-preserved c = elim c.if-at-x.branch [
+  | then-at-x w ↦ rw w.work-is (own c.requires c.loop-x.invariant c.loop-x-test.true c.at.ensures w.if-at-x.true)
+  | else-at-x w ↦ rw w.work-is (other c.requires c.loop-x.invariant c.loop-x-test.true c.at.ensures w.if-at-x.false)
+]

@@ -3,7 +3,7 @@
 --   mark_begin, mark_on, mark_end == none is marked, one more, all
 use mathlib.Core.List.{List}
 use mathlib.Core.Path.{◌≡◌}
-use Prim.Native.Nat.{ℕ, ◌+◌, ◌-◌, ◌*◌, ◌≤◌, ◌<◌}
+use Prim.Native.Nat.{ℕ, ◌+◌, ◌*◌, ◌≤◌, ◌<◌}
 use lib.Dec.{eqb}
 use lib.ListN.{length, get_or, drop}
 use Rattle.permutations.specs.Choice.{pick}
@@ -17,6 +17,3 @@ pub record Marking (D : ℕ) (w₀ w : List ℕ) (x : ℕ) : Type 0 where
 
 abbrev pub invariant-loop-x : goal.invariant-loop-x
 invariant-loop-x l = Marking l.d l.initial.work l.work l.x
-
-abbrev pub decreases-loop-x : goal.decreases-loop-x
-decreases-loop-x l = l.d - l.x

@@ -18,34 +18,18 @@ link-requires c =
       u_value = known.1;
     }
 
+pub returns-then-not-link : goal.returns-then-not-link
+returns-then-not-link c = contracted_no c.args.e c.find-a.ensures c.find-b.ensures c.link.ensures c.if-not-link.true
+
 pub merge-requires : goal.merge-requires
 merge-requires c =
     let e = c.args.e in
     let below = both_below e c.find-a.ensures c.find-b.ensures c.link.ensures c.requires.room c.requires.falls in
     record {
       room = joined_room e c.find-a.ensures c.find-b.ensures c.link.ensures c.requires.room c.requires.falls;
-      t_bound = (c.requires.t_bound.0, below.0, below.1);
+      t_bound = (c.requires.t_bound.0, omega (arith, c.min.ensures, below.0, below.1), omega (arith, c.max.ensures, below.0, below.1));
     }
-
-pub merge-requires-else-a-b : goal.merge-requires-else-a-b
-merge-requires-else-a-b c =
-    let e = c.args.e in
-    let below = both_below e c.find-a.ensures c.find-b.ensures c.link.ensures c.requires.room c.requires.falls in
-    record {
-      room = joined_room e c.find-a.ensures c.find-b.ensures c.link.ensures c.requires.room c.requires.falls;
-      t_bound = (c.requires.t_bound.0, below.1, below.0);
-    }
-
-pub returns-then-a-b : goal.returns-then-a-b
-returns-then-a-b c =
-    contracted_yes c.args.e c.find-a.ensures c.find-b.ensures c.link.ensures c.if-link.true (omega arith) (omega arith)
-    c.merge.ensures
-
-pub returns-else-a-b : goal.returns-else-a-b
-returns-else-a-b c =
-    contracted_yes c.args.e c.find-a.ensures c.find-b.ensures c.link.ensures c.if-link.true (omega arith) (omega arith)
-    c.merge-else-a-b.ensures
 
 pub returns : goal.returns
 returns c =
-    contracted_no c.args.e c.find-a.ensures c.find-b.ensures c.link.ensures c.if-link.false
+    contracted_yes c.args.e c.find-a.ensures c.find-b.ensures c.link.ensures c.if-not-link.false c.min.ensures c.max.ensures c.merge.ensures

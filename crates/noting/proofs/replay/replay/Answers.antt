@@ -17,11 +17,11 @@ step-requires c =
 
 pub loop-t-preserved : goal.loop-t-preserved
 loop-t-preserved c =
-    turn_on c.requires.room c.requires.falls c.requires.n_bound c.loop-t.invariant c.loop-t-test.true c.at-h.ensures c.step.ensures c.if-step.true
+    turn_on c.requires.room c.requires.falls c.requires.n_bound c.loop-t.invariant c.loop-t-test.true c.at-h.ensures c.step.ensures c.if-not-step.false
 
-pub returns-else-step : goal.returns-else-step
-returns-else-step c =
-    turn_refused c.requires.room c.requires.falls c.requires.n_bound c.loop-t.invariant c.loop-t-test.true c.at-h.ensures c.step.ensures c.if-step.false
+pub returns-then-not-step : goal.returns-then-not-step
+returns-then-not-step c =
+    turn_refused c.requires.room c.requires.falls c.requires.n_bound c.loop-t.invariant c.loop-t-test.true c.at-h.ensures c.step.ensures c.if-not-step.true
 
 pub returns : goal.returns
 returns c = replay_ends c.loop-t.invariant c.loop-t-test.false

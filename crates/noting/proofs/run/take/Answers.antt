@@ -1,48 +1,23 @@
 -- `noting::run::take` meets its contract: judging changes the forest's part alone, so that the edge is contracted on the map on which it was judged.
-use mathlib.Core.Path.{sym, ◌∙◌}
-use native.Mathlib.Omega.{arith}
+use mathlib.Core.Path.{ap₂, ◌∙◌}
+use Prim.Native.Nat.{min, max}
+use Rattle.std.proofs.lemmas.Result.{err_from_is_err_and}
 use Rattle.noting.proofs.TurnNoted.{taken_refused, taken_for, taken_done}
 use Rattle.noting.proofs.run.take.Goals as goal
 
-pub judge_found-answer-requires : goal.judge_found-answer-requires
-judge_found-answer-requires c =
-    record {
-      room = c.requires.ready.area.room;
-      falls = c.requires.ready.falls;
-      k_bound = (omega arith, c.requires.e_bound);
-      a_value = c.requires.a_value;
-    }
-
-pub returns-then-number-ne0 : goal.returns-then-number-ne0
-returns-then-number-ne0 c =
-    taken_refused c.requires.ready c.judge_found-answer.ensures (λ z. c.if-number-ne0.true (c.number.ensures ∙ z))
+pub returns-in_err-judge_found : goal.returns-in_err-judge_found
+returns-in_err-judge_found c =
+    let (r, is, same) = err_from_is_err_and c.from_residual.result c.from_residual.ensures.1 in
+    rw (is, same) (taken_refused c.requires.ready c.in_err-judge_found.ensures)
 
 pub contract-requires : goal.contract-requires
 contract-requires c =
-    let fine = sym c.number.ensures ∙ c.if-number-ne0.false in
-    let roots = c.requires.a_value in
-    let asked = taken_for c.requires.ready c.judge_found-answer.ensures fine {low = c.args.a} {high = c.args.b}
-    (omega (arith, roots.0, roots.1)) (omega (arith, roots.0, roots.1)) in
+    let (first, second) = c.requires.a_value in
+    let asked = taken_for c.requires.ready c.in_ok-judge_found.ensures (c.min.ensures ∙ ap₂ min first second) (c.max.ensures ∙ ap₂ max first second) in
     record { room = asked.0; bounds = asked.1.0; m_bound = asked.1.1 }
 
-pub contract-requires-else-a-b : goal.contract-requires-else-a-b
-contract-requires-else-a-b c =
-    let fine = sym c.number.ensures ∙ c.if-number-ne0.false in
-    let roots = c.requires.a_value in
-    let asked = taken_for c.requires.ready c.judge_found-answer.ensures fine {low = c.args.b} {high = c.args.a}
-    (omega (arith, roots.0, roots.1)) (omega (arith, roots.0, roots.1)) in
-    record { room = asked.0; bounds = asked.1.0; m_bound = asked.1.1 }
-
-pub returns-then-a-b : goal.returns-then-a-b
-returns-then-a-b c =
-    let fine = sym c.number.ensures ∙ c.if-number-ne0.false in
-    let roots = c.requires.a_value in
-    taken_done c.requires.ready c.judge_found-answer.ensures fine (omega (arith, roots.0, roots.1)) (omega (arith, roots.0, roots.1))
+pub returns : goal.returns
+returns c =
+    let (first, second) = c.requires.a_value in
+    taken_done c.requires.ready c.in_ok-judge_found.ensures (c.min.ensures ∙ ap₂ min first second) (c.max.ensures ∙ ap₂ max first second)
     c.contract.ensures
-
-pub returns-else-a-b : goal.returns-else-a-b
-returns-else-a-b c =
-    let fine = sym c.number.ensures ∙ c.if-number-ne0.false in
-    let roots = c.requires.a_value in
-    taken_done c.requires.ready c.judge_found-answer.ensures fine (omega (arith, roots.0, roots.1)) (omega (arith, roots.0, roots.1))
-    c.contract-else-a-b.ensures

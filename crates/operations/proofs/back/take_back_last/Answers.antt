@@ -1,27 +1,21 @@
 -- `operations::back::take_back_last` meets its contract: what is left to take back, in the work area as it is, is what was to be taken back from the start.
 --
 --   Backing D n c w₀ w left == that, with the bounds
---   back_begin              == before the first operation
 --   back_on                 == one operation fits
 --   back_not                == one does not: no
 --   back_end                == all are taken back: yes
 use mathlib.Core.Bool.{Bool, true, false}
 use mathlib.Core.List.{List}
-use mathlib.Core.Path.{◌≡◌, refl, sym, ap, ◌∙◌}
+use mathlib.Core.Path.{◌≡◌, sym, ◌∙◌}
 use Prim.Native.Nat.{ℕ, suc, ◌+◌, ◌-◌, ◌*◌, ◌≤◌, ◌<◌}
 use native.Mathlib.Omega.{arith}
 use lib.ListN.{length, get_or}
 use Rattle.area.specs.Area.{stamp, tried}
 use Rattle.area.proofs.Tried.{tried_yes, tried_no}
-use Rattle.operations.specs.Back.{fits, taken_back, tried_back, backs, Sound}
+use Rattle.operations.specs.Back.{fits, taken_back, tried_back, backs}
 use Rattle.operations.proofs.Sound.{taken_back_sound}
 use Rattle.operations.proofs.back.take_back_last.Invariants.{Backing}
 use Rattle.operations.proofs.back.take_back_last.Goals as goal
-
-back_begin : (D n c : ℕ) (w : List ℕ) → Sound D n w → c ≤ n → Backing D n c w w n
-back_begin D n c w sound few =
-    let e : c ≡ n - (n - c) = omega arith in
-    record { sound = sound; size = refl; low = omega arith; high = omega arith; same = ap (backs D w n) e }
 
 module _ {D n c : ℕ} {w₀ w : List ℕ} {left : ℕ} (k : Backing D n c w₀ w left) where
   module _ {h : ℕ} (more : n - c < left) (here : h ≡ get_or w (3 * D + (left - 1)) 0) where
@@ -53,22 +47,14 @@ module _ {D n c : ℕ} {w₀ w : List ℕ} {left : ℕ} (k : Backing D n c w₀ 
   unfolding backs
   back_end l = let e : left - (n - c) ≡ 0 = omega arith in sym (k.same ∙ rw e)
 
-pub loop-left-init : goal.loop-left-init
-loop-left-init c = back_begin _ _ _ _ c.requires.sound c.requires.c_le_n
-
-pub take_back-requires : goal.take_back-requires
-take_back-requires c =
-    let k = c.loop-left.invariant in
-    record { mapped = k.sound.mapped; h_bound = number_below k c.loop-left-test.true c.at-h.ensures }
-
 pub loop-left-preserved : goal.loop-left-preserved
 loop-left-preserved c =
-    back_on c.loop-left.invariant c.loop-left-test.true c.at-h.ensures c.if-take_back.true
+    back_on c.loop-left.invariant c.loop-left-test.true c.at-h.ensures c.if-not-take_back.false
     c.take_back.auto.work c.take_back.ensures
 
-pub returns-else-take_back : goal.returns-else-take_back
-returns-else-take_back c =
-    back_not c.loop-left.invariant c.loop-left-test.true c.at-h.ensures c.if-take_back.false
+pub returns-then-not-take_back : goal.returns-then-not-take_back
+returns-then-not-take_back c =
+    back_not c.loop-left.invariant c.loop-left-test.true c.at-h.ensures c.if-not-take_back.true
     c.take_back.ensures
 
 pub returns : goal.returns

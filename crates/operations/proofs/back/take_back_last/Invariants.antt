@@ -1,7 +1,6 @@
 -- `operations::back::take_back_last` meets its contract: what is left to take back, in the work area as it is, is what was to be taken back from the start.
 --
 --   Backing D n c w₀ w left == that, with the bounds
---   back_begin              == before the first operation
 --   back_on                 == one operation fits
 --   back_not                == one does not: no
 --   back_end                == all are taken back: yes
@@ -21,6 +20,3 @@ pub record Backing (D n c : ℕ) (w₀ w : List ℕ) (left : ℕ) : Type 0 where
 
 abbrev pub invariant-loop-left : goal.invariant-loop-left
 invariant-loop-left l = Backing l.d l.n l.c l.initial.work l.work l.left
-
-abbrev pub decreases-loop-left : goal.decreases-loop-left
-decreases-loop-left l = l.left

@@ -5,12 +5,13 @@ use Prim.Native.Nat.{ℕ}
 use lib.ListN.{length}
 use Rattle.permutations.specs.Perm.{Perm}
 use Rattle.permutations.specs.Cycle.{Meets}
+use Rattle.darts.specs.Kinds.{bit}
 use Rattle.forest.specs.Forest.{Fresh}
 use Rattle.forest.specs.Lowest.{Lowest}
 use Rattle.area.specs.Area.{Room, forest_in}
 use Rattle.operations.specs.Trees.{Outside}
 use Rattle.operations.specs.Cycles.{step_in, Labelled}
-use Rattle.operations.proofs.Outside.{outside_trans, outside_room, forest_length}
+use Rattle.operations.proofs.Outside.{outside_trans, forest_length}
 use Rattle.operations.proofs.Lent.{lent, lent_outside, lent_forest}
 use Rattle.operations.proofs.Steps.{outside_step}
 use Rattle.operations.proofs.cycles.label.Goals as goal
@@ -35,11 +36,11 @@ module _ {D : ℕ} (k : ℕ) {w : List ℕ} (room : Room D w) {t : List ℕ} (fr
         lowest = subst (λ f. Lowest (Meets f) D D (forest_in D w')) steps l.lowest;
       }
 
-pub label_cycles-requires : goal.label_cycles-requires
-label_cycles-requires c =
-    record { room = outside_room (outside c.args.k c.requires.room c.fresh.ensures) c.requires.room; perm = start_perm _ c.requires.room c.fresh.ensures c.requires.perm; fresh = start_fresh c.args.k c.requires.room c.fresh.ensures }
+pub label_cycles-requires-clause-perm : goal.label_cycles-requires-clause-perm
+label_cycles-requires-clause-perm c = start_perm _ c.requires.room c.fresh.ensures c.requires.perm
 
-pub returns : goal.returns
-returns c =
-    let l = c.label_cycles.ensures in
-    record { labelled = labelled _ c.requires.room c.fresh.ensures l.labelled; value = l.value }
+pub label_cycles-requires-clause-fresh : goal.label_cycles-requires-clause-fresh
+label_cycles-requires-clause-fresh c = start_fresh (bit c.args.kind) c.requires.room c.fresh.ensures
+
+pub returns-clause-labelled : goal.returns-clause-labelled
+returns-clause-labelled c = labelled _ c.requires.room c.fresh.ensures c.label_cycles.ensures.labelled

@@ -1,5 +1,5 @@
--- `operations::cycles::label_cycles` meets its contract: at each turn the classes of the first i darts have their lowest darts as parents, and n counts the roots among these
--- darts.
+-- `operations::cycles::label_cycles` meets its contract: at each turn the classes of the first i darts have their lowest darts as parents,
+-- and n counts the roots among these darts.
 --
 --   Labelling D k w₀ w n i == so far, from w₀ to w
 --   roots_same           == the roots among the first darts, where their parents stay
@@ -19,15 +19,16 @@ use borrow.Author.Tests.{lt-ltb, le-ltb, eq-eqb, ne_eqb}
 use Rattle.permutations.specs.Perm.{Perm}
 use Rattle.permutations.specs.Cycle.{Meets, meets_refl, meets_sym, meets_ind}
 use Rattle.forest.specs.Forest.{Fresh}
-use Rattle.forest.specs.Lowest.{Lowest, Marked, lowest_fresh, lowest_passed, lowest_marked}
+use Rattle.forest.specs.Lowest.{Marked, lowest_fresh, lowest_passed, lowest_marked}
 use Rattle.area.specs.Area.{prev, there, Room, forest_in}
 use Rattle.operations.specs.Trees.{Outside}
 use Rattle.operations.specs.Count.{roots_in}
-use Rattle.operations.specs.Cycles.{step_in, MarkedIn, Labelled}
-use Rattle.operations.proofs.Outside.{outside_refl, outside_trans, outside_room, outside_front, outside_there, forest_at}
+use Rattle.operations.specs.Cycles.{step_in, MarkedIn}
+use Rattle.operations.proofs.Outside.{outside_refl, outside_trans, outside_front, outside_there, forest_at}
 use Rattle.operations.proofs.Steps.{step_stays, outside_step, cycle_classes}
 use Rattle.operations.proofs.cycles.label_cycles.Invariants.{Labelling}
 use Rattle.operations.proofs.cycles.label_cycles.Goals as goal
+use Rattle.operations.proofs.cycles.label_cycles.Goals.{then-at-i+then-at-d, else-at-i, else-at-i-via-then-at-i+else-at-d, else-at-i-via-else-at-i}
 
 and_none : (b : Bool) → (b && false) ≡ false
 and_none true = refl
@@ -37,13 +38,6 @@ begin : {D k : ℕ} {w : List ℕ} → Perm D (step_in D k w) → Fresh D (fores
 unfolding roots_in
 begin {D} {k} {w} π fresh =
     record { low = omega arith; few = omega arith; sum = refl; outside = outside_refl D w; lowest = lowest_fresh (cycle_classes π) fresh }
-
-ends : {D k : ℕ} {w₀ w : List ℕ} {n i : ℕ} → Labelling D k w₀ w n i → D ≤ i → Labelled D k w₀ w × (n ≡ roots_in D w D)
-ends {D} {k} {w₀} {w} {n} {i} now none =
-    let e : i ≡ D = omega (arith, now.low) in (
-      record { outside = now.outside; lowest = subst (λ j. Lowest (Meets (step_in D k w₀)) D j (forest_in D w)) e now.lowest },
-      now.sum ∙ ap (roots_in D w) e,
-    )
 
 roots_same : {D : ℕ} {w w' : List ℕ} → (m : ℕ) → m ≤ D → Outside D w w' → ((x : ℕ) → x < m → get_or w' (2 * D + x) 0 ≡ get_or w (2 * D + x) 0)
     → roots_in D w' m ≡ roots_in D w m
@@ -127,25 +121,18 @@ module _ {D k : ℕ} {w₀ w : List ℕ} {n i : ℕ} (room : Room D w₀) (π : 
 pub loop-i-init : goal.loop-i-init
 loop-i-init c = begin c.requires.perm c.requires.fresh
 
-pub label_cycle-requires : goal.label_cycle-requires
-label_cycle-requires c =
-    let l = c.loop-i.invariant in
-    record { room = outside_room l.outside c.requires.room; perm = same_perm c.requires.room c.requires.perm l c.loop-i-test.true; i_lt_d = (c.loop-i-test.true, omega arith, sym c.at.ensures ∙ c.if-at-i.true) }
-
-pub loop-i-preserved-then-at-d : goal.loop-i-preserved-then-at-d
-loop-i-preserved-then-at-d c =
-    turn_root c.requires.room c.requires.perm c.loop-i.invariant c.loop-i-test.true (omega arith)
-    (sym c.at.ensures ∙ c.if-at-i.true) c.label_cycle.ensures
-
-pub loop-i-preserved-else-at-d : goal.loop-i-preserved-else-at-d
-loop-i-preserved-else-at-d c =
-    turn_gone c.requires.room c.requires.perm c.loop-i.invariant c.loop-i-test.true (omega arith)
+pub label_cycle-requires-clause-perm : goal.label_cycle-requires-clause-perm
+label_cycle-requires-clause-perm c = same_perm c.requires.room c.requires.perm c.loop-i.invariant c.loop-i-test.true
 
 pub loop-i-preserved : goal.loop-i-preserved
 loop-i-preserved c =
-    turn_child c.requires.room c.requires.perm c.loop-i.invariant c.loop-i-test.true (λ e. c.if-at-i.false (c.at.ensures ∙ e))
-
-pub returns : goal.returns
-returns c =
-    let e = ends c.loop-i.invariant c.loop-i-test.false in
-    record { labelled = e.0; value = e.1 }
+    let room = c.requires.room in
+    let π = c.requires.perm in
+    let l = c.loop-i.invariant in
+    elim c.if-at-i.branch [
+      | then-at-i+then-at-d w ↦ rw (w.work-is, w.n-is) (turn_root room π l c.loop-i-test.true (omega arith) (omega arith) w.label_cycle.ensures)
+      | else-at-i w ↦ rw (w.work-is, w.n-is) (elim w.else-at-i.branch [
+        | else-at-i-via-then-at-i+else-at-d v ↦ turn_gone room π l c.loop-i-test.true (omega arith)
+        | else-at-i-via-else-at-i v ↦ turn_child room π l c.loop-i-test.true (λ e. v.if-at-i.false (c.at.ensures ∙ e))
+      ])
+    ]

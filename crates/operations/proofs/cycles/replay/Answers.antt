@@ -15,27 +15,15 @@ use native.Mathlib.Omega.{arith}
 use lib.ListN.{get_or}
 use Rattle.permutations.specs.Partner.{partner}
 use Rattle.permutations.proofs.PartnerLemmas.{partner_below}
-use Rattle.forest.specs.Forest.{Falls}
-use Rattle.slices.specs.Part.{part}
-use Rattle.area.specs.Area.{Room, forest_in}
+use Rattle.area.specs.Area.{Room}
 use Rattle.area.proofs.Parts.{part_cons, part_none}
 use Rattle.operations.specs.Trees.{rooted, Joined}
 use Rattle.operations.specs.Replay.{rejoined, replayed, Numbered, Replayed}
-use Rattle.operations.proofs.Outside.{outside_refl, outside_trans, outside_room, outside_rest}
+use Rattle.operations.proofs.Outside.{outside_trans, outside_rest}
 use Rattle.operations.proofs.Replay.{replay_other, rejoin_other, replay_together, replay_apart, rejoin_apart}
 use Rattle.operations.proofs.cycles.replay.Invariants.{left, Replaying}
 use Rattle.operations.proofs.cycles.replay.Goals as goal
-
-begin : (D n k : ℕ) (w : List ℕ) → Falls (forest_in D w) → Replaying D n k w w 0
-begin D n k w falls =
-    let e : 3 * D ≡ 3 * D + 0 = omega arith in
-    record {
-      low = omega arith;
-      outside = outside_refl D w;
-      falls = falls;
-      answer = ap (λ (a : ℕ). replayed k (rooted D w) (part a (3 * D + n) w)) e;
-      roots = ap (λ (a : ℕ). rejoined k (rooted D w) (part a (3 * D + n) w)) e;
-    }
+use Rattle.operations.proofs.cycles.replay.Goals.{then-h-k+else-not-join, else-h-k}
 
 module _ {D n k : ℕ} {w₀ w : List ℕ} {i : ℕ} (room : Room D w₀) (numbered : Numbered D n w₀) (now : Replaying D n k w₀ w i) (more : i < n)
     {h : ℕ} (read : h ≡ get_or w (3 * D + i) 0) where
@@ -100,39 +88,27 @@ replay_ends {D} {n} {k} {w₀} {w} {i} now none =
       roots = λ _. sym (now.roots ∙ ap (rejoined k (rooted D w)) e);
     }
 
-pub loop-i-init : goal.loop-i-init
-loop-i-init c = begin _ _ _ _ c.requires.falls
-
-pub partner-q-requires : goal.partner-q-requires
-partner-q-requires c = omega (arith, of_dart c.requires.room c.requires.numbered c.loop-i.invariant c.loop-i-test.true c.at-h.ensures)
-
-pub join-requires : goal.join-requires
-join-requires c =
-    let l = c.loop-i.invariant in record {
-      room = outside_room l.outside c.requires.room;
-      falls = l.falls;
-      p_lt_d = (
-        of_dart c.requires.room c.requires.numbered l c.loop-i-test.true c.at-h.ensures,
-        rw c.partner-q.ensures (of_partner c.requires.room c.requires.numbered l c.loop-i-test.true c.at-h.ensures),
-      );
-    }
+pub join-requires-clause-p_lt_d : goal.join-requires-clause-p_lt_d
+join-requires-clause-p_lt_d c =
+    let p = of_dart c.requires.room c.requires.numbered c.loop-i.invariant c.loop-i-test.true c.at-h.ensures in
+    let q = of_partner c.requires.room c.requires.numbered c.loop-i.invariant c.loop-i-test.true c.at-h.ensures in
+    (p, rw c.partner-q.ensures q)
 
 pub returns-then-not-join : goal.returns-then-not-join
 returns-then-not-join c =
-    turn_together c.requires.room c.requires.numbered c.loop-i.invariant
+    rw c.bit-k.ensures at
+    (turn_together c.requires.room c.requires.numbered c.loop-i.invariant
     c.loop-i-test.true c.at-h.ensures c.if-h-k.true
-    (rw c.partner-q.ensures at c.join.ensures) c.if-not-join.true
-
-pub loop-i-preserved-then-h-k : goal.loop-i-preserved-then-h-k
-loop-i-preserved-then-h-k c =
-    turn_apart c.requires.room c.requires.numbered c.loop-i.invariant
-    c.loop-i-test.true c.at-h.ensures c.if-h-k.true
-    (rw c.partner-q.ensures at c.join.ensures) c.if-not-join.false
+    (rw c.partner-q.ensures at c.join.ensures) c.if-not-join.true)
 
 pub loop-i-preserved : goal.loop-i-preserved
 loop-i-preserved c =
-    turn_other c.requires.room c.requires.numbered c.loop-i.invariant c.loop-i-test.true
-    c.at-h.ensures c.if-h-k.false
+    let turn = turn_other c.requires.room c.requires.numbered c.loop-i.invariant c.loop-i-test.true c.at-h.ensures in
+    elim c.if-h-k.branch [
+      | then-h-k+else-not-join w ↦ rw w.work-is (turn_apart c.requires.room c.requires.numbered c.loop-i.invariant c.loop-i-test.true c.at-h.ensures w.if-h-k.true
+          (rw w.partner-q.ensures at w.join.ensures) w.if-not-join.false)
+      | else-h-k w ↦ rw w.work-is (turn w.if-h-k.false)
+    ]
 
 pub returns : goal.returns
-returns c = replay_ends c.loop-i.invariant c.loop-i-test.false
+returns c = rw c.bit-k.ensures at (replay_ends c.loop-i.invariant c.loop-i-test.false)

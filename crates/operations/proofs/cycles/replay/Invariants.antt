@@ -8,7 +8,7 @@
 --   replay_ends            == none is left: the answer is yes
 use mathlib.Core.List.{List}
 use mathlib.Core.Path.{◌≡◌}
-use Prim.Native.Nat.{ℕ, ◌+◌, ◌-◌, ◌*◌, ◌≤◌}
+use Prim.Native.Nat.{ℕ, ◌+◌, ◌*◌, ◌≤◌}
 use Rattle.forest.specs.Forest.{Falls}
 use Rattle.slices.specs.Part.{part}
 use Rattle.area.specs.Area.{forest_in}
@@ -29,6 +29,3 @@ pub record Replaying (D n k : ℕ) (w₀ w : List ℕ) (i : ℕ) : Type 0 where
 
 abbrev pub invariant-loop-i : goal.invariant-loop-i
 invariant-loop-i l = Replaying l.d l.n l.k l.initial.work l.work l.i
-
-abbrev pub decreases-loop-i : goal.decreases-loop-i
-decreases-loop-i l = l.n - l.i

@@ -18,20 +18,17 @@ leads_on : (D : ℕ) (k : Kind) (p : ℕ) (w : List ℕ) {q r s a b x y : ℕ} �
 unfolding led bypassed successor prev
 leads_on D k p w q-is r_is s_is a-is b-is x_is y_is = rw (x_is, y_is, r_is, s_is, a-is, b-is, q-is) refl
 
-pub bypass-requires : goal.bypass-requires
-bypass-requires c =
+pub bypass-requires-clause-a_lt_d : goal.bypass-requires-clause-a_lt_d
+bypass-requires-clause-a_lt_d c =
     let g = c.args in
     let b = c.requires.bounds in
     let r : c.at-r.result < g.d = rw c.at-r.ensures b.first_next in
-    let s : c.at-s.result < g.d = rw c.at-s.ensures b.second_next in record {
-      room = c.requires.room;
-      a_lt_d = (
-        rw c.at-a.ensures b.first_before,
-        rw c.at-b.ensures b.second_before,
-        rw c.near-x.ensures (near_far (λ z. z < g.d) _ r s).0,
-        rw c.near-y.ensures (near_far (λ z. z < g.d) _ r s).1,
-      );
-    }
+    let s : c.at-s.result < g.d = rw c.at-s.ensures b.second_next in (
+      rw c.at-a.ensures b.first_before,
+      rw c.at-b.ensures b.second_before,
+      rw c.near-x.ensures (near_far (λ z. z < g.d) _ r s).0,
+      rw c.near-y.ensures (near_far (λ z. z < g.d) _ r s).1,
+    )
 
 pub returns : goal.returns
 returns c =

@@ -1,10 +1,6 @@
 -- `plan::drawing::turn`: what laying the courses from y on gives is what laying all of them gave. The measure is what is left of the courses.
-use Prim.Native.Nat.{◌-◌}
 use Rattle.plan.proofs.Turned.{Turning}
 use Rattle.plan.proofs.drawing.turn.Given as goal
 
 abbrev pub invariant-loop-y : goal.invariant-loop-y
 invariant-loop-y l = Turning l.wales l.courses l.drawing l.initial.plan l.plan l.y
-
-abbrev pub decreases-loop-y : goal.decreases-loop-y
-decreases-loop-y l = l.courses - l.y

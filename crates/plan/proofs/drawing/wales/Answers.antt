@@ -1,16 +1,15 @@
--- `plan::drawing::wales`: as long as no line feed is met, each byte belongs to the first line. The measure is what is left of the drawing.
-use borrow.Author.Rules.{rules}
-use Rattle.plan.proofs.Lines.{wales_begin, wales_on, wales_end, wales_all}
+-- `plan::drawing::wales`: the place of the first line feed.
+use Rattle.std.proofs.Common.{◌≡◌, ◌≢◌, ◌∙◌, sym, rules}
+use Rattle.std.proofs.lemmas.Iterator.{YieldsList-from_slice, IsFirst-from_position, index_from_first}
+use borrow.Author.Tests.{tests}
+use Rattle.plan.specs.Drawing.{wales_of}
+use Rattle.plan.proofs.Lines.{wales_none, wales_feed, wales_other}
 use Rattle.plan.proofs.drawing.wales.Goals as goal
 
-pub loop-i-init : goal.loop-i-init
-loop-i-init c = wales_begin _
-
-pub returns-then-drawing-i-eq10 : goal.returns-then-drawing-i-eq10
-returns-then-drawing-i-eq10 c = search (rules, wales_end)
-
-pub loop-i-preserved : goal.loop-i-preserved
-loop-i-preserved c = search (rules, wales_on)
-
 pub returns : goal.returns
-returns c = search (rules, wales_all)
+returns c =
+    let d = c.args.drawing.now in
+    let first = IsFirst-from_position _ _ _ (λ b. b ≡ 10) (λ b. b ≢ 10) c.position.ensures.ran (YieldsList-from_slice d (cc))
+    (λ x q k. search (rules, tests)) (λ x q k. search (rules, tests)) in
+    let e = index_from_first wales_of (λ b. b ≡ 10) (λ b. b ≢ 10) wales_none wales_feed wales_other d _ first in
+    (c.unwrap_or.ensures ∙ sym e, search rules)

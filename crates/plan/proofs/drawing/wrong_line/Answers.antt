@@ -1,25 +1,39 @@
--- `plan::drawing::wrong_line`: no line before line n is wrong, of which k bytes are passed. The measure is what is left of the drawing.
-use borrow.Author.Rules.{rules}
-use Rattle.plan.proofs.Lines.{judge_begin, line_on, line_long, line_ends, line_short, last_ended, last_open}
+-- `plan::drawing::wrong_line`: the first wrong line is that of what follows after k bytes of line n.
+use Rattle.std.proofs.Common.{◌∙◌, sym, ap, arith}
+use Rattle.plan.specs.Drawing.{wrong_from, wrong_line}
+use Rattle.plan.proofs.Lines.{line_ends, line_on, line_short, line_long, last_ended, last_open}
 use Rattle.plan.proofs.drawing.wrong_line.Goals as goal
+use Rattle.plan.proofs.drawing.wrong_line.Goals.{in-true-true, in-false-false}
 
-pub loop-i-init : goal.loop-i-init
-loop-i-init c = judge_begin _ _
+pub loop-b-init : goal.loop-b-init
+unfolding wrong_line
+loop-b-init c = record { line = omega arith; place = omega arith; wrong = ap (λ w. wrong_from w 0 1 c.args.drawing.now) c.wales-w.ensures.0 }
 
-pub returns-then-k-wales : goal.returns-then-k-wales
-returns-then-k-wales c = search (rules, line_short)
-
-pub loop-i-preserved-then-drawing-i-eq10 : goal.loop-i-preserved-then-drawing-i-eq10
-loop-i-preserved-then-drawing-i-eq10 c = search (rules, line_ends)
-
-pub returns-then-k-wales-2 : goal.returns-then-k-wales-2
-returns-then-k-wales-2 c = search (rules, line_long)
-
-pub loop-i-preserved : goal.loop-i-preserved
-loop-i-preserved c = search (rules, line_on)
+pub loop-b-preserved : goal.loop-b-preserved
+loop-b-preserved c =
+    let h = c.loop-b-test.true in
+    let k = c.loop-b.invariant in
+    elim c.if-b-eq10.branch [
+      | in-true-true w ↦ rw (w.k-is, w.n-is) (record {
+        line = omega arith;
+        place = omega arith;
+        wrong = sym (line_ends _ _ _ _ _ h w.in-true-true.is-0 w.in-true-true.is-1) ∙ k.wrong;
+      })
+      | in-false-false w ↦ rw (w.k-is, w.n-is) (record {
+        line = omega arith;
+        place = omega arith;
+        wrong = sym (line_on _ _ _ _ _ h w.in-false-false.is-0 w.in-false-false.is-1) ∙ k.wrong;
+      })
+    ]
 
 pub returns-then-k-eq0 : goal.returns-then-k-eq0
-returns-then-k-eq0 c = search (rules, last_ended)
+returns-then-k-eq0 c = sym (last_ended _ _ _ _ _ c.loop-b-test.false c.if-k-eq0.true) ∙ c.loop-b.invariant.wrong
 
-pub returns : goal.returns
-returns c = search (rules, last_open)
+pub returns-else-k-eq0 : goal.returns-else-k-eq0
+returns-else-k-eq0 c = sym (last_open _ _ _ _ _ c.loop-b-test.false c.if-k-eq0.false) ∙ c.loop-b.invariant.wrong
+
+pub returns-in-true-false : goal.returns-in-true-false
+returns-in-true-false c = sym (line_short _ _ _ _ _ c.loop-b-test.true c.in-true-false.is-0 c.in-true-false.is-1) ∙ c.loop-b.invariant.wrong
+
+pub returns-in-true-false-2 : goal.returns-in-true-false-2
+returns-in-true-false-2 c = sym (line_long _ _ _ _ _ c.loop-b-test.true c.in-true-false.is-0 c.in-true-false.is-1) ∙ c.loop-b.invariant.wrong

@@ -1,11 +1,11 @@
--- `plan::drawing::wrong_line`: no line before line n is wrong, of which k bytes are passed. The measure is what is left of the drawing.
-use Prim.Native.Nat.{◌-◌}
-use lib.ListN.{length}
-use Rattle.plan.proofs.Lines.{Judged}
+-- `plan::drawing::wrong_line`: the first wrong line is that of what follows after k bytes of line n.
+use Rattle.std.proofs.Common.{◌≡◌, ◌≤◌, ◌+◌, drop}
+use Rattle.plan.specs.Drawing.{wrong_from, wrong_line}
 use Rattle.plan.proofs.drawing.wrong_line.Given as goal
 
-abbrev pub invariant-loop-i : goal.invariant-loop-i
-invariant-loop-i l = Judged l.wales l.drawing l.i l.k l.n
-
-abbrev pub decreases-loop-i : goal.decreases-loop-i
-decreases-loop-i l = length l.drawing - l.i
+abbrev pub invariant-loop-b : goal.invariant-loop-b
+invariant-loop-b l = record {
+  line : l.n ≤ l.b-index + 1;
+  place : l.k ≤ l.b-index;
+  wrong : wrong_from l.w l.k l.n (drop l.b-index l.drawing) ≡ wrong_line l.drawing;
+}

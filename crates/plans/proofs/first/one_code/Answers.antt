@@ -1,24 +1,11 @@
 -- `plans::first::one_code` meets its contract: the cells at an edge's two ends, by arithmetic.
 use native.Mathlib.Omega.{arith}
 use borrow.Author.Rules.{rules}
-use Rattle.plans.proofs.Limits.{along_few}
-use Rattle.plans.proofs.Ends.{along_some, along_ends, upright_ends, same_codes}
+use Rattle.plans.proofs.Ends.{along_ends, upright_ends, same_codes}
 use Rattle.plans.proofs.first.one_code.Goals as goal
-
-pub overflow_mul-a : goal.overflow_mul-a
-overflow_mul-a c = let f = along_few c.requires.sized in search rules
-
-pub nonzero_div-k : goal.nonzero_div-k
-nonzero_div-k c = along_some c.requires.sized c.requires.e_bound c.if-e-a.true
-
-pub overflow_add-k : goal.overflow_add-k
-overflow_add-k c = let E = (along_ends c.requires.sized c.requires.e_bound c.if-e-a.true) in search rules
 
 pub bounds-plan-k : goal.bounds-plan-k
 bounds-plan-k c = let E = (along_ends c.requires.sized c.requires.e_bound c.if-e-a.true) in omega (arith, c.requires.c_in_bounds)
-
-pub overflow_add-result : goal.overflow_add-result
-overflow_add-result c = let E = (along_ends c.requires.sized c.requires.e_bound c.if-e-a.true) in search rules
 
 pub bounds-plan-k-then-e-a : goal.bounds-plan-k-then-e-a
 bounds-plan-k-then-e-a c = let E = (along_ends c.requires.sized c.requires.e_bound c.if-e-a.true) in omega (arith, c.requires.c_in_bounds)

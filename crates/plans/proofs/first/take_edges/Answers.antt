@@ -1,40 +1,31 @@
 -- `plans::first::take_edges` meets its contract: from each edge on the pass goes to where it goes from the first.
 use mathlib.Core.Path.{sym, ◌∙◌}
-use native.Mathlib.Omega.{arith}
-use Rattle.plans.proofs.Taken.{taking_begins, passed_over, taken_not, taken_on, taking_ends}
+use Rattle.plans.proofs.Taken.{taking_begins, passed_over, turn_refused, turn_done, taking_ends}
 use Rattle.plans.proofs.first.take_edges.Goals as goal
+use Rattle.plans.proofs.first.take_edges.Goals.{then-one_code+then-is_ok, else-one_code}
+use Rattle.plans.proofs.first.take_edges.Goals.{else-one_code-via-then-one_code+else-is_ok, else-one_code-via-else-one_code}
 
 pub loop-e-init : goal.loop-e-init
 loop-e-init c = taking_begins _ c.requires.d_value c.requires.ready c.requires.work_value
 
-pub one_code-requires : goal.one_code-requires
-one_code-requires c = let p = c.requires in record { sized = p.sized; e_bound = omega (arith, p.d_value, c.loop-e-test.true); c_in_bounds = p.c_in_bounds }
-
-pub turn-answer-requires : goal.turn-answer-requires
-turn-answer-requires c = c.loop-e.invariant.under.ready
-
-pub overflow_add-m : goal.overflow_add-m
-overflow_add-m c =
-    let A = c.loop-e.invariant.under.ready.area in
-    omega (arith, A.few, A.room.small)
-
-pub loop-e-preserved-then-number-eq0 : goal.loop-e-preserved-then-number-eq0
-loop-e-preserved-then-number-eq0 c =
-    taken_on c.requires.d_value c.loop-e.invariant c.loop-e-test.true c.one_code.ensures
-    c.if-one_code.true c.turn-answer.ensures (sym c.number.ensures ∙ c.if-number-eq0.true)
-
-pub loop-e-preserved-else-number-eq0 : goal.loop-e-preserved-else-number-eq0
-loop-e-preserved-else-number-eq0 c =
-    taken_not c.requires.d_value c.loop-e.invariant c.loop-e-test.true c.one_code.ensures
-    c.if-one_code.true c.turn-answer.ensures (λ z. c.if-number-eq0.false (c.number.ensures ∙ z))
-
 pub loop-e-preserved : goal.loop-e-preserved
 loop-e-preserved c =
-    passed_over c.requires.d_value c.loop-e.invariant c.loop-e-test.true
-    c.one_code.ensures c.if-one_code.false
-
-pub shape_of-work : goal.shape_of-work
-shape_of-work c = c.loop-e.invariant.under.beyond.size
+    let D = c.requires.d_value in
+    let σ = c.loop-e.invariant in
+    let more = c.loop-e-test.true in
+    let asked = c.one_code.ensures in
+    elim c.if-one_code.branch [
+      | then-one_code+then-is_ok w ↦
+          rw (w.work-is, w.m-is)
+          (turn_done D σ more asked w.if-one_code.true _ w.turn.ensures (sym w.is_ok.ensures.value ∙ w.if-is_ok.true))
+      | else-one_code w ↦
+          rw w.m-is (elim w.else-one_code.branch [
+            | else-one_code-via-then-one_code+else-is_ok v ↦
+                rw (w.work-is, v.work-is)
+                (turn_refused D σ more asked v.if-one_code.true _ v.turn.ensures (sym v.is_ok.ensures.value ∙ v.if-is_ok.false))
+            | else-one_code-via-else-one_code v ↦ rw (w.work-is, v.work-is) (passed_over D σ more asked v.if-one_code.false)
+          ])
+    ]
 
 pub returns : goal.returns
 returns c =

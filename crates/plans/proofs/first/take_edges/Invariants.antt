@@ -1,11 +1,7 @@
 -- `plans::first::take_edges` meets its contract: from each edge on the pass goes to where it goes from the first.
-use Prim.Native.Nat.{◌-◌, ◌/◌}
 use Rattle.grids.specs.Grid.{flat}
 use Rattle.plans.proofs.Taken.{Taking}
 use Rattle.plans.proofs.first.take_edges.Given as goal
 
 abbrev pub invariant-loop-e : goal.invariant-loop-e
 invariant-loop-e l = Taking (flat l.w l.c) l.d l.plan l.initial.work l.work l.e l.m
-
-abbrev pub decreases-loop-e : goal.decreases-loop-e
-decreases-loop-e l = l.d / 2 - l.e

@@ -1,6 +1,6 @@
 -- `plans::laying::lay_along` meets its contract: a row of edges for each course, from the first edge on.
 use mathlib.Core.List.{List}
-use mathlib.Core.Path.{◌≡◌, refl}
+use mathlib.Core.Path.{◌≡◌}
 use Prim.Native.Nat.{ℕ, ◌+◌, ◌-◌, ◌*◌, ◌≤◌, ◌<◌}
 use native.Mathlib.Omega.{arith}
 use lib.ListN.{length, get_or, set, take, length-set}
@@ -10,7 +10,7 @@ use Rattle.grids.specs.Grid.{flat}
 use Rattle.plans.specs.Limits.{At, Lent}
 use Rattle.plans.specs.Rising.{Ran}
 use Rattle.plans.proofs.Base.{table_length, table_at, lent_long}
-use Rattle.plans.proofs.Entries.{laying_begins, laying_inside, laying_on, laying_over, laying_ends}
+use Rattle.plans.proofs.Entries.{laying_inside, laying_on, laying_over, laying_ends}
 use Rattle.plans.proofs.Rising.{laying_run}
 use Rattle.plans.proofs.laying.lay_along.Invariants.{Along}
 use Rattle.plans.proofs.laying.lay_along.Goals as goal
@@ -65,31 +65,15 @@ module _ {W C a : ℕ} {to₀ : List ℕ} (p : Lent W C a (length to₀)) {to : 
       let i : 0 + (W - 1) * C ≡ a = omega (arith, p.along) in
       rw i at (laying_ends fits (lent_long p) l (omega (arith, p.along)))
 
-pub loop-e-init : goal.loop-e-init
-loop-e-init c = laying_begins refl
-
-pub after_right-requires : goal.after_right-requires
-after_right-requires c = let r = stands c.requires c.loop-e.invariant c.loop-e-test.true in record { at = r.0; x_bound = r.1 }
-
-pub after_left-requires : goal.after_left-requires
-after_left-requires c = let r = beside c.requires c.loop-e.invariant c.loop-e-test.true in record { at = r.0; x_nonzero = r.1 }
-
-pub bounds-to-e-in-loop-e : goal.bounds-to-e-in-loop-e
-bounds-to-e-in-loop-e c = simp length-set (omega arith)
-
-pub run_along-n-requires : goal.run_along-n-requires
-run_along-n-requires c =
-    let r = run_ready c.requires c.loop-e.invariant c.loop-e-test.true c.after_right.result c.after_left.result c.if-x-w.true in record { at = r.0; e_value = r.1 }
-
 pub loop-e-preserved-then-x-w : goal.loop-e-preserved-then-x-w
 loop-e-preserved-then-x-w c =
     let ran = c.run_along-n.ensures in
-    along_run c.requires c.loop-e.invariant c.loop-e-test.true c.after_right.ensures.0 c.after_left.ensures.0 c.if-x-w.true ran.0 ran.1
+    along_run c.requires c.loop-e.invariant c.loop-e-test.true c.after.ensures.0 c.after-in-loop-e.ensures.0 c.if-x-w.true ran.0 ran.1
 
 pub loop-e-preserved : goal.loop-e-preserved
 loop-e-preserved c =
     along_over c.requires c.loop-e.invariant c.loop-e-test.true
-    c.after_right.ensures.0 c.after_left.ensures.0 c.if-x-w.false
+    c.after.ensures.0 c.after-in-loop-e.ensures.0 c.if-x-w.false
 
 pub returns : goal.returns
 returns c = along_ends c.requires c.loop-e.invariant c.loop-e-test.false

@@ -1,12 +1,7 @@
 -- `plans::laying::lay_base` meets its contract: what is laid second begins where the first ends.
 use mathlib.Core.Path.{◌∙◌}
-use borrow.Author.Rules.{rules}
 use Rattle.plans.proofs.Base.{lent, along_laid, along_size, base_laid}
-use Rattle.plans.proofs.Limits.{along_few}
 use Rattle.plans.proofs.laying.lay_base.Goals as goal
-
-pub overflow_mul-a : goal.overflow_mul-a
-overflow_mul-a c = let f = along_few c.requires.sized in search rules
 
 pub lay_along-requires : goal.lay_along-requires
 lay_along-requires c = lent c.requires.sized c.requires.c_in_bounds

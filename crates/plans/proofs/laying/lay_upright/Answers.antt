@@ -11,7 +11,7 @@ use Rattle.grids.specs.Grid.{flat}
 use Rattle.plans.specs.Limits.{At, Lent}
 use Rattle.plans.specs.Rising.{Ran}
 use Rattle.plans.proofs.Base.{table_length, table_at, lent_long}
-use Rattle.plans.proofs.Entries.{laying_begins, laying_inside, laying_on, laying_over, laying_ends}
+use Rattle.plans.proofs.Entries.{laying_inside, laying_on, laying_over, laying_ends}
 use Rattle.plans.proofs.Rising.{laying_run}
 use Rattle.plans.proofs.laying.lay_upright.Invariants.{Upright}
 use Rattle.plans.proofs.laying.lay_upright.Goals as goal
@@ -70,31 +70,15 @@ module _ {W C a : ℕ} {to₀ : List ℕ} (p : Lent W C a (length to₀)) {to : 
   upright_ends none =
       rw (take_all (2 * (a + W * (C - 1))) (base_table (flat W C)) (rw all (omega arith))) at (laying_ends fits (lent_long p) l none)
 
-pub loop-e-init : goal.loop-e-init
-loop-e-init c = laying_begins c.requires.to_value
-
-pub after_up-requires : goal.after_up-requires
-after_up-requires c = let r = stands c.requires.lent c.loop-e.invariant c.loop-e-test.true in record { at = r.0; y_bound = r.1 }
-
-pub after_down-requires : goal.after_down-requires
-after_down-requires c = let r = above c.requires.lent c.loop-e.invariant c.loop-e-test.true in record { at = r.0; y_nonzero = r.1 }
-
-pub bounds-to-e-in-loop-e : goal.bounds-to-e-in-loop-e
-bounds-to-e-in-loop-e c = simp length-set (omega arith)
-
-pub run_upright-n-requires : goal.run_upright-n-requires
-run_upright-n-requires c =
-    let r = run_ready c.requires.lent c.loop-e.invariant c.loop-e-test.true c.after_up.result c.after_down.result c.if-x-w.true in record { at = r.0; e_value = r.1 }
-
 pub loop-e-preserved-then-x-w : goal.loop-e-preserved-then-x-w
 loop-e-preserved-then-x-w c =
     let ran = c.run_upright-n.ensures in
-    upright_run c.requires.lent c.loop-e.invariant c.loop-e-test.true c.after_up.ensures.0 c.after_down.ensures.0 c.if-x-w.true ran.0 ran.1
+    upright_run c.requires.lent c.loop-e.invariant c.loop-e-test.true c.after.ensures.0 c.after-in-loop-e.ensures.0 c.if-x-w.true ran.0 ran.1
 
 pub loop-e-preserved : goal.loop-e-preserved
 loop-e-preserved c =
     upright_over c.requires.lent c.loop-e.invariant c.loop-e-test.true
-    c.after_up.ensures.0 c.after_down.ensures.0 c.if-x-w.false
+    c.after.ensures.0 c.after-in-loop-e.ensures.0 c.if-x-w.false
 
 pub returns : goal.returns
 returns c = upright_ends c.requires.lent c.loop-e.invariant c.loop-e-test.false

@@ -4,7 +4,6 @@ use mathlib.Core.Path.{◌≡◌, refl, sym, ◌∙◌}
 use Prim.Native.Nat.{ℕ, suc, ◌+◌, ◌-◌, ◌*◌, ◌≤◌, ◌<◌}
 use native.Mathlib.Numerals.{unary_clauses}
 use native.Mathlib.Omega.{arith}
-use borrow.Author.Rules.{rules}
 use lib.ListN.{set, length-set}
 use Rattle.plans.specs.Rising.{risen}
 use Rattle.plans.proofs.laying.rise.Invariants.{Rising}
@@ -30,38 +29,6 @@ goes_on {e} {n} {r} {l} {i} {to = to} p h =
 ends : {e n r l i : ℕ} {to₀ to : List ℕ} → Rising e n r l to₀ to i → n ≤ i → to ≡ risen e n r l to₀
 unfolding risen
 ends {n = n} {i = i} p h = let k : n - i ≡ 0 = omega arith in sym (rw k at p.same)
-
--- src/lib.rt:14:5
-pub loop-i-init : goal.loop-i-init
-loop-i-init c = begins
-
--- src/lib.rt:15:36
-pub overflow_cast-to : goal.overflow_cast-to
-overflow_cast-to c = omega arith
-
--- src/lib.rt:15:31
-pub overflow_mul-to : goal.overflow_mul-to
-overflow_mul-to c = omega arith
-
--- src/lib.rt:15:27
-pub overflow_add-to : goal.overflow_add-to
-overflow_add-to c = omega arith
-
--- src/lib.rt:16:40
-pub overflow_cast-to-in-loop-i : goal.overflow_cast-to-in-loop-i
-overflow_cast-to-in-loop-i c = omega arith
-
--- src/lib.rt:16:35
-pub overflow_mul-to-in-loop-i-2 : goal.overflow_mul-to-in-loop-i-2
-overflow_mul-to-in-loop-i-2 c = omega arith
-
--- src/lib.rt:16:31
-pub overflow_add-to-in-loop-i-2 : goal.overflow_add-to-in-loop-i-2
-overflow_add-to-in-loop-i-2 c = omega arith
-
--- src/lib.rt:16:9
-pub bounds-to-e-in-loop-i : goal.bounds-to-e-in-loop-i
-bounds-to-e-in-loop-i c = simp length-set (search rules)
 
 -- src/lib.rt:14:5
 pub loop-i-preserved : goal.loop-i-preserved

@@ -13,6 +13,3 @@ pub record Rising (e n r l : ℕ) (to₀ to : List ℕ) (i : ℕ) : Type 0 where
 
 abbrev pub invariant-loop-i : goal.invariant-loop-i
 invariant-loop-i l = Rising l.e l.n l.r l.l l.initial.to l.to l.i
-
-abbrev pub decreases-loop-i : goal.decreases-loop-i
-decreases-loop-i l = l.n - l.i

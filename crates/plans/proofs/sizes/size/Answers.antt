@@ -1,30 +1,24 @@
--- `plans::sizes::size` meets its contract: each limit in its turn.
-use native.Mathlib.Nat.{mul-le-mul}
+-- `plans::sizes::size` meets its contract: both numbers are inside the limits, or one is not.
+use mathlib.Core.Path.{◌∙◌}
+use Prim.Native.Nat.{◌≤◌}
 use native.Mathlib.Omega.{arith}
-use borrow.Author.Rules.{rules}
-use Prim.Native.Nat.{◌*◌, ◌≤◌}
 use Rattle.plans.proofs.Limits.{size_no, size_yes}
 use Rattle.plans.proofs.sizes.size.Goals as goal
+use Rattle.plans.proofs.sizes.size.Goals.{then-contains, else-contains}
 
-pub returns-then-wales-lt1 : goal.returns-then-wales-lt1
-returns-then-wales-lt1 c = size_no _ _ (λ s. omega arith)
+pub returns-then-contains-2 : goal.returns-then-contains-2
+returns-then-contains-2 c =
+    elim c.if-contains.branch [
+      | then-contains w ↦
+          let W : (1 ≤ c.args.wales) × (c.args.wales ≤ 128) = grind arith in
+          let C : (1 ≤ c.args.courses) × (c.args.courses ≤ 128) = grind arith in
+          size_yes _ _ W.0 W.1 C.0 C.1
+      | else-contains w ↦ grind arith
+    ]
 
-pub returns-then-wales-gt128 : goal.returns-then-wales-gt128
-returns-then-wales-gt128 c = size_no _ _ (λ s. omega arith)
-
-pub returns-then-courses-lt1 : goal.returns-then-courses-lt1
-returns-then-courses-lt1 c = size_no _ _ (λ s. omega arith)
-
-pub returns-then-courses-gt128 : goal.returns-then-courses-gt128
-returns-then-courses-gt128 c = size_no _ _ (λ s. omega arith)
-
-pub overflow_mul-result : goal.overflow_mul-result
-overflow_mul-result c =
-    let g = c.args in
-    let w : g.wales ≤ 128 = omega arith in
-    let l : g.courses ≤ 128 = omega arith in
-    let m : g.wales * g.courses ≤ 16384 = mul-le-mul w l in
-    search rules
-
-pub returns : goal.returns
-returns c = size_yes _ _ (omega arith) (omega arith) (omega arith) (omega arith)
+pub returns-else-contains-2 : goal.returns-else-contains-2
+returns-else-contains-2 c =
+    elim c.if-contains.branch [
+      | then-contains w ↦ c.if-contains-2.false ∙ size_no _ _ (λ s. grind arith)
+      | else-contains w ↦ c.if-contains-2.false ∙ size_no _ _ (λ s. grind arith)
+    ]

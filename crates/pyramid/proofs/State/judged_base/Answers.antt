@@ -1,27 +1,23 @@
 -- `pyramid::State::judged_base` meets its contract: what the plain call judges, and then the records.
-use mathlib.Core.Path.{◌∙◌, sym}
-use Rattle.pyramid.proofs.AtBase.{unfit_asks, refuse_asks, base_right, base_wrong}
+use mathlib.Core.Path.{refl}
+use Rattle.std.proofs.lemmas.Result.{err_from_is_err_and}
+use Rattle.darts.proofs.Cases.{refused_number}
+use Rattle.pyramid.proofs.AtBase.{base_refused, unfit_asks, refuse_asks, base_right, base_wrong}
 use Rattle.pyramid.proofs.State.judged_base.Goals as goal
 
-pub returns-then-number-ne0 : goal.returns-then-number-ne0
-returns-then-number-ne0 c =
-    c.check_plain-first.ensures.refused (λ z. c.if-number-ne0.true (c.number.ensures ∙ z)) _ (sym c.records-k.ensures)
-    (sym c.records-l.ensures)
+pub returns-in_err-judged : goal.returns-in_err-judged
+returns-in_err-judged c =
+    let (r, is, same) = err_from_is_err_and c.from_residual.result c.from_residual.ensures.1 in
+    rw (is, same) (base_refused c.in_err-judged.ensures (refused_number _) _ c.requires.fits)
 
 pub first_unfit-requires : goal.first_unfit-requires
-first_unfit-requires c =
-    unfit_asks c.check_plain-first.ensures (sym c.number.ensures ∙ c.if-number-ne0.false) c.requires (record { sheet = c.args.sheet.now; kept = c.args.keeps.now }) c.records-k.ensures c.records-l.ensures
+first_unfit-requires c = unfit_asks c.in_ok-judged.ensures refl c.requires.base _ c.requires.fits
 
-pub returns-then-first_unfit-d : goal.returns-then-first_unfit-d
-returns-then-first_unfit-d c =
-    base_right c.check_plain-first.ensures (sym c.number.ensures ∙ c.if-number-ne0.false) c.requires (record { sheet = c.args.sheet.now; kept = c.args.keeps.now }) c.records-k.ensures c.records-l.ensures
-    c.first_unfit.ensures c.if-first_unfit-d.true
+pub returns-in-None : goal.returns-in-None
+returns-in-None c = base_right c.in_ok-judged.ensures refl c.requires.base _ c.requires.fits c.in-None.ensures
 
-pub refuse-requires : goal.refuse-requires
-refuse-requires c =
-    refuse_asks c.check_plain-first.ensures (sym c.number.ensures ∙ c.if-number-ne0.false) c.requires (record { sheet = c.args.sheet.now; kept = c.args.keeps.now }) c.records-k.ensures c.records-l.ensures
+pub strange-requires : goal.strange-requires
+strange-requires c = refuse_asks c.in_ok-judged.ensures refl c.requires.base _ c.requires.fits
 
-pub returns : goal.returns
-returns c =
-    base_wrong c.check_plain-first.ensures (sym c.number.ensures ∙ c.if-number-ne0.false) c.requires (record { sheet = c.args.sheet.now; kept = c.args.keeps.now }) c.records-k.ensures c.records-l.ensures
-    c.first_unfit.ensures c.if-first_unfit-d.false c.refuse.ensures
+pub returns-in-Some : goal.returns-in-Some
+returns-in-Some c = base_wrong c.in_ok-judged.ensures refl c.requires.base _ c.requires.fits c.in-Some.ensures c.strange.ensures

@@ -1,65 +1,56 @@
--- `pyramid::State::reduce_with` meets its contract: what is judged first, or a kernel of contractions, or one of removals, which leaves both sheets, and then the numbers put right.
-use mathlib.Core.Path.{sym, ◌∙◌}
-use Rattle.darts.specs.Calls.{reduce_by}
-use Rattle.darts.specs.Operation.{contraction, removal}
-use Rattle.darts.specs.State.{reduce}
-use Rattle.laws.proofs.chained.OnLent.{by_kernel}
-use Rattle.yarn.specs.Calls.{reduce_with}
-use Rattle.yarn.proofs.sentences.Removals.{removing_sheets}
-use Rattle.pyramid.proofs.ByRun.{plain_reduce}
+-- `pyramid::State::reduce_with` meets its contract: what is judged first, or a kernel of contractions, or one of removals, which leaves both sheets, and then the
+-- numbers put right.
+--   kernel == the call that is a kernel
+use mathlib.Core.List.{List}
+use mathlib.Core.Path.{refl}
+use Prim.Native.Nat.{ℕ}
+use Rattle.darts.proofs.Cases.{refused_number}
+use Rattle.darts.specs.Kinds.{kind_is}
+use Rattle.darts.specs.Operation.{Kind, contraction, removal}
+use Rattle.laws.proofs.chained.OnLent.{Call, by_kernel}
 use Rattle.pyramid.proofs.JudgesWith.{righted_of}
-use Rattle.pyramid.proofs.OnSheets.{with_left, with_contract, with_refused, with_settles, with_settled}
-use Rattle.pyramid.specs.Values.{kind_of}
-use borrow.Author.Rules.{rules}
+use Rattle.pyramid.proofs.OnSheets.{with_contract, with_remove, with_refused, with_settles, with_settled}
 use Rattle.pyramid.proofs.State.reduce_with.Goals as goal
+use Rattle.pyramid.proofs.State.reduce_with.Goals.{in-Contract, in-Remove}
 
-pub returns-then-number-ne0 : goal.returns-then-number-ne0
-returns-then-number-ne0 c =
-    let g = c.args in
-    with_refused (by_kernel (record { kind = kind_of g.kind; edges = g.kernel.now })) c.judged_with-judged.ensures (λ z. c.if-number-ne0.true (c.number.ensures ∙ z)) c.kept.ensures
+abbrev kernel : Kind → List ℕ → Call
+kernel k es = by_kernel (record { kind = k; edges = es })
+
+pub returns-in-Err : goal.returns-in-Err
+returns-in-Err c = with_refused (kernel (kind_is c.args.kind) c.args.kernel.now) c.in-Err.ensures (refused_number _) c.refused.ensures
 
 pub contract_with-o-requires : goal.contract_with-o-requires
 contract_with-o-requires c =
-    let j = c.judged_with-judged.ensures in
-    record { stood_with = j.stood (sym c.number.ensures ∙ c.if-number-ne0.false); righted = righted_of j (sym c.number.ensures ∙ c.if-number-ne0.false) }
+    let j = c.in_default.ensures in
+    record { stood_with = j.stood refl; righted = righted_of j refl }
+
+pub remove_stood-o-requires : goal.remove_stood-o-requires
+remove_stood-o-requires c = (c.in_default.ensures.stood refl).stood
 
 pub settle-requires : goal.settle-requires
 settle-requires c =
-    let g = c.args in
-    let j = c.judged_with-judged.ensures in
-    let o = c.contract_with-o in
-    with_settles (by_kernel (record { kind = contraction; edges = g.kernel.now })) j (sym c.number.ensures ∙ c.if-number-ne0.false) o.result (with_contract g.kernel.now j (sym c.number.ensures ∙ c.if-number-ne0.false) o.ensures)
+    let es = c.args.kernel.now in
+    let j = c.in_default.ensures in
+    elim c.match-kind.branch [
+      | in-Contract w ↦
+          let o = w.contract_with-o in
+          rw (w.o-is, w.history-is) (with_settles (kernel contraction es) j refl o.result (with_contract es j refl o.ensures))
+      | in-Remove w ↦
+          let o = w.remove_stood-o in
+          rw (w.o-is, w.history-is) (with_settles (kernel removal es) j refl o.result (with_remove es j refl o.ensures))
+    ]
 
-pub remove_stood-o-requires : goal.remove_stood-o-requires
-remove_stood-o-requires c =
-    (c.judged_with-judged.ensures.stood (sym c.number.ensures ∙ c.if-number-ne0.false)).stood
-
-pub settle-requires-in-Remove : goal.settle-requires-in-Remove
-unfolding reduce_with reduce_by
-settle-requires-in-Remove c =
-    let g = c.args in
-    let j = c.judged_with-judged.ensures in
-    let o = c.remove_stood-o in
-    with_settles (by_kernel (record { kind = removal; edges = g.kernel.now })) j (sym c.number.ensures ∙ c.if-number-ne0.false) o.result
-    (with_left (reduce removal g.kernel.now) j (sym c.number.ensures ∙ c.if-number-ne0.false) (plain_reduce _ _ _ _ _) o.ensures (removing_sheets _ _ _ _ _ _))
-
-pub shape_of-work-in-Contract : goal.shape_of-work-in-Contract
-shape_of-work-in-Contract c = search (rules, c.work-in-Contract-1.given, c.work-1.given)
-
-pub returns-in-Contract : goal.returns-in-Contract
-returns-in-Contract c =
-    let g = c.args in
-    let j = c.judged_with-judged.ensures in
-    let o = c.contract_with-o in
-    rw c.in-Contract.is
-    (with_settled (by_kernel (record { kind = contraction; edges = g.kernel.now })) j (sym c.number.ensures ∙ c.if-number-ne0.false) o.result (with_contract g.kernel.now j (sym c.number.ensures ∙ c.if-number-ne0.false) o.ensures) c.settle.ensures)
-
-pub returns-in-Remove : goal.returns-in-Remove
-unfolding reduce_with reduce_by
-returns-in-Remove c =
-    let g = c.args in
-    let j = c.judged_with-judged.ensures in
-    let o = c.remove_stood-o in
-    rw c.in-Remove.is
-    (with_settled (by_kernel (record { kind = removal; edges = g.kernel.now })) j (sym c.number.ensures ∙ c.if-number-ne0.false) o.result
-    (with_left (reduce removal g.kernel.now) j (sym c.number.ensures ∙ c.if-number-ne0.false) (plain_reduce _ _ _ _ _) o.ensures (removing_sheets _ _ _ _ _ _)) c.settle-in-Remove.ensures)
+pub returns : goal.returns
+returns c =
+    let es = c.args.kernel.now in
+    let j = c.in_default.ensures in
+    elim c.match-kind.branch [
+      | in-Contract w ↦
+          let o = w.contract_with-o in
+          rw (w.in-Contract.is, w.table-is, w.history-is, w.work-is, w.sheet-is, w.keeps-is)
+          (with_settled (kernel contraction es) j refl o.result (with_contract es j refl o.ensures) (rw (w.o-is, w.history-is) at c.settle.ensures))
+      | in-Remove w ↦
+          let o = w.remove_stood-o in
+          rw (w.in-Remove.is, w.table-is, w.history-is, w.work-is, w.sheet-is, w.keeps-is)
+          (with_settled (kernel removal es) j refl o.result (with_remove es j refl o.ensures) (rw (w.o-is, w.history-is) at c.settle.ensures))
+    ]

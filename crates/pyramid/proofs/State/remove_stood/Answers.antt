@@ -2,7 +2,6 @@
 use mathlib.Core.Path.{refl}
 use native.Mathlib.Omega.{arith}
 use Rattle.darts.specs.Calls.{reduce_by}
-use Rattle.darts.specs.Operation.{kind_of}
 use Rattle.engine.proofs.Around.{step_perm}
 use Rattle.pyramid.proofs.Judges.{relabelled, stood_of}
 use Rattle.pyramid.proofs.OnState.{stood_ends}
@@ -15,12 +14,8 @@ label-requires c =
     record { room = area.room; perm = step_perm area _ (omega arith) }
 
 pub reduce_judged-requires : goal.reduce_judged-requires
-reduce_judged-requires c =
-    let j = relabelled c.requires (omega arith) c.label.ensures.labelled in
-    record { k_bound = omega arith; stood = stood_of j refl }
+reduce_judged-requires c = stood_of (relabelled c.requires (omega arith) c.label.ensures.labelled) refl
 
 pub returns : goal.returns
-unfolding reduce_by kind_of
-returns c =
-    let j = relabelled c.requires (omega arith) c.label.ensures.labelled in
-    stood_ends _ j refl (plain_reduce _ _ _ _ _) c.reduce_judged.ensures
+unfolding reduce_by
+returns c = stood_ends _ (relabelled c.requires (omega arith) c.label.ensures.labelled) refl (plain_reduce _ _ _ _ _) c.reduce_judged.ensures

@@ -1,5 +1,6 @@
 -- `pyramid::State::sweep` meets its contract: what is judged first, or what comes once it is judged, its numbers put right.
-use mathlib.Core.Path.{◌∙◌, sym}
+use mathlib.Core.Path.{refl}
+use Rattle.darts.proofs.Cases.{refused_number}
 use Rattle.darts.specs.Calls.{sweep_by}
 use Rattle.laws.proofs.chained.OnLent.{by_sweep}
 use Rattle.pyramid.proofs.Judges.{stood_of}
@@ -8,21 +9,17 @@ use Rattle.pyramid.proofs.ByRun.{plain_sweep}
 use Rattle.pyramid.proofs.Settles.{judged_settles, judged_settled}
 use Rattle.pyramid.proofs.State.sweep.Goals as goal
 
-pub returns-then-number-ne0 : goal.returns-then-number-ne0
+pub returns-in-Err : goal.returns-in-Err
 unfolding sweep_by
-returns-then-number-ne0 c =
-    call_refused _ c.judged-judged.ensures (λ z. c.if-number-ne0.true (c.number.ensures ∙ z)) c.kept.ensures
+returns-in-Err c = call_refused _ c.in-Err.ensures (refused_number _) c.refused.ensures
 
 pub sweep_judged-o-requires : goal.sweep_judged-o-requires
-sweep_judged-o-requires c =
-    stood_of c.judged-judged.ensures (sym c.number.ensures ∙ c.if-number-ne0.false)
+sweep_judged-o-requires c = stood_of c.in_default.ensures refl
 
 pub settle-requires : goal.settle-requires
 settle-requires c =
-    let o = c.sweep_judged-o in
-    judged_settles by_sweep c.judged-judged.ensures (sym c.number.ensures ∙ c.if-number-ne0.false) (plain_sweep _ _ _) o.result o.ensures
+    judged_settles by_sweep c.in_default.ensures refl (plain_sweep _ _ _) c.sweep_judged-o.result c.sweep_judged-o.ensures
 
 pub returns : goal.returns
 returns c =
-    let o = c.sweep_judged-o in
-    judged_settled by_sweep c.judged-judged.ensures (sym c.number.ensures ∙ c.if-number-ne0.false) (plain_sweep _ _ _) o.result o.ensures c.settle.ensures
+    judged_settled by_sweep c.in_default.ensures refl (plain_sweep _ _ _) c.sweep_judged-o.result c.sweep_judged-o.ensures c.settle.ensures

@@ -16,7 +16,8 @@ pub returns-then-top-level : goal.returns-then-top-level
 unfolding unfold_by
 returns-then-top-level c =
     rw c.clear.ensures
-    (act_refused _ c.requires refl (beyond_refl _ _) (no_level_above _ _ _ _ c.if-top-level.true) (λ z. omega arith, λ z. omega arith) (bare c.kept.ensures))
+    (act_refused _ c.requires refl (beyond_refl _ _) (no_level_above _ _ _ _ c.if-top-level.true)
+    (λ z. omega arith, λ z. omega arith) (bare c.refused.ensures))
 
 pub unfolded-s-requires : goal.unfolded-s-requires
 unfolded-s-requires c = stacked_of c.requires refl
@@ -39,4 +40,4 @@ returns c =
     let j = c.requires in
     let U = c.unfolded-s.ensures in
     rw (d.table_after, d.history_after, c.clear-2.ensures)
-    (act_given _ j refl U.beyond (unfold_stepped j refl c.if-top-level.false U) (bare c.kept-2.ensures))
+    (act_given _ j refl U.beyond (unfold_stepped j refl c.if-top-level.false U) (bare c.done.ensures))

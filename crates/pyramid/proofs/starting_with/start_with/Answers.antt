@@ -1,35 +1,32 @@
--- `pyramid::starting_with::start_with` meets its contract: the check beside the records, and then the records.
-use mathlib.Core.Path.{◌∙◌, sym, refl}
-use native.Mathlib.Omega.{arith}
-use Rattle.pyramid.proofs.StartsWith.{start_first, unfit_asks, finish_asks, few_fit, start_ends}
+-- `pyramid::starting_with::start_with` meets its contract: 1 and 2, the check beside the records, and then the records.
+use Rattle.darts.proofs.Cases.{refused_number}
+use Rattle.pyramid.proofs.Sized.{fit_of, fit_fine, fine_asks}
+use Rattle.pyramid.proofs.StartsWith.{start_first, start_second, unfit_asks, finish_asks, start_unfit, start_fit}
 use Rattle.pyramid.proofs.starting_with.start_with.Goals as goal
 
-pub returns-then-number-ne0 : goal.returns-then-number-ne0
-returns-then-number-ne0 c =
-    let g = c.args in
-    start_first c.begin_with-first.ensures.began_with g.history.now (record { sheet = g.sheet.now; kept = g.keeps.now }) refl
-    c.records-k.ensures c.records-l.ensures
-    (λ z. c.if-number-ne0.true (c.number.ensures ∙ z)) c.unbased.ensures
+pub returns-in-Err : goal.returns-in-Err
+returns-in-Err c = start_first _ _ _ _ _ (fit_of _ _ _ _ _ c.in-Err.ensures c.records.ensures c.records-2.ensures) (refused_number _) c.unbased.ensures
 
-pub first_unfit-x-requires : goal.first_unfit-x-requires
-first_unfit-x-requires c =
-    unfit_asks c.begin_with-first.ensures.began_with c.args.history.now (record { sheet = c.args.sheet.now; kept = c.args.keeps.now }) refl c.records-k.ensures c.records-l.ensures (sym c.number.ensures ∙ c.if-number-ne0.false)
+pub begin_with-requires : goal.begin_with-requires
+begin_with-requires c = let r = fine_asks _ _ _ _ _ (fit_fine _ _ _ _ _ c.in_default.ensures c.records.ensures c.records-2.ensures) in (r.0, r.1.0)
 
--- a base has at most D vertices and at most D faces
-pub overflow_cast-first : goal.overflow_cast-first
-overflow_cast-first c =
-    let few = (few_fit c.begin_with-first.ensures.began_with (sym c.number.ensures ∙ c.if-number-ne0.false) (c.begin_with-first.ensures.begins_cycles (sym c.number.ensures ∙ c.if-number-ne0.false))).0 in
-    omega arith
+pub first_unfit-unfit-requires : goal.first_unfit-unfit-requires
+first_unfit-unfit-requires c = unfit_asks _ _ (fit_fine _ _ _ _ _ c.in_default.ensures c.records.ensures c.records-2.ensures) _ c.in-Ok.ensures.began_with
 
-pub overflow_cast-first-2 : goal.overflow_cast-first-2
-overflow_cast-first-2 c =
-    let few = (few_fit c.begin_with-first.ensures.began_with (sym c.number.ensures ∙ c.if-number-ne0.false) (c.begin_with-first.ensures.begins_cycles (sym c.number.ensures ∙ c.if-number-ne0.false))).1 in
-    omega arith
+pub clear-requires : goal.clear-requires
+clear-requires c = finish_asks _ _ (fit_fine _ _ _ _ _ c.in_default.ensures c.records.ensures c.records-2.ensures) _ c.in-Ok.ensures.began_with
 
-pub finish-requires : goal.finish-requires
-finish-requires c =
-    finish_asks c.begin_with-first.ensures.began_with c.args.history.now (record { sheet = c.args.sheet.now; kept = c.args.keeps.now }) refl c.records-k.ensures c.records-l.ensures (sym c.number.ensures ∙ c.if-number-ne0.false)
+pub returns-in-Some : goal.returns-in-Some
+returns-in-Some c =
+    start_unfit _ _ (fit_fine _ _ _ _ _ c.in_default.ensures c.records.ensures c.records-2.ensures) _ c.in-Ok.ensures.began_with
+    c.in-Some.ensures c.unbased-in-Some.ensures c.clear.ensures
 
-pub returns : goal.returns
-returns c =
-    start_ends c.begin_with-first.ensures.began_with c.args.history.now (record { sheet = c.args.sheet.now; kept = c.args.keeps.now }) refl c.records-k.ensures c.records-l.ensures (sym c.number.ensures ∙ c.if-number-ne0.false) (c.begin_with-first.ensures.begins_cycles (sym c.number.ensures ∙ c.if-number-ne0.false)) c.first_unfit-x.ensures c.finish.ensures
+pub returns-in-None : goal.returns-in-None
+returns-in-None c =
+    start_fit _ _ (fit_fine _ _ _ _ _ c.in_default.ensures c.records.ensures c.records-2.ensures) _ c.in-Ok.ensures.began_with
+    c.in-Ok.ensures.begins_cycles c.in-None.ensures c.based.ensures c.clear.ensures
+
+pub returns-in-Err-begin_with : goal.returns-in-Err-begin_with
+returns-in-Err-begin_with c =
+    start_second _ _ (fit_fine _ _ _ _ _ c.in_default.ensures c.records.ensures c.records-2.ensures) _ c.in-Err-begin_with.ensures.began_with
+    c.unbased-in-Err-begin_with.ensures

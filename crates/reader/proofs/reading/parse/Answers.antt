@@ -1,22 +1,17 @@
 -- `reader::reading::parse` meets its contract: the line of the levels, and then the lines after it.
-use lib.ListN.{replicate}
-use Rattle.file_lines.specs.Found.{scan_of}
+use mathlib.Core.Path.{sym}
+use Rattle.std.proofs.lemmas.Result.{err_from_is_err_and}
 use Rattle.file_lines.specs.Lines.{levels_few}
-use Rattle.file_lines.proofs.Found.{told}
 use Rattle.reader.proofs.BodyLines.{level_wrong, level_right}
 use Rattle.reader.proofs.reading.parse.Goals as goal
 
+pub returns-in_err-levels : goal.returns-in_err-levels
+returns-in_err-levels c =
+    let p = err_from_is_err_and c.from_residual.result c.from_residual.ensures.1 in
+    rw (p.1, p.2) (level_wrong c.args.first.darts c.args.bytes.now c.args.at (sym c.in_err-levels.ensures))
+
 pub lines-requires : goal.lines-requires
-lines-requires c =
-    record { room = c.requires; levels_bound = levels_few _ _ (told scan_of c.levels_line.ensures c.in-Found.is) }
+lines-requires c = record { room = c.requires; levels_bound = levels_few _ _ (sym c.in_ok-levels.ensures) }
 
-pub returns-in-Fault : goal.returns-in-Fault
-returns-in-Fault c =
-    let g = c.args in
-    level_wrong g.d g.bytes.now g.at (replicate 64 0) (told scan_of c.levels_line.ensures c.in-Fault.is)
-
-pub returns-in-Found : goal.returns-in-Found
-returns-in-Found c =
-    let g = c.args in
-    rw (level_right g.d g.bytes.now g.at (told scan_of c.levels_line.ensures c.in-Found.is))
-    c.lines.ensures
+pub returns : goal.returns
+returns c = rw (level_right c.args.first.darts c.args.bytes.now c.args.at (sym c.in_ok-levels.ensures)) c.lines.ensures

@@ -1,26 +1,12 @@
 -- `reader::reading::read_inside` meets its contract: a fault in the body, or what the work area holds is judged.
-use mathlib.Core.Path.{◌∙◌}
-use Rattle.engine.proofs.Area.{room_kept}
-use Rattle.engine.proofs.Ready.{beyond_trans}
-use Rattle.pyramid.proofs.Started.{hands}
-use Rattle.file_lines.specs.Lines.{starts_with}
+use Rattle.std.proofs.lemmas.Result.{err_from_is_err_and}
+use Rattle.file_lines.specs.Lines.{opening_of}
 use Rattle.reader.proofs.ReadEnds.{closed_fault}
 use Rattle.reader.proofs.reading.read_inside.Goals as goal
 
-pub settle-requires : goal.settle-requires
-settle-requires c =
-    let k = c.parse-said.ensures in
-    record { room = room_kept _ _ k.beyond.size c.requires.room; darts_in_bounds = (c.requires.d_in_bounds.0, c.requires.d_in_bounds.1, (k.right c.in-Found.is).few) }
-
-pub returns-in-Fault : goal.returns-in-Fault
-returns-in-Fault c =
-    let g = c.args in
-    let r = c.unbased in
-    let k = c.parse-said.ensures in
-    record { work_after = hands r.result r.ensures _ _ _ ∙ closed_fault _ _ _ (starts_with g.flag g.d) (k.wrong c.in-Fault.is); beyond = k.beyond }
-
-pub returns-in-Found : goal.returns-in-Found
-returns-in-Found c =
-    let k = c.parse-said.ensures in
-    let z = c.settle.ensures in
-    record { work_after = z.whole _ (k.right c.in-Found.is) _; beyond = beyond_trans k.beyond z.beyond }
+pub returns-in_err-file : goal.returns-in_err-file
+returns-in_err-file c =
+    let p = err_from_is_err_and c.from_residual.result c.from_residual.ensures.1 in
+    let k = c.in_err-file.ensures in
+    rw (p.1, p.2)
+    (record { work_after = closed_fault _ _ _ (opening_of c.args.first) k.wrong; beyond = k.beyond })

@@ -1,48 +1,33 @@
--- `reader::reading::settle` meets its contract: the three ways that a body which was read ends.
-use mathlib.Core.Path.{◌∙◌}
+-- `reader::reading::settle` meets its contract: a body that was read is no pyramid, or it is accepted.
+use mathlib.Core.Path.{refl}
 use native.Mathlib.Omega.{arith}
-use Rattle.engine.proofs.Ready.{beyond_refl}
-use Rattle.pyramid.proofs.Started.{hands}
-use Rattle.reader.proofs.Settles.{settle_many, settle_none, settle_all}
+use Rattle.engine.proofs.Area.{room_kept}
+use Rattle.reader.proofs.Settles.{settle_few, settle_none, settle_all}
 use Rattle.reader.proofs.reading.settle.Goals as goal
 
-pub returns-then-d-n : goal.returns-then-d-n
-returns-then-d-n c =
-    let g = c.args in
-    let r = c.unbased in
-    record {
-      whole = λ z H v. hands r.result r.ensures _ _ _ ∙ settle_many H g.table.now g.history.now v c.if-d-n.true;
-      beyond = beyond_refl g.state.darts g.work.now;
-    }
+pub returns-in_default : goal.returns-in_default
+returns-in_default c =
+    let k = c.in_default.ensures.checked_laid in
+    record { whole = λ z H v. settle_none H c.args.table.now c.args.history.now v k refl; beyond = k.beyond }
 
-pub overflow_cast-result-then-found-3 : goal.overflow_cast-result-then-found-3
-overflow_cast-result-then-found-3 c =
-    let found = c.check_laid-found.ensures.finds_cycles c.if-found.true in
-    omega (arith, found.few_vertices, c.requires.room.small)
+pub accept-requires : goal.accept-requires
+accept-requires c =
+    let k = c.in-Some.ensures.checked_laid in
+    let few = settle_few c.requires.room k refl in
+    record { room = room_kept _ _ k.beyond.size c.requires.room; n_le_d = (omega arith, omega arith, omega arith) }
 
-pub overflow_cast-result-then-found-4 : goal.overflow_cast-result-then-found-4
-overflow_cast-result-then-found-4 c =
-    let found = c.check_laid-found.ensures.finds_cycles c.if-found.true in
-    omega (arith, found.few_faces, c.requires.room.small)
-
-pub returns-then-found : goal.returns-then-found
-returns-then-found c =
-    let g = c.args in
-    let k = c.check_laid-found.ensures in
-    let yes = c.if-found.true in
-    record {
-      whole = λ z H v. settle_all H g.table.now g.history.now v c.if-d-n.false k.checked_laid yes c.accept.ensures (k.finds_cycles yes);
-      beyond = k.checked_laid.beyond;
-    }
+pub stated-pyramid-requires : goal.stated-pyramid-requires
+stated-pyramid-requires c =
+    let few = settle_few c.requires.room c.in-Some.ensures.checked_laid refl in
+    let small = c.requires.room.small in
+    let n = c.in-Some.ensures.finds_cycles in
+    (omega arith, omega arith, omega arith, omega (arith, n.few_vertices), omega (arith, n.few_faces))
 
 pub returns : goal.returns
 returns c =
-    let g = c.args in
-    let r = c.unbased-2 in
-    let k = c.check_laid-found.ensures in
+    let k = c.in-Some.ensures in
     record {
       whole = λ z H v.
-          hands r.result r.ensures _ _ _
-          ∙ settle_none H g.table.now g.history.now v c.if-d-n.false k.checked_laid c.if-found.false;
+          settle_all H c.args.table.now c.args.history.now v k.checked_laid c.requires.room refl c.accept.ensures c.stated-pyramid.ensures k.finds_cycles;
       beyond = k.checked_laid.beyond;
     }

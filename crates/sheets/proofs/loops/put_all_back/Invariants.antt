@@ -1,10 +1,6 @@
 -- The loop of `sheets::loops::put_all_back`: each turn puts back the last record of those that are left.
-use Prim.Native.Nat.{◌-◌}
 use Rattle.sheets.proofs.Passes.{Returning}
 use Rattle.sheets.proofs.loops.put_all_back.Given as goal
 
 abbrev pub invariant-loop-t : goal.invariant-loop-t
 invariant-loop-t l = Returning l.work l.d l.m l.n l.initial.sheet l.kept l.sheet l.t
-
-abbrev pub decreases-loop-t : goal.decreases-loop-t
-decreases-loop-t l = l.t - l.m

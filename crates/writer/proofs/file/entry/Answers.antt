@@ -19,14 +19,5 @@ module _ {D : ℕ} {w : List ℕ} (dense : Dense D w) {i x : ℕ} (h : i < D) (e
     unfolding renamed
     named g = let l = follows in (rw (g, f, e), rw g (dense.each (D + y) (omega arith)))
 
-pub at-y-requires : goal.at-y-requires
-at-y-requires c = let l = listed c.requires.dense c.requires.i_lt_d c.at-x.ensures in omega (arith, l, c.requires.dense.room.fits)
-
-pub overflow_add-d-2 : goal.overflow_add-d-2
-overflow_add-d-2 c = let l = follows c.requires.dense c.requires.i_lt_d c.at-x.ensures c.at-y.ensures in omega (arith, l, c.requires.dense.room.small)
-
-pub at-requires : goal.at-requires
-at-requires c = let l = follows c.requires.dense c.requires.i_lt_d c.at-x.ensures c.at-y.ensures in omega (arith, l, c.requires.dense.room.fits)
-
 pub returns : goal.returns
 returns c = named c.requires.dense c.requires.i_lt_d c.at-x.ensures c.at-y.ensures c.at.ensures

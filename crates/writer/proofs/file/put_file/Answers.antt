@@ -1,6 +1,7 @@
 -- `writer::file::put_file` meets its contract: head, kernels and pairs are laid one after the other.
 use native.Mathlib.Omega.{arith}
 use Prim.Native.Nat.{◌+◌, ◌*◌}
+use lib.ListN.{length-take}
 use Rattle.slices.proofs.Part.{part_length}
 use Rattle.writer.specs.Writing.{file_in}
 use Rattle.writer.proofs.Lengths.{head_short}
@@ -13,7 +14,14 @@ put_kernels-pairs-requires c =
     let fits = c.requires.dense.room.fits in
     let few = part_length (3 * g.darts) (3 * g.darts + g.operations) c.args.work.now (omega arith) in
     let head = head_short g.darts g.levels in
-    record { history_len_bound = (omega (arith, few, c.requires.dense.room.small), omega arith, omega (arith, c.put_head-kernels.ensures.next)); t = c.requires.t }
+    record {
+      history_len_bound = (
+        omega (arith, few, c.requires.dense.room.small),
+        omega (arith, length-take g.levels g.ends),
+        omega (arith, c.put_head-kernels.ensures.next),
+      );
+      t = c.requires.t;
+    }
 
 pub put_pairs-requires : goal.put_pairs-requires
 put_pairs-requires c =

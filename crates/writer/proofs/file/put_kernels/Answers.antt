@@ -1,15 +1,18 @@
 -- `writer::file::put_kernels` meets its contract: the lines that are written, and then those of the levels that are left, are the lines of all.
---   Cutting l ends hs o₀ o start place from i == from o₀ to o the lines of the first i levels were written; they end at the operation count `from`
-use mathlib.Core.List.{List, [], ◌∷◌, ◌++◌}
-use mathlib.Core.Path.{◌≡◌, refl, sym, ◌∙◌}
+--   Cutting ends hs o₀ o start place from i == from o₀ to o the lines of the first i levels were written; they end at the operation count `from`
+use mathlib.Core.List.{List, ◌++◌}
+use mathlib.Core.Path.{◌≡◌, refl, ◌∙◌}
 use Prim.Native.Nat.{ℕ, ◌+◌, ◌-◌, ◌≤◌, ◌<◌}
 use native.Mathlib.Nat.{add-zero}
-use native.Mathlib.Numerals.{add-one}
 use native.Mathlib.Omega.{arith}
 use lib.Dec.{T}
-use lib.ListN.{length, get_or, take, drop, length-drop}
-use lib.Seq.{drop-drop, get_or-drop, slice-cons, slice_empty}
+use lib.ListN.{length, get_or, drop, length-drop, drop_of_length-le}
+use lib.Seq.{drop-drop, get_or-drop}
+use Rattle.std.proofs.lemmas.List.{drop_more}
+use Rattle.darts.proofs.Bits.{number_kind}
+use Rattle.darts.specs.Kinds.{kind_is}
 use Rattle.darts.specs.Operation.{kind_of}
+use Rattle.darts.specs.declared.Kind.{Kind}
 use Rattle.darts.specs.Tests.{rises}
 use Rattle.darts.specs.Pyramid.{cut}
 use Rattle.darts.specs.File.{kernel_lines}
@@ -21,30 +24,17 @@ use Rattle.writer.proofs.CutLines.{cut_none, cut_on}
 use Rattle.writer.proofs.file.put_kernels.Invariants.{Cutting}
 use Rattle.writer.proofs.file.put_kernels.Goals as goal
 
-begin : (l : ℕ) (ends hs o : List ℕ) (start : ℕ) → l ≤ length ends → T (rises 0 (take l ends) hs) → Cutting l ends hs o o start start 0 0
-begin l ends hs o start few rise = record {
-  few = few;
-  bound = omega arith;
-  near = omega arith;
-  size = refl;
-  rise = rise;
-  toward = toward_all (kernel_lines (cut 0 (take l ends) hs)) o start;
-}
-
-module _ {l : ℕ} {ends hs o₀ o : List ℕ} {start place from i : ℕ} (g : Cutting l ends hs o₀ o start place from i) where
-  module _ (more : i < l) where
+module _ {ends hs o₀ o : List ℕ} {start place from i : ℕ} (g : Cutting ends hs o₀ o start place from i) where
+  module _ (more : i < length ends) where
     abbrev end : ℕ
     end = get_or ends i 0
 
     abbrev later : List ℕ
-    later = drop (i + 1) (take l ends)
-
-    ends_on : drop i (take l ends) ≡ end ∷ later
-    ends_on = slice-cons i l ends 0 more g.few ∙ rw (add-one i)
+    later = drop (i + 1) ends
 
     level : (from < end) × ((end - from ≤ length (drop from hs)) × T (rises end later (drop (end - from) (drop from hs))))
     level =
-        let (above, (inside, (one, rest))) = (rises_iff from end later (drop from hs)).0 (rw ends_on at g.rise) in
+        let (above, (inside, (one, rest))) = (rises_iff from end later (drop from hs)).0 (rw (drop_more ends i 0 more) at g.rise) in
         (above, (inside, rest))
 
     within : (from < end) × (end ≤ length hs)
@@ -53,52 +43,45 @@ module _ {l : ℕ} {ends hs o₀ o : List ℕ} {start place from i : ℕ} (g : C
     onward : drop (end - from) (drop from hs) ≡ drop end hs
     onward = let (above, inside) = within in let e : from + (end - from) ≡ end = omega arith in drop-drop (end - from) from hs ∙ rw e
 
-    go_on : {o' : List ℕ} {kind next : ℕ} → kind ≡ get_or hs from 0 → Fitted o o' place next (count_line (kind_of kind) (end - from))
-        → Cutting l ends hs o₀ o' start next end (i + 1)
-    go_on {o'} {kind} {next} e p =
+    go_on : {o' : List ℕ} (kind : Kind) {next : ℕ} → kind_of (get_or hs from 0) ≡ kind_is kind → Fitted o o' place next (count_line (kind_is kind) (end - from))
+        → Cutting ends hs o₀ o' start next end (i + 1)
+    go_on {o'} kind {next} e p =
         let (above, (inside, rest)) = level in
-        let short = count_short (kind_of kind) (end - from) in
-        let first : get_or (drop from hs) 0 0 ≡ kind = get_or-drop from hs 0 0 ∙ rw (add-zero from) (sym e) in
-        let line : kernel_lines (cut from (drop i (take l ends)) (drop from hs))
-        ≡ count_line (kind_of kind) (end - from) ++ kernel_lines (cut end later (drop end hs)) =
-        rw (ends_on, cut_on from end later (drop from hs) above inside, first, onward) in
+        let short = count_short (kind_is kind) (end - from) in
+        let first : get_or (drop from hs) 0 0 ≡ get_or hs from 0 = rw (get_or-drop from hs 0 0, add-zero from) in
+        let line : kernel_lines (cut from (drop i ends) (drop from hs))
+        ≡ count_line (kind_is kind) (end - from) ++ kernel_lines (cut end later (drop end hs)) =
+        rw (drop_more ends i 0 more, cut_on from end later (drop from hs) above inside, first, e, onward) in
         record {
-          few = g.few;
-          bound = omega arith;
           near = omega (arith, p.next, g.near);
           size = p.size ∙ g.size;
           rise = rw onward at rest;
           toward = toward_on g.toward line p;
         }
 
-  ended : l ≤ i → Fitted o₀ o start place (kernel_lines (cut 0 (take l ends) hs))
-  ended all =
-      let e : i ≡ l = omega (arith, g.bound) in
-      let none : drop i (take l ends) ≡ [] = rw e (slice_empty l ends) in
-      toward_end g.toward (rw none (cut_none from (drop from hs)))
+  ended : length ends ≤ i → Fitted o₀ o start place (kernel_lines (cut 0 ends hs))
+  ended all = toward_end g.toward (rw (drop_of_length-le ends all) (cut_none from (drop from hs)))
 
-pub loop-i-init : goal.loop-i-init
-loop-i-init c = begin _ _ _ _ _ (omega arith) c.requires.t
+pub loop-end-init : goal.loop-end-init
+loop-end-init c = record { near = omega arith; size = refl; rise = c.requires.t; toward = toward_all _ _ _ }
 
-pub at-kind-requires : goal.at-kind-requires
-at-kind-requires c = let w = within c.loop-i.invariant c.loop-i-test.true in omega (arith, w)
+pub at-requires : goal.at-requires
+at-requires c = let w = within c.loop-end.invariant (omega arith) in omega (arith, w)
 
-pub overflow_sub-end : goal.overflow_sub-end
-overflow_sub-end c = let w = within c.loop-i.invariant c.loop-i-test.true in omega (arith, w)
+pub overflow_sub-to : goal.overflow_sub-to
+overflow_sub-to c = let w = within c.loop-end.invariant (omega arith) in omega (arith, w)
 
 pub put_kernel-place-requires : goal.put_kernel-place-requires
 put_kernel-place-requires c =
-    let w = within c.loop-i.invariant c.loop-i-test.true in
-    let g = c.loop-i.invariant in
-    (omega (arith, w), omega (arith, g.near, g.bound))
+    let w = within c.loop-end.invariant (omega arith) in
+    (omega (arith, w), omega (arith, c.loop-end.invariant.near))
 
-pub loop-i-preserved : goal.loop-i-preserved
-loop-i-preserved c = go_on c.loop-i.invariant c.loop-i-test.true c.at-kind.ensures c.put_kernel-place.ensures
-
-pub shape_of-output : goal.shape_of-output
-shape_of-output c = c.loop-i.invariant.size
+pub loop-end-preserved : goal.loop-end-preserved
+loop-end-preserved c =
+    let kind = rw c.at.ensures at (number_kind c.from-kind.result c.at.result c.from-kind.ensures) in
+    go_on c.loop-end.invariant (omega arith) c.from-kind.result kind c.put_kernel-place.ensures
 
 pub returns : goal.returns
 returns c =
-    let g = c.loop-i.invariant in
-    record { fitted = ended g c.loop-i-test.false; upper_bound = omega (arith, g.near, g.bound) }
+    let g = c.loop-end.invariant in
+    record { fitted = ended g (omega arith); upper_bound = omega (arith, g.near) }

@@ -31,7 +31,14 @@ module _ {D : ℕ} {w o₀ o : List ℕ} {start place i : ℕ} (dense : Dense D 
       let second : 2 * D + 2 * i + 1 ≡ 2 * D + (2 * i + 1) = omega arith in
       let third : 2 * D + (2 * i + 1) + 1 ≡ 2 * D + 2 * (i + 1) = omega arith in
       let list : map (renamed D w) (part (2 * D + 2 * i) (3 * D) w) ≡ a ∷ b ∷ map (renamed D w) (part (2 * D + 2 * (i + 1)) (3 * D) w) =
-      rw (part_cons (2 * D + 2 * i) (3 * D) w (omega arith) (omega arith), second, part_cons (2 * D + (2 * i + 1)) (3 * D) w (omega arith) (omega arith), third, ← e, ← f) in
+      rw (
+        part_cons (2 * D + 2 * i) (3 * D) w (omega arith) (omega arith),
+        second,
+        part_cons (2 * D + (2 * i + 1)) (3 * D) w (omega arith) (omega arith),
+        third,
+        ← e,
+        ← f,
+      ) in
       record {
         bound = omega arith;
         near = omega (arith, p.next, g.near);
@@ -48,20 +55,11 @@ module _ {D : ℕ} {w o₀ o : List ℕ} {start place i : ℕ} (dense : Dense D 
 pub loop-i-init : goal.loop-i-init
 loop-i-init c = begin _ _ _ _
 
-pub put_pair-place-requires : goal.put_pair-place-requires
-put_pair-place-requires c =
-    let g = c.loop-i.invariant in
-    let small = c.requires.dense.room.small in
-    (omega (arith, c.entry-a.ensures.1), omega (arith, c.entry-b.ensures.1), omega (arith, g.near, g.bound))
-
 pub loop-i-preserved : goal.loop-i-preserved
 loop-i-preserved c =
     go_on c.requires.dense c.loop-i.invariant c.loop-i-test.true
     c.entry-a.ensures.0 c.entry-b.ensures.0
     c.put_pair-place.ensures
-
-pub shape_of-output : goal.shape_of-output
-shape_of-output c = c.loop-i.invariant.size
 
 pub returns : goal.returns
 returns c = ended c.requires.dense c.loop-i.invariant c.loop-i-test.false

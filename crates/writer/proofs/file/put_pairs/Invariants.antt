@@ -2,7 +2,7 @@
 --   Pairing D w o₀ o start place i == from o₀ to o the first i lines were written
 use mathlib.Core.List.{List, map}
 use mathlib.Core.Path.{◌≡◌}
-use Prim.Native.Nat.{ℕ, ◌+◌, ◌-◌, ◌*◌, ◌/◌, ◌≤◌}
+use Prim.Native.Nat.{ℕ, ◌+◌, ◌*◌, ◌/◌, ◌≤◌}
 use lib.ListN.{length}
 use Rattle.darts.specs.File.{pair_lines}
 use Rattle.slices.specs.Part.{part}
@@ -18,6 +18,3 @@ pub record Pairing (D : ℕ) (w o₀ o : List ℕ) (start place i : ℕ) : Type 
 
 abbrev pub invariant-loop-i : goal.invariant-loop-i
 invariant-loop-i l = Pairing l.d l.work l.initial.output l.output l.start l.place l.i
-
-abbrev pub decreases-loop-i : goal.decreases-loop-i
-decreases-loop-i l = l.d / 2 - l.i

@@ -13,11 +13,11 @@ returns-then-output-needed c =
     let N = c.number_darts.ensures in
     record { file_written = too_short_lem (state_of c.args.state) N c.put_file-needed.ensures c.if-output-needed.true; beyond = N.beyond }
 
-pub put_file-written-requires : goal.put_file-written-requires
-put_file-written-requires c =
+pub put_file-requires : goal.put_file-requires
+put_file-requires c =
     let r = ready_lines (state_of c.args.state) c.number_darts.ensures c.requires in record { dense = r.0; operations_le_darts = r.1.0; t = r.1.1 }
 
 pub returns : goal.returns
 returns c =
     let N = c.number_darts.ensures in
-    record { file_written = all_fits (state_of c.args.state) N c.put_file-written.ensures (omega (arith, c.put_file-needed.ensures.next)); beyond = N.beyond }
+    record { file_written = all_fits (state_of c.args.state) N c.put_file.ensures (omega (arith, c.put_file-needed.ensures.next)); beyond = N.beyond }

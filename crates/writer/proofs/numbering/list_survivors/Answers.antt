@@ -1,10 +1,9 @@
 -- `writer::numbering::list_survivors` meets its contract: with x turns of the loop done the survivors below x are listed.
 --   Gathering D n w₀ w place x == that, with the place after the last one
---   turned                     == one turn less is left
 use mathlib.Core.Bool.{true, false}
 use mathlib.Core.List.{List, []}
-use mathlib.Core.Path.{◌≡◌, refl, sym, ap, ◌∙◌, subst}
-use Prim.Native.Nat.{ℕ, ◌+◌, ◌-◌, ◌*◌, ◌≤◌, ◌<◌}
+use mathlib.Core.Path.{◌≡◌, refl, sym, ap, ◌∙◌}
+use Prim.Native.Nat.{ℕ, ◌+◌, ◌*◌, ◌≤◌, ◌<◌}
 use native.Mathlib.Numerals.{add-one}
 use native.Mathlib.Omega.{arith}
 use lib.ListN.{length, get_or, set, take}
@@ -21,6 +20,7 @@ use Rattle.writer.proofs.Survivors.{survivors_yes, survivors_no}
 use Rattle.writer.proofs.Fitted.{toward_all, toward_end, fitted_on, fitted_one}
 use Rattle.writer.proofs.numbering.list_survivors.Invariants.{Gathering}
 use Rattle.writer.proofs.numbering.list_survivors.Goals as goal
+use Rattle.writer.proofs.numbering.list_survivors.Goals.{then-at-d, else-at-d}
 
 begin : (D n : ℕ) (w : List ℕ) → Gathering D n w w (2 * D + 2 * n) 0
 unfolding survivors
@@ -81,31 +81,19 @@ module _ {D n : ℕ} {w₀ w : List ℕ} {place x : ℕ} (A : Area D n w₀) (g 
       let e : x ≡ D = omega (arith, g.bound) in
       g.fitted.slice inside ∙ ap (λ (m : ℕ). laid w₀ (2 * D + 2 * n) (survivors (past_in D n w₀) m)) e
 
-turned : {D n : ℕ} {w₀ w : List ℕ} {place left : ℕ} → 0 < left → left ≤ D → Gathering D n w₀ w place (D - left + 1)
-    → (left - 1 ≤ D) × Gathering D n w₀ w place (D - (left - 1))
-turned {D} {n} {w₀} {w} {place} {left} more l g =
-    let e : D - left + 1 ≡ D - (left - 1) = omega arith in (omega arith, subst (Gathering D n w₀ w place) e g)
+pub loop-x-init : goal.loop-x-init
+loop-x-init c = begin _ _ _
 
-pub loop-left-init : goal.loop-left-init
-loop-left-init c =
-    let g = c.args in
-    let e : 0 ≡ g.d - g.d = omega arith in
-    (omega arith, subst (Gathering g.d g.n g.work.now g.work.now (2 * g.d + 2 * g.n)) e (begin g.d g.n g.work.now))
-
-pub loop-left-preserved-then-at-d : goal.loop-left-preserved-then-at-d
-loop-left-preserved-then-at-d c =
-    let k = c.loop-left.invariant in
-    let more = c.loop-left-test.true in
-    turned more k.0 (one_more c.requires k.1 (omega (arith, more, k.0)) c.at.ensures c.if-at-d.true)
-
-pub loop-left-preserved : goal.loop-left-preserved
-loop-left-preserved c =
-    let k = c.loop-left.invariant in
-    let more = c.loop-left-test.true in
-    turned more k.0 (none_more c.requires k.1 (omega (arith, more, k.0)) c.at.ensures c.if-at-d.false)
+pub loop-x-preserved : goal.loop-x-preserved
+loop-x-preserved c =
+    let more = c.loop-x-test.true in
+    elim c.if-at-d.branch [
+      | then-at-d w ↦ rw (w.work-is, w.place-is) (one_more c.requires c.loop-x.invariant more c.at.ensures w.if-at-d.true)
+      | else-at-d w ↦ rw (w.work-is, w.place-is) (none_more c.requires c.loop-x.invariant more c.at.ensures w.if-at-d.false)
+    ]
 
 pub shape_of-work : goal.shape_of-work
-shape_of-work c = c.loop-left.invariant.1.size
+shape_of-work c = c.loop-x.invariant.size
 
 pub returns : goal.returns
-returns c = ended c.requires c.loop-left.invariant.1 (omega (arith, c.loop-left-test.false, c.loop-left.invariant.0))
+returns c = ended c.requires c.loop-x.invariant (omega arith)

@@ -1,9 +1,8 @@
 -- `writer::numbering::list_survivors` meets its contract: with x turns of the loop done the survivors below x are listed.
 --   Gathering D n w₀ w place x == that, with the place after the last one
---   turned                     == one turn less is left
 use mathlib.Core.List.{List}
 use mathlib.Core.Path.{◌≡◌}
-use Prim.Native.Nat.{ℕ, ◌+◌, ◌-◌, ◌*◌, ◌≤◌}
+use Prim.Native.Nat.{ℕ, ◌+◌, ◌*◌, ◌≤◌}
 use lib.ListN.{length}
 use Rattle.darts.specs.File.{survivors}
 use Rattle.area.specs.Area.{past_in}
@@ -16,8 +15,5 @@ pub record Gathering (D n : ℕ) (w₀ w : List ℕ) (place x : ℕ) : Type 0 wh
   pub near : place ≤ 2 * D + 2 * n + x
   pub fitted : Fitted w₀ w (2 * D + 2 * n) place (survivors (past_in D n w₀) x)
 
-abbrev pub invariant-loop-left : goal.invariant-loop-left
-invariant-loop-left l = (l.left ≤ l.d) × Gathering l.d l.n l.initial.work l.work l.place (l.d - l.left)
-
-abbrev pub decreases-loop-left : goal.decreases-loop-left
-decreases-loop-left l = l.left
+abbrev pub invariant-loop-x : goal.invariant-loop-x
+invariant-loop-x l = Gathering l.d l.n l.initial.work l.work l.place l.x

@@ -95,14 +95,8 @@ overflow_cast-work-in-loop-i c =
     let r = c.requires.room in
     omega (arith, partner_below _ _ s r.even, r.small)
 
-pub bounds-work-d-in-loop-i : goal.bounds-work-d-in-loop-i
-bounds-work-d-in-loop-i c = simp length-set (omega arith)
-
 pub loop-i-preserved : goal.loop-i-preserved
 loop-i-preserved c = go_on c.requires c.loop-i.invariant c.loop-i-test.true c.at-p.ensures c.partner-q.ensures
-
-pub shape_of-work : goal.shape_of-work
-shape_of-work c = c.loop-i.invariant.size
 
 pub returns : goal.returns
 returns c = ended c.requires c.loop-i.invariant c.loop-i-test.false

@@ -2,7 +2,7 @@
 --   Listing D n w₀ w i == from w₀ to w the darts of the first i operations were listed
 use mathlib.Core.List.{List}
 use mathlib.Core.Path.{◌≡◌}
-use Prim.Native.Nat.{ℕ, ◌+◌, ◌-◌, ◌*◌, ◌≤◌}
+use Prim.Native.Nat.{ℕ, ◌+◌, ◌*◌, ◌≤◌}
 use lib.ListN.{length}
 use Rattle.darts.specs.File.{taken}
 use Rattle.slices.specs.Part.{part}
@@ -17,6 +17,3 @@ pub record Listing (D n : ℕ) (w₀ w : List ℕ) (i : ℕ) : Type 0 where
 
 abbrev pub invariant-loop-i : goal.invariant-loop-i
 invariant-loop-i l = Listing l.d l.n l.initial.work l.work l.i
-
-abbrev pub decreases-loop-i : goal.decreases-loop-i
-decreases-loop-i l = l.n - l.i

@@ -1,7 +1,7 @@
 -- `writer::numbering::number_listed` meets its contract: each dart that is listed from here on has its first place from here on.
 --   Placing D w₀ w left == that, with the bounds
 use mathlib.Core.List.{List, ◌∷◌}
-use mathlib.Core.Path.{◌≡◌, refl, sym, ap, ◌∙◌}
+use mathlib.Core.Path.{◌≡◌, sym, ap, ◌∙◌}
 use Prim.Native.Nat.{ℕ, suc, ◌+◌, ◌-◌, ◌*◌, ◌≤◌, ◌<◌}
 use native.Mathlib.Decide.{ℕ_discrete}
 use native.Mathlib.Omega.{arith}
@@ -11,12 +11,8 @@ use Rattle.permutations.specs.Choice.{eqb_same, eqb_other}
 use Rattle.darts.specs.File.{place_in}
 use Rattle.slices.specs.Part.{part}
 use Rattle.area.proofs.Parts.{part_cons}
-use Rattle.writer.specs.Numbering.{Placed}
 use Rattle.writer.proofs.numbering.number_listed.Invariants.{Placing}
 use Rattle.writer.proofs.numbering.number_listed.Goals as goal
-
-begin : (D : ℕ) (w : List ℕ) → Placing D w w D
-begin D w = record { bound = omega arith; size = refl; table = refl; rest = refl; places = λ x h. absurd (omega arith) }
 
 -- the first place, once y stands before the others
 first_place : {y x : ℕ} (ys : List ℕ) → x ≡ y → place_in (y ∷ ys) x ≡ 0
@@ -63,38 +59,5 @@ module _ {D : ℕ} {w₀ w : List ℕ} {left : ℕ} (fits : 4 * D ≤ length w�
             let m = later_place later n in
             get_or-set_other w (D + y) (D + x) (left - 1) 0 (λ k. n (omega arith)) ∙ g.places x (omega arith) ∙ omega arith
 
-  ended : left ≤ 0 → Placed D w₀ w
-  ended none =
-      let z : left ≡ 0 = omega arith in
-      let all : 2 * D + left ≡ 2 * D = omega arith in
-      record { size = g.size; table = g.table; rest = g.rest; places = λ x h. g.places x (rw all (omega arith)) ∙ rw (all, z) (omega arith) }
-
-pub loop-left-init : goal.loop-left-init
-loop-left-init c = begin _ _
-
-pub overflow_cast-work : goal.overflow_cast-work
-overflow_cast-work c = let b = c.loop-left.invariant.bound in omega (arith, c.requires.room.small)
-
-pub overflow_add-work : goal.overflow_add-work
-overflow_add-work c =
-    let s = small c.requires.room.fits c.requires.by_index c.loop-left.invariant c.loop-left-test.true c.at-x.ensures in
-    omega arith
-
-pub offset_bounds-work-d : goal.offset_bounds-work-d
-offset_bounds-work-d c =
-    let s = small c.requires.room.fits c.requires.by_index c.loop-left.invariant c.loop-left-test.true c.at-x.ensures in
-    omega arith
-
-pub bounds-work-d : goal.bounds-work-d
-bounds-work-d c =
-    let s = small c.requires.room.fits c.requires.by_index c.loop-left.invariant c.loop-left-test.true c.at-x.ensures in
-    omega arith
-
-pub loop-left-preserved : goal.loop-left-preserved
-loop-left-preserved c = go_on c.requires.room.fits c.requires.by_index c.loop-left.invariant c.loop-left-test.true c.at-x.ensures
-
-pub shape_of-work : goal.shape_of-work
-shape_of-work c = c.loop-left.invariant.size
-
-pub returns : goal.returns
-returns c = ended c.requires.room.fits c.requires.by_index c.loop-left.invariant c.loop-left-test.false
+pub loop-i-preserved : goal.loop-i-preserved
+loop-i-preserved c = go_on c.requires.room.fits c.requires.by_index c.loop-i.invariant c.loop-i-test.true c.at-x.ensures

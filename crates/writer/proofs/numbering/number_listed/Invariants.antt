@@ -15,8 +15,5 @@ pub record Placing (D : ℕ) (w₀ w : List ℕ) (left : ℕ) : Type 0 where
   pub rest : drop (2 * D) w ≡ drop (2 * D) w₀
   pub places : (x : ℕ) → place_in (part (2 * D + left) (3 * D) w₀) x < D - left → get_or w (D + x) 0 ≡ left + place_in (part (2 * D + left) (3 * D) w₀) x
 
-abbrev pub invariant-loop-left : goal.invariant-loop-left
-invariant-loop-left l = Placing l.d l.initial.work l.work l.left
-
-abbrev pub decreases-loop-left : goal.decreases-loop-left
-decreases-loop-left l = l.left
+abbrev pub invariant-loop-i : goal.invariant-loop-i
+invariant-loop-i l = Placing l.d l.initial.work l.work l.i

@@ -1,20 +1,10 @@
--- `writer::print::digits` meets its contract: a number below ten has one digit, any other one more than its tenth.
+-- `writer::print::digits` meets its contract: 0 has one digit, any other number one more than the powers of ten that it reaches.
 use native.Mathlib.Omega.{arith}
-use Prim.Native.Nat.{◌/◌}
-use Rattle.writer.proofs.Decimal.{one_length, more_length}
+use Rattle.writer.proofs.Decimal.{one_length, power_length}
 use Rattle.writer.proofs.print.digits.Goals as goal
 
-pub returns-then-x-lt10 : goal.returns-then-x-lt10
-returns-then-x-lt10 c = let x = c.args.x in omega (arith, one_length (x) (omega arith))
+pub returns-in-0 : goal.returns-in-0
+returns-in-0 c = omega (arith, one_length c.args.x (omega arith))
 
-pub returns-then-x-lt100 : goal.returns-then-x-lt100
-returns-then-x-lt100 c = let x = c.args.x in omega (arith, more_length (x) (omega arith) (omega arith), one_length (x / 10) (omega arith))
-
-pub returns-then-x-lt1000 : goal.returns-then-x-lt1000
-returns-then-x-lt1000 c = let x = c.args.x in omega (arith, more_length (x) (omega arith) (omega arith), more_length (x / 10) (omega arith) (omega arith), one_length (x / 10 / 10) (omega arith))
-
-pub returns-then-x-lt10000 : goal.returns-then-x-lt10000
-returns-then-x-lt10000 c = let x = c.args.x in omega (arith, more_length (x) (omega arith) (omega arith), more_length (x / 10) (omega arith) (omega arith), more_length (x / 10 / 10) (omega arith) (omega arith), one_length (x / 10 / 10 / 10) (omega arith))
-
-pub returns : goal.returns
-returns c = let x = c.args.x in omega (arith, more_length (x) (omega arith) (omega arith), more_length (x / 10) (omega arith) (omega arith), more_length (x / 10 / 10) (omega arith) (omega arith), more_length (x / 10 / 10 / 10) (omega arith) (omega arith), one_length (x / 10 / 10 / 10 / 10) (omega arith))
+pub returns-in_default : goal.returns-in_default
+returns-in_default c = omega (arith, power_length _ c.args.x c.ilog10.ensures.power_le c.ilog10.ensures.next_power_gt c.requires)
