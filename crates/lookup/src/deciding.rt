@@ -17,7 +17,10 @@ fn operate(work: &mut [u32], d: usize, ends: &[u32]) -> bool
     let Ok(n) = take_kind(work, d, 0, Kind::Contract, ends) else {
         return false;
     };
-    take_kind(work, d, n, Kind::Remove, ends).is_ok()
+    match take_kind(work, d, n, Kind::Remove, ends) {
+        Ok(_) => true,
+        Err(_) => false,
+    }
 }
 
 // Whether the table of d numbers and the ends come from a pyramid: the form of the levels, the base, and then the operations.

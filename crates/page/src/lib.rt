@@ -33,13 +33,20 @@ impl<W: Write, const N: usize> Page<W, N> {
         }
     }
 
+    // Nothing waits any more.
+    fn clear(&mut self)
+        ensures { waits self.new ≡ [] }
+    {
+        self.used = 0;
+    }
+
     // Writes the bytes that wait.
     fn write_out(&mut self) -> io::Result<()>
         ensures ok { OnOk result (waits self.new ≡ []) }
         ensures err { OnErr result (waits self.new ≡ waits self.old) }
     {
         self.out.write_all(&self.bytes[..self.used])?;
-        self.used = 0;
+        self.clear();
         Ok(())
     }
 }
@@ -66,12 +73,16 @@ impl<W: Write, const N: usize> Write for Page<W, N> {
         Ok(n)
     }
 
+    // Where the writer takes no more, or does not pass on what it took, all that waited waits still.
     fn flush(&mut self) -> io::Result<()>
         ensures bytes { Keeps None None }
         ensures ok { OnOk result (waits self.new ≡ []) }
+        ensures err { OnErr result (waits self.new ≡ waits self.old) }
     {
-        self.write_out()?;
-        self.out.flush()
+        self.out.write_all(&self.bytes[..self.used])?;
+        self.out.flush()?;
+        self.clear();
+        Ok(())
     }
 }
 

@@ -42,7 +42,8 @@ fn read<R: Read, W: Write>(
     judge(out, &drawing[..n], wanted)
 }
 
-// The room is made where it is lent, so that it stands on the stack once.
+// The room is made where it is lent, so that it stands on the stack once. Not inlined, so that the usage, which needs no room, is printed without it.
+#[inline(never)]
 fn run<R: Read, W: Write>(input: &mut R, out: &mut W, wanted: Wanted) -> io::Result<()> {
     let mut drawing = [0; 65537];
     read(input, out, &mut drawing, wanted)

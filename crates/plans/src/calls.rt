@@ -32,7 +32,7 @@ pub fn plan(
         history.len(),
         work.len(),
     ) {
-        return unbased(refusal);
+        return unbased(Err(refusal));
     }
     lay_base(table, wales as usize, courses as usize);
     clear(work, darts_of(wales, courses) as usize);
@@ -59,13 +59,13 @@ pub fn plan_areas(
         history.len(),
         work.len(),
     ) {
-        return unbased(refusal);
+        return unbased(Err(refusal));
     }
     let d = darts_of(wales, courses) as usize;
     let m = first_kernel(work, wales as usize, courses as usize, d, plan);
     if m == 0 {
         clear(work, d);
-        return unbased(Refusal::EmptyKernel);
+        return unbased(Err(Refusal::EmptyKernel));
     }
     let base = base_of(wales, courses);
     let o = base.level(Ok(m), table, history, work);

@@ -2,6 +2,8 @@
 --   Levels step runner           == the step is one level more, by the run of this runner
 --   reduce_levels, sweep_levels  == a kernel, and the sweep
 --   plain_reduce, plain_sweep    == neither is refused by 1 or 2
+--   step_full                    == where 64 levels are in use the step refuses
+--   level_full                   == and the refusal, with the work area cleared, is what the call leaves
 --   level_halts                  == a run that ended: what one level more asks
 --   level_ran                    == the run, on what was lent
 --   level_ends                   == what one level more leaves is what the call leaves
@@ -11,6 +13,7 @@ use mathlib.Core.Path.{◌≡◌, refl, sym, ap, ap₂, subst, ◌∙◌}
 use Prim.Native.Nat.{ℕ, ◌≤◌}
 use native.Mathlib.Omega.{arith}
 use lib.Dec.{eqb, leb}
+use borrow.Author.Tests.{le-leb}
 use lib.ListN.{length}
 use Rattle.std.proofs.Common.{if◌then◌else◌}
 use Rattle.std.specs.Prelude.{Result as Answering, Ok, Err, IfErr}
@@ -20,15 +23,18 @@ use Rattle.darts.specs.Operation.{Kind}
 use Rattle.darts.specs.Kernel.{Run, stands, stops, run}
 use Rattle.darts.specs.State.{State, Result, refuses, levelled, reduce}
 use Rattle.darts.specs.Levels.{swept, sweep}
-use Rattle.darts.specs.Calls.{After, table_of, past_of, hands_back, on_state}
+use Rattle.darts.specs.Calls.{After, table_of, past_of, cleared, hands_back, on_state}
 use Rattle.darts.specs.declared.Refusal.{Refusal}
 use Rattle.laws.proofs.runs.Stops.{Edgy, run_edgy, swept_edgy}
 use Rattle.area.specs.Area.{table_in, past_in}
 use Rattle.engine.specs.Runs.{ran_in, Went}
+use Rattle.engine.proofs.Ready.{beyond_refl}
 use Rattle.pyramid.specs.Steps.{Judged, Halts, climbs}
-use Rattle.pyramid.specs.Values.{unsettled}
+use Rattle.pyramid.specs.Values.{figures_of, left, unsettled}
+use Rattle.pyramid.specs.declared.Outcome.{Outcome}
 use Rattle.pyramid.proofs.Judges.{lent_of, room_then}
-use Rattle.pyramid.proofs.OnState.{Plain, act_ends}
+use Rattle.pyramid.proofs.OnState.{Plain, act_ends, act_refused}
+use Rattle.pyramid.proofs.Started.{HandsBare}
 
 pub record Levels (step : State → List ℕ → List ℕ → Result) (runner : ℕ → List ℕ → List ℕ → Run) : Type 0 where
   pub edgy : (D : ℕ) (t past : List ℕ) → Edgy (runner D t past)
@@ -72,6 +78,15 @@ ran_edgy : (D : ℕ) (w : List ℕ) (r : Answering ℕ Refusal) {run : Run} → 
     → IfErr r (λ a. (7 ≤ (refusal_of a).number) × ((refusal_of a).number ≤ 11))
 ran_edgy D w (Ok m) e edgy = tt
 ran_edgy D w (Err a) e edgy = subst Edgy (sym e) edgy
+
+module _ {step : State → List ℕ → List ℕ → Result} {runner : ℕ → List ℕ → List ℕ → Run} (S : Levels step runner) {s : State} (full : 64 ≤ s.levels) where
+  pub step_full : (t past : List ℕ) → step s t past ≡ refuses too_many_levels
+  step_full t past = S.steps s t past ∙ rw (le-leb 64 s.levels full) refl
+
+  pub level_full : {k : ℕ} {t h w v : List ℕ} {a : Answer} → Judged s k t h w v a → a.number ≡ 0 → {o : Outcome} → HandsBare o too_many_levels (figures_of s)
+      → unsettled (left o t h (cleared s.darts v)) ≡ unsettled (on_state step s t h w)
+  level_full {t = t} {h = h} {v = v} J fine H =
+      act_refused step J fine (beyond_refl s.darts v) (step_full (table_of s t) (past_of s h)) (λ z. omega arith, λ z. omega arith) H
 
 module _ {step : State → List ℕ → List ℕ → Result} {runner : ℕ → List ℕ → List ℕ → Run} (S : Levels step runner)
     {s : State} {k : ℕ} {t h w v : List ℕ} {a : Answer} (J : Judged s k t h w v a) (fine : a.number ≡ 0)

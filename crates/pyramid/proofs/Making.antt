@@ -4,6 +4,7 @@
 --   made_same  == it is refused, or takes no edge: neither sheet changes
 --   made_more  == it is done: the merges that are noted are those of its operations
 --   made_ran   == whichever way the run went
+--   full_sheets == where 64 levels are in use neither sheet changes
 use mathlib.Core.Bool.{Bool}
 use mathlib.Core.List.{List, [], ◌∷◌, ◌++◌, reverse}
 use mathlib.Core.Logic.{◌≢◌}
@@ -54,7 +55,7 @@ use Rattle.pyramid.specs.Steps.{climbs}
 use Rattle.pyramid.specs.Values.{left, unsettled}
 use Rattle.pyramid.specs.declared.Outcome.{Outcome}
 use Rattle.pyramid.proofs.Judges.{lent_of, room_then}
-use Rattle.pyramid.proofs.ByRun.{reduce_levels, level_ran}
+use Rattle.pyramid.proofs.ByRun.{reduce_levels, step_full, level_ran}
 
 pub record MadeBy (s : State) (es t h w u g v : List ℕ) (o : Outcome) : Type 0 where
   pub plain : unsettled (left o u g (cleared s.darts v)) ≡ unsettled (reduce_by contraction es s t h w)
@@ -298,3 +299,9 @@ module _ {s : State} {t h w : List ℕ} (Z : StoodWith s t h w) (es : List ℕ) 
   -- WHICHEVER WAY THE RUN WENT
   pub made_ran : MadeBy s es t h w t' h' v o
   made_ran = by_run (dec_le 64 s.levels) r refl
+
+module _ (s : State) (full : 64 ≤ s.levels) (es : List ℕ) where
+  -- WHERE 64 LEVELS ARE IN USE
+  pub full_sheets : (t past : List ℕ) (S : Sheets) → sheets_after s t past S (reduce contraction es s t past) ≡ S
+  unfolding sheets_after
+  full_sheets t past S = ap (sheets_after s t past S) (step_full (reduce_levels refl es) full t past)

@@ -1,10 +1,12 @@
 // Reduce by a kernel.
 ghost use Rattle.std.specs.Prelude.{◌≡◌, length};
+ghost use Rattle.darts.specs.Answers.{too_many_levels};
 ghost use Rattle.darts.specs.Calls.{reduce_by, past_of, hands_back, cleared};
 ghost use Rattle.darts.specs.Kinds.{kind_is, bit};
+ghost use Rattle.area.specs.Area.{Room};
 ghost use Rattle.engine.specs.Runs.{ran_in};
 ghost use Rattle.pyramid.specs.Steps.{Halts, Stood, climbs};
-ghost use Rattle.pyramid.specs.Values.{state_of, left, unsettled};
+ghost use Rattle.pyramid.specs.Values.{state_of, left, unsettled, Hands};
 
 use crate::{Kind, Outcome, Refusal, State};
 use area::clear::clear;
@@ -60,6 +62,16 @@ impl State {
         o
     }
 
+    // The refusal where 64 levels are in use: it comes before the run, so that no edge is looked at. The work area is cleared.
+    pub(crate) fn full(self, work: &mut [u32]) -> Outcome
+        requires { Room self.darts work.old }
+        ensures hands { Hands result too_many_levels (state_of self) }
+        ensures work_after { work.new ≡ cleared self.darts work.old }
+    {
+        clear(work, self.darts as usize);
+        self.refused(Refusal::TooManyLevels)
+    }
+
     // A kernel once the call is judged. The work area is cleared.
     pub fn reduce_judged(
         self,
@@ -73,6 +85,9 @@ impl State {
         ensures { unsettled (left result table.new history.new work.new)
             ≡ unsettled (reduce_by (kind_is kind) kernel.now (state_of self) table.old history.old work.old) }
     {
+        if 64 <= self.levels {
+            return self.full(work);
+        }
         let ran = run(
             work,
             self.darts as usize,

@@ -1,8 +1,7 @@
 // The call that starts from a table.
 ghost use Rattle.std.specs.Prelude.{◌≡◌};
-ghost use Rattle.darts.specs.Answers.{done};
 ghost use Rattle.darts.specs.Calls.{start as start_of};
-ghost use Rattle.darts.specs.Cases.{refusal_of};
+ghost use Rattle.darts.specs.Cases.{answer_of};
 ghost use Rattle.darts.specs.State.{zeros};
 ghost use Rattle.pyramid.specs.Values.{base_with, left, state_of, Hands};
 
@@ -26,18 +25,21 @@ impl State {
     }
 }
 
-// A base of so many darts, with so many vertices and faces, done.
-pub fn based(darts: u32, vertices: u32, faces: u32) -> Outcome
-    ensures { Hands result done (base_with darts vertices faces) }
+// A base of so many darts, with so many vertices and faces, and an answer.
+pub fn based(darts: u32, vertices: u32, faces: u32, answer: Result<(), Refusal>) -> Outcome
+    ensures { Hands result (answer_of answer) (base_with darts vertices faces) }
 {
-    State::base(darts, vertices, faces).done()
+    Outcome {
+        state: State::base(darts, vertices, faces),
+        answer,
+    }
 }
 
 // A refused start: a state of zeros.
-pub fn unbased(refusal: Refusal) -> Outcome
-    ensures { Hands result (refusal_of refusal) zeros }
+pub fn unbased(answer: Result<(), Refusal>) -> Outcome
+    ensures { Hands result (answer_of answer) zeros }
 {
-    State::base(0, 0, 0).refused(refusal)
+    based(0, 0, 0, answer)
 }
 
 // Starts from the table's first D numbers: a base, where they are a permutation of all darts; else both culprits.
@@ -46,10 +48,10 @@ pub fn start(darts: u32, table: &mut [u32], history: &mut [u32], work: &mut [u32
         ≡ start_of darts table.old history.old work.old }
 {
     if let Err(refusal) = fit(darts, table.len(), history.len(), work.len()) {
-        return unbased(refusal);
+        return unbased(Err(refusal));
     }
     match test_base(work, darts as usize, table) {
-        Ok(base) => based(darts, base.vertices as u32, base.faces as u32),
-        Err(culprits) => unbased(Refusal::NoPermutation(culprits.dart, culprits.beside)),
+        Ok(base) => based(darts, base.vertices as u32, base.faces as u32, Ok(())),
+        Err(culprits) => unbased(Err(Refusal::NoPermutation(culprits.dart, culprits.beside))),
     }
 }

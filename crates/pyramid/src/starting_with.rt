@@ -32,17 +32,17 @@ pub fn start_with(
         records(sheet),
         records(keeps),
     ) {
-        return unbased(refusal);
+        return unbased(Err(refusal));
     }
     match begin_with(darts, table, work) {
         Ok(base) => {
             let unfit = first_unfit(work, darts as usize, sheet);
             clear(work, darts as usize);
             match unfit {
-                Some(x) => unbased(Refusal::UnfitRecord(x)),
-                None => based(darts, base.vertices as u32, base.faces as u32),
+                Some(x) => unbased(Err(Refusal::UnfitRecord(x))),
+                None => based(darts, base.vertices as u32, base.faces as u32, Ok(())),
             }
         }
-        Err(refusal) => unbased(refusal),
+        Err(refusal) => unbased(Err(refusal)),
     }
 }

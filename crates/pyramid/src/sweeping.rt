@@ -14,6 +14,9 @@ impl State {
         ensures { unsettled (left result table.new history.new work.new)
             ≡ unsettled (sweep_by (state_of self) table.old history.old work.old) }
     {
+        if 64 <= self.levels {
+            return self.full(work);
+        }
         let m = sweep(work, self.darts as usize, self.operations as usize);
         self.level_cleared(Ok(m), table, history, work)
     }

@@ -33,6 +33,9 @@ impl State {
             ≡ contracts_with kernel.now (state_of self) table.old history.old work.old
             (record { sheet = sheet.old; kept = keeps.old }) }
     {
+        if 64 <= self.levels {
+            return self.full(work);
+        }
         let d = self.darts as usize;
         let n = self.operations as usize;
         let ran = run_noted(work, d, n, kernel);

@@ -175,6 +175,6 @@ pub fn read(bytes: &[u8], table: &mut [u32], history: &mut [u32], work: &mut [u3
             state,
             answer: Ok(()),
         },
-        Err(refusal) => unbased(refusal),
+        Err(refusal) => unbased(Err(refusal)),
     }
 }

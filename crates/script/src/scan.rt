@@ -1,7 +1,6 @@
 // A line of the script: a command, its numbers or its records, and for `read` the bytes after it.
 ghost use Rattle.std.specs.Prelude.{◌≡◌, ◌+◌, ◌<◌, ◌≤◌, IfOk, IfSome, length};
 
-use crate::laying::lay;
 use crate::words::{Command, Entry, Words, Wrong, split_once};
 use sheets::Zone;
 
@@ -18,19 +17,31 @@ pub struct Line<'a> {
     pub rest: &'a [u8],
 }
 
-// Whether each word is such an entry.
-fn formed<T: Entry>(mut words: Words) -> bool {
-    words.all(|word| T::of(word).is_some())
+// A place, and records after it: how many words they are.
+fn records(words: Words) -> Option<usize> {
+    let mut count = 0;
+    for (i, word) in words.enumerate() {
+        if i == 0 {
+            u32::of(word)?;
+        } else {
+            Zone::of(word)?;
+        }
+        count = i + 1;
+    }
+    Some(count)
 }
 
-// Whether the words after a command are numbers, or a place and records. Of numbers, as many as fit are put into their room.
-fn take(command: Command, mut words: Words, numbers: &mut NumbersRoom) -> bool {
-    match command {
-        Command::Sheet | Command::Kept => {
-            words.next().and_then(u32::of).is_some() && formed::<Zone>(words)
+// Numbers, of which as many as fit are put into their room: how many there are.
+fn take(words: Words, numbers: &mut NumbersRoom) -> Option<usize> {
+    let mut count = 0;
+    for (i, word) in words.enumerate() {
+        let number = u32::of(word)?;
+        if let Some(slot) = numbers.get_mut(i) {
+            *slot = number;
         }
-        _ => lay(numbers, words).is_some() && formed::<u32>(words),
+        count = i + 1;
     }
+    Some(count)
 }
 
 // The bytes of the file of `read N`, "the N bytes that follow this line's line feed, and after them one more line feed", and the script after them.
@@ -50,8 +61,13 @@ pub fn next_line<'a>(script: &'a [u8], numbers: &mut NumbersRoom) -> Result<Line
     let end = line.iter().position(|b| *b == b' ').unwrap_or(line.len());
     let command = Command::try_from(&line[..end])?;
     let words = Words { text: &line[end..] };
-    let count = words.count();
-    if 262161 < count || !take(command, words, numbers) || !command.takes(count) {
+    // one walk over the words, since a script may be long and each of its numbers is read once more where it is put into a room
+    let count = match command {
+        Command::Sheet | Command::Kept => records(words),
+        _ => take(words, numbers),
+    }
+    .ok_or(Wrong)?;
+    if 262161 < count || !command.takes(count) {
         return Err(Wrong);
     }
     let (file, rest) = match command {

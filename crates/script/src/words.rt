@@ -6,8 +6,6 @@ ghost use Rattle.std.specs.List.{before_first};
 
 use sheets::Zone;
 use std::num::f64_from_bits_with_nan;
-use std::str;
-use std::str::FromStr;
 
 // "A line that is none of these, or that puts a number outside a room": an error line.
 #[derive(Clone, Copy, Debug, PartialEq, Eq)]
@@ -158,17 +156,19 @@ impl<'a> Iterator for Words<'a> {
     }
 }
 
-// "A number is one or more digits; leading zeros are allowed", its value at most that of its type. The library's text of a number may have a plus too.
-fn decimal<T: FromStr>(word: &[u8]) -> Option<T>
-where
-    T::Err: Drop,
-    ensures plain { IfSome result (λ _. slice_index word.now 0 ≢ 43) }
-    ensures parsed { IfSome result (λ n. T.from_str_gives word.now (Ok n)) }
+// "A number is one or more digits; leading zeros are allowed", of at most 64 bits. The library's text of a number may have a plus too, and is a str: with it a
+// long script took half as much time again.
+fn decimal(word: &[u8]) -> Option<u64>
+    ensures { ReadsNumber 64 word.now result }
 {
-    if word.first() == Some(&b'+') {
-        return None;
+    let mut value = 0u64;
+    for b in word {
+        if !b.is_ascii_digit() {
+            return None;
+        }
+        value = value.checked_mul(10)?.checked_add(u64::from(*b - b'0'))?;
     }
-    str::from_utf8(word).ok()?.parse().ok()
+    if word.is_empty() { None } else { Some(value) }
 }
 
 // What stands before the first such byte of a text, and what stands after it.
@@ -194,7 +194,7 @@ impl Entry for u32 {
     ghost of_gives = { ReadsNumber 32 };
 
     fn of(word: &[u8]) -> Option<u32> {
-        decimal(word)
+        u32::try_from(decimal(word)?).ok()
     }
 }
 
@@ -202,7 +202,7 @@ impl Entry for u8 {
     ghost of_gives = { ReadsNumber 8 };
 
     fn of(word: &[u8]) -> Option<u8> {
-        decimal(word)
+        u8::try_from(decimal(word)?).ok()
     }
 }
 
@@ -213,7 +213,7 @@ impl Entry for Zone {
     fn of(word: &[u8]) -> Option<Zone> {
         let (stitches, figure) = split_once(word, b':')?;
         Some(Zone {
-            stitches: decimal(stitches)?,
+            stitches: u32::of(stitches)?,
             yarn: yarn(figure)?,
         })
     }

@@ -2,7 +2,7 @@
 --   both s k                   == the two sheets s and k
 --   at_any                     == inside a sheet it does not matter which record stands past its end
 --   right_at D w S i           == place i is not looked at, or its record is sound
---   right_unseen               == so the definition says it
+--   right_unseen               == a place that is not looked at is passed over
 --   right_listed               == right_in is that of each place in turn
 --   unfit_at D w S x           == x is its own label and its record is not fit
 --   unfit_found                == what unfit_in is, where such a place is the first one below D, and where there is none
@@ -22,7 +22,7 @@ use lib.ListN.{length, get_or}
 use Rattle.std.proofs.lemmas.List.{get_or_default}
 use Rattle.std.specs.Prelude.{Option, Some, None, MatchOption}
 use Rattle.std.specs.List.{list_all, range_with_len}
-use Rattle.permutations.specs.Choice.{pick, eqb_other}
+use Rattle.permutations.specs.Choice.{pick, eqb_same, eqb_other}
 use Rattle.sheets.specs.declared.Zone.{Zone}
 use Rattle.sheets.specs.Records.{fit_of, at}
 use Rattle.sheets.specs.Sheets.{Sheets, Merge, none, into, merged, returned, merged_by, returned_by, sound}
@@ -45,10 +45,17 @@ at_any s i past h = get_or_default s i past _ h
 abbrev pub right_at : ℕ → List ℕ → Sheets → ℕ → Bool
 right_at D w S i = eqb (get_or w i 0) D || sound (notes_in D w) S (get_or w i 0) (record_at D S i)
 
+module _ (D : ℕ) (w : List ℕ) (S : Sheets) (e i : ℕ) where
+  pub right_unseen : (l : ℕ) → i < e → l ≡ get_or w i 0 → l ≡ D → right_in D w S (e - i) i ≡ right_in D w S (e - (i + 1)) (i + 1)
+  unfolding right_in sound_at
+  right_unseen l h is_link unseen =
+      let passed : eqb (get_or w i 0) D ≡ true = eqb_same (sym is_link ∙ unseen) in
+      rw (less e i h, suc-eq-add-one i, passed) refl
+
 module _ (D : ℕ) (w : List ℕ) (S : Sheets) where
-  pub right_unseen : (i : ℕ) → right_at D w S i ≡ sound_at D w S i
+  right_sound : (i : ℕ) → right_at D w S i ≡ sound_at D w S i
   unfolding sound_at
-  right_unseen i = one_way (eqb (get_or w i 0) D) _
+  right_sound i = one_way (eqb (get_or w i 0) D) _
     where
       one_way : (p q : Bool) → (p || q) ≡ pick p true q
       one_way true q = refl
@@ -57,7 +64,7 @@ module _ (D : ℕ) (w : List ℕ) (S : Sheets) where
   pub right_listed : (m i : ℕ) → list_all (right_at D w S) (range_with_len i m) ≡ right_in D w S m i
   unfolding right_in
   right_listed zero i = refl
-  right_listed (suc m) i = rw (right_unseen i, right_listed m (i + 1), suc-eq-add-one i) refl
+  right_listed (suc m) i = rw (right_sound i, right_listed m (i + 1), suc-eq-add-one i) refl
 
 -- ---- the first place whose record is not fit
 

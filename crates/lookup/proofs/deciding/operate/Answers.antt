@@ -5,7 +5,8 @@ use Rattle.lookup.proofs.deciding.operate.Goals as goal
 pub returns-in_default : goal.returns-in_default
 returns-in_default c = contractions_stop _ _ _ _ _ c.in_default.ensures
 
-pub returns : goal.returns
-returns c =
-    let said = removals_say _ _ _ _ _ c.in-Ok.ensures _ _ c.take_kind-2.ensures in
-    record { answer = cc (said.answer); beyond = said.beyond }
+pub returns-in-Ok-take_kind : goal.returns-in-Ok-take_kind
+returns-in-Ok-take_kind c = removals_say _ _ _ _ _ c.in-Ok.ensures _ _ c.in-Ok-take_kind.ensures
+
+pub returns-in-Err : goal.returns-in-Err
+returns-in-Err c = removals_say _ _ _ _ _ c.in-Ok.ensures _ _ c.in-Err.ensures

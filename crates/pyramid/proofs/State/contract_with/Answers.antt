@@ -3,11 +3,25 @@ use mathlib.Core.Path.{refl, sym, ap₂, ◌∙◌}
 use native.Mathlib.Omega.{arith}
 use lib.Dec.{lit≤}
 use Rattle.darts.specs.Calls.{reduce_by}
+use Rattle.darts.specs.Operation.{contraction}
+use Rattle.engine.proofs.Ready.{beyond_refl}
 use Rattle.yarn.specs.Calls.{costed}
-use Rattle.pyramid.proofs.ByRun.{reduce_levels, level_halts, level_ends}
+use Rattle.pyramid.proofs.ByRun.{reduce_levels, level_full, level_halts, level_ends}
 use Rattle.pyramid.proofs.Judges.{room_then}
-use Rattle.pyramid.proofs.Making.{made_ran}
+use Rattle.pyramid.proofs.Making.{full_sheets, made_ran}
+use Rattle.pyramid.proofs.Started.{bare}
 use Rattle.pyramid.proofs.State.contract_with.Goals as goal
+
+pub full-requires : goal.full-requires
+full-requires c = room_then c.requires.stood_with.stood refl (beyond_refl _ _)
+
+pub returns-then-self-ge64 : goal.returns-then-self-ge64
+unfolding reduce_by
+returns-then-self-ge64 c =
+    let kernel = reduce_levels {x = contraction} refl c.args.kernel.now in
+    let full = c.if-self-ge64.true in
+    rw c.full.ensures.work_after
+    (ap₂ costed (level_full kernel full c.requires.stood_with.stood refl (bare c.full.ensures.hands)) (sym (full_sheets _ full c.args.kernel.now _ _ _)))
 
 pub run_noted-ran-requires : goal.run_noted-ran-requires
 run_noted-ran-requires c = (c.requires.stood_with.stood.checked refl).ready refl (lit≤ tt)
