@@ -8,8 +8,9 @@ ghost use Rattle.engine.specs.Runs.{Turned, Went};
 use darts::{Kind, Refusal};
 use operations::operate::{judge, operate};
 
-// The turn of edge e, the one at place i, after m operations: it is judged on the map as it stands, and done where it may be. Without a `?`, which copies the
-// answer at each turn: with two of them a plan's first kernel took a sixth more instructions, and missed its bar of speed.
+// The turn of edge e, the one at place i, after m operations: it is judged on the map as it stands, and done where it may be. Inlined always: as a call, which
+// is what LLVM makes of it by itself, the turn copies its answer at each edge, and a plan's first kernel missed its bar of speed (docs/SPEED.md).
+#[inline(always)]
 pub fn turn(
     work: &mut [u32],
     d: usize,
@@ -21,14 +22,13 @@ pub fn turn(
     requires { Ready d m (bit kind) work.old }
     ensures { Turned d m (bit kind) e i work.old work.new result }
 {
-    let judged = judge(work, d, kind, e, i);
-    if judged.is_ok() {
-        operate(work, d, m, kind, e);
-    }
-    judged
+    judge(work, d, kind, e, i)?;
+    operate(work, d, m, kind, e);
+    Ok(())
 }
 
-// The kernel's operations, after n others: how many there are then.
+// The kernel's operations, after n others: how many there are then. In place of a `?` its return stands in words, so that an edit can change what it hands
+// on and nothing else.
 pub fn run(
     work: &mut [u32],
     d: usize,
