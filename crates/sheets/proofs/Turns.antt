@@ -3,6 +3,7 @@
 --   at_any                     == inside a sheet it does not matter which record stands past its end
 --   right_at D w S i           == place i is not looked at, or its record is sound
 --   right_unseen               == a place that is not looked at is passed over
+--   right_sound                == right_at is what the definition says of a place
 --   right_listed               == right_in is that of each place in turn
 --   unfit_at D w S x           == x is its own label and its record is not fit
 --   unfit_found                == what unfit_in is, where such a place is the first one below D, and where there is none
@@ -53,7 +54,7 @@ module _ (D : ℕ) (w : List ℕ) (S : Sheets) (e i : ℕ) where
       rw (less e i h, suc-eq-add-one i, passed) refl
 
 module _ (D : ℕ) (w : List ℕ) (S : Sheets) where
-  right_sound : (i : ℕ) → right_at D w S i ≡ sound_at D w S i
+  pub right_sound : (i : ℕ) → right_at D w S i ≡ sound_at D w S i
   unfolding sound_at
   right_sound i = one_way (eqb (get_or w i 0) D) _
     where
